@@ -1,0 +1,18 @@
+-- What a sink's call does to the bytes that it has taken.
+use Rattle.std.specs.Prelude.{◌≡◌, ℕ, ◌≤◌, List, ◌++◌, length, take, Option, Result, Ok, Err}
+use Rattle.std.specs.Option.{option_map}
+use Rattle.dtx_outside.specs.Refusals.{raised}
+use Rattle.dtx_outside.specs.declared.sink.SinkNo.{SinkNo}
+use Rattle.dtx_outside.specs.declared.sink.SinkNo.TheVariants.{Failed, Memory}
+
+-- what `write` leaves of the bytes written, where they are told
+abbrev pub IsPrinted : List ℕ → Option (List ℕ) → Result ℕ SinkNo → Option (List ℕ) → Type 0
+IsPrinted bytes old (Ok n) new = new ≡ option_map (λ before. before ++ take n bytes) old
+IsPrinted bytes old (Err Failed) new = (n : ℕ) × (n ≤ length bytes) × (new ≡ option_map (λ before. before ++ take n bytes) old)
+IsPrinted bytes old (Err Memory) new = new ≡ old
+
+-- how often a sink has failed after a write with that answer: want of memory raises no count
+abbrev pub faults_printed : Result ℕ SinkNo → ℕ → ℕ
+faults_printed (Ok _) old = old
+faults_printed (Err Failed) old = raised old
+faults_printed (Err Memory) old = old

@@ -1,0 +1,110 @@
+// A sink in memory, which tells all that it has taken.
+ghost use Rattle.std.specs.Prelude.{◌≡◌, ◌<◌, ◌≤◌, ◌-◌, ◌^◌, ◌↔◌, [], Some, OnOk, OnErr, IfOk, IsErrOf, length};
+ghost use Rattle.dtx_outside.specs.Calls.{IsUnplanned, IsPlanned, failing};
+ghost use Rattle.dtx_outside.specs.MemorySink.{after_write};
+ghost use Rattle.dtx_outside.specs.Shelf.{last_count};
+
+use crate::calls::Calls;
+use crate::{Sink, SinkNo};
+use std::alloc::{AllocError, Global};
+use std::marker::Model;
+
+/// Bytes that are printed, in memory.
+#[derive(Drop)]
+pub struct MemorySink {
+    text: Vec<u8>,
+    faults: u64,
+    writes: Calls,
+}
+
+impl Model for MemorySink {
+    ghost use Rattle.dtx_outside.specs.MemorySink.{Printed};
+
+    ghost Value = { Printed };
+
+    ghost view = { λ s. record { text = s.text.items; faults = s.faults; writes = s.writes } };
+}
+
+impl MemorySink {
+    /// A sink that has taken nothing, with no planned failures.
+    pub fn new(alloc: Global) -> MemorySink
+        ensures text { result.text ≡ [] }
+        ensures faults { result.faults ≡ 0 }
+        ensures writes { IsUnplanned result.writes }
+    {
+        MemorySink {
+            text: Vec::new(alloc),
+            faults: 0,
+            writes: Calls::new(alloc),
+        }
+    }
+
+    /// The bytes that were taken.
+    pub fn bytes(&self) -> &[u8]
+        ensures { result.now ≡ self.now.text }
+    {
+        &self.text
+    }
+
+    /// Plans that the write of that number fails, counted from 0 since `new`. It may want memory.
+    pub fn fail(&mut self, nth: u64) -> Result<(), AllocError>
+        requires { nth < last_count }
+        ensures ok { OnOk result (self.new ≡ record self.old { writes = failing nth self.old.writes }) }
+        ensures err { OnErr result (self.new ≡ self.old) }
+    {
+        self.writes.fail(nth)
+    }
+
+    /// How many writes were made since `new`, the failed ones included. It stays at the greatest `u64`.
+    pub fn calls(&self) -> u64
+        ensures { result ≡ self.now.writes.made }
+    {
+        self.writes.made()
+    }
+}
+
+impl Sink for MemorySink {
+    ghost written = { λ s. Some s.text };
+
+    ghost faults = { λ s. s.faults };
+
+    fn write(&mut self, bytes: &[u8]) -> Result<usize, SinkNo>
+        ensures faults { self.old.faults ≤ self.new.faults }
+        ensures after { self.new ≡ after_write bytes.now result self.old }
+
+        // It takes all of the piece, or nothing: it fails exactly where that is planned and there is something to take.
+        ensures all { IfOk result (λ n. n ≡ length bytes.now) }
+        ensures planned { IsErrOf result SinkNo.Failed ↔ (IsPlanned self.old.writes × (0 < length bytes.now)) }
+        ensures empty { length bytes.now ≡ 0 → result ≡ Ok 0 }
+    {
+        let fails = self.writes.count();
+        if bytes.is_empty() {
+            return Ok(0);
+        }
+        if fails {
+            self.faults = self.faults.saturating_add(1);
+            return Err(SinkNo::Failed);
+        }
+        self.text.extend_from_slice(bytes)?;
+        Ok(bytes.len())
+    }
+}
+
+#[cfg(test)]
+mod tests {
+    use super::*;
+    use std::test::Fail;
+
+    #[test]
+    fn a_planned_write_takes_nothing(rt: HostRuntime) -> Result<(), Fail> {
+        let mut sink = MemorySink::new(rt.alloc());
+        sink.fail(1)?;
+        for answer in [Ok(3), Err(SinkNo::Failed), Ok(3)] {
+            assert_eq!(rt; sink.write(b"abc"), answer);
+        }
+        assert_eq!(rt; sink.write(b""), Ok(0));
+        assert_eq!(rt; sink.bytes(), b"abcabc".as_slice());
+        assert_eq!(rt; sink.calls(), 4);
+        Ok(())
+    }
+}

@@ -1,0 +1,44 @@
+// What the program prints to.
+ghost use Rattle.std.specs.Prelude.{◌≡◌, ◌<◌, ◌≤◌, ℕ, List, length, IfOk, IsErrOf, Option};
+ghost use Rattle.dtx_outside.specs.Shelf.{Rose};
+ghost use Rattle.dtx_outside.specs.Sink.{IsPrinted};
+ghost use Rattle.dtx_outside.specs.declared.sink.SinkNo.TheVariants.{Memory};
+
+use std::alloc::AllocError;
+
+/// Why bytes were not printed.
+#[derive(Clone, Copy, Debug, PartialEq, Eq)]
+pub enum SinkNo {
+    /// Writing failed.
+    Failed,
+    /// Memory is wanted.
+    Memory,
+}
+
+impl From<AllocError> for SinkNo {
+    ghost from_gives = { λ _ no. no ≡ Memory };
+
+    fn from(_: AllocError) -> SinkNo {
+        SinkNo::Memory
+    }
+}
+
+/// What takes printed bytes.
+pub trait Sink {
+    /// The bytes written so far, where the sink tells them.
+    ghost written: { Self → Option (List ℕ) };
+
+    /// How often writing has failed. It never falls, and stays at the greatest `u64`.
+    ghost faults: { Self → ℕ };
+
+    /// Takes a front part of the bytes, and answers its length. It takes nothing only where there is nothing. Where it
+    /// `Failed`, a front part may have been taken. After `Memory` all is as before, the count too.
+    fn write(&mut self, bytes: &[u8]) -> Result<usize, SinkNo>
+        ensures bound { IfOk result (λ n. n ≤ length bytes.now) }
+        ensures some { IfOk result (λ n. 0 < length bytes.now → 0 < n) }
+        ensures empty { length bytes.now ≡ 0 → result ≡ Ok 0 }
+        ensures bytes { IsPrinted bytes.now (written self.old) result (written self.new) }
+        ensures failed { IsErrOf result SinkNo.Failed → Rose (faults self.old) (faults self.new) }
+        ensures memory { IsErrOf result SinkNo.Memory → faults self.new ≡ faults self.old }
+        ensures faults { faults self.old ≤ faults self.new };
+}
