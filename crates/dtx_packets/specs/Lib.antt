@@ -1,0 +1,4 @@
+pub mod Packet
+pub mod Packets
+pub mod Reading
+pub mod Refusal

@@ -1,0 +1,18 @@
+-- The fields of a packet's header, of its bytes (ISO/IEC 13818-1, 2.4.3.2).
+use Rattle.std.specs.Prelude.{ℕ, ◌+◌, ◌*◌, ◌%◌, List, IsBitSet, slice_index}
+
+-- the sync byte is byte 0
+abbrev pub sync_of : List ℕ → ℕ
+sync_of packet = slice_index packet 0
+
+-- the packet identifier is the low five bits of byte 1, followed by byte 2
+abbrev pub pid_of : List ℕ → ℕ
+pid_of packet = slice_index packet 1 % 32 * 256 + slice_index packet 2
+
+-- the transport error indicator is bit 7 of byte 1
+abbrev pub HasError : List ℕ → Type 0
+HasError packet = IsBitSet (slice_index packet 1) 7
+
+-- the continuity counter is the low four bits of byte 3
+abbrev pub counter_of : List ℕ → ℕ
+counter_of packet = slice_index packet 3 % 16

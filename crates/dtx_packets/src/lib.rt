@@ -1,0 +1,11 @@
+//! Transport packets, and a reader of the packets of a file.
+#![tactic(auto)]
+
+mod cutting;
+mod packet;
+mod reader;
+mod refusal;
+
+pub use packet::{PACKET, Packet};
+pub use reader::{MOST_PACKETS, PIECE_PACKETS, PacketReader};
+pub use refusal::NextNo;

@@ -1,0 +1,61 @@
+// A transport packet of 188 bytes, and the fields of its header.
+ghost use Rattle.std.specs.Prelude.{◌≡◌, ◌↔◌, IsTrue};
+ghost use Rattle.dtx_packets.specs.Packet.{sync_of, pid_of, HasError, counter_of};
+
+/// How many bytes a packet has (ISO/IEC 13818-1, 2.4.3.2).
+pub const PACKET: usize = 188;
+
+/// A transport packet (ISO/IEC 13818-1, 2.4.3.2).
+#[derive(Clone, Copy, Debug, PartialEq, Eq)]
+pub struct Packet(pub [u8; PACKET]);
+
+impl Packet {
+    /// The sync byte.
+    pub fn sync(&self) -> u8
+        ensures { result ≡ sync_of self.now.0 }
+    {
+        self.0[0]
+    }
+
+    /// The packet identifier, of 13 bits.
+    pub fn pid(&self) -> u16
+        ensures { result ≡ pid_of self.now.0 }
+    {
+        u16::from_be_bytes([self.0[1] & 0x1F, self.0[2]])
+    }
+
+    /// The transport error indicator.
+    pub fn error(&self) -> bool
+        ensures { IsTrue result ↔ HasError self.now.0 }
+    {
+        self.0[1] & 0x80 != 0
+    }
+
+    /// The continuity counter, of 4 bits.
+    pub fn counter(&self) -> u8
+        ensures { result ≡ counter_of self.now.0 }
+    {
+        self.0[3] & 0x0F
+    }
+}
+
+#[cfg(test)]
+mod tests {
+    use super::*;
+
+    #[test]
+    fn the_fields_of_a_header_are_read(rt: HostRuntime) {
+        let cases = [
+            ([0x47, 0x40, 0x31, 0x17], 0x47, 0x0031, false, 7),
+            ([0xB8, 0x9F, 0xFA, 0xDE], 0xB8, 0x1FFA, true, 14),
+        ];
+        for (header, sync, pid, error, counter) in cases {
+            let mut packet = Packet([0; PACKET]);
+            packet.0[..4].copy_from_slice(&header);
+            assert_eq!(rt; packet.sync(), sync);
+            assert_eq!(rt; packet.pid(), pid);
+            assert_eq!(rt; packet.error(), error);
+            assert_eq!(rt; packet.counter(), counter);
+        }
+    }
+}

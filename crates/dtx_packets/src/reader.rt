@@ -1,0 +1,257 @@
+// The packets of a file, one after another or many at a time.
+ghost use Rattle.std.specs.Prelude.{◌≡◌, ◌≤◌, ◌<◌, ◌+◌, ◌/◌, length, drop, IfOk, IfSome, IsErrOf, OnErr, Ok, None, Err};
+ghost use Rattle.std.specs.FinMap as map;
+ghost use Rattle.dtx_outside.specs.Shelf.{Rose};
+ghost use Rattle.dtx_packets.specs.Packets.{most_packets};
+
+use crate::cutting::cut;
+use crate::packet::{PACKET, Packet};
+use crate::refusal::NextNo;
+use dtx_outside::{Shelf, fill};
+use std::marker::Model;
+
+/// How many packets a stream has at most, and the place of a reader's first packet at most (the profile's own limit).
+pub const MOST_PACKETS: u64 = 624_000_000;
+
+/// How many packets are read at once at most, as many as 64 KiB hold.
+///
+/// A read opens and closes the file of a host, which costs as much as coding many packets.
+pub const PIECE_PACKETS: usize = 348;
+
+// The bytes of as many packets.
+const PIECE: usize = PIECE_PACKETS * PACKET;
+
+/// A reader of the packets of a file, from one packet on, as many as its limit allows.
+///
+/// The name of the file is given with each call. After a refusal the reader stands where it stood.
+#[derive(Drop)]
+pub struct PacketReader {
+    first: u64,
+    limit: u64,
+    given: u64,
+    loose: u8,
+}
+
+impl Model for PacketReader {
+    ghost use Rattle.std.specs.Prelude.{◌≤◌, ◌<◌};
+    ghost use Rattle.dtx_packets.specs.Reading.{Reading};
+    ghost use Rattle.dtx_packets.specs.declared.packet.TheConstants.{PACKET};
+    ghost use Rattle.dtx_packets.specs.declared.reader.TheConstants.{MOST_PACKETS};
+
+    ghost Value = { Reading };
+
+    ghost view = { λ r. record { first = r.first; limit = r.limit; given = r.given; loose = r.loose } };
+
+    ghost invariant = { λ r. (r.first ≤ MOST_PACKETS) × (r.limit ≤ MOST_PACKETS) × (r.given ≤ r.limit) × (r.loose < PACKET) };
+}
+
+impl PacketReader {
+    ghost use Rattle.dtx_packets.specs.Reading.{Reading, IsNext, AreNext, IsAdvance};
+
+    /// A reader from the first packet on.
+    pub fn new(limit: u64) -> PacketReader
+        requires { limit ≤ most_packets }
+        ensures { result ≡ record { first = 0; limit = limit; given = 0; loose = 0 } }
+    {
+        PacketReader::at(0, limit)
+    }
+
+    /// A reader from that packet on.
+    pub fn at(first: u64, limit: u64) -> PacketReader
+        requires first { first ≤ most_packets }
+        requires limit { limit ≤ most_packets }
+        ensures { result ≡ record { first = first; limit = limit; given = 0; loose = 0 } }
+    {
+        PacketReader {
+            first,
+            limit,
+            given: 0,
+            loose: 0,
+        }
+    }
+
+    /// How many bytes stood behind the last whole packet, once the end was met. It is 0 before, and again once a
+    /// further packet is given of a file that has grown.
+    pub fn loose(&self) -> u8
+        ensures { result ≡ self.now.loose }
+    {
+        self.loose
+    }
+
+    /// The next whole packet, or `None` where fewer than 188 bytes are left.
+    ///
+    /// It refuses with `TooLong` where as many packets as the limit were given and another whole one is there, and
+    /// otherwise as the shelf refuses.
+    pub fn next<S: Shelf>(&mut self, shelf: &mut S, name: &str) -> Result<Option<Packet>, NextNo>
+        ensures told { IfSome (S.files shelf.old) (λ held. IsNext (map.get held name.now) self.old result self.new) }
+
+        // What it leaves, also where the shelf doesn't tell its files.
+        ensures packet { IfOk result (λ next. IfSome next (λ _.
+            (self.old.given < self.old.limit) × (self.new ≡ record self.old { given = self.old.given + 1; loose = 0 }))) }
+        ensures end { result ≡ Ok None → (self.new.loose < PACKET) × (self.new ≡ record self.old { loose = self.new.loose }) }
+        ensures err { OnErr result (self.new ≡ self.old) }
+
+        // The causes.
+        ensures too_long { IsErrOf result NextNo.TooLong → self.old.given ≡ self.old.limit }
+        ensures absent { IsErrOf result NextNo.Absent → Rose (S.misses shelf.old) (S.misses shelf.new) }
+        ensures failed { IsErrOf result NextNo.Failed → Rose (S.read_faults shelf.old) (S.read_faults shelf.new) }
+        ensures kept { S.files shelf.new ≡ S.files shelf.old }
+        ensures read_faults { S.read_faults shelf.old ≤ S.read_faults shelf.new }
+        ensures write_faults { S.write_faults shelf.new ≡ S.write_faults shelf.old }
+        ensures misses { S.misses shelf.old ≤ S.misses shelf.new }
+    {
+        let mut bytes = [0u8; PACKET];
+        let count = self.advance(shelf, name, &mut bytes)?;
+        if count == 0 {
+            return Ok(None);
+        }
+        Ok(Some(Packet(bytes)))
+    }
+
+    /// Puts the next whole packets at the front of the places, read at once, and answers how many they are: as many
+    /// as there are places, as the limit still allows and as are left. It is 0 where fewer than 188 bytes are left.
+    ///
+    /// It refuses as `next` does. Where it answers 0 or refuses, the places are as they were.
+    pub fn next_many<S: Shelf>(
+        &mut self,
+        shelf: &mut S,
+        name: &str,
+        into: &mut [Packet],
+    ) -> Result<usize, NextNo>
+        requires some { 0 < length into.old }
+        requires fits { length into.old ≤ PIECE_PACKETS }
+        ensures told { IfSome (S.files shelf.old) (λ held. AreNext (map.get held name.now) self.old result into.new self.new) }
+
+        // What it leaves, also where the shelf doesn't tell its files.
+        ensures count { IfOk result (λ n. n ≤ length into.new) }
+        ensures rest { IfOk result (λ n. drop n into.new ≡ drop n into.old) }
+        ensures packets { IfOk result (λ n. 0 < n →
+            (self.old.given + n ≤ self.old.limit) × (self.new ≡ record self.old { given = self.old.given + n; loose = 0 })) }
+        ensures end { result ≡ Ok 0 → (self.new.loose < PACKET) × (self.new ≡ record self.old { loose = self.new.loose }) }
+        ensures err { OnErr result (self.new ≡ self.old) }
+        ensures err_rest { OnErr result (into.new ≡ into.old) }
+
+        // The causes.
+        ensures too_long { IsErrOf result NextNo.TooLong → self.old.given ≡ self.old.limit }
+        ensures absent { IsErrOf result NextNo.Absent → Rose (S.misses shelf.old) (S.misses shelf.new) }
+        ensures failed { IsErrOf result NextNo.Failed → Rose (S.read_faults shelf.old) (S.read_faults shelf.new) }
+        ensures kept { S.files shelf.new ≡ S.files shelf.old }
+        ensures read_faults { S.read_faults shelf.old ≤ S.read_faults shelf.new }
+        ensures write_faults { S.write_faults shelf.new ≡ S.write_faults shelf.old }
+        ensures misses { S.misses shelf.old ≤ S.misses shelf.new }
+    {
+        let mut bytes = [0u8; PIECE];
+        let room = into.len() * PACKET;
+        let count = self.advance(shelf, name, &mut bytes[..room])?;
+        cut(&bytes[..count * PACKET], into);
+        Ok(count)
+    }
+
+    /// Reads the bytes of the next whole packets to the front of the buffer, and answers how many packets they are.
+    fn advance<S: Shelf>(
+        &mut self,
+        shelf: &mut S,
+        name: &str,
+        bytes: &mut [u8],
+    ) -> Result<usize, NextNo>
+        requires some { PACKET ≤ length bytes.old }
+        requires fits { length bytes.old ≤ PIECE }
+        ensures told { IfSome (S.files shelf.old) (λ held. IsAdvance (map.get held name.now) self.old result bytes.new self.new) }
+        ensures count { IfOk result (λ n. n ≤ length bytes.new / PACKET) }
+        ensures packets { IfOk result (λ n. 0 < n →
+            (self.old.given + n ≤ self.old.limit) × (self.new ≡ record self.old { given = self.old.given + n; loose = 0 })) }
+        ensures end { result ≡ Ok 0 → (self.new.loose < PACKET) × (self.new ≡ record self.old { loose = self.new.loose }) }
+        ensures err { OnErr result (self.new ≡ self.old) }
+        ensures too_long { IsErrOf result NextNo.TooLong → self.old.given ≡ self.old.limit }
+        ensures absent { IsErrOf result NextNo.Absent → Rose (S.misses shelf.old) (S.misses shelf.new) }
+        ensures failed { IsErrOf result NextNo.Failed → Rose (S.read_faults shelf.old) (S.read_faults shelf.new) }
+        ensures kept { S.files shelf.new ≡ S.files shelf.old }
+        ensures read_faults { S.read_faults shelf.old ≤ S.read_faults shelf.new }
+        ensures write_faults { S.write_faults shelf.new ≡ S.write_faults shelf.old }
+        ensures misses { S.misses shelf.old ≤ S.misses shelf.new }
+    {
+        let left = self.limit - self.given;
+        // Where the limit is reached, one packet more shows whether the file is longer.
+        let wanted = (bytes.len() / PACKET).min(left.max(1) as usize);
+        let place = (self.first + self.given) * PACKET as u64;
+        let filled = fill(shelf, name, place, &mut bytes[..wanted * PACKET])?;
+        let count = filled / PACKET;
+        if count == 0 {
+            self.loose = filled as u8;
+            return Ok(0);
+        }
+        if left == 0 {
+            return Err(NextNo::TooLong);
+        }
+        self.given += count as u64;
+        self.loose = 0;
+        Ok(count)
+    }
+}
+
+#[cfg(test)]
+mod tests {
+    use super::*;
+    use dtx_outside::MemoryShelf;
+    use std::test::Fail;
+
+    #[test]
+    fn a_reader_stops_at_its_limit_as_often_as_it_is_asked(rt: HostRuntime) -> Result<(), Fail> {
+        let mut shelf = MemoryShelf::new(rt.alloc());
+        shelf.put("four", &[0x47; 4 * PACKET])?;
+        let mut reader = PacketReader::new(3);
+        for _ in 0..3 {
+            assert_eq!(rt;
+                reader.next(&mut shelf, "four"),
+                Ok(Some(Packet([0x47; PACKET])))
+            );
+        }
+        for _ in 0..2 {
+            assert_eq!(rt; reader.next(&mut shelf, "four"), Err(NextNo::TooLong));
+        }
+        assert_eq!(rt; reader.next(&mut shelf, "none"), Err(NextNo::Absent));
+        Ok(())
+    }
+
+    #[test]
+    fn the_bytes_behind_the_last_whole_packet_are_counted(rt: HostRuntime) -> Result<(), Fail> {
+        let mut shelf = MemoryShelf::new(rt.alloc());
+        shelf.put("loose", &[0x47; 3 * PACKET + 187])?;
+        let mut reader = PacketReader::new(3);
+        for _ in 0..3 {
+            assert_eq!(rt;
+                reader.next(&mut shelf, "loose"),
+                Ok(Some(Packet([0x47; PACKET])))
+            );
+        }
+        assert_eq!(rt; reader.next(&mut shelf, "loose"), Ok(None));
+        assert_eq!(rt; reader.loose(), 187);
+        Ok(())
+    }
+
+    #[test]
+    fn a_stream_comes_whole_in_pieces_that_do_not_divide_it(rt: HostRuntime) -> Result<(), Fail> {
+        let mut stream = [0u8; 7 * PACKET + 5];
+        for k in 0..7 {
+            stream[k * PACKET] = k as u8;
+        }
+        let mut shelf = MemoryShelf::new(rt.alloc());
+        shelf.put("seven", &stream)?;
+        let mut reader = PacketReader::new(MOST_PACKETS);
+        let mut packets = [Packet([0; PACKET]); 3];
+        for (count, syncs) in [
+            (3, [0, 1, 2]),
+            (3, [3, 4, 5]),
+            (1, [6, 4, 5]),
+            (0, [6, 4, 5]),
+        ] {
+            assert_eq!(rt;
+                reader.next_many(&mut shelf, "seven", &mut packets),
+                Ok(count)
+            );
+            assert_eq!(rt; packets.map(|packet| packet.sync()), syncs);
+        }
+        assert_eq!(rt; reader.loose(), 5);
+        Ok(())
+    }
+}
