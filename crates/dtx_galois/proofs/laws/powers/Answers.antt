@@ -1,0 +1,5 @@
+use Rattle.dtx_galois.proofs.Powers.{pow_add}
+use Rattle.dtx_galois.proofs.laws.powers.Goals as goal
+
+pub returns : goal.returns
+returns c = pow_add

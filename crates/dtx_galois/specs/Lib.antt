@@ -1,0 +1,3 @@
+pub mod BitPolynomial
+pub mod Field
+pub mod Word

@@ -1,0 +1,109 @@
+//! An element of the field, and its arithmetic.
+
+ghost use Rattle.std.specs.Prelude.{◌≡◌, ◌≢◌};
+ghost use Rattle.std.specs.Int.RustNames.{bit_xor};
+ghost use Rattle.dtx_galois.specs.Field.{mul, pow};
+
+use crate::tables::{ORDER, logarithm, power};
+
+/// The polynomial x^8 + x^4 + x^3 + x^2 + 1 over the two bits, modulo which bytes are multiplied
+/// (ATSC A/53 Part 2, Reed-Solomon encoder).
+pub const FIELD_POLYNOMIAL: u16 = 0x11D;
+
+/// The element whose powers are all elements but 0.
+pub const ALPHA: Gf = Gf(2);
+
+/// An element of the field: a byte.
+#[derive(Clone, Copy, Debug, PartialEq, Eq)]
+pub struct Gf(pub u8);
+
+impl Gf {
+    /// The sum, bit by bit. It is the difference too.
+    pub fn add(self, other: Gf) -> Gf
+        ensures { result.0 ≡ bit_xor self.0 other.0 }
+    {
+        Gf(self.0 ^ other.0)
+    }
+
+    /// The product, a remainder modulo the field's polynomial.
+    pub fn mul(self, other: Gf) -> Gf
+        ensures { result.0 ≡ mul self.0 other.0 }
+    {
+        if self.0 == 0 || other.0 == 0 {
+            return Gf(0);
+        }
+        Gf(power(logarithm(self.0) + logarithm(other.0)))
+    }
+
+    /// The element whose product with this one is 1.
+    pub fn inv(self) -> Gf
+        requires { self.0 ≢ 0 }
+        ensures { mul self.0 result.0 ≡ 1 }
+    {
+        Gf(power(ORDER - logarithm(self.0)))
+    }
+
+    /// The product of `times` factors of this element, which is 1 where there are none.
+    pub fn pow(self, times: u32) -> Gf
+        ensures { result.0 ≡ pow self.0 times }
+    {
+        if times == 0 {
+            return Gf(1);
+        }
+        if self.0 == 0 {
+            return self;
+        }
+        Gf(power(logarithm(self.0) * times as usize % ORDER))
+    }
+}
+
+#[cfg(test)]
+mod tests {
+    use super::*;
+
+    #[test]
+    fn products_are_those_worked_by_long_division(rt: HostRuntime) {
+        let rows = [
+            (2, 0x80, 0x1D),
+            (0x53, 0xCA, 0x8F),
+            (0xFF, 0xFF, 0xE2),
+            (0, 0x47, 0),
+            (1, 0xB8, 0xB8),
+        ];
+        for (a, b, product) in rows {
+            assert_eq!(rt; Gf(a).mul(Gf(b)), Gf(product), "{a} times {b}");
+            assert_eq!(rt; Gf(b) * Gf(a), Gf(product), "{b} times {a}");
+        }
+    }
+
+    #[test]
+    fn inverses_are_those_found_by_trying_all(rt: HostRuntime) {
+        for (a, inverse) in [
+            (1, 1),
+            (2, 0x8E),
+            (3, 0xF4),
+            (0x53, 0x8C),
+            (0x80, 0x1B),
+            (0xFF, 0xFD),
+        ] {
+            assert_eq!(rt; Gf(a).inv(), Gf(inverse), "the inverse of {a}");
+        }
+    }
+
+    #[test]
+    fn powers_of_alpha_come_round_after_their_order(rt: HostRuntime) {
+        for (times, power) in [
+            (0, 1),
+            (1, 2),
+            (8, 0x1D),
+            (254, 0x8E),
+            (255, 1),
+            (u32::MAX, 1),
+        ] {
+            assert_eq!(rt; ALPHA.pow(times), Gf(power), "power {times}");
+        }
+        assert_eq!(rt; Gf(0).pow(0), Gf(1));
+        assert_eq!(rt; Gf(0).pow(3), Gf(0));
+        assert_eq!(rt; Gf(0xFF).pow(1000), Gf(0x5E));
+    }
+}
