@@ -1,0 +1,6 @@
+use Rattle.std.proofs.Common.{arith}
+use Rattle.dtx_galois.proofs.Bytes.{AreBytes-from_places}
+use Rattle.dtx_laws.proofs.correcting.outcome.take_data.Goals as goal
+
+pub returns-clause-bytes : goal.returns-clause-bytes
+returns-clause-bytes c = AreBytes-from_places c.args.word.now (λ i l. omega (arith, c.type_inv.word i))

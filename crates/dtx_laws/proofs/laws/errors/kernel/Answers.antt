@@ -1,0 +1,5 @@
+use Rattle.dtx_laws.proofs.Kernel.{kernel}
+use Rattle.dtx_laws.proofs.laws.errors.kernel.Goals as goal
+
+pub returns : goal.returns
+returns c = kernel

@@ -1,0 +1,5 @@
+use Rattle.dtx_laws.proofs.Interleaving.{HasWidths-all}
+use Rattle.dtx_laws.proofs.laws.interleaving.widths_stay.Goals as goal
+
+pub returns : goal.returns
+returns c = HasWidths-all

@@ -1,0 +1,9 @@
+pub mod Codeword
+pub mod Words
+pub mod Register
+pub mod Whitening
+pub mod Branches
+pub mod Interleaving
+pub mod Correction
+pub mod Locator
+pub mod ErrorValues

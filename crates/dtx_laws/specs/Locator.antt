@@ -1,0 +1,38 @@
+-- Locators: coefficients with the lowest first, the equations that they solve, and the places at which they vanish.
+use Rattle.std.specs.Prelude.{ℕ, ◌≡◌, ◌-◌, ◌<◌, ◌==◌, ◌+◌, ◌≤◌, ◌≢◌, Bool, false, List, [], ◌∷◌, length, slice_index, slice_index_or}
+use Rattle.std.proofs.Common.{suc}
+use Rattle.std.specs.Int.RustNames.{bit_xor}
+use Rattle.dtx_galois.specs.Field.{mul, pow, AreBytes}
+
+-- the value at x of the polynomial with these coefficients, the lowest first
+abbrev pub low_value : List ℕ → ℕ → ℕ
+low_value [] x = 0
+low_value (c ∷ cs) x = bit_xor c (mul x (low_value cs x))
+
+-- c[0] * s i + c[1] * s (i + 1) + ..
+abbrev pub combination : List ℕ → (ℕ → ℕ) → ℕ → ℕ
+combination [] s i = 0
+combination (c ∷ cs) s i = bit_xor (mul c (s i)) (combination cs s (suc i))
+
+-- the combination with these coefficients is 0 at each of the first t places of the sequence
+abbrev pub Annuls : List ℕ → (ℕ → ℕ) → ℕ → Type 0
+Annuls cs s t = (i : ℕ) → i < t → combination cs s i ≡ 0
+
+-- at most t + 1 coefficients, not all of them 0, that annul the first t places
+pub record IsLocator (t : ℕ) (s : ℕ → ℕ) (locator : List ℕ) : Type 0 where
+  pub long : length locator ≤ t + 1
+  pub bytes : AreBytes locator
+  pub some : (j : ℕ) × (slice_index locator j ≢ 0)
+  pub annuls : Annuls locator s t
+
+-- the power of α, which is 2, whose coefficient stands at place p of n
+unfoldable pub power_at : ℕ → ℕ → ℕ
+power_at n p = pow 2 (n - 1 - p)
+
+-- whether the locator vanishes at place p of n
+abbrev pub vanishes_at : ℕ → List ℕ → ℕ → Bool
+vanishes_at n locator p = low_value locator (power_at n p) == 0
+
+-- whether place p is marked
+abbrev pub is_marked : List Bool → ℕ → Bool
+is_marked marks p = slice_index_or marks p false

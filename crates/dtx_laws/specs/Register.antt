@@ -1,0 +1,21 @@
+-- Division by the generator as a register does it: what an encoder's loops are proved by. No law speaks of it.
+use Rattle.std.specs.Prelude.{ℕ, List, [], ◌∷◌, ◌++◌}
+use Rattle.std.proofs.Common.{zero, suc}
+use Rattle.std.specs.Int.RustNames.{bit_xor}
+use Rattle.dtx_galois.specs.Field.{pow}
+use Rattle.dtx_galois.specs.Word.{sums, scaled}
+
+-- the product of all x - α^i for i below m, without its highest term x^m
+abbrev pub generator : ℕ → List ℕ
+generator zero = []
+generator (suc m) = sums (generator m ++ 0 ∷ []) (pow 2 m ∷ scaled (pow 2 m) (generator m))
+
+-- the register after the byte b: moved by a place, with b plus the byte that left, times the generator, added
+abbrev pub fed : List ℕ → List ℕ → ℕ → List ℕ
+fed g [] b = []
+fed g (r ∷ rs) b = sums (rs ++ 0 ∷ []) (scaled (bit_xor b r) g)
+
+-- the register after all bytes
+abbrev pub register : List ℕ → List ℕ → List ℕ → List ℕ
+register g rs [] = rs
+register g rs (b ∷ bs) = register g (fed g rs b) bs

@@ -1,0 +1,22 @@
+//! The trait of the correctors of words.
+
+ghost use Rattle.std.specs.Prelude.{◌≡◌, MatchResult, length};
+ghost use Rattle.dtx_laws.specs.Codeword.{IsCode};
+ghost use Rattle.dtx_laws.specs.Correction.{IsCorrected, IsLeft};
+
+/// No codeword lies within `(N - K) / 2` places of the word.
+#[derive(Clone, Copy, Debug, PartialEq, Eq)]
+pub struct TooMany;
+
+/// Corrects words of `N` bytes, of which `K` are data, where at most `(N - K) / 2` bytes are wrong.
+pub trait Correct<const N: usize, const K: usize> {
+    /// `N` and `K` are the numbers of a code, as each value keeps: a generic caller learns it here.
+    fn known(&self)
+        ensures { IsCode N K };
+
+    /// Sets `word` to the codeword within `(N - K) / 2` places, and tells how many places that changed. Where there is no such
+    /// codeword, the answer is `TooMany`, and the word stays. `laws::one_answer` says that there is just one such answer.
+    fn correct(&self, word: &mut [u8; N]) -> Result<u8, TooMany>
+        ensures answer { MatchResult result (IsCorrected N K word.old word.new) (λ _e. IsLeft N K word.old word.new) }
+        ensures long { length word.new ≡ N };
+}
