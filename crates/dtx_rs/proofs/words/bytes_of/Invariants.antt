@@ -1,0 +1,9 @@
+use Rattle.std.proofs.Common.{◌≡◌, ◌*◌, length, take}
+use Rattle.dtx_rs.specs.Table.{word_bytes}
+use Rattle.dtx_rs.proofs.words.bytes_of.Given as goal
+
+abbrev pub invariant-loop-i : goal.invariant-loop-i
+invariant-loop-i l = record {
+  front : take (4 * l.i) l.bytes ≡ word_bytes (take l.i l.words);
+  long : length l.bytes ≡ 20;
+}

@@ -1,0 +1,100 @@
+//! The encoder of a code, and the syndromes of its words.
+
+ghost use Rattle.std.specs.Prelude.{◌≡◌, ◌+◌, ◌-◌, ◌<◌, ◌≤◌, ◌++◌, length, replicate, take};
+ghost use Rattle.dtx_galois.specs.Field.{AreBytes, pow, value};
+ghost use Rattle.dtx_laws.specs.Codeword.{IsCode};
+ghost use Rattle.dtx_laws.specs.Register.{generator, register};
+ghost use Rattle.dtx_rs.specs.declared.divisor.TheConstants.{ELEMENTS};
+ghost use Rattle.dtx_rs.specs.declared.words.TheConstants.{WIDTH};
+
+use crate::divisor::{ELEMENTS, divisor_of};
+use crate::register::encode_by_register;
+use crate::table::Table;
+use crate::words::WIDTH;
+use dtx_galois::{ALPHA, Gf, eval};
+use dtx_laws::Encode;
+
+/// The encoder of words of `N` bytes with `K` bytes of data (ATSC A/53 Part 2, Reed-Solomon encoder).
+///
+/// It holds a table of 20 KB, so make one and keep it. Up to twenty parity bytes are made by the table,
+/// four bytes of data a step, and more than twenty byte by byte.
+#[derive(Drop)]
+pub struct Rs<const N: usize, const K: usize> {
+    divisor: [u8; ELEMENTS],
+    table: Table,
+    ghost code: { IsCode N K },
+    ghost divides: { divisor ≡ generator (N - K) ++ replicate (ELEMENTS - (N - K)) 0 },
+    ghost tabulated: { table.divisor ≡ take WIDTH divisor },
+}
+
+impl<const N: usize, const K: usize> Rs<N, K> {
+    /// The encoder, whose table is made here. It takes no memory.
+    pub fn new() -> Self
+        requires { IsCode N K }
+    {
+        let divisor = divisor_of(N - K);
+        Rs {
+            divisor,
+            table: Table::new(&front(&divisor)),
+        }
+    }
+
+    /// The value of a word at the power `i` of α, which is 0 for each `i` where the word is a codeword.
+    pub fn syndrome(&self, word: &[u8; N], i: usize) -> Gf
+        requires { i < N - K }
+        ensures { result.0 ≡ value word.now (pow 2 i) }
+    {
+        eval(&word[..], ALPHA.pow(i as u32))
+    }
+}
+
+impl<const N: usize, const K: usize> Encode<N, K> for Rs<N, K> {
+    fn known(&self) {}
+
+    fn encode(&self, head: &[u8; K], word: &mut [u8; N]) {
+        if N - K <= WIDTH {
+            join(&head[..], &self.table.parity(&head[..]), &mut word[..])
+        } else {
+            encode_by_register(&self.divisor[..N - K], &head[..], &mut word[..])
+        }
+    }
+
+    fn encode_two(
+        &self,
+        first: &[u8; K],
+        first_word: &mut [u8; N],
+        second: &[u8; K],
+        second_word: &mut [u8; N],
+    ) {
+        if N - K <= WIDTH {
+            let (parity, other) = self.table.parity_of_two(&first[..], &second[..]);
+            join(&first[..], &parity, &mut first_word[..]);
+            join(&second[..], &other, &mut second_word[..]);
+        } else {
+            self.encode(first, first_word);
+            self.encode(second, second_word);
+        }
+    }
+}
+
+/// The first coefficients, as many as the table's rows are long.
+fn front(divisor: &[u8; ELEMENTS]) -> [u8; WIDTH]
+    ensures { result ≡ take WIDTH divisor.now }
+{
+    let mut front = [0; WIDTH];
+    front.copy_from_slice(&divisor[..WIDTH]);
+    front
+}
+
+/// The data, and then as many parity bytes as there is room for.
+fn join(head: &[u8], parity: &[u8; WIDTH], word: &mut [u8])
+    requires room { length head.now ≤ length word.old }
+    requires few { length word.old ≤ length head.now + WIDTH }
+    ensures bytes { AreBytes head.now }
+    ensures word { word.new ≡ head.now ++ take (length word.old - length head.now) parity.now }
+{
+    let (front, rest) = word.split_at_mut(head.len());
+    front.copy_from_slice(head);
+    let count = rest.len();
+    rest.copy_from_slice(&parity[..count]);
+}

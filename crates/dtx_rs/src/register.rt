@@ -1,0 +1,45 @@
+//! Division byte by byte, for every number of parity bytes.
+
+ghost use Rattle.std.specs.Prelude.{◌≡◌, ◌+◌, ◌<◌, ◌++◌, length, replicate};
+ghost use Rattle.dtx_galois.specs.Field.{AreBytes};
+ghost use Rattle.dtx_galois.specs.Word.{scaled, sums};
+ghost use Rattle.dtx_laws.specs.Register.{fed, register};
+
+use dtx_galois::Gf;
+
+/// The data, and then the register that was fed with them.
+pub fn encode_by_register(divisor: &[u8], head: &[u8], word: &mut [u8])
+    requires some { 0 < length divisor.now }
+    requires long { length word.old ≡ length head.now + length divisor.now }
+    ensures bytes { AreBytes head.now }
+    ensures word { word.new ≡ head.now ++ register divisor.now (replicate (length divisor.now) 0) head.now }
+{
+    let (front, rest) = word.split_at_mut(head.len());
+    front.copy_from_slice(head);
+    rest.fill(0);
+    for byte in head {
+        feed(rest, divisor, *byte);
+    }
+}
+
+/// The register after one more byte.
+pub fn feed(register: &mut [u8], divisor: &[u8], byte: u8)
+    requires same { length register.old ≡ length divisor.now }
+    requires some { 0 < length register.old }
+    ensures { register.new ≡ fed divisor.now register.old byte }
+{
+    let factor = Gf(byte ^ register[0]);
+    register.rotate_left(1);
+    let last = register.len() - 1;
+    register[last] = 0;
+    add_scaled(register, divisor, factor);
+}
+
+fn add_scaled(register: &mut [u8], divisor: &[u8], factor: Gf)
+    requires { length register.old ≡ length divisor.now }
+    ensures { register.new ≡ sums register.old (scaled factor.0 divisor.now) }
+{
+    for i in 0..divisor.len() {
+        register[i] ^= factor.mul(Gf(divisor[i])).0;
+    }
+}

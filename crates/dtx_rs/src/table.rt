@@ -1,0 +1,168 @@
+//! The table by which four bytes of data are divided in one step.
+
+ghost use Rattle.std.specs.Prelude.{◌≡◌, ℕ, ◌+◌, ◌-◌, ◌*◌, ◌/◌, ◌%◌, ◌<◌, [], ◌∷◌, ◌++◌, drop, length, replicate, slice_index, slice_index_or, take};
+ghost use Rattle.dtx_galois.specs.Word.{sums};
+ghost use Rattle.dtx_laws.specs.Register.{fed, register};
+ghost use Rattle.dtx_rs.specs.Table.{row, word_bytes};
+ghost use Rattle.dtx_rs.specs.declared.divisor.TheConstants.{ELEMENTS};
+ghost use Rattle.dtx_rs.specs.declared.words.TheConstants.{STEP, WIDTH};
+
+use crate::divisor::ELEMENTS;
+use crate::register::feed;
+use crate::words::{STEP, WIDTH, WORDS, bytes_of, words_of};
+
+/// How many rows there are: one for each byte, at each place of a step.
+const ROWS: usize = STEP * ELEMENTS;
+
+/// Row `ELEMENTS * k + f` is what the register of zeros holds after the byte f and then k zeros.
+#[derive(Drop)]
+pub struct Table {
+    pub divisor: [u8; WIDTH],
+    rows: [[u32; WORDS]; ROWS],
+    ghost long: { length divisor ≡ WIDTH },
+    ghost rows_hold: { (k f : ℕ) → k < STEP → f < ELEMENTS → word_bytes (slice_index_or rows (ELEMENTS * k + f) []) ≡ row divisor f k },
+}
+
+impl Table {
+    /// The table of a divisor whose highest coefficient, 1, is left out.
+    pub fn new(divisor: &[u8; WIDTH]) -> Self
+        ensures { result.divisor ≡ divisor.now }
+    {
+        Table {
+            divisor: *divisor,
+            rows: all_rows(divisor),
+        }
+    }
+
+    /// The register of zeros after all the data.
+    pub fn parity(&self, head: &[u8]) -> [u8; WIDTH]
+        ensures { result ≡ register self.now.divisor (replicate WIDTH 0) head.now }
+    {
+        let first = head.len() % STEP;
+        let mut state = self.started(head);
+        for step in 0..head.len() / STEP {
+            let at = first + STEP * step;
+            state = self.fed(
+                &state,
+                &[head[at], head[at + 1], head[at + 2], head[at + 3]],
+            );
+        }
+        bytes_of(&state)
+    }
+
+    /// The registers of zeros after all the data of each of two heads, by steps in turn, so that neither waits for the other.
+    pub fn parity_of_two(&self, one: &[u8], two: &[u8]) -> ([u8; WIDTH], [u8; WIDTH])
+        requires { length one.now ≡ length two.now }
+        ensures one { result.0 ≡ register self.now.divisor (replicate WIDTH 0) one.now }
+        ensures two { result.1 ≡ register self.now.divisor (replicate WIDTH 0) two.now }
+    {
+        let first = one.len() % STEP;
+        let mut state = self.started(one);
+        let mut other = self.started(two);
+        for step in 0..one.len() / STEP {
+            let at = first + STEP * step;
+            state = self.fed(&state, &[one[at], one[at + 1], one[at + 2], one[at + 3]]);
+            other = self.fed(&other, &[two[at], two[at + 1], two[at + 2], two[at + 3]]);
+        }
+        (bytes_of(&state), bytes_of(&other))
+    }
+
+    /// The register after the bytes before the first whole step.
+    fn started(&self, head: &[u8]) -> [u32; WORDS]
+        ensures { word_bytes result ≡ register self.now.divisor (replicate WIDTH 0) (take (length head.now % STEP) head.now) }
+    {
+        self.fed(&[0; WORDS], &padded(head))
+    }
+
+    /// The register after four more bytes.
+    #[inline(always)]
+    fn fed(&self, state: &[u32; WORDS], bytes: &[u8; STEP]) -> [u32; WORDS]
+        ensures { word_bytes result ≡ register self.now.divisor (word_bytes state.now) bytes.now }
+    {
+        let factors = (u32::from_be_bytes(*bytes) ^ state[0]).to_be_bytes();
+        let row3 = self.row(3, factors[0]);
+        let row2 = self.row(2, factors[1]);
+        let row1 = self.row(1, factors[2]);
+        let row0 = self.row(0, factors[3]);
+        sum_of(state, &row3, &row2, &row1, &row0)
+    }
+
+    /// What a byte adds to the register, `k` places before the last of a step.
+    #[inline(always)]
+    fn row(&self, k: usize, factor: u8) -> [u32; WORDS]
+        requires { k < STEP }
+        ensures { word_bytes result ≡ row self.now.divisor factor k }
+    {
+        self.rows[ELEMENTS * k + factor as usize]
+    }
+}
+
+/// The register moved on by a word, and four rows.
+#[inline(always)]
+fn sum_of(
+    state: &[u32; WORDS],
+    row3: &[u32; WORDS],
+    row2: &[u32; WORDS],
+    row1: &[u32; WORDS],
+    row0: &[u32; WORDS],
+) -> [u32; WORDS]
+    ensures { result ≡ sums (drop 1 state.now ++ 0 ∷ []) (sums row3.now (sums row2.now (sums row1.now row0.now))) }
+{
+    let mut next = [0; WORDS];
+    for i in 0..WORDS {
+        next[i] = moved(state, i) ^ (row3[i] ^ (row2[i] ^ (row1[i] ^ row0[i])));
+    }
+    next
+}
+
+/// The word one place on.
+#[inline(always)]
+fn moved(state: &[u32; WORDS], i: usize) -> u32
+    requires { i < WORDS }
+    ensures { result ≡ slice_index state.now (i + 1) }
+{
+    if i + 1 < WORDS { state[i + 1] } else { 0 }
+}
+
+/// The bytes before the first whole step, behind as many zeros as make them one.
+fn padded(head: &[u8]) -> [u8; STEP]
+    ensures { result ≡ replicate (STEP - length head.now % STEP) 0 ++ take (length head.now % STEP) head.now }
+{
+    let first = head.len() % STEP;
+    let mut bytes = [0; STEP];
+    bytes[STEP - first..].copy_from_slice(&head[..first]);
+    bytes
+}
+
+/// The rows of each byte at each place of a step.
+fn all_rows(divisor: &[u8; WIDTH]) -> [[u32; WORDS]; ROWS]
+    ensures { (k f : ℕ) → k < STEP → f < ELEMENTS → word_bytes (slice_index_or result (ELEMENTS * k + f) []) ≡ row divisor.now f k }
+{
+    let mut rows = [[0; WORDS]; ROWS];
+    for n in 0..ROWS {
+        rows[n] = nth_row(divisor, &rows, n);
+    }
+    rows
+}
+
+/// Row n, from the rows before it.
+fn nth_row(divisor: &[u8; WIDTH], rows: &[[u32; WORDS]; ROWS], n: usize) -> [u32; WORDS]
+    requires some { n < ROWS }
+    requires before { (j : ℕ) → j < n → word_bytes (slice_index_or rows.now j []) ≡ row divisor.now (j % ELEMENTS) (j / ELEMENTS) }
+    ensures { word_bytes result ≡ row divisor.now (n % ELEMENTS) (n / ELEMENTS) }
+{
+    if n < ELEMENTS {
+        next_row(divisor, &[0; WORDS], n as u8)
+    } else {
+        next_row(divisor, &rows[n - ELEMENTS], 0)
+    }
+}
+
+/// The row after one more byte.
+fn next_row(divisor: &[u8; WIDTH], row: &[u32; WORDS], byte: u8) -> [u32; WORDS]
+    ensures { word_bytes result ≡ fed divisor.now (word_bytes row.now) byte }
+{
+    let mut bytes = bytes_of(row);
+    feed(&mut bytes, divisor, byte);
+    words_of(&bytes)
+}

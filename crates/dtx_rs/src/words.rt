@@ -1,0 +1,36 @@
+//! Registers as words of four bytes, the highest byte of each first.
+
+ghost use Rattle.std.specs.Prelude.{◌≡◌};
+ghost use Rattle.dtx_rs.specs.Table.{word_bytes};
+
+/// The bytes of a word, which are fed in one step.
+pub const STEP: usize = 4;
+
+/// The words of a register.
+pub const WORDS: usize = 5;
+
+/// The bytes of a register.
+pub const WIDTH: usize = 20;
+
+/// The bytes of the words.
+pub fn bytes_of(words: &[u32; WORDS]) -> [u8; WIDTH]
+    ensures { result ≡ word_bytes words.now }
+{
+    let mut bytes = [0; WIDTH];
+    for i in 0..WORDS {
+        bytes[STEP * i..STEP * i + STEP].copy_from_slice(&words[i].to_be_bytes());
+    }
+    bytes
+}
+
+/// The words of these bytes.
+pub fn words_of(bytes: &[u8; WIDTH]) -> [u32; WORDS]
+    ensures { word_bytes result ≡ bytes.now }
+{
+    let mut words = [0; WORDS];
+    for i in 0..WORDS {
+        let at = STEP * i;
+        words[i] = u32::from_be_bytes([bytes[at], bytes[at + 1], bytes[at + 2], bytes[at + 3]]);
+    }
+    words
+}
