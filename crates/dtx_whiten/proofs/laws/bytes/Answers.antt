@@ -1,0 +1,5 @@
+use Rattle.dtx_whiten.specs.Bytes.{get_or-randomizer_bytes}
+use Rattle.dtx_whiten.proofs.laws.bytes.Goals as goal
+
+pub returns : goal.returns
+returns c = get_or-randomizer_bytes

@@ -1,0 +1,3 @@
+pub mod Randomizer
+pub mod Randomized
+pub mod Bytes

@@ -1,0 +1,89 @@
+//! The randomizer's bytes, made once.
+
+ghost use Rattle.std.specs.Prelude.{◌≡◌, ◌*◌, IfOk, vec_len};
+ghost use Rattle.dtx_whiten.specs.declared.field.TheConstants.{FIELD_PACKETS, PACKET_DATA};
+ghost use Rattle.dtx_whiten.specs.Randomizer.{randomizer_bytes};
+ghost use Rattle.dtx_whiten.specs.Bytes.{all_long, all_are_bytes, period_fits};
+
+use crate::field::{FIELD_PACKETS, PACKET_DATA};
+use crate::register::{PRELOAD, shifted, tapped};
+use dtx_laws::Whitener;
+use std::alloc::{AllocError, Global};
+
+/// The randomizer's bytes for the packets of a data field, one after another.
+#[derive(Drop)]
+pub struct Atsc {
+    bytes: Vec<u8>,
+    ghost long: { vec_len bytes ≡ PACKET_DATA * FIELD_PACKETS },
+    ghost all: { bytes.items ≡ randomizer_bytes },
+}
+
+impl Whitener for Atsc {
+    const PERIOD: usize = PACKET_DATA * FIELD_PACKETS;
+
+    ghost PERIOD = { PACKET_DATA * FIELD_PACKETS };
+
+    ghost bytes = { λ atsc. atsc.bytes.items };
+
+    fn byte(&self, at: usize) -> u8 {
+        self.bytes[at]
+    }
+
+    ghost long = { λ atsc. all_long atsc.bytes.items atsc.all };
+
+    ghost are_bytes = { λ atsc. all_are_bytes atsc.bytes.items atsc.all };
+
+    ghost fits = { period_fits };
+}
+
+impl Atsc {
+    /// The bytes, by shifting the register from its preload on. Only want of memory is refused.
+    pub fn new(alloc: Global) -> Result<Atsc, AllocError>
+        ensures { IfOk result (λ atsc. ⟦<Atsc as Whitener>⟧.bytes atsc ≡ randomizer_bytes) }
+    {
+        let mut bytes = Vec::with_capacity(alloc, Self::PERIOD)?;
+        let mut register = PRELOAD;
+        for _shifts in 0..Self::PERIOD {
+            bytes.push(tapped(register))?;
+            register = shifted(register);
+        }
+        Ok(Atsc { bytes })
+    }
+}
+
+#[cfg(test)]
+mod tests {
+    use super::*;
+    use std::test::Fail;
+
+    fn drawn<W: Whitener>(whitener: &W, at: usize) -> Option<u8> {
+        if at < W::PERIOD {
+            return Some(whitener.byte(at));
+        }
+        None
+    }
+
+    #[test]
+    fn the_bytes_are_those_of_a_register_drawn_from_the_standard(
+        rt: HostRuntime,
+    ) -> Result<(), Fail> {
+        let cases = [
+            (0, Some(0xC0)),
+            (1, Some(0x6D)),
+            (2, Some(0x3F)),
+            (3, Some(0x99)),
+            (186, Some(0x58)),
+            (187, Some(0xBA)),
+            (12_345, Some(0x9B)),
+            (58_156, Some(0xA5)),
+            (58_157, Some(0xB7)),
+            (58_343, Some(0x99)),
+            (58_344, None),
+        ];
+        let randomizer = Atsc::new(rt.alloc())?;
+        for (at, byte) in cases {
+            assert_eq!(rt; drawn(&randomizer, at), byte, "byte {at}");
+        }
+        Ok(())
+    }
+}
