@@ -1,0 +1,4 @@
+pub mod Ahead
+pub mod Lying
+pub mod Laid
+pub mod Lent

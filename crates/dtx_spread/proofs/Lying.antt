@@ -1,0 +1,258 @@
+-- A block seen by branches: after one byte, and where its bytes have moved or turned.
+use Rattle.std.proofs.Common.{◌≡◌, ◌≢◌, ℕ, ◌+◌, ◌-◌, ◌*◌, ◌%◌, ◌<◌, ◌≤◌, ◌⊎◌, inl, inr, List, [], ◌∷◌, ◌++◌, length, get_or, set, drop, take, map, replicate, sym, ap, subst, ◌∙◌, arith, mul-le-mul}
+use Rattle.std.specs.List.{range_with_len}
+use Rattle.std.proofs.Common.{mul-le-mul_right}
+use Rattle.std.proofs.lemmas.Bool.{cases_lt, cases_eq}
+use Rattle.std.proofs.lemmas.Nat.{mod-mul-add}
+use Rattle.std.proofs.lemmas.List.{length-set, length-drop, length_push, get_or-set_same, get_or-set_other, get_or_append_left, get_or_push, get_or-drop, get_or-take, get_or-replicate, length-replicate, ext_get_or, length-take-le, drop_at}
+use borrow.Rule.Slice.PartMut.{put_mid}
+use Rattle.std.proofs.lemmas.List.FromFn.{get_or-map-range_with_len, length-map-range_with_len}
+use Rattle.dtx_laws.specs.Branches.{Branching, HasWidths, spreading, zeroed, aligned, leaving, after_byte}
+use Rattle.dtx_spread.specs.Laid.{ahead, held, lying, following}
+use Rattle.dtx_spread.proofs.Ahead.{ahead_from, ahead_below, ahead_here, ahead_zero, ahead_less, ahead_some, ahead_other, ahead_own}
+
+abbrev view_of : ℕ → List (List ℕ) → Branching
+view_of n ps = record { next = n; lists = ps }
+
+-- places of different branches differ
+apart : (b q r k : ℕ) → 0 < r → r < b → r + q * b ≡ k * b → ⊥
+apart b q r k p l e =
+    let s : q * b + r ≡ k * b + 0 = omega (arith, e) in
+    let z : (q * b + r) % b ≡ (k * b + 0) % b = ap (λ n. n % b) s in
+    let y : (q * b + r) % b ≡ r = mod-mul-add q b r l in
+    let x : (k * b + 0) % b ≡ 0 = mod-mul-add k b 0 (omega arith) in
+    omega arith
+
+turns_differ : (b i k : ℕ) → 0 < b → i < k → i * b ≡ k * b → ⊥
+turns_differ b i k p l e = let g : (i + 1) * b ≤ k * b = mul-le-mul_right b (omega arith) in let f : (i + 1) * b ≡ i * b + b = grind arith in omega arith
+
+pub in_turns : (b m r : ℕ) → b * m * r ≡ m * r * b
+in_turns b m r = grind arith
+
+get_or-held : (b m place next : ℕ) (block : List ℕ) (i j : ℕ) → j < m * i → get_or (held b m place next block i) j 0 ≡ get_or block (place + ahead b next i + j * b) 0
+get_or-held b m place next block i j l = get_or-map-range_with_len (λ j. get_or block (place + ahead b next i + j * b) 0) 0 (m * i) j j 0 l (omega arith)
+
+length-held : (b m place next : ℕ) (block : List ℕ) (i : ℕ) → length (held b m place next block i) ≡ m * i
+length-held b m place next block i = length-map-range_with_len (λ j. get_or block (place + ahead b next i + j * b) 0) 0 (m * i)
+
+list_at : (b m place next : ℕ) (block : List ℕ) (i : ℕ) → i < b → get_or (lying b m place next block).lists i [] ≡ held b m place next block i
+list_at b m place next block i l = get_or-map-range_with_len (held b m place next block) 0 b i i [] l (omega arith)
+
+length-lists : (b m place next : ℕ) (block : List ℕ) → length (lying b m place next block).lists ≡ b
+length-lists b m place next block = length-map-range_with_len (held b m place next block) 0 b
+
+pub lying_widths : (b m place next : ℕ) (block : List ℕ) → next < b → HasWidths b (spreading m) (lying b m place next block)
+lying_widths b m place next block l = record {
+  next = l;
+  count = length-lists b m place next block;
+  long = λ i k. ap length (list_at b m place next block i k) ∙ length-held b m place next block i;
+}
+
+-- branches are alike where all their bytes are
+same_held : (b m place next place' next' : ℕ) (block block' : List ℕ) (i : ℕ) → ((j : ℕ) → j < m * i → get_or block (place + ahead b next i + j * b) 0 ≡ get_or block' (place' + ahead b next' i + j * b) 0)
+    → held b m place next block i ≡ held b m place' next' block' i
+same_held b m place next place' next' block block' i h =
+    ext_get_or 0 (held b m place next block i) (held b m place' next' block' i) (length-held b m place next block i ∙ sym (length-held b m place' next' block' i))
+    (λ j l. let k : j < m * i = omega (arith, l, length-held b m place next block i) in
+    get_or-held b m place next block i j k ∙ h j k ∙ sym (get_or-held b m place' next' block' i j k))
+
+same_lists_of : (b m place next place' next' : ℕ) (block block' : List ℕ) → ((i j : ℕ) → i < b → j < m * i → get_or block (place + ahead b next i + j * b) 0 ≡ get_or block' (place' + ahead b next' i + j * b) 0)
+    → (lying b m place next block).lists ≡ (lying b m place' next' block').lists
+same_lists_of b m place next place' next' block block' h =
+    ext_get_or [] (lying b m place next block).lists (lying b m place' next' block').lists (length-lists b m place next block ∙ sym (length-lists b m place' next' block'))
+    (λ i l. let k : i < b = omega (arith, l, length-lists b m place next block) in
+    list_at b m place next block i k ∙ same_held b m place next place' next' block block' i (λ j n. h i j k n) ∙ sym (list_at b m place' next' block' i k))
+
+-- another branch's bytes are not where the next byte is put
+elsewhere : (b m place next i j : ℕ) → next < b → i < b → i ≢ next → place + ahead b next i + j * b ≢ place + b * m * next
+elsewhere b m place next i j p l n e =
+    apart b j (ahead b next i) (m * next) (ahead_some b next i p n) (ahead_less b next i p l) (omega (arith, e, in_turns b m next))
+
+put_other : (b m place next : ℕ) (block : List ℕ) (x i j : ℕ) → next < b → i < b → i ≢ next
+    → get_or (set block (place + b * m * next) x) (place + 1 + ahead b (following b next) i + j * b) 0 ≡ get_or block (place + ahead b next i + j * b) 0
+put_other b m place next block x i j p l n =
+    ap (λ k. get_or (set block (place + b * m * next) x) k 0) (omega (arith, ahead_other b next i p l n))
+    ∙ get_or-set_other block (place + b * m * next) (place + ahead b next i + j * b) x 0 (elsewhere b m place next i j p l n)
+
+next_place : (b place next j : ℕ) → next < b → place + 1 + ahead b (following b next) next + j * b ≡ place + (j + 1) * b
+next_place b place next j p = let f : (j + 1) * b ≡ j * b + b = grind arith in omega (arith, ahead_own b next p)
+
+here : (b place next j : ℕ) → place + ahead b next next + j * b ≡ place + j * b
+here b place next j = omega (arith, ahead_here b next)
+
+-- byte j of the branch that has moved on
+put_own : (b m place next : ℕ) (block : List ℕ) (x j : ℕ) → next < b → place + b * m * next < length block → j < m * next
+    → get_or (set block (place + b * m * next) x) (place + 1 + ahead b (following b next) next + j * b) 0 ≡ get_or (drop 1 (held b m place next block next ++ x ∷ [])) j 0
+put_own b m place next block x j p q l =
+    ap (λ k. get_or (set block (place + b * m * next) x) k 0) (next_place b place next j p)
+    ∙ by_cases (cases_lt (j + 1) (m * next))
+    ∙ sym (get_or-drop 1 (held b m place next block next ++ x ∷ []) j 0 ∙ ap (λ k. get_or (held b m place next block next ++ x ∷ []) k 0) (one j))
+  where
+    one : (j : ℕ) → 1 + j ≡ j + 1
+    one j = omega arith
+
+    by_cases : (j + 1 < m * next) ⊎ (m * next ≤ j + 1) → get_or (set block (place + b * m * next) x) (place + (j + 1) * b) 0 ≡ get_or (held b m place next block next ++ x ∷ []) (j + 1) 0
+    by_cases (inl k) =
+        get_or-set_other block (place + b * m * next) (place + (j + 1) * b) x 0 (λ e. turns_differ b (j + 1) (m * next) (omega arith) k (omega (arith, e, in_turns b m next)))
+        ∙ ap (λ n. get_or block n 0) (sym (here b place next (j + 1)))
+        ∙ sym (get_or_append_left (held b m place next block next) (x ∷ []) 0 (j + 1) (omega (arith, k, length-held b m place next block next)) ∙ get_or-held b m place next block next (j + 1) k)
+    by_cases (inr k) =
+        let e : j + 1 ≡ m * next = omega arith in
+        ap (λ n. get_or (set block (place + b * m * next) x) n 0) (ap (λ n. place + n * b) e ∙ ap (λ n. place + n) (sym (in_turns b m next)))
+        ∙ get_or-set_same block (place + b * m * next) x 0 q
+        ∙ sym (get_or_push (held b m place next block next) x 0 (j + 1) (length-held b m place next block next ∙ sym e))
+
+moved_on : (b m place next : ℕ) (block : List ℕ) (x : ℕ) → next < b → place + b * m * next < length block
+    → held b m (place + 1) (following b next) (set block (place + b * m * next) x) next ≡ drop 1 (held b m place next block next ++ x ∷ [])
+moved_on b m place next block x p q =
+    ext_get_or 0 (held b m (place + 1) (following b next) (set block (place + b * m * next) x) next) (drop 1 (held b m place next block next ++ x ∷ []))
+    (length-held b m (place + 1) (following b next) (set block (place + b * m * next) x) next ∙ sym long)
+    (λ j l. let k : j < m * next = omega (arith, l, length-held b m (place + 1) (following b next) (set block (place + b * m * next) x) next) in
+    get_or-held b m (place + 1) (following b next) (set block (place + b * m * next) x) next j k ∙ put_own b m place next block x j p q k)
+  where
+    long : length (drop 1 (held b m place next block next ++ x ∷ [])) ≡ m * next
+    long = length-drop 1 (held b m place next block next ++ x ∷ []) ∙ omega (arith, length_push (held b m place next block next) x, length-held b m place next block next)
+
+-- the branches after one byte
+pub lying_byte : (b m place next : ℕ) (block : List ℕ) (x : ℕ) → next < b → place + b * m * next < length block
+    → lying b m (place + 1) (following b next) (set block (place + b * m * next) x) ≡ after_byte b (lying b m place next block) x
+lying_byte b m place next block x p q = ap (view_of (following b next)) lists
+  where
+    by_cases : (i : ℕ) → i < b → (i ≡ next) ⊎ (i ≡ next → ⊥)
+        → held b m (place + 1) (following b next) (set block (place + b * m * next) x) i ≡ get_or (set (lying b m place next block).lists next (drop 1 (get_or (lying b m place next block).lists next [] ++ x ∷ []))) i []
+    by_cases i l (inl e) = subst (λ (k : ℕ). held b m (place + 1) (following b next) (set block (place + b * m * next) x) k ≡ get_or (set (lying b m place next block).lists next (drop 1 (get_or (lying b m place next block).lists next [] ++ x ∷ []))) k []) (sym e)
+        (moved_on b m place next block x p q
+        ∙ ap (λ ys. drop 1 (ys ++ x ∷ [])) (sym (list_at b m place next block next p))
+        ∙ sym (get_or-set_same (lying b m place next block).lists next (drop 1 (get_or (lying b m place next block).lists next [] ++ x ∷ [])) [] (omega (arith, p, length-lists b m place next block))))
+    by_cases i l (inr n) =
+        same_held b m (place + 1) (following b next) place next (set block (place + b * m * next) x) block i (λ j k. put_other b m place next block x i j p l n)
+        ∙ sym (list_at b m place next block i l)
+        ∙ sym (get_or-set_other (lying b m place next block).lists next i (drop 1 (get_or (lying b m place next block).lists next [] ++ x ∷ [])) [] n)
+
+    lists : (lying b m (place + 1) (following b next) (set block (place + b * m * next) x)).lists ≡ set (lying b m place next block).lists next (drop 1 (get_or (lying b m place next block).lists next [] ++ x ∷ []))
+    lists =
+        ext_get_or [] (lying b m (place + 1) (following b next) (set block (place + b * m * next) x)).lists (set (lying b m place next block).lists next (drop 1 (get_or (lying b m place next block).lists next [] ++ x ∷ [])))
+        (length-lists b m (place + 1) (following b next) (set block (place + b * m * next) x) ∙ sym (length-set (lying b m place next block).lists next (drop 1 (get_or (lying b m place next block).lists next [] ++ x ∷ [])) ∙ length-lists b m place next block))
+        (λ i l. let k : i < b = omega (arith, l, length-lists b m (place + 1) (following b next) (set block (place + b * m * next) x)) in
+        list_at b m (place + 1) (following b next) (set block (place + b * m * next) x) i k ∙ by_cases i k (cases_eq i next))
+
+-- the byte that leaves
+pub leaves : (b m place next : ℕ) (block : List ℕ) (x : ℕ) → next < b → place + b * m * next < length block
+    → get_or (set block (place + b * m * next) x) place 0 ≡ leaving (lying b m place next block) x
+leaves b m place next block x p q =
+    by_cases (cases_zero (m * next)) ∙ ap (λ ys. get_or (ys ++ x ∷ []) 0 0) (sym (list_at b m place next block next p))
+  where
+    cases_zero : (n : ℕ) → (n ≡ 0) ⊎ (0 < n)
+    cases_zero n = grind arith
+
+    by_cases : (m * next ≡ 0) ⊎ (0 < m * next) → get_or (set block (place + b * m * next) x) place 0 ≡ get_or (held b m place next block next ++ x ∷ []) 0 0
+    by_cases (inl z) =
+        let y : b * m * next ≡ 0 * b = in_turns b m next ∙ ap (λ n. n * b) z in
+        let e : place ≡ place + b * m * next = omega (arith, y) in
+        ap (λ n. get_or (set block (place + b * m * next) x) n 0) e
+        ∙ get_or-set_same block (place + b * m * next) x 0 q
+        ∙ sym (get_or_push (held b m place next block next) x 0 0 (length-held b m place next block next ∙ z))
+    by_cases (inr k) =
+        get_or-set_other block (place + b * m * next) place x 0 (λ e. turns_differ b 0 (m * next) (omega arith) k (omega (arith, e, in_turns b m next)))
+        ∙ ap (λ n. get_or block n 0) (omega (arith, here b place next 0))
+        ∙ sym (get_or_append_left (held b m place next block next) (x ∷ []) 0 0 (omega (arith, k, length-held b m place next block next)) ∙ get_or-held b m place next block next 0 k)
+
+-- ---- the block moved, and turned
+
+-- each byte that a branch holds lies within the first b * m * (b - 1) from the place on
+pub within_held : (b m next i j : ℕ) → next < b → i < b → j < m * i → ahead b next i + j * b < b * m * (b - 1)
+within_held b m next i j p l k =
+    let h : m * i ≤ m * (b - 1) = (let r : m ≤ m = omega arith in let s : i ≤ b - 1 = omega arith in mul-le-mul r s) in
+    let g : (j + 1) * b ≤ m * (b - 1) * b = mul-le-mul_right b (omega arith) in
+    let f : (j + 1) * b ≡ j * b + b = grind arith in
+    let e : b * m * (b - 1) ≡ m * (b - 1) * b = in_turns b m (b - 1) in
+    omega (arith, ahead_less b next i p l)
+
+-- the branches where their bytes have moved
+pub lying_moved : (b m place next place' : ℕ) (block block' : List ℕ) → next < b → place + b * m * (b - 1) ≤ length block
+    → take (b * m * (b - 1)) (drop place' block') ≡ take (b * m * (b - 1)) (drop place block) → lying b m place' next block' ≡ lying b m place next block
+lying_moved b m place next place' block block' p h e =
+    ap (view_of next) (same_lists_of b m place' next place next block' block
+    (λ i j l k. read place' block' (ahead b next i) (j * b) (within_held b m next i j p l k) ∙ ap (λ ys. get_or ys (ahead b next i + j * b) 0) e ∙ sym (read place block (ahead b next i) (j * b) (within_held b m next i j p l k))))
+  where
+    read : (at : ℕ) (xs : List ℕ) (r s : ℕ) → r + s < b * m * (b - 1) → get_or xs (at + r + s) 0 ≡ get_or (take (b * m * (b - 1)) (drop at xs)) (r + s) 0
+    read at xs r s l = ap (λ n. get_or xs n 0) (plus at r s) ∙ sym (get_or-take (b * m * (b - 1)) (drop at xs) (r + s) 0 l ∙ get_or-drop at xs (r + s) 0)
+      where
+        plus : (a r s : ℕ) → a + r + s ≡ a + (r + s)
+        plus a r s = omega arith
+
+-- the branches where each b bytes have turned by `next`
+pub lying_turned : (b m place next : ℕ) (block block' : List ℕ) → next < b
+    → ((i j : ℕ) → i < b → j < m * (b - 1) → get_or block' (place + i + j * b) 0 ≡ get_or block (place + ahead b next i + j * b) 0)
+    → lying b m place 0 block' ≡ aligned (lying b m place next block)
+lying_turned b m place next block block' p h =
+    ap (view_of 0) (same_lists_of b m place 0 place next block' block
+    (λ i j l k. ap (λ n. get_or block' (place + n + j * b) 0) (ahead_zero b i) ∙ h i j l (rows i j l k)))
+  where
+    rows : (i j : ℕ) → i < b → j < m * i → j < m * (b - 1)
+    rows i j l k = let r : m ≤ m = omega arith in let s : i ≤ b - 1 = omega arith in let t : m * i ≤ m * (b - 1) = mul-le-mul r s in omega arith
+
+-- zeros in every branch
+pub lying_of_zeros : (b m n : ℕ) (block : List ℕ) → 0 < b → b * m * (b - 1) ≤ n → block ≡ replicate n 0 → lying b m 0 0 block ≡ zeroed b (spreading m)
+unfolding zeroed
+lying_of_zeros b m n block p h e = ap (view_of 0)
+    (ext_get_or [] (lying b m 0 0 block).lists (map (λ i. replicate (m * i) 0) (range_with_len 0 b)) (length-lists b m 0 0 block ∙ sym (length-map-range_with_len (λ i. replicate (m * i) 0) 0 b))
+    (λ i l. let k : i < b = omega (arith, l, length-lists b m 0 0 block) in
+    list_at b m 0 0 block i k ∙ zeros i k ∙ sym (get_or-map-range_with_len (λ i. replicate (m * i) 0) 0 b i i [] k (omega arith))))
+  where
+    zeros : (i : ℕ) → i < b → held b m 0 0 block i ≡ replicate (m * i) 0
+    zeros i l =
+        ext_get_or 0 (held b m 0 0 block i) (replicate (m * i) 0) (length-held b m 0 0 block i ∙ sym (length-replicate {A = ℕ} (m * i) 0))
+        (λ j q. let k : j < m * i = omega (arith, q, length-held b m 0 0 block i) in
+        get_or-held b m 0 0 block i j k ∙ ap (λ ys. get_or ys (0 + ahead b 0 i + j * b) 0) e
+        ∙ get_or-replicate {A = ℕ} n (0 + ahead b 0 i + j * b) 0 0 (omega (arith, h, within_held b m 0 i j p l k))
+        ∙ sym (get_or-replicate {A = ℕ} (m * i) j 0 0 k))
+
+-- ---- rows turned, one after another
+
+pub turn_more_rows : (b place next row : ℕ) (old cur new : List ℕ) → ((i j : ℕ) → i < b → j < row → get_or cur (place + i + j * b) 0 ≡ get_or old (place + ahead b next i + j * b) 0)
+    → ((p : ℕ) → place + row * b ≤ p → get_or cur p 0 ≡ get_or old p 0)
+    → ((i : ℕ) → i < b → get_or new (place + row * b + i) 0 ≡ get_or cur (place + row * b + ahead b next i) 0)
+    → ((p : ℕ) → p < place + row * b → get_or new p 0 ≡ get_or cur p 0)
+    → (i j : ℕ) → i < b → j < row + 1 → get_or new (place + i + j * b) 0 ≡ get_or old (place + ahead b next i + j * b) 0
+turn_more_rows b place next row old cur new done others turned before i j l k = by_cases (cases_lt j row)
+  where
+    swap : (a r i : ℕ) → a + r + i ≡ a + i + r
+    swap a r i = omega arith
+
+    by_cases : (j < row) ⊎ (row ≤ j) → get_or new (place + i + j * b) 0 ≡ get_or old (place + ahead b next i + j * b) 0
+    by_cases (inl h) =
+        let g : (j + 1) * b ≤ row * b = mul-le-mul_right b (omega arith) in
+        let f : (j + 1) * b ≡ j * b + b = grind arith in
+        before (place + i + j * b) (omega arith) ∙ done i j l h
+    by_cases (inr h) = subst (λ (n : ℕ). get_or new (place + i + n * b) 0 ≡ get_or old (place + ahead b next i + n * b) 0) (last row j h k)
+        (ap (λ n. get_or new n 0) (sym (swap place (row * b) i)) ∙ turned i l ∙ others (place + row * b + ahead b next i) (omega arith) ∙ ap (λ n. get_or old n 0) (swap place (row * b) (ahead b next i)))
+      where
+        last : (row j : ℕ) → row ≤ j → j < row + 1 → row ≡ j
+        last row j h k = omega arith
+
+pub row_next : (b row : ℕ) → (row + 1) * b ≡ row * b + b
+row_next b row = grind arith
+
+-- one row turned: the last `next` of its bytes come first
+pub turned_at : (b from next : ℕ) (old part new : List ℕ) → next < b → from + b ≤ length old → part ≡ take b (drop from old) → length new ≡ b
+    → ((k d : ℕ) → k < next → get_or new k d ≡ get_or part (length part - next + k) d) → ((k d : ℕ) → next ≤ k → k < length part → get_or new k d ≡ get_or part (k - next) d)
+    → (i : ℕ) → i < b → get_or (put_mid from b old new) (from + i) 0 ≡ get_or old (from + ahead b next i) 0
+turned_at b from next old part new p h e f first rest i l =
+    sym (get_or-drop from (put_mid from b old new) i 0)
+    ∙ ap (λ ys. get_or ys i 0) (drop_at (take from old) (new ++ drop b (drop from old)) from (length-take-le from old (omega arith)))
+    ∙ get_or_append_left new (drop b (drop from old)) 0 i (omega arith) ∙ by_cases (cases_lt i next)
+  where
+    long : length part ≡ b
+    long = ap length e ∙ length-take-le b (drop from old) (omega (arith, length-drop from old))
+
+    read : (k : ℕ) → k < b → get_or part k 0 ≡ get_or old (from + k) 0
+    read k m = ap (λ ys. get_or ys k 0) e ∙ get_or-take b (drop from old) k 0 m ∙ get_or-drop from old k 0
+
+    by_cases : (i < next) ⊎ (next ≤ i) → get_or new i 0 ≡ get_or old (from + ahead b next i) 0
+    by_cases (inl k) =
+        let z : length part - next + i ≡ ahead b next i = omega (arith, long, ahead_below b next i k) in
+        first i 0 k ∙ ap (λ n. get_or part n 0) z ∙ read (ahead b next i) (ahead_less b next i p l)
+    by_cases (inr k) =
+        let z : i - next ≡ ahead b next i = sym (ahead_from b next i k) in
+        rest i 0 k (omega (arith, long)) ∙ ap (λ n. get_or part n 0) z ∙ read (ahead b next i) (ahead_less b next i p l)

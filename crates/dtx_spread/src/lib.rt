@@ -1,0 +1,7 @@
+//! The interleaver.
+#![tactic(auto)]
+
+mod block;
+mod branches;
+
+pub use branches::Branches;
