@@ -1,0 +1,21 @@
+-- The outer coding as contracts see it.
+use Rattle.std.specs.Prelude.{ℕ, ◌≡◌, ◌*◌, ◌/◌, ◌%◌, ◌≤◌, List}
+use Rattle.dtx_laws.specs.Branches.{Branching}
+use Rattle.dtx_laws.specs.Words.{codeword}
+use Rattle.dtx_laws.specs.Whitening.{whitened}
+
+-- A whitener's period is a whole number of packets of k bytes, and their codewords of n bytes are a whole number of turns
+-- over the b branches: so each period begins at branch 0.
+pub record IsPeriod (n k b period : ℕ) : Type 0 where
+  pub some : 1 ≤ period
+  pub packets : period % k ≡ 0
+  pub turns : n * (period / k) % b ≡ 0
+
+-- the whitener's bytes, and the interleaver's branches
+pub record Held : Type 0 where
+  pub white : List ℕ
+  pub branches : Branching
+
+-- the codeword of the data, which are first whitened by the bytes from a place on: its correction bytes aren't whitened
+abbrev pub coded : (n k : ℕ) (white : List ℕ) (from : ℕ) (head : List ℕ) → List ℕ
+coded n k white from head = codeword n k (whitened white from head)

@@ -1,0 +1,19 @@
+//! Whitening of a packet's data, which is the way back too.
+
+ghost use Rattle.std.specs.Prelude.{◌≡◌, ◌+◌, ◌≤◌};
+ghost use Rattle.dtx_laws.specs.Whitening.{whitened};
+
+use dtx_laws::Whitener;
+
+/// The data with the whitener's bytes from `from` on added bit by bit. A local copy and no test in the loop: so the
+/// compiler adds many bytes at once.
+pub fn whiten<W: Whitener, const K: usize>(whitener: &W, from: usize, head: &[u8; K]) -> [u8; K]
+    requires { from + K ≤ W.PERIOD }
+    ensures { result ≡ whitened (W.bytes whitener.now) from head.now }
+{
+    let mut white = *head;
+    for i in 0..K {
+        white[i] ^= whitener.byte(from + i);
+    }
+    white
+}
