@@ -1,0 +1,25 @@
+-- The twelve coders over the bytes of whole groups, from the state numbers of coders 0 to 11. The first group is at place s of
+-- its field (ATSC A/53 Part 2, trellis coding).
+use Rattle.std.specs.Prelude.{ℕ, ◌*◌, ◌/◌, List, map, slice_index}
+use Rattle.std.specs.List.{range_with_len}
+use Rattle.dtx_trellis.specs.declared.group.TheConstants.{CODERS, GROUP_LEVELS, ROUNDS}
+use Rattle.dtx_trellis.specs.Trellis.{State, level, state_after, state_of, number_of}
+use Rattle.dtx_trellis.specs.Pairs.{groups, higher, lower, coder_at}
+
+-- the state of coder e after t pairs
+unfoldable pub coder_after : ℕ → List ℕ → List ℕ → ℕ → ℕ → State
+coder_after s states bytes t e = state_after (state_of (slice_index states e)) (higher s bytes e) (lower s bytes e) t
+
+-- the level of data symbol d: in each round each coder gives one
+unfoldable pub level_at : ℕ → List ℕ → List ℕ → ℕ → ℕ
+level_at s states bytes d =
+    let e : ℕ = coder_at s d in
+    level (state_of (slice_index states e)) (higher s bytes e) (lower s bytes e) (d / CODERS)
+
+-- the levels of all data symbols, in the order of emission
+unfoldable pub levels_of : ℕ → List ℕ → List ℕ → List ℕ
+levels_of s states bytes = map (level_at s states bytes) (range_with_len 0 (GROUP_LEVELS * groups bytes))
+
+-- the state numbers after all pairs
+unfoldable pub states_after : ℕ → List ℕ → List ℕ → List ℕ
+states_after s states bytes = map (λ e. number_of (coder_after s states bytes (ROUNDS * groups bytes) e)) (range_with_len 0 CODERS)

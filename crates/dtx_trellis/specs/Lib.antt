@@ -1,0 +1,4 @@
+pub mod Pairs
+pub mod Trellis
+pub mod Groups
+pub mod Lanes

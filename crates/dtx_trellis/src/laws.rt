@@ -1,0 +1,73 @@
+//! Laws of the definitions: stepping a state gives the sums, and groups go on from the states that
+//! the groups before them leave. The sizes, and worked places of the standard's tables.
+
+ghost use Rattle.std.specs.Prelude.{◌≡◌, ℕ, ◌+◌, ◌*◌, ◌/◌, ◌%◌, ◌<◌, ◌≤◌, ◌++◌, List, [], ◌∷◌, length, map, replicate, slice_index};
+ghost use Rattle.dtx_trellis.specs.Trellis.{State, AreBits, level, level_of, next_of, number_of, state_after, state_of};
+ghost use Rattle.dtx_trellis.specs.Pairs.{byte_place, coder_at, group_place, higher, lower, pair_in};
+ghost use Rattle.dtx_trellis.specs.Groups.{coder_after, level_at, levels_of, states_after};
+
+use crate::group::{
+    CODERS, FIELD, GROUP_BYTES, GROUP_LEVELS, ROUNDS, SEGMENT_LEVELS, SEGMENT_ROUNDS,
+};
+
+/// The sizes, in numbers (ATSC A/53 Part 2, data segment and trellis coding).
+pub fn sizes()
+    ensures coders { CODERS ≡ 12 }
+    ensures bytes { GROUP_BYTES ≡ 828 }
+    ensures rounds { ROUNDS ≡ 276 }
+    ensures segment_rounds { SEGMENT_ROUNDS ≡ 69 }
+    ensures segment_levels { SEGMENT_LEVELS ≡ 828 }
+    ensures levels { GROUP_LEVELS ≡ 3312 }
+    ensures segments { FIELD ≡ 312 }
+{}
+
+/// The first data symbols of segments 0 to 4 of a field: their coders, the bytes of the field on which these work, and which
+/// bits of the byte they take: 7 and 6, 5 and 4, 3 and 2, 1 and 0, and 7 and 6 again (ATSC A/53 Part 2, the table of byte to
+/// symbol conversion).
+pub fn first_symbols()
+    ensures coders { coder_at 0 0 ∷ coder_at 0 828 ∷ coder_at 0 1656 ∷ coder_at 0 2484 ∷ coder_at (group_place 0 1) 0 ∷ [] ≡ 0 ∷ 4 ∷ 8 ∷ 0 ∷ 4 ∷ [] }
+    ensures bytes { byte_place 0 0 0 ∷ byte_place 0 69 4 ∷ byte_place 0 138 8 ∷ byte_place 0 207 0 ∷ (GROUP_BYTES + byte_place (group_place 0 1) 0 4) ∷ [] ≡ 0 ∷ 208 ∷ 412 ∷ 616 ∷ 828 ∷ [] }
+    ensures bits { (b : ℕ) → pair_in b 0 ∷ pair_in b 69 ∷ pair_in b 138 ∷ pair_in b 207 ∷ pair_in b 276 ∷ [] ≡ b / 64 % 4 ∷ b / 16 % 4 ∷ b / 4 % 4 ∷ b % 4 ∷ b / 64 % 4 ∷ [] }
+{}
+
+/// The level and the next state of each q1 and q0, for X1 = 0 and for X1 = 1, where q2 and X2 are 0.
+pub fn table()
+    ensures levels_without { map (λ n. level_of (state_of n) 0 0) (0 ∷ 1 ∷ 2 ∷ 3 ∷ []) ≡ 0 ∷ 0 ∷ 1 ∷ 1 ∷ [] }
+    ensures levels_with { map (λ n. level_of (state_of n) 0 1) (0 ∷ 1 ∷ 2 ∷ 3 ∷ []) ≡ 2 ∷ 2 ∷ 3 ∷ 3 ∷ [] }
+    ensures nexts_without { map (λ n. number_of (next_of (state_of n) 0 0)) (0 ∷ 1 ∷ 2 ∷ 3 ∷ []) ≡ 0 ∷ 2 ∷ 1 ∷ 3 ∷ [] }
+    ensures nexts_with { map (λ n. number_of (next_of (state_of n) 0 1)) (0 ∷ 1 ∷ 2 ∷ 3 ∷ []) ≡ 2 ∷ 0 ∷ 3 ∷ 1 ∷ [] }
+{}
+
+/// Byte 0x40 into coder 0 from state 0, with zeros behind it: its first five levels, which are the symbols -3, -5, -7, -5 and
+/// -7, and its state behind the first.
+pub fn one_byte()
+    ensures levels { map (λ r. level_at 0 (replicate 12 0) (0x40 ∷ replicate 827 0) (12 * r)) (0 ∷ 1 ∷ 2 ∷ 3 ∷ 4 ∷ []) ≡ 2 ∷ 1 ∷ 0 ∷ 1 ∷ 0 ∷ [] }
+    ensures state { coder_after 0 (replicate 12 0) (0x40 ∷ replicate 827 0) 1 0 ≡ record { q2 = 0; q1 = 1; q0 = 0 } }
+{}
+
+/// Stepping a coder pair by pair gives the sums over all pairs.
+pub fn steps()
+    ensures first { (q : State) (a b : List ℕ) → state_after q a b 0 ≡ q }
+    ensures next { (q : State) (a b : List ℕ) (t : ℕ) → AreBits q → t < length a
+        → state_after q a b (t + 1) ≡ next_of (state_after q a b t) (slice_index a t) (slice_index b t) }
+    ensures level { (q : State) (a b : List ℕ) (t : ℕ) → AreBits q → t < length a
+        → level q a b t ≡ level_of (state_after q a b t) (slice_index a t) (slice_index b t) }
+{}
+
+/// From the state after some pairs the sums go on.
+pub fn goes_on()
+    ensures states { (q : State) (a b c d : List ℕ) (t : ℕ) → AreBits q → length a ≡ length b → t ≤ length c
+        → state_after q (a ++ c) (b ++ d) (length a + t) ≡ state_after (state_after q a b (length a)) c d t }
+    ensures levels { (q : State) (a b c d : List ℕ) (t : ℕ) → AreBits q → length a ≡ length b → t < length c
+        → level q (a ++ c) (b ++ d) (length a + t) ≡ level (state_after q a b (length a)) c d t }
+{}
+
+/// Behind `u` whole groups the coders go on from the states that these leave.
+pub fn group_after_group()
+    ensures higher { (s u e : ℕ) (y z : List ℕ) → length y ≡ GROUP_BYTES * u → higher s (y ++ z) e ≡ higher s y e ++ higher (group_place s u) z e }
+    ensures lower { (s u e : ℕ) (y z : List ℕ) → length y ≡ GROUP_BYTES * u → lower s (y ++ z) e ≡ lower s y e ++ lower (group_place s u) z e }
+    ensures states { (s u : ℕ) (states y z : List ℕ) → length y ≡ GROUP_BYTES * u
+        → states_after s states (y ++ z) ≡ states_after (group_place s u) (states_after s states y) z }
+    ensures levels { (s u : ℕ) (states y z : List ℕ) → length y ≡ GROUP_BYTES * u
+        → levels_of s states (y ++ z) ≡ levels_of s states y ++ levels_of (group_place s u) (states_after s states y) z }
+{}

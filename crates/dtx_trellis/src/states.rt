@@ -1,0 +1,21 @@
+//! The states of the twelve coders.
+
+use crate::group::CODERS;
+use std::marker::Model;
+
+/// The number of each coder's state, 4 * q2 + 2 * q1 + q0 and so below 8 (ATSC A/53 Part 2, trellis
+/// coding). A value made from numbers owes that each is below 8.
+#[derive(Clone, Copy, Debug, PartialEq, Eq)]
+pub struct States(pub [u8; CODERS]);
+
+impl Model for States {
+    ghost use Rattle.std.specs.Prelude.{ℕ, ◌<◌, List, EachIndex, slice_index};
+
+    ghost Value = { List ℕ };
+
+    ghost view = { λ s. s.0 };
+
+    ghost invariant = { λ s. EachIndex s.0 (λ e. slice_index s.0 e < 8) };
+
+    ghost inverse = { λ v. record { 0 = v } };
+}

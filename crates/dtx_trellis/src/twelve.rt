@@ -1,0 +1,75 @@
+//! Twelve coders, group after group.
+
+ghost use Rattle.std.specs.Prelude.{◌≡◌, ◌%◌, ◌<◌, EachIndex, length, replicate, slice_index};
+
+use crate::group::{CODERS, FIELD, GROUP_BYTES, GROUP_LEVELS};
+use crate::states::States;
+use crate::walk::walk;
+use std::marker::Model;
+
+/// Twelve coders, each in one of eight states (ATSC A/53 Part 2, trellis coding).
+#[derive(Drop)]
+pub struct Twelve {
+    states: [u8; CODERS],
+}
+
+impl Model for Twelve {
+    ghost use Rattle.std.specs.Prelude.{ℕ, ◌<◌, List, EachIndex, slice_index};
+
+    ghost Value = { List ℕ };
+
+    ghost view = { λ t. t.states };
+
+    ghost invariant = { λ t. EachIndex t.states (λ e. slice_index t.states e < 8) };
+}
+
+impl Twelve {
+    ghost use Rattle.dtx_trellis.specs.Groups.{levels_of, states_after};
+
+    /// All coders in state 0.
+    pub fn new() -> Twelve
+        ensures { result ≡ replicate CODERS 0 }
+    {
+        Twelve {
+            states: [0; CODERS],
+        }
+    }
+
+    /// The states of coders 0 to 11.
+    pub fn states(&self) -> States
+        ensures states { result ≡ self.now }
+        ensures long { length result ≡ CODERS }
+        ensures small { EachIndex result (λ e. slice_index result e < 8) }
+    {
+        States(self.states)
+    }
+
+    /// Puts the coders in these states.
+    pub fn set(&mut self, states: States)
+        ensures states { self.new ≡ states }
+        ensures long { length self.new ≡ CODERS }
+        ensures small { EachIndex self.new (λ e. slice_index self.new e < 8) }
+    {
+        let given = states.0;
+        self.states = given;
+    }
+
+    /// The levels, 0 to 7, of the data of the group whose first segment is at place `first` of its
+    /// field, in the order of emission. The next group goes on from the states that this one leaves.
+    pub fn group(&mut self, first: u16, bytes: &[u8; GROUP_BYTES], levels: &mut [u8; GROUP_LEVELS])
+        requires in_field { first < FIELD }
+        requires whole { first % 4 ≡ 0 }
+        ensures levels { levels.new ≡ levels_of first self.old bytes.now }
+        ensures small { EachIndex levels.new (λ d. slice_index levels.new d < 8) }
+        ensures states { self.new ≡ states_after first self.old bytes.now }
+        ensures long { length self.new ≡ CODERS }
+        ensures small_states { EachIndex self.new (λ e. slice_index self.new e < 8) }
+    {
+        let from = self.states;
+        let states = walk(&from, first as usize, bytes, levels);
+        self.states = states;
+    }
+}
+
+#[cfg(test)]
+mod tests;
