@@ -1,0 +1,39 @@
+-- Segments of 832 symbols (ATSC A/53 Part 2, data segment sync and data field sync).
+use Rattle.std.specs.Prelude.{ℕ, ℤ, pos, negsuc, ◌-ℤ◌, ◌*◌, ◌-◌, ◌==◌, Bool, if◌then◌else◌, List, [], ◌∷◌, ◌++◌, map, take}
+use Rattle.dtx_frame.specs.Sequences.{pn511, pn63}
+
+-- a bit in a sync: 1 is +5 and 0 is -5
+unfoldable pub bit_symbol : ℕ → ℤ
+bit_symbol b = if b == 1 then pos 5 else negsuc 4
+
+-- the four symbols in front of each segment
+unfoldable pub segment_sync : List ℤ
+segment_sync = map bit_symbol (1 ∷ 0 ∷ 0 ∷ 1 ∷ [])
+
+-- a level's symbol: twice the level less 7
+unfoldable pub symbol_of : ℕ → ℤ
+symbol_of z = pos (2 * z) -ℤ pos 7
+
+unfoldable pub data_segment : List ℕ → List ℤ
+data_segment levels = segment_sync ++ map symbol_of levels
+
+-- each bit the other one
+abbrev pub inverted : List ℕ → List ℕ
+inverted bits = map (λ b. 1 - b) bits
+
+-- the mode, 8-VSB, and the reserved symbols: the profile's own choice
+abbrev pub mode_bits : List ℕ
+mode_bits =
+    0 ∷ 0 ∷ 0 ∷ 0 ∷ 1 ∷ 1 ∷ 1 ∷ 1 ∷ 0 ∷ 0 ∷ 0 ∷ 0 ∷ 1 ∷ 1 ∷ 1 ∷ 1 ∷ 0 ∷ 1 ∷ 0 ∷ 1 ∷ 1 ∷ 0 ∷ 1 ∷ 0 ∷ []
+
+abbrev pub reserved_bits : List ℕ
+reserved_bits = pn63 ++ take 29 pn63
+
+-- the first 820 symbols of a field sync. In a second field the middle one of the three short sequences is inverted.
+unfoldable pub sync_symbols : Bool → List ℤ
+sync_symbols second =
+    segment_sync ++ map bit_symbol (pn511 ++ pn63 ++ (if second then inverted pn63 else pn63) ++ pn63 ++ mode_bits ++ reserved_bits)
+
+-- a field sync, at whose end the last twelve symbols of the segment before stand again
+unfoldable pub field_sync : Bool → List ℤ → List ℤ
+field_sync second last = sync_symbols second ++ last

@@ -1,0 +1,44 @@
+//! The first symbols of the standard's sequences, and a segment of every level.
+
+use crate::{LAST, SEGMENT, data_segment, field_sync};
+use dtx_trellis::SEGMENT_LEVELS;
+
+/// Whether the symbols from place `at` on are these bits.
+fn has_bits(symbols: &[i8; SEGMENT], at: usize, bits: &[u8]) -> bool {
+    symbols.iter().skip(at).zip(bits).all(|(symbol, bit)| *symbol
+        == if *bit == b'1' { 5 } else { -5 })
+}
+
+#[test]
+fn a_field_sync_has_the_standards_sequences(rt: HostRuntime) {
+    let last = [-7, -5, -3, -1, 1, 3, 5, 7, -7, -5, -3, -1];
+    let mut out = [0; SEGMENT];
+    field_sync(false, &last, &mut out);
+    assert!(rt; has_bits(&out, 0, b"1001000000010111111111001010"));
+    assert!(rt; has_bits(&out, 515, b"1110010010110111"));
+    assert!(rt; has_bits(&out, 578, b"1110010010110111"));
+    assert!(rt; has_bits(&out, 641, b"1110010010110111"));
+    assert!(rt; has_bits(&out, 704, b"0000111100001111010110101110010010110111"));
+    assert!(rt; has_bits(&out, 791, b"1110010010110111"));
+    assert_eq!(rt; out[820..], last[..]);
+}
+
+#[test]
+fn a_second_fields_middle_sequence_is_inverted(rt: HostRuntime) {
+    let mut out = [0; SEGMENT];
+    field_sync(true, &[-7; LAST], &mut out);
+    assert!(rt; has_bits(&out, 515, b"1110010010110111"));
+    assert!(rt; has_bits(&out, 578, b"0001101101001000"));
+    assert!(rt; has_bits(&out, 641, b"1110010010110111"));
+}
+
+#[test]
+fn each_level_has_its_symbol(rt: HostRuntime) {
+    let symbols = [-7, -5, -3, -1, 1, 3, 5, 7];
+    for level in 0..8usize {
+        let mut out = [0; SEGMENT];
+        data_segment(&[level as u8; SEGMENT_LEVELS], &mut out);
+        assert_eq!(rt; out[..4], [5, -5, -5, 5][..]);
+        assert_eq!(rt; (out[4], out[831]), (symbols[level], symbols[level]));
+    }
+}
