@@ -1,0 +1,5 @@
+use Rattle.dtx_coder.proofs.Align.{behind_groups}
+use Rattle.dtx_coder.proofs.laws.behind_align.Goals as goal
+
+pub returns : goal.returns
+returns c = behind_groups

@@ -1,0 +1,61 @@
+-- The segments of a stream of packets (ATSC A/53 Part 2). Packets are counted from 0, and packet 0 begins a first field.
+-- Only whole groups of four packets are sent.
+use Rattle.std.specs.Prelude.{ℕ, ℤ, negsuc, ◌+◌, ◌-◌, ◌*◌, ◌/◌, ◌%◌, ◌==◌, nat_le, if◌then◌else◌, List, [], ◌∷◌, ◌++◌, length, map, drop, replicate, slice_range}
+use Rattle.std.specs.List.{range_with_len, flat_map}
+use Rattle.dtx_frame.specs.Segments.{data_segment, field_sync}
+use Rattle.dtx_trellis.specs.Groups.{levels_of, states_after}
+use Rattle.dtx_coder.specs.Coded.{whole_groups}
+
+-- all coders in state 0
+unfoldable pub zero_states : List ℕ
+zero_states = replicate 12 0
+
+-- the levels of all data symbols, where all coders begin in state 0 (trellis coding)
+unfoldable pub levels : List (List ℕ) → List ℕ
+levels packets = levels_of 0 zero_states (whole_groups packets)
+
+-- the states of the coders behind the whole groups
+unfoldable pub states : List (List ℕ) → List ℕ
+states packets = states_after 0 zero_states (whole_groups packets)
+
+-- data segment n of some levels is that of levels 828 * n to 828 * n + 827 (data segment)
+unfoldable pub segment : List ℕ → ℕ → List ℤ
+segment zs n = data_segment (slice_range zs (828 * n) (828 * n + 828))
+
+-- a group's four data segments, from segment n on
+unfoldable pub four_segments : List ℕ → ℕ → List (List ℤ)
+four_segments zs n = map (segment zs) (range_with_len n 4)
+
+-- the last twelve symbols of a segment
+unfoldable pub last_of : List ℤ → List ℤ
+last_of symbols = drop 820 symbols
+
+-- what stands for them before the first segment of all: -7, twelve times (the profile's own)
+unfoldable pub no_last : List ℤ
+no_last = replicate 12 (negsuc 6)
+
+-- the last twelve symbols before group u: those of the data segment before it
+unfoldable pub last_before : List (List ℕ) → ℕ → List ℤ
+last_before packets u = if u == 0 then no_last else last_of (segment (levels packets) (4 * u - 1))
+
+-- the field sync before group u, where the group begins a field: that of a second field where packet 4 * u stands in the
+-- second half of its 624 (data field sync)
+unfoldable pub sync_before : List (List ℕ) → ℕ → List (List ℤ)
+sync_before packets u =
+    if 4 * u % 312 == 0 then field_sync (nat_le 312 (4 * u % 624)) (last_before packets u) ∷ [] else []
+
+-- the segments of group u
+unfoldable pub group_segments : List (List ℕ) → ℕ → List (List ℤ)
+group_segments packets u = sync_before packets u ++ four_segments (levels packets) (4 * u)
+
+-- the segments of a stream
+unfoldable pub a53 : List (List ℕ) → List (List ℤ)
+a53 packets = flat_map (group_segments packets) (range_with_len 0 (length packets / 4))
+
+-- segments, symbol by symbol
+abbrev pub symbols_of : List (List ℤ) → List ℤ
+symbols_of segments = flat_map (λ s. s) segments
+
+-- the symbols of a stream, one behind the other
+unfoldable pub a53_symbols : List (List ℕ) → List ℤ
+a53_symbols packets = symbols_of (a53 packets)

@@ -1,0 +1,108 @@
+//! Codes one group after another.
+
+ghost use Rattle.std.specs.Prelude.{◌≡◌, ◌%◌, ◌<◌, IfOk, IsTrue, map};
+ghost use Rattle.std.specs.Option.{unwrap_or};
+ghost use Rattle.dtx_laws.specs.Branches.{HasWidths, spreading};
+ghost use Rattle.dtx_coder.specs.Groups.{Group, IsCoded, new_coding, aligned_coding};
+
+use crate::air::Air;
+use crate::outer_coding::{OuterCoding, code_packets, new_outer_coding};
+use crate::sizes::{BRANCH_STEP, BRANCHES, GROUP_PACKETS};
+use dtx_frame::LAST;
+use dtx_packets::Packet;
+use dtx_trellis::{FIELD, GROUP_BYTES, GROUP_LEVELS, States, Twelve};
+use std::alloc::{AllocError, Global};
+use std::marker::Model;
+
+/// Codes the packets of a stream, four at a time, to the symbols of their segments (ATSC A/53 Part 2).
+/// It is seen as the states of its twelve trellis coders, the last twelve symbols that it gave, and the interleaver's branches.
+#[derive(Drop)]
+pub struct Coder {
+    outer: OuterCoding,
+    twelve: Twelve,
+    last: [i8; LAST],
+}
+
+impl Model for Coder {
+    ghost use Rattle.dtx_coder.specs.Groups.{Coding, IsAtsc};
+
+    ghost Value = { Coding };
+
+    ghost view = { λ c. record { states = c.twelve; last = c.last; branches = c.outer.branches } };
+
+    ghost invariant = { λ c. IsAtsc c.outer };
+}
+
+impl Coder {
+    /// All coders in state 0, zeros in every branch, and -7 as each of the last twelve symbols.
+    pub fn new(alloc: Global) -> Result<Coder, AllocError>
+        ensures { IfOk result (λ coder. coder ≡ new_coding) }
+    {
+        Ok(Coder {
+            outer: new_outer_coding(alloc)?,
+            twelve: Twelve::new(),
+            last: [-7; LAST],
+        })
+    }
+
+    /// Branch i of the interleaver's 52 always holds 4 * i bytes.
+    pub fn known(&self)
+        ensures { HasWidths BRANCHES (spreading BRANCH_STEP) self.now.branches }
+    {
+        let _ = &self.outer;
+    }
+
+    /// The states of trellis coders 0 to 11.
+    pub fn states(&self) -> States
+        ensures { result ≡ self.now.states }
+    {
+        self.twelve.states()
+    }
+
+    /// The next byte goes to branch 0 of the interleaver. All else stays, the branches' bytes too.
+    pub fn align(&mut self)
+        ensures { self.new ≡ aligned_coding self.old }
+    {
+        self.outer.align();
+    }
+
+    /// Codes the four packets at the places `first` to `first` + 3 of a first or a second field: from the states of `preset`, or
+    /// else from those that the last group left. Gives their four data segments, where `sync` is set behind a field sync that
+    /// ends with the last twelve symbols given before.
+    pub fn group(
+        &mut self,
+        first: u16,
+        second: bool,
+        packets: &[Packet; GROUP_PACKETS],
+        preset: Option<States>,
+        sync: bool,
+        air: &mut Air,
+    )
+        requires in_field { first < FIELD }
+        requires whole { first % GROUP_PACKETS ≡ 0 }
+        requires begins { IsTrue sync → first ≡ 0 }
+        ensures { let given : Group = record { first = first; second = second; sync = sync; from = unwrap_or preset self.old.states; packets = map (λ p. p.0) packets.now } in
+            IsCoded self.old given self.new air.new.segments air.new.symbols }
+    {
+        let mut bytes = [0; GROUP_BYTES];
+        code_packets(&mut self.outer, first as usize, packets, &mut bytes);
+        start_from(&mut self.twelve, preset);
+        let mut levels = [0; GROUP_LEVELS];
+        self.twelve.group(first, &bytes, &mut levels);
+        air.begin(sync, second, &self.last);
+        air.add_group(&levels);
+        self.last = air.last();
+    }
+}
+
+/// Puts the coders in the preset states, where there are some.
+fn start_from(twelve: &mut Twelve, preset: Option<States>)
+    ensures { twelve.new ≡ unwrap_or preset twelve.old }
+{
+    if let Some(states) = preset {
+        twelve.set(states);
+    }
+}
+
+#[cfg(test)]
+mod tests;
