@@ -1,0 +1,129 @@
+// The packets of made streams (the profile's own).
+ghost use Rattle.std.specs.Prelude.{◌≡◌, ◌++◌};
+ghost use Rattle.dtx_make.specs.Made.{made_packet, made_payload, first_number, next_number};
+
+use dtx_packets::{PACKET, Packet};
+
+/// How many bytes the header of a packet has (ISO/IEC 13818-1, 2.4.3.2).
+const HEADER: usize = 4;
+
+/// How many bytes stand behind the header.
+const PAYLOAD: usize = PACKET - HEADER;
+
+/// How many packets a data field has (ATSC A/53 Part 2).
+const FIELD_PACKETS: u64 = 312;
+
+/// The place of a field at which a placeholder of an operations packet stands.
+const PLACEHOLDER_PLACE: u64 = 100;
+
+/// The multiplier of the numbers whose highest bytes are a payload, which follow each other modulo 2^64.
+const MULTIPLIER: u64 = 6_364_136_223_846_793_005;
+
+/// What is added to each of them, and for each index to the first.
+const INCREMENT: u64 = 1_442_695_040_888_963_407;
+
+/// Packet `index` of the made stream of that seed. In each field of 312 packets packet 100 is a placeholder, with
+/// nothing but zeros behind its header; the others have payloads that look like noise, and their index modulo 16 as
+/// counter. A made stream is a workload and no legal programme.
+#[tactic(auto, unfolding(crate::specs::Made::made_packet))]
+pub fn packet(seed: u64, index: u64) -> Packet
+    ensures { result.0 ≡ made_packet seed index }
+{
+    if index % FIELD_PACKETS == PLACEHOLDER_PLACE {
+        joined(&[0x47, 0x1F, 0xFA, 0x10], &[0; PAYLOAD])
+    } else {
+        let counter = (index % 16) as u8;
+        joined(&[0x47, 0x00, 0x31, 0x10 + counter], &payload(seed, index))
+    }
+}
+
+/// The packet of these two parts.
+fn joined(header: &[u8; HEADER], payload: &[u8; PAYLOAD]) -> Packet
+    ensures { result.0 ≡ header.now ++ payload.now }
+{
+    let mut bytes = [0; PACKET];
+    bytes[..HEADER].copy_from_slice(header);
+    bytes[HEADER..].copy_from_slice(payload);
+    Packet(bytes)
+}
+
+/// The highest bytes of the numbers behind the first one.
+fn payload(seed: u64, index: u64) -> [u8; PAYLOAD]
+    ensures { result ≡ made_payload seed index }
+{
+    let mut number = first(seed, index);
+    let mut bytes = [0; PAYLOAD];
+    for byte in bytes.iter_mut() {
+        number = next(number);
+        *byte = (number >> 56) as u8;
+    }
+    bytes
+}
+
+/// The number with which a packet begins.
+fn first(seed: u64, index: u64) -> u64
+    ensures { result ≡ first_number seed index }
+{
+    let shift = index.wrapping_mul(INCREMENT);
+    seed.wrapping_add(1)
+        .wrapping_mul(MULTIPLIER)
+        .wrapping_add(shift)
+}
+
+/// The number behind that one.
+fn next(number: u64) -> u64
+    ensures { result ≡ next_number number }
+{
+    number.wrapping_mul(MULTIPLIER).wrapping_add(INCREMENT)
+}
+
+#[cfg(test)]
+mod tests {
+    use super::*;
+
+    #[test]
+    fn the_packets_are_those_of_another_program(rt: HostRuntime) {
+        let cases = [
+            (0, 0, [0x47, 0x00, 0x31, 0x10, 0x7C, 0x25, 0x96, 0xD0], 0x00),
+            (
+                1,
+                99,
+                [0x47, 0x00, 0x31, 0x13, 0x38, 0x0B, 0x5C, 0x7B],
+                0xBA,
+            ),
+            (
+                1,
+                100,
+                [0x47, 0x1F, 0xFA, 0x10, 0x00, 0x00, 0x00, 0x00],
+                0x00,
+            ),
+            (
+                1,
+                412,
+                [0x47, 0x1F, 0xFA, 0x10, 0x00, 0x00, 0x00, 0x00],
+                0x00,
+            ),
+            (
+                u64::MAX,
+                17,
+                [0x47, 0x00, 0x31, 0x11, 0x7A, 0xA9, 0x22, 0x1A],
+                0x44,
+            ),
+            (
+                u64::MAX,
+                u64::MAX,
+                [0x47, 0x00, 0x31, 0x1F, 0x0E, 0x99, 0xCF, 0x6B],
+                0x32,
+            ),
+        ];
+        for (seed, index, begins, ends) in cases {
+            let made = packet(seed, index);
+            assert_eq!(rt;
+                &made.0[..8],
+                begins.as_slice(),
+                "packet {index} of seed {seed}"
+            );
+            assert_eq!(rt; made.0[187], ends);
+        }
+    }
+}
