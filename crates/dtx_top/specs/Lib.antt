@@ -1,0 +1,13 @@
+pub mod Command
+pub mod Feed
+pub mod Input
+pub mod Line
+pub mod Make
+pub mod Number
+pub mod Output
+pub mod Printed
+pub mod Status
+pub mod Stream
+pub mod Symbols
+pub mod Words
+pub mod Work

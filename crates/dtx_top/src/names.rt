@@ -1,0 +1,31 @@
+// The file names of a command: which one comes twice, and which one a line names.
+ghost use Rattle.std.specs.Prelude.{◌≡◌, map, Option};
+ghost use Rattle.std.specs.Option.{option_map};
+ghost use Rattle.dtx_top.specs.Words.{repeated};
+ghost use Rattle.dtx_top.specs.Line.{line_name};
+
+use crate::Status;
+
+/// The first name that equals an earlier one.
+pub(crate) fn repeated_name<'a>(names: &[&'a str]) -> Option<&'a str>
+    ensures { option_map (λ name. name.now) result ≡ repeated (map (λ name. name.now) names.now) }
+{
+    for (i, name) in names.iter().enumerate() {
+        if names[..i].contains(name) {
+            return Some(name);
+        }
+    }
+    None
+}
+
+/// The name in the line of a status, or nothing where it has none. The names are those of the command, its inputs
+/// first.
+pub(crate) fn name_in_line<'a>(status: Status, names: &[&'a str]) -> &'a str
+    ensures { result.now ≡ line_name status (map (λ name. name.now) names.now) }
+{
+    match status {
+        Status::Same => repeated_name(names).unwrap_or(""),
+        Status::Absent(input) => names.get(input as usize).copied().unwrap_or(""),
+        _ => "",
+    }
+}

@@ -1,0 +1,122 @@
+// The call that does all that the program does.
+ghost use Rattle.std.specs.Prelude.{◌≡◌, ◌⊎◌, [], None, IfSome, IsSome};
+ghost use Rattle.dtx_outside.specs.Shelf.{Rose};
+ghost use Rattle.dtx_top.specs.Line.{HasLine, IsNoLine};
+ghost use Rattle.dtx_top.specs.Make.{HasMakeCause, MakeLeaves, MakePrints, IsMadeLine};
+ghost use Rattle.dtx_top.specs.Words.{FitsNoCommand, adapt_words, code_words, make_words, make_names, repeated};
+ghost use Rattle.dtx_top.specs.Work.{adapting, coding, CanBeDone, HasCause, Leaves, Prints, IsFeedLine, IsCodeLine};
+
+use crate::Status;
+use crate::adapt_command::adapt;
+use crate::code_command::code;
+use crate::command::{Command, command_of};
+use crate::line::{finish, print_refusal};
+use crate::make_command::make;
+use dtx_outside::{Shelf, Sink, Word};
+use std::alloc::Global;
+
+/// Does what the words ask for, over the files of the shelf, and prints a line to the sink at the end. The words are
+/// those after the program's name.
+///
+/// `adapt PLAN IN OUT` writes the feed of the stream IN to OUT: its packets of 188 bytes, byte 0 of packet k set to
+/// the cadence mark 0xB8 where 624 divides k and to 0x47 elsewhere (the profile's own cadence, ATSC A/110). PLAN
+/// isn't read yet, and a placeholder is refused.
+///
+/// `code IN OUT` writes the symbols of the stream or feed IN to OUT: those of all data segments and field syncs that its whole
+/// groups of four packets give (ATSC A/53 Part 2), one signed byte each in two's complement. Byte 0 of its packets is 0x47 or the
+/// mark 0xB8, and isn't sent.
+///
+/// `make SEED COUNT OUT` writes the packets 0 to COUNT - 1 that `dtx_make::packet` gives for SEED to OUT. SEED is 0 to
+/// 2^64 - 1 and COUNT 0 to 624,000,000, in decimal digits without sign and without a leading zero unless it is `0`.
+///
+/// Words that fit no command end in `Usage`.
+pub fn run<S: Shelf, O: Sink>(alloc: Global, words: &[Word], shelf: &mut S, out: &mut O) -> Status
+    // Words that fit no command.
+    ensures usage { FitsNoCommand words.now → (result ≡ Status.Usage) ⊎ (result ≡ Status.Memory) }
+    ensures usage_left { FitsNoCommand words.now → S.files shelf.new ≡ S.files shelf.old }
+    ensures usage_line { FitsNoCommand words.now
+        → HasLine IsNoLine [] result (Rose (O.faults out.old) (O.faults out.new)) (O.written out.old) (O.written out.new) }
+
+    // Each answer of `adapt` has its cause, and equal names have no other answer.
+    ensures adapt_cause { IfSome (adapt_words words.now) (λ asked. HasCause (adapting asked) (S.files shelf.old)
+        (Rose (S.misses shelf.old) (S.misses shelf.new))
+        (Rose (S.read_faults shelf.old) (S.read_faults shelf.new))
+        (Rose (S.write_faults shelf.old) (S.write_faults shelf.new))
+        (Rose (O.faults out.old) (O.faults out.new)) result) }
+    ensures adapt_same { IfSome (adapt_words words.now) (λ asked. IsSome (repeated (adapting asked).names)
+        → (result ≡ Status.Same) ⊎ (result ≡ Status.Memory)) }
+
+    // Where nothing stands against it and nothing fails, it is done, unless memory is wanted.
+    ensures adapt_complete { IfSome (adapt_words words.now) (λ asked. CanBeDone (adapting asked) (S.files shelf.old)
+        → ¬ Rose (S.read_faults shelf.old) (S.read_faults shelf.new)
+        → ¬ (Rose (S.write_faults shelf.old) (S.write_faults shelf.new) ⊎ Rose (O.faults out.old) (O.faults out.new))
+        → (result ≡ Status.Done) ⊎ (result ≡ Status.Memory)) }
+
+    // Where it is done, the output is the feed of the input and the line has its numbers; what stands after every
+    // other answer, and that no other file was touched.
+    ensures adapt_left { IfSome (adapt_words words.now) (λ asked. Leaves (adapting asked) (S.files shelf.old) result (S.files shelf.new)) }
+    ensures adapt_unprinted { IfSome (adapt_words words.now) (λ asked. result ≡ Status.WriteFault
+        → ¬ Rose (S.write_faults shelf.old) (S.write_faults shelf.new)
+        → Leaves (adapting asked) (S.files shelf.old) Status.Done (S.files shelf.new)) }
+    ensures adapt_done { IfSome (adapt_words words.now) (λ asked. result ≡ Status.Done
+        → Prints (adapting asked) (S.files shelf.old) (O.written out.old) (O.written out.new)) }
+
+    // The line is the last thing that is written.
+    ensures adapt_line { IfSome (adapt_words words.now) (λ asked. HasLine (IsFeedLine (adapting asked) (S.files shelf.old)) (adapting asked).names result
+        (Rose (O.faults out.old) (O.faults out.new)) (O.written out.old) (O.written out.new)) }
+
+    // Each answer of `code` has its cause, and equal names have no other answer.
+    ensures code_cause { IfSome (code_words words.now) (λ asked. HasCause (coding asked) (S.files shelf.old)
+        (Rose (S.misses shelf.old) (S.misses shelf.new))
+        (Rose (S.read_faults shelf.old) (S.read_faults shelf.new))
+        (Rose (S.write_faults shelf.old) (S.write_faults shelf.new))
+        (Rose (O.faults out.old) (O.faults out.new)) result) }
+    ensures code_same { IfSome (code_words words.now) (λ asked. IsSome (repeated (coding asked).names)
+        → (result ≡ Status.Same) ⊎ (result ≡ Status.Memory)) }
+
+    // Where nothing stands against it and nothing fails, it is done, unless memory is wanted.
+    ensures code_complete { IfSome (code_words words.now) (λ asked. CanBeDone (coding asked) (S.files shelf.old)
+        → ¬ Rose (S.read_faults shelf.old) (S.read_faults shelf.new)
+        → ¬ (Rose (S.write_faults shelf.old) (S.write_faults shelf.new) ⊎ Rose (O.faults out.old) (O.faults out.new))
+        → (result ≡ Status.Done) ⊎ (result ≡ Status.Memory)) }
+
+    // Where it is done, the output is the symbols of the input, one byte each, and the line has its numbers; what stands after every
+    // other answer, and that no other file was touched.
+    ensures code_left { IfSome (code_words words.now) (λ asked. Leaves (coding asked) (S.files shelf.old) result (S.files shelf.new)) }
+    ensures code_unprinted { IfSome (code_words words.now) (λ asked. result ≡ Status.WriteFault
+        → ¬ Rose (S.write_faults shelf.old) (S.write_faults shelf.new)
+        → Leaves (coding asked) (S.files shelf.old) Status.Done (S.files shelf.new)) }
+    ensures code_done { IfSome (code_words words.now) (λ asked. result ≡ Status.Done
+        → Prints (coding asked) (S.files shelf.old) (O.written out.old) (O.written out.new)) }
+
+    // The line is the last thing that is written.
+    ensures code_line { IfSome (code_words words.now) (λ asked. HasLine (IsCodeLine (coding asked) (S.files shelf.old)) (coding asked).names result
+        (Rose (O.faults out.old) (O.faults out.new)) (O.written out.old) (O.written out.new)) }
+
+    // Each answer of `make` has its cause; where nothing fails it is done, unless memory is wanted.
+    ensures make_cause { IfSome (make_words words.now) (λ making. HasMakeCause
+        (Rose (S.write_faults shelf.old) (S.write_faults shelf.new) ⊎ Rose (O.faults out.old) (O.faults out.new)) result) }
+    ensures make_complete { IfSome (make_words words.now) (λ making.
+        ¬ (Rose (S.write_faults shelf.old) (S.write_faults shelf.new) ⊎ Rose (O.faults out.old) (O.faults out.new))
+        → (result ≡ Status.Done) ⊎ (result ≡ Status.Memory)) }
+
+    // Where it is done, the output is the made stream and the line has the number of its packets; what stands after
+    // every other answer, and that no other file was touched.
+    ensures make_left { IfSome (make_words words.now) (λ making. MakeLeaves making (S.files shelf.old) result (S.files shelf.new)) }
+    ensures make_unprinted { IfSome (make_words words.now) (λ making. result ≡ Status.WriteFault
+        → ¬ Rose (S.write_faults shelf.old) (S.write_faults shelf.new)
+        → MakeLeaves making (S.files shelf.old) Status.Done (S.files shelf.new)) }
+    ensures make_done { IfSome (make_words words.now) (λ making. result ≡ Status.Done → MakePrints making (O.written out.old) (O.written out.new)) }
+    ensures make_line { IfSome (make_words words.now) (λ making. HasLine (IsMadeLine making) (make_names making) result
+        (Rose (O.faults out.old) (O.faults out.new)) (O.written out.old) (O.written out.new)) }
+{
+    match command_of(words) {
+        None => finish(Status::Usage, print_refusal(Status::Usage, "", out)),
+        Some(Command::Adapt(names)) => adapt(alloc, &names, shelf, out),
+        Some(Command::Code(names)) => code(alloc, &names, shelf, out),
+        Some(Command::Make(order)) => make(alloc, &order, shelf, out),
+    }
+}
+
+#[cfg(test)]
+mod tests;
