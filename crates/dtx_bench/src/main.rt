@@ -1,0 +1,84 @@
+// Measures how long the encoder takes, `dtx_bench encode`, and the other parts of the coding, each with a word of its own. Without
+// a word it prints what the encoder's work gives.
+#![tactic(auto)]
+
+mod coding;
+mod correcting;
+mod groups;
+mod spreading;
+mod times;
+mod whitening;
+mod work;
+
+use coding::print_outer_times;
+use correcting::print_correct_times;
+use dtx_rs::Rs;
+use groups::print_trellis_times;
+use spreading::print_spread_times;
+use std::rt::Clock;
+use std::time::Instant;
+use std::{env, io};
+use whitening::print_whiten_times;
+use work::{DATA, WORD, encode, encode_two};
+
+/// How often the work is measured; the least time counts.
+const ROUNDS: u32 = 200;
+
+/// How many packets a round encodes one by one, and then how many pairs of packets.
+const WORDS: u32 = 2_000;
+
+/// After how many words, and after how many pairs, the parity bytes are printed.
+const CHECKED: u32 = 1_000;
+
+fn main(rt: HostRuntime) -> io::Result<()> {
+    let code = Rs::<WORD, DATA>::new();
+    let mut words = env::args(&rt)?.skip(1);
+    match words.next() {
+        None => print_check(&rt, &code),
+        Some(word) if word.as_str() == "encode" => print_times(&rt, &code),
+        Some(word) if word.as_str() == "correct" => print_correct_times(&rt, &code),
+        Some(word) if word.as_str() == "whiten" => print_whiten_times(&rt, rt.alloc()),
+        Some(word) if word.as_str() == "spread" => print_spread_times(&rt, rt.alloc()),
+        Some(word) if word.as_str() == "outer" => print_outer_times(&rt, rt.alloc()),
+        Some(word) if word.as_str() == "trellis" => print_trellis_times(&rt),
+        Some(_) => println!(rt;
+            "usage: dtx_bench [encode | correct | whiten | spread | outer | trellis]"
+        ),
+    }
+}
+
+fn print_check(rt: &impl Print, code: &Rs<WORD, DATA>) -> io::Result<()> {
+    print!(rt; "encode ")?;
+    print_hex(rt, &encode(code, CHECKED))?;
+    let (first, second) = encode_two(code, CHECKED);
+    print!(rt; " encode_two ")?;
+    print_hex(rt, &first)?;
+    print!(rt; " ")?;
+    print_hex(rt, &second)?;
+    println!(rt; "")
+}
+
+fn print_hex(rt: &impl Print, bytes: &[u8]) -> io::Result<()> {
+    for byte in bytes {
+        print!(rt; "{byte:02x}")?;
+    }
+    Ok(())
+}
+
+fn print_times(rt: &(impl Clock + Print), code: &Rs<WORD, DATA>) -> io::Result<()> {
+    let mut one = u128::MAX;
+    let mut two = u128::MAX;
+    let mut sum = 0u8;
+    for _ in 0..ROUNDS {
+        let start = Instant::now(rt)?;
+        sum = sum.wrapping_add(encode(code, WORDS)[0]);
+        one = one.min(start.elapsed(rt)?.as_nanos());
+        let start = Instant::now(rt)?;
+        let (first, second) = encode_two(code, WORDS);
+        sum = sum.wrapping_add(first[0] ^ second[0]);
+        two = two.min(start.elapsed(rt)?.as_nanos());
+    }
+    println!(rt; "encode {} ns a packet", one / u128::from(WORDS))?;
+    println!(rt; "encode_two {} ns a packet", two / u128::from(2 * WORDS))?;
+    println!(rt; "sum {sum}")
+}
