@@ -1,0 +1,69 @@
+#!/usr/bin/env bash
+# Measures `dtx code` on a made stream of 200 MB beside GNU Radio's chain of the same coding, where Debian's package
+# `gnuradio` is installed. All of it in one run, on one processor where `taskset` is there, `dtx` the best of three and
+# the other once. It needs 2 GB on the disk of temporary files. The status is 0 where `dtx` is at least 8 times as fast,
+# and where there is no GNU Radio.
+
+set -eu
+export LC_ALL=C
+rounds=3
+bar=8
+packets=1063830
+# GNU Radio is slow, so it gets a part of the stream: a multiple of the twelve packets that it codes at once.
+few_packets=106080
+
+top=$(cd "$(dirname "${BASH_SOURCE[0]}")/.." && pwd)
+program=$top/crates/dtx/out/dtx
+room=$(mktemp -d)
+trap 'rm -rf "$room"' EXIT
+
+# The launcher builds the program, which is measured without it.
+"$top/dtx" >"$room/usage" || [[ $? == 2 ]]
+"$program" make 1 $packets "$room/in.ts" >"$room/said"
+head -c $((few_packets * 188)) "$room/in.ts" >"$room/few.ts"
+
+pinned=()
+if command -v taskset >/dev/null; then
+    pinned=(taskset -c "$(taskset -cp $$ | sed 's/.*[^0-9]//')")
+fi
+
+# timed COMMAND..: the time of the command, in microseconds.
+timed() {
+    local begun=${EPOCHREALTIME/./}
+    "${pinned[@]}" "$@" >"$room/said" 2>"$room/complaint"
+    echo $((${EPOCHREALTIME/./} - begun))
+}
+
+# rate NAME PACKETS MICROSECONDS
+rate() {
+    awk -v name="$1" -v packets="$2" -v time="$3" \
+        'BEGIN { printf "%-10s %7.3f s %7.1f MB/s of transport stream %6.0f ns a packet\n", name, time / 1e6, packets * 188 / time, time * 1e3 / packets }'
+}
+
+best=
+for ((round = 0; round < rounds; round++)); do
+    rm -f "$room/out.sym"
+    taken=$(timed "$program" code "$room/in.ts" "$room/out.sym")
+    if [[ ! $best || $taken -lt $best ]]; then
+        best=$taken
+    fi
+done
+printf 'best of %d%s\n' $rounds "${pinned[*]:+, on one processor}"
+rate 'dtx code' $packets "$best"
+rm "$room/out.sym"
+
+if ! python3 -c 'from gnuradio import dtv' 2>"$room/complaint"; then
+    echo 'GNU Radio is not installed here'
+    exit 0
+fi
+# Its start is no part of the coding: the time of two packets' groups is taken off.
+head -c $((12 * 188)) "$room/few.ts" >"$room/least.ts"
+start=$(timed python3 "$top/bench/gnuradio_code.py" "$room/least.ts" "$room/out.sym")
+whole=$(timed python3 "$top/bench/gnuradio_code.py" "$room/few.ts" "$room/out.sym")
+other=$((whole - start))
+rate 'GNU Radio' $few_packets "$other"
+awk -v dtx="$best" -v packets=$packets -v other="$other" -v few=$few_packets -v bar=$bar 'BEGIN {
+    ratio = (other / few) / (dtx / packets)
+    printf "dtx code is %.1f times as fast (bar: %d)\n", ratio, bar
+    exit ratio < bar
+}'

@@ -1,0 +1,357 @@
+// The shapes of the coding's parts in plain Rust, beside which the proved ones are measured: whitening by a local copy, the
+// interleaver in one block, the outer coding of both with the encoder, and the trellis coders in sixteen lanes. See codec.sh.
+use std::array::from_fn;
+use std::time::Instant;
+
+mod encoder {
+    #![allow(dead_code)]
+    include!("encode.rs");
+
+    pub struct Encoder(Table);
+
+    impl Encoder {
+        pub fn new() -> Encoder {
+            Encoder(Table::new())
+        }
+
+        pub fn encode(&self, head: &[u8; DATA], word: &mut [u8; WORD]) {
+            self.0.encode(head, word);
+        }
+    }
+}
+
+use encoder::Encoder;
+
+const DATA: usize = 187;
+const WORD: usize = 207;
+const FIELD: usize = 312;
+const BRANCHES: usize = 52;
+const DELAY: usize = 4 * BRANCHES;
+const HELD: usize = DELAY * (BRANCHES - 1);
+// From the first byte of a row of one byte for each branch to the last.
+const ROW: usize = (DELAY + 1) * (BRANCHES - 1) + 1;
+const ROOM: usize = 32_768;
+const CODERS: usize = 12;
+const GROUP_BYTES: usize = 828;
+const GROUP_LEVELS: usize = 3_312;
+const ROUNDS: u32 = 400;
+const WHITENED_FIELDS: usize = 4;
+const PASSED: usize = 1_000;
+
+struct Whitener {
+    bytes: Vec<u8>,
+}
+
+impl Whitener {
+    fn new() -> Whitener {
+        let mut register = 0xF180u32;
+        let mut bytes = Vec::with_capacity(DATA * FIELD);
+        for _ in 0..DATA * FIELD {
+            let taps = [0, 2, 3, 6, 10, 11, 12, 13];
+            bytes.push((0..8).map(|bit| ((register >> taps[bit] & 1) << bit) as u8).sum());
+            register *= 2;
+            if register >> 16 & 1 == 1 {
+                register ^= 0x1_38CB;
+            }
+        }
+        Whitener { bytes }
+    }
+
+    fn whiten(&self, from: usize, head: &[u8; DATA]) -> [u8; DATA] {
+        let mut white = *head;
+        for (byte, white_byte) in white.iter_mut().zip(&self.bytes[from..from + DATA]) {
+            *byte ^= white_byte;
+        }
+        white
+    }
+}
+
+struct Interleaver {
+    next: usize,
+    place: usize,
+    block: Vec<u8>,
+}
+
+impl Interleaver {
+    fn new() -> Interleaver {
+        Interleaver { next: 0, place: 0, block: vec![0; HELD + ROOM] }
+    }
+
+    fn pass(&mut self, bytes: &mut [u8; WORD]) {
+        if self.place + WORD + HELD > self.block.len() {
+            self.block.copy_within(self.place..self.place + HELD, 0);
+            self.place = 0;
+        }
+        let mut done = 0;
+        while done < WORD {
+            let place = self.place + done;
+            if self.next == 0 && WORD - done >= BRANCHES {
+                let row: &[u8; BRANCHES] = bytes[done..done + BRANCHES].try_into().unwrap();
+                let there: &mut [u8; ROW] = (&mut self.block[place..place + ROW]).try_into().unwrap();
+                for branch in 0..BRANCHES {
+                    there[(DELAY + 1) * branch] = row[branch];
+                }
+                done += BRANCHES;
+            } else {
+                self.block[place + DELAY * self.next] = bytes[done];
+                done += 1;
+                self.next = if self.next + 1 == BRANCHES { 0 } else { self.next + 1 };
+            }
+        }
+        bytes.copy_from_slice(&self.block[self.place..self.place + WORD]);
+        self.place += WORD;
+    }
+}
+
+// Sixteen lanes of a byte, of which bits 2 to 0 are used.
+#[cfg(target_arch = "x86_64")]
+mod lane {
+    use std::arch::x86_64::*;
+    use std::mem::transmute;
+
+    #[derive(Clone, Copy)]
+    pub struct Lane(__m128i);
+
+    // Bits of the lane before or behind come in by a shift, but none at bits 2 and 1.
+    #[allow(unused_unsafe)]
+    impl Lane {
+        #[inline(always)]
+        pub fn of(bytes: [u8; 16]) -> Lane {
+            Lane(unsafe { transmute::<[u8; 16], __m128i>(bytes) })
+        }
+        #[inline(always)]
+        pub fn bytes(self) -> [u8; 16] {
+            unsafe { transmute::<__m128i, [u8; 16]>(self.0) }
+        }
+        #[inline(always)]
+        pub fn and(self, byte: i8) -> Lane {
+            Lane(unsafe { _mm_and_si128(self.0, _mm_set1_epi8(byte)) })
+        }
+        #[inline(always)]
+        pub fn or(self, other: Lane) -> Lane {
+            Lane(unsafe { _mm_or_si128(self.0, other.0) })
+        }
+        #[inline(always)]
+        pub fn xor(self, other: Lane) -> Lane {
+            Lane(unsafe { _mm_xor_si128(self.0, other.0) })
+        }
+        #[inline(always)]
+        pub fn right<const BITS: i32>(self) -> Lane {
+            Lane(unsafe { _mm_srli_epi16::<BITS>(self.0) })
+        }
+        #[inline(always)]
+        pub fn twice(self) -> Lane {
+            Lane(unsafe { _mm_add_epi8(self.0, self.0) })
+        }
+        // The first twelve are those of the places four further on.
+        #[inline(always)]
+        pub fn turned(self) -> Lane {
+            Lane(unsafe { _mm_shuffle_epi32::<0b11_00_10_01>(self.0) })
+        }
+    }
+}
+
+#[cfg(not(target_arch = "x86_64"))]
+mod lane {
+    use std::array::from_fn;
+
+    #[derive(Clone, Copy)]
+    pub struct Lane([u8; 16]);
+
+    impl Lane {
+        pub fn of(bytes: [u8; 16]) -> Lane {
+            Lane(bytes)
+        }
+        pub fn bytes(self) -> [u8; 16] {
+            self.0
+        }
+        pub fn and(self, byte: i8) -> Lane {
+            Lane(self.0.map(|lane| lane & byte as u8))
+        }
+        pub fn or(self, other: Lane) -> Lane {
+            Lane(from_fn(|p| self.0[p] | other.0[p]))
+        }
+        pub fn xor(self, other: Lane) -> Lane {
+            Lane(from_fn(|p| self.0[p] ^ other.0[p]))
+        }
+        pub fn right<const BITS: i32>(self) -> Lane {
+            Lane(self.0.map(|lane| lane >> BITS))
+        }
+        pub fn twice(self) -> Lane {
+            Lane(self.0.map(|lane| lane << 1))
+        }
+        pub fn turned(self) -> Lane {
+            Lane(from_fn(|p| if p < 12 { self.0[(p + 4) % 12] } else { self.0[p] }))
+        }
+    }
+}
+
+use lane::Lane;
+
+#[derive(Clone, Copy)]
+struct Lanes {
+    top: Lane,
+    middle: Lane,
+    low: Lane,
+    bytes: Lane,
+}
+
+impl Lanes {
+    #[inline(always)]
+    fn turned_if(self, begins_segment: bool) -> Lanes {
+        if begins_segment {
+            Lanes {
+                top: self.top.turned(),
+                middle: self.middle.turned(),
+                low: self.low.turned(),
+                bytes: self.bytes.turned(),
+            }
+        } else {
+            self
+        }
+    }
+
+    #[inline(always)]
+    fn step(self, pairs: Lane) -> (Lanes, Lane) {
+        let pair = pairs.and(6);
+        let level = pair.xor(self.top).or(self.middle);
+        let after = Lanes {
+            top: level.and(4),
+            middle: pair.right::<1>().xor(self.low).and(1),
+            low: self.middle,
+            bytes: self.bytes,
+        };
+        (after, level)
+    }
+
+    #[inline(always)]
+    fn emit(self, pairs: Lane, round: usize, levels: &mut [u8; GROUP_LEVELS]) -> Lanes {
+        let (after, level) = self.step(pairs);
+        let place = CODERS * round;
+        if round < 275 {
+            levels[place..place + 16].copy_from_slice(&level.bytes());
+        } else {
+            levels[place..].copy_from_slice(&level.bytes()[..CODERS]);
+        }
+        after
+    }
+}
+
+struct Trellis {
+    states: [u8; CODERS],
+}
+
+impl Trellis {
+    fn group(&mut self, first: usize, bytes: &[u8; GROUP_BYTES], levels: &mut [u8; GROUP_LEVELS]) {
+        let (mut top, mut middle, mut low) = ([0; 16], [0; 16], [0; 16]);
+        for p in 0..CODERS {
+            let state = self.states[(p + 4 * (first % 3)) % CODERS];
+            top[p] = state & 4;
+            middle[p] = state / 2 % 2;
+            low[p] = state % 2;
+        }
+        let mut lanes = Lanes {
+            top: Lane::of(top),
+            middle: Lane::of(middle),
+            low: Lane::of(low),
+            bytes: Lane::of([0; 16]),
+        };
+        for byte in 0..69 {
+            let round = 4 * byte;
+            let mut loaded = [0; 16];
+            if byte < 68 {
+                loaded.copy_from_slice(&bytes[CODERS * byte..CODERS * byte + 16]);
+            } else {
+                loaded[..CODERS].copy_from_slice(&bytes[CODERS * byte..]);
+            }
+            lanes.bytes = Lane::of(loaded);
+            lanes = lanes.emit(lanes.bytes.right::<5>(), round, levels).turned_if(round + 1 == 69);
+            lanes = lanes.emit(lanes.bytes.right::<3>(), round + 1, levels).turned_if(round + 2 == 138);
+            lanes = lanes.emit(lanes.bytes.right::<1>(), round + 2, levels).turned_if(round + 3 == 207);
+            lanes = lanes.emit(lanes.bytes.twice(), round + 3, levels);
+        }
+        let (top, middle, low) = (lanes.top.bytes(), lanes.middle.bytes(), lanes.low.bytes());
+        for coder in 0..CODERS {
+            let p = (coder + CODERS - 4 * (first % 3)) % CODERS;
+            self.states[coder] = top[p] + 2 * middle[p] + low[p];
+        }
+    }
+}
+
+fn print_least(name: &str, piece: &str, pieces: usize, mut round: impl FnMut() -> u8) {
+    let mut least = u128::MAX;
+    let mut sum = 0u8;
+    for _ in 0..ROUNDS {
+        let start = Instant::now();
+        sum = sum.wrapping_add(round());
+        least = least.min(start.elapsed().as_nanos());
+    }
+    let pieces = pieces as u128;
+    println!("{name} {}.{} ns a {piece}", least / pieces, least % pieces * 10 / pieces);
+    println!("sum {sum}");
+}
+
+fn whiten() {
+    let whitener = Whitener::new();
+    let mut head = [1; DATA];
+    print_least("whiten", "packet", WHITENED_FIELDS * FIELD, || {
+        for _ in 0..WHITENED_FIELDS {
+            for place in 0..FIELD {
+                head = whitener.whiten(DATA * place, &head);
+            }
+        }
+        head[0]
+    });
+}
+
+fn spread() {
+    let mut interleaver = Interleaver::new();
+    let mut word = from_fn(|i| i as u8);
+    print_least("spread", "packet", PASSED, || {
+        for _ in 0..PASSED {
+            interleaver.pass(&mut word);
+        }
+        word[0]
+    });
+}
+
+fn outer() {
+    let (whitener, encoder, mut interleaver) = (Whitener::new(), Encoder::new(), Interleaver::new());
+    let mut head = [1; DATA];
+    print_least("outer", "packet", FIELD, || {
+        let mut out = [0; WORD];
+        for place in 0..FIELD {
+            encoder.encode(&whitener.whiten(DATA * place, &head), &mut out);
+            interleaver.pass(&mut out);
+            for (byte, parity) in head.iter_mut().zip(&out[DATA..]) {
+                *byte ^= parity;
+            }
+        }
+        out[0]
+    });
+}
+
+fn trellis() {
+    let mut coders = Trellis { states: [0; CODERS] };
+    let mut bytes: [u8; GROUP_BYTES] = from_fn(|i| (i % 251) as u8);
+    let mut levels = [0; GROUP_LEVELS];
+    print_least("trellis", "group", FIELD / 4, || {
+        for group in 0..FIELD / 4 {
+            coders.group(4 * group, &bytes, &mut levels);
+            for (byte, level) in bytes.iter_mut().zip(&levels[GROUP_LEVELS - CODERS..]) {
+                *byte ^= level;
+            }
+        }
+        levels[0]
+    });
+}
+
+fn main() {
+    match std::env::args().nth(1).as_deref() {
+        Some("whiten") => whiten(),
+        Some("spread") => spread(),
+        Some("outer") => outer(),
+        Some("trellis") => trellis(),
+        _ => println!("usage: codec [whiten | spread | outer | trellis]"),
+    }
+}

@@ -1,0 +1,57 @@
+#!/bin/sh
+# Measures whitening, the interleaver, the outer coding and the trellis coders beside the same shapes in plain Rust, on one core
+# and in one run, and prints the least time of each and their ratio. The status is 0 where the trellis coders take at most twice
+# as long as the same sixteen lanes in plain Rust.
+# It wants `rustc`, and the kit's `rt` where the program isn't built yet.
+set -eu
+bar=2
+
+top=$(cd "$(dirname "$0")/.." && pwd)
+proved=$top/crates/dtx_bench/out/dtx_bench
+if [ ! -x "$proved" ]; then
+    (cd "$top/crates/dtx_bench" && rt run >/dev/null)
+fi
+folder=$(mktemp -d)
+trap 'rm -rf "$folder"' EXIT
+plain=$folder/codec
+# The kit builds for this processor too, where it builds for x86-64.
+processor=
+if [ "$(uname -m)" = x86_64 ]; then
+    processor='-C target-cpu=x86-64-v2'
+fi
+# shellcheck disable=SC2086
+rustc --edition 2024 -O -C codegen-units=1 $processor -o "$plain" "$top/bench/codec.rs"
+
+pinned=
+if command -v taskset >/dev/null; then
+    # the last core that this process may use
+    pinned="taskset -c $(taskset -cp $$ | sed 's/.*[ ,-]//')"
+fi
+# Both do the same rounds, so a sum of what came of them is the same.
+for work in whiten spread outer trellis; do
+    for _ in 1 2 3; do
+        $pinned "$proved" $work | sed "s/^/proved $work /"
+        $pinned "$plain" $work | sed "s/^/plain $work /"
+    done
+done | awk -v bar=$bar '
+    $3 == "sum" {
+        if ($2 in sum && sum[$2] != $4) differ = differ " " $2
+        sum[$2] = $4
+    }
+    $5 == "ns" {
+        if (!(($1, $2) in least) || $4 < least[$1, $2]) least[$1, $2] = $4
+        piece[$2] = $7
+    }
+    function ratio(work) { return least["proved", work] / least["plain", work] }
+    function tell(work) {
+        printf "%s: %.1f ns a %s, in plain Rust %.1f ns, ratio %.2f\n", work, least["proved", work], piece[work],
+            least["plain", work], ratio(work)
+    }
+    END {
+        tell("whiten"); tell("spread"); tell("outer"); tell("trellis")
+        if (differ != "") {
+            print "the two programs code differently:" differ
+            exit 1
+        }
+        exit ratio("trellis") > bar
+    }'

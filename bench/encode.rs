@@ -1,0 +1,163 @@
+// The encoder's shape in plain Rust, beside which the proved one is measured: a register of five words,
+// four bytes a step, by rows of a table that is made once. See encode.sh.
+use std::time::Instant;
+
+const DATA: usize = 187;
+const WORD: usize = 207;
+const PARITY: usize = WORD - DATA;
+const ROUNDS: u32 = 200;
+const WORDS: u32 = 2_000;
+const CHECKED: u32 = 1_000;
+
+struct Table {
+    rows: Box<[[u32; 5]; 1024]>,
+}
+
+fn product(mut a: u8, mut b: u8) -> u8 {
+    let mut sum = 0;
+    while b != 0 {
+        if b & 1 == 1 {
+            sum ^= a;
+        }
+        a = (a << 1) ^ if a & 0x80 == 0 { 0 } else { 0x1D };
+        b >>= 1;
+    }
+    sum
+}
+
+fn generator() -> [u8; PARITY] {
+    let mut low = [0; PARITY];
+    let mut root = 1;
+    for degree in 0..PARITY {
+        let mut before = 1;
+        for coefficient in &mut low[..=degree] {
+            let here = *coefficient;
+            *coefficient ^= product(root, before);
+            before = here;
+        }
+        root = product(2, root);
+    }
+    low
+}
+
+impl Table {
+    fn new() -> Table {
+        let low = generator();
+        let mut rows = Box::new([[0; 5]; 1024]);
+        for f in 0..256 {
+            let mut register = [0; PARITY];
+            for k in 0..4 {
+                let factor = register[0] ^ if k == 0 { f as u8 } else { 0 };
+                register.rotate_left(1);
+                register[PARITY - 1] = 0;
+                for (byte, coefficient) in register.iter_mut().zip(low) {
+                    *byte ^= product(factor, coefficient);
+                }
+                for (word, bytes) in rows[256 * k + f].iter_mut().zip(register.chunks_exact(4)) {
+                    *word = u32::from_be_bytes(bytes.try_into().unwrap());
+                }
+            }
+        }
+        Table { rows }
+    }
+
+    #[inline(always)]
+    fn fed(&self, state: &[u32; 5], bytes: &[u8; 4]) -> [u32; 5] {
+        let factors = (u32::from_be_bytes(*bytes) ^ state[0]).to_be_bytes();
+        let row3 = &self.rows[768 + factors[0] as usize];
+        let row2 = &self.rows[512 + factors[1] as usize];
+        let row1 = &self.rows[256 + factors[2] as usize];
+        let row0 = &self.rows[factors[3] as usize];
+        let mut next = [0; 5];
+        for i in 0..5 {
+            let moved = if i < 4 { state[i + 1] } else { 0 };
+            next[i] = moved ^ row3[i] ^ row2[i] ^ row1[i] ^ row0[i];
+        }
+        next
+    }
+
+    #[inline(always)]
+    fn started(&self, head: &[u8; DATA]) -> [u32; 5] {
+        self.fed(&[0; 5], &[0, head[0], head[1], head[2]])
+    }
+
+    fn encode(&self, head: &[u8; DATA], word: &mut [u8; WORD]) {
+        let mut state = self.started(head);
+        for bytes in head[3..].as_chunks::<4>().0 {
+            state = self.fed(&state, bytes);
+        }
+        join(head, &state, word);
+    }
+
+    fn encode_two(&self, first: &[u8; DATA], first_word: &mut [u8; WORD], second: &[u8; DATA], second_word: &mut [u8; WORD]) {
+        let mut state = self.started(first);
+        let mut other = self.started(second);
+        for (one, two) in first[3..].as_chunks::<4>().0.iter().zip(second[3..].as_chunks::<4>().0) {
+            state = self.fed(&state, one);
+            other = self.fed(&other, two);
+        }
+        join(first, &state, first_word);
+        join(second, &other, second_word);
+    }
+}
+
+fn join(head: &[u8; DATA], state: &[u32; 5], word: &mut [u8; WORD]) {
+    word[..DATA].copy_from_slice(head);
+    for (bytes, part) in word[DATA..].chunks_exact_mut(4).zip(state) {
+        bytes.copy_from_slice(&part.to_be_bytes());
+    }
+}
+
+fn add(head: &mut [u8; DATA], word: &[u8; WORD]) {
+    for i in 0..PARITY {
+        head[i] ^= word[DATA + i];
+    }
+}
+
+fn encode(table: &Table, words: u32) -> [u8; PARITY] {
+    let mut head = [1; DATA];
+    let mut word = [0; WORD];
+    for _ in 0..words {
+        table.encode(&head, &mut word);
+        add(&mut head, &word);
+    }
+    word[DATA..].try_into().unwrap()
+}
+
+fn encode_two(table: &Table, pairs: u32) -> [[u8; PARITY]; 2] {
+    let (mut first, mut second) = ([1; DATA], [2; DATA]);
+    let (mut first_word, mut second_word) = ([0; WORD], [0; WORD]);
+    for _ in 0..pairs {
+        table.encode_two(&first, &mut first_word, &second, &mut second_word);
+        add(&mut first, &first_word);
+        add(&mut second, &second_word);
+    }
+    [first_word[DATA..].try_into().unwrap(), second_word[DATA..].try_into().unwrap()]
+}
+
+fn hex(bytes: &[u8]) -> String {
+    bytes.iter().map(|byte| format!("{byte:02x}")).collect()
+}
+
+fn main() {
+    let table = Table::new();
+    if std::env::args().nth(1).is_none() {
+        let [first, second] = encode_two(&table, CHECKED);
+        println!("encode {} encode_two {} {}", hex(&encode(&table, CHECKED)), hex(&first), hex(&second));
+        return;
+    }
+    let (mut one, mut two) = (u128::MAX, u128::MAX);
+    let mut sum = 0u8;
+    for _ in 0..ROUNDS {
+        let start = Instant::now();
+        sum = sum.wrapping_add(encode(&table, WORDS)[0]);
+        one = one.min(start.elapsed().as_nanos());
+        let start = Instant::now();
+        let [first, second] = encode_two(&table, WORDS);
+        sum = sum.wrapping_add(first[0] ^ second[0]);
+        two = two.min(start.elapsed().as_nanos());
+    }
+    println!("encode {} ns a packet", one / u128::from(WORDS));
+    println!("encode_two {} ns a packet", two / u128::from(2 * WORDS));
+    println!("sum {sum}");
+}

@@ -1,0 +1,58 @@
+#!/usr/bin/env bash
+# Measures `dtx make` of 200 MB against a program in Rust that computes the same packets and writes them in the same
+# pieces with the file opened for each. All of it in one run, on one processor where `taskset` is there, each the
+# best of three. It needs rustc and 400 MB on the disk of temporary files. The status is 0 where `make` takes at most
+# 2 times as long.
+
+set -eu
+export LC_ALL=C
+rounds=3
+bar=2
+seed=1
+packets=1063830
+
+top=$(cd "$(dirname "${BASH_SOURCE[0]}")/.." && pwd)
+program=$top/crates/dtx/out/dtx
+room=$(mktemp -d)
+trap 'rm -rf "$room"' EXIT
+
+# The launcher builds the program, which is measured without it.
+"$top/dtx" >"$room/usage" || [[ $? == 2 ]]
+rustc -O -o "$room/make_pieces" "$top/bench/make_pieces.rs"
+
+pinned=()
+if command -v taskset >/dev/null; then
+    pinned=(taskset -c "$(taskset -cp $$ | sed 's/.*[^0-9]//')")
+fi
+
+declare -A best=()
+
+# measure NAME OUT COMMAND..: keeps the shortest time of the command, in microseconds, under the name.
+measure() {
+    local name=$1 begun taken
+    rm -f "$2"
+    shift 2
+    begun=${EPOCHREALTIME/./}
+    "${pinned[@]}" "$@" >"$room/said"
+    taken=$((${EPOCHREALTIME/./} - begun))
+    if [[ ! ${best[$name]-} || $taken -lt ${best[$name]} ]]; then
+        best[$name]=$taken
+    fi
+}
+
+for ((round = 0; round < rounds; round++)); do
+    measure 'dtx make' "$room/made.ts" "$program" make $seed $packets "$room/made.ts"
+    measure pieces "$room/pieces.ts" "$room/make_pieces" $seed $packets "$room/pieces.ts"
+    cmp "$room/made.ts" "$room/pieces.ts"
+done
+
+make=${best[dtx make]}
+pieces=${best[pieces]}
+printf '200 MB, best of %d%s\n' $rounds "${pinned[*]:+, on one processor}"
+for name in 'dtx make' pieces; do
+    awk -v name="$name" -v time="${best[$name]}" -v packets=$packets \
+        'BEGIN { printf "%-10s %7.3f s %6.0f MB/s %5.0f ns a packet\n", name, time / 1e6, packets * 188 / time, time * 1e3 / packets }'
+done
+awk -v make="$make" -v pieces="$pieces" -v bar=$bar \
+    'BEGIN { printf "make takes %.2f times as long as the pieces (bar: %d)\n", make / pieces, bar }'
+((make <= bar * pieces))

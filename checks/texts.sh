@@ -1,0 +1,127 @@
+#!/usr/bin/env bash
+# Checks the texts of the repository, those that are not yet committed too: that it stands alone, and
+# that what its rules promise of its files holds. A line for each finding; the last line is
+# `texts: N passed, M failed`, where each rule counts once.
+
+set -u
+export LC_ALL=C
+cd "$(dirname "${BASH_SOURCE[0]}")/.." || exit 1
+
+if [[ ! $(git ls-files crates.txt) ]]; then
+    echo 'texts: git does not tell the files of this repository'
+    echo 'texts: 0 passed, 1 failed'
+    exit 1
+fi
+
+# Crates that may have fewer than three must-fail edits: `dtx` and `dtx_bench` are programs, whose `main` has no contract
+# that an edit could break, and `dtx_lists` has lemmas alone.
+few_edits=' dtx dtx_bench dtx_lists '
+
+passed=0
+failed=0
+
+# rule WHAT FINDINGS: the rule holds where there are no findings.
+rule() {
+    local findings
+    if [[ $2 ]]; then
+        failed=$((failed + 1))
+        mapfile -t findings <<<"$2"
+        printf 'texts: %s\n' "${findings[@]/#/$1: }"
+    else
+        passed=$((passed + 1))
+    fi
+}
+
+files() {
+    local file
+    git ls-files --cached --others --exclude-standard -- "$@" | while IFS= read -r file; do
+        [[ -e $file ]] && printf '%s\n' "$file"
+    done
+}
+
+# Each line of each text, after its file and number.
+lines() {
+    git grep --untracked -nI -e '' -- "$@"
+}
+
+crates() {
+    sed -n 's/^\([a-z][a-z0-9_]*\)[^#]*:.*/\1/p' crates.txt
+}
+
+# Of Rattle's files the comments are read, since code may have short names; runs of bytes in hexadecimal
+# are not read either.
+names_of_papers() {
+    local letter_and_number='[DRTWC][0-9]{1,2}'
+    local part='(document|paper|section) [A-P]|(document|paper) 0?[0-9]|0[1-4] section|row [0-9]{1,2}'
+    local file='(scope|theorems|requests|formats|readings)[.]md|guides/[a-z-]+[.]md|shared/[a-z]+'
+    lines . |
+        awk -F: '$1 !~ /[.](rt|antt|edit)$/ || /\/\/|--/' |
+        sed -E 's/(^|[^0-9A-Za-z])[0-9A-F]{2}( [0-9A-F]{2})+/\1/g' |
+        grep -E "(^|[^A-Za-z0-9_.])($letter_and_number|$part|$file)([^A-Za-z0-9_]|\$)"
+}
+
+paths_of_a_machine() {
+    local folder='work|farm|tmp|root|opt|home|mnt|Users'
+    lines . | grep -E "(^|[^A-Za-z0-9_.*-])/($folder)([^A-Za-z0-9_-]|\$)"
+}
+
+long_files() {
+    local file
+    files '*.rt' '*.antt' | while IFS= read -r file; do
+        awk 'END { if (NR > 600) print FILENAME ": " NR " lines" }' "$file"
+    done
+}
+
+handles() {
+    cmp -s HANDLES <(echo 'Handles allowed: none.') || echo 'it is not its one line'
+}
+
+gate() {
+    [[ -x .ci/run ]] || echo '.ci/run cannot be run'
+    grep -qE '(^|[ ;&])(exec )?\./test$' .ci/run || echo '.ci/run does not end with ./test'
+    [[ -x test ]] || echo './test cannot be run'
+    grep -qE '^ *rt ci$' test || echo './test does not run the plain rt ci'
+}
+
+few_edits() {
+    local crate edits
+    for crate in $(crates); do
+        edits=$(find "crates/$crate/must-fail" -name '*.edit' 2>/dev/null | wc -l)
+        ((edits >= 3)) || [[ $few_edits == *" $crate "* ]] || echo "$crate has $edits"
+    done
+}
+
+# A name in capitals, as in crates/NAME, stands for any.
+missing_files() {
+    local text path
+    files '*.md' | while IFS= read -r text; do
+        grep -oE '(^|[^A-Za-z0-9_./-])(docs|examples|bench|checks|crates)/[A-Za-z0-9_./-]*[A-Za-z0-9_]' "$text" |
+            sed -E 's/^[^a-z]//' | grep -vE '[A-Z]{2}|/out(/|$)' | while IFS= read -r path; do
+            [[ -e $path || -e $(dirname "$text")/$path ]] || echo "$text names $path"
+        done
+    done
+}
+
+scripts() {
+    local file
+    files | while IFS= read -r file; do
+        [[ $(head -c 2 "$file" | tr -d '\0') == '#!' ]] || continue
+        [[ -x $file ]] || echo "$file cannot be run"
+        case $file in
+            *.py) python3 -c 'import ast, sys; ast.parse(open(sys.argv[1]).read())' "$file" 2>&1 ;;
+            *) bash -n "$file" 2>&1 ;;
+        esac
+    done
+}
+
+rule 'a paper, or a number of one' "$(names_of_papers)"
+rule 'a path of a machine' "$(paths_of_a_machine)"
+rule 'a file longer than 600 lines' "$(long_files)"
+rule 'HANDLES' "$(handles)"
+rule 'the gate' "$(gate)"
+rule 'fewer than three must-fail edits' "$(few_edits)"
+rule 'a file that is not there' "$(missing_files)"
+rule 'what a build made is committed' "$(git ls-files -- 'crates/*/out/*')"
+rule 'a script' "$(scripts)"
+printf 'texts: %d passed, %d failed\n' "$passed" "$failed"
+((failed == 0))
