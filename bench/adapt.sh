@@ -6,43 +6,16 @@
 # memory is the same, but for 256 kB by which it differs from run to run.
 
 set -eu
-export LC_ALL=C
 rounds=5
 bar=3
 memory_bar=256
 packets=1063830
 few_packets=10639
 
-top=$(cd "$(dirname "${BASH_SOURCE[0]}")/.." && pwd)
-program=$top/crates/dtx/out/dtx
-room=$(mktemp -d)
-trap 'rm -rf "$room"' EXIT
-
-# The launcher builds the program, which is measured without it.
-"$top/dtx" >"$room/usage" || [[ $? == 2 ]]
+. "$(dirname "${BASH_SOURCE[0]}")/timing.sh"
 rustc -O -o "$room/copy_pieces" "$top/bench/copy_pieces.rs"
 "$top/examples/make_stream.sh" $packets "$room/in.ts"
 "$top/examples/make_stream.sh" $few_packets "$room/few.ts"
-
-pinned=()
-if command -v taskset >/dev/null; then
-    pinned=(taskset -c "$(taskset -cp $$ | sed 's/.*[^0-9]//')")
-fi
-
-declare -A best=()
-
-# measure NAME COMMAND..: keeps the shortest time of the command, in microseconds, under the name.
-measure() {
-    local name=$1 begun taken
-    shift
-    rm -f "$room/out.ts"
-    begun=${EPOCHREALTIME/./}
-    "${pinned[@]}" "$@" >"$room/said"
-    taken=$((${EPOCHREALTIME/./} - begun))
-    if [[ ! ${best[$name]-} || $taken -lt ${best[$name]} ]]; then
-        best[$name]=$taken
-    fi
-}
 
 # memory STREAM: the most kB that adapting the stream held at a time.
 memory() {
@@ -60,9 +33,9 @@ end
 }
 
 for ((round = 0; round < rounds; round++)); do
-    measure 'dtx adapt' "$program" adapt plan "$room/in.ts" "$room/out.ts"
-    measure cp cp "$room/in.ts" "$room/out.ts"
-    measure pieces "$room/copy_pieces" "$room/in.ts" "$room/out.ts"
+    measure 'dtx adapt' "$room/out.ts" "$program" adapt plan "$room/in.ts" "$room/out.ts"
+    measure cp "$room/out.ts" cp "$room/in.ts" "$room/out.ts"
+    measure pieces "$room/out.ts" "$room/copy_pieces" "$room/in.ts" "$room/out.ts"
     cmp "$room/in.ts" "$room/out.ts"
 done
 

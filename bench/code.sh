@@ -5,34 +5,15 @@
 # and where there is no GNU Radio.
 
 set -eu
-export LC_ALL=C
 rounds=3
 bar=8
 packets=1063830
 # GNU Radio is slow, so it gets a part of the stream: a multiple of the twelve packets that it codes at once.
 few_packets=106080
 
-top=$(cd "$(dirname "${BASH_SOURCE[0]}")/.." && pwd)
-program=$top/crates/dtx/out/dtx
-room=$(mktemp -d)
-trap 'rm -rf "$room"' EXIT
-
-# The launcher builds the program, which is measured without it.
-"$top/dtx" >"$room/usage" || [[ $? == 2 ]]
+. "$(dirname "${BASH_SOURCE[0]}")/timing.sh"
 "$program" make 1 $packets "$room/in.ts" >"$room/said"
 head -c $((few_packets * 188)) "$room/in.ts" >"$room/few.ts"
-
-pinned=()
-if command -v taskset >/dev/null; then
-    pinned=(taskset -c "$(taskset -cp $$ | sed 's/.*[^0-9]//')")
-fi
-
-# timed COMMAND..: the time of the command, in microseconds.
-timed() {
-    local begun=${EPOCHREALTIME/./}
-    "${pinned[@]}" "$@" >"$room/said" 2>"$room/complaint"
-    echo $((${EPOCHREALTIME/./} - begun))
-}
 
 # rate NAME PACKETS MICROSECONDS
 rate() {
@@ -40,16 +21,11 @@ rate() {
         'BEGIN { printf "%-10s %7.3f s %7.1f MB/s of transport stream %6.0f ns a packet\n", name, time / 1e6, packets * 188 / time, time * 1e3 / packets }'
 }
 
-best=
 for ((round = 0; round < rounds; round++)); do
-    rm -f "$room/out.sym"
-    taken=$(timed "$program" code "$room/in.ts" "$room/out.sym")
-    if [[ ! $best || $taken -lt $best ]]; then
-        best=$taken
-    fi
+    measure 'dtx code' "$room/out.sym" "$program" code "$room/in.ts" "$room/out.sym"
 done
 printf 'best of %d%s\n' $rounds "${pinned[*]:+, on one processor}"
-rate 'dtx code' $packets "$best"
+rate 'dtx code' $packets "${best[dtx code]}"
 rm "$room/out.sym"
 
 if ! python3 -c 'from gnuradio import dtv' 2>"$room/complaint"; then
@@ -62,7 +38,7 @@ start=$(timed python3 "$top/bench/gnuradio_code.py" "$room/least.ts" "$room/out.
 whole=$(timed python3 "$top/bench/gnuradio_code.py" "$room/few.ts" "$room/out.sym")
 other=$((whole - start))
 rate 'GNU Radio' $few_packets "$other"
-awk -v dtx="$best" -v packets=$packets -v other="$other" -v few=$few_packets -v bar=$bar 'BEGIN {
+awk -v dtx="${best[dtx code]}" -v packets=$packets -v other="$other" -v few=$few_packets -v bar=$bar 'BEGIN {
     ratio = (other / few) / (dtx / packets)
     printf "dtx code is %.1f times as fast (bar: %d)\n", ratio, bar
     exit ratio < bar

@@ -5,40 +5,13 @@
 # 2 times as long.
 
 set -eu
-export LC_ALL=C
 rounds=3
 bar=2
 seed=1
 packets=1063830
 
-top=$(cd "$(dirname "${BASH_SOURCE[0]}")/.." && pwd)
-program=$top/crates/dtx/out/dtx
-room=$(mktemp -d)
-trap 'rm -rf "$room"' EXIT
-
-# The launcher builds the program, which is measured without it.
-"$top/dtx" >"$room/usage" || [[ $? == 2 ]]
+. "$(dirname "${BASH_SOURCE[0]}")/timing.sh"
 rustc -O -o "$room/make_pieces" "$top/bench/make_pieces.rs"
-
-pinned=()
-if command -v taskset >/dev/null; then
-    pinned=(taskset -c "$(taskset -cp $$ | sed 's/.*[^0-9]//')")
-fi
-
-declare -A best=()
-
-# measure NAME OUT COMMAND..: keeps the shortest time of the command, in microseconds, under the name.
-measure() {
-    local name=$1 begun taken
-    rm -f "$2"
-    shift 2
-    begun=${EPOCHREALTIME/./}
-    "${pinned[@]}" "$@" >"$room/said"
-    taken=$((${EPOCHREALTIME/./} - begun))
-    if [[ ! ${best[$name]-} || $taken -lt ${best[$name]} ]]; then
-        best[$name]=$taken
-    fi
-}
 
 for ((round = 0; round < rounds; round++)); do
     measure 'dtx make' "$room/made.ts" "$program" make $seed $packets "$room/made.ts"

@@ -1,0 +1,38 @@
+# shellcheck shell=bash
+# What the measures of whole commands share, to be sourced by them. It gives `top`, the built `program`, and a folder
+# `room` that goes when the measure ends; `pinned`, the words that keep a command to one processor; and `best`, the
+# shortest time of each name in microseconds.
+
+export LC_ALL=C
+top=$(cd "$(dirname "${BASH_SOURCE[0]}")/.." && pwd)
+program=$top/crates/dtx/out/dtx
+room=$(mktemp -d)
+trap 'rm -rf "$room"' EXIT
+
+# The launcher builds the program, which is measured without it.
+"$top/dtx" >"$room/usage" || [[ $? == 2 ]]
+
+pinned=()
+if command -v taskset >/dev/null; then
+    pinned=(taskset -c "$(taskset -cp $$ | sed 's/.*[^0-9]//')")
+fi
+
+declare -A best=()
+
+# timed COMMAND..: the time of the command, in microseconds; a command that fails ends the measure.
+timed() {
+    local begun=${EPOCHREALTIME/./}
+    "${pinned[@]}" "$@" >"$room/said" || return
+    echo $((${EPOCHREALTIME/./} - begun))
+}
+
+# measure NAME OUT COMMAND..: keeps the shortest time of the command, which writes OUT anew, under the name.
+measure() {
+    local name=$1 taken
+    rm -f "$2"
+    shift 2
+    taken=$(timed "$@")
+    if [[ ! ${best[$name]-} || $taken -lt ${best[$name]} ]]; then
+        best[$name]=$taken
+    fi
+}
