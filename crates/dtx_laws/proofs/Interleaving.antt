@@ -102,27 +102,39 @@ below_turn q d b r n e h = by_cases (cases_lt q d)
     by_cases (inl k) = k
     by_cases (inr k) = let g : d * b ≤ q * b = mul-le-mul_right b k in absurd (omega arith)
 
--- the delay of a byte, in turns
-in_turns : (b m r : ℕ) → b * m * r ≡ m * r * b
+-- the delay of a byte, in turns: its branch's width
+pub in_turns : (b m r : ℕ) → b * m * r ≡ m * r * b
 in_turns b m r = grind arith
 
-come_at : (b m : ℕ) (v : Branching) (x : List ℕ) (n : ℕ) → HasWidths b (spreading m) v → v.next ≡ 0 → n < length x → b * m * (n % b) ≤ n
-    → get_or (leaving_all b v x) n 0 ≡ get_or x (n - b * m * (n % b)) 0
-come_at b m v x n s z l h =
+-- whatever the widths are: the byte whose source has come
+pub come_by : (b d : ℕ) (w : ℕ → ℕ) (v : Branching) (x : List ℕ) (n : ℕ) → HasWidths b w v → v.next ≡ 0 → n < length x → d ≡ w (n % b) * b → d ≤ n
+    → get_or (leaving_all b v x) n 0 ≡ get_or x (n - d) 0
+come_by b d w v x n s z l t h =
     let p : 0 < b = omega (arith, s.next) in
     let e : n ≡ n / b * b + n % b = sym (div-add-mod' n b) in
-    let t : b * m * (n % b) ≡ m * (n % b) * b = in_turns b m (n % b) in
-    let k : m * (n % b) ≤ n / b = turns_least (n / b) (m * (n % b)) b (n % b) (omega (arith, h, t, e)) (mod_below n b p) in
-    aligned_gives b (spreading m) v x p s z n l ∙ stream_come b (spreading m) v x (n % b) (n / b) k
-    ∙ ap (λ i. get_or x i 0) (minus b (n / b) (m * (n % b)) (n % b) n e k ∙ ap (λ i. n - i) (sym t))
+    let k : w (n % b) ≤ n / b = turns_least (n / b) (w (n % b)) b (n % b) (omega (arith, h, t, e)) (mod_below n b p) in
+    aligned_gives b w v x p s z n l ∙ stream_come b w v x (n % b) (n / b) k
+    ∙ ap (λ i. get_or x i 0) (minus b (n / b) (w (n % b)) (n % b) n e k ∙ ap (λ i. n - i) (sym t))
+
+pub held_turn_by : (b d : ℕ) (w : ℕ → ℕ) (n : ℕ) → d ≡ w (n % b) * b → n < d → n / b < w (n % b)
+held_turn_by b d w n t h = below_turn (n / b) (w (n % b)) b (n % b) n (sym (div-add-mod' n b)) (omega (arith, h, t))
+
+-- and the byte that a branch held
+pub held_by : (b d : ℕ) (w : ℕ → ℕ) (v : Branching) (x : List ℕ) (n : ℕ) → HasWidths b w v → v.next ≡ 0 → n < length x → d ≡ w (n % b) * b → n < d
+    → get_or (leaving_all b v x) n 0 ≡ get_or (get_or v.lists (n % b) []) (n / b) 0
+held_by b d w v x n s z l t h =
+    aligned_gives b w v x (omega (arith, s.next)) s z n l ∙ stream_held b w v x (n % b) (n / b) (held_turn_by b d w n t h)
+
+pub come_at : (b m : ℕ) (v : Branching) (x : List ℕ) (n : ℕ) → HasWidths b (spreading m) v → v.next ≡ 0 → n < length x → b * m * (n % b) ≤ n
+    → get_or (leaving_all b v x) n 0 ≡ get_or x (n - b * m * (n % b)) 0
+come_at b m v x n s z l h = come_by b (b * m * (n % b)) (spreading m) v x n s z l (in_turns b m (n % b)) h
 
 held_turn : (b m n : ℕ) → n < b * m * (n % b) → n / b < m * (n % b)
-held_turn b m n h = below_turn (n / b) (m * (n % b)) b (n % b) n (sym (div-add-mod' n b)) (omega (arith, h, in_turns b m (n % b)))
+held_turn b m n h = held_turn_by b (b * m * (n % b)) (spreading m) n (in_turns b m (n % b)) h
 
 held_at : (b m : ℕ) (v : Branching) (x : List ℕ) (n : ℕ) → HasWidths b (spreading m) v → v.next ≡ 0 → n < length x → n < b * m * (n % b)
     → get_or (leaving_all b v x) n 0 ≡ get_or (get_or v.lists (n % b) []) (n / b) 0
-held_at b m v x n s z l h =
-    aligned_gives b (spreading m) v x (omega (arith, s.next)) s z n l ∙ stream_held b (spreading m) v x (n % b) (n / b) (held_turn b m n h)
+held_at b m v x n s z l h = held_by b (b * m * (n % b)) (spreading m) v x n s z l (in_turns b m (n % b)) h
 
 at_come : (b m : ℕ) (x : List ℕ) (n : ℕ) → b * m * (n % b) ≤ n → interleaved_at b m x n ≡ get_or x (n - b * m * (n % b)) 0
 at_come b m x n h = cond-true (nat_le (b * m * (n % b)) n) (get_or x (n - b * m * (n % b)) 0) 0 (le-leb (b * m * (n % b)) n h)
@@ -146,11 +158,11 @@ behind_calls b m v calls s =
 
 -- ---- from zeros
 
-zeros_at : (b : ℕ) (w : ℕ → ℕ) (i k : ℕ) → i < b → k < w i → get_or (get_or (zeroed b w).lists i []) k 0 ≡ 0
+pub zeros_at : (b : ℕ) (w : ℕ → ℕ) (i k : ℕ) → i < b → k < w i → get_or (get_or (zeroed b w).lists i []) k 0 ≡ 0
 unfolding zeroed
 zeros_at b w i k l h = ap (λ ys. get_or ys k 0) (get_or-map-range_with_len (λ i. replicate (w i) 0) 0 b i i [] l (omega arith)) ∙ get_or-replicate {A = ℕ} (w i) k 0 0 h
 
-next-zeroed : (b : ℕ) (w : ℕ → ℕ) → (zeroed b w).next ≡ 0
+pub next-zeroed : (b : ℕ) (w : ℕ → ℕ) → (zeroed b w).next ≡ 0
 unfolding zeroed
 next-zeroed b w = refl
 

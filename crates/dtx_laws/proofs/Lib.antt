@@ -5,6 +5,7 @@ pub mod Choice
 pub mod Whitening
 pub mod Places
 pub mod Interleaving
+pub mod Gathering
 pub mod Answers
 pub mod Kernel
 pub mod Pairs

@@ -1,6 +1,6 @@
 -- The branches of an interleaver or a de-interleaver: the next branch, and the bytes that each branch holds. Both directions
 -- share these definitions, over the number of branches, b, and the branches' widths: branch i holds w i bytes.
-use Rattle.std.specs.Prelude.{ℕ, ◌≡◌, ◌+◌, ◌*◌, ◌<◌, ◌≤◌, ◌==◌, if◌then◌else◌, List, [], ◌∷◌, ◌++◌, length, map, drop, replicate, slice_index, slice_index_or, slice_set}
+use Rattle.std.specs.Prelude.{ℕ, ◌≡◌, ◌+◌, ◌-◌, ◌*◌, ◌<◌, ◌≤◌, ◌==◌, if◌then◌else◌, List, [], ◌∷◌, ◌++◌, length, map, drop, replicate, slice_index, slice_index_or, slice_set}
 use Rattle.std.specs.List.{range_with_len}
 
 -- The numbers of an interleaver: from 2 to 64 branches, each longer by from 1 to 32 bytes than the one before it.
@@ -18,6 +18,10 @@ pub record Branching : Type 0 where
 -- the widths of an interleaver's branches (ATSC A/53 Part 2, interleaving)
 abbrev pub spreading : ℕ → ℕ → ℕ
 spreading m i = m * i
+
+-- and those of a de-interleaver's b branches: each byte waits in both for m * (b - 1) bytes of its branch
+abbrev pub gathering : ℕ → ℕ → ℕ → ℕ
+gathering b m i = m * (b - 1 - i)
 
 -- the next branch is one of the b branches, and branch i holds w i bytes
 pub record HasWidths (b : ℕ) (w : ℕ → ℕ) (v : Branching) : Type 0 where

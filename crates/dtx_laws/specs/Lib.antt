@@ -4,6 +4,7 @@ pub mod Register
 pub mod Whitening
 pub mod Branches
 pub mod Interleaving
+pub mod Gathering
 pub mod Correction
 pub mod Locator
 pub mod ErrorValues

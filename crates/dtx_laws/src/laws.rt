@@ -1,5 +1,6 @@
 //! The laws of codewords, over the definitions and for every `n` and `k`: so they hold of every encoder and corrector.
 
+pub mod gathering;
 pub mod interleaving;
 pub mod whitening;
 

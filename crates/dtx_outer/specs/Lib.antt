@@ -1,2 +1,3 @@
 pub mod Outer
 pub mod Coding
+pub mod Inner

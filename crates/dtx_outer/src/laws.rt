@@ -1,6 +1,8 @@
 //! The laws of the outer coding of packets that follow each other, over the definitions. So they hold of calls of `Outer::code`,
 //! each with its packet's place in the whitener's period, whatever does the parts.
 
+pub mod words;
+
 ghost use Rattle.std.specs.Prelude.{◌≡◌, ℕ, ◌+◌, ◌*◌, ◌<◌, ◌≤◌, ◌++◌, List, [], ◌∷◌, length, take, slice_index_or};
 ghost use Rattle.std.specs.List.{concat};
 ghost use Rattle.dtx_galois.specs.Field.{AreBytes};

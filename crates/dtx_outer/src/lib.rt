@@ -1,8 +1,12 @@
-//! The outer coding: data to the bytes that leave the interleaver.
+//! The outer coding: data to the bytes that leave the interleaver, and the way back.
 #![tactic(auto)]
 
+mod inner;
 pub mod laws;
 mod outer;
+#[cfg(test)]
+mod tests;
 mod whitening;
 
+pub use inner::{Inner, Taken};
 pub use outer::Outer;

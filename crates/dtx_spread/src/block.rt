@@ -1,8 +1,10 @@
-//! The block in which an interleaver's bytes lie, in the order in which they leave.
+//! The block in which the bytes of branches lie, in the order in which they leave.
 
 ghost use Rattle.std.specs.Prelude.{◌≡◌, ℕ, ◌+◌, ◌-◌, ◌*◌, ◌<◌, ◌≤◌, IsTrue, length, take, drop, slice_index};
 ghost use Rattle.dtx_laws.specs.Branches.{IsInterleaver};
-ghost use Rattle.dtx_spread.specs.Laid.{ahead, following, laid, turn_after};
+ghost use Rattle.dtx_spread.specs.Laid.{ahead, laid, turn_after};
+
+use crate::widths::Widths;
 
 /// Moves the bytes that are held to the block's front where `len` more have no room. Gives their place.
 pub(crate) fn make_room(block: &mut [u8], place: usize, held: usize, len: usize) -> usize
@@ -19,7 +21,7 @@ pub(crate) fn make_room(block: &mut [u8], place: usize, held: usize, len: usize)
 }
 
 /// Lays the bytes into the block, replaces them by those that leave, and gives the next branch.
-pub(crate) fn through<const B: usize, const M: usize>(
+pub(crate) fn through<W: Widths<B, M>, const B: usize, const M: usize>(
     block: &mut [u8],
     place: usize,
     next: usize,
@@ -28,17 +30,17 @@ pub(crate) fn through<const B: usize, const M: usize>(
     requires numbers { IsInterleaver B M }
     requires below { next < B }
     requires room { place + length bytes.old + B * M * (B - 1) ≤ length block.old }
-    ensures block { block.new ≡ laid B (B * M) place next bytes.old block.old }
-    ensures bytes { bytes.new ≡ take (length bytes.old) (drop place (laid B (B * M) place next bytes.old block.old)) }
+    ensures block { block.new ≡ laid B W.widths place next bytes.old block.old }
+    ensures bytes { bytes.new ≡ take (length bytes.old) (drop place (laid B W.widths place next bytes.old block.old)) }
     ensures turn { result ≡ turn_after B next bytes.old }
 {
-    let turn = lay::<B, M>(block, place, next, bytes);
+    let turn = lay::<W, B, M>(block, place, next, bytes);
     bytes.copy_from_slice(&block[place..place + bytes.len()]);
     turn
 }
 
 /// Lays the bytes into the block, and gives the next branch.
-fn lay<const B: usize, const M: usize>(
+fn lay<W: Widths<B, M>, const B: usize, const M: usize>(
     block: &mut [u8],
     place: usize,
     next: usize,
@@ -47,13 +49,13 @@ fn lay<const B: usize, const M: usize>(
     requires numbers { IsInterleaver B M }
     requires below { next < B }
     requires room { place + length bytes.now + B * M * (B - 1) ≤ length block.old }
-    ensures block { block.new ≡ laid B (B * M) place next bytes.now block.old }
+    ensures block { block.new ≡ laid B W.widths place next bytes.now block.old }
     ensures turn { result ≡ turn_after B next bytes.now }
 {
     let mut turn = next;
     let mut done = 0;
     while done < bytes.len() {
-        let (count, after) = lay_next::<B, M>(block, place + done, turn, &bytes[done..]);
+        let (count, after) = lay_next::<W, B, M>(block, place + done, turn, &bytes[done..]);
         done += count;
         turn = after;
     }
@@ -62,7 +64,7 @@ fn lay<const B: usize, const M: usize>(
 
 /// Lays a row of one byte for each branch where the turn is at branch 0 and there are as many, and else one byte. Gives how
 /// many it laid, and the next branch.
-fn lay_next<const B: usize, const M: usize>(
+fn lay_next<W: Widths<B, M>, const B: usize, const M: usize>(
     block: &mut [u8],
     place: usize,
     turn: usize,
@@ -74,27 +76,31 @@ fn lay_next<const B: usize, const M: usize>(
     requires room { place + length bytes.now + B * M * (B - 1) ≤ length block.old }
     ensures some { 0 < result.0 }
     ensures within { result.0 ≤ length bytes.now }
-    ensures block { block.new ≡ laid B (B * M) place turn (take result.0 bytes.now) block.old }
+    ensures block { block.new ≡ laid B W.widths place turn (take result.0 bytes.now) block.old }
     ensures turn { result.1 ≡ turn_after B turn (take result.0 bytes.now) }
 {
     if turn == 0 && B <= bytes.len() {
-        lay_row::<B, M>(block, place, &bytes[..B]);
+        lay_row::<W, B, M>(block, place, &bytes[..B]);
         return (B, 0);
     }
-    block[place + B * M * turn] = bytes[0];
+    block[place + B * W::width(turn)] = bytes[0];
     (1, if turn + 1 == B { 0 } else { turn + 1 })
 }
 
 /// Lays one byte for each branch, from branch 0 on.
-fn lay_row<const B: usize, const M: usize>(block: &mut [u8], place: usize, row: &[u8])
+fn lay_row<W: Widths<B, M>, const B: usize, const M: usize>(
+    block: &mut [u8],
+    place: usize,
+    row: &[u8],
+)
     requires numbers { IsInterleaver B M }
     requires whole { length row.now ≡ B }
     requires room { place + B + B * M * (B - 1) ≤ length block.old }
-    ensures block { block.new ≡ laid B (B * M) place 0 row.now block.old }
+    ensures block { block.new ≡ laid B W.widths place 0 row.now block.old }
     ensures turn { turn_after B 0 row.now ≡ 0 }
 {
     for branch in 0..B {
-        block[place + (B * M + 1) * branch] = row[branch];
+        block[place + branch + B * W::width(branch)] = row[branch];
     }
 }
 

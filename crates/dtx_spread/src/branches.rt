@@ -1,58 +1,41 @@
-//! An interleaver whose branches lie in one block, in the order in which their bytes leave.
+//! The interleaver.
 
-ghost use Rattle.std.specs.Prelude.{◌≡◌, ◌≤◌, length, IfOk};
-ghost use Rattle.dtx_laws.specs.Branches.{IsInterleaver, spreading, zeroed, leaving_all, after_all};
+ghost use Rattle.std.specs.Prelude.{◌≡◌, IfOk};
+ghost use Rattle.dtx_laws.specs.Branches.{IsInterleaver, spreading, zeroed};
 
-use crate::block::{make_room, through, turn_back};
+use crate::lines::Lines;
+use crate::widths::Spreading;
 use dtx_laws::Spread;
 use std::alloc::{AllocError, Global};
 use std::marker::Model;
 
-/// How many bytes a block takes before those that it holds move to its front.
-const ROOM: usize = 32_768;
-
 /// An interleaver of `B` branches, of which branch i delays by `M * i` of its own bytes (ATSC A/53 Part 2, interleaving).
-///
-/// A byte of branch i is put `B * M * i` places behind the place from which the next byte leaves.
 #[derive(Drop)]
 pub struct Branches<const B: usize, const M: usize> {
-    next: usize,
-    place: usize,
-    block: Vec<u8>,
+    lines: Lines<Spreading, B, M>,
 }
 
 impl<const B: usize, const M: usize> Model for Branches<B, M> {
     ghost use Rattle.dtx_laws.specs.Branches.{Branching};
-    ghost use Rattle.dtx_spread.specs.Laid.{lying, IsBlock};
-    ghost use Rattle.dtx_spread.specs.declared.branches.TheConstants.{ROOM};
 
     ghost Value = { Branching };
 
-    ghost view = { λ s. lying B M s.place s.next s.block.items };
-
-    ghost invariant = { λ s. IsBlock B M ROOM s.next s.place s.block.items };
+    ghost view = { λ s. s.lines };
 }
 
 impl<const B: usize, const M: usize> Spread<B, M> for Branches<B, M> {
     ghost seen = { λ s. s };
 
     fn known(&self) {
-        // A field that is read tells what each value keeps.
-        let _next = &self.next;
+        self.lines.known();
     }
 
     fn pass(&mut self, bytes: &mut [u8]) {
-        let mut done = 0;
-        while done < bytes.len() {
-            let count = (bytes.len() - done).min(ROOM);
-            self.pass_some(&mut bytes[done..done + count]);
-            done += count;
-        }
+        self.lines.pass(bytes);
     }
 
     fn align(&mut self) {
-        turn_back::<B, M>(&mut self.block, self.place, self.next);
-        self.next = 0;
+        self.lines.align();
     }
 }
 
@@ -63,21 +46,8 @@ impl<const B: usize, const M: usize> Branches<B, M> {
         ensures { IfOk result (λ branches. branches ≡ zeroed B (spreading M)) }
     {
         Ok(Branches {
-            next: 0,
-            place: 0,
-            block: vec![in alloc; 0u8; B * M * (B - 1) + ROOM]?,
+            lines: Lines::new(alloc)?,
         })
-    }
-
-    /// Passes no more bytes than the room.
-    fn pass_some(&mut self, bytes: &mut [u8])
-        requires { length bytes.old ≤ ROOM }
-        ensures bytes { bytes.new ≡ leaving_all B self.old bytes.old }
-        ensures branches { self.new ≡ after_all B self.old bytes.old }
-    {
-        self.place = make_room(&mut self.block, self.place, B * M * (B - 1), bytes.len());
-        self.next = through::<B, M>(&mut self.block, self.place, self.next, bytes);
-        self.place += bytes.len();
     }
 }
 

@@ -1,4 +1,4 @@
-use Rattle.std.proofs.Common.{◌*◌, ◌≤◌, ◌<◌, length, take, drop, refl, subst, sym, ap, ap₂, ◌∙◌, ◌≡◌, ◌-◌, ℕ, ◌+◌, arith}
+use Rattle.std.proofs.Common.{◌≤◌, ◌<◌, length, take, drop, refl, subst, sym, ap, ap₂, ◌∙◌, ◌≡◌, ◌-◌, ℕ, ◌+◌, arith}
 use Rattle.std.proofs.lemmas.List.{length-drop, take_all}
 use Rattle.dtx_spread.specs.Laid.{laid, turn_after}
 use Rattle.dtx_spread.proofs.Laid.{lay_more, turn_further, turn_less}
@@ -24,7 +24,7 @@ loop-done-preserved g c =
     record {
       within = l;
       block =
-          lay_more g.row.B (g.row.B * g.row.M) c.args.place c.args.next done count bytes c.args.block.now c.loop-done.block c.lay_next-count.new.block h.block l
-          (c.lay_next-count.ensures.block ∙ ap₂ (λ n ys. laid g.row.B (g.row.B * g.row.M) (c.args.place + done) n ys c.loop-done.block) h.turn r);
+          lay_more g.row.B g.W.Widths.widths c.args.place c.args.next done count bytes c.args.block.now c.loop-done.block c.lay_next-count.new.block h.block l
+          (c.lay_next-count.ensures.block ∙ ap₂ (λ n ys. laid g.row.B g.W.Widths.widths (c.args.place + done) n ys c.loop-done.block) h.turn r);
       turn = turn_further g.row.B c.args.next done count c.loop-done.turn c.lay_next-count.result.1 bytes h.turn (c.lay_next-count.ensures.turn ∙ ap (turn_after g.row.B c.loop-done.turn) r);
     }

@@ -10,8 +10,10 @@ loop-branch-init g c = refl
 pub loop-branch-preserved : goal.loop-branch-preserved
 loop-branch-preserved g c =
     let k = c.loop-branch.branch in
-    ap (λ ys. set ys (c.args.place + (g.row.B * g.row.M + 1) * k) (get_or c.args.row.now k 0)) c.loop-branch.invariant
-    ∙ row_more g.row.B (g.row.B * g.row.M) c.args.place k (c.args.place + (g.row.B * g.row.M + 1) * k) c.args.row.now c.args.block.now (get_or c.args.row.now k 0) c.loop-branch-test.true (omega (arith, c.loop-branch-test.true, c.requires.whole)) refl refl
+    let w = g.W.Widths.widths in
+    ap (λ ys. set ys (c.args.place + k + g.row.B * c.width.result) (get_or c.args.row.now k 0)) c.loop-branch.invariant
+    ∙ row_more g.row.B w c.args.place k (c.args.place + k + g.row.B * c.width.result) c.args.row.now c.args.block.now (get_or c.args.row.now k 0) c.loop-branch-test.true (omega (arith, c.loop-branch-test.true, c.requires.whole)) refl
+    (ap (λ n. c.args.place + k + g.row.B * n) c.width.ensures)
 
 pub returns-clause-turn : goal.returns-clause-turn
 returns-clause-turn g c = row_turn g.row.B c.args.row.now (omega (arith, c.requires.numbers.some)) c.requires.whole

@@ -1,0 +1,5 @@
+use Rattle.dtx_laws.proofs.Gathering.{zeros_calls}
+use Rattle.dtx_laws.proofs.laws.gathering.from_zeros.Goals as goal
+
+pub returns : goal.returns
+returns c = zeros_calls

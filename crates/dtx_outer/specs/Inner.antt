@@ -1,0 +1,70 @@
+-- The way back, block by block of a run.
+use Rattle.std.specs.Prelude.{ℕ, ◌≡◌, ◌+◌, ◌-◌, ◌*◌, ◌/◌, ◌%◌, ◌<◌, List, map, length, take, drop, slice_index}
+use Rattle.std.specs.List.{range_with_len}
+use Rattle.dtx_laws.specs.Branches.{Branching, HasWidths, gathering, leaving_all, after_all}
+use Rattle.dtx_laws.specs.Codeword.{IsCorrection}
+use Rattle.dtx_laws.specs.Correction.{IsCorrected}
+use Rattle.dtx_laws.specs.Whitening.{whitened}
+use Rattle.dtx_outer.specs.declared.inner.Taken.{Taken}
+use Rattle.dtx_outer.specs.declared.inner.Taken.TheVariants.{None, Good, Bad}
+
+-- the least number of blocks of n bytes that cover the delay of b * m * (b - 1) bytes: so many blocks of a run give no packet
+unfoldable pub waiting : ℕ → ℕ → ℕ → ℕ
+waiting n b m = (b * m * (b - 1) + n - 1) / n
+
+-- how many bytes of a block complete the word that has begun in the block before it
+unfoldable pub completing : ℕ → ℕ → ℕ → ℕ
+completing n b m = b * m * (b - 1) - n * (waiting n b m - 1)
+
+-- where byte p of the codewords stands among the bytes of a run
+abbrev pub place_of : ℕ → ℕ → ℕ → ℕ
+place_of b m p = p + b * m * (p % b)
+
+-- word k of the bytes y of a run
+unfoldable pub word_at : ℕ → ℕ → ℕ → List ℕ → ℕ → List ℕ
+word_at n b m y k = map (λ p. slice_index y (place_of b m p)) (range_with_len (n * k) n)
+
+-- all bytes of word k are among the first `given` bytes of a run
+abbrev pub IsComplete : (n b m given k : ℕ) → Type 0
+IsComplete n b m given k = (j : ℕ) → j < n → place_of b m (n * k + j) < given
+
+-- what is kept between calls: the whitener's bytes and the gatherer's branches, the last block that was gathered, how many
+-- blocks more give no packet, and which packet of the whitener's period comes next
+pub record Kept : Type 0 where
+  pub white : List ℕ
+  pub branches : Branching
+  pub before : List ℕ
+  pub waits : ℕ
+  pub place : ℕ
+
+-- What is kept is that of a run that has given the bytes y, in blocks of n. It began at an align, at which the branches held
+-- any bytes, and before the first block any block may be kept.
+pub record StandsFor (n k b m : ℕ) (inner : Kept) (y : List ℕ) : Type 0 where
+  pub start : Branching
+  pub widths : HasWidths b (gathering b m) start
+  pub aligned : start.next ≡ 0
+  pub blocks : ℕ
+  pub given : length y ≡ n * blocks
+  pub branches : inner.branches ≡ after_all b start y
+  pub before : 0 < blocks → inner.before ≡ drop (n * (blocks - 1)) (leaving_all b start y)
+  pub waits : inner.waits ≡ waiting n b m - blocks
+  pub place : inner.place ≡ (blocks - waiting n b m) % (length inner.white / k)
+
+-- out are the data of a word that has a correction, which changes this many places: the first k bytes of the correction,
+-- unwhitened from a place on
+pub record IsGood (n k : ℕ) (white : List ℕ) (from : ℕ) (word out : List ℕ) (fixed : ℕ) : Type 0 where
+  pub code : List ℕ
+  pub corrected : IsCorrected n k word code fixed
+  pub bytes : out ≡ whitened white from (take k code)
+
+-- out are the data of a word that has no correction: the first k bytes of the word as it was gathered, unwhitened from a
+-- place on
+pub record IsBad (n k : ℕ) (white : List ℕ) (from : ℕ) (word out : List ℕ) : Type 0 where
+  pub none : (code : List ℕ) → IsCorrection n k word code → ⊥
+  pub bytes : out ≡ whitened white from (take k word)
+
+-- what a word gives
+abbrev pub Gives : (n k : ℕ) (white : List ℕ) (from : ℕ) (word out : List ℕ) → Taken → Type 0
+Gives n k white from word out None = ⊥
+Gives n k white from word out (Good fixed) = IsGood n k white from word out fixed
+Gives n k white from word out Bad = IsBad n k white from word out

@@ -1,0 +1,225 @@
+//! Gathers, corrects and unwhitens.
+
+ghost use Rattle.std.specs.Prelude.{◌≡◌, ℕ, ◌+◌, ◌-◌, ◌*◌, ◌/◌, ◌%◌, ◌<◌, ◌≤◌, ◌==◌, if◌then◌else◌, ◌++◌, List, [], length, take, drop};
+ghost use Rattle.dtx_galois.specs.Field.{AreBytes};
+ghost use Rattle.dtx_laws.specs.Branches.{IsInterleaver, HasWidths, gathering, leaving_all, after_all};
+ghost use Rattle.dtx_laws.specs.Codeword.{IsCode};
+ghost use Rattle.dtx_outer.specs.Outer.{IsPeriod};
+ghost use Rattle.dtx_outer.specs.Inner.{Kept, StandsFor, Gives, waiting, completing, word_at};
+
+use crate::whitening::whiten;
+use dtx_laws::{Correct, Gather, TooMany, Whitener};
+use std::marker::Model;
+
+/// What a block of a run gave.
+#[derive(Clone, Copy, Debug, PartialEq, Eq)]
+pub enum Taken {
+    /// No packet: the gatherer has not filled yet.
+    None,
+    /// A packet's data, with this many wrong bytes of its word put right.
+    Good {
+        /// How many bytes of the word differed from the codeword.
+        fixed: u8,
+    },
+    /// A packet's data as they were gathered: no codeword is near enough to the word.
+    Bad,
+}
+
+/// The way back through the outer coding of packets with `K` bytes of data (ATSC A/53 Part 2, data randomizer, Reed-Solomon
+/// encoder and interleaving), run by run: a run's first byte is one that came to branch 0 of the interleaver, and the first of
+/// a packet whose place in the whitener's period is 0. `StandsFor inner y` says that the run has given the bytes `y` so far.
+#[derive(Drop)]
+pub struct Inner<
+    W: Whitener,
+    C: Correct<N, K>,
+    G: Gather<B, M>,
+    const N: usize,
+    const K: usize,
+    const B: usize,
+    const M: usize,
+> {
+    whitener: W,
+    code: C,
+    gather: G,
+    before: [u8; N],
+    waits: usize,
+    place: usize,
+}
+
+impl<
+    W: Whitener,
+    C: Correct<N, K>,
+    G: Gather<B, M>,
+    const N: usize,
+    const K: usize,
+    const B: usize,
+    const M: usize,
+> Model for Inner<W, C, G, N, K, B, M> {
+    ghost use Rattle.std.specs.Prelude.{◌/◌, ◌<◌};
+    ghost use Rattle.dtx_outer.specs.Outer.{IsPeriod};
+    ghost use Rattle.dtx_outer.specs.Inner.{Kept};
+
+    ghost Value = { Kept };
+
+    ghost view = { λ inner. record { white = W.bytes inner.whitener; branches = G.seen inner.gather; before = inner.before; waits = inner.waits; place = inner.place } };
+
+    ghost invariant = { λ inner. IsPeriod N K B W.PERIOD × (inner.place < W.PERIOD / K) };
+}
+
+impl<
+    W: Whitener,
+    C: Correct<N, K>,
+    G: Gather<B, M>,
+    const N: usize,
+    const K: usize,
+    const B: usize,
+    const M: usize,
+> Inner<W, C, G, N, K, B, M> {
+    /// The way back by these three, at the start of a run. The whitener's period is a whole number of packets, whose codewords
+    /// are a whole number of turns over the branches.
+    pub fn new(whitener: W, code: C, gather: G) -> Self
+        requires { IsPeriod N K B W.PERIOD }
+        ensures white { result.white ≡ W.bytes whitener }
+        ensures stands { StandsFor N K B M result [] }
+    {
+        code.known();
+        let mut inner = Inner {
+            whitener,
+            code,
+            gather,
+            before: [0; N],
+            waits: 0,
+            place: 0,
+        };
+        inner.start();
+        inner
+    }
+
+    /// The next bytes are the first of a run.
+    pub fn start(&mut self)
+        ensures white { self.new.white ≡ self.old.white }
+        ensures stands { StandsFor N K B M self.new [] }
+    {
+        self.known();
+        self.gather.align();
+        self.waits = waited::<N, B, M>();
+        self.place = 0;
+    }
+
+    /// The numbers are those of a code, of an interleaver and of a whole period, each branch holds as many bytes as it delays
+    /// by, and the whitener has a byte for each place of its period.
+    pub fn known(&self)
+        ensures period { IsPeriod N K B W.PERIOD }
+        ensures code { IsCode N K }
+        ensures numbers { IsInterleaver B M }
+        ensures widths { HasWidths B (gathering B M) self.now.branches }
+        ensures long { length self.now.white ≡ W.PERIOD }
+        ensures are_bytes { AreBytes self.now.white }
+    {
+        self.code.known();
+        self.gather.known();
+    }
+
+    /// The next block of a run. The first `waiting N B M` blocks of a run give no packet, and `out` stays. The block after `k`
+    /// more gives packet `k` of the run: the first `K` bytes of its word's correction, or of the word as it was gathered where
+    /// it has none, unwhitened as packet `k` of a stream.
+    ///
+    /// No call takes memory, and a run may have any number of blocks.
+    pub fn take(&mut self, bytes: &[u8; N], out: &mut [u8; K]) -> Taken
+        ensures none { (y : List ℕ) → StandsFor N K B M self.old y → length y < N * waiting N B M → (result ≡ Taken.None) × (out.new ≡ out.old) }
+        ensures packet { (y : List ℕ) (k : ℕ) → StandsFor N K B M self.old y → length y ≡ N * (waiting N B M + k) → Gives N K self.old.white (K * (k % (length self.old.white / K))) (word_at N B M (y ++ bytes.now) k) out.new result }
+        ensures stands { (y : List ℕ) → StandsFor N K B M self.old y → StandsFor N K B M self.new (y ++ bytes.now) }
+        ensures white { self.new.white ≡ self.old.white }
+    {
+        self.known();
+        let mut word = [0; N];
+        self.next_word(bytes, &mut word);
+        if self.waits > 0 {
+            self.waits -= 1;
+            return Taken::None;
+        }
+        let place = self.place;
+        self.place = following(place, W::PERIOD / K);
+        give(&self.code, &self.whitener, K * place, &mut word, out)
+    }
+
+    /// Gathers a block. The word is the end of the block before it and the begin of this one, so that its first byte is the one
+    /// that leaves `B * M * (B - 1)` bytes after a block of the run began.
+    fn next_word(&mut self, bytes: &[u8; N], word: &mut [u8; N])
+        requires code { IsCode N K }
+        requires numbers { IsInterleaver B M }
+        ensures word { word.new ≡ drop (completing N B M) self.old.before ++ take (completing N B M) (leaving_all B self.old.branches bytes.now) }
+        ensures kept { self.new ≡ record self.old { branches = after_all B self.old.branches bytes.now; before = leaving_all B self.old.branches bytes.now } }
+    {
+        let mut now = *bytes;
+        self.gather.gather(&mut now);
+        window(&self.before, &now, completed::<N, B, M>(), word);
+        self.before = now;
+    }
+}
+
+/// The data of a word, unwhitened from a place on.
+fn give<W: Whitener, C: Correct<N, K>, const N: usize, const K: usize>(
+    code: &C,
+    whitener: &W,
+    from: usize,
+    word: &mut [u8; N],
+    out: &mut [u8; K],
+) -> Taken
+    requires within { from + K ≤ W.PERIOD }
+    ensures { Gives N K (W.bytes whitener.now) from word.old out.new result }
+{
+    code.known();
+    let corrected = code.correct(word);
+    out.copy_from_slice(&word[..K]);
+    *out = whiten(whitener, from, out);
+    match corrected {
+        Ok(fixed) => Taken::Good { fixed },
+        Err(TooMany) => Taken::Bad,
+    }
+}
+
+/// How many blocks of a run give no packet.
+fn waited<const N: usize, const B: usize, const M: usize>() -> usize
+    requires some { 1 ≤ N }
+    requires few { N ≤ 255 }
+    requires numbers { IsInterleaver B M }
+    ensures { result ≡ waiting N B M }
+{
+    (B * M * (B - 1) + N - 1) / N
+}
+
+/// How many bytes of a block complete the word that has begun in the block before it.
+fn completed<const N: usize, const B: usize, const M: usize>() -> usize
+    requires some { 1 ≤ N }
+    requires few { N ≤ 255 }
+    requires numbers { IsInterleaver B M }
+    ensures at { result ≡ completing N B M }
+    ensures within { result ≤ N }
+{
+    B * M * (B - 1) - N * (waited::<N, B, M>() - 1)
+}
+
+/// The end of one block and the begin of the next.
+fn window(before: &[u8], now: &[u8], skip: usize, word: &mut [u8])
+    requires before { length before.now ≡ length word.old }
+    requires now { length now.now ≡ length word.old }
+    requires skip { skip ≤ length word.old }
+    ensures { word.new ≡ drop skip before.now ++ take skip now.now }
+{
+    let rest = before.len() - skip;
+    word[..rest].copy_from_slice(&before[skip..]);
+    word[rest..].copy_from_slice(&now[..skip]);
+}
+
+/// The place after this one, of so many in a turn.
+fn following(place: usize, count: usize) -> usize
+    requires { place < count }
+    ensures next { result ≡ (if place + 1 == count then 0 else place + 1) }
+    ensures within { result < count }
+{
+    if place + 1 == count {
+        return 0;
+    }
+    place + 1
+}

@@ -1,8 +1,0 @@
-use Rattle.std.proofs.Common.{◌+◌, ◌*◌, ◌-◌, arith}
-use Rattle.dtx_spread.specs.declared.branches.TheConstants.{ROOM}
-use Rattle.dtx_spread.proofs.Lying.{lying_of_zeros}
-use Rattle.dtx_spread.proofs.branches.Branches.new.Goals as goal
-
-pub returns : goal.returns
-returns g c =
-    lying_of_zeros g.row.B g.row.M (g.row.B * g.row.M * (g.row.B - 1) + ROOM) c.in_ok-vec.field-0.items (omega (arith, c.requires.some)) (omega arith) (c.in_ok-vec.ensures.items_if_clones_equal (λ y e. e))

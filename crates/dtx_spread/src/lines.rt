@@ -1,0 +1,92 @@
+//! Branches that lie in one block, in the order in which their bytes leave. Both ways share them, over the branches' widths.
+
+ghost use Rattle.std.specs.Prelude.{◌≡◌, ◌≤◌, length, IfOk};
+ghost use Rattle.dtx_laws.specs.Branches.{IsInterleaver, HasWidths, zeroed, aligned, leaving_all, after_all};
+
+use crate::block::{make_room, through, turn_back};
+use crate::widths::Widths;
+use std::alloc::{AllocError, Global};
+use std::marker::{Model, PhantomData};
+
+/// How many bytes a block takes before those that it holds move to its front.
+const ROOM: usize = 32_768;
+
+/// `B` branches, of which each holds as many bytes as `W` says.
+///
+/// A byte is put `B` places behind the place from which the next byte leaves for each byte that its branch holds.
+#[derive(Drop)]
+pub(crate) struct Lines<W: Widths<B, M>, const B: usize, const M: usize> {
+    widths: PhantomData<W>,
+    next: usize,
+    place: usize,
+    block: Vec<u8>,
+}
+
+impl<W: Widths<B, M>, const B: usize, const M: usize> Model for Lines<W, B, M> {
+    ghost use Rattle.dtx_laws.specs.Branches.{Branching};
+    ghost use Rattle.dtx_spread.specs.Laid.{lying, IsBlock};
+    ghost use Rattle.dtx_spread.specs.declared.lines.TheConstants.{ROOM};
+
+    ghost Value = { Branching };
+
+    ghost view = { λ s. lying B W.widths s.place s.next s.block.items };
+
+    ghost invariant = { λ s. IsBlock B M ROOM s.next s.place s.block.items };
+}
+
+impl<W: Widths<B, M>, const B: usize, const M: usize> Lines<W, B, M> {
+    /// Aligned, with zeros in every branch.
+    pub(crate) fn new(alloc: Global) -> Result<Self, AllocError>
+        requires { IsInterleaver B M }
+        ensures { IfOk result (λ lines. lines ≡ zeroed B W.widths) }
+    {
+        Ok(Lines {
+            widths: PhantomData,
+            next: 0,
+            place: 0,
+            block: vec![in alloc; 0u8; B * M * (B - 1) + ROOM]?,
+        })
+    }
+
+    /// `B` and `M` are the numbers of an interleaver, the next branch is below `B`, and each branch holds as many bytes as its
+    /// width.
+    pub(crate) fn known(&self)
+        ensures numbers { IsInterleaver B M }
+        ensures widths { HasWidths B W.widths self.now }
+    {
+        // A field that is read tells what each value keeps.
+        let _next = &self.next;
+    }
+
+    /// Replaces each byte by the one that leaves as it comes.
+    pub(crate) fn pass(&mut self, bytes: &mut [u8])
+        ensures bytes { bytes.new ≡ leaving_all B self.old bytes.old }
+        ensures branches { self.new ≡ after_all B self.old bytes.old }
+    {
+        let mut done = 0;
+        while done < bytes.len() {
+            let count = (bytes.len() - done).min(ROOM);
+            self.pass_some(&mut bytes[done..done + count]);
+            done += count;
+        }
+    }
+
+    /// The next byte goes to branch 0. The branches keep what they hold.
+    pub(crate) fn align(&mut self)
+        ensures { self.new ≡ aligned self.old }
+    {
+        turn_back::<B, M>(&mut self.block, self.place, self.next);
+        self.next = 0;
+    }
+
+    /// Passes no more bytes than the room.
+    fn pass_some(&mut self, bytes: &mut [u8])
+        requires { length bytes.old ≤ ROOM }
+        ensures bytes { bytes.new ≡ leaving_all B self.old bytes.old }
+        ensures branches { self.new ≡ after_all B self.old bytes.old }
+    {
+        self.place = make_room(&mut self.block, self.place, B * M * (B - 1), bytes.len());
+        self.next = through::<W, B, M>(&mut self.block, self.place, self.next, bytes);
+        self.place += bytes.len();
+    }
+}

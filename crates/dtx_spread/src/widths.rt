@@ -1,0 +1,47 @@
+//! How many bytes the branches hold, on each of the two ways.
+
+ghost use Rattle.std.specs.Prelude.{◌≡◌, ℕ, ◌<◌};
+ghost use Rattle.dtx_laws.specs.Branches.{IsInterleaver, spreading, gathering};
+ghost use Rattle.dtx_spread.specs.Laid.{AreWidths};
+ghost use Rattle.dtx_spread.specs.Longest.{spreading_widths, gathering_widths};
+
+/// The widths of `B` branches.
+pub(crate) trait Widths<const B: usize, const M: usize> {
+    /// How many bytes branch i holds.
+    ghost widths: { ℕ → ℕ };
+
+    /// How many bytes a branch holds.
+    fn width(branch: usize) -> usize
+        requires numbers { IsInterleaver B M }
+        requires below { branch < B }
+        ensures { result ≡ widths branch };
+
+    /// No branch holds more than the longest one of an interleaver.
+    ghost are: { AreWidths B M widths };
+}
+
+/// The way out: each branch holds `M` bytes more than the one before it.
+pub(crate) struct Spreading;
+
+impl<const B: usize, const M: usize> Widths<B, M> for Spreading {
+    ghost widths = { spreading M };
+
+    fn width(branch: usize) -> usize {
+        M * branch
+    }
+
+    ghost are = { spreading_widths B M };
+}
+
+/// The way back: each branch holds `M` bytes less than the one before it.
+pub(crate) struct Gathering;
+
+impl<const B: usize, const M: usize> Widths<B, M> for Gathering {
+    ghost widths = { gathering B M };
+
+    fn width(branch: usize) -> usize {
+        M * (B - 1 - branch)
+    }
+
+    ghost are = { gathering_widths B M };
+}
