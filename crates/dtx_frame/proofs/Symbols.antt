@@ -1,16 +1,8 @@
 -- The tables are the definition's symbols.
-use Rattle.std.proofs.Common.{◌≡◌, ℕ, zero, suc, ◌<◌, ℤ, pos, ◌*ℤ◌, ◌-ℤ◌, Bool, true, false, [], ◌∷◌, take, length, get_or, refl, sym, ap, ◌∙◌, arith, to_z, of_z, w8}
+use Rattle.std.proofs.Common.{◌≡◌, ℕ, zero, suc, ◌<◌, ℤ, pos, ◌*ℤ◌, ◌-ℤ◌, Bool, true, false, length, refl, sym, ap, ◌∙◌, arith, to_z, of_z, w8}
 use Rattle.dtx_frame.specs.declared.tables.TheConstants.{FIRST, IN_FRONT, SECOND}
 use Rattle.dtx_frame.specs.Sequences.{extended, pn511, pn63}
 use Rattle.dtx_frame.specs.Segments.{bit_symbol, segment_sync, symbol_of, sync_symbols}
-
-front_511 : take 24 pn511 ≡ 0 ∷ 0 ∷ 0 ∷ 0 ∷ 0 ∷ 0 ∷ 0 ∷ 1 ∷ 0 ∷ 1 ∷ 1 ∷ 1 ∷ 1 ∷ 1 ∷ 1 ∷ 1 ∷ 1 ∷ 1 ∷ 0 ∷ 0 ∷ 1 ∷ 0 ∷ 1 ∷ 0 ∷ []
-unfolding pn511 extended
-front_511 = refl
-
-front_63 : take 16 pn63 ≡ 1 ∷ 1 ∷ 1 ∷ 0 ∷ 0 ∷ 1 ∷ 0 ∷ 0 ∷ 1 ∷ 0 ∷ 1 ∷ 1 ∷ 0 ∷ 1 ∷ 1 ∷ 1 ∷ []
-unfolding pn63 extended
-front_63 = refl
 
 pub first_is : FIRST ≡ sync_symbols false
 unfolding sync_symbols segment_sync bit_symbol pn511 pn63 extended
@@ -20,17 +12,9 @@ pub second_is : SECOND ≡ sync_symbols true
 unfolding sync_symbols segment_sync bit_symbol pn511 pn63 extended
 second_is = refl
 
--- a symbol of the table in front of a segment
-abbrev pub front_symbol : ℕ → ℤ
-front_symbol i = to_z w8 (of_z w8 (get_or IN_FRONT i (pos 0)))
-
-pub front_symbol_is : (i : ℕ) → i < 4 → front_symbol i ≡ get_or segment_sync i (pos 0)
+pub in_front_is : IN_FRONT ≡ segment_sync
 unfolding segment_sync bit_symbol
-front_symbol_is zero l = refl
-front_symbol_is (suc zero) l = refl
-front_symbol_is (suc (suc zero)) l = refl
-front_symbol_is (suc (suc (suc zero))) l = refl
-front_symbol_is (suc (suc (suc (suc i)))) l = absurd (omega arith)
+in_front_is = refl
 
 pub length_sync : length segment_sync ≡ 4
 unfolding segment_sync

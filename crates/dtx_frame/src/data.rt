@@ -3,8 +3,8 @@
 ghost use Rattle.std.specs.Prelude.{◌≡◌, ◌<◌, EachIndex, slice_index};
 ghost use Rattle.dtx_frame.specs.Segments.{data_segment};
 
-use crate::sizes::{SEGMENT, SEGMENT_SYNC};
 use crate::tables::IN_FRONT;
+use dtx_slice::{SEGMENT, SEGMENT_SYNC};
 use dtx_trellis::SEGMENT_LEVELS;
 
 /// Writes the segment of these levels: its sync, and each level as twice the level less 7
@@ -13,9 +13,7 @@ pub fn data_segment(levels: &[u8; SEGMENT_LEVELS], out: &mut [i8; SEGMENT])
     requires { EachIndex levels.now (λ d. slice_index levels.now d < 8) }
     ensures { out.new ≡ data_segment levels.now }
 {
-    for i in 0..SEGMENT_SYNC {
-        out[i] = IN_FRONT[i];
-    }
+    out[..SEGMENT_SYNC].copy_from_slice(&IN_FRONT);
     for d in 0..SEGMENT_LEVELS {
         out[SEGMENT_SYNC + d] = 2 * levels[d] as i8 - 7;
     }

@@ -1,13 +1,15 @@
-//! Segments of symbols: data segments and field syncs.
+//! Segments of symbols: data segments and field syncs, and how a field sync is detected.
 #![tactic(auto)]
 
 mod data;
-mod sizes;
+mod detection;
+pub mod laws;
 mod sync;
 mod tables;
 
 pub use data::data_segment;
-pub use sizes::{LAST, SEGMENT, SEGMENT_SYNC};
+pub use detection::{is_second, looks};
+pub use dtx_slice::{LAST, SEGMENT, SEGMENT_SYNC};
 pub use sync::field_sync;
 
 #[cfg(test)]

@@ -3,8 +3,8 @@
 ghost use Rattle.std.specs.Prelude.{◌≡◌};
 ghost use Rattle.dtx_frame.specs.Segments.{field_sync};
 
-use crate::sizes::{LAST, SEGMENT};
 use crate::tables::{FIRST, FRONT, SECOND};
+use dtx_slice::{LAST, SEGMENT};
 
 /// Writes the sync of a first or a second field. `last` are the last twelve symbols of the segment
 /// before (ATSC A/53 Part 2, data field sync; the mode bits and the reserved symbols are the
@@ -14,10 +14,6 @@ pub fn field_sync(second: bool, last: &[i8; LAST], out: &mut [i8; SEGMENT])
     ensures { out.new ≡ field_sync second last.now }
 {
     let front = if second { &SECOND } else { &FIRST };
-    for i in 0..FRONT {
-        out[i] = front[i];
-    }
-    for q in 0..LAST {
-        out[FRONT + q] = last[q];
-    }
+    out[..FRONT].copy_from_slice(front);
+    out[FRONT..].copy_from_slice(last);
 }

@@ -1,6 +1,8 @@
-//! The first symbols of the standard's sequences, and a segment of every level.
+//! The first symbols of the standard's sequences, a segment of every level, and syncs with wrong symbols.
 
-use crate::{LAST, SEGMENT, data_segment, field_sync};
+ghost use Rattle.std.specs.Prelude.{◌+◌, ◌≤◌};
+
+use crate::{LAST, SEGMENT, data_segment, field_sync, is_second, looks};
 use dtx_trellis::SEGMENT_LEVELS;
 
 /// Whether the symbols from place `at` on are these bits.
@@ -41,4 +43,37 @@ fn each_level_has_its_symbol(rt: HostRuntime) {
         assert_eq!(rt; out[..4], [5, -5, -5, 5][..]);
         assert_eq!(rt; (out[4], out[831]), (symbols[level], symbols[level]));
     }
+}
+
+/// The sync of a first field, whose first symbols from place `from` on have the wrong sign, `count` of them.
+fn with_wrong(from: usize, count: usize) -> [i8; SEGMENT]
+    requires { from + count ≤ SEGMENT }
+{
+    let mut out = [0; SEGMENT];
+    field_sync(false, &[-7; LAST], &mut out);
+    for i in 0..count {
+        out[from + i] = if out[from + i] < 0 { 127 } else { -128 };
+    }
+    out
+}
+
+#[test]
+fn a_sync_with_32_wrong_symbols_looks_like_one_and_with_33_it_does_not(rt: HostRuntime) {
+    assert!(rt; looks(&with_wrong(483, 32)));
+    assert!(rt; !looks(&with_wrong(482, 33)));
+    assert!(rt; looks(&with_wrong(515, 300)));
+}
+
+#[test]
+fn the_four_symbols_of_the_segment_sync_count_too(rt: HostRuntime) {
+    assert!(rt; looks(&with_wrong(0, 32)));
+    assert!(rt; !looks(&with_wrong(0, 33)));
+}
+
+#[test]
+fn a_sync_is_of_a_second_field_from_32_inverted_symbols_on(rt: HostRuntime) {
+    assert!(rt; !is_second(&with_wrong(578, 31)));
+    assert!(rt; is_second(&with_wrong(578, 32)));
+    assert!(rt; is_second(&with_wrong(609, 32)));
+    assert!(rt; !is_second(&with_wrong(610, 222)));
 }

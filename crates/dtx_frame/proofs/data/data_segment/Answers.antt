@@ -1,20 +1,20 @@
-use Rattle.std.proofs.Common.{◌≡◌, ℕ, ◌+◌, ◌<◌, pos, map, get_or, set, sym, ◌∙◌, arith, below_more}
-use Rattle.std.proofs.lemmas.List.{get_or-set_same, get_or-set_other, length-set, get_or-map, length-map}
+use Rattle.std.proofs.Common.{◌≡◌, ℕ, ◌+◌, ◌<◌, ℤ, pos, List, map, drop, length, length-drop, length-append, get_or, set, sym, ap, ◌∙◌, arith, below_more}
+use Rattle.std.proofs.lemmas.List.{get_or-set_same, get_or-set_other, length-set, get_or-map, length-map, get_or_append_left}
 use Rattle.dtx_lists.proofs.Parts.{append_from_parts}
 use Rattle.dtx_frame.specs.Segments.{data_segment, segment_sync, symbol_of}
-use Rattle.dtx_frame.proofs.Symbols.{front_symbol, front_symbol_is, level_symbol, level_symbol_is, length_sync}
+use Rattle.dtx_frame.proofs.Symbols.{in_front_is, level_symbol, level_symbol_is, length_sync}
 use Rattle.dtx_frame.proofs.data.data_segment.Goals as goal
 
-pub loop-i-preserved : goal.loop-i-preserved
-loop-i-preserved c =
-    let i : ℕ = c.loop-i.i in
-    let inv = c.loop-i.invariant in
-    let l : c.loop-i.i < 4 = c.loop-i-test.true in
+pub loop-d-init : goal.loop-d-init
+loop-d-init c =
+    let rest : List ℤ = drop 4 c.args.out.now in
+    let now = c.copy_from_slice.new.self in
+    let is : c.copy_from_slice.new.self ≡ segment_sync = c.copy_from_slice.ensures.after ∙ in_front_is in
+    let four : length c.copy_from_slice.new.self ≡ 4 = ap length is ∙ length_sync in
     record {
-      long = length-set c.loop-i.out i (front_symbol i) ∙ inv.long;
-      front = below_more (λ k. get_or (set c.loop-i.out i (front_symbol i)) k (pos 0) ≡ get_or segment_sync k (pos 0)) i
-          (λ k m. get_or-set_other c.loop-i.out i k (front_symbol i) (pos 0) (omega arith) ∙ inv.front k m)
-          (get_or-set_same c.loop-i.out i (front_symbol i) (pos 0) (omega (arith, inv.long)) ∙ front_symbol_is i l);
+      long = length-append now rest ∙ omega (arith, four, length-drop 4 c.args.out.now, c.told-out);
+      front = λ k l. get_or_append_left now rest (pos 0) k (omega (arith, four)) ∙ ap (λ (xs : List ℤ). get_or xs k (pos 0)) is;
+      values = λ k l. absurd (omega arith);
     }
 
 pub loop-d-preserved : goal.loop-d-preserved

@@ -2,12 +2,6 @@ use Rattle.std.proofs.Common.{◌≡◌, ℕ, ◌+◌, ◌<◌, pos, get_or, len
 use Rattle.dtx_frame.specs.Segments.{segment_sync, symbol_of}
 use Rattle.dtx_frame.proofs.data.data_segment.Given as goal
 
-abbrev pub invariant-loop-i : goal.invariant-loop-i
-invariant-loop-i l = record {
-  long : length l.out ≡ 832;
-  front : (k : ℕ) → k < l.i → get_or l.out k (pos 0) ≡ get_or segment_sync k (pos 0);
-}
-
 abbrev pub invariant-loop-d : goal.invariant-loop-d
 invariant-loop-d l = record {
   long : length l.out ≡ 832;

@@ -1,0 +1,8 @@
+use Rattle.dtx_slice.proofs.Inverse.{bytes_come_back, formers_go_on}
+use Rattle.dtx_slice.proofs.laws.inverts.Goals as goal
+
+pub returns-clause-bytes : goal.returns-clause-bytes
+returns-clause-bytes c = bytes_come_back
+
+pub returns-clause-formers : goal.returns-clause-formers
+returns-clause-formers c = λ s u states bytes h. formers_go_on s states bytes

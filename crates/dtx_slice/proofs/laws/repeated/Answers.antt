@@ -1,0 +1,5 @@
+use Rattle.dtx_slice.proofs.Joins.{formers_repeated}
+use Rattle.dtx_slice.proofs.laws.repeated.Goals as goal
+
+pub returns : goal.returns
+returns c = formers_repeated

@@ -1,0 +1,5 @@
+use Rattle.dtx_slice.proofs.Stores.{last_loaded}
+use Rattle.dtx_slice.proofs.walk.load_last.Goals as goal
+
+pub returns-clause-levels : goal.returns-clause-levels
+returns-clause-levels c = λ p l. last_loaded p c.args.levels.now c.told-levels l

@@ -1,0 +1,17 @@
+-- The twelve coders side by side: in the four rounds of byte h of each coder, lane p is of the coder at place p of the first of them.
+use Rattle.std.specs.Prelude.{ℕ, ◌+◌, ◌-◌, ◌*◌, ◌/◌, ◌%◌, List, slice_index}
+use Rattle.dtx_slice.specs.Unrolled.{pair_from}
+
+-- where the lane's symbol of round i of the four stands: where a segment has ended among them, four places back
+unfoldable pub lane_place : ℕ → ℕ → ℕ → ℕ
+lane_place h i p = 12 * (4 * h + i) + (p + 12 - 4 * ((4 * h + i) / 69 - 4 * h / 69)) % 12
+
+-- its level
+abbrev pub lane_level : List ℕ → ℕ → ℕ → ℕ → ℕ
+lane_level levels h i p = slice_index levels (lane_place h i p)
+
+-- the lane's byte, from Z2 before the four rounds
+unfoldable pub lane_byte : ℕ → List ℕ → ℕ → ℕ → ℕ
+lane_byte before levels h p =
+    64 * pair_from before (lane_level levels h 0 p) + 16 * pair_from (lane_level levels h 0 p / 4) (lane_level levels h 1 p)
+    + 4 * pair_from (lane_level levels h 1 p / 4) (lane_level levels h 2 p) + pair_from (lane_level levels h 2 p / 4) (lane_level levels h 3 p)

@@ -1,0 +1,15 @@
+//! Symbols back to levels, and the levels of the twelve trellis coders back to bytes.
+#![tactic(auto)]
+
+pub mod laws;
+mod sizes;
+mod slicing;
+mod unroll;
+mod walk;
+
+pub use sizes::{LAST, SEGMENT, SEGMENT_SYNC};
+pub use slicing::{last_levels, level, levels, put_levels};
+pub use unroll::Unroll;
+
+#[cfg(test)]
+mod tests;

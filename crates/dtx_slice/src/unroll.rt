@@ -1,0 +1,77 @@
+//! From the levels of a group back to its bytes.
+
+ghost use Rattle.std.specs.Prelude.{◌≡◌, ◌%◌, ◌<◌, EachIndex, length, replicate, slice_index};
+ghost use Rattle.dtx_slice.specs.Unrolled.{bytes_back, formers_after, formers_of};
+
+use crate::sizes::LAST;
+use crate::walk::{last_formers, walk};
+use dtx_trellis::{CODERS, FIELD, GROUP_BYTES, GROUP_LEVELS};
+use std::marker::Model;
+
+/// The former Z2 of the twelve trellis coders: of each the higher bit of its last symbol (ATSC A/53 Part 2, trellis coding).
+#[derive(Drop)]
+pub struct Unroll {
+    formers: [u8; CODERS],
+}
+
+impl Model for Unroll {
+    ghost use Rattle.std.specs.Prelude.{ℕ, ◌<◌, List, EachIndex, slice_index};
+
+    ghost Value = { List ℕ };
+
+    ghost view = { λ u. u.formers };
+
+    ghost invariant = { λ u. EachIndex u.formers (λ e. slice_index u.formers e < 2) };
+}
+
+impl Unroll {
+    /// Each coder's former Z2 is 0.
+    pub fn new() -> Unroll
+        ensures { result ≡ replicate CODERS 0 }
+    {
+        Unroll {
+            formers: [0; CODERS],
+        }
+    }
+
+    /// Takes each coder's former Z2 from the levels of the last twelve symbols of a field sync.
+    pub fn start(&mut self, last: &[u8; LAST])
+        requires { EachIndex last.now (λ q. slice_index last.now q < 8) }
+        ensures formers { self.new ≡ formers_of last.now }
+        ensures long { length self.new ≡ CODERS }
+        ensures small { EachIndex self.new (λ e. slice_index self.new e < 2) }
+    {
+        let formers = repeated(last);
+        self.formers = formers;
+    }
+
+    /// The bytes of the group whose first segment is at place `first` of its field, from its levels. The next group goes on
+    /// from the former Z2 that this one leaves.
+    pub fn group(&mut self, first: u16, levels: &[u8; GROUP_LEVELS], bytes: &mut [u8; GROUP_BYTES])
+        requires in_field { first < FIELD }
+        requires whole { first % 4 ≡ 0 }
+        requires small { EachIndex levels.now (λ d. slice_index levels.now d < 8) }
+        ensures bytes { bytes.new ≡ bytes_back first self.old levels.now }
+        ensures formers { self.new ≡ formers_after first self.old levels.now }
+        ensures long { length self.new ≡ CODERS }
+        ensures small_formers { EachIndex self.new (λ e. slice_index self.new e < 2) }
+    {
+        let from = self.formers;
+        walk(&from, first as usize, levels, bytes);
+        let behind = last_formers(first as usize, levels);
+        self.formers = behind;
+    }
+}
+
+/// Z2 of each coder, from the levels of the last twelve symbols of a field sync.
+fn repeated(last: &[u8; LAST]) -> [u8; CODERS]
+    requires { EachIndex last.now (λ q. slice_index last.now q < 8) }
+    ensures formers { result ≡ formers_of last.now }
+    ensures small { EachIndex result (λ e. slice_index result e < 2) }
+{
+    let mut formers = [0; CODERS];
+    for e in 0..CODERS {
+        formers[e] = last[(e + 4) % CODERS] / 4;
+    }
+    formers
+}
