@@ -5,6 +5,7 @@
 mod coding;
 mod correcting;
 mod groups;
+mod sending;
 mod spreading;
 mod times;
 mod whitening;
@@ -14,6 +15,7 @@ use coding::print_outer_times;
 use correcting::print_correct_times;
 use dtx_rs::Rs;
 use groups::print_trellis_times;
+use sending::print_group_times;
 use spreading::print_spread_times;
 use std::rt::Clock;
 use std::time::Instant;
@@ -41,8 +43,9 @@ fn main(rt: HostRuntime) -> io::Result<()> {
         Some(word) if word.as_str() == "spread" => print_spread_times(&rt, rt.alloc()),
         Some(word) if word.as_str() == "outer" => print_outer_times(&rt, rt.alloc()),
         Some(word) if word.as_str() == "trellis" => print_trellis_times(&rt),
+        Some(word) if word.as_str() == "group" => print_group_times(&rt, rt.alloc()),
         Some(_) => println!(rt;
-            "usage: dtx_bench [encode | correct | whiten | spread | outer | trellis]"
+            "usage: dtx_bench [encode | correct | whiten | spread | outer | trellis | group]"
         ),
     }
 }

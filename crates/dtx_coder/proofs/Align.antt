@@ -7,7 +7,7 @@ use Rattle.dtx_laws.proofs.Interleaving.{HasWidths-aligned, behind}
 use Rattle.dtx_coder.specs.Coded.{coded_from}
 use Rattle.dtx_coder.specs.Groups.{Coding, Group, aligned_coding, bytes_of, after_group, coded_groups, bytes_of_groups}
 
-in_turn : (coder : Coding) (groups : List Group) → bytes_of_groups coder groups ≡ leaving_all 52 coder.branches (coded_groups groups)
+pub in_turn : (coder : Coding) (groups : List Group) → bytes_of_groups coder groups ≡ leaving_all 52 coder.branches (coded_groups groups)
 unfolding bytes_of_groups bytes_of after_group leaving_all
 in_turn coder [] = refl
 in_turn coder (g ∷ gs) =

@@ -49,14 +49,14 @@ length-a53 packets = length-groups packets (length packets / 4)
 -- ---- symbols
 
 -- each of them has 832 symbols
-abbrev AreSegments : List (List ℤ) → Type 0
+abbrev pub AreSegments : List (List ℤ) → Type 0
 AreSegments ss = AllByRecursion (λ s. length s ≡ 832) ss
 
-segments_append : (xs ys : List (List ℤ)) → AreSegments xs → AreSegments ys → AreSegments (xs ++ ys)
+pub segments_append : (xs ys : List (List ℤ)) → AreSegments xs → AreSegments ys → AreSegments (xs ++ ys)
 segments_append [] ys h g = g
 segments_append (x ∷ xs) ys h g = (h.0, segments_append xs ys h.1 g)
 
-segments_map : (f : ℕ → List ℤ) (a n : ℕ) → ((v : ℕ) → a ≤ v → v < a + n → length (f v) ≡ 832) → AreSegments (map f (range_with_len a n))
+pub segments_map : (f : ℕ → List ℤ) (a n : ℕ) → ((v : ℕ) → a ≤ v → v < a + n → length (f v) ≡ 832) → AreSegments (map f (range_with_len a n))
 segments_map f a zero h = tt
 segments_map f a (suc n) h = (h a (omega arith) (omega arith), segments_map f (a + 1) n (λ v l m. h v (omega arith) (omega arith)))
 
@@ -101,7 +101,7 @@ segments_a53 : (packets : List (List ℕ)) → AreSegments (a53 packets)
 unfolding a53
 segments_a53 packets = segments_flat (group_segments packets) 0 (length packets / 4) (λ v a b. segments_group packets v (omega (arith, b)))
 
-segment_at : (ss : List (List ℤ)) (i : ℕ) → AreSegments ss → i < length ss → length (get_or ss i []) ≡ 832
+pub segment_at : (ss : List (List ℤ)) (i : ℕ) → AreSegments ss → i < length ss → length (get_or ss i []) ≡ 832
 segment_at [] i h l = absurd (omega arith)
 segment_at (s ∷ ss) zero h l = h.0
 segment_at (s ∷ ss) (suc i) h l = segment_at ss i h.1 (omega arith)

@@ -9,3 +9,7 @@ pub mod Align
 pub mod Packets
 pub mod Sent
 pub mod Counts
+pub mod Runs
+pub mod Settled
+pub mod Kept
+pub mod Along

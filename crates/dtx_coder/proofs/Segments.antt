@@ -36,6 +36,14 @@ unfolding four_segments
 four_back xs ys m e =
     map-range_moved (segment (xs ++ ys)) (segment ys) m 0 4 (λ i l. segment_back xs ys m i e ∙ ap (segment ys) (let z : i ≡ 0 + i = omega arith in z))
 
+pub four_behind : (xs ys : List ℕ) (m i : ℕ) → length xs ≡ 828 * m → four_segments (xs ++ ys) (m + i) ≡ four_segments ys i
+unfolding four_segments
+four_behind xs ys m i e =
+    map-range_moved (segment (xs ++ ys)) (segment ys) (m + i) i 4 (λ j l. ap (segment (xs ++ ys)) (assoc m i j) ∙ segment_back xs ys m (i + j) e)
+  where
+    assoc : (m i j : ℕ) → m + i + j ≡ m + (i + j)
+    assoc m i j = omega arith
+
 pub length-data_segment : (zs : List ℕ) → length (data_segment zs) ≡ 4 + length zs
 unfolding data_segment
 length-data_segment zs = length-append segment_sync (map symbol_of zs) ∙ ap₂ (λ (x y : ℕ). x + y) length_sync (length-map zs symbol_of)

@@ -1,3 +1,5 @@
 pub mod Coded
 pub mod Stream
 pub mod Groups
+pub mod Runs
+pub mod Along

@@ -1,16 +1,17 @@
 //! Codes one group after another.
 
-ghost use Rattle.std.specs.Prelude.{◌≡◌, ◌%◌, ◌<◌, IfOk, IsTrue, map};
+ghost use Rattle.std.specs.Prelude.{◌≡◌, ◌%◌, ◌<◌, EachIndex, IfOk, IsTrue, length, map, slice_index};
 ghost use Rattle.std.specs.Option.{unwrap_or};
 ghost use Rattle.dtx_laws.specs.Branches.{HasWidths, spreading};
 ghost use Rattle.dtx_coder.specs.Groups.{Group, IsCoded, new_coding, aligned_coding};
+ghost use Rattle.dtx_coder.specs.Runs.{AreStates};
 
 use crate::air::Air;
 use crate::outer_coding::{OuterCoding, code_packets, new_outer_coding};
 use crate::sizes::{BRANCH_STEP, BRANCHES, GROUP_PACKETS};
 use dtx_frame::LAST;
 use dtx_packets::Packet;
-use dtx_trellis::{FIELD, GROUP_BYTES, GROUP_LEVELS, States, Twelve};
+use dtx_trellis::{CODERS, FIELD, GROUP_BYTES, GROUP_LEVELS, States, Twelve};
 use std::alloc::{AllocError, Global};
 use std::marker::Model;
 
@@ -45,16 +46,23 @@ impl Coder {
         })
     }
 
-    /// Branch i of the interleaver's 52 always holds 4 * i bytes.
+    /// What every coder holds, whatever was done with it: branch i of the interleaver's 52 has 4 * i bytes, there are twelve
+    /// states, each below 8, and twelve last symbols.
     pub fn known(&self)
-        ensures { HasWidths BRANCHES (spreading BRANCH_STEP) self.now.branches }
+        ensures branches { HasWidths BRANCHES (spreading BRANCH_STEP) self.now.branches }
+        ensures states { AreStates self.now.states }
+        ensures last { length self.now.last ≡ LAST }
     {
         let _ = &self.outer;
+        let _ = self.twelve.states();
+        twelve_symbols(&self.last);
     }
 
     /// The states of trellis coders 0 to 11.
     pub fn states(&self) -> States
-        ensures { result ≡ self.now.states }
+        ensures states { result ≡ self.now.states }
+        ensures long { length result ≡ CODERS }
+        ensures small { EachIndex result (λ e. slice_index result e < 8) }
     {
         self.twelve.states()
     }
@@ -94,6 +102,11 @@ impl Coder {
         self.last = air.last();
     }
 }
+
+/// An array has its length.
+fn twelve_symbols(last: &[i8; LAST])
+    ensures { length last.now ≡ LAST }
+{}
 
 /// Puts the coders in the preset states, where there are some.
 fn start_from(twelve: &mut Twelve, preset: Option<States>)

@@ -1,16 +1,20 @@
 //! Laws of the definitions: a coder that is given a stream's groups one after another gives the segments of the stream.
 
-ghost use Rattle.std.specs.Prelude.{◌≡◌, ℕ, ◌+◌, ◌-◌, ◌*◌, ◌/◌, ◌%◌, ◌<◌, ◌≤◌, ◌++◌, [], List, EachIndex, length, take, drop, slice_index_or, slice_range};
+ghost use Rattle.std.specs.Prelude.{◌≡◌, ℕ, ◌+◌, ◌-◌, ◌*◌, ◌/◌, ◌%◌, ◌<◌, ◌≤◌, if◌then◌else◌, ◌++◌, [], List, EachIndex, length, take, drop, slice_index_or, slice_range};
 ghost use Rattle.std.specs.List.{range_with_len, flat_map};
 ghost use Rattle.dtx_laws.specs.Branches.{HasWidths, spreading};
-ghost use Rattle.dtx_laws.specs.Interleaving.{IsInterleavedBehind};
+ghost use Rattle.dtx_laws.specs.Interleaving.{IsInterleavedBehind, interleaved};
 ghost use Rattle.dtx_trellis.specs.Groups.{levels_of, states_after};
 ghost use Rattle.dtx_coder.specs.Coded.{whole_groups};
 ghost use Rattle.dtx_coder.specs.Stream.{levels, states, four_segments, group_segments, a53, a53_symbols};
 ghost use Rattle.dtx_coder.specs.Groups.{Coding, Group, StandsFor, IsNextGroup, new_coding, aligned_coding, after_group, segments_of, coded_groups, bytes_of_groups};
+ghost use Rattle.dtx_coder.specs.Runs.{AreStates};
 
-use crate::sizes::{BRANCH_STEP, BRANCHES, GROUP_PACKETS};
-use dtx_frame::SEGMENT;
+pub mod runs;
+
+use crate::air::MOST_SEGMENTS;
+use crate::sizes::{BRANCH_STEP, BRANCHES, CODEWORD, GROUP_PACKETS, SETTLED_PACKETS};
+use dtx_frame::{LAST, SEGMENT};
 use dtx_trellis::{FIELD, GROUP_BYTES};
 
 /// A new coder stands for no packets.
@@ -59,4 +63,29 @@ pub fn counts()
 pub fn behind_align()
     ensures { (coder : Coding) (groups : List Group) → HasWidths BRANCHES (spreading BRANCH_STEP) coder.branches
         → IsInterleavedBehind BRANCHES BRANCH_STEP coder.branches.lists (coded_groups groups) (bytes_of_groups (aligned_coding coder) groups) }
+{}
+
+/// Behind an align, whatever the coder held, the bytes that leave as packet 52 and each later one come are those of the packets
+/// given since, and no byte from before is among them: so it is of the 828 bytes of each group whose first packet is packet 52
+/// since or a later one.
+pub fn settled()
+    ensures bytes { (coder : Coding) (groups : List Group) (n : ℕ) → HasWidths BRANCHES (spreading BRANCH_STEP) coder.branches → CODEWORD * SETTLED_PACKETS ≤ n
+        → drop n (bytes_of_groups (aligned_coding coder) groups) ≡ drop n (interleaved BRANCHES BRANCH_STEP (coded_groups groups)) }
+    ensures group { (coder : Coding) (groups : List Group) (u : ℕ) → HasWidths BRANCHES (spreading BRANCH_STEP) coder.branches → SETTLED_PACKETS ≤ GROUP_PACKETS * u
+        → slice_range (bytes_of_groups (aligned_coding coder) groups) (GROUP_BYTES * u) (GROUP_BYTES * u + GROUP_BYTES)
+        ≡ slice_range (interleaved BRANCHES BRANCH_STEP (coded_groups groups)) (GROUP_BYTES * u) (GROUP_BYTES * u + GROUP_BYTES) }
+{}
+
+/// A group of four packets has five segments where a field sync stands before it, else four, of 832 symbols each.
+pub fn group_counts()
+    ensures segments { (coder : Coding) (group : Group) → length (segments_of coder group) ≡ (if group.sync then MOST_SEGMENTS else GROUP_PACKETS) }
+    ensures long { (coder : Coding) (group : Group) → length group.packets ≡ GROUP_PACKETS → length coder.last ≡ LAST
+        → EachIndex (segments_of coder group) (λ n. length (slice_index_or (segments_of coder group) n []) ≡ SEGMENT) }
+{}
+
+/// What stays of a coder's parts with each group of four packets: twelve states, twelve last symbols, branches of their widths.
+pub fn kept()
+    ensures states { (coder : Coding) (group : Group) → AreStates (after_group coder group).states }
+    ensures last { (coder : Coding) (group : Group) → length group.packets ≡ GROUP_PACKETS → length (after_group coder group).last ≡ LAST }
+    ensures branches { (coder : Coding) (group : Group) → HasWidths BRANCHES (spreading BRANCH_STEP) coder.branches → HasWidths BRANCHES (spreading BRANCH_STEP) (after_group coder group).branches }
 {}

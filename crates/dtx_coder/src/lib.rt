@@ -9,4 +9,4 @@ mod sizes;
 
 pub use air::{AIR_SYMBOLS, Air, MOST_SEGMENTS};
 pub use coder::Coder;
-pub use sizes::GROUP_PACKETS;
+pub use sizes::{GROUP_PACKETS, SETTLED_PACKETS};

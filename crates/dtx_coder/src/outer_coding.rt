@@ -63,3 +63,6 @@ fn code_packet(outer: &mut OuterCoding, place: usize, packet: &Packet, word: &mu
     head.copy_from_slice(&packet.0[1..]);
     outer.code(place, &head, word);
 }
+
+#[cfg(test)]
+mod tests;

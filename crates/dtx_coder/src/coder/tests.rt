@@ -19,6 +19,27 @@ fn digest(air: &Air) -> i64 {
         })
 }
 
+/// How many of the symbols are the lowest.
+fn lowest(air: &Air) -> u32 {
+    air.symbols.iter().fold(0u32, |count, &symbol| {
+        if symbol == -7 {
+            count.wrapping_add(1)
+        } else {
+            count
+        }
+    })
+}
+
+/// States that differ from each other as far as they can.
+fn mixed_states() -> States {
+    States([1, 2, 3, 4, 5, 6, 7, 0, 7, 5, 3, 1])
+}
+
+/// The highest states.
+fn highest_states() -> States {
+    States([7; 12])
+}
+
 /// Four packets, of which the first has the number `k`.
 fn packets(k: usize) -> [Packet; GROUP_PACKETS]
     requires { k < 100 }
@@ -52,10 +73,7 @@ fn zeros_give_a_field_sync_and_then_the_lowest_symbol(rt: HostRuntime) -> Result
     let mut air = Air::new();
     coder.group(0, false, &zeros, None, true, &mut air);
     assert_eq!(rt; air.segments, 5);
-    assert_eq!(rt;
-        air.symbols.iter().filter(|symbol| **symbol == -7).count(),
-        12 + 4 * 828
-    );
+    assert_eq!(rt; lowest(&air), 12 + 4 * 828);
     assert_eq!(rt; digest(&air), -4736745350597717142);
     Ok(())
 }
@@ -70,24 +88,16 @@ fn groups_are_those_of_an_independent_program(rt: HostRuntime) -> Result<(), Fai
     assert_eq!(rt; (air.segments, digest(&air)), (4, -8559873865951430036));
     coder.group(0, true, &packets(8), None, true, &mut air);
     assert_eq!(rt; (air.segments, digest(&air)), (5, 3748125840280834370));
-    let preset = States([1, 2, 3, 4, 5, 6, 7, 0, 7, 5, 3, 1]);
-    coder.group(4, true, &packets(12), Some(preset), false, &mut air);
+    let preset = Some(mixed_states());
+    coder.group(4, true, &packets(12), preset, false, &mut air);
     assert_eq!(rt; (air.segments, digest(&air)), (4, 2928617120466534032));
     coder.align();
     coder.group(8, true, &packets(16), None, false, &mut air);
     assert_eq!(rt; (air.segments, digest(&air)), (4, 9067681087772147592));
-    coder.group(
-        0,
-        false,
-        &packets(20),
-        Some(States([7; 12])),
-        true,
-        &mut air,
-    );
+    let preset = Some(highest_states());
+    coder.group(0, false, &packets(20), preset, true, &mut air);
     assert_eq!(rt; (air.segments, digest(&air)), (5, 2451126217495075316));
-    assert_eq!(rt;
-        coder.states(),
-        States([5, 3, 5, 3, 3, 6, 4, 2, 3, 7, 2, 5])
-    );
+    let states = coder.states();
+    assert_eq!(rt; states.0, [5, 3, 5, 3, 3, 6, 4, 2, 3, 7, 2, 5]);
     Ok(())
 }

@@ -1,0 +1,51 @@
+//! How long a group takes as a whole, from four packets to the symbols of their segments.
+
+use crate::times::{Work, print_least};
+use dtx_coder::{Air, Coder, GROUP_PACKETS};
+use dtx_frame::{LAST, SEGMENT};
+use dtx_packets::{PACKET, Packet};
+use dtx_trellis::FIELD;
+use std::alloc::Global;
+use std::io;
+use std::rt::Clock;
+
+/// How many groups a round codes: those of a field.
+const GROUPS: u16 = FIELD / 4;
+
+#[derive(Drop)]
+struct Sending {
+    coder: Coder,
+    air: Air,
+    packets: [Packet; GROUP_PACKETS],
+}
+
+impl Work for Sending {
+    fn round(&mut self) -> u8 {
+        for group in 0..GROUPS {
+            let first = 4 * group;
+            let sync = first == 0;
+            self.coder
+                .group(first, false, &self.packets, None, sync, &mut self.air);
+            for i in 0..LAST {
+                self.packets[0].0[1 + i] ^= self.air.symbols[GROUP_PACKETS * SEGMENT - LAST
+                    + i].cast_unsigned();
+            }
+        }
+        self.air.symbols[SEGMENT].cast_unsigned()
+    }
+}
+
+pub fn print_group_times(rt: &(impl Clock + Print), alloc: Global) -> io::Result<()> {
+    let mut packets = [Packet([0x47; PACKET]); GROUP_PACKETS];
+    for p in 0..GROUP_PACKETS {
+        for i in 1..PACKET {
+            packets[p].0[i] = ((i + 50 * p) % 251) as u8;
+        }
+    }
+    let mut work = Sending {
+        coder: Coder::new(alloc)?,
+        air: Air::new(),
+        packets,
+    };
+    print_least(rt, "group", "group", u32::from(GROUPS), &mut work)
+}
