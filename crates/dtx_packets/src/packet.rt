@@ -1,6 +1,6 @@
 // A transport packet of 188 bytes, and the fields of its header.
-ghost use Rattle.std.specs.Prelude.{◌≡◌, ◌↔◌, IsTrue};
-ghost use Rattle.dtx_packets.specs.Packet.{sync_of, pid_of, HasError, counter_of};
+ghost use Rattle.std.specs.Prelude.{◌≡◌, ◌↔◌, ◌+◌, ◌%◌, IsTrue};
+ghost use Rattle.dtx_packets.specs.Packet.{sync_of, pid_of, HasError, counter_of, with_error};
 
 /// How many bytes a packet has (ISO/IEC 13818-1, 2.4.3.2).
 pub const PACKET: usize = 188;
@@ -37,6 +37,20 @@ impl Packet {
     {
         self.0[3] & 0x0F
     }
+
+    /// Sets the transport error indicator, and changes nothing else.
+    pub fn flag_error(&mut self)
+        ensures { self.new.0 ≡ with_error self.old.0 }
+    {
+        self.0[1] = with_bit_7(self.0[1]);
+    }
+}
+
+/// The byte with its highest bit set.
+fn with_bit_7(byte: u8) -> u8
+    ensures { result ≡ 128 + byte % 128 }
+{
+    byte | 0x80
 }
 
 #[cfg(test)]
@@ -56,6 +70,19 @@ mod tests {
             assert_eq!(rt; packet.pid(), pid);
             assert_eq!(rt; packet.error(), error);
             assert_eq!(rt; packet.counter(), counter);
+        }
+    }
+
+    #[test]
+    fn the_error_indicator_is_set_whether_or_not_it_was(rt: HostRuntime) {
+        for (before, after) in [(0x40, 0xC0), (0xDF, 0xDF), (0x00, 0x80)] {
+            let mut packet = Packet([0x5A; PACKET]);
+            packet.0[1] = before;
+            packet.flag_error();
+            assert!(rt; packet.error());
+            let mut wanted = Packet([0x5A; PACKET]);
+            wanted.0[1] = after;
+            assert_eq!(rt; packet, wanted);
         }
     }
 }

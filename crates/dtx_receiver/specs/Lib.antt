@@ -1,0 +1,5 @@
+pub mod Runs
+pub mod Intervals
+pub mod Bytes
+pub mod Packets
+pub mod Receiver

@@ -1,0 +1,49 @@
+-- Runs of segments (the profile's own). A segment is the list of its 832 symbols. A run begins with a segment that looks like a
+-- field sync, and is the list of its segments: each field sync and 312 data segments behind it, whatever these hold.
+use Rattle.std.specs.Prelude.{ℕ, ℤ, ◌+◌, ◌%◌, ◌==◌, Bool, if◌then◌else◌, Option, Some, None, option_to_list, List, [], ◌∷◌, ◌++◌, length, fold}
+use Rattle.dtx_frame.specs.Detection.{looks_like}
+use Rattle.dtx_receiver.specs.declared.tracking.Tracking.{Tracking}
+use Rattle.dtx_receiver.specs.declared.tracking.Tracking.TheVariants.{Searching, Began, Sync, Data, Ended}
+
+-- the next segment of a run is one at which a field sync is due
+unfoldable pub sync_due : List (List ℤ) → Bool
+sync_due run = length run % 313 == 0
+
+-- the runs that have ended, and the one that is on
+pub record Tracked : Type 0 where
+  pub ended : List (List (List ℤ))
+  pub run : Option (List (List ℤ))
+
+-- One segment further. Where no run is on, one begins with a segment that looks like a field sync. Where a field sync is due, the
+-- run goes on with a segment that looks like one, and else it ends before it.
+abbrev pub followed : List (List (List ℤ)) → Option (List (List ℤ)) → List ℤ → Tracked
+followed ended None x = record { ended = ended; run = if looks_like x then Some (x ∷ []) else None }
+followed ended (Some run) x =
+    if sync_due run
+    then (if looks_like x then record { ended = ended; run = Some (run ++ x ∷ []) } else record { ended = ended ++ run ∷ []; run = None })
+    else record { ended = ended; run = Some (run ++ x ∷ []) }
+
+-- behind all segments of a list
+unfoldable pub tracked : List (List ℤ) → Tracked
+tracked segments = fold (λ t x. followed t.ended t.run x) (record { ended = []; run = None }) segments
+
+-- all runs of a list: where one is on, it ends with the list
+unfoldable pub runs : List (List ℤ) → List (List (List ℤ))
+runs segments = (tracked segments).ended ++ option_to_list (tracked segments).run
+
+-- what a segment is told to be, by the run that is on before it and by whether it looks like a field sync
+abbrev pub told : Option (List (List ℤ)) → Bool → Tracking
+told None looks = if looks then Began else Searching
+told (Some run) looks = if sync_due run then (if looks then Sync else Ended) else Data
+
+-- what the segment behind a list is told to be
+unfoldable pub tracking : List (List ℤ) → List ℤ → Tracking
+tracking segments x = told (tracked segments).run (looks_like x)
+
+-- how many runs begin with a segment that is told to be this
+abbrev pub begun : Tracking → ℕ
+begun Began = 1
+begun Searching = 0
+begun Sync = 0
+begun Data = 0
+begun Ended = 0

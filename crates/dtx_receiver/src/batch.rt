@@ -1,0 +1,49 @@
+//! What a call of the receiver gives.
+
+ghost use Rattle.std.specs.Prelude.{◌≡◌, []};
+
+use arrayvec::ArrayVec;
+use dtx_packets::{PACKET, Packet};
+
+/// How many packets a call gives at most has room here. No call gives more than four.
+pub const MOST_RECEIVED: usize = 8;
+
+/// A packet that was received.
+#[derive(Clone, Copy, Debug, PartialEq, Eq)]
+pub struct Received {
+    /// The packet. Its sync byte is 0x47. Where its word had no correction, its error indicator is set.
+    pub packet: Packet,
+    /// How many bytes of its word were wrong and put right, correction bytes included; 0 where it had no correction.
+    pub fixed: u8,
+    /// Whether its word had a correction.
+    pub good: bool,
+}
+
+impl Default for Received {
+    /// What stands in a batch's unused places.
+    fn default() -> Received {
+        Received {
+            packet: Packet([0; PACKET]),
+            fixed: 0,
+            good: false,
+        }
+    }
+}
+
+/// The packets that a call gives, in order.
+#[derive(Drop)]
+pub struct Batch {
+    /// The packets.
+    pub packets: ArrayVec<Received, MOST_RECEIVED>,
+}
+
+impl Batch {
+    /// No packets.
+    pub fn new() -> Batch
+        ensures { result.packets.items ≡ [] }
+    {
+        Batch {
+            packets: ArrayVec::new(),
+        }
+    }
+}

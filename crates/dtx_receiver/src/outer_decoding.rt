@@ -1,0 +1,103 @@
+//! The outer coding's way back for the packets of a run.
+
+ghost use Rattle.std.specs.Prelude.{◌≡◌, true, false, ℕ, ◌+◌, ◌<◌, ◌≤◌, ◌++◌, [], ◌∷◌, List, IfOk, length};
+ghost use Rattle.dtx_outer.specs.Inner.{StandsFor};
+ghost use Rattle.dtx_packets.specs.Packet.{with_error};
+ghost use Rattle.dtx_whiten.specs.Randomizer.{randomizer_bytes};
+ghost use Rattle.dtx_receiver.specs.Packets.{early_of};
+ghost use Rattle.dtx_receiver.specs.declared.batch.Received.{Received};
+
+use crate::batch::{Batch, MOST_RECEIVED, Received};
+use crate::sizes::{BRANCH_STEP, BRANCHES, CODEWORD};
+use dtx_correct::Linear;
+use dtx_outer::{Inner, Taken};
+use dtx_packets::{PACKET, Packet};
+use dtx_spread::Collect;
+use dtx_trellis::GROUP_BYTES;
+use dtx_whiten::{Atsc, PACKET_DATA};
+use std::alloc::{AllocError, Global};
+
+/// The de-interleaver, the Reed-Solomon corrector and the randomizer of the standard.
+pub(crate) type OuterDecoding = Inner<
+    Atsc,
+    Linear<CODEWORD, PACKET_DATA>,
+    Collect<BRANCHES, BRANCH_STEP>,
+    CODEWORD,
+    PACKET_DATA,
+    BRANCHES,
+    BRANCH_STEP,
+>;
+
+/// At the start of a run.
+pub(crate) fn new_outer_decoding(alloc: Global) -> Result<OuterDecoding, AllocError>
+    ensures white { IfOk result (λ inner. inner.white ≡ randomizer_bytes) }
+    ensures stands { IfOk result (λ inner. StandsFor CODEWORD PACKET_DATA BRANCHES BRANCH_STEP inner []) }
+{
+    Ok(Inner::new(Atsc::new(alloc)?, Linear::new(), Collect::new(alloc)?))
+}
+
+/// The next block of a run's bytes, and the packet that it completes, if it does.
+pub(crate) fn give(inner: &mut OuterDecoding, block: &[u8; CODEWORD], batch: &mut Batch)
+    requires white { inner.old.white ≡ randomizer_bytes }
+    requires room { length batch.old.packets.items < MOST_RECEIVED }
+    ensures white { inner.new.white ≡ randomizer_bytes }
+    ensures stands { (before : List ℕ) → StandsFor CODEWORD PACKET_DATA BRANCHES BRANCH_STEP inner.old before → StandsFor CODEWORD PACKET_DATA BRANCHES BRANCH_STEP inner.new (before ++ block.now) }
+    ensures packets { (before : List ℕ) (given : List Received) → StandsFor CODEWORD PACKET_DATA BRANCHES BRANCH_STEP inner.old before
+        → early_of before ≡ given ++ batch.old.packets.items → early_of (before ++ block.now) ≡ given ++ batch.new.packets.items }
+    ensures few { length batch.new.packets.items ≤ length batch.old.packets.items + 1 }
+{
+    let mut data = [0; PACKET_DATA];
+    match inner.take(block, &mut data) {
+        Taken::None => {}
+        Taken::Good { fixed } => batch.packets.push(corrected(&data, fixed)),
+        Taken::Bad => batch.packets.push(as_gathered(&data)),
+    }
+}
+
+/// The next group of a run's bytes, four blocks, and the packets that they complete.
+pub(crate) fn give_group(inner: &mut OuterDecoding, bytes: &[u8; GROUP_BYTES], batch: &mut Batch)
+    requires white { inner.old.white ≡ randomizer_bytes }
+    requires room { length batch.old.packets.items ≤ 4 }
+    ensures white { inner.new.white ≡ randomizer_bytes }
+    ensures stands { (before : List ℕ) → StandsFor CODEWORD PACKET_DATA BRANCHES BRANCH_STEP inner.old before → StandsFor CODEWORD PACKET_DATA BRANCHES BRANCH_STEP inner.new (before ++ bytes.now) }
+    ensures packets { (before : List ℕ) (given : List Received) → StandsFor CODEWORD PACKET_DATA BRANCHES BRANCH_STEP inner.old before
+        → early_of before ≡ given ++ batch.old.packets.items → early_of (before ++ bytes.now) ≡ given ++ batch.new.packets.items }
+{
+    let (blocks, _) = bytes.as_chunks::<CODEWORD>();
+    for block in blocks {
+        give(inner, block, batch);
+    }
+}
+
+/// What is received of a word's correction, which changes so many bytes.
+fn corrected(data: &[u8; PACKET_DATA], fixed: u8) -> Received
+    ensures { result ≡ record { packet = record { 0 = 0x47 ∷ data.now }; fixed = fixed; good = true } }
+{
+    Received {
+        packet: packet_of(data),
+        fixed,
+        good: true,
+    }
+}
+
+/// What is received of a word that has no correction.
+fn as_gathered(data: &[u8; PACKET_DATA]) -> Received
+    ensures { result ≡ record { packet = record { 0 = with_error (0x47 ∷ data.now) }; fixed = 0; good = false } }
+{
+    let mut packet = packet_of(data);
+    packet.flag_error();
+    Received {
+        packet,
+        fixed: 0,
+        good: false,
+    }
+}
+
+/// The packet of these data, behind its sync byte.
+fn packet_of(data: &[u8; PACKET_DATA]) -> Packet
+    ensures { result.0 ≡ 0x47 ∷ data.now }
+{
+    let mut packet = Packet([0x47; PACKET]);
+    packet.0[1..].copy_from_slice(data);
+    packet
+}

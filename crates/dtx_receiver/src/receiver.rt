@@ -1,0 +1,121 @@
+//! Receives one segment after another.
+
+ghost use Rattle.std.specs.Prelude.{◌≡◌, ℤ, ◌+◌, ◌%◌, ◌<◌, ◌++◌, ◌∷◌, [], List, IfOk};
+ghost use Rattle.dtx_receiver.specs.Packets.{all_packets, given};
+ghost use Rattle.dtx_receiver.specs.Receiver.{StandsFor, IsTaken};
+ghost use Rattle.dtx_receiver.specs.Runs.{tracking};
+
+use crate::batch::Batch;
+use crate::decoder::Decoder;
+use crate::sizes::FIELD_SEGMENTS;
+use crate::tracking::Tracking;
+use dtx_frame::{SEGMENT, looks};
+use std::alloc::{AllocError, Global};
+use std::marker::Model;
+
+/// Receives the transport packets of segments, which come one after another. `StandsFor receiver segments` says that the
+/// receiver holds what these segments leave. Segments may hold any signed bytes, and there may be any number of them.
+#[derive(Drop)]
+pub struct Receiver {
+    place: Option<u16>,
+    decoder: Decoder,
+}
+
+impl Model for Receiver {
+    ghost use Rattle.std.specs.Prelude.{◌<◌, IfSome};
+    ghost use Rattle.dtx_receiver.specs.Receiver.{Kept};
+
+    ghost Value = { Kept };
+
+    ghost view = { λ r. record { place = r.place; decoding = r.decoder } };
+
+    ghost invariant = { λ r. IfSome r.place (λ place. place < 313) };
+}
+
+impl Receiver {
+    /// A receiver to which no segment was given. Only want of memory is refused.
+    pub fn new(alloc: Global) -> Result<Receiver, AllocError>
+        ensures { IfOk result (λ receiver. StandsFor receiver []) }
+    {
+        Ok(Receiver {
+            place: None,
+            decoder: Decoder::new(alloc)?,
+        })
+    }
+
+    /// Receives the next segment: tells what it is, and gives the packets that become whole with it, in place of what the batch
+    /// held. A packet is given with the group of four data segments from which on 53 data segments or more stand in whole
+    /// groups from the packet's own on, or else with the segment that ends the run. No call takes memory.
+    pub fn take(&mut self, segment: &[i8; SEGMENT], batch: &mut Batch) -> Tracking
+        ensures answer { (segments : List (List ℤ)) → StandsFor self.old segments → result ≡ tracking segments segment.now }
+        ensures stands { (segments : List (List ℤ)) → StandsFor self.old segments → StandsFor self.new (segments ++ segment.now ∷ []) }
+        ensures packets { (segments : List (List ℤ)) → StandsFor self.old segments
+            → given (segments ++ segment.now ∷ []) ≡ given segments ++ batch.new.packets.items }
+    {
+        batch.packets.clear();
+        self.follow(segment, batch)
+    }
+
+    /// Receives the next segment, where the batch is empty.
+    fn follow(&mut self, segment: &[i8; SEGMENT], batch: &mut Batch) -> Tracking
+        requires { batch.old.packets.items ≡ [] }
+        ensures { (segments : List (List ℤ)) → StandsFor self.old segments → IsTaken segments segment.now self.new result batch.new.packets.items }
+    {
+        match self.place {
+            None => {
+                if looks(segment) {
+                    self.decoder.begin(segment);
+                    self.place = Some(1);
+                    return Tracking::Began;
+                }
+                Tracking::Searching
+            }
+            Some(place) => {
+                if place > 0 {
+                    self.decoder.take(place - 1, segment, batch);
+                    self.place = Some(following(place));
+                    return Tracking::Data;
+                }
+                if looks(segment) {
+                    self.place = Some(1);
+                    return Tracking::Sync;
+                }
+                self.decoder.end(batch);
+                self.place = None;
+                Tracking::Ended
+            }
+        }
+    }
+
+    /// Ends the run that is on, if one is: gives the packets that are left, in place of what the batch held. The next segment is
+    /// received as the first.
+    pub fn finish(&mut self, batch: &mut Batch)
+        ensures stands { StandsFor self.new [] }
+        ensures packets { (segments : List (List ℤ)) → StandsFor self.old segments
+            → all_packets segments ≡ given segments ++ batch.new.packets.items }
+    {
+        batch.packets.clear();
+        match self.place {
+            None => {}
+            Some(_) => {
+                self.decoder.end(batch);
+                self.place = None;
+            }
+        }
+    }
+}
+
+/// The place after this one.
+fn following(place: u16) -> u16
+    requires { place < FIELD_SEGMENTS }
+    ensures { result ≡ (place + 1) % FIELD_SEGMENTS }
+{
+    if place + 1 == FIELD_SEGMENTS {
+        0
+    } else {
+        place + 1
+    }
+}
+
+#[cfg(test)]
+mod tests;
