@@ -1,6 +1,8 @@
-//! The cadence marks of a feed.
+//! The cadence marks of a feed, and the anchor that they give.
 #![tactic(auto)]
 
+mod anchor;
 mod marks;
 
+pub use anchor::{Anchor, Seen};
 pub use marks::{INTERVAL, MARK, SYNC, mark};

@@ -1,0 +1,2 @@
+pub mod NextAnchor
+pub mod NextPlace

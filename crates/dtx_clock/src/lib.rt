@@ -1,0 +1,11 @@
+//! The network's clock: the stamps of frames, how long a packet is held, and the moments of segments.
+#![tactic(auto)]
+
+mod answers;
+pub mod laws;
+#[cfg(test)]
+mod tests;
+mod times;
+
+pub use answers::{Late, Moment};
+pub use times::{FRAMES, PACKETS, TICKS, hold, moment, stamp};

@@ -1,0 +1,54 @@
+-- The fields in the 164 data bytes of an operations packet (the profile's own). Numbers are big-endian.
+use Rattle.std.specs.Prelude.{ℕ, ◌+◌, ◌-◌, ◌*◌, ◌/◌, ◌%◌, ◌^◌, List, map, drop, slice_index}
+use Rattle.std.specs.Int.{w16, cast_signed}
+use Rattle.std.specs.List.{range_with_len}
+use Rattle.byteorder.specs.Endian.{big_number}
+use Rattle.dtx_ops.specs.declared.fields.Entry.{Entry}
+use Rattle.dtx_ops.specs.declared.fields.Ops.{Ops}
+
+-- the state of coder e is three bits of a number of forty bits, of which it has bits 39 - 3 e to 37 - 3 e
+unfoldable pub states_at : ℕ → List ℕ
+states_at number = map (λ e. number / 2 ^ (37 - 3 * e) % 8) (range_with_len 0 12)
+
+-- the states are in bytes 1 to 5
+unfoldable pub states_in : List ℕ → List ℕ
+states_in bytes = states_at (big_number 5 (drop 1 bytes))
+
+-- the stamp is in bytes 6 to 8
+unfoldable pub stamp_in : List ℕ → ℕ
+stamp_in bytes = big_number 3 (drop 6 bytes)
+
+-- the maximum delay is in bytes 9 to 11
+unfoldable pub max_delay_in : List ℕ → ℕ
+max_delay_in bytes = big_number 3 (drop 9 bytes)
+
+-- the frame is in bytes 12 to 15
+unfoldable pub frame_in : List ℕ → ℕ
+frame_in bytes = big_number 4 (drop 12 bytes)
+
+-- the index is in bytes 16 and 17
+unfoldable pub index_in : List ℕ → ℕ
+index_in bytes = big_number 2 (drop 16 bytes)
+
+-- the count of entries is byte 18
+abbrev pub count_in : List ℕ → ℕ
+count_in bytes = slice_index bytes 18
+
+-- the entry in four bytes: the address, and then the offset in two's complement
+unfoldable pub entry_in : List ℕ → Entry
+entry_in bytes = record { address = big_number 2 bytes; offset = cast_signed w16 (big_number 2 (drop 2 bytes)) }
+
+-- that many entries, from byte 19 on
+unfoldable pub entries_in : ℕ → List ℕ → List Entry
+entries_in count bytes = map (λ i. entry_in (drop (19 + 4 * i) bytes)) (range_with_len 0 count)
+
+-- all fields
+unfoldable pub fields : List ℕ → Ops
+fields bytes = record {
+  states = states_in bytes;
+  stamp = stamp_in bytes;
+  max_delay = max_delay_in bytes;
+  frame = frame_in bytes;
+  index = index_in bytes;
+  offsets = record { items = entries_in (count_in bytes) bytes };
+}

@@ -1,0 +1,57 @@
+-- The rules by which a packet isn't read, in their order (the profile's own).
+use Rattle.std.specs.Prelude.{ℕ, ◌+◌, ◌*◌, ◌%◌, ◌==◌, not, nat_le, nat_lt, Bool, false, ◌||◌, if◌then◌else◌, Option, Some, None, is_none, unwrap_or, List, [], ◌∷◌, ◌++◌, drop, take, option_map, slice_index}
+use Rattle.std.specs.List.{list_all}
+use Rattle.dtx_laws.specs.Words.{correction}
+use Rattle.dtx_packets.specs.Packet.{pid_of}
+use Rattle.dtx_ops.specs.declared.fields.Entry.{Entry}
+use Rattle.dtx_ops.specs.declared.refusal.OpsNo.{OpsNo}
+use Rattle.dtx_ops.specs.declared.refusal.OpsNo.TheVariants.{NotOps, Uncorrectable, Kind, Pad, Stamp, Delay, Index, Count, Twice, Fill}
+use Rattle.dtx_ops.specs.Fields.{stamp_in, max_delay_in, index_in, count_in, entries_in}
+
+-- the first rule that holds
+abbrev pub first : List (Bool × OpsNo) → Option OpsNo
+first [] = None
+first (rule ∷ rules) = if rule.0 then Some rule.1 else first rules
+
+-- one of the entries has the address
+abbrev pub is_among : ℕ → List Entry → Bool
+is_among address [] = false
+is_among address (e ∷ es) = e.address == address || is_among address es
+
+-- two of the entries have one address
+abbrev pub has_twice : List Entry → Bool
+has_twice [] = false
+has_twice (e ∷ es) = is_among e.address es || has_twice es
+
+-- the rules on the data before the entries: the kind is 1, the bits behind the states are 0, and the numbers are in range
+unfoldable pub head_rules : List ℕ → List (Bool × OpsNo)
+head_rules bytes =
+    ((not (slice_index bytes 0 == 1), Kind)
+    ∷ (not (slice_index bytes 5 % 16 == 0), Pad)
+    ∷ (nat_le 10000000 (stamp_in bytes), Stamp)
+    ∷ (nat_le 10000000 (max_delay_in bytes), Delay)
+    ∷ (nat_le 624 (index_in bytes), Index)
+    ∷ (nat_lt 35 (count_in bytes), Count)
+    ∷ [])
+
+-- the rules on the entries and the bytes behind them: the addresses differ, and the bytes are 00
+abbrev pub rest_rules : List Entry → List ℕ → List (Bool × OpsNo)
+rest_rules entries rest =
+    ((has_twice entries, Twice)
+    ∷ (not (list_all (λ byte. byte == 0) rest), Fill)
+    ∷ [])
+
+-- the rules on the data
+unfoldable pub data_rules : List ℕ → List (Bool × OpsNo)
+data_rules bytes = head_rules bytes ++ rest_rules (entries_in (count_in bytes) bytes) (drop (19 + 4 * count_in bytes) bytes)
+
+-- the corrected data of a packet, where its payload has a correction
+unfoldable pub corrected : List ℕ → Option (List ℕ)
+corrected packet = option_map (λ code. take 164 code) (correction 184 164 (drop 4 packet))
+
+-- all ten rules: the packet identifier is 0x1FFA, the payload has a correction, and then those on the corrected data
+unfoldable pub rules : List ℕ → List (Bool × OpsNo)
+rules packet =
+    ((not (pid_of packet == 0x1FFA), NotOps)
+    ∷ (is_none (corrected packet), Uncorrectable)
+    ∷ data_rules (unwrap_or (corrected packet) []))

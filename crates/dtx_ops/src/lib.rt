@@ -1,0 +1,17 @@
+//! The operations packet of kind 1: the fields that it carries, how it is written, and how it is read.
+#![tactic(auto)]
+
+mod fields;
+pub mod laws;
+mod packing;
+mod reading;
+mod refusal;
+mod rules;
+#[cfg(test)]
+mod tests;
+mod writing;
+
+pub use fields::{Entry, MOST_ENTRIES, Ops};
+pub use reading::read;
+pub use refusal::OpsNo;
+pub use writing::write;

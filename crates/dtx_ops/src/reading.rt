@@ -1,0 +1,135 @@
+// Reading an operations packet.
+ghost use Rattle.std.specs.Prelude.{◌≡◌, ◌+◌, ◌*◌, ◌<◌, ◌≤◌, [], IfOk, Some, None, drop, length, take};
+ghost use Rattle.byteorder.specs.Endian.{big_number};
+ghost use Rattle.dtx_ops.specs.Fields.{count_in, entry_in, entries_in, fields};
+ghost use Rattle.dtx_ops.specs.Rules as rule;
+ghost use Rattle.dtx_ops.specs.Reading as spec;
+ghost use Rattle.dtx_ops.specs.Spelling.{IsValid};
+
+use crate::fields::{Entry, MOST_ENTRIES, Ops};
+use crate::packing::unpacked;
+use crate::refusal::OpsNo;
+use crate::rules::{head_refusal, rest_refusal};
+use arrayvec::ArrayVec;
+use byteorder::{BigEndian, ByteOrder};
+use dtx_laws::Correct;
+use dtx_packets::Packet;
+
+/// The packet identifier of operations packets.
+const OPERATIONS: u16 = 0x1FFA;
+
+/// The fields of an operations packet, or else the first of the ten rules that refuses it. Only the packet identifier and
+/// the payload are looked at, and up to ten bytes of the payload may be wrong.
+#[tactic(auto, unfolding(crate::specs::Reading::reading))]
+pub fn read<C: Correct<184, 164>>(code: &C, packet: &Packet) -> Result<Ops, OpsNo>
+    ensures reading { result ≡ spec.reading packet.now.0 }
+    ensures valid { IfOk result IsValid }
+{
+    if packet.pid() != OPERATIONS {
+        return Err(OpsNo::NotOps);
+    }
+    match corrected(code, packet) {
+        Some(data) => read_data(&data),
+        None => Err(OpsNo::Uncorrectable),
+    }
+}
+
+/// The data of the payload's correction, where it has one.
+#[tactic(auto, unfolding(crate::specs::Rules::corrected))]
+fn corrected<C: Correct<184, 164>>(code: &C, packet: &Packet) -> Option<[u8; 164]>
+    ensures { result ≡ rule.corrected packet.now.0 }
+{
+    let mut word = payload(packet);
+    match code.correct(&mut word) {
+        Ok(_) => Some(data_in(&word)),
+        Err(_) => None,
+    }
+}
+
+/// The bytes of a packet behind its header.
+fn payload(packet: &Packet) -> [u8; 184]
+    ensures payload { result ≡ drop 4 packet.now.0 }
+    ensures long { length result ≡ 184 }
+{
+    let mut word = [0; 184];
+    word.copy_from_slice(&packet.0[4..]);
+    word
+}
+
+/// The data in a codeword.
+fn data_in(word: &[u8; 184]) -> [u8; 164]
+    ensures { result ≡ take 164 word.now }
+{
+    let mut data = [0; 164];
+    data.copy_from_slice(&word[..164]);
+    data
+}
+
+/// The fields in the data, or else the first rule that refuses them.
+#[tactic(auto, unfolding(crate::specs::Reading::data_reading, crate::specs::Rules::data_rules), using(crate::proofs::Refusing::first_none, crate::proofs::Refusing::first_some))]
+fn read_data(bytes: &[u8]) -> Result<Ops, OpsNo>
+    requires { length bytes.now ≡ 164 }
+    ensures { result ≡ spec.data_reading bytes.now }
+{
+    match head_refusal(bytes) {
+        Some(no) => Err(no),
+        None => read_rest(bytes),
+    }
+}
+
+/// The fields in the data, or else the first rule on the entries and the bytes behind them that refuses them.
+fn read_rest(bytes: &[u8]) -> Result<Ops, OpsNo>
+    requires long { length bytes.now ≡ 164 }
+    requires few { count_in bytes.now ≤ 35 }
+    ensures { result ≡ spec.unless (rule.first (rule.rest_rules (entries_in (count_in bytes.now) bytes.now) (drop (19 + 4 * count_in bytes.now) bytes.now))) (fields bytes.now) }
+{
+    let count = bytes[18] as usize;
+    let offsets = entries(count, bytes);
+    match rest_refusal(offsets.as_slice(), &bytes[19 + 4 * count..]) {
+        Some(no) => Err(no),
+        None => Ok(fields_of(bytes, offsets)),
+    }
+}
+
+/// The fields in the data, whose entries are read already.
+#[tactic(auto, unfolding(crate::specs::Fields::fields, crate::specs::Fields::states_in, crate::specs::Fields::stamp_in, crate::specs::Fields::max_delay_in, crate::specs::Fields::frame_in, crate::specs::Fields::index_in))]
+fn fields_of(bytes: &[u8], offsets: ArrayVec<Entry, MOST_ENTRIES>) -> Ops
+    requires long { length bytes.now ≡ 164 }
+    requires entries { offsets.items ≡ entries_in (count_in bytes.now) bytes.now }
+    ensures { result ≡ fields bytes.now }
+{
+    Ops {
+        states: unpacked(BigEndian::read_uint(&bytes[1..], 5)),
+        stamp: BigEndian::read_u24(&bytes[6..]),
+        max_delay: BigEndian::read_u24(&bytes[9..]),
+        frame: BigEndian::read_u32(&bytes[12..]),
+        index: BigEndian::read_u16(&bytes[16..]),
+        offsets,
+    }
+}
+
+/// That many entries.
+#[tactic(auto, unfolding(crate::specs::Fields::entries_in))]
+fn entries(count: usize, bytes: &[u8]) -> ArrayVec<Entry, MOST_ENTRIES>
+    requires few { count ≤ 35 }
+    requires room { 19 + 4 * count ≤ length bytes.now }
+    ensures { result.items ≡ entries_in count bytes.now }
+{
+    let mut found = ArrayVec::new();
+    for i in 0..count {
+        found.push(entry(&bytes[19 + 4 * i..]));
+    }
+    found
+}
+
+/// The entry in the first four bytes.
+#[tactic(auto, unfolding(crate::specs::Fields::entry_in))]
+fn entry(bytes: &[u8]) -> Entry
+    requires { 4 ≤ length bytes.now }
+    ensures { result ≡ entry_in bytes.now }
+{
+    Entry {
+        address: BigEndian::read_u16(bytes),
+        offset: BigEndian::read_i16(&bytes[2..]),
+    }
+}

@@ -1,0 +1,63 @@
+// Why a packet does not read.
+use thiserror::Error;
+
+/// Why a packet isn't read, in the order in which the rules are tried. From `Kind` on they speak of the corrected data.
+#[derive(Clone, Copy, Debug, PartialEq, Eq, Error)]
+pub enum OpsNo {
+    /// The packet identifier isn't 0x1FFA.
+    #[error("NotOps")]
+    NotOps,
+    /// No codeword lies within ten places of the payload.
+    #[error("Uncorrectable")]
+    Uncorrectable,
+    /// The kind isn't 1.
+    #[error("Kind")]
+    Kind,
+    /// The four bits after the states aren't 0.
+    #[error("Pad")]
+    Pad,
+    /// The stamp is 10,000,000 or more.
+    #[error("Stamp")]
+    Stamp,
+    /// The maximum delay is 10,000,000 or more.
+    #[error("Delay")]
+    Delay,
+    /// The index is 624 or more.
+    #[error("Index")]
+    Index,
+    /// The count of entries is above 35.
+    #[error("Count")]
+    Count,
+    /// Two entries have one address.
+    #[error("Twice")]
+    Twice,
+    /// A byte after the entries isn't 0.
+    #[error("Fill")]
+    Fill,
+}
+
+#[cfg(test)]
+mod tests {
+    use super::*;
+    use std::test::Fail;
+
+    #[test]
+    fn the_message_of_a_refusal_is_its_name(rt: HostRuntime) -> Result<(), Fail> {
+        let cases = [
+            (OpsNo::NotOps, "NotOps"),
+            (OpsNo::Uncorrectable, "Uncorrectable"),
+            (OpsNo::Kind, "Kind"),
+            (OpsNo::Pad, "Pad"),
+            (OpsNo::Stamp, "Stamp"),
+            (OpsNo::Delay, "Delay"),
+            (OpsNo::Index, "Index"),
+            (OpsNo::Count, "Count"),
+            (OpsNo::Twice, "Twice"),
+            (OpsNo::Fill, "Fill"),
+        ];
+        for (no, name) in cases {
+            assert_eq!(rt; format!(in rt.alloc(); "{no}")?.as_str(), name);
+        }
+        Ok(())
+    }
+}

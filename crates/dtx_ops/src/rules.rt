@@ -1,0 +1,82 @@
+// The rules on the data of an operations packet, in their order.
+ghost use Rattle.std.specs.Prelude.{◌≡◌, ◌==◌, ◌≤◌, None, length};
+ghost use Rattle.std.specs.List.{list_all};
+ghost use Rattle.dtx_ops.specs.Fields.{count_in};
+ghost use Rattle.dtx_ops.specs.Rules as spec;
+
+use crate::fields::{Entry, MOST_ENTRIES};
+use crate::refusal::OpsNo;
+use byteorder::{BigEndian, ByteOrder};
+
+/// The first rule on the data before the entries that holds.
+#[tactic(auto, unfolding(crate::specs::Rules::head_rules, crate::specs::Fields::stamp_in, crate::specs::Fields::max_delay_in, crate::specs::Fields::index_in))]
+pub(crate) fn head_refusal(bytes: &[u8]) -> Option<OpsNo>
+    requires { length bytes.now ≡ 164 }
+    ensures first { result ≡ spec.first (spec.head_rules bytes.now) }
+    ensures few { result ≡ None → count_in bytes.now ≤ 35 }
+{
+    if bytes[0] != 1 {
+        Some(OpsNo::Kind)
+    } else if bytes[5] % 16 != 0 {
+        Some(OpsNo::Pad)
+    } else if BigEndian::read_u24(&bytes[6..]) >= 10_000_000 {
+        Some(OpsNo::Stamp)
+    } else if BigEndian::read_u24(&bytes[9..]) >= 10_000_000 {
+        Some(OpsNo::Delay)
+    } else if BigEndian::read_u16(&bytes[16..]) >= 624 {
+        Some(OpsNo::Index)
+    } else if bytes[18] as usize > MOST_ENTRIES {
+        Some(OpsNo::Count)
+    } else {
+        None
+    }
+}
+
+/// The first rule on the entries and the bytes behind them that holds.
+pub(crate) fn rest_refusal(entries: &[Entry], rest: &[u8]) -> Option<OpsNo>
+    ensures { result ≡ spec.first (spec.rest_rules entries.now rest.now) }
+{
+    if has_twice(entries) {
+        Some(OpsNo::Twice)
+    } else if !is_blank(rest) {
+        Some(OpsNo::Fill)
+    } else {
+        None
+    }
+}
+
+/// Two of the entries have one address.
+fn has_twice(entries: &[Entry]) -> bool
+    ensures { result ≡ spec.has_twice entries.now }
+{
+    for i in 0..entries.len() {
+        if is_among(entries[i].address, &entries[i + 1..]) {
+            return true;
+        }
+    }
+    false
+}
+
+/// One of the entries has the address.
+fn is_among(address: u16, entries: &[Entry]) -> bool
+    ensures { result ≡ spec.is_among address entries.now }
+{
+    for entry in entries {
+        if entry.address == address {
+            return true;
+        }
+    }
+    false
+}
+
+/// All of the bytes are 0.
+fn is_blank(bytes: &[u8]) -> bool
+    ensures { result ≡ list_all (λ byte. byte == 0) bytes.now }
+{
+    for byte in bytes {
+        if *byte != 0 {
+            return false;
+        }
+    }
+    true
+}

@@ -1,0 +1,4 @@
+pub mod Items
+pub mod Documents
+pub mod Digits
+pub mod Addresses

@@ -1,0 +1,10 @@
+pub mod Words
+pub mod Rows
+pub mod TransmitterTable
+pub mod DamageTable
+pub mod EventTable
+pub mod ReceiveTable
+pub mod NetTable
+pub mod RootTable
+pub mod Plan
+pub mod Sound

@@ -1,0 +1,34 @@
+-- The rows of the table `net`.
+use Rattle.std.specs.Prelude.{ℕ, ◌&&◌, nat_le, codes, if◌then◌else◌, List, [], ◌∷◌, length, Option, Result, Ok}
+use Rattle.toml.specs.Data.{Data, Members, get_member}
+use Rattle.dtx_plan.specs.declared.key.PlanKey.TheVariants as key
+use Rattle.dtx_plan.specs.declared.rule.PlanRule.TheVariants.{Range}
+use Rattle.dtx_plan.specs.declared.refusal.PlanNo.{PlanNo}
+use Rattle.dtx_plan.specs.declared.transmitter.Transmitter.{Transmitter}
+use Rattle.dtx_plan.specs.declared.plan.NetPlan.{NetPlan}
+use Rattle.dtx_plan.specs.Rows.{◌>>=◌, refused, table, known, text, array_or_none, optional, entries}
+use Rattle.dtx_plan.specs.EventTable.{event_after}
+use Rattle.dtx_plan.specs.ReceiveTable.{receive}
+
+-- range: 1 to 255 bytes
+abbrev pub stream_of : List ℕ → Result (List ℕ) PlanNo
+stream_of name = if nat_le 1 (length name) && nat_le (length name) 255 then Ok name else refused key.Stream 0 Range
+
+-- missing; kind string; range
+abbrev pub stream : Members → Result (List ℕ) PlanNo
+stream entry = text (get_member (codes "stream") entry) key.Stream 0 >>= stream_of
+
+-- what is done with the transmitters
+unfoldable pub net_of : List Transmitter → Data → Result NetPlan PlanNo
+net_of ts d = do
+  entry ← table d key.Net 0
+  _ ← known (codes "stream" ∷ codes "event" ∷ codes "receive" ∷ []) entry key.Net 0
+  name ← stream entry
+  items ← array_or_none (get_member (codes "event") entry) key.Event 0 10000
+  schedule ← entries (event_after ts) [] items
+  receiving ← receive ts entry
+  Ok (record { stream = name; events = schedule; receive = receiving })
+
+-- may be absent
+abbrev pub net : List Transmitter → Members → Result (Option NetPlan) PlanNo
+net ts root = optional (net_of ts) (get_member (codes "net") root)

@@ -1,0 +1,32 @@
+-- The rows of an entry of the array `transmitter`.
+use Rattle.std.specs.Prelude.{ℕ, pos, negsuc, codes, nat_eq, Bool, if◌then◌else◌, List, [], ◌∷◌, length, map, Result, Ok}
+use Rattle.std.specs.List.{list_any}
+use Rattle.toml.specs.Data.{Data, get_member}
+use Rattle.dtx_plan.specs.declared.key.PlanKey.TheVariants as key
+use Rattle.dtx_plan.specs.declared.rule.PlanRule.TheVariants.{Twice}
+use Rattle.dtx_plan.specs.declared.refusal.PlanNo.{PlanNo}
+use Rattle.dtx_plan.specs.declared.transmitter.Transmitter.{Transmitter}
+use Rattle.dtx_plan.specs.Rows.{◌>>=◌, refused, table, known, whole, whole_or, signed}
+
+-- the addresses of transmitters
+abbrev pub addresses_of : List Transmitter → List ℕ
+addresses_of ts = map (λ t. t.address) ts
+
+-- some transmitter has the address
+abbrev pub has_address : ℕ → List Transmitter → Bool
+has_address address ts = list_any (nat_eq address) (addresses_of ts)
+
+-- twice: no earlier entry has the address
+abbrev pub once : ℕ → List Transmitter → ℕ → Result (Unit {0}) PlanNo
+once address earlier item = if has_address address earlier then refused key.Address item Twice else Ok tt
+
+-- one entry behind the earlier ones
+unfoldable pub transmitter : List Transmitter → Data → Result Transmitter PlanNo
+transmitter earlier d = do
+  entry ← table d key.Transmitter (length earlier)
+  _ ← known (codes "address" ∷ codes "offset" ∷ codes "delay" ∷ []) entry key.Transmitter (length earlier)
+  address ← whole (get_member (codes "address") entry) key.Address (length earlier) 0 65535
+  _ ← once address earlier (length earlier)
+  offset ← signed (get_member (codes "offset") entry) key.Offset (length earlier) (negsuc 32767) (pos 32767)
+  delay ← whole_or 0 (get_member (codes "delay") entry) key.Delay (length earlier) 0 4294967295
+  Ok (record { address = address; offset = offset; delay = delay })

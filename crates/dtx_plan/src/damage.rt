@@ -1,0 +1,44 @@
+// The damage to a file of symbols.
+ghost use Rattle.std.specs.Prelude.{◌≡◌, ◌<◌, length, slice_get, Some};
+
+use std::marker::Model;
+
+/// One entry of damage: `put` stands in place of the `count` symbols from `at` on.
+#[derive(Clone, Copy, Debug, PartialEq, Eq)]
+pub struct Damage {
+    pub at: u64,
+    pub count: u64,
+    pub put: i8,
+}
+
+/// The entries of damage, seen as the list of them.
+#[derive(Debug, Drop)]
+pub struct Damages {
+    pub(crate) all: Vec<Damage>,
+}
+
+impl Model for Damages {
+    ghost use Rattle.std.specs.Prelude.{List};
+    ghost use Rattle.dtx_plan.specs.declared.damage.Damage.{Damage};
+
+    ghost Value = { List Damage };
+
+    ghost view = { λ d. d.all.items };
+}
+
+impl Damages {
+    /// How many entries there are.
+    pub fn len(&self) -> usize
+        ensures { result ≡ length self.now }
+    {
+        self.all.len()
+    }
+
+    /// The entry of that number, from 0.
+    pub fn get(&self, i: usize) -> Damage
+        requires { i < length self.now }
+        ensures { slice_get self.now i ≡ Some result }
+    {
+        self.all[i]
+    }
+}

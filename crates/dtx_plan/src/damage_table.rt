@@ -1,0 +1,67 @@
+// The walk over the array `damage`.
+ghost use Rattle.std.specs.Prelude.{◌≡◌, ◌≤◌, [], length, IfOk};
+ghost use Rattle.toml.specs.View.{view, items_view};
+ghost use Rattle.dtx_plan.specs.Rows.{IsAnswer, entries};
+ghost use Rattle.dtx_plan.specs.Sound.{IsDamage, AreDamages};
+ghost use Rattle.dtx_plan.specs.DamageTable as spec;
+
+use crate::damage::{Damage, Damages};
+use crate::key::PlanKey;
+use crate::limits::{MOST_DAMAGES, MOST_SYMBOLS};
+use crate::refusal::{PlanFault, PlanNo};
+use crate::rows::{known, signed, table, whole, whole_or};
+use crate::rule::PlanRule;
+use std::alloc::Global;
+use toml::Value;
+
+/// The damage, entry by entry.
+pub(crate) fn damages(alloc: Global, values: &[Value]) -> Result<Damages, PlanFault>
+    requires { length values.now ≤ MOST_DAMAGES }
+    ensures walk { IsAnswer (entries spec.damage [] (items_view values.now)) result }
+    ensures sound { IfOk result AreDamages }
+{
+    let mut all = Vec::new(alloc);
+    let mut end = 0;
+    for value in values {
+        let next = damage(end, all.len() as u32, value)?;
+        end = next.at + next.count;
+        all.push(next)?;
+    }
+    Ok(Damages { all })
+}
+
+/// One entry, where the entry before it ends at `end`.
+#[tactic(auto, unfolding(crate::specs::DamageTable::damage_from))]
+fn damage(end: u64, item: u32, value: &Value) -> Result<Damage, PlanNo>
+    ensures walk { result ≡ spec.damage_from end item (view value.now) }
+    ensures sound { IfOk result IsDamage }
+    ensures behind { IfOk result (λ d. end ≤ d.at) }
+{
+    let entry = table(value, PlanKey::Damage, item)?;
+    known(entry, &["at", "count", "put"], PlanKey::Damage, item)?;
+    let at = whole(entry, "at", PlanKey::DamageAt, item, 0, MOST_SYMBOLS - 1)?;
+    behind(at, end, item)?;
+    let count = whole_or(
+        1,
+        entry,
+        "count",
+        PlanKey::DamageCount,
+        item,
+        1,
+        MOST_SYMBOLS,
+    )?;
+    let put = signed(entry, "put", PlanKey::DamagePut, item, -128, 127)? as i8;
+    Ok(Damage { at, count, put })
+}
+
+/// The place isn't before the end of the entry before it.
+fn behind(at: u64, end: u64, item: u32) -> Result<(), PlanNo>
+    ensures walk { result ≡ spec.behind at end item }
+    ensures behind { IfOk result (λ _. end ≤ at) }
+{
+    if at < end {
+        Err(PlanNo::new(PlanKey::DamageAt, item, PlanRule::Order))
+    } else {
+        Ok(())
+    }
+}

@@ -1,0 +1,230 @@
+// The walk over the array `event`.
+ghost use Rattle.std.specs.Prelude.{◌≡◌, ◌<◌, ◌≤◌, true, [], length, All, IfOk};
+ghost use Rattle.toml.specs.View.{view, table_view, items_view};
+ghost use Rattle.dtx_plan.specs.Rows.{IsAnswer, entries};
+ghost use Rattle.dtx_plan.specs.Sound.{IsEvent, IsInRange, to_of};
+ghost use Rattle.dtx_plan.specs.TransmitterTable.{has_address};
+ghost use Rattle.dtx_plan.specs.EventTable as spec;
+
+use crate::event::{Event, EventKind, Events};
+use crate::key::PlanKey;
+use crate::limits::{MOST_EVENTS, MOST_PACKETS};
+use crate::refusal::{PlanFault, PlanNo};
+use crate::rows::{known, table, text, whole};
+use crate::rule::PlanRule;
+use crate::transmitter::Transmitter;
+use crate::transmitter_table::has_address;
+use dtx_trellis::States;
+use std::alloc::Global;
+use toml::{Table, Value};
+
+/// The events, entry by entry.
+pub(crate) fn events(
+    alloc: Global,
+    transmitters: &[Transmitter],
+    values: &[Value],
+) -> Result<Events, PlanFault>
+    requires { length values.now ≤ MOST_EVENTS }
+    ensures walk { IsAnswer (entries (spec.event_after transmitters.now) [] (items_view values.now)) result }
+    ensures count { IfOk result (λ e. length e ≤ MOST_EVENTS) }
+    ensures sound { IfOk result (All (IsEvent transmitters.now)) }
+{
+    let mut all = Vec::new(alloc);
+    for value in values {
+        let next = event(transmitters, all.len() as u32, value)?;
+        all.push(next)?;
+    }
+    Ok(Events { all })
+}
+
+/// One entry.
+#[tactic(auto, unfolding(crate::specs::EventTable::event_at))]
+fn event(transmitters: &[Transmitter], item: u32, value: &Value) -> Result<Event, PlanNo>
+    ensures walk { result ≡ spec.event_at transmitters.now item (view value.now) }
+    ensures sound { IfOk result (IsEvent transmitters.now) }
+{
+    let entry = table(value, PlanKey::Event, item)?;
+    let kind = kind(entry, item)?;
+    known_keys(kind, entry, item)?;
+    let to = whole(entry, "to", PlanKey::To, item, 0, 65535)? as u16;
+    no_stranger(to, transmitters, PlanKey::To, item)?;
+    event_of(kind, to, entry, item)
+}
+
+/// What the event does.
+fn kind(entry: &Table, item: u32) -> Result<EventKind, PlanNo>
+    ensures { result ≡ spec.kind (table_view entry.now) item }
+{
+    match text(entry, "do", PlanKey::Do, item) {
+        Ok(word) => kind_of(word, item),
+        Err(refusal) => Err(refusal),
+    }
+}
+
+fn kind_of(word: &str, item: u32) -> Result<EventKind, PlanNo>
+    ensures { result ≡ spec.kind_of word.now item }
+{
+    if word == "send" {
+        Ok(EventKind::Send)
+    } else if word == "foreign" {
+        Ok(EventKind::Foreign)
+    } else if word == "flip" {
+        Ok(EventKind::Flip)
+    } else if word == "lie" {
+        Ok(EventKind::Lie)
+    } else if word == "restart" {
+        Ok(EventKind::Restart)
+    } else {
+        Err(PlanNo::new(PlanKey::Do, item, PlanRule::Range))
+    }
+}
+
+/// Each key of the entry is `do`, `to` or one of its kind.
+fn known_keys(kind: EventKind, entry: &Table, item: u32) -> Result<(), PlanNo>
+    ensures { result ≡ spec.known_keys kind (table_view entry.now) item }
+{
+    match kind {
+        EventKind::Send => known(entry, &["do", "to", "from", "count"], PlanKey::Event, item),
+        EventKind::Foreign => known(
+            entry,
+            &["do", "to", "seed", "from", "count"],
+            PlanKey::Event,
+            item,
+        ),
+        EventKind::Flip => known(
+            entry,
+            &["do", "to", "from", "at", "with"],
+            PlanKey::Event,
+            item,
+        ),
+        EventKind::Lie => known(entry, &["do", "to", "from", "states"], PlanKey::Event, item),
+        EventKind::Restart => known(entry, &["do", "to"], PlanKey::Event, item),
+    }
+}
+
+/// Some transmitter has the address.
+pub(crate) fn no_stranger(
+    address: u16,
+    transmitters: &[Transmitter],
+    key: PlanKey,
+    item: u32,
+) -> Result<(), PlanNo>
+    ensures walk { result ≡ spec.no_stranger address transmitters.now key item }
+    ensures listed { IfOk result (λ _. has_address address transmitters.now ≡ true) }
+{
+    if has_address(address, transmitters) {
+        Ok(())
+    } else {
+        Err(PlanNo::new(key, item, PlanRule::Stranger))
+    }
+}
+
+/// The rows that depend on the kind.
+#[tactic(auto, unfolding(crate::specs::EventTable::event_of))]
+fn event_of(kind: EventKind, to: u16, entry: &Table, item: u32) -> Result<Event, PlanNo>
+    ensures walk { result ≡ spec.event_of kind to (table_view entry.now) item }
+    ensures to { IfOk result (λ e. to_of e ≡ to) }
+    ensures in_range { IfOk result IsInRange }
+{
+    match kind {
+        EventKind::Send => send(to, entry, item),
+        EventKind::Foreign => foreign(to, entry, item),
+        EventKind::Flip => flip(to, entry, item),
+        EventKind::Lie => lie(to, entry, item),
+        EventKind::Restart => Ok(Event::Restart { to }),
+    }
+}
+
+/// A part of the feed.
+#[tactic(auto, unfolding(crate::specs::EventTable::send))]
+fn send(to: u16, entry: &Table, item: u32) -> Result<Event, PlanNo>
+    ensures walk { result ≡ spec.send to (table_view entry.now) item }
+    ensures to { IfOk result (λ e. to_of e ≡ to) }
+    ensures in_range { IfOk result IsInRange }
+{
+    let from = whole(entry, "from", PlanKey::From, item, 0, MOST_PACKETS - 1)?;
+    let count = whole(entry, "count", PlanKey::Count, item, 1, MOST_PACKETS - from)?;
+    Ok(Event::Send { to, from, count })
+}
+
+/// Packets that are not of the feed.
+#[tactic(auto, unfolding(crate::specs::EventTable::foreign))]
+fn foreign(to: u16, entry: &Table, item: u32) -> Result<Event, PlanNo>
+    ensures walk { result ≡ spec.foreign to (table_view entry.now) item }
+    ensures to { IfOk result (λ e. to_of e ≡ to) }
+    ensures in_range { IfOk result IsInRange }
+{
+    let seed = whole(
+        entry,
+        "seed",
+        PlanKey::Seed,
+        item,
+        0,
+        9_223_372_036_854_775_807,
+    )?;
+    let from = whole(entry, "from", PlanKey::From, item, 0, MOST_PACKETS - 1)?;
+    let count = whole(entry, "count", PlanKey::Count, item, 1, MOST_PACKETS - from)?;
+    Ok(Event::Foreign {
+        to,
+        seed,
+        from,
+        count,
+    })
+}
+
+/// A packet with a wrong byte.
+#[tactic(auto, unfolding(crate::specs::EventTable::flip))]
+fn flip(to: u16, entry: &Table, item: u32) -> Result<Event, PlanNo>
+    ensures walk { result ≡ spec.flip to (table_view entry.now) item }
+    ensures to { IfOk result (λ e. to_of e ≡ to) }
+    ensures in_range { IfOk result IsInRange }
+{
+    let from = whole(entry, "from", PlanKey::From, item, 0, MOST_PACKETS - 1)?;
+    let at = whole(entry, "at", PlanKey::At, item, 0, 187)? as u8;
+    let with = whole(entry, "with", PlanKey::With, item, 1, 255)? as u8;
+    Ok(Event::Flip { to, from, at, with })
+}
+
+/// An operations packet of false states.
+#[tactic(auto, unfolding(crate::specs::EventTable::lie))]
+fn lie(to: u16, entry: &Table, item: u32) -> Result<Event, PlanNo>
+    ensures walk { result ≡ spec.lie to (table_view entry.now) item }
+    ensures to { IfOk result (λ e. to_of e ≡ to) }
+    ensures in_range { IfOk result IsInRange }
+{
+    let from = whole(entry, "from", PlanKey::From, item, 0, MOST_PACKETS - 1)?;
+    let states = states(entry, item)?;
+    Ok(Event::Lie { to, from, states })
+}
+
+/// The states that a packet lies about.
+fn states(entry: &Table, item: u32) -> Result<States, PlanNo>
+    ensures walk { result ≡ spec.states (table_view entry.now) item }
+    ensures count { IfOk result (λ s. length s ≡ 12) }
+    ensures each { IfOk result (All (λ state. state < 8)) }
+{
+    match text(entry, "states", PlanKey::States, item) {
+        Ok(digits) => states_of(digits.as_bytes(), item),
+        Err(refusal) => Err(refusal),
+    }
+}
+
+/// The states that twelve digits from 0 to 7 spell.
+fn states_of(digits: &[u8], item: u32) -> Result<States, PlanNo>
+    ensures walk { result ≡ spec.states_of digits.now item }
+    ensures count { IfOk result (λ s. length s ≡ 12) }
+    ensures each { IfOk result (All (λ state. state < 8)) }
+{
+    if digits.len() != 12 {
+        return Err(PlanNo::new(PlanKey::States, item, PlanRule::Range));
+    }
+    let mut states = [0u8; 12];
+    for i in 0..12 {
+        let digit = digits[i];
+        if digit < b'0' || digit > b'7' {
+            return Err(PlanNo::new(PlanKey::States, item, PlanRule::Range));
+        }
+        states[i] = digit - b'0';
+    }
+    Ok(States(states))
+}

@@ -1,0 +1,31 @@
+//! Plans of a network, and files of changes: what their text says, or the first rule that it breaks.
+#![tactic(auto)]
+
+mod damage;
+mod damage_table;
+mod event;
+mod event_table;
+mod key;
+mod limits;
+mod net_table;
+mod plan;
+mod read;
+mod receive_table;
+mod refusal;
+mod root_table;
+mod rows;
+mod rule;
+#[cfg(test)]
+mod tests;
+mod transmitter;
+mod transmitter_table;
+
+pub use damage::{Damage, Damages};
+pub use event::{Event, Events};
+pub use key::PlanKey;
+pub use limits::MOST_TRANSMITTERS;
+pub use plan::{NetPlan, Plan, ReceivePlan};
+pub use read::{read_changes, read_plan};
+pub use refusal::{PlanFault, PlanNo};
+pub use rule::PlanRule;
+pub use transmitter::Transmitter;

@@ -1,0 +1,73 @@
+// The walk over the table `net`.
+ghost use Rattle.std.specs.Prelude.{◌≡◌, ◌≤◌, length, IfOk, IfSome};
+ghost use Rattle.toml.specs.View.{view, table_view};
+ghost use Rattle.dtx_plan.specs.Rows.{IsAnswer};
+ghost use Rattle.dtx_plan.specs.Sound.{IsNet};
+ghost use Rattle.dtx_plan.specs.NetTable as spec;
+
+use crate::event_table::events;
+use crate::key::PlanKey;
+use crate::limits::MOST_EVENTS;
+use crate::plan::NetPlan;
+use crate::receive_table::receive;
+use crate::refusal::{PlanFault, PlanNo};
+use crate::rows::{array_or_none, known, member, table, text};
+use crate::rule::PlanRule;
+use crate::transmitter::Transmitter;
+use dtx_outside::Word;
+use std::alloc::Global;
+use toml::{Table, Value};
+
+/// What is done with the transmitters, where it is said.
+pub(crate) fn net(
+    alloc: Global,
+    transmitters: &[Transmitter],
+    root: &Table,
+) -> Result<Option<NetPlan>, PlanFault>
+    ensures walk { IsAnswer (spec.net transmitters.now (table_view root.now)) result }
+    ensures sound { IfOk result (λ n. IfSome n (IsNet transmitters.now)) }
+{
+    match member(root, "net") {
+        Some(value) => Ok(Some(net_of(alloc, transmitters, value)?)),
+        None => Ok(None),
+    }
+}
+
+#[tactic(auto, unfolding(crate::specs::NetTable::net_of))]
+fn net_of(alloc: Global, transmitters: &[Transmitter], value: &Value) -> Result<NetPlan, PlanFault>
+    ensures walk { IsAnswer (spec.net_of transmitters.now (view value.now)) result }
+    ensures sound { IfOk result (IsNet transmitters.now) }
+{
+    let entry = table(value, PlanKey::Net, 0)?;
+    known(entry, &["stream", "event", "receive"], PlanKey::Net, 0)?;
+    let stream = stream(alloc, entry)?;
+    let items = array_or_none(entry, "event", PlanKey::Event, 0, MOST_EVENTS)?;
+    let events = events(alloc, transmitters, items)?;
+    let receive = receive(alloc, transmitters, entry)?;
+    Ok(NetPlan {
+        stream,
+        events,
+        receive,
+    })
+}
+
+/// The name of the file of the stream.
+fn stream(alloc: Global, entry: &Table) -> Result<Word, PlanFault>
+    ensures walk { IsAnswer (spec.stream (table_view entry.now)) result }
+    ensures within { IfOk result (λ w. (1 ≤ length w) × (length w ≤ 255)) }
+{
+    match text(entry, "stream", PlanKey::Stream, 0) {
+        Ok(name) => stream_of(alloc, name),
+        Err(refusal) => Err(PlanFault::No(refusal)),
+    }
+}
+
+fn stream_of(alloc: Global, name: &str) -> Result<Word, PlanFault>
+    ensures walk { IsAnswer (spec.stream_of name.now) result }
+    ensures within { IfOk result (λ w. (1 ≤ length w) × (length w ≤ 255)) }
+{
+    if name.is_empty() || name.len() > 255 {
+        return Err(PlanFault::No(PlanNo::new(PlanKey::Stream, 0, PlanRule::Range)));
+    }
+    Ok(Word::new(String::from_str(alloc, name)?))
+}

@@ -1,0 +1,53 @@
+// Reading a plan, and a file of changes.
+ghost use Rattle.std.specs.Prelude.{IfOk};
+ghost use Rattle.toml.specs.View.{table_view};
+ghost use Rattle.dtx_plan.specs.Rows.{IsAnswer, seen_by};
+ghost use Rattle.dtx_plan.specs.Sound.{IsSound, HasSoundNet, AreDamages};
+ghost use Rattle.dtx_plan.specs.Plan as spec;
+
+use crate::damage::Damages;
+use crate::key::PlanKey;
+use crate::limits::MOST_BYTES;
+use crate::plan::Plan;
+use crate::refusal::{PlanFault, PlanNo};
+use crate::root_table::{changes, plan};
+use crate::rule::PlanRule;
+use std::alloc::Global;
+use toml::Table;
+
+/// The plan that the bytes of a file say, or the first refusal of the walk over it (the profile's own plan file).
+///
+/// The walk goes from top to bottom, entry by entry, and in each table row by row: first the keys that the table may
+/// hold, then each key's rules. Memory may be wanted at any step.
+pub fn read_plan(alloc: Global, bytes: &[u8]) -> Result<Plan, PlanFault>
+    ensures walk { IsAnswer (spec.plan_of bytes.now) result }
+    ensures sound { IfOk result IsSound }
+    ensures net { IfOk result HasSoundNet }
+{
+    let root = root(alloc, bytes)?;
+    plan(alloc, &root)
+}
+
+/// The damage that the bytes of a file of changes say, or the first refusal of the walk over it (the profile's own
+/// file of changes: one array `damage`, with the rows that it has in a plan).
+pub fn read_changes(alloc: Global, bytes: &[u8]) -> Result<Damages, PlanFault>
+    ensures walk { IsAnswer (spec.changes_of bytes.now) result }
+    ensures sound { IfOk result AreDamages }
+{
+    let root = root(alloc, bytes)?;
+    changes(alloc, &root)
+}
+
+/// The table that the bytes read as.
+fn root(alloc: Global, bytes: &[u8]) -> Result<Table, PlanFault>
+    ensures { IsAnswer (spec.root_of bytes.now) (seen_by table_view result) }
+{
+    if bytes.len() > MOST_BYTES {
+        return Err(PlanFault::No(PlanNo::new(PlanKey::Whole, 0, PlanRule::Size)));
+    }
+    match toml::table_from_slice(alloc, bytes) {
+        Ok(root) => Ok(root),
+        Err(error) if error.is_memory() => Err(PlanFault::Memory),
+        Err(_) => Err(PlanFault::No(PlanNo::new(PlanKey::Whole, 0, PlanRule::Text))),
+    }
+}

@@ -1,0 +1,52 @@
+// The walk over the table `receive`.
+ghost use Rattle.std.specs.Prelude.{◌≡◌, IfOk, IfSome};
+ghost use Rattle.toml.specs.View.{view, table_view};
+ghost use Rattle.dtx_plan.specs.Rows.{IsAnswer};
+ghost use Rattle.dtx_plan.specs.Sound.{IsReceived};
+ghost use Rattle.dtx_plan.specs.ReceiveTable as spec;
+
+use crate::damage_table::damages;
+use crate::event_table::no_stranger;
+use crate::key::PlanKey;
+use crate::limits::MOST_DAMAGES;
+use crate::plan::ReceivePlan;
+use crate::refusal::PlanFault;
+use crate::rows::{array_or_none, known, member, table, whole};
+use crate::transmitter::Transmitter;
+use std::alloc::Global;
+use toml::{Table, Value};
+
+/// What is received, where it is said.
+pub(crate) fn receive(
+    alloc: Global,
+    transmitters: &[Transmitter],
+    net: &Table,
+) -> Result<Option<ReceivePlan>, PlanFault>
+    ensures walk { IsAnswer (spec.receive transmitters.now (table_view net.now)) result }
+    ensures sound { IfOk result (λ r. IfSome r (IsReceived transmitters.now)) }
+{
+    match member(net, "receive") {
+        Some(value) => Ok(Some(receive_of(alloc, transmitters, value)?)),
+        None => Ok(None),
+    }
+}
+
+#[tactic(auto, unfolding(crate::specs::ReceiveTable::receive_of))]
+fn receive_of(
+    alloc: Global,
+    transmitters: &[Transmitter],
+    value: &Value,
+) -> Result<ReceivePlan, PlanFault>
+    ensures walk { IsAnswer (spec.receive_of transmitters.now (view value.now)) result }
+    ensures sound { IfOk result (IsReceived transmitters.now) }
+{
+    let entry = table(value, PlanKey::Receive, 0)?;
+    known(entry, &["from", "damage"], PlanKey::Receive, 0)?;
+    let from = whole(entry, "from", PlanKey::ReceiveFrom, 0, 0, 65535)? as u16;
+    no_stranger(from, transmitters, PlanKey::ReceiveFrom, 0)?;
+    let damage = damages(
+        alloc,
+        array_or_none(entry, "damage", PlanKey::Damage, 0, MOST_DAMAGES)?,
+    )?;
+    Ok(ReceivePlan { from, damage })
+}

@@ -1,0 +1,82 @@
+// The walk over the array `transmitter`.
+ghost use Rattle.std.specs.Prelude.{◌≡◌, ◌^◌, ◌<◌, ◌≤◌, [], length, IfOk, false};
+ghost use Rattle.toml.specs.View.{view, items_view};
+ghost use Rattle.dtx_plan.specs.Rows.{seen_by, entries};
+ghost use Rattle.dtx_plan.specs.Sound.{AreTransmitters};
+ghost use Rattle.dtx_plan.specs.TransmitterTable as spec;
+
+use crate::key::PlanKey;
+use crate::limits::MOST_TRANSMITTERS;
+use crate::refusal::PlanNo;
+use crate::rows::{known, signed, table, whole, whole_or};
+use crate::rule::PlanRule;
+use crate::transmitter::Transmitter;
+use arrayvec::ArrayVec;
+use toml::Value;
+
+/// The transmitters, entry by entry.
+pub(crate) fn transmitters(
+    values: &[Value],
+) -> Result<ArrayVec<Transmitter, MOST_TRANSMITTERS>, PlanNo>
+    requires some { 1 ≤ length values.now }
+    requires fits { length values.now ≤ MOST_TRANSMITTERS }
+    ensures walk { seen_by (λ v. v.items) result ≡ entries spec.transmitter [] (items_view values.now) }
+    ensures sound { IfOk result (λ v. AreTransmitters v.items) }
+{
+    let mut found = ArrayVec::new();
+    for value in values {
+        let next = transmitter(found.as_slice(), value)?;
+        found.push(next);
+    }
+    Ok(found)
+}
+
+/// One entry behind the earlier ones.
+#[tactic(auto, unfolding(crate::specs::TransmitterTable::transmitter))]
+fn transmitter(earlier: &[Transmitter], value: &Value) -> Result<Transmitter, PlanNo>
+    requires { length earlier.now < 2 ^ 32 }
+    ensures walk { result ≡ spec.transmitter earlier.now (view value.now) }
+    ensures once { IfOk result (λ t. spec.has_address t.address earlier.now ≡ false) }
+{
+    let item = earlier.len() as u32;
+    let entry = table(value, PlanKey::Transmitter, item)?;
+    known(
+        entry,
+        &["address", "offset", "delay"],
+        PlanKey::Transmitter,
+        item,
+    )?;
+    let address = whole(entry, "address", PlanKey::Address, item, 0, 65535)? as u16;
+    once(address, earlier, item)?;
+    let offset = signed(entry, "offset", PlanKey::Offset, item, -32768, 32767)? as i16;
+    let delay = whole_or(0, entry, "delay", PlanKey::Delay, item, 0, 4294967295)? as u32;
+    Ok(Transmitter {
+        address,
+        offset,
+        delay,
+    })
+}
+
+/// No earlier entry has the address.
+fn once(address: u16, earlier: &[Transmitter], item: u32) -> Result<(), PlanNo>
+    ensures walk { result ≡ spec.once address earlier.now item }
+    ensures once { IfOk result (λ _. spec.has_address address earlier.now ≡ false) }
+{
+    if has_address(address, earlier) {
+        Err(PlanNo::new(PlanKey::Address, item, PlanRule::Twice))
+    } else {
+        Ok(())
+    }
+}
+
+/// Whether some transmitter has the address.
+pub(crate) fn has_address(address: u16, transmitters: &[Transmitter]) -> bool
+    ensures { result ≡ spec.has_address address transmitters.now }
+{
+    for transmitter in transmitters {
+        if transmitter.address == address {
+            return true;
+        }
+    }
+    false
+}
