@@ -1,0 +1,15 @@
+pub mod GroupOrder
+pub mod Held
+pub mod Force
+pub mod Under
+pub mod Ends
+pub mod Answer
+pub mod GroupSent
+pub mod Whole
+pub mod Taken
+pub mod Joined
+pub mod SinceMark
+pub mod Anchored
+pub mod InLife
+pub mod Emitted
+pub mod LockstepIs

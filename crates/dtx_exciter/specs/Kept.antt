@@ -1,0 +1,69 @@
+-- What an exciter keeps of the packets that it was given since it was new or reset.
+use Rattle.std.specs.Prelude.{ℕ, ℤ, ◌≡◌, ◌*◌, ◌/◌, ◌%◌, ◌-◌, nat_le, Bool, false, ⊤, Option, Some, None, is_ok, List, [], ◌∷◌, ◌++◌, length, take, drop}
+use Rattle.dtx_cadence.specs.Anchor as cadence
+use Rattle.dtx_coder.specs.Groups.{Coding}
+use Rattle.dtx_coder.specs.Along.{RunsAlong}
+use Rattle.dtx_exciter.specs.declared.exciter.Exciter.{Exciter}
+use Rattle.dtx_exciter.specs.Order.{Order, in_force}
+use Rattle.dtx_exciter.specs.declared.answers.Told.{Told}
+use Rattle.dtx_exciter.specs.Told.{served, told_under}
+use Rattle.dtx_exciter.specs.Packets.{syncs, said, under, told}
+use Rattle.dtx_exciter.specs.Emission.{Holds, given, given_under}
+use Rattle.dtx_exciter.specs.Step.{bytes_of}
+
+-- how many packets whole groups have
+abbrev pub whole : List (List ℕ) → ℕ
+whole packets = 4 * (length packets / 4)
+
+-- the order in force for the last whole group
+unfoldable pub last_order : List (List ℕ) → Option Order
+last_order packets = in_force (said packets) (whole packets - 4)
+
+-- whether an order in force serves the transmitter
+abbrev pub is_served : ℕ → ℕ → Option Order → Bool
+is_served address delay None = false
+is_served address delay (Some order) = is_ok (served address delay order.ops)
+
+-- the coder was given the groups of these packets since the anchor, from the states of the order in force on
+abbrev pub RunsUnder : List (List ℕ) → Option Order → Coding → Type 0
+RunsUnder packets None coder = (q : List ℕ) × RunsAlong packets 0 q coder
+RunsUnder packets (Some order) coder = RunsAlong packets (order.place / 4) order.ops.states coder
+
+-- what is kept of the packets from the anchor on
+pub record KeepsUnder (address delay : ℕ) (e : Exciter) (packets : List (List ℕ)) : Type 0 where
+  -- whether they are 52 or more
+  pub settled : e.settled ≡ nat_le 52 (length packets)
+  -- the packets of the group that isn't whole yet
+  pub partial : take (length packets % 4) (bytes_of e.packets) ≡ drop (whole packets) packets
+  -- whether the last whole group was sent
+  pub sent : e.sent ≡ is_served address delay (last_order packets)
+  pub coder : RunsUnder (take (whole packets) packets) (last_order packets) e.coder
+
+abbrev pub Keeps : ℕ → ℕ → Exciter → Option (List (List ℕ)) → Type 0
+Keeps address delay e None = ⊤
+Keeps address delay e (Some packets) = KeepsUnder address delay e packets
+
+-- the exciter of the transmitter with this address and delay that was given these packets, or one that answers as it does
+pub record StandsFor (a d : ℕ) (e : Exciter) (packets : List (List ℕ)) : Type 0 where
+  pub address : e.address ≡ a
+  pub delay : e.delay ≡ d
+  pub anchor : cadence.StandsFor e.anchor (syncs packets)
+  pub kept : Keeps a d e (under packets)
+
+-- What becomes of an exciter, and what it answers and gives, with the last of these packets.
+pub record IsTaken (a d : ℕ) (packets : List (List ℕ)) (e : Exciter) (answered : Told) (count : ℕ) (symbols : List ℤ) : Type 0 where
+  pub answer : answered ≡ told a d packets
+  pub air : Holds (given a d packets) count symbols
+  pub stands : StandsFor a d e packets
+
+-- the same of the packets from the anchor on
+pub record IsJoined (address delay : ℕ) (packets : List (List ℕ)) (e : Exciter) (answered : Told) (count : ℕ) (symbols : List ℤ) : Type 0 where
+  pub answer : answered ≡ told_under address delay (Some (said packets))
+  pub air : Holds (given_under address delay (Some packets)) count symbols
+  pub keeps : KeepsUnder address delay e packets
+
+-- where the packet p stands at this place of its frame
+abbrev pub Joins : ℕ → List ℕ → Exciter → Exciter → Told → ℕ → List ℤ → Type 0
+Joins place p old made answered count symbols =
+    (packets : List (List ℕ)) → KeepsUnder old.address old.delay old packets → place ≡ length packets % 624
+    → IsJoined old.address old.delay (packets ++ p ∷ []) made answered count symbols

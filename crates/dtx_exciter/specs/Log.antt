@@ -1,0 +1,38 @@
+-- The log of a transmitter (the profile's own).
+use Rattle.std.specs.Prelude.{ℕ, ◌+◌, ◌-◌, Some, None, List, [], ◌∷◌, ◌++◌, length, take, flat_map}
+use Rattle.std.specs.List.{range_with_len}
+use Rattle.dtx_exciter.specs.declared.answers.Why.{Why}
+use Rattle.dtx_exciter.specs.declared.answers.Told.{Told}
+use Rattle.dtx_exciter.specs.declared.answers.Told.TheVariants.{Quiet, Sent, Muted}
+use Rattle.dtx_exciter.specs.Packets.{told}
+use Rattle.dtx_exciter.specs.Emission.{given, emission}
+
+-- A line speaks of a segment by how many there are before it.
+pub data Line : Type 0 where
+  -- the segment, the frame and the packet's place in it, and the moment's tick and grain
+  preset : ℕ → ℕ → ℕ → ℕ → ℕ → Line
+  mute : ℕ → Why → Line
+  restart : ℕ → Line
+
+-- the line of an answer, where n segments were given before it and m with it: a preset speaks of the group's first data segment,
+-- behind a field sync
+abbrev pub line_of : ℕ → ℕ → Told → List Line
+line_of n m Quiet = []
+line_of n m (Sent None) = []
+line_of n m (Sent (Some p)) = preset (n + m - 4) p.frame p.packet p.moment.tick p.moment.grain ∷ []
+line_of n m (Muted why) = mute n why ∷ []
+
+-- the lines of one life, which is all that is given between two restarts; n segments were given before it
+unfoldable pub life_lines : ℕ → ℕ → ℕ → List (List ℕ) → List Line
+life_lines address delay n life =
+    flat_map
+    (λ i. line_of (n + length (emission address delay (take i life))) (length (given address delay (take (i + 1) life))) (told address delay (take (i + 1) life)))
+    (range_with_len 0 (length life))
+
+-- the lines of lives, with a restart between any two
+unfoldable pub log : ℕ → ℕ → ℕ → List (List (List ℕ)) → List Line
+log address delay n [] = []
+log address delay n (life ∷ []) = life_lines address delay n life
+log address delay n (life ∷ next ∷ more) =
+    life_lines address delay n life ++ restart (n + length (emission address delay life))
+    ∷ log address delay (n + length (emission address delay life)) (next ∷ more)

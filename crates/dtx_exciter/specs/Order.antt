@@ -1,0 +1,45 @@
+-- What the packets under an anchor order (the profile's own). They are counted from the anchor, and each is told here by the
+-- operations fields that it reads as, where it reads.
+use Rattle.std.specs.Prelude.{ℕ, ◌+◌, ◌%◌, ◌==◌, nat_le, ◌&&◌, Option, Some, None, if◌then◌else◌, List, slice_index_or}
+use Rattle.std.proofs.Common.{zero, suc}
+use Rattle.dtx_ops.specs.declared.fields.Ops.{Ops}
+
+-- the first, or else the second
+abbrev pub either : {A : Type 0} → Option A → Option A → Option A
+either (Some x) y = Some x
+either None y = y
+
+-- the value at the greatest number below n that has one
+abbrev pub latest : {A : Type 0} → (ℕ → Option A) → ℕ → Option A
+latest f zero = None
+latest f (suc n) = either (f n) (latest f n)
+
+-- what a packet at a place of its frame orders: its fields, where it reads and its index is its place
+abbrev pub ordered : ℕ → Option Ops → Option Ops
+ordered place None = None
+ordered place (Some ops) = if ops.index == place then Some ops else None
+
+-- what packet k orders
+abbrev pub ordered_at : List (Option Ops) → ℕ → Option Ops
+ordered_at said k = ordered (k % 624) (slice_index_or said k None)
+
+-- what the group of four packets from g on orders: what the first of them orders that orders something
+unfoldable pub order_at : List (Option Ops) → ℕ → Option Ops
+order_at said g = either (ordered_at said g) (either (ordered_at said (g + 1)) (either (ordered_at said (g + 2)) (ordered_at said (g + 3))))
+
+-- that counts only of a group that begins 52 or more packets behind the anchor
+unfoldable pub counted : List (Option Ops) → ℕ → Option Ops
+counted said g = if nat_le 52 g && (g % 4 == 0) then order_at said g else None
+
+-- an order, and where its group begins
+pub record Order : Type 0 where
+  pub place : ℕ
+  pub ops : Ops
+
+abbrev pub placed : ℕ → Option Ops → Option Order
+placed g None = None
+placed g (Some ops) = Some (record { place = g; ops = ops })
+
+-- the order in force for the group that begins at i: the latest up to that group
+unfoldable pub in_force : List (Option Ops) → ℕ → Option Order
+in_force said i = latest (λ g. placed g (counted said g)) (i + 1)

@@ -1,0 +1,35 @@
+-- The packets that an exciter was given since it was new or reset, as their sync bytes and what they read as.
+use Rattle.std.specs.Prelude.{ℕ, Option, Some, None, option_map, Result, Ok, Err, List, map, drop}
+use Rattle.dtx_packets.specs.Packet.{sync_of}
+use Rattle.dtx_cadence.specs.Anchor.{anchor}
+use Rattle.dtx_ops.specs.declared.fields.Ops.{Ops}
+use Rattle.dtx_ops.specs.declared.refusal.OpsNo.{OpsNo}
+use Rattle.dtx_ops.specs.Reading.{reading}
+use Rattle.dtx_exciter.specs.declared.answers.Told.{Told}
+use Rattle.dtx_exciter.specs.Told.{told_of}
+
+unfoldable pub syncs : List (List ℕ) → List ℕ
+syncs packets = map sync_of packets
+
+abbrev pub read_fields : Result Ops OpsNo → Option Ops
+read_fields (Ok ops) = Some ops
+read_fields (Err why) = None
+
+-- the operations fields that a packet reads as
+unfoldable pub reads : List ℕ → Option Ops
+reads packet = read_fields (reading packet)
+
+unfoldable pub said : List (List ℕ) → List (Option Ops)
+said packets = map reads packets
+
+-- the place of the anchor
+unfoldable pub anchor_of : List (List ℕ) → Option ℕ
+anchor_of packets = anchor (syncs packets)
+
+-- the packets from the anchor on
+unfoldable pub under : List (List ℕ) → Option (List (List ℕ))
+under packets = option_map (λ a. drop a packets) (anchor_of packets)
+
+-- the answer to the last packet
+unfoldable pub told : ℕ → ℕ → List (List ℕ) → Told
+told address delay packets = told_of address delay (syncs packets) (said packets)

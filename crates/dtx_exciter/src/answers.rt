@@ -1,0 +1,37 @@
+// What an exciter answers to a packet.
+use dtx_clock::Moment;
+
+/// Why a group isn't sent, where that is told.
+#[derive(Clone, Copy, Debug, PartialEq, Eq)]
+pub enum Why {
+    /// The anchor has moved or is lost.
+    Cadence,
+    /// The order doesn't list the transmitter's address.
+    Unlisted,
+    /// The transmitter's delay is greater than the order's maximum delay plus its offset.
+    Late,
+}
+
+/// What an order sets at the group that carries it.
+#[derive(Clone, Copy, Debug, PartialEq, Eq)]
+pub struct Preset {
+    /// The number of the frame, as the order says it.
+    pub frame: u32,
+    /// The place in its frame of the group's first packet, from 0 to 623.
+    pub packet: u16,
+    /// The moment at which that packet's data segment begins.
+    pub moment: Moment,
+    /// For how many ticks of 100 ns what is sent is held.
+    pub hold: u32,
+}
+
+/// An exciter's answer to one packet.
+#[derive(Clone, Copy, Debug, PartialEq, Eq)]
+pub enum Told {
+    /// Nothing is sent.
+    Quiet,
+    /// A group is sent, whose last packet this is. There is a preset where the group carries the order.
+    Sent { preset: Option<Preset> },
+    /// Nothing is sent, for this reason.
+    Muted(Why),
+}

@@ -1,0 +1,203 @@
+// One exciter.
+ghost use Rattle.std.specs.Prelude.{◌≡◌, ◌<◌, ◌%◌, ◌==◌, ◌&&◌, ◌||◌, ◌++◌, ◌∷◌, [], ℕ, List, IfOk, IfSome, if◌then◌else◌, option_map};
+ghost use Rattle.dtx_ops.specs.Spelling.{IsValid};
+ghost use Rattle.dtx_exciter.specs.Told.{is_sent};
+ghost use Rattle.dtx_exciter.specs.Step.{bytes_of, own_order, told_group, IsSent, IsSame};
+ghost use Rattle.dtx_exciter.specs.Kept.{StandsFor, KeepsUnder, IsTaken, Joins};
+
+use crate::answers::{Told, Why};
+use crate::orders::{Corrector, order_in};
+use crate::serving::{preset_of, served};
+use dtx_cadence::{Anchor, Seen};
+use dtx_coder::{Air, Coder, GROUP_PACKETS};
+use dtx_ops::Ops;
+use dtx_packets::{PACKET, Packet};
+use dtx_trellis::{FIELD, States};
+use std::alloc::{AllocError, Global};
+
+/// An exciter. It is given the packets of a feed, from any place of it on and whatever else, and sends the segments that its
+/// orders tell it to send (the profile's own, over ATSC A/53 Part 2 and in the manner of ATSC A/110).
+#[derive(Drop)]
+pub struct Exciter {
+    address: u16,
+    delay: u32,
+    corrector: Corrector,
+    anchor: Anchor,
+    settled: bool,
+    sent: bool,
+    packets: [Packet; GROUP_PACKETS],
+    coder: Coder,
+}
+
+impl Exciter {
+    /// The exciter of the transmitter with this address, to which the feed takes `delay` ticks of 100 ns. It was given nothing.
+    pub fn new(alloc: Global, address: u16, delay: u32) -> Result<Exciter, AllocError>
+        ensures { IfOk result (λ exciter. StandsFor address delay exciter []) }
+    {
+        Ok(Exciter {
+            address,
+            delay,
+            corrector: Corrector::new(),
+            anchor: Anchor::new(),
+            settled: false,
+            sent: false,
+            packets: [Packet([0; PACKET]); GROUP_PACKETS],
+            coder: Coder::new(alloc)?,
+        })
+    }
+
+    /// Is given one more packet, of any bytes. `Sent` is answered to the last packet of a group that is sent, and then the air
+    /// holds its segments: four data segments, and before them a field sync, where the group begins a field and the group
+    /// before it was sent. With any other answer the air holds none.
+    pub fn take(&mut self, packet: &Packet, air: &mut Air) -> Told
+        ensures { (address delay : ℕ) (before : List (List ℕ)) → StandsFor address delay self.old before → IsTaken address delay (before ++ packet.now.0 ∷ []) self.new result air.new.segments air.new.symbols }
+    {
+        air.segments = 0;
+        match self.anchor.see(packet.sync()) {
+            Seen::Free => Told::Quiet,
+            Seen::Lost => Told::Muted(Why::Cadence),
+            Seen::Start => {
+                self.begin(packet);
+                Told::Quiet
+            }
+            Seen::Moved => {
+                self.begin(packet);
+                Told::Muted(Why::Cadence)
+            }
+            Seen::At(place) => self.join(place, packet, air),
+        }
+    }
+
+    /// Makes the exciter one that was given nothing.
+    pub fn reset(&mut self)
+        ensures { (address delay : ℕ) (before : List (List ℕ)) → StandsFor address delay self.old before → StandsFor address delay self.new [] }
+    {
+        self.anchor = Anchor::new();
+    }
+
+    /// The packet is the anchor.
+    fn begin(&mut self, packet: &Packet)
+        ensures keeps { KeepsUnder self.old.address self.old.delay self.new (packet.now.0 ∷ []) }
+        ensures same { IsSame self.old self.new }
+    {
+        self.coder.known();
+        self.coder.align();
+        self.packets[0] = *packet;
+        self.settled = false;
+        self.sent = false;
+    }
+
+    /// The packet stands at this place of its frame.
+    fn join(&mut self, place: u16, packet: &Packet, air: &mut Air) -> Told
+        requires place { place < 624 }
+        requires air { air.old.segments ≡ 0 }
+        ensures joined { Joins place packet.now.0 self.old self.new result air.new.segments air.new.symbols }
+        ensures same { IsSame self.old self.new }
+    {
+        self.packets[place as usize % GROUP_PACKETS] = *packet;
+        if place as usize % GROUP_PACKETS != 3 {
+            return Told::Quiet;
+        }
+        let told = self.send(place - 3, air);
+        self.settled = is_settled(self.settled, place);
+        told
+    }
+
+    /// A group is whole, which begins at this place of its frame.
+    fn send(&mut self, first: u16, air: &mut Air) -> Told
+        requires place { first < 624 }
+        requires whole { first % 4 ≡ 0 }
+        ensures { IsSent first self.old self.new result air.new.segments air.new.symbols }
+    {
+        let order = self.order(first);
+        let told = self.answer(first, &order);
+        let sent = is_sent(told);
+        let sync = begins_with_sync(first, self.sent, sent);
+        let preset = states_of(order);
+        self.coder.group(
+            first % FIELD,
+            first >= FIELD,
+            &self.packets,
+            preset,
+            sync,
+            air,
+        );
+        keep_if(sent, air);
+        self.sent = sent;
+        told
+    }
+
+    /// The group's own order, where it counts.
+    fn order(&self, first: u16) -> Option<Ops>
+        requires { first < 624 }
+        ensures order { result ≡ own_order self.now.settled first (bytes_of self.now.packets) }
+        ensures valid { IfSome result IsValid }
+    {
+        if self.settled {
+            order_in(&self.corrector, first, &self.packets)
+        } else {
+            None
+        }
+    }
+
+    /// The answer at a group with this order of its own.
+    fn answer(&self, first: u16, order: &Option<Ops>) -> Told
+        requires place { first < 624 }
+        requires valid { IfSome order.now IsValid }
+        ensures { result ≡ told_group self.now.address self.now.delay first order.now self.now.sent }
+    {
+        match order {
+            Some(ops) => match served(self.address, self.delay, ops) {
+                Ok(hold) => Told::Sent {
+                    preset: Some(preset_of(self.address, ops, first, hold)),
+                },
+                Err(why) => Told::Muted(why),
+            },
+            None if self.sent => Told::Sent { preset: None },
+            None => Told::Quiet,
+        }
+    }
+}
+
+/// Whether 52 or more packets stand under the anchor, as the packet at this place has joined them.
+fn is_settled(before: bool, place: u16) -> bool
+    ensures { result ≡ (before || (place == 51)) }
+{
+    before || place == 51
+}
+
+fn is_sent(told: Told) -> bool
+    ensures { result ≡ is_sent told }
+{
+    match told {
+        Told::Sent { .. } => true,
+        Told::Quiet | Told::Muted(_) => false,
+    }
+}
+
+/// Leaves the air its segments, or none.
+fn keep_if(sent: bool, air: &mut Air)
+    ensures count { air.new.segments ≡ (if sent then air.old.segments else 0) }
+    ensures symbols { air.new.symbols ≡ air.old.symbols }
+{
+    if !sent {
+        air.segments = 0;
+    }
+}
+
+/// Whether a field sync stands before the group that begins at this place of its frame.
+fn begins_with_sync(first: u16, before: bool, sent: bool) -> bool
+    ensures { result ≡ (sent && before && (first % 312 == 0)) }
+{
+    sent && before && first % FIELD == 0
+}
+
+/// The states that an order sets.
+fn states_of(order: Option<Ops>) -> Option<States>
+    ensures { result ≡ option_map (λ o. o.states) order }
+{
+    match order {
+        Some(ops) => Some(ops.states),
+        None => None,
+    }
+}

@@ -1,0 +1,11 @@
+//! One exciter: from a feed's packets, whatever came before them, to what its transmitter sends.
+#![tactic(auto)]
+
+mod answers;
+mod exciter;
+pub mod laws;
+mod orders;
+mod serving;
+
+pub use answers::{Preset, Told, Why};
+pub use exciter::Exciter;
