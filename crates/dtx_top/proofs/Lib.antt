@@ -1,12 +1,5 @@
-pub mod Asking
-pub mod Coded
-pub mod Finished
-pub mod Growing
-pub mod Lines
+pub mod Answers
 pub mod Making
-pub mod Marked
-pub mod Numbers
-pub mod Pieces
-pub mod Printed
-pub mod Repeated
-pub mod StreamSymbols
+pub mod Streams
+pub mod Unfit
+pub mod Receiving

@@ -1,13 +1,3 @@
-pub mod Command
-pub mod Feed
-pub mod Input
-pub mod Line
-pub mod Make
-pub mod Number
-pub mod Output
-pub mod Printed
-pub mod Status
-pub mod Stream
-pub mod Symbols
-pub mod Words
-pub mod Work
+pub mod Answer
+pub mod Carried
+pub mod Printing

@@ -1,18 +1,21 @@
 // The call that does all that the program does.
 ghost use Rattle.std.specs.Prelude.{◌≡◌, ◌⊎◌, [], None, IfSome, IsSome};
 ghost use Rattle.dtx_outside.specs.Shelf.{Rose};
-ghost use Rattle.dtx_top.specs.Line.{HasLine, IsNoLine};
-ghost use Rattle.dtx_top.specs.Make.{HasMakeCause, MakeLeaves, MakePrints, IsMadeLine};
-ghost use Rattle.dtx_top.specs.Words.{FitsNoCommand, adapt_words, code_words, make_words, make_names, repeated};
-ghost use Rattle.dtx_top.specs.Work.{adapting, coding, CanBeDone, HasCause, Leaves, Prints, IsFeedLine, IsCodeLine};
+ghost use Rattle.dtx_words.specs.Command.{FitsNoCommand};
+ghost use Rattle.dtx_words.specs.Line.{HasLine, IsNoLine};
+ghost use Rattle.dtx_words.specs.Names.{repeated};
+ghost use Rattle.dtx_words.specs.Words.{adapt_words, code_words, make_words, make_names, receive_words, receive_names};
+ghost use Rattle.dtx_jobs.specs.Make.{HasMakeCause, MakeLeaves};
+ghost use Rattle.dtx_jobs.specs.Received.{CanBeReceived, ReceiveLeaves};
+ghost use Rattle.dtx_jobs.specs.Work.{adapting, coding, CanBeDone, Leaves};
+ghost use Rattle.dtx_top.specs.Answer.{HasCause, HasReceiveAnswerCause};
+ghost use Rattle.dtx_top.specs.Carried.{IsCarriedOut};
+ghost use Rattle.dtx_top.specs.Printing.{IsCodeLine, IsFeedLine, IsMadeLine, IsReceiveLine, MakePrints, Prints, ReceivePrints};
 
 use crate::Status;
-use crate::adapt_command::adapt;
-use crate::code_command::code;
-use crate::command::{Command, command_of};
-use crate::line::{finish, print_refusal};
-use crate::make_command::make;
+use crate::performing::perform;
 use dtx_outside::{Shelf, Sink, Word};
+use dtx_words::{command, finish, line, name_in_line};
 use std::alloc::Global;
 
 /// Does what the words ask for, over the files of the shelf, and prints a line to the sink at the end. The words are
@@ -25,6 +28,10 @@ use std::alloc::Global;
 /// `code IN OUT` writes the symbols of the stream or feed IN to OUT: those of all data segments and field syncs that its whole
 /// groups of four packets give (ATSC A/53 Part 2), one signed byte each in two's complement. Byte 0 of its packets is 0x47 or the
 /// mark 0xB8, and isn't sent.
+///
+/// `receive IN OUT` writes the packets of the symbols IN to OUT: those of every run of segments that begins with one that looks like a
+/// field sync, each with up to ten wrong bytes of its word put right, or flagged where its word has no correction (ATSC A/53
+/// Part 2, the way back).
 ///
 /// `make SEED COUNT OUT` writes the packets 0 to COUNT - 1 that `dtx_make::packet` gives for SEED to OUT. SEED is 0 to
 /// 2^64 - 1 and COUNT 0 to 624,000,000, in decimal digits without sign and without a leading zero unless it is `0`.
@@ -93,6 +100,34 @@ pub fn run<S: Shelf, O: Sink>(alloc: Global, words: &[Word], shelf: &mut S, out:
     ensures code_line { IfSome (code_words words.now) (λ asked. HasLine (IsCodeLine (coding asked) (S.files shelf.old)) (coding asked).names result
         (Rose (O.faults out.old) (O.faults out.new)) (O.written out.old) (O.written out.new)) }
 
+    // Each answer of `receive` has its cause, and equal names have no other answer.
+    ensures receive_cause { IfSome (receive_words words.now) (λ asked. HasReceiveAnswerCause asked (S.files shelf.old)
+        (Rose (S.misses shelf.old) (S.misses shelf.new))
+        (Rose (S.read_faults shelf.old) (S.read_faults shelf.new))
+        (Rose (S.write_faults shelf.old) (S.write_faults shelf.new))
+        (Rose (O.faults out.old) (O.faults out.new)) result) }
+    ensures receive_same { IfSome (receive_words words.now) (λ asked. IsSome (repeated (receive_names asked))
+        → (result ≡ Status.Same) ⊎ (result ≡ Status.Memory)) }
+
+    // Where nothing stands against it and nothing fails, it is done, unless memory is wanted.
+    ensures receive_complete { IfSome (receive_words words.now) (λ asked. CanBeReceived asked (S.files shelf.old)
+        → ¬ Rose (S.read_faults shelf.old) (S.read_faults shelf.new)
+        → ¬ (Rose (S.write_faults shelf.old) (S.write_faults shelf.new) ⊎ Rose (O.faults out.old) (O.faults out.new))
+        → (result ≡ Status.Done) ⊎ (result ≡ Status.Memory)) }
+
+    // Where it is done, the output is the packets of the input and the line has its numbers; what stands after every other answer, and
+    // that no other file was touched.
+    ensures receive_left { IfSome (receive_words words.now) (λ asked. ReceiveLeaves asked (S.files shelf.old) result (S.files shelf.new)) }
+    ensures receive_unprinted { IfSome (receive_words words.now) (λ asked. result ≡ Status.WriteFault
+        → ¬ Rose (S.write_faults shelf.old) (S.write_faults shelf.new)
+        → ReceiveLeaves asked (S.files shelf.old) Status.Done (S.files shelf.new)) }
+    ensures receive_done { IfSome (receive_words words.now) (λ asked. result ≡ Status.Done
+        → ReceivePrints asked (S.files shelf.old) (O.written out.old) (O.written out.new)) }
+
+    // The line is the last thing that is written.
+    ensures receive_line { IfSome (receive_words words.now) (λ asked. HasLine (IsReceiveLine asked (S.files shelf.old)) (receive_names asked) result
+        (Rose (O.faults out.old) (O.faults out.new)) (O.written out.old) (O.written out.new)) }
+
     // Each answer of `make` has its cause; where nothing fails it is done, unless memory is wanted.
     ensures make_cause { IfSome (make_words words.now) (λ making. HasMakeCause
         (Rose (S.write_faults shelf.old) (S.write_faults shelf.new) ⊎ Rose (O.faults out.old) (O.faults out.new)) result) }
@@ -110,12 +145,22 @@ pub fn run<S: Shelf, O: Sink>(alloc: Global, words: &[Word], shelf: &mut S, out:
     ensures make_line { IfSome (make_words words.now) (λ making. HasLine (IsMadeLine making) (make_names making) result
         (Rose (O.faults out.old) (O.faults out.new)) (O.written out.old) (O.written out.new)) }
 {
-    match command_of(words) {
-        None => finish(Status::Usage, print_refusal(Status::Usage, "", out)),
-        Some(Command::Adapt(names)) => adapt(alloc, &names, shelf, out),
-        Some(Command::Code(names)) => code(alloc, &names, shelf, out),
-        Some(Command::Make(order)) => make(alloc, &order, shelf, out),
-    }
+    carry_out(alloc, words, shelf, out)
+}
+
+/// Does what the words ask for, and prints the line.
+fn carry_out<S: Shelf, O: Sink>(alloc: Global, words: &[Word], shelf: &mut S, out: &mut O) -> Status
+    ensures { IsCarriedOut words.now (S.files shelf.old) (S.files shelf.new)
+        (Rose (S.misses shelf.old) (S.misses shelf.new))
+        (Rose (S.read_faults shelf.old) (S.read_faults shelf.new))
+        (Rose (S.write_faults shelf.old) (S.write_faults shelf.new))
+        (Rose (O.faults out.old) (O.faults out.new)) (O.written out.old) (O.written out.new) result }
+{
+    let command = command(words);
+    let outcome = perform(command, alloc, words, shelf);
+    let name = name_in_line(command, words, outcome.status);
+    let printed = line(command, &outcome.status, &outcome.numbers, name, out);
+    finish(outcome.status, printed)
 }
 
 #[cfg(test)]

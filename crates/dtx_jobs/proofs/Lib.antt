@@ -1,0 +1,17 @@
+pub mod Asking
+pub mod Coded
+pub mod Growing
+pub mod Making
+pub mod Marked
+pub mod Outcomes
+pub mod Pieces
+pub mod StreamSymbols
+pub mod BytesOf
+pub mod GivenOn
+pub mod SymbolPieces
+pub mod Tallied
+pub mod Piece
+pub mod SoFar
+pub mod Ends
+pub mod ReceiveBegun
+pub mod ReceiveOutcomes

@@ -1,0 +1,12 @@
+pub mod Feed
+pub mod Input
+pub mod Make
+pub mod Output
+pub mod Stream
+pub mod Symbols
+pub mod Work
+pub mod SymbolFile
+pub mod Tally
+pub mod Reception
+pub mod Receive
+pub mod Received

@@ -1,0 +1,21 @@
+-- What a command of one stream answers, once its line was printed or not.
+use Rattle.std.specs.Prelude.{◌⊎◌, Option}
+use Rattle.dtx_outside.specs.Shelf.{Files}
+use Rattle.dtx_jobs.specs.Received.{OfSymbols, IsReceivable, HasReceiveJobCause}
+use Rattle.dtx_words.specs.Words.{ReceiveWords}
+use Rattle.dtx_jobs.specs.Work.{Work, OfInput, IsPlainFile, HasJobCause}
+use Rattle.dtx_words.specs.declared.status.Status.{Status}
+use Rattle.dtx_words.specs.declared.status.Status.TheVariants.{WriteFault}
+
+-- The cause of each answer: a file was missed, reading failed, writing failed, the line could not be printed.
+-- It is that of the command, but for `WriteFault`, which is also answered where all was done and its line could not be printed.
+abbrev pub HasCause : Work → Option Files → Type 0 → Type 0 → Type 0 → Type 0 → Status → Type 0
+HasCause work told missed misread miswritten unprinted WriteFault =
+    HasJobCause work told missed misread miswritten WriteFault ⊎ (unprinted × OfInput work told (IsPlainFile work.source))
+HasCause work told missed misread miswritten unprinted status = HasJobCause work told missed misread miswritten status
+
+-- the same of `receive`
+abbrev pub HasReceiveAnswerCause : ReceiveWords → Option Files → Type 0 → Type 0 → Type 0 → Type 0 → Status → Type 0
+HasReceiveAnswerCause asked told missed misread miswritten unprinted WriteFault =
+    HasReceiveJobCause asked told missed misread miswritten WriteFault ⊎ (unprinted × OfSymbols asked told IsReceivable)
+HasReceiveAnswerCause asked told missed misread miswritten unprinted status = HasReceiveJobCause asked told missed misread miswritten status

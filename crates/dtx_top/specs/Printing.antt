@@ -1,0 +1,40 @@
+-- The lines of commands that are done, with the numbers of their inputs.
+use Rattle.std.specs.Prelude.{◌≡◌, ℕ, List, length, Option}
+use Rattle.dtx_coder.specs.Stream.{a53}
+use Rattle.dtx_outside.specs.Shelf.{Files}
+use Rattle.dtx_packets.specs.Packets.{packets_of}
+use Rattle.dtx_words.specs.Line.{done_line, feed_line, code_line, made_line}
+use Rattle.dtx_words.specs.Printed.{printed}
+use Rattle.dtx_words.specs.Words.{MakeWords, ReceiveWords}
+use Rattle.dtx_words.specs.declared.verbs.Command.TheVariants.{Receive}
+use Rattle.dtx_jobs.specs.Received.{OfSymbols, received_numbers}
+use Rattle.dtx_jobs.specs.Work.{Work, OfInput, AreItsNumbers, command_of, numbers_of}
+
+-- the line of the feed of the input
+abbrev pub IsFeedLine : Work → Option Files → List ℕ → Type 0
+IsFeedLine work told text = (packets : ℕ) × (loose : ℕ) × (text ≡ feed_line packets 0 loose) × AreItsNumbers work told packets loose
+
+-- the line of the symbols of the input
+abbrev pub IsCodeLine : Work → Option Files → List ℕ → Type 0
+IsCodeLine work told text = (packets : ℕ) × (segments : ℕ) × (loose : ℕ) × (text ≡ code_line packets segments loose)
+    × AreItsNumbers work told packets loose × OfInput work told (λ file. segments ≡ length (a53 (packets_of file)))
+
+-- the line of the command was printed, with the numbers of the input
+abbrev pub Prints : Work → Option Files → Option (List ℕ) → Option (List ℕ) → Type 0
+Prints work told old new = OfInput work told (λ file. new ≡ printed (done_line (command_of work.source) (numbers_of work.source file)) old)
+
+-- the line of the packets of the input
+abbrev pub IsReceiveLine : ReceiveWords → Option Files → List ℕ → Type 0
+IsReceiveLine asked told text = (numbers : List ℕ) × (text ≡ done_line Receive numbers) × OfSymbols asked told (λ file. numbers ≡ received_numbers file)
+
+-- that line was printed
+abbrev pub ReceivePrints : ReceiveWords → Option Files → Option (List ℕ) → Option (List ℕ) → Type 0
+ReceivePrints asked told old new = OfSymbols asked told (λ file. new ≡ printed (done_line Receive (received_numbers file)) old)
+
+-- the line of a made stream
+abbrev pub IsMadeLine : MakeWords → List ℕ → Type 0
+IsMadeLine words text = text ≡ made_line words.count
+
+-- that line was printed
+abbrev pub MakePrints : MakeWords → Option (List ℕ) → Option (List ℕ) → Type 0
+MakePrints words old new = new ≡ printed (made_line words.count) old

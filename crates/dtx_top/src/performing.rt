@@ -1,0 +1,36 @@
+// The command that the words fit, but for its line.
+ghost use Rattle.std.specs.Prelude.{◌≡◌, IfSome, IsSome};
+ghost use Rattle.dtx_outside.specs.Shelf.{Rose};
+ghost use Rattle.dtx_words.specs.Command.{Fits};
+ghost use Rattle.dtx_top.specs.Carried.{IsPerformed};
+
+use dtx_jobs::{Outcome, adapt, code, make, receive};
+use dtx_outside::{Shelf, Word};
+use dtx_words::{Command, Status};
+use std::alloc::Global;
+
+/// Does that command, which the words fit, but for its line.
+pub(crate) fn perform<S: Shelf>(
+    command: Option<Command>,
+    alloc: Global,
+    words: &[Word],
+    shelf: &mut S,
+) -> Outcome
+    requires { IfSome command (λ command. Fits command words.now) }
+    ensures performed { IsPerformed command words.now (S.files shelf.old) (S.files shelf.new)
+        (Rose (S.misses shelf.old) (S.misses shelf.new))
+        (Rose (S.read_faults shelf.old) (S.read_faults shelf.new))
+        (Rose (S.write_faults shelf.old) (S.write_faults shelf.new)) result }
+    ensures done { result.status ≡ Status.Done → IsSome command }
+{
+    match command {
+        Some(Command::Adapt) => adapt(alloc, words, shelf),
+        Some(Command::Code) => code(alloc, words, shelf),
+        Some(Command::Receive) => receive(alloc, words, shelf),
+        Some(Command::Make) => make(alloc, words, shelf),
+        None => Outcome {
+            status: Status::Usage,
+            numbers: [0; 6],
+        },
+    }
+}

@@ -1,0 +1,4 @@
+pub mod LineLeft
+pub mod Numbers
+pub mod Printed
+pub mod Repeated

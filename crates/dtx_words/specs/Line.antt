@@ -1,0 +1,90 @@
+-- The lines that are printed at the end, and what is left of one whose printing failed.
+use Rattle.std.specs.Prelude.{◌≡◌, ◌⊎◌, ℕ, ◌≤◌, List, [], ◌++◌, length, take, codes, decimal, slice_index, Option, Some, Result, Ok, Err}
+use Rattle.dtx_outside.specs.declared.sink.SinkNo.{SinkNo}
+use Rattle.dtx_outside.specs.declared.sink.SinkNo.TheVariants as sink
+use Rattle.dtx_words.specs.Printed.{printed}
+use Rattle.dtx_words.specs.Names.{line_name}
+use Rattle.dtx_words.specs.declared.verbs.Command.{Command}
+use Rattle.dtx_words.specs.declared.verbs.Command.TheVariants.{Adapt, Code, Receive, Make}
+use Rattle.dtx_words.specs.declared.status.Status.{Status}
+use Rattle.dtx_words.specs.declared.status.Status.TheVariants.{Done, Usage, Same, Absent, Packet, TooLong, NoSync, ReadFault, WriteFault, Memory, NotBuilt}
+
+-- the line of a feed that was written
+abbrev pub feed_line : ℕ → ℕ → ℕ → List ℕ
+feed_line packets filled loose = codes "packets " ++ decimal packets ++ codes " filled " ++ decimal filled ++ codes " loose " ++ decimal loose ++ codes "\n"
+
+-- the line of symbols that were written
+abbrev pub code_line : ℕ → ℕ → ℕ → List ℕ
+code_line packets segments loose = codes "packets " ++ decimal packets ++ codes " segments " ++ decimal segments ++ codes " loose " ++ decimal loose ++ codes "\n"
+
+-- the line of packets that were received
+abbrev pub receive_line : ℕ → ℕ → ℕ → ℕ → ℕ → ℕ → List ℕ
+receive_line segments runs packets fixed flagged loose =
+    codes "segments " ++ (decimal segments ++ (codes " runs " ++ (decimal runs ++ (codes " packets " ++ (decimal packets ++ (codes " fixed " ++ (decimal fixed
+    ++ (codes " flagged " ++ (decimal flagged ++ (codes " loose " ++ (decimal loose ++ codes "\n")))))))))))
+
+-- the line of a made stream
+abbrev pub made_line : ℕ → List ℕ
+made_line packets = codes "packets " ++ decimal packets ++ codes "\n"
+
+-- the line of a refusal
+abbrev pub refusal_line : Status → List ℕ → List ℕ
+refusal_line Done name = []
+refusal_line Usage name = codes "usage: dtx adapt|code|excite|receive|net|make|hurt\n"
+refusal_line Same name = codes "same " ++ name ++ codes "\n"
+refusal_line (Absent input) name = codes "absent " ++ name ++ codes "\n"
+refusal_line (Packet k) name = codes "packet " ++ decimal k ++ codes "\n"
+refusal_line TooLong name = codes "too long\n"
+refusal_line NoSync name = codes "no sync\n"
+refusal_line ReadFault name = codes "read fault\n"
+refusal_line WriteFault name = codes "write fault\n"
+refusal_line Memory name = codes "no memory\n"
+refusal_line (NotBuilt k) name = codes "not built " ++ decimal k ++ codes "\n"
+
+-- the line of a command that is done, from its numbers in their order
+abbrev pub done_line : Command → List ℕ → List ℕ
+done_line Adapt numbers = feed_line (slice_index numbers 0) (slice_index numbers 1) (slice_index numbers 2)
+done_line Code numbers = code_line (slice_index numbers 0) (slice_index numbers 1) (slice_index numbers 2)
+done_line Receive numbers =
+    receive_line (slice_index numbers 0) (slice_index numbers 1) (slice_index numbers 2) (slice_index numbers 3) (slice_index numbers 4) (slice_index numbers 5)
+done_line Make numbers = made_line (slice_index numbers 0)
+
+-- the line of a status: that of the command where it is done, else that of the refusal
+abbrev pub line_of : Option Command → Status → List ℕ → List ℕ → List ℕ
+line_of (Some command) Done numbers name = done_line command numbers
+line_of command status numbers name = refusal_line status name
+
+-- the text is the line of a status, for a command with these lines of `Done` and these names
+abbrev pub IsLine : (List ℕ → Type 0) → List (List ℕ) → Status → List ℕ → Type 0
+IsLine IsDoneLine names Done text = IsDoneLine text
+IsLine IsDoneLine names status text = text ≡ refusal_line status (line_name status names)
+
+-- the lines of `Done` where the words fit no command: there are none
+abbrev pub IsNoLine : List ℕ → Type 0
+IsNoLine text = ⊥
+
+-- the whole of such a line was printed
+abbrev pub HasWholeLine : (List ℕ → Type 0) → List (List ℕ) → Status → Option (List ℕ) → Option (List ℕ) → Type 0
+HasWholeLine IsDoneLine names status old new = (text : List ℕ) × IsLine IsDoneLine names status text × (new ≡ printed text old)
+
+-- a front part of such a line was printed
+abbrev pub HasPartLine : (List ℕ → Type 0) → List (List ℕ) → Status → Option (List ℕ) → Option (List ℕ) → Type 0
+HasPartLine IsDoneLine names status old new =
+    (text : List ℕ) × (n : ℕ) × (n ≤ length text) × IsLine IsDoneLine names status text × (new ≡ printed (take n text) old)
+
+-- What a call printed, whose sink failed or not: the whole line of its status; or, where the sink failed, a front
+-- part of it, for WriteFault also of the line of Done; after Memory a front part of some line.
+abbrev pub HasLine : (List ℕ → Type 0) → List (List ℕ) → Status → Type 0 → Option (List ℕ) → Option (List ℕ) → Type 0
+HasLine IsDoneLine names Memory failed old new = (status : Status) × HasPartLine IsDoneLine names status old new
+HasLine IsDoneLine names WriteFault failed old new =
+    HasWholeLine IsDoneLine names WriteFault old new
+    ⊎ (failed × (HasPartLine IsDoneLine names WriteFault old new ⊎ HasPartLine IsDoneLine names Done old new))
+HasLine IsDoneLine names status failed old new =
+    HasWholeLine IsDoneLine names status old new ⊎ (failed × HasPartLine IsDoneLine names status old new)
+
+-- the status after its line was printed so
+abbrev pub finished : Status → Result (Unit {0}) SinkNo → Status
+finished status (Ok _) = status
+finished status (Err sink.Memory) = Memory
+finished Done (Err sink.Failed) = WriteFault
+finished status (Err sink.Failed) = status

@@ -1,0 +1,21 @@
+//! The words of the command line, how a command ends, and the line that it prints.
+#![tactic(auto)]
+
+mod fitting;
+mod lines;
+mod names;
+mod number;
+mod put;
+mod status;
+mod verbs;
+mod words;
+
+pub use fitting::command;
+pub use lines::{finish, line};
+pub use names::{name_in_line, repeated_name};
+pub use status::{Status, of_next, of_read};
+pub use verbs::Command;
+pub use words::{
+    AdaptNames, CodeNames, MakeOrder, ReceiveNames, adapt_words, code_words, make_words,
+    receive_words,
+};

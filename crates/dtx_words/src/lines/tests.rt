@@ -1,0 +1,37 @@
+// The exact text of the lines, over a sink in memory.
+use super::*;
+use crate::command;
+use dtx_outside::{MemorySink, Word};
+use std::test::Fail;
+
+#[test]
+fn each_line_ends_in_a_line_feed_and_has_its_numbers_in_order(rt: HostRuntime) -> Result<(), Fail> {
+    let numbers = [8, 9, 3, 1, 2, 5];
+    for (verb, arguments, status, text) in [
+        ("adapt", 3, Status::Done, "packets 8 filled 9 loose 3\n"),
+        ("code", 2, Status::Done, "packets 8 segments 9 loose 3\n"),
+        (
+            "receive",
+            2,
+            Status::Done,
+            "segments 8 runs 9 packets 3 fixed 1 flagged 2 loose 5\n",
+        ),
+        ("receive", 2, Status::NoSync, "no sync\n"),
+        ("make", 3, Status::Done, "packets 8\n"),
+        ("code", 2, Status::Packet(417), "packet 417\n"),
+        ("adapt", 3, Status::NotBuilt(5), "not built 5\n"),
+        ("make", 3, Status::WriteFault, "write fault\n"),
+    ] {
+        let mut words = Vec::new(rt.alloc());
+        words.push(Word::new(String::from_str(rt.alloc(), verb)?))?;
+        for _ in 0..arguments {
+            words.push(Word::new(String::from_str(rt.alloc(), "7")?))?;
+        }
+        let command = command(&words);
+        let mut out = MemorySink::new(rt.alloc());
+        assert!(rt; command.is_some());
+        assert!(rt; line(command, &status, &numbers, "x", &mut out).is_ok());
+        assert_eq!(rt; out.bytes(), text.as_bytes());
+    }
+    Ok(())
+}

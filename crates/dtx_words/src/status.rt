@@ -1,0 +1,103 @@
+// How a call of the program ends.
+ghost use Rattle.std.specs.Prelude.{◌≡◌};
+ghost use Rattle.dtx_words.specs.Status.{code_of, of_next, of_read};
+
+use dtx_outside::{ReadNo, WriteNo};
+use dtx_packets::NextNo;
+use std::alloc::AllocError;
+
+/// How a call ends. Inputs are numbered from 0, in the order of the words that name them.
+#[derive(Clone, Copy, Debug, PartialEq, Eq)]
+pub enum Status {
+    /// The command was done, and its inputs were read to their ends.
+    Done,
+    /// The words fit no command.
+    Usage,
+    /// Two file names of the command are equal.
+    Same,
+    /// The input of that number isn't there.
+    Absent(u8),
+    /// The packet of that number is the first whose byte 0 isn't allowed.
+    Packet(u64),
+    /// An input holds more than the command takes.
+    TooLong,
+    /// No whole segment that is received looks like a field sync.
+    NoSync,
+    /// Reading failed.
+    ReadFault,
+    /// Writing failed, or printing the line of `Done`.
+    WriteFault,
+    /// Memory is wanted.
+    Memory,
+    /// The packet of that number is the first placeholder, which can't be filled yet.
+    NotBuilt(u64),
+}
+
+impl Status {
+    /// The number with which the program ends.
+    pub fn code(&self) -> u8
+        ensures { result ≡ code_of self.now }
+    {
+        match self {
+            Status::Done => 0,
+            Status::Usage => 2,
+            Status::Same => 3,
+            Status::Absent(_) => 4,
+            Status::Packet(_) => 6,
+            Status::TooLong => 7,
+            Status::NoSync => 10,
+            Status::ReadFault => 11,
+            Status::WriteFault => 12,
+            Status::Memory => 13,
+            Status::NotBuilt(_) => 14,
+        }
+    }
+}
+
+/// The status after a refusal to read that input.
+pub fn of_read(input: u8, cause: ReadNo) -> Status
+    ensures { result ≡ of_read input cause }
+{
+    match cause {
+        ReadNo::Absent => Status::Absent(input),
+        ReadNo::Failed => Status::ReadFault,
+        ReadNo::Memory => Status::Memory,
+    }
+}
+
+/// The status after a refusal to give a packet of that input.
+pub fn of_next(input: u8, cause: NextNo) -> Status
+    ensures { result ≡ of_next input cause }
+{
+    match cause {
+        NextNo::Absent => Status::Absent(input),
+        NextNo::Failed => Status::ReadFault,
+        NextNo::Memory => Status::Memory,
+        NextNo::TooLong => Status::TooLong,
+    }
+}
+
+impl From<WriteNo> for Status {
+    ghost use Rattle.std.specs.Prelude.{◌≡◌};
+    ghost use Rattle.dtx_words.specs.Status.{of_write};
+
+    ghost from_gives = { λ cause status. status ≡ of_write cause };
+
+    fn from(cause: WriteNo) -> Status {
+        match cause {
+            WriteNo::Failed => Status::WriteFault,
+            WriteNo::Memory => Status::Memory,
+        }
+    }
+}
+
+impl From<AllocError> for Status {
+    ghost use Rattle.std.specs.Prelude.{◌≡◌};
+    ghost use Rattle.dtx_words.specs.declared.status.Status.TheVariants.{Memory};
+
+    ghost from_gives = { λ cause status. status ≡ Memory };
+
+    fn from(_cause: AllocError) -> Status {
+        Status::Memory
+    }
+}

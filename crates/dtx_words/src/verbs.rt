@@ -1,0 +1,14 @@
+// The commands.
+
+/// A command, which its verb names: the first word.
+#[derive(Clone, Copy, Debug, PartialEq, Eq)]
+pub enum Command {
+    /// `adapt PLAN IN OUT`
+    Adapt,
+    /// `code IN OUT`
+    Code,
+    /// `receive IN OUT`
+    Receive,
+    /// `make SEED COUNT OUT`
+    Make,
+}

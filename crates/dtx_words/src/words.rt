@@ -1,0 +1,156 @@
+// What the words of each command name.
+ghost use Rattle.std.specs.Prelude.{◌≡◌, map};
+ghost use Rattle.std.specs.Option.{option_map};
+ghost use Rattle.dtx_words.specs.Behind.{adapt_behind, code_behind, make_behind, receive_behind};
+ghost use Rattle.dtx_words.specs.Words.{adapt_names, adapt_words, code_names, code_words, is_name, make_names, make_words, receive_names, receive_words};
+
+use crate::number::number_up_to;
+use dtx_outside::Word;
+use dtx_packets::MOST_PACKETS;
+
+/// The file names of `adapt PLAN IN OUT`.
+#[derive(Clone, Copy)]
+pub struct AdaptNames<'a> {
+    /// The plan, which is input 0.
+    pub plan: &'a str,
+    /// The stream, which is input 1.
+    pub input: &'a str,
+    /// The feed.
+    pub output: &'a str,
+}
+
+impl<'a> AdaptNames<'a> {
+    /// All of them, the inputs first.
+    pub fn files(&self) -> [&'a str; 3]
+        ensures { map (λ name. name.now) result ≡ adapt_names (adapt_behind self.now) }
+    {
+        [self.plan, self.input, self.output]
+    }
+}
+
+/// The file names of `code IN OUT`.
+#[derive(Clone, Copy)]
+pub struct CodeNames<'a> {
+    /// The stream or feed, which is input 0.
+    pub input: &'a str,
+    /// The symbols.
+    pub output: &'a str,
+}
+
+impl<'a> CodeNames<'a> {
+    /// All of them, the inputs first.
+    pub fn files(&self) -> [&'a str; 2]
+        ensures { map (λ name. name.now) result ≡ code_names (code_behind self.now) }
+    {
+        [self.input, self.output]
+    }
+}
+
+/// The file names of `receive IN OUT`.
+#[derive(Clone, Copy)]
+pub struct ReceiveNames<'a> {
+    /// The symbols, which are input 0.
+    pub input: &'a str,
+    /// The packets.
+    pub output: &'a str,
+}
+
+impl<'a> ReceiveNames<'a> {
+    /// All of them, the inputs first.
+    pub fn files(&self) -> [&'a str; 2]
+        ensures { map (λ name. name.now) result ≡ receive_names (receive_behind self.now) }
+    {
+        [self.input, self.output]
+    }
+}
+
+/// What `make SEED COUNT OUT` is to make: the packets 0 to `count - 1` of a seed, in a file of that name.
+#[derive(Clone, Copy)]
+pub struct MakeOrder<'a> {
+    /// The seed.
+    pub seed: u64,
+    /// How many packets, 0 to 624,000,000.
+    pub count: u64,
+    /// The made stream.
+    pub output: &'a str,
+}
+
+impl<'a> MakeOrder<'a> {
+    /// The only file name.
+    pub fn files(&self) -> [&'a str; 1]
+        ensures { map (λ name. name.now) result ≡ make_names (make_behind self.now) }
+    {
+        [self.output]
+    }
+}
+
+/// What the words name where they fit `adapt`, else `None`.
+pub fn adapt_words(words: &[Word]) -> Option<AdaptNames<'_>>
+    ensures { option_map adapt_behind result ≡ adapt_words words.now }
+{
+    match words {
+        [verb, plan, input, output]
+            if verb.as_str() == "adapt" && is_name(plan) && is_name(input) && is_name(output) => {
+            Some(AdaptNames {
+                plan: plan.as_str(),
+                input: input.as_str(),
+                output: output.as_str(),
+            })
+        }
+        _ => None,
+    }
+}
+
+/// What the words name where they fit `code`, else `None`.
+pub fn code_words(words: &[Word]) -> Option<CodeNames<'_>>
+    ensures { option_map code_behind result ≡ code_words words.now }
+{
+    match words {
+        [verb, input, output] if verb.as_str() == "code" && is_name(input) && is_name(output) => {
+            Some(CodeNames {
+                input: input.as_str(),
+                output: output.as_str(),
+            })
+        }
+        _ => None,
+    }
+}
+
+/// What the words name where they fit `receive`, else `None`.
+pub fn receive_words(words: &[Word]) -> Option<ReceiveNames<'_>>
+    ensures { option_map receive_behind result ≡ receive_words words.now }
+{
+    match words {
+        [verb, input, output] if verb.as_str() == "receive" && is_name(input) && is_name(output) =>
+            {
+                Some(ReceiveNames {
+                    input: input.as_str(),
+                    output: output.as_str(),
+                })
+            }
+        _ => None,
+    }
+}
+
+/// What the words order where they fit `make`, else `None`.
+pub fn make_words(words: &[Word]) -> Option<MakeOrder<'_>>
+    ensures { option_map make_behind result ≡ make_words words.now }
+{
+    match words {
+        [verb, seed, count, output] if verb.as_str() == "make" && is_name(output) => {
+            Some(MakeOrder {
+                seed: number_up_to(u64::MAX, seed.as_str())?,
+                count: number_up_to(MOST_PACKETS, count.as_str())?,
+                output: output.as_str(),
+            })
+        }
+        _ => None,
+    }
+}
+
+/// The word fits a file name.
+fn is_name(word: &Word) -> bool
+    ensures { result ≡ is_name word.now }
+{
+    !word.as_str().is_empty()
+}
