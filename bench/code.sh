@@ -10,16 +10,12 @@ bar=8
 packets=1063830
 # GNU Radio is slow, so it gets a part of the stream: a multiple of the twelve packets that it codes at once.
 few_packets=106080
+least_packets=12
 
 . "$(dirname "${BASH_SOURCE[0]}")/timing.sh"
+. "$top/bench/gnuradio.sh"
 "$program" make 1 $packets "$room/in.ts" >"$room/said"
 head -c $((few_packets * 188)) "$room/in.ts" >"$room/few.ts"
-
-# rate NAME PACKETS MICROSECONDS
-rate() {
-    awk -v name="$1" -v packets="$2" -v time="$3" \
-        'BEGIN { printf "%-10s %7.3f s %7.1f MB/s of transport stream %6.0f ns a packet\n", name, time / 1e6, packets * 188 / time, time * 1e3 / packets }'
-}
 
 for ((round = 0; round < rounds; round++)); do
     measure 'dtx code' "$room/out.sym" "$program" code "$room/in.ts" "$room/out.sym"
@@ -28,18 +24,12 @@ printf 'best of %d%s\n' $rounds "${pinned[*]:+, on one processor}"
 rate 'dtx code' $packets "${best[dtx code]}"
 rm "$room/out.sym"
 
-if ! python3 -c 'from gnuradio import dtv' 2>"$room/complaint"; then
+if ! find_gnuradio; then
     echo 'GNU Radio is not installed here'
     exit 0
 fi
-# Its start is no part of the coding: the time of two packets' groups is taken off.
-head -c $((12 * 188)) "$room/few.ts" >"$room/least.ts"
-start=$(timed python3 "$top/bench/gnuradio_code.py" "$room/least.ts" "$room/out.sym")
-whole=$(timed python3 "$top/bench/gnuradio_code.py" "$room/few.ts" "$room/out.sym")
-other=$((whole - start))
-rate 'GNU Radio' $few_packets "$other"
-awk -v dtx="${best[dtx code]}" -v packets=$packets -v other="$other" -v few=$few_packets -v bar=$bar 'BEGIN {
-    ratio = (other / few) / (dtx / packets)
-    printf "dtx code is %.1f times as fast (bar: %d)\n", ratio, bar
-    exit ratio < bar
-}'
+# Its start is no part of the coding: the time of a few packets is taken off.
+head -c $((least_packets * 188)) "$room/few.ts" >"$room/least.ts"
+start=$(timed "$gnuradio_python" "$top/bench/gnuradio_code.py" "$room/least.ts" "$room/out.sym")
+whole=$(timed "$gnuradio_python" "$top/bench/gnuradio_code.py" "$room/few.ts" "$room/out.sym")
+compared 'dtx code' $packets $((few_packets - least_packets)) $((whole - start)) $bar

@@ -1,5 +1,6 @@
 // The shapes of the coding's parts in plain Rust, beside which the proved ones are measured: whitening by a local copy, the
-// interleaver in one block, the outer coding of both with the encoder, and the trellis coders in sixteen lanes. See codec.sh.
+// interleaver in one block, the outer coding of both with the encoder, the trellis coders in sixteen lanes, and a group of all of
+// these with the field sync and the data segments. See codec.sh.
 use std::array::from_fn;
 use std::time::Instant;
 
@@ -34,6 +35,12 @@ const ROOM: usize = 32_768;
 const CODERS: usize = 12;
 const GROUP_BYTES: usize = 828;
 const GROUP_LEVELS: usize = 3_312;
+const SEGMENT: usize = 832;
+const SEGMENT_LEVELS: usize = 828;
+const SYNC_FRONT: usize = 820;
+const LAST: usize = 12;
+const GROUP_PACKETS: usize = 4;
+const PACKET: usize = 188;
 const ROUNDS: u32 = 400;
 const WHITENED_FIELDS: usize = 4;
 const PASSED: usize = 1_000;
@@ -278,6 +285,70 @@ impl Trellis {
     }
 }
 
+// What the front of a first field's sync is, from its recurrences.
+fn sync_front() -> [i8; SYNC_FRONT] {
+    let mut long = vec![0, 0, 0, 0, 0, 0, 0, 1, 0];
+    while long.len() < 511 {
+        let back = |k| long[long.len() - k];
+        long.push((back(2) + back(3) + back(5) + back(6) + back(8) + back(9)) % 2);
+    }
+    let mut short = vec![1, 1, 1, 0, 0, 1];
+    while short.len() < 63 {
+        short.push((short[short.len() - 5] + short[short.len() - 6]) % 2);
+    }
+    let mode = [0, 0, 0, 0, 1, 1, 1, 1, 0, 0, 0, 0, 1, 1, 1, 1, 0, 1, 0, 1, 1, 0, 1, 0];
+    let bits = [&[1, 0, 0, 1], &long[..], &short, &short, &short, &mode, &short, &short[..29]].concat();
+    from_fn(|i| if bits[i] == 1 { 5 } else { -5 })
+}
+
+struct Group {
+    whitener: Whitener,
+    encoder: Encoder,
+    interleaver: Interleaver,
+    coders: Trellis,
+    front: [i8; SYNC_FRONT],
+    last: [i8; LAST],
+    symbols: [i8; 5 * SEGMENT],
+}
+
+impl Group {
+    fn new() -> Group {
+        Group {
+            whitener: Whitener::new(),
+            encoder: Encoder::new(),
+            interleaver: Interleaver::new(),
+            coders: Trellis { states: [0; CODERS] },
+            front: sync_front(),
+            last: [-7; LAST],
+            symbols: [0; 5 * SEGMENT],
+        }
+    }
+
+    fn send(&mut self, first: usize, packets: &[[u8; PACKET]; GROUP_PACKETS], sync: bool) {
+        let mut bytes = [0; GROUP_BYTES];
+        for (i, out) in bytes.as_chunks_mut::<WORD>().0.iter_mut().enumerate() {
+            let head = packets[i].last_chunk().unwrap();
+            self.encoder.encode(&self.whitener.whiten(DATA * (first + i), head), out);
+            self.interleaver.pass(out);
+        }
+        let mut levels = [0; GROUP_LEVELS];
+        self.coders.group(first, &bytes, &mut levels);
+        let (segments, _) = self.symbols.as_chunks_mut::<SEGMENT>();
+        let begun = sync as usize;
+        if sync {
+            segments[0][..SYNC_FRONT].copy_from_slice(&self.front);
+            segments[0][SYNC_FRONT..].copy_from_slice(&self.last);
+        }
+        for (segment, levels) in segments[begun..].iter_mut().zip(levels.chunks_exact(SEGMENT_LEVELS)) {
+            segment[..4].copy_from_slice(&[5, -5, -5, 5]);
+            for (symbol, level) in segment[4..].iter_mut().zip(levels) {
+                *symbol = 2 * *level as i8 - 7;
+            }
+        }
+        self.last = *segments[begun + 3].last_chunk().unwrap();
+    }
+}
+
 fn print_least(name: &str, piece: &str, pieces: usize, mut round: impl FnMut() -> u8) {
     let mut least = u128::MAX;
     let mut sum = 0u8;
@@ -346,12 +417,28 @@ fn trellis() {
     });
 }
 
+fn group() {
+    let mut coding = Group::new();
+    let mut packets: [[u8; PACKET]; GROUP_PACKETS] =
+        from_fn(|p| from_fn(|i| if i == 0 { 0x47 } else { ((i + 50 * p) % 251) as u8 }));
+    print_least("group", "group", FIELD / 4, || {
+        for group in 0..FIELD / 4 {
+            coding.send(4 * group, &packets, group == 0);
+            for (byte, symbol) in packets[0][1..].iter_mut().zip(&coding.symbols[4 * SEGMENT - LAST..4 * SEGMENT]) {
+                *byte ^= *symbol as u8;
+            }
+        }
+        coding.symbols[SEGMENT] as u8
+    });
+}
+
 fn main() {
     match std::env::args().nth(1).as_deref() {
         Some("whiten") => whiten(),
         Some("spread") => spread(),
         Some("outer") => outer(),
         Some("trellis") => trellis(),
-        _ => println!("usage: codec [whiten | spread | outer | trellis]"),
+        Some("group") => group(),
+        _ => println!("usage: codec [whiten | spread | outer | trellis | group]"),
     }
 }

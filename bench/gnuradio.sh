@@ -1,0 +1,30 @@
+# shellcheck shell=bash
+# What the measures beside GNU Radio share, to be sourced by them behind timing.sh: the Python that its blocks are installed
+# for, and how the times of both are told.
+
+# Sets `gnuradio_python`; the status is not 0 where there is none.
+find_gnuradio() {
+    for gnuradio_python in python3 /usr/bin/python3; do
+        if "$gnuradio_python" -c 'from gnuradio import dtv' 2>/dev/null; then
+            return 0
+        fi
+    done
+    return 1
+}
+
+# rate NAME PACKETS MICROSECONDS
+rate() {
+    awk -v name="$1" -v packets="$2" -v time="$3" \
+        'BEGIN { printf "%-12s %7.3f s %7.1f MB/s of transport stream %6.0f ns a packet\n", name, time / 1e6, packets * 188 / time, time * 1e3 / packets }'
+}
+
+# compared NAME PACKETS FEW MICROSECONDS BAR: tells the time that GNU Radio took for FEW packets, and how many times as fast the
+# command of that name is, which was measured over PACKETS. The status is 0 where it is at least BAR times as fast.
+compared() {
+    rate 'GNU Radio' "$3" "$4"
+    awk -v name="$1" -v time="${best[$1]}" -v packets="$2" -v few="$3" -v other="$4" -v bar="$5" 'BEGIN {
+        ratio = (other / few) / (time / packets)
+        printf "%s is %.1f times as fast (bar: %d)\n", name, ratio, bar
+        exit ratio < bar
+    }'
+}

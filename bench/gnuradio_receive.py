@@ -1,0 +1,26 @@
+#!/usr/bin/env python3
+"""Receives symbols by GNU Radio's ATSC blocks and writes their packets: gnuradio_receive.py IN OUT."""
+
+import sys
+
+from gnuradio import blocks, dtv, gr
+
+SEGMENT = 832
+
+source, sink = sys.argv[1:3]
+chain = gr.top_block()
+checker = dtv.atsc_fs_checker()
+last = dtv.atsc_derandomizer()
+chain.connect(
+    blocks.file_source(gr.sizeof_char, source, False),
+    blocks.char_to_float(1, 1.0),
+    blocks.stream_to_vector(gr.sizeof_float, SEGMENT),
+    checker,
+)
+# Beside each segment goes its number.
+steps = [checker, dtv.atsc_viterbi_decoder(), dtv.atsc_deinterleaver(), dtv.atsc_rs_decoder(), last]
+for step, following in zip(steps, steps[1:]):
+    chain.connect((step, 0), (following, 0))
+    chain.connect((step, 1), (following, 1))
+chain.connect(last, dtv.atsc_depad(), blocks.file_sink(gr.sizeof_char, sink))
+chain.run()

@@ -1,0 +1,22 @@
+#!/usr/bin/env bash
+# Codes a made stream of 2,000 packets by `dtx code` and by GNU Radio's blocks of the same coding, and says whether their
+# symbols are the same: all data segments, symbol for symbol, and the field syncs but for symbols 709, 711, 713 and 715,
+# which are mode bits that the profile chooses otherwise. The status is 0 where they are, and where there is no GNU Radio
+# (Debian's packages `gnuradio` and `python3-numpy`).
+
+set -eu
+packets=2000
+# GNU Radio codes whole twelves of packets: four more are given to it, and what comes of them is left out.
+more=4
+
+. "$(dirname "${BASH_SOURCE[0]}")/timing.sh"
+. "$top/bench/gnuradio.sh"
+if ! find_gnuradio; then
+    echo 'GNU Radio is not installed here'
+    exit 0
+fi
+"$program" make 1 $packets "$room/in.ts" >"$room/said"
+"$program" make 1 $((packets + more)) "$room/twelves.ts" >"$room/said"
+"$program" code "$room/in.ts" "$room/dtx.sym" >"$room/said"
+"$gnuradio_python" "$top/bench/gnuradio_code.py" "$room/twelves.ts" "$room/levels"
+"$gnuradio_python" "$top/bench/gnuradio_same.py" "$room/dtx.sym" "$room/levels"

@@ -1,0 +1,40 @@
+#!/usr/bin/env bash
+# Measures `dtx receive` on the undamaged symbols of a made stream of 200 MB beside GNU Radio's receive chain, where Debian's
+# package `gnuradio` is installed. GNU Radio searches the trellis for the likeliest path besides, where `dtx` slices each
+# symbol. All of it in one run, on one processor where `taskset` is there, `dtx` the best of three and the other once. It needs
+# 2 GB on the disk of temporary files. The status is 0 where `dtx` is at least 8 times as fast, and where there is no
+# GNU Radio.
+
+set -eu
+rounds=3
+bar=8
+packets=1063920
+# GNU Radio is slow, so it gets a part of the symbols: so many whole fields.
+few_fields=34
+field_symbols=$((313 * 832))
+field_packets=312
+
+. "$(dirname "${BASH_SOURCE[0]}")/timing.sh"
+. "$top/bench/gnuradio.sh"
+"$program" make 1 $packets "$room/in.ts" >"$room/said"
+"$program" code "$room/in.ts" "$room/in.sym" >"$room/said"
+rm "$room/in.ts"
+head -c $((few_fields * field_symbols)) "$room/in.sym" >"$room/few.sym"
+few_packets=$((few_fields * field_packets))
+
+for ((round = 0; round < rounds; round++)); do
+    measure 'dtx receive' "$room/out.ts" "$program" receive "$room/in.sym" "$room/out.ts"
+done
+printf 'best of %d%s\n' $rounds "${pinned[*]:+, on one processor}"
+rate 'dtx receive' $packets "${best[dtx receive]}"
+rm "$room/in.sym" "$room/out.ts"
+
+if ! find_gnuradio; then
+    echo 'GNU Radio is not installed here'
+    exit 0
+fi
+# Its start is no part of the receiving: the time of one field is taken off.
+head -c $field_symbols "$room/few.sym" >"$room/least.sym"
+start=$(timed "$gnuradio_python" "$top/bench/gnuradio_receive.py" "$room/least.sym" "$room/out.ts")
+whole=$(timed "$gnuradio_python" "$top/bench/gnuradio_receive.py" "$room/few.sym" "$room/out.ts")
+compared 'dtx receive' $packets $((few_packets - field_packets)) $((whole - start)) $bar
