@@ -201,3 +201,6 @@ fn states_of(order: Option<Ops>) -> Option<States>
         None => None,
     }
 }
+
+#[cfg(test)]
+mod tests;
