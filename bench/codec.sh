@@ -7,10 +7,7 @@ set -eu
 bar=2
 
 top=$(cd "$(dirname "$0")/.." && pwd)
-proved=$top/crates/dtx_bench/out/dtx_bench
-if [ ! -x "$proved" ]; then
-    (cd "$top/crates/dtx_bench" && rt run >/dev/null)
-fi
+. "$top/bench/parts.sh"
 folder=$(mktemp -d)
 trap 'rm -rf "$folder"' EXIT
 plain=$folder/codec
@@ -22,11 +19,6 @@ fi
 # shellcheck disable=SC2086
 rustc --edition 2024 -O -C codegen-units=1 $processor -o "$plain" "$top/bench/codec.rs"
 
-pinned=
-if command -v taskset >/dev/null; then
-    # the last core that this process may use
-    pinned="taskset -c $(taskset -cp $$ | sed 's/.*[ ,-]//')"
-fi
 # Both do the same rounds, so a sum of what came of them is the same.
 for work in whiten spread outer trellis group; do
     for _ in 1 2 3; do

@@ -5,18 +5,9 @@
 set -eu
 
 top=$(cd "$(dirname "$0")/.." && pwd)
-program=$top/crates/dtx_bench/out/dtx_bench
-if [ ! -x "$program" ]; then
-    (cd "$top/crates/dtx_bench" && rt run >/dev/null)
-fi
-
-pinned=
-if command -v taskset >/dev/null; then
-    # the last core that this process may use
-    pinned="taskset -c $(taskset -cp $$ | sed 's/.*[ ,-]//')"
-fi
+. "$top/bench/parts.sh"
 for _ in 1 2 3; do
-    $pinned "$program" correct
+    $pinned "$proved" correct
 done | awk '
     $3 == "ns" {
         time = $2

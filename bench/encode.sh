@@ -4,10 +4,7 @@
 set -eu
 
 top=$(cd "$(dirname "$0")/.." && pwd)
-proved=$top/crates/dtx_bench/out/dtx_bench
-if [ ! -x "$proved" ]; then
-    (cd "$top/crates/dtx_bench" && rt run >/dev/null)
-fi
+. "$top/bench/parts.sh"
 folder=$(mktemp -d)
 trap 'rm -rf "$folder"' EXIT
 plain=$folder/encode
@@ -18,11 +15,6 @@ if [ "$("$proved")" != "$("$plain")" ]; then
     exit 1
 fi
 
-pinned=
-if command -v taskset >/dev/null; then
-    # the last core that this process may use
-    pinned="taskset -c $(taskset -cp $$ | sed 's/.*[ ,-]//')"
-fi
 for _ in 1 2 3; do
     $pinned "$proved" encode | sed 's/^/proved /'
     $pinned "$plain" encode | sed 's/^/plain /'

@@ -74,6 +74,23 @@ ended() {
     [[ $(sums) == "$inputs_before" ]] || wrong 'an input was changed'
 }
 
+# fills_up SIZE WHOLE WORD..: where a file may hold no more than so many kB, the program, given the words, the last of
+# which names its output, ends with a write fault, and leaves a front part of WHOLE there, which isn't empty.
+fills_up() {
+    local size=$1 whole=$2 out=${!#}
+    shift 2
+    (
+        trap '' XFSZ
+        ulimit -f "$size"
+        "$dtx" "$@" >"$room/said" 2>"$room/complaint"
+    )
+    ended 12 $?
+    [[ $(cat "$room/said") == 'write fault' ]] || wrong "printed $(cat "$room/said")"
+    [[ -s $out ]] || wrong 'nothing was written before the fault'
+    head -c "$(stat -c %s "$out")" "$whole" | cmp -s - "$out" || wrong "$out is no front part of $whole"
+    leaves "$out"
+}
+
 # leaves NAME..: those names stand in the case's folder, and no others.
 leaves() {
     local found wanted
@@ -91,16 +108,6 @@ holds() {
     local difference
     difference=$(head -c $(($2 * 188)) "$room/long.feed" | cmp "$1" - 2>&1) ||
         wrong "$1 is not the feed of $2 packets (${difference%%$'\n'*})"
-}
-
-# holds_front FILE: the file is a front part of the feed of the long stream.
-holds_front() {
-    local length
-    if length=$(stat -c %s "$1" 2>&1); then
-        head -c "$length" "$room/long.feed" | cmp -s "$1" - || wrong "$1 is no front part of the feed"
-    else
-        wrong "$length"
-    fi
 }
 
 # are_marked STREAM FEED INDEX..: the feed is the stream but for byte 0 of those packets, B8 in place of 47.
@@ -684,16 +691,7 @@ run 12 'write fault' code ../inputs/given.ts out.sym
 leaves out.sym
 
 start 'symbols that fill up their output in mid-stream'
-(
-    trap '' XFSZ
-    ulimit -f 600
-    "$dtx" code ../inputs/long.ts out.sym >"$room/said" 2>"$room/complaint"
-)
-ended 12 $?
-[[ $(cat "$room/said") == 'write fault' ]] || wrong "printed $(cat "$room/said")"
-[[ -s out.sym ]] || wrong 'nothing was written before the fault'
-head -c "$(stat -c %s out.sym)" "$room/long.sym" | cmp -s - out.sym || wrong 'out.sym is no front part of the symbols'
-leaves out.sym
+fills_up 600 "$room/long.sym" code ../inputs/long.ts out.sym
 
 start 'a missing input of `receive`'
 run 4 'absent missing.sym' receive missing.sym out.ts
@@ -710,16 +708,7 @@ run 12 'write fault' receive "$room/feed.sym" out.ts
 leaves out.ts
 
 start 'packets that fill up their output in mid-stream'
-(
-    trap '' XFSZ
-    ulimit -f 300
-    "$dtx" receive "$room/made.sym" out.ts >"$room/said" 2>"$room/complaint"
-)
-ended 12 $?
-[[ $(cat "$room/said") == 'write fault' ]] || wrong "printed $(cat "$room/said")"
-[[ -s out.ts ]] || wrong 'nothing was written before the fault'
-head -c "$(stat -c %s out.ts)" "$room/made.ts" | cmp -s - out.ts || wrong 'out.ts is no front part of the packets'
-leaves out.ts
+fills_up 300 "$room/made.ts" receive "$room/made.sym" out.ts
 
 start 'an input in a folder that is not there'
 run 4 'absent nowhere/in.ts' adapt plan nowhere/in.ts out.ts
@@ -768,28 +757,10 @@ run 12 'write fault' make 1 4 nowhere/out.ts
 leaves_nothing
 
 start 'a made stream whose output fills up'
-(
-    trap '' XFSZ
-    ulimit -f 300
-    "$dtx" make 1 31200 out.ts >"$room/said" 2>"$room/complaint"
-)
-ended 12 $?
-[[ $(cat "$room/said") == 'write fault' ]] || wrong "printed $(cat "$room/said")"
-[[ -s out.ts ]] || wrong 'nothing was written before the fault'
-head -c "$(stat -c %s out.ts)" "$room/made.ts" | cmp -s - out.ts || wrong 'out.ts is no front part of the stream'
-leaves out.ts
+fills_up 300 "$room/made.ts" make 1 31200 out.ts
 
 start 'an output that fills up in mid-stream'
-(
-    trap '' XFSZ
-    ulimit -f 300
-    "$dtx" adapt plan ../inputs/long.ts out.ts >"$room/said" 2>"$room/complaint"
-)
-ended 12 $?
-[[ $(cat "$room/said") == 'write fault' ]] || wrong "printed $(cat "$room/said")"
-holds_front out.ts
-[[ -s out.ts ]] || wrong 'nothing was written before the fault'
-leaves out.ts
+fills_up 300 "$room/long.feed" adapt plan ../inputs/long.ts out.ts
 
 if [[ -c /dev/full ]]; then
     start 'a full device as the output'
