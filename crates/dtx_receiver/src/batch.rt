@@ -1,6 +1,6 @@
 //! What a call of the receiver gives.
 
-ghost use Rattle.std.specs.Prelude.{◌≡◌, []};
+ghost use Rattle.std.specs.Prelude.{◌≡◌, false, [], replicate};
 
 use arrayvec::ArrayVec;
 use dtx_packets::{PACKET, Packet};
@@ -21,7 +21,11 @@ pub struct Received {
 
 impl Default for Received {
     /// What stands in a batch's unused places.
-    fn default() -> Received {
+    fn default() -> Received
+        ensures packet { result.packet.0 ≡ replicate PACKET 0 }
+        ensures fixed { result.fixed ≡ 0 }
+        ensures good { result.good ≡ false }
+    {
         Received {
             packet: Packet([0; PACKET]),
             fixed: 0,

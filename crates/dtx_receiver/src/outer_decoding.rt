@@ -46,11 +46,11 @@ pub(crate) fn give(inner: &mut OuterDecoding, block: &[u8; CODEWORD], batch: &mu
         → early_of before ≡ given ++ batch.old.packets.items → early_of (before ++ block.now) ≡ given ++ batch.new.packets.items }
     ensures few { length batch.new.packets.items ≤ length batch.old.packets.items + 1 }
 {
-    let mut data = [0; PACKET_DATA];
-    match inner.take(block, &mut data) {
+    let mut head = [0; PACKET_DATA];
+    match inner.take(block, &mut head) {
         Taken::None => {}
-        Taken::Good { fixed } => batch.packets.push(corrected(&data, fixed)),
-        Taken::Bad => batch.packets.push(as_gathered(&data)),
+        Taken::Good { fixed } => batch.packets.push(corrected(&head, fixed)),
+        Taken::Bad => batch.packets.push(as_gathered(&head)),
     }
 }
 
@@ -70,21 +70,21 @@ pub(crate) fn give_group(inner: &mut OuterDecoding, bytes: &[u8; GROUP_BYTES], b
 }
 
 /// What is received of a word's correction, which changes so many bytes.
-fn corrected(data: &[u8; PACKET_DATA], fixed: u8) -> Received
-    ensures { result ≡ record { packet = record { 0 = 0x47 ∷ data.now }; fixed = fixed; good = true } }
+fn corrected(head: &[u8; PACKET_DATA], fixed: u8) -> Received
+    ensures { result ≡ record { packet = record { 0 = 0x47 ∷ head.now }; fixed = fixed; good = true } }
 {
     Received {
-        packet: packet_of(data),
+        packet: packet_of(head),
         fixed,
         good: true,
     }
 }
 
 /// What is received of a word that has no correction.
-fn as_gathered(data: &[u8; PACKET_DATA]) -> Received
-    ensures { result ≡ record { packet = record { 0 = with_error (0x47 ∷ data.now) }; fixed = 0; good = false } }
+fn as_gathered(head: &[u8; PACKET_DATA]) -> Received
+    ensures { result ≡ record { packet = record { 0 = with_error (0x47 ∷ head.now) }; fixed = 0; good = false } }
 {
-    let mut packet = packet_of(data);
+    let mut packet = packet_of(head);
     packet.flag_error();
     Received {
         packet,
@@ -94,10 +94,10 @@ fn as_gathered(data: &[u8; PACKET_DATA]) -> Received
 }
 
 /// The packet of these data, behind its sync byte.
-fn packet_of(data: &[u8; PACKET_DATA]) -> Packet
-    ensures { result.0 ≡ 0x47 ∷ data.now }
+fn packet_of(head: &[u8; PACKET_DATA]) -> Packet
+    ensures { result.0 ≡ 0x47 ∷ head.now }
 {
     let mut packet = Packet([0x47; PACKET]);
-    packet.0[1..].copy_from_slice(data);
+    packet.0[1..].copy_from_slice(head);
     packet
 }
