@@ -5,6 +5,7 @@ use Rattle.std.specs.List.{range_with_len, flat_map}
 use Rattle.std.proofs.lemmas.Bool.{cases_lt, cond-true, cond-false, eq-eqb, ne_eqb}
 use Rattle.std.proofs.lemmas.List.{append-nil, append_assoc, length-append, length_push, length-take-le, take-append-le, take_all, take-take, drop_at, drop-append-le}
 use Rattle.std.proofs.lemmas.Grind.{flat_map-append}
+use Rattle.std.proofs.Math.Seq.{take-append-add}
 use Rattle.dtx_lists.proofs.Range.{range_with_len-parts}
 use Rattle.dtx_frame.specs.Segments.{field_sync}
 use Rattle.dtx_coder.specs.Stream.{levels, four_segments, last_before, sync_before, group_segments, a53}
@@ -13,8 +14,14 @@ use Rattle.dtx_coder.proofs.RangeMoved.{flat_map-range_same}
 use Rattle.dtx_coder.proofs.Stream.{a53_from, a53_whole}
 use Rattle.dtx_exciter.specs.Emission.{given, emission}
 use Rattle.dtx_exciter.specs.Lockstep.{segment_place, stretch}
+use Rattle.dtx_exciter.specs.Stretch.{emission_behind}
+use Rattle.dtx_exciter.proofs.Ranges.{flat_map-range_moved}
 
 -- ---- all that packets give
+
+-- the front that ends with packet i behind the first ones
+pub take_behind : (l r : List (List ℕ)) (i n : ℕ) → n ≡ length l + i → take n (l ++ r) ≡ l ++ take i r
+take_behind l r i n e = ap (λ k. take k (l ++ r)) e ∙ take-append-add l r i
 
 -- what is given up to packet n of these
 front_same : (a d : ℕ) (l r : List (List ℕ)) (n : ℕ) → n ≤ length l → flat_map (λ i. given a d (take (i + 1) (l ++ r))) (range_with_len 0 n) ≡ flat_map (λ i. given a d (take (i + 1) l)) (range_with_len 0 n)
@@ -22,16 +29,15 @@ front_same a d l r n h =
     flat_map-range_same (λ i. given a d (take (i + 1) (l ++ r))) (λ i. given a d (take (i + 1) l)) 0 n
     (λ i x y. ap (given a d) (take-append-le (i + 1) l r (omega (arith, y, h))))
 
-pub emission_more : (a d : ℕ) (l r : List (List ℕ)) → (rest : List (List ℤ)) × (emission a d (l ++ r) ≡ emission a d l ++ rest)
-unfolding emission
+pub emission_more : (a d : ℕ) (l r : List (List ℕ)) → emission a d (l ++ r) ≡ emission a d l ++ emission_behind a d l r
+unfolding emission emission_behind
 emission_more a d l r =
-    let f : ℕ → List (List ℤ) = λ i. given a d (take (i + 1) (l ++ r)) in (
-      flat_map f (range_with_len (0 + length l) (length r)),
-      ap (λ n. flat_map f (range_with_len 0 n)) (length-append l r)
-          ∙ ap (flat_map f) (range_with_len-parts 0 (length l) (length r))
-          ∙ flat_map-append f (range_with_len 0 (length l)) (range_with_len (0 + length l) (length r))
-          ∙ ap (λ x. x ++ flat_map f (range_with_len (0 + length l) (length r))) (front_same a d l r (length l) (omega arith)),
-    )
+    let f : ℕ → List (List ℤ) = λ i. given a d (take (i + 1) (l ++ r)) in
+    ap (λ n. flat_map f (range_with_len 0 n)) (length-append l r)
+    ∙ ap (flat_map f) (range_with_len-parts 0 (length l) (length r))
+    ∙ flat_map-append f (range_with_len 0 (length l)) (range_with_len (0 + length l) (length r))
+    ∙ ap₂ ◌++◌ (front_same a d l r (length l) (omega arith))
+    (flat_map-range_moved f (λ i. given a d (l ++ take (i + 1) r)) (0 + length l) 0 (length r) (λ i h. ap (given a d) (take_behind l r (0 + i + 1) (0 + length l + i + 1) (omega arith))))
 
 pub emission_push : (a d : ℕ) (l : List (List ℕ)) (p : List ℕ) → emission a d (l ++ p ∷ []) ≡ emission a d l ++ given a d (l ++ p ∷ [])
 unfolding emission

@@ -32,7 +32,7 @@ length-since w u g q e l =
     (omega (arith, l, e, length-drop (828 * g) (whole_groups w), length-whole w))
 
 -- a segment of the front stays
-since_front : (w qs : List (List ℕ)) (u g k : ℕ) (q : List ℕ) → length w ≡ 4 * u → g ≤ u → k < 4 * (u - g) → segment (levels_since g q (w ++ qs)) k ≡ segment (levels_since g q w) k
+pub since_front : (w qs : List (List ℕ)) (u g k : ℕ) (q : List ℕ) → length w ≡ 4 * u → g ≤ u → k < 4 * (u - g) → segment (levels_since g q (w ++ qs)) k ≡ segment (levels_since g q w) k
 unfolding levels_since
 since_front w qs u g k q e l m =
     let bytes : List ℕ = drop (828 * g) (whole_groups w) in

@@ -1,5 +1,5 @@
 -- An exciter's packets behind a mark of a feed: the same packets, the same orders, and the feed's own segments.
-use Rattle.std.proofs.Common.{◌≡◌, ℕ, ℤ, zero, suc, ◌+◌, ◌-◌, ◌*◌, ◌/◌, ◌%◌, ◌<◌, ◌≤◌, ◌==◌, ◌&&◌, cond, Option, Some, None, List, [], ◌∷◌, ◌++◌, length, take, drop, get_or, refl, sym, ap, ap₂, subst, ◌∙◌, arith}
+use Rattle.std.proofs.Common.{◌≡◌, ℕ, ℤ, zero, suc, ◌+◌, ◌-◌, ◌*◌, ◌/◌, ◌%◌, ◌<◌, ◌≤◌, ◌==◌, ◌&&◌, cond, Option, Some, None, List, [], ◌∷◌, ◌++◌, length, take, drop, get_or, refl, sym, ap, ap₂, ◌∙◌, arith}
 use Rattle.std.specs.Prelude.{nat_le, is_ok}
 use Rattle.std.proofs.lemmas.Bool.{cond-true, cond-false, eq-eqb, ne_eqb, le-leb}
 use Rattle.std.proofs.lemmas.List.{get_or-append_right, get_or-drop, get_or-take, get_or-map, length-append, length-drop, length-take-le, take-take}
@@ -80,7 +80,7 @@ pub record InStep (base feed : List (List ℕ)) (mark j first x : ℕ) : Type 0 
   pub in_life : in_force (said (life base feed mark j)) (length base + x) ≡ Some (record { place = length base + group; ops = ops })
   pub its_own : counted (said feed) (mark + group) ≡ Some ops
 
-force_here : (said : List (Option Ops)) (i : ℕ) (ops : Ops) → counted said i ≡ Some ops → in_force said i ≡ Some (record { place = i; ops = ops })
+pub force_here : (said : List (Option Ops)) (i : ℕ) (ops : Ops) → counted said i ≡ Some ops → in_force said i ≡ Some (record { place = i; ops = ops })
 unfolding in_force
 force_here said i ops h = latest_more (λ g. placed g (counted said g)) i ∙ ap (λ y. either (placed i y) (in_force_below said i)) h
   where
@@ -201,7 +201,7 @@ unfolding group_segments
 with_sync_same f i v h e = some_before i (4 * v - 4) (4 * v) (levels f) (levels f) ∙ ap (λ s. s ++ four_segments (levels f) (4 * v)) (sync_same f i v h e)
 
 -- what the group's last packet gives
-given_last : (a d : ℕ) (base feed : List (List ℕ)) (mark x : ℕ) → mark + (x + 4) ≤ length feed → x % 4 ≡ 0 → length base % 624 ≡ 0
+pub given_last : (a d : ℕ) (base feed : List (List ℕ)) (mark x : ℕ) → mark + (x + 4) ≤ length feed → x % 4 ≡ 0 → length base % 624 ≡ 0
     → given_under a d (Some (life base feed mark (x + 4))) ≡ with_sync (length base + x) (sent_before a d (life base feed mark (x + 4)) (length base + x)) (sent_at a d (life base feed mark (x + 4)) (length base + x))
 given_last a d base feed mark x l y b =
     let n : length (life base feed mark (x + 4)) ≡ length base + (x + 4) = length-life base feed mark (x + 4) l in
@@ -217,7 +217,7 @@ pub record IsGroup (feed : List (List ℕ)) (mark n first x : ℕ) : Type 0 wher
   pub group : x % 4 ≡ 0
   pub within : x + 4 ≤ n
 
-place_of : (feed : List (List ℕ)) (mark n first x y : ℕ) → IsGroup feed mark n first x → first ≤ y → y % 4 ≡ 0 → y ≤ x → IsPlace feed mark n (x + 4) first y
+pub place_of : (feed : List (List ℕ)) (mark n first x y : ℕ) → IsGroup feed mark n first x → first ≤ y → y % 4 ≡ 0 → y ≤ x → IsPlace feed mark n (x + 4) first y
 place_of feed mark n first x y g a b c = record {
   order = g.order;
   settled = g.settled;
@@ -246,22 +246,3 @@ given_next a d base feed mark n first x m g l =
     given_last a d base feed mark x inside g.group m.at_other
     ∙ ap₂ (with_sync (length base + x)) before here
     ∙ with_sync_same (upto feed mark (x + 4)) (length base + x) ((mark + x) / 4) (omega (arith, l)) (omega (arith, m1, m2, g1))
-
--- what the first one gives, which may begin with a field sync of its own
-abbrev pub Behind : List (List ℤ) → List (List ℤ) → Type 0
-Behind xs ys = (p : List (List ℤ)) × (xs ≡ p ++ ys)
-
-behind_sync : (i : ℕ) (b : List (List ℤ)) (zs : List ℕ) (k : ℕ) → Behind (with_sync i b (four_segments zs k)) (four_segments zs k)
-unfolding four_segments
-behind_sync i [] zs k = ([], refl)
-behind_sync i (s ∷ ss) zs k = (cond (i % 312 == 0) (field_sync (nat_le 312 (i % 624)) (last_of (get_or (s ∷ ss) (length ss) [])) ∷ []) [], refl)
-
-pub given_first : (a d : ℕ) (base feed : List (List ℕ)) (mark n first : ℕ) → Marks a d base feed mark n → IsGroup feed mark n first first
-    → Behind (given_under a d (Some (life base feed mark (first + 4)))) (four_segments (levels (upto feed mark (first + 4))) (mark + first))
-given_first a d base feed mark n first m g =
-    let inside : mark + (first + 4) ≤ length feed = let i = m.inside in let w = g.within in omega (arith, i, w) in
-    subst (λ xs. Behind xs (four_segments (levels (upto feed mark (first + 4))) (mark + first)))
-    (sym (given_last a d base feed mark first inside g.group m.at_other
-    ∙ ap (with_sync (length base + first) (sent_before a d (life base feed mark (first + 4)) (length base + first)))
-    (sent_same a d base feed mark n (first + 4) first first m (place_of feed mark n first first first g (omega arith) g.group (omega arith)))))
-    (behind_sync (length base + first) (sent_before a d (life base feed mark (first + 4)) (length base + first)) (levels (upto feed mark (first + 4))) (mark + first))

@@ -1,3 +1,4 @@
+pub mod Ranges
 pub mod GroupOrder
 pub mod Held
 pub mod Force
@@ -11,5 +12,7 @@ pub mod Joined
 pub mod SinceMark
 pub mod Anchored
 pub mod InLife
+pub mod FirstGroup
+pub mod Followed
 pub mod Emitted
 pub mod LockstepIs

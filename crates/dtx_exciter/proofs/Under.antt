@@ -127,7 +127,7 @@ goes_moved address delay d p j l h e = record {
       (ap not (ne_eqb j (length d) (omega arith)));
 }
 
-goes_on : (address delay : ℕ) (d : List (List ℕ)) (p : List ℕ) (j : ℕ) → j < length d → anchor_of d ≡ Some j → anchor_of (d ++ p ∷ []) ≡ Some j → Goes address delay d p (At ((length d - j) % 624))
+pub goes_on : (address delay : ℕ) (d : List (List ℕ)) (p : List ℕ) (j : ℕ) → j < length d → anchor_of d ≡ Some j → anchor_of (d ++ p ∷ []) ≡ Some j → Goes address delay d p (At ((length d - j) % 624))
 goes_on address delay d p j l h e = record {
   follows =
       (drop j d, under_by d (Some j) h ∙ here d j, under_by (d ++ p ∷ []) (Some j) e ∙ longer d p j l, ap (λ (n : ℕ). n % 624) (sym (length-drop j d)));

@@ -6,3 +6,4 @@ pub mod Log
 pub mod Step
 pub mod Kept
 pub mod Lockstep
+pub mod Stretch

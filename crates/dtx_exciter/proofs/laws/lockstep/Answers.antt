@@ -1,5 +1,8 @@
-use Rattle.dtx_exciter.proofs.LockstepIs.{lockstep_is}
+use Rattle.dtx_exciter.proofs.LockstepIs.{lockstep_is, lockstep_on}
 use Rattle.dtx_exciter.proofs.laws.lockstep.Goals as goal
 
-pub returns : goal.returns
-returns c = lockstep_is
+pub returns-clause-exact : goal.returns-clause-exact
+returns-clause-exact c = lockstep_is
+
+pub returns-clause-behind : goal.returns-clause-behind
+returns-clause-behind c = lockstep_on
