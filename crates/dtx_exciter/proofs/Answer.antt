@@ -11,7 +11,7 @@ use Rattle.dtx_exciter.specs.Step.{told_own, told_group}
 use Rattle.dtx_exciter.specs.Kept.{is_served}
 use Rattle.dtx_exciter.proofs.Ends.{IsOlder}
 
-own_told : (address i j : ℕ) (ops : Ops) (r : Result ℕ Why) → j ≡ i % 624 → told_own address j ops r ≡ told_by address i (record { place = i; ops = ops }) r
+pub own_told : (address i j : ℕ) (ops : Ops) (r : Result ℕ Why) → j ≡ i % 624 → told_own address j ops r ≡ told_by address i (record { place = i; ops = ops }) r
 own_told address i j ops (Ok hold) e =
     ap (λ k. Sent (Some (preset_of address ops k hold))) e ∙ ap Sent (sym (cond-true (i == i) (Some (preset_of address ops (i % 624) hold)) None (eq-eqb i i refl)))
 own_told address i j ops (Err why) e = sym (cond-true (i == i) (Muted why) Quiet (eq-eqb i i refl))

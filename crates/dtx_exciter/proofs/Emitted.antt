@@ -3,7 +3,7 @@ use Rattle.std.proofs.Common.{◌≡◌, ℕ, ℤ, ◌+◌, ◌-◌, ◌*◌, �
 use Rattle.std.specs.Prelude.{nat_le}
 use Rattle.std.specs.List.{range_with_len, flat_map}
 use Rattle.std.proofs.lemmas.Bool.{cases_lt, cond-true, cond-false, eq-eqb, ne_eqb}
-use Rattle.std.proofs.lemmas.List.{append-nil, append_assoc, length-append, length_push, length-take-le, take-append-le, take_all, take-take, drop_at, drop-append-le}
+use Rattle.std.proofs.lemmas.List.{append-nil, append_assoc, length-append, length-drop, length_push, length-take-le, take-append-le, take_all, take-take, drop_at, drop-append-le}
 use Rattle.std.proofs.lemmas.Grind.{flat_map-append}
 use Rattle.std.proofs.Math.Seq.{take-append-add}
 use Rattle.dtx_lists.proofs.Range.{range_with_len-parts}
@@ -71,7 +71,7 @@ length-sync f v = by_cases (cases_lt 0 (4 * v % 312))
     by_cases (inl p) = ap (λ (s : List (List ℤ)). length s + (v + 77) / 78) (cond-false (4 * v % 312 == 0) sync [] (ne_eqb (4 * v % 312) 0 (λ z. omega (arith, p, z)))) ∙ omega (arith, p)
     by_cases (inr z) = ap (λ (s : List (List ℤ)). length s + (v + 77) / 78) (cond-true (4 * v % 312 == 0) sync [] (eq-eqb (4 * v % 312) 0 (omega (arith, z)))) ∙ omega (arith, z)
 
-length-front : (f : List (List ℕ)) (v : ℕ) → 4 * v ≤ length f → length (a53 (take (4 * v) f)) ≡ 4 * v + (v + 77) / 78
+pub length-front : (f : List (List ℕ)) (v : ℕ) → 4 * v ≤ length f → length (a53 (take (4 * v) f)) ≡ 4 * v + (v + 77) / 78
 length-front f v l = length-a53 (take (4 * v) f) ∙ omega (arith, length-take-le (4 * v) f l)
 
 -- the first group's data segments
@@ -90,6 +90,15 @@ unfolding stretch
 stretch_next f k v l h =
     ap (drop (segment_place k)) (a53_step f v l)
     ∙ drop-append-le (segment_place k) (a53 (take (4 * v) f)) (group_segments (take (4 * v + 4) f) v) (omega (arith, h, length-front f v (omega (arith, l))))
+
+-- how many segments up to a group's last one
+pub length-stretch : (f : List (List ℕ)) (k v : ℕ) → 4 * v + 4 ≤ length f → length (stretch f k (4 * v + 4)) ≡ segment_place (4 * v) + 4 - segment_place k
+unfolding stretch
+length-stretch f k v l =
+    let e : 4 * v + 4 ≡ 4 * (v + 1) = omega arith in
+    ap (λ n. length (drop (segment_place k) (a53 (take n f)))) e
+    ∙ length-drop (segment_place k) (a53 (take (4 * (v + 1)) f))
+    ∙ ap (λ (n : ℕ). n - segment_place k) (length-front f (v + 1) (omega (arith, l)) ∙ omega arith)
 
 -- packets behind the last whole group add nothing
 pub stretch_whole : (f : List (List ℕ)) (k end w : ℕ) → end ≤ length f → w ≡ 4 * (end / 4) → stretch f k w ≡ stretch f k end

@@ -16,3 +16,4 @@ pub mod FirstGroup
 pub mod Followed
 pub mod Emitted
 pub mod LockstepIs
+pub mod Lines

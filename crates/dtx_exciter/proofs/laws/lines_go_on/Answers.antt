@@ -1,0 +1,5 @@
+use Rattle.dtx_exciter.proofs.Lines.{lines_more}
+use Rattle.dtx_exciter.proofs.laws.lines_go_on.Goals as goal
+
+pub returns : goal.returns
+returns c = lines_more
