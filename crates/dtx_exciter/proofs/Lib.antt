@@ -17,3 +17,5 @@ pub mod Followed
 pub mod Emitted
 pub mod LockstepIs
 pub mod Lines
+pub mod Apart
+pub mod InLives

@@ -225,3 +225,15 @@ lines_is a d n feed earlier mark end k f s =
     ∙ ap₂ (λ x y. life_lines a d n (after earlier feed mark x) ++ y) e
     (ap₂ (λ x y. map (preset_line a (n + length (front a d earlier feed mark (k - mark))) x) (filter_map (λ g. placed g (counted (said feed) g)) (range_with_len x y))) at c
     ∙ ap (λ x. map (preset_line a (n + length x) k) (filter_map (λ g. placed g (counted (said feed) g)) (range_with_len k (end - 3 - k)))) (before_is a d earlier feed mark k (omega (arith, y))))
+
+-- whatever is given then
+pub lines_on : (a d n : ℕ) (feed earlier later : List (List ℕ)) (mark end k : ℕ) → IsFeed a d feed → IsStretch feed mark end k
+    → life_lines a d n (earlier ++ (slice_range feed mark end ++ later))
+    ≡ life_lines a d n (earlier ++ slice_range feed mark (k + 3))
+    ++ (stretch_lines a (n + length (before_stretch a d earlier feed mark k)) feed k end ++ lines_behind a d n (earlier ++ slice_range feed mark end) later)
+lines_on a d n feed earlier later mark end k f s =
+    ap (life_lines a d n) (sym (append_assoc earlier (slice_range feed mark end) later))
+    ∙ lines_more a d n (earlier ++ slice_range feed mark end) later
+    ∙ ap (λ x. x ++ lines_behind a d n (earlier ++ slice_range feed mark end) later) (lines_is a d n feed earlier mark end k f s)
+    ∙ append_assoc (life_lines a d n (earlier ++ slice_range feed mark (k + 3))) (stretch_lines a (n + length (before_stretch a d earlier feed mark k)) feed k end)
+    (lines_behind a d n (earlier ++ slice_range feed mark end) later)

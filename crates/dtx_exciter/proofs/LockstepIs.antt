@@ -1,8 +1,9 @@
 -- The exciter in lockstep with a feed.
-use Rattle.std.proofs.Common.{◌≡◌, ◌≢◌, ℕ, ℤ, zero, suc, ◌+◌, ◌-◌, ◌*◌, ◌/◌, ◌%◌, ◌<◌, ◌≤◌, Some, List, [], ◌∷◌, ◌++◌, length, take, drop, get_or, refl, sym, ap, ap₂, ◌∙◌, arith}
-use Rattle.std.specs.Prelude.{slice_range}
-use Rattle.std.proofs.lemmas.List.{append-nil, append_assoc}
-use Rattle.dtx_coder.specs.Stream.{levels, four_segments, group_segments}
+use Rattle.std.proofs.Common.{◌≡◌, ◌≢◌, ℕ, ℤ, zero, suc, ◌+◌, ◌-◌, ◌*◌, ◌/◌, ◌%◌, ◌<◌, ◌≤◌, ◌==◌, Bool, true, false, cond, Some, List, [], ◌∷◌, ◌++◌, length, take, drop, get_or, refl, sym, ap, ap₂, ◌∙◌, arith}
+use Rattle.std.specs.Prelude.{nat_le, slice_range}
+use Rattle.std.proofs.lemmas.List.{append-nil, append_assoc, length-append}
+use Rattle.dtx_frame.specs.Segments.{field_sync}
+use Rattle.dtx_coder.specs.Stream.{levels, four_segments, last_of, group_segments}
 use Rattle.dtx_exciter.specs.Order.{counted}
 use Rattle.dtx_exciter.specs.Packets.{said}
 use Rattle.dtx_exciter.specs.Emission.{given, given_under, emission}
@@ -205,3 +206,20 @@ lockstep_on a d feed earlier later mark end k f s =
     ∙ emission_more a d (earlier ++ slice_range feed mark end) later
     ∙ ap (λ x. x ++ emission_behind a d (earlier ++ slice_range feed mark end) later) (lockstep_is a d feed earlier mark end k f s)
     ∙ append_assoc (before_stretch a d earlier feed mark k) (stretch feed k end) (emission_behind a d (earlier ++ slice_range feed mark end) later)
+
+-- ---- how many segments stand before it
+
+pub sync_at_most : (segments : List (List ℤ)) (k : ℕ) → length (sync_behind segments k) ≤ 1
+sync_at_most [] k = omega arith
+sync_at_most (s ∷ ss) k = by_test (k % 312 == 0)
+  where
+    by_test : (t : Bool) → length (cond t (field_sync (nat_le 312 (k % 624)) (last_of (get_or (s ∷ ss) (length ss) [])) ∷ []) []) ≤ 1
+    by_test true = omega arith
+    by_test false = omega arith
+
+pub length-before : (a d : ℕ) (feed earlier : List (List ℕ)) (mark k : ℕ)
+    → length (before_stretch a d earlier feed mark k)
+    ≡ length (emission a d (earlier ++ slice_range feed mark (k + 3))) + length (sync_behind (given a d (earlier ++ slice_range feed mark k)) k)
+unfolding before_stretch
+length-before a d feed earlier mark k =
+    length-append (emission a d (earlier ++ slice_range feed mark (k + 3))) (sync_behind (given a d (earlier ++ slice_range feed mark k)) k)

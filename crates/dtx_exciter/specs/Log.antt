@@ -1,5 +1,5 @@
 -- The log of a transmitter (the profile's own).
-use Rattle.std.specs.Prelude.{ℕ, ◌+◌, ◌-◌, Some, None, List, [], ◌∷◌, ◌++◌, length, take, flat_map}
+use Rattle.std.specs.Prelude.{ℕ, ℤ, ◌+◌, ◌-◌, Some, None, List, [], ◌∷◌, ◌++◌, length, take, flat_map}
 use Rattle.std.specs.List.{range_with_len}
 use Rattle.dtx_exciter.specs.declared.answers.Why.{Why}
 use Rattle.dtx_exciter.specs.declared.answers.Told.{Told}
@@ -36,3 +36,19 @@ log address delay n (life ∷ []) = life_lines address delay n life
 log address delay n (life ∷ next ∷ more) =
     life_lines address delay n life ++ restart (n + length (emission address delay life))
     ∷ log address delay (n + length (emission address delay life)) (next ∷ more)
+
+-- the lines of lives that each end with a restart
+unfoldable pub restarted_lines : ℕ → ℕ → ℕ → List (List (List ℕ)) → List Line
+restarted_lines address delay n [] = []
+restarted_lines address delay n (life ∷ more) =
+    life_lines address delay n life ++ restart (n + length (emission address delay life)) ∷ restarted_lines address delay (n + length (emission address delay life)) more
+
+-- the lines of lives that each begin with a restart
+unfoldable pub restarting_lines : ℕ → ℕ → ℕ → List (List (List ℕ)) → List Line
+restarting_lines address delay n [] = []
+restarting_lines address delay n (life ∷ more) =
+    restart n ∷ (life_lines address delay n life ++ restarting_lines address delay (n + length (emission address delay life)) more)
+
+-- the segments that lives give, in order
+abbrev pub emission_over : ℕ → ℕ → List (List (List ℕ)) → List (List ℤ)
+emission_over address delay lives = flat_map (emission address delay) lives

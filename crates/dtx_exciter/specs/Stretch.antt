@@ -1,5 +1,5 @@
 -- What stands in front of a feed's stretch and behind any packets, and the lines of a stretch (the profile's own).
-use Rattle.std.specs.Prelude.{ℕ, ℤ, pos, ◌≡◌, ◌+◌, ◌-◌, ◌*◌, ◌%◌, ◌==◌, ◌*ℤ◌, nat_le, if◌then◌else◌, List, [], ◌∷◌, ◌++◌, length, map, take, slice_index_or, slice_range}
+use Rattle.std.specs.Prelude.{ℕ, ℤ, pos, ◌≡◌, ◌+◌, ◌-◌, ◌*◌, ◌%◌, ◌==◌, ◌-ℤ◌, ◌*ℤ◌, ⊤, nat_le, if◌then◌else◌, List, [], ◌∷◌, ◌++◌, length, map, take, slice_index_or, slice_range}
 use Rattle.std.specs.List.{range_with_len, flat_map, filter_map}
 use Rattle.dtx_clock.specs.declared.answers.Moment.{Moment}
 use Rattle.dtx_clock.specs.Clock.{moment_of, DifferBy}
@@ -66,3 +66,9 @@ stretch_lines address s feed k end = map (preset_line address s k) (orders_in fe
 abbrev pub IsApart : ℤ → Line → Line → Type 0
 IsApart ticks (preset s f p t g) (preset r e q u h) = (f ≡ e) × (p ≡ q) × DifferBy (t * 1539 + g) (u * 1539 + h) (ticks *ℤ pos 1539)
 IsApart ticks one other = ⊥
+
+-- The lines of two transmitters go together, a pair for each of these orders, and differ by the transmitters' offsets under it.
+abbrev pub AreApart : ℕ → ℕ → List Order → List Line → List Line → Type 0
+AreApart a b [] [] [] = ⊤
+AreApart a b (order ∷ orders) (x ∷ xs) (y ∷ ys) = IsApart (offset_at a order -ℤ offset_at b order) x y × AreApart a b orders xs ys
+AreApart a b orders xs ys = ⊥

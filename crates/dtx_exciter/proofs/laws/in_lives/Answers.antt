@@ -1,0 +1,8 @@
+use Rattle.dtx_exciter.proofs.InLives.{segments_in, lines_in}
+use Rattle.dtx_exciter.proofs.laws.in_lives.Goals as goal
+
+pub returns-clause-segments : goal.returns-clause-segments
+returns-clause-segments c = segments_in
+
+pub returns-clause-lines : goal.returns-clause-lines
+returns-clause-lines c = lines_in
