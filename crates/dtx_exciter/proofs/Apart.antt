@@ -1,5 +1,5 @@
 -- Two transmitters in one stretch, and its first line.
-use Rattle.std.proofs.Common.{◌≡◌, ℕ, ℤ, suc, ◌+◌, ◌-◌, ◌*◌, ◌/◌, ◌%◌, ◌≤◌, Some, List, [], ◌∷◌, ◌++◌, length, map, drop, refl, sym, ap, ap₂, subst, ◌∙◌, arith}
+use Rattle.std.proofs.Common.{◌≡◌, ℕ, suc, ◌+◌, ◌-◌, ◌*◌, ◌/◌, ◌%◌, ◌≤◌, Some, List, [], ◌∷◌, ◌++◌, length, map, drop, refl, sym, ap, subst, ◌∙◌, arith}
 use Rattle.std.specs.Prelude.{slice_range, pos, ◌-ℤ◌, ◌*ℤ◌}
 use Rattle.std.specs.List.{range_with_len, filter_map, cons_option}
 use Rattle.std.proofs.lemmas.List.{drop_at}
@@ -10,7 +10,7 @@ use Rattle.dtx_exciter.specs.Order.{Order, counted, placed}
 use Rattle.dtx_exciter.specs.Packets.{said}
 use Rattle.dtx_exciter.specs.Emission.{emission}
 use Rattle.dtx_exciter.specs.Lockstep.{IsFeed, IsStretch, segment_place, stretch}
-use Rattle.dtx_exciter.specs.Log.{Line, preset}
+use Rattle.dtx_exciter.specs.Log.{preset}
 use Rattle.dtx_exciter.specs.Stretch.{before_stretch, offset_at, moment_at, preset_line, orders_in, stretch_lines, IsApart, AreApart}
 use Rattle.dtx_exciter.proofs.LockstepIs.{lockstep_is}
 

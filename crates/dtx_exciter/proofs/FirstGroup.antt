@@ -1,5 +1,5 @@
 -- What the first group of a stretch gives: its data segments, behind a field sync where the group before it was sent.
-use Rattle.std.proofs.Common.{◌≡◌, ℕ, ℤ, suc, ◌+◌, ◌-◌, ◌*◌, ◌/◌, ◌%◌, ◌<◌, ◌≤◌, ◌==◌, Bool, true, false, cond, Option, Some, None, List, [], ◌∷◌, ◌++◌, length, take, drop, get_or, refl, sym, ap, ap₂, ◌∙◌, arith}
+use Rattle.std.proofs.Common.{◌≡◌, ℕ, ℤ, ◌+◌, ◌-◌, ◌*◌, ◌/◌, ◌%◌, ◌<◌, ◌≤◌, ◌==◌, Bool, true, false, cond, Option, Some, None, List, [], ◌∷◌, ◌++◌, length, take, drop, get_or, refl, sym, ap, ap₂, ◌∙◌, arith}
 use Rattle.std.specs.Prelude.{nat_le, is_ok}
 use Rattle.std.proofs.lemmas.Bool.{cond-true, le-leb}
 use Rattle.std.proofs.lemmas.List.{append_assoc}
@@ -12,7 +12,7 @@ use Rattle.dtx_exciter.specs.Told.{served}
 use Rattle.dtx_exciter.specs.Packets.{said}
 use Rattle.dtx_exciter.specs.Emission.{segments_since, sent_by, sent_at, sent_before, with_sync, given_under}
 use Rattle.dtx_exciter.specs.Stretch.{sync_behind}
-use Rattle.dtx_exciter.proofs.Force.{IsBehind, Stands, counted_behind, force_left, force_stands}
+use Rattle.dtx_exciter.proofs.Force.{Stands, force_left, force_stands}
 use Rattle.dtx_exciter.proofs.GroupSent.{since_front}
 use Rattle.dtx_exciter.proofs.InLife.{life, length-life, Marks, IsGroup, upto, given_last, place_of, sent_same}
 use Rattle.dtx_exciter.proofs.SinceMark.{take_parts}

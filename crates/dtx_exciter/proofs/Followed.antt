@@ -1,5 +1,5 @@
 -- An exciter behind a feed's mark: the packets under its anchor, what it gives, and what it answers.
-use Rattle.std.proofs.Common.{◌≡◌, ◌≢◌, ℕ, ◌+◌, ◌-◌, ◌%◌, ◌<◌, ◌≤◌, ◌==◌, Option, Some, option_map, List, [], ◌∷◌, ◌++◌, length, take, drop, map, get_or, sym, ap, ◌∙◌, arith}
+use Rattle.std.proofs.Common.{◌≡◌, ◌≢◌, ℕ, ◌+◌, ◌-◌, ◌%◌, ◌<◌, ◌≤◌, ◌==◌, Some, option_map, List, [], ◌∷◌, ◌++◌, length, take, drop, map, get_or, sym, ap, ◌∙◌, arith}
 use Rattle.std.proofs.lemmas.Bool.{cond-false, ne_eqb}
 use Rattle.std.proofs.lemmas.List.{append_assoc, get_or-drop, get_or-map, get_or-take, length-append, length-drop, length-map, length-take-le, drop-append-le, take-map, take-take, take_more, map-append}
 use Rattle.dtx_packets.specs.Packet.{sync_of}
@@ -64,8 +64,8 @@ follows a d earlier feed mark n f m l s = by_anchor (anchored (syncs earlier) (s
         let steps = w.steps in
         let anchors : (j : ℕ) → j < n → anchor (syncs (after earlier feed mark (j + 1))) ≡ Some w.place =
         λ j h.
-            ap anchor (syncs_append earlier (take (j + 1) (drop mark feed)) ∙ ap (λ x. syncs earlier ++ x) (sym (syncs_take (j + 1) n (drop mark feed) (omega (arith, h)))))
-            ∙ w.holds j (omega (arith, h, long)) in
+        ap anchor (syncs_append earlier (take (j + 1) (drop mark feed)) ∙ ap (λ x. syncs earlier ++ x) (sym (syncs_take (j + 1) n (drop mark feed) (omega (arith, h)))))
+        ∙ w.holds j (omega (arith, h, long)) in
         record {
           base = drop w.place earlier;
           in_step = omega (arith, steps, length-drop w.place earlier, length-syncs earlier);

@@ -1,5 +1,5 @@
 -- The lines of a stretch of a feed.
-use Rattle.std.proofs.Common.{◌≡◌, ◌≢◌, ℕ, ℤ, ◌+◌, ◌-◌, ◌*◌, ◌/◌, ◌%◌, ◌<◌, ◌≤◌, ◌⊎◌, ◌==◌, true, cond, Option, Some, None, option_map, Result, Ok, Err, List, [], ◌∷◌, ◌++◌, length, take, drop, map, refl, sym, ap, ap₂, ◌∙◌, arith, inl, inr}
+use Rattle.std.proofs.Common.{◌≡◌, ◌≢◌, ℕ, ◌+◌, ◌-◌, ◌*◌, ◌/◌, ◌%◌, ◌<◌, ◌≤◌, ◌⊎◌, ◌==◌, true, Option, Some, None, option_map, Result, Ok, Err, List, [], ◌∷◌, ◌++◌, length, take, drop, map, refl, sym, ap, ap₂, ◌∙◌, arith, inl, inr}
 use Rattle.std.specs.Prelude.{is_ok, slice_range}
 use Rattle.std.specs.List.{range_with_len, flat_map, filter_map}
 use Rattle.std.proofs.lemmas.Bool.{cond-true, cond-false, eq-eqb, ne_eqb, cases_eq}
@@ -9,11 +9,10 @@ use Rattle.dtx_lists.proofs.Range.{range_with_len-parts}
 use Rattle.dtx_coder.proofs.RangeMoved.{flat_map-range_same}
 use Rattle.dtx_ops.specs.declared.fields.Ops.{Ops}
 use Rattle.dtx_exciter.specs.declared.answers.Why.{Why}
-use Rattle.dtx_exciter.specs.declared.answers.Told.{Told}
-use Rattle.dtx_exciter.specs.declared.answers.Told.TheVariants.{Quiet, Sent, Muted}
+use Rattle.dtx_exciter.specs.declared.answers.Told.TheVariants.{Sent}
 use Rattle.dtx_exciter.specs.Order.{Order, counted, placed, in_force}
 use Rattle.dtx_clock.specs.Clock.{moment_of}
-use Rattle.dtx_exciter.specs.Told.{entry_of, offset_of, served, told_by, told_at, told_under}
+use Rattle.dtx_exciter.specs.Told.{entry_of, offset_of, served, told_by, told_at}
 use Rattle.dtx_exciter.specs.Packets.{said, told}
 use Rattle.dtx_exciter.specs.Emission.{given, emission}
 use Rattle.dtx_exciter.specs.Lockstep.{IsFeed, IsStretch, segment_place, stretch}
@@ -112,7 +111,7 @@ seg_is a d n earlier feed mark m first x w k g l h y =
     let v : mark + (first + 4 + 4 * ((x - first) / 4)) ≡ 4 * ((mark + x) / 4) + 4 = omega (arith, l, y, g1, k1) in
     let u : 4 * ((mark + x) / 4) ≡ mark + x = omega (arith, y, k1) in
     let all : length (emission a d (after earlier feed mark (x + 3))) + length (given a d (after earlier feed mark (x + 3 + 1)))
-        ≡ length (front a d earlier feed mark first) + (segment_place (mark + x) + 4 - segment_place (mark + first)) =
+    ≡ length (front a d earlier feed mark first) + (segment_place (mark + x) + 4 - segment_place (mark + first)) =
     sym (length-append (emission a d (after earlier feed mark (x + 3))) (given a d (after earlier feed mark (x + 3 + 1))))
     ∙ ap length (sym (emitted_more a d earlier feed mark (x + 3) (omega (arith, i, h))) ∙ ap (λ j. emission a d (after earlier feed mark j)) (sym c)
     ∙ emits a d earlier feed mark m first ((x - first) / 4) w k g (omega (arith, l, h)))
@@ -169,16 +168,16 @@ lines_from : (a d n : ℕ) (earlier feed : List (List ℕ)) (mark m first : ℕ)
     ≡ life_lines a d n (after earlier feed mark (first + 3))
     ++ map (preset_line a (n + length (front a d earlier feed mark first)) (mark + first)) (filter_map (λ g. placed g (counted (said feed) g)) (range_with_len (mark + first) (m - (first + 3))))
 unfolding lines_behind
-lines_from a d n earlier feed mark m first w k g = 
+lines_from a d n earlier feed mark m first w k g =
     ap (life_lines a d n) parts
     ∙ lines_more a d n l r
     ∙ ap (λ x. life_lines a d n l ++ x)
     (ap (λ c. flat_map (λ i. line_between a d n (l ++ take i r) (l ++ take (i + 1) r)) (range_with_len 0 c)) long
     ∙ flat_map-range_picked (λ i. line_between a d n (l ++ take i r) (l ++ take (i + 1) r)) (λ g. placed g (counted (said feed) g)) (preset_line a (n + length (front a d earlier feed mark first)) (mark + first)) 0 (mark + first) (m - (first + 3))
     (λ i h.
-        ap₂ (line_between a d n) (joined (0 + i) (first + i + 3) (omega arith) (omega (arith, h))) (joined (0 + i + 1) (first + i + 3 + 1) (omega arith) (omega (arith, h)))
-        ∙ line_is a d n earlier feed mark m first i w k g (omega (arith, h))
-        ∙ ap (line_due a (n + length (front a d earlier feed mark first)) (mark + first) feed) (place mark first i)))
+    ap₂ (line_between a d n) (joined (0 + i) (first + i + 3) (omega arith) (omega (arith, h))) (joined (0 + i + 1) (first + i + 3 + 1) (omega arith) (omega (arith, h)))
+    ∙ line_is a d n earlier feed mark m first i w k g (omega (arith, h))
+    ∙ ap (line_due a (n + length (front a d earlier feed mark first)) (mark + first) feed) (place mark first i)))
   where
     within : first + 4 ≤ m
     within = g.within
