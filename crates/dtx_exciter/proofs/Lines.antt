@@ -23,7 +23,7 @@ use Rattle.dtx_exciter.proofs.Emitted.{take_behind, length-stretch}
 use Rattle.dtx_exciter.proofs.Followed.{after, Follows, told_is, told_none}
 use Rattle.dtx_exciter.proofs.Force.{counted_off}
 use Rattle.dtx_exciter.proofs.InLife.{life, length-life, Marks, IsGroup, counted_same, InStep, in_step, force_here}
-use Rattle.dtx_exciter.proofs.LockstepIs.{emitted_more, front, emits, Within, within, before_is}
+use Rattle.dtx_exciter.proofs.LockstepIs.{emitted_more, before_first, emits, Within, within, before_is}
 use Rattle.dtx_exciter.proofs.Ranges.{listed, flat_map-range_moved, flat_map-range_picked}
 use Rattle.dtx_exciter.proofs.SinceMark.{take_parts}
 use Rattle.dtx_exciter.proofs.Under.{length-said}
@@ -104,19 +104,19 @@ line_due a s k feed g = listed (option_map (preset_line a s k) (placed g (counte
 -- how many segments there are before a group's data segments
 seg_is : (a d n : ℕ) (earlier feed : List (List ℕ)) (mark m first x : ℕ) → (w : Follows earlier feed mark m) → Marks a d w.base feed mark m → IsGroup feed mark m first first → first ≤ x → x + 4 ≤ m → x % 4 ≡ 0
     → n + length (emission a d (after earlier feed mark (x + 3))) + length (given a d (after earlier feed mark (x + 3 + 1))) - 4
-    ≡ n + length (front a d earlier feed mark first) + (segment_place (mark + x) - segment_place (mark + first))
+    ≡ n + length (before_first a d earlier feed mark first) + (segment_place (mark + x) - segment_place (mark + first))
 seg_is a d n earlier feed mark m first x w k g l h y =
     let i = k.inside in let k1 = k.at_mark in let g1 = g.whole in
     let c : first + 4 + 4 * ((x - first) / 4) ≡ x + 3 + 1 = omega (arith, l, y, g1) in
     let v : mark + (first + 4 + 4 * ((x - first) / 4)) ≡ 4 * ((mark + x) / 4) + 4 = omega (arith, l, y, g1, k1) in
     let u : 4 * ((mark + x) / 4) ≡ mark + x = omega (arith, y, k1) in
     let all : length (emission a d (after earlier feed mark (x + 3))) + length (given a d (after earlier feed mark (x + 3 + 1)))
-    ≡ length (front a d earlier feed mark first) + (segment_place (mark + x) + 4 - segment_place (mark + first)) =
+    ≡ length (before_first a d earlier feed mark first) + (segment_place (mark + x) + 4 - segment_place (mark + first)) =
     sym (length-append (emission a d (after earlier feed mark (x + 3))) (given a d (after earlier feed mark (x + 3 + 1))))
     ∙ ap length (sym (emitted_more a d earlier feed mark (x + 3) (omega (arith, i, h))) ∙ ap (λ j. emission a d (after earlier feed mark j)) (sym c)
     ∙ emits a d earlier feed mark m first ((x - first) / 4) w k g (omega (arith, l, h)))
-    ∙ length-append (front a d earlier feed mark first) (stretch feed (mark + first) (mark + (first + 4 + 4 * ((x - first) / 4))))
-    ∙ ap (λ (j : ℕ). length (front a d earlier feed mark first) + j)
+    ∙ length-append (before_first a d earlier feed mark first) (stretch feed (mark + first) (mark + (first + 4 + 4 * ((x - first) / 4))))
+    ∙ ap (λ (j : ℕ). length (before_first a d earlier feed mark first) + j)
     (ap (λ j. length (stretch feed (mark + first) j)) v ∙ length-stretch feed (mark + first) ((mark + x) / 4) (omega (arith, i, h, u)) ∙ ap (λ j. segment_place j + 4 - segment_place (mark + first)) u) in
     let more : segment_place (mark + first) ≤ segment_place (mark + x) = omega (arith, l) in
     seg (segment_place (mark + x)) (segment_place (mark + first)) n _ _ _ more all
@@ -125,7 +125,7 @@ seg_is a d n earlier feed mark m first x w k g l h y =
     seg p q n b e z l h = omega (arith, l, h)
 
 line_is : (a d n : ℕ) (earlier feed : List (List ℕ)) (mark m first i : ℕ) → (w : Follows earlier feed mark m) → Marks a d w.base feed mark m → IsGroup feed mark m first first → first + 3 + i < m
-    → line_between a d n (after earlier feed mark (first + i + 3)) (after earlier feed mark (first + i + 3 + 1)) ≡ line_due a (n + length (front a d earlier feed mark first)) (mark + first) feed (mark + (first + i))
+    → line_between a d n (after earlier feed mark (first + i + 3)) (after earlier feed mark (first + i + 3 + 1)) ≡ line_due a (n + length (before_first a d earlier feed mark first)) (mark + first) feed (mark + (first + i))
 line_is a d n earlier feed mark m first i w k g l = by_place (cases_eq (i % 4) 0)
   where
     inside : mark + m ≤ length feed
@@ -143,22 +143,22 @@ line_is a d n earlier feed mark m first i w k g l = by_place (cases_eq (i % 4) 0
     t : ℕ
     t = length (given a d (after earlier feed mark (first + i + 3 + 1)))
 
-    by_order : (o : Option Ops) → s + t - 4 ≡ n + length (front a d earlier feed mark first) + (segment_place (mark + (first + i)) - segment_place (mark + first))
+    by_order : (o : Option Ops) → s + t - 4 ≡ n + length (before_first a d earlier feed mark first) + (segment_place (mark + (first + i)) - segment_place (mark + first))
         → listed (option_map (λ (order : Order). preset (s + t - 4) order.ops.frame (order.place % 624) (moment_at a order).tick (moment_at a order).grain) (placed (mark + (first + i)) o))
-        ≡ listed (option_map (preset_line a (n + length (front a d earlier feed mark first)) (mark + first)) (placed (mark + (first + i)) o))
+        ≡ listed (option_map (preset_line a (n + length (before_first a d earlier feed mark first)) (mark + first)) (placed (mark + (first + i)) o))
     by_order None e = refl
     by_order (Some ops) e =
         let order : Order = record { place = mark + (first + i); ops = ops } in
         ap (λ q. preset q ops.frame ((mark + (first + i)) % 624) (moment_at a order).tick (moment_at a order).grain ∷ []) e
 
-    by_place : (i % 4 ≡ 0) ⊎ (i % 4 ≢ 0) → line_between a d n (after earlier feed mark (first + i + 3)) (after earlier feed mark (first + i + 3 + 1)) ≡ line_due a (n + length (front a d earlier feed mark first)) (mark + first) feed (mark + (first + i))
+    by_place : (i % 4 ≡ 0) ⊎ (i % 4 ≢ 0) → line_between a d n (after earlier feed mark (first + i + 3)) (after earlier feed mark (first + i + 3 + 1)) ≡ line_due a (n + length (before_first a d earlier feed mark first)) (mark + first) feed (mark + (first + i))
     by_place (inl z) =
         ap (line_of s t) (told_last a d earlier feed mark m (first + i) w inside (omega (arith, l)) (omega (arith, whole, z)))
         ∙ line_here a d s t w.base feed mark m first (first + i) k g (omega arith) (omega (arith, l)) (counted (said feed) (mark + (first + i))) refl
         ∙ by_order (counted (said feed) (mark + (first + i))) (seg_is a d n earlier feed mark m first (first + i) w k g (omega arith) (omega (arith, l)) (omega (arith, whole, z)))
     by_place (inr z) =
         ap (line_of s t) (told_none a d earlier feed mark m (first + i + 3) w inside (omega arith) (omega (arith, l)) (λ e. z (omega (arith, e, whole))))
-        ∙ ap (λ o. listed (option_map (preset_line a (n + length (front a d earlier feed mark first)) (mark + first)) (placed (mark + (first + i)) o)))
+        ∙ ap (λ o. listed (option_map (preset_line a (n + length (before_first a d earlier feed mark first)) (mark + first)) (placed (mark + (first + i)) o)))
         (sym (counted_off (said feed) (mark + (first + i)) (λ e. z (omega (arith, e, whole, at_mark)))))
 
 -- ---- all of them
@@ -166,18 +166,18 @@ line_is a d n earlier feed mark m first i w k g l = by_place (cases_eq (i % 4) 0
 lines_from : (a d n : ℕ) (earlier feed : List (List ℕ)) (mark m first : ℕ) → (w : Follows earlier feed mark m) → Marks a d w.base feed mark m → IsGroup feed mark m first first
     → life_lines a d n (after earlier feed mark m)
     ≡ life_lines a d n (after earlier feed mark (first + 3))
-    ++ map (preset_line a (n + length (front a d earlier feed mark first)) (mark + first)) (filter_map (λ g. placed g (counted (said feed) g)) (range_with_len (mark + first) (m - (first + 3))))
+    ++ map (preset_line a (n + length (before_first a d earlier feed mark first)) (mark + first)) (filter_map (λ g. placed g (counted (said feed) g)) (range_with_len (mark + first) (m - (first + 3))))
 unfolding lines_behind
 lines_from a d n earlier feed mark m first w k g =
     ap (life_lines a d n) parts
     ∙ lines_more a d n l r
     ∙ ap (λ x. life_lines a d n l ++ x)
     (ap (λ c. flat_map (λ i. line_between a d n (l ++ take i r) (l ++ take (i + 1) r)) (range_with_len 0 c)) long
-    ∙ flat_map-range_picked (λ i. line_between a d n (l ++ take i r) (l ++ take (i + 1) r)) (λ g. placed g (counted (said feed) g)) (preset_line a (n + length (front a d earlier feed mark first)) (mark + first)) 0 (mark + first) (m - (first + 3))
+    ∙ flat_map-range_picked (λ i. line_between a d n (l ++ take i r) (l ++ take (i + 1) r)) (λ g. placed g (counted (said feed) g)) (preset_line a (n + length (before_first a d earlier feed mark first)) (mark + first)) 0 (mark + first) (m - (first + 3))
     (λ i h.
     ap₂ (line_between a d n) (joined (0 + i) (first + i + 3) (omega arith) (omega (arith, h))) (joined (0 + i + 1) (first + i + 3 + 1) (omega arith) (omega (arith, h)))
     ∙ line_is a d n earlier feed mark m first i w k g (omega (arith, h))
-    ∙ ap (line_due a (n + length (front a d earlier feed mark first)) (mark + first) feed) (place mark first i)))
+    ∙ ap (line_due a (n + length (before_first a d earlier feed mark first)) (mark + first) feed) (place mark first i)))
   where
     within : first + 4 ≤ m
     within = g.within
@@ -222,7 +222,7 @@ lines_is a d n feed earlier mark end k f s =
     let c : end - mark - (k - mark + 3) ≡ end - 3 - k = omega (arith, y, z) in
     lines_from a d n earlier feed mark (end - mark) (k - mark) w.follows w.marks w.group
     ∙ ap₂ (λ x y. life_lines a d n (after earlier feed mark x) ++ y) e
-    (ap₂ (λ x y. map (preset_line a (n + length (front a d earlier feed mark (k - mark))) x) (filter_map (λ g. placed g (counted (said feed) g)) (range_with_len x y))) at c
+    (ap₂ (λ x y. map (preset_line a (n + length (before_first a d earlier feed mark (k - mark))) x) (filter_map (λ g. placed g (counted (said feed) g)) (range_with_len x y))) at c
     ∙ ap (λ x. map (preset_line a (n + length x) k) (filter_map (λ g. placed g (counted (said feed) g)) (range_with_len k (end - 3 - k)))) (before_is a d earlier feed mark k (omega (arith, y))))
 
 -- whatever is given then

@@ -48,8 +48,8 @@ emitted_group a d earlier feed mark n x w h l g =
     (given_is a d earlier feed mark n (x + 3) w (omega (arith, l)) ∙ ap (λ k. given_under a d (Some (life w.base feed mark k))) (sym e))
 
 -- all that is given before the first group's data segments
-abbrev pub front : ℕ → ℕ → List (List ℕ) → List (List ℕ) → ℕ → ℕ → List (List ℤ)
-front a d earlier feed mark first = emission a d (after earlier feed mark (first + 3)) ++ sync_behind (given a d (after earlier feed mark first)) (mark + first)
+abbrev pub before_first : ℕ → ℕ → List (List ℕ) → List (List ℕ) → ℕ → ℕ → List (List ℤ)
+before_first a d earlier feed mark first = emission a d (after earlier feed mark (first + 3)) ++ sync_behind (given a d (after earlier feed mark first)) (mark + first)
 
 place_first : (mark first v : ℕ) → mark + first ≡ 4 * v → mark + (first + 4) ≡ 4 * v + 4
 place_first mark first v e = omega (arith, e)
@@ -79,8 +79,8 @@ emits_all a d earlier feed mark n first (suc c) before w m g h l =
 
 -- up to the end of any group of the stretch
 pub emits : (a d : ℕ) (earlier feed : List (List ℕ)) (mark n first c : ℕ) → (w : Follows earlier feed mark n) → Marks a d w.base feed mark n → IsGroup feed mark n first first → first + 4 + 4 * c ≤ n
-    → emission a d (after earlier feed mark (first + 4 + 4 * c)) ≡ front a d earlier feed mark first ++ stretch feed (mark + first) (mark + (first + 4 + 4 * c))
-emits a d earlier feed mark n first c w m g h = emits_all a d earlier feed mark n first c (front a d earlier feed mark first) w m g begins h
+    → emission a d (after earlier feed mark (first + 4 + 4 * c)) ≡ before_first a d earlier feed mark first ++ stretch feed (mark + first) (mark + (first + 4 + 4 * c))
+emits a d earlier feed mark n first c w m g h = emits_all a d earlier feed mark n first c (before_first a d earlier feed mark first) w m g begins h
   where
     inside : mark + n ≤ length feed
     inside = m.inside
@@ -105,7 +105,7 @@ emits a d earlier feed mark n first c w m g h = emits_all a d earlier feed mark 
         ∙ sym (given_is a d earlier feed mark n (first - 1) w (omega (arith, within, far)))
         ∙ ap (λ k. given a d (after earlier feed mark k)) e
 
-    begins : emission a d (after earlier feed mark (first + 4)) ≡ front a d earlier feed mark first ++ stretch feed (mark + first) (mark + (first + 4))
+    begins : emission a d (after earlier feed mark (first + 4)) ≡ before_first a d earlier feed mark first ++ stretch feed (mark + first) (mark + (first + 4))
     begins =
         emitted_group a d earlier feed mark n first w inside within g.whole
         ∙ ap₂ ◌++◌ (sym (emitted_within a d earlier feed mark n first w inside within g.whole)) (given_first a d w.base feed mark n first m g)
@@ -158,7 +158,7 @@ within a d feed earlier mark end k f s =
     }
 
 -- what stands before it
-pub before_is : (a d : ℕ) (earlier feed : List (List ℕ)) (mark k : ℕ) → mark ≤ k → front a d earlier feed mark (k - mark) ≡ before_stretch a d earlier feed mark k
+pub before_is : (a d : ℕ) (earlier feed : List (List ℕ)) (mark k : ℕ) → mark ≤ k → before_first a d earlier feed mark (k - mark) ≡ before_stretch a d earlier feed mark k
 unfolding before_stretch
 before_is a d earlier feed mark k l =
     let e : k - mark + 3 ≡ k + 3 - mark = omega (arith, l) in
