@@ -1,0 +1,7 @@
+//! The adapter: from a stream and a plan to the feed, whose operations packets tell exciters when and from which states to send.
+#![tactic(auto)]
+
+mod adapter;
+pub mod laws;
+
+pub use adapter::Adapter;
