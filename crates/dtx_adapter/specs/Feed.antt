@@ -1,6 +1,6 @@
 -- The feed that an adapter makes of a stream under a plan (the profile's own, in the manner of ATSC A/110). Packets are counted
 -- from 0, and 624 make a frame.
-use Rattle.std.specs.Prelude.{ℕ, ◌*◌, ◌/◌, ◌%◌, ◌==◌, Bool, if◌then◌else◌, List, [], ◌∷◌, ◌++◌, length, map, take, drop, slice_index_or}
+use Rattle.std.specs.Prelude.{ℕ, ◌*◌, ◌/◌, ◌%◌, ◌==◌, Bool, if◌then◌else◌, List, [], ◌∷◌, ◌++◌, length, map, take, slice_index_or}
 use Rattle.std.specs.List.{filter}
 use Rattle.std.proofs.Common.{zero, suc}
 use Rattle.dtx_packets.specs.Packet.{pid_of}
@@ -42,13 +42,14 @@ ops_at plan before k = record {
 unfoldable pub counter_at : List (List ℕ) → ℕ → ℕ
 counter_at stream k = placeholders (take k stream) % 16
 
--- packet k of the feed, before which these packets of it stand: a placeholder becomes an operations packet, and every other packet
--- keeps all but byte 0
+-- what a packet of the stream becomes as packet k of the feed: a placeholder becomes an operations packet that says this, with this
+-- counter, and every other packet keeps all but byte 0
+unfoldable pub made : Ops → ℕ → ℕ → List ℕ → List ℕ
+made ops counter k packet = if is_placeholder packet then spelling ops counter (sync_at k) else marked k packet
+
+-- packet k of the feed, before which these packets of it stand
 unfoldable pub fed_packet : Plan → List (List ℕ) → List (List ℕ) → ℕ → List ℕ
-fed_packet plan stream before k =
-    if is_placeholder (slice_index_or stream k [])
-    then spelling (ops_at plan before k) (counter_at stream k) (sync_at k)
-    else marked k (slice_index_or stream k [])
+fed_packet plan stream before k = made (ops_at plan before k) (counter_at stream k) k (slice_index_or stream k [])
 
 -- the first n packets of the feed
 unfoldable pub feed_to : Plan → List (List ℕ) → ℕ → List (List ℕ)

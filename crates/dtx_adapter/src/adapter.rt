@@ -1,39 +1,30 @@
 // An adapter.
-ghost use Rattle.std.specs.Prelude.{◌≡◌, ◌==◌, ◌<◌, ◌≤◌, ◌+◌, ◌%◌, ◌++◌, [], ℕ, List, IfOk, length, map, drop};
+ghost use Rattle.std.specs.Prelude.{◌≡◌, ◌==◌, ◌<◌, ◌≤◌, ◌+◌, ◌*◌, ◌/◌, ◌%◌, ◌++◌, [], ℕ, List, IfOk, length, map, take, drop};
+ghost use Rattle.dtx_coder.specs.Groups as groups;
+ghost use Rattle.dtx_coder.specs.Stream.{states};
 ghost use Rattle.dtx_plan.specs.Sound.{IsSound};
 ghost use Rattle.dtx_plan.specs.declared.plan.Plan.{Plan};
 ghost use Rattle.dtx_adapter.specs.Adapting.{StandsFor};
 ghost use Rattle.dtx_adapter.specs.Feed.{feed, placeholders};
+ghost use Rattle.dtx_adapter.specs.Filling.{Fills};
 
-use arrayvec::ArrayVec;
-use dtx_cadence::mark;
-use dtx_clock::stamp;
+use crate::filler::Filler;
 use dtx_coder::{Air, Coder, GROUP_PACKETS};
-use dtx_ops::{Entry, OPERATIONS, Ops, write};
 use dtx_packets::{MOST_PACKETS, Packet};
 use dtx_plan::Plan;
-use dtx_rs::Rs;
-use dtx_trellis::{FIELD, States};
+use dtx_trellis::FIELD;
 use std::alloc::{AllocError, Global};
-
-/// How many packets a frame has, which is two fields.
-const FRAME: u64 = 624;
 
 /// An adapter. It is given the packets of a stream in order, and makes those of its feed of them (the profile's own, in the manner of
 /// ATSC A/110).
 #[derive(Drop)]
 pub struct Adapter {
-    /// The tick at which the feed starts.
-    start: u32,
-    /// What the operations packets say: the maximum delay and the transmitters stay, all else is set for each.
-    ops: Ops,
-    code: Rs<184, 164>,
+    filler: Filler,
+    /// The coder is given the feed, so that its states are known before each group.
     coder: Coder,
     air: Air,
     /// How many packets were given.
     given: u64,
-    /// How many of them were placeholders, modulo 16.
-    counter: u8,
 }
 
 impl Adapter {
@@ -44,13 +35,10 @@ impl Adapter {
         ensures none { IfOk result (λ adapter. adapter.given ≡ 0) }
     {
         Ok(Adapter {
-            start: plan.start,
-            ops: ops_of(plan),
-            code: Rs::new(),
+            filler: Filler::new(plan),
             coder: Coder::new(alloc)?,
             air: Air::new(),
             given: 0,
-            counter: 0,
         })
     }
 
@@ -75,18 +63,55 @@ impl Adapter {
             → StandsFor plan self.new (stream ++ map (λ p. p.0) packets.old) }
         ensures given { self.new.given ≡ self.old.given + length packets.old }
     {
-        self.ops.states = self.coder.states();
-        let mut filled = 0;
-        for i in 0..packets.len() {
-            let index = self.given + i as u64;
-            mark(index, &mut packets[i]);
-            if packets[i].pid() == OPERATIONS {
-                self.fill(index, &mut packets[i]);
-                filled += 1;
-            }
-        }
+        self.filler.begin(self.coder.states());
+        let filled = make_group(&mut self.filler, self.given, packets);
         self.code(packets);
         self.given += packets.len() as u64;
         filled
     }
+
+    /// Gives the next packets of the feed to the coder, where they are a whole group.
+    fn code(&mut self, packets: &[Packet])
+        requires few { length packets.now ≤ GROUP_PACKETS }
+        requires open { self.old.given % GROUP_PACKETS ≡ 0 }
+        ensures coder { (fed : List (List ℕ)) → length fed ≡ self.old.given → groups.StandsFor self.old.coder fed
+            → groups.StandsFor self.new.coder (take (GROUP_PACKETS * ((length fed + length packets.now) / GROUP_PACKETS)) (fed ++ map (λ p. p.0) packets.now)) }
+        ensures filler { self.new.filler ≡ self.old.filler }
+        ensures given { self.new.given ≡ self.old.given }
+    {
+        if let Some(group) = packets.first_chunk::<GROUP_PACKETS>() {
+            code_group(&mut self.coder, self.given, group, &mut self.air);
+        }
+    }
+}
+
+/// Makes the packets of a group of the stream those of the feed, the first of which has that index, and answers how many placeholders
+/// were filled.
+fn make_group(filler: &mut Filler, first: u64, packets: &mut [Packet]) -> u8
+    requires few { length packets.old ≤ GROUP_PACKETS }
+    requires most { first + length packets.old ≤ MOST_PACKETS }
+    ensures fed { (plan : Plan) (stream : List (List ℕ)) → Fills plan filler.old stream → length stream ≡ first → first % GROUP_PACKETS ≡ 0
+        → filler.old.states ≡ states (feed plan stream)
+        → map (λ p. p.0) packets.new ≡ drop (length stream) (feed plan (stream ++ map (λ p. p.0) packets.old)) }
+    ensures fills { (plan : Plan) (stream : List (List ℕ)) → Fills plan filler.old stream → Fills plan filler.new (stream ++ map (λ p. p.0) packets.old) }
+    ensures filled { result ≡ placeholders (map (λ p. p.0) packets.old) }
+    ensures long { length packets.new ≡ length packets.old }
+{
+    let mut filled = 0;
+    for i in 0..packets.len() {
+        if filler.make(first + i as u64, &mut packets[i]) {
+            filled += 1;
+        }
+    }
+    filled
+}
+
+/// Codes the group whose first packet has that index, from the states that the group before it left.
+fn code_group(coder: &mut Coder, first: u64, packets: &[Packet; GROUP_PACKETS], air: &mut Air)
+    requires { first % GROUP_PACKETS ≡ 0 }
+    ensures { (fed : List (List ℕ)) → length fed ≡ first → groups.StandsFor coder.old fed → groups.StandsFor coder.new (fed ++ map (λ p. p.0) packets.now) }
+{
+    let place = (first % FIELD as u64) as u16;
+    let second = first % (2 * FIELD as u64) >= FIELD as u64;
+    coder.group(place, second, packets, None, place == 0, air);
 }

@@ -2,6 +2,7 @@
 #![tactic(auto)]
 
 mod adapter;
+mod filler;
 pub mod laws;
 
 pub use adapter::Adapter;

@@ -1,0 +1,3 @@
+pub mod Feeds
+pub mod Making
+pub mod Coding
