@@ -1,11 +1,12 @@
 // An adapter.
-ghost use Rattle.std.specs.Prelude.{◌≡◌, ◌==◌, ◌<◌, ◌≤◌, ◌+◌, ◌*◌, ◌/◌, ◌%◌, ◌++◌, [], ℕ, List, IfOk, length, map, take, drop};
+ghost use Rattle.std.specs.Prelude.{◌≡◌, ◌==◌, ◌<◌, ◌≤◌, ◌+◌, ◌*◌, ◌/◌, ◌%◌, ◌++◌, [], ℕ, List, All, IfOk, length, map, take, drop};
 ghost use Rattle.dtx_coder.specs.Groups as groups;
 ghost use Rattle.dtx_coder.specs.Stream.{states};
+ghost use Rattle.dtx_ops.specs.Spelling.{IsEntry};
 ghost use Rattle.dtx_plan.specs.Sound.{IsSound};
 ghost use Rattle.dtx_plan.specs.declared.plan.Plan.{Plan};
 ghost use Rattle.dtx_adapter.specs.Adapting.{StandsFor};
-ghost use Rattle.dtx_adapter.specs.Feed.{feed, placeholders};
+ghost use Rattle.dtx_adapter.specs.Feed.{entry_of, feed, placeholders};
 ghost use Rattle.dtx_adapter.specs.Filling.{Fills};
 
 use crate::filler::Filler;
@@ -33,6 +34,9 @@ impl Adapter {
         requires { IsSound plan.now }
         ensures stands { IfOk result (λ adapter. StandsFor plan.now adapter []) }
         ensures none { IfOk result (λ adapter. adapter.given ≡ 0) }
+
+        // Each transmitter has the numbers of an entry, whatever the result.
+        ensures fit { All (λ t. IsEntry (entry_of t)) plan.now.transmitters.items }
     {
         Ok(Adapter {
             filler: Filler::new(plan),

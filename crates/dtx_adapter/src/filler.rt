@@ -1,9 +1,10 @@
 // Makes packets of a feed, one at a time.
-ghost use Rattle.std.specs.Prelude.{◌≡◌, ◌<◌, ◌+◌, ◌%◌, [], if◌then◌else◌, map};
+ghost use Rattle.std.specs.Prelude.{◌≡◌, ◌<◌, ◌+◌, ◌%◌, [], if◌then◌else◌, All, map};
 ghost use Rattle.dtx_cadence.specs.Mark.{sync_at};
-ghost use Rattle.dtx_ops.specs.Spelling.{spelling};
+ghost use Rattle.dtx_ops.specs.Spelling.{spelling, IsEntry};
 ghost use Rattle.dtx_plan.specs.Sound.{IsSound};
-ghost use Rattle.dtx_adapter.specs.Feed.{entry_of, is_placeholder, made};
+ghost use Rattle.dtx_adapter.specs.Feed as spec;
+ghost use Rattle.dtx_adapter.specs.Feed.{is_placeholder, made};
 ghost use Rattle.dtx_adapter.specs.Filling.{Fills, said};
 
 use arrayvec::ArrayVec;
@@ -11,7 +12,7 @@ use dtx_cadence::mark;
 use dtx_clock::{PACKETS, stamp};
 use dtx_ops::{Entry, OPERATIONS, Ops, write};
 use dtx_packets::{MOST_PACKETS, Packet};
-use dtx_plan::Plan;
+use dtx_plan::{Plan, Transmitter};
 use dtx_rs::Rs;
 use dtx_trellis::States;
 use std::marker::Model;
@@ -46,7 +47,8 @@ impl Filler {
     /// That of a plan. It has filled nothing.
     pub(crate) fn new(plan: &Plan) -> Filler
         requires { IsSound plan.now }
-        ensures { Fills plan.now result [] }
+        ensures fills { Fills plan.now result [] }
+        ensures fit { All (λ t. IsEntry (spec.entry_of t)) plan.now.transmitters.items }
     {
         Filler {
             start: plan.start,
@@ -100,14 +102,12 @@ impl Filler {
 fn ops_of(plan: &Plan) -> Ops
     requires { IsSound plan.now }
     ensures max_delay { result.max_delay ≡ plan.now.max_delay }
-    ensures entries { result.offsets.items ≡ map entry_of plan.now.transmitters.items }
+    ensures entries { result.offsets.items ≡ map spec.entry_of plan.now.transmitters.items }
+    ensures fit { All (λ t. IsEntry (spec.entry_of t)) plan.now.transmitters.items }
 {
     let mut offsets = ArrayVec::new();
     for transmitter in plan.transmitters.as_slice() {
-        offsets.push(Entry {
-            address: transmitter.address,
-            offset: transmitter.offset,
-        });
+        offsets.push(entry_of(*transmitter));
     }
     Ops {
         states: States([0; 12]),
@@ -116,5 +116,16 @@ fn ops_of(plan: &Plan) -> Ops
         frame: 0,
         index: 0,
         offsets,
+    }
+}
+
+/// A transmitter of a plan as an entry.
+fn entry_of(transmitter: Transmitter) -> Entry
+    ensures entry { result ≡ spec.entry_of transmitter }
+    ensures fits { IsEntry result }
+{
+    Entry {
+        address: transmitter.address,
+        offset: transmitter.offset,
     }
 }

@@ -6,4 +6,4 @@ use Rattle.dtx_adapter.proofs.adapter.Adapter.new.Goals as goal
 
 pub returns-clause-stands : goal.returns-clause-stands
 unfolding feed feed_to
-returns-clause-stands c = record { fills = c.new.ensures; given = refl; coder = c.in_ok-new.ensures ∙ new_stands }
+returns-clause-stands c = record { fills = c.new.ensures.fills; given = refl; coder = c.in_ok-new.ensures ∙ new_stands }

@@ -11,6 +11,6 @@ invariant_of-result c = record {
   differ = entries_differ c.args.plan.now.transmitters.items c.ops_of.result.offsets.items c.ops_of.ensures.entries c.requires.transmitters.distinct;
 }
 
-pub returns : goal.returns
+pub returns-clause-fills : goal.returns-clause-fills
 unfolding placeholders
-returns c = record { start = refl; max_delay = c.ops_of.ensures.max_delay; entries = c.ops_of.ensures.entries; counter = refl }
+returns-clause-fills c = record { start = refl; max_delay = c.ops_of.ensures.max_delay; entries = c.ops_of.ensures.entries; counter = refl }
