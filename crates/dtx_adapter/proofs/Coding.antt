@@ -1,9 +1,9 @@
 -- The next packets of a feed, given to a coder.
-use Rattle.std.proofs.Common.{◌≡◌, ℕ, ◌+◌, ◌*◌, ◌/◌, ◌%◌, ◌<◌, ◌≤◌, ◌==◌, nat_le, Bool, ℤ, List, ◌++◌, length, take, refl, sym, ap, subst, ◌∙◌, arith}
+use Rattle.std.proofs.Common.{◌≡◌, ℕ, ◌+◌, ◌*◌, ◌/◌, ◌%◌, ◌<◌, ◌≤◌, ◌==◌, nat_le, Bool, ℤ, List, ◌++◌, length, take, sym, ap, subst, ◌∙◌, arith}
 use Rattle.std.specs.Prelude.{◌↔◌, IsTrue}
 use Rattle.std.proofs.lemmas.Bool.{leb-true, le-leb, eqb-true, eq-eqb}
 use Rattle.std.proofs.lemmas.List.{length-append, take-append-le, take_all}
-use Rattle.dtx_coder.specs.Groups.{Coding, Group, StandsFor, IsNextGroup, IsCoded}
+use Rattle.dtx_coder.specs.Groups.{Coding, Group, StandsFor, IsCoded}
 use Rattle.dtx_coder.proofs.Next.{next_stands}
 
 -- a whole group

@@ -1,5 +1,5 @@
 -- The packets of a group, made one after another.
-use Rattle.std.proofs.Common.{◌≡◌, ◌≢◌, ℕ, suc, get_or, set, drop-cons, ◌+◌, ◌*◌, ◌/◌, ◌%◌, ◌<◌, ◌≤◌, Bool, true, false, cond, List, [], ◌∷◌, ◌++◌, length, take, drop, map, refl, sym, ap, ap₂, subst, ◌∙◌, arith, append_assoc, nat_eq, AllPairs}
+use Rattle.std.proofs.Common.{◌≡◌, ◌≢◌, ℕ, suc, get_or, set, drop-cons, ◌+◌, ◌*◌, ◌/◌, ◌%◌, ◌<◌, Bool, true, false, cond, List, [], ◌∷◌, ◌++◌, length, take, drop, map, sym, ap, ap₂, subst, ◌∙◌, arith, append_assoc, nat_eq, AllPairs}
 use Rattle.std.specs.List.{IsDistinct}
 use Rattle.std.proofs.lemmas.Bool.Decides.{Decides-eqb}
 use Rattle.std.proofs.Math.Seq.{take-suc}
@@ -60,12 +60,12 @@ made_next plan filling stream given xs p k fills whole few at told e =
     let before : List (List ℕ) = stream ++ given in
     let long : k ≡ length before = omega (arith, at, length-append stream given) in
     let says : said filling k ≡ ops_at plan (feed plan before) (length before) =
-        said_is plan filling before (feed plan before) k fills (told ∙ ap states (sym (group_states plan stream given k whole few at)))
-            ∙ ap (ops_at plan (feed plan before)) long in
+    said_is plan filling before (feed plan before) k fills (told ∙ ap states (sym (group_states plan stream given k whole few at)))
+    ∙ ap (ops_at plan (feed plan before)) long in
     let next : List ℕ = made (ops_at plan (feed plan before) (length before)) (placeholders before % 16) (length before) p in
     let here : made (said filling k) filling.counter k p ≡ next =
-        ap (λ ops. made ops filling.counter k p) says
-            ∙ ap₂ (λ counter n. made (ops_at plan (feed plan before) (length before)) counter n p) fills.counter long in
+    ap (λ ops. made ops filling.counter k p) says
+    ∙ ap₂ (λ counter n. made (ops_at plan (feed plan before) (length before)) counter n p) fills.counter long in
     ap₂ (λ front q. front ++ q ∷ []) e here
     ∙ sym (drop-append-le (length stream) (feed plan before) (next ∷ []) (omega (arith, length-feed plan before, length-append stream given)))
     ∙ ap (drop (length stream)) (sym (feed_next plan before p) ∙ ap (feed plan) (append_assoc stream given (p ∷ [])))

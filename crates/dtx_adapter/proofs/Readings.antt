@@ -1,12 +1,11 @@
 -- What the packets of a feed read as.
-use Rattle.std.proofs.Common.{◌≡◌, ◌≢◌, ◌⊎◌, inl, inr, ℕ, ◌+◌, ◌*◌, ◌/◌, ◌%◌, ◌<◌, ◌≤◌, ◌==◌, cond, true, false, All, List, [], ◌∷◌, length, map, take, drop, get_or, refl, sym, ap, ap₂, subst, ◌∙◌, arith}
-use Rattle.std.specs.Prelude.{Result, Ok}
+use Rattle.std.proofs.Common.{◌≡◌, ◌≢◌, ◌⊎◌, inl, inr, ℕ, ◌+◌, ◌*◌, ◌/◌, ◌%◌, ◌<◌, ◌≤◌, true, false, All, List, [], length, map, take, drop, get_or, refl, sym, ap, ap₂, ◌∙◌, arith}
+use Rattle.std.specs.Prelude.{Ok}
 use Rattle.std.proofs.lemmas.List.Elements.{All-map}
 use Rattle.std.proofs.lemmas.Bool.{cases_Bool, cond-true, cond-false, eq-eqb, ne_eqb}
-use Rattle.std.proofs.lemmas.List.{length-append, length-map, take-take, get_or-set_same, get_or-set_other}
+use Rattle.std.proofs.lemmas.List.{length-map, take-take, get_or-set_same, get_or-set_other}
 use Rattle.dtx_laws.proofs.Choice.{codeword_length}
 use Rattle.dtx_laws.proofs.Words.{distance_self}
-use Rattle.dtx_laws.specs.Words.{codeword}
 use Rattle.dtx_packets.specs.Packet.{sync_of, pid_of}
 use Rattle.dtx_cadence.specs.Mark.{sync_at, marked}
 use Rattle.dtx_coder.specs.Stream.{zero_states, states}
@@ -15,7 +14,6 @@ use Rattle.dtx_coder.specs.Runs.{AreStates}
 use Rattle.dtx_coder.proofs.Kept.{states_are}
 use Rattle.dtx_ops.specs.Reading.{reading}
 use Rattle.dtx_ops.specs.Spelling.{IsEntry, IsValid, data_of, spelling}
-use Rattle.dtx_ops.specs.declared.fields.Entry.{Entry}
 use Rattle.dtx_ops.specs.declared.fields.Ops.{Ops}
 use Rattle.dtx_ops.proofs.Data.{length-data_of}
 use Rattle.dtx_ops.proofs.Readings.{changed_reads, pid_of-spelling}
@@ -23,7 +21,7 @@ use Rattle.dtx_plan.specs.Sound.{IsSound}
 use Rattle.dtx_plan.specs.declared.plan.Plan.{Plan}
 use Rattle.dtx_plan.specs.declared.transmitter.Transmitter.{Transmitter}
 use Rattle.dtx_adapter.specs.Feed.{entry_of, is_placeholder, ops_at, counter_at, made, fed_packet, feed}
-use Rattle.dtx_adapter.proofs.Feeds.{length-feed, feed_packet}
+use Rattle.dtx_adapter.proofs.Feeds.{feed_packet}
 use Rattle.dtx_adapter.proofs.Making.{entries_differ}
 
 -- ---- what is said is valid

@@ -29,7 +29,7 @@ pub struct Adapter {
 }
 
 impl Adapter {
-    /// The adapter of a plan. It was given nothing.
+    /// The adapter of a plan. It was given nothing. Only want of memory is refused.
     pub fn new(alloc: Global, plan: &Plan) -> Result<Adapter, AllocError>
         requires { IsSound plan.now }
         ensures stands { IfOk result (λ adapter. StandsFor plan.now adapter []) }
@@ -54,7 +54,8 @@ impl Adapter {
     }
 
     /// Turns the next packets of the stream into those of the feed, and answers how many placeholders it filled. They are a group of
-    /// four, or at the end of the stream fewer.
+    /// four, or at the end of the stream fewer, and all packets of a stream are at most 624,000,000. Takes no memory, and refuses
+    /// nothing.
     pub fn group(&mut self, packets: &mut [Packet]) -> u8
         requires some { 0 < length packets.old }
         requires few { length packets.old ≤ GROUP_PACKETS }

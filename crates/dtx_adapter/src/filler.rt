@@ -20,13 +20,13 @@ use std::marker::Model;
 /// How many counters there are.
 const COUNTERS: u8 = 16;
 
-/// Makes each packet that of the feed, and fills placeholders (the profile's own, in the manner of ATSC A/110). It is seen as what the operations packets
-/// say, and the counter of the next one.
+/// Makes packets of a feed of those of a stream: sets their sync bytes, and fills placeholders (the profile's own, in the manner of
+/// ATSC A/110). It is seen as what the operations packets say, and the counter of the next one.
 #[derive(Drop)]
 pub(crate) struct Filler {
-    /// The tick at which the feed starts.
+    /// The tick at which the feed starts, below 10,000,000.
     start: u32,
-    /// What the operations packets say: the maximum delay and the transmitters stay, all else is set for each group or packet.
+    /// What the operations packets say. Maximum delay and transmitters stay, the states are set for each group, all else for each packet.
     ops: Ops,
     code: Rs<184, 164>,
     /// How many placeholders were filled, modulo 16.

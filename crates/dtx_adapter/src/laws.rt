@@ -1,4 +1,4 @@
-//! Laws of the feed.
+//! Laws of the feed (the profile's own, in the manner of ATSC A/110). Packets are counted from 0, and have 188 bytes.
 
 ghost use Rattle.std.specs.Prelude.{◌≡◌, ◌≢◌, ◌++◌, ◌+◌, ◌*◌, ◌/◌, ◌<◌, ◌≤◌, [], ℕ, List, All, Ok, length, take, drop, slice_index_or};
 ghost use Rattle.dtx_packets.specs.Packet.{sync_of, pid_of};

@@ -4,5 +4,7 @@
 mod adapter;
 mod filler;
 pub mod laws;
+#[cfg(test)]
+mod tests;
 
 pub use adapter::Adapter;

@@ -1,4 +1,4 @@
-use Rattle.std.proofs.Common.{rules, refl, ◌≡◌, ◌%◌, ◌==◌, nat_le, List, ℕ, length, map, sym, ap, ◌∙◌, arith}
+use Rattle.std.proofs.Common.{refl, ◌≡◌, ◌%◌, nat_le, length, sym, ap, ◌∙◌}
 use Rattle.std.proofs.lemmas.List.{length-map}
 use Rattle.dtx_packets.specs.declared.packet.Packet as packet
 use Rattle.dtx_adapter.proofs.Coding.{group_stands}

@@ -54,7 +54,7 @@ loop-i-preserved c =
     ] in
     let was : is_placeholder (get_or now i d).0 ≡ is_placeholder p = ap (λ (q : packet.Packet). is_placeholder q.0) still.0 in
     let counted : c.make.new.self ≡ record filler { counter = cond (is_placeholder p) ((filler.counter + 1) % 16) filler.counter } =
-        c.make.ensures.counted ∙ ap (λ b. record filler { counter = cond b ((filler.counter + 1) % 16) filler.counter }) was in
+    c.make.ensures.counted ∙ ap (λ b. record filler { counter = cond b ((filler.counter + 1) % 16) filler.counter }) was in
     record {
       long = length-set now i c.make.new.packet ∙ before.long;
       rest = drop-set-lt (i + 1) now i c.make.new.packet (omega arith) ∙ (let one : i + 1 ≡ suc i = omega arith in ap (λ n. drop n now) one ∙ still.1 ∙ ap (λ n. drop n old) (sym one));

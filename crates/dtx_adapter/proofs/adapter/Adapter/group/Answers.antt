@@ -42,7 +42,7 @@ returns-clause-stands c = λ plan stream stands.
     let fed : raw made ≡ drop (length stream) (feed plan longer) = c.make_group-filled.ensures.fed plan stream fills (sym stands.given) c.requires.open told in
     let all : feed plan stream ++ raw made ≡ feed plan longer = ap (λ back. feed plan stream ++ back) fed ∙ sym (feed_parts plan stream (raw old)) in
     let long : length longer ≡ length stream + length made =
-        length-append stream (raw old) ∙ ap (λ n. length stream + n) (length-map old (λ (p : packet.Packet). p.0) ∙ sym c.make_group-filled.ensures.long) in
+    length-append stream (raw old) ∙ ap (λ n. length stream + n) (length-map old (λ (p : packet.Packet). p.0) ∙ sym c.make_group-filled.ensures.long) in
     record {
       fills = subst (λ (f : Filling). Fills plan f longer) (sym c.code.ensures.filler) (c.make_group-filled.ensures.fills plan stream fills);
       given = ap (λ n. n + length made) (c.code.ensures.given ∙ stands.given) ∙ sym long;

@@ -1,5 +1,4 @@
-use Rattle.std.proofs.Common.{refl, [], sym, ap, subst, ◌∙◌}
-use Rattle.dtx_coder.specs.Groups.{StandsFor}
+use Rattle.std.proofs.Common.{refl, ◌∙◌}
 use Rattle.dtx_coder.proofs.Next.{new_stands}
 use Rattle.dtx_adapter.specs.Feed.{feed, feed_to}
 use Rattle.dtx_adapter.proofs.adapter.Adapter.new.Goals as goal

@@ -1,7 +1,6 @@
-use Rattle.std.proofs.Common.{◌≡◌, ℕ, ◌/◌, ◌%◌, sym, ap, ap₂, ◌∙◌, arith}
+use Rattle.std.proofs.Common.{◌/◌, ◌%◌, ap, ◌∙◌, arith}
 use Rattle.dtx_cadence.specs.Mark.{sync_at, marked}
 use Rattle.dtx_ops.specs.Spelling.{spelling}
-use Rattle.dtx_ops.specs.declared.fields.Ops.{Ops}
 use Rattle.dtx_adapter.specs.Filling.{Filling, said}
 use Rattle.dtx_adapter.proofs.filler.Filler.fill.Goals as goal
 

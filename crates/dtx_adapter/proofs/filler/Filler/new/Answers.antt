@@ -1,4 +1,4 @@
-use Rattle.std.proofs.Common.{rules, ◌≡◌, ◌<◌, ℕ, refl, sym, ap, subst, ◌∙◌, arith}
+use Rattle.std.proofs.Common.{◌<◌, ℕ, refl, sym, subst, arith}
 use Rattle.dtx_adapter.specs.Feed.{placeholders}
 use Rattle.dtx_adapter.proofs.Making.{entries_differ}
 use Rattle.dtx_adapter.proofs.filler.Filler.new.Goals as goal
