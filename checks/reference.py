@@ -39,17 +39,17 @@ def generator():
     return product
 
 
-# The multiples of the generator's lower coefficients, for each byte.
-ROWS = [bytes(multiplied(factor, c) for c in generator()[1:]) for factor in range(256)]
+# The multiples of the generator's lower coefficients, for each byte, as numbers of twenty bytes.
+FACTORS = generator()[1:]
+ROWS = [int.from_bytes(bytes(multiplied(factor, c) for c in FACTORS), "big") for factor in range(256)]
 
 
 def correction_bytes(data):
     """The twenty bytes behind the data of a codeword: the remainder of a division."""
-    rest = bytes(20)
+    rest = 0
     for byte in data:
-        row = ROWS[byte ^ rest[0]]
-        rest = bytes(a ^ b for a, b in zip(rest[1:] + b"\0", row))
-    return rest
+        rest = (rest << 8) % 2**160 ^ ROWS[byte ^ rest >> 152]
+    return rest.to_bytes(20, "big")
 
 
 def whitening():
@@ -136,6 +136,7 @@ def zeros(count):
     return b"".join(b"\x47" + WHITE[187 * place : 187 * place + 187] for place in (k % FIELD for k in range(count)))
 
 
-kind, given, target = sys.argv[1:4]
-made = adapted(open(given, "rb").read()) if kind == "feed" else zeros(int(given))
-open(target, "wb").write(made)
+if __name__ == "__main__":
+    kind, given, target = sys.argv[1:4]
+    made = adapted(open(given, "rb").read()) if kind == "feed" else zeros(int(given))
+    open(target, "wb").write(made)

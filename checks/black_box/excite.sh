@@ -1,0 +1,88 @@
+# What an exciter sends, and its log. The numbers and digests are those of a program that shares nothing with dtx.
+
+# has_log LINE..: the log has just these lines.
+has_log() {
+    printf '%s' "${1:+$(printf '%s\n' "$@")}${1:+$'\n'}" | cmp -s - out.log || wrong "the log is '$(tr '\n' ';' <out.log)'"
+}
+
+start 'an exciter that is given a feed from its start on'
+run 0 'packets 1300 segments 1204 presets 4 mutes 0 loose 0' excite "$room/feed.ts" 7 1000 out.sym out.log
+has_digest out.sym d053d41c45f273e3e262b297d5fa7c7df44adbfb998e9210481653691e0f1178
+has_digest out.log 42071eb44f95e818bfcf4eb4a16103cb4638dc713e3a49989c7d8621846571f4
+has_log 'preset 0 0 100 5078070 640' 'preset 313 0 412 5320042 612' 'preset 626 1 100 5562013 640' 'preset 939 1 412 5803985 612'
+leaves out.sym out.log
+
+start 'what it sends is what follows its first order in the symbols of the feed'
+run 0 'packets 1300 segments 1305 loose 0' code "$room/feed.ts" feed.sym
+tail -c 1001728 feed.sym >wanted.sym
+run 0 'packets 1300 segments 1204 presets 4 mutes 0 loose 0' excite "$room/feed.ts" 7 1000 out.sym out.log
+cmp -s wanted.sym out.sym || wrong 'out.sym is not the end of the symbols'
+
+start 'an exciter that is given a long feed'
+run 0 'packets 31200' make 1 31200 in.ts
+run 0 'packets 31200 filled 100 loose 0' adapt "$plan" in.ts feed.ts
+run 0 'packets 31200 segments 31199 presets 100 mutes 0 loose 0' excite feed.ts 9 2000 out.sym out.log
+has_digest out.sym 10d13b6c55125cace8fd1b80c2fdd53db492fe62fb49d4ad8a428f6351a13248
+has_digest out.log e9d561f25b9e6f450c4413d8a04a5a268b471630a1d0db76ce9cbe656ccde015
+
+# Two transmitters are given one feed: the symbols are the same, and the moments differ by their offsets.
+start 'the other transmitter sends the same 35 ticks later'
+run 0 'packets 1300 segments 1204 presets 4 mutes 0 loose 0' excite "$room/feed.ts" 9 2000 out.sym out.log
+has_digest out.sym d053d41c45f273e3e262b297d5fa7c7df44adbfb998e9210481653691e0f1178
+has_log 'preset 0 0 100 5078105 640' 'preset 313 0 412 5320077 612' 'preset 626 1 100 5562048 640' 'preset 939 1 412 5804020 612'
+
+# An order counts from 52 packets behind the mark on, and a first group is sent without a field sync.
+while read -r packets spoils log; do
+    start "$packets packets with placeholders $spoils"
+    given "$packets" 0
+    for each in ${spoils//,/ }; do
+        spoil "$each" 47 1ffa
+    done
+    run 0 "packets $packets filled $(tr ',' '\n' <<<"$spoils" | wc -l) loose 0" adapt "$plan" ../inputs/given.ts feed.ts
+    run 0 "packets $packets segments 8 presets 1 mutes 0 loose 0" excite feed.ts 7 1000 out.sym out.log
+    has_log "$log"
+    run 0 "packets $packets segments $((packets + (packets + 311) / 312)) loose 0" code feed.ts feed.sym
+    tail -c $((8 * 832)) feed.sym | cmp -s - out.sym || wrong 'out.sym is not the last eight segments'
+done <<'end'
+60 48,52 preset 0 0 52 5040962 1372
+320 312 preset 0 0 312 5242735 85
+end
+
+start 'a mark out of step mutes, and locks anew'
+head -c $((202 * 188)) "$room/feed.ts" >in.ts
+tail -c +$((624 * 188 + 1)) "$room/feed.ts" >>in.ts
+run 0 'packets 878 segments 678 presets 3 mutes 1 loose 0' excite in.ts 7 1000 out.sym out.log
+has_log 'preset 0 0 100 5078070 640' 'mute 100 cadence' 'preset 100 1 100 5562013 640' 'preset 413 1 412 5803985 612'
+
+start 'the greatest delay that is not late'
+run 0 'packets 1300 segments 1204 presets 4 mutes 0 loose 0' excite "$room/feed.ts" 7 4999990 out.sym out.log
+has_digest out.sym d053d41c45f273e3e262b297d5fa7c7df44adbfb998e9210481653691e0f1178
+
+start 'a delay that is late'
+run 0 'packets 1300 segments 0 presets 0 mutes 4 loose 0' excite "$room/feed.ts" 7 4999991 out.sym out.log
+has_log 'mute 0 late' 'mute 0 late' 'mute 0 late' 'mute 0 late'
+[[ -f out.sym && ! -s out.sym ]] || wrong 'out.sym is not empty'
+
+start 'an address that no order lists'
+run 0 'packets 1300 segments 0 presets 0 mutes 4 loose 0' excite "$room/feed.ts" 8 0 out.sym out.log
+has_log 'mute 0 unlisted' 'mute 0 unlisted' 'mute 0 unlisted' 'mute 0 unlisted'
+
+start 'a feed of nothing, of a packet and some bytes, and of what is no feed'
+: >in.ts
+run 0 'packets 0 segments 0 presets 0 mutes 0 loose 0' excite in.ts 7 0 out.sym out.log
+head -c 193 "$room/feed.ts" >in.ts
+run 0 'packets 1 segments 0 presets 0 mutes 0 loose 5' excite in.ts 7 0 out.sym out.log
+head -c 100000 "$room/feed.sym" >in.ts
+run 0 'packets 531 segments 0 presets 0 mutes 0 loose 172' excite in.ts 7 0 out.sym out.log
+[[ -f out.sym && ! -s out.sym && -f out.log && ! -s out.log ]] || wrong 'out.sym or out.log is not empty'
+
+start 'symbols and a log replace older ones'
+cp ../inputs/long.ts out.sym
+cp ../inputs/long.ts out.log
+run 0 'packets 1300 segments 1204 presets 4 mutes 0 loose 0' excite "$room/feed.ts" 7 1000 out.sym out.log
+has_digest out.sym d053d41c45f273e3e262b297d5fa7c7df44adbfb998e9210481653691e0f1178
+has_digest out.log 42071eb44f95e818bfcf4eb4a16103cb4638dc713e3a49989c7d8621846571f4
+
+# Random lists of feed packets, foreign ones, spoiled ones and marks out of step.
+start 'random lists of packets'
+"$top/checks/exciter.py" "$dtx" 240 >"$room/said" || wrong "$(grep FAILED "$room/said" | head -n 3)"

@@ -1,0 +1,31 @@
+# Files that a user may not use.
+
+# Root may use all, so the program then runs as nobody, from a copy where nobody reaches it.
+if ((EUID == 0)); then
+    cp "$top/crates/dtx/out/dtx" "$room/program"
+    chmod 755 "$room/program"
+    program=(setpriv --reuid=65534 --regid=65534 --clear-groups "$room/program")
+fi
+if [[ $("${program[@]}" 2>/dev/null) == "$usage" ]]; then
+    start 'an output in a folder that may not be written'
+    mkdir shut
+    chmod 555 shut
+    run 12 'write fault' adapt "$plan" ../inputs/given.ts shut/out.ts
+    leaves shut
+
+    start 'an output that may not be written stays as it was'
+    cp ../inputs/long.ts out.ts
+    chmod 444 out.ts
+    run 12 'write fault' adapt "$plan" ../inputs/given.ts out.ts
+    cmp -s ../inputs/long.ts out.ts || wrong 'out.ts was changed'
+
+    start 'an input that may not be read'
+    chmod 777 .
+    cp ../inputs/given.ts in.ts
+    chmod 000 in.ts
+    run 11 'read fault' adapt "$plan" in.ts out.ts
+    leaves in.ts
+else
+    echo 'black box: the cases of another user were left out, since root could not become nobody here'
+fi
+

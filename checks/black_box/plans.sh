@@ -1,0 +1,173 @@
+# Plans that are read and plans that are refused. Where a plan is refused no file is begun.
+
+# The beginnings of plans that are whole up to a place: of a network, of its table `net`, of an event, of what is received, of an
+# entry of damage.
+head='start = 0\nmax_delay = 5000000\n[[transmitter]]\naddress = 7\noffset = -10\n[[transmitter]]\naddress = 9\noffset = 25\n'
+net=$head'[net]\nstream = "s.ts"\n'
+event=$net'[[net.event]]\n'
+receive=$net'[net.receive]\n'
+damage=$receive'from = 7\n[[net.receive.damage]]\n'
+
+# plan_says TEXT: makes plan.toml of a text, in which {head}, {net}, {event}, {receive} and {damage} stand for these beginnings.
+plan_says() {
+    local text=$1 part
+    for part in head net event receive damage; do
+        text=${text//"{$part}"/${!part}}
+    done
+    printf '%b' "$text" >plan.toml
+}
+
+given 3 0
+while IFS='|' read -r line text; do
+    start "a plan that is refused: $line, $text"
+    plan_says "$text"
+    run 5 "plan $line" adapt plan.toml ../inputs/given.ts out.ts
+    leaves plan.toml
+done <<'end'
+whole 0 text|start = 
+whole 0 text|start = 0\nstart = 1\n
+whole 0 text|{head}net = 9223372036854775808\n
+whole 0 text|\xff
+whole 0 unknown|{head}[site]\n
+whole 0 unknown|starts = 0\n
+whole 0 unknown|damage = []\n{head}
+start 0 missing|max_delay = 0\n
+start 0 missing|
+start 0 kind|start = 0.5\n
+start 0 kind|start = true\n
+start 0 kind|start = "0"\n
+start 0 range|start = 10000000\n
+start 0 range|start = -1\nmax_delay = -1\n
+max_delay 0 missing|start = 9999999\n
+max_delay 0 kind|start = 0\nmax_delay = "5"\n
+max_delay 0 range|start = 0\nmax_delay = 10000000\n
+max_delay 0 range|start = 0\nmax_delay = -1\n
+transmitter 0 missing|start = 0\nmax_delay = 9999999\n
+transmitter 0 kind|start = 0\nmax_delay = 0\ntransmitter = 7\n
+transmitter 0 kind|start = 0\nmax_delay = 0\n[transmitter]\naddress = 7\n
+transmitter 0 range|start = 0\nmax_delay = 0\ntransmitter = []\n
+transmitter 0 kind|start = 0\nmax_delay = 0\ntransmitter = [7]\n
+transmitter 2 unknown|{head}[[transmitter]]\naddress = 11\noffset = 0\npower = 1\n
+address 2 missing|{head}[[transmitter]]\noffset = 0\n
+address 2 kind|{head}[[transmitter]]\naddress = "11"\noffset = 0\n
+address 2 range|{head}[[transmitter]]\naddress = 65536\noffset = 0\n
+address 2 range|{head}[[transmitter]]\naddress = -1\noffset = 0\n
+address 2 twice|{head}[[transmitter]]\naddress = 7\noffset = 0\n
+address 2 twice|{head}[[transmitter]]\naddress = 9\n[[transmitter]]\n
+offset 2 missing|{head}[[transmitter]]\naddress = 11\n
+offset 2 kind|{head}[[transmitter]]\naddress = 11\noffset = 0.0\n
+offset 2 range|{head}[[transmitter]]\naddress = 11\noffset = 32768\n
+offset 2 range|{head}[[transmitter]]\naddress = 11\noffset = -32769\n
+delay 2 kind|{head}[[transmitter]]\naddress = 11\noffset = 0\ndelay = false\n
+delay 2 range|{head}[[transmitter]]\naddress = 11\noffset = 0\ndelay = 4294967296\n
+delay 2 range|{head}[[transmitter]]\naddress = 11\noffset = 0\ndelay = -1\n
+net 0 kind|{head}[[net]]\nstream = "s.ts"\n
+net 0 unknown|{net}streams = 1\n
+stream 0 missing|{head}[net]\n
+stream 0 kind|{head}[net]\nstream = 1\n
+stream 0 range|{head}[net]\nstream = ""\n
+event 0 kind|{net}event = 1\n
+event 0 kind|{net}event = [1]\n
+do 0 missing|{event}to = 7\n
+do 0 kind|{event}do = 1\n
+do 0 range|{event}do = "sends"\n
+event 0 unknown|{event}do = "send"\nto = 7\nfrom = 0\ncount = 1\nseed = 1\n
+event 0 unknown|{event}do = "restart"\nto = 7\nfrom = 0\n
+to 0 missing|{event}do = "restart"\n
+to 0 kind|{event}do = "restart"\nto = "7"\n
+to 0 range|{event}do = "restart"\nto = 65536\n
+to 0 stranger|{event}do = "restart"\nto = 8\n
+to 1 stranger|{event}do = "restart"\nto = 7\n[[net.event]]\ndo = "restart"\nto = 11\n
+seed 0 missing|{event}do = "foreign"\nto = 7\nfrom = 0\ncount = 1\n
+seed 0 kind|{event}do = "foreign"\nto = 7\nseed = ""\n
+seed 0 range|{event}do = "foreign"\nto = 7\nseed = -1\n
+from 0 missing|{event}do = "send"\nto = 7\ncount = 1\n
+from 0 kind|{event}do = "send"\nto = 7\nfrom = []\n
+from 0 range|{event}do = "send"\nto = 7\nfrom = 624000000\n
+count 0 missing|{event}do = "send"\nto = 7\nfrom = 0\n
+count 0 kind|{event}do = "send"\nto = 7\nfrom = 0\ncount = 1.0\n
+count 0 range|{event}do = "send"\nto = 7\nfrom = 0\ncount = 0\n
+count 0 range|{event}do = "send"\nto = 7\nfrom = 623999999\ncount = 2\n
+at 0 missing|{event}do = "flip"\nto = 7\nfrom = 0\nwith = 1\n
+at 0 kind|{event}do = "flip"\nto = 7\nfrom = 0\nat = "0"\n
+at 0 range|{event}do = "flip"\nto = 7\nfrom = 0\nat = 188\n
+with 0 missing|{event}do = "flip"\nto = 7\nfrom = 0\nat = 187\n
+with 0 kind|{event}do = "flip"\nto = 7\nfrom = 0\nat = 187\nwith = true\n
+with 0 range|{event}do = "flip"\nto = 7\nfrom = 0\nat = 187\nwith = 0\n
+with 0 range|{event}do = "flip"\nto = 7\nfrom = 0\nat = 187\nwith = 256\n
+states 0 missing|{event}do = "lie"\nto = 7\nfrom = 0\n
+states 0 kind|{event}do = "lie"\nto = 7\nfrom = 0\nstates = 0\n
+states 0 range|{event}do = "lie"\nto = 7\nfrom = 0\nstates = "00000000000"\n
+states 0 range|{event}do = "lie"\nto = 7\nfrom = 0\nstates = "000000000008"\n
+receive 0 kind|{net}receive = 7\n
+receive 0 unknown|{receive}from = 7\nto = 7\n
+receive.from 0 missing|{receive}
+receive.from 0 kind|{receive}from = "7"\n
+receive.from 0 range|{receive}from = -1\n
+receive.from 0 stranger|{receive}from = 8\n
+damage 0 kind|{receive}from = 7\ndamage = 1\n
+damage 0 kind|{receive}from = 7\ndamage = [1]\n
+damage 0 unknown|{damage}at = 0\nput = 0\nto = 0\n
+damage.at 0 missing|{damage}put = 0\n
+damage.at 0 kind|{damage}at = "0"\nput = 0\n
+damage.at 0 range|{damage}at = 520832000000\nput = 0\n
+damage.at 1 order|{damage}at = 0\ncount = 2\nput = 0\n[[net.receive.damage]]\nat = 1\nput = 0\n
+damage.count 0 kind|{damage}at = 0\ncount = ""\nput = 0\n
+damage.count 0 range|{damage}at = 0\ncount = 0\nput = 0\n
+damage.put 0 missing|{damage}at = 0\n
+damage.put 0 kind|{damage}at = 0\nput = 0.0\n
+damage.put 0 range|{damage}at = 0\nput = 128\n
+damage.put 0 range|{damage}at = 0\nput = -129\n
+end
+
+start 'a plan beyond 16,777,216 bytes'
+{ printf '%b' "$head" && head -c 16777216 /dev/zero | tr '\0' '\n'; } >plan.toml
+run 5 'plan whole 0 size' adapt plan.toml ../inputs/given.ts out.ts
+leaves plan.toml
+
+start 'a plan of just 16,777,216 bytes'
+truncate -s 0 plan.toml
+{ printf '%b' "$head" && yes '' | head -c $((16777216 - $(printf '%b' "$head" | wc -c))); } >plan.toml
+run 0 'packets 3 filled 0 loose 0' adapt plan.toml ../inputs/given.ts out.ts
+leaves plan.toml out.ts
+
+# Plans at the ends of their ranges, and the table `net` whole.
+while IFS= read -r text; do
+    start "a plan that is read: $text"
+    plan_says "$text"
+    run 0 'packets 3 filled 0 loose 0' adapt plan.toml ../inputs/given.ts out.ts
+    holds out.ts 3
+    leaves plan.toml out.ts
+done <<'end'
+{head}
+start = 9999999\nmax_delay = 9999999\n[[transmitter]]\naddress = 65535\noffset = -32768\ndelay = 4294967295\n
+start = 0\nmax_delay = 0\ntransmitter = [{ address = 0, offset = 32767 }]\n
+{net}
+{event}do = "send"\nto = 7\nfrom = 623999999\ncount = 1\n[[net.event]]\ndo = "restart"\nto = 9\n
+{event}do = "foreign"\nto = 7\nseed = 9223372036854775807\nfrom = 0\ncount = 624000000\n
+{event}do = "flip"\nto = 9\nfrom = 0\nat = 0\nwith = 255\n[[net.event]]\ndo = "lie"\nto = 9\nfrom = 0\nstates = "012345677777"\n
+{receive}from = 9\n
+{damage}at = 0\nput = -128\n[[net.receive.damage]]\nat = 1\ncount = 520832000000\nput = 127\n
+end
+
+start 'a plan of 35 transmitters, and one of 36'
+{
+    printf 'start = 0\nmax_delay = 5000000\n'
+    for ((address = 1; address <= 35; address++)); do
+        printf '[[transmitter]]\naddress = %d\noffset = 0\n' $address
+    done
+} >plan.toml
+run 0 'packets 3 filled 0 loose 0' adapt plan.toml ../inputs/given.ts out.ts
+printf '[[transmitter]]\naddress = 36\noffset = 0\n' >>plan.toml
+run 5 'plan transmitter 0 range' adapt plan.toml ../inputs/given.ts out.ts
+
+# The examples: plans that are read, and a plan for each common mistake, which says its line in its last comment.
+for example in "$top"/examples/*.toml; do
+    start "the example ${example##*/}"
+    run 0 'packets 3 filled 0 loose 0' adapt "$example" ../inputs/given.ts out.ts
+done
+for example in "$top"/examples/mistakes/*.toml; do
+    start "the mistake ${example##*/}"
+    run 5 "$(sed -n 's/^# dtx says: //p' "$example")" adapt "$example" ../inputs/given.ts out.ts
+    leaves_nothing
+done

@@ -1,0 +1,113 @@
+# Words that are refused.
+
+# is_usage TITLE WORD..: the words fit no command.
+is_usage() {
+    start "usage: $1"
+    shift
+    run 2 "$usage" "$@"
+    leaves_nothing
+}
+
+is_usage 'no words'
+is_usage 'a command alone' adapt
+is_usage 'a word too few' adapt "$plan" ../inputs/given.ts
+is_usage 'a word too many' adapt "$plan" ../inputs/given.ts out.ts more
+is_usage 'an empty plan' adapt '' ../inputs/given.ts out.ts
+is_usage 'an empty input' adapt "$plan" '' out.ts
+is_usage 'an empty output' adapt "$plan" ../inputs/given.ts ''
+is_usage 'an empty command' '' plan ../inputs/given.ts out.ts
+is_usage 'a capital letter' Adapt plan ../inputs/given.ts out.ts
+is_usage 'a blank after the command' 'adapt ' plan ../inputs/given.ts out.ts
+is_usage 'a part of the command' adap plan ../inputs/given.ts out.ts
+is_usage 'an unknown command' copy plan ../inputs/given.ts out.ts
+is_usage '`code` alone' code
+is_usage '`code` with a word too few' code ../inputs/given.ts
+is_usage '`code` with a word too many' code ../inputs/given.ts out.sym more
+is_usage '`code` with an empty input' code '' out.sym
+is_usage '`code` with an empty output' code ../inputs/given.ts ''
+is_usage '`receive` alone' receive
+is_usage '`receive` with a word too few' receive ../inputs/given.sym
+is_usage '`receive` with a word too many' receive ../inputs/given.sym out.ts more
+is_usage '`receive` with an empty input' receive '' out.ts
+is_usage '`receive` with an empty output' receive ../inputs/given.sym ''
+is_usage '`make` alone' make
+is_usage '`make` with a word too few' make 1 4
+is_usage '`make` with a word too many' make 1 4 out.ts more
+is_usage '`make` with an empty output' make 1 4 ''
+is_usage 'a seed beyond 64 bits' make 18446744073709551616 4 out.ts
+is_usage 'a seed that is 1 modulo 2^64' make 18446744073709551617 4 out.ts
+is_usage 'a packet too many' make 1 624000001 out.ts
+while read -r number; do
+    is_usage "the seed '$number'" make "$number" 4 out.ts
+    is_usage "the count '$number'" make 1 "$number" out.ts
+    is_usage "the address '$number'" excite ../inputs/given.ts "$number" 0 out.sym out.log
+    is_usage "the delay '$number'" excite ../inputs/given.ts 7 "$number" out.sym out.log
+done <<'end'
+
+01
+00
++1
+-1
+-0
+1.0
+1e3
+0x10
+1_000
+seven
+1 1
+٤
+99999999999999999999999999999999999999999999999999999999999999999999999999999999
+end
+is_usage 'a number behind a blank' make ' 1' 4 out.ts
+is_usage 'a number before a line feed' make 1 $'4\n' out.ts
+is_usage '--help' --help
+is_usage '-h' -h
+is_usage '--version' --version
+is_usage '`excite` alone' excite
+is_usage '`excite` with a word too few' excite ../inputs/given.ts 7 0 out.sym
+is_usage '`excite` with a word too many' excite ../inputs/given.ts 7 0 out.sym out.log more
+is_usage '`excite` with an empty feed' excite '' 7 0 out.sym out.log
+is_usage '`excite` with empty symbols' excite ../inputs/given.ts 7 0 '' out.log
+is_usage '`excite` with an empty log' excite ../inputs/given.ts 7 0 out.sym ''
+is_usage 'an address beyond 16 bits' excite ../inputs/given.ts 65536 0 out.sym out.log
+is_usage 'a delay beyond 32 bits' excite ../inputs/given.ts 7 4294967296 out.sym out.log
+# These are not built yet.
+is_usage 'net' net plan
+is_usage 'hurt' hurt ../inputs/given.ts changes out.ts
+
+while read -r shows plan input output named; do
+    start "equal names: $shows"
+    run 3 "same $named" adapt "$plan" "$input" "$output"
+    leaves_nothing
+done <<'end'
+plan_and_input ../inputs/given.ts ../inputs/given.ts out.ts ../inputs/given.ts
+plan_and_output out.ts ../inputs/given.ts out.ts out.ts
+input_and_output plan ../inputs/given.ts ../inputs/given.ts ../inputs/given.ts
+all_three ../inputs/given.ts ../inputs/given.ts ../inputs/given.ts ../inputs/given.ts
+two_that_are_missing plan missing missing missing
+end
+
+while read -r shows feed output log named; do
+    start "equal names of \`excite\`: $shows"
+    run 3 "same $named" excite "$feed" 7 0 "$output" "$log"
+    leaves_nothing
+done <<'end'
+feed_and_symbols ../inputs/given.ts ../inputs/given.ts out.log ../inputs/given.ts
+feed_and_log ../inputs/given.ts out.sym ../inputs/given.ts ../inputs/given.ts
+symbols_and_log ../inputs/given.ts out.sym out.sym out.sym
+two_that_are_missing missing missing out.log missing
+end
+
+start 'equal names of `receive`'
+run 3 'same ../inputs/given.ts' receive ../inputs/given.ts ../inputs/given.ts
+leaves_nothing
+
+start 'equal names of `code`'
+run 3 'same ../inputs/given.ts' code ../inputs/given.ts ../inputs/given.ts
+leaves_nothing
+
+start 'a word that is not UTF-8'
+run 1 '' adapt "$plan" ../inputs/given.ts $'out\xff.ts'
+leaves_nothing
+run 1 '' $'\xc3'
+leaves_nothing
