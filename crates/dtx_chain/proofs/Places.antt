@@ -1,5 +1,5 @@
 -- Where the segments of a stream stand, and that they are one run.
-use Rattle.std.proofs.Common.{◌≡◌, ◌≢◌, ℕ, ℤ, zero, suc, ◌+◌, ◌-◌, ◌*◌, ◌/◌, ◌%◌, ◌<◌, ◌≤◌, ◌⊎◌, ◌==◌, nat_le, cond, Bool, true, false, List, [], ◌∷◌, ◌++◌, length, map, take, drop, get_or, refl, sym, ap, ap₂, ◌∙◌, subst, inl, inr, arith, zero-add}
+use Rattle.std.proofs.Common.{◌≡◌, ◌≢◌, ℕ, zero, suc, ◌+◌, ◌-◌, ◌*◌, ◌/◌, ◌%◌, ◌<◌, ◌≤◌, ◌⊎◌, ◌==◌, nat_le, true, List, [], ◌∷◌, ◌++◌, length, map, get_or, refl, sym, ap, ap₂, ◌∙◌, inl, inr, arith, zero-add}
 use Rattle.std.specs.List.{range_with_len, flat_map}
 use Rattle.std.proofs.lemmas.Bool.{cases_eq, cond-true, cond-false, eq-eqb, ne_eqb}
 use Rattle.std.proofs.lemmas.List.{append-nil, length-append, take_all, get_or_append_left, get_or-append_right}
@@ -9,10 +9,10 @@ use Rattle.dtx_lists.proofs.Range.{range_with_len-parts}
 use Rattle.dtx_frame.specs.Segments.{field_sync}
 use Rattle.dtx_frame.specs.Detection.{looks_like}
 use Rattle.dtx_frame.proofs.Alike.{looks_alike}
-use Rattle.dtx_coder.specs.Stream.{levels, segment, four_segments, no_last, last_before, sync_before, group_segments, a53}
+use Rattle.dtx_coder.specs.Stream.{levels, segment, four_segments, last_before, sync_before, group_segments, a53}
 use Rattle.dtx_coder.proofs.Counts.{length-a53}
 use Rattle.dtx_receiver.specs.Runs.{runs}
-use Rattle.dtx_receiver.specs.Intervals.{looks_at, NoneLooks, IsRun, AreRuns, segments_in}
+use Rattle.dtx_receiver.specs.Intervals.{looks_at, IsRun, AreRuns, segments_in}
 use Rattle.dtx_receiver.proofs.Intervals.{are_runs, only_runs}
 
 -- element j of part u of lists that stand one behind the other

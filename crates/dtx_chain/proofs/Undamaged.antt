@@ -1,5 +1,5 @@
 -- What is received of undamaged symbols.
-use Rattle.std.proofs.Common.{◌≡◌, ℕ, zero, suc, ◌+◌, ◌*◌, ◌/◌, ◌<◌, ◌≤◌, Bool, true, false, cond, List, [], ◌∷◌, ◌++◌, length, map, get_or, refl, sym, ap, ap₂, ◌∙◌, arith}
+use Rattle.std.proofs.Common.{◌≡◌, ℕ, zero, suc, ◌+◌, ◌*◌, ◌/◌, ◌<◌, ◌≤◌, Bool, true, false, List, [], ◌∷◌, length, map, get_or, refl, sym, ap, ap₂, ◌∙◌, arith}
 use Rattle.std.specs.List.{range_with_len, filter, flat_map}
 use Rattle.std.proofs.lemmas.List.{append-nil}
 use Rattle.dtx_coder.specs.Coded.{whole_groups}
@@ -7,7 +7,6 @@ use Rattle.dtx_coder.specs.Stream.{a53}
 use Rattle.dtx_coder.proofs.Bytes.{length-whole}
 use Rattle.dtx_receiver.specs.Bytes.{bytes_in}
 use Rattle.dtx_receiver.specs.Packets.{is_complete, received_at, packets_of, all_packets, received}
-use Rattle.dtx_receiver.specs.Runs.{runs}
 use Rattle.dtx_receiver.specs.declared.batch.Received.{Received}
 use Rattle.dtx_receiver.proofs.Complete.{complete_told}
 use Rattle.dtx_receiver.proofs.Ranges.{filter-kept, filter-lost}
