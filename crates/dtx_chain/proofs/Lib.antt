@@ -2,3 +2,5 @@ pub mod Places
 pub mod Levels
 pub mod Words
 pub mod Undamaged
+pub mod Slight
+pub mod AllBack

@@ -15,7 +15,7 @@ use Rattle.dtx_chain.proofs.Places.{one_run}
 use Rattle.dtx_chain.proofs.Levels.{bytes_are}
 use Rattle.dtx_chain.proofs.Words.{whole_small, packet_back}
 
-map-filter_same : {X : Type 0} (f g : ℕ → X) (p : ℕ → Bool) (a n : ℕ) → ((i : ℕ) → a ≤ i → i < a + n → p i ≡ true → f i ≡ g i)
+pub map-filter_same : {X : Type 0} (f g : ℕ → X) (p : ℕ → Bool) (a n : ℕ) → ((i : ℕ) → a ≤ i → i < a + n → p i ≡ true → f i ≡ g i)
     → map f (filter p (range_with_len a n)) ≡ map g (filter p (range_with_len a n))
 map-filter_same f g p a zero h = refl
 map-filter_same f g p a (suc n) h = by_test (p a) refl (map-filter_same f g p (a + 1) n (λ i l m. h i (omega arith) (omega arith)))
