@@ -4,3 +4,5 @@ pub mod Words
 pub mod Undamaged
 pub mod Slight
 pub mod AllBack
+pub mod Numbers
+pub mod NoDamage

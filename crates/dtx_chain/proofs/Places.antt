@@ -117,7 +117,7 @@ sync_at_place ps n l z = (
     within : 78 * (n / 313) < length ps / 4
     within = omega (arith, z, l, length-a53 ps)
 
-syncs_look : (ps : List (List ℕ)) (j : ℕ) → j < length (a53 ps) → j % 313 ≡ 0 → looks_at (a53 ps) j ≡ true
+pub syncs_look : (ps : List (List ℕ)) (j : ℕ) → j < length (a53 ps) → j % 313 ≡ 0 → looks_at (a53 ps) j ≡ true
 syncs_look ps j l z =
     let s : (second : Bool) × (last : List ℤ) × (get_or (a53 ps) j [] ≡ field_sync second last) = sync_at_place ps j l z in
     ap looks_like s.2 ∙ looks_alike s.0 s.1

@@ -89,7 +89,7 @@ from_spread : (ps : List (List ℕ)) (k : ℕ) → IsComplete 207 52 4 (length (
 unfolding spread
 from_spread ps k c = word_back 207 52 4 (coded ps) (spread ps) k (lit< tt) (λ p l. refl) c
 
-word_is : (ps : List (List ℕ)) (k : ℕ) → k < length ps → IsComplete 207 52 4 (828 * (length ps / 4)) k → word_at 207 52 4 (whole_groups ps) k ≡ codeword_at ps k
+pub word_is : (ps : List (List ℕ)) (k : ℕ) → k < length ps → IsComplete 207 52 4 (828 * (length ps / 4)) k → word_at 207 52 4 (whole_groups ps) k ≡ codeword_at ps k
 unfolding whole_groups codeword_at
 word_is ps k l c =
     sym (word_stays 207 52 4 (whole_groups ps) (drop (828 * (length ps / 4)) (spread ps)) k (subst (λ (n : ℕ). IsComplete 207 52 4 n k) (sym (length-whole ps)) c))

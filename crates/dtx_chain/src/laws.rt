@@ -5,8 +5,9 @@ ghost use Rattle.std.specs.Prelude.{◌≡◌, ℕ, ℤ, ◌≢◌, ◌+◌, ◌
 ghost use Rattle.std.specs.List.{list_all};
 ghost use Rattle.dtx_frame.specs.Segments.{field_sync};
 ghost use Rattle.dtx_coder.specs.Stream.{a53, levels, segment};
-ghost use Rattle.dtx_outer.specs.Inner.{word_at};
-ghost use Rattle.dtx_receiver.specs.Packets.{all_packets, received, received_at};
+ghost use Rattle.dtx_outer.specs.Inner.{IsComplete, word_at};
+ghost use Rattle.dtx_receiver.specs.Packets.{all_packets, packets_of, received, received_at};
+ghost use Rattle.dtx_receiver.specs.declared.batch.Received.{Received};
 ghost use Rattle.dtx_receiver.specs.Runs.{runs};
 ghost use Rattle.dtx_chain.specs.Damage.{AreReceived, IsNear, IsSlight, as_corrected, from_sync, numbers_in, packet_behind, to_sync, word_in};
 ghost use Rattle.dtx_chain.specs.Undamaged.{ArePackets, as_sent, whole_words, with_sync};
@@ -28,10 +29,12 @@ pub fn received_undamaged()
 
 /// Word j of the bytes of any run gives packet f + j of a stream back, received good and with 0x47 as its sync byte, wherever the
 /// word differs from that packet's codeword in at most ten bytes: those are the bytes put right. Packet f begins a field, as the
-/// packet behind a field sync does. The bytes of the run may be any numbers, and as many or as few as they are.
+/// packet behind a field sync does. The bytes of the run may be any numbers, and as many or as few as they are. Where all bytes of
+/// word j are there, its packet is number j of those that the run gives.
 pub fn gives_back()
-    ensures { (packets : List (List ℕ)) (bytes : List ℕ) (f j : ℕ) → ArePackets packets → f % FIELD ≡ 0 → f + j < length packets → IsNear packets (f + j) (word_at 207 52 4 bytes j)
+    ensures packet { (packets : List (List ℕ)) (bytes : List ℕ) (f j : ℕ) → ArePackets packets → f % FIELD ≡ 0 → f + j < length packets → IsNear packets (f + j) (word_at 207 52 4 bytes j)
         → received_at bytes j ≡ as_corrected packets (f + j) (word_at 207 52 4 bytes j) }
+    ensures place { (bytes : List ℕ) (j : ℕ) (other : Received) → IsComplete 207 52 4 (length bytes) j → slice_index_or (packets_of bytes) j other ≡ received_at bytes j }
 {}
 
 /// Where the symbols of segments in a row of a stream are received with slight damage, and a field sync is among them, they are
@@ -46,6 +49,13 @@ pub fn gives_all_back()
         → all_packets got ≡ map (λ j. as_corrected packets (packet_behind first + j) (word_in first got j)) (numbers_in (from_sync first got)) }
     ensures unflagged { (packets : List (List ℕ)) (first : ℕ) (sent got : List (List ℤ)) → AreReceived packets first sent got → to_sync first < length sent → IsSlight packets first sent got → ArePackets packets
         → list_all (λ r. r.good) (all_packets got) ≡ true }
+{}
+
+/// Undamaged symbols are slightly damaged ones: those of a whole stream are segments in a row from its first field sync on, and meet
+/// each condition.
+pub fn no_damage()
+    ensures received { (packets : List (List ℕ)) → AreReceived packets 0 (a53 packets) (a53 packets) }
+    ensures slight { (packets : List (List ℕ)) → GROUP_PACKETS ≤ length packets → ArePackets packets → IsSlight packets 0 (a53 packets) (a53 packets) }
 {}
 
 /// Where the segments of a stream stand that these definitions count on. Its field syncs are those at multiples of 313, segment k
