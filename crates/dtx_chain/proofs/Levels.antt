@@ -1,8 +1,8 @@
 -- From the segments of a stream back to its bytes.
-use Rattle.std.proofs.Common.{◌≡◌, ℕ, ℤ, zero, suc, ◌+◌, ◌-◌, ◌*◌, ◌/◌, ◌%◌, ◌<◌, ◌≤◌, nat_le, List, [], ◌∷◌, ◌++◌, length, map, take, drop, get_or, refl, sym, ap, ap₂, ◌∙◌, subst, arith}
+use Rattle.std.proofs.Common.{◌≡◌, ℕ, zero, suc, ◌+◌, ◌-◌, ◌*◌, ◌/◌, ◌<◌, ◌≤◌, nat_le, List, [], ◌∷◌, ◌++◌, length, map, take, drop, get_or, refl, sym, ap, ap₂, ◌∙◌, subst, arith}
 use Rattle.std.specs.List.{range_with_len, flat_map}
 use Rattle.std.proofs.Math.Seq.{take-add}
-use Rattle.std.proofs.lemmas.List.{append-nil, take_all, length-append, length-drop, length-take-le, get_or-take, get_or-drop}
+use Rattle.std.proofs.lemmas.List.{append-nil, take_all, length-drop, length-take-le, get_or-take, get_or-drop}
 use Rattle.std.proofs.lemmas.List.FromFn.{length-map-range_with_len, get_or-map-range_with_len}
 use Rattle.std.proofs.lemmas.Grind.{flat_map-append}
 use Rattle.dtx_lists.proofs.Range.{range_with_len-parts}
@@ -11,7 +11,6 @@ use Rattle.dtx_trellis.specs.Groups.{level_at, levels_of}
 use Rattle.dtx_slice.specs.Slicing.{sliced, sliced_data, sliced_last}
 use Rattle.dtx_slice.specs.Unrolled.{bytes_back, formers_of, formers_in}
 use Rattle.dtx_slice.proofs.Inverse.{bytes_come_back}
-use Rattle.dtx_frame.specs.Segments.{data_segment, field_sync}
 use Rattle.dtx_frame.proofs.Rule.{level_at_small}
 use Rattle.dtx_frame.proofs.Slices.{data_back, last_back}
 use Rattle.dtx_coder.specs.Coded.{whole_groups}

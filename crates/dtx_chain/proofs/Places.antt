@@ -1,5 +1,5 @@
 -- Where the segments of a stream stand, and that they are one run.
-use Rattle.std.proofs.Common.{◌≡◌, ◌≢◌, ℕ, ℤ, zero, suc, ◌+◌, ◌-◌, ◌*◌, ◌/◌, ◌%◌, ◌<◌, ◌≤◌, ◌⊎◌, ◌==◌, nat_le, cond, Bool, true, false, List, [], ◌∷◌, ◌++◌, length, map, take, drop, get_or, refl, sym, ap, ap₂, ◌∙◌, subst, inl, inr, arith, zero-add}
+use Rattle.std.proofs.Common.{◌≡◌, ◌≢◌, ℕ, ℤ, Bool, zero, suc, ◌+◌, ◌-◌, ◌*◌, ◌/◌, ◌%◌, ◌<◌, ◌≤◌, ◌⊎◌, ◌==◌, nat_le, true, List, [], ◌∷◌, ◌++◌, length, map, get_or, refl, sym, ap, ap₂, ◌∙◌, inl, inr, arith, zero-add}
 use Rattle.std.specs.List.{range_with_len, flat_map}
 use Rattle.std.proofs.lemmas.Bool.{cases_eq, cond-true, cond-false, eq-eqb, ne_eqb}
 use Rattle.std.proofs.lemmas.List.{append-nil, length-append, take_all, get_or_append_left, get_or-append_right}
@@ -9,10 +9,10 @@ use Rattle.dtx_lists.proofs.Range.{range_with_len-parts}
 use Rattle.dtx_frame.specs.Segments.{field_sync}
 use Rattle.dtx_frame.specs.Detection.{looks_like}
 use Rattle.dtx_frame.proofs.Alike.{looks_alike}
-use Rattle.dtx_coder.specs.Stream.{levels, segment, four_segments, no_last, last_before, sync_before, group_segments, a53}
+use Rattle.dtx_coder.specs.Stream.{levels, segment, four_segments, last_before, sync_before, group_segments, a53}
 use Rattle.dtx_coder.proofs.Counts.{length-a53}
 use Rattle.dtx_receiver.specs.Runs.{runs}
-use Rattle.dtx_receiver.specs.Intervals.{looks_at, NoneLooks, IsRun, AreRuns, segments_in}
+use Rattle.dtx_receiver.specs.Intervals.{looks_at, IsRun, AreRuns, segments_in}
 use Rattle.dtx_receiver.proofs.Intervals.{are_runs, only_runs}
 
 -- element j of part u of lists that stand one behind the other
@@ -103,16 +103,24 @@ data_at_place ps d l =
 
 -- ---- one run
 
-syncs_look : (ps : List (List ℕ)) (j : ℕ) → j < length (a53 ps) → j % 313 ≡ 0 → looks_at (a53 ps) j ≡ true
-syncs_look ps j l z =
-    ap looks_like (ap (λ i. get_or (a53 ps) i []) there ∙ sync_at ps (78 * (j / 313)) within (omega arith))
-    ∙ looks_alike (nat_le 312 (4 * (78 * (j / 313)) % 624)) (last_before ps (78 * (j / 313)))
+-- each 313th segment is a field sync
+pub sync_at_place : (ps : List (List ℕ)) (n : ℕ) → n < length (a53 ps) → n % 313 ≡ 0 → (second : Bool) × (last : List ℤ) × (get_or (a53 ps) n [] ≡ field_sync second last)
+sync_at_place ps n l z = (
+  nat_le 312 (4 * (78 * (n / 313)) % 624),
+  last_before ps (78 * (n / 313)),
+  ap (λ i. get_or (a53 ps) i []) there ∙ sync_at ps (78 * (n / 313)) within (omega arith),
+)
   where
-    there : j ≡ 4 * (78 * (j / 313)) + (78 * (j / 313) + 77) / 78
+    there : n ≡ 4 * (78 * (n / 313)) + (78 * (n / 313) + 77) / 78
     there = omega (arith, z)
 
-    within : 78 * (j / 313) < length ps / 4
+    within : 78 * (n / 313) < length ps / 4
     within = omega (arith, z, l, length-a53 ps)
+
+pub syncs_look : (ps : List (List ℕ)) (j : ℕ) → j < length (a53 ps) → j % 313 ≡ 0 → looks_at (a53 ps) j ≡ true
+syncs_look ps j l z =
+    let s : (second : Bool) × (last : List ℤ) × (get_or (a53 ps) j [] ≡ field_sync second last) = sync_at_place ps j l z in
+    ap looks_like s.2 ∙ looks_alike s.0 s.1
 
 pub one_run : (ps : List (List ℕ)) → 4 ≤ length ps → runs (a53 ps) ≡ a53 ps ∷ []
 one_run ps l =

@@ -1,5 +1,5 @@
 -- What is received of undamaged symbols.
-use Rattle.std.proofs.Common.{◌≡◌, ℕ, zero, suc, ◌+◌, ◌*◌, ◌/◌, ◌<◌, ◌≤◌, Bool, true, false, cond, List, [], ◌∷◌, ◌++◌, length, map, get_or, refl, sym, ap, ap₂, ◌∙◌, arith}
+use Rattle.std.proofs.Common.{◌≡◌, ℕ, zero, suc, ◌+◌, ◌*◌, ◌/◌, ◌<◌, ◌≤◌, Bool, true, false, List, [], ◌∷◌, length, map, get_or, refl, sym, ap, ap₂, ◌∙◌, arith}
 use Rattle.std.specs.List.{range_with_len, filter, flat_map}
 use Rattle.std.proofs.lemmas.List.{append-nil}
 use Rattle.dtx_coder.specs.Coded.{whole_groups}
@@ -7,7 +7,6 @@ use Rattle.dtx_coder.specs.Stream.{a53}
 use Rattle.dtx_coder.proofs.Bytes.{length-whole}
 use Rattle.dtx_receiver.specs.Bytes.{bytes_in}
 use Rattle.dtx_receiver.specs.Packets.{is_complete, received_at, packets_of, all_packets, received}
-use Rattle.dtx_receiver.specs.Runs.{runs}
 use Rattle.dtx_receiver.specs.declared.batch.Received.{Received}
 use Rattle.dtx_receiver.proofs.Complete.{complete_told}
 use Rattle.dtx_receiver.proofs.Ranges.{filter-kept, filter-lost}
@@ -16,7 +15,7 @@ use Rattle.dtx_chain.proofs.Places.{one_run}
 use Rattle.dtx_chain.proofs.Levels.{bytes_are}
 use Rattle.dtx_chain.proofs.Words.{whole_small, packet_back}
 
-map-filter_same : {X : Type 0} (f g : ℕ → X) (p : ℕ → Bool) (a n : ℕ) → ((i : ℕ) → a ≤ i → i < a + n → p i ≡ true → f i ≡ g i)
+pub map-filter_same : {X : Type 0} (f g : ℕ → X) (p : ℕ → Bool) (a n : ℕ) → ((i : ℕ) → a ≤ i → i < a + n → p i ≡ true → f i ≡ g i)
     → map f (filter p (range_with_len a n)) ≡ map g (filter p (range_with_len a n))
 map-filter_same f g p a zero h = refl
 map-filter_same f g p a (suc n) h = by_test (p a) refl (map-filter_same f g p (a + 1) n (λ i l m. h i (omega arith) (omega arith)))

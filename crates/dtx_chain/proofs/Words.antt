@@ -1,29 +1,27 @@
 -- The words of a stream's bytes are the codewords of its packets.
-use Rattle.std.proofs.Common.{◌≡◌, ℕ, zero, suc, ◌+◌, ◌-◌, ◌*◌, ◌/◌, ◌%◌, ◌<◌, ◌≤◌, nat_le, cond, Bool, true, false, Some, List, [], ◌∷◌, ◌++◌, length, map, take, drop, get_or, refl, sym, ap, ap₂, ◌∙◌, subst, arith, lit<, add-zero}
-use Rattle.std.specs.List.{enumerate_from, flat_map}
-use Rattle.std.proofs.lemmas.List.{append-nil, take_at, drop_at, drop-drop, length-append, length-drop, take-append-drop, get_or-take}
+use Rattle.std.proofs.Common.{◌≡◌, ℕ, zero, suc, ◌+◌, ◌-◌, ◌*◌, ◌/◌, ◌%◌, ◌<◌, nat_le, cond, Bool, true, false, List, [], ◌∷◌, ◌++◌, length, take, drop, get_or, refl, sym, ap, ap₂, ◌∙◌, subst, arith, lit<, add-zero, zero-add}
+use Rattle.std.proofs.lemmas.List.{take_at, drop_at, drop-drop, take-append-drop, get_or-take}
 use Rattle.std.proofs.lemmas.List.FromFn.{get_or-map-range_with_len}
 use Rattle.dtx_galois.specs.Field.{AreBytes}
 use Rattle.dtx_galois.proofs.Bytes.{bytes_append}
-use Rattle.dtx_laws.specs.Codeword.{IsCodeword, distance}
+use Rattle.dtx_laws.specs.Codeword.{IsCodeword, IsCorrection, distance}
 use Rattle.dtx_laws.specs.Interleaving.{interleaved, interleaved_at}
 use Rattle.dtx_laws.specs.Whitening.{whitened}
-use Rattle.dtx_laws.specs.Words.{codeword, correction}
+use Rattle.dtx_laws.specs.Words.{codeword}
 use Rattle.dtx_laws.proofs.Choice.{codeword_is, codeword_begins, codeword_length, correction_only}
-use Rattle.dtx_laws.proofs.Interleaving.{length-interleaved}
 use Rattle.dtx_laws.proofs.Whitening.{bytes_whitened, whitened_twice}
-use Rattle.dtx_laws.proofs.Words.{own_correction, distance_self}
+use Rattle.dtx_laws.proofs.Words.{distance_self}
 use Rattle.dtx_whiten.specs.Randomizer.{randomizer_bytes}
 use Rattle.dtx_whiten.specs.Randomized.{randomized}
 use Rattle.dtx_whiten.specs.Bytes.{bytes_randomizer_bytes}
 use Rattle.dtx_whiten.proofs.Packets.{length-randomized, randomized_whitened}
-use Rattle.dtx_outer.specs.Inner.{place_of, word_at, IsComplete}
-use Rattle.dtx_outer.proofs.Words.{word_stays, word_back}
+use Rattle.dtx_outer.specs.Inner.{word_at, IsComplete}
+use Rattle.dtx_outer.proofs.Words.{length-word, word_stays, word_back}
 use Rattle.dtx_coder.specs.Coded.{coded_from, coded, spread, whole_groups}
 use Rattle.dtx_coder.proofs.Bytes.{length-coded, length-whole}
-use Rattle.dtx_receiver.specs.Packets.{packet_bytes, received_by, received_at}
-use Rattle.dtx_receiver.specs.declared.batch.Received.{Received}
+use Rattle.dtx_receiver.specs.Packets.{received_by, received_at}
 use Rattle.dtx_chain.specs.Undamaged.{ArePackets, with_sync, as_sent}
+use Rattle.dtx_chain.specs.Damage.{codeword_at, IsNear, as_corrected}
 
 -- ---- codewords
 
@@ -91,8 +89,8 @@ from_spread : (ps : List (List ℕ)) (k : ℕ) → IsComplete 207 52 4 (length (
 unfolding spread
 from_spread ps k c = word_back 207 52 4 (coded ps) (spread ps) k (lit< tt) (λ p l. refl) c
 
-word_is : (ps : List (List ℕ)) (k : ℕ) → k < length ps → IsComplete 207 52 4 (828 * (length ps / 4)) k → word_at 207 52 4 (whole_groups ps) k ≡ codeword 207 187 (randomized k (get_or ps k []))
-unfolding whole_groups
+pub word_is : (ps : List (List ℕ)) (k : ℕ) → k < length ps → IsComplete 207 52 4 (828 * (length ps / 4)) k → word_at 207 52 4 (whole_groups ps) k ≡ codeword_at ps k
+unfolding whole_groups codeword_at
 word_is ps k l c =
     sym (word_stays 207 52 4 (whole_groups ps) (drop (828 * (length ps / 4)) (spread ps)) k (subst (λ (n : ℕ). IsComplete 207 52 4 n k) (sym (length-whole ps)) c))
     ∙ ap (λ y. word_at 207 52 4 y k) (take-append-drop (828 * (length ps / 4)) (spread ps))
@@ -107,21 +105,51 @@ word_is ps k l c =
 
 -- ---- packets
 
-pub packet_back : (ps : List (List ℕ)) (k : ℕ) → ArePackets ps → k < length ps → IsComplete 207 52 4 (828 * (length ps / 4)) k → received_at (whole_groups ps) k ≡ as_sent ps k
-unfolding received_at as_sent with_sync
-packet_back ps k h l c =
-    let p : List ℕ = get_or ps k [] in
-    let a : (length (get_or ps k []) ≡ 188) × AreBytes (get_or ps k []) = packet_at ps k h l in
-    let word : List ℕ = codeword 207 187 (randomized k (get_or ps k [])) in
-    let is : IsCodeword 207 187 (codeword 207 187 (randomized k (get_or ps k []))) = is_codeword k p a.0 a.1 in
-    let same : whitened randomizer_bytes (187 * (k % 312)) (take 187 (codeword 207 187 (randomized k (get_or ps k [])))) ≡ drop 1 (get_or ps k []) =
-    ap (whitened randomizer_bytes (187 * (k % 312))) (codeword_begins 207 187 (randomized k p) (length-randomized k p) ∙ randomized_whitened k p a.0)
-    ∙ whitened_twice randomizer_bytes (drop 1 p) (187 * (k % 312)) in
-    ap (λ w. received_by (187 * (k % 312)) w (correction 207 187 w)) (word_is ps k l c)
-    ∙ ap (received_by (187 * (k % 312)) word) (correction_only 207 187 word word (omega arith) is.long (own_correction 207 187 word is))
-    ∙ ap₂ (λ (d : List ℕ) (n : ℕ). record { packet = record { 0 = 0x47 ∷ d }; fixed = n; good = true }) same (distance_self word)
+packet_at : (ps : List (List ℕ)) (k : ℕ) → ArePackets ps → k < length ps → (length (get_or ps k []) ≡ 188) × AreBytes (get_or ps k [])
+packet_at [] k h l = absurd (omega arith)
+packet_at (p ∷ ps) zero h l = h.0
+packet_at (p ∷ ps) (suc k) h l = packet_at ps k h.1 (omega arith)
+
+-- the codeword of packet k gives the packet's bytes back
+packet_bytes_back : (ps : List (List ℕ)) (k : ℕ) → length (get_or ps k []) ≡ 188 → whitened randomizer_bytes (187 * (k % 312)) (take 187 (codeword_at ps k)) ≡ drop 1 (get_or ps k [])
+unfolding codeword_at
+packet_bytes_back ps k l =
+    ap (whitened randomizer_bytes (187 * (k % 312))) (codeword_begins 207 187 (randomized k (get_or ps k [])) (length-randomized k (get_or ps k [])) ∙ randomized_whitened k (get_or ps k []) l)
+    ∙ whitened_twice randomizer_bytes (drop 1 (get_or ps k [])) (187 * (k % 312))
+
+own_codeword : (ps : List (List ℕ)) (k : ℕ) → ArePackets ps → k < length ps → IsCodeword 207 187 (codeword_at ps k)
+unfolding codeword_at
+own_codeword ps k h l = let a : (length (get_or ps k []) ≡ 188) × AreBytes (get_or ps k []) = packet_at ps k h l in is_codeword k (get_or ps k []) a.0 a.1
+
+-- a word near the codeword of packet f + j, where a field begins with packet f
+pub corrected_back : (ps : List (List ℕ)) (y : List ℕ) (f j : ℕ) → ArePackets ps → f % 312 ≡ 0 → f + j < length ps → IsNear ps (f + j) (word_at 207 52 4 y j)
+    → received_at y j ≡ as_corrected ps (f + j) (word_at 207 52 4 y j)
+unfolding received_at as_corrected with_sync
+corrected_back ps y f j h z l n =
+    ap (received_by (187 * (j % 312)) word) (correction_only 207 187 word (codeword_at ps (f + j)) (omega arith) (length-word 207 52 4 y j) near)
+    ∙ ap (λ (d : List ℕ). record { packet = record { 0 = 0x47 ∷ d }; fixed = distance word (codeword_at ps (f + j)); good = true }) same
   where
-    packet_at : (qs : List (List ℕ)) (i : ℕ) → ArePackets qs → i < length qs → (length (get_or qs i []) ≡ 188) × AreBytes (get_or qs i [])
-    packet_at [] i h l = absurd (omega arith)
-    packet_at (q ∷ qs) zero h l = h.0
-    packet_at (q ∷ qs) (suc i) h l = packet_at qs i h.1 (omega arith)
+    word : List ℕ
+    word = word_at 207 52 4 y j
+
+    near : IsCorrection 207 187 (word_at 207 52 4 y j) (codeword_at ps (f + j))
+    near = record { codeword = own_codeword ps (f + j) h l; near = omega (arith, n) }
+
+    place : j % 312 ≡ (f + j) % 312
+    place = omega (arith, z)
+
+    same : whitened randomizer_bytes (187 * (j % 312)) (take 187 (codeword_at ps (f + j))) ≡ drop 1 (get_or ps (f + j) [])
+    same =
+        ap (λ (i : ℕ). whitened randomizer_bytes (187 * i) (take 187 (codeword_at ps (f + j)))) place
+        ∙ packet_bytes_back ps (f + j) (packet_at ps (f + j) h l).0
+
+pub packet_back : (ps : List (List ℕ)) (k : ℕ) → ArePackets ps → k < length ps → IsComplete 207 52 4 (828 * (length ps / 4)) k → received_at (whole_groups ps) k ≡ as_sent ps k
+unfolding as_sent as_corrected
+packet_back ps k h l c =
+    corrected_back ps (whole_groups ps) 0 k h refl (omega (arith, l)) (omega (arith, far))
+    ∙ ap₂ (λ (i n : ℕ). record { packet = record { 0 = with_sync (get_or ps i []) }; fixed = n; good = true }) (zero-add k) far
+  where
+    far : distance (word_at 207 52 4 (whole_groups ps) k) (codeword_at ps (0 + k)) ≡ 0
+    far =
+        ap₂ distance (word_is ps k l c) (ap (codeword_at ps) (zero-add k))
+        ∙ distance_self (codeword_at ps k)

@@ -1,1 +1,2 @@
 pub mod Undamaged
+pub mod Damage

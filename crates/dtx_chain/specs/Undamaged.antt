@@ -1,5 +1,5 @@
 -- What is received of the undamaged symbols of a stream (ATSC A/53 Part 2). A packet is its list of 188 bytes.
-use Rattle.std.specs.Prelude.{ℕ, ◌≡◌, ◌*◌, ◌/◌, true, List, [], ◌∷◌, length, map, drop, filter, slice_index_or}
+use Rattle.std.specs.Prelude.{ℕ, ◌≡◌, ◌*◌, ◌/◌, true, List, [], ◌∷◌, length, drop, filter, slice_index_or}
 use Rattle.std.specs.List.{range_with_len, AllByRecursion}
 use Rattle.dtx_galois.specs.Field.{AreBytes}
 use Rattle.dtx_receiver.specs.Packets.{is_complete}
