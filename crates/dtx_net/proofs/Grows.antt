@@ -10,9 +10,9 @@ use Rattle.dtx_exciter.specs.Packets.{told}
 use Rattle.dtx_exciter.specs.Emission.{given, emission}
 use Rattle.dtx_exciter.specs.Log.{Line, restart, line_of, life_lines, log}
 use Rattle.dtx_exciter.proofs.Emitted.{emission_push}
-use Rattle.dtx_net.specs.Steps.{Step, giving, restarting}
+use Rattle.dtx_net.specs.Steps.{Step, packet_step, restart_step}
 use Rattle.dtx_net.specs.Lives.{lives_of, last_life, ended_lives}
-use Rattle.dtx_net.specs.Files.{sent_over, segments_of, lines_of}
+use Rattle.dtx_net.specs.Sent.{sent_over, segments_of, lines_of}
 use Rattle.dtx_net.proofs.LastLife.{lives}
 
 -- ---- the segments of lives
@@ -116,7 +116,7 @@ log_new a d n (x ∷ xs) life =
 none_before : (segments : List (List ℤ)) → 0 + length segments ≡ length segments
 none_before segments = omega arith
 
-pub segments_given : (t : Transmitter) (who : ℕ) (steps : List Step) (p : List ℕ) → segments_of t who (steps ++ giving who p ∷ []) ≡ segments_of t who steps ++ given t.address t.delay (last_life who steps ++ p ∷ [])
+pub segments_given : (t : Transmitter) (who : ℕ) (steps : List Step) (p : List ℕ) → segments_of t who (steps ++ packet_step who p ∷ []) ≡ segments_of t who steps ++ given t.address t.delay (last_life who steps ++ p ∷ [])
 unfolding segments_of
 segments_given t who steps p =
     let l = lives who steps in
@@ -125,12 +125,12 @@ segments_given t who steps p =
     ap (sent_over t.address t.delay) (l.given p) ∙ sent_push t.address t.delay before last p
     ∙ ap (λ x. sent_over t.address t.delay x ++ given t.address t.delay (last ++ p ∷ [])) (sym l.are)
 
-pub segments_restarted : (t : Transmitter) (who : ℕ) (steps : List Step) → segments_of t who (steps ++ restarting who ∷ []) ≡ segments_of t who steps
+pub segments_restarted : (t : Transmitter) (who : ℕ) (steps : List Step) → segments_of t who (steps ++ restart_step who ∷ []) ≡ segments_of t who steps
 unfolding segments_of
 segments_restarted t who steps = ap (sent_over t.address t.delay) (lives who steps).restarted ∙ sent_new t.address t.delay (lives_of who steps)
 
 pub lines_given : (t : Transmitter) (who : ℕ) (steps : List Step) (p : List ℕ)
-    → lines_of t who (steps ++ giving who p ∷ []) ≡ lines_of t who steps ++ line_of (length (segments_of t who steps)) (length (given t.address t.delay (last_life who steps ++ p ∷ []))) (told t.address t.delay (last_life who steps ++ p ∷ []))
+    → lines_of t who (steps ++ packet_step who p ∷ []) ≡ lines_of t who steps ++ line_of (length (segments_of t who steps)) (length (given t.address t.delay (last_life who steps ++ p ∷ []))) (told t.address t.delay (last_life who steps ++ p ∷ []))
 unfolding segments_of lines_of
 lines_given t who steps p =
     let l = lives who steps in
@@ -141,7 +141,7 @@ lines_given t who steps p =
     ap (log a d 0) (l.given p) ∙ log_push a d 0 before last p
     ∙ ap₂ (λ x n. log a d 0 x ++ line_of n (length (given a d (last ++ p ∷ []))) (told a d (last ++ p ∷ []))) (sym l.are) (none_before (sent_over a d (before ++ last ∷ [])) ∙ ap (λ x. length (sent_over a d x)) (sym l.are))
 
-pub lines_restarted : (t : Transmitter) (who : ℕ) (steps : List Step) → lines_of t who (steps ++ restarting who ∷ []) ≡ lines_of t who steps ++ restart (length (segments_of t who steps)) ∷ []
+pub lines_restarted : (t : Transmitter) (who : ℕ) (steps : List Step) → lines_of t who (steps ++ restart_step who ∷ []) ≡ lines_of t who steps ++ restart (length (segments_of t who steps)) ∷ []
 unfolding segments_of lines_of
 lines_restarted t who steps =
     let l = lives who steps in

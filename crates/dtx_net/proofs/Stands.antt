@@ -10,7 +10,7 @@ use Rattle.dtx_exciter.specs.Kept as exciter
 use Rattle.dtx_net.specs.declared.net.Net.{Net}
 use Rattle.dtx_net.specs.Steps.{Step}
 use Rattle.dtx_net.specs.Lives.{last_life}
-use Rattle.dtx_net.specs.Standing.{StandsFor, AreNew, IsElsewhere}
+use Rattle.dtx_net.specs.Standing.{StandsFor, AreNew, ChangesOnly}
 use Rattle.dtx_net.proofs.Places.{set_here, set_elsewhere, pushed_here}
 use Rattle.dtx_net.proofs.LastLife.{last_elsewhere}
 
@@ -51,5 +51,5 @@ stands_replaced ts net steps step made same s l h = record { addresses = s.addre
         subst (exciter.StandsFor t.address t.delay e) (sym (last_elsewhere who steps step (λ x. other (sym x))))
         (s.each who t e at_t (sym (set_elsewhere net.exciters.items step.who who made other) ∙ at_e))
 
-pub elsewhere_replaced : (net : Net) (who : ℕ) (made : Exciter) (same : vec_len net.addresses ≡ vec_len net.exciters) → IsElsewhere who net (replaced net who made same)
+pub elsewhere_replaced : (net : Net) (who : ℕ) (made : Exciter) (same : vec_len net.addresses ≡ vec_len net.exciters) → ChangesOnly who net (replaced net who made same)
 elsewhere_replaced net who made same = record { addresses = refl; long = refl; others = λ other n. set_elsewhere net.exciters.items who other made n }

@@ -8,7 +8,7 @@ use Rattle.dtx_exciter.specs.Packets.{told}
 use Rattle.dtx_exciter.specs.Emission.{Holds, given}
 use Rattle.dtx_exciter.specs.Kept as exciter
 use Rattle.dtx_net.specs.declared.net.Net.{Net}
-use Rattle.dtx_net.specs.Steps.{Step, giving}
+use Rattle.dtx_net.specs.Steps.{Step, packet_step}
 use Rattle.dtx_net.specs.Lives.{last_life}
 
 -- each exciter of the network of these transmitters stands for the last life of its transmitter in these steps
@@ -27,10 +27,10 @@ pub record AreNew (n : ℕ) (ts : List Transmitter) (exciters : List Exciter) : 
 pub record IsGiven (ts : List Transmitter) (steps : List Step) (who : ℕ) (t : Transmitter) (packet : List ℕ) (net : Net) (answered : Told) (count : ℕ) (symbols : List ℤ) : Type 0 where
   pub answer : answered ≡ told t.address t.delay (last_life who steps ++ packet ∷ [])
   pub air : Holds (given t.address t.delay (last_life who steps ++ packet ∷ [])) count symbols
-  pub stands : StandsFor ts net (steps ++ giving who packet ∷ [])
+  pub stands : StandsFor ts net (steps ++ packet_step who packet ∷ [])
 
 -- nothing but the exciter at a place may have changed
-pub record IsElsewhere (who : ℕ) (old made : Net) : Type 0 where
+pub record ChangesOnly (who : ℕ) (old made : Net) : Type 0 where
   pub addresses : made.addresses ≡ old.addresses
   pub long : vec_len made.exciters ≡ vec_len old.exciters
   pub others : (other : ℕ) → other ≢ who → slice_get made.exciters.items other ≡ slice_get old.exciters.items other

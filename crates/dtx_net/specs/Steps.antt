@@ -9,30 +9,31 @@ use Rattle.dtx_plan.specs.TransmitterTable.{addresses_of}
 use Rattle.dtx_plan.specs.Sound.{to_of}
 use Rattle.dtx_net.specs.Changed.{flipped_packet, lied_packet}
 
--- the transmitter at a place of the plan's list is given one packet, or, where there is none, is restarted
+-- One packet is given to the transmitter at a place of the plan's list, or, where there is none, that transmitter is restarted.
 pub record Step : Type 0 where
   pub who : ℕ
   pub packet : Option (List ℕ)
 
-abbrev pub giving : ℕ → List ℕ → Step
-giving who packet = record { who = who; packet = Some packet }
+abbrev pub packet_step : ℕ → List ℕ → Step
+packet_step who packet = record { who = who; packet = Some packet }
 
-abbrev pub restarting : ℕ → Step
-restarting who = record { who = who; packet = None }
+abbrev pub restart_step : ℕ → Step
+restart_step who = record { who = who; packet = None }
 
--- the place of an address in the list
+-- the place in the list of the transmitter with this address
 unfoldable pub place_of : ℕ → List Transmitter → Option ℕ
 place_of address ts = position (nat_eq address) (addresses_of ts)
 
-abbrev pub fed : List (List ℕ) → ℕ → List ℕ
-fed feed k = slice_index_or feed k []
+-- packet k of the feed
+abbrev pub feed_packet : List (List ℕ) → ℕ → List ℕ
+feed_packet feed k = slice_index_or feed k []
 
--- the packets that an event gives, and the restart
+-- what an event gives, with this feed: packets, or a restart
 unfoldable pub actions_of : List (List ℕ) → Event → List (Option (List ℕ))
-actions_of feed (Send to from count) = map (λ k. Some (fed feed k)) (range_with_len from count)
+actions_of feed (Send to from count) = map (λ k. Some (feed_packet feed k)) (range_with_len from count)
 actions_of feed (Foreign to seed from count) = map (λ k. Some (made_packet seed k)) (range_with_len from count)
-actions_of feed (Flip to from at with) = Some (flipped_packet (fed feed from) at with) ∷ []
-actions_of feed (Lie to from states) = Some (lied_packet (fed feed from) states) ∷ []
+actions_of feed (Flip to from at with) = Some (flipped_packet (feed_packet feed from) at with) ∷ []
+actions_of feed (Lie to from states) = Some (lied_packet (feed_packet feed from) states) ∷ []
 actions_of feed (Restart to) = None ∷ []
 
 -- these done with the transmitter at a place, and with none where there is none
@@ -40,7 +41,7 @@ abbrev pub steps_at : Option ℕ → List (Option (List ℕ)) → List Step
 steps_at None actions = []
 steps_at (Some who) actions = map (λ packet. record { who = who; packet = packet }) actions
 
--- the steps of an event, with this feed
+-- the steps of an event, for the transmitter of its address
 unfoldable pub steps_of : List Transmitter → List (List ℕ) → Event → List Step
 steps_of ts feed event = steps_at (place_of (to_of event) ts) (actions_of feed event)
 

@@ -3,8 +3,8 @@ ghost use Rattle.std.specs.Prelude.{◌≡◌, ◌<◌, ◌++◌, ◌∷◌, [],
 ghost use Rattle.dtx_plan.specs.declared.transmitter.Transmitter.{Transmitter};
 ghost use Rattle.dtx_plan.specs.TransmitterTable as spec;
 ghost use Rattle.dtx_plan.specs.Sound.{AreTransmitters};
-ghost use Rattle.dtx_net.specs.Steps.{Step, restarting, place_of};
-ghost use Rattle.dtx_net.specs.Standing.{StandsFor, AreNew, IsGiven, IsElsewhere};
+ghost use Rattle.dtx_net.specs.Steps.{Step, restart_step, place_of};
+ghost use Rattle.dtx_net.specs.Standing.{StandsFor, AreNew, IsGiven, ChangesOnly};
 
 use super::Net;
 use dtx_coder::Air;
@@ -44,7 +44,7 @@ impl Net {
     pub fn step(&mut self, who: usize, packet: &Packet, air: &mut Air) -> Told
         requires { who < vec_len self.old.exciters }
         ensures given { (ts : List Transmitter) (steps : List Step) (t : Transmitter) → StandsFor ts self.old steps → slice_get ts who ≡ Some t → IsGiven ts steps who t packet.now.0 self.new result air.new.segments air.new.symbols }
-        ensures elsewhere { IsElsewhere who self.old self.new }
+        ensures elsewhere { ChangesOnly who self.old self.new }
     {
         self.exciters[who].take(packet, air)
     }
@@ -52,8 +52,8 @@ impl Net {
     /// The transmitter at a place of the list begins a new life, in which it was given nothing. All others stay.
     pub fn restart(&mut self, who: usize)
         requires { who < vec_len self.old.exciters }
-        ensures restarts { (ts : List Transmitter) (steps : List Step) → StandsFor ts self.old steps → StandsFor ts self.new (steps ++ restarting who ∷ []) }
-        ensures elsewhere { IsElsewhere who self.old self.new }
+        ensures restarts { (ts : List Transmitter) (steps : List Step) → StandsFor ts self.old steps → StandsFor ts self.new (steps ++ restart_step who ∷ []) }
+        ensures elsewhere { ChangesOnly who self.old self.new }
     {
         self.exciters[who].reset()
     }

@@ -43,18 +43,18 @@ impl Stage {
         })
     }
 
-    /// The answer of the transmitter of an address to a packet, where there is one.
-    fn given(&mut self, address: u16, packet: &Packet) -> Option<Told> {
+    /// Gives a packet to the transmitter of an address, where there is one.
+    fn give(&mut self, address: u16, packet: &Packet) -> Option<Told> {
         match self.net.find(address) {
             Some(place) => Some(self.net.step(place, packet, &mut self.air)),
-            _ => None,
+            None => None,
         }
     }
 
-    fn restarted(&mut self, address: u16) {
+    fn restart(&mut self, address: u16) {
         match self.net.find(address) {
             Some(place) => self.net.restart(place),
-            _ => {}
+            None => {}
         }
     }
 }
@@ -111,7 +111,7 @@ fn both(stage: &mut Stage, k: u64) -> [Option<Told>; 2]
     requires { k < 3000 }
 {
     let packet = fed(k);
-    [stage.given(7, &packet), stage.given(9, &packet)]
+    [stage.give(7, &packet), stage.give(9, &packet)]
 }
 
 #[test]
@@ -127,7 +127,7 @@ fn each_transmitter_goes_on_with_its_own_life(rt: HostRuntime) -> Result<(), Fai
     let mut stage = Stage::new(rt.alloc())?;
     for index in 0..3 {
         assert_eq!(rt;
-            stage.given(9, &dtx_make::packet(2, index)),
+            stage.give(9, &dtx_make::packet(2, index)),
             Some(Told::Quiet)
         );
     }
@@ -142,7 +142,7 @@ fn each_transmitter_goes_on_with_its_own_life(rt: HostRuntime) -> Result<(), Fai
         ]
     );
     assert_eq!(rt; both(&mut stage, 104), [Some(Told::Quiet); 2]);
-    stage.restarted(9);
+    stage.restart(9);
     for k in 105..107 {
         assert_eq!(rt; both(&mut stage, k), [Some(Told::Quiet); 2]);
     }

@@ -2,7 +2,7 @@ use Rattle.std.proofs.Common.{sym, subst, ◌≡◌, Some}
 use Rattle.std.specs.Prelude.{slice_get}
 use Rattle.std.proofs.lemmas.Option.{slice_get_read}
 use Rattle.dtx_exciter.specs.Kept as exciter
-use Rattle.dtx_net.specs.Steps.{giving}
+use Rattle.dtx_net.specs.Steps.{packet_step}
 use Rattle.dtx_net.specs.Lives.{last_life}
 use Rattle.dtx_net.proofs.LastLife.{last_given}
 use Rattle.dtx_net.proofs.Stands.{stands_replaced, elsewhere_replaced}
@@ -18,7 +18,7 @@ returns-clause-given c = λ ts steps t s at_t.
     record {
       answer = taken.answer;
       air = taken.air;
-      stands = stands_replaced ts net steps (giving who packet) c.take.new.self _ s c.requires
+      stands = stands_replaced ts net steps (packet_step who packet) c.take.new.self _ s c.requires
           (λ u at_u. subst (exciter.StandsFor u.address u.delay c.take.new.self) (sym (last_given who steps packet))
           (c.take.ensures u.address u.delay (last_life who steps) (s.each who u c.index_mut.result.now at_u was)).stands);
     }

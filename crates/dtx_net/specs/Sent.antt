@@ -11,7 +11,7 @@ use Rattle.dtx_net.specs.Lives.{lives_of}
 unfoldable pub sent_over : ℕ → ℕ → List (List (List ℕ)) → List (List ℤ)
 sent_over address delay lives = flat_map (emission address delay) lives
 
--- the segments of the transmitter at a place, with these steps of all
+-- what the transmitter t, which stands at a place of the list, sends over the steps of all
 unfoldable pub segments_of : Transmitter → ℕ → List Step → List (List ℤ)
 segments_of t who steps = sent_over t.address t.delay (lives_of who steps)
 
