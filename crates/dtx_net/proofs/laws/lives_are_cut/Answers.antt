@@ -1,0 +1,5 @@
+use Rattle.dtx_net.proofs.LastLife.{joined_lives}
+use Rattle.dtx_net.proofs.laws.lives_are_cut.Goals as goal
+
+pub returns : goal.returns
+returns c = joined_lives

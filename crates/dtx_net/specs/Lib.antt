@@ -1,0 +1,5 @@
+pub mod Changed
+pub mod Steps
+pub mod Lives
+pub mod Sent
+pub mod Standing

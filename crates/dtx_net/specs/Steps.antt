@@ -1,0 +1,50 @@
+-- The steps of a schedule (the profile's own).
+use Rattle.std.specs.Prelude.{ℕ, nat_eq, Option, Some, None, List, [], ◌∷◌, map, position, slice_index_or}
+use Rattle.std.specs.List.{range_with_len, flat_map}
+use Rattle.dtx_make.specs.Made.{made_packet}
+use Rattle.dtx_plan.specs.declared.transmitter.Transmitter.{Transmitter}
+use Rattle.dtx_plan.specs.declared.event.Event.{Event}
+use Rattle.dtx_plan.specs.declared.event.Event.TheVariants.{Send, Foreign, Flip, Lie, Restart}
+use Rattle.dtx_plan.specs.TransmitterTable.{addresses_of}
+use Rattle.dtx_plan.specs.Sound.{to_of}
+use Rattle.dtx_net.specs.Changed.{flipped_packet, lied_packet}
+
+-- One packet is given to the transmitter at a place of the plan's list, or, where there is none, that transmitter is restarted.
+pub record Step : Type 0 where
+  pub who : ℕ
+  pub packet : Option (List ℕ)
+
+abbrev pub packet_step : ℕ → List ℕ → Step
+packet_step who packet = record { who = who; packet = Some packet }
+
+abbrev pub restart_step : ℕ → Step
+restart_step who = record { who = who; packet = None }
+
+-- the place in the list of the transmitter with this address
+unfoldable pub place_of : ℕ → List Transmitter → Option ℕ
+place_of address ts = position (nat_eq address) (addresses_of ts)
+
+-- packet k of the feed
+abbrev pub feed_packet : List (List ℕ) → ℕ → List ℕ
+feed_packet feed k = slice_index_or feed k []
+
+-- what an event gives, with this feed: packets, or a restart
+unfoldable pub actions_of : List (List ℕ) → Event → List (Option (List ℕ))
+actions_of feed (Send to from count) = map (λ k. Some (feed_packet feed k)) (range_with_len from count)
+actions_of feed (Foreign to seed from count) = map (λ k. Some (made_packet seed k)) (range_with_len from count)
+actions_of feed (Flip to from at with) = Some (flipped_packet (feed_packet feed from) at with) ∷ []
+actions_of feed (Lie to from states) = Some (lied_packet (feed_packet feed from) states) ∷ []
+actions_of feed (Restart to) = None ∷ []
+
+-- these done with the transmitter at a place, and with none where there is none
+abbrev pub steps_at : Option ℕ → List (Option (List ℕ)) → List Step
+steps_at None actions = []
+steps_at (Some who) actions = map (λ packet. record { who = who; packet = packet }) actions
+
+-- the steps of an event, for the transmitter of its address
+unfoldable pub steps_of : List Transmitter → List (List ℕ) → Event → List Step
+steps_of ts feed event = steps_at (place_of (to_of event) ts) (actions_of feed event)
+
+-- those of all events, in order
+unfoldable pub schedule : List Transmitter → List (List ℕ) → List Event → List Step
+schedule ts feed events = flat_map (steps_of ts feed) events

@@ -1,0 +1,9 @@
+//! The core of a network: all of its exciters, each given packets and restarted in any order.
+#![tactic(auto)]
+
+mod changed;
+pub mod laws;
+mod net;
+
+pub use changed::{Liar, flipped, lied};
+pub use net::Net;

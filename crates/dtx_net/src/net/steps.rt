@@ -1,0 +1,82 @@
+// The calls of a network.
+ghost use Rattle.std.specs.Prelude.{◌≡◌, ◌<◌, ◌++◌, ◌∷◌, [], ℕ, List, Some, IfOk, IfSome, length, slice_get, vec_len};
+ghost use Rattle.dtx_plan.specs.declared.transmitter.Transmitter.{Transmitter};
+ghost use Rattle.dtx_plan.specs.TransmitterTable as spec;
+ghost use Rattle.dtx_plan.specs.Sound.{AreTransmitters};
+ghost use Rattle.dtx_net.specs.Steps.{Step, restart_step, place_of};
+ghost use Rattle.dtx_net.specs.Standing.{StandsFor, AreNew, IsGiven, ChangesOnly};
+
+use super::Net;
+use dtx_coder::Air;
+use dtx_exciter::{Exciter, Told};
+use dtx_packets::Packet;
+use dtx_plan::Transmitter;
+use std::alloc::{AllocError, Global};
+
+impl Net {
+    /// The network of 1 to 35 transmitters whose addresses differ from each other. Nothing was done with it. All memory is
+    /// taken here.
+    pub fn new(alloc: Global, transmitters: &[Transmitter]) -> Result<Net, AllocError>
+        requires { AreTransmitters transmitters.now }
+        ensures { IfOk result (λ net. StandsFor transmitters.now net []) }
+    {
+        Ok(Net {
+            addresses: addresses_of(alloc, transmitters)?,
+            exciters: exciters_of(alloc, transmitters)?,
+        })
+    }
+
+    /// The place in the list of the transmitter with this address, or `None` exactly where there is none.
+    pub fn find(&self, address: u16) -> Option<usize>
+        ensures within { IfSome result (λ who. who < vec_len self.now.exciters) }
+        ensures place { (ts : List Transmitter) (steps : List Step) → StandsFor ts self.now steps → result ≡ place_of address ts }
+    {
+        for place in 0..self.addresses.len() {
+            if self.addresses[place] == address {
+                return Some(place);
+            }
+        }
+        None
+    }
+
+    /// The transmitter at a place of the list is given one more packet, of any bytes. What is answered, and what the air then
+    /// holds, is what its exciter alone answers and gives to the packets of its last life and this one. All others stay.
+    pub fn step(&mut self, who: usize, packet: &Packet, air: &mut Air) -> Told
+        requires { who < vec_len self.old.exciters }
+        ensures given { (ts : List Transmitter) (steps : List Step) (t : Transmitter) → StandsFor ts self.old steps → slice_get ts who ≡ Some t → IsGiven ts steps who t packet.now.0 self.new result air.new.segments air.new.symbols }
+        ensures elsewhere { ChangesOnly who self.old self.new }
+    {
+        self.exciters[who].take(packet, air)
+    }
+
+    /// The transmitter at a place of the list begins a new life, in which it was given nothing. All others stay.
+    pub fn restart(&mut self, who: usize)
+        requires { who < vec_len self.old.exciters }
+        ensures restarts { (ts : List Transmitter) (steps : List Step) → StandsFor ts self.old steps → StandsFor ts self.new (steps ++ restart_step who ∷ []) }
+        ensures elsewhere { ChangesOnly who self.old self.new }
+    {
+        self.exciters[who].reset()
+    }
+}
+
+/// The addresses of the transmitters.
+fn addresses_of(alloc: Global, transmitters: &[Transmitter]) -> Result<Vec<u16>, AllocError>
+    ensures { IfOk result (λ addresses. addresses.items ≡ spec.addresses_of transmitters.now) }
+{
+    let mut addresses = Vec::with_capacity(alloc, transmitters.len())?;
+    for transmitter in transmitters {
+        addresses.push(transmitter.address)?;
+    }
+    Ok(addresses)
+}
+
+/// An exciter for each of the transmitters.
+fn exciters_of(alloc: Global, transmitters: &[Transmitter]) -> Result<Vec<Exciter>, AllocError>
+    ensures { IfOk result (λ exciters. AreNew (length transmitters.now) transmitters.now exciters.items) }
+{
+    let mut exciters = Vec::with_capacity(alloc, transmitters.len())?;
+    for transmitter in transmitters {
+        exciters.push(Exciter::new(alloc, transmitter.address, transmitter.delay)?)?;
+    }
+    Ok(exciters)
+}
