@@ -1,5 +1,5 @@
 -- How many places are damaged.
-use Rattle.std.proofs.Common.{◌≡◌, ℕ, zero, suc, ◌+◌, ◌-◌, ◌<◌, ◌≤◌, ◌⊎◌, Bool, true, false, ◌&&◌, cond, Option, Some, None, List, [], ◌∷◌, length, get_or, take, refl, sym, ap, ap₂, ◌∙◌, subst, arith, inl, inr, add-zero, zero-add}
+use Rattle.std.proofs.Common.{◌≡◌, ℕ, zero, suc, ◌+◌, ◌-◌, ◌<◌, ◌≤◌, ◌⊎◌, true, false, ◌&&◌, cond, Option, Some, None, List, [], ◌∷◌, length, get_or, take, refl, sym, ap, ap₂, ◌∙◌, subst, arith, inl, inr, add-zero, zero-add}
 use Rattle.std.specs.Option.{option_or, is_some}
 use Rattle.std.specs.List.{range_with_len, sum_by, count_by}
 use Rattle.std.proofs.Math.Dec.{leb, ltb}

@@ -74,7 +74,7 @@ fn lay_entry(entry: &Damage, place: u64, bytes: &mut [u8])
     bytes[(from - place) as usize..(to - place) as usize].fill(entry.put.cast_unsigned());
 }
 
-/// Of the places from `place` on, before `end`, the first that the entry covers, and the first behind those that it covers.
+/// Of the places from `place` on, before `end`, the entry covers those from the first of these two on, before the second.
 fn covered(entry: &Damage, place: u64, end: u64) -> (u64, u64)
     requires { place ≤ end }
     ensures { IsCovered entry.now place end result.0 result.1 }

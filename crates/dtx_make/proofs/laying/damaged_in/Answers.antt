@@ -1,4 +1,4 @@
-use Rattle.std.proofs.Common.{◌≡◌, ℕ, ◌+◌, ◌-◌, ◌<◌, Some, List, slice_get, ◌∷◌, [], sym, ◌∙◌, ap, ap₂, take, length, get_or, arith}
+use Rattle.std.proofs.Common.{◌≡◌, ℕ, ◌+◌, ◌-◌, ◌<◌, Some, List, slice_get, ◌∷◌, [], sym, ◌∙◌, ap, ap₂, take, length, arith}
 use Rattle.std.proofs.lemmas.Option.{get_or_from_slice_get}
 use Rattle.dtx_plan.specs.declared.damage.Damage.{Damage}
 use Rattle.dtx_make.specs.Hurt.{AreInOrder, IsCovered, damaged_from}

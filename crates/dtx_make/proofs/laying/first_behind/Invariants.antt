@@ -1,4 +1,4 @@
-use Rattle.std.proofs.Common.{◌-◌, ◌≡◌, ◌+◌, ◌<◌, ◌≤◌, length, ℕ, get_or}
+use Rattle.std.proofs.Common.{◌-◌, ◌<◌, ◌≤◌, length, ℕ, get_or}
 use Rattle.dtx_plan.specs.declared.damage.Damage.{Damage}
 use Rattle.dtx_make.specs.Hurt.{end_of}
 use Rattle.dtx_make.proofs.laying.first_behind.Given as goal
