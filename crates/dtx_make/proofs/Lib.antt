@@ -1,2 +1,5 @@
+pub mod Entries
+pub mod DamagedPlaces
 pub mod Joined
+pub mod LaidBytes
 pub mod Streams

@@ -1,1 +1,2 @@
+pub mod Hurt
 pub mod Made

@@ -1,6 +1,9 @@
-//! Made streams: workloads that a few numbers tell whole.
+//! Made streams, workloads that a few numbers tell whole; and damage laid over the bytes of a file.
 #![tactic(auto)]
 
+pub mod laws;
+mod laying;
 mod made;
 
+pub use laying::{damaged_in, lay};
 pub use made::packet;

@@ -1,0 +1,5 @@
+use Rattle.dtx_make.proofs.LaidBytes.{length-laid}
+use Rattle.dtx_make.proofs.laws.length_stays.Goals as goal
+
+pub returns : goal.returns
+returns c = length-laid

@@ -1,0 +1,137 @@
+// Damage laid over the bytes of a file (the profile's own).
+ghost use Rattle.std.specs.Prelude.{◌≡◌, ◌+◌, ◌<◌, ◌≤◌, ◌^◌, ◌↔◌, IsTrue, [], ◌∷◌, length};
+ghost use Rattle.dtx_make.specs.Hurt.{AreInOrder, IsCovered, IsFirstBehind, laid, damaged_from, end_of};
+
+use dtx_plan::{Damage, Damages};
+
+/// Lays damage over bytes that stand at `place` of a file: each byte that an entry covers becomes that entry's `put`, in two's
+/// complement; the others stay. The rule is the profile's own.
+pub fn lay(damage: &Damages, place: u64, bytes: &mut [u8])
+    requires room { place + length bytes.old < 2 ^ 64 }
+    requires in_order { AreInOrder damage.now }
+    ensures { bytes.new ≡ laid damage.now place bytes.old }
+{
+    let end = place + bytes.len() as u64;
+    for i in first_behind(damage, place)..damage.len() {
+        let entry = damage.get(i);
+        if entry.at >= end {
+            break;
+        }
+        lay_entry(&entry, place, bytes);
+    }
+}
+
+/// How many of the `count` places from `place` of a file on some entry covers.
+pub fn damaged_in(damage: &Damages, place: u64, count: u64) -> u64
+    requires room { place + count < 2 ^ 64 }
+    requires in_order { AreInOrder damage.now }
+    ensures { result ≡ damaged_from damage.now place count }
+{
+    let end = place + count;
+    let mut damaged = 0;
+    for i in first_behind(damage, place)..damage.len() {
+        let entry = damage.get(i);
+        if entry.at >= end {
+            break;
+        }
+        let (from, to) = covered(&entry, place, end);
+        damaged += to - from;
+    }
+    damaged
+}
+
+/// The number of the first entry that ends behind a place. The entries before it cover no place from that one on.
+fn first_behind(damage: &Damages, place: u64) -> usize
+    requires in_order { AreInOrder damage.now }
+    ensures { IsFirstBehind damage.now place result }
+{
+    let mut low = 0;
+    let mut high = damage.len();
+    while low < high {
+        let middle = low + (high - low) / 2;
+        if ends_by(&damage.get(middle), place) {
+            low = middle + 1;
+        } else {
+            high = middle;
+        }
+    }
+    low
+}
+
+/// Whether all that the entry covers stands before a place.
+fn ends_by(entry: &Damage, place: u64) -> bool
+    ensures { IsTrue result ↔ (end_of entry.now ≤ place) }
+{
+    entry.at <= place && entry.count <= place - entry.at
+}
+
+/// One entry laid over bytes that stand at a place.
+fn lay_entry(entry: &Damage, place: u64, bytes: &mut [u8])
+    requires room { place + length bytes.old < 2 ^ 64 }
+    ensures { bytes.new ≡ laid (entry.now ∷ []) place bytes.old }
+{
+    let (from, to) = covered(entry, place, place + bytes.len() as u64);
+    bytes[(from - place) as usize..(to - place) as usize].fill(entry.put.cast_unsigned());
+}
+
+/// Of the places from `place` on, before `end`, the entry covers those from the first of these two on, before the second.
+fn covered(entry: &Damage, place: u64, end: u64) -> (u64, u64)
+    requires { place ≤ end }
+    ensures { IsCovered entry.now place end result.0 result.1 }
+{
+    let behind = entry.at.saturating_add(entry.count);
+    (entry.at.clamp(place, end), behind.clamp(place, end))
+}
+
+#[cfg(test)]
+mod tests {
+    use super::*;
+    use dtx_plan::read_changes;
+    use std::test::Fail;
+
+    #[test]
+    fn a_piece_has_the_damage_of_its_places(rt: HostRuntime) -> Result<(), Fail> {
+        let damage = read_changes(
+            rt.alloc(),
+            b"damage = [{ at = 2, count = 3, put = -128 }, { at = 5, put = 127 }, { at = 8, count = 4, put = -1 }]",
+        )
+        .ok()
+        .ok_or("no changes")?;
+        let rows: [(u32, [u8; 4], u64); 8] = [
+            (0, [0x40, 0x40, 0x80, 0x80], 2),
+            (2, [0x80, 0x80, 0x80, 0x7F], 4),
+            (3, [0x80, 0x80, 0x7F, 0x40], 3),
+            (5, [0x7F, 0x40, 0x40, 0xFF], 2),
+            (6, [0x40, 0x40, 0xFF, 0xFF], 2),
+            (8, [0xFF, 0xFF, 0xFF, 0xFF], 4),
+            (9, [0xFF, 0xFF, 0xFF, 0x40], 3),
+            (12, [0x40, 0x40, 0x40, 0x40], 0),
+        ];
+        for (place, expected, damaged) in rows {
+            let mut bytes = [0x40; 4];
+            lay(&damage, place as u64, &mut bytes);
+            assert_eq!(rt; bytes, expected, "the bytes at {place}");
+            assert_eq!(rt;
+                damaged_in(&damage, place as u64, 4),
+                damaged,
+                "how many at {place}"
+            );
+        }
+        Ok(())
+    }
+
+    #[test]
+    fn damage_reaches_past_the_end_of_the_longest_file(rt: HostRuntime) -> Result<(), Fail> {
+        let damage = read_changes(
+            rt.alloc(),
+            b"damage = [{ at = 520831999998, count = 520832000000, put = 3 }]",
+        )
+        .ok()
+        .ok_or("no changes")?;
+        let mut bytes = [0x40; 3];
+        lay(&damage, 520_831_999_997, &mut bytes);
+        assert_eq!(rt; bytes, [0x40, 0x03, 0x03]);
+        assert_eq!(rt; damaged_in(&damage, 520_831_999_997, 3), 2);
+        Ok(())
+    }
+}
