@@ -12,6 +12,6 @@ mod tests;
 mod writing;
 
 pub use fields::{Entry, MOST_ENTRIES, Ops};
-pub use reading::read;
+pub use reading::{OPERATIONS, read};
 pub use refusal::OpsNo;
 pub use writing::write;

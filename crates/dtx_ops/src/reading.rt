@@ -16,7 +16,7 @@ use dtx_laws::Correct;
 use dtx_packets::Packet;
 
 /// The packet identifier of operations packets.
-const OPERATIONS: u16 = 0x1FFA;
+pub const OPERATIONS: u16 = 0x1FFA;
 
 /// The fields of an operations packet, or else the first of the ten rules that refuses it. Only the packet identifier and
 /// the payload are looked at, and up to ten bytes of the payload may be wrong.

@@ -1,0 +1,4 @@
+pub mod Feeds
+pub mod Making
+pub mod Coding
+pub mod Readings

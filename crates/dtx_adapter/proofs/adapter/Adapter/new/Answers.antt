@@ -1,0 +1,9 @@
+use Rattle.std.proofs.Common.{refl, [], sym, ap, subst, ◌∙◌}
+use Rattle.dtx_coder.specs.Groups.{StandsFor}
+use Rattle.dtx_coder.proofs.Next.{new_stands}
+use Rattle.dtx_adapter.specs.Feed.{feed, feed_to}
+use Rattle.dtx_adapter.proofs.adapter.Adapter.new.Goals as goal
+
+pub returns-clause-stands : goal.returns-clause-stands
+unfolding feed feed_to
+returns-clause-stands c = record { fills = c.new.ensures.fills; given = refl; coder = c.in_ok-new.ensures ∙ new_stands }

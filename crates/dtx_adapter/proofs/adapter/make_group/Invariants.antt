@@ -1,0 +1,19 @@
+use Rattle.std.proofs.Common.{◌≡◌, ℕ, ◌%◌, ◌≤◌, ◌++◌, List, length, map, take, drop}
+use Rattle.dtx_coder.specs.Stream.{states}
+use Rattle.dtx_packets.specs.declared.packet.Packet as packet
+use Rattle.dtx_plan.specs.declared.plan.Plan.{Plan}
+use Rattle.dtx_adapter.specs.Feed.{feed, placeholders}
+use Rattle.dtx_adapter.specs.Filling.{Fills}
+use Rattle.dtx_adapter.proofs.adapter.make_group.Given as goal
+
+abbrev pub invariant-loop-i : goal.invariant-loop-i
+invariant-loop-i l = record {
+  long : length l.packets ≡ length l.fn.packets;
+  rest : drop l.i l.packets ≡ drop l.i l.fn.packets;
+  filled : l.filled ≡ placeholders (map (λ (p : packet.Packet). p.0) (take l.i l.fn.packets));
+  few : l.filled ≤ l.i;
+  told : l.filler.states ≡ l.fn.filler.states;
+  fills : (plan : Plan) (stream : List (List ℕ)) → Fills plan l.fn.filler stream → Fills plan l.filler (stream ++ map (λ (p : packet.Packet). p.0) (take l.i l.fn.packets));
+  fed : (plan : Plan) (stream : List (List ℕ)) → Fills plan l.fn.filler stream → length stream ≡ l.first → l.first % 4 ≡ 0 → l.fn.filler.states ≡ states (feed plan stream)
+      → map (λ (p : packet.Packet). p.0) (take l.i l.packets) ≡ drop (length stream) (feed plan (stream ++ map (λ (p : packet.Packet). p.0) (take l.i l.fn.packets)));
+}

@@ -1,0 +1,20 @@
+use Rattle.std.proofs.Common.{◌≡◌, ℕ, ◌/◌, ◌%◌, sym, ap, ap₂, ◌∙◌, arith}
+use Rattle.dtx_cadence.specs.Mark.{sync_at, marked}
+use Rattle.dtx_ops.specs.Spelling.{spelling}
+use Rattle.dtx_ops.specs.declared.fields.Ops.{Ops}
+use Rattle.dtx_adapter.specs.Filling.{Filling, said}
+use Rattle.dtx_adapter.proofs.filler.Filler.fill.Goals as goal
+
+pub invariant_of-self : goal.invariant_of-self
+invariant_of-self c = record { start = c.self.invariant.start; max_delay = c.self.invariant.max_delay; counter = omega arith; differ = c.self.invariant.differ }
+
+pub returns-clause-filled : goal.returns-clause-filled
+unfolding said spelling
+returns-clause-filled c =
+    let ops = c.self.inside.ops in
+    c.mark.ensures
+    ∙ ap (marked c.args.index) c.write.ensures.spelling
+    ∙ ap
+    (λ stamp. spelling (record ops { stamp = stamp; frame = c.args.index / 624; index = c.args.index % 624 }) c.self.inside.counter (sync_at c.args.index))
+    c.stamp-self-inside.ensures.stamp
+    ∙ ap (λ (filling : Filling). spelling (said filling c.args.index) filling.counter (sync_at c.args.index)) c.self.view_is

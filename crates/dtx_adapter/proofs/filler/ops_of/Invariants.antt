@@ -1,0 +1,12 @@
+use Rattle.std.proofs.Common.{◌≡◌, ◌<◌, ℕ, length, map, take, get_or}
+use Rattle.dtx_ops.specs.Spelling.{IsEntry}
+use Rattle.dtx_plan.specs.declared.transmitter.Transmitter.{Transmitter}
+use Rattle.dtx_adapter.specs.Feed.{entry_of}
+use Rattle.dtx_adapter.proofs.filler.ops_of.Given as goal
+
+abbrev pub invariant-loop-transmitter : goal.invariant-loop-transmitter
+invariant-loop-transmitter l = record {
+  entries : l.offsets.items ≡ map entry_of (take l.transmitter-index l.transmitter-items);
+  fit : (k : ℕ) (d : Transmitter) → k < l.transmitter-index → IsEntry (entry_of (get_or l.transmitter-items k d));
+  long : length l.offsets.items ≡ l.transmitter-index;
+}

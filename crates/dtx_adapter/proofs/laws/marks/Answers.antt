@@ -1,0 +1,5 @@
+use Rattle.dtx_adapter.proofs.Readings.{sync_fed}
+use Rattle.dtx_adapter.proofs.laws.marks.Goals as goal
+
+pub returns : goal.returns
+returns c = sync_fed

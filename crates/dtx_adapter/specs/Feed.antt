@@ -1,0 +1,61 @@
+-- The feed that an adapter makes of a stream under a plan (the profile's own, in the manner of ATSC A/110). Packets are counted
+-- from 0, and 624 make a frame.
+use Rattle.std.specs.Prelude.{ℕ, ◌*◌, ◌/◌, ◌%◌, ◌==◌, Bool, if◌then◌else◌, List, [], ◌∷◌, ◌++◌, length, map, take, slice_index_or}
+use Rattle.std.specs.List.{filter}
+use Rattle.std.proofs.Common.{zero, suc}
+use Rattle.dtx_packets.specs.Packet.{pid_of}
+use Rattle.dtx_cadence.specs.Mark.{sync_at, marked}
+use Rattle.dtx_clock.specs.Clock.{stamp_of}
+use Rattle.dtx_coder.specs.Stream.{states}
+use Rattle.dtx_ops.specs.Spelling.{spelling}
+use Rattle.dtx_ops.specs.declared.fields.Entry.{Entry}
+use Rattle.dtx_ops.specs.declared.fields.Ops.{Ops}
+use Rattle.dtx_plan.specs.declared.plan.Plan.{Plan}
+use Rattle.dtx_plan.specs.declared.transmitter.Transmitter.{Transmitter}
+
+-- a placeholder of the stream becomes an operations packet of the feed: its packet identifier is 0x1FFA
+unfoldable pub is_placeholder : List ℕ → Bool
+is_placeholder packet = pid_of packet == 0x1FFA
+
+-- how many of some packets are placeholders
+unfoldable pub placeholders : List (List ℕ) → ℕ
+placeholders packets = length (filter is_placeholder packets)
+
+-- a transmitter of the plan as an entry of an operations packet
+abbrev pub entry_of : Transmitter → Entry
+entry_of t = record { address = t.address; offset = t.offset }
+
+-- What the operations packet k says, before which these packets of the feed stand: the states that the coders have behind all whole
+-- groups before its own, the stamp of its frame, the plan's maximum delay and its transmitters in their order, the number of the
+-- frame, and the packet's place in it.
+unfoldable pub ops_at : Plan → List (List ℕ) → ℕ → Ops
+ops_at plan before k = record {
+  states = states (take (4 * (k / 4)) before);
+  stamp = stamp_of plan.start (k / 624);
+  max_delay = plan.max_delay;
+  frame = k / 624;
+  index = k % 624;
+  offsets = record { items = map entry_of plan.transmitters.items };
+}
+
+-- the counter of operations packet k: how many stand before it, modulo 16
+unfoldable pub counter_at : List (List ℕ) → ℕ → ℕ
+counter_at stream k = placeholders (take k stream) % 16
+
+-- what a packet of the stream becomes as packet k of the feed: a placeholder becomes an operations packet that says this, with this
+-- counter, and every other packet keeps all but byte 0
+unfoldable pub made : Ops → ℕ → ℕ → List ℕ → List ℕ
+made ops counter k packet = if is_placeholder packet then spelling ops counter (sync_at k) else marked k packet
+
+-- packet k of the feed, before which these packets of it stand
+unfoldable pub fed_packet : Plan → List (List ℕ) → List (List ℕ) → ℕ → List ℕ
+fed_packet plan stream before k = made (ops_at plan before k) (counter_at stream k) k (slice_index_or stream k [])
+
+-- the first n packets of the feed
+unfoldable pub feed_to : Plan → List (List ℕ) → ℕ → List (List ℕ)
+feed_to plan stream zero = []
+feed_to plan stream (suc n) = feed_to plan stream n ++ fed_packet plan stream (feed_to plan stream n) n ∷ []
+
+-- the feed of a stream
+unfoldable pub feed : Plan → List (List ℕ) → List (List ℕ)
+feed plan stream = feed_to plan stream (length stream)
