@@ -19,7 +19,7 @@ use Rattle.dtx_exciter.proofs.LockstepIs.{lockstep_is, lockstep_on, length-befor
 use Rattle.dtx_network.specs.Plans.{IsPlan, IsStream, IsListed, IsInTime}
 use Rattle.dtx_network.specs.Orders.{has_order}
 use Rattle.dtx_network.specs.Presets.{orders, grains_at, moment_at, preset_at, presets}
-use Rattle.dtx_network.specs.Headline.{IsFed, IsFirstOrder, stretch_of, segment_of, Emits}
+use Rattle.dtx_network.specs.Headline.{IsFed, IsFirstOrder, stretch_of, segment_of, end_of, Emits}
 use Rattle.dtx_network.proofs.Orders.{order_some}
 use Rattle.dtx_network.proofs.Served.{feed_locks}
 use Rattle.dtx_network.proofs.Presets.{lines_are}
@@ -41,17 +41,17 @@ lines_after a d earlier feed later xs ys mark end =
     ++ restarting_lines a d (0 + length (emission_over a d xs) + length (emission a d (earlier ++ (slice_range feed mark end ++ later)))) ys
 
 earlier_lines : (a d : ℕ) (earlier feed : List (List ℕ)) (xs : List (List (List ℕ))) (mark k : ℕ)
-    → All (λ line. segment_of line ≤ length (all_before a d earlier feed xs mark k)) (lines_before a d earlier feed xs mark k)
+    → All (λ line. end_of line ≤ length (all_before a d earlier feed xs mark k)) (lines_before a d earlier feed xs mark k)
 earlier_lines a d earlier feed xs mark k =
     let n : ℕ = 0 + length (emission_over a d xs) in
     let life : List (List ℕ) = earlier ++ slice_range feed mark (k + 3) in
     let all : length (all_before a d earlier feed xs mark k) ≡ length (emission_over a d xs) + length (before_stretch a d earlier feed mark k) =
         length-append (emission_over a d xs) (before_stretch a d earlier feed mark k) in
     let own = length-before a d feed earlier mark k in
-    All-append (λ line. segment_of line ≤ length (all_before a d earlier feed xs mark k)) (restarted_lines a d 0 xs) (life_lines a d n life)
-    (All-weaker (λ line. segment_of line ≤ 0 + length (emission_over a d xs)) (λ line. segment_of line ≤ length (all_before a d earlier feed xs mark k)) (λ line h. omega (arith, h, all))
+    All-append (λ line. end_of line ≤ length (all_before a d earlier feed xs mark k)) (restarted_lines a d 0 xs) (life_lines a d n life)
+    (All-weaker (λ line. end_of line ≤ 0 + length (emission_over a d xs)) (λ line. end_of line ≤ length (all_before a d earlier feed xs mark k)) (λ line h. omega (arith, h, all))
     (restarted_lines a d 0 xs) (restarted_up a d 0 xs))
-    (All-weaker (λ line. segment_of line ≤ n + length (emission a d life)) (λ line. segment_of line ≤ length (all_before a d earlier feed xs mark k)) (λ line h. omega (arith, h, all, own))
+    (All-weaker (λ line. end_of line ≤ n + length (emission a d life)) (λ line. end_of line ≤ length (all_before a d earlier feed xs mark k)) (λ line h. omega (arith, h, all, own))
     (life_lines a d n life) (life_up a d n life))
 
 later_lines : (a d : ℕ) (earlier feed later : List (List ℕ)) (xs ys : List (List (List ℕ))) (mark end k : ℕ) → IsFeed a d feed → IsStretch feed mark end k
@@ -146,9 +146,9 @@ first_is plan offset s feed mark n k first =
     (and_from (k % 4 == 0) (has_order feed k) (eq-eqb (k % 4) 0 first.group) first.order))
     ∙ ap (λ m. preset m (k / 624) (k % 624) (moment_at plan offset k).tick (moment_at plan offset k).grain ∷ map (preset_at plan offset s k) (filter test (range_with_len (k + 1) (mark + n - 3 - (k + 1))))) seg
 
--- no other line speaks of a segment within it
+-- no other line speaks of anything within it
 pub no_other : (plan : Plan) (t : Transmitter) (feed : List (List ℕ)) (k end : ℕ) (segments : List (List ℤ)) (lines : List Line) (line : Line)
-    → (e : Emits plan t feed k end segments lines) → Contains lines line → length e.before < segment_of line → segment_of line < length e.before + length (stretch_of feed k end)
+    → (e : Emits plan t feed k end segments lines) → Contains lines line → length e.before < end_of line → segment_of line < length e.before + length (stretch_of feed k end)
     → Contains (presets plan t.offset (length e.before) feed k end) line
 no_other plan t feed k end segments lines line e c low high = by_part (Contains-append_cases e.earlier (own ++ e.later) line (subst (λ x. Contains x line) e.log c))
   where
@@ -160,7 +160,7 @@ no_other plan t feed k end segments lines line e c low high = by_part (Contains-
     by_own (inr c) = let h = All-contains (λ x. length e.before + length (stretch_of feed k end) ≤ segment_of x) e.later line e.behind c in absurd (omega (arith, h, high))
 
     by_part : Contains e.earlier line ⊎ Contains (own ++ e.later) line → Contains own line
-    by_part (inl c) = let h = All-contains (λ x. segment_of x ≤ length e.before) e.earlier line e.up_to c in absurd (omega (arith, h, low))
+    by_part (inl c) = let h = All-contains (λ x. end_of x ≤ length e.before) e.earlier line e.up_to c in absurd (omega (arith, h, low))
     by_part (inr c) = by_own (Contains-append_cases own e.later line c)
 
 -- ---- two transmitters

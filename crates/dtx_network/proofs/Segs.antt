@@ -1,4 +1,4 @@
--- Of which segments the lines of a log speak: never of an earlier one than the line before them.
+-- Of which segments the lines of a log speak: those of a life of nothing before the life, nor of anything behind it.
 use Rattle.std.proofs.Common.{◌≡◌, ◌⊎◌, inl, inr, ℕ, ℤ, zero, suc, ◌+◌, ◌-◌, ◌*◌, ◌/◌, ◌%◌, ◌<◌, ◌≤◌, ◌==◌, Bool, true, false, cond, Option, Some, None, option_map, Result, Ok, Err, All, List, [], ◌∷◌, ◌++◌, length, map, take, drop, get_or, refl, sym, ap, ap₂, subst, ◌∙◌, arith}
 use Rattle.std.specs.Prelude.{is_ok, nat_le}
 use Rattle.std.specs.List.{range_with_len, flat_map}
@@ -24,7 +24,7 @@ use Rattle.dtx_exciter.specs.Log.{Line, preset, mute, restart, line_of, life_lin
 use Rattle.dtx_exciter.specs.Stretch.{emission_behind, lines_behind}
 use Rattle.dtx_exciter.proofs.Emitted.{emission_more, emission_push}
 use Rattle.dtx_exciter.proofs.Under.{said_drop, length-said}
-use Rattle.dtx_network.specs.Headline.{segment_of}
+use Rattle.dtx_network.specs.Headline.{segment_of, end_of}
 
 -- ---- a preset has its group's segments
 
@@ -81,11 +81,13 @@ given_long a d packets p e = by_anchor (anchor (take (length (syncs packets) - 1
 
 -- ---- one line
 
-line_up : (n m : ℕ) (t : Told) → All (λ line. segment_of line ≤ n + m) (line_of n m t)
-line_up n m Quiet = All-nil (λ line. segment_of line ≤ n + m)
-line_up n m (Sent None) = All-nil (λ line. segment_of line ≤ n + m)
-line_up n m (Sent (Some p)) = All-cons (λ line. segment_of line ≤ n + m) (preset (n + m - 4) p.frame p.packet p.moment.tick p.moment.grain) [] (omega arith) (All-nil (λ line. segment_of line ≤ n + m))
-line_up n m (Muted why) = All-cons (λ line. segment_of line ≤ n + m) (mute n why) [] (omega arith) (All-nil (λ line. segment_of line ≤ n + m))
+line_up : (n m : ℕ) (t : Told) → ((p : Preset) → t ≡ Sent (Some p) → 4 ≤ m) → All (λ line. end_of line ≤ n + m) (line_of n m t)
+line_up n m Quiet h = All-nil (λ line. end_of line ≤ n + m)
+line_up n m (Sent None) h = All-nil (λ line. end_of line ≤ n + m)
+line_up n m (Sent (Some p)) h =
+    let few : 4 ≤ m = h p refl in
+    All-cons (λ line. end_of line ≤ n + m) (preset (n + m - 4) p.frame p.packet p.moment.tick p.moment.grain) [] (omega (arith, few)) (All-nil (λ line. end_of line ≤ n + m))
+line_up n m (Muted why) h = All-cons (λ line. end_of line ≤ n + m) (mute n why) [] (omega arith) (All-nil (λ line. end_of line ≤ n + m))
 
 line_down : (n m : ℕ) (t : Told) → ((p : Preset) → t ≡ Sent (Some p) → 4 ≤ m) → All (λ line. n ≤ segment_of line) (line_of n m t)
 line_down n m Quiet h = All-nil (λ line. n ≤ segment_of line)
@@ -113,16 +115,16 @@ emission_up a d life i l =
     omega
     (arith, ap (λ (x : List (List ℤ)). length x) here, ap (λ (x : List (List ℤ)). length x) all, length-append (emission a d (take i life)) (given a d (take (i + 1) life)), length-append (emission a d (take (i + 1) life)) (emission_behind a d (take (i + 1) life) (drop (i + 1) life)))
 
-pub life_up : (a d n : ℕ) (life : List (List ℕ)) → All (λ line. segment_of line ≤ n + length (emission a d life)) (life_lines a d n life)
+pub life_up : (a d n : ℕ) (life : List (List ℕ)) → All (λ line. end_of line ≤ n + length (emission a d life)) (life_lines a d n life)
 unfolding life_lines
 life_up a d n life =
-    all_flat (λ line. segment_of line ≤ n + length (emission a d life))
+    all_flat (λ line. end_of line ≤ n + length (emission a d life))
     (λ i. line_of (n + length (emission a d (take i life))) (length (given a d (take (i + 1) life))) (told a d (take (i + 1) life))) 0 (length life)
     (λ i l m.
     let most : length (emission a d (take i life)) + length (given a d (take (i + 1) life)) ≤ length (emission a d life) = emission_up a d life i (omega (arith, m)) in
-    All-weaker (λ line. segment_of line ≤ n + length (emission a d (take i life)) + length (given a d (take (i + 1) life))) (λ line. segment_of line ≤ n + length (emission a d life)) (λ line h. omega (arith, h, most))
+    All-weaker (λ line. end_of line ≤ n + length (emission a d (take i life)) + length (given a d (take (i + 1) life))) (λ line. end_of line ≤ n + length (emission a d life)) (λ line h. omega (arith, h, most))
     (line_of (n + length (emission a d (take i life))) (length (given a d (take (i + 1) life))) (told a d (take (i + 1) life)))
-    (line_up (n + length (emission a d (take i life))) (length (given a d (take (i + 1) life))) (told a d (take (i + 1) life))))
+    (line_up (n + length (emission a d (take i life))) (length (given a d (take (i + 1) life))) (told a d (take (i + 1) life)) (given_long a d (take (i + 1) life))))
 
 pub life_down : (a d n : ℕ) (life : List (List ℕ)) → All (λ line. n ≤ segment_of line) (life_lines a d n life)
 unfolding life_lines
@@ -149,16 +151,16 @@ behind_down a d n packets more =
 
 -- ---- the lines of other lives
 
-pub restarted_up : (a d n : ℕ) (xs : List (List (List ℕ))) → All (λ line. segment_of line ≤ n + length (emission_over a d xs)) (restarted_lines a d n xs)
+pub restarted_up : (a d n : ℕ) (xs : List (List (List ℕ))) → All (λ line. end_of line ≤ n + length (emission_over a d xs)) (restarted_lines a d n xs)
 unfolding restarted_lines
-restarted_up a d n [] = All-nil (λ line. segment_of line ≤ n + 0)
+restarted_up a d n [] = All-nil (λ line. end_of line ≤ n + 0)
 restarted_up a d n (x ∷ xs) =
     let m : ℕ = n + length (emission a d x) in
     let sum : length (emission_over a d (x ∷ xs)) ≡ length (emission a d x) + length (emission_over a d xs) = length-append (emission a d x) (emission_over a d xs) in
-    All-append (λ line. segment_of line ≤ n + length (emission_over a d (x ∷ xs))) (life_lines a d n x) (restart m ∷ restarted_lines a d m xs)
-    (All-weaker (λ line. segment_of line ≤ n + length (emission a d x)) (λ line. segment_of line ≤ n + length (emission_over a d (x ∷ xs))) (λ line h. omega (arith, h, sum)) (life_lines a d n x) (life_up a d n x))
-    (All-cons (λ line. segment_of line ≤ n + length (emission_over a d (x ∷ xs))) (restart m) (restarted_lines a d m xs) (omega (arith, sum))
-    (All-weaker (λ line. segment_of line ≤ m + length (emission_over a d xs)) (λ line. segment_of line ≤ n + length (emission_over a d (x ∷ xs))) (λ line h. omega (arith, h, sum)) (restarted_lines a d m xs)
+    All-append (λ line. end_of line ≤ n + length (emission_over a d (x ∷ xs))) (life_lines a d n x) (restart m ∷ restarted_lines a d m xs)
+    (All-weaker (λ line. end_of line ≤ n + length (emission a d x)) (λ line. end_of line ≤ n + length (emission_over a d (x ∷ xs))) (λ line h. omega (arith, h, sum)) (life_lines a d n x) (life_up a d n x))
+    (All-cons (λ line. end_of line ≤ n + length (emission_over a d (x ∷ xs))) (restart m) (restarted_lines a d m xs) (omega (arith, sum))
+    (All-weaker (λ line. end_of line ≤ m + length (emission_over a d xs)) (λ line. end_of line ≤ n + length (emission_over a d (x ∷ xs))) (λ line h. omega (arith, h, sum)) (restarted_lines a d m xs)
     (restarted_up a d m xs)))
 
 pub restarting_down : (a d n : ℕ) (xs : List (List (List ℕ))) → All (λ line. n ≤ segment_of line) (restarting_lines a d n xs)

@@ -41,9 +41,15 @@ segment_of (preset n frame packet tick grain) = n
 segment_of (mute n why) = n
 segment_of (restart n) = n
 
+-- the segment behind those of which it speaks: a preset speaks of its group's four data segments, another line of none
+abbrev pub end_of : Line → ℕ
+end_of (preset n frame packet tick grain) = n + 4
+end_of (mute n why) = n
+end_of (restart n) = n
+
 -- A transmitter emits exactly: its segments hold the stretch, in a row and with nothing between, and its log holds the presets of the
--- stretch's orders, at their moments. Each earlier line speaks of a segment up to the first of the stretch, and each later one of a
--- segment behind it.
+-- stretch's orders, at their moments. Each earlier line speaks of nothing behind the stretch's beginning, and each later one of
+-- nothing before its end.
 pub record Emits (plan : Plan) (t : Transmitter) (feed : List (List ℕ)) (k end : ℕ) (segments : List (List ℤ)) (lines : List Line) : Type 0 where
   pub before : List (List ℤ)
   pub after : List (List ℤ)
@@ -51,5 +57,5 @@ pub record Emits (plan : Plan) (t : Transmitter) (feed : List (List ℕ)) (k end
   pub earlier : List Line
   pub later : List Line
   pub log : lines ≡ earlier ++ (presets plan t.offset (length before) feed k end ++ later)
-  pub up_to : All (λ line. segment_of line ≤ length before) earlier
+  pub up_to : All (λ line. end_of line ≤ length before) earlier
   pub behind : All (λ line. length before + length (stretch_of feed k end) ≤ segment_of line) later

@@ -15,7 +15,7 @@ ghost use Rattle.dtx_exciter.specs.Stretch.{stretch_lines, IsApart};
 ghost use Rattle.dtx_network.specs.Plans.{IsPlan, IsStream, IsListed, IsInTime};
 ghost use Rattle.dtx_network.specs.Orders.{has_order, order_of, IsOrder};
 ghost use Rattle.dtx_network.specs.Presets.{orders, moment_at, preset_at, presets};
-ghost use Rattle.dtx_network.specs.Headline.{IsFed, IsFirstOrder, stretch_of, segment_of, Emits};
+ghost use Rattle.dtx_network.specs.Headline.{IsFed, IsFirstOrder, stretch_of, segment_of, end_of, Emits};
 
 /// The feed of a plan is one that the exciter of each listed transmitter locks to, where the transmitter is in time: its marks stand
 /// at each 624th packet, its orders set the states of its own coders, and each of them serves the transmitter.
@@ -60,14 +60,15 @@ pub fn emits()
         → Emits plan t (feed plan stream) k (mark + n) (emission_over t.address t.delay (xs ++ life ∷ ys)) (log t.address t.delay 0 (xs ++ life ∷ ys)) }
 {}
 
-/// The first preset of a stretch is that of its first group, and speaks of the stretch's first segment. No line but the stretch's
-/// presets speaks of a later segment of it, and so no mute.
+/// The first preset of a stretch is that of its first group, and speaks of the stretch's first segment. No line of the log but the
+/// stretch's presets speaks of anything between its beginning and its end, and so no mute: a line that ends behind its beginning and
+/// begins before its end is one of them.
 pub fn lines_of_a_stretch()
     ensures first { (plan : Plan) (offset : ℤ) (s : ℕ) (feed : List (List ℕ)) (mark n k : ℕ) → IsFirstOrder feed mark n k
         → presets plan offset s feed k (mark + n)
         ≡ preset s (k / 624) (k % 624) (moment_at plan offset k).tick (moment_at plan offset k).grain ∷ map (preset_at plan offset s k) (orders feed (k + 1) (mark + n)) }
     ensures no_other { (plan : Plan) (t : Transmitter) (feed : List (List ℕ)) (k end : ℕ) (segments : List (List ℤ)) (lines : List Line) (line : Line)
-        → (e : Emits plan t feed k end segments lines) → Contains lines line → length e.before < segment_of line → segment_of line < length e.before + length (stretch_of feed k end)
+        → (e : Emits plan t feed k end segments lines) → Contains lines line → length e.before < end_of line → segment_of line < length e.before + length (stretch_of feed k end)
         → Contains (presets plan t.offset (length e.before) feed k end) line }
 {}
 
