@@ -1,5 +1,5 @@
 -- A transmitter of a network emits exactly.
-use Rattle.std.proofs.Common.{◌≡◌, ◌⊎◌, inl, inr, ℕ, ℤ, suc, ◌+◌, ◌-◌, ◌*◌, ◌/◌, ◌%◌, ◌<◌, ◌≤◌, ◌==◌, ◌&&◌, Bool, true, cond, All, List, [], ◌∷◌, ◌++◌, length, map, refl, sym, ap, ap₂, subst, ◌∙◌, arith, pos, ◌-ℤ◌, ◌*ℤ◌}
+use Rattle.std.proofs.Common.{◌≡◌, ◌⊎◌, inl, inr, ℕ, ℤ, suc, ◌+◌, ◌-◌, ◌*◌, ◌/◌, ◌%◌, ◌<◌, ◌≤◌, ◌==◌, ◌&&◌, Bool, All, List, ◌∷◌, ◌++◌, length, map, refl, sym, ap, subst, ◌∙◌, arith, pos, ◌-ℤ◌, ◌*ℤ◌}
 use Rattle.std.specs.Prelude.{slice_range}
 use Rattle.std.specs.List.{range_with_len, filter, Contains}
 use Rattle.std.proofs.lemmas.Bool.{cond-true, and_from, eq-eqb}
@@ -10,15 +10,15 @@ use Rattle.dtx_clock.proofs.Moments.{moments_differ}
 use Rattle.dtx_plan.specs.declared.plan.Plan.{Plan}
 use Rattle.dtx_plan.specs.declared.transmitter.Transmitter.{Transmitter}
 use Rattle.dtx_adapter.specs.Feed.{feed}
-use Rattle.dtx_exciter.specs.Emission.{given, emission}
+use Rattle.dtx_exciter.specs.Emission.{emission}
 use Rattle.dtx_exciter.specs.Lockstep.{IsFeed, IsStretch, segment_place, stretch}
 use Rattle.dtx_exciter.specs.Log.{Line, preset, life_lines, log, restarted_lines, restarting_lines, emission_over}
-use Rattle.dtx_exciter.specs.Stretch.{emission_behind, lines_behind, sync_behind, before_stretch, stretch_lines, IsApart}
+use Rattle.dtx_exciter.specs.Stretch.{emission_behind, lines_behind, before_stretch, stretch_lines, IsApart}
 use Rattle.dtx_exciter.proofs.InLives.{stretch_segments, stretch_log}
 use Rattle.dtx_exciter.proofs.LockstepIs.{lockstep_is, lockstep_on, length-before}
 use Rattle.dtx_network.specs.Plans.{IsPlan, IsStream, IsListed, IsInTime}
 use Rattle.dtx_network.specs.Orders.{has_order}
-use Rattle.dtx_network.specs.Presets.{orders, grains_at, moment_at, preset_at, presets}
+use Rattle.dtx_network.specs.Presets.{orders, moment_at, preset_at, presets}
 use Rattle.dtx_network.specs.Headline.{IsFed, IsFirstOrder, stretch_of, segment_of, end_of, Emits}
 use Rattle.dtx_network.proofs.Orders.{order_some}
 use Rattle.dtx_network.proofs.Served.{feed_locks}
@@ -46,7 +46,7 @@ earlier_lines a d earlier feed xs mark k =
     let n : ℕ = 0 + length (emission_over a d xs) in
     let life : List (List ℕ) = earlier ++ slice_range feed mark (k + 3) in
     let all : length (all_before a d earlier feed xs mark k) ≡ length (emission_over a d xs) + length (before_stretch a d earlier feed mark k) =
-        length-append (emission_over a d xs) (before_stretch a d earlier feed mark k) in
+    length-append (emission_over a d xs) (before_stretch a d earlier feed mark k) in
     let own = length-before a d feed earlier mark k in
     All-append (λ line. end_of line ≤ length (all_before a d earlier feed xs mark k)) (restarted_lines a d 0 xs) (life_lines a d n life)
     (All-weaker (λ line. end_of line ≤ 0 + length (emission_over a d xs)) (λ line. end_of line ≤ length (all_before a d earlier feed xs mark k)) (λ line h. omega (arith, h, all))
@@ -61,13 +61,13 @@ later_lines a d earlier feed later xs ys mark end k f s =
     let front : List (List ℕ) = earlier ++ slice_range feed mark end in
     let life : List (List ℕ) = earlier ++ (slice_range feed mark end ++ later) in
     let all : length (all_before a d earlier feed xs mark k) ≡ length (emission_over a d xs) + length (before_stretch a d earlier feed mark k) =
-        length-append (emission_over a d xs) (before_stretch a d earlier feed mark k) in
+    length-append (emission_over a d xs) (before_stretch a d earlier feed mark k) in
     let given_front : length (emission a d front) ≡ length (before_stretch a d earlier feed mark k) + length (stretch feed k end) =
-        ap (λ (x : List (List ℤ)). length x) (lockstep_is a d feed earlier mark end k f s) ∙ length-append (before_stretch a d earlier feed mark k) (stretch feed k end) in
+    ap (λ (x : List (List ℤ)). length x) (lockstep_is a d feed earlier mark end k f s) ∙ length-append (before_stretch a d earlier feed mark k) (stretch feed k end) in
     let given_all : length (emission a d life) ≡ length (before_stretch a d earlier feed mark k) + (length (stretch feed k end) + length (emission_behind a d front later)) =
-        ap (λ (x : List (List ℤ)). length x) (lockstep_on a d feed earlier later mark end k f s)
-        ∙ length-append (before_stretch a d earlier feed mark k) (stretch feed k end ++ emission_behind a d front later)
-        ∙ ap (λ (m : ℕ). length (before_stretch a d earlier feed mark k) + m) (length-append (stretch feed k end) (emission_behind a d front later)) in
+    ap (λ (x : List (List ℤ)). length x) (lockstep_on a d feed earlier later mark end k f s)
+    ∙ length-append (before_stretch a d earlier feed mark k) (stretch feed k end ++ emission_behind a d front later)
+    ∙ ap (λ (m : ℕ). length (before_stretch a d earlier feed mark k) + m) (length-append (stretch feed k end) (emission_behind a d front later)) in
     All-append (λ line. length (all_before a d earlier feed xs mark k) + length (stretch feed k end) ≤ segment_of line) (lines_behind a d n front later)
     (restarting_lines a d (n + length (emission a d life)) ys)
     (All-weaker (λ line. n + length (emission a d front) ≤ segment_of line) (λ line. length (all_before a d earlier feed xs mark k) + length (stretch feed k end) ≤ segment_of line)
@@ -104,9 +104,9 @@ emits_at plan stream t earlier later xs ys mark n k p u listed time m l first =
     let before : List (List ℤ) = all_before a d earlier fed xs mark k in
     let after : List (List ℤ) = emission_behind a d (earlier ++ slice_range fed mark end) later ++ emission_over a d ys in
     let place : 0 + length (emission_over a d xs) + length (before_stretch a d earlier fed mark k) ≡ length before =
-        omega (arith, length-append (emission_over a d xs) (before_stretch a d earlier fed mark k)) in
+    omega (arith, length-append (emission_over a d xs) (before_stretch a d earlier fed mark k)) in
     let presets_are : stretch_lines a (0 + length (emission_over a d xs) + length (before_stretch a d earlier fed mark k)) fed k end ≡ presets plan t.offset (length before) fed k end =
-        ap (λ (r : ℕ). stretch_lines a r fed k end) place ∙ lines_are plan stream t (length before) k end p u listed (omega (arith, far)) in
+    ap (λ (r : ℕ). stretch_lines a r fed k end) place ∙ lines_are plan stream t (length before) k end p u listed (omega (arith, far)) in
     record {
       before = before;
       after = after;
@@ -170,8 +170,8 @@ whole_grains n = omega arith
 
 pub apart : (plan : Plan) (t u : Transmitter) (s r k l g : ℕ) → IsApart (t.offset -ℤ u.offset) (preset_at plan t.offset s k g) (preset_at plan u.offset r l g)
 apart plan t u s r k l g =
-    let x : ℕ = grains_at plan t.offset g in
-    let y : ℕ = grains_at plan u.offset g in (
+    let x : ℕ = grains_of (stamp_of plan.start (g / 624)) plan.max_delay t.offset (g % 624) in
+    let y : ℕ = grains_of (stamp_of plan.start (g / 624)) plan.max_delay u.offset (g % 624) in (
       refl,
       refl,
       subst (λ (n : ℕ). DifferBy n (y / 1539 * 1539 + y % 1539) ((t.offset -ℤ u.offset) *ℤ pos 1539)) (whole_grains x)

@@ -1,19 +1,22 @@
 -- What a feed orders, group by group.
-use Rattle.std.proofs.Common.{◌≡◌, ◌≢◌, ◌⊎◌, inl, inr, ℕ, zero, suc, ◌+◌, ◌*◌, ◌/◌, ◌%◌, ◌<◌, ◌≤◌, ◌==◌, ◌&&◌, ◌||◌, Bool, true, false, cond, Option, Some, None, option_map, List, [], ◌∷◌, length, map, take, get_or, refl, sym, ap, ap₂, subst, ◌∙◌, arith}
+use Rattle.std.proofs.Common.{◌≡◌, ◌≢◌, ◌⊎◌, inl, inr, ℕ, zero, suc, ◌+◌, ◌*◌, ◌/◌, ◌%◌, ◌<◌, ◌≤◌, ◌==◌, ◌&&◌, ◌||◌, Bool, true, false, cond, Option, Some, None, option_map, All, List, [], ◌∷◌, length, map, take, get_or, refl, sym, ap, ap₂, subst, ◌∙◌, arith}
 use Rattle.std.specs.Prelude.{nat_le, is_some, Ok}
 use Rattle.std.specs.List.{range_with_len, list_any, find}
 use Rattle.std.proofs.lemmas.Bool.{cases_lt, cases_Bool, cond-true, cond-false, eqb-true, eqb-false, eq-eqb, ne_eqb, le-leb, and_parts, and_from}
 use Rattle.std.proofs.lemmas.List.{get_or_past}
+use Rattle.std.proofs.lemmas.List.Elements.{All-weaker}
 use Rattle.std.proofs.Math.ListN.{get_or-map}
 use Rattle.dtx_lists.proofs.RangeSearch.{IsFirst, find-range_gives}
 use Rattle.dtx_packets.specs.Packet.{pid_of}
 use Rattle.dtx_coder.specs.Stream.{states}
 use Rattle.dtx_ops.specs.declared.fields.Ops.{Ops}
+use Rattle.dtx_ops.specs.Spelling.{IsEntry}
 use Rattle.dtx_ops.specs.Reading.{reading}
 use Rattle.dtx_ops.proofs.Readings.{read_as}
 use Rattle.dtx_ops.proofs.Refusing.{reading_other}
 use Rattle.dtx_plan.specs.declared.plan.Plan.{Plan}
-use Rattle.dtx_adapter.specs.Feed.{ops_at, feed}
+use Rattle.dtx_plan.specs.Sound.{IsTransmitter}
+use Rattle.dtx_adapter.specs.Feed.{entry_of, ops_at, feed}
 use Rattle.dtx_adapter.proofs.Feeds.{length-feed}
 use Rattle.dtx_adapter.proofs.Readings.{placeholder_reads, others_stay, said_states}
 use Rattle.dtx_exciter.specs.Order.{either, ordered, ordered_at, order_at, counted}
@@ -55,10 +58,14 @@ other_stays plan stream k other = by_cases (cases_lt k (length stream))
     by_cases (inl l) = others_stay plan stream k l other
     by_cases (inr g) = λ e. no_pid (ap pid_of (sym (get_or_past (feed plan stream) k [] (omega (arith, g, length-feed plan stream)))) ∙ e)
 
+-- the plan's transmitters are entries of an operations packet
+are_entries : (plan : Plan) → IsPlan plan → All (λ t. IsEntry (entry_of t)) plan.transmitters.items
+are_entries plan p = All-weaker IsTransmitter (λ t. IsEntry (entry_of t)) (λ t h. record { address = h.address; offset = h.offset }) plan.transmitters.items p.transmitters
+
 -- each of them reads as what is said at its place
 operations_read : (plan : Plan) (stream : List (List ℕ)) (k : ℕ) → IsPlan plan → IsStream stream → pid_of (get_or stream k []) ≡ 0x1FFA
     → reading (get_or (feed plan stream) k []) ≡ Ok (ops_at plan (take k (feed plan stream)) k)
-operations_read plan stream k p s e = placeholder_reads plan stream k p.sound p.entries s.most (within stream k e) e
+operations_read plan stream k p s e = placeholder_reads plan stream k p.sound (are_entries plan p) s.most (within stream k e) e
 
 -- they stand where the stream's placeholders stand
 pub same_operations : (plan : Plan) (stream : List (List ℕ)) (k : ℕ) → IsPlan plan → IsStream stream → is_operations (feed plan stream) k ≡ is_operations stream k

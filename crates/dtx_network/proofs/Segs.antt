@@ -1,8 +1,7 @@
 -- Of which segments the lines of a log speak: those of a life of nothing before the life, nor of anything behind it.
-use Rattle.std.proofs.Common.{◌≡◌, ◌⊎◌, inl, inr, ℕ, ℤ, zero, suc, ◌+◌, ◌-◌, ◌*◌, ◌/◌, ◌%◌, ◌<◌, ◌≤◌, ◌==◌, Bool, true, false, cond, Option, Some, None, option_map, Result, Ok, Err, All, List, [], ◌∷◌, ◌++◌, length, map, take, drop, get_or, refl, sym, ap, ap₂, subst, ◌∙◌, arith}
+use Rattle.std.proofs.Common.{◌≡◌, ℕ, ℤ, zero, suc, ◌+◌, ◌-◌, ◌*◌, ◌/◌, ◌%◌, ◌<◌, ◌≤◌, ◌==◌, Bool, true, false, cond, Option, Some, None, option_map, Result, Ok, Err, All, List, [], ◌∷◌, ◌++◌, length, take, drop, get_or, refl, sym, ap, ◌∙◌, arith}
 use Rattle.std.specs.Prelude.{is_ok, nat_le}
 use Rattle.std.specs.List.{range_with_len, flat_map}
-use Rattle.std.proofs.lemmas.Bool.{cond-true, cond-false}
 use Rattle.std.proofs.lemmas.List.{length-append, take_more, take-append-drop}
 use Rattle.std.proofs.lemmas.List.Elements.{All-nil, All-cons, All-append, All-weaker}
 use Rattle.std.proofs.lemmas.List.FromFn.{length-map-range_with_len}
@@ -10,7 +9,6 @@ use Rattle.dtx_frame.specs.Segments.{field_sync}
 use Rattle.dtx_cadence.specs.Anchor.{anchor}
 use Rattle.dtx_coder.specs.Stream.{segment, four_segments, last_of}
 use Rattle.dtx_coder.specs.Along.{levels_since}
-use Rattle.dtx_ops.specs.declared.fields.Ops.{Ops}
 use Rattle.dtx_exciter.specs.declared.answers.Why.{Why}
 use Rattle.dtx_exciter.specs.declared.answers.Why.TheVariants.{Cadence}
 use Rattle.dtx_exciter.specs.declared.answers.Preset.{Preset}
@@ -20,7 +18,7 @@ use Rattle.dtx_exciter.specs.Order.{Order, in_force}
 use Rattle.dtx_exciter.specs.Told.{served, told_by, told_at, told_under, told_from, told_of, has_moved}
 use Rattle.dtx_exciter.specs.Packets.{syncs, said, anchor_of, under, told}
 use Rattle.dtx_exciter.specs.Emission.{segments_since, sent_by, sent_at, sent_before, with_sync, given_under, given, emission}
-use Rattle.dtx_exciter.specs.Log.{Line, preset, mute, restart, line_of, life_lines, restarted_lines, restarting_lines, emission_over}
+use Rattle.dtx_exciter.specs.Log.{preset, mute, restart, line_of, life_lines, restarted_lines, restarting_lines, emission_over}
 use Rattle.dtx_exciter.specs.Stretch.{emission_behind, lines_behind}
 use Rattle.dtx_exciter.proofs.Emitted.{emission_more, emission_push}
 use Rattle.dtx_exciter.proofs.Under.{said_drop, length-said}
@@ -109,9 +107,9 @@ emission_up : (a d : ℕ) (life : List (List ℕ)) (i : ℕ) → i < length life
 emission_up a d life i l =
     let more : take (i + 1) life ≡ take i life ++ get_or life i [] ∷ [] = take_more life i [] l in
     let here : emission a d (take (i + 1) life) ≡ emission a d (take i life) ++ given a d (take (i + 1) life) =
-        ap (emission a d) more ∙ emission_push a d (take i life) (get_or life i []) ∙ ap (λ x. emission a d (take i life) ++ given a d x) (sym more) in
+    ap (emission a d) more ∙ emission_push a d (take i life) (get_or life i []) ∙ ap (λ x. emission a d (take i life) ++ given a d x) (sym more) in
     let all : emission a d life ≡ emission a d (take (i + 1) life) ++ emission_behind a d (take (i + 1) life) (drop (i + 1) life) =
-        ap (emission a d) (sym (take-append-drop (i + 1) life)) ∙ emission_more a d (take (i + 1) life) (drop (i + 1) life) in
+    ap (emission a d) (sym (take-append-drop (i + 1) life)) ∙ emission_more a d (take (i + 1) life) (drop (i + 1) life) in
     omega
     (arith, ap (λ (x : List (List ℤ)). length x) here, ap (λ (x : List (List ℤ)). length x) all, length-append (emission a d (take i life)) (given a d (take (i + 1) life)), length-append (emission a d (take (i + 1) life)) (emission_behind a d (take (i + 1) life) (drop (i + 1) life)))
 
@@ -144,7 +142,7 @@ behind_down a d n packets more =
     (λ i. line_of (n + length (emission a d (packets ++ take i more))) (length (given a d (packets ++ take (i + 1) more))) (told a d (packets ++ take (i + 1) more))) 0 (length more)
     (λ i l m.
     let grows : length (emission a d (packets ++ take i more)) ≡ length (emission a d packets) + length (emission_behind a d packets (take i more)) =
-        ap (λ (x : List (List ℤ)). length x) (emission_more a d packets (take i more)) ∙ length-append (emission a d packets) (emission_behind a d packets (take i more)) in
+    ap (λ (x : List (List ℤ)). length x) (emission_more a d packets (take i more)) ∙ length-append (emission a d packets) (emission_behind a d packets (take i more)) in
     All-weaker (λ line. n + length (emission a d (packets ++ take i more)) ≤ segment_of line) (λ line. n + length (emission a d packets) ≤ segment_of line) (λ line h. omega (arith, h, grows))
     (line_of (n + length (emission a d (packets ++ take i more))) (length (given a d (packets ++ take (i + 1) more))) (told a d (packets ++ take (i + 1) more)))
     (line_down (n + length (emission a d (packets ++ take i more))) (length (given a d (packets ++ take (i + 1) more))) (told a d (packets ++ take (i + 1) more)) (given_long a d (packets ++ take (i + 1) more))))

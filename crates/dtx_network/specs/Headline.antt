@@ -18,7 +18,8 @@ pub record IsFed (feed life : List (List ℕ)) (mark n : ℕ) : Type 0 where
   pub later : List (List ℕ)
   pub holds : life ≡ earlier ++ (slice_range feed mark (mark + n) ++ later)
 
--- Group k is the first of these packets with an operations packet that begins 52 or more packets behind the mark.
+-- The group from packet k on is the first one with an operations packet that begins 52 or more packets behind the mark, and it lies
+-- within the packets that are given.
 pub record IsFirstOrder (feed : List (List ℕ)) (mark n k : ℕ) : Type 0 where
   pub group : k % 4 ≡ 0
   pub behind : mark + 52 ≤ k
@@ -30,8 +31,8 @@ pub record IsFirstOrder (feed : List (List ℕ)) (mark n k : ℕ) : Type 0 where
 abbrev pub last_packet : ℕ → ℕ
 last_packet end = 4 * (end / 4) - 1
 
--- The stretch: the segments of the feed's own symbols from the first data segment of group k to the last data segment of the last
--- group that ends at or before packet end.
+-- The stretch: the segments of the feed's own symbols from the first data segment of the group from packet k on to the last data
+-- segment of the last group that ends at or before packet end.
 unfoldable pub stretch_of : List (List ℕ) → ℕ → ℕ → List (List ℤ)
 stretch_of feed k end = slice_range (a53 feed) (segment_place k) (segment_place (last_packet end) + 1)
 

@@ -1,16 +1,14 @@
 -- What a network asks of its plan, its stream and its transmitters (the profile's own).
 use Rattle.std.specs.Prelude.{ℕ, ◌≡◌, ◌≤◌, pos, ◌+ℤ◌, ◌≤ℤ◌, List, All, length}
 use Rattle.std.specs.List.{Contains}
-use Rattle.dtx_ops.specs.Spelling.{IsEntry}
-use Rattle.dtx_plan.specs.Sound.{IsSound}
+use Rattle.dtx_plan.specs.Sound.{IsSound, IsTransmitter}
 use Rattle.dtx_plan.specs.declared.plan.Plan.{Plan}
 use Rattle.dtx_plan.specs.declared.transmitter.Transmitter.{Transmitter}
-use Rattle.dtx_adapter.specs.Feed.{entry_of}
 
--- a plan is sound, and its transmitters' addresses and offsets are numbers of 16 bits, the offsets with a sign
+-- a plan is one that an adapter takes, and its transmitters' numbers are in their ranges
 pub record IsPlan (plan : Plan) : Type 0 where
   pub sound : IsSound plan
-  pub entries : All (λ t. IsEntry (entry_of t)) plan.transmitters.items
+  pub transmitters : All IsTransmitter plan.transmitters.items
 
 -- a stream has packets of 188 bytes, and at most 624,000,000 of them
 pub record IsStream (stream : List (List ℕ)) : Type 0 where

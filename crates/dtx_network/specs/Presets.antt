@@ -2,7 +2,7 @@
 use Rattle.std.specs.Prelude.{ℕ, ℤ, ◌+◌, ◌-◌, ◌/◌, ◌%◌, ◌==◌, ◌&&◌, List, map}
 use Rattle.std.specs.List.{range_with_len, filter}
 use Rattle.dtx_clock.specs.declared.answers.Moment.{Moment}
-use Rattle.dtx_clock.specs.Clock.{stamp_of, grains_of, moment_of}
+use Rattle.dtx_clock.specs.Clock.{stamp_of, moment_of}
 use Rattle.dtx_plan.specs.declared.plan.Plan.{Plan}
 use Rattle.dtx_exciter.specs.Lockstep.{segment_place}
 use Rattle.dtx_exciter.specs.Log.{Line, preset}
@@ -13,12 +13,8 @@ use Rattle.dtx_network.specs.Orders.{has_order}
 unfoldable pub orders : List (List ℕ) → ℕ → ℕ → List ℕ
 orders feed k end = filter (λ g. (g % 4 == 0) && has_order feed g) (range_with_len k (end - 3 - k))
 
--- the moment of the data segment of packet g at a transmitter with this offset, in grains of its second: under the stamp of the
--- packet's frame and the plan's maximum delay
-abbrev pub grains_at : Plan → ℤ → ℕ → ℕ
-grains_at plan offset g = grains_of (stamp_of plan.start (g / 624)) plan.max_delay offset (g % 624)
-
--- that moment in ticks and grains
+-- the moment of the data segment of packet g at a transmitter with this offset: under the stamp of the packet's frame and the plan's
+-- maximum delay
 abbrev pub moment_at : Plan → ℤ → ℕ → Moment
 moment_at plan offset g = moment_of (stamp_of plan.start (g / 624)) plan.max_delay offset (g % 624)
 

@@ -1,9 +1,10 @@
 //! Laws of the definitions.
 
-ghost use Rattle.std.specs.Prelude.{◌≡◌, ℕ, ℤ, ◌+◌, ◌/◌, ◌%◌, ◌<◌, ◌≤◌, ◌-ℤ◌, true, false, Some, None, List, ◌∷◌, ◌++◌, length, map};
+ghost use Rattle.std.specs.Prelude.{◌≡◌, ℕ, ℤ, ◌+◌, ◌/◌, ◌%◌, ◌<◌, ◌≤◌, ◌-ℤ◌, true, false, Some, None, Ok, List, ◌∷◌, ◌++◌, length, map};
 ghost use Rattle.std.specs.List.{Contains};
 ghost use Rattle.dtx_ops.specs.declared.fields.Ops.{Ops};
 ghost use Rattle.dtx_plan.specs.declared.plan.Plan.{Plan};
+ghost use Rattle.dtx_plan.specs.Plan.{plan_of};
 ghost use Rattle.dtx_plan.specs.declared.transmitter.Transmitter.{Transmitter};
 ghost use Rattle.dtx_adapter.specs.Feed.{entry_of, feed};
 ghost use Rattle.dtx_exciter.specs.Order.{counted};
@@ -16,6 +17,11 @@ ghost use Rattle.dtx_network.specs.Plans.{IsPlan, IsStream, IsListed, IsInTime};
 ghost use Rattle.dtx_network.specs.Orders.{has_order, order_of, IsOrder};
 ghost use Rattle.dtx_network.specs.Presets.{orders, moment_at, preset_at, presets};
 ghost use Rattle.dtx_network.specs.Headline.{IsFed, IsFirstOrder, stretch_of, segment_of, end_of, Emits};
+
+/// Every plan that the walk over a file's bytes gives is one that a network takes.
+pub fn plans_that_are_read()
+    ensures { (bytes : List ℕ) (plan : Plan) → plan_of bytes ≡ Ok plan → IsPlan plan }
+{}
 
 /// The feed of a plan is one that the exciter of each listed transmitter locks to, where the transmitter is in time: its marks stand
 /// at each 624th packet, its orders set the states of its own coders, and each of them serves the transmitter.
