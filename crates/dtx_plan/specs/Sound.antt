@@ -1,5 +1,6 @@
 -- What holds of every plan that is read.
-use Rattle.std.specs.Prelude.{◌≡◌, ℕ, ◌+◌, ◌<◌, ◌≤◌, ◌^◌, nat_eq, true, List, length, All, IfSome}
+use Rattle.std.specs.Prelude.{◌≡◌, ℕ, ◌+◌, ◌<◌, ◌≤◌, ◌^◌, nat_eq, true, List, length, All, IfSome, FitsSigned}
+use Rattle.std.specs.Int.{w16}
 use Rattle.std.specs.List.{IsDistinct, AllAdjacentBelow}
 use Rattle.dtx_plan.specs.declared.transmitter.Transmitter.{Transmitter}
 use Rattle.dtx_plan.specs.declared.event.Event.{Event}
@@ -15,6 +16,12 @@ pub record AreTransmitters (ts : List Transmitter) : Type 0 where
   pub some : 1 ≤ length ts
   pub most : length ts ≤ 35
   pub distinct : IsDistinct nat_eq (addresses_of ts)
+
+-- the numbers of a transmitter: an address of 16 bits, an offset of 16 bits with a sign, and a delay of 32 bits
+pub record IsTransmitter (t : Transmitter) : Type 0 where
+  pub address : t.address < 2 ^ 16
+  pub offset : FitsSigned w16 t.offset
+  pub delay : t.delay < 2 ^ 32
 
 -- packets of a feed, at least one, and the last within the longest feed
 pub record IsPart (from count : ℕ) : Type 0 where

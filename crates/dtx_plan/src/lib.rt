@@ -6,6 +6,7 @@ mod damage_table;
 mod event;
 mod event_table;
 mod key;
+pub mod laws;
 mod limits;
 mod net_table;
 mod plan;

@@ -1,0 +1,5 @@
+use Rattle.dtx_network.proofs.Presets.{lines_are}
+use Rattle.dtx_network.proofs.laws.lines_of_a_feed.Goals as goal
+
+pub returns : goal.returns
+returns c = lines_are

@@ -1,0 +1,4 @@
+pub mod Plans
+pub mod Orders
+pub mod Presets
+pub mod Headline

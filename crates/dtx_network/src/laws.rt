@@ -1,0 +1,85 @@
+//! Laws of the definitions.
+
+ghost use Rattle.std.specs.Prelude.{◌≡◌, ℕ, ℤ, ◌+◌, ◌/◌, ◌%◌, ◌<◌, ◌≤◌, ◌-ℤ◌, true, false, Some, None, Ok, List, ◌∷◌, ◌++◌, length, map};
+ghost use Rattle.std.specs.List.{Contains};
+ghost use Rattle.dtx_ops.specs.declared.fields.Ops.{Ops};
+ghost use Rattle.dtx_plan.specs.declared.plan.Plan.{Plan};
+ghost use Rattle.dtx_plan.specs.Plan.{plan_of};
+ghost use Rattle.dtx_plan.specs.declared.transmitter.Transmitter.{Transmitter};
+ghost use Rattle.dtx_adapter.specs.Feed.{entry_of, feed};
+ghost use Rattle.dtx_exciter.specs.Order.{counted};
+ghost use Rattle.dtx_exciter.specs.Packets.{said};
+ghost use Rattle.dtx_exciter.specs.Told as told;
+ghost use Rattle.dtx_exciter.specs.Lockstep.{IsFeed, stretch};
+ghost use Rattle.dtx_exciter.specs.Log.{Line, preset, log, emission_over};
+ghost use Rattle.dtx_exciter.specs.Stretch.{stretch_lines, IsApart};
+ghost use Rattle.dtx_network.specs.Plans.{IsPlan, IsStream, IsListed, IsInTime};
+ghost use Rattle.dtx_network.specs.Orders.{has_order, order_of, IsOrder};
+ghost use Rattle.dtx_network.specs.Presets.{orders, moment_at, preset_at, presets};
+ghost use Rattle.dtx_network.specs.Headline.{IsFed, IsFirstOrder, stretch_of, segment_of, end_of, Emits};
+
+/// Every plan that the walk over a file's bytes gives is one that a network takes.
+pub fn plans_that_are_read()
+    ensures { (bytes : List ℕ) (plan : Plan) → plan_of bytes ≡ Ok plan → IsPlan plan }
+{}
+
+/// The feed of a plan is one that the exciter of each listed transmitter locks to, where the transmitter is in time: its marks stand
+/// at each 624th packet, its orders set the states of its own coders, and each of them serves the transmitter.
+pub fn feed_locks()
+    ensures { (plan : Plan) (stream : List (List ℕ)) (t : Transmitter) → IsPlan plan → IsStream stream → IsListed plan t → IsInTime plan t → IsFeed t.address t.delay (feed plan stream) }
+{}
+
+/// A group of a feed orders something exactly where it begins 52 or more packets behind the feed's start and holds an operations
+/// packet, which is where its stream holds a placeholder; it orders what the first of them says, and lists each transmitter of the
+/// plan once, with its own offset.
+pub fn orders_of_a_feed()
+    ensures exact { (plan : Plan) (stream : List (List ℕ)) (g : ℕ) → IsPlan plan → IsStream stream → counted (said (feed plan stream)) g ≡ order_of plan stream g }
+    ensures some { (plan : Plan) (stream : List (List ℕ)) (g : ℕ) → IsPlan plan → IsStream stream → 52 ≤ g → g % 4 ≡ 0 → has_order (feed plan stream) g ≡ true
+        → (ops : Ops) × (counted (said (feed plan stream)) g ≡ Some ops) }
+    ensures none { (plan : Plan) (stream : List (List ℕ)) (g : ℕ) → IsPlan plan → IsStream stream → has_order (feed plan stream) g ≡ false
+        → counted (said (feed plan stream)) g ≡ None }
+    ensures placeholders { (plan : Plan) (stream : List (List ℕ)) (g : ℕ) → IsPlan plan → IsStream stream → has_order (feed plan stream) g ≡ has_order stream g }
+    ensures says { (plan : Plan) (stream : List (List ℕ)) (g : ℕ) (ops : Ops) → IsPlan plan → IsStream stream → counted (said (feed plan stream)) g ≡ Some ops
+        → IsOrder plan stream g ops }
+    ensures entry { (plan : Plan) (stream : List (List ℕ)) (t : Transmitter) (g : ℕ) (ops : Ops) → IsPlan plan → IsListed plan t → IsOrder plan stream g ops
+        → told.entry_of t.address ops ≡ Some (entry_of t) }
+{}
+
+/// The lines that an exciter logs in a stretch of a feed are the presets of the stretch's orders: one for each group that holds an
+/// operations packet, and no other.
+pub fn lines_of_a_feed()
+    ensures { (plan : Plan) (stream : List (List ℕ)) (t : Transmitter) (s k end : ℕ) → IsPlan plan → IsStream stream → IsListed plan t → 52 ≤ k
+        → stretch_lines t.address s (feed plan stream) k end ≡ presets plan t.offset s (feed plan stream) k end }
+{}
+
+/// The stretch as a slice of all of the feed's own segments is what the exciter gives of the packets up to its end.
+pub fn stretch_of_a_feed()
+    ensures { (feed : List (List ℕ)) (k end : ℕ) → k + 4 ≤ end → end ≤ length feed → stretch_of feed k end ≡ stretch feed k end }
+{}
+
+/// For every stream and all lives of a listed transmitter that is in time: where one life, whatever it held before and holds behind,
+/// is given the feed unchanged from a mark on, the transmitter emits exactly the feed's own segments from the first operations packet
+/// that begins 52 or more packets behind the mark.
+pub fn emits()
+    ensures { (plan : Plan) (stream : List (List ℕ)) (t : Transmitter) (xs ys : List (List (List ℕ))) (life : List (List ℕ)) (mark n k : ℕ)
+        → IsPlan plan → IsStream stream → IsListed plan t → IsInTime plan t → IsFed (feed plan stream) life mark n → IsFirstOrder (feed plan stream) mark n k
+        → Emits plan t (feed plan stream) k (mark + n) (emission_over t.address t.delay (xs ++ life ∷ ys)) (log t.address t.delay 0 (xs ++ life ∷ ys)) }
+{}
+
+/// The first preset of a stretch is that of its first group, and speaks of the stretch's first segment. No line of the log but the
+/// stretch's presets speaks of anything between its beginning and its end, and so no mute: a line that ends behind its beginning and
+/// begins before its end is one of them.
+pub fn lines_of_a_stretch()
+    ensures first { (plan : Plan) (offset : ℤ) (s : ℕ) (feed : List (List ℕ)) (mark n k : ℕ) → IsFirstOrder feed mark n k
+        → presets plan offset s feed k (mark + n)
+        ≡ preset s (k / 624) (k % 624) (moment_at plan offset k).tick (moment_at plan offset k).grain ∷ map (preset_at plan offset s k) (orders feed (k + 1) (mark + n)) }
+    ensures no_other { (plan : Plan) (t : Transmitter) (feed : List (List ℕ)) (k end : ℕ) (segments : List (List ℤ)) (lines : List Line) (line : Line)
+        → (e : Emits plan t feed k end segments lines) → Contains lines line → length e.before < end_of line → segment_of line < length e.before + length (stretch_of feed k end)
+        → Contains (presets plan t.offset (length e.before) feed k end) line }
+{}
+
+/// At any two transmitters the presets of one group are of one packet of one frame, and their moments differ by the offsets'
+/// difference, in ticks of 1539 grains, and otherwise by whole seconds, wherever their stretches begin.
+pub fn apart()
+    ensures { (plan : Plan) (t u : Transmitter) (s r k l g : ℕ) → IsApart (t.offset -ℤ u.offset) (preset_at plan t.offset s k g) (preset_at plan u.offset r l g) }
+{}

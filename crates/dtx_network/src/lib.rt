@@ -1,0 +1,4 @@
+//! The network: an adapter's feed and the exciters that lock to it.
+#![tactic(auto)]
+
+pub mod laws;
