@@ -9,7 +9,7 @@ use Rattle.dtx_outside.proofs.Written.{from_same_at}
 use Rattle.dtx_packets.specs.declared.packet.Packet as packet
 use Rattle.dtx_packets.specs.declared.refusal.NextNo.{NextNo}
 use Rattle.dtx_packets.specs.declared.refusal.NextNo.TheVariants as next
-use Rattle.dtx_packets.specs.Packets.{most_packets, whole_packets, packets_from}
+use Rattle.dtx_packets.specs.Packets.{most_packets, whole_packets, packets_from, packets_of}
 use Rattle.dtx_packets.specs.Reading.{Reading, AreNext}
 use Rattle.dtx_packets.proofs.Packets.{packets_from-append}
 use Rattle.dtx_words.specs.Status.{of_next, of_write}
@@ -106,6 +106,9 @@ part_begun asked start now file is =
 
 part_of_made : (asked : ExciteWords) (start now : Option Files) (packets : List (List ℕ)) → IsMade asked start packets now → IsPartMade asked start packets now
 part_of_made asked start now packets is = part_of_both start now asked.output _ [] asked.log _ [] (both_gathered start now asked.output _ asked.log _ is)
+
+pub part_of_whole : (asked : ExciteWords) (start now : Option Files) (file : List ℕ) → whole_packets file ≤ 624000000 → IsMade asked start (packets_of file) now → IsPartMade asked start (fed file) now
+part_of_whole asked start now file most is = part_fed asked start now file (whole_packets file) (omega arith) most (part_of_made asked start now (packets_of file) is)
 
 -- where writing was refused
 pub unwritten_end : (asked : ExciteWords) (held : Files) (now : Option Files) (read : ℕ) (cause : WriteNo) → IsSome (get held asked.feed) → read ≤ whole_packets (unwrap_or (get held asked.feed) []) → read ≤ 624000000
