@@ -15,3 +15,9 @@ pub mod SoFar
 pub mod Ends
 pub mod ReceiveBegun
 pub mod ReceiveOutcomes
+pub mod BothFiles
+pub mod LifeOn
+pub mod Giving
+pub mod FeedRead
+pub mod ExciteBegun
+pub mod ExciteOutcomes

@@ -10,3 +10,8 @@ pub mod Tally
 pub mod Reception
 pub mod Receive
 pub mod Received
+pub mod LogText
+pub mod Life
+pub mod TwoFiles
+pub mod Excite
+pub mod Excited

@@ -3,8 +3,13 @@
 
 mod adapt_job;
 mod code_job;
+mod excitation;
+mod excite_job;
+mod excited;
 mod feed;
 mod input;
+mod life_tally;
+mod log_text;
 mod make_job;
 mod outcome;
 mod receive_job;
@@ -18,6 +23,8 @@ mod tally;
 
 pub use adapt_job::adapt;
 pub use code_job::code;
+pub use excite_job::excite;
+pub use log_text::{LOG_LINE, write_line};
 pub use make_job::make;
 pub use outcome::Outcome;
 pub use receive_job::receive;

@@ -86,7 +86,7 @@ impl StreamCoder {
 }
 
 /// Sets the bytes to the symbols, in two's complement.
-fn to_bytes(symbols: &[i8; AIR_SYMBOLS], bytes: &mut [u8; AIR_SYMBOLS])
+pub(crate) fn to_bytes(symbols: &[i8; AIR_SYMBOLS], bytes: &mut [u8; AIR_SYMBOLS])
     ensures { bytes.new ≡ map byte_of_symbol symbols.now }
 {
     for i in 0..AIR_SYMBOLS {

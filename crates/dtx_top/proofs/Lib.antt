@@ -1,4 +1,5 @@
 pub mod Answers
+pub mod Exciting
 pub mod Making
 pub mod Streams
 pub mod Unfit

@@ -1,8 +1,9 @@
 -- What a command of one stream answers, once its line was printed or not.
 use Rattle.std.specs.Prelude.{◌⊎◌, Option}
 use Rattle.dtx_outside.specs.Shelf.{Files}
+use Rattle.dtx_jobs.specs.Excited.{OfFeed, IsFeed, HasExciteJobCause}
 use Rattle.dtx_jobs.specs.Received.{OfSymbols, IsReceivable, HasReceiveJobCause}
-use Rattle.dtx_words.specs.Words.{ReceiveWords}
+use Rattle.dtx_words.specs.Words.{ExciteWords, ReceiveWords}
 use Rattle.dtx_jobs.specs.Work.{Work, OfInput, IsPlainFile, HasJobCause}
 use Rattle.dtx_words.specs.declared.status.Status.{Status}
 use Rattle.dtx_words.specs.declared.status.Status.TheVariants.{WriteFault}
@@ -13,6 +14,12 @@ abbrev pub HasCause : Work → Option Files → Type 0 → Type 0 → Type 0 →
 HasCause work told missed misread miswritten unprinted WriteFault =
     HasJobCause work told missed misread miswritten WriteFault ⊎ (unprinted × OfInput work told (IsPlainFile work.source))
 HasCause work told missed misread miswritten unprinted status = HasJobCause work told missed misread miswritten status
+
+-- the same of `excite`
+abbrev pub HasExciteAnswerCause : ExciteWords → Option Files → Type 0 → Type 0 → Type 0 → Type 0 → Status → Type 0
+HasExciteAnswerCause asked told missed misread miswritten unprinted WriteFault =
+    HasExciteJobCause asked told missed misread miswritten WriteFault ⊎ (unprinted × OfFeed asked told IsFeed)
+HasExciteAnswerCause asked told missed misread miswritten unprinted status = HasExciteJobCause asked told missed misread miswritten status
 
 -- the same of `receive`
 abbrev pub HasReceiveAnswerCause : ReceiveWords → Option Files → Type 0 → Type 0 → Type 0 → Type 0 → Status → Type 0

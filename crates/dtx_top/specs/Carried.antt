@@ -7,11 +7,12 @@ use Rattle.dtx_words.specs.Command.{Fits}
 use Rattle.dtx_words.specs.Line.{line_of, finished}
 use Rattle.dtx_words.specs.Names.{line_name, names_of}
 use Rattle.dtx_words.specs.Printed.{IsPut}
-use Rattle.dtx_words.specs.Words.{adapt_words, code_words, make_words, receive_words}
+use Rattle.dtx_words.specs.Words.{adapt_words, code_words, excite_words, make_words, receive_words}
 use Rattle.dtx_words.specs.declared.verbs.Command.{Command}
-use Rattle.dtx_words.specs.declared.verbs.Command.TheVariants.{Adapt, Code, Receive, Make}
+use Rattle.dtx_words.specs.declared.verbs.Command.TheVariants.{Adapt, Code, Excite, Receive, Make}
 use Rattle.dtx_words.specs.declared.status.Status.{Status}
 use Rattle.dtx_words.specs.declared.status.Status.TheVariants.{Usage}
+use Rattle.dtx_jobs.specs.Excited.{IsExciteOutcome}
 use Rattle.dtx_jobs.specs.Make.{IsMakeOutcome}
 use Rattle.dtx_jobs.specs.Received.{IsReceiveOutcome}
 use Rattle.dtx_jobs.specs.Work.{adapting, coding, IsOutcome}
@@ -24,6 +25,8 @@ IsPerformed (Some Adapt) words told now missed misread miswritten outcome =
     IfSome (adapt_words words) (λ asked. IsOutcome (adapting asked) told now missed misread miswritten outcome)
 IsPerformed (Some Code) words told now missed misread miswritten outcome =
     IfSome (code_words words) (λ asked. IsOutcome (coding asked) told now missed misread miswritten outcome)
+IsPerformed (Some Excite) words told now missed misread miswritten outcome =
+    IfSome (excite_words words) (λ asked. IsExciteOutcome asked told now missed misread miswritten outcome)
 IsPerformed (Some Receive) words told now missed misread miswritten outcome =
     IfSome (receive_words words) (λ asked. IsReceiveOutcome asked told now missed misread miswritten outcome)
 IsPerformed (Some Make) words told now missed misread miswritten outcome =

@@ -5,8 +5,9 @@ use Rattle.dtx_outside.specs.Shelf.{Files}
 use Rattle.dtx_packets.specs.Packets.{packets_of}
 use Rattle.dtx_words.specs.Line.{done_line, feed_line, code_line, made_line}
 use Rattle.dtx_words.specs.Printed.{printed}
-use Rattle.dtx_words.specs.Words.{MakeWords, ReceiveWords}
-use Rattle.dtx_words.specs.declared.verbs.Command.TheVariants.{Receive}
+use Rattle.dtx_words.specs.Words.{ExciteWords, MakeWords, ReceiveWords}
+use Rattle.dtx_words.specs.declared.verbs.Command.TheVariants.{Excite, Receive}
+use Rattle.dtx_jobs.specs.Excited.{OfFeed, excited_numbers}
 use Rattle.dtx_jobs.specs.Received.{OfSymbols, received_numbers}
 use Rattle.dtx_jobs.specs.Work.{Work, OfInput, AreItsNumbers, command_of, numbers_of}
 
@@ -22,6 +23,14 @@ IsCodeLine work told text = (packets : ℕ) × (segments : ℕ) × (loose : ℕ)
 -- the line of the command was printed, with the numbers of the input
 abbrev pub Prints : Work → Option Files → Option (List ℕ) → Option (List ℕ) → Type 0
 Prints work told old new = OfInput work told (λ file. new ≡ printed (done_line (command_of work.source) (numbers_of work.source file)) old)
+
+-- the line of an exciter's life over the feed
+abbrev pub IsExciteLine : ExciteWords → Option Files → List ℕ → Type 0
+IsExciteLine asked told text = (numbers : List ℕ) × (text ≡ done_line Excite numbers) × OfFeed asked told (λ file. numbers ≡ excited_numbers asked file)
+
+-- that line was printed
+abbrev pub ExcitePrints : ExciteWords → Option Files → Option (List ℕ) → Option (List ℕ) → Type 0
+ExcitePrints asked told old new = OfFeed asked told (λ file. new ≡ printed (done_line Excite (excited_numbers asked file)) old)
 
 -- the line of the packets of the input
 abbrev pub IsReceiveLine : ReceiveWords → Option Files → List ℕ → Type 0

@@ -4,7 +4,7 @@ ghost use Rattle.dtx_outside.specs.Shelf.{Rose};
 ghost use Rattle.dtx_words.specs.Command.{Fits};
 ghost use Rattle.dtx_top.specs.Carried.{IsPerformed};
 
-use dtx_jobs::{Outcome, adapt, code, make, receive};
+use dtx_jobs::{Outcome, adapt, code, excite, make, receive};
 use dtx_outside::{Shelf, Word};
 use dtx_words::{Command, Status};
 use std::alloc::Global;
@@ -26,6 +26,7 @@ pub(crate) fn perform<S: Shelf>(
     match command {
         Some(Command::Adapt) => adapt(alloc, words, shelf),
         Some(Command::Code) => code(alloc, words, shelf),
+        Some(Command::Excite) => excite(alloc, words, shelf),
         Some(Command::Receive) => receive(alloc, words, shelf),
         Some(Command::Make) => make(alloc, words, shelf),
         None => Outcome {

@@ -4,13 +4,14 @@ ghost use Rattle.dtx_outside.specs.Shelf.{Rose};
 ghost use Rattle.dtx_words.specs.Command.{FitsNoCommand};
 ghost use Rattle.dtx_words.specs.Line.{HasLine, IsNoLine};
 ghost use Rattle.dtx_words.specs.Names.{repeated};
-ghost use Rattle.dtx_words.specs.Words.{adapt_words, code_words, make_words, make_names, receive_words, receive_names};
+ghost use Rattle.dtx_words.specs.Words.{adapt_words, code_words, excite_words, excite_names, make_words, make_names, receive_words, receive_names};
+ghost use Rattle.dtx_jobs.specs.Excited.{CanBeExcited, ExciteLeaves};
 ghost use Rattle.dtx_jobs.specs.Make.{HasMakeCause, MakeLeaves};
 ghost use Rattle.dtx_jobs.specs.Received.{CanBeReceived, ReceiveLeaves};
 ghost use Rattle.dtx_jobs.specs.Work.{adapting, coding, CanBeDone, Leaves};
-ghost use Rattle.dtx_top.specs.Answer.{HasCause, HasReceiveAnswerCause};
+ghost use Rattle.dtx_top.specs.Answer.{HasCause, HasExciteAnswerCause, HasReceiveAnswerCause};
 ghost use Rattle.dtx_top.specs.Carried.{IsCarriedOut};
-ghost use Rattle.dtx_top.specs.Printing.{IsCodeLine, IsFeedLine, IsMadeLine, IsReceiveLine, MakePrints, Prints, ReceivePrints};
+ghost use Rattle.dtx_top.specs.Printing.{ExcitePrints, IsCodeLine, IsExciteLine, IsFeedLine, IsMadeLine, IsReceiveLine, MakePrints, Prints, ReceivePrints};
 
 use crate::Status;
 use crate::performing::perform;
@@ -28,6 +29,11 @@ use std::alloc::Global;
 /// `code IN OUT` writes the symbols of the stream or feed IN to OUT: those of all data segments and field syncs that its whole
 /// groups of four packets give (ATSC A/53 Part 2), one signed byte each in two's complement. Byte 0 of its packets is 0x47 or the
 /// mark 0xB8, and isn't sent.
+///
+/// `excite FEED ADDRESS DELAY OUT LOG` gives the packets of FEED, which are of any bytes, to one exciter, and writes the segments that it
+/// sends to OUT, one signed byte a symbol in two's complement, and its log to LOG (the profile's own, over ATSC A/53 Part 2 and in the
+/// manner of ATSC A/110). ADDRESS is the transmitter's, 0 to 65,535, and DELAY is for how many ticks of 100 ns the feed is on its way to
+/// it, 0 to 4,294,967,295, both written as the numbers of `make` are.
 ///
 /// `receive IN OUT` writes the packets of the symbols IN to OUT: those of every run of segments that begins with one that looks like a
 /// field sync, each with up to ten wrong bytes of its word put right, or flagged where its word has no correction (ATSC A/53
@@ -98,6 +104,34 @@ pub fn run<S: Shelf, O: Sink>(alloc: Global, words: &[Word], shelf: &mut S, out:
 
     // The line is the last thing that is written.
     ensures code_line { IfSome (code_words words.now) (λ asked. HasLine (IsCodeLine (coding asked) (S.files shelf.old)) (coding asked).names result
+        (Rose (O.faults out.old) (O.faults out.new)) (O.written out.old) (O.written out.new)) }
+
+    // Each answer of `excite` has its cause, and equal names have no other answer.
+    ensures excite_cause { IfSome (excite_words words.now) (λ asked. HasExciteAnswerCause asked (S.files shelf.old)
+        (Rose (S.misses shelf.old) (S.misses shelf.new))
+        (Rose (S.read_faults shelf.old) (S.read_faults shelf.new))
+        (Rose (S.write_faults shelf.old) (S.write_faults shelf.new))
+        (Rose (O.faults out.old) (O.faults out.new)) result) }
+    ensures excite_same { IfSome (excite_words words.now) (λ asked. IsSome (repeated (excite_names asked))
+        → (result ≡ Status.Same) ⊎ (result ≡ Status.Memory)) }
+
+    // Where nothing stands against it and nothing fails, it is done, unless memory is wanted.
+    ensures excite_complete { IfSome (excite_words words.now) (λ asked. CanBeExcited asked (S.files shelf.old)
+        → ¬ Rose (S.read_faults shelf.old) (S.read_faults shelf.new)
+        → ¬ (Rose (S.write_faults shelf.old) (S.write_faults shelf.new) ⊎ Rose (O.faults out.old) (O.faults out.new))
+        → (result ≡ Status.Done) ⊎ (result ≡ Status.Memory)) }
+
+    // Where it is done, the outputs are the symbols that one exciter sends for the feed, one byte each, and the text of its log, and the
+    // line has their numbers; what stands after every other answer, and that no other file was touched.
+    ensures excite_left { IfSome (excite_words words.now) (λ asked. ExciteLeaves asked (S.files shelf.old) result (S.files shelf.new)) }
+    ensures excite_unprinted { IfSome (excite_words words.now) (λ asked. result ≡ Status.WriteFault
+        → ¬ Rose (S.write_faults shelf.old) (S.write_faults shelf.new)
+        → ExciteLeaves asked (S.files shelf.old) Status.Done (S.files shelf.new)) }
+    ensures excite_done { IfSome (excite_words words.now) (λ asked. result ≡ Status.Done
+        → ExcitePrints asked (S.files shelf.old) (O.written out.old) (O.written out.new)) }
+
+    // The line is the last thing that is written.
+    ensures excite_line { IfSome (excite_words words.now) (λ asked. HasLine (IsExciteLine asked (S.files shelf.old)) (excite_names asked) result
         (Rose (O.faults out.old) (O.faults out.new)) (O.written out.old) (O.written out.new)) }
 
     // Each answer of `receive` has its cause, and equal names have no other answer.

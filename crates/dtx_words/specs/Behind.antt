@@ -1,15 +1,19 @@
 -- The words behind the references that the code holds.
 use Rattle.dtx_words.specs.declared.words.AdaptNames.{AdaptNames}
 use Rattle.dtx_words.specs.declared.words.CodeNames.{CodeNames}
+use Rattle.dtx_words.specs.declared.words.ExciteOrder.{ExciteOrder}
 use Rattle.dtx_words.specs.declared.words.MakeOrder.{MakeOrder}
 use Rattle.dtx_words.specs.declared.words.ReceiveNames.{ReceiveNames}
-use Rattle.dtx_words.specs.Words.{AdaptWords, CodeWords, MakeWords, ReceiveWords}
+use Rattle.dtx_words.specs.Words.{AdaptWords, CodeWords, ExciteWords, MakeWords, ReceiveWords}
 
 abbrev pub adapt_behind : AdaptNames → AdaptWords
 adapt_behind names = record { plan = names.plan.now; input = names.input.now; output = names.output.now }
 
 abbrev pub code_behind : CodeNames → CodeWords
 code_behind names = record { input = names.input.now; output = names.output.now }
+
+abbrev pub excite_behind : ExciteOrder → ExciteWords
+excite_behind order = record { feed = order.feed.now; address = order.address; delay = order.delay; output = order.output.now; log = order.log.now }
 
 abbrev pub receive_behind : ReceiveNames → ReceiveWords
 receive_behind names = record { input = names.input.now; output = names.output.now }

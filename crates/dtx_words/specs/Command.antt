@@ -2,14 +2,15 @@
 use Rattle.std.specs.Prelude.{ℕ, if◌then◌else◌, List, Option, Some, None, IsSome, codes}
 use Rattle.std.specs.Str.{bytes_eq}
 use Rattle.dtx_words.specs.declared.verbs.Command.{Command}
-use Rattle.dtx_words.specs.declared.verbs.Command.TheVariants.{Adapt, Code, Receive, Make}
-use Rattle.dtx_words.specs.Words.{adapt_words, code_words, make_words, receive_words}
+use Rattle.dtx_words.specs.declared.verbs.Command.TheVariants.{Adapt, Code, Excite, Receive, Make}
+use Rattle.dtx_words.specs.Words.{adapt_words, code_words, excite_words, make_words, receive_words}
 
 -- the command of a verb
 abbrev pub command_named : List ℕ → Option Command
 command_named verb =
     if bytes_eq verb (codes "adapt") then Some Adapt
     else if bytes_eq verb (codes "code") then Some Code
+    else if bytes_eq verb (codes "excite") then Some Excite
     else if bytes_eq verb (codes "receive") then Some Receive
     else if bytes_eq verb (codes "make") then Some Make
     else None
@@ -18,6 +19,7 @@ command_named verb =
 abbrev pub Fits : Command → List (List ℕ) → Type 0
 Fits Adapt words = IsSome (adapt_words words)
 Fits Code words = IsSome (code_words words)
+Fits Excite words = IsSome (excite_words words)
 Fits Receive words = IsSome (receive_words words)
 Fits Make words = IsSome (make_words words)
 

@@ -5,7 +5,7 @@ use Rattle.dtx_outside.specs.declared.sink.SinkNo.TheVariants as sink
 use Rattle.dtx_words.specs.Printed.{printed}
 use Rattle.dtx_words.specs.Names.{line_name}
 use Rattle.dtx_words.specs.declared.verbs.Command.{Command}
-use Rattle.dtx_words.specs.declared.verbs.Command.TheVariants.{Adapt, Code, Receive, Make}
+use Rattle.dtx_words.specs.declared.verbs.Command.TheVariants.{Adapt, Code, Excite, Receive, Make}
 use Rattle.dtx_words.specs.declared.status.Status.{Status}
 use Rattle.dtx_words.specs.declared.status.Status.TheVariants.{Done, Usage, Same, Absent, Packet, TooLong, NoSync, ReadFault, WriteFault, Memory, NotBuilt}
 
@@ -16,6 +16,12 @@ feed_line packets filled loose = codes "packets " ++ decimal packets ++ codes " 
 -- the line of symbols that were written
 abbrev pub code_line : ℕ → ℕ → ℕ → List ℕ
 code_line packets segments loose = codes "packets " ++ decimal packets ++ codes " segments " ++ decimal segments ++ codes " loose " ++ decimal loose ++ codes "\n"
+
+-- the line of an exciter's life
+abbrev pub excite_line : ℕ → ℕ → ℕ → ℕ → ℕ → List ℕ
+excite_line packets segments presets mutes loose =
+    codes "packets " ++ (decimal packets ++ (codes " segments " ++ (decimal segments ++ (codes " presets " ++ (decimal presets ++ (codes " mutes " ++ (decimal mutes
+    ++ (codes " loose " ++ (decimal loose ++ codes "\n")))))))))
 
 -- the line of packets that were received
 abbrev pub receive_line : ℕ → ℕ → ℕ → ℕ → ℕ → ℕ → List ℕ
@@ -45,6 +51,8 @@ refusal_line (NotBuilt k) name = codes "not built " ++ decimal k ++ codes "\n"
 abbrev pub done_line : Command → List ℕ → List ℕ
 done_line Adapt numbers = feed_line (slice_index numbers 0) (slice_index numbers 1) (slice_index numbers 2)
 done_line Code numbers = code_line (slice_index numbers 0) (slice_index numbers 1) (slice_index numbers 2)
+done_line Excite numbers =
+    excite_line (slice_index numbers 0) (slice_index numbers 1) (slice_index numbers 2) (slice_index numbers 3) (slice_index numbers 4)
 done_line Receive numbers =
     receive_line (slice_index numbers 0) (slice_index numbers 1) (slice_index numbers 2) (slice_index numbers 3) (slice_index numbers 4) (slice_index numbers 5)
 done_line Make numbers = made_line (slice_index numbers 0)

@@ -14,6 +14,14 @@ pub record CodeWords : Type 0 where
   pub input : List ℕ
   pub output : List ℕ
 
+-- the words of `excite FEED ADDRESS DELAY OUT LOG`
+pub record ExciteWords : Type 0 where
+  pub feed : List ℕ
+  pub address : ℕ
+  pub delay : ℕ
+  pub output : List ℕ
+  pub log : List ℕ
+
 -- the words of `receive IN OUT`
 pub record ReceiveWords : Type 0 where
   pub input : List ℕ
@@ -43,6 +51,15 @@ abbrev pub code_arguments : List (List ℕ) → Option CodeWords
 code_arguments (input ∷ output ∷ []) = if is_name input && is_name output then Some (record { input = input; output = output }) else None
 code_arguments _ = None
 
+abbrev pub excite_with : List ℕ → Option ℕ → Option ℕ → List ℕ → List ℕ → Option ExciteWords
+excite_with feed (Some address) (Some delay) output log =
+    if is_name feed && is_name output && is_name log then Some (record { feed = feed; address = address; delay = delay; output = output; log = log }) else None
+excite_with feed _ _ output log = None
+
+abbrev pub excite_arguments : List (List ℕ) → Option ExciteWords
+excite_arguments (feed ∷ address ∷ delay ∷ output ∷ log ∷ []) = excite_with feed (number_in 65535 address) (number_in 4294967295 delay) output log
+excite_arguments _ = None
+
 abbrev pub receive_arguments : List (List ℕ) → Option ReceiveWords
 receive_arguments (input ∷ output ∷ []) = if is_name input && is_name output then Some (record { input = input; output = output }) else None
 receive_arguments _ = None
@@ -63,6 +80,10 @@ adapt_words = behind_verb (codes "adapt") adapt_arguments
 abbrev pub code_words : List (List ℕ) → Option CodeWords
 code_words = behind_verb (codes "code") code_arguments
 
+-- the words, where they fit `excite`: an address of 16 bits, a delay of 32 bits in ticks of 100 ns
+abbrev pub excite_words : List (List ℕ) → Option ExciteWords
+excite_words = behind_verb (codes "excite") excite_arguments
+
 -- the words, where they fit `receive`
 abbrev pub receive_words : List (List ℕ) → Option ReceiveWords
 receive_words = behind_verb (codes "receive") receive_arguments
@@ -78,6 +99,10 @@ adapt_names words = words.plan ∷ words.input ∷ words.output ∷ []
 -- the file names of `code`, its input first
 abbrev pub code_names : CodeWords → List (List ℕ)
 code_names words = words.input ∷ words.output ∷ []
+
+-- the file names of `excite`, its input first
+abbrev pub excite_names : ExciteWords → List (List ℕ)
+excite_names words = words.feed ∷ words.output ∷ words.log ∷ []
 
 -- the file names of `receive`, its input first
 abbrev pub receive_names : ReceiveWords → List (List ℕ)

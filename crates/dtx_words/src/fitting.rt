@@ -3,7 +3,7 @@ ghost use Rattle.std.specs.Prelude.{◌≡◌, ◌↔◌, Some, IfSome, IsTrue};
 ghost use Rattle.dtx_words.specs.Command.{command_named, Fits};
 
 use crate::Command;
-use crate::words::{adapt_words, code_words, make_words, receive_words};
+use crate::words::{adapt_words, code_words, excite_words, make_words, receive_words};
 use dtx_outside::Word;
 
 /// The command that the words fit, or `None` where they fit none.
@@ -22,6 +22,7 @@ fn command_named(verb: &Word) -> Option<Command>
     match verb.as_str() {
         "adapt" => Some(Command::Adapt),
         "code" => Some(Command::Code),
+        "excite" => Some(Command::Excite),
         "receive" => Some(Command::Receive),
         "make" => Some(Command::Make),
         _ => None,
@@ -35,6 +36,7 @@ fn fits(command: Command, words: &[Word]) -> bool
     match command {
         Command::Adapt => adapt_words(words).is_some(),
         Command::Code => code_words(words).is_some(),
+        Command::Excite => excite_words(words).is_some(),
         Command::Receive => receive_words(words).is_some(),
         Command::Make => make_words(words).is_some(),
     }

@@ -16,6 +16,6 @@ pub use names::{name_in_line, repeated_name};
 pub use status::{Status, of_next, of_read};
 pub use verbs::Command;
 pub use words::{
-    AdaptNames, CodeNames, MakeOrder, ReceiveNames, adapt_words, code_words, make_words,
-    receive_words,
+    AdaptNames, CodeNames, ExciteOrder, MakeOrder, ReceiveNames, adapt_words, code_words,
+    excite_words, make_words, receive_words,
 };

@@ -38,6 +38,7 @@ fn print_done<O: Sink>(command: Command, numbers: &[u64; 6], out: &mut O) -> Res
     match command {
         Command::Adapt => print_feed(numbers, out),
         Command::Code => print_code(numbers, out),
+        Command::Excite => print_excited(numbers, out),
         Command::Receive => print_received(numbers, out),
         Command::Make => print_made(numbers, out),
     }
@@ -80,6 +81,33 @@ fn print_code<O: Sink>(numbers: &[u64; 6], out: &mut O) -> Result<(), SinkNo>
             second.format(numbers[1]),
             " loose ",
             third.format(numbers[2]),
+            "\n",
+        ],
+    )
+}
+
+/// Prints the line of an exciter's life: the packets read, the segments written, the presets and the mutes of the log, the bytes
+/// behind the last whole packet.
+fn print_excited<O: Sink>(numbers: &[u64; 6], out: &mut O) -> Result<(), SinkNo>
+    ensures written { IsPut (done_line Command.Excite numbers.now) (O.written out.old) result (O.written out.new) }
+    ensures failed { IsErrOf result SinkNo.Failed → Rose (O.faults out.old) (O.faults out.new) }
+    ensures faults { O.faults out.old ≤ O.faults out.new }
+{
+    let (mut first, mut second, mut third) = (Buffer::new(), Buffer::new(), Buffer::new());
+    let (mut fourth, mut fifth) = (Buffer::new(), Buffer::new());
+    put_all(
+        out,
+        &[
+            "packets ",
+            first.format(numbers[0]),
+            " segments ",
+            second.format(numbers[1]),
+            " presets ",
+            third.format(numbers[2]),
+            " mutes ",
+            fourth.format(numbers[3]),
+            " loose ",
+            fifth.format(numbers[4]),
             "\n",
         ],
     )

@@ -3,7 +3,7 @@ ghost use Rattle.std.specs.Prelude.{◌≡◌, map};
 ghost use Rattle.std.specs.Option.{option_map};
 ghost use Rattle.dtx_words.specs.Names.{line_name, names_of, repeated};
 
-use crate::words::{adapt_words, code_words, make_words, receive_words};
+use crate::words::{adapt_words, code_words, excite_words, make_words, receive_words};
 use crate::{Command, Status};
 use dtx_outside::Word;
 
@@ -31,6 +31,10 @@ pub fn name_in_line<'a>(command: Option<Command>, words: &'a [Word], status: Sta
         },
         Some(Command::Code) => match code_words(words) {
             Some(names) => name_among(status, &names.files()),
+            None => name_among(status, &[]),
+        },
+        Some(Command::Excite) => match excite_words(words) {
+            Some(order) => name_among(status, &order.files()),
             None => name_among(status, &[]),
         },
         Some(Command::Receive) => match receive_words(words) {

@@ -7,6 +7,8 @@ pub enum Command {
     Adapt,
     /// `code IN OUT`
     Code,
+    /// `excite FEED ADDRESS DELAY OUT LOG`
+    Excite,
     /// `receive IN OUT`
     Receive,
     /// `make SEED COUNT OUT`

@@ -1,8 +1,8 @@
 // What the words of each command name.
 ghost use Rattle.std.specs.Prelude.{◌≡◌, map};
 ghost use Rattle.std.specs.Option.{option_map};
-ghost use Rattle.dtx_words.specs.Behind.{adapt_behind, code_behind, make_behind, receive_behind};
-ghost use Rattle.dtx_words.specs.Words.{adapt_names, adapt_words, code_names, code_words, is_name, make_names, make_words, receive_names, receive_words};
+ghost use Rattle.dtx_words.specs.Behind.{adapt_behind, code_behind, excite_behind, make_behind, receive_behind};
+ghost use Rattle.dtx_words.specs.Words.{adapt_names, adapt_words, code_names, code_words, excite_names, excite_words, is_name, make_names, make_words, receive_names, receive_words};
 
 use crate::number::number_up_to;
 use dtx_outside::Word;
@@ -43,6 +43,30 @@ impl<'a> CodeNames<'a> {
         ensures { map (λ name. name.now) result ≡ code_names (code_behind self.now) }
     {
         [self.input, self.output]
+    }
+}
+
+/// What `excite FEED ADDRESS DELAY OUT LOG` is to do: what an exciter sends for a feed, and its log.
+#[derive(Clone, Copy)]
+pub struct ExciteOrder<'a> {
+    /// The feed, which is input 0.
+    pub feed: &'a str,
+    /// The transmitter's address.
+    pub address: u16,
+    /// For how many ticks of 100 ns the feed is on its way to the transmitter.
+    pub delay: u32,
+    /// The symbols.
+    pub output: &'a str,
+    /// The log.
+    pub log: &'a str,
+}
+
+impl<'a> ExciteOrder<'a> {
+    /// All file names, the input first.
+    pub fn files(&self) -> [&'a str; 3]
+        ensures { map (λ name. name.now) result ≡ excite_names (excite_behind self.now) }
+    {
+        [self.feed, self.output, self.log]
     }
 }
 
@@ -110,6 +134,25 @@ pub fn code_words(words: &[Word]) -> Option<CodeNames<'_>>
             Some(CodeNames {
                 input: input.as_str(),
                 output: output.as_str(),
+            })
+        }
+        _ => None,
+    }
+}
+
+/// What the words order where they fit `excite`, else `None`.
+pub fn excite_words(words: &[Word]) -> Option<ExciteOrder<'_>>
+    ensures { option_map excite_behind result ≡ excite_words words.now }
+{
+    match words {
+        [verb, feed, address, delay, output, log]
+            if verb.as_str() == "excite" && is_name(feed) && is_name(output) && is_name(log) => {
+            Some(ExciteOrder {
+                feed: feed.as_str(),
+                address: number_up_to(u16::MAX as u64, address.as_str())? as u16,
+                delay: number_up_to(u32::MAX as u64, delay.as_str())? as u32,
+                output: output.as_str(),
+                log: log.as_str(),
             })
         }
         _ => None,

@@ -11,6 +11,12 @@ fn each_line_ends_in_a_line_feed_and_has_its_numbers_in_order(rt: HostRuntime) -
         ("adapt", 3, Status::Done, "packets 8 filled 9 loose 3\n"),
         ("code", 2, Status::Done, "packets 8 segments 9 loose 3\n"),
         (
+            "excite",
+            5,
+            Status::Done,
+            "packets 8 segments 9 presets 3 mutes 1 loose 2\n",
+        ),
+        (
             "receive",
             2,
             Status::Done,

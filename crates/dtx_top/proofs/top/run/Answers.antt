@@ -1,7 +1,8 @@
 use Rattle.std.proofs.lemmas.Option.{IfSome_then}
-use Rattle.dtx_words.specs.Words.{adapt_words, code_words, make_words, receive_words}
+use Rattle.dtx_words.specs.Words.{adapt_words, code_words, excite_words, make_words, receive_words}
 use Rattle.dtx_jobs.specs.Work.{adapting, coding}
 use Rattle.dtx_words.specs.declared.verbs.Command.TheVariants.{Adapt, Code}
+use Rattle.dtx_top.proofs.Exciting.{excite_run, excited_cause, excited_same, excited_complete, excited_left, excited_unprinted, excited_prints, excited_line_left}
 use Rattle.dtx_top.proofs.Making.{make_run, make_cause, make_complete, make_left, make_unprinted, make_prints, made_line_left}
 use Rattle.dtx_top.proofs.Receiving.{receive_run, received_cause, received_same, received_complete, received_left, received_unprinted, received_prints, received_line_left}
 use Rattle.dtx_top.proofs.Streams.{adapt_run, code_run, run_cause, run_same, run_complete, run_left, run_unprinted, adapt_prints, code_prints, feed_line_left, code_line_left}
@@ -97,3 +98,24 @@ returns-clause-receive_done g c = IfSome_then (receive_words c.args.words.now) (
 
 pub returns-clause-receive_line : goal.returns-clause-receive_line
 returns-clause-receive_line g c = IfSome_then (receive_words c.args.words.now) (receive_run _ _ _ _ _ _ _ _ _ _ c.carry_out.ensures) (λ asked run. received_line_left asked _ _ _ _ _ _ _ _ _ run)
+
+pub returns-clause-excite_cause : goal.returns-clause-excite_cause
+returns-clause-excite_cause g c = IfSome_then (excite_words c.args.words.now) (excite_run _ _ _ _ _ _ _ _ _ _ c.carry_out.ensures) (λ asked run. excited_cause asked _ _ _ _ _ _ _ _ _ run)
+
+pub returns-clause-excite_same : goal.returns-clause-excite_same
+returns-clause-excite_same g c = IfSome_then (excite_words c.args.words.now) (excite_run _ _ _ _ _ _ _ _ _ _ c.carry_out.ensures) (λ asked run. excited_same asked _ _ _ _ _ _ _ _ _ run)
+
+pub returns-clause-excite_complete : goal.returns-clause-excite_complete
+returns-clause-excite_complete g c = IfSome_then (excite_words c.args.words.now) (excite_run _ _ _ _ _ _ _ _ _ _ c.carry_out.ensures) (λ asked run. excited_complete asked _ _ _ _ _ _ _ _ _ run)
+
+pub returns-clause-excite_left : goal.returns-clause-excite_left
+returns-clause-excite_left g c = IfSome_then (excite_words c.args.words.now) (excite_run _ _ _ _ _ _ _ _ _ _ c.carry_out.ensures) (λ asked run. excited_left asked _ _ _ _ _ _ _ _ _ run)
+
+pub returns-clause-excite_unprinted : goal.returns-clause-excite_unprinted
+returns-clause-excite_unprinted g c = IfSome_then (excite_words c.args.words.now) (excite_run _ _ _ _ _ _ _ _ _ _ c.carry_out.ensures) (λ asked run. excited_unprinted asked _ _ _ _ _ _ _ _ _ run)
+
+pub returns-clause-excite_done : goal.returns-clause-excite_done
+returns-clause-excite_done g c = IfSome_then (excite_words c.args.words.now) (excite_run _ _ _ _ _ _ _ _ _ _ c.carry_out.ensures) (λ asked run. excited_prints asked _ _ _ _ _ _ _ _ _ run)
+
+pub returns-clause-excite_line : goal.returns-clause-excite_line
+returns-clause-excite_line g c = IfSome_then (excite_words c.args.words.now) (excite_run _ _ _ _ _ _ _ _ _ _ c.carry_out.ensures) (λ asked run. excited_line_left asked _ _ _ _ _ _ _ _ _ run)
