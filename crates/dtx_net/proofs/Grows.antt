@@ -8,11 +8,11 @@ use Rattle.dtx_coder.proofs.RangeMoved.{flat_map-range_same}
 use Rattle.dtx_plan.specs.declared.transmitter.Transmitter.{Transmitter}
 use Rattle.dtx_exciter.specs.Packets.{told}
 use Rattle.dtx_exciter.specs.Emission.{given, emission}
-use Rattle.dtx_exciter.specs.Log.{Line, restart, line_of, life_lines, log}
+use Rattle.dtx_exciter.specs.Log.{Line, restart, line_of, life_lines, log, emission_over}
 use Rattle.dtx_exciter.proofs.Emitted.{emission_push}
 use Rattle.dtx_net.specs.Steps.{Step, packet_step, restart_step}
 use Rattle.dtx_net.specs.Lives.{lives_of, last_life, ended_lives}
-use Rattle.dtx_net.specs.Sent.{sent_over, segments_of, lines_of}
+use Rattle.dtx_net.specs.Sent.{segments_of, lines_of}
 use Rattle.dtx_net.proofs.LastLife.{lives}
 
 -- ---- the segments of lives
@@ -21,29 +21,26 @@ sent_nothing : (a d : ℕ) → emission a d [] ≡ []
 unfolding emission
 sent_nothing a d = refl
 
-sent_append : (a d : ℕ) (xs : List (List (List ℕ))) (life : List (List ℕ)) → sent_over a d (xs ++ life ∷ []) ≡ sent_over a d xs ++ emission a d life
-unfolding sent_over
-sent_append a d xs life = flat_map-append (emission a d) xs (life ∷ []) ∙ ap (λ x. sent_over a d xs ++ x) (append-nil (emission a d life))
+sent_append : (a d : ℕ) (xs : List (List (List ℕ))) (life : List (List ℕ)) → emission_over a d (xs ++ life ∷ []) ≡ emission_over a d xs ++ emission a d life
+sent_append a d xs life = flat_map-append (emission a d) xs (life ∷ []) ∙ ap (λ x. emission_over a d xs ++ x) (append-nil (emission a d life))
 
-sent_cons : (a d : ℕ) (life : List (List ℕ)) (xs : List (List (List ℕ))) → sent_over a d (life ∷ xs) ≡ emission a d life ++ sent_over a d xs
-unfolding sent_over
+sent_cons : (a d : ℕ) (life : List (List ℕ)) (xs : List (List (List ℕ))) → emission_over a d (life ∷ xs) ≡ emission a d life ++ emission_over a d xs
 sent_cons a d life xs = refl
 
-sent_one : (a d : ℕ) (life : List (List ℕ)) → emission a d life ≡ sent_over a d (life ∷ [])
-unfolding sent_over
+sent_one : (a d : ℕ) (life : List (List ℕ)) → emission a d life ≡ emission_over a d (life ∷ [])
 sent_one a d life = sym (append-nil (emission a d life))
 
 -- a packet more in the last life
-sent_push : (a d : ℕ) (xs : List (List (List ℕ))) (life : List (List ℕ)) (p : List ℕ) → sent_over a d (xs ++ (life ++ p ∷ []) ∷ []) ≡ sent_over a d (xs ++ life ∷ []) ++ given a d (life ++ p ∷ [])
+sent_push : (a d : ℕ) (xs : List (List (List ℕ))) (life : List (List ℕ)) (p : List ℕ) → emission_over a d (xs ++ (life ++ p ∷ []) ∷ []) ≡ emission_over a d (xs ++ life ∷ []) ++ given a d (life ++ p ∷ [])
 sent_push a d xs life p =
     sent_append a d xs (life ++ p ∷ [])
-    ∙ ap (λ x. sent_over a d xs ++ x) (emission_push a d life p)
-    ∙ sym (append_assoc (sent_over a d xs) (emission a d life) (given a d (life ++ p ∷ [])))
+    ∙ ap (λ x. emission_over a d xs ++ x) (emission_push a d life p)
+    ∙ sym (append_assoc (emission_over a d xs) (emission a d life) (given a d (life ++ p ∷ [])))
     ∙ ap (λ x. x ++ given a d (life ++ p ∷ [])) (sym (sent_append a d xs life))
 
 -- a new life
-sent_new : (a d : ℕ) (xs : List (List (List ℕ))) → sent_over a d (xs ++ [] ∷ []) ≡ sent_over a d xs
-sent_new a d xs = sent_append a d xs [] ∙ ap (λ x. sent_over a d xs ++ x) (sent_nothing a d) ∙ append-nil (sent_over a d xs)
+sent_new : (a d : ℕ) (xs : List (List (List ℕ))) → emission_over a d (xs ++ [] ∷ []) ≡ emission_over a d xs
+sent_new a d xs = sent_append a d xs [] ∙ ap (λ x. emission_over a d xs ++ x) (sent_nothing a d) ∙ append-nil (emission_over a d xs)
 
 -- ---- the lines of lives
 
@@ -81,12 +78,12 @@ unfolding log
 log_single a d n life = refl
 
 -- the segments before the next life, and those of all from it on
-counted : (a d n : ℕ) (life : List (List ℕ)) (xs : List (List (List ℕ))) → n + length (emission a d life) + length (sent_over a d xs) ≡ n + length (sent_over a d (life ∷ xs))
-counted a d n life xs = omega (arith, ap (λ (x : List (List ℤ)). length x) (sent_cons a d life xs), length-append (emission a d life) (sent_over a d xs))
+counted : (a d n : ℕ) (life : List (List ℕ)) (xs : List (List (List ℕ))) → n + length (emission a d life) + length (emission_over a d xs) ≡ n + length (emission_over a d (life ∷ xs))
+counted a d n life xs = omega (arith, ap (λ (x : List (List ℤ)). length x) (sent_cons a d life xs), length-append (emission a d life) (emission_over a d xs))
 
 -- a packet more in the last life
 log_push : (a d n : ℕ) (xs : List (List (List ℕ))) (life : List (List ℕ)) (p : List ℕ)
-    → log a d n (xs ++ (life ++ p ∷ []) ∷ []) ≡ log a d n (xs ++ life ∷ []) ++ line_of (n + length (sent_over a d (xs ++ life ∷ []))) (length (given a d (life ++ p ∷ []))) (told a d (life ++ p ∷ []))
+    → log a d n (xs ++ (life ++ p ∷ []) ∷ []) ≡ log a d n (xs ++ life ∷ []) ++ line_of (n + length (emission_over a d (xs ++ life ∷ []))) (length (given a d (life ++ p ∷ []))) (told a d (life ++ p ∷ []))
 log_push a d n [] life p =
     log_single a d n (life ++ p ∷ []) ∙ life_lines_push a d n life p
     ∙ ap₂ (λ x m. x ++ line_of m (length (given a d (life ++ p ∷ []))) (told a d (life ++ p ∷ []))) (sym (log_single a d n life)) (ap (λ x. n + length x) (sent_one a d life))
@@ -95,11 +92,11 @@ log_push a d n (x ∷ xs) life p =
     let line : ℕ → List Line = λ k. line_of k (length (given a d (life ++ p ∷ []))) (told a d (life ++ p ∷ [])) in
     log_cons a d n x xs (life ++ p ∷ [])
     ∙ ap (λ y. life_lines a d n x ++ restart m ∷ y) (log_push a d m xs life p)
-    ∙ sym (append_assoc (life_lines a d n x) (restart m ∷ log a d m (xs ++ life ∷ [])) (line (m + length (sent_over a d (xs ++ life ∷ [])))))
+    ∙ sym (append_assoc (life_lines a d n x) (restart m ∷ log a d m (xs ++ life ∷ [])) (line (m + length (emission_over a d (xs ++ life ∷ [])))))
     ∙ ap₂ (λ y k. y ++ line k) (sym (log_cons a d n x xs life)) (counted a d n x (xs ++ life ∷ []))
 
 -- a new life
-log_new : (a d n : ℕ) (xs : List (List (List ℕ))) (life : List (List ℕ)) → log a d n ((xs ++ life ∷ []) ++ [] ∷ []) ≡ log a d n (xs ++ life ∷ []) ++ restart (n + length (sent_over a d (xs ++ life ∷ []))) ∷ []
+log_new : (a d n : ℕ) (xs : List (List (List ℕ))) (life : List (List ℕ)) → log a d n ((xs ++ life ∷ []) ++ [] ∷ []) ≡ log a d n (xs ++ life ∷ []) ++ restart (n + length (emission_over a d (xs ++ life ∷ []))) ∷ []
 log_new a d n [] life =
     log_cons a d n life [] []
     ∙ ap₂ (λ x y. x ++ restart (n + length (emission a d life)) ∷ y) (sym (log_single a d n life)) (log_single a d (n + length (emission a d life)) [] ∙ nothing_lined a d (n + length (emission a d life)))
@@ -108,7 +105,7 @@ log_new a d n (x ∷ xs) life =
     let m : ℕ = n + length (emission a d x) in
     log_cons a d n x (xs ++ life ∷ []) []
     ∙ ap (λ y. life_lines a d n x ++ restart m ∷ y) (log_new a d m xs life)
-    ∙ sym (append_assoc (life_lines a d n x) (restart m ∷ log a d m (xs ++ life ∷ [])) (restart (m + length (sent_over a d (xs ++ life ∷ []))) ∷ []))
+    ∙ sym (append_assoc (life_lines a d n x) (restart m ∷ log a d m (xs ++ life ∷ [])) (restart (m + length (emission_over a d (xs ++ life ∷ []))) ∷ []))
     ∙ ap₂ (λ y k. y ++ restart k ∷ []) (sym (log_cons a d n x xs life)) (counted a d n x (xs ++ life ∷ []))
 
 -- ---- a transmitter's
@@ -122,12 +119,12 @@ segments_given t who steps p =
     let l = lives who steps in
     let before : List (List (List ℕ)) = ended_lives who steps in
     let last : List (List ℕ) = last_life who steps in
-    ap (sent_over t.address t.delay) (l.given p) ∙ sent_push t.address t.delay before last p
-    ∙ ap (λ x. sent_over t.address t.delay x ++ given t.address t.delay (last ++ p ∷ [])) (sym l.are)
+    ap (emission_over t.address t.delay) (l.given p) ∙ sent_push t.address t.delay before last p
+    ∙ ap (λ x. emission_over t.address t.delay x ++ given t.address t.delay (last ++ p ∷ [])) (sym l.are)
 
 pub segments_restarted : (t : Transmitter) (who : ℕ) (steps : List Step) → segments_of t who (steps ++ restart_step who ∷ []) ≡ segments_of t who steps
 unfolding segments_of
-segments_restarted t who steps = ap (sent_over t.address t.delay) (lives who steps).restarted ∙ sent_new t.address t.delay (lives_of who steps)
+segments_restarted t who steps = ap (emission_over t.address t.delay) (lives who steps).restarted ∙ sent_new t.address t.delay (lives_of who steps)
 
 pub lines_given : (t : Transmitter) (who : ℕ) (steps : List Step) (p : List ℕ)
     → lines_of t who (steps ++ packet_step who p ∷ []) ≡ lines_of t who steps ++ line_of (length (segments_of t who steps)) (length (given t.address t.delay (last_life who steps ++ p ∷ []))) (told t.address t.delay (last_life who steps ++ p ∷ []))
@@ -139,7 +136,7 @@ lines_given t who steps p =
     let before : List (List (List ℕ)) = ended_lives who steps in
     let last : List (List ℕ) = last_life who steps in
     ap (log a d 0) (l.given p) ∙ log_push a d 0 before last p
-    ∙ ap₂ (λ x n. log a d 0 x ++ line_of n (length (given a d (last ++ p ∷ []))) (told a d (last ++ p ∷ []))) (sym l.are) (none_before (sent_over a d (before ++ last ∷ [])) ∙ ap (λ x. length (sent_over a d x)) (sym l.are))
+    ∙ ap₂ (λ x n. log a d 0 x ++ line_of n (length (given a d (last ++ p ∷ []))) (told a d (last ++ p ∷ []))) (sym l.are) (none_before (emission_over a d (before ++ last ∷ [])) ∙ ap (λ x. length (emission_over a d x)) (sym l.are))
 
 pub lines_restarted : (t : Transmitter) (who : ℕ) (steps : List Step) → lines_of t who (steps ++ restart_step who ∷ []) ≡ lines_of t who steps ++ restart (length (segments_of t who steps)) ∷ []
 unfolding segments_of lines_of
@@ -149,12 +146,12 @@ lines_restarted t who steps =
     let d : ℕ = t.delay in
     let all : List (List (List ℕ)) = ended_lives who steps ++ last_life who steps ∷ [] in
     ap (log a d 0) (l.restarted ∙ ap (λ x. x ++ [] ∷ []) l.are) ∙ log_new a d 0 (ended_lives who steps) (last_life who steps)
-    ∙ ap₂ (λ x n. log a d 0 x ++ restart n ∷ []) (sym l.are) (none_before (sent_over a d all) ∙ ap (λ x. length (sent_over a d x)) (sym l.are))
+    ∙ ap₂ (λ x n. log a d 0 x ++ restart n ∷ []) (sym l.are) (none_before (emission_over a d all) ∙ ap (λ x. length (emission_over a d x)) (sym l.are))
 
 -- those that begin with other lives
 pub segments_same : (t : Transmitter) (who : ℕ) (steps others : List Step) → lives_of who steps ≡ lives_of who others → segments_of t who steps ≡ segments_of t who others
 unfolding segments_of
-segments_same t who steps others e = ap (sent_over t.address t.delay) e
+segments_same t who steps others e = ap (emission_over t.address t.delay) e
 
 pub lines_same : (t : Transmitter) (who : ℕ) (steps others : List Step) → lives_of who steps ≡ lives_of who others → lines_of t who steps ≡ lines_of t who others
 unfolding lines_of
