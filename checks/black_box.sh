@@ -20,6 +20,7 @@ room=$(mktemp -d) || exit 1
 trap 'chmod -R u+w "$room"; rm -rf "$room"' EXIT
 chmod 755 "$room"
 inputs=$room/inputs
+plan=$top/examples/two-sites.toml
 folder=$room/folder
 mkdir "$inputs"
 
@@ -166,7 +167,7 @@ sums() {
 while read -r packets loose; do
     start "$packets packets and $loose loose bytes"
     given "$packets" "$loose"
-    run 0 "packets $packets filled 0 loose $loose" adapt plan ../inputs/given.ts out.ts
+    run 0 "packets $packets filled 0 loose $loose" adapt "$plan" ../inputs/given.ts out.ts
     holds out.ts "$packets"
     leaves out.ts
 done <<'end'
@@ -192,13 +193,13 @@ end
 
 start 'of 625 packets just bytes 0 of packets 0 and 624 change, from 47 to B8'
 given 625 0
-run 0 'packets 625 filled 0 loose 0' adapt plan ../inputs/given.ts out.ts
+run 0 'packets 625 filled 0 loose 0' adapt "$plan" ../inputs/given.ts out.ts
 are_marked ../inputs/given.ts out.ts 0 624
 
 start 'an existing longer output is replaced'
 given 3 5
 cp ../inputs/long.ts out.ts
-run 0 'packets 3 filled 0 loose 5' adapt plan ../inputs/given.ts out.ts
+run 0 'packets 3 filled 0 loose 5' adapt "$plan" ../inputs/given.ts out.ts
 holds out.ts 3
 leaves out.ts
 
@@ -207,18 +208,19 @@ start 'the example plan and the example stream'
 run 0 'packets 1300 filled 0 loose 0' adapt "$top/examples/two-sites.toml" in.ts out.ts
 are_marked in.ts out.ts 0 624 1248
 
-start 'a plan that is no plan is not read'
+start 'a plan that is no plan, and one that is not there'
 given 3 0
 echo 'start = ' >plan.toml
-run 0 'packets 3 filled 0 loose 0' adapt plan.toml ../inputs/given.ts out.ts
-holds out.ts 3
+run 5 'plan whole 0 text' adapt plan.toml ../inputs/given.ts out.ts
+run 4 'absent missing.toml' adapt missing.toml ../inputs/given.ts out.ts
+leaves plan.toml
 
 start 'packets of PIDs that differ in one bit from that of a placeholder'
 given 15 0
 for ((bit = 0; bit < 13; bit++)); do
     spoil $((bit + 1)) 47 "$(printf '%x' $((16#$placeholder ^ 1 << bit)))"
 done
-run 0 'packets 15 filled 0 loose 0' adapt plan ../inputs/given.ts out.ts
+run 0 'packets 15 filled 0 loose 0' adapt "$plan" ../inputs/given.ts out.ts
 are_marked ../inputs/given.ts out.ts 0
 
 # ---- Made streams ----
@@ -298,7 +300,7 @@ end
 
 start 'a feed has the symbols of its stream'
 given 1300 0
-run 0 'packets 1300 filled 0 loose 0' adapt plan ../inputs/given.ts feed.ts
+run 0 'packets 1300 filled 0 loose 0' adapt "$plan" ../inputs/given.ts feed.ts
 run 0 'packets 1300 segments 1305 loose 0' code feed.ts out.sym
 coded_front 1300
 leaves feed.ts out.sym
@@ -432,12 +434,12 @@ given 3 0
 while read -r name; do
     start "the name '$name', of an input, of an output and of what is missing"
     cp ../inputs/given.ts "./$name"
-    run 0 'packets 3 filled 0 loose 0' adapt plan "$name" out.ts
+    run 0 'packets 3 filled 0 loose 0' adapt "$plan" "$name" out.ts
     holds out.ts 3
-    run 0 'packets 3 filled 0 loose 0' adapt plan ../inputs/given.ts "$name"
+    run 0 'packets 3 filled 0 loose 0' adapt "$plan" ../inputs/given.ts "$name"
     holds "./$name" 3
     rm -f "./$name" out.ts
-    run 4 "absent $name" adapt plan "$name" out.ts
+    run 4 "absent $name" adapt "$plan" "$name" out.ts
     leaves_nothing
     run 4 "absent $name" code "$name" out.sym
     leaves_nothing
@@ -456,7 +458,7 @@ end
 start 'an input and an output by links'
 ln -s ../inputs/given.ts in.ts
 ln -s target.ts out.ts
-run 0 'packets 3 filled 0 loose 0' adapt plan in.ts out.ts
+run 0 'packets 3 filled 0 loose 0' adapt "$plan" in.ts out.ts
 holds target.ts 3
 [[ -L in.ts && -L out.ts ]] || wrong 'a link was replaced'
 leaves in.ts out.ts target.ts
@@ -464,8 +466,8 @@ leaves in.ts out.ts target.ts
 start 'names from another folder than that of the program, and whole paths'
 mkdir below
 cd below || exit 1
-run 0 'packets 3 filled 0 loose 0' adapt plan ../../inputs/given.ts ../out.ts
-run 0 'packets 3 filled 0 loose 0' adapt plan "$inputs/given.ts" "$folder/whole.ts"
+run 0 'packets 3 filled 0 loose 0' adapt "$plan" ../../inputs/given.ts ../out.ts
+run 0 'packets 3 filled 0 loose 0' adapt "$plan" "$inputs/given.ts" "$folder/whole.ts"
 cd ..
 holds out.ts 3
 holds whole.ts 3
@@ -474,7 +476,7 @@ leaves below out.ts whole.ts
 start 'the launcher by a link'
 ln -s "$dtx" linked
 program=(./linked)
-run 0 'packets 3 filled 0 loose 0' adapt plan ../inputs/given.ts out.ts
+run 0 'packets 3 filled 0 loose 0' adapt "$plan" ../inputs/given.ts out.ts
 program=("$dtx")
 holds out.ts 3
 
@@ -490,11 +492,11 @@ is_usage() {
 
 is_usage 'no words'
 is_usage 'a command alone' adapt
-is_usage 'a word too few' adapt plan ../inputs/given.ts
-is_usage 'a word too many' adapt plan ../inputs/given.ts out.ts more
+is_usage 'a word too few' adapt "$plan" ../inputs/given.ts
+is_usage 'a word too many' adapt "$plan" ../inputs/given.ts out.ts more
 is_usage 'an empty plan' adapt '' ../inputs/given.ts out.ts
-is_usage 'an empty input' adapt plan '' out.ts
-is_usage 'an empty output' adapt plan ../inputs/given.ts ''
+is_usage 'an empty input' adapt "$plan" '' out.ts
+is_usage 'an empty output' adapt "$plan" ../inputs/given.ts ''
 is_usage 'an empty command' '' plan ../inputs/given.ts out.ts
 is_usage 'a capital letter' Adapt plan ../inputs/given.ts out.ts
 is_usage 'a blank after the command' 'adapt ' plan ../inputs/given.ts out.ts
@@ -546,9 +548,9 @@ is_usage 'excite' excite ../inputs/given.ts 7 0 out.sym out.log
 is_usage 'net' net plan
 is_usage 'hurt' hurt ../inputs/given.ts changes out.ts
 
-while read -r shows plan input output named; do
+while read -r shows first input output named; do
     start "equal names: $shows"
-    run 3 "same $named" adapt "$plan" "$input" "$output"
+    run 3 "same $named" adapt "$first" "$input" "$output"
     leaves_nothing
 done <<'end'
 plan_and_input ../inputs/given.ts ../inputs/given.ts out.ts ../inputs/given.ts
@@ -567,7 +569,7 @@ run 3 'same ../inputs/given.ts' code ../inputs/given.ts ../inputs/given.ts
 leaves_nothing
 
 start 'a word that is not UTF-8'
-run 1 '' adapt plan ../inputs/given.ts $'out\xff.ts'
+run 1 '' adapt "$plan" ../inputs/given.ts $'out\xff.ts'
 leaves_nothing
 run 1 '' $'\xc3'
 leaves_nothing
@@ -583,26 +585,11 @@ while read -r packets spoils line; do
         IFS=: read -r index sync pid <<<"$each"
         spoil "$index" "$sync" "$pid"
     done
-    case $line in
-        packet*)
-            run 6 "$line" adapt plan ../inputs/given.ts out.ts
-            refused=${line#packet }
-            holds out.ts $((refused / 4 * 4))
-            ;;
-        *)
-            run 14 "$line" adapt plan ../inputs/given.ts out.ts
-            refused=${line#not built }
-            holds out.ts $((refused / 4 * 4))
-            ;;
-    esac
+    run 6 "$line" adapt "$plan" ../inputs/given.ts out.ts
+    refused=${line#packet }
+    holds out.ts $((refused / 4 * 4))
     leaves out.ts
 done <<'end'
-3 1:47:1ffa not built 1
-3 2:47:3ffa not built 2
-3 2:47:5ffa not built 2
-3 2:47:9ffa not built 2
-1 0:47:1ffa not built 0
-9 4:47:1ffa,8:48:31 not built 4
 9 3:48:31,5:47:1ffa packet 3
 2 1:48:31 packet 1
 1 0:48:31 packet 0
@@ -623,14 +610,13 @@ done <<'end'
 3000 1394:48:31 packet 1394
 3000 1401:48:31 packet 1401
 3000 2999:48:31 packet 2999
-3000 2999:47:1ffa not built 2999
 end
 
 start 'a refused packet replaces an older output'
 given 9 0
 spoil 5 48 31
 cp ../inputs/long.ts out.ts
-run 6 'packet 5' adapt plan ../inputs/given.ts out.ts
+run 6 'packet 5' adapt "$plan" ../inputs/given.ts out.ts
 holds out.ts 4
 
 # Of `code` byte 0 alone is judged, and the mark is allowed anywhere.
@@ -673,7 +659,7 @@ given 625 0
 inputs_before=$(sums)
 
 start 'a missing input'
-run 4 'absent missing.ts' adapt plan missing.ts out.ts
+run 4 'absent missing.ts' adapt "$plan" missing.ts out.ts
 leaves_nothing
 
 start 'a missing input of `code`'
@@ -711,39 +697,39 @@ start 'packets that fill up their output in mid-stream'
 fills_up 300 "$room/made.ts" receive "$room/made.sym" out.ts
 
 start 'an input in a folder that is not there'
-run 4 'absent nowhere/in.ts' adapt plan nowhere/in.ts out.ts
+run 4 'absent nowhere/in.ts' adapt "$plan" nowhere/in.ts out.ts
 leaves_nothing
 
 start 'a missing input leaves an older output'
 cp ../inputs/given.ts out.ts
-run 4 'absent missing.ts' adapt plan missing.ts out.ts
+run 4 'absent missing.ts' adapt "$plan" missing.ts out.ts
 cmp -s ../inputs/given.ts out.ts || wrong 'out.ts was changed'
 
 start 'an input that is a folder'
 mkdir in.ts
-run 11 'read fault' adapt plan in.ts out.ts
+run 11 'read fault' adapt "$plan" in.ts out.ts
 leaves in.ts
 
 start 'an input through a file as if that were a folder'
-run 11 'read fault' adapt plan ../inputs/given.ts/in.ts out.ts
+run 11 'read fault' adapt "$plan" ../inputs/given.ts/in.ts out.ts
 leaves_nothing
 
 start 'an output that is a folder'
 mkdir out.ts
-run 12 'write fault' adapt plan ../inputs/given.ts out.ts
+run 12 'write fault' adapt "$plan" ../inputs/given.ts out.ts
 leaves out.ts
 
 start 'an output in a folder that is not there'
-run 12 'write fault' adapt plan ../inputs/given.ts nowhere/out.ts
+run 12 'write fault' adapt "$plan" ../inputs/given.ts nowhere/out.ts
 leaves_nothing
 
 start 'a missing input comes before an output that cannot be'
-run 4 'absent missing.ts' adapt plan missing.ts nowhere/out.ts
+run 4 'absent missing.ts' adapt "$plan" missing.ts nowhere/out.ts
 leaves_nothing
 
 if [[ -r /proc/self/mem ]]; then
     start 'an input whose first byte cannot be read'
-    run 11 'read fault' adapt plan /proc/self/mem out.ts
+    run 11 'read fault' adapt "$plan" /proc/self/mem out.ts
     leaves_nothing
 fi
 
@@ -760,14 +746,14 @@ start 'a made stream whose output fills up'
 fills_up 300 "$room/made.ts" make 1 31200 out.ts
 
 start 'an output that fills up in mid-stream'
-fills_up 300 "$room/long.feed" adapt plan ../inputs/long.ts out.ts
+fills_up 300 "$room/long.feed" adapt "$plan" ../inputs/long.ts out.ts
 
 if [[ -c /dev/full ]]; then
     start 'a full device as the output'
-    run 12 'write fault' adapt plan ../inputs/given.ts /dev/full
+    run 12 'write fault' adapt "$plan" ../inputs/given.ts /dev/full
 
     start 'an empty feed fits a full device'
-    run 0 'packets 0 filled 0 loose 0' adapt plan ../inputs/empty.ts /dev/full
+    run 0 'packets 0 filled 0 loose 0' adapt "$plan" ../inputs/empty.ts /dev/full
 
     start 'a made stream for a full device'
     run 12 'write fault' make 1 4 /dev/full
@@ -800,7 +786,7 @@ if [[ -c /dev/full ]]; then
     leaves out.sym
 
     start 'a full standard output after Done'
-    "$dtx" adapt plan ../inputs/given.ts out.ts >/dev/full 2>"$room/complaint"
+    "$dtx" adapt "$plan" ../inputs/given.ts out.ts >/dev/full 2>"$room/complaint"
     ended 12 $?
     holds out.ts 625
     leaves out.ts
@@ -816,13 +802,13 @@ if [[ -c /dev/full ]]; then
     }
     refused_to_full 2 adapt
     refused_to_full 2 make 01 4 out.ts
-    refused_to_full 3 adapt plan plan out.ts
-    refused_to_full 4 adapt plan missing.ts out.ts
+    refused_to_full 3 adapt "$plan" plan out.ts
+    refused_to_full 4 adapt "$plan" missing.ts out.ts
     refused_to_full 4 code missing.ts out.sym
 fi
 
 start 'a closed standard output after Done'
-"$dtx" adapt plan ../inputs/given.ts out.ts >&- 2>"$room/complaint"
+"$dtx" adapt "$plan" ../inputs/given.ts out.ts >&- 2>"$room/complaint"
 ended 12 $?
 holds out.ts 625
 leaves out.ts
@@ -839,20 +825,20 @@ if [[ $("${program[@]}" 2>/dev/null) == "$usage" ]]; then
     start 'an output in a folder that may not be written'
     mkdir shut
     chmod 555 shut
-    run 12 'write fault' adapt plan ../inputs/given.ts shut/out.ts
+    run 12 'write fault' adapt "$plan" ../inputs/given.ts shut/out.ts
     leaves shut
 
     start 'an output that may not be written stays as it was'
     cp ../inputs/long.ts out.ts
     chmod 444 out.ts
-    run 12 'write fault' adapt plan ../inputs/given.ts out.ts
+    run 12 'write fault' adapt "$plan" ../inputs/given.ts out.ts
     cmp -s ../inputs/long.ts out.ts || wrong 'out.ts was changed'
 
     start 'an input that may not be read'
     chmod 777 .
     cp ../inputs/given.ts in.ts
     chmod 000 in.ts
-    run 11 'read fault' adapt plan in.ts out.ts
+    run 11 'read fault' adapt "$plan" in.ts out.ts
     leaves in.ts
 else
     echo 'black box: the cases of another user were left out, since root could not become nobody here'

@@ -10,3 +10,5 @@ pub mod Tally
 pub mod Reception
 pub mod Receive
 pub mod Received
+pub mod PlanFile
+pub mod Adapt

@@ -4,9 +4,11 @@
 mod adapt_job;
 mod code_job;
 mod feed;
+mod feeder;
 mod input;
 mod make_job;
 mod outcome;
+mod plan_file;
 mod receive_job;
 mod received;
 mod reception;
