@@ -1,6 +1,6 @@
 -- How receiving ends, over the bytes of the input.
-use Rattle.std.proofs.Common.{◌≡◌, ℕ, ◌+◌, ◌-◌, ◌*◌, ◌/◌, ◌%◌, ◌<◌, ◌≤◌, List, [], ◌∷◌, ◌++◌, length, refl, sym, ap, subst, ◌∙◌, arith, unwrap_or}
-use Rattle.std.specs.Prelude.{Option, Some, None, Result, Ok, Err, IfSome, IfErr, IsSome, IsSomeAnd, ℤ}
+use Rattle.std.proofs.Common.{◌≡◌, ℕ, ◌+◌, ◌-◌, ◌*◌, ◌%◌, ◌<◌, ◌≤◌, List, [], ◌∷◌, ◌++◌, length, refl, sym, ap, subst, ◌∙◌, arith, unwrap_or}
+use Rattle.std.specs.Prelude.{Option, Some, None, Result, Ok, Err, IfSome, IfErr, IsSome, ℤ}
 use Rattle.std.specs.FinMap.{get}
 use Rattle.std.specs.List.{flat_map}
 use Rattle.std.proofs.lemmas.List.FromFn.{length-map-range_with_len}
@@ -15,15 +15,14 @@ use Rattle.dtx_receiver.specs.Packets.{all_packets, given, packets_of}
 use Rattle.dtx_receiver.specs.Runs.{runs}
 use Rattle.dtx_words.specs.Status.{of_write}
 use Rattle.dtx_words.specs.declared.status.Status.{Status}
-use Rattle.dtx_words.specs.declared.status.Status.TheVariants.{Done, Usage, Same, Absent, Packet, TooLong, NoSync, ReadFault, WriteFault, Memory, NotBuilt}
-use Rattle.dtx_jobs.specs.Receive.{received_bytes, HasNoSync, AreItsNumbers, HasReceiveCause, HasPartOfPackets, IsReceivedLeft, IsReceivedEnd, IsEndRefusal}
+use Rattle.dtx_words.specs.declared.status.Status.TheVariants.{Done, Usage, Same, Absent, Plan, Packet, TooLong, NoSync, ReadFault, WriteFault, Memory}
+use Rattle.dtx_jobs.specs.Receive.{received_bytes, HasNoSync, HasReceiveCause, HasPartOfPackets, IsReceivedLeft, IsReceivedEnd, IsEndRefusal}
 use Rattle.dtx_jobs.specs.Reception.{bytes_of, IsReceiving}
 use Rattle.dtx_jobs.specs.declared.reception.Reception.{Reception}
 use Rattle.dtx_jobs.specs.declared.symbol_file.SymbolEnd.TheVariants.{Loose, Refused}
 use Rattle.dtx_jobs.specs.declared.symbol_file.SymbolPiece.{SymbolPiece}
 use Rattle.dtx_jobs.proofs.SoFar.{IsReceivedSoFar, IsPieceReceived}
 use Rattle.dtx_jobs.specs.SymbolFile.{segment_at, segments_from, segments_of, whole_segments, IsSymbolEnd, IsSymbolRefusal}
-use Rattle.dtx_jobs.specs.Tally.{tally_of}
 use Rattle.dtx_jobs.specs.declared.receive_job.Counted.{Counted}
 use Rattle.dtx_jobs.proofs.BytesOf.{bytes_of-all}
 use Rattle.dtx_jobs.proofs.GivenOn.{part_of_all_given}
@@ -62,7 +61,7 @@ unread_left start now output found Same is part = absurd is
 unread_left start now output found (Packet k) is part = absurd is
 unread_left start now output found NoSync is part = absurd is
 unread_left start now output found WriteFault is part = absurd is
-unread_left start now output found (NotBuilt k) is part = absurd is
+unread_left start now output found (Plan refusal) is part = absurd is
 
 too_long_cause : (found : Option (List ℕ)) (n : ℕ) → n ≡ 626000000 → IsSymbolEnd found n (Refused TooLong) → HasReceiveCause found (Err TooLong)
 too_long_cause None n most end = absurd end
@@ -80,7 +79,7 @@ unread_cause found n Same is most end = absurd is
 unread_cause found n (Packet k) is most end = absurd is
 unread_cause found n NoSync is most end = absurd is
 unread_cause found n WriteFault is most end = absurd is
-unread_cause found n (NotBuilt k) is most end = absurd is
+unread_cause found n (Plan refusal) is most end = absurd is
 
 -- the end of receiving, where writing was refused
 pub refused_end : (start now : Option Files) (output : List ℕ) (segments : List (List ℤ)) (loose : ℕ) (cause : WriteNo)
@@ -123,7 +122,7 @@ ended_cause start now output file loose (Err (Absent i)) most is end refusal = a
 ended_cause start now output file loose (Err (Packet k)) most is end refusal = absurd refusal
 ended_cause start now output file loose (Err TooLong) most is end refusal = absurd refusal
 ended_cause start now output file loose (Err ReadFault) most is end refusal = absurd refusal
-ended_cause start now output file loose (Err (NotBuilt k)) most is end refusal = absurd refusal
+ended_cause start now output file loose (Err (Plan broken)) most is end refusal = absurd refusal
 
 whole_written : (start now : Option Files) (output file : List ℕ) → IsWritten start output (bytes_of (all_packets (segments_of file))) now → IsWritten start output (received_bytes file) now
 whole_written start now output file written = subst (λ bytes. IsWritten start output bytes now) (sym (bytes_of-all (segments_of file))) written
@@ -148,7 +147,7 @@ ended_left start now output file loose (Err TooLong) end = whole_part start now 
 ended_left start now output file loose (Err ReadFault) end = whole_part start now output file end
 ended_left start now output file loose (Err WriteFault) end = whole_part start now output file end
 ended_left start now output file loose (Err Memory) end = whole_part start now output file end
-ended_left start now output file loose (Err (NotBuilt k)) end = whole_part start now output file end
+ended_left start now output file loose (Err (Plan refusal)) end = whole_part start now output file end
 
 -- both where the file ended with a piece
 pub record IsEnded (start : Option Files) (output : List ℕ) (found : Option (List ℕ)) (result : Result Counted Status) (now : Option Files) : Type 0 where

@@ -6,7 +6,7 @@ use Rattle.dtx_outside.specs.Shelf.{Files}
 use Rattle.dtx_words.specs.Names.{repeated}
 use Rattle.dtx_words.specs.Words.{ExciteWords, excite_names}
 use Rattle.dtx_words.specs.declared.status.Status.{Status}
-use Rattle.dtx_words.specs.declared.status.Status.TheVariants.{Done, Usage, Same, Absent, Packet, TooLong, NoSync, ReadFault, WriteFault, Memory, NotBuilt}
+use Rattle.dtx_words.specs.declared.status.Status.TheVariants.{Done, Usage, Same, Absent, Packet, TooLong, NoSync, ReadFault, WriteFault, Memory, Plan}
 use Rattle.dtx_jobs.specs.Excite.{HasExciteCause, ExciteLeavesAt, IsExciteEnd, IsExcitePerformed, IsExcitePerformRefusal}
 use Rattle.dtx_jobs.specs.Excited.{OfFeed, IsFeed, HasExciteJobCause, CanBeExcited, ExciteLeaves, excited_numbers, IsExciteOutcome}
 use Rattle.dtx_jobs.specs.Life.{numbers_in}
@@ -58,7 +58,7 @@ of_told asked told now WriteFault apart is = is
 of_told asked told now Memory apart is = is
 of_told asked told now Usage apart is = is
 of_told asked told now (Packet k) apart is = is
-of_told asked told now (NotBuilt k) apart is = is
+of_told asked told now (Plan refusal) apart is = is
 of_told asked told now Done apart is = is
 
 absent_at : (asked : ExciteWords) (told now : Option Files) (i : ℕ) → IfSome told (λ held. IsExciteEnd asked held (Err (Absent i)) now) → IfSome told (λ held. get held asked.feed ≡ None)
@@ -85,7 +85,7 @@ refused_cause asked told now missed misread miswritten Memory is h miss read wri
 refused_cause asked told now missed misread miswritten NoSync is h miss read write = absurd h
 refused_cause asked told now missed misread miswritten Usage is h miss read write = absurd h
 refused_cause asked told now missed misread miswritten (Packet k) is h miss read write = absurd h
-refused_cause asked told now missed misread miswritten (NotBuilt k) is h miss read write = absurd h
+refused_cause asked told now missed misread miswritten (Plan refusal) is h miss read write = absurd h
 refused_cause asked told now missed misread miswritten Done is h miss read write = absurd h
 
 -- a feed that can be read is refused for faults or want of memory alone
@@ -102,7 +102,7 @@ able_at asked (Some file) Memory can h apart cause = inr (inr refl)
 able_at asked (Some file) NoSync can h apart cause = absurd h
 able_at asked (Some file) Usage can h apart cause = absurd h
 able_at asked (Some file) (Packet k) can h apart cause = absurd h
-able_at asked (Some file) (NotBuilt k) can h apart cause = absurd h
+able_at asked (Some file) (Plan refusal) can h apart cause = absurd h
 able_at asked (Some file) Done can h apart cause = absurd h
 
 -- names that differ are no cause for `Same`
@@ -116,7 +116,7 @@ not_same asked told now WriteFault none is = λ e. cc
 not_same asked told now Memory none is = λ e. cc
 not_same asked told now Usage none is = λ e. cc
 not_same asked told now (Packet k) none is = λ e. cc
-not_same asked told now (NotBuilt k) none is = λ e. cc
+not_same asked told now (Plan refusal) none is = λ e. cc
 not_same asked told now Done none is = λ e. cc
 
 able : (asked : ExciteWords) (told now : Option Files) (status : Status) → CanBeExcited asked told → IsExcitePerformRefusal status → IsExcitePerformed asked told (Err status) now
@@ -151,7 +151,7 @@ refused_left asked told now Memory h is = end_left asked told now Memory is
 refused_left asked told now NoSync h is = absurd h
 refused_left asked told now Usage h is = absurd h
 refused_left asked told now (Packet k) h is = absurd h
-refused_left asked told now (NotBuilt k) h is = absurd h
+refused_left asked told now (Plan refusal) h is = absurd h
 refused_left asked told now Done h is = absurd h
 
 not_done : (status : Status) → IsExcitePerformRefusal status → status ≢ Done

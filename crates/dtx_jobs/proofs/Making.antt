@@ -11,7 +11,7 @@ use Rattle.dtx_outside.proofs.Written.{begun_written, gathered_of_written, part_
 use Rattle.dtx_jobs.specs.Make.{ordered, HasMakeCause, IsMadeLeft, IsMakeOutcome, IsMakeRefusal, IsUntouchedOrBegun, MakeLeaves}
 use Rattle.dtx_words.specs.Words.{MakeWords}
 use Rattle.dtx_words.specs.declared.status.Status.{Status}
-use Rattle.dtx_words.specs.declared.status.Status.TheVariants.{Done, Usage, Same, Absent, Packet, TooLong, NoSync, ReadFault, WriteFault, Memory, NotBuilt}
+use Rattle.dtx_words.specs.declared.status.Status.TheVariants.{Done, Usage, Same, Absent, Plan, Packet, TooLong, NoSync, ReadFault, WriteFault, Memory}
 
 -- nothing is made yet
 pub made_none : (start now : Option Files) (output gathered : List ℕ) (seed : ℕ) → gathered ≡ [] → IsWritten start output [] now
@@ -61,7 +61,7 @@ refused_cause miswritten (Absent i) h fault = absurd h
 refused_cause miswritten (Packet k) h fault = absurd h
 refused_cause miswritten TooLong h fault = absurd h
 refused_cause miswritten ReadFault h fault = absurd h
-refused_cause miswritten (NotBuilt k) h fault = absurd h
+refused_cause miswritten (Plan refusal) h fault = absurd h
 
 refused_complete : (miswritten : Type 0) (status : Status) → IsMakeRefusal status → (status ≡ WriteFault → miswritten) → ¬ miswritten → (status ≡ Done) ⊎ (status ≡ Memory)
 refused_complete miswritten WriteFault h fault none = absurd (none (fault refl))
@@ -74,7 +74,7 @@ refused_complete miswritten (Absent i) h fault none = absurd h
 refused_complete miswritten (Packet k) h fault none = absurd h
 refused_complete miswritten TooLong h fault none = absurd h
 refused_complete miswritten ReadFault h fault none = absurd h
-refused_complete miswritten (NotBuilt k) h fault none = absurd h
+refused_complete miswritten (Plan refusal) h fault none = absurd h
 
 refused_left : (words : MakeWords) (told now : Option Files) (status : Status) → IsMakeRefusal status → IsMadeLeft words told (Err status) now → MakeLeaves words told status now
 refused_left words told now WriteFault h left = left
@@ -87,7 +87,7 @@ refused_left words told now (Absent i) h left = absurd h
 refused_left words told now (Packet k) h left = absurd h
 refused_left words told now TooLong h left = absurd h
 refused_left words told now ReadFault h left = absurd h
-refused_left words told now (NotBuilt k) h left = absurd h
+refused_left words told now (Plan refusal) h left = absurd h
 
 not_done : (status : Status) → IsMakeRefusal status → status ≢ Done
 not_done Done h e = absurd h

@@ -8,7 +8,7 @@ use Rattle.dtx_packets.specs.Packets.{packet_at, whole_packets, packets_of}
 use Rattle.dtx_coder.specs.Stream.{a53}
 use Rattle.dtx_words.specs.Names.{repeated}
 use Rattle.dtx_words.specs.declared.status.Status.{Status}
-use Rattle.dtx_words.specs.declared.status.Status.TheVariants.{Done, Usage, Same, Absent, Packet, TooLong, NoSync, ReadFault, WriteFault, Memory, NotBuilt}
+use Rattle.dtx_words.specs.declared.status.Status.TheVariants.{Done, Usage, Same, Absent, Plan, Packet, TooLong, NoSync, ReadFault, WriteFault, Memory}
 use Rattle.dtx_jobs.specs.Output.{HasCauseIn, HasAskedCause}
 use Rattle.dtx_jobs.specs.Stream.{IsAbsent}
 use Rattle.dtx_jobs.specs.Work.{Work, OfInput, IsPlainFile, AreItsNumbers, IsItsMiddle, CanBeDone, HasJobCause, HasPerformCause, IsOutcome, IsPerformRefusal, Leaves, PerformLeaves}
@@ -79,7 +79,7 @@ refused_cause work told missed misread miswritten NoSync cause h miss read write
 refused_cause work told missed misread miswritten Same cause h miss read write = cause
 refused_cause work told missed misread miswritten (Absent i) cause h miss read write = (h, miss h, absent_at told work i cause)
 refused_cause work told missed misread miswritten (Packet k) cause h miss read write = cause
-refused_cause work told missed misread miswritten (NotBuilt k) cause h miss read write = (h, cause)
+refused_cause work told missed misread miswritten (Plan refusal) cause h miss read write = absurd h
 refused_cause work told missed misread miswritten TooLong cause h miss read write = cause
 refused_cause work told missed misread miswritten ReadFault cause h miss read write = read refl
 refused_cause work told missed misread miswritten WriteFault cause h miss read write = (write refl, cause)
@@ -99,9 +99,8 @@ able_at source (Some file) NoSync able cause = absurd cause
 able_at source (Some file) Same able cause = absurd cause
 able_at source (Some file) (Absent i) able cause = let e = cause.1 in cc
 able_at source (Some file) (Packet k) able cause =
-    let stop = cause.0 in absurd (cause.1 (able.0.plain k stop.behind (omega (arith, stop.whole))).0)
-able_at source (Some file) (NotBuilt k) able cause =
-    let stop = cause.0 in absurd ((able.0.plain k stop.behind (omega (arith, stop.whole))).1 cause.2)
+    let stop = cause.0 in absurd (cause.1 (able.0.plain k stop.behind (omega (arith, stop.whole))))
+able_at source (Some file) (Plan refusal) able cause = absurd cause
 able_at source (Some file) TooLong able cause = absurd (omega (arith, able.1, cause.1))
 able_at source (Some file) ReadFault able cause = inl refl
 able_at source (Some file) WriteFault able cause = inr (inl refl)
@@ -119,7 +118,7 @@ asked_able source found (Packet k) able cause = able_at source found (Packet k) 
 asked_able source found TooLong able cause = able_at source found TooLong able cause
 asked_able source found ReadFault able cause = able_at source found ReadFault able cause
 asked_able source found Memory able cause = able_at source found Memory able cause
-asked_able source found (NotBuilt k) able cause = able_at source found (NotBuilt k) able cause
+asked_able source found (Plan refusal) able cause = able_at source found (Plan refusal) able cause
 
 not_twice : (o : Option (List ℕ)) → o ≡ None → IsSome o → ⊥
 not_twice None e some = cc
@@ -138,7 +137,7 @@ able work (Some held) TooLong can cause = asked_able work.source (get held work.
 able work (Some held) ReadFault can cause = asked_able work.source (get held work.input) ReadFault can.1 cause
 able work (Some held) WriteFault can cause = asked_able work.source (get held work.input) WriteFault can.1 cause
 able work (Some held) Memory can cause = asked_able work.source (get held work.input) Memory can.1 cause
-able work (Some held) (NotBuilt k) can cause = asked_able work.source (get held work.input) (NotBuilt k) can.1 cause
+able work (Some held) (Plan refusal) can cause = asked_able work.source (get held work.input) (Plan refusal) can.1 cause
 
 refused_complete : (misread miswritten : Type 0) (status : Status) → (status ≡ ReadFault) ⊎ (status ≡ WriteFault) ⊎ (status ≡ Memory)
     → (status ≡ ReadFault → misread) → (status ≡ WriteFault → miswritten) → ¬ misread → ¬ miswritten → (status ≡ Done) ⊎ (status ≡ Memory)
@@ -159,7 +158,7 @@ refused_left work told now NoSync h left = absurd h
 refused_left work told now Same h left = same_left told now left
 refused_left work told now (Absent i) h left = left
 refused_left work told now (Packet k) h left = left
-refused_left work told now (NotBuilt k) h left = left
+refused_left work told now (Plan refusal) h left = absurd h
 refused_left work told now TooLong h left = left
 refused_left work told now ReadFault h left = left
 refused_left work told now WriteFault h left = left

@@ -13,8 +13,8 @@ use Rattle.dtx_jobs.specs.declared.stream.Counts.{Counts}
 use Rattle.dtx_jobs.specs.declared.stream.Piece.{Piece}
 use Rattle.dtx_jobs.specs.declared.stream.Source.{Source}
 use Rattle.dtx_words.specs.declared.status.Status.{Status}
-use Rattle.dtx_words.specs.declared.status.Status.TheVariants.{Done, Usage, Same, Absent, Packet, TooLong, NoSync, ReadFault, WriteFault, Memory, NotBuilt}
-use Rattle.dtx_jobs.specs.Stream.{IsPlain, IsAllowed, IsUnbuilt, IsFront, IsFirstStop, IsJudged, IsJudgedPiece, IsEnding, IsCutAtGroup, IsPiece}
+use Rattle.dtx_words.specs.declared.status.Status.TheVariants.{Done, Usage, Same, Absent, Plan, Packet, TooLong, NoSync, ReadFault, WriteFault, Memory}
+use Rattle.dtx_jobs.specs.Stream.{IsAllowed, IsFront, IsFirstStop, IsJudged, IsJudgedPiece, IsEnding, IsCutAtGroup, IsPiece}
 
 -- packet k of a stretch of the file
 packet_in : (file : List ℕ) (first n k : ℕ) → k < n → get_or (packets_from file first n) k [] ≡ packet_at file (first + k)
@@ -22,9 +22,9 @@ packet_in file first n k within = get_or-map-range_with_len (packet_at file) fir
 
 -- plain packets of a stretch are plain in the file
 plain_in : (source : Source) (file : List ℕ) (first n count : ℕ) (ps : List (List ℕ)) → ps ≡ packets_from file first n → count ≤ n
-    → ((k : ℕ) → k < count → IsPlain source (slice_index_or ps k [])) → (k : ℕ) → k < count → IsPlain source (packet_at file (first + k))
+    → ((k : ℕ) → k < count → IsAllowed source (slice_index_or ps k [])) → (k : ℕ) → k < count → IsAllowed source (packet_at file (first + k))
 plain_in source file first n count ps same within plain k below =
-    subst (IsPlain source) (ap (λ qs. get_or qs k []) same ∙ packet_in file first n k (omega arith)) (plain k below)
+    subst (IsAllowed source) (ap (λ qs. get_or qs k []) same ∙ packet_in file first n k (omega arith)) (plain k below)
 
 take_in : (file : List ℕ) (first n count : ℕ) (all : List (List ℕ)) → take n all ≡ packets_from file first n → count ≤ n
     → take count all ≡ packets_from file first count
@@ -32,16 +32,16 @@ take_in file first n count all same within =
     sym (take-take count n all within) ∙ ap (take count) same ∙ take-map-range_with_len (packet_at file) first n count within
 
 stop_at : (source : Source) (file : List ℕ) (first n m j : ℕ) → first + n ≤ whole_packets file → first + n ≤ 624000000 → m < n
-    → ((k : ℕ) → k < m → IsPlain source (packet_at file (first + k))) → j ≡ first + m → IsFirstStop source file first j
+    → ((k : ℕ) → k < m → IsAllowed source (packet_at file (first + k))) → j ≡ first + m → IsFirstStop source file first j
 stop_at source file first n m j whole allowed within plain is = record {
   behind = omega (arith, is);
   whole = omega (arith, is, whole, within);
   allowed = omega (arith, is, allowed, within);
-  plain = λ i behind below. subst (λ k. IsPlain source (packet_at file k)) (omega (arith, behind)) (plain (i - first) (omega (arith, behind, below, is)));
+  plain = λ i behind below. subst (λ k. IsAllowed source (packet_at file k)) (omega (arith, behind)) (plain (i - first) (omega (arith, behind, below, is)));
 }
 
 front_in : (source : Source) (file : List ℕ) (first n count : ℕ) (all : List (List ℕ)) → take n all ≡ packets_from file first n → first + n ≤ whole_packets file → count ≤ n
-    → ((k : ℕ) → k < count → IsPlain source (packet_at file (first + k))) → IsFront source file first (take count all)
+    → ((k : ℕ) → k < count → IsAllowed source (packet_at file (first + k))) → IsFront source file first (take count all)
 front_in source file first n count all same whole within plain =
     let taken : take count all ≡ packets_from file first count = take_in file first n count all same within in
     let long : length (take count all) ≡ count = ap length taken ∙ length-map-range_with_len (packet_at file) first count in
@@ -49,21 +49,19 @@ front_in source file first n count all same whole within plain =
       same = taken ∙ ap (packets_from file first) (sym long);
       plain = record {
         whole = omega (arith, long, whole, within);
-        plain = λ k behind below. subst (λ i. IsPlain source (packet_at file i)) (omega (arith, behind)) (plain (k - first) (omega (arith, behind, below, long)));
+        plain = λ k behind below. subst (λ i. IsAllowed source (packet_at file i)) (omega (arith, behind)) (plain (k - first) (omega (arith, behind, below, long)));
       };
     }
 
 -- the next packet of a stretch, where one ends it
 stop_in : (source : Source) (file : List ℕ) (first n m : ℕ) (ps : List (List ℕ)) (status : Status) → ps ≡ packets_from file first n → first + n ≤ whole_packets file → first + n ≤ 624000000 → m < n
-    → ((k : ℕ) → k < m → IsPlain source (packet_at file (first + k))) → IsJudged source (first + m) (slice_index_or ps m []) (Err status)
+    → ((k : ℕ) → k < m → IsAllowed source (packet_at file (first + k))) → IsJudged source (first + m) (slice_index_or ps m []) (Err status)
     → IsEnding source (Some file) first (Err status)
 stop_in source file first n m ps (Packet j) same whole allowed within plain judged = (
   stop_at source file first n m j whole allowed within plain judged.0,
   λ allowed. judged.1 (subst (IsAllowed source) (ap (packet_at file) judged.0 ∙ sym (ap (λ qs. get_or qs m []) same ∙ packet_in file first n m within)) allowed),
 )
-stop_in source file first n m ps (NotBuilt j) same whole allowed within plain judged =
-    let is : slice_index_or ps m [] ≡ packet_at file j = ap (λ qs. get_or qs m []) same ∙ packet_in file first n m within ∙ ap (packet_at file) (sym judged.0) in
-    (stop_at source file first n m j whole allowed within plain judged.0, subst (IsAllowed source) is judged.1, subst (IsUnbuilt source) is judged.2)
+stop_in source file first n m ps (Plan refusal) same whole allowed within plain judged = absurd judged
 stop_in source file first n m ps Done same whole allowed within plain judged = absurd judged
 stop_in source file first n m ps Usage same whole allowed within plain judged = absurd judged
 stop_in source file first n m ps NoSync same whole allowed within plain judged = absurd judged
@@ -77,7 +75,7 @@ stop_in source file first n m ps Memory same whole allowed within plain judged =
 cut_in : (source : Source) (first m count : ℕ) (p : List ℕ) (status : Status) → count ≡ 4 * ((first + m) / 4) - first → IsJudged source (first + m) p (Err status)
     → IsCutAtGroup first count (Err status)
 cut_in source first m count p (Packet j) is judged = λ group. omega (arith, is, judged.0, group)
-cut_in source first m count p (NotBuilt j) is judged = λ group. omega (arith, is, judged.0, group)
+cut_in source first m count p (Plan refusal) is judged = tt
 cut_in source first m count p Done is judged = tt
 cut_in source first m count p Usage is judged = tt
 cut_in source first m count p NoSync is judged = tt

@@ -1,16 +1,16 @@
 -- What receiving leaves, from the asking for its input on.
 use Rattle.std.proofs.Common.{◌≡◌, ◌≢◌, ◌⊎◌, ℕ, List, [], refl, sym, ap, subst, ◌∙◌, inl, inr, unwrap_or}
-use Rattle.std.specs.Prelude.{Option, Some, None, Result, Ok, Err, IfSome, IfErr, IsSome}
+use Rattle.std.specs.Prelude.{Option, Some, None, Result, Ok, Err, IfSome, IsSome}
 use Rattle.std.specs.FinMap.{get}
 use Rattle.dtx_outside.specs.Shelf.{Files, with_file, IsBegun}
-use Rattle.dtx_outside.specs.Written.{IsWritten, IsPartWritten}
+use Rattle.dtx_outside.specs.Written.{IsWritten}
 use Rattle.dtx_outside.specs.declared.shelf.WriteNo.{WriteNo}
 use Rattle.dtx_outside.specs.declared.shelf.WriteNo.TheVariants as write
 use Rattle.dtx_outside.specs.Laws.{insert-insert}
 use Rattle.dtx_outside.proofs.Written.{at_written, IsSameAt-written, from_same_at, begun_written, part_of_written, part_of_more}
 use Rattle.dtx_words.specs.Status.{of_write}
 use Rattle.dtx_words.specs.declared.status.Status.{Status}
-use Rattle.dtx_words.specs.declared.status.Status.TheVariants.{Done, Usage, Same, Absent, Packet, TooLong, NoSync, ReadFault, WriteFault, Memory, NotBuilt}
+use Rattle.dtx_words.specs.declared.status.Status.TheVariants.{Done, Usage, Same, Absent, Plan, Packet, TooLong, NoSync, ReadFault, WriteFault, Memory}
 use Rattle.dtx_jobs.specs.Input.{IsAsked, IsAskRefusal}
 use Rattle.dtx_jobs.specs.Receive.{received_bytes, HasReceiveCause, HasPartOfPackets, IsReceivedLeft, IsUntouchedOrPart, ReceiveBegunLeft, ReceiveLeavesAt, IsReceiveRefusal}
 use Rattle.dtx_jobs.specs.declared.receive_job.Counted.{Counted}
@@ -36,7 +36,7 @@ left_from held output found (Err Done) now left = part_from held output found no
 left_from held output found (Err Usage) now left = part_from held output found now left
 left_from held output found (Err Same) now left = part_from held output found now left
 left_from held output found (Err (Packet k)) now left = part_from held output found now left
-left_from held output found (Err (NotBuilt k)) now left = part_from held output found now left
+left_from held output found (Err (Plan refusal)) now left = part_from held output found now left
 
 -- nothing was touched, or nothing was written yet
 not_begun_at : (held : Files) (now : Option Files) (output : List ℕ) (found : Option (List ℕ)) → (now ≡ Some held) ⊎ IsWritten (Some held) output [] now
@@ -89,7 +89,7 @@ asked_refusal Done h = absurd h
 asked_refusal Usage h = absurd h
 asked_refusal Same h = absurd h
 asked_refusal (Packet k) h = absurd h
-asked_refusal (NotBuilt k) h = absurd h
+asked_refusal (Plan refusal) h = absurd h
 asked_refusal TooLong h = absurd h
 asked_refusal NoSync h = absurd h
 asked_refusal WriteFault h = absurd h
@@ -102,7 +102,7 @@ asked_cause found Done h = absurd h
 asked_cause found Usage h = absurd h
 asked_cause found Same h = absurd h
 asked_cause found (Packet k) h = absurd h
-asked_cause found (NotBuilt k) h = absurd h
+asked_cause found (Plan refusal) h = absurd h
 asked_cause found TooLong h = absurd h
 asked_cause found NoSync h = absurd h
 asked_cause found WriteFault h = absurd h
@@ -116,7 +116,7 @@ asked_left held output found Done now h same = absurd h
 asked_left held output found Usage now h same = absurd h
 asked_left held output found Same now h same = absurd h
 asked_left held output found (Packet k) now h same = absurd h
-asked_left held output found (NotBuilt k) now h same = absurd h
+asked_left held output found (Plan refusal) now h same = absurd h
 asked_left held output found TooLong now h same = absurd h
 asked_left held output found NoSync now h same = absurd h
 asked_left held output found WriteFault now h same = absurd h
@@ -158,7 +158,7 @@ made_left held output found (Err Done) now some cause left = inr left
 made_left held output found (Err Usage) now some cause left = inr left
 made_left held output found (Err Same) now some cause left = inr left
 made_left held output found (Err (Packet k)) now some cause left = inr left
-made_left held output found (Err (NotBuilt k)) now some cause left = inr left
+made_left held output found (Err (Plan refusal)) now some cause left = inr left
 
 pub made_leaves : (told now after : Option Files) (input output : List ℕ) (result : Result Counted Status) → now ≡ told → IfSome told (λ held. IsAsked (get held input) 0 (Ok tt))
     → IfSome now (λ held. IsSome (get held input) → HasReceiveCause (get held input) result) → IfSome now (λ held. ReceiveBegunLeft held output (get held input) result after)

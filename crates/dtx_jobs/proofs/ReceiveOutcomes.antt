@@ -1,14 +1,13 @@
 -- What comes of `receive`, once its input was received or refused.
-use Rattle.std.proofs.Common.{◌≡◌, ◌≢◌, ◌⊎◌, ℕ, ◌<◌, ◌≤◌, List, [], ◌∷◌, refl, sym, ap, subst, ◌∙◌, arith, inl, inr, unwrap_or}
+use Rattle.std.proofs.Common.{◌≡◌, ◌≢◌, ◌⊎◌, ℕ, List, refl, sym, ap, subst, ◌∙◌, arith, inl, inr}
 use Rattle.std.specs.Prelude.{Option, Some, None, Result, Ok, Err, IfSome, IsSome, IsSomeAnd}
 use Rattle.std.specs.FinMap.{get}
 use Rattle.dtx_outside.specs.Shelf.{Files}
-use Rattle.dtx_outside.specs.Written.{IsWritten}
 use Rattle.dtx_words.specs.Names.{repeated}
 use Rattle.dtx_words.specs.Words.{ReceiveWords, receive_names}
 use Rattle.dtx_words.specs.declared.status.Status.{Status}
-use Rattle.dtx_words.specs.declared.status.Status.TheVariants.{Done, Usage, Same, Absent, Packet, TooLong, NoSync, ReadFault, WriteFault, Memory, NotBuilt}
-use Rattle.dtx_jobs.specs.Receive.{received_bytes, HasReceiveCause, HasReceivePerformCause, IsReceivePerformRefusal, IsReceivedLeft, ReceiveLeavesAt, ReceivePerformLeaves}
+use Rattle.dtx_words.specs.declared.status.Status.TheVariants.{Done, Usage, Same, Absent, Plan, Packet, TooLong, NoSync, ReadFault, WriteFault, Memory}
+use Rattle.dtx_jobs.specs.Receive.{HasReceiveCause, HasReceivePerformCause, IsReceivePerformRefusal, IsReceivedLeft, ReceivePerformLeaves}
 use Rattle.dtx_jobs.specs.Received.{OfSymbols, IsReceivable, HasReceiveJobCause, CanBeReceived, StatusLeaves, ReceiveLeaves, numbers_in, received_numbers, IsReceiveOutcome}
 use Rattle.dtx_jobs.specs.declared.receive_job.Counted.{Counted}
 
@@ -77,7 +76,7 @@ refused_cause asked told missed misread miswritten WriteFault cause h miss read 
 refused_cause asked told missed misread miswritten Memory cause h miss read write = tt
 refused_cause asked told missed misread miswritten Usage cause h miss read write = absurd h
 refused_cause asked told missed misread miswritten (Packet k) cause h miss read write = absurd h
-refused_cause asked told missed misread miswritten (NotBuilt k) cause h miss read write = absurd h
+refused_cause asked told missed misread miswritten (Plan refusal) cause h miss read write = absurd h
 refused_cause asked told missed misread miswritten Done cause h miss read write = absurd h
 
 refused_same : (status : Status) → refused status ≡ Err Same → status ≡ Same
@@ -97,7 +96,7 @@ able_at (Some file) WriteFault can h apart cause = inr (inl refl)
 able_at (Some file) Memory can h apart cause = inr (inr refl)
 able_at (Some file) Usage can h apart cause = absurd h
 able_at (Some file) (Packet k) can h apart cause = absurd h
-able_at (Some file) (NotBuilt k) can h apart cause = absurd h
+able_at (Some file) (Plan refusal) can h apart cause = absurd h
 able_at (Some file) Done can h apart cause = absurd h
 
 of_told : (asked : ReceiveWords) (held : Files) (status : Status) → status ≢ Same → HasReceivePerformCause asked (Some held) (Err status) → HasReceiveCause (get held asked.input) (Err status)
@@ -110,7 +109,7 @@ of_told asked held WriteFault apart cause = cause
 of_told asked held Memory apart cause = cause
 of_told asked held Usage apart cause = cause
 of_told asked held (Packet k) apart cause = cause
-of_told asked held (NotBuilt k) apart cause = cause
+of_told asked held (Plan refusal) apart cause = cause
 of_told asked held Done apart cause = cause
 
 same_twice : (asked : ReceiveWords) (told : Option Files) (status : Status) → repeated (receive_names asked) ≡ None → HasReceivePerformCause asked told (Err status) → status ≢ Same
@@ -123,7 +122,7 @@ same_twice asked told WriteFault none cause = λ e. cc
 same_twice asked told Memory none cause = λ e. cc
 same_twice asked told Usage none cause = λ e. cc
 same_twice asked told (Packet k) none cause = λ e. cc
-same_twice asked told (NotBuilt k) none cause = λ e. cc
+same_twice asked told (Plan refusal) none cause = λ e. cc
 same_twice asked told Done none cause = λ e. cc
 
 able : (asked : ReceiveWords) (told : Option Files) (status : Status) → CanBeReceived asked told → IsReceivePerformRefusal status → HasReceivePerformCause asked told (Err status)
@@ -153,7 +152,7 @@ refused_left asked told now WriteFault h left = left
 refused_left asked told now Memory h left = left
 refused_left asked told now Usage h left = absurd h
 refused_left asked told now (Packet k) h left = absurd h
-refused_left asked told now (NotBuilt k) h left = absurd h
+refused_left asked told now (Plan refusal) h left = absurd h
 refused_left asked told now Done h left = absurd h
 
 not_done : (status : Status) → IsReceivePerformRefusal status → status ≢ Done

@@ -12,22 +12,15 @@ use Rattle.dtx_coder.specs.Stream.{a53, group_segments, symbols_of, a53_symbols,
 use Rattle.dtx_coder.proofs.Next.{next_segments, next_stands, new_stands, a53_nothing}
 use Rattle.dtx_coder.proofs.Stream.{a53_from, a53_whole}
 use Rattle.dtx_packets.specs.declared.packet.Packet as packet
-use Rattle.dtx_jobs.specs.Output.{made_of}
 use Rattle.dtx_jobs.specs.Symbols.{byte_of_symbol, symbol_bytes, in_groups, IsCodingOf}
-use Rattle.dtx_jobs.specs.declared.stream.Source.{Source}
-use Rattle.dtx_jobs.specs.declared.stream.Source.TheVariants.{Adapted, Coded}
 use Rattle.dtx_jobs.specs.declared.stream_coder.StreamCoder.{StreamCoder}
 
 -- ---- no packets
 
-symbols_none : symbol_bytes [] ≡ []
+-- no packets have no symbols
+pub symbols_none : symbol_bytes [] ≡ []
 unfolding a53_symbols
 symbols_none = ap (λ ss. map byte_of_symbol (symbols_of ss)) a53_nothing
-
--- of no packets nothing is made
-pub made_none : (source : Source) → made_of source [] ≡ []
-made_none Adapted = refl
-made_none Coded = symbols_none
 
 -- a new coder was given none
 pub nothing_given : (state : StreamCoder) → state.coder ≡ new_coding → IsCodingOf state []

@@ -19,8 +19,8 @@ OfFeed asked told P = IfSome told (λ held. IsSomeAnd (get held asked.feed) P)
 abbrev pub IsFeed : List ℕ → Type 0
 IsFeed file = whole_packets file ≤ most_packets
 
--- The cause of each answer: a file was missed, reading failed, writing failed. Where the files are told these exclude each other, but
--- for want of memory and for faults.
+-- The cause of each answer: a file was missed, reading failed, writing failed. Where the files are told and the names differ these
+-- exclude each other, but for want of memory and for faults.
 abbrev pub HasExciteJobCause : ExciteWords → Option Files → Type 0 → Type 0 → Type 0 → Status → Type 0
 HasExciteJobCause asked told missed misread miswritten Done = OfFeed asked told IsFeed
 HasExciteJobCause asked told missed misread miswritten Same = IsSome (repeated (excite_names asked))

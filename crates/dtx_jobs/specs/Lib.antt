@@ -15,3 +15,5 @@ pub mod Life
 pub mod TwoFiles
 pub mod Excite
 pub mod Excited
+pub mod PlanFile
+pub mod Adapt

@@ -22,8 +22,8 @@ OfSymbols asked told P = IfSome told (λ held. IsSomeAnd (get held asked.input) 
 abbrev pub IsReceivable : List ℕ → Type 0
 IsReceivable file = (whole_segments file ≤ most_segments) × ¬ HasNoSync file
 
--- The cause of each answer: a file was missed, reading failed, writing failed. Where the files are told these exclude each other, but
--- for want of memory and for faults.
+-- The cause of each answer: a file was missed, reading failed, writing failed. Where the files are told and the names differ these
+-- exclude each other, but for want of memory and for faults.
 abbrev pub HasReceiveJobCause : ReceiveWords → Option Files → Type 0 → Type 0 → Type 0 → Status → Type 0
 HasReceiveJobCause asked told missed misread miswritten Done = OfSymbols asked told IsReceivable
 HasReceiveJobCause asked told missed misread miswritten Same = IsSome (repeated (receive_names asked))

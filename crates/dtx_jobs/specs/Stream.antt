@@ -1,6 +1,6 @@
 -- The packets of a stream that a command reads, and why reading it ends.
 use Rattle.std.specs.Prelude.{◌≡◌, ◌⊎◌, ℕ, ◌+◌, ◌-◌, ◌*◌, ◌/◌, ◌%◌, ◌<◌, ◌≤◌, List, [], length, take, slice_index_or, Option, None, Result, Ok, Err, IfSome, IsSomeAnd, MatchOption}
-use Rattle.dtx_packets.specs.Packet.{sync_of, pid_of}
+use Rattle.dtx_packets.specs.Packet.{sync_of}
 use Rattle.dtx_packets.specs.Packets.{packet_at, whole_packets, packets_from}
 use Rattle.dtx_jobs.specs.declared.stream.Counts.{Counts}
 use Rattle.dtx_jobs.specs.declared.stream.Piece.{Piece}
@@ -8,7 +8,7 @@ use Rattle.dtx_jobs.specs.declared.stream.Source.{Source}
 use Rattle.dtx_jobs.specs.declared.stream.Source.TheVariants.{Adapted, Coded}
 use Rattle.dtx_jobs.specs.declared.stream.Stop.{Stop}
 use Rattle.dtx_words.specs.declared.status.Status.{Status}
-use Rattle.dtx_words.specs.declared.status.Status.TheVariants.{Absent, Packet, TooLong, ReadFault, WriteFault, Memory, NotBuilt}
+use Rattle.dtx_words.specs.declared.status.Status.TheVariants.{Absent, Packet, TooLong, ReadFault, WriteFault, Memory}
 
 -- which input of its command the stream is
 abbrev pub input_of : Source → ℕ
@@ -20,48 +20,29 @@ abbrev pub IsAllowed : Source → List ℕ → Type 0
 IsAllowed Adapted packet = sync_of packet ≡ 0x47
 IsAllowed Coded packet = (sync_of packet ≡ 0x47) ⊎ (sync_of packet ≡ 0xB8)
 
--- a placeholder of an operations packet
-abbrev pub IsPlaceholder : List ℕ → Type 0
-IsPlaceholder packet = pid_of packet ≡ 0x1FFA
-
--- a packet that the command can't take yet: `adapt` no placeholder
-abbrev pub IsUnbuilt : Source → List ℕ → Type 0
-IsUnbuilt Adapted packet = IsPlaceholder packet
-IsUnbuilt Coded packet = ⊥
-
--- there are packets that the command can't take yet
-abbrev pub HasUnbuilt : Source → Type 0
-HasUnbuilt Adapted = Unit {0}
-HasUnbuilt Coded = ⊥
-
--- a packet that the command takes
-abbrev pub IsPlain : Source → List ℕ → Type 0
-IsPlain source packet = IsAllowed source packet × ¬ IsUnbuilt source packet
-
 -- from that packet of a file on, so many are there and are plain
 pub record ArePlain (source : Source) (file : List ℕ) (first count : ℕ) : Type 0 where
   pub whole : first + count ≤ whole_packets file
-  pub plain : (k : ℕ) → first ≤ k → k < first + count → IsPlain source (packet_at file k)
+  pub plain : (k : ℕ) → first ≤ k → k < first + count → IsAllowed source (packet_at file k)
 
 -- packet k of a file is there and within the limit of a stream, and all from that one on to it are plain
 pub record IsFirstStop (source : Source) (file : List ℕ) (first k : ℕ) : Type 0 where
   pub behind : first ≤ k
   pub whole : k < whole_packets file
   pub allowed : k < 624000000
-  pub plain : (j : ℕ) → first ≤ j → j < k → IsPlain source (packet_at file j)
+  pub plain : (j : ℕ) → first ≤ j → j < k → IsAllowed source (packet_at file j)
 
 -- what is said of packet k
 abbrev pub IsJudged : Source → ℕ → List ℕ → Result (Unit {0}) Status → Type 0
-IsJudged source k packet (Ok _) = IsPlain source packet
+IsJudged source k packet (Ok _) = IsAllowed source packet
 IsJudged source k packet (Err (Packet j)) = (j ≡ k) × ¬ IsAllowed source packet
-IsJudged source k packet (Err (NotBuilt j)) = (j ≡ k) × IsAllowed source packet × IsUnbuilt source packet
 IsJudged source k packet (Err _) = ⊥
 
 -- of packets whose first has that number: all are plain, or those before a stop are and of the next one that is said
 abbrev pub AreJudged : Source → ℕ → List (List ℕ) → Result (Unit {0}) Stop → Type 0
-AreJudged source first packets (Ok _) = (k : ℕ) → k < length packets → IsPlain source (slice_index_or packets k [])
+AreJudged source first packets (Ok _) = (k : ℕ) → k < length packets → IsAllowed source (slice_index_or packets k [])
 AreJudged source first packets (Err stop) =
-    (stop.count < length packets) × ((k : ℕ) → k < stop.count → IsPlain source (slice_index_or packets k []))
+    (stop.count < length packets) × ((k : ℕ) → k < stop.count → IsAllowed source (slice_index_or packets k []))
     × IsJudged source (first + stop.count) (slice_index_or packets stop.count []) (Err stop.status)
 
 -- these are plain packets of a file, from that one on
@@ -73,7 +54,6 @@ pub record IsFront (source : Source) (file : List ℕ) (first : ℕ) (packets : 
 abbrev pub IsEnding : Source → Option (List ℕ) → ℕ → Result Counts Status → Type 0
 IsEnding source found first (Ok counts) = IsSomeAnd found (λ file. (whole_packets file ≤ first) × (counts.packets ≡ first) × (counts.loose ≡ length file - 188 * first))
 IsEnding source found first (Err (Packet k)) = IsSomeAnd found (λ file. IsFirstStop source file first k × ¬ IsAllowed source (packet_at file k))
-IsEnding source found first (Err (NotBuilt k)) = IsSomeAnd found (λ file. IsFirstStop source file first k × IsAllowed source (packet_at file k) × IsUnbuilt source (packet_at file k))
 IsEnding source found first (Err TooLong) = IsSomeAnd found (λ file. first < whole_packets file)
 IsEnding source found first (Err (Absent input)) = (input ≡ input_of source) × (found ≡ None)
 IsEnding source found first (Err ReadFault) = Unit {0}
@@ -83,7 +63,6 @@ IsEnding source found first (Err _) = ⊥
 -- where a packet ends the stream, the packets before its group are to be fed: so many, from the first one on
 abbrev pub IsCutAtGroup : ℕ → ℕ → Result Counts Status → Type 0
 IsCutAtGroup first count (Err (Packet k)) = first % 4 ≡ 0 → first + count ≡ 4 * (k / 4)
-IsCutAtGroup first count (Err (NotBuilt k)) = first % 4 ≡ 0 → first + count ≡ 4 * (k / 4)
 IsCutAtGroup first count _ = Unit {0}
 
 -- a piece of a stream, of the packets of a file from that one on
@@ -113,7 +92,6 @@ IsAbsent source _ = ⊥
 abbrev pub IsRefusal : Source → Status → Type 0
 IsRefusal source (Absent input) = input ≡ input_of source
 IsRefusal source (Packet k) = Unit {0}
-IsRefusal source (NotBuilt k) = HasUnbuilt source
 IsRefusal source TooLong = Unit {0}
 IsRefusal source ReadFault = Unit {0}
 IsRefusal source Memory = Unit {0}

@@ -1,30 +1,47 @@
 // `adapt PLAN IN OUT`: the feed of a stream.
-ghost use Rattle.std.specs.Prelude.{◌≡◌, ◌≢◌, ◌≤◌, length, [], IsSome, IfSome, IfErr, IsErrOf, Err};
+ghost use Rattle.std.specs.Prelude.{◌≡◌, ◌≢◌, ◌≤◌, length, [], None, IfSome, IfOk, IfErr, IsErrOf, unwrap_or};
 ghost use Rattle.std.specs.FinMap as files;
+ghost use Rattle.dtx_adapter.specs.Feed.{placeholders};
 ghost use Rattle.dtx_outside.specs.Shelf.{Rose};
+ghost use Rattle.dtx_packets.specs.Packets.{packets_of};
+ghost use Rattle.dtx_plan.specs.Sound.{IsSound};
+ghost use Rattle.dtx_plan.specs.declared.plan.Plan.{Plan};
 ghost use Rattle.dtx_words.specs.Behind.{adapt_behind};
 ghost use Rattle.dtx_words.specs.Command.{Fits};
 ghost use Rattle.dtx_words.specs.Names.{repeated};
-ghost use Rattle.dtx_words.specs.Words.{adapt_words};
+ghost use Rattle.dtx_words.specs.Words.{adapt_names, adapt_words};
+ghost use Rattle.dtx_jobs.specs.Adapt.{adapting, counts_in, AreAllFilled, IsAdaptOutcome};
+ghost use Rattle.dtx_jobs.specs.Feed.{feed_bytes, IsFeedingOf};
 ghost use Rattle.dtx_jobs.specs.Output.{HasCauseIn, HasAskedCause, IsAskedLeft, IsBegunLeft};
 ghost use Rattle.dtx_jobs.specs.Stream.{IsAbsent, IsStreamRefusal};
-ghost use Rattle.dtx_jobs.specs.Work.{adapting, HasPerformCause, IsOutcome, IsPerformRefusal, PerformLeaves};
+ghost use Rattle.dtx_jobs.specs.Work.{IsOutcome};
 
 use crate::Outcome;
 use crate::feed::write_feed;
+use crate::feeder::Feeder;
 use crate::input::ask_for;
+use crate::plan_file::plan_in;
 use crate::stream::{Counts, Source};
 use dtx_outside::{Output, Shelf, Word};
 use dtx_packets::{PACKET, PIECE_PACKETS, Packet};
+use dtx_plan::Plan;
 use dtx_words::{AdaptNames, Command, Status, adapt_words, repeated_name};
 use std::alloc::Global;
 
-/// Writes the feed of the stream IN to OUT: its packets of 188 bytes, byte 0 of packet k set to the cadence mark 0xB8 where 624
-/// divides k and to 0x47 elsewhere (the profile's own cadence, ATSC A/110). PLAN isn't read yet, and a placeholder is refused.
-/// The numbers are the packets, 0 placeholders filled, and the bytes behind the last whole packet.
+/// What was read of a stream, and how many placeholders of it were filled.
+#[derive(Clone, Copy)]
+struct Fed {
+    counts: Counts,
+    filled: u64,
+}
+
+/// Writes the feed of the stream IN under the plan of PLAN to OUT: its packets of 188 bytes, which begin with 0x47. Byte 0 of packet k
+/// becomes the cadence mark 0xB8 where 624 divides k and stays 0x47 elsewhere, and each placeholder, of packet identifier 0x1FFA,
+/// becomes an operations packet, which says from which states and when its group is sent (the profile's own, in the manner of ATSC
+/// A/110). The numbers are the packets, the placeholders filled, and the bytes behind the last whole packet.
 pub fn adapt<S: Shelf>(alloc: Global, words: &[Word], shelf: &mut S) -> Outcome
     requires { Fits Command.Adapt words.now }
-    ensures outcome { IfSome (adapt_words words.now) (λ asked. IsOutcome (adapting asked) (S.files shelf.old) (S.files shelf.new)
+    ensures outcome { IfSome (adapt_words words.now) (λ asked. IsAdaptOutcome asked (S.files shelf.old) (S.files shelf.new)
         (Rose (S.misses shelf.old) (S.misses shelf.new))
         (Rose (S.read_faults shelf.old) (S.read_faults shelf.new))
         (Rose (S.write_faults shelf.old) (S.write_faults shelf.new)) result) }
@@ -40,7 +57,7 @@ pub fn adapt<S: Shelf>(alloc: Global, words: &[Word], shelf: &mut S) -> Outcome
 
 /// Does what `adapt` does, with these files.
 fn adapt_named<S: Shelf>(alloc: Global, names: &AdaptNames<'_>, shelf: &mut S) -> Outcome
-    ensures outcome { IsOutcome (adapting (adapt_behind names.now)) (S.files shelf.old) (S.files shelf.new)
+    ensures outcome { IsAdaptOutcome (adapt_behind names.now) (S.files shelf.old) (S.files shelf.new)
         (Rose (S.misses shelf.old) (S.misses shelf.new))
         (Rose (S.read_faults shelf.old) (S.read_faults shelf.new))
         (Rose (S.write_faults shelf.old) (S.write_faults shelf.new)) result }
@@ -48,10 +65,63 @@ fn adapt_named<S: Shelf>(alloc: Global, names: &AdaptNames<'_>, shelf: &mut S) -
     ensures write_faults { S.write_faults shelf.old ≤ S.write_faults shelf.new }
     ensures misses { S.misses shelf.old ≤ S.misses shelf.new }
 {
-    match perform(alloc, names, shelf) {
-        Ok(counts) => Outcome {
+    match repeated_name(&names.files()) {
+        Some(_) => Outcome {
+            status: Status::Same,
+            numbers: [0; 6],
+        },
+        None => adapt_planned(alloc, names, shelf),
+    }
+}
+
+/// Reads the plan, and does what `adapt` does under it.
+fn adapt_planned<S: Shelf>(alloc: Global, names: &AdaptNames<'_>, shelf: &mut S) -> Outcome
+    requires differ { repeated (adapt_names (adapt_behind names.now)) ≡ None }
+    ensures outcome { IsAdaptOutcome (adapt_behind names.now) (S.files shelf.old) (S.files shelf.new)
+        (Rose (S.misses shelf.old) (S.misses shelf.new))
+        (Rose (S.read_faults shelf.old) (S.read_faults shelf.new))
+        (Rose (S.write_faults shelf.old) (S.write_faults shelf.new)) result }
+    ensures read_faults { S.read_faults shelf.old ≤ S.read_faults shelf.new }
+    ensures write_faults { S.write_faults shelf.old ≤ S.write_faults shelf.new }
+    ensures misses { S.misses shelf.old ≤ S.misses shelf.new }
+{
+    match plan_in(alloc, shelf, 0, names.plan) {
+        Ok(plan) => adapt_under(alloc, &plan, names, shelf),
+        Err(status) => Outcome {
+            status,
+            numbers: [0; 6],
+        },
+    }
+}
+
+/// Does what `adapt` does under that plan.
+fn adapt_under<S: Shelf>(
+    alloc: Global,
+    plan: &Plan,
+    names: &AdaptNames<'_>,
+    shelf: &mut S,
+) -> Outcome
+    requires sound { IsSound plan.now }
+    requires differ { repeated (adapt_names (adapt_behind names.now)) ≡ None }
+    ensures outcome { IsOutcome (adapting (adapt_behind names.now) plan.now) (S.files shelf.old) (S.files shelf.new)
+        (Rose (S.misses shelf.old) (S.misses shelf.new))
+        (Rose (S.read_faults shelf.old) (S.read_faults shelf.new))
+        (Rose (S.write_faults shelf.old) (S.write_faults shelf.new)) result }
+    ensures read_faults { S.read_faults shelf.old ≤ S.read_faults shelf.new }
+    ensures write_faults { S.write_faults shelf.old ≤ S.write_faults shelf.new }
+    ensures misses { S.misses shelf.old ≤ S.misses shelf.new }
+{
+    match adapt_stream(alloc, plan, shelf, names.input, names.output) {
+        Ok(fed) => Outcome {
             status: Status::Done,
-            numbers: [counts.packets, 0, counts.loose as u64, 0, 0, 0],
+            numbers: [
+                fed.counts.packets,
+                fed.filled,
+                fed.counts.loose as u64,
+                0,
+                0,
+                0,
+            ],
         },
         Err(status) => Outcome {
             status,
@@ -60,37 +130,20 @@ fn adapt_named<S: Shelf>(alloc: Global, names: &AdaptNames<'_>, shelf: &mut S) -
     }
 }
 
-/// Answers what was read of the stream, or why `adapt` isn't done.
-fn perform<S: Shelf>(alloc: Global, names: &AdaptNames<'_>, shelf: &mut S) -> Result<Counts, Status>
-    ensures cause { HasPerformCause (adapting (adapt_behind names.now)) (S.files shelf.old) result }
-    ensures same { IsSome (repeated (adapting (adapt_behind names.now)).names) → result ≡ Err Status.Same }
-    ensures left { PerformLeaves (adapting (adapt_behind names.now)) (S.files shelf.old) result (S.files shelf.new) }
-
-    // Also where the shelf doesn't tell its files.
-    ensures refusal { IfErr result (IsPerformRefusal Source.Adapted) }
-    ensures absent { IfErr result (λ status. IsAbsent Source.Adapted status → Rose (S.misses shelf.old) (S.misses shelf.new)) }
-    ensures read_fault { IsErrOf result Status.ReadFault → Rose (S.read_faults shelf.old) (S.read_faults shelf.new) }
-    ensures write_fault { IsErrOf result Status.WriteFault → Rose (S.write_faults shelf.old) (S.write_faults shelf.new) }
-    ensures read_faults { S.read_faults shelf.old ≤ S.read_faults shelf.new }
-    ensures write_faults { S.write_faults shelf.old ≤ S.write_faults shelf.new }
-    ensures misses { S.misses shelf.old ≤ S.misses shelf.new }
-{
-    match repeated_name(&names.files()) {
-        Some(_) => Err(Status::Same),
-        None => adapt_stream(alloc, shelf, names.input, names.output),
-    }
-}
-
-/// Reads a stream and writes its feed to a new file. The stream is asked for before the file is begun.
+/// Reads a stream and writes its feed to a new file. All memory is taken before, and the stream is asked for before the file is
+/// begun.
 fn adapt_stream<S: Shelf>(
     alloc: Global,
+    plan: &Plan,
     shelf: &mut S,
     input: &str,
     output: &str,
-) -> Result<Counts, Status>
-    ensures cause { input.now ≢ output.now → IfSome (S.files shelf.old) (λ held. HasAskedCause Source.Adapted (files.get held input.now) result) }
+) -> Result<Fed, Status>
+    requires sound { IsSound plan.now }
+    ensures cause { input.now ≢ output.now → IfSome (S.files shelf.old) (λ held. HasAskedCause Source.Adapted (files.get held input.now) (counts_in result)) }
     ensures left { input.now ≢ output.now → IfSome (S.files shelf.old) (λ held.
-        IsAskedLeft Source.Adapted held output.now (files.get held input.now) result (S.files shelf.new)) }
+        IsAskedLeft Source.Adapted (feed_bytes plan.now) held output.now (files.get held input.now) (counts_in result) (S.files shelf.new)) }
+    ensures filled { input.now ≢ output.now → IfSome (S.files shelf.old) (λ held. AreAllFilled (files.get held input.now) result) }
 
     // Also where the shelf doesn't tell its files.
     ensures refusal { IfErr result (IsStreamRefusal Source.Adapted) }
@@ -102,8 +155,45 @@ fn adapt_stream<S: Shelf>(
     ensures misses { S.misses shelf.old ≤ S.misses shelf.new }
 {
     let mut packets = vec![in alloc; Packet([0; PACKET]); PIECE_PACKETS]?;
+    let mut feeder = Feeder::new(alloc, plan)?;
     let mut feed = Output::new(alloc)?;
-    adapt_in(shelf, input, output, &mut packets, &mut feed)
+    adapt_counted(shelf, input, output, &mut packets, &mut feeder, &mut feed)
+}
+
+/// Writes the feed of the stream, and answers what was read and how many placeholders were filled.
+fn adapt_counted<S: Shelf>(
+    shelf: &mut S,
+    input: &str,
+    output: &str,
+    packets: &mut [Packet],
+    feeder: &mut Feeder,
+    feed: &mut Output,
+) -> Result<Fed, Status>
+    requires room { length packets.old ≡ PIECE_PACKETS }
+    requires none { (feeder.old.adapter.given ≡ 0) × (feeder.old.filled ≡ 0) }
+    requires empty { feed.old ≡ [] }
+    ensures cause { (plan : Plan) → IsFeedingOf plan feeder.old [] → input.now ≢ output.now → IfSome (S.files shelf.old) (λ held.
+        HasAskedCause Source.Adapted (files.get held input.now) (counts_in result)) }
+    ensures left { (plan : Plan) → IsFeedingOf plan feeder.old [] → input.now ≢ output.now → IfSome (S.files shelf.old) (λ held.
+        IsAskedLeft Source.Adapted (feed_bytes plan) held output.now (files.get held input.now) (counts_in result) (S.files shelf.new)) }
+    ensures filled { (plan : Plan) → IsFeedingOf plan feeder.old [] → input.now ≢ output.now → IfSome (S.files shelf.old) (λ held. AreAllFilled (files.get held input.now) result) }
+
+    // Also where the shelf doesn't tell its files.
+    ensures refusal { IfErr result (IsStreamRefusal Source.Adapted) }
+    ensures absent { IfErr result (λ status. IsAbsent Source.Adapted status → Rose (S.misses shelf.old) (S.misses shelf.new)) }
+    ensures read_fault { IsErrOf result Status.ReadFault → Rose (S.read_faults shelf.old) (S.read_faults shelf.new) }
+    ensures write_fault { IsErrOf result Status.WriteFault → Rose (S.write_faults shelf.old) (S.write_faults shelf.new) }
+    ensures read_faults { S.read_faults shelf.old ≤ S.read_faults shelf.new }
+    ensures write_faults { S.write_faults shelf.old ≤ S.write_faults shelf.new }
+    ensures misses { S.misses shelf.old ≤ S.misses shelf.new }
+{
+    match adapt_in(shelf, input, output, packets, feeder, feed) {
+        Ok(counts) => Ok(Fed {
+            counts,
+            filled: feeder.filled,
+        }),
+        Err(status) => Err(status),
+    }
 }
 
 /// Asks for the stream, then begins the file and writes the feed to it.
@@ -112,13 +202,17 @@ fn adapt_in<S: Shelf>(
     input: &str,
     output: &str,
     packets: &mut [Packet],
+    feeder: &mut Feeder,
     feed: &mut Output,
 ) -> Result<Counts, Status>
     requires room { length packets.old ≡ PIECE_PACKETS }
+    requires none { (feeder.old.adapter.given ≡ 0) × (feeder.old.filled ≡ 0) }
     requires empty { feed.old ≡ [] }
-    ensures cause { input.now ≢ output.now → IfSome (S.files shelf.old) (λ held. HasAskedCause Source.Adapted (files.get held input.now) result) }
-    ensures left { input.now ≢ output.now → IfSome (S.files shelf.old) (λ held.
-        IsAskedLeft Source.Adapted held output.now (files.get held input.now) result (S.files shelf.new)) }
+    ensures cause { (plan : Plan) → IsFeedingOf plan feeder.old [] → input.now ≢ output.now → IfSome (S.files shelf.old) (λ held. HasAskedCause Source.Adapted (files.get held input.now) result) }
+    ensures left { (plan : Plan) → IsFeedingOf plan feeder.old [] → input.now ≢ output.now → IfSome (S.files shelf.old) (λ held.
+        IsAskedLeft Source.Adapted (feed_bytes plan) held output.now (files.get held input.now) result (S.files shelf.new)) }
+    ensures filled { (plan : Plan) → IsFeedingOf plan feeder.old [] → input.now ≢ output.now → IfSome (S.files shelf.old) (λ held.
+        IfOk result (λ counts. feeder.new.filled ≡ placeholders (packets_of (unwrap_or (files.get held input.now) [])))) }
 
     // Also where the shelf doesn't tell its files.
     ensures refusal { IfErr result (IsStreamRefusal Source.Adapted) }
@@ -132,7 +226,7 @@ fn adapt_in<S: Shelf>(
     if let Err(status) = ask_for(shelf, 1, input) {
         return Err(status);
     }
-    begin_feed(shelf, input, output, packets, feed)
+    begin_feed(shelf, input, output, packets, feeder, feed)
 }
 
 /// Begins the file and writes the feed of the stream to it.
@@ -141,13 +235,17 @@ fn begin_feed<S: Shelf>(
     input: &str,
     output: &str,
     packets: &mut [Packet],
+    feeder: &mut Feeder,
     feed: &mut Output,
 ) -> Result<Counts, Status>
     requires room { length packets.old ≡ PIECE_PACKETS }
+    requires none { (feeder.old.adapter.given ≡ 0) × (feeder.old.filled ≡ 0) }
     requires empty { feed.old ≡ [] }
-    ensures cause { input.now ≢ output.now → IfSome (S.files shelf.old) (λ held. HasCauseIn Source.Adapted (files.get held input.now) result) }
-    ensures left { input.now ≢ output.now → IfSome (S.files shelf.old) (λ held.
-        IsBegunLeft Source.Adapted held output.now (files.get held input.now) result (S.files shelf.new)) }
+    ensures cause { (plan : Plan) → IsFeedingOf plan feeder.old [] → input.now ≢ output.now → IfSome (S.files shelf.old) (λ held. HasCauseIn Source.Adapted (files.get held input.now) result) }
+    ensures left { (plan : Plan) → IsFeedingOf plan feeder.old [] → input.now ≢ output.now → IfSome (S.files shelf.old) (λ held.
+        IsBegunLeft Source.Adapted (feed_bytes plan) held output.now (files.get held input.now) result (S.files shelf.new)) }
+    ensures filled { (plan : Plan) → IsFeedingOf plan feeder.old [] → input.now ≢ output.now → IfSome (S.files shelf.old) (λ held.
+        IfOk result (λ counts. feeder.new.filled ≡ placeholders (packets_of (unwrap_or (files.get held input.now) [])))) }
 
     // Also where the shelf doesn't tell its files.
     ensures refusal { IfErr result (IsStreamRefusal Source.Adapted) }
@@ -159,5 +257,5 @@ fn begin_feed<S: Shelf>(
     ensures misses { S.misses shelf.old ≤ S.misses shelf.new }
 {
     shelf.begin(output)?;
-    write_feed(shelf, input, output, packets, feed)
+    write_feed(shelf, input, output, packets, feeder, feed)
 }

@@ -8,7 +8,7 @@ ghost use Rattle.dtx_words.specs.Names.{repeated};
 ghost use Rattle.dtx_words.specs.Words.{code_words};
 ghost use Rattle.dtx_jobs.specs.Output.{HasCauseIn, HasAskedCause, IsAskedLeft, IsBegunLeft};
 ghost use Rattle.dtx_jobs.specs.Stream.{IsAbsent, IsStreamRefusal};
-ghost use Rattle.dtx_jobs.specs.Symbols.{IsCodingOf};
+ghost use Rattle.dtx_jobs.specs.Symbols.{symbol_bytes, IsCodingOf};
 ghost use Rattle.dtx_jobs.specs.Work.{coding, HasPerformCause, IsOutcome, IsPerformRefusal, PerformLeaves};
 
 use crate::Outcome;
@@ -101,7 +101,7 @@ fn code_stream<S: Shelf>(
 ) -> Result<Counts, Status>
     ensures cause { input.now ≢ output.now → IfSome (S.files shelf.old) (λ held. HasAskedCause Source.Coded (files.get held input.now) result) }
     ensures left { input.now ≢ output.now → IfSome (S.files shelf.old) (λ held.
-        IsAskedLeft Source.Coded held output.now (files.get held input.now) result (S.files shelf.new)) }
+        IsAskedLeft Source.Coded symbol_bytes held output.now (files.get held input.now) result (S.files shelf.new)) }
 
     // Also where the shelf doesn't tell its files.
     ensures most { IfOk result (λ counts. counts.packets ≤ MOST_PACKETS) }
@@ -133,7 +133,7 @@ fn code_in<S: Shelf>(
     requires empty { symbols.old ≡ [] }
     ensures cause { input.now ≢ output.now → IfSome (S.files shelf.old) (λ held. HasAskedCause Source.Coded (files.get held input.now) result) }
     ensures left { input.now ≢ output.now → IfSome (S.files shelf.old) (λ held.
-        IsAskedLeft Source.Coded held output.now (files.get held input.now) result (S.files shelf.new)) }
+        IsAskedLeft Source.Coded symbol_bytes held output.now (files.get held input.now) result (S.files shelf.new)) }
 
     // Also where the shelf doesn't tell its files.
     ensures most { IfOk result (λ counts. counts.packets ≤ MOST_PACKETS) }
@@ -165,7 +165,7 @@ fn begin_symbols<S: Shelf>(
     requires empty { symbols.old ≡ [] }
     ensures cause { input.now ≢ output.now → IfSome (S.files shelf.old) (λ held. HasCauseIn Source.Coded (files.get held input.now) result) }
     ensures left { input.now ≢ output.now → IfSome (S.files shelf.old) (λ held.
-        IsBegunLeft Source.Coded held output.now (files.get held input.now) result (S.files shelf.new)) }
+        IsBegunLeft Source.Coded symbol_bytes held output.now (files.get held input.now) result (S.files shelf.new)) }
 
     // Also where the shelf doesn't tell its files.
     ensures most { IfOk result (λ counts. counts.packets ≤ MOST_PACKETS) }

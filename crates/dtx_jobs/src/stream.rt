@@ -2,7 +2,7 @@
 ghost use Rattle.std.specs.Prelude.{◌≡◌, ◌≤◌, ◌<◌, ◌+◌, ◌↔◌, length, map, IfSome, IfOk, IfErr, IsErrOf, IsTrue, None, Some, Err};
 ghost use Rattle.std.specs.FinMap as files;
 ghost use Rattle.dtx_outside.specs.Shelf.{Rose};
-ghost use Rattle.dtx_jobs.specs.Stream.{input_of, IsAllowed, IsUnbuilt, IsJudged, AreJudged, IsJudgedPiece, IsPiece, IsAbsent, IsRefusal};
+ghost use Rattle.dtx_jobs.specs.Stream.{input_of, IsAllowed, IsJudged, AreJudged, IsJudgedPiece, IsPiece, IsAbsent, IsRefusal};
 
 use dtx_cadence::{MARK, SYNC};
 use dtx_coder::GROUP_PACKETS;
@@ -10,16 +10,13 @@ use dtx_outside::Shelf;
 use dtx_packets::{MOST_PACKETS, PIECE_PACKETS, Packet, PacketReader};
 use dtx_words::{Status, of_next};
 
-/// The packet identifier of a placeholder, which the adapter turns into an operations packet (the profile's own).
-pub(crate) const PLACEHOLDER: u16 = 0x1FFA;
-
 /// How many packets a group has. Where a packet of a stream is refused, something is made of the groups before it.
 const GROUP: u64 = GROUP_PACKETS as u64;
 
 /// The stream that a command reads: which input of the command it is, and which packets it may hold.
 #[derive(Clone, Copy)]
 pub(crate) enum Source {
-    /// That of `adapt`, its input 1. Its packets begin with 0x47, and no placeholder can be filled yet.
+    /// That of `adapt`, its input 1. Its packets begin with 0x47.
     Adapted,
     /// That of `code`, its input 0. Its packets begin with 0x47 or with the cadence mark 0xB8.
     Coded,
@@ -43,16 +40,6 @@ impl Source {
         match self {
             Source::Adapted => packet.sync() == SYNC,
             Source::Coded => packet.sync() == SYNC || packet.sync() == MARK,
-        }
-    }
-
-    /// The packet can't be taken yet.
-    fn lacks(&self, packet: &Packet) -> bool
-        ensures { IsTrue result ↔ IsUnbuilt self.now packet.now.0 }
-    {
-        match self {
-            Source::Adapted => packet.pid() == PLACEHOLDER,
-            Source::Coded => false,
         }
     }
 }
@@ -163,11 +150,9 @@ fn judge_all(source: Source, first: u64, packets: &[Packet]) -> Result<(), Stop>
 fn judge(source: Source, index: u64, packet: &Packet) -> Result<(), Status>
     ensures { IsJudged source index packet.now.0 result }
 {
-    if !source.allows(packet) {
-        Err(Status::Packet(index))
-    } else if source.lacks(packet) {
-        Err(Status::NotBuilt(index))
-    } else {
+    if source.allows(packet) {
         Ok(())
+    } else {
+        Err(Status::Packet(index))
     }
 }

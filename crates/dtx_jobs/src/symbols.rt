@@ -29,7 +29,7 @@ pub(crate) fn write_symbols<S: Shelf>(
     ensures cause { input.now ≢ output.now → IfSome (S.files shelf.old) (λ held. files.get held output.now ≡ Some []
         → HasCauseIn Source.Coded (files.get held input.now) result) }
     ensures left { input.now ≢ output.now → IfSome (S.files shelf.old) (λ held. files.get held output.now ≡ Some []
-        → IsOutputLeft Source.Coded (Some held) output.now (files.get held input.now) result (S.files shelf.new)) }
+        → IsOutputLeft Source.Coded symbol_bytes (Some held) output.now (files.get held input.now) result (S.files shelf.new)) }
 
     // Also where the shelf doesn't tell its files.
     ensures most { IfOk result (λ counts. counts.packets ≤ MOST_PACKETS) }

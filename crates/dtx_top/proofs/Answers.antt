@@ -10,7 +10,7 @@ use Rattle.dtx_words.specs.declared.verbs.Command.{Command}
 use Rattle.dtx_jobs.specs.declared.outcome.Outcome.{Outcome}
 use Rattle.dtx_top.specs.Carried.{IsAnswered}
 use Rattle.dtx_words.specs.declared.status.Status.{Status}
-use Rattle.dtx_words.specs.declared.status.Status.TheVariants.{Done, Usage, Same, Absent, Packet, TooLong, NoSync, ReadFault, WriteFault, Memory, NotBuilt}
+use Rattle.dtx_words.specs.declared.status.Status.TheVariants.{Done, Usage, Same, Absent, Plan, Packet, TooLong, NoSync, ReadFault, WriteFault, Memory}
 
 -- the status stays; or memory was wanted; or the line of `Done` could not be printed
 pub what_follows : (status : Status) (line : Result (Unit {0}) SinkNo)
@@ -27,7 +27,7 @@ what_follows TooLong (Err sink.Failed) = inl refl
 what_follows ReadFault (Err sink.Failed) = inl refl
 what_follows WriteFault (Err sink.Failed) = inl refl
 what_follows Memory (Err sink.Failed) = inl refl
-what_follows (NotBuilt k) (Err sink.Failed) = inl refl
+what_follows (Plan refusal) (Err sink.Failed) = inl refl
 
 -- where `Done` follows, all was done and the line was printed
 pub done_follows : (status : Status) (line : Result (Unit {0}) SinkNo) → finished status line ≡ Done → (status ≡ Done) × (line ≡ Ok tt)
@@ -43,7 +43,7 @@ done_follows TooLong (Err sink.Failed) e = cc
 done_follows ReadFault (Err sink.Failed) e = cc
 done_follows WriteFault (Err sink.Failed) e = cc
 done_follows Memory (Err sink.Failed) e = cc
-done_follows (NotBuilt k) (Err sink.Failed) e = cc
+done_follows (Plan refusal) (Err sink.Failed) e = cc
 
 -- where the status stays or memory is wanted
 pub kept_follows : (status kept : Status) (line : Result (Unit {0}) SinkNo) → kept ≢ Done → status ≡ kept → (finished status line ≡ kept) ⊎ (finished status line ≡ Memory)

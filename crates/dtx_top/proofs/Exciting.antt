@@ -10,7 +10,7 @@ use Rattle.dtx_words.specs.Printed.{printed}
 use Rattle.dtx_words.specs.Words.{ExciteWords, excite_names, excite_words}
 use Rattle.dtx_words.specs.declared.verbs.Command.TheVariants.{Excite}
 use Rattle.dtx_words.specs.declared.status.Status.{Status}
-use Rattle.dtx_words.specs.declared.status.Status.TheVariants.{Done, Usage, Same, Absent, Packet, TooLong, NoSync, ReadFault, WriteFault, Memory, NotBuilt}
+use Rattle.dtx_words.specs.declared.status.Status.TheVariants.{Done, Usage, Same, Absent, Packet, TooLong, NoSync, ReadFault, WriteFault, Memory, Plan}
 use Rattle.dtx_packets.specs.Packets.{packets_of}
 use Rattle.dtx_jobs.specs.Excite.{fed, IsMade, IsPartMade}
 use Rattle.dtx_jobs.specs.Excited.{OfFeed, IsFeed, HasExciteJobCause, CanBeExcited, ExciteStatusLeaves, ExciteLeaves, IsExciteOutcome, excited_numbers}
@@ -53,7 +53,7 @@ kept_cause asked told missed misread miswritten unprinted TooLong cause = cause
 kept_cause asked told missed misread miswritten unprinted NoSync cause = cause
 kept_cause asked told missed misread miswritten unprinted ReadFault cause = cause
 kept_cause asked told missed misread miswritten unprinted Memory cause = cause
-kept_cause asked told missed misread miswritten unprinted (NotBuilt k) cause = cause
+kept_cause asked told missed misread miswritten unprinted (Plan refusal) cause = cause
 
 pub excited_cause : (asked : ExciteWords) (told now : Option Files) (missed misread miswritten unprinted : Type 0) (old new : Option (List ℕ)) (answer : Status)
     → IsExciteRun asked told now missed misread miswritten unprinted old new answer → HasExciteAnswerCause asked told missed misread miswritten unprinted answer
@@ -100,7 +100,7 @@ memory_left asked (Some held) now missed misread miswritten ReadFault cause left
 memory_left asked (Some held) now missed misread miswritten WriteFault cause left = left
 memory_left asked (Some held) now missed misread miswritten Memory cause left = left
 memory_left asked (Some held) now missed misread miswritten (Packet k) cause left = left
-memory_left asked (Some held) now missed misread miswritten (NotBuilt k) cause left = left
+memory_left asked (Some held) now missed misread miswritten (Plan refusal) cause left = left
 
 pub excited_left : (asked : ExciteWords) (told now : Option Files) (missed misread miswritten unprinted : Type 0) (old new : Option (List ℕ)) (answer : Status)
     → IsExciteRun asked told now missed misread miswritten unprinted old new answer → ExciteLeaves asked told answer now

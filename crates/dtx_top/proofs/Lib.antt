@@ -1,3 +1,4 @@
+pub mod Adapting
 pub mod Answers
 pub mod Exciting
 pub mod Making

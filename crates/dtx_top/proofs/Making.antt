@@ -10,7 +10,7 @@ use Rattle.dtx_words.specs.Printed.{printed}
 use Rattle.dtx_words.specs.Words.{MakeWords, make_names, make_words}
 use Rattle.dtx_words.specs.declared.verbs.Command.TheVariants.{Make}
 use Rattle.dtx_words.specs.declared.status.Status.{Status}
-use Rattle.dtx_words.specs.declared.status.Status.TheVariants.{Done, Usage, Same, Absent, Packet, TooLong, NoSync, ReadFault, WriteFault, Memory, NotBuilt}
+use Rattle.dtx_words.specs.declared.status.Status.TheVariants.{Done, Usage, Same, Absent, Plan, Packet, TooLong, NoSync, ReadFault, WriteFault, Memory}
 use Rattle.dtx_jobs.specs.Make.{HasMakeCause, IsMakeOutcome, IsUntouchedOrBegun, MakeLeaves, ordered}
 use Rattle.dtx_jobs.specs.declared.outcome.Outcome.{Outcome}
 use Rattle.dtx_top.specs.Carried.{IsAnswered, IsCarriedOut, IsPerformed}
@@ -48,7 +48,7 @@ kept_cause miswritten unprinted (Packet k) cause = cause
 kept_cause miswritten unprinted TooLong cause = cause
 kept_cause miswritten unprinted ReadFault cause = cause
 kept_cause miswritten unprinted Memory cause = cause
-kept_cause miswritten unprinted (NotBuilt k) cause = cause
+kept_cause miswritten unprinted (Plan refusal) cause = cause
 
 pub make_cause : (making : MakeWords) (told now : Option Files) (miswritten unprinted : Type 0) (old new : Option (List ℕ)) (answer : Status)
     → IsMakeRun making told now miswritten unprinted old new answer → HasMakeCause (miswritten ⊎ unprinted) answer
@@ -78,7 +78,7 @@ part_left making told now TooLong left = left
 part_left making told now ReadFault left = left
 part_left making told now WriteFault left = left
 part_left making told now Memory left = left
-part_left making told now (NotBuilt k) left = left
+part_left making told now (Plan refusal) left = left
 
 pub make_left : (making : MakeWords) (told now : Option Files) (miswritten unprinted : Type 0) (old new : Option (List ℕ)) (answer : Status)
     → IsMakeRun making told now miswritten unprinted old new answer → MakeLeaves making told answer now

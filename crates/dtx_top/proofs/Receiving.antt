@@ -12,7 +12,7 @@ use Rattle.dtx_words.specs.Printed.{printed}
 use Rattle.dtx_words.specs.Words.{ReceiveWords, receive_names, receive_words}
 use Rattle.dtx_words.specs.declared.verbs.Command.TheVariants.{Receive}
 use Rattle.dtx_words.specs.declared.status.Status.{Status}
-use Rattle.dtx_words.specs.declared.status.Status.TheVariants.{Done, Usage, Same, Absent, Packet, TooLong, NoSync, ReadFault, WriteFault, Memory, NotBuilt}
+use Rattle.dtx_words.specs.declared.status.Status.TheVariants.{Done, Usage, Same, Absent, Plan, Packet, TooLong, NoSync, ReadFault, WriteFault, Memory}
 use Rattle.dtx_jobs.specs.Receive.{received_bytes}
 use Rattle.dtx_jobs.specs.Received.{OfSymbols, HasReceiveJobCause, CanBeReceived, StatusLeaves, ReceiveLeaves, IsReceiveOutcome, received_numbers}
 use Rattle.dtx_jobs.specs.declared.outcome.Outcome.{Outcome}
@@ -53,7 +53,7 @@ kept_cause asked told missed misread miswritten unprinted TooLong cause = cause
 kept_cause asked told missed misread miswritten unprinted NoSync cause = cause
 kept_cause asked told missed misread miswritten unprinted ReadFault cause = cause
 kept_cause asked told missed misread miswritten unprinted Memory cause = cause
-kept_cause asked told missed misread miswritten unprinted (NotBuilt k) cause = cause
+kept_cause asked told missed misread miswritten unprinted (Plan refusal) cause = cause
 
 pub received_cause : (asked : ReceiveWords) (told now : Option Files) (missed misread miswritten unprinted : Type 0) (old new : Option (List ℕ)) (answer : Status)
     → IsReceiveRun asked told now missed misread miswritten unprinted old new answer → HasReceiveAnswerCause asked told missed misread miswritten unprinted answer
@@ -99,7 +99,7 @@ memory_left asked (Some held) now missed misread miswritten ReadFault cause left
 memory_left asked (Some held) now missed misread miswritten WriteFault cause left = left
 memory_left asked (Some held) now missed misread miswritten Memory cause left = left
 memory_left asked (Some held) now missed misread miswritten (Packet k) cause left = left
-memory_left asked (Some held) now missed misread miswritten (NotBuilt k) cause left = left
+memory_left asked (Some held) now missed misread miswritten (Plan refusal) cause left = left
 
 pub received_left : (asked : ReceiveWords) (told now : Option Files) (missed misread miswritten unprinted : Type 0) (old new : Option (List ℕ)) (answer : Status)
     → IsReceiveRun asked told now missed misread miswritten unprinted old new answer → ReceiveLeaves asked told answer now

@@ -8,21 +8,21 @@ use Rattle.dtx_outside.specs.Written.{IsWritten}
 use Rattle.dtx_outside.proofs.Written.{part_of_written}
 use Rattle.dtx_packets.specs.Packets.{whole_packets, packets_of}
 use Rattle.dtx_coder.specs.Stream.{a53}
-use Rattle.dtx_words.specs.Line.{done_line, feed_line, code_line, HasLine}
+use Rattle.dtx_words.specs.Line.{done_line, code_line, HasLine}
 use Rattle.dtx_words.specs.Names.{names_of, repeated}
 use Rattle.dtx_words.specs.Printed.{printed}
-use Rattle.dtx_words.specs.Words.{AdaptWords, CodeWords, adapt_names, adapt_words, code_names, code_words}
+use Rattle.dtx_words.specs.Words.{CodeWords, code_names, code_words}
 use Rattle.dtx_words.specs.declared.verbs.Command.{Command}
-use Rattle.dtx_words.specs.declared.verbs.Command.TheVariants.{Adapt, Code}
+use Rattle.dtx_words.specs.declared.verbs.Command.TheVariants.{Code}
 use Rattle.dtx_words.specs.declared.status.Status.{Status}
-use Rattle.dtx_words.specs.declared.status.Status.TheVariants.{Done, Usage, Same, Absent, Packet, TooLong, NoSync, ReadFault, WriteFault, Memory, NotBuilt}
+use Rattle.dtx_words.specs.declared.status.Status.TheVariants.{Done, Usage, Same, Absent, Plan, Packet, TooLong, NoSync, ReadFault, WriteFault, Memory}
 use Rattle.dtx_jobs.specs.Output.{made_at, IsUntouchedOrPart}
 use Rattle.dtx_jobs.specs.Stream.{ArePlain, IsFirstStop}
-use Rattle.dtx_jobs.specs.Work.{Work, OfInput, IsPlainFile, adapting, coding, CanBeDone, HasJobCause, IsOutcome, Leaves, AreDoneNumbers, numbers_of}
+use Rattle.dtx_jobs.specs.Work.{Work, OfInput, IsPlainFile, coding, CanBeDone, HasJobCause, IsOutcome, Leaves, AreDoneNumbers, numbers_of}
 use Rattle.dtx_jobs.specs.declared.outcome.Outcome.{Outcome}
 use Rattle.dtx_top.specs.Answer.{HasCause}
 use Rattle.dtx_top.specs.Carried.{IsAnswered, IsCarriedOut, IsPerformed}
-use Rattle.dtx_top.specs.Printing.{IsCodeLine, IsFeedLine, Prints}
+use Rattle.dtx_top.specs.Printing.{IsCodeLine, Prints}
 use Rattle.dtx_top.proofs.Answers.{answered_done, answered_line, complete_follows, kept_follows, what_follows, where_some}
 
 -- a command of one stream was done, and its line was printed, or not
@@ -30,20 +30,6 @@ pub record IsStreamRun (command : Command) (work : Work) (told now : Option File
   pub outcome : Outcome
   pub come : IsOutcome work told now missed misread miswritten outcome
   pub answered : IsAnswered (Some command) outcome work.names unprinted old new answer
-
-pub adapt_run : (words : List (List ℕ)) (told now : Option Files) (missed misread miswritten unprinted : Type 0) (old new : Option (List ℕ)) (answer : Status)
-    → IsCarriedOut words told now missed misread miswritten unprinted old new answer
-    → IfSome (adapt_words words) (λ asked. IsStreamRun Adapt (adapting asked) told now missed misread miswritten unprinted old new answer)
-adapt_run words told now missed misread miswritten unprinted old new answer run =
-    where_some (adapt_words words) (λ asked. IsStreamRun Adapt (adapting asked) told now missed misread miswritten unprinted old new answer) (λ asked is.
-    let found : run.command ≡ Some Adapt = run.only Adapt (subst IsSome (sym is) refl) in
-    record {
-      outcome = run.outcome;
-      come = subst (λ o. IfSome o (λ words. IsOutcome (adapting words) told now missed misread miswritten run.outcome)) is
-          (subst (λ f. IsPerformed f words told now missed misread miswritten run.outcome) found run.performed);
-      answered = subst (λ o. IsAnswered (Some Adapt) run.outcome (unwrap_or (option_map adapt_names o) []) unprinted old new answer) is
-          (subst (λ f. IsAnswered f run.outcome (names_of f words) unprinted old new answer) found run.answered);
-    })
 
 pub code_run : (words : List (List ℕ)) (told now : Option Files) (missed misread miswritten unprinted : Type 0) (old new : Option (List ℕ)) (answer : Status)
     → IsCarriedOut words told now missed misread miswritten unprinted old new answer
@@ -71,7 +57,7 @@ kept_cause work told missed misread miswritten unprinted (Packet k) cause = caus
 kept_cause work told missed misread miswritten unprinted TooLong cause = cause
 kept_cause work told missed misread miswritten unprinted ReadFault cause = cause
 kept_cause work told missed misread miswritten unprinted Memory cause = cause
-kept_cause work told missed misread miswritten unprinted (NotBuilt k) cause = cause
+kept_cause work told missed misread miswritten unprinted (Plan refusal) cause = cause
 
 pub run_cause : (command : Command) (work : Work) (told now : Option Files) (missed misread miswritten unprinted : Type 0) (old new : Option (List ℕ)) (answer : Status)
     → IsStreamRun command work told now missed misread miswritten unprinted old new answer → HasCause work told missed misread miswritten unprinted answer
@@ -97,7 +83,7 @@ run_complete command work told now missed misread miswritten unprinted old new a
 -- what stands is a part of the output, whatever the answer
 
 part_of_whole : (work : Work) (held : Files) (file : List ℕ) (count : ℕ) (now : Option Files) → count ≤ 624000000 → ArePlain work.source file 0 count
-    → IsWritten (Some held) work.output (made_at work.source file count) now → IsUntouchedOrPart work.source held work.output (Some file) now
+    → IsWritten (Some held) work.output (made_at work.made file count) now → IsUntouchedOrPart work.source work.made held work.output (Some file) now
 part_of_whole work held file count now within plain written = inr (count, within, plain, part_of_written (Some held) now work.output _ written)
 
 groups_plain : (work : Work) (file : List ℕ) (k : ℕ) → IsFirstStop work.source file 0 k → ArePlain work.source file 0 (4 * (k / 4))
@@ -106,13 +92,13 @@ groups_plain work file k stop = record {
   plain = λ j behind below. stop.plain j behind (omega (arith, below));
 }
 
-memory_at : (work : Work) (held : Files) (found : Option (List ℕ)) (now : Option Files) → IsSomeAnd found (IsPlainFile work.source) → IsSomeAnd found (λ file. IsWritten (Some held) work.output (made_at work.source file (whole_packets file)) now)
-    → IsUntouchedOrPart work.source held work.output found now
+memory_at : (work : Work) (held : Files) (found : Option (List ℕ)) (now : Option Files) → IsSomeAnd found (IsPlainFile work.source) → IsSomeAnd found (λ file. IsWritten (Some held) work.output (made_at work.made file (whole_packets file)) now)
+    → IsUntouchedOrPart work.source work.made held work.output found now
 memory_at work held None now plain left = absurd plain
 memory_at work held (Some file) now plain left = part_of_whole work held file (whole_packets file) now plain.1 plain.0 left
 
 stopped_at : (work : Work) (held : Files) (found : Option (List ℕ)) (k : ℕ) (now : Option Files) → IsSomeAnd found (λ file. IsFirstStop work.source file 0 k)
-    → IsSomeAnd found (λ file. IsWritten (Some held) work.output (made_at work.source file (4 * (k / 4))) now) → IsUntouchedOrPart work.source held work.output found now
+    → IsSomeAnd found (λ file. IsWritten (Some held) work.output (made_at work.made file (4 * (k / 4))) now) → IsUntouchedOrPart work.source work.made held work.output found now
 stopped_at work held None k now stop left = absurd stop
 stopped_at work held (Some file) k now stop left =
     part_of_whole work held file (4 * (k / 4)) now (omega (arith, stop.allowed)) (groups_plain work file k stop) left
@@ -127,8 +113,7 @@ memory_left work None now missed misread miswritten status cause left = tt
 memory_left work (Some held) now missed misread miswritten Done cause left = memory_at work held (get held work.input) now cause left
 memory_left work (Some held) now missed misread miswritten (Packet k) cause left =
     stopped_at work held (get held work.input) k now (and_then (get held work.input) _ _ cause (λ file h. h.0)) left
-memory_left work (Some held) now missed misread miswritten (NotBuilt k) cause left =
-    stopped_at work held (get held work.input) k now (and_then (get held work.input) _ _ cause.1 (λ file h. h.0)) left
+memory_left work (Some held) now missed misread miswritten (Plan refusal) cause left = absurd cause
 memory_left work (Some held) now missed misread miswritten Usage cause left = absurd cause
 memory_left work (Some held) now missed misread miswritten NoSync cause left = absurd cause
 memory_left work (Some held) now missed misread miswritten Same cause left = inl left
@@ -168,18 +153,6 @@ of_both work (Some held) P Q R first second h = both (get held work.input) first
     both None p q = p
     both (Some file) p q = h file p q
 
-pub adapt_prints : (asked : AdaptWords) (told now : Option Files) (missed misread miswritten unprinted : Type 0) (old new : Option (List ℕ)) (answer : Status)
-    → IsStreamRun Adapt (adapting asked) told now missed misread miswritten unprinted old new answer → answer ≡ Done → Prints (adapting asked) told old new
-adapt_prints asked told now missed misread miswritten unprinted old new answer run done =
-    let d = answered_done Adapt run.outcome (adapting asked).names unprinted old new answer run.answered done in
-    let n = run.come.numbers d.0 in
-    of_both (adapting asked) told _ _ (λ file. new ≡ printed (done_line Adapt (numbers_of (adapting asked).source file)) old) n.4 n.4 (λ file its again.
-    d.1
-    ∙ ap (λ numbers. printed (done_line Adapt numbers) old) n.3
-    ∙ ap (λ packets. printed (feed_line packets n.1 n.2) old) its.0
-    ∙ ap (λ filled. printed (feed_line (whole_packets file) filled n.2) old) n.5
-    ∙ ap (λ loose. printed (feed_line (whole_packets file) 0 loose) old) its.1)
-
 pub code_prints : (asked : CodeWords) (told now : Option Files) (missed misread miswritten unprinted : Type 0) (old new : Option (List ℕ)) (answer : Status)
     → IsStreamRun Code (coding asked) told now missed misread miswritten unprinted old new answer → answer ≡ Done → Prints (coding asked) told old new
 code_prints asked told now missed misread miswritten unprinted old new answer run done =
@@ -191,16 +164,6 @@ code_prints asked told now missed misread miswritten unprinted old new answer ru
     ∙ ap (λ packets. printed (code_line packets n.1 n.2) old) its.0
     ∙ ap (λ count. printed (code_line (whole_packets file) count n.2) old) segments
     ∙ ap (λ loose. printed (code_line (whole_packets file) (length (a53 (packets_of file))) loose) old) its.1)
-
-is_feed_line : (asked : AdaptWords) (told : Option Files) (numbers : List ℕ) → AreDoneNumbers (adapting asked) told numbers → IsFeedLine (adapting asked) told (done_line Adapt numbers)
-is_feed_line asked told numbers n = (n.0, n.2, ap (done_line Adapt) n.3 ∙ ap (λ filled. feed_line n.0 filled n.2) n.5, n.4)
-
-pub feed_line_left : (asked : AdaptWords) (told now : Option Files) (missed misread miswritten unprinted : Type 0) (old new : Option (List ℕ)) (answer : Status)
-    → IsStreamRun Adapt (adapting asked) told now missed misread miswritten unprinted old new answer
-    → HasLine (IsFeedLine (adapting asked) told) (adapting asked).names answer unprinted old new
-feed_line_left asked told now missed misread miswritten unprinted old new answer run =
-    answered_line (IsFeedLine (adapting asked) told) Adapt run.outcome (adapting asked).names unprinted old new answer run.answered
-    (λ done. is_feed_line asked told run.outcome.numbers (run.come.numbers done))
 
 is_code_line : (asked : CodeWords) (told : Option Files) (numbers : List ℕ) → AreDoneNumbers (coding asked) told numbers → IsCodeLine (coding asked) told (done_line Code numbers)
 is_code_line asked told numbers n = (n.0, n.1, n.2, ap (done_line Code) n.3, n.4, n.5)

@@ -1,12 +1,13 @@
 -- What a command of one stream answers, once its line was printed or not.
 use Rattle.std.specs.Prelude.{◌⊎◌, Option}
 use Rattle.dtx_outside.specs.Shelf.{Files}
+use Rattle.dtx_jobs.specs.Adapt.{HasAdaptCause}
 use Rattle.dtx_jobs.specs.Excited.{OfFeed, IsFeed, HasExciteJobCause}
 use Rattle.dtx_jobs.specs.Received.{OfSymbols, IsReceivable, HasReceiveJobCause}
-use Rattle.dtx_words.specs.Words.{ExciteWords, ReceiveWords}
+use Rattle.dtx_words.specs.Words.{AdaptWords, ExciteWords, ReceiveWords}
 use Rattle.dtx_jobs.specs.Work.{Work, OfInput, IsPlainFile, HasJobCause}
 use Rattle.dtx_words.specs.declared.status.Status.{Status}
-use Rattle.dtx_words.specs.declared.status.Status.TheVariants.{WriteFault}
+use Rattle.dtx_words.specs.declared.status.Status.TheVariants.{Done, WriteFault}
 
 -- The cause of each answer: a file was missed, reading failed, writing failed, the line could not be printed.
 -- It is that of the command, but for `WriteFault`, which is also answered where all was done and its line could not be printed.
@@ -26,3 +27,9 @@ abbrev pub HasReceiveAnswerCause : ReceiveWords → Option Files → Type 0 → 
 HasReceiveAnswerCause asked told missed misread miswritten unprinted WriteFault =
     HasReceiveJobCause asked told missed misread miswritten WriteFault ⊎ (unprinted × OfSymbols asked told IsReceivable)
 HasReceiveAnswerCause asked told missed misread miswritten unprinted status = HasReceiveJobCause asked told missed misread miswritten status
+
+-- the same of `adapt`
+abbrev pub HasAdaptAnswerCause : AdaptWords → Option Files → Type 0 → Type 0 → Type 0 → Type 0 → Status → Type 0
+HasAdaptAnswerCause asked told missed misread miswritten unprinted WriteFault =
+    HasAdaptCause asked told missed misread miswritten WriteFault ⊎ (unprinted × HasAdaptCause asked told missed misread miswritten Done)
+HasAdaptAnswerCause asked told missed misread miswritten unprinted status = HasAdaptCause asked told missed misread miswritten status

@@ -12,17 +12,18 @@ use Rattle.dtx_words.specs.declared.verbs.Command.{Command}
 use Rattle.dtx_words.specs.declared.verbs.Command.TheVariants.{Adapt, Code, Excite, Receive, Make}
 use Rattle.dtx_words.specs.declared.status.Status.{Status}
 use Rattle.dtx_words.specs.declared.status.Status.TheVariants.{Usage}
+use Rattle.dtx_jobs.specs.Adapt.{IsAdaptOutcome}
 use Rattle.dtx_jobs.specs.Excited.{IsExciteOutcome}
 use Rattle.dtx_jobs.specs.Make.{IsMakeOutcome}
 use Rattle.dtx_jobs.specs.Received.{IsReceiveOutcome}
-use Rattle.dtx_jobs.specs.Work.{adapting, coding, IsOutcome}
+use Rattle.dtx_jobs.specs.Work.{coding, IsOutcome}
 use Rattle.dtx_jobs.specs.declared.outcome.Outcome.{Outcome}
 
 -- what comes of a command with these words, but for its line
 abbrev pub IsPerformed : Option Command → List (List ℕ) → Option Files → Option Files → Type 0 → Type 0 → Type 0 → Outcome → Type 0
 IsPerformed None words told now missed misread miswritten outcome = (outcome.status ≡ Usage) × (now ≡ told)
 IsPerformed (Some Adapt) words told now missed misread miswritten outcome =
-    IfSome (adapt_words words) (λ asked. IsOutcome (adapting asked) told now missed misread miswritten outcome)
+    IfSome (adapt_words words) (λ asked. IsAdaptOutcome asked told now missed misread miswritten outcome)
 IsPerformed (Some Code) words told now missed misread miswritten outcome =
     IfSome (code_words words) (λ asked. IsOutcome (coding asked) told now missed misread miswritten outcome)
 IsPerformed (Some Excite) words told now missed misread miswritten outcome =

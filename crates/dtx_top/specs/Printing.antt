@@ -1,19 +1,27 @@
 -- The lines of commands that are done, with the numbers of their inputs.
-use Rattle.std.specs.Prelude.{◌≡◌, ℕ, List, length, Option}
+use Rattle.std.specs.Prelude.{◌≡◌, ℕ, ◌%◌, List, length, Option, IfSome, IsSomeAnd}
+use Rattle.std.specs.FinMap.{get}
+use Rattle.dtx_adapter.specs.Feed.{placeholders}
 use Rattle.dtx_coder.specs.Stream.{a53}
 use Rattle.dtx_outside.specs.Shelf.{Files}
-use Rattle.dtx_packets.specs.Packets.{packets_of}
+use Rattle.dtx_packets.specs.Packets.{packets_of, whole_packets}
 use Rattle.dtx_words.specs.Line.{done_line, feed_line, code_line, made_line}
 use Rattle.dtx_words.specs.Printed.{printed}
-use Rattle.dtx_words.specs.Words.{ExciteWords, MakeWords, ReceiveWords}
+use Rattle.dtx_words.specs.Words.{AdaptWords, ExciteWords, MakeWords, ReceiveWords}
 use Rattle.dtx_words.specs.declared.verbs.Command.TheVariants.{Excite, Receive}
+use Rattle.dtx_jobs.specs.Adapt.{AreFeedNumbers}
 use Rattle.dtx_jobs.specs.Excited.{OfFeed, excited_numbers}
 use Rattle.dtx_jobs.specs.Received.{OfSymbols, received_numbers}
 use Rattle.dtx_jobs.specs.Work.{Work, OfInput, AreItsNumbers, command_of, numbers_of}
 
 -- the line of the feed of the input
-abbrev pub IsFeedLine : Work → Option Files → List ℕ → Type 0
-IsFeedLine work told text = (packets : ℕ) × (loose : ℕ) × (text ≡ feed_line packets 0 loose) × AreItsNumbers work told packets loose
+abbrev pub IsFeedLine : AdaptWords → Option Files → List ℕ → Type 0
+IsFeedLine asked told text = (packets : ℕ) × (filled : ℕ) × (loose : ℕ) × (text ≡ feed_line packets filled loose) × AreFeedNumbers asked told packets filled loose
+
+-- that line was printed
+abbrev pub FeedPrints : AdaptWords → Option Files → Option (List ℕ) → Option (List ℕ) → Type 0
+FeedPrints asked told old new = IfSome told (λ held. IsSomeAnd (get held asked.input) (λ file.
+    new ≡ printed (feed_line (whole_packets file) (placeholders (packets_of file)) (length file % 188)) old))
 
 -- the line of the symbols of the input
 abbrev pub IsCodeLine : Work → Option Files → List ℕ → Type 0

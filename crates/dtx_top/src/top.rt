@@ -4,14 +4,15 @@ ghost use Rattle.dtx_outside.specs.Shelf.{Rose};
 ghost use Rattle.dtx_words.specs.Command.{FitsNoCommand};
 ghost use Rattle.dtx_words.specs.Line.{HasLine, IsNoLine};
 ghost use Rattle.dtx_words.specs.Names.{repeated};
-ghost use Rattle.dtx_words.specs.Words.{adapt_words, code_words, excite_words, excite_names, make_words, make_names, receive_words, receive_names};
+ghost use Rattle.dtx_words.specs.Words.{adapt_names, adapt_words, code_words, excite_words, excite_names, make_words, make_names, receive_words, receive_names};
+ghost use Rattle.dtx_jobs.specs.Adapt.{CanBeAdapted, FeedLeaves};
 ghost use Rattle.dtx_jobs.specs.Excited.{CanBeExcited, ExciteLeaves};
 ghost use Rattle.dtx_jobs.specs.Make.{HasMakeCause, MakeLeaves};
 ghost use Rattle.dtx_jobs.specs.Received.{CanBeReceived, ReceiveLeaves};
-ghost use Rattle.dtx_jobs.specs.Work.{adapting, coding, CanBeDone, Leaves};
-ghost use Rattle.dtx_top.specs.Answer.{HasCause, HasExciteAnswerCause, HasReceiveAnswerCause};
+ghost use Rattle.dtx_jobs.specs.Work.{coding, CanBeDone, Leaves};
+ghost use Rattle.dtx_top.specs.Answer.{HasAdaptAnswerCause, HasCause, HasExciteAnswerCause, HasReceiveAnswerCause};
 ghost use Rattle.dtx_top.specs.Carried.{IsCarriedOut};
-ghost use Rattle.dtx_top.specs.Printing.{ExcitePrints, IsCodeLine, IsExciteLine, IsFeedLine, IsMadeLine, IsReceiveLine, MakePrints, Prints, ReceivePrints};
+ghost use Rattle.dtx_top.specs.Printing.{ExcitePrints, FeedPrints, IsCodeLine, IsExciteLine, IsFeedLine, IsMadeLine, IsReceiveLine, MakePrints, Prints, ReceivePrints};
 
 use crate::Status;
 use crate::performing::perform;
@@ -22,9 +23,10 @@ use std::alloc::Global;
 /// Does what the words ask for, over the files of the shelf, and prints a line to the sink at the end. The words are
 /// those after the program's name.
 ///
-/// `adapt PLAN IN OUT` writes the feed of the stream IN to OUT: its packets of 188 bytes, byte 0 of packet k set to
-/// the cadence mark 0xB8 where 624 divides k and to 0x47 elsewhere (the profile's own cadence, ATSC A/110). PLAN
-/// isn't read yet, and a placeholder is refused.
+/// `adapt PLAN IN OUT` writes the feed of the stream IN under the plan of PLAN to OUT: its packets of 188 bytes, which begin with
+/// 0x47. Byte 0 of packet k becomes the cadence mark 0xB8 where 624 divides k and stays 0x47 elsewhere, and each placeholder, of
+/// packet identifier 0x1FFA, becomes an operations packet, which says from which states and when its group is sent (the profile's
+/// own, in the manner of ATSC A/110).
 ///
 /// `code IN OUT` writes the symbols of the stream or feed IN to OUT: those of all data segments and field syncs that its whole
 /// groups of four packets give (ATSC A/53 Part 2), one signed byte each in two's complement. Byte 0 of its packets is 0x47 or the
@@ -51,31 +53,31 @@ pub fn run<S: Shelf, O: Sink>(alloc: Global, words: &[Word], shelf: &mut S, out:
         → HasLine IsNoLine [] result (Rose (O.faults out.old) (O.faults out.new)) (O.written out.old) (O.written out.new) }
 
     // Each answer of `adapt` has its cause, and equal names have no other answer.
-    ensures adapt_cause { IfSome (adapt_words words.now) (λ asked. HasCause (adapting asked) (S.files shelf.old)
+    ensures adapt_cause { IfSome (adapt_words words.now) (λ asked. HasAdaptAnswerCause asked (S.files shelf.old)
         (Rose (S.misses shelf.old) (S.misses shelf.new))
         (Rose (S.read_faults shelf.old) (S.read_faults shelf.new))
         (Rose (S.write_faults shelf.old) (S.write_faults shelf.new))
         (Rose (O.faults out.old) (O.faults out.new)) result) }
-    ensures adapt_same { IfSome (adapt_words words.now) (λ asked. IsSome (repeated (adapting asked).names)
+    ensures adapt_same { IfSome (adapt_words words.now) (λ asked. IsSome (repeated (adapt_names asked))
         → (result ≡ Status.Same) ⊎ (result ≡ Status.Memory)) }
 
     // Where nothing stands against it and nothing fails, it is done, unless memory is wanted.
-    ensures adapt_complete { IfSome (adapt_words words.now) (λ asked. CanBeDone (adapting asked) (S.files shelf.old)
+    ensures adapt_complete { IfSome (adapt_words words.now) (λ asked. CanBeAdapted asked (S.files shelf.old)
         → ¬ Rose (S.read_faults shelf.old) (S.read_faults shelf.new)
         → ¬ (Rose (S.write_faults shelf.old) (S.write_faults shelf.new) ⊎ Rose (O.faults out.old) (O.faults out.new))
         → (result ≡ Status.Done) ⊎ (result ≡ Status.Memory)) }
 
-    // Where it is done, the output is the feed of the input and the line has its numbers; what stands after every
-    // other answer, and that no other file was touched.
-    ensures adapt_left { IfSome (adapt_words words.now) (λ asked. Leaves (adapting asked) (S.files shelf.old) result (S.files shelf.new)) }
+    // Where it is done, the output is the feed of the input under the plan and the line has its numbers; what stands after
+    // every other answer, and that no other file was touched.
+    ensures adapt_left { IfSome (adapt_words words.now) (λ asked. FeedLeaves asked (S.files shelf.old) result (S.files shelf.new)) }
     ensures adapt_unprinted { IfSome (adapt_words words.now) (λ asked. result ≡ Status.WriteFault
         → ¬ Rose (S.write_faults shelf.old) (S.write_faults shelf.new)
-        → Leaves (adapting asked) (S.files shelf.old) Status.Done (S.files shelf.new)) }
+        → FeedLeaves asked (S.files shelf.old) Status.Done (S.files shelf.new)) }
     ensures adapt_done { IfSome (adapt_words words.now) (λ asked. result ≡ Status.Done
-        → Prints (adapting asked) (S.files shelf.old) (O.written out.old) (O.written out.new)) }
+        → FeedPrints asked (S.files shelf.old) (O.written out.old) (O.written out.new)) }
 
     // The line is the last thing that is written.
-    ensures adapt_line { IfSome (adapt_words words.now) (λ asked. HasLine (IsFeedLine (adapting asked) (S.files shelf.old)) (adapting asked).names result
+    ensures adapt_line { IfSome (adapt_words words.now) (λ asked. HasLine (IsFeedLine asked (S.files shelf.old)) (adapt_names asked) result
         (Rose (O.faults out.old) (O.faults out.new)) (O.written out.old) (O.written out.new)) }
 
     // Each answer of `code` has its cause, and equal names have no other answer.

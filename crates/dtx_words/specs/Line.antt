@@ -2,12 +2,13 @@
 use Rattle.std.specs.Prelude.{◌≡◌, ◌⊎◌, ℕ, ◌≤◌, List, [], ◌++◌, length, take, codes, decimal, slice_index, Option, Some, Result, Ok, Err}
 use Rattle.dtx_outside.specs.declared.sink.SinkNo.{SinkNo}
 use Rattle.dtx_outside.specs.declared.sink.SinkNo.TheVariants as sink
+use Rattle.dtx_plan.specs.Words.{key_word, rule_word}
 use Rattle.dtx_words.specs.Printed.{printed}
 use Rattle.dtx_words.specs.Names.{line_name}
 use Rattle.dtx_words.specs.declared.verbs.Command.{Command}
 use Rattle.dtx_words.specs.declared.verbs.Command.TheVariants.{Adapt, Code, Excite, Receive, Make}
 use Rattle.dtx_words.specs.declared.status.Status.{Status}
-use Rattle.dtx_words.specs.declared.status.Status.TheVariants.{Done, Usage, Same, Absent, Packet, TooLong, NoSync, ReadFault, WriteFault, Memory, NotBuilt}
+use Rattle.dtx_words.specs.declared.status.Status.TheVariants.{Done, Usage, Same, Absent, Plan, Packet, TooLong, NoSync, ReadFault, WriteFault, Memory}
 
 -- the line of a feed that was written
 abbrev pub feed_line : ℕ → ℕ → ℕ → List ℕ
@@ -39,13 +40,14 @@ refusal_line Done name = []
 refusal_line Usage name = codes "usage: dtx adapt|code|excite|receive|net|make|hurt\n"
 refusal_line Same name = codes "same " ++ name ++ codes "\n"
 refusal_line (Absent input) name = codes "absent " ++ name ++ codes "\n"
+refusal_line (Plan refusal) name =
+    codes "plan " ++ key_word refusal.key ++ codes " " ++ decimal refusal.item ++ codes " " ++ rule_word refusal.rule ++ codes "\n"
 refusal_line (Packet k) name = codes "packet " ++ decimal k ++ codes "\n"
 refusal_line TooLong name = codes "too long\n"
 refusal_line NoSync name = codes "no sync\n"
 refusal_line ReadFault name = codes "read fault\n"
 refusal_line WriteFault name = codes "write fault\n"
 refusal_line Memory name = codes "no memory\n"
-refusal_line (NotBuilt k) name = codes "not built " ++ decimal k ++ codes "\n"
 
 -- the line of a command that is done, from its numbers in their order
 abbrev pub done_line : Command → List ℕ → List ℕ

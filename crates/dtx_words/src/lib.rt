@@ -13,7 +13,7 @@ mod words;
 pub use fitting::command;
 pub use lines::{finish, line};
 pub use names::{name_in_line, repeated_name};
-pub use status::{Status, of_next, of_read};
+pub use status::{Status, of_next, of_plan, of_read};
 pub use verbs::Command;
 pub use words::{
     AdaptNames, CodeNames, ExciteOrder, MakeOrder, ReceiveNames, adapt_words, code_words,

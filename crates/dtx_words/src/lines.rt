@@ -168,13 +168,24 @@ fn print_refusal<O: Sink>(status: Status, name: &str, out: &mut O) -> Result<(),
         ),
         Status::Same => put_all(out, &["same ", name, "\n"]),
         Status::Absent(_) => put_all(out, &["absent ", name, "\n"]),
+        Status::Plan(no) => put_all(
+            out,
+            &[
+                "plan ",
+                no.key.word(),
+                " ",
+                number.format(no.item),
+                " ",
+                no.rule.word(),
+                "\n",
+            ],
+        ),
         Status::Packet(k) => put_all(out, &["packet ", number.format(k), "\n"]),
         Status::TooLong => put_all(out, &["too long\n"]),
         Status::NoSync => put_all(out, &["no sync\n"]),
         Status::ReadFault => put_all(out, &["read fault\n"]),
         Status::WriteFault => put_all(out, &["write fault\n"]),
         Status::Memory => put_all(out, &["no memory\n"]),
-        Status::NotBuilt(k) => put_all(out, &["not built ", number.format(k), "\n"]),
     }
 }
 

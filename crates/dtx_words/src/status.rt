@@ -1,9 +1,10 @@
 // How a call of the program ends.
 ghost use Rattle.std.specs.Prelude.{◌≡◌};
-ghost use Rattle.dtx_words.specs.Status.{code_of, of_next, of_read};
+ghost use Rattle.dtx_words.specs.Status.{code_of, of_next, of_plan, of_read};
 
 use dtx_outside::{ReadNo, WriteNo};
 use dtx_packets::NextNo;
+use dtx_plan::{PlanFault, PlanNo};
 use std::alloc::AllocError;
 
 /// How a call ends. Inputs are numbered from 0, in the order of the words that name them.
@@ -17,6 +18,8 @@ pub enum Status {
     Same,
     /// The input of that number isn't there.
     Absent(u8),
+    /// The plan breaks that rule first.
+    Plan(PlanNo),
     /// The packet of that number is the first whose byte 0 isn't allowed.
     Packet(u64),
     /// An input holds more than the command takes.
@@ -29,8 +32,6 @@ pub enum Status {
     WriteFault,
     /// Memory is wanted.
     Memory,
-    /// The packet of that number is the first placeholder, which can't be filled yet.
-    NotBuilt(u64),
 }
 
 impl Status {
@@ -43,13 +44,13 @@ impl Status {
             Status::Usage => 2,
             Status::Same => 3,
             Status::Absent(_) => 4,
+            Status::Plan(_) => 5,
             Status::Packet(_) => 6,
             Status::TooLong => 7,
             Status::NoSync => 10,
             Status::ReadFault => 11,
             Status::WriteFault => 12,
             Status::Memory => 13,
-            Status::NotBuilt(_) => 14,
         }
     }
 }
@@ -74,6 +75,16 @@ pub fn of_next(input: u8, cause: NextNo) -> Status
         NextNo::Failed => Status::ReadFault,
         NextNo::Memory => Status::Memory,
         NextNo::TooLong => Status::TooLong,
+    }
+}
+
+/// The status where no plan was read.
+pub fn of_plan(fault: PlanFault) -> Status
+    ensures { result ≡ of_plan fault }
+{
+    match fault {
+        PlanFault::No(no) => Status::Plan(no),
+        PlanFault::Memory => Status::Memory,
     }
 }
 

@@ -11,6 +11,18 @@ fn words_of(rt: &HostRuntime, texts: &[&str]) -> Result<Vec<Word>, Fail> {
     Ok(words)
 }
 
+/// A plan of two transmitters.
+const PLAN: &str = "start = 0\nmax_delay = 5000000\n\
+[[transmitter]]\naddress = 7\noffset = -10\ndelay = 1000\n\
+[[transmitter]]\naddress = 9\noffset = 25\ndelay = 2000\n";
+
+/// Files with that plan under `p1`.
+fn planned(rt: &HostRuntime) -> Result<MemoryShelf, Fail> {
+    let mut shelf = MemoryShelf::new(rt.alloc());
+    shelf.put("p1", PLAN.as_bytes())?;
+    Ok(shelf)
+}
+
 /// What `run` answers to those words. The tests see its answer alone, and none of its clauses.
 fn answered(
     rt: &HostRuntime,
@@ -39,9 +51,9 @@ fn words_and_names_have_their_status_and_line(rt: HostRuntime) -> Result<(), Fai
         ),
         (
             &["adapt", "p1", "s.ts", "f.ts"],
-            Status::Absent(1),
+            Status::Absent(0),
             4,
-            "absent s.ts\n",
+            "absent p1\n",
         ),
         (&["code", "a", ""], Status::Usage, 2, usage),
         (&["code", "a", "a"], Status::Same, 3, "same a\n"),
@@ -59,6 +71,129 @@ fn words_and_names_have_their_status_and_line(rt: HostRuntime) -> Result<(), Fai
         assert_eq!(rt; status_now.code(), code);
         assert_eq!(rt; out.bytes(), line.as_bytes());
         assert_eq!(rt; shelf.calls(Call::Begin), 0);
+    }
+    Ok(())
+}
+
+#[test]
+fn a_made_stream_is_marked_and_its_placeholders_are_filled(rt: HostRuntime) -> Result<(), Fail> {
+    let mut shelf = planned(&rt)?;
+    let mut out = MemorySink::new(rt.alloc());
+    let made = answered(&rt, &["make", "1", "1300", "s.ts"], &mut shelf, &mut out)?;
+    assert_eq!(rt; made, Status::Done);
+    let adapted = answered(&rt, &["adapt", "p1", "s.ts", "f.ts"], &mut shelf, &mut out)?;
+    assert_eq!(rt; adapted, Status::Done);
+    let lines = "packets 1300\npackets 1300 filled 4 loose 0\n";
+    assert_eq!(rt; out.bytes(), lines.as_bytes());
+    let feed = shelf.get("f.ts").unwrap_or(&[]);
+    assert_eq!(rt; feed.len(), 1300 * 188);
+    for (k, packet) in feed.chunks_exact(188).enumerate() {
+        let marked = [0, 624, 1248].contains(&k);
+        assert_eq!(rt; packet[0], if marked { 0xB8 } else { 0x47 });
+        let filled = [100, 412, 724, 1036].contains(&k);
+        assert_eq!(rt; packet[1..3] == [0x1F, 0xFA], filled);
+        if filled {
+            assert_eq!(rt; packet[16..20], ((k / 624) as u32).to_be_bytes());
+            assert_eq!(rt; packet[20..22], ((k % 624) as u16).to_be_bytes());
+        }
+    }
+    Ok(())
+}
+
+#[test]
+fn small_streams_are_fed_whole(rt: HostRuntime) -> Result<(), Fail> {
+    let mut stream = [0x47; 193];
+    stream[1] = 0;
+    let mut fed = stream;
+    fed[0] = 0xB8;
+    for (length, line, feed) in [
+        (0, "packets 0 filled 0 loose 0\n", 0),
+        (193, "packets 1 filled 0 loose 5\n", 188),
+    ] {
+        let mut shelf = planned(&rt)?;
+        let mut out = MemorySink::new(rt.alloc());
+        shelf.put("s.ts", &stream[..length])?;
+        let status = answered(&rt, &["adapt", "p1", "s.ts", "f.ts"], &mut shelf, &mut out)?;
+        assert_eq!(rt; status, Status::Done);
+        assert_eq!(rt; out.bytes(), line.as_bytes());
+        assert!(rt; shelf.get("f.ts") == Some(&fed[..feed]));
+    }
+    Ok(())
+}
+
+#[test]
+fn a_plan_is_refused_by_its_first_broken_rule(rt: HostRuntime) -> Result<(), Fail> {
+    for (text, line) in [
+        ("start = ", "plan whole 0 text\n"),
+        (
+            "max_delay = 5000000\n[[transmitter]]\naddress = 7\noffset = -10\ndelay = 1000\n",
+            "plan start 0 missing\n",
+        ),
+        (
+            "start = 0\nmax_delay = 10000000\n[[transmitter]]\naddress = 7\noffset = -10\ndelay = 1000\n",
+            "plan max_delay 0 range\n",
+        ),
+        (
+            "start = 0\nmax_delay = 5000000\n[[transmitter]]\naddress = 7\noffset = -10\ndelay = 1000\n\
+             [[transmitter]]\naddress = 7\noffset = 25\ndelay = 2000\n",
+            "plan address 1 twice\n",
+        ),
+    ] {
+        let mut shelf = MemoryShelf::new(rt.alloc());
+        let mut out = MemorySink::new(rt.alloc());
+        shelf.put("p1", text.as_bytes())?;
+        let status = answered(&rt, &["adapt", "p1", "s.ts", "f.ts"], &mut shelf, &mut out)?;
+        assert_eq!(rt; status.code(), 5);
+        assert_eq!(rt; out.bytes(), line.as_bytes());
+        assert_eq!(rt; shelf.calls(Call::Begin), 0);
+    }
+    Ok(())
+}
+
+#[test]
+fn a_refused_packet_leaves_the_groups_before_its_own(rt: HostRuntime) -> Result<(), Fail> {
+    let mut stream = [0x47; 9 * 188];
+    for k in 0..9 {
+        stream[188 * k + 1] = 0;
+    }
+    stream[5 * 188] = 0x48;
+    let mut shelf = planned(&rt)?;
+    let mut out = MemorySink::new(rt.alloc());
+    shelf.put("s.ts", &stream)?;
+    let status = answered(&rt, &["adapt", "p1", "s.ts", "f.ts"], &mut shelf, &mut out)?;
+    assert_eq!(rt; status, Status::Packet(5));
+    assert_eq!(rt; status.code(), 6);
+    assert_eq!(rt; out.bytes(), "packet 5\n".as_bytes());
+    stream[0] = 0xB8;
+    assert!(rt; shelf.get("f.ts") == Some(&stream[..4 * 188]));
+    Ok(())
+}
+
+#[test]
+fn a_failing_file_leaves_a_front_part_of_the_feed(rt: HostRuntime) -> Result<(), Fail> {
+    let mut whole = planned(&rt)?;
+    let mut out = MemorySink::new(rt.alloc());
+    answered(&rt, &["make", "1", "1300", "s.ts"], &mut whole, &mut out)?;
+    answered(&rt, &["adapt", "p1", "s.ts", "f.ts"], &mut whole, &mut out)?;
+    for (call, status, code, line) in [
+        (Call::Append, Status::WriteFault, 12, "write fault\n"),
+        (Call::Read, Status::ReadFault, 11, "read fault\n"),
+    ] {
+        let mut shelf = planned(&rt)?;
+        let mut out = MemorySink::new(rt.alloc());
+        shelf.put("s.ts", whole.get("s.ts").unwrap_or(&[]))?;
+        shelf.fail(call, 0)?;
+        let status_now = answered(&rt, &["adapt", "p1", "s.ts", "f.ts"], &mut shelf, &mut out)?;
+        assert_eq!(rt; status_now, status);
+        assert_eq!(rt; status_now.code(), code);
+        assert_eq!(rt; out.bytes(), line.as_bytes());
+        match shelf.get("f.ts") {
+            Some(front) => {
+                assert_eq!(rt; status, Status::WriteFault);
+                assert!(rt; whole.get("f.ts").unwrap_or(&[]).starts_with(front));
+            }
+            None => assert_eq!(rt; status, Status::ReadFault),
+        }
     }
     Ok(())
 }

@@ -2,6 +2,7 @@
 use super::*;
 use crate::command;
 use dtx_outside::{MemorySink, Word};
+use dtx_plan::{PlanKey, PlanNo, PlanRule};
 use std::test::Fail;
 
 #[test]
@@ -25,7 +26,16 @@ fn each_line_ends_in_a_line_feed_and_has_its_numbers_in_order(rt: HostRuntime) -
         ("receive", 2, Status::NoSync, "no sync\n"),
         ("make", 3, Status::Done, "packets 8\n"),
         ("code", 2, Status::Packet(417), "packet 417\n"),
-        ("adapt", 3, Status::NotBuilt(5), "not built 5\n"),
+        (
+            "adapt",
+            3,
+            Status::Plan(PlanNo {
+                key: PlanKey::ReceiveFrom,
+                item: 12,
+                rule: PlanRule::Stranger,
+            }),
+            "plan receive.from 12 stranger\n",
+        ),
         ("make", 3, Status::WriteFault, "write fault\n"),
     ] {
         let mut words = Vec::new(rt.alloc());

@@ -2,6 +2,7 @@ use Rattle.std.specs.Prelude.{Err}
 use Rattle.std.proofs.Common.{ap}
 use Rattle.dtx_jobs.proofs.Asking.{asked_causes, asked_leaves, asked_refusal, absent_is, made_causes, made_leaves, absent_later}
 use Rattle.dtx_jobs.specs.declared.stream.Source.TheVariants.{Coded}
+use Rattle.dtx_jobs.specs.Symbols.{symbol_bytes}
 use Rattle.dtx_jobs.proofs.code_job.code_in.Goals as goal
 
 pub returns-in-Err-clause-cause : goal.returns-in-Err-clause-cause
@@ -10,7 +11,7 @@ returns-in-Err-clause-cause g c = λ apart.
 
 pub returns-in-Err-clause-left : goal.returns-in-Err-clause-left
 returns-in-Err-clause-left g c = λ apart.
-    asked_leaves Coded (g.S.Shelf.files c.args.shelf.now) (g.S.Shelf.files c.ask_for.new.shelf) c.args.input.now c.args.output.now c.in-Err.status c.in-Err.ensures.told c.ask_for.ensures.kept
+    asked_leaves Coded symbol_bytes (g.S.Shelf.files c.args.shelf.now) (g.S.Shelf.files c.ask_for.new.shelf) c.args.input.now c.args.output.now c.in-Err.status c.in-Err.ensures.told c.ask_for.ensures.kept
 
 pub returns-in-Err-clause-refusal : goal.returns-in-Err-clause-refusal
 returns-in-Err-clause-refusal g c = asked_refusal Coded c.in-Err.status c.in-Err.ensures.refusal
@@ -24,7 +25,7 @@ returns-clause-cause g c = λ apart.
 
 pub returns-clause-left : goal.returns-clause-left
 returns-clause-left g c = λ apart.
-    made_leaves Coded (g.S.Shelf.files c.args.shelf.now) (g.S.Shelf.files c.ask_for.new.shelf) (g.S.Shelf.files c.begin_symbols.new.shelf) c.args.input.now c.args.output.now c.begin_symbols.result
+    made_leaves Coded symbol_bytes (g.S.Shelf.files c.args.shelf.now) (g.S.Shelf.files c.ask_for.new.shelf) (g.S.Shelf.files c.begin_symbols.new.shelf) c.args.input.now c.args.output.now c.begin_symbols.result
     c.ask_for.ensures.kept c.in_default.ensures.told (c.begin_symbols.ensures.cause apart) (c.begin_symbols.ensures.left apart)
 
 pub returns-clause-absent : goal.returns-clause-absent

@@ -1,11 +1,12 @@
 use Rattle.std.proofs.lemmas.Option.{IfSome_then}
 use Rattle.dtx_words.specs.Words.{adapt_words, code_words, excite_words, make_words, receive_words}
-use Rattle.dtx_jobs.specs.Work.{adapting, coding}
-use Rattle.dtx_words.specs.declared.verbs.Command.TheVariants.{Adapt, Code}
+use Rattle.dtx_jobs.specs.Work.{coding}
+use Rattle.dtx_words.specs.declared.verbs.Command.TheVariants.{Code}
+use Rattle.dtx_top.proofs.Adapting.{adapt_run, adapted_cause, adapted_same, adapted_complete, adapted_left, adapted_unprinted, adapted_prints, adapted_line_left}
 use Rattle.dtx_top.proofs.Exciting.{excite_run, excited_cause, excited_same, excited_complete, excited_left, excited_unprinted, excited_prints, excited_line_left}
 use Rattle.dtx_top.proofs.Making.{make_run, make_cause, make_complete, make_left, make_unprinted, make_prints, made_line_left}
 use Rattle.dtx_top.proofs.Receiving.{receive_run, received_cause, received_same, received_complete, received_left, received_unprinted, received_prints, received_line_left}
-use Rattle.dtx_top.proofs.Streams.{adapt_run, code_run, run_cause, run_same, run_complete, run_left, run_unprinted, adapt_prints, code_prints, feed_line_left, code_line_left}
+use Rattle.dtx_top.proofs.Streams.{code_run, run_cause, run_same, run_complete, run_left, run_unprinted, code_prints, code_line_left}
 use Rattle.dtx_top.proofs.Unfit.{unfit_answer, unfit_left, unfit_line}
 use Rattle.dtx_top.proofs.top.run.Goals as goal
 
@@ -19,25 +20,25 @@ pub returns-clause-usage_line : goal.returns-clause-usage_line
 returns-clause-usage_line g c = unfit_line _ _ _ _ _ _ _ _ _ _ c.carry_out.ensures
 
 pub returns-clause-adapt_cause : goal.returns-clause-adapt_cause
-returns-clause-adapt_cause g c = IfSome_then (adapt_words c.args.words.now) (adapt_run _ _ _ _ _ _ _ _ _ _ c.carry_out.ensures) (λ asked run. run_cause Adapt (adapting asked) _ _ _ _ _ _ _ _ _ run)
+returns-clause-adapt_cause g c = IfSome_then (adapt_words c.args.words.now) (adapt_run _ _ _ _ _ _ _ _ _ _ c.carry_out.ensures) (λ asked run. adapted_cause asked _ _ _ _ _ _ _ _ _ run)
 
 pub returns-clause-adapt_same : goal.returns-clause-adapt_same
-returns-clause-adapt_same g c = IfSome_then (adapt_words c.args.words.now) (adapt_run _ _ _ _ _ _ _ _ _ _ c.carry_out.ensures) (λ asked run. run_same Adapt (adapting asked) _ _ _ _ _ _ _ _ _ run)
+returns-clause-adapt_same g c = IfSome_then (adapt_words c.args.words.now) (adapt_run _ _ _ _ _ _ _ _ _ _ c.carry_out.ensures) (λ asked run. adapted_same asked _ _ _ _ _ _ _ _ _ run)
 
 pub returns-clause-adapt_complete : goal.returns-clause-adapt_complete
-returns-clause-adapt_complete g c = IfSome_then (adapt_words c.args.words.now) (adapt_run _ _ _ _ _ _ _ _ _ _ c.carry_out.ensures) (λ asked run. run_complete Adapt (adapting asked) _ _ _ _ _ _ _ _ _ run)
+returns-clause-adapt_complete g c = IfSome_then (adapt_words c.args.words.now) (adapt_run _ _ _ _ _ _ _ _ _ _ c.carry_out.ensures) (λ asked run. adapted_complete asked _ _ _ _ _ _ _ _ _ run)
 
 pub returns-clause-adapt_left : goal.returns-clause-adapt_left
-returns-clause-adapt_left g c = IfSome_then (adapt_words c.args.words.now) (adapt_run _ _ _ _ _ _ _ _ _ _ c.carry_out.ensures) (λ asked run. run_left Adapt (adapting asked) _ _ _ _ _ _ _ _ _ run)
+returns-clause-adapt_left g c = IfSome_then (adapt_words c.args.words.now) (adapt_run _ _ _ _ _ _ _ _ _ _ c.carry_out.ensures) (λ asked run. adapted_left asked _ _ _ _ _ _ _ _ _ run)
 
 pub returns-clause-adapt_unprinted : goal.returns-clause-adapt_unprinted
-returns-clause-adapt_unprinted g c = IfSome_then (adapt_words c.args.words.now) (adapt_run _ _ _ _ _ _ _ _ _ _ c.carry_out.ensures) (λ asked run. run_unprinted Adapt (adapting asked) _ _ _ _ _ _ _ _ _ run)
+returns-clause-adapt_unprinted g c = IfSome_then (adapt_words c.args.words.now) (adapt_run _ _ _ _ _ _ _ _ _ _ c.carry_out.ensures) (λ asked run. adapted_unprinted asked _ _ _ _ _ _ _ _ _ run)
 
 pub returns-clause-adapt_done : goal.returns-clause-adapt_done
-returns-clause-adapt_done g c = IfSome_then (adapt_words c.args.words.now) (adapt_run _ _ _ _ _ _ _ _ _ _ c.carry_out.ensures) (λ asked run. adapt_prints asked _ _ _ _ _ _ _ _ _ run)
+returns-clause-adapt_done g c = IfSome_then (adapt_words c.args.words.now) (adapt_run _ _ _ _ _ _ _ _ _ _ c.carry_out.ensures) (λ asked run. adapted_prints asked _ _ _ _ _ _ _ _ _ run)
 
 pub returns-clause-adapt_line : goal.returns-clause-adapt_line
-returns-clause-adapt_line g c = IfSome_then (adapt_words c.args.words.now) (adapt_run _ _ _ _ _ _ _ _ _ _ c.carry_out.ensures) (λ asked run. feed_line_left asked _ _ _ _ _ _ _ _ _ run)
+returns-clause-adapt_line g c = IfSome_then (adapt_words c.args.words.now) (adapt_run _ _ _ _ _ _ _ _ _ _ c.carry_out.ensures) (λ asked run. adapted_line_left asked _ _ _ _ _ _ _ _ _ run)
 
 pub returns-clause-code_cause : goal.returns-clause-code_cause
 returns-clause-code_cause g c = IfSome_then (code_words c.args.words.now) (code_run _ _ _ _ _ _ _ _ _ _ c.carry_out.ensures) (λ asked run. run_cause Code (coding asked) _ _ _ _ _ _ _ _ _ run)
