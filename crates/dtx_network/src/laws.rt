@@ -16,6 +16,10 @@ ghost use Rattle.dtx_exciter.specs.Stretch.{stretch_lines, IsApart};
 ghost use Rattle.dtx_network.specs.Plans.{IsPlan, IsStream, IsListed, IsInTime};
 ghost use Rattle.dtx_network.specs.Orders.{has_order, order_of, IsOrder};
 ghost use Rattle.dtx_network.specs.Presets.{orders, moment_at, preset_at, presets};
+ghost use Rattle.dtx_chain.specs.Undamaged.{ArePackets};
+ghost use Rattle.dtx_plan.specs.declared.event.Event.{Event};
+ghost use Rattle.dtx_network.specs.GivesBack.{GivesBack, GivesAllBack};
+ghost use Rattle.dtx_network.specs.Network.{Headline};
 ghost use Rattle.dtx_network.specs.Headline.{IsFed, IsFirstOrder, stretch_of, segment_of, end_of, Emits};
 
 /// Every plan that the walk over a file's bytes gives is one that a network takes.
@@ -82,4 +86,25 @@ pub fn lines_of_a_stretch()
 /// difference, in ticks of 1539 grains, and otherwise by whole seconds, wherever their stretches begin.
 pub fn apart()
     ensures { (plan : Plan) (t u : Transmitter) (s r k l g : ℕ) → IsApart (t.offset -ℤ u.offset) (preset_at plan t.offset s k g) (preset_at plan u.offset r l g) }
+{}
+
+/// The packets of a feed have 188 bytes each, as those of its stream have.
+pub fn packets_of_a_feed()
+    ensures { (plan : Plan) (stream : List (List ℕ)) → IsPlan plan → IsStream stream → ArePackets (feed plan stream) }
+{}
+
+/// Of any received segments that hold the stretch of a feed, damaged or not: a run that begins at a field sync of the stretch gives
+/// each packet back whose bytes lie in the stretch and whose word has at most ten wrong bytes.
+pub fn gives_back()
+    ensures { (feed : List (List ℕ)) (k end s : ℕ) (got : List (List ℤ)) → ArePackets feed → end ≤ length feed → GivesBack feed k end s got }
+{}
+
+/// The stretch alone, received with slight damage, is one run from its first field sync on, and gives just the feed's packets.
+pub fn gives_all_back()
+    ensures { (feed : List (List ℕ)) (k end : ℕ) (got : List (List ℤ)) → ArePackets feed → end ≤ length feed → GivesAllBack feed k end got }
+{}
+
+/// The headline, for every stream and every schedule.
+pub fn headline()
+    ensures { (plan : Plan) (stream : List (List ℕ)) (events : List Event) → IsPlan plan → IsStream stream → Headline plan stream events }
 {}
