@@ -113,6 +113,6 @@ all_given_back feed k end got packets inside = λ begins alone.
     record {
       run = one_run_left feed (segment_place k) (stretch_of feed k end) got r l alone.slight ∙ ap (λ (n : ℕ). drop n got ∷ []) (same_sync k);
       packets = all_back feed (segment_place k) (stretch_of feed k end) got r l alone.slight packets
-              ∙ ap₂ (λ (f n : ℕ). map (λ j. with_sync (get_or feed (f + j) [])) (numbers_in (drop n got))) (same_packet k) (same_sync k);
+          ∙ ap₂ (λ (f n : ℕ). map (λ j. with_sync (get_or feed (f + j) [])) (numbers_in (drop n got))) (same_packet k) (same_sync k);
       good = none_flagged feed (segment_place k) (stretch_of feed k end) got r l alone.slight packets;
     }

@@ -93,18 +93,23 @@ pub fn packets_of_a_feed()
     ensures { (plan : Plan) (stream : List (List ℕ)) → IsPlan plan → IsStream stream → ArePackets (feed plan stream) }
 {}
 
-/// Of any received segments that hold the stretch of a feed, damaged or not: a run that begins at a field sync of the stretch gives
-/// each packet back whose bytes lie in the stretch and whose word has at most ten wrong bytes.
+/// Whatever segments are received, the stretch of a feed being at segment s of them: a run that begins at a field sync of the stretch
+/// gives each packet back whose bytes all lie in the stretch and whose word has at most ten wrong bytes, good and with 0x47 as its
+/// sync byte, behind the packets of the runs before it.
 pub fn gives_back()
     ensures { (feed : List (List ℕ)) (k end s : ℕ) (got : List (List ℤ)) → ArePackets feed → end ≤ length feed → GivesBack feed k end s got }
 {}
 
-/// The stretch alone, received with slight damage, is one run from its first field sync on, and gives just the feed's packets.
+/// The stretch alone, received with slight damage, is one run from its first field sync on, and what is received is exactly the
+/// feed's packets from there on whose bytes are all there, in order, none flagged.
 pub fn gives_all_back()
     ensures { (feed : List (List ℕ)) (k end : ℕ) (got : List (List ℤ)) → ArePackets feed → end ≤ length feed → GivesAllBack feed k end got }
 {}
 
-/// The headline, for every stream and every schedule.
+/// The headline: for every packet stream and schedule, an exciter that from any earlier state is given the adapter's feed unchanged
+/// from a cadence mark on emits, from the first operations packet whose group begins 52 or more packets later, exactly the symbols of
+/// that feed (ATSC A/53 Part 2), at moments that differ between transmitters only by the signalled offsets; and symbols with at most
+/// ten wrong bytes per codeword give their packets back.
 pub fn headline()
     ensures { (plan : Plan) (stream : List (List ℕ)) (events : List Event) → IsPlan plan → IsStream stream → Headline plan stream events }
 {}
