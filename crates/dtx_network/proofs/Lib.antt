@@ -4,3 +4,7 @@ pub mod Presets
 pub mod Stretches
 pub mod Segs
 pub mod Emitting
+pub mod FeedPackets
+pub mod Back
+pub mod AllBack
+pub mod Whole

@@ -63,7 +63,7 @@ are_entries : (plan : Plan) → IsPlan plan → All (λ t. IsEntry (entry_of t))
 are_entries plan p = All-weaker IsTransmitter (λ t. IsEntry (entry_of t)) (λ t h. record { address = h.address; offset = h.offset }) plan.transmitters.items p.transmitters
 
 -- each of them reads as what is said at its place
-operations_read : (plan : Plan) (stream : List (List ℕ)) (k : ℕ) → IsPlan plan → IsStream stream → pid_of (get_or stream k []) ≡ 0x1FFA
+pub operations_read : (plan : Plan) (stream : List (List ℕ)) (k : ℕ) → IsPlan plan → IsStream stream → pid_of (get_or stream k []) ≡ 0x1FFA
     → reading (get_or (feed plan stream) k []) ≡ Ok (ops_at plan (take k (feed plan stream)) k)
 operations_read plan stream k p s e = placeholder_reads plan stream k p.sound (are_entries plan p) s.most (within stream k e) e
 

@@ -16,6 +16,10 @@ ghost use Rattle.dtx_exciter.specs.Stretch.{stretch_lines, IsApart};
 ghost use Rattle.dtx_network.specs.Plans.{IsPlan, IsStream, IsListed, IsInTime};
 ghost use Rattle.dtx_network.specs.Orders.{has_order, order_of, IsOrder};
 ghost use Rattle.dtx_network.specs.Presets.{orders, moment_at, preset_at, presets};
+ghost use Rattle.dtx_chain.specs.Undamaged.{ArePackets};
+ghost use Rattle.dtx_plan.specs.declared.event.Event.{Event};
+ghost use Rattle.dtx_network.specs.GivesBack.{GivesBack, GivesAllBack};
+ghost use Rattle.dtx_network.specs.Network.{Headline};
 ghost use Rattle.dtx_network.specs.Headline.{IsFed, IsFirstOrder, stretch_of, segment_of, end_of, Emits};
 
 /// Every plan that the walk over a file's bytes gives is one that a network takes.
@@ -82,4 +86,30 @@ pub fn lines_of_a_stretch()
 /// difference, in ticks of 1539 grains, and otherwise by whole seconds, wherever their stretches begin.
 pub fn apart()
     ensures { (plan : Plan) (t u : Transmitter) (s r k l g : ℕ) → IsApart (t.offset -ℤ u.offset) (preset_at plan t.offset s k g) (preset_at plan u.offset r l g) }
+{}
+
+/// The packets of a feed have 188 bytes each, as those of its stream have.
+pub fn packets_of_a_feed()
+    ensures { (plan : Plan) (stream : List (List ℕ)) → IsPlan plan → IsStream stream → ArePackets (feed plan stream) }
+{}
+
+/// Whatever segments are received, the stretch of a feed being at segment s of them: a run that begins at a field sync of the stretch
+/// gives each packet back whose bytes all lie in the stretch and whose word has at most ten wrong bytes, good and with 0x47 as its
+/// sync byte, behind the packets of the runs before it.
+pub fn gives_back()
+    ensures { (feed : List (List ℕ)) (k end s : ℕ) (got : List (List ℤ)) → ArePackets feed → end ≤ length feed → GivesBack feed k end s got }
+{}
+
+/// The stretch alone, received with slight damage, is one run from its first field sync on, and what is received is exactly the
+/// feed's packets from there on whose bytes are all there, in order, none flagged.
+pub fn gives_all_back()
+    ensures { (feed : List (List ℕ)) (k end : ℕ) (got : List (List ℤ)) → ArePackets feed → end ≤ length feed → GivesAllBack feed k end got }
+{}
+
+/// The headline: for every packet stream and schedule, an exciter that from any earlier state is given the adapter's feed unchanged
+/// from a cadence mark on emits, from the first operations packet whose group begins 52 or more packets later, exactly the symbols of
+/// that feed (ATSC A/53 Part 2), at moments that differ between transmitters only by the signalled offsets; and symbols with at most
+/// ten wrong bytes per codeword give their packets back.
+pub fn headline()
+    ensures { (plan : Plan) (stream : List (List ℕ)) (events : List Event) → IsPlan plan → IsStream stream → Headline plan stream events }
 {}

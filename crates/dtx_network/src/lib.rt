@@ -1,4 +1,4 @@
-//! The network: an adapter's feed and the exciters that lock to it.
+//! The network: an adapter's feed, the exciters that lock to it, and the packets that their symbols give back.
 #![tactic(auto)]
 
 pub mod laws;
