@@ -9,7 +9,7 @@ use Rattle.dtx_clock.specs.declared.answers.Moment.{Moment}
 abbrev pub stamp_of : ℕ → ℕ → ℕ
 stamp_of start frame = (start * 1539 + frame * 744789760) / 1539 % 10000000
 
--- what is left of the maximum delay and the offset behind the delay, or late where the delay is greater than both
+-- what is left of the sum of maximum delay and offset behind the delay, or late where the delay is greater than that sum
 abbrev pub IsHold : ℕ → ℤ → ℕ → Result ℕ Late → Type 0
 IsHold max offset delay (Ok left) = pos left ≡ (pos max +ℤ offset -ℤ pos delay)
 IsHold max offset delay (Err late) = (pos max +ℤ offset) <ℤ pos delay

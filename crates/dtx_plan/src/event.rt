@@ -27,7 +27,7 @@ pub enum Event {
         at: u8,
         with: u8,
     },
-    /// Packet `from` of the feed as an operations packet of these states.
+    /// Packet `from` of the feed with these states, where it reads as an operations packet, and else as it is.
     Lie {
         to: u16,
         from: u64,

@@ -47,9 +47,9 @@ pub enum PlanKey {
     ReceiveFrom,
     /// The array of damage, or one of its entries.
     Damage,
-    /// The first symbol that is damaged.
+    /// The first byte that is damaged.
     DamageAt,
-    /// The number of symbols that are damaged.
+    /// The number of bytes that are damaged.
     DamageCount,
     /// What stands in their place.
     DamagePut,

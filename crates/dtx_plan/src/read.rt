@@ -18,7 +18,7 @@ use toml::Table;
 /// The plan that the bytes of a file say, or the first refusal of the walk over it (the profile's own plan file).
 ///
 /// The walk goes from top to bottom, entry by entry, and in each table row by row: first the keys that the table may
-/// hold, then each key's rules. Memory may be wanted at any step.
+/// hold (of an event first `do`, which says what these are), then each key's rules. Memory may be wanted at any step.
 pub fn read_plan(alloc: Global, bytes: &[u8]) -> Result<Plan, PlanFault>
     ensures walk { IsAnswer (spec.plan_of bytes.now) result }
     ensures sound { IfOk result IsSound }
