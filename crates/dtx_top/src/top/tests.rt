@@ -23,6 +23,21 @@ fn planned(rt: &HostRuntime) -> Result<MemoryShelf, Fail> {
     Ok(shelf)
 }
 
+/// A stream whose packets begin with these bytes and else are zeros, and zeros behind the last one.
+fn stream_of(rt: &HostRuntime, syncs: &[u8], loose: usize) -> Result<Vec<u8>, Fail> {
+    let mut stream = Vec::new(rt.alloc());
+    for sync in syncs {
+        stream.push(*sync)?;
+        for _ in 1..188 {
+            stream.push(0)?;
+        }
+    }
+    for _ in 0..loose {
+        stream.push(0)?;
+    }
+    Ok(stream)
+}
+
 /// What `run` answers to those words. The tests see its answer alone, and none of its clauses.
 fn answered(
     rt: &HostRuntime,
@@ -87,14 +102,17 @@ fn a_made_stream_is_marked_and_its_placeholders_are_filled(rt: HostRuntime) -> R
     assert_eq!(rt; out.bytes(), lines.as_bytes());
     let feed = shelf.get("f.ts").unwrap_or(&[]);
     assert_eq!(rt; feed.len(), 1300 * 188);
-    for (k, packet) in feed.chunks_exact(188).enumerate() {
+    for k in 0..1300_usize {
+        let packet = feed.get(188 * k..188 * k + 188).unwrap_or(&[]);
         let marked = [0, 624, 1248].contains(&k);
-        assert_eq!(rt; packet[0], if marked { 0xB8 } else { 0x47 });
+        let sync = if marked { 0xB8 } else { 0x47 };
+        assert!(rt; packet.first().copied() == Some(sync));
         let filled = [100, 412, 724, 1036].contains(&k);
-        assert_eq!(rt; packet[1..3] == [0x1F, 0xFA], filled);
+        assert_eq!(rt; packet.get(1..3) == Some([0x1F, 0xFA].as_slice()), filled);
         if filled {
-            assert_eq!(rt; packet[16..20], ((k / 624) as u32).to_be_bytes());
-            assert_eq!(rt; packet[20..22], ((k % 624) as u16).to_be_bytes());
+            let (frame, index) = ((k / 624) as u32, (k % 624) as u16);
+            assert!(rt; packet.get(16..20) == Some(frame.to_be_bytes().as_slice()));
+            assert!(rt; packet.get(20..22) == Some(index.to_be_bytes().as_slice()));
         }
     }
     Ok(())
@@ -102,21 +120,23 @@ fn a_made_stream_is_marked_and_its_placeholders_are_filled(rt: HostRuntime) -> R
 
 #[test]
 fn small_streams_are_fed_whole(rt: HostRuntime) -> Result<(), Fail> {
-    let mut stream = [0x47; 193];
-    stream[1] = 0;
-    let mut fed = stream;
-    fed[0] = 0xB8;
-    for (length, line, feed) in [
-        (0, "packets 0 filled 0 loose 0\n", 0),
-        (193, "packets 1 filled 0 loose 5\n", 188),
+    for (syncs, loose, line, fed) in [
+        (
+            [].as_slice(),
+            0,
+            "packets 0 filled 0 loose 0\n",
+            [].as_slice(),
+        ),
+        (&[0x47], 5, "packets 1 filled 0 loose 5\n", &[0xB8]),
     ] {
         let mut shelf = planned(&rt)?;
         let mut out = MemorySink::new(rt.alloc());
-        shelf.put("s.ts", &stream[..length])?;
+        shelf.put("s.ts", &stream_of(&rt, syncs, loose)?)?;
         let status = answered(&rt, &["adapt", "p1", "s.ts", "f.ts"], &mut shelf, &mut out)?;
         assert_eq!(rt; status, Status::Done);
         assert_eq!(rt; out.bytes(), line.as_bytes());
-        assert!(rt; shelf.get("f.ts") == Some(&fed[..feed]));
+        let feed = stream_of(&rt, fed, 0)?;
+        assert!(rt; shelf.get("f.ts") == Some(feed.as_slice()));
     }
     Ok(())
 }
@@ -152,20 +172,16 @@ fn a_plan_is_refused_by_its_first_broken_rule(rt: HostRuntime) -> Result<(), Fai
 
 #[test]
 fn a_refused_packet_leaves_the_groups_before_its_own(rt: HostRuntime) -> Result<(), Fail> {
-    let mut stream = [0x47; 9 * 188];
-    for k in 0..9 {
-        stream[188 * k + 1] = 0;
-    }
-    stream[5 * 188] = 0x48;
+    let syncs = [0x47, 0x47, 0x47, 0x47, 0x47, 0x48, 0x47, 0x47, 0x47];
     let mut shelf = planned(&rt)?;
     let mut out = MemorySink::new(rt.alloc());
-    shelf.put("s.ts", &stream)?;
+    shelf.put("s.ts", &stream_of(&rt, &syncs, 0)?)?;
     let status = answered(&rt, &["adapt", "p1", "s.ts", "f.ts"], &mut shelf, &mut out)?;
     assert_eq!(rt; status, Status::Packet(5));
     assert_eq!(rt; status.code(), 6);
     assert_eq!(rt; out.bytes(), "packet 5\n".as_bytes());
-    stream[0] = 0xB8;
-    assert!(rt; shelf.get("f.ts") == Some(&stream[..4 * 188]));
+    let feed = stream_of(&rt, &[0xB8, 0x47, 0x47, 0x47], 0)?;
+    assert!(rt; shelf.get("f.ts") == Some(feed.as_slice()));
     Ok(())
 }
 
