@@ -12,7 +12,7 @@ fn words_of(rt: &HostRuntime, texts: &[&str]) -> Result<Vec<Word>, Fail> {
 }
 
 /// What `run` answers to those words. The tests see its answer alone, and none of its clauses.
-fn answered(
+pub(super) fn answered(
     rt: &HostRuntime,
     texts: &[&str],
     shelf: &mut MemoryShelf,
