@@ -14,6 +14,7 @@ use Rattle.dtx_exciter.specs.Emission.{segments_since, sent_by, sent_at, sent_be
 use Rattle.dtx_exciter.specs.Log.{Line, line_of, life_lines}
 use Rattle.dtx_exciter.specs.Order.{Order, in_force}
 use Rattle.dtx_exciter.specs.Packets.{told, under, said}
+use Rattle.dtx_exciter.specs.Stretch.{emission_behind}
 use Rattle.dtx_exciter.specs.Told.{served}
 use Rattle.dtx_exciter.specs.declared.answers.Told.{Told}
 use Rattle.dtx_exciter.specs.declared.answers.Told.TheVariants.{Quiet, Sent, Muted}
@@ -66,8 +67,8 @@ sent_push a d l p = ap (λ ss. map byte_of_symbol (symbols_of ss)) (emission_pus
 
 pub sent_more : (a d : ℕ) (l r : List (List ℕ)) → (rest : List ℕ) × (sent_bytes a d (l ++ r) ≡ sent_bytes a d l ++ rest)
 sent_more a d l r =
-    let more = emission_more a d l r in
-    (map byte_of_symbol (symbols_of more.0), ap (λ ss. map byte_of_symbol (symbols_of ss)) more.1 ∙ symbols-append (emission a d l) more.0)
+    let more : List (List ℤ) = emission_behind a d l r in
+    (map byte_of_symbol (symbols_of more), ap (λ ss. map byte_of_symbol (symbols_of ss)) (emission_more a d l r) ∙ symbols-append (emission a d l) more)
 
 pub logged_more : (a d : ℕ) (l r : List (List ℕ)) → (rest : List ℕ) × (logged_bytes a d (l ++ r) ≡ logged_bytes a d l ++ rest)
 logged_more a d l [] = ([], ap (logged_bytes a d) (append-nil l) ∙ sym (append-nil (logged_bytes a d l)))

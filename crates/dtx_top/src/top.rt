@@ -200,4 +200,6 @@ fn carry_out<S: Shelf, O: Sink>(alloc: Global, words: &[Word], shelf: &mut S, ou
 }
 
 #[cfg(test)]
+mod excite_tests;
+#[cfg(test)]
 mod tests;

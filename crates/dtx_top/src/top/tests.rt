@@ -39,7 +39,7 @@ fn stream_of(rt: &HostRuntime, syncs: &[u8], loose: usize) -> Result<Vec<u8>, Fa
 }
 
 /// What `run` answers to those words. The tests see its answer alone, and none of its clauses.
-fn answered(
+pub(super) fn answered(
     rt: &HostRuntime,
     texts: &[&str],
     shelf: &mut MemoryShelf,
