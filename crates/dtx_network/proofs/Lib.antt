@@ -4,6 +4,7 @@ pub mod Presets
 pub mod Stretches
 pub mod Segs
 pub mod Emitting
+pub mod FromStart
 pub mod FeedPackets
 pub mod Back
 pub mod AllBack

@@ -1,6 +1,6 @@
 //! Laws of the definitions.
 
-ghost use Rattle.std.specs.Prelude.{◌≡◌, ℕ, ℤ, ◌+◌, ◌/◌, ◌%◌, ◌<◌, ◌≤◌, ◌-ℤ◌, true, false, Some, None, Ok, List, ◌∷◌, ◌++◌, length, map};
+ghost use Rattle.std.specs.Prelude.{◌≡◌, ℕ, ℤ, ◌+◌, ◌/◌, ◌%◌, ◌<◌, ◌≤◌, ◌-ℤ◌, true, false, Some, None, Ok, List, [], ◌∷◌, ◌++◌, length, map, take};
 ghost use Rattle.std.specs.List.{Contains};
 ghost use Rattle.dtx_ops.specs.declared.fields.Ops.{Ops};
 ghost use Rattle.dtx_plan.specs.declared.plan.Plan.{Plan};
@@ -11,7 +11,8 @@ ghost use Rattle.dtx_exciter.specs.Order.{counted};
 ghost use Rattle.dtx_exciter.specs.Packets.{said};
 ghost use Rattle.dtx_exciter.specs.Told as told;
 ghost use Rattle.dtx_exciter.specs.Lockstep.{IsFeed, stretch};
-ghost use Rattle.dtx_exciter.specs.Log.{Line, preset, log, emission_over};
+ghost use Rattle.dtx_exciter.specs.Emission.{emission};
+ghost use Rattle.dtx_exciter.specs.Log.{Line, preset, life_lines, log, emission_over};
 ghost use Rattle.dtx_exciter.specs.Stretch.{stretch_lines, IsApart};
 ghost use Rattle.dtx_network.specs.Plans.{IsPlan, IsStream, IsListed, IsInTime};
 ghost use Rattle.dtx_network.specs.Orders.{has_order, order_of, IsOrder};
@@ -68,6 +69,20 @@ pub fn emits()
     ensures { (plan : Plan) (stream : List (List ℕ)) (t : Transmitter) (xs ys : List (List (List ℕ))) (life : List (List ℕ)) (mark n k : ℕ)
         → IsPlan plan → IsStream stream → IsListed plan t → IsInTime plan t → IsFed (feed plan stream) life mark n → IsFirstOrder (feed plan stream) mark n k
         → Emits plan t (feed plan stream) k (mark + n) (emission_over t.address t.delay (xs ++ life ∷ ys)) (log t.address t.delay 0 (xs ++ life ∷ ys)) }
+{}
+
+/// An exciter that is given a feed from its first packet on sends the feed's own segments (ATSC A/53 Part 2) from its first order on
+/// that begins at packet 52 or later, and nothing before, and its whole log is the presets of these orders. While it is given no
+/// whole group that begins at packet 52 or later and holds an operations packet, it sends and logs nothing.
+pub fn from_its_start()
+    ensures segments { (plan : Plan) (stream : List (List ℕ)) (t : Transmitter) (n k : ℕ) → IsPlan plan → IsStream stream → IsListed plan t → IsInTime plan t
+        → n ≤ length (feed plan stream) → IsFirstOrder (feed plan stream) 0 n k → emission t.address t.delay (take n (feed plan stream)) ≡ stretch_of (feed plan stream) k n }
+    ensures lines { (plan : Plan) (stream : List (List ℕ)) (t : Transmitter) (n k : ℕ) → IsPlan plan → IsStream stream → IsListed plan t → IsInTime plan t
+        → n ≤ length (feed plan stream) → IsFirstOrder (feed plan stream) 0 n k → life_lines t.address t.delay 0 (take n (feed plan stream)) ≡ presets plan t.offset 0 (feed plan stream) k n }
+    ensures no_segments { (plan : Plan) (stream : List (List ℕ)) (t : Transmitter) (n : ℕ) → IsPlan plan → IsStream stream → IsListed plan t → IsInTime plan t
+        → n ≤ length (feed plan stream) → ((g : ℕ) → g % 4 ≡ 0 → 52 ≤ g → g + 4 ≤ n → has_order (feed plan stream) g ≡ false) → emission t.address t.delay (take n (feed plan stream)) ≡ [] }
+    ensures no_lines { (plan : Plan) (stream : List (List ℕ)) (t : Transmitter) (n : ℕ) → IsPlan plan → IsStream stream → IsListed plan t → IsInTime plan t
+        → n ≤ length (feed plan stream) → ((g : ℕ) → g % 4 ≡ 0 → 52 ≤ g → g + 4 ≤ n → has_order (feed plan stream) g ≡ false) → life_lines t.address t.delay 0 (take n (feed plan stream)) ≡ [] }
 {}
 
 /// The first preset of a stretch is that of its first group, and speaks of the stretch's first segment. No line of the log but the
