@@ -9,3 +9,4 @@ pub mod FeedPackets
 pub mod Back
 pub mod AllBack
 pub mod Whole
+pub mod Meets

@@ -31,10 +31,10 @@ use Rattle.dtx_network.proofs.AllBack.{all_given_back}
 contains_parts : {X : Type 0} (xs : List X) (x : X) → (c : Contains xs x) → xs ≡ take c.0 xs ++ x ∷ drop (suc c.0) xs
 contains_parts xs x c = split_at xs c.0 x c.1 ∙ ap (λ y. take c.0 xs ++ y ∷ drop (suc c.0) xs) c.2
 
-contains_from_get : {X : Type 0} (xs : List X) (k : ℕ) (x : X) → slice_get xs k ≡ Some x → Contains xs x
+pub contains_from_get : {X : Type 0} (xs : List X) (k : ℕ) (x : X) → slice_get xs k ≡ Some x → Contains xs x
 contains_from_get xs k x e = (k, slice_get_within xs k x e, get_or_from_slice_get xs k x x e)
 
-contains_map : {X Y : Type 0} (f : X → Y) (xs : List X) (x : X) → Contains xs x → Contains (map f xs) (f x)
+pub contains_map : {X Y : Type 0} (f : X → Y) (xs : List X) (x : X) → Contains xs x → Contains (map f xs) (f x)
 contains_map f xs x c = (c.0, omega (arith, c.1, length-map xs f), get_or-map f xs c.0 x (f x) c.1 ∙ ap f c.2)
 
 -- ---- one transmitter

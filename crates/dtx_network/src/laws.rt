@@ -1,6 +1,6 @@
 //! Laws of the definitions.
 
-ghost use Rattle.std.specs.Prelude.{◌≡◌, ℕ, ℤ, ◌+◌, ◌/◌, ◌%◌, ◌<◌, ◌≤◌, ◌-ℤ◌, true, false, Some, None, Ok, List, [], ◌∷◌, ◌++◌, length, map, take};
+ghost use Rattle.std.specs.Prelude.{◌≡◌, ℕ, ℤ, ◌+◌, ◌/◌, ◌%◌, ◌<◌, ◌≤◌, ◌-ℤ◌, true, false, Some, None, Ok, List, [], ◌∷◌, ◌++◌, length, map, take, slice_get};
 ghost use Rattle.std.specs.List.{Contains};
 ghost use Rattle.dtx_ops.specs.declared.fields.Ops.{Ops};
 ghost use Rattle.dtx_plan.specs.declared.plan.Plan.{Plan};
@@ -20,7 +20,9 @@ ghost use Rattle.dtx_network.specs.Presets.{orders, moment_at, preset_at, preset
 ghost use Rattle.dtx_chain.specs.Undamaged.{ArePackets};
 ghost use Rattle.dtx_plan.specs.declared.event.Event.{Event};
 ghost use Rattle.dtx_network.specs.GivesBack.{GivesBack, GivesAllBack};
-ghost use Rattle.dtx_network.specs.Network.{Headline};
+ghost use Rattle.dtx_plan.specs.declared.event.Event.TheVariants.{Send};
+ghost use Rattle.dtx_plan.specs.Sound.{IsEvent};
+ghost use Rattle.dtx_network.specs.Network.{Joined, Headline};
 ghost use Rattle.dtx_network.specs.Headline.{IsFed, IsFirstOrder, stretch_of, segment_of, end_of, Emits};
 
 /// Every plan that the walk over a file's bytes gives is one that a network takes.
@@ -127,4 +129,15 @@ pub fn gives_all_back()
 /// ten wrong bytes per codeword give their packets back.
 pub fn headline()
     ensures { (plan : Plan) (stream : List (List ℕ)) (events : List Event) → IsPlan plan → IsStream stream → Headline plan stream events }
+{}
+
+/// What the headline asks of a transmitter can be met: with one event, which a plan may hold, that gives a listed transmitter in time
+/// the whole feed from packet 0 on, it joins the feed there, where the stream has a placeholder for an operations packet in a whole
+/// group that begins at packet 52 or later; its first order is that group's or an earlier one's.
+pub fn joined_is_met()
+    ensures met { (plan : Plan) (stream : List (List ℕ)) (t : Transmitter) (who g : ℕ) → IsPlan plan → IsStream stream → slice_get plan.transmitters.items who ≡ Some t → IsInTime plan t
+        → g % 4 ≡ 0 → 52 ≤ g → g + 4 ≤ length stream → has_order stream g ≡ true
+        → (x : Joined plan stream (Send t.address 0 (length stream) ∷ [])) × (x.t ≡ t) × (x.who ≡ who) × (x.mark ≡ 0) × (x.count ≡ length stream) × (x.k ≤ g) }
+    ensures may_be { (plan : Plan) (stream : List (List ℕ)) (t : Transmitter) (who : ℕ) → IsStream stream → slice_get plan.transmitters.items who ≡ Some t → 1 ≤ length stream
+        → IsEvent plan.transmitters.items (Send t.address 0 (length stream)) }
 {}
