@@ -77,7 +77,7 @@ later_lines a d earlier feed later xs ys mark end k f s =
 
 -- ---- the feed of a plan
 
-stretch_from : (plan : Plan) (stream : List (List ℕ)) (mark n k : ℕ) → IsPlan plan → IsStream stream → mark % 624 ≡ 0 → mark + n ≤ length (feed plan stream) → IsFirstOrder (feed plan stream) mark n k
+pub stretch_from : (plan : Plan) (stream : List (List ℕ)) (mark n k : ℕ) → IsPlan plan → IsStream stream → mark % 624 ≡ 0 → mark + n ≤ length (feed plan stream) → IsFirstOrder (feed plan stream) mark n k
     → IsStretch (feed plan stream) mark (mark + n) k
 stretch_from plan stream mark n k p u m l first = record {
   is_mark = m;

@@ -4,7 +4,9 @@ pub mod Presets
 pub mod Stretches
 pub mod Segs
 pub mod Emitting
+pub mod FromStart
 pub mod FeedPackets
 pub mod Back
 pub mod AllBack
 pub mod Whole
+pub mod Meets

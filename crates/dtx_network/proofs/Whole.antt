@@ -19,7 +19,7 @@ use Rattle.dtx_chain.specs.Undamaged.{ArePackets}
 use Rattle.dtx_network.specs.Plans.{IsPlan, IsStream}
 use Rattle.dtx_network.specs.Presets.{orders, preset_at, presets}
 use Rattle.dtx_network.specs.Headline.{stretch_of, Emits}
-use Rattle.dtx_network.specs.Network.{steps_of, Joined, Follows, Headline}
+use Rattle.dtx_network.specs.Network.{steps_under, Joined, Follows, Headline}
 use Rattle.dtx_network.proofs.Emitting.{emits, first_is, no_other, apart}
 use Rattle.dtx_network.proofs.FeedPackets.{feed_packets}
 use Rattle.dtx_network.proofs.Back.{back}
@@ -31,22 +31,22 @@ use Rattle.dtx_network.proofs.AllBack.{all_given_back}
 contains_parts : {X : Type 0} (xs : List X) (x : X) → (c : Contains xs x) → xs ≡ take c.0 xs ++ x ∷ drop (suc c.0) xs
 contains_parts xs x c = split_at xs c.0 x c.1 ∙ ap (λ y. take c.0 xs ++ y ∷ drop (suc c.0) xs) c.2
 
-contains_from_get : {X : Type 0} (xs : List X) (k : ℕ) (x : X) → slice_get xs k ≡ Some x → Contains xs x
+pub contains_from_get : {X : Type 0} (xs : List X) (k : ℕ) (x : X) → slice_get xs k ≡ Some x → Contains xs x
 contains_from_get xs k x e = (k, slice_get_within xs k x e, get_or_from_slice_get xs k x x e)
 
-contains_map : {X Y : Type 0} (f : X → Y) (xs : List X) (x : X) → Contains xs x → Contains (map f xs) (f x)
+pub contains_map : {X Y : Type 0} (f : X → Y) (xs : List X) (x : X) → Contains xs x → Contains (map f xs) (f x)
 contains_map f xs x c = (c.0, omega (arith, c.1, length-map xs f), get_or-map f xs c.0 x (f x) c.1 ∙ ap f c.2)
 
 -- ---- one transmitter
 
 abbrev EmitsOf : (plan : Plan) (stream : List (List ℕ)) (events : List Event) → Joined plan stream events → Type 0
 EmitsOf plan stream events x =
-    Emits plan x.t (feed plan stream) x.k (x.mark + x.count) (segments_of x.t x.who (steps_of plan stream events)) (lines_of x.t x.who (steps_of plan stream events))
+    Emits plan x.t (feed plan stream) x.k (x.mark + x.count) (segments_of x.t x.who (steps_under plan stream events)) (lines_of x.t x.who (steps_under plan stream events))
 
 it_emits : (plan : Plan) (stream : List (List ℕ)) (events : List Event) → IsPlan plan → IsStream stream → (x : Joined plan stream events) → EmitsOf plan stream events x
 unfolding segments_of lines_of
 it_emits plan stream events p s x =
-    let lives : List (List (List ℕ)) = lives_of x.who (steps_of plan stream events) in
+    let lives : List (List (List ℕ)) = lives_of x.who (steps_under plan stream events) in
     let before : List (List (List ℕ)) = take x.lived.0 lives in
     let behind : List (List (List ℕ)) = drop (suc x.lived.0) lives in
     subst (λ (all : List (List (List ℕ))). Emits plan x.t (feed plan stream) x.k (x.mark + x.count) (emission_over x.t.address x.t.delay all) (log x.t.address x.t.delay 0 all))
@@ -86,7 +86,7 @@ follows plan stream events p s x =
     record {
       emits = e;
       named = first_is plan x.t.offset (length e.before) fed x.mark x.count x.k x.order;
-      unmuted = no_mute plan x.t fed x.k (x.mark + x.count) (segments_of x.t x.who (steps_of plan stream events)) (lines_of x.t x.who (steps_of plan stream events)) e;
+      unmuted = no_mute plan x.t fed x.k (x.mark + x.count) (segments_of x.t x.who (steps_under plan stream events)) (lines_of x.t x.who (steps_under plan stream events)) e;
       gives_back = λ got. back fed x.k (x.mark + x.count) (length e.before) got packets x.fed.inside;
       gives_all_back = λ got. all_given_back fed x.k (x.mark + x.count) got packets x.fed.inside;
     }
@@ -114,7 +114,7 @@ headline plan stream events p s = record {
 }
   where
     logged : (x : Joined plan stream events) (g : ℕ) → Contains (orders (feed plan stream) x.k (x.mark + x.count)) g
-        → Contains (lines_of x.t x.who (steps_of plan stream events)) (preset_at plan x.t.offset (length (follows plan stream events p s x).emits.before) x.k g)
+        → Contains (lines_of x.t x.who (steps_under plan stream events)) (preset_at plan x.t.offset (length (follows plan stream events p s x).emits.before) x.k g)
     logged x g c =
-        preset_logged plan x.t (feed plan stream) x.k (x.mark + x.count) (segments_of x.t x.who (steps_of plan stream events)) (lines_of x.t x.who (steps_of plan stream events))
+        preset_logged plan x.t (feed plan stream) x.k (x.mark + x.count) (segments_of x.t x.who (steps_under plan stream events)) (lines_of x.t x.who (steps_under plan stream events))
         (follows plan stream events p s x).emits g c

@@ -21,8 +21,8 @@ use Rattle.dtx_network.specs.Headline.{IsFed, IsFirstOrder, stretch_of, Emits}
 use Rattle.dtx_network.specs.GivesBack.{GivesBack, GivesAllBack}
 
 -- the steps of a schedule, with the feed of the plan and the stream
-abbrev pub steps_of : Plan → List (List ℕ) → List Event → List Step
-steps_of plan stream events = schedule plan.transmitters.items (feed plan stream) events
+abbrev pub steps_under : Plan → List (List ℕ) → List Event → List Step
+steps_under plan stream events = schedule plan.transmitters.items (feed plan stream) events
 
 -- A transmitter joins the feed: it stands at a place of the plan's list and is in time, and one of its lives in the schedule, whatever
 -- it held before, is given `count` packets of the feed from a mark on, among them the first operations packet that counts, in the
@@ -36,7 +36,7 @@ pub record Joined (plan : Plan) (stream : List (List ℕ)) (events : List Event)
   pub k : ℕ
   pub listed : slice_get plan.transmitters.items who ≡ Some t
   pub in_time : IsInTime plan t
-  pub lived : Contains (lives_of who (steps_of plan stream events)) life
+  pub lived : Contains (lives_of who (steps_under plan stream events)) life
   pub fed : IsFed (feed plan stream) life mark count
   pub order : IsFirstOrder (feed plan stream) mark count k
 
@@ -44,13 +44,13 @@ pub record Joined (plan : Plan) (stream : List (List ℕ)) (events : List Event)
 pub record Follows (plan : Plan) (stream : List (List ℕ)) (events : List Event) (x : Joined plan stream events) : Type 0 where
   -- Its symbol file holds exactly the feed's own symbols from the first order's group to the last whole group that it is given, and its
   -- log their presets.
-  pub emits : Emits plan x.t (feed plan stream) x.k (x.mark + x.count) (segments_of x.t x.who (steps_of plan stream events)) (lines_of x.t x.who (steps_of plan stream events))
+  pub emits : Emits plan x.t (feed plan stream) x.k (x.mark + x.count) (segments_of x.t x.who (steps_under plan stream events)) (lines_of x.t x.who (steps_under plan stream events))
   -- The first of these presets is that of the first order's group, and names the segment at which those symbols begin.
   pub named : presets plan x.t.offset (length emits.before) (feed plan stream) x.k (x.mark + x.count)
       ≡ preset (length emits.before) (x.k / 624) (x.k % 624) (moment_at plan x.t.offset x.k).tick (moment_at plan x.t.offset x.k).grain
       ∷ map (preset_at plan x.t.offset (length emits.before) x.k) (orders (feed plan stream) (x.k + 1) (x.mark + x.count))
   -- No mute is logged between their beginning and their end.
-  pub unmuted : (n : ℕ) (why : Why) → Contains (lines_of x.t x.who (steps_of plan stream events)) (mute n why)
+  pub unmuted : (n : ℕ) (why : Why) → Contains (lines_of x.t x.who (steps_under plan stream events)) (mute n why)
       → (n ≤ length emits.before) ⊎ (length emits.before + length (stretch_of (feed plan stream) x.k (x.mark + x.count)) ≤ n)
   -- Whatever is received, with those symbols at that segment of it, gives the packets back whose words have at most ten wrong bytes.
   pub gives_back : (got : List (List ℤ)) → GivesBack (feed plan stream) x.k (x.mark + x.count) (length emits.before) got
@@ -71,5 +71,5 @@ pub record Headline (plan : Plan) (stream : List (List ℕ)) (events : List Even
   -- Any two of them log a preset of each group with an operations packet that both have, and the moments of these differ only by the
   -- offsets.
   pub apart : (x y : Joined plan stream events) (g : ℕ) → Contains (orders (feed plan stream) x.k (x.mark + x.count)) g → Contains (orders (feed plan stream) y.k (y.mark + y.count)) g
-      → AreApart (x.t.offset -ℤ y.t.offset) (lines_of x.t x.who (steps_of plan stream events)) (lines_of y.t y.who (steps_of plan stream events))
+      → AreApart (x.t.offset -ℤ y.t.offset) (lines_of x.t x.who (steps_under plan stream events)) (lines_of y.t y.who (steps_under plan stream events))
       (preset_at plan x.t.offset (length (follows x).emits.before) x.k g) (preset_at plan y.t.offset (length (follows y).emits.before) y.k g)

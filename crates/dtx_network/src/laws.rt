@@ -1,6 +1,6 @@
 //! Laws of the definitions.
 
-ghost use Rattle.std.specs.Prelude.{◌≡◌, ℕ, ℤ, ◌+◌, ◌/◌, ◌%◌, ◌<◌, ◌≤◌, ◌-ℤ◌, true, false, Some, None, Ok, List, ◌∷◌, ◌++◌, length, map};
+ghost use Rattle.std.specs.Prelude.{◌≡◌, ℕ, ℤ, ◌+◌, ◌/◌, ◌%◌, ◌<◌, ◌≤◌, ◌-ℤ◌, true, false, Some, None, Ok, List, [], ◌∷◌, ◌++◌, length, map, take, slice_get};
 ghost use Rattle.std.specs.List.{Contains};
 ghost use Rattle.dtx_ops.specs.declared.fields.Ops.{Ops};
 ghost use Rattle.dtx_plan.specs.declared.plan.Plan.{Plan};
@@ -11,7 +11,8 @@ ghost use Rattle.dtx_exciter.specs.Order.{counted};
 ghost use Rattle.dtx_exciter.specs.Packets.{said};
 ghost use Rattle.dtx_exciter.specs.Told as told;
 ghost use Rattle.dtx_exciter.specs.Lockstep.{IsFeed, stretch};
-ghost use Rattle.dtx_exciter.specs.Log.{Line, preset, log, emission_over};
+ghost use Rattle.dtx_exciter.specs.Emission.{emission};
+ghost use Rattle.dtx_exciter.specs.Log.{Line, preset, life_lines, log, emission_over};
 ghost use Rattle.dtx_exciter.specs.Stretch.{stretch_lines, IsApart};
 ghost use Rattle.dtx_network.specs.Plans.{IsPlan, IsStream, IsListed, IsInTime};
 ghost use Rattle.dtx_network.specs.Orders.{has_order, order_of, IsOrder};
@@ -19,7 +20,9 @@ ghost use Rattle.dtx_network.specs.Presets.{orders, moment_at, preset_at, preset
 ghost use Rattle.dtx_chain.specs.Undamaged.{ArePackets};
 ghost use Rattle.dtx_plan.specs.declared.event.Event.{Event};
 ghost use Rattle.dtx_network.specs.GivesBack.{GivesBack, GivesAllBack};
-ghost use Rattle.dtx_network.specs.Network.{Headline};
+ghost use Rattle.dtx_plan.specs.declared.event.Event.TheVariants.{Send};
+ghost use Rattle.dtx_plan.specs.Sound.{IsEvent};
+ghost use Rattle.dtx_network.specs.Network.{Joined, Headline};
 ghost use Rattle.dtx_network.specs.Headline.{IsFed, IsFirstOrder, stretch_of, segment_of, end_of, Emits};
 
 /// Every plan that the walk over a file's bytes gives is one that a network takes.
@@ -70,6 +73,20 @@ pub fn emits()
         → Emits plan t (feed plan stream) k (mark + n) (emission_over t.address t.delay (xs ++ life ∷ ys)) (log t.address t.delay 0 (xs ++ life ∷ ys)) }
 {}
 
+/// An exciter that is given a feed from its first packet on sends the feed's own segments (ATSC A/53 Part 2) from its first order on
+/// that begins at packet 52 or later, and nothing before, and its whole log is the presets of these orders. While it is given no
+/// whole group that begins at packet 52 or later and holds an operations packet, it sends and logs nothing.
+pub fn from_its_start()
+    ensures segments { (plan : Plan) (stream : List (List ℕ)) (t : Transmitter) (n k : ℕ) → IsPlan plan → IsStream stream → IsListed plan t → IsInTime plan t
+        → n ≤ length (feed plan stream) → IsFirstOrder (feed plan stream) 0 n k → emission t.address t.delay (take n (feed plan stream)) ≡ stretch_of (feed plan stream) k n }
+    ensures lines { (plan : Plan) (stream : List (List ℕ)) (t : Transmitter) (n k : ℕ) → IsPlan plan → IsStream stream → IsListed plan t → IsInTime plan t
+        → n ≤ length (feed plan stream) → IsFirstOrder (feed plan stream) 0 n k → life_lines t.address t.delay 0 (take n (feed plan stream)) ≡ presets plan t.offset 0 (feed plan stream) k n }
+    ensures no_segments { (plan : Plan) (stream : List (List ℕ)) (t : Transmitter) (n : ℕ) → IsPlan plan → IsStream stream → IsListed plan t → IsInTime plan t
+        → n ≤ length (feed plan stream) → ((g : ℕ) → g % 4 ≡ 0 → 52 ≤ g → g + 4 ≤ n → has_order (feed plan stream) g ≡ false) → emission t.address t.delay (take n (feed plan stream)) ≡ [] }
+    ensures no_lines { (plan : Plan) (stream : List (List ℕ)) (t : Transmitter) (n : ℕ) → IsPlan plan → IsStream stream → IsListed plan t → IsInTime plan t
+        → n ≤ length (feed plan stream) → ((g : ℕ) → g % 4 ≡ 0 → 52 ≤ g → g + 4 ≤ n → has_order (feed plan stream) g ≡ false) → life_lines t.address t.delay 0 (take n (feed plan stream)) ≡ [] }
+{}
+
 /// The first preset of a stretch is that of its first group, and speaks of the stretch's first segment. No line of the log but the
 /// stretch's presets speaks of anything between its beginning and its end, and so no mute: a line that ends behind its beginning and
 /// begins before its end is one of them.
@@ -112,4 +129,15 @@ pub fn gives_all_back()
 /// ten wrong bytes per codeword give their packets back.
 pub fn headline()
     ensures { (plan : Plan) (stream : List (List ℕ)) (events : List Event) → IsPlan plan → IsStream stream → Headline plan stream events }
+{}
+
+/// What the headline asks of a transmitter can be met: with one event, which a plan may hold, that gives a listed transmitter in time
+/// the whole feed from packet 0 on, it joins the feed there, where the stream has a placeholder for an operations packet in a whole
+/// group that begins at packet 52 or later; its first order is that group's or an earlier one's.
+pub fn joined_is_met()
+    ensures met { (plan : Plan) (stream : List (List ℕ)) (t : Transmitter) (who g : ℕ) → IsPlan plan → IsStream stream → slice_get plan.transmitters.items who ≡ Some t → IsInTime plan t
+        → g % 4 ≡ 0 → 52 ≤ g → g + 4 ≤ length stream → has_order stream g ≡ true
+        → (x : Joined plan stream (Send t.address 0 (length stream) ∷ [])) × (x.t ≡ t) × (x.who ≡ who) × (x.mark ≡ 0) × (x.count ≡ length stream) × (x.k ≤ g) }
+    ensures may_be { (plan : Plan) (stream : List (List ℕ)) (t : Transmitter) (who : ℕ) → IsStream stream → slice_get plan.transmitters.items who ≡ Some t → 1 ≤ length stream
+        → IsEvent plan.transmitters.items (Send t.address 0 (length stream)) }
 {}
