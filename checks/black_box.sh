@@ -541,8 +541,8 @@ is_usage 'a number before a line feed' make 1 $'4\n' out.ts
 is_usage '--help' --help
 is_usage '-h' -h
 is_usage '--version' --version
+is_usage 'an address of 17 bits' excite ../inputs/given.ts 65536 0 out.sym out.log
 # These are not built yet.
-is_usage 'excite' excite ../inputs/given.ts 7 0 out.sym out.log
 is_usage 'net' net plan
 is_usage 'hurt' hurt ../inputs/given.ts changes out.ts
 
