@@ -200,6 +200,8 @@ fn carry_out<S: Shelf, O: Sink>(alloc: Global, words: &[Word], shelf: &mut S, ou
 }
 
 #[cfg(test)]
+mod adapt_tests;
+#[cfg(test)]
 mod excite_tests;
 #[cfg(test)]
 mod tests;
