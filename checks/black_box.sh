@@ -159,6 +159,15 @@ spoil() {
     inputs_before=$(sums)
 }
 
+# spoil_all INDEX:SYNC:PID,..: replaces those packets of ../inputs/given.ts.
+spoil_all() {
+    local each index sync pid
+    for each in ${1//,/ }; do
+        IFS=: read -r index sync pid <<<"$each"
+        spoil "$index" "$sync" "$pid"
+    done
+}
+
 sums() {
     cksum "$inputs"/*
 }

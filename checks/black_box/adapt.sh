@@ -71,10 +71,7 @@ end
 while read -r packets spoils filled; do
     start "$packets packets with placeholders $spoils"
     given "$packets" 0
-    for each in ${spoils//,/ }; do
-        IFS=: read -r index sync pid <<<"$each"
-        spoil "$index" "$sync" "$pid"
-    done
+    spoil_all "$spoils"
     "$top/checks/reference.py" feed ../inputs/given.ts wanted.ts
     run 0 "packets $packets filled $filled loose 0" adapt "$plan" ../inputs/given.ts out.ts
     cmp -s wanted.ts out.ts || wrong 'out.ts is another feed'

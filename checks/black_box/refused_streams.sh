@@ -5,10 +5,7 @@
 while read -r packets spoils line; do
     start "$packets packets, spoiled by $spoils: $line"
     given "$packets" 0
-    for each in ${spoils//,/ }; do
-        IFS=: read -r index sync pid <<<"$each"
-        spoil "$index" "$sync" "$pid"
-    done
+    spoil_all "$spoils"
     run 6 "$line" adapt "$plan" ../inputs/given.ts out.ts
     refused=${line#packet }
     holds out.ts $((refused / 4 * 4))
@@ -48,10 +45,7 @@ holds out.ts 4
 while read -r packets spoils line; do
     start "symbols of $packets packets, spoiled by $spoils: $line"
     given "$packets" 0
-    for each in ${spoils//,/ }; do
-        IFS=: read -r index sync pid <<<"$each"
-        spoil "$index" "$sync" "$pid"
-    done
+    spoil_all "$spoils"
     run 6 "$line" code ../inputs/given.ts out.sym
     refused=${line#packet }
     coded_front $((refused / 4 * 4))
