@@ -36,8 +36,8 @@ leaves in.ts out.ts target.ts
 start 'names from another folder than that of the program, and whole paths'
 mkdir below
 cd below || exit 1
-run 0 'packets 3 filled 0 loose 0' adapt "$plan" ../../inputs/given.ts ../out.ts
-run 0 'packets 3 filled 0 loose 0' adapt "$plan" "$inputs/given.ts" "$folder/whole.ts"
+run 0 'packets 3 filled 0 loose 0' adapt "../$plan" ../../inputs/given.ts ../out.ts
+run 0 'packets 3 filled 0 loose 0' adapt "../$plan" "$inputs/given.ts" "$folder/whole.ts"
 cd ..
 holds out.ts 3
 holds whole.ts 3

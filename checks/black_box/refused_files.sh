@@ -211,7 +211,7 @@ if [[ -c /dev/full ]]; then
     }
     refused_to_full 2 adapt
     refused_to_full 2 make 01 4 out.ts
-    refused_to_full 3 adapt "$plan" plan out.ts
+    refused_to_full 3 adapt same same out.ts
     refused_to_full 4 adapt "$plan" missing.ts out.ts
     refused_to_full 4 code missing.ts out.sym
 fi

@@ -75,9 +75,9 @@ is_usage 'a delay beyond 32 bits' excite ../inputs/given.ts 7 4294967296 out.sym
 is_usage 'net' net plan
 is_usage 'hurt' hurt ../inputs/given.ts changes out.ts
 
-while read -r shows plan input output named; do
+while read -r shows given_plan input output named; do
     start "equal names: $shows"
-    run 3 "same $named" adapt "$plan" "$input" "$output"
+    run 3 "same $named" adapt "$given_plan" "$input" "$output"
     leaves_nothing
 done <<'end'
 plan_and_input ../inputs/given.ts ../inputs/given.ts out.ts ../inputs/given.ts
