@@ -31,22 +31,40 @@ run 0 'packets 1300 segments 1204 presets 4 mutes 0 loose 0' excite "$room/feed.
 has_digest out.sym d053d41c45f273e3e262b297d5fa7c7df44adbfb998e9210481653691e0f1178
 has_log 'preset 0 0 100 5078105 640' 'preset 313 0 412 5320077 612' 'preset 626 1 100 5562048 640' 'preset 939 1 412 5804020 612'
 
-# An order counts from 52 packets behind the mark on, and a first group is sent without a field sync.
-while read -r packets spoils log; do
+# An order counts where its group begins 52 packets behind the mark or later, by whichever of its packets carries it, and a first group
+# is sent without a field sync.
+while read -r packets spoils segments log; do
     start "$packets packets with placeholders $spoils"
     given "$packets" 0
     for each in ${spoils//,/ }; do
         spoil "$each" 47 1ffa
     done
     run 0 "packets $packets filled $(tr ',' '\n' <<<"$spoils" | wc -l) loose 0" adapt "$plan" ../inputs/given.ts feed.ts
-    run 0 "packets $packets segments 8 presets 1 mutes 0 loose 0" excite feed.ts 7 1000 out.sym out.log
-    has_log "$log"
+    run 0 "packets $packets segments $segments presets $((segments > 0)) mutes 0 loose 0" excite feed.ts 7 1000 out.sym out.log
+    has_log ${log:+"$log"}
     run 0 "packets $packets segments $((packets + (packets + 311) / 312)) loose 0" code feed.ts feed.sym
-    tail -c $((8 * 832)) feed.sym | cmp -s - out.sym || wrong 'out.sym is not the last eight segments'
+    tail -c $((segments * 832)) feed.sym | cmp -s - out.sym || wrong "out.sym is not the last $segments segments"
 done <<'end'
-60 48,52 preset 0 0 52 5040962 1372
-320 312 preset 0 0 312 5242735 85
+60 48 0
+60 51 0
+60 52 8 preset 0 0 52 5040962 1372
+60 55 8 preset 0 0 52 5040962 1372
+60 53,55 8 preset 0 0 52 5040962 1372
+60 48,52 8 preset 0 0 52 5040962 1372
+320 312 8 preset 0 0 312 5242735 85
 end
+
+start 'orders whose indexes are not their places do not count, and a mark too early locks anew'
+head -c $((10 * 188)) "$room/feed.ts" >in.ts
+tail -c +$((11 * 188 + 1)) "$room/feed.ts" >>in.ts
+run 0 'packets 1299 segments 578 presets 2 mutes 1 loose 0' excite in.ts 7 1000 out.sym out.log
+has_log 'mute 0 cadence' 'preset 0 1 100 5562013 640' 'preset 313 1 412 5803985 612'
+
+start 'a mark that is missing mutes until the next one'
+cp "$room/feed.ts" in.ts
+printf '\x47' | dd of=in.ts bs=188 seek=624 conv=notrunc status=none
+run 0 'packets 1300 segments 525 presets 2 mutes 1 loose 0' excite in.ts 7 1000 out.sym out.log
+has_log 'preset 0 0 100 5078070 640' 'preset 313 0 412 5320042 612' 'mute 525 cadence'
 
 start 'a mark out of step mutes, and locks anew'
 head -c $((202 * 188)) "$room/feed.ts" >in.ts
