@@ -4,12 +4,13 @@
 exciter.py DTX LISTS    names each list that differs, and ends with the line `exciter: N passed, M failed`
 """
 
+import functools
 import random
 import subprocess
 import sys
 import tempfile
 
-from reference import FIELD, FRAME, PACKET, adapted, coded
+from reference import FIELD, FRAME, PACKET, adapted, coded, packets_of, read
 
 ADDRESSES = (7, 9, 8)
 DELAYS = (0, 1000, 4_999_990, 4_999_991, 5_000_025, 5_000_026)
@@ -34,42 +35,6 @@ def field_sync(second, last):
     return [5 if bit else -5 for bit in bits] + last
 
 
-# The fields of an operations packet by its 184 bytes of payload, for all payloads that were made here. A payload that differs from one
-# of them in at most ten bytes has it as its correction; any other one that is met here has none.
-CODEWORDS = {}
-
-
-def learn(packets):
-    for packet in packets:
-        if packet[1] & 0x1F == 0x1F and packet[2] == 0xFA:
-            data = packet[4:168]
-            number = int.from_bytes(data[1:6], "big") >> 4
-            CODEWORDS[packet[4:]] = {
-                "states": [number >> 3 * (11 - coder) & 7 for coder in range(12)],
-                "stamp": int.from_bytes(data[6:9], "big"),
-                "max_delay": int.from_bytes(data[9:12], "big"),
-                "frame": int.from_bytes(data[12:16], "big"),
-                "index": int.from_bytes(data[16:18], "big"),
-                "offsets": {
-                    int.from_bytes(data[at : at + 2], "big"): int.from_bytes(data[at + 2 : at + 4], "big", signed=True)
-                    for at in range(19, 19 + 4 * data[18], 4)
-                },
-            }
-
-
-def read(packet):
-    """The fields that a packet reads as, or nothing."""
-    if packet[1] & 0x1F != 0x1F or packet[2] != 0xFA:
-        return None
-    payload = packet[4:]
-    if payload in CODEWORDS:
-        return CODEWORDS[payload]
-    for codeword, fields in CODEWORDS.items():
-        if sum(a != b for a, b in zip(codeword, payload)) <= 10:
-            return fields
-    return None
-
-
 def anchor(packets):
     """The least place from which on each packet is a mark exactly where 624 divides the distance."""
     count = len(packets)
@@ -79,12 +44,31 @@ def anchor(packets):
     return None
 
 
+@functools.cache
+def coded_group(states, s, data):
+    """The four data segments of a group at a place of its field, from those states and its 828 bytes, and the states behind it."""
+    states = [[state >> 2, state >> 1 & 1, state & 1] for state in states]
+    segments = [[5, -5, -5, 5] + [0] * 828 for _ in range(4)]
+    for turn in range(276):
+        i, h = turn // 69, turn // 4
+        for p in range(12):
+            coder = (p + 4 * ((s + i) % 3)) % 12
+            byte = data[12 * h + (coder - 4 * ((s + 4 * h // 69) % 3)) % 12]
+            pair = byte >> 6 - 2 * (turn % 4) & 3
+            x2, x1 = pair >> 1, pair & 1
+            q2, q1, q0 = states[coder]
+            z = 4 * (x2 ^ q2) + 2 * x1 + q1
+            states[coder] = [x2 ^ q2, x1 ^ q0, q1]
+            segments[i][4 + 12 * (turn % 69) + p] = 2 * z - 7
+    return segments, tuple(4 * q2 + 2 * q1 + q0 for q2, q1, q0 in states)
+
+
 class Life:
     """What one exciter is given, and what it owes for each packet of it."""
 
     def __init__(self, address, delay):
         self.address, self.delay, self.packets = address, delay, []
-        self.known = {}
+        self.anchor, self.known = None, {}
 
     def order(self, a, i0):
         """The place and the fields of the order in force for the group at i0."""
@@ -106,37 +90,18 @@ class Life:
         """Byte n of the bytes that leave the interleaver, byte 0 being the first of the anchor's packet."""
         m = n - 208 * (n % 52)
         place = m // 207
-        key = ("word", a, place)
-        if key not in self.known:
-            self.known[key] = coded(self.packets[a + place], place % FIELD)
-        return self.known[key][m % 207]
+        return coded(self.packets[a + place], place % FIELD)[m % 207]
 
     def group(self, a, order, i0):
         """The four data segments of the group at i0 under an order, and the states behind it."""
         g, fields = order
         key = ("group", a, g, i0)
         if key not in self.known:
-            states = fields["states"] if i0 == g else self.group(a, order, i0 - 4)[1]
-            self.known[key] = self.coded_group(states, a, i0)
+            states = tuple(fields["states"]) if i0 == g else self.group(a, order, i0 - 4)[1]
+            start = 207 * (i0 - a)
+            data = bytes(self.interleaved(a, start + n) for n in range(828))
+            self.known[key] = coded_group(states, (i0 - a) % FIELD, data)
         return self.known[key]
-
-    def coded_group(self, states, a, i0):
-        s, start = (i0 - a) % FIELD, 207 * (i0 - a)
-        data = [self.interleaved(a, start + n) for n in range(828)]
-        states = [[state >> 2, state >> 1 & 1, state & 1] for state in states]
-        segments = [[5, -5, -5, 5] + [0] * 828 for _ in range(4)]
-        for turn in range(276):
-            i, h = turn // 69, turn // 4
-            for p in range(12):
-                coder = (p + 4 * ((s + i) % 3)) % 12
-                byte = data[12 * h + (coder - 4 * ((s + 4 * h // 69) % 3)) % 12]
-                pair = byte >> 6 - 2 * (turn % 4) & 3
-                x2, x1 = pair >> 1, pair & 1
-                q2, q1, q0 = states[coder]
-                z = 4 * (x2 ^ q2) + 2 * x1 + q1
-                states[coder] = [x2 ^ q2, x1 ^ q0, q1]
-                segments[i][4 + 12 * (turn % 69) + p] = 2 * z - 7
-        return segments, [4 * q2 + 2 * q1 + q0 for q2, q1, q0 in states]
 
     def sent(self, a, i0):
         """The data segments that are sent of the group at i0 under the anchor."""
@@ -147,9 +112,9 @@ class Life:
 
     def take(self, packet):
         """The segments of one more packet, and its line in the log, where it has one."""
-        before = anchor(self.packets)
+        before, i = self.anchor, len(self.packets)
         self.packets.append(packet)
-        a, i = anchor(self.packets), len(self.packets) - 1
+        a = self.anchor = anchor(self.packets)
         if before is not None and a != before:
             return [], ("mute", "cadence")
         if a is None or (i - a) % 4 != 3:
@@ -173,23 +138,28 @@ class Life:
         return segments, ("preset", fields["frame"], j, grains // 1539, grains % 1539)
 
 
-def excited(packets, address, delay):
-    """The symbols, the log and the line of one life."""
-    life, symbols, log, segments = Life(address, delay), bytearray(), [], 0
-    presets = mutes = 0
+@functools.cache
+def lived(packets, address, delay, segments=0):
+    """The symbols and the lines of one life, before which its transmitter sent so many segments."""
+    life, symbols, lines = Life(address, delay), bytearray(), []
     for packet in packets:
         given, line = life.take(packet)
         for segment in given:
             symbols += bytes(symbol & 255 for symbol in segment)
         if line and line[0] == "preset":
-            presets += 1
-            log.append(f"preset {segments + len(given) - 4} " + " ".join(map(str, line[1:])))
+            lines.append(f"preset {segments + len(given) - 4} " + " ".join(map(str, line[1:])))
         elif line:
-            mutes += 1
-            log.append(f"mute {segments} {line[1]}")
+            lines.append(f"mute {segments} {line[1]}")
         segments += len(given)
-    line = f"packets {len(packets)} segments {segments} presets {presets} mutes {mutes} loose 0\n"
-    return bytes(symbols), "".join(each + "\n" for each in log), line
+    return bytes(symbols), lines
+
+
+def excited(packets, address, delay):
+    """The symbols, the log and the line of one life."""
+    symbols, lines = lived(tuple(packets), address, delay)
+    presets = sum(line.startswith("preset") for line in lines)
+    numbers = f"segments {len(symbols) // 832} presets {presets} mutes {len(lines) - presets}"
+    return symbols, "".join(each + "\n" for each in lines), f"packets {len(packets)} {numbers} loose 0\n"
 
 
 def made_feed(chance, count):
@@ -200,10 +170,7 @@ def made_feed(chance, count):
             stream += b"\x47\x1f\xfa\x10" + bytes(184)
         else:
             stream += b"\x47\x00\x31\x10" + chance.randbytes(184)
-    feed = bytes(adapted(bytes(stream)))
-    packets = [feed[at : at + PACKET] for at in range(0, len(feed), PACKET)]
-    learn(packets)
-    return packets
+    return packets_of(adapted(bytes(stream)))
 
 
 def spoiled(chance, packet):

@@ -5,11 +5,11 @@ reference.py feed IN OUT    adapts a stream under the plan of examples/two-sites
 reference.py zeros N OUT    a stream of N packets whose coded bytes are all 0
 """
 
+import functools
 import sys
 
 PACKET, FIELD, FRAME = 188, 312, 624
-MAX_DELAY = 5_000_000
-ENTRIES = ((7, -10), (9, 25))
+TWO_SITES = {"start": 0, "max_delay": 5_000_000, "transmitter": [{"address": 7, "offset": -10}, {"address": 9, "offset": 25}]}
 
 
 def multiplied(a, b):
@@ -52,6 +52,71 @@ def correction_bytes(data):
     return rest.to_bytes(20, "big")
 
 
+def product_of(a, b):
+    """The product of two bytes of the field, by logarithms."""
+    return POWERS[(LOGS[a] + LOGS[b]) % 255] if a and b else 0
+
+
+def value(coefficients, power):
+    """The value of a polynomial, highest coefficient first, at a power of alpha."""
+    total = 0
+    for coefficient in coefficients:
+        total = product_of(total, POWERS[power % 255]) ^ coefficient
+    return total
+
+
+def locator(syndromes):
+    """The shortest recurrence of the syndromes, lowest coefficient first, by the method of Berlekamp and Massey."""
+    found, before, length, gap, last = [1], [1], 0, 1, 1
+    for n in range(20):
+        off = 0
+        for coefficient, syndrome in zip(found, reversed(syndromes[: n + 1])):
+            off ^= product_of(coefficient, syndrome)
+        if off == 0:
+            gap += 1
+            continue
+        factor = POWERS[(LOGS[off] - LOGS[last]) % 255]
+        added = [0] * gap + [product_of(factor, coefficient) for coefficient in before]
+        size = max(len(found), len(added))
+        longer = [a ^ b for a, b in zip(found + [0] * (size - len(found)), added + [0] * (size - len(added)))]
+        if 2 * length <= n:
+            before, length, gap, last = found, n + 1 - length, 1, off
+        else:
+            gap += 1
+        found = longer
+    return found, length
+
+
+def is_codeword(word):
+    return correction_bytes(word[:-20]) == word[-20:]
+
+
+def corrected(word):
+    """The codeword that differs from a word in at most ten places, or nothing. What is found is tested, so it is one; and where there
+    is one, the recurrence of the syndromes finds its places."""
+    if is_codeword(word):
+        return word
+    count = len(word)
+    syndromes = [value(word, i) for i in range(20)]
+    recurrence, length = locator(syndromes)
+    powers = [power for power in range(count) if value(recurrence[::-1], -power) == 0]
+    if length > 10 or len(powers) != length:
+        return None
+    over = [0] * 20
+    for i, coefficient in enumerate(recurrence):
+        for j in range(20 - i):
+            over[i + j] ^= product_of(coefficient, syndromes[j])
+    slope = [coefficient if i % 2 == 0 else 0 for i, coefficient in enumerate(recurrence[1:])]
+    mended = bytearray(word)
+    for power in powers:
+        below = value(slope[::-1], -power)
+        if below == 0:
+            return None
+        error = product_of(product_of(value(over[::-1], -power), POWERS[power]), POWERS[(255 - LOGS[below]) % 255])
+        mended[count - 1 - power] ^= error
+    return bytes(mended) if is_codeword(bytes(mended)) else None
+
+
 def whitening():
     """The randomizer's bytes for a field."""
     register, out = 0xF180, bytearray()
@@ -68,10 +133,15 @@ def whitening():
 WHITE = whitening()
 
 
+def whitened(data, place):
+    """The 187 bytes of a packet at a place of its field with the randomizer's added, which takes them away again too."""
+    return bytes(a ^ b for a, b in zip(data, WHITE[187 * place : 187 * place + 187]))
+
+
+@functools.cache
 def coded(packet, place):
     """The codeword of a packet at a place of its field."""
-    white = WHITE[187 * place : 187 * place + 187]
-    data = bytes(a ^ b for a, b in zip(packet[1:], white))
+    data = whitened(packet[1:], place)
     return data + correction_bytes(data)
 
 
@@ -97,30 +167,77 @@ def states_after(states, place, data):
     return states
 
 
-def operations_packet(head, states, index, frame, counter):
+def is_placeholder(packet):
+    return packet[1] & 0x1F == 0x1F and packet[2] == 0xFA
+
+
+def spelled(head, counter, fields):
+    """The operations packet of a sync byte, a counter and fields."""
     bits = 0
-    for state in states:
+    for state in fields["states"]:
         bits = 8 * bits + state
-    stamp = frame * 744_789_760 // 1539 % 10_000_000
-    data = b"\1" + (16 * bits).to_bytes(5, "big") + stamp.to_bytes(3, "big") + MAX_DELAY.to_bytes(3, "big")
-    data += frame.to_bytes(4, "big") + index.to_bytes(2, "big") + bytes([len(ENTRIES)])
-    for address, offset in ENTRIES:
+    data = b"\1" + (16 * bits).to_bytes(5, "big") + fields["stamp"].to_bytes(3, "big") + fields["max_delay"].to_bytes(3, "big")
+    data += fields["frame"].to_bytes(4, "big") + fields["index"].to_bytes(2, "big") + bytes([len(fields["offsets"])])
+    for address, offset in fields["offsets"].items():
         data += address.to_bytes(2, "big") + offset.to_bytes(2, "big", signed=True)
     data = data.ljust(164, b"\0")
     return bytes([head, 0x1F, 0xFA, 0x10 + counter % 16]) + data + correction_bytes(data)
 
 
-def adapted(stream):
-    """The feed of a stream: marks, and operations packets in the place of the placeholders."""
+@functools.cache
+def read(packet):
+    """The fields that a packet reads as, or nothing."""
+    codeword = corrected(packet[4:]) if is_placeholder(packet) else None
+    if codeword is None:
+        return None
+    data = codeword[:164]
+    bits, count = int.from_bytes(data[1:6], "big"), data[18]
+    entries = [(data[at : at + 2], data[at + 2 : at + 4]) for at in range(19, 19 + 4 * min(count, 35), 4)]
+    fields = {
+        "states": [bits >> 4 >> 3 * (11 - coder) & 7 for coder in range(12)],
+        "stamp": int.from_bytes(data[6:9], "big"),
+        "max_delay": int.from_bytes(data[9:12], "big"),
+        "frame": int.from_bytes(data[12:16], "big"),
+        "index": int.from_bytes(data[16:18], "big"),
+        "offsets": {int.from_bytes(address, "big"): int.from_bytes(offset, "big", signed=True) for address, offset in entries},
+    }
+    is_read = (
+        data[0] == 1
+        and bits % 16 == 0
+        and fields["stamp"] < 10_000_000
+        and fields["max_delay"] < 10_000_000
+        and fields["index"] < FRAME
+        and count <= 35
+        and len(fields["offsets"]) == count
+        and not any(data[19 + 4 * count :])
+    )
+    return fields if is_read else None
+
+
+def packets_of(stream):
+    """The whole packets of a stream."""
+    return [bytes(stream[at : at + PACKET]) for at in range(0, len(stream) - PACKET + 1, PACKET)]
+
+
+def adapted(stream, plan=TWO_SITES):
+    """The feed of a stream under a plan: marks, and operations packets in the place of the placeholders."""
     feed, coded_bytes, states, filled = bytearray(), bytearray(), [0] * 12, 0
-    packets = [stream[at : at + PACKET] for at in range(0, len(stream) - PACKET + 1, PACKET)]
+    packets = packets_of(stream)
     for first in range(0, len(packets), 4):
         group = packets[first : first + 4]
         for k, packet in enumerate(group, first):
             head = 0xB8 if k % FRAME == 0 else 0x47
             packet = bytes([head]) + packet[1:]
-            if packet[1] & 0x1F == 0x1F and packet[2] == 0xFA:
-                packet = operations_packet(head, states, k % FRAME, k // FRAME, filled)
+            if is_placeholder(packet):
+                fields = {
+                    "states": states,
+                    "stamp": (plan["start"] * 1539 + k // FRAME * 744_789_760) // 1539 % 10_000_000,
+                    "max_delay": plan["max_delay"],
+                    "frame": k // FRAME,
+                    "index": k % FRAME,
+                    "offsets": {each["address"]: each["offset"] for each in plan["transmitter"]},
+                }
+                packet = spelled(head, filled, fields)
                 filled += 1
             feed += packet
             coded_bytes += coded(packet, k % FIELD)
@@ -128,7 +245,7 @@ def adapted(stream):
             start = 207 * first
             places = (n - 208 * (n % 52) for n in range(start, start + 828))
             states = states_after(states, first % FIELD, [coded_bytes[m] if m >= 0 else 0 for m in places])
-    return feed
+    return bytes(feed)
 
 
 def zeros(count):

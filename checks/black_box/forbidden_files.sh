@@ -25,6 +25,24 @@ if [[ $("${program[@]}" 2>/dev/null) == "$usage" ]]; then
     chmod 000 in.ts
     run 11 'read fault' adapt "$plan" in.ts out.ts
     leaves in.ts
+
+    start 'a log of a transmitter that may not be written stays as it was'
+    chmod 777 .
+    stream 60 s.ts
+    { network s.ts && send 7 0 60; } >plan.toml
+    older tx-7.log
+    chmod 444 tx-7.log
+    run 12 'write fault' net plan.toml
+    keeps_older tx-7.log
+    are_empty tx-7.sym
+    leaves s.ts plan.toml net.feed tx-7.sym tx-7.log
+
+    start 'changes that may not be read'
+    chmod 777 .
+    : >changes.toml
+    chmod 000 changes.toml
+    run 11 'read fault' hurt ../inputs/given.ts changes.toml out.ts
+    leaves changes.toml
 else
     echo 'black box: the cases of another user were left out, since root could not become nobody here'
 fi

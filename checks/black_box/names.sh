@@ -13,6 +13,8 @@ while read -r name; do
     leaves_nothing
     run 4 "absent $name" code "$name" out.sym
     leaves_nothing
+    run 4 "absent $name" hurt ../inputs/given.ts "$name" out
+    leaves_nothing
     run 0 'packets 0' make 1 0 "$name"
     leaves "$name"
 done <<'end'

@@ -71,9 +71,15 @@ is_usage '`excite` with empty symbols' excite ../inputs/given.ts 7 0 '' out.log
 is_usage '`excite` with an empty log' excite ../inputs/given.ts 7 0 out.sym ''
 is_usage 'an address beyond 16 bits' excite ../inputs/given.ts 65536 0 out.sym out.log
 is_usage 'a delay beyond 32 bits' excite ../inputs/given.ts 7 4294967296 out.sym out.log
-# These are not built yet.
-is_usage 'net' net plan
-is_usage 'hurt' hurt ../inputs/given.ts changes out.ts
+is_usage '`net` alone' net
+is_usage '`net` with a word too many' net plan more
+is_usage '`net` with an empty plan' net ''
+is_usage '`hurt` alone' hurt
+is_usage '`hurt` with a word too few' hurt ../inputs/given.ts changes
+is_usage '`hurt` with a word too many' hurt ../inputs/given.ts changes out more
+is_usage '`hurt` with an empty input' hurt '' changes out
+is_usage '`hurt` with empty changes' hurt ../inputs/given.ts '' out
+is_usage '`hurt` with an empty output' hurt ../inputs/given.ts changes ''
 
 while read -r shows given_plan input output named; do
     start "equal names: $shows"

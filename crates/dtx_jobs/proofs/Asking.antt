@@ -11,7 +11,7 @@ use Rattle.dtx_outside.proofs.Written.{at_written, IsSameAt-written, from_same_a
 use Rattle.dtx_words.specs.Status.{of_write}
 use Rattle.dtx_jobs.specs.declared.stream.Counts.{Counts}
 use Rattle.dtx_words.specs.declared.status.Status.{Status}
-use Rattle.dtx_words.specs.declared.status.Status.TheVariants.{Done, Usage, Same, Absent, Plan, Packet, TooLong, NoSync, ReadFault, WriteFault, Memory}
+use Rattle.dtx_words.specs.declared.status.Status.TheVariants.{Done, Usage, Same, Absent, Plan, Packet, TooLong, OutOfFeed, OutOfAir, NoSync, ReadFault, WriteFault, Memory}
 use Rattle.dtx_jobs.specs.Input.{IsAsked, IsAskRefusal}
 use Rattle.dtx_jobs.specs.Output.{Making, HasCauseIn, HasAskedCause, HasPartOfOutput, IsOutputLeft, IsBegunLeft, IsAskedLeft, IsUntouchedOrPart}
 use Rattle.dtx_jobs.specs.Stream.{input_of, IsAbsent, IsStreamRefusal}
@@ -40,6 +40,8 @@ left_from source made held output found (Err WriteFault) now left = inr (part_fr
 left_from source made held output found (Err Memory) now left = inr (part_from source made held output found now left)
 left_from source made held output found (Err Done) now left = part_from source made held output found now left
 left_from source made held output found (Err Usage) now left = part_from source made held output found now left
+left_from source made held output found (Err (OutOfFeed event)) now left = part_from source made held output found now left
+left_from source made held output found (Err (OutOfAir entry)) now left = part_from source made held output found now left
 left_from source made held output found (Err NoSync) now left = part_from source made held output found now left
 left_from source made held output found (Err Same) now left = part_from source made held output found now left
 
@@ -87,6 +89,8 @@ asked_refusal source ReadFault h = tt
 asked_refusal source Memory h = tt
 asked_refusal source Done h = absurd h
 asked_refusal source Usage h = absurd h
+asked_refusal source (OutOfFeed event) h = absurd h
+asked_refusal source (OutOfAir entry) h = absurd h
 asked_refusal source NoSync h = absurd h
 asked_refusal source Same h = absurd h
 asked_refusal source (Packet k) h = absurd h
@@ -98,6 +102,8 @@ pub absent_is : (source : Source) (status : Status) â†’ IsAbsent source status â
 absent_is source (Absent i) h = ap Absent h
 absent_is source Done h = absurd h
 absent_is source Usage h = absurd h
+absent_is source (OutOfFeed event) h = absurd h
+absent_is source (OutOfAir entry) h = absurd h
 absent_is source NoSync h = absurd h
 absent_is source Same h = absurd h
 absent_is source (Packet k) h = absurd h
@@ -113,6 +119,8 @@ asked_cause source found ReadFault h = tt
 asked_cause source found Memory h = tt
 asked_cause source found Done h = absurd h
 asked_cause source found Usage h = absurd h
+asked_cause source found (OutOfFeed event) h = absurd h
+asked_cause source found (OutOfAir entry) h = absurd h
 asked_cause source found NoSync h = absurd h
 asked_cause source found Same h = absurd h
 asked_cause source found (Packet k) h = absurd h
@@ -127,6 +135,8 @@ asked_left source made held output found ReadFault now h same = inl same
 asked_left source made held output found Memory now h same = inl same
 asked_left source made held output found Done now h same = absurd h
 asked_left source made held output found Usage now h same = absurd h
+asked_left source made held output found (OutOfFeed event) now h same = absurd h
+asked_left source made held output found (OutOfAir entry) now h same = absurd h
 asked_left source made held output found NoSync now h same = absurd h
 asked_left source made held output found Same now h same = absurd h
 asked_left source made held output found (Packet k) now h same = absurd h
@@ -148,6 +158,8 @@ made_left source made held output found (Err WriteFault) now there cause left = 
 made_left source made held output found (Err Memory) now there cause left = left
 made_left source made held output found (Err Done) now there cause left = absurd cause
 made_left source made held output found (Err Usage) now there cause left = absurd cause
+made_left source made held output found (Err (OutOfFeed event)) now there cause left = absurd cause
+made_left source made held output found (Err (OutOfAir entry)) now there cause left = absurd cause
 made_left source made held output found (Err NoSync) now there cause left = absurd cause
 made_left source made held output found (Err Same) now there cause left = absurd cause
 
@@ -179,6 +191,8 @@ there_cause source found (Err WriteFault) there cause = there
 there_cause source found (Ok counts) there cause = cause
 there_cause source found (Err Done) there cause = cause
 there_cause source found (Err Usage) there cause = cause
+there_cause source found (Err (OutOfFeed event)) there cause = cause
+there_cause source found (Err (OutOfAir entry)) there cause = cause
 there_cause source found (Err NoSync) there cause = cause
 there_cause source found (Err Same) there cause = cause
 there_cause source found (Err (Absent i)) there cause = cause

@@ -14,7 +14,7 @@ use Rattle.dtx_words.specs.Names.{repeated}
 use Rattle.dtx_words.specs.Status.{of_write}
 use Rattle.dtx_words.specs.Words.{ExciteWords, excite_names}
 use Rattle.dtx_words.specs.declared.status.Status.{Status}
-use Rattle.dtx_words.specs.declared.status.Status.TheVariants.{Done, Usage, Same, Absent, Packet, TooLong, NoSync, ReadFault, WriteFault, Memory, Plan}
+use Rattle.dtx_words.specs.declared.status.Status.TheVariants.{Done, Usage, Same, Absent, Packet, TooLong, OutOfFeed, OutOfAir, NoSync, ReadFault, WriteFault, Memory, Plan}
 use Rattle.dtx_jobs.specs.Excite.{AreApart, IsUntouchedOrPart, IsExciteEnd, IsExcitePerformed, IsExciteRefusal, HasExciteCause, ExciteLeavesAt}
 use Rattle.dtx_jobs.specs.Input.{IsAsked, IsAskRefusal}
 use Rattle.dtx_jobs.specs.TwoFiles.{AreWritten}
@@ -83,6 +83,8 @@ asked_cause asked found Same h = absurd h
 asked_cause asked found (Packet k) h = absurd h
 asked_cause asked found (Plan refusal) h = absurd h
 asked_cause asked found TooLong h = absurd h
+asked_cause asked found (OutOfFeed event) h = absurd h
+asked_cause asked found (OutOfAir entry) h = absurd h
 asked_cause asked found NoSync h = absurd h
 asked_cause asked found WriteFault h = absurd h
 
@@ -97,6 +99,8 @@ asked_left asked held found Same now h same = absurd h
 asked_left asked held found (Packet k) now h same = absurd h
 asked_left asked held found (Plan refusal) now h same = absurd h
 asked_left asked held found TooLong now h same = absurd h
+asked_left asked held found (OutOfFeed event) now h same = absurd h
+asked_left asked held found (OutOfAir entry) now h same = absurd h
 asked_left asked held found NoSync now h same = absurd h
 asked_left asked held found WriteFault now h same = absurd h
 
@@ -117,6 +121,8 @@ not_asked_refusal Same h = absurd h
 not_asked_refusal (Packet k) h = absurd h
 not_asked_refusal (Plan refusal) h = absurd h
 not_asked_refusal TooLong h = absurd h
+not_asked_refusal (OutOfFeed event) h = absurd h
+not_asked_refusal (OutOfAir entry) h = absurd h
 not_asked_refusal NoSync h = absurd h
 not_asked_refusal WriteFault h = absurd h
 
@@ -145,6 +151,8 @@ performed asked told now (Err WriteFault) h is = is
 performed asked told now (Err Memory) h is = is
 performed asked told now (Err Done) h is = is
 performed asked told now (Err Usage) h is = is
+performed asked told now (Err (OutOfFeed event)) h is = is
+performed asked told now (Err (OutOfAir entry)) h is = is
 performed asked told now (Err NoSync) h is = is
 performed asked told now (Err (Packet k)) h is = is
 performed asked told now (Err (Plan refusal)) h is = is

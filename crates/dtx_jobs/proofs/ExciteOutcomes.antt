@@ -6,7 +6,7 @@ use Rattle.dtx_outside.specs.Shelf.{Files}
 use Rattle.dtx_words.specs.Names.{repeated}
 use Rattle.dtx_words.specs.Words.{ExciteWords, excite_names}
 use Rattle.dtx_words.specs.declared.status.Status.{Status}
-use Rattle.dtx_words.specs.declared.status.Status.TheVariants.{Done, Usage, Same, Absent, Packet, TooLong, NoSync, ReadFault, WriteFault, Memory, Plan}
+use Rattle.dtx_words.specs.declared.status.Status.TheVariants.{Done, Usage, Same, Absent, Packet, TooLong, OutOfFeed, OutOfAir, NoSync, ReadFault, WriteFault, Memory, Plan}
 use Rattle.dtx_jobs.specs.Excite.{HasExciteCause, ExciteLeavesAt, IsExciteEnd, IsExcitePerformed, IsExcitePerformRefusal}
 use Rattle.dtx_jobs.specs.Excited.{OfFeed, IsFeed, HasExciteJobCause, CanBeExcited, ExciteLeaves, excited_numbers, IsExciteOutcome}
 use Rattle.dtx_jobs.specs.Life.{numbers_in}
@@ -52,6 +52,8 @@ of_told : (asked : ExciteWords) (told now : Option Files) (status : Status) → 
 of_told asked told now Same apart is = absurd (apart refl)
 of_told asked told now (Absent i) apart is = is
 of_told asked told now TooLong apart is = is
+of_told asked told now (OutOfFeed event) apart is = is
+of_told asked told now (OutOfAir entry) apart is = is
 of_told asked told now NoSync apart is = is
 of_told asked told now ReadFault apart is = is
 of_told asked told now WriteFault apart is = is
@@ -82,6 +84,8 @@ refused_cause asked told now missed misread miswritten TooLong is h miss read wr
 refused_cause asked told now missed misread miswritten ReadFault is h miss read write = read refl
 refused_cause asked told now missed misread miswritten WriteFault is h miss read write = (write refl, there_at asked told now is)
 refused_cause asked told now missed misread miswritten Memory is h miss read write = tt
+refused_cause asked told now missed misread miswritten (OutOfFeed event) is h miss read write = absurd h
+refused_cause asked told now missed misread miswritten (OutOfAir entry) is h miss read write = absurd h
 refused_cause asked told now missed misread miswritten NoSync is h miss read write = absurd h
 refused_cause asked told now missed misread miswritten Usage is h miss read write = absurd h
 refused_cause asked told now missed misread miswritten (Packet k) is h miss read write = absurd h
@@ -99,6 +103,8 @@ able_at asked (Some file) TooLong can h apart cause = absurd (omega (arith, can,
 able_at asked (Some file) ReadFault can h apart cause = inl refl
 able_at asked (Some file) WriteFault can h apart cause = inr (inl refl)
 able_at asked (Some file) Memory can h apart cause = inr (inr refl)
+able_at asked (Some file) (OutOfFeed event) can h apart cause = absurd h
+able_at asked (Some file) (OutOfAir entry) can h apart cause = absurd h
 able_at asked (Some file) NoSync can h apart cause = absurd h
 able_at asked (Some file) Usage can h apart cause = absurd h
 able_at asked (Some file) (Packet k) can h apart cause = absurd h
@@ -110,6 +116,8 @@ not_same : (asked : ExciteWords) (told now : Option Files) (status : Status) →
 not_same asked told now Same none is = λ e. let some : IsSome (repeated (excite_names asked)) = is.0 in let none_is : IsSome {T = List ℕ} None = subst IsSome none some in cc
 not_same asked told now (Absent i) none is = λ e. cc
 not_same asked told now TooLong none is = λ e. cc
+not_same asked told now (OutOfFeed event) none is = λ e. cc
+not_same asked told now (OutOfAir entry) none is = λ e. cc
 not_same asked told now NoSync none is = λ e. cc
 not_same asked told now ReadFault none is = λ e. cc
 not_same asked told now WriteFault none is = λ e. cc
@@ -148,6 +156,8 @@ refused_left asked told now TooLong h is = end_left asked told now TooLong is
 refused_left asked told now ReadFault h is = end_left asked told now ReadFault is
 refused_left asked told now WriteFault h is = end_left asked told now WriteFault is
 refused_left asked told now Memory h is = end_left asked told now Memory is
+refused_left asked told now (OutOfFeed event) h is = absurd h
+refused_left asked told now (OutOfAir entry) h is = absurd h
 refused_left asked told now NoSync h is = absurd h
 refused_left asked told now Usage h is = absurd h
 refused_left asked told now (Packet k) h is = absurd h

@@ -1,6 +1,6 @@
 -- What `adapt` leaves, as the least that is said of it.
-use Rattle.std.proofs.Common.{◌≡◌, ℕ, ◌*◌, ◌/◌, ◌≤◌, List, arith, inl, inr}
-use Rattle.std.specs.Prelude.{Option, Some, None, Result, Ok, Err, IfSome, IsSomeAnd}
+use Rattle.std.proofs.Common.{ℕ, ◌*◌, ◌/◌, ◌≤◌, List, arith, inl, inr}
+use Rattle.std.specs.Prelude.{Option, Some, None, Result, Ok, Err, IsSomeAnd}
 use Rattle.std.specs.FinMap.{get}
 use Rattle.std.specs.Result.{IsOkAnd}
 use Rattle.dtx_outside.specs.Shelf.{Files}
@@ -12,7 +12,7 @@ use Rattle.dtx_plan.specs.declared.plan.Plan as plan
 use Rattle.dtx_plan.specs.declared.refusal.PlanNo.{PlanNo}
 use Rattle.dtx_words.specs.Words.{AdaptWords}
 use Rattle.dtx_words.specs.declared.status.Status.{Status}
-use Rattle.dtx_words.specs.declared.status.Status.TheVariants.{Done, Usage, Same, Absent, Plan, Packet, TooLong, NoSync, ReadFault, WriteFault, Memory}
+use Rattle.dtx_words.specs.declared.status.Status.TheVariants.{Done, Usage, Same, Absent, Plan, Packet, TooLong, OutOfFeed, OutOfAir, NoSync, ReadFault, WriteFault, Memory}
 use Rattle.dtx_jobs.specs.Adapt.{OfPlan, HasAdaptCause, FeedLeaves}
 use Rattle.dtx_jobs.specs.Feed.{feed_bytes}
 use Rattle.dtx_jobs.specs.Output.{Making, made_at, HasPartOfOutput, HasWholeOutput, IsOutputLeft}
@@ -70,4 +70,6 @@ memory_left asked (Some held) now missed misread miswritten ReadFault cause left
 memory_left asked (Some held) now missed misread miswritten WriteFault cause left = left
 memory_left asked (Some held) now missed misread miswritten Memory cause left = left
 memory_left asked (Some held) now missed misread miswritten Usage cause left = absurd cause
+memory_left asked (Some held) now missed misread miswritten (OutOfFeed event) cause left = absurd cause
+memory_left asked (Some held) now missed misread miswritten (OutOfAir entry) cause left = absurd cause
 memory_left asked (Some held) now missed misread miswritten NoSync cause left = absurd cause

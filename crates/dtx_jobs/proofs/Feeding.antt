@@ -1,9 +1,12 @@
 -- Packets that are adapted in place, a group at a time.
 use Rattle.std.proofs.Common.{◌≡◌, ℕ, ◌+◌, ◌≤◌, List, [], ◌++◌, length, take, drop, sym, ap, ap₂, subst, ◌∙◌, arith}
 use Rattle.std.proofs.lemmas.List.{take_at, drop_at, drop-drop, length-take-le, length-append, append_assoc, append-nil}
+use Rattle.std.proofs.lemmas.List.Elements.{All-append, All-drop, All-map, All-same, All-take}
 use Rattle.std.proofs.Math.Seq.{take-add}
+use Rattle.std.specs.List.{All}
 use Rattle.dtx_adapter.specs.Adapting.{StandsFor}
 use Rattle.dtx_adapter.specs.Feed.{feed, placeholders}
+use Rattle.dtx_galois.specs.Field.{AreBytes}
 use Rattle.dtx_packets.specs.declared.packet.Packet as packet
 use Rattle.dtx_plan.specs.declared.plan.Plan.{Plan}
 use Rattle.dtx_jobs.specs.Feed.{IsFeedingOf}
@@ -47,13 +50,25 @@ fed_on plan stream done count old cur new within long rest front before is =
     ∙ append_assoc (feed plan stream) (lists (take done cur)) (lists new)
     ∙ ap (λ z. feed plan stream ++ z) (sym (lists-append (take done cur) new) ∙ ap lists (sym (front_put done count cur new within long)))
 
+-- the packets of a part are bytes, as those that it was taken from
+pub part_bytes : (done n : ℕ) (old cur : List packet.Packet) → drop done cur ≡ drop done old → All (λ p. AreBytes p.0) old → All AreBytes (lists (take n (drop done cur)))
+part_bytes done n old cur rest bytes =
+    let part : List packet.Packet = take n (drop done cur) in
+    All-map AreBytes (λ (p : packet.Packet). p.0) part
+    (All-take (λ (p : packet.Packet). AreBytes p.0) n (drop done cur)
+    (All-same (λ (p : packet.Packet). AreBytes p.0) (drop done cur) (drop done old) rest (All-drop (λ (p : packet.Packet). AreBytes p.0) done old bytes)))
+
 -- a feeder that was given these packets
 pub feeding_on : (plan : Plan) (old new : Feeder) (stream more all : List (List ℕ)) (count : ℕ)
     → ((stream more : List (List ℕ)) → placeholders (stream ++ more) ≡ placeholders stream + placeholders more)
-    → IsFeedingOf plan old stream → StandsFor plan new.adapter (stream ++ more) → count ≡ placeholders more → new.filled ≡ old.filled + count → stream ++ more ≡ all
+    → IsFeedingOf plan old stream → StandsFor plan new.adapter (stream ++ more) → count ≡ placeholders more → new.filled ≡ old.filled + count → All AreBytes more → stream ++ more ≡ all
     → IsFeedingOf plan new all
-feeding_on plan old new stream more all count adds is stands counted filled whole =
-    subst (IsFeedingOf plan new) whole (record { adapter = stands; filled = filled ∙ ap₂ (λ a b. a + b) is.filled counted ∙ sym (adds stream more) })
+feeding_on plan old new stream more all count adds is stands counted filled bytes whole =
+    subst (IsFeedingOf plan new) whole (record {
+      adapter = stands;
+      filled = filled ∙ ap₂ (λ a b. a + b) is.filled counted ∙ sym (adds stream more);
+      bytes = All-append AreBytes stream more is.bytes bytes;
+    })
 
 -- nothing more
 pub feeding_none : (plan : Plan) (feeder : Feeder) (stream : List (List ℕ)) → IsFeedingOf plan feeder stream → IsFeedingOf plan feeder (stream ++ [])

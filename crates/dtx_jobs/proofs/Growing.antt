@@ -18,7 +18,7 @@ use Rattle.dtx_jobs.specs.declared.stream.Counts.{Counts}
 use Rattle.dtx_jobs.specs.declared.stream.Piece.{Piece}
 use Rattle.dtx_jobs.specs.declared.stream.Source.{Source}
 use Rattle.dtx_words.specs.declared.status.Status.{Status}
-use Rattle.dtx_words.specs.declared.status.Status.TheVariants.{Done, Usage, Same, Absent, Plan, Packet, TooLong, NoSync, ReadFault, WriteFault, Memory}
+use Rattle.dtx_words.specs.declared.status.Status.TheVariants.{Done, Usage, Same, Absent, Plan, Packet, TooLong, OutOfFeed, OutOfAir, NoSync, ReadFault, WriteFault, Memory}
 use Rattle.dtx_jobs.specs.Stream.{ArePlain, IsFront, IsFirstStop, IsEnding, IsCutAtGroup, IsPiece}
 use Rattle.dtx_jobs.specs.Output.{Making, made_at, HasCauseIn, HasPartOfOutput, IsOutputLeft}
 use Rattle.dtx_packets.proofs.Packets.{packets_from-append}
@@ -141,6 +141,8 @@ left_at source made start now output found fed count (Err ReadFault) within plai
 left_at source made start now output found fed count (Err Memory) within plain more groups ending cut written = (fed + count, within, more, part_of_written start now output _ written)
 left_at source made start now output found fed count (Err Done) within plain more groups ending cut written = absurd ending
 left_at source made start now output found fed count (Err Usage) within plain more groups ending cut written = absurd ending
+left_at source made start now output found fed count (Err (OutOfFeed event)) within plain more groups ending cut written = absurd ending
+left_at source made start now output found fed count (Err (OutOfAir entry)) within plain more groups ending cut written = absurd ending
 left_at source made start now output found fed count (Err NoSync) within plain more groups ending cut written = absurd ending
 left_at source made start now output found fed count (Err (Plan refusal)) within plain more groups ending cut written = absurd ending
 left_at source made start now output found fed count (Err Same) within plain more groups ending cut written = absurd ending
@@ -169,6 +171,8 @@ cause_at source found fed (Err ReadFault) plain within ending most = tt
 cause_at source found fed (Err Memory) plain within ending most = tt
 cause_at source found fed (Err Done) plain within ending most = ending
 cause_at source found fed (Err Usage) plain within ending most = ending
+cause_at source found fed (Err (OutOfFeed event)) plain within ending most = ending
+cause_at source found fed (Err (OutOfAir entry)) plain within ending most = ending
 cause_at source found fed (Err NoSync) plain within ending most = ending
 cause_at source found fed (Err (Plan refusal)) plain within ending most = ending
 cause_at source found fed (Err Same) plain within ending most = ending

@@ -1,6 +1,8 @@
 pub mod Apart
+pub mod AsRead
 pub mod Asking
 pub mod Coded
+pub mod FedPackets
 pub mod FeedBytes
 pub mod FeedLeft
 pub mod Feeding
@@ -12,6 +14,7 @@ pub mod Outcomes
 pub mod Pieces
 pub mod Planned
 pub mod StreamSymbols
+pub mod WholePackets
 pub mod BytesOf
 pub mod GivenOn
 pub mod SymbolPieces
@@ -28,3 +31,6 @@ pub mod Giving
 pub mod FeedRead
 pub mod ExciteBegun
 pub mod ExciteOutcomes
+pub mod PastEnd
+pub mod LaidOn
+pub mod HurtBegun

@@ -1,27 +1,25 @@
 -- What an exciter makes of packets, one packet further, and how much that is at most.
-use Rattle.std.proofs.Common.{◌≡◌, ℕ, ℤ, zero, suc, ◌+◌, ◌-◌, ◌*◌, ◌/◌, ◌%◌, ◌<◌, ◌≤◌, Bool, true, false, cond, List, [], ◌∷◌, ◌++◌, length, map, take, refl, sym, ap, ap₂, ◌∙◌, arith, append_assoc, zero-add}
-use Rattle.std.specs.Prelude.{◌==◌, Option, Some, None, is_ok}
+use Rattle.std.proofs.Common.{◌≡◌, ℕ, ℤ, zero, suc, ◌+◌, ◌*◌, ◌<◌, ◌≤◌, List, [], ◌∷◌, ◌++◌, length, map, take, refl, sym, ap, ap₂, ◌∙◌, arith, append_assoc, zero-add}
+use Rattle.std.specs.Prelude.{Some, None}
 use Rattle.std.specs.List.{range_with_len, flat_map}
 use Rattle.std.proofs.lemmas.Grind.{flat_map-append}
-use Rattle.std.proofs.lemmas.List.{append-nil, length-append, length_push, map-append, take-append-le, take_all}
-use Rattle.std.proofs.lemmas.List.FromFn.{length-map-range_with_len}
+use Rattle.std.proofs.lemmas.List.{append-nil, length-append, length_push, take-append-le, take_all}
 use Rattle.std.proofs.lemmas.List.Sums.{sum_by-append}
 use Rattle.dtx_lists.proofs.Range.{range_with_len-parts}
-use Rattle.dtx_coder.specs.Along.{levels_since}
-use Rattle.dtx_coder.specs.Stream.{symbols_of, segment, four_segments}
+use Rattle.dtx_coder.specs.Stream.{symbols_of}
 use Rattle.dtx_coder.proofs.RangeMoved.{flat_map-range_same}
-use Rattle.dtx_exciter.specs.Emission.{segments_since, sent_by, sent_at, sent_before, with_sync, given_under, given, emission}
+use Rattle.dtx_exciter.specs.Emission.{given, emission}
 use Rattle.dtx_exciter.specs.Log.{Line, line_of, life_lines}
-use Rattle.dtx_exciter.specs.Order.{Order, in_force}
-use Rattle.dtx_exciter.specs.Packets.{told, under, said}
+use Rattle.dtx_exciter.specs.Packets.{told}
 use Rattle.dtx_exciter.specs.Stretch.{emission_behind}
-use Rattle.dtx_exciter.specs.Told.{served}
 use Rattle.dtx_exciter.specs.declared.answers.Told.{Told}
 use Rattle.dtx_exciter.specs.declared.answers.Told.TheVariants.{Quiet, Sent, Muted}
 use Rattle.dtx_exciter.proofs.Emitted.{emission_push, emission_more}
 use Rattle.dtx_jobs.specs.Life.{sent_bytes, logged_bytes, one_preset, one_mute, presets_in, mutes_in, life_tally, tally_with, HasRoom}
-use Rattle.dtx_jobs.specs.LogText.{line_text, log_text}
-use Rattle.dtx_jobs.specs.Symbols.{byte_of_symbol}
+use Rattle.dtx_files.proofs.Appended.{segment_bytes-append, log_text-append}
+use Rattle.dtx_files.proofs.GivenFew.{given_few}
+use Rattle.dtx_files.specs.LogText.{log_text}
+use Rattle.dtx_files.specs.Symbols.{byte_of_symbol}
 use Rattle.dtx_jobs.specs.declared.life_tally.LifeTally.{LifeTally}
 
 -- ---- one packet further
@@ -49,26 +47,20 @@ lines_push a d l p =
     (append-nil (f (0 + length l)) ∙ ap₂ (λ s t. line_of (0 + length (emission a d s)) (length (given a d t)) (told a d t)) same all
     ∙ ap (λ n. line_of n (length (given a d (l ++ p ∷ []))) (told a d (l ++ p ∷ []))) (zero-add (length (emission a d l))))
 
-log_text-append : (xs ys : List Line) → log_text (xs ++ ys) ≡ log_text xs ++ log_text ys
-log_text-append xs ys = flat_map-append line_text xs ys
-
 pub logged_push : (a d : ℕ) (l : List (List ℕ)) (p : List ℕ)
     → logged_bytes a d (l ++ p ∷ []) ≡ logged_bytes a d l ++ log_text (line_of (length (emission a d l)) (length (given a d (l ++ p ∷ []))) (told a d (l ++ p ∷ [])))
 logged_push a d l p = ap log_text (lines_push a d l p) ∙ log_text-append (life_lines a d 0 l) _
 
-symbols-append : (xs ys : List (List ℤ)) → map byte_of_symbol (symbols_of (xs ++ ys)) ≡ map byte_of_symbol (symbols_of xs) ++ map byte_of_symbol (symbols_of ys)
-symbols-append xs ys = ap (map byte_of_symbol) (flat_map-append (λ (s : List ℤ). s) xs ys) ∙ map-append byte_of_symbol (symbols_of xs) (symbols_of ys)
-
 pub sent_push : (a d : ℕ) (l : List (List ℕ)) (p : List ℕ)
     → sent_bytes a d (l ++ p ∷ []) ≡ sent_bytes a d l ++ map byte_of_symbol (symbols_of (given a d (l ++ p ∷ [])))
-sent_push a d l p = ap (λ ss. map byte_of_symbol (symbols_of ss)) (emission_push a d l p) ∙ symbols-append (emission a d l) (given a d (l ++ p ∷ []))
+sent_push a d l p = ap (λ ss. map byte_of_symbol (symbols_of ss)) (emission_push a d l p) ∙ segment_bytes-append (emission a d l) (given a d (l ++ p ∷ []))
 
 -- ---- any packets further
 
 pub sent_more : (a d : ℕ) (l r : List (List ℕ)) → (rest : List ℕ) × (sent_bytes a d (l ++ r) ≡ sent_bytes a d l ++ rest)
 sent_more a d l r =
     let more : List (List ℤ) = emission_behind a d l r in
-    (map byte_of_symbol (symbols_of more), ap (λ ss. map byte_of_symbol (symbols_of ss)) (emission_more a d l r) ∙ symbols-append (emission a d l) more)
+    (map byte_of_symbol (symbols_of more), ap (λ ss. map byte_of_symbol (symbols_of ss)) (emission_more a d l r) ∙ segment_bytes-append (emission a d l) more)
 
 pub logged_more : (a d : ℕ) (l r : List (List ℕ)) → (rest : List ℕ) × (logged_bytes a d (l ++ r) ≡ logged_bytes a d l ++ rest)
 logged_more a d l [] = ([], ap (logged_bytes a d) (append-nil l) ∙ sym (append-nil (logged_bytes a d l)))
@@ -94,41 +86,6 @@ unfolding life_lines emission
 tally_none a d = refl
 
 -- ---- how much that is at most
-
-four : (a d : ℕ) (l : List (List ℕ)) (i : ℕ) (o : Option Order) → length (sent_by a d l i o) ≤ 4
-unfolding segments_since four_segments
-four a d l i None = omega arith
-four a d l i (Some order) = by_served (is_ok (served a d order.ops))
-  where
-    by_served : (b : Bool) → length (cond b (segments_since (order.place / 4) order.ops.states l (i / 4)) []) ≤ 4
-    by_served true = omega (arith, length-map-range_with_len (segment (levels_since (order.place / 4) order.ops.states l)) (4 * (i / 4 - order.place / 4)) 4)
-    by_served false = omega arith
-
-one_more : (b : Bool) (s : List ℤ) (ss : List (List ℤ)) → length (cond b (s ∷ []) [] ++ ss) ≤ length ss + 1
-one_more true s ss = omega arith
-one_more false s ss = omega arith
-
-synced : (i : ℕ) (before ss : List (List ℤ)) → length (with_sync i before ss) ≤ length ss + 1
-synced i before [] = omega arith
-synced i [] (s ∷ ss) = omega arith
-synced i (b ∷ bs) (s ∷ ss) = one_more (i % 312 == 0) _ (s ∷ ss)
-
-five_under : (a d : ℕ) (o : Option (List (List ℕ))) → length (given_under a d o) ≤ 5
-unfolding sent_at
-five_under a d None = omega arith
-five_under a d (Some l) = by_whole (length l % 4 == 0)
-  where
-    i : ℕ
-    i = length l - 4
-
-    by_whole : (b : Bool) → length (cond b (with_sync i (sent_before a d l i) (sent_at a d l i)) []) ≤ 5
-    by_whole true = omega (arith, synced i (sent_before a d l i) (sent_at a d l i), four a d l i (in_force (said l) i))
-    by_whole false = omega arith
-
--- a packet gives at most five segments
-pub given_few : (a d : ℕ) (l : List (List ℕ)) → length (given a d l) ≤ 5
-unfolding given
-given_few a d l = five_under a d (under l)
 
 few_in_all : {X : Type 0} (f : ℕ → List X) (a n : ℕ) → ((i : ℕ) → length (f i) ≤ 5) → length (flat_map f (range_with_len a n)) ≤ 5 * n
 few_in_all f a zero h = omega arith

@@ -11,7 +11,7 @@ use Rattle.dtx_outside.proofs.Written.{begun_written, gathered_of_written, part_
 use Rattle.dtx_jobs.specs.Make.{ordered, HasMakeCause, IsMadeLeft, IsMakeOutcome, IsMakeRefusal, IsUntouchedOrBegun, MakeLeaves}
 use Rattle.dtx_words.specs.Words.{MakeWords}
 use Rattle.dtx_words.specs.declared.status.Status.{Status}
-use Rattle.dtx_words.specs.declared.status.Status.TheVariants.{Done, Usage, Same, Absent, Plan, Packet, TooLong, NoSync, ReadFault, WriteFault, Memory}
+use Rattle.dtx_words.specs.declared.status.Status.TheVariants.{Done, Usage, Same, Absent, Plan, Packet, TooLong, OutOfFeed, OutOfAir, NoSync, ReadFault, WriteFault, Memory}
 
 -- nothing is made yet
 pub made_none : (start now : Option Files) (output gathered : List ℕ) (seed : ℕ) → gathered ≡ [] → IsWritten start output [] now
@@ -55,6 +55,8 @@ refused_cause miswritten WriteFault h fault = fault refl
 refused_cause miswritten Memory h fault = tt
 refused_cause miswritten Done h fault = absurd h
 refused_cause miswritten Usage h fault = absurd h
+refused_cause miswritten (OutOfFeed event) h fault = absurd h
+refused_cause miswritten (OutOfAir entry) h fault = absurd h
 refused_cause miswritten NoSync h fault = absurd h
 refused_cause miswritten Same h fault = absurd h
 refused_cause miswritten (Absent i) h fault = absurd h
@@ -68,6 +70,8 @@ refused_complete miswritten WriteFault h fault none = absurd (none (fault refl))
 refused_complete miswritten Memory h fault none = inr refl
 refused_complete miswritten Done h fault none = inl refl
 refused_complete miswritten Usage h fault none = absurd h
+refused_complete miswritten (OutOfFeed event) h fault none = absurd h
+refused_complete miswritten (OutOfAir entry) h fault none = absurd h
 refused_complete miswritten NoSync h fault none = absurd h
 refused_complete miswritten Same h fault none = absurd h
 refused_complete miswritten (Absent i) h fault none = absurd h
@@ -81,6 +85,8 @@ refused_left words told now WriteFault h left = left
 refused_left words told now Memory h left = left
 refused_left words told now Done h left = absurd h
 refused_left words told now Usage h left = absurd h
+refused_left words told now (OutOfFeed event) h left = absurd h
+refused_left words told now (OutOfAir entry) h left = absurd h
 refused_left words told now NoSync h left = absurd h
 refused_left words told now Same h left = absurd h
 refused_left words told now (Absent i) h left = absurd h

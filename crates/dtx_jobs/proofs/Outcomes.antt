@@ -8,7 +8,7 @@ use Rattle.dtx_packets.specs.Packets.{packet_at, whole_packets, packets_of}
 use Rattle.dtx_coder.specs.Stream.{a53}
 use Rattle.dtx_words.specs.Names.{repeated}
 use Rattle.dtx_words.specs.declared.status.Status.{Status}
-use Rattle.dtx_words.specs.declared.status.Status.TheVariants.{Done, Usage, Same, Absent, Plan, Packet, TooLong, NoSync, ReadFault, WriteFault, Memory}
+use Rattle.dtx_words.specs.declared.status.Status.TheVariants.{Done, Usage, Same, Absent, Plan, Packet, TooLong, OutOfFeed, OutOfAir, NoSync, ReadFault, WriteFault, Memory}
 use Rattle.dtx_jobs.specs.Output.{HasCauseIn, HasAskedCause}
 use Rattle.dtx_jobs.specs.Stream.{IsAbsent}
 use Rattle.dtx_jobs.specs.Work.{Work, OfInput, IsPlainFile, AreItsNumbers, IsItsMiddle, CanBeDone, HasJobCause, HasPerformCause, IsOutcome, IsPerformRefusal, Leaves, PerformLeaves}
@@ -75,6 +75,8 @@ refused_cause : (work : Work) (told : Option Files) (missed misread miswritten :
     → HasJobCause work told missed misread miswritten status
 refused_cause work told missed misread miswritten Done cause h miss read write = absurd h
 refused_cause work told missed misread miswritten Usage cause h miss read write = absurd h
+refused_cause work told missed misread miswritten (OutOfFeed event) cause h miss read write = absurd h
+refused_cause work told missed misread miswritten (OutOfAir entry) cause h miss read write = absurd h
 refused_cause work told missed misread miswritten NoSync cause h miss read write = absurd h
 refused_cause work told missed misread miswritten Same cause h miss read write = cause
 refused_cause work told missed misread miswritten (Absent i) cause h miss read write = (h, miss h, absent_at told work i cause)
@@ -95,6 +97,8 @@ able_at : (source : Source) (found : Option (List ℕ)) (status : Status) → Is
 able_at source None status able cause = absurd able
 able_at source (Some file) Done able cause = absurd cause
 able_at source (Some file) Usage able cause = absurd cause
+able_at source (Some file) (OutOfFeed event) able cause = absurd cause
+able_at source (Some file) (OutOfAir entry) able cause = absurd cause
 able_at source (Some file) NoSync able cause = absurd cause
 able_at source (Some file) Same able cause = absurd cause
 able_at source (Some file) (Absent i) able cause = let e = cause.1 in cc
@@ -111,6 +115,8 @@ asked_able : (source : Source) (found : Option (List ℕ)) (status : Status) →
 asked_able source found WriteFault able cause = inr (inl refl)
 asked_able source found Done able cause = able_at source found Done able cause
 asked_able source found Usage able cause = able_at source found Usage able cause
+asked_able source found (OutOfFeed event) able cause = able_at source found (OutOfFeed event) able cause
+asked_able source found (OutOfAir entry) able cause = able_at source found (OutOfAir entry) able cause
 asked_able source found NoSync able cause = able_at source found NoSync able cause
 asked_able source found Same able cause = able_at source found Same able cause
 asked_able source found (Absent i) able cause = able_at source found (Absent i) able cause
@@ -130,6 +136,8 @@ able work None status can cause = absurd can.1
 able work (Some held) Same can cause = absurd (not_twice (repeated work.names) can.0 cause)
 able work (Some held) Done can cause = asked_able work.source (get held work.input) Done can.1 cause
 able work (Some held) Usage can cause = asked_able work.source (get held work.input) Usage can.1 cause
+able work (Some held) (OutOfFeed event) can cause = asked_able work.source (get held work.input) (OutOfFeed event) can.1 cause
+able work (Some held) (OutOfAir entry) can cause = asked_able work.source (get held work.input) (OutOfAir entry) can.1 cause
 able work (Some held) NoSync can cause = asked_able work.source (get held work.input) NoSync can.1 cause
 able work (Some held) (Absent i) can cause = asked_able work.source (get held work.input) (Absent i) can.1 cause
 able work (Some held) (Packet k) can cause = asked_able work.source (get held work.input) (Packet k) can.1 cause
@@ -154,6 +162,8 @@ same_left (Some held) now same = same
 refused_left : (work : Work) (told now : Option Files) (status : Status) → IsPerformRefusal work.source status → PerformLeaves work told (Err status) now → Leaves work told status now
 refused_left work told now Done h left = absurd h
 refused_left work told now Usage h left = absurd h
+refused_left work told now (OutOfFeed event) h left = absurd h
+refused_left work told now (OutOfAir entry) h left = absurd h
 refused_left work told now NoSync h left = absurd h
 refused_left work told now Same h left = same_left told now left
 refused_left work told now (Absent i) h left = left

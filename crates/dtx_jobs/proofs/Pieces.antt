@@ -13,7 +13,7 @@ use Rattle.dtx_jobs.specs.declared.stream.Counts.{Counts}
 use Rattle.dtx_jobs.specs.declared.stream.Piece.{Piece}
 use Rattle.dtx_jobs.specs.declared.stream.Source.{Source}
 use Rattle.dtx_words.specs.declared.status.Status.{Status}
-use Rattle.dtx_words.specs.declared.status.Status.TheVariants.{Done, Usage, Same, Absent, Plan, Packet, TooLong, NoSync, ReadFault, WriteFault, Memory}
+use Rattle.dtx_words.specs.declared.status.Status.TheVariants.{Done, Usage, Same, Absent, Plan, Packet, TooLong, OutOfFeed, OutOfAir, NoSync, ReadFault, WriteFault, Memory}
 use Rattle.dtx_jobs.specs.Stream.{IsAllowed, IsFront, IsFirstStop, IsJudged, IsJudgedPiece, IsEnding, IsCutAtGroup, IsPiece}
 
 -- packet k of a stretch of the file
@@ -64,6 +64,8 @@ stop_in source file first n m ps (Packet j) same whole allowed within plain judg
 stop_in source file first n m ps (Plan refusal) same whole allowed within plain judged = absurd judged
 stop_in source file first n m ps Done same whole allowed within plain judged = absurd judged
 stop_in source file first n m ps Usage same whole allowed within plain judged = absurd judged
+stop_in source file first n m ps (OutOfFeed event) same whole allowed within plain judged = absurd judged
+stop_in source file first n m ps (OutOfAir entry) same whole allowed within plain judged = absurd judged
 stop_in source file first n m ps NoSync same whole allowed within plain judged = absurd judged
 stop_in source file first n m ps Same same whole allowed within plain judged = absurd judged
 stop_in source file first n m ps (Absent i) same whole allowed within plain judged = absurd judged
@@ -78,6 +80,8 @@ cut_in source first m count p (Packet j) is judged = λ group. omega (arith, is,
 cut_in source first m count p (Plan refusal) is judged = tt
 cut_in source first m count p Done is judged = tt
 cut_in source first m count p Usage is judged = tt
+cut_in source first m count p (OutOfFeed event) is judged = tt
+cut_in source first m count p (OutOfAir entry) is judged = tt
 cut_in source first m count p NoSync is judged = tt
 cut_in source first m count p Same is judged = tt
 cut_in source first m count p (Absent i) is judged = tt

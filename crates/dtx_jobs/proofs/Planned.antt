@@ -12,7 +12,7 @@ use Rattle.dtx_plan.specs.declared.refusal.PlanNo.{PlanNo}
 use Rattle.dtx_words.specs.Names.{repeated}
 use Rattle.dtx_words.specs.Words.{AdaptWords, adapt_names}
 use Rattle.dtx_words.specs.declared.status.Status.{Status}
-use Rattle.dtx_words.specs.declared.status.Status.TheVariants.{Done, Usage, Same, Absent, Plan, Packet, TooLong, NoSync, ReadFault, WriteFault, Memory}
+use Rattle.dtx_words.specs.declared.status.Status.TheVariants.{Done, Usage, Same, Absent, Plan, Packet, TooLong, OutOfFeed, OutOfAir, NoSync, ReadFault, WriteFault, Memory}
 use Rattle.dtx_jobs.specs.Adapt.{adapting, AreAllFilled, UnderPlan, HasAdaptCause, CanBeAdapted, FeedLeaves, FeedLeavesAt, AreFeedNumbers, IsAdaptOutcome}
 use Rattle.dtx_jobs.specs.Output.{HasAskedCause, IsAskedLeft}
 use Rattle.dtx_jobs.specs.Stream.{ArePlain, IsAllowed, IsFirstStop, IsStreamRefusal}
@@ -65,6 +65,8 @@ cause_under words told missed misread miswritten p ReadFault read cause = cause
 cause_under words told missed misread miswritten p WriteFault read cause = (cause.0, under words told p IsSome read cause.1)
 cause_under words told missed misread miswritten p Memory read cause = tt
 cause_under words told missed misread miswritten p Usage read cause = absurd cause
+cause_under words told missed misread miswritten p (OutOfFeed event) read cause = absurd cause
+cause_under words told missed misread miswritten p (OutOfAir entry) read cause = absurd cause
 cause_under words told missed misread miswritten p NoSync read cause = absurd cause
 
 left_under : (words : AdaptWords) (held : Files) (now : Option Files) (p : plan.Plan) (status : Status) → IsPlanRead (get held words.plan) 0 (Ok p)
@@ -82,6 +84,8 @@ left_under words held now p Same read left = left
 left_under words held now p (Absent input) read left = left
 left_under words held now p (Plan refusal) read left = left
 left_under words held now p Usage read left = left
+left_under words held now p (OutOfFeed event) read left = left
+left_under words held now p (OutOfAir entry) read left = left
 left_under words held now p NoSync read left = left
 
 leaves_under : (words : AdaptWords) (told now : Option Files) (p : plan.Plan) (status : Status) → IfSome told (λ held. IsPlanRead (get held words.plan) 0 (Ok p))
@@ -119,6 +123,8 @@ cause_more words told missed misread miswritten all_missed all_misread all_miswr
 cause_more words told missed misread miswritten all_missed all_misread all_miswritten WriteFault miss read write cause = (write cause.0, cause.1)
 cause_more words told missed misread miswritten all_missed all_misread all_miswritten Memory miss read write cause = cause
 cause_more words told missed misread miswritten all_missed all_misread all_miswritten Usage miss read write cause = cause
+cause_more words told missed misread miswritten all_missed all_misread all_miswritten (OutOfFeed event) miss read write cause = cause
+cause_more words told missed misread miswritten all_missed all_misread all_miswritten (OutOfAir entry) miss read write cause = cause
 cause_more words told missed misread miswritten all_missed all_misread all_miswritten NoSync miss read write cause = cause
 
 -- what comes of `adapt` once its plan was read
@@ -152,6 +158,8 @@ refused_cause words told missed misread miswritten Usage read h miss misreads = 
 refused_cause words told missed misread miswritten Same read h miss misreads = absurd h
 refused_cause words told missed misread miswritten (Packet k) read h miss misreads = absurd h
 refused_cause words told missed misread miswritten TooLong read h miss misreads = absurd h
+refused_cause words told missed misread miswritten (OutOfFeed event) read h miss misreads = absurd h
+refused_cause words told missed misread miswritten (OutOfAir entry) read h miss misreads = absurd h
 refused_cause words told missed misread miswritten NoSync read h miss misreads = absurd h
 refused_cause words told missed misread miswritten WriteFault read h miss misreads = absurd h
 
@@ -166,6 +174,8 @@ refused_at (Some bytes) Usage has read = absurd read
 refused_at (Some bytes) Same has read = absurd read
 refused_at (Some bytes) (Packet k) has read = absurd read
 refused_at (Some bytes) TooLong has read = absurd read
+refused_at (Some bytes) (OutOfFeed event) has read = absurd read
+refused_at (Some bytes) (OutOfAir entry) has read = absurd read
 refused_at (Some bytes) NoSync has read = absurd read
 refused_at (Some bytes) WriteFault has read = absurd read
 
@@ -189,6 +199,8 @@ refused_left words (Some held) now Usage h same = absurd h
 refused_left words (Some held) now Same h same = absurd h
 refused_left words (Some held) now (Packet k) h same = absurd h
 refused_left words (Some held) now TooLong h same = absurd h
+refused_left words (Some held) now (OutOfFeed event) h same = absurd h
+refused_left words (Some held) now (OutOfAir entry) h same = absurd h
 refused_left words (Some held) now NoSync h same = absurd h
 refused_left words (Some held) now WriteFault h same = absurd h
 
@@ -236,6 +248,8 @@ pub stream_refusal_is : (source : Source) (status : Status) → IsStreamRefusal 
 stream_refusal_is source Same h = tt
 stream_refusal_is source Done h = h
 stream_refusal_is source Usage h = h
+stream_refusal_is source (OutOfFeed event) h = h
+stream_refusal_is source (OutOfAir entry) h = h
 stream_refusal_is source NoSync h = h
 stream_refusal_is source (Absent i) h = h
 stream_refusal_is source (Plan refusal) h = h
@@ -250,6 +264,8 @@ pub asked_cause_is : (work : Work) (told : Option Files) (status : Status) → I
 asked_cause_is work told Same h cause = absurd h
 asked_cause_is work told Done h cause = cause
 asked_cause_is work told Usage h cause = cause
+asked_cause_is work told (OutOfFeed event) h cause = cause
+asked_cause_is work told (OutOfAir entry) h cause = cause
 asked_cause_is work told NoSync h cause = cause
 asked_cause_is work told (Absent i) h cause = cause
 asked_cause_is work told (Plan refusal) h cause = cause
@@ -264,6 +280,8 @@ pub asked_left_is : (work : Work) (told now : Option Files) (status : Status) �
 asked_left_is work told now Same h left = absurd h
 asked_left_is work told now Done h left = left
 asked_left_is work told now Usage h left = left
+asked_left_is work told now (OutOfFeed event) h left = left
+asked_left_is work told now (OutOfAir entry) h left = left
 asked_left_is work told now NoSync h left = left
 asked_left_is work told now (Absent i) h left = left
 asked_left_is work told now (Plan refusal) h left = left
@@ -283,8 +301,8 @@ pub as_fed : (status other : Status) → counted status ≡ Err other → adapte
 as_fed status other e = let same : status ≡ other = cc in ap Err same
 
 filled_of : (found : Option (List ℕ)) (fed : Fed) → HasAskedCause Adapted found (Ok fed.counts) → AreAllFilled found (Ok fed) → IsSomeAnd found (λ file. fed.filled ≡ placeholders (packets_of file))
-filled_of None fed cause filled = absurd cause
-filled_of (Some file) fed cause filled = filled
+filled_of None fed cause all = absurd cause
+filled_of (Some file) fed cause all = all.filled
 
 -- the number of the placeholders that were filled is that of the input
 pub its_placeholders : (words : AdaptWords) (p : plan.Plan) (told : Option Files) (fed : Fed) → IfSome told (λ held. HasAskedCause Adapted (get held words.input) (Ok fed.counts))

@@ -6,7 +6,7 @@ use Rattle.dtx_outside.specs.Shelf.{Files}
 use Rattle.dtx_words.specs.Names.{repeated}
 use Rattle.dtx_words.specs.Words.{ReceiveWords, receive_names}
 use Rattle.dtx_words.specs.declared.status.Status.{Status}
-use Rattle.dtx_words.specs.declared.status.Status.TheVariants.{Done, Usage, Same, Absent, Plan, Packet, TooLong, NoSync, ReadFault, WriteFault, Memory}
+use Rattle.dtx_words.specs.declared.status.Status.TheVariants.{Done, Usage, Same, Absent, Plan, Packet, TooLong, OutOfFeed, OutOfAir, NoSync, ReadFault, WriteFault, Memory}
 use Rattle.dtx_jobs.specs.Receive.{HasReceiveCause, HasReceivePerformCause, IsReceivePerformRefusal, IsReceivedLeft, ReceivePerformLeaves}
 use Rattle.dtx_jobs.specs.Received.{OfSymbols, IsReceivable, HasReceiveJobCause, CanBeReceived, StatusLeaves, ReceiveLeaves, numbers_in, received_numbers, IsReceiveOutcome}
 use Rattle.dtx_jobs.specs.declared.receive_job.Counted.{Counted}
@@ -19,7 +19,7 @@ refused status = Err status
 
 -- where it was received
 
-receivable_at : (found : Option (List ℕ)) (counted : Counted) → HasReceiveCause found (Ok counted) → IsSomeAnd found IsReceivable
+receivable_at : (found : Option (List ℕ)) (counted : Counted) → HasReceiveCause 0 found (Ok counted) → IsSomeAnd found IsReceivable
 receivable_at None counted cause = cause
 receivable_at (Some file) counted cause = (cause.1, cause.2)
 
@@ -27,7 +27,7 @@ receivable : (asked : ReceiveWords) (told : Option Files) (counted : Counted) �
 receivable asked None counted cause = tt
 receivable asked (Some held) counted cause = receivable_at (get held asked.input) counted cause
 
-numbers_at : (found : Option (List ℕ)) (counted : Counted) → HasReceiveCause found (Ok counted) → IsSomeAnd found (λ file. numbers_in counted.tally counted.loose ≡ received_numbers file)
+numbers_at : (found : Option (List ℕ)) (counted : Counted) → HasReceiveCause 0 found (Ok counted) → IsSomeAnd found (λ file. numbers_in counted.tally counted.loose ≡ received_numbers file)
 numbers_at None counted cause = cause
 numbers_at (Some file) counted cause = ap (λ t. numbers_in t counted.loose) cause.0.tally ∙ ap (numbers_in _) cause.0.loose
 
@@ -36,7 +36,7 @@ its_numbers : (asked : ReceiveWords) (told : Option Files) (counted : Counted) �
 its_numbers asked None counted cause = tt
 its_numbers asked (Some held) counted cause = numbers_at (get held asked.input) counted cause
 
-whole_at : (held : Files) (output : List ℕ) (found : Option (List ℕ)) (counted : Counted) (now : Option Files) → HasReceiveCause found (Ok counted)
+whole_at : (held : Files) (output : List ℕ) (found : Option (List ℕ)) (counted : Counted) (now : Option Files) → HasReceiveCause 0 found (Ok counted)
     → IsReceivedLeft (Some held) output found (Ok counted) now → StatusLeaves held output found Done now
 whole_at held output None counted now cause left = absurd cause
 whole_at held output (Some file) counted now cause left = left
@@ -59,7 +59,7 @@ received_outcome asked told now missed misread miswritten counted numbers cause 
 
 -- where it was refused
 
-absent_at : (told : Option Files) (asked : ReceiveWords) (input : ℕ) → IfSome told (λ held. HasReceiveCause (get held asked.input) (Err (Absent input)))
+absent_at : (told : Option Files) (asked : ReceiveWords) (input : ℕ) → IfSome told (λ held. HasReceiveCause 0 (get held asked.input) (Err (Absent input)))
     → IfSome told (λ held. get held asked.input ≡ None)
 absent_at None asked input cause = tt
 absent_at (Some held) asked input cause = cause.1
@@ -70,6 +70,8 @@ refused_cause : (asked : ReceiveWords) (told : Option Files) (missed misread mis
 refused_cause asked told missed misread miswritten Same cause h miss read write = cause
 refused_cause asked told missed misread miswritten (Absent i) cause h miss read write = (h, miss (ap Absent h), absent_at told asked i cause)
 refused_cause asked told missed misread miswritten TooLong cause h miss read write = cause
+refused_cause asked told missed misread miswritten (OutOfFeed event) cause h miss read write = absurd h
+refused_cause asked told missed misread miswritten (OutOfAir entry) cause h miss read write = absurd h
 refused_cause asked told missed misread miswritten NoSync cause h miss read write = cause
 refused_cause asked told missed misread miswritten ReadFault cause h miss read write = read refl
 refused_cause asked told missed misread miswritten WriteFault cause h miss read write = (write refl, cause)
@@ -84,12 +86,14 @@ refused_same status e = cc
 
 -- a file that can be received is refused for faults or want of memory alone
 
-able_at : (found : Option (List ℕ)) (status : Status) → IsSomeAnd found IsReceivable → IsReceivePerformRefusal status → status ≢ Same → HasReceiveCause found (Err status)
+able_at : (found : Option (List ℕ)) (status : Status) → IsSomeAnd found IsReceivable → IsReceivePerformRefusal status → status ≢ Same → HasReceiveCause 0 found (Err status)
     → (status ≡ ReadFault) ⊎ (status ≡ WriteFault) ⊎ (status ≡ Memory)
 able_at None status can h apart cause = absurd can
 able_at (Some file) Same can h apart cause = absurd (apart refl)
 able_at (Some file) (Absent i) can h apart cause = cc
 able_at (Some file) TooLong can h apart cause = absurd (omega (arith, can.0, cause))
+able_at (Some file) (OutOfFeed event) can h apart cause = absurd h
+able_at (Some file) (OutOfAir entry) can h apart cause = absurd h
 able_at (Some file) NoSync can h apart cause = absurd (can.1 cause.1)
 able_at (Some file) ReadFault can h apart cause = inl refl
 able_at (Some file) WriteFault can h apart cause = inr (inl refl)
@@ -99,10 +103,12 @@ able_at (Some file) (Packet k) can h apart cause = absurd h
 able_at (Some file) (Plan refusal) can h apart cause = absurd h
 able_at (Some file) Done can h apart cause = absurd h
 
-of_told : (asked : ReceiveWords) (held : Files) (status : Status) → status ≢ Same → HasReceivePerformCause asked (Some held) (Err status) → HasReceiveCause (get held asked.input) (Err status)
+of_told : (asked : ReceiveWords) (held : Files) (status : Status) → status ≢ Same → HasReceivePerformCause asked (Some held) (Err status) → HasReceiveCause 0 (get held asked.input) (Err status)
 of_told asked held Same apart cause = absurd (apart refl)
 of_told asked held (Absent i) apart cause = cause
 of_told asked held TooLong apart cause = cause
+of_told asked held (OutOfFeed event) apart cause = cause
+of_told asked held (OutOfAir entry) apart cause = cause
 of_told asked held NoSync apart cause = cause
 of_told asked held ReadFault apart cause = cause
 of_told asked held WriteFault apart cause = cause
@@ -116,6 +122,8 @@ same_twice : (asked : ReceiveWords) (told : Option Files) (status : Status) → 
 same_twice asked told Same none cause = λ e. let some : IsSome (repeated (receive_names asked)) = cause in let not : IsSome {T = List ℕ} None = subst IsSome none some in cc
 same_twice asked told (Absent i) none cause = λ e. cc
 same_twice asked told TooLong none cause = λ e. cc
+same_twice asked told (OutOfFeed event) none cause = λ e. cc
+same_twice asked told (OutOfAir entry) none cause = λ e. cc
 same_twice asked told NoSync none cause = λ e. cc
 same_twice asked told ReadFault none cause = λ e. cc
 same_twice asked told WriteFault none cause = λ e. cc
@@ -146,6 +154,8 @@ refused_left : (asked : ReceiveWords) (told now : Option Files) (status : Status
 refused_left asked told now Same h left = same_left told now left
 refused_left asked told now (Absent i) h left = left
 refused_left asked told now TooLong h left = left
+refused_left asked told now (OutOfFeed event) h left = absurd h
+refused_left asked told now (OutOfAir entry) h left = absurd h
 refused_left asked told now NoSync h left = left
 refused_left asked told now ReadFault h left = left
 refused_left asked told now WriteFault h left = left

@@ -12,7 +12,8 @@ use Rattle.dtx_coder.specs.Stream.{a53, group_segments, symbols_of, a53_symbols,
 use Rattle.dtx_coder.proofs.Next.{next_segments, next_stands, new_stands, a53_nothing}
 use Rattle.dtx_coder.proofs.Stream.{a53_from, a53_whole}
 use Rattle.dtx_packets.specs.declared.packet.Packet as packet
-use Rattle.dtx_jobs.specs.Symbols.{byte_of_symbol, symbol_bytes, in_groups, IsCodingOf}
+use Rattle.dtx_files.specs.Symbols.{byte_of_symbol}
+use Rattle.dtx_jobs.specs.Symbols.{symbol_bytes, in_groups, IsCodingOf}
 use Rattle.dtx_jobs.specs.declared.stream_coder.StreamCoder.{StreamCoder}
 
 -- ---- no packets

@@ -1,11 +1,11 @@
 -- The segments of a symbol file that is read piece by piece.
-use Rattle.std.proofs.Common.{◌≡◌, ℕ, ◌+◌, ◌-◌, ◌*◌, ◌/◌, ◌%◌, ◌<◌, ◌≤◌, zero, suc, List, [], ◌∷◌, ◌++◌, length, get_or, take, drop, map, refl, sym, ap, subst, ◌∙◌, arith}
-use Rattle.std.specs.Prelude.{Option, Some, None, ℤ, IsSomeAnd}
-use Rattle.std.proofs.lemmas.List.{drop-drop, drop-take, take-take, length-take-le, length-drop, map-append, append_assoc}
+use Rattle.std.proofs.Common.{◌≡◌, ℕ, ◌+◌, ◌-◌, ◌*◌, ◌/◌, ◌<◌, ◌≤◌, List, [], ◌∷◌, ◌++◌, length, take, drop, map, refl, sym, ap, ◌∙◌, arith}
+use Rattle.std.specs.Prelude.{ℤ}
+use Rattle.std.proofs.lemmas.List.{drop-drop, drop-take, take-take, length-take-le, map-append, append_assoc}
 use Rattle.std.proofs.lemmas.List.FromFn.{get_or-map-range_with_len, length-map-range_with_len, fill_by_all, map-range_with_len_more}
 use Rattle.std.specs.List.{range_with_len}
 use Rattle.dtx_lists.proofs.Range.{range_with_len-parts}
-use Rattle.dtx_jobs.specs.SymbolFile.{symbols, segment_at, whole_segments, segments_from, IsSegments}
+use Rattle.dtx_jobs.specs.SymbolFile.{symbols, segment_at, segments_from, IsSegments}
 
 -- the segments of two pieces, one behind the other
 pub segments_from-append : (file : List ℕ) (first m n : ℕ) → segments_from file first (m + n) ≡ segments_from file first m ++ segments_from file (first + m) n

@@ -1,5 +1,5 @@
 -- What comes of `adapt`, but for its line.
-use Rattle.std.specs.Prelude.{◌≡◌, ◌⊎◌, ℕ, ◌%◌, ◌<◌, List, [], ◌∷◌, length, Option, Some, None, Result, Ok, Err, IfSome, IfOk, IsSome, IsSomeAnd, IsOk, unwrap_or}
+use Rattle.std.specs.Prelude.{◌≡◌, ◌⊎◌, ℕ, ◌%◌, ◌<◌, List, [], ◌∷◌, length, Option, Some, None, Result, Ok, Err, IfSome, IfOk, IsSome, IsSomeAnd, IsOk}
 use Rattle.std.specs.FinMap.{get}
 use Rattle.std.specs.Result.{IsOkAnd}
 use Rattle.dtx_adapter.specs.Feed.{placeholders}
@@ -10,8 +10,8 @@ use Rattle.dtx_plan.specs.declared.plan.Plan as plan
 use Rattle.dtx_words.specs.Names.{repeated}
 use Rattle.dtx_words.specs.Words.{AdaptWords, adapt_names}
 use Rattle.dtx_words.specs.declared.status.Status.{Status}
-use Rattle.dtx_words.specs.declared.status.Status.TheVariants.{Done, Usage, Same, Absent, Plan, Packet, TooLong, NoSync, ReadFault, WriteFault, Memory}
-use Rattle.dtx_jobs.specs.Feed.{feed_bytes}
+use Rattle.dtx_words.specs.declared.status.Status.TheVariants.{Done, Usage, Same, Absent, Plan, Packet, TooLong, OutOfFeed, OutOfAir, NoSync, ReadFault, WriteFault, Memory}
+use Rattle.dtx_jobs.specs.Feed.{feed_bytes, IsAllFed}
 use Rattle.dtx_jobs.specs.Output.{HasPartOfOutput, HasWholeOutput, IsOutputLeft}
 use Rattle.dtx_jobs.specs.Stream.{ArePlain, IsAllowed, IsFirstStop}
 use Rattle.dtx_jobs.specs.Work.{Work, IsPlainFile}
@@ -57,6 +57,8 @@ HasAdaptCause words told missed misread miswritten ReadFault = misread
 HasAdaptCause words told missed misread miswritten WriteFault = miswritten × UnderPlan words told IsSome
 HasAdaptCause words told missed misread miswritten Memory = Unit {0}
 HasAdaptCause words told missed misread miswritten Usage = ⊥
+HasAdaptCause words told missed misread miswritten (OutOfFeed event) = ⊥
+HasAdaptCause words told missed misread miswritten (OutOfAir entry) = ⊥
 HasAdaptCause words told missed misread miswritten NoSync = ⊥
 
 -- nothing stands against it: its names differ, PLAN gives a plan, and IN is a stream of packets that begin with 0x47 and isn't too long
@@ -105,6 +107,6 @@ pub record IsAdaptOutcome (words : AdaptWords) (told now : Option Files) (missed
   pub numbers : outcome.status ≡ Done
       → (packets : ℕ) × (filled : ℕ) × (loose : ℕ) × (outcome.numbers ≡ packets ∷ filled ∷ loose ∷ 0 ∷ 0 ∷ 0 ∷ []) × AreFeedNumbers words told packets filled loose
 
--- the number of the placeholders that were filled is that of the stream, whose file may not be there
+-- the number of the placeholders that were filled is that of the stream, whose file may not be there, and its packets are bytes
 abbrev pub AreAllFilled : Option (List ℕ) → Result Fed Status → Type 0
-AreAllFilled found result = IfOk result (λ fed. fed.filled ≡ placeholders (packets_of (unwrap_or found [])))
+AreAllFilled found result = IfOk result (λ fed. IsAllFed found fed.filled)

@@ -10,10 +10,12 @@ pub mod Tally
 pub mod Reception
 pub mod Receive
 pub mod Received
-pub mod LogText
 pub mod Life
 pub mod TwoFiles
 pub mod Excite
 pub mod Excited
 pub mod PlanFile
 pub mod Adapt
+pub mod PastEnd
+pub mod Laying
+pub mod Hurting

@@ -1,18 +1,17 @@
 -- What is kept while an exciter is given the packets of one life, and what it makes of them.
-use Rattle.std.specs.Prelude.{◌≡◌, ℕ, ◌+◌, ◌^◌, ◌<◌, List, [], ◌∷◌, length, map}
+use Rattle.std.specs.Prelude.{◌≡◌, ℕ, ◌+◌, ◌^◌, ◌<◌, List, [], ◌∷◌, length}
 use Rattle.std.specs.List.{sum_by}
-use Rattle.dtx_coder.specs.Stream.{symbols_of}
 use Rattle.dtx_exciter.specs.Emission.{emission}
 use Rattle.dtx_exciter.specs.Kept.{StandsFor}
 use Rattle.dtx_exciter.specs.Log.{Line, life_lines}
-use Rattle.dtx_jobs.specs.LogText.{log_text}
-use Rattle.dtx_jobs.specs.Symbols.{byte_of_symbol}
+use Rattle.dtx_files.specs.LogText.{log_text}
+use Rattle.dtx_files.specs.Symbols.{segment_bytes}
 use Rattle.dtx_jobs.specs.declared.excitation.Excitation.{Excitation}
 use Rattle.dtx_jobs.specs.declared.life_tally.LifeTally.{LifeTally}
 
 -- the symbol file of one life: one byte for each symbol of the segments that it gives
 abbrev pub sent_bytes : ℕ → ℕ → List (List ℕ) → List ℕ
-sent_bytes address delay packets = map byte_of_symbol (symbols_of (emission address delay packets))
+sent_bytes address delay packets = segment_bytes (emission address delay packets)
 
 -- the log of one life, before which nothing was given
 abbrev pub logged_bytes : ℕ → ℕ → List (List ℕ) → List ℕ

@@ -1,5 +1,5 @@
 -- What `receive` makes of a symbol file, why that ends, and what it leaves.
-use Rattle.std.specs.Prelude.{◌≡◌, ◌⊎◌, ℕ, ℤ, ◌<◌, ◌≤◌, ◌%◌, List, [], ◌∷◌, length, Option, Some, None, Result, Ok, Err, IfSome, IsSome, IsSomeAnd, unwrap_or}
+use Rattle.std.specs.Prelude.{◌≡◌, ◌⊎◌, ℕ, ℤ, ◌<◌, ◌≤◌, ◌%◌, List, [], length, Option, Some, None, Result, Ok, Err, IfSome, IsSome, IsSomeAnd, unwrap_or}
 use Rattle.std.specs.FinMap.{get}
 use Rattle.std.specs.List.{flat_map}
 use Rattle.dtx_outside.specs.Shelf.{Files}
@@ -10,12 +10,11 @@ use Rattle.dtx_receiver.specs.Runs.{runs}
 use Rattle.dtx_jobs.specs.Reception.{bytes_of}
 use Rattle.dtx_jobs.specs.SymbolFile.{most_segments, whole_segments, segments_of}
 use Rattle.dtx_jobs.specs.Tally.{tally_of}
-use Rattle.dtx_jobs.specs.declared.outcome.Outcome.{Outcome}
 use Rattle.dtx_jobs.specs.declared.receive_job.Counted.{Counted}
 use Rattle.dtx_words.specs.Names.{repeated}
 use Rattle.dtx_words.specs.Words.{ReceiveWords, receive_names}
 use Rattle.dtx_words.specs.declared.status.Status.{Status}
-use Rattle.dtx_words.specs.declared.status.Status.TheVariants.{Done, Usage, Same, Absent, TooLong, NoSync, ReadFault, WriteFault, Memory}
+use Rattle.dtx_words.specs.declared.status.Status.TheVariants.{Same, Absent, TooLong, NoSync, ReadFault, WriteFault, Memory}
 
 -- the packets of a symbol file, one behind the other
 abbrev pub received_bytes : List ℕ → List ℕ
@@ -31,16 +30,16 @@ pub record AreItsNumbers (file : List ℕ) (counted : Counted) : Type 0 where
   pub tally : counted.tally ≡ tally_of (segments_of file) (all_packets (segments_of file))
   pub loose : counted.loose ≡ length file % 832
 
--- why receiving ended so over the bytes of its input, which may not be there
-abbrev pub HasReceiveCause : Option (List ℕ) → Result Counted Status → Type 0
-HasReceiveCause found (Ok counted) = IsSomeAnd found (λ file. AreItsNumbers file counted × (whole_segments file ≤ most_segments) × ¬ HasNoSync file)
-HasReceiveCause found (Err NoSync) = IsSomeAnd found (λ file. (whole_segments file ≤ most_segments) × HasNoSync file)
-HasReceiveCause found (Err TooLong) = IsSomeAnd found (λ file. most_segments < whole_segments file)
-HasReceiveCause found (Err (Absent input)) = (input ≡ 0) × (found ≡ None)
-HasReceiveCause found (Err ReadFault) = Unit {0}
-HasReceiveCause found (Err WriteFault) = IsSome found
-HasReceiveCause found (Err Memory) = Unit {0}
-HasReceiveCause found (Err _) = ⊥
+-- why receiving ended so over the bytes that were read of the input of that number, which may not be there
+abbrev pub HasReceiveCause : ℕ → Option (List ℕ) → Result Counted Status → Type 0
+HasReceiveCause number found (Ok counted) = IsSomeAnd found (λ file. AreItsNumbers file counted × (whole_segments file ≤ most_segments) × ¬ HasNoSync file)
+HasReceiveCause number found (Err NoSync) = IsSomeAnd found (λ file. (whole_segments file ≤ most_segments) × HasNoSync file)
+HasReceiveCause number found (Err TooLong) = IsSomeAnd found (λ file. most_segments < whole_segments file)
+HasReceiveCause number found (Err (Absent input)) = (input ≡ number) × (found ≡ None)
+HasReceiveCause number found (Err ReadFault) = Unit {0}
+HasReceiveCause number found (Err WriteFault) = IsSome found
+HasReceiveCause number found (Err Memory) = Unit {0}
+HasReceiveCause number found (Err _) = ⊥
 
 -- the output holds a front part of the packets
 abbrev pub HasPartOfPackets : Option Files → List ℕ → Option (List ℕ) → Option Files → Type 0
@@ -70,15 +69,15 @@ ReceiveLeavesAt held output found (Err TooLong) now = HasPartOfPackets (Some hel
 ReceiveLeavesAt held output found (Err (Absent input)) now = now ≡ Some held
 ReceiveLeavesAt held output found (Err _) now = IsUntouchedOrPart held output found now
 
--- the status is a refusal of `receive`, once its words fit and its names differ
-abbrev pub IsReceiveRefusal : Status → Type 0
-IsReceiveRefusal (Absent input) = input ≡ 0
-IsReceiveRefusal TooLong = Unit {0}
-IsReceiveRefusal NoSync = Unit {0}
-IsReceiveRefusal ReadFault = Unit {0}
-IsReceiveRefusal WriteFault = Unit {0}
-IsReceiveRefusal Memory = Unit {0}
-IsReceiveRefusal _ = ⊥
+-- the status is a refusal to receive the input of that number
+abbrev pub IsReceiveRefusal : ℕ → Status → Type 0
+IsReceiveRefusal number (Absent input) = input ≡ number
+IsReceiveRefusal number TooLong = Unit {0}
+IsReceiveRefusal number NoSync = Unit {0}
+IsReceiveRefusal number ReadFault = Unit {0}
+IsReceiveRefusal number WriteFault = Unit {0}
+IsReceiveRefusal number Memory = Unit {0}
+IsReceiveRefusal number _ = ⊥
 
 -- what the end of receiving answers and leaves where these segments were given: their packets are written, and their numbers are
 -- answered, or that no run was among them; or writing failed
@@ -99,7 +98,7 @@ IsEndRefusal _ = ⊥
 -- what is answered and left before the line: equal names, or what comes of the input
 abbrev pub HasReceivePerformCause : ReceiveWords → Option Files → Result Counted Status → Type 0
 HasReceivePerformCause asked told (Err Same) = IsSome (repeated (receive_names asked))
-HasReceivePerformCause asked told result = IfSome told (λ held. HasReceiveCause (get held asked.input) result)
+HasReceivePerformCause asked told result = IfSome told (λ held. HasReceiveCause 0 (get held asked.input) result)
 
 abbrev pub ReceivePerformLeaves : ReceiveWords → Option Files → Result Counted Status → Option Files → Type 0
 ReceivePerformLeaves asked told (Err Same) now = now ≡ told
@@ -107,4 +106,4 @@ ReceivePerformLeaves asked told result now = IfSome told (λ held. ReceiveLeaves
 
 abbrev pub IsReceivePerformRefusal : Status → Type 0
 IsReceivePerformRefusal Same = Unit {0}
-IsReceivePerformRefusal status = IsReceiveRefusal status
+IsReceivePerformRefusal status = IsReceiveRefusal 0 status

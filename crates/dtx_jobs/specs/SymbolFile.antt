@@ -1,8 +1,12 @@
 -- The segments of a symbol file: one byte for each symbol, in two's complement, and segments are counted from byte 0 (the
 -- profile's own).
-use Rattle.std.specs.Prelude.{◌≡◌, ℕ, ℤ, ◌+◌, ◌-◌, ◌*◌, ◌/◌, ◌%◌, ◌<◌, ◌≤◌, ◌==◌, ◌&&◌, nat_le, nat_lt, if◌then◌else◌, List, length, map, take, drop, Option, None, IsSomeAnd}
+use Rattle.std.specs.Prelude.{◌≡◌, ℕ, ℤ, ◌+◌, ◌-◌, ◌*◌, ◌/◌, ◌%◌, ◌<◌, ◌≤◌, ◌==◌, ◌&&◌, nat_le, nat_lt, if◌then◌else◌, List, [], length, map, take, drop, Option, Some, None, IsSomeAnd}
+use Rattle.std.specs.Borrow.{Bor}
 use Rattle.std.specs.Int.{w8, cast_signed}
 use Rattle.std.specs.List.{range_with_len}
+use Rattle.std.specs.Option.{option_map}
+use Rattle.dtx_make.specs.Hurt.{hurt}
+use Rattle.dtx_plan.specs.declared.damage.Damage.{Damage}
 use Rattle.dtx_jobs.specs.declared.symbol_file.SymbolEnd.{SymbolEnd}
 use Rattle.dtx_jobs.specs.declared.symbol_file.SymbolEnd.TheVariants.{GoesOn, Loose, Refused}
 use Rattle.dtx_jobs.specs.declared.symbol_file.SymbolPiece.{SymbolPiece}
@@ -37,38 +41,47 @@ segments_from file first count = map (segment_at file) (range_with_len first cou
 abbrev pub segments_of : List ℕ → List (List ℤ)
 segments_of file = segments_from file 0 (whole_segments file)
 
+-- the entries of damage, where there is any
+abbrev pub entries_of : Option (Bor (List Damage)) → List Damage
+entries_of (Some damage) = damage.now
+entries_of None = []
+
+-- what is read of a file, which may not be there: its bytes with the damage laid over them
+abbrev pub as_read : Option (Bor (List Damage)) → Option (List ℕ) → Option (List ℕ)
+as_read damage found = option_map (hurt (entries_of damage)) found
+
 -- these bytes begin with segments of a file, from that one on
 pub record IsSegments (file : List ℕ) (first count : ℕ) (bytes : List ℕ) : Type 0 where
   pub whole : first + count ≤ whole_segments file
   pub same : take (832 * count) bytes ≡ take (832 * count) (drop (832 * first) file)
 
--- what comes behind that many segments of a symbol file, which may not be there
-abbrev pub IsSymbolEnd : Option (List ℕ) → ℕ → SymbolEnd → Type 0
-IsSymbolEnd found n GoesOn = Unit {0}
-IsSymbolEnd found n (Loose loose) = IsSomeAnd found (λ file. (whole_segments file ≤ n) × (loose ≡ length file - 832 * n))
-IsSymbolEnd found n (Refused TooLong) = IsSomeAnd found (λ file. n < whole_segments file)
-IsSymbolEnd found n (Refused (Absent input)) = (input ≡ 0) × (found ≡ None)
-IsSymbolEnd found n (Refused ReadFault) = Unit {0}
-IsSymbolEnd found n (Refused Memory) = Unit {0}
-IsSymbolEnd found n (Refused _) = ⊥
+-- what comes behind that many segments of a symbol file, which may not be there, and is the input of that number
+abbrev pub IsSymbolEnd : ℕ → Option (List ℕ) → ℕ → SymbolEnd → Type 0
+IsSymbolEnd number found n GoesOn = Unit {0}
+IsSymbolEnd number found n (Loose loose) = IsSomeAnd found (λ file. (whole_segments file ≤ n) × (loose ≡ length file - 832 * n))
+IsSymbolEnd number found n (Refused TooLong) = IsSomeAnd found (λ file. n < whole_segments file)
+IsSymbolEnd number found n (Refused (Absent input)) = (input ≡ number) × (found ≡ None)
+IsSymbolEnd number found n (Refused ReadFault) = Unit {0}
+IsSymbolEnd number found n (Refused Memory) = Unit {0}
+IsSymbolEnd number found n (Refused _) = ⊥
 
--- the status is a refusal to read symbols
-abbrev pub IsSymbolRefusal : Status → Type 0
-IsSymbolRefusal (Absent input) = input ≡ 0
-IsSymbolRefusal TooLong = Unit {0}
-IsSymbolRefusal ReadFault = Unit {0}
-IsSymbolRefusal Memory = Unit {0}
-IsSymbolRefusal _ = ⊥
+-- the status is a refusal to read symbols, the input of that number
+abbrev pub IsSymbolRefusal : ℕ → Status → Type 0
+IsSymbolRefusal number (Absent input) = input ≡ number
+IsSymbolRefusal number TooLong = Unit {0}
+IsSymbolRefusal number ReadFault = Unit {0}
+IsSymbolRefusal number Memory = Unit {0}
+IsSymbolRefusal number _ = ⊥
 
 -- P of the refusal, where reading was refused
 abbrev pub IfRefused : SymbolEnd → (Status → Type 0) → Type 0
 IfRefused (Refused status) P = P status
 IfRefused _ P = Unit {0}
 
--- a piece of a symbol file, of the segments from that one on
-pub record IsSymbolPiece (found : Option (List ℕ)) (first : ℕ) (bytes : List ℕ) (piece : SymbolPiece) : Type 0 where
+-- a piece of a symbol file, the input of that number, of the segments from that one on
+pub record IsSymbolPiece (number : ℕ) (found : Option (List ℕ)) (first : ℕ) (bytes : List ℕ) (piece : SymbolPiece) : Type 0 where
   pub segments : 0 < piece.segments → IsSomeAnd found (λ file. IsSegments file first piece.segments bytes)
-  pub end : IsSymbolEnd found (first + piece.segments) piece.end
+  pub end : IsSymbolEnd number found (first + piece.segments) piece.end
 
 -- the piece from a segment on that so many bytes are, where there was room for 313 segments: the whole segments of these bytes;
 -- the file ends where fewer bytes came than there was room for, and it is too long where one more segment came than is received

@@ -1,14 +1,10 @@
 -- The symbols of a stream as the bytes of a file, and what codes them packet by packet.
-use Rattle.std.specs.Prelude.{◌≡◌, ℕ, ℤ, pos, negsuc, suc, ◌-◌, ◌*◌, ◌/◌, ◌%◌, List, length, map, take, drop}
+use Rattle.std.specs.Prelude.{◌≡◌, ℕ, ◌*◌, ◌/◌, ◌%◌, List, length, map, take, drop}
 use Rattle.dtx_coder.specs.Groups.{StandsFor}
 use Rattle.dtx_coder.specs.Stream.{a53_symbols}
+use Rattle.dtx_files.specs.Symbols.{byte_of_symbol}
 use Rattle.dtx_coder.specs.declared.sizes.TheConstants.{GROUP_PACKETS}
 use Rattle.dtx_jobs.specs.declared.stream_coder.StreamCoder.{StreamCoder}
-
--- a symbol as a byte of a file, in two's complement (the profile's own)
-abbrev pub byte_of_symbol : ℤ → ℕ
-byte_of_symbol (pos n) = n
-byte_of_symbol (negsuc n) = 256 - suc n
 
 -- the symbol file of a stream of packets: one byte for each symbol
 abbrev pub symbol_bytes : List (List ℕ) → List ℕ

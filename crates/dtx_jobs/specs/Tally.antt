@@ -1,5 +1,5 @@
 -- The numbers of what was received.
-use Rattle.std.specs.Prelude.{◌≡◌, ℕ, ℤ, ◌+◌, ◌*◌, ◌≤◌, if◌then◌else◌, List, length}
+use Rattle.std.specs.Prelude.{ℕ, ℤ, ◌+◌, ◌*◌, ◌≤◌, if◌then◌else◌, List, length}
 use Rattle.std.specs.List.{sum_by}
 use Rattle.dtx_jobs.specs.declared.tally.Tally.{Tally}
 use Rattle.dtx_receiver.specs.Runs.{runs}

@@ -17,7 +17,7 @@ use Rattle.dtx_jobs.specs.declared.stream.Counts.{Counts}
 use Rattle.dtx_jobs.specs.declared.stream.Source.{Source}
 use Rattle.dtx_jobs.specs.declared.stream.Source.TheVariants.{Adapted, Coded}
 use Rattle.dtx_words.specs.declared.status.Status.{Status}
-use Rattle.dtx_words.specs.declared.status.Status.TheVariants.{Done, Usage, Same, Absent, Plan, Packet, TooLong, NoSync, ReadFault, WriteFault, Memory}
+use Rattle.dtx_words.specs.declared.status.Status.TheVariants.{Done, Usage, Same, Absent, Plan, Packet, TooLong, OutOfFeed, OutOfAir, NoSync, ReadFault, WriteFault, Memory}
 
 -- which stream is read, all file names of the command, its inputs first, the names of the stream and of what is made of it, and what
 -- that is
@@ -53,6 +53,8 @@ HasJobCause work told missed misread miswritten ReadFault = misread
 HasJobCause work told missed misread miswritten WriteFault = miswritten × IfSome told (λ held. IsSome (get held work.input))
 HasJobCause work told missed misread miswritten Memory = Unit {0}
 HasJobCause work told missed misread miswritten Usage = ⊥
+HasJobCause work told missed misread miswritten (OutOfFeed event) = ⊥
+HasJobCause work told missed misread miswritten (OutOfAir entry) = ⊥
 HasJobCause work told missed misread miswritten NoSync = ⊥
 
 -- nothing stands against it: its names differ, the input is there, and is a stream of plain packets that isn't too long
@@ -65,6 +67,8 @@ LeavesAt source made held output found Done now = HasWholeOutput made (Some held
 LeavesAt source made held output found (Packet k) now = IsOutputLeft source made (Some held) output found (Err (Packet k)) now
 LeavesAt source made held output found (Plan refusal) now = now ≡ Some held
 LeavesAt source made held output found Usage now = now ≡ Some held
+LeavesAt source made held output found (OutOfFeed event) now = now ≡ Some held
+LeavesAt source made held output found (OutOfAir entry) now = now ≡ Some held
 LeavesAt source made held output found NoSync now = now ≡ Some held
 LeavesAt source made held output found Same now = now ≡ Some held
 LeavesAt source made held output found (Absent input) now = now ≡ Some held

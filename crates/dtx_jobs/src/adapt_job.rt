@@ -1,9 +1,7 @@
 // `adapt PLAN IN OUT`: the feed of a stream.
-ghost use Rattle.std.specs.Prelude.{◌≡◌, ◌≢◌, ◌≤◌, length, [], None, IfSome, IfOk, IfErr, IsErrOf, unwrap_or};
+ghost use Rattle.std.specs.Prelude.{◌≡◌, ◌≢◌, ◌≤◌, length, [], None, IfSome, IfOk, IfErr, IsErrOf};
 ghost use Rattle.std.specs.FinMap as files;
-ghost use Rattle.dtx_adapter.specs.Feed.{placeholders};
 ghost use Rattle.dtx_outside.specs.Shelf.{Rose};
-ghost use Rattle.dtx_packets.specs.Packets.{packets_of};
 ghost use Rattle.dtx_plan.specs.Sound.{IsSound};
 ghost use Rattle.dtx_plan.specs.declared.plan.Plan.{Plan};
 ghost use Rattle.dtx_words.specs.Behind.{adapt_behind};
@@ -11,7 +9,7 @@ ghost use Rattle.dtx_words.specs.Command.{Fits};
 ghost use Rattle.dtx_words.specs.Names.{repeated};
 ghost use Rattle.dtx_words.specs.Words.{adapt_names, adapt_words};
 ghost use Rattle.dtx_jobs.specs.Adapt.{adapting, counts_in, AreAllFilled, IsAdaptOutcome};
-ghost use Rattle.dtx_jobs.specs.Feed.{feed_bytes, IsFeedingOf};
+ghost use Rattle.dtx_jobs.specs.Feed.{feed_bytes, IsAllFed, IsFeedingOf};
 ghost use Rattle.dtx_jobs.specs.Output.{HasCauseIn, HasAskedCause, IsAskedLeft, IsBegunLeft};
 ghost use Rattle.dtx_jobs.specs.Stream.{IsAbsent, IsStreamRefusal};
 ghost use Rattle.dtx_jobs.specs.Work.{IsOutcome};
@@ -30,9 +28,11 @@ use std::alloc::Global;
 
 /// What was read of a stream, and how many placeholders of it were filled.
 #[derive(Clone, Copy)]
-struct Fed {
-    counts: Counts,
-    filled: u64,
+pub struct Fed {
+    /// What was read.
+    pub counts: Counts,
+    /// How many placeholders were filled.
+    pub filled: u64,
 }
 
 /// Writes the feed of the stream IN under the plan of PLAN to OUT: its packets of 188 bytes, which begin with 0x47. Byte 0 of packet k
@@ -132,7 +132,7 @@ fn adapt_under<S: Shelf>(
 
 /// Reads a stream and writes its feed to a new file. All memory is taken before, and the stream is asked for before the file is
 /// begun.
-fn adapt_stream<S: Shelf>(
+pub fn adapt_stream<S: Shelf>(
     alloc: Global,
     plan: &Plan,
     shelf: &mut S,
@@ -212,7 +212,7 @@ fn adapt_in<S: Shelf>(
     ensures left { (plan : Plan) → IsFeedingOf plan feeder.old [] → input.now ≢ output.now → IfSome (S.files shelf.old) (λ held.
         IsAskedLeft Source.Adapted (feed_bytes plan) held output.now (files.get held input.now) result (S.files shelf.new)) }
     ensures filled { (plan : Plan) → IsFeedingOf plan feeder.old [] → input.now ≢ output.now → IfSome (S.files shelf.old) (λ held.
-        IfOk result (λ counts. feeder.new.filled ≡ placeholders (packets_of (unwrap_or (files.get held input.now) [])))) }
+        IfOk result (λ counts. IsAllFed (files.get held input.now) feeder.new.filled)) }
 
     // Also where the shelf doesn't tell its files.
     ensures refusal { IfErr result (IsStreamRefusal Source.Adapted) }
@@ -245,7 +245,7 @@ fn begin_feed<S: Shelf>(
     ensures left { (plan : Plan) → IsFeedingOf plan feeder.old [] → input.now ≢ output.now → IfSome (S.files shelf.old) (λ held.
         IsBegunLeft Source.Adapted (feed_bytes plan) held output.now (files.get held input.now) result (S.files shelf.new)) }
     ensures filled { (plan : Plan) → IsFeedingOf plan feeder.old [] → input.now ≢ output.now → IfSome (S.files shelf.old) (λ held.
-        IfOk result (λ counts. feeder.new.filled ≡ placeholders (packets_of (unwrap_or (files.get held input.now) [])))) }
+        IfOk result (λ counts. IsAllFed (files.get held input.now) feeder.new.filled)) }
 
     // Also where the shelf doesn't tell its files.
     ensures refusal { IfErr result (IsStreamRefusal Source.Adapted) }

@@ -1,15 +1,12 @@
 // An exciter that is given a feed packet by packet.
 ghost use Rattle.std.specs.Prelude.{◌≡◌, ◌+◌, ◌*◌, ◌<◌, ◌≤◌, ◌++◌, ◌∷◌, [], ℕ, List, IfOk, map, take};
 ghost use Rattle.dtx_jobs.specs.Life.{sent_bytes, logged_bytes, IsLife, IsSomeLife};
-ghost use Rattle.dtx_jobs.specs.Symbols.{byte_of_symbol};
 
 use crate::life_tally::LifeTally;
-use crate::log_text::{LOG_LINE, write_line};
-use crate::stream_coder::to_bytes;
 use arrayvec::ArrayString;
 use dtx_coder::{AIR_SYMBOLS, Air};
 use dtx_exciter::Exciter;
-use dtx_frame::SEGMENT;
+use dtx_files::{LOG_LINE, bring, write_line};
 use dtx_packets::{MOST_PACKETS, Packet};
 use std::alloc::{AllocError, Global};
 
@@ -82,18 +79,4 @@ impl Excitation {
     {
         self.tally
     }
-}
-
-/// Sets the front of the bytes to the symbols of the segments that the air holds, and answers how many they are.
-fn bring(air: &Air, bytes: &mut [u8; AIR_SYMBOLS]) -> usize
-    requires { air.now.segments ≤ 5 }
-    ensures count { result ≡ SEGMENT * air.now.segments }
-    ensures bound { result ≤ AIR_SYMBOLS }
-    ensures bytes { take result bytes.new ≡ map byte_of_symbol (take result air.now.symbols) }
-{
-    if air.segments == 0 {
-        return 0;
-    }
-    to_bytes(&air.symbols, bytes);
-    SEGMENT * air.segments as usize
 }

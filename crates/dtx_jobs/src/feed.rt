@@ -1,12 +1,11 @@
 // The feed of a stream, written a piece at a time.
 ghost use Rattle.std.specs.Prelude.{◌≡◌, ◌≢◌, ◌≤◌, ◌+◌, ◌%◌, ◌++◌, ◌<◌, ◌^◌, ℕ, List, [], Option, Some, None, Err, map, length, unwrap_or, IfSome, IfOk, IfErr, IsErrOf};
 ghost use Rattle.std.specs.FinMap as files;
-ghost use Rattle.dtx_adapter.specs.Feed.{placeholders};
 ghost use Rattle.dtx_outside.specs.Shelf.{Files, Rose};
 ghost use Rattle.dtx_outside.specs.Written.{IsGathered, IsWriteOf};
-ghost use Rattle.dtx_packets.specs.Packets.{packets_of, whole_packets};
+ghost use Rattle.dtx_packets.specs.Packets.{whole_packets};
 ghost use Rattle.dtx_plan.specs.declared.plan.Plan.{Plan};
-ghost use Rattle.dtx_jobs.specs.Feed.{bytes_of_packets, feed_bytes, IsFeedingOf};
+ghost use Rattle.dtx_jobs.specs.Feed.{bytes_of_packets, feed_bytes, IsAllFed, IsFeedingOf};
 ghost use Rattle.dtx_jobs.specs.Output.{HasCauseIn, IsOutputLeft};
 ghost use Rattle.dtx_jobs.specs.Stream.{IsAbsent, IsPiece, IsRefusal, IsStreamRefusal};
 
@@ -35,7 +34,7 @@ pub(crate) fn write_feed<S: Shelf>(
     ensures left { (plan : Plan) → IsFeedingOf plan feeder.old [] → input.now ≢ output.now → IfSome (S.files shelf.old) (λ held. files.get held output.now ≡ Some []
         → IsOutputLeft Source.Adapted (feed_bytes plan) (Some held) output.now (files.get held input.now) result (S.files shelf.new)) }
     ensures filled { (plan : Plan) → IsFeedingOf plan feeder.old [] → input.now ≢ output.now → IfSome (S.files shelf.old) (λ held. files.get held output.now ≡ Some []
-        → IfOk result (λ counts. feeder.new.filled ≡ placeholders (packets_of (unwrap_or (files.get held input.now) [])))) }
+        → IfOk result (λ counts. IsAllFed (files.get held input.now) feeder.new.filled)) }
 
     // Also where the shelf doesn't tell its files.
     ensures refusal { IfErr result (IsStreamRefusal Source.Adapted) }

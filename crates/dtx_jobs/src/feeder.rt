@@ -1,6 +1,7 @@
 // Adapting a stream packet by packet.
-ghost use Rattle.std.specs.Prelude.{◌≡◌, ◌+◌, ◌%◌, ◌<◌, ◌≤◌, ◌++◌, [], ℕ, List, IfOk, length, map};
+ghost use Rattle.std.specs.Prelude.{◌≡◌, ◌+◌, ◌%◌, ◌<◌, ◌≤◌, ◌++◌, [], ℕ, List, All, IfOk, length, map};
 ghost use Rattle.dtx_adapter.specs.Feed.{feed};
+ghost use Rattle.dtx_galois.specs.Field.{AreBytes};
 ghost use Rattle.dtx_plan.specs.Sound.{IsSound};
 ghost use Rattle.dtx_plan.specs.declared.plan.Plan.{Plan};
 ghost use Rattle.dtx_jobs.specs.Feed.{IsFeedingOf};
@@ -46,6 +47,7 @@ impl Feeder {
         ensures bound { self.new.filled ≤ self.new.adapter.given }
     {
         goes_on();
+        hold_bytes(packets);
         let mut done = 0;
         while done < packets.len() {
             let count = (packets.len() - done).min(GROUP_PACKETS);
@@ -55,3 +57,17 @@ impl Feeder {
         }
     }
 }
+
+/// What packets hold are bytes.
+fn hold_bytes(packets: &[Packet])
+    ensures { All (λ p. AreBytes p.0) packets.now }
+{
+    for i in 0..packets.len() {
+        are_bytes(&packets[i].0);
+    }
+}
+
+/// Bytes are numbers below 256.
+fn are_bytes(bytes: &[u8])
+    ensures { AreBytes bytes.now }
+{}

@@ -1,13 +1,13 @@
-// The plan of a file.
-ghost use Rattle.std.specs.Prelude.{◌≡◌, ◌≤◌, length, IfSome, IfOk, IfErr, IsErrOf};
+// The plan of a file, and the damage of a file of changes.
+ghost use Rattle.std.specs.Prelude.{◌≡◌, ◌<◌, ◌≤◌, [], length, false, Ok, IfSome, IfOk, IfErr, IsErrOf};
 ghost use Rattle.std.specs.FinMap as files;
 ghost use Rattle.dtx_outside.specs.Shelf.{Rose};
-ghost use Rattle.dtx_plan.specs.Sound.{IsSound, HasSoundNet};
+ghost use Rattle.dtx_plan.specs.Sound.{IsSound, HasSoundNet, AreDamages};
 ghost use Rattle.dtx_jobs.specs.Input.{IsAskRefusal};
-ghost use Rattle.dtx_jobs.specs.PlanFile.{IsPlanRead, IsPlanRefusal, IsSmallFile};
+ghost use Rattle.dtx_jobs.specs.PlanFile.{IsPlanRead, IsChangesRead, IsPlanRefusal, IsReadAll, IsReadOn, IsSmallFile};
 
 use dtx_outside::{Shelf, fill};
-use dtx_plan::{Plan, read_plan};
+use dtx_plan::{Damages, Plan, read_changes, read_plan};
 use dtx_words::{Status, of_plan, of_read};
 use std::alloc::{AllocError, Global};
 
@@ -15,8 +15,11 @@ use std::alloc::{AllocError, Global};
 /// long is told from one that isn't.
 const SMALL: usize = 16_777_217;
 
+/// How many bytes of it are read at once.
+const PIECE: usize = 65_536;
+
 /// Reads the plan of the file of that number. Its text is that of `dtx_plan::read_plan` (the profile's own).
-pub(crate) fn plan_in<S: Shelf>(
+pub fn plan_in<S: Shelf>(
     alloc: Global,
     shelf: &mut S,
     number: u8,
@@ -44,8 +47,36 @@ pub(crate) fn plan_in<S: Shelf>(
     }
 }
 
+/// Reads the damage of the file of changes of that number. Its text is that of `dtx_plan::read_changes` (the profile's own).
+pub(crate) fn changes_in<S: Shelf>(
+    alloc: Global,
+    shelf: &mut S,
+    number: u8,
+    name: &str,
+) -> Result<Damages, Status>
+    ensures told { IfSome (S.files shelf.old) (λ held. IsChangesRead (files.get held name.now) number result) }
+
+    // Also where the shelf doesn't tell its files.
+    ensures sound { IfOk result AreDamages }
+    ensures refusal { IfErr result (IsPlanRefusal number) }
+    ensures absent { IsErrOf result (Status.Absent number) → Rose (S.misses shelf.old) (S.misses shelf.new) }
+    ensures read_fault { IsErrOf result Status.ReadFault → Rose (S.read_faults shelf.old) (S.read_faults shelf.new) }
+    ensures kept { S.files shelf.new ≡ S.files shelf.old }
+    ensures read_faults { S.read_faults shelf.old ≤ S.read_faults shelf.new }
+    ensures write_faults { S.write_faults shelf.new ≡ S.write_faults shelf.old }
+    ensures misses { S.misses shelf.old ≤ S.misses shelf.new }
+{
+    match small_file(alloc, shelf, number, name) {
+        Ok(bytes) => match read_changes(alloc, &bytes) {
+            Ok(damage) => Ok(damage),
+            Err(fault) => Err(of_plan(fault)),
+        },
+        Err(status) => Err(status),
+    }
+}
+
 /// The bytes of the file of that number, or the first of them where it has more than a plan or a file of changes may have.
-pub(crate) fn small_file<S: Shelf>(
+pub fn small_file<S: Shelf>(
     alloc: Global,
     shelf: &mut S,
     number: u8,
@@ -62,11 +93,76 @@ pub(crate) fn small_file<S: Shelf>(
     ensures write_faults { S.write_faults shelf.new ≡ S.write_faults shelf.old }
     ensures misses { S.misses shelf.old ≤ S.misses shelf.new }
 {
-    let mut bytes = zeroed(alloc, SMALL)?;
-    match fill(shelf, name, 0, &mut bytes) {
-        Ok(count) => {
-            bytes.truncate(count);
+    let mut piece = zeroed(alloc, PIECE)?;
+    let mut bytes = Vec::new(alloc);
+    match read_all(shelf, number, name, &mut piece, &mut bytes) {
+        Ok(()) => {
+            bytes.truncate(SMALL);
             Ok(bytes)
+        }
+        Err(status) => Err(status),
+    }
+}
+
+/// Reads the file of that number piece by piece, until it ends or more bytes came than a plan or a file of changes may have.
+fn read_all<S: Shelf>(
+    shelf: &mut S,
+    number: u8,
+    name: &str,
+    piece: &mut [u8],
+    bytes: &mut Vec<u8>,
+) -> Result<(), Status>
+    requires room { length piece.old ≡ PIECE }
+    requires none { bytes.old.items ≡ [] }
+    ensures told { IfSome (S.files shelf.old) (λ held. IsReadAll (files.get held name.now) number result bytes.new.items) }
+
+    // Also where the shelf doesn't tell its files.
+    ensures refusal { IfErr result (IsAskRefusal number) }
+    ensures absent { IsErrOf result (Status.Absent number) → Rose (S.misses shelf.old) (S.misses shelf.new) }
+    ensures read_fault { IsErrOf result Status.ReadFault → Rose (S.read_faults shelf.old) (S.read_faults shelf.new) }
+    ensures kept { S.files shelf.new ≡ S.files shelf.old }
+    ensures read_faults { S.read_faults shelf.old ≤ S.read_faults shelf.new }
+    ensures write_faults { S.write_faults shelf.new ≡ S.write_faults shelf.old }
+    ensures misses { S.misses shelf.old ≤ S.misses shelf.new }
+{
+    loop {
+        match read_on(shelf, number, name, piece, bytes) {
+            Ok(ended) => {
+                if ended || bytes.len() >= SMALL {
+                    return Ok(());
+                }
+            }
+            Err(status) => return Err(status),
+        }
+    }
+}
+
+/// Reads the next piece of the file of that number behind its first bytes, and answers whether the file ends there.
+fn read_on<S: Shelf>(
+    shelf: &mut S,
+    number: u8,
+    name: &str,
+    piece: &mut [u8],
+    bytes: &mut Vec<u8>,
+) -> Result<bool, Status>
+    requires room { length piece.old ≡ PIECE }
+    requires short { length bytes.old.items < SMALL }
+    ensures told { IfSome (S.files shelf.old) (λ held. IsReadOn (files.get held name.now) number bytes.old.items result bytes.new.items) }
+
+    // Also where the shelf doesn't tell its files.
+    ensures on { result ≡ Ok false → length bytes.old.items < length bytes.new.items }
+    ensures refusal { IfErr result (IsAskRefusal number) }
+    ensures absent { IsErrOf result (Status.Absent number) → Rose (S.misses shelf.old) (S.misses shelf.new) }
+    ensures read_fault { IsErrOf result Status.ReadFault → Rose (S.read_faults shelf.old) (S.read_faults shelf.new) }
+    ensures kept { S.files shelf.new ≡ S.files shelf.old }
+    ensures read_faults { S.read_faults shelf.old ≤ S.read_faults shelf.new }
+    ensures write_faults { S.write_faults shelf.new ≡ S.write_faults shelf.old }
+    ensures misses { S.misses shelf.old ≤ S.misses shelf.new }
+{
+    match fill(shelf, name, bytes.len() as u64, piece) {
+        Ok(count) => {
+            bytes.extend_from_slice(&piece[..count])?;
+            Ok(count < PIECE)
         }
         Err(cause) => Err(of_read(number, cause)),
     }

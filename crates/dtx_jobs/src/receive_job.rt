@@ -1,6 +1,7 @@
 // `receive IN OUT`: the packets of a symbol file.
 ghost use Rattle.std.specs.Prelude.{◌≡◌, ◌≢◌, ◌≤◌, ◌*◌, length, [], IfSome, IfErr, IsErrOf, IsSome, Err};
 ghost use Rattle.std.specs.FinMap as files;
+ghost use Rattle.dtx_make.specs.Hurt.{AreInOrder};
 ghost use Rattle.dtx_outside.specs.Shelf.{Rose};
 ghost use Rattle.dtx_words.specs.Behind.{receive_behind};
 ghost use Rattle.dtx_words.specs.Command.{Fits};
@@ -9,13 +10,14 @@ ghost use Rattle.dtx_words.specs.Words.{receive_names, receive_words};
 ghost use Rattle.dtx_jobs.specs.Receive.{HasReceiveCause, HasReceivePerformCause, IsReceivePerformRefusal, IsReceiveRefusal, ReceiveBegunLeft, ReceiveLeavesAt, ReceivePerformLeaves};
 ghost use Rattle.dtx_jobs.specs.Received.{IsReceiveOutcome, numbers_in};
 ghost use Rattle.dtx_jobs.specs.Reception.{IsReceiving};
+ghost use Rattle.dtx_jobs.specs.SymbolFile.{as_read, entries_of};
 ghost use Rattle.dtx_jobs.specs.Tally.{IsBounded};
 
 use crate::Outcome;
 use crate::input::ask_for;
 use crate::received::write_received;
 use crate::reception::Reception;
-use crate::symbol_file::{PIECE_SEGMENTS, SEGMENT};
+use crate::symbol_file::{PIECE_SEGMENTS, SEGMENT, SymbolInput};
 use crate::tally::Tally;
 use dtx_outside::{Output, Shelf, Word};
 use dtx_words::{Command, ReceiveNames, Status, receive_words, repeated_name};
@@ -23,11 +25,11 @@ use std::alloc::Global;
 
 /// What was received of a symbol file.
 #[derive(Clone, Copy)]
-pub(crate) struct Counted {
+pub struct Counted {
     /// In numbers.
-    pub(crate) tally: Tally,
+    pub tally: Tally,
     /// The bytes behind the last whole segment.
-    pub(crate) loose: u16,
+    pub loose: u16,
 }
 
 impl Counted {
@@ -114,60 +116,19 @@ fn perform<S: Shelf>(
     }
 }
 
-/// Reads symbols and writes the packets that they give to a new file (ATSC A/53 Part 2, the way back). All memory is taken before, and
-/// the symbols are asked for before the file is begun.
+/// Asks for the symbols, then reads them and writes the packets that they give to a new file.
 fn receive_file<S: Shelf>(
     alloc: Global,
     shelf: &mut S,
     input: &str,
     output: &str,
 ) -> Result<Counted, Status>
-    ensures cause { input.now ≢ output.now → IfSome (S.files shelf.old) (λ held. HasReceiveCause (files.get held input.now) result) }
+    ensures cause { input.now ≢ output.now → IfSome (S.files shelf.old) (λ held. HasReceiveCause 0 (files.get held input.now) result) }
     ensures left { input.now ≢ output.now → IfSome (S.files shelf.old) (λ held.
         ReceiveLeavesAt held output.now (files.get held input.now) result (S.files shelf.new)) }
 
     // Also where the shelf doesn't tell its files.
-    ensures refusal { IfErr result IsReceiveRefusal }
-    ensures absent { IsErrOf result (Status.Absent 0) → Rose (S.misses shelf.old) (S.misses shelf.new) }
-    ensures read_fault { IsErrOf result Status.ReadFault → Rose (S.read_faults shelf.old) (S.read_faults shelf.new) }
-    ensures write_fault { IsErrOf result Status.WriteFault → Rose (S.write_faults shelf.old) (S.write_faults shelf.new) }
-    ensures read_faults { S.read_faults shelf.old ≤ S.read_faults shelf.new }
-    ensures write_faults { S.write_faults shelf.old ≤ S.write_faults shelf.new }
-    ensures misses { S.misses shelf.old ≤ S.misses shelf.new }
-{
-    let mut bytes = vec![in alloc; 0u8; SEGMENT * PIECE_SEGMENTS]?;
-    let mut reception = Reception::new(alloc)?;
-    let mut packets = Output::new(alloc)?;
-    receive_in(
-        shelf,
-        input,
-        output,
-        &mut bytes,
-        &mut reception,
-        &mut packets,
-    )
-}
-
-/// Asks for the symbols, then begins the file and writes the packets to it.
-fn receive_in<S: Shelf>(
-    shelf: &mut S,
-    input: &str,
-    output: &str,
-    bytes: &mut [u8],
-    reception: &mut Reception,
-    packets: &mut Output,
-) -> Result<Counted, Status>
-    requires room { length bytes.old ≡ SEGMENT * PIECE_SEGMENTS }
-    requires receiving { IsReceiving reception.old [] }
-    requires bounded { IsBounded reception.old.tally reception.old.tally.segments }
-    requires none { reception.old.tally.segments ≡ 0 }
-    requires empty { packets.old ≡ [] }
-    ensures cause { input.now ≢ output.now → IfSome (S.files shelf.old) (λ held. HasReceiveCause (files.get held input.now) result) }
-    ensures left { input.now ≢ output.now → IfSome (S.files shelf.old) (λ held.
-        ReceiveLeavesAt held output.now (files.get held input.now) result (S.files shelf.new)) }
-
-    // Also where the shelf doesn't tell its files.
-    ensures refusal { IfErr result IsReceiveRefusal }
+    ensures refusal { IfErr result (IsReceiveRefusal 0) }
     ensures absent { IsErrOf result (Status.Absent 0) → Rose (S.misses shelf.old) (S.misses shelf.new) }
     ensures read_fault { IsErrOf result Status.ReadFault → Rose (S.read_faults shelf.old) (S.read_faults shelf.new) }
     ensures write_fault { IsErrOf result Status.WriteFault → Rose (S.write_faults shelf.old) (S.write_faults shelf.new) }
@@ -178,13 +139,54 @@ fn receive_in<S: Shelf>(
     if let Err(status) = ask_for(shelf, 0, input) {
         return Err(status);
     }
-    begin_received(shelf, input, output, bytes, reception, packets)
+    let symbols = SymbolInput {
+        name: input,
+        number: 0,
+        damage: None,
+    };
+    receive_symbols(alloc, shelf, &symbols, output)
+}
+
+/// Reads symbols, with the damage laid over them, and writes the packets that they give to a new file (ATSC A/53 Part 2, the way
+/// back). All memory is taken before the file is begun. The symbols are not asked for before: the caller knows that they are there.
+pub fn receive_symbols<S: Shelf>(
+    alloc: Global,
+    shelf: &mut S,
+    input: &SymbolInput<'_>,
+    output: &str,
+) -> Result<Counted, Status>
+    requires in_order { AreInOrder (entries_of input.now.damage) }
+    ensures cause { input.now.name.now ≢ output.now → IfSome (S.files shelf.old) (λ held. IsSome (files.get held input.now.name.now)
+        → HasReceiveCause input.now.number (as_read input.now.damage (files.get held input.now.name.now)) result) }
+    ensures left { input.now.name.now ≢ output.now → IfSome (S.files shelf.old) (λ held.
+        ReceiveBegunLeft held output.now (as_read input.now.damage (files.get held input.now.name.now)) result (S.files shelf.new)) }
+
+    // Also where the shelf doesn't tell its files.
+    ensures refusal { IfErr result (IsReceiveRefusal input.now.number) }
+    ensures absent { IsErrOf result (Status.Absent input.now.number) → Rose (S.misses shelf.old) (S.misses shelf.new) }
+    ensures read_fault { IsErrOf result Status.ReadFault → Rose (S.read_faults shelf.old) (S.read_faults shelf.new) }
+    ensures write_fault { IsErrOf result Status.WriteFault → Rose (S.write_faults shelf.old) (S.write_faults shelf.new) }
+    ensures read_faults { S.read_faults shelf.old ≤ S.read_faults shelf.new }
+    ensures write_faults { S.write_faults shelf.old ≤ S.write_faults shelf.new }
+    ensures misses { S.misses shelf.old ≤ S.misses shelf.new }
+{
+    let mut bytes = vec![in alloc; 0u8; SEGMENT * PIECE_SEGMENTS]?;
+    let mut reception = Reception::new(alloc)?;
+    let mut packets = Output::new(alloc)?;
+    begin_received(
+        shelf,
+        input,
+        output,
+        &mut bytes,
+        &mut reception,
+        &mut packets,
+    )
 }
 
 /// Begins the file and writes the packets to it.
 fn begin_received<S: Shelf>(
     shelf: &mut S,
-    input: &str,
+    input: &SymbolInput<'_>,
     output: &str,
     bytes: &mut [u8],
     reception: &mut Reception,
@@ -195,13 +197,15 @@ fn begin_received<S: Shelf>(
     requires bounded { IsBounded reception.old.tally reception.old.tally.segments }
     requires none { reception.old.tally.segments ≡ 0 }
     requires empty { packets.old ≡ [] }
-    ensures cause { input.now ≢ output.now → IfSome (S.files shelf.old) (λ held. IsSome (files.get held input.now) → HasReceiveCause (files.get held input.now) result) }
-    ensures left { input.now ≢ output.now → IfSome (S.files shelf.old) (λ held.
-        ReceiveBegunLeft held output.now (files.get held input.now) result (S.files shelf.new)) }
+    requires in_order { AreInOrder (entries_of input.now.damage) }
+    ensures cause { input.now.name.now ≢ output.now → IfSome (S.files shelf.old) (λ held. IsSome (files.get held input.now.name.now)
+        → HasReceiveCause input.now.number (as_read input.now.damage (files.get held input.now.name.now)) result) }
+    ensures left { input.now.name.now ≢ output.now → IfSome (S.files shelf.old) (λ held.
+        ReceiveBegunLeft held output.now (as_read input.now.damage (files.get held input.now.name.now)) result (S.files shelf.new)) }
 
     // Also where the shelf doesn't tell its files.
-    ensures refusal { IfErr result IsReceiveRefusal }
-    ensures absent { IsErrOf result (Status.Absent 0) → Rose (S.misses shelf.old) (S.misses shelf.new) }
+    ensures refusal { IfErr result (IsReceiveRefusal input.now.number) }
+    ensures absent { IsErrOf result (Status.Absent input.now.number) → Rose (S.misses shelf.old) (S.misses shelf.new) }
     ensures read_fault { IsErrOf result Status.ReadFault → Rose (S.read_faults shelf.old) (S.read_faults shelf.new) }
     ensures write_fault { IsErrOf result Status.WriteFault → Rose (S.write_faults shelf.old) (S.write_faults shelf.new) }
     ensures read_faults { S.read_faults shelf.old ≤ S.read_faults shelf.new }

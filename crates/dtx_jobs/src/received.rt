@@ -1,17 +1,20 @@
 // The packets of a symbol file, written as its segments come.
 ghost use Rattle.std.specs.Prelude.{◌≡◌, ◌≢◌, ◌≤◌, ◌+◌, ◌*◌, ◌/◌, ◌%◌, ◌++◌, ℕ, ℤ, List, [], Option, Some, length, IfSome, IfErr, IsErrOf, IsOk, IsSome};
 ghost use Rattle.std.specs.FinMap as files;
+ghost use Rattle.dtx_make.specs.Hurt.{AreInOrder};
 ghost use Rattle.dtx_outside.specs.Shelf.{Files, Rose};
 ghost use Rattle.dtx_outside.specs.Written.{IsGathered, IsWriteOf};
 ghost use Rattle.dtx_receiver.specs.Packets.{given};
 ghost use Rattle.dtx_jobs.specs.Receive.{HasReceiveCause, IsReceivedLeft, IsReceivedEnd, IsReceiveRefusal, IsEndRefusal};
 ghost use Rattle.dtx_jobs.specs.Reception.{bytes_of, IsReceiving};
-ghost use Rattle.dtx_jobs.specs.SymbolFile.{segments_from};
+ghost use Rattle.dtx_jobs.specs.SymbolFile.{as_read, entries_of, segments_from};
 ghost use Rattle.dtx_jobs.specs.Tally.{IsBounded};
 
 use crate::receive_job::Counted;
 use crate::reception::Reception;
-use crate::symbol_file::{MOST_SEGMENTS, PIECE_SEGMENTS, SEGMENT, SymbolEnd, next_symbols};
+use crate::symbol_file::{
+    MOST_SEGMENTS, PIECE_SEGMENTS, SEGMENT, SymbolEnd, SymbolInput, next_symbols,
+};
 use dtx_outside::{Output, Shelf, WriteNo};
 use dtx_receiver::Received;
 use dtx_words::Status;
@@ -20,7 +23,7 @@ use dtx_words::Status;
 /// that were received before are written first.
 pub(crate) fn write_received<S: Shelf>(
     shelf: &mut S,
-    input: &str,
+    input: &SymbolInput<'_>,
     output: &str,
     bytes: &mut [u8],
     reception: &mut Reception,
@@ -31,14 +34,16 @@ pub(crate) fn write_received<S: Shelf>(
     requires bounded { IsBounded reception.old.tally reception.old.tally.segments }
     requires none { reception.old.tally.segments ≡ 0 }
     requires empty { packets.old ≡ [] }
-    ensures cause { input.now ≢ output.now → IfSome (S.files shelf.old) (λ held. files.get held output.now ≡ Some []
-        → IsSome (files.get held input.now) → HasReceiveCause (files.get held input.now) result) }
-    ensures left { input.now ≢ output.now → IfSome (S.files shelf.old) (λ held. files.get held output.now ≡ Some []
-        → IsReceivedLeft (Some held) output.now (files.get held input.now) result (S.files shelf.new)) }
+    requires in_order { AreInOrder (entries_of input.now.damage) }
+    ensures cause { input.now.name.now ≢ output.now → IfSome (S.files shelf.old) (λ held. files.get held output.now ≡ Some []
+        → IsSome (files.get held input.now.name.now)
+        → HasReceiveCause input.now.number (as_read input.now.damage (files.get held input.now.name.now)) result) }
+    ensures left { input.now.name.now ≢ output.now → IfSome (S.files shelf.old) (λ held. files.get held output.now ≡ Some []
+        → IsReceivedLeft (Some held) output.now (as_read input.now.damage (files.get held input.now.name.now)) result (S.files shelf.new)) }
 
     // Also where the shelf doesn't tell its files.
-    ensures refusal { IfErr result IsReceiveRefusal }
-    ensures absent { IsErrOf result (Status.Absent 0) → Rose (S.misses shelf.old) (S.misses shelf.new) }
+    ensures refusal { IfErr result (IsReceiveRefusal input.now.number) }
+    ensures absent { IsErrOf result (Status.Absent input.now.number) → Rose (S.misses shelf.old) (S.misses shelf.new) }
     ensures read_fault { IsErrOf result Status.ReadFault → Rose (S.read_faults shelf.old) (S.read_faults shelf.new) }
     ensures write_fault { IsErrOf result Status.WriteFault → Rose (S.write_faults shelf.old) (S.write_faults shelf.new) }
     ensures read_faults { S.read_faults shelf.old ≤ S.read_faults shelf.new }

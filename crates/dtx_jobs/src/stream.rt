@@ -15,7 +15,7 @@ const GROUP: u64 = GROUP_PACKETS as u64;
 
 /// The stream that a command reads: which input of the command it is, and which packets it may hold.
 #[derive(Clone, Copy)]
-pub(crate) enum Source {
+pub enum Source {
     /// That of `adapt`, its input 1. Its packets begin with 0x47.
     Adapted,
     /// That of `code`, its input 0. Its packets begin with 0x47 or with the cadence mark 0xB8.
@@ -46,9 +46,11 @@ impl Source {
 
 /// What was read of a stream: how many packets, and how many bytes behind the last one.
 #[derive(Clone, Copy)]
-pub(crate) struct Counts {
-    pub(crate) packets: u64,
-    pub(crate) loose: u8,
+pub struct Counts {
+    /// How many packets.
+    pub packets: u64,
+    /// How many bytes behind the last one.
+    pub loose: u8,
 }
 
 /// How many packets can be taken before one that can't, and the refusal of that one.

@@ -2,9 +2,10 @@
 ghost use Rattle.std.specs.Prelude.{◌≡◌, ◌+◌, ◌*◌, ◌/◌, ◌%◌, ◌<◌, ◌≤◌, ◌++◌, ◌∷◌, [], ℕ, List, IfOk, length, map, take};
 ghost use Rattle.dtx_coder.specs.Groups.{StandsFor};
 ghost use Rattle.dtx_coder.specs.Stream.{a53};
-ghost use Rattle.dtx_jobs.specs.Symbols.{byte_of_symbol, symbol_bytes, IsCodingOf};
+ghost use Rattle.dtx_jobs.specs.Symbols.{symbol_bytes, IsCodingOf};
 
 use dtx_coder::{AIR_SYMBOLS, Air, Coder, GROUP_PACKETS};
+use dtx_files::to_bytes;
 use dtx_frame::SEGMENT;
 use dtx_packets::{MOST_PACKETS, PACKET, Packet};
 use dtx_trellis::FIELD;
@@ -82,15 +83,6 @@ impl StreamCoder {
             .group(in_field, second, &self.group, None, sync, &mut self.air);
         self.count = SEGMENT * self.air.segments as usize;
         to_bytes(&self.air.symbols, &mut self.bytes);
-    }
-}
-
-/// Sets the bytes to the symbols, in two's complement.
-pub(crate) fn to_bytes(symbols: &[i8; AIR_SYMBOLS], bytes: &mut [u8; AIR_SYMBOLS])
-    ensures { bytes.new ≡ map byte_of_symbol symbols.now }
-{
-    for i in 0..AIR_SYMBOLS {
-        bytes[i] = symbols[i].cast_unsigned();
     }
 }
 

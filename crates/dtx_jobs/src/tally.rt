@@ -6,17 +6,17 @@ use dtx_receiver::{MOST_RECEIVED, Received};
 
 /// The numbers of what was received.
 #[derive(Clone, Copy)]
-pub(crate) struct Tally {
+pub struct Tally {
     /// The segments that were read.
-    pub(crate) segments: u64,
+    pub segments: u64,
     /// The runs that began.
-    pub(crate) runs: u64,
+    pub runs: u64,
     /// The packets that were written.
-    pub(crate) packets: u64,
+    pub packets: u64,
     /// The bytes that were put right.
-    pub(crate) fixed: u64,
+    pub fixed: u64,
     /// The packets that are flagged.
-    pub(crate) flagged: u64,
+    pub flagged: u64,
 }
 
 impl Tally {

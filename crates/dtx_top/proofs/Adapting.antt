@@ -1,16 +1,18 @@
 -- What `run` answers, leaves and prints for `adapt`.
 use Rattle.std.proofs.Common.{◌≡◌, ◌≢◌, ◌⊎◌, ℕ, ◌%◌, List, [], ◌∷◌, length, refl, sym, ap, subst, ◌∙◌, inl, inr, unwrap_or}
-use Rattle.std.specs.Prelude.{Option, Some, None, Result, Ok, Err, IfSome, IsSome, IsSomeAnd}
+use Rattle.std.specs.Prelude.{Option, Some, None, IfSome, IsSome, IsSomeAnd}
 use Rattle.std.specs.FinMap.{get}
 use Rattle.std.specs.Option.{option_map}
 use Rattle.dtx_outside.specs.Shelf.{Files}
+use Rattle.dtx_words.specs.Command.{Fits}
 use Rattle.dtx_words.specs.Line.{done_line, feed_line, HasLine}
 use Rattle.dtx_words.specs.Names.{names_of, repeated}
 use Rattle.dtx_words.specs.Printed.{printed}
 use Rattle.dtx_words.specs.Words.{AdaptWords, adapt_names, adapt_words}
-use Rattle.dtx_words.specs.declared.verbs.Command.TheVariants.{Adapt}
+use Rattle.dtx_words.specs.declared.verbs.Command.{Command}
+use Rattle.dtx_words.specs.declared.verbs.Command.TheVariants.{Adapt, Net}
 use Rattle.dtx_words.specs.declared.status.Status.{Status}
-use Rattle.dtx_words.specs.declared.status.Status.TheVariants.{Done, Usage, Same, Absent, Plan, Packet, TooLong, NoSync, ReadFault, WriteFault, Memory}
+use Rattle.dtx_words.specs.declared.status.Status.TheVariants.{Done, Usage, Same, Absent, Plan, Packet, TooLong, OutOfFeed, OutOfAir, NoSync, ReadFault, WriteFault, Memory}
 use Rattle.dtx_adapter.specs.Feed.{placeholders}
 use Rattle.dtx_packets.specs.Packets.{packets_of, whole_packets}
 use Rattle.dtx_jobs.specs.Adapt.{HasAdaptCause, CanBeAdapted, FeedLeaves, IsAdaptOutcome, AreFeedNumbers}
@@ -28,10 +30,11 @@ pub record IsAdaptRun (asked : AdaptWords) (told now : Option Files) (missed mis
   pub answered : IsAnswered (Some Adapt) outcome (adapt_names asked) unprinted old new answer
 
 pub adapt_run : (words : List (List ℕ)) (told now : Option Files) (missed misread miswritten unprinted : Type 0) (old new : Option (List ℕ)) (answer : Status)
-    → IsCarriedOut words told now missed misread miswritten unprinted old new answer
+    → ((other : Command) → Fits other words → other ≢ Net → IsCarriedOut words told now missed misread miswritten unprinted old new answer)
     → IfSome (adapt_words words) (λ asked. IsAdaptRun asked told now missed misread miswritten unprinted old new answer)
-adapt_run words told now missed misread miswritten unprinted old new answer run =
+adapt_run words told now missed misread miswritten unprinted old new answer one =
     where_some (adapt_words words) (λ asked. IsAdaptRun asked told now missed misread miswritten unprinted old new answer) (λ asked is.
+    let run = one Adapt (subst IsSome (sym is) refl) (λ e. cc) in
     let found : run.command ≡ Some Adapt = run.only Adapt (subst IsSome (sym is) refl) in
     record {
       outcome = run.outcome;
@@ -50,6 +53,8 @@ kept_cause asked told missed misread miswritten unprinted Same cause = cause
 kept_cause asked told missed misread miswritten unprinted (Absent i) cause = cause
 kept_cause asked told missed misread miswritten unprinted (Packet k) cause = cause
 kept_cause asked told missed misread miswritten unprinted TooLong cause = cause
+kept_cause asked told missed misread miswritten unprinted (OutOfFeed event) cause = cause
+kept_cause asked told missed misread miswritten unprinted (OutOfAir entry) cause = cause
 kept_cause asked told missed misread miswritten unprinted NoSync cause = cause
 kept_cause asked told missed misread miswritten unprinted ReadFault cause = cause
 kept_cause asked told missed misread miswritten unprinted Memory cause = cause

@@ -1,6 +1,7 @@
 -- The answer that follows a line, whatever the command.
 use Rattle.std.proofs.Common.{◌≡◌, ◌≢◌, ◌⊎◌, ℕ, List, refl, sym, subst, ◌∙◌, inl, inr}
-use Rattle.std.specs.Prelude.{Option, Some, None, Result, Ok, Err, IfSome}
+use Rattle.std.specs.Prelude.{Option, Some, None, Result, Ok, Err, IfSome, IsSomeAnd}
+use Rattle.std.specs.Result.{IsOkAnd}
 use Rattle.dtx_outside.specs.declared.sink.SinkNo.{SinkNo}
 use Rattle.dtx_outside.specs.declared.sink.SinkNo.TheVariants as sink
 use Rattle.dtx_words.specs.Line.{done_line, line_of, finished, HasLine}
@@ -10,7 +11,7 @@ use Rattle.dtx_words.specs.declared.verbs.Command.{Command}
 use Rattle.dtx_jobs.specs.declared.outcome.Outcome.{Outcome}
 use Rattle.dtx_top.specs.Carried.{IsAnswered}
 use Rattle.dtx_words.specs.declared.status.Status.{Status}
-use Rattle.dtx_words.specs.declared.status.Status.TheVariants.{Done, Usage, Same, Absent, Plan, Packet, TooLong, NoSync, ReadFault, WriteFault, Memory}
+use Rattle.dtx_words.specs.declared.status.Status.TheVariants.{Done, Usage, Same, Absent, Plan, Packet, TooLong, OutOfFeed, OutOfAir, NoSync, ReadFault, WriteFault, Memory}
 
 -- the status stays; or memory was wanted; or the line of `Done` could not be printed
 pub what_follows : (status : Status) (line : Result (Unit {0}) SinkNo)
@@ -19,6 +20,8 @@ what_follows status (Ok u) = inl refl
 what_follows status (Err sink.Memory) = inr (inl refl)
 what_follows Done (Err sink.Failed) = inr (inr (refl, refl, refl))
 what_follows Usage (Err sink.Failed) = inl refl
+what_follows (OutOfFeed event) (Err sink.Failed) = inl refl
+what_follows (OutOfAir entry) (Err sink.Failed) = inl refl
 what_follows NoSync (Err sink.Failed) = inl refl
 what_follows Same (Err sink.Failed) = inl refl
 what_follows (Absent i) (Err sink.Failed) = inl refl
@@ -35,6 +38,8 @@ done_follows status (Ok u) e = (e, refl)
 done_follows status (Err sink.Memory) e = cc
 done_follows Done (Err sink.Failed) e = cc
 done_follows Usage (Err sink.Failed) e = cc
+done_follows (OutOfFeed event) (Err sink.Failed) e = cc
+done_follows (OutOfAir entry) (Err sink.Failed) e = cc
 done_follows NoSync (Err sink.Failed) e = cc
 done_follows Same (Err sink.Failed) e = cc
 done_follows (Absent i) (Err sink.Failed) e = cc
@@ -65,10 +70,39 @@ complete_follows status line failed is fault none = elim (what_follows status li
   | inr (inr p) ↦ absurd (none (fault p.1))
 ]
 
+-- what holds of the status, and of the answers that may come in its place, holds of the answer
+pub fact_follows : (P : Status → Type 0) (status : Status) (line : Result (Unit {0}) SinkNo) (failed : Type 0) (answer : Status) → answer ≡ finished status line → (line ≡ Err sink.Failed → failed)
+    → P status → P Memory → (status ≡ Done → failed → P WriteFault) → P answer
+fact_follows P status line failed answer follows fault is memory unprinted =
+    subst P (sym follows)
+    (elim (what_follows status line) [
+      | inl e ↦ subst P (sym e) is
+      | inr (inl e) ↦ subst P (sym e) memory
+      | inr (inr p) ↦ subst P (sym p.2) (unprinted p.0 (fault p.1))
+    ])
+
+-- where `WriteFault` is answered and it isn't the status, all was done
+pub unprinted_follows : (status : Status) (line : Result (Unit {0}) SinkNo) (answer : Status) → answer ≡ finished status line → status ≢ WriteFault → answer ≡ WriteFault → status ≡ Done
+unprinted_follows status line answer follows other fault =
+    elim (what_follows status line) [
+      | inl e ↦ absurd (other (sym e ∙ sym follows ∙ fault))
+      | inr (inl e) ↦ let apart : Memory ≡ WriteFault = sym e ∙ sym follows ∙ fault in cc
+      | inr (inr p) ↦ p.0
+    ]
+
 -- a fact of the words of a command, where they fit it
 pub where_some : {A : Type 0} (o : Option A) (P : A → Type 0) → ((a : A) → o ≡ Some a → P a) → IfSome o P
 where_some {A} None P h = tt
 where_some {A} (Some a) P h = h a refl
+
+-- what is there, or was read, and so, is there, or was read, and so otherwise
+pub some_then : {A : Type 0} (o : Option A) (P Q : A → Type 0) → IsSomeAnd o P → ((a : A) → P a → Q a) → IsSomeAnd o Q
+some_then None P Q is then = is
+some_then (Some a) P Q is then = then a is
+
+pub ok_then : {A B : Type 0} (r : Result A B) (P Q : A → Type 0) → IsOkAnd r P → ((a : A) → P a → Q a) → IsOkAnd r Q
+ok_then (Ok a) P Q is then = then a is
+ok_then (Err b) P Q is then = is
 
 -- the line that is left
 pub answered_line : (IsDoneLine : List ℕ → Type 0) (command : Command) (outcome : Outcome) (names : List (List ℕ)) (failed : Type 0) (old new : Option (List ℕ)) (answer : Status)

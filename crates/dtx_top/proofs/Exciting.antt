@@ -1,16 +1,18 @@
 -- What `run` answers, leaves and prints for `excite`.
-use Rattle.std.proofs.Common.{◌≡◌, ◌≢◌, ◌⊎◌, ℕ, List, [], ◌++◌, refl, sym, ap, subst, ◌∙◌, inl, inr, unwrap_or}
-use Rattle.std.specs.Prelude.{Option, Some, None, Result, Ok, Err, IfSome, IsSome, IsSomeAnd}
+use Rattle.std.proofs.Common.{◌≡◌, ◌≢◌, ◌⊎◌, ℕ, List, [], refl, sym, ap, subst, ◌∙◌, inl, inr, unwrap_or}
+use Rattle.std.specs.Prelude.{Option, Some, None, IfSome, IsSome, IsSomeAnd}
 use Rattle.std.specs.FinMap.{get}
 use Rattle.std.specs.Option.{option_map}
 use Rattle.dtx_outside.specs.Shelf.{Files}
+use Rattle.dtx_words.specs.Command.{Fits}
 use Rattle.dtx_words.specs.Line.{done_line, HasLine}
 use Rattle.dtx_words.specs.Names.{names_of, repeated}
 use Rattle.dtx_words.specs.Printed.{printed}
 use Rattle.dtx_words.specs.Words.{ExciteWords, excite_names, excite_words}
-use Rattle.dtx_words.specs.declared.verbs.Command.TheVariants.{Excite}
+use Rattle.dtx_words.specs.declared.verbs.Command.{Command}
+use Rattle.dtx_words.specs.declared.verbs.Command.TheVariants.{Excite, Net}
 use Rattle.dtx_words.specs.declared.status.Status.{Status}
-use Rattle.dtx_words.specs.declared.status.Status.TheVariants.{Done, Usage, Same, Absent, Packet, TooLong, NoSync, ReadFault, WriteFault, Memory, Plan}
+use Rattle.dtx_words.specs.declared.status.Status.TheVariants.{Done, Usage, Same, Absent, Packet, TooLong, OutOfFeed, OutOfAir, NoSync, ReadFault, WriteFault, Memory, Plan}
 use Rattle.dtx_packets.specs.Packets.{packets_of}
 use Rattle.dtx_jobs.specs.Excite.{fed, IsMade, IsPartMade}
 use Rattle.dtx_jobs.specs.Excited.{OfFeed, IsFeed, HasExciteJobCause, CanBeExcited, ExciteStatusLeaves, ExciteLeaves, IsExciteOutcome, excited_numbers}
@@ -19,7 +21,7 @@ use Rattle.dtx_jobs.specs.declared.outcome.Outcome.{Outcome}
 use Rattle.dtx_top.specs.Answer.{HasExciteAnswerCause}
 use Rattle.dtx_top.specs.Carried.{IsAnswered, IsCarriedOut, IsPerformed}
 use Rattle.dtx_top.specs.Printing.{IsExciteLine, ExcitePrints}
-use Rattle.dtx_top.proofs.Answers.{answered_done, answered_line, complete_follows, kept_follows, what_follows, where_some}
+use Rattle.dtx_top.proofs.Answers.{answered_done, answered_line, complete_follows, kept_follows, some_then, what_follows, where_some}
 
 -- `excite` was done, and its line was printed, or not
 pub record IsExciteRun (asked : ExciteWords) (told now : Option Files) (missed misread miswritten unprinted : Type 0) (old new : Option (List ℕ)) (answer : Status) : Type 0 where
@@ -28,10 +30,11 @@ pub record IsExciteRun (asked : ExciteWords) (told now : Option Files) (missed m
   pub answered : IsAnswered (Some Excite) outcome (excite_names asked) unprinted old new answer
 
 pub excite_run : (words : List (List ℕ)) (told now : Option Files) (missed misread miswritten unprinted : Type 0) (old new : Option (List ℕ)) (answer : Status)
-    → IsCarriedOut words told now missed misread miswritten unprinted old new answer
+    → ((other : Command) → Fits other words → other ≢ Net → IsCarriedOut words told now missed misread miswritten unprinted old new answer)
     → IfSome (excite_words words) (λ asked. IsExciteRun asked told now missed misread miswritten unprinted old new answer)
-excite_run words told now missed misread miswritten unprinted old new answer run =
+excite_run words told now missed misread miswritten unprinted old new answer one =
     where_some (excite_words words) (λ asked. IsExciteRun asked told now missed misread miswritten unprinted old new answer) (λ asked is.
+    let run = one Excite (subst IsSome (sym is) refl) (λ e. cc) in
     let found : run.command ≡ Some Excite = run.only Excite (subst IsSome (sym is) refl) in
     record {
       outcome = run.outcome;
@@ -50,6 +53,8 @@ kept_cause asked told missed misread miswritten unprinted Same cause = cause
 kept_cause asked told missed misread miswritten unprinted (Absent i) cause = cause
 kept_cause asked told missed misread miswritten unprinted (Packet k) cause = cause
 kept_cause asked told missed misread miswritten unprinted TooLong cause = cause
+kept_cause asked told missed misread miswritten unprinted (OutOfFeed event) cause = cause
+kept_cause asked told missed misread miswritten unprinted (OutOfAir entry) cause = cause
 kept_cause asked told missed misread miswritten unprinted NoSync cause = cause
 kept_cause asked told missed misread miswritten unprinted ReadFault cause = cause
 kept_cause asked told missed misread miswritten unprinted Memory cause = cause
@@ -91,6 +96,8 @@ memory_left : (asked : ExciteWords) (told now : Option Files) (missed misread mi
     → ExciteLeaves asked told status now → ExciteLeaves asked told Memory now
 memory_left asked None now missed misread miswritten status cause left = tt
 memory_left asked (Some held) now missed misread miswritten Done cause left = whole_at asked held (get held asked.feed) now cause left
+memory_left asked (Some held) now missed misread miswritten (OutOfFeed event) cause left = left
+memory_left asked (Some held) now missed misread miswritten (OutOfAir entry) cause left = left
 memory_left asked (Some held) now missed misread miswritten NoSync cause left = left
 memory_left asked (Some held) now missed misread miswritten TooLong cause left = long_at asked held (get held asked.feed) now left
 memory_left asked (Some held) now missed misread miswritten Usage cause left = inl left
@@ -126,11 +133,7 @@ excited_unprinted asked told now missed misread miswritten unprinted old new ans
 
 of_feed : (asked : ExciteWords) (told : Option Files) (P Q : List ℕ → Type 0) → OfFeed asked told P → ((file : List ℕ) → P file → Q file) → OfFeed asked told Q
 of_feed asked None P Q is h = tt
-of_feed asked (Some held) P Q is h = at (get held asked.feed) is
-  where
-    at : (found : Option (List ℕ)) → IsSomeAnd found P → IsSomeAnd found Q
-    at None p = p
-    at (Some file) p = h file p
+of_feed asked (Some held) P Q is h = some_then (get held asked.feed) P Q is h
 
 pub excited_prints : (asked : ExciteWords) (told now : Option Files) (missed misread miswritten unprinted : Type 0) (old new : Option (List ℕ)) (answer : Status)
     → IsExciteRun asked told now missed misread miswritten unprinted old new answer → answer ≡ Done → ExcitePrints asked told old new

@@ -1,16 +1,18 @@
 -- What `run` answers, leaves and prints for `make`.
-use Rattle.std.proofs.Common.{◌≡◌, ◌⊎◌, ℕ, List, [], ◌∷◌, refl, sym, ap, subst, ◌∙◌, inl, inr, unwrap_or}
+use Rattle.std.proofs.Common.{◌≡◌, ◌≢◌, ◌⊎◌, ℕ, List, [], ◌∷◌, refl, sym, ap, subst, ◌∙◌, inl, inr, unwrap_or}
 use Rattle.std.specs.Prelude.{Option, Some, IfSome, IsSome}
 use Rattle.std.specs.Option.{option_map}
 use Rattle.dtx_outside.specs.Shelf.{Files}
 use Rattle.dtx_outside.proofs.Written.{part_of_written}
+use Rattle.dtx_words.specs.Command.{Fits}
 use Rattle.dtx_words.specs.Line.{done_line, HasLine}
 use Rattle.dtx_words.specs.Names.{names_of}
 use Rattle.dtx_words.specs.Printed.{printed}
 use Rattle.dtx_words.specs.Words.{MakeWords, make_names, make_words}
-use Rattle.dtx_words.specs.declared.verbs.Command.TheVariants.{Make}
+use Rattle.dtx_words.specs.declared.verbs.Command.{Command}
+use Rattle.dtx_words.specs.declared.verbs.Command.TheVariants.{Make, Net}
 use Rattle.dtx_words.specs.declared.status.Status.{Status}
-use Rattle.dtx_words.specs.declared.status.Status.TheVariants.{Done, Usage, Same, Absent, Plan, Packet, TooLong, NoSync, ReadFault, WriteFault, Memory}
+use Rattle.dtx_words.specs.declared.status.Status.TheVariants.{Done, Usage, Same, Absent, Plan, Packet, TooLong, OutOfFeed, OutOfAir, NoSync, ReadFault, WriteFault, Memory}
 use Rattle.dtx_jobs.specs.Make.{HasMakeCause, IsMakeOutcome, IsUntouchedOrBegun, MakeLeaves, ordered}
 use Rattle.dtx_jobs.specs.declared.outcome.Outcome.{Outcome}
 use Rattle.dtx_top.specs.Carried.{IsAnswered, IsCarriedOut, IsPerformed}
@@ -24,10 +26,11 @@ pub record IsMakeRun (making : MakeWords) (told now : Option Files) (miswritten 
   pub answered : IsAnswered (Some Make) outcome (make_names making) unprinted old new answer
 
 pub make_run : (words : List (List ℕ)) (told now : Option Files) (missed misread miswritten unprinted : Type 0) (old new : Option (List ℕ)) (answer : Status)
-    → IsCarriedOut words told now missed misread miswritten unprinted old new answer
+    → ((other : Command) → Fits other words → other ≢ Net → IsCarriedOut words told now missed misread miswritten unprinted old new answer)
     → IfSome (make_words words) (λ making. IsMakeRun making told now miswritten unprinted old new answer)
-make_run words told now missed misread miswritten unprinted old new answer run =
+make_run words told now missed misread miswritten unprinted old new answer one =
     where_some (make_words words) (λ making. IsMakeRun making told now miswritten unprinted old new answer) (λ making is.
+    let run = one Make (subst IsSome (sym is) refl) (λ e. cc) in
     let found : run.command ≡ Some Make = run.only Make (subst IsSome (sym is) refl) in
     record {
       outcome = run.outcome;
@@ -41,6 +44,8 @@ kept_cause : (miswritten unprinted : Type 0) (status : Status) → HasMakeCause 
 kept_cause miswritten unprinted WriteFault cause = inl cause
 kept_cause miswritten unprinted Done cause = cause
 kept_cause miswritten unprinted Usage cause = cause
+kept_cause miswritten unprinted (OutOfFeed event) cause = cause
+kept_cause miswritten unprinted (OutOfAir entry) cause = cause
 kept_cause miswritten unprinted NoSync cause = cause
 kept_cause miswritten unprinted Same cause = cause
 kept_cause miswritten unprinted (Absent i) cause = cause
@@ -70,6 +75,8 @@ make_complete making told now miswritten unprinted old new answer run unwritten 
 part_left : (making : MakeWords) (told now : Option Files) (status : Status) → MakeLeaves making told status now → IsUntouchedOrBegun making told now
 part_left making told now Done left = inr (part_of_written told now making.output (ordered making) left)
 part_left making told now Usage left = left
+part_left making told now (OutOfFeed event) left = left
+part_left making told now (OutOfAir entry) left = left
 part_left making told now NoSync left = left
 part_left making told now Same left = left
 part_left making told now (Absent i) left = left

@@ -1,25 +1,27 @@
 -- What `run` answers, leaves and prints for `receive`.
-use Rattle.std.proofs.Common.{◌≡◌, ◌≢◌, ◌⊎◌, ℕ, List, [], ◌++◌, refl, sym, ap, subst, ◌∙◌, inl, inr, unwrap_or}
-use Rattle.std.specs.Prelude.{Option, Some, None, Result, Ok, Err, IfSome, IsSome, IsSomeAnd}
+use Rattle.std.proofs.Common.{◌≡◌, ◌≢◌, ◌⊎◌, ℕ, List, [], refl, sym, ap, subst, ◌∙◌, inl, inr, unwrap_or}
+use Rattle.std.specs.Prelude.{Option, Some, None, IfSome, IsSome, IsSomeAnd}
 use Rattle.std.specs.FinMap.{get}
 use Rattle.std.specs.Option.{option_map}
 use Rattle.dtx_outside.specs.Shelf.{Files}
 use Rattle.dtx_outside.specs.Written.{IsWritten}
 use Rattle.dtx_outside.proofs.Written.{part_of_written, part_of_more}
+use Rattle.dtx_words.specs.Command.{Fits}
 use Rattle.dtx_words.specs.Line.{done_line, HasLine}
 use Rattle.dtx_words.specs.Names.{names_of, repeated}
 use Rattle.dtx_words.specs.Printed.{printed}
 use Rattle.dtx_words.specs.Words.{ReceiveWords, receive_names, receive_words}
-use Rattle.dtx_words.specs.declared.verbs.Command.TheVariants.{Receive}
+use Rattle.dtx_words.specs.declared.verbs.Command.{Command}
+use Rattle.dtx_words.specs.declared.verbs.Command.TheVariants.{Receive, Net}
 use Rattle.dtx_words.specs.declared.status.Status.{Status}
-use Rattle.dtx_words.specs.declared.status.Status.TheVariants.{Done, Usage, Same, Absent, Plan, Packet, TooLong, NoSync, ReadFault, WriteFault, Memory}
+use Rattle.dtx_words.specs.declared.status.Status.TheVariants.{Done, Usage, Same, Absent, Plan, Packet, TooLong, OutOfFeed, OutOfAir, NoSync, ReadFault, WriteFault, Memory}
 use Rattle.dtx_jobs.specs.Receive.{received_bytes}
 use Rattle.dtx_jobs.specs.Received.{OfSymbols, HasReceiveJobCause, CanBeReceived, StatusLeaves, ReceiveLeaves, IsReceiveOutcome, received_numbers}
 use Rattle.dtx_jobs.specs.declared.outcome.Outcome.{Outcome}
 use Rattle.dtx_top.specs.Answer.{HasReceiveAnswerCause}
 use Rattle.dtx_top.specs.Carried.{IsAnswered, IsCarriedOut, IsPerformed}
 use Rattle.dtx_top.specs.Printing.{IsReceiveLine, ReceivePrints}
-use Rattle.dtx_top.proofs.Answers.{answered_done, answered_line, complete_follows, kept_follows, what_follows, where_some}
+use Rattle.dtx_top.proofs.Answers.{answered_done, answered_line, complete_follows, kept_follows, some_then, what_follows, where_some}
 
 -- `receive` was done, and its line was printed, or not
 pub record IsReceiveRun (asked : ReceiveWords) (told now : Option Files) (missed misread miswritten unprinted : Type 0) (old new : Option (List ℕ)) (answer : Status) : Type 0 where
@@ -28,10 +30,11 @@ pub record IsReceiveRun (asked : ReceiveWords) (told now : Option Files) (missed
   pub answered : IsAnswered (Some Receive) outcome (receive_names asked) unprinted old new answer
 
 pub receive_run : (words : List (List ℕ)) (told now : Option Files) (missed misread miswritten unprinted : Type 0) (old new : Option (List ℕ)) (answer : Status)
-    → IsCarriedOut words told now missed misread miswritten unprinted old new answer
+    → ((other : Command) → Fits other words → other ≢ Net → IsCarriedOut words told now missed misread miswritten unprinted old new answer)
     → IfSome (receive_words words) (λ asked. IsReceiveRun asked told now missed misread miswritten unprinted old new answer)
-receive_run words told now missed misread miswritten unprinted old new answer run =
+receive_run words told now missed misread miswritten unprinted old new answer one =
     where_some (receive_words words) (λ asked. IsReceiveRun asked told now missed misread miswritten unprinted old new answer) (λ asked is.
+    let run = one Receive (subst IsSome (sym is) refl) (λ e. cc) in
     let found : run.command ≡ Some Receive = run.only Receive (subst IsSome (sym is) refl) in
     record {
       outcome = run.outcome;
@@ -50,6 +53,8 @@ kept_cause asked told missed misread miswritten unprinted Same cause = cause
 kept_cause asked told missed misread miswritten unprinted (Absent i) cause = cause
 kept_cause asked told missed misread miswritten unprinted (Packet k) cause = cause
 kept_cause asked told missed misread miswritten unprinted TooLong cause = cause
+kept_cause asked told missed misread miswritten unprinted (OutOfFeed event) cause = cause
+kept_cause asked told missed misread miswritten unprinted (OutOfAir entry) cause = cause
 kept_cause asked told missed misread miswritten unprinted NoSync cause = cause
 kept_cause asked told missed misread miswritten unprinted ReadFault cause = cause
 kept_cause asked told missed misread miswritten unprinted Memory cause = cause
@@ -90,6 +95,8 @@ memory_left : (asked : ReceiveWords) (told now : Option Files) (missed misread m
     → ReceiveLeaves asked told status now → ReceiveLeaves asked told Memory now
 memory_left asked None now missed misread miswritten status cause left = tt
 memory_left asked (Some held) now missed misread miswritten Done cause left = whole_at held asked.output (get held asked.input) now left
+memory_left asked (Some held) now missed misread miswritten (OutOfFeed event) cause left = left
+memory_left asked (Some held) now missed misread miswritten (OutOfAir entry) cause left = left
 memory_left asked (Some held) now missed misread miswritten NoSync cause left = none_at held asked.output (get held asked.input) now left
 memory_left asked (Some held) now missed misread miswritten TooLong cause left = inr left
 memory_left asked (Some held) now missed misread miswritten Usage cause left = inl left
@@ -125,11 +132,7 @@ received_unprinted asked told now missed misread miswritten unprinted old new an
 
 of_symbols : (asked : ReceiveWords) (told : Option Files) (P Q : List ℕ → Type 0) → OfSymbols asked told P → ((file : List ℕ) → P file → Q file) → OfSymbols asked told Q
 of_symbols asked None P Q is h = tt
-of_symbols asked (Some held) P Q is h = at (get held asked.input) is
-  where
-    at : (found : Option (List ℕ)) → IsSomeAnd found P → IsSomeAnd found Q
-    at None p = p
-    at (Some file) p = h file p
+of_symbols asked (Some held) P Q is h = some_then (get held asked.input) P Q is h
 
 pub received_prints : (asked : ReceiveWords) (told now : Option Files) (missed misread miswritten unprinted : Type 0) (old new : Option (List ℕ)) (answer : Status)
     → IsReceiveRun asked told now missed misread miswritten unprinted old new answer → answer ≡ Done → ReceivePrints asked told old new

@@ -1,5 +1,5 @@
 -- What `run` answers, leaves and prints for a command of one stream.
-use Rattle.std.proofs.Common.{◌≡◌, ◌⊎◌, ℕ, ◌*◌, ◌/◌, ◌≤◌, List, [], length, refl, sym, ap, subst, ◌∙◌, arith, inl, inr, unwrap_or}
+use Rattle.std.proofs.Common.{◌≡◌, ◌≢◌, ◌⊎◌, ℕ, ◌*◌, ◌/◌, ◌≤◌, List, [], length, refl, sym, ap, subst, ◌∙◌, arith, inl, inr, unwrap_or}
 use Rattle.std.specs.Prelude.{Option, Some, None, IfSome, IsSome, IsSomeAnd}
 use Rattle.std.specs.FinMap.{get}
 use Rattle.std.specs.Option.{option_map}
@@ -8,14 +8,15 @@ use Rattle.dtx_outside.specs.Written.{IsWritten}
 use Rattle.dtx_outside.proofs.Written.{part_of_written}
 use Rattle.dtx_packets.specs.Packets.{whole_packets, packets_of}
 use Rattle.dtx_coder.specs.Stream.{a53}
+use Rattle.dtx_words.specs.Command.{Fits}
 use Rattle.dtx_words.specs.Line.{done_line, code_line, HasLine}
 use Rattle.dtx_words.specs.Names.{names_of, repeated}
 use Rattle.dtx_words.specs.Printed.{printed}
 use Rattle.dtx_words.specs.Words.{CodeWords, code_names, code_words}
 use Rattle.dtx_words.specs.declared.verbs.Command.{Command}
-use Rattle.dtx_words.specs.declared.verbs.Command.TheVariants.{Code}
+use Rattle.dtx_words.specs.declared.verbs.Command.TheVariants.{Code, Net}
 use Rattle.dtx_words.specs.declared.status.Status.{Status}
-use Rattle.dtx_words.specs.declared.status.Status.TheVariants.{Done, Usage, Same, Absent, Plan, Packet, TooLong, NoSync, ReadFault, WriteFault, Memory}
+use Rattle.dtx_words.specs.declared.status.Status.TheVariants.{Done, Usage, Same, Absent, Plan, Packet, TooLong, OutOfFeed, OutOfAir, NoSync, ReadFault, WriteFault, Memory}
 use Rattle.dtx_jobs.specs.Output.{made_at, IsUntouchedOrPart}
 use Rattle.dtx_jobs.specs.Stream.{ArePlain, IsFirstStop}
 use Rattle.dtx_jobs.specs.Work.{Work, OfInput, IsPlainFile, coding, CanBeDone, HasJobCause, IsOutcome, Leaves, AreDoneNumbers, numbers_of}
@@ -23,7 +24,7 @@ use Rattle.dtx_jobs.specs.declared.outcome.Outcome.{Outcome}
 use Rattle.dtx_top.specs.Answer.{HasCause}
 use Rattle.dtx_top.specs.Carried.{IsAnswered, IsCarriedOut, IsPerformed}
 use Rattle.dtx_top.specs.Printing.{IsCodeLine, Prints}
-use Rattle.dtx_top.proofs.Answers.{answered_done, answered_line, complete_follows, kept_follows, what_follows, where_some}
+use Rattle.dtx_top.proofs.Answers.{answered_done, answered_line, complete_follows, kept_follows, some_then, what_follows, where_some}
 
 -- a command of one stream was done, and its line was printed, or not
 pub record IsStreamRun (command : Command) (work : Work) (told now : Option Files) (missed misread miswritten unprinted : Type 0) (old new : Option (List ℕ)) (answer : Status) : Type 0 where
@@ -32,10 +33,11 @@ pub record IsStreamRun (command : Command) (work : Work) (told now : Option File
   pub answered : IsAnswered (Some command) outcome work.names unprinted old new answer
 
 pub code_run : (words : List (List ℕ)) (told now : Option Files) (missed misread miswritten unprinted : Type 0) (old new : Option (List ℕ)) (answer : Status)
-    → IsCarriedOut words told now missed misread miswritten unprinted old new answer
+    → ((other : Command) → Fits other words → other ≢ Net → IsCarriedOut words told now missed misread miswritten unprinted old new answer)
     → IfSome (code_words words) (λ asked. IsStreamRun Code (coding asked) told now missed misread miswritten unprinted old new answer)
-code_run words told now missed misread miswritten unprinted old new answer run =
+code_run words told now missed misread miswritten unprinted old new answer one =
     where_some (code_words words) (λ asked. IsStreamRun Code (coding asked) told now missed misread miswritten unprinted old new answer) (λ asked is.
+    let run = one Code (subst IsSome (sym is) refl) (λ e. cc) in
     let found : run.command ≡ Some Code = run.only Code (subst IsSome (sym is) refl) in
     record {
       outcome = run.outcome;
@@ -50,6 +52,8 @@ kept_cause : (work : Work) (told : Option Files) (missed misread miswritten unpr
 kept_cause work told missed misread miswritten unprinted WriteFault cause = inl cause
 kept_cause work told missed misread miswritten unprinted Done cause = cause
 kept_cause work told missed misread miswritten unprinted Usage cause = cause
+kept_cause work told missed misread miswritten unprinted (OutOfFeed event) cause = cause
+kept_cause work told missed misread miswritten unprinted (OutOfAir entry) cause = cause
 kept_cause work told missed misread miswritten unprinted NoSync cause = cause
 kept_cause work told missed misread miswritten unprinted Same cause = cause
 kept_cause work told missed misread miswritten unprinted (Absent i) cause = cause
@@ -103,18 +107,16 @@ stopped_at work held None k now stop left = absurd stop
 stopped_at work held (Some file) k now stop left =
     part_of_whole work held file (4 * (k / 4)) now (omega (arith, stop.allowed)) (groups_plain work file k stop) left
 
-and_then : (found : Option (List ℕ)) (P Q : List ℕ → Type 0) → IsSomeAnd found P → ((file : List ℕ) → P file → Q file) → IsSomeAnd found Q
-and_then None P Q some h = some
-and_then (Some file) P Q some h = h file some
-
 memory_left : (work : Work) (told now : Option Files) (missed misread miswritten : Type 0) (status : Status) → HasJobCause work told missed misread miswritten status → Leaves work told status now
     → Leaves work told Memory now
 memory_left work None now missed misread miswritten status cause left = tt
 memory_left work (Some held) now missed misread miswritten Done cause left = memory_at work held (get held work.input) now cause left
 memory_left work (Some held) now missed misread miswritten (Packet k) cause left =
-    stopped_at work held (get held work.input) k now (and_then (get held work.input) _ _ cause (λ file h. h.0)) left
+    stopped_at work held (get held work.input) k now (some_then (get held work.input) _ _ cause (λ file h. h.0)) left
 memory_left work (Some held) now missed misread miswritten (Plan refusal) cause left = absurd cause
 memory_left work (Some held) now missed misread miswritten Usage cause left = absurd cause
+memory_left work (Some held) now missed misread miswritten (OutOfFeed event) cause left = absurd cause
+memory_left work (Some held) now missed misread miswritten (OutOfAir entry) cause left = absurd cause
 memory_left work (Some held) now missed misread miswritten NoSync cause left = absurd cause
 memory_left work (Some held) now missed misread miswritten Same cause left = inl left
 memory_left work (Some held) now missed misread miswritten (Absent i) cause left = inl left

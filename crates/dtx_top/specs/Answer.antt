@@ -3,8 +3,9 @@ use Rattle.std.specs.Prelude.{◌⊎◌, Option}
 use Rattle.dtx_outside.specs.Shelf.{Files}
 use Rattle.dtx_jobs.specs.Adapt.{HasAdaptCause}
 use Rattle.dtx_jobs.specs.Excited.{OfFeed, IsFeed, HasExciteJobCause}
+use Rattle.dtx_jobs.specs.Hurting.{HasHurtCause}
 use Rattle.dtx_jobs.specs.Received.{OfSymbols, IsReceivable, HasReceiveJobCause}
-use Rattle.dtx_words.specs.Words.{AdaptWords, ExciteWords, ReceiveWords}
+use Rattle.dtx_words.specs.Words.{AdaptWords, ExciteWords, HurtWords, ReceiveWords}
 use Rattle.dtx_jobs.specs.Work.{Work, OfInput, IsPlainFile, HasJobCause}
 use Rattle.dtx_words.specs.declared.status.Status.{Status}
 use Rattle.dtx_words.specs.declared.status.Status.TheVariants.{Done, WriteFault}
@@ -33,3 +34,9 @@ abbrev pub HasAdaptAnswerCause : AdaptWords → Option Files → Type 0 → Type
 HasAdaptAnswerCause asked told missed misread miswritten unprinted WriteFault =
     HasAdaptCause asked told missed misread miswritten WriteFault ⊎ (unprinted × HasAdaptCause asked told missed misread miswritten Done)
 HasAdaptAnswerCause asked told missed misread miswritten unprinted status = HasAdaptCause asked told missed misread miswritten status
+
+-- the same of `hurt`
+abbrev pub HasHurtAnswerCause : HurtWords → Option Files → Type 0 → Type 0 → Type 0 → Type 0 → Status → Type 0
+HasHurtAnswerCause asked told missed misread miswritten unprinted WriteFault =
+    HasHurtCause asked told missed misread miswritten WriteFault ⊎ (unprinted × HasHurtCause asked told missed misread miswritten Done)
+HasHurtAnswerCause asked told missed misread miswritten unprinted status = HasHurtCause asked told missed misread miswritten status

@@ -1,3 +1,4 @@
 pub mod Answer
 pub mod Carried
 pub mod Printing
+pub mod Networking

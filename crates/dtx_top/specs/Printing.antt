@@ -7,10 +7,11 @@ use Rattle.dtx_outside.specs.Shelf.{Files}
 use Rattle.dtx_packets.specs.Packets.{packets_of, whole_packets}
 use Rattle.dtx_words.specs.Line.{done_line, feed_line, code_line, made_line}
 use Rattle.dtx_words.specs.Printed.{printed}
-use Rattle.dtx_words.specs.Words.{AdaptWords, ExciteWords, MakeWords, ReceiveWords}
-use Rattle.dtx_words.specs.declared.verbs.Command.TheVariants.{Excite, Receive}
+use Rattle.dtx_words.specs.Words.{AdaptWords, ExciteWords, HurtWords, MakeWords, ReceiveWords}
+use Rattle.dtx_words.specs.declared.verbs.Command.TheVariants.{Excite, Hurt, Receive}
 use Rattle.dtx_jobs.specs.Adapt.{AreFeedNumbers}
 use Rattle.dtx_jobs.specs.Excited.{OfFeed, excited_numbers}
+use Rattle.dtx_jobs.specs.Hurting.{UnderDamage, OfFile, hurt_numbers}
 use Rattle.dtx_jobs.specs.Received.{OfSymbols, received_numbers}
 use Rattle.dtx_jobs.specs.Work.{Work, OfInput, AreItsNumbers, command_of, numbers_of}
 
@@ -47,6 +48,14 @@ IsReceiveLine asked told text = (numbers : List ℕ) × (text ≡ done_line Rece
 -- that line was printed
 abbrev pub ReceivePrints : ReceiveWords → Option Files → Option (List ℕ) → Option (List ℕ) → Type 0
 ReceivePrints asked told old new = OfSymbols asked told (λ file. new ≡ printed (done_line Receive (received_numbers file)) old)
+
+-- the line of a damaged file
+abbrev pub IsHurtLine : HurtWords → Option Files → List ℕ → Type 0
+IsHurtLine asked told text = (numbers : List ℕ) × (text ≡ done_line Hurt numbers) × UnderDamage asked told (OfFile (λ damage file. numbers ≡ hurt_numbers damage file))
+
+-- that line was printed
+abbrev pub HurtPrints : HurtWords → Option Files → Option (List ℕ) → Option (List ℕ) → Type 0
+HurtPrints asked told old new = UnderDamage asked told (OfFile (λ damage file. new ≡ printed (done_line Hurt (hurt_numbers damage file)) old))
 
 -- the line of a made stream
 abbrev pub IsMadeLine : MakeWords → List ℕ → Type 0

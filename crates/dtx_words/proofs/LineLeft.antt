@@ -5,7 +5,7 @@ use Rattle.std.proofs.Math.Seq.{take-length}
 use Rattle.dtx_outside.specs.declared.sink.SinkNo.{SinkNo}
 use Rattle.dtx_outside.specs.declared.sink.SinkNo.TheVariants as sink
 use Rattle.dtx_words.specs.declared.status.Status.{Status}
-use Rattle.dtx_words.specs.declared.status.Status.TheVariants.{Done, Usage, Same, Absent, Plan, Packet, TooLong, NoSync, ReadFault, WriteFault, Memory}
+use Rattle.dtx_words.specs.declared.status.Status.TheVariants.{Done, Usage, Same, Absent, Plan, Packet, TooLong, OutOfFeed, OutOfAir, NoSync, ReadFault, WriteFault, Memory}
 use Rattle.dtx_words.specs.declared.verbs.Command.{Command}
 use Rattle.dtx_words.specs.Line.{done_line, line_of, refusal_line, IsLine, HasPartLine, HasLine, finished}
 use Rattle.dtx_words.specs.Names.{line_name}
@@ -43,6 +43,8 @@ line_of-IsLine IsDoneLine names command (Absent i) numbers name done e = ap (ref
 line_of-IsLine IsDoneLine names command (Plan refusal) numbers name done e = ap (refusal_line (Plan refusal)) e
 line_of-IsLine IsDoneLine names command (Packet k) numbers name done e = ap (refusal_line (Packet k)) e
 line_of-IsLine IsDoneLine names command TooLong numbers name done e = ap (refusal_line TooLong) e
+line_of-IsLine IsDoneLine names command (OutOfFeed event) numbers name done e = ap (refusal_line (OutOfFeed event)) e
+line_of-IsLine IsDoneLine names command (OutOfAir entry) numbers name done e = ap (refusal_line (OutOfAir entry)) e
 line_of-IsLine IsDoneLine names command NoSync numbers name done e = ap (refusal_line NoSync) e
 line_of-IsLine IsDoneLine names command ReadFault numbers name done e = ap (refusal_line ReadFault) e
 line_of-IsLine IsDoneLine names command WriteFault numbers name done e = ap (refusal_line WriteFault) e

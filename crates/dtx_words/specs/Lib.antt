@@ -2,6 +2,7 @@ pub mod Behind
 pub mod Command
 pub mod Line
 pub mod Names
+pub mod NetworkNames
 pub mod Number
 pub mod Printed
 pub mod Status

@@ -9,7 +9,7 @@ use Rattle.dtx_packets.specs.declared.refusal.NextNo.TheVariants as next
 use Rattle.dtx_plan.specs.declared.refusal.PlanFault.{PlanFault}
 use Rattle.dtx_plan.specs.declared.refusal.PlanFault.TheVariants as plan
 use Rattle.dtx_words.specs.declared.status.Status.{Status}
-use Rattle.dtx_words.specs.declared.status.Status.TheVariants.{Done, Usage, Same, Absent, Plan, Packet, TooLong, NoSync, ReadFault, WriteFault, Memory}
+use Rattle.dtx_words.specs.declared.status.Status.TheVariants.{Done, Usage, Same, Absent, Plan, Packet, TooLong, OutOfFeed, OutOfAir, NoSync, ReadFault, WriteFault, Memory}
 
 abbrev pub code_of : Status → ℕ
 code_of Done = 0
@@ -19,6 +19,8 @@ code_of (Absent n) = 4
 code_of (Plan refusal) = 5
 code_of (Packet k) = 6
 code_of TooLong = 7
+code_of (OutOfFeed event) = 8
+code_of (OutOfAir entry) = 9
 code_of NoSync = 10
 code_of ReadFault = 11
 code_of WriteFault = 12

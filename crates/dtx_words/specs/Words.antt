@@ -27,10 +27,20 @@ pub record ReceiveWords : Type 0 where
   pub input : List ℕ
   pub output : List ℕ
 
+-- the words of `net PLAN`
+pub record NetWords : Type 0 where
+  pub plan : List ℕ
+
 -- the words of `make SEED COUNT OUT`
 pub record MakeWords : Type 0 where
   pub seed : ℕ
   pub count : ℕ
+  pub output : List ℕ
+
+-- the words of `hurt IN CHANGES OUT`
+pub record HurtWords : Type 0 where
+  pub input : List ℕ
+  pub changes : List ℕ
   pub output : List ℕ
 
 -- a word fits a file name if it isn't empty
@@ -64,6 +74,10 @@ abbrev pub receive_arguments : List (List ℕ) → Option ReceiveWords
 receive_arguments (input ∷ output ∷ []) = if is_name input && is_name output then Some (record { input = input; output = output }) else None
 receive_arguments _ = None
 
+abbrev pub net_arguments : List (List ℕ) → Option NetWords
+net_arguments (plan ∷ []) = if is_name plan then Some (record { plan = plan }) else None
+net_arguments _ = None
+
 abbrev pub make_with : Option ℕ → Option ℕ → List ℕ → Option MakeWords
 make_with (Some seed) (Some count) output = if is_name output then Some (record { seed = seed; count = count; output = output }) else None
 make_with _ _ output = None
@@ -71,6 +85,11 @@ make_with _ _ output = None
 abbrev pub make_arguments : List (List ℕ) → Option MakeWords
 make_arguments (seed ∷ count ∷ output ∷ []) = make_with (number_in (2 ^ 64 - 1) seed) (number_in 624000000 count) output
 make_arguments _ = None
+
+abbrev pub hurt_arguments : List (List ℕ) → Option HurtWords
+hurt_arguments (input ∷ changes ∷ output ∷ []) =
+    if is_name input && is_name changes && is_name output then Some (record { input = input; changes = changes; output = output }) else None
+hurt_arguments _ = None
 
 -- the words, where they fit `adapt`
 abbrev pub adapt_words : List (List ℕ) → Option AdaptWords
@@ -88,9 +107,17 @@ excite_words = behind_verb (codes "excite") excite_arguments
 abbrev pub receive_words : List (List ℕ) → Option ReceiveWords
 receive_words = behind_verb (codes "receive") receive_arguments
 
+-- the words, where they fit `net`
+abbrev pub net_words : List (List ℕ) → Option NetWords
+net_words = behind_verb (codes "net") net_arguments
+
 -- the words, where they fit `make`: a seed of 64 bits, at most 624,000,000 packets
 abbrev pub make_words : List (List ℕ) → Option MakeWords
 make_words = behind_verb (codes "make") make_arguments
+
+-- the words, where they fit `hurt`
+abbrev pub hurt_words : List (List ℕ) → Option HurtWords
+hurt_words = behind_verb (codes "hurt") hurt_arguments
 
 -- the file names of `adapt`, its inputs first
 abbrev pub adapt_names : AdaptWords → List (List ℕ)
@@ -108,6 +135,14 @@ excite_names words = words.feed ∷ words.output ∷ words.log ∷ []
 abbrev pub receive_names : ReceiveWords → List (List ℕ)
 receive_names words = words.input ∷ words.output ∷ []
 
+-- the file names among the words of `net`: the others stand in the plan, and are known to the command alone
+abbrev pub net_names : NetWords → List (List ℕ)
+net_names words = words.plan ∷ []
+
 -- the file names of `make`
 abbrev pub make_names : MakeWords → List (List ℕ)
 make_names words = words.output ∷ []
+
+-- the file names of `hurt`, its inputs first
+abbrev pub hurt_names : HurtWords → List (List ℕ)
+hurt_names words = words.input ∷ words.changes ∷ words.output ∷ []

@@ -3,7 +3,9 @@ ghost use Rattle.std.specs.Prelude.{◌≡◌, ◌↔◌, Some, IfSome, IsTrue};
 ghost use Rattle.dtx_words.specs.Command.{command_named, Fits};
 
 use crate::Command;
-use crate::words::{adapt_words, code_words, excite_words, make_words, receive_words};
+use crate::words::{
+    adapt_words, code_words, excite_words, hurt_words, make_words, net_words, receive_words,
+};
 use dtx_outside::Word;
 
 /// The command that the words fit, or `None` where they fit none.
@@ -24,7 +26,9 @@ fn command_named(verb: &Word) -> Option<Command>
         "code" => Some(Command::Code),
         "excite" => Some(Command::Excite),
         "receive" => Some(Command::Receive),
+        "net" => Some(Command::Net),
         "make" => Some(Command::Make),
+        "hurt" => Some(Command::Hurt),
         _ => None,
     }
 }
@@ -38,6 +42,8 @@ fn fits(command: Command, words: &[Word]) -> bool
         Command::Code => code_words(words).is_some(),
         Command::Excite => excite_words(words).is_some(),
         Command::Receive => receive_words(words).is_some(),
+        Command::Net => net_words(words).is_some(),
         Command::Make => make_words(words).is_some(),
+        Command::Hurt => hurt_words(words).is_some(),
     }
 }

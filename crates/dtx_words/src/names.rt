@@ -3,7 +3,9 @@ ghost use Rattle.std.specs.Prelude.{◌≡◌, map};
 ghost use Rattle.std.specs.Option.{option_map};
 ghost use Rattle.dtx_words.specs.Names.{line_name, names_of, repeated};
 
-use crate::words::{adapt_words, code_words, excite_words, make_words, receive_words};
+use crate::words::{
+    adapt_words, code_words, excite_words, hurt_words, make_words, net_words, receive_words,
+};
 use crate::{Command, Status};
 use dtx_outside::Word;
 
@@ -41,8 +43,16 @@ pub fn name_in_line<'a>(command: Option<Command>, words: &'a [Word], status: Sta
             Some(names) => name_among(status, &names.files()),
             None => name_among(status, &[]),
         },
+        Some(Command::Net) => match net_words(words) {
+            Some(names) => name_among(status, &names.files()),
+            None => name_among(status, &[]),
+        },
         Some(Command::Make) => match make_words(words) {
             Some(order) => name_among(status, &order.files()),
+            None => name_among(status, &[]),
+        },
+        Some(Command::Hurt) => match hurt_words(words) {
+            Some(names) => name_among(status, &names.files()),
             None => name_among(status, &[]),
         },
         None => name_among(status, &[]),

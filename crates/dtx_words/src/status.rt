@@ -24,6 +24,10 @@ pub enum Status {
     Packet(u64),
     /// An input holds more than the command takes.
     TooLong,
+    /// The event of that number is the first that reads past the feed.
+    OutOfFeed(u32),
+    /// The entry of damage of that number is the first that ends behind the file.
+    OutOfAir(u32),
     /// No whole segment that is received looks like a field sync.
     NoSync,
     /// Reading failed.
@@ -47,6 +51,8 @@ impl Status {
             Status::Plan(_) => 5,
             Status::Packet(_) => 6,
             Status::TooLong => 7,
+            Status::OutOfFeed(_) => 8,
+            Status::OutOfAir(_) => 9,
             Status::NoSync => 10,
             Status::ReadFault => 11,
             Status::WriteFault => 12,

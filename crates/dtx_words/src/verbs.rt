@@ -11,6 +11,10 @@ pub enum Command {
     Excite,
     /// `receive IN OUT`
     Receive,
+    /// `net PLAN`
+    Net,
     /// `make SEED COUNT OUT`
     Make,
+    /// `hurt IN CHANGES OUT`
+    Hurt,
 }

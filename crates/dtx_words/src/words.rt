@@ -1,8 +1,8 @@
 // What the words of each command name.
 ghost use Rattle.std.specs.Prelude.{◌≡◌, map};
 ghost use Rattle.std.specs.Option.{option_map};
-ghost use Rattle.dtx_words.specs.Behind.{adapt_behind, code_behind, excite_behind, make_behind, receive_behind};
-ghost use Rattle.dtx_words.specs.Words.{adapt_names, adapt_words, code_names, code_words, excite_names, excite_words, is_name, make_names, make_words, receive_names, receive_words};
+ghost use Rattle.dtx_words.specs.Behind.{adapt_behind, code_behind, excite_behind, hurt_behind, make_behind, net_behind, receive_behind};
+ghost use Rattle.dtx_words.specs.Words.{adapt_names, adapt_words, code_names, code_words, excite_names, excite_words, hurt_names, hurt_words, is_name, make_names, make_words, net_names, net_words, receive_names, receive_words};
 
 use crate::number::number_up_to;
 use dtx_outside::Word;
@@ -88,6 +88,22 @@ impl<'a> ReceiveNames<'a> {
     }
 }
 
+/// The file name of `net PLAN`. The plan names the other files, so those are known to the command alone.
+#[derive(Clone, Copy)]
+pub struct NetNames<'a> {
+    /// The plan, which is input 0.
+    pub plan: &'a str,
+}
+
+impl<'a> NetNames<'a> {
+    /// The only file name among the words.
+    pub fn files(&self) -> [&'a str; 1]
+        ensures { map (λ name. name.now) result ≡ net_names (net_behind self.now) }
+    {
+        [self.plan]
+    }
+}
+
 /// What `make SEED COUNT OUT` is to make: the packets 0 to `count - 1` of a seed, in a file of that name.
 #[derive(Clone, Copy)]
 pub struct MakeOrder<'a> {
@@ -105,6 +121,26 @@ impl<'a> MakeOrder<'a> {
         ensures { map (λ name. name.now) result ≡ make_names (make_behind self.now) }
     {
         [self.output]
+    }
+}
+
+/// The file names of `hurt IN CHANGES OUT`.
+#[derive(Clone, Copy)]
+pub struct HurtNames<'a> {
+    /// The file to be damaged, which is input 0.
+    pub input: &'a str,
+    /// The damage, which is input 1.
+    pub changes: &'a str,
+    /// The damaged file.
+    pub output: &'a str,
+}
+
+impl<'a> HurtNames<'a> {
+    /// All of them, the inputs first.
+    pub fn files(&self) -> [&'a str; 3]
+        ensures { map (λ name. name.now) result ≡ hurt_names (hurt_behind self.now) }
+    {
+        [self.input, self.changes, self.output]
     }
 }
 
@@ -175,6 +211,18 @@ pub fn receive_words(words: &[Word]) -> Option<ReceiveNames<'_>>
     }
 }
 
+/// What the words name where they fit `net`, else `None`.
+pub fn net_words(words: &[Word]) -> Option<NetNames<'_>>
+    ensures { option_map net_behind result ≡ net_words words.now }
+{
+    match words {
+        [verb, plan] if verb.as_str() == "net" && is_name(plan) => Some(NetNames {
+            plan: plan.as_str(),
+        }),
+        _ => None,
+    }
+}
+
 /// What the words order where they fit `make`, else `None`.
 pub fn make_words(words: &[Word]) -> Option<MakeOrder<'_>>
     ensures { option_map make_behind result ≡ make_words words.now }
@@ -184,6 +232,23 @@ pub fn make_words(words: &[Word]) -> Option<MakeOrder<'_>>
             Some(MakeOrder {
                 seed: number_up_to(u64::MAX, seed.as_str())?,
                 count: number_up_to(MOST_PACKETS, count.as_str())?,
+                output: output.as_str(),
+            })
+        }
+        _ => None,
+    }
+}
+
+/// What the words name where they fit `hurt`, else `None`.
+pub fn hurt_words(words: &[Word]) -> Option<HurtNames<'_>>
+    ensures { option_map hurt_behind result ≡ hurt_words words.now }
+{
+    match words {
+        [verb, input, changes, output]
+            if verb.as_str() == "hurt" && is_name(input) && is_name(changes) && is_name(output) => {
+            Some(HurtNames {
+                input: input.as_str(),
+                changes: changes.as_str(),
                 output: output.as_str(),
             })
         }

@@ -24,7 +24,16 @@ fn each_line_ends_in_a_line_feed_and_has_its_numbers_in_order(rt: HostRuntime) -
             "segments 8 runs 9 packets 3 fixed 1 flagged 2 loose 5\n",
         ),
         ("receive", 2, Status::NoSync, "no sync\n"),
+        (
+            "net",
+            1,
+            Status::Done,
+            "feed 8 filled 9 steps 3 packets 1 fixed 2 flagged 5\n",
+        ),
+        ("net", 1, Status::OutOfFeed(3), "out of feed 3\n"),
         ("make", 3, Status::Done, "packets 8\n"),
+        ("hurt", 3, Status::Done, "bytes 8 damaged 9\n"),
+        ("hurt", 3, Status::OutOfAir(12), "out of air 12\n"),
         ("code", 2, Status::Packet(417), "packet 417\n"),
         (
             "adapt",
@@ -49,5 +58,14 @@ fn each_line_ends_in_a_line_feed_and_has_its_numbers_in_order(rt: HostRuntime) -
         assert!(rt; line(command, &status, &numbers, "x", &mut out).is_ok());
         assert_eq!(rt; out.bytes(), text.as_bytes());
     }
+    Ok(())
+}
+
+#[test]
+fn the_line_of_a_network_without_a_receiver_has_three_numbers(rt: HostRuntime) -> Result<(), Fail> {
+    let mut out = MemorySink::new(rt.alloc());
+    let numbers = [1872, 468, 9];
+    assert!(rt; line(Some(Command::Net), &Status::Done, &numbers, "", &mut out).is_ok());
+    assert_eq!(rt; out.bytes(), b"feed 1872 filled 468 steps 9\n".as_slice());
     Ok(())
 }

@@ -1,13 +1,11 @@
 use Rattle.dtx_jobs.proofs.Asking.{begun_at, begun_cause, begun_left, not_begun}
 use Rattle.dtx_jobs.specs.declared.stream.Source.TheVariants.{Adapted}
-use Rattle.std.proofs.Common.{◌≡◌, [], unwrap_or, sym, ap, subst, ◌∙◌}
+use Rattle.std.proofs.Common.{sym, ap, subst, ◌∙◌}
 use Rattle.std.specs.Prelude.{Err, IfSome, IfOk}
 use Rattle.std.specs.FinMap.{get}
 use Rattle.std.proofs.lemmas.Result.{err_from_is_err_and}
 use Rattle.dtx_jobs.specs.Output.{IsBegunLeft}
-use Rattle.dtx_adapter.specs.Feed.{placeholders}
-use Rattle.dtx_packets.specs.Packets.{packets_of}
-use Rattle.dtx_jobs.specs.Feed.{feed_bytes}
+use Rattle.dtx_jobs.specs.Feed.{feed_bytes, IsAllFed}
 use Rattle.dtx_jobs.proofs.FeedBytes.{feed_none}
 use Rattle.dtx_jobs.proofs.adapt_job.begin_feed.Goals as goal
 
@@ -29,5 +27,5 @@ returns-clause-left g c = λ plan feeding apart.
 
 pub returns-clause-filled : goal.returns-clause-filled
 returns-clause-filled g c = λ plan feeding apart.
-    begun_at (λ found. IfOk c.write_feed.result (λ counts. c.write_feed.new.feeder.filled ≡ placeholders (packets_of (unwrap_or found [])))) (g.S.Shelf.files c.args.shelf.now) (g.S.Shelf.files c.begin.new.self)
+    begun_at (λ found. IfOk c.write_feed.result (λ counts. IsAllFed found c.write_feed.new.feeder.filled)) (g.S.Shelf.files c.args.shelf.now) (g.S.Shelf.files c.begin.new.self)
     c.args.input.now c.args.output.now apart c.in_ok-begin.ensures.files (c.write_feed.ensures.filled plan feeding apart)

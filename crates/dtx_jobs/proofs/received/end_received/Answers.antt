@@ -1,7 +1,7 @@
-use Rattle.std.proofs.Common.{◌≡◌, ◌++◌, refl, ap, sym, subst, ◌∙◌, arith}
+use Rattle.std.proofs.Common.{◌++◌, refl, ap, sym, subst, ◌∙◌, arith}
 use Rattle.std.specs.Prelude.{Err}
 use Rattle.std.proofs.lemmas.Result.{err_from_is_err_and}
-use Rattle.dtx_outside.specs.Written.{IsGathered, IsPartWritten, IsWritten}
+use Rattle.dtx_outside.specs.Written.{IsPartWritten, IsWritten}
 use Rattle.dtx_receiver.specs.Packets.{given}
 use Rattle.dtx_jobs.specs.Receive.{IsReceivedEnd}
 use Rattle.dtx_jobs.specs.Reception.{bytes_of}

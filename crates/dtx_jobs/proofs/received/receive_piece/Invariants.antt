@@ -1,4 +1,4 @@
-use Rattle.std.proofs.Common.{◌≡◌, ◌≤◌, ◌+◌, ◌++◌, ℕ, List}
+use Rattle.std.proofs.Common.{◌≡◌, ◌≤◌, ◌+◌, ◌++◌, List}
 use Rattle.std.specs.Prelude.{Option, ℤ}
 use Rattle.dtx_outside.specs.Shelf.{Files}
 use Rattle.dtx_outside.specs.Written.{IsGathered}

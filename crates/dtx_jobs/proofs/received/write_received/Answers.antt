@@ -1,6 +1,5 @@
-use Rattle.std.proofs.Common.{◌≡◌, ◌+◌, ◌*◌, ◌≤◌, length, refl, sym, ap, subst, ◌∙◌, arith}
-use Rattle.std.specs.Prelude.{Ok, Err, Some, IfSome, IfErr}
-use Rattle.std.specs.FinMap.{get}
+use Rattle.std.proofs.Common.{◌*◌, ◌≤◌, length, refl, ap, subst, ◌∙◌, arith}
+use Rattle.std.specs.Prelude.{Ok, Err}
 use Rattle.std.proofs.lemmas.Option.{IfSome_then}
 use Rattle.std.proofs.lemmas.Result.{err_from_is_err_and}
 use Rattle.std.proofs.lemmas.List.{length-take-le}
@@ -17,7 +16,7 @@ loop-read-init g c = record {
   room = c.requires.room;
   bounded = c.requires.bounded;
   count = c.requires.none;
-  so_far = λ apart. nothing_read (g.S.Shelf.files c.args.shelf.now) c.args.input.now c.args.output.now c.args.packets.now c.args.reception.now c.requires.empty c.requires.receiving;
+  so_far = λ apart. nothing_read (g.S.Shelf.files c.args.shelf.now) c.args.input.now.damage c.args.input.now.name.now c.args.output.now c.args.packets.now c.args.reception.now c.requires.empty c.requires.receiving;
   read_faults = omega arith;
   write_faults = omega arith;
   misses = omega arith;
@@ -26,7 +25,9 @@ loop-read-init g c = record {
 pub returns-in_err-receive_piece-clause-left : goal.returns-in_err-receive_piece-clause-left
 returns-in_err-receive_piece-clause-left g c = λ apart.
     let told = g.S.Shelf.files c.args.shelf.now in
-    let input = c.args.input.now in
+    let input = c.args.input.now.name.now in
+    let damage = c.args.input.now.damage in
+    let number = c.args.input.now.number in
     let output = c.args.output.now in
     let read = c.loop-read.read in
     let piece = c.next_symbols-piece.result in
@@ -37,14 +38,16 @@ returns-in_err-receive_piece-clause-left g c = λ apart.
     let then = c.receive_piece.new.packets in
     let within : 832 * piece.segments ≤ length bytes = omega (arith, c.next_symbols-piece.ensures.segments, c.next_symbols-piece.auto.bytes, c.loop-read.invariant.room) in
     let p = err_from_is_err_and c.from_residual.result c.from_residual.ensures.1 in
-    file_unwritten told after after input output then bytes read piece (Err c.in_err-receive_piece.field-0.0) c.in_err-receive_piece.field-0.0 c.from_residual.result (p.1 ∙ ap Err p.2)
-    (piece_received told now mid after input output c.loop-read.packets then bytes read c.loop-read.reception piece (Err c.in_err-receive_piece.field-0.0) apart within c.next_symbols-piece.ensures.kept (c.loop-read.invariant.so_far apart) c.next_symbols-piece.ensures.told c.in_err-receive_piece.ensures.written)
+    file_unwritten told after after damage number input output then bytes read piece (Err c.in_err-receive_piece.field-0.0) c.in_err-receive_piece.field-0.0 c.from_residual.result (p.1 ∙ ap Err p.2)
+    (piece_received told now mid after damage number input output c.loop-read.packets then bytes read c.loop-read.reception piece (Err c.in_err-receive_piece.field-0.0) apart within c.next_symbols-piece.ensures.kept (c.loop-read.invariant.so_far apart) c.next_symbols-piece.ensures.told c.in_err-receive_piece.ensures.written)
     (λ start bs part. part)
 
 pub loop-read-preserved : goal.loop-read-preserved
 loop-read-preserved g c =
     let told = g.S.Shelf.files c.args.shelf.now in
-    let input = c.args.input.now in
+    let input = c.args.input.now.name.now in
+    let damage = c.args.input.now.damage in
+    let number = c.args.input.now.number in
     let output = c.args.output.now in
     let read = c.loop-read.read in
     let piece = c.next_symbols-piece.result in
@@ -62,8 +65,8 @@ loop-read-preserved g c =
       room = omega (arith, c.next_symbols-piece.auto.bytes, before.room);
       bounded = c.in_ok-receive_piece.ensures.bounded refl;
       count = omega (arith, c.in_ok-receive_piece.ensures.count refl, before.count, within, length-take-le (832 * piece.segments) bytes within);
-      so_far = λ apart. received_on told after input output then bytes read c.loop-read.reception c.receive_piece.new.reception c.loop-read.packets now piece tt
-          (piece_received told now mid after input output c.loop-read.packets then bytes read c.loop-read.reception piece (Ok tt) apart within c.next_symbols-piece.ensures.kept (c.loop-read.invariant.so_far apart) c.next_symbols-piece.ensures.told c.in_ok-receive_piece.ensures.written) (before.so_far apart) (c.in_ok-receive_piece.ensures.receiving refl);
+      so_far = λ apart. received_on told after damage number input output then bytes read c.loop-read.reception c.receive_piece.new.reception c.loop-read.packets now piece tt
+          (piece_received told now mid after damage number input output c.loop-read.packets then bytes read c.loop-read.reception piece (Ok tt) apart within c.next_symbols-piece.ensures.kept (c.loop-read.invariant.so_far apart) c.next_symbols-piece.ensures.told c.in_ok-receive_piece.ensures.written) (before.so_far apart) (c.in_ok-receive_piece.ensures.receiving refl);
       read_faults = omega (arith, before.read_faults, c.next_symbols-piece.ensures.read_faults, c.receive_piece.ensures.read_faults);
       write_faults = omega (arith, before.write_faults, c.next_symbols-piece.ensures.write_faults, c.receive_piece.ensures.write_faults);
       misses = omega (arith, before.misses, c.next_symbols-piece.ensures.misses, c.receive_piece.ensures.misses);
@@ -72,7 +75,9 @@ loop-read-preserved g c =
 pub returns-in-Loose-clause-cause : goal.returns-in-Loose-clause-cause
 returns-in-Loose-clause-cause g c = λ apart.
     let told = g.S.Shelf.files c.args.shelf.now in
-    let input = c.args.input.now in
+    let input = c.args.input.now.name.now in
+    let damage = c.args.input.now.damage in
+    let number = c.args.input.now.number in
     let output = c.args.output.now in
     let read = c.loop-read.read in
     let piece = c.next_symbols-piece.result in
@@ -82,17 +87,19 @@ returns-in-Loose-clause-cause g c = λ apart.
     let after = g.S.Shelf.files c.receive_piece.new.shelf in
     let then = c.receive_piece.new.packets in
     let within : 832 * piece.segments ≤ length bytes = omega (arith, c.next_symbols-piece.ensures.segments, c.next_symbols-piece.auto.bytes, c.loop-read.invariant.room) in
-    let come = piece_received told now mid after input output c.loop-read.packets then bytes read c.loop-read.reception piece (Ok tt) apart within c.next_symbols-piece.ensures.kept (c.loop-read.invariant.so_far apart) c.next_symbols-piece.ensures.told c.in_ok-receive_piece.ensures.written in
-    let so_far = received_on told after input output then bytes read c.loop-read.reception c.receive_piece.new.reception c.loop-read.packets now piece tt come (c.loop-read.invariant.so_far apart) (c.in_ok-receive_piece.ensures.receiving refl) in
+    let come = piece_received told now mid after damage number input output c.loop-read.packets then bytes read c.loop-read.reception piece (Ok tt) apart within c.next_symbols-piece.ensures.kept (c.loop-read.invariant.so_far apart) c.next_symbols-piece.ensures.told c.in_ok-receive_piece.ensures.written in
+    let so_far = received_on told after damage number input output then bytes read c.loop-read.reception c.receive_piece.new.reception c.loop-read.packets now piece tt come (c.loop-read.invariant.so_far apart) (c.in_ok-receive_piece.ensures.receiving refl) in
     IfSome_then told
-    (file_ended told after (g.S.Shelf.files c.end_received.new.shelf) input output then bytes read c.in-Loose.loose c.receive_piece.new.reception piece (Ok tt) c.end_received.result
+    (file_ended told after (g.S.Shelf.files c.end_received.new.shelf) damage number input output then bytes read c.in-Loose.loose c.receive_piece.new.reception piece (Ok tt) c.end_received.result
     c.next_symbols-piece.ensures.most c.in-Loose.is come so_far c.end_received.ensures.told c.end_received.ensures.refusal)
     (λ held h empty some. (h empty).cause)
 
 pub returns-in-Loose-clause-left : goal.returns-in-Loose-clause-left
 returns-in-Loose-clause-left g c = λ apart.
     let told = g.S.Shelf.files c.args.shelf.now in
-    let input = c.args.input.now in
+    let input = c.args.input.now.name.now in
+    let damage = c.args.input.now.damage in
+    let number = c.args.input.now.number in
     let output = c.args.output.now in
     let read = c.loop-read.read in
     let piece = c.next_symbols-piece.result in
@@ -102,17 +109,19 @@ returns-in-Loose-clause-left g c = λ apart.
     let after = g.S.Shelf.files c.receive_piece.new.shelf in
     let then = c.receive_piece.new.packets in
     let within : 832 * piece.segments ≤ length bytes = omega (arith, c.next_symbols-piece.ensures.segments, c.next_symbols-piece.auto.bytes, c.loop-read.invariant.room) in
-    let come = piece_received told now mid after input output c.loop-read.packets then bytes read c.loop-read.reception piece (Ok tt) apart within c.next_symbols-piece.ensures.kept (c.loop-read.invariant.so_far apart) c.next_symbols-piece.ensures.told c.in_ok-receive_piece.ensures.written in
-    let so_far = received_on told after input output then bytes read c.loop-read.reception c.receive_piece.new.reception c.loop-read.packets now piece tt come (c.loop-read.invariant.so_far apart) (c.in_ok-receive_piece.ensures.receiving refl) in
+    let come = piece_received told now mid after damage number input output c.loop-read.packets then bytes read c.loop-read.reception piece (Ok tt) apart within c.next_symbols-piece.ensures.kept (c.loop-read.invariant.so_far apart) c.next_symbols-piece.ensures.told c.in_ok-receive_piece.ensures.written in
+    let so_far = received_on told after damage number input output then bytes read c.loop-read.reception c.receive_piece.new.reception c.loop-read.packets now piece tt come (c.loop-read.invariant.so_far apart) (c.in_ok-receive_piece.ensures.receiving refl) in
     IfSome_then told
-    (file_ended told after (g.S.Shelf.files c.end_received.new.shelf) input output then bytes read c.in-Loose.loose c.receive_piece.new.reception piece (Ok tt) c.end_received.result
+    (file_ended told after (g.S.Shelf.files c.end_received.new.shelf) damage number input output then bytes read c.in-Loose.loose c.receive_piece.new.reception piece (Ok tt) c.end_received.result
     c.next_symbols-piece.ensures.most c.in-Loose.is come so_far c.end_received.ensures.told c.end_received.ensures.refusal)
     (λ held h empty. (h empty).left)
 
 pub returns-in_err-flush-in-Refused-clause-left : goal.returns-in_err-flush-in-Refused-clause-left
 returns-in_err-flush-in-Refused-clause-left g c = λ apart.
     let told = g.S.Shelf.files c.args.shelf.now in
-    let input = c.args.input.now in
+    let input = c.args.input.now.name.now in
+    let damage = c.args.input.now.damage in
+    let number = c.args.input.now.number in
     let output = c.args.output.now in
     let read = c.loop-read.read in
     let piece = c.next_symbols-piece.result in
@@ -123,14 +132,16 @@ returns-in_err-flush-in-Refused-clause-left g c = λ apart.
     let then = c.receive_piece.new.packets in
     let within : 832 * piece.segments ≤ length bytes = omega (arith, c.next_symbols-piece.ensures.segments, c.next_symbols-piece.auto.bytes, c.loop-read.invariant.room) in
     let p = err_from_is_err_and c.from_residual-in_err-flush-in-Refused.result c.from_residual-in_err-flush-in-Refused.ensures.1 in
-    file_unwritten told after (g.S.Shelf.files c.flush.new.shelf) input output then bytes read piece (Ok tt) c.in_err-flush-in-Refused.field-0.0 c.from_residual-in_err-flush-in-Refused.result (p.1 ∙ ap Err p.2)
-    (piece_received told now mid after input output c.loop-read.packets then bytes read c.loop-read.reception piece (Ok tt) apart within c.next_symbols-piece.ensures.kept (c.loop-read.invariant.so_far apart) c.next_symbols-piece.ensures.told c.in_ok-receive_piece.ensures.written)
+    file_unwritten told after (g.S.Shelf.files c.flush.new.shelf) damage number input output then bytes read piece (Ok tt) c.in_err-flush-in-Refused.field-0.0 c.from_residual-in_err-flush-in-Refused.result (p.1 ∙ ap Err p.2)
+    (piece_received told now mid after damage number input output c.loop-read.packets then bytes read c.loop-read.reception piece (Ok tt) apart within c.next_symbols-piece.ensures.kept (c.loop-read.invariant.so_far apart) c.next_symbols-piece.ensures.told c.in_ok-receive_piece.ensures.written)
     (λ start bs gathered. c.in_err-flush-in-Refused.ensures.flushed start bs gathered)
 
 pub returns-in-Refused-clause-cause : goal.returns-in-Refused-clause-cause
 returns-in-Refused-clause-cause g c = λ apart.
     let told = g.S.Shelf.files c.args.shelf.now in
-    let input = c.args.input.now in
+    let input = c.args.input.now.name.now in
+    let damage = c.args.input.now.damage in
+    let number = c.args.input.now.number in
     let output = c.args.output.now in
     let read = c.loop-read.read in
     let piece = c.next_symbols-piece.result in
@@ -140,17 +151,19 @@ returns-in-Refused-clause-cause g c = λ apart.
     let after = g.S.Shelf.files c.receive_piece.new.shelf in
     let then = c.receive_piece.new.packets in
     let within : 832 * piece.segments ≤ length bytes = omega (arith, c.next_symbols-piece.ensures.segments, c.next_symbols-piece.auto.bytes, c.loop-read.invariant.room) in
-    let refusal = subst (λ end. IfRefused end IsSymbolRefusal) c.in-Refused.is c.next_symbols-piece.ensures.refusal in
+    let refusal = subst (λ end. IfRefused end (IsSymbolRefusal number)) c.in-Refused.is c.next_symbols-piece.ensures.refusal in
     IfSome_then told
-    (file_unread told after (g.S.Shelf.files c.flush.new.shelf) input output then bytes read piece c.in-Refused.status c.in-Refused.is refusal
+    (file_unread told after (g.S.Shelf.files c.flush.new.shelf) damage number input output then bytes read piece c.in-Refused.status c.in-Refused.is refusal
     (λ long. let is = c.next_symbols-piece.ensures.too_long (c.in-Refused.is ∙ ap Refused long) in omega (arith, is.0, is.1))
-    (piece_received told now mid after input output c.loop-read.packets then bytes read c.loop-read.reception piece (Ok tt) apart within c.next_symbols-piece.ensures.kept (c.loop-read.invariant.so_far apart) c.next_symbols-piece.ensures.told c.in_ok-receive_piece.ensures.written) c.in_ok-flush-in-Refused.ensures.flushed)
+    (piece_received told now mid after damage number input output c.loop-read.packets then bytes read c.loop-read.reception piece (Ok tt) apart within c.next_symbols-piece.ensures.kept (c.loop-read.invariant.so_far apart) c.next_symbols-piece.ensures.told c.in_ok-receive_piece.ensures.written) c.in_ok-flush-in-Refused.ensures.flushed)
     (λ held h empty some. (h empty).cause)
 
 pub returns-in-Refused-clause-left : goal.returns-in-Refused-clause-left
 returns-in-Refused-clause-left g c = λ apart.
     let told = g.S.Shelf.files c.args.shelf.now in
-    let input = c.args.input.now in
+    let input = c.args.input.now.name.now in
+    let damage = c.args.input.now.damage in
+    let number = c.args.input.now.number in
     let output = c.args.output.now in
     let read = c.loop-read.read in
     let piece = c.next_symbols-piece.result in
@@ -160,9 +173,9 @@ returns-in-Refused-clause-left g c = λ apart.
     let after = g.S.Shelf.files c.receive_piece.new.shelf in
     let then = c.receive_piece.new.packets in
     let within : 832 * piece.segments ≤ length bytes = omega (arith, c.next_symbols-piece.ensures.segments, c.next_symbols-piece.auto.bytes, c.loop-read.invariant.room) in
-    let refusal = subst (λ end. IfRefused end IsSymbolRefusal) c.in-Refused.is c.next_symbols-piece.ensures.refusal in
+    let refusal = subst (λ end. IfRefused end (IsSymbolRefusal number)) c.in-Refused.is c.next_symbols-piece.ensures.refusal in
     IfSome_then told
-    (file_unread told after (g.S.Shelf.files c.flush.new.shelf) input output then bytes read piece c.in-Refused.status c.in-Refused.is refusal
+    (file_unread told after (g.S.Shelf.files c.flush.new.shelf) damage number input output then bytes read piece c.in-Refused.status c.in-Refused.is refusal
     (λ long. let is = c.next_symbols-piece.ensures.too_long (c.in-Refused.is ∙ ap Refused long) in omega (arith, is.0, is.1))
-    (piece_received told now mid after input output c.loop-read.packets then bytes read c.loop-read.reception piece (Ok tt) apart within c.next_symbols-piece.ensures.kept (c.loop-read.invariant.so_far apart) c.next_symbols-piece.ensures.told c.in_ok-receive_piece.ensures.written) c.in_ok-flush-in-Refused.ensures.flushed)
+    (piece_received told now mid after damage number input output c.loop-read.packets then bytes read c.loop-read.reception piece (Ok tt) apart within c.next_symbols-piece.ensures.kept (c.loop-read.invariant.so_far apart) c.next_symbols-piece.ensures.told c.in_ok-receive_piece.ensures.written) c.in_ok-flush-in-Refused.ensures.flushed)
     (λ held h empty. (h empty).left)

@@ -1,6 +1,7 @@
 use Rattle.std.proofs.Common.{◌≡◌, ◌≢◌, ◌≤◌, ◌-◌, ◌%◌, length, []}
 use Rattle.std.specs.Prelude.{Some, IfSome}
 use Rattle.std.specs.FinMap.{get}
+use Rattle.dtx_jobs.specs.SymbolFile.{as_read}
 use Rattle.dtx_jobs.specs.Tally.{IsBounded}
 use Rattle.dtx_jobs.proofs.SoFar.{IsReceivedSoFar}
 use Rattle.dtx_jobs.proofs.received.write_received.Given as goal
@@ -12,8 +13,8 @@ invariant-loop-read g l = record {
   room : length l.bytes ≡ 260416;
   bounded : IsBounded l.reception.tally l.reception.tally.segments;
   count : l.reception.tally.segments ≡ l.read;
-  so_far : l.input ≢ l.output → IfSome (g.S.Shelf.files l.fn.shelf) (λ held. get held l.output ≡ Some []
-      → IsReceivedSoFar (Some held) l.output (get held l.input) l.read l.reception l.packets (g.S.Shelf.files l.shelf));
+  so_far : l.input.name.now ≢ l.output → IfSome (g.S.Shelf.files l.fn.shelf) (λ held. get held l.output ≡ Some []
+      → IsReceivedSoFar (Some held) l.output (as_read l.input.damage (get held l.input.name.now)) l.read l.reception l.packets (g.S.Shelf.files l.shelf));
   read_faults : g.S.Shelf.read_faults l.fn.shelf ≤ g.S.Shelf.read_faults l.shelf;
   write_faults : g.S.Shelf.write_faults l.fn.shelf ≤ g.S.Shelf.write_faults l.shelf;
   misses : g.S.Shelf.misses l.fn.shelf ≤ g.S.Shelf.misses l.shelf;

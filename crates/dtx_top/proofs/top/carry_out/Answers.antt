@@ -1,18 +1,5 @@
+use Rattle.dtx_top.proofs.Networking.{no_network}
 use Rattle.dtx_top.proofs.top.carry_out.Goals as goal
 
-pub returns : goal.returns
-returns g c = record {
-  command = c.command-command.result;
-  outcome = c.perform-outcome.result;
-  fits = c.command-command.ensures.fits;
-  only = c.command-command.ensures.only;
-  performed = c.perform-outcome.ensures.performed;
-  answered = record {
-    name = c.name_in_line-name.result.now;
-    line = c.line-printed.result;
-    named = c.name_in_line-name.ensures;
-    put = c.line-printed.ensures.written;
-    fault = c.line-printed.ensures.failed;
-    follows = c.finish.ensures;
-  };
-}
+pub returns-in_default-clause-network : goal.returns-in_default-clause-network
+returns-in_default-clause-network g c = no_network _ _ _ _ _ _ _ _ _ _ _ c.carry_out_one.ensures

@@ -2,10 +2,11 @@ use Rattle.std.proofs.Common.{◌++◌, ◌∷◌, [], ℕ, length, map, take, s
 use Rattle.dtx_exciter.specs.Emission.{given, emission}
 use Rattle.dtx_exciter.specs.Log.{line_of}
 use Rattle.dtx_jobs.specs.Life.{sent_bytes, logged_bytes, life_tally, tally_with, HasRoom}
-use Rattle.dtx_jobs.specs.LogText.{log_text}
-use Rattle.dtx_jobs.specs.Symbols.{byte_of_symbol}
+use Rattle.dtx_files.proofs.GivenFew.{given_few}
+use Rattle.dtx_files.specs.LogText.{log_text}
+use Rattle.dtx_files.specs.Symbols.{byte_of_symbol}
 use Rattle.dtx_jobs.specs.declared.life_tally.LifeTally.{LifeTally}
-use Rattle.dtx_jobs.proofs.LifeOn.{has_room, given_few, sent_push, logged_push, tally_push}
+use Rattle.dtx_jobs.proofs.LifeOn.{has_room, sent_push, logged_push, tally_push}
 use Rattle.dtx_jobs.proofs.excitation.Excitation.take.Goals as goal
 
 pub write_line-requires : goal.write_line-requires

@@ -3,7 +3,7 @@ use Rattle.std.proofs.lemmas.List.{append-nil, length-take-le, length-drop, leng
 use Rattle.dtx_adapter.specs.Feed.{feed}
 use Rattle.dtx_packets.specs.declared.packet.Packet as packet
 use Rattle.dtx_jobs.proofs.FeedBytes.{lists, few_filled}
-use Rattle.dtx_jobs.proofs.Feeding.{group_on, fed_on, rest_put, feeding_on, feeding_none}
+use Rattle.dtx_jobs.proofs.Feeding.{group_on, fed_on, rest_put, part_bytes, feeding_on, feeding_none}
 use Rattle.dtx_jobs.proofs.feeder.Feeder.feed.Goals as goal
 use borrow.Rule.Slice.PartMut.{put_mid}
 
@@ -47,6 +47,6 @@ loop-done-preserved c =
           let so_far = h.feeding plan stream is in
           feeding_on plan c.loop-done.self (record { adapter = c.group-filled.new.self; filled = c.loop-done.self.filled + c.group-filled.result }) (stream ++ lists (take done old)) (lists (take (done + count - done) (drop done cur)))
           (stream ++ lists (take (done + count) old)) c.group-filled.result c.goes_on.ensures.filled so_far
-          (c.group-filled.ensures.stands plan (stream ++ lists (take done old)) so_far.adapter) c.group-filled.ensures.filled refl
+          (c.group-filled.ensures.stands plan (stream ++ lists (take done old)) so_far.adapter) c.group-filled.ensures.filled refl (part_bytes done (done + count - done) old cur h.rest c.hold_bytes.ensures)
           (ap (λ n. (stream ++ lists (take done old)) ++ lists (take n (drop done cur))) k ∙ group_on stream done count old cur h.rest);
     }

@@ -1,5 +1,4 @@
 use Rattle.std.proofs.Common.{◌≡◌, ◌+◌, ◌*◌, ◌≤◌, take}
-use Rattle.std.specs.Prelude.{ℕ}
 use Rattle.dtx_jobs.specs.Tally.{fixed_in, flagged_in}
 use Rattle.dtx_jobs.proofs.tally.Tally.add.Given as goal
 

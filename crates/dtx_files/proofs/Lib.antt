@@ -1,0 +1,3 @@
+pub mod Appended
+pub mod GivenFew
+pub mod Pushed

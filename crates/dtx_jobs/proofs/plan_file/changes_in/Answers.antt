@@ -1,0 +1,16 @@
+use Rattle.std.proofs.Common.{subst}
+use Rattle.std.specs.Prelude.{Ok, Err}
+use Rattle.dtx_plan.specs.Plan.{changes_of}
+use Rattle.dtx_plan.specs.Rows.{IsAnswer}
+use Rattle.dtx_jobs.proofs.SmallFile.{changed, unchanged}
+use Rattle.dtx_jobs.proofs.plan_file.changes_in.Goals as goal
+
+pub returns-in-Ok-read_changes-clause-told : goal.returns-in-Ok-read_changes-clause-told
+returns-in-Ok-read_changes-clause-told g c =
+    changed (g.S.Shelf.files c.args.shelf.now) c.args.name.now c.args.number c.in-Ok.bytes.items c.in-Ok-read_changes.damage c.in-Ok.ensures.told
+    (subst (λ b. IsAnswer (changes_of b) (Ok c.in-Ok-read_changes.damage)) c.deref.ensures.value c.in-Ok-read_changes.ensures.walk)
+
+pub returns-in-Ok-clause-told : goal.returns-in-Ok-clause-told
+returns-in-Ok-clause-told g c =
+    unchanged (g.S.Shelf.files c.args.shelf.now) c.args.name.now c.args.number c.in-Ok.bytes.items c.in-Err-read_changes.fault c.of_plan.result c.of_plan.ensures c.in-Ok.ensures.told
+    (subst (λ b. IsAnswer (changes_of b) (Err c.in-Err-read_changes.fault)) c.deref.ensures.value c.in-Err-read_changes.ensures.walk)

@@ -1,0 +1,15 @@
+//! The schedule of a network, played step by step into the files of its transmitters.
+#![tactic(auto)]
+
+mod addresses;
+mod beginning;
+mod event;
+mod giving;
+mod inside;
+mod pair;
+mod part;
+mod playing;
+mod stage;
+
+pub use inside::first_past_feed;
+pub use playing::{Played, play};
