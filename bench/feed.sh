@@ -17,20 +17,6 @@ plan=$top/examples/two-sites.toml
 "$program" make 1 $packets "$room/in.ts" >"$room/said"
 head -c $((few_packets * 188)) "$room/in.ts" >"$room/few.ts"
 
-# memory COMMAND..: the most kB that the command held at a time.
-memory() {
-    if [[ -x /usr/bin/time ]]; then
-        /usr/bin/time -f %M -o "$room/memory" "$@" >"$room/said"
-        cat "$room/memory"
-    else
-        python3 - "$@" <<'end'
-import resource, subprocess, sys
-subprocess.run(sys.argv[1:], stdout=subprocess.DEVNULL, check=True)
-print(resource.getrusage(resource.RUSAGE_CHILDREN).ru_maxrss)
-end
-    fi
-}
-
 for ((round = 0; round < rounds; round++)); do
     measure 'code of the stream' "$room/out.sym" "$program" code "$room/in.ts" "$room/out.sym"
     rm "$room/out.sym"

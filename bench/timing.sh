@@ -36,3 +36,17 @@ measure() {
         best[$name]=$taken
     fi
 }
+
+# memory COMMAND..: the most kB that the command held at a time.
+memory() {
+    if [[ -x /usr/bin/time ]]; then
+        /usr/bin/time -f %M -o "$room/memory" "$@" >"$room/said"
+        cat "$room/memory"
+    else
+        python3 - "$@" <<'end'
+import resource, subprocess, sys
+subprocess.run(sys.argv[1:], stdout=subprocess.DEVNULL, check=True)
+print(resource.getrusage(resource.RUSAGE_CHILDREN).ru_maxrss)
+end
+    fi
+}
