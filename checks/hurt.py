@@ -9,11 +9,7 @@ import subprocess
 import sys
 import tempfile
 
-from network import differences, files_in, first_past, hurt, tables
-
-
-def end_of(entry):
-    return entry["at"] + entry.get("count", 1)
+from network import differences, end_of, first_past, hurt, tables
 
 
 def made_entry(chance, least, most):

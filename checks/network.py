@@ -90,11 +90,16 @@ def end_in_feed(event):
     return event["from"] + event.get("count", 1)
 
 
+def end_of(entry):
+    """Up to where an entry of damage reaches."""
+    return entry["at"] + entry.get("count", 1)
+
+
 def hurt(whole, damage):
     """Bytes with damage laid over them."""
     whole = bytearray(whole)
     for entry in damage:
-        start, end = entry["at"], min(entry["at"] + entry.get("count", 1), len(whole))
+        start, end = entry["at"], min(end_of(entry), len(whole))
         if start < end:
             whole[start:end] = bytes([entry["put"] & 255]) * (end - start)
     return bytes(whole)
@@ -117,7 +122,7 @@ def network(plan, stream):
     if "receive" not in net:
         return files, line
     symbols, damage = files[f"tx-{net['receive']['from']}.sym"], net["receive"].get("damage", [])
-    past = first_past([entry["at"] + entry.get("count", 1) for entry in damage], len(symbols))
+    past = first_past([end_of(entry) for entry in damage], len(symbols))
     if past is not None:
         return files, f"out of air {past}"
     answer = received(hurt(symbols, damage))
@@ -252,7 +257,7 @@ def made_network(chance):
         receiver, length = plan["transmitter"][files.index(symbols)], len(symbols)
         damage = made_damage(chance, symbols)
         if chance.random() < 0.12:
-            start = max((entry["at"] + entry.get("count", 1) for entry in damage), default=0)
+            start = max((end_of(entry) for entry in damage), default=0)
             damage += [{"at": start, "count": length - start + 1, "put": 1}, {"at": length + 1, "count": 1, "put": 2}]
         net["receive"] = {"from": receiver["address"]} | ({"damage": damage} if damage or chance.random() < 0.5 else {})
     if events or chance.random() < 0.5:
