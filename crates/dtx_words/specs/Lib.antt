@@ -1,9 +1,3 @@
-pub mod Behind
-pub mod Command
-pub mod Line
 pub mod Names
 pub mod NetworkNames
 pub mod Number
-pub mod Printed
-pub mod Status
-pub mod Words

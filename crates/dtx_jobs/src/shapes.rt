@@ -1,0 +1,62 @@
+// In which units the commands read their inputs.
+ghost use Rattle.std.specs.Prelude.{◌≡◌};
+ghost use Rattle.dtx_engine.specs.Making.{IsSound};
+ghost use Rattle.dtx_jobs.specs.Shapes as shapes;
+
+use dtx_engine::Shape;
+use dtx_packets::{MOST_PACKETS, PACKET, PIECE_PACKETS};
+
+/// How many segments are read at once: those of a field.
+pub const PIECE_SEGMENTS: usize = 313;
+
+/// Packets of 188 bytes (ISO/IEC 13818-1, 2.4.3.2), in groups of four.
+pub fn packets() -> Shape
+    ensures same { result ≡ shapes.packets }
+    ensures sound { IsSound result }
+{
+    Shape {
+        unit: PACKET,
+        units: PIECE_PACKETS,
+        group: 4,
+        limit: MOST_PACKETS,
+    }
+}
+
+/// Packets of 188 bytes, each for itself.
+pub fn single_packets() -> Shape
+    ensures same { result ≡ shapes.single_packets }
+    ensures sound { IsSound result }
+{
+    Shape {
+        unit: PACKET,
+        units: PIECE_PACKETS,
+        group: 1,
+        limit: MOST_PACKETS,
+    }
+}
+
+/// Segments of 832 symbols, one byte each (ATSC A/53 Part 2).
+pub fn segments() -> Shape
+    ensures same { result ≡ shapes.segments }
+    ensures sound { IsSound result }
+{
+    Shape {
+        unit: 832,
+        units: PIECE_SEGMENTS,
+        group: 1,
+        limit: 626_000_000,
+    }
+}
+
+/// Bytes, each for itself.
+pub fn single_bytes() -> Shape
+    ensures same { result ≡ shapes.single_bytes }
+    ensures sound { IsSound result }
+{
+    Shape {
+        unit: 1,
+        units: 262_144,
+        group: 1,
+        limit: 520_832_000_000,
+    }
+}

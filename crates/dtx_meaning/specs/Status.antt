@@ -1,0 +1,80 @@
+-- The codes of the statuses, what each is blamed on, and what a refusal below becomes.
+use Rattle.std.specs.Prelude.{ℕ, List, [], ◌∷◌, Result, Ok, Err}
+use Rattle.dtx_outside.specs.Counts.{Blame, Nothing, Wanting, Missing, Reading, Writing}
+use Rattle.dtx_outside.specs.declared.shelf.ReadNo.{ReadNo}
+use Rattle.dtx_outside.specs.declared.shelf.ReadNo.TheVariants as read
+use Rattle.dtx_outside.specs.declared.shelf.WriteNo.{WriteNo}
+use Rattle.dtx_outside.specs.declared.shelf.WriteNo.TheVariants as write
+use Rattle.dtx_plan.specs.declared.refusal.PlanFault.{PlanFault}
+use Rattle.dtx_plan.specs.declared.refusal.PlanFault.TheVariants as plan
+use Rattle.dtx_meaning.specs.declared.status.Outcome.{Outcome}
+use Rattle.dtx_meaning.specs.declared.status.Status.{Status}
+use Rattle.dtx_meaning.specs.declared.status.Status.TheVariants.{Done, Usage, Same, Absent, Plan, Packet, TooLong, OutOfFeed, OutOfAir, NoSync, ReadFault, WriteFault, Memory}
+
+-- the number with which the program ends
+abbrev pub code_of : Status → ℕ
+code_of Done = 0
+code_of Usage = 2
+code_of Same = 3
+code_of (Absent n) = 4
+code_of (Plan refusal) = 5
+code_of (Packet k) = 6
+code_of TooLong = 7
+code_of (OutOfFeed event) = 8
+code_of (OutOfAir entry) = 9
+code_of NoSync = 10
+code_of ReadFault = 11
+code_of WriteFault = 12
+code_of Memory = 13
+
+-- ---- what a refusal below becomes
+
+-- a refusal to read the input of that number
+abbrev pub of_read : ℕ → ReadNo → Status
+of_read input read.Absent = Absent input
+of_read input read.Failed = ReadFault
+of_read input read.Memory = Memory
+
+-- a refusal to write
+abbrev pub of_write : WriteNo → Status
+of_write write.Failed = WriteFault
+of_write write.Memory = Memory
+
+-- a refusal to give a plan, or a list of changes
+abbrev pub of_plan : PlanFault → Status
+of_plan (plan.No refusal) = Plan refusal
+of_plan plan.Memory = Memory
+
+-- ---- what an answer is blamed on
+
+-- Which count a status is blamed on. Where it is blamed on nothing all counts stand; want of memory may be met behind another refusal, which
+-- has raised its count.
+abbrev pub blame_of : Status → Blame
+blame_of (Absent input) = Missing
+blame_of ReadFault = Reading
+blame_of WriteFault = Writing
+blame_of Memory = Wanting
+blame_of _ = Nothing
+
+-- which count an answer is blamed on
+abbrev pub blame_of_answer : {T : Type 0} → Result T Status → Blame
+blame_of_answer (Ok x) = Nothing
+blame_of_answer (Err status) = blame_of status
+
+-- a fault, or want of memory: no meaning gives them
+abbrev pub IsFault : Status → Type 0
+IsFault ReadFault = Unit {0}
+IsFault WriteFault = Unit {0}
+IsFault Memory = Unit {0}
+IsFault _ = ⊥
+
+-- ---- outcomes
+
+-- an end without numbers
+abbrev pub ended : Status → Outcome
+ended status = record { status = status; numbers = 0 ∷ 0 ∷ 0 ∷ 0 ∷ 0 ∷ 0 ∷ []; shown = 0 }
+
+-- the outcome of what answers one, or a status
+abbrev pub outcome_of : Result Outcome Status → Outcome
+outcome_of (Ok outcome) = outcome
+outcome_of (Err status) = ended status

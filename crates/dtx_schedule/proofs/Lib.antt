@@ -1,9 +1,0 @@
-pub mod Begun
-pub mod EventSteps
-pub mod FeedKept
-pub mod FirstOf
-pub mod PairLeft
-pub mod PlayedOn
-pub mod ScheduleOn
-pub mod SoFar
-pub mod StageOn

@@ -1,7 +1,0 @@
-pub mod Addresses
-pub mod Inside
-pub mod Pair
-pub mod Played
-pub mod PlayedSoFar
-pub mod Staged
-pub mod TransmitterFiles

@@ -1,9 +1,0 @@
-pub mod Adapting
-pub mod Answers
-pub mod Exciting
-pub mod Hurting
-pub mod Making
-pub mod Streams
-pub mod Unfit
-pub mod Receiving
-pub mod Networking

@@ -1,4 +1,0 @@
-pub mod Answer
-pub mod Carried
-pub mod Printing
-pub mod Networking

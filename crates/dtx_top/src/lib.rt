@@ -1,8 +1,0 @@
-//! The program: one call that does all of it.
-#![tactic(auto)]
-
-mod performing;
-mod top;
-
-pub use dtx_words::Status;
-pub use top::run;
