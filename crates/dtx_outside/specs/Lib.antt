@@ -1,4 +1,5 @@
 pub mod Calls
+pub mod Counts
 pub mod Fill
 pub mod Held
 pub mod Laws

@@ -2,7 +2,8 @@
 ghost use Rattle.std.specs.Prelude.{◌≡◌, ◌<◌, ◌≤◌, ◌-◌, ◌^◌, ◌↔◌, [], Some, OnOk, OnErr, IfOk, IsErrOf, length};
 ghost use Rattle.dtx_outside.specs.Calls.{IsUnplanned, IsPlanned, failing};
 ghost use Rattle.dtx_outside.specs.MemorySink.{after_write};
-ghost use Rattle.dtx_outside.specs.Shelf.{last_count};
+ghost use Rattle.dtx_outside.specs.Sink.{IsCounted};
+ghost use Rattle.dtx_outside.specs.Counts.{last_count};
 
 use crate::calls::Calls;
 use crate::{Sink, SinkNo};
@@ -69,7 +70,7 @@ impl Sink for MemorySink {
     ghost faults = { λ s. s.faults };
 
     fn write(&mut self, bytes: &[u8]) -> Result<usize, SinkNo>
-        ensures faults { self.old.faults ≤ self.new.faults }
+        ensures gone { IsCounted self.old.faults result self.new.faults }
         ensures after { self.new ≡ after_write bytes.now result self.old }
 
         // It takes all of the piece, or nothing: it fails exactly where that is planned and there is something to take.
