@@ -11,7 +11,7 @@ use Rattle.std.proofs.lemmas.List.{append-nil}
 use Rattle.dtx_outside.specs.Shelf.{Files, with_file, IsSameAt}
 use Rattle.dtx_outside.specs.Written.{IsGathered, IsWriteOf, IsFlushOf}
 use Rattle.dtx_outside.specs.declared.shelf.WriteNo.{WriteNo}
-use Rattle.dtx_outside.proofs.Written.{IsSameAt-written, IsSameAt-gathered, gathered_none, gathered_of_written, gathered_more, write_of_flush}
+use Rattle.dtx_outside.specs.WrittenLaws.{IsSameAt-written, IsSameAt-gathered, gathered_none, gathered_of_written, gathered_more, write_of_flush}
 use Rattle.dtx_jobs.specs.TwoFiles.{AreWritten, AreGathered, ArePartWritten, AreWriteOf, AreFlushOf}
 
 -- ---- two files set, in either order

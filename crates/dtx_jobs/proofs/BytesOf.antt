@@ -6,7 +6,7 @@ use Rattle.std.proofs.lemmas.Grind.{flat_map-append}
 use Rattle.std.proofs.lemmas.List.{take_more, take-append-drop, append_assoc, append-nil}
 use Rattle.dtx_outside.specs.Shelf.{Files}
 use Rattle.dtx_outside.specs.Written.{IsPartWritten}
-use Rattle.dtx_outside.proofs.Written.{part_of_more}
+use Rattle.dtx_outside.specs.WrittenLaws.{part_of_more}
 use Rattle.dtx_receiver.specs.Packets.{all_packets, received}
 use Rattle.dtx_receiver.specs.declared.batch.Received.{Received}
 use Rattle.dtx_jobs.specs.Reception.{bytes_of}

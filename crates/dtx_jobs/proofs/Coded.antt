@@ -4,7 +4,7 @@ use Rattle.std.specs.Prelude.{Option}
 use Rattle.std.proofs.lemmas.List.{take_more, map-append, length-append, length-map, length-take-le, take-append-drop}
 use Rattle.dtx_outside.specs.Shelf.{Files}
 use Rattle.dtx_outside.specs.Written.{IsPartWritten}
-use Rattle.dtx_outside.proofs.Written.{part_of_more}
+use Rattle.dtx_outside.specs.WrittenLaws.{part_of_more}
 use Rattle.dtx_packets.specs.declared.packet.Packet as packet
 use Rattle.dtx_jobs.specs.Symbols.{symbol_bytes}
 use Rattle.dtx_jobs.proofs.StreamSymbols.{symbols_more}

@@ -7,7 +7,7 @@ use Rattle.std.specs.List.{flat_map}
 use Rattle.std.proofs.lemmas.List.FromFn.{length-map-range_with_len}
 use Rattle.dtx_outside.specs.Shelf.{Files}
 use Rattle.dtx_outside.specs.Written.{IsWritten, IsGathered, IsPartWritten, IsWriteOf}
-use Rattle.dtx_outside.proofs.Written.{part_of_written}
+use Rattle.dtx_outside.specs.WrittenLaws.{part_of_written}
 use Rattle.dtx_outside.specs.declared.shelf.WriteNo.{WriteNo}
 use Rattle.dtx_outside.specs.declared.shelf.WriteNo.TheVariants as write
 use Rattle.dtx_plan.specs.declared.damage.Damage.{Damage}

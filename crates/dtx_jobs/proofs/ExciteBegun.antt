@@ -9,7 +9,7 @@ use Rattle.dtx_outside.specs.Shelf.{Files, with_file, IsBegun}
 use Rattle.dtx_outside.specs.Written.{IsWritten}
 use Rattle.dtx_outside.specs.declared.shelf.WriteNo.{WriteNo}
 use Rattle.dtx_outside.specs.declared.shelf.WriteNo.TheVariants as write
-use Rattle.dtx_outside.proofs.Written.{begun_written}
+use Rattle.dtx_outside.specs.WrittenLaws.{begun_written}
 use Rattle.dtx_words.specs.Names.{repeated}
 use Rattle.dtx_words.specs.Status.{of_write}
 use Rattle.dtx_words.specs.Words.{ExciteWords, excite_names}

@@ -7,7 +7,7 @@ use Rattle.std.proofs.lemmas.List.Sums.{length-filter, count_by-le-length}
 use Rattle.dtx_adapter.specs.Feed.{feed, feed_to, is_placeholder, placeholders}
 use Rattle.dtx_outside.specs.Shelf.{Files}
 use Rattle.dtx_outside.specs.Written.{IsPartWritten}
-use Rattle.dtx_outside.proofs.Written.{part_of_more}
+use Rattle.dtx_outside.specs.WrittenLaws.{part_of_more}
 use Rattle.dtx_packets.specs.declared.packet.Packet as packet
 use Rattle.dtx_plan.specs.declared.plan.Plan.{Plan}
 use Rattle.dtx_jobs.specs.Feed.{bytes_of_packets, feed_bytes}

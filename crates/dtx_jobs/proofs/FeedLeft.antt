@@ -5,7 +5,7 @@ use Rattle.std.specs.FinMap.{get}
 use Rattle.std.specs.Result.{IsOkAnd}
 use Rattle.dtx_outside.specs.Shelf.{Files}
 use Rattle.dtx_outside.specs.Written.{IsWritten}
-use Rattle.dtx_outside.proofs.Written.{part_of_written}
+use Rattle.dtx_outside.specs.WrittenLaws.{part_of_written}
 use Rattle.dtx_packets.specs.Packets.{packet_at, whole_packets}
 use Rattle.dtx_plan.specs.Plan.{plan_of}
 use Rattle.dtx_plan.specs.declared.plan.Plan as plan

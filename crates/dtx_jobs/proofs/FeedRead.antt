@@ -5,13 +5,13 @@ use Rattle.std.specs.FinMap.{get}
 use Rattle.dtx_outside.specs.Shelf.{Files}
 use Rattle.dtx_outside.specs.declared.shelf.WriteNo.{WriteNo}
 use Rattle.dtx_outside.specs.declared.shelf.WriteNo.TheVariants as write
-use Rattle.dtx_outside.proofs.Written.{from_same_at}
+use Rattle.dtx_outside.specs.WrittenLaws.{from_same_at}
 use Rattle.dtx_packets.specs.declared.packet.Packet as packet
 use Rattle.dtx_packets.specs.declared.refusal.NextNo.{NextNo}
 use Rattle.dtx_packets.specs.declared.refusal.NextNo.TheVariants as next
 use Rattle.dtx_packets.specs.Packets.{most_packets, whole_packets, packets_from, packets_of}
 use Rattle.dtx_packets.specs.Reading.{Reading, AreNext}
-use Rattle.dtx_packets.proofs.Packets.{packets_from-append}
+use Rattle.dtx_packets.specs.PacketLaws.{packets_from-append}
 use Rattle.dtx_words.specs.Status.{of_next, of_write}
 use Rattle.dtx_words.specs.Words.{ExciteWords}
 use Rattle.dtx_jobs.specs.Excite.{fed, AreApart, IsMade, IsGiven, IsPartMade, HasExciteCause, ExciteLeavesAt, IsExciteEnd, IsExcitedSoFar}

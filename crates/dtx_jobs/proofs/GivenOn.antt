@@ -4,7 +4,7 @@ use Rattle.std.specs.Prelude.{ℤ, Option}
 use Rattle.std.proofs.lemmas.List.{append_assoc, append-nil}
 use Rattle.dtx_outside.specs.Shelf.{Files}
 use Rattle.dtx_outside.specs.Written.{IsPartWritten}
-use Rattle.dtx_outside.proofs.Written.{part_of_more}
+use Rattle.dtx_outside.specs.WrittenLaws.{part_of_more}
 use Rattle.dtx_jobs.specs.Reception.{bytes_of}
 use Rattle.dtx_jobs.proofs.BytesOf.{bytes_of-append}
 use Rattle.dtx_receiver.proofs.Counting.{given_more, all_more}

@@ -11,7 +11,7 @@ use Rattle.dtx_outside.specs.Written.{IsWritten, IsGathered, IsPartWritten, IsWr
 use Rattle.dtx_outside.specs.declared.shelf.WriteNo.{WriteNo}
 use Rattle.dtx_outside.specs.declared.shelf.WriteNo.TheVariants as write
 use Rattle.dtx_words.specs.Status.{of_write}
-use Rattle.dtx_outside.proofs.Written.{IsSameAt-gathered, from_same_at, part_of_written, gathered_from}
+use Rattle.dtx_outside.specs.WrittenLaws.{IsSameAt-gathered, from_same_at, part_of_written, gathered_from}
 use Rattle.dtx_packets.specs.declared.packet.Packet as packet
 use Rattle.dtx_packets.specs.Packets.{whole_packets, packets_from}
 use Rattle.dtx_jobs.specs.declared.stream.Counts.{Counts}
@@ -21,7 +21,7 @@ use Rattle.dtx_words.specs.declared.status.Status.{Status}
 use Rattle.dtx_words.specs.declared.status.Status.TheVariants.{Done, Usage, Same, Absent, Plan, Packet, TooLong, OutOfFeed, OutOfAir, NoSync, ReadFault, WriteFault, Memory}
 use Rattle.dtx_jobs.specs.Stream.{ArePlain, IsFront, IsFirstStop, IsEnding, IsCutAtGroup, IsPiece}
 use Rattle.dtx_jobs.specs.Output.{Making, made_at, HasCauseIn, HasPartOfOutput, IsOutputLeft}
-use Rattle.dtx_packets.proofs.Packets.{packets_from-append}
+use Rattle.dtx_packets.specs.PacketLaws.{packets_from-append}
 
 -- the first packets of a file, which may not be there, are plain, and what is made of them was given to be written
 pub record IsMadeSoFar (source : Source) (made : Making) (start : Option Files) (output : List ℕ) (found : Option (List ℕ)) (fed : ℕ) (gathered : List ℕ) (now : Option Files) : Type 0 where

@@ -12,7 +12,7 @@ use Rattle.dtx_outside.specs.Shelf.{Files, with_file}
 use Rattle.dtx_outside.specs.Written.{IsWritten, IsGathered, IsPartWritten}
 use Rattle.dtx_outside.specs.declared.shelf.WriteNo.{WriteNo}
 use Rattle.dtx_outside.specs.declared.shelf.WriteNo.TheVariants as write
-use Rattle.dtx_outside.proofs.Written.{part_of_more, part_of_written}
+use Rattle.dtx_outside.specs.WrittenLaws.{part_of_more, part_of_written}
 use Rattle.dtx_plan.specs.declared.damage.Damage.{Damage}
 use Rattle.dtx_words.specs.Status.{of_write}
 use Rattle.dtx_words.specs.declared.status.Status.{Status}

@@ -7,7 +7,7 @@ use Rattle.dtx_make.proofs.Streams.{made_stream_none, made_stream_more, made_str
 use Rattle.dtx_outside.specs.Shelf.{Files, IsBegun}
 use Rattle.dtx_outside.specs.Written.{IsWritten, IsGathered, IsPartWritten}
 use Rattle.dtx_outside.specs.declared.shelf.WriteNo.{WriteNo}
-use Rattle.dtx_outside.proofs.Written.{begun_written, gathered_of_written, part_of_written, part_of_more}
+use Rattle.dtx_outside.specs.WrittenLaws.{begun_written, gathered_of_written, part_of_written, part_of_more}
 use Rattle.dtx_jobs.specs.Make.{ordered, HasMakeCause, IsMadeLeft, IsMakeOutcome, IsMakeRefusal, IsUntouchedOrBegun, MakeLeaves}
 use Rattle.dtx_words.specs.Words.{MakeWords}
 use Rattle.dtx_words.specs.declared.status.Status.{Status}

@@ -8,7 +8,7 @@ use Rattle.dtx_outside.specs.Written.{IsWritten}
 use Rattle.dtx_outside.specs.declared.shelf.WriteNo.{WriteNo}
 use Rattle.dtx_outside.specs.declared.shelf.WriteNo.TheVariants as write
 use Rattle.dtx_outside.specs.Laws.{insert-insert}
-use Rattle.dtx_outside.proofs.Written.{at_written, IsSameAt-written, from_same_at, begun_written, part_of_written, part_of_more}
+use Rattle.dtx_outside.specs.WrittenLaws.{at_written, IsSameAt-written, from_same_at, begun_written, part_of_written, part_of_more}
 use Rattle.dtx_plan.specs.declared.damage.Damage.{Damage}
 use Rattle.dtx_words.specs.Status.{of_write}
 use Rattle.dtx_words.specs.declared.status.Status.{Status}

@@ -7,7 +7,7 @@ use Rattle.std.proofs.lemmas.List.{append-nil}
 use Rattle.dtx_outside.specs.Shelf.{Files}
 use Rattle.dtx_outside.specs.Written.{IsGathered, IsWriteOf}
 use Rattle.dtx_outside.specs.declared.shelf.WriteNo.{WriteNo}
-use Rattle.dtx_outside.proofs.Written.{IsSameAt-gathered, from_same_at, gathered_from}
+use Rattle.dtx_outside.specs.WrittenLaws.{IsSameAt-gathered, from_same_at, gathered_from}
 use Rattle.dtx_plan.specs.declared.damage.Damage.{Damage}
 use Rattle.dtx_receiver.proofs.Counting.{nothing_given}
 use Rattle.dtx_receiver.specs.Packets.{given}

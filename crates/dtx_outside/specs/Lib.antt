@@ -9,3 +9,4 @@ pub mod Refusals
 pub mod Shelf
 pub mod Sink
 pub mod Written
+pub mod WrittenLaws

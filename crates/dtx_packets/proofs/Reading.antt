@@ -7,7 +7,7 @@ use Rattle.dtx_outside.specs.Shelf.{Files}
 use Rattle.dtx_packets.specs.declared.packet.Packet.{Packet}
 use Rattle.dtx_packets.specs.Packets.{whole_packets, packets_of}
 use Rattle.dtx_packets.specs.Reading.{Reading, next_of, IsCount, IsAdvance, AreNext}
-use Rattle.dtx_packets.proofs.Packets.{packets_of-piece, whole_packets-piece}
+use Rattle.dtx_packets.specs.PacketLaws.{packets_of-piece, whole_packets-piece}
 
 cut_of_file : (found : Option (List ℕ)) (old new : Reading) (n : ℕ) (bytes part : List ℕ) (into : List Packet)
     → whole_packets bytes ≡ length into → part ≡ take (188 * n) bytes

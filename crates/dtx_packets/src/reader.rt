@@ -1,8 +1,9 @@
 // The packets of a file, one after another or many at a time.
 ghost use Rattle.std.specs.Prelude.{◌≡◌, ◌≤◌, ◌<◌, ◌+◌, ◌/◌, length, drop, IfOk, IfSome, IsErrOf, OnErr, Ok, None, Err};
 ghost use Rattle.std.specs.FinMap as map;
-ghost use Rattle.dtx_outside.specs.Shelf.{Rose};
+ghost use Rattle.dtx_outside.specs.Counts.{HasGone};
 ghost use Rattle.dtx_packets.specs.Packets.{most_packets};
+ghost use Rattle.dtx_packets.specs.Refusal.{blame_of_next};
 
 use crate::cutting::cut;
 use crate::packet::{PACKET, Packet};
@@ -93,12 +94,8 @@ impl PacketReader {
 
         // The causes.
         ensures too_long { IsErrOf result NextNo.TooLong → self.old.given ≡ self.old.limit }
-        ensures absent { IsErrOf result NextNo.Absent → Rose (S.misses shelf.old) (S.misses shelf.new) }
-        ensures failed { IsErrOf result NextNo.Failed → Rose (S.read_faults shelf.old) (S.read_faults shelf.new) }
+        ensures gone { HasGone (S.counts shelf.old) (S.counts shelf.new) (blame_of_next result) }
         ensures kept { S.files shelf.new ≡ S.files shelf.old }
-        ensures read_faults { S.read_faults shelf.old ≤ S.read_faults shelf.new }
-        ensures write_faults { S.write_faults shelf.new ≡ S.write_faults shelf.old }
-        ensures misses { S.misses shelf.old ≤ S.misses shelf.new }
     {
         let mut bytes = [0u8; PACKET];
         let count = self.advance(shelf, name, &mut bytes)?;
@@ -133,12 +130,8 @@ impl PacketReader {
 
         // The causes.
         ensures too_long { IsErrOf result NextNo.TooLong → self.old.given ≡ self.old.limit }
-        ensures absent { IsErrOf result NextNo.Absent → Rose (S.misses shelf.old) (S.misses shelf.new) }
-        ensures failed { IsErrOf result NextNo.Failed → Rose (S.read_faults shelf.old) (S.read_faults shelf.new) }
+        ensures gone { HasGone (S.counts shelf.old) (S.counts shelf.new) (blame_of_next result) }
         ensures kept { S.files shelf.new ≡ S.files shelf.old }
-        ensures read_faults { S.read_faults shelf.old ≤ S.read_faults shelf.new }
-        ensures write_faults { S.write_faults shelf.new ≡ S.write_faults shelf.old }
-        ensures misses { S.misses shelf.old ≤ S.misses shelf.new }
     {
         let mut bytes = [0u8; PIECE];
         let room = into.len() * PACKET;
@@ -163,12 +156,8 @@ impl PacketReader {
         ensures end { result ≡ Ok 0 → (self.new.loose < PACKET) × (self.new ≡ record self.old { loose = self.new.loose }) }
         ensures err { OnErr result (self.new ≡ self.old) }
         ensures too_long { IsErrOf result NextNo.TooLong → self.old.given ≡ self.old.limit }
-        ensures absent { IsErrOf result NextNo.Absent → Rose (S.misses shelf.old) (S.misses shelf.new) }
-        ensures failed { IsErrOf result NextNo.Failed → Rose (S.read_faults shelf.old) (S.read_faults shelf.new) }
+        ensures gone { HasGone (S.counts shelf.old) (S.counts shelf.new) (blame_of_next result) }
         ensures kept { S.files shelf.new ≡ S.files shelf.old }
-        ensures read_faults { S.read_faults shelf.old ≤ S.read_faults shelf.new }
-        ensures write_faults { S.write_faults shelf.new ≡ S.write_faults shelf.old }
-        ensures misses { S.misses shelf.old ≤ S.misses shelf.new }
     {
         let left = self.limit - self.given;
         // Where the limit is reached, one packet more shows whether the file is longer.

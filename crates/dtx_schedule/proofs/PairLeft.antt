@@ -9,7 +9,7 @@ use Rattle.dtx_outside.specs.Laws.{get-insert_other, insert_same}
 use Rattle.dtx_outside.specs.Shelf.{Files, with_file, IsBegun, IsAppended}
 use Rattle.dtx_outside.specs.Written.{IsWritten, IsFlushOf}
 use Rattle.dtx_outside.specs.declared.shelf.WriteNo.{WriteNo}
-use Rattle.dtx_outside.proofs.Written.{begun_written, written_appended}
+use Rattle.dtx_outside.specs.WrittenLaws.{begun_written, written_appended}
 use Rattle.dtx_words.specs.NetworkNames.{symbol_name, log_name}
 use Rattle.dtx_words.proofs.NetworkNames.{symbols_no_logs}
 use Rattle.dtx_schedule.specs.Pair.{pair_names, HasPair, IsPairOf}

@@ -6,7 +6,7 @@ use Rattle.std.specs.Option.{option_map}
 use Rattle.std.proofs.lemmas.Option.{IfSome_then}
 use Rattle.dtx_make.specs.Hurt.{hurt}
 use Rattle.dtx_outside.specs.Shelf.{Files}
-use Rattle.dtx_outside.proofs.Written.{part_of_written}
+use Rattle.dtx_outside.specs.WrittenLaws.{part_of_written}
 use Rattle.dtx_plan.specs.Plan.{changes_of}
 use Rattle.dtx_plan.specs.declared.damage.Damage.{Damage}
 use Rattle.dtx_words.specs.Command.{Fits}

@@ -3,7 +3,7 @@ use Rattle.std.proofs.Common.{◌≡◌, ◌≢◌, ◌⊎◌, ℕ, List, [], �
 use Rattle.std.specs.Prelude.{Option, Some, IfSome, IsSome}
 use Rattle.std.specs.Option.{option_map}
 use Rattle.dtx_outside.specs.Shelf.{Files}
-use Rattle.dtx_outside.proofs.Written.{part_of_written}
+use Rattle.dtx_outside.specs.WrittenLaws.{part_of_written}
 use Rattle.dtx_words.specs.Command.{Fits}
 use Rattle.dtx_words.specs.Line.{done_line, HasLine}
 use Rattle.dtx_words.specs.Names.{names_of}

@@ -5,7 +5,7 @@ use Rattle.std.specs.FinMap.{get}
 use Rattle.std.specs.Option.{option_map}
 use Rattle.dtx_outside.specs.Shelf.{Files}
 use Rattle.dtx_outside.specs.Written.{IsWritten}
-use Rattle.dtx_outside.proofs.Written.{part_of_written, part_of_more}
+use Rattle.dtx_outside.specs.WrittenLaws.{part_of_written, part_of_more}
 use Rattle.dtx_words.specs.Command.{Fits}
 use Rattle.dtx_words.specs.Line.{done_line, HasLine}
 use Rattle.dtx_words.specs.Names.{names_of, repeated}

@@ -5,7 +5,7 @@ use Rattle.std.specs.FinMap.{get}
 use Rattle.std.specs.Option.{option_map}
 use Rattle.dtx_outside.specs.Shelf.{Files}
 use Rattle.dtx_outside.specs.Written.{IsWritten}
-use Rattle.dtx_outside.proofs.Written.{part_of_written}
+use Rattle.dtx_outside.specs.WrittenLaws.{part_of_written}
 use Rattle.dtx_packets.specs.Packets.{whole_packets, packets_of}
 use Rattle.dtx_coder.specs.Stream.{a53}
 use Rattle.dtx_words.specs.Command.{Fits}

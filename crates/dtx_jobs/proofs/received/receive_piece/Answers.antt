@@ -1,7 +1,7 @@
 use Rattle.std.proofs.Common.{◌≡◌, ◌+◌, ◌-◌, ◌*◌, ◌/◌, ◌<◌, ◌++◌, [], length, take, drop, get_or, ap, sym, subst, ◌∙◌, arith, append_assoc}
 use Rattle.std.proofs.lemmas.Result.{err_from_is_err_and}
 use Rattle.dtx_outside.specs.Written.{IsGathered, IsPartWritten}
-use Rattle.dtx_packets.proofs.Chunks.{get_or-first_chunks}
+use Rattle.dtx_packets.specs.Chunks.{get_or-first_chunks}
 use Rattle.dtx_receiver.specs.Packets.{given}
 use Rattle.dtx_jobs.specs.Reception.{bytes_of, IsReceiving}
 use Rattle.dtx_jobs.specs.SymbolFile.{symbols, segments_from}

@@ -1,6 +1,7 @@
 -- What holds of the packets of a file, for those who read it piece by piece.
-use Rattle.std.proofs.Common.{◌≡◌, ℕ, zero, suc, ◌+◌, ◌-◌, ◌*◌, ◌<◌, ◌≤◌, List, [], ◌∷◌, ◌++◌, length, get_or, take, drop, map, refl, ap, sym, ◌∙◌, arith}
-use Rattle.std.proofs.lemmas.List.{drop-drop, drop-take, take-take, length-take-le, length-drop, map-append, get_or-map, get_or-take}
+use Rattle.std.proofs.Common.{◌≡◌, ℕ, zero, suc, ◌+◌, ◌-◌, ◌*◌, ◌/◌, ◌%◌, ◌<◌, ◌≤◌, List, [], ◌∷◌, ◌++◌, length, get_or, take, drop, map, refl, ap, sym, ◌∙◌, arith}
+use Rattle.std.proofs.lemmas.List.{drop-drop, drop-take, take-take, length-append, length-take-le, length-drop, map-append, get_or-map, get_or-take}
+use Rattle.std.proofs.Math.Seq.{take-append_seam, drop-append_seam}
 use Rattle.std.proofs.lemmas.List.FromFn.{get_or-map-range_with_len, length-map-range_with_len, fill_by_all}
 use Rattle.std.specs.List.{range_with_len}
 use Rattle.dtx_packets.specs.declared.packet.Packet.{Packet}
@@ -49,6 +50,29 @@ packets_of-piece file first n within =
     ap (packets_from piece 0) (whole_packets-piece file first n within)
     ∙ sym (fill_by_all (packet_at piece) (packets_from file first n) n [] (length-map-range_with_len (packet_at file) first n)
     (λ k less. get_or-map-range_with_len (packet_at file) first n k (first + k) [] less refl ∙ sym (packet_at-piece file first n k less)))
+
+-- how many whole packets are in bytes that follow whole packets
+pub whole_packets-append : (a b : List ℕ) → length a % 188 ≡ 0 → whole_packets (a ++ b) ≡ whole_packets a + whole_packets b
+whole_packets-append a b whole = omega (arith, whole, length-append a b)
+
+-- and which they are
+pub packets_of-append : (a b : List ℕ) → length a % 188 ≡ 0 → packets_of (a ++ b) ≡ packets_of a ++ packets_of b
+packets_of-append a b whole =
+    let m = whole_packets a in
+    let n = whole_packets b in
+    let long : 188 * m ≡ length a = omega (arith, whole) in
+    let both : whole_packets (a ++ b) ≡ m + n = whole_packets-append a b whole in
+    let front : take (188 * m) (a ++ b) ≡ a = ap (λ k. take k (a ++ b)) long ∙ take-append_seam a b in
+    let behind : drop (188 * m) (a ++ b) ≡ b = ap (λ k. drop k (a ++ b)) long ∙ drop-append_seam a b in
+    let first : packets_of a ≡ packets_from (a ++ b) 0 m =
+    ap packets_of (sym front) ∙ packets_of-piece (a ++ b) 0 m (omega (arith, both)) in
+    let second : packets_of b ≡ packets_from (a ++ b) m n =
+    sym (packets_of-piece b 0 n (omega arith)) ∙ ap (λ z. packets_of (take (188 * n) z)) (sym behind)
+    ∙ packets_of-piece (a ++ b) m n (omega (arith, both)) in
+    let place : 0 + m ≡ m = omega arith in
+    ap (packets_from (a ++ b) 0) both ∙ packets_from-append (a ++ b) 0 m n
+    ∙ ap (λ k. packets_from (a ++ b) 0 m ++ packets_from (a ++ b) k n) place
+    ∙ ap (λ z. z ++ packets_from (a ++ b) m n) (sym first) ∙ ap (λ z. packets_of a ++ z) (sym second)
 
 -- the packets that a reader gave, one by one
 pub packet_given : (file : List ℕ) (first n : ℕ) (into : List Packet) → n ≤ length into → map (λ p. p.0) (take n into) ≡ packets_from file first n
