@@ -9,7 +9,8 @@ use Rattle.dtx_outside.specs.declared.sink.SinkNo.TheVariants.{Failed, Memory}
 -- what `write` leaves of the bytes written, where they are told
 abbrev pub IsPrinted : List ℕ → Option (List ℕ) → Result ℕ SinkNo → Option (List ℕ) → Type 0
 IsPrinted bytes old (Ok n) new = new ≡ option_map (λ before. before ++ take n bytes) old
-IsPrinted bytes old (Err Failed) new = (n : ℕ) × (n ≤ length bytes) × (new ≡ option_map (λ before. before ++ take n bytes) old)
+IsPrinted bytes old (Err Failed) new =
+    (n : ℕ) × (n ≤ length bytes) × (new ≡ option_map (λ before. before ++ take n bytes) old)
 IsPrinted bytes old (Err Memory) new = new ≡ old
 
 -- the count of faults has risen where printing failed; where it didn't, the count stands

@@ -1,5 +1,5 @@
 // The packets of a file, one after another or many at a time.
-ghost use Rattle.std.specs.Prelude.{◌≡◌, ◌≤◌, ◌<◌, ◌+◌, ◌/◌, length, drop, IfOk, IfSome, IsErrOf, OnErr, Ok, None, Err};
+ghost use Rattle.std.specs.Prelude.{◌≡◌, ◌≤◌, ◌<◌, ◌+◌, ◌/◌, length, drop, IfOk, IfSome, IsErrOf, OnErr, Ok, None};
 ghost use Rattle.std.specs.FinMap as map;
 ghost use Rattle.dtx_outside.specs.Counts.{HasGone};
 ghost use Rattle.dtx_packets.specs.Packets.{most_packets};
@@ -43,7 +43,8 @@ impl Model for PacketReader {
 
     ghost view = { λ r. record { first = r.first; limit = r.limit; given = r.given; loose = r.loose } };
 
-    ghost invariant = { λ r. (r.first ≤ MOST_PACKETS) × (r.limit ≤ MOST_PACKETS) × (r.given ≤ r.limit) × (r.loose < PACKET) };
+    ghost invariant = { λ r. (r.first ≤ MOST_PACKETS) × (r.limit ≤ MOST_PACKETS)
+        × (r.given ≤ r.limit) × (r.loose < PACKET) };
 }
 
 impl PacketReader {
@@ -88,8 +89,10 @@ impl PacketReader {
 
         // What it leaves, also where the shelf doesn't tell its files.
         ensures packet { IfOk result (λ next. IfSome next (λ _.
-            (self.old.given < self.old.limit) × (self.new ≡ record self.old { given = self.old.given + 1; loose = 0 }))) }
-        ensures end { result ≡ Ok None → (self.new.loose < PACKET) × (self.new ≡ record self.old { loose = self.new.loose }) }
+            (self.old.given < self.old.limit)
+            × (self.new ≡ record self.old { given = self.old.given + 1; loose = 0 }))) }
+        ensures end { result ≡ Ok None → (self.new.loose < PACKET)
+            × (self.new ≡ record self.old { loose = self.new.loose }) }
         ensures err { OnErr result (self.new ≡ self.old) }
 
         // The causes.
@@ -117,14 +120,17 @@ impl PacketReader {
     ) -> Result<usize, NextNo>
         requires some { 0 < length into.old }
         requires fits { length into.old ≤ PIECE_PACKETS }
-        ensures told { IfSome (S.files shelf.old) (λ held. AreNext (map.get held name.now) self.old result into.new self.new) }
+        ensures told { IfSome (S.files shelf.old) (λ held.
+            AreNext (map.get held name.now) self.old result into.new self.new) }
 
         // What it leaves, also where the shelf doesn't tell its files.
         ensures count { IfOk result (λ n. n ≤ length into.new) }
         ensures rest { IfOk result (λ n. drop n into.new ≡ drop n into.old) }
         ensures packets { IfOk result (λ n. 0 < n →
-            (self.old.given + n ≤ self.old.limit) × (self.new ≡ record self.old { given = self.old.given + n; loose = 0 })) }
-        ensures end { result ≡ Ok 0 → (self.new.loose < PACKET) × (self.new ≡ record self.old { loose = self.new.loose }) }
+            (self.old.given + n ≤ self.old.limit)
+            × (self.new ≡ record self.old { given = self.old.given + n; loose = 0 })) }
+        ensures end { result ≡ Ok 0 → (self.new.loose < PACKET)
+            × (self.new ≡ record self.old { loose = self.new.loose }) }
         ensures err { OnErr result (self.new ≡ self.old) }
         ensures err_rest { OnErr result (into.new ≡ into.old) }
 
@@ -149,11 +155,14 @@ impl PacketReader {
     ) -> Result<usize, NextNo>
         requires some { PACKET ≤ length bytes.old }
         requires fits { length bytes.old ≤ PIECE }
-        ensures told { IfSome (S.files shelf.old) (λ held. IsAdvance (map.get held name.now) self.old result bytes.new self.new) }
+        ensures told { IfSome (S.files shelf.old) (λ held.
+            IsAdvance (map.get held name.now) self.old result bytes.new self.new) }
         ensures count { IfOk result (λ n. n ≤ length bytes.new / PACKET) }
         ensures packets { IfOk result (λ n. 0 < n →
-            (self.old.given + n ≤ self.old.limit) × (self.new ≡ record self.old { given = self.old.given + n; loose = 0 })) }
-        ensures end { result ≡ Ok 0 → (self.new.loose < PACKET) × (self.new ≡ record self.old { loose = self.new.loose }) }
+            (self.old.given + n ≤ self.old.limit)
+            × (self.new ≡ record self.old { given = self.old.given + n; loose = 0 })) }
+        ensures end { result ≡ Ok 0 → (self.new.loose < PACKET)
+            × (self.new ≡ record self.old { loose = self.new.loose }) }
         ensures err { OnErr result (self.new ≡ self.old) }
         ensures too_long { IsErrOf result NextNo.TooLong → self.old.given ≡ self.old.limit }
         ensures gone { HasGone (S.counts shelf.old) (S.counts shelf.new) (blame_of_next result) }
