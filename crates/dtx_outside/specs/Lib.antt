@@ -1,4 +1,5 @@
 pub mod Calls
+pub mod Counts
 pub mod Fill
 pub mod Held
 pub mod Laws
@@ -8,3 +9,4 @@ pub mod Refusals
 pub mod Shelf
 pub mod Sink
 pub mod Written
+pub mod WrittenLaws

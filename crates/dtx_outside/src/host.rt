@@ -1,9 +1,10 @@
 // The file system and the standard output, through the runtime that `main` is given. They tell no content.
 ghost use Rattle.std.specs.Prelude.{◌≡◌, ◌<◌, ◌≤◌, ◌+◌, ◌^◌, None, Ok, IfOk, IfSome, IsSomeAnd, IsErrOf, length};
 ghost use Rattle.std.specs.FinMap as map;
+ghost use Rattle.dtx_outside.specs.Counts.{HasGone, blame_of_read, blame_of_write};
 ghost use Rattle.dtx_outside.specs.Refusals.{no_counts, counts_read, counts_written};
-ghost use Rattle.dtx_outside.specs.Shelf.{untold, Rose, Gives, IsBegun, IsAppended};
-ghost use Rattle.dtx_outside.specs.Sink.{faults_printed, IsPrinted};
+ghost use Rattle.dtx_outside.specs.Shelf.{untold, Gives, IsBegun, IsAppended};
+ghost use Rattle.dtx_outside.specs.Sink.{faults_printed, IsCounted, IsPrinted};
 
 use crate::refusals::Refusals;
 use crate::{ReadNo, Shelf, Sink, SinkNo, WriteNo};
@@ -13,7 +14,8 @@ use std::io::{ErrorKind, Read, Seek, SeekFrom, Write};
 use std::marker::Model;
 use std::rt::Files;
 
-/// The files of the host. Each call opens its file and closes it again, so the number of files has no limit of its own.
+/// The files of the host. Each call opens its file and closes it again, so the number of files has no limit of its
+/// own.
 #[derive(Drop)]
 pub struct HostShelf<'a, R: Files> {
     rt: &'a R,
@@ -21,7 +23,7 @@ pub struct HostShelf<'a, R: Files> {
 }
 
 impl<'a, R: Files> Model for HostShelf<'a, R> {
-    ghost use Rattle.dtx_outside.specs.Refusals.{Counts};
+    ghost use Rattle.dtx_outside.specs.Counts.{Counts};
 
     ghost Value = { Counts };
 
@@ -43,11 +45,7 @@ impl<'a, R: Files> HostShelf<'a, R> {
 impl<R: Files> Shelf for HostShelf<'_, R> {
     ghost files = { λ _. untold };
 
-    ghost read_faults = { λ s. s.read_faults };
-
-    ghost write_faults = { λ s. s.write_faults };
-
-    ghost misses = { λ s. s.misses };
+    ghost counts = { λ s. s };
 
     fn read(&mut self, name: &str, place: u64, into: &mut [u8]) -> Result<usize, ReadNo>
         requires wanted { 0 < length into.old }
@@ -57,12 +55,7 @@ impl<R: Files> Shelf for HostShelf<'_, R> {
         ensures bound { IfOk result (λ n. n ≤ length into.new) }
         ensures bytes { IfOk result (λ n. IfSome untold (λ held.
             IsSomeAnd (map.get held name.now) (λ file. Gives file place n into.new))) }
-        ensures absent { IsErrOf result ReadNo.Absent → Rose self.old.misses self.new.misses }
-        ensures failed { IsErrOf result ReadNo.Failed → Rose self.old.read_faults self.new.read_faults }
-        ensures memory { IsErrOf result ReadNo.Memory → (self.new.read_faults ≡ self.old.read_faults) × (self.new.misses ≡ self.old.misses) }
-        ensures read_faults { self.old.read_faults ≤ self.new.read_faults }
-        ensures write_faults { self.new.write_faults ≡ self.old.write_faults }
-        ensures misses { self.old.misses ≤ self.new.misses }
+        ensures gone { HasGone self.old self.new (blame_of_read result) }
 
         // It counts what it answers, and nothing else.
         ensures counted { self.new ≡ counts_read result self.old }
@@ -75,11 +68,7 @@ impl<R: Files> Shelf for HostShelf<'_, R> {
 
         // The trait's clauses on the files, and on the counts.
         ensures files { IsBegun name.now untold result untold }
-        ensures failed { IsErrOf result WriteNo.Failed → Rose self.old.write_faults self.new.write_faults }
-        ensures memory { IsErrOf result WriteNo.Memory → self.new.write_faults ≡ self.old.write_faults }
-        ensures read_faults { self.new.read_faults ≡ self.old.read_faults }
-        ensures write_faults { self.old.write_faults ≤ self.new.write_faults }
-        ensures misses { self.new.misses ≡ self.old.misses }
+        ensures gone { HasGone self.old self.new (blame_of_write result) }
 
         // It counts what it answers, and nothing else.
         ensures counted { self.new ≡ counts_written result self.old }
@@ -92,11 +81,7 @@ impl<R: Files> Shelf for HostShelf<'_, R> {
 
         // The trait's clauses on the files, and on the counts.
         ensures files { IsAppended name.now bytes.now untold result untold }
-        ensures failed { IsErrOf result WriteNo.Failed → Rose self.old.write_faults self.new.write_faults }
-        ensures memory { IsErrOf result WriteNo.Memory → self.new.write_faults ≡ self.old.write_faults }
-        ensures read_faults { self.new.read_faults ≡ self.old.read_faults }
-        ensures write_faults { self.old.write_faults ≤ self.new.write_faults }
-        ensures misses { self.new.misses ≡ self.old.misses }
+        ensures gone { HasGone self.old self.new (blame_of_write result) }
 
         // It counts what it answers, and nothing else.
         ensures counted { self.new ≡ counts_written result self.old }
@@ -196,9 +181,7 @@ impl<R: Print> Sink for HostSink<'_, R> {
         ensures some { IfOk result (λ n. 0 < length bytes.now → 0 < n) }
         ensures empty { length bytes.now ≡ 0 → result ≡ Ok 0 }
         ensures bytes { IsPrinted bytes.now None result None }
-        ensures failed { IsErrOf result SinkNo.Failed → Rose self.old self.new }
-        ensures memory { IsErrOf result SinkNo.Memory → self.new ≡ self.old }
-        ensures faults { self.old ≤ self.new }
+        ensures gone { IsCounted self.old result self.new }
 
         // It counts what it answers, and nothing else.
         ensures counted { self.new ≡ faults_printed result self.old }

@@ -1,8 +1,9 @@
 // A sink in memory, which tells all that it has taken.
 ghost use Rattle.std.specs.Prelude.{◌≡◌, ◌<◌, ◌≤◌, ◌-◌, ◌^◌, ◌↔◌, [], Some, OnOk, OnErr, IfOk, IsErrOf, length};
 ghost use Rattle.dtx_outside.specs.Calls.{IsUnplanned, IsPlanned, failing};
+ghost use Rattle.dtx_outside.specs.Counts.{last_count};
 ghost use Rattle.dtx_outside.specs.MemorySink.{after_write};
-ghost use Rattle.dtx_outside.specs.Shelf.{last_count};
+ghost use Rattle.dtx_outside.specs.Sink.{IsCounted};
 
 use crate::calls::Calls;
 use crate::{Sink, SinkNo};
@@ -69,10 +70,11 @@ impl Sink for MemorySink {
     ghost faults = { λ s. s.faults };
 
     fn write(&mut self, bytes: &[u8]) -> Result<usize, SinkNo>
-        ensures faults { self.old.faults ≤ self.new.faults }
+        ensures gone { IsCounted self.old.faults result self.new.faults }
         ensures after { self.new ≡ after_write bytes.now result self.old }
 
-        // It takes all of the piece, or nothing: it fails exactly where that is planned and there is something to take.
+        // It takes all of the piece, or nothing: it fails exactly where that is planned and there is something to
+        // take.
         ensures all { IfOk result (λ n. n ≡ length bytes.now) }
         ensures planned { IsErrOf result SinkNo.Failed ↔ (IsPlanned self.old.writes × (0 < length bytes.now)) }
         ensures empty { length bytes.now ≡ 0 → result ≡ Ok 0 }

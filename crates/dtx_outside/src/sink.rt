@@ -1,7 +1,6 @@
 // What the program prints to.
-ghost use Rattle.std.specs.Prelude.{◌≡◌, ◌<◌, ◌≤◌, ℕ, List, length, IfOk, IsErrOf, Option};
-ghost use Rattle.dtx_outside.specs.Shelf.{Rose};
-ghost use Rattle.dtx_outside.specs.Sink.{IsPrinted};
+ghost use Rattle.std.specs.Prelude.{◌≡◌, ◌<◌, ◌≤◌, ℕ, List, length, IfOk, Option};
+ghost use Rattle.dtx_outside.specs.Sink.{IsPrinted, IsCounted};
 ghost use Rattle.dtx_outside.specs.declared.sink.SinkNo.TheVariants.{Memory};
 
 use std::alloc::AllocError;
@@ -38,7 +37,5 @@ pub trait Sink {
         ensures some { IfOk result (λ n. 0 < length bytes.now → 0 < n) }
         ensures empty { length bytes.now ≡ 0 → result ≡ Ok 0 }
         ensures bytes { IsPrinted bytes.now (written self.old) result (written self.new) }
-        ensures failed { IsErrOf result SinkNo.Failed → Rose (faults self.old) (faults self.new) }
-        ensures memory { IsErrOf result SinkNo.Memory → faults self.new ≡ faults self.old }
-        ensures faults { faults self.old ≤ faults self.new };
+        ensures gone { IsCounted (faults self.old) result (faults self.new) };
 }

@@ -1,3 +1,1 @@
-pub mod Chunks
-pub mod Packets
 pub mod Reading

@@ -7,7 +7,7 @@ use Rattle.dtx_outside.specs.Shelf.{Files}
 use Rattle.dtx_packets.specs.declared.packet.Packet.{Packet}
 use Rattle.dtx_packets.specs.Packets.{whole_packets, packets_of}
 use Rattle.dtx_packets.specs.Reading.{Reading, next_of, IsCount, IsAdvance, AreNext}
-use Rattle.dtx_packets.proofs.Packets.{packets_of-piece, whole_packets-piece}
+use Rattle.dtx_packets.specs.PacketLaws.{packets_of-piece, whole_packets-piece}
 
 cut_of_file : (found : Option (List ℕ)) (old new : Reading) (n : ℕ) (bytes part : List ℕ) (into : List Packet)
     → whole_packets bytes ≡ length into → part ≡ take (188 * n) bytes
@@ -19,10 +19,12 @@ cut_of_file (Some file) old new n bytes part into room is_part advance cut =
     let piece = is_part ∙ advance.1 in
     let count : whole_packets part ≡ n = ap whole_packets piece ∙ whole_packets-piece file (next_of old) n left in (
       subst (λ r. IsCount file old r n new) room advance.0,
-      ap (λ k. map (λ (p : Packet). p.0) (take k into)) (sym count) ∙ cut ∙ ap packets_of piece ∙ packets_of-piece file (next_of old) n left,
+      ap (λ k. map (λ (p : Packet). p.0) (take k into)) (sym count) ∙ cut ∙ ap packets_of piece
+          ∙ packets_of-piece file (next_of old) n left,
     )
 
-pub are_next : (told : Option Files) (name : List ℕ) (old new : Reading) (n m : ℕ) (bytes rest : List ℕ) (into : List Packet)
+pub are_next : (told : Option Files) (name : List ℕ) (old new : Reading) (n m : ℕ) (bytes rest : List ℕ)
+    (into : List Packet)
     → whole_packets bytes ≡ length into → n ≤ length bytes / 188 → m ≡ 188 * n
     → IfSome told (λ held. IsAdvance (get held name) old (Ok n) bytes new)
     → map (λ p. p.0) (take (whole_packets (take m (bytes ++ rest))) into) ≡ packets_of (take m (bytes ++ rest))

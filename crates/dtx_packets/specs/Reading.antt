@@ -1,5 +1,6 @@
 -- Where a reader of packets stands, and what it answers next.
-use Rattle.std.specs.Prelude.{◌≡◌, ℕ, ◌+◌, ◌-◌, ◌*◌, ◌<◌, ◌≤◌, min, List, length, take, drop, map, Option, Some, None, Result, Ok, Err, IsSomeAnd}
+use Rattle.std.specs.Prelude.{◌≡◌, ℕ, ◌+◌, ◌-◌, ◌*◌, ◌<◌, ◌≤◌, min, List, length, take, drop, map, Option, Some, None}
+use Rattle.std.specs.Prelude.{Result, Ok, Err, IsSomeAnd}
 use Rattle.dtx_packets.specs.declared.packet.Packet.{Packet}
 use Rattle.dtx_packets.specs.declared.refusal.NextNo.{NextNo}
 use Rattle.dtx_packets.specs.declared.refusal.NextNo.TheVariants.{Absent, Failed, Memory, TooLong}
@@ -34,11 +35,13 @@ IsRefused found old Memory = Unit {0}
 
 -- what `next` answers of a file, which may not be there
 abbrev pub IsNext : Option (List ℕ) → Reading → Result (Option Packet) NextNo → Reading → Type 0
-IsNext found old (Ok (Some packet)) new = IsSomeAnd found (λ file. HasNext file old × (packet.0 ≡ packet_at file (next_of old)))
+IsNext found old (Ok (Some packet)) new =
+    IsSomeAnd found (λ file. HasNext file old × (packet.0 ≡ packet_at file (next_of old)))
 IsNext found old (Ok None) new = IsSomeAnd found (λ file. IsEnd file old new)
 IsNext found old (Err refusal) new = IsRefused found old refusal
 
--- that many packets are given where there is room for some: as many as have room, as the limit still allows and as are left
+-- that many packets are given where there is room for some: as many as have room, as the limit still allows and as
+-- are left
 pub record IsCount (file : List ℕ) (old : Reading) (room n : ℕ) (new : Reading) : Type 0 where
   pub least : n ≡ min room (min (old.limit - old.given) (whole_packets file - next_of old))
   pub none : n ≡ 0 → IsEnd file old new
@@ -52,5 +55,6 @@ AreNext found old (Err refusal) into new = IsRefused found old refusal
 -- what of a file is read to a buffer, as the bytes of packets
 abbrev pub IsAdvance : Option (List ℕ) → Reading → Result ℕ NextNo → List ℕ → Reading → Type 0
 IsAdvance found old (Ok n) bytes new = IsSomeAnd found (λ file.
-    IsCount file old (whole_packets bytes) n new × (take (188 * n) bytes ≡ take (188 * n) (drop (188 * next_of old) file)))
+    IsCount file old (whole_packets bytes) n new
+    × (take (188 * n) bytes ≡ take (188 * n) (drop (188 * next_of old) file)))
 IsAdvance found old (Err refusal) bytes new = IsRefused found old refusal

@@ -1,8 +1,9 @@
 // The packets of a file, one after another or many at a time.
-ghost use Rattle.std.specs.Prelude.{◌≡◌, ◌≤◌, ◌<◌, ◌+◌, ◌/◌, length, drop, IfOk, IfSome, IsErrOf, OnErr, Ok, None, Err};
+ghost use Rattle.std.specs.Prelude.{◌≡◌, ◌≤◌, ◌<◌, ◌+◌, ◌/◌, length, drop, IfOk, IfSome, IsErrOf, OnErr, Ok, None};
 ghost use Rattle.std.specs.FinMap as map;
-ghost use Rattle.dtx_outside.specs.Shelf.{Rose};
+ghost use Rattle.dtx_outside.specs.Counts.{HasGone};
 ghost use Rattle.dtx_packets.specs.Packets.{most_packets};
+ghost use Rattle.dtx_packets.specs.Refusal.{blame_of_next};
 
 use crate::cutting::cut;
 use crate::packet::{PACKET, Packet};
@@ -42,7 +43,8 @@ impl Model for PacketReader {
 
     ghost view = { λ r. record { first = r.first; limit = r.limit; given = r.given; loose = r.loose } };
 
-    ghost invariant = { λ r. (r.first ≤ MOST_PACKETS) × (r.limit ≤ MOST_PACKETS) × (r.given ≤ r.limit) × (r.loose < PACKET) };
+    ghost invariant = { λ r. (r.first ≤ MOST_PACKETS) × (r.limit ≤ MOST_PACKETS)
+        × (r.given ≤ r.limit) × (r.loose < PACKET) };
 }
 
 impl PacketReader {
@@ -87,18 +89,16 @@ impl PacketReader {
 
         // What it leaves, also where the shelf doesn't tell its files.
         ensures packet { IfOk result (λ next. IfSome next (λ _.
-            (self.old.given < self.old.limit) × (self.new ≡ record self.old { given = self.old.given + 1; loose = 0 }))) }
-        ensures end { result ≡ Ok None → (self.new.loose < PACKET) × (self.new ≡ record self.old { loose = self.new.loose }) }
+            (self.old.given < self.old.limit)
+            × (self.new ≡ record self.old { given = self.old.given + 1; loose = 0 }))) }
+        ensures end { result ≡ Ok None → (self.new.loose < PACKET)
+            × (self.new ≡ record self.old { loose = self.new.loose }) }
         ensures err { OnErr result (self.new ≡ self.old) }
 
         // The causes.
         ensures too_long { IsErrOf result NextNo.TooLong → self.old.given ≡ self.old.limit }
-        ensures absent { IsErrOf result NextNo.Absent → Rose (S.misses shelf.old) (S.misses shelf.new) }
-        ensures failed { IsErrOf result NextNo.Failed → Rose (S.read_faults shelf.old) (S.read_faults shelf.new) }
+        ensures gone { HasGone (S.counts shelf.old) (S.counts shelf.new) (blame_of_next result) }
         ensures kept { S.files shelf.new ≡ S.files shelf.old }
-        ensures read_faults { S.read_faults shelf.old ≤ S.read_faults shelf.new }
-        ensures write_faults { S.write_faults shelf.new ≡ S.write_faults shelf.old }
-        ensures misses { S.misses shelf.old ≤ S.misses shelf.new }
     {
         let mut bytes = [0u8; PACKET];
         let count = self.advance(shelf, name, &mut bytes)?;
@@ -120,25 +120,24 @@ impl PacketReader {
     ) -> Result<usize, NextNo>
         requires some { 0 < length into.old }
         requires fits { length into.old ≤ PIECE_PACKETS }
-        ensures told { IfSome (S.files shelf.old) (λ held. AreNext (map.get held name.now) self.old result into.new self.new) }
+        ensures told { IfSome (S.files shelf.old) (λ held.
+            AreNext (map.get held name.now) self.old result into.new self.new) }
 
         // What it leaves, also where the shelf doesn't tell its files.
         ensures count { IfOk result (λ n. n ≤ length into.new) }
         ensures rest { IfOk result (λ n. drop n into.new ≡ drop n into.old) }
         ensures packets { IfOk result (λ n. 0 < n →
-            (self.old.given + n ≤ self.old.limit) × (self.new ≡ record self.old { given = self.old.given + n; loose = 0 })) }
-        ensures end { result ≡ Ok 0 → (self.new.loose < PACKET) × (self.new ≡ record self.old { loose = self.new.loose }) }
+            (self.old.given + n ≤ self.old.limit)
+            × (self.new ≡ record self.old { given = self.old.given + n; loose = 0 })) }
+        ensures end { result ≡ Ok 0 → (self.new.loose < PACKET)
+            × (self.new ≡ record self.old { loose = self.new.loose }) }
         ensures err { OnErr result (self.new ≡ self.old) }
         ensures err_rest { OnErr result (into.new ≡ into.old) }
 
         // The causes.
         ensures too_long { IsErrOf result NextNo.TooLong → self.old.given ≡ self.old.limit }
-        ensures absent { IsErrOf result NextNo.Absent → Rose (S.misses shelf.old) (S.misses shelf.new) }
-        ensures failed { IsErrOf result NextNo.Failed → Rose (S.read_faults shelf.old) (S.read_faults shelf.new) }
+        ensures gone { HasGone (S.counts shelf.old) (S.counts shelf.new) (blame_of_next result) }
         ensures kept { S.files shelf.new ≡ S.files shelf.old }
-        ensures read_faults { S.read_faults shelf.old ≤ S.read_faults shelf.new }
-        ensures write_faults { S.write_faults shelf.new ≡ S.write_faults shelf.old }
-        ensures misses { S.misses shelf.old ≤ S.misses shelf.new }
     {
         let mut bytes = [0u8; PIECE];
         let room = into.len() * PACKET;
@@ -156,19 +155,18 @@ impl PacketReader {
     ) -> Result<usize, NextNo>
         requires some { PACKET ≤ length bytes.old }
         requires fits { length bytes.old ≤ PIECE }
-        ensures told { IfSome (S.files shelf.old) (λ held. IsAdvance (map.get held name.now) self.old result bytes.new self.new) }
+        ensures told { IfSome (S.files shelf.old) (λ held.
+            IsAdvance (map.get held name.now) self.old result bytes.new self.new) }
         ensures count { IfOk result (λ n. n ≤ length bytes.new / PACKET) }
         ensures packets { IfOk result (λ n. 0 < n →
-            (self.old.given + n ≤ self.old.limit) × (self.new ≡ record self.old { given = self.old.given + n; loose = 0 })) }
-        ensures end { result ≡ Ok 0 → (self.new.loose < PACKET) × (self.new ≡ record self.old { loose = self.new.loose }) }
+            (self.old.given + n ≤ self.old.limit)
+            × (self.new ≡ record self.old { given = self.old.given + n; loose = 0 })) }
+        ensures end { result ≡ Ok 0 → (self.new.loose < PACKET)
+            × (self.new ≡ record self.old { loose = self.new.loose }) }
         ensures err { OnErr result (self.new ≡ self.old) }
         ensures too_long { IsErrOf result NextNo.TooLong → self.old.given ≡ self.old.limit }
-        ensures absent { IsErrOf result NextNo.Absent → Rose (S.misses shelf.old) (S.misses shelf.new) }
-        ensures failed { IsErrOf result NextNo.Failed → Rose (S.read_faults shelf.old) (S.read_faults shelf.new) }
+        ensures gone { HasGone (S.counts shelf.old) (S.counts shelf.new) (blame_of_next result) }
         ensures kept { S.files shelf.new ≡ S.files shelf.old }
-        ensures read_faults { S.read_faults shelf.old ≤ S.read_faults shelf.new }
-        ensures write_faults { S.write_faults shelf.new ≡ S.write_faults shelf.old }
-        ensures misses { S.misses shelf.old ≤ S.misses shelf.new }
     {
         let left = self.limit - self.given;
         // Where the limit is reached, one packet more shows whether the file is longer.

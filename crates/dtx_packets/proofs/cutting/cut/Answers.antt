@@ -3,7 +3,7 @@ use Rattle.std.proofs.lemmas.List.{take_more_set, map_push, drop-set-lt, drop-dr
 use Rattle.std.proofs.lemmas.List.FromFn.{map-range_with_len_more}
 use Rattle.dtx_packets.specs.declared.packet.Packet.{Packet}
 use Rattle.dtx_packets.specs.Packets.{packet_at, packets_from, whole_packets}
-use Rattle.dtx_packets.proofs.Chunks.{get_or-first_chunks}
+use Rattle.dtx_packets.specs.Chunks.{get_or-first_chunks}
 use Rattle.dtx_packets.proofs.cutting.cut.Goals as goal
 
 pub loop-k-preserved : goal.loop-k-preserved
@@ -13,7 +13,9 @@ loop-k-preserved c =
     let bytes = c.args.bytes.now in
     let before = c.loop-k.invariant in
     let here : k < length bytes / 188 = omega (arith, c.as_chunks.ensures.front_len, c.loop-k-test.true) in
-    let chunk : get_or c.as_chunks.result.0.now k [] ≡ packet_at bytes k = ap (λ chunks. get_or chunks k []) c.as_chunks.ensures.front ∙ get_or-first_chunks 188 (length bytes / 188) bytes k here in
+    let chunk : get_or c.as_chunks.result.0.now k [] ≡ packet_at bytes k =
+    ap (λ chunks. get_or chunks k []) c.as_chunks.ensures.front
+    ∙ get_or-first_chunks 188 (length bytes / 188) bytes k here in
     let packet : Packet = record { 0 = get_or c.as_chunks.result.0.now k [] } in
     record {
       packets =
@@ -32,5 +34,7 @@ loop-k-preserved c =
 pub returns-clause-packets : goal.returns-clause-packets
 returns-clause-packets c =
     let bytes = c.args.bytes.now in
-    let all : whole_packets bytes ≡ c.loop-k.k = omega (arith, c.as_chunks.ensures.front_len, c.loop-k-test.false, c.loop-k.auto.k-end) in
-    ap (λ n. map (λ (p : Packet). p.0) (take n c.loop-k.into)) all ∙ c.loop-k.invariant.packets ∙ ap (packets_from bytes 0) (sym all)
+    let all : whole_packets bytes ≡ c.loop-k.k =
+    omega (arith, c.as_chunks.ensures.front_len, c.loop-k-test.false, c.loop-k.auto.k-end) in
+    ap (λ n. map (λ (p : Packet). p.0) (take n c.loop-k.into)) all ∙ c.loop-k.invariant.packets
+    ∙ ap (packets_from bytes 0) (sym all)

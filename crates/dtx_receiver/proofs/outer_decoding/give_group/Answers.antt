@@ -1,7 +1,7 @@
 use Rattle.std.proofs.Common.{◌≡◌, ℕ, ◌+◌, ◌*◌, ◌/◌, ◌<◌, ◌≤◌, ◌++◌, [], List, length, get_or, take, drop, sym, ap, ap₂, ◌∙◌, subst, append_assoc, arith}
 use Rattle.std.proofs.Math.Seq.{take-add}
 use Rattle.std.proofs.lemmas.List.{take_all}
-use Rattle.dtx_packets.proofs.Chunks.{get_or-first_chunks}
+use Rattle.dtx_packets.specs.Chunks.{get_or-first_chunks}
 use Rattle.dtx_outer.specs.Inner.{StandsFor}
 use Rattle.dtx_receiver.specs.Packets.{early_of}
 use Rattle.dtx_receiver.proofs.outer_decoding.give_group.Goals as goal
