@@ -4,7 +4,7 @@ use Rattle.std.specs.Prelude.{◌↔◌, IsTrue}
 use Rattle.std.proofs.lemmas.Bool.{leb-true, le-leb, eqb-true, eq-eqb}
 use Rattle.std.proofs.lemmas.List.{length-append, take-append-le, take_all}
 use Rattle.dtx_coder.specs.Groups.{Coding, Group, StandsFor, IsCoded}
-use Rattle.dtx_coder.proofs.Next.{next_stands}
+use Rattle.dtx_coder.specs.NextLaws.{next_stands}
 
 -- a whole group
 pub group_stands : (coder new : Coding) (fed : List (List ℕ)) (group : Group) (count : ℕ) (sent : List ℤ) → IsCoded coder group new count sent → StandsFor coder fed

@@ -6,7 +6,7 @@ use Rattle.std.proofs.lemmas.List.{length_push}
 use Rattle.dtx_cadence.specs.declared.anchor.Seen.TheVariants.{Free, Start, Moved, Lost, At}
 use Rattle.dtx_cadence.specs.Anchor.{in_step, anchor, seen_by, seen, next_place, StandsFor}
 use Rattle.dtx_cadence.specs.Step.{kept_after, answer}
-use Rattle.dtx_cadence.proofs.NextAnchor.{new_anchor, anchor_free, anchor_next, anchor_below}
+use Rattle.dtx_cadence.specs.NextAnchorLaws.{new_anchor, anchor_free, anchor_next, anchor_below}
 
 -- a list in step with an anchor is in step with its place modulo 624
 in_step_place : (s n : ℕ) → in_step s (n % 624) ≡ in_step s n

@@ -8,17 +8,17 @@ use Rattle.dtx_outer.specs.Inner.{word_at}
 use Rattle.dtx_slice.specs.Slicing.{sliced_data}
 use Rattle.dtx_slice.specs.Unrolled.{level_groups, byte_back, bytes_back}
 use Rattle.dtx_coder.specs.Stream.{a53}
-use Rattle.dtx_coder.proofs.Counts.{length-a53}
+use Rattle.dtx_coder.specs.CountsLaws.{length-a53}
 use Rattle.dtx_receiver.specs.Bytes.{data_count, data_at, groups_of, levels_from, levels_in, first_formers, bytes_in}
 use Rattle.dtx_receiver.specs.Packets.{is_complete, received_at, packets_of, all_packets, received}
 use Rattle.dtx_receiver.specs.declared.batch.Received.{Received}
-use Rattle.dtx_receiver.proofs.Complete.{complete_told}
-use Rattle.dtx_receiver.proofs.Segments.{segment_long}
+use Rattle.dtx_receiver.specs.CompleteLaws.{complete_told}
+use Rattle.dtx_receiver.specs.SegmentsLaws.{segment_long}
 use Rattle.dtx_chain.specs.Undamaged.{ArePackets, with_sync}
 use Rattle.dtx_chain.specs.Damage.{as_corrected, AreReceived, IsSlight, to_sync, from_sync, packet_behind, numbers_in, word_in}
 use Rattle.dtx_chain.proofs.Slight.{sent_within, sync_first, field_begins, one_run_left}
 use Rattle.dtx_chain.proofs.Undamaged.{map-filter_same}
-use Rattle.dtx_chain.proofs.Words.{corrected_back}
+use Rattle.dtx_chain.specs.WordsLaws.{corrected_back}
 
 -- ---- how many bytes a run has
 

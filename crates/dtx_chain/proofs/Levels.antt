@@ -10,17 +10,17 @@ use Rattle.dtx_trellis.specs.Pairs.{groups}
 use Rattle.dtx_trellis.specs.Groups.{level_at, levels_of}
 use Rattle.dtx_slice.specs.Slicing.{sliced, sliced_data, sliced_last}
 use Rattle.dtx_slice.specs.Unrolled.{bytes_back, formers_of, formers_in}
-use Rattle.dtx_slice.proofs.Inverse.{bytes_come_back}
-use Rattle.dtx_frame.proofs.Rule.{level_at_small}
-use Rattle.dtx_frame.proofs.Slices.{data_back, last_back}
+use Rattle.dtx_slice.specs.InverseLaws.{bytes_come_back}
+use Rattle.dtx_frame.specs.RuleLaws.{level_at_small}
+use Rattle.dtx_frame.specs.SlicesLaws.{data_back, last_back}
 use Rattle.dtx_coder.specs.Coded.{whole_groups}
 use Rattle.dtx_coder.specs.Stream.{zero_states, levels, segment, no_last, last_before, a53}
-use Rattle.dtx_coder.proofs.Bytes.{length-whole}
-use Rattle.dtx_coder.proofs.Levels.{length-levels}
-use Rattle.dtx_coder.proofs.Segments.{segment_is}
-use Rattle.dtx_coder.proofs.Counts.{length-a53}
+use Rattle.dtx_coder.specs.BytesLaws.{length-whole}
+use Rattle.dtx_coder.specs.LevelsLaws.{length-levels}
+use Rattle.dtx_coder.specs.SegmentsLaws.{segment_is}
+use Rattle.dtx_coder.specs.CountsLaws.{length-a53}
 use Rattle.dtx_receiver.specs.Bytes.{data_count, data_at, groups_of, levels_from, levels_in, first_formers, bytes_in}
-use Rattle.dtx_receiver.proofs.Ranges.{flat_map-range_same}
+use Rattle.dtx_receiver.specs.RangesLaws.{flat_map-range_same}
 use Rattle.dtx_chain.proofs.Places.{sync_at, data_at_place}
 
 -- ---- the levels

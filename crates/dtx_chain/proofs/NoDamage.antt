@@ -2,16 +2,16 @@
 use Rattle.std.proofs.Common.{◌≡◌, ℕ, ℤ, ◌+◌, ◌-◌, ◌*◌, ◌/◌, ◌%◌, ◌<◌, ◌≤◌, List, length, drop, refl, sym, ap, ap₂, ◌∙◌, subst, arith, zero-add}
 use Rattle.std.proofs.lemmas.List.{take_all}
 use Rattle.dtx_laws.specs.Codeword.{distance}
-use Rattle.dtx_laws.proofs.Words.{distance_self}
+use Rattle.dtx_laws.specs.WordsLaws.{distance_self}
 use Rattle.dtx_outer.specs.Inner.{word_at, IsComplete}
 use Rattle.dtx_coder.specs.Stream.{a53}
-use Rattle.dtx_coder.proofs.Counts.{a53_segment}
+use Rattle.dtx_coder.specs.CountsLaws.{a53_segment}
 use Rattle.dtx_receiver.specs.Bytes.{groups_of, bytes_in}
 use Rattle.dtx_chain.specs.Undamaged.{ArePackets}
 use Rattle.dtx_chain.specs.Damage.{codeword_at, IsNear, AreReceived, IsSlight, to_sync, from_sync, packet_behind, word_in}
 use Rattle.dtx_chain.proofs.Places.{syncs_look}
 use Rattle.dtx_chain.proofs.Levels.{groups_are, bytes_are}
-use Rattle.dtx_chain.proofs.Words.{whole_small, word_is}
+use Rattle.dtx_chain.specs.WordsLaws.{whole_small, word_is}
 
 pub are_received : (ps : List (List ℕ)) → AreReceived ps 0 (a53 ps) (a53 ps)
 are_received ps = record {

@@ -8,12 +8,12 @@ use Rattle.std.proofs.lemmas.Grind.{flat_map-append}
 use Rattle.dtx_lists.proofs.Range.{range_with_len-parts}
 use Rattle.dtx_frame.specs.Segments.{field_sync}
 use Rattle.dtx_frame.specs.Detection.{looks_like}
-use Rattle.dtx_frame.proofs.Alike.{looks_alike}
+use Rattle.dtx_frame.specs.AlikeLaws.{looks_alike}
 use Rattle.dtx_coder.specs.Stream.{levels, segment, four_segments, last_before, sync_before, group_segments, a53}
-use Rattle.dtx_coder.proofs.Counts.{length-a53}
+use Rattle.dtx_coder.specs.CountsLaws.{length-a53}
 use Rattle.dtx_receiver.specs.Runs.{runs}
 use Rattle.dtx_receiver.specs.Intervals.{looks_at, IsRun, AreRuns, segments_in}
-use Rattle.dtx_receiver.proofs.Intervals.{are_runs, only_runs}
+use Rattle.dtx_receiver.specs.IntervalsLaws.{are_runs, only_runs}
 
 -- element j of part u of lists that stand one behind the other
 part_at : {X : Type 0} (f : ℕ → List X) (n u j : ℕ) (d : X) → u < n → j < length (f u)

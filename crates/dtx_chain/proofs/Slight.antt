@@ -7,16 +7,16 @@ use Rattle.std.proofs.lemmas.List.{length-take, length-drop, take_all, get_or-ta
 use Rattle.dtx_slice.specs.Slicing.{sliced}
 use Rattle.dtx_frame.specs.Segments.{sync_symbols}
 use Rattle.dtx_frame.specs.Detection.{differs, differing, looks_like}
-use Rattle.dtx_frame.proofs.Counts.{total, sum_is}
+use Rattle.dtx_frame.specs.CountsLaws.{total, sum_is}
 use Rattle.dtx_frame.proofs.Unlike.{unlike_segment}
 use Rattle.dtx_coder.specs.Coded.{whole_groups}
 use Rattle.dtx_coder.specs.Stream.{zero_states, levels, segment, a53}
-use Rattle.dtx_coder.proofs.Bytes.{length-whole}
-use Rattle.dtx_coder.proofs.Counts.{length-a53}
+use Rattle.dtx_coder.specs.BytesLaws.{length-whole}
+use Rattle.dtx_coder.specs.CountsLaws.{length-a53}
 use Rattle.dtx_receiver.specs.Runs.{runs}
 use Rattle.dtx_receiver.specs.Intervals.{NoneLooks, IsRun, AreRuns, segments_in}
-use Rattle.dtx_receiver.proofs.Intervals.{are_runs, only_runs}
-use Rattle.dtx_receiver.proofs.Segments.{place_data}
+use Rattle.dtx_receiver.specs.IntervalsLaws.{are_runs, only_runs}
+use Rattle.dtx_receiver.specs.SegmentsLaws.{place_data}
 use Rattle.dtx_chain.specs.Damage.{damage_at, damaged, AreReceived, IsSlight, to_sync, from_sync, packet_behind}
 use Rattle.dtx_chain.proofs.Places.{data_at_place}
 

@@ -4,16 +4,16 @@ use Rattle.std.specs.List.{range_with_len, filter, flat_map}
 use Rattle.std.proofs.lemmas.List.{append-nil}
 use Rattle.dtx_coder.specs.Coded.{whole_groups}
 use Rattle.dtx_coder.specs.Stream.{a53}
-use Rattle.dtx_coder.proofs.Bytes.{length-whole}
+use Rattle.dtx_coder.specs.BytesLaws.{length-whole}
 use Rattle.dtx_receiver.specs.Bytes.{bytes_in}
 use Rattle.dtx_receiver.specs.Packets.{is_complete, received_at, packets_of, all_packets, received}
 use Rattle.dtx_receiver.specs.declared.batch.Received.{Received}
-use Rattle.dtx_receiver.proofs.Complete.{complete_told}
-use Rattle.dtx_receiver.proofs.Ranges.{filter-kept, filter-lost}
+use Rattle.dtx_receiver.specs.CompleteLaws.{complete_told}
+use Rattle.dtx_receiver.specs.RangesLaws.{filter-kept, filter-lost}
 use Rattle.dtx_chain.specs.Undamaged.{ArePackets, with_sync, as_sent, whole_words}
 use Rattle.dtx_chain.proofs.Places.{one_run}
 use Rattle.dtx_chain.proofs.Levels.{bytes_are}
-use Rattle.dtx_chain.proofs.Words.{whole_small, packet_back}
+use Rattle.dtx_chain.specs.WordsLaws.{whole_small, packet_back}
 
 pub map-filter_same : {X : Type 0} (f g : ℕ → X) (p : ℕ → Bool) (a n : ℕ) → ((i : ℕ) → a ≤ i → i < a + n → p i ≡ true → f i ≡ g i)
     → map f (filter p (range_with_len a n)) ≡ map g (filter p (range_with_len a n))

@@ -1,2 +1,4 @@
 pub mod Undamaged
 pub mod Damage
+pub mod NumbersLaws
+pub mod WordsLaws

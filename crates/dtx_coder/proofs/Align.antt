@@ -2,8 +2,8 @@
 use Rattle.std.proofs.Common.{◌≡◌, List, [], ◌∷◌, ◌++◌, refl, sym, ap, subst, ◌∙◌}
 use Rattle.dtx_laws.specs.Branches.{HasWidths, spreading, aligned, leaving_all}
 use Rattle.dtx_laws.specs.Interleaving.{IsInterleavedBehind}
-use Rattle.dtx_laws.proofs.Places.{leaving_append}
-use Rattle.dtx_laws.proofs.Interleaving.{HasWidths-aligned, behind}
+use Rattle.dtx_laws.specs.PlacesLaws.{leaving_append}
+use Rattle.dtx_laws.specs.InterleavingLaws.{HasWidths-aligned, behind}
 use Rattle.dtx_coder.specs.Coded.{coded_from}
 use Rattle.dtx_coder.specs.Groups.{Coding, Group, aligned_coding, bytes_of, after_group, coded_groups, bytes_of_groups}
 

@@ -4,20 +4,20 @@ use Rattle.std.proofs.lemmas.List.{drop-append-le, drop_all, length-append, leng
 use Rattle.std.proofs.lemmas.List.FromFn.{fill_by_all}
 use Rattle.dtx_laws.specs.Branches.{Branching, HasWidths, spreading, aligned, leaving_all, after_all}
 use Rattle.dtx_laws.specs.Interleaving.{interleaved}
-use Rattle.dtx_laws.proofs.Places.{leaving_append, after_append, length_leaving}
+use Rattle.dtx_laws.specs.PlacesLaws.{leaving_append, after_append, length_leaving}
 use Rattle.dtx_frame.specs.Segments.{field_sync}
 use Rattle.dtx_trellis.specs.Trellis.{number_of, state_of, state_after}
 use Rattle.dtx_trellis.specs.Pairs.{groups, group_place}
 use Rattle.dtx_trellis.specs.Groups.{coder_after, levels_of, states_after}
-use Rattle.dtx_trellis.proofs.Joins.{states_append, levels_append}
+use Rattle.dtx_trellis.specs.JoinsLaws.{states_append, levels_append}
 use Rattle.dtx_coder.specs.Coded.{coded_from, coded, spread, whole_groups}
 use Rattle.dtx_coder.specs.Stream.{segment, four_segments, last_of}
 use Rattle.dtx_coder.specs.Groups.{Coding, Group, aligned_coding, bytes_of, group_levels, segments_of, after_group}
 use Rattle.dtx_coder.specs.Runs.{AreStates}
 use Rattle.dtx_coder.specs.Along.{IsNext, RunsAlong, left_since, levels_since, states_since}
-use Rattle.dtx_coder.proofs.Bytes.{coded_append, coded_place, length-coded, whole_is}
-use Rattle.dtx_coder.proofs.Levels.{length-levels_of}
-use Rattle.dtx_coder.proofs.Segments.{segment_back, four_back}
+use Rattle.dtx_coder.specs.BytesLaws.{coded_append, coded_place, length-coded, whole_is}
+use Rattle.dtx_coder.specs.LevelsLaws.{length-levels_of}
+use Rattle.dtx_coder.specs.SegmentsLaws.{segment_back, four_back}
 use Rattle.dtx_coder.proofs.Settled.{drop_settled}
 use Rattle.dtx_coder.proofs.Runs.{levels_at, states_at, last_after}
 

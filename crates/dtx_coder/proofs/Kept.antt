@@ -4,20 +4,20 @@ use Rattle.std.specs.List.{range_with_len}
 use Rattle.std.proofs.lemmas.List.{length-append, length-drop}
 use Rattle.std.proofs.lemmas.List.FromFn.{length-map-range_with_len, get_or-map-range_with_len}
 use Rattle.dtx_laws.specs.Branches.{HasWidths, spreading}
-use Rattle.dtx_laws.proofs.Interleaving.{HasWidths-all}
+use Rattle.dtx_laws.specs.InterleavingLaws.{HasWidths-all}
 use Rattle.dtx_frame.specs.Segments.{field_sync, sync_symbols}
-use Rattle.dtx_frame.proofs.Symbols.{length_front}
+use Rattle.dtx_frame.specs.SymbolsLaws.{length_front}
 use Rattle.dtx_trellis.specs.Trellis.{AreBits, State, number_of}
 use Rattle.dtx_trellis.specs.Pairs.{groups}
 use Rattle.dtx_trellis.specs.Groups.{coder_after, states_after}
-use Rattle.dtx_trellis.proofs.Rounds.{coder_bits}
+use Rattle.dtx_trellis.specs.RoundsLaws.{coder_bits}
 use Rattle.dtx_coder.specs.Coded.{coded_from}
 use Rattle.dtx_coder.specs.Stream.{segment, four_segments, last_of}
 use Rattle.dtx_coder.specs.Groups.{Coding, Group, bytes_of, group_levels, segments_of, after_group}
 use Rattle.dtx_coder.specs.Runs.{AreStates}
-use Rattle.dtx_coder.proofs.Counts.{AreSegments, segments_append, segments_map, segment_at}
+use Rattle.dtx_coder.specs.CountsLaws.{AreSegments, segments_append, segments_map, segment_at}
 use Rattle.dtx_coder.proofs.Runs.{length-group_levels, last_after}
-use Rattle.dtx_coder.proofs.Segments.{length-segment}
+use Rattle.dtx_coder.specs.SegmentsLaws.{length-segment}
 
 -- ---- segments
 

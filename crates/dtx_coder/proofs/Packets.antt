@@ -5,14 +5,14 @@ use borrow.Rule.Slice.PartMut.{put_mid}
 use Rattle.dtx_laws.specs.Words.{codeword}
 use Rattle.dtx_laws.specs.Branches.{spreading, after_all}
 use Rattle.dtx_laws.specs.Whitening.{whitened}
-use Rattle.dtx_laws.proofs.Interleaving.{HasWidths-all, HasWidths-aligned, HasWidths-zeroed}
+use Rattle.dtx_laws.specs.InterleavingLaws.{HasWidths-all, HasWidths-aligned, HasWidths-zeroed}
 use Rattle.dtx_outer.specs.Outer.{Held}
 use Rattle.dtx_whiten.specs.Randomizer.{randomizer_bytes}
 use Rattle.dtx_whiten.specs.Randomized.{randomized}
-use Rattle.dtx_whiten.proofs.Packets.{randomized_whitened}
+use Rattle.dtx_whiten.specs.PacketsLaws.{randomized_whitened}
 use Rattle.dtx_coder.specs.Coded.{coded_from}
 use Rattle.dtx_coder.specs.Groups.{IsAtsc, zero_branches}
-use Rattle.dtx_coder.proofs.Bytes.{coded_append}
+use Rattle.dtx_coder.specs.BytesLaws.{coded_append}
 
 pub codeword_is : (place : ℕ) (packet white head : List ℕ) → white ≡ randomizer_bytes → length packet ≡ 188 → place < 312 → head ≡ take 187 (drop 1 packet)
     → codeword 207 187 (whitened white (187 * place) head) ≡ coded_from place (packet ∷ [])

@@ -4,18 +4,18 @@ use Rattle.std.specs.List.{enumerate_from, flat_map}
 use Rattle.std.proofs.lemmas.Bool.{cond-false, ne_eqb}
 use Rattle.std.proofs.lemmas.List.{append-nil, append_assoc, drop_at, length-append}
 use Rattle.dtx_laws.specs.Branches.{after_all}
-use Rattle.dtx_laws.proofs.Places.{after_append, length_leaving}
+use Rattle.dtx_laws.specs.PlacesLaws.{after_append, length_leaving}
 use Rattle.dtx_frame.specs.Segments.{field_sync}
 use Rattle.dtx_trellis.specs.Pairs.{group_place}
 use Rattle.dtx_trellis.specs.Groups.{levels_of, states_after}
-use Rattle.dtx_trellis.proofs.Joins.{states_append, levels_append}
+use Rattle.dtx_trellis.specs.JoinsLaws.{states_append, levels_append}
 use Rattle.dtx_coder.specs.Coded.{coded_from, coded}
 use Rattle.dtx_coder.specs.Stream.{segment, four_segments, last_of}
 use Rattle.dtx_coder.specs.Groups.{Coding, Group, bytes_of, group_levels, segments_of, after_group, coded_groups, bytes_of_groups}
 use Rattle.dtx_coder.specs.Runs.{AreInTurn, GoOn, IsRun, after_groups, segments_of_groups, packets_of, last_in, run_group, run_segments}
-use Rattle.dtx_coder.proofs.Bytes.{coded_append, coded_place, length-coded}
-use Rattle.dtx_coder.proofs.Levels.{length-levels_of}
-use Rattle.dtx_coder.proofs.Segments.{segment_front, segment_back, four_front, four_behind}
+use Rattle.dtx_coder.specs.BytesLaws.{coded_append, coded_place, length-coded}
+use Rattle.dtx_coder.specs.LevelsLaws.{length-levels_of}
+use Rattle.dtx_coder.specs.SegmentsLaws.{segment_front, segment_back, four_front, four_behind}
 use Rattle.dtx_coder.proofs.Align.{in_turn}
 
 -- ---- a cut

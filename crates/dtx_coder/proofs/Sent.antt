@@ -11,8 +11,8 @@ use Rattle.dtx_frame.specs.Segments.{field_sync}
 use Rattle.dtx_coder.specs.Coded.{coded_from}
 use Rattle.dtx_coder.specs.Stream.{segment, four_segments, last_of, symbols_of}
 use Rattle.dtx_coder.specs.Groups.{Coding, Group, IsCoded, bytes_of, group_levels, segments_of, after_group}
-use Rattle.dtx_coder.proofs.Segments.{length-segment}
-use Rattle.dtx_coder.proofs.Next.{same_coding}
+use Rattle.dtx_coder.specs.SegmentsLaws.{length-segment}
+use Rattle.dtx_coder.specs.NextLaws.{same_coding}
 
 -- chunk i of a list
 pub get_or-first_chunks : {A : Type 0} (n k : ℕ) (xs : List A) (i : ℕ) (d : List A) → i < k → get_or (first_chunks n k xs) i d ≡ take n (drop (n * i) xs)

@@ -3,8 +3,8 @@ use Rattle.std.proofs.Common.{◌≡◌, ℕ, ◌+◌, ◌-◌, ◌*◌, ◌≤�
 use Rattle.std.proofs.lemmas.List.{ext_get_or, get_or-drop, length-drop}
 use Rattle.dtx_laws.specs.Branches.{Branching, HasWidths, spreading, aligned, leaving_all}
 use Rattle.dtx_laws.specs.Interleaving.{interleaved, IsInterleavedBehind}
-use Rattle.dtx_laws.proofs.Places.{length_leaving}
-use Rattle.dtx_laws.proofs.Interleaving.{HasWidths-aligned, behind, length-interleaved}
+use Rattle.dtx_laws.specs.PlacesLaws.{length_leaving}
+use Rattle.dtx_laws.specs.InterleavingLaws.{HasWidths-aligned, behind, length-interleaved}
 use Rattle.dtx_coder.specs.Groups.{Coding, Group, aligned_coding, coded_groups, bytes_of_groups}
 use Rattle.dtx_coder.proofs.Align.{in_turn}
 

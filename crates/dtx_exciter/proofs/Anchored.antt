@@ -4,7 +4,7 @@ use mathlib.Core.Bool.{beq}
 use Rattle.std.proofs.lemmas.Bool.{eqb-true, false≢true}
 use Rattle.std.proofs.lemmas.List.{length-append, length-take-le, take_more, append_assoc}
 use Rattle.dtx_cadence.specs.Anchor.{in_step, anchor}
-use Rattle.dtx_cadence.proofs.NextAnchor.{new_anchor, anchor_free, anchor_next, anchor_below}
+use Rattle.dtx_cadence.specs.NextAnchorLaws.{new_anchor, anchor_free, anchor_next, anchor_below}
 
 -- marks at each 624th and nowhere else
 abbrev pub Marked : List ℕ → Type 0

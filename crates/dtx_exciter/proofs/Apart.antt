@@ -4,7 +4,7 @@ use Rattle.std.specs.Prelude.{slice_range, pos, ◌-ℤ◌, ◌*ℤ◌}
 use Rattle.std.specs.List.{range_with_len, filter_map, cons_option}
 use Rattle.std.proofs.lemmas.List.{drop_at}
 use Rattle.dtx_clock.specs.Clock.{grains_of, DifferBy}
-use Rattle.dtx_clock.proofs.Moments.{moments_differ}
+use Rattle.dtx_clock.specs.MomentsLaws.{moments_differ}
 use Rattle.dtx_ops.specs.declared.fields.Ops.{Ops}
 use Rattle.dtx_exciter.specs.Order.{Order, counted, placed}
 use Rattle.dtx_exciter.specs.Packets.{said}

@@ -7,8 +7,8 @@ use Rattle.dtx_exciter.specs.Order.{Order, either, ordered, order_at, counted, p
 use Rattle.dtx_exciter.specs.Packets.{reads, said}
 use Rattle.dtx_exciter.specs.Step.{order_in, own_order}
 use Rattle.dtx_exciter.specs.Kept.{whole, last_order}
-use Rattle.dtx_exciter.proofs.Force.{IsBehind, Stands, force_left, force_more, force_first, force_stands, counted_early, counted_behind}
-use Rattle.dtx_exciter.proofs.Under.{said_append, length-said}
+use Rattle.dtx_exciter.specs.ForceLaws.{IsBehind, Stands, force_left, force_more, force_first, force_stands, counted_early, counted_behind}
+use Rattle.dtx_exciter.specs.UnderLaws.{said_append, length-said}
 
 -- the packets l under the anchor end three packets into the group from i on
 pub record Ends (l : List (List ℕ)) (i : ℕ) : Type 0 where

@@ -7,15 +7,15 @@ use Rattle.std.proofs.lemmas.List.{length-drop, drop-append-le}
 use Rattle.dtx_frame.specs.Segments.{field_sync}
 use Rattle.dtx_trellis.specs.Pairs.{group_place}
 use Rattle.dtx_trellis.specs.Groups.{levels_of, states_after}
-use Rattle.dtx_trellis.proofs.Joins.{levels_append}
+use Rattle.dtx_trellis.specs.JoinsLaws.{levels_append}
 use Rattle.dtx_coder.specs.Coded.{whole_groups}
 use Rattle.dtx_coder.specs.Stream.{segment, four_segments, last_of}
 use Rattle.dtx_coder.specs.Groups.{Coding, Group, segments_of, after_group}
 use Rattle.dtx_coder.specs.Along.{IsNext, RunsAlong, levels_since}
 use Rattle.dtx_coder.proofs.Along.{along_goes_on, along_preset, sent_group, sent_preset, last_along}
-use Rattle.dtx_coder.proofs.Bytes.{length-whole, whole_append}
-use Rattle.dtx_coder.proofs.Levels.{length-levels_of}
-use Rattle.dtx_coder.proofs.Segments.{segment_front}
+use Rattle.dtx_coder.specs.BytesLaws.{length-whole, whole_append}
+use Rattle.dtx_coder.specs.LevelsLaws.{length-levels_of}
+use Rattle.dtx_coder.specs.SegmentsLaws.{segment_front}
 use Rattle.dtx_ops.specs.declared.fields.Ops.{Ops}
 use Rattle.dtx_exciter.specs.Order.{Order, either, placed}
 use Rattle.dtx_exciter.specs.Told.{served}

@@ -16,8 +16,8 @@ use Rattle.dtx_exciter.specs.Packets.{said}
 use Rattle.dtx_exciter.specs.Emission.{Holds, sent_by, sent_at, sent_before, with_sync, given_under}
 use Rattle.dtx_exciter.specs.Step.{bytes_of, own_order, told_group, own_of, group_of, IsSent}
 use Rattle.dtx_exciter.specs.Kept.{whole, last_order, is_served, RunsUnder, KeepsUnder, IsJoined}
-use Rattle.dtx_exciter.proofs.Force.{force_left, force_first, counted_behind, IsBehind}
-use Rattle.dtx_exciter.proofs.Under.{said_append, length-said}
+use Rattle.dtx_exciter.specs.ForceLaws.{force_left, force_first, counted_behind, IsBehind}
+use Rattle.dtx_exciter.specs.UnderLaws.{said_append, length-said}
 use Rattle.dtx_exciter.proofs.Ends
 use Rattle.dtx_exciter.proofs.Answer.{told_group_is, sent_is_served}
 use Rattle.dtx_exciter.proofs.GroupSent.{IsGiven, HasSync, group_sent, runs_more, none_by}

@@ -1,8 +1,5 @@
-pub mod Ranges
 pub mod GroupOrder
 pub mod Held
-pub mod Force
-pub mod Under
 pub mod Ends
 pub mod Answer
 pub mod GroupSent
@@ -14,7 +11,6 @@ pub mod Anchored
 pub mod InLife
 pub mod FirstGroup
 pub mod Followed
-pub mod Emitted
 pub mod LockstepIs
 pub mod Lines
 pub mod Apart

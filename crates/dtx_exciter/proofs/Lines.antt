@@ -6,7 +6,7 @@ use Rattle.std.proofs.lemmas.Bool.{cond-true, cond-false, eq-eqb, ne_eqb, cases_
 use Rattle.std.proofs.lemmas.Grind.{flat_map-append}
 use Rattle.std.proofs.lemmas.List.{append_assoc, length-append, length-drop, length-take-le, take-append-le, take-take}
 use Rattle.dtx_lists.proofs.Range.{range_with_len-parts}
-use Rattle.dtx_coder.proofs.RangeMoved.{flat_map-range_same}
+use Rattle.dtx_coder.specs.RangeMovedLaws.{flat_map-range_same}
 use Rattle.dtx_ops.specs.declared.fields.Ops.{Ops}
 use Rattle.dtx_exciter.specs.declared.answers.Why.{Why}
 use Rattle.dtx_exciter.specs.declared.answers.Told.TheVariants.{Sent}
@@ -19,14 +19,14 @@ use Rattle.dtx_exciter.specs.Lockstep.{IsFeed, IsStretch, segment_place, stretch
 use Rattle.dtx_exciter.specs.Log.{Line, preset, line_of, life_lines}
 use Rattle.dtx_exciter.specs.Stretch.{lines_behind, before_stretch, moment_at, preset_line, orders_in, stretch_lines}
 use Rattle.dtx_exciter.proofs.Answer.{own_told}
-use Rattle.dtx_exciter.proofs.Emitted.{take_behind, length-stretch}
+use Rattle.dtx_exciter.specs.EmittedLaws.{take_behind, length-stretch}
 use Rattle.dtx_exciter.proofs.Followed.{after, Follows, told_is, told_none}
-use Rattle.dtx_exciter.proofs.Force.{counted_off}
+use Rattle.dtx_exciter.specs.ForceLaws.{counted_off}
 use Rattle.dtx_exciter.proofs.InLife.{life, length-life, Marks, IsGroup, counted_same, InStep, in_step, force_here}
 use Rattle.dtx_exciter.proofs.LockstepIs.{emitted_more, before_first, emits, Within, within, before_is}
-use Rattle.dtx_exciter.proofs.Ranges.{listed, flat_map-range_moved, flat_map-range_picked}
+use Rattle.dtx_exciter.specs.RangesLaws.{listed, flat_map-range_moved, flat_map-range_picked}
 use Rattle.dtx_exciter.proofs.SinceMark.{take_parts}
-use Rattle.dtx_exciter.proofs.Under.{length-said}
+use Rattle.dtx_exciter.specs.UnderLaws.{length-said}
 
 -- ---- the lines of any packets, some packets further
 

@@ -3,14 +3,14 @@ use Rattle.std.proofs.Common.{◌≡◌, ℕ, ◌+◌, ◌-◌, ◌*◌, ◌/◌
 use Rattle.std.specs.Prelude.{nat_le}
 use Rattle.std.proofs.lemmas.Bool.{cond-true, le-leb}
 use Rattle.std.proofs.lemmas.List.{ext_get_or, get_or-drop, get_or-append_right, length-append, length-drop, length-take-le, take-append-drop, take-take, drop-take}
-use Rattle.dtx_laws.proofs.Interleaving.{get_or-interleaved}
+use Rattle.dtx_laws.specs.InterleavingLaws.{get_or-interleaved}
 use Rattle.dtx_trellis.specs.Groups.{levels_of}
 use Rattle.dtx_coder.specs.Coded.{coded_from, coded, spread, whole_groups}
 use Rattle.dtx_coder.specs.Stream.{levels, states, four_segments}
 use Rattle.dtx_coder.specs.Along.{levels_since}
-use Rattle.dtx_coder.proofs.Bytes.{coded_append, coded_place, length-coded, length-spread, whole_is}
-use Rattle.dtx_coder.proofs.Levels.{length-levels, levels_from}
-use Rattle.dtx_coder.proofs.Segments.{four_behind}
+use Rattle.dtx_coder.specs.BytesLaws.{coded_append, coded_place, length-coded, length-spread, whole_is}
+use Rattle.dtx_coder.specs.LevelsLaws.{length-levels, levels_from}
+use Rattle.dtx_coder.specs.SegmentsLaws.{four_behind}
 
 -- ---- bytes
 

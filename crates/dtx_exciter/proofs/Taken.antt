@@ -20,8 +20,8 @@ use Rattle.dtx_exciter.specs.Packets.{syncs, said, anchor_of, under, told}
 use Rattle.dtx_exciter.specs.Emission.{Holds, given, given_under}
 use Rattle.dtx_exciter.specs.Step.{bytes_of, IsSame}
 use Rattle.dtx_exciter.specs.Kept.{last_order, is_served, RunsUnder, KeepsUnder, Keeps, StandsFor, IsTaken, IsJoined, Joins}
-use Rattle.dtx_exciter.proofs.Force.{force_first}
-use Rattle.dtx_exciter.proofs.Under.{Goes, goes, syncs_push}
+use Rattle.dtx_exciter.specs.ForceLaws.{force_first}
+use Rattle.dtx_exciter.specs.UnderLaws.{Goes, goes, syncs_push}
 
 -- ---- nothing given
 

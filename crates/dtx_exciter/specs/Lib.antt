@@ -7,3 +7,7 @@ pub mod Step
 pub mod Kept
 pub mod Lockstep
 pub mod Stretch
+pub mod ForceLaws
+pub mod UnderLaws
+pub mod RangesLaws
+pub mod EmittedLaws

@@ -1,9 +1,4 @@
-pub mod Symbols
 pub mod Parts
 pub mod Recurrences
-pub mod Counts
-pub mod Slices
-pub mod Alike
 pub mod Windows
-pub mod Rule
 pub mod Unlike

@@ -7,18 +7,18 @@ use Rattle.std.proofs.lemmas.List.FromFn.{get_or-map-range_with_len, length-map-
 use Rattle.dtx_lists.proofs.Below.{holds_below, at_below}
 use Rattle.dtx_trellis.specs.Pairs.{groups}
 use Rattle.dtx_trellis.specs.Groups.{level_at, levels_of}
-use Rattle.dtx_trellis.proofs.Joins.{groups_whole}
+use Rattle.dtx_trellis.specs.JoinsLaws.{groups_whole}
 use Rattle.dtx_slice.specs.Slicing.{sliced}
 use Rattle.dtx_frame.specs.declared.tables.TheConstants.{FIRST}
 use Rattle.dtx_frame.specs.Sequences.{extended, pn511}
 use Rattle.dtx_frame.specs.Segments.{data_segment, sync_symbols}
 use Rattle.dtx_frame.specs.Detection.{differs, differing, looks_like}
-use Rattle.dtx_frame.proofs.Symbols.{first_is}
+use Rattle.dtx_frame.specs.SymbolsLaws.{first_is}
 use Rattle.dtx_frame.proofs.Recurrences.{bit_511}
-use Rattle.dtx_frame.proofs.Counts.{total, sum_is, part, total_shift}
-use Rattle.dtx_frame.proofs.Slices.{data_at}
+use Rattle.dtx_frame.specs.CountsLaws.{total, sum_is, part, total_shift}
+use Rattle.dtx_frame.specs.SlicesLaws.{data_at}
 use Rattle.dtx_frame.proofs.Windows.{a_third, window}
-use Rattle.dtx_frame.proofs.Rule.{rule, level_at_small}
+use Rattle.dtx_frame.specs.RuleLaws.{rule, level_at_small}
 
 -- a bit's level in a field sync
 levels_test : holds_below (λ p. sliced (get_or FIRST (4 + p) (pos 0)) == 5 * get_or pn511 p 0 + 1) 511 ≡ true

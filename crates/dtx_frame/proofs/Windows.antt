@@ -1,6 +1,6 @@
 -- A broken place needs a differing symbol among three, so a third of the broken places differ.
 use Rattle.std.proofs.Common.{◌≡◌, ℕ, zero, suc, ◌+◌, ◌-◌, ◌*◌, ◌%◌, ◌<◌, ◌≤◌, ap, arith}
-use Rattle.dtx_frame.proofs.Counts.{total, part}
+use Rattle.dtx_frame.specs.CountsLaws.{total, part}
 
 windows : (g d : ℕ → ℕ) → ((p : ℕ) → 24 ≤ p → p < 511 → g p ≤ d p + d (p - 12) + d (p - 24)) → (a n : ℕ) → 24 ≤ a → a + n ≤ 511 → total g a n ≤ total d a n + total d (a - 12) n + total d (a - 24) n
 windows g d h a zero l k = omega arith

@@ -6,7 +6,7 @@ use Rattle.std.proofs.lemmas.Nat.{shr_split, mod_below, div_below, shl_below, di
 use Rattle.std.proofs.lemmas.Nat.Bits.{bit_at-lt, bit_at_cat_low}
 use Rattle.std.proofs.Math.Nat.{mod-eq_of_lt}
 use Rattle.dtx_galois.specs.BitPolynomial.{product, remainder}
-use Rattle.dtx_galois.proofs.Linear.{bit_cases, product_same}
+use Rattle.dtx_galois.specs.LinearLaws.{bit_cases, product_same}
 
 -- a polynomial whose term at d + n is cleared, of two with the same bit there
 pub same_top : (k u r s : ℕ) → r < 2 ^ k → s < 2 ^ k → bit_xor (u * 2 ^ k + r) (u * 2 ^ k + s) < 2 ^ k

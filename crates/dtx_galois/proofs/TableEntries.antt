@@ -4,7 +4,7 @@ use Rattle.std.proofs.lemmas.Bool.{eqb-true, and_parts, ltb-true}
 use Rattle.dtx_galois.specs.BitPolynomial.{product, remainder}
 use Rattle.dtx_galois.specs.Field.{mul, pow}
 use Rattle.dtx_lists.proofs.Below.{holds_below, at_below}
-use Rattle.dtx_galois.proofs.Powers.{pow_add, pow_times, pow_mod, cycle}
+use Rattle.dtx_galois.specs.PowersLaws.{pow_add, pow_times, pow_mod, cycle}
 use Rattle.dtx_galois.specs.declared.tables.TheConstants.{POWERS, LOGARITHMS}
 
 powers_test : holds_below (λ i. get_or POWERS i 0 == pow 2 i) 255 ≡ true

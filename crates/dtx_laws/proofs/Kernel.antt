@@ -3,12 +3,12 @@ use Rattle.std.proofs.Common.{◌≡◌, ◌≢◌, ℕ, zero, suc, ◌+◌, ◌
 use Rattle.std.proofs.lemmas.Bool.{ne_eqb}
 use Rattle.std.specs.Int.Bits.{xor_zero_r, xor_lt}
 use Rattle.dtx_galois.specs.Field.{mul, pow, value, AreBytes}
-use Rattle.dtx_galois.proofs.Linear.{mul_left, mul_right, xor_swap}
-use Rattle.dtx_galois.proofs.Field.{mul_comm, mul_assoc, mul_zero, mul_small, xor_zero, mul_swap, no_divisors}
+use Rattle.dtx_galois.specs.LinearLaws.{mul_left, mul_right, xor_swap}
+use Rattle.dtx_galois.specs.FieldLaws.{mul_comm, mul_assoc, mul_zero, mul_small, xor_zero, mul_swap, no_divisors}
 use Rattle.dtx_laws.specs.Codeword.{IsCorrection}
 use Rattle.dtx_laws.specs.Locator.{low_value, combination, Annuls}
-use Rattle.dtx_laws.proofs.Moments.{moment, ArePairs, Lacks, AreApart, AreZero, all_zero, moment_zero}
-use Rattle.dtx_laws.proofs.Words.{differences, moment_differences, length_differences, apart_differences, pairs_differences}
+use Rattle.dtx_laws.specs.MomentsLaws.{moment, ArePairs, Lacks, AreApart, AreZero, all_zero, moment_zero}
+use Rattle.dtx_laws.specs.WordsLaws.{differences, moment_differences, length_differences, apart_differences, pairs_differences}
 
 -- each d times the value at its x
 abbrev pub weighted : List ℕ → List (ℕ × ℕ) → List (ℕ × ℕ)

@@ -6,11 +6,11 @@ use Rattle.std.specs.List.{AllByRecursion}
 use Rattle.std.specs.Int.Bits.{xor_comm, xor_self, xor_lt}
 use Rattle.dtx_galois.specs.Field.{mul, pow, value, AreBytes}
 use Rattle.dtx_galois.specs.Word.{AreDifferent, IsZero}
-use Rattle.dtx_galois.proofs.Field.{mul_comm, mul_zero, zero_mul, mul_small, pow_small, xor_zero, no_divisors}
-use Rattle.dtx_galois.proofs.Powers.{powers_differ}
-use Rattle.dtx_galois.proofs.Bytes.{bytes_push}
-use Rattle.dtx_galois.proofs.Values.{value_push}
-use Rattle.dtx_galois.proofs.Roots.{fewer_roots}
+use Rattle.dtx_galois.specs.FieldLaws.{mul_comm, mul_zero, zero_mul, mul_small, pow_small, xor_zero, no_divisors}
+use Rattle.dtx_galois.specs.PowersLaws.{powers_differ}
+use Rattle.dtx_galois.specs.BytesLaws.{bytes_push}
+use Rattle.dtx_galois.specs.ValuesLaws.{value_push}
+use Rattle.dtx_galois.specs.RootsLaws.{fewer_roots}
 use Rattle.dtx_laws.specs.Locator.{low_value, power_at, vanishes_at}
 use Rattle.dtx_laws.specs.ErrorValues.{others, weight}
 

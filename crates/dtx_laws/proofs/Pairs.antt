@@ -2,11 +2,11 @@
 use Rattle.std.proofs.Common.{◌≡◌, ℕ, zero, suc, ◌+◌, ◌-◌, ◌<◌, List, [], ◌∷◌, map, length, get_or, bit_xor, refl, sym, ap, ap₂, ◌∙◌, arith}
 use Rattle.std.specs.Int.Bits.{xor_zero_r}
 use Rattle.dtx_galois.specs.Field.{mul, pow, value}
-use Rattle.dtx_galois.proofs.Linear.{mul_left, xor_swap}
-use Rattle.dtx_galois.proofs.Field.{mul_comm, mul_assoc, mul_one, zero_mul, mul_small, pow_small}
-use Rattle.dtx_galois.proofs.Powers.{pow_swap}
+use Rattle.dtx_galois.specs.LinearLaws.{mul_left, xor_swap}
+use Rattle.dtx_galois.specs.FieldLaws.{mul_comm, mul_assoc, mul_one, zero_mul, mul_small, pow_small}
+use Rattle.dtx_galois.specs.PowersLaws.{pow_swap}
 use Rattle.dtx_laws.specs.ErrorValues.{weight, without}
-use Rattle.dtx_laws.proofs.Moments.{moment, cancelled, moment_cancelled, moment_zero, AreZero}
+use Rattle.dtx_laws.specs.MomentsLaws.{moment, cancelled, moment_cancelled, moment_zero, AreZero}
 
 -- the differences of two words at all places, each with the power of 2 there
 abbrev pub pairs : List ℕ → List ℕ → List (ℕ × ℕ)

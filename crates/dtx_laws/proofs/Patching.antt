@@ -4,7 +4,7 @@ use Rattle.std.proofs.lemmas.List.{ext_get_or}
 use Rattle.std.proofs.lemmas.Bool.{eqb-true, eqb-false}
 use Rattle.std.specs.Int.Bits.{xor_zero_r, xor_assoc, xor_self, xor_lt}
 use Rattle.dtx_galois.specs.Field.{mul, pow, value, AreBytes}
-use Rattle.dtx_galois.proofs.Field.{mul_comm, mul_assoc, mul_one, mul_zero, zero_mul, mul_inverse}
+use Rattle.dtx_galois.specs.FieldLaws.{mul_comm, mul_assoc, mul_one, mul_zero, zero_mul, mul_inverse}
 use Rattle.dtx_laws.specs.Codeword.{IsCorrection}
 use Rattle.dtx_laws.specs.Locator.{IsLocator, low_value, Annuls, power_at, vanishes_at}
 use Rattle.dtx_laws.specs.ErrorValues.{others, weight, without, error_at, patched_at}

@@ -1,2 +1,6 @@
 pub mod Hurt
 pub mod Made
+pub mod DamagedPlacesLaws
+pub mod EntriesLaws
+pub mod LaidBytesLaws
+pub mod StreamsLaws

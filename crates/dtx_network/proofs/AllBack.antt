@@ -2,7 +2,7 @@
 use Rattle.std.proofs.Common.{◌≡◌, ℕ, ℤ, ◌+◌, ◌-◌, ◌*◌, ◌/◌, ◌%◌, ◌<◌, ◌≤◌, List, [], ◌∷◌, length, map, take, drop, get_or, sym, ap, ap₂, subst, ◌∙◌, arith}
 use Rattle.std.proofs.lemmas.List.{length-drop, length-take-le}
 use Rattle.dtx_coder.specs.Stream.{a53}
-use Rattle.dtx_coder.proofs.Counts.{length-a53}
+use Rattle.dtx_coder.specs.CountsLaws.{length-a53}
 use Rattle.dtx_chain.specs.Undamaged.{ArePackets, with_sync}
 use Rattle.dtx_chain.specs.Damage.{AreReceived, to_sync, from_sync, packet_behind, numbers_in}
 use Rattle.dtx_chain.proofs.Slight.{one_run_left}

@@ -11,11 +11,11 @@ use Rattle.dtx_receiver.specs.Bytes.{bytes_in}
 use Rattle.dtx_receiver.specs.Intervals.{AreRuns, segments_in}
 use Rattle.dtx_receiver.specs.Packets.{received_at, packets_of, all_packets, received}
 use Rattle.dtx_receiver.specs.declared.batch.Received.{Received}
-use Rattle.dtx_receiver.proofs.Intervals.{are_runs, only_runs}
+use Rattle.dtx_receiver.specs.IntervalsLaws.{are_runs, only_runs}
 use Rattle.dtx_chain.specs.Undamaged.{ArePackets, with_sync}
 use Rattle.dtx_chain.specs.Damage.{as_corrected}
-use Rattle.dtx_chain.proofs.Numbers.{number_at}
-use Rattle.dtx_chain.proofs.Words.{corrected_back}
+use Rattle.dtx_chain.specs.NumbersLaws.{number_at}
+use Rattle.dtx_chain.specs.WordsLaws.{corrected_back}
 use Rattle.dtx_network.specs.Headline.{last_packet}
 use Rattle.dtx_network.specs.GivesBack.{BeginsField, to_field, word_of, IsReadable, packets_of_runs, IsBack, GivesBack}
 

@@ -3,8 +3,8 @@ use Rattle.std.proofs.Common.{◌≡◌, ◌⊎◌, inl, inr, ℕ, suc, ◌+◌,
 use Rattle.std.specs.List.{AllByRecursion}
 use Rattle.std.proofs.lemmas.Bool.{cases_Bool, cond-true, cond-false, eqb-true}
 use Rattle.dtx_galois.specs.Field.{AreBytes}
-use Rattle.dtx_galois.proofs.Bytes.{bytes_append}
-use Rattle.dtx_laws.proofs.Choice.{codeword_is, codeword_length}
+use Rattle.dtx_galois.specs.BytesLaws.{bytes_append}
+use Rattle.dtx_laws.specs.ChoiceLaws.{codeword_is, codeword_length}
 use Rattle.dtx_packets.specs.Packet.{pid_of}
 use Rattle.dtx_cadence.specs.Mark.{sync_at, marked}
 use Rattle.dtx_ops.specs.Spelling.{IsValid, data_of, spelling}
@@ -13,7 +13,7 @@ use Rattle.dtx_ops.proofs.Data.{length-data_of, AreBytes-data_of}
 use Rattle.dtx_ops.proofs.Readings.{read_as}
 use Rattle.dtx_plan.specs.declared.plan.Plan.{Plan}
 use Rattle.dtx_adapter.specs.Feed.{is_placeholder, ops_at, counter_at, made, fed_packet, feed}
-use Rattle.dtx_adapter.proofs.Feeds.{length-feed, feed_packet}
+use Rattle.dtx_adapter.specs.FeedsLaws.{length-feed, feed_packet}
 use Rattle.dtx_chain.specs.Undamaged.{ArePackets}
 use Rattle.dtx_network.specs.Plans.{IsPlan, IsStream}
 use Rattle.dtx_network.proofs.Orders.{operations_read}

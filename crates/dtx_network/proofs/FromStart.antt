@@ -16,8 +16,8 @@ use Rattle.dtx_exciter.specs.Emission.{sent_by, sent_at, sent_before, with_sync,
 use Rattle.dtx_exciter.specs.Lockstep.{IsFeed, IsStretch, stretch}
 use Rattle.dtx_exciter.specs.Log.{line_of, life_lines}
 use Rattle.dtx_exciter.specs.Stretch.{sync_behind, before_stretch, stretch_lines}
-use Rattle.dtx_exciter.proofs.Force.{counted_left, counted_off, counted_early}
-use Rattle.dtx_exciter.proofs.Under.{length-syncs, length-said, said_append}
+use Rattle.dtx_exciter.specs.ForceLaws.{counted_left, counted_off, counted_early}
+use Rattle.dtx_exciter.specs.UnderLaws.{length-syncs, length-said, said_append}
 use Rattle.dtx_exciter.proofs.Followed.{Follows, follows, told_is}
 use Rattle.dtx_exciter.proofs.LockstepIs.{lockstep_is}
 use Rattle.dtx_exciter.proofs.Lines.{lines_is}

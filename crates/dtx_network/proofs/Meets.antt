@@ -7,7 +7,7 @@ use Rattle.std.proofs.lemmas.Cmp.{nat_eq_equiv}
 use Rattle.std.proofs.lemmas.List.{append-nil, append_assoc, take_all}
 use Rattle.std.proofs.lemmas.Map.Views.{list_any-from_Contains}
 use Rattle.dtx_lists.proofs.RangeSearch.{IsFirst, find-range_gives, find-range_misses}
-use Rattle.dtx_coder.proofs.RangeMoved.{map-range_moved}
+use Rattle.dtx_coder.specs.RangeMovedLaws.{map-range_moved}
 use Rattle.dtx_plan.specs.declared.plan.Plan.{Plan}
 use Rattle.dtx_plan.specs.declared.transmitter.Transmitter.{Transmitter}
 use Rattle.dtx_plan.specs.declared.event.Event.{Event}
@@ -15,11 +15,11 @@ use Rattle.dtx_plan.specs.declared.event.Event.TheVariants.{Send}
 use Rattle.dtx_plan.specs.TransmitterTable.{addresses_of}
 use Rattle.dtx_plan.specs.Sound.{IsEvent}
 use Rattle.dtx_adapter.specs.Feed.{feed}
-use Rattle.dtx_adapter.proofs.Feeds.{length-feed}
+use Rattle.dtx_adapter.specs.FeedsLaws.{length-feed}
 use Rattle.dtx_net.specs.Steps.{Step, actions_of, steps_at, steps_of, schedule}
 use Rattle.dtx_net.specs.Lives.{own_steps, lives_from, lives_of}
-use Rattle.dtx_net.proofs.Own.{own_here}
-use Rattle.dtx_net.proofs.PlaceOf.{place_only}
+use Rattle.dtx_net.specs.OwnLaws.{own_here}
+use Rattle.dtx_net.specs.PlaceOfLaws.{place_only}
 use Rattle.dtx_network.specs.Plans.{IsPlan, IsStream, IsInTime}
 use Rattle.dtx_network.specs.Orders.{has_order}
 use Rattle.dtx_network.specs.Headline.{IsFirstOrder}

@@ -13,12 +13,12 @@ use Rattle.dtx_ops.specs.declared.fields.Ops.{Ops}
 use Rattle.dtx_ops.specs.Spelling.{IsEntry}
 use Rattle.dtx_ops.specs.Reading.{reading}
 use Rattle.dtx_ops.proofs.Readings.{read_as}
-use Rattle.dtx_ops.proofs.Refusing.{reading_other}
+use Rattle.dtx_ops.specs.RefusingLaws.{reading_other}
 use Rattle.dtx_plan.specs.declared.plan.Plan.{Plan}
 use Rattle.dtx_plan.specs.Sound.{IsTransmitter}
 use Rattle.dtx_adapter.specs.Feed.{entry_of, ops_at, feed}
-use Rattle.dtx_adapter.proofs.Feeds.{length-feed}
-use Rattle.dtx_adapter.proofs.Readings.{placeholder_reads, others_stay, said_states}
+use Rattle.dtx_adapter.specs.FeedsLaws.{length-feed}
+use Rattle.dtx_adapter.specs.ReadingsLaws.{placeholder_reads, others_stay, said_states}
 use Rattle.dtx_exciter.specs.Order.{either, ordered, ordered_at, order_at, counted}
 use Rattle.dtx_exciter.specs.Packets.{read_fields, reads, said}
 use Rattle.dtx_network.specs.Plans.{IsPlan, IsStream}

@@ -20,8 +20,8 @@ use Rattle.dtx_exciter.specs.Packets.{syncs, said, anchor_of, under, told}
 use Rattle.dtx_exciter.specs.Emission.{segments_since, sent_by, sent_at, sent_before, with_sync, given_under, given, emission}
 use Rattle.dtx_exciter.specs.Log.{preset, mute, restart, line_of, life_lines, restarted_lines, restarting_lines, emission_over}
 use Rattle.dtx_exciter.specs.Stretch.{emission_behind, lines_behind}
-use Rattle.dtx_exciter.proofs.Emitted.{emission_more, emission_push}
-use Rattle.dtx_exciter.proofs.Under.{said_drop, length-said}
+use Rattle.dtx_exciter.specs.EmittedLaws.{emission_more, emission_push}
+use Rattle.dtx_exciter.specs.UnderLaws.{said_drop, length-said}
 use Rattle.dtx_network.specs.Headline.{segment_of, end_of}
 
 -- ---- a preset has its group's segments

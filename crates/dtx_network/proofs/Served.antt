@@ -10,9 +10,9 @@ use Rattle.dtx_ops.specs.declared.fields.Ops.{Ops}
 use Rattle.dtx_plan.specs.declared.plan.Plan.{Plan}
 use Rattle.dtx_plan.specs.declared.transmitter.Transmitter.{Transmitter}
 use Rattle.dtx_adapter.specs.Feed.{entry_of, feed}
-use Rattle.dtx_adapter.proofs.Feeds.{length-feed}
-use Rattle.dtx_adapter.proofs.Making.{entries_differ}
-use Rattle.dtx_adapter.proofs.Readings.{sync_fed}
+use Rattle.dtx_adapter.specs.FeedsLaws.{length-feed}
+use Rattle.dtx_adapter.specs.MakingLaws.{entries_differ}
+use Rattle.dtx_adapter.specs.ReadingsLaws.{sync_fed}
 use Rattle.dtx_exciter.specs.Told as told
 use Rattle.dtx_exciter.specs.Lockstep.{IsFeed}
 use Rattle.dtx_network.specs.Plans.{IsPlan, IsStream, IsListed, IsInTime}

@@ -8,7 +8,7 @@ use Rattle.std.specs.List.{AllByRecursion, flat_map, list_all}
 use Rattle.byteorder.specs.Endian.{big_bytes, big_number}
 use Rattle.byteorder.specs.Numbers.{big_number-reads_back, big_from-lt}
 use Rattle.dtx_galois.specs.Field.{AreBytes}
-use Rattle.dtx_galois.proofs.Bytes.{bytes_append, bytes_zeros}
+use Rattle.dtx_galois.specs.BytesLaws.{bytes_append, bytes_zeros}
 use Rattle.dtx_ops.specs.declared.fields.Entry.{Entry}
 use Rattle.dtx_ops.specs.declared.fields.Ops.{Ops}
 use Rattle.dtx_ops.specs.Fields.{states_at, states_in, stamp_in, max_delay_in, frame_in, index_in, count_in, entries_in, fields}
@@ -17,8 +17,8 @@ use Rattle.dtx_ops.specs.Reading.{unless, data_reading}
 use Rattle.dtx_ops.specs.Spelling.{states_bits, entry_bytes, times_bytes, head_bytes, data_of, IsValid}
 use Rattle.dtx_ops.proofs.Addresses.{differ_unless_twice, not_twice}
 use Rattle.dtx_ops.proofs.Digits.{states_at-bits, bits-states_at, bits_pad, bits_below}
-use Rattle.dtx_ops.proofs.Entries.{length-entries, entries_in-bytes, bytes-entries_in, are_entries_in, length-entries_in, bytes-entries}
-use Rattle.dtx_ops.proofs.Numbers.{number_at, bytes_are, byte_within, AreBytes-drop}
+use Rattle.dtx_ops.specs.EntriesLaws.{length-entries, entries_in-bytes, bytes-entries_in, are_entries_in, length-entries_in, bytes-entries}
+use Rattle.dtx_ops.specs.NumbersLaws.{number_at, bytes_are, byte_within, AreBytes-drop}
 use Rattle.dtx_ops.proofs.Passing.{Passes, passes_unrefused, unrefused_passes, zeros_blank, blank_zeros}
 
 -- the data from each place on

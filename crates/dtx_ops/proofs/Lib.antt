@@ -2,9 +2,6 @@ pub mod Addresses
 pub mod Bits
 pub mod Data
 pub mod Digits
-pub mod Entries
-pub mod Numbers
 pub mod Passing
 pub mod Readings
-pub mod Refusing
 pub mod Writes

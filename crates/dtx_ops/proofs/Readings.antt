@@ -6,7 +6,7 @@ use Rattle.std.proofs.lemmas.Option.{none-some, same_Some}
 use Rattle.dtx_galois.specs.Field.{AreBytes}
 use Rattle.dtx_laws.specs.Codeword.{IsCorrection, distance}
 use Rattle.dtx_laws.specs.Words.{codeword, correction}
-use Rattle.dtx_laws.proofs.Choice.{codeword_is, codeword_begins, correction_is}
+use Rattle.dtx_laws.specs.ChoiceLaws.{codeword_is, codeword_begins, correction_is}
 use Rattle.dtx_packets.specs.Packet.{pid_of}
 use Rattle.dtx_ops.specs.declared.fields.Ops.{Ops}
 use Rattle.dtx_ops.specs.declared.refusal.OpsNo.{OpsNo}
@@ -15,9 +15,9 @@ use Rattle.dtx_ops.specs.Rules.{first, data_rules, corrected, rules}
 use Rattle.dtx_ops.specs.Reading.{unless, data_reading, reading, ReadsAs}
 use Rattle.dtx_ops.specs.Spelling.{IsValid, data_of, spelling}
 use Rattle.dtx_ops.proofs.Data.{length-data_of, AreBytes-data_of, data_reading-data_of, data_of-fields, valid_fields}
-use Rattle.dtx_ops.proofs.Numbers.{AreBytes-take}
+use Rattle.dtx_ops.specs.NumbersLaws.{AreBytes-take}
 use Rattle.dtx_ops.proofs.Passing.{passes_unrefused}
-use Rattle.dtx_ops.proofs.Refusing.{reading_other, reading_none, reading_some, corrected_by}
+use Rattle.dtx_ops.specs.RefusingLaws.{reading_other, reading_none, reading_some, corrected_by}
 
 abbrev fields_if : Result Ops OpsNo → Option Ops
 fields_if (Ok f) = Some f

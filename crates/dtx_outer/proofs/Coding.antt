@@ -7,8 +7,8 @@ use Rattle.dtx_galois.specs.Field.{AreBytes}
 use Rattle.dtx_laws.specs.Branches.{Branching, leaving_all, after_all, leaving_calls, after_calls}
 use Rattle.dtx_laws.specs.Codeword.{IsCodeword}
 use Rattle.dtx_laws.specs.Whitening.{whitened}
-use Rattle.dtx_laws.proofs.Choice.{codeword_is, codeword_length}
-use Rattle.dtx_laws.proofs.Whitening.{length-whitened, bytes_whitened}
+use Rattle.dtx_laws.specs.ChoiceLaws.{codeword_is, codeword_length}
+use Rattle.dtx_laws.specs.WhiteningLaws.{length-whitened, bytes_whitened}
 use Rattle.dtx_outer.specs.Coding.{coded_as, codewords}
 
 -- ---- each packet

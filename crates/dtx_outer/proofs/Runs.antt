@@ -5,10 +5,10 @@ use Rattle.std.proofs.lemmas.Bool.{cases_lt, eqb-true, eqb-false}
 use Rattle.std.proofs.lemmas.Nat.{div-mul-add, mod-mul-add}
 use Rattle.std.proofs.lemmas.List.{get_or_append_left, get_or-append_right, get_or-take, get_or-drop, drop_at, length-drop, length-append, length-take-le}
 use Rattle.dtx_laws.specs.Branches.{IsInterleaver, Branching, HasWidths, gathering, aligned, leaving_all, after_all}
-use Rattle.dtx_laws.proofs.Interleaving.{HasWidths-aligned}
-use Rattle.dtx_laws.proofs.Places.{length_leaving, leaving_append, after_append}
+use Rattle.dtx_laws.specs.InterleavingLaws.{HasWidths-aligned}
+use Rattle.dtx_laws.specs.PlacesLaws.{length_leaving, leaving_append, after_append}
 use Rattle.dtx_outer.specs.Inner.{waiting, completing, word_at, Kept, StandsFor}
-use Rattle.dtx_outer.proofs.Words.{waiting_some, completing_is, completing_within, word_by, gathers_word}
+use Rattle.dtx_outer.specs.WordsLaws.{waiting_some, completing_is, completing_within, word_by, gathers_word}
 
 -- ---- the word that a block completes
 

@@ -8,7 +8,7 @@ use Rattle.std.proofs.lemmas.List.FromFn.{length-map-range_with_len}
 use Rattle.dtx_frame.specs.Detection.{looks_like}
 use Rattle.dtx_trellis.specs.Pairs.{group_place}
 use Rattle.dtx_slice.specs.Unrolled.{level_groups, byte_back, bytes_back, formers_after}
-use Rattle.dtx_slice.proofs.Joins.{bytes_append}
+use Rattle.dtx_slice.specs.JoinsLaws.{bytes_append}
 use Rattle.dtx_receiver.specs.declared.batch.Received.{Received}
 use Rattle.dtx_receiver.specs.declared.tracking.Tracking.{Tracking}
 use Rattle.dtx_receiver.specs.declared.tracking.Tracking.TheVariants.{Searching, Began, Sync, Data, Ended}
@@ -16,9 +16,9 @@ use Rattle.dtx_receiver.specs.Runs.{Tracked, tracked, runs, tracking, begun}
 use Rattle.dtx_receiver.specs.Bytes.{data_count, first_formers, levels_in, bytes_in}
 use Rattle.dtx_receiver.specs.Packets.{packets_of, early_of, all_packets, given}
 use Rattle.dtx_receiver.proofs.Early.{early_more, end_more}
-use Rattle.dtx_receiver.proofs.Segments.{still_data, still_sync, levels_grown, first_stays, some_before}
-use Rattle.dtx_receiver.proofs.Following.{searching, began, sync_came, ended_there, data_came, given_on, given_end, given_none, given_first, all_run, all_none}
-use Rattle.dtx_receiver.proofs.Intervals.{some_segment}
+use Rattle.dtx_receiver.specs.SegmentsLaws.{still_data, still_sync, levels_grown, first_stays, some_before}
+use Rattle.dtx_receiver.specs.FollowingLaws.{searching, began, sync_came, ended_there, data_came, given_on, given_end, given_none, given_first, all_run, all_none}
+use Rattle.dtx_receiver.specs.IntervalsLaws.{some_segment}
 
 -- ---- how many runs
 

@@ -6,12 +6,12 @@ use Rattle.std.proofs.lemmas.List.{length-append, append-nil, map-append}
 use Rattle.std.proofs.lemmas.List.Elements.{filter-append}
 use Rattle.dtx_lists.proofs.Range.{range_with_len-parts, map-range_same}
 use Rattle.dtx_outer.specs.Inner.{place_of, word_at, IsComplete}
-use Rattle.dtx_outer.proofs.Words.{word_stays}
+use Rattle.dtx_outer.specs.WordsLaws.{word_stays}
 use Rattle.dtx_laws.specs.Words.{correction}
 use Rattle.dtx_receiver.specs.Packets.{is_complete, received_by, received_at, packets_of, early_of}
 use Rattle.dtx_receiver.specs.declared.batch.Received.{Received}
-use Rattle.dtx_receiver.proofs.Complete.{complete_told, complete_all, complete_only}
-use Rattle.dtx_receiver.proofs.Ranges.{filter-range_all, filter-range_none}
+use Rattle.dtx_receiver.specs.CompleteLaws.{complete_told, complete_all, complete_only}
+use Rattle.dtx_receiver.specs.RangesLaws.{filter-range_all, filter-range_none}
 
 is_true : (s k : ℕ) → (k + 53 ≤ s) ⊎ ((k + 52 ≡ s) × (k % 52 ≡ 0)) → is_complete (207 * s) k ≡ true
 is_true s k h = (complete_told (207 * s) k).1 (complete_all s k h)

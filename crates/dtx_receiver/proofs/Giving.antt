@@ -9,7 +9,7 @@ use Rattle.dtx_whiten.specs.Bytes.{length-randomizer_bytes}
 use Rattle.dtx_packets.specs.Packet.{with_error}
 use Rattle.dtx_packets.specs.declared.packet.Packet.{Packet}
 use Rattle.dtx_outer.specs.Inner.{Kept, StandsFor, IsGood, IsBad, waiting, word_at}
-use Rattle.dtx_outer.proofs.Words.{waiting_air, length-word, good_data, bad_data}
+use Rattle.dtx_outer.specs.WordsLaws.{waiting_air, length-word, good_data, bad_data}
 use Rattle.dtx_receiver.specs.declared.batch.Received.{Received}
 use Rattle.dtx_receiver.specs.Packets.{packet_bytes, received_by, received_at, early_of}
 use Rattle.dtx_receiver.proofs.Early.{early_short, early_next}

@@ -6,7 +6,7 @@ use Rattle.std.proofs.lemmas.List.FromFn.{length-map-range_with_len}
 use Rattle.std.proofs.lemmas.List.{length_push, length-append, length-take-le, length-drop, take_at, take_all}
 use Rattle.dtx_slice.specs.Slicing.{sliced_data, sliced_last}
 use Rattle.dtx_slice.specs.Unrolled.{level_groups, byte_back, bytes_back, formers_after, formers_of}
-use Rattle.dtx_slice.proofs.Joins.{groups_whole}
+use Rattle.dtx_slice.specs.JoinsLaws.{groups_whole}
 use Rattle.dtx_trellis.specs.Pairs.{group_place}
 use Rattle.dtx_outer.specs.Inner as inner
 use Rattle.dtx_receiver.specs.Runs.{tracked}
@@ -14,7 +14,7 @@ use Rattle.dtx_receiver.specs.Bytes.{data_count, groups_of, levels_from, levels_
 use Rattle.dtx_receiver.specs.Packets.{packets_of, early_of}
 use Rattle.dtx_receiver.proofs.Early.{end_none, end_turn}
 use Rattle.dtx_receiver.specs.Receiver.{Decoding, Decodes, Kept, StandsFor}
-use Rattle.dtx_receiver.proofs.Segments.{more_data, more_sync, levels_more, levels_stay, Still, still_data, still_sync, Grown, grown, first_groups, first_count, first_levels, first_bytes, formers_first, groups_within}
+use Rattle.dtx_receiver.specs.SegmentsLaws.{more_data, more_sync, levels_more, levels_stay, Still, still_data, still_sync, Grown, grown, first_groups, first_count, first_levels, first_bytes, formers_first, groups_within}
 
 -- ---- a run
 

@@ -8,8 +8,8 @@ use Rattle.dtx_receiver.specs.Runs.{Tracked, tracked}
 use Rattle.dtx_receiver.specs.Bytes.{bytes_in}
 use Rattle.dtx_receiver.specs.Packets.{packets_of, early_of, all_packets, given}
 use Rattle.dtx_receiver.specs.Receiver.{Decoding, Decodes, Kept, StandsFor, IsTaken}
-use Rattle.dtx_receiver.proofs.Segments.{Still, still_sync}
-use Rattle.dtx_receiver.proofs.Following.{searching, began, sync_came, ended_there, data_came, given_on, given_end, given_none, given_first, all_run, all_none}
+use Rattle.dtx_receiver.specs.SegmentsLaws.{Still, still_sync}
+use Rattle.dtx_receiver.specs.FollowingLaws.{searching, began, sync_came, ended_there, data_came, given_on, given_end, given_none, given_first, all_run, all_none}
 use Rattle.dtx_receiver.proofs.Stands.{decodes_sync, none_on, On, some_on, stands_none, stands_some}
 
 with_none : (s : List (List ℤ)) (x : List ℤ) (brought : List Received) → brought ≡ [] → given (s ++ x ∷ []) ≡ given s ++ [] → given (s ++ x ∷ []) ≡ given s ++ brought

@@ -6,8 +6,8 @@ use Rattle.dtx_galois.specs.Field.{AreBytes}
 use Rattle.dtx_laws.specs.Codeword.{IsCode, IsCodeword}
 use Rattle.dtx_laws.specs.Register.{generator, register}
 use Rattle.dtx_laws.specs.Words.{codeword}
-use Rattle.dtx_laws.proofs.Encoding.{encoded, encoded_is, length_generator, length_register}
-use Rattle.dtx_laws.proofs.Choice.{codeword_is, codeword_only}
+use Rattle.dtx_laws.specs.EncodingLaws.{encoded, encoded_is, length_generator, length_register}
+use Rattle.dtx_laws.specs.ChoiceLaws.{codeword_is, codeword_only}
 use Rattle.dtx_rs.proofs.Linear.{register_padded}
 
 pub encoded_codeword : (n k : ℕ) (head : List ℕ) → n ≤ 255 → k < n → length head ≡ k → AreBytes head → encoded (n - k) head ≡ codeword n k head

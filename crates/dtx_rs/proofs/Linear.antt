@@ -4,11 +4,11 @@ use Rattle.std.proofs.lemmas.List.{length_push, append_assoc, append-nil, length
 use Rattle.std.specs.Int.Bits.{xor_comm, xor_assoc, xor_self, xor_zero_r}
 use Rattle.dtx_galois.specs.Field.{mul}
 use Rattle.dtx_galois.specs.Word.{sums, scaled}
-use Rattle.dtx_galois.proofs.Linear.{mul_left, xor_swap}
-use Rattle.dtx_galois.proofs.Field.{mul_zero, zero_mul}
-use Rattle.dtx_galois.proofs.Words.{length_sums, length_scaled}
+use Rattle.dtx_galois.specs.LinearLaws.{mul_left, xor_swap}
+use Rattle.dtx_galois.specs.FieldLaws.{mul_zero, zero_mul}
+use Rattle.dtx_galois.specs.WordsLaws.{length_sums, length_scaled}
 use Rattle.dtx_laws.specs.Register.{fed, register}
-use Rattle.dtx_laws.proofs.Encoding.{length_register}
+use Rattle.dtx_laws.specs.EncodingLaws.{length_register}
 
 -- ---- sums of words of one length
 

@@ -4,7 +4,7 @@ use Rattle.std.proofs.lemmas.List.{length_push, length-drop, get_or-drop}
 use Rattle.std.proofs.lemmas.Nat.{be_bytes_4}
 use Rattle.std.specs.Int.{to_be_bytes, from_be_bytes, w32}
 use Rattle.dtx_galois.specs.Word.{sums}
-use Rattle.dtx_galois.proofs.Words.{length_sums}
+use Rattle.dtx_galois.specs.WordsLaws.{length_sums}
 use Rattle.dtx_laws.specs.Register.{register}
 use Rattle.dtx_rs.specs.Table.{row, word_bytes}
 use Rattle.dtx_rs.proofs.Sums.{sums_at, sums_by_places}

@@ -6,7 +6,7 @@ use Rattle.std.proofs.lemmas.List.{get_or-map, get_or_append_left}
 use Rattle.std.proofs.lemmas.Simd.{get_or-zip2, length-zip2, length-replicate}
 use lib.Lanes.{zip2}
 use Rattle.dtx_lists.proofs.Below.{holds_below, at_below}
-use Rattle.dtx_trellis.proofs.LaneSteps.{at_splat}
+use Rattle.dtx_trellis.specs.LaneStepsLaws.{at_splat}
 use Rattle.dtx_slice.specs.Unrolled.{pair_from}
 
 -- the lanes of the places four back

@@ -3,7 +3,7 @@ use Rattle.std.proofs.Common.{◌≡◌, ℕ, ◌+◌, ◌-◌, ◌<◌, ◌≤�
 use Rattle.std.proofs.lemmas.List.{get_or_append_left, get_or-append_right, length-take-le, get_or-drop, take_all}
 use Rattle.std.proofs.lemmas.Simd.{get_or-put_chunk_at, length-put_chunk, get_or-chunk, length-chunk}
 use lib.Lanes.{put_chunk, chunk}
-use Rattle.dtx_trellis.proofs.Stores.{lasts, last_at}
+use Rattle.dtx_trellis.specs.StoresLaws.{lasts, last_at}
 
 -- sixteen lanes that are read from place a of n on
 pub loaded : (n a p : ℕ) (xs : List ℕ) → length xs ≡ n → a + 16 ≤ n → p < 16

@@ -5,8 +5,8 @@ use Rattle.std.proofs.lemmas.List.FromFn.{fill_by_all}
 use Rattle.dtx_trellis.specs.Trellis.{AreBits, State, level, state_of, number_of, z0, z2}
 use Rattle.dtx_trellis.specs.Pairs.{pair_at, coder_at, higher, lower}
 use Rattle.dtx_trellis.specs.Groups.{level_at, levels_of, coder_after, states_after}
-use Rattle.dtx_trellis.proofs.Coders.{one_group, lower_at}
-use Rattle.dtx_trellis.proofs.Rounds.{coder_bits}
+use Rattle.dtx_trellis.specs.CodersLaws.{one_group, lower_at}
+use Rattle.dtx_trellis.specs.RoundsLaws.{coder_bits}
 
 pub levels_end : (s : ℕ) (states bytes levels : List ℕ) → length bytes ≡ 828 → length levels ≡ 3312
     → ((d : ℕ) → d < 3312 → get_or levels d 0 ≡ level_at s states bytes d) → levels ≡ levels_of s states bytes

@@ -6,7 +6,7 @@ use Rattle.std.proofs.lemmas.Nat.{xor_comm, shr_split, mod_below, div_below, shl
 use Rattle.std.proofs.lemmas.Nat.Bits.{bit_at-lt, bit_at-suc, bit_at_cat_low, shr_and_one}
 use Rattle.std.proofs.Math.Nat.{mod-eq_of_lt}
 use Rattle.dtx_galois.specs.BitPolynomial.{product, remainder}
-use Rattle.dtx_galois.proofs.Linear.{bit_cases, shift_of_sum}
+use Rattle.dtx_galois.specs.LinearLaws.{bit_cases, shift_of_sum}
 
 -- what the test of a bit tells
 pub bit_set : (n i : ℕ) → bit_and (n / 2 ^ i) 1 ≡ 1 → bit_at n i ≡ 1

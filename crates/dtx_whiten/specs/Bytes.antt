@@ -4,7 +4,7 @@ use Rattle.std.proofs.Common.{◌≡◌, ℕ, ◌+◌, ◌*◌, ◌<◌, ◌^◌
 use Rattle.std.proofs.lemmas.List.FromFn.{length-map-range_with_len, get_or-map-range_with_len}
 use Rattle.std.proofs.lemmas.Nat.Bits.{bit_at-lt}
 use Rattle.dtx_galois.specs.Field.{AreBytes}
-use Rattle.dtx_galois.proofs.Bytes.{AreBytes-from_places}
+use Rattle.dtx_galois.specs.BytesLaws.{AreBytes-from_places}
 use Rattle.dtx_whiten.specs.Randomizer.{tapped, register, randomizer_byte, randomizer_bytes}
 
 pub length-randomizer_bytes : length randomizer_bytes ≡ 187 * 312

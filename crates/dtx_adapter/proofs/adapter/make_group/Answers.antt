@@ -3,8 +3,8 @@ use Rattle.std.proofs.lemmas.List.{take_all, length-map, length-set, length-take
 use Rattle.dtx_packets.specs.declared.packet.Packet as packet
 use Rattle.dtx_adapter.specs.Feed.{is_placeholder, placeholders, made, feed}
 use Rattle.dtx_adapter.specs.Filling.{Filling, Fills, said}
-use Rattle.dtx_adapter.proofs.Feeds.{placeholders-append, placeholders-one}
-use Rattle.dtx_adapter.proofs.Making.{fills_none, made_none, fills_next, made_next, raw, still_given, given_next, made_more}
+use Rattle.dtx_adapter.specs.FeedsLaws.{placeholders-append, placeholders-one}
+use Rattle.dtx_adapter.specs.MakingLaws.{fills_none, made_none, fills_next, made_next, raw, still_given, given_next, made_more}
 use Rattle.dtx_adapter.proofs.adapter.make_group.Goals as goal
 use Rattle.dtx_adapter.proofs.adapter.make_group.Goals.{then-make, else-make}
 

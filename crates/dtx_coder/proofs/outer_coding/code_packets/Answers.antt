@@ -2,7 +2,7 @@ use Rattle.std.proofs.Common.{rules, ◌≡◌, ℕ, ◌+◌, ◌-◌, ◌*◌, 
 use Rattle.std.proofs.lemmas.List.{take_all}
 use Rattle.std.proofs.lemmas.Slice.{take-put_mid}
 use Rattle.dtx_laws.specs.Branches.{leaving_all, after_all}
-use Rattle.dtx_laws.proofs.Places.{leaving_append, after_append}
+use Rattle.dtx_laws.specs.PlacesLaws.{leaving_append, after_append}
 use Rattle.dtx_outer.specs.Outer.{Held}
 use Rattle.dtx_coder.specs.Coded.{coded_from}
 use Rattle.dtx_coder.proofs.Packets.{codewords_more, length-put_mid}

@@ -1,6 +1,6 @@
 use Rattle.std.proofs.Common.{rules, arith}
 use Rattle.std.proofs.lemmas.Grind.{common_steps}
-use Rattle.dtx_plan.proofs.Addresses.{distinct_none, distinct_more}
+use Rattle.dtx_plan.specs.AddressesLaws.{distinct_none, distinct_more}
 use Rattle.dtx_plan.proofs.transmitter_table.transmitters.Goals as goal
 
 pub loop-value-init : goal.loop-value-init

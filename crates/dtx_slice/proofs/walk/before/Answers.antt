@@ -1,7 +1,7 @@
 use Rattle.std.proofs.Common.{◌≡◌, ℕ, ◌+◌, ◌-◌, ◌*◌, ◌/◌, ◌%◌, ◌<◌, List, get_or, sym, ap, ◌∙◌, subst, arith}
 use Rattle.dtx_trellis.specs.Lanes.{coder_turned, turn}
 use Rattle.dtx_slice.specs.Unrolled.{former}
-use Rattle.dtx_slice.proofs.Places.{before_first, before_later}
+use Rattle.dtx_slice.specs.PlacesLaws.{before_first, before_later}
 use Rattle.dtx_slice.proofs.walk.before.Goals as goal
 use Rattle.dtx_slice.proofs.walk.before.Goals.{then-byte-eq0, else-byte-eq0}
 

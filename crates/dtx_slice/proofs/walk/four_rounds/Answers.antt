@@ -1,7 +1,7 @@
 use Rattle.std.proofs.Common.{◌≡◌, ℕ, ◌/◌, ◌%◌, ◌<◌, get_or, sym, ◌∙◌, subst, arith}
 use Rattle.dtx_slice.specs.Unrolled.{pair_from}
 use Rattle.dtx_slice.specs.Lanes.{lane_level, lane_place}
-use Rattle.dtx_slice.proofs.Places.{lane_joined, lane_within, pair_small}
+use Rattle.dtx_slice.specs.PlacesLaws.{lane_joined, lane_within, pair_small}
 use Rattle.dtx_slice.proofs.walk.four_rounds.Goals as goal
 
 pub returns-clause-bytes : goal.returns-clause-bytes

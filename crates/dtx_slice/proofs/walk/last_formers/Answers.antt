@@ -1,5 +1,5 @@
 use Rattle.std.proofs.Common.{◌∙◌, arith}
-use Rattle.dtx_slice.proofs.Places.{former_last}
+use Rattle.dtx_slice.specs.PlacesLaws.{former_last}
 use Rattle.dtx_slice.proofs.walk.last_formers.Goals as goal
 
 pub returns-clause-formers : goal.returns-clause-formers

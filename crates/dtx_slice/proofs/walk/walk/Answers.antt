@@ -1,6 +1,6 @@
 use Rattle.std.proofs.Common.{◌≡◌, ℕ, ◌/◌, ◌%◌, get_or, ◌∙◌}
 use Rattle.dtx_slice.specs.Unrolled.{byte_back}
-use Rattle.dtx_slice.proofs.Places.{bytes_more, lane_byte_is}
+use Rattle.dtx_slice.specs.PlacesLaws.{bytes_more, lane_byte_is}
 use Rattle.dtx_slice.proofs.walk.walk.Goals as goal
 
 pub loop-byte-preserved : goal.loop-byte-preserved

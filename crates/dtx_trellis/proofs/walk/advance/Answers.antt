@@ -1,6 +1,6 @@
 use Rattle.std.proofs.Common.{◌≡◌, ◌+◌, ◌-◌, sym, subst, arith}
 use Rattle.dtx_trellis.specs.Lanes.{HoldsBytes, turn}
-use Rattle.dtx_trellis.proofs.LaneRounds.{same_bytes}
+use Rattle.dtx_trellis.specs.LaneRoundsLaws.{same_bytes}
 use Rattle.dtx_trellis.proofs.walk.advance.Goals as goal
 
 pub moved_on-requires-clause-bytes : goal.moved_on-requires-clause-bytes

@@ -1,7 +1,7 @@
 use Rattle.std.proofs.Common.{◌≡◌, ◌+◌, ◌*◌, sym, subst, arith}
 use Rattle.dtx_trellis.specs.Groups.{level_at}
 use Rattle.dtx_trellis.specs.Lanes.{HoldsBytes, HoldsStates, turn}
-use Rattle.dtx_trellis.proofs.LaneRounds.{first_turn, loaded_bytes, pairs_first, pairs_second, pairs_third, pairs_fourth, four_rounds}
+use Rattle.dtx_trellis.specs.LaneRoundsLaws.{first_turn, loaded_bytes, pairs_first, pairs_second, pairs_third, pairs_fourth, four_rounds}
 use Rattle.dtx_trellis.proofs.walk.byte_group.Goals as goal
 
 pub advance-second-requires-clause-states : goal.advance-second-requires-clause-states

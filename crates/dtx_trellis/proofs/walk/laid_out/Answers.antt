@@ -1,7 +1,7 @@
 use Rattle.std.proofs.Common.{◌≡◌, ℕ, ◌+◌, ◌*◌, ◌/◌, ◌%◌, get_or, sym, ap, ◌∙◌, arith}
 use Rattle.dtx_trellis.specs.Lanes.{coder_turned, turn}
-use Rattle.dtx_trellis.proofs.Rounds.{first_state}
-use Rattle.dtx_trellis.proofs.LaneRounds.{first_coder}
+use Rattle.dtx_trellis.specs.RoundsLaws.{first_state}
+use Rattle.dtx_trellis.specs.LaneRoundsLaws.{first_coder}
 use Rattle.dtx_trellis.proofs.walk.laid_out.Goals as goal
 
 pub returns : goal.returns

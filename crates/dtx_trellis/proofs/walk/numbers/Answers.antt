@@ -2,7 +2,7 @@ use Rattle.std.proofs.Common.{◌≡◌, ℕ, ◌+◌, ◌-◌, ◌*◌, ◌%◌
 use Rattle.std.proofs.lemmas.List.{get_or-set_same, get_or-set_other, length-set}
 use Rattle.dtx_trellis.specs.Trellis.{number_of}
 use Rattle.dtx_trellis.specs.Groups.{coder_after}
-use Rattle.dtx_trellis.proofs.LaneRounds.{EndsIn, ends_in}
+use Rattle.dtx_trellis.specs.LaneRoundsLaws.{EndsIn, ends_in}
 use Rattle.dtx_trellis.proofs.walk.numbers.Goals as goal
 
 pub overflow_mul-numbers : goal.overflow_mul-numbers

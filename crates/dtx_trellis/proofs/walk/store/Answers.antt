@@ -1,4 +1,4 @@
-use Rattle.dtx_trellis.proofs.Stores.{stored}
+use Rattle.dtx_trellis.specs.StoresLaws.{stored}
 use Rattle.dtx_trellis.proofs.walk.store.Goals as goal
 
 pub returns-then-round-lt-LAST_ROUND-clause-levels : goal.returns-then-round-lt-LAST_ROUND-clause-levels

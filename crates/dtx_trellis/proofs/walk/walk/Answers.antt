@@ -1,7 +1,7 @@
 use Rattle.std.proofs.Common.{◌≡◌, ℕ, ◌+◌, ◌-◌, ◌*◌, get_or, ◌∙◌, subst, arith}
 use Rattle.dtx_trellis.specs.Groups.{level_at}
 use Rattle.dtx_trellis.specs.Lanes.{HoldsStates, turn}
-use Rattle.dtx_trellis.proofs.LaneRounds.{group_levels}
+use Rattle.dtx_trellis.specs.LaneRoundsLaws.{group_levels}
 use Rattle.dtx_trellis.proofs.walk.walk.Goals as goal
 
 pub loop-byte-preserved : goal.loop-byte-preserved

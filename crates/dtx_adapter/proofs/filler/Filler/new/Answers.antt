@@ -1,6 +1,6 @@
 use Rattle.std.proofs.Common.{◌<◌, ℕ, refl, sym, subst, arith}
 use Rattle.dtx_adapter.specs.Feed.{placeholders}
-use Rattle.dtx_adapter.proofs.Making.{entries_differ}
+use Rattle.dtx_adapter.specs.MakingLaws.{entries_differ}
 use Rattle.dtx_adapter.proofs.filler.Filler.new.Goals as goal
 
 pub invariant_of-result : goal.invariant_of-result

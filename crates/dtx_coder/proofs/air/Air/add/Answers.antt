@@ -1,6 +1,6 @@
 use Rattle.std.proofs.Common.{rules, ◌≡◌, ℕ, ◌+◌, ◌-◌, ◌*◌, ◌++◌, length, take, ap, ◌∙◌, arith}
 use Rattle.std.proofs.lemmas.Slice.{take-put_mid}
-use Rattle.dtx_coder.proofs.Segments.{length-data_segment}
+use Rattle.dtx_coder.specs.SegmentsLaws.{length-data_segment}
 use Rattle.dtx_coder.proofs.air.Air.add.Goals as goal
 
 pub returns-clause-symbols : goal.returns-clause-symbols

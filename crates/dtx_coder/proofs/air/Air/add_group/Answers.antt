@@ -3,7 +3,7 @@ use Rattle.std.specs.List.{range_with_len}
 use Rattle.std.proofs.lemmas.List.{append_assoc}
 use Rattle.dtx_frame.specs.Segments.{data_segment}
 use Rattle.dtx_coder.specs.Stream.{segment, four_segments, symbols_of}
-use Rattle.dtx_coder.proofs.Segments.{segment_is}
+use Rattle.dtx_coder.specs.SegmentsLaws.{segment_is}
 use Rattle.dtx_coder.proofs.Sent.{get_or-first_chunks, part_small, symbols_more}
 use Rattle.dtx_coder.proofs.air.Air.add_group.Goals as goal
 

@@ -3,7 +3,7 @@ use Rattle.std.specs.Prelude.{nat_eq, position}
 use Rattle.std.proofs.lemmas.Bool.{eq-eqb}
 use Rattle.std.proofs.lemmas.List.{get_or_default}
 use Rattle.dtx_net.specs.Steps.{place_of}
-use Rattle.dtx_net.proofs.Places.{position_found, position_missed}
+use Rattle.dtx_net.specs.PlacesLaws.{position_found, position_missed}
 use Rattle.dtx_net.proofs.net.Net.find.Goals as goal
 
 pub returns-then-index-address-clause-place : goal.returns-then-index-address-clause-place

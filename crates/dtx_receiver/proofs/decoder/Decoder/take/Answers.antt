@@ -3,7 +3,7 @@ use Rattle.dtx_slice.specs.Slicing.{sliced_data}
 use Rattle.dtx_receiver.specs.Bytes.{data_count, bytes_in}
 use Rattle.dtx_receiver.specs.Packets.{early_of}
 use Rattle.dtx_receiver.specs.Receiver.{Decoding, Decodes}
-use Rattle.dtx_receiver.proofs.Segments.{Still, still_data, segment_long}
+use Rattle.dtx_receiver.specs.SegmentsLaws.{Still, still_data, segment_long}
 use Rattle.dtx_receiver.proofs.Stands.{Whole, decodes_group, bytes_group, decodes_data, part_now, not_due_now}
 use Rattle.dtx_receiver.proofs.decoder.Decoder.take.Goals as goal
 

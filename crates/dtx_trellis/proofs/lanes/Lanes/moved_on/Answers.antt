@@ -1,6 +1,6 @@
 use Rattle.std.proofs.Common.{sym, subst}
 use Rattle.dtx_trellis.specs.Lanes.{HoldsStates, HoldsBytes}
-use Rattle.dtx_trellis.proofs.LaneRounds.{turned_states, turned_bytes, same_turn, not_both}
+use Rattle.dtx_trellis.specs.LaneRoundsLaws.{turned_states, turned_bytes, same_turn, not_both}
 use Rattle.dtx_trellis.proofs.lanes.Lanes.moved_on.Goals as goal
 
 pub returns-then-begins_segment-clause-states : goal.returns-then-begins_segment-clause-states

@@ -1,6 +1,6 @@
 use Rattle.std.proofs.Common.{arith, Fits, w8}
 use Rattle.std.proofs.lemmas.Simd.{Each1-get_or}
-use Rattle.dtx_trellis.proofs.LaneRounds.{step_states, step_levels}
+use Rattle.dtx_trellis.specs.LaneRoundsLaws.{step_states, step_levels}
 use Rattle.dtx_trellis.proofs.lanes.Lanes.step.Goals as goal
 
 pub returns-clause-states : goal.returns-clause-states
