@@ -5,6 +5,8 @@ mod adapter;
 mod filler;
 pub mod laws;
 #[cfg(test)]
+mod ops_tests;
+#[cfg(test)]
 mod tests;
 
 pub use adapter::Adapter;

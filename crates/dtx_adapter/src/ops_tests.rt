@@ -1,11 +1,11 @@
-//! Worked packets, read, damaged, and written again.
+//! Worked operations packets, read, damaged, and written again.
 
 ghost use Rattle.std.specs.Prelude.{◌<◌};
 
-use crate::{Entry, Ops, OpsNo, read, write};
 use arrayvec::ArrayVec;
 use dtx_correct::Linear;
 use dtx_laws::Encode;
+use dtx_ops::{Entry, Ops, OpsNo, read, write};
 use dtx_packets::{PACKET, Packet};
 use dtx_rs::Rs;
 use dtx_trellis::States;

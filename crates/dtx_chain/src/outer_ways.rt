@@ -1,7 +1,7 @@
-//! The way there and back, at the numbers of the air.
+//! The outer coding there and back, at the numbers of the air.
 
-use crate::{Inner, Outer, Taken};
 use dtx_correct::Linear;
+use dtx_outer::{Inner, Outer, Taken};
 use dtx_rs::Rs;
 use dtx_spread::{Branches, Collect};
 use dtx_whiten::Atsc;
