@@ -15,7 +15,7 @@ use Rattle.dtx_receiver.specs.declared.tracking.Tracking.TheVariants.{Searching,
 use Rattle.dtx_receiver.specs.Runs.{Tracked, tracked, runs, tracking, begun}
 use Rattle.dtx_receiver.specs.Bytes.{data_count, first_formers, levels_in, bytes_in}
 use Rattle.dtx_receiver.specs.Packets.{packets_of, early_of, all_packets, given}
-use Rattle.dtx_receiver.proofs.Early.{early_more, end_more}
+use Rattle.dtx_receiver.specs.EarlyLaws.{early_more, end_more}
 use Rattle.dtx_receiver.specs.SegmentsLaws.{still_data, still_sync, levels_grown, first_stays, some_before}
 use Rattle.dtx_receiver.specs.FollowingLaws.{searching, began, sync_came, ended_there, data_came, given_on, given_end, given_none, given_first, all_run, all_none}
 use Rattle.dtx_receiver.specs.IntervalsLaws.{some_segment}

@@ -12,7 +12,7 @@ use Rattle.dtx_outer.specs.Inner.{Kept, StandsFor, IsGood, IsBad, waiting, word_
 use Rattle.dtx_outer.specs.WordsLaws.{waiting_air, length-word, good_data, bad_data}
 use Rattle.dtx_receiver.specs.declared.batch.Received.{Received}
 use Rattle.dtx_receiver.specs.Packets.{packet_bytes, received_by, received_at, early_of}
-use Rattle.dtx_receiver.proofs.Early.{early_short, early_next}
+use Rattle.dtx_receiver.specs.EarlyLaws.{early_short, early_next}
 
 -- the place of packet k among the randomizer's bytes
 place_is : (white : List ℕ) (k : ℕ) → white ≡ randomizer_bytes → 187 * (k % (length white / 187)) ≡ 187 * (k % 312)

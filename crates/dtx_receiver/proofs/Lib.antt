@@ -1,4 +1,3 @@
-pub mod Early
 pub mod Stands
 pub mod Giving
 pub mod Answered

@@ -12,7 +12,7 @@ use Rattle.dtx_outer.specs.Inner as inner
 use Rattle.dtx_receiver.specs.Runs.{tracked}
 use Rattle.dtx_receiver.specs.Bytes.{data_count, groups_of, levels_from, levels_in, first_formers, formers_in, bytes_in}
 use Rattle.dtx_receiver.specs.Packets.{packets_of, early_of}
-use Rattle.dtx_receiver.proofs.Early.{end_none, end_turn}
+use Rattle.dtx_receiver.specs.EarlyLaws.{end_none, end_turn}
 use Rattle.dtx_receiver.specs.Receiver.{Decoding, Decodes, Kept, StandsFor}
 use Rattle.dtx_receiver.specs.SegmentsLaws.{more_data, more_sync, levels_more, levels_stay, Still, still_data, still_sync, Grown, grown, first_groups, first_count, first_levels, first_bytes, formers_first, groups_within}
 

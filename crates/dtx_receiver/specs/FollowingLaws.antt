@@ -13,7 +13,7 @@ use Rattle.dtx_receiver.specs.declared.tracking.Tracking.TheVariants.{Searching,
 use Rattle.dtx_receiver.specs.Runs.{sync_due, Tracked, followed, tracked, runs, told, tracking, begun}
 use Rattle.dtx_receiver.specs.Bytes.{bytes_in}
 use Rattle.dtx_receiver.specs.Packets.{packets_of, early_of, all_packets, given}
-use Rattle.dtx_receiver.proofs.Early.{early_nothing}
+use Rattle.dtx_receiver.specs.EarlyLaws.{early_nothing}
 use Rattle.dtx_receiver.specs.SegmentsLaws.{first_bytes}
 
 pub tracked_push : (s : List (List ℤ)) (x : List ℤ) → tracked (s ++ x ∷ []) ≡ followed (tracked s).ended (tracked s).run x

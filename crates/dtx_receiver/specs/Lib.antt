@@ -8,3 +8,4 @@ pub mod RangesLaws
 pub mod SegmentsLaws
 pub mod FollowingLaws
 pub mod IntervalsLaws
+pub mod EarlyLaws
