@@ -1,5 +1,6 @@
 -- What the packets of a feed read as.
-use Rattle.std.proofs.Common.{◌≡◌, ◌≢◌, ◌⊎◌, inl, inr, ℕ, ◌+◌, ◌*◌, ◌/◌, ◌%◌, ◌<◌, ◌≤◌, true, false, All, List, [], length, map, take, drop, get_or, refl, sym, ap, ap₂, ◌∙◌, arith}
+use Rattle.std.proofs.Common.{◌≡◌, ◌≢◌, ◌⊎◌, inl, inr, ℕ, ◌+◌, ◌*◌, ◌/◌, ◌%◌, ◌<◌, ◌≤◌, true, false, All, List, []}
+use Rattle.std.proofs.Common.{length, map, take, drop, get_or, refl, sym, ap, ap₂, ◌∙◌, arith}
 use Rattle.std.specs.Prelude.{Ok}
 use Rattle.std.proofs.lemmas.List.Elements.{All-map}
 use Rattle.std.proofs.lemmas.Bool.{cases_Bool, cond-true, cond-false, eq-eqb, ne_eqb}
@@ -33,7 +34,8 @@ are_states packets = states_are 0 zero_states (whole_groups packets)
 are_entries : (ts : List Transmitter) → All (λ t. IsEntry (entry_of t)) ts → All IsEntry (map entry_of ts)
 are_entries ts fit = All-map IsEntry entry_of ts fit
 
-valid_at : (plan : Plan) (before : List (List ℕ)) (k : ℕ) → IsSound plan → All (λ t. IsEntry (entry_of t)) plan.transmitters.items → k < 624000000 → IsValid (ops_at plan before k)
+valid_at : (plan : Plan) (before : List (List ℕ)) (k : ℕ) → IsSound plan
+    → All (λ t. IsEntry (entry_of t)) plan.transmitters.items → k < 624000000 → IsValid (ops_at plan before k)
 unfolding ops_at
 valid_at plan before k sound fit within =
     let ts = plan.transmitters.items in
@@ -58,41 +60,55 @@ length-spelling f counter sync valid = omega (arith, codeword_length 184 164 (da
 
 spelled_reads : (f : Ops) (counter sync : ℕ) → IsValid f → reading (spelling f counter sync) ≡ Ok f
 spelled_reads f counter sync valid =
-    changed_reads f counter sync (spelling f counter sync) valid (length-spelling f counter sync valid) (pid_of-spelling f counter sync)
+    changed_reads f counter sync (spelling f counter sync) valid (length-spelling f counter sync valid)
+    (pid_of-spelling f counter sync)
     (omega (arith, distance_self (drop 4 (spelling f counter sync))))
 
-made_operations : (ops : Ops) (counter k : ℕ) (p : List ℕ) → pid_of p ≡ 0x1FFA → made ops counter k p ≡ spelling ops counter (sync_at k)
+made_operations : (ops : Ops) (counter k : ℕ) (p : List ℕ) → pid_of p ≡ 0x1FFA
+    → made ops counter k p ≡ spelling ops counter (sync_at k)
 unfolding made is_placeholder
-made_operations ops counter k p is = cond-true (is_placeholder p) (spelling ops counter (sync_at k)) (marked k p) (eq-eqb (pid_of p) 0x1FFA is)
+made_operations ops counter k p is =
+    cond-true (is_placeholder p) (spelling ops counter (sync_at k)) (marked k p) (eq-eqb (pid_of p) 0x1FFA is)
 
 made_other : (ops : Ops) (counter k : ℕ) (p : List ℕ) → pid_of p ≢ 0x1FFA → made ops counter k p ≡ marked k p
 unfolding made is_placeholder
-made_other ops counter k p other = cond-false (is_placeholder p) (spelling ops counter (sync_at k)) (marked k p) (ne_eqb (pid_of p) 0x1FFA other)
+made_other ops counter k p other =
+    cond-false (is_placeholder p) (spelling ops counter (sync_at k)) (marked k p) (ne_eqb (pid_of p) 0x1FFA other)
 
 fed_made : (plan : Plan) (stream : List (List ℕ)) (k : ℕ) → k < length stream
-    → get_or (feed plan stream) k [] ≡ made (ops_at plan (take k (feed plan stream)) k) (counter_at stream k) k (get_or stream k [])
+    → get_or (feed plan stream) k [] ≡ made (ops_at plan (take k (feed plan stream)) k) (counter_at stream k) k
+    (get_or stream k [])
 unfolding fed_packet
 fed_made plan stream k within = feed_packet plan stream k within
 
-pub placeholder_reads : (plan : Plan) (stream : List (List ℕ)) (k : ℕ) → IsSound plan → All (λ t. IsEntry (entry_of t)) plan.transmitters.items → length stream ≤ 624000000
-    → k < length stream → pid_of (get_or stream k []) ≡ 0x1FFA → reading (get_or (feed plan stream) k []) ≡ Ok (ops_at plan (take k (feed plan stream)) k)
+pub placeholder_reads : (plan : Plan) (stream : List (List ℕ)) (k : ℕ) → IsSound plan
+    → All (λ t. IsEntry (entry_of t)) plan.transmitters.items → length stream ≤ 624000000
+    → k < length stream → pid_of (get_or stream k []) ≡ 0x1FFA
+    → reading (get_or (feed plan stream) k []) ≡ Ok (ops_at plan (take k (feed plan stream)) k)
 placeholder_reads plan stream k sound fit most within is =
     let before : List (List ℕ) = take k (feed plan stream) in
-    ap reading (fed_made plan stream k within ∙ made_operations (ops_at plan before k) (counter_at stream k) k (get_or stream k []) is)
-    ∙ spelled_reads (ops_at plan before k) (counter_at stream k) (sync_at k) (valid_at plan before k sound fit (omega (arith, most, within)))
+    ap reading (fed_made plan stream k within
+    ∙ made_operations (ops_at plan before k) (counter_at stream k) k (get_or stream k []) is)
+    ∙ spelled_reads (ops_at plan before k) (counter_at stream k) (sync_at k)
+    (valid_at plan before k sound fit (omega (arith, most, within)))
 
 pid-marked : (k : ℕ) (p : List ℕ) → pid_of (marked k p) ≡ pid_of p
-pid-marked k p = ap₂ (λ high low. high % 32 * 256 + low) (get_or-set_other p 0 1 (sync_at k) 0 (omega arith)) (get_or-set_other p 0 2 (sync_at k) 0 (omega arith))
+pid-marked k p =
+    ap₂ (λ high low. high % 32 * 256 + low) (get_or-set_other p 0 1 (sync_at k) 0 (omega arith))
+    (get_or-set_other p 0 2 (sync_at k) 0 (omega arith))
 
-pub others_stay : (plan : Plan) (stream : List (List ℕ)) (k : ℕ) → k < length stream → pid_of (get_or stream k []) ≢ 0x1FFA → pid_of (get_or (feed plan stream) k []) ≢ 0x1FFA
+pub others_stay : (plan : Plan) (stream : List (List ℕ)) (k : ℕ) → k < length stream
+    → pid_of (get_or stream k []) ≢ 0x1FFA → pid_of (get_or (feed plan stream) k []) ≢ 0x1FFA
 others_stay plan stream k within other = λ same.
     other
-    (sym (ap pid_of (fed_made plan stream k within ∙ made_other (ops_at plan (take k (feed plan stream)) k) (counter_at stream k) k (get_or stream k []) other)
+    (sym (ap pid_of (fed_made plan stream k within
+    ∙ made_other (ops_at plan (take k (feed plan stream)) k) (counter_at stream k) k (get_or stream k []) other)
     ∙ pid-marked k (get_or stream k []))
     ∙ same)
 
 -- the states that an operations packet says
-pub said_states : (plan : Plan) (stream : List (List ℕ)) (k : ℕ) → (ops_at plan (take k (feed plan stream)) k).states ≡ states (take (4 * (k / 4)) (feed plan stream))
+pub said_states : (plan : Plan) (stream : List (List ℕ)) (k : ℕ)
+    → (ops_at plan (take k (feed plan stream)) k).states ≡ states (take (4 * (k / 4)) (feed plan stream))
 unfolding ops_at
 said_states plan stream k = ap states (take-take (4 * (k / 4)) k (feed plan stream) (omega arith))
 
@@ -107,9 +123,13 @@ unfolding made
 sync-made ops counter k p long = by_cases (cases_Bool (is_placeholder p))
   where
     by_cases : (is_placeholder p ≡ true) ⊎ (is_placeholder p ≡ false) → sync_of (made ops counter k p) ≡ sync_at k
-    by_cases (inl t) = ap sync_of (cond-true (is_placeholder p) (spelling ops counter (sync_at k)) (marked k p) t) ∙ sync-spelling ops counter (sync_at k)
-    by_cases (inr f) = ap sync_of (cond-false (is_placeholder p) (spelling ops counter (sync_at k)) (marked k p) f) ∙ get_or-set_same p 0 (sync_at k) 0 (omega (arith, long))
+    by_cases (inl t) = ap sync_of (cond-true (is_placeholder p) (spelling ops counter (sync_at k)) (marked k p) t)
+        ∙ sync-spelling ops counter (sync_at k)
+    by_cases (inr f) = ap sync_of (cond-false (is_placeholder p) (spelling ops counter (sync_at k)) (marked k p) f)
+        ∙ get_or-set_same p 0 (sync_at k) 0 (omega (arith, long))
 
-pub sync_fed : (plan : Plan) (stream : List (List ℕ)) (k : ℕ) → k < length stream → length (get_or stream k []) ≡ 188 → sync_of (get_or (feed plan stream) k []) ≡ sync_at k
+pub sync_fed : (plan : Plan) (stream : List (List ℕ)) (k : ℕ) → k < length stream → length (get_or stream k []) ≡ 188
+    → sync_of (get_or (feed plan stream) k []) ≡ sync_at k
 sync_fed plan stream k within long =
-    ap sync_of (fed_made plan stream k within) ∙ sync-made (ops_at plan (take k (feed plan stream)) k) (counter_at stream k) k (get_or stream k []) long
+    ap sync_of (fed_made plan stream k within)
+    ∙ sync-made (ops_at plan (take k (feed plan stream)) k) (counter_at stream k) k (get_or stream k []) long

@@ -1,4 +1,5 @@
-//! The adapter: from a stream and a plan to the feed, whose operations packets tell exciters when and from which states to send.
+//! The adapter: from a stream and a plan to the feed, whose operations packets tell exciters when and from which states
+//! to send.
 #![tactic(auto)]
 
 mod adapter;

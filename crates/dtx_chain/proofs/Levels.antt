@@ -1,5 +1,6 @@
 -- From the segments of a stream back to its bytes.
-use Rattle.std.proofs.Common.{◌≡◌, ℕ, zero, suc, ◌+◌, ◌-◌, ◌*◌, ◌/◌, ◌<◌, ◌≤◌, nat_le, List, [], ◌∷◌, ◌++◌, length, map, take, drop, get_or, refl, sym, ap, ap₂, ◌∙◌, subst, arith}
+use Rattle.std.proofs.Common.{◌≡◌, ℕ, zero, suc, ◌+◌, ◌-◌, ◌*◌, ◌/◌, ◌<◌, ◌≤◌, nat_le, List, [], ◌∷◌, ◌++◌, length, map}
+use Rattle.std.proofs.Common.{take, drop, get_or, refl, sym, ap, ap₂, ◌∙◌, subst, arith}
 use Rattle.std.specs.List.{range_with_len, flat_map}
 use Rattle.std.proofs.Math.Seq.{take-add}
 use Rattle.std.proofs.lemmas.List.{append-nil, take_all, length-drop, length-take-le, get_or-take, get_or-drop}
@@ -25,7 +26,8 @@ use Rattle.dtx_chain.proofs.Places.{sync_at, data_at_place}
 
 -- ---- the levels
 
-slices_front : (zs : List ℕ) (n : ℕ) → flat_map (λ d. take 828 (drop (828 * d) zs)) (range_with_len 0 n) ≡ take (828 * n) zs
+slices_front : (zs : List ℕ) (n : ℕ) → flat_map (λ d. take 828 (drop (828 * d) zs)) (range_with_len 0 n)
+    ≡ take (828 * n) zs
 slices_front zs zero = refl
 slices_front zs (suc n) =
     ap (λ i. flat_map slice (range_with_len 0 i)) next
@@ -49,19 +51,30 @@ slices_front zs (suc n) =
 level_small : (ps : List (List ℕ)) (d : ℕ) → d < length (levels ps) → get_or (levels ps) d 0 < 8
 unfolding levels levels_of
 level_small ps d l =
-    let m : d < 3312 * groups (whole_groups ps) = subst (λ (n : ℕ). d < n) (length-map-range_with_len (level_at 0 zero_states (whole_groups ps)) 0 (3312 * groups (whole_groups ps))) l in
-    subst (λ (x : ℕ). x < 8) (sym (get_or-map-range_with_len (level_at 0 zero_states (whole_groups ps)) 0 (3312 * groups (whole_groups ps)) d d 0 m (omega arith)))
+    let m : d < 3312 * groups (whole_groups ps) =
+    subst (λ (n : ℕ). d < n) (length-map-range_with_len (level_at 0 zero_states (whole_groups ps)) 0
+    (3312 * groups (whole_groups ps))) l in
+    subst (λ (x : ℕ). x < 8) (sym (get_or-map-range_with_len (level_at 0 zero_states (whole_groups ps)) 0
+    (3312 * groups (whole_groups ps)) d d 0 m (omega arith)))
     (level_at_small 0 d zero_states (whole_groups ps) m)
 
-segment_back : (ps : List (List ℕ)) (d : ℕ) → d < 4 * (length ps / 4) → sliced_data (segment (levels ps) d) ≡ take 828 (drop (828 * d) (levels ps))
+segment_back : (ps : List (List ℕ)) (d : ℕ) → d < 4 * (length ps / 4)
+    → sliced_data (segment (levels ps) d) ≡ take 828 (drop (828 * d) (levels ps))
 segment_back ps d l =
     ap sliced_data (segment_is (levels ps) d)
     ∙ data_back (take 828 (drop (828 * d) (levels ps)))
     (λ i m. let n : i < 828 = omega (arith, m, long) in
-    subst (λ (x : ℕ). x < 8) (sym (get_or-take 828 (drop (828 * d) (levels ps)) i 0 n ∙ get_or-drop (828 * d) (levels ps) i 0)) (level_small ps (828 * d + i) (omega (arith, n, l, length-levels ps))))
+    subst (λ (x : ℕ). x < 8) (sym (get_or-take 828 (drop (828 * d) (levels ps)) i 0 n
+    ∙ get_or-drop (828 * d) (levels ps) i 0))
+    (level_small ps (828 * d + i) (omega (arith, n, l, length-levels ps))))
   where
     long : length (take 828 (drop (828 * d) (levels ps))) ≡ 828
-    long = length-take-le 828 (drop (828 * d) (levels ps)) (omega (arith, l, length-levels ps, length-drop (828 * d) (levels ps)))
+    long = length-take-le 828 (drop (828 * d) (levels ps)) (omega (
+      arith,
+      l,
+      length-levels ps,
+      length-drop (828 * d) (levels ps),
+    ))
 
 count_is : (g l : ℕ) → l ≡ 4 * g + (g + 77) / 78 → l - (l + 312) / 313 ≡ 4 * g
 count_is g l e = omega (arith, e)
@@ -77,7 +90,8 @@ pub levels_are : (ps : List (List ℕ)) → levels_in (a53 ps) ≡ levels ps
 unfolding levels_in levels_from data_at
 levels_are ps =
     ap (λ g. flat_map (λ d. sliced_data (data_at (a53 ps) d)) (range_with_len 0 (4 * g))) (groups_are ps)
-    ∙ flat_map-range_same (λ d. sliced_data (data_at (a53 ps) d)) (λ d. take 828 (drop (828 * d) (levels ps))) 0 (4 * (length ps / 4))
+    ∙ flat_map-range_same (λ d. sliced_data (data_at (a53 ps) d)) (λ d. take 828 (drop (828 * d) (levels ps))) 0
+    (4 * (length ps / 4))
     (λ d a l. ap sliced_data (data_at_place ps d (omega (arith, l))) ∙ segment_back ps d (omega (arith, l)))
     ∙ slices_front (levels ps) (4 * (length ps / 4))
     ∙ take_all (828 * (4 * (length ps / 4))) (levels ps) (omega (arith, length-levels ps))
@@ -99,7 +113,9 @@ formers_are ps l =
     ∙ ap formers_of (last_back (nat_le 312 0) (last_before ps 0) ∙ ap (map sliced) (nothing_before ps))
     ∙ zero_formers
 
-pub bytes_are : (ps : List (List ℕ)) → 4 ≤ length ps → ((j : ℕ) → j < length (whole_groups ps) → get_or (whole_groups ps) j 0 < 256) → bytes_in (a53 ps) ≡ whole_groups ps
+pub bytes_are : (ps : List (List ℕ)) → 4 ≤ length ps
+    → ((j : ℕ) → j < length (whole_groups ps) → get_or (whole_groups ps) j 0 < 256)
+    → bytes_in (a53 ps) ≡ whole_groups ps
 unfolding bytes_in levels
 bytes_are ps l h =
     ap₂ (λ f y. bytes_back 0 f y) (formers_are ps l) (levels_are ps)

@@ -1,5 +1,7 @@
 -- Where the segments of a stream stand, and that they are one run.
-use Rattle.std.proofs.Common.{◌≡◌, ◌≢◌, ℕ, ℤ, Bool, zero, suc, ◌+◌, ◌-◌, ◌*◌, ◌/◌, ◌%◌, ◌<◌, ◌≤◌, ◌⊎◌, ◌==◌, nat_le, true, List, [], ◌∷◌, ◌++◌, length, map, get_or, refl, sym, ap, ap₂, ◌∙◌, inl, inr, arith, zero-add}
+use Rattle.std.proofs.Common.{◌≡◌, ◌≢◌, ℕ, ℤ, Bool, zero, suc, ◌+◌, ◌-◌, ◌*◌, ◌/◌, ◌%◌, ◌<◌, ◌≤◌, ◌⊎◌, ◌==◌, nat_le}
+use Rattle.std.proofs.Common.{true, List, [], ◌∷◌, ◌++◌, length, map, get_or, refl, sym, ap, ap₂, ◌∙◌, inl, inr, arith}
+use Rattle.std.proofs.Common.{zero-add}
 use Rattle.std.specs.List.{range_with_len, flat_map}
 use Rattle.std.proofs.lemmas.Bool.{cases_eq, cond-true, cond-false, eq-eqb, ne_eqb}
 use Rattle.std.proofs.lemmas.List.{append-nil, length-append, take_all, get_or_append_left, get_or-append_right}
@@ -42,17 +44,23 @@ part_at {X = X} f n u j d l m =
     parts : flat_map f (range_with_len 0 n) ≡ before ++ (f u ++ rest)
     parts =
         ap (λ i. flat_map f (range_with_len 0 i)) whole
-        ∙ ap (flat_map f) (range_with_len-parts 0 u (suc (n - u - 1)) ∙ ap (λ a. range_with_len 0 u ++ range_with_len a (suc (n - u - 1))) from)
+        ∙ ap (flat_map f) (range_with_len-parts 0 u (suc (n - u - 1))
+        ∙ ap (λ a. range_with_len 0 u ++ range_with_len a (suc (n - u - 1))) from)
         ∙ flat_map-append f (range_with_len 0 u) (range_with_len u (suc (n - u - 1)))
 
 -- a field sync stands before a group that begins a field, and before no other
-sync_there : (ps : List (List ℕ)) (u : ℕ) → 4 * u % 312 ≡ 0 → sync_before ps u ≡ field_sync (nat_le 312 (4 * u % 624)) (last_before ps u) ∷ []
+sync_there : (ps : List (List ℕ)) (u : ℕ) → 4 * u % 312 ≡ 0
+    → sync_before ps u ≡ field_sync (nat_le 312 (4 * u % 624)) (last_before ps u) ∷ []
 unfolding sync_before
-sync_there ps u z = cond-true (4 * u % 312 == 0) (field_sync (nat_le 312 (4 * u % 624)) (last_before ps u) ∷ []) [] (eq-eqb (4 * u % 312) 0 z)
+sync_there ps u z =
+    cond-true (4 * u % 312 == 0) (field_sync (nat_le 312 (4 * u % 624)) (last_before ps u) ∷ []) []
+    (eq-eqb (4 * u % 312) 0 z)
 
 sync_absent : (ps : List (List ℕ)) (u : ℕ) → 4 * u % 312 ≢ 0 → sync_before ps u ≡ []
 unfolding sync_before
-sync_absent ps u z = cond-false (4 * u % 312 == 0) (field_sync (nat_le 312 (4 * u % 624)) (last_before ps u) ∷ []) [] (ne_eqb (4 * u % 312) 0 z)
+sync_absent ps u z =
+    cond-false (4 * u % 312 == 0) (field_sync (nat_le 312 (4 * u % 624)) (last_before ps u) ∷ []) []
+    (ne_eqb (4 * u % 312) 0 z)
 
 length-group : (ps : List (List ℕ)) (u : ℕ) → length (group_segments ps u) ≡ length (sync_before ps u) + 4
 unfolding group_segments four_segments
@@ -60,17 +68,20 @@ length-group ps u =
     length-append (sync_before ps u) (map (segment (levels ps)) (range_with_len (4 * u) 4))
     ∙ ap (λ n. length (sync_before ps u) + n) (length-map-range_with_len (segment (levels ps)) (4 * u) 4)
 
-length-before : (ps : List (List ℕ)) (u : ℕ) → length (flat_map (group_segments ps) (range_with_len 0 u)) ≡ 4 * u + (u + 77) / 78
+length-before : (ps : List (List ℕ)) (u : ℕ) → length (flat_map (group_segments ps) (range_with_len 0 u))
+    ≡ 4 * u + (u + 77) / 78
 length-before ps zero = refl
 length-before ps (suc u) =
     ap (λ n. length (flat_map (group_segments ps) (range_with_len 0 n))) (let e : suc u ≡ u + 1 = omega arith in e)
-    ∙ ap (λ ns. length (flat_map (group_segments ps) ns)) (range_with_len-parts 0 u 1 ∙ ap (λ a. range_with_len 0 u ++ range_with_len a 1) (zero-add u))
+    ∙ ap (λ ns. length (flat_map (group_segments ps) ns)) (range_with_len-parts 0 u 1
+    ∙ ap (λ a. range_with_len 0 u ++ range_with_len a 1) (zero-add u))
     ∙ ap length (flat_map-append (group_segments ps) (range_with_len 0 u) (u ∷ []))
     ∙ length-append (flat_map (group_segments ps) (range_with_len 0 u)) (group_segments ps u ++ [])
     ∙ ap₂ (λ (x y : ℕ). x + y) (length-before ps u) (ap length (append-nil (group_segments ps u)) ∙ length-group ps u)
     ∙ by_sync (cases_eq (4 * u % 312) 0)
   where
-    by_sync : (4 * u % 312 ≡ 0) ⊎ (4 * u % 312 ≢ 0) → 4 * u + (u + 77) / 78 + (length (sync_before ps u) + 4) ≡ 4 * suc u + (suc u + 77) / 78
+    by_sync : (4 * u % 312 ≡ 0) ⊎ (4 * u % 312 ≢ 0)
+        → 4 * u + (u + 77) / 78 + (length (sync_before ps u) + 4) ≡ 4 * suc u + (suc u + 77) / 78
     by_sync (inl z) = omega (arith, z, ap length (sync_there ps u z))
     by_sync (inr z) = omega (arith, z, ap length (sync_absent ps u z))
 
@@ -89,22 +100,29 @@ sync_at ps u l z =
 
 -- ---- data segments
 
-pub data_at_place : (ps : List (List ℕ)) (d : ℕ) → d < 4 * (length ps / 4) → get_or (a53 ps) (d + d / 312 + 1) [] ≡ segment (levels ps) d
+pub data_at_place : (ps : List (List ℕ)) (d : ℕ) → d < 4 * (length ps / 4)
+    → get_or (a53 ps) (d + d / 312 + 1) [] ≡ segment (levels ps) d
 unfolding a53 group_segments four_segments
 data_at_place ps d l =
-    ap (λ i. get_or (a53 ps) i []) (by_sync (cases_eq (4 * (d / 4) % 312) 0) ∙ ap (λ n. n + (length (sync_before ps (d / 4)) + d % 4)) (sym (length-before ps (d / 4))))
-    ∙ part_at (group_segments ps) (length ps / 4) (d / 4) (length (sync_before ps (d / 4)) + d % 4) [] (omega arith) (omega (arith, length-group ps (d / 4)))
-    ∙ get_or-append_right (sync_before ps (d / 4)) (map (segment (levels ps)) (range_with_len (4 * (d / 4)) 4)) (length (sync_before ps (d / 4))) (length (sync_before ps (d / 4)) + d % 4) [] refl (omega arith)
-    ∙ get_or-map-range_with_len (segment (levels ps)) (4 * (d / 4)) 4 (length (sync_before ps (d / 4)) + d % 4 - length (sync_before ps (d / 4))) d [] (omega arith) (omega arith)
+    ap (λ i. get_or (a53 ps) i []) (by_sync (cases_eq (4 * (d / 4) % 312) 0)
+    ∙ ap (λ n. n + (length (sync_before ps (d / 4)) + d % 4)) (sym (length-before ps (d / 4))))
+    ∙ part_at (group_segments ps) (length ps / 4) (d / 4) (length (sync_before ps (d / 4)) + d % 4) [] (omega arith)
+    (omega (arith, length-group ps (d / 4)))
+    ∙ get_or-append_right (sync_before ps (d / 4)) (map (segment (levels ps)) (range_with_len (4 * (d / 4)) 4))
+    (length (sync_before ps (d / 4))) (length (sync_before ps (d / 4)) + d % 4) [] refl (omega arith)
+    ∙ get_or-map-range_with_len (segment (levels ps)) (4 * (d / 4)) 4
+    (length (sync_before ps (d / 4)) + d % 4 - length (sync_before ps (d / 4))) d [] (omega arith) (omega arith)
   where
-    by_sync : (4 * (d / 4) % 312 ≡ 0) ⊎ (4 * (d / 4) % 312 ≢ 0) → d + d / 312 + 1 ≡ 4 * (d / 4) + (d / 4 + 77) / 78 + (length (sync_before ps (d / 4)) + d % 4)
+    by_sync : (4 * (d / 4) % 312 ≡ 0) ⊎ (4 * (d / 4) % 312 ≢ 0)
+        → d + d / 312 + 1 ≡ 4 * (d / 4) + (d / 4 + 77) / 78 + (length (sync_before ps (d / 4)) + d % 4)
     by_sync (inl z) = omega (arith, z, ap length (sync_there ps (d / 4) z))
     by_sync (inr z) = omega (arith, z, ap length (sync_absent ps (d / 4) z))
 
 -- ---- one run
 
 -- each 313th segment is a field sync
-pub sync_at_place : (ps : List (List ℕ)) (n : ℕ) → n < length (a53 ps) → n % 313 ≡ 0 → (second : Bool) × (last : List ℤ) × (get_or (a53 ps) n [] ≡ field_sync second last)
+pub sync_at_place : (ps : List (List ℕ)) (n : ℕ) → n < length (a53 ps) → n % 313 ≡ 0
+    → (second : Bool) × (last : List ℤ) × (get_or (a53 ps) n [] ≡ field_sync second last)
 sync_at_place ps n l z = (
   nat_le 312 (4 * (78 * (n / 313)) % 624),
   last_before ps (78 * (n / 313)),
@@ -119,13 +137,15 @@ sync_at_place ps n l z = (
 
 pub syncs_look : (ps : List (List ℕ)) (j : ℕ) → j < length (a53 ps) → j % 313 ≡ 0 → looks_at (a53 ps) j ≡ true
 syncs_look ps j l z =
-    let s : (second : Bool) × (last : List ℤ) × (get_or (a53 ps) j [] ≡ field_sync second last) = sync_at_place ps j l z in
+    let s : (second : Bool) × (last : List ℤ) × (get_or (a53 ps) j [] ≡ field_sync second last) =
+    sync_at_place ps j l z in
     ap looks_like s.2 ∙ looks_alike s.0 s.1
 
 pub one_run : (ps : List (List ℕ)) → 4 ≤ length ps → runs (a53 ps) ≡ a53 ps ∷ []
 one_run ps l =
     (are_runs (a53 ps)).2
-    ∙ ap (map (segments_in (a53 ps))) (only_runs (a53 ps) 0 (are_runs (a53 ps)).0 ((0, length (a53 ps)) ∷ []) (are_runs (a53 ps)).1 mine)
+    ∙ ap (map (segments_in (a53 ps))) (only_runs (a53 ps) 0 (are_runs (a53 ps)).0 ((0, length (a53 ps)) ∷ [])
+    (are_runs (a53 ps)).1 mine)
     ∙ ap (λ xs. xs ∷ []) (take_all (0 + length (a53 ps) - 0) (a53 ps) (omega arith))
   where
     some : 0 < length (a53 ps)

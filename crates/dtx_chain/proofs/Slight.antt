@@ -1,5 +1,6 @@
 -- Slightly damaged segments of a stream are one run, which begins with their first field sync.
-use Rattle.std.proofs.Common.{◌≡◌, ◌≢◌, ℕ, ℤ, pos, zero, suc, ◌+◌, ◌-◌, ◌*◌, ◌/◌, ◌%◌, ◌<◌, ◌≤◌, ◌==◌, cond, false, List, [], ◌∷◌, length, map, drop, sum, get_or, sym, ap, ◌∙◌, subst, inl, arith}
+use Rattle.std.proofs.Common.{◌≡◌, ◌≢◌, ℕ, ℤ, pos, zero, suc, ◌+◌, ◌-◌, ◌*◌, ◌/◌, ◌%◌, ◌<◌, ◌≤◌, ◌==◌, cond, false}
+use Rattle.std.proofs.Common.{List, [], ◌∷◌, length, map, drop, sum, get_or, sym, ap, ◌∙◌, subst, inl, arith}
 use Rattle.std.specs.List.{range_with_len}
 use Rattle.std.proofs.lemmas.Bool.{lt-leb}
 use Rattle.std.proofs.lemmas.Bool.Decides.{nat_tests}
@@ -29,7 +30,9 @@ total_within f g h a (suc n) p = omega (arith, p a, total_within f g h (suc a) n
 -- a symbol that differs from the sync's and doesn't as it was received is damaged
 differs_within : (sent got : List ℤ) (i : ℕ) → differs sent i ≤ differs got i + damage_at sent got i
 unfolding differs damage_at
-differs_within sent got i = cost (sliced (get_or sent i (pos 0))) (sliced (get_or got i (pos 0))) (sliced (get_or (sync_symbols false) i (pos 0)))
+differs_within sent got i =
+    cost (sliced (get_or sent i (pos 0))) (sliced (get_or got i (pos 0)))
+    (sliced (get_or (sync_symbols false) i (pos 0)))
   where
     cost : (x y z : ℕ) → cond (x == z) 0 1 ≤ cond (y == z) 0 1 + cond (y == x) 0 1
     cost x y z = grind (arith, nat_tests)
@@ -37,9 +40,11 @@ differs_within sent got i = cost (sliced (get_or sent i (pos 0))) (sliced (get_o
 differing_within : (sent got : List ℤ) → differing sent ≤ differing got + damaged sent got
 unfolding differing damaged
 differing_within sent got =
-    bound (sum (map (differs sent) (range_with_len 0 515))) (sum (map (differs got) (range_with_len 0 515))) (sum (map (damage_at sent got) (range_with_len 0 515)))
+    bound (sum (map (differs sent) (range_with_len 0 515))) (sum (map (differs got) (range_with_len 0 515)))
+    (sum (map (damage_at sent got) (range_with_len 0 515)))
     (total (differs sent) 0 515) (total (differs got) 0 515) (total (damage_at sent got) 0 515)
-    (sum_is (differs sent) 0 515) (sum_is (differs got) 0 515) (sum_is (damage_at sent got) 0 515) (total_within (differs sent) (differs got) (damage_at sent got) 0 515 (differs_within sent got))
+    (sum_is (differs sent) 0 515) (sum_is (differs got) 0 515) (sum_is (damage_at sent got) 0 515)
+    (total_within (differs sent) (differs got) (damage_at sent got) 0 515 (differs_within sent got))
   where
     bound : (x y z a b c : ℕ) → x ≡ a → y ≡ b → z ≡ c → a ≤ b + c → x ≤ y + z
     bound x y z a b c e f g h = omega arith
@@ -63,11 +68,19 @@ unlike_at ps n l z =
 
 -- ---- what was sent
 
-pub sent_within : (ps : List (List ℕ)) (first : ℕ) (sent got : List (List ℤ)) → AreReceived ps first sent got → 0 < length sent → first + length sent ≤ length (a53 ps)
+pub sent_within : (ps : List (List ℕ)) (first : ℕ) (sent got : List (List ℤ)) → AreReceived ps first sent got
+    → 0 < length sent → first + length sent ≤ length (a53 ps)
 sent_within ps first sent got r l =
-    omega (arith, l, ap length r.in_a_row, length-take (first + length sent - first) (drop first (a53 ps)), length-drop first (a53 ps))
+    omega (
+      arith,
+      l,
+      ap length r.in_a_row,
+      length-take (first + length sent - first) (drop first (a53 ps)),
+      length-drop first (a53 ps),
+    )
 
-sent_at : (ps : List (List ℕ)) (first : ℕ) (sent got : List (List ℤ)) → AreReceived ps first sent got → (i : ℕ) → i < length sent → get_or sent i [] ≡ get_or (a53 ps) (first + i) []
+sent_at : (ps : List (List ℕ)) (first : ℕ) (sent got : List (List ℤ)) → AreReceived ps first sent got → (i : ℕ)
+    → i < length sent → get_or sent i [] ≡ get_or (a53 ps) (first + i) []
 sent_at ps first sent got r i l =
     ap (λ (xs : List (List ℤ)). get_or xs i []) r.in_a_row
     ∙ get_or-take (first + length sent - first) (drop first (a53 ps)) i [] (omega arith)
@@ -100,13 +113,16 @@ behind_sync first = by_turns (first + to_sync first) (sync_first first)
 
 -- ---- one run
 
-pub one_run_left : (ps : List (List ℕ)) (first : ℕ) (sent got : List (List ℤ)) → AreReceived ps first sent got → to_sync first < length sent → IsSlight ps first sent got
+pub one_run_left : (ps : List (List ℕ)) (first : ℕ) (sent got : List (List ℤ)) → AreReceived ps first sent got
+    → to_sync first < length sent → IsSlight ps first sent got
     → runs got ≡ from_sync first got ∷ []
 unfolding from_sync
 one_run_left ps first sent got r l h =
     (are_runs got).2
-    ∙ ap (map (segments_in got)) (only_runs got 0 (are_runs got).0 ((to_sync first, length got - to_sync first) ∷ []) (are_runs got).1 mine)
-    ∙ ap (λ xs. xs ∷ []) (take_all (to_sync first + (length got - to_sync first) - to_sync first) (drop (to_sync first) got) (omega (arith, length-drop (to_sync first) got)))
+    ∙ ap (map (segments_in got)) (only_runs got 0 (are_runs got).0 ((to_sync first, length got - to_sync first) ∷ [])
+    (are_runs got).1 mine)
+    ∙ ap (λ xs. xs ∷ []) (take_all (to_sync first + (length got - to_sync first) - to_sync first)
+    (drop (to_sync first) got) (omega (arith, length-drop (to_sync first) got)))
   where
     within : to_sync first + (length got - to_sync first) ≡ length got
     within = omega (arith, l, r.as_many)
@@ -127,7 +143,8 @@ one_run_left ps first sent got r l h =
     none = λ i _ m.
         still_unlike (get_or sent i []) (get_or got i [])
         (subst (λ (s : List ℤ). 64 ≤ differing s) (sym (sent_at ps first sent got r i (omega (arith, m, l))))
-        (unlike_at ps (first + i) (omega (arith, m, l, sent_within ps first sent got r (omega (arith, l)))) (none_earlier first i m)))
+        (unlike_at ps (first + i) (omega (arith, m, l, sent_within ps first sent got r (omega (arith, l))))
+        (none_earlier first i m)))
         (h.before i (omega (arith, m, l)) m)
 
     mine : AreRuns got 0 ((to_sync first, length got - to_sync first) ∷ [])

@@ -1,7 +1,9 @@
 -- The coded and interleaved bytes of packets that stand behind other packets.
-use Rattle.std.proofs.Common.{◌≡◌, ℕ, suc, ◌+◌, ◌*◌, ◌/◌, ◌%◌, List, [], ◌∷◌, ◌++◌, length, take, drop, map, get_or, bit_xor, refl, sym, ap, ap₂, ◌∙◌, arith, lit<, add-zero, zero-add}
+use Rattle.std.proofs.Common.{◌≡◌, ℕ, suc, ◌+◌, ◌*◌, ◌/◌, ◌%◌, List, [], ◌∷◌, ◌++◌, length, take, drop, map, get_or}
+use Rattle.std.proofs.Common.{bit_xor, refl, sym, ap, ap₂, ◌∙◌, arith, lit<, add-zero, zero-add}
 use Rattle.std.specs.List.{enumerate_from, flat_map, range_with_len}
-use Rattle.std.proofs.lemmas.List.{append-nil, length-append, length-take-le, take_all, take_at, take-take, take-append-drop}
+use Rattle.std.proofs.lemmas.List.{append-nil, length-append, length-take-le, take_all, take_at, take-take}
+use Rattle.std.proofs.lemmas.List.{take-append-drop}
 use Rattle.std.proofs.lemmas.Grind.{flat_map-append}
 use Rattle.dtx_laws.specs.Words.{codeword}
 use Rattle.dtx_laws.specs.Branches.{leaving_all, after_all}
@@ -19,17 +21,21 @@ use Rattle.dtx_coder.specs.Groups.{zero_branches}
 abbrev code : ℕ × List ℕ → List ℕ
 code p = codeword 207 187 (randomized p.0 p.1)
 
-enumerate_append : {X : Type 0} (n : ℕ) (xs ys : List X) → enumerate_from n (xs ++ ys) ≡ enumerate_from n xs ++ enumerate_from (n + length xs) ys
+enumerate_append : {X : Type 0} (n : ℕ) (xs ys : List X)
+    → enumerate_from n (xs ++ ys) ≡ enumerate_from n xs ++ enumerate_from (n + length xs) ys
 enumerate_append n [] ys = ap (λ k. enumerate_from k ys) (sym (add-zero n))
 enumerate_append n (x ∷ xs) ys =
-    ap (λ zs. (n, x) ∷ zs) (enumerate_append (n + 1) xs ys ∙ ap (λ k. enumerate_from (n + 1) xs ++ enumerate_from k ys) (further n (length xs)))
+    ap (λ zs. (n, x) ∷ zs) (enumerate_append (n + 1) xs ys
+    ∙ ap (λ k. enumerate_from (n + 1) xs ++ enumerate_from k ys) (further n (length xs)))
   where
     further : (n m : ℕ) → n + 1 + m ≡ n + suc m
     further n m = omega arith
 
-pub coded_append : (k : ℕ) (ps qs : List (List ℕ)) → coded_from k (ps ++ qs) ≡ coded_from k ps ++ coded_from (k + length ps) qs
+pub coded_append : (k : ℕ) (ps qs : List (List ℕ))
+    → coded_from k (ps ++ qs) ≡ coded_from k ps ++ coded_from (k + length ps) qs
 unfolding coded_from
-coded_append k ps qs = ap (flat_map code) (enumerate_append k ps qs) ∙ flat_map-append code (enumerate_from k ps) (enumerate_from (k + length ps) qs)
+coded_append k ps qs = ap (flat_map code) (enumerate_append k ps qs)
+    ∙ flat_map-append code (enumerate_from k ps) (enumerate_from (k + length ps) qs)
 
 -- the randomizer begins anew with each field
 pub coded_place : (j k : ℕ) (ps : List (List ℕ)) → j % 312 ≡ k % 312 → coded_from j ps ≡ coded_from k ps
@@ -37,7 +43,8 @@ unfolding coded_from randomized
 coded_place j k [] e = refl
 coded_place j k (p ∷ ps) e =
     ap₂ ◌++◌
-    (ap (λ m. codeword 207 187 (map (λ i. bit_xor (get_or p (1 + i) 0) (randomizer_byte (187 * m + i))) (range_with_len 0 187))) e)
+    (ap (λ m. codeword 207 187 (map (λ i. bit_xor (get_or p (1 + i) 0) (randomizer_byte (187 * m + i)))
+    (range_with_len 0 187))) e)
     (coded_place (j + 1) (k + 1) ps (omega arith))
 
 length-codeword : (k : ℕ) (p : List ℕ) → length (codeword 207 187 (randomized k p)) ≡ 207
@@ -74,9 +81,11 @@ spread_append ps qs =
     ∙ leaving_append 52 zero_branches (coded ps) (coded_from (length ps) qs)
     ∙ ap (λ xs. xs ++ bytes_behind ps qs) (leaving_zeros (coded ps))
 
-pub branches_append : (ps qs : List (List ℕ)) → after_all 52 zero_branches (coded (ps ++ qs)) ≡ after_all 52 (after_all 52 zero_branches (coded ps)) (coded_from (length ps) qs)
+pub branches_append : (ps qs : List (List ℕ)) → after_all 52 zero_branches (coded (ps ++ qs))
+    ≡ after_all 52 (after_all 52 zero_branches (coded ps)) (coded_from (length ps) qs)
 branches_append ps qs =
-    ap (after_all 52 zero_branches) (coded_append 0 ps qs ∙ ap (λ k. coded ps ++ coded_from k qs) (zero-add (length ps)))
+    ap (after_all 52 zero_branches) (coded_append 0 ps qs
+    ∙ ap (λ k. coded ps ++ coded_from k qs) (zero-add (length ps)))
     ∙ after_append 52 zero_branches (coded ps) (coded_from (length ps) qs)
 
 pub length-spread : (ps : List (List ℕ)) → length (spread ps) ≡ 207 * length ps
@@ -92,7 +101,8 @@ pub length-whole : (ps : List (List ℕ)) → length (whole_groups ps) ≡ 828 *
 unfolding whole_groups
 length-whole ps = length-take-le (828 * (length ps / 4)) (spread ps) (omega (arith, length-spread ps))
 
-take_front : (ps qs : List (List ℕ)) (u : ℕ) → length ps ≡ 4 * u → take (828 * u) (whole_groups (ps ++ qs)) ≡ whole_groups ps
+take_front : (ps qs : List (List ℕ)) (u : ℕ) → length ps ≡ 4 * u
+    → take (828 * u) (whole_groups (ps ++ qs)) ≡ whole_groups ps
 unfolding whole_groups
 take_front ps qs u e =
     take-take (828 * u) (828 * (length (ps ++ qs) / 4)) (spread (ps ++ qs)) (omega (arith, e, length-append ps qs))
@@ -101,12 +111,15 @@ take_front ps qs u e =
     ∙ sym (whole_is ps u e)
 
 -- the bytes of a longer stream go on behind those of its first groups
-pub whole_append : (ps qs : List (List ℕ)) (u : ℕ) → length ps ≡ 4 * u → whole_groups (ps ++ qs) ≡ whole_groups ps ++ drop (828 * u) (whole_groups (ps ++ qs))
+pub whole_append : (ps qs : List (List ℕ)) (u : ℕ) → length ps ≡ 4 * u
+    → whole_groups (ps ++ qs) ≡ whole_groups ps ++ drop (828 * u) (whole_groups (ps ++ qs))
 whole_append ps qs u e =
-    sym (take-append-drop (828 * u) (whole_groups (ps ++ qs))) ∙ ap (λ xs. xs ++ drop (828 * u) (whole_groups (ps ++ qs))) (take_front ps qs u e)
+    sym (take-append-drop (828 * u) (whole_groups (ps ++ qs)))
+    ∙ ap (λ xs. xs ++ drop (828 * u) (whole_groups (ps ++ qs))) (take_front ps qs u e)
 
 -- the next group's bytes
-pub whole_next : (ps qs : List (List ℕ)) (u : ℕ) → length ps ≡ 4 * u → length qs ≡ 4 → whole_groups (ps ++ qs) ≡ whole_groups ps ++ bytes_behind ps qs
+pub whole_next : (ps qs : List (List ℕ)) (u : ℕ) → length ps ≡ 4 * u → length qs ≡ 4
+    → whole_groups (ps ++ qs) ≡ whole_groups ps ++ bytes_behind ps qs
 whole_next ps qs u e f =
     whole_is (ps ++ qs) (u + 1) (omega (arith, e, f, length-append ps qs))
     ∙ spread_append ps qs

@@ -16,7 +16,8 @@ unfolding segment
 segment_is zs n = ap (λ k. data_segment (take k (drop (828 * n) zs))) (size (828 * n))
 
 pub segment_front : (xs ys : List ℕ) (n : ℕ) → 828 * n + 828 ≤ length xs → segment (xs ++ ys) n ≡ segment xs n
-segment_front xs ys n l = segment_is (xs ++ ys) n ∙ ap data_segment (piece-front xs ys (828 * n) 828 l) ∙ sym (segment_is xs n)
+segment_front xs ys n l = segment_is (xs ++ ys) n ∙ ap data_segment (piece-front xs ys (828 * n) 828 l)
+    ∙ sym (segment_is xs n)
 
 pub segment_back : (xs ys : List ℕ) (m i : ℕ) → length xs ≡ 828 * m → segment (xs ++ ys) (m + i) ≡ segment ys i
 segment_back xs ys m i e =
@@ -29,24 +30,29 @@ segment_back xs ys m i e =
 
 pub four_front : (xs ys : List ℕ) (n : ℕ) → 828 * (n + 4) ≤ length xs → four_segments (xs ++ ys) n ≡ four_segments xs n
 unfolding four_segments
-four_front xs ys n l = map-range_same (segment (xs ++ ys)) (segment xs) n 4 (λ k m o. segment_front xs ys k (omega arith))
+four_front xs ys n l =
+    map-range_same (segment (xs ++ ys)) (segment xs) n 4 (λ k m o. segment_front xs ys k (omega arith))
 
 pub four_back : (xs ys : List ℕ) (m : ℕ) → length xs ≡ 828 * m → four_segments (xs ++ ys) m ≡ four_segments ys 0
 unfolding four_segments
 four_back xs ys m e =
-    map-range_moved (segment (xs ++ ys)) (segment ys) m 0 4 (λ i l. segment_back xs ys m i e ∙ ap (segment ys) (let z : i ≡ 0 + i = omega arith in z))
+    map-range_moved (segment (xs ++ ys)) (segment ys) m 0 4 (λ i l. segment_back xs ys m i e
+    ∙ ap (segment ys) (let z : i ≡ 0 + i = omega arith in z))
 
-pub four_behind : (xs ys : List ℕ) (m i : ℕ) → length xs ≡ 828 * m → four_segments (xs ++ ys) (m + i) ≡ four_segments ys i
+pub four_behind : (xs ys : List ℕ) (m i : ℕ) → length xs ≡ 828 * m
+    → four_segments (xs ++ ys) (m + i) ≡ four_segments ys i
 unfolding four_segments
 four_behind xs ys m i e =
-    map-range_moved (segment (xs ++ ys)) (segment ys) (m + i) i 4 (λ j l. ap (segment (xs ++ ys)) (assoc m i j) ∙ segment_back xs ys m (i + j) e)
+    map-range_moved (segment (xs ++ ys)) (segment ys) (m + i) i 4 (λ j l. ap (segment (xs ++ ys)) (assoc m i j)
+    ∙ segment_back xs ys m (i + j) e)
   where
     assoc : (m i j : ℕ) → m + i + j ≡ m + (i + j)
     assoc m i j = omega arith
 
 pub length-data_segment : (zs : List ℕ) → length (data_segment zs) ≡ 4 + length zs
 unfolding data_segment
-length-data_segment zs = length-append segment_sync (map symbol_of zs) ∙ ap₂ (λ (x y : ℕ). x + y) length_sync (length-map zs symbol_of)
+length-data_segment zs = length-append segment_sync (map symbol_of zs)
+    ∙ ap₂ (λ (x y : ℕ). x + y) length_sync (length-map zs symbol_of)
 
 pub length-segment : (zs : List ℕ) (n : ℕ) → 828 * n + 828 ≤ length zs → length (segment zs n) ≡ 832
 length-segment zs n l =

@@ -1,5 +1,6 @@
 -- From a mark on, whatever came before, one anchor in step with the mark holds.
-use Rattle.std.proofs.Common.{◌≡◌, ℕ, zero, suc, ◌+◌, ◌-◌, ◌%◌, ◌<◌, ◌≤◌, ◌==◌, Bool, true, false, cond, Option, Some, None, List, [], ◌∷◌, ◌++◌, length, take, get_or, refl, sym, ap, ap₂, ◌∙◌, arith}
+use Rattle.std.proofs.Common.{◌≡◌, ℕ, zero, suc, ◌+◌, ◌-◌, ◌%◌, ◌<◌, ◌≤◌, ◌==◌, Bool, true, false, cond, Option, Some}
+use Rattle.std.proofs.Common.{None, List, [], ◌∷◌, ◌++◌, length, take, get_or, refl, sym, ap, ap₂, ◌∙◌, arith}
 use mathlib.Core.Bool.{beq}
 use Rattle.std.proofs.lemmas.Bool.{eqb-true, false≢true}
 use Rattle.std.proofs.lemmas.List.{length-append, length-take-le, take_more, append_assoc}
@@ -32,14 +33,16 @@ in_step_at s x m h e = ap₂ beq h (ap (λ (k : ℕ). k == 0) e) ∙ beq_refl (x
 kept_on : (d : List ℕ) (s j : ℕ) → anchor d ≡ Some j → in_step s (length d - j) ≡ true → anchor (d ++ s ∷ []) ≡ Some j
 kept_on d s j h t = anchor_next d s j h true t
 
-holds_on : (d s : List ℕ) (a n : ℕ) → Marked s → a ≤ length d → (length d - a) % 624 ≡ 0 → anchor (d ++ take 1 s) ≡ Some a → n < length s → anchor (d ++ take (n + 1) s) ≡ Some a
+holds_on : (d s : List ℕ) (a n : ℕ) → Marked s → a ≤ length d → (length d - a) % 624 ≡ 0
+    → anchor (d ++ take 1 s) ≡ Some a → n < length s → anchor (d ++ take (n + 1) s) ≡ Some a
 holds_on d s a zero c b e h l = let q : 1 ≡ 0 + 1 = omega arith in ap (λ k. anchor (d ++ take k s)) (sym q) ∙ h
 holds_on d s a (suc n) c b e h l =
     let q : suc n ≡ n + 1 = omega arith in
     let t : length (d ++ take (suc n) s) ≡ length d + suc n = length-longer d s (suc n) (omega (arith, l)) in
     let w : (length (d ++ take (suc n) s) - a) % 624 ≡ suc n % 624 = omega (arith, t, b, e) in
     ap anchor (longer d s (suc n) l)
-    ∙ kept_on (d ++ take (suc n) s) (get_or s (suc n) 0) a (ap (λ k. anchor (d ++ take k s)) q ∙ holds_on d s a n c b e h (omega (arith, l)))
+    ∙ kept_on (d ++ take (suc n) s) (get_or s (suc n) 0) a (ap (λ k. anchor (d ++ take k s)) q
+    ∙ holds_on d s a n c b e h (omega (arith, l)))
     (in_step_at (get_or s (suc n) 0) (suc n) (length (d ++ take (suc n) s) - a) (c (suc n) l) w)
 
 is_step : (x y : Bool) → x ≡ true → beq x y ≡ true → y ≡ true
@@ -61,19 +64,22 @@ anchored d s c l = by_anchor (anchor d) refl
       place = length d;
       within = omega arith;
       steps = omega arith;
-      holds = λ n k. holds_on d s (length d) n c (omega arith) (omega arith) (ap anchor first ∙ h ∙ ap (λ t. cond t (Some (length d)) None) mark) k;
+      holds = λ n k. holds_on d s (length d) n c (omega arith) (omega arith) (ap anchor first ∙ h
+          ∙ ap (λ t. cond t (Some (length d)) None) mark) k;
     }
 
     by_step : (j : ℕ) → anchor d ≡ Some j → (t : Bool) → in_step (get_or s 0 0) (length d - j) ≡ t → IsAnchored d s
     by_step j h false f = moves (anchor_next d (get_or s 0 0) j h false f)
     by_step j h true f =
         let b : j < length d = anchor_below d j h in
-        let e : (length d - j) % 624 ≡ 0 = eqb-true ((length d - j) % 624) 0 (is_step (get_or s 0 0 == 0xB8) ((length d - j) % 624 == 0) mark f) in
+        let e : (length d - j) % 624 ≡ 0 =
+        eqb-true ((length d - j) % 624) 0 (is_step (get_or s 0 0 == 0xB8) ((length d - j) % 624 == 0) mark f) in
         record {
           place = j;
           within = omega (arith, b);
           steps = e;
-          holds = λ n k. holds_on d s j n c (omega (arith, b)) e (ap anchor first ∙ anchor_next d (get_or s 0 0) j h true f) k;
+          holds = λ n k. holds_on d s j n c (omega (arith, b)) e (ap anchor first
+              ∙ anchor_next d (get_or s 0 0) j h true f) k;
         }
 
     by_anchor : (o : Option ℕ) → anchor d ≡ o → IsAnchored d s

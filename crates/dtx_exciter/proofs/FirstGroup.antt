@@ -1,5 +1,6 @@
 -- What the first group of a stretch gives: its data segments, behind a field sync where the group before it was sent.
-use Rattle.std.proofs.Common.{◌≡◌, ℕ, ℤ, ◌+◌, ◌-◌, ◌*◌, ◌/◌, ◌%◌, ◌<◌, ◌≤◌, ◌==◌, Bool, true, false, cond, Option, Some, None, List, [], ◌∷◌, ◌++◌, length, take, drop, get_or, refl, sym, ap, ap₂, ◌∙◌, arith}
+use Rattle.std.proofs.Common.{◌≡◌, ℕ, ℤ, ◌+◌, ◌-◌, ◌*◌, ◌/◌, ◌%◌, ◌<◌, ◌≤◌, ◌==◌, Bool, true, false, cond, Option, Some}
+use Rattle.std.proofs.Common.{None, List, [], ◌∷◌, ◌++◌, length, take, drop, get_or, refl, sym, ap, ap₂, ◌∙◌, arith}
 use Rattle.std.specs.Prelude.{nat_le, is_ok}
 use Rattle.std.proofs.lemmas.Bool.{cond-true, le-leb}
 use Rattle.std.proofs.lemmas.List.{append_assoc}
@@ -21,7 +22,8 @@ use Rattle.dtx_exciter.specs.UnderLaws.{length-said, said_append}
 -- ---- the field sync
 
 -- it stands in front of a group's data segments
-sync_first : (i : ℕ) (b : List (List ℤ)) (zs : List ℕ) (k : ℕ) → with_sync i b (four_segments zs k) ≡ sync_behind b i ++ four_segments zs k
+sync_first : (i : ℕ) (b : List (List ℤ)) (zs : List ℕ) (k : ℕ)
+    → with_sync i b (four_segments zs k) ≡ sync_behind b i ++ four_segments zs k
 unfolding four_segments
 sync_first i [] zs k = refl
 sync_first i (s ∷ ss) zs k = refl
@@ -39,23 +41,28 @@ sync_over j k b [] = refl
 sync_over j k [] (s ∷ ss) = refl
 sync_over j k (c ∷ cs) (s ∷ ss) = by_test (j % 312 == 0)
   where
-    by_test : (t : Bool) → sync_behind (cond t (field_sync (nat_le 312 (j % 624)) (last_of (get_or (c ∷ cs) (length cs) [])) ∷ []) [] ++ s ∷ ss) k ≡ sync_behind (s ∷ ss) k
+    by_test : (t : Bool)
+        → sync_behind (cond t (field_sync (nat_le 312 (j % 624)) (last_of (get_or (c ∷ cs) (length cs) [])) ∷ []) []
+        ++ s ∷ ss) k ≡ sync_behind (s ∷ ss) k
     by_test true = refl
     by_test false = refl
 
 -- ---- the group before it
 
-segments_front : (l r : List (List ℕ)) (u g : ℕ) (q : List ℕ) → length l ≡ 4 * (u + 1) → g ≤ u → segments_since g q (l ++ r) u ≡ segments_since g q l u
+segments_front : (l r : List (List ℕ)) (u g : ℕ) (q : List ℕ) → length l ≡ 4 * (u + 1) → g ≤ u
+    → segments_since g q (l ++ r) u ≡ segments_since g q l u
 unfolding segments_since four_segments
 segments_front l r u g q e h =
     map-range_same (segment (levels_since g q (l ++ r))) (segment (levels_since g q l)) (4 * (u - g)) 4
     (λ k a b. since_front l r (u + 1) g k q e (omega (arith, h)) (omega (arith, h, b)))
 
 -- what is sent of it is the same where packets follow
-sent_front : (a d : ℕ) (l r : List (List ℕ)) (i : ℕ) → length l ≡ i + 4 → i % 4 ≡ 0 → sent_at a d (l ++ r) i ≡ sent_at a d l i
+sent_front : (a d : ℕ) (l r : List (List ℕ)) (i : ℕ) → length l ≡ i + 4 → i % 4 ≡ 0
+    → sent_at a d (l ++ r) i ≡ sent_at a d l i
 unfolding sent_at
 sent_front a d l r i e w =
-    ap (sent_by a d (l ++ r) i) (ap (λ s. in_force s i) (said_append l r) ∙ force_left (said l) (said r) i (omega (arith, e, length-said l)))
+    ap (sent_by a d (l ++ r) i) (ap (λ s. in_force s i) (said_append l r)
+    ∙ force_left (said l) (said r) i (omega (arith, e, length-said l)))
     ∙ by_order (in_force (said l) i) refl
   where
     by_order : (o : Option Order) → in_force (said l) i ≡ o → sent_by a d (l ++ r) i o ≡ sent_by a d l i o
@@ -68,16 +75,25 @@ sent_front a d l r i e w =
 
 -- ---- the first group
 
-pub given_first : (a d : ℕ) (base feed : List (List ℕ)) (mark n first : ℕ) → Marks a d base feed mark n → IsGroup feed mark n first first
+pub given_first : (a d : ℕ) (base feed : List (List ℕ)) (mark n first : ℕ) → Marks a d base feed mark n
+    → IsGroup feed mark n first first
     → given_under a d (Some (life base feed mark (first + 4)))
-    ≡ sync_behind (given_under a d (Some (life base feed mark first))) (mark + first) ++ four_segments (levels (upto feed mark (first + 4))) (mark + first)
+    ≡ sync_behind (given_under a d (Some (life base feed mark first))) (mark + first)
+    ++ four_segments (levels (upto feed mark (first + 4))) (mark + first)
 given_first a d base feed mark n first m g =
     given_last a d base feed mark first inside g.group m.at_other
-    ∙ ap₂ (with_sync (length base + first)) before (sent_same a d base feed mark n (first + 4) first first m (place_of feed mark n first first first g (omega arith) g.group (omega arith)))
-    ∙ sync_first (length base + first) (sent_at a d (life base feed mark first) (length base + (first - 4))) (levels (upto feed mark (first + 4))) (mark + first)
+    ∙ ap₂ (with_sync (length base + first)) before
+    (sent_same a d base feed mark n (first + 4) first first m
+    (place_of feed mark n first first first g (omega arith) g.group (omega arith)))
+    ∙ sync_first (length base + first) (sent_at a d (life base feed mark first) (length base + (first - 4)))
+    (levels (upto feed mark (first + 4))) (mark + first)
     ∙ ap (λ x. x ++ four_segments (levels (upto feed mark (first + 4))) (mark + first))
-    (sync_place (sent_at a d (life base feed mark first) (length base + (first - 4))) (length base + first) (mark + first) (let m1 = m.at_mark in let m2 = m.at_other in omega (arith, m1, m2))
-    ∙ sym (ap (λ x. sync_behind x (mark + first)) earlier ∙ sync_over (length base + (first - 4)) (mark + first) (sent_before a d (life base feed mark first) (length base + (first - 4))) (sent_at a d (life base feed mark first) (length base + (first - 4)))))
+    (sync_place (sent_at a d (life base feed mark first) (length base + (first - 4))) (length base + first)
+    (mark + first) (let m1 = m.at_mark in let m2 = m.at_other in omega (arith, m1, m2))
+    ∙ sym (ap (λ x. sync_behind x (mark + first)) earlier
+    ∙ sync_over (length base + (first - 4)) (mark + first)
+    (sent_before a d (life base feed mark first) (length base + (first - 4)))
+    (sent_at a d (life base feed mark first) (length base + (first - 4)))))
   where
     inside : mark + (first + 4) ≤ length feed
     inside = let i = m.inside in let w = g.within in omega (arith, i, w)
@@ -92,20 +108,27 @@ given_first a d base feed mark n first m g =
     long = omega (arith, far, length-life base feed mark first (omega (arith, inside)))
 
     longer : life base feed mark (first + 4) ≡ life base feed mark first ++ take 4 (drop first (drop mark feed))
-    longer = ap (λ x. base ++ x) (take_parts first 4 (drop mark feed)) ∙ sym (append_assoc base (take first (drop mark feed)) (take 4 (drop first (drop mark feed))))
+    longer = ap (λ x. base ++ x) (take_parts first 4 (drop mark feed))
+        ∙ sym (append_assoc base (take first (drop mark feed)) (take 4 (drop first (drop mark feed))))
 
     at : length base + first - 4 ≡ length base + (first - 4)
     at = omega (arith, far)
 
-    before : sent_before a d (life base feed mark (first + 4)) (length base + first) ≡ sent_at a d (life base feed mark first) (length base + (first - 4))
+    before : sent_before a d (life base feed mark (first + 4)) (length base + first)
+        ≡ sent_at a d (life base feed mark first) (length base + (first - 4))
     before =
         cond-true (nat_le 4 (length base + first)) _ _ (le-leb 4 (length base + first) (omega (arith, far)))
         ∙ ap₂ (sent_at a d) longer at
-        ∙ sent_front a d (life base feed mark first) (take 4 (drop first (drop mark feed))) (length base + (first - 4)) long (let w = g.whole in let m2 = m.at_other in omega (arith, w, m2, far))
+        ∙ sent_front a d (life base feed mark first) (take 4 (drop first (drop mark feed)))
+        (length base + (first - 4)) long (let w = g.whole in let m2 = m.at_other in omega (arith, w, m2, far))
 
     earlier : given_under a d (Some (life base feed mark first))
-        ≡ with_sync (length base + (first - 4)) (sent_before a d (life base feed mark first) (length base + (first - 4))) (sent_at a d (life base feed mark first) (length base + (first - 4)))
+        ≡ with_sync (length base + (first - 4)) (sent_before a d (life base feed mark first)
+        (length base + (first - 4))) (sent_at a d (life base feed mark first) (length base + (first - 4)))
     earlier =
         ap (λ k. given_under a d (Some (life base feed mark k))) (sym four)
-        ∙ given_last a d base feed mark (first - 4) (omega (arith, inside)) (let w = g.whole in omega (arith, w, far)) m.at_other
-        ∙ ap (λ k. with_sync (length base + (first - 4)) (sent_before a d (life base feed mark k) (length base + (first - 4))) (sent_at a d (life base feed mark k) (length base + (first - 4)))) four
+        ∙ given_last a d base feed mark (first - 4) (omega (arith, inside)) (let w = g.whole in
+        omega (arith, w, far)) m.at_other
+        ∙ ap (λ k. with_sync (length base + (first - 4))
+        (sent_before a d (life base feed mark k) (length base + (first - 4)))
+        (sent_at a d (life base feed mark k) (length base + (first - 4)))) four

@@ -1,5 +1,6 @@
 -- The order in force, over one packet more.
-use Rattle.std.proofs.Common.{◌≡◌, ◌≢◌, ℕ, zero, suc, ◌+◌, ◌-◌, ◌%◌, ◌<◌, ◌≤◌, ◌==◌, ◌&&◌, Bool, true, false, cond, Option, Some, None, List, ◌++◌, length, refl, sym, ap, ap₂, subst, ◌∙◌, arith}
+use Rattle.std.proofs.Common.{◌≡◌, ◌≢◌, ℕ, zero, suc, ◌+◌, ◌-◌, ◌%◌, ◌<◌, ◌≤◌, ◌==◌, ◌&&◌, Bool, true, false, cond}
+use Rattle.std.proofs.Common.{Option, Some, None, List, ◌++◌, length, refl, sym, ap, ap₂, subst, ◌∙◌, arith}
 use Rattle.std.specs.Prelude.{nat_le}
 use Rattle.std.proofs.lemmas.Bool.{cond-false, eqb-true, ne_eqb, and_left, and_right, and_parts, lt-leb, leb-true}
 use Rattle.std.proofs.lemmas.List.{get_or_append_left}
@@ -23,7 +24,8 @@ latest_skip f n m e h = ap (latest f) e ∙ latest_more f n ∙ ap (λ o. either
 order_left : (l rest : List (Option Ops)) (g : ℕ) → g + 4 ≤ length l → order_at (l ++ rest) g ≡ order_at l g
 unfolding order_at
 order_left l rest g h =
-    ap₂ either (same g (omega arith)) (ap₂ either (same (g + 1) (omega arith)) (ap₂ either (same (g + 2) (omega arith)) (same (g + 3) (omega arith))))
+    ap₂ either (same g (omega arith)) (ap₂ either (same (g + 1) (omega arith))
+    (ap₂ either (same (g + 2) (omega arith)) (same (g + 3) (omega arith))))
   where
     same : (k : ℕ) → k < length l → ordered_at (l ++ rest) k ≡ ordered_at l k
     same k m = ap (ordered (k % 624)) (get_or_append_left l rest None k m)
@@ -35,24 +37,30 @@ counted_left l rest g h = ap (λ o. cond (nat_le 52 g && (g % 4 == 0)) o None) (
 pub force_left : (l rest : List (Option Ops)) (i : ℕ) → i + 4 ≤ length l → in_force (l ++ rest) i ≡ in_force l i
 unfolding in_force
 force_left l rest i h =
-    latest_same (λ g. placed g (counted (l ++ rest) g)) (λ g. placed g (counted l g)) (i + 1) (λ k m. ap (placed k) (counted_left l rest k (omega arith)))
+    latest_same (λ g. placed g (counted (l ++ rest) g)) (λ g. placed g (counted l g)) (i + 1)
+    (λ k m. ap (placed k) (counted_left l rest k (omega arith)))
 
 -- ---- a group further
 
 pub counted_off : (l : List (Option Ops)) (g : ℕ) → g % 4 ≢ 0 → counted l g ≡ None
 unfolding counted
-counted_off l g h = cond-false (nat_le 52 g && (g % 4 == 0)) (order_at l g) None (and_right (nat_le 52 g) (g % 4 == 0) (ne_eqb (g % 4) 0 h))
+counted_off l g h =
+    cond-false (nat_le 52 g && (g % 4 == 0)) (order_at l g) None
+    (and_right (nat_le 52 g) (g % 4 == 0) (ne_eqb (g % 4) 0 h))
 
 pub counted_early : (l : List (Option Ops)) (g : ℕ) → g < 52 → counted l g ≡ None
 unfolding counted
-counted_early l g h = cond-false (nat_le 52 g && (g % 4 == 0)) (order_at l g) None (and_left (nat_le 52 g) (g % 4 == 0) (lt-leb 52 g h))
+counted_early l g h =
+    cond-false (nat_le 52 g && (g % 4 == 0)) (order_at l g) None (and_left (nat_le 52 g) (g % 4 == 0) (lt-leb 52 g h))
 
-pub force_more : (l : List (Option Ops)) (i : ℕ) → i % 4 ≡ 0 → 4 ≤ i → in_force l i ≡ either (placed i (counted l i)) (in_force l (i - 4))
+pub force_more : (l : List (Option Ops)) (i : ℕ) → i % 4 ≡ 0 → 4 ≤ i
+    → in_force l i ≡ either (placed i (counted l i)) (in_force l (i - 4))
 unfolding in_force
 force_more l i h m =
     latest_more f i
     ∙ ap (either (f i))
-    (latest_skip f (i - 1) i (omega arith) (off (i - 1) (omega arith)) ∙ latest_skip f (i - 2) (i - 1) (omega arith) (off (i - 2) (omega arith))
+    (latest_skip f (i - 1) i (omega arith) (off (i - 1) (omega arith))
+    ∙ latest_skip f (i - 2) (i - 1) (omega arith) (off (i - 2) (omega arith))
     ∙ latest_skip f (i - 3) (i - 2) (omega arith) (off (i - 3) (omega arith)) ∙ ap (latest f) end)
   where
     f : ℕ → Option Order
@@ -78,7 +86,8 @@ pub record Stands (l : List (Option Ops)) (n : ℕ) (order : Order) : Type 0 whe
 stands_further : (l : List (Option Ops)) (n : ℕ) (order : Order) → Stands l n order → Stands l (n + 1) order
 stands_further l n order s = record { below = let a = s.below in omega (arith, a); counts = s.counts }
 
-stands_here : (l : List (Option Ops)) (g : ℕ) (o : Option Ops) (r : Option Order) (order : Order) → counted l g ≡ o → either (placed g o) r ≡ Some order → (r ≡ Some order → Stands l g order) → Stands l (g + 1) order
+stands_here : (l : List (Option Ops)) (g : ℕ) (o : Option Ops) (r : Option Order) (order : Order) → counted l g ≡ o
+    → either (placed g o) r ≡ Some order → (r ≡ Some order → Stands l g order) → Stands l (g + 1) order
 stands_here l g None r order e h f = stands_further l g order (f h)
 stands_here l g (Some ops) r order e h f =
     let here : record { place = g; ops = ops } ≡ order = ap (unwrapped order) h in
@@ -91,24 +100,28 @@ stands_here l g (Some ops) r order e h f =
     unwrapped d None = d
     unwrapped d (Some o) = o
 
-latest_stands : (l : List (Option Ops)) (n : ℕ) (order : Order) → latest (λ g. placed g (counted l g)) n ≡ Some order → Stands l n order
+latest_stands : (l : List (Option Ops)) (n : ℕ) (order : Order) → latest (λ g. placed g (counted l g)) n ≡ Some order
+    → Stands l n order
 latest_stands l zero order e = absurd (none_some order e)
   where
     none_some : (order : Order) → ◌≡◌ {A = Option Order} None (Some order) → ⊥
     none_some order e = cc
 latest_stands l (suc n) order e =
     let next : n + 1 ≡ suc n = omega arith in
-    subst (λ (k : ℕ). Stands l k order) next (stands_here l n (counted l n) (latest (λ g. placed g (counted l g)) n) order refl e (latest_stands l n order))
+    subst (λ (k : ℕ). Stands l k order) next (stands_here l n (counted l n)
+    (latest (λ g. placed g (counted l g)) n) order refl e (latest_stands l n order))
 
 pub force_stands : (l : List (Option Ops)) (i : ℕ) (order : Order) → in_force l i ≡ Some order → Stands l (i + 1) order
 unfolding in_force
 force_stands l i order e = latest_stands l (i + 1) order e
 
 -- a group that counts begins 52 or more packets behind the anchor
-counted_test : (l : List (Option Ops)) (g : ℕ) (ops : Ops) (t : Bool) → (nat_le 52 g && (g % 4 == 0)) ≡ t → counted l g ≡ Some ops → (nat_le 52 g && (g % 4 == 0)) ≡ true
+counted_test : (l : List (Option Ops)) (g : ℕ) (ops : Ops) (t : Bool) → (nat_le 52 g && (g % 4 == 0)) ≡ t
+    → counted l g ≡ Some ops → (nat_le 52 g && (g % 4 == 0)) ≡ true
 unfolding counted
 counted_test l g ops true e h = e
-counted_test l g ops false e h = absurd (none_some ops (sym (cond-false (nat_le 52 g && (g % 4 == 0)) (order_at l g) None e) ∙ h))
+counted_test l g ops false e h =
+    absurd (none_some ops (sym (cond-false (nat_le 52 g && (g % 4 == 0)) (order_at l g) None e) ∙ h))
   where
     none_some : (ops : Ops) → ◌≡◌ {A = Option Ops} None (Some ops) → ⊥
     none_some ops e = cc
@@ -119,5 +132,6 @@ pub record IsBehind (g : ℕ) : Type 0 where
 
 pub counted_behind : (l : List (Option Ops)) (g : ℕ) (ops : Ops) → counted l g ≡ Some ops → IsBehind g
 counted_behind l g ops h =
-    let t : (nat_le 52 g ≡ true) × ((g % 4 == 0) ≡ true) = and_parts (nat_le 52 g) (g % 4 == 0) (counted_test l g ops (nat_le 52 g && (g % 4 == 0)) refl h) in
+    let t : (nat_le 52 g ≡ true) × ((g % 4 == 0) ≡ true) =
+    and_parts (nat_le 52 g) (g % 4 == 0) (counted_test l g ops (nat_le 52 g && (g % 4 == 0)) refl h) in
     record { settled = leb-true 52 g t.0; whole = eqb-true (g % 4) 0 t.1 }

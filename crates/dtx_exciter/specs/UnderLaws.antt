@@ -1,7 +1,9 @@
 -- The packets from the anchor on, over one packet more.
-use Rattle.std.proofs.Common.{◌≡◌, ℕ, ◌-◌, ◌%◌, ◌<◌, ◌==◌, Bool, true, false, not, cond, Option, Some, None, option_map, List, [], ◌∷◌, ◌++◌, length, drop, take, refl, sym, ap, ap₂, subst, ◌∙◌, arith}
+use Rattle.std.proofs.Common.{◌≡◌, ℕ, ◌-◌, ◌%◌, ◌<◌, ◌==◌, Bool, true, false, not, cond, Option, Some, None, option_map}
+use Rattle.std.proofs.Common.{List, [], ◌∷◌, ◌++◌, length, drop, take, refl, sym, ap, ap₂, subst, ◌∙◌, arith}
 use Rattle.std.proofs.lemmas.Bool.{cond-true, cond-false, eq-eqb, ne_eqb}
-use Rattle.std.proofs.lemmas.List.{length_push, length-drop, map-append, length-map, drop_at, drop-append-le, drop-map, take_at}
+use Rattle.std.proofs.lemmas.List.{length_push, length-drop, map-append, length-map, drop_at, drop-append-le, drop-map}
+use Rattle.std.proofs.lemmas.List.{take_at}
 use Rattle.dtx_packets.specs.Packet.{sync_of}
 use Rattle.dtx_cadence.specs.declared.anchor.Seen.{Seen}
 use Rattle.dtx_cadence.specs.declared.anchor.Seen.TheVariants.{Free, Start, Moved, Lost, At}
@@ -43,7 +45,8 @@ Follows Free p before now = now ≡ None
 Follows Start p before now = now ≡ Some (p ∷ [])
 Follows Moved p before now = now ≡ Some (p ∷ [])
 Follows Lost p before now = now ≡ None
-Follows (At place) p before now = (l : List (List ℕ)) × (before ≡ Some l) × (now ≡ Some (l ++ p ∷ [])) × (place ≡ length l % 624)
+Follows (At place) p before now = (l : List (List ℕ)) × (before ≡ Some l) × (now ≡ Some (l ++ p ∷ []))
+    × (place ≡ length l % 624)
 
 -- the answer with the packet p
 abbrev pub told_seen : ℕ → ℕ → Seen → Option (List (List ℕ)) → Told
@@ -70,8 +73,10 @@ unfolding rest
 said_rest d None = refl
 said_rest d (Some a) = ap Some (said_drop a d)
 
-told_by_anchors : (address delay : ℕ) (d : List (List ℕ)) (p : List ℕ) (before now : Option ℕ) → anchor_of d ≡ before → anchor_of (d ++ p ∷ []) ≡ now
-    → told address delay (d ++ p ∷ []) ≡ cond (has_moved before now) (Muted Cadence) (told_under address delay (option_map said (rest (d ++ p ∷ []) now)))
+told_by_anchors : (address delay : ℕ) (d : List (List ℕ)) (p : List ℕ) (before now : Option ℕ) → anchor_of d ≡ before
+    → anchor_of (d ++ p ∷ []) ≡ now
+    → told address delay (d ++ p ∷ []) ≡ cond (has_moved before now) (Muted Cadence)
+    (told_under address delay (option_map said (rest (d ++ p ∷ []) now)))
 unfolding told told_of anchor_of
 told_by_anchors address delay d p before now b n =
     ap (λ s. told_from address delay (anchor s) (anchor (syncs (d ++ p ∷ []))) (said (d ++ p ∷ []))) front
@@ -96,7 +101,8 @@ here : (d : List (List ℕ)) (j : ℕ) → rest d (Some j) ≡ Some (drop j d)
 unfolding rest
 here d j = refl
 
-longer : (d : List (List ℕ)) (p : List ℕ) (j : ℕ) → j < length d → rest (d ++ p ∷ []) (Some j) ≡ Some (drop j d ++ p ∷ [])
+longer : (d : List (List ℕ)) (p : List ℕ) (j : ℕ) → j < length d
+    → rest (d ++ p ∷ []) (Some j) ≡ Some (drop j d ++ p ∷ [])
 unfolding rest
 longer d p j l = ap Some (drop-append-le j d (p ∷ []) (omega arith))
 
@@ -105,7 +111,8 @@ quiet_single : (address delay : ℕ) (p : List ℕ) → told_under address delay
 unfolding said
 quiet_single address delay p = refl
 
-goes_new : (address delay : ℕ) (d : List (List ℕ)) (p : List ℕ) (b : Bool) → anchor_of d ≡ None → anchor_of (d ++ p ∷ []) ≡ cond b (Some (length d)) None
+goes_new : (address delay : ℕ) (d : List (List ℕ)) (p : List ℕ) (b : Bool) → anchor_of d ≡ None
+    → anchor_of (d ++ p ∷ []) ≡ cond b (Some (length d)) None
     → Goes address delay d p (seen_by (length d) None (cond b (Some (length d)) None))
 goes_new address delay d p true h e = record {
   follows = under_by (d ++ p ∷ []) (Some (length d)) e ∙ single d p;
@@ -115,41 +122,55 @@ goes_new address delay d p true h e = record {
 }
 goes_new address delay d p false h e = record {
   follows = under_by (d ++ p ∷ []) None e ∙ nothing (d ++ p ∷ []);
-  answer = told_by_anchors address delay d p None None h e ∙ ap (λ o. told_under address delay (option_map said o)) (nothing (d ++ p ∷ []));
+  answer = told_by_anchors address delay d p None None h e
+      ∙ ap (λ o. told_under address delay (option_map said o)) (nothing (d ++ p ∷ []));
 }
 
-goes_moved : (address delay : ℕ) (d : List (List ℕ)) (p : List ℕ) (j : ℕ) → j < length d → anchor_of d ≡ Some j → anchor_of (d ++ p ∷ []) ≡ Some (length d) → Goes address delay d p Moved
+goes_moved : (address delay : ℕ) (d : List (List ℕ)) (p : List ℕ) (j : ℕ) → j < length d → anchor_of d ≡ Some j
+    → anchor_of (d ++ p ∷ []) ≡ Some (length d) → Goes address delay d p Moved
 goes_moved address delay d p j l h e = record {
   follows = under_by (d ++ p ∷ []) (Some (length d)) e ∙ single d p;
   answer =
       told_by_anchors address delay d p (Some j) (Some (length d)) h e
-      ∙ cond-true (has_moved (Some j) (Some (length d))) (Muted Cadence) (told_under address delay (option_map said (rest (d ++ p ∷ []) (Some (length d)))))
+      ∙ cond-true (has_moved (Some j) (Some (length d))) (Muted Cadence)
+      (told_under address delay (option_map said (rest (d ++ p ∷ []) (Some (length d)))))
       (ap not (ne_eqb j (length d) (omega arith)));
 }
 
-pub goes_on : (address delay : ℕ) (d : List (List ℕ)) (p : List ℕ) (j : ℕ) → j < length d → anchor_of d ≡ Some j → anchor_of (d ++ p ∷ []) ≡ Some j → Goes address delay d p (At ((length d - j) % 624))
+pub goes_on : (address delay : ℕ) (d : List (List ℕ)) (p : List ℕ) (j : ℕ) → j < length d → anchor_of d ≡ Some j
+    → anchor_of (d ++ p ∷ []) ≡ Some j → Goes address delay d p (At ((length d - j) % 624))
 goes_on address delay d p j l h e = record {
-  follows =
-      (drop j d, under_by d (Some j) h ∙ here d j, under_by (d ++ p ∷ []) (Some j) e ∙ longer d p j l, ap (λ (n : ℕ). n % 624) (sym (length-drop j d)));
+  follows = (
+    drop j d,
+    under_by d (Some j) h ∙ here d j,
+    under_by (d ++ p ∷ []) (Some j) e
+        ∙ longer d p j l,
+    ap (λ (n : ℕ). n % 624) (sym (length-drop j d)),
+  );
   answer =
       told_by_anchors address delay d p (Some j) (Some j) h e
-      ∙ cond-false (has_moved (Some j) (Some j)) (Muted Cadence) (told_under address delay (option_map said (rest (d ++ p ∷ []) (Some j)))) (ap not (eq-eqb j j refl))
+      ∙ cond-false (has_moved (Some j) (Some j)) (Muted Cadence)
+      (told_under address delay (option_map said (rest (d ++ p ∷ []) (Some j)))) (ap not (eq-eqb j j refl))
       ∙ ap (λ o. told_under address delay (option_map said o)) (sym (under_by (d ++ p ∷ []) (Some j) e));
 }
 
-goes_changed : (address delay : ℕ) (d : List (List ℕ)) (p : List ℕ) (j : ℕ) (b : Bool) → j < length d → anchor_of d ≡ Some j → anchor_of (d ++ p ∷ []) ≡ cond b (Some (length d)) None
+goes_changed : (address delay : ℕ) (d : List (List ℕ)) (p : List ℕ) (j : ℕ) (b : Bool) → j < length d
+    → anchor_of d ≡ Some j → anchor_of (d ++ p ∷ []) ≡ cond b (Some (length d)) None
     → Goes address delay d p (seen_by (length d) (Some j) (cond b (Some (length d)) None))
 goes_changed address delay d p j true l h e =
-    subst (Goes address delay d p) (sym (cond-false (j == length d) (At ((length d - length d) % 624)) Moved (ne_eqb j (length d) (omega arith)))) (goes_moved address delay d p j l h e)
+    subst (Goes address delay d p) (sym (cond-false (j == length d) (At ((length d - length d) % 624)) Moved
+    (ne_eqb j (length d) (omega arith)))) (goes_moved address delay d p j l h e)
 goes_changed address delay d p j false l h e = record {
   follows = under_by (d ++ p ∷ []) None e ∙ nothing (d ++ p ∷ []);
   answer = told_by_anchors address delay d p (Some j) None h e;
 }
 
-goes_by_test : (address delay : ℕ) (d : List (List ℕ)) (p : List ℕ) (j : ℕ) (b t : Bool) → j < length d → anchor_of d ≡ Some j → anchor_of (d ++ p ∷ []) ≡ cond t (Some j) (cond b (Some (length d)) None)
+goes_by_test : (address delay : ℕ) (d : List (List ℕ)) (p : List ℕ) (j : ℕ) (b t : Bool) → j < length d
+    → anchor_of d ≡ Some j → anchor_of (d ++ p ∷ []) ≡ cond t (Some j) (cond b (Some (length d)) None)
     → Goes address delay d p (seen_by (length d) (Some j) (cond t (Some j) (cond b (Some (length d)) None)))
 goes_by_test address delay d p j b true l h e =
-    subst (Goes address delay d p) (sym (cond-true (j == j) (At ((length d - j) % 624)) Moved (eq-eqb j j refl))) (goes_on address delay d p j l h e)
+    subst (Goes address delay d p) (sym (cond-true (j == j) (At ((length d - j) % 624)) Moved (eq-eqb j j refl)))
+    (goes_on address delay d p j l h e)
 goes_by_test address delay d p j b false l h e = goes_changed address delay d p j b l h e
 
 -- the anchor, of packets
@@ -161,13 +182,16 @@ anchor_is : (d : List (List ℕ)) (o : Option ℕ) → anchor (syncs d) ≡ o �
 unfolding anchor_of
 anchor_is d o h = h
 
-new_anchor_is : (d : List (List ℕ)) (p : List ℕ) → new_anchor (syncs d) (sync_of p) ≡ cond (sync_of p == 0xB8) (Some (length d)) None
+new_anchor_is : (d : List (List ℕ)) (p : List ℕ)
+    → new_anchor (syncs d) (sync_of p) ≡ cond (sync_of p == 0xB8) (Some (length d)) None
 new_anchor_is d p = ap (λ (n : ℕ). cond (sync_of p == 0xB8) (Some n) None) (length-syncs d)
 
 -- what is seen, by the anchors of the packets
-seen_is : (d : List (List ℕ)) (p : List ℕ) (before now : Option ℕ) → anchor (syncs d) ≡ before → anchor (syncs d ++ sync_of p ∷ []) ≡ now → seen (syncs d) (sync_of p) ≡ seen_by (length d) before now
+seen_is : (d : List (List ℕ)) (p : List ℕ) (before now : Option ℕ) → anchor (syncs d) ≡ before
+    → anchor (syncs d ++ sync_of p ∷ []) ≡ now → seen (syncs d) (sync_of p) ≡ seen_by (length d) before now
 unfolding seen
-seen_is d p before now b n = ap₂ (seen_by (length (syncs d))) b n ∙ ap (λ (k : ℕ). seen_by k before now) (length-syncs d)
+seen_is d p before now b n = ap₂ (seen_by (length (syncs d))) b n
+    ∙ ap (λ (k : ℕ). seen_by k before now) (length-syncs d)
 
 pub goes : (address delay : ℕ) (d : List (List ℕ)) (p : List ℕ) → Goes address delay d p (seen (syncs d) (sync_of p))
 goes address delay d p = by_anchor (anchor (syncs d)) refl
@@ -177,12 +201,15 @@ goes address delay d p = by_anchor (anchor (syncs d)) refl
 
     by_anchor : (o : Option ℕ) → anchor (syncs d) ≡ o → Goes address delay d p (seen (syncs d) (sync_of p))
     by_anchor None h =
-        let e : anchor (syncs d ++ sync_of p ∷ []) ≡ cond (sync_of p == 0xB8) (Some (length d)) None = anchor_free (syncs d) (sync_of p) h ∙ new_anchor_is d p in
+        let e : anchor (syncs d ++ sync_of p ∷ []) ≡ cond (sync_of p == 0xB8) (Some (length d)) None =
+        anchor_free (syncs d) (sync_of p) h ∙ new_anchor_is d p in
         subst (Goes address delay d p) (sym (seen_is d p None (cond (sync_of p == 0xB8) (Some (length d)) None) h e))
         (goes_new address delay d p (sync_of p == 0xB8) (anchor_is d None h) (anchor_with d p ∙ e))
     by_anchor (Some j) h =
         let t : Bool = in_step (sync_of p) (length (syncs d) - j) in
         let e : anchor (syncs d ++ sync_of p ∷ []) ≡ cond t (Some j) (cond (sync_of p == 0xB8) (Some (length d)) None) =
         anchor_next (syncs d) (sync_of p) j h t refl ∙ ap (cond t (Some j)) (new_anchor_is d p) in
-        subst (Goes address delay d p) (sym (seen_is d p (Some j) (cond t (Some j) (cond (sync_of p == 0xB8) (Some (length d)) None)) h e))
-        (goes_by_test address delay d p j (sync_of p == 0xB8) t (below j h) (anchor_is d (Some j) h) (anchor_with d p ∙ e))
+        subst (Goes address delay d p)
+        (sym (seen_is d p (Some j) (cond t (Some j) (cond (sync_of p == 0xB8) (Some (length d)) None)) h e))
+        (goes_by_test address delay d p j (sync_of p == 0xB8) t (below j h) (anchor_is d (Some j) h) (anchor_with d p
+        ∙ e))

@@ -8,7 +8,8 @@ use Rattle.dtx_files.specs.LogText.{line_text, log_text}
 use Rattle.dtx_files.specs.Symbols.{byte_of_symbol, segment_bytes}
 
 pub segment_bytes-append : (xs ys : List (List ℤ)) → segment_bytes (xs ++ ys) ≡ segment_bytes xs ++ segment_bytes ys
-segment_bytes-append xs ys = ap (map byte_of_symbol) (flat_map-append (λ (s : List ℤ). s) xs ys) ∙ map-append byte_of_symbol (symbols_of xs) (symbols_of ys)
+segment_bytes-append xs ys = ap (map byte_of_symbol) (flat_map-append (λ (s : List ℤ). s) xs ys)
+    ∙ map-append byte_of_symbol (symbols_of xs) (symbols_of ys)
 
 pub log_text-append : (xs ys : List Line) → log_text (xs ++ ys) ≡ log_text xs ++ log_text ys
 log_text-append xs ys = flat_map-append line_text xs ys

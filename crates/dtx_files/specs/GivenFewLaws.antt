@@ -1,5 +1,6 @@
 -- How many segments a packet gives.
-use Rattle.std.proofs.Common.{ℕ, ℤ, ◌+◌, ◌-◌, ◌*◌, ◌/◌, ◌%◌, ◌≤◌, Bool, true, false, cond, List, [], ◌∷◌, ◌++◌, length, arith}
+use Rattle.std.proofs.Common.{ℕ, ℤ, ◌+◌, ◌-◌, ◌*◌, ◌/◌, ◌%◌, ◌≤◌, Bool, true, false, cond, List, [], ◌∷◌, ◌++◌, length}
+use Rattle.std.proofs.Common.{arith}
 use Rattle.std.specs.Prelude.{◌==◌, Option, Some, None, is_ok}
 use Rattle.std.proofs.lemmas.List.FromFn.{length-map-range_with_len}
 use Rattle.dtx_coder.specs.Along.{levels_since}
@@ -15,7 +16,12 @@ four a d l i None = omega arith
 four a d l i (Some order) = by_served (is_ok (served a d order.ops))
   where
     by_served : (b : Bool) → length (cond b (segments_since (order.place / 4) order.ops.states l (i / 4)) []) ≤ 4
-    by_served true = omega (arith, length-map-range_with_len (segment (levels_since (order.place / 4) order.ops.states l)) (4 * (i / 4 - order.place / 4)) 4)
+    by_served true =
+        omega (
+          arith,
+          length-map-range_with_len (segment (levels_since (order.place / 4) order.ops.states l))
+              (4 * (i / 4 - order.place / 4)) 4,
+        )
     by_served false = omega arith
 
 one_more : (b : Bool) (s : List ℤ) (ss : List (List ℤ)) → length (cond b (s ∷ []) [] ++ ss) ≤ length ss + 1

@@ -13,25 +13,33 @@ unfolding pn511 extended
 front_511 = refl
 
 -- the standard's own first bits
-more_511 : take 24 pn511 ≡ 0 ∷ 0 ∷ 0 ∷ 0 ∷ 0 ∷ 0 ∷ 0 ∷ 1 ∷ 0 ∷ 1 ∷ 1 ∷ 1 ∷ 1 ∷ 1 ∷ 1 ∷ 1 ∷ 1 ∷ 1 ∷ 0 ∷ 0 ∷ 1 ∷ 0 ∷ 1 ∷ 0 ∷ []
+more_511 : take 24 pn511
+    ≡ 0 ∷ 0 ∷ 0 ∷ 0 ∷ 0 ∷ 0 ∷ 0 ∷ 1 ∷ 0 ∷ 1 ∷ 1 ∷ 1 ∷ 1 ∷ 1 ∷ 1 ∷ 1 ∷ 1 ∷ 1 ∷ 0 ∷ 0 ∷ 1 ∷ 0 ∷ 1 ∷ 0 ∷ []
 unfolding pn511 extended
 more_511 = refl
 
-rule_test_511 : holds_below (λ n. get_or pn511 (n + 9) 0 == (get_or pn511 (n + 7) 0 + get_or pn511 (n + 6) 0 + get_or pn511 (n + 4) 0 + get_or pn511 (n + 3) 0 + get_or pn511 (n + 1) 0 + get_or pn511 n 0) % 2) 502 ≡ true
+rule_test_511 : holds_below (λ n. get_or pn511 (n + 9) 0 ==
+    (get_or pn511 (n + 7) 0 + get_or pn511 (n + 6) 0 + get_or pn511 (n + 4) 0 + get_or pn511 (n + 3) 0 + get_or pn511
+    (n + 1) 0 + get_or pn511 n 0) % 2) 502 ≡ true
 unfolding pn511 extended
 rule_test_511 = refl
 
-pub rule_511 : (n : ℕ) → n < 502 → get_or pn511 (n + 9) 0 ≡ (get_or pn511 (n + 7) 0 + get_or pn511 (n + 6) 0 + get_or pn511 (n + 4) 0 + get_or pn511 (n + 3) 0 + get_or pn511 (n + 1) 0 + get_or pn511 n 0) % 2
+pub rule_511 : (n : ℕ) → n < 502
+    → get_or pn511 (n + 9) 0 ≡ (get_or pn511 (n + 7) 0 + get_or pn511 (n + 6) 0 + get_or pn511 (n + 4) 0 + get_or pn511
+    (n + 3) 0 + get_or pn511 (n + 1) 0 + get_or pn511 n 0) % 2
 rule_511 n l =
-    eqb-true (get_or pn511 (n + 9) 0) ((get_or pn511 (n + 7) 0 + get_or pn511 (n + 6) 0 + get_or pn511 (n + 4) 0 + get_or pn511 (n + 3) 0 + get_or pn511 (n + 1) 0 + get_or pn511 n 0) % 2)
-    (at_below (λ n. get_or pn511 (n + 9) 0 == (get_or pn511 (n + 7) 0 + get_or pn511 (n + 6) 0 + get_or pn511 (n + 4) 0 + get_or pn511 (n + 3) 0 + get_or pn511 (n + 1) 0 + get_or pn511 n 0) % 2) 502 n rule_test_511 l)
+    eqb-true (get_or pn511 (n + 9) 0) ((get_or pn511 (n + 7) 0 + get_or pn511 (n + 6) 0 + get_or pn511
+    (n + 4) 0 + get_or pn511 (n + 3) 0 + get_or pn511 (n + 1) 0 + get_or pn511 n 0) % 2)
+    (at_below (λ n. get_or pn511 (n + 9) 0 == (get_or pn511 (n + 7) 0 + get_or pn511 (n + 6) 0 + get_or pn511
+    (n + 4) 0 + get_or pn511 (n + 3) 0 + get_or pn511 (n + 1) 0 + get_or pn511 n 0) % 2) 502 n rule_test_511 l)
 
 bits_test_511 : holds_below (λ i. leb (get_or pn511 i 0) 1) 511 ≡ true
 unfolding pn511 extended
 bits_test_511 = refl
 
 pub bit_511 : (p : ℕ) → p < 511 → get_or pn511 p 0 < 2
-bit_511 p l = let h : get_or pn511 p 0 ≤ 1 = leb-true (get_or pn511 p 0) 1 (at_below (λ i. leb (get_or pn511 i 0) 1) 511 p bits_test_511 l) in omega arith
+bit_511 p l = let h : get_or pn511 p 0 ≤ 1 =
+    leb-true (get_or pn511 p 0) 1 (at_below (λ i. leb (get_or pn511 i 0) 1) 511 p bits_test_511 l) in omega arith
 
 pub length_63 : length pn63 ≡ 63
 unfolding pn63 extended

@@ -1,5 +1,6 @@
 -- Each field sync looks like one, and like that of its field.
-use Rattle.std.proofs.Common.{◌≡◌, ℕ, ◌+◌, ◌/◌, ◌<◌, ◌==◌, Bool, true, false, nat_le, ℤ, pos, List, get_or, refl, sym, ap, ◌∙◌, arith, to_z, of_z, w8}
+use Rattle.std.proofs.Common.{◌≡◌, ℕ, ◌+◌, ◌/◌, ◌<◌, ◌==◌, Bool, true, false, nat_le, ℤ, pos, List, get_or, refl, sym}
+use Rattle.std.proofs.Common.{ap, ◌∙◌, arith, to_z, of_z, w8}
 use Rattle.std.proofs.lemmas.Bool.{eqb-true}
 use Rattle.std.proofs.lemmas.List.{get_or_append_left}
 use Rattle.dtx_lists.proofs.Below.{holds_below, at_below}
@@ -16,10 +17,12 @@ same_test : holds_below (λ i. sliced (get_or SECOND i (pos 0)) == sliced (get_o
 unfolding sliced
 same_test = refl
 
-second_same : (i : ℕ) → i < 515 → sliced (get_or (sync_symbols true) i (pos 0)) ≡ sliced (get_or (sync_symbols false) i (pos 0))
+second_same : (i : ℕ) → i < 515 → sliced (get_or (sync_symbols true) i (pos 0))
+    ≡ sliced (get_or (sync_symbols false) i (pos 0))
 second_same i l =
     ap (λ (xs : List ℤ). sliced (get_or xs i (pos 0))) (sym second_is)
-    ∙ eqb-true (sliced (get_or SECOND i (pos 0))) (sliced (get_or FIRST i (pos 0))) (at_below (λ i. sliced (get_or SECOND i (pos 0)) == sliced (get_or FIRST i (pos 0))) 515 i same_test l)
+    ∙ eqb-true (sliced (get_or SECOND i (pos 0))) (sliced (get_or FIRST i (pos 0)))
+    (at_below (λ i. sliced (get_or SECOND i (pos 0)) == sliced (get_or FIRST i (pos 0))) 515 i same_test l)
     ∙ ap (λ (xs : List ℤ). sliced (get_or xs i (pos 0))) first_is
 
 -- in the middle one of the short sequences
@@ -34,25 +37,31 @@ second_test = refl
 first_sign : (i : ℕ) → i < 63 → sliced (get_or (sync_symbols false) (578 + i) (pos 0)) / 4 ≡ get_or pn63 i 0
 first_sign i l =
     ap (λ (xs : List ℤ). sliced (get_or xs (578 + i) (pos 0)) / 4) (sym first_is)
-    ∙ eqb-true (sliced (get_or FIRST (578 + i) (pos 0)) / 4) (get_or pn63 i 0) (at_below (λ i. sliced (get_or FIRST (578 + i) (pos 0)) / 4 == get_or pn63 i 0) 63 i first_test l)
+    ∙ eqb-true (sliced (get_or FIRST (578 + i) (pos 0)) / 4) (get_or pn63 i 0)
+    (at_below (λ i. sliced (get_or FIRST (578 + i) (pos 0)) / 4 == get_or pn63 i 0) 63 i first_test l)
 
 second_sign : (i : ℕ) → i < 63 → sliced (get_or (sync_symbols true) (578 + i) (pos 0)) / 4 + get_or pn63 i 0 ≡ 1
 second_sign i l =
     ap (λ (xs : List ℤ). sliced (get_or xs (578 + i) (pos 0)) / 4 + get_or pn63 i 0) (sym second_is)
-    ∙ eqb-true (sliced (get_or SECOND (578 + i) (pos 0)) / 4 + get_or pn63 i 0) 1 (at_below (λ i. sliced (get_or SECOND (578 + i) (pos 0)) / 4 + get_or pn63 i 0 == 1) 63 i second_test l)
+    ∙ eqb-true (sliced (get_or SECOND (578 + i) (pos 0)) / 4 + get_or pn63 i 0) 1
+    (at_below (λ i. sliced (get_or SECOND (578 + i) (pos 0)) / 4 + get_or pn63 i 0 == 1) 63 i second_test l)
 
 -- a field sync's first 820 symbols
-sync_at : (second : Bool) (last : List ℤ) (i : ℕ) → i < 820 → get_or (field_sync second last) i (pos 0) ≡ get_or (sync_symbols second) i (pos 0)
+sync_at : (second : Bool) (last : List ℤ) (i : ℕ) → i < 820
+    → get_or (field_sync second last) i (pos 0) ≡ get_or (sync_symbols second) i (pos 0)
 unfolding field_sync
 sync_at second last i l = get_or_append_left (sync_symbols second) last (pos 0) i (omega (arith, length_front second))
 
-alike_at : (second : Bool) (last : List ℤ) (i : ℕ) → i < 515 → sliced (get_or (field_sync second last) i (pos 0)) ≡ sliced (get_or (sync_symbols false) i (pos 0))
+alike_at : (second : Bool) (last : List ℤ) (i : ℕ) → i < 515
+    → sliced (get_or (field_sync second last) i (pos 0)) ≡ sliced (get_or (sync_symbols false) i (pos 0))
 alike_at false last i l = ap sliced (sync_at false last i (omega arith))
 alike_at true last i l = ap sliced (sync_at true last i (omega arith)) ∙ second_same i l
 
 differs_not : (second : Bool) (last : List ℤ) (i : ℕ) → i < 515 → differs (field_sync second last) i ≡ 0
 unfolding differs
-differs_not second last i l = same_is (sliced (get_or (field_sync second last) i (pos 0))) (sliced (get_or (sync_symbols false) i (pos 0))) (alike_at second last i l)
+differs_not second last i l =
+    same_is (sliced (get_or (field_sync second last) i (pos 0))) (sliced (get_or (sync_symbols false) i (pos 0)))
+    (alike_at second last i l)
 
 pub none_differ : (second : Bool) (last : List ℤ) → differing (field_sync second last) ≡ 0
 unfolding differing
@@ -90,16 +99,19 @@ second_told true last =
     ∙ total_ones (opposite (field_sync true last)) 0 63 (λ i _ l. all_opposite last i (omega arith)))
 
 -- the table's symbols, as signed bytes are read
-table_test : holds_below (λ i. sliced (to_z w8 (of_z w8 (get_or FIRST i (pos 0)))) == sliced (get_or FIRST i (pos 0))) 820 ≡ true
+table_test : holds_below (λ i. sliced (to_z w8 (of_z w8 (get_or FIRST i (pos 0)))) == sliced (get_or FIRST i (pos 0)))
+    820 ≡ true
 unfolding sliced
 table_test = refl
 
 table_read : (i : ℕ) → i < 820 → sliced (to_z w8 (of_z w8 (get_or FIRST i (pos 0)))) ≡ sliced (get_or FIRST i (pos 0))
 table_read i l =
     eqb-true (sliced (to_z w8 (of_z w8 (get_or FIRST i (pos 0))))) (sliced (get_or FIRST i (pos 0)))
-    (at_below (λ i. sliced (to_z w8 (of_z w8 (get_or FIRST i (pos 0)))) == sliced (get_or FIRST i (pos 0))) 820 i table_test l)
+    (at_below (λ i. sliced (to_z w8 (of_z w8 (get_or FIRST i (pos 0)))) == sliced (get_or FIRST i (pos 0))) 820 i
+    table_test l)
 
-pub table_level : (i : ℕ) → i < 820 → sliced (to_z w8 (of_z w8 (get_or FIRST i (pos 0)))) ≡ sliced (get_or (sync_symbols false) i (pos 0))
+pub table_level : (i : ℕ) → i < 820 → sliced (to_z w8 (of_z w8 (get_or FIRST i (pos 0))))
+    ≡ sliced (get_or (sync_symbols false) i (pos 0))
 table_level i l = table_read i l ∙ ap (λ (xs : List ℤ). sliced (get_or xs i (pos 0))) first_is
 
 pub table_sign : (i : ℕ) → i < 63 → sliced (to_z w8 (of_z w8 (get_or FIRST (578 + i) (pos 0)))) / 4 ≡ get_or pn63 i 0

@@ -1,5 +1,6 @@
 -- Sums over a range, and counts of what differs.
-use Rattle.std.proofs.Common.{◌≡◌, ℕ, zero, suc, ◌+◌, ◌-◌, ◌<◌, ◌≤◌, ◌==◌, cond, List, [], ◌∷◌, map, sum, refl, sym, ap, ◌∙◌, arith}
+use Rattle.std.proofs.Common.{◌≡◌, ℕ, zero, suc, ◌+◌, ◌-◌, ◌<◌, ◌≤◌, ◌==◌, cond, List, [], ◌∷◌, map, sum, refl, sym, ap}
+use Rattle.std.proofs.Common.{◌∙◌, arith}
 use Rattle.std.specs.List.{range_with_len, sum_by}
 use Rattle.std.proofs.lemmas.Bool.{cond-true, cond-false, eq-eqb, ne_eqb}
 use Rattle.std.proofs.lemmas.List.Sums.{sum_by-cons}
@@ -18,7 +19,8 @@ total f a (suc n) = f a + total f (suc a) n
 
 total_by : (f : ℕ → ℕ) (a n : ℕ) → sum_by f (range_with_len a n) ≡ total f a n
 total_by f a zero = refl
-total_by f a (suc n) = sum_by-cons f a (range_with_len (a + 1) n) ∙ ap (λ x. f a + x) (total_by f (a + 1) n ∙ ap (λ x. total f x n) (next a))
+total_by f a (suc n) = sum_by-cons f a (range_with_len (a + 1) n)
+    ∙ ap (λ x. f a + x) (total_by f (a + 1) n ∙ ap (λ x. total f x n) (next a))
   where
     next : (a : ℕ) → a + 1 ≡ suc a
     next a = omega arith
@@ -34,11 +36,13 @@ sum_is f a n = sum_map f (range_with_len a n) ∙ total_by f a n
 -- a sum of zeros, and one of ones
 pub total_zeros : (f : ℕ → ℕ) (a n : ℕ) → ((i : ℕ) → a ≤ i → i < a + n → f i ≡ 0) → total f a n ≡ 0
 total_zeros f a zero h = refl
-total_zeros f a (suc n) h = omega (arith, h a (omega arith) (omega arith), total_zeros f (suc a) n (λ i l m. h i (omega arith) (omega arith)))
+total_zeros f a (suc n) h =
+    omega (arith, h a (omega arith) (omega arith), total_zeros f (suc a) n (λ i l m. h i (omega arith) (omega arith)))
 
 pub total_ones : (f : ℕ → ℕ) (a n : ℕ) → ((i : ℕ) → a ≤ i → i < a + n → f i ≡ 1) → total f a n ≡ n
 total_ones f a zero h = refl
-total_ones f a (suc n) h = omega (arith, h a (omega arith) (omega arith), total_ones f (suc a) n (λ i l m. h i (omega arith) (omega arith)))
+total_ones f a (suc n) h =
+    omega (arith, h a (omega arith) (omega arith), total_ones f (suc a) n (λ i l m. h i (omega arith) (omega arith)))
 
 total_append : (f : ℕ → ℕ) (a m n : ℕ) → total f a (m + n) ≡ total f a m + total f (a + m) n
 total_append f a zero n =
@@ -63,7 +67,8 @@ total_append f a (suc m) n =
 pub part : (f : ℕ → ℕ) (a n w : ℕ) → a + n ≤ w → total f a n ≤ total f 0 w
 part f a n w l =
     let e : total f 0 (a + n) ≡ total f 0 a + total f (0 + a) n = total_append f 0 a n in
-    let g : total f 0 (a + n + (w - (a + n))) ≡ total f 0 (a + n) + total f (0 + (a + n)) (w - (a + n)) = total_append f 0 (a + n) (w - (a + n)) in
+    let g : total f 0 (a + n + (w - (a + n))) ≡ total f 0 (a + n) + total f (0 + (a + n)) (w - (a + n)) =
+    total_append f 0 (a + n) (w - (a + n)) in
     let h : total f 0 (a + n + (w - (a + n))) ≡ total f 0 w = ap (total f 0) (omega arith) in
     let k : total f (0 + a) n ≡ total f a n = ap (λ x. total f x n) (omega arith) in
     omega arith

@@ -1,5 +1,6 @@
 -- The tables are the definition's symbols.
-use Rattle.std.proofs.Common.{◌≡◌, ℕ, zero, suc, ◌<◌, ℤ, pos, ◌*ℤ◌, ◌-ℤ◌, Bool, true, false, length, refl, sym, ap, ◌∙◌, arith, to_z, of_z, w8}
+use Rattle.std.proofs.Common.{◌≡◌, ℕ, zero, suc, ◌<◌, ℤ, pos, ◌*ℤ◌, ◌-ℤ◌, Bool, true, false, length, refl, sym, ap, ◌∙◌}
+use Rattle.std.proofs.Common.{arith, to_z, of_z, w8}
 use Rattle.dtx_frame.specs.declared.tables.TheConstants.{FIRST, IN_FRONT, SECOND}
 use Rattle.dtx_frame.specs.Sequences.{extended, pn511, pn63}
 use Rattle.dtx_frame.specs.Segments.{bit_symbol, segment_sync, symbol_of, sync_symbols}

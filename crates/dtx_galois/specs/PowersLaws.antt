@@ -1,5 +1,6 @@
 -- Powers, and that those of 2 below 255 differ.
-use Rattle.std.proofs.Common.{◌≡◌, ◌≢◌, ℕ, zero, suc, ◌+◌, ◌-◌, ◌*◌, ◌<◌, ◌==◌, not, true, refl, sym, ap, ◌∙◌, arith, ◌/◌, ◌%◌, mul-zero}
+use Rattle.std.proofs.Common.{◌≡◌, ◌≢◌, ℕ, zero, suc, ◌+◌, ◌-◌, ◌*◌, ◌<◌, ◌==◌, not, true, refl, sym, ap, ◌∙◌, arith}
+use Rattle.std.proofs.Common.{◌/◌, ◌%◌, mul-zero}
 use Rattle.std.proofs.lemmas.Bool.{eq-eqb, not-true, false≢true}
 use Rattle.dtx_lists.proofs.Below.{holds_below, at_below}
 use Rattle.dtx_galois.specs.BitPolynomial.{product, remainder}
@@ -16,7 +17,8 @@ unfolding pow mul product remainder
 pow_mul a b zero = refl
 pow_mul a b (suc n) =
     ap (mul (mul a b)) (pow_mul a b n) ∙ mul_assoc a b (mul (pow a n) (pow b n))
-    ∙ ap (mul a) (sym (mul_assoc b (pow a n) (pow b n)) ∙ ap (λ (x : ℕ). mul x (pow b n)) (mul_comm b (pow a n)) ∙ mul_assoc (pow a n) b (pow b n))
+    ∙ ap (mul a) (sym (mul_assoc b (pow a n) (pow b n)) ∙ ap (λ (x : ℕ). mul x (pow b n)) (mul_comm b (pow a n))
+    ∙ mul_assoc (pow a n) b (pow b n))
     ∙ sym (mul_assoc a (pow a n) (mul b (pow b n)))
 
 -- the order of two exponents is free
@@ -42,7 +44,9 @@ unfolding pow mul product remainder
 order_test = refl
 
 not_one : (k : ℕ) → k < 254 → pow 2 (suc k) ≢ 1
-not_one k l e = false≢true (sym (not-true (pow 2 (suc k) == 1) (at_below (λ k. not (pow 2 (suc k) == 1)) 254 k order_test l)) ∙ eq-eqb (pow 2 (suc k)) 1 e)
+not_one k l e =
+    false≢true (sym (not-true (pow 2 (suc k) == 1) (at_below (λ k. not (pow 2 (suc k) == 1)) 254 k order_test l))
+    ∙ eq-eqb (pow 2 (suc k)) 1 e)
 
 -- and power 255 is
 pub cycle : pow 2 255 ≡ 1
@@ -60,7 +64,8 @@ later_differs i k l e =
     (sym (mul_one (pow 2 (suc k)) (pow_small 2 (suc k)))
     ∙ ap (λ (x : ℕ). mul x (pow 2 (suc k))) (sym (two_inverse i) ∙ mul_comm (pow 2 i) (pow (pow 2 254) i))
     ∙ mul_assoc (pow (pow 2 254) i) (pow 2 i) (pow 2 (suc k))
-    ∙ ap (mul (pow (pow 2 254) i)) (sym (pow_add 2 i (suc k)) ∙ sym e) ∙ mul_comm (pow (pow 2 254) i) (pow 2 i) ∙ two_inverse i)
+    ∙ ap (mul (pow (pow 2 254) i)) (sym (pow_add 2 i (suc k)) ∙ sym e) ∙ mul_comm (pow (pow 2 254) i) (pow 2 i)
+    ∙ two_inverse i)
 
 -- the powers of 2 below 255 differ
 pub powers_differ : (i j : ℕ) → i < j → j < 255 → pow 2 i ≢ pow 2 j
@@ -73,7 +78,8 @@ powers_differ i j l m e = later_differs i (j - suc i) (omega arith) (e ∙ ap (p
 pub pow_times : (a i n : ℕ) → pow (pow a i) n ≡ pow a (i * n)
 unfolding pow
 pow_times a i zero = sym (ap (pow a) (mul-zero i))
-pow_times a i (suc n) = ap (mul (pow a i)) (pow_times a i n) ∙ sym (pow_add a i (i * n)) ∙ ap (pow a) (sym (times_suc i n))
+pow_times a i (suc n) = ap (mul (pow a i)) (pow_times a i n) ∙ sym (pow_add a i (i * n))
+    ∙ ap (pow a) (sym (times_suc i n))
   where
     times_suc : (i n : ℕ) → i * suc n ≡ i + i * n
     times_suc i n = grind arith
@@ -84,7 +90,8 @@ pow_mod n =
     let split : n ≡ 255 * (n / 255) + n % 255 = omega arith in
     sym
     (ap (pow 2) split ∙ pow_add 2 (255 * (n / 255)) (n % 255)
-    ∙ ap (λ (x : ℕ). mul x (pow 2 (n % 255))) (sym (pow_times 2 255 (n / 255)) ∙ ap (λ (x : ℕ). pow x (n / 255)) cycle ∙ pow_one (n / 255))
+    ∙ ap (λ (x : ℕ). mul x (pow 2 (n % 255))) (sym (pow_times 2 255 (n / 255)) ∙ ap (λ (x : ℕ). pow x (n / 255)) cycle
+    ∙ pow_one (n / 255))
     ∙ mul_one (pow 2 (n % 255)) (pow_small 2 (n % 255)))
 
 -- the powers of 0

@@ -1,5 +1,6 @@
 -- Twelve states as the digits of a number to the base 8.
-use Rattle.std.proofs.Common.{◌≡◌, ℕ, zero, suc, ◌+◌, ◌*◌, ◌/◌, ◌%◌, ◌^◌, ◌<◌, ◌≤◌, List, [], ◌∷◌, ◌++◌, length, refl, ap, sym, ◌∙◌, append_assoc, subst, arith}
+use Rattle.std.proofs.Common.{◌≡◌, ℕ, zero, suc, ◌+◌, ◌*◌, ◌/◌, ◌%◌, ◌^◌, ◌<◌, ◌≤◌, List, [], ◌∷◌, ◌++◌, length, refl}
+use Rattle.std.proofs.Common.{ap, sym, ◌∙◌, append_assoc, subst, arith}
 use Rattle.std.proofs.Math.Nat.{div-div-eq-div-mul, pow-suc, pow-succ', mul_assoc, mul_comm, mul-le-mul_right}
 use Rattle.std.proofs.lemmas.List.{append-nil}
 use Rattle.std.proofs.lemmas.List.Sums.{fold_push}
@@ -23,7 +24,8 @@ digits_push n before state h =
     let m : (8 * before + state) % 8 ≡ state = omega arith in
     rw (d, m) refl
 
-digits_joined : (k before : ℕ) (states : List ℕ) → AllByRecursion (λ s. s < 8) states → digits (k + length states) (joined before states) ≡ digits k before ++ states
+digits_joined : (k before : ℕ) (states : List ℕ) → AllByRecursion (λ s. s < 8) states
+    → digits (k + length states) (joined before states) ≡ digits k before ++ states
 digits_joined k before [] h =
     let e : k + 0 ≡ k = omega arith in
     ap (λ (n : ℕ). digits n before) e ∙ sym (append-nil (digits k before))
@@ -47,12 +49,14 @@ states_at-digits : (number : ℕ) → states_at number ≡ digits 12 (number / 1
 unfolding states_at
 states_at-digits number = simp (div-div-eq-div-mul) refl
 
-pub states_at-bits : (states : List ℕ) → length states ≡ 12 → AllByRecursion (λ s. s < 8) states → states_at (states_bits states) ≡ states
+pub states_at-bits : (states : List ℕ) → length states ≡ 12 → AllByRecursion (λ s. s < 8) states
+    → states_at (states_bits states) ≡ states
 unfolding states_bits
 states_at-bits states l h =
     let e : 16 * joined 0 states / 16 ≡ joined 0 states = omega arith in
     let twelve : 12 ≡ 0 + length states = omega arith in
-    states_at-digits (16 * joined 0 states) ∙ ap (digits 12) e ∙ ap (λ (n : ℕ). digits n (joined 0 states)) twelve ∙ digits_joined 0 0 states h
+    states_at-digits (16 * joined 0 states) ∙ ap (digits 12) e ∙ ap (λ (n : ℕ). digits n (joined 0 states)) twelve
+    ∙ digits_joined 0 0 states h
 
 pub bits-states_at : (number : ℕ) → number % 16 ≡ 0 → number < 2 ^ 40 → states_bits (states_at number) ≡ number
 unfolding states_bits
@@ -60,18 +64,24 @@ bits-states_at number h l =
     let back = joined_digits 12 (number / 16) (omega arith) in
     ap (λ (t : List ℕ). 16 * joined 0 t) (states_at-digits number) ∙ omega (arith, back)
 
-joined_below : (before : ℕ) (states : List ℕ) → AllByRecursion (λ s. s < 8) states → joined before states < (before + 1) * 8 ^ length states
+joined_below : (before : ℕ) (states : List ℕ) → AllByRecursion (λ s. s < 8) states
+    → joined before states < (before + 1) * 8 ^ length states
 joined_below before [] h = omega arith
 joined_below before (s ∷ states) h =
     let rest = joined_below (8 * before + s) states h.1 in
-    let more : (8 * before + s + 1) * 8 ^ length states ≤ 8 * (before + 1) * 8 ^ length states = mul-le-mul_right (8 ^ length states) (omega (arith, h.0)) in
-    let split : 8 * (before + 1) * 8 ^ length states ≡ (before + 1) * 8 ^ suc (length states) = ap (λ n. n * 8 ^ length states) (mul_comm 8 (before + 1)) ∙ mul_assoc (before + 1) 8 (8 ^ length states) ∙ ap (λ n. (before + 1) * n) (sym (pow-succ' 8 (length states))) in
+    let more : (8 * before + s + 1) * 8 ^ length states ≤ 8 * (before + 1) * 8 ^ length states =
+    mul-le-mul_right (8 ^ length states) (omega (arith, h.0)) in
+    let split : 8 * (before + 1) * 8 ^ length states ≡ (before + 1) * 8 ^ suc (length states) =
+    ap (λ n. n * 8 ^ length states) (mul_comm 8 (before + 1)) ∙ mul_assoc (before + 1) 8 (8 ^ length states)
+    ∙ ap (λ n. (before + 1) * n) (sym (pow-succ' 8 (length states))) in
     omega (arith, rest, more, split)
 
-pub bits_below : (states : List ℕ) → length states ≡ 12 → AllByRecursion (λ s. s < 8) states → states_bits states < 2 ^ 40
+pub bits_below : (states : List ℕ) → length states ≡ 12 → AllByRecursion (λ s. s < 8) states
+    → states_bits states < 2 ^ 40
 unfolding states_bits
 bits_below states l h =
-    let below : joined 0 states < (0 + 1) * 8 ^ 12 = subst (λ n. joined 0 states < (0 + 1) * 8 ^ n) l (joined_below 0 states h) in
+    let below : joined 0 states < (0 + 1) * 8 ^ 12 =
+    subst (λ n. joined 0 states < (0 + 1) * 8 ^ n) l (joined_below 0 states h) in
     omega (arith, below)
 
 pub bits_pad : (states : List ℕ) → states_bits states % 16 ≡ 0

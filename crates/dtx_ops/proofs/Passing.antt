@@ -1,5 +1,7 @@
 -- Data that no rule refuses.
-use Rattle.std.proofs.Common.{◌≡◌, ℕ, zero, suc, ◌+◌, ◌*◌, ◌%◌, ◌<◌, ◌≤◌, ◌==◌, nat_le, nat_lt, not, Bool, true, false, true≢false, ◌&&◌, None, List, [], ◌∷◌, length, drop, replicate, slice_index, refl, sym, ap₂}
+use Rattle.std.proofs.Common.{◌≡◌, ℕ, zero, suc, ◌+◌, ◌*◌, ◌%◌, ◌<◌, ◌≤◌, ◌==◌, nat_le, nat_lt, not, Bool, true, false}
+use Rattle.std.proofs.Common.{true≢false, ◌&&◌, None, List, [], ◌∷◌, length, drop, replicate, slice_index, refl, sym}
+use Rattle.std.proofs.Common.{ap₂}
 use Rattle.std.proofs.lemmas.Bool.{not-false, eqb-true, eq-eqb, leb-false, lt-leb, ltb-false, le-ltb}
 use Rattle.std.proofs.lemmas.Option.{none-some}
 use Rattle.std.specs.List.{list_all}
@@ -28,7 +30,9 @@ record Off (a b c d e f g h : Bool) : Type 0 where
   g_off : g ≡ false
   h_off : h ≡ false
 
-none_holds : (a b c d e f g h : Bool) → first ((a, Kind) ∷ (b, Pad) ∷ (c, Stamp) ∷ (d, Delay) ∷ (e, Index) ∷ (f, Count) ∷ (g, Twice) ∷ (h, Fill) ∷ []) ≡ None → Off a b c d e f g h
+none_holds : (a b c d e f g h : Bool)
+    → first ((a, Kind) ∷ (b, Pad) ∷ (c, Stamp) ∷ (d, Delay) ∷ (e, Index) ∷ (f, Count) ∷ (g, Twice) ∷ (h, Fill) ∷ [])
+    ≡ None → Off a b c d e f g h
 none_holds true b c d e f g h p = absurd (none-some Kind (sym p))
 none_holds false true c d e f g h p = absurd (none-some Pad (sym p))
 none_holds false false true d e f g h p = absurd (none-some Stamp (sym p))
@@ -38,13 +42,24 @@ none_holds false false false false false true g h p = absurd (none-some Count (s
 none_holds false false false false false false true h p = absurd (none-some Twice (sym p))
 none_holds false false false false false false false true p = absurd (none-some Fill (sym p))
 none_holds false false false false false false false false p =
-    record { a_off = refl; b_off = refl; c_off = refl; d_off = refl; e_off = refl; f_off = refl; g_off = refl; h_off = refl }
+    record {
+      a_off = refl;
+      b_off = refl;
+      c_off = refl;
+      d_off = refl;
+      e_off = refl;
+      f_off = refl;
+      g_off = refl;
+      h_off = refl;
+    }
 
 pub passes_unrefused : (bytes : List ℕ) → first (data_rules bytes) ≡ None → Passes bytes
 unfolding data_rules head_rules
 passes_unrefused bytes h =
-    let off = none_holds (not (slice_index bytes 0 == 1)) (not (slice_index bytes 5 % 16 == 0)) (nat_le 10000000 (stamp_in bytes)) (nat_le 10000000 (max_delay_in bytes))
-    (nat_le 624 (index_in bytes)) (nat_lt 35 (count_in bytes)) (has_twice (entries_in (count_in bytes) bytes)) (not (list_all (λ byte. byte == 0) (drop (19 + 4 * count_in bytes) bytes))) h in
+    let off = none_holds (not (slice_index bytes 0 == 1)) (not (slice_index bytes 5 % 16 == 0))
+    (nat_le 10000000 (stamp_in bytes)) (nat_le 10000000 (max_delay_in bytes))
+    (nat_le 624 (index_in bytes)) (nat_lt 35 (count_in bytes)) (has_twice (entries_in (count_in bytes) bytes))
+    (not (list_all (λ byte. byte == 0) (drop (19 + 4 * count_in bytes) bytes))) h in
     record {
       kind = eqb-true (slice_index bytes 0) 1 (not-false (slice_index bytes 0 == 1) off.a_off);
       pad = eqb-true (slice_index bytes 5 % 16) 0 (not-false (slice_index bytes 5 % 16 == 0) off.b_off);

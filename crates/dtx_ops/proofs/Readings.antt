@@ -1,5 +1,6 @@
 -- What packets read as.
-use Rattle.std.proofs.Common.{◌≡◌, ℕ, ◌≤◌, ◌==◌, List, [], Option, Some, None, Result, Ok, Err, length, take, drop, option_map, unwrap_or, IfOk, refl, ap, sym, subst, ◌∙◌, inl, inr, arith}
+use Rattle.std.proofs.Common.{◌≡◌, ℕ, ◌≤◌, ◌==◌, List, [], Option, Some, None, Result, Ok, Err, length, take, drop}
+use Rattle.std.proofs.Common.{option_map, unwrap_or, IfOk, refl, ap, sym, subst, ◌∙◌, inl, inr, arith}
 use Rattle.std.proofs.lemmas.Bool.{cases_Bool, eqb-true, eqb-false}
 use Rattle.std.proofs.lemmas.List.{length-drop, length-take-le}
 use Rattle.std.proofs.lemmas.Option.{none-some, same_Some}
@@ -43,12 +44,14 @@ pub refused : (packet : List ℕ) (refusal : OpsNo) → reading packet ≡ Err r
 unfolding reading
 refused packet refusal e = unless_err (first (rules packet)) (fields (unwrap_or (corrected packet) [])) refusal e
 
-pub refusal_read : (packet : List ℕ) (refusal : OpsNo) → first (rules packet) ≡ Some refusal → reading packet ≡ Err refusal
+pub refusal_read : (packet : List ℕ) (refusal : OpsNo) → first (rules packet) ≡ Some refusal
+    → reading packet ≡ Err refusal
 unfolding reading
 refusal_read packet refusal e = ap (λ (o : Option OpsNo). unless o (fields (unwrap_or (corrected packet) []))) e
 
 -- the bytes of a correction
-code_of : (o : Option (List ℕ)) (bytes : List ℕ) → option_map (λ code. take 164 code) o ≡ Some bytes → (code : List ℕ) × (o ≡ Some code) × (take 164 code ≡ bytes)
+code_of : (o : Option (List ℕ)) (bytes : List ℕ) → option_map (λ code. take 164 code) o ≡ Some bytes
+    → (code : List ℕ) × (o ≡ Some code) × (take 164 code ≡ bytes)
 code_of None bytes e = absurd (none-some bytes e)
 code_of (Some code) bytes e = (code, refl, same_Some (take 164 code) bytes e)
 
@@ -69,22 +72,26 @@ payload_long packet l = omega (arith, l, length-drop 4 packet)
 
 -- ---- corrected data
 
-pub corrected_some : (packet code : List ℕ) → length packet ≡ 188 → IsCorrection 184 164 (drop 4 packet) code → corrected packet ≡ Some (take 164 code)
+pub corrected_some : (packet code : List ℕ) → length packet ≡ 188 → IsCorrection 184 164 (drop 4 packet) code
+    → corrected packet ≡ Some (take 164 code)
 corrected_some packet code l h = corrected_by packet (drop 4 packet) code refl (payload_long packet l) h
 
-pub corrected_none : (packet : List ℕ) → length packet ≡ 188 → corrected packet ≡ None → (code : List ℕ) → IsCorrection 184 164 (drop 4 packet) code → ⊥
+pub corrected_none : (packet : List ℕ) → length packet ≡ 188 → corrected packet ≡ None → (code : List ℕ)
+    → IsCorrection 184 164 (drop 4 packet) code → ⊥
 corrected_none packet l e code h = none-some (take 164 code) (sym e ∙ corrected_some packet code l h)
 
 -- ---- reading by the relation
 
-from_corrected : (packet bytes : List ℕ) (f : Ops) → pid_of packet ≡ 0x1FFA → corrected packet ≡ Some bytes → data_reading bytes ≡ Ok f → ReadsAs packet f
+from_corrected : (packet bytes : List ℕ) (f : Ops) → pid_of packet ≡ 0x1FFA → corrected packet ≡ Some bytes
+    → data_reading bytes ≡ Ok f → ReadsAs packet f
 unfolding data_reading
 from_corrected packet bytes f p e r =
     let c = are_corrected packet bytes e in
     let parts = unless_ok (first (data_rules bytes)) (fields bytes) f r in
     let passes = passes_unrefused bytes parts.0 in
     let word = c.correction.codeword in
-    let long : length bytes ≡ 164 = ap (λ (t : List ℕ). length t) (sym c.begins) ∙ length-take-le 164 c.code (omega (arith, word.long)) in
+    let long : length bytes ≡ 164 = ap (λ (t : List ℕ). length t) (sym c.begins)
+    ∙ length-take-le 164 c.code (omega (arith, word.long)) in
     let are : AreBytes bytes = subst (λ (t : List ℕ). AreBytes t) c.begins (AreBytes-take 164 c.code word.bytes) in
     record {
       valid = subst (λ (g : Ops). IsValid g) parts.1 (valid_fields bytes long are passes);
@@ -94,7 +101,8 @@ from_corrected packet bytes f p e r =
       spelled = c.begins ∙ sym (data_of-fields bytes long are passes) ∙ ap data_of parts.1;
     }
 
-by_corrected : (packet : List ℕ) (f : Ops) (o : Option (List ℕ)) → corrected packet ≡ o → pid_of packet ≡ 0x1FFA → reading packet ≡ Ok f → ReadsAs packet f
+by_corrected : (packet : List ℕ) (f : Ops) (o : Option (List ℕ)) → corrected packet ≡ o → pid_of packet ≡ 0x1FFA
+    → reading packet ≡ Ok f → ReadsAs packet f
 by_corrected packet f None e p r = absurd (err-ok _ f (sym (reading_none packet p e) ∙ r))
 by_corrected packet f (Some bytes) e p r = from_corrected packet bytes f p e (sym (reading_some packet bytes p e) ∙ r)
 
@@ -119,11 +127,13 @@ pub payload_of_spelling : (f : Ops) (counter sync : ℕ) → drop 4 (spelling f 
 unfolding spelling
 payload_of_spelling f counter sync = refl
 
-pub changed_reads : (f : Ops) (counter sync : ℕ) (packet : List ℕ) → IsValid f → length packet ≡ 188 → pid_of packet ≡ 0x1FFA
+pub changed_reads : (f : Ops) (counter sync : ℕ) (packet : List ℕ) → IsValid f → length packet ≡ 188
+    → pid_of packet ≡ 0x1FFA
     → distance (drop 4 packet) (drop 4 (spelling f counter sync)) ≤ 10 → reading packet ≡ Ok f
 changed_reads f counter sync packet h l p d =
     let word : List ℕ = codeword 184 164 (data_of f) in
-    let near : distance (drop 4 packet) word ≤ 10 = subst (λ (t : List ℕ). distance (drop 4 packet) t ≤ 10) (payload_of_spelling f counter sync) d in
+    let near : distance (drop 4 packet) word ≤ 10 =
+    subst (λ (t : List ℕ). distance (drop 4 packet) t ≤ 10) (payload_of_spelling f counter sync) d in
     let is = codeword_is 184 164 (data_of f) (omega arith) (length-data_of f h) (AreBytes-data_of f h) in
     reads packet f l (record {
       valid = h;

@@ -52,7 +52,8 @@ impl<
     const B: usize,
     const M: usize,
 > Outer<W, C, S, N, K, B, M> {
-    /// The coding by these three. The whitener's period is a whole number of packets, whose codewords are a whole number
+    /// The coding by these three. The whitener's period is a whole number of packets, whose codewords are a whole
+    /// number
     /// of turns over the branches.
     pub fn new(whitener: W, code: C, spread: S) -> Self
         requires { IsPeriod N K B W.PERIOD }
@@ -84,7 +85,10 @@ impl<
     pub fn code(&mut self, place: usize, head: &[u8; K], out: &mut [u8; N])
         requires { K * place + K ≤ W.PERIOD }
         ensures bytes { out.new ≡ leaving_all B self.old.branches (coded N K self.old.white (K * place) head.now) }
-        ensures branches { self.new ≡ record self.old { branches = after_all B self.old.branches (coded N K self.old.white (K * place) head.now) } }
+        ensures branches { self.new ≡ record self.old {
+          branches = after_all B self.old.branches
+              (coded N K self.old.white (K * place) head.now);
+        } }
     {
         let white = whiten(&self.whitener, K * place, head);
         self.code.encode(&white, out);

@@ -13,5 +13,8 @@ unfolding IsDistinct
 distinct_none ts e = rw e tt
 
 -- those of one more, whose address no earlier one has
-pub distinct_more : (ts : List Transmitter) (t : Transmitter) → IsDistinct nat_eq (addresses_of ts) → has_address t.address ts ≡ false → IsDistinct nat_eq (addresses_of (ts ++ t ∷ []))
-distinct_more ts t distinct once = rw (map-append (λ (t : Transmitter). t.address) ts (t ∷ [])) (IsDistinct-push nat_eq_equiv (addresses_of ts) t.address distinct once)
+pub distinct_more : (ts : List Transmitter) (t : Transmitter) → IsDistinct nat_eq (addresses_of ts)
+    → has_address t.address ts ≡ false → IsDistinct nat_eq (addresses_of (ts ++ t ∷ []))
+distinct_more ts t distinct once =
+    rw (map-append (λ (t : Transmitter). t.address) ts (t ∷ []))
+    (IsDistinct-push nat_eq_equiv (addresses_of ts) t.address distinct once)

@@ -1,9 +1,12 @@
 -- The runs of a list are its intervals: the search, segment by segment, and the one list of intervals that are runs.
-use Rattle.std.proofs.Common.{◌≡◌, ◌≢◌, ℕ, ℤ, zero, suc, ◌+◌, ◌-◌, ◌%◌, ◌<◌, ◌≤◌, ◌⊎◌, ◌↔◌, ◌==◌, Bool, true, false, Option, Some, None, List, [], ◌∷◌, ◌++◌, length, map, take, drop, get_or, refl, sym, ap, ap₂, ◌∙◌, subst, inl, inr, arith}
+use Rattle.std.proofs.Common.{◌≡◌, ◌≢◌, ℕ, ℤ, zero, suc, ◌+◌, ◌-◌, ◌%◌, ◌<◌, ◌≤◌, ◌⊎◌, ◌↔◌, ◌==◌, Bool, true, false}
+use Rattle.std.proofs.Common.{Option, Some, None, List, [], ◌∷◌, ◌++◌, length, map, take, drop, get_or, refl, sym, ap}
+use Rattle.std.proofs.Common.{ap₂, ◌∙◌, subst, inl, inr, arith}
 use Rattle.std.specs.List.{slice_range}
 use Rattle.std.specs.Prelude.{option_to_list}
 use Rattle.std.proofs.lemmas.Bool.{cases_eq, cases_lt, cases_order, false≢true}
-use Rattle.std.proofs.lemmas.List.{append-nil, take_more, take_all, length-take-le, length-drop, get_or-drop, length-map, map_push}
+use Rattle.std.proofs.lemmas.List.{append-nil, take_more, take_all, length-take-le, length-drop, get_or-drop}
+use Rattle.std.proofs.lemmas.List.{length-map, map_push}
 use Rattle.dtx_frame.specs.Detection.{looks_like}
 use Rattle.dtx_receiver.specs.Runs.{Tracked, tracked, runs}
 use Rattle.dtx_receiver.specs.Intervals.{looks_at, NoneLooks, IsRun, AreRuns, segments_in}
@@ -32,12 +35,16 @@ same_pair a b c d e f = ap₂ (λ (x y : ℕ). (x, y)) e f
 
 pub only_runs : (s : List (List ℤ)) (from : ℕ) (a b : List (ℕ × ℕ)) → AreRuns s from a → AreRuns s from b → a ≡ b
 only_runs s from [] [] h g = refl
-only_runs s from [] (q ∷ qs) h g = absurd (first_looks s from (length s) q h g.0 (omega (arith, g.2.some, g.2.within)) g.2)
-only_runs s from (p ∷ ps) [] h g = absurd (first_looks s from (length s) p g h.0 (omega (arith, h.2.some, h.2.within)) h.2)
+only_runs s from [] (q ∷ qs) h g =
+    absurd (first_looks s from (length s) q h g.0 (omega (arith, g.2.some, g.2.within)) g.2)
+only_runs s from (p ∷ ps) [] h g =
+    absurd (first_looks s from (length s) p g h.0 (omega (arith, h.2.some, h.2.within)) h.2)
 only_runs s from (p ∷ ps) (q ∷ qs) h g =
     let here : p.0 ≡ q.0 = by_first (cases_order p.0 q.0) in
     let long : p.1 ≡ q.1 = by_long here (cases_order p.1 q.1) in
-    let rest : ps ≡ qs = only_runs s (p.0 + p.1 + 1) ps qs h.3 (subst (λ n. AreRuns s (n + 1) qs) (ap₂ (λ (x y : ℕ). x + y) (sym here) (sym long)) g.3) in
+    let rest : ps ≡ qs =
+    only_runs s (p.0 + p.1 + 1) ps qs h.3 (subst (λ n. AreRuns s (n + 1) qs)
+    (ap₂ (λ (x y : ℕ). x + y) (sym here) (sym long)) g.3) in
     ap₂ (λ (x : ℕ × ℕ) (xs : List (ℕ × ℕ)). x ∷ xs) (same_pair p.0 p.1 q.0 q.1 here long) rest
   where
     by_first : (p.0 ≡ q.0) ⊎ ((p.0 < q.0) ⊎ (q.0 < p.0)) → p.0 ≡ q.0
@@ -57,12 +64,14 @@ abbrev Closed : List (List ℤ) → ℕ → List (ℕ × ℕ) → ℕ → Type 0
 Closed s from [] to = from ≡ to
 Closed s from (p ∷ ps) to = (from ≤ p.0) × NoneLooks s from p.0 × IsRun s p.0 p.1 × Closed s (p.0 + p.1 + 1) ps to
 
-closed_more : (s : List (List ℤ)) (from to : ℕ) (ps : List (ℕ × ℕ)) (p : ℕ × ℕ) → Closed s from ps to → to ≤ p.0 → NoneLooks s to p.0 → IsRun s p.0 p.1
+closed_more : (s : List (List ℤ)) (from to : ℕ) (ps : List (ℕ × ℕ)) (p : ℕ × ℕ) → Closed s from ps to → to ≤ p.0
+    → NoneLooks s to p.0 → IsRun s p.0 p.1
     → Closed s from (ps ++ p ∷ []) (p.0 + p.1 + 1)
 closed_more s from to [] p c l h r = (omega (arith, c, l), λ i a b. h i (omega (arith, c, a)) b, r, refl)
 closed_more s from to (q ∷ qs) p c l h r = (c.0, c.1, c.2, closed_more s (q.0 + q.1 + 1) to qs p c.3 l h r)
 
-closed_all : (s : List (List ℤ)) (from to : ℕ) (ps qs : List (ℕ × ℕ)) → Closed s from ps to → AreRuns s to qs → AreRuns s from (ps ++ qs)
+closed_all : (s : List (List ℤ)) (from to : ℕ) (ps qs : List (ℕ × ℕ)) → Closed s from ps to → AreRuns s to qs
+    → AreRuns s from (ps ++ qs)
 closed_all s from to [] qs c a = subst (λ n. AreRuns s n qs) (sym c) a
 closed_all s from to (p ∷ ps) qs c a = (c.0, c.1, c.2, closed_all s (p.0 + p.1 + 1) to ps qs c.3 a)
 
@@ -86,7 +95,8 @@ record Searched (s : List (List ℤ)) (n : ℕ) (t : Tracked) : Type 0 where
   closed : Closed s 0 places from
   at : At s from n t.run
 
-slice_more : (s : List (List ℤ)) (a n : ℕ) → a ≤ n → n < length s → slice_range s a n ++ get_or s n [] ∷ [] ≡ slice_range s a (n + 1)
+slice_more : (s : List (List ℤ)) (a n : ℕ) → a ≤ n → n < length s
+    → slice_range s a n ++ get_or s n [] ∷ [] ≡ slice_range s a (n + 1)
 slice_more s a n m l =
     let w : n - a < length (drop a s) = omega (arith, length-drop a s, m, l) in
     let e : a + (n - a) ≡ n = omega arith in
@@ -110,7 +120,8 @@ none_more s a n h e = λ i l m. by_place i l (cases_lt i n) m
     by_place i l (inr f) m = let k : i ≡ n = omega arith in ap (looks_at s) k ∙ e
 
 -- one segment more of the run that is on
-going_more : (s : List (List ℤ)) (from n : ℕ) (run : List (List ℤ)) (g : Going s from n run) → n < length s → ((n - g.first) % 313 ≡ 0 → looks_at s n ≡ true)
+going_more : (s : List (List ℤ)) (from n : ℕ) (run : List (List ℤ)) (g : Going s from n run) → n < length s
+    → ((n - g.first) % 313 ≡ 0 → looks_at s n ≡ true)
     → Going s from (n + 1) (run ++ get_or s n [] ∷ [])
 going_more s from n run g l e = record {
   first = g.first;
@@ -121,14 +132,18 @@ going_more s from n run g l e = record {
   syncs = λ j m d. by_place j (cases_lt (g.first + j) n) m d;
 }
   where
-    by_place : (j : ℕ) → (g.first + j < n) ⊎ (n ≤ g.first + j) → g.first + j < n + 1 → j % 313 ≡ 0 → looks_at s (g.first + j) ≡ true
+    by_place : (j : ℕ) → (g.first + j < n) ⊎ (n ≤ g.first + j) → g.first + j < n + 1 → j % 313 ≡ 0
+        → looks_at s (g.first + j) ≡ true
     by_place j (inl f) m d = g.syncs j f d
-    by_place j (inr f) m d = let k : g.first + j ≡ n = omega arith in let w : n - g.first ≡ j = omega arith in ap (looks_at s) k ∙ e (ap (λ i. i % 313) w ∙ d)
+    by_place j (inr f) m d = let k : g.first + j ≡ n = omega arith in let w : n - g.first ≡ j = omega arith in
+        ap (looks_at s) k ∙ e (ap (λ i. i % 313) w ∙ d)
 
-going_long : (s : List (List ℤ)) (from n : ℕ) (run : List (List ℤ)) (g : Going s from n run) → n ≤ length s → length run ≡ n - g.first
+going_long : (s : List (List ℤ)) (from n : ℕ) (run : List (List ℤ)) (g : Going s from n run) → n ≤ length s
+    → length run ≡ n - g.first
 going_long s from n run g l = ap length g.is ∙ slice_long s g.first n (omega (arith, g.some)) l
 
-step : (s : List (List ℤ)) (n : ℕ) (q : List (List ℤ)) → n < length s → (h : Searched s n (tracked q)) (o : Option (List (List ℤ))) → (tracked q).run ≡ o → At s h.from n o
+step : (s : List (List ℤ)) (n : ℕ) (q : List (List ℤ)) → n < length s
+    → (h : Searched s n (tracked q)) (o : Option (List (List ℤ))) → (tracked q).run ≡ o → At s h.from n o
     → (b : Bool) → looks_at s n ≡ b → Searched s (n + 1) (tracked (q ++ get_or s n [] ∷ []))
 step s n q l h None e a false f = subst (Searched s (n + 1)) (sym (searching q (get_or s n []) e f).0) (record {
   places = h.places;
@@ -142,14 +157,25 @@ step s n q l h None e a true f = subst (Searched s (n + 1)) (sym (began q (get_o
   from = h.from;
   ended = h.ended;
   closed = h.closed;
-  at = record { first = n; behind = a.0; some = omega arith; none = a.1; is = slice_one s n l; syncs = λ j m d. let k : n + j ≡ n = omega arith in ap (looks_at s) k ∙ f };
+  at = record {
+    first = n;
+    behind = a.0;
+    some = omega arith;
+    none = a.1;
+    is = slice_one s n l;
+    syncs = λ j m d. let k : n + j ≡ n = omega arith in ap (looks_at s) k ∙ f;
+  };
 })
 step s n q l h (Some run) e a b f = by_due (cases_eq (length run % 313) 0) b f
   where
     long : length run ≡ n - a.first
     long = going_long s h.from n run a (omega arith)
 
-    goes : ((n - a.first) % 313 ≡ 0 → looks_at s n ≡ true) → tracked (q ++ get_or s n [] ∷ []) ≡ record { ended = (tracked q).ended; run = Some (run ++ get_or s n [] ∷ []) } → Searched s (n + 1) (tracked (q ++ get_or s n [] ∷ []))
+    goes : ((n - a.first) % 313 ≡ 0 → looks_at s n ≡ true)
+        → tracked (q ++ get_or s n [] ∷ []) ≡ record {
+          ended = (tracked q).ended;
+          run = Some (run ++ get_or s n [] ∷ []);
+        } → Searched s (n + 1) (tracked (q ++ get_or s n [] ∷ []))
     goes d t = subst (Searched s (n + 1)) (sym t) (record {
       places = h.places;
       from = h.from;
@@ -158,7 +184,9 @@ step s n q l h (Some run) e a b f = by_due (cases_eq (length run % 313) 0) b f
       at = going_more s h.from n run a l d;
     })
 
-    ends : length run % 313 ≡ 0 → looks_at s n ≡ false → tracked (q ++ get_or s n [] ∷ []) ≡ record { ended = (tracked q).ended ++ run ∷ []; run = None } → Searched s (n + 1) (tracked (q ++ get_or s n [] ∷ []))
+    ends : length run % 313 ≡ 0 → looks_at s n ≡ false
+        → tracked (q ++ get_or s n [] ∷ []) ≡ record { ended = (tracked q).ended ++ run ∷ []; run = None }
+        → Searched s (n + 1) (tracked (q ++ get_or s n [] ∷ []))
     ends z w t =
         let back : a.first + (n - a.first) ≡ n = omega (arith, a.some) in
         let r : IsRun s a.first (n - a.first) = record {
@@ -170,33 +198,45 @@ step s n q l h (Some run) e a b f = by_due (cases_eq (length run % 313) 0) b f
         subst (Searched s (n + 1)) (sym t) (record {
           places = h.places ++ (a.first, n - a.first) ∷ [];
           from = n + 1;
-          ended = ap₂ (λ xs x. xs ++ x ∷ []) h.ended (a.is ∙ ap (slice_range s a.first) (sym back)) ∙ sym (map_push (segments_in s) h.places (a.first, n - a.first));
-          closed = subst (λ i. Closed s 0 (h.places ++ (a.first, n - a.first) ∷ []) (i + 1)) back (closed_more s 0 h.from h.places (a.first, n - a.first) h.closed a.behind a.none r);
+          ended = ap₂ (λ xs x. xs ++ x ∷ []) h.ended (a.is ∙ ap (slice_range s a.first) (sym back))
+              ∙ sym (map_push (segments_in s) h.places (a.first, n - a.first));
+          closed = subst (λ i. Closed s 0 (h.places ++ (a.first, n - a.first) ∷ []) (i + 1)) back
+              (closed_more s 0 h.from h.places (a.first, n - a.first) h.closed a.behind a.none r);
           at = (omega arith, λ i x y. absurd (omega arith));
         })
 
-    by_due : (length run % 313 ≡ 0) ⊎ (length run % 313 ≢ 0) → (b : Bool) → looks_at s n ≡ b → Searched s (n + 1) (tracked (q ++ get_or s n [] ∷ []))
+    by_due : (length run % 313 ≡ 0) ⊎ (length run % 313 ≢ 0) → (b : Bool) → looks_at s n ≡ b
+        → Searched s (n + 1) (tracked (q ++ get_or s n [] ∷ []))
     by_due (inr d) b f = goes (λ z. absurd (d (ap (λ i. i % 313) long ∙ z))) (data_came q (get_or s n []) run e d).0
     by_due (inl d) true f = goes (λ _. f) (sync_came q (get_or s n []) run e d f).0
     by_due (inl d) false f = ends d f (ended_there q (get_or s n []) run e d f).0
 
 nothing_searched : (s : List (List ℤ)) → Searched s 0 (tracked [])
 unfolding tracked
-nothing_searched s = record { places = []; from = 0; ended = refl; closed = refl; at = (omega arith, λ i a b. absurd (omega arith)) }
+nothing_searched s = record {
+  places = [];
+  from = 0;
+  ended = refl;
+  closed = refl;
+  at = (omega arith, λ i a b. absurd (omega arith));
+}
 
 searched : (s : List (List ℤ)) (n : ℕ) → n ≤ length s → Searched s n (tracked (take n s))
 searched s zero l = nothing_searched s
 searched s (suc n) l =
     let h : Searched s n (tracked (take n s)) = searched s n (omega arith) in
     let next : n + 1 ≡ suc n = omega arith in
-    let more : take n s ++ get_or s n [] ∷ [] ≡ take (suc n) s = sym (take_more s n [] (omega arith)) ∙ ap (λ i. take i s) next in
+    let more : take n s ++ get_or s n [] ∷ [] ≡ take (suc n) s = sym (take_more s n [] (omega arith))
+    ∙ ap (λ i. take i s) next in
     subst (λ i. Searched s i (tracked (take (suc n) s))) next
-    (subst (λ q. Searched s (n + 1) (tracked q)) more (step s n (take n s) (omega arith) h (tracked (take n s)).run refl h.at (looks_at s n) refl))
+    (subst (λ q. Searched s (n + 1) (tracked q)) more
+    (step s n (take n s) (omega arith) h (tracked (take n s)).run refl h.at (looks_at s n) refl))
 
 abbrev Intervals : List (List ℤ) → List (List (List ℤ)) → Type 0
 Intervals s rs = (places : List (ℕ × ℕ)) × AreRuns s 0 places × (rs ≡ map (segments_in s) places)
 
-at_end : (s : List (List ℤ)) (t : Tracked) (h : Searched s (length s) t) (o : Option (List (List ℤ))) → t.run ≡ o → At s h.from (length s) o → Intervals s (t.ended ++ option_to_list t.run)
+at_end : (s : List (List ℤ)) (t : Tracked) (h : Searched s (length s) t) (o : Option (List (List ℤ))) → t.run ≡ o
+    → At s h.from (length s) o → Intervals s (t.ended ++ option_to_list t.run)
 at_end s t h None e a = (
   h.places,
   subst (AreRuns s 0) (append-nil h.places) (closed_all s 0 h.from h.places [] h.closed a.1),
@@ -204,8 +244,14 @@ at_end s t h None e a = (
 )
 at_end s t h (Some run) e a = (
   h.places ++ (a.first, length s - a.first) ∷ [],
-  closed_all s 0 h.from h.places ((a.first, length s - a.first) ∷ []) h.closed (a.behind, a.none, whole, λ i x y. absurd (omega (arith, back, x, y))),
-  ap (λ o. t.ended ++ option_to_list o) e ∙ ap₂ (λ xs x. xs ++ x ∷ []) h.ended (a.is ∙ ap (slice_range s a.first) (sym back)) ∙ sym (map_push (segments_in s) h.places (a.first, length s - a.first)),
+  closed_all s 0 h.from h.places ((a.first, length s - a.first) ∷ []) h.closed (
+    a.behind,
+    a.none,
+    whole,
+    λ i x y. absurd (omega (arith, back, x, y)),
+  ),
+  ap (λ o. t.ended ++ option_to_list o) e ∙ ap₂ (λ xs x. xs ++ x ∷ []) h.ended (a.is
+      ∙ ap (slice_range s a.first) (sym back)) ∙ sym (map_push (segments_in s) h.places (a.first, length s - a.first)),
 )
   where
     back : a.first + (length s - a.first) ≡ length s
@@ -220,11 +266,14 @@ at_end s t h (Some run) e a = (
     }
 
 all_searched : (s : List (List ℤ)) → Searched s (length s) (tracked s)
-all_searched s = subst (λ q. Searched s (length s) (tracked q)) (take_all (length s) s (omega arith)) (searched s (length s) (omega arith))
+all_searched s =
+    subst (λ q. Searched s (length s) (tracked q)) (take_all (length s) s (omega arith))
+    (searched s (length s) (omega arith))
 
 pub are_runs : (s : List (List ℤ)) → Intervals s (runs s)
 unfolding runs
-are_runs s = let h : Searched s (length s) (tracked s) = all_searched s in at_end s (tracked s) h (tracked s).run refl h.at
+are_runs s = let h : Searched s (length s) (tracked s) = all_searched s in
+    at_end s (tracked s) h (tracked s).run refl h.at
 
 -- the run that is on has a segment
 pub some_segment : (s : List (List ℤ)) (run : List (List ℤ)) → (tracked s).run ≡ Some run → 0 < length run

@@ -30,7 +30,8 @@ place_of s r e l =
     let x : ℕ = (s + r / 69) % 3 in (
       (e + 12 - 4 * ((s + r / 69) % 3)) % 12,
       omega arith,
-      coder_is s r ((e + 12 - 4 * ((s + r / 69) % 3)) % 12) (omega arith) ∙ turn_back ((s + r / 69) % 3) e (omega arith) l,
+      coder_is s r ((e + 12 - 4 * ((s + r / 69) % 3)) % 12) (omega arith)
+          ∙ turn_back ((s + r / 69) % 3) e (omega arith) l,
     )
 
 -- a pair by its number in the byte
@@ -51,13 +52,17 @@ unfolding pair_in
 pair_3 b r e = omega arith ∙ ap (λ x. b / 4 ^ (3 - x) % 4) (sym e)
 
 -- the pairs of a list of groups, by their numbers
-pub higher_at : (s e t : ℕ) (bytes : List ℕ) → t < 276 * groups bytes → get_or (higher s bytes e) t 0 ≡ pair_at s bytes e t / 2
+pub higher_at : (s e t : ℕ) (bytes : List ℕ) → t < 276 * groups bytes
+    → get_or (higher s bytes e) t 0 ≡ pair_at s bytes e t / 2
 unfolding higher
-higher_at s e t bytes l = get_or-map-range_with_len (λ t. pair_at s bytes e t / 2) 0 (276 * groups bytes) t t 0 l (omega arith)
+higher_at s e t bytes l =
+    get_or-map-range_with_len (λ t. pair_at s bytes e t / 2) 0 (276 * groups bytes) t t 0 l (omega arith)
 
-pub lower_at : (s e t : ℕ) (bytes : List ℕ) → t < 276 * groups bytes → get_or (lower s bytes e) t 0 ≡ pair_at s bytes e t % 2
+pub lower_at : (s e t : ℕ) (bytes : List ℕ) → t < 276 * groups bytes
+    → get_or (lower s bytes e) t 0 ≡ pair_at s bytes e t % 2
 unfolding lower
-lower_at s e t bytes l = get_or-map-range_with_len (λ t. pair_at s bytes e t % 2) 0 (276 * groups bytes) t t 0 l (omega arith)
+lower_at s e t bytes l =
+    get_or-map-range_with_len (λ t. pair_at s bytes e t % 2) 0 (276 * groups bytes) t t 0 l (omega arith)
 
 pub length_higher : (s e : ℕ) (bytes : List ℕ) → length (higher s bytes e) ≡ 276 * groups bytes
 unfolding higher
@@ -73,7 +78,8 @@ unfolding groups
 one_group bytes h = ap (λ n. n / 828) h
 
 -- the pairs of the first group are those of its rounds
-pub pair_of_round : (s e r : ℕ) (bytes : List ℕ) → s < 312 → r < 276 → pair_at s bytes e r ≡ pair_in (get_or bytes (byte_place s r e) 0) r
+pub pair_of_round : (s e r : ℕ) (bytes : List ℕ) → s < 312 → r < 276
+    → pair_at s bytes e r ≡ pair_in (get_or bytes (byte_place s r e) 0) r
 unfolding pair_at group_place
 pair_of_round s e r bytes h l =
     let u : r / 276 ≡ 0 = omega arith in

@@ -19,7 +19,8 @@ returns-in-Some-clause-solves c h =
     let f : ℕ = combination (v p) s e in
     let g : ℕ = pow f 254 in
     let found = c.in-Some.ensures.some in
-    solves_same w (e + 1) s (λ k. a k && not (k == p)) (is_marked (set c.args.kept.now p false)) (reduced s e v p g) (vector w c.reduce.new.vectors)
+    solves_same w (e + 1) s (λ k. a k && not (k == p)) (is_marked (set c.args.kept.now p false)) (reduced s e v p g)
+    (vector w c.reduce.new.vectors)
     (step w e s a v p g h found.0 found.1 (mul_inverse f (not_zero f found.2) (combination_small (v p) s e)))
     (λ k l t. kept_before c.args.kept.now p k (omega (arith, found.0, c.told-kept)) t)
     (λ k l. c.reduce.ensures.vectors k l)
@@ -29,5 +30,6 @@ returns-in-Some-clause-solves c h =
 
 pub returns-in-Some-clause-count : goal.returns-in-Some-clause-count
 returns-in-Some-clause-count c =
-    count_less (is_marked c.args.kept.now) (is_marked (set c.args.kept.now c.in-Some.pivot false)) c.in-Some.pivot c.args.width
+    count_less (is_marked c.args.kept.now) (is_marked (set c.args.kept.now c.in-Some.pivot false)) c.in-Some.pivot
+    c.args.width
     (λ j l d. sym (get_or-set_other c.args.kept.now c.in-Some.pivot j false false d))

@@ -14,5 +14,6 @@ pub loop-value-preserved : goal.loop-value-preserved
 loop-value-preserved c = record {
   count = search rules;
   same = grind (arith, common_steps);
-  distinct = rw c.push.ensures.items (distinct_more c.loop-value.found.items c.in_ok-next.next c.loop-value.invariant.distinct (search rules));
+  distinct = rw c.push.ensures.items (distinct_more c.loop-value.found.items c.in_ok-next.next
+      c.loop-value.invariant.distinct (search rules));
 }

@@ -14,5 +14,6 @@ loop-byte-preserved c =
       bytes = bytes_more h (λ j. get_or new j 0 ≡ byte_back c.args.first formers levels j)
           (λ j l. c.store.ensures.before j l ∙ c.loop-byte.invariant.bytes j l)
           (λ p l. c.store.ensures.bytes p l ∙ c.four_rounds-lanes.ensures.bytes p l
-          ∙ lane_byte_is c.args.first h p (get_or c.before-before.result p 0 / 4 % 2) formers levels l (c.before-before.ensures.formers p l));
+          ∙ lane_byte_is c.args.first h p (get_or c.before-before.result p 0 / 4 % 2) formers levels l
+          (c.before-before.ensures.formers p l));
     }

@@ -9,4 +9,5 @@ moved_on-requires-clause-bytes c =
     let e : c.args.round + 1 - 1 ≡ c.args.round = omega arith in
     subst (λ t. HoldsBytes s c.args.bytes.now (c.args.round + 1) (turn s t) c.emit-after.result.bytes) (sym e)
     (subst (HoldsBytes s c.args.bytes.now (c.args.round + 1) (turn s c.args.round)) (sym c.emit-after.ensures.bytes)
-    (same_bytes s c.args.round (turn s c.args.round) c.args.bytes.now c.args.lanes.bytes c.requires.same_byte c.requires.bytes))
+    (same_bytes s c.args.round (turn s c.args.round) c.args.bytes.now c.args.lanes.bytes c.requires.same_byte
+    c.requires.bytes))

@@ -8,9 +8,15 @@ invariant_of-result c = record {
   start = c.requires.start;
   max_delay = subst (λ (n : ℕ). n < 10000000) (sym c.ops_of.ensures.max_delay) c.requires.max_delay;
   counter = omega arith;
-  differ = entries_differ c.args.plan.now.transmitters.items c.ops_of.result.offsets.items c.ops_of.ensures.entries c.requires.transmitters.distinct;
+  differ = entries_differ c.args.plan.now.transmitters.items c.ops_of.result.offsets.items c.ops_of.ensures.entries
+      c.requires.transmitters.distinct;
 }
 
 pub returns-clause-fills : goal.returns-clause-fills
 unfolding placeholders
-returns-clause-fills c = record { start = refl; max_delay = c.ops_of.ensures.max_delay; entries = c.ops_of.ensures.entries; counter = refl }
+returns-clause-fills c = record {
+  start = refl;
+  max_delay = c.ops_of.ensures.max_delay;
+  entries = c.ops_of.ensures.entries;
+  counter = refl;
+}

@@ -9,7 +9,9 @@ use Rattle.dtx_laws.proofs.correcting.outcome.is_codeword.Goals as goal
 pub returns : goal.returns
 returns g c =
     let known = c.encoded_again.ensures in
-    let same : Decides c.eq.result (c.encoded_again.result ≡ c.args.word.now) = slice_eq-Decides Decides-eqb c.encoded_again.result c.args.word.now c.eq.result c.eq.ensures in (
+    let same : Decides c.eq.result (c.encoded_again.result ≡ c.args.word.now) =
+    slice_eq-Decides Decides-eqb c.encoded_again.result c.args.word.now c.eq.result c.eq.ensures in (
       λ t. subst (IsCodeword g.row.N g.row.K) (same.0 t) known.codeword,
-      λ h. same.1 (one_codeword g.row.N g.row.K c.encoded_again.result c.args.word.now known.code.short known.codeword h known.begins),
+      λ h. same.1 (one_codeword g.row.N g.row.K c.encoded_again.result c.args.word.now known.code.short known.codeword h
+          known.begins),
     )

@@ -12,7 +12,9 @@ pub returns-clause-restarts : goal.returns-clause-restarts
 returns-clause-restarts c = λ ts steps s.
     let who = c.args.who in
     let net = c.args.self.now in
-    let was : slice_get net.exciters.items who ≡ Some c.index_mut.result.now = slice_get_read net.exciters.items net.exciters.len who c.index_mut.result.now net.exciters.ok.0 c.requires c.index_mut.ensures.value in
+    let was : slice_get net.exciters.items who ≡ Some c.index_mut.result.now =
+    slice_get_read net.exciters.items net.exciters.len who c.index_mut.result.now net.exciters.ok.0 c.requires
+    c.index_mut.ensures.value in
     stands_replaced ts net steps (restart_step who) c.reset.new.self _ s c.requires
     (λ u at_u. subst (exciter.StandsFor u.address u.delay c.reset.new.self) (sym (last_restarted who steps))
     (c.reset.ensures u.address u.delay (last_life who steps) (s.each who u c.index_mut.result.now at_u was)))

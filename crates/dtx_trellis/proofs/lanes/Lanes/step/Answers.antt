@@ -5,7 +5,8 @@ use Rattle.dtx_trellis.proofs.lanes.Lanes.step.Goals as goal
 
 pub returns-clause-states : goal.returns-clause-states
 returns-clause-states c =
-    step_states c.args.first c.args.round c.args.from.now c.args.bytes.now c.args.self.top c.args.self.middle c.args.self.low c.args.pairs (record {
+    step_states c.args.first c.args.round c.args.from.now c.args.bytes.now c.args.self.top c.args.self.middle
+    c.args.self.low c.args.pairs (record {
       group = record { place = c.requires.first; long = c.told-bytes };
       round = c.requires.round;
       held = c.requires.states;
@@ -16,7 +17,8 @@ returns-clause-states c =
 
 pub returns-clause-levels : goal.returns-clause-levels
 returns-clause-levels c =
-    step_levels c.args.first c.args.round c.args.from.now c.args.bytes.now c.args.self.top c.args.self.middle c.args.self.low c.args.pairs (record {
+    step_levels c.args.first c.args.round c.args.from.now c.args.bytes.now c.args.self.top c.args.self.middle
+    c.args.self.low c.args.pairs (record {
       group = record { place = c.requires.first; long = c.told-bytes };
       round = c.requires.round;
       held = c.requires.states;
