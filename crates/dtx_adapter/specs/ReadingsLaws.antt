@@ -12,12 +12,12 @@ use Rattle.dtx_cadence.specs.Mark.{sync_at, marked}
 use Rattle.dtx_coder.specs.Stream.{zero_states, states}
 use Rattle.dtx_coder.specs.Coded.{whole_groups}
 use Rattle.dtx_coder.specs.Runs.{AreStates}
-use Rattle.dtx_coder.proofs.Kept.{states_are}
+use Rattle.dtx_coder.specs.KeptLaws.{states_are}
 use Rattle.dtx_ops.specs.Reading.{reading}
 use Rattle.dtx_ops.specs.Spelling.{IsEntry, IsValid, data_of, spelling}
 use Rattle.dtx_ops.specs.declared.fields.Ops.{Ops}
-use Rattle.dtx_ops.proofs.Data.{length-data_of}
-use Rattle.dtx_ops.proofs.Readings.{changed_reads, pid_of-spelling}
+use Rattle.dtx_ops.specs.DataLaws.{length-data_of}
+use Rattle.dtx_ops.specs.ReadingsLaws.{changed_reads, pid_of-spelling}
 use Rattle.dtx_plan.specs.Sound.{IsSound}
 use Rattle.dtx_plan.specs.declared.plan.Plan.{Plan}
 use Rattle.dtx_plan.specs.declared.transmitter.Transmitter.{Transmitter}

@@ -11,8 +11,8 @@ use Rattle.dtx_receiver.specs.Bytes.{groups_of, bytes_in}
 use Rattle.dtx_chain.specs.Undamaged.{ArePackets}
 use Rattle.dtx_chain.specs.Damage.{codeword_at, IsNear, AreReceived, IsSlight, to_sync, from_sync, packet_behind}
 use Rattle.dtx_chain.specs.Damage.{word_in}
-use Rattle.dtx_chain.proofs.Places.{syncs_look}
-use Rattle.dtx_chain.proofs.Levels.{groups_are, bytes_are}
+use Rattle.dtx_chain.specs.PlacesLaws.{syncs_look}
+use Rattle.dtx_chain.specs.LevelsLaws.{groups_are, bytes_are}
 use Rattle.dtx_chain.specs.WordsLaws.{whole_small, word_is}
 
 pub are_received : (ps : List (List ℕ)) → AreReceived ps 0 (a53 ps) (a53 ps)

@@ -2,3 +2,8 @@ pub mod Undamaged
 pub mod Damage
 pub mod NumbersLaws
 pub mod WordsLaws
+pub mod SlightLaws
+pub mod AllBackLaws
+pub mod PlacesLaws
+pub mod UndamagedLaws
+pub mod LevelsLaws

@@ -11,3 +11,8 @@ pub mod SegmentsLaws
 pub mod CountsLaws
 pub mod StreamLaws
 pub mod NextLaws
+pub mod KeptLaws
+pub mod AlongLaws
+pub mod RunsLaws
+pub mod SettledLaws
+pub mod AlignLaws

@@ -14,7 +14,7 @@ use Rattle.dtx_exciter.specs.Lockstep.{IsFeed, IsStretch, segment_place, stretch
 use Rattle.dtx_exciter.specs.Log.{preset}
 use Rattle.dtx_exciter.specs.Stretch.{before_stretch, offset_at, moment_at, preset_line, orders_in, stretch_lines}
 use Rattle.dtx_exciter.specs.Stretch.{IsApart, AreApart}
-use Rattle.dtx_exciter.proofs.LockstepIs.{lockstep_is}
+use Rattle.dtx_exciter.specs.LockstepIsLaws.{lockstep_is}
 
 -- ---- segments
 

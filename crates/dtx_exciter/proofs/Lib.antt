@@ -1,17 +1,6 @@
 pub mod GroupOrder
 pub mod Held
-pub mod Ends
-pub mod Answer
-pub mod GroupSent
 pub mod Whole
 pub mod Taken
 pub mod Joined
-pub mod SinceMark
-pub mod Anchored
-pub mod InLife
-pub mod FirstGroup
-pub mod Followed
-pub mod LockstepIs
-pub mod Lines
 pub mod Apart
-pub mod InLives

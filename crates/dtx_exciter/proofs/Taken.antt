@@ -11,7 +11,7 @@ use Rattle.dtx_laws.specs.Branches.{HasWidths, spreading}
 use Rattle.dtx_coder.specs.Groups.{Coding, aligned_coding}
 use Rattle.dtx_coder.specs.Runs.{AreStates}
 use Rattle.dtx_coder.specs.Along.{RunsAlong}
-use Rattle.dtx_coder.proofs.Along.{along_begins}
+use Rattle.dtx_coder.specs.AlongLaws.{along_begins}
 use Rattle.dtx_exciter.specs.declared.exciter.Exciter.{Exciter}
 use Rattle.dtx_exciter.specs.declared.answers.Why.TheVariants.{Cadence}
 use Rattle.dtx_exciter.specs.declared.answers.Told.{Told}

@@ -11,3 +11,14 @@ pub mod ForceLaws
 pub mod UnderLaws
 pub mod RangesLaws
 pub mod EmittedLaws
+pub mod InLivesLaws
+pub mod LockstepIsLaws
+pub mod FollowedLaws
+pub mod LinesLaws
+pub mod AnchoredLaws
+pub mod AnswerLaws
+pub mod FirstGroupLaws
+pub mod InLifeLaws
+pub mod SinceMarkLaws
+pub mod EndsLaws
+pub mod GroupSentLaws

@@ -6,3 +6,6 @@ pub mod CountsLaws
 pub mod RuleLaws
 pub mod SlicesLaws
 pub mod SymbolsLaws
+pub mod UnlikeLaws
+pub mod RecurrencesLaws
+pub mod WindowsLaws

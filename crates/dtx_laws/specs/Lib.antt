@@ -18,3 +18,7 @@ pub mod MomentsLaws
 pub mod WordsLaws
 pub mod ChoiceLaws
 pub mod AnswersLaws
+pub mod PatchingLaws
+pub mod KernelLaws
+pub mod OthersLaws
+pub mod PairsLaws

@@ -6,8 +6,8 @@ use Rattle.dtx_coder.specs.Stream.{a53}
 use Rattle.dtx_coder.specs.CountsLaws.{length-a53}
 use Rattle.dtx_chain.specs.Undamaged.{ArePackets, with_sync}
 use Rattle.dtx_chain.specs.Damage.{AreReceived, to_sync, from_sync, packet_behind, numbers_in}
-use Rattle.dtx_chain.proofs.Slight.{one_run_left}
-use Rattle.dtx_chain.proofs.AllBack.{all_back, none_flagged}
+use Rattle.dtx_chain.specs.SlightLaws.{one_run_left}
+use Rattle.dtx_chain.specs.AllBackLaws.{all_back, none_flagged}
 use Rattle.dtx_exciter.specs.Lockstep.{segment_place}
 use Rattle.dtx_network.specs.Headline.{last_packet, stretch_of}
 use Rattle.dtx_network.specs.GivesBack.{BeginsField, to_field, next_field, GivesAllBack}

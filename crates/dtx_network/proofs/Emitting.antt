@@ -15,8 +15,8 @@ use Rattle.dtx_exciter.specs.Emission.{emission}
 use Rattle.dtx_exciter.specs.Lockstep.{IsFeed, IsStretch, segment_place, stretch}
 use Rattle.dtx_exciter.specs.Log.{Line, preset, life_lines, log, restarted_lines, restarting_lines, emission_over}
 use Rattle.dtx_exciter.specs.Stretch.{emission_behind, lines_behind, before_stretch, stretch_lines, IsApart}
-use Rattle.dtx_exciter.proofs.InLives.{stretch_segments, stretch_log}
-use Rattle.dtx_exciter.proofs.LockstepIs.{lockstep_is, lockstep_on, length-before}
+use Rattle.dtx_exciter.specs.InLivesLaws.{stretch_segments, stretch_log}
+use Rattle.dtx_exciter.specs.LockstepIsLaws.{lockstep_is, lockstep_on, length-before}
 use Rattle.dtx_network.specs.Plans.{IsPlan, IsStream, IsListed, IsInTime}
 use Rattle.dtx_network.specs.Orders.{has_order}
 use Rattle.dtx_network.specs.Presets.{orders, moment_at, preset_at, presets}

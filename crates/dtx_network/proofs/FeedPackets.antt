@@ -10,8 +10,8 @@ use Rattle.dtx_packets.specs.Packet.{pid_of}
 use Rattle.dtx_cadence.specs.Mark.{sync_at, marked}
 use Rattle.dtx_ops.specs.Spelling.{IsValid, data_of, spelling}
 use Rattle.dtx_ops.specs.declared.fields.Ops.{Ops}
-use Rattle.dtx_ops.proofs.Data.{length-data_of, AreBytes-data_of}
-use Rattle.dtx_ops.proofs.Readings.{read_as}
+use Rattle.dtx_ops.specs.DataLaws.{length-data_of, AreBytes-data_of}
+use Rattle.dtx_ops.specs.ReadingsLaws.{read_as}
 use Rattle.dtx_plan.specs.declared.plan.Plan.{Plan}
 use Rattle.dtx_adapter.specs.Feed.{is_placeholder, ops_at, counter_at, made, fed_packet, feed}
 use Rattle.dtx_adapter.specs.FeedsLaws.{length-feed, feed_packet}

@@ -21,9 +21,9 @@ use Rattle.dtx_exciter.specs.Log.{line_of, life_lines}
 use Rattle.dtx_exciter.specs.Stretch.{sync_behind, before_stretch, stretch_lines}
 use Rattle.dtx_exciter.specs.ForceLaws.{counted_left, counted_off, counted_early}
 use Rattle.dtx_exciter.specs.UnderLaws.{length-syncs, length-said, said_append}
-use Rattle.dtx_exciter.proofs.Followed.{Follows, follows, told_is}
-use Rattle.dtx_exciter.proofs.LockstepIs.{lockstep_is}
-use Rattle.dtx_exciter.proofs.Lines.{lines_is}
+use Rattle.dtx_exciter.specs.FollowedLaws.{Follows, follows, told_is}
+use Rattle.dtx_exciter.specs.LockstepIsLaws.{lockstep_is}
+use Rattle.dtx_exciter.specs.LinesLaws.{lines_is}
 use Rattle.dtx_network.specs.Plans.{IsPlan, IsStream, IsListed, IsInTime}
 use Rattle.dtx_network.specs.Orders.{has_order}
 use Rattle.dtx_network.specs.Presets.{presets}

@@ -15,7 +15,7 @@ use Rattle.dtx_coder.specs.Stream.{states}
 use Rattle.dtx_ops.specs.declared.fields.Ops.{Ops}
 use Rattle.dtx_ops.specs.Spelling.{IsEntry}
 use Rattle.dtx_ops.specs.Reading.{reading}
-use Rattle.dtx_ops.proofs.Readings.{read_as}
+use Rattle.dtx_ops.specs.ReadingsLaws.{read_as}
 use Rattle.dtx_ops.specs.RefusingLaws.{reading_other}
 use Rattle.dtx_plan.specs.declared.plan.Plan.{Plan}
 use Rattle.dtx_plan.specs.Sound.{IsTransmitter}

@@ -5,3 +5,8 @@ pub mod Reading
 pub mod RefusingLaws
 pub mod NumbersLaws
 pub mod EntriesLaws
+pub mod DataLaws
+pub mod ReadingsLaws
+pub mod AddressesLaws
+pub mod DigitsLaws
+pub mod PassingLaws

@@ -1,5 +1,5 @@
 use Rattle.std.proofs.Common.{◌∙◌, sym}
-use Rattle.dtx_ops.proofs.Readings.{valid_read}
+use Rattle.dtx_ops.specs.ReadingsLaws.{valid_read}
 use Rattle.dtx_ops.specs.RefusingLaws.{reading_other, reading_none, reading_some}
 use Rattle.dtx_ops.proofs.reading.read.Goals as goal
 

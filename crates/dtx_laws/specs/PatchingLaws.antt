@@ -9,9 +9,9 @@ use Rattle.dtx_galois.specs.FieldLaws.{mul_comm, mul_assoc, mul_one, mul_zero, z
 use Rattle.dtx_laws.specs.Codeword.{IsCorrection}
 use Rattle.dtx_laws.specs.Locator.{IsLocator, low_value, Annuls, power_at, vanishes_at}
 use Rattle.dtx_laws.specs.ErrorValues.{others, weight, without, error_at, patched_at}
-use Rattle.dtx_laws.proofs.Kernel.{kernel, same_sequence}
-use Rattle.dtx_laws.proofs.Pairs.{pairs, moment_pairs, without_is, only}
-use Rattle.dtx_laws.proofs.Others.{few_others, weight_at_other, weight_small, weight_not_zero}
+use Rattle.dtx_laws.specs.KernelLaws.{kernel, same_sequence}
+use Rattle.dtx_laws.specs.PairsLaws.{pairs, moment_pairs, without_is, only}
+use Rattle.dtx_laws.specs.OthersLaws.{few_others, weight_at_other, weight_small, weight_not_zero}
 
 by_mark : (u : Bool) (w e c : ℕ) → (u ≡ true → e ≡ bit_xor w c) → (u ≡ false → w ≡ c) → cond u (bit_xor w e) w ≡ c
 by_mark true w e c h f = ap (bit_xor w) (h refl) ∙ sym (xor_assoc w w c) ∙ ap (λ (z : ℕ). bit_xor z c) (xor_self w)

@@ -10,7 +10,7 @@ use Rattle.dtx_exciter.specs.Order.{Order, either, placed}
 use Rattle.dtx_exciter.specs.Told.{served, preset_of, told_by, told_at, is_sent}
 use Rattle.dtx_exciter.specs.Step.{told_own, told_group}
 use Rattle.dtx_exciter.specs.Kept.{is_served}
-use Rattle.dtx_exciter.proofs.Ends.{IsOlder}
+use Rattle.dtx_exciter.specs.EndsLaws.{IsOlder}
 
 pub own_told : (address i j : ℕ) (ops : Ops) (r : Result ℕ Why) → j ≡ i % 624
     → told_own address j ops r ≡ told_by address i (record { place = i; ops = ops }) r

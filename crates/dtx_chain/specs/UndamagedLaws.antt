@@ -12,8 +12,8 @@ use Rattle.dtx_receiver.specs.declared.batch.Received.{Received}
 use Rattle.dtx_receiver.specs.CompleteLaws.{complete_told}
 use Rattle.dtx_receiver.specs.RangesLaws.{filter-kept, filter-lost}
 use Rattle.dtx_chain.specs.Undamaged.{ArePackets, with_sync, as_sent, whole_words}
-use Rattle.dtx_chain.proofs.Places.{one_run}
-use Rattle.dtx_chain.proofs.Levels.{bytes_are}
+use Rattle.dtx_chain.specs.PlacesLaws.{one_run}
+use Rattle.dtx_chain.specs.LevelsLaws.{bytes_are}
 use Rattle.dtx_chain.specs.WordsLaws.{whole_small, packet_back}
 
 pub map-filter_same : {X : Type 0} (f g : ℕ → X) (p : ℕ → Bool) (a n : ℕ)

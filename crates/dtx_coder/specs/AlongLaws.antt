@@ -19,8 +19,8 @@ use Rattle.dtx_coder.specs.Along.{IsNext, RunsAlong, left_since, levels_since, s
 use Rattle.dtx_coder.specs.BytesLaws.{coded_append, coded_place, length-coded, whole_is}
 use Rattle.dtx_coder.specs.LevelsLaws.{length-levels_of}
 use Rattle.dtx_coder.specs.SegmentsLaws.{segment_back, four_back}
-use Rattle.dtx_coder.proofs.Settled.{drop_settled}
-use Rattle.dtx_coder.proofs.Runs.{levels_at, states_at, last_after}
+use Rattle.dtx_coder.specs.SettledLaws.{drop_settled}
+use Rattle.dtx_coder.specs.RunsLaws.{levels_at, states_at, last_after}
 
 -- ---- bytes
 

@@ -19,7 +19,7 @@ use Rattle.dtx_coder.specs.Runs.{run_group, run_segments}
 use Rattle.dtx_coder.specs.BytesLaws.{coded_append, coded_place, length-coded}
 use Rattle.dtx_coder.specs.LevelsLaws.{length-levels_of}
 use Rattle.dtx_coder.specs.SegmentsLaws.{segment_front, segment_back, four_front, four_behind}
-use Rattle.dtx_coder.proofs.Align.{in_turn}
+use Rattle.dtx_coder.specs.AlignLaws.{in_turn}
 
 -- ---- a cut
 

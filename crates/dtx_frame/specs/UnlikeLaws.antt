@@ -16,10 +16,10 @@ use Rattle.dtx_frame.specs.Sequences.{extended, pn511}
 use Rattle.dtx_frame.specs.Segments.{data_segment, sync_symbols}
 use Rattle.dtx_frame.specs.Detection.{differs, differing, looks_like}
 use Rattle.dtx_frame.specs.SymbolsLaws.{first_is}
-use Rattle.dtx_frame.proofs.Recurrences.{bit_511}
+use Rattle.dtx_frame.specs.RecurrencesLaws.{bit_511}
 use Rattle.dtx_frame.specs.CountsLaws.{total, sum_is, part, total_shift}
 use Rattle.dtx_frame.specs.SlicesLaws.{data_at}
-use Rattle.dtx_frame.proofs.Windows.{a_third, window}
+use Rattle.dtx_frame.specs.WindowsLaws.{a_third, window}
 use Rattle.dtx_frame.specs.RuleLaws.{rule, level_at_small}
 
 -- a bit's level in a field sync

@@ -6,7 +6,7 @@ use Rattle.dtx_laws.specs.Interleaving.{interleaved, IsInterleavedBehind}
 use Rattle.dtx_laws.specs.PlacesLaws.{length_leaving}
 use Rattle.dtx_laws.specs.InterleavingLaws.{HasWidths-aligned, behind, length-interleaved}
 use Rattle.dtx_coder.specs.Groups.{Coding, Group, aligned_coding, coded_groups, bytes_of_groups}
-use Rattle.dtx_coder.proofs.Align.{in_turn}
+use Rattle.dtx_coder.specs.AlignLaws.{in_turn}
 
 -- the longest branch is through 51 * 208 bytes behind the align
 pub drop_settled : (held : Branching) (x : List ℕ) (n : ℕ) → HasWidths 52 (spreading 4) held → 10764 ≤ n

@@ -18,12 +18,12 @@ use Rattle.dtx_ops.specs.Fields.{fields}
 use Rattle.dtx_ops.specs.Rules.{first, data_rules, has_twice}
 use Rattle.dtx_ops.specs.Reading.{unless, data_reading}
 use Rattle.dtx_ops.specs.Spelling.{states_bits, entry_bytes, times_bytes, head_bytes, data_of, IsValid}
-use Rattle.dtx_ops.proofs.Addresses.{differ_unless_twice, not_twice}
-use Rattle.dtx_ops.proofs.Digits.{states_at-bits, bits-states_at, bits_pad, bits_below}
+use Rattle.dtx_ops.specs.AddressesLaws.{differ_unless_twice, not_twice}
+use Rattle.dtx_ops.specs.DigitsLaws.{states_at-bits, bits-states_at, bits_pad, bits_below}
 use Rattle.dtx_ops.specs.EntriesLaws.{length-entries, entries_in-bytes, bytes-entries_in, are_entries_in}
 use Rattle.dtx_ops.specs.EntriesLaws.{length-entries_in, bytes-entries}
 use Rattle.dtx_ops.specs.NumbersLaws.{number_at, bytes_are, byte_within, AreBytes-drop}
-use Rattle.dtx_ops.proofs.Passing.{Passes, passes_unrefused, unrefused_passes, zeros_blank, blank_zeros}
+use Rattle.dtx_ops.specs.PassingLaws.{Passes, passes_unrefused, unrefused_passes, zeros_blank, blank_zeros}
 
 -- the data from each place on
 abbrev from_19 : Ops → List ℕ

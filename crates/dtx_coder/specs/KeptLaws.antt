@@ -17,7 +17,7 @@ use Rattle.dtx_coder.specs.Stream.{segment, four_segments, last_of}
 use Rattle.dtx_coder.specs.Groups.{Coding, Group, bytes_of, group_levels, segments_of, after_group}
 use Rattle.dtx_coder.specs.Runs.{AreStates}
 use Rattle.dtx_coder.specs.CountsLaws.{AreSegments, segments_append, segments_map, segment_at}
-use Rattle.dtx_coder.proofs.Runs.{length-group_levels, last_after}
+use Rattle.dtx_coder.specs.RunsLaws.{length-group_levels, last_after}
 use Rattle.dtx_coder.specs.SegmentsLaws.{length-segment}
 
 -- ---- segments

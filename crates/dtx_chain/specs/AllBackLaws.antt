@@ -18,8 +18,8 @@ use Rattle.dtx_receiver.specs.SegmentsLaws.{segment_long}
 use Rattle.dtx_chain.specs.Undamaged.{ArePackets, with_sync}
 use Rattle.dtx_chain.specs.Damage.{as_corrected, AreReceived, IsSlight, to_sync, from_sync, packet_behind, numbers_in}
 use Rattle.dtx_chain.specs.Damage.{word_in}
-use Rattle.dtx_chain.proofs.Slight.{sent_within, sync_first, field_begins, one_run_left}
-use Rattle.dtx_chain.proofs.Undamaged.{map-filter_same}
+use Rattle.dtx_chain.specs.SlightLaws.{sent_within, sync_first, field_begins, one_run_left}
+use Rattle.dtx_chain.specs.UndamagedLaws.{map-filter_same}
 use Rattle.dtx_chain.specs.WordsLaws.{corrected_back}
 
 -- ---- how many bytes a run has

@@ -14,9 +14,9 @@ use Rattle.dtx_exciter.specs.Packets.{said}
 use Rattle.dtx_exciter.specs.Emission.{segments_since, sent_by, sent_at, sent_before, with_sync, given_under}
 use Rattle.dtx_exciter.specs.Stretch.{sync_behind}
 use Rattle.dtx_exciter.specs.ForceLaws.{Stands, force_left, force_stands}
-use Rattle.dtx_exciter.proofs.GroupSent.{since_front}
-use Rattle.dtx_exciter.proofs.InLife.{life, length-life, Marks, IsGroup, upto, given_last, place_of, sent_same}
-use Rattle.dtx_exciter.proofs.SinceMark.{take_parts}
+use Rattle.dtx_exciter.specs.GroupSentLaws.{since_front}
+use Rattle.dtx_exciter.specs.InLifeLaws.{life, length-life, Marks, IsGroup, upto, given_last, place_of, sent_same}
+use Rattle.dtx_exciter.specs.SinceMarkLaws.{take_parts}
 use Rattle.dtx_exciter.specs.UnderLaws.{length-said, said_append}
 
 -- ---- the field sync

@@ -15,9 +15,9 @@ use Rattle.dtx_ops.specs.Fields.{fields}
 use Rattle.dtx_ops.specs.Rules.{first, data_rules, corrected, rules}
 use Rattle.dtx_ops.specs.Reading.{unless, data_reading, reading, ReadsAs}
 use Rattle.dtx_ops.specs.Spelling.{IsValid, data_of, spelling}
-use Rattle.dtx_ops.proofs.Data.{length-data_of, AreBytes-data_of, data_reading-data_of, data_of-fields, valid_fields}
+use Rattle.dtx_ops.specs.DataLaws.{length-data_of, AreBytes-data_of, data_reading-data_of, data_of-fields, valid_fields}
 use Rattle.dtx_ops.specs.NumbersLaws.{AreBytes-take}
-use Rattle.dtx_ops.proofs.Passing.{passes_unrefused}
+use Rattle.dtx_ops.specs.PassingLaws.{passes_unrefused}
 use Rattle.dtx_ops.specs.RefusingLaws.{reading_other, reading_none, reading_some, corrected_by}
 
 abbrev fields_if : Result Ops OpsNo → Option Ops

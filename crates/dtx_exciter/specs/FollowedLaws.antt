@@ -12,9 +12,9 @@ use Rattle.dtx_exciter.specs.Told.{told_under}
 use Rattle.dtx_exciter.specs.Packets.{syncs, said, anchor_of, under, told}
 use Rattle.dtx_exciter.specs.Emission.{given, given_under}
 use Rattle.dtx_exciter.specs.Lockstep.{IsFeed}
-use Rattle.dtx_exciter.proofs.Anchored.{Marked, IsAnchored, anchored}
+use Rattle.dtx_exciter.specs.AnchoredLaws.{Marked, IsAnchored, anchored}
 use Rattle.dtx_exciter.specs.UnderLaws.{length-syncs, length-said, goes_on}
-use Rattle.dtx_exciter.proofs.InLife.{life, length-life}
+use Rattle.dtx_exciter.specs.InLifeLaws.{life, length-life}
 
 -- ---- the anchor
 

@@ -9,7 +9,7 @@ use Rattle.dtx_slice.specs.Slicing.{sliced}
 use Rattle.dtx_frame.specs.Segments.{sync_symbols}
 use Rattle.dtx_frame.specs.Detection.{differs, differing, looks_like}
 use Rattle.dtx_frame.specs.CountsLaws.{total, sum_is}
-use Rattle.dtx_frame.proofs.Unlike.{unlike_segment}
+use Rattle.dtx_frame.specs.UnlikeLaws.{unlike_segment}
 use Rattle.dtx_coder.specs.Coded.{whole_groups}
 use Rattle.dtx_coder.specs.Stream.{zero_states, levels, segment, a53}
 use Rattle.dtx_coder.specs.BytesLaws.{length-whole}
@@ -19,7 +19,7 @@ use Rattle.dtx_receiver.specs.Intervals.{NoneLooks, IsRun, AreRuns, segments_in}
 use Rattle.dtx_receiver.specs.IntervalsLaws.{are_runs, only_runs}
 use Rattle.dtx_receiver.specs.SegmentsLaws.{place_data}
 use Rattle.dtx_chain.specs.Damage.{damage_at, damaged, AreReceived, IsSlight, to_sync, from_sync, packet_behind}
-use Rattle.dtx_chain.proofs.Places.{data_at_place}
+use Rattle.dtx_chain.specs.PlacesLaws.{data_at_place}
 
 -- ---- data segments
 

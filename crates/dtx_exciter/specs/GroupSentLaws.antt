@@ -14,7 +14,7 @@ use Rattle.dtx_coder.specs.Coded.{whole_groups}
 use Rattle.dtx_coder.specs.Stream.{segment, four_segments, last_of}
 use Rattle.dtx_coder.specs.Groups.{Coding, Group, segments_of, after_group}
 use Rattle.dtx_coder.specs.Along.{IsNext, RunsAlong, levels_since}
-use Rattle.dtx_coder.proofs.Along.{along_goes_on, along_preset, sent_group, sent_preset, last_along}
+use Rattle.dtx_coder.specs.AlongLaws.{along_goes_on, along_preset, sent_group, sent_preset, last_along}
 use Rattle.dtx_coder.specs.BytesLaws.{length-whole, whole_append}
 use Rattle.dtx_coder.specs.LevelsLaws.{length-levels_of}
 use Rattle.dtx_coder.specs.SegmentsLaws.{segment_front}
@@ -23,7 +23,7 @@ use Rattle.dtx_exciter.specs.Order.{Order, either, placed}
 use Rattle.dtx_exciter.specs.Told.{served}
 use Rattle.dtx_exciter.specs.Emission.{segments_since, sent_by, with_sync}
 use Rattle.dtx_exciter.specs.Kept.{is_served, RunsUnder}
-use Rattle.dtx_exciter.proofs.Ends.{IsOlder}
+use Rattle.dtx_exciter.specs.EndsLaws.{IsOlder}
 
 -- ---- levels go on
 

@@ -20,14 +20,14 @@ use Rattle.dtx_exciter.specs.Emission.{given, emission}
 use Rattle.dtx_exciter.specs.Lockstep.{IsFeed, IsStretch, segment_place, stretch}
 use Rattle.dtx_exciter.specs.Log.{Line, preset, line_of, life_lines}
 use Rattle.dtx_exciter.specs.Stretch.{lines_behind, before_stretch, moment_at, preset_line, orders_in, stretch_lines}
-use Rattle.dtx_exciter.proofs.Answer.{own_told}
+use Rattle.dtx_exciter.specs.AnswerLaws.{own_told}
 use Rattle.dtx_exciter.specs.EmittedLaws.{take_behind, length-stretch}
-use Rattle.dtx_exciter.proofs.Followed.{after, Follows, told_is, told_none}
+use Rattle.dtx_exciter.specs.FollowedLaws.{after, Follows, told_is, told_none}
 use Rattle.dtx_exciter.specs.ForceLaws.{counted_off}
-use Rattle.dtx_exciter.proofs.InLife.{life, length-life, Marks, IsGroup, counted_same, InStep, in_step, force_here}
-use Rattle.dtx_exciter.proofs.LockstepIs.{emitted_more, before_first, emits, Within, within, before_is}
+use Rattle.dtx_exciter.specs.InLifeLaws.{life, length-life, Marks, IsGroup, counted_same, InStep, in_step, force_here}
+use Rattle.dtx_exciter.specs.LockstepIsLaws.{emitted_more, before_first, emits, Within, within, before_is}
 use Rattle.dtx_exciter.specs.RangesLaws.{listed, flat_map-range_moved, flat_map-range_picked}
-use Rattle.dtx_exciter.proofs.SinceMark.{take_parts}
+use Rattle.dtx_exciter.specs.SinceMarkLaws.{take_parts}
 use Rattle.dtx_exciter.specs.UnderLaws.{length-said}
 
 -- ---- the lines of any packets, some packets further

@@ -7,8 +7,8 @@ use Rattle.dtx_exciter.specs.Emission.{emission}
 use Rattle.dtx_exciter.specs.Lockstep.{IsFeed, IsStretch, stretch}
 use Rattle.dtx_exciter.specs.Log.{Line, restart, life_lines, log, restarted_lines, restarting_lines, emission_over}
 use Rattle.dtx_exciter.specs.Stretch.{emission_behind, lines_behind, before_stretch, stretch_lines}
-use Rattle.dtx_exciter.proofs.Lines.{lines_on}
-use Rattle.dtx_exciter.proofs.LockstepIs.{lockstep_on}
+use Rattle.dtx_exciter.specs.LinesLaws.{lines_on}
+use Rattle.dtx_exciter.specs.LockstepIsLaws.{lockstep_on}
 
 -- ---- the segments
 

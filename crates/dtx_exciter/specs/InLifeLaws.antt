@@ -15,8 +15,8 @@ use Rattle.dtx_exciter.specs.Packets.{reads, said}
 use Rattle.dtx_exciter.specs.Emission.{segments_since, sent_by, sent_at, sent_before, with_sync, given_under}
 use Rattle.dtx_exciter.specs.Lockstep.{IsFeed}
 use Rattle.dtx_exciter.specs.ForceLaws.{latest_more, counted_behind, IsBehind}
-use Rattle.dtx_exciter.proofs.GroupSent.{some_before}
-use Rattle.dtx_exciter.proofs.SinceMark.{AreSame, data_same, take_parts}
+use Rattle.dtx_exciter.specs.GroupSentLaws.{some_before}
+use Rattle.dtx_exciter.specs.SinceMarkLaws.{AreSame, data_same, take_parts}
 
 -- ---- the packets
 

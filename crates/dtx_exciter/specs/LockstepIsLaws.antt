@@ -12,9 +12,9 @@ use Rattle.dtx_exciter.specs.Emission.{given, given_under, emission}
 use Rattle.dtx_exciter.specs.Lockstep.{IsFeed, IsStretch, stretch}
 use Rattle.dtx_exciter.specs.Stretch.{emission_behind, sync_behind, before_stretch}
 use Rattle.dtx_exciter.specs.ForceLaws.{counted_behind, IsBehind}
-use Rattle.dtx_exciter.proofs.InLife.{life, Marks, IsGroup, given_next}
-use Rattle.dtx_exciter.proofs.FirstGroup.{given_first}
-use Rattle.dtx_exciter.proofs.Followed.{after, after_more, Follows, follows, given_is, given_none}
+use Rattle.dtx_exciter.specs.InLifeLaws.{life, Marks, IsGroup, given_next}
+use Rattle.dtx_exciter.specs.FirstGroupLaws.{given_first}
+use Rattle.dtx_exciter.specs.FollowedLaws.{after, after_more, Follows, follows, given_is, given_none}
 use Rattle.dtx_exciter.specs.EmittedLaws.{emission_more, emission_push, stretch_first, stretch_next, stretch_whole}
 
 -- ---- all that is given
