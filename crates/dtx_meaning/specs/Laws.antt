@@ -1,4 +1,5 @@
--- Laws of meanings that are carried out: what a refusal and a fault leave, what is whole and what is a part, and one meaning after the other.
+-- Laws of meanings that are carried out: what a refusal and a fault leave, what is whole and what is a part, and one
+-- meaning after the other.
 use Rattle.std.specs.Prelude.{◌≡◌, ◌≢◌, ◌⊎◌, ℕ, List, [], ◌∷◌, ◌++◌, Option, Some, None, IfSome, refl}
 use Rattle.std.specs.Option.{option_map}
 use Rattle.std.specs.FinMap.{get}
@@ -6,9 +7,11 @@ use Rattle.std.proofs.Common.{sym, ap, ◌∙◌, subst, inl, inr}
 use Rattle.std.proofs.lemmas.List.{append-nil}
 use Rattle.dtx_outside.specs.Shelf.{Files, with_file, IsSameAt}
 use Rattle.dtx_outside.specs.WrittenLaws.{IsSameAt-written}
+use Rattle.dtx_outside.specs.declared.shelf.WriteNo.{WriteNo}
+use Rattle.dtx_outside.specs.declared.shelf.WriteNo.TheVariants as write
 use Rattle.dtx_meaning.specs.Meaning.{Outputs, Meaning, refused, and_then, with_outputs, ArePartWritten, IsNoOutput}
 use Rattle.dtx_meaning.specs.Meaning.{IsWhole, IsCarriedOut, IsAnswered, IsDone}
-use Rattle.dtx_meaning.specs.Status.{IsFault, ended}
+use Rattle.dtx_meaning.specs.Status.{IsFault, ended, of_write}
 use Rattle.dtx_meaning.specs.declared.status.Outcome.{Outcome}
 use Rattle.dtx_meaning.specs.declared.status.Status.{Status}
 use Rattle.dtx_meaning.specs.declared.status.Status.TheVariants.{Done, WriteFault}
@@ -250,3 +253,8 @@ pub same_at_done : (m : Meaning) (name : List ℕ) (start now : Option Files) (s
     → IsNoOutput name m.outputs → IsDone m start status unprinted now → IsSameAt name start now
 same_at_done m name start now status unprinted apart is =
     same_at_part m.outputs name start now apart (part_of_done m start now status unprinted is)
+
+-- a refusal to write is a fault
+pub write_is_fault : (cause : WriteNo) → IsFault (of_write cause)
+write_is_fault write.Failed = tt
+write_is_fault write.Memory = tt
