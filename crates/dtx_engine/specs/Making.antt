@@ -1,6 +1,29 @@
 -- What is made of an input that is read in units, and what a command means that does so.
-use Rattle.std.specs.Prelude.{◌≡◌, ℕ, ◌*◌, ◌/◌, ◌%◌, ◌<◌, ◌≤◌, ◌^◌, Bool, not, min, nat_lt, if◌then◌else◌, List, [], ◌∷◌, ◌++◌, length, take, drop,
-    Option, Some, None}
+use Rattle.std.specs.Prelude.{
+  ◌≡◌,
+  ℕ,
+  ◌*◌,
+  ◌/◌,
+  ◌%◌,
+  ◌<◌,
+  ◌≤◌,
+  ◌^◌,
+  Bool,
+  not,
+  min,
+  nat_lt,
+  if◌then◌else◌,
+  List,
+  [],
+  ◌∷◌,
+  ◌++◌,
+  length,
+  take,
+  drop,
+  Option,
+  Some,
+  None,
+}
 use Rattle.std.specs.FinMap.{get}
 use Rattle.std.specs.List.{find, range_with_len}
 use Rattle.std.specs.Str.{bytes_eq}
@@ -9,7 +32,7 @@ use Rattle.dtx_meaning.specs.Meaning.{Meaning, refused}
 use Rattle.dtx_meaning.specs.Status.{ended}
 use Rattle.dtx_meaning.specs.declared.status.Outcome.{Outcome}
 use Rattle.dtx_meaning.specs.declared.status.Status.TheVariants.{Absent, Packet, Same, TooLong}
-use Rattle.dtx_engine.specs.Made.{Made, joined, only, outputs_of}
+use Rattle.dtx_engine.specs.Made.{Made, joined, outputs_of}
 use Rattle.dtx_engine.specs.declared.engine.Shape.{Shape}
 use Rattle.dtx_engine.specs.declared.piece.Ending.{Ending}
 use Rattle.dtx_engine.specs.declared.piece.Ending.TheVariants.{Whole, Refused}
