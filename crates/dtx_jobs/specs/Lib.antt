@@ -1,1 +1,4 @@
+pub mod FirstOf
+pub mod PastEnd
+pub mod PlanFile
 pub mod Shapes
