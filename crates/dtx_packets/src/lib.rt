@@ -6,7 +6,6 @@ mod packet;
 mod reader;
 mod refusal;
 
-pub use cutting::cut;
 pub use packet::{PACKET, Packet};
 pub use reader::{MOST_PACKETS, PIECE_PACKETS, PacketReader};
 pub use refusal::NextNo;
