@@ -2,6 +2,9 @@ pub mod Adapt
 pub mod Feed
 pub mod FeedLaws
 pub mod FirstOf
+pub mod Hurt
+pub mod HurtLaws
+pub mod Make
 pub mod PastEnd
 pub mod PlanFile
 pub mod Shapes

@@ -42,8 +42,8 @@ impl<'a> Feeder<'a> {
     /// A feeder under a plan, to which nothing was given.
     pub fn new(alloc: Global, plan: &'a Plan) -> Result<Feeder<'a>, AllocError>
         requires { IsSound plan.now }
-        ensures fresh { IfOk result (λ feeder. ⟦<Feeder<'_> as Engine>⟧.stands feeder []) }
-        ensures making { IfOk result (λ feeder. ⟦<Feeder<'_> as Engine>⟧.making feeder ≡ feeding plan.now) }
+        ensures fresh { IfOk result (λ feeder. ⟦<Feeder<'a> as Engine>⟧.stands feeder []) }
+        ensures making { IfOk result (λ feeder. ⟦<Feeder<'a> as Engine>⟧.making feeder ≡ feeding plan.now) }
     {
         Ok(Feeder {
             plan,
