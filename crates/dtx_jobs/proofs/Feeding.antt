@@ -83,3 +83,20 @@ group_fed old new given bytes made filled whole plan count sum few stands fed is
       };
       made = ap only (ap (feed_bytes old.plan.now) both ∙ fed);
     }
+
+-- no packets have no placeholders
+pub none_filled : 0 ≡ placeholders []
+unfolding placeholders
+none_filled = refl
+
+-- a part behind those that were fed
+pub part_fed : (m : Making) (given old cur new : List ℕ) (done n : ℕ) (s t : List ℕ → Type 0) → done ≤ length cur
+    → length new ≡ n → drop done cur ≡ drop done old → IsFed m given (take done old) s (only (take done cur))
+    → (s (given ++ take done old) → IsFed m (given ++ take done old) (take n (drop done cur)) t (only new))
+    → IsFed m given (take (done + n) old) t (only (take (done + n) (put_mid done n cur new)))
+part_fed m given old cur new done n s t within long rest first second =
+    let whole : take done old ++ take n (drop done cur) ≡ take (done + n) old =
+    ap (λ z. take done old ++ take n z) rest ∙ sym (take-add done n old) in
+    subst (λ b. IsFed m given b t (only (take (done + n) (put_mid done n cur new)))) whole
+    (subst (λ y. IsFed m given (take done old ++ take n (drop done cur)) t (only y)) (sym (front_put done n cur new within long))
+    (fed_on m given (take done old) (take n (drop done cur)) s t (take done cur) new first second))

@@ -1,0 +1,41 @@
+use Rattle.std.proofs.Common.{◌≡◌, ◌+◌, ◌-◌, ◌*◌, ◌/◌, ◌%◌, ◌<◌, ◌≤◌, ◌++◌, List, ℕ, length, take, drop, refl, sym, ap, subst, ◌∙◌, arith}
+use Rattle.std.proofs.lemmas.List.{length-append, length-take-le, length-drop, take_all}
+use Rattle.dtx_engine.specs.Made.{only}
+use Rattle.dtx_engine.specs.Making.{IsFed}
+use Rattle.dtx_jobs.specs.Adapt.{feeding}
+use Rattle.dtx_jobs.specs.Feed.{HasFed}
+use Rattle.dtx_jobs.proofs.Feeding.{counted_of, fed_none, part_fed}
+use Rattle.dtx_jobs.proofs.PacketBytes.{rest_put}
+use Rattle.dtx_jobs.proofs.feeder.FeederEngine.feed.Goals as goal
+use borrow.Rule.Slice.PartMut.{put_mid}
+
+pub loop-done-init : goal.loop-done-init
+loop-done-init c =
+    let given = c.requires.given in
+    let count : c.args.self.now.count ≡ c.args._first = omega (arith, given.2.count, given.1) in
+    record {
+      within = omega arith;
+      whole = refl;
+      groups = λ more. omega (arith, count, c.requires.grouped);
+      counted = counted_of c.args.self.now given.0 given.2;
+      count = omega (arith, count);
+      plan = refl;
+      rest = refl;
+      fed = λ before long is. fed_none (feeding c.args.self.now.plan.now) before (HasFed c.args.self.now) is;
+    }
+
+pub loop-done-preserved : goal.loop-done-preserved
+loop-done-preserved c = ?
+
+pub returns-clause-kept : goal.returns-clause-kept
+returns-clause-kept c = ap (λ p. feeding p.now) c.loop-done.invariant.plan
+
+pub returns-clause-fed : goal.returns-clause-fed
+returns-clause-fed c = λ given long is.
+    let done = c.loop-done.done in
+    let old = c.args.bytes.now in
+    let cur = c.loop-done.bytes in
+    let all : length old ≤ done = omega (arith, c.loop-done-test.false, c.loop-done.auto.bytes) in
+    subst (λ b. IsFed (feeding c.args.self.now.plan.now) given b (HasFed c.loop-done.self) (only cur)) (take_all done old all)
+    (subst (λ y. IsFed (feeding c.args.self.now.plan.now) given (take done old) (HasFed c.loop-done.self) (only y))
+    (take_all done cur (omega (arith, all, c.loop-done.auto.bytes))) (c.loop-done.invariant.fed given long is))
