@@ -25,7 +25,39 @@ loop-done-init c =
     }
 
 pub loop-done-preserved : goal.loop-done-preserved
-loop-done-preserved c = ?
+loop-done-preserved c =
+    let h = c.loop-done.invariant in
+    let done = c.loop-done.done in
+    let end = c.min-end.result in
+    let n = end - done in
+    let old = c.args.bytes.now in
+    let cur = c.loop-done.bytes in
+    let new = c.group.new.bytes in
+    let state = c.loop-done.self in
+    let sum : done + n ≡ end = omega (arith, c.min-end.ensures, c.loop-done-test.true) in
+    let part : length (take n (drop done cur)) ≡ n =
+    length-take-le n (drop done cur) (omega (arith, c.min-end.ensures, length-drop done cur)) in
+    let long : length new ≡ n = c.group.auto.bytes ∙ part in
+    let within : done ≤ length cur = omega (arith, c.loop-done-test.true) in
+    record {
+      within = omega (arith, c.min-end.ensures, c.loop-done.auto.bytes);
+      whole = omega (arith, c.min-end.ensures, h.whole, c.requires.whole, c.loop-done.auto.bytes);
+      groups = λ more. omega (arith, more, c.min-end.ensures, c.loop-done.auto.bytes, c.group.ensures.count, part,
+      h.groups (omega (arith, c.loop-done-test.true, c.loop-done.auto.bytes)));
+      counted = c.group.ensures.counted;
+      count = omega (arith, c.group.ensures.count, part, h.count, h.whole, sum);
+      plan = c.group.ensures.plan ∙ h.plan;
+      rest = subst (λ k. drop k (put_mid done n cur new) ≡ drop k old) sum (rest_put done n old cur new within long h.rest);
+      fed = λ given size is.
+          let before : length (given ++ take done old) ≡ 188 * state.count =
+          omega (arith, length-append given (take done old), size, length-take-le done old h.within, h.count, h.whole) in
+          subst (λ k. IsFed (feeding c.args.self.now.plan.now) given (take k old) (HasFed c.group.new.self)
+          (only (take k (put_mid done n cur new)))) sum
+          (part_fed (feeding c.args.self.now.plan.now) given old cur new done n (HasFed state) (HasFed c.group.new.self)
+          within long h.rest (h.fed given size is)
+          (λ stands. subst (λ p. IsFed (feeding p.now) (given ++ take done old) (take n (drop done cur))
+          (HasFed c.group.new.self) (only new)) h.plan (c.group.ensures.fed (given ++ take done old) before stands)));
+    }
 
 pub returns-clause-kept : goal.returns-clause-kept
 returns-clause-kept c = ap (λ p. feeding p.now) c.loop-done.invariant.plan
