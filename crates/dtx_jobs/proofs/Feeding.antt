@@ -1,8 +1,8 @@
 -- A feeder that is given a group more.
-use Rattle.std.proofs.Common.{◌≡◌, ℕ, ◌+◌, ◌*◌, ◌/◌, ◌%◌, ◌≤◌, List, [], ◌++◌, length, take, drop, refl, sym, ap, ap₂, subst, ◌∙◌, arith}
+use Rattle.std.proofs.Common.{◌≡◌, ℕ, ◌+◌, ◌*◌, ◌/◌, ◌%◌, ◌≤◌, List, [], ◌++◌, length, take, drop, refl, sym, ap, ap₂}
+use Rattle.std.proofs.Common.{subst, ◌∙◌, arith}
 use Rattle.std.proofs.lemmas.List.{length-append, append_assoc, append-nil}
 use Rattle.std.proofs.lemmas.List.Sums.{length-filter, count_by-le-length}
-use Rattle.std.proofs.lemmas.List.FromFn.{length-map-range_with_len}
 use Rattle.std.proofs.Math.Seq.{take-add}
 use Rattle.dtx_adapter.proofs.Feeds.{placeholders-append}
 use Rattle.dtx_adapter.specs.Adapting.{StandsFor}
@@ -10,24 +10,23 @@ use Rattle.dtx_adapter.specs.Feed.{is_placeholder, placeholders}
 use Rattle.dtx_engine.specs.Made.{Made, joined, only}
 use Rattle.dtx_engine.specs.Making.{Making, IsFed}
 use Rattle.dtx_packets.specs.PacketLaws.{packets_of-append, whole_packets-append}
-use Rattle.dtx_packets.specs.Packets.{packet_at, packets_of, whole_packets}
+use Rattle.dtx_packets.specs.Packets.{packets_of, whole_packets}
 use Rattle.dtx_plan.specs.declared.plan.Plan.{Plan}
 use Rattle.dtx_jobs.specs.Adapt.{feeding}
 use Rattle.dtx_jobs.specs.Feed.{feed_bytes, HasFed, IsCounted}
+use Rattle.dtx_jobs.specs.PacketFileLaws.{length-packets_of}
 use Rattle.dtx_jobs.specs.declared.feeder.Feeder.{Feeder}
 use Rattle.dtx_jobs.proofs.PacketBytes.{front_put}
 use borrow.Rule.Slice.PartMut.{put_mid}
 
 -- ---- counts
 
-pub length-packets_of : (file : List ℕ) → length (packets_of file) ≡ whole_packets file
-length-packets_of file = length-map-range_with_len (packet_at file) 0 (whole_packets file)
-
 -- some of the packets are placeholders
 few_filled : (packets : List (List ℕ)) → placeholders packets ≤ length packets
 unfolding placeholders
 few_filled packets =
-    subst (λ n. n ≤ length packets) (sym (length-filter is_placeholder packets)) (count_by-le-length is_placeholder packets)
+    subst (λ n. n ≤ length packets) (sym (length-filter is_placeholder packets))
+    (count_by-le-length is_placeholder packets)
 
 pub few_of : (file : List ℕ) → placeholders (packets_of file) ≤ whole_packets file
 few_of file = subst (λ n. placeholders (packets_of file) ≤ n) (length-packets_of file) (few_filled (packets_of file))
@@ -69,10 +68,12 @@ pub group_fed : (old new : Feeder) (given bytes made : List ℕ) (filled : ℕ) 
     → new.plan ≡ old.plan → new.count ≡ old.count + whole_packets bytes → new.filled ≡ old.filled + filled
     → filled ≡ placeholders (packets_of bytes)
     → StandsFor old.plan.now new.adapter (packets_of given ++ packets_of bytes)
-    → feed_bytes old.plan.now (packets_of given ++ packets_of bytes) ≡ feed_bytes old.plan.now (packets_of given) ++ made
+    → feed_bytes old.plan.now (packets_of given ++ packets_of bytes)
+    ≡ feed_bytes old.plan.now (packets_of given) ++ made
     → HasFed old given → IsFed (feeding old.plan.now) given bytes (HasFed new) (only made)
 group_fed old new given bytes made filled whole plan count sum few stands fed is =
-    let both : packets_of (given ++ bytes) ≡ packets_of given ++ packets_of bytes = packets_of-append given bytes whole in
+    let both : packets_of (given ++ bytes) ≡ packets_of given ++ packets_of bytes =
+    packets_of-append given bytes whole in
     record {
       stand = record {
         adapter = subst (λ p. StandsFor p.now new.adapter (packets_of (given ++ bytes))) (sym plan)
@@ -98,5 +99,6 @@ part_fed m given old cur new done n s t within long rest first second =
     let whole : take done old ++ take n (drop done cur) ≡ take (done + n) old =
     ap (λ z. take done old ++ take n z) rest ∙ sym (take-add done n old) in
     subst (λ b. IsFed m given b t (only (take (done + n) (put_mid done n cur new)))) whole
-    (subst (λ y. IsFed m given (take done old ++ take n (drop done cur)) t (only y)) (sym (front_put done n cur new within long))
+    (subst (λ y. IsFed m given (take done old ++ take n (drop done cur)) t (only y))
+    (sym (front_put done n cur new within long))
     (fed_on m given (take done old) (take n (drop done cur)) s t (take done cur) new first second))

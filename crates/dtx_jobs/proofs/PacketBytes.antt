@@ -1,5 +1,6 @@
 -- Bytes of which a part was put in place.
-use Rattle.std.proofs.Common.{◌≡◌, ℕ, ◌+◌, ◌*◌, ◌<◌, ◌≤◌, List, [], ◌∷◌, ◌++◌, length, map, take, drop, get_or, refl, sym, ap, ◌∙◌}
+use Rattle.std.proofs.Common.{◌≡◌, ℕ, ◌+◌, ◌*◌, ◌<◌, ◌≤◌, List, [], ◌∷◌, ◌++◌, length, map, take, drop, get_or, refl}
+use Rattle.std.proofs.Common.{sym, ap, ◌∙◌}
 use Rattle.std.proofs.Common.{arith}
 use Rattle.std.proofs.lemmas.List.{take_at, drop_at, drop-drop, length-take-le, length-append, append_assoc, append-nil}
 use Rattle.std.proofs.lemmas.List.{take_more, map-append}
@@ -31,7 +32,8 @@ lists packets = map (λ p. p.0) packets
 
 -- the bytes of one packet more
 pub packet_on : (packets : List Packet) (i : ℕ) (d : Packet) → i < length packets
-    → bytes_of_packets (lists (take i packets)) ++ (get_or packets i d).0 ≡ bytes_of_packets (lists (take (i + 1) packets))
+    → bytes_of_packets (lists (take i packets)) ++ (get_or packets i d).0
+    ≡ bytes_of_packets (lists (take (i + 1) packets))
 packet_on packets i d within =
     ap (λ z. bytes_of_packets (lists (take i packets)) ++ z) (sym (append-nil ((get_or packets i d).0)))
     ∙ sym (ap (λ ps. bytes_of_packets (lists ps)) (take_more packets i d within)

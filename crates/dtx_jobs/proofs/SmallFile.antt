@@ -93,7 +93,8 @@ small_told (Some held) name number bytes items cut is = cut_at (get held name) n
 
 said_at : {T : Type 0} (said : List ℕ → Result T PlanNo) (found : Option (List ℕ)) (number : ℕ) (items : List ℕ)
     (x : T) → ((file : List ℕ) → said (small_part file) ≡ said file)
-    → IsSomeAnd found (λ file. items ≡ small_part file) → IsAnswer (said items) (Ok x) → IsReadAs said found number (Ok x)
+    → IsSomeAnd found (λ file. items ≡ small_part file) → IsAnswer (said items) (Ok x)
+    → IsReadAs said found number (Ok x)
 said_at said None number items x part is walk = is
 said_at said (Some file) number items x part is walk = sym (part file) ∙ sym (ap said is) ∙ walk
 

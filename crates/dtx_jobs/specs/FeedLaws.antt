@@ -11,7 +11,8 @@ use Rattle.dtx_plan.specs.declared.plan.Plan.{Plan}
 use Rattle.dtx_jobs.specs.Adapt.{feeding}
 use Rattle.dtx_jobs.specs.Feed.{bytes_of_packets, feed_bytes}
 
-pub bytes_of_packets-append : (a b : List (List ℕ)) → bytes_of_packets (a ++ b) ≡ bytes_of_packets a ++ bytes_of_packets b
+pub bytes_of_packets-append : (a b : List (List ℕ))
+    → bytes_of_packets (a ++ b) ≡ bytes_of_packets a ++ bytes_of_packets b
 bytes_of_packets-append a b = flat_map-append (λ (p : List ℕ). p) a b
 
 -- no packets have no feed

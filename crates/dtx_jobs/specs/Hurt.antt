@@ -17,8 +17,8 @@ use Rattle.dtx_jobs.specs.PlanFile.{under_changes}
 use Rattle.dtx_jobs.specs.Shapes.{single_bytes}
 use Rattle.dtx_jobs.specs.declared.laying.Laying.{Laying}
 
--- The end of a file of so many bytes: the first entry that ends behind it; or where none does its bytes, and how many of
--- them some entry covers.
+-- The end of a file of so many bytes: the first entry that ends behind it; or where none does its bytes, and how many
+-- of them some entry covers.
 abbrev pub hurt_end : List Damage → ℕ → Option ℕ → Outcome
 hurt_end damage bytes (Some entry) = ended (OutOfAir entry)
 hurt_end damage bytes None =

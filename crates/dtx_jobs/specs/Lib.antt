@@ -1,10 +1,12 @@
 pub mod Adapt
 pub mod Feed
+pub mod FeedFileLaws
 pub mod FeedLaws
-pub mod FirstOf
+pub mod FirstOfLaws
 pub mod Hurt
 pub mod HurtLaws
 pub mod Make
+pub mod PacketFileLaws
 pub mod PastEnd
 pub mod PlanFile
 pub mod Shapes

@@ -1,5 +1,6 @@
--- What comes of reading a file that is read whole, a plan or a file of changes, and what a command means that reads one.
-use Rattle.std.specs.Prelude.{◌≡◌, ℕ, ◌≤◌, Bool, true, List, length, take, Option, Some, None, Result, Ok, Err, IsSomeAnd}
+-- What comes of reading a file that is read whole, a plan or a file of changes; what a command means that reads one.
+use Rattle.std.specs.Prelude.{◌≡◌, ℕ, ◌≤◌, Bool, true, List, length, take, Option, Some, None, Result, Ok, Err}
+use Rattle.std.specs.Prelude.{IsSomeAnd}
 use Rattle.std.specs.Prelude.{Vec}
 use Rattle.std.specs.declared.alloc.Global.{Global}
 use Rattle.dtx_meaning.specs.Meaning.{Meaning, refused}

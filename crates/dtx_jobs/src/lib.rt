@@ -2,6 +2,7 @@
 #![tactic(auto)]
 
 mod feeder;
+pub mod laws;
 mod laying;
 mod make_command;
 mod packet_bytes;

@@ -15,8 +15,8 @@ use dtx_packets::MOST_PACKETS;
 use dtx_words::number_up_to;
 use std::alloc::Global;
 
-/// Writes the packets 0 to COUNT - 1 that `dtx_make::packet` gives for SEED to OUT. SEED is 0 to 2^64 - 1 and COUNT 0 to
-/// 624,000,000, in decimal digits without sign and without a leading zero unless it is `0`. The number is COUNT.
+/// Writes the packets 0 to COUNT - 1 that `dtx_make::packet` gives for SEED to OUT. SEED is 0 to 2^64 - 1 and COUNT 0
+/// to 624,000,000, in decimal digits without sign and without a leading zero unless it is `0`. The number is COUNT.
 pub fn make<S: Shelf>(alloc: Global, words: &[Word], shelf: &mut S) -> Outcome
     ensures carried { IfSome (S.files shelf.old) (λ held.
         IsCarriedOut (make_meaning words.now held) (Some held) result (S.files shelf.new)) }

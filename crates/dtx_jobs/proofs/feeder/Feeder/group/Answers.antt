@@ -19,7 +19,12 @@ returns-clause-fed c = λ given long is.
     let adapter = c.adapt_group-filled.new.adapter in
     let whole : length given % 188 ≡ 0 = omega (arith, long) in
     group_fed old
-    (record { plan = old.plan; adapter = adapter; count = old.count + length bytes / 188; filled = old.filled + filled })
+    (record {
+      plan = old.plan;
+      adapter = adapter;
+      count = old.count + length bytes / 188;
+      filled = old.filled + filled;
+    })
     given bytes c.adapt_group-filled.new.bytes filled whole refl refl refl c.adapt_group-filled.ensures.filled
     (c.adapt_group-filled.ensures.stands old.plan.now (packets_of given) is.adapter)
     (c.adapt_group-filled.ensures.fed old.plan.now (packets_of given) is.adapter) is

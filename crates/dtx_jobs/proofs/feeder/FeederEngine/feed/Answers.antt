@@ -1,4 +1,5 @@
-use Rattle.std.proofs.Common.{◌≡◌, ◌+◌, ◌-◌, ◌*◌, ◌/◌, ◌%◌, ◌<◌, ◌≤◌, ◌++◌, List, ℕ, length, take, drop, refl, sym, ap, subst, ◌∙◌, arith}
+use Rattle.std.proofs.Common.{◌≡◌, ◌+◌, ◌-◌, ◌*◌, ◌/◌, ◌%◌, ◌<◌, ◌≤◌, ◌++◌, List, ℕ, length, take, drop, refl, sym}
+use Rattle.std.proofs.Common.{ap, subst, ◌∙◌, arith}
 use Rattle.std.proofs.lemmas.List.{length-append, length-take-le, length-drop, take_all}
 use Rattle.dtx_engine.specs.Made.{only}
 use Rattle.dtx_engine.specs.Making.{IsFed}
@@ -47,10 +48,12 @@ loop-done-preserved c =
       counted = c.group.ensures.counted;
       count = omega (arith, c.group.ensures.count, part, h.count, h.whole, sum);
       plan = c.group.ensures.plan ∙ h.plan;
-      rest = subst (λ k. drop k (put_mid done n cur new) ≡ drop k old) sum (rest_put done n old cur new within long h.rest);
+      rest = subst (λ k. drop k (put_mid done n cur new) ≡ drop k old) sum
+          (rest_put done n old cur new within long h.rest);
       fed = λ given size is.
           let before : length (given ++ take done old) ≡ 188 * state.count =
-          omega (arith, length-append given (take done old), size, length-take-le done old h.within, h.count, h.whole) in
+          omega (arith, length-append given (take done old), size,
+          length-take-le done old h.within, h.count, h.whole) in
           subst (λ k. IsFed (feeding c.args.self.now.plan.now) given (take k old) (HasFed c.group.new.self)
           (only (take k (put_mid done n cur new)))) sum
           (part_fed (feeding c.args.self.now.plan.now) given old cur new done n (HasFed state) (HasFed c.group.new.self)
@@ -68,6 +71,7 @@ returns-clause-fed c = λ given long is.
     let old = c.args.bytes.now in
     let cur = c.loop-done.bytes in
     let all : length old ≤ done = omega (arith, c.loop-done-test.false, c.loop-done.auto.bytes) in
-    subst (λ b. IsFed (feeding c.args.self.now.plan.now) given b (HasFed c.loop-done.self) (only cur)) (take_all done old all)
+    subst (λ b. IsFed (feeding c.args.self.now.plan.now) given b (HasFed c.loop-done.self) (only cur))
+    (take_all done old all)
     (subst (λ y. IsFed (feeding c.args.self.now.plan.now) given (take done old) (HasFed c.loop-done.self) (only y))
     (take_all done cur (omega (arith, all, c.loop-done.auto.bytes))) (c.loop-done.invariant.fed given long is))
