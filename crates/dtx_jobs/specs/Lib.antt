@@ -9,4 +9,5 @@ pub mod Make
 pub mod PacketFileLaws
 pub mod PastEnd
 pub mod PlanFile
+pub mod PlanFileLaws
 pub mod Shapes

@@ -1,16 +1,21 @@
 //! The commands of one stream or file: each a meaning, an engine that makes it, and one call.
 #![tactic(auto)]
 
+mod adapt_command;
 mod feeder;
+mod hurt_command;
 pub mod laws;
 mod laying;
 mod make_command;
+mod one_output;
 mod packet_bytes;
 mod past_end;
 mod plan_file;
 mod shapes;
 
+pub use adapt_command::adapt;
 pub use feeder::Feeder;
+pub use hurt_command::hurt;
 pub use laying::Laying;
 pub use make_command::make;
 pub use past_end::first_past;

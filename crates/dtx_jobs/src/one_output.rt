@@ -22,7 +22,8 @@ pub fn carry_to_one<E: Engine, S: Shelf>(
     requires fresh { E.stands engine.old [] }
     requires differ { input.entry.name.now ≢ output.now }
     ensures carried { IfSome (S.files shelf.old) (λ held. IsCarriedOut
-        (meaning E.shape (E.making engine.old) input.entry.number (output.now ∷ []) (files.get held input.entry.name.now))
+        (meaning E.shape (E.making engine.old) input.entry.number (output.now ∷ [])
+        (files.get held input.entry.name.now))
         (Some held) result (S.files shelf.new)) }
     ensures gone { HasGone (S.counts shelf.old) (S.counts shelf.new) (blame_of result.status) }
 {
