@@ -34,7 +34,8 @@ pub trait Outlet {
     /// Takes bytes for the first, and for the second where there is one.
     fn write<S: Shelf>(&mut self, shelf: &mut S, first: &[u8], second: &[u8]) -> Result<(), Status>
         ensures written { (start : Option Files) (given : Made) → gathered self.old start given (S.files shelf.old)
-            → IsPut (names self.old) start (joined given (both first.now second.now)) result (gathered self.new) (S.files shelf.new) }
+            → IsPut (names self.old) start (joined given (both first.now second.now)) result (gathered self.new)
+            (S.files shelf.new) }
         ensures kept { names self.new ≡ names self.old }
         ensures fault { IsFaultAlone result }
         ensures gone { HasGone (S.counts shelf.old) (S.counts shelf.new) (blame_of_answer result) };
@@ -169,5 +170,6 @@ impl<'a> Outlet for Two<'a> {
         Ok(())
     }
 
-    ghost part = { λ w start made now is. part_of_two w.first.now w.second.now start made w.first_output w.second_output now is.1 };
+    ghost part = { λ w start made now is. part_of_two w.first.now w.second.now start made w.first_output
+        w.second_output now is.1 };
 }

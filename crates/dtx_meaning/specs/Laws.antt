@@ -25,7 +25,8 @@ part_of_none [] start now same = same
 part_of_none (o ∷ rest) start now same = inl same
 
 -- whole outputs are front parts of themselves
-pub part_of_whole : (outputs : Outputs) (start : Option Files) → ArePartWritten outputs start (with_outputs outputs start)
+pub part_of_whole : (outputs : Outputs) (start : Option Files)
+    → ArePartWritten outputs start (with_outputs outputs start)
 part_of_whole [] start = refl
 part_of_whole (o ∷ rest) start =
     inr (o.1, ([], append-nil o.1), part_of_whole rest (option_map (with_file o.0 o.1) start))
