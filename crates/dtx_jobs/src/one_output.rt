@@ -20,7 +20,7 @@ pub fn carry_to_one<E: Engine, S: Shelf>(
     shelf: &mut S,
 ) -> Outcome
     requires fresh { E.stands engine.old [] }
-    requires differ { input.entry.name.now ≢ output.now }
+    requires differ { input.name.now ≢ output.now }
     ensures carried { IfSome (S.files shelf.old) (λ held. IsCarriedOut
         (meaning E.shape (E.making engine.old) input.entry.number (output.now ∷ [])
         (files.get held input.entry.name.now))
