@@ -29,8 +29,14 @@ length-data_of f few =
     let es = f.offsets.items in
     let zeros : List ℕ = replicate (145 - 4 * length es) 0 in
     length-append (head_bytes f ++ flat_map entry_bytes es) zeros
-    ∙ omega (arith, few, length-append (head_bytes f) (flat_map entry_bytes es), length-head_bytes f,
-    length-entries es, length-replicate {A = ℕ} (145 - 4 * length es) 0)
+    ∙ omega (
+      arith,
+      few,
+      length-append (head_bytes f) (flat_map entry_bytes es),
+      length-head_bytes f,
+      length-entries es,
+      length-replicate {A = ℕ} (145 - 4 * length es) 0,
+    )
 
 long-spelling : (f : Ops) (counter sync : ℕ) → length f.offsets.items ≤ 35 → IsLong (spelling f counter sync)
 unfolding spelling

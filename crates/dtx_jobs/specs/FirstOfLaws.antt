@@ -63,4 +63,4 @@ position_passes {X} test xs i x none here = by_cases (cases_lt (position_or_len 
     by_cases (inr past) =
         let within : i < length xs = slice_get_within xs i x here in
         sym (ap test (get_or_from_slice_get xs i x x here))
-            ∙ fails_before_first test xs i x (omega (arith, within, past))
+        ∙ fails_before_first test xs i x (omega (arith, within, past))

@@ -16,8 +16,12 @@ length-bytes_of_packets : (packets : List (List ℕ)) → All IsLong packets
     → length (bytes_of_packets packets) ≡ 188 * length packets
 length-bytes_of_packets [] long = omega arith
 length-bytes_of_packets (p ∷ ps) long =
-    omega (arith, length-append p (bytes_of_packets ps), All-head IsLong p ps long,
-    length-bytes_of_packets ps (All-tail IsLong p ps long))
+    omega (
+      arith,
+      length-append p (bytes_of_packets ps),
+      All-head IsLong p ps long,
+      length-bytes_of_packets ps (All-tail IsLong p ps long),
+    )
 
 -- packet k of their bytes is the k-th of them
 packet_at-bytes : (packets : List (List ℕ)) (k : ℕ) → All IsLong packets → k < length packets

@@ -28,7 +28,13 @@ pub fn hurt<S: Shelf>(alloc: Global, words: &[Word], shelf: &mut S) -> Outcome
 {
     match words {
         [_, input, changes, output] => {
-            hurt_files(alloc, input.as_str(), changes.as_str(), output.as_str(), shelf)
+            hurt_files(
+                alloc,
+                input.as_str(),
+                changes.as_str(),
+                output.as_str(),
+                shelf,
+            )
         }
         _ => ended(Status::Usage),
     }

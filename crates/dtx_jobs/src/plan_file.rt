@@ -46,7 +46,7 @@ pub fn plan_in<S: Shelf>(
 
 /// Reads the damage of the file of changes of that number. Its text is that of `dtx_plan::read_changes` (the profile's
 /// own).
-pub fn changes_in<S: Shelf>(
+pub(crate) fn changes_in<S: Shelf>(
     alloc: Global,
     shelf: &mut S,
     number: u8,

@@ -27,5 +27,6 @@ returns-in-None-clause-carried g c =
     let means = λ (held : Files).
     under_plan 0 (get held c.args.plan.now) (λ said.
     meaning packets (feeding said) 1 (c.args.output.now ∷ []) (get held c.args.input.now)) in
-    carried_told (adapted c.args.plan.now c.args.input.now c.args.output.now) means (g.S.Shelf.files c.args.shelf.now) _
-    c.adapt_planned.result (λ held told. apart_means names (means held) c.in-None.ensures) c.adapt_planned.ensures.carried
+    carried_told (adapted c.args.plan.now c.args.input.now c.args.output.now) means
+    (g.S.Shelf.files c.args.shelf.now) _ c.adapt_planned.result
+    (λ held told. apart_means names (means held) c.in-None.ensures) c.adapt_planned.ensures.carried

@@ -14,8 +14,9 @@ use Rattle.dtx_jobs.proofs.hurt_command.hurt_files.Goals as goal
 pub returns-in-Some-clause-carried : goal.returns-in-Some-clause-carried
 returns-in-Some-clause-carried g c =
     let names : List (List ℕ) = c.args.input.now ∷ c.args.changes.now ∷ c.args.output.now ∷ [] in
-    refused_told (hurt_file c.args.input.now c.args.changes.now c.args.output.now) (g.S.Shelf.files c.args.shelf.now) _ Same
-    c.ended.result (λ held told. same_means names _ _ c.in-Some.ensures) refl c.ended.ensures
+    refused_told (hurt_file c.args.input.now c.args.changes.now c.args.output.now)
+    (g.S.Shelf.files c.args.shelf.now) _ Same c.ended.result
+    (λ held told. same_means names _ _ c.in-Some.ensures) refl c.ended.ensures
 
 pub hurt_changed-requires : goal.hurt_changed-requires
 hurt_changed-requires g c =
@@ -27,5 +28,6 @@ returns-in-None-clause-carried g c =
     let means = λ (held : Files).
     under_changes 1 (get held c.args.changes.now) (λ damage.
     meaning single_bytes (hurting damage) 0 (c.args.output.now ∷ []) (get held c.args.input.now)) in
-    carried_told (hurt_file c.args.input.now c.args.changes.now c.args.output.now) means (g.S.Shelf.files c.args.shelf.now) _
-    c.hurt_changed.result (λ held told. apart_means names (means held) c.in-None.ensures) c.hurt_changed.ensures.carried
+    carried_told (hurt_file c.args.input.now c.args.changes.now c.args.output.now) means
+    (g.S.Shelf.files c.args.shelf.now) _ c.hurt_changed.result
+    (λ held told. apart_means names (means held) c.in-None.ensures) c.hurt_changed.ensures.carried

@@ -43,8 +43,15 @@ loop-done-preserved c =
     record {
       within = omega (arith, c.min-end.ensures, c.loop-done.auto.bytes);
       whole = omega (arith, c.min-end.ensures, h.whole, c.requires.whole, c.loop-done.auto.bytes);
-      groups = λ more. omega (arith, more, c.min-end.ensures, c.loop-done.auto.bytes, c.group.ensures.count, part,
-      h.groups (omega (arith, c.loop-done-test.true, c.loop-done.auto.bytes)));
+      groups = λ more. omega (
+        arith,
+        more,
+        c.min-end.ensures,
+        c.loop-done.auto.bytes,
+        c.group.ensures.count,
+        part,
+        h.groups (omega (arith, c.loop-done-test.true, c.loop-done.auto.bytes)),
+      );
       counted = c.group.ensures.counted;
       count = omega (arith, c.group.ensures.count, part, h.count, h.whole, sum);
       plan = c.group.ensures.plan ∙ h.plan;
@@ -52,8 +59,14 @@ loop-done-preserved c =
           (rest_put done n old cur new within long h.rest);
       fed = λ given size is.
           let before : length (given ++ take done old) ≡ 188 * state.count =
-          omega (arith, length-append given (take done old), size,
-          length-take-le done old h.within, h.count, h.whole) in
+          omega (
+            arith,
+            length-append given (take done old),
+            size,
+            length-take-le done old h.within,
+            h.count,
+            h.whole,
+          ) in
           subst (λ k. IsFed (feeding c.args.self.now.plan.now) given (take k old) (HasFed c.group.new.self)
           (only (take k (put_mid done n cur new)))) sum
           (part_fed (feeding c.args.self.now.plan.now) given old cur new done n (HasFed state) (HasFed c.group.new.self)
