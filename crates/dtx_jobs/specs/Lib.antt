@@ -1,1 +1,13 @@
+pub mod Adapt
+pub mod Feed
+pub mod FeedFileLaws
+pub mod FeedLaws
+pub mod FirstOfLaws
+pub mod Hurt
+pub mod HurtLaws
+pub mod Make
+pub mod PacketFileLaws
+pub mod PastEnd
+pub mod PlanFile
+pub mod PlanFileLaws
 pub mod Shapes

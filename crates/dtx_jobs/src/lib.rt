@@ -1,6 +1,25 @@
 //! The commands of one stream or file: each a meaning, an engine that makes it, and one call.
 #![tactic(auto)]
 
+mod adapt_command;
+mod feeder;
+mod hurt_command;
+pub mod laws;
+mod laying;
+mod make_command;
+mod one_output;
+#[cfg(test)]
+mod one_output_tests;
+mod packet_bytes;
+mod past_end;
+mod plan_file;
 mod shapes;
 
+pub use adapt_command::adapt;
+pub use feeder::Feeder;
+pub use hurt_command::hurt;
+pub use make_command::make;
+pub use one_output::carry_to_one;
+pub use past_end::first_past;
+pub use plan_file::plan_in;
 pub use shapes::{PIECE_SEGMENTS, packets, segments, single_bytes, single_packets};

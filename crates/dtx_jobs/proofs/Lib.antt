@@ -1,0 +1,4 @@
+pub mod Feeding
+pub mod Making
+pub mod PacketBytes
+pub mod SmallFile
