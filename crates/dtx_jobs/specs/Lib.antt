@@ -1,1 +1,9 @@
+pub mod Damaged
+pub mod DamagedLaws
+pub mod Receive
+pub mod ReceiveLaws
+pub mod Reception
 pub mod Shapes
+pub mod SymbolFile
+pub mod SymbolFileLaws
+pub mod Tally
