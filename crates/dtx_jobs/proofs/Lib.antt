@@ -1,1 +1,2 @@
+pub mod BytesOf
 pub mod Tallied
