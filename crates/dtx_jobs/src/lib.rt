@@ -4,6 +4,8 @@
 mod damaged;
 mod reception;
 mod shapes;
+mod stream_coder;
+mod symbol_buffer;
 mod tally;
 
 pub use damaged::Damaged;
