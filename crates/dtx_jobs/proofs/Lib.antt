@@ -1,3 +1,4 @@
 pub mod BytesOf
+pub mod LifeOn
 pub mod StreamSymbols
 pub mod Tallied

@@ -2,6 +2,10 @@ pub mod Code
 pub mod CodeLaws
 pub mod Damaged
 pub mod DamagedLaws
+pub mod Excitation
+pub mod Excite
+pub mod ExciteLaws
+pub mod Life
 pub mod Receive
 pub mod ReceiveLaws
 pub mod Reception

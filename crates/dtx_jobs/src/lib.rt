@@ -2,6 +2,8 @@
 #![tactic(auto)]
 
 mod damaged;
+mod excitation;
+mod life_tally;
 mod reception;
 mod shapes;
 mod stream_coder;
