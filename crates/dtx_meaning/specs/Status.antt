@@ -1,5 +1,5 @@
 -- The codes of the statuses, what each is blamed on, and what a refusal below becomes.
-use Rattle.std.specs.Prelude.{ℕ, List, [], ◌∷◌, Result, Ok, Err}
+use Rattle.std.specs.Prelude.{ℕ, [], ◌∷◌, Result, Ok, Err}
 use Rattle.dtx_outside.specs.Counts.{Blame, Nothing, Wanting, Missing, Reading, Writing}
 use Rattle.dtx_outside.specs.declared.shelf.ReadNo.{ReadNo}
 use Rattle.dtx_outside.specs.declared.shelf.ReadNo.TheVariants as read
@@ -9,7 +9,9 @@ use Rattle.dtx_plan.specs.declared.refusal.PlanFault.{PlanFault}
 use Rattle.dtx_plan.specs.declared.refusal.PlanFault.TheVariants as plan
 use Rattle.dtx_meaning.specs.declared.status.Outcome.{Outcome}
 use Rattle.dtx_meaning.specs.declared.status.Status.{Status}
-use Rattle.dtx_meaning.specs.declared.status.Status.TheVariants.{Done, Usage, Same, Absent, Plan, Packet, TooLong, OutOfFeed, OutOfAir, NoSync, ReadFault, WriteFault, Memory}
+use Rattle.dtx_meaning.specs.declared.status.Status.TheVariants.{Done, Usage, Same, Absent, Plan, Packet, TooLong}
+use Rattle.dtx_meaning.specs.declared.status.Status.TheVariants.{OutOfFeed, OutOfAir, NoSync, ReadFault, WriteFault}
+use Rattle.dtx_meaning.specs.declared.status.Status.TheVariants.{Memory}
 
 -- the number with which the program ends
 abbrev pub code_of : Status → ℕ
@@ -47,7 +49,8 @@ of_plan plan.Memory = Memory
 
 -- ---- what an answer is blamed on
 
--- Which count a status is blamed on. Where it is blamed on nothing all counts stand; want of memory may be met behind another refusal, which
+-- Which count a status is blamed on. Where it is blamed on nothing all counts stand; want of memory may be met behind
+-- another refusal, which
 -- has raised its count.
 abbrev pub blame_of : Status → Blame
 blame_of (Absent input) = Missing
