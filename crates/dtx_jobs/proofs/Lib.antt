@@ -1,3 +1,4 @@
+pub mod Apart
 pub mod BytesOf
 pub mod LifeOn
 pub mod StreamSymbols

@@ -1,5 +1,5 @@
 -- What `excite` makes of a feed (the profile's own, over ATSC A/53 Part 2 and in the manner of ATSC A/110).
-use Rattle.std.specs.Prelude.{ℕ, ◌-◌, ◌^◌, true, if◌then◌else◌, is_some, List, [], ◌∷◌, Option, Some, None}
+use Rattle.std.specs.Prelude.{ℕ, true, if◌then◌else◌, is_some, List, [], ◌∷◌, Option, Some, None}
 use Rattle.std.specs.FinMap.{get}
 use Rattle.dtx_engine.specs.Made.{Made, only}
 use Rattle.dtx_engine.specs.Making.{Making, meaning}
@@ -34,14 +34,19 @@ exciting address delay = record {
   answer = λ bytes loose. excite_answer address delay (packets_of bytes) loose;
 }
 
--- what is meant where the words of the address and of the delay were read
-abbrev pub excite_with : Option ℕ → Option ℕ → List ℕ → List ℕ → List ℕ → Files → Meaning
-excite_with (Some address) (Some delay) feed output log held =
+-- what is meant with these files
+abbrev pub excite_at : ℕ → ℕ → List ℕ → List ℕ → List ℕ → Files → Meaning
+excite_at address delay feed output log held =
     if is_some (repeated (feed ∷ output ∷ log ∷ [])) then refused Same
     else meaning single_packets (exciting address delay) 0 (output ∷ log ∷ []) (get held feed)
-excite_with _ _ feed output log held = refused Usage
 
--- what `excite FEED ADDRESS DELAY OUT LOG` means
+-- what is meant where the words of the address and of the delay were read
+abbrev pub excite_with : Option ℕ → Option ℕ → List ℕ → List ℕ → List ℕ → Files → Meaning
+excite_with None delay feed output log held = refused Usage
+excite_with (Some address) None feed output log held = refused Usage
+excite_with (Some address) (Some delay) feed output log held = excite_at address delay feed output log held
+
+-- what `excite FEED ADDRESS DELAY OUT LOG` means: the address is at most 65,535, the delay at most 2^32 - 1
 abbrev pub excite_meaning : List (List ℕ) → Files → Meaning
 excite_meaning (verb ∷ feed ∷ address ∷ delay ∷ output ∷ log ∷ []) held =
     excite_with (number_in 65535 address) (number_in 4294967295 delay) feed output log held
