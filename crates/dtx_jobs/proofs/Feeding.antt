@@ -4,7 +4,7 @@ use Rattle.std.proofs.Common.{subst, ◌∙◌, arith}
 use Rattle.std.proofs.lemmas.List.{length-append, append_assoc, append-nil}
 use Rattle.std.proofs.lemmas.List.Sums.{length-filter, count_by-le-length}
 use Rattle.std.proofs.Math.Seq.{take-add}
-use Rattle.dtx_adapter.proofs.Feeds.{placeholders-append}
+use Rattle.dtx_adapter.specs.FeedsLaws.{placeholders-append}
 use Rattle.dtx_adapter.specs.Adapting.{StandsFor}
 use Rattle.dtx_adapter.specs.Feed.{is_placeholder, placeholders}
 use Rattle.dtx_engine.specs.Made.{Made, joined, only}

@@ -3,7 +3,7 @@ use Rattle.std.proofs.Common.{◌≡◌, ◌⊎◌, ℕ, ◌+◌, ◌-◌, ◌�
 use Rattle.std.proofs.Common.{arith, inl, inr}
 use Rattle.std.specs.Prelude.{Option}
 use Rattle.std.specs.List.{range_with_len}
-use Rattle.dtx_make.proofs.Streams.{made_stream_none, made_stream_more, made_stream-parts}
+use Rattle.dtx_make.specs.StreamsLaws.{made_stream_none, made_stream_more, made_stream-parts}
 use Rattle.dtx_make.specs.Made.{made_packet, made_stream}
 use Rattle.dtx_meaning.specs.Laws.{carried_part}
 use Rattle.dtx_meaning.specs.Meaning.{ArePartWritten, IsCarriedOut}

@@ -5,16 +5,16 @@ use Rattle.std.specs.List.{All, flat_map}
 use Rattle.std.proofs.lemmas.Bool.{cases_Bool, cond-true, cond-false}
 use Rattle.std.proofs.lemmas.List.{length-map, length-replicate, length-set}
 use Rattle.std.proofs.lemmas.List.Elements.{All-from_get_or, All-get_or}
-use Rattle.dtx_laws.proofs.Choice.{codeword_length}
+use Rattle.dtx_laws.specs.ChoiceLaws.{codeword_length}
 use Rattle.dtx_cadence.specs.Mark.{sync_at, marked}
 use Rattle.dtx_ops.specs.Spelling.{entry_bytes, times_bytes, head_bytes, data_of, spelling}
 use Rattle.dtx_ops.specs.declared.fields.Ops.{Ops}
-use Rattle.dtx_ops.proofs.Entries.{length-entries}
+use Rattle.dtx_ops.specs.EntriesLaws.{length-entries}
 use Rattle.dtx_packets.specs.Packets.{packets_of, whole_packets}
 use Rattle.dtx_plan.specs.Sound.{IsSound}
 use Rattle.dtx_plan.specs.declared.plan.Plan.{Plan}
 use Rattle.dtx_adapter.specs.Feed.{entry_of, is_placeholder, ops_at, counter_at, made, fed_packet, feed}
-use Rattle.dtx_adapter.proofs.Feeds.{length-feed, feed_packet}
+use Rattle.dtx_adapter.specs.FeedsLaws.{length-feed, feed_packet}
 use Rattle.dtx_jobs.specs.Feed.{feed_bytes}
 use Rattle.dtx_jobs.specs.PacketFileLaws.{IsLong, packets_of-bytes, whole_packets-bytes}
 

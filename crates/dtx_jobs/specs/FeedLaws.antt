@@ -1,7 +1,7 @@
 -- The feed of a stream grows with it.
 use Rattle.std.proofs.Common.{◌≡◌, ℕ, ◌%◌, List, [], ◌++◌, length, drop, refl, sym, ap, ◌∙◌}
 use Rattle.std.proofs.lemmas.Grind.{flat_map-append}
-use Rattle.dtx_adapter.proofs.Feeds.{feed_parts}
+use Rattle.dtx_adapter.specs.FeedsLaws.{feed_parts}
 use Rattle.dtx_adapter.specs.Feed.{feed, feed_to}
 use Rattle.dtx_engine.specs.Made.{AreFrontsOf, only}
 use Rattle.dtx_meaning.specs.Meaning.{IsFrontOf}
