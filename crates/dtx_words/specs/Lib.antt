@@ -1,3 +1,4 @@
 pub mod Names
 pub mod NetworkNames
 pub mod Number
+pub mod Rows

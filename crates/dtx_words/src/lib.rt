@@ -4,9 +4,11 @@
 mod names;
 mod network_names;
 mod number;
+mod rows;
 
 pub use names::{name_among, repeated_name};
 pub use network_names::{
     NETWORK_NAME, feed_name, log_name, names_differ, received_name, symbol_name,
 };
 pub use number::number_up_to;
+pub use rows::{Command, Field};
