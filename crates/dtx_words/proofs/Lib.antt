@@ -1,3 +1,4 @@
+pub mod FileNames
 pub mod NetworkNames
 pub mod Numbers
 pub mod Repeated

@@ -1,12 +1,14 @@
 //! The words of the command line, how a command ends, and the line that it prints.
 #![tactic(auto)]
 
+mod fitting;
 mod names;
 mod network_names;
 mod number;
 mod rows;
 
-pub use names::{name_among, repeated_name};
+pub use fitting::command;
+pub use names::{name_among, name_in_line, repeated_name};
 pub use network_names::{
     NETWORK_NAME, feed_name, log_name, names_differ, received_name, symbol_name,
 };
