@@ -2,12 +2,15 @@
 #![tactic(auto)]
 
 mod fitting;
+mod lines;
 mod names;
 mod network_names;
 mod number;
+mod put;
 mod rows;
 
 pub use fitting::command;
+pub use lines::{finish, line};
 pub use names::{name_among, name_in_line, repeated_name};
 pub use network_names::{
     NETWORK_NAME, feed_name, log_name, names_differ, received_name, symbol_name,
