@@ -1,4 +1,5 @@
 pub mod Fitting
+pub mod FittingLaws
 pub mod Line
 pub mod Names
 pub mod NetworkNames

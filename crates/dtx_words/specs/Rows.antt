@@ -1,10 +1,16 @@
 -- One row a command: its word, its fields, and the labels of its line.
-use Rattle.std.specs.Prelude.{ℕ, ◌-◌, ◌^◌, List, [], ◌∷◌, codes, map}
+use Rattle.std.specs.Prelude.{ℕ, ◌-◌, ◌^◌, Bool, true, false, not, ◌&&◌, List, [], ◌∷◌, codes, map}
+use Rattle.std.specs.List.{list_any}
 use Rattle.dtx_words.specs.declared.rows.Command.{Command}
 use Rattle.dtx_words.specs.declared.rows.Command.TheVariants.{Adapt, Code, Excite, Receive, Net, Make, Hurt}
 use Rattle.dtx_words.specs.declared.rows.CommandRow.{CommandRow}
 use Rattle.dtx_words.specs.declared.rows.Field.{Field}
 use Rattle.dtx_words.specs.declared.rows.Field.TheVariants.{Input, Output, Number}
+
+-- the field is the name of a file that is read
+abbrev pub is_input : Field → Bool
+is_input Input = true
+is_input _ = false
 
 -- all that is to be said of a command's words and of its line
 pub record Row : Type 0 where
@@ -98,6 +104,12 @@ row_behind row = record {
   labels = map (λ label. label.now) row.labels.now;
   fewest = row.fewest;
 }
+
+-- no file that is read stands behind one that is written
+abbrev pub are_inputs_first : List Field → Bool
+are_inputs_first [] = true
+are_inputs_first (Output ∷ fields) = not (list_any is_input fields) && are_inputs_first fields
+are_inputs_first (field ∷ fields) = are_inputs_first fields
 
 -- all commands, in the order of the usage line
 abbrev pub commands : List Command

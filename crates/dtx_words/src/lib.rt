@@ -2,6 +2,7 @@
 #![tactic(auto)]
 
 mod fitting;
+pub mod laws;
 mod lines;
 mod names;
 mod network_names;
