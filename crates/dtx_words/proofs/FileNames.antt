@@ -1,5 +1,6 @@
 -- The words at the fields of files, as far as a loop has come.
-use Rattle.std.proofs.Common.{◌≡◌, ℕ, ◌+◌, ◌≤◌, ◌<◌, suc, Bool, true, false, List, [], ◌∷◌, ◌++◌, length, map, drop, get_or}
+use Rattle.std.proofs.Common.{◌≡◌, ℕ, ◌+◌, ◌≤◌, ◌<◌, true, false, List, [], ◌∷◌, ◌++◌, length, map, drop}
+use Rattle.std.proofs.Common.{get_or}
 use Rattle.std.proofs.Common.{refl, sym, ap, ◌∙◌, arith, add-one, append_assoc}
 use Rattle.std.specs.Prelude.{min}
 use Rattle.std.specs.Borrow.{Bor}
@@ -15,8 +16,10 @@ abbrev pub names_from : List Field → List (List ℕ) → ℕ → List (List �
 names_from fields words i = names_at (drop i fields) (drop i words)
 
 -- a field of a file
-pub at_file : (fields : List Field) (words : List (List ℕ)) (i : ℕ) (d : Field) (e : List ℕ) → i < length fields → i < length words
-    → is_file (get_or fields i d) ≡ true → names_from fields words i ≡ get_or words i e ∷ names_from fields words (i + 1)
+pub at_file : (fields : List Field) (words : List (List ℕ)) (i : ℕ) (d : Field) (e : List ℕ) → i < length fields
+    → i < length words
+    → is_file (get_or fields i d) ≡ true
+    → names_from fields words i ≡ get_or words i e ∷ names_from fields words (i + 1)
 at_file fields words i d e first second is =
     rw (add-one, drop-cons fields i d first, drop-cons words i e second, is) refl
 
@@ -39,7 +42,8 @@ past_words : (fields : List Field) (words : List (List ℕ)) (n : ℕ) → lengt
 past_words fields words n within = rw (drop_of_length-le words {i = n} within) (names_at-no_words (drop n fields))
 
 -- behind the last field or word
-pub at_end : (fields : List Field) (words : List (List ℕ)) (n : ℕ) → min (length fields) (length words) ≤ n → names_from fields words n ≡ []
+pub at_end : (fields : List Field) (words : List (List ℕ)) (n : ℕ) → min (length fields) (length words) ≤ n
+    → names_from fields words n ≡ []
 at_end fields words n past = elim (cases_lt (length words) (length fields)) [
   | inr h ↦ past_fields fields words n (omega arith)
   | inl h ↦ past_words fields words n (omega arith)

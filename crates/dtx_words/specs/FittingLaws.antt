@@ -1,5 +1,5 @@
 -- Laws of the command that the words fit: it is the one that they fit, and there is no other.
-use Rattle.std.specs.Prelude.{◌≡◌, ℕ, Bool, true, false, ◌&&◌, cond, List, [], ◌∷◌, Option, Some, None, refl}
+use Rattle.std.specs.Prelude.{◌≡◌, ℕ, Bool, true, false, cond, List, [], ◌∷◌, Option, Some, None, refl}
 use Rattle.std.specs.List.{find}
 use Rattle.std.specs.Str.{bytes_eq}
 use Rattle.std.proofs.Common.{sym, ap, ◌∙◌, subst}
@@ -7,7 +7,7 @@ use Rattle.std.proofs.lemmas.Bool.{and_parts}
 use Rattle.std.proofs.lemmas.Slice.Eq.{bytes_eq-Decides}
 use Rattle.dtx_words.specs.declared.rows.Command.{Command}
 use Rattle.dtx_words.specs.declared.rows.Command.TheVariants.{Adapt, Code, Excite, Receive, Net, Make, Hurt}
-use Rattle.dtx_words.specs.Fitting.{fits, fit_fields, command_of}
+use Rattle.dtx_words.specs.Fitting.{fits, command_of}
 use Rattle.dtx_words.specs.Rows.{row_of, commands}
 
 -- no command passes
@@ -31,7 +31,8 @@ none_passes : (p : Command → Bool) (all : List Command) → find p all ≡ Non
 none_passes p [] is = tt
 none_passes p (first ∷ rest) is = tested (p first) refl (none_passes p rest) is
   where
-    tested : (b : Bool) → p first ≡ b → (find p rest ≡ None → DoAllFail p rest) → cond b (Some first) (find p rest) ≡ None
+    tested : (b : Bool) → p first ≡ b → (find p rest ≡ None → DoAllFail p rest)
+        → cond b (Some first) (find p rest) ≡ None
         → DoAllFail p (first ∷ rest)
     tested true passes further is = let e : Some first ≡ None = is in cc
     tested false fails further is = (fails, further is)
@@ -69,8 +70,8 @@ pub fits_only : (words : List (List ℕ)) (a b : Command) → fits a words ≡ t
 fits_only [] a b first second = let e : false ≡ true = first in cc
 fits_only (verb ∷ words) a b first second =
     let e : Some a ≡ Some b =
-        sym (named_by_verb a) ∙ ap command_named (sym (verb_is a verb words first) ∙ verb_is b verb words second)
-        ∙ named_by_verb b in
+    sym (named_by_verb a) ∙ ap command_named (sym (verb_is a verb words first) ∙ verb_is b verb words second)
+    ∙ named_by_verb b in
     cc
 
 -- the words fit the command that is found

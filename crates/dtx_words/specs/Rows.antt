@@ -55,7 +55,8 @@ abbrev pub receive_row : Row
 receive_row = record {
   verb = codes "receive";
   fields = Input ∷ Output ∷ [];
-  labels = codes "segments " ∷ codes " runs " ∷ codes " packets " ∷ codes " fixed " ∷ codes " flagged " ∷ codes " loose " ∷ [];
+  labels = codes "segments " ∷ codes " runs " ∷ codes " packets " ∷ codes " fixed " ∷ codes " flagged " ∷ codes
+      " loose " ∷ [];
   fewest = 6;
 }
 
@@ -64,7 +65,8 @@ abbrev pub net_row : Row
 net_row = record {
   verb = codes "net";
   fields = Input ∷ [];
-  labels = codes "feed " ∷ codes " filled " ∷ codes " steps " ∷ codes " packets " ∷ codes " fixed " ∷ codes " flagged " ∷ [];
+  labels = codes "feed " ∷ codes " filled " ∷ codes " steps " ∷ codes " packets " ∷ codes " fixed " ∷ codes
+      " flagged " ∷ [];
   fewest = 3;
 }
 

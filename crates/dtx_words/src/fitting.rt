@@ -23,9 +23,7 @@ fn fits(command: Command, words: &[Word]) -> bool
 {
     let row = row(command);
     match words {
-        [verb, arguments @ ..] => {
-            verb.as_str() == row.verb && fit_fields(row.fields, arguments)
-        }
+        [verb, arguments @ ..] => { verb.as_str() == row.verb && fit_fields(row.fields, arguments) }
         [] => false,
     }
 }
@@ -38,9 +36,7 @@ fn fit_fields(fields: &[Field], words: &[Word]) -> bool
         [] => words.is_empty(),
         [field, fields @ ..] => match words {
             [] => false,
-            [word, words @ ..] => {
-                fits_field(*field, word.as_str()) && fit_fields(fields, words)
-            }
+            [word, words @ ..] => { fits_field(*field, word.as_str()) && fit_fields(fields, words) }
         },
     }
 }

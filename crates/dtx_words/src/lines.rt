@@ -12,7 +12,8 @@ use dtx_meaning::{Outcome, Status};
 use dtx_outside::{Sink, SinkNo};
 use itoa::Buffer;
 
-/// Prints the line of an outcome: for `Done` the labels of the command's row with their numbers, as many as it shows; else that of the
+/// Prints the line of an outcome: for `Done` the labels of the command's row with their numbers, as many as it shows;
+/// else that of the
 /// refusal, where `Same` and `Absent` have that name. After a refusal of the sink a front part of the line was printed.
 pub fn line<O: Sink>(
     command: Option<Command>,
@@ -56,7 +57,8 @@ fn labels(command: Option<Command>, shown: usize) -> &'static [&'static str]
 /// Prints each label, and its number behind it.
 fn put_numbered<O: Sink>(labels: &[&str], numbers: &[u64], out: &mut O) -> Result<(), SinkNo>
     requires { length labels.now ≤ length numbers.now }
-    ensures written { IsPut (numbered (map (λ label. label.now) labels.now) numbers.now) (O.written out.old) result (O.written out.new) }
+    ensures written { IsPut (numbered (map (λ label. label.now) labels.now) numbers.now) (O.written out.old) result
+        (O.written out.new) }
     ensures gone { IsCounted (O.faults out.old) result (O.faults out.new) }
 {
     for (i, label) in labels.iter().enumerate() {

@@ -9,8 +9,8 @@ pub returns-in_err-put_number-clause-written : goal.returns-in_err-put_number-cl
 returns-in_err-put_number-clause-written g c =
     let p = err_from_is_err_and c.from_residual.result c.from_residual.ensures.1 in
     rw p.1 (so_far_refused _ _ _ _ c.in_err-put_number.field-0.0 _ _ _
-        (numbered_next c.args.labels.now c.args.numbers.now c.loop-i.i _ (omega arith) (omega arith))
-        c.loop-i.invariant.written c.in_err-put_number.ensures.written)
+    (numbered_next c.args.labels.now c.args.numbers.now c.loop-i.i _ (omega arith) (omega arith))
+    c.loop-i.invariant.written c.in_err-put_number.ensures.written)
 
 pub loop-i-preserved : goal.loop-i-preserved
 loop-i-preserved g c = record {

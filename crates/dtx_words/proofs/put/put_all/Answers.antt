@@ -9,4 +9,8 @@ returns-in_err-put-clause-written g c =
     let p = err_from_is_err_and c.from_residual.result c.from_residual.ensures.1 in
     let i = c.loop-piece.piece-index in
     let value = c.as_bytes.ensures.value in
-    rw p.1 (put_all_refused (text_of c.args.pieces.now) (text_of (take i c.args.pieces.now)) _ (text_of (drop (suc i) c.args.pieces.now)) c.in_err-put.field-0.0 _ _ _ (text_of-split c.args.pieces.now i _ (omega arith) ∙ ap (λ z. text_of (take i c.args.pieces.now) ++ (z ++ text_of (drop (suc i) c.args.pieces.now))) (sym value)) c.loop-piece.invariant.written c.in_err-put.ensures.written)
+    rw p.1 (put_all_refused (text_of c.args.pieces.now) (text_of (take i c.args.pieces.now)) _
+    (text_of (drop (suc i) c.args.pieces.now)) c.in_err-put.field-0.0 _ _ _
+    (text_of-split c.args.pieces.now i _ (omega arith)
+    ∙ ap (λ z. text_of (take i c.args.pieces.now) ++ (z ++ text_of (drop (suc i) c.args.pieces.now))) (sym value))
+    c.loop-piece.invariant.written c.in_err-put.ensures.written)
