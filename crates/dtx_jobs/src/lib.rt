@@ -11,11 +11,12 @@ mod reception;
 mod shapes;
 mod stream_coder;
 mod symbol_buffer;
+pub mod symbol_laws;
 mod tally;
 
 pub use code_command::code;
 pub use damaged::Damaged;
 pub use excite_command::excite;
 pub use receive_command::receive;
-pub use reception::Reception;
+pub use reception::{MOST_SEGMENTS, Reception};
 pub use shapes::{PIECE_SEGMENTS, packets, segments, single_bytes, single_packets};
