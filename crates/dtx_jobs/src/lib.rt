@@ -20,3 +20,6 @@ pub use excite_command::excite;
 pub use receive_command::receive;
 pub use reception::{MOST_SEGMENTS, Reception};
 pub use shapes::{PIECE_SEGMENTS, packets, segments, single_bytes, single_packets};
+
+#[cfg(test)]
+mod symbol_tests;
