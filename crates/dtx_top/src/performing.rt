@@ -1,11 +1,11 @@
 // The command that the words fit, but for its line.
-ghost use Rattle.std.specs.Prelude.{◌≡◌, Some, IfSome};
+ghost use Rattle.std.specs.Prelude.{◌≡◌, None, Some, IfSome};
 ghost use Rattle.dtx_outside.specs.Counts.{HasGone};
 ghost use Rattle.dtx_meaning.specs.Meaning.{IsCarriedOut};
 ghost use Rattle.dtx_meaning.specs.Status.{blame_of};
 ghost use Rattle.dtx_words.specs.Names.{line_name};
 ghost use Rattle.dtx_top.specs.Ends.{HasHeadlineOf};
-ghost use Rattle.dtx_top.specs.Lines.{names_told, IsSomeName};
+ghost use Rattle.dtx_top.specs.Lines.{name_kept, names_told, IsSomeName};
 ghost use Rattle.dtx_top.specs.Means.{means_of};
 
 use crate::stand::{NetOutcome, adapt, net};
@@ -22,11 +22,15 @@ pub(crate) fn perform<S: Shelf>(
     words: &[Word],
     shelf: &mut S,
 ) -> NetOutcome
-    ensures carried { IfSome (S.files shelf.old) (λ held. IsCarriedOut (means_of command words.now held) (Some held) result.outcome (S.files shelf.new)) }
+    ensures carried { IfSome (S.files shelf.old) (λ held. IsCarriedOut (means_of command words.now held)
+        (Some held) result.outcome (S.files shelf.new)) }
     ensures gone { HasGone (S.counts shelf.old) (S.counts shelf.new) (blame_of result.outcome.status) }
     ensures name { command ≡ Some Command.Net → IfSome (S.files shelf.old) (λ held.
-        result.name.bytes ≡ line_name result.outcome.status (names_told command words.now held)) }
-    ensures untold_name { command ≡ Some Command.Net → IsSomeName command words.now result.outcome.status result.name.bytes }
+        name_kept command words.now result.outcome.status result.name.bytes
+        ≡ line_name result.outcome.status (names_told command words.now held)) }
+    ensures untold_name { command ≡ Some Command.Net → IsSomeName command words.now result.outcome.status
+        (name_kept command words.now result.outcome.status result.name.bytes) }
+    ensures usage { command ≡ None → (result.outcome.status ≡ Status.Usage) × (S.files shelf.new ≡ S.files shelf.old) }
     ensures headline { IfSome (S.files shelf.old) (λ held. result.outcome.status ≡ Status.Done
         → HasHeadlineOf command words.now held (S.files shelf.new)) }
 {
