@@ -1,4 +1,1 @@
-pub mod Feeds
-pub mod Making
 pub mod Coding
-pub mod Readings

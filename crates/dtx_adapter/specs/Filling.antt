@@ -6,7 +6,8 @@ use Rattle.dtx_ops.specs.declared.fields.Ops.{Ops}
 use Rattle.dtx_plan.specs.declared.plan.Plan.{Plan}
 use Rattle.dtx_adapter.specs.Feed.{entry_of, placeholders}
 
--- the tick at which the feed starts, the states before the group, the maximum delay, the transmitters, and the next packet's counter
+-- the tick at which the feed starts, the states before the group, the maximum delay, the transmitters, and the next
+-- packet's counter
 pub record Filling : Type 0 where
   pub start : ℕ
   pub states : List ℕ
@@ -25,7 +26,8 @@ said filling k = record {
   offsets = record { items = filling.entries };
 }
 
--- What is said can be read: start and maximum delay are below one second of 10,000,000 ticks, the addresses differ, and the counter
+-- What is said can be read: start and maximum delay are below one second of 10,000,000 ticks, the addresses differ, and
+-- the counter
 -- is of four bits.
 pub record IsReadable (ticks delay count : ℕ) (transmitters : List Entry) : Type 0 where
   pub start : ticks < 10000000

@@ -1,5 +1,6 @@
 // An adapter.
-ghost use Rattle.std.specs.Prelude.{◌≡◌, ◌==◌, ◌<◌, ◌≤◌, ◌+◌, ◌*◌, ◌/◌, ◌%◌, ◌++◌, [], ℕ, List, All, IfOk, length, map, take, drop};
+ghost use Rattle.std.specs.Prelude.{◌≡◌, ◌==◌, ◌<◌, ◌≤◌, ◌+◌, ◌*◌, ◌/◌, ◌%◌, ◌++◌, [], ℕ, List, All, IfOk, length, map};
+ghost use Rattle.std.specs.Prelude.{take, drop};
 ghost use Rattle.dtx_coder.specs.Groups as groups;
 ghost use Rattle.dtx_coder.specs.Stream.{states};
 ghost use Rattle.dtx_ops.specs.Spelling.{IsEntry};
@@ -16,7 +17,8 @@ use dtx_plan::Plan;
 use dtx_trellis::FIELD;
 use std::alloc::{AllocError, Global};
 
-/// An adapter. It is given the packets of a stream in order, and makes those of its feed of them (the profile's own, in the manner of
+/// An adapter. It is given the packets of a stream in order, and makes those of its feed of them (the profile's own, in
+/// the manner of
 /// ATSC A/110).
 #[derive(Drop)]
 pub struct Adapter {
@@ -53,8 +55,10 @@ impl Adapter {
         self.given % GROUP_PACKETS as u64 == 0
     }
 
-    /// Turns the next packets of the stream into those of the feed, and answers how many placeholders it filled. They are a group of
-    /// four, or at the end of the stream fewer, and all packets of a stream are at most 624,000,000. Takes no memory, and refuses
+    /// Turns the next packets of the stream into those of the feed, and answers how many placeholders it filled. They
+    /// are a group of
+    /// four, or at the end of the stream fewer, and all packets of a stream are at most 624,000,000. Takes no memory,
+    /// and refuses
     /// nothing.
     pub fn group(&mut self, packets: &mut [Packet]) -> u8
         requires some { 0 < length packets.old }
@@ -80,7 +84,8 @@ impl Adapter {
         requires few { length packets.now ≤ GROUP_PACKETS }
         requires open { self.old.given % GROUP_PACKETS ≡ 0 }
         ensures coder { (fed : List (List ℕ)) → length fed ≡ self.old.given → groups.StandsFor self.old.coder fed
-            → groups.StandsFor self.new.coder (take (GROUP_PACKETS * ((length fed + length packets.now) / GROUP_PACKETS)) (fed ++ map (λ p. p.0) packets.now)) }
+            → groups.StandsFor self.new.coder (take
+            (GROUP_PACKETS * ((length fed + length packets.now) / GROUP_PACKETS)) (fed ++ map (λ p. p.0) packets.now)) }
         ensures filler { self.new.filler ≡ self.old.filler }
         ensures given { self.new.given ≡ self.old.given }
     {
@@ -90,15 +95,18 @@ impl Adapter {
     }
 }
 
-/// Makes the packets of a group of the stream those of the feed, the first of which has that index, and answers how many placeholders
+/// Makes the packets of a group of the stream those of the feed, the first of which has that index, and answers how
+/// many placeholders
 /// were filled.
 fn make_group(filler: &mut Filler, first: u64, packets: &mut [Packet]) -> u8
     requires few { length packets.old ≤ GROUP_PACKETS }
     requires most { first + length packets.old ≤ MOST_PACKETS }
-    ensures fed { (plan : Plan) (stream : List (List ℕ)) → Fills plan filler.old stream → length stream ≡ first → first % GROUP_PACKETS ≡ 0
+    ensures fed { (plan : Plan) (stream : List (List ℕ)) → Fills plan filler.old stream → length stream ≡ first
+        → first % GROUP_PACKETS ≡ 0
         → filler.old.states ≡ states (feed plan stream)
         → map (λ p. p.0) packets.new ≡ drop (length stream) (feed plan (stream ++ map (λ p. p.0) packets.old)) }
-    ensures fills { (plan : Plan) (stream : List (List ℕ)) → Fills plan filler.old stream → Fills plan filler.new (stream ++ map (λ p. p.0) packets.old) }
+    ensures fills { (plan : Plan) (stream : List (List ℕ)) → Fills plan filler.old stream
+        → Fills plan filler.new (stream ++ map (λ p. p.0) packets.old) }
     ensures filled { result ≡ placeholders (map (λ p. p.0) packets.old) }
     ensures long { length packets.new ≡ length packets.old }
 {
@@ -114,7 +122,8 @@ fn make_group(filler: &mut Filler, first: u64, packets: &mut [Packet]) -> u8
 /// Codes the group whose first packet has that index, from the states that the group before it left.
 fn code_group(coder: &mut Coder, first: u64, packets: &[Packet; GROUP_PACKETS], air: &mut Air)
     requires { first % GROUP_PACKETS ≡ 0 }
-    ensures { (fed : List (List ℕ)) → length fed ≡ first → groups.StandsFor coder.old fed → groups.StandsFor coder.new (fed ++ map (λ p. p.0) packets.now) }
+    ensures { (fed : List (List ℕ)) → length fed ≡ first → groups.StandsFor coder.old fed
+        → groups.StandsFor coder.new (fed ++ map (λ p. p.0) packets.now) }
 {
     let place = (first % FIELD as u64) as u16;
     let second = first % (2 * FIELD as u64) >= FIELD as u64;

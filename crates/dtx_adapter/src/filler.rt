@@ -20,13 +20,15 @@ use std::marker::Model;
 /// How many counters there are.
 const COUNTERS: u8 = 16;
 
-/// Makes packets of a feed of those of a stream: sets their sync bytes, and fills placeholders (the profile's own, in the manner of
+/// Makes packets of a feed of those of a stream: sets their sync bytes, and fills placeholders (the profile's own, in
+/// the manner of
 /// ATSC A/110). It is seen as what the operations packets say, and the counter of the next one.
 #[derive(Drop)]
 pub(crate) struct Filler {
     /// The tick at which the feed starts, below 10,000,000.
     start: u32,
-    /// What the operations packets say. Maximum delay and transmitters stay, the states are set for each group, all else for each packet.
+    /// What the operations packets say. Maximum delay and transmitters stay, the states are set for each group, all
+    /// else for each packet.
     ops: Ops,
     code: Rs<184, 164>,
     /// How many placeholders were filled, modulo 16.
@@ -38,7 +40,13 @@ impl Model for Filler {
 
     ghost Value = { Filling };
 
-    ghost view = { λ f. record { start = f.start; states = f.ops.states; max_delay = f.ops.max_delay; entries = f.ops.offsets.items; counter = f.counter } };
+    ghost view = { λ f. record {
+      start = f.start;
+      states = f.ops.states;
+      max_delay = f.ops.max_delay;
+      entries = f.ops.offsets.items;
+      counter = f.counter;
+    } };
 
     ghost invariant = { λ f. IsReadable f.start f.ops.max_delay f.counter f.ops.offsets.items };
 }
@@ -71,7 +79,10 @@ impl Filler {
         requires { index < MOST_PACKETS }
         ensures made { packet.new.0 ≡ made (said self.old index) self.old.counter index packet.old.0 }
         ensures placeholder { result ≡ is_placeholder packet.old.0 }
-        ensures counted { self.new ≡ record self.old { counter = if is_placeholder packet.old.0 then (self.old.counter + 1) % COUNTERS else self.old.counter } }
+        ensures counted { self.new ≡ record self.old {
+          counter = if is_placeholder packet.old.0 then
+              (self.old.counter + 1) % COUNTERS else self.old.counter;
+        } }
     {
         if packet.pid() == OPERATIONS {
             self.fill(index, packet);

@@ -1,2 +1,1 @@
-pub mod NextAnchor
 pub mod NextPlace

@@ -1,12 +1,15 @@
--- The anchor of the packets that were given, as their sync bytes tell it (the profile's own). A packet is a mark where its sync
+-- The anchor of the packets that were given, as their sync bytes tell it (the profile's own). A packet is a mark where
+-- its sync
 -- byte is 0xB8; all other sync bytes are alike.
-use Rattle.std.specs.Prelude.{ℕ, ◌≡◌, ◌<◌, ◌+◌, ◌-◌, ◌%◌, ◌==◌, Bool, Option, Some, None, find, option_map, if◌then◌else◌, List, [], ◌∷◌, ◌++◌, length, slice_index}
+use Rattle.std.specs.Prelude.{ℕ, ◌≡◌, ◌<◌, ◌+◌, ◌-◌, ◌%◌, ◌==◌, Bool, Option, Some, None, find, option_map}
+use Rattle.std.specs.Prelude.{if◌then◌else◌, List, [], ◌∷◌, ◌++◌, length, slice_index}
 use Rattle.std.specs.List.{range_with_len, list_all}
 use mathlib.Core.Bool.{beq}
 use Rattle.dtx_cadence.specs.declared.anchor.Seen.{Seen}
 use Rattle.dtx_cadence.specs.declared.anchor.Seen.TheVariants.{Free, Start, Moved, Lost, At}
 
--- a sync byte is in step with a mark that stands so many packets before it: it is a mark exactly where 624 divides that number
+-- a sync byte is in step with a mark that stands so many packets before it: it is a mark exactly where 624 divides that
+-- number
 abbrev pub in_step : ℕ → ℕ → Bool
 in_step sync distance = beq (sync == 0xB8) (distance % 624 == 0)
 
@@ -18,7 +21,8 @@ keeps_step syncs j = list_all (λ m. in_step (slice_index syncs (j + m)) m) (ran
 unfoldable pub anchor : List ℕ → Option ℕ
 anchor syncs = find (keeps_step syncs) (range_with_len 0 (length syncs))
 
--- where one more sync byte is given behind n of them: what the anchor before it and the anchor with it say of its packet
+-- where one more sync byte is given behind n of them: what the anchor before it and the anchor with it say of its
+-- packet
 abbrev pub seen_by : ℕ → Option ℕ → Option ℕ → Seen
 seen_by n None None = Free
 seen_by n None (Some j) = Start

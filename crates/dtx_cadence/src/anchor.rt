@@ -21,7 +21,8 @@ pub enum Seen {
     At(u16),
 }
 
-/// The anchor of the packets of which it was told: the first packet from which on the marks stand exactly at each 624th (the
+/// The anchor of the packets of which it was told: the first packet from which on the marks stand exactly at each 624th
+/// (the
 /// profile's own). It is seen as the place of the next packet, or none.
 #[derive(Drop)]
 pub struct Anchor {

@@ -1,7 +1,10 @@
--- Damage of a stream's symbols as they are received, and how much of it a receiver undoes (the profile's own; what is sent is that
--- of ATSC A/53 Part 2). A packet is its list of 188 bytes, a segment the list of its 832 symbols. The segments of a stream are
+-- Damage of a stream's symbols as they are received, and how much of it a receiver undoes (the profile's own; what is
+-- sent is that
+-- of ATSC A/53 Part 2). A packet is its list of 188 bytes, a segment the list of its 832 symbols. The segments of a
+-- stream are
 -- counted from 0, and its field syncs are segments 0, 313, 626 and so on.
-use Rattle.std.specs.Prelude.{ℕ, ℤ, pos, ◌≡◌, ◌+◌, ◌-◌, ◌*◌, ◌/◌, ◌%◌, ◌<◌, ◌≤◌, ◌==◌, if◌then◌else◌, true, List, [], length, map, drop, sum, filter, EachIndex, slice_index_or, slice_range}
+use Rattle.std.specs.Prelude.{ℕ, ℤ, pos, ◌≡◌, ◌+◌, ◌-◌, ◌*◌, ◌/◌, ◌%◌, ◌<◌, ◌≤◌, ◌==◌, if◌then◌else◌, true, List, []}
+use Rattle.std.specs.Prelude.{length, map, drop, sum, filter, EachIndex, slice_index_or, slice_range}
 use Rattle.std.specs.List.{range_with_len}
 use Rattle.dtx_laws.specs.Codeword.{distance}
 use Rattle.dtx_laws.specs.Words.{codeword}
@@ -27,7 +30,11 @@ IsNear packets k word = distance word (codeword_at packets k) ≤ 10
 
 -- packet k, received good, where the bytes put right are those in which the word differs from its codeword
 unfoldable pub as_corrected : List (List ℕ) → ℕ → List ℕ → Received
-as_corrected packets k word = record { packet = record { 0 = with_sync (slice_index_or packets k []) }; fixed = distance word (codeword_at packets k); good = true }
+as_corrected packets k word = record {
+  packet = record { 0 = with_sync (slice_index_or packets k []) };
+  fixed = distance word (codeword_at packets k);
+  good = true;
+}
 
 -- ---- symbols
 
@@ -72,6 +79,8 @@ pub record IsSlight (packets : List (List ℕ)) (first : ℕ) (sent got : List (
   -- Each field sync looks like one as it was received.
   pub syncs : (i : ℕ) → i < length sent → (first + i) % 313 ≡ 0 → looks_at got i ≡ true
   -- No data segment before the first field sync has more than 31 damaged symbols among its first 515.
-  pub before : (i : ℕ) → i < length sent → i < to_sync first → damaged (slice_index_or sent i []) (slice_index_or got i []) ≤ 31
+  pub before : (i : ℕ) → i < length sent → i < to_sync first
+      → damaged (slice_index_or sent i []) (slice_index_or got i []) ≤ 31
   -- Each word of the run from the first field sync on whose bytes are all there is near the codeword of its packet.
-  pub words : (j : ℕ) → IsComplete 207 52 4 (828 * groups_of (from_sync first got)) j → IsNear packets (packet_behind first + j) (word_in first got j)
+  pub words : (j : ℕ) → IsComplete 207 52 4 (828 * groups_of (from_sync first got)) j
+      → IsNear packets (packet_behind first + j) (word_in first got j)

@@ -1,2 +1,9 @@
 pub mod Undamaged
 pub mod Damage
+pub mod NumbersLaws
+pub mod WordsLaws
+pub mod SlightLaws
+pub mod AllBackLaws
+pub mod PlacesLaws
+pub mod UndamagedLaws
+pub mod LevelsLaws

@@ -1,7 +1,9 @@
-//! Laws of the definitions: undamaged symbols are one run, and its packets are those that were sent; a word with few wrong bytes
+//! Laws of the definitions: undamaged symbols are one run, and its packets are those that were sent; a word with few
+//! wrong bytes
 //! gives its packet back.
 
-ghost use Rattle.std.specs.Prelude.{◌≡◌, ℕ, ℤ, ◌≢◌, ◌+◌, ◌*◌, ◌/◌, ◌%◌, ◌<◌, ◌≤◌, Bool, true, List, [], ◌∷◌, length, map, slice_index_or};
+ghost use Rattle.std.specs.Prelude.{◌≡◌, ℕ, ℤ, ◌≢◌, ◌+◌, ◌*◌, ◌/◌, ◌%◌, ◌<◌, ◌≤◌, Bool, true, List, [], ◌∷◌, length};
+ghost use Rattle.std.specs.Prelude.{map, slice_index_or};
 ghost use Rattle.std.specs.List.{list_all};
 ghost use Rattle.dtx_frame.specs.Segments.{field_sync};
 ghost use Rattle.dtx_coder.specs.Stream.{a53, levels, segment};
@@ -9,7 +11,8 @@ ghost use Rattle.dtx_outer.specs.Inner.{IsComplete, word_at};
 ghost use Rattle.dtx_receiver.specs.Packets.{all_packets, packets_of, received, received_at};
 ghost use Rattle.dtx_receiver.specs.declared.batch.Received.{Received};
 ghost use Rattle.dtx_receiver.specs.Runs.{runs};
-ghost use Rattle.dtx_chain.specs.Damage.{AreReceived, IsNear, IsSlight, as_corrected, from_sync, numbers_in, packet_behind, to_sync, word_in};
+ghost use Rattle.dtx_chain.specs.Damage.{AreReceived, IsNear, IsSlight, as_corrected, from_sync, numbers_in};
+ghost use Rattle.dtx_chain.specs.Damage.{packet_behind, to_sync, word_in};
 ghost use Rattle.dtx_chain.specs.Undamaged.{ArePackets, as_sent, whole_words, with_sync};
 
 use dtx_coder::GROUP_PACKETS;
@@ -18,52 +21,75 @@ use dtx_trellis::FIELD;
 /// How many segments a field has: its field sync and its data segments (ATSC A/53 Part 2).
 const FIELD_SEGMENTS: usize = 313;
 
-/// The undamaged symbols of packets that make at least one whole group are received as one run. Each packet whose bytes are all
+/// The undamaged symbols of packets that make at least one whole group are received as one run. Each packet whose bytes
+/// are all
 /// there comes back, in order, with 0x47 as its sync byte; none is flagged, and no byte was put right.
 pub fn received_undamaged()
     ensures run { (packets : List (List ℕ)) → GROUP_PACKETS ≤ length packets → runs (a53 packets) ≡ a53 packets ∷ [] }
-    ensures good { (packets : List (List ℕ)) → GROUP_PACKETS ≤ length packets → ArePackets packets → all_packets (a53 packets) ≡ map (as_sent packets) (whole_words packets) }
+    ensures good { (packets : List (List ℕ)) → GROUP_PACKETS ≤ length packets → ArePackets packets
+        → all_packets (a53 packets) ≡ map (as_sent packets) (whole_words packets) }
     ensures packets { (packets : List (List ℕ)) → GROUP_PACKETS ≤ length packets → ArePackets packets
         → received (a53 packets) ≡ map (λ k. with_sync (slice_index_or packets k [])) (whole_words packets) }
 {}
 
-/// Word j of the bytes of any run gives packet f + j of a stream back, received good and with 0x47 as its sync byte, wherever the
-/// word differs from that packet's codeword in at most ten bytes: those are the bytes put right. Packet f begins a field, as the
-/// packet behind a field sync does. The bytes of the run may be any numbers, and as many or as few as they are. Where all bytes of
+/// Word j of the bytes of any run gives packet f + j of a stream back, received good and with 0x47 as its sync byte,
+/// wherever the
+/// word differs from that packet's codeword in at most ten bytes: those are the bytes put right. Packet f begins a
+/// field, as the
+/// packet behind a field sync does. The bytes of the run may be any numbers, and as many or as few as they are. Where
+/// all bytes of
 /// word j are there, its packet is number j of those that the run gives.
 pub fn gives_back()
-    ensures packet { (packets : List (List ℕ)) (bytes : List ℕ) (f j : ℕ) → ArePackets packets → f % FIELD ≡ 0 → f + j < length packets → IsNear packets (f + j) (word_at 207 52 4 bytes j)
+    ensures packet { (packets : List (List ℕ)) (bytes : List ℕ) (f j : ℕ) → ArePackets packets → f % FIELD ≡ 0
+        → f + j < length packets → IsNear packets (f + j) (word_at 207 52 4 bytes j)
         → received_at bytes j ≡ as_corrected packets (f + j) (word_at 207 52 4 bytes j) }
-    ensures place { (bytes : List ℕ) (j : ℕ) (other : Received) → IsComplete 207 52 4 (length bytes) j → slice_index_or (packets_of bytes) j other ≡ received_at bytes j }
+    ensures place { (bytes : List ℕ) (j : ℕ) (other : Received) → IsComplete 207 52 4 (length bytes) j
+        → slice_index_or (packets_of bytes) j other ≡ received_at bytes j }
 {}
 
-/// Where the symbols of segments in a row of a stream are received with slight damage, and a field sync is among them, they are
-/// one run, which begins with their first field sync. Its packets are exactly those of the stream from the one behind that field
+/// Where the symbols of segments in a row of a stream are received with slight damage, and a field sync is among them,
+/// they are
+/// one run, which begins with their first field sync. Its packets are exactly those of the stream from the one behind
+/// that field
 /// sync on whose bytes are all there, in order, each good and with 0x47 as its sync byte.
 pub fn gives_all_back()
-    ensures run { (packets : List (List ℕ)) (first : ℕ) (sent got : List (List ℤ)) → AreReceived packets first sent got → to_sync first < length sent → IsSlight packets first sent got
+    ensures run { (packets : List (List ℕ)) (first : ℕ) (sent got : List (List ℤ)) → AreReceived packets first sent got
+        → to_sync first < length sent → IsSlight packets first sent got
         → runs got ≡ from_sync first got ∷ [] }
-    ensures packets { (packets : List (List ℕ)) (first : ℕ) (sent got : List (List ℤ)) → AreReceived packets first sent got → to_sync first < length sent → IsSlight packets first sent got → ArePackets packets
-        → received got ≡ map (λ j. with_sync (slice_index_or packets (packet_behind first + j) [])) (numbers_in (from_sync first got)) }
-    ensures good { (packets : List (List ℕ)) (first : ℕ) (sent got : List (List ℤ)) → AreReceived packets first sent got → to_sync first < length sent → IsSlight packets first sent got → ArePackets packets
-        → all_packets got ≡ map (λ j. as_corrected packets (packet_behind first + j) (word_in first got j)) (numbers_in (from_sync first got)) }
-    ensures unflagged { (packets : List (List ℕ)) (first : ℕ) (sent got : List (List ℤ)) → AreReceived packets first sent got → to_sync first < length sent → IsSlight packets first sent got → ArePackets packets
+    ensures packets { (packets : List (List ℕ)) (first : ℕ) (sent got : List (List ℤ))
+        → AreReceived packets first sent got → to_sync first < length sent → IsSlight packets first sent got
+        → ArePackets packets
+        → received got ≡ map (λ j. with_sync (slice_index_or packets (packet_behind first + j) []))
+        (numbers_in (from_sync first got)) }
+    ensures good { (packets : List (List ℕ)) (first : ℕ) (sent got : List (List ℤ)) → AreReceived packets first sent got
+        → to_sync first < length sent → IsSlight packets first sent got → ArePackets packets
+        → all_packets got ≡ map (λ j. as_corrected packets (packet_behind first + j) (word_in first got j))
+        (numbers_in (from_sync first got)) }
+    ensures unflagged { (packets : List (List ℕ)) (first : ℕ) (sent got : List (List ℤ))
+        → AreReceived packets first sent got → to_sync first < length sent → IsSlight packets first sent got
+        → ArePackets packets
         → list_all (λ r. r.good) (all_packets got) ≡ true }
 {}
 
-/// Undamaged symbols are slightly damaged ones: those of a whole stream are segments in a row from its first field sync on, and meet
+/// Undamaged symbols are slightly damaged ones: those of a whole stream are segments in a row from its first field sync
+/// on, and meet
 /// each condition.
 pub fn no_damage()
     ensures received { (packets : List (List ℕ)) → AreReceived packets 0 (a53 packets) (a53 packets) }
-    ensures slight { (packets : List (List ℕ)) → GROUP_PACKETS ≤ length packets → ArePackets packets → IsSlight packets 0 (a53 packets) (a53 packets) }
+    ensures slight { (packets : List (List ℕ)) → GROUP_PACKETS ≤ length packets → ArePackets packets
+        → IsSlight packets 0 (a53 packets) (a53 packets) }
 {}
 
-/// Where the segments of a stream stand that these definitions count on. Its field syncs are those at multiples of 313, segment k
-/// of its packets stands k + k / 312 + 1 places behind its first, and so `to_sync` leads to the first field sync from any segment
+/// Where the segments of a stream stand that these definitions count on. Its field syncs are those at multiples of 313,
+/// segment k
+/// of its packets stands k + k / 312 + 1 places behind its first, and so `to_sync` leads to the first field sync from
+/// any segment
 /// on, and `packet_behind` is the packet whose segment follows it and begins a field.
 pub fn places()
-    ensures sync { (packets : List (List ℕ)) (n : ℕ) → n < length (a53 packets) → n % FIELD_SEGMENTS ≡ 0 → (second : Bool) × (last : List ℤ) × (slice_index_or (a53 packets) n [] ≡ field_sync second last) }
-    ensures segment { (packets : List (List ℕ)) (k : ℕ) → k < GROUP_PACKETS * (length packets / GROUP_PACKETS) → slice_index_or (a53 packets) (k + k / FIELD + 1) [] ≡ segment (levels packets) k }
+    ensures sync { (packets : List (List ℕ)) (n : ℕ) → n < length (a53 packets) → n % FIELD_SEGMENTS ≡ 0
+        → (second : Bool) × (last : List ℤ) × (slice_index_or (a53 packets) n [] ≡ field_sync second last) }
+    ensures segment { (packets : List (List ℕ)) (k : ℕ) → k < GROUP_PACKETS * (length packets / GROUP_PACKETS)
+        → slice_index_or (a53 packets) (k + k / FIELD + 1) [] ≡ segment (levels packets) k }
     ensures first { (first : ℕ) → (first + to_sync first) % FIELD_SEGMENTS ≡ 0 }
     ensures none { (first i : ℕ) → i < to_sync first → (first + i) % FIELD_SEGMENTS ≢ 0 }
     ensures behind { (first : ℕ) → packet_behind first + packet_behind first / FIELD ≡ first + to_sync first }

@@ -3,4 +3,8 @@
 
 pub mod laws;
 #[cfg(test)]
+mod outer_blocks;
+#[cfg(test)]
+mod outer_ways;
+#[cfg(test)]
 mod tests;

@@ -26,7 +26,8 @@ fn group(u: usize) -> [Packet; GROUP_PACKETS] {
     ]
 }
 
-/// Whether what a batch holds are the packets of the stream from this one on, all good and none corrected. Answers how many.
+/// Whether what a batch holds are the packets of the stream from this one on, all good and none corrected. Answers how
+/// many.
 fn expect_sent(batch: &Batch, from: usize) -> Option<usize> {
     let mut k = from;
     for received in batch.packets.as_slice() {

@@ -1,6 +1,8 @@
--- Stamps, holds and moments (the profile's own). A second has 10,000,000 ticks, and a tick 1,539 grains. The symbol rate is
+-- Stamps, holds and moments (the profile's own). A second has 10,000,000 ticks, and a tick 1,539 grains. The symbol
+-- rate is
 -- 4.5 MHz * 684 / 286 (ATSC A/53 Part 2), so a symbol lasts 1,430 grains, a segment 1,189,760 and a frame 744,789,760.
-use Rattle.std.specs.Prelude.{◌≡◌, ℕ, ◌+◌, ◌*◌, ◌/◌, ◌%◌, nat_lt, if◌then◌else◌, ℤ, pos, ◌+ℤ◌, ◌-ℤ◌, ◌*ℤ◌, ◌<ℤ◌, Result, Ok, Err, unsigned_abs}
+use Rattle.std.specs.Prelude.{◌≡◌, ℕ, ◌+◌, ◌*◌, ◌/◌, ◌%◌, nat_lt, if◌then◌else◌, ℤ, pos, ◌+ℤ◌, ◌-ℤ◌, ◌*ℤ◌, ◌<ℤ◌, Result}
+use Rattle.std.specs.Prelude.{Ok, Err, unsigned_abs}
 use Rattle.std.specs.Int.{int_rem_euclid}
 use Rattle.dtx_clock.specs.declared.answers.Late.{Late}
 use Rattle.dtx_clock.specs.declared.answers.Moment.{Moment}
@@ -9,12 +11,14 @@ use Rattle.dtx_clock.specs.declared.answers.Moment.{Moment}
 abbrev pub stamp_of : ℕ → ℕ → ℕ
 stamp_of start frame = (start * 1539 + frame * 744789760) / 1539 % 10000000
 
--- what is left of the sum of maximum delay and offset behind the delay, or late where the delay is greater than that sum
+-- what is left of the sum of maximum delay and offset behind the delay, or late where the delay is greater than that
+-- sum
 abbrev pub IsHold : ℕ → ℤ → ℕ → Result ℕ Late → Type 0
 IsHold max offset delay (Ok left) = pos left ≡ (pos max +ℤ offset -ℤ pos delay)
 IsHold max offset delay (Err late) = (pos max +ℤ offset) <ℤ pos delay
 
--- how many segments of its frame stand before the data segment of packet j: j, and a field sync before packet 0 and packet 312
+-- how many segments of its frame stand before the data segment of packet j: j, and a field sync before packet 0 and
+-- packet 312
 abbrev pub segment_of : ℕ → ℕ
 segment_of j = if nat_lt j 312 then j + 1 else j + 2
 
@@ -28,7 +32,10 @@ grains_of stamp max offset j = unsigned_abs (int_rem_euclid (count_of stamp max 
 
 -- that moment, in ticks and grains
 abbrev pub moment_of : ℕ → ℕ → ℤ → ℕ → Moment
-moment_of stamp max offset j = record { tick = grains_of stamp max offset j / 1539; grain = grains_of stamp max offset j % 1539 }
+moment_of stamp max offset j = record {
+  tick = grains_of stamp max offset j / 1539;
+  grain = grains_of stamp max offset j % 1539;
+}
 
 -- x and y differ by d grains and some whole seconds
 abbrev pub DifferBy : ℕ → ℕ → ℤ → Type 0

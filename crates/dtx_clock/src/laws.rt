@@ -3,10 +3,12 @@
 ghost use Rattle.std.specs.Prelude.{◌≡◌, ℕ, ◌+◌, ◌*◌, ◌<◌, ℤ, pos, ◌-ℤ◌, ◌*ℤ◌};
 ghost use Rattle.dtx_clock.specs.Clock.{grains_of, moment_of, DifferBy};
 
-/// The moments of one packet at two transmitters differ by the difference of their offsets, in ticks of 1539 grains, and
+/// The moments of one packet at two transmitters differ by the difference of their offsets, in ticks of 1539 grains,
+/// and
 /// otherwise by whole seconds.
 pub fn moments_differ_by_offsets()
-    ensures { (stamp max place : ℕ) (a b : ℤ) → DifferBy (grains_of stamp max a place) (grains_of stamp max b place) ((a -ℤ b) *ℤ pos 1539) }
+    ensures { (stamp max place : ℕ) (a b : ℤ)
+        → DifferBy (grains_of stamp max a place) (grains_of stamp max b place) ((a -ℤ b) *ℤ pos 1539) }
 {}
 
 /// A moment's ticks and grains are within a second and a tick, and tell its grains.
@@ -14,5 +16,6 @@ pub fn moments_are_within_a_second()
     ensures tick { (stamp max place : ℕ) (offset : ℤ) → (moment_of stamp max offset place).tick < 10000000 }
     ensures grain { (stamp max place : ℕ) (offset : ℤ) → (moment_of stamp max offset place).grain < 1539 }
     ensures grains { (stamp max place : ℕ) (offset : ℤ)
-        → (moment_of stamp max offset place).tick * 1539 + (moment_of stamp max offset place).grain ≡ grains_of stamp max offset place }
+        → (moment_of stamp max offset place).tick * 1539 + (moment_of stamp max offset place).grain
+        ≡ grains_of stamp max offset place }
 {}

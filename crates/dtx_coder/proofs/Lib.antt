@@ -1,15 +1,2 @@
-pub mod RangeMoved
-pub mod Slices
-pub mod Bytes
-pub mod Levels
-pub mod Segments
-pub mod Stream
-pub mod Next
-pub mod Align
 pub mod Packets
 pub mod Sent
-pub mod Counts
-pub mod Runs
-pub mod Settled
-pub mod Kept
-pub mod Along

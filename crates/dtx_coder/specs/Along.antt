@@ -1,4 +1,5 @@
--- A coder that runs along with a stream from an anchor: it is aligned there, whatever it was given before, then gets the groups
+-- A coder that runs along with a stream from an anchor: it is aligned there, whatever it was given before, then gets
+-- the groups
 -- of the packets from there on, and at some of them preset states. Packet 0 is the anchor's, and begins a first field.
 use Rattle.std.specs.Prelude.{ℕ, ◌≡◌, ◌-◌, ◌*◌, ◌%◌, ◌<◌, ◌≤◌, List, length, drop}
 use Rattle.dtx_laws.specs.Branches.{Branching, HasWidths, spreading, aligned, leaving_all, after_all}
@@ -7,7 +8,8 @@ use Rattle.dtx_coder.specs.Coded.{coded, whole_groups}
 use Rattle.dtx_coder.specs.Stream.{segment, last_of}
 use Rattle.dtx_coder.specs.Groups.{Coding, Group}
 
--- the levels of these packets from group g on, where the coders begin there in the states q, and the states behind the last one
+-- the levels of these packets from group g on, where the coders begin there in the states q, and the states behind the
+-- last one
 unfoldable pub levels_since : ℕ → List ℕ → List (List ℕ) → List ℕ
 levels_since g q packets = levels_of (4 * g % 312) q (drop (828 * g) (whole_groups packets))
 
@@ -24,7 +26,8 @@ pub record IsNext (packets : List (List ℕ)) (q : List ℕ) (group : Group) : T
   pub four : length group.packets ≡ 4
   pub states : group.from ≡ q
 
--- The coder was given the groups of these packets since the align, and group g was the last one with preset states, which were
+-- The coder was given the groups of these packets since the align, and group g was the last one with preset states,
+-- which were
 -- q. Where none were preset yet, g is 0 and q are the states that it had at the align.
 pub record RunsAlong (packets : List (List ℕ)) (g : ℕ) (q : List ℕ) (coder : Coding) : Type 0 where
   pub held : Branching
@@ -33,4 +36,6 @@ pub record RunsAlong (packets : List (List ℕ)) (g : ℕ) (q : List ℕ) (coder
   pub begun : 4 * g ≤ length packets
   pub branches : coder.branches ≡ after_all 52 (aligned held) (coded packets)
   pub states : coder.states ≡ states_after (4 * g % 312) q (left_since held g packets)
-  pub last : 4 * g < length packets → coder.last ≡ last_of (segment (levels_of (4 * g % 312) q (left_since held g packets)) (length packets - 4 * g - 1))
+  pub last : 4 * g < length packets
+      → coder.last ≡ last_of (segment (levels_of (4 * g % 312) q (left_since held g packets))
+      (length packets - 4 * g - 1))

@@ -1,5 +1,6 @@
 -- A group coder as contracts see it: what a group is sent as, and what the coder holds behind it.
-use Rattle.std.specs.Prelude.{ℕ, ℤ, ◌≡◌, ◌↔◌, ◌*◌, ◌/◌, ◌%◌, ◌≤◌, Bool, IsTrue, if◌then◌else◌, List, [], ◌∷◌, ◌++◌, length, take}
+use Rattle.std.specs.Prelude.{ℕ, ℤ, ◌≡◌, ◌↔◌, ◌*◌, ◌/◌, ◌%◌, ◌≤◌, Bool, IsTrue, if◌then◌else◌, List, [], ◌∷◌, ◌++◌}
+use Rattle.std.specs.Prelude.{length, take}
 use Rattle.std.specs.List.{flat_map}
 use Rattle.dtx_frame.specs.Segments.{field_sync}
 use Rattle.dtx_laws.specs.Branches.{Branching, HasWidths, spreading, zeroed, aligned, leaving_all, after_all}
@@ -7,7 +8,8 @@ use Rattle.dtx_outer.specs.Outer.{Held}
 use Rattle.dtx_trellis.specs.Groups.{levels_of, states_after}
 use Rattle.dtx_whiten.specs.Randomizer.{randomizer_bytes}
 use Rattle.dtx_coder.specs.Coded.{coded_from, coded}
-use Rattle.dtx_coder.specs.Stream.{zero_states, states, segment, four_segments, last_of, no_last, last_before, symbols_of}
+use Rattle.dtx_coder.specs.Stream.{zero_states, states, segment, four_segments, last_of, no_last, last_before}
+use Rattle.dtx_coder.specs.Stream.{symbols_of}
 
 -- the state numbers of trellis coders 0 to 11, the last twelve symbols given, and the interleaver's branches
 pub record Coding : Type 0 where
@@ -27,7 +29,8 @@ new_coding = record { states = zero_states; last = no_last; branches = zero_bran
 abbrev pub aligned_coding : Coding → Coding
 aligned_coding coder = record coder { branches = aligned coder.branches }
 
--- A group: the place of its first packet in a field, whether this is a second field, whether a field sync stands before it, the
+-- A group: the place of its first packet in a field, whether this is a second field, whether a field sync stands before
+-- it, the
 -- states from which it is coded, and its packets.
 pub record Group : Type 0 where
   pub first : ℕ
@@ -44,7 +47,8 @@ bytes_of coder group = leaving_all 52 coder.branches (coded_from group.first gro
 unfoldable pub group_levels : Coding → Group → List ℕ
 group_levels coder group = levels_of group.first group.from (bytes_of coder group)
 
--- the group's segments: a field sync, where it stands there, whose end are the last twelve symbols given before; and four data segments
+-- the group's segments: a field sync, where it stands there, whose end are the last twelve symbols given before; and
+-- four data segments
 unfoldable pub segments_of : Coding → Group → List (List ℤ)
 segments_of coder group =
     (if group.sync then field_sync group.second coder.last ∷ [] else []) ++ four_segments (group_levels coder group) 0

@@ -1,5 +1,7 @@
--- Groups that a coder is given one after another, from any states and whatever its branches hold (ATSC A/53 Part 2, trellis coding).
-use Rattle.std.specs.Prelude.{ℕ, ℤ, ◌≡◌, ◌-◌, ◌*◌, ◌<◌, ◌==◌, if◌then◌else◌, ⊤, EachIndex, List, [], ◌∷◌, ◌++◌, length, slice_index}
+-- Groups that a coder is given one after another, from any states and whatever its branches hold (ATSC A/53 Part 2,
+-- trellis coding).
+use Rattle.std.specs.Prelude.{ℕ, ℤ, ◌≡◌, ◌-◌, ◌*◌, ◌<◌, ◌==◌, if◌then◌else◌, ⊤, EachIndex, List, [], ◌∷◌, ◌++◌, length}
+use Rattle.std.specs.Prelude.{slice_index}
 use Rattle.std.specs.List.{enumerate_from, flat_map}
 use Rattle.dtx_frame.specs.Segments.{field_sync}
 use Rattle.dtx_trellis.specs.Pairs.{group_place}
@@ -40,12 +42,14 @@ pub record IsRun (s : ℕ) (q : List ℕ) (coder : Coding) (groups : List Group)
   pub in_turn : AreInTurn s groups
   pub go_on : GoOn q coder groups
 
--- the last twelve symbols before group i of a run whose levels are zs: those of the data segment before it, and before the run
+-- the last twelve symbols before group i of a run whose levels are zs: those of the data segment before it, and before
+-- the run
 -- those that were given last
 unfoldable pub last_in : List ℤ → List ℕ → ℕ → List ℤ
 last_in last zs i = if i == 0 then last else last_of (segment zs (4 * i - 1))
 
--- group i of the run: data segments 4 * i to 4 * i + 3 of its levels, behind a field sync where one stands before the group
+-- group i of the run: data segments 4 * i to 4 * i + 3 of its levels, behind a field sync where one stands before the
+-- group
 unfoldable pub run_group : List ℤ → List ℕ → ℕ × Group → List (List ℤ)
 run_group last zs p =
     (if p.1.sync then field_sync p.1.second (last_in last zs p.0) ∷ [] else []) ++ four_segments zs (4 * p.0)

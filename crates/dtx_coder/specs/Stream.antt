@@ -1,6 +1,8 @@
--- The segments of a stream of packets (ATSC A/53 Part 2). Packets are counted from 0, and packet 0 begins a first field.
+-- The segments of a stream of packets (ATSC A/53 Part 2). Packets are counted from 0, and packet 0 begins a first
+-- field.
 -- Only whole groups of four packets are sent.
-use Rattle.std.specs.Prelude.{ℕ, ℤ, negsuc, ◌+◌, ◌-◌, ◌*◌, ◌/◌, ◌%◌, ◌==◌, nat_le, if◌then◌else◌, List, [], ◌∷◌, ◌++◌, length, map, drop, replicate, slice_range}
+use Rattle.std.specs.Prelude.{ℕ, ℤ, negsuc, ◌+◌, ◌-◌, ◌*◌, ◌/◌, ◌%◌, ◌==◌, nat_le, if◌then◌else◌, List, [], ◌∷◌, ◌++◌}
+use Rattle.std.specs.Prelude.{length, map, drop, replicate, slice_range}
 use Rattle.std.specs.List.{range_with_len, flat_map}
 use Rattle.dtx_frame.specs.Segments.{data_segment, field_sync}
 use Rattle.dtx_trellis.specs.Groups.{levels_of, states_after}
@@ -38,7 +40,8 @@ no_last = replicate 12 (negsuc 6)
 unfoldable pub last_before : List (List ℕ) → ℕ → List ℤ
 last_before packets u = if u == 0 then no_last else last_of (segment (levels packets) (4 * u - 1))
 
--- the field sync before group u, where the group begins a field: that of a second field where packet 4 * u stands in the
+-- the field sync before group u, where the group begins a field: that of a second field where packet 4 * u stands in
+-- the
 -- second half of its 624 (data field sync)
 unfoldable pub sync_before : List (List ℕ) → ℕ → List (List ℤ)
 sync_before packets u =

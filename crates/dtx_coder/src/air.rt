@@ -1,6 +1,7 @@
 //! What a group is sent as.
 
-ghost use Rattle.std.specs.Prelude.{◌≡◌, ◌+◌, ◌-◌, ◌*◌, ◌<◌, ◌≤◌, [], ◌++◌, if◌then◌else◌, EachIndex, drop, length, slice_index, take};
+ghost use Rattle.std.specs.Prelude.{◌≡◌, ◌+◌, ◌-◌, ◌*◌, ◌<◌, ◌≤◌, [], ◌++◌, if◌then◌else◌, EachIndex, drop, length};
+ghost use Rattle.std.specs.Prelude.{slice_index, take};
 ghost use Rattle.dtx_frame.specs.Segments.{data_segment, field_sync};
 ghost use Rattle.dtx_coder.specs.Stream.{four_segments, symbols_of};
 
@@ -37,7 +38,8 @@ impl Air {
     /// No segments, but for a field sync where `sync` is set.
     pub(crate) fn begin(&mut self, sync: bool, second: bool, last: &[i8; LAST])
         ensures segments { self.new.segments ≡ (if sync then 1 else 0) }
-        ensures symbols { take (SEGMENT * self.new.segments) self.new.symbols ≡ (if sync then field_sync second last.now else []) }
+        ensures symbols { take (SEGMENT * self.new.segments) self.new.symbols
+            ≡ (if sync then field_sync second last.now else []) }
     {
         self.segments = 0;
         if sync {
@@ -51,7 +53,8 @@ impl Air {
         requires room { self.old.segments < 2 }
         requires levels { EachIndex levels.now (λ d. slice_index levels.now d < 8) }
         ensures segments { self.new.segments ≡ self.old.segments + GROUP_PACKETS }
-        ensures symbols { take (SEGMENT * self.new.segments) self.new.symbols ≡ take (SEGMENT * self.old.segments) self.old.symbols ++ symbols_of (four_segments levels.now 0) }
+        ensures symbols { take (SEGMENT * self.new.segments) self.new.symbols
+            ≡ take (SEGMENT * self.old.segments) self.old.symbols ++ symbols_of (four_segments levels.now 0) }
     {
         let (parts, _) = levels.as_chunks::<SEGMENT_LEVELS>();
         for part in parts {
@@ -63,7 +66,8 @@ impl Air {
     pub(crate) fn last(&self) -> [i8; LAST]
         requires some { 0 < self.now.segments }
         requires few { self.now.segments ≤ MOST_SEGMENTS }
-        ensures { result ≡ drop (SEGMENT * self.now.segments - LAST) (take (SEGMENT * self.now.segments) self.now.symbols) }
+        ensures { result ≡ drop (SEGMENT * self.now.segments - LAST)
+            (take (SEGMENT * self.now.segments) self.now.symbols) }
     {
         let end = SEGMENT * self.segments as usize;
         let mut last = [0; LAST];
@@ -76,7 +80,8 @@ impl Air {
         requires room { self.old.segments < MOST_SEGMENTS }
         requires levels { EachIndex levels.now (λ d. slice_index levels.now d < 8) }
         ensures segments { self.new.segments ≡ self.old.segments + 1 }
-        ensures symbols { take (SEGMENT * self.new.segments) self.new.symbols ≡ take (SEGMENT * self.old.segments) self.old.symbols ++ data_segment levels.now }
+        ensures symbols { take (SEGMENT * self.new.segments) self.new.symbols
+            ≡ take (SEGMENT * self.old.segments) self.old.symbols ++ data_segment levels.now }
     {
         let at = SEGMENT * self.segments as usize;
         write_data(levels, &mut self.symbols[at..at + SEGMENT]);

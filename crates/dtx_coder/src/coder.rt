@@ -16,7 +16,8 @@ use std::alloc::{AllocError, Global};
 use std::marker::Model;
 
 /// Codes the packets of a stream, four at a time, to the symbols of their segments (ATSC A/53 Part 2).
-/// It is seen as the states of its twelve trellis coders, the last twelve symbols that it gave, and the interleaver's branches.
+/// It is seen as the states of its twelve trellis coders, the last twelve symbols that it gave, and the interleaver's
+/// branches.
 #[derive(Drop)]
 pub struct Coder {
     outer: OuterCoding,
@@ -46,7 +47,8 @@ impl Coder {
         })
     }
 
-    /// What every coder holds, whatever was done with it: branch i of the interleaver's 52 has 4 * i bytes, there are twelve
+    /// What every coder holds, whatever was done with it: branch i of the interleaver's 52 has 4 * i bytes, there are
+    /// twelve
     /// states, each below 8, and twelve last symbols.
     pub fn known(&self)
         ensures branches { HasWidths BRANCHES (spreading BRANCH_STEP) self.now.branches }
@@ -74,8 +76,10 @@ impl Coder {
         self.outer.align();
     }
 
-    /// Codes the four packets at the places `first` to `first` + 3 of a first or a second field: from the states of `preset`, or
-    /// else from those that the last group left. Gives their four data segments, where `sync` is set behind a field sync that
+    /// Codes the four packets at the places `first` to `first` + 3 of a first or a second field: from the states of
+    /// `preset`, or
+    /// else from those that the last group left. Gives their four data segments, where `sync` is set behind a field
+    /// sync that
     /// ends with the last twelve symbols given before.
     pub fn group(
         &mut self,
@@ -89,7 +93,13 @@ impl Coder {
         requires in_field { first < FIELD }
         requires whole { first % GROUP_PACKETS ≡ 0 }
         requires begins { IsTrue sync → first ≡ 0 }
-        ensures { let given : Group = record { first = first; second = second; sync = sync; from = unwrap_or preset self.old.states; packets = map (λ p. p.0) packets.now } in
+        ensures { let given : Group = record {
+          first = first;
+          second = second;
+          sync = sync;
+          from = unwrap_or preset self.old.states;
+          packets = map (λ p. p.0) packets.now;
+        } in
             IsCoded self.old given self.new air.new.segments air.new.symbols }
     {
         let mut bytes = [0; GROUP_BYTES];

@@ -1,13 +1,15 @@
 //! Laws of the definitions: a coder that is given a stream's groups one after another gives the segments of the stream.
 
-ghost use Rattle.std.specs.Prelude.{◌≡◌, ℕ, ◌+◌, ◌-◌, ◌*◌, ◌/◌, ◌%◌, ◌<◌, ◌≤◌, if◌then◌else◌, ◌++◌, [], List, EachIndex, length, take, drop, slice_index_or, slice_range};
+ghost use Rattle.std.specs.Prelude.{◌≡◌, ℕ, ◌+◌, ◌-◌, ◌*◌, ◌/◌, ◌%◌, ◌<◌, ◌≤◌, if◌then◌else◌, ◌++◌, [], List};
+ghost use Rattle.std.specs.Prelude.{EachIndex, length, take, drop, slice_index_or, slice_range};
 ghost use Rattle.std.specs.List.{range_with_len, flat_map};
 ghost use Rattle.dtx_laws.specs.Branches.{HasWidths, spreading};
 ghost use Rattle.dtx_laws.specs.Interleaving.{IsInterleavedBehind, interleaved};
 ghost use Rattle.dtx_trellis.specs.Groups.{levels_of, states_after};
 ghost use Rattle.dtx_coder.specs.Coded.{whole_groups};
 ghost use Rattle.dtx_coder.specs.Stream.{levels, states, four_segments, group_segments, a53, a53_symbols};
-ghost use Rattle.dtx_coder.specs.Groups.{Coding, Group, StandsFor, IsNextGroup, new_coding, aligned_coding, after_group, segments_of, coded_groups, bytes_of_groups};
+ghost use Rattle.dtx_coder.specs.Groups.{Coding, Group, StandsFor, IsNextGroup, new_coding, aligned_coding};
+ghost use Rattle.dtx_coder.specs.Groups.{after_group, segments_of, coded_groups, bytes_of_groups};
 ghost use Rattle.dtx_coder.specs.Runs.{AreStates};
 
 pub mod runs;
@@ -23,69 +25,94 @@ pub fn nothing_given()
     ensures segments { a53 [] ≡ [] }
 {}
 
-/// A coder that stands for some packets stands, behind their next group, for these packets too, and gives the segments by which
+/// A coder that stands for some packets stands, behind their next group, for these packets too, and gives the segments
+/// by which
 /// the stream is longer.
 pub fn next_group()
-    ensures stands { (coder : Coding) (packets : List (List ℕ)) (group : Group) → StandsFor coder packets → IsNextGroup packets coder.states group
+    ensures stands { (coder : Coding) (packets : List (List ℕ)) (group : Group) → StandsFor coder packets
+        → IsNextGroup packets coder.states group
         → StandsFor (after_group coder group) (packets ++ group.packets) }
-    ensures segments { (coder : Coding) (packets : List (List ℕ)) (group : Group) → StandsFor coder packets → IsNextGroup packets coder.states group
+    ensures segments { (coder : Coding) (packets : List (List ℕ)) (group : Group) → StandsFor coder packets
+        → IsNextGroup packets coder.states group
         → a53 (packets ++ group.packets) ≡ a53 packets ++ segments_of coder group }
 {}
 
 /// The segments of a stream begin with those of its first groups, and packets behind the last whole group add none.
 pub fn fronts()
     ensures front { (packets : List (List ℕ)) (u : ℕ) → GROUP_PACKETS * u ≤ length packets
-        → a53 packets ≡ a53 (take (GROUP_PACKETS * u) packets) ++ flat_map (group_segments packets) (range_with_len u (length packets / GROUP_PACKETS - u)) }
-    ensures whole { (packets : List (List ℕ)) → a53 packets ≡ a53 (take (GROUP_PACKETS * (length packets / GROUP_PACKETS)) packets) }
+        → a53 packets ≡ a53 (take (GROUP_PACKETS * u) packets)
+        ++ flat_map (group_segments packets) (range_with_len u (length packets / GROUP_PACKETS - u)) }
+    ensures whole { (packets : List (List ℕ))
+        → a53 packets ≡ a53 (take (GROUP_PACKETS * (length packets / GROUP_PACKETS)) packets) }
 {}
 
-/// From group u on the coders go on from the states that the groups before it leave, and so the segments of group u are those
+/// From group u on the coders go on from the states that the groups before it leave, and so the segments of group u are
+/// those
 /// of its own 828 bytes from these states.
 pub fn goes_on()
     ensures levels { (packets : List (List ℕ)) (u : ℕ) → GROUP_PACKETS * u ≤ length packets
-        → levels packets ≡ levels (take (GROUP_PACKETS * u) packets) ++ levels_of (GROUP_PACKETS * u % FIELD) (states (take (GROUP_PACKETS * u) packets)) (drop (GROUP_BYTES * u) (whole_groups packets)) }
+        → levels packets ≡ levels (take (GROUP_PACKETS * u) packets)
+        ++ levels_of (GROUP_PACKETS * u % FIELD) (states (take (GROUP_PACKETS * u) packets))
+        (drop (GROUP_BYTES * u) (whole_groups packets)) }
     ensures states { (packets : List (List ℕ)) (u : ℕ) → GROUP_PACKETS * u ≤ length packets
-        → states packets ≡ states_after (GROUP_PACKETS * u % FIELD) (states (take (GROUP_PACKETS * u) packets)) (drop (GROUP_BYTES * u) (whole_groups packets)) }
+        → states packets ≡ states_after (GROUP_PACKETS * u % FIELD) (states (take (GROUP_PACKETS * u) packets))
+        (drop (GROUP_BYTES * u) (whole_groups packets)) }
     ensures segments { (packets : List (List ℕ)) (u : ℕ) → GROUP_PACKETS * u + GROUP_PACKETS ≤ length packets
         → four_segments (levels packets) (GROUP_PACKETS * u)
-        ≡ four_segments (levels_of (GROUP_PACKETS * u % FIELD) (states (take (GROUP_PACKETS * u) packets)) (slice_range (whole_groups packets) (GROUP_BYTES * u) (GROUP_BYTES * u + GROUP_BYTES))) 0 }
+        ≡ four_segments (levels_of (GROUP_PACKETS * u % FIELD) (states (take (GROUP_PACKETS * u) packets))
+        (slice_range (whole_groups packets) (GROUP_BYTES * u) (GROUP_BYTES * u + GROUP_BYTES))) 0 }
 {}
 
 /// How many segments and symbols a stream has: four for each group, and a field sync for each 78 groups that are begun.
 pub fn counts()
-    ensures segments { (packets : List (List ℕ)) → length (a53 packets) ≡ GROUP_PACKETS * (length packets / GROUP_PACKETS) + (length packets / GROUP_PACKETS + 77) / 78 }
-    ensures long { (packets : List (List ℕ)) → EachIndex (a53 packets) (λ n. length (slice_index_or (a53 packets) n []) ≡ SEGMENT) }
+    ensures segments { (packets : List (List ℕ))
+        → length (a53 packets) ≡ GROUP_PACKETS * (length packets / GROUP_PACKETS) +
+        (length packets / GROUP_PACKETS + 77) / 78 }
+    ensures long { (packets : List (List ℕ))
+        → EachIndex (a53 packets) (λ n. length (slice_index_or (a53 packets) n []) ≡ SEGMENT) }
     ensures symbols { (packets : List (List ℕ)) → length (a53_symbols packets) ≡ SEGMENT * length (a53 packets) }
 {}
 
-/// Behind an align, whatever the coder held, the bytes that leave the interleaver are those of the groups given since, each at
+/// Behind an align, whatever the coder held, the bytes that leave the interleaver are those of the groups given since,
+/// each at
 /// the place of the map, and where the map's source lies before them a byte that the branches held.
 pub fn behind_align()
     ensures { (coder : Coding) (groups : List Group) → HasWidths BRANCHES (spreading BRANCH_STEP) coder.branches
-        → IsInterleavedBehind BRANCHES BRANCH_STEP coder.branches.lists (coded_groups groups) (bytes_of_groups (aligned_coding coder) groups) }
+        → IsInterleavedBehind BRANCHES BRANCH_STEP coder.branches.lists (coded_groups groups)
+        (bytes_of_groups (aligned_coding coder) groups) }
 {}
 
-/// Behind an align, whatever the coder held, the bytes that leave as packet 52 and each later one come are those of the packets
-/// given since, and no byte from before is among them: so it is of the 828 bytes of each group whose first packet is packet 52
+/// Behind an align, whatever the coder held, the bytes that leave as packet 52 and each later one come are those of the
+/// packets
+/// given since, and no byte from before is among them: so it is of the 828 bytes of each group whose first packet is
+/// packet 52
 /// since or a later one.
 pub fn settled()
-    ensures bytes { (coder : Coding) (groups : List Group) (n : ℕ) → HasWidths BRANCHES (spreading BRANCH_STEP) coder.branches → CODEWORD * SETTLED_PACKETS ≤ n
-        → drop n (bytes_of_groups (aligned_coding coder) groups) ≡ drop n (interleaved BRANCHES BRANCH_STEP (coded_groups groups)) }
-    ensures group { (coder : Coding) (groups : List Group) (u : ℕ) → HasWidths BRANCHES (spreading BRANCH_STEP) coder.branches → SETTLED_PACKETS ≤ GROUP_PACKETS * u
+    ensures bytes { (coder : Coding) (groups : List Group) (n : ℕ)
+        → HasWidths BRANCHES (spreading BRANCH_STEP) coder.branches → CODEWORD * SETTLED_PACKETS ≤ n
+        → drop n (bytes_of_groups (aligned_coding coder) groups)
+        ≡ drop n (interleaved BRANCHES BRANCH_STEP (coded_groups groups)) }
+    ensures group { (coder : Coding) (groups : List Group) (u : ℕ)
+        → HasWidths BRANCHES (spreading BRANCH_STEP) coder.branches → SETTLED_PACKETS ≤ GROUP_PACKETS * u
         → slice_range (bytes_of_groups (aligned_coding coder) groups) (GROUP_BYTES * u) (GROUP_BYTES * u + GROUP_BYTES)
-        ≡ slice_range (interleaved BRANCHES BRANCH_STEP (coded_groups groups)) (GROUP_BYTES * u) (GROUP_BYTES * u + GROUP_BYTES) }
+        ≡ slice_range (interleaved BRANCHES BRANCH_STEP (coded_groups groups)) (GROUP_BYTES * u)
+        (GROUP_BYTES * u + GROUP_BYTES) }
 {}
 
 /// A group of four packets has five segments where a field sync stands before it, else four, of 832 symbols each.
 pub fn group_counts()
-    ensures segments { (coder : Coding) (group : Group) → length (segments_of coder group) ≡ (if group.sync then MOST_SEGMENTS else GROUP_PACKETS) }
+    ensures segments { (coder : Coding) (group : Group)
+        → length (segments_of coder group) ≡ (if group.sync then MOST_SEGMENTS else GROUP_PACKETS) }
     ensures long { (coder : Coding) (group : Group) → length group.packets ≡ GROUP_PACKETS → length coder.last ≡ LAST
         → EachIndex (segments_of coder group) (λ n. length (slice_index_or (segments_of coder group) n []) ≡ SEGMENT) }
 {}
 
-/// What stays of a coder's parts with each group of four packets: twelve states, twelve last symbols, branches of their widths.
+/// What stays of a coder's parts with each group of four packets: twelve states, twelve last symbols, branches of their
+/// widths.
 pub fn kept()
     ensures states { (coder : Coding) (group : Group) → AreStates (after_group coder group).states }
-    ensures last { (coder : Coding) (group : Group) → length group.packets ≡ GROUP_PACKETS → length (after_group coder group).last ≡ LAST }
-    ensures branches { (coder : Coding) (group : Group) → HasWidths BRANCHES (spreading BRANCH_STEP) coder.branches → HasWidths BRANCHES (spreading BRANCH_STEP) (after_group coder group).branches }
+    ensures last { (coder : Coding) (group : Group) → length group.packets ≡ GROUP_PACKETS
+        → length (after_group coder group).last ≡ LAST }
+    ensures branches { (coder : Coding) (group : Group) → HasWidths BRANCHES (spreading BRANCH_STEP) coder.branches
+        → HasWidths BRANCHES (spreading BRANCH_STEP) (after_group coder group).branches }
 {}

@@ -33,7 +33,8 @@ pub(crate) fn new_outer_coding(alloc: Global) -> Result<OuterCoding, AllocError>
     Ok(Outer::new(Atsc::new(alloc)?, Rs::new(), Branches::new(alloc)?))
 }
 
-/// The bytes that leave the interleaver as the codewords of four packets come, the first of them packet `first` of its field.
+/// The bytes that leave the interleaver as the codewords of four packets come, the first of them packet `first` of its
+/// field.
 pub(crate) fn code_packets(
     outer: &mut OuterCoding,
     first: usize,
@@ -42,8 +43,12 @@ pub(crate) fn code_packets(
 )
     requires white { outer.old.white ≡ randomizer_bytes }
     requires place { first + GROUP_PACKETS ≤ FIELD_PACKETS }
-    ensures bytes { bytes.new ≡ leaving_all BRANCHES outer.old.branches (coded_from first (map (λ p. p.0) packets.now)) }
-    ensures outer { outer.new ≡ record outer.old { branches = after_all BRANCHES outer.old.branches (coded_from first (map (λ p. p.0) packets.now)) } }
+    ensures bytes { bytes.new ≡ leaving_all BRANCHES outer.old.branches
+        (coded_from first (map (λ p. p.0) packets.now)) }
+    ensures outer { outer.new ≡ record outer.old {
+      branches = after_all BRANCHES outer.old.branches
+          (coded_from first (map (λ p. p.0) packets.now));
+    } }
 {
     for i in 0..GROUP_PACKETS {
         let mut word = [0; CODEWORD];
@@ -57,7 +62,10 @@ fn code_packet(outer: &mut OuterCoding, place: usize, packet: &Packet, word: &mu
     requires white { outer.old.white ≡ randomizer_bytes }
     requires place { place < FIELD_PACKETS }
     ensures bytes { word.new ≡ leaving_all BRANCHES outer.old.branches (coded_from place (packet.now.0 ∷ [])) }
-    ensures outer { outer.new ≡ record outer.old { branches = after_all BRANCHES outer.old.branches (coded_from place (packet.now.0 ∷ [])) } }
+    ensures outer { outer.new ≡ record outer.old {
+      branches = after_all BRANCHES outer.old.branches
+          (coded_from place (packet.now.0 ∷ []));
+    } }
 {
     let mut head = [0; PACKET_DATA];
     head.copy_from_slice(&packet.0[1..]);

@@ -12,6 +12,7 @@ pub(crate) const BRANCHES: usize = 52;
 /// By how many bytes each branch is longer than the one before it.
 pub(crate) const BRANCH_STEP: usize = 4;
 
-/// How many packets since an align it takes until each byte that leaves the interleaver is one of theirs. As the packet before
+/// How many packets since an align it takes until each byte that leaves the interleaver is one of theirs. As the packet
+/// before
 /// comes, one byte still leaves that a branch held.
 pub const SETTLED_PACKETS: usize = 52;

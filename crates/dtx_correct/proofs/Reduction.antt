@@ -1,18 +1,20 @@
 -- A vector that solves one more equation at each step: begin with the unit vectors, and give one up for each equation.
-use Rattle.std.proofs.Common.{◌≡◌, ℕ, suc, ◌+◌, ◌<◌, ◌⊎◌, ◌==◌, Bool, true, not, ◌&&◌, List, [], ◌∷◌, length, get_or, bit_xor, refl, sym, ap, ap₂, ◌∙◌, subst, arith, inl, inr}
+use Rattle.std.proofs.Common.{◌≡◌, ℕ, suc, ◌+◌, ◌<◌, ◌⊎◌, ◌==◌, Bool, true, not, ◌&&◌, List, [], ◌∷◌, length, get_or}
+use Rattle.std.proofs.Common.{bit_xor, refl, sym, ap, ap₂, ◌∙◌, subst, arith, inl, inr}
 use Rattle.std.proofs.lemmas.Bool.{and_parts, not-true, eqb-false}
 use Rattle.std.proofs.lemmas.List.{length-map, get_or-map}
 use Rattle.std.specs.Int.Bits.{xor_self, xor_zero_r, xor_lt}
 use Rattle.dtx_galois.specs.Field.{mul}
-use Rattle.dtx_galois.proofs.Linear.{mul_left, mul_right, xor_swap}
-use Rattle.dtx_galois.proofs.Field.{mul_comm, mul_assoc, mul_one, mul_zero, mul_small}
+use Rattle.dtx_galois.specs.LinearLaws.{mul_left, mul_right, xor_swap}
+use Rattle.dtx_galois.specs.FieldLaws.{mul_comm, mul_assoc, mul_one, mul_zero, mul_small}
 use Rattle.dtx_galois.specs.Word.{sums, scaled}
-use Rattle.dtx_galois.proofs.Words.{length_sums, bytes_sums, bytes_scaled}
+use Rattle.dtx_galois.specs.WordsLaws.{length_sums, bytes_sums, bytes_scaled}
 use Rattle.dtx_laws.specs.Locator.{combination}
-use Rattle.dtx_laws.proofs.Parts.{sums_at}
+use Rattle.dtx_laws.specs.PartsLaws.{sums_at}
 use Rattle.dtx_correct.specs.Elimination.{Solves, reduced}
 
-pub combination_sums : (xs ys : List ℕ) (s : ℕ → ℕ) (i : ℕ) → length xs ≡ length ys → combination (sums xs ys) s i ≡ bit_xor (combination xs s i) (combination ys s i)
+pub combination_sums : (xs ys : List ℕ) (s : ℕ → ℕ) (i : ℕ) → length xs ≡ length ys
+    → combination (sums xs ys) s i ≡ bit_xor (combination xs s i) (combination ys s i)
 combination_sums [] [] s i l = refl
 combination_sums [] (y ∷ ys) s i l = absurd (omega arith)
 combination_sums (x ∷ xs) [] s i l = absurd (omega arith)
@@ -20,27 +22,36 @@ combination_sums (x ∷ xs) (y ∷ ys) s i l =
     ap₂ bit_xor (mul_left x y (s i)) (combination_sums xs ys s (suc i) (omega arith))
     ∙ xor_swap (mul x (s i)) (mul y (s i)) (combination xs s (suc i)) (combination ys s (suc i))
 
-pub combination_scaled : (f : ℕ) (xs : List ℕ) (s : ℕ → ℕ) (i : ℕ) → combination (scaled f xs) s i ≡ mul f (combination xs s i)
+pub combination_scaled : (f : ℕ) (xs : List ℕ) (s : ℕ → ℕ) (i : ℕ)
+    → combination (scaled f xs) s i ≡ mul f (combination xs s i)
 combination_scaled f [] s i = sym (mul_zero f)
-combination_scaled f (x ∷ xs) s i = ap₂ bit_xor (mul_assoc f x (s i)) (combination_scaled f xs s (suc i)) ∙ sym (mul_right f (mul x (s i)) (combination xs s (suc i)))
+combination_scaled f (x ∷ xs) s i = ap₂ bit_xor (mul_assoc f x (s i)) (combination_scaled f xs s (suc i))
+    ∙ sym (mul_right f (mul x (s i)) (combination xs s (suc i)))
 
-reduced_at : (w e : ℕ) (s : ℕ → ℕ) (a : ℕ → Bool) (v : ℕ → List ℕ) (p g k j : ℕ) → Solves w e s a v → p < w → k < w → j < w → get_or (v p) j 0 ≡ 0
+reduced_at : (w e : ℕ) (s : ℕ → ℕ) (a : ℕ → Bool) (v : ℕ → List ℕ) (p g k j : ℕ) → Solves w e s a v → p < w → k < w
+    → j < w → get_or (v p) j 0 ≡ 0
     → get_or (reduced s e v p g k) j 0 ≡ get_or (v k) j 0
 reduced_at w e s a v p g k j h lp lk lj z =
     let c : ℕ = mul (combination (v k) s e) g in
-    sums_at (v k) (scaled (mul (combination (v k) s e) g) (v p)) j (omega (arith, h.long k lk)) (omega (arith, length-map (v p) (mul (mul (combination (v k) s e) g)), h.long p lp))
-    ∙ ap (bit_xor (get_or (v k) j 0)) (get_or-map (mul (mul (combination (v k) s e) g)) (v p) j 0 0 (omega (arith, h.long p lp)) ∙ ap (mul (mul (combination (v k) s e) g)) z ∙ mul_zero (mul (combination (v k) s e) g))
+    sums_at (v k) (scaled (mul (combination (v k) s e) g) (v p)) j (omega (arith, h.long k lk))
+    (omega (arith, length-map (v p) (mul (mul (combination (v k) s e) g)), h.long p lp))
+    ∙ ap (bit_xor (get_or (v k) j 0)) (get_or-map (mul (mul (combination (v k) s e) g)) (v p) j 0 0
+    (omega (arith, h.long p lp)) ∙ ap (mul (mul (combination (v k) s e) g)) z
+    ∙ mul_zero (mul (combination (v k) s e) g))
     ∙ xor_zero_r (get_or (v k) j 0)
 
 reduced_annuls : (s : ℕ → ℕ) (e i : ℕ) (v : ℕ → List ℕ) (p g k : ℕ) → length (v k) ≡ length (v p)
-    → combination (reduced s e v p g k) s i ≡ bit_xor (combination (v k) s i) (mul (mul (combination (v k) s e) g) (combination (v p) s i))
+    → combination (reduced s e v p g k) s i ≡ bit_xor (combination (v k) s i)
+    (mul (mul (combination (v k) s e) g) (combination (v p) s i))
 reduced_annuls s e i v p g k l =
-    combination_sums (v k) (scaled (mul (combination (v k) s e) g) (v p)) s i (l ∙ sym (length-map (v p) (mul (mul (combination (v k) s e) g))))
+    combination_sums (v k) (scaled (mul (combination (v k) s e) g) (v p)) s i (l
+    ∙ sym (length-map (v p) (mul (mul (combination (v k) s e) g))))
     ∙ ap (bit_xor (combination (v k) s i)) (combination_scaled (mul (combination (v k) s e) g) (v p) s i)
 
 pub combination_small : (xs : List ℕ) (s : ℕ → ℕ) (i : ℕ) → combination xs s i < 256
 combination_small [] s i = omega arith
-combination_small (x ∷ xs) s i = xor_lt 8 (mul x (s i)) (combination xs s (suc i)) (mul_small x (s i)) (combination_small xs s (suc i))
+combination_small (x ∷ xs) s i =
+    xor_lt 8 (mul x (s i)) (combination xs s (suc i)) (mul_small x (s i)) (combination_small xs s (suc i))
 
 -- the new equation
 pub cancels : (x f g : ℕ) → x < 256 → mul f g ≡ 1 → bit_xor x (mul (mul x g) f) ≡ 0
@@ -50,13 +61,17 @@ cancels x f g l e =
 order : (e i : ℕ) → i < e + 1 → (i ≡ e) ⊎ (i < e)
 order e i l = grind arith
 
-pub step : (w e : ℕ) (s : ℕ → ℕ) (a : ℕ → Bool) (v : ℕ → List ℕ) (p g : ℕ) → Solves w e s a v → p < w → a p ≡ true → mul (combination (v p) s e) g ≡ 1
+pub step : (w e : ℕ) (s : ℕ → ℕ) (a : ℕ → Bool) (v : ℕ → List ℕ) (p g : ℕ) → Solves w e s a v → p < w → a p ≡ true
+    → mul (combination (v p) s e) g ≡ 1
     → Solves w (e + 1) s (λ k. a k && not (k == p)) (reduced s e v p g)
 step w e s a v p g h lp ap' f = record {
   long = λ k l. length_sums (v k) (scaled (mul (combination (v k) s e) g) (v p)) ∙ h.long k l;
-  bytes = λ k l. bytes_sums (v k) (scaled (mul (combination (v k) s e) g) (v p)) (h.bytes k l) (bytes_scaled (mul (combination (v k) s e) g) (v p));
-  own = λ k l t. reduced_at w e s a v p g k k h lp l l (h.apart p k lp l ap' (kept k t) (λ q. other k t (sym q))) ∙ h.own k l (kept k t);
-  apart = λ k j l m t u d. reduced_at w e s a v p g k j h lp l m (h.apart p j lp m ap' (kept j u) (λ q. other j u (sym q))) ∙ h.apart k j l m (kept k t) (kept j u) d;
+  bytes = λ k l. bytes_sums (v k) (scaled (mul (combination (v k) s e) g) (v p)) (h.bytes k l)
+      (bytes_scaled (mul (combination (v k) s e) g) (v p));
+  own = λ k l t. reduced_at w e s a v p g k k h lp l l (h.apart p k lp l ap' (kept k t) (λ q. other k t (sym q)))
+      ∙ h.own k l (kept k t);
+  apart = λ k j l m t u d. reduced_at w e s a v p g k j h lp l m
+      (h.apart p j lp m ap' (kept j u) (λ q. other j u (sym q))) ∙ h.apart k j l m (kept k t) (kept j u) d;
   annuls = λ k i l t m. by_cases k i l (kept k t) (order e i m);
 }
   where
@@ -69,13 +84,16 @@ step w e s a v p g h lp ap' f = record {
     by_cases : (k i : ℕ) → k < w → a k ≡ true → (i ≡ e) ⊎ (i < e) → combination (reduced s e v p g k) s i ≡ 0
     by_cases k i l t (inl q) =
         subst (λ (j : ℕ). combination (reduced s e v p g k) s j ≡ 0) (sym q)
-        (reduced_annuls s e e v p g k (h.long k l ∙ sym (h.long p lp)) ∙ cancels (combination (v k) s e) (combination (v p) s e) g (combination_small (v k) s e) f)
+        (reduced_annuls s e e v p g k (h.long k l ∙ sym (h.long p lp))
+        ∙ cancels (combination (v k) s e) (combination (v p) s e) g (combination_small (v k) s e) f)
     by_cases k i l t (inr r) =
         reduced_annuls s e i v p g k (h.long k l ∙ sym (h.long p lp))
-        ∙ ap₂ bit_xor (h.annuls k i l t r) (ap (mul (mul (combination (v k) s e) g)) (h.annuls p i lp ap' r) ∙ mul_zero (mul (combination (v k) s e) g))
+        ∙ ap₂ bit_xor (h.annuls k i l t r) (ap (mul (mul (combination (v k) s e) g)) (h.annuls p i lp ap' r)
+        ∙ mul_zero (mul (combination (v k) s e) g))
 
 -- where every vector that is kept solves the new equation, nothing is given up
-pub skip : (w e : ℕ) (s : ℕ → ℕ) (a : ℕ → Bool) (v : ℕ → List ℕ) → Solves w e s a v → ((k : ℕ) → k < w → a k ≡ true → combination (v k) s e ≡ 0) → Solves w (e + 1) s a v
+pub skip : (w e : ℕ) (s : ℕ → ℕ) (a : ℕ → Bool) (v : ℕ → List ℕ) → Solves w e s a v
+    → ((k : ℕ) → k < w → a k ≡ true → combination (v k) s e ≡ 0) → Solves w (e + 1) s a v
 skip w e s a v h z = record {
   long = h.long;
   bytes = h.bytes;

@@ -5,19 +5,21 @@ use Rattle.std.proofs.Math.Seq.{drop-cons}
 use Rattle.dtx_laws.specs.Locator.{combination}
 use Rattle.dtx_galois.specs.Field.{mul}
 use Rattle.dtx_galois.specs.Word.{sums, scaled}
-use Rattle.dtx_galois.proofs.Words.{length_sums}
-use Rattle.dtx_laws.proofs.Parts.{sums_at}
+use Rattle.dtx_galois.specs.WordsLaws.{length_sums}
+use Rattle.dtx_laws.specs.PartsLaws.{sums_at}
 
 -- a list known at each place
 pub sums_scaled : (new old low : List ℕ) (f : ℕ) → length new ≡ length old → length old ≡ length low
-    → ((k : ℕ) → k < length low → get_or new k 0 ≡ bit_xor (get_or old k 0) (mul f (get_or low k 0))) → new ≡ sums old (scaled f low)
+    → ((k : ℕ) → k < length low → get_or new k 0 ≡ bit_xor (get_or old k 0) (mul f (get_or low k 0)))
+    → new ≡ sums old (scaled f low)
 sums_scaled new old low f l m h =
     ext_get_or 0 new (sums old (scaled f low)) (l ∙ sym (length_sums old (scaled f low)))
     (λ k i. h k (omega arith) ∙ ap (bit_xor (get_or old k 0)) (sym (get_or-map (mul f) low k 0 0 (omega arith)))
     ∙ sym (sums_at old (scaled f low) k (omega arith) (omega (arith, length-map low (mul f)))))
 
 pub combination_back : (v : List ℕ) (s : ℕ → ℕ) (e i : ℕ) → 0 < i → i - 1 < length v
-    → bit_xor (mul (get_or v (i - 1) 0) (s (e + (i - 1)))) (combination (drop i v) s (e + i)) ≡ combination (drop (i - 1) v) s (e + (i - 1))
+    → bit_xor (mul (get_or v (i - 1) 0) (s (e + (i - 1)))) (combination (drop i v) s (e + i))
+    ≡ combination (drop (i - 1) v) s (e + (i - 1))
 combination_back v s e i p l =
     let a : suc (i - 1) ≡ i = omega arith in
     let b : suc (e + (i - 1)) ≡ e + i = omega arith in

@@ -1,12 +1,14 @@
 -- Vectors that solve more and more of the equations of a locator, of which one is given up for each equation.
-use Rattle.std.specs.Prelude.{ℕ, ◌≡◌, ◌+◌, ◌<◌, Bool, true, if◌then◌else◌, List, [], length, slice_index, slice_index_or, take}
+use Rattle.std.specs.Prelude.{ℕ, ◌≡◌, ◌+◌, ◌<◌, Bool, true, if◌then◌else◌, List, [], length, slice_index}
+use Rattle.std.specs.Prelude.{slice_index_or, take}
 use Rattle.std.proofs.Common.{zero, suc}
 use Rattle.dtx_galois.specs.Field.{mul, AreBytes}
 use Rattle.dtx_galois.specs.Word.{sums, scaled}
 use Rattle.dtx_laws.specs.Locator.{combination}
 use Rattle.dtx_correct.specs.declared.locator.TheConstants.{WIDTH}
 
--- Of the w vectors v those that are kept solve e equations. Each has a 1 at its own place and a 0 at the places of the others, so none is 0.
+-- Of the w vectors v those that are kept solve e equations. Each has a 1 at its own place and a 0 at the places of the
+-- others, so none is 0.
 pub record Solves (w e : ℕ) (s : ℕ → ℕ) (keep : ℕ → Bool) (v : ℕ → List ℕ) : Type 0 where
   pub long : (k : ℕ) → k < w → length (v k) ≡ w
   pub bytes : (k : ℕ) → k < w → AreBytes (v k)

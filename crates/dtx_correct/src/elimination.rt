@@ -1,6 +1,7 @@
 //! One step of elimination: one more equation is solved, and one vector at most is given up.
 
-ghost use Rattle.std.specs.Prelude.{◌≡◌, ◌≢◌, ℕ, ◌+◌, ◌<◌, ◌≤◌, [], true, IfNone, IfSome, length, slice_index, slice_index_or, take};
+ghost use Rattle.std.specs.Prelude.{◌≡◌, ◌≢◌, ℕ, ◌+◌, ◌<◌, ◌≤◌, [], true, IfNone, IfSome, length, slice_index};
+ghost use Rattle.std.specs.Prelude.{slice_index_or, take};
 ghost use Rattle.dtx_galois.specs.Field.{mul, pow};
 ghost use Rattle.dtx_galois.specs.Word.{scaled, sums};
 ghost use Rattle.dtx_laws.specs.Locator.{combination, is_marked};
@@ -41,8 +42,10 @@ fn find_pivot(
 ) -> Option<usize>
     requires few { width ≤ WIDTH }
     requires below { width + equation ≤ ROOM }
-    ensures some { IfSome result (λ p. (p < width) × (is_marked kept.now p ≡ true) × (combination (vector width vectors.now p) (slice_index syndromes.now) equation ≢ 0)) }
-    ensures none { IfNone result ((k : ℕ) → k < width → is_marked kept.now k ≡ true → combination (vector width vectors.now k) (slice_index syndromes.now) equation ≡ 0) }
+    ensures some { IfSome result (λ p. (p < width) × (is_marked kept.now p ≡ true)
+        × (combination (vector width vectors.now p) (slice_index syndromes.now) equation ≢ 0)) }
+    ensures none { IfNone result ((k : ℕ) → k < width → is_marked kept.now k ≡ true
+        → combination (vector width vectors.now k) (slice_index syndromes.now) equation ≡ 0) }
 {
     for k in 0..width {
         if kept[k] && combine(&vectors[k][..width], syndromes, equation).0 != 0 {
@@ -52,7 +55,8 @@ fn find_pivot(
     None
 }
 
-/// Adds to each vector the multiple of the pivot's that makes it solve the equation. The power 254 of an element is its inverse.
+/// Adds to each vector the multiple of the pivot's that makes it solve the equation. The power 254 of an element is its
+/// inverse.
 fn reduce(
     vectors: &mut [[u8; WIDTH]; WIDTH],
     width: usize,
@@ -64,7 +68,9 @@ fn reduce(
     requires below { width + equation ≤ ROOM }
     requires some { pivot < width }
     ensures long { length vectors.new ≡ WIDTH }
-    ensures vectors { (k : ℕ) → k < width → vector width vectors.new k ≡ reduced (slice_index syndromes.now) equation (vector width vectors.old) pivot (pow (combination (vector width vectors.old pivot) (slice_index syndromes.now) equation) 254) k }
+    ensures vectors { (k : ℕ) → k < width
+        → vector width vectors.new k ≡ reduced (slice_index syndromes.now) equation (vector width vectors.old) pivot
+        (pow (combination (vector width vectors.old pivot) (slice_index syndromes.now) equation) 254) k }
 {
     let chosen = copied(vectors, pivot);
     let inverse = combine(&chosen[..width], syndromes, equation).pow(254);
@@ -88,7 +94,8 @@ fn copied(vectors: &[[u8; WIDTH]; WIDTH], k: usize) -> [u8; WIDTH]
     vectors[k]
 }
 
-/// Adds to one vector the multiple of the chosen one that makes it solve the equation, from the inverse of the chosen one's left side.
+/// Adds to one vector the multiple of the chosen one that makes it solve the equation, from the inverse of the chosen
+/// one's left side.
 fn reduce_one(
     vector: &mut [u8; WIDTH],
     width: usize,
@@ -100,7 +107,9 @@ fn reduce_one(
     requires few { width ≤ WIDTH }
     requires below { width + equation ≤ ROOM }
     ensures long { length vector.new ≡ WIDTH }
-    ensures vector { take width vector.new ≡ sums (take width vector.old) (scaled (mul (combination (take width vector.old) (slice_index syndromes.now) equation) inverse.0) (take width chosen.now)) }
+    ensures vector { take width vector.new ≡ sums (take width vector.old)
+        (scaled (mul (combination (take width vector.old) (slice_index syndromes.now) equation) inverse.0)
+        (take width chosen.now)) }
 {
     let factor = combine(&vector[..width], syndromes, equation).mul(inverse);
     add_scaled(&mut vector[..width], &chosen[..width], factor);

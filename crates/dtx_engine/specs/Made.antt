@@ -1,5 +1,5 @@
 -- What is made for one output, or for two.
-use Rattle.std.specs.Prelude.{◌≡◌, ◌≢◌, ℕ, List, [], ◌∷◌, ◌++◌}
+use Rattle.std.specs.Prelude.{◌≢◌, ℕ, List, [], ◌∷◌, ◌++◌}
 use Rattle.dtx_meaning.specs.Meaning.{Outputs, IsFrontOf}
 
 -- the bytes of the first output, and of the second, where there is one
@@ -10,6 +10,10 @@ pub record Made : Type 0 where
 -- bytes of the first output alone
 abbrev pub only : List ℕ → Made
 only bytes = record { first = bytes; second = [] }
+
+-- bytes of each output
+abbrev pub both : List ℕ → List ℕ → Made
+both first second = record { first = first; second = second }
 
 -- one behind the other, in each output
 abbrev pub joined : Made → Made → Made

@@ -8,11 +8,14 @@ use Rattle.dtx_exciter.specs.Packets.{reads}
 use Rattle.dtx_exciter.specs.Step.{bytes_of}
 
 -- packet k, as its bytes
-pub packet_in : (packets : List Packet) (k : ℕ) → (get_or packets k (record { 0 = [] })).0 ≡ get_or (bytes_of packets) k []
+pub packet_in : (packets : List Packet) (k : ℕ) → (get_or packets k (record { 0 = [] })).0
+    ≡ get_or (bytes_of packets) k []
 packet_in packets k = sym (get_or-map (λ p. p.0) packets k (record { 0 = [] }))
 
 -- what packet k orders at this place
-pub order_is : (packets : List Packet) (place k : ℕ) (o : Option Ops) → o ≡ ordered place (reads (get_or packets k (record { 0 = [] })).0) → o ≡ ordered place (reads (get_or (bytes_of packets) k []))
+pub order_is : (packets : List Packet) (place k : ℕ) (o : Option Ops)
+    → o ≡ ordered place (reads (get_or packets k (record { 0 = [] })).0)
+    → o ≡ ordered place (reads (get_or (bytes_of packets) k []))
 order_is packets place k o h = h ∙ ap (λ p. ordered place (reads p)) (packet_in packets k)
 
 pub first_some : (ops : Ops) (a b : Option Ops) → a ≡ Some ops → Some ops ≡ either a b

@@ -1,9 +1,12 @@
 -- A packet joins those under the anchor.
-use Rattle.std.proofs.Common.{◌≡◌, ◌≢◌, ℕ, ℤ, ◌+◌, ◌-◌, ◌*◌, ◌%◌, ◌<◌, ◌≤◌, ◌⊎◌, ◌==◌, ◌&&◌, ◌||◌, Bool, true, false, cond, Option, Some, option_map, List, [], ◌∷◌, ◌++◌, length, take, drop, set, refl, sym, ap, ap₂, subst, ◌∙◌, arith, inl, inr}
+use Rattle.std.proofs.Common.{◌≡◌, ◌≢◌, ℕ, ℤ, ◌+◌, ◌-◌, ◌*◌, ◌%◌, ◌<◌, ◌≤◌, ◌⊎◌, ◌==◌, ◌&&◌, ◌||◌, Bool, true, false}
+use Rattle.std.proofs.Common.{cond, Option, Some, option_map, List, [], ◌∷◌, ◌++◌, length, take, drop, set, refl, sym}
+use Rattle.std.proofs.Common.{ap, ap₂, subst, ◌∙◌, arith, inl, inr}
 use Rattle.std.specs.Prelude.{nat_le}
 use Rattle.std.specs.Option.{unwrap_or}
 use Rattle.std.proofs.lemmas.Bool.{cases_lt, cond-true, cond-false, eq-eqb, ne_eqb, le-leb, lt-leb}
-use Rattle.std.proofs.lemmas.List.{map-set, take_more_set, length-map, length-set, length_push, drop-append-le, drop_all, take_all, take-append-le}
+use Rattle.std.proofs.lemmas.List.{map-set, take_more_set, length-map, length-set, length_push, drop-append-le}
+use Rattle.std.proofs.lemmas.List.{drop_all, take_all, take-append-le}
 use Rattle.dtx_packets.specs.declared.packet.Packet.{Packet}
 use Rattle.dtx_coder.specs.Groups.{Coding, segments_of, after_group}
 use Rattle.dtx_ops.specs.declared.fields.Ops.{Ops}
@@ -16,11 +19,11 @@ use Rattle.dtx_exciter.specs.Packets.{said}
 use Rattle.dtx_exciter.specs.Emission.{Holds, sent_by, sent_at, sent_before, with_sync, given_under}
 use Rattle.dtx_exciter.specs.Step.{bytes_of, own_order, told_group, own_of, group_of, IsSent}
 use Rattle.dtx_exciter.specs.Kept.{whole, last_order, is_served, RunsUnder, KeepsUnder, IsJoined}
-use Rattle.dtx_exciter.proofs.Force.{force_left, force_first, counted_behind, IsBehind}
-use Rattle.dtx_exciter.proofs.Under.{said_append, length-said}
-use Rattle.dtx_exciter.proofs.Ends
-use Rattle.dtx_exciter.proofs.Answer.{told_group_is, sent_is_served}
-use Rattle.dtx_exciter.proofs.GroupSent.{IsGiven, HasSync, group_sent, runs_more, none_by}
+use Rattle.dtx_exciter.specs.ForceLaws.{force_left, force_first, counted_behind, IsBehind}
+use Rattle.dtx_exciter.specs.UnderLaws.{said_append, length-said}
+use Rattle.dtx_exciter.specs.EndsLaws
+use Rattle.dtx_exciter.specs.AnswerLaws.{told_group_is, sent_is_served}
+use Rattle.dtx_exciter.specs.GroupSentLaws.{IsGiven, HasSync, group_sent, runs_more, none_by}
 
 length-with : (l : List (List ℕ)) (p : List ℕ) → length (said (l ++ p ∷ [])) ≡ length l + 1
 length-with l p = length-said (l ++ p ∷ []) ∙ length_push l p
@@ -34,17 +37,24 @@ last_same l p h = ap₂ in_force (said_append l (p ∷ [])) same ∙ by_place (c
     same : whole (l ++ p ∷ []) - 4 ≡ whole l - 4
     same = omega (arith, h, length_push l p)
 
-    by_place : (whole l < 4) ⊎ (4 ≤ whole l) → in_force (said l ++ said (p ∷ [])) (whole l - 4) ≡ in_force (said l) (whole l - 4)
+    by_place : (whole l < 4) ⊎ (4 ≤ whole l) → in_force (said l ++ said (p ∷ [])) (whole l - 4)
+        ≡ in_force (said l) (whole l - 4)
     by_place (inl m) =
         let z : whole l - 4 ≡ 0 = omega (arith, m) in
-        ap (in_force (said l ++ said (p ∷ []))) z ∙ force_first (said l ++ said (p ∷ [])) ∙ sym (ap (in_force (said l)) z ∙ force_first (said l))
+        ap (in_force (said l ++ said (p ∷ []))) z ∙ force_first (said l ++ said (p ∷ []))
+        ∙ sym (ap (in_force (said l)) z ∙ force_first (said l))
     by_place (inr m) = force_left (said l) (said (p ∷ [])) (whole l - 4) (omega (arith, m, length-said l))
 
-quiet_told : (a d : ℕ) (l : List (List ℕ)) (p : List ℕ) → length l % 4 ≢ 3 → Quiet ≡ told_under a d (Some (said (l ++ p ∷ [])))
-quiet_told a d l p h = sym (cond-false (length (said (l ++ p ∷ [])) % 4 == 0) _ _ (ne_eqb (length (said (l ++ p ∷ [])) % 4) 0 (λ e. h (omega (arith, e, length-with l p)))))
+quiet_told : (a d : ℕ) (l : List (List ℕ)) (p : List ℕ) → length l % 4 ≢ 3
+    → Quiet ≡ told_under a d (Some (said (l ++ p ∷ [])))
+quiet_told a d l p h =
+    sym (cond-false (length (said (l ++ p ∷ [])) % 4 == 0) _ _
+    (ne_eqb (length (said (l ++ p ∷ [])) % 4) 0 (λ e. h (omega (arith, e, length-with l p)))))
 
 quiet_given : (a d : ℕ) (l : List (List ℕ)) (p : List ℕ) → length l % 4 ≢ 3 → given_under a d (Some (l ++ p ∷ [])) ≡ []
-quiet_given a d l p h = cond-false (length (l ++ p ∷ []) % 4 == 0) _ _ (ne_eqb (length (l ++ p ∷ []) % 4) 0 (λ e. h (omega (arith, e, length_push l p))))
+quiet_given a d l p h =
+    cond-false (length (l ++ p ∷ []) % 4 == 0) _ _
+    (ne_eqb (length (l ++ p ∷ []) % 4) 0 (λ e. h (omega (arith, e, length_push l p))))
 
 none_held : (count : ℕ) (symbols : List ℤ) → count ≡ 0 → Holds [] count symbols
 none_held count symbols e = record { counted = e; begins = ap (λ (n : ℕ). take (832 * n) symbols) e }
@@ -54,18 +64,24 @@ settled_same n h (inl m) = lt-leb 52 n m ∙ sym (lt-leb 52 (n + 1) (omega (arit
 settled_same n h (inr m) = le-leb 52 n m ∙ sym (le-leb 52 (n + 1) (omega (arith, m)))
 
 -- the packets of the group so far
-held_more : (old : Exciter) (packet : Packet) (k : ℕ) → k < length old.packets → take (k + 1) (bytes_of (set old.packets k packet)) ≡ take k (bytes_of old.packets) ++ packet.0 ∷ []
+held_more : (old : Exciter) (packet : Packet) (k : ℕ) → k < length old.packets
+    → take (k + 1) (bytes_of (set old.packets k packet)) ≡ take k (bytes_of old.packets) ++ packet.0 ∷ []
 held_more old packet k l =
     ap (take (k + 1)) (map-set (λ p. p.0) old.packets k packet)
-    ∙ take_more_set (bytes_of old.packets) k packet.0 (let n : length (bytes_of old.packets) ≡ length old.packets = length-map old.packets (λ p. p.0) in omega (arith, n, l))
+    ∙ take_more_set (bytes_of old.packets) k packet.0 (let n : length (bytes_of old.packets)
+    ≡ length old.packets = length-map old.packets (λ p. p.0) in omega (arith, n, l))
 
-front_same : (l : List (List ℕ)) (p : List ℕ) → length l % 4 ≢ 3 → take (whole (l ++ p ∷ [])) (l ++ p ∷ []) ≡ take (whole l) l
+front_same : (l : List (List ℕ)) (p : List ℕ) → length l % 4 ≢ 3
+    → take (whole (l ++ p ∷ [])) (l ++ p ∷ []) ≡ take (whole l) l
 front_same l p h =
     let e : whole (l ++ p ∷ []) ≡ whole l = omega (arith, h, length_push l p) in
     ap (λ (n : ℕ). take n (l ++ p ∷ [])) e ∙ take-append-le (whole l) l (p ∷ []) (omega arith)
 
-pub joined_partial : (a d : ℕ) (l : List (List ℕ)) (old : Exciter) (place : ℕ) (packet : Packet) (count : ℕ) (symbols : List ℤ) → KeepsUnder a d old l → place ≡ length l % 624 → place % 4 ≢ 3 → length old.packets ≡ 4 → count ≡ 0
-    → IsJoined a d (l ++ packet.0 ∷ []) (record old { packets = set old.packets (place % 4) packet }) Quiet count symbols
+pub joined_partial : (a d : ℕ) (l : List (List ℕ)) (old : Exciter) (place : ℕ) (packet : Packet) (count : ℕ)
+    (symbols : List ℤ) → KeepsUnder a d old l → place ≡ length l % 624 → place % 4 ≢ 3 → length old.packets ≡ 4
+    → count ≡ 0
+    → IsJoined a d (l ++ packet.0 ∷ []) (record old { packets = set old.packets (place % 4) packet }) Quiet count
+    symbols
 joined_partial a d l old place packet count symbols k e h four z =
     let m : place % 4 ≡ length l % 4 = omega (arith, e) in
     let n : length l % 4 ≢ 3 = λ x. h (m ∙ x) in
@@ -75,14 +91,17 @@ joined_partial a d l old place packet count symbols k e h four z =
       answer = quiet_told a d l packet.0 n;
       air = subst (λ ss. Holds ss count symbols) (sym (quiet_given a d l packet.0 n)) (none_held count symbols z);
       keeps = record {
-        settled = k.settled ∙ settled_same (length l) n (cases_lt (length l) 52) ∙ ap (nat_le 52) (sym (length_push l packet.0));
+        settled = k.settled ∙ settled_same (length l) n (cases_lt (length l) 52)
+            ∙ ap (nat_le 52) (sym (length_push l packet.0));
         partial =
             ap₂ (λ (x y : ℕ). take x (bytes_of (set old.packets y packet))) s m
             ∙ held_more old packet (length l % 4) (omega (arith, four))
             ∙ ap (λ x. x ++ packet.0 ∷ []) k.partial
-            ∙ sym (ap (λ (y : ℕ). drop y (l ++ packet.0 ∷ [])) w ∙ drop-append-le (whole l) l (packet.0 ∷ []) (omega arith));
+            ∙ sym (ap (λ (y : ℕ). drop y (l ++ packet.0 ∷ [])) w
+            ∙ drop-append-le (whole l) l (packet.0 ∷ []) (omega arith));
         sent = k.sent ∙ ap (is_served a d) (sym (last_same l packet.0 n));
-        coder = subst (λ x. RunsUnder x (last_order (l ++ packet.0 ∷ [])) old.coder) (sym (front_same l packet.0 n)) (subst (λ o. RunsUnder (take (whole l) l) o old.coder) (sym (last_same l packet.0 n)) k.coder);
+        coder = subst (λ x. RunsUnder x (last_order (l ++ packet.0 ∷ [])) old.coder) (sym (front_same l packet.0 n))
+            (subst (λ o. RunsUnder (take (whole l) l) o old.coder) (sym (last_same l packet.0 n)) k.coder);
       };
     }
 
@@ -101,51 +120,68 @@ pub record Joining (a d : ℕ) (l : List (List ℕ)) (old : Exciter) (packet : P
 abbrev order_now : List (List ℕ) → ℕ → List ℕ → Option Order
 order_now l i p = either (placed i (counted (said (l ++ p ∷ [])) i)) (last_order l)
 
-bytes_full : (a d : ℕ) (l : List (List ℕ)) (old : Exciter) (packet : Packet) (i j : ℕ) → Joining a d l old packet i j → bytes_of (full old packet).packets ≡ Ends.group l i packet.0
+bytes_full : (a d : ℕ) (l : List (List ℕ)) (old : Exciter) (packet : Packet) (i j : ℕ) → Joining a d l old packet i j
+    → bytes_of (full old packet).packets ≡ Ends.group l i packet.0
 bytes_full a d l old packet i j c =
     let m : length l % 4 ≡ 3 = let x = c.ends.long in let y = c.ends.whole in omega (arith, x, y) in
-    sym (take_all 4 (bytes_of (set old.packets 3 packet)) (let x = c.four in omega (arith, x, length-map (set old.packets 3 packet) (λ p. p.0), length-set old.packets 3 packet)))
+    sym (take_all 4 (bytes_of (set old.packets 3 packet)) (let x = c.four in
+    omega (arith, x, length-map (set old.packets 3 packet) (λ p. p.0), length-set old.packets 3 packet)))
     ∙ held_more old packet 3 (let x = c.four in omega (arith, x))
     ∙ ap (λ x. x ++ packet.0 ∷ [])
-    (ap (λ (n : ℕ). take n (bytes_of old.packets)) (sym m) ∙ c.keeps.partial ∙ ap (λ (n : ℕ). drop n l) (Ends.whole-front l i c.ends))
+    (ap (λ (n : ℕ). take n (bytes_of old.packets)) (sym m) ∙ c.keeps.partial
+    ∙ ap (λ (n : ℕ). drop n l) (Ends.whole-front l i c.ends))
 
-own_full : (a d : ℕ) (l : List (List ℕ)) (old : Exciter) (packet : Packet) (i j : ℕ) → Joining a d l old packet i j → own_of (full old packet) j ≡ counted (said (l ++ packet.0 ∷ [])) i
+own_full : (a d : ℕ) (l : List (List ℕ)) (old : Exciter) (packet : Packet) (i j : ℕ) → Joining a d l old packet i j
+    → own_of (full old packet) j ≡ counted (said (l ++ packet.0 ∷ [])) i
 unfolding own_of
 own_full a d l old packet i j c =
-    ap₂ (λ s x. own_order s j x) c.keeps.settled (bytes_full a d l old packet i j c) ∙ Ends.own_is l i j packet.0 c.ends c.place
+    ap₂ (λ s x. own_order s j x) c.keeps.settled (bytes_full a d l old packet i j c)
+    ∙ Ends.own_is l i j packet.0 c.ends c.place
 
-told_full : (a d : ℕ) (l : List (List ℕ)) (old : Exciter) (packet : Packet) (i j : ℕ) → Joining a d l old packet i j → told_group a d j (own_of (full old packet) j) old.sent ≡ told_at a d i (order_now l i packet.0)
+told_full : (a d : ℕ) (l : List (List ℕ)) (old : Exciter) (packet : Packet) (i j : ℕ) → Joining a d l old packet i j
+    → told_group a d j (own_of (full old packet) j) old.sent ≡ told_at a d i (order_now l i packet.0)
 told_full a d l old packet i j c =
     ap (λ o. told_group a d j o old.sent) (own_full a d l old packet i j c)
-    ∙ told_group_is a d i j (counted (said (l ++ packet.0 ∷ [])) i) (last_order l) old.sent c.place c.keeps.sent (λ order e. Ends.last_older l i order c.ends e)
+    ∙ told_group_is a d i j (counted (said (l ++ packet.0 ∷ [])) i) (last_order l) old.sent c.place c.keeps.sent
+    (λ order e. Ends.last_older l i order c.ends e)
 
-told_now : (a d : ℕ) (l : List (List ℕ)) (p : List ℕ) (i : ℕ) → Ends.Ends l i → told_at a d i (order_now l i p) ≡ told_under a d (Some (said (l ++ p ∷ [])))
+told_now : (a d : ℕ) (l : List (List ℕ)) (p : List ℕ) (i : ℕ) → Ends.Ends l i
+    → told_at a d i (order_now l i p) ≡ told_under a d (Some (said (l ++ p ∷ [])))
 told_now a d l p i e =
     let n : length (said (l ++ p ∷ [])) ≡ i + 4 = length-said (l ++ p ∷ []) ∙ Ends.length-all l i p e in
     let s : length (said (l ++ p ∷ [])) - 4 ≡ i = omega (arith, n) in
     let w = e.whole in
     ap (told_at a d i) (sym (Ends.force_is l i p e))
-    ∙ sym (cond-true (length (said (l ++ p ∷ [])) % 4 == 0) _ _ (eq-eqb (length (said (l ++ p ∷ [])) % 4) 0 (omega (arith, n, w))) ∙ ap (λ k. told_at a d k (in_force (said (l ++ p ∷ [])) k)) s)
+    ∙ sym (cond-true (length (said (l ++ p ∷ [])) % 4 == 0) _ _
+    (eq-eqb (length (said (l ++ p ∷ [])) % 4) 0 (omega (arith, n, w)))
+    ∙ ap (λ k. told_at a d k (in_force (said (l ++ p ∷ [])) k)) s)
 
 -- ---- what is given
 
-before_now : (a d : ℕ) (l : List (List ℕ)) (p : List ℕ) (i : ℕ) → Ends.Ends l i → sent_before a d (l ++ p ∷ []) i ≡ sent_by a d (l ++ p ∷ []) (i - 4) (last_order l)
+before_now : (a d : ℕ) (l : List (List ℕ)) (p : List ℕ) (i : ℕ) → Ends.Ends l i
+    → sent_before a d (l ++ p ∷ []) i ≡ sent_by a d (l ++ p ∷ []) (i - 4) (last_order l)
 unfolding sent_at
 before_now a d l p i e = by_place (cases_lt i 4)
   where
-    by_place : (i < 4) ⊎ (4 ≤ i) → cond (nat_le 4 i) (sent_by a d (l ++ p ∷ []) (i - 4) (in_force (said (l ++ p ∷ [])) (i - 4))) [] ≡ sent_by a d (l ++ p ∷ []) (i - 4) (last_order l)
+    by_place : (i < 4) ⊎ (4 ≤ i)
+        → cond (nat_le 4 i) (sent_by a d (l ++ p ∷ []) (i - 4) (in_force (said (l ++ p ∷ [])) (i - 4))) []
+        ≡ sent_by a d (l ++ p ∷ []) (i - 4) (last_order l)
     by_place (inl m) =
         let w = e.whole in
         let z : i ≡ 0 = omega (arith, m, w) in
-        cond-false (nat_le 4 i) _ _ (lt-leb 4 i m) ∙ sym (ap (sent_by a d (l ++ p ∷ []) (i - 4)) (Ends.last_none l i e z))
-    by_place (inr m) = cond-true (nat_le 4 i) _ _ (le-leb 4 i m) ∙ ap (sent_by a d (l ++ p ∷ []) (i - 4)) (Ends.before_is l i p e m)
+        cond-false (nat_le 4 i) _ _ (lt-leb 4 i m)
+        ∙ sym (ap (sent_by a d (l ++ p ∷ []) (i - 4)) (Ends.last_none l i e z))
+    by_place (inr m) = cond-true (nat_le 4 i) _ _ (le-leb 4 i m)
+        ∙ ap (sent_by a d (l ++ p ∷ []) (i - 4)) (Ends.before_is l i p e m)
 
-sent_now : (a d : ℕ) (l : List (List ℕ)) (p : List ℕ) (i : ℕ) → Ends.Ends l i → sent_at a d (l ++ p ∷ []) i ≡ sent_by a d (l ++ p ∷ []) i (order_now l i p)
+sent_now : (a d : ℕ) (l : List (List ℕ)) (p : List ℕ) (i : ℕ) → Ends.Ends l i
+    → sent_at a d (l ++ p ∷ []) i ≡ sent_by a d (l ++ p ∷ []) i (order_now l i p)
 unfolding sent_at
 sent_now a d l p i e = ap (sent_by a d (l ++ p ∷ []) i) (Ends.force_is l i p e)
 
 given_now : (a d : ℕ) (l : List (List ℕ)) (p : List ℕ) (i : ℕ) → Ends.Ends l i
-    → given_under a d (Some (l ++ p ∷ [])) ≡ with_sync i (sent_by a d (l ++ p ∷ []) (i - 4) (last_order l)) (sent_by a d (l ++ p ∷ []) i (order_now l i p))
+    → given_under a d (Some (l ++ p ∷ [])) ≡ with_sync i (sent_by a d (l ++ p ∷ []) (i - 4) (last_order l))
+    (sent_by a d (l ++ p ∷ []) i (order_now l i p))
 given_now a d l p i e =
     let n : length (l ++ p ∷ []) ≡ i + 4 = Ends.length-all l i p e in
     let s : length (l ++ p ∷ []) - 4 ≡ i = omega (arith, n) in
@@ -156,22 +192,28 @@ given_now a d l p i e =
 
 -- ---- the coder
 
-given_full : (a d : ℕ) (l : List (List ℕ)) (old : Exciter) (packet : Packet) (i j : ℕ) (answered : Told) → Joining a d l old packet i j
-    → IsGiven (Ends.front l i) (Ends.group l i packet.0) i (counted (said (l ++ packet.0 ∷ [])) i) (last_order l) old.coder (group_of (full old packet) j answered)
+given_full : (a d : ℕ) (l : List (List ℕ)) (old : Exciter) (packet : Packet) (i j : ℕ) (answered : Told)
+    → Joining a d l old packet i j
+    → IsGiven (Ends.front l i) (Ends.group l i packet.0) i (counted (said (l ++ packet.0 ∷ [])) i)
+    (last_order l) old.coder (group_of (full old packet) j answered)
 unfolding group_of
 given_full a d l old packet i j answered c = record {
   runs = subst (λ (n : ℕ). RunsUnder (take n l) (last_order l) old.coder) (Ends.whole-front l i c.ends) c.keeps.coder;
   next = record {
-    place = let x = c.place in let e : j % 312 ≡ i % 312 = omega (arith, x) in e ∙ ap (λ (n : ℕ). n % 312) (sym (Ends.length-front l i c.ends));
+    place = let x = c.place in let e : j % 312 ≡ i % 312 = omega (arith, x) in
+        e ∙ ap (λ (n : ℕ). n % 312) (sym (Ends.length-front l i c.ends));
     four = ap length (bytes_full a d l old packet i j c) ∙ Ends.length-group l i packet.0 c.ends;
-    states = ap (λ o. unwrap_or (option_map (λ (x : Ops). x.states) o) old.coder.states) (own_full a d l old packet i j c);
+    states = ap (λ o. unwrap_or (option_map (λ (x : Ops). x.states) o) old.coder.states)
+        (own_full a d l old packet i j c);
   };
   packets = bytes_full a d l old packet i j c;
   long = Ends.length-front l i c.ends;
   whole = c.ends.whole;
 }
 
-sync_full : (a d : ℕ) (l : List (List ℕ)) (old : Exciter) (packet : Packet) (i j : ℕ) (answered : Told) → Joining a d l old packet i j → is_sent answered ≡ true → HasSync i old.sent (group_of (full old packet) j answered)
+sync_full : (a d : ℕ) (l : List (List ℕ)) (old : Exciter) (packet : Packet) (i j : ℕ) (answered : Told)
+    → Joining a d l old packet i j → is_sent answered ≡ true
+    → HasSync i old.sent (group_of (full old packet) j answered)
 unfolding group_of
 sync_full a d l old packet i j answered c s = record {
   sync =
@@ -180,19 +222,25 @@ sync_full a d l old packet i j answered c s = record {
   second = ap (nat_le 312) c.place;
 }
 
-served_now : (a d : ℕ) (l : List (List ℕ)) (p : List ℕ) (i : ℕ) (answered : Told) → answered ≡ told_at a d i (order_now l i p) → is_sent answered ≡ is_served a d (order_now l i p)
+served_now : (a d : ℕ) (l : List (List ℕ)) (p : List ℕ) (i : ℕ) (answered : Told)
+    → answered ≡ told_at a d i (order_now l i p) → is_sent answered ≡ is_served a d (order_now l i p)
 served_now a d l p i answered h = ap is_sent h ∙ sent_is_served a d i (order_now l i p)
 
 settled_own : (said : List (Option Ops)) (i : ℕ) (ops : Ops) → counted said i ≡ Some ops → 52 ≤ i
 settled_own said i ops h = let b : IsBehind i = counted_behind said i ops h in b.settled
 
-segments_full : (a d : ℕ) (l : List (List ℕ)) (old : Exciter) (packet : Packet) (i j : ℕ) (answered : Told) → Joining a d l old packet i j → answered ≡ told_at a d i (order_now l i packet.0)
-    → (t : Bool) → is_sent answered ≡ t → cond t (segments_of old.coder (group_of (full old packet) j answered)) [] ≡ given_under a d (Some (l ++ packet.0 ∷ []))
+segments_full : (a d : ℕ) (l : List (List ℕ)) (old : Exciter) (packet : Packet) (i j : ℕ) (answered : Told)
+    → Joining a d l old packet i j → answered ≡ told_at a d i (order_now l i packet.0)
+    → (t : Bool) → is_sent answered ≡ t → cond t (segments_of old.coder (group_of (full old packet) j answered)) []
+    ≡ given_under a d (Some (l ++ packet.0 ∷ []))
 segments_full a d l old packet i j answered c h true s =
-    group_sent a d (Ends.front l i) (Ends.group l i packet.0) i (counted (said (l ++ packet.0 ∷ [])) i) (last_order l) old.coder (group_of (full old packet) j answered) old.sent
-    (given_full a d l old packet i j answered c) (λ ops e. settled_own (said (l ++ packet.0 ∷ [])) i ops e) (λ order e. Ends.last_older l i order c.ends e)
+    group_sent a d (Ends.front l i) (Ends.group l i packet.0) i (counted (said (l ++ packet.0 ∷ [])) i)
+    (last_order l) old.coder (group_of (full old packet) j answered) old.sent
+    (given_full a d l old packet i j answered c) (λ ops e. settled_own (said (l ++ packet.0 ∷ [])) i ops e)
+    (λ order e. Ends.last_older l i order c.ends e)
     (sync_full a d l old packet i j answered c s) c.keeps.sent (sym (served_now a d l packet.0 i answered h) ∙ s)
-    ∙ ap (λ x. with_sync i (sent_by a d x (i - 4) (last_order l)) (sent_by a d x i (order_now l i packet.0))) (Ends.parts l i packet.0)
+    ∙ ap (λ x. with_sync i (sent_by a d x (i - 4) (last_order l)) (sent_by a d x i (order_now l i packet.0)))
+    (Ends.parts l i packet.0)
     ∙ sym (given_now a d l packet.0 i c.ends)
 segments_full a d l old packet i j answered c h false s =
     sym (given_now a d l packet.0 i c.ends
@@ -201,32 +249,50 @@ segments_full a d l old packet i j answered c h false s =
 
 -- ---- what is kept
 
-settled_more : (n place : ℕ) → place ≡ n % 624 → (n < 52) ⊎ (52 ≤ n) → (nat_le 52 n || (place == 51)) ≡ nat_le 52 (n + 1)
-settled_more n place e (inr m) = ap (λ b. b || (place == 51)) (le-leb 52 n m) ∙ sym (le-leb 52 (n + 1) (omega (arith, m)))
+settled_more : (n place : ℕ) → place ≡ n % 624 → (n < 52) ⊎ (52 ≤ n)
+    → (nat_le 52 n || (place == 51)) ≡ nat_le 52 (n + 1)
+settled_more n place e (inr m) = ap (λ b. b || (place == 51)) (le-leb 52 n m)
+    ∙ sym (le-leb 52 (n + 1) (omega (arith, m)))
 settled_more n place e (inl m) = ap (λ b. b || (place == 51)) (lt-leb 52 n m) ∙ last (cases_lt (n + 1) 52)
   where
     last : (n + 1 < 52) ⊎ (52 ≤ n + 1) → (place == 51) ≡ nat_le 52 (n + 1)
     last (inl k) = ne_eqb place 51 (λ x. omega (arith, x, e, k)) ∙ sym (lt-leb 52 (n + 1) k)
     last (inr k) = eq-eqb place 51 (omega (arith, e, k, m)) ∙ sym (le-leb 52 (n + 1) k)
 
-coder_full : (a d : ℕ) (l : List (List ℕ)) (old : Exciter) (packet : Packet) (i j : ℕ) (answered : Told) → Joining a d l old packet i j
-    → RunsUnder (take (whole (l ++ packet.0 ∷ [])) (l ++ packet.0 ∷ [])) (last_order (l ++ packet.0 ∷ [])) (after_group old.coder (group_of (full old packet) j answered))
+coder_full : (a d : ℕ) (l : List (List ℕ)) (old : Exciter) (packet : Packet) (i j : ℕ) (answered : Told)
+    → Joining a d l old packet i j
+    → RunsUnder (take (whole (l ++ packet.0 ∷ [])) (l ++ packet.0 ∷ [])) (last_order (l ++ packet.0 ∷ []))
+    (after_group old.coder (group_of (full old packet) j answered))
 coder_full a d l old packet i j answered c =
     let all : List (List ℕ) = l ++ packet.0 ∷ [] in
     let coder : Coding = after_group old.coder (group_of (full old packet) j answered) in
-    subst (λ x. RunsUnder x (last_order all) coder) (sym (take_all (whole all) all (let w = c.ends.whole in omega (arith, w, Ends.whole-all l i packet.0 c.ends, Ends.length-all l i packet.0 c.ends))))
+    subst (λ x. RunsUnder x (last_order all) coder) (sym (take_all (whole all) all (let w = c.ends.whole in
+    omega (arith, w, Ends.whole-all l i packet.0 c.ends, Ends.length-all l i packet.0 c.ends))))
     (subst (λ o. RunsUnder all o coder) (sym (Ends.last_all l i packet.0 c.ends ∙ Ends.force_is l i packet.0 c.ends))
     (subst (λ x. RunsUnder x (order_now l i packet.0) coder) (Ends.parts l i packet.0)
-    (runs_more (Ends.front l i) (Ends.group l i packet.0) i (counted (said all) i) (last_order l) old.coder (group_of (full old packet) j answered) (given_full a d l old packet i j answered c))))
+    (runs_more (Ends.front l i) (Ends.group l i packet.0) i (counted (said all) i) (last_order l) old.coder
+    (group_of (full old packet) j answered) (given_full a d l old packet i j answered c))))
 
-partial_full : (l : List (List ℕ)) (p : List ℕ) (i : ℕ) (xs : List (List ℕ)) → Ends.Ends l i → take (length (l ++ p ∷ []) % 4) xs ≡ drop (whole (l ++ p ∷ [])) (l ++ p ∷ [])
+partial_full : (l : List (List ℕ)) (p : List ℕ) (i : ℕ) (xs : List (List ℕ)) → Ends.Ends l i
+    → take (length (l ++ p ∷ []) % 4) xs ≡ drop (whole (l ++ p ∷ [])) (l ++ p ∷ [])
 partial_full l p i xs e =
     let w = e.whole in
     let z : length (l ++ p ∷ []) % 4 ≡ 0 = omega (arith, w, Ends.length-all l i p e) in
-    ap (λ (n : ℕ). take n xs) z ∙ sym (drop_all (whole (l ++ p ∷ [])) (l ++ p ∷ []) (omega (arith, w, Ends.whole-all l i p e, Ends.length-all l i p e)))
+    ap (λ (n : ℕ). take n xs) z
+    ∙ sym (drop_all (whole (l ++ p ∷ [])) (l ++ p ∷ []) (omega (
+      arith,
+      w,
+      Ends.whole-all l i p e,
+      Ends.length-all l i p e,
+    )))
 
-keeps_full : (a d : ℕ) (l : List (List ℕ)) (old made e : Exciter) (packet : Packet) (i j place : ℕ) (answered : Told) → Joining a d l old packet i j → place ≡ length l % 624 → answered ≡ told_at a d i (order_now l i packet.0)
-    → made ≡ record (full old packet) { sent = is_sent answered; coder = after_group old.coder (group_of (full old packet) j answered) } → e.settled ≡ (made.settled || (place == 51)) → e.sent ≡ made.sent → e.coder ≡ made.coder
+keeps_full : (a d : ℕ) (l : List (List ℕ)) (old made e : Exciter) (packet : Packet) (i j place : ℕ) (answered : Told)
+    → Joining a d l old packet i j → place ≡ length l % 624 → answered ≡ told_at a d i (order_now l i packet.0)
+    → made ≡ record (full old packet) {
+      sent = is_sent answered;
+      coder = after_group old.coder (group_of (full old packet) j answered);
+    }
+    → e.settled ≡ (made.settled || (place == 51)) → e.sent ≡ made.sent → e.coder ≡ made.coder
     → KeepsUnder a d e (l ++ packet.0 ∷ [])
 keeps_full a d l old made e packet i j place answered c p h m settled sent coder = record {
   settled =
@@ -237,17 +303,23 @@ keeps_full a d l old made e packet i j place answered c p h m settled sent coder
       sent ∙ ap (λ (x : Exciter). x.sent) m ∙ served_now a d l packet.0 i answered h
       ∙ ap (is_served a d) (sym (Ends.last_all l i packet.0 c.ends ∙ Ends.force_is l i packet.0 c.ends));
   coder =
-      subst (λ x. RunsUnder (take (whole (l ++ packet.0 ∷ [])) (l ++ packet.0 ∷ [])) (last_order (l ++ packet.0 ∷ [])) x)
+      subst (λ x. RunsUnder (take (whole (l ++ packet.0 ∷ [])) (l ++ packet.0 ∷ []))
+      (last_order (l ++ packet.0 ∷ [])) x)
       (sym (coder ∙ ap (λ (x : Exciter). x.coder) m)) (coder_full a d l old packet i j answered c);
 }
 
-pub joined_full : (a d : ℕ) (l : List (List ℕ)) (old made e : Exciter) (packet : Packet) (i j place : ℕ) (answered : Told) (count : ℕ) (symbols : List ℤ) → Joining a d l old packet i j → place ≡ length l % 624
-    → old.address ≡ a → old.delay ≡ d → IsSent j (full old packet) made answered count symbols → e.settled ≡ (made.settled || (place == 51)) → e.sent ≡ made.sent → e.coder ≡ made.coder → IsJoined a d (l ++ packet.0 ∷ []) e answered count symbols
+pub joined_full : (a d : ℕ) (l : List (List ℕ)) (old made e : Exciter) (packet : Packet) (i j place : ℕ)
+    (answered : Told) (count : ℕ) (symbols : List ℤ) → Joining a d l old packet i j → place ≡ length l % 624
+    → old.address ≡ a → old.delay ≡ d → IsSent j (full old packet) made answered count symbols
+    → e.settled ≡ (made.settled || (place == 51)) → e.sent ≡ made.sent → e.coder ≡ made.coder
+    → IsJoined a d (l ++ packet.0 ∷ []) e answered count symbols
 joined_full a d l old made e packet i j place answered count symbols c p x y s settled sent coder =
     let h : answered ≡ told_at a d i (order_now l i packet.0) =
-    s.answer ∙ ap₂ (λ (u v : ℕ). told_group u v j (own_of (full old packet) j) old.sent) x y ∙ told_full a d l old packet i j c in
+    s.answer ∙ ap₂ (λ (u v : ℕ). told_group u v j (own_of (full old packet) j) old.sent) x y
+    ∙ told_full a d l old packet i j c in
     record {
       answer = h ∙ told_now a d l packet.0 i c.ends;
-      air = subst (λ ss. Holds ss count symbols) (segments_full a d l old packet i j answered c h (is_sent answered) refl) s.air;
+      air = subst (λ ss. Holds ss count symbols) (segments_full a d l old packet i j answered c h
+          (is_sent answered) refl) s.air;
       keeps = keeps_full a d l old made e packet i j place answered c p h s.new settled sent coder;
     }

@@ -1,5 +1,6 @@
 -- What an exciter keeps where it begins, and what one packet more makes of it.
-use Rattle.std.proofs.Common.{◌≡◌, ℕ, ℤ, ◌%◌, ◌<◌, false, Option, Some, None, option_map, List, [], ◌∷◌, ◌++◌, length, take, set, refl, sym, ap, subst, ◌∙◌, arith}
+use Rattle.std.proofs.Common.{◌≡◌, ℕ, ℤ, ◌%◌, ◌<◌, false, Option, Some, None, option_map, List, [], ◌∷◌, ◌++◌, length}
+use Rattle.std.proofs.Common.{take, set, refl, sym, ap, subst, ◌∙◌, arith}
 use Rattle.std.proofs.lemmas.List.{map-set, take_more_set, length-map}
 use Rattle.dtx_packets.specs.declared.packet.Packet.{Packet}
 use Rattle.dtx_packets.specs.Packet.{sync_of}
@@ -10,7 +11,7 @@ use Rattle.dtx_laws.specs.Branches.{HasWidths, spreading}
 use Rattle.dtx_coder.specs.Groups.{Coding, aligned_coding}
 use Rattle.dtx_coder.specs.Runs.{AreStates}
 use Rattle.dtx_coder.specs.Along.{RunsAlong}
-use Rattle.dtx_coder.proofs.Along.{along_begins}
+use Rattle.dtx_coder.specs.AlongLaws.{along_begins}
 use Rattle.dtx_exciter.specs.declared.exciter.Exciter.{Exciter}
 use Rattle.dtx_exciter.specs.declared.answers.Why.TheVariants.{Cadence}
 use Rattle.dtx_exciter.specs.declared.answers.Told.{Told}
@@ -19,9 +20,10 @@ use Rattle.dtx_exciter.specs.Told.{told_under}
 use Rattle.dtx_exciter.specs.Packets.{syncs, said, anchor_of, under, told}
 use Rattle.dtx_exciter.specs.Emission.{Holds, given, given_under}
 use Rattle.dtx_exciter.specs.Step.{bytes_of, IsSame}
-use Rattle.dtx_exciter.specs.Kept.{last_order, is_served, RunsUnder, KeepsUnder, Keeps, StandsFor, IsTaken, IsJoined, Joins}
-use Rattle.dtx_exciter.proofs.Force.{force_first}
-use Rattle.dtx_exciter.proofs.Under.{Goes, goes, syncs_push}
+use Rattle.dtx_exciter.specs.Kept.{last_order, is_served, RunsUnder, KeepsUnder, Keeps, StandsFor, IsTaken, IsJoined}
+use Rattle.dtx_exciter.specs.Kept.{Joins}
+use Rattle.dtx_exciter.specs.ForceLaws.{force_first}
+use Rattle.dtx_exciter.specs.UnderLaws.{Goes, goes, syncs_push}
 
 -- ---- nothing given
 
@@ -33,7 +35,8 @@ syncs_nothing : [] ≡ syncs []
 unfolding syncs
 syncs_nothing = refl
 
-pub stands_nothing : (a d : ℕ) (e : Exciter) → e.address ≡ a → e.delay ≡ d → cadence.StandsFor e.anchor [] → StandsFor a d e []
+pub stands_nothing : (a d : ℕ) (e : Exciter) → e.address ≡ a → e.delay ≡ d → cadence.StandsFor e.anchor []
+    → StandsFor a d e []
 stands_nothing a d e x y h = record {
   address = x;
   delay = y;
@@ -47,13 +50,16 @@ last_single : (p : List ℕ) → last_order (p ∷ []) ≡ None
 unfolding last_order
 last_single p = force_first (said (p ∷ []))
 
-pub keeps_single : (a d : ℕ) (e : Exciter) (packets : List Packet) (packet : Packet) (coder : Coding) → e.settled ≡ false → e.sent ≡ false → e.packets ≡ set packets 0 packet → 0 < length packets
-    → e.coder ≡ aligned_coding coder → AreStates coder.states → HasWidths 52 (spreading 4) coder.branches → KeepsUnder a d e (packet.0 ∷ [])
+pub keeps_single : (a d : ℕ) (e : Exciter) (packets : List Packet) (packet : Packet) (coder : Coding)
+    → e.settled ≡ false → e.sent ≡ false → e.packets ≡ set packets 0 packet → 0 < length packets
+    → e.coder ≡ aligned_coding coder → AreStates coder.states → HasWidths 52 (spreading 4) coder.branches
+    → KeepsUnder a d e (packet.0 ∷ [])
 keeps_single a d e packets packet coder settled sent held some coded states widths = record {
   settled = settled;
   partial =
       ap (λ x. take 1 (bytes_of x)) held ∙ ap (take 1) (map-set (λ p. p.0) packets 0 packet)
-      ∙ take_more_set (bytes_of packets) 0 packet.0 (let n : length (bytes_of packets) ≡ length packets = length-map packets (λ p. p.0) in omega (arith, n, some));
+      ∙ take_more_set (bytes_of packets) 0 packet.0 (let n : length (bytes_of packets)
+      ≡ length packets = length-map packets (λ p. p.0) in omega (arith, n, some));
   sent = sent ∙ ap (is_served a d) (sym (last_single packet.0));
   coder =
       subst (λ o. RunsUnder [] o e.coder) (sym (last_single packet.0))
@@ -62,16 +68,20 @@ keeps_single a d e packets packet coder settled sent held some coded states widt
 
 -- ---- any packet
 
-pub record Sees (a d : ℕ) (old : Exciter) (before : List (List ℕ)) (p : List ℕ) (sync : ℕ) (s : Seen) (anchor : Option ℕ) : Type 0 where
+pub record Sees (a d : ℕ) (old : Exciter) (before : List (List ℕ)) (p : List ℕ) (sync : ℕ) (s : Seen)
+    (anchor : Option ℕ) : Type 0 where
   pub stood : StandsFor a d old before
   pub is_sync : sync ≡ sync_of p
   pub saw : s ≡ cadence.seen (syncs before) sync
   pub stands : cadence.StandsFor anchor (syncs before ++ sync ∷ [])
 
-goes_as : (a d : ℕ) (old : Exciter) (before : List (List ℕ)) (p : List ℕ) (sync : ℕ) (s : Seen) (anchor : Option ℕ) → Sees a d old before p sync s anchor → Goes a d before p s
-goes_as a d old before p sync s anchor h = subst (Goes a d before p) (sym (h.saw ∙ ap (cadence.seen (syncs before)) h.is_sync)) (goes a d before p)
+goes_as : (a d : ℕ) (old : Exciter) (before : List (List ℕ)) (p : List ℕ) (sync : ℕ) (s : Seen) (anchor : Option ℕ)
+    → Sees a d old before p sync s anchor → Goes a d before p s
+goes_as a d old before p sync s anchor h =
+    subst (Goes a d before p) (sym (h.saw ∙ ap (cadence.seen (syncs before)) h.is_sync)) (goes a d before p)
 
-anchor_as : (a d : ℕ) (old : Exciter) (before : List (List ℕ)) (p : List ℕ) (sync : ℕ) (s : Seen) (anchor : Option ℕ) → Sees a d old before p sync s anchor → cadence.StandsFor anchor (syncs (before ++ p ∷ []))
+anchor_as : (a d : ℕ) (old : Exciter) (before : List (List ℕ)) (p : List ℕ) (sync : ℕ) (s : Seen) (anchor : Option ℕ)
+    → Sees a d old before p sync s anchor → cadence.StandsFor anchor (syncs (before ++ p ∷ []))
 anchor_as a d old before p sync s anchor h =
     subst (cadence.StandsFor anchor) (ap (λ x. syncs before ++ x ∷ []) h.is_sync ∙ sym (syncs_push before p)) h.stands
 
@@ -79,15 +89,18 @@ none_held : (symbols : List ℤ) → Holds [] 0 symbols
 none_held symbols = record { counted = refl; begins = refl }
 
 -- by what stands under the anchor with it
-pub record Makes (a d : ℕ) (now : Option (List (List ℕ))) (e : Exciter) (anchor : Option ℕ) (count : ℕ) (symbols : List ℤ) : Type 0 where
+pub record Makes (a d : ℕ) (now : Option (List (List ℕ))) (e : Exciter) (anchor : Option ℕ) (count : ℕ)
+    (symbols : List ℤ) : Type 0 where
   pub address : e.address ≡ a
   pub delay : e.delay ≡ d
   pub anchored : e.anchor ≡ anchor
   pub air : Holds (given_under a d now) count symbols
   pub kept : Keeps a d e now
 
-taken_as : (a d : ℕ) (old : Exciter) (before : List (List ℕ)) (p : List ℕ) (sync : ℕ) (s : Seen) (anchor : Option ℕ) (now : Option (List (List ℕ))) (e : Exciter) (answered : Told) (count : ℕ) (symbols : List ℤ)
-    → Sees a d old before p sync s anchor → under (before ++ p ∷ []) ≡ now → answered ≡ told a d (before ++ p ∷ []) → Makes a d now e anchor count symbols → IsTaken a d (before ++ p ∷ []) e answered count symbols
+taken_as : (a d : ℕ) (old : Exciter) (before : List (List ℕ)) (p : List ℕ) (sync : ℕ) (s : Seen) (anchor : Option ℕ)
+    (now : Option (List (List ℕ))) (e : Exciter) (answered : Told) (count : ℕ) (symbols : List ℤ)
+    → Sees a d old before p sync s anchor → under (before ++ p ∷ []) ≡ now → answered ≡ told a d (before ++ p ∷ [])
+    → Makes a d now e anchor count symbols → IsTaken a d (before ++ p ∷ []) e answered count symbols
 unfolding given
 taken_as a d old before p sync s anchor now e answered count symbols h u t m = record {
   answer = t;
@@ -95,35 +108,42 @@ taken_as a d old before p sync s anchor now e answered count symbols h u t m = r
   stands = record {
     address = m.address;
     delay = m.delay;
-    anchor = subst (λ x. cadence.StandsFor x (syncs (before ++ p ∷ []))) (sym m.anchored) (anchor_as a d old before p sync s anchor h);
+    anchor = subst (λ x. cadence.StandsFor x (syncs (before ++ p ∷ []))) (sym m.anchored)
+        (anchor_as a d old before p sync s anchor h);
     kept = subst (Keeps a d e) (sym u) m.kept;
   };
 }
 
 -- where there is no anchor
-pub taken_free : (a d : ℕ) (old : Exciter) (before : List (List ℕ)) (p : List ℕ) (sync : ℕ) (anchor : Option ℕ) (symbols : List ℤ) → Sees a d old before p sync Free anchor
+pub taken_free : (a d : ℕ) (old : Exciter) (before : List (List ℕ)) (p : List ℕ) (sync : ℕ) (anchor : Option ℕ)
+    (symbols : List ℤ) → Sees a d old before p sync Free anchor
     → IsTaken a d (before ++ p ∷ []) (record old { anchor = anchor }) Quiet 0 symbols
 taken_free a d old before p sync anchor symbols h =
     let g : Goes a d before p Free = goes_as a d old before p sync Free anchor h in
-    taken_as a d old before p sync Free anchor None (record old { anchor = anchor }) Quiet 0 symbols h g.follows (sym g.answer)
+    taken_as a d old before p sync Free anchor None (record old { anchor = anchor }) Quiet 0 symbols h g.follows
+    (sym g.answer)
     (record { address = h.stood.address; delay = h.stood.delay; anchored = refl; air = none_held symbols; kept = tt })
 
-pub taken_lost : (a d : ℕ) (old : Exciter) (before : List (List ℕ)) (p : List ℕ) (sync : ℕ) (anchor : Option ℕ) (symbols : List ℤ) → Sees a d old before p sync Lost anchor
+pub taken_lost : (a d : ℕ) (old : Exciter) (before : List (List ℕ)) (p : List ℕ) (sync : ℕ) (anchor : Option ℕ)
+    (symbols : List ℤ) → Sees a d old before p sync Lost anchor
     → IsTaken a d (before ++ p ∷ []) (record old { anchor = anchor }) (Muted Cadence) 0 symbols
 taken_lost a d old before p sync anchor symbols h =
     let g : Goes a d before p Lost = goes_as a d old before p sync Lost anchor h in
-    taken_as a d old before p sync Lost anchor None (record old { anchor = anchor }) (Muted Cadence) 0 symbols h g.follows (sym g.answer)
+    taken_as a d old before p sync Lost anchor None (record old { anchor = anchor })
+    (Muted Cadence) 0 symbols h g.follows (sym g.answer)
     (record { address = h.stood.address; delay = h.stood.delay; anchored = refl; air = none_held symbols; kept = tt })
 
 -- where this packet is the anchor: it is begun with
-begun : (a d : ℕ) (old mid e : Exciter) (before : List (List ℕ)) (p : List ℕ) (anchor : Option ℕ) (symbols : List ℤ) → StandsFor a d old before → mid ≡ record old { anchor = anchor }
+begun : (a d : ℕ) (old mid e : Exciter) (before : List (List ℕ)) (p : List ℕ) (anchor : Option ℕ) (symbols : List ℤ)
+    → StandsFor a d old before → mid ≡ record old { anchor = anchor }
     → KeepsUnder mid.address mid.delay e (p ∷ []) → IsSame mid e → Makes a d (Some (p ∷ [])) e anchor 0 symbols
 begun a d old mid e before p anchor symbols h m k same = record {
   address = same.address ∙ of_old;
   delay = same.delay ∙ delay_old;
   anchored = same.anchor ∙ ap (λ (x : Exciter). x.anchor) m;
   air = none_held symbols;
-  kept = subst (λ (x : ℕ). KeepsUnder a x e (p ∷ [])) delay_old (subst (λ (x : ℕ). KeepsUnder x mid.delay e (p ∷ [])) of_old k);
+  kept = subst (λ (x : ℕ). KeepsUnder a x e (p ∷ [])) delay_old
+      (subst (λ (x : ℕ). KeepsUnder x mid.delay e (p ∷ [])) of_old k);
 }
   where
     of_old : mid.address ≡ a
@@ -132,36 +152,54 @@ begun a d old mid e before p anchor symbols h m k same = record {
     delay_old : mid.delay ≡ d
     delay_old = ap (λ (x : Exciter). x.delay) m ∙ h.delay
 
-pub taken_start : (a d : ℕ) (old mid e : Exciter) (before : List (List ℕ)) (p : List ℕ) (sync : ℕ) (anchor : Option ℕ) (symbols : List ℤ) → Sees a d old before p sync Start anchor → mid ≡ record old { anchor = anchor }
+pub taken_start : (a d : ℕ) (old mid e : Exciter) (before : List (List ℕ)) (p : List ℕ) (sync : ℕ) (anchor : Option ℕ)
+    (symbols : List ℤ) → Sees a d old before p sync Start anchor → mid ≡ record old { anchor = anchor }
     → KeepsUnder mid.address mid.delay e (p ∷ []) → IsSame mid e → IsTaken a d (before ++ p ∷ []) e Quiet 0 symbols
 taken_start a d old mid e before p sync anchor symbols h m k same =
     let g : Goes a d before p Start = goes_as a d old before p sync Start anchor h in
-    taken_as a d old before p sync Start anchor (Some (p ∷ [])) e Quiet 0 symbols h g.follows (sym g.answer) (begun a d old mid e before p anchor symbols h.stood m k same)
+    taken_as a d old before p sync Start anchor (Some (p ∷ [])) e Quiet 0 symbols h g.follows (sym g.answer)
+    (begun a d old mid e before p anchor symbols h.stood m k same)
 
-pub taken_moved : (a d : ℕ) (old mid e : Exciter) (before : List (List ℕ)) (p : List ℕ) (sync : ℕ) (anchor : Option ℕ) (symbols : List ℤ) → Sees a d old before p sync Moved anchor → mid ≡ record old { anchor = anchor }
-    → KeepsUnder mid.address mid.delay e (p ∷ []) → IsSame mid e → IsTaken a d (before ++ p ∷ []) e (Muted Cadence) 0 symbols
+pub taken_moved : (a d : ℕ) (old mid e : Exciter) (before : List (List ℕ)) (p : List ℕ) (sync : ℕ) (anchor : Option ℕ)
+    (symbols : List ℤ) → Sees a d old before p sync Moved anchor → mid ≡ record old { anchor = anchor }
+    → KeepsUnder mid.address mid.delay e (p ∷ []) → IsSame mid e
+    → IsTaken a d (before ++ p ∷ []) e (Muted Cadence) 0 symbols
 taken_moved a d old mid e before p sync anchor symbols h m k same =
     let g : Goes a d before p Moved = goes_as a d old before p sync Moved anchor h in
-    taken_as a d old before p sync Moved anchor (Some (p ∷ [])) e (Muted Cadence) 0 symbols h g.follows (sym g.answer) (begun a d old mid e before p anchor symbols h.stood m k same)
+    taken_as a d old before p sync Moved anchor (Some (p ∷ [])) e (Muted Cadence) 0 symbols h g.follows (sym g.answer)
+    (begun a d old mid e before p anchor symbols h.stood m k same)
 
 -- where the anchor holds: it joins those under it
-kept_old : (a d : ℕ) (old : Exciter) (before : List (List ℕ)) (l : List (List ℕ)) → StandsFor a d old before → under before ≡ Some l → KeepsUnder a d old l
+kept_old : (a d : ℕ) (old : Exciter) (before : List (List ℕ)) (l : List (List ℕ)) → StandsFor a d old before
+    → under before ≡ Some l → KeepsUnder a d old l
 kept_old a d old before l h u = subst (Keeps a d old) u h.kept
 
-with_anchor : (a d : ℕ) (old mid : Exciter) (anchor : Option ℕ) (l : List (List ℕ)) → mid ≡ record old { anchor = anchor } → KeepsUnder a d old l → KeepsUnder a d mid l
+with_anchor : (a d : ℕ) (old mid : Exciter) (anchor : Option ℕ) (l : List (List ℕ))
+    → mid ≡ record old { anchor = anchor } → KeepsUnder a d old l → KeepsUnder a d mid l
 with_anchor a d old mid anchor l m k =
-    subst (λ (x : Exciter). KeepsUnder a d x l) (sym m) (record { settled = k.settled; partial = k.partial; sent = k.sent; coder = k.coder })
+    subst (λ (x : Exciter). KeepsUnder a d x l) (sym m) (record {
+      settled = k.settled;
+      partial = k.partial;
+      sent = k.sent;
+      coder = k.coder;
+    })
 
-joined_as : (a d : ℕ) (mid e : Exciter) (p : List ℕ) (place : ℕ) (answered : Told) (count : ℕ) (symbols : List ℤ) (l : List (List ℕ)) → mid.address ≡ a → mid.delay ≡ d → Joins place p mid e answered count symbols
+joined_as : (a d : ℕ) (mid e : Exciter) (p : List ℕ) (place : ℕ) (answered : Told) (count : ℕ) (symbols : List ℤ)
+    (l : List (List ℕ)) → mid.address ≡ a → mid.delay ≡ d → Joins place p mid e answered count symbols
     → KeepsUnder a d mid l → place ≡ length l % 624 → IsJoined a d (l ++ p ∷ []) e answered count symbols
 joined_as a d mid e p place answered count symbols l x y j k h =
     subst (λ (n : ℕ). IsJoined a n (l ++ p ∷ []) e answered count symbols) y
     (subst (λ (n : ℕ). IsJoined n mid.delay (l ++ p ∷ []) e answered count symbols) x
-    (j l (subst (λ (n : ℕ). KeepsUnder n mid.delay mid l) (sym x) (subst (λ (n : ℕ). KeepsUnder a n mid l) (sym y) k)) h))
+    (j l (subst (λ (n : ℕ). KeepsUnder n mid.delay mid l) (sym x) (subst (λ (n : ℕ). KeepsUnder a n mid l) (sym y) k))
+    h))
 
-pub taken_at : (old mid e : Exciter) (before : List (List ℕ)) (p : List ℕ) (sync place : ℕ) (anchor : Option ℕ) (answered : Told) (count : ℕ) (symbols : List ℤ) (a d : ℕ) → Sees a d old before p sync (At place) anchor → mid ≡ record old { anchor = anchor }
-    → Joins place p mid e answered count symbols → IsSame mid e → IsTaken a d (before ++ p ∷ []) e answered count symbols
-taken_at old mid e before p sync place anchor answered count symbols a d h m j same = by_follow (goes_as a d old before p sync (At place) anchor h)
+pub taken_at : (old mid e : Exciter) (before : List (List ℕ)) (p : List ℕ) (sync place : ℕ) (anchor : Option ℕ)
+    (answered : Told) (count : ℕ) (symbols : List ℤ) (a d : ℕ) → Sees a d old before p sync (At place) anchor
+    → mid ≡ record old { anchor = anchor }
+    → Joins place p mid e answered count symbols → IsSame mid e
+    → IsTaken a d (before ++ p ∷ []) e answered count symbols
+taken_at old mid e before p sync place anchor answered count symbols a d h m j same =
+    by_follow (goes_as a d old before p sync (At place) anchor h)
   where
     of_old : mid.address ≡ a
     of_old = ap (λ (x : Exciter). x.address) m ∙ h.stood.address
@@ -169,14 +207,23 @@ taken_at old mid e before p sync place anchor answered count symbols a d h m j s
     delay_old : mid.delay ≡ d
     delay_old = ap (λ (x : Exciter). x.delay) m ∙ h.stood.delay
 
-    by_join : (l : List (List ℕ)) → under (before ++ p ∷ []) ≡ Some (l ++ p ∷ []) → Goes a d before p (At place) → IsJoined a d (l ++ p ∷ []) e answered count symbols → IsTaken a d (before ++ p ∷ []) e answered count symbols
+    by_join : (l : List (List ℕ)) → under (before ++ p ∷ []) ≡ Some (l ++ p ∷ []) → Goes a d before p (At place)
+        → IsJoined a d (l ++ p ∷ []) e answered count symbols → IsTaken a d (before ++ p ∷ []) e answered count symbols
     by_join l u g w =
         taken_as a d old before p sync (At place) anchor (Some (l ++ p ∷ [])) e answered count symbols h u
         (w.answer ∙ ap (λ o. told_under a d (option_map said o)) (sym u) ∙ sym g.answer)
-        (record { address = same.address ∙ of_old; delay = same.delay ∙ delay_old; anchored = same.anchor ∙ ap (λ (x : Exciter). x.anchor) m; air = w.air; kept = w.keeps })
+        (record {
+          address = same.address ∙ of_old;
+          delay = same.delay ∙ delay_old;
+          anchored = same.anchor
+              ∙ ap (λ (x : Exciter). x.anchor) m;
+          air = w.air;
+          kept = w.keeps;
+        })
 
     by_follow : Goes a d before p (At place) → IsTaken a d (before ++ p ∷ []) e answered count symbols
     by_follow g =
         let l : List (List ℕ) = g.follows.0 in
         by_join l g.follows.2 g
-        (joined_as a d mid e p place answered count symbols l of_old delay_old j (with_anchor a d old mid anchor l m (kept_old a d old before l h.stood g.follows.1)) g.follows.3)
+        (joined_as a d mid e p place answered count symbols l of_old delay_old j
+        (with_anchor a d old mid anchor l m (kept_old a d old before l h.stood g.follows.1)) g.follows.3)

@@ -1,5 +1,6 @@
 -- What is done with a whole group.
-use Rattle.std.proofs.Common.{◌≡◌, ℕ, ℤ, ◌*◌, ◌%◌, ◌==◌, ◌&&◌, Bool, true, false, cond, Option, option_map, List, [], take, sym, ap, ap₂, subst, ◌∙◌}
+use Rattle.std.proofs.Common.{◌≡◌, ℕ, ℤ, ◌*◌, ◌%◌, ◌==◌, ◌&&◌, Bool, true, false, cond, Option, option_map, List, []}
+use Rattle.std.proofs.Common.{take, sym, ap, ap₂, subst, ◌∙◌}
 use Rattle.std.specs.Prelude.{nat_le}
 use Rattle.std.specs.Option.{unwrap_or}
 use Rattle.dtx_coder.specs.Groups.{Coding, Group, IsCoded, segments_of}
@@ -11,40 +12,75 @@ use Rattle.dtx_exciter.specs.Emission.{Holds}
 use Rattle.dtx_exciter.specs.Step.{bytes_of, own_order, told_group, own_of, group_of, IsSent}
 
 -- what the code does
-pub record Does (old : Exciter) (j : ℕ) (order : Option Ops) (answered : Told) (sent sync : Bool) (states : Option (List ℕ)) (coder : Coding) (coded : ℕ) (count : ℕ) (symbols given : List ℤ) : Type 0 where
+pub record Does (old : Exciter) (j : ℕ) (order : Option Ops) (answered : Told) (sent sync : Bool)
+    (states : Option (List ℕ)) (coder : Coding) (coded : ℕ) (count : ℕ) (symbols given : List ℤ) : Type 0 where
   pub order_is : order ≡ own_order old.settled j (bytes_of old.packets)
   pub told : answered ≡ told_group old.address old.delay j order old.sent
   pub sent_is : sent ≡ is_sent answered
   pub sync_is : sync ≡ (sent && old.sent && (j % 312 == 0))
   pub states_are : states ≡ option_map (λ o. o.states) order
-  pub codes : IsCoded old.coder (record { first = j % 312; second = nat_le 312 j; sync = sync; from = unwrap_or states old.coder.states; packets = bytes_of old.packets }) coder coded symbols
+  pub codes : IsCoded old.coder (record {
+    first = j % 312;
+    second = nat_le 312 j;
+    sync = sync;
+    from = unwrap_or states old.coder.states;
+    packets = bytes_of old.packets;
+  }) coder coded symbols
   pub count_is : count ≡ cond sent coded 0
   pub symbols_are : given ≡ symbols
 
-group_is : (old : Exciter) (j : ℕ) (order : Option Ops) (answered : Told) (sent sync : Bool) (states : Option (List ℕ)) (coder : Coding) (coded count : ℕ) (symbols given : List ℤ) → Does old j order answered sent sync states coder coded count symbols given
-    → ◌≡◌ {A = Group} (record { first = j % 312; second = nat_le 312 j; sync = sync; from = unwrap_or states old.coder.states; packets = bytes_of old.packets }) (group_of old j answered)
+group_is : (old : Exciter) (j : ℕ) (order : Option Ops) (answered : Told) (sent sync : Bool) (states : Option (List ℕ))
+    (coder : Coding) (coded count : ℕ) (symbols given : List ℤ)
+    → Does old j order answered sent sync states coder coded count symbols given
+    → ◌≡◌ {A = Group} (record {
+      first = j % 312;
+      second = nat_le 312 j;
+      sync = sync;
+      from = unwrap_or states old.coder.states;
+      packets = bytes_of old.packets;
+    }) (group_of old j answered)
 unfolding group_of own_of
 group_is old j order answered sent sync states coder coded count symbols given d =
-    ap (λ (b : Bool). record { first = j % 312; second = nat_le 312 j; sync = b; from = unwrap_or states old.coder.states; packets = bytes_of old.packets })
+    ap (λ (b : Bool). record {
+      first = j % 312;
+      second = nat_le 312 j;
+      sync = b;
+      from = unwrap_or states old.coder.states;
+      packets = bytes_of old.packets;
+    })
     (d.sync_is ∙ ap (λ (b : Bool). b && old.sent && (j % 312 == 0)) d.sent_is)
-    ∙ ap (λ (q : Option (List ℕ)). record { first = j % 312; second = nat_le 312 j; sync = is_sent answered && old.sent && (j % 312 == 0); from = unwrap_or q old.coder.states; packets = bytes_of old.packets })
+    ∙ ap (λ (q : Option (List ℕ)). record {
+      first = j % 312;
+      second = nat_le 312 j;
+      sync = is_sent answered && old.sent && (j % 312 == 0);
+      from = unwrap_or q old.coder.states;
+      packets =
+          bytes_of old.packets;
+    })
     (d.states_are ∙ ap (option_map (λ (o : Ops). o.states)) d.order_is)
 
-held_by : (sent : Bool) (ss : List (List ℤ)) (coded count : ℕ) (symbols : List ℤ) → Holds ss coded symbols → count ≡ cond sent coded 0 → Holds (cond sent ss []) count symbols
+held_by : (sent : Bool) (ss : List (List ℤ)) (coded count : ℕ) (symbols : List ℤ) → Holds ss coded symbols
+    → count ≡ cond sent coded 0 → Holds (cond sent ss []) count symbols
 held_by true ss coded count symbols h e = subst (λ (n : ℕ). Holds ss n symbols) (sym e) h
 held_by false ss coded count symbols h e = record { counted = e; begins = ap (λ (n : ℕ). take (832 * n) symbols) e }
 
-pub does_send : (old made : Exciter) (j : ℕ) (order : Option Ops) (answered : Told) (sent sync : Bool) (states : Option (List ℕ)) (coder : Coding) (coded count : ℕ) (symbols given : List ℤ) → Does old j order answered sent sync states coder coded count symbols given
+pub does_send : (old made : Exciter) (j : ℕ) (order : Option Ops) (answered : Told) (sent sync : Bool)
+    (states : Option (List ℕ)) (coder : Coding) (coded count : ℕ) (symbols given : List ℤ)
+    → Does old j order answered sent sync states coder coded count symbols given
     → made ≡ record old { sent = sent; coder = coder } → IsSent j old made answered count given
 unfolding own_of
 does_send old made j order answered sent sync states coder coded count symbols given d m =
     let codes : IsCoded old.coder (group_of old j answered) coder coded symbols =
-    subst (λ g. IsCoded old.coder g coder coded symbols) (group_is old j order answered sent sync states coder coded count symbols given d) d.codes in
+    subst (λ g. IsCoded old.coder g coder coded symbols)
+    (group_is old j order answered sent sync states coder coded count symbols given d) d.codes in
     record {
       answer = d.told ∙ ap (λ o. told_group old.address old.delay j o old.sent) d.order_is;
       new = m ∙ ap₂ (λ (b : Bool) (c : Coding). record old { sent = b; coder = c }) d.sent_is codes.coder;
       air =
-          subst (λ (x : List ℤ). Holds (cond (is_sent answered) (segments_of old.coder (group_of old j answered)) []) count x) (sym d.symbols_are)
-          (subst (λ (b : Bool). Holds (cond b (segments_of old.coder (group_of old j answered)) []) count symbols) d.sent_is
-          (held_by sent (segments_of old.coder (group_of old j answered)) coded count symbols (record { counted = codes.segments; begins = codes.symbols }) d.count_is));
+          subst (λ (x : List ℤ). Holds (cond (is_sent answered) (segments_of old.coder (group_of old j answered)) [])
+          count x) (sym d.symbols_are)
+          (subst (λ (b : Bool). Holds (cond b (segments_of old.coder (group_of old j answered)) []) count symbols)
+          d.sent_is
+          (held_by sent (segments_of old.coder (group_of old j answered)) coded count symbols
+          (record { counted = codes.segments; begins = codes.symbols }) d.count_is));
     }

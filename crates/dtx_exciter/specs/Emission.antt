@@ -1,6 +1,8 @@
--- The segments that an exciter gives (the profile's own, over the symbols of ATSC A/53 Part 2). Packets are counted from the
+-- The segments that an exciter gives (the profile's own, over the symbols of ATSC A/53 Part 2). Packets are counted
+-- from the
 -- anchor, whose packet begins a first field.
-use Rattle.std.specs.Prelude.{ℕ, ℤ, ◌≡◌, ◌+◌, ◌-◌, ◌*◌, ◌/◌, ◌%◌, ◌==◌, nat_le, Option, Some, None, is_ok, if◌then◌else◌, List, [], ◌∷◌, ◌++◌, length, take, slice_index_or, flat_map}
+use Rattle.std.specs.Prelude.{ℕ, ℤ, ◌≡◌, ◌+◌, ◌-◌, ◌*◌, ◌/◌, ◌%◌, ◌==◌, nat_le, Option, Some, None, is_ok}
+use Rattle.std.specs.Prelude.{if◌then◌else◌, List, [], ◌∷◌, ◌++◌, length, take, slice_index_or, flat_map}
 use Rattle.std.specs.List.{range_with_len}
 use Rattle.dtx_frame.specs.Segments.{field_sync}
 use Rattle.dtx_coder.specs.Stream.{four_segments, last_of, symbols_of}
@@ -13,11 +15,13 @@ use Rattle.dtx_exciter.specs.Packets.{said, under}
 unfoldable pub segments_since : ℕ → List ℕ → List (List ℕ) → ℕ → List (List ℤ)
 segments_since g q packets u = four_segments (levels_since g q packets) (4 * (u - g))
 
--- the data segments of the group from i on under an order, where it serves: the coders begin with its states before its group
+-- the data segments of the group from i on under an order, where it serves: the coders begin with its states before its
+-- group
 abbrev pub sent_by : ℕ → ℕ → List (List ℕ) → ℕ → Option Order → List (List ℤ)
 sent_by address delay packets i None = []
 sent_by address delay packets i (Some order) =
-    if is_ok (served address delay order.ops) then segments_since (order.place / 4) order.ops.states packets (i / 4) else []
+    if is_ok (served address delay order.ops) then segments_since (order.place / 4) order.ops.states packets
+    (i / 4) else []
 
 -- those that are sent of the group from i on
 unfoldable pub sent_at : ℕ → ℕ → List (List ℕ) → ℕ → List (List ℤ)
@@ -27,19 +31,22 @@ sent_at address delay packets i = sent_by address delay packets i (in_force (sai
 abbrev pub sent_before : ℕ → ℕ → List (List ℕ) → ℕ → List (List ℤ)
 sent_before address delay packets i = if nat_le 4 i then sent_at address delay packets (i - 4) else []
 
--- a sent group behind a field sync, where it begins a field and the group before it was sent: the field sync ends with the last
+-- a sent group behind a field sync, where it begins a field and the group before it was sent: the field sync ends with
+-- the last
 -- twelve symbols that were sent
 abbrev pub with_sync : ℕ → List (List ℤ) → List (List ℤ) → List (List ℤ)
 with_sync i before [] = []
 with_sync i [] (s ∷ ss) = s ∷ ss
 with_sync i (b ∷ bs) (s ∷ ss) =
-    (if i % 312 == 0 then field_sync (nat_le 312 (i % 624)) (last_of (slice_index_or (b ∷ bs) (length bs) [])) ∷ [] else []) ++ s ∷ ss
+    (if i % 312 == 0 then field_sync (nat_le 312 (i % 624))
+    (last_of (slice_index_or (b ∷ bs) (length bs) [])) ∷ [] else []) ++ s ∷ ss
 
 abbrev pub given_under : ℕ → ℕ → Option (List (List ℕ)) → List (List ℤ)
 given_under address delay None = []
 given_under address delay (Some packets) =
     if length packets % 4 == 0
-    then with_sync (length packets - 4) (sent_before address delay packets (length packets - 4)) (sent_at address delay packets (length packets - 4))
+    then with_sync (length packets - 4) (sent_before address delay packets (length packets - 4))
+    (sent_at address delay packets (length packets - 4))
     else []
 
 -- the segments that the last of these packets gives
@@ -48,7 +55,8 @@ given address delay packets = given_under address delay (under packets)
 
 -- all segments that these packets give, in order
 unfoldable pub emission : ℕ → ℕ → List (List ℕ) → List (List ℤ)
-emission address delay packets = flat_map (λ n. given address delay (take (n + 1) packets)) (range_with_len 0 (length packets))
+emission address delay packets =
+    flat_map (λ n. given address delay (take (n + 1) packets)) (range_with_len 0 (length packets))
 
 -- so many segments, whose symbols are the first of these
 pub record Holds (segments : List (List ℤ)) (count : ℕ) (symbols : List ℤ) : Type 0 where

@@ -1,5 +1,6 @@
 -- What an exciter keeps of the packets that it was given since it was new or reset.
-use Rattle.std.specs.Prelude.{ℕ, ℤ, ◌≡◌, ◌*◌, ◌/◌, ◌%◌, ◌-◌, nat_le, Bool, false, ⊤, Option, Some, None, is_ok, List, [], ◌∷◌, ◌++◌, length, take, drop}
+use Rattle.std.specs.Prelude.{ℕ, ℤ, ◌≡◌, ◌*◌, ◌/◌, ◌%◌, ◌-◌, nat_le, Bool, false, ⊤, Option, Some, None, is_ok, List}
+use Rattle.std.specs.Prelude.{[], ◌∷◌, ◌++◌, length, take, drop}
 use Rattle.dtx_cadence.specs.Anchor as cadence
 use Rattle.dtx_coder.specs.Groups.{Coding}
 use Rattle.dtx_coder.specs.Along.{RunsAlong}
@@ -43,7 +44,8 @@ abbrev pub Keeps : ℕ → ℕ → Exciter → Option (List (List ℕ)) → Type
 Keeps address delay e None = ⊤
 Keeps address delay e (Some packets) = KeepsUnder address delay e packets
 
--- the exciter of the transmitter with this address and delay that was given these packets, or one that answers as it does
+-- the exciter of the transmitter with this address and delay that was given these packets, or one that answers as it
+-- does
 pub record StandsFor (a d : ℕ) (e : Exciter) (packets : List (List ℕ)) : Type 0 where
   pub address : e.address ≡ a
   pub delay : e.delay ≡ d
@@ -51,13 +53,15 @@ pub record StandsFor (a d : ℕ) (e : Exciter) (packets : List (List ℕ)) : Typ
   pub kept : Keeps a d e (under packets)
 
 -- What becomes of an exciter, and what it answers and gives, with the last of these packets.
-pub record IsTaken (a d : ℕ) (packets : List (List ℕ)) (e : Exciter) (answered : Told) (count : ℕ) (symbols : List ℤ) : Type 0 where
+pub record IsTaken (a d : ℕ) (packets : List (List ℕ)) (e : Exciter) (answered : Told) (count : ℕ)
+    (symbols : List ℤ) : Type 0 where
   pub answer : answered ≡ told a d packets
   pub air : Holds (given a d packets) count symbols
   pub stands : StandsFor a d e packets
 
 -- the same of the packets from the anchor on
-pub record IsJoined (address delay : ℕ) (packets : List (List ℕ)) (e : Exciter) (answered : Told) (count : ℕ) (symbols : List ℤ) : Type 0 where
+pub record IsJoined (address delay : ℕ) (packets : List (List ℕ)) (e : Exciter) (answered : Told) (count : ℕ)
+    (symbols : List ℤ) : Type 0 where
   pub answer : answered ≡ told_under address delay (Some (said packets))
   pub air : Holds (given_under address delay (Some packets)) count symbols
   pub keeps : KeepsUnder address delay e packets

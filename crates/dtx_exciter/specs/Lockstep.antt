@@ -1,5 +1,6 @@
 -- An exciter that is given a feed from one of its marks on, whatever it was given before.
-use Rattle.std.specs.Prelude.{ℕ, ◌≡◌, ◌+◌, ◌/◌, ◌%◌, ◌≤◌, ◌<◌, ◌==◌, true, Some, is_ok, List, [], length, take, drop, slice_index_or}
+use Rattle.std.specs.Prelude.{ℕ, ◌≡◌, ◌+◌, ◌/◌, ◌%◌, ◌≤◌, ◌<◌, ◌==◌, true, Some, is_ok, List, [], length, take, drop}
+use Rattle.std.specs.Prelude.{slice_index_or}
 use Rattle.std.specs.Prelude.{ℤ}
 use Rattle.dtx_packets.specs.Packet.{sync_of}
 use Rattle.dtx_ops.specs.declared.fields.Ops.{Ops}
@@ -8,15 +9,18 @@ use Rattle.dtx_exciter.specs.Order.{counted}
 use Rattle.dtx_exciter.specs.Told.{served}
 use Rattle.dtx_exciter.specs.Packets.{said}
 
--- What the exciter of the transmitter with this address and delay asks of a feed: a mark stands at each 624th packet and nowhere
--- else, and each order 52 or more packets behind its start sets the states that the feed's own coders have before the order's
+-- What the exciter of the transmitter with this address and delay asks of a feed: a mark stands at each 624th packet
+-- and nowhere
+-- else, and each order 52 or more packets behind its start sets the states that the feed's own coders have before the
+-- order's
 -- group, and serves the transmitter.
 pub record IsFeed (address delay : ℕ) (feed : List (List ℕ)) : Type 0 where
   pub marks : (k : ℕ) → k < length feed → (sync_of (slice_index_or feed k []) == 0xB8) ≡ (k % 624 == 0)
   pub states : (g : ℕ) (ops : Ops) → counted (said feed) g ≡ Some ops → ops.states ≡ states (take g feed)
   pub serves : (g : ℕ) (ops : Ops) → counted (said feed) g ≡ Some ops → is_ok (served address delay ops) ≡ true
 
--- The feed's packets from mark to end, and among them, 52 or more behind the mark, the order of the group from place k on.
+-- The feed's packets from mark to end, and among them, 52 or more behind the mark, the order of the group from place k
+-- on.
 pub record IsStretch (feed : List (List ℕ)) (mark end k : ℕ) : Type 0 where
   pub is_mark : mark % 624 ≡ 0
   pub inside : end ≤ length feed

@@ -14,7 +14,8 @@ pub data Line : Type 0 where
   mute : ℕ → Why → Line
   restart : ℕ → Line
 
--- the line of an answer, where n segments were given before it and m with it: a preset speaks of the group's first data segment,
+-- the line of an answer, where n segments were given before it and m with it: a preset speaks of the group's first data
+-- segment,
 -- behind a field sync
 abbrev pub line_of : ℕ → ℕ → Told → List Line
 line_of n m Quiet = []
@@ -26,7 +27,8 @@ line_of n m (Muted why) = mute n why ∷ []
 unfoldable pub life_lines : ℕ → ℕ → ℕ → List (List ℕ) → List Line
 life_lines address delay n life =
     flat_map
-    (λ i. line_of (n + length (emission address delay (take i life))) (length (given address delay (take (i + 1) life))) (told address delay (take (i + 1) life)))
+    (λ i. line_of (n + length (emission address delay (take i life))) (length (given address delay (take (i + 1) life)))
+    (told address delay (take (i + 1) life)))
     (range_with_len 0 (length life))
 
 -- the lines of lives, with a restart between any two
@@ -41,13 +43,15 @@ log address delay n (life ∷ next ∷ more) =
 unfoldable pub restarted_lines : ℕ → ℕ → ℕ → List (List (List ℕ)) → List Line
 restarted_lines address delay n [] = []
 restarted_lines address delay n (life ∷ more) =
-    life_lines address delay n life ++ restart (n + length (emission address delay life)) ∷ restarted_lines address delay (n + length (emission address delay life)) more
+    life_lines address delay n life ++ restart (n + length (emission address delay life)) ∷ restarted_lines address
+    delay (n + length (emission address delay life)) more
 
 -- the lines of lives that each begin with a restart
 unfoldable pub restarting_lines : ℕ → ℕ → ℕ → List (List (List ℕ)) → List Line
 restarting_lines address delay n [] = []
 restarting_lines address delay n (life ∷ more) =
-    restart n ∷ (life_lines address delay n life ++ restarting_lines address delay (n + length (emission address delay life)) more)
+    restart n ∷ (life_lines address delay n life ++ restarting_lines address delay
+    (n + length (emission address delay life)) more)
 
 -- the segments that lives give, in order
 abbrev pub emission_over : ℕ → ℕ → List (List (List ℕ)) → List (List ℤ)

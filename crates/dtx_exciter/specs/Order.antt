@@ -1,4 +1,5 @@
--- What the packets under an anchor order (the profile's own). They are counted from the anchor, and each is told here by the
+-- What the packets under an anchor order (the profile's own). They are counted from the anchor, and each is told here
+-- by the
 -- operations fields that it reads as, where it reads.
 use Rattle.std.specs.Prelude.{ℕ, ◌+◌, ◌%◌, ◌==◌, nat_le, ◌&&◌, Option, Some, None, if◌then◌else◌, List, slice_index_or}
 use Rattle.std.proofs.Common.{zero, suc}
@@ -25,7 +26,9 @@ ordered_at said k = ordered (k % 624) (slice_index_or said k None)
 
 -- what the group of four packets from g on orders: what the first of them orders that orders something
 unfoldable pub order_at : List (Option Ops) → ℕ → Option Ops
-order_at said g = either (ordered_at said g) (either (ordered_at said (g + 1)) (either (ordered_at said (g + 2)) (ordered_at said (g + 3))))
+order_at said g =
+    either (ordered_at said g) (either (ordered_at said (g + 1))
+    (either (ordered_at said (g + 2)) (ordered_at said (g + 3))))
 
 -- that counts only of a group that begins 52 or more packets behind the anchor
 unfoldable pub counted : List (Option Ops) → ℕ → Option Ops

@@ -1,5 +1,6 @@
 -- What an exciter does with one whole group, from what it keeps.
-use Rattle.std.specs.Prelude.{ℕ, ℤ, ◌≡◌, ◌+◌, ◌%◌, ◌==◌, nat_le, Bool, ◌&&◌, Option, Some, None, option_map, if◌then◌else◌, Result, Ok, Err, List, [], map, slice_index_or}
+use Rattle.std.specs.Prelude.{ℕ, ℤ, ◌≡◌, ◌+◌, ◌%◌, ◌==◌, nat_le, Bool, ◌&&◌, Option, Some, None, option_map}
+use Rattle.std.specs.Prelude.{if◌then◌else◌, Result, Ok, Err, List, [], map, slice_index_or}
 use Rattle.std.specs.Option.{unwrap_or}
 use Rattle.dtx_packets.specs.declared.packet.Packet.{Packet}
 use Rattle.dtx_ops.specs.declared.fields.Ops.{Ops}
@@ -21,7 +22,8 @@ unfoldable pub order_in : ℕ → List (List ℕ) → Option Ops
 order_in j packets =
     either (ordered j (reads (slice_index_or packets 0 [])))
     (either (ordered (j + 1) (reads (slice_index_or packets 1 [])))
-    (either (ordered (j + 2) (reads (slice_index_or packets 2 []))) (ordered (j + 3) (reads (slice_index_or packets 3 [])))))
+    (either (ordered (j + 2) (reads (slice_index_or packets 2 [])))
+    (ordered (j + 3) (reads (slice_index_or packets 3 [])))))
 
 -- where it counts
 abbrev pub own_order : Bool → ℕ → List (List ℕ) → Option Ops

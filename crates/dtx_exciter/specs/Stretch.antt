@@ -1,5 +1,6 @@
 -- What stands in front of a feed's stretch and behind any packets, and the lines of a stretch (the profile's own).
-use Rattle.std.specs.Prelude.{ℕ, ℤ, pos, ◌≡◌, ◌+◌, ◌-◌, ◌*◌, ◌%◌, ◌==◌, ◌-ℤ◌, ◌*ℤ◌, ⊤, nat_le, if◌then◌else◌, List, [], ◌∷◌, ◌++◌, length, map, take, slice_index_or, slice_range}
+use Rattle.std.specs.Prelude.{ℕ, ℤ, pos, ◌≡◌, ◌+◌, ◌-◌, ◌*◌, ◌%◌, ◌==◌, ◌-ℤ◌, ◌*ℤ◌, ⊤, nat_le, if◌then◌else◌, List, []}
+use Rattle.std.specs.Prelude.{◌∷◌, ◌++◌, length, map, take, slice_index_or, slice_range}
 use Rattle.std.specs.List.{range_with_len, flat_map, filter_map}
 use Rattle.dtx_clock.specs.declared.answers.Moment.{Moment}
 use Rattle.dtx_clock.specs.Clock.{moment_of, DifferBy}
@@ -16,29 +17,36 @@ use Rattle.dtx_exciter.specs.Lockstep.{segment_place}
 
 -- the segments that further packets give, one after another
 unfoldable pub emission_behind : ℕ → ℕ → List (List ℕ) → List (List ℕ) → List (List ℤ)
-emission_behind address delay packets more = flat_map (λ i. given address delay (packets ++ take (i + 1) more)) (range_with_len 0 (length more))
+emission_behind address delay packets more =
+    flat_map (λ i. given address delay (packets ++ take (i + 1) more)) (range_with_len 0 (length more))
 
 -- their lines, where n segments were given before the life
 unfoldable pub lines_behind : ℕ → ℕ → ℕ → List (List ℕ) → List (List ℕ) → List Line
 lines_behind address delay n packets more =
     flat_map
-    (λ i. line_of (n + length (emission address delay (packets ++ take i more))) (length (given address delay (packets ++ take (i + 1) more))) (told address delay (packets ++ take (i + 1) more)))
+    (λ i. line_of (n + length (emission address delay (packets ++ take i more)))
+    (length (given address delay (packets ++ take (i + 1) more)))
+    (told address delay (packets ++ take (i + 1) more)))
     (range_with_len 0 (length more))
 
 -- ---- in front of the stretch
 
--- the field sync in front of the group from packet k on, where the group before it gave these segments: none where it wasn't sent
+-- the field sync in front of the group from packet k on, where the group before it gave these segments: none where it
+-- wasn't sent
 -- or k begins no field, else one, which ends with the last twelve symbols that were sent
 abbrev pub sync_behind : List (List ℤ) → ℕ → List (List ℤ)
 sync_behind [] k = []
 sync_behind (s ∷ ss) k =
-    if k % 312 == 0 then field_sync (nat_le 312 (k % 624)) (last_of (slice_index_or (s ∷ ss) (length ss) [])) ∷ [] else []
+    if k % 312 == 0 then field_sync (nat_le 312 (k % 624))
+    (last_of (slice_index_or (s ∷ ss) (length ss) [])) ∷ [] else []
 
--- all that is given before the data segment of packet k, where a feed is given from its mark on behind earlier packets: what the
+-- all that is given before the data segment of packet k, where a feed is given from its mark on behind earlier packets:
+-- what the
 -- packets before the last one of its group give, and the field sync in front of the group
 unfoldable pub before_stretch : ℕ → ℕ → List (List ℕ) → List (List ℕ) → ℕ → ℕ → List (List ℤ)
 before_stretch address delay earlier feed mark k =
-    emission address delay (earlier ++ slice_range feed mark (k + 3)) ++ sync_behind (given address delay (earlier ++ slice_range feed mark k)) k
+    emission address delay (earlier ++ slice_range feed mark (k + 3))
+    ++ sync_behind (given address delay (earlier ++ slice_range feed mark k)) k
 
 -- ---- the lines of the stretch
 
@@ -46,7 +54,8 @@ before_stretch address delay earlier feed mark k =
 unfoldable pub orders_in : List (List ℕ) → ℕ → ℕ → List Order
 orders_in feed k end = filter_map (λ g. placed g (counted (said feed) g)) (range_with_len k (end - 3 - k))
 
--- the offset of a transmitter under an order, and the moment that the order sets there for its group's first data segment
+-- the offset of a transmitter under an order, and the moment that the order sets there for its group's first data
+-- segment
 abbrev pub offset_at : ℕ → Order → ℤ
 offset_at address order = offset_of (entry_of address order.ops)
 
@@ -56,19 +65,24 @@ moment_at address order = moment_of order.ops.stamp order.ops.max_delay (offset_
 -- the line of an order in a stretch that begins with packet k, whose data segment is segment s of what is given
 abbrev pub preset_line : ℕ → ℕ → ℕ → Order → Line
 preset_line address s k order =
-    preset (s + (segment_place order.place - segment_place k)) order.ops.frame (order.place % 624) (moment_at address order).tick (moment_at address order).grain
+    preset (s + (segment_place order.place - segment_place k)) order.ops.frame (order.place % 624)
+    (moment_at address order).tick (moment_at address order).grain
 
 -- the lines of a stretch: one for each order in it, and no other
 unfoldable pub stretch_lines : ℕ → ℕ → List (List ℕ) → ℕ → ℕ → List Line
 stretch_lines address s feed k end = map (preset_line address s k) (orders_in feed k end)
 
--- Two lines are presets of one packet of one frame, and their moments differ by so many ticks of 1,539 grains and some whole seconds.
+-- Two lines are presets of one packet of one frame, and their moments differ by so many ticks of 1,539 grains and some
+-- whole seconds.
 abbrev pub IsApart : ℤ → Line → Line → Type 0
-IsApart ticks (preset s f p t g) (preset r e q u h) = (f ≡ e) × (p ≡ q) × DifferBy (t * 1539 + g) (u * 1539 + h) (ticks *ℤ pos 1539)
+IsApart ticks (preset s f p t g) (preset r e q u h) =
+    (f ≡ e) × (p ≡ q) × DifferBy (t * 1539 + g) (u * 1539 + h) (ticks *ℤ pos 1539)
 IsApart ticks one other = ⊥
 
--- The lines of two transmitters go together, a pair for each of these orders, and differ by the transmitters' offsets under it.
+-- The lines of two transmitters go together, a pair for each of these orders, and differ by the transmitters' offsets
+-- under it.
 abbrev pub AreApart : ℕ → ℕ → List Order → List Line → List Line → Type 0
 AreApart a b [] [] [] = ⊤
-AreApart a b (order ∷ orders) (x ∷ xs) (y ∷ ys) = IsApart (offset_at a order -ℤ offset_at b order) x y × AreApart a b orders xs ys
+AreApart a b (order ∷ orders) (x ∷ xs) (y ∷ ys) =
+    IsApart (offset_at a order -ℤ offset_at b order) x y × AreApart a b orders xs ys
 AreApart a b orders xs ys = ⊥

@@ -1,6 +1,8 @@
--- What an exciter answers to a packet (the profile's own). The packets that it was given are told here by their sync bytes and
+-- What an exciter answers to a packet (the profile's own). The packets that it was given are told here by their sync
+-- bytes and
 -- by the operations fields that they read as.
-use Rattle.std.specs.Prelude.{ℕ, ◌-◌, ◌%◌, ◌==◌, Bool, true, false, not, Option, Some, None, option_map, find, if◌then◌else◌, Result, Ok, Err, List, length, take, drop, ℤ, pos, negsuc, ◌+ℤ◌, ◌-ℤ◌}
+use Rattle.std.specs.Prelude.{ℕ, ◌-◌, ◌%◌, ◌==◌, Bool, true, false, not, Option, Some, None, option_map, find}
+use Rattle.std.specs.Prelude.{if◌then◌else◌, Result, Ok, Err, List, length, take, drop, ℤ, pos, negsuc, ◌+ℤ◌, ◌-ℤ◌}
 use Rattle.dtx_cadence.specs.Anchor.{anchor}
 use Rattle.dtx_clock.specs.Clock.{moment_of}
 use Rattle.dtx_ops.specs.declared.fields.Entry.{Entry}
@@ -49,7 +51,8 @@ preset_of address ops j hold = record {
 
 -- the answer at the group from i on under an order, which is the group's own where it stands there
 abbrev pub told_by : ℕ → ℕ → Order → Result ℕ Why → Told
-told_by address i order (Ok hold) = Sent (if order.place == i then Some (preset_of address order.ops (i % 624) hold) else None)
+told_by address i order (Ok hold) =
+    Sent (if order.place == i then Some (preset_of address order.ops (i % 624) hold) else None)
 told_by address i order (Err why) = if order.place == i then Muted why else Quiet
 
 abbrev pub told_at : ℕ → ℕ → ℕ → Option Order → Told
@@ -61,7 +64,8 @@ told_at address delay i (Some order) = told_by address i order (served address d
 -- under an anchor: where the packets from it on end with a group
 abbrev pub told_under : ℕ → ℕ → Option (List (Option Ops)) → Told
 told_under address delay None = Quiet
-told_under address delay (Some said) = if length said % 4 == 0 then told_at address delay (length said - 4) (in_force said (length said - 4)) else Quiet
+told_under address delay (Some said) =
+    if length said % 4 == 0 then told_at address delay (length said - 4) (in_force said (length said - 4)) else Quiet
 
 -- whether there was an anchor and it isn't the anchor now
 abbrev pub has_moved : Option ℕ → Option ℕ → Bool

@@ -1,5 +1,6 @@
 // One exciter.
-ghost use Rattle.std.specs.Prelude.{◌≡◌, ◌<◌, ◌%◌, ◌==◌, ◌&&◌, ◌||◌, ◌++◌, ◌∷◌, [], ℕ, List, IfOk, IfSome, if◌then◌else◌, option_map};
+ghost use Rattle.std.specs.Prelude.{◌≡◌, ◌<◌, ◌%◌, ◌==◌, ◌&&◌, ◌||◌, ◌++◌, ◌∷◌, [], ℕ, List, IfOk, IfSome};
+ghost use Rattle.std.specs.Prelude.{if◌then◌else◌, option_map};
 ghost use Rattle.dtx_ops.specs.Spelling.{IsValid};
 ghost use Rattle.dtx_exciter.specs.Told.{is_sent};
 ghost use Rattle.dtx_exciter.specs.Step.{bytes_of, own_order, told_group, IsSent, IsSame};
@@ -15,7 +16,8 @@ use dtx_packets::{PACKET, Packet};
 use dtx_trellis::{FIELD, States};
 use std::alloc::{AllocError, Global};
 
-/// An exciter. It is given the packets of a feed, from any place of it on and whatever else, and sends the segments that its
+/// An exciter. It is given the packets of a feed, from any place of it on and whatever else, and sends the segments
+/// that its
 /// orders tell it to send (the profile's own, over ATSC A/53 Part 2 and in the manner of ATSC A/110).
 #[derive(Drop)]
 pub struct Exciter {
@@ -30,7 +32,8 @@ pub struct Exciter {
 }
 
 impl Exciter {
-    /// The exciter of the transmitter with this address, to which the feed takes `delay` ticks of 100 ns. It was given nothing.
+    /// The exciter of the transmitter with this address, to which the feed takes `delay` ticks of 100 ns. It was given
+    /// nothing.
     pub fn new(alloc: Global, address: u16, delay: u32) -> Result<Exciter, AllocError>
         ensures { IfOk result (λ exciter. StandsFor address delay exciter []) }
     {
@@ -46,11 +49,14 @@ impl Exciter {
         })
     }
 
-    /// Is given one more packet, of any bytes. `Sent` is answered to the last packet of a group that is sent, and then the air
-    /// holds its segments: four data segments, and before them a field sync, where the group begins a field and the group
+    /// Is given one more packet, of any bytes. `Sent` is answered to the last packet of a group that is sent, and then
+    /// the air
+    /// holds its segments: four data segments, and before them a field sync, where the group begins a field and the
+    /// group
     /// before it was sent. With any other answer the air holds none.
     pub fn take(&mut self, packet: &Packet, air: &mut Air) -> Told
-        ensures { (address delay : ℕ) (before : List (List ℕ)) → StandsFor address delay self.old before → IsTaken address delay (before ++ packet.now.0 ∷ []) self.new result air.new.segments air.new.symbols }
+        ensures { (address delay : ℕ) (before : List (List ℕ)) → StandsFor address delay self.old before
+            → IsTaken address delay (before ++ packet.now.0 ∷ []) self.new result air.new.segments air.new.symbols }
     {
         air.segments = 0;
         match self.anchor.see(packet.sync()) {
@@ -70,7 +76,8 @@ impl Exciter {
 
     /// Makes the exciter one that was given nothing.
     pub fn reset(&mut self)
-        ensures { (address delay : ℕ) (before : List (List ℕ)) → StandsFor address delay self.old before → StandsFor address delay self.new [] }
+        ensures { (address delay : ℕ) (before : List (List ℕ)) → StandsFor address delay self.old before
+            → StandsFor address delay self.new [] }
     {
         self.anchor = Anchor::new();
     }

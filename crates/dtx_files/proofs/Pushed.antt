@@ -13,4 +13,5 @@ pub joined-split : (pieces : List (Bor (List ℕ))) (i : ℕ) (d : Bor (List ℕ
 joined-split pieces i d within =
     ap joined (sym (take-append-drop i pieces) ∙ ap (λ z. take i pieces ++ z) (drop-cons pieces i d within))
     ∙ flat_map-append (λ piece. piece.now) (take i pieces) (get_or pieces i d ∷ drop (suc i) pieces)
-    ∙ ap (λ z. joined (take i pieces) ++ z) (flat_map-cons (λ piece. piece.now) (get_or pieces i d) (drop (suc i) pieces))
+    ∙ ap (λ z. joined (take i pieces) ++ z) (flat_map-cons (λ piece. piece.now) (get_or pieces i d)
+    (drop (suc i) pieces))

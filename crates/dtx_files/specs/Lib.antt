@@ -1,2 +1,4 @@
 pub mod LogText
 pub mod Symbols
+pub mod AppendedLaws
+pub mod GivenFewLaws

@@ -14,7 +14,12 @@ word_of Late = codes "late"
 -- a line: words and numbers with one space between them, and a line feed
 abbrev pub line_text : Line → List ℕ
 line_text (Line.preset segment frame packet tick grain) =
-    codes "preset " ++ (decimal segment ++ (codes " " ++ (decimal frame ++ (codes " " ++ (decimal packet ++ (codes " " ++ (decimal tick ++ (codes " " ++ (decimal grain ++ codes "\n")))))))))
+    codes "preset "
+    ++ (decimal segment
+    ++ (codes " "
+    ++ (decimal frame
+    ++ (codes " "
+    ++ (decimal packet ++ (codes " " ++ (decimal tick ++ (codes " " ++ (decimal grain ++ codes "\n")))))))))
 line_text (Line.mute segment why) = codes "mute " ++ (decimal segment ++ (codes " " ++ (word_of why ++ codes "\n")))
 line_text (Line.restart segment) = codes "restart " ++ (decimal segment ++ codes "\n")
 

@@ -7,11 +7,13 @@ use arrayvec::ArrayString;
 use dtx_exciter::{Preset, Told, Why};
 use itoa::Buffer;
 
-/// How many bytes a line has room for: `preset`, numbers of 64, 32, 16, 32 and 16 bits with a space before each, and a line feed are
+/// How many bytes a line has room for: `preset`, numbers of 64, 32, 16, 32 and 16 bits with a space before each, and a
+/// line feed are
 /// 62 bytes at most.
 pub const LOG_LINE: usize = 64;
 
-/// Sets the text to the line of an exciter's answer, or to nothing where it has none (the profile's own). So many segments were given
+/// Sets the text to the line of an exciter's answer, or to nothing where it has none (the profile's own). So many
+/// segments were given
 /// before the answer, and so many with it.
 pub fn write_line(told: Told, before: u64, given: u8, text: &mut ArrayString<LOG_LINE>)
     requires { before + given < 2 ^ 64 }
@@ -42,7 +44,8 @@ pub fn write_restart(segment: u64, text: &mut ArrayString<LOG_LINE>)
 /// Sets the text to the line of a preset, before whose segment there are so many.
 fn write_preset(segment: u64, preset: &Preset, text: &mut ArrayString<LOG_LINE>)
     requires { text.old.bytes ≡ [] }
-    ensures { text.new.bytes ≡ log_text (Line.preset segment preset.now.frame preset.now.packet preset.now.moment.tick preset.now.moment.grain ∷ []) }
+    ensures { text.new.bytes ≡ log_text (Line.preset segment preset.now.frame preset.now.packet preset.now.moment.tick
+        preset.now.moment.grain ∷ []) }
 {
     let (mut first, mut second, mut third) = (Buffer::new(), Buffer::new(), Buffer::new());
     let (mut fourth, mut fifth) = (Buffer::new(), Buffer::new());

@@ -1,11 +1,14 @@
--- How a field sync is detected, and of which field it is, among symbols that may be any signed bytes (the profile's own).
-use Rattle.std.specs.Prelude.{ℕ, ℤ, pos, ◌+◌, ◌/◌, ◌==◌, nat_le, if◌then◌else◌, Bool, false, List, map, sum, slice_index, slice_index_or}
+-- How a field sync is detected, and of which field it is, among symbols that may be any signed bytes (the profile's
+-- own).
+use Rattle.std.specs.Prelude.{ℕ, ℤ, pos, ◌+◌, ◌/◌, ◌==◌, nat_le, if◌then◌else◌, Bool, false, List, map, sum}
+use Rattle.std.specs.Prelude.{slice_index, slice_index_or}
 use Rattle.std.specs.List.{range_with_len}
 use Rattle.dtx_slice.specs.Slicing.{sliced}
 use Rattle.dtx_frame.specs.Sequences.{pn63}
 use Rattle.dtx_frame.specs.Segments.{sync_symbols}
 
--- 1 where the segment's symbol i, sliced, is another than that of a field sync. The first 515 are the same in both fields.
+-- 1 where the segment's symbol i, sliced, is another than that of a field sync. The first 515 are the same in both
+-- fields.
 unfoldable pub differs : List ℤ → ℕ → ℕ
 differs segment i =
     if sliced (slice_index_or segment i (pos 0)) == sliced (slice_index_or (sync_symbols false) i (pos 0)) then 0 else 1
@@ -18,7 +21,8 @@ differing segment = sum (map (differs segment) (range_with_len 0 515))
 unfoldable pub looks_like : List ℤ → Bool
 looks_like segment = nat_le (differing segment) 32
 
--- 1 where the symbol that stands for bit i of the middle short sequence, sliced, has the other sign than that bit's. Levels 0 to 3
+-- 1 where the symbol that stands for bit i of the middle short sequence, sliced, has the other sign than that bit's.
+-- Levels 0 to 3
 -- are the negative sign, which is that of a bit of 0.
 unfoldable pub opposite : List ℤ → ℕ → ℕ
 opposite segment i = if sliced (slice_index_or segment (578 + i) (pos 0)) / 4 == slice_index pn63 i then 0 else 1

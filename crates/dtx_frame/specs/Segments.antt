@@ -1,5 +1,6 @@
 -- Segments of 832 symbols (ATSC A/53 Part 2, data segment sync and data field sync).
-use Rattle.std.specs.Prelude.{ℕ, ℤ, pos, negsuc, ◌-ℤ◌, ◌*◌, ◌-◌, ◌==◌, Bool, if◌then◌else◌, List, [], ◌∷◌, ◌++◌, map, take}
+use Rattle.std.specs.Prelude.{ℕ, ℤ, pos, negsuc, ◌-ℤ◌, ◌*◌, ◌-◌, ◌==◌, Bool, if◌then◌else◌, List, [], ◌∷◌, ◌++◌, map}
+use Rattle.std.specs.Prelude.{take}
 use Rattle.dtx_frame.specs.Sequences.{pn511, pn63}
 
 -- a bit in a sync: 1 is +5 and 0 is -5
@@ -32,7 +33,8 @@ reserved_bits = pn63 ++ take 29 pn63
 -- the first 820 symbols of a field sync. In a second field the middle one of the three short sequences is inverted.
 unfoldable pub sync_symbols : Bool → List ℤ
 sync_symbols second =
-    segment_sync ++ map bit_symbol (pn511 ++ pn63 ++ (if second then inverted pn63 else pn63) ++ pn63 ++ mode_bits ++ reserved_bits)
+    segment_sync ++ map bit_symbol (pn511 ++ pn63 ++ (if second then inverted pn63 else pn63) ++ pn63 ++ mode_bits
+    ++ reserved_bits)
 
 -- a field sync, at whose end the last twelve symbols of the segment before stand again
 unfoldable pub field_sync : Bool → List ℤ → List ℤ

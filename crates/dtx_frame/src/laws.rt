@@ -1,6 +1,8 @@
-//! Laws of the definitions: what looks like a field sync and what doesn't, the fixed sequences, and slicing undamaged segments.
+//! Laws of the definitions: what looks like a field sync and what doesn't, the fixed sequences, and slicing undamaged
+//! segments.
 
-ghost use Rattle.std.specs.Prelude.{◌≡◌, ℕ, ℤ, ◌+◌, ◌-◌, ◌*◌, ◌%◌, ◌<◌, ◌≤◌, Bool, true, false, List, [], ◌∷◌, EachIndex, length, map, take, drop, slice_index, slice_range};
+ghost use Rattle.std.specs.Prelude.{◌≡◌, ℕ, ℤ, ◌+◌, ◌-◌, ◌*◌, ◌%◌, ◌<◌, ◌≤◌, Bool, true, false, List, [], ◌∷◌};
+ghost use Rattle.std.specs.Prelude.{EachIndex, length, map, take, drop, slice_index, slice_range};
 ghost use Rattle.dtx_trellis.specs.Groups.{levels_of};
 ghost use Rattle.dtx_slice.specs.Slicing.{sliced, sliced_data, sliced_last};
 ghost use Rattle.dtx_frame.specs.Sequences.{pn63, pn511};
@@ -10,13 +12,16 @@ ghost use Rattle.dtx_frame.specs.Detection.{differing, looks_like, looks_second}
 use dtx_slice::LAST;
 use dtx_trellis::{GROUP_BYTES, SEGMENT_LEVELS};
 
-/// An undamaged data segment, segment n of whole groups from any states, differs from a field sync in at least 64 of its first 515
+/// An undamaged data segment, segment n of whole groups from any states, differs from a field sync in at least 64 of
+/// its first 515
 /// symbols, and so it doesn't look like one.
 pub fn unlike()
     ensures differing { (s u n : ℕ) (states bytes : List ℕ) → length bytes ≡ GROUP_BYTES * u → n < 4 * u
-        → 64 ≤ differing (data_segment (slice_range (levels_of s states bytes) (SEGMENT_LEVELS * n) (SEGMENT_LEVELS * n + SEGMENT_LEVELS))) }
+        → 64 ≤ differing (data_segment (slice_range (levels_of s states bytes) (SEGMENT_LEVELS * n)
+        (SEGMENT_LEVELS * n + SEGMENT_LEVELS))) }
     ensures looks { (s u n : ℕ) (states bytes : List ℕ) → length bytes ≡ GROUP_BYTES * u → n < 4 * u
-        → looks_like (data_segment (slice_range (levels_of s states bytes) (SEGMENT_LEVELS * n) (SEGMENT_LEVELS * n + SEGMENT_LEVELS))) ≡ false }
+        → looks_like (data_segment (slice_range (levels_of s states bytes) (SEGMENT_LEVELS * n)
+        (SEGMENT_LEVELS * n + SEGMENT_LEVELS))) ≡ false }
 {}
 
 /// Each field sync looks like one, and like that of its field.
@@ -29,8 +34,10 @@ pub fn alike()
 /// What was sent comes back by slicing, where nothing was damaged.
 pub fn undamaged()
     ensures symbol { (z : ℕ) → z < 8 → sliced (symbol_of z) ≡ z }
-    ensures data { (levels : List ℕ) → EachIndex levels (λ d. slice_index levels d < 8) → sliced_data (data_segment levels) ≡ levels }
-    ensures end { (levels : List ℕ) → EachIndex levels (λ d. slice_index levels d < 8) → sliced_last (data_segment levels) ≡ drop (SEGMENT_LEVELS - LAST) levels }
+    ensures data { (levels : List ℕ) → EachIndex levels (λ d. slice_index levels d < 8)
+        → sliced_data (data_segment levels) ≡ levels }
+    ensures end { (levels : List ℕ) → EachIndex levels (λ d. slice_index levels d < 8)
+        → sliced_last (data_segment levels) ≡ drop (SEGMENT_LEVELS - LAST) levels }
     ensures last { (second : Bool) (last : List ℤ) → sliced_last (field_sync second last) ≡ map sliced last }
 {}
 
@@ -39,12 +46,14 @@ pub fn long_sequence()
     ensures long { length pn511 ≡ 511 }
     ensures begins { take 9 pn511 ≡ 0 ∷ 0 ∷ 0 ∷ 0 ∷ 0 ∷ 0 ∷ 0 ∷ 1 ∷ 0 ∷ [] }
     ensures goes_on { (n : ℕ) → n < 502
-        → slice_index pn511 (n + 9) ≡ (slice_index pn511 (n + 7) + slice_index pn511 (n + 6) + slice_index pn511 (n + 4) + slice_index pn511 (n + 3) + slice_index pn511 (n + 1) + slice_index pn511 n) % 2 }
+        → slice_index pn511 (n + 9) ≡ (slice_index pn511 (n + 7) + slice_index pn511 (n + 6) + slice_index pn511
+        (n + 4) + slice_index pn511 (n + 3) + slice_index pn511 (n + 1) + slice_index pn511 n) % 2 }
 {}
 
 /// The sequence of 63 bits (ATSC A/53 Part 2, data field sync): how it begins, and its recurrence.
 pub fn short_sequence()
     ensures long { length pn63 ≡ 63 }
     ensures begins { take 6 pn63 ≡ 1 ∷ 1 ∷ 1 ∷ 0 ∷ 0 ∷ 1 ∷ [] }
-    ensures goes_on { (n : ℕ) → n < 57 → slice_index pn63 (n + 6) ≡ (slice_index pn63 (n + 1) + slice_index pn63 n) % 2 }
+    ensures goes_on { (n : ℕ) → n < 57
+        → slice_index pn63 (n + 6) ≡ (slice_index pn63 (n + 1) + slice_index pn63 n) % 2 }
 {}

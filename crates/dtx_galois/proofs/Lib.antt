@@ -1,9 +1,2 @@
-pub mod Linear
 pub mod Division
-pub mod Field
-pub mod Powers
-pub mod Bytes
-pub mod Words
-pub mod Values
-pub mod Roots
 pub mod TableEntries

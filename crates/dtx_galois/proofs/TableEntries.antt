@@ -1,10 +1,11 @@
 -- The rule of each table, by one test over it.
-use Rattle.std.proofs.Common.{◌≡◌, ℕ, zero, suc, ◌+◌, ◌-◌, ◌*◌, ◌%◌, ◌<◌, ◌≤◌, ◌==◌, ◌&&◌, true, nat_lt, get_or, refl, sym, ap, ap₂, ◌∙◌, arith}
+use Rattle.std.proofs.Common.{◌≡◌, ℕ, zero, suc, ◌+◌, ◌-◌, ◌*◌, ◌%◌, ◌<◌, ◌≤◌, ◌==◌, ◌&&◌, true, nat_lt, get_or, refl}
+use Rattle.std.proofs.Common.{sym, ap, ap₂, ◌∙◌, arith}
 use Rattle.std.proofs.lemmas.Bool.{eqb-true, and_parts, ltb-true}
 use Rattle.dtx_galois.specs.BitPolynomial.{product, remainder}
 use Rattle.dtx_galois.specs.Field.{mul, pow}
 use Rattle.dtx_lists.proofs.Below.{holds_below, at_below}
-use Rattle.dtx_galois.proofs.Powers.{pow_add, pow_times, pow_mod, cycle}
+use Rattle.dtx_galois.specs.PowersLaws.{pow_add, pow_times, pow_mod, cycle}
 use Rattle.dtx_galois.specs.declared.tables.TheConstants.{POWERS, LOGARITHMS}
 
 powers_test : holds_below (λ i. get_or POWERS i 0 == pow 2 i) 255 ≡ true
@@ -14,20 +15,25 @@ powers_test = refl
 pub power_at : (i : ℕ) → i < 255 → get_or POWERS i 0 ≡ pow 2 i
 power_at i l = eqb-true _ _ (at_below (λ i. get_or POWERS i 0 == pow 2 i) 255 i powers_test l)
 
-logarithms_test : holds_below (λ a. get_or POWERS (get_or LOGARITHMS (suc a) 0) 0 == suc a && nat_lt (get_or LOGARITHMS (suc a) 0) 255) 255 ≡ true
+logarithms_test : holds_below (λ a. get_or POWERS (get_or LOGARITHMS (suc a) 0) 0 == suc a && nat_lt
+    (get_or LOGARITHMS (suc a) 0) 255) 255 ≡ true
 logarithms_test = refl
 
-logarithm_both : (a : ℕ) → a < 255 → (get_or POWERS (get_or LOGARITHMS (suc a) 0) 0 ≡ suc a) × (get_or LOGARITHMS (suc a) 0 < 255)
+logarithm_both : (a : ℕ) → a < 255 → (get_or POWERS (get_or LOGARITHMS (suc a) 0) 0 ≡ suc a)
+    × (get_or LOGARITHMS (suc a) 0 < 255)
 logarithm_both a l =
-    let h : ((get_or POWERS (get_or LOGARITHMS (suc a) 0) 0 == suc a) ≡ true) × (nat_lt (get_or LOGARITHMS (suc a) 0) 255 ≡ true) =
+    let h : ((get_or POWERS (get_or LOGARITHMS (suc a) 0) 0 == suc a) ≡ true)
+    × (nat_lt (get_or LOGARITHMS (suc a) 0) 255 ≡ true) =
     and_parts (get_or POWERS (get_or LOGARITHMS (suc a) 0) 0 == suc a) (nat_lt (get_or LOGARITHMS (suc a) 0) 255)
-    (at_below (λ a. get_or POWERS (get_or LOGARITHMS (suc a) 0) 0 == suc a && nat_lt (get_or LOGARITHMS (suc a) 0) 255) 255 a logarithms_test l) in
+    (at_below (λ a. get_or POWERS (get_or LOGARITHMS (suc a) 0) 0 == suc a && nat_lt (get_or LOGARITHMS (suc a) 0) 255)
+    255 a logarithms_test l) in
     (eqb-true _ _ h.0, ltb-true _ _ h.1)
 
 pub logarithm_at : (a : ℕ) → 0 < a → a < 256 → (pow 2 (get_or LOGARITHMS a 0) ≡ a) × (get_or LOGARITHMS a 0 < 255)
 logarithm_at zero p l = absurd (omega arith)
 logarithm_at (suc a) p l =
-    let h : (get_or POWERS (get_or LOGARITHMS (suc a) 0) 0 ≡ suc a) × (get_or LOGARITHMS (suc a) 0 < 255) = logarithm_both a (omega arith) in
+    let h : (get_or POWERS (get_or LOGARITHMS (suc a) 0) 0 ≡ suc a) × (get_or LOGARITHMS (suc a) 0 < 255) =
+    logarithm_both a (omega arith) in
     (sym (power_at (get_or LOGARITHMS (suc a) 0) h.1) ∙ h.0, h.1)
 
 pub product_at : (i j a b : ℕ) → pow 2 i ≡ a → pow 2 j ≡ b → pow 2 (i + j) ≡ mul a b

@@ -1,5 +1,6 @@
 -- The field of 256 elements of the Reed-Solomon encoder (ATSC A/53 Part 2, Reed-Solomon encoder).
--- An element is a byte, a polynomial over the two bits; a sum is `bit_xor`. Of a greater number the low eight bits count.
+-- An element is a byte, a polynomial over the two bits; a sum is `bit_xor`. Of a greater number the low eight bits
+-- count.
 use Rattle.std.specs.Prelude.{ℕ, ◌%◌, ◌<◌, ◌^◌, List, [], ◌∷◌, length}
 use Rattle.std.proofs.Common.{zero, suc}
 use Rattle.std.specs.Int.RustNames.{bit_xor}

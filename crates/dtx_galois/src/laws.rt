@@ -13,7 +13,8 @@ pub fn polynomial()
     ensures { FIELD_POLYNOMIAL ≡ 2 ^ 8 + 2 ^ 4 + 2 ^ 3 + 2 ^ 2 + 1 }
 {}
 
-/// What long division leaves has a lower degree than the divisor, and differs from what was divided by a multiple of it.
+/// What long division leaves has a lower degree than the divisor, and differs from what was divided by a multiple of
+/// it.
 pub fn division()
     ensures small { (d low n p : ℕ) → low < 2 ^ d → p < 2 ^ (d + n) → remainder d (2 ^ d + low) n p < 2 ^ d }
     ensures multiple { (d g n p : ℕ) → (q : ℕ) × (q < 2 ^ n) × (p ≡ bit_xor (product n q g) (remainder d g n p)) }
@@ -76,11 +77,13 @@ pub fn alpha()
 
 /// The value of a sum of words is the sum of their values, and that of a multiple is the multiple of the value.
 pub fn linear()
-    ensures sum { (xs ys : List ℕ) (x : ℕ) → length xs ≡ length ys → value (sums xs ys) x ≡ bit_xor (value xs x) (value ys x) }
+    ensures sum { (xs ys : List ℕ) (x : ℕ) → length xs ≡ length ys
+        → value (sums xs ys) x ≡ bit_xor (value xs x) (value ys x) }
     ensures multiple { (f : ℕ) (word : List ℕ) (x : ℕ) → value (scaled f word) x ≡ mul f (value word x) }
 {}
 
 /// A polynomial that isn't 0 vanishes at fewer different elements than it has coefficients.
 pub fn few_roots()
-    ensures { (word xs : List ℕ) → AreBytes word → AreBytes xs → AreDifferent xs → VanishesAt word xs → (IsZero word → ⊥) → length xs < length word }
+    ensures { (word xs : List ℕ) → AreBytes word → AreBytes xs → AreDifferent xs → VanishesAt word xs
+        → (IsZero word → ⊥) → length xs < length word }
 {}

@@ -1,16 +1,2 @@
-pub mod Moments
-pub mod Words
-pub mod Encoding
-pub mod Choice
-pub mod Whitening
-pub mod Places
-pub mod Interleaving
-pub mod Gathering
-pub mod Answers
-pub mod Kernel
-pub mod Pairs
-pub mod Others
 pub mod Turns
-pub mod Patching
-pub mod Parts
 pub mod Encoded

@@ -10,7 +10,8 @@ pub record IsCode (n k : ℕ) : Type 0 where
   pub short : n ≤ 255
   pub even : (n - k) % 2 ≡ 0
 
--- n bytes whose polynomial, with byte 0 as its highest coefficient, vanishes at the powers 0 to n - k - 1 of α, which is 2
+-- n bytes whose polynomial, with byte 0 as its highest coefficient, vanishes at the powers 0 to n - k - 1 of α, which
+-- is 2
 pub record IsCodeword (n k : ℕ) (word : List ℕ) : Type 0 where
   pub long : length word ≡ n
   pub bytes : AreBytes word

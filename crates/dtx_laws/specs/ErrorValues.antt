@@ -15,12 +15,14 @@ unfoldable pub weight : ℕ → List ℕ → ℕ
 weight x [] = 1
 weight x (y ∷ ys) = mul (bit_xor x y) (weight x ys)
 
--- the sequence from which each of the y's is cancelled: of a sum of d * x ^ i it leaves the sum of weight x ys * d * x ^ i
+-- the sequence from which each of the y's is cancelled: of a sum of d * x ^ i it leaves the sum of weight x ys * d * x
+-- ^ i
 unfoldable pub without : List ℕ → (ℕ → ℕ) → ℕ → ℕ
 without [] s i = s i
 without (y ∷ ys) s i = bit_xor (without ys s (suc i)) (mul y (without ys s i))
 
--- the value of the error at place p of n: what is left of the syndromes without the other marked places, over the place's
+-- the value of the error at place p of n: what is left of the syndromes without the other marked places, over the
+-- place's
 -- weight, of which the power 254 is the inverse
 unfoldable pub error_at : ℕ → (ℕ → Bool) → (ℕ → ℕ) → ℕ → ℕ
 error_at n mark s p = mul (without (others n mark p n) s 0) (pow (weight (power_at n p) (others n mark p n)) 254)

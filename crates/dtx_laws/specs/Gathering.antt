@@ -1,5 +1,6 @@
 -- De-interleaving as a map of places (ATSC A/53 Part 2, interleaving: the way back).
-use Rattle.std.specs.Prelude.{ℕ, ◌≡◌, ◌-◌, ◌*◌, ◌/◌, ◌%◌, ◌<◌, ◌≤◌, nat_le, if◌then◌else◌, List, [], length, map, slice_index, slice_index_or}
+use Rattle.std.specs.Prelude.{ℕ, ◌≡◌, ◌-◌, ◌*◌, ◌/◌, ◌%◌, ◌<◌, ◌≤◌, nat_le, if◌then◌else◌, List, [], length, map}
+use Rattle.std.specs.Prelude.{slice_index, slice_index_or}
 use Rattle.std.specs.List.{range_with_len}
 
 -- byte n of the gathered bytes is byte n - b * m * (b - 1 - n mod b) of y, and 0 where that place is before the first
@@ -10,10 +11,12 @@ gathered_at b m y n = if nat_le (b * m * (b - 1 - n % b)) n then slice_index y (
 unfoldable pub gathered : ℕ → ℕ → List ℕ → List ℕ
 gathered b m y = map (gathered_at b m y) (range_with_len 0 (length y))
 
--- z is y gathered behind an align at which the branches held these lists: a byte whose source is one of y is the map's, and
+-- z is y gathered behind an align at which the branches held these lists: a byte whose source is one of y is the map's,
+-- and
 -- each other one is a byte that its branch held.
 pub record IsGatheredBehind (b m : ℕ) (lists : List (List ℕ)) (y z : List ℕ) : Type 0 where
   pub long : length z ≡ length y
   pub come : (n : ℕ) → n < length y → b * m * (b - 1 - n % b) ≤ n → slice_index z n ≡ slice_index (gathered b m y) n
-  pub held : (n : ℕ) → n < length y → n < b * m * (b - 1 - n % b) → slice_index z n ≡ slice_index (slice_index_or lists (n % b) []) (n / b)
+  pub held : (n : ℕ) → n < length y → n < b * m * (b - 1 - n % b)
+      → slice_index z n ≡ slice_index (slice_index_or lists (n % b) []) (n / b)
   pub within : (n : ℕ) → n < length y → n < b * m * (b - 1 - n % b) → n / b < length (slice_index_or lists (n % b) [])

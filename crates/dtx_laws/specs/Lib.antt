@@ -8,3 +8,17 @@ pub mod Gathering
 pub mod Correction
 pub mod Locator
 pub mod ErrorValues
+pub mod EncodingLaws
+pub mod GatheringLaws
+pub mod InterleavingLaws
+pub mod PartsLaws
+pub mod PlacesLaws
+pub mod WhiteningLaws
+pub mod MomentsLaws
+pub mod WordsLaws
+pub mod ChoiceLaws
+pub mod AnswersLaws
+pub mod PatchingLaws
+pub mod KernelLaws
+pub mod OthersLaws
+pub mod PairsLaws

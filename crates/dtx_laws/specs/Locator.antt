@@ -1,5 +1,6 @@
 -- Locators: coefficients with the lowest first, the equations that they solve, and the places at which they vanish.
-use Rattle.std.specs.Prelude.{ℕ, ◌≡◌, ◌-◌, ◌<◌, ◌==◌, ◌+◌, ◌≤◌, ◌≢◌, Bool, false, List, [], ◌∷◌, length, slice_index, slice_index_or}
+use Rattle.std.specs.Prelude.{ℕ, ◌≡◌, ◌-◌, ◌<◌, ◌==◌, ◌+◌, ◌≤◌, ◌≢◌, Bool, false, List, [], ◌∷◌, length, slice_index}
+use Rattle.std.specs.Prelude.{slice_index_or}
 use Rattle.std.proofs.Common.{suc}
 use Rattle.std.specs.Int.RustNames.{bit_xor}
 use Rattle.dtx_galois.specs.Field.{mul, pow, AreBytes}

@@ -5,4 +5,5 @@ use Rattle.std.specs.Int.RustNames.{bit_xor}
 
 -- the data with the whitener's bytes from a place on added, each bit by bit
 unfoldable pub whitened : List ℕ → ℕ → List ℕ → List ℕ
-whitened white from head = map (λ j. bit_xor (slice_index head j) (slice_index white (from + j))) (range_with_len 0 (length head))
+whitened white from head =
+    map (λ j. bit_xor (slice_index head j) (slice_index white (from + j))) (range_with_len 0 (length head))

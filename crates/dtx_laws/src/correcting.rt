@@ -1,4 +1,5 @@
-//! What correctors share, whatever their way to a locator: syndromes, the places at which the locator vanishes, the values of
+//! What correctors share, whatever their way to a locator: syndromes, the places at which the locator vanishes, the
+//! values of
 //! the errors there, and the test of the outcome.
 
 mod outcome;

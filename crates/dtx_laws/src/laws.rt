@@ -15,7 +15,8 @@ pub use errors::{kernel, one_answer};
 
 /// With each `k` bytes of data some codeword begins.
 pub fn some_codeword()
-    ensures { (n k : ℕ) (head : List ℕ) → k < n → length head ≡ k → AreBytes head → (word : List ℕ) × IsCodeword n k word × (take k word ≡ head) }
+    ensures { (n k : ℕ) (head : List ℕ) → k < n → length head ≡ k → AreBytes head
+        → (word : List ℕ) × IsCodeword n k word × (take k word ≡ head) }
 {}
 
 /// With each data at most one codeword begins.
@@ -25,27 +26,33 @@ pub fn one_codeword()
 
 /// `codeword` gives a codeword that begins with the data, and it is the only one.
 pub fn the_codeword()
-    ensures is { (n k : ℕ) (head : List ℕ) → k < n → length head ≡ k → AreBytes head → IsCodeword n k (codeword n k head) }
+    ensures is { (n k : ℕ) (head : List ℕ) → k < n → length head ≡ k → AreBytes head
+        → IsCodeword n k (codeword n k head) }
     ensures begins { (n k : ℕ) (head : List ℕ) → length head ≡ k → take k (codeword n k head) ≡ head }
-    ensures only { (n k : ℕ) (head word : List ℕ) → n ≤ 255 → k < n → length head ≡ k → AreBytes head → IsCodeword n k word → take k word ≡ head → word ≡ codeword n k head }
+    ensures only { (n k : ℕ) (head word : List ℕ) → n ≤ 255 → k < n → length head ≡ k → AreBytes head
+        → IsCodeword n k word → take k word ≡ head → word ≡ codeword n k head }
     ensures long { (n k : ℕ) (head : List ℕ) → length (codeword n k head) ≡ length head + (n - k) }
 {}
 
 /// Two codewords differ in no place or in at least `n - k + 1` places.
 pub fn apart()
-    ensures { (n k : ℕ) (a b : List ℕ) → n ≤ 255 → IsCodeword n k a → IsCodeword n k b → (a ≡ b) ⊎ (n - k + 1 ≤ distance a b) }
+    ensures { (n k : ℕ) (a b : List ℕ) → n ≤ 255 → IsCodeword n k a → IsCodeword n k b
+        → (a ≡ b) ⊎ (n - k + 1 ≤ distance a b) }
 {}
 
 /// A word has at most one correction.
 pub fn one_correction()
-    ensures { (n k : ℕ) (word a b : List ℕ) → n ≤ 255 → length word ≡ n → IsCorrection n k word a → IsCorrection n k word b → a ≡ b }
+    ensures { (n k : ℕ) (word a b : List ℕ) → n ≤ 255 → length word ≡ n → IsCorrection n k word a
+        → IsCorrection n k word b → a ≡ b }
 {}
 
 /// `correction` gives a correction exactly where there is one, and it is the only one.
 pub fn the_correction()
     ensures is { (n k : ℕ) (word code : List ℕ) → correction n k word ≡ Some code → IsCorrection n k word code }
-    ensures only { (n k : ℕ) (word code : List ℕ) → n ≤ 255 → length word ≡ n → IsCorrection n k word code → correction n k word ≡ Some code }
-    ensures none { (n k : ℕ) (word : List ℕ) → correction n k word ≡ None → (code : List ℕ) → IsCorrection n k word code → ⊥ }
+    ensures only { (n k : ℕ) (word code : List ℕ) → n ≤ 255 → length word ≡ n → IsCorrection n k word code
+        → correction n k word ≡ Some code }
+    ensures none { (n k : ℕ) (word : List ℕ) → correction n k word ≡ None → (code : List ℕ) → IsCorrection n k word code
+        → ⊥ }
 {}
 
 /// A codeword is its own correction, which changes no place.

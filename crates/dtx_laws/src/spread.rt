@@ -1,7 +1,8 @@
 //! The trait of the interleavers.
 
 ghost use Rattle.std.specs.Prelude.{◌≡◌};
-ghost use Rattle.dtx_laws.specs.Branches.{Branching, IsInterleaver, HasWidths, spreading, aligned, leaving_all, after_all};
+ghost use Rattle.dtx_laws.specs.Branches.{Branching, IsInterleaver, HasWidths, spreading, aligned, leaving_all};
+ghost use Rattle.dtx_laws.specs.Branches.{after_all};
 
 /// Spreads bytes over `B` branches, of which branch i delays by `B * M * i` bytes (ATSC A/53 Part 2, interleaving).
 pub trait Spread<const B: usize, const M: usize> {
@@ -13,7 +14,8 @@ pub trait Spread<const B: usize, const M: usize> {
         ensures numbers { IsInterleaver B M }
         ensures widths { HasWidths B (spreading M) (seen self.now) };
 
-    /// Replaces each byte by the one that leaves as it comes: it is put at the end of the next branch, and the branch's first
+    /// Replaces each byte by the one that leaves as it comes: it is put at the end of the next branch, and the branch's
+    /// first
     /// byte leaves.
     fn pass(&mut self, bytes: &mut [u8])
         ensures bytes { bytes.new ≡ leaving_all B (seen self.old) bytes.old }

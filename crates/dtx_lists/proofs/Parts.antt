@@ -1,10 +1,13 @@
 -- A list that is two others, one behind the other, by its elements.
-use Rattle.std.proofs.Common.{◌≡◌, ℕ, ◌+◌, ◌-◌, ◌<◌, ◌≤◌, ◌⊎◌, List, ◌++◌, length, get_or, sym, ap, ap₂, ◌∙◌, subst, arith, inl, inr}
+use Rattle.std.proofs.Common.{◌≡◌, ℕ, ◌+◌, ◌-◌, ◌<◌, ◌≤◌, ◌⊎◌, List, ◌++◌, length, get_or, sym, ap, ap₂, ◌∙◌, subst}
+use Rattle.std.proofs.Common.{arith, inl, inr}
 use Rattle.std.proofs.lemmas.Bool.{cases_lt}
 use Rattle.std.proofs.lemmas.List.{ext_get_or, get_or_append_left, get_or-append_right, length-append}
 
-pub append_from_parts : {A : Type 0} (d : A) (xs ys zs : List A) (m n : ℕ) → length xs ≡ m + n → length ys ≡ m → length zs ≡ n
-    → ((k : ℕ) → k < m → get_or xs k d ≡ get_or ys k d) → ((k : ℕ) → k < n → get_or xs (m + k) d ≡ get_or zs k d) → xs ≡ ys ++ zs
+pub append_from_parts : {A : Type 0} (d : A) (xs ys zs : List A) (m n : ℕ) → length xs ≡ m + n → length ys ≡ m
+    → length zs ≡ n
+    → ((k : ℕ) → k < m → get_or xs k d ≡ get_or ys k d) → ((k : ℕ) → k < n → get_or xs (m + k) d ≡ get_or zs k d)
+    → xs ≡ ys ++ zs
 append_from_parts d xs ys zs m n long first second f g =
     ext_get_or d xs (ys ++ zs) (long ∙ sym (length-append ys zs ∙ ap₂ (λ (x y : ℕ). x + y) first second))
     (λ k l. let l2 : k < m + n = subst (λ (x : ℕ). k < x) long l in by_cases k l2 (cases_lt k m))

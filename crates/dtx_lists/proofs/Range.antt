@@ -1,5 +1,6 @@
 -- Lists over a range: parts, maps, and a test at each number.
-use Rattle.std.proofs.Common.{◌≡◌, ℕ, zero, suc, ◌+◌, ◌<◌, ◌≤◌, ◌⊎◌, Bool, true, false, ◌&&◌, ◌∷◌, ◌++◌, map, refl, sym, ap, ap₂, ◌∙◌, arith, inl, inr, add-zero}
+use Rattle.std.proofs.Common.{◌≡◌, ℕ, zero, suc, ◌+◌, ◌<◌, ◌≤◌, ◌⊎◌, Bool, true, false, ◌&&◌, ◌∷◌, ◌++◌, map, refl, sym}
+use Rattle.std.proofs.Common.{ap, ap₂, ◌∙◌, arith, inl, inr, add-zero}
 use Rattle.std.specs.List.{range_with_len, list_all}
 use Rattle.std.proofs.lemmas.Bool.{and_parts, and_from}
 
@@ -11,29 +12,38 @@ next : (a n : ℕ) → a + 1 + n ≡ a + suc n
 next a n = omega arith
 
 pub range_with_len-parts : (a m n : ℕ) → range_with_len a (m + n) ≡ range_with_len a m ++ range_with_len (a + m) n
-range_with_len-parts a zero n = let p : 0 + n ≡ n = omega arith in ap (range_with_len a) p ∙ ap (λ x. range_with_len x n) (sym (add-zero a))
+range_with_len-parts a zero n = let p : 0 + n ≡ n = omega arith in
+    ap (range_with_len a) p ∙ ap (λ x. range_with_len x n) (sym (add-zero a))
 range_with_len-parts a (suc m) n =
     let p : suc m + n ≡ suc (m + n) = omega arith in
-    ap (range_with_len a) p ∙ ap (λ xs. a ∷ xs) (range_with_len-parts (a + 1) m n ∙ ap (λ x. range_with_len (a + 1) m ++ range_with_len x n) (next a m))
+    ap (range_with_len a) p ∙ ap (λ xs. a ∷ xs) (range_with_len-parts (a + 1) m n
+    ∙ ap (λ x. range_with_len (a + 1) m ++ range_with_len x n) (next a m))
 
 -- where two functions agree
-pub map-range_same : {X : Type 0} (f g : ℕ → X) (a n : ℕ) → ((i : ℕ) → a ≤ i → i < a + n → f i ≡ g i) → map f (range_with_len a n) ≡ map g (range_with_len a n)
+pub map-range_same : {X : Type 0} (f g : ℕ → X) (a n : ℕ) → ((i : ℕ) → a ≤ i → i < a + n → f i ≡ g i)
+    → map f (range_with_len a n) ≡ map g (range_with_len a n)
 map-range_same f g a zero h = refl
-map-range_same f g a (suc n) h = ap₂ ◌∷◌ (h a (omega arith) (omega arith)) (map-range_same f g (a + 1) n (λ i l m. h i (omega arith) (omega arith)))
+map-range_same f g a (suc n) h =
+    ap₂ ◌∷◌ (h a (omega arith) (omega arith)) (map-range_same f g (a + 1) n (λ i l m. h i (omega arith) (omega arith)))
 
-pub list_all-range_same : (f g : ℕ → Bool) (a n : ℕ) → ((i : ℕ) → a ≤ i → i < a + n → f i ≡ g i) → list_all f (range_with_len a n) ≡ list_all g (range_with_len a n)
+pub list_all-range_same : (f g : ℕ → Bool) (a n : ℕ) → ((i : ℕ) → a ≤ i → i < a + n → f i ≡ g i)
+    → list_all f (range_with_len a n) ≡ list_all g (range_with_len a n)
 list_all-range_same f g a zero h = refl
-list_all-range_same f g a (suc n) h = ap₂ (λ x y. x && y) (h a (omega arith) (omega arith)) (list_all-range_same f g (a + 1) n (λ i l m. h i (omega arith) (omega arith)))
+list_all-range_same f g a (suc n) h =
+    ap₂ (λ x y. x && y) (h a (omega arith) (omega arith))
+    (list_all-range_same f g (a + 1) n (λ i l m. h i (omega arith) (omega arith)))
 
 -- one number further
-pub list_all-range_more : (f : ℕ → Bool) (a n : ℕ) → list_all f (range_with_len a (suc n)) ≡ (list_all f (range_with_len a n) && f (a + n))
+pub list_all-range_more : (f : ℕ → Bool) (a n : ℕ)
+    → list_all f (range_with_len a (suc n)) ≡ (list_all f (range_with_len a n) && f (a + n))
 list_all-range_more f a zero = and_true (f a) ∙ ap f (sym (add-zero a))
   where
     and_true : (b : Bool) → (b && true) ≡ b
     and_true true = refl
     and_true false = refl
 list_all-range_more f a (suc n) =
-    ap (λ b. f a && b) (list_all-range_more f (a + 1) n ∙ ap (λ x. list_all f (range_with_len (a + 1) n) && f x) (next a n))
+    ap (λ b. f a && b) (list_all-range_more f (a + 1) n
+    ∙ ap (λ x. list_all f (range_with_len (a + 1) n) && f x) (next a n))
     ∙ and_assoc (f a) (list_all f (range_with_len (a + 1) n)) (f (a + suc n))
   where
     and_assoc : (x y z : Bool) → (x && (y && z)) ≡ ((x && y) && z)
@@ -41,10 +51,12 @@ list_all-range_more f a (suc n) =
     and_assoc false y z = refl
 
 -- what a test that passes over a range says at a number of it
-pub list_all-range_at : (f : ℕ → Bool) (a n : ℕ) → list_all f (range_with_len a n) ≡ true → (i : ℕ) → a ≤ i → i < a + n → f i ≡ true
+pub list_all-range_at : (f : ℕ → Bool) (a n : ℕ) → list_all f (range_with_len a n) ≡ true → (i : ℕ) → a ≤ i → i < a + n
+    → f i ≡ true
 list_all-range_at f a zero t i l m = absurd (omega arith)
 list_all-range_at f a (suc n) t i l m =
-    let h : (f a ≡ true) × (list_all f (range_with_len (a + 1) n) ≡ true) = and_parts (f a) (list_all f (range_with_len (a + 1) n)) t in
+    let h : (f a ≡ true) × (list_all f (range_with_len (a + 1) n) ≡ true) =
+    and_parts (f a) (list_all f (range_with_len (a + 1) n)) t in
     by_place (range_cases a i l) h.0 (λ p. list_all-range_at f (a + 1) n h.1 i p (omega arith))
   where
     by_place : (a ≡ i) ⊎ (a + 1 ≤ i) → f a ≡ true → (a + 1 ≤ i → f i ≡ true) → f i ≡ true
@@ -52,6 +64,9 @@ list_all-range_at f a (suc n) t i l m =
     by_place (inr p) h g = g p
 
 -- it passes where it does at each number
-pub list_all-range_from : (f : ℕ → Bool) (a n : ℕ) → ((i : ℕ) → a ≤ i → i < a + n → f i ≡ true) → list_all f (range_with_len a n) ≡ true
+pub list_all-range_from : (f : ℕ → Bool) (a n : ℕ) → ((i : ℕ) → a ≤ i → i < a + n → f i ≡ true)
+    → list_all f (range_with_len a n) ≡ true
 list_all-range_from f a zero h = refl
-list_all-range_from f a (suc n) h = and_from (f a) (list_all f (range_with_len (a + 1) n)) (h a (omega arith) (omega arith)) (list_all-range_from f (a + 1) n (λ i l m. h i (omega arith) (omega arith)))
+list_all-range_from f a (suc n) h =
+    and_from (f a) (list_all f (range_with_len (a + 1) n)) (h a (omega arith) (omega arith))
+    (list_all-range_from f (a + 1) n (λ i l m. h i (omega arith) (omega arith)))

@@ -1,5 +1,1 @@
-pub mod Entries
-pub mod DamagedPlaces
 pub mod Joined
-pub mod LaidBytes
-pub mod Streams

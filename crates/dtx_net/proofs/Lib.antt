@@ -1,6 +1,1 @@
-pub mod Places
-pub mod Own
-pub mod LastLife
 pub mod Stands
-pub mod Grows
-pub mod PlaceOf

@@ -1,5 +1,6 @@
 -- The lives of a transmitter: what it is given between its restarts (the profile's own).
-use Rattle.std.specs.Prelude.{ℕ, ◌-◌, ◌==◌, Option, Some, None, List, [], ◌∷◌, ◌++◌, map, filter, length, take, slice_index_or}
+use Rattle.std.specs.Prelude.{ℕ, ◌-◌, ◌==◌, Option, Some, None, List, [], ◌∷◌, ◌++◌, map, filter, length, take}
+use Rattle.std.specs.Prelude.{slice_index_or}
 use Rattle.dtx_net.specs.Steps.{Step}
 
 -- what is done with the transmitter at a place alone: the packets that it is given, and its restarts

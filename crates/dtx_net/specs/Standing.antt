@@ -15,16 +15,20 @@ use Rattle.dtx_net.specs.Lives.{last_life}
 pub record StandsFor (ts : List Transmitter) (net : Net) (steps : List Step) : Type 0 where
   pub addresses : net.addresses.items ≡ addresses_of ts
   pub long : vec_len net.exciters ≡ length ts
-  pub each : (who : ℕ) (t : Transmitter) (e : Exciter) → slice_get ts who ≡ Some t → slice_get net.exciters.items who ≡ Some e
+  pub each : (who : ℕ) (t : Transmitter) (e : Exciter) → slice_get ts who ≡ Some t
+      → slice_get net.exciters.items who ≡ Some e
       → exciter.StandsFor t.address t.delay e (last_life who steps)
 
 -- that many exciters stand for nothing, as the first of these transmitters
 pub record AreNew (n : ℕ) (ts : List Transmitter) (exciters : List Exciter) : Type 0 where
   pub long : length exciters ≡ n
-  pub each : (who : ℕ) (t : Transmitter) (e : Exciter) → slice_get ts who ≡ Some t → slice_get exciters who ≡ Some e → exciter.StandsFor t.address t.delay e []
+  pub each : (who : ℕ) (t : Transmitter) (e : Exciter) → slice_get ts who ≡ Some t → slice_get exciters who ≡ Some e
+      → exciter.StandsFor t.address t.delay e []
 
--- What becomes of a network, and what it answers and gives, where the transmitter at a place is given a packet behind these steps.
-pub record IsGiven (ts : List Transmitter) (steps : List Step) (who : ℕ) (t : Transmitter) (packet : List ℕ) (net : Net) (answered : Told) (count : ℕ) (symbols : List ℤ) : Type 0 where
+-- What becomes of a network, and what it answers and gives, where the transmitter at a place is given a packet behind
+-- these steps.
+pub record IsGiven (ts : List Transmitter) (steps : List Step) (who : ℕ) (t : Transmitter) (packet : List ℕ) (net : Net)
+    (answered : Told) (count : ℕ) (symbols : List ℤ) : Type 0 where
   pub answer : answered ≡ told t.address t.delay (last_life who steps ++ packet ∷ [])
   pub air : Holds (given t.address t.delay (last_life who steps ++ packet ∷ [])) count symbols
   pub stands : StandsFor ts net (steps ++ packet_step who packet ∷ [])

@@ -9,7 +9,8 @@ use Rattle.dtx_plan.specs.TransmitterTable.{addresses_of}
 use Rattle.dtx_plan.specs.Sound.{to_of}
 use Rattle.dtx_net.specs.Changed.{flipped_packet, lied_packet}
 
--- One packet is given to the transmitter at a place of the plan's list, or, where there is none, that transmitter is restarted.
+-- One packet is given to the transmitter at a place of the plan's list, or, where there is none, that transmitter is
+-- restarted.
 pub record Step : Type 0 where
   pub who : ℕ
   pub packet : Option (List ℕ)

@@ -11,13 +11,18 @@ ghost use Rattle.dtx_net.specs.Steps.{Step, packet_step, restart_step, place_of}
 ghost use Rattle.dtx_net.specs.Lives.{own_steps, joined_steps, lives_of, last_life, ended_lives};
 ghost use Rattle.dtx_net.specs.Sent.{segments_of, lines_of};
 
-/// What a transmitter sends and what is logged of it are the same in any two schedules that give it the same lives, and steps of
+/// What a transmitter sends and what is logged of it are the same in any two schedules that give it the same lives, and
+/// steps of
 /// others, anywhere among its own, change none of its lives.
 pub fn interleavings()
-    ensures segments { (t : Transmitter) (who : ℕ) (steps others : List Step) → lives_of who steps ≡ lives_of who others → segments_of t who steps ≡ segments_of t who others }
-    ensures lines { (t : Transmitter) (who : ℕ) (steps others : List Step) → lives_of who steps ≡ lives_of who others → lines_of t who steps ≡ lines_of t who others }
-    ensures anywhere { (who : ℕ) (before after : List Step) (step : Step) → step.who ≢ who → lives_of who (before ++ step ∷ after) ≡ lives_of who (before ++ after) }
-    ensures elsewhere { (who : ℕ) (steps : List Step) (step : Step) → step.who ≢ who → lives_of who (steps ++ step ∷ []) ≡ lives_of who steps }
+    ensures segments { (t : Transmitter) (who : ℕ) (steps others : List Step) → lives_of who steps ≡ lives_of who others
+        → segments_of t who steps ≡ segments_of t who others }
+    ensures lines { (t : Transmitter) (who : ℕ) (steps others : List Step) → lives_of who steps ≡ lives_of who others
+        → lines_of t who steps ≡ lines_of t who others }
+    ensures anywhere { (who : ℕ) (before after : List Step) (step : Step) → step.who ≢ who
+        → lives_of who (before ++ step ∷ after) ≡ lives_of who (before ++ after) }
+    ensures elsewhere { (who : ℕ) (steps : List Step) (step : Step) → step.who ≢ who
+        → lives_of who (steps ++ step ∷ []) ≡ lives_of who steps }
 {}
 
 /// A transmitter's lives, with a restart between any two, are all that is done with it, in order.
@@ -28,27 +33,42 @@ pub fn lives_are_cut()
 /// A packet is given to the last life, and a restart begins a new one, which is empty.
 pub fn one_step_more()
     ensures nothing { (who : ℕ) → lives_of who [] ≡ [] ∷ [] }
-    ensures lives { (who : ℕ) (steps : List Step) → lives_of who steps ≡ ended_lives who steps ++ last_life who steps ∷ [] }
-    ensures given { (who : ℕ) (steps : List Step) (packet : List ℕ) → lives_of who (steps ++ packet_step who packet ∷ []) ≡ ended_lives who steps ++ (last_life who steps ++ packet ∷ []) ∷ [] }
-    ensures restarted { (who : ℕ) (steps : List Step) → lives_of who (steps ++ restart_step who ∷ []) ≡ lives_of who steps ++ [] ∷ [] }
+    ensures lives { (who : ℕ) (steps : List Step)
+        → lives_of who steps ≡ ended_lives who steps ++ last_life who steps ∷ [] }
+    ensures given { (who : ℕ) (steps : List Step) (packet : List ℕ)
+        → lives_of who (steps ++ packet_step who packet ∷ []) ≡ ended_lives who steps
+        ++ (last_life who steps ++ packet ∷ []) ∷ [] }
+    ensures restarted { (who : ℕ) (steps : List Step)
+        → lives_of who (steps ++ restart_step who ∷ []) ≡ lives_of who steps ++ [] ∷ [] }
 {}
 
 /// With a packet more a transmitter sends what it gives then, and the line of its answer is logged.
 pub fn one_packet_is_sent()
-    ensures segments { (t : Transmitter) (who : ℕ) (steps : List Step) (packet : List ℕ) → segments_of t who (steps ++ packet_step who packet ∷ []) ≡ segments_of t who steps ++ given t.address t.delay (last_life who steps ++ packet ∷ []) }
-    ensures lines { (t : Transmitter) (who : ℕ) (steps : List Step) (packet : List ℕ) → lines_of t who (steps ++ packet_step who packet ∷ [])
-        ≡ lines_of t who steps ++ line_of (length (segments_of t who steps)) (length (given t.address t.delay (last_life who steps ++ packet ∷ []))) (told t.address t.delay (last_life who steps ++ packet ∷ [])) }
+    ensures segments { (t : Transmitter) (who : ℕ) (steps : List Step) (packet : List ℕ)
+        → segments_of t who (steps ++ packet_step who packet ∷ []) ≡ segments_of t who steps
+        ++ given t.address t.delay (last_life who steps ++ packet ∷ []) }
+    ensures lines { (t : Transmitter) (who : ℕ) (steps : List Step) (packet : List ℕ)
+        → lines_of t who (steps ++ packet_step who packet ∷ [])
+        ≡ lines_of t who steps ++ line_of (length (segments_of t who steps))
+        (length (given t.address t.delay (last_life who steps ++ packet ∷ [])))
+        (told t.address t.delay (last_life who steps ++ packet ∷ [])) }
 {}
 
 /// With a restart nothing is sent, and it is logged with the number of segments so far.
 pub fn one_restart_is_logged()
-    ensures segments { (t : Transmitter) (who : ℕ) (steps : List Step) → segments_of t who (steps ++ restart_step who ∷ []) ≡ segments_of t who steps }
-    ensures lines { (t : Transmitter) (who : ℕ) (steps : List Step) → lines_of t who (steps ++ restart_step who ∷ []) ≡ lines_of t who steps ++ restart (length (segments_of t who steps)) ∷ [] }
+    ensures segments { (t : Transmitter) (who : ℕ) (steps : List Step)
+        → segments_of t who (steps ++ restart_step who ∷ []) ≡ segments_of t who steps }
+    ensures lines { (t : Transmitter) (who : ℕ) (steps : List Step)
+        → lines_of t who (steps ++ restart_step who ∷ []) ≡ lines_of t who steps
+        ++ restart (length (segments_of t who steps)) ∷ [] }
 {}
 
 /// The place of an address is the one at which it stands, and there is none exactly where no transmitter has it.
 pub fn places()
-    ensures found { (ts : List Transmitter) (address who : ℕ) → place_of address ts ≡ Some who → (t : Transmitter) × (slice_get ts who ≡ Some t) × (t.address ≡ address) }
-    ensures only { (ts : List Transmitter) (who : ℕ) (t : Transmitter) → AreTransmitters ts → slice_get ts who ≡ Some t → place_of t.address ts ≡ Some who }
-    ensures missing { (ts : List Transmitter) (address : ℕ) → place_of address ts ≡ None → has_address address ts ≡ false }
+    ensures found { (ts : List Transmitter) (address who : ℕ) → place_of address ts ≡ Some who
+        → (t : Transmitter) × (slice_get ts who ≡ Some t) × (t.address ≡ address) }
+    ensures only { (ts : List Transmitter) (who : ℕ) (t : Transmitter) → AreTransmitters ts → slice_get ts who ≡ Some t
+        → place_of t.address ts ≡ Some who }
+    ensures missing { (ts : List Transmitter) (address : ℕ) → place_of address ts ≡ None
+        → has_address address ts ≡ false }
 {}

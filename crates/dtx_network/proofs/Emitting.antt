@@ -1,12 +1,13 @@
 -- A transmitter of a network emits exactly.
-use Rattle.std.proofs.Common.{◌≡◌, ◌⊎◌, inl, inr, ℕ, ℤ, suc, ◌+◌, ◌-◌, ◌*◌, ◌/◌, ◌%◌, ◌<◌, ◌≤◌, ◌==◌, ◌&&◌, Bool, All, List, ◌∷◌, ◌++◌, length, map, refl, sym, ap, subst, ◌∙◌, arith, pos, ◌-ℤ◌, ◌*ℤ◌}
+use Rattle.std.proofs.Common.{◌≡◌, ◌⊎◌, inl, inr, ℕ, ℤ, suc, ◌+◌, ◌-◌, ◌*◌, ◌/◌, ◌%◌, ◌<◌, ◌≤◌, ◌==◌, ◌&&◌, Bool, All}
+use Rattle.std.proofs.Common.{List, ◌∷◌, ◌++◌, length, map, refl, sym, ap, subst, ◌∙◌, arith, pos, ◌-ℤ◌, ◌*ℤ◌}
 use Rattle.std.specs.Prelude.{slice_range}
 use Rattle.std.specs.List.{range_with_len, filter, Contains}
 use Rattle.std.proofs.lemmas.Bool.{cond-true, and_from, eq-eqb}
 use Rattle.std.proofs.lemmas.List.{length-append}
 use Rattle.std.proofs.lemmas.List.Elements.{All-append, All-weaker, All-contains, Contains-append_cases}
 use Rattle.dtx_clock.specs.Clock.{stamp_of, grains_of, DifferBy}
-use Rattle.dtx_clock.proofs.Moments.{moments_differ}
+use Rattle.dtx_clock.specs.MomentsLaws.{moments_differ}
 use Rattle.dtx_plan.specs.declared.plan.Plan.{Plan}
 use Rattle.dtx_plan.specs.declared.transmitter.Transmitter.{Transmitter}
 use Rattle.dtx_adapter.specs.Feed.{feed}
@@ -14,8 +15,8 @@ use Rattle.dtx_exciter.specs.Emission.{emission}
 use Rattle.dtx_exciter.specs.Lockstep.{IsFeed, IsStretch, segment_place, stretch}
 use Rattle.dtx_exciter.specs.Log.{Line, preset, life_lines, log, restarted_lines, restarting_lines, emission_over}
 use Rattle.dtx_exciter.specs.Stretch.{emission_behind, lines_behind, before_stretch, stretch_lines, IsApart}
-use Rattle.dtx_exciter.proofs.InLives.{stretch_segments, stretch_log}
-use Rattle.dtx_exciter.proofs.LockstepIs.{lockstep_is, lockstep_on, length-before}
+use Rattle.dtx_exciter.specs.InLivesLaws.{stretch_segments, stretch_log}
+use Rattle.dtx_exciter.specs.LockstepIsLaws.{lockstep_is, lockstep_on, length-before}
 use Rattle.dtx_network.specs.Plans.{IsPlan, IsStream, IsListed, IsInTime}
 use Rattle.dtx_network.specs.Orders.{has_order}
 use Rattle.dtx_network.specs.Presets.{orders, moment_at, preset_at, presets}
@@ -33,51 +34,71 @@ abbrev all_before : ℕ → ℕ → List (List ℕ) → List (List ℕ) → List
 all_before a d earlier feed xs mark k = emission_over a d xs ++ before_stretch a d earlier feed mark k
 
 abbrev lines_before : ℕ → ℕ → List (List ℕ) → List (List ℕ) → List (List (List ℕ)) → ℕ → ℕ → List Line
-lines_before a d earlier feed xs mark k = restarted_lines a d 0 xs ++ life_lines a d (0 + length (emission_over a d xs)) (earlier ++ slice_range feed mark (k + 3))
+lines_before a d earlier feed xs mark k = restarted_lines a d 0 xs
+    ++ life_lines a d (0 + length (emission_over a d xs)) (earlier ++ slice_range feed mark (k + 3))
 
-abbrev lines_after : ℕ → ℕ → List (List ℕ) → List (List ℕ) → List (List ℕ) → List (List (List ℕ)) → List (List (List ℕ)) → ℕ → ℕ → List Line
+abbrev lines_after : ℕ → ℕ → List (List ℕ) → List (List ℕ) → List (List ℕ) → List (List (List ℕ)) → List (List (List ℕ))
+    → ℕ → ℕ → List Line
 lines_after a d earlier feed later xs ys mark end =
     lines_behind a d (0 + length (emission_over a d xs)) (earlier ++ slice_range feed mark end) later
-    ++ restarting_lines a d (0 + length (emission_over a d xs) + length (emission a d (earlier ++ (slice_range feed mark end ++ later)))) ys
+    ++ restarting_lines a d (0 + length (emission_over a d xs) + length
+    (emission a d (earlier ++ (slice_range feed mark end ++ later)))) ys
 
 earlier_lines : (a d : ℕ) (earlier feed : List (List ℕ)) (xs : List (List (List ℕ))) (mark k : ℕ)
-    → All (λ line. end_of line ≤ length (all_before a d earlier feed xs mark k)) (lines_before a d earlier feed xs mark k)
+    → All (λ line. end_of line ≤ length (all_before a d earlier feed xs mark k))
+    (lines_before a d earlier feed xs mark k)
 earlier_lines a d earlier feed xs mark k =
     let n : ℕ = 0 + length (emission_over a d xs) in
     let life : List (List ℕ) = earlier ++ slice_range feed mark (k + 3) in
-    let all : length (all_before a d earlier feed xs mark k) ≡ length (emission_over a d xs) + length (before_stretch a d earlier feed mark k) =
+    let all : length (all_before a d earlier feed xs mark k)
+    ≡ length (emission_over a d xs) + length (before_stretch a d earlier feed mark k) =
     length-append (emission_over a d xs) (before_stretch a d earlier feed mark k) in
     let own = length-before a d feed earlier mark k in
-    All-append (λ line. end_of line ≤ length (all_before a d earlier feed xs mark k)) (restarted_lines a d 0 xs) (life_lines a d n life)
-    (All-weaker (λ line. end_of line ≤ 0 + length (emission_over a d xs)) (λ line. end_of line ≤ length (all_before a d earlier feed xs mark k)) (λ line h. omega (arith, h, all))
+    All-append (λ line. end_of line ≤ length (all_before a d earlier feed xs mark k)) (restarted_lines a d 0 xs)
+    (life_lines a d n life)
+    (All-weaker (λ line. end_of line ≤ 0 + length (emission_over a d xs))
+    (λ line. end_of line ≤ length (all_before a d earlier feed xs mark k)) (λ line h. omega (arith, h, all))
     (restarted_lines a d 0 xs) (restarted_up a d 0 xs))
-    (All-weaker (λ line. end_of line ≤ n + length (emission a d life)) (λ line. end_of line ≤ length (all_before a d earlier feed xs mark k)) (λ line h. omega (arith, h, all, own))
+    (All-weaker (λ line. end_of line ≤ n + length (emission a d life))
+    (λ line. end_of line ≤ length (all_before a d earlier feed xs mark k)) (λ line h. omega (arith, h, all, own))
     (life_lines a d n life) (life_up a d n life))
 
-later_lines : (a d : ℕ) (earlier feed later : List (List ℕ)) (xs ys : List (List (List ℕ))) (mark end k : ℕ) → IsFeed a d feed → IsStretch feed mark end k
-    → All (λ line. length (all_before a d earlier feed xs mark k) + length (stretch feed k end) ≤ segment_of line) (lines_after a d earlier feed later xs ys mark end)
+later_lines : (a d : ℕ) (earlier feed later : List (List ℕ)) (xs ys : List (List (List ℕ))) (mark end k : ℕ)
+    → IsFeed a d feed → IsStretch feed mark end k
+    → All (λ line. length (all_before a d earlier feed xs mark k) + length (stretch feed k end) ≤ segment_of line)
+    (lines_after a d earlier feed later xs ys mark end)
 later_lines a d earlier feed later xs ys mark end k f s =
     let n : ℕ = 0 + length (emission_over a d xs) in
     let front : List (List ℕ) = earlier ++ slice_range feed mark end in
     let life : List (List ℕ) = earlier ++ (slice_range feed mark end ++ later) in
-    let all : length (all_before a d earlier feed xs mark k) ≡ length (emission_over a d xs) + length (before_stretch a d earlier feed mark k) =
+    let all : length (all_before a d earlier feed xs mark k)
+    ≡ length (emission_over a d xs) + length (before_stretch a d earlier feed mark k) =
     length-append (emission_over a d xs) (before_stretch a d earlier feed mark k) in
-    let given_front : length (emission a d front) ≡ length (before_stretch a d earlier feed mark k) + length (stretch feed k end) =
-    ap (λ (x : List (List ℤ)). length x) (lockstep_is a d feed earlier mark end k f s) ∙ length-append (before_stretch a d earlier feed mark k) (stretch feed k end) in
-    let given_all : length (emission a d life) ≡ length (before_stretch a d earlier feed mark k) + (length (stretch feed k end) + length (emission_behind a d front later)) =
+    let given_front : length (emission a d front)
+    ≡ length (before_stretch a d earlier feed mark k) + length (stretch feed k end) =
+    ap (λ (x : List (List ℤ)). length x) (lockstep_is a d feed earlier mark end k f s)
+    ∙ length-append (before_stretch a d earlier feed mark k) (stretch feed k end) in
+    let given_all : length (emission a d life) ≡ length (before_stretch a d earlier feed mark k) +
+    (length (stretch feed k end) + length (emission_behind a d front later)) =
     ap (λ (x : List (List ℤ)). length x) (lockstep_on a d feed earlier later mark end k f s)
     ∙ length-append (before_stretch a d earlier feed mark k) (stretch feed k end ++ emission_behind a d front later)
-    ∙ ap (λ (m : ℕ). length (before_stretch a d earlier feed mark k) + m) (length-append (stretch feed k end) (emission_behind a d front later)) in
-    All-append (λ line. length (all_before a d earlier feed xs mark k) + length (stretch feed k end) ≤ segment_of line) (lines_behind a d n front later)
+    ∙ ap (λ (m : ℕ). length (before_stretch a d earlier feed mark k) + m)
+    (length-append (stretch feed k end) (emission_behind a d front later)) in
+    All-append (λ line. length (all_before a d earlier feed xs mark k) + length (stretch feed k end) ≤ segment_of line)
+    (lines_behind a d n front later)
     (restarting_lines a d (n + length (emission a d life)) ys)
-    (All-weaker (λ line. n + length (emission a d front) ≤ segment_of line) (λ line. length (all_before a d earlier feed xs mark k) + length (stretch feed k end) ≤ segment_of line)
+    (All-weaker (λ line. n + length (emission a d front) ≤ segment_of line)
+    (λ line. length (all_before a d earlier feed xs mark k) + length (stretch feed k end) ≤ segment_of line)
     (λ line h. omega (arith, h, all, given_front)) (lines_behind a d n front later) (behind_down a d n front later))
-    (All-weaker (λ line. n + length (emission a d life) ≤ segment_of line) (λ line. length (all_before a d earlier feed xs mark k) + length (stretch feed k end) ≤ segment_of line)
-    (λ line h. omega (arith, h, all, given_all)) (restarting_lines a d (n + length (emission a d life)) ys) (restarting_down a d (n + length (emission a d life)) ys))
+    (All-weaker (λ line. n + length (emission a d life) ≤ segment_of line)
+    (λ line. length (all_before a d earlier feed xs mark k) + length (stretch feed k end) ≤ segment_of line)
+    (λ line h. omega (arith, h, all, given_all)) (restarting_lines a d (n + length (emission a d life)) ys)
+    (restarting_down a d (n + length (emission a d life)) ys))
 
 -- ---- the feed of a plan
 
-pub stretch_from : (plan : Plan) (stream : List (List ℕ)) (mark n k : ℕ) → IsPlan plan → IsStream stream → mark % 624 ≡ 0 → mark + n ≤ length (feed plan stream) → IsFirstOrder (feed plan stream) mark n k
+pub stretch_from : (plan : Plan) (stream : List (List ℕ)) (mark n k : ℕ) → IsPlan plan → IsStream stream
+    → mark % 624 ≡ 0 → mark + n ≤ length (feed plan stream) → IsFirstOrder (feed plan stream) mark n k
     → IsStretch (feed plan stream) mark (mark + n) k
 stretch_from plan stream mark n k p u m l first = record {
   is_mark = m;
@@ -87,10 +108,13 @@ stretch_from plan stream mark n k p u m l first = record {
   order = let far = first.behind in order_some plan stream k p u (omega (arith, far)) first.group first.order;
 }
 
-emits_at : (plan : Plan) (stream : List (List ℕ)) (t : Transmitter) (earlier later : List (List ℕ)) (xs ys : List (List (List ℕ))) (mark n k : ℕ)
-    → IsPlan plan → IsStream stream → IsListed plan t → IsInTime plan t → mark % 624 ≡ 0 → mark + n ≤ length (feed plan stream) → IsFirstOrder (feed plan stream) mark n k
+emits_at : (plan : Plan) (stream : List (List ℕ)) (t : Transmitter) (earlier later : List (List ℕ))
+    (xs ys : List (List (List ℕ))) (mark n k : ℕ)
+    → IsPlan plan → IsStream stream → IsListed plan t → IsInTime plan t → mark % 624 ≡ 0
+    → mark + n ≤ length (feed plan stream) → IsFirstOrder (feed plan stream) mark n k
     → Emits plan t (feed plan stream) k (mark + n)
-    (emission_over t.address t.delay (xs ++ (earlier ++ (slice_range (feed plan stream) mark (mark + n) ++ later)) ∷ ys))
+    (emission_over t.address t.delay (xs ++ (earlier
+    ++ (slice_range (feed plan stream) mark (mark + n) ++ later)) ∷ ys))
     (log t.address t.delay 0 (xs ++ (earlier ++ (slice_range (feed plan stream) mark (mark + n) ++ later)) ∷ ys))
 emits_at plan stream t earlier later xs ys mark n k p u listed time m l first =
     let a = t.address in
@@ -102,30 +126,40 @@ emits_at plan stream t earlier later xs ys mark n k p u listed time m l first =
     let same : stretch_of fed k end ≡ stretch fed k end = stretch_is fed k end first.whole l in
     let far = first.behind in
     let before : List (List ℤ) = all_before a d earlier fed xs mark k in
-    let after : List (List ℤ) = emission_behind a d (earlier ++ slice_range fed mark end) later ++ emission_over a d ys in
+    let after : List (List ℤ) = emission_behind a d (earlier ++ slice_range fed mark end) later
+    ++ emission_over a d ys in
     let place : 0 + length (emission_over a d xs) + length (before_stretch a d earlier fed mark k) ≡ length before =
     omega (arith, length-append (emission_over a d xs) (before_stretch a d earlier fed mark k)) in
-    let presets_are : stretch_lines a (0 + length (emission_over a d xs) + length (before_stretch a d earlier fed mark k)) fed k end ≡ presets plan t.offset (length before) fed k end =
-    ap (λ (r : ℕ). stretch_lines a r fed k end) place ∙ lines_are plan stream t (length before) k end p u listed (omega (arith, far)) in
+    let presets_are : stretch_lines a (0 + length (emission_over a d xs) + length
+    (before_stretch a d earlier fed mark k)) fed k end ≡ presets plan t.offset (length before) fed k end =
+    ap (λ (r : ℕ). stretch_lines a r fed k end) place
+    ∙ lines_are plan stream t (length before) k end p u listed (omega (arith, far)) in
     record {
       before = before;
       after = after;
-      symbols = stretch_segments a d fed earlier later xs ys mark end k locks s ∙ ap (λ x. before ++ (x ++ after)) (sym same);
+      symbols = stretch_segments a d fed earlier later xs ys mark end k locks s
+          ∙ ap (λ x. before ++ (x ++ after)) (sym same);
       earlier = lines_before a d earlier fed xs mark k;
       later = lines_after a d earlier fed later xs ys mark end;
       log = stretch_log a d 0 fed earlier later xs ys mark end k locks s
-          ∙ ap (λ x. lines_before a d earlier fed xs mark k ++ (x ++ lines_after a d earlier fed later xs ys mark end)) presets_are;
+          ∙ ap (λ x. lines_before a d earlier fed xs mark k
+          ++ (x ++ lines_after a d earlier fed later xs ys mark end)) presets_are;
       up_to = earlier_lines a d earlier fed xs mark k;
       behind =
-          subst (λ x. All (λ line. length before + length x ≤ segment_of line) (lines_after a d earlier fed later xs ys mark end)) (sym same)
+          subst (λ x. All (λ line. length before + length x ≤ segment_of line)
+          (lines_after a d earlier fed later xs ys mark end)) (sym same)
           (later_lines a d earlier fed later xs ys mark end k locks s);
     }
 
-pub emits : (plan : Plan) (stream : List (List ℕ)) (t : Transmitter) (xs ys : List (List (List ℕ))) (life : List (List ℕ)) (mark n k : ℕ)
-    → IsPlan plan → IsStream stream → IsListed plan t → IsInTime plan t → IsFed (feed plan stream) life mark n → IsFirstOrder (feed plan stream) mark n k
-    → Emits plan t (feed plan stream) k (mark + n) (emission_over t.address t.delay (xs ++ life ∷ ys)) (log t.address t.delay 0 (xs ++ life ∷ ys))
+pub emits : (plan : Plan) (stream : List (List ℕ)) (t : Transmitter) (xs ys : List (List (List ℕ)))
+    (life : List (List ℕ)) (mark n k : ℕ)
+    → IsPlan plan → IsStream stream → IsListed plan t → IsInTime plan t → IsFed (feed plan stream) life mark n
+    → IsFirstOrder (feed plan stream) mark n k
+    → Emits plan t (feed plan stream) k (mark + n) (emission_over t.address t.delay (xs ++ life ∷ ys))
+    (log t.address t.delay 0 (xs ++ life ∷ ys))
 emits plan stream t xs ys life mark n k p u listed time fed first =
-    subst (λ x. Emits plan t (feed plan stream) k (mark + n) (emission_over t.address t.delay (xs ++ x ∷ ys)) (log t.address t.delay 0 (xs ++ x ∷ ys))) (sym fed.holds)
+    subst (λ x. Emits plan t (feed plan stream) k (mark + n) (emission_over t.address t.delay (xs ++ x ∷ ys))
+    (log t.address t.delay 0 (xs ++ x ∷ ys))) (sym fed.holds)
     (emits_at plan stream t fed.earlier fed.later xs ys mark n k p u listed time fed.is_mark fed.inside first)
 
 -- ---- its lines
@@ -133,7 +167,8 @@ emits plan stream t xs ys life mark n k p u listed time fed first =
 -- the first of the stretch
 pub first_is : (plan : Plan) (offset : ℤ) (s : ℕ) (feed : List (List ℕ)) (mark n k : ℕ) → IsFirstOrder feed mark n k
     → presets plan offset s feed k (mark + n)
-    ≡ preset s (k / 624) (k % 624) (moment_at plan offset k).tick (moment_at plan offset k).grain ∷ map (preset_at plan offset s k) (orders feed (k + 1) (mark + n))
+    ≡ preset s (k / 624) (k % 624) (moment_at plan offset k).tick (moment_at plan offset k).grain ∷ map
+    (preset_at plan offset s k) (orders feed (k + 1) (mark + n))
 unfolding presets orders
 first_is plan offset s feed mark n k first =
     let l = first.whole in
@@ -142,25 +177,33 @@ first_is plan offset s feed mark n k first =
     let seg : s + (segment_place k - segment_place k) ≡ s = omega arith in
     ap (λ m. map (preset_at plan offset s k) (filter test (range_with_len k m))) c
     ∙ ap (map (preset_at plan offset s k))
-    (cond-true (test k) (k ∷ filter test (range_with_len (k + 1) (mark + n - 3 - (k + 1)))) (filter test (range_with_len (k + 1) (mark + n - 3 - (k + 1))))
+    (cond-true (test k) (k ∷ filter test (range_with_len (k + 1) (mark + n - 3 - (k + 1))))
+    (filter test (range_with_len (k + 1) (mark + n - 3 - (k + 1))))
     (and_from (k % 4 == 0) (has_order feed k) (eq-eqb (k % 4) 0 first.group) first.order))
-    ∙ ap (λ m. preset m (k / 624) (k % 624) (moment_at plan offset k).tick (moment_at plan offset k).grain ∷ map (preset_at plan offset s k) (filter test (range_with_len (k + 1) (mark + n - 3 - (k + 1))))) seg
+    ∙ ap (λ m. preset m (k / 624) (k % 624) (moment_at plan offset k).tick (moment_at plan offset k).grain ∷ map
+    (preset_at plan offset s k) (filter test (range_with_len (k + 1) (mark + n - 3 - (k + 1))))) seg
 
 -- no other line speaks of anything within it
-pub no_other : (plan : Plan) (t : Transmitter) (feed : List (List ℕ)) (k end : ℕ) (segments : List (List ℤ)) (lines : List Line) (line : Line)
-    → (e : Emits plan t feed k end segments lines) → Contains lines line → length e.before < end_of line → segment_of line < length e.before + length (stretch_of feed k end)
+pub no_other : (plan : Plan) (t : Transmitter) (feed : List (List ℕ)) (k end : ℕ) (segments : List (List ℤ))
+    (lines : List Line) (line : Line)
+    → (e : Emits plan t feed k end segments lines) → Contains lines line → length e.before < end_of line
+    → segment_of line < length e.before + length (stretch_of feed k end)
     → Contains (presets plan t.offset (length e.before) feed k end) line
-no_other plan t feed k end segments lines line e c low high = by_part (Contains-append_cases e.earlier (own ++ e.later) line (subst (λ x. Contains x line) e.log c))
+no_other plan t feed k end segments lines line e c low high =
+    by_part (Contains-append_cases e.earlier (own ++ e.later) line (subst (λ x. Contains x line) e.log c))
   where
     own : List Line
     own = presets plan t.offset (length e.before) feed k end
 
     by_own : Contains own line ⊎ Contains e.later line → Contains own line
     by_own (inl c) = c
-    by_own (inr c) = let h = All-contains (λ x. length e.before + length (stretch_of feed k end) ≤ segment_of x) e.later line e.behind c in absurd (omega (arith, h, high))
+    by_own (inr c) = let h =
+        All-contains (λ x. length e.before + length (stretch_of feed k end) ≤ segment_of x) e.later line e.behind c in
+        absurd (omega (arith, h, high))
 
     by_part : Contains e.earlier line ⊎ Contains (own ++ e.later) line → Contains own line
-    by_part (inl c) = let h = All-contains (λ x. end_of x ≤ length e.before) e.earlier line e.up_to c in absurd (omega (arith, h, low))
+    by_part (inl c) = let h = All-contains (λ x. end_of x ≤ length e.before) e.earlier line e.up_to c in
+        absurd (omega (arith, h, low))
     by_part (inr c) = by_own (Contains-append_cases own e.later line c)
 
 -- ---- two transmitters
@@ -168,7 +211,8 @@ no_other plan t feed k end segments lines line e c low high = by_part (Contains-
 whole_grains : (n : ℕ) → n ≡ n / 1539 * 1539 + n % 1539
 whole_grains n = omega arith
 
-pub apart : (plan : Plan) (t u : Transmitter) (s r k l g : ℕ) → IsApart (t.offset -ℤ u.offset) (preset_at plan t.offset s k g) (preset_at plan u.offset r l g)
+pub apart : (plan : Plan) (t u : Transmitter) (s r k l g : ℕ)
+    → IsApart (t.offset -ℤ u.offset) (preset_at plan t.offset s k g) (preset_at plan u.offset r l g)
 apart plan t u s r k l g =
     let x : ℕ = grains_of (stamp_of plan.start (g / 624)) plan.max_delay t.offset (g % 624) in
     let y : ℕ = grains_of (stamp_of plan.start (g / 624)) plan.max_delay u.offset (g % 624) in (

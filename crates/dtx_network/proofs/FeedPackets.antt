@@ -1,19 +1,20 @@
 -- The packets of a feed have 188 bytes, and each of them is a byte.
-use Rattle.std.proofs.Common.{◌≡◌, ◌⊎◌, inl, inr, ℕ, suc, ◌+◌, ◌%◌, ◌<◌, ◌==◌, Bool, true, false, cond, List, [], ◌∷◌, length, take, get_or, sym, subst, arith}
+use Rattle.std.proofs.Common.{◌≡◌, ◌⊎◌, inl, inr, ℕ, suc, ◌+◌, ◌%◌, ◌<◌, ◌==◌, Bool, true, false, cond, List, [], ◌∷◌}
+use Rattle.std.proofs.Common.{length, take, get_or, sym, subst, arith}
 use Rattle.std.specs.List.{AllByRecursion}
 use Rattle.std.proofs.lemmas.Bool.{cases_Bool, cond-true, cond-false, eqb-true}
 use Rattle.dtx_galois.specs.Field.{AreBytes}
-use Rattle.dtx_galois.proofs.Bytes.{bytes_append}
-use Rattle.dtx_laws.proofs.Choice.{codeword_is, codeword_length}
+use Rattle.dtx_galois.specs.BytesLaws.{bytes_append}
+use Rattle.dtx_laws.specs.ChoiceLaws.{codeword_is, codeword_length}
 use Rattle.dtx_packets.specs.Packet.{pid_of}
 use Rattle.dtx_cadence.specs.Mark.{sync_at, marked}
 use Rattle.dtx_ops.specs.Spelling.{IsValid, data_of, spelling}
 use Rattle.dtx_ops.specs.declared.fields.Ops.{Ops}
-use Rattle.dtx_ops.proofs.Data.{length-data_of, AreBytes-data_of}
-use Rattle.dtx_ops.proofs.Readings.{read_as}
+use Rattle.dtx_ops.specs.DataLaws.{length-data_of, AreBytes-data_of}
+use Rattle.dtx_ops.specs.ReadingsLaws.{read_as}
 use Rattle.dtx_plan.specs.declared.plan.Plan.{Plan}
 use Rattle.dtx_adapter.specs.Feed.{is_placeholder, ops_at, counter_at, made, fed_packet, feed}
-use Rattle.dtx_adapter.proofs.Feeds.{length-feed, feed_packet}
+use Rattle.dtx_adapter.specs.FeedsLaws.{length-feed, feed_packet}
 use Rattle.dtx_chain.specs.Undamaged.{ArePackets}
 use Rattle.dtx_network.specs.Plans.{IsPlan, IsStream}
 use Rattle.dtx_network.proofs.Orders.{operations_read}
@@ -22,7 +23,8 @@ abbrev IsPacket : List ℕ → Type 0
 IsPacket p = (length p ≡ 188) × AreBytes p
 
 -- by place
-all_from_places : {X : Type 0} (P : X → Type 0) (xs : List X) (d : X) → ((k : ℕ) → k < length xs → P (get_or xs k d)) → AllByRecursion P xs
+all_from_places : {X : Type 0} (P : X → Type 0) (xs : List X) (d : X) → ((k : ℕ) → k < length xs → P (get_or xs k d))
+    → AllByRecursion P xs
 all_from_places P [] d h = tt
 all_from_places P (x ∷ xs) d h = (h 0 (omega arith), all_from_places P xs d (λ k l. h (suc k) (omega arith)))
 
@@ -43,7 +45,10 @@ packet_spelled : (ops : Ops) (counter k : ℕ) → IsValid ops → counter < 16 
 unfolding spelling
 packet_spelled ops counter k valid l = (
   omega (arith, codeword_length 184 164 (data_of ops), length-data_of ops valid),
-  bytes_append (sync_at k ∷ 0x1F ∷ 0xFA ∷ (0x10 + counter) ∷ []) _ (small_sync k, (omega arith, (omega arith, (omega (arith, l), tt))))
+  bytes_append (sync_at k ∷ 0x1F ∷ 0xFA ∷ (0x10 + counter) ∷ []) _ (
+    small_sync k,
+    (omega arith, (omega arith, (omega (arith, l), tt))),
+  )
       (codeword_is 184 164 (data_of ops) (omega arith) (length-data_of ops valid) (AreBytes-data_of ops valid)).bytes,
 )
 
@@ -51,14 +56,18 @@ pid_true : (p : List ℕ) → is_placeholder p ≡ true → pid_of p ≡ 0x1FFA
 unfolding is_placeholder
 pid_true p t = eqb-true (pid_of p) 0x1FFA t
 
-packet_made : (ops : Ops) (counter k : ℕ) (p : List ℕ) → IsPacket p → counter < 16 → (pid_of p ≡ 0x1FFA → IsValid ops) → IsPacket (made ops counter k p)
+packet_made : (ops : Ops) (counter k : ℕ) (p : List ℕ) → IsPacket p → counter < 16 → (pid_of p ≡ 0x1FFA → IsValid ops)
+    → IsPacket (made ops counter k p)
 unfolding made
 packet_made ops counter k p h l valid = by_cases (cases_Bool (is_placeholder p))
   where
     by_cases : (is_placeholder p ≡ true) ⊎ (is_placeholder p ≡ false) → IsPacket (made ops counter k p)
     by_cases (inl t) =
-        subst IsPacket (sym (cond-true (is_placeholder p) (spelling ops counter (sync_at k)) (marked k p) t)) (packet_spelled ops counter k (valid (pid_true p t)) l)
-    by_cases (inr f) = subst IsPacket (sym (cond-false (is_placeholder p) (spelling ops counter (sync_at k)) (marked k p) f)) (packet_marked k p h)
+        subst IsPacket (sym (cond-true (is_placeholder p) (spelling ops counter (sync_at k)) (marked k p) t))
+        (packet_spelled ops counter k (valid (pid_true p t)) l)
+    by_cases (inr f) =
+        subst IsPacket (sym (cond-false (is_placeholder p) (spelling ops counter (sync_at k)) (marked k p) f))
+        (packet_marked k p h)
 
 -- ---- all of them
 
@@ -66,12 +75,18 @@ small_counter : (stream : List (List ℕ)) (k : ℕ) → counter_at stream k < 1
 unfolding counter_at
 small_counter stream k = omega arith
 
-packet_fed : (plan : Plan) (stream : List (List ℕ)) (k : ℕ) → IsPlan plan → IsStream stream → k < length stream → IsPacket (get_or (feed plan stream) k [])
+packet_fed : (plan : Plan) (stream : List (List ℕ)) (k : ℕ) → IsPlan plan → IsStream stream → k < length stream
+    → IsPacket (get_or (feed plan stream) k [])
 unfolding fed_packet
 packet_fed plan stream k p s l =
     subst IsPacket (sym (feed_packet plan stream k l))
-    (packet_made (ops_at plan (take k (feed plan stream)) k) (counter_at stream k) k (get_or stream k []) (s.long k [] l, s.bytes k [] l) (small_counter stream k)
-    (λ e. (read_as (get_or (feed plan stream) k []) (ops_at plan (take k (feed plan stream)) k) (operations_read plan stream k p s e)).valid))
+    (packet_made (ops_at plan (take k (feed plan stream)) k) (counter_at stream k) k (get_or stream k [])
+    (s.long k [] l, s.bytes k [] l) (small_counter stream k)
+    (λ e. (read_as (get_or (feed plan stream) k []) (ops_at plan (take k (feed plan stream)) k)
+    (operations_read plan stream k p s e)).valid))
 
-pub feed_packets : (plan : Plan) (stream : List (List ℕ)) → IsPlan plan → IsStream stream → ArePackets (feed plan stream)
-feed_packets plan stream p s = all_from_places IsPacket (feed plan stream) [] (λ k l. packet_fed plan stream k p s (omega (arith, l, length-feed plan stream)))
+pub feed_packets : (plan : Plan) (stream : List (List ℕ)) → IsPlan plan → IsStream stream
+    → ArePackets (feed plan stream)
+feed_packets plan stream p s =
+    all_from_places IsPacket (feed plan stream) []
+    (λ k l. packet_fed plan stream k p s (omega (arith, l, length-feed plan stream)))

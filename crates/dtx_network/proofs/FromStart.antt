@@ -1,5 +1,8 @@
--- An exciter that is given a feed from its first packet on: nothing before its first order, and from there on the feed's own segments.
-use Rattle.std.proofs.Common.{◌≡◌, ◌⊎◌, inl, inr, ℕ, ℤ, zero, suc, ◌+◌, ◌-◌, ◌%◌, ◌<◌, ◌≤◌, ◌==◌, Bool, true, false, cond, Option, Some, None, option_map, List, [], ◌++◌, length, take, drop, refl, sym, ap, ap₂, subst, ◌∙◌, arith}
+-- An exciter that is given a feed from its first packet on: nothing before its first order, and from there on the
+-- feed's own segments.
+use Rattle.std.proofs.Common.{◌≡◌, ◌⊎◌, inl, inr, ℕ, ℤ, zero, suc, ◌+◌, ◌-◌, ◌%◌, ◌<◌, ◌≤◌, ◌==◌, Bool, true, false}
+use Rattle.std.proofs.Common.{cond, Option, Some, None, option_map, List, [], ◌++◌, length, take, drop, refl, sym, ap}
+use Rattle.std.proofs.Common.{ap₂, subst, ◌∙◌, arith}
 use Rattle.std.specs.Prelude.{slice_range}
 use Rattle.std.specs.List.{range_with_len, flat_map}
 use Rattle.std.proofs.lemmas.Bool.{cases_lt, cases_Bool, eqb-true, eqb-false}
@@ -16,11 +19,11 @@ use Rattle.dtx_exciter.specs.Emission.{sent_by, sent_at, sent_before, with_sync,
 use Rattle.dtx_exciter.specs.Lockstep.{IsFeed, IsStretch, stretch}
 use Rattle.dtx_exciter.specs.Log.{line_of, life_lines}
 use Rattle.dtx_exciter.specs.Stretch.{sync_behind, before_stretch, stretch_lines}
-use Rattle.dtx_exciter.proofs.Force.{counted_left, counted_off, counted_early}
-use Rattle.dtx_exciter.proofs.Under.{length-syncs, length-said, said_append}
-use Rattle.dtx_exciter.proofs.Followed.{Follows, follows, told_is}
-use Rattle.dtx_exciter.proofs.LockstepIs.{lockstep_is}
-use Rattle.dtx_exciter.proofs.Lines.{lines_is}
+use Rattle.dtx_exciter.specs.ForceLaws.{counted_left, counted_off, counted_early}
+use Rattle.dtx_exciter.specs.UnderLaws.{length-syncs, length-said, said_append}
+use Rattle.dtx_exciter.specs.FollowedLaws.{Follows, follows, told_is}
+use Rattle.dtx_exciter.specs.LockstepIsLaws.{lockstep_is}
+use Rattle.dtx_exciter.specs.LinesLaws.{lines_is}
 use Rattle.dtx_network.specs.Plans.{IsPlan, IsStream, IsListed, IsInTime}
 use Rattle.dtx_network.specs.Orders.{has_order}
 use Rattle.dtx_network.specs.Presets.{presets}
@@ -39,36 +42,48 @@ NoneCounted feed n = (g : ℕ) → g + 4 ≤ n → counted (said feed) g ≡ Non
 
 latest_none : {A : Type 0} (f : ℕ → Option A) (n : ℕ) → ((g : ℕ) → g < n → f g ≡ None) → latest f n ≡ None
 latest_none f zero h = refl
-latest_none {A} f (suc n) h = ap₂ (λ (o r : Option A). either o r) (h n (omega arith)) (latest_none f n (λ g l. h g (omega arith)))
+latest_none {A} f (suc n) h =
+    ap₂ (λ (o r : Option A). either o r) (h n (omega arith)) (latest_none f n (λ g l. h g (omega arith)))
 
 -- in any front of the feed
-counted_front : (feed : List (List ℕ)) (m g : ℕ) → m ≤ length feed → g + 4 ≤ m → counted (said (take m feed)) g ≡ counted (said feed) g
+counted_front : (feed : List (List ℕ)) (m g : ℕ) → m ≤ length feed → g + 4 ≤ m
+    → counted (said (take m feed)) g ≡ counted (said feed) g
 counted_front feed m g l h =
-    sym (counted_left (said (take m feed)) (said (drop m feed)) g (omega (arith, h, length-said (take m feed), length-take-le m feed l)))
+    sym (counted_left (said (take m feed)) (said (drop m feed)) g (omega (
+      arith,
+      h,
+      length-said (take m feed),
+      length-take-le m feed l,
+    )))
     ∙ ap (λ x. counted x g) (sym (said_append (take m feed) (drop m feed)) ∙ ap said (take-append-drop m feed))
 
-force_none : (feed : List (List ℕ)) (n m i : ℕ) → NoneCounted feed n → m ≤ n → n ≤ length feed → i + 4 ≤ m → in_force (said (take m feed)) i ≡ None
+force_none : (feed : List (List ℕ)) (n m i : ℕ) → NoneCounted feed n → m ≤ n → n ≤ length feed → i + 4 ≤ m
+    → in_force (said (take m feed)) i ≡ None
 unfolding in_force
 force_none feed n m i none l h w =
     latest_none (λ g. placed g (counted (said (take m feed)) g)) (i + 1)
-    (λ g s. ap (placed g) (counted_front feed m g (omega (arith, l, h)) (omega (arith, w, s)) ∙ none g (omega (arith, w, s, l))))
+    (λ g s. ap (placed g) (counted_front feed m g (omega (arith, l, h)) (omega (arith, w, s))
+    ∙ none g (omega (arith, w, s, l))))
 
 -- ---- what one packet gives, and is answered with
 
 -- the anchor of every front is the feed's first packet
-anchor_front : (a d : ℕ) (feed : List (List ℕ)) (n j : ℕ) → IsFeed a d feed → n ≤ length feed → j < n → anchor_of (take (j + 1) feed) ≡ Some 0
+anchor_front : (a d : ℕ) (feed : List (List ℕ)) (n j : ℕ) → IsFeed a d feed → n ≤ length feed → j < n
+    → anchor_of (take (j + 1) feed) ≡ Some 0
 anchor_front a d feed n j f l s =
     let w : Follows [] feed 0 n = follows a d [] feed 0 n f (omega arith) (omega (arith, l)) (omega (arith, s)) in
     let low : w.place ≤ 0 = w.before in
     let first : w.place ≡ 0 = omega (arith, low) in
     w.anchors j s ∙ ap Some first
 
-under_front : (a d : ℕ) (feed : List (List ℕ)) (n j : ℕ) → IsFeed a d feed → n ≤ length feed → j < n → under (take (j + 1) feed) ≡ Some (take (j + 1) feed)
+under_front : (a d : ℕ) (feed : List (List ℕ)) (n j : ℕ) → IsFeed a d feed → n ≤ length feed → j < n
+    → under (take (j + 1) feed) ≡ Some (take (j + 1) feed)
 unfolding under
 under_front a d feed n j f l s = ap (option_map (λ k. drop k (take (j + 1) feed))) (anchor_front a d feed n j f l s)
 
 -- with no order in force
-given_no : (a d : ℕ) (l : List (List ℕ)) → (4 ≤ length l → in_force (said l) (length l - 4) ≡ None) → 0 < length l → given_under a d (Some l) ≡ []
+given_no : (a d : ℕ) (l : List (List ℕ)) → (4 ≤ length l → in_force (said l) (length l - 4) ≡ None) → 0 < length l
+    → given_under a d (Some l) ≡ []
 unfolding sent_at
 given_no a d l h s = by_test (cases_Bool (length l % 4 == 0))
   where
@@ -78,13 +93,20 @@ given_no a d l h s = by_test (cases_Bool (length l % 4 == 0))
     by_test : ((length l % 4 == 0) ≡ true) ⊎ ((length l % 4 == 0) ≡ false) → given_under a d (Some l) ≡ []
     by_test (inl t) =
         let w : length l % 4 ≡ 0 = eqb-true (length l % 4) 0 t in
-        ap₂ (λ (b : Bool) (o : Option Order). cond b (with_sync (length l - 4) sent (sent_by a d l (length l - 4) o)) []) t (h (omega (arith, w, s)))
-    by_test (inr t) = ap (λ (b : Bool). cond b (with_sync (length l - 4) sent (sent_by a d l (length l - 4) (in_force (said l) (length l - 4)))) []) t
+        ap₂ (λ (b : Bool) (o : Option Order). cond b (with_sync (length l - 4) sent (sent_by a d l (length l - 4) o))
+        []) t (h (omega (arith, w, s)))
+    by_test (inr t) =
+        ap (λ (b : Bool). cond b (with_sync (length l - 4) sent
+        (sent_by a d l (length l - 4) (in_force (said l) (length l - 4)))) []) t
 
-told_no : (a d : ℕ) (l : List (List ℕ)) → (4 ≤ length l → in_force (said l) (length l - 4) ≡ None) → 0 < length l → told_under a d (Some (said l)) ≡ Quiet
-told_no a d l h s = ap (λ (n : ℕ). cond (n % 4 == 0) (told_at a d (n - 4) (in_force (said l) (n - 4))) Quiet) (length-said l) ∙ by_test (cases_Bool (length l % 4 == 0))
+told_no : (a d : ℕ) (l : List (List ℕ)) → (4 ≤ length l → in_force (said l) (length l - 4) ≡ None) → 0 < length l
+    → told_under a d (Some (said l)) ≡ Quiet
+told_no a d l h s =
+    ap (λ (n : ℕ). cond (n % 4 == 0) (told_at a d (n - 4) (in_force (said l) (n - 4))) Quiet) (length-said l)
+    ∙ by_test (cases_Bool (length l % 4 == 0))
   where
-    by_test : ((length l % 4 == 0) ≡ true) ⊎ ((length l % 4 == 0) ≡ false) → cond (length l % 4 == 0) (told_at a d (length l - 4) (in_force (said l) (length l - 4))) Quiet ≡ Quiet
+    by_test : ((length l % 4 == 0) ≡ true) ⊎ ((length l % 4 == 0) ≡ false)
+        → cond (length l % 4 == 0) (told_at a d (length l - 4) (in_force (said l) (length l - 4))) Quiet ≡ Quiet
     by_test (inl t) =
         let w : length l % 4 ≡ 0 = eqb-true (length l % 4) 0 t in
         ap₂ (λ (b : Bool) (o : Option Order). cond b (told_at a d (length l - 4) o) Quiet) t (h (omega (arith, w, s)))
@@ -92,24 +114,31 @@ told_no a d l h s = ap (λ (n : ℕ). cond (n % 4 == 0) (told_at a d (n - 4) (in
 
 force_front : (feed : List (List ℕ)) (n j : ℕ) → NoneCounted feed n → n ≤ length feed → j < n
     → 4 ≤ length (take (j + 1) feed) → in_force (said (take (j + 1) feed)) (length (take (j + 1) feed) - 4) ≡ None
-force_front feed n j none l s h = force_none feed n (j + 1) (length (take (j + 1) feed) - 4) none (omega (arith, s)) l (omega (arith, h, length-take-le (j + 1) feed (omega (arith, s, l))))
+force_front feed n j none l s h =
+    force_none feed n (j + 1) (length (take (j + 1) feed) - 4) none (omega (arith, s)) l
+    (omega (arith, h, length-take-le (j + 1) feed (omega (arith, s, l))))
 
 some_front : (feed : List (List ℕ)) (n j : ℕ) → n ≤ length feed → j < n → 0 < length (take (j + 1) feed)
 some_front feed n j l s = omega (arith, length-take-le (j + 1) feed (omega (arith, s, l)))
 
-given_nothing : (a d : ℕ) (feed : List (List ℕ)) (n j : ℕ) → IsFeed a d feed → NoneCounted feed n → n ≤ length feed → j < n → given a d (take (j + 1) feed) ≡ []
+given_nothing : (a d : ℕ) (feed : List (List ℕ)) (n j : ℕ) → IsFeed a d feed → NoneCounted feed n → n ≤ length feed
+    → j < n → given a d (take (j + 1) feed) ≡ []
 unfolding given
 given_nothing a d feed n j f none l s =
-    ap (given_under a d) (under_front a d feed n j f l s) ∙ given_no a d (take (j + 1) feed) (force_front feed n j none l s) (some_front feed n j l s)
+    ap (given_under a d) (under_front a d feed n j f l s)
+    ∙ given_no a d (take (j + 1) feed) (force_front feed n j none l s) (some_front feed n j l s)
 
 -- the first packet moves no anchor
-told_first : (a d : ℕ) (packets : List (List ℕ)) → length packets ≡ 1 → anchor_of packets ≡ Some 0 → told a d packets ≡ told_under a d (Some (said packets))
+told_first : (a d : ℕ) (packets : List (List ℕ)) → length packets ≡ 1 → anchor_of packets ≡ Some 0
+    → told a d packets ≡ told_under a d (Some (said packets))
 unfolding told told_of anchor anchor_of
 told_first a d packets e h =
-    ap (λ (n : ℕ). told_from a d (anchor (take (n - 1) (syncs packets))) (anchor (syncs packets)) (said packets)) (length-syncs packets ∙ e)
+    ap (λ (n : ℕ). told_from a d (anchor (take (n - 1) (syncs packets))) (anchor (syncs packets)) (said packets))
+    (length-syncs packets ∙ e)
     ∙ ap (λ o. told_under a d (option_map (λ k. drop k (said packets)) o)) h
 
-told_nothing : (a d : ℕ) (feed : List (List ℕ)) (n j : ℕ) → IsFeed a d feed → NoneCounted feed n → n ≤ length feed → j < n → told a d (take (j + 1) feed) ≡ Quiet
+told_nothing : (a d : ℕ) (feed : List (List ℕ)) (n j : ℕ) → IsFeed a d feed → NoneCounted feed n → n ≤ length feed
+    → j < n → told a d (take (j + 1) feed) ≡ Quiet
 told_nothing a d feed n zero f none l s =
     told_first a d (take 1 feed) (length-take-le 1 feed (omega (arith, s, l))) (anchor_front a d feed n 0 f l s)
     ∙ told_no a d (take 1 feed) (force_front feed n 0 none l s) (some_front feed n 0 l s)
@@ -121,11 +150,13 @@ told_nothing a d feed n (suc j) f none l s =
 
 -- ---- all that is given and logged
 
-flat_nothing : {X : Type 0} (f : ℕ → List X) (a n : ℕ) → ((i : ℕ) → i < a + n → f i ≡ []) → flat_map f (range_with_len a n) ≡ []
+flat_nothing : {X : Type 0} (f : ℕ → List X) (a n : ℕ) → ((i : ℕ) → i < a + n → f i ≡ [])
+    → flat_map f (range_with_len a n) ≡ []
 flat_nothing f a zero h = refl
 flat_nothing f a (suc n) h = ap₂ ◌++◌ (h a (omega arith)) (flat_nothing f (a + 1) n (λ i l. h i (omega arith)))
 
-pub emits_nothing : (a d : ℕ) (feed : List (List ℕ)) (n : ℕ) → IsFeed a d feed → NoneCounted feed n → n ≤ length feed → emission a d (take n feed) ≡ []
+pub emits_nothing : (a d : ℕ) (feed : List (List ℕ)) (n : ℕ) → IsFeed a d feed → NoneCounted feed n → n ≤ length feed
+    → emission a d (take n feed) ≡ []
 unfolding emission
 emits_nothing a d feed n f none l =
     flat_nothing (λ i. given a d (take (i + 1) (take n feed))) 0 (length (take n feed))
@@ -133,10 +164,13 @@ emits_nothing a d feed n f none l =
     let s : i < n = omega (arith, m, length-take-le n feed l) in
     ap (given a d) (take-take (i + 1) n feed (omega (arith, s))) ∙ given_nothing a d feed n i f none l s)
 
-pub logs_nothing : (a d s : ℕ) (feed : List (List ℕ)) (n : ℕ) → IsFeed a d feed → NoneCounted feed n → n ≤ length feed → life_lines a d s (take n feed) ≡ []
+pub logs_nothing : (a d s : ℕ) (feed : List (List ℕ)) (n : ℕ) → IsFeed a d feed → NoneCounted feed n → n ≤ length feed
+    → life_lines a d s (take n feed) ≡ []
 unfolding life_lines
 logs_nothing a d s feed n f none l =
-    flat_nothing (λ i. line_of (s + length (emission a d (take i (take n feed)))) (length (given a d (take (i + 1) (take n feed)))) (told a d (take (i + 1) (take n feed)))) 0 (length (take n feed))
+    flat_nothing (λ i. line_of (s + length (emission a d (take i (take n feed))))
+    (length (given a d (take (i + 1) (take n feed)))) (told a d (take (i + 1) (take n feed)))) 0
+    (length (take n feed))
     (λ i m.
     let h : i < n = omega (arith, m, length-take-le n feed l) in
     ap (line_of (s + length (emission a d (take i (take n feed)))) (length (given a d (take (i + 1) (take n feed)))))
@@ -148,23 +182,31 @@ logs_nothing a d s feed n f none l =
 abbrev pub NoOrders : List (List ℕ) → ℕ → Type 0
 NoOrders feed n = (g : ℕ) → g % 4 ≡ 0 → 52 ≤ g → g + 4 ≤ n → has_order feed g ≡ false
 
-none_counted : (plan : Plan) (stream : List (List ℕ)) (n : ℕ) → IsPlan plan → IsStream stream → NoOrders (feed plan stream) n → NoneCounted (feed plan stream) n
+none_counted : (plan : Plan) (stream : List (List ℕ)) (n : ℕ) → IsPlan plan → IsStream stream
+    → NoOrders (feed plan stream) n → NoneCounted (feed plan stream) n
 none_counted plan stream n p u none g l = by_place (cases_lt g 52) (cases_Bool (g % 4 == 0))
   where
-    by_place : (g < 52) ⊎ (52 ≤ g) → ((g % 4 == 0) ≡ true) ⊎ ((g % 4 == 0) ≡ false) → counted (said (feed plan stream)) g ≡ None
+    by_place : (g < 52) ⊎ (52 ≤ g) → ((g % 4 == 0) ≡ true) ⊎ ((g % 4 == 0) ≡ false)
+        → counted (said (feed plan stream)) g ≡ None
     by_place (inl s) h = counted_early (said (feed plan stream)) g s
     by_place (inr s) (inl t) = order_none plan stream g p u (none g (eqb-true (g % 4) 0 t) s l)
     by_place (inr s) (inr t) = counted_off (said (feed plan stream)) g (eqb-false (g % 4) 0 t)
 
-pub no_segments : (plan : Plan) (stream : List (List ℕ)) (t : Transmitter) (n : ℕ) → IsPlan plan → IsStream stream → IsListed plan t → IsInTime plan t → n ≤ length (feed plan stream)
-    → ((g : ℕ) → g % 4 ≡ 0 → 52 ≤ g → g + 4 ≤ n → has_order (feed plan stream) g ≡ false) → emission t.address t.delay (take n (feed plan stream)) ≡ []
+pub no_segments : (plan : Plan) (stream : List (List ℕ)) (t : Transmitter) (n : ℕ) → IsPlan plan → IsStream stream
+    → IsListed plan t → IsInTime plan t → n ≤ length (feed plan stream)
+    → ((g : ℕ) → g % 4 ≡ 0 → 52 ≤ g → g + 4 ≤ n → has_order (feed plan stream) g ≡ false)
+    → emission t.address t.delay (take n (feed plan stream)) ≡ []
 no_segments plan stream t n p u listed time l none =
-    emits_nothing t.address t.delay (feed plan stream) n (feed_locks plan stream t p u listed time) (none_counted plan stream n p u none) l
+    emits_nothing t.address t.delay (feed plan stream) n (feed_locks plan stream t p u listed time)
+    (none_counted plan stream n p u none) l
 
-pub no_lines : (plan : Plan) (stream : List (List ℕ)) (t : Transmitter) (n : ℕ) → IsPlan plan → IsStream stream → IsListed plan t → IsInTime plan t → n ≤ length (feed plan stream)
-    → ((g : ℕ) → g % 4 ≡ 0 → 52 ≤ g → g + 4 ≤ n → has_order (feed plan stream) g ≡ false) → life_lines t.address t.delay 0 (take n (feed plan stream)) ≡ []
+pub no_lines : (plan : Plan) (stream : List (List ℕ)) (t : Transmitter) (n : ℕ) → IsPlan plan → IsStream stream
+    → IsListed plan t → IsInTime plan t → n ≤ length (feed plan stream)
+    → ((g : ℕ) → g % 4 ≡ 0 → 52 ≤ g → g + 4 ≤ n → has_order (feed plan stream) g ≡ false)
+    → life_lines t.address t.delay 0 (take n (feed plan stream)) ≡ []
 no_lines plan stream t n p u listed time l none =
-    logs_nothing t.address t.delay 0 (feed plan stream) n (feed_locks plan stream t p u listed time) (none_counted plan stream n p u none) l
+    logs_nothing t.address t.delay 0 (feed plan stream) n (feed_locks plan stream t p u listed time)
+    (none_counted plan stream n p u none) l
 
 -- ---- from the first order on
 
@@ -172,10 +214,12 @@ from_mark : (feed : List (List ℕ)) (n : ℕ) → slice_range feed 0 n ≡ take
 from_mark feed n = let e : n - 0 ≡ n = omega arith in ap (λ k. take k feed) e
 
 -- before the first order's last packet no group orders anything
-none_before : (plan : Plan) (stream : List (List ℕ)) (n k : ℕ) → IsFirstOrder (feed plan stream) 0 n k → NoOrders (feed plan stream) (k + 3)
+none_before : (plan : Plan) (stream : List (List ℕ)) (n k : ℕ) → IsFirstOrder (feed plan stream) 0 n k
+    → NoOrders (feed plan stream) (k + 3)
 none_before plan stream n k first g whole far l = first.least g whole (omega (arith, far)) (omega (arith, l))
 
-nothing_before : (plan : Plan) (stream : List (List ℕ)) (t : Transmitter) (n k : ℕ) → IsPlan plan → IsStream stream → IsListed plan t → IsInTime plan t → n ≤ length (feed plan stream)
+nothing_before : (plan : Plan) (stream : List (List ℕ)) (t : Transmitter) (n k : ℕ) → IsPlan plan → IsStream stream
+    → IsListed plan t → IsInTime plan t → n ≤ length (feed plan stream)
     → IsFirstOrder (feed plan stream) 0 n k → before_stretch t.address t.delay [] (feed plan stream) 0 k ≡ []
 unfolding before_stretch
 nothing_before plan stream t n k p u listed time l first =
@@ -185,25 +229,34 @@ nothing_before plan stream t n k p u listed time l first =
     let locks : IsFeed t.address t.delay fed = feed_locks plan stream t p u listed time in
     let m : k + 3 ≤ length fed = omega (arith, whole, l) in
     let e : k ≡ k - 1 + 1 = omega (arith, far) in
-    ap₂ (λ x y. x ++ sync_behind y k) (ap (emission t.address t.delay) (from_mark fed (k + 3)) ∙ emits_nothing t.address t.delay fed (k + 3) locks none m)
-    (ap (given t.address t.delay) (from_mark fed k ∙ ap (λ j. take j fed) e) ∙ given_nothing t.address t.delay fed (k + 3) (k - 1) locks none m (omega (arith, far)))
+    ap₂ (λ x y. x ++ sync_behind y k) (ap (emission t.address t.delay) (from_mark fed (k + 3))
+    ∙ emits_nothing t.address t.delay fed (k + 3) locks none m)
+    (ap (given t.address t.delay) (from_mark fed k ∙ ap (λ j. take j fed) e)
+    ∙ given_nothing t.address t.delay fed (k + 3) (k - 1) locks none m (omega (arith, far)))
 
-is_stretch : (plan : Plan) (stream : List (List ℕ)) (n k : ℕ) → IsPlan plan → IsStream stream → n ≤ length (feed plan stream) → IsFirstOrder (feed plan stream) 0 n k → IsStretch (feed plan stream) 0 n k
+is_stretch : (plan : Plan) (stream : List (List ℕ)) (n k : ℕ) → IsPlan plan → IsStream stream
+    → n ≤ length (feed plan stream) → IsFirstOrder (feed plan stream) 0 n k → IsStretch (feed plan stream) 0 n k
 is_stretch plan stream n k p u l first =
     let e : 0 + n ≡ n = omega arith in
-    subst (λ (x : ℕ). IsStretch (feed plan stream) 0 x k) e (stretch_from plan stream 0 n k p u (omega arith) (omega (arith, l)) first)
+    subst (λ (x : ℕ). IsStretch (feed plan stream) 0 x k) e
+    (stretch_from plan stream 0 n k p u (omega arith) (omega (arith, l)) first)
 
-pub segments_from : (plan : Plan) (stream : List (List ℕ)) (t : Transmitter) (n k : ℕ) → IsPlan plan → IsStream stream → IsListed plan t → IsInTime plan t → n ≤ length (feed plan stream)
-    → IsFirstOrder (feed plan stream) 0 n k → emission t.address t.delay (take n (feed plan stream)) ≡ stretch_of (feed plan stream) k n
+pub segments_from : (plan : Plan) (stream : List (List ℕ)) (t : Transmitter) (n k : ℕ) → IsPlan plan → IsStream stream
+    → IsListed plan t → IsInTime plan t → n ≤ length (feed plan stream)
+    → IsFirstOrder (feed plan stream) 0 n k → emission t.address t.delay (take n (feed plan stream))
+    ≡ stretch_of (feed plan stream) k n
 segments_from plan stream t n k p u listed time l first =
     let fed : List (List ℕ) = feed plan stream in
     ap (emission t.address t.delay) (sym (from_mark fed n))
-    ∙ lockstep_is t.address t.delay fed [] 0 n k (feed_locks plan stream t p u listed time) (is_stretch plan stream n k p u l first)
+    ∙ lockstep_is t.address t.delay fed [] 0 n k (feed_locks plan stream t p u listed time)
+    (is_stretch plan stream n k p u l first)
     ∙ ap (λ x. x ++ stretch fed k n) (nothing_before plan stream t n k p u listed time l first)
     ∙ sym (stretch_is fed k n (let w = first.whole in omega (arith, w)) l)
 
-pub lines_from : (plan : Plan) (stream : List (List ℕ)) (t : Transmitter) (n k : ℕ) → IsPlan plan → IsStream stream → IsListed plan t → IsInTime plan t → n ≤ length (feed plan stream)
-    → IsFirstOrder (feed plan stream) 0 n k → life_lines t.address t.delay 0 (take n (feed plan stream)) ≡ presets plan t.offset 0 (feed plan stream) k n
+pub lines_from : (plan : Plan) (stream : List (List ℕ)) (t : Transmitter) (n k : ℕ) → IsPlan plan → IsStream stream
+    → IsListed plan t → IsInTime plan t → n ≤ length (feed plan stream)
+    → IsFirstOrder (feed plan stream) 0 n k → life_lines t.address t.delay 0 (take n (feed plan stream))
+    ≡ presets plan t.offset 0 (feed plan stream) k n
 lines_from plan stream t n k p u listed time l first =
     let fed : List (List ℕ) = feed plan stream in
     let locks : IsFeed t.address t.delay fed = feed_locks plan stream t p u listed time in
@@ -212,6 +265,7 @@ lines_from plan stream t n k p u listed time l first =
     ∙ lines_is t.address t.delay 0 fed [] 0 n k locks (is_stretch plan stream n k p u l first)
     ∙ ap₂ (λ x y. x ++ stretch_lines t.address (0 + length y) fed k n)
     (ap (life_lines t.address t.delay 0) (from_mark fed (k + 3))
-    ∙ logs_nothing t.address t.delay 0 fed (k + 3) locks (none_counted plan stream (k + 3) p u (none_before plan stream n k first)) (omega (arith, whole, l)))
+    ∙ logs_nothing t.address t.delay 0 fed (k + 3) locks
+    (none_counted plan stream (k + 3) p u (none_before plan stream n k first)) (omega (arith, whole, l)))
     (nothing_before plan stream t n k p u listed time l first)
     ∙ lines_are plan stream t 0 k n p u listed (omega (arith, far))

@@ -1,8 +1,11 @@
 -- What a feed orders, group by group.
-use Rattle.std.proofs.Common.{◌≡◌, ◌≢◌, ◌⊎◌, inl, inr, ℕ, zero, suc, ◌+◌, ◌*◌, ◌/◌, ◌%◌, ◌<◌, ◌≤◌, ◌==◌, ◌&&◌, ◌||◌, Bool, true, false, cond, Option, Some, None, option_map, All, List, [], ◌∷◌, length, map, take, get_or, refl, sym, ap, ap₂, subst, ◌∙◌, arith}
+use Rattle.std.proofs.Common.{◌≡◌, ◌≢◌, ◌⊎◌, inl, inr, ℕ, zero, suc, ◌+◌, ◌*◌, ◌/◌, ◌%◌, ◌<◌, ◌≤◌, ◌==◌, ◌&&◌, ◌||◌}
+use Rattle.std.proofs.Common.{Bool, true, false, cond, Option, Some, None, option_map, All, List, [], ◌∷◌, length, map}
+use Rattle.std.proofs.Common.{take, get_or, refl, sym, ap, ap₂, subst, ◌∙◌, arith}
 use Rattle.std.specs.Prelude.{nat_le, is_some, Ok}
 use Rattle.std.specs.List.{range_with_len, list_any, find}
-use Rattle.std.proofs.lemmas.Bool.{cases_lt, cases_Bool, cond-true, cond-false, eqb-true, eqb-false, eq-eqb, ne_eqb, le-leb, and_parts, and_from}
+use Rattle.std.proofs.lemmas.Bool.{cases_lt, cases_Bool, cond-true, cond-false, eqb-true, eqb-false, eq-eqb, ne_eqb}
+use Rattle.std.proofs.lemmas.Bool.{le-leb, and_parts, and_from}
 use Rattle.std.proofs.lemmas.List.{get_or_past}
 use Rattle.std.proofs.lemmas.List.Elements.{All-weaker}
 use Rattle.std.proofs.Math.ListN.{get_or-map}
@@ -12,13 +15,13 @@ use Rattle.dtx_coder.specs.Stream.{states}
 use Rattle.dtx_ops.specs.declared.fields.Ops.{Ops}
 use Rattle.dtx_ops.specs.Spelling.{IsEntry}
 use Rattle.dtx_ops.specs.Reading.{reading}
-use Rattle.dtx_ops.proofs.Readings.{read_as}
-use Rattle.dtx_ops.proofs.Refusing.{reading_other}
+use Rattle.dtx_ops.specs.ReadingsLaws.{read_as}
+use Rattle.dtx_ops.specs.RefusingLaws.{reading_other}
 use Rattle.dtx_plan.specs.declared.plan.Plan.{Plan}
 use Rattle.dtx_plan.specs.Sound.{IsTransmitter}
 use Rattle.dtx_adapter.specs.Feed.{entry_of, ops_at, feed}
-use Rattle.dtx_adapter.proofs.Feeds.{length-feed}
-use Rattle.dtx_adapter.proofs.Readings.{placeholder_reads, others_stay, said_states}
+use Rattle.dtx_adapter.specs.FeedsLaws.{length-feed}
+use Rattle.dtx_adapter.specs.ReadingsLaws.{placeholder_reads, others_stay, said_states}
 use Rattle.dtx_exciter.specs.Order.{either, ordered, ordered_at, order_at, counted}
 use Rattle.dtx_exciter.specs.Packets.{read_fields, reads, said}
 use Rattle.dtx_network.specs.Plans.{IsPlan, IsStream}
@@ -39,7 +42,8 @@ no_pid = λ e. omega (arith, e)
 
 said_at : (ps : List (List ℕ)) (k : ℕ) → get_or (said ps) k None ≡ reads (get_or ps k [])
 unfolding said
-said_at ps k = ap (λ (d : Option Ops). get_or (map reads ps) k d) (sym (reads_other [] no_pid)) ∙ get_or-map reads ps k []
+said_at ps k = ap (λ (d : Option Ops). get_or (map reads ps) k d) (sym (reads_other [] no_pid))
+    ∙ get_or-map reads ps k []
 
 -- ---- operations packets of a feed
 
@@ -51,24 +55,34 @@ within ps k e = by_cases (cases_lt k (length ps))
     by_cases (inl l) = l
     by_cases (inr g) = absurd (no_pid (ap pid_of (sym (get_or_past ps k [] g)) ∙ e))
 
-other_stays : (plan : Plan) (stream : List (List ℕ)) (k : ℕ) → pid_of (get_or stream k []) ≢ 0x1FFA → pid_of (get_or (feed plan stream) k []) ≢ 0x1FFA
+other_stays : (plan : Plan) (stream : List (List ℕ)) (k : ℕ) → pid_of (get_or stream k []) ≢ 0x1FFA
+    → pid_of (get_or (feed plan stream) k []) ≢ 0x1FFA
 other_stays plan stream k other = by_cases (cases_lt k (length stream))
   where
     by_cases : (k < length stream) ⊎ (length stream ≤ k) → pid_of (get_or (feed plan stream) k []) ≢ 0x1FFA
     by_cases (inl l) = others_stay plan stream k l other
-    by_cases (inr g) = λ e. no_pid (ap pid_of (sym (get_or_past (feed plan stream) k [] (omega (arith, g, length-feed plan stream)))) ∙ e)
+    by_cases (inr g) =
+        λ e. no_pid (ap pid_of (sym (get_or_past (feed plan stream) k [] (omega (arith, g, length-feed plan stream))))
+        ∙ e)
 
 -- the plan's transmitters are entries of an operations packet
 are_entries : (plan : Plan) → IsPlan plan → All (λ t. IsEntry (entry_of t)) plan.transmitters.items
-are_entries plan p = All-weaker IsTransmitter (λ t. IsEntry (entry_of t)) (λ t h. record { address = h.address; offset = h.offset }) plan.transmitters.items p.transmitters
+are_entries plan p =
+    All-weaker IsTransmitter (λ t. IsEntry (entry_of t)) (λ t h. record {
+      address = h.address;
+      offset = h.offset;
+    }) plan.transmitters.items p.transmitters
 
 -- each of them reads as what is said at its place
-pub operations_read : (plan : Plan) (stream : List (List ℕ)) (k : ℕ) → IsPlan plan → IsStream stream → pid_of (get_or stream k []) ≡ 0x1FFA
+pub operations_read : (plan : Plan) (stream : List (List ℕ)) (k : ℕ) → IsPlan plan → IsStream stream
+    → pid_of (get_or stream k []) ≡ 0x1FFA
     → reading (get_or (feed plan stream) k []) ≡ Ok (ops_at plan (take k (feed plan stream)) k)
-operations_read plan stream k p s e = placeholder_reads plan stream k p.sound (are_entries plan p) s.most (within stream k e) e
+operations_read plan stream k p s e =
+    placeholder_reads plan stream k p.sound (are_entries plan p) s.most (within stream k e) e
 
 -- they stand where the stream's placeholders stand
-pub same_operations : (plan : Plan) (stream : List (List ℕ)) (k : ℕ) → IsPlan plan → IsStream stream → is_operations (feed plan stream) k ≡ is_operations stream k
+pub same_operations : (plan : Plan) (stream : List (List ℕ)) (k : ℕ) → IsPlan plan → IsStream stream
+    → is_operations (feed plan stream) k ≡ is_operations stream k
 unfolding is_operations
 same_operations plan stream k p s = by_cases (cases_Bool (pid_of (get_or stream k []) == 0x1FFA))
   where
@@ -76,18 +90,23 @@ same_operations plan stream k p s = by_cases (cases_Bool (pid_of (get_or stream 
         → (pid_of (get_or (feed plan stream) k []) == 0x1FFA) ≡ (pid_of (get_or stream k []) == 0x1FFA)
     by_cases (inl t) =
         eq-eqb (pid_of (get_or (feed plan stream) k [])) 0x1FFA
-        (read_as (get_or (feed plan stream) k []) (ops_at plan (take k (feed plan stream)) k) (operations_read plan stream k p s (eqb-true (pid_of (get_or stream k [])) 0x1FFA t))).pid
+        (read_as (get_or (feed plan stream) k []) (ops_at plan (take k (feed plan stream)) k)
+        (operations_read plan stream k p s (eqb-true (pid_of (get_or stream k [])) 0x1FFA t))).pid
         ∙ sym t
     by_cases (inr f) =
-        ne_eqb (pid_of (get_or (feed plan stream) k [])) 0x1FFA (other_stays plan stream k (eqb-false (pid_of (get_or stream k [])) 0x1FFA f)) ∙ sym f
+        ne_eqb (pid_of (get_or (feed plan stream) k [])) 0x1FFA
+        (other_stays plan stream k (eqb-false (pid_of (get_or stream k [])) 0x1FFA f)) ∙ sym f
 
-any_same : (p q : ℕ → Bool) (a n : ℕ) → ((k : ℕ) → p k ≡ q k) → list_any p (range_with_len a n) ≡ list_any q (range_with_len a n)
+any_same : (p q : ℕ → Bool) (a n : ℕ) → ((k : ℕ) → p k ≡ q k)
+    → list_any p (range_with_len a n) ≡ list_any q (range_with_len a n)
 any_same p q a zero h = refl
 any_same p q a (suc n) h = ap₂ ◌||◌ (h a) (any_same p q (a + 1) n h)
 
-pub same_orders : (plan : Plan) (stream : List (List ℕ)) (g : ℕ) → IsPlan plan → IsStream stream → has_order (feed plan stream) g ≡ has_order stream g
+pub same_orders : (plan : Plan) (stream : List (List ℕ)) (g : ℕ) → IsPlan plan → IsStream stream
+    → has_order (feed plan stream) g ≡ has_order stream g
 unfolding has_order
-same_orders plan stream g p s = any_same (is_operations (feed plan stream)) (is_operations stream) g 4 (λ k. same_operations plan stream k p s)
+same_orders plan stream g p s =
+    any_same (is_operations (feed plan stream)) (is_operations stream) g 4 (λ k. same_operations plan stream k p s)
 
 -- ---- what a group orders
 
@@ -96,46 +115,59 @@ unfolding ops_at
 index_is plan before k = refl
 
 ordered_is : (plan : Plan) (stream : List (List ℕ)) (k : ℕ) → IsPlan plan → IsStream stream
-    → ordered_at (said (feed plan stream)) k ≡ cond (is_operations stream k) (Some (ops_at plan (take k (feed plan stream)) k)) None
+    → ordered_at (said (feed plan stream)) k ≡ cond (is_operations stream k)
+    (Some (ops_at plan (take k (feed plan stream)) k)) None
 unfolding is_operations
 ordered_is plan stream k p s = by_cases (cases_Bool (is_operations stream k))
   where
     ops : Ops
     ops = ops_at plan (take k (feed plan stream)) k
 
-    by_cases : (is_operations stream k ≡ true) ⊎ (is_operations stream k ≡ false) → ordered_at (said (feed plan stream)) k ≡ cond (is_operations stream k) (Some ops) None
+    by_cases : (is_operations stream k ≡ true) ⊎ (is_operations stream k ≡ false)
+        → ordered_at (said (feed plan stream)) k ≡ cond (is_operations stream k) (Some ops) None
     by_cases (inl t) =
-        ap (ordered (k % 624)) (said_at (feed plan stream) k ∙ reads_as (get_or (feed plan stream) k []) ops (operations_read plan stream k p s (eqb-true (pid_of (get_or stream k [])) 0x1FFA t)))
-        ∙ cond-true (ops.index == k % 624) (Some ops) None (eq-eqb ops.index (k % 624) (index_is plan (take k (feed plan stream)) k))
+        ap (ordered (k % 624)) (said_at (feed plan stream) k
+        ∙ reads_as (get_or (feed plan stream) k []) ops
+        (operations_read plan stream k p s (eqb-true (pid_of (get_or stream k [])) 0x1FFA t)))
+        ∙ cond-true (ops.index == k % 624) (Some ops) None
+        (eq-eqb ops.index (k % 624) (index_is plan (take k (feed plan stream)) k))
         ∙ sym (cond-true (is_operations stream k) (Some ops) None t)
     by_cases (inr f) =
-        ap (ordered (k % 624)) (said_at (feed plan stream) k ∙ reads_other (get_or (feed plan stream) k []) (other_stays plan stream k (eqb-false (pid_of (get_or stream k [])) 0x1FFA f)))
+        ap (ordered (k % 624)) (said_at (feed plan stream) k
+        ∙ reads_other (get_or (feed plan stream) k [])
+        (other_stays plan stream k (eqb-false (pid_of (get_or stream k [])) 0x1FFA f)))
         ∙ sym (cond-false (is_operations stream k) (Some ops) None f)
 
 -- the first of two, where a test picks it
-either_picked : {A : Type 0} (b : Bool) (pick : ℕ → A) (k : ℕ) (o : Option A) (rest : Option ℕ) → o ≡ option_map pick rest → either (cond b (Some (pick k)) None) o ≡ option_map pick (cond b (Some k) rest)
+either_picked : {A : Type 0} (b : Bool) (pick : ℕ → A) (k : ℕ) (o : Option A) (rest : Option ℕ)
+    → o ≡ option_map pick rest → either (cond b (Some (pick k)) None) o ≡ option_map pick (cond b (Some k) rest)
 either_picked true pick k o rest e = refl
 either_picked false pick k o rest e = e
 
-last_picked : {A : Type 0} (b : Bool) (pick : ℕ → A) (k : ℕ) → cond b (Some (pick k)) None ≡ option_map pick (cond b (Some k) None)
+last_picked : {A : Type 0} (b : Bool) (pick : ℕ → A) (k : ℕ)
+    → cond b (Some (pick k)) None ≡ option_map pick (cond b (Some k) None)
 last_picked true pick k = refl
 last_picked false pick k = refl
 
-first_picked : {A : Type 0} (f : ℕ → Option A) (p : ℕ → Bool) (pick : ℕ → A) (g : ℕ) → ((k : ℕ) → f k ≡ cond (p k) (Some (pick k)) None)
+first_picked : {A : Type 0} (f : ℕ → Option A) (p : ℕ → Bool) (pick : ℕ → A) (g : ℕ)
+    → ((k : ℕ) → f k ≡ cond (p k) (Some (pick k)) None)
     → either (f g) (either (f (g + 1)) (either (f (g + 2)) (f (g + 3)))) ≡ option_map pick (find p (range_with_len g 4))
 first_picked {A} f p pick g h =
     let two : g + 2 ≡ g + 1 + 1 = omega arith in
     let three : g + 3 ≡ g + 1 + 1 + 1 = omega arith in
-    ap₂ either (h g) (ap₂ either (h (g + 1)) (ap₂ either (ap f two ∙ h (g + 1 + 1)) (ap f three ∙ h (g + 1 + 1 + 1) ∙ last_picked (p (g + 1 + 1 + 1)) pick (g + 1 + 1 + 1))
+    ap₂ either (h g) (ap₂ either (h (g + 1)) (ap₂ either (ap f two ∙ h (g + 1 + 1)) (ap f three ∙ h (g + 1 + 1 + 1)
+    ∙ last_picked (p (g + 1 + 1 + 1)) pick (g + 1 + 1 + 1))
     ∙ either_picked (p (g + 1 + 1)) pick (g + 1 + 1) _ _ refl)
     ∙ either_picked (p (g + 1)) pick (g + 1) _ _ refl)
     ∙ either_picked (p g) pick g _ _ refl
 
-pub order_is : (plan : Plan) (stream : List (List ℕ)) (g : ℕ) → IsPlan plan → IsStream stream → counted (said (feed plan stream)) g ≡ order_of plan stream g
+pub order_is : (plan : Plan) (stream : List (List ℕ)) (g : ℕ) → IsPlan plan → IsStream stream
+    → counted (said (feed plan stream)) g ≡ order_of plan stream g
 unfolding counted order_of order_at first_operations
 order_is plan stream g p s =
     ap (λ (o : Option Ops). cond (nat_le 52 g && (g % 4 == 0)) o None)
-    (first_picked (ordered_at (said (feed plan stream))) (is_operations stream) (λ k. ops_at plan (take k (feed plan stream)) k) g (λ k. ordered_is plan stream k p s))
+    (first_picked (ordered_at (said (feed plan stream))) (is_operations stream)
+    (λ k. ops_at plan (take k (feed plan stream)) k) g (λ k. ordered_is plan stream k p s))
 
 -- ---- what its fields are
 
@@ -143,11 +175,13 @@ cond_some : {A : Type 0} (b : Bool) (o : Option A) (x : A) → cond b o None ≡
 cond_some true o x e = (refl, e)
 cond_some false o x e = cc
 
-map_some : {A : Type 0} (o : Option ℕ) (f : ℕ → A) (x : A) → option_map f o ≡ Some x → (j : ℕ) × (o ≡ Some j) × (f j ≡ x)
+map_some : {A : Type 0} (o : Option ℕ) (f : ℕ → A) (x : A) → option_map f o ≡ Some x
+    → (j : ℕ) × (o ≡ Some j) × (f j ≡ x)
 map_some None f x e = cc
 map_some (Some j) f x e = (j, refl, cc)
 
-fields_at : (plan : Plan) (stream : List (List ℕ)) (g j : ℕ) → g % 4 ≡ 0 → g ≤ j → j < g + 4 → IsOrder plan stream g (ops_at plan (take j (feed plan stream)) j)
+fields_at : (plan : Plan) (stream : List (List ℕ)) (g j : ℕ) → g % 4 ≡ 0 → g ≤ j → j < g + 4
+    → IsOrder plan stream g (ops_at plan (take j (feed plan stream)) j)
 unfolding ops_at
 fields_at plan stream g j w l m =
     let frame : j / 624 ≡ g / 624 = omega (arith, w, l, m) in
@@ -160,14 +194,19 @@ fields_at plan stream g j w l m =
       entries = refl;
     }
 
-pub order_says : (plan : Plan) (stream : List (List ℕ)) (g : ℕ) (ops : Ops) → IsPlan plan → IsStream stream → counted (said (feed plan stream)) g ≡ Some ops → IsOrder plan stream g ops
+pub order_says : (plan : Plan) (stream : List (List ℕ)) (g : ℕ) (ops : Ops) → IsPlan plan → IsStream stream
+    → counted (said (feed plan stream)) g ≡ Some ops → IsOrder plan stream g ops
 unfolding order_of first_operations
 order_says plan stream g ops p s h =
-    let counts = cond_some (nat_le 52 g && (g % 4 == 0)) (option_map (λ k. ops_at plan (take k (feed plan stream)) k) (first_operations stream g)) ops (sym (order_is plan stream g p s) ∙ h) in
+    let counts = cond_some (nat_le 52 g && (g % 4 == 0))
+    (option_map (λ k. ops_at plan (take k (feed plan stream)) k) (first_operations stream g)) ops
+    (sym (order_is plan stream g p s) ∙ h) in
     let place = and_parts (nat_le 52 g) (g % 4 == 0) counts.0 in
     let found = map_some (first_operations stream g) (λ k. ops_at plan (take k (feed plan stream)) k) ops counts.1 in
-    let first : IsFirst (is_operations stream) g 4 found.0 = find-range_gives (is_operations stream) g 4 found.0 found.1 in
-    subst (IsOrder plan stream g) found.2 (fields_at plan stream g found.0 (eqb-true (g % 4) 0 place.1) first.least first.within)
+    let first : IsFirst (is_operations stream) g 4 found.0 =
+    find-range_gives (is_operations stream) g 4 found.0 found.1 in
+    subst (IsOrder plan stream g) found.2 (fields_at plan stream g found.0
+    (eqb-true (g % 4) 0 place.1) first.least first.within)
 
 -- ---- which groups order something
 
@@ -187,14 +226,18 @@ none_of : (o : Option ℕ) → is_some o ≡ false → o ≡ None
 none_of None e = refl
 none_of (Some j) e = cc
 
-pub order_some : (plan : Plan) (stream : List (List ℕ)) (g : ℕ) → IsPlan plan → IsStream stream → 52 ≤ g → g % 4 ≡ 0 → has_order (feed plan stream) g ≡ true
+pub order_some : (plan : Plan) (stream : List (List ℕ)) (g : ℕ) → IsPlan plan → IsStream stream → 52 ≤ g → g % 4 ≡ 0
+    → has_order (feed plan stream) g ≡ true
     → (ops : Ops) × (counted (said (feed plan stream)) g ≡ Some ops)
 unfolding order_of first_operations has_order
 order_some plan stream g p s far whole h =
-    let found = some_of (find (is_operations stream) (range_with_len g 4)) (sym (any_found (is_operations stream) (range_with_len g 4)) ∙ sym (same_orders plan stream g p s) ∙ h) in (
+    let found = some_of (find (is_operations stream) (range_with_len g 4))
+    (sym (any_found (is_operations stream) (range_with_len g 4)) ∙ sym (same_orders plan stream g p s) ∙ h) in (
       ops_at plan (take found.0 (feed plan stream)) found.0,
       order_is plan stream g p s
-          ∙ cond-true (nat_le 52 g && (g % 4 == 0)) (option_map (λ k. ops_at plan (take k (feed plan stream)) k) (find (is_operations stream) (range_with_len g 4))) None
+          ∙ cond-true (nat_le 52 g && (g % 4 == 0))
+          (option_map (λ k. ops_at plan (take k (feed plan stream)) k)
+          (find (is_operations stream) (range_with_len g 4))) None
           (and_from (nat_le 52 g) (g % 4 == 0) (le-leb 52 g far) (eq-eqb (g % 4) 0 whole))
           ∙ ap (option_map (λ k. ops_at plan (take k (feed plan stream)) k)) found.1,
     )
@@ -203,10 +246,13 @@ cond_none : {A : Type 0} (b : Bool) (o : Option A) → o ≡ None → cond b o N
 cond_none true o e = e
 cond_none false o e = refl
 
-pub order_none : (plan : Plan) (stream : List (List ℕ)) (g : ℕ) → IsPlan plan → IsStream stream → has_order (feed plan stream) g ≡ false → counted (said (feed plan stream)) g ≡ None
+pub order_none : (plan : Plan) (stream : List (List ℕ)) (g : ℕ) → IsPlan plan → IsStream stream
+    → has_order (feed plan stream) g ≡ false → counted (said (feed plan stream)) g ≡ None
 unfolding order_of first_operations has_order
 order_none plan stream g p s h =
     order_is plan stream g p s
-    ∙ cond_none (nat_le 52 g && (g % 4 == 0)) (option_map (λ k. ops_at plan (take k (feed plan stream)) k) (find (is_operations stream) (range_with_len g 4)))
+    ∙ cond_none (nat_le 52 g && (g % 4 == 0)) (option_map (λ k. ops_at plan (take k (feed plan stream)) k)
+    (find (is_operations stream) (range_with_len g 4)))
     (ap (option_map (λ k. ops_at plan (take k (feed plan stream)) k))
-    (none_of (find (is_operations stream) (range_with_len g 4)) (sym (any_found (is_operations stream) (range_with_len g 4)) ∙ sym (same_orders plan stream g p s) ∙ h)))
+    (none_of (find (is_operations stream) (range_with_len g 4))
+    (sym (any_found (is_operations stream) (range_with_len g 4)) ∙ sym (same_orders plan stream g p s) ∙ h)))

@@ -3,9 +3,9 @@ use Rattle.std.proofs.Common.{◌≡◌, ℕ, ℤ, ◌+◌, ◌-◌, ◌*◌, �
 use Rattle.std.specs.List.{range_with_len, flat_map}
 use Rattle.std.proofs.lemmas.List.{length-drop, drop-append-le, take_at}
 use Rattle.dtx_coder.specs.Stream.{group_segments, a53}
-use Rattle.dtx_coder.proofs.Stream.{a53_from}
+use Rattle.dtx_coder.specs.StreamLaws.{a53_from}
 use Rattle.dtx_exciter.specs.Lockstep.{segment_place, stretch}
-use Rattle.dtx_exciter.proofs.Emitted.{length-front, stretch_whole}
+use Rattle.dtx_exciter.specs.EmittedLaws.{length-front, stretch_whole}
 use Rattle.dtx_network.specs.Headline.{stretch_of}
 
 -- behind the last data segment of a group, so many segments stand
@@ -15,7 +15,8 @@ behind_last u l = omega arith
 before_first : (u k : ℕ) → k + 1 ≤ 4 * u → segment_place k ≤ 4 * u + (u + 77) / 78
 before_first u k l = omega arith
 
-pub stretch_is : (feed : List (List ℕ)) (k end : ℕ) → k + 4 ≤ end → end ≤ length feed → stretch_of feed k end ≡ stretch feed k end
+pub stretch_is : (feed : List (List ℕ)) (k end : ℕ) → k + 4 ≤ end → end ≤ length feed
+    → stretch_of feed k end ≡ stretch feed k end
 unfolding stretch_of stretch
 stretch_is feed k end l m =
     ap (λ x. take (segment_place (4 * u - 1) + 1 - segment_place k) (drop (segment_place k) x)) (a53_from feed u inside)
@@ -45,4 +46,5 @@ stretch_is feed k end l m =
     starts = let h = before_first u k (omega (arith, l)) in omega (arith, h, long)
 
     ends : length (drop (segment_place k) front) ≡ segment_place (4 * u - 1) + 1 - segment_place k
-    ends = length-drop (segment_place k) front ∙ ap (λ (n : ℕ). n - segment_place k) (long ∙ sym (behind_last u (omega (arith, l))))
+    ends = length-drop (segment_place k) front ∙ ap (λ (n : ℕ). n - segment_place k) (long
+        ∙ sym (behind_last u (omega (arith, l))))

@@ -1,5 +1,6 @@
 -- The headline as a whole.
-use Rattle.std.proofs.Common.{◌≡◌, ◌⊎◌, inl, inr, ℕ, ℤ, suc, ◌+◌, ◌<◌, ◌≤◌, Some, List, ◌∷◌, ◌++◌, length, map, take, drop, get_or, sym, ap, subst, ◌∙◌, arith}
+use Rattle.std.proofs.Common.{◌≡◌, ◌⊎◌, inl, inr, ℕ, ℤ, suc, ◌+◌, ◌<◌, ◌≤◌, Some, List, ◌∷◌, ◌++◌, length, map, take}
+use Rattle.std.proofs.Common.{drop, get_or, sym, ap, subst, ◌∙◌, arith}
 use Rattle.std.specs.Prelude.{slice_get}
 use Rattle.std.specs.List.{Contains}
 use Rattle.std.proofs.Math.Seq.{split_at}
@@ -41,17 +42,21 @@ contains_map f xs x c = (c.0, omega (arith, c.1, length-map xs f), get_or-map f 
 
 abbrev EmitsOf : (plan : Plan) (stream : List (List ℕ)) (events : List Event) → Joined plan stream events → Type 0
 EmitsOf plan stream events x =
-    Emits plan x.t (feed plan stream) x.k (x.mark + x.count) (segments_of x.t x.who (steps_under plan stream events)) (lines_of x.t x.who (steps_under plan stream events))
+    Emits plan x.t (feed plan stream) x.k (x.mark + x.count) (segments_of x.t x.who (steps_under plan stream events))
+    (lines_of x.t x.who (steps_under plan stream events))
 
-it_emits : (plan : Plan) (stream : List (List ℕ)) (events : List Event) → IsPlan plan → IsStream stream → (x : Joined plan stream events) → EmitsOf plan stream events x
+it_emits : (plan : Plan) (stream : List (List ℕ)) (events : List Event) → IsPlan plan → IsStream stream
+    → (x : Joined plan stream events) → EmitsOf plan stream events x
 unfolding segments_of lines_of
 it_emits plan stream events p s x =
     let lives : List (List (List ℕ)) = lives_of x.who (steps_under plan stream events) in
     let before : List (List (List ℕ)) = take x.lived.0 lives in
     let behind : List (List (List ℕ)) = drop (suc x.lived.0) lives in
-    subst (λ (all : List (List (List ℕ))). Emits plan x.t (feed plan stream) x.k (x.mark + x.count) (emission_over x.t.address x.t.delay all) (log x.t.address x.t.delay 0 all))
+    subst (λ (all : List (List (List ℕ))). Emits plan x.t (feed plan stream) x.k (x.mark + x.count)
+    (emission_over x.t.address x.t.delay all) (log x.t.address x.t.delay 0 all))
     (sym (contains_parts lives x.life x.lived))
-    (emits plan stream x.t before behind x.life x.mark x.count x.k p s (contains_from_get plan.transmitters.items x.who x.t x.listed) x.in_time x.fed x.order)
+    (emits plan stream x.t before behind x.life x.mark x.count x.k p s
+    (contains_from_get plan.transmitters.items x.who x.t x.listed) x.in_time x.fed x.order)
 
 -- a preset isn't a mute
 abbrev IsPreset : Line → Type 0
@@ -62,23 +67,31 @@ IsPreset (restart n) = ⊥
 preset_no_mute : (line : Line) (n : ℕ) (why : Why) → IsPreset line → line ≡ mute n why → ⊥
 preset_no_mute line n why h e = subst IsPreset e h
 
-presets_no_mute : (plan : Plan) (t : Transmitter) (s : ℕ) (fed : List (List ℕ)) (k end n : ℕ) (why : Why) → Contains (presets plan t.offset s fed k end) (mute n why) → ⊥
+presets_no_mute : (plan : Plan) (t : Transmitter) (s : ℕ) (fed : List (List ℕ)) (k end n : ℕ) (why : Why)
+    → Contains (presets plan t.offset s fed k end) (mute n why) → ⊥
 unfolding presets
 presets_no_mute plan t s fed k end n why c =
     preset_no_mute (preset_at plan t.offset s k (get_or (orders fed k end) c.0 0)) n why tt
-    (sym (get_or-map (preset_at plan t.offset s k) (orders fed k end) c.0 0 (mute n why) (omega (arith, c.1, length-map (orders fed k end) (preset_at plan t.offset s k)))) ∙ c.2)
+    (sym (get_or-map (preset_at plan t.offset s k) (orders fed k end) c.0 0 (mute n why)
+    (omega (arith, c.1, length-map (orders fed k end) (preset_at plan t.offset s k)))) ∙ c.2)
 
-no_mute : (plan : Plan) (t : Transmitter) (fed : List (List ℕ)) (k end : ℕ) (segments : List (List ℤ)) (lines : List Line) (e : Emits plan t fed k end segments lines) (n : ℕ) (why : Why)
+no_mute : (plan : Plan) (t : Transmitter) (fed : List (List ℕ)) (k end : ℕ) (segments : List (List ℤ))
+    (lines : List Line) (e : Emits plan t fed k end segments lines) (n : ℕ) (why : Why)
     → Contains lines (mute n why) → (n ≤ length e.before) ⊎ (length e.before + length (stretch_of fed k end) ≤ n)
-no_mute plan t fed k end segments lines e n why c = by_low (cases_lt (length e.before) n) (cases_lt n (length e.before + length (stretch_of fed k end)))
+no_mute plan t fed k end segments lines e n why c =
+    by_low (cases_lt (length e.before) n) (cases_lt n (length e.before + length (stretch_of fed k end)))
   where
-    by_low : (length e.before < n) ⊎ (n ≤ length e.before) → (n < length e.before + length (stretch_of fed k end)) ⊎ (length e.before + length (stretch_of fed k end) ≤ n)
+    by_low : (length e.before < n) ⊎ (n ≤ length e.before) → (n < length e.before + length (stretch_of fed k end))
+        ⊎ (length e.before + length (stretch_of fed k end) ≤ n)
         → (n ≤ length e.before) ⊎ (length e.before + length (stretch_of fed k end) ≤ n)
     by_low (inr l) h = inl l
     by_low (inl l) (inr h) = inr h
-    by_low (inl l) (inl h) = absurd (presets_no_mute plan t (length e.before) fed k end n why (no_other plan t fed k end segments lines (mute n why) e c l h))
+    by_low (inl l) (inl h) =
+        absurd (presets_no_mute plan t (length e.before) fed k end n why
+        (no_other plan t fed k end segments lines (mute n why) e c l h))
 
-follows : (plan : Plan) (stream : List (List ℕ)) (events : List Event) → IsPlan plan → IsStream stream → (x : Joined plan stream events) → Follows plan stream events x
+follows : (plan : Plan) (stream : List (List ℕ)) (events : List Event) → IsPlan plan → IsStream stream
+    → (x : Joined plan stream events) → Follows plan stream events x
 follows plan stream events p s x =
     let fed : List (List ℕ) = feed plan stream in
     let e : EmitsOf plan stream events x = it_emits plan stream events p s x in
@@ -86,7 +99,8 @@ follows plan stream events p s x =
     record {
       emits = e;
       named = first_is plan x.t.offset (length e.before) fed x.mark x.count x.k x.order;
-      unmuted = no_mute plan x.t fed x.k (x.mark + x.count) (segments_of x.t x.who (steps_under plan stream events)) (lines_of x.t x.who (steps_under plan stream events)) e;
+      unmuted = no_mute plan x.t fed x.k (x.mark + x.count) (segments_of x.t x.who (steps_under plan stream events))
+          (lines_of x.t x.who (steps_under plan stream events)) e;
       gives_back = λ got. back fed x.k (x.mark + x.count) (length e.before) got packets x.fed.inside;
       gives_all_back = λ got. all_given_back fed x.k (x.mark + x.count) got packets x.fed.inside;
     }
@@ -94,27 +108,35 @@ follows plan stream events p s x =
 -- ---- two transmitters
 
 -- the preset of each order of the stretch is in the log
-preset_logged : (plan : Plan) (t : Transmitter) (fed : List (List ℕ)) (k end : ℕ) (segments : List (List ℤ)) (lines : List Line) (e : Emits plan t fed k end segments lines) (g : ℕ)
+preset_logged : (plan : Plan) (t : Transmitter) (fed : List (List ℕ)) (k end : ℕ) (segments : List (List ℤ))
+    (lines : List Line) (e : Emits plan t fed k end segments lines) (g : ℕ)
     → Contains (orders fed k end) g → Contains lines (preset_at plan t.offset (length e.before) k g)
 unfolding presets
 preset_logged plan t fed k end segments lines e g c =
     let own : List Line = map (preset_at plan t.offset (length e.before) k) (orders fed k end) in
     let line : Line = preset_at plan t.offset (length e.before) k g in
     subst (λ ls. Contains ls line) (sym e.log)
-    (Contains-append_right e.earlier (own ++ e.later) line (Contains-append_left own e.later line (contains_map (preset_at plan t.offset (length e.before) k) (orders fed k end) g c)))
+    (Contains-append_right e.earlier (own ++ e.later) line
+    (Contains-append_left own e.later line (contains_map (preset_at plan t.offset (length e.before) k)
+    (orders fed k end) g c)))
 
-pub headline : (plan : Plan) (stream : List (List ℕ)) (events : List Event) → IsPlan plan → IsStream stream → Headline plan stream events
+pub headline : (plan : Plan) (stream : List (List ℕ)) (events : List Event) → IsPlan plan → IsStream stream
+    → Headline plan stream events
 headline plan stream events p s = record {
   follows = follows plan stream events p s;
   apart = λ x y g c d. record {
     logged = logged x g c;
     logged_other = logged y g d;
-    apart = apart plan x.t y.t (length (follows plan stream events p s x).emits.before) (length (follows plan stream events p s y).emits.before) x.k y.k g;
+    apart = apart plan x.t y.t (length (follows plan stream events p s x).emits.before)
+        (length (follows plan stream events p s y).emits.before) x.k y.k g;
   };
 }
   where
     logged : (x : Joined plan stream events) (g : ℕ) → Contains (orders (feed plan stream) x.k (x.mark + x.count)) g
-        → Contains (lines_of x.t x.who (steps_under plan stream events)) (preset_at plan x.t.offset (length (follows plan stream events p s x).emits.before) x.k g)
+        → Contains (lines_of x.t x.who (steps_under plan stream events))
+        (preset_at plan x.t.offset (length (follows plan stream events p s x).emits.before) x.k g)
     logged x g c =
-        preset_logged plan x.t (feed plan stream) x.k (x.mark + x.count) (segments_of x.t x.who (steps_under plan stream events)) (lines_of x.t x.who (steps_under plan stream events))
+        preset_logged plan x.t (feed plan stream) x.k (x.mark + x.count)
+        (segments_of x.t x.who (steps_under plan stream events))
+        (lines_of x.t x.who (steps_under plan stream events))
         (follows plan stream events p s x).emits g c

@@ -1,6 +1,8 @@
--- What is given back of a stretch of a feed where its segments are received, damaged or not: what these words mean (the profile's own;
+-- What is given back of a stretch of a feed where its segments are received, damaged or not: what these words mean (the
+-- profile's own;
 -- what is sent is that of ATSC A/53 Part 2). A packet is its list of 188 bytes, a segment the list of its 832 symbols.
-use Rattle.std.specs.Prelude.{ℕ, ℤ, ◌≡◌, ◌+◌, ◌-◌, ◌*◌, ◌/◌, ◌%◌, ◌<◌, ◌≤◌, true, Some, List, [], ◌∷◌, ◌++◌, EachIndex, length, map, drop, slice_get, slice_index_or}
+use Rattle.std.specs.Prelude.{ℕ, ℤ, ◌≡◌, ◌+◌, ◌-◌, ◌*◌, ◌/◌, ◌%◌, ◌<◌, ◌≤◌, true, Some, List, [], ◌∷◌, ◌++◌, EachIndex}
+use Rattle.std.specs.Prelude.{length, map, drop, slice_get, slice_index_or}
 use Rattle.std.specs.List.{flat_map, list_all}
 use Rattle.dtx_outer.specs.Inner.{place_of, word_at, IsComplete}
 use Rattle.dtx_receiver.specs.Bytes.{bytes_in}
@@ -15,7 +17,8 @@ use Rattle.dtx_network.specs.Headline.{last_packet, stretch_of}
 
 -- ---- field syncs of a stretch
 
--- A field of the feed begins with packet f, and the field sync before it is a segment of the stretch from packet k to packet end.
+-- A field of the feed begins with packet f, and the field sync before it is a segment of the stretch from packet k to
+-- packet end.
 pub record BeginsField (k end f : ℕ) : Type 0 where
   pub begins : f % 312 ≡ 0
   pub behind : k < f
@@ -39,7 +42,8 @@ word_of run j = word_at 207 52 4 (bytes_in run) j
 pub record IsReadable (feed : List (List ℕ)) (end f : ℕ) (run : List (List ℤ)) (j : ℕ) : Type 0 where
   -- It is given for the run: its 207 bytes are all among the run's.
   pub given : IsComplete 207 52 4 (length (bytes_in run)) j
-  -- They all lie in segments of the stretch: 828 bytes make a group, which are four data segments, and the last of them is one of
+  -- They all lie in segments of the stretch: 828 bytes make a group, which are four data segments, and the last of them
+  -- is one of
   -- the stretch's.
   pub inside : (i : ℕ) → i < 207 → f + 4 * (place_of 52 4 (207 * j + i) / 828) + 3 ≤ last_packet end
   -- Its word differs from the codeword of packet f + j of the feed in at most ten bytes.
@@ -49,19 +53,23 @@ pub record IsReadable (feed : List (List ℕ)) (end f : ℕ) (run : List (List �
 unfoldable pub packets_of_runs : List (List ℤ) → List (ℕ × ℕ) → List Received
 packets_of_runs got places = flat_map (λ p. packets_of (bytes_in (segments_in got p))) places
 
--- Packet n of the feed stands at a place of all that is received, with 0x47 as its sync byte. It is good, and the bytes put right are
+-- Packet n of the feed stands at a place of all that is received, with 0x47 as its sync byte. It is good, and the bytes
+-- put right are
 -- those in which its word differs from its codeword.
 pub record IsBack (feed : List (List ℕ)) (got : List (List ℤ)) (place n : ℕ) (word : List ℕ) : Type 0 where
   pub packet : slice_get (received got) place ≡ Some (with_sync (slice_index_or feed n []))
   pub good : slice_get (all_packets got) place ≡ Some (as_corrected feed n word)
 
--- Whatever is received, the stretch from packet k to packet end being at segment s of it: a run that begins at a field sync of the
+-- Whatever is received, the stretch from packet k to packet end being at segment s of it: a run that begins at a field
+-- sync of the
 -- stretch gives each of its readable packets back, behind the packets of the runs before it.
 abbrev pub GivesBack : List (List ℕ) → ℕ → ℕ → ℕ → List (List ℤ) → Type 0
 GivesBack feed k end s got =
-    (f n j : ℕ) (earlier later : List (ℕ × ℕ)) → BeginsField k end f → AreRuns got 0 (earlier ++ (s + to_field k f, n) ∷ later)
+    (f n j : ℕ) (earlier later : List (ℕ × ℕ)) → BeginsField k end f
+    → AreRuns got 0 (earlier ++ (s + to_field k f, n) ∷ later)
     → IsReadable feed end f (segments_in got (s + to_field k f, n)) j
-    → IsBack feed got (length (packets_of_runs got earlier) + j) (f + j) (word_of (segments_in got (s + to_field k f, n)) j)
+    → IsBack feed got (length (packets_of_runs got earlier) + j) (f + j)
+    (word_of (segments_in got (s + to_field k f, n)) j)
 
 -- ---- the stretch alone
 
@@ -71,14 +79,19 @@ pub record IsReceivedAlone (feed : List (List ℕ)) (k end : ℕ) (got : List (L
   pub long : EachIndex got (λ i. length (slice_index_or got i []) ≡ 832)
   pub slight : IsSlight feed (segment_place k) (stretch_of feed k end) got
 
--- All is given back from packet f on: there is just one run, which begins at the field sync before packet f, and what is received is
--- exactly the feed's packets from there on, with 0x47 as their sync bytes, for each number that is given for the run, in order. None
+-- All is given back from packet f on: there is just one run, which begins at the field sync before packet f, and what
+-- is received is
+-- exactly the feed's packets from there on, with 0x47 as their sync bytes, for each number that is given for the run,
+-- in order. None
 -- is flagged.
 pub record IsAllBack (feed : List (List ℕ)) (k f : ℕ) (got : List (List ℤ)) : Type 0 where
   pub run : runs got ≡ drop (to_field k f) got ∷ []
-  pub packets : received got ≡ map (λ j. with_sync (slice_index_or feed (f + j) [])) (numbers_in (drop (to_field k f) got))
+  pub packets : received got ≡ map (λ j. with_sync (slice_index_or feed (f + j) []))
+      (numbers_in (drop (to_field k f) got))
   pub good : list_all (λ r. r.good) (all_packets got) ≡ true
 
--- Where the stretch holds a field sync and is received alone with slight damage, all is given back from its first field on.
+-- Where the stretch holds a field sync and is received alone with slight damage, all is given back from its first field
+-- on.
 abbrev pub GivesAllBack : List (List ℕ) → ℕ → ℕ → List (List ℤ) → Type 0
-GivesAllBack feed k end got = BeginsField k end (next_field k) → IsReceivedAlone feed k end got → IsAllBack feed k (next_field k) got
+GivesAllBack feed k end got = BeginsField k end (next_field k) → IsReceivedAlone feed k end got
+    → IsAllBack feed k (next_field k) got

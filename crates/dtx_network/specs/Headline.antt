@@ -1,6 +1,9 @@
--- From the first operations packet that begins 52 or more packets behind a mark of the feed, an exciter that is given the feed
--- unchanged from that mark on emits exactly the feed's own symbols (ATSC A/53 Part 2), at moments of the plan: what these words mean.
-use Rattle.std.specs.Prelude.{ℕ, ℤ, ◌≡◌, ◌+◌, ◌-◌, ◌*◌, ◌/◌, ◌%◌, ◌<◌, ◌≤◌, true, false, List, ◌++◌, All, length, slice_range}
+-- From the first operations packet that begins 52 or more packets behind a mark of the feed, an exciter that is given
+-- the feed
+-- unchanged from that mark on emits exactly the feed's own symbols (ATSC A/53 Part 2), at moments of the plan: what
+-- these words mean.
+use Rattle.std.specs.Prelude.{ℕ, ℤ, ◌≡◌, ◌+◌, ◌-◌, ◌*◌, ◌/◌, ◌%◌, ◌<◌, ◌≤◌, true, false, List, ◌++◌, All, length}
+use Rattle.std.specs.Prelude.{slice_range}
 use Rattle.dtx_coder.specs.Stream.{a53}
 use Rattle.dtx_plan.specs.declared.plan.Plan.{Plan}
 use Rattle.dtx_plan.specs.declared.transmitter.Transmitter.{Transmitter}
@@ -9,7 +12,8 @@ use Rattle.dtx_exciter.specs.Log.{Line, preset, mute, restart}
 use Rattle.dtx_network.specs.Orders.{has_order}
 use Rattle.dtx_network.specs.Presets.{presets}
 
--- A life is given the feed unchanged from a mark on: it holds the n packets of the feed from packet mark on, in a row. Before them it
+-- A life is given the feed unchanged from a mark on: it holds the n packets of the feed from packet mark on, in a row.
+-- Before them it
 -- holds whatever it holds, and so behind them.
 pub record IsFed (feed life : List (List ℕ)) (mark n : ℕ) : Type 0 where
   pub is_mark : mark % 624 ≡ 0
@@ -18,7 +22,8 @@ pub record IsFed (feed life : List (List ℕ)) (mark n : ℕ) : Type 0 where
   pub later : List (List ℕ)
   pub holds : life ≡ earlier ++ (slice_range feed mark (mark + n) ++ later)
 
--- The group from packet k on is the first one with an operations packet that begins 52 or more packets behind the mark, and it lies
+-- The group from packet k on is the first one with an operations packet that begins 52 or more packets behind the mark,
+-- and it lies
 -- within the packets that are given.
 pub record IsFirstOrder (feed : List (List ℕ)) (mark n k : ℕ) : Type 0 where
   pub group : k % 4 ≡ 0
@@ -31,7 +36,8 @@ pub record IsFirstOrder (feed : List (List ℕ)) (mark n k : ℕ) : Type 0 where
 abbrev pub last_packet : ℕ → ℕ
 last_packet end = 4 * (end / 4) - 1
 
--- The stretch: the segments of the feed's own symbols from the first data segment of the group from packet k on to the last data
+-- The stretch: the segments of the feed's own symbols from the first data segment of the group from packet k on to the
+-- last data
 -- segment of the last group that ends at or before packet end.
 unfoldable pub stretch_of : List (List ℕ) → ℕ → ℕ → List (List ℤ)
 stretch_of feed k end = slice_range (a53 feed) (segment_place k) (segment_place (last_packet end) + 1)
@@ -48,10 +54,13 @@ end_of (preset n frame packet tick grain) = n + 4
 end_of (mute n why) = n
 end_of (restart n) = n
 
--- A transmitter emits exactly: its segments hold the stretch, in a row and with nothing between, and its log holds the presets of the
--- stretch's orders, at their moments. Each earlier line speaks of nothing behind the stretch's beginning, and each later one of
+-- A transmitter emits exactly: its segments hold the stretch, in a row and with nothing between, and its log holds the
+-- presets of the
+-- stretch's orders, at their moments. Each earlier line speaks of nothing behind the stretch's beginning, and each
+-- later one of
 -- nothing before its end.
-pub record Emits (plan : Plan) (t : Transmitter) (feed : List (List ℕ)) (k end : ℕ) (segments : List (List ℤ)) (lines : List Line) : Type 0 where
+pub record Emits (plan : Plan) (t : Transmitter) (feed : List (List ℕ)) (k end : ℕ) (segments : List (List ℤ))
+    (lines : List Line) : Type 0 where
   pub before : List (List ℤ)
   pub after : List (List ℤ)
   pub symbols : segments ≡ before ++ (stretch_of feed k end ++ after)

@@ -1,6 +1,7 @@
 //! Laws of the definitions.
 
-ghost use Rattle.std.specs.Prelude.{◌≡◌, ℕ, ℤ, ◌+◌, ◌/◌, ◌%◌, ◌<◌, ◌≤◌, ◌-ℤ◌, true, false, Some, None, Ok, List, [], ◌∷◌, ◌++◌, length, map, take, slice_get};
+ghost use Rattle.std.specs.Prelude.{◌≡◌, ℕ, ℤ, ◌+◌, ◌/◌, ◌%◌, ◌<◌, ◌≤◌, ◌-ℤ◌, true, false, Some, None, Ok, List, []};
+ghost use Rattle.std.specs.Prelude.{◌∷◌, ◌++◌, length, map, take, slice_get};
 ghost use Rattle.std.specs.List.{Contains};
 ghost use Rattle.dtx_ops.specs.declared.fields.Ops.{Ops};
 ghost use Rattle.dtx_plan.specs.declared.plan.Plan.{Plan};
@@ -30,79 +31,115 @@ pub fn plans_that_are_read()
     ensures { (bytes : List ℕ) (plan : Plan) → plan_of bytes ≡ Ok plan → IsPlan plan }
 {}
 
-/// The feed of a plan is one that the exciter of each listed transmitter locks to, where the transmitter is in time: its marks stand
+/// The feed of a plan is one that the exciter of each listed transmitter locks to, where the transmitter is in time:
+/// its marks stand
 /// at each 624th packet, its orders set the states of its own coders, and each of them serves the transmitter.
 pub fn feed_locks()
-    ensures { (plan : Plan) (stream : List (List ℕ)) (t : Transmitter) → IsPlan plan → IsStream stream → IsListed plan t → IsInTime plan t → IsFeed t.address t.delay (feed plan stream) }
+    ensures { (plan : Plan) (stream : List (List ℕ)) (t : Transmitter) → IsPlan plan → IsStream stream → IsListed plan t
+        → IsInTime plan t → IsFeed t.address t.delay (feed plan stream) }
 {}
 
-/// A group of a feed orders something exactly where it begins 52 or more packets behind the feed's start and holds an operations
-/// packet, which is where its stream holds a placeholder; it orders what the first of them says, and lists each transmitter of the
+/// A group of a feed orders something exactly where it begins 52 or more packets behind the feed's start and holds an
+/// operations
+/// packet, which is where its stream holds a placeholder; it orders what the first of them says, and lists each
+/// transmitter of the
 /// plan once, with its own offset.
 pub fn orders_of_a_feed()
-    ensures exact { (plan : Plan) (stream : List (List ℕ)) (g : ℕ) → IsPlan plan → IsStream stream → counted (said (feed plan stream)) g ≡ order_of plan stream g }
-    ensures some { (plan : Plan) (stream : List (List ℕ)) (g : ℕ) → IsPlan plan → IsStream stream → 52 ≤ g → g % 4 ≡ 0 → has_order (feed plan stream) g ≡ true
+    ensures exact { (plan : Plan) (stream : List (List ℕ)) (g : ℕ) → IsPlan plan → IsStream stream
+        → counted (said (feed plan stream)) g ≡ order_of plan stream g }
+    ensures some { (plan : Plan) (stream : List (List ℕ)) (g : ℕ) → IsPlan plan → IsStream stream → 52 ≤ g → g % 4 ≡ 0
+        → has_order (feed plan stream) g ≡ true
         → (ops : Ops) × (counted (said (feed plan stream)) g ≡ Some ops) }
-    ensures none { (plan : Plan) (stream : List (List ℕ)) (g : ℕ) → IsPlan plan → IsStream stream → has_order (feed plan stream) g ≡ false
+    ensures none { (plan : Plan) (stream : List (List ℕ)) (g : ℕ) → IsPlan plan → IsStream stream
+        → has_order (feed plan stream) g ≡ false
         → counted (said (feed plan stream)) g ≡ None }
-    ensures placeholders { (plan : Plan) (stream : List (List ℕ)) (g : ℕ) → IsPlan plan → IsStream stream → has_order (feed plan stream) g ≡ has_order stream g }
-    ensures says { (plan : Plan) (stream : List (List ℕ)) (g : ℕ) (ops : Ops) → IsPlan plan → IsStream stream → counted (said (feed plan stream)) g ≡ Some ops
+    ensures placeholders { (plan : Plan) (stream : List (List ℕ)) (g : ℕ) → IsPlan plan → IsStream stream
+        → has_order (feed plan stream) g ≡ has_order stream g }
+    ensures says { (plan : Plan) (stream : List (List ℕ)) (g : ℕ) (ops : Ops) → IsPlan plan → IsStream stream
+        → counted (said (feed plan stream)) g ≡ Some ops
         → IsOrder plan stream g ops }
-    ensures entry { (plan : Plan) (stream : List (List ℕ)) (t : Transmitter) (g : ℕ) (ops : Ops) → IsPlan plan → IsListed plan t → IsOrder plan stream g ops
+    ensures entry { (plan : Plan) (stream : List (List ℕ)) (t : Transmitter) (g : ℕ) (ops : Ops) → IsPlan plan
+        → IsListed plan t → IsOrder plan stream g ops
         → told.entry_of t.address ops ≡ Some (entry_of t) }
 {}
 
-/// The lines that an exciter logs in a stretch of a feed are the presets of the stretch's orders: one for each group that holds an
+/// The lines that an exciter logs in a stretch of a feed are the presets of the stretch's orders: one for each group
+/// that holds an
 /// operations packet, and no other.
 pub fn lines_of_a_feed()
-    ensures { (plan : Plan) (stream : List (List ℕ)) (t : Transmitter) (s k end : ℕ) → IsPlan plan → IsStream stream → IsListed plan t → 52 ≤ k
+    ensures { (plan : Plan) (stream : List (List ℕ)) (t : Transmitter) (s k end : ℕ) → IsPlan plan → IsStream stream
+        → IsListed plan t → 52 ≤ k
         → stretch_lines t.address s (feed plan stream) k end ≡ presets plan t.offset s (feed plan stream) k end }
 {}
 
 /// The stretch as a slice of all of the feed's own segments is what the exciter gives of the packets up to its end.
 pub fn stretch_of_a_feed()
-    ensures { (feed : List (List ℕ)) (k end : ℕ) → k + 4 ≤ end → end ≤ length feed → stretch_of feed k end ≡ stretch feed k end }
+    ensures { (feed : List (List ℕ)) (k end : ℕ) → k + 4 ≤ end → end ≤ length feed
+        → stretch_of feed k end ≡ stretch feed k end }
 {}
 
-/// For every stream and all lives of a listed transmitter that is in time: where one life, whatever it held before and holds behind,
-/// is given the feed unchanged from a mark on, the transmitter emits exactly the feed's own segments from the first operations packet
+/// For every stream and all lives of a listed transmitter that is in time: where one life, whatever it held before and
+/// holds behind,
+/// is given the feed unchanged from a mark on, the transmitter emits exactly the feed's own segments from the first
+/// operations packet
 /// that begins 52 or more packets behind the mark.
 pub fn emits()
-    ensures { (plan : Plan) (stream : List (List ℕ)) (t : Transmitter) (xs ys : List (List (List ℕ))) (life : List (List ℕ)) (mark n k : ℕ)
-        → IsPlan plan → IsStream stream → IsListed plan t → IsInTime plan t → IsFed (feed plan stream) life mark n → IsFirstOrder (feed plan stream) mark n k
-        → Emits plan t (feed plan stream) k (mark + n) (emission_over t.address t.delay (xs ++ life ∷ ys)) (log t.address t.delay 0 (xs ++ life ∷ ys)) }
+    ensures { (plan : Plan) (stream : List (List ℕ)) (t : Transmitter) (xs ys : List (List (List ℕ)))
+        (life : List (List ℕ)) (mark n k : ℕ)
+        → IsPlan plan → IsStream stream → IsListed plan t → IsInTime plan t → IsFed (feed plan stream) life mark n
+        → IsFirstOrder (feed plan stream) mark n k
+        → Emits plan t (feed plan stream) k (mark + n) (emission_over t.address t.delay (xs ++ life ∷ ys))
+        (log t.address t.delay 0 (xs ++ life ∷ ys)) }
 {}
 
-/// An exciter that is given a feed from its first packet on sends the feed's own segments (ATSC A/53 Part 2) from its first order on
-/// that begins at packet 52 or later, and nothing before, and its whole log is the presets of these orders. While it is given no
+/// An exciter that is given a feed from its first packet on sends the feed's own segments (ATSC A/53 Part 2) from its
+/// first order on
+/// that begins at packet 52 or later, and nothing before, and its whole log is the presets of these orders. While it is
+/// given no
 /// whole group that begins at packet 52 or later and holds an operations packet, it sends and logs nothing.
 pub fn from_its_start()
-    ensures segments { (plan : Plan) (stream : List (List ℕ)) (t : Transmitter) (n k : ℕ) → IsPlan plan → IsStream stream → IsListed plan t → IsInTime plan t
-        → n ≤ length (feed plan stream) → IsFirstOrder (feed plan stream) 0 n k → emission t.address t.delay (take n (feed plan stream)) ≡ stretch_of (feed plan stream) k n }
-    ensures lines { (plan : Plan) (stream : List (List ℕ)) (t : Transmitter) (n k : ℕ) → IsPlan plan → IsStream stream → IsListed plan t → IsInTime plan t
-        → n ≤ length (feed plan stream) → IsFirstOrder (feed plan stream) 0 n k → life_lines t.address t.delay 0 (take n (feed plan stream)) ≡ presets plan t.offset 0 (feed plan stream) k n }
-    ensures no_segments { (plan : Plan) (stream : List (List ℕ)) (t : Transmitter) (n : ℕ) → IsPlan plan → IsStream stream → IsListed plan t → IsInTime plan t
-        → n ≤ length (feed plan stream) → ((g : ℕ) → g % 4 ≡ 0 → 52 ≤ g → g + 4 ≤ n → has_order (feed plan stream) g ≡ false) → emission t.address t.delay (take n (feed plan stream)) ≡ [] }
-    ensures no_lines { (plan : Plan) (stream : List (List ℕ)) (t : Transmitter) (n : ℕ) → IsPlan plan → IsStream stream → IsListed plan t → IsInTime plan t
-        → n ≤ length (feed plan stream) → ((g : ℕ) → g % 4 ≡ 0 → 52 ≤ g → g + 4 ≤ n → has_order (feed plan stream) g ≡ false) → life_lines t.address t.delay 0 (take n (feed plan stream)) ≡ [] }
+    ensures segments { (plan : Plan) (stream : List (List ℕ)) (t : Transmitter) (n k : ℕ) → IsPlan plan
+        → IsStream stream → IsListed plan t → IsInTime plan t
+        → n ≤ length (feed plan stream) → IsFirstOrder (feed plan stream) 0 n k
+        → emission t.address t.delay (take n (feed plan stream)) ≡ stretch_of (feed plan stream) k n }
+    ensures lines { (plan : Plan) (stream : List (List ℕ)) (t : Transmitter) (n k : ℕ) → IsPlan plan → IsStream stream
+        → IsListed plan t → IsInTime plan t
+        → n ≤ length (feed plan stream) → IsFirstOrder (feed plan stream) 0 n k
+        → life_lines t.address t.delay 0 (take n (feed plan stream)) ≡ presets plan t.offset 0 (feed plan stream) k n }
+    ensures no_segments { (plan : Plan) (stream : List (List ℕ)) (t : Transmitter) (n : ℕ) → IsPlan plan
+        → IsStream stream → IsListed plan t → IsInTime plan t
+        → n ≤ length (feed plan stream) → ((g : ℕ) → g % 4 ≡ 0 → 52 ≤ g → g + 4 ≤ n
+        → has_order (feed plan stream) g ≡ false) → emission t.address t.delay (take n (feed plan stream)) ≡ [] }
+    ensures no_lines { (plan : Plan) (stream : List (List ℕ)) (t : Transmitter) (n : ℕ) → IsPlan plan → IsStream stream
+        → IsListed plan t → IsInTime plan t
+        → n ≤ length (feed plan stream) → ((g : ℕ) → g % 4 ≡ 0 → 52 ≤ g → g + 4 ≤ n
+        → has_order (feed plan stream) g ≡ false) → life_lines t.address t.delay 0 (take n (feed plan stream)) ≡ [] }
 {}
 
-/// The first preset of a stretch is that of its first group, and speaks of the stretch's first segment. No line of the log but the
-/// stretch's presets speaks of anything between its beginning and its end, and so no mute: a line that ends behind its beginning and
+/// The first preset of a stretch is that of its first group, and speaks of the stretch's first segment. No line of the
+/// log but the
+/// stretch's presets speaks of anything between its beginning and its end, and so no mute: a line that ends behind its
+/// beginning and
 /// begins before its end is one of them.
 pub fn lines_of_a_stretch()
-    ensures first { (plan : Plan) (offset : ℤ) (s : ℕ) (feed : List (List ℕ)) (mark n k : ℕ) → IsFirstOrder feed mark n k
+    ensures first { (plan : Plan) (offset : ℤ) (s : ℕ) (feed : List (List ℕ)) (mark n k : ℕ)
+        → IsFirstOrder feed mark n k
         → presets plan offset s feed k (mark + n)
-        ≡ preset s (k / 624) (k % 624) (moment_at plan offset k).tick (moment_at plan offset k).grain ∷ map (preset_at plan offset s k) (orders feed (k + 1) (mark + n)) }
-    ensures no_other { (plan : Plan) (t : Transmitter) (feed : List (List ℕ)) (k end : ℕ) (segments : List (List ℤ)) (lines : List Line) (line : Line)
-        → (e : Emits plan t feed k end segments lines) → Contains lines line → length e.before < end_of line → segment_of line < length e.before + length (stretch_of feed k end)
+        ≡ preset s (k / 624) (k % 624) (moment_at plan offset k).tick (moment_at plan offset k).grain ∷ map
+        (preset_at plan offset s k) (orders feed (k + 1) (mark + n)) }
+    ensures no_other { (plan : Plan) (t : Transmitter) (feed : List (List ℕ)) (k end : ℕ) (segments : List (List ℤ))
+        (lines : List Line) (line : Line)
+        → (e : Emits plan t feed k end segments lines) → Contains lines line → length e.before < end_of line
+        → segment_of line < length e.before + length (stretch_of feed k end)
         → Contains (presets plan t.offset (length e.before) feed k end) line }
 {}
 
-/// At any two transmitters the presets of one group are of one packet of one frame, and their moments differ by the offsets'
+/// At any two transmitters the presets of one group are of one packet of one frame, and their moments differ by the
+/// offsets'
 /// difference, in ticks of 1539 grains, and otherwise by whole seconds, wherever their stretches begin.
 pub fn apart()
-    ensures { (plan : Plan) (t u : Transmitter) (s r k l g : ℕ) → IsApart (t.offset -ℤ u.offset) (preset_at plan t.offset s k g) (preset_at plan u.offset r l g) }
+    ensures { (plan : Plan) (t u : Transmitter) (s r k l g : ℕ)
+        → IsApart (t.offset -ℤ u.offset) (preset_at plan t.offset s k g) (preset_at plan u.offset r l g) }
 {}
 
 /// The packets of a feed have 188 bytes each, as those of its stream have.
@@ -110,34 +147,48 @@ pub fn packets_of_a_feed()
     ensures { (plan : Plan) (stream : List (List ℕ)) → IsPlan plan → IsStream stream → ArePackets (feed plan stream) }
 {}
 
-/// Whatever segments are received, the stretch of a feed being at segment s of them: a run that begins at a field sync of the stretch
-/// gives each packet back whose bytes all lie in the stretch and whose word has at most ten wrong bytes, good and with 0x47 as its
+/// Whatever segments are received, the stretch of a feed being at segment s of them: a run that begins at a field sync
+/// of the stretch
+/// gives each packet back whose bytes all lie in the stretch and whose word has at most ten wrong bytes, good and with
+/// 0x47 as its
 /// sync byte, behind the packets of the runs before it.
 pub fn gives_back()
-    ensures { (feed : List (List ℕ)) (k end s : ℕ) (got : List (List ℤ)) → ArePackets feed → end ≤ length feed → GivesBack feed k end s got }
+    ensures { (feed : List (List ℕ)) (k end s : ℕ) (got : List (List ℤ)) → ArePackets feed → end ≤ length feed
+        → GivesBack feed k end s got }
 {}
 
-/// The stretch alone, received with slight damage, is one run from its first field sync on, and what is received is exactly the
+/// The stretch alone, received with slight damage, is one run from its first field sync on, and what is received is
+/// exactly the
 /// feed's packets from there on whose bytes are all there, in order, none flagged.
 pub fn gives_all_back()
-    ensures { (feed : List (List ℕ)) (k end : ℕ) (got : List (List ℤ)) → ArePackets feed → end ≤ length feed → GivesAllBack feed k end got }
+    ensures { (feed : List (List ℕ)) (k end : ℕ) (got : List (List ℤ)) → ArePackets feed → end ≤ length feed
+        → GivesAllBack feed k end got }
 {}
 
-/// The headline: for every packet stream and schedule, an exciter that from any earlier state is given the adapter's feed unchanged
-/// from a cadence mark on emits, from the first operations packet whose group begins 52 or more packets later, exactly the symbols of
-/// that feed (ATSC A/53 Part 2), at moments that differ between transmitters only by the signalled offsets; and symbols with at most
+/// The headline: for every packet stream and schedule, an exciter that from any earlier state is given the adapter's
+/// feed unchanged
+/// from a cadence mark on emits, from the first operations packet whose group begins 52 or more packets later, exactly
+/// the symbols of
+/// that feed (ATSC A/53 Part 2), at moments that differ between transmitters only by the signalled offsets; and symbols
+/// with at most
 /// ten wrong bytes per codeword give their packets back.
 pub fn headline()
-    ensures { (plan : Plan) (stream : List (List ℕ)) (events : List Event) → IsPlan plan → IsStream stream → Headline plan stream events }
+    ensures { (plan : Plan) (stream : List (List ℕ)) (events : List Event) → IsPlan plan → IsStream stream
+        → Headline plan stream events }
 {}
 
-/// What the headline asks of a transmitter can be met: with one event, which a plan may hold, that gives a listed transmitter in time
-/// the whole feed from packet 0 on, it joins the feed there, where the stream has a placeholder for an operations packet in a whole
+/// What the headline asks of a transmitter can be met: with one event, which a plan may hold, that gives a listed
+/// transmitter in time
+/// the whole feed from packet 0 on, it joins the feed there, where the stream has a placeholder for an operations
+/// packet in a whole
 /// group that begins at packet 52 or later; its first order is that group's or an earlier one's.
 pub fn joined_is_met()
-    ensures met { (plan : Plan) (stream : List (List ℕ)) (t : Transmitter) (who g : ℕ) → IsPlan plan → IsStream stream → slice_get plan.transmitters.items who ≡ Some t → IsInTime plan t
+    ensures met { (plan : Plan) (stream : List (List ℕ)) (t : Transmitter) (who g : ℕ) → IsPlan plan → IsStream stream
+        → slice_get plan.transmitters.items who ≡ Some t → IsInTime plan t
         → g % 4 ≡ 0 → 52 ≤ g → g + 4 ≤ length stream → has_order stream g ≡ true
-        → (x : Joined plan stream (Send t.address 0 (length stream) ∷ [])) × (x.t ≡ t) × (x.who ≡ who) × (x.mark ≡ 0) × (x.count ≡ length stream) × (x.k ≤ g) }
-    ensures may_be { (plan : Plan) (stream : List (List ℕ)) (t : Transmitter) (who : ℕ) → IsStream stream → slice_get plan.transmitters.items who ≡ Some t → 1 ≤ length stream
+        → (x : Joined plan stream (Send t.address 0 (length stream) ∷ [])) × (x.t ≡ t) × (x.who ≡ who) × (x.mark ≡ 0)
+        × (x.count ≡ length stream) × (x.k ≤ g) }
+    ensures may_be { (plan : Plan) (stream : List (List ℕ)) (t : Transmitter) (who : ℕ) → IsStream stream
+        → slice_get plan.transmitters.items who ≡ Some t → 1 ≤ length stream
         → IsEvent plan.transmitters.items (Send t.address 0 (length stream)) }
 {}

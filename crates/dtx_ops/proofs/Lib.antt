@@ -1,10 +1,2 @@
-pub mod Addresses
 pub mod Bits
-pub mod Data
-pub mod Digits
-pub mod Entries
-pub mod Numbers
-pub mod Passing
-pub mod Readings
-pub mod Refusing
 pub mod Writes

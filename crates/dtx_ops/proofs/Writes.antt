@@ -1,5 +1,6 @@
 -- A write behind what is written already.
-use Rattle.std.proofs.Common.{◌≡◌, ℕ, ◌+◌, ◌-◌, ◌*◌, ◌<◌, ◌≤◌, List, [], ◌∷◌, ◌++◌, length, take, drop, get_or, set, refl, ap, sym, ◌∙◌, append_assoc, length-append, arith}
+use Rattle.std.proofs.Common.{◌≡◌, ℕ, ◌+◌, ◌-◌, ◌*◌, ◌<◌, ◌≤◌, List, [], ◌∷◌, ◌++◌, length, take, drop, get_or, set}
+use Rattle.std.proofs.Common.{refl, ap, sym, ◌∙◌, append_assoc, length-append, arith}
 use Rattle.std.proofs.Math.Seq.{take-append_seam, drop-append_seam, take-length}
 use Rattle.std.proofs.lemmas.List.{drop_all, append-nil, take_more, drop-drop, take_all, length-drop, set-append_right}
 use Rattle.std.proofs.lemmas.Grind.{flat_map-append}
@@ -10,32 +11,52 @@ use Rattle.dtx_ops.specs.declared.fields.Ops.{Ops}
 use Rattle.dtx_ops.specs.Spelling.{entry_bytes, times_bytes, head_bytes}
 
 -- ys are written behind xs
-pub wrote : {X : Type 0} (xs rest ys : List X) (n : ℕ) → put_mid (length xs) (length rest) (xs ++ rest) (ys ++ drop n (take (length rest) (drop (length xs) (xs ++ rest)))) ≡ xs ++ (ys ++ drop n rest)
+pub wrote : {X : Type 0} (xs rest ys : List X) (n : ℕ)
+    → put_mid (length xs) (length rest) (xs ++ rest) (ys ++ drop n (take (length rest) (drop (length xs) (xs ++ rest))))
+    ≡ xs ++ (ys ++ drop n rest)
 wrote xs rest ys n =
-    rw (take-append_seam xs rest, drop-append_seam xs rest, take-length rest, drop_all (length rest) rest (omega arith), append-nil) refl
+    rw (
+      take-append_seam xs rest,
+      drop-append_seam xs rest,
+      take-length rest,
+      drop_all (length rest) rest (omega arith),
+      append-nil,
+    ) refl
 
-pub wrote_at : {X : Type 0} (a k : ℕ) (xs rest ys out new : List X) (n : ℕ) → out ≡ xs ++ rest → length xs ≡ a → k ≡ length out - a → new ≡ ys ++ drop n (take k (drop a out))
+pub wrote_at : {X : Type 0} (a k : ℕ) (xs rest ys out new : List X) (n : ℕ) → out ≡ xs ++ rest → length xs ≡ a
+    → k ≡ length out - a → new ≡ ys ++ drop n (take k (drop a out))
     → put_mid a k out new ≡ xs ++ (ys ++ drop n rest)
 wrote_at {X} a k xs rest ys out new n e l m f =
     let r : k ≡ length rest = m ∙ omega (arith, ap (λ (t : List X). length t) e, length-append xs rest) in
-    let whole : put_mid a k out new ≡ put_mid (length xs) (length rest) (xs ++ rest) (ys ++ drop n (take (length rest) (drop (length xs) (xs ++ rest)))) =
+    let whole : put_mid a k out new ≡ put_mid (length xs) (length rest) (xs ++ rest) (ys
+    ++ drop n (take (length rest) (drop (length xs) (xs ++ rest)))) =
     rw (f, e, sym l, r) refl in
     whole ∙ wrote xs rest ys n
 
 -- one more entry
 pub entries_more : (es : List Entry) (i : ℕ) (d : Entry) (old : List ℕ) → i < length es
-    → flat_map entry_bytes (take i es) ++ (entry_bytes (get_or es i d) ++ drop 4 (drop (4 * i) old)) ≡ flat_map entry_bytes (take (i + 1) es) ++ drop (4 * (i + 1)) old
+    → flat_map entry_bytes (take i es) ++ (entry_bytes (get_or es i d) ++ drop 4 (drop (4 * i) old))
+    ≡ flat_map entry_bytes (take (i + 1) es) ++ drop (4 * (i + 1)) old
 entries_more es i d old h =
     let e : 4 * (i + 1) ≡ 4 * i + 4 = omega arith in
-    let one : flat_map entry_bytes (get_or es i d ∷ []) ≡ entry_bytes (get_or es i d) = append-nil (entry_bytes (get_or es i d)) in
-    rw (take_more es i d h, flat_map-append entry_bytes (take i es) (get_or es i d ∷ []), one, e, drop-drop 4 (4 * i) old, append_assoc) refl
+    let one : flat_map entry_bytes (get_or es i d ∷ []) ≡ entry_bytes (get_or es i d) =
+    append-nil (entry_bytes (get_or es i d)) in
+    rw (
+      take_more es i d h,
+      flat_map-append entry_bytes (take i es) (get_or es i d ∷ []),
+      one,
+      e,
+      drop-drop 4 (4 * i) old,
+      append_assoc,
+    ) refl
 
 -- a slice from a place to the end
 pub to_end : {X : Type 0} (k : ℕ) (xs : List X) → take (length xs - k) (drop k xs) ≡ drop k xs
 to_end k xs = take_all (length xs - k) (drop k xs) (omega (arith, length-drop k xs))
 
 -- three bytes after the first
-pub set_three : (xs : List ℕ) (a b c : ℕ) → 4 ≤ length xs → set (set (set xs 1 a) 2 b) 3 c ≡ (get_or xs 0 0 ∷ a ∷ b ∷ c ∷ []) ++ drop 4 xs
+pub set_three : (xs : List ℕ) (a b c : ℕ) → 4 ≤ length xs
+    → set (set (set xs 1 a) 2 b) 3 c ≡ (get_or xs 0 0 ∷ a ∷ b ∷ c ∷ []) ++ drop 4 xs
 set_three [] a b c h = absurd (omega arith)
 set_three (x ∷ []) a b c h = absurd (omega arith)
 set_three (x ∷ y ∷ []) a b c h = absurd (omega arith)
@@ -55,7 +76,8 @@ set_behind xs ys out n k j h l m =
     let rest : drop j (drop k out) ≡ drop (k + j) out = drop-drop j k out in
     let none : k + j - (k + j) ≡ 0 = omega arith in
     let first : set (drop (k + j) out) 0 n ≡ (n ∷ []) ++ drop (k + j + 1) out =
-    set_first (drop (k + j) out) n (omega (arith, length-drop (k + j) out)) ∙ ap (λ (t : List ℕ). (n ∷ []) ++ t) (drop-drop 1 (k + j) out) in
+    set_first (drop (k + j) out) n (omega (arith, length-drop (k + j) out))
+    ∙ ap (λ (t : List ℕ). (n ∷ []) ++ t) (drop-drop 1 (k + j) out) in
     ap (λ (t : List ℕ). set (xs ++ (ys ++ t)) (k + j) n) rest
     ∙ ap (λ (t : List ℕ). set t (k + j) n) (sym (append_assoc xs ys (drop (k + j) out)))
     ∙ set-append_right (xs ++ ys) (drop (k + j) out) (k + j) (k + j) n both (omega arith)
@@ -74,7 +96,8 @@ unfolding head_bytes
 length-head_bytes f = omega (arith, length-times_bytes f, length-append (times_bytes f) (length f.offsets.items ∷ []))
 
 -- a packet of which byte 0 stays
-pub packet_written : (xs word : List ℕ) (a b c : ℕ) → length xs ≡ 188 → put_mid 4 184 (set (set (set xs 1 a) 2 b) 3 c) word ≡ (get_or xs 0 0 ∷ a ∷ b ∷ c ∷ []) ++ word
+pub packet_written : (xs word : List ℕ) (a b c : ℕ) → length xs ≡ 188
+    → put_mid 4 184 (set (set (set xs 1 a) 2 b) 3 c) word ≡ (get_or xs 0 0 ∷ a ∷ b ∷ c ∷ []) ++ word
 packet_written xs word a b c h =
     let none : drop 184 (drop 4 xs) ≡ [] = drop_all 184 (drop 4 xs) (omega (arith, length-drop 4 xs)) in
     rw (set_three xs a b c (omega arith), none, append-nil) refl

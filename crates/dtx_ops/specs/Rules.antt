@@ -1,11 +1,13 @@
 -- The rules by which a packet isn't read, in their order (the profile's own).
-use Rattle.std.specs.Prelude.{ℕ, ◌+◌, ◌*◌, ◌%◌, ◌==◌, not, nat_le, nat_lt, Bool, false, ◌||◌, if◌then◌else◌, Option, Some, None, is_none, unwrap_or, List, [], ◌∷◌, ◌++◌, drop, take, option_map, slice_index}
+use Rattle.std.specs.Prelude.{ℕ, ◌+◌, ◌*◌, ◌%◌, ◌==◌, not, nat_le, nat_lt, Bool, false, ◌||◌, if◌then◌else◌, Option}
+use Rattle.std.specs.Prelude.{Some, None, is_none, unwrap_or, List, [], ◌∷◌, ◌++◌, drop, take, option_map, slice_index}
 use Rattle.std.specs.List.{list_all}
 use Rattle.dtx_laws.specs.Words.{correction}
 use Rattle.dtx_packets.specs.Packet.{pid_of}
 use Rattle.dtx_ops.specs.declared.fields.Entry.{Entry}
 use Rattle.dtx_ops.specs.declared.refusal.OpsNo.{OpsNo}
-use Rattle.dtx_ops.specs.declared.refusal.OpsNo.TheVariants.{NotOps, Uncorrectable, Kind, Pad, Stamp, Delay, Index, Count, Twice, Fill}
+use Rattle.dtx_ops.specs.declared.refusal.OpsNo.TheVariants.{NotOps, Uncorrectable, Kind, Pad, Stamp, Delay, Index}
+use Rattle.dtx_ops.specs.declared.refusal.OpsNo.TheVariants.{Count, Twice, Fill}
 use Rattle.dtx_ops.specs.Fields.{stamp_in, max_delay_in, index_in, count_in, entries_in}
 
 -- the first rule that holds
@@ -23,7 +25,8 @@ abbrev pub has_twice : List Entry → Bool
 has_twice [] = false
 has_twice (e ∷ es) = is_among e.address es || has_twice es
 
--- the rules on the data before the entries: the kind is 1, the bits behind the states are 0, and the numbers are in range
+-- the rules on the data before the entries: the kind is 1, the bits behind the states are 0, and the numbers are in
+-- range
 unfoldable pub head_rules : List ℕ → List (Bool × OpsNo)
 head_rules bytes =
     ((not (slice_index bytes 0 == 1), Kind)
@@ -43,7 +46,8 @@ rest_rules entries rest =
 
 -- the rules on the data
 unfoldable pub data_rules : List ℕ → List (Bool × OpsNo)
-data_rules bytes = head_rules bytes ++ rest_rules (entries_in (count_in bytes) bytes) (drop (19 + 4 * count_in bytes) bytes)
+data_rules bytes =
+    head_rules bytes ++ rest_rules (entries_in (count_in bytes) bytes) (drop (19 + 4 * count_in bytes) bytes)
 
 -- the corrected data of a packet, where its payload has a correction
 unfoldable pub corrected : List ℕ → Option (List ℕ)

@@ -1,5 +1,6 @@
 -- The operations packet of kind 1, byte by byte (the profile's own). Numbers are big-endian.
-use Rattle.std.specs.Prelude.{◌≡◌, ◌≢◌, ℕ, ◌+◌, ◌-◌, ◌*◌, ◌^◌, ◌<◌, ◌≤◌, List, [], ◌∷◌, ◌++◌, All, AllPairs, EachIndex, FitsSigned, length, map, replicate, slice_index}
+use Rattle.std.specs.Prelude.{◌≡◌, ◌≢◌, ℕ, ◌+◌, ◌-◌, ◌*◌, ◌^◌, ◌<◌, ◌≤◌, List, [], ◌∷◌, ◌++◌, All, AllPairs, EachIndex}
+use Rattle.std.specs.Prelude.{FitsSigned, length, map, replicate, slice_index}
 use Rattle.std.specs.Int.{w16, cast_unsigned}
 use Rattle.std.specs.List.{flat_map, fold}
 use Rattle.byteorder.specs.Endian.{big_bytes}
@@ -36,7 +37,8 @@ pub record IsEntry (e : Entry) : Type 0 where
   pub address : e.address < 2 ^ 16
   pub offset : FitsSigned w16 e.offset
 
--- Fields are valid: what their types say, that stamp, maximum delay and index are in range, and that the addresses differ.
+-- Fields are valid: what their types say, that stamp, maximum delay and index are in range, and that the addresses
+-- differ.
 pub record IsValid (f : Ops) : Type 0 where
   pub twelve : length f.states ≡ 12
   pub states : EachIndex f.states (λ e. slice_index f.states e < 8)

@@ -12,26 +12,32 @@ ghost use Rattle.dtx_ops.specs.Rules.{first, data_rules, corrected, rules};
 ghost use Rattle.dtx_ops.specs.Reading.{reading, ReadsAs};
 ghost use Rattle.dtx_ops.specs.Spelling.{IsValid, data_of, spelling};
 
-/// A packet is read as exactly the fields that it reads as by the relation between bytes and fields. It is refused exactly
+/// A packet is read as exactly the fields that it reads as by the relation between bytes and fields. It is refused
+/// exactly
 /// by the first rule that holds.
 pub fn readings()
     ensures reads_as { (packet : List ℕ) (f : Ops) → reading packet ≡ Ok f → ReadsAs packet f }
     ensures reads { (packet : List ℕ) (f : Ops) → length packet ≡ 188 → ReadsAs packet f → reading packet ≡ Ok f }
-    ensures refused { (packet : List ℕ) (refusal : OpsNo) → reading packet ≡ Err refusal → first (rules packet) ≡ Some refusal }
-    ensures refuses { (packet : List ℕ) (refusal : OpsNo) → first (rules packet) ≡ Some refusal → reading packet ≡ Err refusal }
+    ensures refused { (packet : List ℕ) (refusal : OpsNo) → reading packet ≡ Err refusal
+        → first (rules packet) ≡ Some refusal }
+    ensures refuses { (packet : List ℕ) (refusal : OpsNo) → first (rules packet) ≡ Some refusal
+        → reading packet ≡ Err refusal }
 {}
 
 /// A packet has corrected data exactly where its payload has a correction, and they are the data of that.
 pub fn corrected_data()
-    ensures some { (packet code : List ℕ) → length packet ≡ 188 → IsCorrection 184 164 (drop 4 packet) code → corrected packet ≡ Some (take 164 code) }
-    ensures none { (packet : List ℕ) → length packet ≡ 188 → corrected packet ≡ None → (code : List ℕ) → IsCorrection 184 164 (drop 4 packet) code → ⊥ }
+    ensures some { (packet code : List ℕ) → length packet ≡ 188 → IsCorrection 184 164 (drop 4 packet) code
+        → corrected packet ≡ Some (take 164 code) }
+    ensures none { (packet : List ℕ) → length packet ≡ 188 → corrected packet ≡ None → (code : List ℕ)
+        → IsCorrection 184 164 (drop 4 packet) code → ⊥ }
 {}
 
 /// What was written reads as the same fields, with up to ten bytes of its payload changed, and whatever its byte 0, its
 /// counter and the other bits of its header.
 pub fn written_reads_back()
     ensures pid { (f : Ops) (counter sync : ℕ) → pid_of (spelling f counter sync) ≡ 0x1FFA }
-    ensures fields { (f : Ops) (counter sync : ℕ) (packet : List ℕ) → IsValid f → length packet ≡ 188 → pid_of packet ≡ 0x1FFA
+    ensures fields { (f : Ops) (counter sync : ℕ) (packet : List ℕ) → IsValid f → length packet ≡ 188
+        → pid_of packet ≡ 0x1FFA
         → distance (drop 4 packet) (drop 4 (spelling f counter sync)) ≤ 10 → reading packet ≡ Ok f }
 {}
 
@@ -45,8 +51,10 @@ pub fn valid_fields_are_spelled()
 
 /// Data that no rule refuses hold valid fields, and are the one way to spell them.
 pub fn unrefused_data_are_spelled()
-    ensures valid { (bytes : List ℕ) → length bytes ≡ 164 → AreBytes bytes → first (data_rules bytes) ≡ None → IsValid (fields bytes) }
-    ensures spelled { (bytes : List ℕ) → length bytes ≡ 164 → AreBytes bytes → first (data_rules bytes) ≡ None → data_of (fields bytes) ≡ bytes }
+    ensures valid { (bytes : List ℕ) → length bytes ≡ 164 → AreBytes bytes → first (data_rules bytes) ≡ None
+        → IsValid (fields bytes) }
+    ensures spelled { (bytes : List ℕ) → length bytes ≡ 164 → AreBytes bytes → first (data_rules bytes) ≡ None
+        → data_of (fields bytes) ≡ bytes }
 {}
 
 /// Bytes are the bytes of the number that they read as, the highest first.

@@ -7,8 +7,6 @@ mod packing;
 mod reading;
 mod refusal;
 mod rules;
-#[cfg(test)]
-mod tests;
 mod writing;
 
 pub use fields::{Entry, MOST_ENTRIES, Ops};

@@ -18,7 +18,8 @@ use dtx_packets::Packet;
 /// The packet identifier of operations packets.
 pub const OPERATIONS: u16 = 0x1FFA;
 
-/// The fields of an operations packet, or else the first of the ten rules that refuses it. Only the packet identifier and
+/// The fields of an operations packet, or else the first of the ten rules that refuses it. Only the packet identifier
+/// and
 /// the payload are looked at, and up to ten bytes of the payload may be wrong.
 #[tactic(auto, unfolding(crate::specs::Reading::reading))]
 pub fn read<C: Correct<184, 164>>(code: &C, packet: &Packet) -> Result<Ops, OpsNo>
@@ -66,7 +67,7 @@ fn data_in(word: &[u8; 184]) -> [u8; 164]
 }
 
 /// The fields in the data, or else the first rule that refuses them.
-#[tactic(auto, unfolding(crate::specs::Reading::data_reading, crate::specs::Rules::data_rules), using(crate::proofs::Refusing::first_none, crate::proofs::Refusing::first_some))]
+#[tactic(auto, unfolding(crate::specs::Reading::data_reading, crate::specs::Rules::data_rules), using(crate::specs::RefusingLaws::first_none, crate::specs::RefusingLaws::first_some))]
 fn read_data(bytes: &[u8]) -> Result<Ops, OpsNo>
     requires { length bytes.now ≡ 164 }
     ensures { result ≡ spec.data_reading bytes.now }
@@ -81,7 +82,9 @@ fn read_data(bytes: &[u8]) -> Result<Ops, OpsNo>
 fn read_rest(bytes: &[u8]) -> Result<Ops, OpsNo>
     requires long { length bytes.now ≡ 164 }
     requires few { count_in bytes.now ≤ 35 }
-    ensures { result ≡ spec.unless (rule.first (rule.rest_rules (entries_in (count_in bytes.now) bytes.now) (drop (19 + 4 * count_in bytes.now) bytes.now))) (fields bytes.now) }
+    ensures { result
+        ≡ spec.unless (rule.first (rule.rest_rules (entries_in (count_in bytes.now) bytes.now)
+        (drop (19 + 4 * count_in bytes.now) bytes.now))) (fields bytes.now) }
 {
     let count = bytes[18] as usize;
     let offsets = entries(count, bytes);

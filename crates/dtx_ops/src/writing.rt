@@ -1,5 +1,6 @@
 // Writing an operations packet.
-ghost use Rattle.std.specs.Prelude.{◌≡◌, ◌≢◌, ◌*◌, ◌^◌, ◌<◌, ◌≤◌, ◌++◌, All, AllPairs, EachIndex, drop, length, map, replicate, slice_index};
+ghost use Rattle.std.specs.Prelude.{◌≡◌, ◌≢◌, ◌*◌, ◌^◌, ◌<◌, ◌≤◌, ◌++◌, All, AllPairs, EachIndex, drop, length, map};
+ghost use Rattle.std.specs.Prelude.{replicate, slice_index};
 ghost use Rattle.std.specs.List.{flat_map};
 ghost use Rattle.byteorder.specs.Endian.{big_bytes};
 ghost use Rattle.dtx_laws.specs.Words.{codeword};
@@ -11,7 +12,8 @@ use byteorder::{BigEndian, ByteOrder};
 use dtx_laws::Encode;
 use dtx_packets::Packet;
 
-/// Makes the packet an operations packet of these fields and that counter. Its byte 0 stays. Stamp and maximum delay are to
+/// Makes the packet an operations packet of these fields and that counter. Its byte 0 stays. Stamp and maximum delay
+/// are to
 /// be below 10,000,000 ticks, the index below 624 and the counter below 16, and the addresses are to differ.
 #[tactic(auto, unfolding(crate::specs::Spelling::spelling))]
 pub fn write<E: Encode<184, 164>>(code: &E, ops: &Ops, counter: u8, packet: &mut Packet)

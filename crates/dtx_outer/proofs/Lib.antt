@@ -1,3 +1,2 @@
 pub mod Coding
-pub mod Words
 pub mod Runs

@@ -1,14 +1,16 @@
 -- A run, block by block: the word that a block completes, and what is kept.
-use Rattle.std.proofs.Common.{◌≡◌, ℕ, ◌+◌, ◌-◌, ◌*◌, ◌/◌, ◌%◌, ◌<◌, ◌≤◌, ◌⊎◌, ◌==◌, inl, inr, cond, Bool, true, false, List, [], ◌++◌, length, get_or, take, drop, refl, sym, ap, ap₂, ◌∙◌, arith}
+use Rattle.std.proofs.Common.{◌≡◌, ℕ, ◌+◌, ◌-◌, ◌*◌, ◌/◌, ◌%◌, ◌<◌, ◌≤◌, ◌⊎◌, ◌==◌, inl, inr, cond, Bool, true, false}
+use Rattle.std.proofs.Common.{List, [], ◌++◌, length, get_or, take, drop, refl, sym, ap, ap₂, ◌∙◌, arith}
 use Rattle.std.proofs.Common.{mul-le-mul_left, mul-le-mul_right, div-add-mod'}
 use Rattle.std.proofs.lemmas.Bool.{cases_lt, eqb-true, eqb-false}
 use Rattle.std.proofs.lemmas.Nat.{div-mul-add, mod-mul-add}
-use Rattle.std.proofs.lemmas.List.{get_or_append_left, get_or-append_right, get_or-take, get_or-drop, drop_at, length-drop, length-append, length-take-le}
+use Rattle.std.proofs.lemmas.List.{get_or_append_left, get_or-append_right, get_or-take, get_or-drop, drop_at}
+use Rattle.std.proofs.lemmas.List.{length-drop, length-append, length-take-le}
 use Rattle.dtx_laws.specs.Branches.{IsInterleaver, Branching, HasWidths, gathering, aligned, leaving_all, after_all}
-use Rattle.dtx_laws.proofs.Interleaving.{HasWidths-aligned}
-use Rattle.dtx_laws.proofs.Places.{length_leaving, leaving_append, after_append}
+use Rattle.dtx_laws.specs.InterleavingLaws.{HasWidths-aligned}
+use Rattle.dtx_laws.specs.PlacesLaws.{length_leaving, leaving_append, after_append}
 use Rattle.dtx_outer.specs.Inner.{waiting, completing, word_at, Kept, StandsFor}
-use Rattle.dtx_outer.proofs.Words.{waiting_some, completing_is, completing_within, word_by, gathers_word}
+use Rattle.dtx_outer.specs.WordsLaws.{waiting_some, completing_is, completing_within, word_by, gathers_word}
 
 -- ---- the word that a block completes
 
@@ -20,7 +22,8 @@ window_at us vs a skip n j e f s l = by_cases (cases_lt j (n - skip))
     long : length (drop skip (drop a us)) ≡ n - skip
     long = omega (arith, length-drop skip (drop a us), length-drop a us)
 
-    by_cases : (j < n - skip) ⊎ (n - skip ≤ j) → get_or (drop skip (drop a us) ++ take skip vs) j 0 ≡ get_or (us ++ vs) (a + skip + j) 0
+    by_cases : (j < n - skip) ⊎ (n - skip ≤ j) → get_or (drop skip (drop a us) ++ take skip vs) j 0
+        ≡ get_or (us ++ vs) (a + skip + j) 0
     by_cases (inl k) =
         let p : a + (skip + j) ≡ a + skip + j = omega arith in
         get_or_append_left (drop skip (drop a us)) (take skip vs) 0 j (omega (arith, long))
@@ -40,13 +43,17 @@ parts n a u v e = ap (λ i. n * i) e ∙ all
     all = grind arith
 
 -- the block bs behind the bytes y, which came in q + k blocks
-pub word_is : (n b m k : ℕ) (g : Branching) (y bs : List ℕ) → 0 < n → IsInterleaver b m → HasWidths b (gathering b m) g → g.next ≡ 0
+pub word_is : (n b m k : ℕ) (g : Branching) (y bs : List ℕ) → 0 < n → IsInterleaver b m → HasWidths b (gathering b m) g
+    → g.next ≡ 0
     → length y ≡ n * (waiting n b m + k) → length bs ≡ n
-    → drop (completing n b m) (drop (n * (waiting n b m + k - 1)) (leaving_all b g y)) ++ take (completing n b m) (leaving_all b (after_all b g y) bs) ≡ word_at n b m (y ++ bs) k
+    → drop (completing n b m) (drop (n * (waiting n b m + k - 1)) (leaving_all b g y))
+    ++ take (completing n b m) (leaving_all b (after_all b g y) bs) ≡ word_at n b m (y ++ bs) k
 word_is n b m k g y bs p i s z ly lb =
-    word_by n b m (y ++ bs) k (drop (completing n b m) (drop (n * (waiting n b m + k - 1)) (leaving_all b g y)) ++ take (completing n b m) (leaving_all b (after_all b g y) bs))
+    word_by n b m (y ++ bs) k (drop (completing n b m) (drop (n * (waiting n b m + k - 1)) (leaving_all b g y))
+    ++ take (completing n b m) (leaving_all b (after_all b g y) bs))
     long
-    (λ j l. window_at (leaving_all b g y) (leaving_all b (after_all b g y) bs) (n * (waiting n b m + k - 1)) (completing n b m) n j first second within l
+    (λ j l. window_at (leaving_all b g y) (leaving_all b (after_all b g y) bs) (n * (waiting n b m + k - 1))
+    (completing n b m) n j first second within l
     ∙ ap (λ zs. get_or zs (n * (waiting n b m + k - 1) + completing n b m + j) 0) (sym (leaving_append b g y bs))
     ∙ ap (λ i. get_or (leaving_all b g (y ++ bs)) i 0) (at j)
     ∙ gathers_word b m g (y ++ bs) (n * k + j) (omega (arith, s.next)) s z (inside j l))
@@ -72,10 +79,19 @@ word_is n b m k g y bs p i s z ly lb =
     second : length (leaving_all b (after_all b g y) bs) ≡ n
     second = length_leaving b (after_all b g y) bs ∙ lb
 
-    long : length (drop (completing n b m) (drop (n * (waiting n b m + k - 1)) (leaving_all b g y)) ++ take (completing n b m) (leaving_all b (after_all b g y) bs)) ≡ n
+    long : length (drop (completing n b m) (drop (n * (waiting n b m + k - 1)) (leaving_all b g y))
+        ++ take (completing n b m) (leaving_all b (after_all b g y) bs)) ≡ n
     long =
-        length-append (drop (completing n b m) (drop (n * (waiting n b m + k - 1)) (leaving_all b g y))) (take (completing n b m) (leaving_all b (after_all b g y) bs))
-        ∙ omega (arith, within, length-drop (completing n b m) (drop (n * (waiting n b m + k - 1)) (leaving_all b g y)), length-drop (n * (waiting n b m + k - 1)) (leaving_all b g y), first, length-take-le (completing n b m) (leaving_all b (after_all b g y) bs) (omega (arith, second, within)))
+        length-append (drop (completing n b m) (drop (n * (waiting n b m + k - 1)) (leaving_all b g y)))
+        (take (completing n b m) (leaving_all b (after_all b g y) bs))
+        ∙ omega (
+          arith,
+          within,
+          length-drop (completing n b m) (drop (n * (waiting n b m + k - 1)) (leaving_all b g y)),
+          length-drop (n * (waiting n b m + k - 1)) (leaving_all b g y),
+          first,
+          length-take-le (completing n b m) (leaving_all b (after_all b g y) bs) (omega (arith, second, within)),
+        )
 
     at : (j : ℕ) → n * (waiting n b m + k - 1) + completing n b m + j ≡ n * k + j + b * m * (b - 1)
     at j = omega (arith, split, completing_is n b m p i)
@@ -92,45 +108,61 @@ blocks_are n a c p e = sym (whole a) ∙ ap (λ i. i / n) e ∙ whole c
     whole i = let f : n * i ≡ i * n + 0 = grind arith in ap (λ j. j / n) f ∙ div-mul-add i n 0 p
 
 less_blocks : (n a c : ℕ) → a < c → 0 < n → n * a < n * c
-less_blocks n a c l p = let h : n * (a + 1) ≤ n * c = mul-le-mul_left n k in let f : n * (a + 1) ≡ n * a + n = grind arith in omega (arith, h, f, p)
+less_blocks n a c l p = let h : n * (a + 1) ≤ n * c = mul-le-mul_left n k in let f : n * (a + 1) ≡ n * a + n =
+    grind arith in omega (arith, h, f, p)
   where
     k : a + 1 ≤ c
     k = omega arith
 
-pub none_or_packet : (n k b m : ℕ) (inner : Kept) (y : List ℕ) → 0 < n → StandsFor n k b m inner y → (length y < n * waiting n b m) ⊎ ((j : ℕ) × (length y ≡ n * (waiting n b m + j)))
+pub none_or_packet : (n k b m : ℕ) (inner : Kept) (y : List ℕ) → 0 < n → StandsFor n k b m inner y
+    → (length y < n * waiting n b m) ⊎ ((j : ℕ) × (length y ≡ n * (waiting n b m + j)))
 none_or_packet n k b m inner y p s = by_cases (cases_lt s.blocks (waiting n b m))
   where
     back : (c q : ℕ) → q ≤ c → c ≡ q + (c - q)
     back c q h = omega arith
 
-    by_cases : (s.blocks < waiting n b m) ⊎ (waiting n b m ≤ s.blocks) → (length y < n * waiting n b m) ⊎ ((j : ℕ) × (length y ≡ n * (waiting n b m + j)))
+    by_cases : (s.blocks < waiting n b m) ⊎ (waiting n b m ≤ s.blocks) → (length y < n * waiting n b m)
+        ⊎ ((j : ℕ) × (length y ≡ n * (waiting n b m + j)))
     by_cases (inl l) = inl (omega (arith, s.given, less_blocks n s.blocks (waiting n b m) l p))
     by_cases (inr l) = inr (s.blocks - waiting n b m, s.given ∙ ap (λ i. n * i) (back s.blocks (waiting n b m) l))
 
 -- while blocks are waited for
-pub still_waits : (n k b m j : ℕ) (d : Kept) (y : List ℕ) → 0 < n → StandsFor n k b m d y → 0 < d.waits → length y ≡ n * (waiting n b m + j) → ⊥
-still_waits n k b m j d y p s h e = omega (arith, h, s.waits, blocks_are n s.blocks (waiting n b m + j) p (sym s.given ∙ e))
+pub still_waits : (n k b m j : ℕ) (d : Kept) (y : List ℕ) → 0 < n → StandsFor n k b m d y → 0 < d.waits
+    → length y ≡ n * (waiting n b m + j) → ⊥
+still_waits n k b m j d y p s h e = omega (
+  arith,
+  h,
+  s.waits,
+  blocks_are n s.blocks (waiting n b m + j) p (sym s.given
+      ∙ e),
+)
 
 -- and when none is
-pub waits_no_more : (n k b m : ℕ) (d : Kept) (y : List ℕ) → StandsFor n k b m d y → d.waits ≡ 0 → length y < n * waiting n b m → ⊥
-waits_no_more n k b m d y s h l = let g : n * waiting n b m ≤ n * s.blocks = mul-le-mul_left n k' in omega (arith, g, s.given, l)
+pub waits_no_more : (n k b m : ℕ) (d : Kept) (y : List ℕ) → StandsFor n k b m d y → d.waits ≡ 0
+    → length y < n * waiting n b m → ⊥
+waits_no_more n k b m d y s h l = let g : n * waiting n b m ≤ n * s.blocks = mul-le-mul_left n k' in
+    omega (arith, g, s.given, l)
   where
     k' : waiting n b m ≤ s.blocks
     k' = omega (arith, h, s.waits)
 
 -- ---- the packet
 
-pub word_given : (n k b m j : ℕ) (d : Kept) (y bs : List ℕ) → 0 < n → IsInterleaver b m → length bs ≡ n → StandsFor n k b m d y → length y ≡ n * (waiting n b m + j)
-    → drop (completing n b m) d.before ++ take (completing n b m) (leaving_all b d.branches bs) ≡ word_at n b m (y ++ bs) j
+pub word_given : (n k b m j : ℕ) (d : Kept) (y bs : List ℕ) → 0 < n → IsInterleaver b m → length bs ≡ n
+    → StandsFor n k b m d y → length y ≡ n * (waiting n b m + j)
+    → drop (completing n b m) d.before ++ take (completing n b m) (leaving_all b d.branches bs)
+    ≡ word_at n b m (y ++ bs) j
 word_given n k b m j d y bs p i lb s e =
     ap₂ (λ us v. drop (completing n b m) us ++ take (completing n b m) (leaving_all b v bs))
-    (s.before (omega (arith, c, waiting_some n b m p i)) ∙ ap (λ c. drop (n * (c - 1)) (leaving_all b s.start y)) c) s.branches
+    (s.before (omega (arith, c, waiting_some n b m p i))
+    ∙ ap (λ c. drop (n * (c - 1)) (leaving_all b s.start y)) c) s.branches
     ∙ word_is n b m j s.start y bs p i s.widths s.aligned e lb
   where
     c : s.blocks ≡ waiting n b m + j
     c = blocks_are n s.blocks (waiting n b m + j) p (sym s.given ∙ e)
 
-pub place_given : (n k b m j : ℕ) (d : Kept) (y : List ℕ) → 0 < n → StandsFor n k b m d y → length y ≡ n * (waiting n b m + j) → d.place ≡ j % (length d.white / k)
+pub place_given : (n k b m j : ℕ) (d : Kept) (y : List ℕ) → 0 < n → StandsFor n k b m d y
+    → length y ≡ n * (waiting n b m + j) → d.place ≡ j % (length d.white / k)
 place_given n k b m j d y p s e = s.place ∙ ap (λ i. i % (length d.white / k)) c
   where
     c : s.blocks - waiting n b m ≡ j
@@ -149,9 +181,11 @@ within_period k period place l =
 -- ---- what is kept, one block further
 
 more_blocks : (n c : ℕ) (y bs : List ℕ) → length y ≡ n * c → length bs ≡ n → length (y ++ bs) ≡ n * (c + 1)
-more_blocks n c y bs e f = length-append y bs ∙ (let h : n * (c + 1) ≡ n * c + n = grind arith in omega (arith, e, f, h))
+more_blocks n c y bs e f = length-append y bs ∙ (let h : n * (c + 1) ≡ n * c + n = grind arith in
+    omega (arith, e, f, h))
 
-last_gathered : (n b c : ℕ) (g : Branching) (y bs : List ℕ) → length y ≡ n * c → leaving_all b (after_all b g y) bs ≡ drop (n * (c + 1 - 1)) (leaving_all b g (y ++ bs))
+last_gathered : (n b c : ℕ) (g : Branching) (y bs : List ℕ) → length y ≡ n * c
+    → leaving_all b (after_all b g y) bs ≡ drop (n * (c + 1 - 1)) (leaving_all b g (y ++ bs))
 last_gathered n b c g y bs e =
     sym (ap (λ i. drop (n * i) (leaving_all b g (y ++ bs))) (back c) ∙ ap (drop (n * c)) (leaving_append b g y bs)
     ∙ drop_at (leaving_all b g y) (leaving_all b (after_all b g y) bs) (n * c) (length_leaving b g y ∙ e))
@@ -159,7 +193,8 @@ last_gathered n b c g y bs e =
     back : (c : ℕ) → c + 1 - 1 ≡ c
     back c = omega arith
 
-place_next : (x count p : ℕ) → p ≡ x % count → (t : Bool) → (t ≡ true → p + 1 ≡ count) → (t ≡ false → p + 1 ≡ count → ⊥) → p < count → cond t 0 (p + 1) ≡ (x + 1) % count
+place_next : (x count p : ℕ) → p ≡ x % count → (t : Bool) → (t ≡ true → p + 1 ≡ count) → (t ≡ false → p + 1 ≡ count → ⊥)
+    → p < count → cond t 0 (p + 1) ≡ (x + 1) % count
 place_next x count p e true f g l =
     let h : x ≡ x / count * count + x % count = sym (div-add-mod' x count) in
     let k : p + 1 ≡ count = f refl in
@@ -174,7 +209,8 @@ place_next x count p e false f g l =
 
 -- a block that gives no packet
 pub stands_waiting : (n k b m : ℕ) (d e : Kept) (y bs : List ℕ) → length bs ≡ n → StandsFor n k b m d y → 0 < d.waits
-    → e.white ≡ d.white → e.branches ≡ after_all b d.branches bs → e.before ≡ leaving_all b d.branches bs → e.waits ≡ d.waits - 1 → e.place ≡ d.place
+    → e.white ≡ d.white → e.branches ≡ after_all b d.branches bs → e.before ≡ leaving_all b d.branches bs
+    → e.waits ≡ d.waits - 1 → e.place ≡ d.place
     → StandsFor n k b m e (y ++ bs)
 stands_waiting n k b m d e y bs lb s h ew ev eb et ep = record {
   start = s.start;
@@ -192,8 +228,10 @@ stands_waiting n k b m d e y bs lb s h ew ev eb et ep = record {
     same = omega (arith, s.waits, h)
 
 -- a block that gives a packet
-pub stands_given : (n k b m : ℕ) (d e : Kept) (y bs : List ℕ) → length bs ≡ n → StandsFor n k b m d y → d.waits ≡ 0 → d.place < length d.white / k
-    → e.white ≡ d.white → e.branches ≡ after_all b d.branches bs → e.before ≡ leaving_all b d.branches bs → e.waits ≡ d.waits
+pub stands_given : (n k b m : ℕ) (d e : Kept) (y bs : List ℕ) → length bs ≡ n → StandsFor n k b m d y → d.waits ≡ 0
+    → d.place < length d.white / k
+    → e.white ≡ d.white → e.branches ≡ after_all b d.branches bs → e.before ≡ leaving_all b d.branches bs
+    → e.waits ≡ d.waits
     → e.place ≡ cond (d.place + 1 == length d.white / k) 0 (d.place + 1) → StandsFor n k b m e (y ++ bs)
 stands_given n k b m d e y bs lb s h l ew ev eb et ep = record {
   start = s.start;
@@ -204,7 +242,9 @@ stands_given n k b m d e y bs lb s h l ew ev eb et ep = record {
   branches = ev ∙ ap (λ v. after_all b v bs) s.branches ∙ sym (after_append b s.start y bs);
   before = λ _. eb ∙ ap (λ v. leaving_all b v bs) s.branches ∙ last_gathered n b s.blocks s.start y bs s.given;
   waits = omega (arith, et, s.waits, h);
-  place = ep ∙ place_next (s.blocks - waiting n b m) (length d.white / k) d.place s.place (d.place + 1 == length d.white / k) (eqb-true (d.place + 1) (length d.white / k)) (eqb-false (d.place + 1) (length d.white / k)) l
+  place = ep ∙ place_next (s.blocks - waiting n b m) (length d.white / k) d.place s.place
+      (d.place + 1 == length d.white / k) (eqb-true (d.place + 1) (length d.white / k))
+      (eqb-false (d.place + 1) (length d.white / k)) l
       ∙ ap₂ (λ i (w : List ℕ). i % (length w / k)) same (sym ew);
 }
   where
@@ -216,7 +256,8 @@ pub place_zero : (w count : ℕ) → 0 ≡ (0 - w) % count
 place_zero w count = let h : 0 - w ≡ 0 = omega arith in omega arith
 
 -- what is kept when a run starts
-pub start_stands : (n k b m : ℕ) (d e : Kept) → HasWidths b (gathering b m) d.branches → e.branches ≡ aligned d.branches → e.waits ≡ waiting n b m → e.place ≡ 0 → StandsFor n k b m e []
+pub start_stands : (n k b m : ℕ) (d e : Kept) → HasWidths b (gathering b m) d.branches → e.branches ≡ aligned d.branches
+    → e.waits ≡ waiting n b m → e.place ≡ 0 → StandsFor n k b m e []
 unfolding after_all
 start_stands n k b m d e h ev ew ep = record {
   start = aligned d.branches;

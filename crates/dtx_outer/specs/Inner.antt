@@ -8,7 +8,8 @@ use Rattle.dtx_laws.specs.Whitening.{whitened}
 use Rattle.dtx_outer.specs.declared.inner.Taken.{Taken}
 use Rattle.dtx_outer.specs.declared.inner.Taken.TheVariants.{None, Good, Bad}
 
--- the least number of blocks of n bytes that cover the delay of b * m * (b - 1) bytes: so many blocks of a run give no packet
+-- the least number of blocks of n bytes that cover the delay of b * m * (b - 1) bytes: so many blocks of a run give no
+-- packet
 unfoldable pub waiting : ℕ → ℕ → ℕ → ℕ
 waiting n b m = (b * m * (b - 1) + n - 1) / n
 
@@ -28,7 +29,8 @@ word_at n b m y k = map (λ p. slice_index y (place_of b m p)) (range_with_len (
 abbrev pub IsComplete : (n b m given k : ℕ) → Type 0
 IsComplete n b m given k = (j : ℕ) → j < n → place_of b m (n * k + j) < given
 
--- what is kept between calls: the whitener's bytes and the gatherer's branches, the last block that was gathered, how many
+-- what is kept between calls: the whitener's bytes and the gatherer's branches, the last block that was gathered, how
+-- many
 -- blocks more give no packet, and which packet of the whitener's period comes next
 pub record Kept : Type 0 where
   pub white : List ℕ
@@ -37,7 +39,8 @@ pub record Kept : Type 0 where
   pub waits : ℕ
   pub place : ℕ
 
--- What is kept is that of a run that has given the bytes y, in blocks of n. It began at an align, at which the branches held
+-- What is kept is that of a run that has given the bytes y, in blocks of n. It began at an align, at which the branches
+-- held
 -- any bytes, and before the first block any block may be kept.
 pub record StandsFor (n k b m : ℕ) (inner : Kept) (y : List ℕ) : Type 0 where
   pub start : Branching
@@ -50,14 +53,16 @@ pub record StandsFor (n k b m : ℕ) (inner : Kept) (y : List ℕ) : Type 0 wher
   pub waits : inner.waits ≡ waiting n b m - blocks
   pub place : inner.place ≡ (blocks - waiting n b m) % (length inner.white / k)
 
--- out are the data of a word that has a correction, which changes this many places: the first k bytes of the correction,
+-- out are the data of a word that has a correction, which changes this many places: the first k bytes of the
+-- correction,
 -- unwhitened from a place on
 pub record IsGood (n k : ℕ) (white : List ℕ) (from : ℕ) (word out : List ℕ) (fixed : ℕ) : Type 0 where
   pub code : List ℕ
   pub corrected : IsCorrected n k word code fixed
   pub bytes : out ≡ whitened white from (take k code)
 
--- out are the data of a word that has no correction: the first k bytes of the word as it was gathered, unwhitened from a
+-- out are the data of a word that has no correction: the first k bytes of the word as it was gathered, unwhitened from
+-- a
 -- place on
 pub record IsBad (n k : ℕ) (white : List ℕ) (from : ℕ) (word out : List ℕ) : Type 0 where
   pub none : (code : List ℕ) → IsCorrection n k word code → ⊥

@@ -1,3 +1,4 @@
 pub mod Outer
 pub mod Coding
 pub mod Inner
+pub mod WordsLaws

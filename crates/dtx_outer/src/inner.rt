@@ -1,6 +1,7 @@
 //! Gathers, corrects and unwhitens.
 
-ghost use Rattle.std.specs.Prelude.{◌≡◌, ℕ, ◌+◌, ◌-◌, ◌*◌, ◌/◌, ◌%◌, ◌<◌, ◌≤◌, ◌==◌, if◌then◌else◌, ◌++◌, List, [], length, take, drop};
+ghost use Rattle.std.specs.Prelude.{◌≡◌, ℕ, ◌+◌, ◌-◌, ◌*◌, ◌/◌, ◌%◌, ◌<◌, ◌≤◌, ◌==◌, if◌then◌else◌, ◌++◌, List, []};
+ghost use Rattle.std.specs.Prelude.{length, take, drop};
 ghost use Rattle.dtx_galois.specs.Field.{AreBytes};
 ghost use Rattle.dtx_laws.specs.Branches.{IsInterleaver, HasWidths, gathering, leaving_all, after_all};
 ghost use Rattle.dtx_laws.specs.Codeword.{IsCode};
@@ -25,9 +26,12 @@ pub enum Taken {
     Bad,
 }
 
-/// The way back through the outer coding of packets with `K` bytes of data (ATSC A/53 Part 2, data randomizer, Reed-Solomon
-/// encoder and interleaving), run by run: a run's first byte is one that came to branch 0 of the interleaver, and the first of
-/// a packet whose place in the whitener's period is 0. `StandsFor inner y` says that the run has given the bytes `y` so far.
+/// The way back through the outer coding of packets with `K` bytes of data (ATSC A/53 Part 2, data randomizer,
+/// Reed-Solomon
+/// encoder and interleaving), run by run: a run's first byte is one that came to branch 0 of the interleaver, and the
+/// first of
+/// a packet whose place in the whitener's period is 0. `StandsFor inner y` says that the run has given the bytes `y` so
+/// far.
 #[derive(Drop)]
 pub struct Inner<
     W: Whitener,
@@ -61,7 +65,13 @@ impl<
 
     ghost Value = { Kept };
 
-    ghost view = { λ inner. record { white = W.bytes inner.whitener; branches = G.seen inner.gather; before = inner.before; waits = inner.waits; place = inner.place } };
+    ghost view = { λ inner. record {
+      white = W.bytes inner.whitener;
+      branches = G.seen inner.gather;
+      before = inner.before;
+      waits = inner.waits;
+      place = inner.place;
+    } };
 
     ghost invariant = { λ inner. IsPeriod N K B W.PERIOD × (inner.place < W.PERIOD / K) };
 }
@@ -75,7 +85,8 @@ impl<
     const B: usize,
     const M: usize,
 > Inner<W, C, G, N, K, B, M> {
-    /// The way back by these three, at the start of a run. The whitener's period is a whole number of packets, whose codewords
+    /// The way back by these three, at the start of a run. The whitener's period is a whole number of packets, whose
+    /// codewords
     /// are a whole number of turns over the branches.
     pub fn new(whitener: W, code: C, gather: G) -> Self
         requires { IsPeriod N K B W.PERIOD }
@@ -106,7 +117,8 @@ impl<
         self.place = 0;
     }
 
-    /// The numbers are those of a code, of an interleaver and of a whole period, each branch holds as many bytes as it delays
+    /// The numbers are those of a code, of an interleaver and of a whole period, each branch holds as many bytes as it
+    /// delays
     /// by, and the whitener has a byte for each place of its period.
     pub fn known(&self)
         ensures period { IsPeriod N K B W.PERIOD }
@@ -120,14 +132,19 @@ impl<
         self.gather.known();
     }
 
-    /// The next block of a run. The first `waiting N B M` blocks of a run give no packet, and `out` stays. The block after `k`
-    /// more gives packet `k` of the run: the first `K` bytes of its word's correction, or of the word as it was gathered where
+    /// The next block of a run. The first `waiting N B M` blocks of a run give no packet, and `out` stays. The block
+    /// after `k`
+    /// more gives packet `k` of the run: the first `K` bytes of its word's correction, or of the word as it was
+    /// gathered where
     /// it has none, unwhitened as packet `k` of a stream.
     ///
     /// No call takes memory, and a run may have any number of blocks.
     pub fn take(&mut self, bytes: &[u8; N], out: &mut [u8; K]) -> Taken
-        ensures none { (y : List ℕ) → StandsFor N K B M self.old y → length y < N * waiting N B M → (result ≡ Taken.None) × (out.new ≡ out.old) }
-        ensures packet { (y : List ℕ) (k : ℕ) → StandsFor N K B M self.old y → length y ≡ N * (waiting N B M + k) → Gives N K self.old.white (K * (k % (length self.old.white / K))) (word_at N B M (y ++ bytes.now) k) out.new result }
+        ensures none { (y : List ℕ) → StandsFor N K B M self.old y → length y < N * waiting N B M
+            → (result ≡ Taken.None) × (out.new ≡ out.old) }
+        ensures packet { (y : List ℕ) (k : ℕ) → StandsFor N K B M self.old y → length y ≡ N * (waiting N B M + k)
+            → Gives N K self.old.white (K * (k % (length self.old.white / K)))
+            (word_at N B M (y ++ bytes.now) k) out.new result }
         ensures stands { (y : List ℕ) → StandsFor N K B M self.old y → StandsFor N K B M self.new (y ++ bytes.now) }
         ensures white { self.new.white ≡ self.old.white }
     {
@@ -143,13 +160,18 @@ impl<
         give(&self.code, &self.whitener, K * place, &mut word, out)
     }
 
-    /// Gathers a block. The word is the end of the block before it and the begin of this one, so that its first byte is the one
+    /// Gathers a block. The word is the end of the block before it and the begin of this one, so that its first byte is
+    /// the one
     /// that leaves `B * M * (B - 1)` bytes after a block of the run began.
     fn next_word(&mut self, bytes: &[u8; N], word: &mut [u8; N])
         requires code { IsCode N K }
         requires numbers { IsInterleaver B M }
-        ensures word { word.new ≡ drop (completing N B M) self.old.before ++ take (completing N B M) (leaving_all B self.old.branches bytes.now) }
-        ensures kept { self.new ≡ record self.old { branches = after_all B self.old.branches bytes.now; before = leaving_all B self.old.branches bytes.now } }
+        ensures word { word.new ≡ drop (completing N B M) self.old.before
+            ++ take (completing N B M) (leaving_all B self.old.branches bytes.now) }
+        ensures kept { self.new ≡ record self.old {
+          branches = after_all B self.old.branches bytes.now;
+          before = leaving_all B self.old.branches bytes.now;
+        } }
     {
         let mut now = *bytes;
         self.gather.gather(&mut now);

@@ -4,8 +4,6 @@
 mod inner;
 pub mod laws;
 mod outer;
-#[cfg(test)]
-mod tests;
 mod whitening;
 
 pub use inner::{Inner, Taken};

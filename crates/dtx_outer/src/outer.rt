@@ -52,7 +52,8 @@ impl<
     const B: usize,
     const M: usize,
 > Outer<W, C, S, N, K, B, M> {
-    /// The coding by these three. The whitener's period is a whole number of packets, whose codewords are a whole number
+    /// The coding by these three. The whitener's period is a whole number of packets, whose codewords are a whole
+    /// number
     /// of turns over the branches.
     pub fn new(whitener: W, code: C, spread: S) -> Self
         requires { IsPeriod N K B W.PERIOD }
@@ -84,7 +85,10 @@ impl<
     pub fn code(&mut self, place: usize, head: &[u8; K], out: &mut [u8; N])
         requires { K * place + K ≤ W.PERIOD }
         ensures bytes { out.new ≡ leaving_all B self.old.branches (coded N K self.old.white (K * place) head.now) }
-        ensures branches { self.new ≡ record self.old { branches = after_all B self.old.branches (coded N K self.old.white (K * place) head.now) } }
+        ensures branches { self.new ≡ record self.old {
+          branches = after_all B self.old.branches
+              (coded N K self.old.white (K * place) head.now);
+        } }
     {
         let white = whiten(&self.whitener, K * place, head);
         self.code.encode(&white, out);
@@ -96,68 +100,5 @@ impl<
         ensures { self.new ≡ record self.old { branches = aligned self.old.branches } }
     {
         self.spread.align();
-    }
-}
-
-#[cfg(test)]
-mod tests {
-    use super::*;
-    use dtx_rs::Rs;
-    use dtx_spread::Branches;
-    use dtx_whiten::Atsc;
-    use std::test::Fail;
-
-    fn data(k: usize) -> [u8; 187] {
-        let mut data = [0; 187];
-        for i in 0..187 {
-            data[i] = ((7 * i + 13 * (k % 256)) % 256) as u8;
-        }
-        data
-    }
-
-    fn sum_of(bytes: &[u8]) -> u32 {
-        bytes
-            .iter()
-            .fold(0u32, |sum, &byte| sum.wrapping_add(byte as u32))
-    }
-
-    // The numbers are those of a program in Python that follows the standard's equations: the randomizer's bytes as
-    // remainders modulo its generator polynomial, the twenty correction bytes by solving the equations that the word
-    // vanishes at the first twenty powers of α, and byte n of what leaves as byte n - 208 * (n mod 52) of what comes. From
-    // packet 60 on n is counted from the align, and where that place is before the first, the byte is the next of those
-    // that came to branch n mod 52 before the align and hadn't left.
-    #[test]
-    fn the_blocks_are_those_of_an_independent_program(rt: HostRuntime) -> Result<(), Fail> {
-        let blocks = [
-            (0, [213, 0, 0], 652),
-            (1, [0, 52, 181], 1_132),
-            (31, [40, 0, 34], 15_223),
-            (32, [171, 174, 212], 17_116),
-            (59, [177, 171, 231], 26_770),
-            (60, [204, 253, 72], 26_163),
-            (61, [187, 169, 126], 26_278),
-            (92, [166, 8, 37], 25_246),
-            (119, [184, 139, 179], 28_143),
-        ];
-        let mut outer = Outer::<Atsc, Rs<207, 187>, Branches<52, 4>, 207, 187, 52, 4>::new(
-            Atsc::new(rt.alloc())?,
-            Rs::new(),
-            Branches::new(rt.alloc())?,
-        );
-        let mut out = [0; 207];
-        for k in 0..120usize {
-            if k == 60 {
-                outer.align();
-            }
-            let place = if k < 60 { (280 + k) % 312 } else { k - 60 };
-            outer.code(place, &data(k), &mut out);
-            for (block, first, sum) in blocks {
-                if block == k {
-                    assert_eq!(rt; [out[0], out[1], out[2]], first, "block {k}");
-                    assert_eq!(rt; sum_of(&out), sum, "block {k}");
-                }
-            }
-        }
-        Ok(())
     }
 }

@@ -1,5 +1,6 @@
 -- The rows of an entry of the array `event`.
-use Rattle.std.specs.Prelude.{ℕ, ◌-◌, ◌==◌, ◌&&◌, nat_le, codes, Bool, map, if◌then◌else◌, List, [], ◌∷◌, length, Result, Ok}
+use Rattle.std.specs.Prelude.{ℕ, ◌-◌, ◌==◌, ◌&&◌, nat_le, codes, Bool, map, if◌then◌else◌, List, [], ◌∷◌, length}
+use Rattle.std.specs.Prelude.{Result, Ok}
 use Rattle.std.specs.List.{list_all}
 use Rattle.std.specs.Str.{bytes_eq}
 use Rattle.toml.specs.Data.{Data, Members, get_member}
@@ -32,8 +33,10 @@ kind entry item = text (get_member (codes "do") entry) key.Do item >>= λ word. 
 -- unknown: `do`, `to` and the keys of its kind
 abbrev pub known_keys : EventKind → Members → ℕ → Result (Unit {0}) PlanNo
 known_keys Send entry item = known (codes "do" ∷ codes "to" ∷ codes "from" ∷ codes "count" ∷ []) entry key.Event item
-known_keys Foreign entry item = known (codes "do" ∷ codes "to" ∷ codes "seed" ∷ codes "from" ∷ codes "count" ∷ []) entry key.Event item
-known_keys Flip entry item = known (codes "do" ∷ codes "to" ∷ codes "from" ∷ codes "at" ∷ codes "with" ∷ []) entry key.Event item
+known_keys Foreign entry item =
+    known (codes "do" ∷ codes "to" ∷ codes "seed" ∷ codes "from" ∷ codes "count" ∷ []) entry key.Event item
+known_keys Flip entry item =
+    known (codes "do" ∷ codes "to" ∷ codes "from" ∷ codes "at" ∷ codes "with" ∷ []) entry key.Event item
 known_keys Lie entry item = known (codes "do" ∷ codes "to" ∷ codes "from" ∷ codes "states" ∷ []) entry key.Event item
 known_keys Restart entry item = known (codes "do" ∷ codes "to" ∷ []) entry key.Event item
 

@@ -8,3 +8,5 @@ pub mod NetTable
 pub mod RootTable
 pub mod Plan
 pub mod Sound
+pub mod AddressesLaws
+pub mod WalksLaws

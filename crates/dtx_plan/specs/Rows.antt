@@ -1,8 +1,11 @@
--- What the rows of a plan share. The walk goes row by row, within a row rule by rule, and ends at the first rule that is broken.
-use Rattle.std.specs.Prelude.{◌≡◌, ℕ, ◌+◌, ℤ, pos, negsuc, Bool, ◌&&◌, nat_le, int_le, if◌then◌else◌, List, [], ◌∷◌, ◌++◌, Option, Some, None, Result, Ok, Err}
+-- What the rows of a plan share. The walk goes row by row, within a row rule by rule, and ends at the first rule that
+-- is broken.
+use Rattle.std.specs.Prelude.{◌≡◌, ℕ, ◌+◌, ℤ, pos, negsuc, Bool, ◌&&◌, nat_le, int_le, if◌then◌else◌, List, [], ◌∷◌}
+use Rattle.std.specs.Prelude.{◌++◌, Option, Some, None, Result, Ok, Err}
 use Rattle.std.specs.List.{list_any}
 use Rattle.std.specs.Str.{bytes_eq}
-use Rattle.toml.specs.Data.{Data, Items, no_items, item as item_of, Members, no_members, member, as_integer, as_array, as_str, as_table}
+use Rattle.toml.specs.Data.{Data, Items, no_items, item as item_of, Members, no_members, member, as_integer, as_array}
+use Rattle.toml.specs.Data.{as_str, as_table}
 use Rattle.dtx_plan.specs.declared.key.PlanKey.{PlanKey}
 use Rattle.dtx_plan.specs.declared.rule.PlanRule.{PlanRule}
 use Rattle.dtx_plan.specs.declared.rule.PlanRule.TheVariants.{Unknown, Missing, Kind, Range}
@@ -86,7 +89,8 @@ count_of (item_of d ds) = count_of ds + 1
 
 -- range: least to most entries
 abbrev pub numbered : Items → PlanKey → ℕ → ℕ → ℕ → Result Items PlanNo
-numbered ds key item least most = if nat_le least (count_of ds) && nat_le (count_of ds) most then Ok ds else refused key item Range
+numbered ds key item least most =
+    if nat_le least (count_of ds) && nat_le (count_of ds) most then Ok ds else refused key item Range
 
 -- kind array; range
 abbrev pub array_value : Data → PlanKey → ℕ → ℕ → ℕ → Result Items PlanNo
@@ -117,7 +121,8 @@ is_listed name names = list_any (λ listed. bytes_eq listed name) names
 -- unknown: each key of the table is one of these names
 abbrev pub known : List (List ℕ) → Members → PlanKey → ℕ → Result (Unit {0}) PlanNo
 known names no_members key item = Ok tt
-known names (member name d ms) key item = if is_listed name names then known names ms key item else refused key item Unknown
+known names (member name d ms) key item =
+    if is_listed name names then known names ms key item else refused key item Unknown
 
 -- the entries of an array, one after another behind the ones that are done: all rows of one before the next
 abbrev pub entries : {A : Type 0} → (List A → Data → Result A PlanNo) → List A → Items → Result (List A) PlanNo

@@ -1,5 +1,6 @@
 -- The rows of an entry of the array `transmitter`.
-use Rattle.std.specs.Prelude.{ℕ, pos, negsuc, codes, nat_eq, Bool, if◌then◌else◌, List, [], ◌∷◌, length, map, Result, Ok}
+use Rattle.std.specs.Prelude.{ℕ, pos, negsuc, codes, nat_eq, Bool, if◌then◌else◌, List, [], ◌∷◌, length, map, Result}
+use Rattle.std.specs.Prelude.{Ok}
 use Rattle.std.specs.List.{list_any}
 use Rattle.toml.specs.Data.{Data, get_member}
 use Rattle.dtx_plan.specs.declared.key.PlanKey.TheVariants as key

@@ -3,7 +3,8 @@ ghost use Rattle.std.specs.Prelude.{◌≡◌, ◌<◌, length, slice_get, Some}
 
 use std::marker::Model;
 
-/// One entry of damage: `put` stands in place of each of the `count` bytes from `at` on, which of a symbol file are symbols.
+/// One entry of damage: `put` stands in place of each of the `count` bytes from `at` on, which of a symbol file are
+/// symbols.
 #[derive(Clone, Copy, Debug, PartialEq, Eq)]
 pub struct Damage {
     pub at: u64,

@@ -146,7 +146,8 @@ pub(crate) fn array<'a>(
     least: usize,
     most: usize,
 ) -> Result<&'a [Value], PlanNo>
-    ensures row { seen_by (λ v. items_view v.now) result ≡ spec.array (get_member name.now (table_view table.now)) key item least most }
+    ensures row { seen_by (λ v. items_view v.now) result
+        ≡ spec.array (get_member name.now (table_view table.now)) key item least most }
     ensures within { IfOk result (λ v. (least ≤ length v.now) × (length v.now ≤ most)) }
 {
     match member(table, name) {
@@ -163,7 +164,8 @@ pub(crate) fn array_or_none<'a>(
     item: u32,
     most: usize,
 ) -> Result<&'a [Value], PlanNo>
-    ensures row { seen_by (λ v. items_view v.now) result ≡ spec.array_or_none (get_member name.now (table_view table.now)) key item most }
+    ensures row { seen_by (λ v. items_view v.now) result
+        ≡ spec.array_or_none (get_member name.now (table_view table.now)) key item most }
     ensures within { IfOk result (λ v. length v.now ≤ most) }
 {
     match member(table, name) {

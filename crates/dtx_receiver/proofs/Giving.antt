@@ -1,5 +1,7 @@
 -- What a block of a run's bytes gives.
-use Rattle.std.proofs.Common.{◌≡◌, ℕ, ◌+◌, ◌-◌, ◌*◌, ◌/◌, ◌%◌, ◌<◌, ◌≤◌, ◌⊎◌, Bool, true, false, Option, Some, None, List, [], ◌∷◌, ◌++◌, length, take, refl, sym, ap, ap₂, ◌∙◌, subst, append_assoc, inl, inr, arith}
+use Rattle.std.proofs.Common.{◌≡◌, ℕ, ◌+◌, ◌-◌, ◌*◌, ◌/◌, ◌%◌, ◌<◌, ◌≤◌, ◌⊎◌, Bool, true, false, Option, Some, None}
+use Rattle.std.proofs.Common.{List, [], ◌∷◌, ◌++◌, length, take, refl, sym, ap, ap₂, ◌∙◌, subst, append_assoc, inl, inr}
+use Rattle.std.proofs.Common.{arith}
 use Rattle.std.proofs.lemmas.Bool.{cases_lt}
 use Rattle.dtx_laws.specs.Codeword.{distance}
 use Rattle.dtx_laws.specs.Whitening.{whitened}
@@ -9,17 +11,18 @@ use Rattle.dtx_whiten.specs.Bytes.{length-randomizer_bytes}
 use Rattle.dtx_packets.specs.Packet.{with_error}
 use Rattle.dtx_packets.specs.declared.packet.Packet.{Packet}
 use Rattle.dtx_outer.specs.Inner.{Kept, StandsFor, IsGood, IsBad, waiting, word_at}
-use Rattle.dtx_outer.proofs.Words.{waiting_air, length-word, good_data, bad_data}
+use Rattle.dtx_outer.specs.WordsLaws.{waiting_air, length-word, good_data, bad_data}
 use Rattle.dtx_receiver.specs.declared.batch.Received.{Received}
 use Rattle.dtx_receiver.specs.Packets.{packet_bytes, received_by, received_at, early_of}
-use Rattle.dtx_receiver.proofs.Early.{early_short, early_next}
+use Rattle.dtx_receiver.specs.EarlyLaws.{early_short, early_next}
 
 -- the place of packet k among the randomizer's bytes
 place_is : (white : List ℕ) (k : ℕ) → white ≡ randomizer_bytes → 187 * (k % (length white / 187)) ≡ 187 * (k % 312)
 place_is white k e = ap (λ n. 187 * (k % (n / 187))) (ap length e ∙ length-randomizer_bytes)
 
 -- after s blocks, of which 52 give nothing
-calls_are : (bytes : List ℕ) (s : ℕ) → length bytes ≡ 207 * s → 52 ≤ s → length bytes ≡ 207 * (waiting 207 52 4 + (s - 52))
+calls_are : (bytes : List ℕ) (s : ℕ) → length bytes ≡ 207 * s → 52 ≤ s
+    → length bytes ≡ 207 * (waiting 207 52 4 + (s - 52))
 calls_are bytes s e l = e ∙ ap (λ n. 207 * n) (sum s l ∙ ap (λ w. w + (s - 52)) (sym waiting_air))
   where
     sum : (s : ℕ) → 52 ≤ s → s ≡ 52 + (s - 52)
@@ -57,8 +60,10 @@ received_good : (bytes : List ℕ) (k fixed : ℕ) (white out : List ℕ) → wh
 unfolding received_at
 received_good bytes k fixed white out e g =
     let word : List ℕ = word_at 207 52 4 bytes k in
-    let d = good_data 207 187 white (187 * (k % (length white / 187))) word out fixed (omega arith) (length-word 207 52 4 bytes k) g in
-    let same : whitened randomizer_bytes (187 * (k % 312)) (take 187 d.0) ≡ out = ap₂ (λ w p. whitened w p (take 187 d.0)) (sym e) (sym (place_is white k e)) ∙ sym d.3 in
+    let d = good_data 207 187 white (187 * (k % (length white / 187))) word out fixed (omega arith)
+    (length-word 207 52 4 bytes k) g in
+    let same : whitened randomizer_bytes (187 * (k % 312)) (take 187 d.0) ≡ out =
+    ap₂ (λ w p. whitened w p (take 187 d.0)) (sym e) (sym (place_is white k e)) ∙ sym d.3 in
     ap (received_by (187 * (k % 312)) word) d.1
     ∙ ap₂ (λ (o : List ℕ) (n : ℕ). record { packet = record { 0 = 0x47 ∷ o }; fixed = n; good = true }) same (sym d.2)
 
@@ -69,27 +74,36 @@ unfolding received_at
 received_bad bytes k white out e g =
     let word : List ℕ = word_at 207 52 4 bytes k in
     let d = bad_data 207 187 white (187 * (k % (length white / 187))) word out g in
-    let same : whitened randomizer_bytes (187 * (k % 312)) (take 187 word) ≡ out = ap₂ (λ w p. whitened w p (take 187 word)) (sym e) (sym (place_is white k e)) ∙ sym d.1 in
+    let same : whitened randomizer_bytes (187 * (k % 312)) (take 187 word) ≡ out =
+    ap₂ (λ w p. whitened w p (take 187 word)) (sym e) (sym (place_is white k e)) ∙ sym d.1 in
     ap (received_by (187 * (k % 312)) word) d.0
     ∙ ap (λ (o : List ℕ). record { packet = record { 0 = with_error (0x47 ∷ o) }; fixed = 0; good = false }) same
 
-pub gives_good : (inner : Kept) (before block out : List ℕ) (r : Received) (fixed : ℕ) → inner.white ≡ randomizer_bytes → StandsFor 207 187 52 4 inner before → length block ≡ 207
+pub gives_good : (inner : Kept) (before block out : List ℕ) (r : Received) (fixed : ℕ) → inner.white ≡ randomizer_bytes
+    → StandsFor 207 187 52 4 inner before → length block ≡ 207
     → (length before < 207 * waiting 207 52 4 → ⊥)
-    → ((k : ℕ) → length before ≡ 207 * (waiting 207 52 4 + k) → IsGood 207 187 inner.white (187 * (k % (length inner.white / 187))) (word_at 207 52 4 (before ++ block) k) out fixed)
+    → ((k : ℕ) → length before ≡ 207 * (waiting 207 52 4 + k)
+    → IsGood 207 187 inner.white (187 * (k % (length inner.white / 187)))
+    (word_at 207 52 4 (before ++ block) k) out fixed)
     → r ≡ record { packet = record { 0 = 0x47 ∷ out }; fixed = fixed; good = true }
     → early_of (before ++ block) ≡ early_of before ++ r ∷ []
 gives_good inner before block out r fixed w s l never is p =
-    one inner before block r s l never (λ k e. received_good (before ++ block) k fixed inner.white out w (is k e) ∙ sym p)
+    one inner before block r s l never (λ k e. received_good (before ++ block) k fixed inner.white out w (is k e)
+    ∙ sym p)
 
-pub gives_bad : (inner : Kept) (before block out : List ℕ) (r : Received) → inner.white ≡ randomizer_bytes → StandsFor 207 187 52 4 inner before → length block ≡ 207
+pub gives_bad : (inner : Kept) (before block out : List ℕ) (r : Received) → inner.white ≡ randomizer_bytes
+    → StandsFor 207 187 52 4 inner before → length block ≡ 207
     → (length before < 207 * waiting 207 52 4 → ⊥)
-    → ((k : ℕ) → length before ≡ 207 * (waiting 207 52 4 + k) → IsBad 207 187 inner.white (187 * (k % (length inner.white / 187))) (word_at 207 52 4 (before ++ block) k) out)
+    → ((k : ℕ) → length before ≡ 207 * (waiting 207 52 4 + k)
+    → IsBad 207 187 inner.white (187 * (k % (length inner.white / 187))) (word_at 207 52 4 (before ++ block) k) out)
     → r ≡ record { packet = record { 0 = with_error (0x47 ∷ out) }; fixed = 0; good = false }
     → early_of (before ++ block) ≡ early_of before ++ r ∷ []
 gives_bad inner before block out r w s l never is p =
     one inner before block r s l never (λ k e. received_bad (before ++ block) k inner.white out w (is k e) ∙ sym p)
 
 -- a batch that holds some of the early packets, with what a block gave
-pub with_more : (before after : List ℕ) (given old new brought : List Received) → early_of after ≡ early_of before ++ brought → new ≡ old ++ brought
+pub with_more : (before after : List ℕ) (given old new brought : List Received)
+    → early_of after ≡ early_of before ++ brought → new ≡ old ++ brought
     → early_of before ≡ given ++ old → early_of after ≡ given ++ new
-with_more before after given old new brought e f g = e ∙ ap (λ xs. xs ++ brought) g ∙ append_assoc given old brought ∙ ap (λ xs. given ++ xs) (sym f)
+with_more before after given old new brought e f g = e ∙ ap (λ xs. xs ++ brought) g ∙ append_assoc given old brought
+    ∙ ap (λ xs. given ++ xs) (sym f)

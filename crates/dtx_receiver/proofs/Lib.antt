@@ -1,11 +1,5 @@
-pub mod Ranges
-pub mod Complete
-pub mod Early
-pub mod Segments
-pub mod Following
 pub mod Stands
 pub mod Giving
 pub mod Answered
 pub mod Steps
-pub mod Intervals
 pub mod Counting

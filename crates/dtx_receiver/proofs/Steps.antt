@@ -1,5 +1,6 @@
 -- The five answers of a receiver, each with what is kept and given.
-use Rattle.std.proofs.Common.{◌≡◌, ◌≢◌, ℕ, ℤ, ◌+◌, ◌%◌, Bool, true, false, Option, Some, None, List, [], ◌∷◌, ◌++◌, length, refl, sym, ap, ◌∙◌, subst, arith}
+use Rattle.std.proofs.Common.{◌≡◌, ◌≢◌, ℕ, ℤ, ◌+◌, ◌%◌, Bool, true, false, Option, Some, None, List, [], ◌∷◌, ◌++◌}
+use Rattle.std.proofs.Common.{length, refl, sym, ap, ◌∙◌, subst, arith}
 use Rattle.std.proofs.lemmas.List.{append-nil, length_push}
 use Rattle.dtx_frame.specs.Detection.{looks_like}
 use Rattle.dtx_receiver.specs.declared.batch.Received.{Received}
@@ -8,14 +9,17 @@ use Rattle.dtx_receiver.specs.Runs.{Tracked, tracked}
 use Rattle.dtx_receiver.specs.Bytes.{bytes_in}
 use Rattle.dtx_receiver.specs.Packets.{packets_of, early_of, all_packets, given}
 use Rattle.dtx_receiver.specs.Receiver.{Decoding, Decodes, Kept, StandsFor, IsTaken}
-use Rattle.dtx_receiver.proofs.Segments.{Still, still_sync}
-use Rattle.dtx_receiver.proofs.Following.{searching, began, sync_came, ended_there, data_came, given_on, given_end, given_none, given_first, all_run, all_none}
+use Rattle.dtx_receiver.specs.SegmentsLaws.{Still, still_sync}
+use Rattle.dtx_receiver.specs.FollowingLaws.{searching, began, sync_came, ended_there, data_came, given_on, given_end}
+use Rattle.dtx_receiver.specs.FollowingLaws.{given_none, given_first, all_run, all_none}
 use Rattle.dtx_receiver.proofs.Stands.{decodes_sync, none_on, On, some_on, stands_none, stands_some}
 
-with_none : (s : List (List ℤ)) (x : List ℤ) (brought : List Received) → brought ≡ [] → given (s ++ x ∷ []) ≡ given s ++ [] → given (s ++ x ∷ []) ≡ given s ++ brought
+with_none : (s : List (List ℤ)) (x : List ℤ) (brought : List Received) → brought ≡ []
+    → given (s ++ x ∷ []) ≡ given s ++ [] → given (s ++ x ∷ []) ≡ given s ++ brought
 with_none s x brought b e = e ∙ ap (λ xs. given s ++ xs) (sym b)
 
-pub step_searching : (s : List (List ℤ)) (x : List ℤ) (kept : Kept) (brought : List Received) → StandsFor kept s → kept.place ≡ None → looks_like x ≡ false → brought ≡ []
+pub step_searching : (s : List (List ℤ)) (x : List ℤ) (kept : Kept) (brought : List Received) → StandsFor kept s
+    → kept.place ≡ None → looks_like x ≡ false → brought ≡ []
     → IsTaken s x kept Searching brought
 step_searching s x kept brought h p l b =
     let e = none_on kept s h p in
@@ -26,7 +30,8 @@ step_searching s x kept brought h p l b =
       packets = with_none s x brought b (given_none s x e t.0);
     }
 
-pub step_began : (s : List (List ℤ)) (x : List ℤ) (kept new : Kept) (brought : List Received) → StandsFor kept s → kept.place ≡ None → looks_like x ≡ true → brought ≡ []
+pub step_began : (s : List (List ℤ)) (x : List ℤ) (kept new : Kept) (brought : List Received) → StandsFor kept s
+    → kept.place ≡ None → looks_like x ≡ true → brought ≡ []
     → new.place ≡ Some 1 → Decodes new.decoding (x ∷ []) → IsTaken s x new Began brought
 step_began s x kept new brought h p l b n d =
     let e = none_on kept s h p in
@@ -37,13 +42,15 @@ step_began s x kept new brought h p l b n d =
       packets = with_none s x brought b (given_first s x e t.0);
     }
 
-next_place : (run : List (List ℤ)) (x : List ℤ) (p : ℕ) → length run % 313 ≡ p → (p + 1) % 313 ≡ length (run ++ x ∷ []) % 313
+next_place : (run : List (List ℤ)) (x : List ℤ) (p : ℕ) → length run % 313 ≡ p
+    → (p + 1) % 313 ≡ length (run ++ x ∷ []) % 313
 next_place run x p e = by_length (length run) e ∙ ap (λ n. n % 313) (sym (length_push run x))
   where
     by_length : (n : ℕ) → n % 313 ≡ p → (p + 1) % 313 ≡ (n + 1) % 313
     by_length n e = omega (arith, e)
 
-pub step_sync : (s : List (List ℤ)) (x : List ℤ) (kept new : Kept) (brought : List Received) → StandsFor kept s → kept.place ≡ Some 0 → looks_like x ≡ true → brought ≡ []
+pub step_sync : (s : List (List ℤ)) (x : List ℤ) (kept new : Kept) (brought : List Received) → StandsFor kept s
+    → kept.place ≡ Some 0 → looks_like x ≡ true → brought ≡ []
     → new.place ≡ Some 1 → new.decoding ≡ kept.decoding → IsTaken s x new Sync brought
 step_sync s x kept new brought h p l b n d =
     let o : On kept s 0 = some_on kept s 0 h p in
@@ -53,12 +60,16 @@ step_sync s x kept new brought h p l b n d =
       told = t.1;
       stands = stands_some new (s ++ x ∷ []) (o.run ++ x ∷ []) (ap (λ (u : Tracked). u.run) t.0)
           (n ∙ ap Some (next_place o.run x 0 o.place_is))
-          (subst (λ (k : Decoding). Decodes k (o.run ++ x ∷ [])) (sym d) (decodes_sync x kept.decoding o.run o.decodes o.place_is));
-      packets = with_none s x brought b (given_on s x o.run (o.run ++ x ∷ []) [] o.is t.0 (ap early_of still.bytes ∙ sym (append-nil (early_of (bytes_in o.run)))));
+          (subst (λ (k : Decoding). Decodes k (o.run ++ x ∷ [])) (sym d)
+          (decodes_sync x kept.decoding o.run o.decodes o.place_is));
+      packets = with_none s x brought b (given_on s x o.run (o.run ++ x ∷ []) [] o.is t.0 (ap early_of still.bytes
+          ∙ sym (append-nil (early_of (bytes_in o.run)))));
     }
 
-pub step_ended : (s : List (List ℤ)) (x : List ℤ) (kept new : Kept) (brought : List Received) → StandsFor kept s → kept.place ≡ Some 0 → looks_like x ≡ false
-    → new.place ≡ None → ((run : List (List ℤ)) → Decodes kept.decoding run → packets_of (bytes_in run) ≡ early_of (bytes_in run) ++ brought)
+pub step_ended : (s : List (List ℤ)) (x : List ℤ) (kept new : Kept) (brought : List Received) → StandsFor kept s
+    → kept.place ≡ Some 0 → looks_like x ≡ false
+    → new.place ≡ None → ((run : List (List ℤ)) → Decodes kept.decoding run
+    → packets_of (bytes_in run) ≡ early_of (bytes_in run) ++ brought)
     → IsTaken s x new Ended brought
 step_ended s x kept new brought h p l n g =
     let o : On kept s 0 = some_on kept s 0 h p in
@@ -73,8 +84,10 @@ pub record Carries (x : List ℤ) (new : Decoding) (run : List (List ℤ)) (brou
   pub decodes : Decodes new (run ++ x ∷ [])
   pub packets : early_of (bytes_in (run ++ x ∷ [])) ≡ early_of (bytes_in run) ++ brought
 
-pub step_data : (s : List (List ℤ)) (x : List ℤ) (kept new : Kept) (place : ℕ) (brought : List Received) → StandsFor kept s → kept.place ≡ Some place → place ≢ 0
-    → new.place ≡ Some ((place + 1) % 313) → ((run : List (List ℤ)) → Decodes kept.decoding run → length run % 313 ≡ place → Carries x new.decoding run brought)
+pub step_data : (s : List (List ℤ)) (x : List ℤ) (kept new : Kept) (place : ℕ) (brought : List Received)
+    → StandsFor kept s → kept.place ≡ Some place → place ≢ 0
+    → new.place ≡ Some ((place + 1) % 313) → ((run : List (List ℤ)) → Decodes kept.decoding run
+    → length run % 313 ≡ place → Carries x new.decoding run brought)
     → IsTaken s x new Data brought
 step_data s x kept new place brought h p z n g =
     let o : On kept s place = some_on kept s place h p in
@@ -82,17 +95,21 @@ step_data s x kept new place brought h p z n g =
     let c : Carries x new.decoding o.run brought = g o.run o.decodes o.place_is in
     record {
       told = t.1;
-      stands = stands_some new (s ++ x ∷ []) (o.run ++ x ∷ []) (ap (λ (u : Tracked). u.run) t.0) (n ∙ ap Some (next_place o.run x place o.place_is)) c.decodes;
+      stands = stands_some new (s ++ x ∷ []) (o.run ++ x ∷ []) (ap (λ (u : Tracked). u.run) t.0) (n
+          ∙ ap Some (next_place o.run x place o.place_is)) c.decodes;
       packets = given_on s x o.run (o.run ++ x ∷ []) brought o.is t.0 c.packets;
     }
 
 -- ---- the end of the list
 
-pub finish_none : (s : List (List ℤ)) (kept : Kept) (brought : List Received) → StandsFor kept s → kept.place ≡ None → brought ≡ [] → all_packets s ≡ given s ++ brought
+pub finish_none : (s : List (List ℤ)) (kept : Kept) (brought : List Received) → StandsFor kept s → kept.place ≡ None
+    → brought ≡ [] → all_packets s ≡ given s ++ brought
 finish_none s kept brought h p b = all_none s (none_on kept s h p) ∙ ap (λ xs. given s ++ xs) (sym b)
 
-pub finish_some : (s : List (List ℤ)) (kept : Kept) (place : ℕ) (brought : List Received) → StandsFor kept s → kept.place ≡ Some place
-    → ((run : List (List ℤ)) → Decodes kept.decoding run → packets_of (bytes_in run) ≡ early_of (bytes_in run) ++ brought) → all_packets s ≡ given s ++ brought
+pub finish_some : (s : List (List ℤ)) (kept : Kept) (place : ℕ) (brought : List Received) → StandsFor kept s
+    → kept.place ≡ Some place
+    → ((run : List (List ℤ)) → Decodes kept.decoding run
+    → packets_of (bytes_in run) ≡ early_of (bytes_in run) ++ brought) → all_packets s ≡ given s ++ brought
 finish_some s kept place brought h p g =
     let o : On kept s place = some_on kept s place h p in
     all_run s o.run brought o.is (g o.run o.decodes)

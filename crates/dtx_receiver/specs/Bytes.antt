@@ -24,7 +24,8 @@ levels_from run d n = flat_map (λ i. sliced_data (data_at run i)) (range_with_l
 unfoldable pub levels_in : List (List ℤ) → List ℕ
 levels_in run = levels_from run 0 (4 * groups_of run)
 
--- Z2 of the twelve coders before a run's first data segment: what the run's first field sync repeats. Later ones aren't used.
+-- Z2 of the twelve coders before a run's first data segment: what the run's first field sync repeats. Later ones aren't
+-- used.
 unfoldable pub first_formers : List (List ℤ) → List ℕ
 first_formers run = formers_of (sliced_last (slice_index_or run 0 []))
 

@@ -3,3 +3,9 @@ pub mod Intervals
 pub mod Bytes
 pub mod Packets
 pub mod Receiver
+pub mod CompleteLaws
+pub mod RangesLaws
+pub mod SegmentsLaws
+pub mod FollowingLaws
+pub mod IntervalsLaws
+pub mod EarlyLaws

@@ -1,5 +1,6 @@
 -- The packets of runs (ATSC A/53 Part 2, Reed-Solomon encoder, interleaving and data randomizer: the way back).
-use Rattle.std.specs.Prelude.{ℕ, ℤ, ◌+◌, ◌-◌, ◌*◌, ◌/◌, ◌%◌, nat_lt, Bool, true, false, Option, Some, None, List, [], ◌∷◌, ◌++◌, length, map, take, filter, option_to_list}
+use Rattle.std.specs.Prelude.{ℕ, ℤ, ◌+◌, ◌-◌, ◌*◌, ◌/◌, ◌%◌, nat_lt, Bool, true, false, Option, Some, None, List, []}
+use Rattle.std.specs.Prelude.{◌∷◌, ◌++◌, length, map, take, filter, option_to_list}
 use Rattle.std.specs.List.{range_with_len, list_all, flat_map}
 use Rattle.dtx_laws.specs.Codeword.{distance}
 use Rattle.dtx_laws.specs.Whitening.{whitened}
@@ -19,14 +20,24 @@ is_complete count k = list_all (λ j. nat_lt (place_of 52 4 (207 * k + j)) count
 abbrev pub packet_bytes : ℕ → List ℕ → List ℕ
 packet_bytes from word = 0x47 ∷ whitened randomizer_bytes from (take 187 word)
 
--- The packet of a word, by the word's correction. Where it has none, the packet has the word's own data and the error indicator.
+-- The packet of a word, by the word's correction. Where it has none, the packet has the word's own data and the error
+-- indicator.
 abbrev pub received_by : ℕ → List ℕ → Option (List ℕ) → Received
-received_by from word (Some code) = record { packet = record { 0 = packet_bytes from code }; fixed = distance word code; good = true }
-received_by from word None = record { packet = record { 0 = with_error (packet_bytes from word) }; fixed = 0; good = false }
+received_by from word (Some code) = record {
+  packet = record { 0 = packet_bytes from code };
+  fixed = distance word code;
+  good = true;
+}
+received_by from word None = record {
+  packet = record { 0 = with_error (packet_bytes from word) };
+  fixed = 0;
+  good = false;
+}
 
 -- packet k of the bytes of a run, which is whitened as packet k of a stream
 unfoldable pub received_at : List ℕ → ℕ → Received
-received_at bytes k = received_by (187 * (k % 312)) (word_at 207 52 4 bytes k) (correction 207 187 (word_at 207 52 4 bytes k))
+received_at bytes k =
+    received_by (187 * (k % 312)) (word_at 207 52 4 bytes k) (correction 207 187 (word_at 207 52 4 bytes k))
 
 -- The packets of a run: each whose bytes are all there. There is at most one for each 207 bytes.
 unfoldable pub packets_of : List ℕ → List Received
@@ -40,7 +51,8 @@ early_of bytes = map (received_at bytes) (range_with_len 0 (length bytes / 207 -
 unfoldable pub all_packets : List (List ℤ) → List Received
 all_packets segments = flat_map (λ run. packets_of (bytes_in run)) (runs segments)
 
--- those that are given before the list ends: those of the runs that have ended, and the early ones of the run that is on
+-- those that are given before the list ends: those of the runs that have ended, and the early ones of the run that is
+-- on
 unfoldable pub given : List (List ℤ) → List Received
 given segments =
     flat_map (λ run. packets_of (bytes_in run)) (tracked segments).ended

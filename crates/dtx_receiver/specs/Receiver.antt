@@ -1,5 +1,6 @@
 -- What a receiver keeps, and the segments that it stands for.
-use Rattle.std.specs.Prelude.{ℕ, ℤ, ◌≡◌, ◌*◌, ◌<◌, ◌%◌, Option, option_map, IfSome, EachIndex, List, [], ◌∷◌, ◌++◌, length, take, slice_index}
+use Rattle.std.specs.Prelude.{ℕ, ℤ, ◌≡◌, ◌*◌, ◌<◌, ◌%◌, Option, option_map, IfSome, EachIndex, List, [], ◌∷◌, ◌++◌}
+use Rattle.std.specs.Prelude.{length, take, slice_index}
 use Rattle.dtx_outer.specs.Inner as inner
 use Rattle.dtx_whiten.specs.Randomizer.{randomizer_bytes}
 use Rattle.dtx_receiver.specs.declared.batch.Received.{Received}
@@ -8,7 +9,8 @@ use Rattle.dtx_receiver.specs.Runs.{tracked, tracking}
 use Rattle.dtx_receiver.specs.Packets.{given}
 use Rattle.dtx_receiver.specs.Bytes.{data_count, groups_of, levels_from, levels_in, formers_in, bytes_in}
 
--- what is kept of a run: the levels of the group that is on, Z2 of the twelve coders before it, the outer coding's way back, and
+-- what is kept of a run: the levels of the group that is on, Z2 of the twelve coders before it, the outer coding's way
+-- back, and
 -- how many data segments are in whole groups, modulo 52
 pub record Decoding : Type 0 where
   pub levels : List ℕ
@@ -35,15 +37,18 @@ pub record StandsFor (receiver : Kept) (segments : List (List ℤ)) : Type 0 whe
   pub place : receiver.place ≡ option_map (λ run. length run % 313) (tracked segments).run
   pub run : IfSome (tracked segments).run (λ run. Decodes receiver.decoding run)
 
--- Whatever the decoder of runs was given: each level is one of eight, the whitener's bytes are the randomizer's, and the turn is
+-- Whatever the decoder of runs was given: each level is one of eight, the whitener's bytes are the randomizer's, and
+-- the turn is
 -- one of 52.
 pub record IsDecoding (levels : List ℕ) (inner : inner.Kept) (turn : ℕ) : Type 0 where
   pub small : EachIndex levels (λ d. slice_index levels d < 8)
   pub white : inner.white ≡ randomizer_bytes
   pub in_turn : turn < 52
 
--- A segment behind these is told what it is; then the receiver stands for the longer list, and brings what is given more.
-pub record IsTaken (segments : List (List ℤ)) (x : List ℤ) (new : Kept) (answer : Tracking) (brought : List Received) : Type 0 where
+-- A segment behind these is told what it is; then the receiver stands for the longer list, and brings what is given
+-- more.
+pub record IsTaken (segments : List (List ℤ)) (x : List ℤ) (new : Kept) (answer : Tracking)
+    (brought : List Received) : Type 0 where
   pub told : answer ≡ tracking segments x
   pub stands : StandsFor new (segments ++ x ∷ [])
   pub packets : given (segments ++ x ∷ []) ≡ given segments ++ brought

@@ -60,8 +60,10 @@ impl Decoder {
     pub(crate) fn take(&mut self, place: u16, segment: &[i8; SEGMENT], batch: &mut Batch)
         requires place { place < FIELD }
         requires room { length batch.old.packets.items ≤ 4 }
-        ensures stands { (run : List (List ℤ)) → Decodes self.old run → length run % 313 ≡ place + 1 → Decodes self.new (run ++ segment.now ∷ []) }
-        ensures packets { (run : List (List ℤ)) (before : List Received) → Decodes self.old run → length run % 313 ≡ place + 1
+        ensures stands { (run : List (List ℤ)) → Decodes self.old run → length run % 313 ≡ place + 1
+            → Decodes self.new (run ++ segment.now ∷ []) }
+        ensures packets { (run : List (List ℤ)) (before : List Received) → Decodes self.old run
+            → length run % 313 ≡ place + 1
             → early_of (bytes_in run) ≡ before ++ batch.old.packets.items
             → early_of (bytes_in (run ++ segment.now ∷ [])) ≡ before ++ batch.new.packets.items }
     {
@@ -75,7 +77,8 @@ impl Decoder {
     /// The run has ended: what is left of its packets.
     pub(crate) fn end(&mut self, batch: &mut Batch)
         requires room { length batch.old.packets.items ≤ 4 }
-        ensures { (run : List (List ℤ)) (before : List Received) → Decodes self.old run → early_of (bytes_in run) ≡ before ++ batch.old.packets.items
+        ensures { (run : List (List ℤ)) (before : List Received) → Decodes self.old run
+            → early_of (bytes_in run) ≡ before ++ batch.old.packets.items
             → packets_of (bytes_in run) ≡ before ++ batch.new.packets.items }
     {
         if self.turn == 0 {
@@ -92,9 +95,13 @@ impl Decoder {
         ensures formers { self.new.formers ≡ formers_after first self.old.formers self.old.levels }
         ensures turn { self.new.turn ≡ (self.old.turn + 4) % 52 }
         ensures stands { (before : List ℕ) → StandsFor CODEWORD PACKET_DATA BRANCHES BRANCH_STEP self.old.inner before
-            → StandsFor CODEWORD PACKET_DATA BRANCHES BRANCH_STEP self.new.inner (before ++ bytes_back first self.old.formers self.old.levels) }
-        ensures packets { (before : List ℕ) (given : List Received) → StandsFor CODEWORD PACKET_DATA BRANCHES BRANCH_STEP self.old.inner before
-            → early_of before ≡ given ++ batch.old.packets.items → early_of (before ++ bytes_back first self.old.formers self.old.levels) ≡ given ++ batch.new.packets.items }
+            → StandsFor CODEWORD PACKET_DATA BRANCHES BRANCH_STEP self.new.inner (before
+            ++ bytes_back first self.old.formers self.old.levels) }
+        ensures packets { (before : List ℕ) (given : List Received)
+            → StandsFor CODEWORD PACKET_DATA BRANCHES BRANCH_STEP self.old.inner before
+            → early_of before ≡ given ++ batch.old.packets.items
+            → early_of (before ++ bytes_back first self.old.formers self.old.levels) ≡ given
+            ++ batch.new.packets.items }
     {
         let mut bytes = [0; GROUP_BYTES];
         self.unroll.group(first, &self.levels, &mut bytes);

@@ -7,31 +7,40 @@ ghost use Rattle.dtx_receiver.specs.Packets.{all_packets, given, is_complete};
 ghost use Rattle.dtx_receiver.specs.declared.batch.Received.{Received};
 ghost use Rattle.dtx_receiver.specs.Runs.{runs, begun, tracking};
 
-/// The runs of a list are those of its intervals that `AreRuns` names, and there is just one list of such intervals. No run is
+/// The runs of a list are those of its intervals that `AreRuns` names, and there is just one list of such intervals. No
+/// run is
 /// there just where no segment looks like a field sync.
 pub fn intervals()
-    ensures are { (segments : List (List ℤ)) → (places : List (ℕ × ℕ)) × AreRuns segments 0 places × (runs segments ≡ map (segments_in segments) places) }
-    ensures only { (segments : List (List ℤ)) (from : ℕ) (a b : List (ℕ × ℕ)) → AreRuns segments from a → AreRuns segments from b → a ≡ b }
+    ensures are { (segments : List (List ℤ)) → (places : List (ℕ × ℕ)) × AreRuns segments 0 places
+        × (runs segments ≡ map (segments_in segments) places) }
+    ensures only { (segments : List (List ℤ)) (from : ℕ) (a b : List (ℕ × ℕ)) → AreRuns segments from a
+        → AreRuns segments from b → a ≡ b }
     ensures none { (segments : List (List ℤ)) → (length (runs segments) ≡ 0) ↔ NoneLooks segments 0 (length segments) }
 {}
 
 /// With one segment more there is one run more just where the segment is told to begin one.
 pub fn one_more()
     ensures none { runs [] ≡ [] }
-    ensures count { (segments : List (List ℤ)) (x : List ℤ) → length (runs (segments ++ x ∷ [])) ≡ length (runs segments) + begun (tracking segments x) }
+    ensures count { (segments : List (List ℤ)) (x : List ℤ)
+        → length (runs (segments ++ x ∷ [])) ≡ length (runs segments) + begun (tracking segments x) }
 {}
 
 /// What is given with one segment more, and what is left at the end of the list, comes behind what was given before.
 pub fn goes_on()
     ensures none { given [] ≡ [] }
-    ensures segment { (segments : List (List ℤ)) (x : List ℤ) → (brought : List Received) × (given (segments ++ x ∷ []) ≡ given segments ++ brought) }
-    ensures end { (segments : List (List ℤ)) → (brought : List Received) × (all_packets segments ≡ given segments ++ brought) }
+    ensures segment { (segments : List (List ℤ)) (x : List ℤ)
+        → (brought : List Received) × (given (segments ++ x ∷ []) ≡ given segments ++ brought) }
+    ensures end { (segments : List (List ℤ)) → (brought : List Received)
+        × (all_packets segments ≡ given segments ++ brought) }
 {}
 
-/// All bytes of packet k are among those of `count` data segments just where 53 of these or more stand from the packet's own on, or
+/// All bytes of packet k are among those of `count` data segments just where 53 of these or more stand from the
+/// packet's own on, or
 /// 52 and 52 divides k.
 pub fn complete()
     ensures told { (count k : ℕ) → is_complete count k ≡ true ↔ IsComplete 207 52 4 count k }
-    ensures only { (count k : ℕ) → IsComplete 207 52 4 (207 * count) k → (k + 53 ≤ count) ⊎ ((k + 52 ≡ count) × (k % 52 ≡ 0)) }
-    ensures all { (count k : ℕ) → (k + 53 ≤ count) ⊎ ((k + 52 ≡ count) × (k % 52 ≡ 0)) → IsComplete 207 52 4 (207 * count) k }
+    ensures only { (count k : ℕ) → IsComplete 207 52 4 (207 * count) k
+        → (k + 53 ≤ count) ⊎ ((k + 52 ≡ count) × (k % 52 ≡ 0)) }
+    ensures all { (count k : ℕ) → (k + 53 ≤ count) ⊎ ((k + 52 ≡ count) × (k % 52 ≡ 0))
+        → IsComplete 207 52 4 (207 * count) k }
 {}

@@ -41,9 +41,12 @@ pub(crate) fn give(inner: &mut OuterDecoding, block: &[u8; CODEWORD], batch: &mu
     requires white { inner.old.white ≡ randomizer_bytes }
     requires room { length batch.old.packets.items < MOST_RECEIVED }
     ensures white { inner.new.white ≡ randomizer_bytes }
-    ensures stands { (before : List ℕ) → StandsFor CODEWORD PACKET_DATA BRANCHES BRANCH_STEP inner.old before → StandsFor CODEWORD PACKET_DATA BRANCHES BRANCH_STEP inner.new (before ++ block.now) }
-    ensures packets { (before : List ℕ) (given : List Received) → StandsFor CODEWORD PACKET_DATA BRANCHES BRANCH_STEP inner.old before
-        → early_of before ≡ given ++ batch.old.packets.items → early_of (before ++ block.now) ≡ given ++ batch.new.packets.items }
+    ensures stands { (before : List ℕ) → StandsFor CODEWORD PACKET_DATA BRANCHES BRANCH_STEP inner.old before
+        → StandsFor CODEWORD PACKET_DATA BRANCHES BRANCH_STEP inner.new (before ++ block.now) }
+    ensures packets { (before : List ℕ) (given : List Received)
+        → StandsFor CODEWORD PACKET_DATA BRANCHES BRANCH_STEP inner.old before
+        → early_of before ≡ given ++ batch.old.packets.items
+        → early_of (before ++ block.now) ≡ given ++ batch.new.packets.items }
     ensures few { length batch.new.packets.items ≤ length batch.old.packets.items + 1 }
 {
     let mut head = [0; PACKET_DATA];
@@ -59,9 +62,12 @@ pub(crate) fn give_group(inner: &mut OuterDecoding, bytes: &[u8; GROUP_BYTES], b
     requires white { inner.old.white ≡ randomizer_bytes }
     requires room { length batch.old.packets.items ≤ 4 }
     ensures white { inner.new.white ≡ randomizer_bytes }
-    ensures stands { (before : List ℕ) → StandsFor CODEWORD PACKET_DATA BRANCHES BRANCH_STEP inner.old before → StandsFor CODEWORD PACKET_DATA BRANCHES BRANCH_STEP inner.new (before ++ bytes.now) }
-    ensures packets { (before : List ℕ) (given : List Received) → StandsFor CODEWORD PACKET_DATA BRANCHES BRANCH_STEP inner.old before
-        → early_of before ≡ given ++ batch.old.packets.items → early_of (before ++ bytes.now) ≡ given ++ batch.new.packets.items }
+    ensures stands { (before : List ℕ) → StandsFor CODEWORD PACKET_DATA BRANCHES BRANCH_STEP inner.old before
+        → StandsFor CODEWORD PACKET_DATA BRANCHES BRANCH_STEP inner.new (before ++ bytes.now) }
+    ensures packets { (before : List ℕ) (given : List Received)
+        → StandsFor CODEWORD PACKET_DATA BRANCHES BRANCH_STEP inner.old before
+        → early_of before ≡ given ++ batch.old.packets.items
+        → early_of (before ++ bytes.now) ≡ given ++ batch.new.packets.items }
 {
     let (blocks, _) = bytes.as_chunks::<CODEWORD>();
     for block in blocks {

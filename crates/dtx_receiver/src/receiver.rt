@@ -13,7 +13,8 @@ use dtx_frame::{SEGMENT, looks};
 use std::alloc::{AllocError, Global};
 use std::marker::Model;
 
-/// Receives the transport packets of segments, which come one after another. `StandsFor receiver segments` says that the
+/// Receives the transport packets of segments, which come one after another. `StandsFor receiver segments` says that
+/// the
 /// receiver holds what these segments leave. Segments may hold any signed bytes, and there may be any number of them.
 #[derive(Drop)]
 pub struct Receiver {
@@ -43,12 +44,16 @@ impl Receiver {
         })
     }
 
-    /// Receives the next segment: tells what it is, and gives the packets that become whole with it, in place of what the batch
-    /// held. A packet is given with the group of four data segments from which on 53 data segments or more stand in whole
+    /// Receives the next segment: tells what it is, and gives the packets that become whole with it, in place of what
+    /// the batch
+    /// held. A packet is given with the group of four data segments from which on 53 data segments or more stand in
+    /// whole
     /// groups from the packet's own on, or else with the segment that ends the run. No call takes memory.
     pub fn take(&mut self, segment: &[i8; SEGMENT], batch: &mut Batch) -> Tracking
-        ensures answer { (segments : List (List ℤ)) → StandsFor self.old segments → result ≡ tracking segments segment.now }
-        ensures stands { (segments : List (List ℤ)) → StandsFor self.old segments → StandsFor self.new (segments ++ segment.now ∷ []) }
+        ensures answer { (segments : List (List ℤ)) → StandsFor self.old segments
+            → result ≡ tracking segments segment.now }
+        ensures stands { (segments : List (List ℤ)) → StandsFor self.old segments
+            → StandsFor self.new (segments ++ segment.now ∷ []) }
         ensures packets { (segments : List (List ℤ)) → StandsFor self.old segments
             → given (segments ++ segment.now ∷ []) ≡ given segments ++ batch.new.packets.items }
     {
@@ -59,7 +64,8 @@ impl Receiver {
     /// Receives the next segment, where the batch is empty.
     fn follow(&mut self, segment: &[i8; SEGMENT], batch: &mut Batch) -> Tracking
         requires { batch.old.packets.items ≡ [] }
-        ensures { (segments : List (List ℤ)) → StandsFor self.old segments → IsTaken segments segment.now self.new result batch.new.packets.items }
+        ensures { (segments : List (List ℤ)) → StandsFor self.old segments
+            → IsTaken segments segment.now self.new result batch.new.packets.items }
     {
         match self.place {
             None => {
@@ -87,7 +93,8 @@ impl Receiver {
         }
     }
 
-    /// Ends the run that is on, if one is: gives the packets that are left, in place of what the batch held. The next segment is
+    /// Ends the run that is on, if one is: gives the packets that are left, in place of what the batch held. The next
+    /// segment is
     /// received as the first.
     pub fn finish(&mut self, batch: &mut Batch)
         ensures stands { StandsFor self.new [] }

@@ -1,54 +1,69 @@
 -- The data and then the register that was fed with them are the codeword.
-use Rattle.std.proofs.Common.{◌≡◌, ℕ, ◌+◌, ◌-◌, ◌<◌, ◌≤◌, List, ◌++◌, length, take, replicate, sym, ap, ap₂, ◌∙◌, subst, arith}
+use Rattle.std.proofs.Common.{◌≡◌, ℕ, ◌+◌, ◌-◌, ◌<◌, ◌≤◌, List, ◌++◌, length, take, replicate, sym, ap, ap₂, ◌∙◌, subst}
+use Rattle.std.proofs.Common.{arith}
 use Rattle.std.proofs.lemmas.List.{length-replicate, take_at, take-replicate, replicate-append-replicate}
 use Rattle.std.proofs.Math.Seq.{take-append-add}
 use Rattle.dtx_galois.specs.Field.{AreBytes}
 use Rattle.dtx_laws.specs.Codeword.{IsCode, IsCodeword}
 use Rattle.dtx_laws.specs.Register.{generator, register}
 use Rattle.dtx_laws.specs.Words.{codeword}
-use Rattle.dtx_laws.proofs.Encoding.{encoded, encoded_is, length_generator, length_register}
-use Rattle.dtx_laws.proofs.Choice.{codeword_is, codeword_only}
+use Rattle.dtx_laws.specs.EncodingLaws.{encoded, encoded_is, length_generator, length_register}
+use Rattle.dtx_laws.specs.ChoiceLaws.{codeword_is, codeword_only}
 use Rattle.dtx_rs.proofs.Linear.{register_padded}
 
-pub encoded_codeword : (n k : ℕ) (head : List ℕ) → n ≤ 255 → k < n → length head ≡ k → AreBytes head → encoded (n - k) head ≡ codeword n k head
+pub encoded_codeword : (n k : ℕ) (head : List ℕ) → n ≤ 255 → k < n → length head ≡ k → AreBytes head
+    → encoded (n - k) head ≡ codeword n k head
 encoded_codeword n k head s l e b =
-    codeword_only n k head (encoded (n - k) head) s l e b (encoded_is n k head l e b) (take_at head (register (generator (n - k)) (replicate (n - k) 0) head) k e)
+    codeword_only n k head (encoded (n - k) head) s l e b (encoded_is n k head l e b)
+    (take_at head (register (generator (n - k)) (replicate (n - k) 0) head) k e)
 
 -- with zeros behind the generator, the register's first bytes are those without
 pub register_front : (m n : ℕ) (divisor head : List ℕ) → 0 < m → m ≤ n → divisor ≡ generator m ++ replicate (n - m) 0
     → take m (register divisor (replicate n 0) head) ≡ register (generator m) (replicate m 0) head
 register_front m n divisor head p l e =
     let whole : m + (n - m) ≡ n = omega arith in
-    let zeros : replicate {A = ℕ} n 0 ≡ replicate m 0 ++ replicate (n - m) 0 = sym (replicate-append-replicate m (n - m) 0 ∙ ap (λ k. replicate k 0) whole) in
+    let zeros : replicate {A = ℕ} n 0 ≡ replicate m 0 ++ replicate (n - m) 0 =
+    sym (replicate-append-replicate m (n - m) 0 ∙ ap (λ k. replicate k 0) whole) in
     let long : length (replicate {A = ℕ} m 0) ≡ m = length-replicate {A = ℕ} m 0 in
     ap (take m)
     (ap₂ (λ g rs. register g rs head) e zeros
     ∙ register_padded (generator m) (replicate m 0) head (n - m) (long ∙ sym (length_generator m)) (omega arith))
-    ∙ take_at (register (generator m) (replicate m 0) head) (replicate (n - m) 0) m (length_register (generator m) (replicate m 0) head ∙ long)
+    ∙ take_at (register (generator m) (replicate m 0) head) (replicate (n - m) 0) m
+    (length_register (generator m) (replicate m 0) head ∙ long)
 
-front_padded : (m n w : ℕ) (divisor : List ℕ) → m ≤ w → w ≤ n → divisor ≡ generator m ++ replicate (n - m) 0 → take w divisor ≡ generator m ++ replicate (w - m) 0
+front_padded : (m n w : ℕ) (divisor : List ℕ) → m ≤ w → w ≤ n → divisor ≡ generator m ++ replicate (n - m) 0
+    → take w divisor ≡ generator m ++ replicate (w - m) 0
 front_padded m n w divisor l r e =
     let whole : w ≡ length (generator m) + (w - m) = omega (arith, length_generator m) in
-    ap₂ take whole e ∙ take-append-add (generator m) (replicate (n - m) 0) (w - m) ∙ ap (λ xs. generator m ++ xs) (take-replicate (w - m) (n - m) 0 (omega arith))
+    ap₂ take whole e ∙ take-append-add (generator m) (replicate (n - m) 0) (w - m)
+    ∙ ap (λ xs. generator m ++ xs) (take-replicate (w - m) (n - m) 0 (omega arith))
 
 -- by a table of a divisor of w coefficients
-pub table_codeword : (n k w : ℕ) (divisor table head parity word new : List ℕ) → IsCode n k → n - k ≤ w → w ≤ 256 → divisor ≡ generator (n - k) ++ replicate (256 - (n - k)) 0 → table ≡ take w divisor
-    → length head ≡ k → length word ≡ n → AreBytes head → parity ≡ register table (replicate w 0) head → new ≡ head ++ take (length word - length head) parity → new ≡ codeword n k head
+pub table_codeword : (n k w : ℕ) (divisor table head parity word new : List ℕ) → IsCode n k → n - k ≤ w → w ≤ 256
+    → divisor ≡ generator (n - k) ++ replicate (256 - (n - k)) 0 → table ≡ take w divisor
+    → length head ≡ k → length word ≡ n → AreBytes head → parity ≡ register table (replicate w 0) head
+    → new ≡ head ++ take (length word - length head) parity → new ≡ codeword n k head
 table_codeword n k w divisor table head parity word new code few wide d t lh lw b r e =
     e ∙ ap (λ xs. head ++ xs)
     (ap₂ take (ap₂ ◌-◌ lw lh) r
-    ∙ register_front (n - k) w table head (omega (arith, code.longer)) few (t ∙ front_padded (n - k) 256 w divisor few wide d))
+    ∙ register_front (n - k) w table head (omega (arith, code.longer)) few (t
+    ∙ front_padded (n - k) 256 w divisor few wide d))
     ∙ encoded_codeword n k head code.short code.longer lh b
 
 -- byte by byte
-pub register_codeword : (n k : ℕ) (divisor head new : List ℕ) → IsCode n k → divisor ≡ generator (n - k) ++ replicate (256 - (n - k)) 0 → length head ≡ k → AreBytes head
-    → new ≡ head ++ register (take (n - k) divisor) (replicate (length (take (n - k) divisor)) 0) head → new ≡ codeword n k head
+pub register_codeword : (n k : ℕ) (divisor head new : List ℕ) → IsCode n k
+    → divisor ≡ generator (n - k) ++ replicate (256 - (n - k)) 0 → length head ≡ k → AreBytes head
+    → new ≡ head ++ register (take (n - k) divisor) (replicate (length (take (n - k) divisor)) 0) head
+    → new ≡ codeword n k head
 register_codeword n k divisor head new code d lh b e =
-    let front : take (n - k) divisor ≡ generator (n - k) = ap (take (n - k)) d ∙ take_at (generator (n - k)) (replicate (256 - (n - k)) 0) (n - k) (length_generator (n - k)) in
+    let front : take (n - k) divisor ≡ generator (n - k) =
+    ap (take (n - k)) d
+    ∙ take_at (generator (n - k)) (replicate (256 - (n - k)) 0) (n - k) (length_generator (n - k)) in
     e ∙ ap (λ g. head ++ register g (replicate (length g) 0) head) front
     ∙ ap (λ j. head ++ register (generator (n - k)) (replicate j 0) head) (length_generator (n - k))
     ∙ encoded_codeword n k head code.short code.longer lh b
 
 -- what was made is a codeword
-pub made_codeword : (n k : ℕ) (head new : List ℕ) → IsCode n k → length head ≡ k → AreBytes head → new ≡ codeword n k head → IsCodeword n k new
+pub made_codeword : (n k : ℕ) (head new : List ℕ) → IsCode n k → length head ≡ k → AreBytes head
+    → new ≡ codeword n k head → IsCodeword n k new
 made_codeword n k head new code l b e = subst (IsCodeword n k) (sym e) (codeword_is n k head code.longer l b)

@@ -1,23 +1,26 @@
 -- The register keeps sums, so that many bytes are fed in one step.
-use Rattle.std.proofs.Common.{◌≡◌, ℕ, zero, suc, ◌<◌, List, [], ◌∷◌, ◌++◌, length, replicate, bit_xor, refl, sym, ap, ap₂, ◌∙◌, arith}
+use Rattle.std.proofs.Common.{◌≡◌, ℕ, zero, suc, ◌<◌, List, [], ◌∷◌, ◌++◌, length, replicate, bit_xor, refl, sym, ap}
+use Rattle.std.proofs.Common.{ap₂, ◌∙◌, arith}
 use Rattle.std.proofs.lemmas.List.{length_push, append_assoc, append-nil, length-replicate}
 use Rattle.std.specs.Int.Bits.{xor_comm, xor_assoc, xor_self, xor_zero_r}
 use Rattle.dtx_galois.specs.Field.{mul}
 use Rattle.dtx_galois.specs.Word.{sums, scaled}
-use Rattle.dtx_galois.proofs.Linear.{mul_left, xor_swap}
-use Rattle.dtx_galois.proofs.Field.{mul_zero, zero_mul}
-use Rattle.dtx_galois.proofs.Words.{length_sums, length_scaled}
+use Rattle.dtx_galois.specs.LinearLaws.{mul_left, xor_swap}
+use Rattle.dtx_galois.specs.FieldLaws.{mul_zero, zero_mul}
+use Rattle.dtx_galois.specs.WordsLaws.{length_sums, length_scaled}
 use Rattle.dtx_laws.specs.Register.{fed, register}
-use Rattle.dtx_laws.proofs.Encoding.{length_register}
+use Rattle.dtx_laws.specs.EncodingLaws.{length_register}
 
 -- ---- sums of words of one length
 
-sums_swap : (a b c d : List ℕ) → length a ≡ length b → length c ≡ length d → length a ≡ length c → sums (sums a b) (sums c d) ≡ sums (sums a c) (sums b d)
+sums_swap : (a b c d : List ℕ) → length a ≡ length b → length c ≡ length d → length a ≡ length c
+    → sums (sums a b) (sums c d) ≡ sums (sums a c) (sums b d)
 sums_swap [] b c d l m n = refl
 sums_swap (x ∷ a) [] c d l m n = absurd (omega arith)
 sums_swap (x ∷ a) (y ∷ b) [] d l m n = absurd (omega arith)
 sums_swap (x ∷ a) (y ∷ b) (z ∷ c) [] l m n = absurd (omega arith)
-sums_swap (x ∷ a) (y ∷ b) (z ∷ c) (w ∷ d) l m n = ap₂ ◌∷◌ (xor_swap x y z w) (sums_swap a b c d (omega arith) (omega arith) (omega arith))
+sums_swap (x ∷ a) (y ∷ b) (z ∷ c) (w ∷ d) l m n =
+    ap₂ ◌∷◌ (xor_swap x y z w) (sums_swap a b c d (omega arith) (omega arith) (omega arith))
 
 pub sums_append : (xs ys us vs : List ℕ) → length xs ≡ length ys → sums (xs ++ us) (ys ++ vs) ≡ sums xs ys ++ sums us vs
 sums_append [] [] us vs l = refl
@@ -47,33 +50,40 @@ sums_back [] [] l = refl
 sums_back [] (y ∷ ys) l = absurd (omega arith)
 sums_back (x ∷ xs) [] l = absurd (omega arith)
 sums_back (x ∷ xs) (y ∷ ys) l =
-    ap₂ ◌∷◌ (ap (bit_xor y) (xor_comm x y) ∙ sym (xor_assoc y y x) ∙ ap (λ (z : ℕ). bit_xor z x) (xor_self y) ∙ xor_comm 0 x ∙ xor_zero_r x) (sums_back xs ys (omega arith))
+    ap₂ ◌∷◌ (ap (bit_xor y) (xor_comm x y) ∙ sym (xor_assoc y y x) ∙ ap (λ (z : ℕ). bit_xor z x) (xor_self y)
+    ∙ xor_comm 0 x ∙ xor_zero_r x) (sums_back xs ys (omega arith))
 
 -- ---- the register keeps sums
 
 length_fed : (divisor rs : List ℕ) (b : ℕ) → length (fed divisor rs b) ≡ length rs
 length_fed divisor rs b = length_register divisor rs (b ∷ [])
 
-fed_sums : (divisor rs us : List ℕ) (b c : ℕ) → length rs ≡ length us → length rs ≡ length divisor → fed divisor (sums rs us) (bit_xor b c) ≡ sums (fed divisor rs b) (fed divisor us c)
+fed_sums : (divisor rs us : List ℕ) (b c : ℕ) → length rs ≡ length us → length rs ≡ length divisor
+    → fed divisor (sums rs us) (bit_xor b c) ≡ sums (fed divisor rs b) (fed divisor us c)
 fed_sums divisor [] us b c l m = refl
 fed_sums divisor (r ∷ rs) [] b c l m = absurd (omega arith)
 fed_sums divisor (r ∷ rs) (u ∷ us) b c l m =
-    ap₂ (λ xs f. sums xs (scaled f divisor)) (sym (sums_append rs us (0 ∷ []) (0 ∷ []) (omega arith))) (xor_swap b c r u)
+    ap₂ (λ xs f. sums xs (scaled f divisor)) (sym (sums_append rs us (0 ∷ []) (0 ∷ []) (omega arith)))
+    (xor_swap b c r u)
     ∙ ap (sums (sums (rs ++ 0 ∷ []) (us ++ 0 ∷ []))) (scaled_sum (bit_xor b r) (bit_xor c u) divisor)
     ∙ sums_swap (rs ++ 0 ∷ []) (us ++ 0 ∷ []) (scaled (bit_xor b r) divisor) (scaled (bit_xor c u) divisor)
-    (omega (arith, length_push rs 0, length_push us 0)) (length_scaled (bit_xor b r) divisor ∙ sym (length_scaled (bit_xor c u) divisor))
+    (omega (arith, length_push rs 0, length_push us 0)) (length_scaled (bit_xor b r) divisor
+    ∙ sym (length_scaled (bit_xor c u) divisor))
     (omega (arith, length_push rs 0, length_scaled (bit_xor b r) divisor))
 
-pub register_sums : (divisor rs us bs cs : List ℕ) → length rs ≡ length us → length rs ≡ length divisor → length bs ≡ length cs
+pub register_sums : (divisor rs us bs cs : List ℕ) → length rs ≡ length us → length rs ≡ length divisor
+    → length bs ≡ length cs
     → register divisor (sums rs us) (sums bs cs) ≡ sums (register divisor rs bs) (register divisor us cs)
 register_sums divisor rs us [] [] l m n = refl
 register_sums divisor rs us [] (c ∷ cs) l m n = absurd (omega arith)
 register_sums divisor rs us (b ∷ bs) [] l m n = absurd (omega arith)
 register_sums divisor rs us (b ∷ bs) (c ∷ cs) l m n =
     ap (λ xs. register divisor xs (sums bs cs)) (fed_sums divisor rs us b c l m)
-    ∙ register_sums divisor (fed divisor rs b) (fed divisor us c) bs cs (length_fed divisor rs b ∙ l ∙ sym (length_fed divisor us c)) (length_fed divisor rs b ∙ m) (omega arith)
+    ∙ register_sums divisor (fed divisor rs b) (fed divisor us c) bs cs (length_fed divisor rs b ∙ l
+    ∙ sym (length_fed divisor us c)) (length_fed divisor rs b ∙ m) (omega arith)
 
-pub register_append : (divisor rs bs cs : List ℕ) → register divisor rs (bs ++ cs) ≡ register divisor (register divisor rs bs) cs
+pub register_append : (divisor rs bs cs : List ℕ)
+    → register divisor rs (bs ++ cs) ≡ register divisor (register divisor rs bs) cs
 register_append divisor rs [] cs = refl
 register_append divisor rs (b ∷ bs) cs = register_append divisor (fed divisor rs b) bs cs
 
@@ -88,25 +98,31 @@ zero_fed divisor zero = refl
 zero_fed divisor (suc n) = zero_scaled (replicate n 0 ++ 0 ∷ []) divisor ∙ zeros_push n
 
 -- zeros before the data count for nothing
-pub zeros_before : (divisor bs : List ℕ) (n j : ℕ) → register divisor (replicate n 0) (replicate j 0 ++ bs) ≡ register divisor (replicate n 0) bs
+pub zeros_before : (divisor bs : List ℕ) (n j : ℕ)
+    → register divisor (replicate n 0) (replicate j 0 ++ bs) ≡ register divisor (replicate n 0) bs
 zeros_before divisor bs n zero = refl
-zeros_before divisor bs n (suc j) = ap (λ rs. register divisor rs (replicate j 0 ++ bs)) (zero_fed divisor n) ∙ zeros_before divisor bs n j
+zeros_before divisor bs n (suc j) = ap (λ rs. register divisor rs (replicate j 0 ++ bs)) (zero_fed divisor n)
+    ∙ zeros_before divisor bs n j
 
 -- what the register's own first bytes feed moves it
 own_shift : (divisor top rest : List ℕ) → register divisor (top ++ rest) top ≡ rest ++ replicate (length top) 0
 own_shift divisor [] rest = sym (append-nil rest)
 own_shift divisor (r ∷ top) rest =
-    ap (λ xs. register divisor xs top) (ap (λ f. sums ((top ++ rest) ++ 0 ∷ []) (scaled f divisor)) (xor_self r) ∙ zero_scaled ((top ++ rest) ++ 0 ∷ []) divisor ∙ append_assoc top rest (0 ∷ []))
+    ap (λ xs. register divisor xs top) (ap (λ f. sums ((top ++ rest) ++ 0 ∷ []) (scaled f divisor)) (xor_self r)
+    ∙ zero_scaled ((top ++ rest) ++ 0 ∷ []) divisor ∙ append_assoc top rest (0 ∷ []))
     ∙ own_shift divisor top (rest ++ 0 ∷ []) ∙ append_assoc rest (0 ∷ []) (replicate (length top) 0)
 
 -- A step by many bytes: the register moves, and what the sums feed to zeros is added.
 pub big_step : (divisor top rest bs : List ℕ) → length bs ≡ length top → length (top ++ rest) ≡ length divisor
-    → register divisor (top ++ rest) bs ≡ sums (rest ++ replicate (length top) 0) (register divisor (replicate (length (top ++ rest)) 0) (sums bs top))
+    → register divisor (top ++ rest) bs ≡ sums (rest ++ replicate (length top) 0)
+    (register divisor (replicate (length (top ++ rest)) 0) (sums bs top))
 big_step divisor top rest bs l m =
     let ls : length (sums bs top) ≡ length bs = length_sums bs top in
     ap₂ (register divisor) (sym (sums_zeros (top ++ rest))) (sym (sums_back bs top l))
-    ∙ register_sums divisor (top ++ rest) (replicate (length (top ++ rest)) 0) top (sums bs top) (sym (length-replicate {A = ℕ} (length (top ++ rest)) 0)) m (omega arith)
-    ∙ ap (λ xs. sums xs (register divisor (replicate (length (top ++ rest)) 0) (sums bs top))) (own_shift divisor top rest)
+    ∙ register_sums divisor (top ++ rest) (replicate (length (top ++ rest)) 0) top (sums bs top)
+    (sym (length-replicate {A = ℕ} (length (top ++ rest)) 0)) m (omega arith)
+    ∙ ap (λ xs. sums xs (register divisor (replicate (length (top ++ rest)) 0) (sums bs top)))
+    (own_shift divisor top rest)
 
 -- ---- a divisor with zeros behind it
 
@@ -122,13 +138,17 @@ zeros_sum : (p : ℕ) → ◌≡◌ {A = List ℕ} (sums (replicate p 0) (replic
 zeros_sum zero = refl
 zeros_sum (suc p) = ap (◌∷◌ 0) (zeros_sum p)
 
-fed_padded : (divisor rs : List ℕ) (p b : ℕ) → length rs ≡ length divisor → 0 < length rs → fed (divisor ++ replicate p 0) (rs ++ replicate p 0) b ≡ fed divisor rs b ++ replicate p 0
+fed_padded : (divisor rs : List ℕ) (p b : ℕ) → length rs ≡ length divisor → 0 < length rs
+    → fed (divisor ++ replicate p 0) (rs ++ replicate p 0) b ≡ fed divisor rs b ++ replicate p 0
 fed_padded divisor [] p b l s = absurd (omega arith)
 fed_padded divisor (r ∷ rs) p b l s =
-    let long : length (rs ++ 0 ∷ []) ≡ length (scaled (bit_xor b r) divisor) = omega (arith, length_push rs 0, length_scaled (bit_xor b r) divisor) in
+    let long : length (rs ++ 0 ∷ []) ≡ length (scaled (bit_xor b r) divisor) =
+    omega (arith, length_push rs 0, length_scaled (bit_xor b r) divisor) in
     ap₂ sums
-    (append_assoc rs (replicate p 0) (0 ∷ []) ∙ ap (λ xs. rs ++ xs) (zeros_push p) ∙ sym (append_assoc rs (0 ∷ []) (replicate p 0)))
-    (scaled_append (bit_xor b r) divisor (replicate p 0) ∙ ap (λ xs. scaled (bit_xor b r) divisor ++ xs) (scaled_zeros (bit_xor b r) p))
+    (append_assoc rs (replicate p 0) (0 ∷ []) ∙ ap (λ xs. rs ++ xs) (zeros_push p)
+    ∙ sym (append_assoc rs (0 ∷ []) (replicate p 0)))
+    (scaled_append (bit_xor b r) divisor (replicate p 0)
+    ∙ ap (λ xs. scaled (bit_xor b r) divisor ++ xs) (scaled_zeros (bit_xor b r) p))
     ∙ sums_append (rs ++ 0 ∷ []) (scaled (bit_xor b r) divisor) (replicate p 0) (replicate p 0) long
     ∙ ap (λ xs. sums (rs ++ 0 ∷ []) (scaled (bit_xor b r) divisor) ++ xs) (zeros_sum p)
 
@@ -138,4 +158,5 @@ pub register_padded : (divisor rs bs : List ℕ) (p : ℕ) → length rs ≡ len
 register_padded divisor rs [] p l s = refl
 register_padded divisor rs (b ∷ bs) p l s =
     ap (λ xs. register (divisor ++ replicate p 0) xs bs) (fed_padded divisor rs p b l s)
-    ∙ register_padded divisor (fed divisor rs b) bs p (length_fed divisor rs b ∙ l) (omega (arith, length_fed divisor rs b))
+    ∙ register_padded divisor (fed divisor rs b) bs p (length_fed divisor rs b
+    ∙ l) (omega (arith, length_fed divisor rs b))

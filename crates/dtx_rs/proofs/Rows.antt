@@ -1,25 +1,30 @@
 -- What is fed to zeros is a sum of rows, and rows follow from rows.
-use Rattle.std.proofs.Common.{◌≡◌, ℕ, zero, suc, ◌+◌, ◌<◌, ◌⊎◌, inl, inr, List, [], ◌∷◌, ◌++◌, length, get_or, set, take, replicate, bit_xor, refl, sym, ap, ap₂, ◌∙◌, subst, arith}
+use Rattle.std.proofs.Common.{◌≡◌, ℕ, zero, suc, ◌+◌, ◌<◌, ◌⊎◌, inl, inr, List, [], ◌∷◌, ◌++◌, length, get_or, set}
+use Rattle.std.proofs.Common.{take, replicate, bit_xor, refl, sym, ap, ap₂, ◌∙◌, subst, arith}
 use Rattle.std.proofs.lemmas.List.{length-replicate, take_more, get_or-set_same, get_or-set_other}
 use Rattle.std.specs.Int.Bits.{xor_zero_r}
 use Rattle.dtx_galois.specs.Word.{sums}
 use Rattle.dtx_laws.specs.Register.{fed, register}
-use Rattle.dtx_laws.proofs.Encoding.{length_register}
+use Rattle.dtx_laws.specs.EncodingLaws.{length_register}
 use Rattle.dtx_rs.specs.Table.{row}
 use Rattle.dtx_rs.proofs.Linear.{zeros_sums, register_sums, register_append, zero_fed, big_step}
 
 pub length_row : (divisor : List ℕ) (f k : ℕ) → length (row divisor f k) ≡ length divisor
-length_row divisor f k = length_register divisor (replicate (length divisor) 0) (f ∷ replicate k 0) ∙ length-replicate {A = ℕ} (length divisor) 0
+length_row divisor f k = length_register divisor (replicate (length divisor) 0) (f ∷ replicate k 0)
+    ∙ length-replicate {A = ℕ} (length divisor) 0
 
 -- the first byte's part is its row
-rows_sum : (divisor bs : List ℕ) (b : ℕ) → register divisor (replicate (length divisor) 0) (b ∷ bs) ≡ sums (row divisor b (length bs)) (register divisor (replicate (length divisor) 0) bs)
+rows_sum : (divisor bs : List ℕ) (b : ℕ) → register divisor (replicate (length divisor) 0) (b ∷ bs)
+    ≡ sums (row divisor b (length bs)) (register divisor (replicate (length divisor) 0) bs)
 rows_sum divisor bs b =
     ap₂ (register divisor) (sym (zeros_zeros divisor)) (ap₂ ◌∷◌ (sym (xor_zero_r b)) (sym (zeros_sums bs)))
-    ∙ register_sums divisor (replicate (length divisor) 0) (replicate (length divisor) 0) (b ∷ replicate (length bs) 0) (0 ∷ bs) refl (length-replicate {A = ℕ} (length divisor) 0)
+    ∙ register_sums divisor (replicate (length divisor) 0) (replicate (length divisor) 0) (b ∷ replicate (length bs) 0)
+    (0 ∷ bs) refl (length-replicate {A = ℕ} (length divisor) 0)
     (ap suc (length-replicate {A = ℕ} (length bs) 0))
     ∙ ap (λ xs. sums (row divisor b (length bs)) (register divisor xs bs)) (zero_fed divisor (length divisor))
   where
-    zeros_zeros : (divisor : List ℕ) → sums (replicate (length divisor) 0) (replicate (length divisor) 0) ≡ replicate (length divisor) 0
+    zeros_zeros : (divisor : List ℕ) → sums (replicate (length divisor) 0) (replicate (length divisor) 0)
+        ≡ replicate (length divisor) 0
     zeros_zeros [] = refl
     zeros_zeros (c ∷ divisor) = ap (◌∷◌ 0) (zeros_zeros divisor)
 
@@ -30,16 +35,20 @@ zeros_end (suc k) = ap (◌∷◌ 0) (zeros_end k)
 -- the row at one place earlier: one more zero is fed
 pub row_more : (divisor : List ℕ) (f k : ℕ) → row divisor f (suc k) ≡ fed divisor (row divisor f k) 0
 row_more divisor f k =
-    ap (λ xs. register divisor (fed divisor (replicate (length divisor) 0) f) xs) (zeros_end k) ∙ register_append divisor (fed divisor (replicate (length divisor) 0) f) (replicate k 0) (0 ∷ [])
+    ap (λ xs. register divisor (fed divisor (replicate (length divisor) 0) f) xs) (zeros_end k)
+    ∙ register_append divisor (fed divisor (replicate (length divisor) 0) f) (replicate k 0) (0 ∷ [])
 
-four_rows : (divisor : List ℕ) (a b c d : ℕ) → register divisor (replicate (length divisor) 0) (a ∷ b ∷ c ∷ d ∷ []) ≡ sums (row divisor a 3) (sums (row divisor b 2) (sums (row divisor c 1) (row divisor d 0)))
+four_rows : (divisor : List ℕ) (a b c d : ℕ) → register divisor (replicate (length divisor) 0) (a ∷ b ∷ c ∷ d ∷ [])
+    ≡ sums (row divisor a 3) (sums (row divisor b 2) (sums (row divisor c 1) (row divisor d 0)))
 four_rows divisor a b c d =
-    rows_sum divisor (b ∷ c ∷ d ∷ []) a ∙ ap (sums (row divisor a 3)) (rows_sum divisor (c ∷ d ∷ []) b ∙ ap (sums (row divisor b 2)) (rows_sum divisor (d ∷ []) c))
+    rows_sum divisor (b ∷ c ∷ d ∷ []) a ∙ ap (sums (row divisor a 3)) (rows_sum divisor (c ∷ d ∷ []) b
+    ∙ ap (sums (row divisor b 2)) (rows_sum divisor (d ∷ []) c))
 
 -- A step by four bytes: the register moves by four places, and four rows are added.
 pub four_fed : (divisor rest : List ℕ) (s0 s1 s2 s3 b0 b1 b2 b3 : ℕ) → length rest + 4 ≡ length divisor
     → register divisor (s0 ∷ s1 ∷ s2 ∷ s3 ∷ rest) (b0 ∷ b1 ∷ b2 ∷ b3 ∷ [])
-    ≡ sums (rest ++ replicate 4 0) (sums (row divisor (bit_xor b0 s0) 3) (sums (row divisor (bit_xor b1 s1) 2) (sums (row divisor (bit_xor b2 s2) 1) (row divisor (bit_xor b3 s3) 0))))
+    ≡ sums (rest ++ replicate 4 0) (sums (row divisor (bit_xor b0 s0) 3)
+    (sums (row divisor (bit_xor b1 s1) 2) (sums (row divisor (bit_xor b2 s2) 1) (row divisor (bit_xor b3 s3) 0))))
 four_fed divisor rest s0 s1 s2 s3 b0 b1 b2 b3 l =
     let m : length ((s0 ∷ s1 ∷ s2 ∷ s3 ∷ []) ++ rest) ≡ length divisor = omega arith in
     big_step divisor (s0 ∷ s1 ∷ s2 ∷ s3 ∷ []) rest (b0 ∷ b1 ∷ b2 ∷ b3 ∷ []) refl m
@@ -49,31 +58,43 @@ four_fed divisor rest s0 s1 s2 s3 b0 b1 b2 b3 l =
 
 -- ---- along the data
 
-register_more : (divisor rs bs : List ℕ) (i : ℕ) → i < length bs → fed divisor (register divisor rs (take i bs)) (get_or bs i 0) ≡ register divisor rs (take (i + 1) bs)
-register_more divisor rs bs i l = sym (ap (register divisor rs) (take_more bs i 0 l) ∙ register_append divisor rs (take i bs) (get_or bs i 0 ∷ []))
+register_more : (divisor rs bs : List ℕ) (i : ℕ) → i < length bs
+    → fed divisor (register divisor rs (take i bs)) (get_or bs i 0) ≡ register divisor rs (take (i + 1) bs)
+register_more divisor rs bs i l = sym (ap (register divisor rs) (take_more bs i 0 l)
+    ∙ register_append divisor rs (take i bs) (get_or bs i 0 ∷ []))
 
 register_four : (divisor rs bs : List ℕ) (i : ℕ) → i + 3 < length bs
-    → register divisor (register divisor rs (take i bs)) (get_or bs i 0 ∷ get_or bs (i + 1) 0 ∷ get_or bs (i + 2) 0 ∷ get_or bs (i + 3) 0 ∷ []) ≡ register divisor rs (take (i + 4) bs)
+    → register divisor (register divisor rs (take i bs))
+    (get_or bs i 0 ∷ get_or bs (i + 1) 0 ∷ get_or bs (i + 2) 0 ∷ get_or bs (i + 3) 0 ∷ [])
+    ≡ register divisor rs (take (i + 4) bs)
 register_four divisor rs bs i l =
     let a1 : i + 1 + 1 ≡ i + 2 = omega arith in
     let a2 : i + 2 + 1 ≡ i + 3 = omega arith in
     let a3 : i + 3 + 1 ≡ i + 4 = omega arith in
-    let more : (j : ℕ) → j < length bs → fed divisor (register divisor rs (take j bs)) (get_or bs j 0) ≡ register divisor rs (take (j + 1) bs) = λ j m. register_more divisor rs bs j m in
-    ap (λ xs. register divisor xs (get_or bs (i + 1) 0 ∷ get_or bs (i + 2) 0 ∷ get_or bs (i + 3) 0 ∷ [])) (more i (omega arith))
-    ∙ ap (λ xs. register divisor xs (get_or bs (i + 2) 0 ∷ get_or bs (i + 3) 0 ∷ [])) (more (i + 1) (omega arith) ∙ ap (λ j. register divisor rs (take j bs)) a1)
-    ∙ ap (λ xs. register divisor xs (get_or bs (i + 3) 0 ∷ [])) (more (i + 2) (omega arith) ∙ ap (λ j. register divisor rs (take j bs)) a2)
+    let more : (j : ℕ) → j < length bs → fed divisor (register divisor rs (take j bs)) (get_or bs j 0)
+    ≡ register divisor rs (take (j + 1) bs) = λ j m. register_more divisor rs bs j m in
+    ap (λ xs. register divisor xs (get_or bs (i + 1) 0 ∷ get_or bs (i + 2) 0 ∷ get_or bs (i + 3) 0 ∷ []))
+    (more i (omega arith))
+    ∙ ap (λ xs. register divisor xs (get_or bs (i + 2) 0 ∷ get_or bs (i + 3) 0 ∷ [])) (more (i + 1) (omega arith)
+    ∙ ap (λ j. register divisor rs (take j bs)) a1)
+    ∙ ap (λ xs. register divisor xs (get_or bs (i + 3) 0 ∷ [])) (more (i + 2) (omega arith)
+    ∙ ap (λ j. register divisor rs (take j bs)) a2)
     ∙ more (i + 3) (omega arith) ∙ ap (λ j. register divisor rs (take j bs)) a3
 
 -- one turn of the loop over the steps, where state and next are the registers' bytes
-pub step_along : (divisor rs head state next : List ℕ) (at : ℕ) → at + 3 < length head → state ≡ register divisor rs (take at head)
-    → next ≡ register divisor state (get_or head at 0 ∷ get_or head (at + 1) 0 ∷ get_or head (at + 2) 0 ∷ get_or head (at + 3) 0 ∷ []) → next ≡ register divisor rs (take (at + 4) head)
+pub step_along : (divisor rs head state next : List ℕ) (at : ℕ) → at + 3 < length head
+    → state ≡ register divisor rs (take at head)
+    → next ≡ register divisor state (get_or head at 0 ∷ get_or head (at + 1) 0 ∷ get_or head (at + 2) 0 ∷ get_or head
+    (at + 3) 0 ∷ []) → next ≡ register divisor rs (take (at + 4) head)
 step_along divisor rs head state next at l e f =
-    f ∙ ap (λ xs. register divisor xs (get_or head at 0 ∷ get_or head (at + 1) 0 ∷ get_or head (at + 2) 0 ∷ get_or head (at + 3) 0 ∷ [])) e ∙ register_four divisor rs head at l
+    f ∙ ap (λ xs. register divisor xs (get_or head at 0 ∷ get_or head (at + 1) 0 ∷ get_or head (at + 2) 0 ∷ get_or head
+    (at + 3) 0 ∷ [])) e ∙ register_four divisor rs head at l
 
 -- ---- along the table
 
 -- what holds of each row below i, after row i is written
-pub rows_more : (P : ℕ → List ℕ → Type 0) (xs : List (List ℕ)) (i : ℕ) (x : List ℕ) → i < length xs → ((k : ℕ) → k < i → P k (get_or xs k [])) → P i x → (k : ℕ) → k < i + 1 → P k (get_or (set xs i x) k [])
+pub rows_more : (P : ℕ → List ℕ → Type 0) (xs : List (List ℕ)) (i : ℕ) (x : List ℕ) → i < length xs
+    → ((k : ℕ) → k < i → P k (get_or xs k [])) → P i x → (k : ℕ) → k < i + 1 → P k (get_or (set xs i x) k [])
 rows_more P xs i x l h q k m = by_place (last_or_below i k m)
   where
     last_or_below : (i k : ℕ) → k < i + 1 → (k ≡ i) ⊎ (k < i)
@@ -83,5 +104,6 @@ rows_more P xs i x l h q k m = by_place (last_or_below i k m)
     below_not i k r s = omega arith
 
     by_place : (k ≡ i) ⊎ (k < i) → P k (get_or (set xs i x) k [])
-    by_place (inl e) = subst (λ (j : ℕ). P j (get_or (set xs i x) j [])) (sym e) (subst (P i) (sym (get_or-set_same xs i x [] l)) q)
+    by_place (inl e) =
+        subst (λ (j : ℕ). P j (get_or (set xs i x) j [])) (sym e) (subst (P i) (sym (get_or-set_same xs i x [] l)) q)
     by_place (inr r) = subst (P k) (sym (get_or-set_other xs i k x [] (λ s. below_not i k r s))) (h k r)

@@ -1,25 +1,31 @@
 -- A step by four bytes, as the code takes it over words.
-use Rattle.std.proofs.Common.{◌≡◌, ℕ, zero, suc, ◌+◌, ◌*◌, ◌<◌, List, [], ◌∷◌, ◌++◌, length, get_or, drop, bit_xor, refl, sym, ap, ap₂, ◌∙◌, arith}
+use Rattle.std.proofs.Common.{◌≡◌, ℕ, zero, suc, ◌+◌, ◌*◌, ◌<◌, List, [], ◌∷◌, ◌++◌, length, get_or, drop, bit_xor}
+use Rattle.std.proofs.Common.{refl, sym, ap, ap₂, ◌∙◌, arith}
 use Rattle.std.proofs.lemmas.List.{length_push, length-drop, get_or-drop}
 use Rattle.std.proofs.lemmas.Nat.{be_bytes_4}
 use Rattle.std.specs.Int.{to_be_bytes, from_be_bytes, w32}
 use Rattle.dtx_galois.specs.Word.{sums}
-use Rattle.dtx_galois.proofs.Words.{length_sums}
+use Rattle.dtx_galois.specs.WordsLaws.{length_sums}
 use Rattle.dtx_laws.specs.Register.{register}
 use Rattle.dtx_rs.specs.Table.{row, word_bytes}
 use Rattle.dtx_rs.proofs.Sums.{sums_at, sums_by_places}
 use Rattle.dtx_rs.proofs.Rows.{four_fed, length_row}
-use Rattle.dtx_rs.proofs.WordBytes.{to_be_bytes-xor, length-word_bytes, word_bytes-append, word_bytes-sums, list_of_four}
+use Rattle.dtx_rs.proofs.WordBytes.{to_be_bytes-xor, length-word_bytes, word_bytes-append, word_bytes-sums}
+use Rattle.dtx_rs.proofs.WordBytes.{list_of_four}
 
 -- a row has as many words as the register
-row_words : (divisor words : List ℕ) (f k n : ℕ) → length divisor ≡ 4 * n → word_bytes words ≡ row divisor f k → length words ≡ n
+row_words : (divisor words : List ℕ) (f k n : ℕ) → length divisor ≡ 4 * n → word_bytes words ≡ row divisor f k
+    → length words ≡ n
 row_words divisor words f k n l e = omega (arith, length-word_bytes words, ap length e, length_row divisor f k)
 
 -- where fs are the sums of the bytes and the register's first four
-pub step_is : (divisor state bytes fs r3 r2 r1 r0 : List ℕ) → 0 < length state → length divisor ≡ 4 * length state → length bytes ≡ 4 → ((i : ℕ) → get_or bytes i 0 < 256)
+pub step_is : (divisor state bytes fs r3 r2 r1 r0 : List ℕ) → 0 < length state → length divisor ≡ 4 * length state
+    → length bytes ≡ 4 → ((i : ℕ) → get_or bytes i 0 < 256)
     → fs ≡ to_be_bytes w32 (bit_xor (from_be_bytes w32 bytes) (get_or state 0 0))
-    → word_bytes r3 ≡ row divisor (get_or fs 0 0) 3 → word_bytes r2 ≡ row divisor (get_or fs 1 0) 2 → word_bytes r1 ≡ row divisor (get_or fs 2 0) 1 → word_bytes r0 ≡ row divisor (get_or fs 3 0) 0
-    → word_bytes (sums (drop 1 state ++ 0 ∷ []) (sums r3 (sums r2 (sums r1 r0)))) ≡ register divisor (word_bytes state) bytes
+    → word_bytes r3 ≡ row divisor (get_or fs 0 0) 3 → word_bytes r2 ≡ row divisor (get_or fs 1 0) 2
+    → word_bytes r1 ≡ row divisor (get_or fs 2 0) 1 → word_bytes r0 ≡ row divisor (get_or fs 3 0) 0
+    → word_bytes (sums (drop 1 state ++ 0 ∷ []) (sums r3 (sums r2 (sums r1 r0))))
+    ≡ register divisor (word_bytes state) bytes
 step_is divisor [] bytes fs r3 r2 r1 r0 s l b small f e3 e2 e1 e0 = absurd (omega arith)
 step_is divisor (w ∷ ws) bytes fs r3 r2 r1 r0 s l b small f e3 e2 e1 e0 =
     let n : ℕ = suc (length ws) in
@@ -30,17 +36,22 @@ step_is divisor (w ∷ ws) bytes fs r3 r2 r1 r0 s l b small f e3 e2 e1 e0 =
     let m1 : length (sums r1 r0) ≡ suc (length ws) = length_sums r1 r0 ∙ l1 in
     let m2 : length (sums r2 (sums r1 r0)) ≡ suc (length ws) = length_sums r2 (sums r1 r0) ∙ l2 in
     let m3 : length (sums r3 (sums r2 (sums r1 r0))) ≡ suc (length ws) = length_sums r3 (sums r2 (sums r1 r0)) ∙ l3 in
-    let four : bytes ≡ get_or bytes 0 0 ∷ get_or bytes 1 0 ∷ get_or bytes 2 0 ∷ get_or bytes 3 0 ∷ [] = list_of_four bytes b in
-    let factors : fs ≡ sums (get_or bytes 0 0 ∷ get_or bytes 1 0 ∷ get_or bytes 2 0 ∷ get_or bytes 3 0 ∷ []) (to_be_bytes w32 w) =
-    f ∙ to_be_bytes-xor (from_be_bytes w32 bytes) w ∙ ap (λ xs. sums xs (to_be_bytes w32 w)) (be_bytes_4 bytes (from_be_bytes w32 bytes) b small refl ∙ four) in
+    let four : bytes ≡ get_or bytes 0 0 ∷ get_or bytes 1 0 ∷ get_or bytes 2 0 ∷ get_or bytes 3 0 ∷ [] =
+    list_of_four bytes b in
+    let factors : fs ≡ sums (get_or bytes 0 0 ∷ get_or bytes 1 0 ∷ get_or bytes 2 0 ∷ get_or bytes 3 0 ∷ [])
+    (to_be_bytes w32 w) =
+    f ∙ to_be_bytes-xor (from_be_bytes w32 bytes) w
+    ∙ ap (λ xs. sums xs (to_be_bytes w32 w)) (be_bytes_4 bytes (from_be_bytes w32 bytes) b small refl ∙ four) in
     word_bytes-sums (ws ++ 0 ∷ []) (sums r3 (sums r2 (sums r1 r0))) (omega (arith, length_push ws 0))
     ∙ ap₂ sums (word_bytes-append ws (0 ∷ []))
     (word_bytes-sums r3 (sums r2 (sums r1 r0)) (l3 ∙ sym m2)
     ∙ ap₂ sums (e3 ∙ ap (λ xs. row divisor (get_or xs 0 0) 3) factors)
     (word_bytes-sums r2 (sums r1 r0) (l2 ∙ sym m1)
     ∙ ap₂ sums (e2 ∙ ap (λ xs. row divisor (get_or xs 1 0) 2) factors)
-    (word_bytes-sums r1 r0 (l1 ∙ sym l0) ∙ ap₂ sums (e1 ∙ ap (λ xs. row divisor (get_or xs 2 0) 1) factors) (e0 ∙ ap (λ xs. row divisor (get_or xs 3 0) 0) factors))))
-    ∙ sym (four_fed divisor (word_bytes ws) _ _ _ _ (get_or bytes 0 0) (get_or bytes 1 0) (get_or bytes 2 0) (get_or bytes 3 0) (omega (arith, length-word_bytes ws)))
+    (word_bytes-sums r1 r0 (l1 ∙ sym l0) ∙ ap₂ sums (e1 ∙ ap (λ xs. row divisor (get_or xs 2 0) 1) factors) (e0
+    ∙ ap (λ xs. row divisor (get_or xs 3 0) 0) factors))))
+    ∙ sym (four_fed divisor (word_bytes ws) _ _ _ _ (get_or bytes 0 0) (get_or bytes 1 0) (get_or bytes 2 0)
+    (get_or bytes 3 0) (omega (arith, length-word_bytes ws)))
     ∙ ap (register divisor (word_bytes (w ∷ ws))) (sym four)
 
 -- ---- the words of the next register
@@ -57,16 +68,21 @@ moved_at state k = after_nothing (drop 1 state) k ∙ get_or-drop 1 state k 0 �
     one_on : (k : ℕ) → 1 + k ≡ k + 1
     one_on k = omega arith
 
-pub sum_is : (n : ℕ) (next state r3 r2 r1 r0 : List ℕ) → 0 < n → length next ≡ n → length state ≡ n → length r3 ≡ n → length r2 ≡ n → length r1 ≡ n → length r0 ≡ n
-    → ((k : ℕ) → k < n → get_or next k 0 ≡ bit_xor (get_or state (k + 1) 0) (bit_xor (get_or r3 k 0) (bit_xor (get_or r2 k 0) (bit_xor (get_or r1 k 0) (get_or r0 k 0)))))
+pub sum_is : (n : ℕ) (next state r3 r2 r1 r0 : List ℕ) → 0 < n → length next ≡ n → length state ≡ n → length r3 ≡ n
+    → length r2 ≡ n → length r1 ≡ n → length r0 ≡ n
+    → ((k : ℕ) → k < n
+    → get_or next k 0 ≡ bit_xor (get_or state (k + 1) 0)
+    (bit_xor (get_or r3 k 0) (bit_xor (get_or r2 k 0) (bit_xor (get_or r1 k 0) (get_or r0 k 0)))))
     → next ≡ sums (drop 1 state ++ 0 ∷ []) (sums r3 (sums r2 (sums r1 r0)))
 sum_is n next state r3 r2 r1 r0 p ln ls l3 l2 l1 l0 h =
     let m1 : length (sums r1 r0) ≡ n = length_sums r1 r0 ∙ l1 in
     let m2 : length (sums r2 (sums r1 r0)) ≡ n = length_sums r2 (sums r1 r0) ∙ l2 in
     let m3 : length (sums r3 (sums r2 (sums r1 r0))) ≡ n = length_sums r3 (sums r2 (sums r1 r0)) ∙ l3 in
-    let long : length (drop 1 state ++ 0 ∷ []) ≡ n = length_push (drop 1 state) 0 ∙ omega (arith, length-drop 1 state) in
+    let long : length (drop 1 state ++ 0 ∷ []) ≡ n =
+    length_push (drop 1 state) 0 ∙ omega (arith, length-drop 1 state) in
     sums_by_places next (drop 1 state ++ 0 ∷ []) (sums r3 (sums r2 (sums r1 r0))) (ln ∙ sym long) (long ∙ sym m3)
     (λ k i. h k (omega arith)
     ∙ ap₂ bit_xor (sym (moved_at state k))
     (sym (sums_at r3 (sums r2 (sums r1 r0)) k (omega arith) (omega arith)
-    ∙ ap (bit_xor (get_or r3 k 0)) (sums_at r2 (sums r1 r0) k (omega arith) (omega arith) ∙ ap (bit_xor (get_or r2 k 0)) (sums_at r1 r0 k (omega arith) (omega arith))))))
+    ∙ ap (bit_xor (get_or r3 k 0)) (sums_at r2 (sums r1 r0) k (omega arith) (omega arith)
+    ∙ ap (bit_xor (get_or r2 k 0)) (sums_at r1 r0 k (omega arith) (omega arith))))))

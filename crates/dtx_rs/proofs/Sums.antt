@@ -1,12 +1,14 @@
 -- Sums of words place by place, and the register's step as a loop takes it.
-use Rattle.std.proofs.Common.{◌≡◌, ℕ, zero, suc, ◌-◌, ◌<◌, List, [], ◌∷◌, ◌++◌, length, get_or, set, take, drop, bit_xor, refl, sym, ap, ap₂, ◌∙◌, arith}
+use Rattle.std.proofs.Common.{◌≡◌, ℕ, zero, suc, ◌-◌, ◌<◌, List, [], ◌∷◌, ◌++◌, length, get_or, set, take, drop}
+use Rattle.std.proofs.Common.{bit_xor, refl, sym, ap, ap₂, ◌∙◌, arith}
 use Rattle.std.proofs.lemmas.List.{ext_get_or, get_or-map, length-map, set_at}
 use Rattle.dtx_galois.specs.Field.{mul}
 use Rattle.dtx_galois.specs.Word.{sums, scaled}
-use Rattle.dtx_galois.proofs.Words.{length_sums}
+use Rattle.dtx_galois.specs.WordsLaws.{length_sums}
 use Rattle.dtx_laws.specs.Register.{fed}
 
-pub sums_at : (xs ys : List ℕ) (k : ℕ) → k < length xs → k < length ys → get_or (sums xs ys) k 0 ≡ bit_xor (get_or xs k 0) (get_or ys k 0)
+pub sums_at : (xs ys : List ℕ) (k : ℕ) → k < length xs → k < length ys
+    → get_or (sums xs ys) k 0 ≡ bit_xor (get_or xs k 0) (get_or ys k 0)
 sums_at [] ys k l m = absurd (omega arith)
 sums_at (x ∷ xs) [] k l m = absurd (omega arith)
 sums_at (x ∷ xs) (y ∷ ys) zero l m = refl
@@ -16,10 +18,12 @@ sums_at (x ∷ xs) (y ∷ ys) (suc k) l m = sums_at xs ys k (omega arith) (omega
 pub sums_by_places : (new xs ys : List ℕ) → length new ≡ length xs → length xs ≡ length ys
     → ((k : ℕ) → k < length xs → get_or new k 0 ≡ bit_xor (get_or xs k 0) (get_or ys k 0)) → new ≡ sums xs ys
 sums_by_places new xs ys l m h =
-    ext_get_or 0 new (sums xs ys) (l ∙ sym (length_sums xs ys)) (λ k i. h k (omega arith) ∙ sym (sums_at xs ys k (omega arith) (omega arith)))
+    ext_get_or 0 new (sums xs ys) (l ∙ sym (length_sums xs ys)) (λ k i. h k (omega arith)
+    ∙ sym (sums_at xs ys k (omega arith) (omega arith)))
 
 pub sums_scaled : (new old divisor : List ℕ) (f : ℕ) → length new ≡ length old → length old ≡ length divisor
-    → ((k : ℕ) → k < length divisor → get_or new k 0 ≡ bit_xor (get_or old k 0) (mul f (get_or divisor k 0))) → new ≡ sums old (scaled f divisor)
+    → ((k : ℕ) → k < length divisor → get_or new k 0 ≡ bit_xor (get_or old k 0) (mul f (get_or divisor k 0)))
+    → new ≡ sums old (scaled f divisor)
 sums_scaled new old divisor f l m h =
     sums_by_places new old (scaled f divisor) l (m ∙ sym (length-map divisor (mul f)))
     (λ k i. h k (omega arith) ∙ ap (bit_xor (get_or old k 0)) (sym (get_or-map (mul f) divisor k 0 0 (omega arith))))
@@ -28,7 +32,10 @@ sums_scaled new old divisor f l m h =
 turned : (r : ℕ) (rs : List ℕ) (n : ℕ) → length rs ≡ n → set (rs ++ r ∷ []) n 0 ≡ rs ++ 0 ∷ []
 turned r rs n e = set_at rs r [] 0 n e
 
-pub fed_is : (divisor old turned_old new : List ℕ) (b f : ℕ) → 0 < length old → turned_old ≡ set (drop 1 old ++ take 1 old) (length old - 1) 0 → f ≡ bit_xor b (get_or old 0 0) → new ≡ sums turned_old (scaled f divisor)
+pub fed_is : (divisor old turned_old new : List ℕ) (b f : ℕ) → 0 < length old
+    → turned_old ≡ set (drop 1 old ++ take 1 old) (length old - 1) 0 → f ≡ bit_xor b (get_or old 0 0)
+    → new ≡ sums turned_old (scaled f divisor)
     → new ≡ fed divisor old b
 fed_is divisor [] t new b f l e g h = absurd (omega arith)
-fed_is divisor (r ∷ rs) t new b f l e g h = h ∙ ap₂ (λ us c. sums us (scaled c divisor)) (e ∙ turned r rs (suc (length rs) - 1) (omega arith)) g
+fed_is divisor (r ∷ rs) t new b f l e g h = h ∙ ap₂ (λ us c. sums us (scaled c divisor)) (e
+    ∙ turned r rs (suc (length rs) - 1) (omega arith)) g

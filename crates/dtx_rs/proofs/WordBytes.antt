@@ -1,5 +1,6 @@
 -- The bytes of words.
-use Rattle.std.proofs.Common.{◌≡◌, ℕ, suc, ◌+◌, ◌*◌, ◌/◌, ◌%◌, ◌^◌, ◌<◌, ◌≤◌, List, [], ◌∷◌, ◌++◌, length, get_or, take, drop, bit_xor, refl, sym, ap, ap₂, ◌∙◌, arith}
+use Rattle.std.proofs.Common.{◌≡◌, ℕ, suc, ◌+◌, ◌*◌, ◌/◌, ◌%◌, ◌^◌, ◌<◌, ◌≤◌, List, [], ◌∷◌, ◌++◌, length, get_or, take}
+use Rattle.std.proofs.Common.{drop, bit_xor, refl, sym, ap, ap₂, ◌∙◌, arith}
 use borrow.Rule.Slice.PartMut.{post_of, put_mid}
 use Rattle.std.proofs.lemmas.List.{append_assoc, length-append, length-drop, length-take-le, take_more}
 use Rattle.std.proofs.lemmas.Nat.{xor_shr, xor_mod}
@@ -11,7 +12,9 @@ xor_byte : (u v k : ℕ) → bit_xor u v / 2 ^ k % 256 ≡ bit_xor (u / 2 ^ k % 
 xor_byte u v k = ap (λ (x : ℕ). x % 256) (xor_shr u v k) ∙ xor_mod (u / 2 ^ k) (v / 2 ^ k) 8
 
 pub to_be_bytes-xor : (u v : ℕ) → to_be_bytes w32 (bit_xor u v) ≡ sums (to_be_bytes w32 u) (to_be_bytes w32 v)
-to_be_bytes-xor u v = ap₂ ◌∷◌ (xor_byte u v 24) (ap₂ ◌∷◌ (xor_byte u v 16) (ap₂ ◌∷◌ (xor_byte u v 8) (ap (λ (x : ℕ). x ∷ []) (xor_mod u v 8))))
+to_be_bytes-xor u v =
+    ap₂ ◌∷◌ (xor_byte u v 24) (ap₂ ◌∷◌ (xor_byte u v 16)
+    (ap₂ ◌∷◌ (xor_byte u v 8) (ap (λ (x : ℕ). x ∷ []) (xor_mod u v 8))))
 
 pub length-word_bytes : (ws : List ℕ) → length (word_bytes ws) ≡ 4 * length ws
 length-word_bytes [] = refl
@@ -24,18 +27,22 @@ pub word_bytes-append : (us vs : List ℕ) → word_bytes (us ++ vs) ≡ word_by
 word_bytes-append [] vs = refl
 word_bytes-append (u ∷ us) vs = ap (λ xs. to_be_bytes w32 u ++ xs) (word_bytes-append us vs)
 
-pub word_bytes-sums : (us vs : List ℕ) → length us ≡ length vs → word_bytes (sums us vs) ≡ sums (word_bytes us) (word_bytes vs)
+pub word_bytes-sums : (us vs : List ℕ) → length us ≡ length vs
+    → word_bytes (sums us vs) ≡ sums (word_bytes us) (word_bytes vs)
 word_bytes-sums [] vs l = refl
 word_bytes-sums (u ∷ us) [] l = absurd (omega arith)
 word_bytes-sums (u ∷ us) (v ∷ vs) l =
-    ap₂ ◌∷◌ (xor_byte u v 24) (ap₂ ◌∷◌ (xor_byte u v 16) (ap₂ ◌∷◌ (xor_byte u v 8) (ap₂ ◌∷◌ (xor_mod u v 8) (word_bytes-sums us vs (omega arith)))))
+    ap₂ ◌∷◌ (xor_byte u v 24) (ap₂ ◌∷◌ (xor_byte u v 16)
+    (ap₂ ◌∷◌ (xor_byte u v 8) (ap₂ ◌∷◌ (xor_mod u v 8) (word_bytes-sums us vs (omega arith)))))
 
 -- one more word
-pub word_bytes-more : (ws : List ℕ) (i : ℕ) → i < length ws → word_bytes (take (i + 1) ws) ≡ word_bytes (take i ws) ++ to_be_bytes w32 (get_or ws i 0)
+pub word_bytes-more : (ws : List ℕ) (i : ℕ) → i < length ws
+    → word_bytes (take (i + 1) ws) ≡ word_bytes (take i ws) ++ to_be_bytes w32 (get_or ws i 0)
 word_bytes-more ws i l = ap word_bytes (take_more ws i 0 l) ∙ word_bytes-append (take i ws) (get_or ws i 0 ∷ [])
 
 -- four bytes of a list
-pub list_of_four : (xs : List ℕ) → length xs ≡ 4 → xs ≡ get_or xs 0 0 ∷ get_or xs 1 0 ∷ get_or xs 2 0 ∷ get_or xs 3 0 ∷ []
+pub list_of_four : (xs : List ℕ) → length xs ≡ 4
+    → xs ≡ get_or xs 0 0 ∷ get_or xs 1 0 ∷ get_or xs 2 0 ∷ get_or xs 3 0 ∷ []
 list_of_four [] l = absurd (omega arith)
 list_of_four (a ∷ []) l = absurd (omega arith)
 list_of_four (a ∷ b ∷ []) l = absurd (omega arith)
@@ -44,7 +51,9 @@ list_of_four (a ∷ b ∷ c ∷ d ∷ []) l = refl
 list_of_four (a ∷ b ∷ c ∷ d ∷ e ∷ xs) l = absurd (omega arith)
 
 -- four bytes more of a list
-pub take_four : (xs : List ℕ) (i : ℕ) → i + 3 < length xs → take i xs ++ get_or xs i 0 ∷ get_or xs (i + 1) 0 ∷ get_or xs (i + 2) 0 ∷ get_or xs (i + 3) 0 ∷ [] ≡ take (i + 4) xs
+pub take_four : (xs : List ℕ) (i : ℕ) → i + 3 < length xs
+    → take i xs ++ get_or xs i 0 ∷ get_or xs (i + 1) 0 ∷ get_or xs (i + 2) 0 ∷ get_or xs (i + 3) 0 ∷ []
+    ≡ take (i + 4) xs
 take_four xs i l =
     let a1 : i + 1 + 1 ≡ i + 2 = omega arith in
     let a2 : i + 2 + 1 ≡ i + 3 = omega arith in
@@ -54,11 +63,19 @@ take_four xs i l =
     ∙ ap (λ ys. ys ++ get_or xs (i + 3) 0 ∷ [])
     (ap (λ n. take n xs) (sym a2) ∙ take_more xs (i + 2) 0 (omega arith)
     ∙ ap (λ ys. ys ++ get_or xs (i + 2) 0 ∷ [])
-    (ap (λ n. take n xs) (sym a1) ∙ take_more xs (i + 1) 0 (omega arith) ∙ ap (λ ys. ys ++ get_or xs (i + 1) 0 ∷ []) (take_more xs i 0 (omega arith))))
+    (ap (λ n. take n xs) (sym a1) ∙ take_more xs (i + 1) 0 (omega arith)
+    ∙ ap (λ ys. ys ++ get_or xs (i + 1) 0 ∷ []) (take_more xs i 0 (omega arith))))
     ∙ simp append_assoc)
 
 -- a write to a part keeps the length
-pub length-put_mid : (a k : ℕ) (xs ys : List ℕ) → a + k ≤ length xs → length ys ≡ k → length (put_mid a k xs ys) ≡ length xs
+pub length-put_mid : (a k : ℕ) (xs ys : List ℕ) → a + k ≤ length xs → length ys ≡ k
+    → length (put_mid a k xs ys) ≡ length xs
 length-put_mid a k xs ys l e =
     length-append (take a xs) (ys ++ post_of a k xs)
-    ∙ omega (arith, length-append ys (post_of a k xs), length-take-le a xs (omega arith), length-drop k (drop a xs), length-drop a xs)
+    ∙ omega (
+      arith,
+      length-append ys (post_of a k xs),
+      length-take-le a xs (omega arith),
+      length-drop k (drop a xs),
+      length-drop a xs,
+    )

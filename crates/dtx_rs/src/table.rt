@@ -1,6 +1,7 @@
 //! The table by which four bytes of data are divided in one step.
 
-ghost use Rattle.std.specs.Prelude.{◌≡◌, ℕ, ◌+◌, ◌-◌, ◌*◌, ◌/◌, ◌%◌, ◌<◌, [], ◌∷◌, ◌++◌, drop, length, replicate, slice_index, slice_index_or, take};
+ghost use Rattle.std.specs.Prelude.{◌≡◌, ℕ, ◌+◌, ◌-◌, ◌*◌, ◌/◌, ◌%◌, ◌<◌, [], ◌∷◌, ◌++◌, drop, length, replicate};
+ghost use Rattle.std.specs.Prelude.{slice_index, slice_index_or, take};
 ghost use Rattle.dtx_galois.specs.Word.{sums};
 ghost use Rattle.dtx_laws.specs.Register.{fed, register};
 ghost use Rattle.dtx_rs.specs.Table.{row, word_bytes};
@@ -20,7 +21,8 @@ pub struct Table {
     pub divisor: [u8; WIDTH],
     rows: [[u32; WORDS]; ROWS],
     ghost long: { length divisor ≡ WIDTH },
-    ghost rows_hold: { (k f : ℕ) → k < STEP → f < ELEMENTS → word_bytes (slice_index_or rows (ELEMENTS * k + f) []) ≡ row divisor f k },
+    ghost rows_hold: { (k f : ℕ) → k < STEP → f < ELEMENTS
+        → word_bytes (slice_index_or rows (ELEMENTS * k + f) []) ≡ row divisor f k },
 }
 
 impl Table {
@@ -50,7 +52,8 @@ impl Table {
         bytes_of(&state)
     }
 
-    /// The registers of zeros after all the data of each of two heads, by steps in turn, so that neither waits for the other.
+    /// The registers of zeros after all the data of each of two heads, by steps in turn, so that neither waits for the
+    /// other.
     pub fn parity_of_two(&self, one: &[u8], two: &[u8]) -> ([u8; WIDTH], [u8; WIDTH])
         requires { length one.now ≡ length two.now }
         ensures one { result.0 ≡ register self.now.divisor (replicate WIDTH 0) one.now }
@@ -69,7 +72,8 @@ impl Table {
 
     /// The register after the bytes before the first whole step.
     fn started(&self, head: &[u8]) -> [u32; WORDS]
-        ensures { word_bytes result ≡ register self.now.divisor (replicate WIDTH 0) (take (length head.now % STEP) head.now) }
+        ensures { word_bytes result ≡ register self.now.divisor (replicate WIDTH 0)
+            (take (length head.now % STEP) head.now) }
     {
         self.fed(&[0; WORDS], &padded(head))
     }
@@ -136,7 +140,8 @@ fn padded(head: &[u8]) -> [u8; STEP]
 
 /// The rows of each byte at each place of a step.
 fn all_rows(divisor: &[u8; WIDTH]) -> [[u32; WORDS]; ROWS]
-    ensures { (k f : ℕ) → k < STEP → f < ELEMENTS → word_bytes (slice_index_or result (ELEMENTS * k + f) []) ≡ row divisor.now f k }
+    ensures { (k f : ℕ) → k < STEP → f < ELEMENTS
+        → word_bytes (slice_index_or result (ELEMENTS * k + f) []) ≡ row divisor.now f k }
 {
     let mut rows = [[0; WORDS]; ROWS];
     for n in 0..ROWS {
@@ -148,7 +153,8 @@ fn all_rows(divisor: &[u8; WIDTH]) -> [[u32; WORDS]; ROWS]
 /// Row n, from the rows before it.
 fn nth_row(divisor: &[u8; WIDTH], rows: &[[u32; WORDS]; ROWS], n: usize) -> [u32; WORDS]
     requires some { n < ROWS }
-    requires before { (j : ℕ) → j < n → word_bytes (slice_index_or rows.now j []) ≡ row divisor.now (j % ELEMENTS) (j / ELEMENTS) }
+    requires before { (j : ℕ) → j < n → word_bytes (slice_index_or rows.now j [])
+        ≡ row divisor.now (j % ELEMENTS) (j / ELEMENTS) }
     ensures { word_bytes result ≡ row divisor.now (n % ELEMENTS) (n / ELEMENTS) }
 {
     if n < ELEMENTS {

@@ -1,10 +1,13 @@
 -- Slicing, by a test of all bytes.
-use Rattle.std.proofs.Common.{◌≡◌, ℕ, ◌+◌, ◌-◌, ◌/◌, ◌<◌, ◌≤◌, ◌==◌, ◌⊎◌, inl, inr, Bool, true, false, cond, nat_le, ℤ, pos, negsuc, nat_abs, ◌+ℤ◌, List, ◌++◌, map, take, drop, length, get_or, to_z, of_z, w8, refl, sym, ap, ap₂, ◌∙◌, subst, arith}
+use Rattle.std.proofs.Common.{◌≡◌, ℕ, ◌+◌, ◌-◌, ◌/◌, ◌<◌, ◌≤◌, ◌==◌, ◌⊎◌, inl, inr, Bool, true, false, cond, nat_le, ℤ}
+use Rattle.std.proofs.Common.{pos, negsuc, nat_abs, ◌+ℤ◌, List, ◌++◌, map, take, drop, length, get_or, to_z, of_z, w8}
+use Rattle.std.proofs.Common.{refl, sym, ap, ap₂, ◌∙◌, subst, arith}
 use mir.Val.{SFits}
 use Rattle.std.specs.Int.{int_max, int_min}
 use Rattle.std.proofs.lemmas.Int.{to_z-of_z}
 use Rattle.std.proofs.lemmas.Bool.{cases_lt, eqb-true, leb-true}
-use Rattle.std.proofs.lemmas.List.{ext_get_or, get_or-map, length-map, length-drop, length-append, length-take-le, get_or-take, get_or-drop, get_or_append_left, get_or-append_right}
+use Rattle.std.proofs.lemmas.List.{ext_get_or, get_or-map, length-map, length-drop, length-append, length-take-le}
+use Rattle.std.proofs.lemmas.List.{get_or-take, get_or-drop, get_or_append_left, get_or-append_right}
 use Rattle.dtx_lists.proofs.Below.{holds_below, at_below}
 use Rattle.dtx_lists.proofs.Parts.{append_from_parts}
 use Rattle.dtx_slice.specs.Slicing.{sliced}
@@ -26,7 +29,8 @@ of_z_below (negsuc n) f = let h = f.sfits in omega arith
 pub level_is : (v r : ℤ) → SFits w8 v → r ≡ clamped (to_z w8 (of_z w8 v)) → halved r ≡ sliced v
 level_is v r f e =
     ap halved e
-    ∙ eqb-true (halved (clamped (to_z w8 (of_z w8 v)))) (sliced (to_z w8 (of_z w8 v))) (at_below (λ n. halved (clamped (to_z w8 n)) == sliced (to_z w8 n)) 256 (of_z w8 v) level_test (of_z_below v f))
+    ∙ eqb-true (halved (clamped (to_z w8 (of_z w8 v)))) (sliced (to_z w8 (of_z w8 v)))
+    (at_below (λ n. halved (clamped (to_z w8 n)) == sliced (to_z w8 n)) 256 (of_z w8 v) level_test (of_z_below v f))
     ∙ ap sliced (to_z-of_z w8 v f)
 
 -- every level is below 8
@@ -45,10 +49,12 @@ sliced_small (negsuc n) = by_test (nat_le n 7)
 
 -- the levels of the symbols from place a on
 pub sliced_from : (a n : ℕ) (segment : List ℤ) (levels : List ℕ) → length segment ≡ a + n → length levels ≡ n
-    → ((k : ℕ) → k < n → get_or levels k 0 ≡ sliced (get_or segment (a + k) (pos 0))) → levels ≡ map sliced (drop a segment)
+    → ((k : ℕ) → k < n → get_or levels k 0 ≡ sliced (get_or segment (a + k) (pos 0)))
+    → levels ≡ map sliced (drop a segment)
 sliced_from a n segment levels h l f =
     ext_get_or 0 levels (map sliced (drop a segment)) (l ∙ sym (length-map (drop a segment) sliced ∙ rest))
-    (λ k m. f k (omega arith) ∙ sym (get_or-map sliced (drop a segment) k (pos 0) 0 (omega (arith, rest)) ∙ ap sliced (get_or-drop a segment k (pos 0))))
+    (λ k m. f k (omega arith) ∙ sym (get_or-map sliced (drop a segment) k (pos 0) 0 (omega (arith, rest))
+    ∙ ap sliced (get_or-drop a segment k (pos 0))))
   where
     left : (a n : ℕ) → a + n - a ≡ n
     left a n = omega arith
@@ -72,7 +78,8 @@ pub record Placed (a n m : ℕ) (segment : List ℤ) (old new : List ℕ) : Type
   pub written : (k : ℕ) → k < n → get_or new (a + k) 0 ≡ sliced (get_or segment (4 + k) (pos 0))
   pub behind : (k : ℕ) → a + n ≤ k → get_or new k 0 ≡ get_or old k 0
 
-pub placed : (a n m : ℕ) (segment : List ℤ) (old new : List ℕ) → Placed a n m segment old new → new ≡ take a old ++ map sliced (drop 4 segment) ++ drop (a + n) old
+pub placed : (a n m : ℕ) (segment : List ℤ) (old new : List ℕ) → Placed a n m segment old new
+    → new ≡ take a old ++ map sliced (drop 4 segment) ++ drop (a + n) old
 placed a n m segment old new h =
     append_from_parts 0 new (take a old ++ map sliced (drop 4 segment)) (drop (a + n) old) (a + n) (m - (a + n))
     (h.kept ∙ sym whole) front behind
@@ -97,15 +104,19 @@ placed a n m segment old new h =
     back : (k : ℕ) → a ≤ k → a + (k - a) ≡ k
     back k l = omega arith
 
-    by_cases : (k : ℕ) → k < a + n → (k < a) ⊎ (a ≤ k) → get_or new k 0 ≡ get_or (take a old ++ map sliced (drop 4 segment)) k 0
+    by_cases : (k : ℕ) → k < a + n → (k < a) ⊎ (a ≤ k)
+        → get_or new k 0 ≡ get_or (take a old ++ map sliced (drop 4 segment)) k 0
     by_cases k l (inl below) =
-        h.before k below ∙ sym (get_or_append_left (take a old) (map sliced (drop 4 segment)) 0 k (omega (arith, first)) ∙ get_or-take a old k 0 below)
+        h.before k below ∙ sym (get_or_append_left (take a old) (map sliced (drop 4 segment)) 0 k (omega (arith, first))
+        ∙ get_or-take a old k 0 below)
     by_cases k l (inr above) =
         ap (λ i. get_or new i 0) (sym (back k above)) ∙ h.written (k - a) (omega arith)
         ∙ sym (get_or-append_right (take a old) (map sliced (drop 4 segment)) a k 0 first above
-        ∙ get_or-map sliced (drop 4 segment) (k - a) (pos 0) 0 (omega (arith, length-drop 4 segment, h.symbols)) ∙ ap sliced (get_or-drop 4 segment (k - a) (pos 0)))
+        ∙ get_or-map sliced (drop 4 segment) (k - a) (pos 0) 0 (omega (arith, length-drop 4 segment, h.symbols))
+        ∙ ap sliced (get_or-drop 4 segment (k - a) (pos 0)))
 
-pub placed_small : (a n m : ℕ) (segment : List ℤ) (old new : List ℕ) → Placed a n m segment old new → ((k : ℕ) → k < length old → get_or old k 0 < 8)
+pub placed_small : (a n m : ℕ) (segment : List ℤ) (old new : List ℕ) → Placed a n m segment old new
+    → ((k : ℕ) → k < length old → get_or old k 0 < 8)
     → (k : ℕ) → k < length new → get_or new k 0 < 8
 placed_small a n m segment old new h f k l = by_cases (cases_lt k a) (cases_lt k (a + n))
   where
@@ -119,4 +130,6 @@ placed_small a n m segment old new h f k l = by_cases (cases_lt k a) (cases_lt k
     by_cases (inl below) c = subst (λ x. x < 8) (sym (h.before k below)) (f k within)
     by_cases (inr above) (inr behind) = subst (λ x. x < 8) (sym (h.behind k behind)) (f k within)
     by_cases (inr above) (inl inside) =
-        subst (λ i. get_or new i 0 < 8) (back k above) (subst (λ x. x < 8) (sym (h.written (k - a) (omega arith))) (sliced_small (get_or segment (4 + (k - a)) (pos 0))))
+        subst (λ i. get_or new i 0 < 8) (back k above)
+        (subst (λ x. x < 8) (sym (h.written (k - a) (omega arith)))
+        (sliced_small (get_or segment (4 + (k - a)) (pos 0))))

@@ -1,4 +1,5 @@
--- The twelve coders side by side: in the four rounds of byte h of each coder, lane p is of the coder at place p of the first of them.
+-- The twelve coders side by side: in the four rounds of byte h of each coder, lane p is of the coder at place p of the
+-- first of them.
 use Rattle.std.specs.Prelude.{ℕ, ◌+◌, ◌-◌, ◌*◌, ◌/◌, ◌%◌, List, slice_index}
 use Rattle.dtx_slice.specs.Unrolled.{pair_from}
 
@@ -13,5 +14,7 @@ lane_level levels h i p = slice_index levels (lane_place h i p)
 -- the lane's byte, from Z2 before the four rounds
 unfoldable pub lane_byte : ℕ → List ℕ → ℕ → ℕ → ℕ
 lane_byte before levels h p =
-    64 * pair_from before (lane_level levels h 0 p) + 16 * pair_from (lane_level levels h 0 p / 4) (lane_level levels h 1 p)
-    + 4 * pair_from (lane_level levels h 1 p / 4) (lane_level levels h 2 p) + pair_from (lane_level levels h 2 p / 4) (lane_level levels h 3 p)
+    64 * pair_from before (lane_level levels h 0 p) + 16 * pair_from (lane_level levels h 0 p / 4)
+    (lane_level levels h 1 p)
+    + 4 * pair_from (lane_level levels h 1 p / 4) (lane_level levels h 2 p) + pair_from (lane_level levels h 2 p / 4)
+    (lane_level levels h 3 p)

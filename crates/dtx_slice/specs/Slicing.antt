@@ -1,7 +1,8 @@
 -- Slicing: the level of a symbol, which may be any signed byte (ATSC A/53 Part 2, the levels of 8-VSB).
 use Rattle.std.specs.Prelude.{ℕ, ℤ, pos, negsuc, ◌+◌, ◌-◌, ◌/◌, nat_le, if◌then◌else◌, List, map, drop}
 
--- half of v + 8 where v is from -8 to 7, 0 below and 7 above: -8 and -7 give level 0, -6 and -5 level 1, .., 6 and 7 level 7
+-- half of v + 8 where v is from -8 to 7, 0 below and 7 above: -8 and -7 give level 0, -6 and -5 level 1, .., 6 and 7
+-- level 7
 unfoldable pub sliced : ℤ → ℕ
 sliced (pos n) = if nat_le n 7 then (n + 8) / 2 else 7
 sliced (negsuc n) = if nat_le n 7 then (7 - n) / 2 else 0

@@ -1,5 +1,7 @@
--- From the levels of whole groups, 3312 each, back to their bytes: the inverse of the twelve trellis coders (ATSC A/53 Part 2,
--- trellis coding). The first group is at place s of its field, each further one four places on. Z2 is a level's highest bit and
+-- From the levels of whole groups, 3312 each, back to their bytes: the inverse of the twelve trellis coders (ATSC A/53
+-- Part 2,
+-- trellis coding). The first group is at place s of its field, each further one four places on. Z2 is a level's highest
+-- bit and
 -- Z1 the one below. A coder's former Z2 is that of its symbol before, and before its first symbol a number of formers.
 -- Rounds are counted from 0, 276 in a group; in each every coder has one symbol.
 use Rattle.std.specs.Prelude.{ℕ, ◌+◌, ◌-◌, ◌*◌, ◌/◌, ◌%◌, ◌==◌, if◌then◌else◌, List, length, map, slice_index}
@@ -11,7 +13,8 @@ symbol_place s r e = 12 * r + (e + 12 - 4 * ((s + r / 69) % 3)) % 12
 
 -- Z2 of coder e before round r
 unfoldable pub former : ℕ → List ℕ → List ℕ → ℕ → ℕ → ℕ
-former s formers levels r e = if r == 0 then slice_index formers e else slice_index levels (symbol_place s (r - 1) e) / 4
+former s formers levels r e =
+    if r == 0 then slice_index formers e else slice_index levels (symbol_place s (r - 1) e) / 4
 
 -- the pair of a level: X2 = Z2 + the former Z2, X1 = Z1
 abbrev pub pair_from : ℕ → ℕ → ℕ
@@ -30,7 +33,8 @@ unfoldable pub byte_back : ℕ → List ℕ → List ℕ → ℕ → ℕ
 byte_back s formers levels j =
     let r : ℕ = 4 * (j / 12) in
     let e : ℕ = coder_of s j in
-    64 * pair_back s formers levels r e + 16 * pair_back s formers levels (r + 1) e + 4 * pair_back s formers levels (r + 2) e + pair_back s formers levels (r + 3) e
+    64 * pair_back s formers levels r e + 16 * pair_back s formers levels (r + 1) e + 4 * pair_back s formers levels
+    (r + 2) e + pair_back s formers levels (r + 3) e
 
 -- how many whole groups there are
 unfoldable pub level_groups : List ℕ → ℕ
@@ -44,7 +48,8 @@ bytes_back s formers levels = map (byte_back s formers levels) (range_with_len 0
 unfoldable pub formers_after : ℕ → List ℕ → List ℕ → List ℕ
 formers_after s formers levels = map (former s formers levels (276 * level_groups levels)) (range_with_len 0 12)
 
--- Z2 of coders 0 to 11, from the levels of the last twelve symbols of a field sync. These repeat the last symbols of a field, and so
+-- Z2 of coders 0 to 11, from the levels of the last twelve symbols of a field sync. These repeat the last symbols of a
+-- field, and so
 -- number q is of coder (q + 8) mod 12.
 unfoldable pub formers_of : List ℕ → List ℕ
 formers_of last = map (λ e. slice_index last ((e + 4) % 12) / 4) (range_with_len 0 12)

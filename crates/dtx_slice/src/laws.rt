@@ -15,10 +15,12 @@ pub fn sizes()
     ensures last { LAST ≡ 12 }
 {}
 
-/// Where the former Z2 are those of the coders' states, the bytes of whole groups come back from the levels that the coders give,
+/// Where the former Z2 are those of the coders' states, the bytes of whole groups come back from the levels that the
+/// coders give,
 /// and the former Z2 behind them are those of the states that the coders leave.
 pub fn inverts()
-    ensures bytes { (s u : ℕ) (states bytes : List ℕ) → length bytes ≡ GROUP_BYTES * u → EachIndex bytes (λ j. slice_index bytes j < 256)
+    ensures bytes { (s u : ℕ) (states bytes : List ℕ) → length bytes ≡ GROUP_BYTES * u
+        → EachIndex bytes (λ j. slice_index bytes j < 256)
         → bytes_back s (formers_in states) (levels_of s states bytes) ≡ bytes }
     ensures formers { (s u : ℕ) (states bytes : List ℕ) → length bytes ≡ GROUP_BYTES * u
         → formers_after s (formers_in states) (levels_of s states bytes) ≡ formers_in (states_after s states bytes) }
@@ -27,7 +29,8 @@ pub fn inverts()
 /// Behind `u` whole groups the bytes go on from the former Z2 that these leave.
 pub fn group_after_group()
     ensures bytes { (s u : ℕ) (formers y z : List ℕ) → length y ≡ GROUP_LEVELS * u
-        → bytes_back s formers (y ++ z) ≡ bytes_back s formers y ++ bytes_back (group_place s u) (formers_after s formers y) z }
+        → bytes_back s formers (y ++ z) ≡ bytes_back s formers y
+        ++ bytes_back (group_place s u) (formers_after s formers y) z }
     ensures formers { (s u : ℕ) (formers y z : List ℕ) → length y ≡ GROUP_LEVELS * u
         → formers_after s formers (y ++ z) ≡ formers_after (group_place s u) (formers_after s formers y) z }
 {}

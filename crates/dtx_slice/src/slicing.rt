@@ -25,11 +25,14 @@ pub fn levels(segment: &[i8; SEGMENT], out: &mut [u8; SEGMENT_LEVELS])
     }
 }
 
-/// Writes the levels of the data symbols of segment number `at` of a group to their places among the levels of the group.
+/// Writes the levels of the data symbols of segment number `at` of a group to their places among the levels of the
+/// group.
 pub fn put_levels(segment: &[i8; SEGMENT], at: usize, group: &mut [u8; GROUP_LEVELS])
     requires { at < 4 }
-    ensures levels { group.new ≡ take (SEGMENT_LEVELS * at) group.old ++ sliced_data segment.now ++ drop (SEGMENT_LEVELS * at + SEGMENT_LEVELS) group.old }
-    ensures small { EachIndex group.old (λ d. slice_index group.old d < 8) → EachIndex group.new (λ d. slice_index group.new d < 8) }
+    ensures levels { group.new ≡ take (SEGMENT_LEVELS * at) group.old ++ sliced_data segment.now
+        ++ drop (SEGMENT_LEVELS * at + SEGMENT_LEVELS) group.old }
+    ensures small { EachIndex group.old (λ d. slice_index group.old d < 8)
+        → EachIndex group.new (λ d. slice_index group.new d < 8) }
 {
     for d in 0..SEGMENT_LEVELS {
         group[SEGMENT_LEVELS * at + d] = level(segment[SEGMENT_SYNC + d]);

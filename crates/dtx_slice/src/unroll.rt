@@ -8,7 +8,8 @@ use crate::walk::{last_formers, walk};
 use dtx_trellis::{CODERS, FIELD, GROUP_BYTES, GROUP_LEVELS};
 use std::marker::Model;
 
-/// The former Z2 of the twelve trellis coders: of each the higher bit of its last symbol (ATSC A/53 Part 2, trellis coding).
+/// The former Z2 of the twelve trellis coders: of each the higher bit of its last symbol (ATSC A/53 Part 2, trellis
+/// coding).
 #[derive(Drop)]
 pub struct Unroll {
     formers: [u8; CODERS],
@@ -45,7 +46,8 @@ impl Unroll {
         self.formers = formers;
     }
 
-    /// The bytes of the group whose first segment is at place `first` of its field, from its levels. The next group goes on
+    /// The bytes of the group whose first segment is at place `first` of its field, from its levels. The next group
+    /// goes on
     /// from the former Z2 that this one leaves.
     pub fn group(&mut self, first: u16, levels: &[u8; GROUP_LEVELS], bytes: &mut [u8; GROUP_BYTES])
         requires in_field { first < FIELD }

@@ -8,7 +8,8 @@ ghost use Rattle.dtx_slice.specs.Lanes.{lane_byte, lane_place};
 use dtx_trellis::{CODERS, FIELD, GROUP_BYTES, GROUP_LEVELS, ROUNDS, SEGMENT_ROUNDS};
 use std::simd::prelude::*;
 
-/// How many lanes a vector has. In the four rounds of a byte, lane p is of the coder at place p of the first of them; lanes 12 to 15
+/// How many lanes a vector has. In the four rounds of a byte, lane p is of the coder at place p of the first of them;
+/// lanes 12 to 15
 /// are of none.
 const LANES: usize = 16;
 
@@ -40,7 +41,8 @@ pub(crate) fn walk(
     }
 }
 
-/// What holds each coder's former Z2 as bit 2: its levels of the round before byte `byte`, or what laid the former Z2 out.
+/// What holds each coder's former Z2 as bit 2: its levels of the round before byte `byte`, or what laid the former Z2
+/// out.
 #[inline(always)]
 fn before(formers: &[u8; CODERS], first: usize, levels: &[u8; GROUP_LEVELS], byte: usize) -> u8x16
     requires first { first < FIELD }
@@ -48,7 +50,9 @@ fn before(formers: &[u8; CODERS], first: usize, levels: &[u8; GROUP_LEVELS], byt
     requires small { EachIndex levels.now (λ d. slice_index levels.now d < 8) }
     requires small_formers { EachIndex formers.now (λ e. slice_index formers.now e < 2) }
     ensures long { length result ≡ LANES }
-    ensures formers { (p : ℕ) → p < CODERS → slice_index result p / 4 % 2 ≡ former first formers.now levels.now (4 * byte) (coder_turned (turn first (4 * byte)) p) }
+    ensures formers { (p : ℕ) → p < CODERS
+        → slice_index result p / 4 % 2 ≡ former first formers.now levels.now (4 * byte)
+        (coder_turned (turn first (4 * byte)) p) }
 {
     if byte == 0 {
         laid_out(formers, first)
@@ -63,7 +67,8 @@ fn four_rounds(before: u8x16, levels: &[u8; GROUP_LEVELS], byte: usize) -> u8x16
     requires byte { byte < CODER_BYTES }
     requires small { EachIndex levels.now (λ d. slice_index levels.now d < 8) }
     ensures long { length result ≡ LANES }
-    ensures bytes { (p : ℕ) → p < CODERS → slice_index result p ≡ lane_byte (slice_index before p / 4 % 2) levels.now byte p }
+    ensures bytes { (p : ℕ) → p < CODERS
+        → slice_index result p ≡ lane_byte (slice_index before p / 4 % 2) levels.now byte p }
 {
     let first = load_round(levels, byte, 0);
     let second = load_round(levels, byte, 1);
@@ -81,7 +86,8 @@ fn four_rounds(before: u8x16, levels: &[u8; GROUP_LEVELS], byte: usize) -> u8x16
 #[inline(always)]
 fn pairs(before: u8x16, levels: u8x16) -> u8x16
     ensures long { length result ≡ LANES }
-    ensures pairs { (p : ℕ) → p < CODERS → slice_index levels p < 8 → slice_index result p ≡ pair_from (slice_index before p / 4 % 2) (slice_index levels p) }
+    ensures pairs { (p : ℕ) → p < CODERS → slice_index levels p < 8
+        → slice_index result p ≡ pair_from (slice_index before p / 4 % 2) (slice_index levels p) }
 {
     ((before & u8x16::splat(4)) ^ levels) >> u8x16::splat(1)
 }
@@ -90,8 +96,10 @@ fn pairs(before: u8x16, levels: u8x16) -> u8x16
 #[inline(always)]
 fn joined(first: u8x16, second: u8x16, third: u8x16, fourth: u8x16) -> u8x16
     ensures long { length result ≡ LANES }
-    ensures bytes { (p : ℕ) → p < CODERS → slice_index first p < 4 → slice_index second p < 4 → slice_index third p < 4 → slice_index fourth p < 4
-        → slice_index result p ≡ 64 * slice_index first p + 16 * slice_index second p + 4 * slice_index third p + slice_index fourth p }
+    ensures bytes { (p : ℕ) → p < CODERS → slice_index first p < 4 → slice_index second p < 4 → slice_index third p < 4
+        → slice_index fourth p < 4
+        → slice_index result p ≡ 64 * slice_index first p + 16 * slice_index second p + 4 * slice_index third
+        p + slice_index fourth p }
 {
     let high = first << u8x16::splat(6) | second << u8x16::splat(4);
     let low = third << u8x16::splat(2) | fourth;
@@ -176,7 +184,8 @@ fn laid_out(formers: &[u8; CODERS], first: usize) -> u8x16
     requires first { first < FIELD }
     requires small_formers { EachIndex formers.now (λ e. slice_index formers.now e < 2) }
     ensures long { length result ≡ LANES }
-    ensures formers { (p : ℕ) → p < CODERS → slice_index result p ≡ 4 * slice_index formers.now ((p + 4 * (first % 3)) % CODERS) }
+    ensures formers { (p : ℕ) → p < CODERS
+        → slice_index result p ≡ 4 * slice_index formers.now ((p + 4 * (first % 3)) % CODERS) }
 {
     let mut lanes = [0u8; LANES];
     for p in 0..CODERS {
@@ -190,7 +199,8 @@ pub(crate) fn last_formers(first: usize, levels: &[u8; GROUP_LEVELS]) -> [u8; CO
     requires first { first < FIELD }
     requires small { EachIndex levels.now (λ d. slice_index levels.now d < 8) }
     ensures long { length result ≡ CODERS }
-    ensures formers { (formers : List ℕ) (e : ℕ) → e < CODERS → slice_index result e ≡ former first formers levels.now ROUNDS e }
+    ensures formers { (formers : List ℕ) (e : ℕ) → e < CODERS
+        → slice_index result e ≡ former first formers levels.now ROUNDS e }
     ensures small { EachIndex result (λ e. slice_index result e < 2) }
 {
     let mut formers = [0u8; CODERS];

@@ -44,7 +44,8 @@ ahead_other b next i p l n = by_cases (cases_eq (next + 1) b)
     later (inr k) = omega (arith, n, ahead_from b next i k, ahead_from b (next + 1) i (omega (arith, n)))
 
     by_cases : (next + 1 ≡ b) ⊎ (next + 1 ≡ b → ⊥) → 1 + ahead b (following b next) i ≡ ahead b next i
-    by_cases (inl e) = ap (λ k. 1 + ahead b k i) (following_end b next e) ∙ omega (arith, n, ahead_zero b i, ahead_below b next i (omega (arith, n)))
+    by_cases (inl e) = ap (λ k. 1 + ahead b k i) (following_end b next e)
+        ∙ omega (arith, n, ahead_zero b i, ahead_below b next i (omega (arith, n)))
     by_cases (inr f) = ap (λ k. 1 + ahead b k i) (following_on b next f) ∙ later (cases_lt i next)
 
 -- and the branch itself is next again after all others
@@ -53,7 +54,8 @@ ahead_own b next p = by_cases (cases_eq (next + 1) b)
   where
     by_cases : (next + 1 ≡ b) ⊎ (next + 1 ≡ b → ⊥) → 1 + ahead b (following b next) next ≡ b
     by_cases (inl e) = ap (λ k. 1 + ahead b k next) (following_end b next e) ∙ omega (arith, ahead_zero b next)
-    by_cases (inr f) = ap (λ k. 1 + ahead b k next) (following_on b next f) ∙ omega (arith, ahead_below b (next + 1) next (omega arith))
+    by_cases (inr f) = ap (λ k. 1 + ahead b k next) (following_on b next f)
+        ∙ omega (arith, ahead_below b (next + 1) next (omega arith))
 
 pub following_less : (b next : ℕ) → next < b → following b next < b
 following_less b next p = by_cases (cases_eq (next + 1) b)

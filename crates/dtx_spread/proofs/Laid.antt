@@ -1,5 +1,6 @@
 -- A block into which any bytes are laid: what leaves, and what stays in the branches.
-use Rattle.std.proofs.Common.{◌≡◌, ◌≢◌, ℕ, suc, ◌+◌, ◌-◌, ◌*◌, ◌<◌, ◌≤◌, List, [], ◌∷◌, ◌++◌, length, get_or, set, drop, take, refl, sym, ap, ap₂, ◌∙◌, arith}
+use Rattle.std.proofs.Common.{◌≡◌, ◌≢◌, ℕ, suc, ◌+◌, ◌-◌, ◌*◌, ◌<◌, ◌≤◌, List, [], ◌∷◌, ◌++◌, length, get_or, set, drop}
+use Rattle.std.proofs.Common.{take, refl, sym, ap, ap₂, ◌∙◌, arith}
 use Rattle.std.proofs.Common.{mul-le-mul_left, mul-le-mul_right, add-zero}
 use Rattle.std.proofs.lemmas.List.{length-set, get_or-set_other, length-take-le, drop_more}
 use Rattle.std.proofs.Math.Seq.{take-add}
@@ -10,22 +11,28 @@ use Rattle.dtx_spread.proofs.Ahead.{following_end, following_on, following_less}
 use Rattle.dtx_spread.proofs.Lying.{whole_turns, leaves, lying_byte, lying_moved}
 
 pub reach : (b m : ℕ) (w : ℕ → ℕ) (i : ℕ) → AreWidths b m w → i < b → b * w i ≤ b * m * (b - 1)
-reach b m w i a l = let g : b * w i ≤ b * (m * (b - 1)) = mul-le-mul_left b (a i l) in let f : b * (m * (b - 1)) ≡ b * m * (b - 1) = grind arith in omega (arith, g, f)
+reach b m w i a l = let g : b * w i ≤ b * (m * (b - 1)) = mul-le-mul_left b (a i l) in
+    let f : b * (m * (b - 1)) ≡ b * m * (b - 1) = grind arith in omega (arith, g, f)
 
 -- what lies before the place stays
-laid_before : (b : ℕ) (w : ℕ → ℕ) (place next : ℕ) (xs block : List ℕ) (p : ℕ) → p < place → get_or (laid b w place next xs block) p 0 ≡ get_or block p 0
+laid_before : (b : ℕ) (w : ℕ → ℕ) (place next : ℕ) (xs block : List ℕ) (p : ℕ) → p < place
+    → get_or (laid b w place next xs block) p 0 ≡ get_or block p 0
 unfolding laid
 laid_before b w place next [] block p l = refl
 laid_before b w place next (x ∷ xs) block p l =
-    laid_before b w (place + 1) (following b next) xs (set block (place + b * w next) x) p (omega arith) ∙ get_or-set_other block (place + b * w next) p x 0 (differ place (b * w next) p l)
+    laid_before b w (place + 1) (following b next) xs (set block (place + b * w next) x) p (omega arith)
+    ∙ get_or-set_other block (place + b * w next) p x 0 (differ place (b * w next) p l)
   where
     differ : (a c p : ℕ) → p < a → p ≢ a + c
     differ a c p l = omega arith
 
-pub length-laid : (b : ℕ) (w : ℕ → ℕ) (place next : ℕ) (xs block : List ℕ) → length (laid b w place next xs block) ≡ length block
+pub length-laid : (b : ℕ) (w : ℕ → ℕ) (place next : ℕ) (xs block : List ℕ)
+    → length (laid b w place next xs block) ≡ length block
 unfolding laid
 length-laid b w place next [] block = refl
-length-laid b w place next (x ∷ xs) block = length-laid b w (place + 1) (following b next) xs (set block (place + b * w next) x) ∙ length-set block (place + b * w next) x
+length-laid b w place next (x ∷ xs) block =
+    length-laid b w (place + 1) (following b next) xs (set block (place + b * w next) x)
+    ∙ length-set block (place + b * w next) x
 
 pub turn_less : (b next : ℕ) (xs : List ℕ) → next < b → turn_after b next xs < b
 unfolding turn_after
@@ -33,44 +40,61 @@ turn_less b next [] p = p
 turn_less b next (x ∷ xs) p = turn_less b (following b next) xs (following_less b next p)
 
 -- the branches after any bytes
-pub lying_all : (b m : ℕ) (w : ℕ → ℕ) (place next : ℕ) (xs block : List ℕ) → AreWidths b m w → next < b → place + length xs + b * m * (b - 1) ≤ length block
-    → lying b w (place + length xs) (turn_after b next xs) (laid b w place next xs block) ≡ after_all b (lying b w place next block) xs
+pub lying_all : (b m : ℕ) (w : ℕ → ℕ) (place next : ℕ) (xs block : List ℕ) → AreWidths b m w → next < b
+    → place + length xs + b * m * (b - 1) ≤ length block
+    → lying b w (place + length xs) (turn_after b next xs) (laid b w place next xs block)
+    ≡ after_all b (lying b w place next block) xs
 unfolding laid turn_after after_all
 lying_all b m w place next [] block a p h = ap (λ n. lying b w n next block) (add-zero place)
 lying_all b m w place next (x ∷ xs) block a p h =
-    ap (λ n. lying b w n (turn_after b (following b next) xs) (laid b w (place + 1) (following b next) xs (set block (place + b * w next) x))) (further place (length xs))
-    ∙ lying_all b m w (place + 1) (following b next) xs (set block (place + b * w next) x) a (following_less b next p) (omega (arith, h, length-set block (place + b * w next) x))
+    ap (λ n. lying b w n (turn_after b (following b next) xs)
+    (laid b w (place + 1) (following b next) xs (set block (place + b * w next) x))) (further place (length xs))
+    ∙ lying_all b m w (place + 1) (following b next) xs (set block (place + b * w next) x) a (following_less b next p)
+    (omega (arith, h, length-set block (place + b * w next) x))
     ∙ ap (λ v. after_all b v xs) (lying_byte b w place next block x p (omega (arith, h, reach b m w next a p)))
   where
     further : (a n : ℕ) → a + suc n ≡ a + 1 + n
     further a n = omega arith
 
 -- and what left
-pub leaves_all : (b m : ℕ) (w : ℕ → ℕ) (place next : ℕ) (xs block : List ℕ) → AreWidths b m w → next < b → place + length xs + b * m * (b - 1) ≤ length block
+pub leaves_all : (b m : ℕ) (w : ℕ → ℕ) (place next : ℕ) (xs block : List ℕ) → AreWidths b m w → next < b
+    → place + length xs + b * m * (b - 1) ≤ length block
     → take (length xs) (drop place (laid b w place next xs block)) ≡ leaving_all b (lying b w place next block) xs
 unfolding laid leaving_all
 leaves_all b m w place next [] block a p h = refl
 leaves_all b m w place next (x ∷ xs) block a p h =
     let q : place + b * w next < length block = omega (arith, h, reach b m w next a p) in
-    ap (take (suc (length xs))) (drop_more (laid b w (place + 1) (following b next) xs (set block (place + b * w next) x)) place 0
-    (omega (arith, h, length-laid b w (place + 1) (following b next) xs (set block (place + b * w next) x), length-set block (place + b * w next) x)))
+    ap (take (suc (length xs))) (drop_more (laid b w (place + 1) (following b next) xs
+    (set block (place + b * w next) x)) place 0
+    (omega (
+      arith,
+      h,
+      length-laid b w (place + 1) (following b next) xs (set block (place + b * w next) x),
+      length-set block (place + b * w next) x,
+    )))
     ∙ ap₂ (λ y ys. y ∷ ys)
-    (laid_before b w (place + 1) (following b next) xs (set block (place + b * w next) x) place (omega arith) ∙ leaves b w place next block x p q)
-    (leaves_all b m w (place + 1) (following b next) xs (set block (place + b * w next) x) a (following_less b next p) (omega (arith, h, length-set block (place + b * w next) x))
+    (laid_before b w (place + 1) (following b next) xs (set block (place + b * w next) x) place (omega arith)
+    ∙ leaves b w place next block x p q)
+    (leaves_all b m w (place + 1) (following b next) xs (set block (place + b * w next) x) a (following_less b next p)
+    (omega (arith, h, length-set block (place + b * w next) x))
     ∙ ap (λ v. leaving_all b v xs) (lying_byte b w place next block x p q))
 
 -- bytes upon bytes
-pub laid-append : (b : ℕ) (w : ℕ → ℕ) (place next : ℕ) (xs ys block : List ℕ) → laid b w place next (xs ++ ys) block ≡ laid b w (place + length xs) (turn_after b next xs) ys (laid b w place next xs block)
+pub laid-append : (b : ℕ) (w : ℕ → ℕ) (place next : ℕ) (xs ys block : List ℕ)
+    → laid b w place next (xs ++ ys) block ≡ laid b w (place + length xs) (turn_after b next xs) ys
+    (laid b w place next xs block)
 unfolding laid turn_after
 laid-append b w place next [] ys block = ap (λ n. laid b w n next ys block) (sym (add-zero place))
 laid-append b w place next (x ∷ xs) ys block =
     laid-append b w (place + 1) (following b next) xs ys (set block (place + b * w next) x)
-    ∙ ap (λ n. laid b w n (turn_after b (following b next) xs) ys (laid b w (place + 1) (following b next) xs (set block (place + b * w next) x))) (further place (length xs))
+    ∙ ap (λ n. laid b w n (turn_after b (following b next) xs) ys
+    (laid b w (place + 1) (following b next) xs (set block (place + b * w next) x))) (further place (length xs))
   where
     further : (a n : ℕ) → a + 1 + n ≡ a + suc n
     further a n = omega arith
 
-pub turn_after-append : (b next : ℕ) (xs ys : List ℕ) → turn_after b next (xs ++ ys) ≡ turn_after b (turn_after b next xs) ys
+pub turn_after-append : (b next : ℕ) (xs ys : List ℕ)
+    → turn_after b next (xs ++ ys) ≡ turn_after b (turn_after b next xs) ys
 unfolding turn_after
 turn_after-append b next [] ys = refl
 turn_after-append b next (x ∷ xs) ys = turn_after-append b (following b next) xs ys
@@ -81,7 +105,8 @@ turn_steps : (b next : ℕ) (xs : List ℕ) → next + length xs < b → turn_af
 unfolding turn_after
 turn_steps b next [] l = sym (add-zero next)
 turn_steps b next (x ∷ xs) l =
-    ap (λ n. turn_after b n xs) (following_on b next (unlike next (length xs) b l)) ∙ turn_steps b (next + 1) xs (omega arith) ∙ omega arith
+    ap (λ n. turn_after b n xs) (following_on b next (unlike next (length xs) b l))
+    ∙ turn_steps b (next + 1) xs (omega arith) ∙ omega arith
   where
     unlike : (a n b : ℕ) → a + suc n < b → a + 1 ≡ b → ⊥
     unlike a n b l e = omega arith
@@ -90,26 +115,33 @@ turn_steps b next (x ∷ xs) l =
 pub turn_of_row : (b : ℕ) (xs : List ℕ) → length xs < b → turn_after b 0 xs ≡ length xs
 turn_of_row b xs l = turn_steps b 0 xs (omega arith) ∙ omega arith
 
-pub turn_more : (b next : ℕ) (xs : List ℕ) (x : ℕ) → turn_after b next (xs ++ x ∷ []) ≡ following b (turn_after b next xs)
+pub turn_more : (b next : ℕ) (xs : List ℕ) (x : ℕ)
+    → turn_after b next (xs ++ x ∷ []) ≡ following b (turn_after b next xs)
 unfolding turn_after
 turn_more b next xs x = turn_after-append b next xs (x ∷ [])
 
 -- and when it is laid
 pub turn_whole : (b : ℕ) (xs : List ℕ) (x : ℕ) → length xs + 1 ≡ b → turn_after b 0 (xs ++ x ∷ []) ≡ 0
-turn_whole b xs x e = turn_more b 0 xs x ∙ ap (following b) (turn_of_row b xs (omega arith)) ∙ following_end b (length xs) e
+turn_whole b xs x e = turn_more b 0 xs x ∙ ap (following b) (turn_of_row b xs (omega arith))
+    ∙ following_end b (length xs) e
 
-pub laid_more : (b : ℕ) (w : ℕ → ℕ) (place next : ℕ) (xs block : List ℕ) (x : ℕ) → laid b w place next (xs ++ x ∷ []) block ≡ set (laid b w place next xs block) (place + length xs + b * w (turn_after b next xs)) x
+pub laid_more : (b : ℕ) (w : ℕ → ℕ) (place next : ℕ) (xs block : List ℕ) (x : ℕ)
+    → laid b w place next (xs ++ x ∷ []) block ≡ set (laid b w place next xs block)
+    (place + length xs + b * w (turn_after b next xs)) x
 unfolding laid
 laid_more b w place next xs block x = laid-append b w place next xs (x ∷ []) block
 
-pub row_more : (b : ℕ) (w : ℕ → ℕ) (place k n : ℕ) (row block : List ℕ) (x : ℕ) → k < b → k < length row → x ≡ get_or row k 0 → n ≡ place + k + b * w k
+pub row_more : (b : ℕ) (w : ℕ → ℕ) (place k n : ℕ) (row block : List ℕ) (x : ℕ) → k < b → k < length row
+    → x ≡ get_or row k 0 → n ≡ place + k + b * w k
     → set (laid b w place 0 (take k row) block) n x ≡ laid b w place 0 (take (k + 1) row) block
 row_more b w place k n row block x l m e f =
     let t : length (take k row) ≡ k = length-take-le k row (omega arith) in
     let u : turn_after b 0 (take k row) ≡ k = turn_of_row b (take k row) (omega arith) ∙ t in
-    let p : n ≡ place + length (take k row) + b * w (turn_after b 0 (take k row)) = omega (arith, f, t, ap (λ i. b * w i) u) in
+    let p : n ≡ place + length (take k row) + b * w (turn_after b 0 (take k row)) =
+    omega (arith, f, t, ap (λ i. b * w i) u) in
     ap₂ (λ i y. set (laid b w place 0 (take k row) block) i y) p e
-    ∙ sym (laid_more b w place 0 (take k row) block (get_or row k 0)) ∙ ap (λ ys. laid b w place 0 ys block) (sym (take_more row k 0 m))
+    ∙ sym (laid_more b w place 0 (take k row) block (get_or row k 0))
+    ∙ ap (λ ys. laid b w place 0 ys block) (sym (take_more row k 0 m))
 
 pub row_turn : (b : ℕ) (row : List ℕ) → 0 < b → length row ≡ b → turn_after b 0 row ≡ 0
 row_turn b row p e =
@@ -119,20 +151,27 @@ row_turn b row p e =
     ∙ turn_whole b (take (b - 1) row) (get_or row (b - 1) 0) (omega arith)
 
 -- more bytes
-pub lay_more : (b : ℕ) (w : ℕ → ℕ) (place next done count : ℕ) (bytes block now new : List ℕ) → now ≡ laid b w place next (take done bytes) block → done + count ≤ length bytes
-    → new ≡ laid b w (place + done) (turn_after b next (take done bytes)) (take count (drop done bytes)) now → new ≡ laid b w place next (take (done + count) bytes) block
+pub lay_more : (b : ℕ) (w : ℕ → ℕ) (place next done count : ℕ) (bytes block now new : List ℕ)
+    → now ≡ laid b w place next (take done bytes) block → done + count ≤ length bytes
+    → new ≡ laid b w (place + done) (turn_after b next (take done bytes)) (take count (drop done bytes)) now
+    → new ≡ laid b w place next (take (done + count) bytes) block
 lay_more b w place next done count bytes block now new e l f =
-    f ∙ ap₂ (λ n ys. laid b w n (turn_after b next (take done bytes)) (take count (drop done bytes)) ys) (ap (λ n. place + n) (sym (length-take-le done bytes (omega arith)))) e
+    f ∙ ap₂ (λ n ys. laid b w n (turn_after b next (take done bytes)) (take count (drop done bytes)) ys)
+    (ap (λ n. place + n) (sym (length-take-le done bytes (omega arith)))) e
     ∙ sym (laid-append b w place next (take done bytes) (take count (drop done bytes)) block)
     ∙ ap (λ ys. laid b w place next ys block) (sym (take-add done count bytes))
 
-pub turn_further : (b next done count turn new : ℕ) (bytes : List ℕ) → turn ≡ turn_after b next (take done bytes) → new ≡ turn_after b turn (take count (drop done bytes))
+pub turn_further : (b next done count turn new : ℕ) (bytes : List ℕ) → turn ≡ turn_after b next (take done bytes)
+    → new ≡ turn_after b turn (take count (drop done bytes))
     → new ≡ turn_after b next (take (done + count) bytes)
 turn_further b next done count turn new bytes e f =
-    f ∙ ap (λ n. turn_after b n (take count (drop done bytes))) e ∙ sym (turn_after-append b next (take done bytes) (take count (drop done bytes))) ∙ ap (turn_after b next) (sym (take-add done count bytes))
+    f ∙ ap (λ n. turn_after b n (take count (drop done bytes))) e
+    ∙ sym (turn_after-append b next (take done bytes) (take count (drop done bytes)))
+    ∙ ap (turn_after b next) (sym (take-add done count bytes))
 
 -- one byte
-pub laid_one : (b : ℕ) (w : ℕ → ℕ) (place next : ℕ) (bytes block : List ℕ) → 0 < length bytes → set block (place + b * w next) (get_or bytes 0 0) ≡ laid b w place next (take 1 bytes) block
+pub laid_one : (b : ℕ) (w : ℕ → ℕ) (place next : ℕ) (bytes block : List ℕ) → 0 < length bytes
+    → set block (place + b * w next) (get_or bytes 0 0) ≡ laid b w place next (take 1 bytes) block
 unfolding laid
 laid_one b w place next [] block l = absurd (omega arith)
 laid_one b w place next (x ∷ xs) block l = refl
@@ -151,14 +190,22 @@ row_within b m row place n l h =
 
 -- ---- a pass
 
-pub pass_branches : (b m : ℕ) (w : ℕ → ℕ) (place next at turn : ℕ) (bytes block moved new : List ℕ) → AreWidths b m w → next < b → place + b * m * (b - 1) ≤ length block
-    → take (b * m * (b - 1)) (drop at moved) ≡ take (b * m * (b - 1)) (drop place block) → at + length bytes + b * m * (b - 1) ≤ length moved
-    → new ≡ laid b w at next bytes moved → turn ≡ turn_after b next bytes → lying b w (at + length bytes) turn new ≡ after_all b (lying b w place next block) bytes
+pub pass_branches : (b m : ℕ) (w : ℕ → ℕ) (place next at turn : ℕ) (bytes block moved new : List ℕ) → AreWidths b m w
+    → next < b → place + b * m * (b - 1) ≤ length block
+    → take (b * m * (b - 1)) (drop at moved) ≡ take (b * m * (b - 1)) (drop place block)
+    → at + length bytes + b * m * (b - 1) ≤ length moved
+    → new ≡ laid b w at next bytes moved → turn ≡ turn_after b next bytes
+    → lying b w (at + length bytes) turn new ≡ after_all b (lying b w place next block) bytes
 pass_branches b m w place next at turn bytes block moved new a p l e h f t =
-    ap₂ (λ n ys. lying b w (at + length bytes) n ys) t f ∙ lying_all b m w at next bytes moved a p h ∙ ap (λ v. after_all b v bytes) (lying_moved b m w place next at block moved a p l e)
+    ap₂ (λ n ys. lying b w (at + length bytes) n ys) t f ∙ lying_all b m w at next bytes moved a p h
+    ∙ ap (λ v. after_all b v bytes) (lying_moved b m w place next at block moved a p l e)
 
-pub pass_bytes : (b m : ℕ) (w : ℕ → ℕ) (place next at : ℕ) (bytes block moved out : List ℕ) → AreWidths b m w → next < b → place + b * m * (b - 1) ≤ length block
-    → take (b * m * (b - 1)) (drop at moved) ≡ take (b * m * (b - 1)) (drop place block) → at + length bytes + b * m * (b - 1) ≤ length moved
-    → out ≡ take (length bytes) (drop at (laid b w at next bytes moved)) → out ≡ leaving_all b (lying b w place next block) bytes
+pub pass_bytes : (b m : ℕ) (w : ℕ → ℕ) (place next at : ℕ) (bytes block moved out : List ℕ) → AreWidths b m w → next < b
+    → place + b * m * (b - 1) ≤ length block
+    → take (b * m * (b - 1)) (drop at moved) ≡ take (b * m * (b - 1)) (drop place block)
+    → at + length bytes + b * m * (b - 1) ≤ length moved
+    → out ≡ take (length bytes) (drop at (laid b w at next bytes moved))
+    → out ≡ leaving_all b (lying b w place next block) bytes
 pass_bytes b m w place next at bytes block moved out a p l e h f =
-    f ∙ leaves_all b m w at next bytes moved a p h ∙ ap (λ v. leaving_all b v bytes) (lying_moved b m w place next at block moved a p l e)
+    f ∙ leaves_all b m w at next bytes moved a p h
+    ∙ ap (λ v. leaving_all b v bytes) (lying_moved b m w place next at block moved a p l e)

@@ -62,7 +62,8 @@ fn lay<W: Widths<B, M>, const B: usize, const M: usize>(
     turn
 }
 
-/// Lays a row of one byte for each branch where the turn is at branch 0 and there are as many, and else one byte. Gives how
+/// Lays a row of one byte for each branch where the turn is at branch 0 and there are as many, and else one byte. Gives
+/// how
 /// many it laid, and the next branch.
 fn lay_next<W: Widths<B, M>, const B: usize, const M: usize>(
     block: &mut [u8],
@@ -109,7 +110,8 @@ pub(crate) fn turn_back<const B: usize, const M: usize>(block: &mut [u8], place:
     requires numbers { IsInterleaver B M }
     requires below { next < B }
     requires within { place + B * M * (B - 1) ≤ length block.old }
-    ensures { (i j : ℕ) → i < B → j < M * (B - 1) → slice_index block.new (place + i + j * B) ≡ slice_index block.old (place + ahead B next i + j * B) }
+    ensures { (i j : ℕ) → i < B → j < M * (B - 1)
+        → slice_index block.new (place + i + j * B) ≡ slice_index block.old (place + ahead B next i + j * B) }
 {
     for row in 0..M * (B - 1) {
         turn_row::<B>(block, place + row * B, next);
@@ -120,7 +122,8 @@ pub(crate) fn turn_back<const B: usize, const M: usize>(block: &mut [u8], place:
 fn turn_row<const B: usize>(block: &mut [u8], from: usize, next: usize)
     requires below { next < B }
     requires within { from + B ≤ length block.old }
-    ensures turned { (i : ℕ) → i < B → slice_index block.new (from + i) ≡ slice_index block.old (from + ahead B next i) }
+    ensures turned { (i : ℕ) → i < B
+        → slice_index block.new (from + i) ≡ slice_index block.old (from + ahead B next i) }
     ensures before { (p : ℕ) → p < from → slice_index block.new p ≡ slice_index block.old p }
     ensures behind { (p : ℕ) → from + B ≤ p → slice_index block.new p ≡ slice_index block.old p }
 {

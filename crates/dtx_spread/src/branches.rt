@@ -9,7 +9,8 @@ use dtx_laws::Spread;
 use std::alloc::{AllocError, Global};
 use std::marker::Model;
 
-/// An interleaver of `B` branches, of which branch i delays by `M * i` of its own bytes (ATSC A/53 Part 2, interleaving).
+/// An interleaver of `B` branches, of which branch i delays by `M * i` of its own bytes (ATSC A/53 Part 2,
+/// interleaving).
 #[derive(Drop)]
 pub struct Branches<const B: usize, const M: usize> {
     lines: Lines<Spreading, B, M>,

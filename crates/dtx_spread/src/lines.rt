@@ -1,4 +1,5 @@
-//! Branches that lie in one block, in the order in which their bytes leave. Both ways share them, over the branches' widths.
+//! Branches that lie in one block, in the order in which their bytes leave. Both ways share them, over the branches'
+//! widths.
 
 ghost use Rattle.std.specs.Prelude.{◌≡◌, ◌≤◌, length, IfOk};
 ghost use Rattle.dtx_laws.specs.Branches.{IsInterleaver, HasWidths, zeroed, aligned, leaving_all, after_all};
@@ -48,7 +49,8 @@ impl<W: Widths<B, M>, const B: usize, const M: usize> Lines<W, B, M> {
         })
     }
 
-    /// `B` and `M` are the numbers of an interleaver, the next branch is below `B`, and each branch holds as many bytes as its
+    /// `B` and `M` are the numbers of an interleaver, the next branch is below `B`, and each branch holds as many bytes
+    /// as its
     /// width.
     pub(crate) fn known(&self)
         ensures numbers { IsInterleaver B M }

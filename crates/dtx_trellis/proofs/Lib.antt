@@ -1,10 +1,2 @@
-pub mod Steps
-pub mod Coders
-pub mod Rounds
 pub mod Ends
-pub mod GoesOn
-pub mod Joins
-pub mod LaneSteps
-pub mod LaneRounds
-pub mod Stores
 pub mod Rows

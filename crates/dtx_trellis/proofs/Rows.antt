@@ -5,15 +5,18 @@ use Rattle.dtx_trellis.specs.Pairs.{groups, group_place, byte_place, coder_at, p
 use Rattle.dtx_trellis.specs.Groups.{coder_after, level_at}
 
 -- the first symbols of segments 0 to 3 of a group at place 0, and of one at place 4
-pub coders : coder_at 0 0 ∷ coder_at 0 828 ∷ coder_at 0 1656 ∷ coder_at 0 2484 ∷ coder_at (group_place 0 1) 0 ∷ [] ≡ 0 ∷ 4 ∷ 8 ∷ 0 ∷ 4 ∷ []
+pub coders : coder_at 0 0 ∷ coder_at 0 828 ∷ coder_at 0 1656 ∷ coder_at 0 2484 ∷ coder_at (group_place 0 1) 0 ∷ []
+    ≡ 0 ∷ 4 ∷ 8 ∷ 0 ∷ 4 ∷ []
 unfolding coder_at group_place
 coders = refl
 
-pub places : byte_place 0 0 0 ∷ byte_place 0 69 4 ∷ byte_place 0 138 8 ∷ byte_place 0 207 0 ∷ (828 + byte_place (group_place 0 1) 0 4) ∷ [] ≡ 0 ∷ 208 ∷ 412 ∷ 616 ∷ 828 ∷ []
+pub places : byte_place 0 0 0 ∷ byte_place 0 69 4 ∷ byte_place 0 138 8 ∷ byte_place 0 207 0 ∷
+    (828 + byte_place (group_place 0 1) 0 4) ∷ [] ≡ 0 ∷ 208 ∷ 412 ∷ 616 ∷ 828 ∷ []
 unfolding byte_place group_place
 places = refl
 
-pub bits : (b : ℕ) → pair_in b 0 ∷ pair_in b 69 ∷ pair_in b 138 ∷ pair_in b 207 ∷ pair_in b 276 ∷ [] ≡ b / 64 % 4 ∷ b / 16 % 4 ∷ b / 4 % 4 ∷ b % 4 ∷ b / 64 % 4 ∷ []
+pub bits : (b : ℕ) → pair_in b 0 ∷ pair_in b 69 ∷ pair_in b 138 ∷ pair_in b 207 ∷ pair_in b 276 ∷ []
+    ≡ b / 64 % 4 ∷ b / 16 % 4 ∷ b / 4 % 4 ∷ b % 4 ∷ b / 64 % 4 ∷ []
 unfolding pair_in
 bits b = ap (λ x. b / 64 % 4 ∷ b / 16 % 4 ∷ b / 4 % 4 ∷ x % 4 ∷ b / 64 % 4 ∷ []) (whole b)
   where
@@ -34,7 +37,8 @@ pub nexts_with : map (λ n. number_of (next_of (state_of n) 0 1)) (0 ∷ 1 ∷ 2
 nexts_with = refl
 
 -- coder 0 of a group whose first byte alone isn't 0
-pub levels_of_byte : map (λ r. level_at 0 (replicate 12 0) (0x40 ∷ replicate 827 0) (12 * r)) (0 ∷ 1 ∷ 2 ∷ 3 ∷ 4 ∷ []) ≡ 2 ∷ 1 ∷ 0 ∷ 1 ∷ 0 ∷ []
+pub levels_of_byte : map (λ r. level_at 0 (replicate 12 0) (0x40 ∷ replicate 827 0) (12 * r)) (0 ∷ 1 ∷ 2 ∷ 3 ∷ 4 ∷ [])
+    ≡ 2 ∷ 1 ∷ 0 ∷ 1 ∷ 0 ∷ []
 unfolding level_at level z2 z0 alternate coder_at higher lower groups group_place pair_at byte_place pair_in
 levels_of_byte = refl
 

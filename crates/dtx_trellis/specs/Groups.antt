@@ -1,4 +1,5 @@
--- The twelve coders over the bytes of whole groups, from the state numbers of coders 0 to 11. The first group is at place s of
+-- The twelve coders over the bytes of whole groups, from the state numbers of coders 0 to 11. The first group is at
+-- place s of
 -- its field (ATSC A/53 Part 2, trellis coding).
 use Rattle.std.specs.Prelude.{ℕ, ◌*◌, ◌/◌, List, map, slice_index}
 use Rattle.std.specs.List.{range_with_len}
@@ -22,4 +23,5 @@ levels_of s states bytes = map (level_at s states bytes) (range_with_len 0 (GROU
 
 -- the state numbers after all pairs
 unfoldable pub states_after : ℕ → List ℕ → List ℕ → List ℕ
-states_after s states bytes = map (λ e. number_of (coder_after s states bytes (ROUNDS * groups bytes) e)) (range_with_len 0 CODERS)
+states_after s states bytes =
+    map (λ e. number_of (coder_after s states bytes (ROUNDS * groups bytes) e)) (range_with_len 0 CODERS)

@@ -1,4 +1,5 @@
--- Twelve coders side by side: lane p is of the coder at place p of a round, where the segment has moved the coders on by 4 * x.
+-- Twelve coders side by side: lane p is of the coder at place p of a round, where the segment has moved the coders on
+-- by 4 * x.
 use Rattle.std.specs.Prelude.{ℕ, ◌≡◌, ◌<◌, ◌+◌, ◌*◌, ◌/◌, ◌%◌, List, length, slice_index}
 use Rattle.dtx_trellis.specs.declared.group.TheConstants.{CODERS, SEGMENT_ROUNDS}
 use Rattle.dtx_trellis.specs.declared.lanes.TheConstants.{LANES}
@@ -27,4 +28,5 @@ pub record HoldsBytes (s : ℕ) (bytes : List ℕ) (r x : ℕ) (lanes : List ℕ
 
 -- the pairs of round r, as bits 2 and 1
 unfoldable pub HoldsPairs : ℕ → List ℕ → ℕ → ℕ → List ℕ → Type 0
-HoldsPairs s bytes r x lanes = (p : ℕ) → p < CODERS → slice_index lanes p / 2 % 4 ≡ pair_in (slice_index bytes (byte_place s r (coder_turned x p))) r
+HoldsPairs s bytes r x lanes = (p : ℕ) → p < CODERS
+    → slice_index lanes p / 2 % 4 ≡ pair_in (slice_index bytes (byte_place s r (coder_turned x p))) r

@@ -1,4 +1,5 @@
--- One trellis coder (ATSC A/53 Part 2, trellis coding): its bits as sums modulo 2 over all of its pairs, counted from 0.
+-- One trellis coder (ATSC A/53 Part 2, trellis coding): its bits as sums modulo 2 over all of its pairs, counted from
+-- 0.
 -- a has the higher bits of the pairs, X2, and b the lower ones, X1.
 use Rattle.std.specs.Prelude.{ℕ, ◌<◌, ◌+◌, ◌*◌, ◌-◌, ◌/◌, ◌%◌, ◌==◌, if◌then◌else◌, List, map, take, sum, slice_index}
 use Rattle.std.specs.List.{range_with_len}
@@ -23,7 +24,8 @@ z2 q a t = (q.q2 + sum (take (t + 1) a)) % 2
 unfoldable pub alternate : List ℕ → ℕ → ℕ
 alternate b t = sum (map (λ j. if (t + j) % 2 == 1 then slice_index b j else 0) (range_with_len 0 t))
 
--- Z0[t] = q1 + b[t - 1] + b[t - 3] + .. + b[1] where t is even, and q0 + b[t - 1] + b[t - 3] + .. + b[0] where it is odd
+-- Z0[t] = q1 + b[t - 1] + b[t - 3] + .. + b[1] where t is even, and q0 + b[t - 1] + b[t - 3] + .. + b[0] where it is
+-- odd
 unfoldable pub z0 : State → List ℕ → ℕ → ℕ
 z0 q b t = ((if t % 2 == 0 then q.q1 else q.q0) + alternate b t) % 2
 

@@ -36,9 +36,11 @@ impl Lanes {
     /// The lanes in the next segment, where each place has the coder of the place four further on.
     #[inline(always)]
     fn turned(self) -> Lanes
-        ensures long { (length result.top ≡ LANES) × (length result.middle ≡ LANES) × (length result.low ≡ LANES) × (length result.bytes ≡ LANES) }
+        ensures long { (length result.top ≡ LANES) × (length result.middle ≡ LANES) × (length result.low ≡ LANES)
+            × (length result.bytes ≡ LANES) }
         ensures top { (p : ℕ) → p < CODERS → slice_index result.top p ≡ slice_index self.top ((p + 4) % CODERS) }
-        ensures middle { (p : ℕ) → p < CODERS → slice_index result.middle p ≡ slice_index self.middle ((p + 4) % CODERS) }
+        ensures middle { (p : ℕ) → p < CODERS
+            → slice_index result.middle p ≡ slice_index self.middle ((p + 4) % CODERS) }
         ensures low { (p : ℕ) → p < CODERS → slice_index result.low p ≡ slice_index self.low ((p + 4) % CODERS) }
         ensures bytes { (p : ℕ) → p < CODERS → slice_index result.bytes p ≡ slice_index self.bytes ((p + 4) % CODERS) }
     {
@@ -63,9 +65,11 @@ impl Lanes {
     ) -> Lanes
         requires round { 0 < round }
         requires begins { IsTrue begins_segment ↔ (round % SEGMENT_ROUNDS ≡ 0) }
-        requires states { HoldsStates first from.now bytes.now round (turn first (round - 1)) self.top self.middle self.low }
+        requires states { HoldsStates first from.now bytes.now round
+            (turn first (round - 1)) self.top self.middle self.low }
         requires bytes { HoldsBytes first bytes.now round (turn first (round - 1)) self.bytes }
-        ensures states { HoldsStates first from.now bytes.now round (turn first round) result.top result.middle result.low }
+        ensures states { HoldsStates first from.now bytes.now round
+            (turn first round) result.top result.middle result.low }
         ensures bytes { HoldsBytes first bytes.now round (turn first round) result.bytes }
     {
         if begins_segment { self.turned() } else { self }
@@ -86,9 +90,11 @@ impl Lanes {
         requires round { round < ROUNDS }
         requires states { HoldsStates first from.now bytes.now round (turn first round) self.top self.middle self.low }
         requires pairs { HoldsPairs first bytes.now round (turn first round) pairs }
-        ensures states { HoldsStates first from.now bytes.now (round + 1) (turn first round) result.0.top result.0.middle result.0.low }
+        ensures states { HoldsStates first from.now bytes.now (round + 1)
+            (turn first round) result.0.top result.0.middle result.0.low }
         ensures bytes { result.0.bytes ≡ self.bytes }
-        ensures levels { (p : ℕ) → p < CODERS → slice_index result.1 p ≡ level_at first from.now bytes.now (CODERS * round + p) }
+        ensures levels { (p : ℕ) → p < CODERS
+            → slice_index result.1 p ≡ level_at first from.now bytes.now (CODERS * round + p) }
     {
         let one = u8x16::splat(1);
         let pair = pairs & u8x16::splat(6);

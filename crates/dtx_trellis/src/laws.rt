@@ -1,7 +1,8 @@
 //! Laws of the definitions: stepping a state gives the sums, and groups go on from the states that
 //! the groups before them leave. The sizes, and worked places of the standard's tables.
 
-ghost use Rattle.std.specs.Prelude.{◌≡◌, ℕ, ◌+◌, ◌*◌, ◌/◌, ◌%◌, ◌<◌, ◌≤◌, ◌++◌, List, [], ◌∷◌, length, map, replicate, slice_index};
+ghost use Rattle.std.specs.Prelude.{◌≡◌, ℕ, ◌+◌, ◌*◌, ◌/◌, ◌%◌, ◌<◌, ◌≤◌, ◌++◌, List, [], ◌∷◌, length, map, replicate};
+ghost use Rattle.std.specs.Prelude.{slice_index};
 ghost use Rattle.dtx_trellis.specs.Trellis.{State, AreBits, level, level_of, next_of, number_of, state_after, state_of};
 ghost use Rattle.dtx_trellis.specs.Pairs.{byte_place, coder_at, group_place, higher, lower, pair_in};
 ghost use Rattle.dtx_trellis.specs.Groups.{coder_after, level_at, levels_of, states_after};
@@ -21,13 +22,18 @@ pub fn sizes()
     ensures segments { FIELD ≡ 312 }
 {}
 
-/// The first data symbols of segments 0 to 4 of a field: their coders, the bytes of the field on which these work, and which
-/// bits of the byte they take: 7 and 6, 5 and 4, 3 and 2, 1 and 0, and 7 and 6 again (ATSC A/53 Part 2, the table of byte to
+/// The first data symbols of segments 0 to 4 of a field: their coders, the bytes of the field on which these work, and
+/// which
+/// bits of the byte they take: 7 and 6, 5 and 4, 3 and 2, 1 and 0, and 7 and 6 again (ATSC A/53 Part 2, the table of
+/// byte to
 /// symbol conversion).
 pub fn first_symbols()
-    ensures coders { coder_at 0 0 ∷ coder_at 0 828 ∷ coder_at 0 1656 ∷ coder_at 0 2484 ∷ coder_at (group_place 0 1) 0 ∷ [] ≡ 0 ∷ 4 ∷ 8 ∷ 0 ∷ 4 ∷ [] }
-    ensures bytes { byte_place 0 0 0 ∷ byte_place 0 69 4 ∷ byte_place 0 138 8 ∷ byte_place 0 207 0 ∷ (GROUP_BYTES + byte_place (group_place 0 1) 0 4) ∷ [] ≡ 0 ∷ 208 ∷ 412 ∷ 616 ∷ 828 ∷ [] }
-    ensures bits { (b : ℕ) → pair_in b 0 ∷ pair_in b 69 ∷ pair_in b 138 ∷ pair_in b 207 ∷ pair_in b 276 ∷ [] ≡ b / 64 % 4 ∷ b / 16 % 4 ∷ b / 4 % 4 ∷ b % 4 ∷ b / 64 % 4 ∷ [] }
+    ensures coders { coder_at 0 0 ∷ coder_at 0 828 ∷ coder_at 0 1656 ∷ coder_at 0 2484 ∷ coder_at
+        (group_place 0 1) 0 ∷ [] ≡ 0 ∷ 4 ∷ 8 ∷ 0 ∷ 4 ∷ [] }
+    ensures bytes { byte_place 0 0 0 ∷ byte_place 0 69 4 ∷ byte_place 0 138 8 ∷ byte_place 0 207 0 ∷
+        (GROUP_BYTES + byte_place (group_place 0 1) 0 4) ∷ [] ≡ 0 ∷ 208 ∷ 412 ∷ 616 ∷ 828 ∷ [] }
+    ensures bits { (b : ℕ) → pair_in b 0 ∷ pair_in b 69 ∷ pair_in b 138 ∷ pair_in b 207 ∷ pair_in b 276 ∷ []
+        ≡ b / 64 % 4 ∷ b / 16 % 4 ∷ b / 4 % 4 ∷ b % 4 ∷ b / 64 % 4 ∷ [] }
 {}
 
 /// The level and the next state of each q1 and q0, for X1 = 0 and for X1 = 1, where q2 and X2 are 0.
@@ -38,10 +44,12 @@ pub fn table()
     ensures nexts_with { map (λ n. number_of (next_of (state_of n) 0 1)) (0 ∷ 1 ∷ 2 ∷ 3 ∷ []) ≡ 2 ∷ 0 ∷ 3 ∷ 1 ∷ [] }
 {}
 
-/// Byte 0x40 into coder 0 from state 0, with zeros behind it: its first five levels, which are the symbols -3, -5, -7, -5 and
+/// Byte 0x40 into coder 0 from state 0, with zeros behind it: its first five levels, which are the symbols -3, -5, -7,
+/// -5 and
 /// -7, and its state behind the first.
 pub fn one_byte()
-    ensures levels { map (λ r. level_at 0 (replicate 12 0) (0x40 ∷ replicate 827 0) (12 * r)) (0 ∷ 1 ∷ 2 ∷ 3 ∷ 4 ∷ []) ≡ 2 ∷ 1 ∷ 0 ∷ 1 ∷ 0 ∷ [] }
+    ensures levels { map (λ r. level_at 0 (replicate 12 0) (0x40 ∷ replicate 827 0) (12 * r)) (0 ∷ 1 ∷ 2 ∷ 3 ∷ 4 ∷ [])
+        ≡ 2 ∷ 1 ∷ 0 ∷ 1 ∷ 0 ∷ [] }
     ensures state { coder_after 0 (replicate 12 0) (0x40 ∷ replicate 827 0) 1 0 ≡ record { q2 = 0; q1 = 1; q0 = 0 } }
 {}
 
@@ -64,10 +72,13 @@ pub fn goes_on()
 
 /// Behind `u` whole groups the coders go on from the states that these leave.
 pub fn group_after_group()
-    ensures higher { (s u e : ℕ) (y z : List ℕ) → length y ≡ GROUP_BYTES * u → higher s (y ++ z) e ≡ higher s y e ++ higher (group_place s u) z e }
-    ensures lower { (s u e : ℕ) (y z : List ℕ) → length y ≡ GROUP_BYTES * u → lower s (y ++ z) e ≡ lower s y e ++ lower (group_place s u) z e }
+    ensures higher { (s u e : ℕ) (y z : List ℕ) → length y ≡ GROUP_BYTES * u
+        → higher s (y ++ z) e ≡ higher s y e ++ higher (group_place s u) z e }
+    ensures lower { (s u e : ℕ) (y z : List ℕ) → length y ≡ GROUP_BYTES * u
+        → lower s (y ++ z) e ≡ lower s y e ++ lower (group_place s u) z e }
     ensures states { (s u : ℕ) (states y z : List ℕ) → length y ≡ GROUP_BYTES * u
         → states_after s states (y ++ z) ≡ states_after (group_place s u) (states_after s states y) z }
     ensures levels { (s u : ℕ) (states y z : List ℕ) → length y ≡ GROUP_BYTES * u
-        → levels_of s states (y ++ z) ≡ levels_of s states y ++ levels_of (group_place s u) (states_after s states y) z }
+        → levels_of s states (y ++ z) ≡ levels_of s states y
+        ++ levels_of (group_place s u) (states_after s states y) z }
 {}

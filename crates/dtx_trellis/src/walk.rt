@@ -25,7 +25,8 @@ pub(crate) fn walk(
     requires { first < FIELD }
     ensures levels { (d : ℕ) → d < GROUP_LEVELS → slice_index levels.new d ≡ level_at first from.now bytes.now d }
     ensures long { length result ≡ CODERS }
-    ensures states { (e : ℕ) → e < CODERS → slice_index result e ≡ number_of (coder_after first from.now bytes.now ROUNDS e) }
+    ensures states { (e : ℕ) → e < CODERS
+        → slice_index result e ≡ number_of (coder_after first from.now bytes.now ROUNDS e) }
 {
     let mut lanes = laid_out(from, first, bytes);
     for byte in 0..CODER_BYTES {
@@ -46,9 +47,12 @@ fn byte_group(
 ) -> Lanes
     requires first { first < FIELD }
     requires group { byte < CODER_BYTES }
-    requires states { HoldsStates first from.now bytes.now (4 * byte) (turn first (4 * byte - 1)) start.top start.middle start.low }
-    ensures states { HoldsStates first from.now bytes.now (4 * byte + 4) (turn first (4 * byte + 3)) result.top result.middle result.low }
-    ensures levels { (p : ℕ) → p < 4 * CODERS → slice_index levels.new (4 * CODERS * byte + p) ≡ level_at first from.now bytes.now (4 * CODERS * byte + p) }
+    requires states { HoldsStates first from.now bytes.now (4 * byte)
+        (turn first (4 * byte - 1)) start.top start.middle start.low }
+    ensures states { HoldsStates first from.now bytes.now (4 * byte + 4)
+        (turn first (4 * byte + 3)) result.top result.middle result.low }
+    ensures levels { (p : ℕ) → p < 4 * CODERS → slice_index levels.new (4 * CODERS * byte + p)
+        ≡ level_at first from.now bytes.now (4 * CODERS * byte + p) }
     ensures before { (d : ℕ) → d < 4 * CODERS * byte → slice_index levels.new d ≡ slice_index levels.old d }
 {
     // Of the rounds in which a segment begins, one is the second of its byte, one the third and one the fourth.
@@ -90,9 +94,11 @@ fn advance(
     requires states { HoldsStates first from.now bytes.now round (turn first round) lanes.top lanes.middle lanes.low }
     requires bytes { HoldsBytes first bytes.now round (turn first round) lanes.bytes }
     requires pairs { HoldsPairs first bytes.now round (turn first round) pairs }
-    ensures states { HoldsStates first from.now bytes.now (round + 1) (turn first (round + 1)) result.top result.middle result.low }
+    ensures states { HoldsStates first from.now bytes.now (round + 1)
+        (turn first (round + 1)) result.top result.middle result.low }
     ensures bytes { HoldsBytes first bytes.now (round + 1) (turn first (round + 1)) result.bytes }
-    ensures levels { (p : ℕ) → p < CODERS → slice_index levels.new (CODERS * round + p) ≡ level_at first from.now bytes.now (CODERS * round + p) }
+    ensures levels { (p : ℕ) → p < CODERS → slice_index levels.new (CODERS * round + p)
+        ≡ level_at first from.now bytes.now (CODERS * round + p) }
     ensures before { (d : ℕ) → d < CODERS * round → slice_index levels.new d ≡ slice_index levels.old d }
 {
     let after = emit(lanes, pairs, first, from, bytes, round, levels);
@@ -115,9 +121,11 @@ fn emit(
     requires round { round < ROUNDS }
     requires states { HoldsStates first from.now bytes.now round (turn first round) lanes.top lanes.middle lanes.low }
     requires pairs { HoldsPairs first bytes.now round (turn first round) pairs }
-    ensures states { HoldsStates first from.now bytes.now (round + 1) (turn first round) result.top result.middle result.low }
+    ensures states { HoldsStates first from.now bytes.now (round + 1)
+        (turn first round) result.top result.middle result.low }
     ensures bytes { result.bytes ≡ lanes.bytes }
-    ensures levels { (p : ℕ) → p < CODERS → slice_index levels.new (CODERS * round + p) ≡ level_at first from.now bytes.now (CODERS * round + p) }
+    ensures levels { (p : ℕ) → p < CODERS → slice_index levels.new (CODERS * round + p)
+        ≡ level_at first from.now bytes.now (CODERS * round + p) }
     ensures before { (d : ℕ) → d < CODERS * round → slice_index levels.new d ≡ slice_index levels.old d }
 {
     let (after, level) = lanes.step(pairs, first, from, bytes, round);
@@ -203,9 +211,11 @@ fn numbers(
     bytes: &[u8; GROUP_BYTES],
 ) -> [u8; CODERS]
     requires first { first < FIELD }
-    requires states { HoldsStates first from.now bytes.now ROUNDS (turn first LAST_ROUND) lanes.top lanes.middle lanes.low }
+    requires states { HoldsStates first from.now bytes.now ROUNDS
+        (turn first LAST_ROUND) lanes.top lanes.middle lanes.low }
     ensures long { length result ≡ CODERS }
-    ensures numbers { (e : ℕ) → e < CODERS → slice_index result e ≡ number_of (coder_after first from.now bytes.now ROUNDS e) }
+    ensures numbers { (e : ℕ) → e < CODERS
+        → slice_index result e ≡ number_of (coder_after first from.now bytes.now ROUNDS e) }
 {
     let top = lanes.top.to_array();
     let middle = lanes.middle.to_array();

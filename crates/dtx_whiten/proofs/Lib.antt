@@ -1,4 +1,3 @@
 pub mod Division
 pub mod Shifts
-pub mod Packets
 pub mod Bytes

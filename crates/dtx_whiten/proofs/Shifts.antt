@@ -13,7 +13,8 @@ pub register_next : (t : ℕ) → register (t + 1) ≡ remainder 16 polynomial 1
 unfolding register
 register_next t =
     ap register_of (add-one t)
-    ∙ ap (remainder 16 polynomial (suc t)) (ap (λ (x : ℕ). preload * x) (pow-suc 2 t) ∙ sym (mul_assoc preload (2 ^ t) 2))
+    ∙ ap (remainder 16 polynomial (suc t)) (ap (λ (x : ℕ). preload * x) (pow-suc 2 t)
+    ∙ sym (mul_assoc preload (2 ^ t) 2))
     ∙ remainder_double 16 polynomial t (preload * 2 ^ t)
   where
     register_of : ℕ → ℕ

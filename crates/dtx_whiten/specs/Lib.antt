@@ -1,3 +1,4 @@
 pub mod Randomizer
 pub mod Randomized
 pub mod Bytes
+pub mod PacketsLaws

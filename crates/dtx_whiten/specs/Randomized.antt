@@ -7,7 +7,8 @@ use Rattle.dtx_whiten.specs.Randomizer.{randomizer_byte}
 -- what packet k of a stream is sent as, where packet 0 begins a data field: byte 1 + j of the packet, plus bit by bit
 -- the randomizer's byte 187 * (k mod 312) + j, for each j below 187. The sync byte isn't sent.
 unfoldable pub randomized : ℕ → List ℕ → List ℕ
-randomized k packet = map (λ j. bit_xor (slice_index packet (1 + j)) (randomizer_byte (187 * (k % 312) + j))) (range_with_len 0 187)
+randomized k packet =
+    map (λ j. bit_xor (slice_index packet (1 + j)) (randomizer_byte (187 * (k % 312) + j))) (range_with_len 0 187)
 
 -- all packets of a stream
 unfoldable pub randomized_stream : List (List ℕ) → List (List ℕ)

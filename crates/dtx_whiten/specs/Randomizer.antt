@@ -19,7 +19,8 @@ register t = remainder 16 polynomial t (preload * 2 ^ t)
 
 -- the byte whose bits 0 to 7 are the coefficients of X^0, X^2, X^3, X^6, X^10, X^11, X^12 and X^13
 unfoldable pub tapped : ℕ → ℕ
-tapped p = bit_at p 0 + 2 * bit_at p 2 + 4 * bit_at p 3 + 8 * bit_at p 6 + 16 * bit_at p 10 + 32 * bit_at p 11 + 64 * bit_at p 12 + 128 * bit_at p 13
+tapped p = bit_at p 0 + 2 * bit_at p 2 + 4 * bit_at p 3 + 8 * bit_at p 6 + 16 * bit_at p 10 + 32 * bit_at p
+    11 + 64 * bit_at p 12 + 128 * bit_at p 13
 
 -- byte t of a data field's randomizer
 unfoldable pub randomizer_byte : ℕ → ℕ

@@ -1,6 +1,7 @@
 //! The laws of the randomizer, over the definitions.
 
-ghost use Rattle.std.specs.Prelude.{◌≡◌, ℕ, ◌+◌, ◌-◌, ◌*◌, ◌%◌, ◌<◌, ◌^◌, List, length, drop, slice_index, slice_index_or, []};
+ghost use Rattle.std.specs.Prelude.{◌≡◌, ℕ, ◌+◌, ◌-◌, ◌*◌, ◌%◌, ◌<◌, ◌^◌, List, length, drop, slice_index};
+ghost use Rattle.std.specs.Prelude.{slice_index_or, []};
 ghost use Rattle.std.specs.Int.RustNames.{bit_xor};
 ghost use Rattle.dtx_galois.specs.BitPolynomial.{product, remainder};
 ghost use Rattle.dtx_laws.specs.Whitening.{whitened};
@@ -13,7 +14,8 @@ use crate::field::{FIELD_PACKETS, PACKET_DATA};
 /// multiple of it.
 pub fn division()
     ensures small { (t : ℕ) → register t < 2 ^ 16 }
-    ensures multiple { (t : ℕ) → (quotient : ℕ) × (quotient < 2 ^ t) × (preload * 2 ^ t ≡ bit_xor (product t quotient polynomial) (register t)) }
+    ensures multiple { (t : ℕ) → (quotient : ℕ) × (quotient < 2 ^ t)
+        × (preload * 2 ^ t ≡ bit_xor (product t quotient polynomial) (register t)) }
 {}
 
 /// Byte `at` of the list is byte `at` of the randomizer.
@@ -23,6 +25,8 @@ pub fn bytes()
 
 /// A packet is randomized by whitening what follows its sync byte, from its own place in the field on.
 pub fn packets()
-    ensures packet { (k : ℕ) (packet : List ℕ) → length packet ≡ 1 + PACKET_DATA → randomized k packet ≡ whitened randomizer_bytes (PACKET_DATA * (k % FIELD_PACKETS)) (drop 1 packet) }
-    ensures stream { (stream : List (List ℕ)) (k : ℕ) → k < length stream → slice_index_or (randomized_stream stream) k [] ≡ randomized k (slice_index_or stream k []) }
+    ensures packet { (k : ℕ) (packet : List ℕ) → length packet ≡ 1 + PACKET_DATA
+        → randomized k packet ≡ whitened randomizer_bytes (PACKET_DATA * (k % FIELD_PACKETS)) (drop 1 packet) }
+    ensures stream { (stream : List (List ℕ)) (k : ℕ) → k < length stream
+        → slice_index_or (randomized_stream stream) k [] ≡ randomized k (slice_index_or stream k []) }
 {}

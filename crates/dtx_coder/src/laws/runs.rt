@@ -1,14 +1,18 @@
-//! Groups that a coder is given one after another, whatever it was given before: from preset states on, the levels are one closed
+//! Groups that a coder is given one after another, whatever it was given before: from preset states on, the levels are
+//! one closed
 //! sum over all bytes since.
 
-ghost use Rattle.std.specs.Prelude.{◌≡◌, ℕ, ◌+◌, ◌-◌, ◌*◌, ◌/◌, ◌%◌, ◌<◌, ◌≤◌, if◌then◌else◌, ◌++◌, [], ◌∷◌, List, length, drop};
+ghost use Rattle.std.specs.Prelude.{◌≡◌, ℕ, ◌+◌, ◌-◌, ◌*◌, ◌/◌, ◌%◌, ◌<◌, ◌≤◌, if◌then◌else◌, ◌++◌, [], ◌∷◌, List};
+ghost use Rattle.std.specs.Prelude.{length, drop};
 ghost use Rattle.dtx_laws.specs.Branches.{HasWidths, spreading, leaving_all, after_all};
 ghost use Rattle.dtx_frame.specs.Segments.{field_sync};
 ghost use Rattle.dtx_trellis.specs.Groups.{levels_of, states_after};
 ghost use Rattle.dtx_coder.specs.Coded.{coded};
 ghost use Rattle.dtx_coder.specs.Stream.{segment, four_segments, last_of};
-ghost use Rattle.dtx_coder.specs.Groups.{Coding, Group, aligned_coding, after_group, segments_of, coded_groups, bytes_of_groups};
-ghost use Rattle.dtx_coder.specs.Runs.{AreStates, AreInTurn, IsRun, after_groups, segments_of_groups, packets_of, last_in, run_segments};
+ghost use Rattle.dtx_coder.specs.Groups.{Coding, Group, aligned_coding, after_group, segments_of, coded_groups};
+ghost use Rattle.dtx_coder.specs.Groups.{bytes_of_groups};
+ghost use Rattle.dtx_coder.specs.Runs.{AreStates, AreInTurn, IsRun, after_groups, segments_of_groups, packets_of};
+ghost use Rattle.dtx_coder.specs.Runs.{last_in, run_segments};
 ghost use Rattle.dtx_coder.specs.Along.{IsNext, RunsAlong, levels_since, states_since};
 
 use crate::sizes::{BRANCH_STEP, BRANCHES, GROUP_PACKETS, SETTLED_PACKETS};
@@ -16,61 +20,91 @@ use dtx_trellis::{FIELD, GROUP_BYTES};
 
 /// Groups may be cut anywhere: those behind the cut go on from what the ones before it leave.
 pub fn one_after_another()
-    ensures coder { (coder : Coding) (front rest : List Group) → after_groups coder (front ++ rest) ≡ after_groups (after_groups coder front) rest }
-    ensures bytes { (coder : Coding) (front rest : List Group) → bytes_of_groups coder (front ++ rest) ≡ bytes_of_groups coder front ++ bytes_of_groups (after_groups coder front) rest }
-    ensures segments { (coder : Coding) (front rest : List Group) → segments_of_groups coder (front ++ rest) ≡ segments_of_groups coder front ++ segments_of_groups (after_groups coder front) rest }
+    ensures coder { (coder : Coding) (front rest : List Group)
+        → after_groups coder (front ++ rest) ≡ after_groups (after_groups coder front) rest }
+    ensures bytes { (coder : Coding) (front rest : List Group)
+        → bytes_of_groups coder (front ++ rest) ≡ bytes_of_groups coder front
+        ++ bytes_of_groups (after_groups coder front) rest }
+    ensures segments { (coder : Coding) (front rest : List Group)
+        → segments_of_groups coder (front ++ rest) ≡ segments_of_groups coder front
+        ++ segments_of_groups (after_groups coder front) rest }
 {}
 
 /// What leaves the interleaver while groups are given, and what its branches hold behind them.
 pub fn interleaved_groups()
-    ensures bytes { (coder : Coding) (groups : List Group) → bytes_of_groups coder groups ≡ leaving_all BRANCHES coder.branches (coded_groups groups) }
-    ensures branches { (coder : Coding) (groups : List Group) → (after_groups coder groups).branches ≡ after_all BRANCHES coder.branches (coded_groups groups) }
-    ensures long { (coder : Coding) (groups : List Group) (s : ℕ) → AreInTurn s groups → length (bytes_of_groups coder groups) ≡ GROUP_BYTES * length groups }
+    ensures bytes { (coder : Coding) (groups : List Group)
+        → bytes_of_groups coder groups ≡ leaving_all BRANCHES coder.branches (coded_groups groups) }
+    ensures branches { (coder : Coding) (groups : List Group)
+        → (after_groups coder groups).branches ≡ after_all BRANCHES coder.branches (coded_groups groups) }
+    ensures long { (coder : Coding) (groups : List Group) (s : ℕ) → AreInTurn s groups
+        → length (bytes_of_groups coder groups) ≡ GROUP_BYTES * length groups }
     ensures packets { (groups : List Group) → AreInTurn 0 groups → coded_groups groups ≡ coded (packets_of groups) }
 {}
 
-/// The segments of a run are those of the levels that its first states and all of its bytes give, and so are the states and the
+/// The segments of a run are those of the levels that its first states and all of its bytes give, and so are the states
+/// and the
 /// last twelve symbols behind it.
 pub fn runs()
     ensures segments { (coder : Coding) (s : ℕ) (q : List ℕ) (groups : List Group) → IsRun s q coder groups
-        → segments_of_groups coder groups ≡ run_segments coder.last (levels_of s q (bytes_of_groups coder groups)) groups }
-    ensures states { (coder : Coding) (s : ℕ) (q : List ℕ) (groups : List Group) → IsRun s q coder groups → 0 < length groups
+        → segments_of_groups coder groups ≡ run_segments coder.last
+        (levels_of s q (bytes_of_groups coder groups)) groups }
+    ensures states { (coder : Coding) (s : ℕ) (q : List ℕ) (groups : List Group) → IsRun s q coder groups
+        → 0 < length groups
         → (after_groups coder groups).states ≡ states_after s q (bytes_of_groups coder groups) }
     ensures last { (coder : Coding) (s : ℕ) (q : List ℕ) (groups : List Group) → IsRun s q coder groups
-        → (after_groups coder groups).last ≡ last_in coder.last (levels_of s q (bytes_of_groups coder groups)) (length groups) }
+        → (after_groups coder groups).last ≡ last_in coder.last (levels_of s q (bytes_of_groups coder groups))
+        (length groups) }
 {}
 
-/// A run with preset states behind other groups: of these only what they left in the branches, and the last twelve symbols,
+/// A run with preset states behind other groups: of these only what they left in the branches, and the last twelve
+/// symbols,
 /// which end a first field sync, come into its segments.
 pub fn restarts()
-    ensures segments { (coder : Coding) (front run : List Group) (r s : ℕ) (q : List ℕ) → AreInTurn r front → IsRun s q (after_groups coder front) run
+    ensures segments { (coder : Coding) (front run : List Group) (r s : ℕ) (q : List ℕ) → AreInTurn r front
+        → IsRun s q (after_groups coder front) run
         → segments_of_groups coder (front ++ run)
-        ≡ segments_of_groups coder front ++ run_segments (after_groups coder front).last (levels_of s q (drop (GROUP_BYTES * length front) (bytes_of_groups coder (front ++ run)))) run }
-    ensures states { (coder : Coding) (front run : List Group) (r s : ℕ) (q : List ℕ) → AreInTurn r front → IsRun s q (after_groups coder front) run → 0 < length run
-        → (after_groups coder (front ++ run)).states ≡ states_after s q (drop (GROUP_BYTES * length front) (bytes_of_groups coder (front ++ run))) }
+        ≡ segments_of_groups coder front ++ run_segments (after_groups coder front).last
+        (levels_of s q (drop (GROUP_BYTES * length front) (bytes_of_groups coder (front ++ run)))) run }
+    ensures states { (coder : Coding) (front run : List Group) (r s : ℕ) (q : List ℕ) → AreInTurn r front
+        → IsRun s q (after_groups coder front) run → 0 < length run
+        → (after_groups coder (front ++ run)).states
+        ≡ states_after s q (drop (GROUP_BYTES * length front) (bytes_of_groups coder (front ++ run))) }
 {}
 
-/// A coder that runs along with a stream from an align: it begins so, and goes on so with each next group, with preset states
+/// A coder that runs along with a stream from an align: it begins so, and goes on so with each next group, with preset
+/// states
 /// or without.
 pub fn along()
-    ensures begins { (coder : Coding) → AreStates coder.states → HasWidths BRANCHES (spreading BRANCH_STEP) coder.branches → RunsAlong [] 0 coder.states (aligned_coding coder) }
-    ensures goes_on { (packets : List (List ℕ)) (g : ℕ) (q : List ℕ) (coder : Coding) (group : Group) → RunsAlong packets g q coder → IsNext packets coder.states group
+    ensures begins { (coder : Coding) → AreStates coder.states
+        → HasWidths BRANCHES (spreading BRANCH_STEP) coder.branches
+        → RunsAlong [] 0 coder.states (aligned_coding coder) }
+    ensures goes_on { (packets : List (List ℕ)) (g : ℕ) (q : List ℕ) (coder : Coding) (group : Group)
+        → RunsAlong packets g q coder → IsNext packets coder.states group
         → RunsAlong (packets ++ group.packets) g q (after_group coder group) }
-    ensures preset { (packets : List (List ℕ)) (g : ℕ) (q p : List ℕ) (coder : Coding) (group : Group) → RunsAlong packets g q coder → IsNext packets p group
+    ensures preset { (packets : List (List ℕ)) (g : ℕ) (q p : List ℕ) (coder : Coding) (group : Group)
+        → RunsAlong packets g q coder → IsNext packets p group
         → RunsAlong (packets ++ group.packets) (length packets / GROUP_PACKETS) p (after_group coder group) }
 {}
 
-/// Where the last preset states came 52 packets or more behind the align, nothing that the coder was given before the align is
-/// left: the next group's data segments, the states and the last twelve symbols are those of the packets since the align, with
+/// Where the last preset states came 52 packets or more behind the align, nothing that the coder was given before the
+/// align is
+/// left: the next group's data segments, the states and the last twelve symbols are those of the packets since the
+/// align, with
 /// the coders begun from the preset states at their group.
 pub fn sent_along()
-    ensures group { (packets : List (List ℕ)) (g : ℕ) (q : List ℕ) (coder : Coding) (group : Group) → RunsAlong packets g q coder → SETTLED_PACKETS ≤ GROUP_PACKETS * g → IsNext packets coder.states group
+    ensures group { (packets : List (List ℕ)) (g : ℕ) (q : List ℕ) (coder : Coding) (group : Group)
+        → RunsAlong packets g q coder → SETTLED_PACKETS ≤ GROUP_PACKETS * g → IsNext packets coder.states group
         → segments_of coder group
-        ≡ (if group.sync then field_sync group.second coder.last ∷ [] else []) ++ four_segments (levels_since g q (packets ++ group.packets)) (length packets - GROUP_PACKETS * g) }
-    ensures preset { (packets : List (List ℕ)) (g : ℕ) (q p : List ℕ) (coder : Coding) (group : Group) → RunsAlong packets g q coder → SETTLED_PACKETS ≤ length packets → IsNext packets p group
+        ≡ (if group.sync then field_sync group.second coder.last ∷ [] else [])
+        ++ four_segments (levels_since g q (packets ++ group.packets)) (length packets - GROUP_PACKETS * g) }
+    ensures preset { (packets : List (List ℕ)) (g : ℕ) (q p : List ℕ) (coder : Coding) (group : Group)
+        → RunsAlong packets g q coder → SETTLED_PACKETS ≤ length packets → IsNext packets p group
         → segments_of coder group
-        ≡ (if group.sync then field_sync group.second coder.last ∷ [] else []) ++ four_segments (levels_since (length packets / GROUP_PACKETS) p (packets ++ group.packets)) 0 }
-    ensures states { (packets : List (List ℕ)) (g : ℕ) (q : List ℕ) (coder : Coding) → RunsAlong packets g q coder → SETTLED_PACKETS ≤ GROUP_PACKETS * g → coder.states ≡ states_since g q packets }
-    ensures last { (packets : List (List ℕ)) (g : ℕ) (q : List ℕ) (coder : Coding) → RunsAlong packets g q coder → SETTLED_PACKETS ≤ GROUP_PACKETS * g → GROUP_PACKETS * g < length packets
+        ≡ (if group.sync then field_sync group.second coder.last ∷ [] else [])
+        ++ four_segments (levels_since (length packets / GROUP_PACKETS) p (packets ++ group.packets)) 0 }
+    ensures states { (packets : List (List ℕ)) (g : ℕ) (q : List ℕ) (coder : Coding) → RunsAlong packets g q coder
+        → SETTLED_PACKETS ≤ GROUP_PACKETS * g → coder.states ≡ states_since g q packets }
+    ensures last { (packets : List (List ℕ)) (g : ℕ) (q : List ℕ) (coder : Coding) → RunsAlong packets g q coder
+        → SETTLED_PACKETS ≤ GROUP_PACKETS * g → GROUP_PACKETS * g < length packets
         → coder.last ≡ last_of (segment (levels_since g q packets) (length packets - GROUP_PACKETS * g - 1)) }
 {}

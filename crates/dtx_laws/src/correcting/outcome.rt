@@ -41,7 +41,8 @@ pub fn accept<E: Encode<N, K>, const N: usize, const K: usize>(
     word: &mut [u8; N],
     tried: &[u8; N],
 ) -> Result<u8, TooMany>
-    ensures answer { MatchResult result (IsCorrected N K word.old word.new) (λ _e. IsRefused N K tried.now word.old word.new) }
+    ensures answer { MatchResult result (IsCorrected N K word.old word.new)
+        (λ _e. IsRefused N K tried.now word.old word.new) }
     ensures long { length word.new ≡ N }
 {
     encoder.known();

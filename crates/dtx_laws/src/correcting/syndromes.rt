@@ -7,13 +7,15 @@ ghost use Rattle.dtx_galois.specs.Word.{sums};
 use crate::correcting::ROOM;
 use dtx_galois::{ALPHA, Gf};
 
-/// As many syndromes as there are parity bytes, from these bytes of the word and of the codeword that begins with its data:
+/// As many syndromes as there are parity bytes, from these bytes of the word and of the codeword that begins with its
+/// data:
 /// the syndromes of a sum are the sums of the syndromes, and those of a codeword are 0.
 pub fn syndromes_of(parity: &[u8], right: &[u8]) -> [u8; ROOM]
     requires same { length parity.now ≡ length right.now }
     requires few { length parity.now ≤ 255 }
     ensures long { length result ≡ ROOM }
-    ensures values { (i : ℕ) → i < length parity.now → slice_index result i ≡ value (sums parity.now right.now) (pow 2 i) }
+    ensures values { (i : ℕ) → i < length parity.now
+        → slice_index result i ≡ value (sums parity.now right.now) (pow 2 i) }
 {
     let mut syndromes = [0; ROOM];
     for i in 0..parity.len() {

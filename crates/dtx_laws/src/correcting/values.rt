@@ -9,12 +9,15 @@ ghost use Rattle.dtx_laws.specs.Locator.{is_marked};
 use crate::correcting::{ROOM, power_at};
 use dtx_galois::Gf;
 
-/// Takes the errors away from the marked places, where `count` syndromes are known: more than there are other marked places.
+/// Takes the errors away from the marked places, where `count` syndromes are known: more than there are other marked
+/// places.
 pub fn patch(word: &mut [u8], marks: &[bool; ROOM], syndromes: &[u8; ROOM], count: usize)
     requires few { length word.old ≤ 255 }
     requires syndromes { count ≤ 255 }
-    ensures { (p : ℕ) → p < length word.old → length (others (length word.old) (is_marked marks.now) p (length word.old)) < count
-        → slice_index word.new p ≡ patched_at (length word.old) (is_marked marks.now) (slice_index syndromes.now) word.old p }
+    ensures { (p : ℕ) → p < length word.old
+        → length (others (length word.old) (is_marked marks.now) p (length word.old)) < count
+        → slice_index word.new p ≡ patched_at (length word.old) (is_marked marks.now)
+        (slice_index syndromes.now) word.old p }
 {
     let len = word.len();
     for place in 0..len {
@@ -35,7 +38,8 @@ fn error_at(
     requires some { place < len }
     requires few { len ≤ 255 }
     requires syndromes { count ≤ 255 }
-    ensures { length (others len (is_marked marks.now) place len) < count → result ≡ error_at len (is_marked marks.now) (slice_index syndromes.now) place }
+    ensures { length (others len (is_marked marks.now) place len) < count
+        → result ≡ error_at len (is_marked marks.now) (slice_index syndromes.now) place }
 {
     let mut rest = *syndromes;
     let own = power_at(len, place);
@@ -62,7 +66,9 @@ fn is_other(marks: &[bool; ROOM], other: usize, place: usize) -> bool
 fn cancel(sequence: &mut [u8; ROOM], count: usize, power: Gf)
     requires { count ≤ 255 }
     ensures long { length sequence.new ≡ ROOM }
-    ensures values { (i : ℕ) → i + 1 < count → slice_index sequence.new i ≡ bit_xor (slice_index sequence.old (i + 1)) (mul power.0 (slice_index sequence.old i)) }
+    ensures values { (i : ℕ) → i + 1 < count
+        → slice_index sequence.new i ≡ bit_xor (slice_index sequence.old (i + 1))
+        (mul power.0 (slice_index sequence.old i)) }
 {
     for i in 1..count {
         sequence[i - 1] = Gf(sequence[i]).add(power.mul(Gf(sequence[i - 1]))).0;

@@ -1,27 +1,35 @@
-//! The laws of de-interleaving, over the definitions, for every number of branches: so they hold of every implementation of
-//! `Gather`, and of each behind every implementation of `Spread`. By `interleaving::any_cut` each holds for any cut into calls.
+//! The laws of de-interleaving, over the definitions, for every number of branches: so they hold of every
+//! implementation of
+//! `Gather`, and of each behind every implementation of `Spread`. By `interleaving::any_cut` each holds for any cut
+//! into calls.
 
 ghost use Rattle.std.specs.Prelude.{◌≡◌, ℕ, ◌-◌, ◌*◌, ◌<◌, ◌≤◌, ◌++◌, List, length, take, slice_index};
 ghost use Rattle.std.specs.List.{concat};
-ghost use Rattle.dtx_laws.specs.Branches.{Branching, HasWidths, spreading, gathering, zeroed, aligned, leaving_all, leaving_calls};
+ghost use Rattle.dtx_laws.specs.Branches.{Branching, HasWidths, spreading, gathering, zeroed, aligned, leaving_all};
+ghost use Rattle.dtx_laws.specs.Branches.{leaving_calls};
 ghost use Rattle.dtx_laws.specs.Gathering.{gathered_at, gathered, IsGatheredBehind};
 
 /// Behind an align of both, whatever their branches held, what was spread and gathered is the input, late by
 /// `b * m * (b - 1)` bytes.
 pub fn back()
-    ensures { (b m : ℕ) (s g : Branching) (x : List ℕ) (n : ℕ) → HasWidths b (spreading m) s → HasWidths b (gathering b m) g → n < length x → b * m * (b - 1) ≤ n
-        → slice_index (leaving_all b (aligned g) (leaving_all b (aligned s) x)) n ≡ slice_index x (n - b * m * (b - 1)) }
+    ensures { (b m : ℕ) (s g : Branching) (x : List ℕ) (n : ℕ) → HasWidths b (spreading m) s
+        → HasWidths b (gathering b m) g → n < length x → b * m * (b - 1) ≤ n
+        → slice_index (leaving_all b (aligned g) (leaving_all b (aligned s) x)) n
+        ≡ slice_index x (n - b * m * (b - 1)) }
 {}
 
 /// From aligned branches full of zeros, any calls give the map of places.
 pub fn from_zeros()
-    ensures { (b m : ℕ) (calls : List (List ℕ)) → 0 < b → leaving_calls b (zeroed b (gathering b m)) calls ≡ gathered b m (concat calls) }
+    ensures { (b m : ℕ) (calls : List (List ℕ)) → 0 < b
+        → leaving_calls b (zeroed b (gathering b m)) calls ≡ gathered b m (concat calls) }
 {}
 
-/// Behind an align, whatever the branches held, any calls give the map of places where the source has come, and else a byte that
+/// Behind an align, whatever the branches held, any calls give the map of places where the source has come, and else a
+/// byte that
 /// the branches held.
 pub fn behind_align()
-    ensures { (b m : ℕ) (v : Branching) (calls : List (List ℕ)) → HasWidths b (gathering b m) v → IsGatheredBehind b m v.lists (concat calls) (leaving_calls b (aligned v) calls) }
+    ensures { (b m : ℕ) (v : Branching) (calls : List (List ℕ)) → HasWidths b (gathering b m) v
+        → IsGatheredBehind b m v.lists (concat calls) (leaving_calls b (aligned v) calls) }
 {}
 
 /// The map of places, place by place.

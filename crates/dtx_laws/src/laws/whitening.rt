@@ -7,7 +7,8 @@ ghost use Rattle.dtx_laws.specs.Whitening.{whitened};
 /// Whitened data are as many as the data, and bytes as they are.
 pub fn kept()
     ensures long { (white head : List ℕ) (from : ℕ) → length (whitened white from head) ≡ length head }
-    ensures are_bytes { (white head : List ℕ) (from : ℕ) → AreBytes white → AreBytes head → AreBytes (whitened white from head) }
+    ensures are_bytes { (white head : List ℕ) (from : ℕ) → AreBytes white → AreBytes head
+        → AreBytes (whitened white from head) }
 {}
 
 /// The same whitening gives the data back.

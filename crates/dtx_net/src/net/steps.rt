@@ -14,7 +14,8 @@ use dtx_plan::Transmitter;
 use std::alloc::{AllocError, Global};
 
 impl Net {
-    /// The network of 1 to 35 transmitters whose addresses differ from each other. Nothing was done with it. All memory is
+    /// The network of 1 to 35 transmitters whose addresses differ from each other. Nothing was done with it. All memory
+    /// is
     /// taken here.
     pub fn new(alloc: Global, transmitters: &[Transmitter]) -> Result<Net, AllocError>
         requires { AreTransmitters transmitters.now }
@@ -29,7 +30,8 @@ impl Net {
     /// The place in the list of the transmitter with this address, or `None` exactly where there is none.
     pub fn find(&self, address: u16) -> Option<usize>
         ensures within { IfSome result (λ who. who < vec_len self.now.exciters) }
-        ensures place { (ts : List Transmitter) (steps : List Step) → StandsFor ts self.now steps → result ≡ place_of address ts }
+        ensures place { (ts : List Transmitter) (steps : List Step) → StandsFor ts self.now steps
+            → result ≡ place_of address ts }
     {
         for place in 0..self.addresses.len() {
             if self.addresses[place] == address {
@@ -39,11 +41,15 @@ impl Net {
         None
     }
 
-    /// The transmitter at a place of the list is given one more packet, of any bytes. What is answered, and what the air then
-    /// holds, is what its exciter alone answers and gives to the packets of its last life and this one. All others stay.
+    /// The transmitter at a place of the list is given one more packet, of any bytes. What is answered, and what the
+    /// air then
+    /// holds, is what its exciter alone answers and gives to the packets of its last life and this one. All others
+    /// stay.
     pub fn step(&mut self, who: usize, packet: &Packet, air: &mut Air) -> Told
         requires { who < vec_len self.old.exciters }
-        ensures given { (ts : List Transmitter) (steps : List Step) (t : Transmitter) → StandsFor ts self.old steps → slice_get ts who ≡ Some t → IsGiven ts steps who t packet.now.0 self.new result air.new.segments air.new.symbols }
+        ensures given { (ts : List Transmitter) (steps : List Step) (t : Transmitter) → StandsFor ts self.old steps
+            → slice_get ts who ≡ Some t
+            → IsGiven ts steps who t packet.now.0 self.new result air.new.segments air.new.symbols }
         ensures elsewhere { ChangesOnly who self.old self.new }
     {
         self.exciters[who].take(packet, air)
@@ -52,7 +58,8 @@ impl Net {
     /// The transmitter at a place of the list begins a new life, in which it was given nothing. All others stay.
     pub fn restart(&mut self, who: usize)
         requires { who < vec_len self.old.exciters }
-        ensures restarts { (ts : List Transmitter) (steps : List Step) → StandsFor ts self.old steps → StandsFor ts self.new (steps ++ restart_step who ∷ []) }
+        ensures restarts { (ts : List Transmitter) (steps : List Step) → StandsFor ts self.old steps
+            → StandsFor ts self.new (steps ++ restart_step who ∷ []) }
         ensures elsewhere { ChangesOnly who self.old self.new }
     {
         self.exciters[who].reset()

@@ -1,4 +1,5 @@
-//! A network of two transmitters with steps in turn, and the moments that were worked by hand and by an independent program.
+//! A network of two transmitters with steps in turn, and the moments that were worked by hand and by an independent
+//! program.
 
 ghost use Rattle.std.specs.Prelude.{◌<◌};
 

@@ -1,13 +1,16 @@
-//! The laws of the words of a run, over the definitions: so they hold of calls of `Inner::take`, whatever does the parts.
+//! The laws of the words of a run, over the definitions: so they hold of calls of `Inner::take`, whatever does the
+//! parts.
 
-ghost use Rattle.std.specs.Prelude.{◌≡◌, ◌⊎◌, ℕ, ◌+◌, ◌-◌, ◌*◌, ◌<◌, ◌≤◌, ◌++◌, List, Some, None, length, take, drop, slice_index};
+ghost use Rattle.std.specs.Prelude.{◌≡◌, ◌⊎◌, ℕ, ◌+◌, ◌-◌, ◌*◌, ◌<◌, ◌≤◌, ◌++◌, List, Some, None, length, take, drop};
+ghost use Rattle.std.specs.Prelude.{slice_index};
 ghost use Rattle.dtx_laws.specs.Codeword.{distance};
 ghost use Rattle.dtx_laws.specs.Interleaving.{interleaved, IsInterleavedBehind};
 ghost use Rattle.dtx_laws.specs.Whitening.{whitened};
 ghost use Rattle.dtx_laws.specs.Words.{correction};
 ghost use Rattle.dtx_outer.specs.Inner.{Kept, StandsFor, waiting, place_of, word_at, IsComplete, IsGood, IsBad};
 
-/// `waiting n b m` is the least number of blocks of `n` bytes that cover the delay of `b * m * (b - 1)` bytes. For the air it
+/// `waiting n b m` is the least number of blocks of `n` bytes that cover the delay of `b * m * (b - 1)` bytes. For the
+/// air it
 /// is 52.
 pub fn waits()
     ensures covers { (n b m : ℕ) → 0 < n → b * m * (b - 1) ≤ n * waiting n b m }
@@ -15,34 +18,46 @@ pub fn waits()
     ensures air { waiting 207 52 4 ≡ 52 }
 {}
 
-/// Whatever a value stands for, either its run has come to fewer blocks than give no packet, or the next block gives the packet
+/// Whatever a value stands for, either its run has come to fewer blocks than give no packet, or the next block gives
+/// the packet
 /// with this number.
 pub fn either()
-    ensures { (n k b m : ℕ) (inner : Kept) (y : List ℕ) → 0 < n → StandsFor n k b m inner y → (length y < n * waiting n b m) ⊎ ((j : ℕ) × (length y ≡ n * (waiting n b m + j))) }
+    ensures { (n k b m : ℕ) (inner : Kept) (y : List ℕ) → 0 < n → StandsFor n k b m inner y
+        → (length y < n * waiting n b m) ⊎ ((j : ℕ) × (length y ≡ n * (waiting n b m + j))) }
 {}
 
 /// A word, place by place.
 pub fn the_word()
     ensures long { (n b m : ℕ) (y : List ℕ) (k : ℕ) → length (word_at n b m y k) ≡ n }
-    ensures at { (n b m : ℕ) (y : List ℕ) (k j : ℕ) → j < n → slice_index (word_at n b m y k) j ≡ slice_index y (place_of b m (n * k + j)) }
+    ensures at { (n b m : ℕ) (y : List ℕ) (k j : ℕ) → j < n
+        → slice_index (word_at n b m y k) j ≡ slice_index y (place_of b m (n * k + j)) }
 {}
 
-/// A word whose bytes have all come stays as it is when more bytes come: a block of any content can bring its call. And each
+/// A word whose bytes have all come stays as it is when more bytes come: a block of any content can bring its call. And
+/// each
 /// word's bytes have come when the block that gives it has.
 pub fn complete()
-    ensures stays { (n b m : ℕ) (y z : List ℕ) (k : ℕ) → IsComplete n b m (length y) k → word_at n b m (y ++ z) k ≡ word_at n b m y k }
-    ensures by_its_call { (n b m given k : ℕ) → 0 < n → 0 < b → n * (waiting n b m + k + 1) ≤ given → IsComplete n b m given k }
+    ensures stays { (n b m : ℕ) (y z : List ℕ) (k : ℕ) → IsComplete n b m (length y) k
+        → word_at n b m (y ++ z) k ≡ word_at n b m y k }
+    ensures by_its_call { (n b m given k : ℕ) → 0 < n → 0 < b → n * (waiting n b m + k + 1) ≤ given
+        → IsComplete n b m given k }
 {}
 
 /// The words of interleaved bytes are the bytes before, in order.
 pub fn back()
-    ensures zeros { (n b m : ℕ) (x : List ℕ) (k : ℕ) → 0 < b → IsComplete n b m (length x) k → word_at n b m (interleaved b m x) k ≡ take n (drop (n * k) x) }
-    ensures behind { (n b m : ℕ) (lists : List (List ℕ)) (x y : List ℕ) (k : ℕ) → 0 < b → IsInterleavedBehind b m lists x y → IsComplete n b m (length x) k → word_at n b m y k ≡ take n (drop (n * k) x) }
+    ensures zeros { (n b m : ℕ) (x : List ℕ) (k : ℕ) → 0 < b → IsComplete n b m (length x) k
+        → word_at n b m (interleaved b m x) k ≡ take n (drop (n * k) x) }
+    ensures behind { (n b m : ℕ) (lists : List (List ℕ)) (x y : List ℕ) (k : ℕ) → 0 < b
+        → IsInterleavedBehind b m lists x y → IsComplete n b m (length x) k
+        → word_at n b m y k ≡ take n (drop (n * k) x) }
 {}
 
 /// What a word gives, by its correction as a function.
 pub fn the_data()
-    ensures good { (n k : ℕ) (white : List ℕ) (from : ℕ) (word out : List ℕ) (fixed : ℕ) → n ≤ 255 → length word ≡ n → IsGood n k white from word out fixed
-        → (code : List ℕ) × (correction n k word ≡ Some code) × (fixed ≡ distance word code) × (out ≡ whitened white from (take k code)) }
-    ensures bad { (n k : ℕ) (white : List ℕ) (from : ℕ) (word out : List ℕ) → IsBad n k white from word out → (correction n k word ≡ None) × (out ≡ whitened white from (take k word)) }
+    ensures good { (n k : ℕ) (white : List ℕ) (from : ℕ) (word out : List ℕ) (fixed : ℕ) → n ≤ 255 → length word ≡ n
+        → IsGood n k white from word out fixed
+        → (code : List ℕ) × (correction n k word ≡ Some code) × (fixed ≡ distance word code)
+        × (out ≡ whitened white from (take k code)) }
+    ensures bad { (n k : ℕ) (white : List ℕ) (from : ℕ) (word out : List ℕ) → IsBad n k white from word out
+        → (correction n k word ≡ None) × (out ≡ whitened white from (take k word)) }
 {}

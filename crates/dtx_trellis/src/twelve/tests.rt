@@ -49,7 +49,8 @@ fn a_segment_begins_with_its_coder_byte_and_bits(rt: HostRuntime) {
     assert_eq!(rt; (first_set(&levels), levels[0]), (Some(0), 6));
 }
 
-// Coder 4 is at places 4, 0, 8 and 4 of the four segments; the byte's first pair comes in round 68, the last of a segment.
+// Coder 4 is at places 4, 0, 8 and 4 of the four segments; the byte's first pair comes in round 68, the last of a
+// segment.
 #[test]
 fn a_byte_goes_on_across_a_segments_edge(rt: HostRuntime) {
     let (_, levels) = coded(0, 0, 0, 208, 0x80);

@@ -7,7 +7,8 @@ use Rattle.dtx_adapter.proofs.adapter.code_group.Goals as goal
 pub returns : goal.returns
 returns c = λ fed long stands.
     let at : c.args.first ≡ length fed = sym long in
-    group_stands c.args.coder.now c.group.new.self fed _ c.group.new.air.segments c.group.new.air.symbols c.group.ensures stands
+    group_stands c.args.coder.now c.group.new.self fed _ c.group.new.air.segments c.group.new.air.symbols
+    c.group.ensures stands
     (ap (λ n. n % 4) long ∙ c.requires)
     (length-map c.args.packets.now (λ (p : packet.Packet). p.0) ∙ c.told-packets)
     (ap (λ n. n % 312) at)

@@ -1,10 +1,12 @@
-use Rattle.std.proofs.Common.{◌≡◌, ℕ, suc, ◌+◌, ◌%◌, ◌<◌, ◌≤◌, Bool, true, false, refl, cond, List, [], ◌∷◌, ◌++◌, length, take, drop, get_or, sym, ap, subst, ◌∙◌, arith, append_assoc}
+use Rattle.std.proofs.Common.{◌≡◌, ℕ, suc, ◌+◌, ◌%◌, ◌<◌, ◌≤◌, Bool, true, false, refl, cond, List, [], ◌∷◌, ◌++◌}
+use Rattle.std.proofs.Common.{length, take, drop, get_or, sym, ap, subst, ◌∙◌, arith, append_assoc}
 use Rattle.std.proofs.lemmas.List.{take_all, length-map, length-set, length-take-le, drop-set-lt}
 use Rattle.dtx_packets.specs.declared.packet.Packet as packet
 use Rattle.dtx_adapter.specs.Feed.{is_placeholder, placeholders, made, feed}
 use Rattle.dtx_adapter.specs.Filling.{Filling, Fills, said}
-use Rattle.dtx_adapter.proofs.Feeds.{placeholders-append, placeholders-one}
-use Rattle.dtx_adapter.proofs.Making.{fills_none, made_none, fills_next, made_next, raw, still_given, given_next, made_more}
+use Rattle.dtx_adapter.specs.FeedsLaws.{placeholders-append, placeholders-one}
+use Rattle.dtx_adapter.specs.MakingLaws.{fills_none, made_none, fills_next, made_next, raw, still_given, given_next}
+use Rattle.dtx_adapter.specs.MakingLaws.{made_more}
 use Rattle.dtx_adapter.proofs.adapter.make_group.Goals as goal
 use Rattle.dtx_adapter.proofs.adapter.make_group.Goals.{then-make, else-make}
 
@@ -21,7 +23,8 @@ loop-i-init c = record {
 }
 
 -- the count of one packet more
-more_filled : (b : Bool) (filled : ℕ) (given : List (List ℕ)) (p : List ℕ) → b ≡ is_placeholder p → filled ≡ placeholders given → filled + cond b 1 0 ≡ placeholders (given ++ p ∷ [])
+more_filled : (b : Bool) (filled : ℕ) (given : List (List ℕ)) (p : List ℕ) → b ≡ is_placeholder p
+    → filled ≡ placeholders given → filled + cond b 1 0 ≡ placeholders (given ++ p ∷ [])
 more_filled b filled given p is e =
     ap (λ n. n + cond b 1 0) e
     ∙ ap (λ x. placeholders given + cond x 1 0) is
@@ -52,25 +55,39 @@ loop-i-preserved c =
       | then-make w ↦ w.filled-is ∙ ap (λ b. c.loop-i.filled + cond b 1 0) (sym w.if-make.true)
       | else-make w ↦ none_filled c.make.result c.loop-i.filled c.if-make.filled w.if-make.false w.filled-is
     ] in
-    let was : is_placeholder (get_or now i d).0 ≡ is_placeholder p = ap (λ (q : packet.Packet). is_placeholder q.0) still.0 in
-    let counted : c.make.new.self ≡ record filler { counter = cond (is_placeholder p) ((filler.counter + 1) % 16) filler.counter } =
-    c.make.ensures.counted ∙ ap (λ b. record filler { counter = cond b ((filler.counter + 1) % 16) filler.counter }) was in
+    let was : is_placeholder (get_or now i d).0 ≡ is_placeholder p =
+    ap (λ (q : packet.Packet). is_placeholder q.0) still.0 in
+    let counted : c.make.new.self ≡ record filler {
+      counter = cond (is_placeholder p)
+          ((filler.counter + 1) % 16) filler.counter;
+    } =
+    c.make.ensures.counted
+    ∙ ap (λ b. record filler { counter = cond b ((filler.counter + 1) % 16) filler.counter }) was in
     record {
       long = length-set now i c.make.new.packet ∙ before.long;
-      rest = drop-set-lt (i + 1) now i c.make.new.packet (omega arith) ∙ (let one : i + 1 ≡ suc i = omega arith in ap (λ n. drop n now) one ∙ still.1 ∙ ap (λ n. drop n old) (sym one));
-      filled = adds ∙ more_filled c.make.result c.loop-i.filled (raw (take i old)) p (c.make.ensures.placeholder ∙ was) before.filled ∙ ap placeholders (sym given);
+      rest = drop-set-lt (i + 1) now i c.make.new.packet (omega arith)
+          ∙ (let one : i + 1 ≡ suc i = omega arith in ap (λ n. drop n now) one ∙ still.1
+          ∙ ap (λ n. drop n old) (sym one));
+      filled = adds ∙ more_filled c.make.result c.loop-i.filled (raw (take i old)) p (c.make.ensures.placeholder
+          ∙ was) before.filled ∙ ap placeholders (sym given);
       few = omega (arith, adds, at_most_one c.make.result, before.few);
       told = ap (λ (f : Filling). f.states) counted ∙ before.told;
       fills = λ plan stream fills.
           subst (λ front. Fills plan c.make.new.self (stream ++ front)) (sym given)
           (subst (Fills plan c.make.new.self) (append_assoc stream (raw (take i old)) (p ∷ []))
-          (fills_next plan filler c.make.new.self (stream ++ raw (take i old)) p (before.fills plan stream fills) counted));
+          (fills_next plan filler c.make.new.self (stream ++ raw (take i old)) p
+          (before.fills plan stream fills) counted));
       fed = λ plan stream fills long whole told.
-          let few : length (raw (take i old)) ≡ i = length-map (take i old) (λ (q : packet.Packet). q.0) ∙ length-take-le i old (omega arith) in
+          let few : length (raw (take i old)) ≡ i = length-map (take i old) (λ (q : packet.Packet). q.0)
+          ∙ length-take-le i old (omega arith) in
           made_more now i c.make.new.packet (omega arith)
-          ∙ ap (λ q. raw (take i now) ++ q ∷ []) (c.make.ensures.made ∙ ap (λ (q : packet.Packet). made (said filler (c.args.first + i)) filler.counter (c.args.first + i) q.0) still.0)
-          ∙ made_next plan filler stream (raw (take i old)) (raw (take i now)) p (c.args.first + i) (before.fills plan stream fills)
-          (ap (λ n. n % 4) long ∙ whole) (omega (arith, few)) (omega (arith, few, long)) (before.told ∙ told) (before.fed plan stream fills long whole told)
+          ∙ ap (λ q. raw (take i now) ++ q ∷ []) (c.make.ensures.made
+          ∙ ap (λ (q : packet.Packet). made (said filler (c.args.first + i)) filler.counter (c.args.first + i) q.0)
+          still.0)
+          ∙ made_next plan filler stream (raw (take i old)) (raw (take i now)) p (c.args.first + i)
+          (before.fills plan stream fills)
+          (ap (λ n. n % 4) long ∙ whole) (omega (arith, few)) (omega (arith, few, long)) (before.told
+          ∙ told) (before.fed plan stream fills long whole told)
           ∙ ap (λ front. drop (length stream) (feed plan (stream ++ front))) (sym given);
     }
 
@@ -85,7 +102,8 @@ returns c =
           ap raw (sym (take_all i now (omega (arith, c.loop-i.invariant.long))))
           ∙ c.loop-i.invariant.fed plan stream fills long whole told
           ∙ ap (λ (front : List packet.Packet). drop (length stream) (feed plan (stream ++ raw front))) all;
-      fills = λ plan stream fills. subst (λ (front : List packet.Packet). Fills plan c.loop-i.filler (stream ++ raw front)) all (c.loop-i.invariant.fills plan stream fills);
+      fills = λ plan stream fills. subst (λ (front : List packet.Packet). Fills plan c.loop-i.filler (stream
+          ++ raw front)) all (c.loop-i.invariant.fills plan stream fills);
       filled = c.loop-i.invariant.filled ∙ ap (λ (front : List packet.Packet). placeholders (raw front)) all;
       long = c.loop-i.invariant.long;
     }

@@ -13,7 +13,10 @@ invariant-loop-i l = record {
   filled : l.filled ≡ placeholders (map (λ (p : packet.Packet). p.0) (take l.i l.fn.packets));
   few : l.filled ≤ l.i;
   told : l.filler.states ≡ l.fn.filler.states;
-  fills : (plan : Plan) (stream : List (List ℕ)) → Fills plan l.fn.filler stream → Fills plan l.filler (stream ++ map (λ (p : packet.Packet). p.0) (take l.i l.fn.packets));
-  fed : (plan : Plan) (stream : List (List ℕ)) → Fills plan l.fn.filler stream → length stream ≡ l.first → l.first % 4 ≡ 0 → l.fn.filler.states ≡ states (feed plan stream)
-      → map (λ (p : packet.Packet). p.0) (take l.i l.packets) ≡ drop (length stream) (feed plan (stream ++ map (λ (p : packet.Packet). p.0) (take l.i l.fn.packets)));
+  fills : (plan : Plan) (stream : List (List ℕ)) → Fills plan l.fn.filler stream
+      → Fills plan l.filler (stream ++ map (λ (p : packet.Packet). p.0) (take l.i l.fn.packets));
+  fed : (plan : Plan) (stream : List (List ℕ)) → Fills plan l.fn.filler stream → length stream ≡ l.first
+      → l.first % 4 ≡ 0 → l.fn.filler.states ≡ states (feed plan stream)
+      → map (λ (p : packet.Packet). p.0) (take l.i l.packets)
+      ≡ drop (length stream) (feed plan (stream ++ map (λ (p : packet.Packet). p.0) (take l.i l.fn.packets)));
 }

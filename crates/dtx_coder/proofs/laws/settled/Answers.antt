@@ -1,4 +1,4 @@
-use Rattle.dtx_coder.proofs.Settled.{bytes_settled, group_settled}
+use Rattle.dtx_coder.specs.SettledLaws.{bytes_settled, group_settled}
 use Rattle.dtx_coder.proofs.laws.settled.Goals as goal
 
 pub returns-clause-bytes : goal.returns-clause-bytes

@@ -1,7 +1,7 @@
 use Rattle.std.proofs.Common.{◌≡◌, ℕ, ◌<◌, ◌+◌, ◌&&◌, not, ◌==◌, Bool, List, sym, arith, get_or, set, false}
 use Rattle.std.proofs.lemmas.List.{get_or-set_other}
 use Rattle.dtx_galois.specs.Field.{pow}
-use Rattle.dtx_galois.proofs.Field.{mul_inverse}
+use Rattle.dtx_galois.specs.FieldLaws.{mul_inverse}
 use Rattle.dtx_laws.specs.Locator.{combination, is_marked}
 use Rattle.dtx_correct.specs.Elimination.{reduced, vector}
 use Rattle.dtx_correct.proofs.Reduction.{step, combination_small}
@@ -19,7 +19,8 @@ returns-in-Some-clause-solves c h =
     let f : ℕ = combination (v p) s e in
     let g : ℕ = pow f 254 in
     let found = c.in-Some.ensures.some in
-    solves_same w (e + 1) s (λ k. a k && not (k == p)) (is_marked (set c.args.kept.now p false)) (reduced s e v p g) (vector w c.reduce.new.vectors)
+    solves_same w (e + 1) s (λ k. a k && not (k == p)) (is_marked (set c.args.kept.now p false)) (reduced s e v p g)
+    (vector w c.reduce.new.vectors)
     (step w e s a v p g h found.0 found.1 (mul_inverse f (not_zero f found.2) (combination_small (v p) s e)))
     (λ k l t. kept_before c.args.kept.now p k (omega (arith, found.0, c.told-kept)) t)
     (λ k l. c.reduce.ensures.vectors k l)
@@ -29,5 +30,6 @@ returns-in-Some-clause-solves c h =
 
 pub returns-in-Some-clause-count : goal.returns-in-Some-clause-count
 returns-in-Some-clause-count c =
-    count_less (is_marked c.args.kept.now) (is_marked (set c.args.kept.now c.in-Some.pivot false)) c.in-Some.pivot c.args.width
+    count_less (is_marked c.args.kept.now) (is_marked (set c.args.kept.now c.in-Some.pivot false)) c.in-Some.pivot
+    c.args.width
     (λ j l d. sym (get_or-set_other c.args.kept.now c.in-Some.pivot j false false d))

@@ -1,10 +1,11 @@
-use Rattle.std.proofs.Common.{◌≡◌, ℕ, ◌<◌, ◌+◌, ◌*◌, ◌/◌, ◌-◌, List, length, take, drop, refl, ap, ap₂, ◌∙◌, arith, get_or, length-drop}
+use Rattle.std.proofs.Common.{◌≡◌, ℕ, ◌<◌, ◌+◌, ◌*◌, ◌/◌, ◌-◌, List, length, take, drop, refl, ap, ap₂, ◌∙◌, arith}
+use Rattle.std.proofs.Common.{get_or, length-drop}
 use Rattle.std.proofs.lemmas.List.{take_all}
 use Rattle.dtx_galois.specs.Field.{pow, value}
 use Rattle.dtx_galois.specs.Word.{sums}
 use Rattle.dtx_laws.specs.Locator.{is_marked}
-use Rattle.dtx_laws.proofs.Patching.{patched_right}
-use Rattle.dtx_laws.proofs.Parts.{syndrome_is}
+use Rattle.dtx_laws.specs.PatchingLaws.{patched_right}
+use Rattle.dtx_laws.specs.PartsLaws.{syndrome_is}
 use Rattle.dtx_correct.proofs.linear.repair.Goals as goal
 
 pub returns : goal.returns
@@ -16,7 +17,8 @@ returns c right ic =
     let code = c.requires.code in
     let twice : n - k ≡ 2 * t = omega (arith, code.even) in
     let some : 0 < t = omega (arith, code.even, code.longer) in
-    patched_right n k t word right (take (t + 1) c.find_locator-locator.result) c.patch.new.word (λ i. get_or c.syndromes_of-syndromes.result i 0) (is_marked c.marks_of-marks.result)
+    patched_right n k t word right (take (t + 1) c.find_locator-locator.result) c.patch.new.word
+    (λ i. get_or c.syndromes_of-syndromes.result i 0) (is_marked c.marks_of-marks.result)
     code.short twice some c.requires.bytes refl ic c.find_locator-locator.ensures.locator
     (λ i l.
     c.syndromes_of-syndromes.ensures.values i (omega (arith, ap length (rest k word), length-drop k word, l, twice))

@@ -9,10 +9,12 @@ use Rattle.dtx_exciter.proofs.serving.hold_left.Goals as goal
 
 pub returns-in-Ok : goal.returns-in-Ok
 returns-in-Ok c =
-    subst (λ (o : ℤ). ◌≡◌ {A = Result ℕ Why} (Ok c.in-Ok.left) (left_of (pos c.args.max_delay +ℤ o -ℤ pos c.args.delay)))
+    subst (λ (o : ℤ). ◌≡◌ {A = Result ℕ Why} (Ok c.in-Ok.left)
+    (left_of (pos c.args.max_delay +ℤ o -ℤ pos c.args.delay)))
     (to_z-of_z w16 c.args.entry.offset (search rules)) (ap left_of c.in-Ok.ensures)
 
 pub returns-in-Err : goal.returns-in-Err
 returns-in-Err c =
     late_left (pos c.args.max_delay +ℤ c.args.entry.offset) c.args.delay
-    (subst (λ (o : ℤ). (pos c.args.max_delay +ℤ o) <ℤ pos c.args.delay) (to_z-of_z w16 c.args.entry.offset (search rules)) c.in-Err.ensures)
+    (subst (λ (o : ℤ). (pos c.args.max_delay +ℤ o) <ℤ pos c.args.delay)
+    (to_z-of_z w16 c.args.entry.offset (search rules)) c.in-Err.ensures)

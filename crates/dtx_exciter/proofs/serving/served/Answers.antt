@@ -4,7 +4,8 @@ use Rattle.dtx_exciter.proofs.serving.served.Goals as goal
 
 pub returns-in-Some : goal.returns-in-Some
 unfolding served
-returns-in-Some c = c.hold_left.ensures ∙ ap (hold_by c.args.delay c.args.ops.now) (sym c.in-Some.is ∙ c.entry_of.ensures)
+returns-in-Some c = c.hold_left.ensures ∙ ap (hold_by c.args.delay c.args.ops.now) (sym c.in-Some.is
+    ∙ c.entry_of.ensures)
 
 pub returns-in-None : goal.returns-in-None
 unfolding served

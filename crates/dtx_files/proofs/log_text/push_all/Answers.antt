@@ -12,5 +12,15 @@ push_str-requires c =
     let piece = (slice_index_or pieces i (record { ref_ptr = (0, 0); now = [] })).now in
     let rest = joined (drop (suc i) pieces) in
     let all = ap length (joined-split pieces i (record { ref_ptr = (0, 0); now = [] }) c.loop-piece-test.true) in
-    let so_far = ap length c.loop-piece.invariant in
-    (omega arith, omega (arith, c.requires, all, so_far, length-append (joined (take i pieces)) (piece ++ rest), length-append piece rest, length-append c.args.text.now.bytes (joined (take i pieces))))
+    let so_far = ap length c.loop-piece.invariant in (
+      omega arith,
+      omega (
+        arith,
+        c.requires,
+        all,
+        so_far,
+        length-append (joined (take i pieces)) (piece ++ rest),
+        length-append piece rest,
+        length-append c.args.text.now.bytes (joined (take i pieces)),
+      ),
+    )

@@ -6,7 +6,9 @@ use Rattle.dtx_frame.proofs.detection.differing.Goals as goal
 
 pub loop-i-preserved : goal.loop-i-preserved
 loop-i-preserved c = record {
-  count = ap₂ ◌+◌ c.loop-i.invariant.count c.differs-count.ensures.differs ∙ sym (sum_by-map-range_with_len_more (λ x. x) (differs c.args.segment.now) 0 c.loop-i.i c.loop-i.i (omega arith));
+  count = ap₂ ◌+◌ c.loop-i.invariant.count c.differs-count.ensures.differs
+      ∙ sym (sum_by-map-range_with_len_more (λ x. x) (differs c.args.segment.now) 0 c.loop-i.i c.loop-i.i
+      (omega arith));
   small = omega (arith, c.loop-i.invariant.small, c.differs-count.ensures.small);
 }
 

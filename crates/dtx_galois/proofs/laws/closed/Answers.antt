@@ -1,6 +1,6 @@
 use Rattle.std.specs.Int.Bits.{xor_lt}
-use Rattle.dtx_galois.proofs.Field.{mul_small, pow_small}
-use Rattle.dtx_galois.proofs.Values.{value_small}
+use Rattle.dtx_galois.specs.FieldLaws.{mul_small, pow_small}
+use Rattle.dtx_galois.specs.ValuesLaws.{value_small}
 use Rattle.dtx_galois.proofs.laws.closed.Goals as goal
 
 pub returns-clause-sum : goal.returns-clause-sum

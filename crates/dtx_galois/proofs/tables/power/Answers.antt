@@ -7,6 +7,8 @@ use Rattle.dtx_galois.proofs.tables.power.Goals.{then-exponent-lt-ORDER, else-ex
 pub returns : goal.returns
 returns c =
     elim c.if-exponent-lt-ORDER.branch [
-      | then-exponent-lt-ORDER w ↦ ap (λ i. get_or POWERS i 0) w.place-is ∙ power_at c.args.exponent w.if-exponent-lt-ORDER.true
-      | else-exponent-lt-ORDER w ↦ ap (λ i. get_or POWERS i 0) w.place-is ∙ power_at (c.args.exponent - 255) (omega arith) ∙ around c.args.exponent w.if-exponent-lt-ORDER.false
+      | then-exponent-lt-ORDER w ↦ ap (λ i. get_or POWERS i 0) w.place-is
+          ∙ power_at c.args.exponent w.if-exponent-lt-ORDER.true
+      | else-exponent-lt-ORDER w ↦ ap (λ i. get_or POWERS i 0) w.place-is
+          ∙ power_at (c.args.exponent - 255) (omega arith) ∙ around c.args.exponent w.if-exponent-lt-ORDER.false
     ]

@@ -20,4 +20,5 @@ returns-clause-value c =
     c.loop-state.invariant.value ∙ ap (fold (λ before state. 8 * before + state) 0) all
 
 pub returns-clause-within : goal.returns-clause-within
-returns-clause-within c = below_36 c.loop-state.state-index c.loop-state.bits (omega arith) c.loop-state.invariant.within
+returns-clause-within c =
+    below_36 c.loop-state.state-index c.loop-state.bits (omega arith) c.loop-state.invariant.within

@@ -12,7 +12,13 @@ loop-i-preserved c =
     let i = c.loop-i.i in
     let next = c.entry.ensures ∙ ap entry_in (to_end (19 + 4 * i) bytes) in
     record {
-      count = omega (arith, c.push.ensures.len, ap (λ (es : List Entry). length es) c.push.ensures.items, length-append c.loop-i.found.items (c.entry.result ∷ []), c.loop-i.invariant.count);
+      count = omega (
+        arith,
+        c.push.ensures.len,
+        ap (λ (es : List Entry). length es) c.push.ensures.items,
+        length-append c.loop-i.found.items (c.entry.result ∷ []),
+        c.loop-i.invariant.count,
+      );
       read =
           c.push.ensures.items
           ∙ ap₂ (λ (es : List Entry) (e : Entry). es ++ e ∷ []) c.loop-i.invariant.read next

@@ -7,4 +7,5 @@ pub returns-clause-spelling : goal.returns-clause-spelling
 unfolding spelling
 returns-clause-spelling g c =
     packet_written c.args.packet.now.0 c.copy_from_slice.new.self 31 250 (16 + c.args.counter) c.told-packet
-    ∙ ap (λ (word : List ℕ). (get_or c.args.packet.now.0 0 0 ∷ 31 ∷ 250 ∷ (16 + c.args.counter) ∷ []) ++ word) (c.copy_from_slice.ensures.after ∙ c.payload-word.ensures.codeword)
+    ∙ ap (λ (word : List ℕ). (get_or c.args.packet.now.0 0 0 ∷ 31 ∷ 250 ∷ (16 + c.args.counter) ∷ [])
+    ++ word) (c.copy_from_slice.ensures.after ∙ c.payload-word.ensures.codeword)

@@ -10,7 +10,8 @@ abbrev pub invariant-loop-value : goal.invariant-loop-value
 invariant-loop-value l = record {
   count : length l.all.items ≡ l.value-index;
   end : end_of l.all.items ≡ l.end;
-  same : entries damage l.all.items (items_view (drop l.value-index l.values)) ≡ entries damage [] (items_view l.values);
+  same : entries damage l.all.items (items_view (drop l.value-index l.values))
+      ≡ entries damage [] (items_view l.values);
   each : All IsDamage l.all.items;
   in_order : AllAdjacentBelow (λ before after. before.at + before.count ≤ after.at) l.all.items (length l.all.items);
 }

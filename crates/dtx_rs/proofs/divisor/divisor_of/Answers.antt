@@ -12,6 +12,7 @@ unfolding pow
 loop-degree-preserved c =
     let i = c.loop-degree.invariant in
     record {
-      divisor = generator_more c.loop-degree.degree 256 c.loop-degree.divisor c.multiply.new.divisor c.loop-degree.root.0 (omega arith) i.divisor i.root c.multiply.ensures;
+      divisor = generator_more c.loop-degree.degree 256 c.loop-degree.divisor c.multiply.new.divisor
+          c.loop-degree.root.0 (omega arith) i.divisor i.root c.multiply.ensures;
       root = c.mul-root.ensures ∙ ap (mul 2) i.root ∙ ap (pow 2) (sym (add-one c.loop-degree.degree));
     }

@@ -4,6 +4,7 @@ use Rattle.dtx_rs.proofs.register.add_scaled.Given as goal
 
 abbrev pub invariant-loop-i : goal.invariant-loop-i
 invariant-loop-i l = record {
-  done : (k : ℕ) → k < l.i → get_or l.register k 0 ≡ bit_xor (get_or l.fn.register k 0) (mul l.factor.0 (get_or l.divisor k 0));
+  done : (k : ℕ) → k < l.i
+      → get_or l.register k 0 ≡ bit_xor (get_or l.fn.register k 0) (mul l.factor.0 (get_or l.divisor k 0));
   left : (k : ℕ) → l.i ≤ k → get_or l.register k 0 ≡ get_or l.fn.register k 0;
 }

@@ -3,4 +3,5 @@ use Rattle.dtx_laws.specs.Register.{register}
 use Rattle.dtx_rs.proofs.register.encode_by_register.Given as goal
 
 abbrev pub invariant-loop-byte : goal.invariant-loop-byte
-invariant-loop-byte l = register l.divisor l.rest (drop l.byte-index l.head) ≡ register l.divisor (replicate (length l.divisor) 0) l.head
+invariant-loop-byte l = register l.divisor l.rest (drop l.byte-index l.head)
+    ≡ register l.divisor (replicate (length l.divisor) 0) l.head

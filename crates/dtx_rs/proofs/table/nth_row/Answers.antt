@@ -10,5 +10,6 @@ returns-else-n-lt-ELEMENTS c =
     let divisor : List ℕ = c.args.divisor.now in
     let a : (n - 256) % 256 ≡ n % 256 = omega (arith, c.if-n-lt-ELEMENTS.false) in
     let b : suc ((n - 256) / 256) ≡ n / 256 = omega (arith, c.if-n-lt-ELEMENTS.false) in
-    c.next_row-else-n-lt-ELEMENTS.ensures ∙ ap (λ xs. fed divisor xs 0) (c.requires.before (n - 256) (omega (arith, c.if-n-lt-ELEMENTS.false)))
+    c.next_row-else-n-lt-ELEMENTS.ensures
+    ∙ ap (λ xs. fed divisor xs 0) (c.requires.before (n - 256) (omega (arith, c.if-n-lt-ELEMENTS.false)))
     ∙ sym (row_more divisor ((n - 256) % 256) ((n - 256) / 256)) ∙ ap₂ (row divisor) a b

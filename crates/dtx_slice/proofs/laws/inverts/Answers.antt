@@ -1,4 +1,4 @@
-use Rattle.dtx_slice.proofs.Inverse.{bytes_come_back, formers_go_on}
+use Rattle.dtx_slice.specs.InverseLaws.{bytes_come_back, formers_go_on}
 use Rattle.dtx_slice.proofs.laws.inverts.Goals as goal
 
 pub returns-clause-bytes : goal.returns-clause-bytes

@@ -1,4 +1,4 @@
-use Rattle.dtx_slice.proofs.Joins.{formers_repeated}
+use Rattle.dtx_slice.specs.JoinsLaws.{formers_repeated}
 use Rattle.dtx_slice.proofs.laws.repeated.Goals as goal
 
 pub returns : goal.returns

@@ -6,4 +6,5 @@ use Rattle.dtx_slice.proofs.unroll.repeated.Goals as goal
 pub returns-clause-formers : goal.returns-clause-formers
 unfolding formers_of
 returns-clause-formers c =
-    fill_by_all (λ e. get_or c.args.last.now ((e + 4) % 12) 0 / 4) c.loop-e.formers 12 0 c.loop-e.invariant.long (λ e l. c.loop-e.invariant.written e (omega (arith, c.loop-e-test.false)))
+    fill_by_all (λ e. get_or c.args.last.now ((e + 4) % 12) 0 / 4) c.loop-e.formers 12 0 c.loop-e.invariant.long
+    (λ e l. c.loop-e.invariant.written e (omega (arith, c.loop-e-test.false)))

@@ -6,8 +6,11 @@ use Rattle.dtx_slice.proofs.walk.load.Goals.{then-round-lt-LAST_ROUND, else-roun
 pub returns-clause-levels : goal.returns-clause-levels
 returns-clause-levels c =
     elim c.if-round-lt-LAST_ROUND.branch [
-      | then-round-lt-LAST_ROUND w ↦ λ p l. ap (λ (xs : List ℕ). get_or xs p 0) w.result-is ∙ loaded 3312 (12 * c.args.round) p c.args.levels.now c.told-levels (omega (arith, w.if-round-lt-LAST_ROUND.true)) (omega arith)
+      | then-round-lt-LAST_ROUND w ↦ λ p l. ap (λ (xs : List ℕ). get_or xs p 0) w.result-is
+          ∙ loaded 3312 (12 * c.args.round) p c.args.levels.now c.told-levels
+          (omega (arith, w.if-round-lt-LAST_ROUND.true)) (omega arith)
       | else-round-lt-LAST_ROUND w ↦ λ p l.
           let e : 3300 + p ≡ 12 * c.args.round + p = omega (arith, w.if-round-lt-LAST_ROUND.false, c.requires) in
-          ap (λ (xs : List ℕ). get_or xs p 0) w.result-is ∙ w.load_last.ensures.levels p l ∙ ap (λ i. get_or c.args.levels.now i 0) e
+          ap (λ (xs : List ℕ). get_or xs p 0) w.result-is ∙ w.load_last.ensures.levels p l
+          ∙ ap (λ i. get_or c.args.levels.now i 0) e
     ]

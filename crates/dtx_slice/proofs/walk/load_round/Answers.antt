@@ -1,5 +1,5 @@
 use Rattle.std.proofs.Common.{ℕ, ◌+◌, ◌%◌, List, get_or, ap, ◌∙◌, arith}
-use Rattle.dtx_slice.proofs.Places.{lane_stays, lane_moves}
+use Rattle.dtx_slice.specs.PlacesLaws.{lane_stays, lane_moves}
 use Rattle.dtx_slice.proofs.walk.load_round.Goals as goal
 use Rattle.dtx_slice.proofs.walk.load_round.Goals.{then-byte-round-lt-SEGMENT_ROUNDS, else-byte-round-lt-SEGMENT_ROUNDS}
 
@@ -9,8 +9,11 @@ returns-clause-levels c =
     elim c.if-byte-round-lt-SEGMENT_ROUNDS.branch [
       | then-byte-round-lt-SEGMENT_ROUNDS w ↦ λ p l.
           ap (λ (xs : List ℕ). get_or xs p 0) w.result-is ∙ c.load-lanes.ensures.levels p l
-          ∙ ap (λ i. get_or levels i 0) (lane_stays c.args.byte c.args.round p c.requires.round l w.if-byte-round-lt-SEGMENT_ROUNDS.true)
+          ∙ ap (λ i. get_or levels i 0) (lane_stays c.args.byte c.args.round p c.requires.round l
+          w.if-byte-round-lt-SEGMENT_ROUNDS.true)
       | else-byte-round-lt-SEGMENT_ROUNDS w ↦ λ p l.
-          ap (λ (xs : List ℕ). get_or xs p 0) w.result-is ∙ w.turned.ensures.lanes p l ∙ c.load-lanes.ensures.levels ((p + 8) % 12) (omega arith)
-          ∙ ap (λ i. get_or levels i 0) (lane_moves c.args.byte c.args.round p c.requires.round l w.if-byte-round-lt-SEGMENT_ROUNDS.false)
+          ap (λ (xs : List ℕ). get_or xs p 0) w.result-is ∙ w.turned.ensures.lanes p l
+          ∙ c.load-lanes.ensures.levels ((p + 8) % 12) (omega arith)
+          ∙ ap (λ i. get_or levels i 0) (lane_moves c.args.byte c.args.round p c.requires.round l
+          w.if-byte-round-lt-SEGMENT_ROUNDS.false)
     ]

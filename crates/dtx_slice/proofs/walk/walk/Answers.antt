@@ -1,6 +1,6 @@
 use Rattle.std.proofs.Common.{◌≡◌, ℕ, ◌/◌, ◌%◌, get_or, ◌∙◌}
 use Rattle.dtx_slice.specs.Unrolled.{byte_back}
-use Rattle.dtx_slice.proofs.Places.{bytes_more, lane_byte_is}
+use Rattle.dtx_slice.specs.PlacesLaws.{bytes_more, lane_byte_is}
 use Rattle.dtx_slice.proofs.walk.walk.Goals as goal
 
 pub loop-byte-preserved : goal.loop-byte-preserved
@@ -14,5 +14,6 @@ loop-byte-preserved c =
       bytes = bytes_more h (λ j. get_or new j 0 ≡ byte_back c.args.first formers levels j)
           (λ j l. c.store.ensures.before j l ∙ c.loop-byte.invariant.bytes j l)
           (λ p l. c.store.ensures.bytes p l ∙ c.four_rounds-lanes.ensures.bytes p l
-          ∙ lane_byte_is c.args.first h p (get_or c.before-before.result p 0 / 4 % 2) formers levels l (c.before-before.ensures.formers p l));
+          ∙ lane_byte_is c.args.first h p (get_or c.before-before.result p 0 / 4 % 2) formers levels l
+          (c.before-before.ensures.formers p l));
     }

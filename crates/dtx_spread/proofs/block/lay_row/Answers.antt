@@ -12,7 +12,8 @@ loop-branch-preserved g c =
     let k = c.loop-branch.branch in
     let w = g.W.Widths.widths in
     ap (λ ys. set ys (c.args.place + k + g.row.B * c.width.result) (get_or c.args.row.now k 0)) c.loop-branch.invariant
-    ∙ row_more g.row.B w c.args.place k (c.args.place + k + g.row.B * c.width.result) c.args.row.now c.args.block.now (get_or c.args.row.now k 0) c.loop-branch-test.true (omega (arith, c.loop-branch-test.true, c.requires.whole)) refl
+    ∙ row_more g.row.B w c.args.place k (c.args.place + k + g.row.B * c.width.result) c.args.row.now c.args.block.now
+    (get_or c.args.row.now k 0) c.loop-branch-test.true (omega (arith, c.loop-branch-test.true, c.requires.whole)) refl
     (ap (λ n. c.args.place + k + g.row.B * n) c.width.ensures)
 
 pub returns-clause-turn : goal.returns-clause-turn

@@ -1,7 +1,7 @@
 use Rattle.std.proofs.Common.{◌≡◌, ℕ, ◌+◌, ◌-◌, ◌*◌, get_or, ◌∙◌, subst, arith}
 use Rattle.dtx_trellis.specs.Groups.{level_at}
 use Rattle.dtx_trellis.specs.Lanes.{HoldsStates, turn}
-use Rattle.dtx_trellis.proofs.LaneRounds.{group_levels}
+use Rattle.dtx_trellis.specs.LaneRoundsLaws.{group_levels}
 use Rattle.dtx_trellis.proofs.walk.walk.Goals as goal
 
 pub loop-byte-preserved : goal.loop-byte-preserved
@@ -14,8 +14,10 @@ loop-byte-preserved c =
     let lanes = c.byte_group-lanes.result in
     record {
       long = c.byte_group-lanes.array_long;
-      states = subst (λ t. HoldsStates s c.args.from.now c.args.bytes.now t (turn s (4 * (h + 1) - 1)) lanes.top lanes.middle lanes.low) e
-          (subst (λ t. HoldsStates s c.args.from.now c.args.bytes.now (4 * h + 4) (turn s t) lanes.top lanes.middle lanes.low) f c.byte_group-lanes.ensures.states);
+      states = subst (λ t. HoldsStates s c.args.from.now c.args.bytes.now t
+          (turn s (4 * (h + 1) - 1)) lanes.top lanes.middle lanes.low) e
+          (subst (λ t. HoldsStates s c.args.from.now c.args.bytes.now (4 * h + 4)
+          (turn s t) lanes.top lanes.middle lanes.low) f c.byte_group-lanes.ensures.states);
       levels = group_levels h (λ d. get_or new d 0 ≡ level_at s c.args.from.now c.args.bytes.now d)
           (λ d l. c.byte_group-lanes.ensures.before d l ∙ c.loop-byte.invariant.levels d l)
           c.byte_group-lanes.ensures.levels;

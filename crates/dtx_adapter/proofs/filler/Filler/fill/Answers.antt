@@ -5,7 +5,12 @@ use Rattle.dtx_adapter.specs.Filling.{Filling, said}
 use Rattle.dtx_adapter.proofs.filler.Filler.fill.Goals as goal
 
 pub invariant_of-self : goal.invariant_of-self
-invariant_of-self c = record { start = c.self.invariant.start; max_delay = c.self.invariant.max_delay; counter = omega arith; differ = c.self.invariant.differ }
+invariant_of-self c = record {
+  start = c.self.invariant.start;
+  max_delay = c.self.invariant.max_delay;
+  counter = omega arith;
+  differ = c.self.invariant.differ;
+}
 
 pub returns-clause-filled : goal.returns-clause-filled
 unfolding said spelling
@@ -14,6 +19,11 @@ returns-clause-filled c =
     c.mark.ensures
     ∙ ap (marked c.args.index) c.write.ensures.spelling
     ∙ ap
-    (λ stamp. spelling (record ops { stamp = stamp; frame = c.args.index / 624; index = c.args.index % 624 }) c.self.inside.counter (sync_at c.args.index))
+    (λ stamp. spelling (record ops {
+      stamp = stamp;
+      frame = c.args.index / 624;
+      index = c.args.index % 624;
+    }) c.self.inside.counter (sync_at c.args.index))
     c.stamp-self-inside.ensures.stamp
-    ∙ ap (λ (filling : Filling). spelling (said filling c.args.index) filling.counter (sync_at c.args.index)) c.self.view_is
+    ∙ ap (λ (filling : Filling). spelling (said filling c.args.index) filling.counter (sync_at c.args.index))
+    c.self.view_is

@@ -8,4 +8,5 @@ returns-clause-seen c = λ d h. c.step.ensures.answer ∙ seen_next c.args.self.
 
 pub returns-clause-stands : goal.returns-clause-stands
 returns-clause-stands c =
-    λ d h. subst (λ (o : Option ℕ). StandsFor o (d ++ c.args.sync ∷ [])) (sym c.step.ensures.kept) (stands_next c.args.self.now d c.args.sync h)
+    λ d h. subst (λ (o : Option ℕ). StandsFor o (d ++ c.args.sync ∷ [])) (sym c.step.ensures.kept)
+    (stands_next c.args.self.now d c.args.sync h)

@@ -17,13 +17,28 @@ invariant_of-self c =
 pub returns : goal.returns
 unfolding bytes_of
 returns c =
-    let old : Coding = record { states = c.self.inside.twelve; last = c.self.inside.last; branches = c.self.inside.outer.branches } in
-    let given : Coding → Group = λ v. record { first = c.args.first; second = c.args.second; sync = c.args.sync; from = unwrap_or c.args.preset v.states; packets = map (λ p. p.0) c.args.packets.now } in
-    let new : Coding = record { states = c.group.new.self; last = c.last-self-inside.result; branches = c.code_packets.new.outer.branches } in
+    let old : Coding = record {
+      states = c.self.inside.twelve;
+      last = c.self.inside.last;
+      branches = c.self.inside.outer.branches;
+    } in
+    let given : Coding → Group = λ v. record {
+      first = c.args.first;
+      second = c.args.second;
+      sync = c.args.sync;
+      from = unwrap_or c.args.preset v.states;
+      packets = map (λ p. p.0) c.args.packets.now;
+    } in
+    let new : Coding = record {
+      states = c.group.new.self;
+      last = c.last-self-inside.result;
+      branches = c.code_packets.new.outer.branches;
+    } in
     let count : ℕ = c.add_group.new.self.segments in
     let from = c.start_from.ensures in
     subst (λ (v : Coding). IsCoded v (given v) new count c.add_group.new.self.symbols) c.self.view_is
-    (does_code old (given old) c.code_packets.new.bytes c.group.new.levels c.group.new.self c.last-self-inside.result c.code_packets.new.outer.branches count c.add_group.new.self.symbols
+    (does_code old (given old) c.code_packets.new.bytes c.group.new.levels c.group.new.self c.last-self-inside.result
+    c.code_packets.new.outer.branches count c.add_group.new.self.symbols
     (record {
       bytes_are = c.code_packets.ensures.bytes;
       levels_are = c.group.ensures.levels ∙ ap (λ q. levels_of c.args.first q c.code_packets.new.bytes) from;
@@ -32,6 +47,7 @@ returns c =
       branches_are = ap (λ (o : Held). o.branches) c.code_packets.ensures.outer;
       counted = c.add_group.ensures.segments ∙ ap (λ (n : ℕ). n + 4) c.begin.ensures.segments;
       twelve = search rules;
-      written = c.add_group.ensures.symbols ∙ ap (λ s. s ++ symbols_of (four_segments c.group.new.levels 0)) c.begin.ensures.symbols;
+      written = c.add_group.ensures.symbols
+          ∙ ap (λ s. s ++ symbols_of (four_segments c.group.new.levels 0)) c.begin.ensures.symbols;
       ends = c.last-self-inside.ensures;
     }))

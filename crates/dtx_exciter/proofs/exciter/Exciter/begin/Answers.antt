@@ -4,5 +4,6 @@ use Rattle.dtx_exciter.proofs.exciter.Exciter.begin.Goals as goal
 
 pub returns-clause-keeps : goal.returns-clause-keeps
 returns-clause-keeps c =
-    keeps_single c.args.self.now.address c.args.self.now.delay _ c.args.self.now.packets c.args.packet.now c.args.self.now.coder refl refl refl (search rules) c.align.ensures
+    keeps_single c.args.self.now.address c.args.self.now.delay _ c.args.self.now.packets c.args.packet.now
+    c.args.self.now.coder refl refl refl (search rules) c.align.ensures
     c.known.ensures.states c.known.ensures.branches

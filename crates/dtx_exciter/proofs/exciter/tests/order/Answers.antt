@@ -6,4 +6,9 @@ use Rattle.dtx_exciter.proofs.exciter.tests.order.Goals as goal
 -- there is only one address
 pub write-requires-clause-differ : goal.write-requires-clause-differ
 write-requires-clause-differ c = λ i j d below within same.
-    absurd (omega (arith, length-map c.push.new.self.items (λ (e : Entry). e.address), c.push.ensures.len, ap (λ (es : List Entry). length es) c.new-offsets.ensures))
+    absurd (omega (
+      arith,
+      length-map c.push.new.self.items (λ (e : Entry). e.address),
+      c.push.ensures.len,
+      ap (λ (es : List Entry). length es) c.new-offsets.ensures,
+    ))

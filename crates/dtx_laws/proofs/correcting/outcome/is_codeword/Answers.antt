@@ -3,13 +3,15 @@ use Rattle.std.proofs.lemmas.Slice.Eq.{slice_eq-Decides}
 use Rattle.std.proofs.lemmas.Bool.Decides.{Decides-eqb}
 use Rattle.std.specs.Bool.{Decides}
 use Rattle.dtx_laws.specs.Codeword.{IsCodeword}
-use Rattle.dtx_laws.proofs.Words.{one_codeword}
+use Rattle.dtx_laws.specs.WordsLaws.{one_codeword}
 use Rattle.dtx_laws.proofs.correcting.outcome.is_codeword.Goals as goal
 
 pub returns : goal.returns
 returns g c =
     let known = c.encoded_again.ensures in
-    let same : Decides c.eq.result (c.encoded_again.result ≡ c.args.word.now) = slice_eq-Decides Decides-eqb c.encoded_again.result c.args.word.now c.eq.result c.eq.ensures in (
+    let same : Decides c.eq.result (c.encoded_again.result ≡ c.args.word.now) =
+    slice_eq-Decides Decides-eqb c.encoded_again.result c.args.word.now c.eq.result c.eq.ensures in (
       λ t. subst (IsCodeword g.row.N g.row.K) (same.0 t) known.codeword,
-      λ h. same.1 (one_codeword g.row.N g.row.K c.encoded_again.result c.args.word.now known.code.short known.codeword h known.begins),
+      λ h. same.1 (one_codeword g.row.N g.row.K c.encoded_again.result c.args.word.now known.code.short known.codeword h
+          known.begins),
     )

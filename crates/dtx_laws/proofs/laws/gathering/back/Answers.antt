@@ -1,4 +1,4 @@
-use Rattle.dtx_laws.proofs.Gathering.{gathered_back}
+use Rattle.dtx_laws.specs.GatheringLaws.{gathered_back}
 use Rattle.dtx_laws.proofs.laws.gathering.back.Goals as goal
 
 pub returns : goal.returns

@@ -14,5 +14,7 @@ pub write-requires-clause-differ : goal.write-requires-clause-differ
 write-requires-clause-differ c =
     let first : Entry = record { address = 7; offset = negsuc 9 } in
     let second : Entry = record { address = 9; offset = pos 25 } in
-    let are = c.push-2.ensures.items ∙ ap (λ (x : List Entry). x ++ second ∷ []) (c.push.ensures.items ∙ ap (λ (x : List Entry). x ++ first ∷ []) c.new-offsets.ensures) in
-    subst (λ (x : List Entry). AllPairs (λ a b. a ≢ b) (map (λ (e : Entry). e.address) x)) (sym are) (two_differ 7 9 (λ e. omega (arith, e)))
+    let are = c.push-2.ensures.items ∙ ap (λ (x : List Entry). x ++ second ∷ []) (c.push.ensures.items
+    ∙ ap (λ (x : List Entry). x ++ first ∷ []) c.new-offsets.ensures) in
+    subst (λ (x : List Entry). AllPairs (λ a b. a ≢ b) (map (λ (e : Entry). e.address) x)) (sym are)
+    (two_differ 7 9 (λ e. omega (arith, e)))

@@ -1,4 +1,4 @@
-use Rattle.dtx_outer.proofs.Words.{word_stays, complete_then}
+use Rattle.dtx_outer.specs.WordsLaws.{word_stays, complete_then}
 use Rattle.dtx_outer.proofs.laws.words.complete.Goals as goal
 
 pub returns-clause-stays : goal.returns-clause-stays

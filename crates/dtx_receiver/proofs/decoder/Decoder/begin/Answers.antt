@@ -5,5 +5,10 @@ use Rattle.dtx_receiver.proofs.decoder.Decoder.begin.Goals as goal
 
 pub returns : goal.returns
 returns c =
-    decodes_first c.args.sync.now (record { levels = c.self.inside.levels; formers = c.start.new.self; inner = c.start-2.new.self; turn = 0 })
+    decodes_first c.args.sync.now (record {
+      levels = c.self.inside.levels;
+      formers = c.start.new.self;
+      inner = c.start-2.new.self;
+      turn = 0;
+    })
     (c.start.ensures.formers ∙ ap formers_of c.last_levels.ensures.levels) c.start-2.ensures.stands refl

@@ -4,7 +4,8 @@ use Rattle.dtx_receiver.proofs.decoder.Decoder.new.Goals as goal
 
 pub invariant_of-result : goal.invariant_of-result
 invariant_of-result c = record {
-  small = λ d l. subst (λ (n : ℕ). n < 8) (sym (get_or-replicate {A = ℕ} 3312 d 0 0 (subst (λ (n : ℕ). d < n) (length-replicate {A = ℕ} 3312 0) l))) (lit< tt);
+  small = λ d l. subst (λ (n : ℕ). n < 8) (sym (get_or-replicate {A = ℕ} 3312 d 0 0
+      (subst (λ (n : ℕ). d < n) (length-replicate {A = ℕ} 3312 0) l))) (lit< tt);
   white = c.in_ok-new_outer_decoding.ensures.white;
   in_turn = lit< tt;
 }

@@ -9,6 +9,8 @@ loop-step-preserved c =
     let head : List ℕ = c.args.head.now in
     let divisor : List ℕ = c.args.self.now.divisor in
     let at : ℕ = length c.args.head.now % 4 + 4 * c.loop-step.step in
-    let further : length c.args.head.now % 4 + 4 * c.loop-step.step + 4 ≡ length c.args.head.now % 4 + 4 * (c.loop-step.step + 1) = omega arith in
-    step_along divisor (replicate 20 0) head (word_bytes c.loop-step.state) (word_bytes c.fed-state.result) at (omega (arith, c.loop-step-test.true)) c.loop-step.invariant c.fed-state.ensures
+    let further : length c.args.head.now % 4 + 4 * c.loop-step.step + 4
+    ≡ length c.args.head.now % 4 + 4 * (c.loop-step.step + 1) = omega arith in
+    step_along divisor (replicate 20 0) head (word_bytes c.loop-step.state) (word_bytes c.fed-state.result) at
+    (omega (arith, c.loop-step-test.true)) c.loop-step.invariant c.fed-state.ensures
     ∙ ap (λ j. register divisor (replicate 20 0) (take j head)) further

@@ -9,10 +9,17 @@ loop-step-preserved c =
     let i = c.loop-step.invariant in
     let divisor : List ℕ = c.args.self.now.divisor in
     let at : ℕ = length c.args.one.now % 4 + 4 * c.loop-step.step in
-    let further : length c.args.one.now % 4 + 4 * c.loop-step.step + 4 ≡ length c.args.one.now % 4 + 4 * (c.loop-step.step + 1) = omega arith in
+    let further : length c.args.one.now % 4 + 4 * c.loop-step.step + 4
+    ≡ length c.args.one.now % 4 + 4 * (c.loop-step.step + 1) = omega arith in
     record {
-      one = step_along divisor (replicate 20 0) c.args.one.now (word_bytes c.loop-step.state) (word_bytes c.fed-state.result) at (omega (arith, c.loop-step-test.true)) i.one c.fed-state.ensures
+      one = step_along divisor (replicate 20 0) c.args.one.now (word_bytes c.loop-step.state)
+          (word_bytes c.fed-state.result) at (omega (arith, c.loop-step-test.true)) i.one c.fed-state.ensures
           ∙ ap (λ j. register divisor (replicate 20 0) (take j c.args.one.now)) further;
-      two = step_along divisor (replicate 20 0) c.args.two.now (word_bytes c.loop-step.other) (word_bytes c.fed-other.result) at (omega (arith, c.loop-step-test.true, c.requires)) i.two c.fed-other.ensures
+      two = step_along divisor (replicate 20 0) c.args.two.now (word_bytes c.loop-step.other)
+          (word_bytes c.fed-other.result) at (omega (
+            arith,
+            c.loop-step-test.true,
+            c.requires,
+          )) i.two c.fed-other.ensures
           ∙ ap (λ j. register divisor (replicate 20 0) (take j c.args.two.now)) further;
     }

@@ -7,4 +7,5 @@ pub returns : goal.returns
 returns c =
     let divisor = c.args.self.now.divisor in
     let head = c.args.head.now in
-    c.fed.ensures ∙ ap (register divisor (replicate 20 0)) c.padded.ensures ∙ zeros_before divisor (take (length head % 4) head) 20 (4 - length head % 4)
+    c.fed.ensures ∙ ap (register divisor (replicate 20 0)) c.padded.ensures
+    ∙ zeros_before divisor (take (length head % 4) head) 20 (4 - length head % 4)

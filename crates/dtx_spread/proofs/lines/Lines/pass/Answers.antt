@@ -21,6 +21,10 @@ loop-done-preserved g c =
       within = l;
       bytes =
           ap (λ n. put_mid done n cur c.pass_some.new.bytes) k
-          ∙ passed_more g.row.B done count c.args.self.now c.loop-done.self old cur (take (done + count - done) (drop done cur)) c.pass_some.new.bytes l h.bytes h.branches (ap (λ n. take n (drop done cur)) k) c.pass_some.ensures.bytes;
-      branches = branches_more g.row.B done count c.args.self.now c.loop-done.self c.pass_some.new.self old cur (take (done + count - done) (drop done cur)) l h.bytes h.branches (ap (λ n. take n (drop done cur)) k) c.pass_some.ensures.branches;
+          ∙ passed_more g.row.B done count c.args.self.now c.loop-done.self old cur
+          (take (done + count - done) (drop done cur)) c.pass_some.new.bytes l h.bytes h.branches
+          (ap (λ n. take n (drop done cur)) k) c.pass_some.ensures.bytes;
+      branches = branches_more g.row.B done count c.args.self.now c.loop-done.self c.pass_some.new.self old cur
+          (take (done + count - done) (drop done cur)) l h.bytes h.branches
+          (ap (λ n. take n (drop done cur)) k) c.pass_some.ensures.branches;
     }

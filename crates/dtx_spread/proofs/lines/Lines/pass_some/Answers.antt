@@ -9,12 +9,22 @@ pub invariant_of-self : goal.invariant_of-self
 invariant_of-self g c =
     let s = c.self.inside in
     let h = c.self.invariant in
-    let r = lent_twice s.block.len s.block.items c.deref_mut.result.now c.make_room-self-inside.new.block c.deref_mut-2.result.now c.through-self-inside.new.block s.block.ok.0 c.deref_mut.ensures.value c.make_room-self-inside.auto.block c.deref_mut-2.ensures.value c.through-self-inside.auto.block in
+    let r = lent_twice s.block.len s.block.items c.deref_mut.result.now c.make_room-self-inside.new.block
+    c.deref_mut-2.result.now c.through-self-inside.new.block s.block.ok.0 c.deref_mut.ensures.value
+    c.make_room-self-inside.auto.block c.deref_mut-2.ensures.value c.through-self-inside.auto.block in
     let long = ap length r.1 ∙ r.2 in
     record {
       numbers = h.numbers;
-      below = subst (λ (n : ℕ). n < g.row.B) (sym c.through-self-inside.ensures.turn) (turn_less g.row.B s.next c.args.bytes.now h.below);
-      within = omega (arith, long, c.make_room-self-inside.ensures.room, c.through-self-inside.auto.bytes, c.make_room-self-inside.auto.block, ap length c.deref_mut.ensures.value);
+      below = subst (λ (n : ℕ). n < g.row.B) (sym c.through-self-inside.ensures.turn)
+          (turn_less g.row.B s.next c.args.bytes.now h.below);
+      within = omega (
+        arith,
+        long,
+        c.make_room-self-inside.ensures.room,
+        c.through-self-inside.auto.bytes,
+        c.make_room-self-inside.auto.block,
+        ap length c.deref_mut.ensures.value,
+      );
       long = long ∙ h.long;
     }
 
@@ -25,9 +35,14 @@ returns-clause-bytes g c =
     let m = c.make_room-self-inside in
     let t = c.through-self-inside in
     let n = g.row.B * g.row.M * (g.row.B - 1) in
-    let r = lent_twice s.block.len s.block.items c.deref_mut.result.now m.new.block c.deref_mut-2.result.now t.new.block s.block.ok.0 c.deref_mut.ensures.value m.auto.block c.deref_mut-2.ensures.value t.auto.block in
-    pass_bytes g.row.B g.row.M g.W.Widths.widths s.place s.next m.result c.args.bytes.now s.block.items m.new.block t.new.bytes g.met.W.Widths.are h.below h.within (m.ensures.held ∙ ap (λ ys. take n (drop s.place ys)) c.deref_mut.ensures.value) m.ensures.room
-    (t.ensures.bytes ∙ ap (λ ys. take (length c.args.bytes.now) (drop m.result (laid g.row.B g.W.Widths.widths m.result s.next c.args.bytes.now ys))) r.0)
+    let r = lent_twice s.block.len s.block.items c.deref_mut.result.now m.new.block c.deref_mut-2.result.now t.new.block
+    s.block.ok.0 c.deref_mut.ensures.value m.auto.block c.deref_mut-2.ensures.value t.auto.block in
+    pass_bytes g.row.B g.row.M g.W.Widths.widths s.place s.next m.result c.args.bytes.now s.block.items m.new.block
+    t.new.bytes g.met.W.Widths.are h.below h.within (m.ensures.held
+    ∙ ap (λ ys. take n (drop s.place ys)) c.deref_mut.ensures.value) m.ensures.room
+    (t.ensures.bytes
+    ∙ ap (λ ys. take (length c.args.bytes.now)
+    (drop m.result (laid g.row.B g.W.Widths.widths m.result s.next c.args.bytes.now ys))) r.0)
     ∙ ap (λ v. leaving_all g.row.B v c.args.bytes.now) c.self.view_is
 
 pub returns-clause-branches : goal.returns-clause-branches
@@ -37,9 +52,12 @@ returns-clause-branches g c =
     let m = c.make_room-self-inside in
     let t = c.through-self-inside in
     let n = g.row.B * g.row.M * (g.row.B - 1) in
-    let r = lent_twice s.block.len s.block.items c.deref_mut.result.now m.new.block c.deref_mut-2.result.now t.new.block s.block.ok.0 c.deref_mut.ensures.value m.auto.block c.deref_mut-2.ensures.value t.auto.block in
+    let r = lent_twice s.block.len s.block.items c.deref_mut.result.now m.new.block c.deref_mut-2.result.now t.new.block
+    s.block.ok.0 c.deref_mut.ensures.value m.auto.block c.deref_mut-2.ensures.value t.auto.block in
     ap (λ ys. lying g.row.B g.W.Widths.widths (m.result + length t.new.bytes) t.result ys) r.1
     ∙ ap (λ k. lying g.row.B g.W.Widths.widths (m.result + k) t.result t.new.block) t.auto.bytes
-    ∙ pass_branches g.row.B g.row.M g.W.Widths.widths s.place s.next m.result t.result c.args.bytes.now s.block.items m.new.block t.new.block g.met.W.Widths.are h.below h.within (m.ensures.held ∙ ap (λ ys. take n (drop s.place ys)) c.deref_mut.ensures.value) m.ensures.room
+    ∙ pass_branches g.row.B g.row.M g.W.Widths.widths s.place s.next m.result t.result c.args.bytes.now s.block.items
+    m.new.block t.new.block g.met.W.Widths.are h.below h.within (m.ensures.held
+    ∙ ap (λ ys. take n (drop s.place ys)) c.deref_mut.ensures.value) m.ensures.room
     (t.ensures.block ∙ ap (λ ys. laid g.row.B g.W.Widths.widths m.result s.next c.args.bytes.now ys) r.0) t.ensures.turn
     ∙ ap (λ v. after_all g.row.B v c.args.bytes.now) c.self.view_is

@@ -1,6 +1,6 @@
 use Rattle.std.proofs.Common.{sym, subst}
 use Rattle.dtx_trellis.specs.Lanes.{HoldsStates, HoldsBytes}
-use Rattle.dtx_trellis.proofs.LaneRounds.{turned_states, turned_bytes, same_turn, not_both}
+use Rattle.dtx_trellis.specs.LaneRoundsLaws.{turned_states, turned_bytes, same_turn, not_both}
 use Rattle.dtx_trellis.proofs.lanes.Lanes.moved_on.Goals as goal
 
 pub returns-then-begins_segment-clause-states : goal.returns-then-begins_segment-clause-states
@@ -22,10 +22,13 @@ returns-then-begins_segment-clause-bytes c =
 
 pub returns-else-begins_segment-clause-states : goal.returns-else-begins_segment-clause-states
 returns-else-begins_segment-clause-states c =
-    subst (λ x. HoldsStates c.args.first c.args.from.now c.args.bytes.now c.args.round x c.args.self.top c.args.self.middle c.args.self.low)
-    (sym (same_turn c.args.first c.args.round (not_both c.args.begins_segment c.if-begins_segment.false c.requires.begins.1))) c.requires.states
+    subst (λ x. HoldsStates c.args.first c.args.from.now c.args.bytes.now c.args.round x c.args.self.top
+    c.args.self.middle c.args.self.low)
+    (sym (same_turn c.args.first c.args.round (not_both c.args.begins_segment c.if-begins_segment.false
+    c.requires.begins.1))) c.requires.states
 
 pub returns-else-begins_segment-clause-bytes : goal.returns-else-begins_segment-clause-bytes
 returns-else-begins_segment-clause-bytes c =
     subst (λ x. HoldsBytes c.args.first c.args.bytes.now c.args.round x c.args.self.bytes)
-    (sym (same_turn c.args.first c.args.round (not_both c.args.begins_segment c.if-begins_segment.false c.requires.begins.1))) c.requires.bytes
+    (sym (same_turn c.args.first c.args.round (not_both c.args.begins_segment c.if-begins_segment.false
+    c.requires.begins.1))) c.requires.bytes

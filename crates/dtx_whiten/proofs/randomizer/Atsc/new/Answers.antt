@@ -7,10 +7,12 @@ use Rattle.dtx_whiten.proofs.Shifts.{register_next, register_small, register_zer
 use Rattle.dtx_whiten.proofs.randomizer.Atsc.new.Goals as goal
 
 pub tapped-requires : goal.tapped-requires
-tapped-requires c = subst (λ (x : ℕ). x < 2 ^ 16) (sym c.loop-shifts.invariant.register) (register_small c.loop-shifts._shifts)
+tapped-requires c =
+    subst (λ (x : ℕ). x < 2 ^ 16) (sym c.loop-shifts.invariant.register) (register_small c.loop-shifts._shifts)
 
 pub shifted-register-requires : goal.shifted-register-requires
-shifted-register-requires c = subst (λ (x : ℕ). x < 2 ^ 16) (sym c.loop-shifts.invariant.register) (register_small c.loop-shifts._shifts)
+shifted-register-requires c =
+    subst (λ (x : ℕ). x < 2 ^ 16) (sym c.loop-shifts.invariant.register) (register_small c.loop-shifts._shifts)
 
 pub loop-shifts-init : goal.loop-shifts-init
 loop-shifts-init c = record { long = search rules; each = λ k h. absurd (omega arith); register = sym register_zero }
@@ -20,15 +22,29 @@ unfolding randomizer_byte
 loop-shifts-preserved c = record {
   long = search rules;
   each = below_more (λ k. get_or c.push.new.self.items k 0 ≡ randomizer_byte k) c.loop-shifts._shifts
-      (λ k h. ap (λ xs. get_or xs k 0) c.in_ok-push.ensures.items ∙ get_or_append_left c.loop-shifts.bytes.items _ 0 k (omega (arith, c.loop-shifts.invariant.long, c.loop-shifts.bytes.ok.0)) ∙ c.loop-shifts.invariant.each k h)
-      (ap (λ xs. get_or xs c.loop-shifts._shifts 0) c.in_ok-push.ensures.items ∙ get_or_push c.loop-shifts.bytes.items _ 0 c.loop-shifts._shifts (omega (arith, c.loop-shifts.invariant.long, c.loop-shifts.bytes.ok.0)) ∙ c.tapped.ensures ∙ ap tapped c.loop-shifts.invariant.register);
-  register = c.shifted-register.ensures ∙ ap (λ (x : ℕ). remainder 16 polynomial 1 (x * 2)) c.loop-shifts.invariant.register ∙ sym (register_next c.loop-shifts._shifts);
+      (λ k h. ap (λ xs. get_or xs k 0) c.in_ok-push.ensures.items
+      ∙ get_or_append_left c.loop-shifts.bytes.items _ 0 k (omega (
+        arith,
+        c.loop-shifts.invariant.long,
+        c.loop-shifts.bytes.ok.0,
+      )) ∙ c.loop-shifts.invariant.each k h)
+      (ap (λ xs. get_or xs c.loop-shifts._shifts 0) c.in_ok-push.ensures.items
+      ∙ get_or_push c.loop-shifts.bytes.items _ 0 c.loop-shifts._shifts (omega (
+        arith,
+        c.loop-shifts.invariant.long,
+        c.loop-shifts.bytes.ok.0,
+      )) ∙ c.tapped.ensures ∙ ap tapped c.loop-shifts.invariant.register);
+  register = c.shifted-register.ensures
+      ∙ ap (λ (x : ℕ). remainder 16 polynomial 1 (x * 2)) c.loop-shifts.invariant.register
+      ∙ sym (register_next c.loop-shifts._shifts);
 }
 
 pub invariant_of-result : goal.invariant_of-result
 invariant_of-result c =
-    let l : vec_len c.loop-shifts.bytes ≡ 187 * 312 = omega (arith, c.loop-shifts.invariant.long, c.loop-shifts-test.false, c.loop-shifts.auto._shifts-end) in
+    let l : vec_len c.loop-shifts.bytes ≡ 187 * 312 =
+    omega (arith, c.loop-shifts.invariant.long, c.loop-shifts-test.false, c.loop-shifts.auto._shifts-end) in
     record {
       long = l;
-      all = randomizer_bytes_by c.loop-shifts.bytes.items (omega (arith, l, c.loop-shifts.bytes.ok.0)) (λ at h. c.loop-shifts.invariant.each at (omega (arith, h, c.loop-shifts-test.false)));
+      all = randomizer_bytes_by c.loop-shifts.bytes.items (omega (arith, l, c.loop-shifts.bytes.ok.0))
+          (λ at h. c.loop-shifts.invariant.each at (omega (arith, h, c.loop-shifts-test.false)));
     }

@@ -1,0 +1,149 @@
+-- The packets of a group, made one after another.
+use Rattle.std.proofs.Common.{◌≡◌, ◌≢◌, ℕ, suc, get_or, set, drop-cons, ◌+◌, ◌*◌, ◌/◌, ◌%◌, ◌<◌, Bool, true, false}
+use Rattle.std.proofs.Common.{cond, List, [], ◌∷◌, ◌++◌, length, take, drop, map, sym, ap, ap₂, subst, ◌∙◌, arith}
+use Rattle.std.proofs.Common.{append_assoc, nat_eq, AllPairs}
+use Rattle.std.specs.List.{IsDistinct}
+use Rattle.std.proofs.lemmas.Bool.Decides.{Decides-eqb}
+use Rattle.std.proofs.Math.Seq.{take-suc}
+use Rattle.std.proofs.lemmas.List.{length-append, append-nil, drop_all, drop-append-le, map-append, take_more_set}
+use Rattle.std.proofs.lemmas.Simd.{map-map}
+use Rattle.std.proofs.lemmas.Map.Made.{AllPairs-from_IsDistinct}
+use Rattle.dtx_ops.specs.declared.fields.Entry.{Entry}
+use Rattle.dtx_coder.specs.Stream.{states}
+use Rattle.dtx_packets.specs.declared.packet.Packet as packet
+use Rattle.dtx_plan.specs.declared.plan.Plan.{Plan}
+use Rattle.dtx_plan.specs.declared.transmitter.Transmitter.{Transmitter}
+use Rattle.dtx_plan.specs.TransmitterTable.{addresses_of}
+use Rattle.dtx_adapter.specs.Feed.{entry_of, is_placeholder, placeholders, ops_at, made, feed}
+use Rattle.dtx_adapter.specs.Filling.{Filling, Fills, said}
+use Rattle.dtx_adapter.specs.FeedsLaws.{placeholders-append, placeholders-one, length-feed, feed_front, feed_next}
+
+-- what is said is what the feed's operations packet says
+said_is : (plan : Plan) (filling : Filling) (stream before : List (List ℕ)) (k : ℕ) → Fills plan filling stream
+    → filling.states ≡ states (take (4 * (k / 4)) before) → said filling k ≡ ops_at plan before k
+unfolding said ops_at
+said_is plan filling stream before k fills told =
+    let a = fills.start in
+    let b = fills.max_delay in
+    let d = fills.entries in
+    cc
+
+-- ---- the counter
+
+counted : (b : Bool) (n c : ℕ) → c ≡ n % 16 → cond b ((c + 1) % 16) c ≡ (n + cond b 1 0) % 16
+counted true n c e = omega (arith, e)
+counted false n c e = omega (arith, e)
+
+pub fills_next : (plan : Plan) (old new : Filling) (stream : List (List ℕ)) (p : List ℕ) → Fills plan old stream
+    → new ≡ record old { counter = cond (is_placeholder p) ((old.counter + 1) % 16) old.counter }
+    → Fills plan new (stream ++ p ∷ [])
+fills_next plan old new stream p fills e = record {
+  start = ap (λ (f : Filling). f.start) e ∙ fills.start;
+  max_delay = ap (λ (f : Filling). f.max_delay) e ∙ fills.max_delay;
+  entries = ap (λ (f : Filling). f.entries) e ∙ fills.entries;
+  counter = ap (λ (f : Filling). f.counter) e
+      ∙ counted (is_placeholder p) (placeholders stream) old.counter fills.counter
+      ∙ ap (λ n. n % 16) (sym (placeholders-append stream (p ∷ [])
+      ∙ ap (λ n. placeholders stream + n) (placeholders-one p)));
+}
+
+-- ---- the packets
+
+-- the states behind all whole groups before a packet of the group
+group_states : (plan : Plan) (stream given : List (List ℕ)) (k : ℕ) → length stream % 4 ≡ 0 → length given < 4
+    → k ≡ length stream + length given
+    → take (4 * (k / 4)) (feed plan (stream ++ given)) ≡ feed plan stream
+group_states plan stream given k whole few at =
+    let same : 4 * (k / 4) ≡ length stream = omega (arith, whole, few, at) in
+    ap (λ n. take n (feed plan (stream ++ given))) same ∙ feed_front plan stream given
+
+-- one packet more of a group
+pub made_next : (plan : Plan) (filling : Filling) (stream given xs : List (List ℕ)) (p : List ℕ) (k : ℕ)
+    → Fills plan filling (stream ++ given)
+    → length stream % 4 ≡ 0 → length given < 4 → k ≡ length stream + length given
+    → filling.states ≡ states (feed plan stream)
+    → xs ≡ drop (length stream) (feed plan (stream ++ given))
+    → xs ++ made (said filling k) filling.counter k p ∷ []
+    ≡ drop (length stream) (feed plan (stream ++ (given ++ p ∷ [])))
+made_next plan filling stream given xs p k fills whole few at told e =
+    let before : List (List ℕ) = stream ++ given in
+    let long : k ≡ length before = omega (arith, at, length-append stream given) in
+    let says : said filling k ≡ ops_at plan (feed plan before) (length before) =
+    said_is plan filling before (feed plan before) k fills (told
+    ∙ ap states (sym (group_states plan stream given k whole few at)))
+    ∙ ap (ops_at plan (feed plan before)) long in
+    let next : List ℕ =
+    made (ops_at plan (feed plan before) (length before)) (placeholders before % 16) (length before) p in
+    let here : made (said filling k) filling.counter k p ≡ next =
+    ap (λ ops. made ops filling.counter k p) says
+    ∙ ap₂ (λ counter n. made (ops_at plan (feed plan before) (length before)) counter n p) fills.counter long in
+    ap₂ (λ front q. front ++ q ∷ []) e here
+    ∙ sym (drop-append-le (length stream) (feed plan before) (next ∷ []) (omega (
+      arith,
+      length-feed plan before,
+      length-append stream given,
+    )))
+    ∙ ap (drop (length stream)) (sym (feed_next plan before p) ∙ ap (feed plan) (append_assoc stream given (p ∷ [])))
+
+-- ---- no packet
+
+pub fills_none : (plan : Plan) (filling : Filling) (stream : List (List ℕ)) → Fills plan filling stream
+    → Fills plan filling (stream ++ [])
+fills_none plan filling stream fills = subst (Fills plan filling) (sym (append-nil stream)) fills
+
+pub made_none : (plan : Plan) (stream : List (List ℕ)) → [] ≡ drop (length stream) (feed plan (stream ++ []))
+made_none plan stream =
+    sym (drop_all (length stream) (feed plan (stream ++ [])) (omega (
+      arith,
+      length-feed plan (stream ++ []),
+      length-append stream [],
+    )))
+
+-- ---- the packets that a group has
+
+-- packets as their bytes
+abbrev pub raw : List packet.Packet → List (List ℕ)
+raw packets = map (λ p. p.0) packets
+
+-- the next packet is still as it was given
+pub still_given : (old now : List packet.Packet) (i : ℕ) (d : packet.Packet) → i < length old → length now ≡ length old
+    → drop i now ≡ drop i old
+    → (get_or now i d ≡ get_or old i d) × (drop (suc i) now ≡ drop (suc i) old)
+still_given old now i d here long rest =
+    let a = drop-cons now i d (omega arith) in
+    let b = drop-cons old i d here in
+    let whole : get_or now i d ∷ drop (suc i) now ≡ get_or old i d ∷ drop (suc i) old = sym a ∙ rest ∙ b in
+    (cc, cc)
+
+pub given_next : (old : List packet.Packet) (i : ℕ) (d : packet.Packet) → i < length old
+    → raw (take (i + 1) old) ≡ raw (take i old) ++ (get_or old i d).0 ∷ []
+given_next old i d here =
+    let one : i + 1 ≡ suc i = omega arith in
+    ap (λ n. raw (take n old)) one ∙ ap raw (take-suc old i d here)
+    ∙ map-append (λ (p : packet.Packet). p.0) (take i old) (get_or old i d ∷ [])
+
+pub made_more : (now : List packet.Packet) (i : ℕ) (q : packet.Packet) → i < length now
+    → raw (take (i + 1) (set now i q)) ≡ raw (take i now) ++ q.0 ∷ []
+made_more now i q here = ap raw (take_more_set now i q here)
+    ∙ map-append (λ (p : packet.Packet). p.0) (take i now) (q ∷ [])
+
+-- ---- a group begins
+
+pub fills_begun : (plan : Plan) (old new : Filling) (stream : List (List ℕ)) (told : List ℕ) → Fills plan old stream
+    → new ≡ record old { states = told } → Fills plan new stream
+fills_begun plan old new stream told fills e = record {
+  start = ap (λ (f : Filling). f.start) e ∙ fills.start;
+  max_delay = ap (λ (f : Filling). f.max_delay) e ∙ fills.max_delay;
+  entries = ap (λ (f : Filling). f.entries) e ∙ fills.entries;
+  counter = ap (λ (f : Filling). f.counter) e ∙ fills.counter;
+}
+
+-- ---- the transmitters
+
+-- the addresses of a plan's entries differ
+pub entries_differ : (ts : List Transmitter) (es : List Entry) → es ≡ map entry_of ts
+    → IsDistinct nat_eq (addresses_of ts) → AllPairs (λ a b. a ≢ b) (map (λ (e : Entry). e.address) es)
+entries_differ ts es e distinct =
+    subst (AllPairs (λ a b. a ≢ b))
+    (sym (ap (map (λ (e : Entry). e.address)) e ∙ map-map (λ (e : Entry). e.address) entry_of ts))
+    (AllPairs-from_IsDistinct Decides-eqb (addresses_of ts) distinct)

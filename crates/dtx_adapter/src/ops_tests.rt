@@ -1,0 +1,176 @@
+//! Worked operations packets, read, damaged, and written again.
+
+ghost use Rattle.std.specs.Prelude.{◌<◌};
+
+use arrayvec::ArrayVec;
+use dtx_correct::Linear;
+use dtx_laws::Encode;
+use dtx_ops::{Entry, Ops, OpsNo, read, write};
+use dtx_packets::{PACKET, Packet};
+use dtx_rs::Rs;
+use dtx_trellis::States;
+use std::process::Abort;
+use std::test::Fail;
+
+/// The data of a worked packet, up to the end of its only entry.
+const BEGINS: [u8; 23] = [
+    0x01, 0x80, 0x00, 0x00, 0x00, 0x10, 0x02, 0x7C, 0x07, 0x4C, 0x4B, 0x40, 0x00, 0x00, 0x00, 0x15,
+    0x00, 0x64, 0x01, 0x00, 0x07, 0xFF, 0xF6,
+];
+
+/// Its fields.
+fn worked() -> Ops {
+    let mut offsets = ArrayVec::new();
+    offsets.push(Entry {
+        address: 7,
+        offset: -10,
+    });
+    Ops {
+        states: States([4, 0, 0, 0, 0, 0, 0, 0, 0, 0, 0, 1]),
+        stamp: 162823,
+        max_delay: 5_000_000,
+        frame: 21,
+        index: 100,
+        offsets,
+    }
+}
+
+fn worked_data() -> [u8; 164] {
+    let mut data = [0; 164];
+    data[..23].copy_from_slice(&BEGINS);
+    data
+}
+
+/// The worked data with four other bytes from a place on.
+fn data_with(at: u8, bytes: [u8; 4]) -> [u8; 164] {
+    let mut data = worked_data();
+    for k in 0..4 {
+        data[(at as usize + k) % 164] = bytes[k];
+    }
+    data
+}
+
+/// An operations packet of these data, with right correction bytes.
+fn packet_of(data: &[u8; 164]) -> Packet {
+    let mut payload = [0; 184];
+    Rs::new().encode(data, &mut payload);
+    packet_with(&payload)
+}
+
+/// An operations packet of this payload.
+fn packet_with(payload: &[u8; 184]) -> Packet {
+    let mut packet = Packet([0; PACKET]);
+    packet.0[..4].copy_from_slice(&[0x47, 0x1F, 0xFA, 0x10]);
+    packet.0[4..].copy_from_slice(payload);
+    packet
+}
+
+/// What a packet reads as, written into another one of that byte 0.
+fn written_again(packet: &Packet, sync: u8, counter: u8) -> Result<Packet, Fail>
+    requires { counter < 16 }
+{
+    let mut written = Packet([sync; PACKET]);
+    write(
+        &Rs::new(),
+        &read(&Linear::new(), packet)?,
+        counter,
+        &mut written,
+    );
+    Ok(written)
+}
+
+#[test]
+fn worked_fields_are_read_and_written(rt: HostRuntime) -> Result<(), Fail> {
+    let packet = packet_of(&worked_data());
+    assert_eq!(rt; read(&Linear::new(), &packet)?, worked());
+    let written = written_again(&packet, 0xB8, 13)?;
+    assert_eq!(rt; &written.0[..4], [0xB8, 0x1F, 0xFA, 0x1D].as_slice());
+    assert_eq!(rt; &written.0[4..], &packet.0[4..]);
+    Ok(())
+}
+
+#[test]
+fn ten_changed_bytes_of_the_payload_are_put_right(rt: HostRuntime) -> Result<(), Fail> {
+    let mut packet = packet_of(&worked_data());
+    for k in 0..10 {
+        packet.0[5 + 18 * k] ^= 0xA5;
+    }
+    assert_eq!(rt; read(&Linear::new(), &packet)?, worked());
+    Ok(())
+}
+
+#[test]
+fn other_bits_of_the_header_are_ignored(rt: HostRuntime) -> Result<(), Fail> {
+    let mut packet = packet_of(&worked_data());
+    packet.0[0] = 0xB8;
+    packet.0[1] = 0xFF;
+    packet.0[3] = 0xE7;
+    assert_eq!(rt; read(&Linear::new(), &packet)?, worked());
+    Ok(())
+}
+
+#[test]
+fn greatest_numbers_are_read_and_written(rt: HostRuntime) -> Result<(), Fail> {
+    let mut data = [0; 164];
+    data[..19].copy_from_slice(&[
+        0x01, 0xFF, 0xFF, 0xFF, 0xFF, 0xF0, 0x98, 0x96, 0x7F, 0x98, 0x96, 0x7F, 0xFF, 0xFF, 0xFF,
+        0xFF, 0x02, 0x6F, 35,
+    ]);
+    for k in 0..35 {
+        data[20 + 4 * k] = k as u8;
+        data[21 + 4 * k] = 0x80;
+    }
+    data[19] = 0xFF;
+    data[20] = 0xFF;
+    let packet = packet_of(&data);
+    let ops = read(&Linear::new(), &packet)?;
+    assert_eq!(rt; ops.states, States([7; 12]));
+    assert_eq!(rt; (ops.stamp, ops.max_delay), (9_999_999, 9_999_999));
+    assert_eq!(rt; (ops.frame, ops.index), (0xFFFF_FFFF, 623));
+    let first = Entry {
+        address: 65535,
+        offset: -32768,
+    };
+    assert_eq!(rt; ops.offsets.len(), 35);
+    assert_eq!(rt; ops.offsets.as_slice().first(), Some(&first));
+    assert_eq!(rt; &written_again(&packet, 0x47, 15)?.0[4..], &packet.0[4..]);
+    Ok(())
+}
+
+#[test]
+fn each_refusal_comes_by_its_rule_and_the_first_one_first(rt: HostRuntime) {
+    let cases = [
+        (0, [0x00, 0x80, 0x00, 0x00], OpsNo::Kind),
+        (4, [0x00, 0x11, 0x02, 0x7C], OpsNo::Pad),
+        (4, [0x00, 0x11, 0x98, 0x96], OpsNo::Pad),
+        (6, [0x98, 0x96, 0x80, 0x4C], OpsNo::Stamp),
+        (6, [0x98, 0x96, 0x80, 0xFF], OpsNo::Stamp),
+        (8, [0x07, 0x98, 0x96, 0x80], OpsNo::Delay),
+        (15, [0x15, 0x02, 0x70, 0x01], OpsNo::Index),
+        (15, [0x15, 0x02, 0x70, 0x24], OpsNo::Index),
+        (15, [0x15, 0x00, 0x64, 0x24], OpsNo::Count),
+        (18, [0x03, 0x00, 0x07, 0xFF], OpsNo::Twice),
+        (23, [0x01, 0x00, 0x00, 0x00], OpsNo::Fill),
+        (160, [0x00, 0x00, 0x00, 0x80], OpsNo::Fill),
+    ];
+    for (at, bytes, refusal) in cases {
+        expect_refusal(&rt, &packet_of(&data_with(at, bytes)), refusal);
+    }
+    expect_refusal(&rt, &packet_with(&[0; 184]), OpsNo::Kind);
+}
+
+#[test]
+fn a_word_far_from_every_codeword_is_refused(rt: HostRuntime) {
+    let mut payload = [0; 184];
+    payload[173..].copy_from_slice(&[
+        0x01, 0xD8, 0xC2, 0x9F, 0x6F, 0xC7, 0x5E, 0x5F, 0x71, 0x9D, 0xC1,
+    ]);
+    let mut packet = packet_with(&payload);
+    expect_refusal(&rt, &packet, OpsNo::Uncorrectable);
+    packet.0[2] = 0xFB;
+    expect_refusal(&rt, &packet, OpsNo::NotOps);
+}
+
+fn expect_refusal(rt: &impl Abort, packet: &Packet, refusal: OpsNo) {
+    assert_eq!(rt; read(&Linear::new(), packet), Err(refusal));
+}

@@ -1,0 +1,215 @@
+-- The packets from the anchor on, over one packet more.
+use Rattle.std.proofs.Common.{◌≡◌, ℕ, ◌-◌, ◌%◌, ◌<◌, ◌==◌, Bool, true, false, not, cond, Option, Some, None, option_map}
+use Rattle.std.proofs.Common.{List, [], ◌∷◌, ◌++◌, length, drop, take, refl, sym, ap, ap₂, subst, ◌∙◌, arith}
+use Rattle.std.proofs.lemmas.Bool.{cond-true, cond-false, eq-eqb, ne_eqb}
+use Rattle.std.proofs.lemmas.List.{length_push, length-drop, map-append, length-map, drop_at, drop-append-le, drop-map}
+use Rattle.std.proofs.lemmas.List.{take_at}
+use Rattle.dtx_packets.specs.Packet.{sync_of}
+use Rattle.dtx_cadence.specs.declared.anchor.Seen.{Seen}
+use Rattle.dtx_cadence.specs.declared.anchor.Seen.TheVariants.{Free, Start, Moved, Lost, At}
+use Rattle.dtx_cadence.specs.Anchor.{anchor, seen_by, seen, in_step}
+use Rattle.dtx_cadence.specs.NextAnchorLaws.{new_anchor, anchor_free, anchor_next, anchor_below}
+use Rattle.dtx_exciter.specs.declared.answers.Why.TheVariants.{Cadence}
+use Rattle.dtx_exciter.specs.declared.answers.Told.{Told}
+use Rattle.dtx_exciter.specs.declared.answers.Told.TheVariants.{Quiet, Muted}
+use Rattle.dtx_exciter.specs.Told.{has_moved, told_under, told_from, told_of}
+use Rattle.dtx_exciter.specs.Packets.{syncs, reads, said, anchor_of, under, told}
+
+-- ---- lists one packet longer
+
+pub syncs_push : (d : List (List ℕ)) (p : List ℕ) → syncs (d ++ p ∷ []) ≡ syncs d ++ sync_of p ∷ []
+unfolding syncs
+syncs_push d p = map-append sync_of d (p ∷ [])
+
+pub length-syncs : (d : List (List ℕ)) → length (syncs d) ≡ length d
+unfolding syncs
+length-syncs d = length-map d sync_of
+
+pub said_append : (d e : List (List ℕ)) → said (d ++ e) ≡ said d ++ said e
+unfolding said
+said_append d e = map-append reads d e
+
+pub length-said : (d : List (List ℕ)) → length (said d) ≡ length d
+unfolding said
+length-said d = length-map d reads
+
+pub said_drop : (n : ℕ) (d : List (List ℕ)) → drop n (said d) ≡ said (drop n d)
+unfolding said
+said_drop n d = drop-map reads n d
+
+-- ---- what the anchor says of one packet more
+
+-- the packets from the anchor on before and with the packet p
+abbrev pub Follows : Seen → List ℕ → Option (List (List ℕ)) → Option (List (List ℕ)) → Type 0
+Follows Free p before now = now ≡ None
+Follows Start p before now = now ≡ Some (p ∷ [])
+Follows Moved p before now = now ≡ Some (p ∷ [])
+Follows Lost p before now = now ≡ None
+Follows (At place) p before now = (l : List (List ℕ)) × (before ≡ Some l) × (now ≡ Some (l ++ p ∷ []))
+    × (place ≡ length l % 624)
+
+-- the answer with the packet p
+abbrev pub told_seen : ℕ → ℕ → Seen → Option (List (List ℕ)) → Told
+told_seen address delay Free now = Quiet
+told_seen address delay Start now = Quiet
+told_seen address delay Moved now = Muted Cadence
+told_seen address delay Lost now = Muted Cadence
+told_seen address delay (At place) now = told_under address delay (option_map said now)
+
+pub record Goes (address delay : ℕ) (d : List (List ℕ)) (p : List ℕ) (s : Seen) : Type 0 where
+  pub follows : Follows s p (under d) (under (d ++ p ∷ []))
+  pub answer : told address delay (d ++ p ∷ []) ≡ told_seen address delay s (under (d ++ p ∷ []))
+
+-- the packets and the answer by the anchors before and with the packet
+unfoldable rest : List (List ℕ) → Option ℕ → Option (List (List ℕ))
+rest d o = option_map (λ a. drop a d) o
+
+under_by : (d : List (List ℕ)) (o : Option ℕ) → anchor_of d ≡ o → under d ≡ rest d o
+unfolding under rest
+under_by d o h = ap (λ x. option_map (λ a. drop a d) x) h
+
+said_rest : (d : List (List ℕ)) (o : Option ℕ) → option_map (λ a. drop a (said d)) o ≡ option_map said (rest d o)
+unfolding rest
+said_rest d None = refl
+said_rest d (Some a) = ap Some (said_drop a d)
+
+told_by_anchors : (address delay : ℕ) (d : List (List ℕ)) (p : List ℕ) (before now : Option ℕ) → anchor_of d ≡ before
+    → anchor_of (d ++ p ∷ []) ≡ now
+    → told address delay (d ++ p ∷ []) ≡ cond (has_moved before now) (Muted Cadence)
+    (told_under address delay (option_map said (rest (d ++ p ∷ []) now)))
+unfolding told told_of anchor_of
+told_by_anchors address delay d p before now b n =
+    ap (λ s. told_from address delay (anchor s) (anchor (syncs (d ++ p ∷ []))) (said (d ++ p ∷ []))) front
+    ∙ ap₂ (λ x y. told_from address delay x y (said (d ++ p ∷ []))) b n
+    ∙ ap (λ o. cond (has_moved before now) (Muted Cadence) (told_under address delay o)) (said_rest (d ++ p ∷ []) now)
+  where
+    shorter : length (syncs (d ++ p ∷ [])) - 1 ≡ length (syncs d)
+    shorter = omega (arith, ap length (syncs_push d p), length_push (syncs d) (sync_of p))
+
+    front : take (length (syncs (d ++ p ∷ [])) - 1) (syncs (d ++ p ∷ [])) ≡ syncs d
+    front = ap₂ take shorter (syncs_push d p) ∙ take_at (syncs d) (sync_of p ∷ []) (length (syncs d)) refl
+
+single : (d : List (List ℕ)) (p : List ℕ) → rest (d ++ p ∷ []) (Some (length d)) ≡ Some (p ∷ [])
+unfolding rest
+single d p = ap Some (drop_at d (p ∷ []) (length d) refl)
+
+nothing : (d : List (List ℕ)) → rest d None ≡ None
+unfolding rest
+nothing d = refl
+
+here : (d : List (List ℕ)) (j : ℕ) → rest d (Some j) ≡ Some (drop j d)
+unfolding rest
+here d j = refl
+
+longer : (d : List (List ℕ)) (p : List ℕ) (j : ℕ) → j < length d
+    → rest (d ++ p ∷ []) (Some j) ≡ Some (drop j d ++ p ∷ [])
+unfolding rest
+longer d p j l = ap Some (drop-append-le j d (p ∷ []) (omega arith))
+
+-- one packet ends no group
+quiet_single : (address delay : ℕ) (p : List ℕ) → told_under address delay (Some (said (p ∷ []))) ≡ Quiet
+unfolding said
+quiet_single address delay p = refl
+
+goes_new : (address delay : ℕ) (d : List (List ℕ)) (p : List ℕ) (b : Bool) → anchor_of d ≡ None
+    → anchor_of (d ++ p ∷ []) ≡ cond b (Some (length d)) None
+    → Goes address delay d p (seen_by (length d) None (cond b (Some (length d)) None))
+goes_new address delay d p true h e = record {
+  follows = under_by (d ++ p ∷ []) (Some (length d)) e ∙ single d p;
+  answer =
+      told_by_anchors address delay d p None (Some (length d)) h e
+      ∙ ap (λ o. told_under address delay (option_map said o)) (single d p) ∙ quiet_single address delay p;
+}
+goes_new address delay d p false h e = record {
+  follows = under_by (d ++ p ∷ []) None e ∙ nothing (d ++ p ∷ []);
+  answer = told_by_anchors address delay d p None None h e
+      ∙ ap (λ o. told_under address delay (option_map said o)) (nothing (d ++ p ∷ []));
+}
+
+goes_moved : (address delay : ℕ) (d : List (List ℕ)) (p : List ℕ) (j : ℕ) → j < length d → anchor_of d ≡ Some j
+    → anchor_of (d ++ p ∷ []) ≡ Some (length d) → Goes address delay d p Moved
+goes_moved address delay d p j l h e = record {
+  follows = under_by (d ++ p ∷ []) (Some (length d)) e ∙ single d p;
+  answer =
+      told_by_anchors address delay d p (Some j) (Some (length d)) h e
+      ∙ cond-true (has_moved (Some j) (Some (length d))) (Muted Cadence)
+      (told_under address delay (option_map said (rest (d ++ p ∷ []) (Some (length d)))))
+      (ap not (ne_eqb j (length d) (omega arith)));
+}
+
+pub goes_on : (address delay : ℕ) (d : List (List ℕ)) (p : List ℕ) (j : ℕ) → j < length d → anchor_of d ≡ Some j
+    → anchor_of (d ++ p ∷ []) ≡ Some j → Goes address delay d p (At ((length d - j) % 624))
+goes_on address delay d p j l h e = record {
+  follows = (
+    drop j d,
+    under_by d (Some j) h ∙ here d j,
+    under_by (d ++ p ∷ []) (Some j) e
+        ∙ longer d p j l,
+    ap (λ (n : ℕ). n % 624) (sym (length-drop j d)),
+  );
+  answer =
+      told_by_anchors address delay d p (Some j) (Some j) h e
+      ∙ cond-false (has_moved (Some j) (Some j)) (Muted Cadence)
+      (told_under address delay (option_map said (rest (d ++ p ∷ []) (Some j)))) (ap not (eq-eqb j j refl))
+      ∙ ap (λ o. told_under address delay (option_map said o)) (sym (under_by (d ++ p ∷ []) (Some j) e));
+}
+
+goes_changed : (address delay : ℕ) (d : List (List ℕ)) (p : List ℕ) (j : ℕ) (b : Bool) → j < length d
+    → anchor_of d ≡ Some j → anchor_of (d ++ p ∷ []) ≡ cond b (Some (length d)) None
+    → Goes address delay d p (seen_by (length d) (Some j) (cond b (Some (length d)) None))
+goes_changed address delay d p j true l h e =
+    subst (Goes address delay d p) (sym (cond-false (j == length d) (At ((length d - length d) % 624)) Moved
+    (ne_eqb j (length d) (omega arith)))) (goes_moved address delay d p j l h e)
+goes_changed address delay d p j false l h e = record {
+  follows = under_by (d ++ p ∷ []) None e ∙ nothing (d ++ p ∷ []);
+  answer = told_by_anchors address delay d p (Some j) None h e;
+}
+
+goes_by_test : (address delay : ℕ) (d : List (List ℕ)) (p : List ℕ) (j : ℕ) (b t : Bool) → j < length d
+    → anchor_of d ≡ Some j → anchor_of (d ++ p ∷ []) ≡ cond t (Some j) (cond b (Some (length d)) None)
+    → Goes address delay d p (seen_by (length d) (Some j) (cond t (Some j) (cond b (Some (length d)) None)))
+goes_by_test address delay d p j b true l h e =
+    subst (Goes address delay d p) (sym (cond-true (j == j) (At ((length d - j) % 624)) Moved (eq-eqb j j refl)))
+    (goes_on address delay d p j l h e)
+goes_by_test address delay d p j b false l h e = goes_changed address delay d p j b l h e
+
+-- the anchor, of packets
+anchor_with : (d : List (List ℕ)) (p : List ℕ) → anchor_of (d ++ p ∷ []) ≡ anchor (syncs d ++ sync_of p ∷ [])
+unfolding anchor_of
+anchor_with d p = ap anchor (syncs_push d p)
+
+anchor_is : (d : List (List ℕ)) (o : Option ℕ) → anchor (syncs d) ≡ o → anchor_of d ≡ o
+unfolding anchor_of
+anchor_is d o h = h
+
+new_anchor_is : (d : List (List ℕ)) (p : List ℕ)
+    → new_anchor (syncs d) (sync_of p) ≡ cond (sync_of p == 0xB8) (Some (length d)) None
+new_anchor_is d p = ap (λ (n : ℕ). cond (sync_of p == 0xB8) (Some n) None) (length-syncs d)
+
+-- what is seen, by the anchors of the packets
+seen_is : (d : List (List ℕ)) (p : List ℕ) (before now : Option ℕ) → anchor (syncs d) ≡ before
+    → anchor (syncs d ++ sync_of p ∷ []) ≡ now → seen (syncs d) (sync_of p) ≡ seen_by (length d) before now
+unfolding seen
+seen_is d p before now b n = ap₂ (seen_by (length (syncs d))) b n
+    ∙ ap (λ (k : ℕ). seen_by k before now) (length-syncs d)
+
+pub goes : (address delay : ℕ) (d : List (List ℕ)) (p : List ℕ) → Goes address delay d p (seen (syncs d) (sync_of p))
+goes address delay d p = by_anchor (anchor (syncs d)) refl
+  where
+    below : (j : ℕ) → anchor (syncs d) ≡ Some j → j < length d
+    below j h = let a : j < length (syncs d) = anchor_below (syncs d) j h in omega (arith, a, length-syncs d)
+
+    by_anchor : (o : Option ℕ) → anchor (syncs d) ≡ o → Goes address delay d p (seen (syncs d) (sync_of p))
+    by_anchor None h =
+        let e : anchor (syncs d ++ sync_of p ∷ []) ≡ cond (sync_of p == 0xB8) (Some (length d)) None =
+        anchor_free (syncs d) (sync_of p) h ∙ new_anchor_is d p in
+        subst (Goes address delay d p) (sym (seen_is d p None (cond (sync_of p == 0xB8) (Some (length d)) None) h e))
+        (goes_new address delay d p (sync_of p == 0xB8) (anchor_is d None h) (anchor_with d p ∙ e))
+    by_anchor (Some j) h =
+        let t : Bool = in_step (sync_of p) (length (syncs d) - j) in
+        let e : anchor (syncs d ++ sync_of p ∷ []) ≡ cond t (Some j) (cond (sync_of p == 0xB8) (Some (length d)) None) =
+        anchor_next (syncs d) (sync_of p) j h t refl ∙ ap (cond t (Some j)) (new_anchor_is d p) in
+        subst (Goes address delay d p)
+        (sym (seen_is d p (Some j) (cond t (Some j) (cond (sync_of p == 0xB8) (Some (length d)) None)) h e))
+        (goes_by_test address delay d p j (sync_of p == 0xB8) t (below j h) (anchor_is d (Some j) h) (anchor_with d p
+        ∙ e))

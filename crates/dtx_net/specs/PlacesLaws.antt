@@ -1,0 +1,57 @@
+-- What stands at the places of a list.
+use Rattle.std.proofs.Common.{◌≡◌, ◌≢◌, ℕ, zero, suc, ◌<◌, Bool, true, false, cond, Some, None, List, [], ◌∷◌, ◌++◌}
+use Rattle.std.proofs.Common.{◌⊎◌, inl, inr, length, set, refl, sym, ap, subst, ◌∙◌, arith, get_or}
+use Rattle.std.specs.Prelude.{nat_lt, slice_get, position}
+use Rattle.std.proofs.lemmas.Bool.{cond-true, cond-false, lt-ltb}
+use Rattle.std.proofs.lemmas.Bool.Decides.{nat_tests}
+use Rattle.std.proofs.lemmas.List.{length-set, get_or-set_same}
+use Rattle.std.proofs.lemmas.List.Sums.{position_or_len_is}
+use Rattle.std.proofs.lemmas.Option.{slice_get-get_or}
+use Rattle.std.specs.List.{position_or_len}
+
+-- ---- one place is written over
+
+pub set_here : {X : Type 0} (xs : List X) (i : ℕ) (x : X) → i < length xs → slice_get (set xs i x) i ≡ Some x
+set_here xs i x l = slice_get-get_or (set xs i x) i x (omega (arith, l, length-set xs i x))
+    ∙ ap Some (get_or-set_same xs i x x l)
+
+pub set_elsewhere : {X : Type 0} (xs : List X) (i j : ℕ) (x : X) → j ≢ i → slice_get (set xs i x) j ≡ slice_get xs j
+set_elsewhere [] i j x n = refl
+set_elsewhere (y ∷ ys) zero zero x n = absurd (n refl)
+set_elsewhere (y ∷ ys) zero (suc j) x n = refl
+set_elsewhere (y ∷ ys) (suc i) zero x n = refl
+set_elsewhere (y ∷ ys) (suc i) (suc j) x n = set_elsewhere ys i j x (λ e. n (ap suc e))
+
+-- ---- one more at the end
+
+pub pushed_here : {X : Type 0} (xs : List X) (i : ℕ) (x y : X) → slice_get (xs ++ x ∷ []) i ≡ Some y
+    → (slice_get xs i ≡ Some y) ⊎ ((i ≡ length xs) × (x ≡ y))
+pushed_here [] zero x y e = inr (refl, cc)
+pushed_here [] (suc i) x y e = inl e
+pushed_here (z ∷ zs) zero x y e = inl e
+pushed_here (z ∷ zs) (suc i) x y e = after (pushed_here zs i x y e)
+  where
+    after : (slice_get zs i ≡ Some y) ⊎ ((i ≡ length zs) × (x ≡ y))
+        → (slice_get zs i ≡ Some y) ⊎ ((suc i ≡ suc (length zs)) × (x ≡ y))
+    after (inl a) = inl a
+    after (inr b) = inr (ap suc b.0, b.1)
+
+-- ---- the first place that passes
+
+ltb_self : (n : ℕ) → nat_lt n n ≡ false
+ltb_self n = grind (arith, nat_tests)
+
+pub position_found : (p : ℕ → Bool) (xs : List ℕ) (i : ℕ) → i < length xs
+    → ((k : ℕ) → k < i → p (get_or xs k 0) ≡ false) → p (get_or xs i 0) ≡ true → position p xs ≡ Some i
+position_found p xs i l before here =
+    let e : position_or_len p xs ≡ i = position_or_len_is p xs i 0 (omega (arith, l)) before (λ _. here) in
+    subst (λ (n : ℕ). cond (nat_lt n (length xs)) (Some n) None ≡ Some i) (sym e)
+    (cond-true (nat_lt i (length xs)) (Some i) None (lt-ltb i (length xs) l))
+
+pub position_missed : (p : ℕ → Bool) (xs : List ℕ) → ((k : ℕ) → k < length xs → p (get_or xs k 0) ≡ false)
+    → position p xs ≡ None
+position_missed p xs none =
+    let e : position_or_len p xs ≡ length xs =
+    position_or_len_is p xs (length xs) 0 (omega arith) none (λ l. absurd (omega (arith, l))) in
+    subst (λ (n : ℕ). cond (nat_lt n (length xs)) (Some n) None ≡ None) (sym e)
+    (cond-false (nat_lt (length xs) (length xs)) (Some (length xs)) None (ltb_self (length xs)))

@@ -1,0 +1,182 @@
+-- The packets of a run by how many data segments are in whole groups: those that are given while it is on, and the last
+-- one.
+use Rattle.std.proofs.Common.{◌≡◌, ◌≢◌, ℕ, zero, suc, ◌+◌, ◌-◌, ◌*◌, ◌/◌, ◌%◌, ◌<◌, ◌≤◌, ◌⊎◌, ◌==◌, Bool, true, false}
+use Rattle.std.proofs.Common.{cond, List, [], ◌∷◌, ◌++◌, map, length, refl, sym, ap, ap₂, ◌∙◌, subst, inl, inr, arith}
+use Rattle.std.specs.List.{filter, range_with_len}
+use Rattle.std.proofs.lemmas.Bool.{cases_lt}
+use Rattle.std.proofs.lemmas.List.{length-append, append-nil, map-append}
+use Rattle.std.proofs.lemmas.List.Elements.{filter-append}
+use Rattle.dtx_lists.proofs.Range.{range_with_len-parts, map-range_same}
+use Rattle.dtx_outer.specs.Inner.{place_of, word_at, IsComplete}
+use Rattle.dtx_outer.specs.WordsLaws.{word_stays}
+use Rattle.dtx_laws.specs.Words.{correction}
+use Rattle.dtx_receiver.specs.Packets.{is_complete, received_by, received_at, packets_of, early_of}
+use Rattle.dtx_receiver.specs.declared.batch.Received.{Received}
+use Rattle.dtx_receiver.specs.CompleteLaws.{complete_told, complete_all, complete_only}
+use Rattle.dtx_receiver.specs.RangesLaws.{filter-range_all, filter-range_none}
+
+is_true : (s k : ℕ) → (k + 53 ≤ s) ⊎ ((k + 52 ≡ s) × (k % 52 ≡ 0)) → is_complete (207 * s) k ≡ true
+is_true s k h = (complete_told (207 * s) k).1 (complete_all s k h)
+
+is_false : (s k : ℕ) → ((k + 53 ≤ s) ⊎ ((k + 52 ≡ s) × (k % 52 ≡ 0)) → ⊥) → is_complete (207 * s) k ≡ false
+is_false s k h = by_cases (is_complete (207 * s) k) (λ e. h (complete_only s k ((complete_told (207 * s) k).0 e)))
+  where
+    by_cases : (t : Bool) → (t ≡ true → ⊥) → t ≡ false
+    by_cases true n = absurd (n refl)
+    by_cases false n = refl
+
+all_early : (s : ℕ) → filter (is_complete (207 * s)) (range_with_len 0 (s - 52)) ≡ range_with_len 0 (s - 52)
+all_early s = filter-range_all (is_complete (207 * s)) 0 (s - 52) (λ k l m. is_true s k (inl (omega arith)))
+
+parts : (s : ℕ) → filter (is_complete (207 * s)) (range_with_len 0 s) ≡ range_with_len 0 (s - 52)
+    ++ filter (is_complete (207 * s)) (range_with_len (s - 52) (s - (s - 52)))
+parts s =
+    let e : s - 52 + (s - (s - 52)) ≡ s = omega arith in
+    let z : 0 + (s - 52) ≡ s - 52 = omega arith in
+    ap (λ n. filter (is_complete (207 * s)) (range_with_len 0 n)) (sym e)
+    ∙ ap (filter (is_complete (207 * s))) (range_with_len-parts 0 (s - 52) (s - (s - 52)))
+    ∙ filter-append (is_complete (207 * s)) (range_with_len 0 (s - 52)) (range_with_len (0 + (s - 52)) (s - (s - 52)))
+    ∙ ap₂ (λ xs a. xs ++ filter (is_complete (207 * s)) (range_with_len a (s - (s - 52)))) (all_early s) z
+
+-- where a packet is given at the end, and where none is
+last_one : (s : ℕ) → 52 ≤ s → s % 52 ≡ 0 → filter (is_complete (207 * s)) (range_with_len (s - 52) (s - (s - 52)))
+    ≡ (s - 52) ∷ []
+last_one s l e =
+    let n : s - (s - 52) ≡ suc 51 = omega arith in
+    ap (λ i. filter (is_complete (207 * s)) (range_with_len (s - 52) i)) n
+    ∙ ap (λ b. cond b ((s - 52) ∷ rest) rest) (is_true s (s - 52) (inr (omega arith, omega arith)))
+    ∙ ap (λ xs. (s - 52) ∷ xs) (filter-range_none (is_complete (207 * s)) (s - 52 + 1) 51
+    (λ k a b. is_false s k (λ h. no k a h)))
+  where
+    rest : List ℕ
+    rest = filter (is_complete (207 * s)) (range_with_len (s - 52 + 1) 51)
+
+    no : (k : ℕ) → s - 52 + 1 ≤ k → (k + 53 ≤ s) ⊎ ((k + 52 ≡ s) × (k % 52 ≡ 0)) → ⊥
+    no k a (inl h) = omega arith
+    no k a (inr h) = omega (arith, h.0)
+
+none_left : (s : ℕ) → (s < 52) ⊎ (s % 52 ≢ 0) → filter (is_complete (207 * s)) (range_with_len (s - 52) (s - (s - 52)))
+    ≡ []
+none_left s c =
+    filter-range_none (is_complete (207 * s)) (s - 52) (s - (s - 52)) (λ k a b. is_false s k (λ h. no c k a h))
+  where
+    no : (s < 52) ⊎ (s % 52 ≢ 0) → (k : ℕ) → s - 52 ≤ k → (k + 53 ≤ s) ⊎ ((k + 52 ≡ s) × (k % 52 ≡ 0)) → ⊥
+    no (inl l) k a (inl h) = omega arith
+    no (inl l) k a (inr h) = omega (arith, h.0)
+    no (inr n) k a (inl h) = omega arith
+    no (inr n) k a (inr h) = n (omega (arith, h.0, h.1))
+
+numbers : (s : ℕ) → 207 * s / 207 ≡ s
+numbers s = omega arith
+
+by_count : (bytes : List ℕ) (s : ℕ) → length bytes ≡ 207 * s
+    → packets_of bytes ≡ map (received_at bytes) (filter (is_complete (207 * s)) (range_with_len 0 s))
+unfolding packets_of
+by_count bytes s e =
+    ap (λ n. map (received_at bytes) (filter (is_complete n) (range_with_len 0 (n / 207)))) e
+    ∙ ap (λ n. map (received_at bytes) (filter (is_complete (207 * s)) (range_with_len 0 n))) (numbers s)
+
+early_count : (bytes : List ℕ) (s : ℕ) → length bytes ≡ 207 * s
+    → early_of bytes ≡ map (received_at bytes) (range_with_len 0 (s - 52))
+unfolding early_of
+early_count bytes s e =
+    ap (λ n. map (received_at bytes) (range_with_len 0 (n / 207 - 52))) e
+    ∙ ap (λ n. map (received_at bytes) (range_with_len 0 (n - 52))) (numbers s)
+
+-- the packets whose words are complete stay as they are, whatever bytes come
+stays : (bytes more : List ℕ) (k : ℕ) → IsComplete 207 52 4 (length bytes) k
+    → received_at (bytes ++ more) k ≡ received_at bytes k
+unfolding received_at
+stays bytes more k c =
+    ap (λ word. received_by (187 * (k % 312)) word (correction 207 187 word)) (word_stays 207 52 4 bytes more k c)
+
+-- with n times 207 bytes more, those packets more that become early
+abbrev pub next_of : List ℕ → ℕ → ℕ → List Received
+next_of bytes s n = map (received_at bytes) (range_with_len (s - 52) (s + n - 52 - (s - 52)))
+
+pub early_more : (bytes more : List ℕ) (s n : ℕ) → length bytes ≡ 207 * s → length more ≡ 207 * n
+    → early_of (bytes ++ more) ≡ early_of bytes ++ next_of (bytes ++ more) s n
+early_more bytes more s n e f =
+    early_count (bytes ++ more) (s + n) (length-append bytes more ∙ omega (arith, e, f))
+    ∙ ap (λ i. map (received_at (bytes ++ more)) (range_with_len 0 i)) whole
+    ∙ ap (map (received_at (bytes ++ more))) (range_with_len-parts 0 (s - 52) (s + n - 52 - (s - 52)))
+    ∙ map-append (received_at (bytes ++ more)) (range_with_len 0 (s - 52))
+    (range_with_len (0 + (s - 52)) (s + n - 52 - (s - 52)))
+    ∙ ap₂ (λ (xs : List Received) (a : ℕ). xs ++ map (received_at (bytes ++ more))
+    (range_with_len a (s + n - 52 - (s - 52)))) (before ∙ sym (early_count bytes s e)) from
+  where
+    whole : s + n - 52 ≡ s - 52 + (s + n - 52 - (s - 52))
+    whole = omega arith
+
+    from : 0 + (s - 52) ≡ s - 52
+    from = omega arith
+
+    before : map (received_at (bytes ++ more)) (range_with_len 0 (s - 52))
+        ≡ map (received_at bytes) (range_with_len 0 (s - 52))
+    before =
+        map-range_same (received_at (bytes ++ more)) (received_at bytes) 0 (s - 52)
+        (λ k a b. stays bytes more k (subst (λ (n : ℕ). IsComplete 207 52 4 n k) (sym e)
+        (complete_all s k (inl (omega (arith, b))))))
+
+-- with 207 bytes more: no packet, while a run is short, and then packet s - 52
+pub early_short : (bytes more : List ℕ) (s : ℕ) → length bytes ≡ 207 * s → length more ≡ 207 → s < 52
+    → early_of (bytes ++ more) ≡ early_of bytes
+early_short bytes more s e f l =
+    early_more bytes more s 1 e f
+    ∙ ap (λ i. early_of bytes ++ map (received_at (bytes ++ more)) (range_with_len (s - 52) i)) (nothing s l)
+    ∙ append-nil (early_of bytes)
+  where
+    nothing : (s : ℕ) → s < 52 → s + 1 - 52 - (s - 52) ≡ 0
+    nothing s l = omega arith
+
+pub early_next : (bytes more : List ℕ) (s : ℕ) → length bytes ≡ 207 * s → length more ≡ 207 → 52 ≤ s
+    → early_of (bytes ++ more) ≡ early_of bytes ++ received_at (bytes ++ more) (s - 52) ∷ []
+early_next bytes more s e f l =
+    early_more bytes more s 1 e f
+    ∙ ap (λ i. early_of bytes ++ map (received_at (bytes ++ more)) (range_with_len (s - 52) i)) (one s l)
+  where
+    one : (s : ℕ) → 52 ≤ s → s + 1 - 52 - (s - 52) ≡ 1
+    one s l = omega arith
+
+-- at the end, whatever is left comes behind those
+abbrev pub left_of : List ℕ → ℕ → List Received
+left_of bytes s = map (received_at bytes) (filter (is_complete (207 * s)) (range_with_len (s - 52) (s - (s - 52))))
+
+pub end_more : (bytes : List ℕ) (s : ℕ) → length bytes ≡ 207 * s → packets_of bytes ≡ early_of bytes ++ left_of bytes s
+end_more bytes s e =
+    by_count bytes s e ∙ ap (map (received_at bytes)) (parts s)
+    ∙ map-append (received_at bytes) (range_with_len 0 (s - 52))
+    (filter (is_complete (207 * s)) (range_with_len (s - 52) (s - (s - 52))))
+    ∙ ap (λ xs. xs ++ left_of bytes s) (sym (early_count bytes s e))
+
+-- what is left at the end of a run: nothing, or one packet, which any 207 bytes more bring
+pub end_none : (bytes : List ℕ) (s : ℕ) → length bytes ≡ 207 * s → (s < 52) ⊎ (s % 52 ≢ 0)
+    → packets_of bytes ≡ early_of bytes
+end_none bytes s e c =
+    end_more bytes s e ∙ ap (λ xs. early_of bytes ++ map (received_at bytes) xs) (none_left s c)
+    ∙ append-nil (early_of bytes)
+
+pub end_one : (bytes more : List ℕ) (s : ℕ) → length bytes ≡ 207 * s → length more ≡ 207 → 52 ≤ s → s % 52 ≡ 0
+    → packets_of bytes ≡ early_of (bytes ++ more)
+end_one bytes more s e f l z =
+    end_more bytes s e
+    ∙ ap (λ xs. early_of bytes ++ map (received_at bytes) xs) (last_one s l z)
+    ∙ ap (λ (r : Received). early_of bytes ++ r ∷ []) (sym (stays bytes more (s - 52) there))
+    ∙ sym (early_next bytes more s e f l)
+  where
+    there : IsComplete 207 52 4 (length bytes) (s - 52)
+    there = subst (λ (n : ℕ). IsComplete 207 52 4 n (s - 52)) (sym e)
+        (complete_all s (s - 52) (inr (omega arith, omega arith)))
+
+pub early_nothing : early_of [] ≡ []
+unfolding early_of
+early_nothing = refl
+
+-- the end of a run whose data segments are a multiple of 52, and of any other
+pub end_turn : (bytes more : List ℕ) (s : ℕ) → length bytes ≡ 207 * s → length more ≡ 207 → s % 52 ≡ 0
+    → packets_of bytes ≡ early_of (bytes ++ more)
+end_turn bytes more s e f z = by_cases (cases_lt s 52)
+  where
+    by_cases : (s < 52) ⊎ (52 ≤ s) → packets_of bytes ≡ early_of (bytes ++ more)
+    by_cases (inl few) = end_none bytes s e (inl few) ∙ sym (early_short bytes more s e f few)
+    by_cases (inr many) = end_one bytes more s e f many z

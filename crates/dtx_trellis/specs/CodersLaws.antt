@@ -1,0 +1,94 @@
+-- Which coder stands where.
+use Rattle.std.proofs.Common.{◌≡◌, ◌≢◌, ℕ, ◌+◌, ◌-◌, ◌*◌, ◌/◌, ◌%◌, ◌^◌, ◌<◌, List, length, get_or, sym, ap, ◌∙◌, arith}
+use Rattle.std.proofs.lemmas.List.FromFn.{get_or-map-range_with_len, length-map-range_with_len}
+use Rattle.dtx_trellis.specs.Pairs.{groups, group_place, byte_place, pair_in, pair_at, coder_at, higher, lower}
+
+pub coder_is : (s r p : ℕ) → p < 12 → coder_at s (12 * r + p) ≡ (p + 4 * ((s + r / 69) % 3)) % 12
+unfolding coder_at
+coder_is s r p l =
+    let e : (12 * r + p) % 12 ≡ p = omega arith in
+    let f : (12 * r + p) / 828 ≡ r / 69 = omega arith in
+    ap (λ x. (x + 4 * ((s + (12 * r + p) / 828) % 3)) % 12) e ∙ ap (λ x. (p + 4 * ((s + x) % 3)) % 12) f
+
+pub coder_small : (s d : ℕ) → coder_at s d < 12
+unfolding coder_at
+coder_small s d = omega arith
+
+turn_apart : (x p o : ℕ) → x < 3 → p < 12 → o < 12 → (p + 4 * x) % 12 ≡ (o + 4 * x) % 12 → p ≡ o
+turn_apart x p o l m n e = omega arith
+
+pub coders_apart : (s r p o : ℕ) → p < 12 → o < 12 → p ≢ o → coder_at s (12 * r + p) ≢ coder_at s (12 * r + o)
+coders_apart s r p o l m h e =
+    h (turn_apart ((s + r / 69) % 3) p o (omega arith) l m (sym (coder_is s r p l) ∙ e ∙ coder_is s r o m))
+
+turn_back : (x e : ℕ) → x < 3 → e < 12 → ((e + 12 - 4 * x) % 12 + 4 * x) % 12 ≡ e
+turn_back x e l m = omega arith
+
+-- each coder has a place in a round
+pub place_of : (s r e : ℕ) → e < 12 → (p : ℕ) × (p < 12) × (coder_at s (12 * r + p) ≡ e)
+place_of s r e l =
+    let x : ℕ = (s + r / 69) % 3 in (
+      (e + 12 - 4 * ((s + r / 69) % 3)) % 12,
+      omega arith,
+      coder_is s r ((e + 12 - 4 * ((s + r / 69) % 3)) % 12) (omega arith)
+          ∙ turn_back ((s + r / 69) % 3) e (omega arith) l,
+    )
+
+-- a pair by its number in the byte
+pub pair_0 : (b r : ℕ) → r % 4 ≡ 0 → b / 64 % 4 ≡ pair_in b r
+unfolding pair_in
+pair_0 b r e = ap (λ x. b / 4 ^ (3 - x) % 4) (sym e)
+
+pub pair_1 : (b r : ℕ) → r % 4 ≡ 1 → b / 16 % 4 ≡ pair_in b r
+unfolding pair_in
+pair_1 b r e = ap (λ x. b / 4 ^ (3 - x) % 4) (sym e)
+
+pub pair_2 : (b r : ℕ) → r % 4 ≡ 2 → b / 4 % 4 ≡ pair_in b r
+unfolding pair_in
+pair_2 b r e = ap (λ x. b / 4 ^ (3 - x) % 4) (sym e)
+
+pub pair_3 : (b r : ℕ) → r % 4 ≡ 3 → b % 4 ≡ pair_in b r
+unfolding pair_in
+pair_3 b r e = omega arith ∙ ap (λ x. b / 4 ^ (3 - x) % 4) (sym e)
+
+-- the pairs of a list of groups, by their numbers
+pub higher_at : (s e t : ℕ) (bytes : List ℕ) → t < 276 * groups bytes
+    → get_or (higher s bytes e) t 0 ≡ pair_at s bytes e t / 2
+unfolding higher
+higher_at s e t bytes l =
+    get_or-map-range_with_len (λ t. pair_at s bytes e t / 2) 0 (276 * groups bytes) t t 0 l (omega arith)
+
+pub lower_at : (s e t : ℕ) (bytes : List ℕ) → t < 276 * groups bytes
+    → get_or (lower s bytes e) t 0 ≡ pair_at s bytes e t % 2
+unfolding lower
+lower_at s e t bytes l =
+    get_or-map-range_with_len (λ t. pair_at s bytes e t % 2) 0 (276 * groups bytes) t t 0 l (omega arith)
+
+pub length_higher : (s e : ℕ) (bytes : List ℕ) → length (higher s bytes e) ≡ 276 * groups bytes
+unfolding higher
+length_higher s e bytes = length-map-range_with_len (λ t. pair_at s bytes e t / 2) 0 (276 * groups bytes)
+
+pub length_lower : (s e : ℕ) (bytes : List ℕ) → length (lower s bytes e) ≡ 276 * groups bytes
+unfolding lower
+length_lower s e bytes = length-map-range_with_len (λ t. pair_at s bytes e t % 2) 0 (276 * groups bytes)
+
+-- of one group alone
+pub one_group : (bytes : List ℕ) → length bytes ≡ 828 → groups bytes ≡ 1
+unfolding groups
+one_group bytes h = ap (λ n. n / 828) h
+
+-- the pairs of the first group are those of its rounds
+pub pair_of_round : (s e r : ℕ) (bytes : List ℕ) → s < 312 → r < 276
+    → pair_at s bytes e r ≡ pair_in (get_or bytes (byte_place s r e) 0) r
+unfolding pair_at group_place
+pair_of_round s e r bytes h l =
+    let u : r / 276 ≡ 0 = omega arith in
+    let v : r % 276 ≡ r = omega arith in
+    let w : (s + 4 * 0) % 312 ≡ s = omega arith in
+    ap (λ x. pair_in (get_or bytes (828 * x + byte_place ((s + 4 * x) % 312) (r % 276) e) 0) (r % 276)) u
+    ∙ ap (λ x. pair_in (get_or bytes (828 * 0 + byte_place ((s + 4 * 0) % 312) x e) 0) x) v
+    ∙ ap (λ x. pair_in (get_or bytes (828 * 0 + byte_place x r e) 0) r) w
+    ∙ ap (λ x. pair_in (get_or bytes x 0) r) (none (byte_place s r e))
+  where
+    none : (n : ℕ) → 828 * 0 + n ≡ n
+    none n = omega arith
