@@ -8,8 +8,9 @@ ghost use Rattle.dtx_top.specs.Ends.{HasHeadlineOf};
 ghost use Rattle.dtx_top.specs.Lines.{name_kept, names_told, IsSomeName};
 ghost use Rattle.dtx_top.specs.Means.{means_of};
 
-use crate::stand::{NetOutcome, adapt, net};
+use crate::stand::{NetOutcome, net};
 use arrayvec::ArrayString;
+use dtx_jobs::{adapt, code, excite, hurt, make, receive};
 use dtx_meaning::{Outcome, Status, ended};
 use dtx_outside::{Shelf, Word};
 use dtx_words::{Command, name_in_line};
@@ -36,12 +37,12 @@ pub(crate) fn perform<S: Shelf>(
 {
     match command {
         Some(Command::Adapt) => nameless(adapt(alloc, words, shelf)),
-        Some(Command::Code) => nameless(adapt(alloc, words, shelf)),
-        Some(Command::Excite) => nameless(adapt(alloc, words, shelf)),
-        Some(Command::Receive) => nameless(adapt(alloc, words, shelf)),
+        Some(Command::Code) => nameless(code(alloc, words, shelf)),
+        Some(Command::Excite) => nameless(excite(alloc, words, shelf)),
+        Some(Command::Receive) => nameless(receive(alloc, words, shelf)),
         Some(Command::Net) => net(alloc, words, shelf),
-        Some(Command::Make) => nameless(adapt(alloc, words, shelf)),
-        Some(Command::Hurt) => nameless(adapt(alloc, words, shelf)),
+        Some(Command::Make) => nameless(make(alloc, words, shelf)),
+        Some(Command::Hurt) => nameless(hurt(alloc, words, shelf)),
         None => nameless(ended(Status::Usage)),
     }
 }
