@@ -12,9 +12,10 @@ use Rattle.dtx_meaning.specs.Status.{IsFault, blame_of}
 use Rattle.dtx_meaning.specs.declared.status.Outcome.{Outcome}
 use Rattle.dtx_meaning.specs.declared.status.Status.{Status}
 use Rattle.dtx_meaning.specs.declared.status.Status.TheVariants.{Done, Usage, Same, Absent, Plan, Packet, TooLong}
-use Rattle.dtx_meaning.specs.declared.status.Status.TheVariants.{OutOfFeed, OutOfAir, NoSync, ReadFault, WriteFault, Memory}
+use Rattle.dtx_meaning.specs.declared.status.Status.TheVariants.{OutOfFeed, OutOfAir, NoSync, ReadFault, WriteFault}
+use Rattle.dtx_meaning.specs.declared.status.Status.TheVariants.{Memory}
 use Rattle.dtx_words.specs.Line.{finished}
-use Rattle.dtx_top.specs.Ends.{HasCause, HasEnded, IsFaultless}
+use Rattle.dtx_top.specs.Ends.{HasCause, HasEnded, IsFaultless, IsUsage}
 
 -- a status after its line failed, but for `Done`
 finished_failed : (status : Status) → (status ≡ Done) ⊎ (finished status (Err sink.Failed) ≡ status)
@@ -35,7 +36,8 @@ finished_failed Memory = inr refl
 -- ---- what is done
 
 -- a meaning that was carried out, whose line was printed so
-pub done_of : (m : Meaning) (start now : Option Files) (outcome : Outcome) (line : Result (Unit {0}) SinkNo) (first last : ℕ)
+pub done_of : (m : Meaning) (start now : Option Files) (outcome : Outcome) (line : Result (Unit {0}) SinkNo)
+    (first last : ℕ)
     → IsCarriedOut m start outcome now → IsCounted first line last
     → IsDone m start (finished outcome.status line) (Rose first last) now
 done_of m start now outcome (Ok u) first last is counted = done_printed m start now outcome (Rose first last) is
@@ -49,7 +51,8 @@ done_of m start now outcome (Err sink.Failed) first last is counted = elim (fini
 ]
 
 -- the same over files that are told
-pub done_told : (means : Files → Meaning) (told now : Option Files) (outcome : Outcome) (line : Result (Unit {0}) SinkNo) (first last : ℕ)
+pub done_told : (means : Files → Meaning) (told now : Option Files) (outcome : Outcome)
+    (line : Result (Unit {0}) SinkNo) (first last : ℕ)
     → IfSome told (λ held. IsCarriedOut (means held) (Some held) outcome now) → IsCounted first line last
     → IfSome told (λ held. IsDone (means held) (Some held) (finished outcome.status line) (Rose first last) now)
 done_told means None now outcome line first last is counted = tt
@@ -67,7 +70,8 @@ others_told means (Some held) now status unprinted is =
 -- ---- counts
 
 -- the cause of an answer whose line was printed
-cause_printed : (status : Status) (before now : Counts) (first last : ℕ) → HasGone before now (blame_of status) → last ≡ first
+cause_printed : (status : Status) (before now : Counts) (first last : ℕ) → HasGone before now (blame_of status)
+    → last ≡ first
     → HasCause status before now first last
 cause_printed Done before now first last gone same = (gone.risen, same)
 cause_printed Usage before now first last gone same = gone.risen
@@ -84,7 +88,8 @@ cause_printed WriteFault before now first last gone same = inl gone.risen
 cause_printed Memory before now first last gone same = tt
 
 -- the cause of an answer whose line failed
-cause_failed : (status : Status) (before now : Counts) (first last : ℕ) → HasGone before now (blame_of status) → Rose first last
+cause_failed : (status : Status) (before now : Counts) (first last : ℕ) → HasGone before now (blame_of status)
+    → Rose first last
     → HasCause (finished status (Err sink.Failed)) before now first last
 cause_failed Done before now first last gone rose = inr (gone.risen, rose)
 cause_failed Usage before now first last gone rose = gone.risen
@@ -101,14 +106,17 @@ cause_failed WriteFault before now first last gone rose = inl gone.risen
 cause_failed Memory before now first last gone rose = tt
 
 cause_of : (status : Status) (line : Result (Unit {0}) SinkNo) (before now : Counts) (first last : ℕ)
-    → HasGone before now (blame_of status) → HasRisenBy line first last → HasCause (finished status line) before now first last
+    → HasGone before now (blame_of status) → HasRisenBy line first last
+    → HasCause (finished status line) before now first last
 cause_of status (Ok u) before now first last gone risen = cause_printed status before now first last gone risen
 cause_of status (Err sink.Memory) before now first last gone risen = tt
-cause_of status (Err sink.Failed) before now first last gone risen = cause_failed status before now first last gone risen
+cause_of status (Err sink.Failed) before now first last gone risen =
+    cause_failed status before now first last gone risen
 
 -- how a call has ended, of how its command did and how its line was printed
 pub ended_of : (status : Status) (line : Result (Unit {0}) SinkNo) (before now : Counts) (first last : ℕ)
-    → HasGone before now (blame_of status) → IsCounted first line last → HasEnded before now first last (finished status line)
+    → HasGone before now (blame_of status) → IsCounted first line last
+    → HasEnded before now first last (finished status line)
 ended_of status line before now first last gone counted = record {
   read_faults = gone.read_faults;
   write_faults = gone.write_faults;
@@ -129,20 +137,39 @@ not_faulted Memory before now first last cause none fault = refl
 not_faulted _ before now first last cause none fault = absurd fault
 
 complete_of : (m : Meaning) (start now : Option Files) (status : Status) (before after : Counts) (first last : ℕ)
-    → IsDone m start status (Rose first last) now → HasEnded before after first last status → IsFaultless before after first last
+    → IsDone m start status (Rose first last) now → HasEnded before after first last status
+    → IsFaultless before after first last
     → (status ≡ m.outcome.status) ⊎ (status ≡ Memory)
-complete_of m start now status before after first last is gone none = elim (status_of_done m start now status (Rose first last) is) [
-  | inl answered ↦ inl answered
-  | inr fault ↦ inr (not_faulted status before after first last gone.cause none fault)
-]
+complete_of m start now status before after first last is gone none =
+    elim (status_of_done m start now status (Rose first last) is) [
+      | inl answered ↦ inl answered
+      | inr fault ↦ inr (not_faulted status before after first last gone.cause none fault)
+    ]
 
 -- the same over files that are told
-pub complete_told : (means : Files → Meaning) (told now : Option Files) (status : Status) (before after : Counts) (first last : ℕ)
-    → IfSome told (λ held. IsDone (means held) (Some held) status (Rose first last) now) → HasEnded before after first last status
-    → IfSome told (λ held. IsFaultless before after first last → (status ≡ (means held).outcome.status) ⊎ (status ≡ Memory))
+pub complete_told : (means : Files → Meaning) (told now : Option Files) (status : Status) (before after : Counts)
+    (first last : ℕ)
+    → IfSome told (λ held. IsDone (means held) (Some held) status (Rose first last) now)
+    → HasEnded before after first last status
+    → IfSome told (λ held. IsFaultless before after first last → (status ≡ (means held).outcome.status)
+    ⊎ (status ≡ Memory))
 complete_told means None now status before after first last is gone = tt
 complete_told means (Some held) now status before after first last is gone =
     λ none. complete_of (means held) (Some held) now status before after first last is gone none
+
+-- ---- words that fit no command
+
+usage_printed : (line : Result (Unit {0}) SinkNo) → (finished Usage line ≡ Usage) ⊎ (finished Usage line ≡ Memory)
+usage_printed (Ok u) = inl refl
+usage_printed (Err sink.Memory) = inr refl
+usage_printed (Err sink.Failed) = inl refl
+
+pub usage_of : (status : Status) (line : Result (Unit {0}) SinkNo) (told now : Option Files) → status ≡ Usage
+    → now ≡ told
+    → IsUsage (finished status line) told now
+usage_of status line told now is same =
+    let P : Status → Type 0 = λ s. (finished s line ≡ Usage) ⊎ (finished s line ≡ Memory) in
+    record { answer = subst P (sym is) (usage_printed line); files = same }
 
 -- ---- the headline
 

@@ -1,12 +1,18 @@
 -- What words mean, over all commands.
 use Rattle.std.specs.Prelude.{ℕ, List, Option, Some, None}
+use Rattle.dtx_top.specs.Stand.{net_meaning}
 use Rattle.dtx_outside.specs.Shelf.{Files}
+use Rattle.dtx_jobs.specs.Adapt.{adapt_meaning}
+use Rattle.dtx_jobs.specs.Code.{code_meaning}
+use Rattle.dtx_jobs.specs.Excite.{excite_meaning}
+use Rattle.dtx_jobs.specs.Hurt.{hurt_meaning}
+use Rattle.dtx_jobs.specs.Make.{make_meaning}
+use Rattle.dtx_jobs.specs.Receive.{receive_meaning}
 use Rattle.dtx_meaning.specs.Meaning.{Meaning, refused}
 use Rattle.dtx_meaning.specs.declared.status.Status.TheVariants.{Usage}
 use Rattle.dtx_words.specs.Fitting.{command_of}
 use Rattle.dtx_words.specs.declared.rows.Command.{Command}
 use Rattle.dtx_words.specs.declared.rows.Command.TheVariants.{Adapt, Code, Excite, Receive, Net, Make, Hurt}
-use Rattle.dtx_top.specs.Stand.{adapt_meaning, code_meaning, excite_meaning, hurt_meaning, make_meaning, net_meaning, receive_meaning}
 
 -- what the words mean where they fit that command, and where they fit none
 abbrev pub means_of : Option Command → List (List ℕ) → Files → Meaning

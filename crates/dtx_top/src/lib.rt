@@ -5,7 +5,5 @@ mod performing;
 mod stand;
 mod top;
 
-
 pub use dtx_meaning::Status;
 pub use top::run;
-
