@@ -1,6 +1,5 @@
 -- The segments that an exciter gives (the profile's own, over the symbols of ATSC A/53 Part 2). Packets are counted
--- from the
--- anchor, whose packet begins a first field.
+-- from the anchor, whose packet begins a first field.
 use Rattle.std.specs.Prelude.{ℕ, ℤ, ◌≡◌, ◌+◌, ◌-◌, ◌*◌, ◌/◌, ◌%◌, ◌==◌, nat_le, Option, Some, None, is_ok}
 use Rattle.std.specs.Prelude.{if◌then◌else◌, List, [], ◌∷◌, ◌++◌, length, take, slice_index_or, flat_map}
 use Rattle.std.specs.List.{range_with_len}
@@ -32,8 +31,7 @@ abbrev pub sent_before : ℕ → ℕ → List (List ℕ) → ℕ → List (List 
 sent_before address delay packets i = if nat_le 4 i then sent_at address delay packets (i - 4) else []
 
 -- a sent group behind a field sync, where it begins a field and the group before it was sent: the field sync ends with
--- the last
--- twelve symbols that were sent
+-- the last twelve symbols that were sent
 abbrev pub with_sync : ℕ → List (List ℤ) → List (List ℤ) → List (List ℤ)
 with_sync i before [] = []
 with_sync i [] (s ∷ ss) = s ∷ ss

@@ -32,18 +32,16 @@ pub fn plans_that_are_read()
 {}
 
 /// The feed of a plan is one that the exciter of each listed transmitter locks to, where the transmitter is in time:
-/// its marks stand
-/// at each 624th packet, its orders set the states of its own coders, and each of them serves the transmitter.
+/// its marks stand at each 624th packet, its orders set the states of its own coders, and each of them serves the
+/// transmitter.
 pub fn feed_locks()
     ensures { (plan : Plan) (stream : List (List ℕ)) (t : Transmitter) → IsPlan plan → IsStream stream → IsListed plan t
         → IsInTime plan t → IsFeed t.address t.delay (feed plan stream) }
 {}
 
 /// A group of a feed orders something exactly where it begins 52 or more packets behind the feed's start and holds an
-/// operations
-/// packet, which is where its stream holds a placeholder; it orders what the first of them says, and lists each
-/// transmitter of the
-/// plan once, with its own offset.
+/// operations packet, which is where its stream holds a placeholder; it orders what the first of them says, and lists
+/// each transmitter of the plan once, with its own offset.
 pub fn orders_of_a_feed()
     ensures exact { (plan : Plan) (stream : List (List ℕ)) (g : ℕ) → IsPlan plan → IsStream stream
         → counted (said (feed plan stream)) g ≡ order_of plan stream g }
@@ -64,8 +62,7 @@ pub fn orders_of_a_feed()
 {}
 
 /// The lines that an exciter logs in a stretch of a feed are the presets of the stretch's orders: one for each group
-/// that holds an
-/// operations packet, and no other.
+/// that holds an operations packet, and no other.
 pub fn lines_of_a_feed()
     ensures { (plan : Plan) (stream : List (List ℕ)) (t : Transmitter) (s k end : ℕ) → IsPlan plan → IsStream stream
         → IsListed plan t → 52 ≤ k
@@ -79,10 +76,8 @@ pub fn stretch_of_a_feed()
 {}
 
 /// For every stream and all lives of a listed transmitter that is in time: where one life, whatever it held before and
-/// holds behind,
-/// is given the feed unchanged from a mark on, the transmitter emits exactly the feed's own segments from the first
-/// operations packet
-/// that begins 52 or more packets behind the mark.
+/// holds behind, is given the feed unchanged from a mark on, the transmitter emits exactly the feed's own segments from
+/// the first operations packet that begins 52 or more packets behind the mark.
 pub fn emits()
     ensures { (plan : Plan) (stream : List (List ℕ)) (t : Transmitter) (xs ys : List (List (List ℕ)))
         (life : List (List ℕ)) (mark n k : ℕ)
@@ -93,10 +88,9 @@ pub fn emits()
 {}
 
 /// An exciter that is given a feed from its first packet on sends the feed's own segments (ATSC A/53 Part 2) from its
-/// first order on
-/// that begins at packet 52 or later, and nothing before, and its whole log is the presets of these orders. While it is
-/// given no
-/// whole group that begins at packet 52 or later and holds an operations packet, it sends and logs nothing.
+/// first order on that begins at packet 52 or later, and nothing before, and its whole log is the presets of these
+/// orders. While it is given no whole group that begins at packet 52 or later and holds an operations packet, it sends
+/// and logs nothing.
 pub fn from_its_start()
     ensures segments { (plan : Plan) (stream : List (List ℕ)) (t : Transmitter) (n k : ℕ) → IsPlan plan
         → IsStream stream → IsListed plan t → IsInTime plan t
@@ -117,10 +111,8 @@ pub fn from_its_start()
 {}
 
 /// The first preset of a stretch is that of its first group, and speaks of the stretch's first segment. No line of the
-/// log but the
-/// stretch's presets speaks of anything between its beginning and its end, and so no mute: a line that ends behind its
-/// beginning and
-/// begins before its end is one of them.
+/// log but the stretch's presets speaks of anything between its beginning and its end, and so no mute: a line that ends
+/// behind its beginning and begins before its end is one of them.
 pub fn lines_of_a_stretch()
     ensures first { (plan : Plan) (offset : ℤ) (s : ℕ) (feed : List (List ℕ)) (mark n k : ℕ)
         → IsFirstOrder feed mark n k
@@ -135,8 +127,7 @@ pub fn lines_of_a_stretch()
 {}
 
 /// At any two transmitters the presets of one group are of one packet of one frame, and their moments differ by the
-/// offsets'
-/// difference, in ticks of 1539 grains, and otherwise by whole seconds, wherever their stretches begin.
+/// offsets' difference, in ticks of 1539 grains, and otherwise by whole seconds, wherever their stretches begin.
 pub fn apart()
     ensures { (plan : Plan) (t u : Transmitter) (s r k l g : ℕ)
         → IsApart (t.offset -ℤ u.offset) (preset_at plan t.offset s k g) (preset_at plan u.offset r l g) }
@@ -148,40 +139,33 @@ pub fn packets_of_a_feed()
 {}
 
 /// Whatever segments are received, the stretch of a feed being at segment s of them: a run that begins at a field sync
-/// of the stretch
-/// gives each packet back whose bytes all lie in the stretch and whose word has at most ten wrong bytes, good and with
-/// 0x47 as its
-/// sync byte, behind the packets of the runs before it.
+/// of the stretch gives each packet back whose bytes all lie in the stretch and whose word has at most ten wrong bytes,
+/// good and with 0x47 as its sync byte, behind the packets of the runs before it.
 pub fn gives_back()
     ensures { (feed : List (List ℕ)) (k end s : ℕ) (got : List (List ℤ)) → ArePackets feed → end ≤ length feed
         → GivesBack feed k end s got }
 {}
 
 /// The stretch alone, received with slight damage, is one run from its first field sync on, and what is received is
-/// exactly the
-/// feed's packets from there on whose bytes are all there, in order, none flagged.
+/// exactly the feed's packets from there on whose bytes are all there, in order, none flagged.
 pub fn gives_all_back()
     ensures { (feed : List (List ℕ)) (k end : ℕ) (got : List (List ℤ)) → ArePackets feed → end ≤ length feed
         → GivesAllBack feed k end got }
 {}
 
 /// The headline: for every packet stream and schedule, an exciter that from any earlier state is given the adapter's
-/// feed unchanged
-/// from a cadence mark on emits, from the first operations packet whose group begins 52 or more packets later, exactly
-/// the symbols of
-/// that feed (ATSC A/53 Part 2), at moments that differ between transmitters only by the signalled offsets; and symbols
-/// with at most
-/// ten wrong bytes per codeword give their packets back.
+/// feed unchanged from a cadence mark on emits, from the first operations packet whose group begins 52 or more packets
+/// later, exactly the symbols of that feed (ATSC A/53 Part 2), at moments that differ between transmitters only by the
+/// signalled offsets; and symbols with at most ten wrong bytes per codeword give their packets back.
 pub fn headline()
     ensures { (plan : Plan) (stream : List (List ℕ)) (events : List Event) → IsPlan plan → IsStream stream
         → Headline plan stream events }
 {}
 
 /// What the headline asks of a transmitter can be met: with one event, which a plan may hold, that gives a listed
-/// transmitter in time
-/// the whole feed from packet 0 on, it joins the feed there, where the stream has a placeholder for an operations
-/// packet in a whole
-/// group that begins at packet 52 or later; its first order is that group's or an earlier one's.
+/// transmitter in time the whole feed from packet 0 on, it joins the feed there, where the stream has a placeholder for
+/// an operations packet in a whole group that begins at packet 52 or later; its first order is that group's or an
+/// earlier one's.
 pub fn joined_is_met()
     ensures met { (plan : Plan) (stream : List (List ℕ)) (t : Transmitter) (who g : ℕ) → IsPlan plan → IsStream stream
         → slice_get plan.transmitters.items who ≡ Some t → IsInTime plan t
