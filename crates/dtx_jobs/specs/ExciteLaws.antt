@@ -1,5 +1,5 @@
 -- Laws of what an exciter makes of packets: of more packets it makes more behind.
-use Rattle.std.proofs.Common.{◌≡◌, ℕ, ℤ, zero, suc, ◌+◌, ◌*◌, ◌%◌, ◌<◌, ◌≤◌, List, [], ◌∷◌, ◌++◌, length, map, take, refl, sym, ap, ap₂, ◌∙◌, arith, append_assoc, zero-add}
+use Rattle.std.proofs.Common.{◌≡◌, ℕ, ℤ, ◌+◌, ◌%◌, ◌≤◌, List, [], ◌∷◌, ◌++◌, length, map, take, refl, sym, ap, ap₂, ◌∙◌, arith, append_assoc, zero-add}
 use Rattle.std.specs.List.{range_with_len, flat_map}
 use Rattle.std.proofs.lemmas.Grind.{flat_map-append}
 use Rattle.std.proofs.lemmas.List.{append-nil, length_push, take-append-le, take_all}
@@ -17,7 +17,7 @@ use Rattle.dtx_files.specs.LogText.{log_text}
 use Rattle.dtx_files.specs.Symbols.{byte_of_symbol}
 use Rattle.dtx_packets.specs.PacketLaws.{packets_of-append}
 use Rattle.dtx_packets.specs.Packets.{packets_of}
-use Rattle.dtx_jobs.specs.Excite.{excited, exciting}
+use Rattle.dtx_jobs.specs.Excite.{exciting}
 use Rattle.dtx_jobs.specs.Life.{sent_bytes, logged_bytes}
 
 -- ---- one packet further

@@ -1,10 +1,10 @@
 -- Laws of what `receive` means over a file, whose bytes may have damage laid over them.
-use Rattle.std.proofs.Common.{◌≡◌, ℕ, ◌*◌, ◌/◌, ◌%◌, ◌≤◌, List, [], ◌∷◌, ◌++◌, length, take, drop, refl, sym, ap, ap₂, subst, ◌∙◌, arith}
+use Rattle.std.proofs.Common.{◌≡◌, ℕ, ◌*◌, ◌/◌, ◌%◌, ◌≤◌, List, [], ◌∷◌, length, take, drop, refl, sym, ap, ap₂, ◌∙◌, arith}
 use Rattle.std.specs.Prelude.{ℤ, true, not, min, None}
 use Rattle.std.specs.List.{find, flat_map, range_with_len}
 use Rattle.std.proofs.lemmas.Bool.{cond-false, cond-true, le-ltb, eq-eqb}
 use Rattle.std.proofs.lemmas.List.{take_at, take-append-drop, length-take-le}
-use Rattle.dtx_engine.specs.Made.{Made, only, joined, outputs_of}
+use Rattle.dtx_engine.specs.Made.{Made, only, outputs_of}
 use Rattle.dtx_engine.specs.Making.{Making, Course, course, course_from, first_refused, first_units, meaning_at, meaning_of_file}
 use Rattle.dtx_engine.specs.Making.{whole_units}
 use Rattle.dtx_engine.specs.declared.engine.Shape.{Shape}
@@ -19,7 +19,7 @@ use Rattle.dtx_receiver.specs.Bytes.{bytes_in}
 use Rattle.dtx_receiver.specs.Packets.{all_packets, packets_of, received}
 use Rattle.dtx_receiver.specs.Runs.{runs}
 use Rattle.dtx_jobs.specs.Damaged.{damaged}
-use Rattle.dtx_jobs.specs.Receive.{bytes_of, given_bytes, last_bytes, receive_answer, received_bytes, received_numbers, receiving}
+use Rattle.dtx_jobs.specs.Receive.{bytes_of, receive_answer, received_bytes, receiving}
 use Rattle.dtx_jobs.specs.ReceiveLaws.{bytes_of-all, receives_all}
 use Rattle.dtx_jobs.specs.Shapes.{segments}
 use Rattle.dtx_jobs.specs.SymbolFile.{segments_of, whole_segments}

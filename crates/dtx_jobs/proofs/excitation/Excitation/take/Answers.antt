@@ -1,4 +1,4 @@
-use Rattle.std.proofs.Common.{rules, ◌≡◌, ◌≤◌, ◌+◌, ◌*◌, ◌++◌, ◌∷◌, [], ℕ, ℤ, List, length, map, take, sym, ap, subst, ◌∙◌, arith, append_assoc}
+use Rattle.std.proofs.Common.{◌≡◌, ◌*◌, ◌++◌, ◌∷◌, [], ℕ, ℤ, List, length, map, take, sym, ap, subst, ◌∙◌, arith, append_assoc}
 use Rattle.std.proofs.lemmas.List.{length-append, length-map, length-take}
 use Rattle.dtx_coder.specs.Stream.{symbols_of}
 use Rattle.dtx_exciter.specs.Emission.{given, emission}
@@ -8,7 +8,7 @@ use Rattle.dtx_files.proofs.GivenFew.{given_few}
 use Rattle.dtx_files.specs.LogText.{log_text}
 use Rattle.dtx_files.specs.Symbols.{byte_of_symbol}
 use Rattle.dtx_jobs.specs.ExciteLaws.{sent_push, logged_push}
-use Rattle.dtx_jobs.specs.Life.{sent_bytes, logged_bytes, life_tally, tally_with, HasRoom}
+use Rattle.dtx_jobs.specs.Life.{life_tally, tally_with, HasRoom}
 use Rattle.dtx_jobs.specs.declared.life_tally.LifeTally.{LifeTally}
 use Rattle.dtx_jobs.proofs.LifeOn.{has_room, tally_push}
 use Rattle.dtx_jobs.proofs.excitation.Excitation.take.Goals as goal

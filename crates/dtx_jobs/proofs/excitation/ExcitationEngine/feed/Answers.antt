@@ -1,4 +1,4 @@
-use Rattle.std.proofs.Common.{◌≡◌, ◌+◌, ◌*◌, ◌/◌, ◌≤◌, ◌++◌, ℕ, List, length, ap, ap₂, sym, subst, ◌∙◌, arith}
+use Rattle.std.proofs.Common.{ℕ, List, ap, ap₂, sym, subst, ◌∙◌, arith}
 use Rattle.dtx_engine.specs.Made.{Made}
 use Rattle.dtx_packets.specs.PacketLaws.{packets_of-append}
 use Rattle.dtx_packets.specs.Packets.{packets_of}

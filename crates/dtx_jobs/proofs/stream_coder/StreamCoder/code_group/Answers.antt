@@ -1,8 +1,7 @@
-use Rattle.std.proofs.Common.{rules, ◌≡◌, ◌≤◌, ℕ, ℤ, ◌+◌, ◌*◌, ◌%◌, ◌==◌, ◌++◌, nat_le, List, length, map, take, ap, sym, ◌∙◌, arith, append_assoc}
+use Rattle.std.proofs.Common.{rules, ◌≡◌, ◌≤◌, ℕ, ℤ, ◌*◌, ◌%◌, ◌==◌, ◌++◌, nat_le, List, length, map, take, ap, sym, ◌∙◌, arith, append_assoc}
 use Rattle.std.proofs.lemmas.List.{length-append, length-map, length-take}
 use Rattle.dtx_files.specs.Symbols.{byte_of_symbol}
 use Rattle.dtx_packets.specs.declared.packet.Packet as packet
-use Rattle.dtx_jobs.specs.Symbols.{symbol_bytes}
 use Rattle.dtx_jobs.proofs.StreamSymbols.{next_group, second_is, sync_is, few_coded, group_stands, group_brings}
 use Rattle.dtx_jobs.proofs.stream_coder.StreamCoder.code_group.Goals as goal
 
