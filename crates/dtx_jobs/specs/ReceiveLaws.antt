@@ -1,4 +1,5 @@
--- Laws of what is made of symbols: it grows with them, where nothing looks like a field sync it is nothing, and with what the
+-- Laws of what is made of symbols: it grows with them, where nothing looks like a field sync it is nothing, and with
+-- what the
 -- end brings it is all packets.
 use Rattle.std.proofs.Common.{◌≡◌, ℕ, ◌%◌, List, [], ◌∷◌, ◌++◌, length, map, drop, refl, sym, ap, ◌∙◌}
 use Rattle.std.specs.Prelude.{ℤ}
@@ -22,7 +23,8 @@ flat_map-map [] = refl
 flat_map-map (p ∷ ps) = ap (λ z. p.packet.0 ++ z) (flat_map-map ps)
 
 -- the bytes of the packets of segments
-pub bytes_of-all : (segments : List (List ℤ)) → flat_map (λ (p : List ℕ). p) (received segments) ≡ bytes_of (all_packets segments)
+pub bytes_of-all : (segments : List (List ℤ))
+    → flat_map (λ (p : List ℕ). p) (received segments) ≡ bytes_of (all_packets segments)
 unfolding received
 bytes_of-all segments = flat_map-map (all_packets segments)
 

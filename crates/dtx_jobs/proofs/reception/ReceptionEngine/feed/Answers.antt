@@ -29,5 +29,6 @@ returns-clause-fed c = λ before long stand.
         bounded = c.take_all.ensures.bounded;
       };
       made = ap (λ s. only (bytes_of (given s))) all
-          ∙ ap only (c.take_all.ensures.brought (segments_of before) (record { receiver = was.receiver; tally = was.tally }));
+          ∙ ap only (c.take_all.ensures.brought (segments_of before)
+          (record { receiver = was.receiver; tally = was.tally }));
     }

@@ -14,7 +14,8 @@ returns-clause-fed c = λ before long stand.
     let bytes = c.args.bytes.now in
     let ps = packets_of before in
     let many : length ps ≡ first = length-packets_of before ∙ omega (arith, long) in
-    let was = subst (StandsFor c.args.self.now.coder) (all_in_groups ps (omega (arith, many, c.requires.grouped))) stand.coder in
+    let was = subst (StandsFor c.args.self.now.coder)
+    (all_in_groups ps (omega (arith, many, c.requires.grouped))) stand.coder in
     let groups = groups_of_piece before bytes first long c.requires.grouped in
     record {
       stand = record {
