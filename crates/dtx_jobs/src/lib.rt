@@ -1,7 +1,10 @@
 //! The commands of one stream or file: each a meaning, an engine that makes it, and one call.
 #![tactic(auto)]
 
+pub mod laws;
+mod place_command;
 mod placing;
 mod shapes;
 
+pub use place_command::place;
 pub use shapes::{PIECE_SEGMENTS, packets, segments, single_bytes, single_packets};

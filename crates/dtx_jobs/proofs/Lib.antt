@@ -1,0 +1,4 @@
+pub mod PlacedPackets
+pub mod PlacedCounts
+pub mod PlacedTally
+pub mod PlacedBytes

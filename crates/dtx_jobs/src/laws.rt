@@ -1,0 +1,3 @@
+//! Laws of what the commands make.
+
+pub mod placing;
