@@ -194,3 +194,37 @@ counted_next s t packets packet first counted step =
           let same : f ≡ length all / 312 = omega (arith, more, λ (e : length all % 312 ≡ 0). some e) in
           found ∙ ap (λ (g : ℕ). list_any is_open (behind all g)) same;
     }
+
+-- ---- as the code takes it
+
+-- what was met, where these packets stand before the packet
+pub record IsMet (s m : Placing) (index : ℕ) (vacant first : Bool) : Type 0 where
+  pub first_is : first ≡ (nat_le 52 (index % 312) && (vacant && not s.found))
+  pub found_is : m.found ≡ ((not (index % 312 == 0) && s.found) || (nat_le 52 (index % 312) && vacant))
+  pub bare_is : m.bare + one_if first ≡ s.bare + one_if (index % 312 == 0)
+  pub placed_is : m.placed ≡ s.placed
+
+pub becomes_met : (s m : Placing) (packets : List (List ℕ)) (packet : List ℕ) (index : ℕ) (vacant first : Bool)
+    → index ≡ length packets → vacant ≡ is_open packet → IsMet s m index vacant first → IsCounted s packets
+    → becomes packets packet ≡ (first && is_null packet)
+becomes_met s m packets packet index vacant first at kind met counted =
+    becomes_first s packets packet first counted
+    (met.first_is ∙ ap (λ (i : ℕ). nat_le 52 (i % 312) && (vacant && not s.found)) at
+    ∙ ap (λ (v : Bool). nat_le 52 (length packets % 312) && (v && not s.found)) kind)
+
+pub counted_met : (s m : Placing) (packets : List (List ℕ)) (packet : List ℕ) (index : ℕ) (vacant first : Bool)
+    → index ≡ length packets → vacant ≡ is_open packet → IsMet s m index vacant first → IsCounted s packets
+    → (more : ℕ) → more ≡ one_if (first && is_null packet)
+    → IsCounted (record { placed = m.placed + more; bare = m.bare; found = m.found }) (packets ++ packet ∷ [])
+counted_met s m packets packet index vacant first at kind met counted more is =
+    let t : Placing = record { placed = m.placed + more; bare = m.bare; found = m.found } in
+    counted_next s t packets packet first counted (record {
+      first_is = met.first_is ∙ ap (λ (i : ℕ). nat_le 52 (i % 312) && (vacant && not s.found)) at
+          ∙ ap (λ (v : Bool). nat_le 52 (length packets % 312) && (v && not s.found)) kind;
+      found_is = met.found_is
+          ∙ ap (λ (i : ℕ). (not (i % 312 == 0) && s.found) || (nat_le 52 (i % 312) && vacant)) at
+          ∙ ap (λ (v : Bool). (not (length packets % 312 == 0) && s.found) || (nat_le 52 (length packets % 312) && v))
+          kind;
+      bare_is = met.bare_is ∙ ap (λ (i : ℕ). s.bare + one_if (i % 312 == 0)) at;
+      placed_is = ap (λ (p : ℕ). p + more) met.placed_is ∙ ap (λ (p : ℕ). s.placed + p) is;
+    })

@@ -121,10 +121,11 @@ fn pid(packet: &[u8]) -> u16
 }
 
 /// Gives a null packet the packet identifier of a placeholder.
+#[tactic(auto, unfolding(crate::specs::Place::as_placeholder))]
 fn become_placeholder(packet: &mut [u8])
     requires null { pid_of packet.old ≡ NULL_PID }
     requires long { 2 < length packet.old }
     ensures { packet.new ≡ as_placeholder packet.old }
 {
-    packet[2] = 0xFA;
+    packet[2] -= (NULL_PID - PLACEHOLDER_PID) as u8;
 }
