@@ -3,6 +3,8 @@
 
 pub mod laws;
 mod place_command;
+#[cfg(test)]
+mod place_tests;
 mod placing;
 mod shapes;
 
