@@ -7,3 +7,7 @@ pub mod BytesOf
 pub mod LifeOn
 pub mod StreamSymbols
 pub mod Tallied
+pub mod PlacedPackets
+pub mod PlacedCounts
+pub mod PlacedTally
+pub mod PlacedBytes

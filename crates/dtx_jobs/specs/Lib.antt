@@ -22,6 +22,7 @@ pub mod Receive
 pub mod ReceiveLaws
 pub mod ReceivedLaws
 pub mod Reception
+pub mod Place
 pub mod Shapes
 pub mod StreamCoder
 pub mod SymbolFile

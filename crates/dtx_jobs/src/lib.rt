@@ -20,6 +20,10 @@ mod excite_command;
 mod life_tally;
 mod receive_command;
 mod reception;
+mod place_command;
+#[cfg(test)]
+mod place_tests;
+mod placing;
 mod shapes;
 mod stream_coder;
 mod symbol_buffer;
@@ -38,6 +42,7 @@ pub use damaged::Damaged;
 pub use excite_command::excite;
 pub use receive_command::receive;
 pub use reception::{MOST_SEGMENTS, Reception};
+pub use place_command::place;
 pub use shapes::{PIECE_SEGMENTS, packets, segments, single_bytes, single_packets};
 
 #[cfg(test)]
