@@ -11,6 +11,10 @@ pub record Made : Type 0 where
 abbrev pub only : List ℕ → Made
 only bytes = record { first = bytes; second = [] }
 
+-- bytes of each output
+abbrev pub both : List ℕ → List ℕ → Made
+both first second = record { first = first; second = second }
+
 -- one behind the other, in each output
 abbrev pub joined : Made → Made → Made
 joined a b = record { first = a.first ++ b.first; second = a.second ++ b.second }

@@ -1,13 +1,15 @@
 // Where a command writes: one output, or two side by side.
-ghost use Rattle.std.specs.Prelude.{◌≡◌, ℕ, List, Option};
+ghost use Rattle.std.specs.Prelude.{◌≡◌, ◌≢◌, ℕ, List, [], ◌∷◌, Option, IfOk};
 ghost use Rattle.dtx_outside.specs.Counts.{HasGone};
 ghost use Rattle.dtx_outside.specs.Shelf.{Files};
+ghost use Rattle.dtx_meaning.specs.Meaning.{ArePartWritten};
 ghost use Rattle.dtx_meaning.specs.Status.{blame_of_answer};
-ghost use Rattle.dtx_engine.specs.Made.{Made, joined, only, outputs_of};
+ghost use Rattle.dtx_engine.specs.Made.{Made, both, joined, only, outputs_of};
 ghost use Rattle.dtx_engine.specs.Outlet.{IsPut, IsAllPut};
 
 use dtx_meaning::Status;
 use dtx_outside::{Output, Shelf};
+use std::alloc::{AllocError, Global};
 
 /// The outputs of a command, which are written side by side.
 pub trait Outlet {
@@ -20,5 +22,147 @@ pub trait Outlet {
     /// Nothing was given, and the names differ.
     ghost fresh: { Self → Type 0 };
 
-    // begin, write, flush and the two laws: as CONTRACT.md says
+    /// Begins them all.
+    fn begin<S: Shelf>(&mut self, shelf: &mut S) -> Result<(), Status>
+        requires { fresh self.old }
+        ensures begun { (start : Option Files) → S.files shelf.old ≡ start
+            → IsPut (names self.old) start (only []) result (gathered self.new) (S.files shelf.new) }
+        ensures kept { names self.new ≡ names self.old }
+        ensures gone { HasGone (S.counts shelf.old) (S.counts shelf.new) (blame_of_answer result) };
+
+    /// Takes bytes for the first, and for the second where there is one.
+    fn write<S: Shelf>(&mut self, shelf: &mut S, first: &[u8], second: &[u8]) -> Result<(), Status>
+        ensures written { (start : Option Files) (given : Made) → gathered self.old start given (S.files shelf.old)
+            → IsPut (names self.old) start (joined given (both first.now second.now)) result (gathered self.new) (S.files shelf.new) }
+        ensures kept { names self.new ≡ names self.old }
+        ensures gone { HasGone (S.counts shelf.old) (S.counts shelf.new) (blame_of_answer result) };
+
+    /// Writes what is gathered.
+    fn flush<S: Shelf>(&mut self, shelf: &mut S) -> Result<(), Status>
+        ensures flushed { (start : Option Files) (given : Made) → gathered self.old start given (S.files shelf.old)
+            → IsAllPut (names self.old) start given result (S.files shelf.new) }
+        ensures kept { names self.new ≡ names self.old }
+        ensures gone { HasGone (S.counts shelf.old) (S.counts shelf.new) (blame_of_answer result) };
+
+    /// What was given is written in part.
+    ghost part: { (w : Self) (start : Option Files) (made : Made) (now : Option Files) → gathered w start made now
+        → ArePartWritten (outputs_of (names w) made) start now };
+}
+
+/// One output.
+#[derive(Drop)]
+pub struct One<'a> {
+    name: &'a str,
+    output: Output,
+}
+
+impl<'a> One<'a> {
+    /// The output of that name, of which nothing was given. It takes the memory of one piece. (Match its answer: `?`
+    /// gets no proof here.)
+    pub fn new(alloc: Global, name: &'a str) -> Result<One<'a>, AllocError>
+        ensures { IfOk result (λ w. ⟦<One<'a> as Outlet>⟧.fresh w × (⟦<One<'a> as Outlet>⟧.names w ≡ name.now ∷ [])) }
+    {
+        Ok(One {
+            name,
+            output: Output::new(alloc)?,
+        })
+    }
+}
+
+impl<'a> Outlet for One<'a> {
+    ghost use Rattle.std.specs.Prelude.{◌≡◌, [], ◌∷◌};
+    ghost use Rattle.dtx_outside.specs.Written.{IsGathered};
+    ghost use Rattle.dtx_engine.specs.OutletLaws.{part_of_one};
+
+    ghost names = { λ w. w.name.now ∷ [] };
+
+    ghost gathered = { λ w start given now. IsGathered start w.name.now given.first w.output now };
+
+    ghost fresh = { λ w. w.output ≡ [] };
+
+    fn begin<S: Shelf>(&mut self, shelf: &mut S) -> Result<(), Status> {
+        shelf.begin(self.name)?;
+        Ok(())
+    }
+
+    fn write<S: Shelf>(
+        &mut self,
+        shelf: &mut S,
+        first: &[u8],
+        _second: &[u8],
+    ) -> Result<(), Status> {
+        self.output.write(shelf, self.name, first)?;
+        Ok(())
+    }
+
+    fn flush<S: Shelf>(&mut self, shelf: &mut S) -> Result<(), Status> {
+        self.output.flush(shelf, self.name)?;
+        Ok(())
+    }
+
+    ghost part = { λ w start made now is. part_of_one w.name.now start made w.output now is };
+}
+
+/// Two outputs of two names.
+#[derive(Drop)]
+pub struct Two<'a> {
+    first: &'a str,
+    second: &'a str,
+    first_output: Output,
+    second_output: Output,
+}
+
+impl<'a> Two<'a> {
+    /// The outputs of these names, of which nothing was given. It takes the memory of two pieces. (Match its answer:
+    /// `?` gets no proof here.)
+    pub fn new(alloc: Global, first: &'a str, second: &'a str) -> Result<Two<'a>, AllocError>
+        requires { first.now ≢ second.now }
+        ensures { IfOk result (λ w. ⟦<Two<'a> as Outlet>⟧.fresh w
+            × (⟦<Two<'a> as Outlet>⟧.names w ≡ first.now ∷ second.now ∷ [])) }
+    {
+        Ok(Two {
+            first,
+            second,
+            first_output: Output::new(alloc)?,
+            second_output: Output::new(alloc)?,
+        })
+    }
+}
+
+impl<'a> Outlet for Two<'a> {
+    ghost use Rattle.std.specs.Prelude.{◌≡◌, ◌≢◌, [], ◌∷◌};
+    ghost use Rattle.dtx_engine.specs.Outlet.{AreBothGathered};
+    ghost use Rattle.dtx_engine.specs.OutletLaws.{part_of_two};
+
+    ghost names = { λ w. w.first.now ∷ w.second.now ∷ [] };
+
+    ghost gathered = { λ w start given now. (w.first.now ≢ w.second.now)
+        × AreBothGathered w.first.now w.second.now start given w.first_output w.second_output now };
+
+    ghost fresh = { λ w. (w.first.now ≢ w.second.now) × (w.first_output ≡ []) × (w.second_output ≡ []) };
+
+    fn begin<S: Shelf>(&mut self, shelf: &mut S) -> Result<(), Status> {
+        shelf.begin(self.first)?;
+        shelf.begin(self.second)?;
+        Ok(())
+    }
+
+    fn write<S: Shelf>(
+        &mut self,
+        shelf: &mut S,
+        first: &[u8],
+        second: &[u8],
+    ) -> Result<(), Status> {
+        self.first_output.write(shelf, self.first, first)?;
+        self.second_output.write(shelf, self.second, second)?;
+        Ok(())
+    }
+
+    fn flush<S: Shelf>(&mut self, shelf: &mut S) -> Result<(), Status> {
+        self.first_output.flush(shelf, self.first)?;
+        self.second_output.flush(shelf, self.second)?;
+        Ok(())
+    }
+
+    ghost part = { λ w start made now is. part_of_two w.first.now w.second.now start made w.first_output w.second_output now is.1 };
 }

@@ -51,7 +51,7 @@ IsNoOutput name (o ∷ rest) = (name ≢ o.0) × IsNoOutput name rest
 
 -- the meaning's answer, and each output whole
 pub record IsWhole (meaning : Meaning) (start : Option Files) (outcome : Outcome) (now : Option Files) : Type 0 where
-  pub outcome : outcome ≡ meaning.outcome
+  pub answer : outcome ≡ meaning.outcome
   pub files : now ≡ with_outputs meaning.outputs start
 
 -- a fault or want of memory, and a front part of the outputs
@@ -67,7 +67,7 @@ IsCarriedOut meaning start outcome now = IsWhole meaning start outcome now ⊎ I
 
 -- the meaning's answer, and each output whole
 pub record IsAnswered (meaning : Meaning) (start : Option Files) (status : Status) (now : Option Files) : Type 0 where
-  pub status : status ≡ meaning.outcome.status
+  pub answer : status ≡ meaning.outcome.status
   pub files : now ≡ with_outputs meaning.outputs start
 
 -- a fault or want of memory, and a front part of the outputs
@@ -77,7 +77,7 @@ pub record IsFaulted (meaning : Meaning) (start : Option Files) (status : Status
 
 -- all was done, each output is whole, and the line alone could not be printed
 pub record IsUnprinted (meaning : Meaning) (start : Option Files) (status : Status) (unprinted : Type 0) (now : Option Files) : Type 0 where
-  pub status : status ≡ WriteFault
+  pub answer : status ≡ WriteFault
   pub cause : unprinted
   pub done : meaning.outcome.status ≡ Done
   pub files : now ≡ with_outputs meaning.outputs start

@@ -1,0 +1,32 @@
+// The input of a command.
+ghost use Rattle.std.specs.Prelude.{◌≡◌, IfSome};
+ghost use Rattle.std.specs.FinMap as files;
+ghost use Rattle.dtx_outside.specs.Counts.{HasGone};
+ghost use Rattle.dtx_meaning.specs.Status.{blame_of_answer};
+ghost use Rattle.dtx_engine.specs.Course.{IsAsked};
+
+use dtx_meaning::{Status, of_read};
+use dtx_outside::Shelf;
+
+/// An input of a command: its name, and its number among the inputs, in the order of the words that name them.
+#[derive(Clone, Copy)]
+pub struct Input<'a> {
+    /// Its name.
+    pub name: &'a str,
+    /// Its number, which `Absent` tells.
+    pub number: u8,
+}
+
+/// Asks for one byte of the input of that number, so that one that isn't there or can't be read is met before any
+/// output is begun.
+pub fn ask_for<S: Shelf>(shelf: &mut S, which: u8, input: &str) -> Result<(), Status>
+    ensures told { IfSome (S.files shelf.old) (λ held. IsAsked (files.get held input.now) which result) }
+    ensures kept { S.files shelf.new ≡ S.files shelf.old }
+    ensures gone { HasGone (S.counts shelf.old) (S.counts shelf.new) (blame_of_answer result) }
+{
+    let mut first = [0u8; 1];
+    match shelf.read(input, 0, &mut first) {
+        Ok(_) => Ok(()),
+        Err(cause) => Err(of_read(which, cause)),
+    }
+}
