@@ -1,12 +1,12 @@
 -- The files of the transmitters while they are begun.
-use Rattle.std.proofs.Common.{◌≡◌, ◌⊎◌, ℕ, suc, ◌+◌, ◌<◌, ◌≤◌, List, [], ◌∷◌, ◌++◌, length, take, drop, refl, sym, ap, subst, ◌∙◌, inl, inr, arith}
-use Rattle.std.specs.Prelude.{Option, Some, Result, Ok, Err, slice_get}
+use Rattle.std.proofs.Common.{◌≡◌, ◌⊎◌, ℕ, ◌+◌, List, [], ◌∷◌, ◌++◌, length, take, drop, refl, sym, ap, subst, ◌∙◌, inl, inr}
+use Rattle.std.specs.Prelude.{Option, Some, Result, slice_get}
 use Rattle.std.specs.Option.{option_map}
 use Rattle.std.proofs.Math.Seq.{take-length}
 use Rattle.std.proofs.lemmas.List.{take_more, take-append-drop}
 use Rattle.std.proofs.lemmas.Option.{slice_get_within, get_or_from_slice_get}
 use Rattle.dtx_meaning.specs.Meaning.{Outputs, ArePartWritten, with_outputs}
-use Rattle.dtx_meaning.proofs.Sequence.{part_before, part_behind, with_outputs-append}
+use Rattle.dtx_meaning.specs.Laws.{part_before, part_behind, with_outputs-append}
 use Rattle.dtx_outside.specs.Shelf.{Files, with_file, IsBegun}
 use Rattle.dtx_outside.specs.Written.{IsWritten}
 use Rattle.dtx_outside.specs.WrittenLaws.{begun_written}
@@ -34,6 +34,10 @@ next_empty ts i t at_t =
     ap (files_of nothing) (take_more ts i t (slice_get_within ts i t at_t)
     ∙ ap (λ (x : Transmitter). take i ts ++ x ∷ []) (get_or_from_slice_get ts i t t at_t))
     ∙ empty-append (take i ts) (t ∷ [])
+
+pub none_begun : (ts : List Transmitter) (start : Option Files) → start ≡ with_outputs (first_empty ts 0) start
+none_begun [] start = refl
+none_begun (t ∷ ts) start = refl
 
 -- both files of one more were begun
 pub next_begun : (ts : List Transmitter) (i : ℕ) (t : Transmitter) (start before mid now : Option Files) → slice_get ts i ≡ Some t

@@ -2,7 +2,7 @@
 use Rattle.std.proofs.Common.{◌≡◌, ℕ, suc, List, [], ◌∷◌, ◌++◌, get_or, refl, sym, ap, subst, ◌∙◌, arith}
 use Rattle.std.specs.Prelude.{Option, Some, IfSome}
 use Rattle.std.specs.FinMap.{get}
-use Rattle.dtx_meaning.specs.Meaning.{IsNoOutput, with_outputs}
+use Rattle.dtx_meaning.specs.Meaning.{IsNoOutput}
 use Rattle.dtx_meaning.specs.Status.{IsFault}
 use Rattle.dtx_meaning.specs.declared.status.Status.{Status}
 use Rattle.dtx_net.specs.Steps.{Step}
@@ -12,7 +12,7 @@ use Rattle.dtx_words.specs.NetworkNames.{feed_name, symbol_name, log_name}
 use Rattle.dtx_schedule.specs.declared.stage.Stage.{Stage}
 use Rattle.dtx_schedule.specs.PlayedSoFar.{IsPlayedSoFar, IsUnderWay}
 use Rattle.dtx_schedule.specs.TransmitterFiles.{Contents, files_of, played, played_outputs}
-use Rattle.dtx_schedule.proofs.FilesOf.{files_with, get_past, with_outputs-told}
+use Rattle.dtx_schedule.proofs.FilesOf.{get_past, with_outputs-told}
 use Rattle.dtx_schedule.proofs.Fronts.{at_rest}
 
 -- the feed is no file of a transmitter: its name begins with another letter

@@ -63,8 +63,10 @@ no_symbols : (ts : List Transmitter) (contents : Contents) (address : ℕ) → a
 no_symbols [] contents address small other = tt
 no_symbols (u ∷ ts) contents address small other = (
   λ same. (other 0 u refl).1 (symbols_differ address u.address small (other 0 u refl).0 same),
-  (symbols_no_logs address u.address,
-  no_symbols ts (λ who. contents (suc who)) address small (λ who v at_v. other (suc who) v at_v)),
+  (
+    symbols_no_logs address u.address,
+    no_symbols ts (λ who. contents (suc who)) address small (λ who v at_v. other (suc who) v at_v),
+  ),
 )
 
 no_logs : (ts : List Transmitter) (contents : Contents) (address : ℕ) → address < 2 ^ 16 → IsOther address ts
@@ -72,8 +74,10 @@ no_logs : (ts : List Transmitter) (contents : Contents) (address : ℕ) → addr
 no_logs [] contents address small other = tt
 no_logs (u ∷ ts) contents address small other = (
   λ same. symbols_no_logs u.address address (sym same),
-  (λ same. (other 0 u refl).1 (logs_differ address u.address small (other 0 u refl).0 same),
-  no_logs ts (λ who. contents (suc who)) address small (λ who v at_v. other (suc who) v at_v)),
+  (
+    λ same. (other 0 u refl).1 (logs_differ address u.address small (other 0 u refl).0 same),
+    no_logs ts (λ who. contents (suc who)) address small (λ who v at_v. other (suc who) v at_v),
+  ),
 )
 
 others_behind : (t : Transmitter) (ts : List Transmitter) → AreApart (t ∷ ts) → IsOther t.address ts

@@ -1,6 +1,6 @@
 -- Front parts of what the transmitters send and of their logs.
-use Rattle.std.proofs.Common.{◌≡◌, ◌≢◌, ◌⊎◌, ℕ, suc, ◌≤◌, List, [], ◌∷◌, ◌++◌, length, refl, sym, ap, subst, ◌∙◌, inl, inr, arith, append_assoc}
-use Rattle.std.specs.Prelude.{Option, Some, None, slice_get}
+use Rattle.std.proofs.Common.{◌≡◌, ◌⊎◌, ℕ, suc, List, [], ◌∷◌, ◌++◌, length, refl, sym, ap, subst, ◌∙◌, inl, inr, arith, append_assoc}
+use Rattle.std.specs.Prelude.{Option, Some, None}
 use Rattle.std.specs.Option.{option_map}
 use Rattle.std.proofs.lemmas.Bool.{cases_eq}
 use Rattle.std.proofs.lemmas.List.{append-nil}
@@ -54,23 +54,37 @@ part_of_fronts : (ts : List Transmitter) (fewer more : Contents) (start now : Op
     → now ≡ with_outputs (files_of fewer ts) start → ArePartWritten (files_of more ts) start now
 part_of_fronts [] fewer more start now fronts is = is
 part_of_fronts (t ∷ ts) fewer more start now fronts is =
-    inr ((fewer 0 t).0, (fronts 0 t refl).0, inr ((fewer 0 t).1, (fronts 0 t refl).1,
-    part_of_fronts ts (λ who. fewer (suc who)) (λ who. more (suc who))
-    (option_map (with_file (log_name t.address) (fewer 0 t).1) (option_map (with_file (symbol_name t.address) (fewer 0 t).0) start)) now
-    (λ who u at_u. fronts (suc who) u at_u) is))
+    inr (
+      (fewer 0 t).0,
+      (fronts 0 t refl).0,
+      inr (
+        (fewer 0 t).1,
+        (fronts 0 t refl).1,
+        part_of_fronts ts (λ who. fewer (suc who)) (λ who. more (suc who))
+            (option_map (with_file (log_name t.address) (fewer 0 t).1) (option_map (with_file (symbol_name t.address) (fewer 0 t).0) start)) now
+            (λ who u at_u. fronts (suc who) u at_u) is,
+      ),
+    )
 
 pub parts_grow : (ts : List Transmitter) (fewer more : Contents) (start now : Option Files) → AreFronts ts fewer more
     → ArePartWritten (files_of fewer ts) start now → ArePartWritten (files_of more ts) start now
 parts_grow [] fewer more start now fronts part = part
 parts_grow (t ∷ ts) fewer more start now fronts part = elim part [
   | inl same ↦ inl same
-  | inr one ↦ inr (one.0, front_then one.0 (fewer 0 t).0 (more 0 t).0 one.1 (fronts 0 t refl).0, elim one.2 [
-    | inl same ↦ inl same
-    | inr two ↦ inr (two.0, front_then two.0 (fewer 0 t).1 (more 0 t).1 two.1 (fronts 0 t refl).1,
-      parts_grow ts (λ who. fewer (suc who)) (λ who. more (suc who))
-      (option_map (with_file (log_name t.address) two.0) (option_map (with_file (symbol_name t.address) one.0) start)) now
-      (λ who u at_u. fronts (suc who) u at_u) two.2)
-  ])
+  | inr one ↦ inr (
+    one.0,
+    front_then one.0 (fewer 0 t).0 (more 0 t).0 one.1 (fronts 0 t refl).0,
+    elim one.2 [
+      | inl same ↦ inl same
+      | inr two ↦ inr (
+        two.0,
+        front_then two.0 (fewer 0 t).1 (more 0 t).1 two.1 (fronts 0 t refl).1,
+        parts_grow ts (λ who. fewer (suc who)) (λ who. more (suc who))
+            (option_map (with_file (log_name t.address) two.0) (option_map (with_file (symbol_name t.address) one.0) start)) now
+            (λ who u at_u. fronts (suc who) u at_u) two.2,
+      )
+    ],
+  )
 ]
 
 -- ---- more steps
@@ -85,14 +99,18 @@ unfolding symbol_file log_file
 own_more t who steps (Some p) =
     let life : List (List ℕ) = last_life who steps ++ p ∷ [] in
     let lines = line_of (length (segments_of t who steps)) (length (given t.address t.delay life)) (told t.address t.delay life) in (
-      (segment_bytes (given t.address t.delay life),
-      sym (ap segment_bytes (segments_given t who steps p) ∙ segment_bytes-append (segments_of t who steps) (given t.address t.delay life))),
+      (
+        segment_bytes (given t.address t.delay life),
+        sym (ap segment_bytes (segments_given t who steps p) ∙ segment_bytes-append (segments_of t who steps) (given t.address t.delay life)),
+      ),
       (log_text lines, sym (ap log_text (lines_given t who steps p) ∙ log_text-append (lines_of t who steps) lines)),
     )
 own_more t who steps None = (
   front_of_same (segment_bytes (segments_of t who steps)) _ (sym (ap segment_bytes (segments_restarted t who steps))),
-  (log_text (restart (length (segments_of t who steps)) ∷ []),
-  sym (ap log_text (lines_restarted t who steps) ∙ log_text-append (lines_of t who steps) (restart (length (segments_of t who steps)) ∷ []))),
+  (
+    log_text (restart (length (segments_of t who steps)) ∷ []),
+    sym (ap log_text (lines_restarted t who steps) ∙ log_text-append (lines_of t who steps) (restart (length (segments_of t who steps)) ∷ [])),
+  ),
 )
 
 one_more : (t : Transmitter) (who : ℕ) (steps : List Step) (step : Step)

@@ -2,6 +2,7 @@ pub mod FilesOf
 pub mod Fronts
 pub mod FirstOf
 pub mod Elsewhere
+pub mod Named
 pub mod PairLeft
 pub mod Written
 pub mod Begun

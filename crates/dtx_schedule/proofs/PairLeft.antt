@@ -4,7 +4,7 @@ use Rattle.std.specs.Prelude.{Option, Some, Result, Ok, Err, unwrap_or}
 use Rattle.std.specs.FinMap.{get}
 use Rattle.std.proofs.lemmas.Bool.{eqb-true}
 use Rattle.std.proofs.lemmas.List.{append-nil, take-append-drop}
-use Rattle.dtx_outside.specs.Laws.{get-insert_same, get-insert_other, insert_same}
+use Rattle.dtx_outside.specs.Laws.{get-insert_other, insert_same}
 use Rattle.dtx_outside.specs.Shelf.{Files, with_file, IsAppended}
 use Rattle.dtx_outside.specs.declared.shelf.WriteNo.{WriteNo}
 use Rattle.dtx_outside.specs.declared.shelf.WriteNo.TheVariants.{Failed, Memory}
@@ -58,9 +58,14 @@ log_stands address sent logged symbols held has =
 pub symbols_not_appended : (address : ℕ) (sent logged symbols line : List ℕ) (held : Files) (now : Option Files) (why cause : WriteNo)
     → HasPair address sent logged held → IsAddedTo (symbol_name address) sent symbols held (Err why) now
     → IsPairOf address sent logged symbols line held (Err cause) now
-symbols_not_appended address sent logged symbols line held now why cause has (part, front, is) = (part, [], front, (line, refl),
-    is ∙ ap Some (nothing_more (with_file (symbol_name address) (sent ++ part) held) (log_name address) logged
-    (log_stands address sent logged (sent ++ part) held has)))
+symbols_not_appended address sent logged symbols line held now why cause has (part, front, is) = (
+  part,
+  [],
+  front,
+  (line, refl),
+  is ∙ ap Some (nothing_more (with_file (symbol_name address) (sent ++ part) held) (log_name address) logged
+      (log_stands address sent logged (sent ++ part) held has)),
+)
 
 pub both_appended : (address : ℕ) (sent logged symbols line : List ℕ) (held : Files) (mid now : Option Files) (result : Result (Unit {0}) WriteNo)
     → HasPair address sent logged held → mid ≡ Some (with_file (symbol_name address) (sent ++ symbols) held)

@@ -3,7 +3,7 @@ use Rattle.std.proofs.Common.{◌≡◌, ℕ, ◌+◌, false, List, [], ◌∷�
 use Rattle.std.specs.Prelude.{All, Some, None, slice_get}
 use Rattle.std.specs.List.{flat_map}
 use Rattle.std.proofs.lemmas.List.{append-nil, take_more, take-append-drop}
-use Rattle.std.proofs.lemmas.List.Elements.{All-get_or}
+use Rattle.std.proofs.lemmas.List.Elements.{All-cons, All-get_or, All-head, All-nil, All-tail}
 use Rattle.std.proofs.lemmas.Grind.{flat_map-append}
 use Rattle.std.proofs.lemmas.Option.{slice_get_within, get_or_from_slice_get}
 use Rattle.dtx_plan.specs.declared.event.Event.{Event}
@@ -38,8 +38,8 @@ event_at events i e each here =
 
 -- events of transmitters of the plan
 pub all_in_range : (ts : List Transmitter) (events : List Event) → All (IsEvent ts) events → All IsInRange events
-all_in_range ts [] each = ?
-all_in_range ts (e ∷ events) each = ?
+all_in_range ts [] each = All-nil IsInRange
+all_in_range ts (e ∷ events) each = All-cons IsInRange e events (All-head (IsEvent ts) e events each).in_range (all_in_range ts events (All-tail (IsEvent ts) e events each))
 
 -- where no event reads past the feed, this one doesn't
 pub stays_within : (events : List Event) (packets i : ℕ) (e : Event) → first_past_feed events packets ≡ None → slice_get events i ≡ Some e → reads_past packets e ≡ false

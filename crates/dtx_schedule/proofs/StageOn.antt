@@ -17,13 +17,13 @@ use Rattle.dtx_files.specs.Symbols.{byte_of_symbol, segment_bytes}
 use Rattle.dtx_net.specs.Lives.{last_life}
 use Rattle.dtx_net.specs.Sent.{segments_of, lines_of}
 use Rattle.dtx_net.specs.Standing.{IsGiven}
-use Rattle.dtx_net.specs.Steps.{Step, packet_step, restart_step}
+use Rattle.dtx_net.specs.Steps.{Step, packet_step, place_of, restart_step}
 use Rattle.dtx_net.specs.declared.net.Net.{Net}
 use Rattle.dtx_net.proofs.Grows.{segments_given, lines_given, segments_restarted, lines_restarted}
 use Rattle.dtx_net.proofs.Places.{set_here, set_elsewhere}
 use Rattle.dtx_plan.specs.declared.transmitter.Transmitter.{Transmitter}
 use Rattle.dtx_schedule.specs.Pair.{Brings}
-use Rattle.dtx_schedule.specs.Staged.{packets_given, AreSent, HasTransmitter, IsSomeStage}
+use Rattle.dtx_schedule.specs.Staged.{packets_given, AreSent, HasTransmitter, IsSomeStage, SentBy}
 use Rattle.dtx_schedule.specs.declared.stage.Stage.{Stage}
 use Rattle.dtx_schedule.specs.TransmitterFiles.{symbol_file, log_file}
 use Rattle.dtx_schedule.proofs.Elsewhere.{no_segments, segments_elsewhere}
@@ -40,6 +40,17 @@ found_there stage (Some who) some within = record {
   staged = some.staged;
   within = let long = some.staged.net.long in omega (arith, long, within);
 }
+
+-- what the transmitter of an address has sent, by its place
+pub sent_by : (address who : ℕ) (ts : List Transmitter) (steps : List Step) (sent : List ℕ) → AreSent ts steps sent → place_of address ts ≡ Some who
+    → SentBy address ts steps (get_or sent who 0)
+sent_by address who ts steps sent is place =
+    subst (λ (found : Option ℕ). IfSome found (λ who'. (t : Transmitter) → slice_get ts who' ≡ Some t → get_or sent who 0 ≡ length (segments_of t who' steps)))
+    (sym place) (λ t at_t. get_or_from_slice_get sent who _ 0 (is.each who t at_t))
+
+pub sent_by_none : (address n : ℕ) (ts : List Transmitter) (steps : List Step) → place_of address ts ≡ None → SentBy address ts steps n
+sent_by_none address n ts steps place =
+    subst (λ (found : Option ℕ). IfSome found (λ who. (t : Transmitter) → slice_get ts who ≡ Some t → n ≡ length (segments_of t who steps))) (sym place) tt
 
 -- ---- what was sent is counted
 

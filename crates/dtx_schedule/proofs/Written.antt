@@ -1,5 +1,5 @@
 -- What one step brings, written to the files of its transmitter.
-use Rattle.std.proofs.Common.{◌≡◌, ◌≢◌, ℕ, ◌≤◌, List, [], ◌∷◌, ◌++◌, refl, sym, ap, subst, ◌∙◌, arith}
+use Rattle.std.proofs.Common.{◌≡◌, ◌≢◌, ℕ, List, [], ◌∷◌, ◌++◌, refl, sym, ap, ◌∙◌, arith}
 use Rattle.std.specs.Prelude.{Option, Some, Result, Ok, Err, slice_get}
 use Rattle.std.proofs.lemmas.Option.{same_Some}
 use Rattle.dtx_meaning.specs.Meaning.{IsFrontOf, with_outputs}
@@ -12,7 +12,7 @@ use Rattle.dtx_plan.specs.declared.transmitter.Transmitter.{Transmitter}
 use Rattle.dtx_schedule.specs.Pair.{Brings, HasPair, IsPairOf, with_pair}
 use Rattle.dtx_schedule.specs.PlayedSoFar.{IsUnderWay, IsWrittenOf}
 use Rattle.dtx_schedule.specs.Staged.{AreNames}
-use Rattle.dtx_schedule.specs.TransmitterFiles.{AreFronts, Contents, files_of, log_file, played, played_outputs, symbol_file}
+use Rattle.dtx_schedule.specs.TransmitterFiles.{files_of, log_file, played, played_outputs, symbol_file}
 use Rattle.dtx_schedule.specs.declared.pair.FileNames.{FileNames}
 use Rattle.dtx_schedule.proofs.Elsewhere.{log_elsewhere, symbols_elsewhere}
 use Rattle.dtx_schedule.proofs.FilesOf.{AreApart, at_places, contents_same, files_with, has_pair, put, set_pair, with_outputs-told}
@@ -58,12 +58,13 @@ broken ts steps step t symbols line part text held now at_t brings front front_t
   least = at_places (λ who u p. IsFrontOf (symbol_file u who steps) p.0 × IsFrontOf (log_file u who steps) p.1) ts (played steps) step.who t pair at_t
       (front_added (symbol_file t step.who steps) part, front_added (log_file t step.who steps) text)
       (λ other u at_u n. (front_same (symbol_file u other steps), front_same (log_file u other steps)));
-  most = at_places (λ who u p. IsFrontOf p.0 (symbol_file u who more) × IsFrontOf p.1 (log_file u who more)) ts (played steps) step.who t pair at_t
-      (front_behind (symbol_file t step.who steps) part symbols (symbol_file t step.who more) (brings.sent t at_t) front,
-      front_behind (log_file t step.who steps) text line (log_file t step.who more) (brings.logged t at_t) front_too)
+  most = at_places (λ who u p. IsFrontOf p.0 (symbol_file u who more) × IsFrontOf p.1 (log_file u who more)) ts (played steps) step.who t pair at_t (
+    front_behind (symbol_file t step.who steps) part symbols (symbol_file t step.who more) (brings.sent t at_t) front,
+    front_behind (log_file t step.who steps) text line (log_file t step.who more) (brings.logged t at_t) front_too,
+  )
       (λ other u at_u n. (
-      front_of_same (symbol_file u other steps) (symbol_file u other more) (sym (symbols_elsewhere u other steps step (λ same. n (sym same)))),
-      front_of_same (log_file u other steps) (log_file u other more) (sym (log_elsewhere u other steps step (λ same. n (sym same))))
+        front_of_same (symbol_file u other steps) (symbol_file u other more) (sym (symbols_elsewhere u other steps step (λ same. n (sym same)))),
+        front_of_same (log_file u other steps) (log_file u other more) (sym (log_elsewhere u other steps step (λ same. n (sym same)))),
       ));
   files = is;
 }

@@ -14,7 +14,7 @@ use Rattle.dtx_schedule.specs.declared.pair.FileNames.{FileNames}
 pub record AreNamesOf (address : ℕ) (names : FileNames) : Type 0 where
   pub symbols : names.symbols.bytes ≡ symbol_name address
   pub log : names.log.bytes ≡ log_name address
-  pub address : address < 2 ^ 16
+  pub small : address < 2 ^ 16
 
 -- the two hold these symbols and this log
 pub record HasPair (address : ℕ) (symbols log : List ℕ) (held : Files) : Type 0 where

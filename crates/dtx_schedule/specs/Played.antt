@@ -1,5 +1,5 @@
 -- What playing a schedule answers, and what it leaves of the files.
-use Rattle.std.specs.Prelude.{◌≡◌, ◌⊎◌, ◌≤◌, All, Option, Some, Result, Ok, Err, List, [], length}
+use Rattle.std.specs.Prelude.{◌≡◌, ◌⊎◌, ◌≤◌, All, Option, Some, Result, Ok, Err, List, length}
 use Rattle.dtx_outside.specs.Shelf.{Files}
 use Rattle.dtx_outside.specs.declared.shelf.WriteNo.{WriteNo}
 use Rattle.dtx_meaning.specs.Meaning.{ArePartWritten, with_outputs}

@@ -125,7 +125,7 @@ fn send<S: Shelf>(
     ensures done { (ts : List Transmitter) (held : Files) (before : List Step) (feed : List ℕ) → files.get held feed_name ≡ Some feed
         → part.now.from + part.now.count ≤ whole_packets feed → IsPlayedSoFar ts before held stage.old (S.files shelf.old)
         → IsDoneOf ts (before ++ packet_steps who (packets_from feed part.now.from part.now.count)) held
-            result stage.new (S.files shelf.new) }
+        result stage.new (S.files shelf.new) }
     ensures there { IsOk result → HasTransmitter who stage.new }
     ensures steps { IsOk result → stage.new.steps ≡ stage.old.steps + part.now.count }
     ensures gone { HasGone (S.counts shelf.old) (S.counts shelf.new) (blame_of_answer result) }

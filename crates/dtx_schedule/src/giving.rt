@@ -58,7 +58,7 @@ pub(crate) fn give_made<S: Shelf>(
     requires part { IsPart part.now.from part.now.count }
     ensures done { (ts : List Transmitter) (held : Files) (before : List Step) → IsPlayedSoFar ts before held stage.old (S.files shelf.old)
         → IsDoneOf ts (before ++ packet_steps who (map (made_packet part.now.seed) (range_with_len part.now.from part.now.count))) held
-            result stage.new (S.files shelf.new) }
+        result stage.new (S.files shelf.new) }
     ensures there { IsOk result → HasTransmitter who stage.new }
     ensures steps { IsOk result → stage.new.steps ≡ stage.old.steps + part.now.count }
     ensures gone { HasGone (S.counts shelf.old) (S.counts shelf.new) (blame_of_answer result) }

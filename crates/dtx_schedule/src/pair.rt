@@ -10,7 +10,7 @@ use dtx_outside::{Shelf, WriteNo};
 use dtx_words::{NETWORK_NAME, log_name, symbol_name};
 
 /// The names of the files of a transmitter.
-#[derive(Drop)]
+#[derive(Default, Drop)]
 pub(crate) struct FileNames {
     pub(crate) symbols: ArrayString<NETWORK_NAME>,
     pub(crate) log: ArrayString<NETWORK_NAME>,

@@ -1,5 +1,5 @@
 // A schedule, played step by step.
-ghost use Rattle.std.specs.Prelude.{◌≡◌, ◌≤◌, ℕ, [], List, None, Some, IfSome, length};
+ghost use Rattle.std.specs.Prelude.{◌≡◌, ◌≤◌, ℕ, [], List, None, Some, length, slice_index};
 ghost use Rattle.std.specs.FinMap as files;
 ghost use Rattle.dtx_outside.specs.Counts.{HasGone};
 ghost use Rattle.dtx_outside.specs.Shelf.{Files};
@@ -44,9 +44,19 @@ impl Played {
         ensures { (ts : List Transmitter) (steps : List Step) → IsStaged ts self.now.stage steps → SentBy address ts steps result }
     {
         match self.stage.find(address) {
-            Some(who) => self.stage.sent[who],
+            Some(who) => count_at(&self.stage.sent, who),
             None => 0,
         }
+    }
+}
+
+/// The count at a place, or 0 where there is none.
+fn count_at(counts: &[u64], place: usize) -> u64
+    ensures { result ≡ slice_index counts.now place }
+{
+    match counts.get(place) {
+        Some(count) => *count,
+        None => 0,
     }
 }
 

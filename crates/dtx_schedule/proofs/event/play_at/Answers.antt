@@ -98,10 +98,10 @@ returns-in_ok-packet-in-Lie-clause-done g c = λ ts held before feed there place
     let mid = g.S.Shelf.files c.read_one-in-Lie.new.shelf in
     let read = feed_read (λ feed. from < whole_packets feed → IsPacketOf feed from (Ok c.in_ok-packet-in-Lie.packet)) ts before held
     c.args.stage.now was feed there is c.in_ok-packet-in-Lie.ensures.told within in
-    let step : List Step = packet_step who c.lied.result.0 ∷ [] in
+    let step : List Step = packet_step who c.lied-lied.result.0 ∷ [] in
     event_done ts before step held c.give-in-Lie.result c.give-in-Lie.new.self (g.S.Shelf.files c.give-in-Lie.new.shelf) who (packets_of feed)
     c.args.event.now (Lie to from c.in-Lie.states) event place
-    (λ its. ap (λ p. packet_step who p ∷ []) c.lied.ensures ∙ lied ts who to from c.in-Lie.states feed packet its within read)
+    (λ its. ap (λ p. packet_step who p ∷ []) c.lied-lied.ensures ∙ lied ts who to from c.in-Lie.states feed packet its within read)
     (c.give-in-Lie.ensures.done ts held before (kept_on ts before held c.args.stage.now was mid c.read_one-in-Lie.ensures.kept is))
 
 pub returns-in-Restart-clause-done : goal.returns-in-Restart-clause-done

@@ -1,9 +1,8 @@
-use Rattle.std.proofs.Common.{◌≡◌, ◌+◌, ◌-◌, ◌<◌, ◌≤◌, ◌++◌, List, map, sym, ap, subst, ◌∙◌, arith}
+use Rattle.std.proofs.Common.{◌≡◌, ◌+◌, ◌-◌, ◌<◌, ◌++◌, sym, ap, subst, ◌∙◌, arith}
 use Rattle.std.specs.Prelude.{Ok, Err}
 use Rattle.std.proofs.lemmas.Result.{err_from_is_err_and}
 use Rattle.dtx_meaning.specs.Status.{IsFault}
 use Rattle.dtx_packets.specs.Packets.{packets_from, whole_packets}
-use Rattle.dtx_net.specs.Steps.{Step}
 use Rattle.dtx_schedule.specs.PlayedSoFar.{IsGivenOf, IsPieceOf, IsPlayedSoFar, IsUnderWay, packet_steps}
 use Rattle.dtx_schedule.proofs.EventSteps.{piece_on}
 use Rattle.dtx_schedule.proofs.FeedKept.{feed_read, kept_on, unread}

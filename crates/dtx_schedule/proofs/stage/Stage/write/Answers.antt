@@ -1,6 +1,6 @@
-use Rattle.std.proofs.Common.{◌<◌, ◌≡◌, ℕ, List, pos, get_or, length, take, ap, subst, ◌∙◌, arith}
+use Rattle.std.proofs.Common.{◌<◌, ◌≡◌, ℕ, List, pos, get_or, length, take, refl, ap, subst, ◌∙◌, arith}
 use Rattle.std.specs.Prelude.{Option, Some, Result, slice_get}
-use Rattle.std.proofs.lemmas.Option.{slice_get-get_or}
+use Rattle.std.proofs.lemmas.Option.{slice_get-get_or, slice_get_read}
 use Rattle.dtx_outside.specs.Shelf.{Files}
 use Rattle.dtx_outside.specs.declared.shelf.WriteNo.{WriteNo}
 use Rattle.dtx_plan.specs.declared.transmitter.Transmitter.{Transmitter}
@@ -10,14 +10,16 @@ use Rattle.dtx_schedule.specs.declared.pair.FileNames.{FileNames}
 use Rattle.dtx_schedule.proofs.Written.{AddsTo, are_apart, step_written}
 use Rattle.dtx_schedule.proofs.stage.Stage.write.Goals as goal
 
--- the names at a place, of those of all
-adds_to : (ts : List Transmitter) (names : List FileNames) (who : ℕ) (t : Transmitter) (d : FileNames) (symbols line : List ℕ)
+-- with the names at a place, of those of all
+adds_to : (ts : List Transmitter) (names read : List FileNames) (who : ℕ) (t : Transmitter) (its : FileNames) (symbols line : List ℕ)
     (told : Option Files) (result : Result (Unit {0}) WriteNo) (now : Option Files) → AreNames ts names → slice_get ts who ≡ Some t → who < length names
-    → ((address : ℕ) (sent logged : List ℕ) (held : Files) → AreNamesOf address (get_or names who d) → told ≡ Some held
+    → read ≡ names → its ≡ get_or read who its
+    → ((address : ℕ) (sent logged : List ℕ) (held : Files) → AreNamesOf address its → told ≡ Some held
     → HasPair address sent logged held → IsPairOf address sent logged symbols line held result now)
     → AddsTo t.address symbols line told result now
-adds_to ts names who t d symbols line told result now named at_t within appended = λ sent logged held there has.
-    appended t.address sent logged held (named.each who t (get_or names who d) at_t (slice_get-get_or names who d within)) there has
+adds_to ts names read who t its symbols line told result now named at_t within same is appended = λ sent logged held there has.
+    let here : its ≡ get_or names who its = is ∙ ap (λ (xs : List FileNames). get_or xs who its) same in
+    appended t.address sent logged held (named.each who t its at_t (slice_get_read names (length names) who its refl within here)) there has
 
 pub returns-clause-written : goal.returns-clause-written
 returns-clause-written g c = λ ts held steps step same are named brings is.
@@ -32,4 +34,6 @@ returns-clause-written g c = λ ts held steps step same are named brings is.
     let symbols = take c.args.count c.args.self.now.bytes in
     step_written ts steps step t symbols c.args.self.now.line.bytes held told now c.append_both.result (are_apart ts names are named)
     (ap (slice_get ts) same ∙ at_t) brings is
-    (subst (λ line. AddsTo t.address symbols line told c.append_both.result now) (c.as_bytes-line.ensures.value ∙ c.as_str.ensures.value) ?)
+    (subst (λ line. AddsTo t.address symbols line told c.append_both.result now) (c.as_bytes-line.ensures.value ∙ c.as_str.ensures.value)
+    (adds_to ts names c.deref.result.now who t c.index-deref-who.result symbols c.as_bytes-line.result.now told c.append_both.result now named at_t
+    c.requires.within c.deref.ensures.0 c.index-deref-who.is c.append_both.ensures.appended))
