@@ -1,5 +1,5 @@
 -- What is made for one output, or for two.
-use Rattle.std.specs.Prelude.{◌≡◌, ◌≢◌, ℕ, List, [], ◌∷◌, ◌++◌}
+use Rattle.std.specs.Prelude.{◌≢◌, ℕ, List, [], ◌∷◌, ◌++◌}
 use Rattle.dtx_meaning.specs.Meaning.{Outputs, IsFrontOf}
 
 -- the bytes of the first output, and of the second, where there is one

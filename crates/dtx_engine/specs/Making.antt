@@ -1,6 +1,29 @@
 -- What is made of an input that is read in units, and what a command means that does so.
-use Rattle.std.specs.Prelude.{◌≡◌, ℕ, ◌*◌, ◌/◌, ◌%◌, ◌<◌, ◌≤◌, ◌^◌, Bool, not, min, nat_lt, if◌then◌else◌, List, [], ◌∷◌, ◌++◌, length, take, drop,
-    Option, Some, None}
+use Rattle.std.specs.Prelude.{
+  ◌≡◌,
+  ℕ,
+  ◌*◌,
+  ◌/◌,
+  ◌%◌,
+  ◌<◌,
+  ◌≤◌,
+  ◌^◌,
+  Bool,
+  not,
+  min,
+  nat_lt,
+  if◌then◌else◌,
+  List,
+  [],
+  ◌∷◌,
+  ◌++◌,
+  length,
+  take,
+  drop,
+  Option,
+  Some,
+  None,
+}
 use Rattle.std.specs.FinMap.{get}
 use Rattle.std.specs.List.{find, range_with_len}
 use Rattle.std.specs.Str.{bytes_eq}
@@ -9,12 +32,13 @@ use Rattle.dtx_meaning.specs.Meaning.{Meaning, refused}
 use Rattle.dtx_meaning.specs.Status.{ended}
 use Rattle.dtx_meaning.specs.declared.status.Outcome.{Outcome}
 use Rattle.dtx_meaning.specs.declared.status.Status.TheVariants.{Absent, Packet, Same, TooLong}
-use Rattle.dtx_engine.specs.Made.{Made, joined, only, outputs_of}
+use Rattle.dtx_engine.specs.Made.{Made, joined, outputs_of}
 use Rattle.dtx_engine.specs.declared.engine.Shape.{Shape}
 use Rattle.dtx_engine.specs.declared.piece.Ending.{Ending}
 use Rattle.dtx_engine.specs.declared.piece.Ending.TheVariants.{Whole, Refused}
 
--- which units are allowed, what is made of the bytes of whole units and what the end adds to it, and how the command ends where all
+-- which units are allowed, what is made of the bytes of whole units and what the end adds to it, and how the command
+-- ends where all
 -- units were read and so many bytes are loose behind them
 pub record Making : Type 0 where
   pub allows : ℕ → List ℕ → Bool
@@ -60,7 +84,8 @@ first_units shape file count = take (shape.unit * count) file
 
 -- the first unit that isn't allowed, among as many as an input has at most
 unfoldable pub first_refused : Shape → Making → List ℕ → Option ℕ
-first_refused shape making file = find (λ k. not (making.allows k (unit_at shape file k))) (range_with_len 0 (min (whole_units shape file) shape.limit))
+first_refused shape making file = find (λ k. not (making.allows k (unit_at shape file k)))
+    (range_with_len 0 (min (whole_units shape file) shape.limit))
 
 -- ---- the meaning
 

@@ -1,5 +1,5 @@
 -- Laws of outputs: what is gathered is written in part, and a part of less is a part of more.
-use Rattle.std.specs.Prelude.{◌≡◌, ◌≢◌, ◌⊎◌, ℕ, List, [], ◌∷◌, ◌++◌, Option}
+use Rattle.std.specs.Prelude.{ℕ, List, [], ◌∷◌, ◌++◌, Option}
 use Rattle.std.specs.Option.{option_map}
 use Rattle.std.proofs.Common.{sym, ap, ◌∙◌, inl, inr}
 use Rattle.std.proofs.lemmas.List.{append_assoc}
@@ -42,10 +42,10 @@ part_of_more (first ∷ []) a b start now more part =
 part_of_more (first ∷ (second ∷ rest)) a b start now more part = elim part [
   | inl same ↦ inl same
   | inr begun ↦ inr (
-      begun.0,
-      front_of_front begun.0 a.first b.first begun.1 more.0,
-      part_of_one_more second a.second b.second (option_map (with_file first begun.0) start) now more.1 begun.2,
-    )
+    begun.0,
+    front_of_front begun.0 a.first b.first begun.1 more.0,
+    part_of_one_more second a.second b.second (option_map (with_file first begun.0) start) now more.1 begun.2,
+  )
 ]
 
 -- a name that is none of the names is that of no output

@@ -77,5 +77,6 @@ pub trait Engine {
     ghost starts: { (s : Self) → (making s).made [] ≡ only [] };
 
     /// What is made of first units is a front part of what is made of more.
-    ghost grows: { (s : Self) (a b : List ℕ) → length a % shape.unit ≡ 0 → AreFrontsOf ((making s).made a) ((making s).made (a ++ b)) };
+    ghost grows: { (s : Self) (a b : List ℕ) → length a % shape.unit ≡ 0
+        → AreFrontsOf ((making s).made a) ((making s).made (a ++ b)) };
 }

@@ -5,7 +5,7 @@ ghost use Rattle.dtx_outside.specs.Shelf.{Files};
 ghost use Rattle.dtx_meaning.specs.Meaning.{ArePartWritten};
 ghost use Rattle.dtx_meaning.specs.Status.{blame_of_answer};
 ghost use Rattle.dtx_engine.specs.Made.{Made, both, joined, only, outputs_of};
-ghost use Rattle.dtx_engine.specs.Outlet.{IsPut, IsAllPut};
+ghost use Rattle.dtx_engine.specs.Outlet.{IsAllPut, IsFaultAlone, IsPut};
 
 use dtx_meaning::Status;
 use dtx_outside::{Output, Shelf};
@@ -28,13 +28,16 @@ pub trait Outlet {
         ensures begun { (start : Option Files) → S.files shelf.old ≡ start
             → IsPut (names self.old) start (only []) result (gathered self.new) (S.files shelf.new) }
         ensures kept { names self.new ≡ names self.old }
+        ensures fault { IsFaultAlone result }
         ensures gone { HasGone (S.counts shelf.old) (S.counts shelf.new) (blame_of_answer result) };
 
     /// Takes bytes for the first, and for the second where there is one.
     fn write<S: Shelf>(&mut self, shelf: &mut S, first: &[u8], second: &[u8]) -> Result<(), Status>
         ensures written { (start : Option Files) (given : Made) → gathered self.old start given (S.files shelf.old)
-            → IsPut (names self.old) start (joined given (both first.now second.now)) result (gathered self.new) (S.files shelf.new) }
+            → IsPut (names self.old) start (joined given (both first.now second.now)) result (gathered self.new)
+            (S.files shelf.new) }
         ensures kept { names self.new ≡ names self.old }
+        ensures fault { IsFaultAlone result }
         ensures gone { HasGone (S.counts shelf.old) (S.counts shelf.new) (blame_of_answer result) };
 
     /// Writes what is gathered.
@@ -42,6 +45,7 @@ pub trait Outlet {
         ensures flushed { (start : Option Files) (given : Made) → gathered self.old start given (S.files shelf.old)
             → IsAllPut (names self.old) start given result (S.files shelf.new) }
         ensures kept { names self.new ≡ names self.old }
+        ensures fault { IsFaultAlone result }
         ensures gone { HasGone (S.counts shelf.old) (S.counts shelf.new) (blame_of_answer result) };
 
     /// What was given is written in part.
@@ -69,6 +73,7 @@ impl<'a> One<'a> {
     }
 }
 
+#[tactic(auto, using(dtx_meaning::specs::Laws::write_is_fault))]
 impl<'a> Outlet for One<'a> {
     ghost use Rattle.std.specs.Prelude.{◌≡◌, [], ◌∷◌};
     ghost use Rattle.dtx_outside.specs.Written.{IsGathered};
@@ -129,6 +134,7 @@ impl<'a> Two<'a> {
     }
 }
 
+#[tactic(auto, using(dtx_meaning::specs::Laws::write_is_fault))]
 impl<'a> Outlet for Two<'a> {
     ghost use Rattle.std.specs.Prelude.{◌≡◌, ◌≢◌, [], ◌∷◌};
     ghost use Rattle.dtx_engine.specs.Outlet.{AreBothGathered};
@@ -164,5 +170,6 @@ impl<'a> Outlet for Two<'a> {
         Ok(())
     }
 
-    ghost part = { λ w start made now is. part_of_two w.first.now w.second.now start made w.first_output w.second_output now is.1 };
+    ghost part = { λ w start made now is. part_of_two w.first.now w.second.now start made w.first_output
+        w.second_output now is.1 };
 }

@@ -3,18 +3,19 @@
 use Rattle.std.specs.Prelude.{◌≡◌, ◌≢◌, ◌⊎◌, ℕ, List, [], ◌∷◌, ◌++◌, Option, Some, None, IfSome, refl}
 use Rattle.std.specs.Option.{option_map}
 use Rattle.std.specs.FinMap.{get}
-use Rattle.std.proofs.Common.{sym, ap, ◌∙◌, subst, inl, inr}
+use Rattle.std.proofs.Common.{arith, sym, ap, ◌∙◌, subst, inl, inr}
 use Rattle.std.proofs.lemmas.List.{append-nil}
+use Rattle.dtx_outside.specs.Counts.{Blame, Counts, HasGone}
 use Rattle.dtx_outside.specs.Shelf.{Files, with_file, IsSameAt}
 use Rattle.dtx_outside.specs.WrittenLaws.{IsSameAt-written}
 use Rattle.dtx_outside.specs.declared.shelf.WriteNo.{WriteNo}
 use Rattle.dtx_outside.specs.declared.shelf.WriteNo.TheVariants as write
 use Rattle.dtx_meaning.specs.Meaning.{Outputs, Meaning, refused, and_then, with_outputs, ArePartWritten, IsNoOutput}
 use Rattle.dtx_meaning.specs.Meaning.{IsWhole, IsCarriedOut, IsAnswered, IsDone}
-use Rattle.dtx_meaning.specs.Status.{IsFault, ended, of_write}
+use Rattle.dtx_meaning.specs.Status.{IsFault, blame_of, ended, of_write}
 use Rattle.dtx_meaning.specs.declared.status.Outcome.{Outcome}
 use Rattle.dtx_meaning.specs.declared.status.Status.{Status}
-use Rattle.dtx_meaning.specs.declared.status.Status.TheVariants.{Done, WriteFault}
+use Rattle.dtx_meaning.specs.declared.status.Status.TheVariants.{Done, ReadFault, WriteFault, Memory}
 
 -- ---- outputs
 
@@ -24,7 +25,8 @@ part_of_none [] start now same = same
 part_of_none (o ∷ rest) start now same = inl same
 
 -- whole outputs are front parts of themselves
-pub part_of_whole : (outputs : Outputs) (start : Option Files) → ArePartWritten outputs start (with_outputs outputs start)
+pub part_of_whole : (outputs : Outputs) (start : Option Files)
+    → ArePartWritten outputs start (with_outputs outputs start)
 part_of_whole [] start = refl
 part_of_whole (o ∷ rest) start =
     inr (o.1, ([], append-nil o.1), part_of_whole rest (option_map (with_file o.0 o.1) start))
@@ -258,3 +260,28 @@ same_at_done m name start now status unprinted apart is =
 pub write_is_fault : (cause : WriteNo) → IsFault (of_write cause)
 write_is_fault write.Failed = tt
 write_is_fault write.Memory = tt
+
+-- ---- counts
+
+-- a fault that is met behind another answer is blamed as if it were met first
+pub gone_over : (status : Status) (before between now : Counts) (blame : Blame) → IsFault status
+    → HasGone before between blame → HasGone between now (blame_of status) → HasGone before now (blame_of status)
+gone_over ReadFault before between now blame fault first last = record {
+  read_faults = omega (arith, first.read_faults, last.read_faults);
+  write_faults = omega (arith, first.write_faults, last.write_faults);
+  misses = omega (arith, first.misses, last.misses);
+  risen = λ below. omega (arith, first.read_faults, last.risen below);
+}
+gone_over WriteFault before between now blame fault first last = record {
+  read_faults = omega (arith, first.read_faults, last.read_faults);
+  write_faults = omega (arith, first.write_faults, last.write_faults);
+  misses = omega (arith, first.misses, last.misses);
+  risen = λ below. omega (arith, first.write_faults, last.risen below);
+}
+gone_over Memory before between now blame fault first last = record {
+  read_faults = omega (arith, first.read_faults, last.read_faults);
+  write_faults = omega (arith, first.write_faults, last.write_faults);
+  misses = omega (arith, first.misses, last.misses);
+  risen = tt;
+}
+gone_over _ before between now blame fault first last = absurd fault

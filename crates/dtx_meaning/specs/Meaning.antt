@@ -40,7 +40,8 @@ IsFrontOf front whole = (rest : List ℕ) × (front ++ rest ≡ whole)
 abbrev pub ArePartWritten : Outputs → Option Files → Option Files → Type 0
 ArePartWritten [] start now = now ≡ start
 ArePartWritten (o ∷ rest) start now =
-    (now ≡ start) ⊎ ((front : List ℕ) × IsFrontOf front o.1 × ArePartWritten rest (option_map (with_file o.0 front) start) now)
+    (now ≡ start) ⊎ ((front : List ℕ) × IsFrontOf front o.1
+    × ArePartWritten rest (option_map (with_file o.0 front) start) now)
 
 -- the name is none of those of the outputs
 abbrev pub IsNoOutput : List ℕ → Outputs → Type 0
@@ -76,15 +77,19 @@ pub record IsFaulted (meaning : Meaning) (start : Option Files) (status : Status
   pub files : ArePartWritten meaning.outputs start now
 
 -- all was done, each output is whole, and the line alone could not be printed
-pub record IsUnprinted (meaning : Meaning) (start : Option Files) (status : Status) (unprinted : Type 0) (now : Option Files) : Type 0 where
+pub record IsUnprinted (meaning : Meaning) (start : Option Files) (status : Status) (unprinted : Type 0)
+    (now : Option Files) : Type 0 where
   pub answer : status ≡ WriteFault
   pub cause : unprinted
   pub done : meaning.outcome.status ≡ Done
   pub files : now ≡ with_outputs meaning.outputs start
 
--- What came of a meaning: its answer with its outputs whole, or a fault with front parts of them, or all was done and the line alone could
--- not be printed. A fault of writing or want of memory that is met while the line of another answer is printed leaves its outputs whole,
+-- What came of a meaning: its answer with its outputs whole, or a fault with front parts of them, or all was done and
+-- the line alone could
+-- not be printed. A fault of writing or want of memory that is met while the line of another answer is printed leaves
+-- its outputs whole,
 -- which are front parts of themselves.
 abbrev pub IsDone : Meaning → Option Files → Status → Type 0 → Option Files → Type 0
 IsDone meaning start status unprinted now =
-    IsAnswered meaning start status now ⊎ (IsFaulted meaning start status now ⊎ IsUnprinted meaning start status unprinted now)
+    IsAnswered meaning start status now
+    ⊎ (IsFaulted meaning start status now ⊎ IsUnprinted meaning start status unprinted now)

@@ -9,7 +9,9 @@ use Rattle.dtx_plan.specs.declared.refusal.PlanFault.{PlanFault}
 use Rattle.dtx_plan.specs.declared.refusal.PlanFault.TheVariants as plan
 use Rattle.dtx_meaning.specs.declared.status.Outcome.{Outcome}
 use Rattle.dtx_meaning.specs.declared.status.Status.{Status}
-use Rattle.dtx_meaning.specs.declared.status.Status.TheVariants.{Done, Usage, Same, Absent, Plan, Packet, TooLong, OutOfFeed, OutOfAir, NoSync, ReadFault, WriteFault, Memory}
+use Rattle.dtx_meaning.specs.declared.status.Status.TheVariants.{Done, Usage, Same, Absent, Plan, Packet, TooLong}
+use Rattle.dtx_meaning.specs.declared.status.Status.TheVariants.{OutOfFeed, OutOfAir, NoSync, ReadFault, WriteFault}
+use Rattle.dtx_meaning.specs.declared.status.Status.TheVariants.{Memory}
 
 -- the number with which the program ends
 abbrev pub code_of : Status → ℕ
@@ -47,7 +49,8 @@ of_plan plan.Memory = Memory
 
 -- ---- what an answer is blamed on
 
--- Which count a status is blamed on. Where it is blamed on nothing all counts stand; want of memory may be met behind another refusal, which
+-- Which count a status is blamed on. Where it is blamed on nothing all counts stand; want of memory may be met behind
+-- another refusal, which
 -- has raised its count.
 abbrev pub blame_of : Status → Blame
 blame_of (Absent input) = Missing

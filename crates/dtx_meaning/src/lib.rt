@@ -1,4 +1,5 @@
-//! What a command means: how it answers and what it writes, as a function of the files, and what it is to carry a meaning out.
+//! What a command means: how it answers and what it writes, as a function of the files, and what it is to carry a
+//! meaning out.
 #![tactic(auto)]
 
 pub mod laws;
