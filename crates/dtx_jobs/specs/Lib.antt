@@ -1,1 +1,13 @@
+pub mod Code
+pub mod CodeLaws
+pub mod Damaged
+pub mod DamagedLaws
+pub mod Receive
+pub mod ReceiveLaws
+pub mod Reception
 pub mod Shapes
+pub mod StreamCoder
+pub mod SymbolFile
+pub mod SymbolFileLaws
+pub mod Symbols
+pub mod Tally

@@ -1,2 +1,3 @@
 pub mod Hurt
+pub mod LaidLaws
 pub mod Made

@@ -1,0 +1,3 @@
+pub mod BytesOf
+pub mod StreamSymbols
+pub mod Tallied
