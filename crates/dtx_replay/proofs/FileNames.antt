@@ -1,5 +1,5 @@
 -- The names of a network's files, and which of them comes twice.
-use Rattle.std.proofs.Common.{◌≡◌, ℕ, ◌≤◌, ◌⊎◌, inl, inr, Bool, true, false, ◌||◌, cond, Option, Some, None, List, [], ◌∷◌, ◌++◌, length, refl, sym, ap, subst, ◌∙◌, arith}
+use Rattle.std.proofs.Common.{◌≡◌, ◌≢◌, ℕ, ◌≤◌, ◌⊎◌, inl, inr, Bool, true, false, ◌||◌, cond, Option, Some, None, List, [], ◌∷◌, ◌++◌, length, refl, sym, ap, subst, ◌∙◌, arith}
 use Rattle.std.specs.Prelude.{All}
 use Rattle.std.specs.List.{Contains, list_any}
 use Rattle.std.specs.Str.{bytes_eq}
@@ -10,9 +10,7 @@ use Rattle.dtx_plan.specs.declared.plan.Plan.{Plan}
 use Rattle.dtx_plan.specs.declared.plan.ReceivePlan.{ReceivePlan}
 use Rattle.dtx_words.specs.Names.{repeated, repeated_after}
 use Rattle.dtx_words.specs.NetworkNames.{feed_name}
-use Rattle.dtx_words.specs.Words.{NetWords}
 use Rattle.dtx_replay.specs.Networks.{network_names, received_names, written_names}
-use Rattle.dtx_replay.specs.Replayed.{IsStreamApart}
 
 -- ---- which of them comes twice
 
@@ -80,12 +78,13 @@ none_later earlier (first ∷ names) name is has c =
     at_test false e later is (inl here) = first_is e (Contains-push_cases [] first name here)
     at_test false e later is (inr c) = later is c
 
--- where no name comes twice the stream is none of the files that are written
-pub stream_apart : (asked : NetWords) (plan : Plan) (network : NetPlan) → repeated (network_names asked plan network) ≡ None → IsStreamApart plan network
-stream_apart asked plan network none c =
-    none_later (asked.plan ∷ network.stream ∷ []) (written_names plan network) network.stream (behind (bytes_eq asked.plan network.stream) none) (1, omega arith, refl) c
+-- where no name comes twice the stream isn't the feed
+pub stream_apart : (name : List ℕ) (plan : Plan) (network : NetPlan) → repeated (network_names name plan network) ≡ None → network.stream ≢ feed_name
+stream_apart name plan network none same =
+    none_later (name ∷ network.stream ∷ []) (written_names plan network) network.stream (behind (bytes_eq name network.stream) none) (1, omega arith, refl)
+    (0, omega arith, sym same)
   where
-    behind : (b : Bool) → cond (b || false) (Some network.stream) (repeated_after (asked.plan ∷ network.stream ∷ []) (written_names plan network)) ≡ None
-        → repeated_after (asked.plan ∷ network.stream ∷ []) (written_names plan network) ≡ None
+    behind : (b : Bool) → cond (b || false) (Some network.stream) (repeated_after (name ∷ network.stream ∷ []) (written_names plan network)) ≡ None
+        → repeated_after (name ∷ network.stream ∷ []) (written_names plan network) ≡ None
     behind true is = cc
     behind false is = is

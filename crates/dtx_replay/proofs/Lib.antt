@@ -1,14 +1,5 @@
 pub mod FileNames
-pub mod Inputs
-pub mod NetOutcomes
-pub mod Others
-pub mod Plays
-pub mod ReceivedRests
-pub mod Receptions
-pub mod Replays
-pub mod Rests
-pub mod SegmentsBack
 pub mod SegmentsSent
-pub mod StreamVerdicts
 pub mod SymbolsBack
+pub mod SegmentsBack
 pub mod SymbolsSent

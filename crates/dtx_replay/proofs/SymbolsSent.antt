@@ -17,10 +17,9 @@ use Rattle.dtx_plan.specs.declared.plan.NetPlan.{NetPlan}
 use Rattle.dtx_plan.specs.declared.plan.Plan.{Plan}
 use Rattle.dtx_plan.specs.declared.plan.ReceivePlan.{ReceivePlan}
 use Rattle.dtx_plan.specs.declared.transmitter.Transmitter.{Transmitter}
-use Rattle.dtx_schedule.specs.Staged.{AreSent}
+use Rattle.dtx_schedule.specs.Staged.{SentBy}
 use Rattle.dtx_schedule.specs.TransmitterFiles.{symbol_file}
 use Rattle.dtx_replay.specs.Networks.{sent_file}
-use Rattle.dtx_replay.specs.Rest.{IsSymbolCount}
 use Rattle.dtx_replay.proofs.SegmentsSent.{length-symbol_file}
 
 -- ---- the first entry past the end
@@ -69,14 +68,14 @@ sent_file_is plan network stream address who t is =
     ∙ ap (λ o. option_map_or (λ t. symbol_file t who (steps_under plan stream network.events)) o []) is.here
 
 -- what was counted of it serves in place of its length
-pub counted_serves : (ts : List Transmitter) (steps : List Step) (sent : List ℕ) (receiver : ReceivePlan) (who symbols : ℕ) (t : Transmitter) → IsPlace ts receiver.from who t
-    → AreSent ts steps sent → All IsDamage receiver.damage
-    → IsSymbolCount ts sent receiver.from symbols → first_past receiver.damage symbols ≡ first_past receiver.damage (length (symbol_file t who steps))
-counted_serves ts steps sent receiver who symbols t is counted each told =
-    let at_place : IfSome (slice_get sent who) (λ segments. symbols ≡ min (832 * segments) (2 ^ 64 - 1)) =
-    subst (λ o. IfSome o (λ who. IfSome (slice_get sent who) (λ segments. symbols ≡ min (832 * segments) (2 ^ 64 - 1)))) is.place told in
-    let many : symbols ≡ min (832 * length (segments_of t who steps)) (2 ^ 64 - 1) =
-    subst (λ o. IfSome o (λ segments. symbols ≡ min (832 * segments) (2 ^ 64 - 1))) (counted.each who t is.here) at_place in
-    ap (first_past receiver.damage) many
+pub counted_serves : (ts : List Transmitter) (steps : List Step) (receiver : ReceivePlan) (who segments symbols : ℕ) (t : Transmitter) → IsPlace ts receiver.from who t
+    → SentBy receiver.from ts steps segments → All IsDamage receiver.damage → symbols ≡ min (segments * 832) (2 ^ 64 - 1)
+    → first_past receiver.damage symbols ≡ first_past receiver.damage (length (symbol_file t who steps))
+counted_serves ts steps receiver who segments symbols t is counted each told =
+    let at_place : (t : Transmitter) → slice_get ts who ≡ Some t → segments ≡ length (segments_of t who steps) =
+    subst (λ o. IfSome o (λ who. (t : Transmitter) → slice_get ts who ≡ Some t → segments ≡ length (segments_of t who steps))) is.place counted in
+    let turned : segments * 832 ≡ 832 * segments = omega arith in
+    let many : segments * 832 ≡ 832 * length (segments_of t who steps) = turned ∙ ap (λ n. 832 * n) (at_place t is.here) in
+    ap (first_past receiver.damage) (told ∙ ap (λ n. min n (2 ^ 64 - 1)) many)
     ∙ first_at_most receiver.damage (832 * length (segments_of t who steps)) each
     ∙ ap (first_past receiver.damage) (sym (length-symbol_file t who steps))

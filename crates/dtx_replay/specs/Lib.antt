@@ -1,6 +1,6 @@
 pub mod HeadlineOfFiles
+pub mod NetMeaning
+pub mod NetNames
 pub mod Networks
-pub mod Outcome
-pub mod Replayed
-pub mod Rest
-pub mod Verdict
+pub mod OfBytes
+pub mod Replaying

@@ -1,13 +1,11 @@
 -- The files of a network, under a plan and a stream (the profile's own).
 use Rattle.std.specs.Prelude.{◌≡◌, ℕ, Option, Some, None, IfSome, IsSomeAnd, List, [], ◌∷◌, ◌++◌, length, slice_get}
 use Rattle.std.specs.FinMap.{get}
+use Rattle.std.specs.List.{Contains}
 use Rattle.std.specs.Option.{option_map_or}
 use Rattle.std.specs.Result.{IsOkAnd}
-use Rattle.dtx_adapter.specs.Feed.{placeholders}
 use Rattle.dtx_jobs.specs.Feed.{feed_bytes}
 use Rattle.dtx_jobs.specs.Receive.{received_bytes}
-use Rattle.dtx_jobs.specs.SymbolFile.{segments_of}
-use Rattle.dtx_jobs.specs.Tally.{fixed_in, flagged_in}
 use Rattle.dtx_make.specs.Hurt.{hurt}
 use Rattle.dtx_net.specs.Steps.{place_of}
 use Rattle.dtx_network.specs.Network.{steps_under}
@@ -16,11 +14,8 @@ use Rattle.dtx_plan.specs.Plan.{plan_of}
 use Rattle.dtx_plan.specs.declared.plan.NetPlan.{NetPlan}
 use Rattle.dtx_plan.specs.declared.plan.Plan.{Plan}
 use Rattle.dtx_plan.specs.declared.plan.ReceivePlan.{ReceivePlan}
-use Rattle.dtx_receiver.specs.Packets.{all_packets}
-use Rattle.dtx_schedule.specs.Staged.{packets_given}
-use Rattle.dtx_schedule.specs.TransmitterFiles.{symbol_file, log_file, transmitter_names, AreOthersKept}
+use Rattle.dtx_schedule.specs.TransmitterFiles.{symbol_file, log_file, transmitter_names}
 use Rattle.dtx_words.specs.NetworkNames.{feed_name, log_name, received_name, symbol_name}
-use Rattle.dtx_words.specs.Words.{NetWords}
 
 -- ---- names
 
@@ -34,8 +29,8 @@ abbrev pub written_names : Plan → NetPlan → List (List ℕ)
 written_names plan network = feed_name ∷ (transmitter_names plan.transmitters.items ++ received_names network.receive)
 
 -- all its files: the plan, the stream, and those
-abbrev pub network_names : NetWords → Plan → NetPlan → List (List ℕ)
-network_names asked plan network = asked.plan ∷ network.stream ∷ written_names plan network
+abbrev pub network_names : List ℕ → Plan → NetPlan → List (List ℕ)
+network_names name plan network = name ∷ network.stream ∷ written_names plan network
 
 -- ---- what they hold
 
@@ -49,21 +44,14 @@ sent_file plan network stream address =
 unfoldable pub damaged_file : Plan → NetPlan → List (List ℕ) → ReceivePlan → List ℕ
 damaged_file plan network stream receiver = hurt receiver.damage (sent_file plan network stream receiver.from)
 
+-- no file but these was touched
+abbrev pub AreOthersKept : List (List ℕ) → Files → Files → Type 0
+AreOthersKept names held now = (name : List ℕ) → ¬ Contains names name → get now name ≡ get held name
+
 -- each transmitter's files hold what it sends and logs over the whole schedule
 pub record AreSentFiles (plan : Plan) (network : NetPlan) (stream : List (List ℕ)) (now : Files) : Type 0 where
   pub symbols : (who : ℕ) (t : _) → slice_get plan.transmitters.items who ≡ Some t → get now (symbol_name t.address) ≡ Some (symbol_file t who (steps_under plan stream network.events))
   pub logs : (who : ℕ) (t : _) → slice_get plan.transmitters.items who ≡ Some t → get now (log_name t.address) ≡ Some (log_file t who (steps_under plan stream network.events))
-
--- The feed was written, and no other file was touched.
-pub record IsFeedLeft (plan : Plan) (stream : List (List ℕ)) (held now : Files) : Type 0 where
-  pub feed : get now feed_name ≡ Some (feed_bytes plan stream)
-  pub others : AreOthersKept (feed_name ∷ []) held now
-
--- The feed and the files of the transmitters were written, and no other file was touched.
-pub record AreSentLeft (plan : Plan) (network : NetPlan) (stream : List (List ℕ)) (held now : Files) : Type 0 where
-  pub feed : get now feed_name ≡ Some (feed_bytes plan stream)
-  pub sent : AreSentFiles plan network stream now
-  pub others : AreOthersKept (feed_name ∷ transmitter_names plan.transmitters.items) held now
 
 -- The feed, the files of the transmitters and these bytes as what is received were written, where a receiver is asked for, and no other
 -- file was touched.
@@ -81,25 +69,13 @@ packets_received plan network stream receiver = received_bytes (damaged_file pla
 abbrev pub AreWholeFiles : Plan → NetPlan → List (List ℕ) → Files → Files → Type 0
 AreWholeFiles plan network stream held now = AreNetworkFiles plan network stream (packets_received plan network stream) held now
 
--- ---- the numbers of its line
-
--- what is received in numbers: the packets, the bytes put right, the packets flagged
-abbrev pub numbers_received : Plan → NetPlan → List (List ℕ) → Option ReceivePlan → List ℕ
-numbers_received plan network stream None = []
-numbers_received plan network stream (Some receiver) =
-    let got = all_packets (segments_of (damaged_file plan network stream receiver)) in length got ∷ fixed_in got ∷ flagged_in got ∷ []
-
--- the packets of the feed, the placeholders filled, the packets given to exciters, and what is received
-unfoldable pub network_numbers : Plan → NetPlan → List (List ℕ) → List ℕ
-network_numbers plan network stream =
-    length stream ∷ placeholders stream ∷ packets_given (steps_under plan stream network.events) ∷ numbers_received plan network stream network.receive
-
 -- ---- the network of the files
 
--- P of the plan of PLAN and its table `net`
-abbrev pub OfNetPlan : NetWords → Files → (Plan → NetPlan → Type 0) → Type 0
-OfNetPlan asked held P = IsSomeAnd (get held asked.plan) (λ bytes. IsOkAnd (plan_of bytes) (λ plan. IsSomeAnd plan.net (λ network. P plan network)))
+-- P of the plan that is the file of this name, and of its table `net`
+abbrev pub OfNetPlan : List ℕ → Files → (Plan → NetPlan → Type 0) → Type 0
+OfNetPlan name held P = IsSomeAnd (get held name) (λ bytes. IsOkAnd (plan_of bytes) (λ plan. IsSomeAnd plan.net (λ network. P plan network)))
 
 -- P of them and of the bytes of the stream
-abbrev pub OfNetwork : NetWords → Files → (Plan → NetPlan → List ℕ → Type 0) → Type 0
-OfNetwork asked held P = OfNetPlan asked held (λ plan network. IsSomeAnd (get held network.stream) (λ file. P plan network file))
+abbrev pub OfNetwork : List ℕ → Files → (Plan → NetPlan → List ℕ → Type 0) → Type 0
+OfNetwork name held P =
+    OfNetPlan name held (λ plan network. IsSomeAnd (get held network.stream) (λ file. P plan network file))

@@ -1,10 +1,11 @@
 //! The command `net`, but for its line: a network adapted, played and received.
 #![tactic(auto)]
 
-pub mod laws;
-mod net_job;
+mod net_command;
 mod network_names;
-mod reception;
 mod replaying;
+mod reception;
+mod of_bytes;
+pub mod laws;
 
-pub use net_job::{NetOutcome, net};
+pub use net_command::{NetOutcome, net};

@@ -3,17 +3,14 @@ ghost use Rattle.std.specs.Prelude.{◌≡◌, ◌+◌, ◌≤◌, ◌∷◌, �
 ghost use Rattle.std.specs.Option.{option_map};
 ghost use Rattle.dtx_plan.specs.Sound.{IsNet, IsSound};
 ghost use Rattle.dtx_schedule.specs.TransmitterFiles.{transmitter_names};
-ghost use Rattle.dtx_words.specs.Behind.{net_behind};
 ghost use Rattle.dtx_words.specs.Names.{repeated};
 ghost use Rattle.dtx_words.specs.NetworkNames.{feed_name};
 ghost use Rattle.dtx_replay.specs.Networks.{network_names, received_names};
 
-use crate::net_job::STREAM_NAME;
+use crate::net_command::STREAM_NAME;
 use arrayvec::{ArrayString, ArrayVec};
 use dtx_plan::{NetPlan, Plan, Transmitter};
-use dtx_words::{
-    NETWORK_NAME, NetNames, feed_name, log_name, received_name, repeated_name, symbol_name,
-};
+use dtx_words::{NETWORK_NAME, feed_name, log_name, received_name, repeated_name, symbol_name};
 
 /// How many files the transmitters have at most, two each.
 const SENT_FILES: usize = 70;
@@ -23,20 +20,20 @@ const NETWORK_FILES: usize = 74;
 
 /// The first name among those of the network's files that equals an earlier one.
 pub(crate) fn repeated_file(
-    names: &NetNames<'_>,
+    name: &str,
     plan: &Plan,
     network: &NetPlan,
 ) -> Option<ArrayString<STREAM_NAME>>
     requires sound { IsSound plan.now }
     requires network { IsNet plan.now.transmitters.items network.now }
-    ensures { option_map (λ name. name.bytes) result ≡ repeated (network_names (net_behind names.now) plan.now network.now) }
+    ensures { option_map (λ name. name.bytes) result ≡ repeated (network_names name.now plan.now network.now) }
 {
     let sent = sent_names(&plan.transmitters);
-    let all = all_names(names.plan, network, &sent);
+    let all = all_names(name, network, &sent);
     match repeated_name(&all) {
-        Some(name) => {
+        Some(twice) => {
             let mut repeated = ArrayString::new();
-            repeated.push_str(name);
+            repeated.push_str(twice);
             Some(repeated)
         }
         None => None,

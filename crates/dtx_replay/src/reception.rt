@@ -1,17 +1,25 @@
 // The symbols of a transmitter, received with damage laid over them.
-ghost use Rattle.std.specs.Prelude.{◌≡◌, ◌≤◌, ◌*◌, ◌-◌, ◌^◌, IfErr, IfSome, IsErrOf, min, slice_get};
+ghost use Rattle.std.specs.Prelude.{◌≡◌, [], ◌∷◌, ℕ, List, Some, IfSome, length, slice_index};
 ghost use Rattle.std.specs.FinMap as files;
-ghost use Rattle.dtx_net.specs.Steps.{place_of};
-ghost use Rattle.dtx_outside.specs.Shelf.{Rose};
+ghost use Rattle.dtx_engine.specs.Making.{meaning};
+ghost use Rattle.dtx_jobs.specs.Damaged.{damaged};
+ghost use Rattle.dtx_jobs.specs.PastEnd as past;
+ghost use Rattle.dtx_jobs.specs.Receive.{receiving};
+ghost use Rattle.dtx_jobs.specs.Shapes as shapes;
+ghost use Rattle.dtx_meaning.specs.Meaning.{IsCarriedOut};
+ghost use Rattle.dtx_meaning.specs.Status.{blame_of};
+ghost use Rattle.dtx_outside.specs.Counts.{HasGone};
+ghost use Rattle.dtx_outside.specs.Shelf.{Files};
 ghost use Rattle.dtx_plan.specs.Sound.{AreDamages};
-ghost use Rattle.dtx_words.specs.NetworkNames.{symbol_name};
-ghost use Rattle.dtx_replay.specs.Rest.{IsReceptionRefusal, IsSymbolCount, SaysOfSymbols};
+ghost use Rattle.dtx_words.specs.NetworkNames.{received_name, symbol_name};
+ghost use Rattle.dtx_replay.specs.NetMeaning.{received_past};
 
-use dtx_frame::SEGMENT;
-use dtx_jobs::{Counted, SymbolInput, first_past, receive_symbols};
+use dtx_engine::Input;
+use dtx_jobs::{Damaged, Reception, carry_to_one, first_past};
+use dtx_meaning::{Outcome, Status, ended};
 use dtx_outside::Shelf;
-use dtx_plan::{ReceivePlan, Transmitter};
-use dtx_words::{Status, received_name, symbol_name};
+use dtx_plan::ReceivePlan;
+use dtx_words::{received_name, symbol_name};
 use std::alloc::Global;
 
 /// Receives the symbols of the receiver's transmitter, which are so many, with its damage laid over them.
@@ -20,61 +28,40 @@ pub(crate) fn receive_sent<S: Shelf>(
     shelf: &mut S,
     receiver: &ReceivePlan,
     symbols: u64,
-) -> Result<Counted, Status>
+) -> Outcome
     requires damage { AreDamages receiver.now.damage }
-    ensures told { IfSome (S.files shelf.old) (λ held.
-        SaysOfSymbols receiver.now.damage symbols held result (S.files shelf.new) (files.get held (symbol_name receiver.now.from))) }
-
-    // Also where the shelf doesn't tell its files.
-    ensures refusal { IfErr result IsReceptionRefusal }
-    ensures absent { IsErrOf result (Status.Absent 3) → Rose (S.misses shelf.old) (S.misses shelf.new) }
-    ensures read_fault { IsErrOf result Status.ReadFault → Rose (S.read_faults shelf.old) (S.read_faults shelf.new) }
-    ensures write_fault { IsErrOf result Status.WriteFault → Rose (S.write_faults shelf.old) (S.write_faults shelf.new) }
-    ensures read_faults { S.read_faults shelf.old ≤ S.read_faults shelf.new }
-    ensures write_faults { S.write_faults shelf.old ≤ S.write_faults shelf.new }
-    ensures misses { S.misses shelf.old ≤ S.misses shelf.new }
+    ensures carried { (held : Files) (file : List ℕ) → S.files shelf.old ≡ Some held
+        → files.get held (symbol_name receiver.now.from) ≡ Some file
+        → past.first_past receiver.now.damage symbols ≡ past.first_past receiver.now.damage (length file)
+        → IsCarriedOut (received_past (past.first_past receiver.now.damage (length file)) receiver.now.damage file) (Some held)
+            result (S.files shelf.new) }
+    ensures gone { HasGone (S.counts shelf.old) (S.counts shelf.new) (blame_of result.status) }
 {
-    if let Some(entry) = first_past(&receiver.damage, symbols) {
-        return Err(Status::OutOfAir(entry as u32));
-    }
-    let name = symbol_name(receiver.from);
-    let input = SymbolInput {
-        name: name.as_str(),
-        number: 3,
-        damage: Some(&receiver.damage),
-    };
-    receive_symbols(alloc, shelf, &input, received_name())
-}
-
-/// How many symbols the transmitter of that address has sent, from how many segments each has sent, in the plan's order.
-pub(crate) fn symbols_sent(transmitters: &[Transmitter], sent: &[u64], address: u16) -> u64
-    ensures { IsSymbolCount transmitters.now sent.now address result }
-{
-    match place_of(transmitters, address) {
-        Some(who) => symbols_of(sent, who),
-        None => 0,
+    match first_past(&receiver.damage, symbols) {
+        Some(entry) => ended(Status::OutOfAir(entry)),
+        None => receive(alloc, shelf, receiver),
     }
 }
 
-/// How many symbols the transmitter at a place of the list has sent; `2 ^ 64 - 1` stands for more, since any entry of damage ends below
-/// both.
-fn symbols_of(sent: &[u64], who: usize) -> u64
-    ensures { IfSome (slice_get sent.now who) (λ segments. result ≡ min (832 * segments) (2 ^ 64 - 1)) }
+/// Does so where each entry of damage ends within them.
+fn receive<S: Shelf>(alloc: Global, shelf: &mut S, receiver: &ReceivePlan) -> Outcome
+    requires damage { AreDamages receiver.now.damage }
+    ensures carried { IfSome (S.files shelf.old) (λ held. IsCarriedOut
+        (meaning shapes.segments (damaged receiver.now.damage receiving) 3 (received_name ∷ [])
+        (files.get held (symbol_name receiver.now.from)))
+        (Some held) result (S.files shelf.new)) }
+    ensures gone { HasGone (S.counts shelf.old) (S.counts shelf.new) (blame_of result.status) }
 {
-    match sent.get(who) {
-        Some(segments) => segments.saturating_mul(SEGMENT as u64),
-        None => 0,
-    }
-}
-
-/// The place in the list of the transmitter with this address, or `None` where there is none.
-fn place_of(transmitters: &[Transmitter], address: u16) -> Option<usize>
-    ensures { result ≡ place_of address transmitters.now }
-{
-    for who in 0..transmitters.len() {
-        if transmitters[who].address == address {
-            return Some(who);
+    match Reception::new(alloc) {
+        Ok(reception) => {
+            let name = symbol_name(receiver.from);
+            let input = Input {
+                name: name.as_str(),
+                number: 3,
+            };
+            let mut engine = Damaged::new(&receiver.damage, reception);
+            carry_to_one(alloc, &mut engine, input, received_name(), shelf)
         }
+        Err(cause) => ended(Status::from(cause)),
     }
-    None
 }

@@ -1,29 +1,33 @@
 // A network whose plan is read: its stream adapted, its events played, its symbols received.
-ghost use Rattle.std.specs.Prelude.{◌≡◌, ◌≤◌, ◌∷◌, ◌++◌, [], Some, IfErr, IfOk, IfSome, IsErrOf, length};
+ghost use Rattle.std.specs.Prelude.{◌≡◌, ◌≢◌, [], ◌∷◌, ℕ, List, None, Some, IfSome, length, slice_index};
 ghost use Rattle.std.specs.FinMap as files;
-ghost use Rattle.dtx_outside.specs.Shelf.{Rose};
-ghost use Rattle.dtx_plan.specs.Sound.{IsNet, IsReceived, IsSound};
-ghost use Rattle.dtx_schedule.specs.Played.{IsPlayRefusal};
-ghost use Rattle.dtx_words.specs.Line.{HasNumbers};
-ghost use Rattle.dtx_words.specs.declared.verbs.Command.TheVariants.{Net};
-ghost use Rattle.dtx_replay.specs.Replayed.{IsReplayOf, IsReplayRefusal, IsSomeAbsence, IsStreamApart};
-ghost use Rattle.dtx_replay.specs.Rest.{IsPlayedFrom, IsReceptionRefusal, IsRestBehindFeed, IsRestBehindEvents};
+ghost use Rattle.dtx_engine.specs.Making.{meaning};
+ghost use Rattle.dtx_jobs.specs.Shapes as shapes;
+ghost use Rattle.dtx_meaning.specs.Meaning.{IsCarriedOut, with_outputs};
+ghost use Rattle.dtx_meaning.specs.Status.{blame_of};
+ghost use Rattle.dtx_network.specs.Network.{steps_under};
+ghost use Rattle.dtx_outside.specs.Counts.{HasGone};
+ghost use Rattle.dtx_outside.specs.Shelf.{Files};
+ghost use Rattle.dtx_plan.specs.declared.plan.Plan.{Plan};
+ghost use Rattle.dtx_plan.specs.Sound.{AreDamages, IsNet, IsSound};
+ghost use Rattle.dtx_schedule.specs.Inside as inside;
+ghost use Rattle.dtx_schedule.specs.Staged.{IsStaged};
+ghost use Rattle.dtx_schedule.specs.TransmitterFiles.{played_outputs};
+ghost use Rattle.dtx_words.specs.NetworkNames.{feed_name};
+ghost use Rattle.dtx_replay.specs.NetMeaning as means;
+ghost use Rattle.dtx_replay.specs.Replaying.{HasNumbers, IsFeedWritten};
 
-use crate::reception::{receive_sent, symbols_sent};
-use arrayvec::ArrayVec;
-use dtx_jobs::{Counted, Fed, adapt_stream};
+use crate::of_bytes::OfBytes;
+use crate::reception::receive_sent;
+use dtx_engine::Input;
+use dtx_frame::SEGMENT;
+use dtx_jobs::{Feeder, carry_to_one};
+use dtx_meaning::{Outcome, Status, ended};
 use dtx_outside::Shelf;
-use dtx_plan::{NetPlan, Plan, ReceivePlan};
+use dtx_plan::{NetPlan, Plan};
 use dtx_schedule::{Played, first_past_feed, play};
-use dtx_words::{Status, feed_name};
+use dtx_words::feed_name;
 use std::alloc::Global;
-
-/// What came of a network that was played.
-#[derive(Drop)]
-pub(crate) struct Replayed {
-    /// The numbers of the line in their order: three, and three more where a receiver is asked for.
-    pub(crate) numbers: ArrayVec<u64, 6>,
-}
 
 /// Adapts the stream to the feed, plays the events over it, and receives the symbols, where a receiver is asked for.
 pub(crate) fn replay<S: Shelf>(
@@ -31,157 +35,136 @@ pub(crate) fn replay<S: Shelf>(
     plan: &Plan,
     network: &NetPlan,
     shelf: &mut S,
-) -> Result<Replayed, Status>
+) -> Outcome
     requires sound { IsSound plan.now }
     requires network { IsNet plan.now.transmitters.items network.now }
-    ensures told { IsStreamApart plan.now network.now → IfSome (S.files shelf.old) (λ held.
-        IsReplayOf plan.now network.now held (files.get held network.now.stream) result (S.files shelf.new)) }
-    ensures count { IfOk result (λ replayed. HasNumbers (Some Net) replayed.numbers.items) }
-
-    // Also where the shelf doesn't tell its files.
-    ensures refusal { IfErr result IsReplayRefusal }
-    ensures absent { IfErr result (λ status. IsSomeAbsence status → Rose (S.misses shelf.old) (S.misses shelf.new)) }
-    ensures read_fault { IsErrOf result Status.ReadFault → Rose (S.read_faults shelf.old) (S.read_faults shelf.new) }
-    ensures write_fault { IsErrOf result Status.WriteFault → Rose (S.write_faults shelf.old) (S.write_faults shelf.new) }
-    ensures read_faults { S.read_faults shelf.old ≤ S.read_faults shelf.new }
-    ensures write_faults { S.write_faults shelf.old ≤ S.write_faults shelf.new }
-    ensures misses { S.misses shelf.old ≤ S.misses shelf.new }
+    requires differ { network.now.stream ≢ feed_name }
+    ensures carried { IfSome (S.files shelf.old) (λ held. IsCarriedOut
+        (means.network_meaning plan.now network.now (files.get held network.now.stream)) (Some held) result (S.files shelf.new)) }
+    ensures gone { HasGone (S.counts shelf.old) (S.counts shelf.new) (blame_of result.status) }
 {
-    let fed = adapt_stream(alloc, plan, shelf, network.stream.as_str(), feed_name())?;
-    replay_fed(alloc, plan, network, shelf, &fed)
+    let fed = feed_stream(alloc, plan, network, shelf);
+    match fed.status {
+        Status::Done => play_within(alloc, plan, network, shelf, &fed),
+        _ => fed,
+    }
 }
 
-/// Plays the events over the feed that was written, and receives the symbols, where a receiver is asked for.
-fn replay_fed<S: Shelf>(
-    alloc: Global,
-    plan: &Plan,
-    network: &NetPlan,
-    shelf: &mut S,
-    fed: &Fed,
-) -> Result<Replayed, Status>
+/// Adapts the stream to the feed.
+fn feed_stream<S: Shelf>(alloc: Global, plan: &Plan, network: &NetPlan, shelf: &mut S) -> Outcome
     requires sound { IsSound plan.now }
-    requires network { IsNet plan.now.transmitters.items network.now }
-    ensures told { IsRestBehindFeed (S.files shelf.old) plan.now network.now fed.now result (S.files shelf.new) }
-    ensures count { IfOk result (λ replayed. HasNumbers (Some Net) replayed.numbers.items) }
-
-    // Also where the shelf doesn't tell its files.
-    ensures refusal { IfErr result IsReplayRefusal }
-    ensures absent { IfErr result (λ status. IsSomeAbsence status → Rose (S.misses shelf.old) (S.misses shelf.new)) }
-    ensures read_fault { IsErrOf result Status.ReadFault → Rose (S.read_faults shelf.old) (S.read_faults shelf.new) }
-    ensures write_fault { IsErrOf result Status.WriteFault → Rose (S.write_faults shelf.old) (S.write_faults shelf.new) }
-    ensures read_faults { S.read_faults shelf.old ≤ S.read_faults shelf.new }
-    ensures write_faults { S.write_faults shelf.old ≤ S.write_faults shelf.new }
-    ensures misses { S.misses shelf.old ≤ S.misses shelf.new }
+    requires differ { network.now.stream ≢ feed_name }
+    ensures carried { IfSome (S.files shelf.old) (λ held. IsCarriedOut
+        (meaning shapes.packets (means.adapting plan.now) 1 (feed_name ∷ []) (files.get held network.now.stream))
+        (Some held) result (S.files shelf.new)) }
+    ensures gone { HasGone (S.counts shelf.old) (S.counts shelf.new) (blame_of result.status) }
 {
-    let played = play_within(alloc, plan, network, shelf, fed.counts.packets)?;
-    receive_played(alloc, plan, network, shelf, fed, &played)
+    match Feeder::new(alloc, plan) {
+        Ok(feeder) => {
+            let stream = Input {
+                name: network.stream.as_str(),
+                number: 1,
+            };
+            carry_to_one(alloc, &mut OfBytes::new(feeder), stream, feed_name(), shelf)
+        }
+        Err(cause) => ended(Status::from(cause)),
+    }
 }
 
-/// Plays the events over the feed that was written, where none reads past its packets, which are so many.
+/// Plays the events over the feed that was written, where none reads past it, and receives the symbols.
 fn play_within<S: Shelf>(
     alloc: Global,
     plan: &Plan,
     network: &NetPlan,
     shelf: &mut S,
-    packets: u64,
-) -> Result<Played, Status>
+    fed: &Outcome,
+) -> Outcome
     requires sound { IsSound plan.now }
     requires network { IsNet plan.now.transmitters.items network.now }
-    ensures told { IsPlayedFrom (S.files shelf.old) plan.now network.now packets result (S.files shelf.new) }
-
-    // Also where the shelf doesn't tell its files.
-    ensures refusal { IfErr result IsPlayRefusal }
-    ensures absent { IsErrOf result (Status.Absent 2) → Rose (S.misses shelf.old) (S.misses shelf.new) }
-    ensures read_fault { IsErrOf result Status.ReadFault → Rose (S.read_faults shelf.old) (S.read_faults shelf.new) }
-    ensures write_fault { IsErrOf result Status.WriteFault → Rose (S.write_faults shelf.old) (S.write_faults shelf.new) }
-    ensures read_faults { S.read_faults shelf.old ≤ S.read_faults shelf.new }
-    ensures write_faults { S.write_faults shelf.old ≤ S.write_faults shelf.new }
-    ensures misses { S.misses shelf.old ≤ S.misses shelf.new }
+    ensures carried { (held : Files) (stream : List (List ℕ)) → S.files shelf.old ≡ Some held
+        → IsFeedWritten plan.now stream fed.now held
+        → IsCarriedOut (means.fed_meaning plan.now network.now stream) (Some held) result (S.files shelf.new) }
+    ensures gone { HasGone (S.counts shelf.old) (S.counts shelf.new) (blame_of result.status) }
 {
-    if let Some(event) = first_past_feed(&network.events, packets) {
-        return Err(Status::OutOfFeed(event));
+    match first_past_feed(&network.events, fed.numbers[0]) {
+        Some(event) => ended(Status::OutOfFeed(event)),
+        None => play_events(alloc, plan, network, shelf, fed),
     }
-    play(alloc, shelf, &plan.transmitters, &network.events)
 }
 
-/// Receives what the events had sent, where a receiver is asked for, and answers the numbers of the line.
+/// Plays the events over the feed that was written, and receives the symbols.
+fn play_events<S: Shelf>(
+    alloc: Global,
+    plan: &Plan,
+    network: &NetPlan,
+    shelf: &mut S,
+    fed: &Outcome,
+) -> Outcome
+    requires sound { IsSound plan.now }
+    requires network { IsNet plan.now.transmitters.items network.now }
+    ensures carried { (held : Files) (stream : List (List ℕ)) → S.files shelf.old ≡ Some held
+        → IsFeedWritten plan.now stream fed.now held → inside.first_past_feed network.now.events (length stream) ≡ None
+        → IsCarriedOut (means.played_and_received plan.now network.now stream network.now.receive) (Some held)
+            result (S.files shelf.new) }
+    ensures gone { HasGone (S.counts shelf.old) (S.counts shelf.new) (blame_of result.status) }
+{
+    match play(alloc, shelf, &plan.transmitters, &network.events) {
+        Ok(played) => receive_played(alloc, network, shelf, fed, &played),
+        Err(status) => ended(status),
+    }
+}
+
+/// Receives the symbols that the events sent, where a receiver is asked for.
 fn receive_played<S: Shelf>(
     alloc: Global,
-    plan: &Plan,
     network: &NetPlan,
     shelf: &mut S,
-    fed: &Fed,
+    fed: &Outcome,
     played: &Played,
-) -> Result<Replayed, Status>
-    requires network { IsNet plan.now.transmitters.items network.now }
-    ensures told { IsRestBehindEvents (S.files shelf.old) plan.now network.now fed.now played.now result (S.files shelf.new) }
-    ensures count { IfOk result (λ replayed. HasNumbers (Some Net) replayed.numbers.items) }
-
-    // Also where the shelf doesn't tell its files.
-    ensures refusal { IfErr result IsReceptionRefusal }
-    ensures absent { IsErrOf result (Status.Absent 3) → Rose (S.misses shelf.old) (S.misses shelf.new) }
-    ensures read_fault { IsErrOf result Status.ReadFault → Rose (S.read_faults shelf.old) (S.read_faults shelf.new) }
-    ensures write_fault { IsErrOf result Status.WriteFault → Rose (S.write_faults shelf.old) (S.write_faults shelf.new) }
-    ensures read_faults { S.read_faults shelf.old ≤ S.read_faults shelf.new }
-    ensures write_faults { S.write_faults shelf.old ≤ S.write_faults shelf.new }
-    ensures misses { S.misses shelf.old ≤ S.misses shelf.new }
+) -> Outcome
+    requires { IfSome network.now.receive (λ receiver. AreDamages receiver.damage) }
+    ensures carried { (plan : Plan) (held : Files) (stream : List (List ℕ))
+        → IsNet plan.transmitters.items network.now → HasNumbers stream fed.now
+        → IsStaged plan.transmitters.items played.now.stage (steps_under plan stream network.now.events)
+        → S.files shelf.old ≡ with_outputs (played_outputs plan.transmitters.items (steps_under plan stream network.now.events)) (Some held)
+        → IsCarriedOut (means.played_and_received plan network.now stream network.now.receive) (Some held)
+            result (S.files shelf.new) }
+    ensures gone { HasGone (S.counts shelf.old) (S.counts shelf.new) (blame_of result.status) }
 {
     match &network.receive {
-        Some(receiver) => receive_from(alloc, plan, network, receiver, shelf, fed, played),
-        None => Ok(Replayed {
-            numbers: numbers_played(fed, played),
-        }),
+        Some(receiver) => {
+            let symbols = played.sent(receiver.from).saturating_mul(SEGMENT as u64);
+            let received = receive_sent(alloc, shelf, receiver, symbols);
+            with_received(fed, played.steps(), received)
+        }
+        None => Outcome {
+            status: Status::Done,
+            numbers: [fed.numbers[0], fed.numbers[1], played.steps(), 0, 0, 0],
+            shown: 3,
+        },
     }
 }
 
-/// Receives what the receiver's transmitter had sent, and answers the numbers of the line.
-fn receive_from<S: Shelf>(
-    alloc: Global,
-    plan: &Plan,
-    network: &NetPlan,
-    receiver: &ReceivePlan,
-    shelf: &mut S,
-    fed: &Fed,
-    played: &Played,
-) -> Result<Replayed, Status>
-    requires receiver { network.now.receive ≡ Some receiver.now }
-    requires received { IsReceived plan.now.transmitters.items receiver.now }
-    ensures told { IsRestBehindEvents (S.files shelf.old) plan.now network.now fed.now played.now result (S.files shelf.new) }
-    ensures count { IfOk result (λ replayed. HasNumbers (Some Net) replayed.numbers.items) }
-
-    // Also where the shelf doesn't tell its files.
-    ensures refusal { IfErr result IsReceptionRefusal }
-    ensures absent { IsErrOf result (Status.Absent 3) → Rose (S.misses shelf.old) (S.misses shelf.new) }
-    ensures read_fault { IsErrOf result Status.ReadFault → Rose (S.read_faults shelf.old) (S.read_faults shelf.new) }
-    ensures write_fault { IsErrOf result Status.WriteFault → Rose (S.write_faults shelf.old) (S.write_faults shelf.new) }
-    ensures read_faults { S.read_faults shelf.old ≤ S.read_faults shelf.new }
-    ensures write_faults { S.write_faults shelf.old ≤ S.write_faults shelf.new }
-    ensures misses { S.misses shelf.old ≤ S.misses shelf.new }
+/// The answer of a reception, with the numbers of the whole network where it is done.
+fn with_received(fed: &Outcome, steps: u64, received: Outcome) -> Outcome
+    ensures { result ≡ means.with_received (slice_index fed.now.numbers 0) (slice_index fed.now.numbers 1) steps received }
 {
-    let symbols = symbols_sent(&plan.transmitters, &played.sent, receiver.from);
-    let counted = receive_sent(alloc, shelf, receiver, symbols)?;
-    let mut numbers = numbers_played(fed, played);
-    add_received(&counted, &mut numbers);
-    Ok(Replayed { numbers })
-}
-
-/// The first numbers of the line: the packets of the feed, the placeholders filled, the steps.
-fn numbers_played(fed: &Fed, played: &Played) -> ArrayVec<u64, 6>
-    ensures { result.items ≡ fed.now.counts.packets ∷ fed.now.filled ∷ played.now.steps ∷ [] }
-{
-    let mut numbers = ArrayVec::new();
-    numbers.push(fed.counts.packets);
-    numbers.push(fed.filled);
-    numbers.push(played.steps);
-    numbers
-}
-
-/// Puts the numbers of what was received behind the first three: the packets, the bytes put right, the packets flagged.
-fn add_received(counted: &Counted, numbers: &mut ArrayVec<u64, 6>)
-    requires { length numbers.old.items ≡ 3 }
-    ensures { numbers.new.items ≡ numbers.old.items ++ counted.now.tally.packets ∷ counted.now.tally.fixed ∷ counted.now.tally.flagged ∷ [] }
-{
-    numbers.push(counted.tally.packets);
-    numbers.push(counted.tally.fixed);
-    numbers.push(counted.tally.flagged);
+    match received.status {
+        Status::Done => {
+            let [_, _, packets, fixed, flagged, _] = received.numbers;
+            Outcome {
+                status: Status::Done,
+                numbers: [
+                    fed.numbers[0],
+                    fed.numbers[1],
+                    steps,
+                    packets,
+                    fixed,
+                    flagged,
+                ],
+                shown: 6,
+            }
+        }
+        _ => received,
+    }
 }
