@@ -1,12 +1,12 @@
+pub mod BytesOf
+pub mod StreamSymbols
+pub mod Tallied
 pub mod Feeding
 pub mod Making
 pub mod PacketBytes
 pub mod SmallFile
 pub mod Apart
-pub mod BytesOf
 pub mod LifeOn
-pub mod StreamSymbols
-pub mod Tallied
 pub mod PlacedPackets
 pub mod PlacedCounts
 pub mod PlacedTally

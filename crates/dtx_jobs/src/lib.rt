@@ -2,6 +2,7 @@
 #![tactic(auto)]
 
 mod adapt_command;
+mod damaged;
 mod feeder;
 mod hurt_command;
 pub mod laws;
@@ -14,7 +15,6 @@ mod packet_bytes;
 mod past_end;
 mod plan_file;
 mod code_command;
-mod damaged;
 mod excitation;
 mod excite_command;
 mod life_tally;
@@ -31,6 +31,7 @@ pub mod symbol_laws;
 mod tally;
 
 pub use adapt_command::adapt;
+pub use damaged::Damaged;
 pub use feeder::Feeder;
 pub use hurt_command::hurt;
 pub use make_command::make;
@@ -38,11 +39,12 @@ pub use one_output::carry_to_one;
 pub use past_end::first_past;
 pub use plan_file::plan_in;
 pub use code_command::code;
-pub use damaged::Damaged;
 pub use excite_command::excite;
 pub use receive_command::receive;
 pub use reception::{MOST_SEGMENTS, Reception};
 pub use place_command::place;
+pub use plan_file::{changes_in, plan_in};
+pub use reception::Reception;
 pub use shapes::{PIECE_SEGMENTS, packets, segments, single_bytes, single_packets};
 
 #[cfg(test)]
