@@ -1,7 +1,7 @@
 -- A feeder that is given a group more.
-use Rattle.std.proofs.Common.{◌≡◌, ℕ, ◌+◌, ◌*◌, ◌/◌, ◌%◌, ◌≤◌, List, [], ◌++◌, length, take, drop, refl, sym, ap, ap₂}
+use Rattle.std.proofs.Common.{◌≡◌, ℕ, ◌+◌, ◌%◌, ◌≤◌, List, [], ◌++◌, length, take, drop, refl, sym, ap, ap₂}
 use Rattle.std.proofs.Common.{subst, ◌∙◌, arith}
-use Rattle.std.proofs.lemmas.List.{length-append, append_assoc, append-nil}
+use Rattle.std.proofs.lemmas.List.{append_assoc, append-nil}
 use Rattle.std.proofs.lemmas.List.Sums.{length-filter, count_by-le-length}
 use Rattle.std.proofs.Math.Seq.{take-add}
 use Rattle.dtx_adapter.specs.FeedsLaws.{placeholders-append}
@@ -11,7 +11,6 @@ use Rattle.dtx_engine.specs.Made.{Made, joined, only}
 use Rattle.dtx_engine.specs.Making.{Making, IsFed}
 use Rattle.dtx_packets.specs.PacketLaws.{packets_of-append, whole_packets-append}
 use Rattle.dtx_packets.specs.Packets.{packets_of, whole_packets}
-use Rattle.dtx_plan.specs.declared.plan.Plan.{Plan}
 use Rattle.dtx_jobs.specs.Adapt.{feeding}
 use Rattle.dtx_jobs.specs.Feed.{feed_bytes, HasFed, IsCounted}
 use Rattle.dtx_jobs.specs.PacketFileLaws.{length-packets_of}

@@ -1,6 +1,6 @@
 -- A made stream that is written packet by packet, and how that ends.
-use Rattle.std.proofs.Common.{◌≡◌, ◌⊎◌, ℕ, ◌+◌, ◌-◌, ◌≤◌, List, [], ◌∷◌, ◌++◌, flat_map, refl, sym, ap, subst, ◌∙◌}
-use Rattle.std.proofs.Common.{arith, inl, inr}
+use Rattle.std.proofs.Common.{◌≡◌, ℕ, ◌+◌, ◌-◌, ◌≤◌, List, [], ◌∷◌, ◌++◌, flat_map, sym, ap, subst, ◌∙◌}
+use Rattle.std.proofs.Common.{arith, inr}
 use Rattle.std.specs.Prelude.{Option}
 use Rattle.std.specs.List.{range_with_len}
 use Rattle.dtx_make.specs.StreamsLaws.{made_stream_none, made_stream_more, made_stream-parts}

@@ -1,5 +1,5 @@
 -- Damage that is laid piece by piece.
-use Rattle.std.proofs.Common.{◌≡◌, ℕ, ◌+◌, List, [], ◌++◌, length, refl, sym, ap, ◌∙◌, zero-add}
+use Rattle.std.proofs.Common.{◌≡◌, ℕ, List, [], ◌++◌, length, refl, sym, ap, ◌∙◌, zero-add}
 use Rattle.dtx_engine.specs.Made.{AreFrontsOf, only}
 use Rattle.dtx_make.specs.LaidBytesLaws.{laid-append}
 use Rattle.dtx_make.specs.Hurt.{hurt, laid}

@@ -20,6 +20,7 @@ pub mod ExciteLaws
 pub mod Life
 pub mod Receive
 pub mod ReceiveLaws
+pub mod ReceivedLaws
 pub mod Reception
 pub mod Shapes
 pub mod StreamCoder

@@ -6,7 +6,7 @@ use Rattle.std.specs.List.{flat_map}
 use Rattle.std.proofs.lemmas.Grind.{flat_map-append}
 use Rattle.std.proofs.lemmas.List.{append_assoc, append-nil, drop_at}
 use Rattle.dtx_engine.specs.Made.{only, joined, AreFrontsOf}
-use Rattle.dtx_receiver.proofs.Counting.{nothing_given, given_more, all_more}
+use Rattle.dtx_receiver.specs.CountingLaws.{nothing_given, given_more, all_more}
 use Rattle.dtx_receiver.specs.Packets.{all_packets, given, received}
 use Rattle.dtx_receiver.specs.Runs.{runs}
 use Rattle.dtx_receiver.specs.declared.batch.Received.{Received}

@@ -23,6 +23,7 @@ mod reception;
 mod shapes;
 mod stream_coder;
 mod symbol_buffer;
+pub mod symbol_laws;
 mod tally;
 
 pub use adapt_command::adapt;
@@ -36,5 +37,8 @@ pub use code_command::code;
 pub use damaged::Damaged;
 pub use excite_command::excite;
 pub use receive_command::receive;
-pub use reception::Reception;
+pub use reception::{MOST_SEGMENTS, Reception};
 pub use shapes::{PIECE_SEGMENTS, packets, segments, single_bytes, single_packets};
+
+#[cfg(test)]
+mod symbol_tests;

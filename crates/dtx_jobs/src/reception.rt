@@ -17,7 +17,7 @@ use dtx_receiver::{Batch, MOST_RECEIVED, Received, Receiver, Tracking};
 use std::alloc::{AllocError, Global};
 
 /// How many segments are received at most: 2,000,000 such pieces (the profile's own limit).
-const MOST_SEGMENTS: u64 = 626_000_000;
+pub const MOST_SEGMENTS: u64 = 626_000_000;
 
 /// How many bytes the packets have that a piece brings at most.
 const RECEIVED_BYTES: usize = PACKET * MOST_RECEIVED * PIECE_SEGMENTS;

@@ -1,7 +1,6 @@
 use Rattle.std.proofs.Common.{[], ◌∷◌}
 use Rattle.std.specs.FinMap.{get}
 use Rattle.dtx_engine.specs.Making.{meaning}
-use Rattle.dtx_outside.specs.Shelf.{Files}
 use Rattle.dtx_plan.specs.Plan.{plan_of}
 use Rattle.dtx_jobs.specs.Adapt.{feeding}
 use Rattle.dtx_jobs.specs.PlanFileLaws.{read_told, unread_told}

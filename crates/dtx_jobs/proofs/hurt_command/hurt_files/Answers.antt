@@ -1,5 +1,4 @@
 use Rattle.std.proofs.Common.{List, ℕ, [], ◌∷◌, sym, refl}
-use Rattle.std.specs.Prelude.{Some, None}
 use Rattle.std.specs.FinMap.{get}
 use Rattle.dtx_engine.specs.Making.{meaning}
 use Rattle.dtx_meaning.specs.Laws.{carried_told, refused_told}

@@ -1,4 +1,4 @@
-use Rattle.std.proofs.Common.{◌≡◌, []}
+use Rattle.std.proofs.Common.{[]}
 use Rattle.std.specs.Prelude.{Option}
 use Rattle.dtx_make.specs.Made.{made_stream}
 use Rattle.dtx_outside.specs.Counts.{HasGone, Nothing}
