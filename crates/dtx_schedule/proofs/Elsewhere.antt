@@ -1,0 +1,42 @@
+-- What a step of one transmitter leaves of the others, and of what is there before any step.
+use Rattle.std.proofs.Common.{◌≡◌, ◌≢◌, ℕ, List, [], ◌∷◌, ◌++◌, refl, ap}
+use Rattle.dtx_exciter.specs.Emission.{emission}
+use Rattle.dtx_exciter.specs.Log.{life_lines, log}
+use Rattle.dtx_files.specs.LogText.{log_text}
+use Rattle.dtx_files.specs.Symbols.{segment_bytes}
+use Rattle.dtx_net.specs.Lives.{lives_of}
+use Rattle.dtx_net.specs.Sent.{segments_of, lines_of}
+use Rattle.dtx_net.specs.Steps.{Step}
+use Rattle.dtx_net.proofs.Grows.{segments_same, lines_same}
+use Rattle.dtx_net.proofs.LastLife.{lives_elsewhere}
+use Rattle.dtx_plan.specs.declared.transmitter.Transmitter.{Transmitter}
+use Rattle.dtx_schedule.specs.TransmitterFiles.{symbol_file, log_file}
+
+pub segments_elsewhere : (u : Transmitter) (other : ℕ) (steps : List Step) (step : Step) → step.who ≢ other
+    → segments_of u other (steps ++ step ∷ []) ≡ segments_of u other steps
+segments_elsewhere u other steps step n = segments_same u other (steps ++ step ∷ []) steps (lives_elsewhere other steps step n)
+
+pub symbols_elsewhere : (u : Transmitter) (other : ℕ) (steps : List Step) (step : Step) → step.who ≢ other
+    → symbol_file u other (steps ++ step ∷ []) ≡ symbol_file u other steps
+unfolding symbol_file
+symbols_elsewhere u other steps step n = ap segment_bytes (segments_elsewhere u other steps step n)
+
+pub log_elsewhere : (u : Transmitter) (other : ℕ) (steps : List Step) (step : Step) → step.who ≢ other
+    → log_file u other (steps ++ step ∷ []) ≡ log_file u other steps
+unfolding log_file
+log_elsewhere u other steps step n =
+    ap log_text (lines_same u other (steps ++ step ∷ []) steps (lives_elsewhere other steps step n))
+
+-- ---- before any step
+
+pub no_segments : (t : Transmitter) (who : ℕ) → segments_of t who [] ≡ []
+unfolding segments_of lives_of emission
+no_segments t who = refl
+
+pub no_symbol_file : (t : Transmitter) (who : ℕ) → symbol_file t who [] ≡ []
+unfolding symbol_file
+no_symbol_file t who = ap segment_bytes (no_segments t who)
+
+pub no_log_file : (t : Transmitter) (who : ℕ) → log_file t who [] ≡ []
+unfolding log_file lines_of lives_of log life_lines
+no_log_file t who = refl

@@ -1,0 +1,13 @@
+pub mod FilesOf
+pub mod Fronts
+pub mod FirstOf
+pub mod Elsewhere
+pub mod Named
+pub mod PairLeft
+pub mod Written
+pub mod Begun
+pub mod StageOn
+pub mod SoFar
+pub mod FeedKept
+pub mod EventSteps
+pub mod ScheduleOn

@@ -1,0 +1,57 @@
+-- What playing a schedule answers, and what it leaves of the files.
+use Rattle.std.specs.Prelude.{◌≡◌, ◌⊎◌, ◌≤◌, All, Option, Some, Result, Ok, Err, List, length}
+use Rattle.dtx_outside.specs.Shelf.{Files}
+use Rattle.dtx_outside.specs.declared.shelf.WriteNo.{WriteNo}
+use Rattle.dtx_meaning.specs.Meaning.{ArePartWritten, with_outputs}
+use Rattle.dtx_meaning.specs.Status.{IsFault}
+use Rattle.dtx_meaning.specs.declared.status.Status.{Status}
+use Rattle.dtx_plan.specs.Sound.{IsEvent, IsInRange}
+use Rattle.dtx_plan.specs.declared.event.Event.{Event}
+use Rattle.dtx_plan.specs.declared.transmitter.Transmitter.{Transmitter}
+use Rattle.dtx_net.specs.Steps.{Step}
+use Rattle.dtx_schedule.specs.TransmitterFiles.{files_of, nothing, played_outputs}
+use Rattle.dtx_schedule.specs.PlayedSoFar.{IsPlayedSoFar, IsUnderWay}
+use Rattle.dtx_schedule.specs.Staged.{IsStaged}
+use Rattle.dtx_schedule.specs.declared.playing.Played.{Played}
+use Rattle.dtx_schedule.specs.declared.stage.Stage.{Stage}
+
+-- events of transmitters of the plan, as many as a plan has at most
+pub record AreEvents (ts : List Transmitter) (events : List Event) : Type 0 where
+  pub each : All (IsEvent ts) events
+  pub most : length events ≤ 10000
+
+-- events whose numbers are in their ranges, as many as a plan has at most
+pub record AreInRange (events : List Event) : Type 0 where
+  pub each : All IsInRange events
+  pub most : length events ≤ 10000
+
+-- what beginning the files leaves: all are there and empty; or some of the first are
+abbrev pub IsBegunOf : List Transmitter → Option Files → Result (Unit {0}) WriteNo → Option Files → Type 0
+IsBegunOf ts start (Ok _) now = now ≡ with_outputs (files_of nothing ts) start
+IsBegunOf ts start (Err _) now = ArePartWritten (files_of nothing ts) start now
+
+-- Where a schedule was broken off: while the files were begun, or in the midst of a step. So there is one number of steps, and each file
+-- holds what those give, and a front part of what the next gives.
+abbrev pub IsBrokenOff : List Transmitter → List Step → Files → Option Files → Type 0
+IsBrokenOff ts steps held now = ArePartWritten (files_of nothing ts) (Some held) now ⊎ IsUnderWay ts steps held now
+
+-- a fault was met, and of what the steps write a front part stands
+pub record IsPlayFault (ts : List Transmitter) (steps : List Step) (held : Files) (status : Status) (now : Option Files) : Type 0 where
+  pub fault : IsFault status
+  pub part : ArePartWritten (played_outputs ts steps) (Some held) now
+  pub off : IsBrokenOff ts steps held now
+
+-- all steps were done
+pub record ArePlayed (ts : List Transmitter) (steps : List Step) (held : Files) (played : Played) (now : Option Files) : Type 0 where
+  pub files : now ≡ with_outputs (played_outputs ts steps) (Some held)
+  pub staged : IsStaged ts played.stage steps
+
+-- What beginning the files and playing a schedule of these steps into them leaves.
+abbrev pub IsRunOf : List Transmitter → List Step → Files → Result (Unit {0}) Status → Stage → Option Files → Type 0
+IsRunOf ts steps held (Ok _) stage now = IsPlayedSoFar ts steps held stage now
+IsRunOf ts steps held (Err status) stage now = IsPlayFault ts steps held status now
+
+-- What playing a schedule of these steps answers and leaves of the files that were held before.
+abbrev pub IsPlayOf : List Transmitter → List Step → Files → Result Played Status → Option Files → Type 0
+IsPlayOf ts steps held (Ok played) now = ArePlayed ts steps held played now
+IsPlayOf ts steps held (Err status) now = IsPlayFault ts steps held status now

@@ -1,0 +1,80 @@
+-- How far a schedule is played, and what each part of playing it leaves.
+use Rattle.std.specs.Prelude.{◌≡◌, ℕ, ◌<◌, ◌≤◌, ◌++◌, Option, Some, Result, Ok, Err, List, length, map, take}
+use Rattle.dtx_outside.specs.Shelf.{Files}
+use Rattle.dtx_outside.specs.declared.shelf.WriteNo.{WriteNo}
+use Rattle.dtx_meaning.specs.Meaning.{with_outputs}
+use Rattle.dtx_meaning.specs.Status.{IsFault}
+use Rattle.dtx_meaning.specs.declared.status.Status.{Status}
+use Rattle.dtx_meaning.specs.declared.status.Status.TheVariants.{Absent, ReadFault, Memory, TooLong}
+use Rattle.dtx_packets.specs.declared.packet.Packet as packet
+use Rattle.dtx_packets.specs.declared.refusal.NextNo.{NextNo}
+use Rattle.dtx_packets.specs.declared.refusal.NextNo.TheVariants as next
+use Rattle.dtx_packets.specs.Packets.{packet_at, packets_from}
+use Rattle.dtx_plan.specs.declared.transmitter.Transmitter.{Transmitter}
+use Rattle.dtx_net.specs.Steps.{Step, packet_step}
+use Rattle.dtx_schedule.specs.declared.stage.Stage.{Stage}
+use Rattle.dtx_schedule.specs.TransmitterFiles.{AreFronts, Contents, files_of, played, played_outputs}
+use Rattle.dtx_schedule.specs.Staged.{IsStaged}
+
+-- so many packets are given to the transmitter at a place, in order
+abbrev pub packet_steps : ℕ → List (List ℕ) → List Step
+packet_steps who packets = map (packet_step who) packets
+
+-- these steps were done with the stage, and the files are those of them
+pub record IsPlayedSoFar (ts : List Transmitter) (steps : List Step) (held : Files) (stage : Stage) (now : Option Files) : Type 0 where
+  pub staged : IsStaged ts stage steps
+  pub files : now ≡ with_outputs (played_outputs ts steps) (Some held)
+
+-- The first of these steps are done, and at most one more is under way: each file of a transmitter has all that those give, and no more
+-- than that one gives too.
+pub record IsUnderWay (ts : List Transmitter) (steps : List Step) (held : Files) (now : Option Files) : Type 0 where
+  pub done : List Step
+  pub next : List Step
+  pub rest : List Step
+  pub whole : done ++ (next ++ rest) ≡ steps
+  pub one : length next ≤ 1
+  pub contents : Contents
+  pub least : AreFronts ts (played done) contents
+  pub most : AreFronts ts contents (played (done ++ next))
+  pub files : now ≡ with_outputs (files_of contents ts) (Some held)
+
+-- what doing leaves that was to bring the steps to these: they are done; or a fault was met, and one of them is under way
+abbrev pub IsDoneOf : List Transmitter → List Step → Files → Result (Unit {0}) Status → Stage → Option Files → Type 0
+IsDoneOf ts steps held (Ok _) stage now = IsPlayedSoFar ts steps held stage now
+IsDoneOf ts steps held (Err status) stage now = IsFault status × IsUnderWay ts steps held now
+
+-- what writing what one step brings leaves
+abbrev pub IsWrittenOf : List Transmitter → List Step → Files → Result (Unit {0}) WriteNo → Option Files → Type 0
+IsWrittenOf ts steps held (Ok _) now = now ≡ with_outputs (played_outputs ts steps) (Some held)
+IsWrittenOf ts steps held (Err _) now = IsUnderWay ts steps held now
+
+-- the status after a refusal to read the feed, which is input 2
+abbrev pub of_next : NextNo → Status
+of_next next.Absent = Absent 2
+of_next next.Failed = ReadFault
+of_next next.Memory = Memory
+of_next next.TooLong = TooLong
+
+-- what reading one packet of a feed answers that has it
+abbrev pub IsPacketOf : List ℕ → ℕ → Result packet.Packet Status → Type 0
+IsPacketOf feed from (Ok packet) = packet.0 ≡ packet_at feed from
+IsPacketOf feed from (Err status) = IsFault status
+
+-- what reading the packets of a feed that begin with one answers and puts at the front of the places, where it has that one
+abbrev pub IsPieceOf : List ℕ → ℕ → Result ℕ Status → List packet.Packet → Type 0
+IsPieceOf feed from (Ok n) into = map (λ p. p.0) (take n into) ≡ packets_from feed from n
+IsPieceOf feed from (Err status) into = IsFault status
+
+-- how many packets were read of a part of so many, at the front of the places
+pub record IsPieceCount (count : ℕ) (into : List packet.Packet) (n : ℕ) : Type 0 where
+  pub some : 0 < n
+  pub fits : n ≤ length into
+  pub within : n ≤ count
+
+-- what giving the first packets of a part, which begins with a packet of the feed, leaves: so many more are given; or a fault was met while
+-- one of all packets of the part was
+abbrev pub IsGivenOf : List Transmitter → List Step → ℕ → List ℕ → ℕ → ℕ → Files → Result ℕ Status → Stage → Option Files → Type 0
+IsGivenOf ts before who feed from count held (Ok n) stage now =
+    IsPlayedSoFar ts (before ++ packet_steps who (packets_from feed from n)) held stage now
+IsGivenOf ts before who feed from count held (Err status) stage now =
+    IsFault status × IsUnderWay ts (before ++ packet_steps who (packets_from feed from count)) held now

@@ -1,0 +1,52 @@
+-- The files of the transmitters of a network (the profile's own).
+use Rattle.std.specs.Prelude.{◌≡◌, ℕ, suc, Some, List, [], ◌∷◌, slice_get}
+use Rattle.std.specs.List.{flat_map}
+use Rattle.dtx_meaning.specs.Meaning.{Outputs, IsFrontOf}
+use Rattle.dtx_plan.specs.declared.transmitter.Transmitter.{Transmitter}
+use Rattle.dtx_files.specs.Symbols.{segment_bytes}
+use Rattle.dtx_files.specs.LogText.{log_text}
+use Rattle.dtx_words.specs.NetworkNames.{symbol_name, log_name}
+use Rattle.dtx_net.specs.Steps.{Step}
+use Rattle.dtx_net.specs.Sent.{segments_of, lines_of}
+
+-- the symbol file of the transmitter t, which stands at a place of the plan's list, over the steps of all: what it sends
+unfoldable pub symbol_file : Transmitter → ℕ → List Step → List ℕ
+symbol_file t who steps = segment_bytes (segments_of t who steps)
+
+-- its log
+unfoldable pub log_file : Transmitter → ℕ → List Step → List ℕ
+log_file t who steps = log_text (lines_of t who steps)
+
+-- the names of the two files of each transmitter, in the plan's order
+abbrev pub transmitter_names : List Transmitter → List (List ℕ)
+transmitter_names ts = flat_map (λ t. symbol_name t.address ∷ log_name t.address ∷ []) ts
+
+-- ---- what the two files of each transmitter hold
+
+-- what they hold, by the place of the transmitter in the plan's list: its symbols, and its log
+abbrev pub Contents : Type 0
+Contents = ℕ → Transmitter → List ℕ × List ℕ
+
+-- these as outputs: the symbol file and then the log of each transmitter, in the plan's order
+abbrev pub files_of : Contents → List Transmitter → Outputs
+files_of contents [] = []
+files_of contents (t ∷ ts) =
+    (symbol_name t.address, (contents 0 t).0) ∷ (log_name t.address, (contents 0 t).1) ∷ files_of (λ who. contents (suc who)) ts
+
+-- each file has a front part of what it has by another account
+abbrev pub AreFronts : List Transmitter → Contents → Contents → Type 0
+AreFronts ts fewer more =
+    (who : ℕ) (t : Transmitter) → slice_get ts who ≡ Some t
+    → IsFrontOf (fewer who t).0 (more who t).0 × IsFrontOf (fewer who t).1 (more who t).1
+
+-- nothing
+abbrev pub nothing : Contents
+nothing who t = ([], [])
+
+-- what each transmitter sends over the steps of all, and what is logged of it
+abbrev pub played : List Step → Contents
+played steps who t = (symbol_file t who steps, log_file t who steps)
+
+-- what a schedule of these steps writes
+abbrev pub played_outputs : List Transmitter → List Step → Outputs
+played_outputs ts steps = files_of (played steps) ts

@@ -1,0 +1,168 @@
+// One event of a schedule, done step by step.
+ghost use Rattle.std.specs.Prelude.{◌≡◌, ◌+◌, ◌<◌, ◌≤◌, ◌^◌, ◌++◌, ℕ, List, Some, false, IfOk, IsOk, length};
+ghost use Rattle.std.specs.FinMap as files;
+ghost use Rattle.dtx_outside.specs.Counts.{HasGone};
+ghost use Rattle.dtx_outside.specs.Shelf.{Files};
+ghost use Rattle.dtx_meaning.specs.Status.{blame_of_answer};
+ghost use Rattle.dtx_packets.specs.Packets.{most_packets, packets_from, packets_of, whole_packets};
+ghost use Rattle.dtx_net.specs.Steps.{Step, place_of, steps_of};
+ghost use Rattle.dtx_plan.specs.Sound.{IsInRange, IsPart, to_of};
+ghost use Rattle.dtx_plan.specs.declared.transmitter.Transmitter.{Transmitter};
+ghost use Rattle.dtx_words.specs.NetworkNames.{feed_name};
+ghost use Rattle.dtx_schedule.specs.Inside.{reads_past};
+ghost use Rattle.dtx_schedule.specs.PlayedSoFar.{IsDoneOf, IsGivenOf, IsPlayedSoFar, packet_steps};
+ghost use Rattle.dtx_schedule.specs.Staged.{HasTransmitter, IsSomeStage};
+
+use crate::giving::{MadePart, give_all, give_made};
+use crate::part::{Part, read_one, read_piece};
+use crate::stage::Stage;
+use dtx_meaning::Status;
+use dtx_net::flipped;
+use dtx_outside::Shelf;
+use dtx_packets::{PIECE_PACKETS, Packet};
+use dtx_plan::Event;
+
+/// Does the steps of the event of a number, with room for the packets of a piece.
+pub(crate) fn play_event<S: Shelf>(
+    shelf: &mut S,
+    number: u32,
+    event: &Event,
+    packets: &mut [Packet],
+    stage: &mut Stage,
+) -> Result<(), Status>
+    requires room { length packets.old ≡ PIECE_PACKETS }
+    requires event { IsInRange event.now }
+    requires some { IsSomeStage stage.old }
+    requires most { stage.old.steps + most_packets ≤ 2 ^ 60 }
+    ensures done { (ts : List Transmitter) (held : Files) (before : List Step) (feed : List ℕ) → files.get held feed_name ≡ Some feed
+        → reads_past (whole_packets feed) event.now ≡ false → IsPlayedSoFar ts before held stage.old (S.files shelf.old)
+        → IsDoneOf ts (before ++ steps_of ts (packets_of feed) event.now) held result stage.new (S.files shelf.new) }
+    ensures some { IsOk result → IsSomeStage stage.new }
+    ensures steps { IsOk result → stage.new.steps ≤ stage.old.steps + most_packets }
+    ensures gone { HasGone (S.counts shelf.old) (S.counts shelf.new) (blame_of_answer result) }
+{
+    // An event's transmitter is one of the plan's, so there is a place.
+    match stage.find(to_of(event)) {
+        Some(who) => play_at(shelf, who, number, event, packets, stage),
+        None => Ok(()),
+    }
+}
+
+/// Does the steps of the event of a number with the transmitter at a place.
+fn play_at<S: Shelf>(
+    shelf: &mut S,
+    who: usize,
+    number: u32,
+    event: &Event,
+    packets: &mut [Packet],
+    stage: &mut Stage,
+) -> Result<(), Status>
+    requires room { length packets.old ≡ PIECE_PACKETS }
+    requires event { IsInRange event.now }
+    requires there { HasTransmitter who stage.old }
+    requires most { stage.old.steps + most_packets ≤ 2 ^ 60 }
+    ensures done { (ts : List Transmitter) (held : Files) (before : List Step) (feed : List ℕ) → files.get held feed_name ≡ Some feed
+        → place_of (to_of event.now) ts ≡ Some who
+        → reads_past (whole_packets feed) event.now ≡ false → IsPlayedSoFar ts before held stage.old (S.files shelf.old)
+        → IsDoneOf ts (before ++ steps_of ts (packets_of feed) event.now) held result stage.new (S.files shelf.new) }
+    ensures there { IsOk result → HasTransmitter who stage.new }
+    ensures steps { IsOk result → stage.new.steps ≤ stage.old.steps + most_packets }
+    ensures gone { HasGone (S.counts shelf.old) (S.counts shelf.new) (blame_of_answer result) }
+{
+    match *event {
+        Event::Send { from, count, .. } => {
+            let part = Part {
+                event: number,
+                from,
+                count,
+            };
+            send(shelf, who, &part, packets, stage)
+        }
+        Event::Foreign {
+            seed,
+            from,
+            count,
+            ..
+        } => give_made(shelf, who, &MadePart { seed, from, count }, stage),
+        Event::Flip { from, at, with, .. } => {
+            let packet = read_one(shelf, number, from)?;
+            stage.give(shelf, who, &flipped(&packet, at, with))
+        }
+        Event::Lie { from, states, .. } => {
+            let packet = read_one(shelf, number, from)?;
+            let lied = stage.liar.lied(&packet, &states);
+            stage.give(shelf, who, &lied)
+        }
+        Event::Restart { .. } => stage.restart(shelf, who),
+    }
+}
+
+/// The address of the transmitter with which the event does something.
+fn to_of(event: &Event) -> u16
+    ensures { result ≡ to_of event.now }
+{
+    match *event {
+        Event::Send { to, .. }
+        | Event::Foreign { to, .. }
+        | Event::Flip { to, .. }
+        | Event::Lie { to, .. }
+        | Event::Restart { to } => to,
+    }
+}
+
+/// Gives the transmitter at a place the packets of a part, read piece by piece.
+fn send<S: Shelf>(
+    shelf: &mut S,
+    who: usize,
+    part: &Part,
+    packets: &mut [Packet],
+    stage: &mut Stage,
+) -> Result<(), Status>
+    requires room { length packets.old ≡ PIECE_PACKETS }
+    requires there { HasTransmitter who stage.old }
+    requires part { IsPart part.now.from part.now.count }
+    requires most { stage.old.steps + part.now.count ≤ 2 ^ 60 }
+    ensures done { (ts : List Transmitter) (held : Files) (before : List Step) (feed : List ℕ) → files.get held feed_name ≡ Some feed
+        → part.now.from + part.now.count ≤ whole_packets feed → IsPlayedSoFar ts before held stage.old (S.files shelf.old)
+        → IsDoneOf ts (before ++ packet_steps who (packets_from feed part.now.from part.now.count)) held
+        result stage.new (S.files shelf.new) }
+    ensures there { IsOk result → HasTransmitter who stage.new }
+    ensures steps { IsOk result → stage.new.steps ≡ stage.old.steps + part.now.count }
+    ensures gone { HasGone (S.counts shelf.old) (S.counts shelf.new) (blame_of_answer result) }
+{
+    let mut given = 0;
+    while given < part.count {
+        let rest = Part {
+            event: part.event,
+            from: part.from + given,
+            count: part.count - given,
+        };
+        let count = send_piece(shelf, who, &rest, packets, stage)?;
+        given += count;
+    }
+    Ok(())
+}
+
+/// Gives the transmitter at a place the first packets of a part, as many as there are places or fewer, and answers how many they are.
+fn send_piece<S: Shelf>(
+    shelf: &mut S,
+    who: usize,
+    part: &Part,
+    packets: &mut [Packet],
+    stage: &mut Stage,
+) -> Result<u64, Status>
+    requires room { length packets.old ≡ PIECE_PACKETS }
+    requires there { HasTransmitter who stage.old }
+    requires part { IsPart part.now.from part.now.count }
+    requires most { stage.old.steps + part.now.count ≤ 2 ^ 60 }
+    ensures done { (ts : List Transmitter) (held : Files) (before : List Step) (feed : List ℕ) → files.get held feed_name ≡ Some feed
+        → part.now.from < whole_packets feed → IsPlayedSoFar ts before held stage.old (S.files shelf.old)
+        → IsGivenOf ts before who feed part.now.from part.now.count held result stage.new (S.files shelf.new) }
+    ensures count { IfOk result (λ n. (0 < n) × (n ≤ part.now.count) × (stage.new.steps ≡ stage.old.steps + n)) }
+    ensures there { IsOk result → HasTransmitter who stage.new }
+    ensures gone { HasGone (S.counts shelf.old) (S.counts shelf.new) (blame_of_answer result) }
+{
+    let count = read_piece(shelf, part, packets)?;
+    give_all(shelf, who, &packets[..count], stage)?;
+    Ok(count as u64)
+}

@@ -1,0 +1,14 @@
+//! The schedule of a network, played step by step into the files of its transmitters.
+#![tactic(auto)]
+
+mod beginning;
+mod event;
+mod giving;
+mod inside;
+mod pair;
+mod part;
+mod playing;
+mod stage;
+
+pub use inside::first_past_feed;
+pub use playing::{Played, play};

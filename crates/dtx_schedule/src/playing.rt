@@ -1,0 +1,123 @@
+// A schedule, played step by step.
+ghost use Rattle.std.specs.Prelude.{◌≡◌, ◌≤◌, ℕ, [], List, None, Some, length, slice_index};
+ghost use Rattle.std.specs.FinMap as files;
+ghost use Rattle.dtx_outside.specs.Counts.{HasGone};
+ghost use Rattle.dtx_outside.specs.Shelf.{Files};
+ghost use Rattle.dtx_meaning.specs.Meaning.{with_outputs};
+ghost use Rattle.dtx_meaning.specs.Status.{blame_of_answer};
+ghost use Rattle.dtx_packets.specs.Packets.{most_packets, packets_of, whole_packets};
+ghost use Rattle.dtx_net.specs.Sent.{segments_of};
+ghost use Rattle.dtx_net.specs.Steps.{Step, place_of, schedule};
+ghost use Rattle.dtx_plan.specs.Sound.{AreTransmitters};
+ghost use Rattle.dtx_plan.specs.declared.transmitter.Transmitter.{Transmitter};
+ghost use Rattle.dtx_words.specs.NetworkNames.{feed_name};
+ghost use Rattle.dtx_schedule.specs.Inside.{first_past_feed};
+ghost use Rattle.dtx_schedule.specs.Played.{AreEvents, AreInRange, IsPlayOf, IsRunOf};
+ghost use Rattle.dtx_schedule.specs.PlayedSoFar.{IsDoneOf, IsPlayedSoFar};
+ghost use Rattle.dtx_schedule.specs.Staged.{IsSomeStage, IsStaged, packets_given, SentBy};
+
+use crate::beginning::begin_files;
+use crate::event::play_event;
+use crate::stage::Stage;
+use dtx_meaning::Status;
+use dtx_outside::Shelf;
+use dtx_packets::{PACKET, PIECE_PACKETS, Packet};
+use dtx_plan::{Events, Transmitter};
+use std::alloc::Global;
+
+/// What came of a schedule: its numbers.
+#[derive(Drop)]
+pub struct Played {
+    stage: Stage,
+}
+
+impl Played {
+    /// How many packets were given: the steps but for the restarts.
+    pub fn steps(&self) -> u64
+        ensures { (ts : List Transmitter) (steps : List Step) → IsStaged ts self.now.stage steps → result ≡ packets_given steps }
+    {
+        self.stage.steps
+    }
+
+    /// How many segments the transmitter of that address has sent.
+    pub fn sent(&self, address: u16) -> u64
+        ensures { (ts : List Transmitter) (steps : List Step) → IsStaged ts self.now.stage steps → SentBy address ts steps result }
+    {
+        match self.stage.find(address) {
+            Some(who) => count_at(&self.stage.sent, who),
+            None => 0,
+        }
+    }
+}
+
+/// The count at a place, or 0 where there is none.
+fn count_at(counts: &[u64], place: usize) -> u64
+    ensures { result ≡ slice_index counts.now place }
+{
+    match counts.get(place) {
+        Some(count) => *count,
+        None => 0,
+    }
+}
+
+/// Plays the events of a plan over the feed, which stands in `net.feed`, into the files `tx-A.sym` and `tx-A.log` of each transmitter, A
+/// being its address: step by step, each with the packet or the restart that the event gives its transmitter (the profile's own). All
+/// memory is taken before a file is begun. The symbols of a step and then its line are appended before the next step begins.
+pub fn play<S: Shelf>(
+    alloc: Global,
+    shelf: &mut S,
+    transmitters: &[Transmitter],
+    events: &Events,
+) -> Result<Played, Status>
+    requires transmitters { AreTransmitters transmitters.now }
+    requires events { AreEvents transmitters.now events.now }
+    ensures played { (held : Files) (feed : List ℕ) → S.files shelf.old ≡ Some held → files.get held feed_name ≡ Some feed
+        → first_past_feed events.now (whole_packets feed) ≡ None
+        → IsPlayOf transmitters.now (schedule transmitters.now (packets_of feed) events.now) held result (S.files shelf.new) }
+    ensures gone { HasGone (S.counts shelf.old) (S.counts shelf.new) (blame_of_answer result) }
+{
+    let mut stage = Stage::new(alloc, transmitters)?;
+    let mut packets = vec![in alloc; Packet([0; PACKET]); PIECE_PACKETS]?;
+    run(shelf, events, &mut packets, &mut stage)?;
+    Ok(Played { stage })
+}
+
+/// Begins the files of the transmitters, and plays the events into them.
+fn run<S: Shelf>(
+    shelf: &mut S,
+    events: &Events,
+    packets: &mut [Packet],
+    stage: &mut Stage,
+) -> Result<(), Status>
+    requires room { length packets.old ≡ PIECE_PACKETS }
+    requires events { AreInRange events.now }
+    requires staged { (ts : List Transmitter) × IsStaged ts stage.old [] }
+    ensures run { (ts : List Transmitter) (held : Files) (feed : List ℕ) → IsStaged ts stage.old [] → S.files shelf.old ≡ Some held
+        → files.get held feed_name ≡ Some feed → first_past_feed events.now (whole_packets feed) ≡ None
+        → IsRunOf ts (schedule ts (packets_of feed) events.now) held result stage.new (S.files shelf.new) }
+    ensures gone { HasGone (S.counts shelf.old) (S.counts shelf.new) (blame_of_answer result) }
+{
+    begin_files(shelf, &stage.names)?;
+    play_events(shelf, events, packets, stage)
+}
+
+/// Plays the events into the files of the transmitters, which were begun.
+fn play_events<S: Shelf>(
+    shelf: &mut S,
+    events: &Events,
+    packets: &mut [Packet],
+    stage: &mut Stage,
+) -> Result<(), Status>
+    requires room { length packets.old ≡ PIECE_PACKETS }
+    requires events { AreInRange events.now }
+    requires staged { (ts : List Transmitter) × IsStaged ts stage.old [] }
+    ensures done { (ts : List Transmitter) (held : Files) (feed : List ℕ) → files.get held feed_name ≡ Some feed
+        → first_past_feed events.now (whole_packets feed) ≡ None → IsPlayedSoFar ts [] held stage.old (S.files shelf.old)
+        → IsDoneOf ts (schedule ts (packets_of feed) events.now) held result stage.new (S.files shelf.new) }
+    ensures gone { HasGone (S.counts shelf.old) (S.counts shelf.new) (blame_of_answer result) }
+{
+    for i in 0..events.len() {
+        play_event(shelf, i as u32, &events.get(i), packets, stage)?;
+    }
+    Ok(())
+}
