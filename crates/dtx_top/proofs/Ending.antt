@@ -82,11 +82,11 @@ unprinted_of m start now outcome (Err sink.Memory) before after first last is go
 unprinted_of m start now outcome (Err sink.Failed) before after first last is gone counted fault none =
     elim (finished_failed outcome.status) [
       | inl done ↦ (let whole = whole_of_carried m start now outcome is (λ fault. not_done outcome.status done fault) in record {
-          answer = fault;
-          cause = counted.risen;
-          done = sym (ap (λ (o : Outcome). o.status) whole.answer) ∙ done;
-          files = whole.files;
-        })
+        answer = fault;
+        cause = counted.risen;
+        done = sym (ap (λ (o : Outcome). o.status) whole.answer) ∙ done;
+        files = whole.files;
+      })
       | inr same ↦ absurd (none (let P : Status → Type 0 = λ s. HasGone before after (blame_of s) in
           subst P (sym same ∙ fault) gone).risen)
     ]
@@ -96,7 +96,7 @@ pub unprinted_told : (means : Files → Meaning) (told now : Option Files) (outc
     (before after : Counts) (first last : ℕ) → IfSome told (λ held. IsCarriedOut (means held) (Some held) outcome now)
     → HasGone before after (blame_of outcome.status) → IsCounted first line last
     → IfSome told (λ held. finished outcome.status line ≡ WriteFault → ¬ Rose before.write_faults after.write_faults
-        → IsUnprinted (means held) (Some held) (finished outcome.status line) (Rose first last) now)
+    → IsUnprinted (means held) (Some held) (finished outcome.status line) (Rose first last) now)
 unprinted_told means None now outcome line before after first last is gone counted = tt
 unprinted_told means (Some held) now outcome line before after first last is gone counted = λ fault none.
     unprinted_of (means held) (Some held) now outcome line before after first last is gone counted fault none

@@ -9,9 +9,9 @@ ghost use Rattle.dtx_top.specs.Lines.{name_kept, HasLine, IsSomeLine, IsToldLine
 ghost use Rattle.dtx_top.specs.Means.{means};
 
 use crate::performing::perform;
-use crate::stand::NetOutcome;
 use dtx_meaning::Status;
 use dtx_outside::{Shelf, Sink, Word};
+use dtx_replay::NetOutcome;
 use dtx_words::{Command, command, finish, line, name_in_line};
 use std::alloc::Global;
 
