@@ -2,7 +2,6 @@
 #![tactic(auto)]
 
 mod adapt_command;
-mod damaged;
 mod feeder;
 mod hurt_command;
 pub mod laws;
@@ -31,7 +30,6 @@ pub mod symbol_laws;
 mod tally;
 
 pub use adapt_command::adapt;
-pub use damaged::Damaged;
 pub use feeder::Feeder;
 pub use hurt_command::hurt;
 pub use make_command::make;

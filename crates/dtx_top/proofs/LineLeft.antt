@@ -37,6 +37,7 @@ whole_line IsLine Memory text unprinted old new is e = (
     part = e ∙ ap (λ z. printed z old) (sym (take-length text));
   },
 )
+whole_line IsLine Done text unprinted old new is e = record { text = text; line = is; whole = e }
 whole_line IsLine status text unprinted old new is e = inl (record { text = text; line = is; whole = e })
 
 part_of_put : (IsLine : Status → List ℕ → Type 0) (status : Status) (text : List ℕ) (cause : SinkNo)

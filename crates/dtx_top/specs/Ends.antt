@@ -6,7 +6,7 @@ use Rattle.dtx_meaning.specs.declared.status.Status.{Status}
 use Rattle.dtx_meaning.specs.declared.status.Status.TheVariants.{Done, Usage, Absent, ReadFault, WriteFault, Memory}
 use Rattle.dtx_words.specs.declared.rows.Command.{Command}
 use Rattle.dtx_words.specs.declared.rows.Command.TheVariants.{Net}
-use Rattle.dtx_top.specs.Stand.{HasHeadline}
+use Rattle.dtx_replay.specs.HeadlineOfFiles.{HasHeadline}
 
 -- The cause of an answer, of the counts of the shelf and of that of the sink. On `Done` all stand, so no fault was met.
 -- `WriteFault` is also answered where the line of `Done` could not be printed; want of memory may be met behind a

@@ -10,7 +10,7 @@ use Rattle.dtx_words.specs.Printed.{printed}
 use Rattle.dtx_words.specs.declared.rows.Command.{Command}
 use Rattle.dtx_words.specs.declared.rows.Command.TheVariants.{Net}
 use Rattle.dtx_top.specs.Means.{means_of}
-use Rattle.dtx_top.specs.Stand.{net_names, plan_word, told_name, IsUntoldName}
+use Rattle.dtx_replay.specs.NetNames.{net_names, plan_word, told_name, IsUntoldName}
 
 -- ---- which line
 
@@ -59,9 +59,10 @@ pub record HasPartLine (IsLine : Status → List ℕ → Type 0) (status : Statu
   pub within : bytes ≤ length text
   pub part : new ≡ printed (take bytes text) old
 
--- What a call printed, which ended so: the whole line of its answer, or where the sink failed a front part of it, for
--- WriteFault also of the line of Done; after Memory a front part of some line.
+-- What a call printed, which ended so: the whole line of its answer; or where the sink failed a front part of it, for
+-- WriteFault also of the line of Done, and for Done never; after Memory a front part of some line.
 abbrev pub HasLine : (Status → List ℕ → Type 0) → Status → Type 0 → Option (List ℕ) → Option (List ℕ) → Type 0
+HasLine IsLine Done unprinted old new = HasWholeLine IsLine Done old new
 HasLine IsLine Memory unprinted old new = (status : Status) × HasPartLine IsLine status old new
 HasLine IsLine WriteFault unprinted old new =
     HasWholeLine IsLine WriteFault old new

@@ -2,7 +2,6 @@
 #![tactic(auto)]
 
 mod performing;
-mod stand;
 mod top;
 
 pub use dtx_meaning::Status;

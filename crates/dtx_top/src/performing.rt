@@ -8,12 +8,12 @@ ghost use Rattle.dtx_top.specs.Ends.{HasHeadlineOf};
 ghost use Rattle.dtx_top.specs.Lines.{name_kept, names_told, IsSomeName};
 ghost use Rattle.dtx_top.specs.Means.{means_of};
 
-use crate::stand::{NetOutcome, net};
 use arrayvec::ArrayString;
 use dtx_jobs::{adapt, code, excite, hurt, make, receive};
 use dtx_meaning::{Outcome, Status, ended};
 use dtx_outside::{Shelf, Word};
-use dtx_words::{Command, name_in_line};
+use dtx_replay::{NetOutcome, net};
+use dtx_words::Command;
 use std::alloc::Global;
 
 /// Does that command, whose words these are, but for its line.

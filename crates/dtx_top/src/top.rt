@@ -2,16 +2,16 @@
 ghost use Rattle.std.specs.Prelude.{◌≡◌, ◌⊎◌, ℕ, List, None, Some, IfSome};
 ghost use Rattle.dtx_outside.specs.Counts.{Rose};
 ghost use Rattle.dtx_outside.specs.Shelf.{IsSameAt};
-ghost use Rattle.dtx_meaning.specs.Meaning.{IsDone, IsNoOutput};
+ghost use Rattle.dtx_meaning.specs.Meaning.{IsDone, IsNoOutput, IsUnprinted};
 ghost use Rattle.dtx_words.specs.Fitting.{command_of};
 ghost use Rattle.dtx_top.specs.Ends.{HasEnded, HasHeadlineOf, IsFaultless, IsUsage};
 ghost use Rattle.dtx_top.specs.Lines.{name_kept, HasLine, IsSomeLine, IsToldLine};
 ghost use Rattle.dtx_top.specs.Means.{means};
 
 use crate::performing::perform;
-use crate::stand::NetOutcome;
 use dtx_meaning::Status;
 use dtx_outside::{Shelf, Sink, Word};
+use dtx_replay::NetOutcome;
 use dtx_words::{Command, command, finish, line, name_in_line};
 use std::alloc::Global;
 
@@ -56,6 +56,11 @@ pub fn run<S: Shelf, O: Sink>(alloc: Global, words: &[Word], shelf: &mut S, out:
     // printed.
     ensures carried { IfSome (S.files shelf.old) (λ held. IsDone (means words.now held) (Some held) result
         (Rose (O.faults out.old) (O.faults out.new)) (S.files shelf.new)) }
+
+    // Where no fault of writing is counted, `WriteFault` says that all was done, and the line alone could not be printed.
+    ensures unprinted { IfSome (S.files shelf.old) (λ held. result ≡ Status.WriteFault
+        → ¬ Rose (S.counts shelf.old).write_faults (S.counts shelf.new).write_faults
+        → IsUnprinted (means words.now held) (Some held) result (Rose (O.faults out.old) (O.faults out.new)) (S.files shelf.new)) }
 
     // The line is that of the answer, with the names and the numbers of the meaning, and the last thing that is
     // written.
