@@ -4,7 +4,7 @@ use Rattle.std.specs.Prelude.{Option, Some, Result, Ok, Err, slice_get}
 use Rattle.std.proofs.lemmas.Option.{same_Some}
 use Rattle.dtx_meaning.specs.Meaning.{IsFrontOf, with_outputs}
 use Rattle.dtx_net.specs.Steps.{Step, place_of}
-use Rattle.dtx_net.proofs.PlaceOf.{place_only}
+use Rattle.dtx_net.specs.PlaceOfLaws.{place_only}
 use Rattle.dtx_outside.specs.Shelf.{Files}
 use Rattle.dtx_outside.specs.declared.shelf.WriteNo.{WriteNo}
 use Rattle.dtx_plan.specs.Sound.{AreTransmitters}

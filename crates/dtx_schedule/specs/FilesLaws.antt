@@ -8,7 +8,7 @@ use Rattle.dtx_outside.specs.Laws.{get-insert_same, get-insert_other, insert-ins
 use Rattle.dtx_outside.specs.Shelf.{Files, with_file}
 use Rattle.dtx_meaning.specs.Meaning.{Outputs, IsNoOutput, with_outputs}
 use Rattle.dtx_net.specs.Steps.{place_of}
-use Rattle.dtx_net.proofs.PlaceOf.{place_only}
+use Rattle.dtx_net.specs.PlaceOfLaws.{place_only}
 use Rattle.dtx_plan.specs.Sound.{AreTransmitters}
 use Rattle.dtx_plan.specs.declared.transmitter.Transmitter.{Transmitter}
 use Rattle.dtx_words.specs.NetworkNames.{symbol_name, log_name}

@@ -1,5 +1,5 @@
 use Rattle.std.proofs.Common.{sym, subst}
-use Rattle.dtx_receiver.proofs.Intervals.{no_runs}
+use Rattle.dtx_receiver.specs.IntervalsLaws.{no_runs}
 use Rattle.dtx_receiver.specs.Intervals.{NoneLooks}
 use Rattle.dtx_jobs.specs.ReceivedLaws.{no_sync_answered, nothing_received}
 use Rattle.dtx_jobs.specs.SymbolFile.{segments_of}
