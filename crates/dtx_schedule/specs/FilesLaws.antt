@@ -12,7 +12,7 @@ use Rattle.dtx_net.specs.PlaceOfLaws.{place_only}
 use Rattle.dtx_plan.specs.Sound.{AreTransmitters}
 use Rattle.dtx_plan.specs.declared.transmitter.Transmitter.{Transmitter}
 use Rattle.dtx_words.specs.NetworkNames.{symbol_name, log_name}
-use Rattle.dtx_words.proofs.NetworkNames.{symbols_differ, logs_differ, symbols_no_logs}
+use Rattle.dtx_words.specs.NetworkNamesLaws.{symbols_differ, logs_differ, symbols_no_logs}
 use Rattle.dtx_schedule.specs.Pair.{HasPair, with_pair}
 use Rattle.dtx_schedule.specs.TransmitterFiles.{Contents, files_of}
 
