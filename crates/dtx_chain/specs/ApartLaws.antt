@@ -68,35 +68,36 @@ other_differs p l e =
 
 -- ---- their codewords
 
-abbrev word : ℕ → List ℕ → List ℕ
-word k p = codeword 207 187 (randomized k p)
+-- the codeword of the packet p as packet k of a stream
+abbrev pub code_of : ℕ → List ℕ → List ℕ
+code_of k p = codeword 207 187 (randomized k p)
 
 pub length-code : (k : ℕ) (p : List ℕ) → length (codeword 207 187 (randomized k p)) ≡ 207
 length-code k p = codeword_length 207 187 (randomized k p) ∙ ap (λ (n : ℕ). n + 20) (length-randomized k p)
 
 byte_at : (k i : ℕ) (p : List ℕ) → i < 187
-    → get_or (word k p) i 0 ≡ bit_xor (get_or p (1 + i) 0) (randomizer_byte (187 * (k % 312) + i))
+    → get_or (code_of k p) i 0 ≡ bit_xor (get_or p (1 + i) 0) (randomizer_byte (187 * (k % 312) + i))
 unfolding randomized
 byte_at k i p m =
-    sym (get_or-take 187 (word k p) i 0 m)
+    sym (get_or-take 187 (code_of k p) i 0 m)
     ∙ ap (λ (x : List ℕ). get_or x i 0) (codeword_begins 207 187 (randomized k p) (length-randomized k p))
     ∙ get_or-map-range_with_len (λ j. bit_xor (get_or p (1 + j) 0) (randomizer_byte (187 * (k % 312) + j))) 0 187 i i 0
     m (omega arith)
 
-front_same : (k : ℕ) (p : List ℕ) → length p ≡ 188 → take 186 (word k (other_last p)) ≡ take 186 (word k p)
+front_same : (k : ℕ) (p : List ℕ) → length p ≡ 188 → take 186 (code_of k (other_last p)) ≡ take 186 (code_of k p)
 front_same k p l =
     let q : List ℕ = other_last p in
-    let long : length (take 186 (word k q)) ≡ 186 =
-    length-take-le 186 (word k q) (omega (arith, length-code k q)) in
-    ext_get_or 0 (take 186 (word k q)) (take 186 (word k p))
-    (long ∙ sym (length-take-le 186 (word k p) (omega (arith, length-code k p))))
+    let long : length (take 186 (code_of k q)) ≡ 186 =
+    length-take-le 186 (code_of k q) (omega (arith, length-code k q)) in
+    ext_get_or 0 (take 186 (code_of k q)) (take 186 (code_of k p))
+    (long ∙ sym (length-take-le 186 (code_of k p) (omega (arith, length-code k p))))
     (λ i m.
     let n : i < 186 = omega (arith, m, long) in
-    get_or-take 186 (word k q) i 0 n ∙ byte_at k i q (omega (arith, n))
+    get_or-take 186 (code_of k q) i 0 n ∙ byte_at k i q (omega (arith, n))
     ∙ ap (λ (x : ℕ). bit_xor x (randomizer_byte (187 * (k % 312) + i))) (other_at p (1 + i) l (omega (arith, n)))
-    ∙ sym (byte_at k i p (omega (arith, n))) ∙ sym (get_or-take 186 (word k p) i 0 n))
+    ∙ sym (byte_at k i p (omega (arith, n))) ∙ sym (get_or-take 186 (code_of k p) i 0 n))
 
-codes_differ : (k : ℕ) (p : List ℕ) → length p ≡ 188 → word k (other_last p) ≡ word k p → ⊥
+codes_differ : (k : ℕ) (p : List ℕ) → length p ≡ 188 → code_of k (other_last p) ≡ code_of k p → ⊥
 codes_differ k p l e =
     let q : List ℕ = other_last p in
     let m : length q ≡ 188 = length-other p l in
@@ -111,13 +112,13 @@ codes_differ k p l e =
     ∙ ap (whitened randomizer_bytes (187 * (k % 312))) white
     ∙ whitened_twice randomizer_bytes (drop 1 p) (187 * (k % 312)))
 
-codes_far : (k : ℕ) (p : List ℕ) → length p ≡ 188 → AreBytes p → 21 ≤ distance (word k (other_last p)) (word k p)
+codes_far : (k : ℕ) (p : List ℕ) → length p ≡ 188 → AreBytes p → 21 ≤ distance (code_of k (other_last p)) (code_of k p)
 codes_far k p l b =
-    by_cases (codewords_apart 207 187 (word k (other_last p)) (word k p) (omega arith)
+    by_cases (codewords_apart 207 187 (code_of k (other_last p)) (code_of k p) (omega arith)
     (is_codeword k (other_last p) (length-other p l) (bytes_other p b)) (is_codeword k p l b))
   where
-    by_cases : (word k (other_last p) ≡ word k p) ⊎ (207 - 187 + 1 ≤ distance (word k (other_last p)) (word k p))
-        → 21 ≤ distance (word k (other_last p)) (word k p)
+    by_cases : (code_of k (other_last p) ≡ code_of k p) ⊎ (207 - 187 + 1 ≤ distance (code_of k (other_last p)) (code_of k p))
+        → 21 ≤ distance (code_of k (other_last p)) (code_of k p)
     by_cases (inl e) = absurd (codes_differ k p l e)
     by_cases (inr h) = omega (arith, h)
 
@@ -132,10 +133,10 @@ ends_alike (x ∷ xs) (y ∷ ys) zs l =
 
 -- the first n of one and the rest of the other differ from that other in n - 186 places at most
 within_front : (k n : ℕ) (p : List ℕ) → length p ≡ 188 → 186 ≤ n → n ≤ 207
-    → distance (take n (word k (other_last p)) ++ drop n (word k p)) (word k p) ≤ n - 186
+    → distance (take n (code_of k (other_last p)) ++ drop n (code_of k p)) (code_of k p) ≤ n - 186
 within_front k n p l a b =
-    let c : List ℕ = word k p in
-    let d : List ℕ = word k (other_last p) in
+    let c : List ℕ = code_of k p in
+    let d : List ℕ = code_of k (other_last p) in
     let long : length (take n d) ≡ n = length-take-le n d (omega (arith, b, length-code k (other_last p))) in
     let long_other : length (take n c) ≡ n = length-take-le n c (omega (arith, b, length-code k p)) in
     let front : take 186 (take n d) ≡ take 186 (take n c) =
@@ -152,8 +153,8 @@ pub last_differs : (k : ℕ) (p : List ℕ) → length p ≡ 188 → AreBytes p
     → get_or (codeword 207 187 (randomized k (other_last p))) 206 0 ≡ get_or (codeword 207 187 (randomized k p)) 206 0
     → ⊥
 last_differs k p l b e =
-    let c : List ℕ = word k p in
-    let d : List ℕ = word k (other_last p) in
+    let c : List ℕ = code_of k p in
+    let d : List ℕ = code_of k (other_last p) in
     let own : d ≡ take 206 d ++ drop 206 c =
     sym (take-append-drop 206 d) ∙ ap (λ (x : List ℕ). take 206 d ++ x)
     (last_one d (length-code k (other_last p)) ∙ ap (λ (x : ℕ). x ∷ []) e ∙ sym (last_one c (length-code k p))) in
@@ -175,17 +176,17 @@ between k p =
 
 length-between : (k : ℕ) (p : List ℕ) → length (between k p) ≡ 207
 length-between k p =
-    length-append (take 197 (word k (other_last p))) (drop 197 (word k p))
-    ∙ ap₂ (λ (x y : ℕ). x + y) (length-take-le 197 (word k (other_last p))
-    (omega (arith, length-code k (other_last p)))) (length-drop 197 (word k p)
+    length-append (take 197 (code_of k (other_last p))) (drop 197 (code_of k p))
+    ∙ ap₂ (λ (x y : ℕ). x + y) (length-take-le 197 (code_of k (other_last p))
+    (omega (arith, length-code k (other_last p)))) (length-drop 197 (code_of k p)
     ∙ ap (λ (n : ℕ). n - 197) (length-code k p))
 
-near_other : (k : ℕ) (p : List ℕ) → distance (between k p) (word k (other_last p)) ≤ 10
+near_other : (k : ℕ) (p : List ℕ) → distance (between k p) (code_of k (other_last p)) ≤ 10
 near_other k p =
-    let front : take 197 (between k p) ≡ take 197 (word k (other_last p)) =
-    take_at (take 197 (word k (other_last p))) (drop 197 (word k p)) 197
-    (length-take-le 197 (word k (other_last p)) (omega (arith, length-code k (other_last p)))) in
-    let near = distance_from_front 197 (between k p) (word k (other_last p)) front in
+    let front : take 197 (between k p) ≡ take 197 (code_of k (other_last p)) =
+    take_at (take 197 (code_of k (other_last p))) (drop 197 (code_of k p)) 197
+    (length-take-le 197 (code_of k (other_last p)) (omega (arith, length-code k (other_last p)))) in
+    let near = distance_from_front 197 (between k p) (code_of k (other_last p)) front in
     omega (arith, near, length-between k p)
 
 pub eleven_wrong : (k : ℕ) (p : List ℕ) → length p ≡ 188 → AreBytes p
@@ -193,9 +194,9 @@ pub eleven_wrong : (k : ℕ) (p : List ℕ) → length p ≡ 188 → AreBytes p
 eleven_wrong k p l b =
     let far = codes_far k p l b in
     let near = within_front k 197 p l (omega arith) (omega arith) in
-    let through = distance_through (word k (other_last p)) (between k p) (word k p)
+    let through = distance_through (code_of k (other_last p)) (between k p) (code_of k p)
     (length-code k (other_last p) ∙ sym (length-between k p)) (length-between k p ∙ sym (length-code k p)) in
-    omega (arith, far, near, through, near_other k p, distance_comm (word k (other_last p)) (between k p))
+    omega (arith, far, near, through, near_other k p, distance_comm (code_of k (other_last p)) (between k p))
 
 -- it gives the other packet back
 
