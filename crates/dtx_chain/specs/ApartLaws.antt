@@ -1,6 +1,5 @@
 -- Two packets that differ in their last byte alone: their codewords differ in 21 bytes, the fewest that two may differ
--- in. Between
--- them lies a word that has eleven wrong bytes of the one and ten of the other.
+-- in. Between them lies a word that has eleven wrong bytes of the one and ten of the other.
 use Rattle.std.proofs.Common.{◌≡◌, ◌≢◌, ◌⊎◌, inl, inr, ℕ, zero, suc, ◌+◌, ◌*◌, ◌%◌, ◌<◌, ◌≤◌, ◌==◌, cond, List, []}
 use Rattle.std.proofs.Common.{◌∷◌, ◌++◌, length, take, drop, replicate, get_or, refl, sym, ap, ap₂, ◌∙◌, subst, arith}
 use Rattle.std.proofs.Common.{◌-◌}
@@ -117,7 +116,8 @@ codes_far k p l b =
     by_cases (codewords_apart 207 187 (code_of k (other_last p)) (code_of k p) (omega arith)
     (is_codeword k (other_last p) (length-other p l) (bytes_other p b)) (is_codeword k p l b))
   where
-    by_cases : (code_of k (other_last p) ≡ code_of k p) ⊎ (207 - 187 + 1 ≤ distance (code_of k (other_last p)) (code_of k p))
+    by_cases : (code_of k (other_last p) ≡ code_of k p)
+        ⊎ (207 - 187 + 1 ≤ distance (code_of k (other_last p)) (code_of k p))
         → 21 ≤ distance (code_of k (other_last p)) (code_of k p)
     by_cases (inl e) = absurd (codes_differ k p l e)
     by_cases (inr h) = omega (arith, h)

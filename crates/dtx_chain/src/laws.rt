@@ -1,6 +1,5 @@
 //! Laws of the definitions: undamaged symbols are one run, and its packets are those that were sent; a word with few
-//! wrong bytes
-//! gives its packet back.
+//! wrong bytes gives its packet back.
 
 ghost use Rattle.std.specs.Prelude.{◌≡◌, ℕ, ℤ, ◌≢◌, ◌+◌, ◌*◌, ◌/◌, ◌%◌, ◌<◌, ◌≤◌, Bool, true, List, [], ◌∷◌, length};
 ghost use Rattle.std.specs.Prelude.{map, slice_index_or, slice_range};
@@ -24,8 +23,7 @@ use dtx_trellis::FIELD;
 const FIELD_SEGMENTS: usize = 313;
 
 /// The undamaged symbols of packets that make at least one whole group are received as one run. Each packet whose bytes
-/// are all
-/// there comes back, in order, with 0x47 as its sync byte; none is flagged, and no byte was put right.
+/// are all there comes back, in order, with 0x47 as its sync byte; none is flagged, and no byte was put right.
 pub fn received_undamaged()
     ensures run { (packets : List (List ℕ)) → GROUP_PACKETS ≤ length packets → runs (a53 packets) ≡ a53 packets ∷ [] }
     ensures good { (packets : List (List ℕ)) → GROUP_PACKETS ≤ length packets → ArePackets packets
@@ -35,12 +33,9 @@ pub fn received_undamaged()
 {}
 
 /// Word j of the bytes of any run gives packet f + j of a stream back, received good and with 0x47 as its sync byte,
-/// wherever the
-/// word differs from that packet's codeword in at most ten bytes: those are the bytes put right. Packet f begins a
-/// field, as the
-/// packet behind a field sync does. The bytes of the run may be any numbers, and as many or as few as they are. Where
-/// all bytes of
-/// word j are there, its packet is number j of those that the run gives.
+/// wherever the word differs from that packet's codeword in at most ten bytes: those are the bytes put right. Packet f
+/// begins a field, as the packet behind a field sync does. The bytes of the run may be any numbers, and as many or as
+/// few as they are. Where all bytes of word j are there, its packet is number j of those that the run gives.
 pub fn gives_back()
     ensures packet { (packets : List (List ℕ)) (bytes : List ℕ) (f j : ℕ) → ArePackets packets → f % FIELD ≡ 0
         → f + j < length packets → IsNear packets (f + j) (word_at 207 52 4 bytes j)
@@ -50,10 +45,8 @@ pub fn gives_back()
 {}
 
 /// Where the symbols of segments in a row of a stream are received with slight damage, and a field sync is among them,
-/// they are
-/// one run, which begins with their first field sync. Its packets are exactly those of the stream from the one behind
-/// that field
-/// sync on whose bytes are all there, in order, each good and with 0x47 as its sync byte.
+/// they are one run, which begins with their first field sync. Its packets are exactly those of the stream from the one
+/// behind that field sync on whose bytes are all there, in order, each good and with 0x47 as its sync byte.
 pub fn gives_all_back()
     ensures run { (packets : List (List ℕ)) (first : ℕ) (sent got : List (List ℤ)) → AreReceived packets first sent got
         → to_sync first < length sent → IsSlight packets first sent got
@@ -74,8 +67,7 @@ pub fn gives_all_back()
 {}
 
 /// Eleven wrong bytes are too many: for each packet of a stream there is a word that differs from the packet's codeword
-/// in eleven
-/// bytes, and wherever a run has that word, it gives another packet back.
+/// in eleven bytes, and wherever a run has that word, it gives another packet back.
 pub fn eleven_are_too_many()
     ensures { (packets : List (List ℕ)) (f j : ℕ) → ArePackets packets → f % FIELD ≡ 0 → f + j < length packets
         → (word : List ℕ) × (distance word (codeword_at packets (f + j)) ≡ 11) × ((bytes : List ℕ)
@@ -84,8 +76,7 @@ pub fn eleven_are_too_many()
 {}
 
 /// Undamaged symbols are slightly damaged ones, from any segment of a stream on: segments in a row are received as they
-/// were sent,
-/// and meet each condition.
+/// were sent, and meet each condition.
 pub fn no_damage()
     ensures received { (packets : List (List ℕ)) (first end : ℕ)
         → AreReceived packets first (slice_range (a53 packets) first end) (slice_range (a53 packets) first end) }
@@ -94,10 +85,8 @@ pub fn no_damage()
 {}
 
 /// Where the segments of a stream stand that these definitions count on. Its field syncs are those at multiples of 313,
-/// segment k
-/// of its packets stands k + k / 312 + 1 places behind its first, and so `to_sync` leads to the first field sync from
-/// any segment
-/// on, and `packet_behind` is the packet whose segment follows it and begins a field.
+/// segment k of its packets stands k + k / 312 + 1 places behind its first, and so `to_sync` leads to the first field
+/// sync from any segment on, and `packet_behind` is the packet whose segment follows it and begins a field.
 pub fn places()
     ensures sync { (packets : List (List ℕ)) (n : ℕ) → n < length (a53 packets) → n % FIELD_SEGMENTS ≡ 0
         → (second : Bool) × (last : List ℤ) × (slice_index_or (a53 packets) n [] ≡ field_sync second last) }

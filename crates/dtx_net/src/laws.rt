@@ -12,10 +12,8 @@ ghost use Rattle.dtx_net.specs.Lives.{own_steps, joined_steps, lives_of, last_li
 ghost use Rattle.dtx_net.specs.Sent.{segments_of, lines_of};
 
 /// What a transmitter sends and what is logged of it are the same in any two schedules that give it the same lives, and
-/// so in any
-/// two in which the same is done with it, whatever is done with others and when. Steps of others, anywhere among its
-/// own, change
-/// none of its lives.
+/// so in any two in which the same is done with it, whatever is done with others and when. Steps of others, anywhere
+/// among its own, change none of its lives.
 pub fn interleavings()
     ensures segments { (t : Transmitter) (who : ℕ) (steps others : List Step) → lives_of who steps ≡ lives_of who others
         → segments_of t who steps ≡ segments_of t who others }

@@ -169,8 +169,8 @@ pub emits : (plan : Plan) (stream : List (List ℕ)) (t : Transmitter) (xs ys : 
     (emission_over t.address t.delay (xs ++ life ∷ ys)) (log t.address t.delay 0 (xs ++ life ∷ ys))
 emits plan stream t xs ys life mark n k p u listed time fed first =
     subst (λ x. Emits plan t (feed plan stream) mark k (mark + n)
-    (record { lives_before = xs; before = fed.earlier; behind = fed.later; lives_behind = ys }) (emission_over t.address t.delay (xs ++ x ∷ ys))
-    (log t.address t.delay 0 (xs ++ x ∷ ys))) (sym fed.holds)
+    (record { lives_before = xs; before = fed.earlier; behind = fed.later; lives_behind = ys })
+    (emission_over t.address t.delay (xs ++ x ∷ ys)) (log t.address t.delay 0 (xs ++ x ∷ ys))) (sym fed.holds)
     (emits_at plan stream t fed.earlier fed.later xs ys mark n k p u listed time fed.is_mark fed.inside first)
 
 -- ---- its lines
