@@ -71,7 +71,8 @@ presets_no_mute plan t s fed k end n why c =
 
 no_mute : (plan : Plan) (t : Transmitter) (fed : List (List ℕ)) (mark k end : ℕ) (a : Around)
     (segments : List (List ℤ)) (lines : List Line) (e : Emits plan t fed mark k end a segments lines) (n : ℕ)
-    (why : Why) → Contains lines (mute n why) → (n ≤ length e.before) ⊎ (length e.before + length (stretch_of fed k end) ≤ n)
+    (why : Why) → Contains lines (mute n why)
+    → (n ≤ length e.before) ⊎ (length e.before + length (stretch_of fed k end) ≤ n)
 no_mute plan t fed mark k end a segments lines e n why c =
     by_low (cases_lt (length e.before) n) (cases_lt n (length e.before + length (stretch_of fed k end)))
   where
