@@ -2,15 +2,17 @@
 //! wrong bytes gives its packet back.
 
 ghost use Rattle.std.specs.Prelude.{◌≡◌, ℕ, ℤ, ◌≢◌, ◌+◌, ◌*◌, ◌/◌, ◌%◌, ◌<◌, ◌≤◌, Bool, true, List, [], ◌∷◌, length};
-ghost use Rattle.std.specs.Prelude.{map, slice_index_or};
+ghost use Rattle.std.specs.Prelude.{map, slice_index_or, slice_range};
 ghost use Rattle.std.specs.List.{list_all};
+ghost use Rattle.dtx_laws.specs.Codeword.{distance};
 ghost use Rattle.dtx_frame.specs.Segments.{field_sync};
 ghost use Rattle.dtx_coder.specs.Stream.{a53, levels, segment};
 ghost use Rattle.dtx_outer.specs.Inner.{IsComplete, word_at};
 ghost use Rattle.dtx_receiver.specs.Packets.{all_packets, packets_of, received, received_at};
 ghost use Rattle.dtx_receiver.specs.declared.batch.Received.{Received};
 ghost use Rattle.dtx_receiver.specs.Runs.{runs};
-ghost use Rattle.dtx_chain.specs.Damage.{AreReceived, IsNear, IsSlight, as_corrected, from_sync, numbers_in};
+ghost use Rattle.dtx_chain.specs.Damage.{AreReceived, IsNear, IsSlight, as_corrected, codeword_at, from_sync};
+ghost use Rattle.dtx_chain.specs.Damage.{numbers_in};
 ghost use Rattle.dtx_chain.specs.Damage.{packet_behind, to_sync, word_in};
 ghost use Rattle.dtx_chain.specs.Undamaged.{ArePackets, as_sent, whole_words, with_sync};
 
@@ -64,12 +66,22 @@ pub fn gives_all_back()
         → list_all (λ r. r.good) (all_packets got) ≡ true }
 {}
 
-/// Undamaged symbols are slightly damaged ones: those of a whole stream are segments in a row from its first field sync
-/// on, and meet each condition.
+/// Eleven wrong bytes are too many: for each packet of a stream there is a word that differs from the packet's codeword
+/// in eleven bytes, and wherever a run has that word, it gives another packet back.
+pub fn eleven_are_too_many()
+    ensures { (packets : List (List ℕ)) (f j : ℕ) → ArePackets packets → f % FIELD ≡ 0 → f + j < length packets
+        → (word : List ℕ) × (distance word (codeword_at packets (f + j)) ≡ 11) × ((bytes : List ℕ)
+        → word_at 207 52 4 bytes j ≡ word
+        → (received_at bytes j).packet.0 ≢ with_sync (slice_index_or packets (f + j) [])) }
+{}
+
+/// Undamaged symbols are slightly damaged ones, from any segment of a stream on: segments in a row are received as they
+/// were sent, and meet each condition.
 pub fn no_damage()
-    ensures received { (packets : List (List ℕ)) → AreReceived packets 0 (a53 packets) (a53 packets) }
-    ensures slight { (packets : List (List ℕ)) → GROUP_PACKETS ≤ length packets → ArePackets packets
-        → IsSlight packets 0 (a53 packets) (a53 packets) }
+    ensures received { (packets : List (List ℕ)) (first end : ℕ)
+        → AreReceived packets first (slice_range (a53 packets) first end) (slice_range (a53 packets) first end) }
+    ensures slight { (packets : List (List ℕ)) (first : ℕ) (sent : List (List ℤ))
+        → AreReceived packets first sent sent → ArePackets packets → IsSlight packets first sent sent }
 {}
 
 /// Where the segments of a stream stand that these definitions count on. Its field syncs are those at multiples of 313,

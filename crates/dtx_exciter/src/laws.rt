@@ -1,10 +1,12 @@
 //! Laws of the definitions.
 
-ghost use Rattle.std.specs.Prelude.{◌≡◌, ℕ, ℤ, ◌+◌, ◌%◌, ◌≤◌, ◌∷◌, ◌++◌, Some, List, length, map, drop, slice_range};
+ghost use Rattle.std.specs.Prelude.{◌≡◌, ℕ, ℤ, ◌+◌, ◌-◌, ◌%◌, ◌≤◌, ◌==◌, ◌&&◌, ◌∷◌, ◌++◌, true, false, Some};
+ghost use Rattle.std.specs.Prelude.{if◌then◌else◌, List, [], length, map, drop, slice_range};
 ghost use Rattle.dtx_ops.specs.declared.fields.Ops.{Ops};
 ghost use Rattle.dtx_exciter.specs.Order.{counted};
-ghost use Rattle.dtx_exciter.specs.Packets.{said};
-ghost use Rattle.dtx_exciter.specs.Emission.{given, emission};
+ghost use Rattle.dtx_exciter.specs.Packets.{said, under, told};
+ghost use Rattle.dtx_exciter.specs.Told.{is_sent};
+ghost use Rattle.dtx_exciter.specs.Emission.{was_sent, given, emission};
 ghost use Rattle.dtx_exciter.specs.Lockstep.{IsFeed, IsStretch, stretch};
 ghost use Rattle.dtx_exciter.specs.Log.{preset, life_lines, log, restarted_lines, restarting_lines, emission_over};
 ghost use Rattle.dtx_exciter.specs.Stretch.{emission_behind, lines_behind, sync_behind, before_stretch, moment_at};
@@ -64,6 +66,19 @@ pub fn first_line()
         ≡ preset s ops.frame (k % 624) (moment_at address (record { place = k; ops = ops })).tick
         (moment_at address (record { place = k; ops = ops })).grain
         ∷ map (preset_line address s k) (orders_in feed (k + 1) end) }
+{}
+
+/// A packet gives segments exactly where its answer is that its group is sent: then the group's four, and in front of
+/// them a field sync where a field begins with the group and the group before it was sent too.
+pub fn sent_packets_give()
+    ensures none { (address delay : ℕ) (packets : List (List ℕ)) (packet : List ℕ)
+        → is_sent (told address delay (packets ++ packet ∷ [])) ≡ false
+        → given address delay (packets ++ packet ∷ []) ≡ [] }
+    ensures some { (address delay : ℕ) (packets : List (List ℕ)) (packet : List ℕ)
+        → is_sent (told address delay (packets ++ packet ∷ [])) ≡ true
+        → (l : List (List ℕ)) × (under (packets ++ packet ∷ []) ≡ Some l)
+        × (length (given address delay (packets ++ packet ∷ []))
+        ≡ (if was_sent address delay (said l) (length l - 4) && ((length l - 4) % 312 == 0) then 5 else 4)) }
 {}
 
 /// What packets give stands whatever is given then, and the further packets' segments follow it one packet after

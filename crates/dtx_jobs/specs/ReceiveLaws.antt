@@ -1,6 +1,5 @@
 -- Laws of what is made of symbols: it grows with them, where nothing looks like a field sync it is nothing, and with
--- what the
--- end brings it is all packets.
+-- what the end brings it is all packets.
 use Rattle.std.proofs.Common.{◌≡◌, ℕ, ◌%◌, List, [], ◌∷◌, ◌++◌, length, map, drop, refl, sym, ap, ◌∙◌}
 use Rattle.std.specs.Prelude.{ℤ}
 use Rattle.std.specs.List.{flat_map}

@@ -3,7 +3,7 @@
 -- adapter's feed unchanged from a cadence mark on emits, from the first operations packet whose group begins 52 or more
 -- packets later, exactly the symbols of that feed, at moments that differ between transmitters only by the signalled
 -- offsets; and symbols with at most ten wrong bytes per codeword give their packets back.
-use Rattle.std.specs.Prelude.{ℕ, ℤ, ◌≡◌, ◌⊎◌, ◌+◌, ◌-ℤ◌, ◌/◌, ◌%◌, ◌≤◌, Some, List, ◌∷◌, length, map, slice_get}
+use Rattle.std.specs.Prelude.{ℕ, ℤ, ◌≡◌, ◌⊎◌, ◌+◌, ◌-ℤ◌, ◌/◌, ◌%◌, ◌≤◌, Some, List, ◌∷◌, ◌++◌, length, map, slice_get}
 use Rattle.std.specs.List.{Contains}
 use Rattle.dtx_plan.specs.declared.plan.Plan.{Plan}
 use Rattle.dtx_plan.specs.declared.transmitter.Transmitter.{Transmitter}
@@ -17,7 +17,7 @@ use Rattle.dtx_net.specs.Lives.{lives_of}
 use Rattle.dtx_net.specs.Sent.{segments_of, lines_of}
 use Rattle.dtx_network.specs.Plans.{IsInTime}
 use Rattle.dtx_network.specs.Presets.{orders, moment_at, preset_at, presets}
-use Rattle.dtx_network.specs.Headline.{IsFed, IsFirstOrder, stretch_of, Emits}
+use Rattle.dtx_network.specs.Headline.{IsFed, IsFirstOrder, stretch_of, around, Emits}
 use Rattle.dtx_network.specs.GivesBack.{GivesBack, GivesAllBack}
 
 -- the steps of a schedule, with the feed of the plan and the stream
@@ -25,18 +25,20 @@ abbrev pub steps_under : Plan → List (List ℕ) → List Event → List Step
 steps_under plan stream events = schedule plan.transmitters.items (feed plan stream) events
 
 -- A transmitter joins the feed: it stands at a place of the plan's list and is in time, and one of its lives in the
--- schedule, whatever it held before, is given `count` packets of the feed from a mark on, among them the first
--- operations packet that counts, in the group from packet k on.
+-- schedule, between the lives before it and those behind it, is given `count` packets of the feed from a mark on,
+-- whatever it was given before, among them the first operations packet that counts, in the group from packet k on.
 pub record Joined (plan : Plan) (stream : List (List ℕ)) (events : List Event) : Type 0 where
   pub t : Transmitter
   pub who : ℕ
+  pub lives_before : List (List (List ℕ))
   pub life : List (List ℕ)
+  pub lives_behind : List (List (List ℕ))
   pub mark : ℕ
   pub count : ℕ
   pub k : ℕ
   pub listed : slice_get plan.transmitters.items who ≡ Some t
   pub in_time : IsInTime plan t
-  pub lived : Contains (lives_of who (steps_under plan stream events)) life
+  pub lived : lives_of who (steps_under plan stream events) ≡ lives_before ++ life ∷ lives_behind
   pub fed : IsFed (feed plan stream) life mark count
   pub order : IsFirstOrder (feed plan stream) mark count k
 
@@ -44,9 +46,11 @@ pub record Joined (plan : Plan) (stream : List (List ℕ)) (events : List Event)
 pub record Follows (plan : Plan) (stream : List (List ℕ)) (events : List Event)
     (x : Joined plan stream events) : Type 0 where
   -- Its symbol file holds exactly the feed's own symbols from the first order's group to the last whole group that it
-  -- is given, and its log their presets.
-  pub emits : Emits plan x.t (feed plan stream) x.k (x.mark + x.count)
-      (segments_of x.t x.who (steps_under plan stream events)) (lines_of x.t x.who (steps_under plan stream events))
+  -- is given, and its log their presets; and they are those of this life, which stand behind all that its earlier lives
+  -- and it sent before.
+  pub emits : Emits plan x.t (feed plan stream) x.mark x.k (x.mark + x.count)
+      (around x.lives_before x.fed x.lives_behind) (segments_of x.t x.who (steps_under plan stream events))
+      (lines_of x.t x.who (steps_under plan stream events))
   -- The first of these presets is that of the first order's group, and names the segment at which those symbols begin.
   pub named : presets plan x.t.offset (length emits.before) (feed plan stream) x.k (x.mark + x.count)
       ≡ preset (length emits.before) (x.k / 624) (x.k % 624) (moment_at plan x.t.offset x.k).tick

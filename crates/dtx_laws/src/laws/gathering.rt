@@ -9,12 +9,14 @@ ghost use Rattle.dtx_laws.specs.Branches.{leaving_calls};
 ghost use Rattle.dtx_laws.specs.Gathering.{gathered_at, gathered, IsGatheredBehind};
 
 /// Behind an align of both, whatever their branches held, what was spread and gathered is the input, late by `b * m *
-/// (b - 1)` bytes.
+/// (b - 1)` bytes; and from branches full of zeros all bytes before it are zeros.
 pub fn back()
-    ensures { (b m : ℕ) (s g : Branching) (x : List ℕ) (n : ℕ) → HasWidths b (spreading m) s
+    ensures late { (b m : ℕ) (s g : Branching) (x : List ℕ) (n : ℕ) → HasWidths b (spreading m) s
         → HasWidths b (gathering b m) g → n < length x → b * m * (b - 1) ≤ n
         → slice_index (leaving_all b (aligned g) (leaving_all b (aligned s) x)) n
         ≡ slice_index x (n - b * m * (b - 1)) }
+    ensures zeros { (b m : ℕ) (x : List ℕ) (n : ℕ) → 0 < b → n < length x → n < b * m * (b - 1)
+        → slice_index (leaving_all b (zeroed b (gathering b m)) (leaving_all b (zeroed b (spreading m)) x)) n ≡ 0 }
 {}
 
 /// From aligned branches full of zeros, any calls give the map of places.
