@@ -1,6 +1,5 @@
 -- The segments that an exciter gives (the profile's own, over the symbols of ATSC A/53 Part 2). Packets are counted
--- from the
--- anchor, whose packet begins a first field.
+-- from the anchor, whose packet begins a first field.
 use Rattle.std.specs.Prelude.{ℕ, ℤ, ◌≡◌, ◌+◌, ◌-◌, ◌*◌, ◌/◌, ◌%◌, ◌==◌, ◌&&◌, nat_le, Bool, Option, Some, None, is_ok}
 use Rattle.std.specs.Prelude.{if◌then◌else◌, List, [], ◌∷◌, ◌++◌, length, take, slice_index_or, flat_map}
 use Rattle.std.specs.List.{range_with_len}
@@ -37,8 +36,7 @@ abbrev pub was_sent : ℕ → ℕ → List (Option Ops) → ℕ → Bool
 was_sent address delay said i = nat_le 4 i && is_sent (told_at address delay (i - 4) (in_force said (i - 4)))
 
 -- a sent group behind a field sync, where it begins a field and the group before it was sent: the field sync ends with
--- the last
--- twelve symbols that were sent
+-- the last twelve symbols that were sent
 abbrev pub with_sync : ℕ → List (List ℤ) → List (List ℤ) → List (List ℤ)
 with_sync i before [] = []
 with_sync i [] (s ∷ ss) = s ∷ ss

@@ -1,5 +1,4 @@
 -- In which units the commands read their inputs, and how many units an input has at most (the profile's own limits).
-use Rattle.std.specs.Prelude.{ℕ}
 use Rattle.dtx_engine.specs.declared.engine.Shape.{Shape}
 
 -- packets of 188 bytes, in groups of four: where one isn't allowed, something is made of the groups before it

@@ -11,15 +11,8 @@ use Rattle.std.proofs.lemmas.List.FromFn.{length-map-range_with_len, get_or-map-
 use Rattle.dtx_lists.proofs.Parts.{append_from_parts}
 use Rattle.dtx_plan.specs.declared.damage.Damage.{Damage}
 use Rattle.dtx_make.specs.Hurt.{AreInOrder, IsCovered, covers, entry_at, byte_at, laid}
+use Rattle.dtx_make.specs.LaidLaws.{length-laid, get_or-laid}
 use Rattle.dtx_make.specs.EntriesLaws.{entry_at_more, entry_at_is, one_covers}
-
-pub length-laid : (ds : List Damage) (place : ℕ) (xs : List ℕ) → length (laid ds place xs) ≡ length xs
-unfolding laid
-length-laid ds place xs = length-map-range_with_len (λ i. byte_at ds (place + i) (get_or xs i 0)) 0 (length xs)
-
-pub get_or-laid : (ds : List Damage) (place : ℕ) (xs : List ℕ) (i : ℕ) → i < length xs → get_or (laid ds place xs) i 0 ≡ byte_at ds (place + i) (get_or xs i 0)
-unfolding laid
-get_or-laid ds place xs i l = get_or-map-range_with_len (λ i. byte_at ds (place + i) (get_or xs i 0)) 0 (length xs) i i 0 l (omega arith)
 
 -- a list of as many bytes that has at each place what is laid there
 pub laid_from : (ds : List Damage) (place : ℕ) (xs ys : List ℕ) → length ys ≡ length xs
@@ -64,26 +57,6 @@ laid_more ds d i place xs o l =
         ∙ ap (byte_at (get_or ds i d ∷ []) (place + j)) (get_or-laid (take i ds) place xs j h)
         ∙ sym (over (λ e. cast_unsigned w8 e.put) (entry_at (take i ds) (place + j)) (entry_at (get_or ds i d ∷ []) (place + j)) (get_or xs j 0) (one_covers ds d i (place + j) o l))
         ∙ ap (λ o. option_map_or (λ e. cast_unsigned w8 e.put) o (get_or xs j 0)) (sym (entry_at_more ds d i (place + j) l))
-
--- laid in two pieces
-pub laid-append : (ds : List Damage) (place : ℕ) (xs ys : List ℕ) → laid ds place (xs ++ ys) ≡ laid ds place xs ++ laid ds (place + length xs) ys
-laid-append ds place xs ys =
-    append_from_parts 0 (laid ds place (xs ++ ys)) (laid ds place xs) (laid ds (place + length xs) ys) (length xs) (length ys)
-    (length-laid ds place (xs ++ ys) ∙ length-append xs ys) (length-laid ds place xs) (length-laid ds (place + length xs) ys) first second
-  where
-    first : (k : ℕ) → k < length xs → get_or (laid ds place (xs ++ ys)) k 0 ≡ get_or (laid ds place xs) k 0
-    first k l =
-        get_or-laid ds place (xs ++ ys) k (omega (arith, length-append xs ys))
-        ∙ ap (byte_at ds (place + k)) (get_or_append_left xs ys 0 k l)
-        ∙ sym (get_or-laid ds place xs k l)
-
-    second : (k : ℕ) → k < length ys → get_or (laid ds place (xs ++ ys)) (length xs + k) 0 ≡ get_or (laid ds (place + length xs) ys) k 0
-    second k l =
-        let there : place + (length xs + k) ≡ place + length xs + k = omega arith in
-        get_or-laid ds place (xs ++ ys) (length xs + k) (omega (arith, length-append xs ys))
-        ∙ ap (byte_at ds (place + (length xs + k))) (get_or-append-add xs ys k 0)
-        ∙ ap (λ p. byte_at ds p (get_or ys k 0)) there
-        ∙ sym (get_or-laid ds (place + length xs) ys k l)
 
 byte_inside : (e : Damage) (place b : ℕ) → covers place e ≡ true → byte_at (e ∷ []) place b ≡ cast_unsigned w8 e.put
 unfolding entry_at

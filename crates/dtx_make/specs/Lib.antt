@@ -1,4 +1,5 @@
 pub mod Hurt
+pub mod LaidLaws
 pub mod Made
 pub mod DamagedPlacesLaws
 pub mod EntriesLaws

@@ -2,4 +2,3 @@ pub mod Stands
 pub mod Giving
 pub mod Answered
 pub mod Steps
-pub mod Counting

@@ -11,8 +11,7 @@ ghost use Rattle.dtx_receiver.specs.declared.batch.Received.{Received};
 ghost use Rattle.dtx_receiver.specs.Runs.{runs, begun, tracking};
 
 /// The runs of a list are those of its intervals that `AreRuns` names, and there is just one list of such intervals. No
-/// run is
-/// there just where no segment looks like a field sync.
+/// run is there just where no segment looks like a field sync.
 pub fn intervals()
     ensures are { (segments : List (List ℤ)) → (places : List (ℕ × ℕ)) × AreRuns segments 0 places
         × (runs segments ≡ map (segments_in segments) places) }
@@ -52,8 +51,7 @@ pub fn goes_on()
 {}
 
 /// All bytes of packet k are among those of `count` data segments just where 53 of these or more stand from the
-/// packet's own on, or
-/// 52 and 52 divides k.
+/// packet's own on, or 52 and 52 divides k.
 pub fn complete()
     ensures told { (count k : ℕ) → is_complete count k ≡ true ↔ IsComplete 207 52 4 count k }
     ensures only { (count k : ℕ) → IsComplete 207 52 4 (207 * count) k

@@ -1,3 +1,6 @@
+pub mod FileNames
+pub mod LinePieces
 pub mod NetworkNames
 pub mod Numbers
+pub mod Printed
 pub mod Repeated

@@ -1,3 +1,8 @@
+pub mod Fitting
+pub mod FittingLaws
+pub mod Line
 pub mod Names
 pub mod NetworkNames
 pub mod Number
+pub mod Printed
+pub mod Rows

@@ -1,9 +1,32 @@
 -- The file names of a command: which one comes twice, and which one a line names.
-use Rattle.std.specs.Prelude.{ℕ, if◌then◌else◌, List, [], ◌∷◌, ◌++◌, Option, Some, None, slice_index_or, unwrap_or}
+use Rattle.std.specs.Prelude.{ℕ, Bool, true, false, if◌then◌else◌, List, [], ◌∷◌, ◌++◌, Option, Some, None}
+use Rattle.std.specs.Prelude.{slice_index_or, unwrap_or}
 use Rattle.std.specs.List.{list_any}
 use Rattle.std.specs.Str.{bytes_eq}
 use Rattle.dtx_meaning.specs.declared.status.Status.{Status}
 use Rattle.dtx_meaning.specs.declared.status.Status.TheVariants.{Same, Absent}
+use Rattle.dtx_words.specs.declared.rows.Command.{Command}
+use Rattle.dtx_words.specs.declared.rows.Field.{Field}
+use Rattle.dtx_words.specs.declared.rows.Field.TheVariants.{Input, Output, Number}
+use Rattle.dtx_words.specs.Rows.{row_of}
+
+-- the field is the name of a file
+abbrev pub is_file : Field → Bool
+is_file Input = true
+is_file Output = true
+is_file (Number most) = false
+
+-- the words at the fields of files, in their order
+abbrev pub names_at : List Field → List (List ℕ) → List (List ℕ)
+names_at [] words = []
+names_at (field ∷ fields) [] = []
+names_at (field ∷ fields) (word ∷ words) =
+    if is_file field then word ∷ names_at fields words else names_at fields words
+
+-- the file names among the words that fit a command; in each row the inputs stand before the outputs
+abbrev pub names_of : Option Command → List (List ℕ) → List (List ℕ)
+names_of (Some command) (verb ∷ words) = names_at (row_of command).fields words
+names_of _ _ = []
 
 -- the first name that equals an earlier one, or one of the names behind it
 abbrev pub repeated_after : List (List ℕ) → List (List ℕ) → Option (List ℕ)

@@ -1,5 +1,6 @@
 -- A whole number among the words.
-use Rattle.std.specs.Prelude.{◌≡◌, ℕ, ◌&&◌, nat_le, if◌then◌else◌, List, length, slice_index, Option, Some, None, decimal}
+use Rattle.std.specs.Prelude.{◌≡◌, ℕ, ◌&&◌, nat_le, if◌then◌else◌, List, length, slice_index, Option, Some, None}
+use Rattle.std.specs.Prelude.{decimal}
 use Rattle.std.specs.Int.{IsInRange}
 use Rattle.std.specs.Str.{bytes_eq}
 use Rattle.std.specs.Str.Parse.{digits_value}
@@ -7,7 +8,8 @@ use Rattle.std.specs.Str.Parse.{digits_value}
 -- the number of which the word is the decimal spelling, where there is one and it is at most `most`
 unfoldable pub number_in : ℕ → List ℕ → Option ℕ
 number_in most word =
-    if bytes_eq word (decimal (digits_value 10 word)) && nat_le (digits_value 10 word) most then Some (digits_value 10 word) else None
+    if bytes_eq word (decimal (digits_value 10 word)) && nat_le (digits_value 10 word) most then Some
+    (digits_value 10 word) else None
 
 -- a word begins with a digit, and with 0 only where it is nothing else
 pub record BeginsPlain (word : List ℕ) : Type 0 where

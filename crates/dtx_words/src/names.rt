@@ -1,9 +1,16 @@
 // The file names of a command: which one comes twice, and which one a line names.
-ghost use Rattle.std.specs.Prelude.{◌≡◌, map};
+ghost use Rattle.std.specs.Prelude.{◌≡◌, ◌≤◌, length, map};
 ghost use Rattle.std.specs.Option.{option_map};
-ghost use Rattle.dtx_words.specs.Names.{line_name, repeated};
+ghost use Rattle.dtx_words.specs.Names.{line_name, is_file, names_at, names_of, repeated};
 
+use crate::rows::row;
+use crate::{Command, Field};
+use arrayvec::ArrayVec;
 use dtx_meaning::Status;
+use dtx_outside::Word;
+
+/// How many fields a command has at most.
+const MOST_FIELDS: usize = 5;
 
 /// The first name that equals an earlier one.
 pub fn repeated_name<'a>(names: &[&'a str]) -> Option<&'a str>
@@ -25,5 +32,42 @@ pub fn name_among<'a>(status: Status, names: &[&'a str]) -> &'a str
         Status::Same => repeated_name(names).unwrap_or(""),
         Status::Absent(input) => names.get(input as usize).copied().unwrap_or(""),
         _ => "",
+    }
+}
+
+/// The name in the line of a status: the repeated one, or the input that isn't there, among the file names of the
+/// command; or nothing where the line has no name.
+pub fn name_in_line<'a>(command: Option<Command>, words: &'a [Word], status: Status) -> &'a str
+    ensures { result.now ≡ line_name status (names_of command words.now) }
+{
+    match (command, words) {
+        (Some(command), [_, arguments @ ..]) => {
+            name_among(status, &names_at(row(command).fields, arguments))
+        }
+        _ => name_among(status, &[]),
+    }
+}
+
+/// The words at the fields of files, in their order.
+fn names_at<'a>(fields: &[Field], words: &'a [Word]) -> ArrayVec<&'a str, MOST_FIELDS>
+    requires { length fields.now ≤ 5 }
+    ensures { map (λ name. name.now) result.items ≡ names_at fields.now words.now }
+{
+    let mut names = ArrayVec::new();
+    for i in 0..fields.len().min(words.len()) {
+        if is_file(fields[i]) {
+            names.push(words[i].as_str());
+        }
+    }
+    names
+}
+
+/// The field is the name of a file.
+fn is_file(field: Field) -> bool
+    ensures { result ≡ is_file field }
+{
+    match field {
+        Field::Input | Field::Output => true,
+        Field::Number(_) => false,
     }
 }

@@ -51,8 +51,10 @@ fn transmitter_name(address: u16, ending: &str) -> ArrayString<NETWORK_NAME>
 
 /// No two files of a network have one name.
 pub fn names_differ()
-    ensures symbols { (first second : ℕ) → first < 2 ^ 16 → second < 2 ^ 16 → symbol_name first ≡ symbol_name second → first ≡ second }
-    ensures logs { (first second : ℕ) → first < 2 ^ 16 → second < 2 ^ 16 → log_name first ≡ log_name second → first ≡ second }
+    ensures symbols { (first second : ℕ) → first < 2 ^ 16 → second < 2 ^ 16 → symbol_name first ≡ symbol_name second
+        → first ≡ second }
+    ensures logs { (first second : ℕ) → first < 2 ^ 16 → second < 2 ^ 16 → log_name first ≡ log_name second
+        → first ≡ second }
     ensures symbols_no_logs { (first second : ℕ) → symbol_name first ≢ log_name second }
     ensures symbols_no_feed { (address : ℕ) → symbol_name address ≢ feed_name }
     ensures symbols_not_received { (address : ℕ) → symbol_name address ≢ received_name }

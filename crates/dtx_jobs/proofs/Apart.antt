@@ -1,0 +1,37 @@
+-- What follows from file names of which no two are equal, and from two that are.
+use Rattle.std.proofs.Common.{◌≡◌, ◌≢◌, ℕ, Bool, true, false, ◌||◌, cond, List, [], ◌∷◌, sym, ap}
+use Rattle.std.specs.Prelude.{Some, None, if◌then◌else◌, is_some}
+use Rattle.std.specs.Str.{bytes_eq}
+use Rattle.std.proofs.lemmas.Slice.Eq.{bytes_eq-Decides}
+use Rattle.dtx_meaning.specs.Meaning.{Meaning, refused}
+use Rattle.dtx_meaning.specs.declared.status.Status.TheVariants.{Same}
+use Rattle.dtx_words.specs.Names.{repeated}
+
+none_equal : (second third : List ℕ) (a b c : Bool)
+    → cond (a || false) (Some second) (cond (b || (c || false)) (Some third) None) ≡ None
+    → (a ≡ true → ⊥) × (b ≡ true → ⊥) × (c ≡ true → ⊥)
+none_equal second third true b c none = cc
+none_equal second third false true c none = cc
+none_equal second third false false true none = cc
+none_equal second third false false false none = (λ e. cc, λ e. cc, λ e. cc)
+
+-- three names that differ
+pub all_differ : (first second third : List ℕ) → None ≡ repeated (first ∷ second ∷ third ∷ [])
+    → (first ≢ second) × (first ≢ third) × (second ≢ third)
+all_differ first second third differ =
+    let none = none_equal second third (bytes_eq first second) (bytes_eq first third) (bytes_eq second third)
+    (sym differ) in (
+      λ same. none.0 ((bytes_eq-Decides first second).1 same),
+      λ same. none.1 ((bytes_eq-Decides first third).1 same),
+      λ same. none.2 ((bytes_eq-Decides second third).1 same),
+    )
+
+-- a name comes twice
+pub same_means : (names : List (List ℕ)) (name : List ℕ) (other : Meaning) → Some name ≡ repeated names
+    → (if is_some (repeated names) then refused Same else other) ≡ refused Same
+same_means names name other is = ap (λ r. if is_some r then refused Same else other) (sym is)
+
+-- none does
+pub apart_means : (names : List (List ℕ)) (other : Meaning) → None ≡ repeated names
+    → (if is_some (repeated names) then refused Same else other) ≡ other
+apart_means names other is = ap (λ r. if is_some r then refused Same else other) (sym is)

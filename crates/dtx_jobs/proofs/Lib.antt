@@ -1,0 +1,9 @@
+pub mod Feeding
+pub mod Making
+pub mod PacketBytes
+pub mod SmallFile
+pub mod Apart
+pub mod BytesOf
+pub mod LifeOn
+pub mod StreamSymbols
+pub mod Tallied

@@ -1,0 +1,111 @@
+-- The symbols of a stream that is coded group by group.
+use Rattle.std.proofs.Common.{◌≡◌, ℕ, ℤ, ◌==◌, nat_le, ◌+◌, ◌-◌, ◌*◌, ◌/◌, ◌%◌, ◌≤◌, Bool, List, [], ◌∷◌, ◌++◌}
+use Rattle.std.proofs.Common.{length, map, take, refl, sym, ap, ap₂, subst, ◌∙◌, arith}
+use Rattle.std.specs.Prelude.{◌↔◌, IsTrue, if◌then◌else◌, true, false}
+use Rattle.std.specs.List.{range_with_len}
+use Rattle.std.proofs.lemmas.Bool.{leb-true, le-leb, eqb-true, eq-eqb}
+use Rattle.std.proofs.lemmas.Grind.{flat_map-append}
+use Rattle.std.proofs.Math.Seq.{take-add}
+use Rattle.std.proofs.lemmas.List.{map-append, take_at, drop_at, take_all, length-append}
+use Rattle.std.proofs.lemmas.List.FromFn.{length-map-range_with_len}
+use Rattle.dtx_coder.specs.NextLaws.{next_segments, next_stands}
+use Rattle.dtx_coder.specs.Groups.{Coding, Group, StandsFor, IsNextGroup, IsCoded, segments_of, group_levels}
+use Rattle.dtx_coder.specs.Stream.{a53, symbols_of, a53_symbols, segment, four_segments}
+use Rattle.dtx_files.specs.Symbols.{byte_of_symbol}
+use Rattle.dtx_frame.specs.Segments.{field_sync}
+use Rattle.dtx_packets.specs.PacketLaws.{packets_of-append, packets_from-append}
+use Rattle.dtx_packets.specs.Packets.{packet_at, packets_from, packets_of, whole_packets}
+use Rattle.dtx_jobs.specs.Symbols.{symbol_bytes, in_groups}
+
+-- ---- a group
+
+-- the group behind some packets
+pub next_group : (packets : List (List ℕ)) (from : List ℕ) (first place in_field : ℕ) (second sync : Bool)
+    (four : List (List ℕ))
+    → length packets ≡ first → first % 4 ≡ 0 → length four ≡ 4 → place ≡ first % 624 → in_field ≡ place % 312
+    → (IsTrue second ↔ (312 ≤ place)) → (IsTrue sync ↔ (in_field ≡ 0))
+    → IsNextGroup packets from (record { first = in_field; second = second; sync = sync; from = from; packets = four })
+next_group packets from first place in_field second sync four long whole is_four at in_its is_second is_sync = record {
+  whole = omega (arith, long, whole);
+  four = is_four;
+  place = omega (arith, long, at, in_its);
+  second = subst (λ k. IsTrue second ↔ (312 ≤ k)) (omega (arith, long, at)) is_second;
+  sync = is_sync;
+  states = refl;
+}
+
+-- the tests of a group's field
+pub second_is : (place : ℕ) → IsTrue (nat_le 312 place) ↔ (312 ≤ place)
+second_is place = (leb-true 312 place, le-leb 312 place)
+
+pub sync_is : (place : ℕ) → IsTrue (place == 0) ↔ (place ≡ 0)
+sync_is place = (eqb-true place 0, eq-eqb place 0)
+
+pub group_stands : (coder new : Coding) (packets : List (List ℕ)) (group : Group) (count : ℕ) (sent : List ℤ)
+    → StandsFor coder packets → IsNextGroup packets coder.states group
+    → IsCoded coder group new count sent → StandsFor new (packets ++ group.packets)
+group_stands coder new packets group count sent stands next is = is.coder ∙ next_stands coder packets group stands next
+
+pub group_brings : (coder new : Coding) (packets : List (List ℕ)) (group : Group) (count : ℕ) (sent : List ℤ)
+    → StandsFor coder packets → IsNextGroup packets coder.states group → IsCoded coder group new count sent
+    → symbol_bytes (packets ++ group.packets) ≡ symbol_bytes packets ++ map byte_of_symbol (take (832 * count) sent)
+unfolding a53_symbols
+group_brings coder new packets group count sent stands next is =
+    ap (λ ss. map byte_of_symbol (symbols_of ss)) (next_segments coder packets group stands next)
+    ∙ ap (map byte_of_symbol) (flat_map-append (λ (s : List ℤ). s) (a53 packets) (segments_of coder group))
+    ∙ map-append byte_of_symbol (symbols_of (a53 packets)) (symbols_of (segments_of coder group))
+    ∙ ap (λ z. map byte_of_symbol (symbols_of (a53 packets)) ++ z) (ap (map byte_of_symbol) (sym is.symbols))
+
+few : (sync : Bool) (first : List ℤ) (rest : List (List ℤ)) → length rest ≡ 4
+    → length ((if sync then first ∷ [] else []) ++ rest) ≤ 5
+few true first rest four = omega (arith, four)
+few false first rest four = omega (arith, four)
+
+-- a group has at most five segments
+few_segments : (coder : Coding) (group : Group) → length (segments_of coder group) ≤ 5
+unfolding segments_of four_segments
+few_segments coder group =
+    few group.sync (field_sync group.second coder.last) (map (segment (group_levels coder group)) (range_with_len 0 4))
+    (length-map-range_with_len (segment (group_levels coder group)) 0 4)
+
+pub few_coded : (coder new : Coding) (group : Group) (count : ℕ) (sent : List ℤ) → IsCoded coder group new count sent
+    → count ≤ 5
+few_coded coder new group count sent is = omega (arith, is.segments, few_segments coder group)
+
+-- ---- a piece
+
+pub length-packets_of : (file : List ℕ) → length (packets_of file) ≡ whole_packets file
+length-packets_of file = length-map-range_with_len (packet_at file) 0 (whole_packets file)
+
+-- the packets of whole groups are all in groups
+pub all_in_groups : (packets : List (List ℕ)) → length packets % 4 ≡ 0 → take (in_groups packets) packets ≡ packets
+all_in_groups packets whole = take_all (in_groups packets) packets (omega (arith, whole))
+
+-- the first packets of a file
+front_of : (file : List ℕ) (m : ℕ) → m ≤ whole_packets file → take m (packets_of file) ≡ packets_from file 0 m
+front_of file m within =
+    let rest : m + (whole_packets file - m) ≡ whole_packets file = omega (arith, within) in
+    ap (take m) (ap (packets_from file 0) (sym rest) ∙ packets_from-append file 0 m (whole_packets file - m))
+    ∙ take_at (packets_from file 0 m) (packets_from file (0 + m) (whole_packets file - m)) m
+    (length-map-range_with_len (packet_at file) 0 m)
+
+-- those in groups of a piece behind whole groups
+groups_behind : (ps qs : List (List ℕ)) (m : ℕ) → length ps % 4 ≡ 0 → m ≡ in_groups qs
+    → take (in_groups (ps ++ qs)) (ps ++ qs) ≡ ps ++ take m qs
+groups_behind ps qs m whole is =
+    let all : in_groups (ps ++ qs) ≡ length ps + m = omega (arith, length-append ps qs, whole, is) in
+    ap (λ n. take n (ps ++ qs)) all ∙ take-add (length ps) m (ps ++ qs)
+    ∙ ap₂ ◌++◌ (take_at ps qs (length ps) refl) (ap (take m) (drop_at ps qs (length ps) refl))
+
+pub groups_of_piece : (given bytes : List ℕ) (first : ℕ) → length given ≡ 188 * first → first % 4 ≡ 0
+    → take (in_groups (packets_of (given ++ bytes))) (packets_of (given ++ bytes))
+    ≡ packets_of given ++ packets_from bytes 0 (4 * (length bytes / 752))
+groups_of_piece given bytes first long grouped =
+    let ps = packets_of given in
+    let qs = packets_of bytes in
+    let m : ℕ = 4 * (length bytes / 752) in
+    let all : packets_of (given ++ bytes) ≡ ps ++ qs = packets_of-append given bytes (omega (arith, long)) in
+    ap (λ z. take (in_groups z) z) all
+    ∙ groups_behind ps qs m (omega (arith, length-packets_of given, long, grouped))
+    (omega (arith, length-packets_of bytes))
+    ∙ ap (λ z. ps ++ z) (front_of bytes m (omega arith))

@@ -1,0 +1,118 @@
+use Rattle.std.proofs.Common.{◌≡◌, ◌*◌, ◌++◌, ◌∷◌, [], ℕ, ℤ, List, length, map, take, sym, ap, subst, ◌∙◌, arith}
+use Rattle.std.proofs.Common.{append_assoc}
+use Rattle.std.proofs.lemmas.List.{length-append, length-map, length-take}
+use Rattle.dtx_coder.specs.Stream.{symbols_of}
+use Rattle.dtx_exciter.specs.Emission.{given, emission}
+use Rattle.dtx_exciter.specs.Log.{line_of}
+use Rattle.dtx_exciter.specs.Packets.{told}
+use Rattle.dtx_files.specs.GivenFewLaws.{given_few}
+use Rattle.dtx_files.specs.LogText.{log_text}
+use Rattle.dtx_files.specs.Symbols.{byte_of_symbol}
+use Rattle.dtx_jobs.specs.ExciteLaws.{sent_push, logged_push}
+use Rattle.dtx_jobs.specs.Life.{life_tally, tally_with, HasRoom}
+use Rattle.dtx_jobs.specs.declared.life_tally.LifeTally.{LifeTally}
+use Rattle.dtx_jobs.proofs.LifeOn.{has_room, tally_push}
+use Rattle.dtx_jobs.proofs.excitation.Excitation.take.Goals as goal
+
+pub write_line-requires : goal.write_line-requires
+write_line-requires c =
+    let old = c.args.self.now in
+    let some = c.requires.some in
+    let taken = c.take-told.ensures old.address old.delay some.0 some.1.exciter in
+    (subst (HasRoom old.tally) (sym taken.air.counted)
+    (has_room old.address old.delay some.0 c.args.packet.now.0 old.tally some.1.tally c.requires.most)).segments
+
+pub add-requires : goal.add-requires
+add-requires c =
+    let old = c.args.self.now in
+    let some = c.requires.some in
+    let taken = c.take-told.ensures old.address old.delay some.0 some.1.exciter in
+    subst (HasRoom old.tally) (sym taken.air.counted)
+    (has_room old.address old.delay some.0 c.args.packet.now.0 old.tally some.1.tally c.requires.most)
+
+pub shared_ref_as_front-push : goal.shared_ref_as_front-push
+shared_ref_as_front-push c =
+    let old = c.args.self.now in
+    let some = c.requires.some in
+    let taken = c.take-told.ensures old.address old.delay some.0 some.1.exciter in
+    omega (arith, taken.air.counted, given_few old.address old.delay (some.0 ++ c.args.packet.now.0 ∷ []))
+
+pub push-requires : goal.push-requires
+push-requires c =
+    let old = c.args.self.now in
+    let some = c.requires.some in
+    let taken = c.take-told.ensures old.address old.delay some.0 some.1.exciter in
+    let count : ℕ = 832 * c.take-told.new.air.segments in (
+      omega arith,
+      omega (
+        arith,
+        taken.air.counted,
+        given_few old.address old.delay (some.0 ++ c.args.packet.now.0 ∷ []),
+        c.requires.symbols,
+        length-take count c.take-told.new.air.symbols,
+      ),
+    )
+
+pub returns-clause-more_symbols : goal.returns-clause-more_symbols
+returns-clause-more_symbols c =
+    let old = c.args.self.now in
+    let some = c.requires.some in
+    let taken = c.take-told.ensures old.address old.delay some.0 some.1.exciter in
+    let count : ℕ = 832 * c.take-told.new.air.segments in
+    let sent : List ℤ = take count c.take-told.new.air.symbols in
+    omega (
+      arith,
+      taken.air.counted,
+      given_few old.address old.delay (some.0 ++ c.args.packet.now.0 ∷ []),
+      ap length c.push.ensures,
+      length-append old.symbols (map byte_of_symbol sent),
+      length-map sent byte_of_symbol,
+      length-take count c.take-told.new.air.symbols,
+    )
+
+pub returns-clause-life : goal.returns-clause-life
+returns-clause-life c = λ ps life.
+    let a = c.args.self.now.address in
+    let d = c.args.self.now.delay in
+    let p = c.args.packet.now.0 in
+    let taken = c.take-told.ensures a d ps life.exciter in
+    let n : ℕ = length (emission a d ps) in
+    let m : ℕ = length (given a d (ps ++ p ∷ [])) in
+    let told = c.take-told.result in
+    record {
+      exciter = taken.stands;
+      tally = c.add.ensures n m
+          ∙ ap (λ (t : LifeTally). tally_with t c.take-told.new.air.segments (line_of n m told)) life.tally
+          ∙ ap (λ k. tally_with (life_tally a d ps) k (line_of n m told)) taken.air.counted
+          ∙ ap (λ t. tally_with (life_tally a d ps) m (line_of n m t)) taken.answer
+          ∙ tally_push a d ps p;
+    }
+
+pub returns-clause-sent : goal.returns-clause-sent
+returns-clause-sent c = λ ps bytes life is.
+    let a = c.args.self.now.address in
+    let d = c.args.self.now.delay in
+    let p = c.args.packet.now.0 in
+    let taken = c.take-told.ensures a d ps life.exciter in
+    let brought : List ℕ = map byte_of_symbol (symbols_of (given a d (ps ++ p ∷ []))) in
+    sent_push a d ps p ∙ ap (λ z. z ++ brought) is ∙ append_assoc bytes c.args.self.now.symbols brought
+    ∙ ap (λ z. bytes ++ z)
+    (ap (λ z. c.args.self.now.symbols ++ z) (ap (map byte_of_symbol) (sym taken.air.begins)) ∙ sym c.push.ensures)
+
+pub returns-clause-logged : goal.returns-clause-logged
+returns-clause-logged c = λ ps bytes life is.
+    let a = c.args.self.now.address in
+    let d = c.args.self.now.delay in
+    let p = c.args.packet.now.0 in
+    let taken = c.take-told.ensures a d ps life.exciter in
+    let n : ℕ = length (emission a d ps) in
+    let m : ℕ = length (given a d (ps ++ p ∷ [])) in
+    let before = ap (λ (t : LifeTally). t.segments) life.tally in
+    let brought : List ℕ = log_text (line_of n m (told a d (ps ++ p ∷ []))) in
+    let text : c.as_bytes.result.now ≡ brought =
+    c.as_bytes.ensures.value ∙ c.as_str.ensures.value ∙ c.write_line.ensures
+    ∙ ap (λ k. log_text (line_of k c.take-told.new.air.segments c.take-told.result)) before
+    ∙ ap (λ k. log_text (line_of n k c.take-told.result)) taken.air.counted
+    ∙ ap (λ t. log_text (line_of n m t)) taken.answer in
+    logged_push a d ps p ∙ ap (λ z. z ++ brought) is ∙ append_assoc bytes c.args.self.now.lines brought
+    ∙ ap (λ z. bytes ++ z) (ap (λ z. c.args.self.now.lines ++ z) (sym text) ∙ sym c.push-2.ensures)

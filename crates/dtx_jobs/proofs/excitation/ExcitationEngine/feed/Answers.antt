@@ -1,0 +1,31 @@
+use Rattle.std.proofs.Common.{ℕ, List, ap, ap₂, sym, subst, ◌∙◌, arith}
+use Rattle.dtx_engine.specs.Made.{Made}
+use Rattle.dtx_packets.specs.PacketLaws.{packets_of-append}
+use Rattle.dtx_packets.specs.Packets.{packets_of}
+use Rattle.dtx_jobs.specs.Excitation.{IsLife}
+use Rattle.dtx_jobs.specs.Excite.{excited}
+use Rattle.dtx_jobs.specs.declared.life_tally.LifeTally.{LifeTally}
+use Rattle.dtx_jobs.proofs.StreamSymbols.{length-packets_of}
+use Rattle.dtx_jobs.proofs.excitation.ExcitationEngine.feed.Goals as goal
+
+pub take_all-requires-clause-most : goal.take_all-requires-clause-most
+take_all-requires-clause-most c =
+    let some = c.requires.given in
+    let count = ap (λ (t : LifeTally). t.packets) some.2.tally in
+    omega (arith, count, some.1, length-packets_of some.0, c.requires.most)
+
+pub returns-clause-fed : goal.returns-clause-fed
+returns-clause-fed c = λ before long stand.
+    let a = c.args.self.now.address in
+    let d = c.args.self.now.delay in
+    let bytes = c.args.bytes.now in
+    let all = packets_of-append before bytes (omega (arith, long)) in
+    let sent = c.take_all.ensures.sent (packets_of before) (record { exciter = stand.exciter; tally = stand.tally }) in
+    let logged = c.take_all.ensures.logged (packets_of before)
+    (record { exciter = stand.exciter; tally = stand.tally }) in
+    let made : List ℕ → List ℕ → Made = λ symbols lines. record { first = symbols; second = lines } in
+    record {
+      stand = subst (IsLife c.take_all.new.self) (sym all)
+          (c.take_all.ensures.life (packets_of before) (record { exciter = stand.exciter; tally = stand.tally }));
+      made = ap (excited a d) all ∙ ap₂ made sent logged;
+    }

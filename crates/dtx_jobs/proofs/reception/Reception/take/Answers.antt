@@ -1,0 +1,44 @@
+use Rattle.std.proofs.Common.{◌≡◌, ◌+◌, ◌++◌, ◌∷◌, [], subst, sym, ap, ◌∙◌, arith}
+use Rattle.dtx_receiver.specs.Packets.{given}
+use Rattle.dtx_receiver.specs.Receiver.{StandsFor}
+use Rattle.dtx_receiver.specs.Runs.{begun, tracking}
+use Rattle.dtx_jobs.specs.Tally.{tally_of, tally_with}
+use Rattle.dtx_jobs.specs.declared.tally.Tally.{Tally}
+use Rattle.dtx_jobs.proofs.Tallied.{tally_on}
+use Rattle.dtx_jobs.proofs.reception.Reception.take.Goals as goal
+
+pub returns-clause-receiving : goal.returns-clause-receiving
+returns-clause-receiving c = λ segments is.
+    let batch = c.as_slice.result.now in
+    let x = c.to_symbols.new.segment in
+    let old : Tally = c.args.self.now.tally in
+    let told : c.begun.result ≡ begun (tracking segments x) = c.begun.ensures.begun
+    ∙ ap begun (c.take-tracking.ensures.answer segments is.receiver) in
+    let counted : tally_with (record old { segments = old.segments + 1; runs = old.runs + c.begun.result }) batch
+    ≡ tally_of (segments ++ x ∷ []) (given (segments ++ x ∷ [])) =
+    ap (λ n. tally_with (record old { segments = old.segments + 1; runs = old.runs + n }) batch) told
+    ∙ ap (λ (t : Tally). tally_with
+    (record t { segments = t.segments + 1; runs = t.runs + begun (tracking segments x) }) batch) is.tally
+    ∙ tally_on segments x batch
+    (c.take-tracking.ensures.packets segments is.receiver
+    ∙ ap (λ z. given segments ++ z) (sym c.as_slice.ensures.value)) in
+    record {
+      receiver = subst (λ s. StandsFor c.take-tracking.new.self (segments ++ s ∷ [])) c.to_symbols.ensures
+          (c.take-tracking.ensures.stands segments is.receiver);
+      tally = subst (λ s. c.add.new.self
+          ≡ tally_of (segments ++ s ∷ []) (given (segments ++ s ∷ []))) c.to_symbols.ensures
+          (c.add.ensures.counted ∙ counted);
+    }
+
+pub returns-clause-bounded : goal.returns-clause-bounded
+returns-clause-bounded c =
+    let is = c.add.ensures.counted in
+    let old = c.requires.bounded in
+    let segments = ap (λ (t : Tally). t.segments) is in
+    let runs = ap (λ (t : Tally). t.runs) is in
+    record {
+      runs = omega (arith, segments, runs, old.runs, c.begun.ensures.one);
+      packets = omega (arith, segments, old.packets, c.add.ensures.most_packets);
+      fixed = omega (arith, segments, old.fixed, c.add.ensures.most_fixed);
+      flagged = omega (arith, segments, old.flagged, c.add.ensures.most_flagged);
+    }

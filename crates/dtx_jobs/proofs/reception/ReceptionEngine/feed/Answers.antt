@@ -1,0 +1,34 @@
+use Rattle.std.proofs.Common.{ap, sym, subst, ◌∙◌, arith}
+use Rattle.dtx_engine.specs.Made.{only}
+use Rattle.dtx_receiver.specs.Packets.{given}
+use Rattle.dtx_jobs.specs.Receive.{bytes_of}
+use Rattle.dtx_jobs.specs.Reception.{IsReceiving}
+use Rattle.dtx_jobs.specs.SymbolFile.{segments_of}
+use Rattle.dtx_jobs.specs.SymbolFileLaws.{segments_of-append, length-segments_of}
+use Rattle.dtx_jobs.specs.declared.tally.Tally.{Tally}
+use Rattle.dtx_jobs.proofs.reception.ReceptionEngine.feed.Goals as goal
+
+pub take_all-requires-clause-most : goal.take_all-requires-clause-most
+take_all-requires-clause-most c =
+    let some = c.requires.given in
+    let count = ap (λ (t : Tally). t.segments) some.2.receiving.tally in
+    omega (arith, count, some.1, length-segments_of some.0, c.requires.most)
+
+pub take_all-requires-clause-bounded : goal.take_all-requires-clause-bounded
+take_all-requires-clause-bounded c = c.requires.given.2.bounded
+
+pub returns-clause-fed : goal.returns-clause-fed
+returns-clause-fed c = λ before long stand.
+    let bytes = c.args.bytes.now in
+    let was = stand.receiving in
+    let all = segments_of-append before bytes (omega (arith, long)) in
+    record {
+      stand = record {
+        receiving = subst (IsReceiving c.take_all.new.self) (sym all)
+            (c.take_all.ensures.receiving (segments_of before) (record { receiver = was.receiver; tally = was.tally }));
+        bounded = c.take_all.ensures.bounded;
+      };
+      made = ap (λ s. only (bytes_of (given s))) all
+          ∙ ap only (c.take_all.ensures.brought (segments_of before)
+          (record { receiver = was.receiver; tally = was.tally }));
+    }

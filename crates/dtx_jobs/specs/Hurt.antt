@@ -1,0 +1,55 @@
+-- What `hurt IN CHANGES OUT` means: a file with damage laid over its bytes (the profile's own).
+use Rattle.std.specs.Prelude.{◌≡◌, ℕ, true, if◌then◌else◌, List, [], ◌∷◌, length, Option, Some, None, is_some}
+use Rattle.std.specs.FinMap.{get}
+use Rattle.dtx_outside.specs.Shelf.{Files}
+use Rattle.dtx_meaning.specs.Meaning.{Meaning, refused}
+use Rattle.dtx_meaning.specs.Status.{ended}
+use Rattle.dtx_meaning.specs.declared.status.Outcome.{Outcome}
+use Rattle.dtx_meaning.specs.declared.status.Status.TheVariants.{Done, OutOfAir, Same, Usage}
+use Rattle.dtx_make.specs.Hurt.{hurt, damaged}
+use Rattle.dtx_plan.specs.Sound.{AreDamages}
+use Rattle.dtx_plan.specs.declared.damage.Damage.{Damage}
+use Rattle.dtx_engine.specs.Made.{only}
+use Rattle.dtx_engine.specs.Making.{Making, meaning}
+use Rattle.dtx_words.specs.Names.{repeated}
+use Rattle.dtx_jobs.specs.PastEnd.{first_past}
+use Rattle.dtx_jobs.specs.PlanFile.{under_changes}
+use Rattle.dtx_jobs.specs.Shapes.{single_bytes}
+use Rattle.dtx_jobs.specs.declared.laying.Laying.{Laying}
+
+-- The end of a file of so many bytes: the first entry that ends behind it; or where none does its bytes, and how many
+-- of them some entry covers.
+abbrev pub hurt_end : List Damage → ℕ → Option ℕ → Outcome
+hurt_end damage bytes (Some entry) = ended (OutOfAir entry)
+hurt_end damage bytes None =
+    record { status = Done; numbers = bytes ∷ damaged damage bytes ∷ 0 ∷ 0 ∷ 0 ∷ 0 ∷ []; shown = 2 }
+
+abbrev pub hurt_outcome : List Damage → ℕ → Outcome
+hurt_outcome damage bytes = hurt_end damage bytes (first_past damage bytes)
+
+-- Each byte that an entry covers becomes that entry's `put`. Where an entry ends behind the file, all of it is written.
+abbrev pub hurting : List Damage → Making
+hurting damage = record {
+  allows = λ k byte. true;
+  made = λ file. only (hurt damage file);
+  rest = λ file. only [];
+  answer = λ file loose. hurt_outcome damage (length file);
+}
+
+-- damage, whose entries are in order, was laid over these bytes, and they were counted
+pub record HasLaid (state : Laying) (given : List ℕ) : Type 0 where
+  pub damages : AreDamages state.damage.now
+  pub count : state.count ≡ length given
+  pub damaged : state.damaged ≡ damaged state.damage.now (length given)
+
+-- with files of these names
+abbrev pub hurt_file : List ℕ → List ℕ → List ℕ → Files → Meaning
+hurt_file input changes output held =
+    if is_some (repeated (input ∷ changes ∷ output ∷ [])) then refused Same
+    else under_changes 1 (get held changes) (λ damage.
+    meaning single_bytes (hurting damage) 0 (output ∷ []) (get held input))
+
+-- with these words
+abbrev pub hurt_meaning : List (List ℕ) → Files → Meaning
+hurt_meaning (verb ∷ input ∷ changes ∷ output ∷ []) held = hurt_file input changes output held
+hurt_meaning words held = refused Usage

@@ -1,0 +1,30 @@
+-- The segments of a symbol file: one byte for each symbol, in two's complement, and segments are counted from byte 0
+-- (the
+-- profile's own).
+use Rattle.std.specs.Prelude.{ℕ, ℤ, ◌*◌, ◌/◌, List, length, map, take, drop}
+use Rattle.std.specs.Int.{w8, cast_signed}
+use Rattle.std.specs.List.{range_with_len}
+
+-- the symbol of a byte
+abbrev pub symbol_of_byte : ℕ → ℤ
+symbol_of_byte byte = cast_signed w8 byte
+
+-- the symbols of bytes
+abbrev pub symbols : List ℕ → List ℤ
+symbols bytes = map symbol_of_byte bytes
+
+-- segment n of a file, of 832 symbols
+abbrev pub segment_at : List ℕ → ℕ → List ℤ
+segment_at file n = symbols (take 832 (drop (832 * n) file))
+
+-- how many whole segments a file has
+abbrev pub whole_segments : List ℕ → ℕ
+whole_segments file = length file / 832
+
+-- that many segments of a file, from one on
+abbrev pub segments_from : List ℕ → ℕ → ℕ → List (List ℤ)
+segments_from file first count = map (segment_at file) (range_with_len first count)
+
+-- the whole segments of a file
+abbrev pub segments_of : List ℕ → List (List ℤ)
+segments_of file = segments_from file 0 (whole_segments file)

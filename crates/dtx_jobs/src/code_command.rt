@@ -1,0 +1,41 @@
+// `code IN OUT`: the symbols of a stream.
+ghost use Rattle.std.specs.Prelude.{Some, IfSome};
+ghost use Rattle.dtx_engine.specs.Making.{transformed};
+ghost use Rattle.dtx_meaning.specs.Meaning.{IsCarriedOut};
+ghost use Rattle.dtx_meaning.specs.Status.{blame_of};
+ghost use Rattle.dtx_outside.specs.Counts.{HasGone};
+ghost use Rattle.dtx_jobs.specs.Code.{code_meaning, coding};
+ghost use Rattle.dtx_jobs.specs.Shapes as shapes;
+
+use crate::stream_coder::StreamCoder;
+use dtx_engine::transform;
+use dtx_meaning::{Outcome, Status, ended};
+use dtx_outside::{Shelf, Word};
+use std::alloc::Global;
+
+/// Writes the symbols of the stream or feed IN to OUT: those of all data segments and field syncs that its whole groups
+/// of four packets give (ATSC A/53 Part 2), one signed byte each in two's complement. Byte 0 of its packets is 0x47 or
+/// the mark 0xB8, and isn't sent. The numbers are the packets, the segments, and the bytes behind the last whole
+/// packet.
+pub fn code<S: Shelf>(alloc: Global, words: &[Word], shelf: &mut S) -> Outcome
+    ensures carried { IfSome (S.files shelf.old) (λ held.
+        IsCarriedOut (code_meaning words.now held) (Some held) result (S.files shelf.new)) }
+    ensures gone { HasGone (S.counts shelf.old) (S.counts shelf.new) (blame_of result.status) }
+{
+    match words {
+        [_, input, output] => code_files(alloc, input.as_str(), output.as_str(), shelf),
+        _ => ended(Status::Usage),
+    }
+}
+
+/// Does so with files of these names.
+fn code_files<S: Shelf>(alloc: Global, input: &str, output: &str, shelf: &mut S) -> Outcome
+    ensures carried { IfSome (S.files shelf.old) (λ held. IsCarriedOut
+        (transformed shapes.packets coding input.now output.now held) (Some held) result (S.files shelf.new)) }
+    ensures gone { HasGone (S.counts shelf.old) (S.counts shelf.new) (blame_of result.status) }
+{
+    match StreamCoder::new(alloc) {
+        Ok(mut coder) => transform(alloc, &mut coder, input, output, shelf),
+        Err(_) => ended(Status::Memory),
+    }
+}

@@ -1,0 +1,165 @@
+// An exciter that is given a feed, a piece of its packets at a time.
+ghost use Rattle.std.specs.Prelude.{◌≡◌, ◌+◌, ◌*◌, ◌/◌, ◌<◌, ◌≤◌, ◌++◌, ◌∷◌, [], ℕ, List, IfOk, length, map, take};
+ghost use Rattle.dtx_packets.specs.Packets.{packets_of};
+ghost use Rattle.dtx_jobs.specs.Excitation.{IsLife, WasExcited};
+ghost use Rattle.dtx_jobs.specs.Life.{sent_bytes, logged_bytes};
+
+use crate::life_tally::LifeTally;
+use crate::shapes::single_packets;
+use crate::symbol_buffer::SymbolBuffer;
+use arrayvec::ArrayString;
+use dtx_coder::{AIR_SYMBOLS, Air};
+use dtx_engine::{Buffer, Engine, Shape};
+use dtx_exciter::Exciter;
+use dtx_files::{LOG_LINE, write_line};
+use dtx_frame::SEGMENT;
+use dtx_meaning::{Outcome, Status};
+use dtx_packets::{MOST_PACKETS, PACKET, PIECE_PACKETS, Packet};
+use std::alloc::{AllocError, Global};
+
+/// How many symbols an exciter sends for the packets of a piece at most.
+const SENT_BYTES: usize = AIR_SYMBOLS * PIECE_PACKETS;
+
+/// How many bytes their lines in the log have at most.
+const LOGGED_BYTES: usize = LOG_LINE * PIECE_PACKETS;
+
+/// An exciter with what the last piece brought, and the numbers of all.
+#[derive(Drop)]
+pub(crate) struct Excitation {
+    address: u16,
+    delay: u32,
+    exciter: Exciter,
+    air: Air,
+    /// The line of the log that the last packet brought, or nothing.
+    line: ArrayString<LOG_LINE>,
+    tally: LifeTally,
+    /// The symbols that the last piece brought.
+    symbols: SymbolBuffer<SENT_BYTES>,
+    /// The lines of the log that it brought.
+    lines: Buffer<LOGGED_BYTES>,
+}
+
+impl Excitation {
+    /// The transmitter with this address, to which the feed takes `delay` ticks of 100 ns, was given nothing.
+    pub(crate) fn new(alloc: Global, address: u16, delay: u32) -> Result<Excitation, AllocError>
+        ensures life { IfOk result (λ state. WasExcited state []) }
+        ensures address { IfOk result (λ state. state.address ≡ address) }
+        ensures delay { IfOk result (λ state. state.delay ≡ delay) }
+    {
+        Ok(Excitation {
+            address,
+            delay,
+            exciter: Exciter::new(alloc, address, delay)?,
+            air: Air::new(),
+            line: ArrayString::new(),
+            tally: LifeTally::new(),
+            symbols: SymbolBuffer::new(alloc)?,
+            lines: Buffer::new(alloc)?,
+        })
+    }
+
+    /// Takes packets, as the bytes of a file, and gathers what they bring.
+    fn take_all(&mut self, bytes: &[u8])
+        requires some { (before : List (List ℕ)) × IsLife self.old before }
+        requires most { self.old.tally.packets + length bytes.now / PACKET ≤ MOST_PACKETS }
+        requires room { length bytes.now ≤ PACKET * PIECE_PACKETS }
+        requires no_symbols { self.old.symbols ≡ [] }
+        requires no_lines { self.old.lines ≡ [] }
+        ensures address { self.new.address ≡ self.old.address }
+        ensures delay { self.new.delay ≡ self.old.delay }
+        ensures life { (before : List (List ℕ)) → IsLife self.old before
+            → IsLife self.new (before ++ packets_of bytes.now) }
+        ensures sent { (before : List (List ℕ)) → IsLife self.old before
+            → sent_bytes self.old.address self.old.delay (before ++ packets_of bytes.now)
+            ≡ sent_bytes self.old.address self.old.delay before ++ self.new.symbols }
+        ensures logged { (before : List (List ℕ)) → IsLife self.old before
+            → logged_bytes self.old.address self.old.delay (before ++ packets_of bytes.now)
+            ≡ logged_bytes self.old.address self.old.delay before ++ self.new.lines }
+    {
+        let (packets, _) = bytes.as_chunks::<PACKET>();
+        for i in 0..packets.len() {
+            self.take(&Packet(packets[i]));
+        }
+    }
+
+    /// Takes the next packet of the feed, of any bytes, and gathers what it brings.
+    fn take(&mut self, packet: &Packet)
+        requires some { (before : List (List ℕ)) × IsLife self.old before }
+        requires most { self.old.tally.packets < MOST_PACKETS }
+        requires symbols { length self.old.symbols + AIR_SYMBOLS ≤ SENT_BYTES }
+        requires lines { length self.old.lines + LOG_LINE ≤ LOGGED_BYTES }
+        ensures address { self.new.address ≡ self.old.address }
+        ensures delay { self.new.delay ≡ self.old.delay }
+        ensures life { (before : List (List ℕ)) → IsLife self.old before
+            → IsLife self.new (before ++ packet.now.0 ∷ []) }
+        ensures sent { (before : List (List ℕ)) (bytes : List ℕ) → IsLife self.old before
+            → sent_bytes self.old.address self.old.delay before ≡ bytes ++ self.old.symbols
+            → sent_bytes self.old.address self.old.delay (before ++ packet.now.0 ∷ []) ≡ bytes ++ self.new.symbols }
+        ensures logged { (before : List (List ℕ)) (bytes : List ℕ) → IsLife self.old before
+            → logged_bytes self.old.address self.old.delay before ≡ bytes ++ self.old.lines
+            → logged_bytes self.old.address self.old.delay (before ++ packet.now.0 ∷ []) ≡ bytes ++ self.new.lines }
+        ensures more_symbols { length self.new.symbols ≤ length self.old.symbols + AIR_SYMBOLS }
+        ensures more_lines { length self.new.lines ≤ length self.old.lines + LOG_LINE }
+        ensures packets { self.new.tally.packets ≡ self.old.tally.packets + 1 }
+    {
+        let told = self.exciter.take(packet, &mut self.air);
+        let segments = self.air.segments;
+        write_line(told, self.tally.segments, segments, &mut self.line);
+        self.tally.add(told, segments);
+        let count = SEGMENT * segments as usize;
+        self.symbols.push(&self.air.symbols[..count]);
+        self.lines.push(self.line.as_str().as_bytes());
+    }
+}
+
+impl Engine for Excitation {
+    ghost use Rattle.dtx_engine.specs.Made.{Made};
+    ghost use Rattle.dtx_jobs.specs.Excitation.{WasExcited};
+    ghost use Rattle.dtx_jobs.specs.Excite.{exciting};
+    ghost use Rattle.dtx_jobs.specs.ExciteLaws.{excites_none, excites_more};
+    ghost use Rattle.dtx_jobs.specs.Shapes as shapes;
+
+    ghost shape = { shapes.single_packets };
+
+    ghost making = { λ s. exciting s.address s.delay };
+
+    ghost stands = { WasExcited };
+
+    ghost gives = { λ s _. record { first = s.symbols; second = s.lines } };
+
+    fn sizes(&self) -> Shape {
+        single_packets()
+    }
+
+    fn allows(&self, _index: u64, _unit: &[u8]) -> bool {
+        true
+    }
+
+    fn feed(&mut self, _first: u64, bytes: &mut [u8]) {
+        self.symbols.clear();
+        self.lines.clear();
+        self.take_all(bytes);
+    }
+
+    fn finish(&mut self, loose: usize) -> Outcome {
+        self.symbols.clear();
+        self.lines.clear();
+        Outcome {
+            status: Status::Done,
+            numbers: self.tally.numbers(loose),
+            shown: 5,
+        }
+    }
+
+    fn made<'a>(&'a self, _bytes: &'a [u8]) -> &'a [u8] {
+        self.symbols.bytes()
+    }
+
+    fn log(&self) -> &[u8] {
+        self.lines.bytes()
+    }
+
+    ghost starts = { λ s. excites_none s.address s.delay };
+
+    ghost grows = { λ s a b whole. excites_more s.address s.delay a b whole };
+}

@@ -1,0 +1,41 @@
+// `receive IN OUT`: the packets of a symbol file.
+ghost use Rattle.std.specs.Prelude.{Some, IfSome};
+ghost use Rattle.dtx_engine.specs.Making.{transformed};
+ghost use Rattle.dtx_meaning.specs.Meaning.{IsCarriedOut};
+ghost use Rattle.dtx_meaning.specs.Status.{blame_of};
+ghost use Rattle.dtx_outside.specs.Counts.{HasGone};
+ghost use Rattle.dtx_jobs.specs.Receive.{receive_meaning, receiving};
+ghost use Rattle.dtx_jobs.specs.Shapes as shapes;
+
+use crate::reception::Reception;
+use dtx_engine::transform;
+use dtx_meaning::{Outcome, Status, ended};
+use dtx_outside::{Shelf, Word};
+use std::alloc::Global;
+
+/// Writes the packets of the symbols IN to OUT (ATSC A/53 Part 2, the way back): those of every run of segments that
+/// begins with one that looks like a field sync, each with its errors corrected, or flagged where its word has no
+/// correction. The numbers are the segments read, the runs, the packets written, the bytes put right, the packets
+/// flagged, and the bytes behind the last whole segment.
+pub fn receive<S: Shelf>(alloc: Global, words: &[Word], shelf: &mut S) -> Outcome
+    ensures carried { IfSome (S.files shelf.old) (λ held.
+        IsCarriedOut (receive_meaning words.now held) (Some held) result (S.files shelf.new)) }
+    ensures gone { HasGone (S.counts shelf.old) (S.counts shelf.new) (blame_of result.status) }
+{
+    match words {
+        [_, input, output] => receive_files(alloc, input.as_str(), output.as_str(), shelf),
+        _ => ended(Status::Usage),
+    }
+}
+
+/// Does so with files of these names.
+fn receive_files<S: Shelf>(alloc: Global, input: &str, output: &str, shelf: &mut S) -> Outcome
+    ensures carried { IfSome (S.files shelf.old) (λ held. IsCarriedOut
+        (transformed shapes.segments receiving input.now output.now held) (Some held) result (S.files shelf.new)) }
+    ensures gone { HasGone (S.counts shelf.old) (S.counts shelf.new) (blame_of result.status) }
+{
+    match Reception::new(alloc) {
+        Ok(mut reception) => transform(alloc, &mut reception, input, output, shelf),
+        Err(_) => ended(Status::Memory),
+    }
+}

@@ -1,0 +1,189 @@
+// Receiving symbols, a piece of their file at a time.
+ghost use Rattle.std.specs.Prelude.{◌≡◌, ◌+◌, ◌*◌, ◌/◌, ◌%◌, ◌<◌, ◌≤◌, ◌++◌, ◌∷◌, [], ℤ, List, IfOk, length, map};
+ghost use Rattle.dtx_receiver.specs.Runs as runs;
+ghost use Rattle.dtx_receiver.specs.Packets.{all_packets, given};
+ghost use Rattle.dtx_jobs.specs.Receive.{bytes_of};
+ghost use Rattle.dtx_jobs.specs.Reception.{IsReceiving, WasGiven};
+ghost use Rattle.dtx_jobs.specs.SymbolFile.{segments_of, symbol_of_byte, symbols};
+ghost use Rattle.dtx_jobs.specs.Tally.{IsBounded, tally_of};
+
+use crate::shapes::{PIECE_SEGMENTS, segments};
+use crate::tally::Tally;
+use dtx_engine::{Buffer, Engine, Shape};
+use dtx_frame::SEGMENT;
+use dtx_meaning::{Outcome, Status, ended};
+use dtx_packets::PACKET;
+use dtx_receiver::{Batch, MOST_RECEIVED, Received, Receiver, Tracking};
+use std::alloc::{AllocError, Global};
+
+/// How many segments are received at most: 2,000,000 such pieces (the profile's own limit).
+pub const MOST_SEGMENTS: u64 = 626_000_000;
+
+/// How many bytes the packets have that a piece brings at most.
+const RECEIVED_BYTES: usize = PACKET * MOST_RECEIVED * PIECE_SEGMENTS;
+
+/// A receiver with the packets that the last piece brought, and the numbers of all.
+#[derive(Drop)]
+pub struct Reception {
+    receiver: Receiver,
+    batch: Batch,
+    segment: [i8; SEGMENT],
+    tally: Tally,
+    packets: Buffer<RECEIVED_BYTES>,
+}
+
+impl Reception {
+    /// Nothing was received.
+    pub fn new(alloc: Global) -> Result<Reception, AllocError>
+        ensures { IfOk result (λ r. WasGiven r []) }
+    {
+        Ok(Reception {
+            receiver: Receiver::new(alloc)?,
+            batch: Batch::new(),
+            segment: [0; SEGMENT],
+            tally: Tally::new(),
+            packets: Buffer::new(alloc)?,
+        })
+    }
+
+    /// Takes segments, as the bytes of a file, and gathers the packets that they bring.
+    fn take_all(&mut self, bytes: &[u8])
+        requires most { self.old.tally.segments + length bytes.now / SEGMENT ≤ MOST_SEGMENTS }
+        requires bounded { IsBounded self.old.tally self.old.tally.segments }
+        requires room { length bytes.now ≤ SEGMENT * PIECE_SEGMENTS }
+        requires empty { self.old.packets ≡ [] }
+        ensures receiving { (before : List (List ℤ)) → IsReceiving self.old before
+            → IsReceiving self.new (before ++ segments_of bytes.now) }
+        ensures brought { (before : List (List ℤ)) → IsReceiving self.old before
+            → bytes_of (given (before ++ segments_of bytes.now)) ≡ bytes_of (given before) ++ self.new.packets }
+        ensures bounded { IsBounded self.new.tally self.new.tally.segments }
+    {
+        let (segments, _) = bytes.as_chunks::<SEGMENT>();
+        for i in 0..segments.len() {
+            self.take(&segments[i]);
+        }
+    }
+
+    /// Takes the next segment, and gathers the packets that it brings.
+    fn take(&mut self, bytes: &[u8; SEGMENT])
+        requires most { self.old.tally.segments < MOST_SEGMENTS }
+        requires bounded { IsBounded self.old.tally self.old.tally.segments }
+        requires room { length self.old.packets + PACKET * MOST_RECEIVED ≤ RECEIVED_BYTES }
+        ensures receiving { (before : List (List ℤ)) → IsReceiving self.old before
+            → IsReceiving self.new (before ++ symbols bytes.now ∷ []) }
+        ensures brought { (before : List (List ℤ)) → IsReceiving self.old before
+            → given (before ++ symbols bytes.now ∷ []) ≡ given before ++ self.new.batch.packets.items }
+        ensures packets { self.new.packets ≡ self.old.packets ++ bytes_of self.new.batch.packets.items }
+        ensures long { length self.new.packets ≤ length self.old.packets + PACKET * MOST_RECEIVED }
+        ensures bounded { IsBounded self.new.tally self.new.tally.segments }
+        ensures count { self.new.tally.segments ≡ self.old.tally.segments + 1 }
+    {
+        to_symbols(bytes, &mut self.segment);
+        let tracking = self.receiver.take(&self.segment, &mut self.batch);
+        self.tally.segments += 1;
+        self.tally.runs += begun(tracking);
+        self.tally.add(self.batch.packets.as_slice());
+        gather(self.batch.packets.as_slice(), &mut self.packets);
+    }
+
+    /// Ends, and gathers the packets that the end brings.
+    fn end(&mut self)
+        requires most { self.old.tally.segments ≤ MOST_SEGMENTS }
+        requires bounded { IsBounded self.old.tally self.old.tally.segments }
+        requires empty { self.old.packets ≡ [] }
+        ensures brought { (before : List (List ℤ)) → IsReceiving self.old before
+            → bytes_of (all_packets before) ≡ bytes_of (given before) ++ self.new.packets }
+        ensures tally { (before : List (List ℤ)) → IsReceiving self.old before
+            → self.new.tally ≡ tally_of before (all_packets before) }
+    {
+        self.receiver.finish(&mut self.batch);
+        self.tally.add(self.batch.packets.as_slice());
+        gather(self.batch.packets.as_slice(), &mut self.packets);
+    }
+}
+
+impl Engine for Reception {
+    ghost use Rattle.dtx_engine.specs.Made.{only};
+    ghost use Rattle.dtx_jobs.specs.Receive.{receiving};
+    ghost use Rattle.dtx_jobs.specs.ReceiveLaws.{receives_none, receives_more};
+    ghost use Rattle.dtx_jobs.specs.Reception.{WasGiven};
+    ghost use Rattle.dtx_jobs.specs.Shapes as shapes;
+
+    ghost shape = { shapes.segments };
+
+    ghost making = { λ _. receiving };
+
+    ghost stands = { WasGiven };
+
+    ghost gives = { λ s _. only s.packets };
+
+    fn sizes(&self) -> Shape {
+        segments()
+    }
+
+    fn allows(&self, _index: u64, _unit: &[u8]) -> bool {
+        true
+    }
+
+    fn feed(&mut self, _first: u64, bytes: &mut [u8]) {
+        self.packets.clear();
+        self.take_all(bytes);
+    }
+
+    fn finish(&mut self, loose: usize) -> Outcome {
+        self.packets.clear();
+        self.end();
+        if self.tally.runs == 0 {
+            ended(Status::NoSync)
+        } else {
+            Outcome {
+                status: Status::Done,
+                numbers: self.tally.numbers(loose),
+                shown: 6,
+            }
+        }
+    }
+
+    fn made<'a>(&'a self, _bytes: &'a [u8]) -> &'a [u8] {
+        self.packets.bytes()
+    }
+
+    fn log(&self) -> &[u8] {
+        &[]
+    }
+
+    ghost starts = { λ _. receives_none };
+
+    ghost grows = { λ _ a b whole. receives_more a b whole };
+}
+
+/// How many runs begin with a segment that is told to be this.
+fn begun(tracking: Tracking) -> u64
+    ensures begun { result ≡ runs.begun tracking }
+    ensures one { result ≤ 1 }
+{
+    match tracking {
+        Tracking::Began => 1,
+        _ => 0,
+    }
+}
+
+/// Sets the symbols to those of the bytes.
+fn to_symbols(bytes: &[u8; SEGMENT], segment: &mut [i8; SEGMENT])
+    ensures { segment.new ≡ symbols bytes.now }
+{
+    for i in 0..SEGMENT {
+        segment[i] = bytes[i].cast_signed();
+    }
+}
+
+/// Puts the bytes of packets behind those that are gathered.
+fn gather(brought: &[Received], packets: &mut Buffer<RECEIVED_BYTES>)
+    requires { length packets.old + PACKET * length brought.now ≤ RECEIVED_BYTES }
+    ensures bytes { packets.new ≡ packets.old ++ bytes_of brought.now }
+    ensures long { length packets.new ≡ length packets.old + PACKET * length brought.now }
+{
+    for i in 0..brought.len() {
+        packets.push(&brought[i].packet.0);
+    }
+}

@@ -1,0 +1,179 @@
+// Coding a stream, a piece of its packets at a time.
+ghost use Rattle.std.specs.Prelude.{◌≡◌, ◌+◌, ◌*◌, ◌/◌, ◌%◌, ◌<◌, ◌≤◌, ◌++◌, [], ℕ, List, IfOk, length, map, take};
+ghost use Rattle.dtx_coder.specs.Groups.{StandsFor};
+ghost use Rattle.dtx_coder.specs.Stream.{a53};
+ghost use Rattle.dtx_packets.specs.Packets.{packets_of, packets_from};
+ghost use Rattle.dtx_jobs.specs.StreamCoder.{WasCoded};
+ghost use Rattle.dtx_jobs.specs.Symbols.{symbol_bytes};
+
+use crate::shapes::packets;
+use crate::symbol_buffer::SymbolBuffer;
+use dtx_coder::{AIR_SYMBOLS, Air, Coder, GROUP_PACKETS};
+use dtx_engine::{Engine, Shape};
+use dtx_frame::SEGMENT;
+use dtx_meaning::{Outcome, Status};
+use dtx_packets::{MOST_PACKETS, PACKET, PIECE_PACKETS, Packet};
+use dtx_trellis::FIELD;
+use std::alloc::{AllocError, Global};
+
+/// How many packets a frame has, which is two fields.
+const FRAME: u64 = 624;
+
+/// How many groups a field has.
+const FIELD_GROUPS: u64 = (FIELD as usize / GROUP_PACKETS) as u64;
+
+/// How many bytes a group of packets has.
+const GROUP_BYTES: usize = PACKET * GROUP_PACKETS;
+
+/// How many symbols the groups of a piece have at most.
+const CODED_BYTES: usize = AIR_SYMBOLS * (PIECE_PACKETS / GROUP_PACKETS);
+
+/// Codes a stream. Each piece begins with a group, and the packets behind the last whole group of the stream are not
+/// sent.
+#[derive(Drop)]
+pub(crate) struct StreamCoder {
+    coder: Coder,
+    air: Air,
+    group: [Packet; GROUP_PACKETS],
+    /// The symbols that the last piece brought.
+    symbols: SymbolBuffer<CODED_BYTES>,
+    /// How many packets were given.
+    packets: u64,
+}
+
+impl StreamCoder {
+    /// A coder to which no packet was given.
+    pub(crate) fn new(alloc: Global) -> Result<StreamCoder, AllocError>
+        ensures { IfOk result (λ coder. WasCoded coder []) }
+    {
+        Ok(StreamCoder {
+            coder: Coder::new(alloc)?,
+            air: Air::new(),
+            group: [Packet([0; PACKET]); GROUP_PACKETS],
+            symbols: SymbolBuffer::new(alloc)?,
+            packets: 0,
+        })
+    }
+
+    /// Codes the whole groups of a piece, whose first packet has that number.
+    fn code_groups(&mut self, first: u64, bytes: &[u8])
+        requires grouped { first % GROUP_PACKETS ≡ 0 }
+        requires room { length bytes.now ≤ PACKET * PIECE_PACKETS }
+        requires most { first + length bytes.now / PACKET ≤ MOST_PACKETS }
+        requires empty { self.old.symbols ≡ [] }
+        ensures coder { (before : List (List ℕ)) → length before ≡ first → StandsFor self.old.coder before
+            → StandsFor self.new.coder
+            (before ++ packets_from bytes.now 0 (GROUP_PACKETS * (length bytes.now / GROUP_BYTES))) }
+        ensures brought { (before : List (List ℕ)) → length before ≡ first → StandsFor self.old.coder before
+            → symbol_bytes (before ++ packets_from bytes.now 0 (GROUP_PACKETS * (length bytes.now / GROUP_BYTES)))
+            ≡ symbol_bytes before ++ self.new.symbols }
+        ensures packets { self.new.packets ≡ self.old.packets }
+    {
+        let (groups, _) = bytes.as_chunks::<GROUP_BYTES>();
+        for i in 0..groups.len() {
+            cut_group(&groups[i], &mut self.group);
+            self.code_group(first + (GROUP_PACKETS * i) as u64);
+        }
+    }
+
+    /// Codes the group, whose first packet has that number.
+    fn code_group(&mut self, first: u64)
+        requires grouped { first % GROUP_PACKETS ≡ 0 }
+        requires room { length self.old.symbols + AIR_SYMBOLS ≤ CODED_BYTES }
+        ensures coder { (before : List (List ℕ)) → length before ≡ first → StandsFor self.old.coder before
+            → StandsFor self.new.coder (before ++ map (λ p. p.0) self.old.group) }
+        ensures brought { (before : List (List ℕ)) (bytes : List ℕ) → length before ≡ first
+            → StandsFor self.old.coder before
+            → symbol_bytes before ≡ bytes ++ self.old.symbols
+            → symbol_bytes (before ++ map (λ p. p.0) self.old.group) ≡ bytes ++ self.new.symbols }
+        ensures long { length self.new.symbols ≤ length self.old.symbols + AIR_SYMBOLS }
+        ensures packets { self.new.packets ≡ self.old.packets }
+    {
+        let place = first % FRAME;
+        let second = place >= FIELD as u64;
+        let in_field = (place % FIELD as u64) as u16;
+        let sync = in_field == 0;
+        self.coder
+            .group(in_field, second, &self.group, None, sync, &mut self.air);
+        let count = SEGMENT * self.air.segments as usize;
+        self.symbols.push(&self.air.symbols[..count]);
+    }
+}
+
+impl Engine for StreamCoder {
+    ghost use Rattle.dtx_engine.specs.Made.{only};
+    ghost use Rattle.dtx_jobs.specs.Code.{coding};
+    ghost use Rattle.dtx_jobs.specs.CodeLaws.{codes_none, codes_more};
+    ghost use Rattle.dtx_jobs.specs.Shapes as shapes;
+    ghost use Rattle.dtx_jobs.specs.StreamCoder.{WasCoded};
+
+    ghost shape = { shapes.packets };
+
+    ghost making = { λ _. coding };
+
+    ghost stands = { WasCoded };
+
+    ghost gives = { λ s _. only s.symbols };
+
+    fn sizes(&self) -> Shape {
+        packets()
+    }
+
+    fn allows(&self, _index: u64, unit: &[u8]) -> bool {
+        unit[0] == 0x47 || unit[0] == 0xB8
+    }
+
+    fn feed(&mut self, first: u64, bytes: &mut [u8]) {
+        self.symbols.clear();
+        self.code_groups(first, bytes);
+        self.packets = first + (bytes.len() / PACKET) as u64;
+    }
+
+    fn finish(&mut self, loose: usize) -> Outcome {
+        self.symbols.clear();
+        Outcome {
+            status: Status::Done,
+            numbers: [
+                self.packets,
+                segments_of(self.packets),
+                loose as u64,
+                0,
+                0,
+                0,
+            ],
+            shown: 3,
+        }
+    }
+
+    fn made<'a>(&'a self, _bytes: &'a [u8]) -> &'a [u8] {
+        self.symbols.bytes()
+    }
+
+    fn log(&self) -> &[u8] {
+        &[]
+    }
+
+    ghost starts = { λ _. codes_none };
+
+    ghost grows = { λ _ a b whole. codes_more a b whole };
+}
+
+/// Sets the packets to those of a group's bytes.
+fn cut_group(bytes: &[u8; GROUP_BYTES], group: &mut [Packet; GROUP_PACKETS])
+    ensures { map (λ p. p.0) group.new ≡ packets_of bytes.now }
+{
+    let (packets, _) = bytes.as_chunks::<PACKET>();
+    for i in 0..GROUP_PACKETS {
+        group[i] = Packet(packets[i]);
+    }
+}
+
+/// How many segments a stream of that many packets has: four for each whole group, and a field sync for each field that
+/// is begun by one (ATSC A/53 Part 2).
+fn segments_of(packets: u64) -> u64
+    requires { packets ≤ MOST_PACKETS }
+    ensures { (stream : List (List ℕ)) → length stream ≡ packets → result ≡ length (a53 stream) }
+{
+    let groups = packets / GROUP_PACKETS as u64;
+    GROUP_PACKETS as u64 * groups + groups.div_ceil(FIELD_GROUPS)
+}

@@ -1,0 +1,69 @@
+// What was received, in numbers.
+ghost use Rattle.std.specs.Prelude.{◌≡◌, ◌+◌, ◌*◌, ◌<◌, ◌≤◌, ◌^◌, [], length};
+ghost use Rattle.dtx_jobs.specs.Tally.{numbers_in, tally_with};
+
+use dtx_receiver::{MOST_RECEIVED, Received};
+
+/// The numbers of what was received.
+#[derive(Clone, Copy)]
+pub(crate) struct Tally {
+    /// The segments that were read.
+    pub(crate) segments: u64,
+    /// The runs that began.
+    pub(crate) runs: u64,
+    /// The packets that were given.
+    pub(crate) packets: u64,
+    /// The bytes that were put right.
+    pub(crate) fixed: u64,
+    /// The packets that are flagged.
+    pub(crate) flagged: u64,
+}
+
+impl Tally {
+    /// Nothing was received.
+    pub(crate) fn new() -> Tally
+        ensures { result ≡ record { segments = 0; runs = 0; packets = 0; fixed = 0; flagged = 0 } }
+    {
+        Tally {
+            segments: 0,
+            runs: 0,
+            packets: 0,
+            fixed: 0,
+            flagged: 0,
+        }
+    }
+
+    /// Counts packets.
+    pub(crate) fn add(&mut self, packets: &[Received])
+        requires few { length packets.now ≤ MOST_RECEIVED }
+        requires packets { self.old.packets < 2 ^ 60 }
+        requires fixed { self.old.fixed < 2 ^ 60 }
+        requires flagged { self.old.flagged < 2 ^ 60 }
+        ensures counted { self.new ≡ tally_with self.old packets.now }
+        ensures most_packets { self.new.packets ≤ self.old.packets + MOST_RECEIVED }
+        ensures most_fixed { self.new.fixed ≤ self.old.fixed + 255 * MOST_RECEIVED }
+        ensures most_flagged { self.new.flagged ≤ self.old.flagged + MOST_RECEIVED }
+    {
+        for i in 0..packets.len() {
+            self.packets += 1;
+            self.fixed += packets[i].fixed as u64;
+            if !packets[i].good {
+                self.flagged += 1;
+            }
+        }
+    }
+
+    /// The numbers of the line, in their order, where so many bytes are loose.
+    pub(crate) fn numbers(&self, loose: usize) -> [u64; 6]
+        ensures { result ≡ numbers_in self.now loose }
+    {
+        [
+            self.segments,
+            self.runs,
+            self.packets,
+            self.fixed,
+            self.flagged,
+            loose as u64,
+        ]
+    }
+}

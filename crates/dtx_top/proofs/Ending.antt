@@ -1,0 +1,189 @@
+-- How a call ends, of how its command ended and how its line was printed.
+use Rattle.std.specs.Prelude.{◌≡◌, ◌⊎◌, ℕ, List, Option, Some, None, Result, Ok, Err, IfSome, refl}
+use Rattle.std.proofs.Common.{sym, ◌∙◌, subst, inl, inr}
+use Rattle.dtx_outside.specs.Counts.{Counts, Rose, HasGone}
+use Rattle.dtx_outside.specs.Shelf.{Files, IsSameAt}
+use Rattle.dtx_outside.specs.Sink.{IsCounted, HasRisenBy}
+use Rattle.dtx_outside.specs.declared.sink.SinkNo.{SinkNo}
+use Rattle.dtx_outside.specs.declared.sink.SinkNo.TheVariants as sink
+use Rattle.dtx_meaning.specs.Laws.{done_printed, done_faulted, done_unprinted, same_at_done, status_of_done}
+use Rattle.dtx_meaning.specs.Meaning.{Meaning, IsCarriedOut, IsDone, IsNoOutput}
+use Rattle.dtx_meaning.specs.Status.{IsFault, blame_of}
+use Rattle.dtx_meaning.specs.declared.status.Outcome.{Outcome}
+use Rattle.dtx_meaning.specs.declared.status.Status.{Status}
+use Rattle.dtx_meaning.specs.declared.status.Status.TheVariants.{Done, Usage, Same, Absent, Plan, Packet, TooLong}
+use Rattle.dtx_meaning.specs.declared.status.Status.TheVariants.{OutOfFeed, OutOfAir, NoSync, ReadFault, WriteFault}
+use Rattle.dtx_meaning.specs.declared.status.Status.TheVariants.{Memory}
+use Rattle.dtx_words.specs.Line.{finished}
+use Rattle.dtx_top.specs.Ends.{HasCause, HasEnded, IsFaultless, IsUsage}
+
+-- a status after its line failed, but for `Done`
+finished_failed : (status : Status) → (status ≡ Done) ⊎ (finished status (Err sink.Failed) ≡ status)
+finished_failed Done = inl refl
+finished_failed Usage = inr refl
+finished_failed Same = inr refl
+finished_failed (Absent input) = inr refl
+finished_failed (Plan refusal) = inr refl
+finished_failed (Packet k) = inr refl
+finished_failed TooLong = inr refl
+finished_failed (OutOfFeed event) = inr refl
+finished_failed (OutOfAir entry) = inr refl
+finished_failed NoSync = inr refl
+finished_failed ReadFault = inr refl
+finished_failed WriteFault = inr refl
+finished_failed Memory = inr refl
+
+-- ---- what is done
+
+-- a meaning that was carried out, whose line was printed so
+pub done_of : (m : Meaning) (start now : Option Files) (outcome : Outcome) (line : Result (Unit {0}) SinkNo)
+    (first last : ℕ)
+    → IsCarriedOut m start outcome now → IsCounted first line last
+    → IsDone m start (finished outcome.status line) (Rose first last) now
+done_of m start now outcome (Ok u) first last is counted = done_printed m start now outcome (Rose first last) is
+done_of m start now outcome (Err sink.Memory) first last is counted =
+    done_faulted m start now outcome Memory (Rose first last) is tt
+done_of m start now outcome (Err sink.Failed) first last is counted = elim (finished_failed outcome.status) [
+  | inl done ↦ (let P : Status → Type 0 = λ s. IsDone m start (finished s (Err sink.Failed)) (Rose first last) now in
+      subst P (sym done) (done_unprinted m start now outcome (Rose first last) is done counted.risen))
+  | inr same ↦ (let P : Status → Type 0 = λ s. IsDone m start s (Rose first last) now in
+      subst P (sym same) (done_printed m start now outcome (Rose first last) is))
+]
+
+-- the same over files that are told
+pub done_told : (means : Files → Meaning) (told now : Option Files) (outcome : Outcome)
+    (line : Result (Unit {0}) SinkNo) (first last : ℕ)
+    → IfSome told (λ held. IsCarriedOut (means held) (Some held) outcome now) → IsCounted first line last
+    → IfSome told (λ held. IsDone (means held) (Some held) (finished outcome.status line) (Rose first last) now)
+done_told means None now outcome line first last is counted = tt
+done_told means (Some held) now outcome line first last is counted =
+    done_of (means held) (Some held) now outcome line first last is counted
+
+-- no file but the outputs was touched
+pub others_told : (means : Files → Meaning) (told now : Option Files) (status : Status) (unprinted : Type 0)
+    → IfSome told (λ held. IsDone (means held) (Some held) status unprinted now)
+    → IfSome told (λ held. (name : List ℕ) → IsNoOutput name (means held).outputs → IsSameAt name told now)
+others_told means None now status unprinted is = tt
+others_told means (Some held) now status unprinted is =
+    λ name apart. same_at_done (means held) name (Some held) now status unprinted apart is
+
+-- ---- counts
+
+-- the cause of an answer whose line was printed
+cause_printed : (status : Status) (before now : Counts) (first last : ℕ) → HasGone before now (blame_of status)
+    → last ≡ first
+    → HasCause status before now first last
+cause_printed Done before now first last gone same = (gone.risen, same)
+cause_printed Usage before now first last gone same = gone.risen
+cause_printed Same before now first last gone same = gone.risen
+cause_printed (Absent input) before now first last gone same = gone.risen
+cause_printed (Plan refusal) before now first last gone same = gone.risen
+cause_printed (Packet k) before now first last gone same = gone.risen
+cause_printed TooLong before now first last gone same = gone.risen
+cause_printed (OutOfFeed event) before now first last gone same = gone.risen
+cause_printed (OutOfAir entry) before now first last gone same = gone.risen
+cause_printed NoSync before now first last gone same = gone.risen
+cause_printed ReadFault before now first last gone same = gone.risen
+cause_printed WriteFault before now first last gone same = inl gone.risen
+cause_printed Memory before now first last gone same = tt
+
+-- the cause of an answer whose line failed
+cause_failed : (status : Status) (before now : Counts) (first last : ℕ) → HasGone before now (blame_of status)
+    → Rose first last
+    → HasCause (finished status (Err sink.Failed)) before now first last
+cause_failed Done before now first last gone rose = inr (gone.risen, rose)
+cause_failed Usage before now first last gone rose = gone.risen
+cause_failed Same before now first last gone rose = gone.risen
+cause_failed (Absent input) before now first last gone rose = gone.risen
+cause_failed (Plan refusal) before now first last gone rose = gone.risen
+cause_failed (Packet k) before now first last gone rose = gone.risen
+cause_failed TooLong before now first last gone rose = gone.risen
+cause_failed (OutOfFeed event) before now first last gone rose = gone.risen
+cause_failed (OutOfAir entry) before now first last gone rose = gone.risen
+cause_failed NoSync before now first last gone rose = gone.risen
+cause_failed ReadFault before now first last gone rose = gone.risen
+cause_failed WriteFault before now first last gone rose = inl gone.risen
+cause_failed Memory before now first last gone rose = tt
+
+cause_of : (status : Status) (line : Result (Unit {0}) SinkNo) (before now : Counts) (first last : ℕ)
+    → HasGone before now (blame_of status) → HasRisenBy line first last
+    → HasCause (finished status line) before now first last
+cause_of status (Ok u) before now first last gone risen = cause_printed status before now first last gone risen
+cause_of status (Err sink.Memory) before now first last gone risen = tt
+cause_of status (Err sink.Failed) before now first last gone risen =
+    cause_failed status before now first last gone risen
+
+-- how a call has ended, of how its command did and how its line was printed
+pub ended_of : (status : Status) (line : Result (Unit {0}) SinkNo) (before now : Counts) (first last : ℕ)
+    → HasGone before now (blame_of status) → IsCounted first line last
+    → HasEnded before now first last (finished status line)
+ended_of status line before now first last gone counted = record {
+  read_faults = gone.read_faults;
+  write_faults = gone.write_faults;
+  misses = gone.misses;
+  faults = counted.grown;
+  cause = cause_of status line before now first last gone counted.risen;
+}
+
+-- nothing is refused without cause
+not_faulted : (status : Status) (before now : Counts) (first last : ℕ) → HasCause status before now first last
+    → IsFaultless before now first last → IsFault status → status ≡ Memory
+not_faulted ReadFault before now first last cause none fault = absurd (none.reading cause)
+not_faulted WriteFault before now first last cause none fault = elim cause [
+  | inl rose ↦ absurd (none.writing rose)
+  | inr rose ↦ absurd (none.printing rose.1)
+]
+not_faulted Memory before now first last cause none fault = refl
+not_faulted _ before now first last cause none fault = absurd fault
+
+complete_of : (m : Meaning) (start now : Option Files) (status : Status) (before after : Counts) (first last : ℕ)
+    → IsDone m start status (Rose first last) now → HasEnded before after first last status
+    → IsFaultless before after first last
+    → (status ≡ m.outcome.status) ⊎ (status ≡ Memory)
+complete_of m start now status before after first last is gone none =
+    elim (status_of_done m start now status (Rose first last) is) [
+      | inl answered ↦ inl answered
+      | inr fault ↦ inr (not_faulted status before after first last gone.cause none fault)
+    ]
+
+-- the same over files that are told
+pub complete_told : (means : Files → Meaning) (told now : Option Files) (status : Status) (before after : Counts)
+    (first last : ℕ)
+    → IfSome told (λ held. IsDone (means held) (Some held) status (Rose first last) now)
+    → HasEnded before after first last status
+    → IfSome told (λ held. IsFaultless before after first last → (status ≡ (means held).outcome.status)
+    ⊎ (status ≡ Memory))
+complete_told means None now status before after first last is gone = tt
+complete_told means (Some held) now status before after first last is gone =
+    λ none. complete_of (means held) (Some held) now status before after first last is gone none
+
+-- ---- words that fit no command
+
+usage_printed : (line : Result (Unit {0}) SinkNo) → (finished Usage line ≡ Usage) ⊎ (finished Usage line ≡ Memory)
+usage_printed (Ok u) = inl refl
+usage_printed (Err sink.Memory) = inr refl
+usage_printed (Err sink.Failed) = inl refl
+
+pub usage_of : (status : Status) (line : Result (Unit {0}) SinkNo) (told now : Option Files) → status ≡ Usage
+    → now ≡ told
+    → IsUsage (finished status line) told now
+usage_of status line told now is same =
+    let P : Status → Type 0 = λ s. (finished s line ≡ Usage) ⊎ (finished s line ≡ Memory) in
+    record { answer = subst P (sym is) (usage_printed line); files = same }
+
+-- ---- the headline
+
+-- a call is done only where its command is
+pub done_before : (status : Status) (line : Result (Unit {0}) SinkNo) → finished status line ≡ Done → status ≡ Done
+done_before status (Ok u) done = done
+done_before status (Err sink.Memory) done = let e : Memory ≡ Done = done in cc
+done_before status (Err sink.Failed) done = elim (finished_failed status) [
+  | inl is ↦ is
+  | inr same ↦ sym same ∙ done
+]
+
+-- what holds where the command is done, holds where the call is
+pub done_then : (P : Files → Type 0) (told : Option Files) (status : Status) (line : Result (Unit {0}) SinkNo)
+    → IfSome told (λ held. status ≡ Done → P held) → IfSome told (λ held. finished status line ≡ Done → P held)
+done_then P None status line is = tt
+done_then P (Some held) status line is = λ done. is (done_before status line done)

@@ -1,0 +1,150 @@
+-- The line that a call leaves behind, of how its printing ended.
+use Rattle.std.specs.Prelude.{◌≡◌, ℕ, List, length, Option, Some, None, Result, Ok, Err, IfSome, refl}
+use Rattle.std.proofs.Common.{sym, ap, ◌∙◌, subst, inl, inr, arith}
+use Rattle.std.proofs.Math.Seq.{take-length}
+use Rattle.dtx_outside.specs.Counts.{Rose}
+use Rattle.dtx_outside.specs.Shelf.{Files}
+use Rattle.dtx_outside.specs.Sink.{IsCounted}
+use Rattle.dtx_outside.specs.declared.sink.SinkNo.{SinkNo}
+use Rattle.dtx_outside.specs.declared.sink.SinkNo.TheVariants as sink
+use Rattle.dtx_meaning.specs.Laws.{whole_of_carried}
+use Rattle.dtx_meaning.specs.Meaning.{IsCarriedOut}
+use Rattle.dtx_meaning.specs.Status.{IsFault}
+use Rattle.dtx_meaning.specs.declared.status.Outcome.{Outcome}
+use Rattle.dtx_meaning.specs.declared.status.Status.{Status}
+use Rattle.dtx_meaning.specs.declared.status.Status.TheVariants.{Done}
+use Rattle.dtx_meaning.specs.declared.status.Status.TheVariants.{WriteFault, Memory}
+use Rattle.dtx_words.specs.Line.{finished, line_at, line_of}
+use Rattle.dtx_words.specs.Names.{line_name}
+use Rattle.dtx_words.specs.Printed.{printed, IsPut}
+use Rattle.dtx_words.specs.declared.rows.Command.{Command}
+use Rattle.dtx_words.specs.declared.rows.Command.TheVariants.{Adapt, Code, Excite, Receive, Net, Make, Hurt}
+use Rattle.dtx_top.specs.Lines.{name_kept, names_told, HasLine, HasPartLine, IsSomeLine, IsSomeName, IsToldLine}
+use Rattle.dtx_top.specs.Means.{means_of}
+
+-- ---- how much of it
+
+whole_line : (IsLine : Status → List ℕ → Type 0) (status : Status) (text : List ℕ) (unprinted : Type 0)
+    (old new : Option (List ℕ))
+    → IsLine status text → new ≡ printed text old → HasLine IsLine status unprinted old new
+whole_line IsLine Memory text unprinted old new is e = (
+  Memory,
+  record {
+    text = text;
+    line = is;
+    bytes = length text;
+    within = omega arith;
+    part = e ∙ ap (λ z. printed z old) (sym (take-length text));
+  },
+)
+whole_line IsLine status text unprinted old new is e = inl (record { text = text; line = is; whole = e })
+
+part_of_put : (IsLine : Status → List ℕ → Type 0) (status : Status) (text : List ℕ) (cause : SinkNo)
+    (old new : Option (List ℕ))
+    → IsLine status text → IsPut text old (Err cause) new → HasPartLine IsLine status old new
+part_of_put IsLine status text cause old new is put =
+    record { text = text; line = is; bytes = put.0; within = put.1; part = put.2 }
+
+cut_line : (IsLine : Status → List ℕ → Type 0) (status : Status) (unprinted : Type 0) (old new : Option (List ℕ))
+    → HasPartLine IsLine status old new → unprinted
+    → HasLine IsLine (finished status (Err sink.Failed)) unprinted old new
+cut_line IsLine Done unprinted old new part rose = inr (rose, inr part)
+cut_line IsLine WriteFault unprinted old new part rose = inr (rose, inl part)
+cut_line IsLine Memory unprinted old new part rose = (Memory, part)
+cut_line IsLine status unprinted old new part rose = inr (rose, part)
+
+-- the line of a status, after it was printed so
+pub line_left : (IsLine : Status → List ℕ → Type 0) (status : Status) (text : List ℕ) (line : Result (Unit {0}) SinkNo)
+    (first last : ℕ)
+    (old new : Option (List ℕ)) → IsLine status text → IsPut text old line new → IsCounted first line last
+    → HasLine IsLine (finished status line) (Rose first last) old new
+line_left IsLine status text (Ok u) first last old new is put counted =
+    whole_line IsLine status text (Rose first last) old new is put
+line_left IsLine status text (Err sink.Memory) first last old new is put counted =
+    (status, part_of_put IsLine status text sink.Memory old new is put)
+line_left IsLine status text (Err sink.Failed) first last old new is put counted =
+    cut_line IsLine status (Rose first last) old new
+    (part_of_put IsLine status text sink.Failed old new is put) counted.risen
+
+-- ---- which line
+
+-- only the line of `Done` has the outcome's numbers
+same_line : (command : Option Command) (status : Status) (outcome other : Outcome) (name : List ℕ)
+    → (status ≡ Done → outcome ≡ other)
+    → line_at command status outcome name ≡ line_at command status other name
+same_line command Done outcome other name same = ap (λ o. line_at command Done o name) (same refl)
+same_line command status outcome other name same = refl
+
+no_fault : (status : Status) → status ≡ Done → IsFault status → ⊥
+no_fault status done fault = let P : Status → Type 0 = λ s. IsFault s in subst P done fault
+
+-- the name of a line over files that are told
+name_told : (command : Option Command) (words : List (List ℕ)) (held : Files) (status : Status) (kept : List ℕ)
+    → (command ≡ Some Net → name_kept command words status kept ≡ line_name status (names_told command words held))
+    → name_kept command words status kept ≡ line_name status (names_told command words held)
+name_told (Some Net) words held status kept is = is refl
+name_told (Some Adapt) words held status kept is = refl
+name_told (Some Code) words held status kept is = refl
+name_told (Some Excite) words held status kept is = refl
+name_told (Some Receive) words held status kept is = refl
+name_told (Some Make) words held status kept is = refl
+name_told (Some Hurt) words held status kept is = refl
+name_told None words held status kept is = refl
+
+-- the line of an outcome is that of the meaning
+line_is : (command : Option Command) (words : List (List ℕ)) (held : Files) (outcome : Outcome) (now : Option Files)
+    (kept : List ℕ)
+    → IsCarriedOut (means_of command words held) (Some held) outcome now
+    → (command ≡ Some Net → name_kept command words outcome.status kept
+    ≡ line_name outcome.status (names_told command words held))
+    → IsToldLine command words held outcome.status
+    (line_of command outcome (name_kept command words outcome.status kept))
+line_is command words held outcome now kept is named =
+    ap (line_at command outcome.status outcome) (name_told command words held outcome.status kept named)
+    ∙ same_line command outcome.status outcome (means_of command words held).outcome _
+    (λ done. (whole_of_carried (means_of command words held) (Some held) now outcome is
+    (no_fault outcome.status done)).answer)
+
+-- the line that is left, over files that are told
+pub line_told : (command : Option Command) (words : List (List ℕ)) (told now : Option Files) (outcome : Outcome)
+    (kept : List ℕ)
+    (line : Result (Unit {0}) SinkNo) (first last : ℕ) (old new : Option (List ℕ))
+    → IfSome told (λ held. IsCarriedOut (means_of command words held) (Some held) outcome now)
+    → (command ≡ Some Net → IfSome told (λ held. name_kept command words outcome.status kept
+    ≡ line_name outcome.status (names_told command words held)))
+    → IsPut (line_of command outcome (name_kept command words outcome.status kept)) old line new
+    → IsCounted first line last
+    → IfSome told (λ held. HasLine (IsToldLine command words held) (finished outcome.status line)
+    (Rose first last) old new)
+line_told command words None now outcome kept line first last old new is named put counted = tt
+line_told command words (Some held) now outcome kept line first last old new is named put counted =
+    line_left (IsToldLine command words held) outcome.status _ line first last old new
+    (line_is command words held outcome now kept is named) put counted
+
+-- the name of a line, whatever the files are
+some_name : (command : Option Command) (words : List (List ℕ)) (status : Status) (kept : List ℕ)
+    → (command ≡ Some Net → IsSomeName command words status (name_kept command words status kept))
+    → IsSomeName command words status (name_kept command words status kept)
+some_name (Some Net) words status kept is = is refl
+some_name (Some Adapt) words status kept is = refl
+some_name (Some Code) words status kept is = refl
+some_name (Some Excite) words status kept is = refl
+some_name (Some Receive) words status kept is = refl
+some_name (Some Make) words status kept is = refl
+some_name (Some Hurt) words status kept is = refl
+some_name None words status kept is = refl
+
+-- the line that is left, whatever the files are
+pub line_untold : (command : Option Command) (words : List (List ℕ)) (outcome : Outcome) (kept : List ℕ)
+    (line : Result (Unit {0}) SinkNo) (first last : ℕ) (old new : Option (List ℕ))
+    → (command ≡ Some Net → IsSomeName command words outcome.status (name_kept command words outcome.status kept))
+    → IsPut (line_of command outcome (name_kept command words outcome.status kept)) old line new
+    → IsCounted first line last
+    → HasLine (IsSomeLine command words) (finished outcome.status line) (Rose first last) old new
+line_untold command words outcome kept line first last old new named put counted =
+    line_left (IsSomeLine command words) outcome.status _ line first last old new (record {
+      outcome = outcome;
+      name = name_kept command words outcome.status kept;
+      named = some_name command words outcome.status kept named;
+      line = refl;
+    }) put counted

@@ -1,0 +1,70 @@
+-- The line that a call leaves behind: of its answer, its names and its numbers.
+use Rattle.std.specs.Prelude.{◌≡◌, ◌⊎◌, ℕ, ◌≤◌, List, length, take, Option, Some}
+use Rattle.dtx_outside.specs.Shelf.{Files}
+use Rattle.dtx_meaning.specs.declared.status.Outcome.{Outcome}
+use Rattle.dtx_meaning.specs.declared.status.Status.{Status}
+use Rattle.dtx_meaning.specs.declared.status.Status.TheVariants.{Done, WriteFault, Memory}
+use Rattle.dtx_words.specs.Line.{line_at}
+use Rattle.dtx_words.specs.Names.{line_name, names_of}
+use Rattle.dtx_words.specs.Printed.{printed}
+use Rattle.dtx_words.specs.declared.rows.Command.{Command}
+use Rattle.dtx_words.specs.declared.rows.Command.TheVariants.{Net}
+use Rattle.dtx_top.specs.Means.{means_of}
+use Rattle.dtx_top.specs.Stand.{net_names, plan_word, told_name, IsUntoldName}
+
+-- ---- which line
+
+-- the file names of a command: those among its words; of `net` also those that its plan gives
+abbrev pub names_told : Option Command → List (List ℕ) → Files → List (List ℕ)
+names_told (Some Net) words held = net_names words held
+names_told command words held = names_of command words
+
+-- the text is the line of an answer to these words over these files
+abbrev pub IsToldLine : Option Command → List (List ℕ) → Files → Status → List ℕ → Type 0
+IsToldLine command words held status text =
+    text ≡ line_at command status (means_of command words held).outcome
+    (line_name status (names_told command words held))
+
+-- the name in a line: among the words, or for `net` the one that it keeps, unless PLAN isn't there
+abbrev pub name_kept : Option Command → List (List ℕ) → Status → List ℕ → List ℕ
+name_kept (Some Net) words status kept = told_name (plan_word words) status kept
+name_kept command words status kept = line_name status (names_of command words)
+
+-- that name may stand in the line of an answer, whatever the files are
+abbrev pub IsSomeName : Option Command → List (List ℕ) → Status → List ℕ → Type 0
+IsSomeName (Some Net) words status name = IsUntoldName (plan_word words) status name
+IsSomeName command words status name = name ≡ line_name status (names_of command words)
+
+-- the text is a line of an answer to these words, whatever the files are: with some numbers
+pub record IsSomeLine (command : Option Command) (words : List (List ℕ)) (status : Status)
+    (text : List ℕ) : Type 0 where
+  pub outcome : Outcome
+  pub name : List ℕ
+  pub named : IsSomeName command words status name
+  pub line : text ≡ line_at command status outcome name
+
+-- ---- how much of it
+
+-- the whole of such a line was printed
+pub record HasWholeLine (IsLine : Status → List ℕ → Type 0) (status : Status) (old new : Option (List ℕ)) : Type 0 where
+  pub text : List ℕ
+  pub line : IsLine status text
+  pub whole : new ≡ printed text old
+
+-- a front part of such a line was printed
+pub record HasPartLine (IsLine : Status → List ℕ → Type 0) (status : Status) (old new : Option (List ℕ)) : Type 0 where
+  pub text : List ℕ
+  pub line : IsLine status text
+  pub bytes : ℕ
+  pub within : bytes ≤ length text
+  pub part : new ≡ printed (take bytes text) old
+
+-- What a call printed, which ended so: the whole line of its answer, or where the sink failed a front part of it, for
+-- WriteFault also of the line of Done; after Memory a front part of some line.
+abbrev pub HasLine : (Status → List ℕ → Type 0) → Status → Type 0 → Option (List ℕ) → Option (List ℕ) → Type 0
+HasLine IsLine Memory unprinted old new = (status : Status) × HasPartLine IsLine status old new
+HasLine IsLine WriteFault unprinted old new =
+    HasWholeLine IsLine WriteFault old new
+    ⊎ (unprinted × (HasPartLine IsLine WriteFault old new ⊎ HasPartLine IsLine Done old new))
+HasLine IsLine status unprinted old new =
+    HasWholeLine IsLine status old new ⊎ (unprinted × HasPartLine IsLine status old new)

@@ -1,0 +1,58 @@
+-- The pieces of a line, as far as a loop has come.
+use Rattle.std.proofs.Common.{◌≡◌, ℕ, ◌+◌, ◌≤◌, ◌<◌, suc, List, [], ◌++◌, length, map, take, drop, get_or}
+use Rattle.std.proofs.Common.{refl, sym, ap, ◌∙◌, add-one, append_assoc}
+use Rattle.std.specs.Prelude.{codes, decimal, min}
+use Rattle.std.specs.Borrow.{Bor}
+use Rattle.std.proofs.lemmas.List.{take_min, take-map}
+use Rattle.std.proofs.Math.Seq.{drop-cons}
+use Rattle.std.proofs.Math.ListN.{drop_of_length-le}
+use Rattle.dtx_words.specs.declared.rows.Command.{Command}
+use Rattle.dtx_words.specs.Line.{numbered, verbs_behind}
+use Rattle.dtx_words.specs.Rows.{row_of}
+
+-- the labels behind references
+abbrev pub labels_behind : List (Bor (List ℕ)) → List (List ℕ)
+labels_behind labels = map (λ label. label.now) labels
+
+-- the labels and numbers from a place on
+abbrev pub numbered_from : List (Bor (List ℕ)) → List ℕ → ℕ → List ℕ
+numbered_from labels numbers i = numbered (labels_behind (drop i labels)) (drop i numbers)
+
+-- the next label and its number
+pub numbered_next : (labels : List (Bor (List ℕ))) (numbers : List ℕ) (i : ℕ) (d : Bor (List ℕ)) → i < length labels
+    → i < length numbers
+    → numbered_from labels numbers i ≡ ((get_or labels i d).now ++ decimal (get_or numbers i 0))
+    ++ numbered_from labels numbers (i + 1)
+numbered_next labels numbers i d first second =
+    rw (add-one, drop-cons labels i d first, drop-cons numbers i 0 second)
+    (sym (append_assoc (get_or labels i d).now (decimal (get_or numbers i 0)) (numbered_from labels numbers (suc i))))
+
+-- behind the last label
+pub numbered_end : (labels : List (Bor (List ℕ))) (numbers : List ℕ) (i : ℕ) → length labels ≤ i
+    → numbered_from labels numbers i ≡ []
+numbered_end labels numbers i past = rw (drop_of_length-le labels {i = i} past) refl
+
+-- the words from a place on
+abbrev pub verbs_from : List ℕ → List Command → ℕ → List ℕ
+verbs_from before all i = verbs_behind before (drop i all)
+
+pub verbs_next : (before : List ℕ) (all : List Command) (i : ℕ) (d : Command) → i < length all
+    → verbs_from before all i ++ codes "\n"
+    ≡ (before ++ (row_of (get_or all i d)).verb) ++ (verbs_from (codes "|") all (i + 1) ++ codes "\n")
+verbs_next before all i d within =
+    rw (add-one, drop-cons all i d within)
+    (ap (λ z. z ++ codes "\n") (sym (append_assoc before (row_of (get_or all i d)).verb
+    (verbs_from (codes "|") all (suc i))))
+    ∙ append_assoc (before ++ (row_of (get_or all i d)).verb) (verbs_from (codes "|") all (suc i)) (codes "\n"))
+
+-- behind the last command
+pub verbs_end : (before : List ℕ) (all : List Command) (i : ℕ) → length all ≤ i
+    → verbs_from before all i ++ codes "\n" ≡ codes "\n"
+verbs_end before all i past = rw (drop_of_length-le all {i = i} past) refl
+
+-- the labels of a line, taken behind references
+pub labels_taken : (labels : List (Bor (List ℕ))) (n k : ℕ) → k ≡ min n (length labels)
+    → labels_behind (take k labels) ≡ take n (labels_behind labels)
+labels_taken labels n k is =
+    ap (λ m. labels_behind (take m labels)) is ∙ ap labels_behind (take_min n labels)
+    ∙ sym (take-map (λ label. label.now) n labels)

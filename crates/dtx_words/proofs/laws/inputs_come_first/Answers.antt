@@ -1,0 +1,17 @@
+use Rattle.std.proofs.Common.{◌≡◌, refl, true}
+use Rattle.dtx_words.specs.declared.rows.Command.{Command}
+use Rattle.dtx_words.specs.declared.rows.Command.TheVariants.{Adapt, Code, Excite, Receive, Net, Make, Hurt}
+use Rattle.dtx_words.specs.Rows.{are_inputs_first, row_of}
+use Rattle.dtx_words.proofs.laws.inputs_come_first.Goals as goal
+
+of_each : (c : Command) → are_inputs_first (row_of c).fields ≡ true
+of_each Adapt = refl
+of_each Code = refl
+of_each Excite = refl
+of_each Receive = refl
+of_each Net = refl
+of_each Make = refl
+of_each Hurt = refl
+
+pub returns : goal.returns
+returns c = of_each

@@ -1,0 +1,5 @@
+use Rattle.dtx_words.specs.FittingLaws.{command_found, fits_only}
+use Rattle.dtx_words.proofs.laws.no_two_commands_fit.Goals as goal
+
+pub returns : goal.returns
+returns c = record { only = fits_only; found = command_found }

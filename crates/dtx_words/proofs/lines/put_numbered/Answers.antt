@@ -1,0 +1,21 @@
+use Rattle.std.proofs.Common.{arith}
+use Rattle.std.proofs.lemmas.Grind.{common_steps}
+use Rattle.std.proofs.lemmas.Result.{err_from_is_err_and}
+use Rattle.dtx_words.proofs.LinePieces.{numbered_next}
+use Rattle.dtx_words.proofs.Printed.{so_far_refused, so_far_then}
+use Rattle.dtx_words.proofs.lines.put_numbered.Goals as goal
+
+pub returns-in_err-put_number-clause-written : goal.returns-in_err-put_number-clause-written
+returns-in_err-put_number-clause-written g c =
+    let p = err_from_is_err_and c.from_residual.result c.from_residual.ensures.1 in
+    rw p.1 (so_far_refused _ _ _ _ c.in_err-put_number.field-0.0 _ _ _
+    (numbered_next c.args.labels.now c.args.numbers.now c.loop-i.i _ (omega arith) (omega arith))
+    c.loop-i.invariant.written c.in_err-put_number.ensures.written)
+
+pub loop-i-preserved : goal.loop-i-preserved
+loop-i-preserved g c = record {
+  written = so_far_then _ _ _ _ _ _ _
+      (numbered_next c.args.labels.now c.args.numbers.now c.loop-i.i _ (omega arith) (omega arith))
+      c.loop-i.invariant.written c.in_ok-put_number.ensures.written;
+  faults = grind (arith, common_steps);
+}

@@ -1,0 +1,39 @@
+-- Which command the words fit.
+use Rattle.std.specs.Prelude.{ℕ, Bool, true, false, ◌&&◌, not, ◌==◌, List, [], ◌∷◌, length, Option, is_some}
+use Rattle.std.specs.List.{find}
+use Rattle.std.specs.Str.{bytes_eq}
+use Rattle.dtx_words.specs.declared.rows.Command.{Command}
+use Rattle.dtx_words.specs.declared.rows.Field.{Field}
+use Rattle.dtx_words.specs.declared.rows.Field.TheVariants.{Input, Output, Number}
+use Rattle.dtx_words.specs.Number.{number_in}
+use Rattle.dtx_words.specs.Rows.{Row, row_of, commands}
+
+-- a word fits a file name if it isn't empty
+abbrev pub is_name : List ℕ → Bool
+is_name word = not (length word == 0)
+
+-- a word fits a field: a file name, or a number that is at most that one
+abbrev pub fits_field : Field → List ℕ → Bool
+fits_field Input word = is_name word
+fits_field Output word = is_name word
+fits_field (Number most) word = is_some (number_in most word)
+
+-- as many words as fields, each of which fits its field
+abbrev pub fit_fields : List Field → List (List ℕ) → Bool
+fit_fields [] [] = true
+fit_fields [] (word ∷ words) = false
+fit_fields (field ∷ fields) [] = false
+fit_fields (field ∷ fields) (word ∷ words) = fits_field field word && fit_fields fields words
+
+-- words fit a row: the first is its word, and the others fit its fields
+abbrev pub fit_row : Row → List (List ℕ) → Bool
+fit_row row [] = false
+fit_row row (verb ∷ words) = bytes_eq verb row.verb && fit_fields row.fields words
+
+-- the words fit a command
+abbrev pub fits : Command → List (List ℕ) → Bool
+fits command words = fit_row (row_of command) words
+
+-- the command that the words fit: the first of them, and there is no other
+abbrev pub command_of : List (List ℕ) → Option Command
+command_of words = find (λ command. fits command words) commands

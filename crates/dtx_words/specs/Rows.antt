@@ -1,0 +1,118 @@
+-- One row a command: its word, its fields, and the labels of its line.
+use Rattle.std.specs.Prelude.{ℕ, ◌-◌, ◌^◌, Bool, true, false, not, ◌&&◌, List, [], ◌∷◌, codes, map}
+use Rattle.std.specs.List.{list_any}
+use Rattle.dtx_words.specs.declared.rows.Command.{Command}
+use Rattle.dtx_words.specs.declared.rows.Command.TheVariants.{Adapt, Code, Excite, Receive, Net, Make, Hurt}
+use Rattle.dtx_words.specs.declared.rows.CommandRow.{CommandRow}
+use Rattle.dtx_words.specs.declared.rows.Field.{Field}
+use Rattle.dtx_words.specs.declared.rows.Field.TheVariants.{Input, Output, Number}
+
+-- the field is the name of a file that is read
+abbrev pub is_input : Field → Bool
+is_input Input = true
+is_input _ = false
+
+-- all that is to be said of a command's words and of its line
+pub record Row : Type 0 where
+  -- its word
+  pub verb : List ℕ
+  -- what the words behind it are, in their order
+  pub fields : List Field
+  -- what stands before each number of its line
+  pub labels : List (List ℕ)
+  -- how many numbers its line has at least: all, but for `net`, whose receiver may not listen
+  pub fewest : ℕ
+
+-- `adapt PLAN IN OUT`
+abbrev pub adapt_row : Row
+adapt_row = record {
+  verb = codes "adapt";
+  fields = Input ∷ Input ∷ Output ∷ [];
+  labels = codes "packets " ∷ codes " filled " ∷ codes " loose " ∷ [];
+  fewest = 3;
+}
+
+-- `code IN OUT`
+abbrev pub code_row : Row
+code_row = record {
+  verb = codes "code";
+  fields = Input ∷ Output ∷ [];
+  labels = codes "packets " ∷ codes " segments " ∷ codes " loose " ∷ [];
+  fewest = 3;
+}
+
+-- `excite FEED ADDRESS DELAY OUT LOG`: an address of 16 bits, a delay of 32 bits in ticks of 100 ns
+abbrev pub excite_row : Row
+excite_row = record {
+  verb = codes "excite";
+  fields = Input ∷ Number 65535 ∷ Number 4294967295 ∷ Output ∷ Output ∷ [];
+  labels = codes "packets " ∷ codes " segments " ∷ codes " presets " ∷ codes " mutes " ∷ codes " loose " ∷ [];
+  fewest = 5;
+}
+
+-- `receive IN OUT`
+abbrev pub receive_row : Row
+receive_row = record {
+  verb = codes "receive";
+  fields = Input ∷ Output ∷ [];
+  labels = codes "segments " ∷ codes " runs " ∷ codes " packets " ∷ codes " fixed " ∷ codes " flagged " ∷ codes
+      " loose " ∷ [];
+  fewest = 6;
+}
+
+-- `net PLAN`: the plan names the other files
+abbrev pub net_row : Row
+net_row = record {
+  verb = codes "net";
+  fields = Input ∷ [];
+  labels = codes "feed " ∷ codes " filled " ∷ codes " steps " ∷ codes " packets " ∷ codes " fixed " ∷ codes
+      " flagged " ∷ [];
+  fewest = 3;
+}
+
+-- `make SEED COUNT OUT`: a seed of 64 bits, at most 624,000,000 packets
+abbrev pub make_row : Row
+make_row = record {
+  verb = codes "make";
+  fields = Number (2 ^ 64 - 1) ∷ Number 624000000 ∷ Output ∷ [];
+  labels = codes "packets " ∷ [];
+  fewest = 1;
+}
+
+-- `hurt IN CHANGES OUT`
+abbrev pub hurt_row : Row
+hurt_row = record {
+  verb = codes "hurt";
+  fields = Input ∷ Input ∷ Output ∷ [];
+  labels = codes "bytes " ∷ codes " damaged " ∷ [];
+  fewest = 2;
+}
+
+-- the row of a command
+abbrev pub row_of : Command → Row
+row_of Adapt = adapt_row
+row_of Code = code_row
+row_of Excite = excite_row
+row_of Receive = receive_row
+row_of Net = net_row
+row_of Make = make_row
+row_of Hurt = hurt_row
+
+-- the row behind the references that the code holds
+abbrev pub row_behind : CommandRow → Row
+row_behind row = record {
+  verb = row.verb.now;
+  fields = row.fields.now;
+  labels = map (λ label. label.now) row.labels.now;
+  fewest = row.fewest;
+}
+
+-- no file that is read stands behind one that is written
+abbrev pub are_inputs_first : List Field → Bool
+are_inputs_first [] = true
+are_inputs_first (Output ∷ fields) = not (list_any is_input fields) && are_inputs_first fields
+are_inputs_first (field ∷ fields) = are_inputs_first fields
+
+-- all commands, in the order of the usage line
+abbrev pub commands : List Command
+commands = Adapt ∷ Code ∷ Excite ∷ Receive ∷ Net ∷ Make ∷ Hurt ∷ []

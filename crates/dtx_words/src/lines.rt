@@ -1,0 +1,148 @@
+// The line that a command prints at its end.
+ghost use Rattle.std.specs.Prelude.{◌≡◌, ◌≢◌, ◌≤◌, ◌++◌, length, map, codes, decimal};
+ghost use Rattle.dtx_outside.specs.Sink.{IsCounted};
+ghost use Rattle.dtx_words.specs.Line.{done_line, finished, labels_of, line_of, numbered, refusal_line, usage_line};
+ghost use Rattle.dtx_words.specs.Printed.{IsPut};
+ghost use Rattle.dtx_words.specs.Rows.{row_of};
+
+use crate::Command;
+use crate::put::put_all;
+use crate::rows::{COMMANDS, row};
+use dtx_meaning::{Outcome, Status};
+use dtx_outside::{Sink, SinkNo};
+use itoa::Buffer;
+
+/// Prints the line of an outcome: for `Done` the labels of the command's row with their numbers, as many as it shows;
+/// else that of the refusal, where `Same` and `Absent` have that name. After a refusal of the sink a front part of the
+/// line was printed.
+pub fn line<O: Sink>(
+    command: Option<Command>,
+    outcome: &Outcome,
+    name: &str,
+    out: &mut O,
+) -> Result<(), SinkNo>
+    ensures written { IsPut (line_of command outcome.now name.now) (O.written out.old) result (O.written out.new) }
+    ensures gone { IsCounted (O.faults out.old) result (O.faults out.new) }
+{
+    match outcome.status {
+        Status::Done => put_done(command, outcome, out),
+        Status::Usage => put_usage(out),
+        status => put_refusal(status, name, out),
+    }
+}
+
+/// Prints the line of a command that is done.
+fn put_done<O: Sink>(command: Option<Command>, outcome: &Outcome, out: &mut O) -> Result<(), SinkNo>
+    ensures written { IsPut (done_line command outcome.now) (O.written out.old) result (O.written out.new) }
+    ensures gone { IsCounted (O.faults out.old) result (O.faults out.new) }
+{
+    put_numbered(labels(command, outcome.shown), &outcome.numbers, out)?;
+    put_all(out, &["\n"])
+}
+
+/// The labels of a line that shows so many numbers.
+fn labels(command: Option<Command>, shown: usize) -> &'static [&'static str]
+    ensures labels { map (λ label. label.now) result.now ≡ labels_of command shown }
+    ensures few { length result.now ≤ 6 }
+{
+    match command {
+        Some(command) => {
+            let row = row(command);
+            &row.labels[..shown.max(row.fewest).min(row.labels.len())]
+        }
+        None => &[],
+    }
+}
+
+/// Prints each label, and its number behind it.
+fn put_numbered<O: Sink>(labels: &[&str], numbers: &[u64], out: &mut O) -> Result<(), SinkNo>
+    requires { length labels.now ≤ length numbers.now }
+    ensures written { IsPut (numbered (map (λ label. label.now) labels.now) numbers.now) (O.written out.old) result
+        (O.written out.new) }
+    ensures gone { IsCounted (O.faults out.old) result (O.faults out.new) }
+{
+    for (i, label) in labels.iter().enumerate() {
+        put_number(label, numbers[i], out)?;
+    }
+    Ok(())
+}
+
+/// Prints a label, and a number behind it.
+fn put_number<O: Sink>(label: &str, number: u64, out: &mut O) -> Result<(), SinkNo>
+    ensures written { IsPut (label.now ++ decimal number) (O.written out.old) result (O.written out.new) }
+    ensures gone { IsCounted (O.faults out.old) result (O.faults out.new) }
+{
+    let mut digits = Buffer::new();
+    put_all(out, &[label, digits.format(number)])
+}
+
+/// Prints the words of all commands.
+fn put_usage<O: Sink>(out: &mut O) -> Result<(), SinkNo>
+    ensures written { IsPut usage_line (O.written out.old) result (O.written out.new) }
+    ensures gone { IsCounted (O.faults out.old) result (O.faults out.new) }
+{
+    let mut before = "usage: dtx ";
+    for command in COMMANDS {
+        put_verb(before, command, out)?;
+        before = "|";
+    }
+    put_all(out, &["\n"])
+}
+
+/// Prints a text, and the word of a command behind it.
+fn put_verb<O: Sink>(before: &'static str, command: Command, out: &mut O) -> Result<(), SinkNo>
+    ensures written { IsPut (before.now ++ (row_of command).verb) (O.written out.old) result (O.written out.new) }
+    ensures gone { IsCounted (O.faults out.old) result (O.faults out.new) }
+{
+    put_all(out, &[before, row(command).verb])
+}
+
+/// Prints the line of a refusal, with a name where it has one.
+fn put_refusal<O: Sink>(status: Status, name: &str, out: &mut O) -> Result<(), SinkNo>
+    requires done { status ≢ Status.Done }
+    requires usage { status ≢ Status.Usage }
+    ensures written { IsPut (refusal_line status name.now) (O.written out.old) result (O.written out.new) }
+    ensures gone { IsCounted (O.faults out.old) result (O.faults out.new) }
+{
+    let mut number = Buffer::new();
+    match status {
+        Status::Done | Status::Usage => unreachable!(),
+        Status::Same => put_all(out, &["same ", name, "\n"]),
+        Status::Absent(_) => put_all(out, &["absent ", name, "\n"]),
+        Status::Plan(no) => put_all(
+            out,
+            &[
+                "plan ",
+                no.key.word(),
+                " ",
+                number.format(no.item),
+                " ",
+                no.rule.word(),
+                "\n",
+            ],
+        ),
+        Status::Packet(k) => put_all(out, &["packet ", number.format(k), "\n"]),
+        Status::TooLong => put_all(out, &["too long\n"]),
+        Status::OutOfFeed(event) => put_all(out, &["out of feed ", number.format(event), "\n"]),
+        Status::OutOfAir(entry) => put_all(out, &["out of air ", number.format(entry), "\n"]),
+        Status::NoSync => put_all(out, &["no sync\n"]),
+        Status::ReadFault => put_all(out, &["read fault\n"]),
+        Status::WriteFault => put_all(out, &["write fault\n"]),
+        Status::Memory => put_all(out, &["no memory\n"]),
+    }
+}
+
+/// The status with which a command ends whose line was printed so.
+pub fn finish(status: Status, printed: Result<(), SinkNo>) -> Status
+    ensures { result ≡ finished status printed }
+{
+    match printed {
+        Ok(()) => status,
+        Err(SinkNo::Memory) => Status::Memory,
+        Err(SinkNo::Failed) if status == Status::Done => Status::WriteFault,
+        Err(SinkNo::Failed) => status,
+    }
+}
+
+#[cfg(test)]
+mod tests;

@@ -1,0 +1,76 @@
+// The exact text of the lines, over a sink in memory.
+use super::*;
+use dtx_outside::MemorySink;
+use dtx_plan::{PlanKey, PlanNo, PlanRule};
+use std::test::Fail;
+
+/// The numbers of each line.
+const NUMBERS: [u64; 6] = [8, 9, 3, 1, 2, 5];
+
+#[test]
+fn each_line_ends_in_a_line_feed_and_has_its_numbers_in_order(rt: HostRuntime) -> Result<(), Fail> {
+    for (command, shown, text) in [
+        (Command::Adapt, 3, "packets 8 filled 9 loose 3\n"),
+        (Command::Code, 3, "packets 8 segments 9 loose 3\n"),
+        (
+            Command::Excite,
+            5,
+            "packets 8 segments 9 presets 3 mutes 1 loose 2\n",
+        ),
+        (
+            Command::Receive,
+            6,
+            "segments 8 runs 9 packets 3 fixed 1 flagged 2 loose 5\n",
+        ),
+        (Command::Net, 3, "feed 8 filled 9 steps 3\n"),
+        (
+            Command::Net,
+            6,
+            "feed 8 filled 9 steps 3 packets 1 fixed 2 flagged 5\n",
+        ),
+        (Command::Make, 1, "packets 8\n"),
+        (Command::Hurt, 2, "bytes 8 damaged 9\n"),
+    ] {
+        let outcome = Outcome {
+            status: Status::Done,
+            numbers: NUMBERS,
+            shown,
+        };
+        let mut out = MemorySink::new(rt.alloc());
+        assert!(rt; line(Some(command), &outcome, "x", &mut out).is_ok());
+        assert_eq!(rt; out.bytes(), text.as_bytes());
+    }
+    Ok(())
+}
+
+#[test]
+fn each_refusal_has_its_line(rt: HostRuntime) -> Result<(), Fail> {
+    let no = PlanNo {
+        key: PlanKey::ReceiveFrom,
+        item: 12,
+        rule: PlanRule::Stranger,
+    };
+    for (status, text) in [
+        (
+            Status::Usage,
+            "usage: dtx adapt|code|excite|receive|net|make|hurt\n",
+        ),
+        (Status::Same, "same x\n"),
+        (Status::Absent(1), "absent x\n"),
+        (Status::Plan(no), "plan receive.from 12 stranger\n"),
+        (Status::Packet(417), "packet 417\n"),
+        (Status::TooLong, "too long\n"),
+        (Status::OutOfFeed(3), "out of feed 3\n"),
+        (Status::OutOfAir(12), "out of air 12\n"),
+        (Status::NoSync, "no sync\n"),
+        (Status::ReadFault, "read fault\n"),
+        (Status::WriteFault, "write fault\n"),
+        (Status::Memory, "no memory\n"),
+    ] {
+        let outcome = dtx_meaning::ended(status);
+        let mut out = MemorySink::new(rt.alloc());
+        assert!(rt; line(Some(Command::Code), &outcome, "x", &mut out).is_ok());
+        assert_eq!(rt; out.bytes(), text.as_bytes());
+    }
+    Ok(())
+}

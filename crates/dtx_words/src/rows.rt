@@ -1,0 +1,133 @@
+// One row a command: its word, its fields, and the labels of its line.
+ghost use Rattle.std.specs.Prelude.{◌≡◌};
+ghost use Rattle.dtx_words.specs.Rows.{row_behind, row_of};
+
+use dtx_packets::MOST_PACKETS;
+
+/// A command, which the first word names.
+#[derive(Clone, Copy, Debug, PartialEq, Eq)]
+pub enum Command {
+    /// `adapt PLAN IN OUT`
+    Adapt,
+    /// `code IN OUT`
+    Code,
+    /// `excite FEED ADDRESS DELAY OUT LOG`
+    Excite,
+    /// `receive IN OUT`
+    Receive,
+    /// `net PLAN`
+    Net,
+    /// `make SEED COUNT OUT`
+    Make,
+    /// `hurt IN CHANGES OUT`
+    Hurt,
+}
+
+/// What a word behind the first one is.
+#[derive(Clone, Copy)]
+pub enum Field {
+    /// The name of a file that is read.
+    Input,
+    /// The name of a file that is written.
+    Output,
+    /// A whole number that is at most this.
+    Number(u64),
+}
+
+/// All that is to be said of a command's words and of its line.
+#[derive(Clone, Copy)]
+pub(crate) struct CommandRow {
+    /// Its word.
+    pub verb: &'static str,
+    /// What the words behind it are.
+    pub fields: &'static [Field],
+    /// What stands before each number of its line.
+    pub labels: &'static [&'static str],
+    /// How many numbers its line has at least.
+    pub fewest: usize,
+}
+
+/// All commands.
+pub(crate) const COMMANDS: [Command; 7] = [
+    Command::Adapt,
+    Command::Code,
+    Command::Excite,
+    Command::Receive,
+    Command::Net,
+    Command::Make,
+    Command::Hurt,
+];
+
+/// The row of a command.
+pub(crate) fn row(command: Command) -> CommandRow
+    ensures { row_behind result ≡ row_of command }
+{
+    match command {
+        Command::Adapt => CommandRow {
+            verb: "adapt",
+            fields: &[Field::Input, Field::Input, Field::Output],
+            labels: &["packets ", " filled ", " loose "],
+            fewest: 3,
+        },
+        Command::Code => CommandRow {
+            verb: "code",
+            fields: &[Field::Input, Field::Output],
+            labels: &["packets ", " segments ", " loose "],
+            fewest: 3,
+        },
+        Command::Excite => CommandRow {
+            verb: "excite",
+            fields: &[
+                Field::Input,
+                Field::Number(u16::MAX as u64),
+                Field::Number(u32::MAX as u64),
+                Field::Output,
+                Field::Output,
+            ],
+            labels: &["packets ", " segments ", " presets ", " mutes ", " loose "],
+            fewest: 5,
+        },
+        Command::Receive => CommandRow {
+            verb: "receive",
+            fields: &[Field::Input, Field::Output],
+            labels: &[
+                "segments ",
+                " runs ",
+                " packets ",
+                " fixed ",
+                " flagged ",
+                " loose ",
+            ],
+            fewest: 6,
+        },
+        Command::Net => CommandRow {
+            verb: "net",
+            fields: &[Field::Input],
+            labels: &[
+                "feed ",
+                " filled ",
+                " steps ",
+                " packets ",
+                " fixed ",
+                " flagged ",
+            ],
+            fewest: 3,
+        },
+        Command::Make => CommandRow {
+            verb: "make",
+            fields: &[
+                Field::Number(u64::MAX),
+                Field::Number(MOST_PACKETS),
+                Field::Output,
+            ],
+            labels: &["packets "],
+            fewest: 1,
+        },
+        Command::Hurt => CommandRow {
+            verb: "hurt",
+            fields: &[Field::Input, Field::Input, Field::Output],
+            labels: &["bytes ", " damaged "],
+            fewest: 2,
+        },
+    }
+}
