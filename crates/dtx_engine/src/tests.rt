@@ -1,5 +1,6 @@
 // Small engines, carried out over files in memory.
-ghost use Rattle.std.specs.Prelude.{IfOk, []};
+ghost use Rattle.std.specs.Prelude.{◌≡◌, IfOk, [], ◌∷◌};
+ghost use Rattle.dtx_meaning.specs.declared.status.Status.TheVariants.{Done};
 
 use crate::{Buffer, Change, Each, Engine, Input, Shape, Two, carry_out, transform};
 use dtx_meaning::{Outcome, Status};
@@ -55,7 +56,9 @@ impl Change for Marks {
     }
 }
 
-fn done(units: u64, loose: u64) -> Outcome {
+fn done(units: u64, loose: u64) -> Outcome
+    ensures { result ≡ record { status = Done; numbers = units ∷ loose ∷ 0 ∷ 0 ∷ 0 ∷ 0 ∷ []; shown = 2 } }
+{
     Outcome {
         status: Status::Done,
         numbers: [units, loose, 0, 0, 0, 0],
@@ -76,20 +79,37 @@ fn marks_stand_where_624_divides(rt: HostRuntime) -> Result<(), Fail> {
     let mut bytes = vec![in rt.alloc(); 0x47u8; PACKETS * 188 + 5]?;
     let mut shelf = MemoryShelf::new(rt.alloc());
     shelf.put("in", &bytes)?;
-    for (input, output, outcome) in [
-        ("in", "out", done(1300, 5)),
-        ("in", "in", refused(Status::Same)),
-        ("no", "out", refused(Status::Absent(0))),
-    ] {
-        assert_eq!(rt;
-            transform(rt.alloc(), &mut Each::new(Marks), input, output, &mut shelf),
-            outcome
-        );
-    }
+    assert_eq!(rt;
+        transform(rt.alloc(), &mut Each::new(Marks), "in", "out", &mut shelf),
+        done(1300, 5)
+    );
     bytes[0] = 0xB8;
     bytes[624 * 188] = 0xB8;
     bytes[1248 * 188] = 0xB8;
-    assert!(rt; shelf.get("out") == Some(&bytes[..PACKETS * 188]));
+    assert!(rt; shelf.get("out") == Some(front(&bytes, PACKETS * 188)));
+    Ok(())
+}
+
+fn front(bytes: &[u8], length: usize) -> &[u8] {
+    if length <= bytes.len() {
+        &bytes[..length]
+    } else {
+        bytes
+    }
+}
+
+#[test]
+fn equal_and_absent_names_are_refused(rt: HostRuntime) -> Result<(), Fail> {
+    let mut shelf = MemoryShelf::new(rt.alloc());
+    shelf.put("in", &[1, 2, 3])?;
+    for (input, output, status) in [("in", "in", Status::Same), ("no", "out", Status::Absent(0))] {
+        assert_eq!(rt;
+            transform(rt.alloc(), &mut Each::new(Marks), input, output, &mut shelf),
+            refused(status)
+        );
+    }
+    assert_eq!(rt; shelf.get("in").map(|file| file.len()), Some(3));
+    assert!(rt; shelf.get("out").is_none());
     Ok(())
 }
 
