@@ -40,7 +40,6 @@ placed_count-most packets =
 
 -- ---- bare fields
 
-
 -- how many of the first fields are bare
 abbrev pub bare_first : List (List ℕ) → ℕ → ℕ
 bare_first packets count = count_by (λ rest. not (list_any is_placeholder rest)) (map (behind packets) (range_with_len 0 count))

@@ -183,23 +183,25 @@ any_same_more packets packet same f =
     let long : length out ≡ n = length-placed packets in
     let all = packets ++ packet ∷ [] in
     let by_cases : (n < 312 * f + 52) ⊎ (312 * f + 52 ≤ n) → (n < 312 * f + 312) ⊎ (312 * f + 312 ≤ n)
-        → list_any is_placeholder (behind (out ++ put ∷ []) f) ≡ list_any is_open (behind all f) = λ start end.
+    → list_any is_placeholder (behind (out ++ put ∷ []) f) ≡ list_any is_open (behind all f) = λ start end.
     elim start [
-      inl before ↦
-        ap (list_any is_placeholder) (behind_none (out ++ put ∷ []) f
-        (omega (arith, length-append out (put ∷ []), long, before)))
-        ∙ sym (ap (list_any is_open) (behind_none all f (omega (arith, length-append packets (packet ∷ []), before))))
-    | inr begun ↦ elim end [
-        inl going ↦
-          any_more is_placeholder out put f (omega (arith, long, begun)) (omega (arith, long, going))
-          ∙ ap (λ (t : Bool). t || is_placeholder put) (same f)
-          ∙ one_same (list_any is_open (behind packets f)) (is_null packet) (is_placeholder packet) packets packet
-          refl refl (becomes_late packets packet f begun going)
-          ∙ sym (any_more is_open packets packet f begun going)
-      | inr ended ↦
-          ap (list_any is_placeholder) (behind_same out put f (omega (arith, long, ended)))
-          ∙ same f
-          ∙ sym (ap (list_any is_open) (behind_same packets packet f ended)) ] ] in
+      | inl before ↦
+          ap (list_any is_placeholder) (behind_none (out ++ put ∷ []) f
+          (omega (arith, length-append out (put ∷ []), long, before)))
+          ∙ sym (ap (list_any is_open) (behind_none all f (omega (arith, length-append packets (packet ∷ []), before))))
+      | inr begun ↦ elim end [
+        | inl going ↦
+            any_more is_placeholder out put f (omega (arith, long, begun)) (omega (arith, long, going))
+            ∙ ap (λ (t : Bool). t || is_placeholder put) (same f)
+            ∙ one_same (list_any is_open (behind packets f)) (is_null packet) (is_placeholder packet) packets packet
+            refl refl (becomes_late packets packet f begun going)
+            ∙ sym (any_more is_open packets packet f begun going)
+        | inr ended ↦
+            ap (list_any is_placeholder) (behind_same out put f (omega (arith, long, ended)))
+            ∙ same f
+            ∙ sym (ap (list_any is_open) (behind_same packets packet f ended))
+      ]
+    ] in
     ap (λ (o : List (List ℕ)). list_any is_placeholder (behind o f)) (placed-next packets packet)
     ∙ by_cases (cases_lt n (312 * f + 52)) (cases_lt n (312 * f + 312))
 
@@ -235,8 +237,9 @@ open_of_placeholder : (packets : List (List ℕ)) → list_any is_placeholder pa
 unfolding is_open
 open_of_placeholder [] is = absurd (false≢true is)
 open_of_placeholder (p ∷ ps) is = elim (or_cases (is_placeholder p) (list_any is_placeholder ps) is) [
-    inl here ↦ or_left (is_open p) (list_any is_open ps) (or_right (is_null p) (is_placeholder p) here)
-  | inr there ↦ or_right (is_open p) (list_any is_open ps) (open_of_placeholder ps there) ]
+  | inl here ↦ or_left (is_open p) (list_any is_open ps) (or_right (is_null p) (is_placeholder p) here)
+  | inr there ↦ or_right (is_open p) (list_any is_open ps) (open_of_placeholder ps there)
+]
 
 -- it stays behind what became of those before it, too
 still : (before : List (List ℕ)) (packet : List ℕ) → is_null packet ≡ true → becomes before packet ≡ false
@@ -246,14 +249,15 @@ still before packet null stays =
     let f = n / 312 in
     let long : length (placed before) ≡ n = length-placed before in
     elim (cases_lt (n % 312) 52) [
-      inl early ↦ becomes_early (placed before) packet (omega (arith, long, early))
-    | inr late ↦
-        let found : list_any is_open (behind (placed before) f) ≡ true =
-        open_of_placeholder (behind (placed before) f) (any_same before f
-        ∙ found_before before packet f (omega (arith, late)) (omega arith) null stays) in
-        becomes_late (placed before) packet f (omega (arith, long, late)) (omega (arith, long))
-        ∙ and_right (is_null packet) (not (list_any is_open (behind (placed before) f)))
-        (not_from_true (list_any is_open (behind (placed before) f)) found) ]
+      | inl early ↦ becomes_early (placed before) packet (omega (arith, long, early))
+      | inr late ↦
+          let found : list_any is_open (behind (placed before) f) ≡ true =
+          open_of_placeholder (behind (placed before) f) (any_same before f
+          ∙ found_before before packet f (omega (arith, late)) (omega arith) null stays) in
+          becomes_late (placed before) packet f (omega (arith, long, late)) (omega (arith, long))
+          ∙ and_right (is_null packet) (not (list_any is_open (behind (placed before) f)))
+          (not_from_true (list_any is_open (behind (placed before) f)) found)
+    ]
 
 -- what became of a packet stays where it comes behind what became of those before it
 again_one : (before : List (List ℕ)) (packet : List ℕ) (changed null : Bool) → becomes before packet ≡ changed
@@ -314,13 +318,14 @@ bytes_stay packets k j within other =
     let packet = get_or packets k [] in
     ap (λ (p : List ℕ). get_or p j 0) (placed_at packets k within)
     ∙ elim (cases_Bool (becomes (take k packets) packet)) [
-        inl is ↦
+      | inl is ↦
           ap (λ (p : List ℕ). get_or p j 0)
           (cond-true (becomes (take k packets) packet) (as_placeholder packet) packet is)
           ∙ get_or-set_other packet 2 j (get_or packet 2 0 - 5) 0 other
       | inr isnt ↦
           ap (λ (p : List ℕ). get_or p j 0)
-          (cond-false (becomes (take k packets) packet) (as_placeholder packet) packet isnt) ]
+          (cond-false (becomes (take k packets) packet) (as_placeholder packet) packet isnt)
+    ]
 
 pub lengths_stay : (packets : List (List ℕ)) (k : ℕ) → k < length packets
     → length (get_or (placed packets) k []) ≡ length (get_or packets k [])
@@ -329,13 +334,14 @@ lengths_stay packets k within =
     let packet = get_or packets k [] in
     ap (λ (p : List ℕ). length p) (placed_at packets k within)
     ∙ elim (cases_Bool (becomes (take k packets) packet)) [
-        inl is ↦
+      | inl is ↦
           ap (λ (p : List ℕ). length p)
           (cond-true (becomes (take k packets) packet) (as_placeholder packet) packet is)
           ∙ length-set packet 2 (get_or packet 2 0 - 5)
       | inr isnt ↦
           ap (λ (p : List ℕ). length p)
-          (cond-false (becomes (take k packets) packet) (as_placeholder packet) packet isnt) ]
+          (cond-false (becomes (take k packets) packet) (as_placeholder packet) packet isnt)
+    ]
 
 -- a packet that is changed has the packet identifier of a placeholder
 pub changed_pid : (packets : List (List ℕ)) (k : ℕ) → k < length packets

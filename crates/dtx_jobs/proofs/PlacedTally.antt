@@ -66,16 +66,17 @@ becomes_first s packets packet first counted is =
     let n = length packets in
     let f = n / 312 in
     elim (cases_lt (n % 312) 52) [
-      inl early ↦
-        becomes_early packets packet early
-        ∙ sym (ap (λ (b : Bool). b && is_null packet) (is
-        ∙ ap (λ (b : Bool). b && (is_open packet && not s.found)) (lt-leb 52 (n % 312) early)))
-    | inr late ↦
-        becomes_late packets packet f (omega (arith, late)) (omega arith)
-        ∙ ap (λ (b : Bool). is_null packet && not b) (sym (counted.field (λ e. absurd (omega (arith, e, late)))))
-        ∙ one_null s.found (is_null packet) (is_placeholder packet)
-        ∙ sym (ap (λ (b : Bool). b && is_null packet) (is
-        ∙ ap (λ (b : Bool). b && (is_open packet && not s.found)) (le-leb 52 (n % 312) late))) ]
+      | inl early ↦
+          becomes_early packets packet early
+          ∙ sym (ap (λ (b : Bool). b && is_null packet) (is
+          ∙ ap (λ (b : Bool). b && (is_open packet && not s.found)) (lt-leb 52 (n % 312) early)))
+      | inr late ↦
+          becomes_late packets packet f (omega (arith, late)) (omega arith)
+          ∙ ap (λ (b : Bool). is_null packet && not b) (sym (counted.field (λ e. absurd (omega (arith, e, late)))))
+          ∙ one_null s.found (is_null packet) (is_placeholder packet)
+          ∙ sym (ap (λ (b : Bool). b && is_null packet) (is
+          ∙ ap (λ (b : Bool). b && (is_open packet && not s.found)) (le-leb 52 (n % 312) late)))
+    ]
   where
     one_null : (found null held : Bool) → (null && not found) ≡ (((null || held) && not found) && null)
     one_null true true held = refl
@@ -95,23 +96,25 @@ found_now s t packets packet counted is =
     let all = packets ++ packet ∷ [] in
     let first_of = λ (a b : Bool). (not a && s.found) || (b && is_open packet) in
     elim (cases_lt (n % 312) 52) [
-      inl early ↦
-        is ∙ ap (first_of (n % 312 == 0)) (lt-leb 52 (n % 312) early)
-        ∙ before s.found (n % 312) (λ some. counted.field some
-        ∙ ap (list_any is_open) (behind_none packets f (omega (arith, early))))
-        ∙ sym (ap (list_any is_open) (behind_none all f (omega (arith, length-append packets (packet ∷ []), early))))
-    | inr late ↦
-        let some : n % 312 ≡ 0 → ⊥ = λ e. absurd (omega (arith, e, late)) in
-        is ∙ ap (λ (b : Bool). first_of b (nat_le 52 (n % 312))) (ne_eqb (n % 312) 0 some)
-        ∙ ap (first_of false) (le-leb 52 (n % 312) late)
-        ∙ ap (λ (b : Bool). b || is_open packet) (counted.field some)
-        ∙ sym (any_more is_open packets packet f (omega (arith, late)) (omega arith)) ]
+      | inl early ↦
+          is ∙ ap (first_of (n % 312 == 0)) (lt-leb 52 (n % 312) early)
+          ∙ before s.found (n % 312) (λ some. counted.field some
+          ∙ ap (list_any is_open) (behind_none packets f (omega (arith, early))))
+          ∙ sym (ap (list_any is_open) (behind_none all f (omega (arith, length-append packets (packet ∷ []), early))))
+      | inr late ↦
+          let some : n % 312 ≡ 0 → ⊥ = λ e. absurd (omega (arith, e, late)) in
+          is ∙ ap (λ (b : Bool). first_of b (nat_le 52 (n % 312))) (ne_eqb (n % 312) 0 some)
+          ∙ ap (first_of false) (le-leb 52 (n % 312) late)
+          ∙ ap (λ (b : Bool). b || is_open packet) (counted.field some)
+          ∙ sym (any_more is_open packets packet f (omega (arith, late)) (omega arith))
+    ]
   where
     before : (found : Bool) (place : ℕ) → (place ≢ 0 → found ≡ false)
         → ((not (place == 0) && found) || false) ≡ false
     before true place none = elim (cases_eq place 0) [
-        inl zero ↦ ap (λ (b : Bool). (not b && true) || false) (eq-eqb place 0 zero)
-      | inr some ↦ absurd (true≢false (none some)) ]
+      | inl zero ↦ ap (λ (b : Bool). (not b && true) || false) (eq-eqb place 0 zero)
+      | inr some ↦ absurd (true≢false (none some))
+    ]
     before false place none = off (place == 0)
       where
         off : (b : Bool) → ((not b && false) || false) ≡ false
@@ -134,35 +137,37 @@ bare_now s t packets packet first counted step =
     let n = length packets in
     let b = bare_first (placed packets) (n / 312) in
     elim (cases_lt (n % 312) 52) [
-      inl early ↦
-        let none : first ≡ false = step.first_is
-        ∙ ap (λ (c : Bool). c && (is_open packet && not s.found)) (lt-leb 52 (n % 312) early) in
-        let same : t.bare + 0 ≡ s.bare + one_if (n % 312 == 0) =
-        sym (ap (λ (c : Bool). t.bare + one_if c) none) ∙ step.bare_is in
-        let off : one_unless t.found ≡ 1 = ap one_unless (found_now s t packets packet counted step.found_is
-        ∙ ap (list_any is_open) (behind_none (packets ++ packet ∷ []) (n / 312)
-        (omega (arith, length-append packets (packet ∷ []), early)))) in
-        elim (cases_eq (n % 312) 0) [
-          inl begins ↦
-            let more : one_if (n % 312 == 0) ≡ 1 = ap one_if (eq-eqb (n % 312) 0 begins) in
-            omega (arith, same, off, more, bare_between s packets counted begins)
-        | inr going ↦
-            let more : one_if (n % 312 == 0) ≡ 0 = ap one_if (ne_eqb (n % 312) 0 going) in
-            let was : one_unless s.found ≡ 1 = ap one_unless (counted.field going
-            ∙ ap (list_any is_open) (behind_none packets (n / 312) (omega (arith, early)))) in
-            omega (arith, same, off, more, was, bare_going s packets counted going) ]
-    | inr late ↦
-        let some : n % 312 ≡ 0 → ⊥ = λ e. absurd (omega (arith, e, late)) in
-        let is : first ≡ (is_open packet && not s.found) = step.first_is
-        ∙ ap (λ (c : Bool). c && (is_open packet && not s.found)) (le-leb 52 (n % 312) late) in
-        let more : one_if (n % 312 == 0) ≡ 0 = ap one_if (ne_eqb (n % 312) 0 some) in
-        let found : t.found ≡ (s.found || is_open packet) = step.found_is
-        ∙ ap (λ (c : Bool). (not c && s.found) || (nat_le 52 (n % 312) && is_open packet)) (ne_eqb (n % 312) 0 some)
-        ∙ ap (λ (c : Bool). s.found || (c && is_open packet)) (le-leb 52 (n % 312) late) in
-        let same : t.bare + one_if (is_open packet && not s.found) ≡ b + one_unless s.found =
-        sym (ap (λ (c : Bool). t.bare + one_if c) is) ∙ step.bare_is
-        ∙ omega (arith, more, bare_going s packets counted some) in
-        late_bare s.found (is_open packet) t.bare b same ∙ sym (ap (λ (c : Bool). b + one_unless c) found) ]
+      | inl early ↦
+          let none : first ≡ false = step.first_is
+          ∙ ap (λ (c : Bool). c && (is_open packet && not s.found)) (lt-leb 52 (n % 312) early) in
+          let same : t.bare + 0 ≡ s.bare + one_if (n % 312 == 0) =
+          sym (ap (λ (c : Bool). t.bare + one_if c) none) ∙ step.bare_is in
+          let off : one_unless t.found ≡ 1 = ap one_unless (found_now s t packets packet counted step.found_is
+          ∙ ap (list_any is_open) (behind_none (packets ++ packet ∷ []) (n / 312)
+          (omega (arith, length-append packets (packet ∷ []), early)))) in
+          elim (cases_eq (n % 312) 0) [
+            | inl begins ↦
+                let more : one_if (n % 312 == 0) ≡ 1 = ap one_if (eq-eqb (n % 312) 0 begins) in
+                omega (arith, same, off, more, bare_between s packets counted begins)
+            | inr going ↦
+                let more : one_if (n % 312 == 0) ≡ 0 = ap one_if (ne_eqb (n % 312) 0 going) in
+                let was : one_unless s.found ≡ 1 = ap one_unless (counted.field going
+                ∙ ap (list_any is_open) (behind_none packets (n / 312) (omega (arith, early)))) in
+                omega (arith, same, off, more, was, bare_going s packets counted going)
+          ]
+      | inr late ↦
+          let some : n % 312 ≡ 0 → ⊥ = λ e. absurd (omega (arith, e, late)) in
+          let is : first ≡ (is_open packet && not s.found) = step.first_is
+          ∙ ap (λ (c : Bool). c && (is_open packet && not s.found)) (le-leb 52 (n % 312) late) in
+          let more : one_if (n % 312 == 0) ≡ 0 = ap one_if (ne_eqb (n % 312) 0 some) in
+          let found : t.found ≡ (s.found || is_open packet) = step.found_is
+          ∙ ap (λ (c : Bool). (not c && s.found) || (nat_le 52 (n % 312) && is_open packet)) (ne_eqb (n % 312) 0 some)
+          ∙ ap (λ (c : Bool). s.found || (c && is_open packet)) (le-leb 52 (n % 312) late) in
+          let same : t.bare + one_if (is_open packet && not s.found) ≡ b + one_unless s.found =
+          sym (ap (λ (c : Bool). t.bare + one_if c) is) ∙ step.bare_is
+          ∙ omega (arith, more, bare_going s packets counted some) in
+          late_bare s.found (is_open packet) t.bare b same ∙ sym (ap (λ (c : Bool). b + one_unless c) found)
+    ]
 
 -- all that is counted
 pub counted_next : (s t : Placing) (packets : List (List ℕ)) (packet : List ℕ) (first : Bool) → IsCounted s packets

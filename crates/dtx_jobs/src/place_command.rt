@@ -23,13 +23,7 @@ pub fn place<S: Shelf>(alloc: Global, words: &[Word], shelf: &mut S) -> Outcome
     match words {
         [_, input, output] => {
             let mut placing = Each::new(Placing::new());
-            transform(
-                alloc,
-                &mut placing,
-                input.as_str(),
-                output.as_str(),
-                shelf,
-            )
+            transform(alloc, &mut placing, input.as_str(), output.as_str(), shelf)
         }
         _ => ended(Status::Usage),
     }

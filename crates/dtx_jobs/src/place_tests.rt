@@ -27,7 +27,12 @@ fn made_packets(alloc: Global, count: u64) -> Result<Vec<u8>, AllocError> {
 }
 
 /// What `place IN OUT` answers over that shelf.
-fn placed(alloc: Global, shelf: &mut MemoryShelf, input: &str, output: &str) -> Result<Outcome, AllocError> {
+fn placed(
+    alloc: Global,
+    shelf: &mut MemoryShelf,
+    input: &str,
+    output: &str,
+) -> Result<Outcome, AllocError> {
     let mut words = Vec::new(alloc);
     for text in ["place", input, output] {
         words.push(Word::new(String::from_str(alloc, text)?))?;
@@ -80,7 +85,9 @@ fn one_null_packet_a_field_becomes_a_placeholder(rt: HostRuntime) -> Result<(), 
 }
 
 #[test]
-fn a_placeholder_is_seen_and_a_refusal_keeps_the_packets_before_it(rt: HostRuntime) -> Result<(), Fail> {
+fn a_placeholder_is_seen_and_a_refusal_keeps_the_packets_before_it(
+    rt: HostRuntime,
+) -> Result<(), Fail> {
     let mut stream = packets_of(rt.alloc(), 320, 0x1FFF)?;
     stream[188 * 52 + 2] = 0xFA;
     stream[188 * 317] = 0x46;
@@ -91,7 +98,10 @@ fn a_placeholder_is_seen_and_a_refusal_keeps_the_packets_before_it(rt: HostRunti
         ("no", "out", Status::Absent(0)),
         ("in", "out", Status::Packet(317)),
     ] {
-        assert_eq!(rt; placed(rt.alloc(), &mut shelf, input, output)?, refused(status));
+        assert_eq!(rt;
+            placed(rt.alloc(), &mut shelf, input, output)?,
+            refused(status)
+        );
     }
     assert!(rt; shelf.get("out") == Some(&stream[..188 * 317]));
     Ok(())

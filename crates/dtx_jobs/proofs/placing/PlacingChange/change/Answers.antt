@@ -78,8 +78,9 @@ pub returns-then-null-2-clause-changed : goal.returns-then-null-2-clause-changed
 returns-then-null-2-clause-changed c = λ given long counted.
     let unit = c.args.unit.now in
     let vacant : c.if-null.meets ≡ is_open unit = elim c.if-null.branch [
-        then-null w ↦ vacant_null c.pid-pid.result unit c.if-null.meets c.pid-pid.ensures w.meets-is w.if-null.true
-      | else-null w ↦ vacant_other c.pid-pid.result unit c.if-null.meets c.pid-pid.ensures w.meets-is w.if-null.false ] in
+      | then-null w ↦ vacant_null c.pid-pid.result unit c.if-null.meets c.pid-pid.ensures w.meets-is w.if-null.true
+      | else-null w ↦ vacant_other c.pid-pid.result unit c.if-null.meets c.pid-pid.ensures w.meets-is w.if-null.false
+    ] in
     let null : is_null unit ≡ true = null_is c.pid-pid.result unit c.pid-pid.ensures c.if-null-2.true in
     let becomes_it : becomes (packets_of given) unit ≡ true =
     becomes_met c.args.self.now c.meets-first.new.self (packets_of given) unit c.args.index c.if-null.meets
@@ -98,8 +99,9 @@ pub returns-then-null-2-clause-tallied : goal.returns-then-null-2-clause-tallied
 returns-then-null-2-clause-tallied c = λ given long counted.
     let unit = c.args.unit.now in
     let vacant : c.if-null.meets ≡ is_open unit = elim c.if-null.branch [
-        then-null w ↦ vacant_null c.pid-pid.result unit c.if-null.meets c.pid-pid.ensures w.meets-is w.if-null.true
-      | else-null w ↦ vacant_other c.pid-pid.result unit c.if-null.meets c.pid-pid.ensures w.meets-is w.if-null.false ] in
+      | then-null w ↦ vacant_null c.pid-pid.result unit c.if-null.meets c.pid-pid.ensures w.meets-is w.if-null.true
+      | else-null w ↦ vacant_other c.pid-pid.result unit c.if-null.meets c.pid-pid.ensures w.meets-is w.if-null.false
+    ] in
     let null : is_null unit ≡ true = null_is c.pid-pid.result unit c.pid-pid.ensures c.if-null-2.true in
     let one : 1 ≡ one_if (c.meets-first.result && is_null unit) =
     sym (ap one_if (ap (λ (t : Bool). t && is_null unit) c.if-first.true ∙ null)) in
@@ -117,13 +119,15 @@ pub returns-else-first-clause-changed : goal.returns-else-first-clause-changed
 returns-else-first-clause-changed c = λ given long counted.
     let unit = c.args.unit.now in
     let vacant : c.if-null.meets ≡ is_open unit = elim c.if-null.branch [
-        then-null w ↦ vacant_null c.pid-pid.result unit c.if-null.meets c.pid-pid.ensures w.meets-is w.if-null.true
-      | else-null w ↦ vacant_other c.pid-pid.result unit c.if-null.meets c.pid-pid.ensures w.meets-is w.if-null.false ] in
+      | then-null w ↦ vacant_null c.pid-pid.result unit c.if-null.meets c.pid-pid.ensures w.meets-is w.if-null.true
+      | else-null w ↦ vacant_other c.pid-pid.result unit c.if-null.meets c.pid-pid.ensures w.meets-is w.if-null.false
+    ] in
     let neither : (c.meets-first.result && is_null unit) ≡ false = elim c.else-first.branch [
-        else-first-via-then-first+else-null-2 w ↦
+      | else-first-via-then-first+else-null-2 w ↦
           and_right c.meets-first.result (is_null unit)
           (other_is c.pid-pid.result unit c.pid-pid.ensures w.if-null-2.false)
-      | else-first-via-else-first w ↦ and_left c.meets-first.result (is_null unit) w.if-first.false ] in
+      | else-first-via-else-first w ↦ and_left c.meets-first.result (is_null unit) w.if-first.false
+    ] in
     sym (cond-false (becomes (packets_of given) unit) (as_placeholder unit) unit
     (becomes_met c.args.self.now c.meets-first.new.self (packets_of given) unit c.args.index c.if-null.meets
     c.meets-first.result (index_is c.args.index given long) vacant
@@ -139,13 +143,15 @@ returns-else-first-clause-tallied c = λ given long counted.
     let unit = c.args.unit.now in
     let met = c.meets-first.new.self in
     let vacant : c.if-null.meets ≡ is_open unit = elim c.if-null.branch [
-        then-null w ↦ vacant_null c.pid-pid.result unit c.if-null.meets c.pid-pid.ensures w.meets-is w.if-null.true
-      | else-null w ↦ vacant_other c.pid-pid.result unit c.if-null.meets c.pid-pid.ensures w.meets-is w.if-null.false ] in
+      | then-null w ↦ vacant_null c.pid-pid.result unit c.if-null.meets c.pid-pid.ensures w.meets-is w.if-null.true
+      | else-null w ↦ vacant_other c.pid-pid.result unit c.if-null.meets c.pid-pid.ensures w.meets-is w.if-null.false
+    ] in
     let neither : (c.meets-first.result && is_null unit) ≡ false = elim c.else-first.branch [
-        else-first-via-then-first+else-null-2 w ↦
+      | else-first-via-then-first+else-null-2 w ↦
           and_right c.meets-first.result (is_null unit)
           (other_is c.pid-pid.result unit c.pid-pid.ensures w.if-null-2.false)
-      | else-first-via-else-first w ↦ and_left c.meets-first.result (is_null unit) w.if-first.false ] in
+      | else-first-via-else-first w ↦ and_left c.meets-first.result (is_null unit) w.if-first.false
+    ] in
     let none : met.placed + 0 ≡ met.placed = omega arith in
     one_more given unit c.args.index met long c.requires.long
     (subst (λ (p : ℕ). IsCounted (record { placed = p; bare = met.bare; found = met.found })
