@@ -1,6 +1,5 @@
 -- The feed that an adapter makes of a stream under a plan (the profile's own, in the manner of ATSC A/110). Packets are
--- counted
--- from 0, and 624 make a frame.
+-- counted from 0, and 624 make a frame.
 use Rattle.std.specs.Prelude.{ℕ, ◌*◌, ◌/◌, ◌%◌, ◌==◌, Bool, if◌then◌else◌, List, [], ◌∷◌, ◌++◌, length, map, take}
 use Rattle.std.specs.Prelude.{slice_index_or}
 use Rattle.std.specs.List.{filter}
@@ -28,10 +27,8 @@ abbrev pub entry_of : Transmitter → Entry
 entry_of t = record { address = t.address; offset = t.offset }
 
 -- What the operations packet k says, before which these packets of the feed stand: the states that the coders have
--- behind all whole
--- groups before its own, the stamp of its frame, the plan's maximum delay and its transmitters in their order, the
--- number of the
--- frame, and the packet's place in it.
+-- behind all whole groups before its own, the stamp of its frame, the plan's maximum delay and its transmitters in
+-- their order, the number of the frame, and the packet's place in it.
 unfoldable pub ops_at : Plan → List (List ℕ) → ℕ → Ops
 ops_at plan before k = record {
   states = states (take (4 * (k / 4)) before);
@@ -47,8 +44,7 @@ unfoldable pub counter_at : List (List ℕ) → ℕ → ℕ
 counter_at stream k = placeholders (take k stream) % 16
 
 -- what a packet of the stream becomes as packet k of the feed: a placeholder becomes an operations packet that says
--- this, with this
--- counter, and every other packet keeps all but byte 0
+-- this, with this counter, and every other packet keeps all but byte 0
 unfoldable pub made : Ops → ℕ → ℕ → List ℕ → List ℕ
 made ops counter k packet = if is_placeholder packet then spelling ops counter (sync_at k) else marked k packet
 

@@ -27,8 +27,7 @@ said filling k = record {
 }
 
 -- What is said can be read: start and maximum delay are below one second of 10,000,000 ticks, the addresses differ, and
--- the counter
--- is of four bits.
+-- the counter is of four bits.
 pub record IsReadable (ticks delay count : ℕ) (transmitters : List Entry) : Type 0 where
   pub start : ticks < 10000000
   pub max_delay : delay < 10000000

@@ -18,8 +18,7 @@ use dtx_trellis::FIELD;
 use std::alloc::{AllocError, Global};
 
 /// An adapter. It is given the packets of a stream in order, and makes those of its feed of them (the profile's own, in
-/// the manner of
-/// ATSC A/110).
+/// the manner of ATSC A/110).
 #[derive(Drop)]
 pub struct Adapter {
     filler: Filler,
@@ -56,10 +55,8 @@ impl Adapter {
     }
 
     /// Turns the next packets of the stream into those of the feed, and answers how many placeholders it filled. They
-    /// are a group of
-    /// four, or at the end of the stream fewer, and all packets of a stream are at most 624,000,000. Takes no memory,
-    /// and refuses
-    /// nothing.
+    /// are a group of four, or at the end of the stream fewer, and all packets of a stream are at most 624,000,000.
+    /// Takes no memory, and refuses nothing.
     pub fn group(&mut self, packets: &mut [Packet]) -> u8
         requires some { 0 < length packets.old }
         requires few { length packets.old ≤ GROUP_PACKETS }
@@ -96,8 +93,7 @@ impl Adapter {
 }
 
 /// Makes the packets of a group of the stream those of the feed, the first of which has that index, and answers how
-/// many placeholders
-/// were filled.
+/// many placeholders were filled.
 fn make_group(filler: &mut Filler, first: u64, packets: &mut [Packet]) -> u8
     requires few { length packets.old ≤ GROUP_PACKETS }
     requires most { first + length packets.old ≤ MOST_PACKETS }

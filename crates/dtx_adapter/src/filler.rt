@@ -21,8 +21,7 @@ use std::marker::Model;
 const COUNTERS: u8 = 16;
 
 /// Makes packets of a feed of those of a stream: sets their sync bytes, and fills placeholders (the profile's own, in
-/// the manner of
-/// ATSC A/110). It is seen as what the operations packets say, and the counter of the next one.
+/// the manner of ATSC A/110). It is seen as what the operations packets say, and the counter of the next one.
 #[derive(Drop)]
 pub(crate) struct Filler {
     /// The tick at which the feed starts, below 10,000,000.

@@ -25,8 +25,7 @@ pub fn goes_on()
 {}
 
 /// The feed of a stream's first packets is as many packets of its feed, and packet k is made of packet k of the stream
-/// and of those
-/// that the feed has before it.
+/// and of those that the feed has before it.
 pub fn prefix()
     ensures feed { (plan : Plan) (stream : List (List ℕ)) (n : ℕ)
         → feed plan (take n stream) ≡ take n (feed plan stream) }
@@ -35,10 +34,8 @@ pub fn prefix()
 {}
 
 /// Each placeholder becomes an operations packet that reads as what is said at its place, with the states behind all
-/// whole groups
-/// before its own, the operations packets among them filled. No other packet becomes one. The plan is sound, and its
-/// transmitters
-/// have the numbers of entries.
+/// whole groups before its own, the operations packets among them filled. No other packet becomes one. The plan is
+/// sound, and its transmitters have the numbers of entries.
 pub fn operations_packets()
     ensures read { (plan : Plan) (stream : List (List ℕ)) (k : ℕ) → IsSound plan
         → All (λ t. IsEntry (entry_of t)) plan.transmitters.items → length stream ≤ MOST_PACKETS

@@ -104,8 +104,7 @@ fn placeholders_become_operations_packets_and_others_keep_all_but_byte_0(
 }
 
 /// One bit of byte 0 behind the sync byte, its second highest, puts coder 0 in state 2, and from then on its states
-/// take turns: 1
-/// behind an even number of pairs. The other bytes of the group and the other coders stay 0.
+/// take turns: 1 behind an even number of pairs. The other bytes of the group and the other coders stay 0.
 #[test]
 fn a_placeholder_in_a_last_part_of_a_group_says_the_states_behind_the_groups(
     rt: HostRuntime,

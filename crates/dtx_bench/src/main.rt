@@ -1,6 +1,5 @@
 // Measures how long the encoder takes, `dtx_bench encode`, and the other parts of the coding, each with a word of its
-// own. Without
-// a word it prints what the encoder's work gives.
+// own. Without a word it prints what the encoder's work gives.
 #![tactic(auto)]
 
 mod coding;

@@ -1,6 +1,5 @@
 -- The anchor of the packets that were given, as their sync bytes tell it (the profile's own). A packet is a mark where
--- its sync
--- byte is 0xB8; all other sync bytes are alike.
+-- its sync byte is 0xB8; all other sync bytes are alike.
 use Rattle.std.specs.Prelude.{ℕ, ◌≡◌, ◌<◌, ◌+◌, ◌-◌, ◌%◌, ◌==◌, Bool, Option, Some, None, find, option_map}
 use Rattle.std.specs.Prelude.{if◌then◌else◌, List, [], ◌∷◌, ◌++◌, length, slice_index}
 use Rattle.std.specs.List.{range_with_len, list_all}

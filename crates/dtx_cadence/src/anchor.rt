@@ -22,8 +22,7 @@ pub enum Seen {
 }
 
 /// The anchor of the packets of which it was told: the first packet from which on the marks stand exactly at each 624th
-/// (the
-/// profile's own). It is seen as the place of the next packet, or none.
+/// (the profile's own). It is seen as the place of the next packet, or none.
 #[derive(Drop)]
 pub struct Anchor {
     place: Option<u16>,

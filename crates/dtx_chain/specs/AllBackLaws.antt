@@ -37,7 +37,7 @@ length-levels f a (suc n) h =
     more n = omega arith
 
 -- data segment d of a run stands in it
-data_within : (l d : ℕ) → d < 0 + 4 * ((l - (l + 312) / 313) / 4) → d + d / 312 + 1 < l
+pub data_within : (l d : ℕ) → d < 0 + 4 * ((l - (l + 312) / 313) / 4) → d + d / 312 + 1 < l
 data_within l d h = omega arith
 
 run_levels : (run : List (List ℤ)) → ((i : ℕ) → i < length run → length (get_or run i []) ≡ 832)

@@ -1,8 +1,6 @@
 -- Damage of a stream's symbols as they are received, and how much of it a receiver undoes (the profile's own; what is
--- sent is that
--- of ATSC A/53 Part 2). A packet is its list of 188 bytes, a segment the list of its 832 symbols. The segments of a
--- stream are
--- counted from 0, and its field syncs are segments 0, 313, 626 and so on.
+-- sent is that of ATSC A/53 Part 2). A packet is its list of 188 bytes, a segment the list of its 832 symbols. The
+-- segments of a stream are counted from 0, and its field syncs are segments 0, 313, 626 and so on.
 use Rattle.std.specs.Prelude.{ℕ, ℤ, pos, ◌≡◌, ◌+◌, ◌-◌, ◌*◌, ◌/◌, ◌%◌, ◌<◌, ◌≤◌, ◌==◌, if◌then◌else◌, true, List, []}
 use Rattle.std.specs.Prelude.{length, map, drop, sum, filter, EachIndex, slice_index_or, slice_range}
 use Rattle.std.specs.List.{range_with_len}

@@ -26,7 +26,7 @@ use Rattle.dtx_chain.specs.PlacesLaws.{sync_at, data_at_place}
 
 -- ---- the levels
 
-slices_front : (zs : List ℕ) (n : ℕ) → flat_map (λ d. take 828 (drop (828 * d) zs)) (range_with_len 0 n)
+pub slices_front : (zs : List ℕ) (n : ℕ) → flat_map (λ d. take 828 (drop (828 * d) zs)) (range_with_len 0 n)
     ≡ take (828 * n) zs
 slices_front zs zero = refl
 slices_front zs (suc n) =
@@ -48,7 +48,7 @@ slices_front zs (suc n) =
     more : 828 * n + 828 ≡ 828 * suc n
     more = omega arith
 
-level_small : (ps : List (List ℕ)) (d : ℕ) → d < length (levels ps) → get_or (levels ps) d 0 < 8
+pub level_small : (ps : List (List ℕ)) (d : ℕ) → d < length (levels ps) → get_or (levels ps) d 0 < 8
 unfolding levels levels_of
 level_small ps d l =
     let m : d < 3312 * groups (whole_groups ps) =
@@ -58,7 +58,7 @@ level_small ps d l =
     (3312 * groups (whole_groups ps)) d d 0 m (omega arith)))
     (level_at_small 0 d zero_states (whole_groups ps) m)
 
-segment_back : (ps : List (List ℕ)) (d : ℕ) → d < 4 * (length ps / 4)
+pub segment_back : (ps : List (List ℕ)) (d : ℕ) → d < 4 * (length ps / 4)
     → sliced_data (segment (levels ps) d) ≡ take 828 (drop (828 * d) (levels ps))
 segment_back ps d l =
     ap sliced_data (segment_is (levels ps) d)
@@ -98,11 +98,11 @@ levels_are ps =
 
 -- ---- the bytes
 
-nothing_before : (ps : List (List ℕ)) → last_before ps 0 ≡ no_last
+pub nothing_before : (ps : List (List ℕ)) → last_before ps 0 ≡ no_last
 unfolding last_before
 nothing_before ps = refl
 
-zero_formers : formers_of (map sliced no_last) ≡ formers_in zero_states
+pub zero_formers : formers_of (map sliced no_last) ≡ formers_in zero_states
 unfolding formers_of sliced no_last formers_in zero_states
 zero_formers = refl
 

@@ -7,3 +7,6 @@ pub mod AllBackLaws
 pub mod PlacesLaws
 pub mod UndamagedLaws
 pub mod LevelsLaws
+pub mod ApartLaws
+pub mod FromSyncLaws
+pub mod NoDamageLaws

@@ -79,7 +79,7 @@ sent_within ps first sent got r l =
       length-drop first (a53 ps),
     )
 
-sent_at : (ps : List (List ℕ)) (first : ℕ) (sent got : List (List ℤ)) → AreReceived ps first sent got → (i : ℕ)
+pub sent_at : (ps : List (List ℕ)) (first : ℕ) (sent got : List (List ℤ)) → AreReceived ps first sent got → (i : ℕ)
     → i < length sent → get_or sent i [] ≡ get_or (a53 ps) (first + i) []
 sent_at ps first sent got r i l =
     ap (λ (xs : List (List ℤ)). get_or xs i []) r.in_a_row

@@ -118,7 +118,7 @@ word_is ps k l c =
 
 -- ---- packets
 
-packet_at : (ps : List (List ℕ)) (k : ℕ) → ArePackets ps → k < length ps
+pub packet_at : (ps : List (List ℕ)) (k : ℕ) → ArePackets ps → k < length ps
     → (length (get_or ps k []) ≡ 188) × AreBytes (get_or ps k [])
 packet_at [] k h l = absurd (omega arith)
 packet_at (p ∷ ps) zero h l = h.0

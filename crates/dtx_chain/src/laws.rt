@@ -1,17 +1,18 @@
 //! Laws of the definitions: undamaged symbols are one run, and its packets are those that were sent; a word with few
-//! wrong bytes
-//! gives its packet back.
+//! wrong bytes gives its packet back.
 
 ghost use Rattle.std.specs.Prelude.{◌≡◌, ℕ, ℤ, ◌≢◌, ◌+◌, ◌*◌, ◌/◌, ◌%◌, ◌<◌, ◌≤◌, Bool, true, List, [], ◌∷◌, length};
-ghost use Rattle.std.specs.Prelude.{map, slice_index_or};
+ghost use Rattle.std.specs.Prelude.{map, slice_index_or, slice_range};
 ghost use Rattle.std.specs.List.{list_all};
+ghost use Rattle.dtx_laws.specs.Codeword.{distance};
 ghost use Rattle.dtx_frame.specs.Segments.{field_sync};
 ghost use Rattle.dtx_coder.specs.Stream.{a53, levels, segment};
 ghost use Rattle.dtx_outer.specs.Inner.{IsComplete, word_at};
 ghost use Rattle.dtx_receiver.specs.Packets.{all_packets, packets_of, received, received_at};
 ghost use Rattle.dtx_receiver.specs.declared.batch.Received.{Received};
 ghost use Rattle.dtx_receiver.specs.Runs.{runs};
-ghost use Rattle.dtx_chain.specs.Damage.{AreReceived, IsNear, IsSlight, as_corrected, from_sync, numbers_in};
+ghost use Rattle.dtx_chain.specs.Damage.{AreReceived, IsNear, IsSlight, as_corrected, codeword_at, from_sync};
+ghost use Rattle.dtx_chain.specs.Damage.{numbers_in};
 ghost use Rattle.dtx_chain.specs.Damage.{packet_behind, to_sync, word_in};
 ghost use Rattle.dtx_chain.specs.Undamaged.{ArePackets, as_sent, whole_words, with_sync};
 
@@ -22,8 +23,7 @@ use dtx_trellis::FIELD;
 const FIELD_SEGMENTS: usize = 313;
 
 /// The undamaged symbols of packets that make at least one whole group are received as one run. Each packet whose bytes
-/// are all
-/// there comes back, in order, with 0x47 as its sync byte; none is flagged, and no byte was put right.
+/// are all there comes back, in order, with 0x47 as its sync byte; none is flagged, and no byte was put right.
 pub fn received_undamaged()
     ensures run { (packets : List (List ℕ)) → GROUP_PACKETS ≤ length packets → runs (a53 packets) ≡ a53 packets ∷ [] }
     ensures good { (packets : List (List ℕ)) → GROUP_PACKETS ≤ length packets → ArePackets packets
@@ -33,12 +33,9 @@ pub fn received_undamaged()
 {}
 
 /// Word j of the bytes of any run gives packet f + j of a stream back, received good and with 0x47 as its sync byte,
-/// wherever the
-/// word differs from that packet's codeword in at most ten bytes: those are the bytes put right. Packet f begins a
-/// field, as the
-/// packet behind a field sync does. The bytes of the run may be any numbers, and as many or as few as they are. Where
-/// all bytes of
-/// word j are there, its packet is number j of those that the run gives.
+/// wherever the word differs from that packet's codeword in at most ten bytes: those are the bytes put right. Packet f
+/// begins a field, as the packet behind a field sync does. The bytes of the run may be any numbers, and as many or as
+/// few as they are. Where all bytes of word j are there, its packet is number j of those that the run gives.
 pub fn gives_back()
     ensures packet { (packets : List (List ℕ)) (bytes : List ℕ) (f j : ℕ) → ArePackets packets → f % FIELD ≡ 0
         → f + j < length packets → IsNear packets (f + j) (word_at 207 52 4 bytes j)
@@ -48,10 +45,8 @@ pub fn gives_back()
 {}
 
 /// Where the symbols of segments in a row of a stream are received with slight damage, and a field sync is among them,
-/// they are
-/// one run, which begins with their first field sync. Its packets are exactly those of the stream from the one behind
-/// that field
-/// sync on whose bytes are all there, in order, each good and with 0x47 as its sync byte.
+/// they are one run, which begins with their first field sync. Its packets are exactly those of the stream from the one
+/// behind that field sync on whose bytes are all there, in order, each good and with 0x47 as its sync byte.
 pub fn gives_all_back()
     ensures run { (packets : List (List ℕ)) (first : ℕ) (sent got : List (List ℤ)) → AreReceived packets first sent got
         → to_sync first < length sent → IsSlight packets first sent got
@@ -71,20 +66,27 @@ pub fn gives_all_back()
         → list_all (λ r. r.good) (all_packets got) ≡ true }
 {}
 
-/// Undamaged symbols are slightly damaged ones: those of a whole stream are segments in a row from its first field sync
-/// on, and meet
-/// each condition.
+/// Eleven wrong bytes are too many: for each packet of a stream there is a word that differs from the packet's codeword
+/// in eleven bytes, and wherever a run has that word, it gives another packet back.
+pub fn eleven_are_too_many()
+    ensures { (packets : List (List ℕ)) (f j : ℕ) → ArePackets packets → f % FIELD ≡ 0 → f + j < length packets
+        → (word : List ℕ) × (distance word (codeword_at packets (f + j)) ≡ 11) × ((bytes : List ℕ)
+        → word_at 207 52 4 bytes j ≡ word
+        → (received_at bytes j).packet.0 ≢ with_sync (slice_index_or packets (f + j) [])) }
+{}
+
+/// Undamaged symbols are slightly damaged ones, from any segment of a stream on: segments in a row are received as they
+/// were sent, and meet each condition.
 pub fn no_damage()
-    ensures received { (packets : List (List ℕ)) → AreReceived packets 0 (a53 packets) (a53 packets) }
-    ensures slight { (packets : List (List ℕ)) → GROUP_PACKETS ≤ length packets → ArePackets packets
-        → IsSlight packets 0 (a53 packets) (a53 packets) }
+    ensures received { (packets : List (List ℕ)) (first end : ℕ)
+        → AreReceived packets first (slice_range (a53 packets) first end) (slice_range (a53 packets) first end) }
+    ensures slight { (packets : List (List ℕ)) (first : ℕ) (sent : List (List ℤ))
+        → AreReceived packets first sent sent → ArePackets packets → IsSlight packets first sent sent }
 {}
 
 /// Where the segments of a stream stand that these definitions count on. Its field syncs are those at multiples of 313,
-/// segment k
-/// of its packets stands k + k / 312 + 1 places behind its first, and so `to_sync` leads to the first field sync from
-/// any segment
-/// on, and `packet_behind` is the packet whose segment follows it and begins a field.
+/// segment k of its packets stands k + k / 312 + 1 places behind its first, and so `to_sync` leads to the first field
+/// sync from any segment on, and `packet_behind` is the packet whose segment follows it and begins a field.
 pub fn places()
     ensures sync { (packets : List (List ℕ)) (n : ℕ) → n < length (a53 packets) → n % FIELD_SEGMENTS ≡ 0
         → (second : Bool) × (last : List ℤ) × (slice_index_or (a53 packets) n [] ≡ field_sync second last) }

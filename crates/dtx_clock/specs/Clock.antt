@@ -1,6 +1,6 @@
 -- Stamps, holds and moments (the profile's own). A second has 10,000,000 ticks, and a tick 1,539 grains. The symbol
--- rate is
--- 4.5 MHz * 684 / 286 (ATSC A/53 Part 2), so a symbol lasts 1,430 grains, a segment 1,189,760 and a frame 744,789,760.
+-- rate is 4.5 MHz * 684 / 286 (ATSC A/53 Part 2), so a symbol lasts 1,430 grains, a segment 1,189,760 and a frame
+-- 744,789,760.
 use Rattle.std.specs.Prelude.{◌≡◌, ℕ, ◌+◌, ◌*◌, ◌/◌, ◌%◌, nat_lt, if◌then◌else◌, ℤ, pos, ◌+ℤ◌, ◌-ℤ◌, ◌*ℤ◌, ◌<ℤ◌, Result}
 use Rattle.std.specs.Prelude.{Ok, Err, unsigned_abs}
 use Rattle.std.specs.Int.{int_rem_euclid}

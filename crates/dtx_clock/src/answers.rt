@@ -4,8 +4,8 @@
 #[derive(Clone, Copy, Debug, PartialEq, Eq)]
 pub struct Late;
 
-/// A moment within its second: whole ticks of 100 ns, and the grains behind them, of which a tick has 1539
-/// (the profile's own).
+/// A moment within its second: whole ticks of 100 ns, and the grains behind them, of which a tick has 1539 (the
+/// profile's own).
 #[derive(Clone, Copy, Debug, PartialEq, Eq)]
 pub struct Moment {
     pub tick: u32,

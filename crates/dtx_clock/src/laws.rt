@@ -4,8 +4,7 @@ ghost use Rattle.std.specs.Prelude.{◌≡◌, ℕ, ◌+◌, ◌*◌, ◌<◌, �
 ghost use Rattle.dtx_clock.specs.Clock.{grains_of, moment_of, DifferBy};
 
 /// The moments of one packet at two transmitters differ by the difference of their offsets, in ticks of 1539 grains,
-/// and
-/// otherwise by whole seconds.
+/// and otherwise by whole seconds.
 pub fn moments_differ_by_offsets()
     ensures { (stamp max place : ℕ) (a b : ℤ)
         → DifferBy (grains_of stamp max a place) (grains_of stamp max b place) ((a -ℤ b) *ℤ pos 1539) }

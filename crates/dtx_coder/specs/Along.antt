@@ -1,6 +1,6 @@
 -- A coder that runs along with a stream from an anchor: it is aligned there, whatever it was given before, then gets
--- the groups
--- of the packets from there on, and at some of them preset states. Packet 0 is the anchor's, and begins a first field.
+-- the groups of the packets from there on, and at some of them preset states. Packet 0 is the anchor's, and begins a
+-- first field.
 use Rattle.std.specs.Prelude.{ℕ, ◌≡◌, ◌-◌, ◌*◌, ◌%◌, ◌<◌, ◌≤◌, List, length, drop}
 use Rattle.dtx_laws.specs.Branches.{Branching, HasWidths, spreading, aligned, leaving_all, after_all}
 use Rattle.dtx_trellis.specs.Groups.{levels_of, states_after}
@@ -27,8 +27,7 @@ pub record IsNext (packets : List (List ℕ)) (q : List ℕ) (group : Group) : T
   pub states : group.from ≡ q
 
 -- The coder was given the groups of these packets since the align, and group g was the last one with preset states,
--- which were
--- q. Where none were preset yet, g is 0 and q are the states that it had at the align.
+-- which were q. Where none were preset yet, g is 0 and q are the states that it had at the align.
 pub record RunsAlong (packets : List (List ℕ)) (g : ℕ) (q : List ℕ) (coder : Coding) : Type 0 where
   pub held : Branching
   pub widths : HasWidths 52 (spreading 4) held

@@ -43,8 +43,7 @@ pub record IsRun (s : ℕ) (q : List ℕ) (coder : Coding) (groups : List Group)
   pub go_on : GoOn q coder groups
 
 -- the last twelve symbols before group i of a run whose levels are zs: those of the data segment before it, and before
--- the run
--- those that were given last
+-- the run those that were given last
 unfoldable pub last_in : List ℤ → List ℕ → ℕ → List ℤ
 last_in last zs i = if i == 0 then last else last_of (segment zs (4 * i - 1))
 

@@ -48,8 +48,7 @@ impl Coder {
     }
 
     /// What every coder holds, whatever was done with it: branch i of the interleaver's 52 has 4 * i bytes, there are
-    /// twelve
-    /// states, each below 8, and twelve last symbols.
+    /// twelve states, each below 8, and twelve last symbols.
     pub fn known(&self)
         ensures branches { HasWidths BRANCHES (spreading BRANCH_STEP) self.now.branches }
         ensures states { AreStates self.now.states }
@@ -77,10 +76,8 @@ impl Coder {
     }
 
     /// Codes the four packets at the places `first` to `first` + 3 of a first or a second field: from the states of
-    /// `preset`, or
-    /// else from those that the last group left. Gives their four data segments, where `sync` is set behind a field
-    /// sync that
-    /// ends with the last twelve symbols given before.
+    /// `preset`, or else from those that the last group left. Gives their four data segments, where `sync` is set
+    /// behind a field sync that ends with the last twelve symbols given before.
     pub fn group(
         &mut self,
         first: u16,

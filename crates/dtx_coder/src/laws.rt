@@ -26,8 +26,7 @@ pub fn nothing_given()
 {}
 
 /// A coder that stands for some packets stands, behind their next group, for these packets too, and gives the segments
-/// by which
-/// the stream is longer.
+/// by which the stream is longer.
 pub fn next_group()
     ensures stands { (coder : Coding) (packets : List (List ℕ)) (group : Group) → StandsFor coder packets
         → IsNextGroup packets coder.states group
@@ -47,8 +46,7 @@ pub fn fronts()
 {}
 
 /// From group u on the coders go on from the states that the groups before it leave, and so the segments of group u are
-/// those
-/// of its own 828 bytes from these states.
+/// those of its own 828 bytes from these states.
 pub fn goes_on()
     ensures levels { (packets : List (List ℕ)) (u : ℕ) → GROUP_PACKETS * u ≤ length packets
         → levels packets ≡ levels (take (GROUP_PACKETS * u) packets)
@@ -74,8 +72,7 @@ pub fn counts()
 {}
 
 /// Behind an align, whatever the coder held, the bytes that leave the interleaver are those of the groups given since,
-/// each at
-/// the place of the map, and where the map's source lies before them a byte that the branches held.
+/// each at the place of the map, and where the map's source lies before them a byte that the branches held.
 pub fn behind_align()
     ensures { (coder : Coding) (groups : List Group) → HasWidths BRANCHES (spreading BRANCH_STEP) coder.branches
         → IsInterleavedBehind BRANCHES BRANCH_STEP coder.branches.lists (coded_groups groups)
@@ -83,10 +80,8 @@ pub fn behind_align()
 {}
 
 /// Behind an align, whatever the coder held, the bytes that leave as packet 52 and each later one come are those of the
-/// packets
-/// given since, and no byte from before is among them: so it is of the 828 bytes of each group whose first packet is
-/// packet 52
-/// since or a later one.
+/// packets given since, and no byte from before is among them: so it is of the 828 bytes of each group whose first
+/// packet is packet 52 since or a later one.
 pub fn settled()
     ensures bytes { (coder : Coding) (groups : List Group) (n : ℕ)
         → HasWidths BRANCHES (spreading BRANCH_STEP) coder.branches → CODEWORD * SETTLED_PACKETS ≤ n

@@ -13,6 +13,5 @@ pub(crate) const BRANCHES: usize = 52;
 pub(crate) const BRANCH_STEP: usize = 4;
 
 /// How many packets since an align it takes until each byte that leaves the interleaver is one of theirs. As the packet
-/// before
-/// comes, one byte still leaves that a branch held.
+/// before comes, one byte still leaves that a branch held.
 pub const SETTLED_PACKETS: usize = 52;

@@ -8,8 +8,7 @@ use std::process::Abort;
 use vectors::{AIR, AIR_LEFT, Corrected, DVB, DVB_LEFT, PACKET, PACKET_LEFT};
 
 /// The coefficients of the product of x + α^i for i from 0 to 9: of a word that ends with them the first ten syndromes
-/// are 0,
-/// and the eleventh isn't, as no ten errors make it.
+/// are 0, and the eleventh isn't, as no ten errors make it.
 const ELEVEN: [u8; 11] = [
     0x01, 0xd8, 0xc2, 0x9f, 0x6f, 0xc7, 0x5e, 0x5f, 0x71, 0x9d, 0xc1,
 ];

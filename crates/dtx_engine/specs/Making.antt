@@ -38,8 +38,7 @@ use Rattle.dtx_engine.specs.declared.piece.Ending.{Ending}
 use Rattle.dtx_engine.specs.declared.piece.Ending.TheVariants.{Whole, Refused}
 
 -- which units are allowed, what is made of the bytes of whole units and what the end adds to it, and how the command
--- ends where all
--- units were read and so many bytes are loose behind them
+-- ends where all units were read and so many bytes are loose behind them
 pub record Making : Type 0 where
   pub allows : ℕ → List ℕ → Bool
   pub made : List ℕ → Made

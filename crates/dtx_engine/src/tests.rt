@@ -22,7 +22,7 @@ impl Change for Marks {
 
     ghost allowed = { λ k packet. slice_index_or packet 0 0 == 0x47 };
 
-    ghost changed = { λ k packet. if k % 624 == 0 then slice_set packet 0 0xB8 else packet };
+    ghost changed = { λ given packet. if length given / 188 % 624 == 0 then slice_set packet 0 0xB8 else packet };
 
     ghost answer = { λ given loose. record {
       status = Done;

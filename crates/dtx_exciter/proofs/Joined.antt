@@ -21,7 +21,7 @@ use Rattle.dtx_exciter.specs.Step.{bytes_of, own_order, told_group, own_of, grou
 use Rattle.dtx_exciter.specs.Kept.{whole, last_order, is_served, RunsUnder, KeepsUnder, IsJoined}
 use Rattle.dtx_exciter.specs.ForceLaws.{force_left, force_first, counted_behind, IsBehind}
 use Rattle.dtx_exciter.specs.UnderLaws.{said_append, length-said}
-use Rattle.dtx_exciter.specs.EndsLaws
+use Rattle.dtx_exciter.specs.EndsLaws as Ends
 use Rattle.dtx_exciter.specs.AnswerLaws.{told_group_is, sent_is_served}
 use Rattle.dtx_exciter.specs.GroupSentLaws.{IsGiven, HasSync, group_sent, runs_more, none_by}
 

@@ -4,3 +4,4 @@ pub mod Whole
 pub mod Taken
 pub mod Joined
 pub mod Apart
+pub mod HowMany

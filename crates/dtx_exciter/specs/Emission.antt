@@ -1,14 +1,14 @@
 -- The segments that an exciter gives (the profile's own, over the symbols of ATSC A/53 Part 2). Packets are counted
--- from the
--- anchor, whose packet begins a first field.
-use Rattle.std.specs.Prelude.{ℕ, ℤ, ◌≡◌, ◌+◌, ◌-◌, ◌*◌, ◌/◌, ◌%◌, ◌==◌, nat_le, Option, Some, None, is_ok}
+-- from the anchor, whose packet begins a first field.
+use Rattle.std.specs.Prelude.{ℕ, ℤ, ◌≡◌, ◌+◌, ◌-◌, ◌*◌, ◌/◌, ◌%◌, ◌==◌, ◌&&◌, nat_le, Bool, Option, Some, None, is_ok}
 use Rattle.std.specs.Prelude.{if◌then◌else◌, List, [], ◌∷◌, ◌++◌, length, take, slice_index_or, flat_map}
 use Rattle.std.specs.List.{range_with_len}
 use Rattle.dtx_frame.specs.Segments.{field_sync}
 use Rattle.dtx_coder.specs.Stream.{four_segments, last_of, symbols_of}
 use Rattle.dtx_coder.specs.Along.{levels_since}
+use Rattle.dtx_ops.specs.declared.fields.Ops.{Ops}
 use Rattle.dtx_exciter.specs.Order.{Order, in_force}
-use Rattle.dtx_exciter.specs.Told.{served}
+use Rattle.dtx_exciter.specs.Told.{served, told_at, is_sent}
 use Rattle.dtx_exciter.specs.Packets.{said, under}
 
 -- the four data segments of group u of these packets, where the coders begin with the states q before group g
@@ -31,9 +31,12 @@ sent_at address delay packets i = sent_by address delay packets i (in_force (sai
 abbrev pub sent_before : ℕ → ℕ → List (List ℕ) → ℕ → List (List ℤ)
 sent_before address delay packets i = if nat_le 4 i then sent_at address delay packets (i - 4) else []
 
+-- whether the group before that from i on was sent, as its answer tells
+abbrev pub was_sent : ℕ → ℕ → List (Option Ops) → ℕ → Bool
+was_sent address delay said i = nat_le 4 i && is_sent (told_at address delay (i - 4) (in_force said (i - 4)))
+
 -- a sent group behind a field sync, where it begins a field and the group before it was sent: the field sync ends with
--- the last
--- twelve symbols that were sent
+-- the last twelve symbols that were sent
 abbrev pub with_sync : ℕ → List (List ℤ) → List (List ℤ) → List (List ℤ)
 with_sync i before [] = []
 with_sync i [] (s ∷ ss) = s ∷ ss

@@ -10,10 +10,8 @@ use Rattle.dtx_exciter.specs.Told.{served}
 use Rattle.dtx_exciter.specs.Packets.{said}
 
 -- What the exciter of the transmitter with this address and delay asks of a feed: a mark stands at each 624th packet
--- and nowhere
--- else, and each order 52 or more packets behind its start sets the states that the feed's own coders have before the
--- order's
--- group, and serves the transmitter.
+-- and nowhere else, and each order 52 or more packets behind its start sets the states that the feed's own coders have
+-- before the order's group, and serves the transmitter.
 pub record IsFeed (address delay : ℕ) (feed : List (List ℕ)) : Type 0 where
   pub marks : (k : ℕ) → k < length feed → (sync_of (slice_index_or feed k []) == 0xB8) ≡ (k % 624 == 0)
   pub states : (g : ℕ) (ops : Ops) → counted (said feed) g ≡ Some ops → ops.states ≡ states (take g feed)

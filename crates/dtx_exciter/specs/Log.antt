@@ -15,8 +15,7 @@ pub data Line : Type 0 where
   restart : ℕ → Line
 
 -- the line of an answer, where n segments were given before it and m with it: a preset speaks of the group's first data
--- segment,
--- behind a field sync
+-- segment, behind a field sync
 abbrev pub line_of : ℕ → ℕ → Told → List Line
 line_of n m Quiet = []
 line_of n m (Sent None) = []

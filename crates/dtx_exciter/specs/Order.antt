@@ -1,6 +1,5 @@
 -- What the packets under an anchor order (the profile's own). They are counted from the anchor, and each is told here
--- by the
--- operations fields that it reads as, where it reads.
+-- by the operations fields that it reads as, where it reads.
 use Rattle.std.specs.Prelude.{ℕ, ◌+◌, ◌%◌, ◌==◌, nat_le, ◌&&◌, Option, Some, None, if◌then◌else◌, List, slice_index_or}
 use Rattle.std.proofs.Common.{zero, suc}
 use Rattle.dtx_ops.specs.declared.fields.Ops.{Ops}

@@ -1,6 +1,5 @@
 -- What an exciter answers to a packet (the profile's own). The packets that it was given are told here by their sync
--- bytes and
--- by the operations fields that they read as.
+-- bytes and by the operations fields that they read as.
 use Rattle.std.specs.Prelude.{ℕ, ◌-◌, ◌%◌, ◌==◌, Bool, true, false, not, Option, Some, None, option_map, find}
 use Rattle.std.specs.Prelude.{if◌then◌else◌, Result, Ok, Err, List, length, take, drop, ℤ, pos, negsuc, ◌+ℤ◌, ◌-ℤ◌}
 use Rattle.dtx_cadence.specs.Anchor.{anchor}

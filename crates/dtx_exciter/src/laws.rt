@@ -1,10 +1,12 @@
 //! Laws of the definitions.
 
-ghost use Rattle.std.specs.Prelude.{◌≡◌, ℕ, ℤ, ◌+◌, ◌%◌, ◌≤◌, ◌∷◌, ◌++◌, Some, List, length, map, drop, slice_range};
+ghost use Rattle.std.specs.Prelude.{◌≡◌, ℕ, ℤ, ◌+◌, ◌-◌, ◌%◌, ◌≤◌, ◌==◌, ◌&&◌, ◌∷◌, ◌++◌, true, false, Some};
+ghost use Rattle.std.specs.Prelude.{if◌then◌else◌, List, [], length, map, drop, slice_range};
 ghost use Rattle.dtx_ops.specs.declared.fields.Ops.{Ops};
 ghost use Rattle.dtx_exciter.specs.Order.{counted};
-ghost use Rattle.dtx_exciter.specs.Packets.{said};
-ghost use Rattle.dtx_exciter.specs.Emission.{given, emission};
+ghost use Rattle.dtx_exciter.specs.Packets.{said, under, told};
+ghost use Rattle.dtx_exciter.specs.Told.{is_sent};
+ghost use Rattle.dtx_exciter.specs.Emission.{was_sent, given, emission};
 ghost use Rattle.dtx_exciter.specs.Lockstep.{IsFeed, IsStretch, stretch};
 ghost use Rattle.dtx_exciter.specs.Log.{preset, life_lines, log, restarted_lines, restarting_lines, emission_over};
 ghost use Rattle.dtx_exciter.specs.Stretch.{emission_behind, lines_behind, sync_behind, before_stretch, moment_at};
@@ -13,12 +15,10 @@ ghost use Rattle.dtx_exciter.specs.Stretch.{preset_line, orders_in, stretch_line
 // ---- one life
 
 /// An exciter that is given a feed unchanged from one of its marks on, whatever it was given before, gives from the
-/// first data
-/// segment of each order's group on that begins 52 or more packets behind the mark just the feed's own segments, in a
-/// row and
-/// with nothing between, up to the last group that ends before the packets that are given then. What it gives before
-/// them is
-/// what it gives before the last packet of that group, and then at most one field sync, in front of the group.
+/// first data segment of each order's group on that begins 52 or more packets behind the mark just the feed's own
+/// segments, in a row and with nothing between, up to the last group that ends before the packets that are given then.
+/// What it gives before them is what it gives before the last packet of that group, and then at most one field sync, in
+/// front of the group.
 pub fn lockstep()
     ensures exact { (address delay : ℕ) (feed earlier : List (List ℕ)) (mark end k : ℕ) → IsFeed address delay feed
         → IsStretch feed mark end k
@@ -32,8 +32,7 @@ pub fn lockstep()
 {}
 
 /// How many segments stand before the stretch: as many as are given before the last packet of its first group, and one
-/// more
-/// where a field sync stands in front of that group.
+/// more where a field sync stands in front of that group.
 pub fn counts()
     ensures before { (address delay : ℕ) (feed earlier : List (List ℕ)) (mark k : ℕ)
         → length (before_stretch address delay earlier feed mark k)
@@ -43,8 +42,8 @@ pub fn counts()
 {}
 
 /// The log beside the stretch: the lines of what is given before the last packet of its first group, and then one line
-/// for each
-/// order of the stretch and no other, which speaks of the group's first data segment and has the order's moment there.
+/// for each order of the stretch and no other, which speaks of the group's first data segment and has the order's
+/// moment there.
 pub fn lines()
     ensures exact { (address delay n : ℕ) (feed earlier : List (List ℕ)) (mark end k : ℕ) → IsFeed address delay feed
         → IsStretch feed mark end k
@@ -69,6 +68,19 @@ pub fn first_line()
         ∷ map (preset_line address s k) (orders_in feed (k + 1) end) }
 {}
 
+/// A packet gives segments exactly where its answer is that its group is sent: then the group's four, and in front of
+/// them a field sync where a field begins with the group and the group before it was sent too.
+pub fn sent_packets_give()
+    ensures none { (address delay : ℕ) (packets : List (List ℕ)) (packet : List ℕ)
+        → is_sent (told address delay (packets ++ packet ∷ [])) ≡ false
+        → given address delay (packets ++ packet ∷ []) ≡ [] }
+    ensures some { (address delay : ℕ) (packets : List (List ℕ)) (packet : List ℕ)
+        → is_sent (told address delay (packets ++ packet ∷ [])) ≡ true
+        → (l : List (List ℕ)) × (under (packets ++ packet ∷ []) ≡ Some l)
+        × (length (given address delay (packets ++ packet ∷ []))
+        ≡ (if was_sent address delay (said l) (length l - 4) && ((length l - 4) % 312 == 0) then 5 else 4)) }
+{}
+
 /// What packets give stands whatever is given then, and the further packets' segments follow it one packet after
 /// another.
 pub fn emission_goes_on()
@@ -87,10 +99,8 @@ pub fn lines_go_on()
 // ---- two transmitters
 
 /// Two transmitters that are given a feed from a mark of it on, each behind packets of its own, give the same segments
-/// in the
-/// stretch, and for each order there a line of the same frame and packet; the two lines' moments differ by the
-/// difference of
-/// their offsets under the order, in ticks of 1539 grains, and otherwise by whole seconds.
+/// in the stretch, and for each order there a line of the same frame and packet; the two lines' moments differ by the
+/// difference of their offsets under the order, in ticks of 1539 grains, and otherwise by whole seconds.
 pub fn same_everywhere()
     ensures segments { (a b delay_a delay_b : ℕ) (feed earlier_a earlier_b : List (List ℕ)) (mark_a mark_b end k : ℕ)
         → IsFeed a delay_a feed → IsFeed b delay_b feed → IsStretch feed mark_a end k → IsStretch feed mark_b end k
@@ -105,8 +115,8 @@ pub fn same_everywhere()
 // ---- several lives
 
 /// The segments and the log of several lives, from one of them on: those of the lives before it, its own, and those of
-/// the lives
-/// behind it, with a restart between any two. Each line counts all segments before it, those of earlier lives too.
+/// the lives behind it, with a restart between any two. Each line counts all segments before it, those of earlier lives
+/// too.
 pub fn in_lives()
     ensures segments { (address delay : ℕ) (xs ys : List (List (List ℕ))) (life : List (List ℕ))
         → emission_over address delay (xs ++ life ∷ ys) ≡ emission_over address delay xs

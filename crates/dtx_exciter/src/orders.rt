@@ -14,8 +14,7 @@ use dtx_packets::Packet;
 pub(crate) type Corrector = Linear<184, 164>;
 
 /// The fields of the first packet of a group that reads and whose index is its place in the frame, where the group's
-/// first one
-/// stands at `first`.
+/// first one stands at `first`.
 pub(crate) fn order_in(
     corrector: &Corrector,
     first: u16,

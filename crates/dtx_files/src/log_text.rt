@@ -8,13 +8,11 @@ use dtx_exciter::{Preset, Told, Why};
 use itoa::Buffer;
 
 /// How many bytes a line has room for: `preset`, numbers of 64, 32, 16, 32 and 16 bits with a space before each, and a
-/// line feed are
-/// 62 bytes at most.
+/// line feed are 62 bytes at most.
 pub const LOG_LINE: usize = 64;
 
 /// Sets the text to the line of an exciter's answer, or to nothing where it has none (the profile's own). So many
-/// segments were given
-/// before the answer, and so many with it.
+/// segments were given before the answer, and so many with it.
 pub fn write_line(told: Told, before: u64, given: u8, text: &mut ArrayString<LOG_LINE>)
     requires { before + given < 2 ^ 64 }
     ensures { text.new.bytes ≡ log_text (line_of before given told) }

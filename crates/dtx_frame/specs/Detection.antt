@@ -22,8 +22,7 @@ unfoldable pub looks_like : List ℤ → Bool
 looks_like segment = nat_le (differing segment) 32
 
 -- 1 where the symbol that stands for bit i of the middle short sequence, sliced, has the other sign than that bit's.
--- Levels 0 to 3
--- are the negative sign, which is that of a bit of 0.
+-- Levels 0 to 3 are the negative sign, which is that of a bit of 0.
 unfoldable pub opposite : List ℤ → ℕ → ℕ
 opposite segment i = if sliced (slice_index_or segment (578 + i) (pos 0)) / 4 == slice_index pn63 i then 0 else 1
 

@@ -7,8 +7,8 @@ use crate::tables::IN_FRONT;
 use dtx_slice::{SEGMENT, SEGMENT_SYNC};
 use dtx_trellis::SEGMENT_LEVELS;
 
-/// Writes the segment of these levels: its sync, and each level as twice the level less 7
-/// (ATSC A/53 Part 2, data segment sync).
+/// Writes the segment of these levels: its sync, and each level as twice the level less 7 (ATSC A/53 Part 2, data
+/// segment sync).
 pub fn data_segment(levels: &[u8; SEGMENT_LEVELS], out: &mut [i8; SEGMENT])
     requires { EachIndex levels.now (λ d. slice_index levels.now d < 8) }
     ensures { out.new ≡ data_segment levels.now }

@@ -21,8 +21,7 @@ const SHORT: usize = 63;
 const INVERTED: u16 = 32;
 
 /// Whether a segment looks like a field sync: at most 32 of its first 515 symbols, sliced, differ from those of one.
-/// The four of the
-/// segment sync are among them (the profile's own).
+/// The four of the segment sync are among them (the profile's own).
 pub fn looks(segment: &[i8; SEGMENT]) -> bool
     ensures { result ≡ looks_like segment.now }
 {
@@ -55,8 +54,7 @@ fn differs(segment: &[i8; SEGMENT], i: usize) -> u16
 }
 
 /// Whether a field sync is that of a second field: at least 32 of the 63 symbols of the middle one of its three short
-/// sequences,
-/// sliced, have the other sign than that sequence. Levels 0 to 3 are the negative sign (the profile's own).
+/// sequences, sliced, have the other sign than that sequence. Levels 0 to 3 are the negative sign (the profile's own).
 pub fn is_second(segment: &[i8; SEGMENT]) -> bool
     ensures { result ≡ looks_second segment.now }
 {

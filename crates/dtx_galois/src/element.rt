@@ -6,8 +6,8 @@ ghost use Rattle.dtx_galois.specs.Field.{mul, pow};
 
 use crate::tables::{ORDER, logarithm, power};
 
-/// The polynomial x^8 + x^4 + x^3 + x^2 + 1 over the two bits, modulo which bytes are multiplied
-/// (ATSC A/53 Part 2, Reed-Solomon encoder).
+/// The polynomial x^8 + x^4 + x^3 + x^2 + 1 over the two bits, modulo which bytes are multiplied (ATSC A/53 Part 2,
+/// Reed-Solomon encoder).
 pub const FIELD_POLYNOMIAL: u16 = 0x11D;
 
 /// The element whose powers are all elements but 0.

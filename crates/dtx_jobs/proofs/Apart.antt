@@ -1,6 +1,6 @@
 -- What follows from file names of which no two are equal, and from two that are.
 use Rattle.std.proofs.Common.{◌≡◌, ◌≢◌, ℕ, Bool, true, false, ◌||◌, cond, List, [], ◌∷◌, sym, ap}
-use Rattle.std.specs.Prelude.{Option, Some, None, if◌then◌else◌, is_some}
+use Rattle.std.specs.Prelude.{Some, None, if◌then◌else◌, is_some}
 use Rattle.std.specs.Str.{bytes_eq}
 use Rattle.std.proofs.lemmas.Slice.Eq.{bytes_eq-Decides}
 use Rattle.dtx_meaning.specs.Meaning.{Meaning, refused}
@@ -19,7 +19,8 @@ none_equal second third false false false none = (λ e. cc, λ e. cc, λ e. cc)
 pub all_differ : (first second third : List ℕ) → None ≡ repeated (first ∷ second ∷ third ∷ [])
     → (first ≢ second) × (first ≢ third) × (second ≢ third)
 all_differ first second third differ =
-    let none = none_equal second third (bytes_eq first second) (bytes_eq first third) (bytes_eq second third) (sym differ) in (
+    let none = none_equal second third (bytes_eq first second) (bytes_eq first third) (bytes_eq second third)
+    (sym differ) in (
       λ same. none.0 ((bytes_eq-Decides first second).1 same),
       λ same. none.1 ((bytes_eq-Decides first third).1 same),
       λ same. none.2 ((bytes_eq-Decides second third).1 same),

@@ -1,9 +1,13 @@
-pub mod Feeding
-pub mod Making
-pub mod PacketBytes
-pub mod SmallFile
 pub mod Apart
 pub mod BytesOf
+pub mod Feeding
 pub mod LifeOn
+pub mod Making
+pub mod PacketBytes
+pub mod PlacedBytes
+pub mod PlacedCounts
+pub mod PlacedPackets
+pub mod PlacedTally
+pub mod SmallFile
 pub mod StreamSymbols
 pub mod Tallied

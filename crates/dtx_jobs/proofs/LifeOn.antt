@@ -1,5 +1,6 @@
 -- The numbers of one life, one packet further, and how much they are at most.
-use Rattle.std.proofs.Common.{◌≡◌, ℕ, zero, suc, ◌+◌, ◌*◌, ◌<◌, ◌≤◌, List, [], ◌∷◌, ◌++◌, length, take, refl, sym, ap, ◌∙◌, arith}
+use Rattle.std.proofs.Common.{◌≡◌, ℕ, zero, suc, ◌+◌, ◌*◌, ◌<◌, ◌≤◌, List, [], ◌∷◌, ◌++◌, length, take, refl, sym, ap}
+use Rattle.std.proofs.Common.{◌∙◌, arith}
 use Rattle.std.specs.Prelude.{Some, None}
 use Rattle.std.specs.List.{range_with_len, flat_map}
 use Rattle.std.proofs.lemmas.List.{length-append, length_push}
@@ -21,9 +22,11 @@ tally_none a d = refl
 
 -- ---- how much that is at most
 
-few_in_all : {X : Type 0} (f : ℕ → List X) (a n : ℕ) → ((i : ℕ) → length (f i) ≤ 5) → length (flat_map f (range_with_len a n)) ≤ 5 * n
+few_in_all : {X : Type 0} (f : ℕ → List X) (a n : ℕ) → ((i : ℕ) → length (f i) ≤ 5)
+    → length (flat_map f (range_with_len a n)) ≤ 5 * n
 few_in_all f a zero h = omega arith
-few_in_all f a (suc n) h = omega (arith, length-append (f a) (flat_map f (range_with_len (a + 1) n)), h a, few_in_all f (a + 1) n h)
+few_in_all f a (suc n) h =
+    omega (arith, length-append (f a) (flat_map f (range_with_len (a + 1) n)), h a, few_in_all f (a + 1) n h)
 
 pub emission_few : (a d : ℕ) (l : List (List ℕ)) → length (emission a d l) ≤ 5 * length l
 unfolding emission
@@ -40,14 +43,22 @@ counted_in_all : (f : ℕ → List Line) (a n : ℕ) → ((i : ℕ) → presets_
 counted_in_all f a zero h = omega arith
 counted_in_all f a (suc n) h =
     let rest : List Line = flat_map f (range_with_len (a + 1) n) in
-    omega (arith, sum_by-append one_preset (f a) rest, sum_by-append one_mute (f a) rest, h a, counted_in_all f (a + 1) n h)
+    omega (
+      arith,
+      sum_by-append one_preset (f a) rest,
+      sum_by-append one_mute (f a) rest,
+      h a,
+      counted_in_all f (a + 1) n h,
+    )
 
-pub lines_few : (a d : ℕ) (l : List (List ℕ)) → presets_in (life_lines a d 0 l) + mutes_in (life_lines a d 0 l) ≤ length l
+pub lines_few : (a d : ℕ) (l : List (List ℕ))
+    → presets_in (life_lines a d 0 l) + mutes_in (life_lines a d 0 l) ≤ length l
 unfolding life_lines
 lines_few a d l = counted_in_all (line_at a d l) 0 (length l) (λ i. presets_few _ _ (told a d (take (i + 1) l)))
 
 -- so there is room for what the next packet brings
-pub has_room : (a d : ℕ) (l : List (List ℕ)) (p : List ℕ) (tally : LifeTally) → tally ≡ life_tally a d l → tally.packets < 624000000
+pub has_room : (a d : ℕ) (l : List (List ℕ)) (p : List ℕ) (tally : LifeTally) → tally ≡ life_tally a d l
+    → tally.packets < 624000000
     → HasRoom tally (length (given a d (l ++ p ∷ [])))
 has_room a d l p tally is most =
     let packets = ap (λ (t : LifeTally). t.packets) is in
@@ -62,15 +73,18 @@ has_room a d l p tally is most =
     }
 
 same_tally : (a b c e a' b' c' e' : ℕ) → a ≡ a' → b ≡ b' → c ≡ c' → e ≡ e'
-    → ◌≡◌ {A = LifeTally} (record { packets = a; segments = b; presets = c; mutes = e }) (record { packets = a'; segments = b'; presets = c'; mutes = e' })
+    → ◌≡◌ {A = LifeTally} (record { packets = a; segments = b; presets = c; mutes = e })
+    (record { packets = a'; segments = b'; presets = c'; mutes = e' })
 same_tally a b c e a' b' c' e' p q r s = rw (p, q, r, s) refl
 
 -- the numbers with one packet more
 pub tally_push : (a d : ℕ) (l : List (List ℕ)) (p : List ℕ)
-    → tally_with (life_tally a d l) (length (given a d (l ++ p ∷ []))) (line_of (length (emission a d l)) (length (given a d (l ++ p ∷ []))) (told a d (l ++ p ∷ [])))
+    → tally_with (life_tally a d l) (length (given a d (l ++ p ∷ [])))
+    (line_of (length (emission a d l)) (length (given a d (l ++ p ∷ []))) (told a d (l ++ p ∷ [])))
     ≡ life_tally a d (l ++ p ∷ [])
 tally_push a d l p =
-    let line : List Line = line_of (length (emission a d l)) (length (given a d (l ++ p ∷ []))) (told a d (l ++ p ∷ [])) in
+    let line : List Line =
+    line_of (length (emission a d l)) (length (given a d (l ++ p ∷ []))) (told a d (l ++ p ∷ [])) in
     same_tally _ _ _ _ _ _ _ _
     (sym (length_push l p))
     (sym (ap length (emission_push a d l p) ∙ length-append (emission a d l) (given a d (l ++ p ∷ []))))

@@ -1,7 +1,8 @@
 -- The symbols of a stream that is coded group by group.
-use Rattle.std.proofs.Common.{◌≡◌, ℕ, ℤ, ◌==◌, nat_le, ◌+◌, ◌-◌, ◌*◌, ◌/◌, ◌%◌, ◌<◌, ◌≤◌, Bool, List, [], ◌∷◌, ◌++◌, length, map, take, refl, sym, ap, ap₂, subst, ◌∙◌, arith, append_assoc}
+use Rattle.std.proofs.Common.{◌≡◌, ℕ, ℤ, ◌==◌, nat_le, ◌+◌, ◌-◌, ◌*◌, ◌/◌, ◌%◌, ◌≤◌, Bool, List, [], ◌∷◌, ◌++◌}
+use Rattle.std.proofs.Common.{length, map, take, refl, sym, ap, ap₂, subst, ◌∙◌, arith}
 use Rattle.std.specs.Prelude.{◌↔◌, IsTrue, if◌then◌else◌, true, false}
-use Rattle.std.specs.List.{range_with_len, flat_map}
+use Rattle.std.specs.List.{range_with_len}
 use Rattle.std.proofs.lemmas.Bool.{leb-true, le-leb, eqb-true, eq-eqb}
 use Rattle.std.proofs.lemmas.Grind.{flat_map-append}
 use Rattle.std.proofs.Math.Seq.{take-add}
@@ -19,7 +20,8 @@ use Rattle.dtx_jobs.specs.Symbols.{symbol_bytes, in_groups}
 -- ---- a group
 
 -- the group behind some packets
-pub next_group : (packets : List (List ℕ)) (from : List ℕ) (first place in_field : ℕ) (second sync : Bool) (four : List (List ℕ))
+pub next_group : (packets : List (List ℕ)) (from : List ℕ) (first place in_field : ℕ) (second sync : Bool)
+    (four : List (List ℕ))
     → length packets ≡ first → first % 4 ≡ 0 → length four ≡ 4 → place ≡ first % 624 → in_field ≡ place % 312
     → (IsTrue second ↔ (312 ≤ place)) → (IsTrue sync ↔ (in_field ≡ 0))
     → IsNextGroup packets from (record { first = in_field; second = second; sync = sync; from = from; packets = four })
@@ -104,5 +106,6 @@ groups_of_piece given bytes first long grouped =
     let m : ℕ = 4 * (length bytes / 752) in
     let all : packets_of (given ++ bytes) ≡ ps ++ qs = packets_of-append given bytes (omega (arith, long)) in
     ap (λ z. take (in_groups z) z) all
-    ∙ groups_behind ps qs m (omega (arith, length-packets_of given, long, grouped)) (omega (arith, length-packets_of bytes))
+    ∙ groups_behind ps qs m (omega (arith, length-packets_of given, long, grouped))
+    (omega (arith, length-packets_of bytes))
     ∙ ap (λ z. ps ++ z) (front_of bytes m (omega arith))

@@ -11,11 +11,13 @@ use Rattle.dtx_jobs.specs.Tally.{fixed_in, flagged_in, tally_of, tally_with}
 use Rattle.dtx_jobs.specs.declared.tally.Tally.{Tally}
 
 -- before the first segment
-pub tally_none : (tally : Tally) → tally ≡ record { segments = 0; runs = 0; packets = 0; fixed = 0; flagged = 0 } → tally ≡ tally_of [] (given [])
+pub tally_none : (tally : Tally) → tally ≡ record { segments = 0; runs = 0; packets = 0; fixed = 0; flagged = 0 }
+    → tally ≡ tally_of [] (given [])
 tally_none tally is = rw (nothing_given, no_segments) is
 
 same_tally : (a b c d e a' b' c' d' e' : ℕ) → a ≡ a' → b ≡ b' → c ≡ c' → d ≡ d' → e ≡ e'
-    → ◌≡◌ {A = Tally} (record { segments = a; runs = b; packets = c; fixed = d; flagged = e }) (record { segments = a'; runs = b'; packets = c'; fixed = d'; flagged = e' })
+    → ◌≡◌ {A = Tally} (record { segments = a; runs = b; packets = c; fixed = d; flagged = e })
+    (record { segments = a'; runs = b'; packets = c'; fixed = d'; flagged = e' })
 same_tally a b c d e a' b' c' d' e' p q r s t = rw (p, q, r, s, t) refl
 
 fixed_in-append : (a b : List Received) → fixed_in (a ++ b) ≡ fixed_in a + fixed_in b
@@ -25,8 +27,12 @@ flagged_in-append : (a b : List Received) → flagged_in (a ++ b) ≡ flagged_in
 flagged_in-append a b = sum_by-append (λ (p : Received). if p.good then 0 else 1) a b
 
 -- with one segment more and the packets that it brought
-pub tally_on : (segments : List (List ℤ)) (x : List ℤ) (brought : List Received) → given (segments ++ x ∷ []) ≡ given segments ++ brought
-    → tally_with (record (tally_of segments (given segments)) { segments = length segments + 1; runs = length (runs segments) + begun (tracking segments x) }) brought
+pub tally_on : (segments : List (List ℤ)) (x : List ℤ) (brought : List Received)
+    → given (segments ++ x ∷ []) ≡ given segments ++ brought
+    → tally_with (record (tally_of segments (given segments)) {
+      segments = length segments + 1;
+      runs = length (runs segments) + begun (tracking segments x);
+    }) brought
     ≡ tally_of (segments ++ x ∷ []) (given (segments ++ x ∷ []))
 tally_on segments x brought more = same_tally _ _ _ _ _ _ _ _ _ _
     (sym (length-append segments (x ∷ [])))
@@ -36,7 +42,8 @@ tally_on segments x brought more = same_tally _ _ _ _ _ _ _ _ _ _
     (sym (ap flagged_in more ∙ flagged_in-append (given segments) brought))
 
 -- with the packets that the end brought
-pub tally_ended : (segments : List (List ℤ)) (brought : List Received) → all_packets segments ≡ given segments ++ brought
+pub tally_ended : (segments : List (List ℤ)) (brought : List Received)
+    → all_packets segments ≡ given segments ++ brought
     → tally_with (tally_of segments (given segments)) brought ≡ tally_of segments (all_packets segments)
 tally_ended segments brought more = same_tally _ _ _ _ _ _ _ _ _ _
     refl

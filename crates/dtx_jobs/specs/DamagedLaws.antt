@@ -1,6 +1,6 @@
 -- Laws of what is made of damaged bytes.
 use Rattle.std.proofs.Common.{◌≡◌, ℕ, ◌%◌, List, [], ◌++◌, length, sym, ap, subst, ◌∙◌}
-use Rattle.dtx_engine.specs.Made.{Made, only, joined, AreFrontsOf}
+use Rattle.dtx_engine.specs.Made.{Made, only, AreFrontsOf}
 use Rattle.dtx_engine.specs.Making.{Making, IsFed}
 use Rattle.dtx_make.specs.Hurt.{hurt, laid}
 use Rattle.dtx_make.specs.LaidLaws.{hurt-append, hurt_none, length-hurt}

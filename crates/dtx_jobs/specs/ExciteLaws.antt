@@ -1,5 +1,6 @@
 -- Laws of what an exciter makes of packets: of more packets it makes more behind.
-use Rattle.std.proofs.Common.{◌≡◌, ℕ, ℤ, zero, suc, ◌+◌, ◌*◌, ◌%◌, ◌<◌, ◌≤◌, List, [], ◌∷◌, ◌++◌, length, map, take, refl, sym, ap, ap₂, ◌∙◌, arith, append_assoc, zero-add}
+use Rattle.std.proofs.Common.{◌≡◌, ℕ, ℤ, ◌+◌, ◌%◌, ◌≤◌, List, [], ◌∷◌, ◌++◌, length, map, take, refl, sym, ap, ap₂}
+use Rattle.std.proofs.Common.{◌∙◌, arith, append_assoc, zero-add}
 use Rattle.std.specs.List.{range_with_len, flat_map}
 use Rattle.std.proofs.lemmas.Grind.{flat_map-append}
 use Rattle.std.proofs.lemmas.List.{append-nil, length_push, take-append-le, take_all}
@@ -17,14 +18,15 @@ use Rattle.dtx_files.specs.LogText.{log_text}
 use Rattle.dtx_files.specs.Symbols.{byte_of_symbol}
 use Rattle.dtx_packets.specs.PacketLaws.{packets_of-append}
 use Rattle.dtx_packets.specs.Packets.{packets_of}
-use Rattle.dtx_jobs.specs.Excite.{excited, exciting}
+use Rattle.dtx_jobs.specs.Excite.{exciting}
 use Rattle.dtx_jobs.specs.Life.{sent_bytes, logged_bytes}
 
 -- ---- one packet further
 
 -- the line that the last of these packets brings
 abbrev pub line_at : ℕ → ℕ → List (List ℕ) → ℕ → List Line
-line_at a d l i = line_of (0 + length (emission a d (take i l))) (length (given a d (take (i + 1) l))) (told a d (take (i + 1) l))
+line_at a d l i = line_of (0 + length (emission a d (take i l))) (length (given a d (take (i + 1) l)))
+    (told a d (take (i + 1) l))
 
 front_same : (a d : ℕ) (l r : List (List ℕ)) (n : ℕ) → n ≤ length l
     → flat_map (line_at a d (l ++ r)) (range_with_len 0 n) ≡ flat_map (line_at a d l) (range_with_len 0 n)
@@ -35,7 +37,8 @@ front_same a d l r n h =
 
 pub lines_push : (a d : ℕ) (l : List (List ℕ)) (p : List ℕ)
     → life_lines a d 0 (l ++ p ∷ [])
-    ≡ life_lines a d 0 l ++ line_of (length (emission a d l)) (length (given a d (l ++ p ∷ []))) (told a d (l ++ p ∷ []))
+    ≡ life_lines a d 0 l ++ line_of (length (emission a d l)) (length (given a d (l ++ p ∷ [])))
+    (told a d (l ++ p ∷ []))
 unfolding life_lines
 lines_push a d l p =
     let f : ℕ → List Line = line_at a d (l ++ p ∷ []) in
@@ -49,11 +52,13 @@ lines_push a d l p =
     ∙ ap₂ ◌++◌ (front_same a d l (p ∷ []) (length l) (omega arith))
     (append-nil (f (0 + length l))
     ∙ ap₂ (λ s t. line_of (0 + length (emission a d s)) (length (given a d t)) (told a d t)) same all
-    ∙ ap (λ n. line_of n (length (given a d (l ++ p ∷ []))) (told a d (l ++ p ∷ []))) (zero-add (length (emission a d l))))
+    ∙ ap (λ n. line_of n (length (given a d (l ++ p ∷ []))) (told a d (l ++ p ∷ [])))
+    (zero-add (length (emission a d l))))
 
 pub logged_push : (a d : ℕ) (l : List (List ℕ)) (p : List ℕ)
     → logged_bytes a d (l ++ p ∷ [])
-    ≡ logged_bytes a d l ++ log_text (line_of (length (emission a d l)) (length (given a d (l ++ p ∷ []))) (told a d (l ++ p ∷ [])))
+    ≡ logged_bytes a d l ++ log_text
+    (line_of (length (emission a d l)) (length (given a d (l ++ p ∷ []))) (told a d (l ++ p ∷ [])))
 logged_push a d l p = ap log_text (lines_push a d l p) ∙ log_text-append (life_lines a d 0 l) _
 
 pub sent_push : (a d : ℕ) (l : List (List ℕ)) (p : List ℕ)
@@ -68,10 +73,12 @@ sent_more : (a d : ℕ) (l r : List (List ℕ)) → (rest : List ℕ) × (sent_b
 sent_more a d l r =
     let more : List (List ℤ) = emission_behind a d l r in (
       map byte_of_symbol (symbols_of more),
-      ap (λ ss. map byte_of_symbol (symbols_of ss)) (emission_more a d l r) ∙ segment_bytes-append (emission a d l) more,
+      ap (λ ss. map byte_of_symbol (symbols_of ss)) (emission_more a d l r)
+          ∙ segment_bytes-append (emission a d l) more,
     )
 
-logged_more : (a d : ℕ) (l r : List (List ℕ)) → (rest : List ℕ) × (logged_bytes a d (l ++ r) ≡ logged_bytes a d l ++ rest)
+logged_more : (a d : ℕ) (l r : List (List ℕ))
+    → (rest : List ℕ) × (logged_bytes a d (l ++ r) ≡ logged_bytes a d l ++ rest)
 logged_more a d l [] = ([], ap (logged_bytes a d) (append-nil l) ∙ sym (append-nil (logged_bytes a d l)))
 logged_more a d l (p ∷ r) =
     let rest = logged_more a d (l ++ p ∷ []) r in

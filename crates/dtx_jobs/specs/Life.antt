@@ -1,5 +1,5 @@
 -- What is kept while an exciter is given the packets of one life, and what it makes of them.
-use Rattle.std.specs.Prelude.{◌≡◌, ℕ, ◌+◌, ◌^◌, ◌<◌, List, [], ◌∷◌, length}
+use Rattle.std.specs.Prelude.{ℕ, ◌+◌, ◌^◌, ◌<◌, List, [], ◌∷◌, length}
 use Rattle.std.specs.List.{sum_by}
 use Rattle.dtx_exciter.specs.Emission.{emission}
 use Rattle.dtx_exciter.specs.Log.{Line, life_lines}

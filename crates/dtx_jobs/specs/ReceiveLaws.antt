@@ -1,6 +1,6 @@
--- Laws of what is made of symbols: it grows with them, where nothing looks like a field sync it is nothing, and with what the
--- end brings it is all packets.
-use Rattle.std.proofs.Common.{◌≡◌, ℕ, ◌%◌, ◌*◌, List, [], ◌∷◌, ◌++◌, length, map, take, drop, refl, sym, ap, ap₂, ◌∙◌, arith}
+-- Laws of what is made of symbols: it grows with them, where nothing looks like a field sync it is nothing, and with
+-- what the end brings it is all packets.
+use Rattle.std.proofs.Common.{◌≡◌, ℕ, ◌%◌, List, [], ◌∷◌, ◌++◌, length, map, drop, refl, sym, ap, ◌∙◌}
 use Rattle.std.specs.Prelude.{ℤ}
 use Rattle.std.specs.List.{flat_map}
 use Rattle.std.proofs.lemmas.Grind.{flat_map-append}
@@ -8,7 +8,6 @@ use Rattle.std.proofs.lemmas.List.{append_assoc, append-nil, drop_at}
 use Rattle.dtx_engine.specs.Made.{only, joined, AreFrontsOf}
 use Rattle.dtx_receiver.specs.CountingLaws.{nothing_given, given_more, all_more}
 use Rattle.dtx_receiver.specs.Packets.{all_packets, given, received}
-use Rattle.dtx_receiver.specs.Runs.{runs}
 use Rattle.dtx_receiver.specs.declared.batch.Received.{Received}
 use Rattle.dtx_jobs.specs.Receive.{bytes_of, given_bytes, last_bytes, received_bytes, receiving}
 use Rattle.dtx_jobs.specs.SymbolFile.{segments_of}
@@ -23,7 +22,8 @@ flat_map-map [] = refl
 flat_map-map (p ∷ ps) = ap (λ z. p.packet.0 ++ z) (flat_map-map ps)
 
 -- the bytes of the packets of segments
-pub bytes_of-all : (segments : List (List ℤ)) → flat_map (λ (p : List ℕ). p) (received segments) ≡ bytes_of (all_packets segments)
+pub bytes_of-all : (segments : List (List ℤ))
+    → flat_map (λ (p : List ℕ). p) (received segments) ≡ bytes_of (all_packets segments)
 unfolding received
 bytes_of-all segments = flat_map-map (all_packets segments)
 

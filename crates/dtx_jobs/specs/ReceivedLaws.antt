@@ -1,11 +1,13 @@
 -- Laws of what `receive` means over a file, whose bytes may have damage laid over them.
-use Rattle.std.proofs.Common.{◌≡◌, ℕ, ◌*◌, ◌/◌, ◌%◌, ◌≤◌, List, [], ◌∷◌, ◌++◌, length, take, drop, refl, sym, ap, ap₂, subst, ◌∙◌, arith}
+use Rattle.std.proofs.Common.{◌≡◌, ℕ, ◌*◌, ◌/◌, ◌%◌, ◌≤◌, List, [], ◌∷◌, length, take, drop, refl, sym, ap, ap₂, ◌∙◌}
+use Rattle.std.proofs.Common.{arith}
 use Rattle.std.specs.Prelude.{ℤ, true, not, min, None}
 use Rattle.std.specs.List.{find, flat_map, range_with_len}
 use Rattle.std.proofs.lemmas.Bool.{cond-false, cond-true, le-ltb, eq-eqb}
 use Rattle.std.proofs.lemmas.List.{take_at, take-append-drop, length-take-le}
-use Rattle.dtx_engine.specs.Made.{Made, only, joined, outputs_of}
-use Rattle.dtx_engine.specs.Making.{Making, Course, course, course_from, first_refused, first_units, meaning_at, meaning_of_file}
+use Rattle.dtx_engine.specs.Made.{Made, only, outputs_of}
+use Rattle.dtx_engine.specs.Making.{Making, Course, course, course_from, first_refused, first_units, meaning_at}
+use Rattle.dtx_engine.specs.Making.{meaning_of_file}
 use Rattle.dtx_engine.specs.Making.{whole_units}
 use Rattle.dtx_engine.specs.declared.engine.Shape.{Shape}
 use Rattle.dtx_engine.specs.declared.piece.Ending.TheVariants.{Whole}
@@ -19,7 +21,7 @@ use Rattle.dtx_receiver.specs.Bytes.{bytes_in}
 use Rattle.dtx_receiver.specs.Packets.{all_packets, packets_of, received}
 use Rattle.dtx_receiver.specs.Runs.{runs}
 use Rattle.dtx_jobs.specs.Damaged.{damaged}
-use Rattle.dtx_jobs.specs.Receive.{bytes_of, given_bytes, last_bytes, receive_answer, received_bytes, received_numbers, receiving}
+use Rattle.dtx_jobs.specs.Receive.{bytes_of, receive_answer, received_bytes, receiving}
 use Rattle.dtx_jobs.specs.ReceiveLaws.{bytes_of-all, receives_all}
 use Rattle.dtx_jobs.specs.Shapes.{segments}
 use Rattle.dtx_jobs.specs.SymbolFile.{segments_of, whole_segments}
@@ -37,7 +39,8 @@ all_read : (shape : Shape) (making : Making) (names : List (List ℕ)) (file : L
     → meaning_of_file shape making names file
     ≡ meaning_at making names (first_units shape file (whole_units shape file)) (Whole (length file % shape.unit))
 all_read shape making names file none few =
-    let is : course shape making file ≡ record { taken = whole_units shape file; ending = Whole (length file % shape.unit) } =
+    let is : course shape making file
+    ≡ record { taken = whole_units shape file; ending = Whole (length file % shape.unit) } =
     ap (course_from shape file) none ∙ cond-false _ _ _ (le-ltb shape.limit (whole_units shape file) few) in
     ap (λ (c : Course). meaning_at making names (first_units shape file c.taken) c.ending) is
 
@@ -45,7 +48,8 @@ all_allowed : (file : List ℕ) → first_refused segments receiving file ≡ No
 unfolding first_refused
 all_allowed file = none_found (range_with_len 0 (min (whole_units segments file) segments.limit))
 
-all_damaged_allowed : (damage : List Damage) (file : List ℕ) → first_refused segments (damaged damage receiving) file ≡ None
+all_damaged_allowed : (damage : List Damage) (file : List ℕ)
+    → first_refused segments (damaged damage receiving) file ≡ None
 unfolding first_refused
 all_damaged_allowed damage file = none_found (range_with_len 0 (min (whole_units segments file) segments.limit))
 
@@ -54,7 +58,11 @@ all_damaged_allowed damage file = none_found (range_with_len 0 (min (whole_units
 -- what `receive` answers and writes of all segments of some bytes, behind which so many are loose
 abbrev pub received_of : List (List ℕ) → List ℕ → ℕ → Meaning
 received_of names file loose =
-    record { outcome = receive_answer (segments_of file) loose; outputs = outputs_of names (only (received_bytes file)) }
+    record {
+      outcome = receive_answer (segments_of file) loose;
+      outputs =
+          outputs_of names (only (received_bytes file));
+    }
 
 -- only the whole segments count
 received_front : (names : List (List ℕ)) (file : List ℕ) (loose : ℕ)
@@ -63,7 +71,8 @@ received_front names file loose =
     let means : List (List ℤ) → Made → Meaning =
     λ list made. record { outcome = receive_answer list loose; outputs = outputs_of names made } in
     let whole = segments_of-whole file in
-    ap₂ means whole (receives_all (take (832 * whole_segments file) file) ∙ ap (λ list. only (flat_map (λ p. p) (received list))) whole)
+    ap₂ means whole (receives_all (take (832 * whole_segments file) file)
+    ∙ ap (λ list. only (flat_map (λ p. p) (received list))) whole)
 
 -- a symbol file with no more segments than are received
 pub all_received : (names : List (List ℕ)) (file : List ℕ) → whole_segments file ≤ 626000000
@@ -72,7 +81,8 @@ all_received names file few =
     all_read segments receiving names file (all_allowed file) few ∙ received_front names file (length file % 832)
 
 -- the first bytes of a damaged file are the damaged first bytes
-hurt_front : (damage : List Damage) (file : List ℕ) (n : ℕ) → n ≤ length file → hurt damage (take n file) ≡ take n (hurt damage file)
+hurt_front : (damage : List Damage) (file : List ℕ) (n : ℕ) → n ≤ length file
+    → hurt damage (take n file) ≡ take n (hurt damage file)
 hurt_front damage file n within =
     let front : List ℕ = take n file in
     let long : length (hurt damage front) ≡ n = length-hurt damage front ∙ length-take-le n file within in
@@ -80,7 +90,8 @@ hurt_front damage file n within =
     ∙ take_at (hurt damage front) (laid damage (length front) (drop n file)) n long)
 
 -- and one that is damaged as it is read
-pub all_damaged_received : (names : List (List ℕ)) (damage : List Damage) (file : List ℕ) → whole_segments file ≤ 626000000
+pub all_damaged_received : (names : List (List ℕ)) (damage : List Damage) (file : List ℕ)
+    → whole_segments file ≤ 626000000
     → meaning_of_file segments (damaged damage receiving) names file
     ≡ received_of names (hurt damage file) (length file % 832)
 all_damaged_received names damage file few =
@@ -106,5 +117,6 @@ no_packets list none = ap (flat_map (λ run. packets_of (bytes_in run))) (no_lis
 pub nothing_received : (file : List ℕ) → length (runs (segments_of file)) ≡ 0 → received_bytes file ≡ []
 nothing_received file none = bytes_of-all (segments_of file) ∙ ap bytes_of (no_packets (segments_of file) none)
 
-pub no_sync_answered : (list : List (List ℤ)) (loose : ℕ) → length (runs list) ≡ 0 → receive_answer list loose ≡ ended NoSync
+pub no_sync_answered : (list : List (List ℤ)) (loose : ℕ) → length (runs list) ≡ 0
+    → receive_answer list loose ≡ ended NoSync
 no_sync_answered list loose none = cond-true _ _ _ (eq-eqb (length (runs list)) 0 none)

@@ -6,7 +6,8 @@ use Rattle.dtx_jobs.specs.declared.reception.Reception.{Reception}
 use Rattle.dtx_jobs.specs.SymbolFile.{segments_of}
 use Rattle.dtx_jobs.specs.Tally.{tally_of, IsBounded}
 
--- these segments were given: the receiver stands for them, and the numbers are theirs and those of the packets that they gave
+-- these segments were given: the receiver stands for them, and the numbers are theirs and those of the packets that
+-- they gave
 pub record IsReceiving (reception : Reception) (segments : List (List ℤ)) : Type 0 where
   pub receiver : StandsFor reception.receiver segments
   pub tally : reception.tally ≡ tally_of segments (given segments)

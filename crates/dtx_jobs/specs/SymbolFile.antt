@@ -1,5 +1,5 @@
--- The segments of a symbol file: one byte for each symbol, in two's complement, and segments are counted from byte 0 (the
--- profile's own).
+-- The segments of a symbol file: one byte for each symbol, in two's complement, and segments are counted from byte 0
+-- (the profile's own).
 use Rattle.std.specs.Prelude.{ℕ, ℤ, ◌*◌, ◌/◌, List, length, map, take, drop}
 use Rattle.std.specs.Int.{w8, cast_signed}
 use Rattle.std.specs.List.{range_with_len}

@@ -21,10 +21,10 @@ use dtx_words::repeated_name;
 use std::alloc::Global;
 
 /// Writes the feed of the stream IN under the plan of PLAN to OUT: its packets of 188 bytes, which begin with 0x47.
-/// Byte 0 of packet k becomes the cadence mark 0xB8 where 624 divides k and stays 0x47 elsewhere, and each
-/// placeholder, of packet identifier 0x1FFA, becomes an operations packet, which says from which states and when its
-/// group is sent (the profile's own, in the manner of ATSC A/110). The numbers are the packets, the placeholders
-/// filled, and the bytes behind the last whole packet.
+/// Byte 0 of packet k becomes the cadence mark 0xB8 where 624 divides k and stays 0x47 elsewhere, and each placeholder,
+/// of packet identifier 0x1FFA, becomes an operations packet, which says from which states and when its group is sent
+/// (the profile's own, in the manner of ATSC A/110). The numbers are the packets, the placeholders filled, and the
+/// bytes behind the last whole packet.
 pub fn adapt<S: Shelf>(alloc: Global, words: &[Word], shelf: &mut S) -> Outcome
     ensures carried { IfSome (S.files shelf.old) (λ held.
         IsCarriedOut (adapt_meaning words.now held) (Some held) result (S.files shelf.new)) }

@@ -67,7 +67,8 @@ impl Excitation {
         requires no_lines { self.old.lines ≡ [] }
         ensures address { self.new.address ≡ self.old.address }
         ensures delay { self.new.delay ≡ self.old.delay }
-        ensures life { (before : List (List ℕ)) → IsLife self.old before → IsLife self.new (before ++ packets_of bytes.now) }
+        ensures life { (before : List (List ℕ)) → IsLife self.old before
+            → IsLife self.new (before ++ packets_of bytes.now) }
         ensures sent { (before : List (List ℕ)) → IsLife self.old before
             → sent_bytes self.old.address self.old.delay (before ++ packets_of bytes.now)
             ≡ sent_bytes self.old.address self.old.delay before ++ self.new.symbols }
@@ -89,7 +90,8 @@ impl Excitation {
         requires lines { length self.old.lines + LOG_LINE ≤ LOGGED_BYTES }
         ensures address { self.new.address ≡ self.old.address }
         ensures delay { self.new.delay ≡ self.old.delay }
-        ensures life { (before : List (List ℕ)) → IsLife self.old before → IsLife self.new (before ++ packet.now.0 ∷ []) }
+        ensures life { (before : List (List ℕ)) → IsLife self.old before
+            → IsLife self.new (before ++ packet.now.0 ∷ []) }
         ensures sent { (before : List (List ℕ)) (bytes : List ℕ) → IsLife self.old before
             → sent_bytes self.old.address self.old.delay before ≡ bytes ++ self.old.symbols
             → sent_bytes self.old.address self.old.delay (before ++ packet.now.0 ∷ []) ≡ bytes ++ self.new.symbols }

@@ -1,5 +1,7 @@
-//! Laws of the files that commands read and write: packets written one behind another are read back, a feed too, and
-//! the packets of a file have 188 bytes.
+//! Laws of what the commands make, and of the files that they read and write: packets written one behind another are read
+//! back, a feed too, and the packets of a file have 188 bytes.
+
+pub mod placing;
 
 ghost use Rattle.std.specs.Prelude.{◌≡◌, ℕ, List, All, length};
 ghost use Rattle.dtx_adapter.specs.Feed.{feed};

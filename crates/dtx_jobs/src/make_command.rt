@@ -61,7 +61,8 @@ fn make_file<S: Shelf>(
     output: &str,
     shelf: &mut S,
 ) -> Result<Outcome, Status>
-    ensures carried { IsCarriedOut (made_file seed count output.now) (S.files shelf.old) (outcome_of result) (S.files shelf.new) }
+    ensures carried { IsCarriedOut (made_file seed count output.now) (S.files shelf.old) (outcome_of result)
+        (S.files shelf.new) }
     ensures gone { HasGone (S.counts shelf.old) (S.counts shelf.new) (blame_of (outcome_of result).status) }
 {
     let mut made = Output::new(alloc)?;

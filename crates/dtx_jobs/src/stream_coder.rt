@@ -28,7 +28,8 @@ const GROUP_BYTES: usize = PACKET * GROUP_PACKETS;
 /// How many symbols the groups of a piece have at most.
 const CODED_BYTES: usize = AIR_SYMBOLS * (PIECE_PACKETS / GROUP_PACKETS);
 
-/// Codes a stream. Each piece begins with a group, and the packets behind the last whole group of the stream are not sent.
+/// Codes a stream. Each piece begins with a group, and the packets behind the last whole group of the stream are not
+/// sent.
 #[derive(Drop)]
 pub(crate) struct StreamCoder {
     coder: Coder,
@@ -61,7 +62,8 @@ impl StreamCoder {
         requires most { first + length bytes.now / PACKET ≤ MOST_PACKETS }
         requires empty { self.old.symbols ≡ [] }
         ensures coder { (before : List (List ℕ)) → length before ≡ first → StandsFor self.old.coder before
-            → StandsFor self.new.coder (before ++ packets_from bytes.now 0 (GROUP_PACKETS * (length bytes.now / GROUP_BYTES))) }
+            → StandsFor self.new.coder
+            (before ++ packets_from bytes.now 0 (GROUP_PACKETS * (length bytes.now / GROUP_BYTES))) }
         ensures brought { (before : List (List ℕ)) → length before ≡ first → StandsFor self.old.coder before
             → symbol_bytes (before ++ packets_from bytes.now 0 (GROUP_PACKETS * (length bytes.now / GROUP_BYTES)))
             ≡ symbol_bytes before ++ self.new.symbols }
@@ -80,7 +82,8 @@ impl StreamCoder {
         requires room { length self.old.symbols + AIR_SYMBOLS ≤ CODED_BYTES }
         ensures coder { (before : List (List ℕ)) → length before ≡ first → StandsFor self.old.coder before
             → StandsFor self.new.coder (before ++ map (λ p. p.0) self.old.group) }
-        ensures brought { (before : List (List ℕ)) (bytes : List ℕ) → length before ≡ first → StandsFor self.old.coder before
+        ensures brought { (before : List (List ℕ)) (bytes : List ℕ) → length before ≡ first
+            → StandsFor self.old.coder before
             → symbol_bytes before ≡ bytes ++ self.old.symbols
             → symbol_bytes (before ++ map (λ p. p.0) self.old.group) ≡ bytes ++ self.new.symbols }
         ensures long { length self.new.symbols ≤ length self.old.symbols + AIR_SYMBOLS }
@@ -165,8 +168,8 @@ fn cut_group(bytes: &[u8; GROUP_BYTES], group: &mut [Packet; GROUP_PACKETS])
     }
 }
 
-/// How many segments a stream of that many packets has: four for each whole group, and a field sync for each field that is
-/// begun by one (ATSC A/53 Part 2).
+/// How many segments a stream of that many packets has: four for each whole group, and a field sync for each field that
+/// is begun by one (ATSC A/53 Part 2).
 fn segments_of(packets: u64) -> u64
     requires { packets ≤ MOST_PACKETS }
     ensures { (stream : List (List ℕ)) → length stream ≡ packets → result ≡ length (a53 stream) }

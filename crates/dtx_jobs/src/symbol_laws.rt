@@ -1,5 +1,5 @@
-//! Laws of what is received of a symbol file: the packets of all its whole segments, or nothing where none of them looks
-//! like a field sync; and of one with damage laid over its bytes the same of the damaged bytes.
+//! Laws of what is received of a symbol file: the packets of all its whole segments, or nothing where none of them
+//! looks like a field sync; and of one with damage laid over its bytes the same of the damaged bytes.
 
 ghost use Rattle.std.specs.Prelude.{◌≡◌, ◌+◌, ◌*◌, ◌≤◌, ◌%◌, ◌++◌, ℕ, List, [], length, take};
 ghost use Rattle.dtx_engine.specs.Making.{meaning_of_file};
@@ -29,7 +29,8 @@ pub fn segments_in_pieces()
 pub fn all_is_received()
     ensures plain { (names : List (List ℕ)) (file : List ℕ) → whole_segments file ≤ MOST_SEGMENTS
         → meaning_of_file shapes.segments receiving names file ≡ received_of names file (length file % 832) }
-    ensures damaged { (names : List (List ℕ)) (damage : List Damage) (file : List ℕ) → whole_segments file ≤ MOST_SEGMENTS
+    ensures damaged { (names : List (List ℕ)) (damage : List Damage) (file : List ℕ)
+        → whole_segments file ≤ MOST_SEGMENTS
         → meaning_of_file shapes.segments (damaged damage receiving) names file
         ≡ received_of names (hurt damage file) (length file % 832) }
 {}
@@ -38,5 +39,6 @@ pub fn all_is_received()
 pub fn nothing_without_a_sync()
     ensures answer { (file : List ℕ) (loose : ℕ) → NoneLooks (segments_of file) 0 (whole_segments file)
         → receive_answer (segments_of file) loose ≡ ended Status.NoSync }
-    ensures packets { (file : List ℕ) → NoneLooks (segments_of file) 0 (whole_segments file) → received_bytes file ≡ [] }
+    ensures packets { (file : List ℕ) → NoneLooks (segments_of file) 0 (whole_segments file)
+        → received_bytes file ≡ [] }
 {}

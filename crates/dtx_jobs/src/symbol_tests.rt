@@ -33,8 +33,18 @@ fn whole_groups_are_coded_behind_a_field_sync(rt: HostRuntime) -> Result<(), Fai
     let rows: [(&[u8], Status, [u64; 3], usize); 4] = [
         (&[], Status::Done, [0, 0, 2], 0),
         (&[0x47; 3], Status::Done, [3, 0, 2], 0),
-        (&[0xB8, 0x47, 0x47, 0x47, 0x47], Status::Done, [5, 5, 2], 4160),
-        (&[0x47, 0x47, 0x47, 0x47, 0x46], Status::Packet(4), [0, 0, 0], 4160),
+        (
+            &[0xB8, 0x47, 0x47, 0x47, 0x47],
+            Status::Done,
+            [5, 5, 2],
+            4160,
+        ),
+        (
+            &[0x47, 0x47, 0x47, 0x47, 0x46],
+            Status::Packet(4),
+            [0, 0, 0],
+            4160,
+        ),
     ];
     for (syncs, status, numbers, symbols) in rows {
         let words = words_of(rt.alloc(), &["code", "s", "o"])?;

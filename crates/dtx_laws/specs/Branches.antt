@@ -1,6 +1,6 @@
 -- The branches of an interleaver or a de-interleaver: the next branch, and the bytes that each branch holds. Both
--- directions
--- share these definitions, over the number of branches, b, and the branches' widths: branch i holds w i bytes.
+-- directions share these definitions, over the number of branches, b, and the branches' widths: branch i holds w i
+-- bytes.
 use Rattle.std.specs.Prelude.{ℕ, ◌≡◌, ◌+◌, ◌-◌, ◌*◌, ◌<◌, ◌≤◌, ◌==◌, if◌then◌else◌, List, [], ◌∷◌, ◌++◌, length, map}
 use Rattle.std.specs.Prelude.{drop, replicate, slice_index, slice_index_or, slice_set}
 use Rattle.std.specs.List.{range_with_len}

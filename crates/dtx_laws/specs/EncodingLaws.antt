@@ -103,8 +103,7 @@ pub bytes_register : (g rs bs : List ℕ) → AreBytes rs → AreBytes (register
 bytes_register g rs [] h = h
 bytes_register g rs (b ∷ bs) h = bytes_register g (fed g rs b) bs (bytes_fed g rs b h)
 
--- the value of joined lists
--- at a root, the register and what was fed before have one value
+-- the value of joined lists at a root, the register and what was fed before have one value
 pub value_register : (g rs bs done : List ℕ) (x : ℕ) → length rs ≡ length g → 0 < length rs → AreBytes bs
     → bit_xor (pow x (length g)) (value g x) ≡ 0
     → value rs x ≡ mul (value done x) (pow x (length g))

@@ -12,6 +12,9 @@ use Rattle.dtx_laws.specs.Branches.{leaving_calls}
 use Rattle.dtx_laws.specs.Gathering.{gathered_at, gathered, IsGatheredBehind}
 use Rattle.dtx_laws.specs.PlacesLaws.{length_leaving}
 use Rattle.dtx_laws.specs.InterleavingLaws.{in_turns, come_by, held_by, held_turn_by, come_at, leaving_calls_is}
+use Rattle.dtx_laws.specs.InterleavingLaws.{length-interleaved, get_or-interleaved, at_held as spread_held}
+use Rattle.dtx_laws.specs.InterleavingLaws.{zeros_give as spread_zeros}
+use Rattle.dtx_laws.specs.Interleaving.{interleaved}
 use Rattle.dtx_laws.specs.InterleavingLaws.{HasWidths-aligned, HasWidths-zeroed, zeros_at, next-zeroed}
 
 -- ---- the map
@@ -140,3 +143,29 @@ gathered_back b m s g x n hs hg l d =
     ∙ come_at b m (aligned s) x (n - b * m * (b - 1 - n % b)) (HasWidths-aligned b (spreading m) s hs) refl
     (omega arith) (omega (arith, e, w, d))
     ∙ ap (λ i. get_or x i 0) (omega (arith, e, w, d))
+
+-- before the first byte, from zeros
+pub gathered_zeros : (b m : ℕ) (x : List ℕ) (n : ℕ) → 0 < b → n < length x → n < b * m * (b - 1)
+    → get_or (leaving_all b (zeroed b (gathering b m)) (leaving_all b (zeroed b (spreading m)) x)) n 0 ≡ 0
+gathered_zeros b m x n p l d =
+    ap (λ ys. get_or ys n 0) (ap (leaving_all b (zeroed b (gathering b m))) (spread_zeros b m x p)
+    ∙ zeros_give b m (interleaved b m x) p)
+    ∙ get_or-gathered b m (interleaved b m x) n (omega (arith, l, length-interleaved b m x))
+    ∙ by_place (cases_lt n (b * m * (b - 1 - n % b)))
+  where
+    r : n % b < b
+    r = mod_below n b p
+
+    by_place : (n < b * m * (b - 1 - n % b)) ⊎ (b * m * (b - 1 - n % b) ≤ n)
+        → gathered_at b m (interleaved b m x) n ≡ 0
+    by_place (inl h) = at_held b m (interleaved b m x) n h
+    by_place (inr h) =
+        let w : b * m * (b - 1 - n % b) + b * m * (n % b) ≡ b * m * (b - 1) = delays b m (n % b) r in
+        let t : b * m * (b - 1 - n % b) ≡ m * (b - 1 - n % b) * b = in_turns b m (b - 1 - n % b) in
+        let q : (n - b * m * (b - 1 - n % b)) % b ≡ n % b =
+        ap (λ i. (n - i) % b) t ∙ same_branch b n (m * (b - 1 - n % b)) p (omega (arith, h, t)) in
+        let e : b * m * ((n - b * m * (b - 1 - n % b)) % b) ≡ b * m * (n % b) = ap (λ i. b * m * i) q in
+        cond-true (nat_le (b * m * (b - 1 - n % b)) n) (get_or (interleaved b m x) (n - b * m * (b - 1 - n % b)) 0) 0
+        (le-leb (b * m * (b - 1 - n % b)) n h)
+        ∙ get_or-interleaved b m x (n - b * m * (b - 1 - n % b)) (omega (arith, l))
+        ∙ spread_held b m x (n - b * m * (b - 1 - n % b)) (omega (arith, e, w, d, h))

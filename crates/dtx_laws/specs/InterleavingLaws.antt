@@ -169,7 +169,7 @@ at_come : (b m : ℕ) (x : List ℕ) (n : ℕ) → b * m * (n % b) ≤ n
 at_come b m x n h =
     cond-true (nat_le (b * m * (n % b)) n) (get_or x (n - b * m * (n % b)) 0) 0 (le-leb (b * m * (n % b)) n h)
 
-at_held : (b m : ℕ) (x : List ℕ) (n : ℕ) → n < b * m * (n % b) → interleaved_at b m x n ≡ 0
+pub at_held : (b m : ℕ) (x : List ℕ) (n : ℕ) → n < b * m * (n % b) → interleaved_at b m x n ≡ 0
 at_held b m x n h =
     cond-false (nat_le (b * m * (n % b)) n) (get_or x (n - b * m * (n % b)) 0) 0 (lt-leb (b * m * (n % b)) n h)
 
@@ -200,7 +200,7 @@ pub next-zeroed : (b : ℕ) (w : ℕ → ℕ) → (zeroed b w).next ≡ 0
 unfolding zeroed
 next-zeroed b w = refl
 
-zeros_give : (b m : ℕ) (x : List ℕ) → 0 < b → leaving_all b (zeroed b (spreading m)) x ≡ interleaved b m x
+pub zeros_give : (b m : ℕ) (x : List ℕ) → 0 < b → leaving_all b (zeroed b (spreading m)) x ≡ interleaved b m x
 zeros_give b m x p =
     ext_get_or 0 (leaving_all b (zeroed b (spreading m)) x) (interleaved b m x)
     (length_leaving b (zeroed b (spreading m)) x ∙ sym (length-interleaved b m x))

@@ -1,6 +1,5 @@
 //! What correctors share, whatever their way to a locator: syndromes, the places at which the locator vanishes, the
-//! values of
-//! the errors there, and the test of the outcome.
+//! values of the errors there, and the test of the outcome.
 
 mod outcome;
 mod places;

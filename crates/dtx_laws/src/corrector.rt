@@ -15,9 +15,8 @@ pub trait Correct<const N: usize, const K: usize> {
         ensures { IsCode N K };
 
     /// Sets `word` to the codeword within `(N - K) / 2` places, and tells how many places that changed. Where there is
-    /// no such
-    /// codeword, the answer is `TooMany`, and the word stays. `laws::one_answer` says that there is just one such
-    /// answer.
+    /// no such codeword, the answer is `TooMany`, and the word stays. `laws::one_answer` says that there is just one
+    /// such answer.
     fn correct(&self, word: &mut [u8; N]) -> Result<u8, TooMany>
         ensures answer { MatchResult result (IsCorrected N K word.old word.new) (λ _e. IsLeft N K word.old word.new) }
         ensures long { length word.new ≡ N };

@@ -5,8 +5,7 @@ ghost use Rattle.dtx_laws.specs.Branches.{Branching, IsInterleaver, HasWidths, g
 ghost use Rattle.dtx_laws.specs.Branches.{after_all};
 
 /// Gathers bytes that were spread: of its `B` branches, branch i delays by `B * M * (B - 1 - i)` bytes (ATSC A/53 Part
-/// 2,
-/// interleaving: the way back).
+/// 2, interleaving: the way back).
 pub trait Gather<const B: usize, const M: usize> {
     /// The next branch, and what each branch holds, oldest byte first.
     ghost seen: { Self → Branching };
@@ -18,8 +17,7 @@ pub trait Gather<const B: usize, const M: usize> {
         ensures widths { HasWidths B (gathering B M) (seen self.now) };
 
     /// Replaces each byte by the one that leaves as it comes: it is put at the end of the next branch, and the branch's
-    /// first
-    /// byte leaves.
+    /// first byte leaves.
     fn gather(&mut self, bytes: &mut [u8])
         ensures bytes { bytes.new ≡ leaving_all B (seen self.old) bytes.old }
         ensures seen { seen self.new ≡ after_all B (seen self.old) bytes.old };

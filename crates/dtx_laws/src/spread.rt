@@ -15,8 +15,7 @@ pub trait Spread<const B: usize, const M: usize> {
         ensures widths { HasWidths B (spreading M) (seen self.now) };
 
     /// Replaces each byte by the one that leaves as it comes: it is put at the end of the next branch, and the branch's
-    /// first
-    /// byte leaves.
+    /// first byte leaves.
     fn pass(&mut self, bytes: &mut [u8])
         ensures bytes { bytes.new ≡ leaving_all B (seen self.old) bytes.old }
         ensures seen { seen self.new ≡ after_all B (seen self.old) bytes.old };

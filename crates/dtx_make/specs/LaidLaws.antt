@@ -31,7 +31,8 @@ laid-append ds place xs ys =
         ∙ ap (byte_at ds (place + k)) (get_or_append_left xs ys 0 k l)
         ∙ sym (get_or-laid ds place xs k l)
 
-    second : (k : ℕ) → k < length ys → get_or (laid ds place (xs ++ ys)) (length xs + k) 0 ≡ get_or (laid ds (place + length xs) ys) k 0
+    second : (k : ℕ) → k < length ys
+        → get_or (laid ds place (xs ++ ys)) (length xs + k) 0 ≡ get_or (laid ds (place + length xs) ys) k 0
     second k l =
         let there : place + (length xs + k) ≡ place + length xs + k = omega arith in
         get_or-laid ds place (xs ++ ys) (length xs + k) (omega (arith, length-append xs ys))

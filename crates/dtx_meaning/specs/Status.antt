@@ -50,8 +50,7 @@ of_plan plan.Memory = Memory
 -- ---- what an answer is blamed on
 
 -- Which count a status is blamed on. Where it is blamed on nothing all counts stand; want of memory may be met behind
--- another refusal, which
--- has raised its count.
+-- another refusal, which has raised its count.
 abbrev pub blame_of : Status → Blame
 blame_of (Absent input) = Missing
 blame_of ReadFault = Reading

@@ -11,7 +11,7 @@ use Rattle.dtx_exciter.specs.Emission.{given, emission}
 use Rattle.dtx_exciter.specs.Log.{Line, restart, line_of, life_lines, log, emission_over}
 use Rattle.dtx_exciter.specs.EmittedLaws.{emission_push}
 use Rattle.dtx_net.specs.Steps.{Step, packet_step, restart_step}
-use Rattle.dtx_net.specs.Lives.{lives_of, last_life, ended_lives}
+use Rattle.dtx_net.specs.Lives.{own_steps, lives_from, lives_of, last_life, ended_lives}
 use Rattle.dtx_net.specs.Sent.{segments_of, lines_of}
 use Rattle.dtx_net.specs.LastLifeLaws.{lives}
 
@@ -195,3 +195,14 @@ pub lines_same : (t : Transmitter) (who : ℕ) (steps others : List Step) → li
     → lines_of t who steps ≡ lines_of t who others
 unfolding lines_of
 lines_same t who steps others e = ap (log t.address t.delay 0) e
+
+-- where the same is done with it
+pub own_same : (t : Transmitter) (who : ℕ) (steps others : List Step) → own_steps who steps ≡ own_steps who others
+    → (lives_of who steps ≡ lives_of who others) × (segments_of t who steps ≡ segments_of t who others)
+    × (lines_of t who steps ≡ lines_of t who others)
+unfolding lives_of segments_of lines_of
+own_same t who steps others e = (
+  ap (lives_from []) e,
+  ap (λ x. emission_over t.address t.delay (lives_from [] x)) e,
+  ap (λ x. log t.address t.delay 0 (lives_from [] x)) e,
+)

@@ -42,8 +42,7 @@ impl Liar {
     }
 
     /// An operations packet of the fields that the packet reads as, but with these states, and with right correction
-    /// bytes;
-    /// byte 0 and the counter stay. A packet that isn't read stays as it is (the profile's own).
+    /// bytes; byte 0 and the counter stay. A packet that isn't read stays as it is (the profile's own).
     #[tactic(auto, unfolding(crate::specs::Changed::lied_packet))]
     pub fn lied(&self, packet: &Packet, states: &States) -> Packet
         ensures { result.0 ≡ lied_packet packet.now.0 states.now }

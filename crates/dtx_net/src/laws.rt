@@ -12,13 +12,17 @@ ghost use Rattle.dtx_net.specs.Lives.{own_steps, joined_steps, lives_of, last_li
 ghost use Rattle.dtx_net.specs.Sent.{segments_of, lines_of};
 
 /// What a transmitter sends and what is logged of it are the same in any two schedules that give it the same lives, and
-/// steps of
-/// others, anywhere among its own, change none of its lives.
+/// so in any two in which the same is done with it, whatever is done with others and when. Steps of others, anywhere
+/// among its own, change none of its lives.
 pub fn interleavings()
     ensures segments { (t : Transmitter) (who : ℕ) (steps others : List Step) → lives_of who steps ≡ lives_of who others
         → segments_of t who steps ≡ segments_of t who others }
     ensures lines { (t : Transmitter) (who : ℕ) (steps others : List Step) → lives_of who steps ≡ lives_of who others
         → lines_of t who steps ≡ lines_of t who others }
+    ensures own { (t : Transmitter) (who : ℕ) (steps others : List Step)
+        → own_steps who steps ≡ own_steps who others
+        → (lives_of who steps ≡ lives_of who others) × (segments_of t who steps ≡ segments_of t who others)
+        × (lines_of t who steps ≡ lines_of t who others) }
     ensures anywhere { (who : ℕ) (before after : List Step) (step : Step) → step.who ≢ who
         → lives_of who (before ++ step ∷ after) ≡ lives_of who (before ++ after) }
     ensures elsewhere { (who : ℕ) (steps : List Step) (step : Step) → step.who ≢ who

@@ -8,8 +8,7 @@ mod tests;
 use dtx_exciter::Exciter;
 
 /// The exciters of a network, each at the place of its transmitter in the plan's list. They are given packets and
-/// restarted
-/// one by one, in any order, and none sees what another one is given (the profile's own).
+/// restarted one by one, in any order, and none sees what another one is given (the profile's own).
 #[derive(Drop)]
 pub struct Net {
     addresses: Vec<u16>,

@@ -20,7 +20,8 @@ use Rattle.dtx_exciter.specs.LockstepIsLaws.{lockstep_is, lockstep_on, length-be
 use Rattle.dtx_network.specs.Plans.{IsPlan, IsStream, IsListed, IsInTime}
 use Rattle.dtx_network.specs.Orders.{has_order}
 use Rattle.dtx_network.specs.Presets.{orders, moment_at, preset_at, presets}
-use Rattle.dtx_network.specs.Headline.{IsFed, IsFirstOrder, stretch_of, segment_of, end_of, Emits}
+use Rattle.dtx_network.specs.Headline.{IsFed, IsFirstOrder, stretch_of, segment_of, end_of}
+use Rattle.dtx_network.specs.Headline.{Around, around, Emits}
 use Rattle.dtx_network.proofs.Orders.{order_some}
 use Rattle.dtx_network.proofs.Served.{feed_locks}
 use Rattle.dtx_network.proofs.Presets.{lines_are}
@@ -112,7 +113,8 @@ emits_at : (plan : Plan) (stream : List (List ℕ)) (t : Transmitter) (earlier l
     (xs ys : List (List (List ℕ))) (mark n k : ℕ)
     → IsPlan plan → IsStream stream → IsListed plan t → IsInTime plan t → mark % 624 ≡ 0
     → mark + n ≤ length (feed plan stream) → IsFirstOrder (feed plan stream) mark n k
-    → Emits plan t (feed plan stream) k (mark + n)
+    → Emits plan t (feed plan stream) mark k (mark + n)
+    (record { lives_before = xs; before = earlier; behind = later; lives_behind = ys })
     (emission_over t.address t.delay (xs ++ (earlier
     ++ (slice_range (feed plan stream) mark (mark + n) ++ later)) ∷ ys))
     (log t.address t.delay 0 (xs ++ (earlier ++ (slice_range (feed plan stream) mark (mark + n) ++ later)) ∷ ys))
@@ -134,9 +136,17 @@ emits_at plan stream t earlier later xs ys mark n k p u listed time m l first =
     (before_stretch a d earlier fed mark k)) fed k end ≡ presets plan t.offset (length before) fed k end =
     ap (λ (r : ℕ). stretch_lines a r fed k end) place
     ∙ lines_are plan stream t (length before) k end p u listed (omega (arith, far)) in
+    let none : 0 + length (emission_over a d xs) ≡ length (emission_over a d xs) = omega arith in
+    let life : List (List ℕ) = earlier ++ (slice_range fed mark end ++ later) in
     record {
       before = before;
       after = after;
+      before_is = refl;
+      after_is = refl;
+      earlier_is = ap (λ (r : ℕ). restarted_lines a d 0 xs
+          ++ life_lines a d r (earlier ++ slice_range fed mark (k + 3))) none;
+      later_is = ap (λ (r : ℕ). lines_behind a d r (earlier ++ slice_range fed mark end) later
+          ++ restarting_lines a d (r + length (emission a d life)) ys) none;
       symbols = stretch_segments a d fed earlier later xs ys mark end k locks s
           ∙ ap (λ x. before ++ (x ++ after)) (sym same);
       earlier = lines_before a d earlier fed xs mark k;
@@ -153,13 +163,14 @@ emits_at plan stream t earlier later xs ys mark n k p u listed time m l first =
 
 pub emits : (plan : Plan) (stream : List (List ℕ)) (t : Transmitter) (xs ys : List (List (List ℕ)))
     (life : List (List ℕ)) (mark n k : ℕ)
-    → IsPlan plan → IsStream stream → IsListed plan t → IsInTime plan t → IsFed (feed plan stream) life mark n
+    → IsPlan plan → IsStream stream → IsListed plan t → IsInTime plan t → (fed : IsFed (feed plan stream) life mark n)
     → IsFirstOrder (feed plan stream) mark n k
-    → Emits plan t (feed plan stream) k (mark + n) (emission_over t.address t.delay (xs ++ life ∷ ys))
-    (log t.address t.delay 0 (xs ++ life ∷ ys))
+    → Emits plan t (feed plan stream) mark k (mark + n) (around xs fed ys)
+    (emission_over t.address t.delay (xs ++ life ∷ ys)) (log t.address t.delay 0 (xs ++ life ∷ ys))
 emits plan stream t xs ys life mark n k p u listed time fed first =
-    subst (λ x. Emits plan t (feed plan stream) k (mark + n) (emission_over t.address t.delay (xs ++ x ∷ ys))
-    (log t.address t.delay 0 (xs ++ x ∷ ys))) (sym fed.holds)
+    subst (λ x. Emits plan t (feed plan stream) mark k (mark + n)
+    (record { lives_before = xs; before = fed.earlier; behind = fed.later; lives_behind = ys })
+    (emission_over t.address t.delay (xs ++ x ∷ ys)) (log t.address t.delay 0 (xs ++ x ∷ ys))) (sym fed.holds)
     (emits_at plan stream t fed.earlier fed.later xs ys mark n k p u listed time fed.is_mark fed.inside first)
 
 -- ---- its lines
@@ -184,12 +195,12 @@ first_is plan offset s feed mark n k first =
     (preset_at plan offset s k) (filter test (range_with_len (k + 1) (mark + n - 3 - (k + 1))))) seg
 
 -- no other line speaks of anything within it
-pub no_other : (plan : Plan) (t : Transmitter) (feed : List (List ℕ)) (k end : ℕ) (segments : List (List ℤ))
-    (lines : List Line) (line : Line)
-    → (e : Emits plan t feed k end segments lines) → Contains lines line → length e.before < end_of line
+pub no_other : (plan : Plan) (t : Transmitter) (feed : List (List ℕ)) (mark k end : ℕ) (a : Around)
+    (segments : List (List ℤ)) (lines : List Line) (line : Line)
+    → (e : Emits plan t feed mark k end a segments lines) → Contains lines line → length e.before < end_of line
     → segment_of line < length e.before + length (stretch_of feed k end)
     → Contains (presets plan t.offset (length e.before) feed k end) line
-no_other plan t feed k end segments lines line e c low high =
+no_other plan t feed mark k end a segments lines line e c low high =
     by_part (Contains-append_cases e.earlier (own ++ e.later) line (subst (λ x. Contains x line) e.log c))
   where
     own : List Line

@@ -10,3 +10,6 @@ pub mod Back
 pub mod AllBack
 pub mod Whole
 pub mod Meets
+pub mod Undamaged
+pub mod TooFew
+pub mod OutOfStep

@@ -19,7 +19,7 @@ use Rattle.dtx_net.specs.Sent.{segments_of, lines_of}
 use Rattle.dtx_chain.specs.Undamaged.{ArePackets}
 use Rattle.dtx_network.specs.Plans.{IsPlan, IsStream}
 use Rattle.dtx_network.specs.Presets.{orders, preset_at, presets}
-use Rattle.dtx_network.specs.Headline.{stretch_of, Emits}
+use Rattle.dtx_network.specs.Headline.{stretch_of, Around, around, Emits}
 use Rattle.dtx_network.specs.Network.{steps_under, Joined, Follows, Headline}
 use Rattle.dtx_network.proofs.Emitting.{emits, first_is, no_other, apart}
 use Rattle.dtx_network.proofs.FeedPackets.{feed_packets}
@@ -27,10 +27,6 @@ use Rattle.dtx_network.proofs.Back.{back}
 use Rattle.dtx_network.proofs.AllBack.{all_given_back}
 
 -- ---- lists
-
--- what a list contains stands between two others
-contains_parts : {X : Type 0} (xs : List X) (x : X) → (c : Contains xs x) → xs ≡ take c.0 xs ++ x ∷ drop (suc c.0) xs
-contains_parts xs x c = split_at xs c.0 x c.1 ∙ ap (λ y. take c.0 xs ++ y ∷ drop (suc c.0) xs) c.2
 
 pub contains_from_get : {X : Type 0} (xs : List X) (k : ℕ) (x : X) → slice_get xs k ≡ Some x → Contains xs x
 contains_from_get xs k x e = (k, slice_get_within xs k x e, get_or_from_slice_get xs k x x e)
@@ -42,20 +38,18 @@ contains_map f xs x c = (c.0, omega (arith, c.1, length-map xs f), get_or-map f 
 
 abbrev EmitsOf : (plan : Plan) (stream : List (List ℕ)) (events : List Event) → Joined plan stream events → Type 0
 EmitsOf plan stream events x =
-    Emits plan x.t (feed plan stream) x.k (x.mark + x.count) (segments_of x.t x.who (steps_under plan stream events))
+    Emits plan x.t (feed plan stream) x.mark x.k (x.mark + x.count) (around x.lives_before x.fed x.lives_behind)
+    (segments_of x.t x.who (steps_under plan stream events))
     (lines_of x.t x.who (steps_under plan stream events))
 
 it_emits : (plan : Plan) (stream : List (List ℕ)) (events : List Event) → IsPlan plan → IsStream stream
     → (x : Joined plan stream events) → EmitsOf plan stream events x
 unfolding segments_of lines_of
 it_emits plan stream events p s x =
-    let lives : List (List (List ℕ)) = lives_of x.who (steps_under plan stream events) in
-    let before : List (List (List ℕ)) = take x.lived.0 lives in
-    let behind : List (List (List ℕ)) = drop (suc x.lived.0) lives in
-    subst (λ (all : List (List (List ℕ))). Emits plan x.t (feed plan stream) x.k (x.mark + x.count)
-    (emission_over x.t.address x.t.delay all) (log x.t.address x.t.delay 0 all))
-    (sym (contains_parts lives x.life x.lived))
-    (emits plan stream x.t before behind x.life x.mark x.count x.k p s
+    subst (λ (all : List (List (List ℕ))). Emits plan x.t (feed plan stream) x.mark x.k (x.mark + x.count)
+    (around x.lives_before x.fed x.lives_behind) (emission_over x.t.address x.t.delay all)
+    (log x.t.address x.t.delay 0 all)) (sym x.lived)
+    (emits plan stream x.t x.lives_before x.lives_behind x.life x.mark x.count x.k p s
     (contains_from_get plan.transmitters.items x.who x.t x.listed) x.in_time x.fed x.order)
 
 -- a preset isn't a mute
@@ -75,10 +69,11 @@ presets_no_mute plan t s fed k end n why c =
     (sym (get_or-map (preset_at plan t.offset s k) (orders fed k end) c.0 0 (mute n why)
     (omega (arith, c.1, length-map (orders fed k end) (preset_at plan t.offset s k)))) ∙ c.2)
 
-no_mute : (plan : Plan) (t : Transmitter) (fed : List (List ℕ)) (k end : ℕ) (segments : List (List ℤ))
-    (lines : List Line) (e : Emits plan t fed k end segments lines) (n : ℕ) (why : Why)
-    → Contains lines (mute n why) → (n ≤ length e.before) ⊎ (length e.before + length (stretch_of fed k end) ≤ n)
-no_mute plan t fed k end segments lines e n why c =
+no_mute : (plan : Plan) (t : Transmitter) (fed : List (List ℕ)) (mark k end : ℕ) (a : Around)
+    (segments : List (List ℤ)) (lines : List Line) (e : Emits plan t fed mark k end a segments lines) (n : ℕ)
+    (why : Why) → Contains lines (mute n why)
+    → (n ≤ length e.before) ⊎ (length e.before + length (stretch_of fed k end) ≤ n)
+no_mute plan t fed mark k end a segments lines e n why c =
     by_low (cases_lt (length e.before) n) (cases_lt n (length e.before + length (stretch_of fed k end)))
   where
     by_low : (length e.before < n) ⊎ (n ≤ length e.before) → (n < length e.before + length (stretch_of fed k end))
@@ -88,7 +83,7 @@ no_mute plan t fed k end segments lines e n why c =
     by_low (inl l) (inr h) = inr h
     by_low (inl l) (inl h) =
         absurd (presets_no_mute plan t (length e.before) fed k end n why
-        (no_other plan t fed k end segments lines (mute n why) e c l h))
+        (no_other plan t fed mark k end a segments lines (mute n why) e c l h))
 
 follows : (plan : Plan) (stream : List (List ℕ)) (events : List Event) → IsPlan plan → IsStream stream
     → (x : Joined plan stream events) → Follows plan stream events x
@@ -99,7 +94,8 @@ follows plan stream events p s x =
     record {
       emits = e;
       named = first_is plan x.t.offset (length e.before) fed x.mark x.count x.k x.order;
-      unmuted = no_mute plan x.t fed x.k (x.mark + x.count) (segments_of x.t x.who (steps_under plan stream events))
+      unmuted = no_mute plan x.t fed x.mark x.k (x.mark + x.count)
+          (around x.lives_before x.fed x.lives_behind) (segments_of x.t x.who (steps_under plan stream events))
           (lines_of x.t x.who (steps_under plan stream events)) e;
       gives_back = λ got. back fed x.k (x.mark + x.count) (length e.before) got packets x.fed.inside;
       gives_all_back = λ got. all_given_back fed x.k (x.mark + x.count) got packets x.fed.inside;
@@ -108,11 +104,11 @@ follows plan stream events p s x =
 -- ---- two transmitters
 
 -- the preset of each order of the stretch is in the log
-preset_logged : (plan : Plan) (t : Transmitter) (fed : List (List ℕ)) (k end : ℕ) (segments : List (List ℤ))
-    (lines : List Line) (e : Emits plan t fed k end segments lines) (g : ℕ)
+preset_logged : (plan : Plan) (t : Transmitter) (fed : List (List ℕ)) (mark k end : ℕ) (a : Around)
+    (segments : List (List ℤ)) (lines : List Line) (e : Emits plan t fed mark k end a segments lines) (g : ℕ)
     → Contains (orders fed k end) g → Contains lines (preset_at plan t.offset (length e.before) k g)
 unfolding presets
-preset_logged plan t fed k end segments lines e g c =
+preset_logged plan t fed mark k end a segments lines e g c =
     let own : List Line = map (preset_at plan t.offset (length e.before) k) (orders fed k end) in
     let line : Line = preset_at plan t.offset (length e.before) k g in
     subst (λ ls. Contains ls line) (sym e.log)
@@ -136,7 +132,8 @@ headline plan stream events p s = record {
         → Contains (lines_of x.t x.who (steps_under plan stream events))
         (preset_at plan x.t.offset (length (follows plan stream events p s x).emits.before) x.k g)
     logged x g c =
-        preset_logged plan x.t (feed plan stream) x.k (x.mark + x.count)
+        preset_logged plan x.t (feed plan stream) x.mark x.k (x.mark + x.count)
+        (around x.lives_before x.fed x.lives_behind)
         (segments_of x.t x.who (steps_under plan stream events))
         (lines_of x.t x.who (steps_under plan stream events))
         (follows plan stream events p s x).emits g c

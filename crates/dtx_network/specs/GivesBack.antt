@@ -1,6 +1,6 @@
 -- What is given back of a stretch of a feed where its segments are received, damaged or not: what these words mean (the
--- profile's own;
--- what is sent is that of ATSC A/53 Part 2). A packet is its list of 188 bytes, a segment the list of its 832 symbols.
+-- profile's own; what is sent is that of ATSC A/53 Part 2). A packet is its list of 188 bytes, a segment the list of
+-- its 832 symbols.
 use Rattle.std.specs.Prelude.{ℕ, ℤ, ◌≡◌, ◌+◌, ◌-◌, ◌*◌, ◌/◌, ◌%◌, ◌<◌, ◌≤◌, true, Some, List, [], ◌∷◌, ◌++◌, EachIndex}
 use Rattle.std.specs.Prelude.{length, map, drop, slice_get, slice_index_or}
 use Rattle.std.specs.List.{flat_map, list_all}
@@ -43,8 +43,7 @@ pub record IsReadable (feed : List (List ℕ)) (end f : ℕ) (run : List (List �
   -- It is given for the run: its 207 bytes are all among the run's.
   pub given : IsComplete 207 52 4 (length (bytes_in run)) j
   -- They all lie in segments of the stretch: 828 bytes make a group, which are four data segments, and the last of them
-  -- is one of
-  -- the stretch's.
+  -- is one of the stretch's.
   pub inside : (i : ℕ) → i < 207 → f + 4 * (place_of 52 4 (207 * j + i) / 828) + 3 ≤ last_packet end
   -- Its word differs from the codeword of packet f + j of the feed in at most ten bytes.
   pub near : IsNear feed (f + j) (word_of run j)
@@ -54,15 +53,13 @@ unfoldable pub packets_of_runs : List (List ℤ) → List (ℕ × ℕ) → List 
 packets_of_runs got places = flat_map (λ p. packets_of (bytes_in (segments_in got p))) places
 
 -- Packet n of the feed stands at a place of all that is received, with 0x47 as its sync byte. It is good, and the bytes
--- put right are
--- those in which its word differs from its codeword.
+-- put right are those in which its word differs from its codeword.
 pub record IsBack (feed : List (List ℕ)) (got : List (List ℤ)) (place n : ℕ) (word : List ℕ) : Type 0 where
   pub packet : slice_get (received got) place ≡ Some (with_sync (slice_index_or feed n []))
   pub good : slice_get (all_packets got) place ≡ Some (as_corrected feed n word)
 
 -- Whatever is received, the stretch from packet k to packet end being at segment s of it: a run that begins at a field
--- sync of the
--- stretch gives each of its readable packets back, behind the packets of the runs before it.
+-- sync of the stretch gives each of its readable packets back, behind the packets of the runs before it.
 abbrev pub GivesBack : List (List ℕ) → ℕ → ℕ → ℕ → List (List ℤ) → Type 0
 GivesBack feed k end s got =
     (f n j : ℕ) (earlier later : List (ℕ × ℕ)) → BeginsField k end f
@@ -80,10 +77,8 @@ pub record IsReceivedAlone (feed : List (List ℕ)) (k end : ℕ) (got : List (L
   pub slight : IsSlight feed (segment_place k) (stretch_of feed k end) got
 
 -- All is given back from packet f on: there is just one run, which begins at the field sync before packet f, and what
--- is received is
--- exactly the feed's packets from there on, with 0x47 as their sync bytes, for each number that is given for the run,
--- in order. None
--- is flagged.
+-- is received is exactly the feed's packets from there on, with 0x47 as their sync bytes, for each number that is given
+-- for the run, in order. None is flagged.
 pub record IsAllBack (feed : List (List ℕ)) (k f : ℕ) (got : List (List ℤ)) : Type 0 where
   pub run : runs got ≡ drop (to_field k f) got ∷ []
   pub packets : received got ≡ map (λ j. with_sync (slice_index_or feed (f + j) []))

@@ -1,20 +1,21 @@
 -- From the first operations packet that begins 52 or more packets behind a mark of the feed, an exciter that is given
--- the feed
--- unchanged from that mark on emits exactly the feed's own symbols (ATSC A/53 Part 2), at moments of the plan: what
--- these words mean.
+-- the feed unchanged from that mark on emits exactly the feed's own symbols (ATSC A/53 Part 2), at moments of the plan:
+-- what these words mean.
 use Rattle.std.specs.Prelude.{ℕ, ℤ, ◌≡◌, ◌+◌, ◌-◌, ◌*◌, ◌/◌, ◌%◌, ◌<◌, ◌≤◌, true, false, List, ◌++◌, All, length}
 use Rattle.std.specs.Prelude.{slice_range}
 use Rattle.dtx_coder.specs.Stream.{a53}
 use Rattle.dtx_plan.specs.declared.plan.Plan.{Plan}
 use Rattle.dtx_plan.specs.declared.transmitter.Transmitter.{Transmitter}
 use Rattle.dtx_exciter.specs.Lockstep.{segment_place}
-use Rattle.dtx_exciter.specs.Log.{Line, preset, mute, restart}
+use Rattle.dtx_exciter.specs.Emission.{emission}
+use Rattle.dtx_exciter.specs.Log.{Line, preset, mute, restart, life_lines, restarted_lines, restarting_lines}
+use Rattle.dtx_exciter.specs.Log.{emission_over}
+use Rattle.dtx_exciter.specs.Stretch.{emission_behind, lines_behind, before_stretch}
 use Rattle.dtx_network.specs.Orders.{has_order}
 use Rattle.dtx_network.specs.Presets.{presets}
 
 -- A life is given the feed unchanged from a mark on: it holds the n packets of the feed from packet mark on, in a row.
--- Before them it
--- holds whatever it holds, and so behind them.
+-- Before them it holds whatever it holds, and so behind them.
 pub record IsFed (feed life : List (List ℕ)) (mark n : ℕ) : Type 0 where
   pub is_mark : mark % 624 ≡ 0
   pub inside : mark + n ≤ length feed
@@ -23,8 +24,7 @@ pub record IsFed (feed life : List (List ℕ)) (mark n : ℕ) : Type 0 where
   pub holds : life ≡ earlier ++ (slice_range feed mark (mark + n) ++ later)
 
 -- The group from packet k on is the first one with an operations packet that begins 52 or more packets behind the mark,
--- and it lies
--- within the packets that are given.
+-- and it lies within the packets that are given.
 pub record IsFirstOrder (feed : List (List ℕ)) (mark n k : ℕ) : Type 0 where
   pub group : k % 4 ≡ 0
   pub behind : mark + 52 ≤ k
@@ -37,8 +37,7 @@ abbrev pub last_packet : ℕ → ℕ
 last_packet end = 4 * (end / 4) - 1
 
 -- The stretch: the segments of the feed's own symbols from the first data segment of the group from packet k on to the
--- last data
--- segment of the last group that ends at or before packet end.
+-- last data segment of the last group that ends at or before packet end.
 unfoldable pub stretch_of : List (List ℕ) → ℕ → ℕ → List (List ℤ)
 stretch_of feed k end = slice_range (a53 feed) (segment_place k) (segment_place (last_packet end) + 1)
 
@@ -54,18 +53,59 @@ end_of (preset n frame packet tick grain) = n + 4
 end_of (mute n why) = n
 end_of (restart n) = n
 
--- A transmitter emits exactly: its segments hold the stretch, in a row and with nothing between, and its log holds the
--- presets of the
--- stretch's orders, at their moments. Each earlier line speaks of nothing behind the stretch's beginning, and each
--- later one of
--- nothing before its end.
-pub record Emits (plan : Plan) (t : Transmitter) (feed : List (List ℕ)) (k end : ℕ) (segments : List (List ℤ))
-    (lines : List Line) : Type 0 where
+-- What stands around the packets of a feed in all lives of a transmitter: the lives before the one that is given them,
+-- what that life is given before them and behind them, and the lives behind it.
+pub record Around : Type 0 where
+  pub lives_before : List (List (List ℕ))
+  pub before : List (List ℕ)
+  pub behind : List (List ℕ)
+  pub lives_behind : List (List (List ℕ))
+
+-- around a life that is given the feed from a mark on, where these lives come before it and those behind it
+abbrev pub around : {feed life : List (List ℕ)} {mark n : ℕ} → List (List (List ℕ)) → IsFed feed life mark n
+    → List (List (List ℕ)) → Around
+around lives_before fed lives_behind = record {
+  lives_before = lives_before;
+  before = fed.earlier;
+  behind = fed.later;
+  lives_behind = lives_behind;
+}
+
+-- how many segments the lives before it send
+abbrev pub sent_before : Transmitter → Around → ℕ
+sent_before t a = length (emission_over t.address t.delay a.lives_before)
+
+-- and how many these and it send, where it is given packets mark to end of the feed
+abbrev pub sent_with : Transmitter → List (List ℕ) → ℕ → ℕ → Around → ℕ
+sent_with t feed mark end a = sent_before t a
+    + length (emission t.address t.delay (a.before ++ (slice_range feed mark end ++ a.behind)))
+
+-- A transmitter emits exactly, where one of its lives is given packets mark to end of the feed: its segments hold the
+-- stretch, in a row and with nothing between, and its log holds the presets of the stretch's orders, at their moments.
+-- What comes before the stretch and behind it is told too, so the stretch is the one that this life sends. Each earlier
+-- line speaks of nothing behind the stretch's beginning, and each later one of nothing before its end.
+pub record Emits (plan : Plan) (t : Transmitter) (feed : List (List ℕ)) (mark k end : ℕ) (a : Around)
+    (segments : List (List ℤ)) (lines : List Line) : Type 0 where
   pub before : List (List ℤ)
   pub after : List (List ℤ)
   pub symbols : segments ≡ before ++ (stretch_of feed k end ++ after)
+  -- Before it stands what the earlier lives send, and then what this life sends in front of the stretch.
+  pub before_is : before ≡ emission_over t.address t.delay a.lives_before
+      ++ before_stretch t.address t.delay a.before feed mark k
+  -- Behind it stands what this life sends for the packets that it is given then, and then what the later lives send.
+  pub after_is : after ≡ emission_behind t.address t.delay (a.before ++ slice_range feed mark end) a.behind
+      ++ emission_over t.address t.delay a.lives_behind
   pub earlier : List Line
   pub later : List Line
   pub log : lines ≡ earlier ++ (presets plan t.offset (length before) feed k end ++ later)
+  -- Before these presets stand the earlier lives' lines, each life's with its restart, and then this life's up to the
+  -- last packet but one of the stretch's first group, counted on from what the earlier lives send.
+  pub earlier_is : earlier ≡ restarted_lines t.address t.delay 0 a.lives_before
+      ++ life_lines t.address t.delay (sent_before t a) (a.before ++ slice_range feed mark (k + 3))
+  -- Behind them stand this life's lines for the packets that it is given then, and then the later lives' lines, counted
+  -- on.
+  pub later_is : later
+      ≡ lines_behind t.address t.delay (sent_before t a) (a.before ++ slice_range feed mark end) a.behind
+      ++ restarting_lines t.address t.delay (sent_with t feed mark end a) a.lives_behind
   pub up_to : All (λ line. end_of line ≤ length before) earlier
   pub behind : All (λ line. length before + length (stretch_of feed k end) ≤ segment_of line) later

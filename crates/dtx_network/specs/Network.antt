@@ -1,13 +1,9 @@
 -- The headline of a network, as one definition (the profile's own, in the manner of ATSC A/110; the symbols are those
--- of ATSC A/53
--- Part 2): for every packet stream and schedule, an exciter that from any earlier state is given the adapter's feed
--- unchanged from a
--- cadence mark on emits, from the first operations packet whose group begins 52 or more packets later, exactly the
--- symbols of that
--- feed, at moments that differ between transmitters only by the signalled offsets; and symbols with at most ten wrong
--- bytes per
--- codeword give their packets back.
-use Rattle.std.specs.Prelude.{ℕ, ℤ, ◌≡◌, ◌⊎◌, ◌+◌, ◌-ℤ◌, ◌/◌, ◌%◌, ◌≤◌, Some, List, ◌∷◌, length, map, slice_get}
+-- of ATSC A/53 Part 2): for every packet stream and schedule, an exciter that from any earlier state is given the
+-- adapter's feed unchanged from a cadence mark on emits, from the first operations packet whose group begins 52 or more
+-- packets later, exactly the symbols of that feed, at moments that differ between transmitters only by the signalled
+-- offsets; and symbols with at most ten wrong bytes per codeword give their packets back.
+use Rattle.std.specs.Prelude.{ℕ, ℤ, ◌≡◌, ◌⊎◌, ◌+◌, ◌-ℤ◌, ◌/◌, ◌%◌, ◌≤◌, Some, List, ◌∷◌, ◌++◌, length, map, slice_get}
 use Rattle.std.specs.List.{Contains}
 use Rattle.dtx_plan.specs.declared.plan.Plan.{Plan}
 use Rattle.dtx_plan.specs.declared.transmitter.Transmitter.{Transmitter}
@@ -21,7 +17,7 @@ use Rattle.dtx_net.specs.Lives.{lives_of}
 use Rattle.dtx_net.specs.Sent.{segments_of, lines_of}
 use Rattle.dtx_network.specs.Plans.{IsInTime}
 use Rattle.dtx_network.specs.Presets.{orders, moment_at, preset_at, presets}
-use Rattle.dtx_network.specs.Headline.{IsFed, IsFirstOrder, stretch_of, Emits}
+use Rattle.dtx_network.specs.Headline.{IsFed, IsFirstOrder, stretch_of, around, Emits}
 use Rattle.dtx_network.specs.GivesBack.{GivesBack, GivesAllBack}
 
 -- the steps of a schedule, with the feed of the plan and the stream
@@ -29,20 +25,20 @@ abbrev pub steps_under : Plan → List (List ℕ) → List Event → List Step
 steps_under plan stream events = schedule plan.transmitters.items (feed plan stream) events
 
 -- A transmitter joins the feed: it stands at a place of the plan's list and is in time, and one of its lives in the
--- schedule, whatever
--- it held before, is given `count` packets of the feed from a mark on, among them the first operations packet that
--- counts, in the
--- group from packet k on.
+-- schedule, between the lives before it and those behind it, is given `count` packets of the feed from a mark on,
+-- whatever it was given before, among them the first operations packet that counts, in the group from packet k on.
 pub record Joined (plan : Plan) (stream : List (List ℕ)) (events : List Event) : Type 0 where
   pub t : Transmitter
   pub who : ℕ
+  pub lives_before : List (List (List ℕ))
   pub life : List (List ℕ)
+  pub lives_behind : List (List (List ℕ))
   pub mark : ℕ
   pub count : ℕ
   pub k : ℕ
   pub listed : slice_get plan.transmitters.items who ≡ Some t
   pub in_time : IsInTime plan t
-  pub lived : Contains (lives_of who (steps_under plan stream events)) life
+  pub lived : lives_of who (steps_under plan stream events) ≡ lives_before ++ life ∷ lives_behind
   pub fed : IsFed (feed plan stream) life mark count
   pub order : IsFirstOrder (feed plan stream) mark count k
 
@@ -50,10 +46,11 @@ pub record Joined (plan : Plan) (stream : List (List ℕ)) (events : List Event)
 pub record Follows (plan : Plan) (stream : List (List ℕ)) (events : List Event)
     (x : Joined plan stream events) : Type 0 where
   -- Its symbol file holds exactly the feed's own symbols from the first order's group to the last whole group that it
-  -- is given, and its
-  -- log their presets.
-  pub emits : Emits plan x.t (feed plan stream) x.k (x.mark + x.count)
-      (segments_of x.t x.who (steps_under plan stream events)) (lines_of x.t x.who (steps_under plan stream events))
+  -- is given, and its log their presets; and they are those of this life, which stand behind all that its earlier lives
+  -- and it sent before.
+  pub emits : Emits plan x.t (feed plan stream) x.mark x.k (x.mark + x.count)
+      (around x.lives_before x.fed x.lives_behind) (segments_of x.t x.who (steps_under plan stream events))
+      (lines_of x.t x.who (steps_under plan stream events))
   -- The first of these presets is that of the first order's group, and names the segment at which those symbols begin.
   pub named : presets plan x.t.offset (length emits.before) (feed plan stream) x.k (x.mark + x.count)
       ≡ preset (length emits.before) (x.k / 624) (x.k % 624) (moment_at plan x.t.offset x.k).tick
@@ -71,8 +68,7 @@ pub record Follows (plan : Plan) (stream : List (List ℕ)) (events : List Event
   pub gives_all_back : (got : List (List ℤ)) → GivesAllBack (feed plan stream) x.k (x.mark + x.count) got
 
 -- Two logs hold these lines, which are presets of one packet of one frame, and their moments differ by so many ticks
--- and some whole
--- seconds.
+-- and some whole seconds.
 pub record AreApart (ticks : ℤ) (log log_other : List Line) (one other : Line) : Type 0 where
   pub logged : Contains log one
   pub logged_other : Contains log_other other
@@ -84,8 +80,7 @@ pub record Headline (plan : Plan) (stream : List (List ℕ)) (events : List Even
   -- packets back.
   pub follows : (x : Joined plan stream events) → Follows plan stream events x
   -- Any two of them log a preset of each group with an operations packet that both have, and the moments of these
-  -- differ only by the
-  -- offsets.
+  -- differ only by the offsets.
   pub apart : (x y : Joined plan stream events) (g : ℕ) → Contains (orders (feed plan stream) x.k (x.mark + x.count)) g
       → Contains (orders (feed plan stream) y.k (y.mark + y.count)) g
       → AreApart (x.t.offset -ℤ y.t.offset) (lines_of x.t x.who (steps_under plan stream events))

@@ -1,6 +1,5 @@
 -- What a feed orders, group by group (the profile's own, in the manner of ATSC A/110). Packets are counted from 0, and
--- a group is
--- four of them.
+-- a group is four of them.
 use Rattle.std.specs.Prelude.{ℕ, ◌≡◌, ◌/◌, ◌%◌, ◌==◌, ◌&&◌, nat_le, Bool, Option, None, option_map, find, if◌then◌else◌}
 use Rattle.std.specs.Prelude.{List, [], map, take, slice_index_or}
 use Rattle.std.specs.List.{range_with_len, list_any}
@@ -24,16 +23,14 @@ unfoldable pub first_operations : List (List ℕ) → ℕ → Option ℕ
 first_operations packets g = find (is_operations packets) (range_with_len g 4)
 
 -- What the group from packet g of a feed on orders, where that counts, as it does 52 or more packets behind the feed's
--- start: what
--- the group's first operations packet says.
+-- start: what the group's first operations packet says.
 unfoldable pub order_of : Plan → List (List ℕ) → ℕ → Option Ops
 order_of plan stream g =
     if nat_le 52 g && (g % 4 == 0) then option_map (λ k. ops_at plan (take k (feed plan stream)) k)
     (first_operations stream g) else None
 
 -- Fields are what the group from packet g of a feed on orders: the states that the feed's coders have before the group,
--- the stamp of
--- its frame, the plan's maximum delay and transmitters, and its frame.
+-- the stamp of its frame, the plan's maximum delay and transmitters, and its frame.
 pub record IsOrder (plan : Plan) (stream : List (List ℕ)) (g : ℕ) (ops : Ops) : Type 0 where
   pub states : ops.states ≡ states_of (take g (feed plan stream))
   pub stamp : ops.stamp ≡ stamp_of plan.start (g / 624)

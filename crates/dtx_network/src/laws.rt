@@ -1,7 +1,7 @@
 //! Laws of the definitions.
 
-ghost use Rattle.std.specs.Prelude.{◌≡◌, ℕ, ℤ, ◌+◌, ◌/◌, ◌%◌, ◌<◌, ◌≤◌, ◌-ℤ◌, true, false, Some, None, Ok, List, []};
-ghost use Rattle.std.specs.Prelude.{◌∷◌, ◌++◌, length, map, take, slice_get};
+ghost use Rattle.std.specs.Prelude.{◌≡◌, ◌≢◌, ℕ, ℤ, ◌+◌, ◌-◌, ◌*◌, ◌/◌, ◌%◌, ◌<◌, ◌≤◌, ◌-ℤ◌, true, false, Some};
+ghost use Rattle.std.specs.Prelude.{None, Ok, List, [], ◌∷◌, ◌++◌, length, map, take, slice_get, slice_index};
 ghost use Rattle.std.specs.List.{Contains};
 ghost use Rattle.dtx_ops.specs.declared.fields.Ops.{Ops};
 ghost use Rattle.dtx_plan.specs.declared.plan.Plan.{Plan};
@@ -20,11 +20,15 @@ ghost use Rattle.dtx_network.specs.Orders.{has_order, order_of, IsOrder};
 ghost use Rattle.dtx_network.specs.Presets.{orders, moment_at, preset_at, presets};
 ghost use Rattle.dtx_chain.specs.Undamaged.{ArePackets};
 ghost use Rattle.dtx_plan.specs.declared.event.Event.{Event};
-ghost use Rattle.dtx_network.specs.GivesBack.{GivesBack, GivesAllBack};
+ghost use Rattle.dtx_network.specs.GivesBack.{GivesBack, GivesAllBack, IsReceivedAlone};
+ghost use Rattle.dtx_galois.specs.Field.{AreBytes};
+ghost use Rattle.dtx_coder.specs.Coded.{spread};
+ghost use Rattle.dtx_cadence.specs.Anchor.{in_step, anchor};
 ghost use Rattle.dtx_plan.specs.declared.event.Event.TheVariants.{Send};
 ghost use Rattle.dtx_plan.specs.Sound.{IsEvent};
 ghost use Rattle.dtx_network.specs.Network.{Joined, Headline};
-ghost use Rattle.dtx_network.specs.Headline.{IsFed, IsFirstOrder, stretch_of, segment_of, end_of, Emits};
+ghost use Rattle.dtx_network.specs.Headline.{IsFed, IsFirstOrder, stretch_of, segment_of, end_of};
+ghost use Rattle.dtx_network.specs.Headline.{Around, around, Emits};
 
 /// Every plan that the walk over a file's bytes gives is one that a network takes.
 pub fn plans_that_are_read()
@@ -32,18 +36,16 @@ pub fn plans_that_are_read()
 {}
 
 /// The feed of a plan is one that the exciter of each listed transmitter locks to, where the transmitter is in time:
-/// its marks stand
-/// at each 624th packet, its orders set the states of its own coders, and each of them serves the transmitter.
+/// its marks stand at each 624th packet, its orders set the states of its own coders, and each of them serves the
+/// transmitter.
 pub fn feed_locks()
     ensures { (plan : Plan) (stream : List (List ℕ)) (t : Transmitter) → IsPlan plan → IsStream stream → IsListed plan t
         → IsInTime plan t → IsFeed t.address t.delay (feed plan stream) }
 {}
 
 /// A group of a feed orders something exactly where it begins 52 or more packets behind the feed's start and holds an
-/// operations
-/// packet, which is where its stream holds a placeholder; it orders what the first of them says, and lists each
-/// transmitter of the
-/// plan once, with its own offset.
+/// operations packet, which is where its stream holds a placeholder; it orders what the first of them says, and lists
+/// each transmitter of the plan once, with its own offset.
 pub fn orders_of_a_feed()
     ensures exact { (plan : Plan) (stream : List (List ℕ)) (g : ℕ) → IsPlan plan → IsStream stream
         → counted (said (feed plan stream)) g ≡ order_of plan stream g }
@@ -64,8 +66,7 @@ pub fn orders_of_a_feed()
 {}
 
 /// The lines that an exciter logs in a stretch of a feed are the presets of the stretch's orders: one for each group
-/// that holds an
-/// operations packet, and no other.
+/// that holds an operations packet, and no other.
 pub fn lines_of_a_feed()
     ensures { (plan : Plan) (stream : List (List ℕ)) (t : Transmitter) (s k end : ℕ) → IsPlan plan → IsStream stream
         → IsListed plan t → 52 ≤ k
@@ -79,24 +80,23 @@ pub fn stretch_of_a_feed()
 {}
 
 /// For every stream and all lives of a listed transmitter that is in time: where one life, whatever it held before and
-/// holds behind,
-/// is given the feed unchanged from a mark on, the transmitter emits exactly the feed's own segments from the first
-/// operations packet
-/// that begins 52 or more packets behind the mark.
+/// holds behind, is given the feed unchanged from a mark on, the transmitter emits exactly the feed's own segments from
+/// the first operations packet that begins 52 or more packets behind the mark. They stand behind what its earlier lives
+/// send and what this one sends before, and in front of what this one sends then and its later lives send; and so do
+/// its lines.
 pub fn emits()
     ensures { (plan : Plan) (stream : List (List ℕ)) (t : Transmitter) (xs ys : List (List (List ℕ)))
         (life : List (List ℕ)) (mark n k : ℕ)
-        → IsPlan plan → IsStream stream → IsListed plan t → IsInTime plan t → IsFed (feed plan stream) life mark n
-        → IsFirstOrder (feed plan stream) mark n k
-        → Emits plan t (feed plan stream) k (mark + n) (emission_over t.address t.delay (xs ++ life ∷ ys))
-        (log t.address t.delay 0 (xs ++ life ∷ ys)) }
+        → IsPlan plan → IsStream stream → IsListed plan t → IsInTime plan t
+        → (fed : IsFed (feed plan stream) life mark n) → IsFirstOrder (feed plan stream) mark n k
+        → Emits plan t (feed plan stream) mark k (mark + n) (around xs fed ys)
+        (emission_over t.address t.delay (xs ++ life ∷ ys)) (log t.address t.delay 0 (xs ++ life ∷ ys)) }
 {}
 
 /// An exciter that is given a feed from its first packet on sends the feed's own segments (ATSC A/53 Part 2) from its
-/// first order on
-/// that begins at packet 52 or later, and nothing before, and its whole log is the presets of these orders. While it is
-/// given no
-/// whole group that begins at packet 52 or later and holds an operations packet, it sends and logs nothing.
+/// first order on that begins at packet 52 or later, and nothing before, and its whole log is the presets of these
+/// orders. While it is given no whole group that begins at packet 52 or later and holds an operations packet, it sends
+/// and logs nothing.
 pub fn from_its_start()
     ensures segments { (plan : Plan) (stream : List (List ℕ)) (t : Transmitter) (n k : ℕ) → IsPlan plan
         → IsStream stream → IsListed plan t → IsInTime plan t
@@ -117,26 +117,23 @@ pub fn from_its_start()
 {}
 
 /// The first preset of a stretch is that of its first group, and speaks of the stretch's first segment. No line of the
-/// log but the
-/// stretch's presets speaks of anything between its beginning and its end, and so no mute: a line that ends behind its
-/// beginning and
-/// begins before its end is one of them.
+/// log but the stretch's presets speaks of anything between its beginning and its end, and so no mute: a line that ends
+/// behind its beginning and begins before its end is one of them.
 pub fn lines_of_a_stretch()
     ensures first { (plan : Plan) (offset : ℤ) (s : ℕ) (feed : List (List ℕ)) (mark n k : ℕ)
         → IsFirstOrder feed mark n k
         → presets plan offset s feed k (mark + n)
         ≡ preset s (k / 624) (k % 624) (moment_at plan offset k).tick (moment_at plan offset k).grain ∷ map
         (preset_at plan offset s k) (orders feed (k + 1) (mark + n)) }
-    ensures no_other { (plan : Plan) (t : Transmitter) (feed : List (List ℕ)) (k end : ℕ) (segments : List (List ℤ))
-        (lines : List Line) (line : Line)
-        → (e : Emits plan t feed k end segments lines) → Contains lines line → length e.before < end_of line
+    ensures no_other { (plan : Plan) (t : Transmitter) (feed : List (List ℕ)) (mark k end : ℕ) (a : Around)
+        (segments : List (List ℤ)) (lines : List Line) (line : Line)
+        → (e : Emits plan t feed mark k end a segments lines) → Contains lines line → length e.before < end_of line
         → segment_of line < length e.before + length (stretch_of feed k end)
         → Contains (presets plan t.offset (length e.before) feed k end) line }
 {}
 
 /// At any two transmitters the presets of one group are of one packet of one frame, and their moments differ by the
-/// offsets'
-/// difference, in ticks of 1539 grains, and otherwise by whole seconds, wherever their stretches begin.
+/// offsets' difference, in ticks of 1539 grains, and otherwise by whole seconds, wherever their stretches begin.
 pub fn apart()
     ensures { (plan : Plan) (t u : Transmitter) (s r k l g : ℕ)
         → IsApart (t.offset -ℤ u.offset) (preset_at plan t.offset s k g) (preset_at plan u.offset r l g) }
@@ -148,47 +145,64 @@ pub fn packets_of_a_feed()
 {}
 
 /// Whatever segments are received, the stretch of a feed being at segment s of them: a run that begins at a field sync
-/// of the stretch
-/// gives each packet back whose bytes all lie in the stretch and whose word has at most ten wrong bytes, good and with
-/// 0x47 as its
-/// sync byte, behind the packets of the runs before it.
+/// of the stretch gives each packet back whose bytes all lie in the stretch and whose word has at most ten wrong bytes,
+/// good and with 0x47 as its sync byte, behind the packets of the runs before it.
 pub fn gives_back()
     ensures { (feed : List (List ℕ)) (k end s : ℕ) (got : List (List ℤ)) → ArePackets feed → end ≤ length feed
         → GivesBack feed k end s got }
 {}
 
 /// The stretch alone, received with slight damage, is one run from its first field sync on, and what is received is
-/// exactly the
-/// feed's packets from there on whose bytes are all there, in order, none flagged.
+/// exactly the feed's packets from there on whose bytes are all there, in order, none flagged.
 pub fn gives_all_back()
     ensures { (feed : List (List ℕ)) (k end : ℕ) (got : List (List ℤ)) → ArePackets feed → end ≤ length feed
         → GivesAllBack feed k end got }
 {}
 
 /// The headline: for every packet stream and schedule, an exciter that from any earlier state is given the adapter's
-/// feed unchanged
-/// from a cadence mark on emits, from the first operations packet whose group begins 52 or more packets later, exactly
-/// the symbols of
-/// that feed (ATSC A/53 Part 2), at moments that differ between transmitters only by the signalled offsets; and symbols
-/// with at most
-/// ten wrong bytes per codeword give their packets back.
+/// feed unchanged from a cadence mark on emits, from the first operations packet whose group begins 52 or more packets
+/// later, exactly the symbols of that feed (ATSC A/53 Part 2), at moments that differ between transmitters only by the
+/// signalled offsets; and symbols with at most ten wrong bytes per codeword give their packets back.
 pub fn headline()
     ensures { (plan : Plan) (stream : List (List ℕ)) (events : List Event) → IsPlan plan → IsStream stream
         → Headline plan stream events }
 {}
 
-/// What the headline asks of a transmitter can be met: with one event, which a plan may hold, that gives a listed
-/// transmitter in time
-/// the whole feed from packet 0 on, it joins the feed there, where the stream has a placeholder for an operations
-/// packet in a whole
-/// group that begins at packet 52 or later; its first order is that group's or an earlier one's.
+/// What the headline asks of a transmitter can be met, whatever happens before and then: with one event, which a plan
+/// may hold, that gives a listed transmitter in time the whole feed from packet 0 on, it joins the feed there, where
+/// the stream has a placeholder for an operations packet in a whole group that begins at packet 52 or later; its first
+/// order is that group's or an earlier one's.
 pub fn joined_is_met()
-    ensures met { (plan : Plan) (stream : List (List ℕ)) (t : Transmitter) (who g : ℕ) → IsPlan plan → IsStream stream
-        → slice_get plan.transmitters.items who ≡ Some t → IsInTime plan t
+    ensures met { (plan : Plan) (stream : List (List ℕ)) (t : Transmitter) (who g : ℕ) (before after : List Event)
+        → IsPlan plan → IsStream stream → slice_get plan.transmitters.items who ≡ Some t → IsInTime plan t
         → g % 4 ≡ 0 → 52 ≤ g → g + 4 ≤ length stream → has_order stream g ≡ true
-        → (x : Joined plan stream (Send t.address 0 (length stream) ∷ [])) × (x.t ≡ t) × (x.who ≡ who) × (x.mark ≡ 0)
-        × (x.count ≡ length stream) × (x.k ≤ g) }
+        → (x : Joined plan stream (before ++ Send t.address 0 (length stream) ∷ after)) × (x.t ≡ t) × (x.who ≡ who)
+        × (x.mark ≡ 0) × (x.count ≡ length stream) × (x.k ≤ g) }
     ensures may_be { (plan : Plan) (stream : List (List ℕ)) (t : Transmitter) (who : ℕ) → IsStream stream
         → slice_get plan.transmitters.items who ≡ Some t → 1 ≤ length stream
         → IsEvent plan.transmitters.items (Send t.address 0 (length stream)) }
+{}
+
+/// What the way back asks of the stretch alone can be met, from every packet on: as it was sent it is received with
+/// slight damage.
+pub fn stretch_is_slight()
+    ensures { (feed : List (List ℕ)) (k end : ℕ) → ArePackets feed
+        → IsReceivedAlone feed k end (stretch_of feed k end) }
+{}
+
+/// Fewer than 52 packets behind a mark are too few: whatever stands before the mark, with another last packet before it
+/// byte 50 of packet 51 behind it is sent otherwise, and so is the group from packet 48 on.
+pub fn fewer_packets_are_too_few()
+    ensures { (front packets : List (List ℕ)) (p : List ℕ) → (length front + 1) % 624 ≡ 0 → length p ≡ 188
+        → AreBytes p → 52 ≤ length packets
+        → (q : List ℕ) × (length q ≡ 188) × AreBytes q
+        × (slice_index (spread (front ++ q ∷ packets)) (207 * (length front + 52) + 50)
+        ≢ slice_index (spread (front ++ p ∷ packets)) (207 * (length front + 52) + 50)) }
+{}
+
+/// A mark out of step loses the lock: whatever is given then, no packet is the anchor with which the sync byte of a
+/// later one is out of step, be it a mark that is not due or one that is wanting.
+pub fn a_mark_out_of_step_loses_the_lock()
+    ensures { (syncs more : List ℕ) (sync j : ℕ) → j ≤ length syncs → in_step sync (length syncs - j) ≡ false
+        → anchor (syncs ++ sync ∷ more) ≢ Some j }
 {}

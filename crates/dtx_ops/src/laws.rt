@@ -13,8 +13,7 @@ ghost use Rattle.dtx_ops.specs.Reading.{reading, ReadsAs};
 ghost use Rattle.dtx_ops.specs.Spelling.{IsValid, data_of, spelling};
 
 /// A packet is read as exactly the fields that it reads as by the relation between bytes and fields. It is refused
-/// exactly
-/// by the first rule that holds.
+/// exactly by the first rule that holds.
 pub fn readings()
     ensures reads_as { (packet : List ℕ) (f : Ops) → reading packet ≡ Ok f → ReadsAs packet f }
     ensures reads { (packet : List ℕ) (f : Ops) → length packet ≡ 188 → ReadsAs packet f → reading packet ≡ Ok f }

@@ -19,8 +19,7 @@ use dtx_packets::Packet;
 pub const OPERATIONS: u16 = 0x1FFA;
 
 /// The fields of an operations packet, or else the first of the ten rules that refuses it. Only the packet identifier
-/// and
-/// the payload are looked at, and up to ten bytes of the payload may be wrong.
+/// and the payload are looked at, and up to ten bytes of the payload may be wrong.
 #[tactic(auto, unfolding(crate::specs::Reading::reading))]
 pub fn read<C: Correct<184, 164>>(code: &C, packet: &Packet) -> Result<Ops, OpsNo>
     ensures reading { result ≡ spec.reading packet.now.0 }

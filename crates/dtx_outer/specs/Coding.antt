@@ -1,6 +1,5 @@
 -- The outer coding of the data of packets that follow each other, over the whole list (ATSC A/53 Part 2, data
--- randomizer and
--- Reed-Solomon encoder).
+-- randomizer and Reed-Solomon encoder).
 use Rattle.std.specs.Prelude.{ℕ, ◌*◌, ◌/◌, ◌%◌, List, map, length}
 use Rattle.std.specs.List.{enumerate_from}
 use Rattle.dtx_outer.specs.Outer.{coded}

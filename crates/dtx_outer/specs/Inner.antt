@@ -30,8 +30,7 @@ abbrev pub IsComplete : (n b m given k : ℕ) → Type 0
 IsComplete n b m given k = (j : ℕ) → j < n → place_of b m (n * k + j) < given
 
 -- what is kept between calls: the whitener's bytes and the gatherer's branches, the last block that was gathered, how
--- many
--- blocks more give no packet, and which packet of the whitener's period comes next
+-- many blocks more give no packet, and which packet of the whitener's period comes next
 pub record Kept : Type 0 where
   pub white : List ℕ
   pub branches : Branching
@@ -40,8 +39,7 @@ pub record Kept : Type 0 where
   pub place : ℕ
 
 -- What is kept is that of a run that has given the bytes y, in blocks of n. It began at an align, at which the branches
--- held
--- any bytes, and before the first block any block may be kept.
+-- held any bytes, and before the first block any block may be kept.
 pub record StandsFor (n k b m : ℕ) (inner : Kept) (y : List ℕ) : Type 0 where
   pub start : Branching
   pub widths : HasWidths b (gathering b m) start
@@ -54,16 +52,14 @@ pub record StandsFor (n k b m : ℕ) (inner : Kept) (y : List ℕ) : Type 0 wher
   pub place : inner.place ≡ (blocks - waiting n b m) % (length inner.white / k)
 
 -- out are the data of a word that has a correction, which changes this many places: the first k bytes of the
--- correction,
--- unwhitened from a place on
+-- correction, unwhitened from a place on
 pub record IsGood (n k : ℕ) (white : List ℕ) (from : ℕ) (word out : List ℕ) (fixed : ℕ) : Type 0 where
   pub code : List ℕ
   pub corrected : IsCorrected n k word code fixed
   pub bytes : out ≡ whitened white from (take k code)
 
 -- out are the data of a word that has no correction: the first k bytes of the word as it was gathered, unwhitened from
--- a
--- place on
+-- a place on
 pub record IsBad (n k : ℕ) (white : List ℕ) (from : ℕ) (word out : List ℕ) : Type 0 where
   pub none : (code : List ℕ) → IsCorrection n k word code → ⊥
   pub bytes : out ≡ whitened white from (take k word)

@@ -27,11 +27,9 @@ pub enum Taken {
 }
 
 /// The way back through the outer coding of packets with `K` bytes of data (ATSC A/53 Part 2, data randomizer,
-/// Reed-Solomon
-/// encoder and interleaving), run by run: a run's first byte is one that came to branch 0 of the interleaver, and the
-/// first of
-/// a packet whose place in the whitener's period is 0. `StandsFor inner y` says that the run has given the bytes `y` so
-/// far.
+/// Reed-Solomon encoder and interleaving), run by run: a run's first byte is one that came to branch 0 of the
+/// interleaver, and the first of a packet whose place in the whitener's period is 0. `StandsFor inner y` says that the
+/// run has given the bytes `y` so far.
 #[derive(Drop)]
 pub struct Inner<
     W: Whitener,
@@ -86,8 +84,7 @@ impl<
     const M: usize,
 > Inner<W, C, G, N, K, B, M> {
     /// The way back by these three, at the start of a run. The whitener's period is a whole number of packets, whose
-    /// codewords
-    /// are a whole number of turns over the branches.
+    /// codewords are a whole number of turns over the branches.
     pub fn new(whitener: W, code: C, gather: G) -> Self
         requires { IsPeriod N K B W.PERIOD }
         ensures white { result.white ≡ W.bytes whitener }
@@ -118,8 +115,7 @@ impl<
     }
 
     /// The numbers are those of a code, of an interleaver and of a whole period, each branch holds as many bytes as it
-    /// delays
-    /// by, and the whitener has a byte for each place of its period.
+    /// delays by, and the whitener has a byte for each place of its period.
     pub fn known(&self)
         ensures period { IsPeriod N K B W.PERIOD }
         ensures code { IsCode N K }
@@ -133,10 +129,8 @@ impl<
     }
 
     /// The next block of a run. The first `waiting N B M` blocks of a run give no packet, and `out` stays. The block
-    /// after `k`
-    /// more gives packet `k` of the run: the first `K` bytes of its word's correction, or of the word as it was
-    /// gathered where
-    /// it has none, unwhitened as packet `k` of a stream.
+    /// after `k` more gives packet `k` of the run: the first `K` bytes of its word's correction, or of the word as it
+    /// was gathered where it has none, unwhitened as packet `k` of a stream.
     ///
     /// No call takes memory, and a run may have any number of blocks.
     pub fn take(&mut self, bytes: &[u8; N], out: &mut [u8; K]) -> Taken
@@ -161,8 +155,7 @@ impl<
     }
 
     /// Gathers a block. The word is the end of the block before it and the begin of this one, so that its first byte is
-    /// the one
-    /// that leaves `B * M * (B - 1)` bytes after a block of the run began.
+    /// the one that leaves `B * M * (B - 1)` bytes after a block of the run began.
     fn next_word(&mut self, bytes: &[u8; N], word: &mut [u8; N])
         requires code { IsCode N K }
         requires numbers { IsInterleaver B M }

@@ -1,6 +1,5 @@
 //! The laws of the outer coding of packets that follow each other, over the definitions. So they hold of calls of
-//! `Outer::code`,
-//! each with its packet's place in the whitener's period, whatever does the parts.
+//! `Outer::code`, each with its packet's place in the whitener's period, whatever does the parts.
 
 pub mod words;
 
@@ -27,8 +26,7 @@ pub fn each_packet()
 {}
 
 /// One packet more: its codeword comes behind the others, and what leaves and what the branches hold are what one call
-/// of
-/// `Outer::code` gives after the calls before it.
+/// of `Outer::code` gives after the calls before it.
 pub fn one_more()
     ensures codeword { (n k : ℕ) (white : List ℕ) (s : ℕ) (heads : List (List ℕ)) (head : List ℕ)
         → codewords n k white s (heads ++ head ∷ []) ≡ codewords n k white s heads
@@ -48,8 +46,7 @@ pub fn from_zeros()
 {}
 
 /// Behind an align, whatever the branches held, they leave as the map of places has them where the source has come, and
-/// else a
-/// byte that the branches held leaves.
+/// else a byte that the branches held leaves.
 pub fn behind_align()
     ensures { (n k b m : ℕ) (white : List ℕ) (s : ℕ) (heads : List (List ℕ)) (v : Branching)
         → HasWidths b (spreading m) v

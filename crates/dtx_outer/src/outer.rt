@@ -53,8 +53,7 @@ impl<
     const M: usize,
 > Outer<W, C, S, N, K, B, M> {
     /// The coding by these three. The whitener's period is a whole number of packets, whose codewords are a whole
-    /// number
-    /// of turns over the branches.
+    /// number of turns over the branches.
     pub fn new(whitener: W, code: C, spread: S) -> Self
         requires { IsPeriod N K B W.PERIOD }
         ensures { result ≡ record { white = W.bytes whitener; branches = S.seen spread } }

@@ -14,8 +14,7 @@ use std::io::{ErrorKind, Read, Seek, SeekFrom, Write};
 use std::marker::Model;
 use std::rt::Files;
 
-/// The files of the host. Each call opens its file and closes it again, so the number of files has no limit of its
-/// own.
+/// The files of the host. Each call opens its file and closes it again, so the number of files has no limit of its own.
 #[derive(Drop)]
 pub struct HostShelf<'a, R: Files> {
     rt: &'a R,

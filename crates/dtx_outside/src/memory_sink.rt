@@ -73,8 +73,7 @@ impl Sink for MemorySink {
         ensures gone { IsCounted self.old.faults result self.new.faults }
         ensures after { self.new ≡ after_write bytes.now result self.old }
 
-        // It takes all of the piece, or nothing: it fails exactly where that is planned and there is something to
-        // take.
+        // It takes all of the piece, or nothing: it fails exactly where that is planned and there is something to take.
         ensures all { IfOk result (λ n. n ≡ length bytes.now) }
         ensures planned { IsErrOf result SinkNo.Failed ↔ (IsPlanned self.old.writes × (0 < length bytes.now)) }
         ensures empty { length bytes.now ≡ 0 → result ≡ Ok 0 }

@@ -7,8 +7,8 @@ use crate::transmitter::Transmitter;
 use arrayvec::ArrayVec;
 use dtx_outside::Word;
 
-/// A plan of a network: the tick at which its feed starts, its maximum delay in ticks of 100 ns, its transmitters,
-/// and what is done with them, where it is said.
+/// A plan of a network: the tick at which its feed starts, its maximum delay in ticks of 100 ns, its transmitters, and
+/// what is done with them, where it is said.
 #[derive(Drop)]
 pub struct Plan {
     pub start: u32,
@@ -17,8 +17,8 @@ pub struct Plan {
     pub net: Option<NetPlan>,
 }
 
-/// What is done with the transmitters: the name of the file of their stream, the schedule, and what is received,
-/// where it is said.
+/// What is done with the transmitters: the name of the file of their stream, the schedule, and what is received, where
+/// it is said.
 #[derive(Drop)]
 pub struct NetPlan {
     pub stream: Word,

@@ -28,8 +28,8 @@ pub fn read_plan(alloc: Global, bytes: &[u8]) -> Result<Plan, PlanFault>
     plan(alloc, &root)
 }
 
-/// The damage that the bytes of a file of changes say, or the first refusal of the walk over it (the profile's own
-/// file of changes: one array `damage`, with the rows that it has in a plan).
+/// The damage that the bytes of a file of changes say, or the first refusal of the walk over it (the profile's own file
+/// of changes: one array `damage`, with the rows that it has in a plan).
 pub fn read_changes(alloc: Global, bytes: &[u8]) -> Result<Damages, PlanFault>
     ensures walk { IsAnswer (spec.changes_of bytes.now) result }
     ensures sound { IfOk result AreDamages }

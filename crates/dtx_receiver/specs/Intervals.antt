@@ -1,6 +1,5 @@
 -- Runs as intervals of a list of segments, each by the place of its first segment and how many it has: what makes one a
--- run, and
--- what makes some all of the runs. No step of the search is in it.
+-- run, and what makes some all of the runs. No step of the search is in it.
 use Rattle.std.specs.Prelude.{ℕ, ℤ, ◌≡◌, ◌+◌, ◌%◌, ◌<◌, ◌≤◌, ◌⊎◌, Bool, true, false, List, [], ◌∷◌, length}
 use Rattle.std.specs.Prelude.{slice_index_or, slice_range}
 use Rattle.dtx_frame.specs.Detection.{looks_like}
@@ -14,8 +13,7 @@ abbrev pub NoneLooks : List (List ℤ) → ℕ → ℕ → Type 0
 NoneLooks segments a b = (i : ℕ) → a ≤ i → i < b → looks_at segments i ≡ false
 
 -- A run of n segments. Each 313th of them, from the first on, looks like a field sync. It ends with the list, or before
--- a
--- segment at which a field sync is due and which doesn't look like one.
+-- a segment at which a field sync is due and which doesn't look like one.
 pub record IsRun (segments : List (List ℤ)) (first n : ℕ) : Type 0 where
   pub some : 0 < n
   pub within : first + n ≤ length segments
@@ -24,8 +22,7 @@ pub record IsRun (segments : List (List ℤ)) (first n : ℕ) : Type 0 where
       × (looks_at segments (first + n) ≡ false))
 
 -- These are the runs from a place on. Each begins with the first segment that looks like a field sync, and behind the
--- segment
--- that ended it the search goes on. That segment isn't searched itself.
+-- segment that ended it the search goes on. That segment isn't searched itself.
 abbrev pub AreRuns : List (List ℤ) → ℕ → List (ℕ × ℕ) → Type 0
 AreRuns segments from [] = NoneLooks segments from (length segments)
 AreRuns segments from (p ∷ ps) = (from ≤ p.0) × NoneLooks segments from p.0 × IsRun segments p.0 p.1

@@ -1,14 +1,18 @@
 -- The runs of a list are its intervals: the search, segment by segment, and the one list of intervals that are runs.
 use Rattle.std.proofs.Common.{◌≡◌, ◌≢◌, ℕ, ℤ, zero, suc, ◌+◌, ◌-◌, ◌%◌, ◌<◌, ◌≤◌, ◌⊎◌, ◌↔◌, ◌==◌, Bool, true, false}
-use Rattle.std.proofs.Common.{Option, Some, None, List, [], ◌∷◌, ◌++◌, length, map, take, drop, get_or, refl, sym, ap}
+use Rattle.std.proofs.Common.{cond, All, Option, Some, None, List, [], ◌∷◌, ◌++◌, length, map, take, drop, get_or, refl, sym, ap}
 use Rattle.std.proofs.Common.{ap₂, ◌∙◌, subst, inl, inr, arith}
 use Rattle.std.specs.List.{slice_range}
 use Rattle.std.specs.Prelude.{option_to_list}
 use Rattle.std.proofs.lemmas.Bool.{cases_eq, cases_lt, cases_order, false≢true}
 use Rattle.std.proofs.lemmas.List.{append-nil, take_more, take_all, length-take-le, length-drop, get_or-drop}
 use Rattle.std.proofs.lemmas.List.{length-map, map_push}
+use Rattle.std.proofs.lemmas.List.Elements.{All-nil, All-cons, All-weaker, All-contains, Contains-push}
+use Rattle.std.proofs.lemmas.List.Elements.{Contains-push_cases}
+use Rattle.std.specs.List.{Contains}
 use Rattle.dtx_frame.specs.Detection.{looks_like}
-use Rattle.dtx_receiver.specs.Runs.{Tracked, tracked, runs}
+use Rattle.dtx_receiver.specs.Runs.{Tracked, tracked, runs, sync_due, told, tracking}
+use Rattle.dtx_receiver.specs.declared.tracking.Tracking.TheVariants.{Searching, Began, Sync, Data, Ended}
 use Rattle.dtx_receiver.specs.Intervals.{looks_at, NoneLooks, IsRun, AreRuns, segments_in}
 use Rattle.dtx_receiver.specs.FollowingLaws.{searching, began, sync_came, ended_there, data_came}
 
@@ -298,3 +302,117 @@ no_runs s = (there, back)
 
     back : NoneLooks s 0 (length s) → length (runs s) ≡ 0
     back h = count ∙ ap length (only_runs s 0 (are_runs s).0 [] (are_runs s).1 h)
+
+-- ---- what the segment behind them is told to be
+
+closed_up : (s : List (List ℤ)) (from to : ℕ) (ps : List (ℕ × ℕ)) → Closed s from ps to → from ≤ to
+closed_up s from to [] c = omega (arith, c)
+closed_up s from to (p ∷ ps) c = omega (arith, c.0, closed_up s (p.0 + p.1 + 1) to ps c.3)
+
+-- the runs that have ended end before the place from which on the search goes on
+closed_before : (s : List (List ℤ)) (from to : ℕ) (ps : List (ℕ × ℕ)) → Closed s from ps to
+    → All (λ p. p.0 + p.1 < to) ps
+closed_before s from to [] c = All-nil (λ p. p.0 + p.1 < to)
+closed_before s from to (p ∷ ps) c =
+    All-cons (λ p. p.0 + p.1 < to) p ps (omega (arith, closed_up s (p.0 + p.1 + 1) to ps c.3))
+    (closed_before s (p.0 + p.1 + 1) to ps c.3)
+
+-- The run that is on reaches the end of the list, and is the last of the runs there.
+record Lasts (s : List (List ℤ)) (run : List (List ℤ)) : Type 0 where
+  places : List (ℕ × ℕ)
+  first : ℕ
+  n : ℕ
+  are : AreRuns s 0 (places ++ (first, n) ∷ [])
+  ended : All (λ p. p.0 + p.1 < length s) places
+  reaches : first + n ≡ length s
+  long : length run ≡ n
+
+lasts : (s : List (List ℤ)) (run : List (List ℤ)) (h : Searched s (length s) (tracked s))
+    → Going s h.from (length s) run → Lasts s run
+lasts s run h g =
+    let back : g.first + (length s - g.first) ≡ length s = omega (arith, g.some) in
+    record {
+      places = h.places;
+      first = g.first;
+      n = length s - g.first;
+      are = closed_all s 0 h.from h.places ((g.first, length s - g.first) ∷ []) h.closed (
+        g.behind,
+        g.none,
+        record {
+          some = omega (arith, g.some);
+          within = omega (arith, back);
+          syncs = λ j m d. g.syncs j (omega (arith, m)) d;
+          ends = inl back;
+        },
+        λ i x y. absurd (omega (arith, back, x, y)),
+      );
+      ended = All-weaker (λ p. p.0 + p.1 < h.from) (λ p. p.0 + p.1 < length s)
+          (λ p m. omega (arith, m, g.behind, g.some)) h.places (closed_before s 0 h.from h.places h.closed);
+      reaches = back;
+      long = going_long s h.from (length s) run g (omega arith);
+    }
+
+-- where the last of the runs reaches the end of the list, it is on
+on_there : (s : List (List ℤ)) (places : List (ℕ × ℕ)) (first n : ℕ) → AreRuns s 0 (places ++ (first, n) ∷ [])
+    → first + n ≡ length s → (run : List (List ℤ)) × ((tracked s).run ≡ Some run) × (length run ≡ n)
+on_there s places first n a e =
+    let h : Searched s (length s) (tracked s) = all_searched s in by_run h (tracked s).run refl h.at
+  where
+    within : Contains (places ++ (first, n) ∷ []) (first, n)
+    within = Contains-push places (first, n)
+
+    by_run : (h : Searched s (length s) (tracked s)) (o : Option (List (List ℤ))) → (tracked s).run ≡ o
+        → At s h.from (length s) o → (run : List (List ℤ)) × ((tracked s).run ≡ Some run) × (length run ≡ n)
+    by_run h None f at =
+        let own : AreRuns s 0 h.places = subst (AreRuns s 0) (append-nil h.places)
+        (closed_all s 0 h.from h.places [] h.closed at.1) in
+        let same : places ++ (first, n) ∷ [] ≡ h.places = only_runs s 0 (places ++ (first, n) ∷ []) h.places a own in
+        let before = All-contains (λ p. p.0 + p.1 < h.from) h.places (first, n)
+        (closed_before s 0 h.from h.places h.closed) (subst (λ x. Contains x (first, n)) same within) in
+        absurd (omega (arith, before, e, at.0))
+    by_run h (Some run) f at =
+        let l : Lasts s run = lasts s run h at in
+        let same : places ++ (first, n) ∷ [] ≡ l.places ++ (l.first, l.n) ∷ [] =
+        only_runs s 0 (places ++ (first, n) ∷ []) (l.places ++ (l.first, l.n) ∷ []) a l.are in (
+          run,
+          f,
+          l.long ∙ by_place l
+              (Contains-push_cases l.places (l.first, l.n) (first, n) (subst (λ x. Contains x (first, n)) same within)),
+        )
+      where
+        by_place : (l : Lasts s run) → Contains l.places (first, n)
+            ⊎ ◌≡◌ {A = ℕ × ℕ} (l.first, l.n) (first, n) → l.n ≡ n
+        by_place l (inl c) =
+            let m = All-contains (λ p. p.0 + p.1 < length s) l.places (first, n) l.ended c in
+            absurd (omega (arith, m, e))
+        by_place l (inr d) = ap (λ (p : ℕ × ℕ). p.1) d
+
+pub told_on : (s : List (List ℤ)) (x : List ℤ) (places : List (ℕ × ℕ)) (first n : ℕ)
+    → AreRuns s 0 (places ++ (first, n) ∷ []) → first + n ≡ length s
+    → tracking s x ≡ cond (n % 313 == 0) (cond (looks_like x) Sync Ended) Data
+unfolding tracking sync_due
+told_on s x places first n a e =
+    let o = on_there s places first n a e in
+    ap (λ r. told r (looks_like x)) o.1
+    ∙ ap (λ (k : ℕ). cond (k % 313 == 0) (cond (looks_like x) Sync Ended) Data) o.2
+
+-- where none does, none is on
+none_on : (s : List (List ℤ)) (places : List (ℕ × ℕ)) → AreRuns s 0 places → All (λ p. p.0 + p.1 < length s) places
+    → (tracked s).run ≡ None
+none_on s places a b = let h : Searched s (length s) (tracked s) = all_searched s in by_run h (tracked s).run refl h.at
+  where
+    by_run : (h : Searched s (length s) (tracked s)) (o : Option (List (List ℤ))) → (tracked s).run ≡ o
+        → At s h.from (length s) o → (tracked s).run ≡ None
+    by_run h None f at = f
+    by_run h (Some run) f at =
+        let l : Lasts s run = lasts s run h at in
+        let same : l.places ++ (l.first, l.n) ∷ [] ≡ places =
+        only_runs s 0 (l.places ++ (l.first, l.n) ∷ []) places l.are a in
+        let m = All-contains (λ p. p.0 + p.1 < length s) places (l.first, l.n) b
+        (subst (λ x. Contains x (l.first, l.n)) same (Contains-push l.places (l.first, l.n))) in
+        absurd (omega (arith, m, l.reaches))
+
+pub told_off : (s : List (List ℤ)) (x : List ℤ) (places : List (ℕ × ℕ)) → AreRuns s 0 places
+    → All (λ p. p.0 + p.1 < length s) places → tracking s x ≡ cond (looks_like x) Began Searching
+unfolding tracking
+told_off s x places a b = ap (λ r. told r (looks_like x)) (none_on s places a b)

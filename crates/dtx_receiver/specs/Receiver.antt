@@ -10,8 +10,7 @@ use Rattle.dtx_receiver.specs.Packets.{given}
 use Rattle.dtx_receiver.specs.Bytes.{data_count, groups_of, levels_from, levels_in, formers_in, bytes_in}
 
 -- what is kept of a run: the levels of the group that is on, Z2 of the twelve coders before it, the outer coding's way
--- back, and
--- how many data segments are in whole groups, modulo 52
+-- back, and how many data segments are in whole groups, modulo 52
 pub record Decoding : Type 0 where
   pub levels : List ℕ
   pub formers : List ℕ
@@ -38,8 +37,7 @@ pub record StandsFor (receiver : Kept) (segments : List (List ℤ)) : Type 0 whe
   pub run : IfSome (tracked segments).run (λ run. Decodes receiver.decoding run)
 
 -- Whatever the decoder of runs was given: each level is one of eight, the whitener's bytes are the randomizer's, and
--- the turn is
--- one of 52.
+-- the turn is one of 52.
 pub record IsDecoding (levels : List ℕ) (inner : inner.Kept) (turn : ℕ) : Type 0 where
   pub small : EachIndex levels (λ d. slice_index levels d < 8)
   pub white : inner.white ≡ randomizer_bytes

@@ -1,6 +1,6 @@
 -- Runs of segments (the profile's own). A segment is the list of its 832 symbols. A run begins with a segment that
--- looks like a
--- field sync, and is the list of its segments: each field sync and 312 data segments behind it, whatever these hold.
+-- looks like a field sync, and is the list of its segments: each field sync and 312 data segments behind it, whatever
+-- these hold.
 use Rattle.std.specs.Prelude.{ℕ, ℤ, ◌+◌, ◌%◌, ◌==◌, Bool, if◌then◌else◌, Option, Some, None, option_to_list, List, []}
 use Rattle.std.specs.Prelude.{◌∷◌, ◌++◌, length, fold}
 use Rattle.dtx_frame.specs.Detection.{looks_like}
@@ -17,8 +17,7 @@ pub record Tracked : Type 0 where
   pub run : Option (List (List ℤ))
 
 -- One segment further. Where no run is on, one begins with a segment that looks like a field sync. Where a field sync
--- is due, the
--- run goes on with a segment that looks like one, and else it ends before it.
+-- is due, the run goes on with a segment that looks like one, and else it ends before it.
 abbrev pub followed : List (List (List ℤ)) → Option (List (List ℤ)) → List ℤ → Tracked
 followed ended None x = record { ended = ended; run = if looks_like x then Some (x ∷ []) else None }
 followed ended (Some run) x =

@@ -1,6 +1,9 @@
 //! Laws of the definitions: what runs are, and which packets a run gives.
 
-ghost use Rattle.std.specs.Prelude.{◌≡◌, ◌↔◌, ℕ, ℤ, ◌+◌, ◌*◌, ◌%◌, ◌≤◌, ◌⊎◌, ◌++◌, ◌∷◌, [], List, true, length, map};
+ghost use Rattle.std.specs.Prelude.{◌≡◌, ◌↔◌, ℕ, ℤ, ◌+◌, ◌*◌, ◌%◌, ◌<◌, ◌≤◌, ◌==◌, ◌⊎◌, ◌++◌, ◌∷◌, []};
+ghost use Rattle.std.specs.Prelude.{if◌then◌else◌, List, true, length, map, All};
+ghost use Rattle.dtx_frame.specs.Detection.{looks_like};
+ghost use Rattle.dtx_receiver.specs.declared.tracking.Tracking.TheVariants as Tracking;
 ghost use Rattle.dtx_outer.specs.Inner.{IsComplete};
 ghost use Rattle.dtx_receiver.specs.Intervals.{AreRuns, NoneLooks, segments_in};
 ghost use Rattle.dtx_receiver.specs.Packets.{all_packets, given, is_complete};
@@ -8,14 +11,27 @@ ghost use Rattle.dtx_receiver.specs.declared.batch.Received.{Received};
 ghost use Rattle.dtx_receiver.specs.Runs.{runs, begun, tracking};
 
 /// The runs of a list are those of its intervals that `AreRuns` names, and there is just one list of such intervals. No
-/// run is
-/// there just where no segment looks like a field sync.
+/// run is there just where no segment looks like a field sync.
 pub fn intervals()
     ensures are { (segments : List (List ℤ)) → (places : List (ℕ × ℕ)) × AreRuns segments 0 places
         × (runs segments ≡ map (segments_in segments) places) }
     ensures only { (segments : List (List ℤ)) (from : ℕ) (a b : List (ℕ × ℕ)) → AreRuns segments from a
         → AreRuns segments from b → a ≡ b }
     ensures none { (segments : List (List ℤ)) → (length (runs segments) ≡ 0) ↔ NoneLooks segments 0 (length segments) }
+{}
+
+/// What the segment behind a list is told to be, by the list's runs. Where the last of them reaches the end of the list,
+/// it is on: where a field sync is due behind its n segments, the segment is one or ends the run, by whether it looks
+/// like one, and else it is a data segment. Where none reaches the end, the segment begins a run just where it looks
+/// like a field sync.
+pub fn answers()
+    ensures on { (segments : List (List ℤ)) (x : List ℤ) (places : List (ℕ × ℕ)) (first n : ℕ)
+        → AreRuns segments 0 (places ++ (first, n) ∷ []) → first + n ≡ length segments
+        → tracking segments x
+        ≡ (if n % 313 == 0 then (if looks_like x then Tracking.Sync else Tracking.Ended) else Tracking.Data) }
+    ensures off { (segments : List (List ℤ)) (x : List ℤ) (places : List (ℕ × ℕ)) → AreRuns segments 0 places
+        → All (λ p. p.0 + p.1 < length segments) places
+        → tracking segments x ≡ (if looks_like x then Tracking.Began else Tracking.Searching) }
 {}
 
 /// With one segment more there is one run more just where the segment is told to begin one.
@@ -35,8 +51,7 @@ pub fn goes_on()
 {}
 
 /// All bytes of packet k are among those of `count` data segments just where 53 of these or more stand from the
-/// packet's own on, or
-/// 52 and 52 divides k.
+/// packet's own on, or 52 and 52 divides k.
 pub fn complete()
     ensures told { (count k : ℕ) → is_complete count k ≡ true ↔ IsComplete 207 52 4 count k }
     ensures only { (count k : ℕ) → IsComplete 207 52 4 (207 * count) k

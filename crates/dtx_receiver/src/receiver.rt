@@ -14,8 +14,8 @@ use std::alloc::{AllocError, Global};
 use std::marker::Model;
 
 /// Receives the transport packets of segments, which come one after another. `StandsFor receiver segments` says that
-/// the
-/// receiver holds what these segments leave. Segments may hold any signed bytes, and there may be any number of them.
+/// the receiver holds what these segments leave. Segments may hold any signed bytes, and there may be any number of
+/// them.
 #[derive(Drop)]
 pub struct Receiver {
     place: Option<u16>,
@@ -45,10 +45,9 @@ impl Receiver {
     }
 
     /// Receives the next segment: tells what it is, and gives the packets that become whole with it, in place of what
-    /// the batch
-    /// held. A packet is given with the group of four data segments from which on 53 data segments or more stand in
-    /// whole
-    /// groups from the packet's own on, or else with the segment that ends the run. No call takes memory.
+    /// the batch held. A packet is given with the group of four data segments from which on 53 data segments or more
+    /// stand in whole groups from the packet's own on, or else with the segment that ends the run. No call takes
+    /// memory.
     pub fn take(&mut self, segment: &[i8; SEGMENT], batch: &mut Batch) -> Tracking
         ensures answer { (segments : List (List ℤ)) → StandsFor self.old segments
             → result ≡ tracking segments segment.now }
@@ -94,8 +93,7 @@ impl Receiver {
     }
 
     /// Ends the run that is on, if one is: gives the packets that are left, in place of what the batch held. The next
-    /// segment is
-    /// received as the first.
+    /// segment is received as the first.
     pub fn finish(&mut self, batch: &mut Batch)
         ensures stands { StandsFor self.new [] }
         ensures packets { (segments : List (List ℤ)) → StandsFor self.old segments

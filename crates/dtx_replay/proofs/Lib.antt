@@ -1,5 +1,11 @@
+pub mod Adapted
+pub mod Carrying
 pub mod FileNames
+pub mod Headlines
+pub mod NetFiles
+pub mod Played
 pub mod SegmentsSent
+pub mod Streams
 pub mod SymbolsBack
 pub mod SegmentsBack
 pub mod SymbolsSent

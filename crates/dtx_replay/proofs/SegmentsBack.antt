@@ -3,7 +3,7 @@ use Rattle.std.proofs.Common.{◌≡◌, ℕ, ℤ, ◌+◌, ◌*◌, ◌/◌, Li
 use Rattle.std.proofs.lemmas.List.{drop-drop, length-map, map-append}
 use Rattle.std.proofs.Math.Seq.{take-append_seam, drop-append_seam}
 use Rattle.dtx_coder.specs.Stream.{symbols_of}
-use Rattle.dtx_coder.proofs.Counts.{AreSegments}
+use Rattle.dtx_coder.specs.CountsLaws.{AreSegments}
 use Rattle.dtx_files.specs.Symbols.{byte_of_symbol, segment_bytes}
 use Rattle.dtx_jobs.specs.SymbolFile as file
 use Rattle.dtx_jobs.specs.SymbolFile.{symbol_of_byte, symbols, whole_segments, segments_from}

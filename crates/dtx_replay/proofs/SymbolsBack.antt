@@ -4,7 +4,7 @@ use Rattle.std.specs.Prelude.{nat_le, is_ok, slice_index_or}
 use Rattle.std.specs.List.{flat_map, range_with_len, AllByRecursion}
 use Rattle.dtx_frame.specs.Segments.{bit_symbol, segment_sync, symbol_of, data_segment, inverted, mode_bits, reserved_bits, sync_symbols, field_sync}
 use Rattle.dtx_frame.specs.Sequences.{pn511, pn63}
-use Rattle.dtx_frame.proofs.Rule.{level_at_small}
+use Rattle.dtx_frame.specs.RuleLaws.{level_at_small}
 use Rattle.dtx_trellis.specs.Groups.{level_at, levels_of}
 use Rattle.dtx_trellis.specs.Pairs.{groups}
 use Rattle.dtx_coder.specs.Along.{levels_since}

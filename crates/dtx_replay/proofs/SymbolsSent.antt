@@ -8,7 +8,7 @@ use Rattle.std.proofs.lemmas.List.Elements.{All-head, All-tail}
 use Rattle.dtx_jobs.specs.PastEnd.{ends_past, first_past}
 use Rattle.dtx_net.specs.Sent.{segments_of}
 use Rattle.dtx_net.specs.Steps.{Step, place_of}
-use Rattle.dtx_net.proofs.PlaceOf.{place_found, place_missing}
+use Rattle.dtx_net.specs.PlaceOfLaws.{place_found, place_missing}
 use Rattle.dtx_network.specs.Network.{steps_under}
 use Rattle.dtx_plan.specs.Sound.{IsDamage}
 use Rattle.dtx_plan.specs.TransmitterTable.{has_address}

@@ -1,5 +1,5 @@
 // `net PLAN`: a network adapted, played and received.
-ghost use Rattle.std.specs.Prelude.{◌≡◌, ◌≢◌, [], IfSome, None, Ok, Some, length};
+ghost use Rattle.std.specs.Prelude.{◌≡◌, ◌≢◌, ◌≤◌, [], IfSome, Some, length};
 ghost use Rattle.std.specs.FinMap as files;
 ghost use Rattle.dtx_jobs.specs.PlanFile.{IsPlanRead, under_plan};
 ghost use Rattle.dtx_meaning.specs.Meaning.{IsCarriedOut};

@@ -7,8 +7,8 @@ use Rattle.dtx_files.specs.Symbols.{segment_bytes}
 use Rattle.dtx_net.specs.Lives.{lives_of}
 use Rattle.dtx_net.specs.Sent.{segments_of, lines_of}
 use Rattle.dtx_net.specs.Steps.{Step}
-use Rattle.dtx_net.proofs.Grows.{segments_same, lines_same}
-use Rattle.dtx_net.proofs.LastLife.{lives_elsewhere}
+use Rattle.dtx_net.specs.GrowsLaws.{segments_same, lines_same}
+use Rattle.dtx_net.specs.LastLifeLaws.{lives_elsewhere}
 use Rattle.dtx_plan.specs.declared.transmitter.Transmitter.{Transmitter}
 use Rattle.dtx_schedule.specs.TransmitterFiles.{symbol_file, log_file}
 

@@ -1,4 +1,3 @@
-pub mod FilesOf
 pub mod Fronts
 pub mod FirstOf
 pub mod Elsewhere

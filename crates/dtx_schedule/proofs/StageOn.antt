@@ -10,8 +10,8 @@ use Rattle.dtx_exciter.specs.Emission.{given}
 use Rattle.dtx_exciter.specs.Log.{restart, line_of}
 use Rattle.dtx_exciter.specs.Packets.{told}
 use Rattle.dtx_exciter.specs.declared.answers.Told.{Told}
-use Rattle.dtx_files.proofs.Appended.{segment_bytes-append, log_text-append}
-use Rattle.dtx_files.proofs.GivenFew.{given_few}
+use Rattle.dtx_files.specs.AppendedLaws.{segment_bytes-append, log_text-append}
+use Rattle.dtx_files.specs.GivenFewLaws.{given_few}
 use Rattle.dtx_files.specs.LogText.{log_text}
 use Rattle.dtx_files.specs.Symbols.{byte_of_symbol, segment_bytes}
 use Rattle.dtx_net.specs.Lives.{last_life}
@@ -19,8 +19,8 @@ use Rattle.dtx_net.specs.Sent.{segments_of, lines_of}
 use Rattle.dtx_net.specs.Standing.{IsGiven}
 use Rattle.dtx_net.specs.Steps.{Step, packet_step, place_of, restart_step}
 use Rattle.dtx_net.specs.declared.net.Net.{Net}
-use Rattle.dtx_net.proofs.Grows.{segments_given, lines_given, segments_restarted, lines_restarted}
-use Rattle.dtx_net.proofs.Places.{set_here, set_elsewhere}
+use Rattle.dtx_net.specs.GrowsLaws.{segments_given, lines_given, segments_restarted, lines_restarted}
+use Rattle.dtx_net.specs.PlacesLaws.{set_here, set_elsewhere}
 use Rattle.dtx_plan.specs.declared.transmitter.Transmitter.{Transmitter}
 use Rattle.dtx_schedule.specs.Pair.{Brings}
 use Rattle.dtx_schedule.specs.Staged.{packets_given, AreSent, HasTransmitter, IsSomeStage, SentBy}

@@ -4,7 +4,7 @@ use Rattle.std.specs.Prelude.{Option, Some, Result, Ok, Err, slice_get}
 use Rattle.std.proofs.lemmas.Option.{same_Some}
 use Rattle.dtx_meaning.specs.Meaning.{IsFrontOf, with_outputs}
 use Rattle.dtx_net.specs.Steps.{Step, place_of}
-use Rattle.dtx_net.proofs.PlaceOf.{place_only}
+use Rattle.dtx_net.specs.PlaceOfLaws.{place_only}
 use Rattle.dtx_outside.specs.Shelf.{Files}
 use Rattle.dtx_outside.specs.declared.shelf.WriteNo.{WriteNo}
 use Rattle.dtx_plan.specs.Sound.{AreTransmitters}
@@ -15,20 +15,11 @@ use Rattle.dtx_schedule.specs.Staged.{AreNames}
 use Rattle.dtx_schedule.specs.TransmitterFiles.{files_of, log_file, played, played_outputs, symbol_file}
 use Rattle.dtx_schedule.specs.declared.pair.FileNames.{FileNames}
 use Rattle.dtx_schedule.proofs.Elsewhere.{log_elsewhere, symbols_elsewhere}
-use Rattle.dtx_schedule.proofs.FilesOf.{AreApart, at_places, contents_same, files_with, has_pair, put, set_pair, with_outputs-told}
+use Rattle.dtx_schedule.specs.FilesLaws.{AreApart, apart_of, at_places, contents_same, files_with, has_pair, put, set_pair, with_outputs-told}
 use Rattle.dtx_schedule.proofs.Fronts.{front_added, front_behind, front_of_same, front_same}
 
--- two at different places have different addresses
-differ : (ts : List Transmitter) (who other : ℕ) (t u : Transmitter) → AreTransmitters ts → slice_get ts who ≡ Some t → slice_get ts other ≡ Some u
-    → other ≢ who → t.address ≢ u.address
-differ ts who other t u are at_t at_u n same =
-    n (same_Some other who (sym (place_only ts other u are at_u) ∙ ap (λ a. place_of a ts) (sym same) ∙ place_only ts who t are at_t))
-
 pub are_apart : (ts : List Transmitter) (names : List FileNames) → AreTransmitters ts → AreNames ts names → AreApart ts
-are_apart ts names are named = record {
-  differ = λ who other t u at_t at_u n. differ ts who other t u are at_t at_u n;
-  small = named.small;
-}
+are_apart ts names are named = apart_of ts are named.small
 
 written : (ts : List Transmitter) (steps : List Step) (step : Step) (t : Transmitter) (symbols line : List ℕ) → slice_get ts step.who ≡ Some t
     → Brings ts steps step symbols line

@@ -1,3 +1,4 @@
+pub mod FilesLaws
 pub mod Inside
 pub mod Pair
 pub mod Played

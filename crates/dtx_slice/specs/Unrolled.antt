@@ -1,9 +1,7 @@
 -- From the levels of whole groups, 3312 each, back to their bytes: the inverse of the twelve trellis coders (ATSC A/53
--- Part 2,
--- trellis coding). The first group is at place s of its field, each further one four places on. Z2 is a level's highest
--- bit and
--- Z1 the one below. A coder's former Z2 is that of its symbol before, and before its first symbol a number of formers.
--- Rounds are counted from 0, 276 in a group; in each every coder has one symbol.
+-- Part 2, trellis coding). The first group is at place s of its field, each further one four places on. Z2 is a level's
+-- highest bit and Z1 the one below. A coder's former Z2 is that of its symbol before, and before its first symbol a
+-- number of formers. Rounds are counted from 0, 276 in a group; in each every coder has one symbol.
 use Rattle.std.specs.Prelude.{ℕ, ◌+◌, ◌-◌, ◌*◌, ◌/◌, ◌%◌, ◌==◌, if◌then◌else◌, List, length, map, slice_index}
 use Rattle.std.specs.List.{range_with_len}
 
@@ -49,8 +47,7 @@ unfoldable pub formers_after : ℕ → List ℕ → List ℕ → List ℕ
 formers_after s formers levels = map (former s formers levels (276 * level_groups levels)) (range_with_len 0 12)
 
 -- Z2 of coders 0 to 11, from the levels of the last twelve symbols of a field sync. These repeat the last symbols of a
--- field, and so
--- number q is of coder (q + 8) mod 12.
+-- field, and so number q is of coder (q + 8) mod 12.
 unfoldable pub formers_of : List ℕ → List ℕ
 formers_of last = map (λ e. slice_index last ((e + 4) % 12) / 4) (range_with_len 0 12)
 

@@ -16,8 +16,7 @@ pub fn sizes()
 {}
 
 /// Where the former Z2 are those of the coders' states, the bytes of whole groups come back from the levels that the
-/// coders give,
-/// and the former Z2 behind them are those of the states that the coders leave.
+/// coders give, and the former Z2 behind them are those of the states that the coders leave.
 pub fn inverts()
     ensures bytes { (s u : ℕ) (states bytes : List ℕ) → length bytes ≡ GROUP_BYTES * u
         → EachIndex bytes (λ j. slice_index bytes j < 256)

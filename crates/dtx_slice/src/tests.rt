@@ -58,8 +58,7 @@ fn only(bytes: &[u8; GROUP_BYTES]) -> Option<(usize, u8)> {
 }
 
 // Symbol 820 of a field sync repeats one of coder 8. Its next Z2 is 0, so that its first X2 is 1. In a group at place 4
-// of
-// its field that coder works on byte 4.
+// of its field that coder works on byte 4.
 #[test]
 fn the_first_repeated_symbol_is_of_coder_8(rt: HostRuntime) {
     let last = [4, 0, 0, 0, 0, 0, 0, 0, 0, 0, 0, 3];

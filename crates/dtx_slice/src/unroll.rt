@@ -47,8 +47,7 @@ impl Unroll {
     }
 
     /// The bytes of the group whose first segment is at place `first` of its field, from its levels. The next group
-    /// goes on
-    /// from the former Z2 that this one leaves.
+    /// goes on from the former Z2 that this one leaves.
     pub fn group(&mut self, first: u16, levels: &[u8; GROUP_LEVELS], bytes: &mut [u8; GROUP_BYTES])
         requires in_field { first < FIELD }
         requires whole { first % 4 ≡ 0 }

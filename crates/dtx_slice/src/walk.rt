@@ -9,8 +9,7 @@ use dtx_trellis::{CODERS, FIELD, GROUP_BYTES, GROUP_LEVELS, ROUNDS, SEGMENT_ROUN
 use std::simd::prelude::*;
 
 /// How many lanes a vector has. In the four rounds of a byte, lane p is of the coder at place p of the first of them;
-/// lanes 12 to 15
-/// are of none.
+/// lanes 12 to 15 are of none.
 const LANES: usize = 16;
 
 /// How many of a group's bytes each coder takes, one in four rounds.

@@ -1,6 +1,5 @@
 -- No branch holds more than the longest one. It stands here since the ghost members of an impl, a trait's laws, cite
--- lemmas of
--- specs/ alone.
+-- lemmas of specs/ alone.
 use Rattle.std.proofs.Common.{ℕ, ◌-◌, ◌≤◌, arith}
 use Rattle.std.proofs.Common.{mul-le-mul_left}
 use Rattle.dtx_laws.specs.Branches.{spreading, gathering}

@@ -63,8 +63,7 @@ fn lay<W: Widths<B, M>, const B: usize, const M: usize>(
 }
 
 /// Lays a row of one byte for each branch where the turn is at branch 0 and there are as many, and else one byte. Gives
-/// how
-/// many it laid, and the next branch.
+/// how many it laid, and the next branch.
 fn lay_next<W: Widths<B, M>, const B: usize, const M: usize>(
     block: &mut [u8],
     place: usize,

@@ -50,8 +50,7 @@ impl<W: Widths<B, M>, const B: usize, const M: usize> Lines<W, B, M> {
     }
 
     /// `B` and `M` are the numbers of an interleaver, the next branch is below `B`, and each branch holds as many bytes
-    /// as its
-    /// width.
+    /// as its width.
     pub(crate) fn known(&self)
         ensures numbers { IsInterleaver B M }
         ensures widths { HasWidths B W.widths self.now }

@@ -9,8 +9,8 @@ use Rattle.dtx_words.specs.declared.rows.Command.TheVariants.{Net}
 use Rattle.dtx_replay.specs.HeadlineOfFiles.{HasHeadline}
 
 -- The cause of an answer, of the counts of the shelf and of that of the sink. On `Done` all stand, so no fault was met.
--- `WriteFault` is also
--- answered where the line of `Done` could not be printed; want of memory may be met behind a fault.
+-- `WriteFault` is also answered where the line of `Done` could not be printed; want of memory may be met behind a
+-- fault.
 abbrev pub HasCause : Status → Counts → Counts → ℕ → ℕ → Type 0
 HasCause Done before now first last = (now ≡ before) × (last ≡ first)
 HasCause (Absent input) before now first last = Rose before.misses now.misses

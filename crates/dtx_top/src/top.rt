@@ -16,57 +16,44 @@ use dtx_words::{Command, command, finish, line, name_in_line};
 use std::alloc::Global;
 
 /// Does what the words ask for, over the files of the shelf, and prints a line to the sink at the end. The words are
-/// those after the
-/// program's name.
+/// those after the program's name.
 ///
 /// `adapt PLAN IN OUT` writes the feed of the stream IN under the plan of PLAN to OUT: its packets of 188 bytes, which
-/// begin with
-/// 0x47. Byte 0 of packet k becomes the cadence mark 0xB8 where 624 divides k and stays 0x47 elsewhere, and each
-/// placeholder, of
-/// packet identifier 0x1FFA, becomes an operations packet, which says from which states and when its group is sent (the
-/// profile's
-/// own, in the manner of ATSC A/110).
+/// begin with 0x47. Byte 0 of packet k becomes the cadence mark 0xB8 where 624 divides k and stays 0x47 elsewhere, and
+/// each placeholder, of packet identifier 0x1FFA, becomes an operations packet, which says from which states and when
+/// its group is sent (the profile's own, in the manner of ATSC A/110).
 ///
 /// `code IN OUT` writes the symbols of the stream or feed IN to OUT: those of all data segments and field syncs that
-/// its whole
-/// groups of four packets give (ATSC A/53 Part 2), one signed byte each in two's complement. Byte 0 of its packets is
-/// 0x47 or the
-/// mark 0xB8, and isn't sent.
+/// its whole groups of four packets give (ATSC A/53 Part 2), one signed byte each in two's complement. Byte 0 of its
+/// packets is 0x47 or the mark 0xB8, and isn't sent.
 ///
 /// `excite FEED ADDRESS DELAY OUT LOG` gives the packets of FEED, which are of any bytes, to one exciter, and writes
-/// the segments that it
-/// sends to OUT, one signed byte a symbol in two's complement, and its log to LOG (the profile's own, over ATSC A/53
-/// Part 2 and in the
-/// manner of ATSC A/110). ADDRESS is the transmitter's, 0 to 65,535, and DELAY is for how many ticks of 100 ns the feed
-/// is on its way to
-/// it, 0 to 4,294,967,295, both written as the numbers of `make` are.
+/// the segments that it sends to OUT, one signed byte a symbol in two's complement, and its log to LOG (the profile's
+/// own, over ATSC A/53 Part 2 and in the manner of ATSC A/110). ADDRESS is the transmitter's, 0 to 65,535, and DELAY is
+/// for how many ticks of 100 ns the feed is on its way to it, 0 to 4,294,967,295, both written as the numbers of `make`
+/// are.
 ///
 /// `receive IN OUT` writes the packets of the symbols IN to OUT: those of every run of segments that begins with one
-/// that looks like a
-/// field sync, each with up to ten wrong bytes of its word put right, or flagged where its word has no correction (ATSC
-/// A/53
-/// Part 2, the way back).
+/// that looks like a field sync, each with up to ten wrong bytes of its word put right, or flagged where its word has
+/// no correction (ATSC A/53 Part 2, the way back).
 ///
 /// `net PLAN` plays a network (the profile's own): it adapts the stream that the table `net` of PLAN names to
-/// `net.feed`, plays the
-/// plan's events so that what the transmitter of address A sends goes to `tx-A.sym` and its log to `tx-A.log`, and
-/// where a receiver is
-/// asked for, receives the symbols of its transmitter, with the plan's damage laid over them, into `net.ts`.
+/// `net.feed`, plays the plan's events so that what the transmitter of address A sends goes to `tx-A.sym` and its log
+/// to `tx-A.log`, and where a receiver is asked for, receives the symbols of its transmitter, with the plan's damage
+/// laid over them, into `net.ts`.
 ///
 /// `make SEED COUNT OUT` writes the packets 0 to COUNT - 1 that `dtx_make::packet` gives for SEED to OUT. SEED is 0 to
 /// 2^64 - 1 and COUNT 0 to 624,000,000, in decimal digits without sign and without a leading zero unless it is `0`.
 ///
 /// `hurt IN CHANGES OUT` writes the bytes of IN to OUT with the damage that CHANGES lists laid over them (the profile's
-/// own): each byte
-/// that an entry covers becomes that entry's `put`, in two's complement. Where an entry ends behind the file, OUT is
-/// written all the
-/// same, and the first such entry is answered.
+/// own): each byte that an entry covers becomes that entry's `put`, in two's complement. Where an entry ends behind the
+/// file, OUT is written all the same, and the first such entry is answered.
 ///
 /// Words that fit no command end in `Usage`.
 pub fn run<S: Shelf, O: Sink>(alloc: Global, words: &[Word], shelf: &mut S, out: &mut O) -> Status
     // Over files that are told: the answer is that of the words' meaning and its outputs are whole; or a fault or want
-    // of memory was met, and
-    // a front part of the outputs is written; or all was done, and the line alone could not be printed.
+    // of memory was met, and a front part of the outputs is written; or all was done, and the line alone could not be
+    // printed.
     ensures carried { IfSome (S.files shelf.old) (λ held. IsDone (means words.now held) (Some held) result
         (Rose (O.faults out.old) (O.faults out.new)) (S.files shelf.new)) }
 
@@ -102,12 +89,9 @@ pub fn run<S: Shelf, O: Sink>(alloc: Global, words: &[Word], shelf: &mut S, out:
         → IsSameAt name (S.files shelf.old) (S.files shelf.new)) }
 
     // The headline: for every packet stream and schedule, an exciter that from any earlier state is given the adapter's
-    // feed unchanged from a
-    // cadence mark on emits, from the first operations packet whose group begins 52 or more packets later, exactly the
-    // symbols of that feed,
-    // at moments that differ between transmitters only by the signalled offsets; and symbols with at most ten wrong
-    // bytes per codeword give
-    // its packets back.
+    // feed unchanged from a cadence mark on emits, from the first operations packet whose group begins 52 or more
+    // packets later, exactly the symbols of that feed, at moments that differ between transmitters only by the
+    // signalled offsets; and symbols with at most ten wrong bytes per codeword give its packets back.
     ensures headline { IfSome (S.files shelf.old) (λ held. result ≡ Status.Done
         → HasHeadlineOf (command_of words.now) words.now held (S.files shelf.new)) }
 {

@@ -1,6 +1,5 @@
 -- The twelve coders over the bytes of whole groups, from the state numbers of coders 0 to 11. The first group is at
--- place s of
--- its field (ATSC A/53 Part 2, trellis coding).
+-- place s of its field (ATSC A/53 Part 2, trellis coding).
 use Rattle.std.specs.Prelude.{ℕ, ◌*◌, ◌/◌, List, map, slice_index}
 use Rattle.std.specs.List.{range_with_len}
 use Rattle.dtx_trellis.specs.declared.group.TheConstants.{CODERS, GROUP_LEVELS, ROUNDS}

@@ -39,7 +39,7 @@ unfoldable pub lower : ℕ → List ℕ → ℕ → List ℕ
 lower s bytes e = map (λ t. pair_at s bytes e t % 2) (range_with_len 0 (ROUNDS * groups bytes))
 
 -- The coder of data symbol d, which stands in the segment d div 828 further on than the first. The coders move on by
--- four from
--- segment to segment, by the segment's place in its field; since 3 divides 312, a field's end changes nothing.
+-- four from segment to segment, by the segment's place in its field; since 3 divides 312, a field's end changes
+-- nothing.
 unfoldable pub coder_at : ℕ → ℕ → ℕ
 coder_at s d = (d % CODERS + 4 * ((s + d / SEGMENT_LEVELS) % 3)) % CODERS

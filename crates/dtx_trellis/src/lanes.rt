@@ -52,8 +52,8 @@ impl Lanes {
         }
     }
 
-    /// The lanes for round `round`, from those of the round before it. The last four arguments are
-    /// for the contract alone.
+    /// The lanes for round `round`, from those of the round before it. The last four arguments are for the contract
+    /// alone.
     #[inline(always)]
     pub(crate) fn moved_on(
         self,
@@ -75,8 +75,8 @@ impl Lanes {
         if begins_segment { self.turned() } else { self }
     }
 
-    /// One round: the states behind it, and its levels. `pairs` has each pair as bits 2 and 1. The
-    /// last four arguments are for the contract alone.
+    /// One round: the states behind it, and its levels. `pairs` has each pair as bits 2 and 1. The last four arguments
+    /// are for the contract alone.
     #[inline(always)]
     pub(crate) fn step(
         self,

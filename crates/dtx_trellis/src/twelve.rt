@@ -54,8 +54,8 @@ impl Twelve {
         self.states = given;
     }
 
-    /// The levels, 0 to 7, of the data of the group whose first segment is at place `first` of its
-    /// field, in the order of emission. The next group goes on from the states that this one leaves.
+    /// The levels, 0 to 7, of the data of the group whose first segment is at place `first` of its field, in the order
+    /// of emission. The next group goes on from the states that this one leaves.
     pub fn group(&mut self, first: u16, bytes: &[u8; GROUP_BYTES], levels: &mut [u8; GROUP_LEVELS])
         requires in_field { first < FIELD }
         requires whole { first % 4 ≡ 0 }

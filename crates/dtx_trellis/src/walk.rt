@@ -73,8 +73,8 @@ fn byte_group(
     emit(fourth, pairs, first, from, bytes, round + 3, levels)
 }
 
-/// One round that isn't its byte's last: writes its levels and gives the lanes for the next, which may be the first
-/// of the group's segment `segment`.
+/// One round that isn't its byte's last: writes its levels and gives the lanes for the next, which may be the first of
+/// the group's segment `segment`.
 #[inline(always)]
 fn advance(
     lanes: Lanes,

@@ -1,6 +1,5 @@
 -- What is known of the list of the randomizer's bytes. It stands here since the ghost members of an impl, the trait's
--- laws,
--- cite lemmas of specs/ alone.
+-- laws, cite lemmas of specs/ alone.
 use Rattle.std.proofs.Common.{◌≡◌, ℕ, ◌+◌, ◌*◌, ◌<◌, ◌^◌, List, length, get_or, sym, ap, ◌∙◌, subst, arith, lit<}
 use Rattle.std.proofs.lemmas.List.FromFn.{length-map-range_with_len, get_or-map-range_with_len}
 use Rattle.std.proofs.lemmas.Nat.Bits.{bit_at-lt}

@@ -1,6 +1,5 @@
 pub mod FileNames
 pub mod LinePieces
-pub mod NetworkNames
 pub mod Numbers
 pub mod Printed
 pub mod Repeated

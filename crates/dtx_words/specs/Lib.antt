@@ -6,3 +6,4 @@ pub mod NetworkNames
 pub mod Number
 pub mod Printed
 pub mod Rows
+pub mod NetworkNamesLaws

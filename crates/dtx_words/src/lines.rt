@@ -13,8 +13,8 @@ use dtx_outside::{Sink, SinkNo};
 use itoa::Buffer;
 
 /// Prints the line of an outcome: for `Done` the labels of the command's row with their numbers, as many as it shows;
-/// else that of the
-/// refusal, where `Same` and `Absent` have that name. After a refusal of the sink a front part of the line was printed.
+/// else that of the refusal, where `Same` and `Absent` have that name. After a refusal of the sink a front part of the
+/// line was printed.
 pub fn line<O: Sink>(
     command: Option<Command>,
     outcome: &Outcome,

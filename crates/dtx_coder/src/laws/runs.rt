@@ -1,6 +1,5 @@
 //! Groups that a coder is given one after another, whatever it was given before: from preset states on, the levels are
-//! one closed
-//! sum over all bytes since.
+//! one closed sum over all bytes since.
 
 ghost use Rattle.std.specs.Prelude.{◌≡◌, ℕ, ◌+◌, ◌-◌, ◌*◌, ◌/◌, ◌%◌, ◌<◌, ◌≤◌, if◌then◌else◌, ◌++◌, [], ◌∷◌, List};
 ghost use Rattle.std.specs.Prelude.{length, drop};
@@ -42,8 +41,7 @@ pub fn interleaved_groups()
 {}
 
 /// The segments of a run are those of the levels that its first states and all of its bytes give, and so are the states
-/// and the
-/// last twelve symbols behind it.
+/// and the last twelve symbols behind it.
 pub fn runs()
     ensures segments { (coder : Coding) (s : ℕ) (q : List ℕ) (groups : List Group) → IsRun s q coder groups
         → segments_of_groups coder groups ≡ run_segments coder.last
@@ -57,8 +55,7 @@ pub fn runs()
 {}
 
 /// A run with preset states behind other groups: of these only what they left in the branches, and the last twelve
-/// symbols,
-/// which end a first field sync, come into its segments.
+/// symbols, which end a first field sync, come into its segments.
 pub fn restarts()
     ensures segments { (coder : Coding) (front run : List Group) (r s : ℕ) (q : List ℕ) → AreInTurn r front
         → IsRun s q (after_groups coder front) run
@@ -72,8 +69,7 @@ pub fn restarts()
 {}
 
 /// A coder that runs along with a stream from an align: it begins so, and goes on so with each next group, with preset
-/// states
-/// or without.
+/// states or without.
 pub fn along()
     ensures begins { (coder : Coding) → AreStates coder.states
         → HasWidths BRANCHES (spreading BRANCH_STEP) coder.branches
@@ -87,10 +83,8 @@ pub fn along()
 {}
 
 /// Where the last preset states came 52 packets or more behind the align, nothing that the coder was given before the
-/// align is
-/// left: the next group's data segments, the states and the last twelve symbols are those of the packets since the
-/// align, with
-/// the coders begun from the preset states at their group.
+/// align is left: the next group's data segments, the states and the last twelve symbols are those of the packets since
+/// the align, with the coders begun from the preset states at their group.
 pub fn sent_along()
     ensures group { (packets : List (List ℕ)) (g : ℕ) (q : List ℕ) (coder : Coding) (group : Group)
         → RunsAlong packets g q coder → SETTLED_PACKETS ≤ GROUP_PACKETS * g → IsNext packets coder.states group

@@ -31,10 +31,8 @@ fn differing(pair: &([u8; CODEWORD], [u8; CODEWORD])) -> usize {
 }
 
 // Byte n behind an align comes from 208 * (n mod 52) bytes before it. Of packet 50, bytes 10350 to 10556, those of
-// branch 51 below
-// 10608 and of branch 50 below 10400 come from before the align, 10399, 10451, 10503, 10555 and 10398; of packet 51,
-// bytes 10557
-// to 10763, only 10607, which is its byte 50.
+// branch 51 below 10608 and of branch 50 below 10400 come from before the align, 10399, 10451, 10503, 10555 and 10398;
+// of packet 51, bytes 10557 to 10763, only 10607, which is its byte 50.
 #[test]
 fn one_byte_from_before_an_align_leaves_as_packet_51_comes_and_none_later(
     rt: HostRuntime,

@@ -19,8 +19,7 @@ pub fn kernel()
 {}
 
 /// There is just one answer to a word: two correctors give the same word and number, or both leave the word; and a
-/// codeword
-/// is corrected to itself, with no place changed: so is each that an encoder made.
+/// codeword is corrected to itself, with no place changed: so is each that an encoder made.
 pub fn one_answer()
     ensures same { (n k : ℕ) (word a b : List ℕ) (d e : ℕ) → n ≤ 255 → length word ≡ n → IsCorrected n k word a d
         → IsCorrected n k word b e → (a ≡ b) × (d ≡ e) }

@@ -1,7 +1,6 @@
 //! The laws of de-interleaving, over the definitions, for every number of branches: so they hold of every
-//! implementation of
-//! `Gather`, and of each behind every implementation of `Spread`. By `interleaving::any_cut` each holds for any cut
-//! into calls.
+//! implementation of `Gather`, and of each behind every implementation of `Spread`. By `interleaving::any_cut` each
+//! holds for any cut into calls.
 
 ghost use Rattle.std.specs.Prelude.{◌≡◌, ℕ, ◌-◌, ◌*◌, ◌<◌, ◌≤◌, ◌++◌, List, length, take, slice_index};
 ghost use Rattle.std.specs.List.{concat};
@@ -9,13 +8,15 @@ ghost use Rattle.dtx_laws.specs.Branches.{Branching, HasWidths, spreading, gathe
 ghost use Rattle.dtx_laws.specs.Branches.{leaving_calls};
 ghost use Rattle.dtx_laws.specs.Gathering.{gathered_at, gathered, IsGatheredBehind};
 
-/// Behind an align of both, whatever their branches held, what was spread and gathered is the input, late by
-/// `b * m * (b - 1)` bytes.
+/// Behind an align of both, whatever their branches held, what was spread and gathered is the input, late by `b * m *
+/// (b - 1)` bytes; and from branches full of zeros all bytes before it are zeros.
 pub fn back()
-    ensures { (b m : ℕ) (s g : Branching) (x : List ℕ) (n : ℕ) → HasWidths b (spreading m) s
+    ensures late { (b m : ℕ) (s g : Branching) (x : List ℕ) (n : ℕ) → HasWidths b (spreading m) s
         → HasWidths b (gathering b m) g → n < length x → b * m * (b - 1) ≤ n
         → slice_index (leaving_all b (aligned g) (leaving_all b (aligned s) x)) n
         ≡ slice_index x (n - b * m * (b - 1)) }
+    ensures zeros { (b m : ℕ) (x : List ℕ) (n : ℕ) → 0 < b → n < length x → n < b * m * (b - 1)
+        → slice_index (leaving_all b (zeroed b (gathering b m)) (leaving_all b (zeroed b (spreading m)) x)) n ≡ 0 }
 {}
 
 /// From aligned branches full of zeros, any calls give the map of places.
@@ -25,8 +26,7 @@ pub fn from_zeros()
 {}
 
 /// Behind an align, whatever the branches held, any calls give the map of places where the source has come, and else a
-/// byte that
-/// the branches held.
+/// byte that the branches held.
 pub fn behind_align()
     ensures { (b m : ℕ) (v : Branching) (calls : List (List ℕ)) → HasWidths b (gathering b m) v
         → IsGatheredBehind b m v.lists (concat calls) (leaving_calls b (aligned v) calls) }

@@ -22,8 +22,7 @@ pub fn from_zeros()
 {}
 
 /// Behind an align, whatever the branches held, any calls give the map of places where the source has come, and else a
-/// byte that
-/// the branches held.
+/// byte that the branches held.
 pub fn behind_align()
     ensures { (b m : ℕ) (v : Branching) (calls : List (List ℕ)) → HasWidths b (spreading m) v
         → IsInterleavedBehind b m v.lists (concat calls) (leaving_calls b (aligned v) calls) }

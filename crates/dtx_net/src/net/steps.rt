@@ -15,8 +15,7 @@ use std::alloc::{AllocError, Global};
 
 impl Net {
     /// The network of 1 to 35 transmitters whose addresses differ from each other. Nothing was done with it. All memory
-    /// is
-    /// taken here.
+    /// is taken here.
     pub fn new(alloc: Global, transmitters: &[Transmitter]) -> Result<Net, AllocError>
         requires { AreTransmitters transmitters.now }
         ensures { IfOk result (λ net. StandsFor transmitters.now net []) }
@@ -42,9 +41,8 @@ impl Net {
     }
 
     /// The transmitter at a place of the list is given one more packet, of any bytes. What is answered, and what the
-    /// air then
-    /// holds, is what its exciter alone answers and gives to the packets of its last life and this one. All others
-    /// stay.
+    /// air then holds, is what its exciter alone answers and gives to the packets of its last life and this one. All
+    /// others stay.
     pub fn step(&mut self, who: usize, packet: &Packet, air: &mut Air) -> Told
         requires { who < vec_len self.old.exciters }
         ensures given { (ts : List Transmitter) (steps : List Step) (t : Transmitter) → StandsFor ts self.old steps

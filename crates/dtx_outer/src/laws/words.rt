@@ -10,8 +10,7 @@ ghost use Rattle.dtx_laws.specs.Words.{correction};
 ghost use Rattle.dtx_outer.specs.Inner.{Kept, StandsFor, waiting, place_of, word_at, IsComplete, IsGood, IsBad};
 
 /// `waiting n b m` is the least number of blocks of `n` bytes that cover the delay of `b * m * (b - 1)` bytes. For the
-/// air it
-/// is 52.
+/// air it is 52.
 pub fn waits()
     ensures covers { (n b m : ℕ) → 0 < n → b * m * (b - 1) ≤ n * waiting n b m }
     ensures least { (n b m q : ℕ) → 0 < n → b * m * (b - 1) ≤ n * q → waiting n b m ≤ q }
@@ -19,8 +18,7 @@ pub fn waits()
 {}
 
 /// Whatever a value stands for, either its run has come to fewer blocks than give no packet, or the next block gives
-/// the packet
-/// with this number.
+/// the packet with this number.
 pub fn either()
     ensures { (n k b m : ℕ) (inner : Kept) (y : List ℕ) → 0 < n → StandsFor n k b m inner y
         → (length y < n * waiting n b m) ⊎ ((j : ℕ) × (length y ≡ n * (waiting n b m + j))) }
@@ -34,8 +32,7 @@ pub fn the_word()
 {}
 
 /// A word whose bytes have all come stays as it is when more bytes come: a block of any content can bring its call. And
-/// each
-/// word's bytes have come when the block that gives it has.
+/// each word's bytes have come when the block that gives it has.
 pub fn complete()
     ensures stays { (n b m : ℕ) (y z : List ℕ) (k : ℕ) → IsComplete n b m (length y) k
         → word_at n b m (y ++ z) k ≡ word_at n b m y k }

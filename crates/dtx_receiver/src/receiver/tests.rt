@@ -8,8 +8,7 @@ use dtx_whiten::{Atsc, PACKET_DATA};
 use std::test::Fail;
 
 /// What the packets of some calls come to: how many there are, how many bytes were put right, how many were flagged,
-/// and their
-/// bytes in order as one number.
+/// and their bytes in order as one number.
 #[derive(Clone, Copy, Debug, PartialEq, Eq)]
 struct Totals {
     packets: u32,

@@ -28,7 +28,9 @@ returns-in-None-clause-carried g c =
     let f = c.args.files in
     let names : List (List ℕ) = f.feed.now ∷ f.output.now ∷ f.log.now ∷ [] in
     let means = λ (held : Files).
-    meaning single_packets (exciting c.args.address c.args.delay) 0 (f.output.now ∷ f.log.now ∷ []) (get held f.feed.now) in
+    meaning single_packets (exciting c.args.address c.args.delay) 0 (f.output.now ∷ f.log.now ∷ [])
+    (get held f.feed.now) in
     carried_told (excite_at c.args.address c.args.delay f.feed.now f.output.now f.log.now) means
-    (g.S.Shelf.files c.args.shelf.now) _ c.excite_apart.result (λ held told. apart_means names (means held) c.in-None.ensures)
+    (g.S.Shelf.files c.args.shelf.now) _ c.excite_apart.result
+    (λ held told. apart_means names (means held) c.in-None.ensures)
     c.excite_apart.ensures.carried

@@ -1,4 +1,4 @@
-use Rattle.std.proofs.Common.{◌++◌, length, ap, ◌∙◌, arith}
+use Rattle.std.proofs.Common.{length, ap, arith}
 use Rattle.std.proofs.lemmas.List.{length-append}
 use Rattle.dtx_jobs.proofs.BytesOf.{gathered_on}
 use Rattle.dtx_jobs.proofs.reception.gather.Goals as goal

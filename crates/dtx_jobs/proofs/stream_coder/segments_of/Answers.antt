@@ -4,5 +4,6 @@ use Rattle.dtx_jobs.proofs.stream_coder.segments_of.Goals as goal
 
 pub returns : goal.returns
 returns c = λ stream long.
-    let same : 4 * (c.args.packets / 4) + c.div_ceil.result ≡ 4 * (length stream / 4) + (length stream / 4 + 77) / 78 = omega (arith, c.div_ceil.ensures, long) in
+    let same : 4 * (c.args.packets / 4) + c.div_ceil.result
+    ≡ 4 * (length stream / 4) + (length stream / 4 + 77) / 78 = omega (arith, c.div_ceil.ensures, long) in
     same ∙ sym (length-a53 stream)

@@ -1,4 +1,4 @@
-use Rattle.std.proofs.Common.{ℕ, List, sym, subst}
+use Rattle.std.proofs.Common.{sym, subst}
 use Rattle.dtx_receiver.specs.IntervalsLaws.{no_runs}
 use Rattle.dtx_receiver.specs.Intervals.{NoneLooks}
 use Rattle.dtx_jobs.specs.ReceivedLaws.{no_sync_answered, nothing_received}

@@ -1,5 +1,5 @@
 use Rattle.dtx_net.specs.LastLifeLaws.{lives_without, lives_elsewhere}
-use Rattle.dtx_net.specs.GrowsLaws.{segments_same, lines_same}
+use Rattle.dtx_net.specs.GrowsLaws.{own_same, segments_same, lines_same}
 use Rattle.dtx_net.proofs.laws.interleavings.Goals as goal
 
 pub returns-clause-segments : goal.returns-clause-segments
@@ -7,6 +7,9 @@ returns-clause-segments c = segments_same
 
 pub returns-clause-lines : goal.returns-clause-lines
 returns-clause-lines c = lines_same
+
+pub returns-clause-own : goal.returns-clause-own
+returns-clause-own c = own_same
 
 pub returns-clause-anywhere : goal.returns-clause-anywhere
 returns-clause-anywhere c = lives_without

@@ -21,7 +21,8 @@ returns-clause-fed g c = λ given long stand.
     let gives = g.E.Engine.gives c.feed.new.self c.feed.new.bytes in
     let place : c.sizes-shape.result.unit * c.args.first ≡ length given =
     ap (λ (s : Shape). s.unit * c.args.first) c.sizes-shape.ensures.same ∙ sym long in
-    let here : c.lay.new.bytes ≡ laid damage (length given) bytes = c.lay.ensures ∙ ap (λ n. laid damage n bytes) place in
+    let here : c.lay.new.bytes ≡ laid damage (length given) bytes = c.lay.ensures
+    ∙ ap (λ n. laid damage n bytes) place in
     let fed = c.feed.ensures.fed (hurt damage given) (length-hurt damage given ∙ long) stand.1 in
     let all = hurt_fed damage making given bytes stands gives
     (subst (λ (b : List ℕ). IsFed making (hurt damage given) b stands gives) here fed) in

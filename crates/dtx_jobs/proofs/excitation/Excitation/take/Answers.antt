@@ -1,4 +1,5 @@
-use Rattle.std.proofs.Common.{rules, ◌≡◌, ◌≤◌, ◌+◌, ◌*◌, ◌++◌, ◌∷◌, [], ℕ, ℤ, List, length, map, take, sym, ap, subst, ◌∙◌, arith, append_assoc}
+use Rattle.std.proofs.Common.{◌≡◌, ◌*◌, ◌++◌, ◌∷◌, [], ℕ, ℤ, List, length, map, take, sym, ap, subst, ◌∙◌, arith}
+use Rattle.std.proofs.Common.{append_assoc}
 use Rattle.std.proofs.lemmas.List.{length-append, length-map, length-take}
 use Rattle.dtx_coder.specs.Stream.{symbols_of}
 use Rattle.dtx_exciter.specs.Emission.{given, emission}
@@ -8,7 +9,7 @@ use Rattle.dtx_files.specs.GivenFewLaws.{given_few}
 use Rattle.dtx_files.specs.LogText.{log_text}
 use Rattle.dtx_files.specs.Symbols.{byte_of_symbol}
 use Rattle.dtx_jobs.specs.ExciteLaws.{sent_push, logged_push}
-use Rattle.dtx_jobs.specs.Life.{sent_bytes, logged_bytes, life_tally, tally_with, HasRoom}
+use Rattle.dtx_jobs.specs.Life.{life_tally, tally_with, HasRoom}
 use Rattle.dtx_jobs.specs.declared.life_tally.LifeTally.{LifeTally}
 use Rattle.dtx_jobs.proofs.LifeOn.{has_room, tally_push}
 use Rattle.dtx_jobs.proofs.excitation.Excitation.take.Goals as goal
@@ -43,7 +44,13 @@ push-requires c =
     let taken = c.take-told.ensures old.address old.delay some.0 some.1.exciter in
     let count : ℕ = 832 * c.take-told.new.air.segments in (
       omega arith,
-      omega (arith, taken.air.counted, given_few old.address old.delay (some.0 ++ c.args.packet.now.0 ∷ []), c.requires.symbols, length-take count c.take-told.new.air.symbols),
+      omega (
+        arith,
+        taken.air.counted,
+        given_few old.address old.delay (some.0 ++ c.args.packet.now.0 ∷ []),
+        c.requires.symbols,
+        length-take count c.take-told.new.air.symbols,
+      ),
     )
 
 pub returns-clause-more_symbols : goal.returns-clause-more_symbols
@@ -53,7 +60,15 @@ returns-clause-more_symbols c =
     let taken = c.take-told.ensures old.address old.delay some.0 some.1.exciter in
     let count : ℕ = 832 * c.take-told.new.air.segments in
     let sent : List ℤ = take count c.take-told.new.air.symbols in
-    omega (arith, taken.air.counted, given_few old.address old.delay (some.0 ++ c.args.packet.now.0 ∷ []), ap length c.push.ensures, length-append old.symbols (map byte_of_symbol sent), length-map sent byte_of_symbol, length-take count c.take-told.new.air.symbols)
+    omega (
+      arith,
+      taken.air.counted,
+      given_few old.address old.delay (some.0 ++ c.args.packet.now.0 ∷ []),
+      ap length c.push.ensures,
+      length-append old.symbols (map byte_of_symbol sent),
+      length-map sent byte_of_symbol,
+      length-take count c.take-told.new.air.symbols,
+    )
 
 pub returns-clause-life : goal.returns-clause-life
 returns-clause-life c = λ ps life.

@@ -1,4 +1,4 @@
-use Rattle.std.proofs.Common.{◌≡◌, ◌+◌, ◌*◌, ◌/◌, ◌≤◌, ◌++◌, ℕ, List, length, ap, ap₂, sym, subst, ◌∙◌, arith}
+use Rattle.std.proofs.Common.{ℕ, List, ap, ap₂, sym, subst, ◌∙◌, arith}
 use Rattle.dtx_engine.specs.Made.{Made}
 use Rattle.dtx_packets.specs.PacketLaws.{packets_of-append}
 use Rattle.dtx_packets.specs.Packets.{packets_of}
@@ -21,7 +21,8 @@ returns-clause-fed c = λ before long stand.
     let bytes = c.args.bytes.now in
     let all = packets_of-append before bytes (omega (arith, long)) in
     let sent = c.take_all.ensures.sent (packets_of before) (record { exciter = stand.exciter; tally = stand.tally }) in
-    let logged = c.take_all.ensures.logged (packets_of before) (record { exciter = stand.exciter; tally = stand.tally }) in
+    let logged = c.take_all.ensures.logged (packets_of before)
+    (record { exciter = stand.exciter; tally = stand.tally }) in
     let made : List ℕ → List ℕ → Made = λ symbols lines. record { first = symbols; second = lines } in
     record {
       stand = subst (IsLife c.take_all.new.self) (sym all)

@@ -1,4 +1,4 @@
-use Rattle.std.proofs.Common.{◌≤◌, arith, ap}
+use Rattle.std.proofs.Common.{arith, ap}
 use Rattle.dtx_jobs.specs.declared.tally.Tally.{Tally}
 use Rattle.dtx_jobs.proofs.Tallied.{tally_none}
 use Rattle.dtx_jobs.proofs.reception.Reception.new.Goals as goal
@@ -13,9 +13,9 @@ returns c =
     record {
       receiving = record { receiver = c.in_ok-new.ensures; tally = tally_none c.new-3.result is };
       bounded = record {
-          runs = omega (arith, runs);
-          packets = omega (arith, packets);
-          fixed = omega (arith, fixed);
-          flagged = omega (arith, flagged);
-        };
+        runs = omega (arith, runs);
+        packets = omega (arith, packets);
+        fixed = omega (arith, fixed);
+        flagged = omega (arith, flagged);
+      };
     }

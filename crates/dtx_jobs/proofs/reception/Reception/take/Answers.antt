@@ -12,14 +12,22 @@ returns-clause-receiving c = λ segments is.
     let batch = c.as_slice.result.now in
     let x = c.to_symbols.new.segment in
     let old : Tally = c.args.self.now.tally in
-    let told : c.begun.result ≡ begun (tracking segments x) = c.begun.ensures.begun ∙ ap begun (c.take-tracking.ensures.answer segments is.receiver) in
-    let counted : tally_with (record old { segments = old.segments + 1; runs = old.runs + c.begun.result }) batch ≡ tally_of (segments ++ x ∷ []) (given (segments ++ x ∷ [])) =
+    let told : c.begun.result ≡ begun (tracking segments x) = c.begun.ensures.begun
+    ∙ ap begun (c.take-tracking.ensures.answer segments is.receiver) in
+    let counted : tally_with (record old { segments = old.segments + 1; runs = old.runs + c.begun.result }) batch
+    ≡ tally_of (segments ++ x ∷ []) (given (segments ++ x ∷ [])) =
     ap (λ n. tally_with (record old { segments = old.segments + 1; runs = old.runs + n }) batch) told
-    ∙ ap (λ (t : Tally). tally_with (record t { segments = t.segments + 1; runs = t.runs + begun (tracking segments x) }) batch) is.tally
-    ∙ tally_on segments x batch (c.take-tracking.ensures.packets segments is.receiver ∙ ap (λ z. given segments ++ z) (sym c.as_slice.ensures.value)) in
+    ∙ ap (λ (t : Tally). tally_with
+    (record t { segments = t.segments + 1; runs = t.runs + begun (tracking segments x) }) batch) is.tally
+    ∙ tally_on segments x batch
+    (c.take-tracking.ensures.packets segments is.receiver
+    ∙ ap (λ z. given segments ++ z) (sym c.as_slice.ensures.value)) in
     record {
-      receiver = subst (λ s. StandsFor c.take-tracking.new.self (segments ++ s ∷ [])) c.to_symbols.ensures (c.take-tracking.ensures.stands segments is.receiver);
-      tally = subst (λ s. c.add.new.self ≡ tally_of (segments ++ s ∷ []) (given (segments ++ s ∷ []))) c.to_symbols.ensures (c.add.ensures.counted ∙ counted);
+      receiver = subst (λ s. StandsFor c.take-tracking.new.self (segments ++ s ∷ [])) c.to_symbols.ensures
+          (c.take-tracking.ensures.stands segments is.receiver);
+      tally = subst (λ s. c.add.new.self
+          ≡ tally_of (segments ++ s ∷ []) (given (segments ++ s ∷ []))) c.to_symbols.ensures
+          (c.add.ensures.counted ∙ counted);
     }
 
 pub returns-clause-bounded : goal.returns-clause-bounded

@@ -1,11 +1,12 @@
-use Rattle.std.proofs.Common.{◌≡◌, ◌+◌, ◌-◌, ◌*◌, ◌/◌, ◌<◌, ◌++◌, [], length, take, drop, get_or, refl, ap, sym, subst, ◌∙◌, arith, append_assoc}
+use Rattle.std.proofs.Common.{◌≡◌, ◌*◌, ◌/◌, ◌<◌, ◌++◌, [], length, take, drop, get_or, ap, sym, subst, ◌∙◌, arith}
+use Rattle.std.proofs.Common.{append_assoc}
 use Rattle.std.proofs.lemmas.List.{append-nil}
 use Rattle.dtx_packets.specs.Chunks.{get_or-first_chunks}
 use Rattle.dtx_receiver.specs.Packets.{given}
 use Rattle.dtx_jobs.specs.Receive.{bytes_of}
 use Rattle.dtx_jobs.specs.ReceiveLaws.{bytes_of-append}
 use Rattle.dtx_jobs.specs.Reception.{IsReceiving}
-use Rattle.dtx_jobs.specs.SymbolFile.{symbols, segments_from}
+use Rattle.dtx_jobs.specs.SymbolFile.{segments_from}
 use Rattle.dtx_jobs.specs.SymbolFileLaws.{segment_on}
 use Rattle.dtx_jobs.proofs.reception.Reception.take_all.Goals as goal
 

@@ -1,4 +1,4 @@
-use Rattle.std.proofs.Common.{◌≡◌, ◌+◌, ◌*◌, ◌/◌, ◌≤◌, ◌++◌, length, ap, sym, subst, ◌∙◌, arith}
+use Rattle.std.proofs.Common.{ap, sym, subst, ◌∙◌, arith}
 use Rattle.dtx_engine.specs.Made.{only}
 use Rattle.dtx_receiver.specs.Packets.{given}
 use Rattle.dtx_jobs.specs.Receive.{bytes_of}
@@ -24,10 +24,11 @@ returns-clause-fed c = λ before long stand.
     let all = segments_of-append before bytes (omega (arith, long)) in
     record {
       stand = record {
-          receiving = subst (IsReceiving c.take_all.new.self) (sym all)
-              (c.take_all.ensures.receiving (segments_of before) (record { receiver = was.receiver; tally = was.tally }));
-          bounded = c.take_all.ensures.bounded;
-        };
+        receiving = subst (IsReceiving c.take_all.new.self) (sym all)
+            (c.take_all.ensures.receiving (segments_of before) (record { receiver = was.receiver; tally = was.tally }));
+        bounded = c.take_all.ensures.bounded;
+      };
       made = ap (λ s. only (bytes_of (given s))) all
-          ∙ ap only (c.take_all.ensures.brought (segments_of before) (record { receiver = was.receiver; tally = was.tally }));
+          ∙ ap only (c.take_all.ensures.brought (segments_of before)
+          (record { receiver = was.receiver; tally = was.tally }));
     }

@@ -1,4 +1,4 @@
-use Rattle.std.proofs.Common.{◌*◌, ◌≤◌, ap, ◌∙◌, arith}
+use Rattle.std.proofs.Common.{ap, arith}
 use Rattle.dtx_engine.specs.Made.{only}
 use Rattle.dtx_jobs.specs.ReceiveLaws.{receives_last}
 use Rattle.dtx_jobs.specs.SymbolFile.{segments_of}

@@ -1,20 +1,24 @@
-use Rattle.std.proofs.Common.{rules, ◌≡◌, ◌≤◌, ℕ, ℤ, ◌+◌, ◌*◌, ◌%◌, ◌==◌, ◌++◌, nat_le, List, length, map, take, ap, sym, ◌∙◌, arith, append_assoc}
+use Rattle.std.proofs.Common.{rules, ◌≡◌, ◌≤◌, ℕ, ℤ, ◌*◌, ◌%◌, ◌==◌, ◌++◌, nat_le, List, length, map, take, ap, sym}
+use Rattle.std.proofs.Common.{◌∙◌, arith, append_assoc}
 use Rattle.std.proofs.lemmas.List.{length-append, length-map, length-take}
 use Rattle.dtx_files.specs.Symbols.{byte_of_symbol}
 use Rattle.dtx_packets.specs.declared.packet.Packet as packet
-use Rattle.dtx_jobs.specs.Symbols.{symbol_bytes}
 use Rattle.dtx_jobs.proofs.StreamSymbols.{next_group, second_is, sync_is, few_coded, group_stands, group_brings}
 use Rattle.dtx_jobs.proofs.stream_coder.StreamCoder.code_group.Goals as goal
 
 pub shared_ref_as_front-push : goal.shared_ref_as_front-push
 shared_ref_as_front-push c =
-    let few : c.group.new.air.segments ≤ 5 = few_coded c.args.self.now.coder c.group.new.self _ c.group.new.air.segments c.group.new.air.symbols c.group.ensures in
+    let few : c.group.new.air.segments ≤ 5 =
+    few_coded c.args.self.now.coder c.group.new.self _ c.group.new.air.segments c.group.new.air.symbols
+    c.group.ensures in
     omega (arith, few)
 
 pub push-requires : goal.push-requires
 push-requires c =
     let count : ℕ = 832 * c.group.new.air.segments in
-    let few : c.group.new.air.segments ≤ 5 = few_coded c.args.self.now.coder c.group.new.self _ c.group.new.air.segments c.group.new.air.symbols c.group.ensures in
+    let few : c.group.new.air.segments ≤ 5 =
+    few_coded c.args.self.now.coder c.group.new.self _ c.group.new.air.segments c.group.new.air.symbols
+    c.group.ensures in
     (omega arith, omega (arith, few, c.requires.room, length-take count c.group.new.air.symbols))
 
 pub returns-clause-coder : goal.returns-clause-coder
@@ -22,9 +26,12 @@ returns-clause-coder c = λ packets long stands.
     let place : ℕ = c.args.first % 624 in
     let four : length c.args.self.now.group ≡ 4 = search rules in
     let all : List (List ℕ) = map (λ (p : packet.Packet). p.0) c.args.self.now.group in
-    let next = next_group packets c.args.self.now.coder.states c.args.first place (place % 312) (nat_le 312 place) (place % 312 == 0) all long c.requires.grouped
-    (length-map c.args.self.now.group (λ (p : packet.Packet). p.0) ∙ four) (search rules) (search rules) (second_is place) (sync_is (place % 312)) in
-    group_stands c.args.self.now.coder c.group.new.self packets _ c.group.new.air.segments c.group.new.air.symbols stands next c.group.ensures
+    let next = next_group packets c.args.self.now.coder.states c.args.first place (place % 312) (nat_le 312 place)
+    (place % 312 == 0) all long c.requires.grouped
+    (length-map c.args.self.now.group (λ (p : packet.Packet). p.0) ∙ four) (search rules) (search rules)
+    (second_is place) (sync_is (place % 312)) in
+    group_stands c.args.self.now.coder c.group.new.self packets _ c.group.new.air.segments c.group.new.air.symbols
+    stands next c.group.ensures
 
 pub returns-clause-brought : goal.returns-clause-brought
 returns-clause-brought c = λ packets bytes long stands is.
@@ -32,14 +39,27 @@ returns-clause-brought c = λ packets bytes long stands is.
     let four : length c.args.self.now.group ≡ 4 = search rules in
     let all : List (List ℕ) = map (λ (p : packet.Packet). p.0) c.args.self.now.group in
     let sent : List ℕ = map byte_of_symbol (take (832 * c.group.new.air.segments) c.group.new.air.symbols) in
-    let next = next_group packets c.args.self.now.coder.states c.args.first place (place % 312) (nat_le 312 place) (place % 312 == 0) all long c.requires.grouped
-    (length-map c.args.self.now.group (λ (p : packet.Packet). p.0) ∙ four) (search rules) (search rules) (second_is place) (sync_is (place % 312)) in
-    group_brings c.args.self.now.coder c.group.new.self packets _ c.group.new.air.segments c.group.new.air.symbols stands next c.group.ensures
-    ∙ ap (λ z. z ++ sent) is ∙ append_assoc bytes c.args.self.now.symbols sent ∙ ap (λ z. bytes ++ z) (sym c.push.ensures)
+    let next = next_group packets c.args.self.now.coder.states c.args.first place (place % 312) (nat_le 312 place)
+    (place % 312 == 0) all long c.requires.grouped
+    (length-map c.args.self.now.group (λ (p : packet.Packet). p.0) ∙ four) (search rules) (search rules)
+    (second_is place) (sync_is (place % 312)) in
+    group_brings c.args.self.now.coder c.group.new.self packets _ c.group.new.air.segments c.group.new.air.symbols
+    stands next c.group.ensures
+    ∙ ap (λ z. z ++ sent) is ∙ append_assoc bytes c.args.self.now.symbols sent
+    ∙ ap (λ z. bytes ++ z) (sym c.push.ensures)
 
 pub returns-clause-long : goal.returns-clause-long
 returns-clause-long c =
     let count : ℕ = 832 * c.group.new.air.segments in
-    let few : c.group.new.air.segments ≤ 5 = few_coded c.args.self.now.coder c.group.new.self _ c.group.new.air.segments c.group.new.air.symbols c.group.ensures in
+    let few : c.group.new.air.segments ≤ 5 =
+    few_coded c.args.self.now.coder c.group.new.self _ c.group.new.air.segments c.group.new.air.symbols
+    c.group.ensures in
     let sent : List ℤ = take count c.group.new.air.symbols in
-    omega (arith, few, ap length c.push.ensures, length-append c.args.self.now.symbols (map byte_of_symbol sent), length-map sent byte_of_symbol, length-take count c.group.new.air.symbols)
+    omega (
+      arith,
+      few,
+      ap length c.push.ensures,
+      length-append c.args.self.now.symbols (map byte_of_symbol sent),
+      length-map sent byte_of_symbol,
+      length-take count c.group.new.air.symbols,
+    )

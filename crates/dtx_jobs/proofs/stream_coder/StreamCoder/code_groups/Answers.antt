@@ -1,16 +1,18 @@
-use Rattle.std.proofs.Common.{◌≡◌, ◌+◌, ◌-◌, ◌*◌, ◌/◌, ◌%◌, ◌<◌, ◌≤◌, ◌++◌, ℕ, List, [], length, take, drop, get_or, map, ap, sym, subst, ◌∙◌, arith, append_assoc}
+use Rattle.std.proofs.Common.{◌≡◌, ◌+◌, ◌*◌, ◌/◌, ◌<◌, ◌≤◌, ◌++◌, ℕ, List, [], length, take, drop, get_or, map, ap}
+use Rattle.std.proofs.Common.{sym, subst, ◌∙◌, arith, append_assoc}
 use Rattle.std.proofs.lemmas.List.{length-append}
 use Rattle.std.proofs.lemmas.List.FromFn.{length-map-range_with_len}
 use Rattle.dtx_coder.specs.Groups.{StandsFor}
 use Rattle.dtx_packets.specs.Chunks.{get_or-first_chunks}
 use Rattle.dtx_packets.specs.PacketLaws.{packets_of-piece, packets_from-append}
-use Rattle.dtx_packets.specs.Packets.{packet_at, packets_from, packets_of, whole_packets}
+use Rattle.dtx_packets.specs.Packets.{packet_at, packets_from, packets_of}
 use Rattle.dtx_packets.specs.declared.packet.Packet.{Packet}
 use Rattle.dtx_jobs.specs.Symbols.{symbol_bytes}
 use Rattle.dtx_jobs.proofs.stream_coder.StreamCoder.code_groups.Goals as goal
 
 -- the packets of group i of a piece, behind those before
-group_on : (before : List (List ℕ)) (bytes : List ℕ) (i : ℕ) (chunk : List ℕ) (group : List (List ℕ)) → 752 * i + 752 ≤ length bytes
+group_on : (before : List (List ℕ)) (bytes : List ℕ) (i : ℕ) (chunk : List ℕ) (group : List (List ℕ))
+    → 752 * i + 752 ≤ length bytes
     → chunk ≡ take 752 (drop (752 * i) bytes) → group ≡ packets_of chunk
     → (before ++ packets_from bytes 0 (4 * i)) ++ group ≡ before ++ packets_from bytes 0 (4 * (i + 1))
 group_on before bytes i chunk group within is cut =
@@ -27,7 +29,8 @@ group_on before bytes i chunk group within is cut =
 long_so_far : (before : List (List ℕ)) (bytes : List ℕ) (first i : ℕ) → length before ≡ first
     → length (before ++ packets_from bytes 0 (4 * i)) ≡ first + 4 * i
 long_so_far before bytes first i long =
-    length-append before (packets_from bytes 0 (4 * i)) ∙ omega (arith, long, length-map-range_with_len (packet_at bytes) 0 (4 * i))
+    length-append before (packets_from bytes 0 (4 * i))
+    ∙ omega (arith, long, length-map-range_with_len (packet_at bytes) 0 (4 * i))
 
 pub loop-i-preserved : goal.loop-i-preserved
 loop-i-preserved c =
@@ -40,8 +43,10 @@ loop-i-preserved c =
     let group : List (List ℕ) = map (λ (p : Packet). p.0) c.cut_group.new.group in
     record {
       coder = λ before long stands.
-          subst (StandsFor c.code_group.new.self.coder) (group_on before bytes i _ group (omega (arith, here)) chunk c.cut_group.ensures)
-          (c.code_group.ensures.coder (before ++ packets_from bytes 0 (4 * i)) (long_so_far before bytes c.args.first i long)
+          subst (StandsFor c.code_group.new.self.coder)
+          (group_on before bytes i _ group (omega (arith, here)) chunk c.cut_group.ensures)
+          (c.code_group.ensures.coder (before ++ packets_from bytes 0 (4 * i))
+          (long_so_far before bytes c.args.first i long)
           (c.loop-i.invariant.coder before long stands));
       brought = λ before long stands.
           ap symbol_bytes (sym (group_on before bytes i _ group (omega (arith, here)) chunk c.cut_group.ensures))

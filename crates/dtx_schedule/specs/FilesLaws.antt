@@ -7,9 +7,12 @@ use Rattle.std.proofs.lemmas.Option.{same_Some}
 use Rattle.dtx_outside.specs.Laws.{get-insert_same, get-insert_other, insert-insert, insert_swap}
 use Rattle.dtx_outside.specs.Shelf.{Files, with_file}
 use Rattle.dtx_meaning.specs.Meaning.{Outputs, IsNoOutput, with_outputs}
+use Rattle.dtx_net.specs.Steps.{place_of}
+use Rattle.dtx_net.specs.PlaceOfLaws.{place_only}
+use Rattle.dtx_plan.specs.Sound.{AreTransmitters}
 use Rattle.dtx_plan.specs.declared.transmitter.Transmitter.{Transmitter}
 use Rattle.dtx_words.specs.NetworkNames.{symbol_name, log_name}
-use Rattle.dtx_words.proofs.NetworkNames.{symbols_differ, logs_differ, symbols_no_logs}
+use Rattle.dtx_words.specs.NetworkNamesLaws.{symbols_differ, logs_differ, symbols_no_logs}
 use Rattle.dtx_schedule.specs.Pair.{HasPair, with_pair}
 use Rattle.dtx_schedule.specs.TransmitterFiles.{Contents, files_of}
 
@@ -44,6 +47,15 @@ pub record AreApart (ts : List Transmitter) : Type 0 where
   pub differ : (who other : ℕ) (t u : Transmitter) → slice_get ts who ≡ Some t → slice_get ts other ≡ Some u → other ≢ who
       → t.address ≢ u.address
   pub small : (who : ℕ) (t : Transmitter) → slice_get ts who ≡ Some t → t.address < 2 ^ 16
+
+-- those of a plan
+pub apart_of : (ts : List Transmitter) → AreTransmitters ts
+    → ((who : ℕ) (t : Transmitter) → slice_get ts who ≡ Some t → t.address < 2 ^ 16) → AreApart ts
+apart_of ts are small = record {
+  differ = λ who other t u at_t at_u n same.
+      n (same_Some other who (sym (place_only ts other u are at_u) ∙ ap (λ a. place_of a ts) (sym same) ∙ place_only ts who t are at_t));
+  small = small;
+}
 
 not_suc : (who other : ℕ) → other ≢ who → suc other ≢ suc who
 not_suc who other n same = n (omega (arith, same))

@@ -1,0 +1,11 @@
+use Rattle.dtx_jobs.proofs.PlacedPackets.{bytes_stay, changed_pid, length-placed, lengths_stay, other_stays}
+use Rattle.dtx_jobs.proofs.laws.placing.what_stays.Goals as goal
+
+pub returns : goal.returns
+returns c = record {
+  count = length-placed;
+  lengths = lengths_stay;
+  others = other_stays;
+  bytes = bytes_stay;
+  changed = changed_pid;
+}

@@ -1,0 +1,36 @@
+// `place IN OUT`: a stream with placeholders in the place of null packets.
+ghost use Rattle.std.specs.Prelude.{Some, IfSome};
+ghost use Rattle.dtx_meaning.specs.Meaning.{IsCarriedOut};
+ghost use Rattle.dtx_meaning.specs.Status.{blame_of};
+ghost use Rattle.dtx_outside.specs.Counts.{HasGone};
+ghost use Rattle.dtx_jobs.specs.Place.{place_meaning};
+
+use crate::placing::Placing;
+use dtx_engine::{Each, transform};
+use dtx_meaning::{Outcome, Status, ended};
+use dtx_outside::{Shelf, Word};
+use std::alloc::Global;
+
+/// Writes the packets of IN to OUT, where null packets become placeholders that an adapter can fill: in each field of
+/// 312 packets the first null packet from place 52 on, unless a placeholder stands there before it. All other packets
+/// stay. The numbers are the packets, those that became placeholders, the fields that are left without a placeholder at
+/// place 52 or behind, and the loose bytes.
+pub fn place<S: Shelf>(alloc: Global, words: &[Word], shelf: &mut S) -> Outcome
+    ensures carried { IfSome (S.files shelf.old) (λ held.
+        IsCarriedOut (place_meaning words.now held) (Some held) result (S.files shelf.new)) }
+    ensures gone { HasGone (S.counts shelf.old) (S.counts shelf.new) (blame_of result.status) }
+{
+    match words {
+        [_, input, output] => {
+            let mut placing = Each::new(Placing::new());
+            transform(
+                alloc,
+                &mut placing,
+                input.as_str(),
+                output.as_str(),
+                shelf,
+            )
+        }
+        _ => ended(Status::Usage),
+    }
+}

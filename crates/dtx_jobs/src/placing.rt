@@ -1,0 +1,131 @@
+// Turning null packets into placeholders, at most one a field.
+ghost use Rattle.std.specs.Prelude.{◌≡◌, ◌≢◌, ◌+◌, ◌-◌, ◌<◌, ◌^◌, ◌==◌, ◌&&◌, ◌||◌, not, nat_le};
+ghost use Rattle.std.specs.Prelude.{false, if◌then◌else◌, length, []};
+ghost use Rattle.dtx_adapter.specs.Feed.{is_placeholder};
+ghost use Rattle.dtx_packets.specs.Packet.{pid_of};
+ghost use Rattle.dtx_jobs.specs.Place.{IsCounted, as_placeholder};
+
+use crate::shapes::single_packets;
+use dtx_engine::{Change, Shape};
+use dtx_meaning::{Outcome, Status};
+
+/// The first byte of a packet (ISO/IEC 13818-1, 2.4.3.2).
+const SYNC: u8 = 0x47;
+
+/// The packet identifier of a null packet (ISO/IEC 13818-1, 2.4.1).
+const NULL_PID: u16 = 0x1FFF;
+
+/// The packet identifier of a placeholder, which an adapter fills (the profile's own).
+const PLACEHOLDER_PID: u16 = 0x1FFA;
+
+/// How many packets make a field.
+const FIELD_PACKETS: u64 = 312;
+
+/// The first place of a field at which a placeholder is put: 52 packets behind its mark.
+const FIRST_PLACE: u64 = 52;
+
+/// Turns null packets into placeholders, and counts.
+#[derive(Clone, Copy)]
+pub(crate) struct Placing {
+    /// How many packets became placeholders.
+    placed: u64,
+    /// How many of the fields that were begun are left without a placeholder so far.
+    bare: u64,
+    /// The field that was begun last has one.
+    found: bool,
+}
+
+impl Placing {
+    /// One that was given nothing.
+    pub(crate) fn new() -> Placing
+        ensures { IsCounted result [] }
+    {
+        Placing {
+            placed: 0,
+            bare: 0,
+            found: false,
+        }
+    }
+
+    /// Takes the packet at that place of a field into account, and answers whether it is the first of its field at which
+    /// a placeholder may stand.
+    fn meets(&mut self, place: u64, vacant: bool) -> bool
+        requires room { self.old.bare < 2 ^ 64 - 1 }
+        requires some { place ≢ 0 → self.old.found ≡ false → 0 < self.old.bare }
+        ensures first { result ≡ (nat_le FIRST_PLACE place && (vacant && not self.old.found)) }
+        ensures found { self.new.found ≡ ((not (place == 0) && self.old.found) || (nat_le FIRST_PLACE place && vacant)) }
+        ensures bare { self.new.bare + (if result then 1 else 0) ≡ self.old.bare + (if place == 0 then 1 else 0) }
+        ensures placed { self.new.placed ≡ self.old.placed }
+    {
+        if place == 0 {
+            self.bare += 1;
+            self.found = false;
+        }
+        let first = place >= FIRST_PLACE && vacant && !self.found;
+        if first {
+            self.bare -= 1;
+            self.found = true;
+        }
+        first
+    }
+}
+
+impl Change for Placing {
+    ghost use Rattle.dtx_packets.specs.Packets.{packets_of};
+    ghost use Rattle.dtx_jobs.specs.Place.{IsCounted, begins, placed_behind, placing_answer};
+    ghost use Rattle.dtx_jobs.specs.Shapes as shapes;
+
+    ghost shape = { shapes.single_packets };
+
+    ghost allowed = { begins };
+
+    ghost changed = { placed_behind };
+
+    ghost answer = { placing_answer };
+
+    ghost tallies = { λ s given. IsCounted s (packets_of given) };
+
+    fn sizes(&self) -> Shape {
+        single_packets()
+    }
+
+    fn allows(&self, _index: u64, unit: &[u8]) -> bool {
+        unit[0] == SYNC
+    }
+
+    fn change(&mut self, index: u64, unit: &mut [u8]) {
+        let pid = pid(unit);
+        let null = pid == NULL_PID;
+        let first = self.meets(index % FIELD_PACKETS, null || pid == PLACEHOLDER_PID);
+        if first && null {
+            become_placeholder(unit);
+            self.placed += 1;
+        }
+    }
+
+    fn finish(&self, units: u64, loose: usize) -> Outcome {
+        Outcome {
+            status: Status::Done,
+            numbers: [units, self.placed, self.bare, loose as u64, 0, 0],
+            shown: 4,
+        }
+    }
+}
+
+/// The packet identifier of a packet.
+fn pid(packet: &[u8]) -> u16
+    requires { 2 < length packet.now }
+    ensures { result ≡ pid_of packet.now }
+{
+    u16::from_be_bytes([packet[1] & 0x1F, packet[2]])
+}
+
+/// Gives a null packet the packet identifier of a placeholder.
+#[tactic(auto, unfolding(crate::specs::Place::as_placeholder))]
+fn become_placeholder(packet: &mut [u8])
+    requires null { pid_of packet.old ≡ NULL_PID }
+    requires long { 2 < length packet.old }
+    ensures { packet.new ≡ as_placeholder packet.old }
+{
+    packet[2] -= (NULL_PID - PLACEHOLDER_PID) as u8;
+}

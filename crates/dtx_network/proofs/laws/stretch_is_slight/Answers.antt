@@ -1,0 +1,5 @@
+use Rattle.dtx_network.proofs.Undamaged.{received_alone}
+use Rattle.dtx_network.proofs.laws.stretch_is_slight.Goals as goal
+
+pub returns : goal.returns
+returns c = received_alone
