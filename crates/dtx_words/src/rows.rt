@@ -58,76 +58,97 @@ pub(crate) const COMMANDS: [Command; 7] = [
     Command::Hurt,
 ];
 
+/// `adapt PLAN IN OUT`
+const ADAPT: CommandRow = CommandRow {
+    verb: "adapt",
+    fields: &[Field::Input, Field::Input, Field::Output],
+    labels: &["packets ", " filled ", " loose "],
+    fewest: 3,
+};
+
+/// `code IN OUT`
+const CODE: CommandRow = CommandRow {
+    verb: "code",
+    fields: &[Field::Input, Field::Output],
+    labels: &["packets ", " segments ", " loose "],
+    fewest: 3,
+};
+
+/// `excite FEED ADDRESS DELAY OUT LOG`
+const EXCITE: CommandRow = CommandRow {
+    verb: "excite",
+    fields: &[
+        Field::Input,
+        Field::Number(u16::MAX as u64),
+        Field::Number(u32::MAX as u64),
+        Field::Output,
+        Field::Output,
+    ],
+    labels: &["packets ", " segments ", " presets ", " mutes ", " loose "],
+    fewest: 5,
+};
+
+/// `receive IN OUT`
+const RECEIVE: CommandRow = CommandRow {
+    verb: "receive",
+    fields: &[Field::Input, Field::Output],
+    labels: &[
+        "segments ",
+        " runs ",
+        " packets ",
+        " fixed ",
+        " flagged ",
+        " loose ",
+    ],
+    fewest: 6,
+};
+
+/// `net PLAN`
+const NET: CommandRow = CommandRow {
+    verb: "net",
+    fields: &[Field::Input],
+    labels: &[
+        "feed ",
+        " filled ",
+        " steps ",
+        " packets ",
+        " fixed ",
+        " flagged ",
+    ],
+    fewest: 3,
+};
+
+/// `make SEED COUNT OUT`
+const MAKE: CommandRow = CommandRow {
+    verb: "make",
+    fields: &[
+        Field::Number(u64::MAX),
+        Field::Number(MOST_PACKETS),
+        Field::Output,
+    ],
+    labels: &["packets "],
+    fewest: 1,
+};
+
+/// `hurt IN CHANGES OUT`
+const HURT: CommandRow = CommandRow {
+    verb: "hurt",
+    fields: &[Field::Input, Field::Input, Field::Output],
+    labels: &["bytes ", " damaged "],
+    fewest: 2,
+};
+
 /// The row of a command.
 pub(crate) fn row(command: Command) -> CommandRow
     ensures { row_behind result ≡ row_of command }
 {
     match command {
-        Command::Adapt => CommandRow {
-            verb: "adapt",
-            fields: &[Field::Input, Field::Input, Field::Output],
-            labels: &["packets ", " filled ", " loose "],
-            fewest: 3,
-        },
-        Command::Code => CommandRow {
-            verb: "code",
-            fields: &[Field::Input, Field::Output],
-            labels: &["packets ", " segments ", " loose "],
-            fewest: 3,
-        },
-        Command::Excite => CommandRow {
-            verb: "excite",
-            fields: &[
-                Field::Input,
-                Field::Number(u16::MAX as u64),
-                Field::Number(u32::MAX as u64),
-                Field::Output,
-                Field::Output,
-            ],
-            labels: &["packets ", " segments ", " presets ", " mutes ", " loose "],
-            fewest: 5,
-        },
-        Command::Receive => CommandRow {
-            verb: "receive",
-            fields: &[Field::Input, Field::Output],
-            labels: &[
-                "segments ",
-                " runs ",
-                " packets ",
-                " fixed ",
-                " flagged ",
-                " loose ",
-            ],
-            fewest: 6,
-        },
-        Command::Net => CommandRow {
-            verb: "net",
-            fields: &[Field::Input],
-            labels: &[
-                "feed ",
-                " filled ",
-                " steps ",
-                " packets ",
-                " fixed ",
-                " flagged ",
-            ],
-            fewest: 3,
-        },
-        Command::Make => CommandRow {
-            verb: "make",
-            fields: &[
-                Field::Number(u64::MAX),
-                Field::Number(MOST_PACKETS),
-                Field::Output,
-            ],
-            labels: &["packets "],
-            fewest: 1,
-        },
-        Command::Hurt => CommandRow {
-            verb: "hurt",
-            fields: &[Field::Input, Field::Input, Field::Output],
-            labels: &["bytes ", " damaged "],
-            fewest: 2,
-        },
+        Command::Adapt => ADAPT,
+        Command::Code => CODE,
+        Command::Excite => EXCITE,
+        Command::Receive => RECEIVE,
+        Command::Net => NET,
+        Command::Make => MAKE,
+        Command::Hurt => HURT,
     }
 }
