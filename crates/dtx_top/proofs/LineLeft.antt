@@ -18,7 +18,7 @@ use Rattle.dtx_words.specs.Line.{finished, line_at, line_of}
 use Rattle.dtx_words.specs.Names.{line_name}
 use Rattle.dtx_words.specs.Printed.{printed, IsPut}
 use Rattle.dtx_words.specs.declared.rows.Command.{Command}
-use Rattle.dtx_words.specs.declared.rows.Command.TheVariants.{Adapt, Code, Excite, Receive, Net, Make, Hurt}
+use Rattle.dtx_words.specs.declared.rows.Command.TheVariants.{Adapt, Code, Excite, Receive, Net, Make, Hurt, Place}
 use Rattle.dtx_top.specs.Lines.{name_kept, names_told, HasLine, HasPartLine, IsSomeLine, IsSomeName, IsToldLine}
 use Rattle.dtx_top.specs.Means.{means_of}
 
@@ -90,6 +90,7 @@ name_told (Some Excite) words held status kept is = refl
 name_told (Some Receive) words held status kept is = refl
 name_told (Some Make) words held status kept is = refl
 name_told (Some Hurt) words held status kept is = refl
+name_told (Some Place) words held status kept is = refl
 name_told None words held status kept is = refl
 
 -- the line of an outcome is that of the meaning
@@ -133,6 +134,7 @@ some_name (Some Excite) words status kept is = refl
 some_name (Some Receive) words status kept is = refl
 some_name (Some Make) words status kept is = refl
 some_name (Some Hurt) words status kept is = refl
+some_name (Some Place) words status kept is = refl
 some_name None words status kept is = refl
 
 -- the line that is left, whatever the files are

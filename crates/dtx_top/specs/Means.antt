@@ -7,12 +7,13 @@ use Rattle.dtx_jobs.specs.Code.{code_meaning}
 use Rattle.dtx_jobs.specs.Excite.{excite_meaning}
 use Rattle.dtx_jobs.specs.Hurt.{hurt_meaning}
 use Rattle.dtx_jobs.specs.Make.{make_meaning}
+use Rattle.dtx_jobs.specs.Place.{place_meaning}
 use Rattle.dtx_jobs.specs.Receive.{receive_meaning}
 use Rattle.dtx_meaning.specs.Meaning.{Meaning, refused}
 use Rattle.dtx_meaning.specs.declared.status.Status.TheVariants.{Usage}
 use Rattle.dtx_words.specs.Fitting.{command_of}
 use Rattle.dtx_words.specs.declared.rows.Command.{Command}
-use Rattle.dtx_words.specs.declared.rows.Command.TheVariants.{Adapt, Code, Excite, Receive, Net, Make, Hurt}
+use Rattle.dtx_words.specs.declared.rows.Command.TheVariants.{Adapt, Code, Excite, Receive, Net, Make, Hurt, Place}
 
 -- what the words mean where they fit that command, and where they fit none
 abbrev pub means_of : Option Command → List (List ℕ) → Files → Meaning
@@ -24,6 +25,7 @@ means_of (Some Receive) words held = receive_meaning words held
 means_of (Some Net) words held = net_meaning words held
 means_of (Some Make) words held = make_meaning words held
 means_of (Some Hurt) words held = hurt_meaning words held
+means_of (Some Place) words held = place_meaning words held
 
 -- how the words are answered and what they write where nothing fails: a function of the words and of the files
 abbrev pub means : List (List ℕ) → Files → Meaning

@@ -9,7 +9,7 @@ ghost use Rattle.dtx_top.specs.Lines.{name_kept, names_told, IsSomeName};
 ghost use Rattle.dtx_top.specs.Means.{means_of};
 
 use arrayvec::ArrayString;
-use dtx_jobs::{adapt, code, excite, hurt, make, receive};
+use dtx_jobs::{adapt, code, excite, hurt, make, place, receive};
 use dtx_meaning::{Outcome, Status, ended};
 use dtx_outside::{Shelf, Word};
 use dtx_replay::{NetOutcome, net};
@@ -43,6 +43,7 @@ pub(crate) fn perform<S: Shelf>(
         Some(Command::Net) => net(alloc, words, shelf),
         Some(Command::Make) => nameless(make(alloc, words, shelf)),
         Some(Command::Hurt) => nameless(hurt(alloc, words, shelf)),
+        Some(Command::Place) => nameless(place(alloc, words, shelf)),
         None => nameless(ended(Status::Usage)),
     }
 }

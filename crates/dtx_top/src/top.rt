@@ -49,6 +49,10 @@ use std::alloc::Global;
 /// own): each byte that an entry covers becomes that entry's `put`, in two's complement. Where an entry ends behind the
 /// file, OUT is written all the same, and the first such entry is answered.
 ///
+/// `place IN OUT` writes the packets of IN to OUT, in each field of which the first null packet from place 52 on becomes a
+/// placeholder, unless a placeholder stands there before it (the profile's own): so a stream from an encoder can be
+/// adapted.
+///
 /// Words that fit no command end in `Usage`.
 pub fn run<S: Shelf, O: Sink>(alloc: Global, words: &[Word], shelf: &mut S, out: &mut O) -> Status
     // Over files that are told: the answer is that of the words' meaning and its outputs are whole; or a fault or want

@@ -2,7 +2,7 @@
 use Rattle.std.specs.Prelude.{ℕ, ◌-◌, ◌^◌, Bool, true, false, not, ◌&&◌, List, [], ◌∷◌, codes, map}
 use Rattle.std.specs.List.{list_any}
 use Rattle.dtx_words.specs.declared.rows.Command.{Command}
-use Rattle.dtx_words.specs.declared.rows.Command.TheVariants.{Adapt, Code, Excite, Receive, Net, Make, Hurt}
+use Rattle.dtx_words.specs.declared.rows.Command.TheVariants.{Adapt, Code, Excite, Receive, Net, Make, Hurt, Place}
 use Rattle.dtx_words.specs.declared.rows.CommandRow.{CommandRow}
 use Rattle.dtx_words.specs.declared.rows.Field.{Field}
 use Rattle.dtx_words.specs.declared.rows.Field.TheVariants.{Input, Output, Number}
@@ -88,6 +88,15 @@ hurt_row = record {
   fewest = 2;
 }
 
+-- `place IN OUT`
+abbrev pub place_row : Row
+place_row = record {
+  verb = codes "place";
+  fields = Input ∷ Output ∷ [];
+  labels = codes "packets " ∷ codes " placed " ∷ codes " bare " ∷ codes " loose " ∷ [];
+  fewest = 4;
+}
+
 -- the row of a command
 abbrev pub row_of : Command → Row
 row_of Adapt = adapt_row
@@ -97,6 +106,7 @@ row_of Receive = receive_row
 row_of Net = net_row
 row_of Make = make_row
 row_of Hurt = hurt_row
+row_of Place = place_row
 
 -- the row behind the references that the code holds
 abbrev pub row_behind : CommandRow → Row
@@ -115,4 +125,4 @@ are_inputs_first (field ∷ fields) = are_inputs_first fields
 
 -- all commands, in the order of the usage line
 abbrev pub commands : List Command
-commands = Adapt ∷ Code ∷ Excite ∷ Receive ∷ Net ∷ Make ∷ Hurt ∷ []
+commands = Adapt ∷ Code ∷ Excite ∷ Receive ∷ Net ∷ Make ∷ Hurt ∷ Place ∷ []

@@ -21,6 +21,8 @@ pub enum Command {
     Make,
     /// `hurt IN CHANGES OUT`
     Hurt,
+    /// `place IN OUT`
+    Place,
 }
 
 /// What a word behind the first one is.
@@ -48,7 +50,7 @@ pub(crate) struct CommandRow {
 }
 
 /// All commands.
-pub(crate) const COMMANDS: [Command; 7] = [
+pub(crate) const COMMANDS: [Command; 8] = [
     Command::Adapt,
     Command::Code,
     Command::Excite,
@@ -56,6 +58,7 @@ pub(crate) const COMMANDS: [Command; 7] = [
     Command::Net,
     Command::Make,
     Command::Hurt,
+    Command::Place,
 ];
 
 /// `adapt PLAN IN OUT`
@@ -138,6 +141,14 @@ const HURT: CommandRow = CommandRow {
     fewest: 2,
 };
 
+/// `place IN OUT`
+const PLACE: CommandRow = CommandRow {
+    verb: "place",
+    fields: &[Field::Input, Field::Output],
+    labels: &["packets ", " placed ", " bare ", " loose "],
+    fewest: 4,
+};
+
 /// The row of a command.
 pub(crate) fn row(command: Command) -> CommandRow
     ensures { row_behind result ≡ row_of command }
@@ -150,5 +161,6 @@ pub(crate) fn row(command: Command) -> CommandRow
         Command::Net => NET,
         Command::Make => MAKE,
         Command::Hurt => HURT,
+        Command::Place => PLACE,
     }
 }

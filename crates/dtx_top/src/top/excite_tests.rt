@@ -172,7 +172,7 @@ fn late_and_unlisted_transmitters_log_a_mute_at_each_order(rt: HostRuntime) -> R
 
 #[test]
 fn its_words_and_names_have_their_status_and_line(rt: HostRuntime) -> Result<(), Fail> {
-    let usage = "usage: dtx adapt|code|excite|receive|net|make|hurt\n";
+    let usage = "usage: dtx adapt|code|excite|receive|net|make|hurt|place\n";
     for (texts, status, line) in [
         (
             ["excite", "f", "65536", "0", "o", "l"].as_slice(),

@@ -30,6 +30,11 @@ fn each_line_ends_in_a_line_feed_and_has_its_numbers_in_order(rt: HostRuntime) -
         ),
         (Command::Make, 1, "packets 8\n"),
         (Command::Hurt, 2, "bytes 8 damaged 9\n"),
+        (
+            Command::Place,
+            4,
+            "packets 8 placed 9 bare 3 loose 1\n",
+        ),
     ] {
         let outcome = Outcome {
             status: Status::Done,
@@ -53,7 +58,7 @@ fn each_refusal_has_its_line(rt: HostRuntime) -> Result<(), Fail> {
     for (status, text) in [
         (
             Status::Usage,
-            "usage: dtx adapt|code|excite|receive|net|make|hurt\n",
+            "usage: dtx adapt|code|excite|receive|net|make|hurt|place\n",
         ),
         (Status::Same, "same x\n"),
         (Status::Absent(1), "absent x\n"),
