@@ -1,34 +1,8 @@
 -- What `place IN OUT` makes of a stream that has no placeholders: null packets become placeholders, at most one a field
 -- (the profile's own). Packets are counted from 0, and 312 make a field.
-use Rattle.std.specs.Prelude.{
-  ◌≡◌,
-  ◌≢◌,
-  ℕ,
-  ◌+◌,
-  ◌-◌,
-  ◌*◌,
-  ◌/◌,
-  ◌%◌,
-  Bool,
-  ◌==◌,
-  ◌&&◌,
-  ◌||◌,
-  not,
-  nat_le,
-  if◌then◌else◌,
-  List,
-  [],
-  ◌∷◌,
-  length,
-  map,
-  take,
-  drop,
-  slice_index,
-  slice_index_or,
-  slice_set,
-  flat_map,
-  count_by,
-}
+use Rattle.std.specs.Prelude.{◌≡◌, ◌≢◌, ℕ, ◌+◌, ◌-◌, ◌*◌, ◌/◌, ◌%◌, Bool, ◌==◌, ◌&&◌, ◌||◌, not, nat_le, if◌then◌else◌}
+use Rattle.std.specs.Prelude.{List, [], ◌∷◌, length, map, take, drop, slice_index, slice_index_or, slice_set, flat_map}
+use Rattle.std.specs.Prelude.{count_by}
 use Rattle.std.specs.List.{list_any, range_with_len}
 use Rattle.dtx_adapter.specs.Feed.{is_placeholder}
 use Rattle.dtx_engine.specs.Each.{each_making}

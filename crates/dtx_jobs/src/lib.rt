@@ -1,47 +1,36 @@
 //! The commands of one stream or file: each a meaning, an engine that makes it, and one call.
 #![tactic(auto)]
 
-mod shapes;
-
-mod plan_file;
-
-mod feeder;
-mod packet_bytes;
 mod adapt_command;
-
-mod stream_coder;
-mod symbol_buffer;
 mod code_command;
-
-mod excitation;
-mod life_tally;
-mod excite_command;
-
 mod damaged;
-mod reception;
-mod tally;
-mod receive_command;
-
-mod laying;
-mod past_end;
+mod excitation;
+mod excite_command;
+mod feeder;
 mod hurt_command;
-
-mod placing;
-mod place_command;
-
-mod make_command;
-
-mod one_output;
-
 pub mod laws;
-pub mod symbol_laws;
-
+mod laying;
+mod life_tally;
+mod make_command;
+mod one_output;
 #[cfg(test)]
 mod one_output_tests;
+mod packet_bytes;
+mod past_end;
+mod place_command;
 #[cfg(test)]
 mod place_tests;
+mod placing;
+mod plan_file;
+mod receive_command;
+mod reception;
+mod shapes;
+mod stream_coder;
+mod symbol_buffer;
+pub mod symbol_laws;
 #[cfg(test)]
 mod symbol_tests;
+mod tally;
 
 pub use adapt_command::adapt;
 pub use code_command::code;

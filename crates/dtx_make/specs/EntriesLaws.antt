@@ -1,16 +1,21 @@
 -- Entries of damage in order, and the one of them that covers a place.
-use Rattle.std.proofs.Common.{◌≡◌, ℕ, zero, suc, ◌+◌, ◌-◌, ◌<◌, ◌≤◌, ◌⊎◌, Bool, true, false, Option, Some, None, List, [], ◌∷◌, ◌++◌, length, get_or, slice_get, take, drop, refl, sym, ap, ◌∙◌, subst, arith, inl, inr}
+use Rattle.std.proofs.Common.{◌≡◌, ℕ, zero, suc, ◌+◌, ◌-◌, ◌<◌, ◌≤◌, ◌⊎◌, Bool, true, false, Option, Some, None, List}
+use Rattle.std.proofs.Common.{[], ◌∷◌, ◌++◌, length, get_or, slice_get, take, drop, refl, sym, ap, ◌∙◌, subst, arith}
+use Rattle.std.proofs.Common.{inl, inr}
 use Rattle.std.specs.List.{find, Contains}
 use Rattle.std.specs.Option.{option_or}
 use Rattle.std.proofs.Math.Dec.{leb, ltb}
-use Rattle.std.proofs.lemmas.Bool.{cases_lt, cases_Bool, leb-true, ltb-true, lt-leb, le-ltb, and_parts, and_left, and_right, cond-true, cond-false}
-use Rattle.std.proofs.lemmas.List.{take-append-drop, take_more, drop_more, get_or-take, get_or-drop, get_or_default, length-drop, length-take-le}
+use Rattle.std.proofs.lemmas.Bool.{cases_lt, cases_Bool, leb-true, ltb-true, lt-leb, le-ltb, and_parts, and_left}
+use Rattle.std.proofs.lemmas.Bool.{and_right, cond-true, cond-false}
+use Rattle.std.proofs.lemmas.List.{take-append-drop, take_more, drop_more, get_or-take, get_or-drop, get_or_default}
+use Rattle.std.proofs.lemmas.List.{length-drop, length-take-le}
 use Rattle.std.proofs.lemmas.List.Folds.{find-append}
 use Rattle.std.proofs.lemmas.Option.{get_or_from_slice_get}
 use Rattle.dtx_plan.specs.declared.damage.Damage.{Damage}
 use Rattle.dtx_make.specs.Hurt.{AreInOrder, covers, end_of, entry_at}
 
-apart : (ds : List Damage) (d : Damage) → AreInOrder ds → (n j k : ℕ) → j + n + 1 ≡ k → k < length ds → end_of (get_or ds j d) ≤ (get_or ds k d).at
+apart : (ds : List Damage) (d : Damage) → AreInOrder ds → (n j k : ℕ) → j + n + 1 ≡ k → k < length ds
+    → end_of (get_or ds j d) ≤ (get_or ds k d).at
 apart ds d o zero j k e l =
     let at : j + 1 ≡ k = omega arith in
     subst (λ m. end_of (get_or ds j d) ≤ (get_or ds m d).at) at (o j d (omega arith))
@@ -21,16 +26,19 @@ apart ds d o (suc n) j k e l =
     subst (λ m. end_of (get_or ds j d) ≤ (get_or ds m d).at) at (omega (arith, before, next))
 
 -- an entry ends before each later one begins
-pub in_order : (ds : List Damage) (d : Damage) → AreInOrder ds → (j k : ℕ) → j < k → k < length ds → end_of (get_or ds j d) ≤ (get_or ds k d).at
+pub in_order : (ds : List Damage) (d : Damage) → AreInOrder ds → (j k : ℕ) → j < k → k < length ds
+    → end_of (get_or ds j d) ≤ (get_or ds k d).at
 in_order ds d o j k l h = apart ds d o (k - j - 1) j k (omega arith) h
 
 -- the ends never fall
-pub ends_rise : (ds : List Damage) (d : Damage) → AreInOrder ds → (j k : ℕ) → j ≤ k → k < length ds → end_of (get_or ds j d) ≤ end_of (get_or ds k d)
+pub ends_rise : (ds : List Damage) (d : Damage) → AreInOrder ds → (j k : ℕ) → j ≤ k → k < length ds
+    → end_of (get_or ds j d) ≤ end_of (get_or ds k d)
 ends_rise ds d o j k l h = by_place (cases_lt j k)
   where
     by_place : (j < k) ⊎ (k ≤ j) → end_of (get_or ds j d) ≤ end_of (get_or ds k d)
     by_place (inl below) = omega (arith, in_order ds d o j k below h)
-    by_place (inr above) = let same : j ≡ k = omega arith in subst (λ m. end_of (get_or ds j d) ≤ end_of (get_or ds m d)) same (omega arith)
+    by_place (inr above) = let same : j ≡ k = omega arith in
+        subst (λ m. end_of (get_or ds j d) ≤ end_of (get_or ds m d)) same (omega arith)
 
 pub covers_within : (place : ℕ) (e : Damage) → covers place e ≡ true → (e.at ≤ place) × (place < end_of e)
 covers_within place e t =
@@ -43,11 +51,14 @@ covers_after place e l = and_left (leb e.at place) (ltb place (e.at + e.count)) 
 pub covers_before : (place : ℕ) (e : Damage) → end_of e ≤ place → covers place e ≡ false
 covers_before place e l = and_right (leb e.at place) (ltb place (e.at + e.count)) (le-ltb place (e.at + e.count) l)
 
-find_none : {X : Type 0} (p : X → Bool) (xs : List X) → ((k : ℕ) (d : X) → k < length xs → p (get_or xs k d) ≡ false) → find p xs ≡ None
+find_none : {X : Type 0} (p : X → Bool) (xs : List X) → ((k : ℕ) (d : X) → k < length xs → p (get_or xs k d) ≡ false)
+    → find p xs ≡ None
 find_none p [] h = refl
-find_none p (x ∷ xs) h = cond-false (p x) (Some x) (find p xs) (h 0 x (omega arith)) ∙ find_none p xs (λ k d l. h (suc k) d (omega arith))
+find_none p (x ∷ xs) h = cond-false (p x) (Some x) (find p xs) (h 0 x (omega arith))
+    ∙ find_none p xs (λ k d l. h (suc k) d (omega arith))
 
-pub entry_at_none : (ds : List Damage) (place : ℕ) → ((k : ℕ) (d : Damage) → k < length ds → covers place (get_or ds k d) ≡ false) → entry_at ds place ≡ None
+pub entry_at_none : (ds : List Damage) (place : ℕ)
+    → ((k : ℕ) (d : Damage) → k < length ds → covers place (get_or ds k d) ≡ false) → entry_at ds place ≡ None
 unfolding entry_at
 entry_at_none ds place h = find_none (covers place) ds h
 
@@ -55,12 +66,14 @@ pub option_or-none : {X : Type 0} (o : Option X) → option_or o None ≡ o
 option_or-none None = refl
 option_or-none (Some x) = refl
 
-pub entry_at-append : (ds es : List Damage) (place : ℕ) → entry_at (ds ++ es) place ≡ option_or (entry_at ds place) (entry_at es place)
+pub entry_at-append : (ds es : List Damage) (place : ℕ)
+    → entry_at (ds ++ es) place ≡ option_or (entry_at ds place) (entry_at es place)
 unfolding entry_at
 entry_at-append ds es place = find-append (covers place) ds es
 
 -- the later entries do not matter where they cover no such place
-pub entry_at-take : (ds : List Damage) (i place : ℕ) → ((k : ℕ) (d : Damage) → i ≤ k → k < length ds → covers place (get_or ds k d) ≡ false)
+pub entry_at-take : (ds : List Damage) (i place : ℕ)
+    → ((k : ℕ) (d : Damage) → i ≤ k → k < length ds → covers place (get_or ds k d) ≡ false)
     → entry_at ds place ≡ entry_at (take i ds) place
 entry_at-take ds i place h =
     ap (λ z. entry_at z place) (sym (take-append-drop i ds))
@@ -74,14 +87,16 @@ entry_at-take ds i place h =
 -- one more entry
 pub entry_at_more : (ds : List Damage) (d : Damage) (i place : ℕ) → i < length ds
     → entry_at (take (i + 1) ds) place ≡ option_or (entry_at (take i ds) place) (entry_at (get_or ds i d ∷ []) place)
-entry_at_more ds d i place l = ap (λ z. entry_at z place) (take_more ds i d l) ∙ entry_at-append (take i ds) (get_or ds i d ∷ []) place
+entry_at_more ds d i place l = ap (λ z. entry_at z place) (take_more ds i d l)
+    ∙ entry_at-append (take i ds) (get_or ds i d ∷ []) place
 
 at_head : (e : Damage) (ds : List Damage) (place : ℕ) → covers place e ≡ true → entry_at (e ∷ ds) place ≡ Some e
 unfolding entry_at
 at_head e ds place t = cond-true (covers place e) (Some e) (find (covers place) ds) t
 
 -- where an entry covers a place, none before it does
-before_it : (ds : List Damage) (d : Damage) (i place : ℕ) → AreInOrder ds → i < length ds → covers place (get_or ds i d) ≡ true
+before_it : (ds : List Damage) (d : Damage) (i place : ℕ) → AreInOrder ds → i < length ds
+    → covers place (get_or ds i d) ≡ true
     → (k : ℕ) (e : Damage) → k < length (take i ds) → covers place (get_or (take i ds) k e) ≡ false
 before_it ds d i place o l t k e h =
     let within : k < i = omega (arith, length-take-le i ds (omega arith)) in
@@ -105,17 +120,22 @@ one_covers ds d i place o l = by_test (cases_Bool (covers place (get_or ds i d))
     by_test (inr t) = inl (one (get_or ds i d) place t)
 
 -- the entries up to one that ends by a place end by it too
-pub end_by : (ds : List Damage) (e : Damage) (m place : ℕ) → AreInOrder ds → slice_get ds m ≡ Some e → end_of e ≤ place → m < length ds
+pub end_by : (ds : List Damage) (e : Damage) (m place : ℕ) → AreInOrder ds → slice_get ds m ≡ Some e → end_of e ≤ place
+    → m < length ds
     → (k : ℕ) (d : Damage) → k < m + 1 → end_of (get_or ds k d) ≤ place
-end_by ds e m place o is l h k d n = omega (arith, ends_rise ds d o k m (omega arith) h, ap end_of (get_or_from_slice_get ds m e d is))
+end_by ds e m place o is l h k d n =
+    omega (arith, ends_rise ds d o k m (omega arith) h, ap end_of (get_or_from_slice_get ds m e d is))
 
 -- the entries from one on that ends behind a place end behind it too
-pub end_behind : (ds : List Damage) (e : Damage) (m place : ℕ) → AreInOrder ds → slice_get ds m ≡ Some e → place < end_of e
+pub end_behind : (ds : List Damage) (e : Damage) (m place : ℕ) → AreInOrder ds → slice_get ds m ≡ Some e
+    → place < end_of e
     → (k : ℕ) (d : Damage) → m ≤ k → k < length ds → place < end_of (get_or ds k d)
-end_behind ds e m place o is l k d n h = omega (arith, ends_rise ds d o m k n h, ap end_of (get_or_from_slice_get ds m e d is))
+end_behind ds e m place o is l k d n h =
+    omega (arith, ends_rise ds d o m k n h, ap end_of (get_or_from_slice_get ds m e d is))
 
 -- the entries that end by a place cover none from there on
-pub entry_at_before : (ds : List Damage) (i place k : ℕ) → i ≤ length ds → ((j : ℕ) (d : Damage) → j < i → end_of (get_or ds j d) ≤ place)
+pub entry_at_before : (ds : List Damage) (i place k : ℕ) → i ≤ length ds
+    → ((j : ℕ) (d : Damage) → j < i → end_of (get_or ds j d) ≤ place)
     → place ≤ k → entry_at (take i ds) k ≡ None
 entry_at_before ds i place k h ends l = entry_at_none (take i ds) k each
   where
@@ -125,12 +145,14 @@ entry_at_before ds i place k h ends l = entry_at_none (take i ds) k each
         ap (covers k) (get_or-take i ds j d within) ∙ covers_before k (get_or ds j d) (omega (arith, ends j d within))
 
 -- the entries from one on that begins at a place or behind it cover none before there
-pub entry_at_behind : (ds : List Damage) (e : Damage) (i end k : ℕ) → AreInOrder ds → slice_get ds i ≡ Some e → end ≤ e.at → k < end
+pub entry_at_behind : (ds : List Damage) (e : Damage) (i end k : ℕ) → AreInOrder ds → slice_get ds i ≡ Some e
+    → end ≤ e.at → k < end
     → entry_at ds k ≡ entry_at (take i ds) k
 entry_at_behind ds e i end k o is l m = entry_at-take ds i k each
   where
     begins : (j : ℕ) (d : Damage) → i ≤ j → j < length ds → (i < j) ⊎ (j ≤ i) → end ≤ (get_or ds j d).at
-    begins j d n h (inl later) = omega (arith, in_order ds d o i j later h, ap end_of (get_or_from_slice_get ds i e d is))
+    begins j d n h (inl later) =
+        omega (arith, in_order ds d o i j later h, ap end_of (get_or_from_slice_get ds i e d is))
     begins j d n h (inr same) =
         let there : i ≡ j = omega arith in
         subst (λ z. end ≤ (get_or ds z d).at) there (omega (arith, ap (λ z. z.at) (get_or_from_slice_get ds i e d is)))
@@ -143,12 +165,15 @@ unfolding entry_at
 entry_at_nothing place = refl
 
 -- in order, each entry that covers a place is the first that does
-pub entry_at_is : (ds : List Damage) (e : Damage) (place : ℕ) → AreInOrder ds → Contains ds e → covers place e ≡ true → entry_at ds place ≡ Some e
+pub entry_at_is : (ds : List Damage) (e : Damage) (place : ℕ) → AreInOrder ds → Contains ds e → covers place e ≡ true
+    → entry_at ds place ≡ Some e
 entry_at_is ds e place o c t =
     let i = c.0 in
     let is : get_or ds i e ≡ e = c.2 in
     let within : i < length ds = c.1 in
-    ap (λ z. entry_at z place) (sym (take-append-drop i ds) ∙ ap (λ z. take i ds ++ z) (drop_more ds i e within ∙ ap (λ z. z ∷ drop (i + 1) ds) is))
+    ap (λ z. entry_at z place) (sym (take-append-drop i ds)
+    ∙ ap (λ z. take i ds ++ z) (drop_more ds i e within ∙ ap (λ z. z ∷ drop (i + 1) ds) is))
     ∙ entry_at-append (take i ds) (e ∷ drop (i + 1) ds) place
-    ∙ ap (λ z. option_or z (entry_at (e ∷ drop (i + 1) ds) place)) (entry_at_none (take i ds) place (before_it ds e i place o within (ap (covers place) is ∙ t)))
+    ∙ ap (λ z. option_or z (entry_at (e ∷ drop (i + 1) ds) place))
+    (entry_at_none (take i ds) place (before_it ds e i place o within (ap (covers place) is ∙ t)))
     ∙ at_head e (drop (i + 1) ds) place t

@@ -1,5 +1,6 @@
 -- Damage laid over the bytes of a file, and how many places it covers (the profile's own).
-use Rattle.std.specs.Prelude.{◌≡◌, ℕ, ◌+◌, ◌<◌, ◌≤◌, Bool, ◌&&◌, nat_le, nat_lt, Option, is_some, List, length, slice_index, slice_index_or, map, count_by}
+use Rattle.std.specs.Prelude.{◌≡◌, ℕ, ◌+◌, ◌<◌, ◌≤◌, Bool, ◌&&◌, nat_le, nat_lt, Option, is_some, List, length}
+use Rattle.std.specs.Prelude.{slice_index, slice_index_or, map, count_by}
 use Rattle.std.specs.List.{range_with_len, find, AllAdjacentBelow}
 use Rattle.std.specs.Option.{option_map_or}
 use Rattle.std.specs.Int.{w8, cast_unsigned}

@@ -7,8 +7,10 @@ ghost use Rattle.dtx_make.specs.Hurt.{AreInOrder, covers, entry_at, laid, hurt, 
 
 /// Damage that is laid piece by piece, each at its place, is the damage laid over the whole.
 pub fn laid_in_pieces()
-    ensures piece { (damage : List Damage) (place : ℕ) (first rest : List ℕ) → laid damage place (first ++ rest) ≡ laid damage place first ++ laid damage (place + length first) rest }
-    ensures file { (damage : List Damage) (first rest : List ℕ) → hurt damage (first ++ rest) ≡ hurt damage first ++ laid damage (length first) rest }
+    ensures piece { (damage : List Damage) (place : ℕ) (first rest : List ℕ)
+        → laid damage place (first ++ rest) ≡ laid damage place first ++ laid damage (place + length first) rest }
+    ensures file { (damage : List Damage) (first rest : List ℕ)
+        → hurt damage (first ++ rest) ≡ hurt damage first ++ laid damage (length first) rest }
 {}
 
 /// As many bytes stand there as before.
@@ -16,10 +18,13 @@ pub fn length_stays()
     ensures { (damage : List Damage) (place : ℕ) (bytes : List ℕ) → length (laid damage place bytes) ≡ length bytes }
 {}
 
-/// A byte that an entry covers is that entry's `put`, whichever entry of those in order it is; a byte that none covers stays.
+/// A byte that an entry covers is that entry's `put`, whichever entry of those in order it is; a byte that none covers
+/// stays.
 pub fn each_byte()
-    ensures covered { (damage : List Damage) (place i : ℕ) (bytes : List ℕ) (entry : Damage) → AreInOrder damage → i < length bytes
-        → Contains damage entry → IsTrue (covers (place + i) entry) → slice_index (laid damage place bytes) i ≡ cast_unsigned w8 entry.put }
+    ensures covered { (damage : List Damage) (place i : ℕ) (bytes : List ℕ) (entry : Damage) → AreInOrder damage
+        → i < length bytes
+        → Contains damage entry → IsTrue (covers (place + i) entry)
+        → slice_index (laid damage place bytes) i ≡ cast_unsigned w8 entry.put }
     ensures stays { (damage : List Damage) (place i : ℕ) (bytes : List ℕ) → i < length bytes
         → entry_at damage (place + i) ≡ None → slice_index (laid damage place bytes) i ≡ slice_index bytes i }
 {}
@@ -32,7 +37,10 @@ pub fn no_entry()
 
 /// The counts of pieces add up, and no more places are counted than there are.
 pub fn counted_in_pieces()
-    ensures piece { (damage : List Damage) (place first rest : ℕ) → damaged_from damage place (first + rest) ≡ damaged_from damage place first + damaged_from damage (place + first) rest }
-    ensures file { (damage : List Damage) (first rest : ℕ) → damaged damage (first + rest) ≡ damaged damage first + damaged_from damage first rest }
+    ensures piece { (damage : List Damage) (place first rest : ℕ)
+        → damaged_from damage place (first + rest)
+        ≡ damaged_from damage place first + damaged_from damage (place + first) rest }
+    ensures file { (damage : List Damage) (first rest : ℕ)
+        → damaged damage (first + rest) ≡ damaged damage first + damaged_from damage first rest }
     ensures most { (damage : List Damage) (place count : ℕ) → damaged_from damage place count ≤ count }
 {}

@@ -4,8 +4,8 @@ ghost use Rattle.dtx_make.specs.Hurt.{AreInOrder, IsCovered, IsFirstBehind, laid
 
 use dtx_plan::{Damage, Damages};
 
-/// Lays damage over bytes that stand at `place` of a file: each byte that an entry covers becomes that entry's `put`, in two's
-/// complement; the others stay. The rule is the profile's own.
+/// Lays damage over bytes that stand at `place` of a file: each byte that an entry covers becomes that entry's `put`,
+/// in two's complement; the others stay. The rule is the profile's own.
 pub fn lay(damage: &Damages, place: u64, bytes: &mut [u8])
     requires room { place + length bytes.old < 2 ^ 64 }
     requires in_order { AreInOrder damage.now }
@@ -74,7 +74,8 @@ fn lay_entry(entry: &Damage, place: u64, bytes: &mut [u8])
     bytes[(from - place) as usize..(to - place) as usize].fill(entry.put.cast_unsigned());
 }
 
-/// Of the places from `place` on, before `end`, the entry covers those from the first of these two on, before the second.
+/// Of the places from `place` on, before `end`, the entry covers those from the first of these two on, before the
+/// second.
 fn covered(entry: &Damage, place: u64, end: u64) -> (u64, u64)
     requires { place ≤ end }
     ensures { IsCovered entry.now place end result.0 result.1 }

@@ -6,7 +6,8 @@ use Rattle.dtx_outside.specs.Shelf.{Files, IsSameAt}
 use Rattle.dtx_outside.specs.Sink.{IsCounted, HasRisenBy}
 use Rattle.dtx_outside.specs.declared.sink.SinkNo.{SinkNo}
 use Rattle.dtx_outside.specs.declared.sink.SinkNo.TheVariants as sink
-use Rattle.dtx_meaning.specs.Laws.{done_printed, done_faulted, done_unprinted, same_at_done, status_of_done, whole_of_carried}
+use Rattle.dtx_meaning.specs.Laws.{done_printed, done_faulted, done_unprinted, same_at_done, status_of_done}
+use Rattle.dtx_meaning.specs.Laws.{whole_of_carried}
 use Rattle.dtx_meaning.specs.Meaning.{Meaning, IsCarriedOut, IsDone, IsNoOutput, IsUnprinted}
 use Rattle.dtx_meaning.specs.Status.{IsFault, blame_of}
 use Rattle.dtx_meaning.specs.declared.status.Outcome.{Outcome}
@@ -72,8 +73,10 @@ not_done status done fault = let P : Status → Type 0 = λ s. IsFault s in subs
 
 -- where no fault of writing is counted, `WriteFault` says that the line alone could not be printed
 unprinted_of : (m : Meaning) (start now : Option Files) (outcome : Outcome) (line : Result (Unit {0}) SinkNo)
-    (before after : Counts) (first last : ℕ) → IsCarriedOut m start outcome now → HasGone before after (blame_of outcome.status)
-    → IsCounted first line last → finished outcome.status line ≡ WriteFault → ¬ Rose before.write_faults after.write_faults
+    (before after : Counts) (first last : ℕ) → IsCarriedOut m start outcome now
+    → HasGone before after (blame_of outcome.status)
+    → IsCounted first line last → finished outcome.status line ≡ WriteFault
+    → ¬ Rose before.write_faults after.write_faults
     → IsUnprinted m start (finished outcome.status line) (Rose first last) now
 unprinted_of m start now outcome (Ok u) before after first last is gone counted fault none =
     absurd (none (let P : Status → Type 0 = λ s. HasGone before after (blame_of s) in subst P fault gone).risen)
@@ -81,18 +84,20 @@ unprinted_of m start now outcome (Err sink.Memory) before after first last is go
     let e : Memory ≡ WriteFault = fault in cc
 unprinted_of m start now outcome (Err sink.Failed) before after first last is gone counted fault none =
     elim (finished_failed outcome.status) [
-      | inl done ↦ (let whole = whole_of_carried m start now outcome is (λ fault. not_done outcome.status done fault) in record {
-        answer = fault;
-        cause = counted.risen;
-        done = sym (ap (λ (o : Outcome). o.status) whole.answer) ∙ done;
-        files = whole.files;
-      })
+      | inl done ↦ (let whole = whole_of_carried m start now outcome is (λ fault. not_done outcome.status done fault) in
+          record {
+            answer = fault;
+            cause = counted.risen;
+            done = sym (ap (λ (o : Outcome). o.status) whole.answer) ∙ done;
+            files = whole.files;
+          })
       | inr same ↦ absurd (none (let P : Status → Type 0 = λ s. HasGone before after (blame_of s) in
           subst P (sym same ∙ fault) gone).risen)
     ]
 
 -- the same over files that are told
-pub unprinted_told : (means : Files → Meaning) (told now : Option Files) (outcome : Outcome) (line : Result (Unit {0}) SinkNo)
+pub unprinted_told : (means : Files → Meaning) (told now : Option Files) (outcome : Outcome)
+    (line : Result (Unit {0}) SinkNo)
     (before after : Counts) (first last : ℕ) → IfSome told (λ held. IsCarriedOut (means held) (Some held) outcome now)
     → HasGone before after (blame_of outcome.status) → IsCounted first line last
     → IfSome told (λ held. finished outcome.status line ≡ WriteFault → ¬ Rose before.write_faults after.write_faults

@@ -49,9 +49,9 @@ use std::alloc::Global;
 /// own): each byte that an entry covers becomes that entry's `put`, in two's complement. Where an entry ends behind the
 /// file, OUT is written all the same, and the first such entry is answered.
 ///
-/// `place IN OUT` writes the packets of IN to OUT, in each field of which the first null packet from place 52 on becomes a
-/// placeholder, unless a placeholder stands there before it (the profile's own): so a stream from an encoder can be
-/// adapted.
+/// `place IN OUT` writes the packets of IN to OUT, in each field of which the first null packet from place 52 on
+/// becomes a placeholder, unless a placeholder stands there before it (the profile's own): so a stream from an encoder
+/// can be adapted.
 ///
 /// Words that fit no command end in `Usage`.
 pub fn run<S: Shelf, O: Sink>(alloc: Global, words: &[Word], shelf: &mut S, out: &mut O) -> Status
@@ -61,10 +61,12 @@ pub fn run<S: Shelf, O: Sink>(alloc: Global, words: &[Word], shelf: &mut S, out:
     ensures carried { IfSome (S.files shelf.old) (λ held. IsDone (means words.now held) (Some held) result
         (Rose (O.faults out.old) (O.faults out.new)) (S.files shelf.new)) }
 
-    // Where no fault of writing is counted, `WriteFault` says that all was done, and the line alone could not be printed.
+    // Where no fault of writing is counted, `WriteFault` says that all was done, and the line alone could not be
+    // printed.
     ensures unprinted { IfSome (S.files shelf.old) (λ held. result ≡ Status.WriteFault
         → ¬ Rose (S.counts shelf.old).write_faults (S.counts shelf.new).write_faults
-        → IsUnprinted (means words.now held) (Some held) result (Rose (O.faults out.old) (O.faults out.new)) (S.files shelf.new)) }
+        → IsUnprinted (means words.now held) (Some held) result (Rose (O.faults out.old) (O.faults out.new))
+        (S.files shelf.new)) }
 
     // The line is that of the answer, with the names and the numbers of the meaning, and the last thing that is
     // written.

@@ -64,8 +64,8 @@ fn made(rt: &HostRuntime, out: &mut MemorySink) -> Result<MemoryShelf, Fail> {
     Ok(shelf)
 }
 
-/// Whether packet k of the feed of a made stream has its sync byte, and is an operations packet of its frame and index just at each
-/// place 100 of 312.
+/// Whether packet k of the feed of a made stream has its sync byte, and is an operations packet of its frame and index
+/// just at each place 100 of 312.
 fn is_fed(packet: &[u8; 188], k: usize) -> bool {
     let sync = if k % 624 == 0 { 0xB8 } else { 0x47 };
     let is_order = packet[1] == 0x1F && packet[2] == 0xFA;
@@ -133,8 +133,8 @@ fn a_plan_is_refused_by_its_first_broken_rule(rt: HostRuntime) -> Result<(), Fai
     Ok(())
 }
 
-/// What `adapt` answers for the stream where its first call of that kind fails, and whether what it leaves is a front part of the
-/// feed, where it leaves something.
+/// What `adapt` answers for the stream where its first call of that kind fails, and whether what it leaves is a front
+/// part of the feed, where it leaves something.
 fn failed(
     rt: &HostRuntime,
     call: Call,

@@ -1,4 +1,5 @@
-// What `excite` prints and leaves, over files in memory, with the answers that were worked by hand and by an independent program.
+// What `excite` prints and leaves, over files in memory, with the answers that were worked by hand and by an
+// independent program.
 ghost use Rattle.std.specs.Prelude.{◌<◌, ◌≤◌};
 
 use super::tests::answered;
@@ -79,7 +80,8 @@ fn feed(alloc: Global, count: u64, orders: &[u64]) -> Result<Vec<u8>, Fail>
     Ok(bytes)
 }
 
-/// What `excite` prints for a feed to the sink, as the transmitter of that address and delay, and the files that it leaves.
+/// What `excite` prints for a feed to the sink, as the transmitter of that address and delay, and the files that it
+/// leaves.
 fn excited(
     rt: &HostRuntime,
     bytes: &[u8],

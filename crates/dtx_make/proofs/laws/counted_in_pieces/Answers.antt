@@ -6,6 +6,7 @@ use Rattle.dtx_make.proofs.laws.counted_in_pieces.Goals as goal
 pub returns : goal.returns
 returns c = record {
   piece = damaged_from-parts;
-  file = λ damage first rest. damaged_from-parts damage 0 first rest ∙ ap (λ p. damaged_from damage 0 first + damaged_from damage p rest) (zero-add first);
+  file = λ damage first rest. damaged_from-parts damage 0 first rest
+      ∙ ap (λ p. damaged_from damage 0 first + damaged_from damage p rest) (zero-add first);
   most = damaged_from-le-count;
 }

@@ -14,7 +14,8 @@ pub loop-low-preserved-then-ends_by : goal.loop-low-preserved-then-ends_by
 loop-low-preserved-then-ends_by c = record {
   order = omega arith;
   within = c.loop-low.invariant.within;
-  before = end_by c.args.damage.now c.get.result _ c.args.place c.requires.in_order c.get.ensures (search rules) (omega (arith, c.loop-low.invariant.within));
+  before = end_by c.args.damage.now c.get.result _ c.args.place c.requires.in_order c.get.ensures (search rules)
+      (omega (arith, c.loop-low.invariant.within));
   behind = c.loop-low.invariant.behind;
 }
 

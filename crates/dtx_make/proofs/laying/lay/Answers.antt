@@ -11,24 +11,29 @@ loop-i-init c =
     record {
       within = first.within;
       bytes = laid_none (take c.first_behind-i.result c.args.damage.now) c.args.place c.args.bytes.now
-          (λ k l m. entry_at_before c.args.damage.now c.first_behind-i.result c.args.place k first.within first.before l);
+          (λ k l m. entry_at_before c.args.damage.now c.first_behind-i.result c.args.place k first.within first.before
+          l);
     }
 
 pub loop-i-preserved : goal.loop-i-preserved
 loop-i-preserved c =
     let entry = c.get-entry.result in
-    let is : get_or c.args.damage.now c.loop-i.i entry ≡ entry = get_or_from_slice_get c.args.damage.now c.loop-i.i entry entry c.get-entry.ensures in
+    let is : get_or c.args.damage.now c.loop-i.i entry ≡ entry =
+    get_or_from_slice_get c.args.damage.now c.loop-i.i entry entry c.get-entry.ensures in
     record {
       within = omega arith;
       bytes =
           c.lay_entry.ensures
           ∙ ap (laid (entry ∷ []) c.args.place) c.loop-i.invariant.bytes
-          ∙ ap (λ e. laid (e ∷ []) c.args.place (laid (take c.loop-i.i c.args.damage.now) c.args.place c.args.bytes.now)) (sym is)
-          ∙ laid_more c.args.damage.now entry c.loop-i.i c.args.place c.args.bytes.now c.requires.in_order (omega arith);
+          ∙ ap (λ e. laid (e ∷ []) c.args.place (laid
+          (take c.loop-i.i c.args.damage.now) c.args.place c.args.bytes.now)) (sym is)
+          ∙ laid_more c.args.damage.now entry c.loop-i.i c.args.place c.args.bytes.now c.requires.in_order
+          (omega arith);
     }
 
 pub returns-then-entry-end : goal.returns-then-entry-end
 returns-then-entry-end c =
     c.loop-i.invariant.bytes
     ∙ sym (laid_same c.args.damage.now (take c.loop-i.i c.args.damage.now) c.args.place c.args.bytes.now
-    (λ k l m. entry_at_behind c.args.damage.now c.get-entry.result c.loop-i.i (c.args.place + length c.args.bytes.now) k c.requires.in_order c.get-entry.ensures (omega arith) m))
+    (λ k l m. entry_at_behind c.args.damage.now c.get-entry.result c.loop-i.i
+    (c.args.place + length c.args.bytes.now) k c.requires.in_order c.get-entry.ensures (omega arith) m))
