@@ -113,8 +113,8 @@ fn logs(
 /// The line and the log of a feed with four orders.
 const LINE: &str = "packets 1300 segments 1204 presets 4 mutes 0 loose 0\n";
 
-const LOG: &str =
-    "preset 0 0 100 5078070 640\npreset 313 0 412 5320042 612\npreset 626 1 100 5562013 640\npreset 939 1 412 5803985 612\n";
+const LOG: &str = "preset 0 0 100 5078070 640\npreset 313 0 412 5320042 612\n\
+preset 626 1 100 5562013 640\npreset 939 1 412 5803985 612\n";
 
 #[test]
 fn an_exciter_sends_the_end_of_the_feeds_own_symbols(rt: HostRuntime) -> Result<(), Fail> {
