@@ -53,7 +53,7 @@ all_taken shape making names file done = by_first (first_refused shape making fi
     by_first (Some k) is done = cc
     by_first None is done = by_few (nat_lt shape.limit (whole_units shape file)) refl is done
 
-taken_means : (shape : Shape) (making : Making) (names : List (List ℕ)) (file : List ℕ) → AreAllTaken shape making file
+pub taken_means : (shape : Shape) (making : Making) (names : List (List ℕ)) (file : List ℕ) → AreAllTaken shape making file
     → meaning_of_file shape making names file ≡ meaning_at making names (first_units shape file (whole_units shape file)) (Whole (length file % shape.unit))
 taken_means shape making names file all =
     ap (λ (c : Course). meaning_at making names (first_units shape file c.taken) c.ending)
@@ -63,10 +63,10 @@ taken_means shape making names file all =
 -- ---- the feed of a stream was written
 
 -- the whole packets of the stream's file
-abbrev given_of : List ℕ → List ℕ
+abbrev pub given_of : List ℕ → List ℕ
 given_of file = first_units packets file (whole_units packets file)
 
-packets_given_of : (file : List ℕ) → packets_of (given_of file) ≡ packets_of file
+pub packets_given_of : (file : List ℕ) → packets_of (given_of file) ≡ packets_of file
 packets_given_of file = packets_of-piece file 0 (whole_packets file) (omega arith)
 
 written : (plan : Plan) (file : List ℕ) (held mid : Files) (fed : Outcome) → AreAllTaken packets (adapting plan) file

@@ -1,6 +1,6 @@
 -- The headline, of a network whose meaning was carried out and is done.
 use Rattle.std.proofs.Common.{◌≡◌, ℕ, ◌*◌, ◌/◌, ◌<◌, ◌^◌, Bool, true, false, cond, List, [], ◌∷◌, ◌++◌, length, take, refl, sym, ap, subst, ◌∙◌, arith}
-use Rattle.std.specs.Prelude.{All, Option, Some, None, Result, Ok, Err, IfSome, IsSomeAnd, is_some, slice_get}
+use Rattle.std.specs.Prelude.{All, Option, Some, None, Result, Ok, Err, IsSomeAnd, is_some, slice_get, slice_index}
 use Rattle.std.specs.FinMap.{get}
 use Rattle.std.specs.Option.{option_map_or}
 use Rattle.std.specs.Result.{IsOkAnd}
@@ -77,18 +77,26 @@ all_given : (file : List ℕ) (n : ℕ) → length file ≡ 832 * n → first_un
 all_given file n long = take_all (832 * (length file / 832)) file (omega (arith, long))
 
 done_back : (fed filled steps : ℕ) (outcome : Outcome) → (with_received fed filled steps outcome).status ≡ Done → outcome.status ≡ Done
-done_back fed filled steps outcome done = by_test (is_done outcome.status) refl
+done_back fed filled steps outcome done = by_test (is_done outcome.status) refl done
   where
-    by_test : (b : Bool) → is_done outcome.status ≡ b → outcome.status ≡ Done
-    by_test true e = is_done_is outcome.status e
-    by_test false e = sym (ap (λ (b : Bool). (cond b _ outcome).status) e) ∙ done
+    reported : Outcome
+    reported = record {
+      status = Done;
+      numbers = fed ∷ filled ∷ steps ∷ slice_index outcome.numbers 2 ∷ slice_index outcome.numbers 3 ∷ slice_index outcome.numbers 4 ∷ [];
+      shown = 6;
+    }
+
+    by_test : (b : Bool) → is_done outcome.status ≡ b → (cond b reported outcome).status ≡ Done → outcome.status ≡ Done
+    by_test true e done = is_done_is outcome.status e
+    by_test false e done = done
 
 -- where the symbols were received, what is written of them
 received_done : (plan : Plan) (network : NetPlan) (stream : List (List ℕ)) (receiver : ReceivePlan)
     → (received_of plan network stream receiver).outcome.status ≡ Done
     → (received_of plan network stream receiver).outputs ≡ (received_name, packets_received plan network stream receiver) ∷ []
 unfolding damaged_file
-received_done plan network stream receiver done = by_past (first_past receiver.damage (length file)) (done_back _ _ _ _ done)
+received_done plan network stream receiver done = by_past (first_past receiver.damage (length file))
+    (done_back _ _ _ (received_past (first_past receiver.damage (length file)) receiver.damage file).outcome done)
   where
     file : List ℕ
     file = sent_file plan network stream receiver.from
@@ -206,7 +214,7 @@ Under name held said = planned_meaning name held said said.net
 said_done : (name bytes : List ℕ) (r : Result Plan PlanNo) (held : Files) (now : Option Files) → plan_of bytes ≡ r
     → (under_said (Under name held) r).outcome.status ≡ Done → now ≡ with_outputs (under_said (Under name held) r).outputs (Some held)
     → IsOkAnd r (λ plan. IsSomeAnd plan.net (Claims held now plan))
-said_done name bytes (Err no) held now is done files = cc
+said_done name bytes (Err refusal) held now is done files = cc
 said_done name bytes (Ok plan) held now is done files =
     planned_done name plan plan.net held now (record { sound = plan_sound bytes plan is; transmitters = plan_transmitters bytes plan is }) done files
 
