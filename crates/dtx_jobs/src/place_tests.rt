@@ -6,19 +6,25 @@ use dtx_outside::{MemoryShelf, Word};
 use std::alloc::{AllocError, Global};
 use std::test::Fail;
 
-/// That many packets of 188 bytes with zeros behind the header, whose packet identifier is that one.
-fn packets_of(alloc: Global, count: usize, pid: u16) -> Result<Vec<u8>, AllocError> {
-    let [high, low] = pid.to_be_bytes();
+/// The packet identifiers of a null packet, of a placeholder and of another packet.
+const NULL: [u8; 2] = [0x1F, 0xFF];
+const HELD: [u8; 2] = [0x1F, 0xFA];
+const OTHER: [u8; 2] = [0x00, 0x31];
+
+/// Packets of these identifiers, so many of each, with zeros behind their headers.
+fn stream_of(alloc: Global, runs: &[(usize, [u8; 2])]) -> Result<Vec<u8>, AllocError> {
     let mut bytes = Vec::new(alloc);
-    for _ in 0..count {
-        bytes.extend_from_slice(&[0x47, high, low, 0x10])?;
-        bytes.extend_from_slice(&[0; 184])?;
+    for (count, [high, low]) in runs {
+        for _ in 0..*count {
+            bytes.extend_from_slice(&[0x47, *high, *low, 0x10])?;
+            bytes.extend_from_slice(&[0; 184])?;
+        }
     }
     Ok(bytes)
 }
 
 /// The first packets of seed 1, as `make` writes them.
-fn made_packets(alloc: Global, count: u64) -> Result<Vec<u8>, AllocError> {
+fn made_stream(alloc: Global, count: u64) -> Result<Vec<u8>, AllocError> {
     let mut bytes = Vec::new(alloc);
     for index in 0..count {
         bytes.extend_from_slice(&packet(1, index).0)?;
@@ -61,25 +67,35 @@ fn refused(status: Status) -> Outcome {
 
 #[test]
 fn one_null_packet_a_field_becomes_a_placeholder(rt: HostRuntime) -> Result<(), Fail> {
-    let made = made_packets(rt.alloc(), 1300)?;
-    let nulls = packets_of(rt.alloc(), 700, 0x1FFF)?;
-    let others = packets_of(rt.alloc(), 700, 0x31)?;
-    let rows: [(&[u8], [u64; 4], &[usize]); 4] = [
-        (&made, [1300, 0, 1, 0], &[]),
-        (&nulls, [700, 3, 0, 0], &[52, 364, 676]),
-        (&others, [700, 0, 3, 0], &[]),
-        (&nulls[..188 * 364 + 7], [364, 1, 1, 7], &[52]),
+    let made = made_stream(rt.alloc(), 1300)?;
+    let nulls = stream_of(rt.alloc(), &[(700, NULL)])?;
+    let others = stream_of(rt.alloc(), &[(700, OTHER)])?;
+    let mut part = stream_of(rt.alloc(), &[(364, NULL)])?;
+    part.extend_from_slice(&[0x47; 7])?;
+    let put = stream_of(
+        rt.alloc(),
+        &[
+            (52, NULL),
+            (1, HELD),
+            (311, NULL),
+            (1, HELD),
+            (311, NULL),
+            (1, HELD),
+            (23, NULL),
+        ],
+    )?;
+    let one_put = stream_of(rt.alloc(), &[(52, NULL), (1, HELD), (311, NULL)])?;
+    let rows: [(&[u8], [u64; 4], &[u8]); 4] = [
+        (&made, [1300, 0, 1, 0], &made),
+        (&nulls, [700, 3, 0, 0], &put),
+        (&others, [700, 0, 3, 0], &others),
+        (&part, [364, 1, 1, 7], &one_put),
     ];
-    for (stream, numbers, places) in rows {
+    for (stream, numbers, wanted) in rows {
         let mut shelf = MemoryShelf::new(rt.alloc());
         shelf.put("in", stream)?;
         assert_eq!(rt; placed(rt.alloc(), &mut shelf, "in", "out")?, done(numbers));
-        let mut wanted = Vec::new(rt.alloc());
-        wanted.extend_from_slice(&stream[..stream.len() / 188 * 188])?;
-        for place in places {
-            wanted[188 * place + 2] = 0xFA;
-        }
-        assert!(rt; shelf.get("out") == Some(&wanted[..]));
+        assert!(rt; shelf.get("out") == Some(wanted));
     }
     Ok(())
 }
@@ -88,9 +104,10 @@ fn one_null_packet_a_field_becomes_a_placeholder(rt: HostRuntime) -> Result<(), 
 fn a_placeholder_is_seen_and_a_refusal_keeps_the_packets_before_it(
     rt: HostRuntime,
 ) -> Result<(), Fail> {
-    let mut stream = packets_of(rt.alloc(), 320, 0x1FFF)?;
-    stream[188 * 52 + 2] = 0xFA;
-    stream[188 * 317] = 0x46;
+    let kept = stream_of(rt.alloc(), &[(52, NULL), (1, HELD), (264, NULL)])?;
+    let mut stream = stream_of(rt.alloc(), &[(52, NULL), (1, HELD), (264, NULL)])?;
+    stream.extend_from_slice(&[0x46; 188])?;
+    stream.extend_from_slice(&[0x47; 188])?;
     let mut shelf = MemoryShelf::new(rt.alloc());
     shelf.put("in", &stream)?;
     for (input, output, status) in [
@@ -98,11 +115,8 @@ fn a_placeholder_is_seen_and_a_refusal_keeps_the_packets_before_it(
         ("no", "out", Status::Absent(0)),
         ("in", "out", Status::Packet(317)),
     ] {
-        assert_eq!(rt;
-            placed(rt.alloc(), &mut shelf, input, output)?,
-            refused(status)
-        );
+        assert_eq!(rt; placed(rt.alloc(), &mut shelf, input, output)?, refused(status));
     }
-    assert!(rt; shelf.get("out") == Some(&stream[..188 * 317]));
+    assert!(rt; shelf.get("out") == Some(&kept[..]));
     Ok(())
 }
