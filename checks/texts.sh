@@ -72,6 +72,28 @@ long_files() {
     done
 }
 
+# Columns are characters; a tactic's attribute stands on one line.
+long_lines() {
+    files '*.rt' '*.antt' | python3 -c '
+import sys
+for name in sys.stdin.read().split():
+    for number, line in enumerate(open(name, encoding="utf-8"), 1):
+        line = line.rstrip("\n")
+        if len(line) > 120 and not line.lstrip().startswith("#[tactic"):
+            print(f"{name}: {number}: {len(line)} columns")
+'
+}
+
+# Lemmas that other crates cite stand in specs/. `dtx_lists` has lemmas alone.
+foreign_proofs() {
+    local file own
+    files 'crates/*/src/*' 'crates/*/specs/*' 'crates/*/proofs/*' | while IFS= read -r file; do
+        own=${file#crates/}
+        own=${own%%/*}
+        grep -HnoE 'Rattle\.dtx_[a-z_]+\.proofs' "$file" | grep -vE "Rattle\.($own|dtx_lists)\.proofs"
+    done
+}
+
 handles() {
     cmp -s HANDLES <(echo 'Handles allowed: none.') || echo 'it is not its one line'
 }
@@ -117,7 +139,10 @@ scripts() {
 rule 'a paper, or a number of one' "$(names_of_papers)"
 rule 'a path of a machine' "$(paths_of_a_machine)"
 rule 'a file longer than 600 lines' "$(long_files)"
+rule 'a line longer than 120 columns' "$(long_lines)"
+rule "a file that names another crate's proofs" "$(foreign_proofs)"
 rule 'HANDLES' "$(handles)"
+rule 'a README of more than 120 lines' "$(awk 'END { if (NR > 120) print "README.md: " NR " lines" }' README.md)"
 rule 'the gate' "$(gate)"
 rule 'fewer than three must-fail edits' "$(few_edits)"
 rule 'a file that is not there' "$(missing_files)"

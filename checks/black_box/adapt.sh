@@ -72,7 +72,7 @@ while read -r packets spoils filled; do
     start "$packets packets with placeholders $spoils"
     given "$packets" 0
     spoil_all "$spoils"
-    "$top/checks/reference.py" feed ../inputs/given.ts wanted.ts
+    "$top/checks/independent/reference.py" feed ../inputs/given.ts wanted.ts
     run 0 "packets $packets filled $filled loose 0" adapt "$plan" ../inputs/given.ts out.ts
     cmp -s wanted.ts out.ts || wrong 'out.ts is another feed'
 done <<'end'

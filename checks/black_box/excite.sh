@@ -103,4 +103,4 @@ has_digest out.log 42071eb44f95e818bfcf4eb4a16103cb4638dc713e3a49989c7d862184657
 
 # Random lists of feed packets, foreign ones, spoiled ones and marks out of step.
 start 'random lists of packets'
-"$top/checks/exciter.py" "$dtx" 240 >"$room/said" || wrong "$(grep FAILED "$room/said" | head -n 3)"
+"$top/checks/independent/exciter.py" "$dtx" 240 >"$room/said" || wrong "$(grep FAILED "$room/said" | head -n 3)"

@@ -13,7 +13,7 @@ printf '0123456789' >"$inputs/ten"
 given 3 0
 
 start 'two segments are lost, and put right'
-"$top/checks/reference.py" zeros 624 in.ts
+"$top/checks/independent/reference.py" zeros 624 in.ts
 run 0 'packets 624 segments 626 loose 0' code in.ts in.sym
 damage_says 167232:1664:127
 run 0 'bytes 520832 damaged 1664' hurt in.sym changes.toml out.sym
@@ -86,7 +86,7 @@ leaves below below/changes.toml out
 
 # Random files and damage.
 start 'random damage'
-"$top/checks/hurt.py" "$dtx" 120 >"$room/said" || wrong "$(grep FAILED "$room/said" | head -n 3)"
+"$top/checks/independent/hurt.py" "$dtx" 120 >"$room/said" || wrong "$(grep FAILED "$room/said" | head -n 3)"
 
 # ---- Refusals ----
 

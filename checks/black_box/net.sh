@@ -68,7 +68,7 @@ keeps_older() {
 is_network() {
     rm -rf "$room/wanted"
     mkdir "$room/wanted"
-    run "$1" "$("$top/checks/network.py" net "$2" "$room/wanted")" net "$2"
+    run "$1" "$("$top/checks/independent/network.py" net "$2" "$room/wanted")" net "$2"
     for file in "$room"/wanted/*; do
         cmp -s "$file" "${file##*/}" || wrong "${file##*/} is another file"
     done
@@ -229,7 +229,7 @@ end
 
 # Random networks.
 start 'random networks'
-"$top/checks/network.py" "$dtx" 60 >"$room/said" || wrong "$(grep FAILED "$room/said" | head -n 3)"
+"$top/checks/independent/network.py" "$dtx" 60 >"$room/said" || wrong "$(grep FAILED "$room/said" | head -n 3)"
 
 # ---- Equal names ----
 

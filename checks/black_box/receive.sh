@@ -10,7 +10,7 @@ leaves in.ts in.sym out.ts
 # Feeds with operations packets, which a program of its own makes.
 start 'the packets of the symbols of a feed'
 run 0 'packets 1300' make 1 1300 in.ts
-"$top/checks/reference.py" feed in.ts feed.ts
+"$top/checks/independent/reference.py" feed in.ts feed.ts
 has_digest feed.ts a97707ad9c5b771bb9510c7c1bd833cdc4cc941066286ea2722af15bdf507f12
 run 0 'packets 1300 segments 1305 loose 0' code feed.ts feed.sym
 has_digest feed.sym 6c253b73c974cb029a62103218b92bb240df240b99b248cf48f20d82eaceeee7
@@ -33,7 +33,7 @@ run 0 'segments 1204 runs 1 packets 937 fixed 9 flagged 0 loose 0' receive in.sy
 has_digest out.ts 25bcdec4408a72dc0fc771a6f9f4864b5bece438a7f254858a62c49148eb8056
 
 start 'two lost segments are put right'
-"$top/checks/reference.py" zeros 624 in.ts
+"$top/checks/independent/reference.py" zeros 624 in.ts
 run 0 'packets 624 segments 626 loose 0' code in.ts in.sym
 head -c 1664 /dev/zero | tr '\0' '\177' | dd of=in.sym bs=1 seek=167232 conv=notrunc status=none
 run 0 'segments 626 runs 1 packets 573 fixed 420 flagged 0 loose 0' receive in.sym out.ts
@@ -41,7 +41,7 @@ head -c $((573 * 188)) in.ts | cmp -s - out.ts || wrong 'out.ts is not the first
 
 start 'a long stream of feed symbols'
 run 0 'packets 31200' make 1 31200 in.ts
-"$top/checks/reference.py" feed in.ts feed.ts
+"$top/checks/independent/reference.py" feed in.ts feed.ts
 has_digest feed.ts c61a98338e4e2df886e921f7a69644c65dd8e6f8813a01598f7e674fa0510ae8
 run 0 'packets 31200 segments 31300 loose 0' code feed.ts feed.sym
 has_digest feed.sym 69c8e8b7a6334869a125443672950cb78db8d8c1d234af7b312718eb2eaee26a

@@ -80,6 +80,11 @@ is_usage '`hurt` with a word too many' hurt ../inputs/given.ts changes out more
 is_usage '`hurt` with an empty input' hurt '' changes out
 is_usage '`hurt` with empty changes' hurt ../inputs/given.ts '' out
 is_usage '`hurt` with an empty output' hurt ../inputs/given.ts changes ''
+is_usage '`place` alone' place
+is_usage '`place` with a word too few' place ../inputs/given.ts
+is_usage '`place` with a word too many' place ../inputs/given.ts out.ts more
+is_usage '`place` with an empty input' place '' out.ts
+is_usage '`place` with an empty output' place ../inputs/given.ts ''
 
 while read -r shows given_plan input output named; do
     start "equal names: $shows"

@@ -9,8 +9,8 @@ packets=2000
 # GNU Radio codes whole twelves of packets: four more are given to it, and what comes of them is left out.
 more=4
 
-. "$(dirname "${BASH_SOURCE[0]}")/timing.sh"
-. "$top/bench/gnuradio.sh"
+. "$(dirname "${BASH_SOURCE[0]}")/../commands/timing.sh"
+. "$top/bench/gnuradio/blocks.sh"
 if ! find_gnuradio; then
     echo 'GNU Radio is not installed here'
     exit 0
@@ -18,5 +18,5 @@ fi
 "$program" make 1 $packets "$room/in.ts" >"$room/said"
 "$program" make 1 $((packets + more)) "$room/twelves.ts" >"$room/said"
 "$program" code "$room/in.ts" "$room/dtx.sym" >"$room/said"
-"$gnuradio_python" "$top/bench/gnuradio_code.py" "$room/twelves.ts" "$room/levels"
-"$gnuradio_python" "$top/bench/gnuradio_same.py" "$room/dtx.sym" "$room/levels"
+"$gnuradio_python" "$top/bench/gnuradio/code.py" "$room/twelves.ts" "$room/levels"
+"$gnuradio_python" "$top/bench/gnuradio/same.py" "$room/dtx.sym" "$room/levels"

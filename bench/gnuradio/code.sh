@@ -12,8 +12,8 @@ packets=1063830
 few_packets=106080
 least_packets=12
 
-. "$(dirname "${BASH_SOURCE[0]}")/timing.sh"
-. "$top/bench/gnuradio.sh"
+. "$(dirname "${BASH_SOURCE[0]}")/../commands/timing.sh"
+. "$top/bench/gnuradio/blocks.sh"
 "$program" make 1 $packets "$room/in.ts" >"$room/said"
 head -c $((few_packets * 188)) "$room/in.ts" >"$room/few.ts"
 
@@ -30,6 +30,6 @@ if ! find_gnuradio; then
 fi
 # Its start is no part of the coding: the time of a few packets is taken off.
 head -c $((least_packets * 188)) "$room/few.ts" >"$room/least.ts"
-start=$(timed "$gnuradio_python" "$top/bench/gnuradio_code.py" "$room/least.ts" "$room/out.sym")
-whole=$(timed "$gnuradio_python" "$top/bench/gnuradio_code.py" "$room/few.ts" "$room/out.sym")
+start=$(timed "$gnuradio_python" "$top/bench/gnuradio/code.py" "$room/least.ts" "$room/out.sym")
+whole=$(timed "$gnuradio_python" "$top/bench/gnuradio/code.py" "$room/few.ts" "$room/out.sym")
 compared 'dtx code' $packets $((few_packets - least_packets)) $((whole - start)) $bar

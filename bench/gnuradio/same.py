@@ -1,5 +1,5 @@
 #!/usr/bin/env python3
-"""Compares the symbols of `dtx code` with the levels of GNU Radio: gnuradio_same.py SYMBOLS LEVELS."""
+"""Compares the symbols of `dtx code` with the levels of GNU Radio: same.py SYMBOLS LEVELS."""
 
 import sys
 

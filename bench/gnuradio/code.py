@@ -1,5 +1,5 @@
 #!/usr/bin/env python3
-"""Codes a transport stream to symbols by GNU Radio's ATSC blocks: gnuradio_code.py IN OUT."""
+"""Codes a transport stream to symbols by GNU Radio's ATSC blocks: code.py IN OUT."""
 
 import sys
 

@@ -18,7 +18,7 @@ from exciter import lived
 from receiver import LEVELS, SEGMENT, looks, received
 from reference import FRAME, PACKET, adapted, is_placeholder, packets_of, read, spelled
 
-STATUS = {"out of feed": 8, "out of air": 9, "no sync": 10}
+STATUS = {"packet": 6, "out of feed": 8, "out of air": 9, "no sync": 10}
 
 
 def made(seed, index):

@@ -14,8 +14,8 @@ few_fields=34
 field_symbols=$((313 * 832))
 field_packets=312
 
-. "$(dirname "${BASH_SOURCE[0]}")/timing.sh"
-. "$top/bench/gnuradio.sh"
+. "$(dirname "${BASH_SOURCE[0]}")/../commands/timing.sh"
+. "$top/bench/gnuradio/blocks.sh"
 "$program" make 1 $packets "$room/in.ts" >"$room/said"
 "$program" code "$room/in.ts" "$room/in.sym" >"$room/said"
 rm "$room/in.ts"
@@ -35,6 +35,6 @@ if ! find_gnuradio; then
 fi
 # Its start is no part of the receiving: the time of one field is taken off.
 head -c $field_symbols "$room/few.sym" >"$room/least.sym"
-start=$(timed "$gnuradio_python" "$top/bench/gnuradio_receive.py" "$room/least.sym" "$room/out.ts")
-whole=$(timed "$gnuradio_python" "$top/bench/gnuradio_receive.py" "$room/few.sym" "$room/out.ts")
+start=$(timed "$gnuradio_python" "$top/bench/gnuradio/receive.py" "$room/least.sym" "$room/out.ts")
+whole=$(timed "$gnuradio_python" "$top/bench/gnuradio/receive.py" "$room/few.sym" "$room/out.ts")
 compared 'dtx receive' $packets $((few_packets - field_packets)) $((whole - start)) $bar

@@ -3,12 +3,12 @@
 # It wants `rustc`, and the kit's `rt` where the program isn't built yet.
 set -eu
 
-top=$(cd "$(dirname "$0")/.." && pwd)
-. "$top/bench/parts.sh"
+top=$(cd "$(dirname "$0")/../.." && pwd)
+. "$top/bench/parts/parts.sh"
 folder=$(mktemp -d)
 trap 'rm -rf "$folder"' EXIT
 plain=$folder/encode
-rustc --edition 2024 -O -C codegen-units=1 -o "$plain" "$top/bench/encode.rs"
+rustc --edition 2024 -O -C codegen-units=1 -o "$plain" "$top/bench/parts/encode.rs"
 
 if [ "$("$proved")" != "$("$plain")" ]; then
     echo "the two programs encode differently" >&2

@@ -11,7 +11,7 @@ seed=1
 packets=1063830
 
 . "$(dirname "${BASH_SOURCE[0]}")/timing.sh"
-rustc -O -o "$room/make_pieces" "$top/bench/make_pieces.rs"
+rustc -O -o "$room/make_pieces" "$top/bench/commands/make_pieces.rs"
 
 for ((round = 0; round < rounds; round++)); do
     measure 'dtx make' "$room/made.ts" "$program" make $seed $packets "$room/made.ts"

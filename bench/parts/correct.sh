@@ -4,8 +4,8 @@
 # It wants the kit's `rt` where the program isn't built yet.
 set -eu
 
-top=$(cd "$(dirname "$0")/.." && pwd)
-. "$top/bench/parts.sh"
+top=$(cd "$(dirname "$0")/../.." && pwd)
+. "$top/bench/parts/parts.sh"
 for _ in 1 2 3; do
     $pinned "$proved" correct
 done | awk '

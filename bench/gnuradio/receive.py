@@ -1,5 +1,5 @@
 #!/usr/bin/env python3
-"""Receives symbols by GNU Radio's ATSC blocks and writes their packets: gnuradio_receive.py IN OUT."""
+"""Receives symbols by GNU Radio's ATSC blocks and writes their packets: receive.py IN OUT."""
 
 import sys
 

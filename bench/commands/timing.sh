@@ -4,7 +4,7 @@
 # shortest time of each name in microseconds.
 
 export LC_ALL=C
-top=$(cd "$(dirname "${BASH_SOURCE[0]}")/.." && pwd)
+top=$(cd "$(dirname "${BASH_SOURCE[0]}")/../.." && pwd)
 program=$top/crates/dtx/out/dtx
 room=$(mktemp -d)
 trap 'rm -rf "$room"' EXIT

@@ -1,0 +1,89 @@
+# Null packets that become placeholders. What OUT must be is written here, or by a program that shares nothing with dtx.
+
+# nulls FIRST LAST: makes ../inputs/nulls.ts of packets with those numbers of PID 0x1FFF.
+nulls() {
+    local index
+    for ((index = $1; index <= $2; index++)); do
+        packet 47 1fff "$index"
+    done >"$inputs/nulls.ts"
+    inputs_before=$(sums)
+}
+
+# are_placed STREAM OUT INDEX..: OUT is the stream but for byte 2 of those packets, FA in place of FF.
+are_placed() {
+    local stream=$1 out=$2 index changes
+    shift 2
+    changes=$(cmp -l "$stream" "$out" 2>&1 | sed 's/^ *//; s/  */ /g')
+    for index in "$@"; do
+        printf '%d 377 372\n' $((index * 188 + 3))
+    done | cmp -s - <(printf '%s\n' "$changes") || wrong "changed: ${changes//$'\n'/, }"
+}
+
+start 'the first null packet behind place 51 of each field becomes a placeholder'
+nulls 0 699
+run 0 'packets 700 placed 3 bare 0 loose 0' place ../inputs/nulls.ts out.ts
+are_placed ../inputs/nulls.ts out.ts 52 364 676
+run 0 'packets 700 placed 0 bare 0 loose 0' place out.ts again.ts
+cmp -s out.ts again.ts || wrong 'placing again changes the stream'
+leaves out.ts again.ts
+
+start 'a stream without null packets stays'
+given 700 5
+run 0 'packets 700 placed 0 bare 3 loose 5' place ../inputs/given.ts out.ts
+head -c $((700 * 188)) ../inputs/given.ts | cmp -s - out.ts || wrong 'the stream was changed'
+
+start 'a made stream has its placeholders'
+run 0 'packets 1300' make 1 1300 in.ts
+run 0 'packets 1300 placed 0 bare 1 loose 0' place in.ts out.ts
+cmp -s in.ts out.ts || wrong 'the stream was changed'
+
+start 'a placeholder that stands there already is seen'
+given 400 0
+spoil_all 51:47:1fff,60:47:1ffa,61:47:1fff,363:47:1fff,399:47:1fff
+run 0 'packets 400 placed 1 bare 0 loose 0' place ../inputs/given.ts out.ts
+are_placed ../inputs/given.ts out.ts 399
+
+start 'a placed stream is adapted, and an exciter locks to it'
+nulls 0 699
+run 0 'packets 700 placed 3 bare 0 loose 0' place ../inputs/nulls.ts in.ts
+run 0 'packets 700 filled 3 loose 0' adapt "$plan" in.ts out.feed
+run 0 'packets 700 segments 650 presets 3 mutes 0 loose 0' excite out.feed 7 1000 out.sym out.log
+
+start 'an empty stream'
+: >"$inputs/nulls.ts"
+inputs_before=$(sums)
+run 0 'packets 0 placed 0 bare 0 loose 0' place ../inputs/nulls.ts out.ts
+[[ -e out.ts && ! -s out.ts ]] || wrong 'out.ts is not empty'
+
+start 'a packet is refused, and the packets before it stand'
+nulls 0 99
+packet 48 1fff 70 | dd of="$inputs/nulls.ts" bs=188 seek=70 conv=notrunc status=none
+inputs_before=$(sums)
+run 6 'packet 70' place ../inputs/nulls.ts out.ts
+head -c $((70 * 188)) ../inputs/nulls.ts >wanted.ts
+are_placed wanted.ts out.ts 52
+
+start 'random streams'
+"$top/checks/independent/place.py" "$dtx" 120 >"$room/said" || wrong "$(grep FAILED "$room/said" | head -n 3)"
+
+# ---- Refusals ----
+
+# A blank of a line is written as an underscore here.
+given 60 0
+while read -r shows input output status line; do
+    start "\`place\` is refused: $shows"
+    mkdir folder
+    run "$status" "${line//_/ }" place "$input" "$output"
+    leaves folder
+done <<'end'
+a_missing_input missing out.ts 4 absent_missing
+an_input_that_is_a_folder folder out.ts 11 read_fault
+an_output_that_is_a_folder ../inputs/given.ts folder 12 write_fault
+an_output_in_a_folder_that_is_not_there ../inputs/given.ts nowhere/out.ts 12 write_fault
+equal_names ../inputs/given.ts ../inputs/given.ts 3 same_../inputs/given.ts
+equal_names_that_are_missing missing missing 3 same_missing
+end
+
+start 'the disk is full'
+given 3000 0
+fills_up 300 ../inputs/given.ts place ../inputs/given.ts out.ts
