@@ -1,6 +1,5 @@
 -- A stretch that is received as it was sent.
 use Rattle.std.proofs.Common.{ℕ, List, ◌+◌, refl}
-use Rattle.dtx_coder.specs.Stream.{a53}
 use Rattle.dtx_exciter.specs.Lockstep.{segment_place}
 use Rattle.dtx_chain.specs.Undamaged.{ArePackets}
 use Rattle.dtx_chain.specs.Damage.{AreReceived}
