@@ -1,10 +1,12 @@
 -- A stream that was adapted whole, and what follows of its feed.
-use Rattle.std.proofs.Common.{◌≡◌, ◌⊎◌, ℕ, ◌/◌, ◌%◌, ◌≤◌, Bool, true, false, cond, List, [], ◌∷◌, ◌++◌, length, refl, sym, ap, subst, ◌∙◌, inl, inr, arith}
+use Rattle.std.proofs.Common.{◌≡◌, ℕ, ◌%◌, Bool, true, false, cond, List, [], ◌∷◌, ◌++◌, length, refl, sym, ap, subst}
+use Rattle.std.proofs.Common.{◌∙◌, inl, inr, arith}
 use Rattle.std.specs.Prelude.{Option, Some, None, IfSome, nat_lt, slice_index}
 use Rattle.std.specs.FinMap.{get}
 use Rattle.std.proofs.lemmas.List.{append-nil}
 use Rattle.dtx_adapter.specs.Feed.{placeholders}
-use Rattle.dtx_engine.specs.Making.{Course, Making, course_from, first_refused, first_units, meaning, meaning_at, meaning_of_file, whole_units}
+use Rattle.dtx_engine.specs.Making.{Course, Making, course_from, first_refused, first_units, meaning, meaning_at}
+use Rattle.dtx_engine.specs.Making.{meaning_of_file, whole_units}
 use Rattle.dtx_engine.specs.declared.engine.Shape.{Shape}
 use Rattle.dtx_engine.specs.declared.piece.Ending.TheVariants.{Whole, Refused}
 use Rattle.dtx_jobs.specs.Feed.{feed_bytes}
@@ -24,7 +26,7 @@ use Rattle.dtx_plan.specs.declared.plan.NetPlan.{NetPlan}
 use Rattle.dtx_plan.specs.declared.plan.Plan.{Plan}
 use Rattle.dtx_words.specs.NetworkNames.{feed_name}
 use Rattle.dtx_replay.specs.NetMeaning.{adapting, fed_meaning, is_done, network_meaning}
-use Rattle.dtx_replay.specs.Replaying.{HasNumbers, IsFeedWritten}
+use Rattle.dtx_replay.specs.Replaying.{IsFeedWritten}
 use Rattle.dtx_replay.proofs.Carrying.{is_done_is}
 
 -- ---- all units of an input were allowed, and are not too many
@@ -48,17 +50,21 @@ all_taken shape making names file done = by_first (first_refused shape making fi
     by_few true few none done = cc
     by_few false few none done = record { none = none; few = few }
 
-    by_first : (o : Option ℕ) → first_refused shape making file ≡ o → (means_at (course_from shape file o)).outcome.status ≡ Done
+    by_first : (o : Option ℕ) → first_refused shape making file ≡ o
+        → (means_at (course_from shape file o)).outcome.status ≡ Done
         → AreAllTaken shape making file
     by_first (Some k) is done = cc
     by_first None is done = by_few (nat_lt shape.limit (whole_units shape file)) refl is done
 
-pub taken_means : (shape : Shape) (making : Making) (names : List (List ℕ)) (file : List ℕ) → AreAllTaken shape making file
-    → meaning_of_file shape making names file ≡ meaning_at making names (first_units shape file (whole_units shape file)) (Whole (length file % shape.unit))
+pub taken_means : (shape : Shape) (making : Making) (names : List (List ℕ)) (file : List ℕ)
+    → AreAllTaken shape making file
+    → meaning_of_file shape making names file ≡ meaning_at making names
+    (first_units shape file (whole_units shape file)) (Whole (length file % shape.unit))
 taken_means shape making names file all =
     ap (λ (c : Course). meaning_at making names (first_units shape file c.taken) c.ending)
     (ap (course_from shape file) all.none
-    ∙ ap (λ (b : Bool). cond b (record { taken = shape.limit; ending = Refused TooLong }) (record { taken = whole_units shape file; ending = Whole (length file % shape.unit) })) all.few)
+    ∙ ap (λ (b : Bool). cond b (record { taken = shape.limit; ending = Refused TooLong })
+    (record { taken = whole_units shape file; ending = Whole (length file % shape.unit) })) all.few)
 
 -- ---- the feed of a stream was written
 
@@ -77,12 +83,14 @@ written plan file held mid fed all whole =
     let given : List ℕ = given_of file in
     let bytes : List ℕ = feed_bytes plan (packets_of given) ++ [] in
     let answer = whole.answer ∙ ap (λ (m : Meaning). m.outcome) means in
-    let files : Some mid ≡ Some (with_file feed_name bytes held) = whole.files ∙ ap (λ (m : Meaning). with_outputs m.outputs (Some held)) means in
+    let files : Some mid ≡ Some (with_file feed_name bytes held) =
+    whole.files ∙ ap (λ (m : Meaning). with_outputs m.outputs (Some held)) means in
     let are : mid ≡ with_file feed_name bytes held = cc in
     record {
       long = long-packets_of file;
       numbers = record {
-        packets = ap (λ (o : Outcome). slice_index o.numbers 0) answer ∙ whole_packets-piece file 0 (whole_packets file) (omega arith)
+        packets = ap (λ (o : Outcome). slice_index o.numbers 0) answer
+            ∙ whole_packets-piece file 0 (whole_packets file) (omega arith)
             ∙ sym (length-packets_of file);
         filled = ap (λ (o : Outcome). slice_index o.numbers 1) answer ∙ ap placeholders (packets_given_of file);
       };
@@ -95,14 +103,18 @@ written plan file held mid fed all whole =
 not_fault : (status : Status) → status ≡ Done → IsFault status → ⊥
 not_fault status done fault = subst IsFault done fault
 
-pub fed_then : (plan : Plan) (network : NetPlan) (held : Files) (found : Option (List ℕ)) (mid now : Option Files) (fed result : Outcome) → fed.status ≡ Done
+pub fed_then : (plan : Plan) (network : NetPlan) (held : Files) (found : Option (List ℕ)) (mid now : Option Files)
+    (fed result : Outcome) → fed.status ≡ Done
     → IsCarriedOut (meaning packets (adapting plan) 1 (feed_name ∷ []) found) (Some held) fed mid
     → ((told : Files) (stream : List (List ℕ)) → mid ≡ Some told → IsFeedWritten plan stream fed told
     → IsCarriedOut (fed_meaning plan network stream) (Some told) result now)
     → IsCarriedOut (network_meaning plan network found) (Some held) result now
-fed_then plan network held found mid now fed result done (inr broken) next = absurd (not_fault fed.status done broken.fault)
-fed_then plan network held None mid now fed result done (inl whole) next = let e = ap (λ (o : Outcome). o.status) whole.answer in cc
-fed_then plan network held (Some file) mid now fed result done (inl whole) next = at_done (is_done first.outcome.status) refl
+fed_then plan network held found mid now fed result done (inr broken) next =
+    absurd (not_fault fed.status done broken.fault)
+fed_then plan network held None mid now fed result done (inl whole) next = let e =
+    ap (λ (o : Outcome). o.status) whole.answer in cc
+fed_then plan network held (Some file) mid now fed result done (inl whole) next =
+    at_done (is_done first.outcome.status) refl
   where
     first : Meaning
     first = meaning_of_file packets (adapting plan) (feed_name ∷ []) file
@@ -117,19 +129,24 @@ fed_then plan network held (Some file) mid now fed result done (inl whole) next 
     between = with_file feed_name (feed_bytes plan (packets_of (given_of file)) ++ []) held
 
     told : mid ≡ Some between
-    told = whole.files ∙ ap (λ (m : Meaning). with_outputs m.outputs (Some held)) (taken_means packets (adapting plan) (feed_name ∷ []) file all)
+    told = whole.files
+        ∙ ap (λ (m : Meaning). with_outputs m.outputs (Some held))
+        (taken_means packets (adapting plan) (feed_name ∷ []) file all)
 
     behind : IsCarriedOut (and_then first (fed_meaning plan network (packets_of file))) (Some held) result now
-    behind = carried_then first (fed_meaning plan network (packets_of file)) (Some held) (Some between) now result (sym told ∙ whole.files)
+    behind = carried_then first (fed_meaning plan network (packets_of file)) (Some held) (Some between) now result
+        (sym told ∙ whole.files)
         (next between (packets_of file) told
         (written plan file held between fed all (record { answer = whole.answer; files = sym told ∙ whole.files })))
 
     at_done : (b : Bool) → is_done first.outcome.status ≡ b
-        → IsCarriedOut (cond b (and_then first (fed_meaning plan network (packets_of file))) first) (Some held) result now
+        → IsCarriedOut (cond b (and_then first (fed_meaning plan network (packets_of file))) first)
+        (Some held) result now
     at_done true e = behind
     at_done false e = let t : is_done first.outcome.status ≡ true = ap is_done first_done in cc
 
-pub fed_alone : (plan : Plan) (network : NetPlan) (held : Files) (found : Option (List ℕ)) (now : Option Files) (fed : Outcome) → (fed.status ≡ Done → ⊥)
+pub fed_alone : (plan : Plan) (network : NetPlan) (held : Files) (found : Option (List ℕ)) (now : Option Files)
+    (fed : Outcome) → (fed.status ≡ Done → ⊥)
     → IsCarriedOut (meaning packets (adapting plan) 1 (feed_name ∷ []) found) (Some held) fed now
     → IsCarriedOut (network_meaning plan network found) (Some held) fed now
 fed_alone plan network held None now fed not_done carried = carried
@@ -144,13 +161,16 @@ fed_alone plan network held (Some file) now fed not_done carried = at_done (is_d
     at_done : (b : Bool) → is_done first.outcome.status ≡ b → IsCarriedOut first (Some held) fed now
         → IsCarriedOut (cond b (and_then first next) first) (Some held) fed now
     at_done false e carried = carried
-    at_done true e (inl whole) = absurd (not_done (ap (λ (o : Outcome). o.status) whole.answer ∙ is_done_is first.outcome.status e))
+    at_done true e (inl whole) =
+        absurd (not_done (ap (λ (o : Outcome). o.status) whole.answer ∙ is_done_is first.outcome.status e))
     at_done true e (inr broken) = carried_before first next (Some held) now fed broken.fault (inr broken)
 
 -- ---- where the files are told
 
-pub fed_then_told : (plan : Plan) (network : NetPlan) (told mid now : Option Files) (fed result : Outcome) → fed.status ≡ Done
-    → IfSome told (λ held. IsCarriedOut (meaning packets (adapting plan) 1 (feed_name ∷ []) (get held network.stream)) (Some held) fed mid)
+pub fed_then_told : (plan : Plan) (network : NetPlan) (told mid now : Option Files) (fed result : Outcome)
+    → fed.status ≡ Done
+    → IfSome told (λ held. IsCarriedOut (meaning packets (adapting plan) 1 (feed_name ∷ []) (get held network.stream))
+    (Some held) fed mid)
     → ((held : Files) (stream : List (List ℕ)) → mid ≡ Some held → IsFeedWritten plan stream fed held
     → IsCarriedOut (fed_meaning plan network stream) (Some held) result now)
     → IfSome told (λ held. IsCarriedOut (network_meaning plan network (get held network.stream)) (Some held) result now)
@@ -158,8 +178,11 @@ fed_then_told plan network None mid now fed result done carried next = tt
 fed_then_told plan network (Some held) mid now fed result done carried next =
     fed_then plan network held (get held network.stream) mid now fed result done carried next
 
-pub fed_alone_told : (plan : Plan) (network : NetPlan) (told now : Option Files) (fed : Outcome) → (fed.status ≡ Done → ⊥)
-    → IfSome told (λ held. IsCarriedOut (meaning packets (adapting plan) 1 (feed_name ∷ []) (get held network.stream)) (Some held) fed now)
+pub fed_alone_told : (plan : Plan) (network : NetPlan) (told now : Option Files) (fed : Outcome)
+    → (fed.status ≡ Done → ⊥)
+    → IfSome told (λ held. IsCarriedOut (meaning packets (adapting plan) 1 (feed_name ∷ []) (get held network.stream))
+    (Some held) fed now)
     → IfSome told (λ held. IsCarriedOut (network_meaning plan network (get held network.stream)) (Some held) fed now)
 fed_alone_told plan network None now fed not_done carried = tt
-fed_alone_told plan network (Some held) now fed not_done carried = fed_alone plan network held (get held network.stream) now fed not_done carried
+fed_alone_told plan network (Some held) now fed not_done carried =
+    fed_alone plan network held (get held network.stream) now fed not_done carried

@@ -1,5 +1,6 @@
 -- The segments of a symbol file that was written of segments are those segments.
-use Rattle.std.proofs.Common.{◌≡◌, ℕ, ℤ, ◌+◌, ◌*◌, ◌/◌, List, [], ◌∷◌, length, map, take, drop, refl, sym, ap, ap₂, ◌∙◌, arith}
+use Rattle.std.proofs.Common.{◌≡◌, ℕ, ℤ, ◌+◌, ◌*◌, ◌/◌, List, [], ◌∷◌, length, map, take, drop, refl, sym, ap, ap₂, ◌∙◌}
+use Rattle.std.proofs.Common.{arith}
 use Rattle.std.proofs.lemmas.List.{drop-drop, length-map, map-append}
 use Rattle.std.proofs.Math.Seq.{take-append_seam, drop-append_seam}
 use Rattle.dtx_coder.specs.Stream.{symbols_of}
@@ -34,26 +35,32 @@ behind s ss long =
     ∙ drop-append_seam (bytes s) (segment_bytes ss)
 
 -- the segments from one on, where the file goes on with them
-from_back : (bs : List ℕ) (n : ℕ) (ss : List (List ℤ)) → AreSegments ss → EachBack ss → drop (832 * n) bs ≡ segment_bytes ss → segments_from bs n (length ss) ≡ ss
+from_back : (bs : List ℕ) (n : ℕ) (ss : List (List ℤ)) → AreSegments ss → EachBack ss
+    → drop (832 * n) bs ≡ segment_bytes ss → segments_from bs n (length ss) ≡ ss
 from_back bs n [] long back here = refl
 from_back bs n (s ∷ ss) long back here =
     ap₂ ◌∷◌ (ap (λ xs. symbols (take 832 xs)) here ∙ ap symbols (first_back s ss long.0) ∙ symbols_back s back.0)
     (from_back bs (n + 1) ss long.1 back.1
-    (ap (λ k. drop k bs) (more n) ∙ sym (drop-drop 832 (832 * n) bs) ∙ ap (λ xs. drop 832 xs) here ∙ behind s ss long.0))
+    (ap (λ k. drop k bs) (more n) ∙ sym (drop-drop 832 (832 * n) bs) ∙ ap (λ xs. drop 832 xs) here
+    ∙ behind s ss long.0))
   where
     more : (n : ℕ) → 832 * (n + 1) ≡ 832 * n + 832
     more n = omega arith
 
 -- ---- the symbol file of a transmitter
 
-pub whole_segments_sent : (t : Transmitter) (who : ℕ) (steps : List Step) → whole_segments (symbol_file t who steps) ≡ length (sent.segments_of t who steps)
-whole_segments_sent t who steps = ap (λ n. n / 832) (length-symbol_file t who steps) ∙ back (length (sent.segments_of t who steps))
+pub whole_segments_sent : (t : Transmitter) (who : ℕ) (steps : List Step)
+    → whole_segments (symbol_file t who steps) ≡ length (sent.segments_of t who steps)
+whole_segments_sent t who steps = ap (λ n. n / 832) (length-symbol_file t who steps)
+    ∙ back (length (sent.segments_of t who steps))
   where
     back : (n : ℕ) → 832 * n / 832 ≡ n
     back n = omega arith
 
-pub segments_of_file : (t : Transmitter) (who : ℕ) (steps : List Step) → file.segments_of (symbol_file t who steps) ≡ sent.segments_of t who steps
+pub segments_of_file : (t : Transmitter) (who : ℕ) (steps : List Step)
+    → file.segments_of (symbol_file t who steps) ≡ sent.segments_of t who steps
 unfolding symbol_file
 segments_of_file t who steps =
     ap (λ n. segments_from (symbol_file t who steps) 0 n) (whole_segments_sent t who steps)
-    ∙ from_back (symbol_file t who steps) 0 (sent.segments_of t who steps) (sent_long t who steps) (sent_back t who steps) refl
+    ∙ from_back (symbol_file t who steps) 0 (sent.segments_of t who steps) (sent_long t who steps)
+    (sent_back t who steps) refl

@@ -1,8 +1,11 @@
 -- Every symbol that a transmitter sends, whatever it is given, is the symbol of its byte in the symbol file.
-use Rattle.std.proofs.Common.{◌≡◌, ℕ, zero, suc, ℤ, pos, negsuc, ◌+◌, ◌-◌, ◌*◌, ◌/◌, ◌%◌, ◌<◌, ◌≤◌, ◌==◌, Bool, true, false, cond, Option, Some, None, List, [], ◌∷◌, ◌++◌, length, map, take, drop, get_or, refl, arith}
+use Rattle.std.proofs.Common.{◌≡◌, ℕ, zero, suc, ℤ, pos, negsuc, ◌+◌, ◌-◌, ◌*◌, ◌/◌, ◌%◌, ◌<◌, ◌≤◌, ◌==◌, Bool, true}
+use Rattle.std.proofs.Common.{false, cond, Option, Some, None, List, [], ◌∷◌, ◌++◌, length, map, take, drop, get_or}
+use Rattle.std.proofs.Common.{refl, arith}
 use Rattle.std.specs.Prelude.{nat_le, is_ok, slice_index_or}
 use Rattle.std.specs.List.{flat_map, range_with_len, AllByRecursion}
-use Rattle.dtx_frame.specs.Segments.{bit_symbol, segment_sync, symbol_of, data_segment, inverted, mode_bits, reserved_bits, sync_symbols, field_sync}
+use Rattle.dtx_frame.specs.Segments.{bit_symbol, segment_sync, symbol_of, data_segment, inverted, mode_bits}
+use Rattle.dtx_frame.specs.Segments.{reserved_bits, sync_symbols, field_sync}
 use Rattle.dtx_frame.specs.Sequences.{pn511, pn63}
 use Rattle.dtx_frame.proofs.Rule.{level_at_small}
 use Rattle.dtx_trellis.specs.Groups.{level_at, levels_of}
@@ -10,7 +13,8 @@ use Rattle.dtx_trellis.specs.Pairs.{groups}
 use Rattle.dtx_coder.specs.Along.{levels_since}
 use Rattle.dtx_coder.specs.Coded.{whole_groups}
 use Rattle.dtx_coder.specs.Stream.{segment, four_segments, last_of}
-use Rattle.dtx_exciter.specs.Emission.{segments_since, sent_by, sent_at, sent_before, with_sync, given_under, given, emission}
+use Rattle.dtx_exciter.specs.Emission.{segments_since, sent_by, sent_at, sent_before, with_sync, given_under, given}
+use Rattle.dtx_exciter.specs.Emission.{emission}
 use Rattle.dtx_exciter.specs.Order.{Order, in_force}
 use Rattle.dtx_exciter.specs.Packets.{said, under}
 use Rattle.dtx_exciter.specs.Told.{served}
@@ -35,7 +39,8 @@ EachBack segments = AllByRecursion AreBack segments
 
 -- ---- what holds of each element of a list
 
-each_append : {X : Type 0} (P : X → Type 0) (xs ys : List X) → AllByRecursion P xs → AllByRecursion P ys → AllByRecursion P (xs ++ ys)
+each_append : {X : Type 0} (P : X → Type 0) (xs ys : List X) → AllByRecursion P xs → AllByRecursion P ys
+    → AllByRecursion P (xs ++ ys)
 each_append P [] ys h g = g
 each_append P (x ∷ xs) ys h g = (h.0, each_append P xs ys h.1 g)
 
@@ -49,15 +54,19 @@ each_drop P zero xs h = h
 each_drop P (suc n) [] h = tt
 each_drop P (suc n) (x ∷ xs) h = each_drop P n xs h.1
 
-each_map : {X Y : Type 0} (P : X → Type 0) (Q : Y → Type 0) (f : X → Y) (xs : List X) → ((x : X) → P x → Q (f x)) → AllByRecursion P xs → AllByRecursion Q (map f xs)
+each_map : {X Y : Type 0} (P : X → Type 0) (Q : Y → Type 0) (f : X → Y) (xs : List X) → ((x : X) → P x → Q (f x))
+    → AllByRecursion P xs → AllByRecursion Q (map f xs)
 each_map P Q f [] gives h = tt
 each_map P Q f (x ∷ xs) gives h = (gives x h.0, each_map P Q f xs gives h.1)
 
-each_range : {X : Type 0} (P : X → Type 0) (f : ℕ → X) (a n : ℕ) → ((i : ℕ) → a ≤ i → i < a + n → P (f i)) → AllByRecursion P (map f (range_with_len a n))
+each_range : {X : Type 0} (P : X → Type 0) (f : ℕ → X) (a n : ℕ) → ((i : ℕ) → a ≤ i → i < a + n → P (f i))
+    → AllByRecursion P (map f (range_with_len a n))
 each_range P f a zero at = tt
-each_range P f a (suc n) at = (at a (omega arith) (omega arith), each_range P f (a + 1) n (λ i l m. at i (omega (arith, l)) (omega (arith, m))))
+each_range P f a (suc n) at =
+    (at a (omega arith) (omega arith), each_range P f (a + 1) n (λ i l m. at i (omega (arith, l)) (omega (arith, m))))
 
-each_flat : {X Y : Type 0} (P : Y → Type 0) (f : X → List Y) (xs : List X) → ((x : X) → AllByRecursion P (f x)) → AllByRecursion P (flat_map f xs)
+each_flat : {X Y : Type 0} (P : Y → Type 0) (f : X → List Y) (xs : List X) → ((x : X) → AllByRecursion P (f x))
+    → AllByRecursion P (flat_map f xs)
 each_flat P f [] each = tt
 each_flat P f (x ∷ xs) each = each_append P (f x) (flat_map f xs) (each x) (each_flat P f xs each)
 
@@ -95,13 +104,17 @@ level_back (suc (suc (suc (suc (suc (suc (suc (suc z)))))))) l = absurd (omega a
 
 levels_small : (s : ℕ) (q bytes : List ℕ) → AllByRecursion (λ z. z < 8) (levels_of s q bytes)
 unfolding levels_of
-levels_small s q bytes = each_range (λ z. z < 8) (level_at s q bytes) 0 (3312 * groups bytes) (λ d l m. level_at_small s d q bytes (omega (arith, m)))
+levels_small s q bytes =
+    each_range (λ z. z < 8) (level_at s q bytes) 0 (3312 * groups bytes)
+    (λ d l m. level_at_small s d q bytes (omega (arith, m)))
 
 segment_back : (zs : List ℕ) (n : ℕ) → AllByRecursion (λ z. z < 8) zs → AreBack (segment zs n)
 unfolding segment data_segment
 segment_back zs n small =
     each_append IsBack segment_sync (map symbol_of piece) front_back
-    (each_map (λ z. z < 8) IsBack symbol_of piece level_back (each_take (λ z. z < 8) (828 * n + 828 - 828 * n) (drop (828 * n) zs) (each_drop (λ z. z < 8) (828 * n) zs small)))
+    (each_map (λ z. z < 8) IsBack symbol_of piece level_back
+    (each_take (λ z. z < 8) (828 * n + 828 - 828 * n) (drop (828 * n) zs)
+    (each_drop (λ z. z < 8) (828 * n) zs small)))
   where
     piece : List ℕ
     piece = take (828 * n + 828 - 828 * n) (drop (828 * n) zs)
@@ -109,7 +122,8 @@ segment_back zs n small =
 sync_back : (second : Bool) (last : List ℤ) → AreBack last → AreBack (field_sync second last)
 unfolding field_sync sync_symbols
 sync_back second last back =
-    each_append IsBack (sync_symbols second) last (each_append IsBack segment_sync (map bit_symbol bits) front_back (bits_back bits)) back
+    each_append IsBack (sync_symbols second) last
+    (each_append IsBack segment_sync (map bit_symbol bits) front_back (bits_back bits)) back
   where
     bits : List ℕ
     bits = pn511 ++ pn63 ++ cond second (inverted pn63) pn63 ++ pn63 ++ mode_bits ++ reserved_bits
@@ -120,9 +134,11 @@ since_back : (g : ℕ) (q : List ℕ) (packets : List (List ℕ)) (u : ℕ) → 
 unfolding segments_since four_segments levels_since
 since_back g q packets u =
     each_range AreBack (segment (levels_since g q packets)) (4 * (u - g)) 4
-    (λ n l m. segment_back (levels_since g q packets) n (levels_small (4 * g % 312) q (drop (828 * g) (whole_groups packets))))
+    (λ n l m. segment_back (levels_since g q packets) n
+    (levels_small (4 * g % 312) q (drop (828 * g) (whole_groups packets))))
 
-by_back : (address delay : ℕ) (packets : List (List ℕ)) (i : ℕ) (order : Option Order) → EachBack (sent_by address delay packets i order)
+by_back : (address delay : ℕ) (packets : List (List ℕ)) (i : ℕ) (order : Option Order)
+    → EachBack (sent_by address delay packets i order)
 by_back address delay packets i None = tt
 by_back address delay packets i (Some order) = by_test (is_ok (served address delay order.ops))
   where
@@ -146,7 +162,8 @@ one_back [] i each = tt
 one_back (s ∷ ss) zero each = each.0
 one_back (s ∷ ss) (suc i) each = one_back ss i each.1
 
-last_back : (b : List ℤ) (bs : List (List ℤ)) → EachBack (b ∷ bs) → AreBack (last_of (slice_index_or (b ∷ bs) (length bs) []))
+last_back : (b : List ℤ) (bs : List (List ℤ)) → EachBack (b ∷ bs)
+    → AreBack (last_of (slice_index_or (b ∷ bs) (length bs) []))
 unfolding last_of
 last_back b bs each = each_drop IsBack 820 (slice_index_or (b ∷ bs) (length bs) []) (one_back (b ∷ bs) (length bs) each)
 
@@ -155,8 +172,11 @@ with_back i before [] h g = tt
 with_back i [] (s ∷ ss) h g = g
 with_back i (b ∷ bs) (s ∷ ss) h g = by_test (i % 312 == 0)
   where
-    by_test : (t : Bool) → EachBack (cond t (field_sync (nat_le 312 (i % 624)) (last_of (slice_index_or (b ∷ bs) (length bs) [])) ∷ []) [] ++ s ∷ ss)
-    by_test true = (sync_back (nat_le 312 (i % 624)) (last_of (slice_index_or (b ∷ bs) (length bs) [])) (last_back b bs h), g)
+    by_test : (t : Bool)
+        → EachBack (cond t (field_sync (nat_le 312 (i % 624)) (last_of (slice_index_or (b ∷ bs) (length bs) [])) ∷ [])
+        [] ++ s ∷ ss)
+    by_test true =
+        (sync_back (nat_le 312 (i % 624)) (last_of (slice_index_or (b ∷ bs) (length bs) [])) (last_back b bs h), g)
     by_test false = g
 
 under_back : (address delay : ℕ) (found : Option (List (List ℕ))) → EachBack (given_under address delay found)
@@ -166,8 +186,11 @@ under_back address delay (Some packets) = by_test (length packets % 4 == 0)
     i : ℕ
     i = length packets - 4
 
-    by_test : (t : Bool) → EachBack (cond t (with_sync i (sent_before address delay packets i) (sent_at address delay packets i)) [])
-    by_test true = with_back i (sent_before address delay packets i) (sent_at address delay packets i) (before_back address delay packets i) (at_back address delay packets i)
+    by_test : (t : Bool)
+        → EachBack (cond t (with_sync i (sent_before address delay packets i) (sent_at address delay packets i)) [])
+    by_test true =
+        with_back i (sent_before address delay packets i) (sent_at address delay packets i)
+        (before_back address delay packets i) (at_back address delay packets i)
     by_test false = tt
 
 given_back : (address delay : ℕ) (packets : List (List ℕ)) → EachBack (given address delay packets)
@@ -177,9 +200,11 @@ given_back address delay packets = under_back address delay (under packets)
 emission_back : (address delay : ℕ) (packets : List (List ℕ)) → EachBack (emission address delay packets)
 unfolding emission
 emission_back address delay packets =
-    each_flat AreBack (λ n. given address delay (take (n + 1) packets)) (range_with_len 0 (length packets)) (λ n. given_back address delay (take (n + 1) packets))
+    each_flat AreBack (λ n. given address delay (take (n + 1) packets)) (range_with_len 0 (length packets))
+    (λ n. given_back address delay (take (n + 1) packets))
 
 -- what a transmitter sends
 pub sent_back : (t : Transmitter) (who : ℕ) (steps : List Step) → EachBack (segments_of t who steps)
 unfolding segments_of
-sent_back t who steps = each_flat AreBack (emission t.address t.delay) (lives_of who steps) (emission_back t.address t.delay)
+sent_back t who steps =
+    each_flat AreBack (emission t.address t.delay) (lives_of who steps) (emission_back t.address t.delay)

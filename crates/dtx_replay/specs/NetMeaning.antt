@@ -1,8 +1,9 @@
 -- What `net PLAN` means: a network adapted, played and received (the profile's own, in the manner of ATSC A/110).
-use Rattle.std.specs.Prelude.{ℕ, Bool, true, false, if◌then◌else◌, List, [], ◌∷◌, length, slice_index, Option, Some, None, is_some}
+use Rattle.std.specs.Prelude.{ℕ, Bool, true, false, if◌then◌else◌, List, [], ◌∷◌, length, slice_index, Option, Some}
+use Rattle.std.specs.Prelude.{None, is_some}
 use Rattle.std.specs.FinMap.{get}
 use Rattle.dtx_adapter.specs.Feed.{placeholders}
-use Rattle.dtx_engine.specs.Making.{Making, meaning, meaning_of_file}
+use Rattle.dtx_engine.specs.Making.{Making, meaning_of_file}
 use Rattle.dtx_jobs.specs.Adapt.{feeding}
 use Rattle.dtx_jobs.specs.Damaged.{damaged}
 use Rattle.dtx_jobs.specs.PastEnd.{first_past}
@@ -42,11 +43,13 @@ where_done first next = if is_done first.outcome.status then and_then first next
 
 -- ---- the symbols are received
 
--- the numbers of the line, once packets were received: those so far, and then the packets, the bytes put right and the packets flagged
+-- the numbers of the line, once packets were received: those so far, and then the packets, the bytes put right and the
+-- packets flagged
 abbrev pub with_received : ℕ → ℕ → ℕ → Outcome → Outcome
 with_received fed filled steps outcome = if is_done outcome.status then record {
   status = Done;
-  numbers = fed ∷ filled ∷ steps ∷ slice_index outcome.numbers 2 ∷ slice_index outcome.numbers 3 ∷ slice_index outcome.numbers 4 ∷ [];
+  numbers = fed ∷ filled ∷ steps ∷ slice_index outcome.numbers 2 ∷ slice_index outcome.numbers 3 ∷ slice_index
+      outcome.numbers 4 ∷ [];
   shown = 6;
 } else outcome
 
@@ -54,34 +57,39 @@ with_received fed filled steps outcome = if is_done outcome.status then record {
 abbrev pub answered : (Outcome → Outcome) → Meaning → Meaning
 answered other m = record { outcome = other m.outcome; outputs = m.outputs }
 
--- what is made of a transmitter's symbols with damage laid over them, where the entry of this number is the first that ends behind them
+-- what is made of a transmitter's symbols with damage laid over them, where the entry of this number is the first that
+-- ends behind them
 abbrev pub received_past : Option ℕ → List Damage → List ℕ → Meaning
 received_past (Some entry) damage symbols = refused (OutOfAir entry)
 received_past None damage symbols = meaning_of_file segments (damaged damage receiving) (received_name ∷ []) symbols
 
 -- ---- the events are played
 
--- the numbers of a network without a receiver: the packets of the feed, the placeholders filled, the packets given to exciters
+-- the numbers of a network without a receiver: the packets of the feed, the placeholders filled, the packets given to
+-- exciters
 abbrev pub played_outcome : ℕ → ℕ → ℕ → Outcome
 played_outcome fed filled steps = record { status = Done; numbers = fed ∷ filled ∷ steps ∷ 0 ∷ 0 ∷ 0 ∷ []; shown = 3 }
 
 -- what the events write of a stream, and its numbers
 abbrev pub playing : whole.Plan → NetPlan → List (List ℕ) → Meaning
 playing plan network stream = record {
-  outcome = played_outcome (length stream) (placeholders stream) (packets_given (steps_under plan stream network.events));
+  outcome = played_outcome (length stream) (placeholders stream)
+      (packets_given (steps_under plan stream network.events));
   outputs = played_outputs plan.transmitters.items (steps_under plan stream network.events);
 }
 
 -- and what is received of it, where a receiver is asked for
 abbrev pub received_of : whole.Plan → NetPlan → List (List ℕ) → ReceivePlan → Meaning
 received_of plan network stream receiver =
-    answered (with_received (length stream) (placeholders stream) (packets_given (steps_under plan stream network.events)))
+    answered (with_received (length stream) (placeholders stream)
+    (packets_given (steps_under plan stream network.events)))
     (received_past (first_past receiver.damage (length (sent_file plan network stream receiver.from))) receiver.damage
     (sent_file plan network stream receiver.from))
 
 abbrev pub played_and_received : whole.Plan → NetPlan → List (List ℕ) → Option ReceivePlan → Meaning
 played_and_received plan network stream None = playing plan network stream
-played_and_received plan network stream (Some receiver) = and_then (playing plan network stream) (received_of plan network stream receiver)
+played_and_received plan network stream (Some receiver) =
+    and_then (playing plan network stream) (received_of plan network stream receiver)
 
 -- where the event of this number is the first that reads past the feed
 abbrev pub events_past : Option ℕ → whole.Plan → NetPlan → List (List ℕ) → Meaning
@@ -102,7 +110,8 @@ adapting plan = of_bytes (feeding plan)
 abbrev pub network_meaning : whole.Plan → NetPlan → Option (List ℕ) → Meaning
 network_meaning plan network None = refused (Absent 1)
 network_meaning plan network (Some file) =
-    where_done (meaning_of_file packets (adapting plan) (feed_name ∷ []) file) (fed_meaning plan network (packets_of file))
+    where_done (meaning_of_file packets (adapting plan) (feed_name ∷ []) file)
+    (fed_meaning plan network (packets_of file))
 
 -- ---- in order
 
@@ -110,9 +119,11 @@ network_meaning plan network (Some file) =
 abbrev pub planned_meaning : List ℕ → Files → whole.Plan → Option NetPlan → Meaning
 planned_meaning name held plan None = refused (Plan (record { key = key.Net; item = 0; rule = Missing }))
 planned_meaning name held plan (Some network) =
-    if is_some (repeated (network_names name plan network)) then refused Same else network_meaning plan network (get held network.stream)
+    if is_some (repeated (network_names name plan network)) then refused Same else network_meaning plan network
+    (get held network.stream)
 
--- The plan is read first, and its table `net` asked for; then the names are compared; the stream is asked for and adapted; the events are
+-- The plan is read first, and its table `net` asked for; then the names are compared; the stream is asked for and
+-- adapted; the events are
 -- compared with the feed and played; the damage is compared with the symbols; at the end the symbols are received.
 abbrev pub net_meaning : List (List ℕ) → Files → Meaning
 net_meaning (verb ∷ plan ∷ []) held = under_plan 0 (get held plan) (λ said. planned_meaning plan held said said.net)

@@ -1,5 +1,6 @@
 -- The names of a network's files, and the one in its line.
-use Rattle.std.specs.Prelude.{◌≡◌, ℕ, nat_eq, Bool, true, false, if◌then◌else◌, List, [], ◌∷◌, Option, Some, None, Result, Ok, Err, slice_index_or}
+use Rattle.std.specs.Prelude.{◌≡◌, ℕ, nat_eq, Bool, false, if◌then◌else◌, List, [], ◌∷◌, Option, Some, None, Result, Ok}
+use Rattle.std.specs.Prelude.{Err, slice_index_or}
 use Rattle.std.specs.FinMap.{get}
 use Rattle.dtx_meaning.specs.declared.status.Status.{Status}
 use Rattle.dtx_meaning.specs.declared.status.Status.TheVariants.{Absent}
@@ -26,7 +27,8 @@ abbrev pub names_of_file : List ℕ → Option (List ℕ) → List (List ℕ)
 names_of_file name None = name ∷ []
 names_of_file name (Some bytes) = names_said name (plan_of bytes)
 
--- PLAN alone where it gives no network; else PLAN, the stream, the feed, the files of the transmitters, and what is received
+-- PLAN alone where it gives no network; else PLAN, the stream, the feed, the files of the transmitters, and what is
+-- received
 abbrev pub net_names : List (List ℕ) → Files → List (List ℕ)
 net_names (verb ∷ plan ∷ []) held = names_of_file plan (get held plan)
 net_names words held = []

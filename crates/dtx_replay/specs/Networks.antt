@@ -1,5 +1,5 @@
 -- The files of a network, under a plan and a stream (the profile's own).
-use Rattle.std.specs.Prelude.{◌≡◌, ℕ, Option, Some, None, IfSome, IsSomeAnd, List, [], ◌∷◌, ◌++◌, length, slice_get}
+use Rattle.std.specs.Prelude.{◌≡◌, ℕ, Option, Some, None, IfSome, IsSomeAnd, List, [], ◌∷◌, ◌++◌, slice_get}
 use Rattle.std.specs.FinMap.{get}
 use Rattle.std.specs.List.{Contains}
 use Rattle.std.specs.Option.{option_map_or}
@@ -37,7 +37,8 @@ network_names name plan network = name ∷ network.stream ∷ written_names plan
 -- the symbol file of the transmitter with this address
 unfoldable pub sent_file : Plan → NetPlan → List (List ℕ) → ℕ → List ℕ
 sent_file plan network stream address =
-    option_map_or (λ who. option_map_or (λ t. symbol_file t who (steps_under plan stream network.events)) (slice_get plan.transmitters.items who) [])
+    option_map_or (λ who. option_map_or (λ t. symbol_file t who (steps_under plan stream network.events))
+    (slice_get plan.transmitters.items who) [])
     (place_of address plan.transmitters.items) []
 
 -- the symbols that are received: those of the receiver's transmitter, with the damage laid over them
@@ -50,12 +51,16 @@ AreOthersKept names held now = (name : List ℕ) → ¬ Contains names name → 
 
 -- each transmitter's files hold what it sends and logs over the whole schedule
 pub record AreSentFiles (plan : Plan) (network : NetPlan) (stream : List (List ℕ)) (now : Files) : Type 0 where
-  pub symbols : (who : ℕ) (t : _) → slice_get plan.transmitters.items who ≡ Some t → get now (symbol_name t.address) ≡ Some (symbol_file t who (steps_under plan stream network.events))
-  pub logs : (who : ℕ) (t : _) → slice_get plan.transmitters.items who ≡ Some t → get now (log_name t.address) ≡ Some (log_file t who (steps_under plan stream network.events))
+  pub symbols : (who : ℕ) (t : _) → slice_get plan.transmitters.items who ≡ Some t
+      → get now (symbol_name t.address) ≡ Some (symbol_file t who (steps_under plan stream network.events))
+  pub logs : (who : ℕ) (t : _) → slice_get plan.transmitters.items who ≡ Some t
+      → get now (log_name t.address) ≡ Some (log_file t who (steps_under plan stream network.events))
 
--- The feed, the files of the transmitters and these bytes as what is received were written, where a receiver is asked for, and no other
+-- The feed, the files of the transmitters and these bytes as what is received were written, where a receiver is asked
+-- for, and no other
 -- file was touched.
-pub record AreNetworkFiles (plan : Plan) (network : NetPlan) (stream : List (List ℕ)) (made : ReceivePlan → List ℕ) (held now : Files) : Type 0 where
+pub record AreNetworkFiles (plan : Plan) (network : NetPlan) (stream : List (List ℕ)) (made : ReceivePlan
+    → List ℕ) (held now : Files) : Type 0 where
   pub feed : get now feed_name ≡ Some (feed_bytes plan stream)
   pub sent : AreSentFiles plan network stream now
   pub received : IfSome network.receive (λ receiver. get now received_name ≡ Some (made receiver))
@@ -67,13 +72,16 @@ packets_received plan network stream receiver = received_bytes (damaged_file pla
 
 -- All files of a network that is done.
 abbrev pub AreWholeFiles : Plan → NetPlan → List (List ℕ) → Files → Files → Type 0
-AreWholeFiles plan network stream held now = AreNetworkFiles plan network stream (packets_received plan network stream) held now
+AreWholeFiles plan network stream held now =
+    AreNetworkFiles plan network stream (packets_received plan network stream) held now
 
 -- ---- the network of the files
 
 -- P of the plan that is the file of this name, and of its table `net`
 abbrev pub OfNetPlan : List ℕ → Files → (Plan → NetPlan → Type 0) → Type 0
-OfNetPlan name held P = IsSomeAnd (get held name) (λ bytes. IsOkAnd (plan_of bytes) (λ plan. IsSomeAnd plan.net (λ network. P plan network)))
+OfNetPlan name held P =
+    IsSomeAnd (get held name) (λ bytes. IsOkAnd (plan_of bytes)
+    (λ plan. IsSomeAnd plan.net (λ network. P plan network)))
 
 -- P of them and of the bytes of the stream
 abbrev pub OfNetwork : List ℕ → Files → (Plan → NetPlan → List ℕ → Type 0) → Type 0

@@ -1,11 +1,11 @@
 //! The command `net`, but for its line: a network adapted, played and received.
 #![tactic(auto)]
 
+pub mod laws;
 mod net_command;
 mod network_names;
-mod replaying;
-mod reception;
 mod of_bytes;
-pub mod laws;
+mod reception;
+mod replaying;
 
 pub use net_command::{NetOutcome, net};

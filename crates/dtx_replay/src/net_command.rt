@@ -10,7 +10,8 @@ ghost use Rattle.dtx_words.specs.Names.{line_name, repeated};
 ghost use Rattle.dtx_words.specs.NetworkNames.{feed_name};
 ghost use Rattle.dtx_replay.specs.HeadlineOfFiles.{HasHeadline};
 ghost use Rattle.dtx_replay.specs.NetMeaning.{net_meaning, network_meaning, planned_meaning};
-ghost use Rattle.dtx_replay.specs.NetNames.{IsKeptName, IsUntoldName, kept_name, names_of_file, names_under, net_names, plan_word, receiver_of, told_name};
+ghost use Rattle.dtx_replay.specs.NetNames.{IsKeptName, IsUntoldName, kept_name, names_of_file, names_under, net_names};
+ghost use Rattle.dtx_replay.specs.NetNames.{plan_word, receiver_of, told_name};
 ghost use Rattle.dtx_replay.specs.Networks.{network_names};
 
 use crate::network_names::repeated_file;
@@ -31,14 +32,19 @@ pub const STREAM_NAME: usize = 255;
 pub struct NetOutcome {
     /// How it ended.
     pub outcome: Outcome,
-    /// The name in its line, where it isn't the word PLAN itself: one that is repeated, or that of an input but the plan; else nothing.
+    /// The name in its line, where it isn't the word PLAN itself: one that is repeated, or that of an input but the
+    /// plan; else nothing.
     pub name: ArrayString<STREAM_NAME>,
 }
 
-/// Plays a network (the profile's own, in the manner of ATSC A/110, over ATSC A/53 Part 2): adapts the stream that the table `net` of PLAN
-/// names to `net.feed`; plays the plan's events, step by step, so that what the transmitter of address A sends goes to `tx-A.sym` and its log
-/// to `tx-A.log`; and where a receiver is asked for, receives the symbols of its transmitter, with the plan's damage laid over them, into
-/// `net.ts`. The numbers are the packets of the feed, the placeholders filled and the packets given to exciters, and then, where a receiver
+/// Plays a network (the profile's own, in the manner of ATSC A/110, over ATSC A/53 Part 2): adapts the stream that the
+/// table `net` of PLAN
+/// names to `net.feed`; plays the plan's events, step by step, so that what the transmitter of address A sends goes to
+/// `tx-A.sym` and its log
+/// to `tx-A.log`; and where a receiver is asked for, receives the symbols of its transmitter, with the plan's damage
+/// laid over them, into
+/// `net.ts`. The numbers are the packets of the feed, the placeholders filled and the packets given to exciters, and
+/// then, where a receiver
 /// is asked for, the packets that it gives, the bytes put right and the packets flagged.
 pub fn net<S: Shelf>(alloc: Global, words: &[Word], shelf: &mut S) -> NetOutcome
     ensures carried { IfSome (S.files shelf.old) (λ held.
@@ -46,7 +52,8 @@ pub fn net<S: Shelf>(alloc: Global, words: &[Word], shelf: &mut S) -> NetOutcome
     ensures gone { HasGone (S.counts shelf.old) (S.counts shelf.new) (blame_of result.outcome.status) }
 
     // The name in its line is that of the word PLAN where the plan isn't there, and else the name that is kept.
-    ensures name { IfSome (S.files shelf.old) (λ held. told_name (plan_word words.now) result.outcome.status result.name.bytes
+    ensures name { IfSome (S.files shelf.old) (λ held. told_name
+        (plan_word words.now) result.outcome.status result.name.bytes
         ≡ line_name result.outcome.status (net_names words.now held)) }
     ensures untold_name { IsUntoldName (plan_word words.now) result.outcome.status
         (told_name (plan_word words.now) result.outcome.status result.name.bytes) }
@@ -92,7 +99,8 @@ fn nameless(outcome: Outcome) -> NetOutcome
 fn net_planned<S: Shelf>(alloc: Global, name: &str, plan: &Plan, shelf: &mut S) -> NetOutcome
     requires sound { IsSound plan.now }
     requires net { HasSoundNet plan.now }
-    ensures carried { IfSome (S.files shelf.old) (λ held. IsCarriedOut (planned_meaning name.now held plan.now plan.now.net)
+    ensures carried { IfSome (S.files shelf.old) (λ held. IsCarriedOut
+        (planned_meaning name.now held plan.now plan.now.net)
         (Some held) result.outcome (S.files shelf.new)) }
     ensures gone { HasGone (S.counts shelf.old) (S.counts shelf.new) (blame_of result.outcome.status) }
     ensures name { IfSome (S.files shelf.old) (λ held. told_name name.now result.outcome.status result.name.bytes
@@ -119,7 +127,8 @@ fn net_apart<S: Shelf>(
 ) -> NetOutcome
     requires sound { IsSound plan.now }
     requires network { IsNet plan.now.transmitters.items network.now }
-    ensures carried { IfSome (S.files shelf.old) (λ held. IsCarriedOut (planned_meaning name.now held plan.now (Some network.now))
+    ensures carried { IfSome (S.files shelf.old) (λ held. IsCarriedOut
+        (planned_meaning name.now held plan.now (Some network.now))
         (Some held) result.outcome (S.files shelf.new)) }
     ensures gone { HasGone (S.counts shelf.old) (S.counts shelf.new) (blame_of result.outcome.status) }
     ensures name { IfSome (S.files shelf.old) (λ held. told_name name.now result.outcome.status result.name.bytes
@@ -146,7 +155,8 @@ fn net_replayed<S: Shelf>(
     requires network { IsNet plan.now.transmitters.items network.now }
     requires differ { network.now.stream ≢ feed_name }
     ensures carried { IfSome (S.files shelf.old) (λ held. IsCarriedOut
-        (network_meaning plan.now network.now (files.get held network.now.stream)) (Some held) result.outcome (S.files shelf.new)) }
+        (network_meaning plan.now network.now (files.get held network.now.stream)) (Some held) result.outcome
+        (S.files shelf.new)) }
     ensures gone { HasGone (S.counts shelf.old) (S.counts shelf.new) (blame_of result.outcome.status) }
     ensures name { result.name.bytes ≡ kept_name network.now result.outcome.status }
 {

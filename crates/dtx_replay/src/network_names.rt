@@ -15,7 +15,8 @@ use dtx_words::{NETWORK_NAME, feed_name, log_name, received_name, repeated_name,
 /// How many files the transmitters have at most, two each.
 const SENT_FILES: usize = 70;
 
-/// How many files a network has at most: the plan, the stream, the feed, those of the transmitters, and what is received.
+/// How many files a network has at most: the plan, the stream, the feed, those of the transmitters, and what is
+/// received.
 const NETWORK_FILES: usize = 74;
 
 /// The first name among those of the network's files that equals an earlier one.
@@ -61,7 +62,9 @@ fn all_names<'a>(
     sent: &'a [ArrayString<NETWORK_NAME>],
 ) -> ArrayVec<&'a str, NETWORK_FILES>
     requires { length sent.now ≤ 70 }
-    ensures names { map (λ name. name.now) result.items ≡ plan.now ∷ network.now.stream ∷ feed_name ∷ (map (λ name. name.bytes) sent.now ++ received_names network.now.receive) }
+    ensures names { map (λ name. name.now) result.items
+        ≡ plan.now ∷ network.now.stream ∷ feed_name ∷ (map (λ name. name.bytes) sent.now
+        ++ received_names network.now.receive) }
     ensures short { All (λ name. length name ≤ 12) (map (λ name. name.bytes) sent.now) }
 {
     let mut names = begun_names(plan, network, sent);
@@ -78,7 +81,8 @@ fn begun_names<'a>(
     sent: &'a [ArrayString<NETWORK_NAME>],
 ) -> ArrayVec<&'a str, NETWORK_FILES>
     requires { length sent.now ≤ 70 }
-    ensures names { map (λ name. name.now) result.items ≡ plan.now ∷ network.now.stream ∷ feed_name ∷ map (λ name. name.bytes) sent.now }
+    ensures names { map (λ name. name.now) result.items
+        ≡ plan.now ∷ network.now.stream ∷ feed_name ∷ map (λ name. name.bytes) sent.now }
     ensures short { All (λ name. length name ≤ 12) (map (λ name. name.bytes) sent.now) }
     ensures count { length result.items ≡ 3 + length sent.now }
 {

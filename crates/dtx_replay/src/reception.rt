@@ -33,8 +33,9 @@ pub(crate) fn receive_sent<S: Shelf>(
     ensures carried { (held : Files) (file : List ℕ) → S.files shelf.old ≡ Some held
         → files.get held (symbol_name receiver.now.from) ≡ Some file
         → past.first_past receiver.now.damage symbols ≡ past.first_past receiver.now.damage (length file)
-        → IsCarriedOut (received_past (past.first_past receiver.now.damage (length file)) receiver.now.damage file) (Some held)
-            result (S.files shelf.new) }
+        → IsCarriedOut (received_past (past.first_past receiver.now.damage (length file)) receiver.now.damage file)
+        (Some held)
+        result (S.files shelf.new) }
     ensures gone { HasGone (S.counts shelf.old) (S.counts shelf.new) (blame_of result.status) }
 {
     match first_past(&receiver.damage, symbols) {

@@ -40,7 +40,8 @@ pub(crate) fn replay<S: Shelf>(
     requires network { IsNet plan.now.transmitters.items network.now }
     requires differ { network.now.stream ≢ feed_name }
     ensures carried { IfSome (S.files shelf.old) (λ held. IsCarriedOut
-        (means.network_meaning plan.now network.now (files.get held network.now.stream)) (Some held) result (S.files shelf.new)) }
+        (means.network_meaning plan.now network.now (files.get held network.now.stream)) (Some held) result
+        (S.files shelf.new)) }
     ensures gone { HasGone (S.counts shelf.old) (S.counts shelf.new) (blame_of result.status) }
 {
     let fed = feed_stream(alloc, plan, network, shelf);
@@ -105,7 +106,7 @@ fn play_events<S: Shelf>(
     ensures carried { (held : Files) (stream : List (List ℕ)) → S.files shelf.old ≡ Some held
         → IsFeedWritten plan.now stream fed.now held → inside.first_past_feed network.now.events (length stream) ≡ None
         → IsCarriedOut (means.played_and_received plan.now network.now stream network.now.receive) (Some held)
-            result (S.files shelf.new) }
+        result (S.files shelf.new) }
     ensures gone { HasGone (S.counts shelf.old) (S.counts shelf.new) (blame_of result.status) }
 {
     match play(alloc, shelf, &plan.transmitters, &network.events) {
@@ -126,9 +127,10 @@ fn receive_played<S: Shelf>(
     ensures carried { (plan : Plan) (held : Files) (stream : List (List ℕ))
         → IsNet plan.transmitters.items network.now → HasNumbers stream fed.now
         → IsStaged plan.transmitters.items played.now.stage (steps_under plan stream network.now.events)
-        → S.files shelf.old ≡ with_outputs (played_outputs plan.transmitters.items (steps_under plan stream network.now.events)) (Some held)
+        → S.files shelf.old ≡ with_outputs (played_outputs plan.transmitters.items
+        (steps_under plan stream network.now.events)) (Some held)
         → IsCarriedOut (means.played_and_received plan network.now stream network.now.receive) (Some held)
-            result (S.files shelf.new) }
+        result (S.files shelf.new) }
     ensures gone { HasGone (S.counts shelf.old) (S.counts shelf.new) (blame_of result.status) }
 {
     match &network.receive {
@@ -147,7 +149,8 @@ fn receive_played<S: Shelf>(
 
 /// The answer of a reception, with the numbers of the whole network where it is done.
 fn with_received(fed: &Outcome, steps: u64, received: Outcome) -> Outcome
-    ensures { result ≡ means.with_received (slice_index fed.now.numbers 0) (slice_index fed.now.numbers 1) steps received }
+    ensures { result ≡ means.with_received (slice_index fed.now.numbers 0)
+        (slice_index fed.now.numbers 1) steps received }
 {
     match received.status {
         Status::Done => {

@@ -14,7 +14,8 @@ use Rattle.dtx_schedule.specs.TransmitterFiles.{symbol_file, log_file}
 
 pub segments_elsewhere : (u : Transmitter) (other : ℕ) (steps : List Step) (step : Step) → step.who ≢ other
     → segments_of u other (steps ++ step ∷ []) ≡ segments_of u other steps
-segments_elsewhere u other steps step n = segments_same u other (steps ++ step ∷ []) steps (lives_elsewhere other steps step n)
+segments_elsewhere u other steps step n =
+    segments_same u other (steps ++ step ∷ []) steps (lives_elsewhere other steps step n)
 
 pub symbols_elsewhere : (u : Transmitter) (other : ℕ) (steps : List Step) (step : Step) → step.who ≢ other
     → symbol_file u other (steps ++ step ∷ []) ≡ symbol_file u other steps

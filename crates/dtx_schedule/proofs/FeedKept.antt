@@ -21,11 +21,17 @@ other_letter name first same = let h : 110 ≡ 116 = ap (λ (n : List ℕ). get_
 
 pub feed_apart : (ts : List Transmitter) (contents : Contents) → IsNoOutput feed_name (files_of contents ts)
 feed_apart [] contents = tt
-feed_apart (t ∷ ts) contents =
-    (other_letter (symbol_name t.address) refl, (other_letter (log_name t.address) refl, feed_apart ts (λ who. contents (suc who))))
+feed_apart (t ∷ ts) contents = (
+  other_letter (symbol_name t.address) refl,
+  (
+    other_letter (log_name t.address) refl,
+    feed_apart ts (λ who. contents (suc who)),
+  ),
+)
 
 -- what is read of the files as they are is read of the feed as it was
-pub feed_read : (P : List ℕ → Type 0) (ts : List Transmitter) (steps : List Step) (held : Files) (stage : Stage) (now : Option Files) (feed : List ℕ)
+pub feed_read : (P : List ℕ → Type 0) (ts : List Transmitter) (steps : List Step) (held : Files) (stage : Stage)
+    (now : Option Files) (feed : List ℕ)
     → get held feed_name ≡ Some feed → IsPlayedSoFar ts steps held stage now
     → IfSome now (λ files. (feed : List ℕ) → get files feed_name ≡ Some feed → P feed) → P feed
 feed_read P ts steps held stage now feed there is read =
@@ -34,12 +40,14 @@ feed_read P ts steps held stage now feed there is read =
     feed (get_past (played_outputs ts steps) feed_name held (feed_apart ts (played steps)) ∙ there)
 
 -- reading leaves the files
-pub kept_on : (ts : List Transmitter) (steps : List Step) (held : Files) (stage : Stage) (now mid : Option Files) → mid ≡ now
+pub kept_on : (ts : List Transmitter) (steps : List Step) (held : Files) (stage : Stage) (now mid : Option Files)
+    → mid ≡ now
     → IsPlayedSoFar ts steps held stage now → IsPlayedSoFar ts steps held stage mid
 kept_on ts steps held stage now mid kept is = subst (IsPlayedSoFar ts steps held stage) (sym kept) is
 
 -- where the feed isn't read no step is under way
-pub unread : (ts : List Transmitter) (steps rest : List Step) (held : Files) (stage : Stage) (now mid : Option Files) (status : Status) → mid ≡ now
+pub unread : (ts : List Transmitter) (steps rest : List Step) (held : Files) (stage : Stage) (now mid : Option Files)
+    (status : Status) → mid ≡ now
     → IsPlayedSoFar ts steps held stage now → IsFault status → IsFault status × IsUnderWay ts (steps ++ rest) held mid
 unread ts steps rest held stage now mid status kept is fault =
     (fault, at_rest ts steps rest held mid (kept_on ts steps held stage now mid kept is).files)

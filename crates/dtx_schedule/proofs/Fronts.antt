@@ -1,5 +1,6 @@
 -- Front parts of what the transmitters send and of their logs.
-use Rattle.std.proofs.Common.{◌≡◌, ◌⊎◌, ℕ, suc, List, [], ◌∷◌, ◌++◌, length, refl, sym, ap, subst, ◌∙◌, inl, inr, arith, append_assoc}
+use Rattle.std.proofs.Common.{◌≡◌, ◌⊎◌, ℕ, suc, List, [], ◌∷◌, ◌++◌, length, refl, sym, ap, subst, ◌∙◌, inl, inr, arith}
+use Rattle.std.proofs.Common.{append_assoc}
 use Rattle.std.specs.Prelude.{Option, Some, None}
 use Rattle.std.specs.Option.{option_map}
 use Rattle.std.proofs.lemmas.Bool.{cases_eq}
@@ -19,7 +20,8 @@ use Rattle.dtx_outside.specs.Shelf.{Files, with_file}
 use Rattle.dtx_plan.specs.declared.transmitter.Transmitter.{Transmitter}
 use Rattle.dtx_words.specs.NetworkNames.{symbol_name, log_name}
 use Rattle.dtx_schedule.specs.PlayedSoFar.{IsUnderWay}
-use Rattle.dtx_schedule.specs.TransmitterFiles.{AreFronts, Contents, files_of, log_file, nothing, played, played_outputs, symbol_file}
+use Rattle.dtx_schedule.specs.TransmitterFiles.{AreFronts, Contents, files_of, log_file, nothing, played}
+use Rattle.dtx_schedule.specs.TransmitterFiles.{played_outputs, symbol_file}
 use Rattle.dtx_schedule.proofs.Elsewhere.{log_elsewhere, symbols_elsewhere}
 
 -- ---- of bytes
@@ -33,7 +35,8 @@ front_of_same a b same = ([], append-nil a ∙ same)
 front_then : (a b c : List ℕ) → IsFrontOf a b → IsFrontOf b c → IsFrontOf a c
 front_then a b c (r, first) (s, second) = (r ++ s, sym (append_assoc a r s) ∙ ap (λ z. z ++ s) first ∙ second)
 
-pub front_behind : (a part bytes whole : List ℕ) → whole ≡ a ++ bytes → IsFrontOf part bytes → IsFrontOf (a ++ part) whole
+pub front_behind : (a part bytes whole : List ℕ) → whole ≡ a ++ bytes → IsFrontOf part bytes
+    → IsFrontOf (a ++ part) whole
 front_behind a part bytes whole is (rest, e) = (rest, append_assoc a part rest ∙ ap (λ z. a ++ z) e ∙ sym is)
 
 pub front_added : (a part : List ℕ) → IsFrontOf a (a ++ part)
@@ -61,7 +64,8 @@ part_of_fronts (t ∷ ts) fewer more start now fronts is =
         (fewer 0 t).1,
         (fronts 0 t refl).1,
         part_of_fronts ts (λ who. fewer (suc who)) (λ who. more (suc who))
-            (option_map (with_file (log_name t.address) (fewer 0 t).1) (option_map (with_file (symbol_name t.address) (fewer 0 t).0) start)) now
+            (option_map (with_file (log_name t.address) (fewer 0 t).1)
+            (option_map (with_file (symbol_name t.address) (fewer 0 t).0) start)) now
             (λ who u at_u. fronts (suc who) u at_u) is,
       ),
     )
@@ -80,7 +84,8 @@ parts_grow (t ∷ ts) fewer more start now fronts part = elim part [
         two.0,
         front_then two.0 (fewer 0 t).1 (more 0 t).1 two.1 (fronts 0 t refl).1,
         parts_grow ts (λ who. fewer (suc who)) (λ who. more (suc who))
-            (option_map (with_file (log_name t.address) two.0) (option_map (with_file (symbol_name t.address) one.0) start)) now
+            (option_map (with_file (log_name t.address) two.0)
+            (option_map (with_file (symbol_name t.address) one.0) start)) now
             (λ who u at_u. fronts (suc who) u at_u) two.2,
       )
     ],
@@ -98,10 +103,12 @@ own_more : (t : Transmitter) (who : ℕ) (steps : List Step) (packet : Option (L
 unfolding symbol_file log_file
 own_more t who steps (Some p) =
     let life : List (List ℕ) = last_life who steps ++ p ∷ [] in
-    let lines = line_of (length (segments_of t who steps)) (length (given t.address t.delay life)) (told t.address t.delay life) in (
+    let lines = line_of (length (segments_of t who steps)) (length (given t.address t.delay life))
+    (told t.address t.delay life) in (
       (
         segment_bytes (given t.address t.delay life),
-        sym (ap segment_bytes (segments_given t who steps p) ∙ segment_bytes-append (segments_of t who steps) (given t.address t.delay life)),
+        sym (ap segment_bytes (segments_given t who steps p)
+            ∙ segment_bytes-append (segments_of t who steps) (given t.address t.delay life)),
       ),
       (log_text lines, sym (ap log_text (lines_given t who steps p) ∙ log_text-append (lines_of t who steps) lines)),
     )
@@ -109,7 +116,8 @@ own_more t who steps None = (
   front_of_same (segment_bytes (segments_of t who steps)) _ (sym (ap segment_bytes (segments_restarted t who steps))),
   (
     log_text (restart (length (segments_of t who steps)) ∷ []),
-    sym (ap log_text (lines_restarted t who steps) ∙ log_text-append (lines_of t who steps) (restart (length (segments_of t who steps)) ∷ [])),
+    sym (ap log_text (lines_restarted t who steps)
+        ∙ log_text-append (lines_of t who steps) (restart (length (segments_of t who steps)) ∷ [])),
   ),
 )
 
@@ -164,7 +172,8 @@ under_way_more ts steps more held now is = record {
   next = is.next;
   rest = is.rest ++ more;
   whole =
-      ap (λ z. is.done ++ z) (sym (append_assoc is.next is.rest more)) ∙ sym (append_assoc is.done (is.next ++ is.rest) more)
+      ap (λ z. is.done ++ z) (sym (append_assoc is.next is.rest more))
+      ∙ sym (append_assoc is.done (is.next ++ is.rest) more)
       ∙ ap (λ z. z ++ more) is.whole;
   one = is.one;
   contents = is.contents;
@@ -173,11 +182,13 @@ under_way_more ts steps more held now is = record {
   files = is.files;
 }
 
-pub part_under_way : (ts : List Transmitter) (steps : List Step) (held : Files) (now : Option Files) → IsUnderWay ts steps held now
+pub part_under_way : (ts : List Transmitter) (steps : List Step) (held : Files) (now : Option Files)
+    → IsUnderWay ts steps held now
     → ArePartWritten (played_outputs ts steps) (Some held) now
 part_under_way ts steps held now is =
     let all : (is.done ++ is.next) ++ is.rest ≡ steps = append_assoc is.done is.next is.rest ∙ is.whole in
     part_of_fronts ts is.contents (played steps) (Some held) now
     (fronts_then ts is.contents (played (is.done ++ is.next)) (played steps) is.most
-    (subst (λ (s : List Step). AreFronts ts (played (is.done ++ is.next)) (played s)) all (steps_grow ts (is.done ++ is.next) is.rest)))
+    (subst (λ (s : List Step). AreFronts ts (played (is.done ++ is.next)) (played s)) all
+    (steps_grow ts (is.done ++ is.next) is.rest)))
     is.files

@@ -1,5 +1,6 @@
 -- The names of the files of the transmitters, while they are made.
-use Rattle.std.proofs.Common.{◌≡◌, ◌⊎◌, ℕ, ◌+◌, ◌<◌, ◌≤◌, ◌^◌, List, [], ◌∷◌, ◌++◌, length, sym, ap, subst, ◌∙◌, inl, inr, arith}
+use Rattle.std.proofs.Common.{◌≡◌, ◌⊎◌, ℕ, ◌+◌, ◌<◌, ◌≤◌, ◌^◌, List, [], ◌∷◌, ◌++◌, length, sym, ap, subst, ◌∙◌, inl}
+use Rattle.std.proofs.Common.{inr, arith}
 use Rattle.std.specs.Prelude.{Some, slice_get}
 use Rattle.std.proofs.lemmas.Bool.{cases_lt}
 use Rattle.std.proofs.lemmas.List.{length-append}
@@ -13,7 +14,8 @@ use Rattle.dtx_schedule.specs.declared.pair.FileNames.{FileNames}
 -- the names of the first n transmitters
 pub record AreFirstNames (ts : List Transmitter) (n : ℕ) (names : List FileNames) : Type 0 where
   pub long : length names ≡ n
-  pub each : (who : ℕ) (t : Transmitter) (its : FileNames) → slice_get ts who ≡ Some t → slice_get names who ≡ Some its → AreNamesOf t.address its
+  pub each : (who : ℕ) (t : Transmitter) (its : FileNames) → slice_get ts who ≡ Some t → slice_get names who ≡ Some its
+      → AreNamesOf t.address its
   pub small : (who : ℕ) (t : Transmitter) → who < n → slice_get ts who ≡ Some t → t.address < 2 ^ 16
 
 pub none_named : (ts : List Transmitter) (names : List FileNames) → names ≡ [] → AreFirstNames ts 0 names
@@ -23,11 +25,13 @@ none_named ts names none = record {
   small = λ who t l at_t. absurd (omega (arith, l));
 }
 
-pub one_named : (ts : List Transmitter) (n : ℕ) (names more : List FileNames) (t : Transmitter) (its : FileNames) → more ≡ names ++ its ∷ []
+pub one_named : (ts : List Transmitter) (n : ℕ) (names more : List FileNames) (t : Transmitter) (its : FileNames)
+    → more ≡ names ++ its ∷ []
     → slice_get ts n ≡ Some t → AreNamesOf t.address its → AreFirstNames ts n names → AreFirstNames ts (n + 1) more
 one_named ts n names more t its are at_t own first = record {
   long = omega (arith, ap length are, length-append names (its ∷ []), first.long);
-  each = λ who u other at_u here. by_cases who u other at_u (pushed_here names who its other (sym (ap (λ (xs : List FileNames). slice_get xs who) are) ∙ here));
+  each = λ who u other at_u here. by_cases who u other at_u
+      (pushed_here names who its other (sym (ap (λ (xs : List FileNames). slice_get xs who) are) ∙ here));
   small = λ who u l at_u. by_place who u l at_u (cases_lt who n);
 }
   where
@@ -38,14 +42,16 @@ one_named ts n names more t its are at_t own first = record {
         let is : t ≡ u = same_Some t u (sym at_t ∙ ap (slice_get ts) (sym (last.0 ∙ first.long)) ∙ at_u) in
         subst (AreNamesOf u.address) last.1 (subst (λ (x : Transmitter). AreNamesOf x.address its) is own)
 
-    by_place : (who : ℕ) (u : Transmitter) → who < n + 1 → slice_get ts who ≡ Some u → (who < n) ⊎ (n ≤ who) → u.address < 2 ^ 16
+    by_place : (who : ℕ) (u : Transmitter) → who < n + 1 → slice_get ts who ≡ Some u → (who < n) ⊎ (n ≤ who)
+        → u.address < 2 ^ 16
     by_place who u l at_u (inl less) = first.small who u less at_u
     by_place who u l at_u (inr past) =
         let same : n ≡ who = omega (arith, l, past) in
         let is : t ≡ u = same_Some t u (sym at_t ∙ ap (slice_get ts) same ∙ at_u) in
         subst (λ (x : Transmitter). x.address < 2 ^ 16) is own.small
 
-pub all_named : (ts : List Transmitter) (n : ℕ) (names : List FileNames) → n ≡ length ts → AreFirstNames ts n names → AreNames ts names
+pub all_named : (ts : List Transmitter) (n : ℕ) (names : List FileNames) → n ≡ length ts → AreFirstNames ts n names
+    → AreNames ts names
 all_named ts n names all first = record {
   long = first.long ∙ all;
   each = first.each;

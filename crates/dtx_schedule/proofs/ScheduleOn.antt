@@ -18,30 +18,39 @@ unfolding schedule
 nothing_yet ts feed = refl
 
 -- one event more
-pub schedule_on : (ts : List Transmitter) (feed : List (List ℕ)) (events : List Event) (i : ℕ) (e : Event) → slice_get events i ≡ Some e
+pub schedule_on : (ts : List Transmitter) (feed : List (List ℕ)) (events : List Event) (i : ℕ) (e : Event)
+    → slice_get events i ≡ Some e
     → schedule ts feed (take i events) ++ steps_of ts feed e ≡ schedule ts feed (take (i + 1) events)
 unfolding schedule
 schedule_on ts feed events i e here =
-    let all : take (i + 1) events ≡ take i events ++ e ∷ [] = take_more events i e (slice_get_within events i e here) ∙ ap (λ (x : Event). take i events ++ x ∷ []) (get_or_from_slice_get events i e e here) in
-    sym (ap (flat_map (steps_of ts feed)) all ∙ flat_map-append (steps_of ts feed) (take i events) (e ∷ []) ∙ ap (λ s. flat_map (steps_of ts feed) (take i events) ++ s) (append-nil (steps_of ts feed e)))
+    let all : take (i + 1) events ≡ take i events ++ e ∷ [] = take_more events i e (slice_get_within events i e here)
+    ∙ ap (λ (x : Event). take i events ++ x ∷ []) (get_or_from_slice_get events i e e here) in
+    sym (ap (flat_map (steps_of ts feed)) all ∙ flat_map-append (steps_of ts feed) (take i events) (e ∷ [])
+    ∙ ap (λ s. flat_map (steps_of ts feed) (take i events) ++ s) (append-nil (steps_of ts feed e)))
 
 -- and all behind those
 pub schedule_rest : (ts : List Transmitter) (feed : List (List ℕ)) (events : List Event) (n : ℕ)
     → schedule ts feed (take n events) ++ schedule ts feed (drop n events) ≡ schedule ts feed events
 unfolding schedule
 schedule_rest ts feed events n =
-    sym (flat_map-append (steps_of ts feed) (take n events) (drop n events)) ∙ ap (flat_map (steps_of ts feed)) (take-append-drop n events)
+    sym (flat_map-append (steps_of ts feed) (take n events) (drop n events))
+    ∙ ap (flat_map (steps_of ts feed)) (take-append-drop n events)
 
-pub event_at : (events : List Event) (i : ℕ) (e : Event) → All IsInRange events → slice_get events i ≡ Some e → IsInRange e
+pub event_at : (events : List Event) (i : ℕ) (e : Event) → All IsInRange events → slice_get events i ≡ Some e
+    → IsInRange e
 event_at events i e each here =
-    subst IsInRange (get_or_from_slice_get events i e e here) (All-get_or IsInRange events i e (slice_get_within events i e here) each)
+    subst IsInRange (get_or_from_slice_get events i e e here)
+    (All-get_or IsInRange events i e (slice_get_within events i e here) each)
 
 -- events of transmitters of the plan
 pub all_in_range : (ts : List Transmitter) (events : List Event) → All (IsEvent ts) events → All IsInRange events
 all_in_range ts [] each = All-nil IsInRange
-all_in_range ts (e ∷ events) each = All-cons IsInRange e events (All-head (IsEvent ts) e events each).in_range (all_in_range ts events (All-tail (IsEvent ts) e events each))
+all_in_range ts (e ∷ events) each =
+    All-cons IsInRange e events (All-head (IsEvent ts) e events each).in_range
+    (all_in_range ts events (All-tail (IsEvent ts) e events each))
 
 -- where no event reads past the feed, this one doesn't
-pub stays_within : (events : List Event) (packets i : ℕ) (e : Event) → first_past_feed events packets ≡ None → slice_get events i ≡ Some e → reads_past packets e ≡ false
+pub stays_within : (events : List Event) (packets i : ℕ) (e : Event) → first_past_feed events packets ≡ None
+    → slice_get events i ≡ Some e → reads_past packets e ≡ false
 unfolding first_past_feed
 stays_within events packets i e none here = position_passes (reads_past packets) events i e none here

@@ -28,11 +28,13 @@ with_pair address symbols log held = with_file (log_name address) log (with_file
 -- what adding bytes to a file leaves, of which all or a front part was added
 abbrev pub IsAddedTo : List ℕ → List ℕ → List ℕ → Files → Result (Unit {0}) WriteNo → Option Files → Type 0
 IsAddedTo name file bytes held (Ok _) now = now ≡ Some (with_file name (file ++ bytes) held)
-IsAddedTo name file bytes held (Err _) now = (part : List ℕ) × IsFrontOf part bytes × (now ≡ Some (with_file name (file ++ part) held))
+IsAddedTo name file bytes held (Err _) now = (part : List ℕ) × IsFrontOf part bytes
+    × (now ≡ Some (with_file name (file ++ part) held))
 
 -- what adding symbols and a line to the two leaves
 abbrev pub IsPairOf : ℕ → List ℕ → List ℕ → List ℕ → List ℕ → Files → Result (Unit {0}) WriteNo → Option Files → Type 0
-IsPairOf address sent logged symbols line held (Ok _) now = now ≡ Some (with_pair address (sent ++ symbols) (logged ++ line) held)
+IsPairOf address sent logged symbols line held (Ok _) now =
+    now ≡ Some (with_pair address (sent ++ symbols) (logged ++ line) held)
 IsPairOf address sent logged symbols line held (Err _) now =
     (part : List ℕ) × (text : List ℕ) × IsFrontOf part symbols × IsFrontOf text line
     × (now ≡ Some (with_pair address (sent ++ part) (logged ++ text) held))

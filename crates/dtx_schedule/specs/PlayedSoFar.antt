@@ -21,11 +21,13 @@ abbrev pub packet_steps : ℕ → List (List ℕ) → List Step
 packet_steps who packets = map (packet_step who) packets
 
 -- these steps were done with the stage, and the files are those of them
-pub record IsPlayedSoFar (ts : List Transmitter) (steps : List Step) (held : Files) (stage : Stage) (now : Option Files) : Type 0 where
+pub record IsPlayedSoFar (ts : List Transmitter) (steps : List Step) (held : Files) (stage : Stage)
+    (now : Option Files) : Type 0 where
   pub staged : IsStaged ts stage steps
   pub files : now ≡ with_outputs (played_outputs ts steps) (Some held)
 
--- The first of these steps are done, and at most one more is under way: each file of a transmitter has all that those give, and no more
+-- The first of these steps are done, and at most one more is under way: each file of a transmitter has all that those
+-- give, and no more
 -- than that one gives too.
 pub record IsUnderWay (ts : List Transmitter) (steps : List Step) (held : Files) (now : Option Files) : Type 0 where
   pub done : List Step
@@ -38,7 +40,8 @@ pub record IsUnderWay (ts : List Transmitter) (steps : List Step) (held : Files)
   pub most : AreFronts ts contents (played (done ++ next))
   pub files : now ≡ with_outputs (files_of contents ts) (Some held)
 
--- what doing leaves that was to bring the steps to these: they are done; or a fault was met, and one of them is under way
+-- what doing leaves that was to bring the steps to these: they are done; or a fault was met, and one of them is under
+-- way
 abbrev pub IsDoneOf : List Transmitter → List Step → Files → Result (Unit {0}) Status → Stage → Option Files → Type 0
 IsDoneOf ts steps held (Ok _) stage now = IsPlayedSoFar ts steps held stage now
 IsDoneOf ts steps held (Err status) stage now = IsFault status × IsUnderWay ts steps held now
@@ -60,7 +63,8 @@ abbrev pub IsPacketOf : List ℕ → ℕ → Result packet.Packet Status → Typ
 IsPacketOf feed from (Ok packet) = packet.0 ≡ packet_at feed from
 IsPacketOf feed from (Err status) = IsFault status
 
--- what reading the packets of a feed that begin with one answers and puts at the front of the places, where it has that one
+-- what reading the packets of a feed that begin with one answers and puts at the front of the places, where it has that
+-- one
 abbrev pub IsPieceOf : List ℕ → ℕ → Result ℕ Status → List packet.Packet → Type 0
 IsPieceOf feed from (Ok n) into = map (λ p. p.0) (take n into) ≡ packets_from feed from n
 IsPieceOf feed from (Err status) into = IsFault status
@@ -71,9 +75,11 @@ pub record IsPieceCount (count : ℕ) (into : List packet.Packet) (n : ℕ) : Ty
   pub fits : n ≤ length into
   pub within : n ≤ count
 
--- what giving the first packets of a part, which begins with a packet of the feed, leaves: so many more are given; or a fault was met while
+-- what giving the first packets of a part, which begins with a packet of the feed, leaves: so many more are given; or a
+-- fault was met while
 -- one of all packets of the part was
-abbrev pub IsGivenOf : List Transmitter → List Step → ℕ → List ℕ → ℕ → ℕ → Files → Result ℕ Status → Stage → Option Files → Type 0
+abbrev pub IsGivenOf : List Transmitter → List Step → ℕ → List ℕ → ℕ → ℕ → Files → Result ℕ Status → Stage
+    → Option Files → Type 0
 IsGivenOf ts before who feed from count held (Ok n) stage now =
     IsPlayedSoFar ts (before ++ packet_steps who (packets_from feed from n)) held stage now
 IsGivenOf ts before who feed from count held (Err status) stage now =

@@ -17,12 +17,14 @@ packets_given steps = count_by (λ step. is_some step.packet) steps
 -- how many segments each transmitter has sent over the steps of all, in the plan's order
 pub record AreSent (ts : List Transmitter) (steps : List Step) (sent : List ℕ) : Type 0 where
   pub long : length sent ≡ length ts
-  pub each : (who : ℕ) (t : Transmitter) → slice_get ts who ≡ Some t → slice_get sent who ≡ Some (length (segments_of t who steps))
+  pub each : (who : ℕ) (t : Transmitter) → slice_get ts who ≡ Some t
+      → slice_get sent who ≡ Some (length (segments_of t who steps))
 
 -- so many segments the transmitter of that address has sent over the steps of all
 abbrev pub SentBy : ℕ → List Transmitter → List Step → ℕ → Type 0
 SentBy address ts steps segments =
-    IfSome (place_of address ts) (λ who. (t : Transmitter) → slice_get ts who ≡ Some t → segments ≡ length (segments_of t who steps))
+    IfSome (place_of address ts) (λ who. (t : Transmitter) → slice_get ts who ≡ Some t
+    → segments ≡ length (segments_of t who steps))
 
 -- the names of the files of each transmitter, in the plan's order
 pub record AreNames (ts : List Transmitter) (names : List FileNames) : Type 0 where

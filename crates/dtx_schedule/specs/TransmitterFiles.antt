@@ -9,7 +9,8 @@ use Rattle.dtx_words.specs.NetworkNames.{symbol_name, log_name}
 use Rattle.dtx_net.specs.Steps.{Step}
 use Rattle.dtx_net.specs.Sent.{segments_of, lines_of}
 
--- the symbol file of the transmitter t, which stands at a place of the plan's list, over the steps of all: what it sends
+-- the symbol file of the transmitter t, which stands at a place of the plan's list, over the steps of all: what it
+-- sends
 unfoldable pub symbol_file : Transmitter → ℕ → List Step → List ℕ
 symbol_file t who steps = segment_bytes (segments_of t who steps)
 
@@ -31,7 +32,10 @@ Contents = ℕ → Transmitter → List ℕ × List ℕ
 abbrev pub files_of : Contents → List Transmitter → Outputs
 files_of contents [] = []
 files_of contents (t ∷ ts) =
-    (symbol_name t.address, (contents 0 t).0) ∷ (log_name t.address, (contents 0 t).1) ∷ files_of (λ who. contents (suc who)) ts
+    (symbol_name t.address, (contents 0 t).0) ∷ (
+      log_name t.address,
+      (contents 0 t).1,
+    ) ∷ files_of (λ who. contents (suc who)) ts
 
 -- each file has a front part of what it has by another account
 abbrev pub AreFronts : List Transmitter → Contents → Contents → Type 0

@@ -10,7 +10,8 @@ use dtx_outside::{Shelf, WriteNo};
 
 /// Begins the symbol file and the log of each transmitter, in the plan's order.
 pub(crate) fn begin_files<S: Shelf>(shelf: &mut S, names: &[FileNames]) -> Result<(), WriteNo>
-    ensures begun { (ts : List Transmitter) → AreNames ts names.now → IsBegunOf ts (S.files shelf.old) result (S.files shelf.new) }
+    ensures begun { (ts : List Transmitter) → AreNames ts names.now
+        → IsBegunOf ts (S.files shelf.old) result (S.files shelf.new) }
     ensures gone { HasGone (S.counts shelf.old) (S.counts shelf.new) (blame_of_write result) }
 {
     for its in names {

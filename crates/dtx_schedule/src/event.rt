@@ -34,7 +34,8 @@ pub(crate) fn play_event<S: Shelf>(
     requires event { IsInRange event.now }
     requires some { IsSomeStage stage.old }
     requires most { stage.old.steps + most_packets ≤ 2 ^ 60 }
-    ensures done { (ts : List Transmitter) (held : Files) (before : List Step) (feed : List ℕ) → files.get held feed_name ≡ Some feed
+    ensures done { (ts : List Transmitter) (held : Files) (before : List Step) (feed : List ℕ)
+        → files.get held feed_name ≡ Some feed
         → reads_past (whole_packets feed) event.now ≡ false → IsPlayedSoFar ts before held stage.old (S.files shelf.old)
         → IsDoneOf ts (before ++ steps_of ts (packets_of feed) event.now) held result stage.new (S.files shelf.new) }
     ensures some { IsOk result → IsSomeStage stage.new }
@@ -61,7 +62,8 @@ fn play_at<S: Shelf>(
     requires event { IsInRange event.now }
     requires there { HasTransmitter who stage.old }
     requires most { stage.old.steps + most_packets ≤ 2 ^ 60 }
-    ensures done { (ts : List Transmitter) (held : Files) (before : List Step) (feed : List ℕ) → files.get held feed_name ≡ Some feed
+    ensures done { (ts : List Transmitter) (held : Files) (before : List Step) (feed : List ℕ)
+        → files.get held feed_name ≡ Some feed
         → place_of (to_of event.now) ts ≡ Some who
         → reads_past (whole_packets feed) event.now ≡ false → IsPlayedSoFar ts before held stage.old (S.files shelf.old)
         → IsDoneOf ts (before ++ steps_of ts (packets_of feed) event.now) held result stage.new (S.files shelf.new) }
@@ -122,8 +124,10 @@ fn send<S: Shelf>(
     requires there { HasTransmitter who stage.old }
     requires part { IsPart part.now.from part.now.count }
     requires most { stage.old.steps + part.now.count ≤ 2 ^ 60 }
-    ensures done { (ts : List Transmitter) (held : Files) (before : List Step) (feed : List ℕ) → files.get held feed_name ≡ Some feed
-        → part.now.from + part.now.count ≤ whole_packets feed → IsPlayedSoFar ts before held stage.old (S.files shelf.old)
+    ensures done { (ts : List Transmitter) (held : Files) (before : List Step) (feed : List ℕ)
+        → files.get held feed_name ≡ Some feed
+        → part.now.from + part.now.count ≤ whole_packets feed
+        → IsPlayedSoFar ts before held stage.old (S.files shelf.old)
         → IsDoneOf ts (before ++ packet_steps who (packets_from feed part.now.from part.now.count)) held
         result stage.new (S.files shelf.new) }
     ensures there { IsOk result → HasTransmitter who stage.new }
@@ -143,7 +147,8 @@ fn send<S: Shelf>(
     Ok(())
 }
 
-/// Gives the transmitter at a place the first packets of a part, as many as there are places or fewer, and answers how many they are.
+/// Gives the transmitter at a place the first packets of a part, as many as there are places or fewer, and answers how
+/// many they are.
 fn send_piece<S: Shelf>(
     shelf: &mut S,
     who: usize,
@@ -155,7 +160,8 @@ fn send_piece<S: Shelf>(
     requires there { HasTransmitter who stage.old }
     requires part { IsPart part.now.from part.now.count }
     requires most { stage.old.steps + part.now.count ≤ 2 ^ 60 }
-    ensures done { (ts : List Transmitter) (held : Files) (before : List Step) (feed : List ℕ) → files.get held feed_name ≡ Some feed
+    ensures done { (ts : List Transmitter) (held : Files) (before : List Step) (feed : List ℕ)
+        → files.get held feed_name ≡ Some feed
         → part.now.from < whole_packets feed → IsPlayedSoFar ts before held stage.old (S.files shelf.old)
         → IsGivenOf ts before who feed part.now.from part.now.count held result stage.new (S.files shelf.new) }
     ensures count { IfOk result (λ n. (0 < n) × (n ≤ part.now.count) × (stage.new.steps ≡ stage.old.steps + n)) }

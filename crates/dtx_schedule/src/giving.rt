@@ -34,8 +34,10 @@ pub(crate) fn give_all<S: Shelf>(
 ) -> Result<(), Status>
     requires there { HasTransmitter who stage.old }
     requires most { stage.old.steps + length packets.now ≤ 2 ^ 60 }
-    ensures done { (ts : List Transmitter) (held : Files) (before : List Step) → IsPlayedSoFar ts before held stage.old (S.files shelf.old)
-        → IsDoneOf ts (before ++ packet_steps who (map (λ p. p.0) packets.now)) held result stage.new (S.files shelf.new) }
+    ensures done { (ts : List Transmitter) (held : Files) (before : List Step)
+        → IsPlayedSoFar ts before held stage.old (S.files shelf.old)
+        → IsDoneOf ts (before ++ packet_steps who (map (λ p. p.0) packets.now)) held result stage.new
+        (S.files shelf.new) }
     ensures there { IsOk result → HasTransmitter who stage.new }
     ensures steps { IsOk result → stage.new.steps ≡ stage.old.steps + length packets.now }
     ensures gone { HasGone (S.counts shelf.old) (S.counts shelf.new) (blame_of_answer result) }
@@ -56,8 +58,10 @@ pub(crate) fn give_made<S: Shelf>(
     requires there { HasTransmitter who stage.old }
     requires most { stage.old.steps + part.now.count ≤ 2 ^ 60 }
     requires part { IsPart part.now.from part.now.count }
-    ensures done { (ts : List Transmitter) (held : Files) (before : List Step) → IsPlayedSoFar ts before held stage.old (S.files shelf.old)
-        → IsDoneOf ts (before ++ packet_steps who (map (made_packet part.now.seed) (range_with_len part.now.from part.now.count))) held
+    ensures done { (ts : List Transmitter) (held : Files) (before : List Step)
+        → IsPlayedSoFar ts before held stage.old (S.files shelf.old)
+        → IsDoneOf ts (before ++ packet_steps who
+        (map (made_packet part.now.seed) (range_with_len part.now.from part.now.count))) held
         result stage.new (S.files shelf.new) }
     ensures there { IsOk result → HasTransmitter who stage.new }
     ensures steps { IsOk result → stage.new.steps ≡ stage.old.steps + part.now.count }

@@ -44,7 +44,8 @@ pub(crate) fn append_both<S: Shelf>(
 
 /// Adds bytes to a file that is there, unless there are none.
 fn append_some<S: Shelf>(shelf: &mut S, name: &str, bytes: &[u8]) -> Result<(), WriteNo>
-    ensures appended { (held : Files) (file : List ℕ) → S.files shelf.old ≡ Some held → files.get held name.now ≡ Some file
+    ensures appended { (held : Files) (file : List ℕ) → S.files shelf.old ≡ Some held
+        → files.get held name.now ≡ Some file
         → IsAddedTo name.now file bytes.now held result (S.files shelf.new) }
     ensures gone { HasGone (S.counts shelf.old) (S.counts shelf.new) (blame_of_write result) }
 {

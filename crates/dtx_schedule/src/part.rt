@@ -39,7 +39,8 @@ pub(crate) fn read_one<S: Shelf>(shelf: &mut S, event: u32, from: u64) -> Result
     }
 }
 
-/// Reads the first packets of a part, as many as there are places or fewer, to the front of these, and answers how many they are.
+/// Reads the first packets of a part, as many as there are places or fewer, to the front of these, and answers how many
+/// they are.
 pub(crate) fn read_piece<S: Shelf>(
     shelf: &mut S,
     part: &Part,

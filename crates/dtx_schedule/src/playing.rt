@@ -34,14 +34,16 @@ pub struct Played {
 impl Played {
     /// How many packets were given: the steps but for the restarts.
     pub fn steps(&self) -> u64
-        ensures { (ts : List Transmitter) (steps : List Step) → IsStaged ts self.now.stage steps → result ≡ packets_given steps }
+        ensures { (ts : List Transmitter) (steps : List Step) → IsStaged ts self.now.stage steps
+            → result ≡ packets_given steps }
     {
         self.stage.steps
     }
 
     /// How many segments the transmitter of that address has sent.
     pub fn sent(&self, address: u16) -> u64
-        ensures { (ts : List Transmitter) (steps : List Step) → IsStaged ts self.now.stage steps → SentBy address ts steps result }
+        ensures { (ts : List Transmitter) (steps : List Step) → IsStaged ts self.now.stage steps
+            → SentBy address ts steps result }
     {
         match self.stage.find(address) {
             Some(who) => count_at(&self.stage.sent, who),
@@ -60,9 +62,12 @@ fn count_at(counts: &[u64], place: usize) -> u64
     }
 }
 
-/// Plays the events of a plan over the feed, which stands in `net.feed`, into the files `tx-A.sym` and `tx-A.log` of each transmitter, A
-/// being its address: step by step, each with the packet or the restart that the event gives its transmitter (the profile's own). All
-/// memory is taken before a file is begun. The symbols of a step and then its line are appended before the next step begins.
+/// Plays the events of a plan over the feed, which stands in `net.feed`, into the files `tx-A.sym` and `tx-A.log` of
+/// each transmitter, A
+/// being its address: step by step, each with the packet or the restart that the event gives its transmitter (the
+/// profile's own). All
+/// memory is taken before a file is begun. The symbols of a step and then its line are appended before the next step
+/// begins.
 pub fn play<S: Shelf>(
     alloc: Global,
     shelf: &mut S,
@@ -71,9 +76,11 @@ pub fn play<S: Shelf>(
 ) -> Result<Played, Status>
     requires transmitters { AreTransmitters transmitters.now }
     requires events { AreEvents transmitters.now events.now }
-    ensures played { (held : Files) (feed : List ℕ) → S.files shelf.old ≡ Some held → files.get held feed_name ≡ Some feed
+    ensures played { (held : Files) (feed : List ℕ) → S.files shelf.old ≡ Some held
+        → files.get held feed_name ≡ Some feed
         → first_past_feed events.now (whole_packets feed) ≡ None
-        → IsPlayOf transmitters.now (schedule transmitters.now (packets_of feed) events.now) held result (S.files shelf.new) }
+        → IsPlayOf transmitters.now (schedule transmitters.now (packets_of feed) events.now) held result
+        (S.files shelf.new) }
     ensures gone { HasGone (S.counts shelf.old) (S.counts shelf.new) (blame_of_answer result) }
 {
     let mut stage = Stage::new(alloc, transmitters)?;
@@ -92,7 +99,8 @@ fn run<S: Shelf>(
     requires room { length packets.old ≡ PIECE_PACKETS }
     requires events { AreInRange events.now }
     requires staged { (ts : List Transmitter) × IsStaged ts stage.old [] }
-    ensures run { (ts : List Transmitter) (held : Files) (feed : List ℕ) → IsStaged ts stage.old [] → S.files shelf.old ≡ Some held
+    ensures run { (ts : List Transmitter) (held : Files) (feed : List ℕ) → IsStaged ts stage.old []
+        → S.files shelf.old ≡ Some held
         → files.get held feed_name ≡ Some feed → first_past_feed events.now (whole_packets feed) ≡ None
         → IsRunOf ts (schedule ts (packets_of feed) events.now) held result stage.new (S.files shelf.new) }
     ensures gone { HasGone (S.counts shelf.old) (S.counts shelf.new) (blame_of_answer result) }
@@ -112,7 +120,8 @@ fn play_events<S: Shelf>(
     requires events { AreInRange events.now }
     requires staged { (ts : List Transmitter) × IsStaged ts stage.old [] }
     ensures done { (ts : List Transmitter) (held : Files) (feed : List ℕ) → files.get held feed_name ≡ Some feed
-        → first_past_feed events.now (whole_packets feed) ≡ None → IsPlayedSoFar ts [] held stage.old (S.files shelf.old)
+        → first_past_feed events.now (whole_packets feed) ≡ None
+        → IsPlayedSoFar ts [] held stage.old (S.files shelf.old)
         → IsDoneOf ts (schedule ts (packets_of feed) events.now) held result stage.new (S.files shelf.new) }
     ensures gone { HasGone (S.counts shelf.old) (S.counts shelf.new) (blame_of_answer result) }
 {

@@ -1,5 +1,6 @@
 // All exciters of a network at work, and what is written of them.
-ghost use Rattle.std.specs.Prelude.{◌≡◌, ◌+◌, ◌<◌, ◌≤◌, ◌^◌, ◌++◌, ◌∷◌, [], List, Some, IfOk, IfSome, IsOk, length, replicate, take};
+ghost use Rattle.std.specs.Prelude.{◌≡◌, ◌+◌, ◌<◌, ◌≤◌, ◌^◌, ◌++◌, ◌∷◌, [], List, Some, IfOk, IfSome, IsOk, length};
+ghost use Rattle.std.specs.Prelude.{replicate, take};
 ghost use Rattle.dtx_outside.specs.Counts.{HasGone, blame_of_write};
 ghost use Rattle.dtx_outside.specs.Shelf.{Files};
 ghost use Rattle.dtx_meaning.specs.Meaning.{with_outputs};
@@ -61,13 +62,15 @@ impl Stage {
 
     /// The place in the plan's list of the transmitter with this address, or `None` where there is none.
     pub(crate) fn find(&self, address: u16) -> Option<usize>
-        ensures place { (ts : List Transmitter) (steps : List Step) → IsStaged ts self.now steps → result ≡ place_of address ts }
+        ensures place { (ts : List Transmitter) (steps : List Step) → IsStaged ts self.now steps
+            → result ≡ place_of address ts }
         ensures there { IsSomeStage self.now → IfSome result (λ who. HasTransmitter who self.now) }
     {
         self.net.find(address)
     }
 
-    /// Gives the transmitter at a place of the list one packet more, of any bytes, and appends to its files what it sends for it, and then
+    /// Gives the transmitter at a place of the list one packet more, of any bytes, and appends to its files what it
+    /// sends for it, and then
     /// the line of its log. An empty piece isn't appended.
     pub(crate) fn give<S: Shelf>(
         &mut self,
@@ -77,7 +80,8 @@ impl Stage {
     ) -> Result<(), Status>
         requires there { HasTransmitter who self.old }
         requires most { self.old.steps < 2 ^ 60 }
-        ensures done { (ts : List Transmitter) (held : Files) (before : List Step) → IsPlayedSoFar ts before held self.old (S.files shelf.old)
+        ensures done { (ts : List Transmitter) (held : Files) (before : List Step)
+            → IsPlayedSoFar ts before held self.old (S.files shelf.old)
             → IsDoneOf ts (before ++ packet_step who packet.now.0 ∷ []) held result self.new (S.files shelf.new) }
         ensures there { IsOk result → HasTransmitter who self.new }
         ensures steps { IsOk result → self.new.steps ≡ self.old.steps + 1 }
@@ -92,7 +96,8 @@ impl Stage {
     pub(crate) fn restart<S: Shelf>(&mut self, shelf: &mut S, who: usize) -> Result<(), Status>
         requires there { HasTransmitter who self.old }
         requires most { self.old.steps < 2 ^ 60 }
-        ensures done { (ts : List Transmitter) (held : Files) (before : List Step) → IsPlayedSoFar ts before held self.old (S.files shelf.old)
+        ensures done { (ts : List Transmitter) (held : Files) (before : List Step)
+            → IsPlayedSoFar ts before held self.old (S.files shelf.old)
             → IsDoneOf ts (before ++ restart_step who ∷ []) held result self.new (S.files shelf.new) }
         ensures there { IsOk result → HasTransmitter who self.new }
         ensures steps { IsOk result → self.new.steps ≡ self.old.steps }

@@ -1,4 +1,4 @@
-use Rattle.std.proofs.Common.{◌≡◌, ℕ, ◌<◌, ◌≤◌, List, [], ◌∷◌, length, get_or, sym, ap, subst, ◌∙◌, arith}
+use Rattle.std.proofs.Common.{◌≡◌, ℕ, ◌<◌, ◌≤◌, List, [], ◌∷◌, length, get_or, sym, ap, subst, arith}
 use Rattle.std.specs.Prelude.{Option, Some, None, IfSome}
 use Rattle.std.specs.FinMap.{get}
 use Rattle.dtx_jobs.specs.PlanFile.{under_plan}
@@ -21,7 +21,8 @@ two_words (verb ∷ other ∷ more ∷ rest) name least most is = absurd (omega 
 
 abbrev CarriedUnder : Option Files → Option Files → Outcome → List ℕ → Type 0
 CarriedUnder told now outcome name =
-    IfSome told (λ held. IsCarriedOut (under_plan 0 (get held name) (λ said. planned_meaning name held said said.net)) (Some held) outcome now)
+    IfSome told (λ held. IsCarriedOut (under_plan 0 (get held name) (λ said. planned_meaning name held said said.net))
+    (Some held) outcome now)
 
 headlines : (told now : Option Files) (outcome : Outcome) (verb name : List ℕ) → CarriedUnder told now outcome name
     → IfSome told (λ held. outcome.status ≡ Done → HasHeadline (verb ∷ name ∷ []) held now)
@@ -34,7 +35,8 @@ returns-in-len2-clause-carried g c =
     let now = g.S.Shelf.files c.net_file.new.shelf in
     let outcome = c.net_file.result.outcome in
     let two = two_words c.args.words.now c.plan-item.result c.in-len2.len_at_least c.in-len2.len_below c.plan-item.is in
-    subst (λ (ws : List (List ℕ)). IfSome told (λ held. IsCarriedOut (net_meaning ws held) (Some held) outcome now)) (sym two.1)
+    subst (λ (ws : List (List ℕ)). IfSome told (λ held. IsCarriedOut (net_meaning ws held) (Some held) outcome now))
+    (sym two.1)
     (subst (CarriedUnder told now outcome) c.as_str.ensures c.net_file.ensures.carried)
 
 pub returns-in-len2-clause-headline : goal.returns-in-len2-clause-headline
@@ -44,4 +46,5 @@ returns-in-len2-clause-headline g c =
     let outcome = c.net_file.result.outcome in
     let two = two_words c.args.words.now c.plan-item.result c.in-len2.len_at_least c.in-len2.len_below c.plan-item.is in
     subst (λ (ws : List (List ℕ)). IfSome told (λ held. outcome.status ≡ Done → HasHeadline ws held now)) (sym two.1)
-    (headlines told now outcome two.0 c.plan-item.result (subst (CarriedUnder told now outcome) c.as_str.ensures c.net_file.ensures.carried))
+    (headlines told now outcome two.0 c.plan-item.result
+    (subst (CarriedUnder told now outcome) c.as_str.ensures c.net_file.ensures.carried))

@@ -1,5 +1,5 @@
-use Rattle.std.proofs.Common.{◌≡◌, ℕ, List, sym, ap, subst, ◌∙◌}
-use Rattle.std.specs.Prelude.{Option, Some, IfSome, slice_get}
+use Rattle.std.proofs.Common.{◌≡◌, ℕ, List, sym, subst, ◌∙◌}
+use Rattle.std.specs.Prelude.{Option, Some, IfSome}
 use Rattle.std.specs.FinMap.{get}
 use Rattle.dtx_meaning.specs.Meaning.{IsCarriedOut}
 use Rattle.dtx_net.specs.Steps.{Step}
@@ -16,7 +16,8 @@ use Rattle.dtx_replay.proofs.Played.{received_behind}
 use Rattle.dtx_replay.proofs.SymbolsSent.{counted_serves, place_there, sent_file_is}
 use Rattle.dtx_replay.proofs.replaying.receive_played.Goals as goal
 
-its_receiver : (ts : List Transmitter) (receive : Option ReceivePlan) (receiver : ReceivePlan) → receive ≡ Some receiver → IfSome receive (IsReceived ts)
+its_receiver : (ts : List Transmitter) (receive : Option ReceivePlan) (receiver : ReceivePlan) → receive ≡ Some receiver
+    → IfSome receive (IsReceived ts)
     → IsReceived ts receiver
 its_receiver ts receive receiver is received = subst (λ (o : Option ReceivePlan). IfSome o (IsReceived ts)) is received
 
@@ -36,11 +37,15 @@ returns-in-Some-clause-carried g c = λ plan held stream net numbers staged is.
     let told = is ∙ with_outputs-told (played_outputs ts steps) held in
     let apart = apart_of ts staged.transmitters staged.names.small in
     let there : get mid (symbol_name receiver.from) ≡ Some file =
-    subst (λ a. get mid (symbol_name a) ≡ Some file) place.own (has_pair ts who t (played steps) held apart place.here).sent in
+    subst (λ a. get mid (symbol_name a) ≡ Some file) place.own
+    (has_pair ts who t (played steps) held apart place.here).sent in
     let serves = counted_serves ts steps receiver who c.sent.result c.saturating_mul-symbols.result t place
     (c.sent.ensures ts steps staged) received.damage.each c.saturating_mul-symbols.ensures in
     let now = g.S.Shelf.files c.receive_sent-received.new.shelf in
-    subst (λ (o : Option ReceivePlan). IsCarriedOut (played_and_received plan network stream o) (Some held) c.with_received.result now) (sym c.in-Some.is)
-    (received_behind plan network receiver stream held mid now c.args.fed.now c.steps.result c.receive_sent-received.result c.with_received.result file
-    numbers (c.steps.ensures ts steps staged) (sym (sent_file_is plan network stream receiver.from who t place)) (sym (with_outputs-told (played_outputs ts steps) held))
+    subst (λ (o : Option ReceivePlan). IsCarriedOut (played_and_received plan network stream o)
+    (Some held) c.with_received.result now) (sym c.in-Some.is)
+    (received_behind plan network receiver stream held mid now c.args.fed.now c.steps.result
+    c.receive_sent-received.result c.with_received.result file
+    numbers (c.steps.ensures ts steps staged) (sym (sent_file_is plan network stream receiver.from who t place))
+    (sym (with_outputs-told (played_outputs ts steps) held))
     (c.receive_sent-received.ensures.carried mid file told there serves) c.with_received.ensures)

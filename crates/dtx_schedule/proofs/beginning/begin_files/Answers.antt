@@ -20,10 +20,16 @@ record IsAt (ts : List Transmitter) (i : ℕ) (its : FileNames) : Type 0 where
   at_t : slice_get ts i ≡ Some (get_or ts i none)
   own : AreNamesOf (get_or ts i none).address its
 
-here : (ts : List Transmitter) (names : List FileNames) (i : ℕ) (its : FileNames) → AreNames ts names → i < length names → its ≡ get_or names i its → IsAt ts i its
+here : (ts : List Transmitter) (names : List FileNames) (i : ℕ) (its : FileNames) → AreNames ts names → i < length names
+    → its ≡ get_or names i its → IsAt ts i its
 here ts names i its named within is =
-    let at_t : slice_get ts i ≡ Some (get_or ts i none) = slice_get-get_or ts i none (omega (arith, within, named.long)) in
-    record { at_t = at_t; own = named.each i (get_or ts i none) its at_t (slice_get_read names (length names) i its refl within is) }
+    let at_t : slice_get ts i ≡ Some (get_or ts i none) =
+    slice_get-get_or ts i none (omega (arith, within, named.long)) in
+    record {
+      at_t = at_t;
+      own = named.each i (get_or ts i none) its at_t
+          (slice_get_read names (length names) i its refl within is);
+    }
 
 pub loop-its-init : goal.loop-its-init
 loop-its-init g c = record {
@@ -43,7 +49,8 @@ returns-in_err-begin-clause-begun g c = λ ts named.
     let p = err_from_is_err_and c.from_residual.result c.from_residual.ensures.1 in
     subst (λ r. IsBegunOf ts start r now) (sym (p.1 ∙ ap Err p.2))
     (symbols_not_begun ts i (get_or ts i none) start before now (Err why) is.at_t (c.loop-its.invariant.begun ts named)
-    (subst (λ n. IsBegun n before (Err why) now) (c.as_str.ensures.value ∙ is.own.symbols) c.in_err-begin.ensures.files))
+    (subst (λ n. IsBegun n before (Err why) now) (c.as_str.ensures.value
+    ∙ is.own.symbols) c.in_err-begin.ensures.files))
 
 pub returns-in_err-begin-2-clause-begun : goal.returns-in_err-begin-2-clause-begun
 returns-in_err-begin-2-clause-begun g c = λ ts named.
@@ -58,8 +65,10 @@ returns-in_err-begin-2-clause-begun g c = λ ts named.
     let p = err_from_is_err_and c.from_residual-in_err-begin-2.result c.from_residual-in_err-begin-2.ensures.1 in
     subst (λ r. IsBegunOf ts start r now) (sym (p.1 ∙ ap Err p.2))
     (log_not_begun ts i (get_or ts i none) start before mid now (Err why) is.at_t (c.loop-its.invariant.begun ts named)
-    (subst (λ n. IsBegun n before (Ok c.in_ok-begin.field-0) mid) (c.as_str.ensures.value ∙ is.own.symbols) c.in_ok-begin.ensures.files)
-    (subst (λ n. IsBegun n mid (Err why) now) (c.as_str-in-loop-its.ensures.value ∙ is.own.log) c.in_err-begin-2.ensures.files))
+    (subst (λ n. IsBegun n before (Ok c.in_ok-begin.field-0) mid) (c.as_str.ensures.value
+    ∙ is.own.symbols) c.in_ok-begin.ensures.files)
+    (subst (λ n. IsBegun n mid (Err why) now) (c.as_str-in-loop-its.ensures.value
+    ∙ is.own.log) c.in_err-begin-2.ensures.files))
 
 pub loop-its-preserved : goal.loop-its-preserved
 loop-its-preserved g c = record {
@@ -70,9 +79,12 @@ loop-its-preserved g c = record {
       let before = g.S.Shelf.files c.loop-its.shelf in
       let mid = g.S.Shelf.files c.begin.new.self in
       let now = g.S.Shelf.files c.begin-in-loop-its.new.self in
-      next_begun ts i (get_or ts i none) (g.S.Shelf.files c.args.shelf.now) before mid now is.at_t (c.loop-its.invariant.begun ts named)
-      (subst (λ n. IsBegun n before (Ok c.in_ok-begin.field-0) mid) (c.as_str.ensures.value ∙ is.own.symbols) c.in_ok-begin.ensures.files)
-      (subst (λ n. IsBegun n mid (Ok c.in_ok-begin-2.field-0) now) (c.as_str-in-loop-its.ensures.value ∙ is.own.log) c.in_ok-begin-2.ensures.files);
+      next_begun ts i (get_or ts i none) (g.S.Shelf.files c.args.shelf.now) before mid now is.at_t
+      (c.loop-its.invariant.begun ts named)
+      (subst (λ n. IsBegun n before (Ok c.in_ok-begin.field-0) mid) (c.as_str.ensures.value
+      ∙ is.own.symbols) c.in_ok-begin.ensures.files)
+      (subst (λ n. IsBegun n mid (Ok c.in_ok-begin-2.field-0) now) (c.as_str-in-loop-its.ensures.value
+      ∙ is.own.log) c.in_ok-begin-2.ensures.files);
   gone = grind (arith, common_steps);
 }
 

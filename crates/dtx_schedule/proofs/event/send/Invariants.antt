@@ -16,8 +16,10 @@ invariant-loop-given g l = record {
   in_range : l.given ≤ l.part.count;
   room : length l.packets ≡ 348;
   done : (ts : List Transmitter) (held : Files) (before : List Step) (feed : List ℕ) → get held feed_name ≡ Some feed
-      → l.part.from + l.part.count ≤ whole_packets feed → IsPlayedSoFar ts before held l.fn.stage (g.S.Shelf.files l.fn.shelf)
-      → IsPlayedSoFar ts (before ++ packet_steps l.who (packets_from feed l.part.from l.given)) held l.stage (g.S.Shelf.files l.shelf);
+      → l.part.from + l.part.count ≤ whole_packets feed
+      → IsPlayedSoFar ts before held l.fn.stage (g.S.Shelf.files l.fn.shelf)
+      → IsPlayedSoFar ts (before ++ packet_steps l.who (packets_from feed l.part.from l.given)) held l.stage
+      (g.S.Shelf.files l.shelf);
   there : HasTransmitter l.who l.stage;
   count : l.stage.steps ≡ l.fn.stage.steps + l.given;
   gone : HasGone (g.S.Shelf.counts l.fn.shelf) (g.S.Shelf.counts l.shelf) Nothing;

@@ -16,10 +16,13 @@ returns-in_err-count-clause-done g c = λ ts held before feed there within is.
     let mid = g.S.Shelf.files c.read_piece.new.shelf in
     let status = c.in_err-count.field-0.0 in
     let p = err_from_is_err_and c.from_residual.result c.from_residual.ensures.1 in
-    let fault = feed_read (λ feed. part.from < whole_packets feed → IsPieceOf feed part.from (Err status) c.read_piece.new.packets) ts before held
+    let fault = feed_read (λ feed. part.from < whole_packets feed
+    → IsPieceOf feed part.from (Err status) c.read_piece.new.packets) ts before held
     c.args.stage.now was feed there is c.in_err-count.ensures.told within in
-    subst (λ r. IsGivenOf ts before c.args.who feed part.from part.count held r c.args.stage.now mid) (sym (p.1 ∙ ap Err p.2))
-    (unread ts before (packet_steps c.args.who (packets_from feed part.from part.count)) held c.args.stage.now was mid status c.read_piece.ensures.kept is fault)
+    subst (λ r. IsGivenOf ts before c.args.who feed part.from part.count held r c.args.stage.now mid) (sym (p.1
+    ∙ ap Err p.2))
+    (unread ts before (packet_steps c.args.who (packets_from feed part.from part.count)) held c.args.stage.now was mid
+    status c.read_piece.ensures.kept is fault)
 
 pub returns-in_err-give_all-clause-done : goal.returns-in_err-give_all-clause-done
 returns-in_err-give_all-clause-done g c = λ ts held before feed there within is.
@@ -31,15 +34,20 @@ returns-in_err-give_all-clause-done g c = λ ts held before feed there within is
     let count = c.in_ok-count.count in
     let status = c.in_err-give_all.field-0.0 in
     let p = err_from_is_err_and c.from_residual-in_err-give_all.result c.from_residual-in_err-give_all.ensures.1 in
-    let packets = feed_read (λ feed. part.from < whole_packets feed → IsPieceOf feed part.from (Ok count) c.read_piece.new.packets) ts before held
+    let packets = feed_read (λ feed. part.from < whole_packets feed
+    → IsPieceOf feed part.from (Ok count) c.read_piece.new.packets) ts before held
     c.args.stage.now was feed there is c.in_ok-count.ensures.told within in
     let all : count + (part.count - count) ≡ part.count = omega (arith, c.in_ok-count.ensures.count.within) in
-    subst (λ r. IsGivenOf ts before who feed part.from part.count held r c.give_all.new.stage now) (sym (p.1 ∙ ap Err p.2))
-    (fault_more ts (before ++ packet_steps who (packets_from feed part.from count)) (packet_steps who (packets_from feed (part.from + count) (part.count - count)))
+    subst (λ r. IsGivenOf ts before who feed part.from part.count held r c.give_all.new.stage now) (sym (p.1
+    ∙ ap Err p.2))
+    (fault_more ts (before ++ packet_steps who (packets_from feed part.from count))
+    (packet_steps who (packets_from feed (part.from + count) (part.count - count)))
     (before ++ packet_steps who (packets_from feed part.from part.count)) held status now
-    (piece_on before who feed part.from count (part.count - count) ∙ ap (λ n. before ++ packet_steps who (packets_from feed part.from n)) all)
+    (piece_on before who feed part.from count (part.count - count)
+    ∙ ap (λ n. before ++ packet_steps who (packets_from feed part.from n)) all)
     (subst (λ ps. IsFault status × IsUnderWay ts (before ++ packet_steps who ps) held now) packets
-    (c.in_err-give_all.ensures.done ts held before (kept_on ts before held c.args.stage.now was mid c.read_piece.ensures.kept is))))
+    (c.in_err-give_all.ensures.done ts held before
+    (kept_on ts before held c.args.stage.now was mid c.read_piece.ensures.kept is))))
 
 pub returns-clause-done : goal.returns-clause-done
 returns-clause-done g c = λ ts held before feed there within is.
@@ -47,7 +55,10 @@ returns-clause-done g c = λ ts held before feed there within is.
     let was = g.S.Shelf.files c.args.shelf.now in
     let mid = g.S.Shelf.files c.read_piece.new.shelf in
     let count = c.in_ok-count.count in
-    let packets = feed_read (λ feed. from < whole_packets feed → IsPieceOf feed from (Ok count) c.read_piece.new.packets) ts before held
+    let packets = feed_read (λ feed. from < whole_packets feed
+    → IsPieceOf feed from (Ok count) c.read_piece.new.packets) ts before held
     c.args.stage.now was feed there is c.in_ok-count.ensures.told within in
-    subst (λ ps. IsPlayedSoFar ts (before ++ packet_steps c.args.who ps) held c.give_all.new.stage (g.S.Shelf.files c.give_all.new.shelf)) packets
-    (c.in_ok-give_all.ensures.done ts held before (kept_on ts before held c.args.stage.now was mid c.read_piece.ensures.kept is))
+    subst (λ ps. IsPlayedSoFar ts (before ++ packet_steps c.args.who ps) held c.give_all.new.stage
+    (g.S.Shelf.files c.give_all.new.shelf)) packets
+    (c.in_ok-give_all.ensures.done ts held before
+    (kept_on ts before held c.args.stage.now was mid c.read_piece.ensures.kept is))

@@ -18,9 +18,11 @@ returns-in_err-give-clause-done g c = λ ts held before is.
     let p = err_from_is_err_and c.from_residual.result c.from_residual.ensures.1 in
     let so_far : List Step = before ++ packet_steps who (map (λ p. p.0) (take i packets)) in
     let rest : List Step = packet_steps who (map (λ p. p.0) (drop (i + 1) packets)) in
-    subst (λ r. IsDoneOf ts (before ++ packet_steps who (map (λ p. p.0) packets)) held r c.give.new.self now) (sym (p.1 ∙ ap Err p.2))
+    subst (λ r. IsDoneOf ts (before ++ packet_steps who (map (λ p. p.0) packets)) held r c.give.new.self now) (sym (p.1
+    ∙ ap Err p.2))
     (fault_more ts _ rest (before ++ packet_steps who (map (λ p. p.0) packets)) held status now
-    (ap (λ steps. steps ++ rest) (packet_on before who packets i _ c.loop-i-test.true) ∙ packets_rest before who packets (i + 1))
+    (ap (λ steps. steps ++ rest) (packet_on before who packets i _ c.loop-i-test.true)
+    ∙ packets_rest before who packets (i + 1))
     (c.in_err-give.ensures.done ts held so_far (c.loop-i.invariant.done ts held before is)))
 
 pub loop-i-preserved : goal.loop-i-preserved
@@ -40,5 +42,6 @@ pub returns-clause-done : goal.returns-clause-done
 returns-clause-done g c = λ ts held before is.
     let packets = c.args.packets.now in
     let all : c.loop-i.i ≡ length packets = omega (arith, c.loop-i-test.false, c.loop-i.auto.i-end) in
-    subst (λ ps. IsPlayedSoFar ts (before ++ packet_steps c.args.who (map (λ p. p.0) ps)) held c.loop-i.stage (g.S.Shelf.files c.loop-i.shelf))
+    subst (λ ps. IsPlayedSoFar ts (before ++ packet_steps c.args.who (map (λ p. p.0) ps)) held c.loop-i.stage
+    (g.S.Shelf.files c.loop-i.shelf))
     (ap (λ n. take n packets) all ∙ take-length packets) (c.loop-i.invariant.done ts held before is)

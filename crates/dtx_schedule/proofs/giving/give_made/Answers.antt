@@ -20,11 +20,13 @@ returns-in_err-give-clause-done g c = λ ts held before is.
     let so_far : List Step = before ++ packet_steps who (map (made_packet part.seed) (range_with_len part.from i)) in
     let more = part.count - (i + 1) in
     let rest : List Step = packet_steps who (map (made_packet part.seed) (range_with_len (part.from + (i + 1)) more)) in
-    let all : List Step = before ++ packet_steps who (map (made_packet part.seed) (range_with_len part.from part.count)) in
+    let all : List Step =
+    before ++ packet_steps who (map (made_packet part.seed) (range_with_len part.from part.count)) in
     let whole : (i + 1) + more ≡ part.count = omega (arith, c.loop-i-test.true) in
     subst (λ r. IsDoneOf ts all held r c.give.new.self now) (sym (p.1 ∙ ap Err p.2))
     (fault_more ts (so_far ++ packet_step who c.packet.result.0 ∷ []) rest all held status now
-    (ap (λ steps. steps ++ rest) (ap (λ p. so_far ++ packet_step who p ∷ []) c.packet.ensures ∙ numbered_on before who (made_packet part.seed) part.from i)
+    (ap (λ steps. steps ++ rest) (ap (λ p. so_far ++ packet_step who p ∷ []) c.packet.ensures
+    ∙ numbered_on before who (made_packet part.seed) part.from i)
     ∙ numbered_rest before who (made_packet part.seed) part.from (i + 1) more part.count whole)
     (c.in_err-give.ensures.done ts held so_far (c.loop-i.invariant.done ts held before is)))
 
@@ -33,9 +35,11 @@ loop-i-preserved g c = record {
   done = λ ts held before is.
       let who = c.args.who in
       let part = c.args.part.now in
-      let so_far : List Step = before ++ packet_steps who (map (made_packet part.seed) (range_with_len part.from c.loop-i.i)) in
+      let so_far : List Step =
+      before ++ packet_steps who (map (made_packet part.seed) (range_with_len part.from c.loop-i.i)) in
       subst (λ steps. IsPlayedSoFar ts steps held c.give.new.self (g.S.Shelf.files c.give.new.shelf))
-      (ap (λ p. so_far ++ packet_step who p ∷ []) c.packet.ensures ∙ numbered_on before who (made_packet part.seed) part.from c.loop-i.i)
+      (ap (λ p. so_far ++ packet_step who p ∷ []) c.packet.ensures
+      ∙ numbered_on before who (made_packet part.seed) part.from c.loop-i.i)
       (c.in_ok-give.ensures.done ts held so_far (c.loop-i.invariant.done ts held before is));
   there = c.in_ok-give.ensures.there refl;
   count = c.in_ok-give.ensures.steps refl ∙ omega (arith, c.loop-i.invariant.count);

@@ -11,8 +11,10 @@ use Rattle.dtx_schedule.proofs.giving.give_made.Given as goal
 
 abbrev pub invariant-loop-i : goal.invariant-loop-i
 invariant-loop-i g l = record {
-  done : (ts : List Transmitter) (held : Files) (before : List Step) → IsPlayedSoFar ts before held l.fn.stage (g.S.Shelf.files l.fn.shelf)
-      → IsPlayedSoFar ts (before ++ packet_steps l.who (map (made_packet l.part.seed) (range_with_len l.part.from l.i))) held
+  done : (ts : List Transmitter) (held : Files) (before : List Step)
+      → IsPlayedSoFar ts before held l.fn.stage (g.S.Shelf.files l.fn.shelf)
+      → IsPlayedSoFar ts (before ++ packet_steps l.who (map (made_packet l.part.seed) (range_with_len l.part.from l.i)))
+      held
       l.stage (g.S.Shelf.files l.shelf);
   there : HasTransmitter l.who l.stage;
   count : l.stage.steps ≡ l.fn.stage.steps + l.i;

@@ -12,11 +12,16 @@ overflow_cast-result c = omega (arith, c.requires, c.len-i-end.ensures, c.loop-i
 
 pub returns-then-reads_past : goal.returns-then-reads_past
 unfolding first_past_feed
-returns-then-reads_past c = sym (position_is (reads_past c.args.packets) c.args.events.now c.loop-i.i c.get.result c.get.ensures c.loop-i.invariant (sym c.reads_past.ensures ∙ c.if-reads_past.true))
+returns-then-reads_past c =
+    sym (position_is (reads_past c.args.packets) c.args.events.now c.loop-i.i c.get.result c.get.ensures
+    c.loop-i.invariant (sym c.reads_past.ensures ∙ c.if-reads_past.true))
 
 pub loop-i-preserved : goal.loop-i-preserved
-loop-i-preserved c = before_next (reads_past c.args.packets) c.args.events.now c.loop-i.i c.get.result c.loop-i.invariant c.get.ensures (sym c.reads_past.ensures ∙ c.if-reads_past.false)
+loop-i-preserved c =
+    before_next (reads_past c.args.packets) c.args.events.now c.loop-i.i c.get.result c.loop-i.invariant c.get.ensures
+    (sym c.reads_past.ensures ∙ c.if-reads_past.false)
 
 pub returns : goal.returns
 unfolding first_past_feed
-returns c = sym (position_none (reads_past c.args.packets) c.args.events.now (Restart 0) (λ k e l. c.loop-i.invariant k e (omega (arith, l, c.len-i-end.ensures, c.loop-i-test.false))))
+returns c = sym (position_none (reads_past c.args.packets) c.args.events.now (Restart 0)
+    (λ k e l. c.loop-i.invariant k e (omega (arith, l, c.len-i-end.ensures, c.loop-i-test.false))))

@@ -14,7 +14,8 @@ returns-in_err-append_some-clause-appended g c = λ address sent logged held nam
     subst (λ r. IsPairOf address sent logged c.args.symbols.now c.args.line.now held r now) (sym (p.1 ∙ ap Err p.2))
     (symbols_not_appended address sent logged c.args.symbols.now c.args.line.now held now why why has
     (subst (λ n. IsAddedTo n sent c.args.symbols.now held (Err why) now) (c.as_str.ensures.value ∙ named.symbols)
-    (c.in_err-append_some.ensures.appended held sent there (subst (λ n. get held n ≡ Some sent) (sym (c.as_str.ensures.value ∙ named.symbols)) has.sent))))
+    (c.in_err-append_some.ensures.appended held sent there
+    (subst (λ n. get held n ≡ Some sent) (sym (c.as_str.ensures.value ∙ named.symbols)) has.sent))))
 
 pub returns-clause-appended : goal.returns-clause-appended
 returns-clause-appended g c = λ address sent logged held named there has.
@@ -24,4 +25,5 @@ returns-clause-appended g c = λ address sent logged held named there has.
     both_appended address sent logged c.args.symbols.now c.args.line.now held mid now c.append_some-2.result has
     (subst (λ n. IsAddedTo n sent c.args.symbols.now held (Ok c.in_ok-append_some.field-0) mid) name
     (c.in_ok-append_some.ensures.appended held sent there (subst (λ n. get held n ≡ Some sent) (sym name) has.sent)))
-    (subst (λ n. AppendsTo n c.args.line.now mid c.append_some-2.result now) (c.as_str-2.ensures.value ∙ named.log) c.append_some-2.ensures.appended)
+    (subst (λ n. AppendsTo n c.args.line.now mid c.append_some-2.result now) (c.as_str-2.ensures.value
+    ∙ named.log) c.append_some-2.ensures.appended)

@@ -9,5 +9,6 @@ returns-then-is_empty-clause-appended g c = λ held file there is.
 
 pub returns-clause-appended : goal.returns-clause-appended
 returns-clause-appended g c = λ held file there is.
-    file_appended (g.S.Shelf.files c.args.shelf.now) (g.S.Shelf.files c.append.new.self) held c.args.name.now file c.args.bytes.now
+    file_appended (g.S.Shelf.files c.args.shelf.now)
+    (g.S.Shelf.files c.append.new.self) held c.args.name.now file c.args.bytes.now
     c.append.result there is c.append.ensures.files

@@ -13,7 +13,8 @@ use Rattle.dtx_schedule.proofs.ScheduleOn.{all_in_range}
 use Rattle.dtx_schedule.proofs.playing.play.Goals as goal
 
 -- want of memory, before a file was begun
-wanting : (ts : List Transmitter) (steps : List Step) (held : Files) (now : Option Files) → now ≡ Some held → IsPlayFault ts steps held Memory now
+wanting : (ts : List Transmitter) (steps : List Step) (held : Files) (now : Option Files) → now ≡ Some held
+    → IsPlayFault ts steps held Memory now
 wanting ts steps held now same = record {
   fault = tt;
   part = part_of_none (played_outputs ts steps) (Some held) now same;

@@ -15,14 +15,16 @@ pub loop-i-init : goal.loop-i-init
 loop-i-init g c = record {
   room = c.requires.room;
   done = λ ts held feed there inside is.
-      subst (λ steps. IsPlayedSoFar ts steps held c.args.stage.now (g.S.Shelf.files c.args.shelf.now)) (sym (nothing_yet ts (packets_of feed))) is;
+      subst (λ steps. IsPlayedSoFar ts steps held c.args.stage.now (g.S.Shelf.files c.args.shelf.now))
+      (sym (nothing_yet ts (packets_of feed))) is;
   some = record { ts = c.requires.staged.0; steps = []; staged = c.requires.staged.1 };
   count = omega (arith, c.requires.staged.1.count, none_given);
   gone = grind (arith, common_steps);
 }
 
 pub play_event-requires-clause-event : goal.play_event-requires-clause-event
-play_event-requires-clause-event g c = event_at c.args.events.now c.loop-i.i c.get.result c.requires.events.each c.get.ensures
+play_event-requires-clause-event g c =
+    event_at c.args.events.now c.loop-i.i c.get.result c.requires.events.each c.get.ensures
 
 pub returns-in_err-play_event-clause-done : goal.returns-in_err-play_event-clause-done
 returns-in_err-play_event-clause-done g c = λ ts held feed there inside is.
@@ -34,10 +36,13 @@ returns-in_err-play_event-clause-done g c = λ ts held feed there inside is.
     let p = err_from_is_err_and c.from_residual.result c.from_residual.ensures.1 in
     let rest : List Step = schedule ts stream (drop (i + 1) events) in
     subst (λ r. IsDoneOf ts (schedule ts stream events) held r c.play_event.new.stage now) (sym (p.1 ∙ ap Err p.2))
-    (fault_more ts (schedule ts stream (take i events) ++ steps_of ts stream c.get.result) rest (schedule ts stream events) held status now
-    (ap (λ steps. steps ++ rest) (schedule_on ts stream events i c.get.result c.get.ensures) ∙ schedule_rest ts stream events (i + 1))
+    (fault_more ts (schedule ts stream (take i events) ++ steps_of ts stream c.get.result) rest
+    (schedule ts stream events) held status now
+    (ap (λ steps. steps ++ rest) (schedule_on ts stream events i c.get.result c.get.ensures)
+    ∙ schedule_rest ts stream events (i + 1))
     (c.in_err-play_event.ensures.done ts held (schedule ts stream (take i events)) feed there
-    (stays_within events (whole_packets feed) i c.get.result inside c.get.ensures) (c.loop-i.invariant.done ts held feed there inside is)))
+    (stays_within events (whole_packets feed) i c.get.result inside c.get.ensures)
+    (c.loop-i.invariant.done ts held feed there inside is)))
 
 pub loop-i-preserved : goal.loop-i-preserved
 loop-i-preserved g c =
@@ -50,7 +55,8 @@ loop-i-preserved g c =
           subst (λ steps. IsPlayedSoFar ts steps held c.play_event.new.stage (g.S.Shelf.files c.play_event.new.shelf))
           (schedule_on ts (packets_of feed) events i c.get.result c.get.ensures)
           (c.in_ok-play_event.ensures.done ts held (schedule ts (packets_of feed) (take i events)) feed there
-          (stays_within events (whole_packets feed) i c.get.result inside c.get.ensures) (old.done ts held feed there inside is));
+          (stays_within events (whole_packets feed) i c.get.result inside c.get.ensures)
+          (old.done ts held feed there inside is));
       some = c.in_ok-play_event.ensures.some refl;
       count = omega (arith, c.in_ok-play_event.ensures.steps refl, old.count);
       gone = grind (arith, common_steps);
@@ -61,6 +67,7 @@ returns-clause-done g c = λ ts held feed there inside is.
     let events = c.args.events.now in
     let past = c.loop-i-test.false in
     let all : c.loop-i.i ≡ length events = omega (arith, past, c.loop-i.auto.i-end, c.len-i-end.ensures) in
-    subst (λ es. IsPlayedSoFar ts (schedule ts (packets_of feed) es) held c.loop-i.stage (g.S.Shelf.files c.loop-i.shelf))
+    subst (λ es. IsPlayedSoFar ts (schedule ts (packets_of feed) es) held c.loop-i.stage
+    (g.S.Shelf.files c.loop-i.shelf))
     (ap (λ n. take n events) all ∙ take-length events)
     (c.loop-i.invariant.done ts held feed there inside is)

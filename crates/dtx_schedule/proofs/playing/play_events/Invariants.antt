@@ -16,7 +16,8 @@ abbrev pub invariant-loop-i : goal.invariant-loop-i
 invariant-loop-i g l = record {
   room : length l.packets ≡ 348;
   done : (ts : List Transmitter) (held : Files) (feed : List ℕ) → get held feed_name ≡ Some feed
-      → first_past_feed l.events (whole_packets feed) ≡ None → IsPlayedSoFar ts [] held l.fn.stage (g.S.Shelf.files l.fn.shelf)
+      → first_past_feed l.events (whole_packets feed) ≡ None
+      → IsPlayedSoFar ts [] held l.fn.stage (g.S.Shelf.files l.fn.shelf)
       → IsPlayedSoFar ts (schedule ts (packets_of feed) (take l.i l.events)) held l.stage (g.S.Shelf.files l.shelf);
   some : IsSomeStage l.stage;
   count : l.stage.steps ≤ 624000000 * l.i;

@@ -8,17 +8,20 @@ pub loop-transmitter-init : goal.loop-transmitter-init
 loop-transmitter-init c = none_named c.args.transmitters.now c.new-names.result.items c.new-names.ensures
 
 pub push-requires : goal.push-requires
-push-requires c = let long = c.loop-transmitter.invariant.long in omega (arith, long, c.loop-transmitter-test.true, c.requires)
+push-requires c = let long = c.loop-transmitter.invariant.long in
+    omega (arith, long, c.loop-transmitter-test.true, c.requires)
 
 pub loop-transmitter-preserved : goal.loop-transmitter-preserved
 loop-transmitter-preserved c =
     let ts = c.args.transmitters.now in
     let n = c.loop-transmitter.transmitter-index in
     let none : Transmitter = record { address = 0; offset = pos 0; delay = 0 } in
-    one_named ts n c.loop-transmitter.names.items c.push.new.self.items (get_or ts n none) c.names_of.result c.push.ensures.items
+    one_named ts n c.loop-transmitter.names.items c.push.new.self.items
+    (get_or ts n none) c.names_of.result c.push.ensures.items
     (slice_get-get_or ts n none c.loop-transmitter-test.true) c.names_of.ensures c.loop-transmitter.invariant
 
 pub returns : goal.returns
 returns c =
     all_named c.args.transmitters.now c.loop-transmitter.transmitter-index c.loop-transmitter.names.items
-    (omega (arith, c.loop-transmitter-test.false, c.loop-transmitter.auto.transmitter-index-end)) c.loop-transmitter.invariant
+    (omega (arith, c.loop-transmitter-test.false, c.loop-transmitter.auto.transmitter-index-end))
+    c.loop-transmitter.invariant

@@ -7,7 +7,8 @@ pub returns-in-Some : goal.returns-in-Some
 returns-in-Some c = λ ts steps staged.
     let who = c.in-Some.who in
     subst (SentBy c.args.address ts steps) (sym (c.count_at.ensures ∙ ap (λ ns. get_or ns who 0) c.deref.ensures.0))
-    (sent_by c.args.address who ts steps c.args.self.now.stage.sent.items staged.sent (sym (c.find.ensures.place ts steps staged) ∙ c.in-Some.is))
+    (sent_by c.args.address who ts steps c.args.self.now.stage.sent.items staged.sent
+    (sym (c.find.ensures.place ts steps staged) ∙ c.in-Some.is))
 
 pub returns-in-None : goal.returns-in-None
 returns-in-None c = λ ts steps staged.

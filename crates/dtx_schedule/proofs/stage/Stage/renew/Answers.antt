@@ -16,4 +16,5 @@ returns-clause-staged c = λ ts steps s. record {
 
 pub returns-clause-brings : goal.returns-clause-brings
 returns-clause-brings c = λ ts steps s.
-    restart_brings ts steps c.args.who c.args.self.now.sent.items c.write_restart.new.text.bytes s.sent (c.write_restart.ensures ∙ ap (λ sent. log_text (restart (get_or sent c.args.who 0) ∷ [])) c.deref.ensures.0)
+    restart_brings ts steps c.args.who c.args.self.now.sent.items c.write_restart.new.text.bytes s.sent
+    (c.write_restart.ensures ∙ ap (λ sent. log_text (restart (get_or sent c.args.who 0) ∷ [])) c.deref.ensures.0)

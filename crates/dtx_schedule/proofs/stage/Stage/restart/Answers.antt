@@ -21,7 +21,8 @@ returns-in_err-write-clause-done g c = λ ts held before is.
     let p = err_from_is_err_and c.from_residual.result c.from_residual.ensures.1 in
     subst (λ r. IsDoneOf ts (before ++ step ∷ []) held r c.renew.new.self now) (sym (p.1 ∙ ap Err p.2))
     (unwritten ts (before ++ step ∷ []) held c.renew.new.self now c.in_err-write.field-0.0
-    (c.in_err-write.ensures.written ts held before step refl after.transmitters after.names (c.renew.ensures.brings ts before is.staged) is.files))
+    (c.in_err-write.ensures.written ts held before step refl after.transmitters after.names
+    (c.renew.ensures.brings ts before is.staged) is.files))
 
 pub returns-clause-done : goal.returns-clause-done
 returns-clause-done g c = λ ts held before is.
@@ -29,7 +30,8 @@ returns-clause-done g c = λ ts held before is.
     let after = c.renew.ensures.staged ts before is.staged in
     record {
       staged = after;
-      files = c.in_ok-write.ensures.written ts held before step refl after.transmitters after.names (c.renew.ensures.brings ts before is.staged) is.files;
+      files = c.in_ok-write.ensures.written ts held before step refl after.transmitters after.names
+          (c.renew.ensures.brings ts before is.staged) is.files;
     }
 
 pub returns-clause-there : goal.returns-clause-there
