@@ -1,6 +1,6 @@
 -- A stream that was adapted whole, and what follows of its feed.
-use Rattle.std.proofs.Common.{◌≡◌, ◌⊎◌, ℕ, ◌/◌, ◌%◌, ◌≤◌, Bool, true, false, cond, List, [], ◌∷◌, ◌++◌, length, refl}
-use Rattle.std.proofs.Common.{sym, ap, subst, ◌∙◌, inl, inr, arith}
+use Rattle.std.proofs.Common.{◌≡◌, ℕ, ◌%◌, Bool, true, false, cond, List, [], ◌∷◌, ◌++◌, length, refl, sym, ap, subst}
+use Rattle.std.proofs.Common.{◌∙◌, inl, inr, arith}
 use Rattle.std.specs.Prelude.{Option, Some, None, IfSome, nat_lt, slice_index}
 use Rattle.std.specs.FinMap.{get}
 use Rattle.std.proofs.lemmas.List.{append-nil}
@@ -26,7 +26,7 @@ use Rattle.dtx_plan.specs.declared.plan.NetPlan.{NetPlan}
 use Rattle.dtx_plan.specs.declared.plan.Plan.{Plan}
 use Rattle.dtx_words.specs.NetworkNames.{feed_name}
 use Rattle.dtx_replay.specs.NetMeaning.{adapting, fed_meaning, is_done, network_meaning}
-use Rattle.dtx_replay.specs.Replaying.{HasNumbers, IsFeedWritten}
+use Rattle.dtx_replay.specs.Replaying.{IsFeedWritten}
 use Rattle.dtx_replay.proofs.Carrying.{is_done_is}
 
 -- ---- all units of an input were allowed, and are not too many

@@ -1,6 +1,6 @@
 -- The events of a network, played over the feed of its stream, and what is received of them.
-use Rattle.std.proofs.Common.{◌≡◌, ℕ, List, [], ◌∷◌, ◌++◌, length, refl, sym, ap, subst, ◌∙◌, inl, inr}
-use Rattle.std.specs.Prelude.{All, Option, Some, None, Result, IfSome, slice_index, slice_get}
+use Rattle.std.proofs.Common.{◌≡◌, ℕ, List, length, sym, ap, subst, ◌∙◌, inl}
+use Rattle.std.specs.Prelude.{Option, Some, None, Result, IfSome, slice_index}
 use Rattle.std.specs.FinMap.{get}
 use Rattle.dtx_adapter.specs.Feed.{feed, placeholders}
 use Rattle.dtx_jobs.specs.Feed.{feed_bytes}
@@ -11,7 +11,7 @@ use Rattle.dtx_meaning.specs.Meaning.{Meaning, IsCarriedOut, with_outputs}
 use Rattle.dtx_meaning.specs.Status.{IsFault, ended}
 use Rattle.dtx_meaning.specs.declared.status.Outcome.{Outcome}
 use Rattle.dtx_meaning.specs.declared.status.Status.{Status}
-use Rattle.dtx_net.specs.Steps.{Step, schedule}
+use Rattle.dtx_net.specs.Steps.{schedule}
 use Rattle.dtx_network.specs.Network.{steps_under}
 use Rattle.dtx_outside.specs.Shelf.{Files}
 use Rattle.dtx_packets.specs.Packets.{packets_of, whole_packets}
@@ -26,8 +26,8 @@ use Rattle.dtx_schedule.specs.Staged.{packets_given}
 use Rattle.dtx_schedule.specs.TransmitterFiles.{played_outputs}
 use Rattle.dtx_schedule.specs.declared.playing.Played.{Played}
 use Rattle.dtx_words.specs.NetworkNames.{feed_name}
-use Rattle.dtx_replay.specs.NetMeaning.{answered, played_and_received, played_outcome, playing, received_of}
-use Rattle.dtx_replay.specs.NetMeaning.{received_past, with_received}
+use Rattle.dtx_replay.specs.NetMeaning.{played_and_received, played_outcome, playing, received_of, received_past}
+use Rattle.dtx_replay.specs.NetMeaning.{with_received}
 use Rattle.dtx_replay.specs.Networks.{sent_file}
 use Rattle.dtx_replay.specs.Replaying.{HasNumbers, IsFeedWritten}
 use Rattle.dtx_replay.proofs.Carrying.{answered_carried}

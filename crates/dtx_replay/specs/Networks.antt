@@ -1,5 +1,5 @@
 -- The files of a network, under a plan and a stream (the profile's own).
-use Rattle.std.specs.Prelude.{◌≡◌, ℕ, Option, Some, None, IfSome, IsSomeAnd, List, [], ◌∷◌, ◌++◌, length, slice_get}
+use Rattle.std.specs.Prelude.{◌≡◌, ℕ, Option, Some, None, IfSome, IsSomeAnd, List, [], ◌∷◌, ◌++◌, slice_get}
 use Rattle.std.specs.FinMap.{get}
 use Rattle.std.specs.List.{Contains}
 use Rattle.std.specs.Option.{option_map_or}
@@ -57,7 +57,8 @@ pub record AreSentFiles (plan : Plan) (network : NetPlan) (stream : List (List �
       → get now (log_name t.address) ≡ Some (log_file t who (steps_under plan stream network.events))
 
 -- The feed, the files of the transmitters and these bytes as what is received were written, where a receiver is asked
--- for, and no other file was touched.
+-- for, and no other
+-- file was touched.
 pub record AreNetworkFiles (plan : Plan) (network : NetPlan) (stream : List (List ℕ)) (made : ReceivePlan
     → List ℕ) (held now : Files) : Type 0 where
   pub feed : get now feed_name ≡ Some (feed_bytes plan stream)

@@ -1,4 +1,4 @@
-use Rattle.std.proofs.Common.{refl, ap, ◌∙◌}
+use Rattle.std.proofs.Common.{ap, ◌∙◌}
 use Rattle.dtx_jobs.specs.Shapes.{packets}
 use Rattle.dtx_words.specs.NetworkNames.{feed_name}
 use Rattle.dtx_replay.specs.NetMeaning.{adapting}

@@ -1,4 +1,3 @@
-use Rattle.std.proofs.Common.{sym}
 use Rattle.std.specs.Prelude.{Ok, Err}
 use Rattle.dtx_replay.proofs.Played.{damages_of, play_fault, played_over}
 use Rattle.dtx_replay.proofs.replaying.play_events.Goals as goal
