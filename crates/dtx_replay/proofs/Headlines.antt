@@ -32,7 +32,7 @@ use Rattle.dtx_outside.specs.Shelf.{Files}
 use Rattle.dtx_packets.specs.Packets.{packets_of}
 use Rattle.dtx_net.specs.Sent.{segments_of}
 use Rattle.dtx_net.specs.Steps.{place_of}
-use Rattle.dtx_plan.proofs.Walks.{plan_sound, plan_transmitters}
+use Rattle.dtx_plan.specs.WalksLaws.{plan_sound, plan_transmitters}
 use Rattle.dtx_plan.specs.Plan.{plan_of}
 use Rattle.dtx_plan.specs.Sound.{IsTransmitter}
 use Rattle.dtx_plan.specs.declared.plan.NetPlan.{NetPlan}

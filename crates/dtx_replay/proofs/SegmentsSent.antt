@@ -7,20 +7,20 @@ use Rattle.std.specs.List.{flat_map, range_with_len}
 use Rattle.std.proofs.lemmas.Bool.{cases_lt, leb-true}
 use Rattle.std.proofs.lemmas.List.{length-append, length-drop, length-map}
 use Rattle.dtx_frame.specs.Segments.{field_sync, sync_symbols}
-use Rattle.dtx_frame.proofs.Symbols.{length_front}
+use Rattle.dtx_frame.specs.SymbolsLaws.{length_front}
 use Rattle.dtx_coder.specs.Along.{levels_since}
 use Rattle.dtx_coder.specs.Coded.{whole_groups}
 use Rattle.dtx_coder.specs.Stream.{segment, four_segments, last_of, symbols_of}
-use Rattle.dtx_coder.proofs.Bytes.{length-whole}
-use Rattle.dtx_coder.proofs.Counts.{AreSegments, segments_append, segments_map, segment_at}
-use Rattle.dtx_coder.proofs.Levels.{length-levels_of}
-use Rattle.dtx_coder.proofs.Segments.{length-segment}
+use Rattle.dtx_coder.specs.BytesLaws.{length-whole}
+use Rattle.dtx_coder.specs.CountsLaws.{AreSegments, segments_append, segments_map, segment_at}
+use Rattle.dtx_coder.specs.LevelsLaws.{length-levels_of}
+use Rattle.dtx_coder.specs.SegmentsLaws.{length-segment}
 use Rattle.dtx_exciter.specs.Emission.{segments_since, sent_by, sent_at, sent_before, with_sync, given_under, given}
 use Rattle.dtx_exciter.specs.Emission.{emission}
 use Rattle.dtx_exciter.specs.Order.{Order, in_force}
 use Rattle.dtx_exciter.specs.Packets.{said, under}
 use Rattle.dtx_exciter.specs.Told.{served}
-use Rattle.dtx_exciter.proofs.Force.{force_first, force_stands}
+use Rattle.dtx_exciter.specs.ForceLaws.{force_first, force_stands}
 use Rattle.dtx_files.specs.Symbols.{byte_of_symbol}
 use Rattle.dtx_net.specs.Lives.{lives_of}
 use Rattle.dtx_net.specs.Sent.{segments_of}

@@ -1,6 +1,5 @@
 -- The headline, said of the files of a network that is done (the profile's own, in the manner of ATSC A/110; the
--- symbols are those of ATSC
--- A/53 Part 2).
+-- symbols are those of ATSC A/53 Part 2).
 use Rattle.std.specs.Prelude.{◌≡◌, ℕ, ◌+◌, Option, Some, IsSomeAnd, List, [], ◌∷◌, length, slice_get}
 use Rattle.dtx_adapter.specs.Feed.{feed}
 use Rattle.dtx_jobs.specs.SymbolFile.{segments_of}
@@ -25,11 +24,9 @@ pub record HeadlineOfFiles (plan : Plan) (network : NetPlan) (stream : List (Lis
       → segments_of (symbol_file t who (steps_under plan stream network.events))
       ≡ sent.segments_of t who (steps_under plan stream network.events)
   -- Every transmitter that from any earlier state is given the feed unchanged from a cadence mark on emits, from the
-  -- first operations
-  -- packet whose group begins 52 or more packets later, exactly the symbols of that feed, at moments that differ
-  -- between transmitters only
-  -- by the signalled offsets; and whatever is received of them gives the packets back whose words have at most ten
-  -- wrong bytes.
+  -- first operations packet whose group begins 52 or more packets later, exactly the symbols of that feed, at moments
+  -- that differ between transmitters only by the signalled offsets; and whatever is received of them gives the packets
+  -- back whose words have at most ten wrong bytes.
   pub headline : Headline plan stream network.events
   -- Where what is received is such a transmitter's symbol file with the plan's damage, it gives those packets back.
   pub gives_back : (receiver : ReceivePlan) (x : Joined plan stream network.events) → network.receive ≡ Some receiver

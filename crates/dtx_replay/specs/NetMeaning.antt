@@ -123,8 +123,8 @@ planned_meaning name held plan (Some network) =
     (get held network.stream)
 
 -- The plan is read first, and its table `net` asked for; then the names are compared; the stream is asked for and
--- adapted; the events are
--- compared with the feed and played; the damage is compared with the symbols; at the end the symbols are received.
+-- adapted; the events are compared with the feed and played; the damage is compared with the symbols; at the end the
+-- symbols are received.
 abbrev pub net_meaning : List (List ℕ) → Files → Meaning
 net_meaning (verb ∷ plan ∷ []) held = under_plan 0 (get held plan) (λ said. planned_meaning plan held said said.net)
 net_meaning words held = refused Usage

@@ -57,8 +57,7 @@ pub record AreSentFiles (plan : Plan) (network : NetPlan) (stream : List (List �
       → get now (log_name t.address) ≡ Some (log_file t who (steps_under plan stream network.events))
 
 -- The feed, the files of the transmitters and these bytes as what is received were written, where a receiver is asked
--- for, and no other
--- file was touched.
+-- for, and no other file was touched.
 pub record AreNetworkFiles (plan : Plan) (network : NetPlan) (stream : List (List ℕ)) (made : ReceivePlan
     → List ℕ) (held now : Files) : Type 0 where
   pub feed : get now feed_name ≡ Some (feed_bytes plan stream)

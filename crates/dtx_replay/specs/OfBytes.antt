@@ -8,7 +8,6 @@ abbrev pub are_bytes : List ℕ → Bool
 are_bytes unit = list_all (λ b. nat_lt b 256) unit
 
 -- The making, where a unit is allowed only if it is made of bytes. A program reads nothing else; so it is known of an
--- input whose units were
--- all allowed, which is a list of numbers to a definition.
+-- input whose units were all allowed, which is a list of numbers to a definition.
 abbrev pub of_bytes : Making → Making
 of_bytes making = record making { allows = λ k unit. making.allows k unit && are_bytes unit }

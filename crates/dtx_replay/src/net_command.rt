@@ -38,14 +38,11 @@ pub struct NetOutcome {
 }
 
 /// Plays a network (the profile's own, in the manner of ATSC A/110, over ATSC A/53 Part 2): adapts the stream that the
-/// table `net` of PLAN
-/// names to `net.feed`; plays the plan's events, step by step, so that what the transmitter of address A sends goes to
-/// `tx-A.sym` and its log
-/// to `tx-A.log`; and where a receiver is asked for, receives the symbols of its transmitter, with the plan's damage
-/// laid over them, into
-/// `net.ts`. The numbers are the packets of the feed, the placeholders filled and the packets given to exciters, and
-/// then, where a receiver
-/// is asked for, the packets that it gives, the bytes put right and the packets flagged.
+/// table `net` of PLAN names to `net.feed`; plays the plan's events, step by step, so that what the transmitter of
+/// address A sends goes to `tx-A.sym` and its log to `tx-A.log`; and where a receiver is asked for, receives the
+/// symbols of its transmitter, with the plan's damage laid over them, into `net.ts`. The numbers are the packets of the
+/// feed, the placeholders filled and the packets given to exciters, and then, where a receiver is asked for, the
+/// packets that it gives, the bytes put right and the packets flagged.
 pub fn net<S: Shelf>(alloc: Global, words: &[Word], shelf: &mut S) -> NetOutcome
     ensures carried { IfSome (S.files shelf.old) (λ held.
         IsCarriedOut (net_meaning words.now held) (Some held) result.outcome (S.files shelf.new)) }

@@ -27,8 +27,7 @@ pub record IsPlayedSoFar (ts : List Transmitter) (steps : List Step) (held : Fil
   pub files : now ≡ with_outputs (played_outputs ts steps) (Some held)
 
 -- The first of these steps are done, and at most one more is under way: each file of a transmitter has all that those
--- give, and no more
--- than that one gives too.
+-- give, and no more than that one gives too.
 pub record IsUnderWay (ts : List Transmitter) (steps : List Step) (held : Files) (now : Option Files) : Type 0 where
   pub done : List Step
   pub next : List Step
@@ -76,8 +75,7 @@ pub record IsPieceCount (count : ℕ) (into : List packet.Packet) (n : ℕ) : Ty
   pub within : n ≤ count
 
 -- what giving the first packets of a part, which begins with a packet of the feed, leaves: so many more are given; or a
--- fault was met while
--- one of all packets of the part was
+-- fault was met while one of all packets of the part was
 abbrev pub IsGivenOf : List Transmitter → List Step → ℕ → List ℕ → ℕ → ℕ → Files → Result ℕ Status → Stage
     → Option Files → Type 0
 IsGivenOf ts before who feed from count held (Ok n) stage now =

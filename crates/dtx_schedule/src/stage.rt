@@ -70,8 +70,7 @@ impl Stage {
     }
 
     /// Gives the transmitter at a place of the list one packet more, of any bytes, and appends to its files what it
-    /// sends for it, and then
-    /// the line of its log. An empty piece isn't appended.
+    /// sends for it, and then the line of its log. An empty piece isn't appended.
     pub(crate) fn give<S: Shelf>(
         &mut self,
         shelf: &mut S,
