@@ -1,9 +1,8 @@
 -- Two packets that differ in their last byte alone: their codewords differ in 21 bytes, the fewest that two may differ
 -- in. Between them lies a word that has eleven wrong bytes of the one and ten of the other.
 use Rattle.std.proofs.Common.{◌≡◌, ◌≢◌, ◌⊎◌, inl, inr, ℕ, zero, suc, ◌+◌, ◌*◌, ◌%◌, ◌<◌, ◌≤◌, ◌==◌, cond, List, []}
-use Rattle.std.proofs.Common.{◌∷◌, ◌++◌, length, take, drop, replicate, get_or, refl, sym, ap, ap₂, ◌∙◌, subst, arith}
+use Rattle.std.proofs.Common.{◌∷◌, ◌++◌, length, take, drop, replicate, get_or, sym, ap, ap₂, ◌∙◌, subst, arith}
 use Rattle.std.proofs.Common.{◌-◌}
-use Rattle.std.specs.List.{range_with_len, AllByRecursion}
 use Rattle.std.specs.Int.RustNames.{bit_xor}
 use Rattle.std.proofs.lemmas.List.{length-append, length-drop, length-take-le, take-append-drop, take_at, ext_get_or}
 use Rattle.std.proofs.lemmas.List.{get_or-take, get_or-drop, get_or_append_left, get_or-append_right, length-replicate}
@@ -11,8 +10,8 @@ use Rattle.std.proofs.lemmas.List.{get_or-replicate, drop_all, take-take}
 use Rattle.std.proofs.Math.Seq.{drop-cons}
 use Rattle.std.proofs.lemmas.List.FromFn.{get_or-map-range_with_len}
 use Rattle.dtx_galois.specs.Field.{AreBytes}
-use Rattle.dtx_galois.specs.BytesLaws.{bytes_append}
-use Rattle.dtx_laws.specs.Codeword.{IsCodeword, distance}
+use Rattle.dtx_galois.specs.BytesLaws.{bytes_append, bytes_drop}
+use Rattle.dtx_laws.specs.Codeword.{distance}
 use Rattle.dtx_laws.specs.Words.{codeword}
 use Rattle.dtx_laws.specs.Whitening.{whitened}
 use Rattle.dtx_laws.specs.ChoiceLaws.{codeword_begins, codeword_length}
@@ -27,7 +26,7 @@ use Rattle.dtx_outer.specs.Inner.{word_at}
 use Rattle.dtx_receiver.specs.Packets.{received_at}
 use Rattle.dtx_receiver.specs.declared.batch.Received.{Received}
 use Rattle.dtx_chain.specs.Undamaged.{ArePackets, with_sync}
-use Rattle.dtx_chain.specs.Damage.{codeword_at, IsNear, as_corrected}
+use Rattle.dtx_chain.specs.Damage.{codeword_at, as_corrected}
 use Rattle.dtx_chain.specs.WordsLaws.{is_codeword, corrected_back, packet_at}
 
 -- ---- the packets
@@ -181,6 +180,14 @@ length-between k p =
     (omega (arith, length-code k (other_last p)))) (length-drop 197 (code_of k p)
     ∙ ap (λ (n : ℕ). n - 197) (length-code k p))
 
+bytes_between : (k : ℕ) (p : List ℕ) → length p ≡ 188 → AreBytes p → AreBytes (between k p)
+bytes_between k p l b =
+    bytes_append (take 197 (code_of k (other_last p))) (drop 197 (code_of k p))
+    (bytes_take 197 (code_of k (other_last p))
+    (is_codeword k (other_last p) (length-other p l) (bytes_other p b)).bytes)
+    (bytes_drop (take 197 (code_of k p)) (drop 197 (code_of k p))
+    (subst AreBytes (sym (take-append-drop 197 (code_of k p))) (is_codeword k p l b).bytes))
+
 near_other : (k : ℕ) (p : List ℕ) → distance (between k p) (code_of k (other_last p)) ≤ 10
 near_other k p =
     let front : take 197 (between k p) ≡ take 197 (code_of k (other_last p)) =
@@ -220,13 +227,16 @@ gives_other f j p y l b z e =
     ∙ ap with_sync there
 
 pub goes_elsewhere : (ps : List (List ℕ)) (f j : ℕ) → ArePackets ps → f % 312 ≡ 0 → f + j < length ps
-    → (word : List ℕ) × (distance word (codeword_at ps (f + j)) ≡ 11) × ((y : List ℕ)
-    → word_at 207 52 4 y j ≡ word → (received_at y j).packet.0 ≢ with_sync (get_or ps (f + j) []))
+    → (word : List ℕ) × (length word ≡ 207) × AreBytes word × (distance word (codeword_at ps (f + j)) ≡ 11)
+    × ((y : List ℕ) → word_at 207 52 4 y j ≡ word
+    → (received_at y j).packet.0 ≢ with_sync (get_or ps (f + j) []))
 unfolding codeword_at with_sync
 goes_elsewhere ps f j h z l =
     let p : List ℕ = get_or ps (f + j) [] in
     let own : (length (get_or ps (f + j) []) ≡ 188) × AreBytes (get_or ps (f + j) []) = packet_at ps (f + j) h l in (
       between (f + j) p,
+      length-between (f + j) p,
+      bytes_between (f + j) p own.0 own.1,
       eleven_wrong (f + j) p own.0 own.1,
       λ y e g. other_differs p own.0
           (ap (drop 1) (sym (gives_other f j p y own.0 own.1 z e) ∙ g)),

@@ -10,3 +10,4 @@ pub mod LevelsLaws
 pub mod ApartLaws
 pub mod FromSyncLaws
 pub mod NoDamageLaws
+pub mod ReceivedLaws

@@ -2,8 +2,9 @@
 //! wrong bytes gives its packet back.
 
 ghost use Rattle.std.specs.Prelude.{◌≡◌, ℕ, ℤ, ◌≢◌, ◌+◌, ◌*◌, ◌/◌, ◌%◌, ◌<◌, ◌≤◌, Bool, true, List, [], ◌∷◌, length};
-ghost use Rattle.std.specs.Prelude.{map, slice_index_or, slice_range};
+ghost use Rattle.std.specs.Prelude.{All, map, slice_index_or, slice_range};
 ghost use Rattle.std.specs.List.{list_all};
+ghost use Rattle.dtx_galois.specs.Field.{AreBytes};
 ghost use Rattle.dtx_laws.specs.Codeword.{distance};
 ghost use Rattle.dtx_frame.specs.Segments.{field_sync};
 ghost use Rattle.dtx_coder.specs.Stream.{a53, levels, segment};
@@ -17,6 +18,7 @@ ghost use Rattle.dtx_chain.specs.Damage.{packet_behind, to_sync, word_in};
 ghost use Rattle.dtx_chain.specs.Undamaged.{ArePackets, as_sent, whole_words, with_sync};
 
 use dtx_coder::GROUP_PACKETS;
+use dtx_packets::PACKET;
 use dtx_trellis::FIELD;
 
 /// How many segments a field has: its field sync and its data segments (ATSC A/53 Part 2).
@@ -66,13 +68,18 @@ pub fn gives_all_back()
         → list_all (λ r. r.good) (all_packets got) ≡ true }
 {}
 
-/// Eleven wrong bytes are too many: for each packet of a stream there is a word that differs from the packet's codeword
-/// in eleven bytes, and wherever a run has that word, it gives another packet back.
+/// Eleven wrong bytes are too many: for each packet of a stream there is a word of 207 bytes that differs from the
+/// packet's codeword in eleven of them, and wherever a run has that word, it gives another packet back.
 pub fn eleven_are_too_many()
     ensures { (packets : List (List ℕ)) (f j : ℕ) → ArePackets packets → f % FIELD ≡ 0 → f + j < length packets
-        → (word : List ℕ) × (distance word (codeword_at packets (f + j)) ≡ 11) × ((bytes : List ℕ)
-        → word_at 207 52 4 bytes j ≡ word
+        → (word : List ℕ) × (length word ≡ 207) × AreBytes word × (distance word (codeword_at packets (f + j)) ≡ 11)
+        × ((bytes : List ℕ) → word_at 207 52 4 bytes j ≡ word
         → (received_at bytes j).packet.0 ≢ with_sync (slice_index_or packets (f + j) [])) }
+{}
+
+/// Each packet that is received has 188 bytes, whatever the segments are.
+pub fn received_packets_are_whole()
+    ensures { (segments : List (List ℤ)) → All (λ packet. length packet ≡ PACKET) (received segments) }
 {}
 
 /// Undamaged symbols are slightly damaged ones, from any segment of a stream on: segments in a row are received as they

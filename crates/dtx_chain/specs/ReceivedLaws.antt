@@ -1,0 +1,66 @@
+-- Each packet that is received has 188 bytes, whatever is received.
+use Rattle.std.proofs.Common.{◌≡◌, ℕ, ◌+◌, ◌*◌, ◌/◌, ◌%◌, Option, Some, None, List, [], ◌∷◌, length, map, take}
+use Rattle.std.proofs.Common.{get_or, refl, ◌∙◌, arith}
+use Rattle.std.specs.Prelude.{ℤ}
+use Rattle.std.specs.List.{All, filter, flat_map, range_with_len}
+use Rattle.std.proofs.lemmas.List.{length-set, length-take-le}
+use Rattle.std.proofs.lemmas.List.Elements.{All-append, All-map, All-nil, All-cons}
+use Rattle.dtx_laws.specs.ChoiceLaws.{correction_is}
+use Rattle.dtx_laws.specs.WhiteningLaws.{length-whitened}
+use Rattle.dtx_laws.specs.Words.{correction}
+use Rattle.dtx_outer.specs.Inner.{word_at}
+use Rattle.dtx_outer.specs.WordsLaws.{length-word}
+use Rattle.dtx_whiten.specs.Randomizer.{randomizer_bytes}
+use Rattle.dtx_receiver.specs.Bytes.{bytes_in}
+use Rattle.dtx_receiver.specs.Packets.{all_packets, is_complete, packet_bytes, packets_of, received, received_at}
+use Rattle.dtx_receiver.specs.Packets.{received_by}
+use Rattle.dtx_receiver.specs.Runs.{runs}
+use Rattle.dtx_receiver.specs.declared.batch.Received.{Received}
+
+-- a packet that was received has 188 bytes
+abbrev IsWhole : Received → Type 0
+IsWhole r = length r.packet.0 ≡ 188
+
+length-packet_bytes : (from : ℕ) (word : List ℕ) → length word ≡ 207 → length (packet_bytes from word) ≡ 188
+length-packet_bytes from word long =
+    omega (
+      arith,
+      length-whitened randomizer_bytes (take 187 word) from,
+      length-take-le 187 word (omega (arith, long)),
+    )
+
+by_correction : (from : ℕ) (word : List ℕ) (found : Option (List ℕ)) → length word ≡ 207
+    → correction 207 187 word ≡ found → IsWhole (received_by from word found)
+by_correction from word None long is =
+    length-set (packet_bytes from word) 1 (128 + get_or (packet_bytes from word) 1 0 % 128)
+    ∙ length-packet_bytes from word long
+by_correction from word (Some code) long is =
+    length-packet_bytes from code (correction_is 207 187 word code is).codeword.long
+
+received_whole : (bytes : List ℕ) (k : ℕ) → IsWhole (received_at bytes k)
+unfolding received_at
+received_whole bytes k =
+    by_correction (187 * (k % 312)) (word_at 207 52 4 bytes k) (correction 207 187 (word_at 207 52 4 bytes k))
+    (length-word 207 52 4 bytes k) refl
+
+each_whole : (bytes : List ℕ) (ks : List ℕ) → All IsWhole (map (received_at bytes) ks)
+each_whole bytes [] = All-nil IsWhole
+each_whole bytes (k ∷ ks) =
+    All-cons IsWhole (received_at bytes k) (map (received_at bytes) ks) (received_whole bytes k)
+    (each_whole bytes ks)
+
+run_whole : (bytes : List ℕ) → All IsWhole (packets_of bytes)
+unfolding packets_of
+run_whole bytes = each_whole bytes (filter (is_complete (length bytes)) (range_with_len 0 (length bytes / 207)))
+
+runs_whole : (list : List (List (List ℤ))) → All IsWhole (flat_map (λ run. packets_of (bytes_in run)) list)
+runs_whole [] = All-nil IsWhole
+runs_whole (run ∷ list) =
+    All-append IsWhole (packets_of (bytes_in run)) (flat_map (λ run. packets_of (bytes_in run)) list)
+    (run_whole (bytes_in run)) (runs_whole list)
+
+pub all_whole : (segments : List (List ℤ)) → All (λ packet. length packet ≡ 188) (received segments)
+unfolding received all_packets
+all_whole segments =
+    All-map (λ packet. length packet ≡ 188) (λ (r : Received). r.packet.0) (all_packets segments)
+    (runs_whole (runs segments))
