@@ -68,8 +68,8 @@ pub fn first_line()
         ∷ map (preset_line address s k) (orders_in feed (k + 1) end) }
 {}
 
-/// A packet gives segments exactly where its answer is that its group is sent: then the group's four, and in front of
-/// them a field sync where a field begins with the group and the group before it was sent too.
+/// How many segments a packet gives: none where its answer isn't that its group is sent, and else the group's four, and
+/// one more where a field begins with the group and the group before it was sent too.
 pub fn sent_packets_give()
     ensures none { (address delay : ℕ) (packets : List (List ℕ)) (packet : List ℕ)
         → is_sent (told address delay (packets ++ packet ∷ [])) ≡ false

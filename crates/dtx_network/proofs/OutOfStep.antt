@@ -1,12 +1,18 @@
--- A sync byte out of step loses the anchor.
+-- A sync byte out of step loses the anchor, and a lost anchor mutes.
 use Rattle.std.proofs.Common.{◌≡◌, ◌≢◌, ℕ, ◌+◌, ◌-◌, ◌%◌, ◌≤◌, ◌==◌, Bool, true, false, Some, List, ◌∷◌, ◌++◌}
-use Rattle.std.proofs.Common.{length, get_or, refl, sym, ap, ◌∙◌, arith}
+use Rattle.std.proofs.Common.{[], length, get_or, take, drop, option_map, refl, sym, ap, ap₂, ◌∙◌, arith}
 use mathlib.Core.Bool.{beq}
-use Rattle.std.proofs.lemmas.Bool.{true≢false}
-use Rattle.std.proofs.lemmas.List.{length-append, get_or-append_right}
+use Rattle.std.proofs.lemmas.Bool.{true≢false, cond-true}
+use Rattle.std.proofs.lemmas.List.{length-append, length_push, get_or-append_right, take_at}
 use Rattle.dtx_lists.proofs.RangeSearch.{IsFirst, find-range_gives}
 use Rattle.dtx_cadence.specs.Anchor.{in_step, keeps_step, anchor}
 use Rattle.dtx_cadence.specs.NextAnchorLaws.{marks}
+use Rattle.dtx_packets.specs.Packet.{sync_of}
+use Rattle.dtx_exciter.specs.Packets.{anchor_of, said, syncs, told}
+use Rattle.dtx_exciter.specs.Told.{has_moved, told_from, told_of, told_under}
+use Rattle.dtx_exciter.specs.UnderLaws.{syncs_push}
+use Rattle.dtx_exciter.specs.declared.answers.Told.TheVariants.{Muted}
+use Rattle.dtx_exciter.specs.declared.answers.Why.TheVariants.{Cadence}
 
 beq_self : (b : Bool) → beq b b ≡ true
 beq_self true = refl
@@ -33,3 +39,19 @@ anchor_moves syncs more sync j l f = λ e.
     marks all j n (keeps all j e) (omega (arith, here, length-append syncs (sync ∷ more))) in
     true≢false (sym (ap (λ b. beq b (n % 624 == 0)) (ap (λ x. x == 0xB8) (sym own) ∙ step)
     ∙ beq_self (n % 624 == 0)) ∙ f)
+
+-- a packet with which the anchor is lost or moves
+pub moved_mutes : (address delay : ℕ) (d : List (List ℕ)) (p : List ℕ)
+    → has_moved (anchor_of d) (anchor_of (d ++ p ∷ [])) ≡ true
+    → told address delay (d ++ p ∷ []) ≡ Muted Cadence
+unfolding told told_of anchor_of
+moved_mutes address delay d p m =
+    ap (λ s. told_from address delay (anchor s) (anchor (syncs (d ++ p ∷ []))) (said (d ++ p ∷ []))) front
+    ∙ cond-true (has_moved (anchor (syncs d)) (anchor (syncs (d ++ p ∷ [])))) (Muted Cadence)
+    (told_under address delay (option_map (λ a. drop a (said (d ++ p ∷ []))) (anchor (syncs (d ++ p ∷ []))))) m
+  where
+    shorter : length (syncs (d ++ p ∷ [])) - 1 ≡ length (syncs d)
+    shorter = omega (arith, ap length (syncs_push d p), length_push (syncs d) (sync_of p))
+
+    front : take (length (syncs (d ++ p ∷ [])) - 1) (syncs (d ++ p ∷ [])) ≡ syncs d
+    front = ap₂ take shorter (syncs_push d p) ∙ take_at (syncs d) (sync_of p ∷ []) (length (syncs d)) refl

@@ -9,10 +9,13 @@ ghost use Rattle.dtx_plan.specs.Plan.{plan_of};
 ghost use Rattle.dtx_plan.specs.declared.transmitter.Transmitter.{Transmitter};
 ghost use Rattle.dtx_adapter.specs.Feed.{entry_of, feed};
 ghost use Rattle.dtx_exciter.specs.Order.{counted};
-ghost use Rattle.dtx_exciter.specs.Packets.{said};
+ghost use Rattle.dtx_exciter.specs.Packets as exciter;
+ghost use Rattle.dtx_exciter.specs.Packets.{anchor_of, said};
+ghost use Rattle.dtx_exciter.specs.declared.answers.Told.TheVariants.{Muted};
+ghost use Rattle.dtx_exciter.specs.declared.answers.Why.TheVariants.{Cadence};
 ghost use Rattle.dtx_exciter.specs.Told as told;
 ghost use Rattle.dtx_exciter.specs.Lockstep.{IsFeed, stretch};
-ghost use Rattle.dtx_exciter.specs.Emission.{emission};
+ghost use Rattle.dtx_exciter.specs.Emission.{emission, given};
 ghost use Rattle.dtx_exciter.specs.Log.{Line, preset, life_lines, log, emission_over};
 ghost use Rattle.dtx_exciter.specs.Stretch.{stretch_lines, IsApart};
 ghost use Rattle.dtx_network.specs.Plans.{IsPlan, IsStream, IsListed, IsInTime};
@@ -29,6 +32,8 @@ ghost use Rattle.dtx_plan.specs.Sound.{IsEvent};
 ghost use Rattle.dtx_network.specs.Network.{Joined, Headline};
 ghost use Rattle.dtx_network.specs.Headline.{IsFed, IsFirstOrder, stretch_of, segment_of, end_of};
 ghost use Rattle.dtx_network.specs.Headline.{Around, around, Emits};
+
+use dtx_exciter::laws::sent_packets_give;
 
 /// Every plan that the walk over a file's bytes gives is one that a network takes.
 pub fn plans_that_are_read()
@@ -190,8 +195,8 @@ pub fn stretch_is_slight()
         → IsReceivedAlone feed k end (stretch_of feed k end) }
 {}
 
-/// Fewer than 52 packets behind a mark are too few: whatever stands before the mark, with another last packet before it
-/// byte 50 of packet 51 behind it is sent otherwise, and so is the group from packet 48 on.
+/// A byte of the interleaver that is sent in packet 51 behind a mark and comes from before it: to each last packet
+/// before the mark there is another one with which byte 50 of that packet is another byte.
 pub fn fewer_packets_are_too_few()
     ensures { (front packets : List (List ℕ)) (p : List ℕ) → (length front + 1) % 624 ≡ 0 → length p ≡ 188
         → AreBytes p → 52 ≤ length packets
@@ -206,3 +211,15 @@ pub fn a_mark_out_of_step_loses_the_lock()
     ensures { (syncs more : List ℕ) (sync j : ℕ) → j ≤ length syncs → in_step sync (length syncs - j) ≡ false
         → anchor (syncs ++ sync ∷ more) ≢ Some j }
 {}
+
+/// A packet with which the anchor is lost or moves is answered by a mute for the cadence's sake, and gives no segment.
+pub fn a_moved_anchor_mutes()
+    ensures told { (address delay : ℕ) (packets : List (List ℕ)) (packet : List ℕ)
+        → told.has_moved (anchor_of packets) (anchor_of (packets ++ packet ∷ [])) ≡ true
+        → exciter.told address delay (packets ++ packet ∷ []) ≡ Muted Cadence }
+    ensures nothing { (address delay : ℕ) (packets : List (List ℕ)) (packet : List ℕ)
+        → told.has_moved (anchor_of packets) (anchor_of (packets ++ packet ∷ [])) ≡ true
+        → given address delay (packets ++ packet ∷ []) ≡ [] }
+{
+    sent_packets_give();
+}
