@@ -1,17 +1,20 @@
 -- The headline, of a network whose meaning was carried out and is done.
 use Rattle.std.proofs.Common.{◌≡◌, ℕ, ◌*◌, ◌/◌, ◌<◌, ◌^◌, Bool, true, false, cond, List, [], ◌∷◌, ◌++◌, length, refl}
 use Rattle.std.proofs.Common.{sym, ap, subst, ◌∙◌, arith}
-use Rattle.std.specs.Prelude.{Option, Some, None, Result, Ok, Err, IsSomeAnd, is_some, slice_get, slice_index}
+use Rattle.std.specs.Prelude.{Option, Some, None, Result, Ok, Err, IfSome, IsSomeAnd, ℤ, is_some, slice_get}
+use Rattle.std.specs.Prelude.{slice_index}
 use Rattle.std.specs.FinMap.{get}
 use Rattle.std.specs.Option.{option_map_or}
 use Rattle.std.specs.Result.{IsOkAnd}
 use Rattle.std.proofs.lemmas.List.{append-nil, take_all}
 use Rattle.std.proofs.lemmas.List.Elements.{All-get_or}
 use Rattle.std.proofs.lemmas.Option.{slice_get_within, get_or_from_slice_get}
+use Rattle.dtx_chain.specs.ReceivedLaws.{all_whole}
 use Rattle.dtx_engine.specs.Made.{Made, outputs_of}
 use Rattle.dtx_engine.specs.Making.{Making, first_units, meaning_of_file, whole_units}
 use Rattle.dtx_jobs.specs.Damaged.{damaged}
 use Rattle.dtx_jobs.specs.Feed.{feed_bytes}
+use Rattle.dtx_jobs.specs.PacketFileLaws.{packets_of-bytes}
 use Rattle.dtx_jobs.specs.PastEnd.{first_past}
 use Rattle.dtx_jobs.specs.PlanFile.{under_plan, under_said}
 use Rattle.dtx_jobs.specs.Receive.{received_bytes, receiving}
@@ -25,7 +28,6 @@ use Rattle.dtx_meaning.specs.Meaning.{Meaning, Outputs, IsCarriedOut, and_then, 
 use Rattle.dtx_meaning.specs.Status.{IsFault}
 use Rattle.dtx_meaning.specs.declared.status.Outcome.{Outcome}
 use Rattle.dtx_meaning.specs.declared.status.Status.TheVariants.{Done, Same}
-use Rattle.dtx_network.proofs.Whole as whole
 use Rattle.dtx_network.specs.Network.{steps_under}
 use Rattle.dtx_network.specs.Plans.{IsPlan, IsStream}
 use Rattle.dtx_outside.specs.Shelf.{Files}
@@ -40,11 +42,12 @@ use Rattle.dtx_plan.specs.declared.plan.Plan.{Plan}
 use Rattle.dtx_plan.specs.declared.plan.ReceivePlan.{ReceivePlan}
 use Rattle.dtx_plan.specs.declared.refusal.PlanNo.{PlanNo}
 use Rattle.dtx_plan.specs.declared.transmitter.Transmitter.{Transmitter}
+use Rattle.dtx_receiver.specs.Packets.{received}
 use Rattle.dtx_schedule.specs.FilesLaws.{apart_of, files_with, with_outputs-told}
 use Rattle.dtx_schedule.specs.TransmitterFiles.{played_outputs, symbol_file}
 use Rattle.dtx_words.specs.Names.{repeated}
 use Rattle.dtx_words.specs.NetworkNames.{feed_name, received_name}
-use Rattle.dtx_replay.specs.HeadlineOfFiles.{HeadlineOfFiles}
+use Rattle.dtx_replay.specs.HeadlineOfFiles.{HeadlineLaw, HeadlineOfFiles}
 use Rattle.dtx_replay.specs.NetMeaning.{adapting, events_past, fed_meaning, is_done, network_meaning, planned_meaning}
 use Rattle.dtx_replay.specs.NetMeaning.{played_and_received, received_of, received_past, with_received}
 use Rattle.dtx_replay.specs.Networks.{OfNetwork, AreWholeFiles, damaged_file, network_names, packets_received}
@@ -186,17 +189,33 @@ done_outputs plan network file done = at_first (is_done first.outcome.status) re
 
 -- ---- the headline
 
-headline_of : (plan : Plan) (network : NetPlan) (stream : List (List ℕ)) (held now : Files) → IsPlan plan
+-- the packets of the file of what is received
+received_back : (plan : Plan) (network : NetPlan) (stream : List (List ℕ)) (held now : Files)
+    → AreWholeFiles plan network stream held now → (receiver : ReceivePlan) → network.receive ≡ Some receiver
+    → IsSomeAnd (get now received_name)
+    (λ file. packets_of file ≡ received (symbols.segments_of (damaged_file plan network stream receiver)))
+received_back plan network stream held now files receiver receives =
+    let back : List (List ℤ) = symbols.segments_of (damaged_file plan network stream receiver) in
+    let there : get now received_name ≡ Some (packets_received plan network stream receiver) =
+    subst (λ (o : Option ReceivePlan). IfSome o (λ r. get now received_name
+    ≡ Some (packets_received plan network stream r))) receives files.received in
+    subst (λ (o : Option (List ℕ)). IsSomeAnd o (λ file. packets_of file ≡ received back)) (sym there)
+    (packets_of-bytes (received back) (all_whole back))
+
+headline_of : HeadlineLaw → (plan : Plan) (network : NetPlan) (stream : List (List ℕ)) (held now : Files) → IsPlan plan
     → IsStream stream → AreWholeFiles plan network stream held now
     → HeadlineOfFiles plan network stream held now
-headline_of plan network stream held now plans streams files =
-    let h = whole.headline plan stream network.events plans streams in
+headline_of law plan network stream held now plans streams files =
+    let h = law plan stream network.events plans streams in
     record {
       files = files;
       segments = λ who t listed. segments_of_file t who (steps_under plan stream network.events);
       headline = h;
       gives_back = λ receiver x receives from. (h.follows x).gives_back
           (symbols.segments_of (damaged_file plan network stream receiver));
+      gives_all_back = λ receiver x receives from. (h.follows x).gives_all_back
+          (symbols.segments_of (damaged_file plan network stream receiver));
+      packets = received_back plan network stream held now files;
     }
 
 small : (plan : Plan) → IsPlan plan → (who : ℕ) (t : Transmitter) → slice_get plan.transmitters.items who ≡ Some t
@@ -207,13 +226,14 @@ small plan is who t at_t =
     (All-get_or IsTransmitter ts who t (slice_get_within ts who t at_t) is.transmitters)).address
 
 -- the files and the headline, of a network whose plan is read
-stream_done : (plan : Plan) (network : NetPlan) (held : Files) (now : Option Files) (found : Option (List ℕ))
+stream_done : HeadlineLaw
+    → (plan : Plan) (network : NetPlan) (held : Files) (now : Option Files) (found : Option (List ℕ))
     → IsPlan plan
     → (network_meaning plan network found).outcome.status ≡ Done
     → now ≡ with_outputs (network_meaning plan network found).outputs (Some held)
     → IsSomeAnd found (λ file. IsSomeAnd now (HeadlineOfFiles plan network (packets_of file) held))
-stream_done plan network held now None is done files = cc
-stream_done plan network held now (Some file) is done files =
+stream_done law plan network held now None is done files = cc
+stream_done law plan network held now (Some file) is done files =
     let whole = done_outputs plan network file done in
     let stream : List (List ℕ) = packets_of file in
     let outputs : Outputs = network_outputs plan network stream (packets_received plan network stream) in
@@ -221,7 +241,7 @@ stream_done plan network held now (Some file) is done files =
     files ∙ ap (λ (o : Outputs). with_outputs o (Some held)) whole.outputs ∙ with_outputs-told outputs held in
     let apart = apart_of plan.transmitters.items is.sound.transmitters (small plan is) in
     subst (λ (o : Option Files). IsSomeAnd o (HeadlineOfFiles plan network stream held)) (sym told)
-    (headline_of plan network stream held (files_with outputs held) is (is_stream plan file whole.all)
+    (headline_of law plan network stream held (files_with outputs held) is (is_stream plan file whole.all)
     (network_files plan network stream (packets_received plan network stream) held
     (files_with outputs held) apart refl))
 
@@ -229,50 +249,53 @@ abbrev Claims : Files → Option Files → Plan → NetPlan → Type 0
 Claims held now plan network =
     IsSomeAnd (get held network.stream) (λ file. IsSomeAnd now (HeadlineOfFiles plan network (packets_of file) held))
 
-named_done : (name : List ℕ) (plan : Plan) (network : NetPlan) (held : Files) (now : Option Files) (b : Bool)
+named_done : HeadlineLaw
+    → (name : List ℕ) (plan : Plan) (network : NetPlan) (held : Files) (now : Option Files) (b : Bool)
     → IsPlan plan
     → (cond b (refused Same) (network_meaning plan network (get held network.stream))).outcome.status ≡ Done
     → now ≡ with_outputs (cond b (refused Same) (network_meaning plan network (get held network.stream))).outputs
     (Some held) → Claims held now plan network
-named_done name plan network held now true is done files = cc
-named_done name plan network held now false is done files =
-    stream_done plan network held now (get held network.stream) is done files
+named_done law name plan network held now true is done files = cc
+named_done law name plan network held now false is done files =
+    stream_done law plan network held now (get held network.stream) is done files
 
-planned_done : (name : List ℕ) (plan : Plan) (n : Option NetPlan) (held : Files) (now : Option Files) → IsPlan plan
+planned_done : HeadlineLaw
+    → (name : List ℕ) (plan : Plan) (n : Option NetPlan) (held : Files) (now : Option Files) → IsPlan plan
     → (planned_meaning name held plan n).outcome.status ≡ Done
     → now ≡ with_outputs (planned_meaning name held plan n).outputs (Some held)
     → IsSomeAnd n (Claims held now plan)
-planned_done name plan None held now is done files = cc
-planned_done name plan (Some network) held now is done files =
-    named_done name plan network held now (is_some (repeated (network_names name plan network))) is done files
+planned_done law name plan None held now is done files = cc
+planned_done law name plan (Some network) held now is done files =
+    named_done law name plan network held now (is_some (repeated (network_names name plan network))) is done files
 
 -- what is meant under a plan of this name
 abbrev Under : List ℕ → Files → Plan → Meaning
 Under name held said = planned_meaning name held said said.net
 
-said_done : (name bytes : List ℕ) (r : Result Plan PlanNo) (held : Files) (now : Option Files) → plan_of bytes ≡ r
+said_done : HeadlineLaw
+    → (name bytes : List ℕ) (r : Result Plan PlanNo) (held : Files) (now : Option Files) → plan_of bytes ≡ r
     → (under_said (Under name held) r).outcome.status ≡ Done
     → now ≡ with_outputs (under_said (Under name held) r).outputs (Some held)
     → IsOkAnd r (λ plan. IsSomeAnd plan.net (Claims held now plan))
-said_done name bytes (Err refusal) held now is done files = cc
-said_done name bytes (Ok plan) held now is done files =
-    planned_done name plan plan.net held now (record {
+said_done law name bytes (Err refusal) held now is done files = cc
+said_done law name bytes (Ok plan) held now is done files =
+    planned_done law name plan plan.net held now (record {
       sound = plan_sound bytes plan is;
       transmitters = plan_transmitters bytes plan is;
     }) done files
 
-file_done : (name : List ℕ) (found : Option (List ℕ)) (held : Files) (now : Option Files)
+file_done : HeadlineLaw → (name : List ℕ) (found : Option (List ℕ)) (held : Files) (now : Option Files)
     → (under_plan 0 found (Under name held)).outcome.status ≡ Done
     → now ≡ with_outputs (under_plan 0 found (Under name held)).outputs (Some held)
     → IsSomeAnd found (λ bytes. IsOkAnd (plan_of bytes) (λ plan. IsSomeAnd plan.net (Claims held now plan)))
-file_done name None held now done files = cc
-file_done name (Some bytes) held now done files = said_done name bytes (plan_of bytes) held now refl done files
+file_done law name None held now done files = cc
+file_done law name (Some bytes) held now done files = said_done law name bytes (plan_of bytes) held now refl done files
 
-pub headline_done : (name : List ℕ) (held : Files) (now : Option Files) (outcome : Outcome)
+pub headline_done : HeadlineLaw → (name : List ℕ) (held : Files) (now : Option Files) (outcome : Outcome)
     → IsCarriedOut (under_plan 0 (get held name) (λ said. planned_meaning name held said said.net))
     (Some held) outcome now → outcome.status ≡ Done
     → OfNetwork name held (λ plan network file. IsSomeAnd now (HeadlineOfFiles plan network (packets_of file) held))
-headline_done name held now outcome carried done =
+headline_done law name held now outcome carried done =
     let is = whole_of_carried (under_plan 0 (get held name) (Under name held)) (Some held) now outcome carried
     (λ fault. subst IsFault done fault) in
-    file_done name (get held name) held now (sym (ap (λ (o : Outcome). o.status) is.answer) ∙ done) is.files
+    file_done law name (get held name) held now (sym (ap (λ (o : Outcome). o.status) is.answer) ∙ done) is.files

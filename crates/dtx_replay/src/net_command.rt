@@ -19,6 +19,7 @@ use crate::replaying::replay;
 use arrayvec::ArrayString;
 use dtx_jobs::plan_in;
 use dtx_meaning::{Outcome, Status, ended};
+use dtx_network::laws::headline;
 use dtx_outside::{Shelf, Word};
 use dtx_plan::{NetPlan, Plan, PlanKey, PlanNo, PlanRule};
 use dtx_words::{feed_name, symbol_name};
@@ -59,6 +60,7 @@ pub fn net<S: Shelf>(alloc: Global, words: &[Word], shelf: &mut S) -> NetOutcome
     ensures headline { IfSome (S.files shelf.old) (λ held. result.outcome.status ≡ Status.Done
         → HasHeadline words.now held (S.files shelf.new)) }
 {
+    headline();
     match words {
         [_, plan] => net_file(alloc, plan.as_str(), shelf),
         _ => nameless(ended(Status::Usage)),
