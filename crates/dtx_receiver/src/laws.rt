@@ -20,10 +20,10 @@ pub fn intervals()
     ensures none { (segments : List (List ℤ)) → (length (runs segments) ≡ 0) ↔ NoneLooks segments 0 (length segments) }
 {}
 
-/// What the segment behind a list is told to be, by the list's runs. Where the last of them reaches the end of the list,
-/// it is on: where a field sync is due behind its n segments, the segment is one or ends the run, by whether it looks
-/// like one, and else it is a data segment. Where none reaches the end, the segment begins a run just where it looks
-/// like a field sync.
+/// What the segment behind a list is told to be, by the list's runs. Where the last of them reaches the end of the
+/// list, it is on: where a field sync is due behind its n segments, the segment is one or ends the run, by whether it
+/// looks like one, and else it is a data segment. Where none reaches the end, the segment begins a run just where it
+/// looks like a field sync.
 pub fn answers()
     ensures on { (segments : List (List ℤ)) (x : List ℤ) (places : List (ℕ × ℕ)) (first n : ℕ)
         → AreRuns segments 0 (places ++ (first, n) ∷ []) → first + n ≡ length segments
