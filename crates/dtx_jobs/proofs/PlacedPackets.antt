@@ -1,16 +1,18 @@
 -- Placeholders that are put, as the packets come.
-use Rattle.std.proofs.Common.{◌≡◌, ◌≢◌, ℕ, zero, suc, ◌+◌, ◌-◌, ◌*◌, ◌/◌, ◌%◌, ◌<◌, ◌≤◌, Bool, true, false, not, ◌&&◌}
-use Rattle.std.proofs.Common.{◌||◌, List, [], ◌∷◌, ◌++◌, length, take, drop, map, get_or, refl, sym, ap, subst, ◌∙◌, arith}
+use Rattle.std.proofs.Common.{◌≡◌, ◌≢◌, ℕ, ◌+◌, ◌-◌, ◌*◌, ◌/◌, ◌%◌, ◌<◌, ◌≤◌, Bool, true, false, not, ◌&&◌}
+use Rattle.std.proofs.Common.{◌||◌, List, [], ◌∷◌, ◌++◌, length, take, drop, map, get_or, refl, sym, ap, subst, ◌∙◌}
+use Rattle.std.proofs.Common.{arith}
 use Rattle.std.proofs.Common.{append_assoc, nat_le, inl, inr}
-use Rattle.std.specs.Prelude.{if◌then◌else◌, count_by, ◌⊎◌, slice_set}
+use Rattle.std.specs.Prelude.{◌⊎◌, slice_set}
 use Rattle.std.specs.List.{list_any, range_with_len}
-use Rattle.std.proofs.lemmas.List.{append-nil, length-append, length-drop, length-set, take_all, take-append-le, drop-append-le}
+use Rattle.std.proofs.lemmas.List.{append-nil, length-append, length-drop, length-set, take_all, take-append-le}
+use Rattle.std.proofs.lemmas.List.{drop-append-le}
 use Rattle.std.proofs.lemmas.Bool.{eqb-true, eq-eqb, ne_eqb, le-leb, lt-leb, and_left, and_right, or_left, cases_lt}
 use Rattle.std.proofs.lemmas.Bool.{cond-true, cond-false, and_parts, not-false, not_from_true, or_cases, or_right}
 use Rattle.std.proofs.lemmas.Bool.{false≢true, cases_Bool}
 use Rattle.std.proofs.lemmas.List.{get_or-set_other, get_or-set_same}
 use Rattle.std.proofs.lemmas.List.Folds.{list_any-append}
-use Rattle.std.proofs.lemmas.List.FromFn.{length-map-range_with_len, map-range_with_len_more, sum_by-map-range_with_len_more}
+use Rattle.std.proofs.lemmas.List.FromFn.{length-map-range_with_len, map-range_with_len_more}
 use Rattle.std.proofs.lemmas.List.FromFn.{get_or-map-range_with_len}
 use Rattle.std.proofs.Math.ListN.{drop_of_length-le, get_or-append}
 use Rattle.std.proofs.Math.Seq.{get_or-append_seam, take-append_seam}
@@ -28,7 +30,8 @@ by_last {X} Q none more xs = on [] xs none
   where
     on : (front rest : List X) → Q front → Q (front ++ rest)
     on front [] holds = subst Q (sym (append-nil front)) holds
-    on front (x ∷ rest) holds = subst Q (append_assoc front (x ∷ []) rest) (on (front ++ x ∷ []) rest (more front x holds))
+    on front (x ∷ rest) holds =
+        subst Q (append_assoc front (x ∷ []) rest) (on (front ++ x ∷ []) rest (more front x holds))
 
 -- a list each of whose elements is made of those of another up to it
 abbrev pub scanned : {X Y : Type 0} → (List X → X → Y) → X → List X → List Y
@@ -111,7 +114,8 @@ pid-as_placeholder packet null =
 pub is_placeholder-as_placeholder : (packet : List ℕ) → is_null packet ≡ true
     → is_placeholder (as_placeholder packet) ≡ true
 unfolding is_placeholder
-is_placeholder-as_placeholder packet null = eq-eqb (pid_of (as_placeholder packet)) 0x1FFA (pid-as_placeholder packet null)
+is_placeholder-as_placeholder packet null =
+    eq-eqb (pid_of (as_placeholder packet)) 0x1FFA (pid-as_placeholder packet null)
 
 pub is_null-as_placeholder : (packet : List ℕ) → is_null packet ≡ true → is_null (as_placeholder packet) ≡ false
 is_null-as_placeholder packet null =

@@ -47,7 +47,8 @@ impl Placing {
         }
     }
 
-    /// Takes the packet at that place of a field into account, and answers whether it is the first of its field at which
+    /// Takes the packet at that place of a field into account, and answers whether it is the first of its field at
+    /// which
     /// a placeholder may stand.
     fn meets(&mut self, place: u64, vacant: bool) -> bool
         requires room { self.old.bare < 2 ^ 64 - 1 }
