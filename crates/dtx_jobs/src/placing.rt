@@ -54,7 +54,8 @@ impl Placing {
         requires room { self.old.bare < 2 ^ 64 - 1 }
         requires some { place ≢ 0 → self.old.found ≡ false → 0 < self.old.bare }
         ensures first { result ≡ (nat_le FIRST_PLACE place && (vacant && not self.old.found)) }
-        ensures found { self.new.found ≡ ((not (place == 0) && self.old.found) || (nat_le FIRST_PLACE place && vacant)) }
+        ensures found { self.new.found
+            ≡ ((not (place == 0) && self.old.found) || (nat_le FIRST_PLACE place && vacant)) }
         ensures bare { self.new.bare + (if result then 1 else 0) ≡ self.old.bare + (if place == 0 then 1 else 0) }
         ensures placed { self.new.placed ≡ self.old.placed }
     {
