@@ -60,7 +60,8 @@ broken ts steps step t symbols line part text held now at_t brings front front_t
       (λ other u at_u n. (front_same (symbol_file u other steps), front_same (log_file u other steps)));
   most = at_places (λ who u p. IsFrontOf p.0 (symbol_file u who more)
       × IsFrontOf p.1 (log_file u who more)) ts (played steps) step.who t pair at_t (
-        front_behind (symbol_file t step.who steps) part symbols (symbol_file t step.who more) (brings.sent t at_t) front,
+        front_behind (symbol_file t step.who steps) part symbols (symbol_file t step.who more) (brings.sent t at_t)
+            front,
         front_behind (log_file t step.who steps) text line (log_file t step.who more) (brings.logged t at_t) front_too,
       )
       (λ other u at_u n. (
