@@ -1,9 +1,8 @@
 -- Two packets that differ in their last byte alone: their codewords differ in 21 bytes, the fewest that two may differ
 -- in. Between them lies a word that has eleven wrong bytes of the one and ten of the other.
 use Rattle.std.proofs.Common.{◌≡◌, ◌≢◌, ◌⊎◌, inl, inr, ℕ, zero, suc, ◌+◌, ◌*◌, ◌%◌, ◌<◌, ◌≤◌, ◌==◌, cond, List, []}
-use Rattle.std.proofs.Common.{◌∷◌, ◌++◌, length, take, drop, replicate, get_or, refl, sym, ap, ap₂, ◌∙◌, subst, arith}
+use Rattle.std.proofs.Common.{◌∷◌, ◌++◌, length, take, drop, replicate, get_or, sym, ap, ap₂, ◌∙◌, subst, arith}
 use Rattle.std.proofs.Common.{◌-◌}
-use Rattle.std.specs.List.{range_with_len, AllByRecursion}
 use Rattle.std.specs.Int.RustNames.{bit_xor}
 use Rattle.std.proofs.lemmas.List.{length-append, length-drop, length-take-le, take-append-drop, take_at, ext_get_or}
 use Rattle.std.proofs.lemmas.List.{get_or-take, get_or-drop, get_or_append_left, get_or-append_right, length-replicate}
@@ -12,7 +11,7 @@ use Rattle.std.proofs.Math.Seq.{drop-cons}
 use Rattle.std.proofs.lemmas.List.FromFn.{get_or-map-range_with_len}
 use Rattle.dtx_galois.specs.Field.{AreBytes}
 use Rattle.dtx_galois.specs.BytesLaws.{bytes_append}
-use Rattle.dtx_laws.specs.Codeword.{IsCodeword, distance}
+use Rattle.dtx_laws.specs.Codeword.{distance}
 use Rattle.dtx_laws.specs.Words.{codeword}
 use Rattle.dtx_laws.specs.Whitening.{whitened}
 use Rattle.dtx_laws.specs.ChoiceLaws.{codeword_begins, codeword_length}
@@ -27,7 +26,7 @@ use Rattle.dtx_outer.specs.Inner.{word_at}
 use Rattle.dtx_receiver.specs.Packets.{received_at}
 use Rattle.dtx_receiver.specs.declared.batch.Received.{Received}
 use Rattle.dtx_chain.specs.Undamaged.{ArePackets, with_sync}
-use Rattle.dtx_chain.specs.Damage.{codeword_at, IsNear, as_corrected}
+use Rattle.dtx_chain.specs.Damage.{codeword_at, as_corrected}
 use Rattle.dtx_chain.specs.WordsLaws.{is_codeword, corrected_back, packet_at}
 
 -- ---- the packets

@@ -1,21 +1,15 @@
 -- How many placeholders are put, and how many fields are left without one, as the packets come.
-use Rattle.std.proofs.Common.{◌≡◌, ◌≢◌, ℕ, zero, suc, ◌+◌, ◌-◌, ◌*◌, ◌/◌, ◌%◌, ◌<◌, ◌≤◌, Bool, true, false, not, ◌&&◌}
-use Rattle.std.proofs.Common.{◌||◌, List, [], ◌∷◌, ◌++◌, length, take, drop, map, get_or, refl, sym, ap, subst, ◌∙◌}
-use Rattle.std.proofs.Common.{arith}
-use Rattle.std.proofs.Common.{append_assoc, nat_le, inl, inr}
-use Rattle.std.specs.Prelude.{if◌then◌else◌, count_by, ◌⊎◌, slice_set}
-use Rattle.std.specs.List.{list_any, range_with_len, sum_by}
-use Rattle.std.proofs.lemmas.Bool.{cases_lt, cases_Bool}
+use Rattle.std.proofs.Common.{◌≡◌, ◌≢◌, ℕ, ◌+◌, ◌*◌, ◌/◌, ◌%◌, ◌≤◌, Bool, true, false, not}
+use Rattle.std.proofs.Common.{List, [], ◌∷◌, ◌++◌, length, map, refl, ap, ◌∙◌, arith}
+use Rattle.std.specs.Prelude.{if◌then◌else◌, count_by}
+use Rattle.std.specs.List.{list_any, range_with_len}
 use Rattle.std.proofs.lemmas.List.{length-append}
-use Rattle.std.proofs.lemmas.List.FromFn.{length-map-range_with_len, map-range_with_len_more}
-use Rattle.std.proofs.lemmas.List.FromFn.{sum_by-map-range_with_len_more}
+use Rattle.std.proofs.lemmas.List.FromFn.{length-map-range_with_len, sum_by-map-range_with_len_more}
 use Rattle.std.proofs.lemmas.List.Sums.{count_by-le-length, sum_by-append}
 use Rattle.dtx_lists.proofs.Range.{map-range_same}
 use Rattle.dtx_adapter.specs.Feed.{is_placeholder}
-use Rattle.dtx_jobs.specs.Place.{bare_fields, becomes, becoming, behind, fields, is_open, placed, placed_count}
-use Rattle.dtx_jobs.specs.Place.{placed_one}
-use Rattle.dtx_jobs.proofs.PlacedPackets.{any_same, behind_none, behind_same, length-placed, length-scanned}
-use Rattle.dtx_jobs.proofs.PlacedPackets.{placed-next}
+use Rattle.dtx_jobs.specs.Place.{bare_fields, becomes, becoming, behind, fields, placed_count}
+use Rattle.dtx_jobs.proofs.PlacedPackets.{behind_same, length-scanned}
 use Rattle.dtx_jobs.proofs.PlacedPackets.{scanned-next}
 
 -- ---- placeholders

@@ -1,13 +1,12 @@
 -- What is counted while placeholders are put, a packet at a time.
-use Rattle.std.proofs.Common.{◌≡◌, ◌≢◌, ℕ, ◌+◌, ◌*◌, ◌/◌, ◌%◌, ◌<◌, ◌≤◌, Bool, true, false, not, ◌&&◌, ◌||◌, ◌==◌}
+use Rattle.std.proofs.Common.{◌≡◌, ◌≢◌, ℕ, ◌+◌, ◌/◌, ◌%◌, ◌<◌, ◌≤◌, Bool, true, false, not, ◌&&◌, ◌||◌, ◌==◌}
 use Rattle.std.proofs.Common.{List, [], ◌∷◌, ◌++◌, length, refl, sym, ap, ◌∙◌, arith, nat_le, inl, inr, true≢false}
-use Rattle.std.specs.Prelude.{if◌then◌else◌, ◌⊎◌}
+use Rattle.std.specs.Prelude.{if◌then◌else◌}
 use Rattle.std.specs.List.{list_any}
 use Rattle.std.proofs.lemmas.Bool.{cases_lt, cases_eq, eq-eqb, ne_eqb, le-leb, lt-leb}
 use Rattle.std.proofs.lemmas.List.{length-append}
 use Rattle.dtx_adapter.specs.Feed.{is_placeholder}
-use Rattle.dtx_jobs.specs.Place.{IsCounted, bare_fields, becomes, behind, is_null, is_open, placed, placed_count}
-use Rattle.dtx_jobs.specs.Place.{placed_one}
+use Rattle.dtx_jobs.specs.Place.{IsCounted, bare_fields, becomes, behind, is_null, is_open, placed, placed_one}
 use Rattle.dtx_jobs.specs.declared.placing.Placing.{Placing}
 use Rattle.dtx_jobs.proofs.PlacedPackets.{any_more, any_same, becomes_early, becomes_late, behind_none, length-placed}
 use Rattle.dtx_jobs.proofs.PlacedPackets.{placed-next}

@@ -1,7 +1,7 @@
 -- Damage that is laid piece by piece.
 use Rattle.std.proofs.Common.{◌≡◌, ℕ, List, [], ◌++◌, length, refl, sym, ap, ◌∙◌, zero-add}
 use Rattle.dtx_engine.specs.Made.{AreFrontsOf, only}
-use Rattle.dtx_make.specs.LaidBytesLaws.{laid-append}
+use Rattle.dtx_make.specs.LaidLaws.{laid-append}
 use Rattle.dtx_make.specs.Hurt.{hurt, laid}
 use Rattle.dtx_plan.specs.declared.damage.Damage.{Damage}
 use Rattle.dtx_jobs.specs.Hurt.{hurting}

@@ -1,8 +1,7 @@
 -- What `place IN OUT` makes of a stream that has no placeholders: null packets become placeholders, at most one a field
 -- (the profile's own). Packets are counted from 0, and 312 make a field.
 use Rattle.std.specs.Prelude.{◌≡◌, ◌≢◌, ℕ, ◌+◌, ◌-◌, ◌*◌, ◌/◌, ◌%◌, Bool, ◌==◌, ◌&&◌, ◌||◌, not, nat_le, if◌then◌else◌}
-use Rattle.std.specs.Prelude.{List, [], ◌∷◌, length, map, take, drop, slice_index, slice_index_or, slice_set, flat_map}
-use Rattle.std.specs.Prelude.{count_by}
+use Rattle.std.specs.Prelude.{List, [], ◌∷◌, length, map, take, drop, slice_index, slice_index_or, slice_set, count_by}
 use Rattle.std.specs.List.{list_any, range_with_len}
 use Rattle.dtx_adapter.specs.Feed.{is_placeholder}
 use Rattle.dtx_engine.specs.Each.{each_making}
@@ -12,7 +11,7 @@ use Rattle.dtx_meaning.specs.declared.status.Outcome.{Outcome}
 use Rattle.dtx_meaning.specs.declared.status.Status.TheVariants.{Done, Usage}
 use Rattle.dtx_outside.specs.Shelf.{Files}
 use Rattle.dtx_packets.specs.Packet.{pid_of, sync_of}
-use Rattle.dtx_packets.specs.Packets.{packets_of, whole_packets}
+use Rattle.dtx_packets.specs.Packets.{packets_of}
 use Rattle.dtx_jobs.specs.Shapes.{single_packets}
 use Rattle.dtx_jobs.specs.declared.placing.Placing.{Placing}
 

@@ -8,7 +8,9 @@ use std::test::Fail;
 
 /// The packet identifiers of a null packet, of a placeholder and of another packet.
 const NULL: [u8; 2] = [0x1F, 0xFF];
+
 const HELD: [u8; 2] = [0x1F, 0xFA];
+
 const OTHER: [u8; 2] = [0x00, 0x31];
 
 /// Packets of these identifiers, so many of each, with zeros behind their headers.
@@ -115,7 +117,10 @@ fn a_placeholder_is_seen_and_a_refusal_keeps_the_packets_before_it(
         ("no", "out", Status::Absent(0)),
         ("in", "out", Status::Packet(317)),
     ] {
-        assert_eq!(rt; placed(rt.alloc(), &mut shelf, input, output)?, refused(status));
+        assert_eq!(rt;
+            placed(rt.alloc(), &mut shelf, input, output)?,
+            refused(status)
+        );
     }
     assert!(rt; shelf.get("out") == Some(&kept[..]));
     Ok(())

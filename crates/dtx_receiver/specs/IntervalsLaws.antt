@@ -1,7 +1,7 @@
 -- The runs of a list are its intervals: the search, segment by segment, and the one list of intervals that are runs.
 use Rattle.std.proofs.Common.{◌≡◌, ◌≢◌, ℕ, ℤ, zero, suc, ◌+◌, ◌-◌, ◌%◌, ◌<◌, ◌≤◌, ◌⊎◌, ◌↔◌, ◌==◌, Bool, true, false}
-use Rattle.std.proofs.Common.{cond, All, Option, Some, None, List, [], ◌∷◌, ◌++◌, length, map, take, drop, get_or, refl}
-use Rattle.std.proofs.Common.{sym, ap}
+use Rattle.std.proofs.Common.{cond, All, Option, Some, None, List, [], ◌∷◌, ◌++◌, length, map, take}
+use Rattle.std.proofs.Common.{drop, get_or, refl, sym, ap}
 use Rattle.std.proofs.Common.{ap₂, ◌∙◌, subst, inl, inr, arith}
 use Rattle.std.specs.List.{slice_range}
 use Rattle.std.specs.Prelude.{option_to_list}

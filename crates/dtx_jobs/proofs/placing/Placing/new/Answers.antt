@@ -1,7 +1,5 @@
-use Rattle.std.proofs.Common.{refl, arith}
+use Rattle.std.proofs.Common.{refl}
 use Rattle.dtx_jobs.specs.Place.{bare_fields, placed, placed_count}
-use Rattle.dtx_jobs.proofs.PlacedPackets.{placed_twice}
-use Rattle.dtx_jobs.proofs.PlacedTally.{counted_next, some_bare}
 use Rattle.dtx_jobs.proofs.placing.Placing.new.Goals as goal
 
 pub returns : goal.returns

@@ -1,6 +1,6 @@
-use Rattle.std.proofs.Common.{◌≡◌, ◌≢◌, ℕ, ◌+◌, ◌*◌, ◌%◌, ◌<◌, Bool, true, false, ◌==◌, ◌||◌, ◌&&◌, List, [], ◌∷◌, ◌++◌}
+use Rattle.std.proofs.Common.{◌≡◌, ◌≢◌, ℕ, ◌+◌, ◌*◌, ◌%◌, Bool, true, false, ◌==◌, ◌||◌, ◌&&◌, List, [], ◌∷◌, ◌++◌}
 use Rattle.std.proofs.Common.{length}
-use Rattle.std.proofs.Common.{refl, sym, ap, subst, ◌∙◌, arith}
+use Rattle.std.proofs.Common.{sym, ap, subst, ◌∙◌, arith}
 use Rattle.std.proofs.lemmas.Bool.{cond-true, cond-false, eq-eqb, ne_eqb, or_left, and_right, and_left}
 use Rattle.dtx_adapter.specs.Feed.{is_placeholder}
 use Rattle.dtx_packets.specs.Packet.{pid_of}
@@ -9,7 +9,7 @@ use Rattle.dtx_jobs.specs.Place.{IsCounted, as_placeholder, becomes, is_null, is
 use Rattle.dtx_jobs.specs.declared.placing.Placing.{Placing}
 use Rattle.dtx_jobs.proofs.PlacedBytes.{length-packets_of, packets_of-next}
 use Rattle.dtx_jobs.proofs.PlacedCounts.{one_if}
-use Rattle.dtx_jobs.proofs.PlacedTally.{IsMet, bare_most, becomes_met, counted_met, placed_most, some_bare}
+use Rattle.dtx_jobs.proofs.PlacedTally.{bare_most, becomes_met, counted_met, placed_most, some_bare}
 use Rattle.dtx_jobs.proofs.placing.PlacingChange.change.Goals as goal
 use Rattle.dtx_jobs.proofs.placing.PlacingChange.change.Goals.{then-null, else-null}
 use Rattle.dtx_jobs.proofs.placing.PlacingChange.change.Goals.{else-first-via-then-first+else-null-2}
