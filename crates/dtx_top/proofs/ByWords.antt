@@ -8,13 +8,13 @@ use Rattle.dtx_outside.specs.declared.sink.SinkNo.{SinkNo}
 use Rattle.dtx_outside.specs.declared.sink.SinkNo.TheVariants as sink
 use Rattle.dtx_meaning.specs.Status.{IsOfInputs}
 use Rattle.dtx_meaning.specs.declared.status.Status.{Status}
-use Rattle.dtx_meaning.specs.declared.status.Status.TheVariants.{Done, Usage, Memory}
+use Rattle.dtx_meaning.specs.declared.status.Status.TheVariants.{Usage, Memory}
 use Rattle.dtx_jobs.specs.OfWords.{IsOfWords, excite_same, make_same, numbers_same, three_same, two_same}
 use Rattle.dtx_words.specs.Fitting.{command_of, fit_fields, fits}
 use Rattle.dtx_words.specs.FittingLaws.{command_fits}
 use Rattle.dtx_words.specs.Line.{finished}
 use Rattle.dtx_words.specs.Names.{names_at, repeated}
-use Rattle.dtx_words.specs.Rows.{row_of, adapt_row, code_row, excite_row, make_row}
+use Rattle.dtx_words.specs.Rows.{adapt_row, code_row, excite_row, make_row}
 use Rattle.dtx_words.specs.declared.rows.Command.{Command}
 use Rattle.dtx_words.specs.declared.rows.Command.TheVariants.{Adapt, Code, Excite, Receive, Net, Make, Hurt, Place}
 use Rattle.dtx_words.specs.declared.rows.Field.{Field}
@@ -30,7 +30,7 @@ fit_length [] [] fit = refl
 fit_length [] (word ∷ words) fit = let e : false ≡ true = fit in cc
 fit_length (field ∷ fields) [] fit = let e : false ≡ true = fit in cc
 fit_length (field ∷ fields) (word ∷ words) fit =
-    let rest = fit_length fields words (and_parts _ _ fit).1 in omega (arith, rest)
+    let rest : length words ≡ length fields = fit_length fields words (and_parts _ _ fit).1 in omega (arith, rest)
 
 with_two : (P : List (List ℕ) → Type 0) (words : List (List ℕ)) → length words ≡ 2
     → ((a b : List ℕ) → P (a ∷ b ∷ [])) → P words
