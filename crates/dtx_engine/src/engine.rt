@@ -1,7 +1,7 @@
 // What a command makes of the units of its input.
 ghost use Rattle.std.specs.Prelude.{◌≡◌, ◌++◌, ◌*◌, ◌+◌, ◌%◌, ◌≤◌, ℕ, List, [], length};
 ghost use Rattle.dtx_outside.specs.Counts.{Nothing};
-ghost use Rattle.dtx_meaning.specs.Status.{blame_of};
+ghost use Rattle.dtx_meaning.specs.Status.{IsOfBytes, blame_of};
 ghost use Rattle.dtx_engine.specs.Made.{AreFrontsOf, Made, only};
 ghost use Rattle.dtx_engine.specs.Making.{AreSomeGiven, AreUnitsGiven, Making, IsSound, IsFed};
 
@@ -62,6 +62,7 @@ pub trait Engine {
         requires given { AreUnitsGiven shape (stands self.old) }
         ensures kept { making self.new ≡ making self.old }
         ensures verdict { blame_of result.status ≡ Nothing }
+        ensures bytes { IsOfBytes result.status }
         ensures outcome { (given : List ℕ) → stands self.old given → result ≡ (making self.old).answer given loose }
         ensures rest { (given : List ℕ) → stands self.old given → gives self.new [] ≡ (making self.old).rest given };
 

@@ -1,8 +1,8 @@
 // The input of a command.
-ghost use Rattle.std.specs.Prelude.{◌≡◌, IfSome};
+ghost use Rattle.std.specs.Prelude.{◌≡◌, IfErr, IfSome};
 ghost use Rattle.std.specs.FinMap as files;
 ghost use Rattle.dtx_outside.specs.Counts.{HasGone};
-ghost use Rattle.dtx_meaning.specs.Status.{blame_of_answer};
+ghost use Rattle.dtx_meaning.specs.Status.{IsOfInput, blame_of_answer};
 ghost use Rattle.dtx_engine.specs.Course.{IsAsked};
 
 use dtx_meaning::{Status, of_read};
@@ -21,6 +21,7 @@ pub struct Input<'a> {
 /// output is begun.
 pub fn ask_for<S: Shelf>(shelf: &mut S, which: u8, input: &str) -> Result<(), Status>
     ensures told { IfSome (S.files shelf.old) (λ held. IsAsked (files.get held input.now) which result) }
+    ensures input { IfErr result (IsOfInput which) }
     ensures kept { S.files shelf.new ≡ S.files shelf.old }
     ensures gone { HasGone (S.counts shelf.old) (S.counts shelf.new) (blame_of_answer result) }
 {

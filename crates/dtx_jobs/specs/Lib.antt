@@ -15,6 +15,8 @@ pub mod HurtLaws
 pub mod Life
 pub mod Make
 pub mod PacketFileLaws
+pub mod OfWords
+pub mod OfWordsLaws
 pub mod PastEnd
 pub mod Place
 pub mod PlanFile

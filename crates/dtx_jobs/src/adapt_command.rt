@@ -1,12 +1,14 @@
 // `adapt PLAN IN OUT`: the feed of a stream.
-ghost use Rattle.std.specs.Prelude.{◌≢◌, [], ◌∷◌, Some, IfSome};
+ghost use Rattle.std.specs.Prelude.{◌≢◌, false, is_some, [], ◌∷◌, Some, IfSome};
 ghost use Rattle.std.specs.FinMap as files;
 ghost use Rattle.dtx_engine.specs.Making.{meaning};
 ghost use Rattle.dtx_meaning.specs.Meaning.{IsCarriedOut};
-ghost use Rattle.dtx_meaning.specs.Status.{blame_of};
+ghost use Rattle.dtx_meaning.specs.Status.{IsOfInput, IsOfInputs, blame_of};
 ghost use Rattle.dtx_outside.specs.Counts.{HasGone};
 ghost use Rattle.dtx_plan.specs.Sound.{IsSound};
+ghost use Rattle.dtx_words.specs.Names.{repeated};
 ghost use Rattle.dtx_jobs.specs.Adapt.{adapt_meaning, adapted, feeding};
+ghost use Rattle.dtx_jobs.specs.OfWords.{IsOfWords, three_same};
 ghost use Rattle.dtx_jobs.specs.PlanFile.{under_plan};
 ghost use Rattle.dtx_jobs.specs.Shapes as shapes;
 
@@ -28,6 +30,7 @@ use std::alloc::Global;
 pub fn adapt<S: Shelf>(alloc: Global, words: &[Word], shelf: &mut S) -> Outcome
     ensures carried { IfSome (S.files shelf.old) (λ held.
         IsCarriedOut (adapt_meaning words.now held) (Some held) result (S.files shelf.new)) }
+    ensures words { IsOfWords (three_same words.now) 2 result.status }
     ensures gone { HasGone (S.counts shelf.old) (S.counts shelf.new) (blame_of result.status) }
 {
     match words {
@@ -48,6 +51,7 @@ fn adapt_files<S: Shelf>(
 ) -> Outcome
     ensures carried { IfSome (S.files shelf.old) (λ held.
         IsCarriedOut (adapted plan.now input.now output.now held) (Some held) result (S.files shelf.new)) }
+    ensures words { IsOfInputs (is_some (repeated (plan.now ∷ input.now ∷ output.now ∷ []))) 2 result.status }
     ensures gone { HasGone (S.counts shelf.old) (S.counts shelf.new) (blame_of result.status) }
 {
     match repeated_name(&[plan, input, output]) {
@@ -69,6 +73,7 @@ fn adapt_planned<S: Shelf>(
         (under_plan 0 (files.get held plan.now) (λ said.
         meaning shapes.packets (feeding said) 1 (output.now ∷ []) (files.get held input.now)))
         (Some held) result (S.files shelf.new)) }
+    ensures words { IsOfInputs false 2 result.status }
     ensures gone { HasGone (S.counts shelf.old) (S.counts shelf.new) (blame_of result.status) }
 {
     match plan_in(alloc, shelf, 0, plan) {
@@ -90,6 +95,7 @@ fn adapt_under<S: Shelf>(
     ensures carried { IfSome (S.files shelf.old) (λ held. IsCarriedOut
         (meaning shapes.packets (feeding plan.now) 1 (output.now ∷ []) (files.get held input.now))
         (Some held) result (S.files shelf.new)) }
+    ensures input { IsOfInput 1 result.status }
     ensures gone { HasGone (S.counts shelf.old) (S.counts shelf.new) (blame_of result.status) }
 {
     let stream = Input {

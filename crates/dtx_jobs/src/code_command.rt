@@ -1,10 +1,12 @@
 // `code IN OUT`: the symbols of a stream.
 ghost use Rattle.std.specs.Prelude.{Some, IfSome};
+ghost use Rattle.std.specs.Str.{bytes_eq};
 ghost use Rattle.dtx_engine.specs.Making.{transformed};
 ghost use Rattle.dtx_meaning.specs.Meaning.{IsCarriedOut};
-ghost use Rattle.dtx_meaning.specs.Status.{blame_of};
+ghost use Rattle.dtx_meaning.specs.Status.{IsOfInputs, blame_of};
 ghost use Rattle.dtx_outside.specs.Counts.{HasGone};
 ghost use Rattle.dtx_jobs.specs.Code.{code_meaning, coding};
+ghost use Rattle.dtx_jobs.specs.OfWords.{IsOfWords, two_same};
 ghost use Rattle.dtx_jobs.specs.Shapes as shapes;
 
 use crate::stream_coder::StreamCoder;
@@ -20,6 +22,7 @@ use std::alloc::Global;
 pub fn code<S: Shelf>(alloc: Global, words: &[Word], shelf: &mut S) -> Outcome
     ensures carried { IfSome (S.files shelf.old) (λ held.
         IsCarriedOut (code_meaning words.now held) (Some held) result (S.files shelf.new)) }
+    ensures words { IsOfWords (two_same words.now) 1 result.status }
     ensures gone { HasGone (S.counts shelf.old) (S.counts shelf.new) (blame_of result.status) }
 {
     match words {
@@ -32,6 +35,7 @@ pub fn code<S: Shelf>(alloc: Global, words: &[Word], shelf: &mut S) -> Outcome
 fn code_files<S: Shelf>(alloc: Global, input: &str, output: &str, shelf: &mut S) -> Outcome
     ensures carried { IfSome (S.files shelf.old) (λ held. IsCarriedOut
         (transformed shapes.packets coding input.now output.now held) (Some held) result (S.files shelf.new)) }
+    ensures words { IsOfInputs (bytes_eq input.now output.now) 1 result.status }
     ensures gone { HasGone (S.counts shelf.old) (S.counts shelf.new) (blame_of result.status) }
 {
     match StreamCoder::new(alloc) {

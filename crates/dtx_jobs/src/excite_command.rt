@@ -1,13 +1,15 @@
 // `excite FEED ADDRESS DELAY OUT LOG`: what an exciter sends for a feed, and its log.
-ghost use Rattle.std.specs.Prelude.{◌≢◌, [], ◌∷◌, Some, IfSome};
+ghost use Rattle.std.specs.Prelude.{◌≢◌, is_some, [], ◌∷◌, Some, IfSome};
 ghost use Rattle.std.specs.FinMap as held_at;
 ghost use Rattle.dtx_engine.specs.Making.{meaning};
 ghost use Rattle.dtx_meaning.specs.Meaning.{IsCarriedOut};
-ghost use Rattle.dtx_meaning.specs.Status.{blame_of};
+ghost use Rattle.dtx_meaning.specs.Status.{IsOfInput, IsOfInputs, blame_of};
 ghost use Rattle.dtx_outside.specs.Counts.{HasGone};
+ghost use Rattle.dtx_words.specs.Names.{repeated};
 ghost use Rattle.dtx_words.specs.Number.{number_in};
 ghost use Rattle.dtx_jobs.specs.Excitation.{WasExcited};
 ghost use Rattle.dtx_jobs.specs.Excite.{excite_at, excite_meaning, excite_with, exciting};
+ghost use Rattle.dtx_jobs.specs.OfWords.{IsOfWords, excite_same, numbers_same};
 ghost use Rattle.dtx_jobs.specs.Shapes as shapes;
 
 use crate::excitation::Excitation;
@@ -34,6 +36,7 @@ struct ExciterFiles<'a> {
 pub fn excite<S: Shelf>(alloc: Global, words: &[Word], shelf: &mut S) -> Outcome
     ensures carried { IfSome (S.files shelf.old) (λ held.
         IsCarriedOut (excite_meaning words.now held) (Some held) result (S.files shelf.new)) }
+    ensures words { IsOfWords (excite_same words.now) 1 result.status }
     ensures gone { HasGone (S.counts shelf.old) (S.counts shelf.new) (blame_of result.status) }
 {
     match words {
@@ -61,6 +64,9 @@ fn excite_read<S: Shelf>(
         (excite_with (number_in 65535 address.now) (number_in 4294967295 delay.now)
         files.entry.feed.now files.entry.output.now files.entry.log.now held)
         (Some held) result (S.files shelf.new)) }
+    ensures words { IsOfWords (numbers_same (number_in 65535 address.now) (number_in 4294967295 delay.now)
+        (is_some (repeated (files.entry.feed.now ∷ files.entry.output.now ∷ files.entry.log.now ∷ []))))
+        1 result.status }
     ensures gone { HasGone (S.counts shelf.old) (S.counts shelf.new) (blame_of result.status) }
 {
     match number_up_to(u16::MAX as u64, address) {
@@ -83,6 +89,9 @@ fn excite_files<S: Shelf>(
     ensures carried { IfSome (S.files shelf.old) (λ held. IsCarriedOut
         (excite_at address delay files.entry.feed.now files.entry.output.now files.entry.log.now held)
         (Some held) result (S.files shelf.new)) }
+    ensures words { IsOfInputs
+        (is_some (repeated (files.entry.feed.now ∷ files.entry.output.now ∷ files.entry.log.now ∷ []))) 1
+        result.status }
     ensures gone { HasGone (S.counts shelf.old) (S.counts shelf.new) (blame_of result.status) }
 {
     match repeated_name(&[files.feed, files.output, files.log]) {
@@ -106,6 +115,7 @@ fn excite_apart<S: Shelf>(
         (meaning shapes.single_packets (exciting address delay) 0 (files.entry.output.now ∷ files.entry.log.now ∷ [])
         (held_at.get held files.entry.feed.now))
         (Some held) result (S.files shelf.new)) }
+    ensures input { IsOfInput 0 result.status }
     ensures gone { HasGone (S.counts shelf.old) (S.counts shelf.new) (blame_of result.status) }
 {
     match Excitation::new(alloc, address, delay) {
@@ -129,6 +139,7 @@ fn excite_both<S: Shelf>(
         (meaning shapes.single_packets (exciting exciter.old.address exciter.old.delay) 0
         (files.entry.output.now ∷ files.entry.log.now ∷ []) (held_at.get held files.entry.feed.now))
         (Some held) result (S.files shelf.new)) }
+    ensures input { IsOfInput 0 result.status }
     ensures gone { HasGone (S.counts shelf.old) (S.counts shelf.new) (blame_of result.status) }
 {
     let feed = Input {

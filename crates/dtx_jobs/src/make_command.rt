@@ -1,12 +1,13 @@
 // `make SEED COUNT OUT`: a made stream.
-ghost use Rattle.std.specs.Prelude.{◌≡◌, [], Some, Option, IfSome};
+ghost use Rattle.std.specs.Prelude.{◌≡◌, false, [], Some, Option, IfSome};
 ghost use Rattle.dtx_make.specs.Made.{made_stream};
 ghost use Rattle.dtx_meaning.specs.Meaning.{IsCarriedOut};
-ghost use Rattle.dtx_meaning.specs.Status.{blame_of, outcome_of};
+ghost use Rattle.dtx_meaning.specs.Status.{IsOfInputs, blame_of, outcome_of};
 ghost use Rattle.dtx_outside.specs.Counts.{HasGone, blame_of_write};
 ghost use Rattle.dtx_outside.specs.Shelf.{Files};
 ghost use Rattle.dtx_outside.specs.Written.{IsWritten, IsFlushOf};
 ghost use Rattle.dtx_jobs.specs.Make.{made_file, made_of, make_meaning};
+ghost use Rattle.dtx_jobs.specs.OfWords.{IsOfWords, make_same, numbers_same};
 
 use dtx_make::packet;
 use dtx_meaning::{Outcome, Status, ended};
@@ -20,6 +21,7 @@ use std::alloc::Global;
 pub fn make<S: Shelf>(alloc: Global, words: &[Word], shelf: &mut S) -> Outcome
     ensures carried { IfSome (S.files shelf.old) (λ held.
         IsCarriedOut (make_meaning words.now held) (Some held) result (S.files shelf.new)) }
+    ensures words { IsOfWords (make_same words.now) 0 result.status }
     ensures gone { HasGone (S.counts shelf.old) (S.counts shelf.new) (blame_of result.status) }
 {
     match words {
@@ -42,6 +44,7 @@ fn make_ordered<S: Shelf>(
 ) -> Outcome
     ensures carried { IfSome (S.files shelf.old) (λ held.
         IsCarriedOut (made_of seed count output.now) (Some held) result (S.files shelf.new)) }
+    ensures words { IsOfWords (numbers_same seed count false) 0 result.status }
     ensures gone { HasGone (S.counts shelf.old) (S.counts shelf.new) (blame_of result.status) }
 {
     match (seed, count) {
@@ -54,6 +57,7 @@ fn make_ordered<S: Shelf>(
 }
 
 /// Makes that many packets of that seed. The memory for them is taken before the file is begun.
+#[tactic(auto, using(crate::specs::OfWordsLaws::write_of_inputs))]
 fn make_file<S: Shelf>(
     alloc: Global,
     seed: u64,
@@ -63,6 +67,7 @@ fn make_file<S: Shelf>(
 ) -> Result<Outcome, Status>
     ensures carried { IsCarriedOut (made_file seed count output.now) (S.files shelf.old) (outcome_of result)
         (S.files shelf.new) }
+    ensures words { IsOfInputs false 0 (outcome_of result).status }
     ensures gone { HasGone (S.counts shelf.old) (S.counts shelf.new) (blame_of (outcome_of result).status) }
 {
     let mut made = Output::new(alloc)?;
@@ -71,6 +76,7 @@ fn make_file<S: Shelf>(
 }
 
 /// Makes them in a file that was begun, and answers.
+#[tactic(auto, using(crate::specs::OfWordsLaws::write_of_inputs))]
 fn fill_file<S: Shelf>(
     seed: u64,
     count: u64,
@@ -81,6 +87,7 @@ fn fill_file<S: Shelf>(
     requires { made.old ≡ [] }
     ensures carried { (start : Option Files) → IsWritten start output.now [] (S.files shelf.old)
         → IsCarriedOut (made_file seed count output.now) start result (S.files shelf.new) }
+    ensures words { IsOfInputs false 0 result.status }
     ensures gone { HasGone (S.counts shelf.old) (S.counts shelf.new) (blame_of result.status) }
 {
     match write_made(seed, count, output, made, shelf) {

@@ -3,7 +3,7 @@ ghost use Rattle.std.specs.Prelude.{◌≢◌, [], ◌∷◌, Some, IfSome};
 ghost use Rattle.std.specs.FinMap as files;
 ghost use Rattle.dtx_engine.specs.Making.{meaning};
 ghost use Rattle.dtx_meaning.specs.Meaning.{IsCarriedOut};
-ghost use Rattle.dtx_meaning.specs.Status.{blame_of};
+ghost use Rattle.dtx_meaning.specs.Status.{IsOfInput, blame_of};
 ghost use Rattle.dtx_outside.specs.Counts.{HasGone};
 
 use dtx_engine::{Engine, Input, One, carry_out};
@@ -25,6 +25,7 @@ pub fn carry_to_one<E: Engine, S: Shelf>(
         (meaning E.shape (E.making engine.old) input.entry.number (output.now ∷ [])
         (files.get held input.entry.name.now))
         (Some held) result (S.files shelf.new)) }
+    ensures input { IsOfInput input.entry.number result.status }
     ensures gone { HasGone (S.counts shelf.old) (S.counts shelf.new) (blame_of result.status) }
 {
     match One::new(alloc, output) {

@@ -3,6 +3,7 @@ ghost use Rattle.std.specs.Prelude.{Some, IfSome};
 ghost use Rattle.dtx_meaning.specs.Meaning.{IsCarriedOut};
 ghost use Rattle.dtx_meaning.specs.Status.{blame_of};
 ghost use Rattle.dtx_outside.specs.Counts.{HasGone};
+ghost use Rattle.dtx_jobs.specs.OfWords.{IsOfWords, two_same};
 ghost use Rattle.dtx_jobs.specs.Place.{place_meaning};
 
 use crate::placing::Placing;
@@ -18,6 +19,7 @@ use std::alloc::Global;
 pub fn place<S: Shelf>(alloc: Global, words: &[Word], shelf: &mut S) -> Outcome
     ensures carried { IfSome (S.files shelf.old) (λ held.
         IsCarriedOut (place_meaning words.now held) (Some held) result (S.files shelf.new)) }
+    ensures words { IsOfWords (two_same words.now) 1 result.status }
     ensures gone { HasGone (S.counts shelf.old) (S.counts shelf.new) (blame_of result.status) }
 {
     match words {

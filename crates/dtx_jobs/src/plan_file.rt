@@ -56,6 +56,7 @@ pub(crate) fn changes_in<S: Shelf>(
 
     // Also where the shelf doesn't tell its files.
     ensures sound { IfOk result AreDamages }
+    ensures refusal { IfErr result (IsPlanRefusal number) }
     ensures kept { S.files shelf.new ≡ S.files shelf.old }
     ensures gone { HasGone (S.counts shelf.old) (S.counts shelf.new) (blame_of_answer result) }
 {

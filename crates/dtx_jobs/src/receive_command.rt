@@ -1,10 +1,12 @@
 // `receive IN OUT`: the packets of a symbol file.
 ghost use Rattle.std.specs.Prelude.{Some, IfSome};
+ghost use Rattle.std.specs.Str.{bytes_eq};
 ghost use Rattle.dtx_engine.specs.Making.{transformed};
 ghost use Rattle.dtx_meaning.specs.Meaning.{IsCarriedOut};
-ghost use Rattle.dtx_meaning.specs.Status.{blame_of};
+ghost use Rattle.dtx_meaning.specs.Status.{IsOfInputs, blame_of};
 ghost use Rattle.dtx_outside.specs.Counts.{HasGone};
 ghost use Rattle.dtx_jobs.specs.Receive.{receive_meaning, receiving};
+ghost use Rattle.dtx_jobs.specs.OfWords.{IsOfWords, two_same};
 ghost use Rattle.dtx_jobs.specs.Shapes as shapes;
 
 use crate::reception::Reception;
@@ -20,6 +22,7 @@ use std::alloc::Global;
 pub fn receive<S: Shelf>(alloc: Global, words: &[Word], shelf: &mut S) -> Outcome
     ensures carried { IfSome (S.files shelf.old) (λ held.
         IsCarriedOut (receive_meaning words.now held) (Some held) result (S.files shelf.new)) }
+    ensures words { IsOfWords (two_same words.now) 1 result.status }
     ensures gone { HasGone (S.counts shelf.old) (S.counts shelf.new) (blame_of result.status) }
 {
     match words {
@@ -32,6 +35,7 @@ pub fn receive<S: Shelf>(alloc: Global, words: &[Word], shelf: &mut S) -> Outcom
 fn receive_files<S: Shelf>(alloc: Global, input: &str, output: &str, shelf: &mut S) -> Outcome
     ensures carried { IfSome (S.files shelf.old) (λ held. IsCarriedOut
         (transformed shapes.segments receiving input.now output.now held) (Some held) result (S.files shelf.new)) }
+    ensures words { IsOfInputs (bytes_eq input.now output.now) 1 result.status }
     ensures gone { HasGone (S.counts shelf.old) (S.counts shelf.new) (blame_of result.status) }
 {
     match Reception::new(alloc) {

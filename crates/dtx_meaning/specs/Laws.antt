@@ -1,6 +1,6 @@
 -- Laws of meanings that are carried out: what a refusal and a fault leave, what is whole and what is a part, and one
 -- meaning after the other.
-use Rattle.std.specs.Prelude.{◌≡◌, ◌≢◌, ◌⊎◌, ℕ, List, [], ◌∷◌, ◌++◌, Option, Some, None, IfSome, refl}
+use Rattle.std.specs.Prelude.{◌≡◌, ◌≢◌, ◌⊎◌, ℕ, ◌<◌, Bool, false, List, [], ◌∷◌, ◌++◌, Option, Some, None, IfSome, refl}
 use Rattle.std.specs.Option.{option_map}
 use Rattle.std.specs.FinMap.{get}
 use Rattle.std.proofs.Common.{arith, sym, ap, ◌∙◌, subst, inl, inr}
@@ -12,10 +12,12 @@ use Rattle.dtx_outside.specs.declared.shelf.WriteNo.{WriteNo}
 use Rattle.dtx_outside.specs.declared.shelf.WriteNo.TheVariants as write
 use Rattle.dtx_meaning.specs.Meaning.{Outputs, Meaning, refused, and_then, with_outputs, ArePartWritten, IsNoOutput}
 use Rattle.dtx_meaning.specs.Meaning.{IsWhole, IsCarriedOut, IsAnswered, IsDone}
-use Rattle.dtx_meaning.specs.Status.{IsFault, blame_of, ended, of_write}
+use Rattle.dtx_meaning.specs.Status.{IsFault, IsOfBytes, IsOfInput, IsOfInputs, blame_of, ended, of_write}
 use Rattle.dtx_meaning.specs.declared.status.Outcome.{Outcome}
 use Rattle.dtx_meaning.specs.declared.status.Status.{Status}
-use Rattle.dtx_meaning.specs.declared.status.Status.TheVariants.{Done, ReadFault, WriteFault, Memory}
+use Rattle.dtx_meaning.specs.declared.status.Status.TheVariants.{Done, Usage, Same, Absent, Plan, Packet, TooLong}
+use Rattle.dtx_meaning.specs.declared.status.Status.TheVariants.{OutOfFeed, OutOfAir, NoSync, ReadFault, WriteFault}
+use Rattle.dtx_meaning.specs.declared.status.Status.TheVariants.{Memory}
 
 -- ---- outputs
 
@@ -285,3 +287,54 @@ gone_over Memory before between now blame fault first last = record {
   risen = tt;
 }
 gone_over _ before between now blame fault first last = absurd fault
+
+-- ---- answers and words
+
+-- a fault is an answer of each input
+pub fault_of_input : (number : ℕ) (status : Status) → IsFault status → IsOfInput number status
+fault_of_input number Done fault = elim fault [ ]
+fault_of_input number Usage fault = elim fault [ ]
+fault_of_input number Same fault = elim fault [ ]
+fault_of_input number (Absent input) fault = elim fault [ ]
+fault_of_input number (Plan refusal) fault = elim fault [ ]
+fault_of_input number (Packet k) fault = elim fault [ ]
+fault_of_input number TooLong fault = elim fault [ ]
+fault_of_input number (OutOfFeed event) fault = elim fault [ ]
+fault_of_input number (OutOfAir entry) fault = elim fault [ ]
+fault_of_input number NoSync fault = elim fault [ ]
+fault_of_input number ReadFault fault = tt
+fault_of_input number WriteFault fault = tt
+fault_of_input number Memory fault = tt
+
+-- an answer to the bytes is one of each input
+pub bytes_of_input : (number : ℕ) (status : Status) → IsOfBytes status → IsOfInput number status
+bytes_of_input number Done is = tt
+bytes_of_input number Usage is = elim is [ ]
+bytes_of_input number Same is = elim is [ ]
+bytes_of_input number (Absent input) is = elim is [ ]
+bytes_of_input number (Plan refusal) is = tt
+bytes_of_input number (Packet k) is = tt
+bytes_of_input number TooLong is = tt
+bytes_of_input number (OutOfFeed event) is = tt
+bytes_of_input number (OutOfAir entry) is = tt
+bytes_of_input number NoSync is = tt
+bytes_of_input number ReadFault is = elim is [ ]
+bytes_of_input number WriteFault is = elim is [ ]
+bytes_of_input number Memory is = elim is [ ]
+
+-- an answer of one of the inputs, where no two names are equal
+pub of_inputs : (same : Bool) (number inputs : ℕ) (status : Status) → same ≡ false → number < inputs
+    → IsOfInput number status → IsOfInputs same inputs status
+of_inputs same number inputs Done apart within is = apart
+of_inputs same number inputs Usage apart within is = elim is [ ]
+of_inputs same number inputs Same apart within is = elim is [ ]
+of_inputs same number inputs (Absent input) apart within is = (apart, rw is within)
+of_inputs same number inputs (Plan refusal) apart within is = apart
+of_inputs same number inputs (Packet k) apart within is = apart
+of_inputs same number inputs TooLong apart within is = apart
+of_inputs same number inputs (OutOfFeed event) apart within is = apart
+of_inputs same number inputs (OutOfAir entry) apart within is = apart
+of_inputs same number inputs NoSync apart within is = apart
+of_inputs same number inputs ReadFault apart within is = apart
+of_inputs same number inputs WriteFault apart within is = apart
+of_inputs same number inputs Memory apart within is = tt

@@ -1,5 +1,5 @@
 -- The codes of the statuses, what each is blamed on, and what a refusal below becomes.
-use Rattle.std.specs.Prelude.{ℕ, [], ◌∷◌, Result, Ok, Err}
+use Rattle.std.specs.Prelude.{◌≡◌, ℕ, ◌<◌, Bool, true, false, [], ◌∷◌, Result, Ok, Err}
 use Rattle.dtx_outside.specs.Counts.{Blame, Nothing, Wanting, Missing, Reading, Writing}
 use Rattle.dtx_outside.specs.declared.shelf.ReadNo.{ReadNo}
 use Rattle.dtx_outside.specs.declared.shelf.ReadNo.TheVariants as read
@@ -69,6 +69,34 @@ IsFault ReadFault = Unit {0}
 IsFault WriteFault = Unit {0}
 IsFault Memory = Unit {0}
 IsFault _ = ⊥
+
+-- ---- what an answer says of the words
+
+-- An answer to the bytes of the inputs, which were read: no refusal of the words, no missing input and no fault.
+abbrev pub IsOfBytes : Status → Type 0
+IsOfBytes Usage = ⊥
+IsOfBytes Same = ⊥
+IsOfBytes (Absent input) = ⊥
+IsOfBytes ReadFault = ⊥
+IsOfBytes WriteFault = ⊥
+IsOfBytes Memory = ⊥
+IsOfBytes _ = Unit {0}
+
+-- an answer of the input of that number alone: it is no refusal of the words, and no other input isn't there
+abbrev pub IsOfInput : ℕ → Status → Type 0
+IsOfInput number Usage = ⊥
+IsOfInput number Same = ⊥
+IsOfInput number (Absent input) = input ≡ number
+IsOfInput number _ = Unit {0}
+
+-- An answer of so many inputs where the words fit, and whether two names are equal is given: `Same` where they are, or
+-- want of memory, and only there; and an input that isn't there is one of them.
+abbrev pub IsOfInputs : Bool → ℕ → Status → Type 0
+IsOfInputs same inputs Usage = ⊥
+IsOfInputs same inputs Same = same ≡ true
+IsOfInputs same inputs Memory = Unit {0}
+IsOfInputs same inputs (Absent input) = (same ≡ false) × (input < inputs)
+IsOfInputs same inputs _ = same ≡ false
 
 -- ---- outcomes
 

@@ -1,6 +1,6 @@
 // How a call of the program ends.
 ghost use Rattle.std.specs.Prelude.{◌≡◌};
-ghost use Rattle.dtx_meaning.specs.Status.{code_of, ended, of_plan, of_read};
+ghost use Rattle.dtx_meaning.specs.Status.{IsOfInput, code_of, ended, of_plan, of_read};
 
 use dtx_outside::{ReadNo, WriteNo};
 use dtx_plan::{PlanFault, PlanNo};
@@ -84,7 +84,8 @@ pub fn ended(status: Status) -> Outcome
 
 /// The status after a refusal to read that input.
 pub fn of_read(input: u8, cause: ReadNo) -> Status
-    ensures { result ≡ of_read input cause }
+    ensures status { result ≡ of_read input cause }
+    ensures input { IsOfInput input result }
 {
     match cause {
         ReadNo::Absent => Status::Absent(input),

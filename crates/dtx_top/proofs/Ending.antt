@@ -19,7 +19,7 @@ use Rattle.dtx_words.specs.Line.{finished}
 use Rattle.dtx_top.specs.Ends.{HasCause, HasEnded, IsFaultless, IsUsage}
 
 -- a status after its line failed, but for `Done`
-finished_failed : (status : Status) → (status ≡ Done) ⊎ (finished status (Err sink.Failed) ≡ status)
+pub finished_failed : (status : Status) → (status ≡ Done) ⊎ (finished status (Err sink.Failed) ≡ status)
 finished_failed Done = inl refl
 finished_failed Usage = inr refl
 finished_failed Same = inr refl

@@ -1,2 +1,3 @@
+pub mod ByWords
 pub mod Ending
 pub mod LineLeft

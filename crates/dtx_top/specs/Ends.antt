@@ -1,11 +1,17 @@
 -- How a call ends, whose line was printed or not: which counts have risen, and that nothing is refused without cause.
-use Rattle.std.specs.Prelude.{◌≡◌, ◌⊎◌, ℕ, ◌≤◌, List, Option, Some}
+use Rattle.std.specs.Prelude.{◌≡◌, ◌⊎◌, ℕ, zero, suc, ◌≤◌, is_some, List, [], ◌∷◌, Option, Some, None}
 use Rattle.dtx_outside.specs.Counts.{Counts, Rose}
 use Rattle.dtx_outside.specs.Shelf.{Files}
+use Rattle.dtx_meaning.specs.Status.{IsOfInputs}
 use Rattle.dtx_meaning.specs.declared.status.Status.{Status}
 use Rattle.dtx_meaning.specs.declared.status.Status.TheVariants.{Done, Usage, Absent, ReadFault, WriteFault, Memory}
+use Rattle.dtx_jobs.specs.OfWords.{IsOfWords, excite_same, make_same, three_same, two_same}
+use Rattle.dtx_words.specs.Names.{names_of, repeated}
+use Rattle.dtx_words.specs.Rows.{row_of}
 use Rattle.dtx_words.specs.declared.rows.Command.{Command}
-use Rattle.dtx_words.specs.declared.rows.Command.TheVariants.{Net}
+use Rattle.dtx_words.specs.declared.rows.Command.TheVariants.{Adapt, Code, Excite, Receive, Net, Make, Hurt, Place}
+use Rattle.dtx_words.specs.declared.rows.Field.{Field}
+use Rattle.dtx_words.specs.declared.rows.Field.TheVariants.{Input}
 use Rattle.dtx_replay.specs.HeadlineOfFiles.{HasHeadline}
 
 -- The cause of an answer, of the counts of the shelf and of that of the sink. On `Done` all stand, so no fault was met.
@@ -43,3 +49,32 @@ pub record IsUsage (status : Status) (told now : Option Files) : Type 0 where
 abbrev pub HasHeadlineOf : Option Command → List (List ℕ) → Files → Option Files → Type 0
 HasHeadlineOf (Some Net) words held now = HasHeadline words held now
 HasHeadlineOf command words held now = Unit {0}
+
+-- ---- what the words alone say of the answer
+
+-- how many inputs the fields of a command name
+abbrev pub inputs_among : List Field → ℕ
+inputs_among [] = zero
+inputs_among (Input ∷ fields) = suc (inputs_among fields)
+inputs_among (field ∷ fields) = inputs_among fields
+
+-- Words that fit a command are never answered `Usage`. They are answered `Same` where two of the command's file names
+-- are equal, unless memory is wanted, and only there; and an input that isn't there is one that the words name. For
+-- `net`, whose plan names further files, nothing is said here.
+abbrev pub IsByWords : Option Command → List (List ℕ) → Status → Type 0
+IsByWords None words status = (status ≡ Usage) ⊎ (status ≡ Memory)
+IsByWords (Some Net) words status = Unit {0}
+IsByWords (Some command) words status =
+    IsOfInputs (is_some (repeated (names_of (Some command) words))) (inputs_among (row_of command).fields) status
+
+-- the same of a command, before its line is printed
+abbrev pub IsOfCommand : Option Command → List (List ℕ) → Status → Type 0
+IsOfCommand None words status = status ≡ Usage
+IsOfCommand (Some Adapt) words status = IsOfWords (three_same words) 2 status
+IsOfCommand (Some Code) words status = IsOfWords (two_same words) 1 status
+IsOfCommand (Some Excite) words status = IsOfWords (excite_same words) 1 status
+IsOfCommand (Some Receive) words status = IsOfWords (two_same words) 1 status
+IsOfCommand (Some Net) words status = Unit {0}
+IsOfCommand (Some Make) words status = IsOfWords (make_same words) 0 status
+IsOfCommand (Some Hurt) words status = IsOfWords (three_same words) 2 status
+IsOfCommand (Some Place) words status = IsOfWords (two_same words) 1 status

@@ -4,7 +4,7 @@ ghost use Rattle.dtx_outside.specs.Counts.{HasGone};
 ghost use Rattle.dtx_meaning.specs.Meaning.{IsCarriedOut};
 ghost use Rattle.dtx_meaning.specs.Status.{blame_of};
 ghost use Rattle.dtx_words.specs.Names.{line_name};
-ghost use Rattle.dtx_top.specs.Ends.{HasHeadlineOf};
+ghost use Rattle.dtx_top.specs.Ends.{HasHeadlineOf, IsOfCommand};
 ghost use Rattle.dtx_top.specs.Lines.{name_kept, names_told, IsSomeName};
 ghost use Rattle.dtx_top.specs.Means.{means_of};
 
@@ -31,6 +31,7 @@ pub(crate) fn perform<S: Shelf>(
         ≡ line_name result.outcome.status (names_told command words.now held)) }
     ensures untold_name { command ≡ Some Command.Net → IsSomeName command words.now result.outcome.status
         (name_kept command words.now result.outcome.status result.name.bytes) }
+    ensures words { IsOfCommand command words.now result.outcome.status }
     ensures usage { command ≡ None → (result.outcome.status ≡ Status.Usage) × (S.files shelf.new ≡ S.files shelf.old) }
     ensures headline { IfSome (S.files shelf.old) (λ held. result.outcome.status ≡ Status.Done
         → HasHeadlineOf command words.now held (S.files shelf.new)) }

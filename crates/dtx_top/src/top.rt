@@ -4,7 +4,7 @@ ghost use Rattle.dtx_outside.specs.Counts.{Rose};
 ghost use Rattle.dtx_outside.specs.Shelf.{IsSameAt};
 ghost use Rattle.dtx_meaning.specs.Meaning.{IsDone, IsNoOutput, IsUnprinted};
 ghost use Rattle.dtx_words.specs.Fitting.{command_of};
-ghost use Rattle.dtx_top.specs.Ends.{HasEnded, HasHeadlineOf, IsFaultless, IsUsage};
+ghost use Rattle.dtx_top.specs.Ends.{HasEnded, HasHeadlineOf, IsByWords, IsFaultless, IsUsage};
 ghost use Rattle.dtx_top.specs.Lines.{name_kept, HasLine, IsSomeLine, IsToldLine};
 ghost use Rattle.dtx_top.specs.Means.{means};
 
@@ -82,6 +82,11 @@ pub fn run<S: Shelf, O: Sink>(alloc: Global, words: &[Word], shelf: &mut S, out:
 
     // Also where the files are not told: words that fit no command touch nothing, and have no other answer.
     ensures usage { command_of words.now ≡ None → IsUsage result (S.files shelf.old) (S.files shelf.new) }
+
+    // Also where the files are not told: what the words alone say of the answer. `Usage` comes only where they fit no
+    // command, `Same` only where two names are equal, and there always unless memory is wanted; and an input that isn't
+    // there is one that they name.
+    ensures words { IsByWords (command_of words.now) words.now result }
 
     // Nothing is refused without cause: where no fault is counted, the answer is that of the meaning, unless memory is
     // wanted.

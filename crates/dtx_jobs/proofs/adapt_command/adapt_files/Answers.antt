@@ -1,7 +1,9 @@
-use Rattle.std.proofs.Common.{List, ℕ, [], ◌∷◌, sym, refl}
+use Rattle.std.proofs.Common.{List, ℕ, Bool, [], ◌∷◌, sym, ap, subst, refl}
+use Rattle.std.specs.Prelude.{is_some}
 use Rattle.std.specs.FinMap.{get}
 use Rattle.dtx_engine.specs.Making.{meaning}
 use Rattle.dtx_meaning.specs.Laws.{carried_told, refused_told}
+use Rattle.dtx_meaning.specs.Status.{IsOfInputs}
 use Rattle.dtx_meaning.specs.declared.status.Status.TheVariants.{Same}
 use Rattle.dtx_outside.specs.Shelf.{Files}
 use Rattle.dtx_jobs.specs.Adapt.{adapted, feeding}
@@ -29,3 +31,11 @@ returns-in-None-clause-carried g c =
     carried_told (adapted c.args.plan.now c.args.input.now c.args.output.now) means
     (g.S.Shelf.files c.args.shelf.now) _ c.adapt_planned.result
     (λ held told. apart_means names (means held) c.in-None.ensures) c.adapt_planned.ensures.carried
+
+pub returns-in-Some-clause-words : goal.returns-in-Some-clause-words
+returns-in-Some-clause-words g c = rw c.ended.ensures (ap is_some (sym c.in-Some.ensures))
+
+pub returns-in-None-clause-words : goal.returns-in-None-clause-words
+returns-in-None-clause-words g c =
+    subst (λ (b : Bool). IsOfInputs b 2 c.adapt_planned.result.status) (ap is_some c.in-None.ensures)
+    c.adapt_planned.ensures.words

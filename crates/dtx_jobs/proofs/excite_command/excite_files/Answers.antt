@@ -1,7 +1,8 @@
-use Rattle.std.proofs.Common.{List, ℕ, [], ◌∷◌, refl}
+use Rattle.std.proofs.Common.{List, ℕ, [], ◌∷◌, sym, ap, refl, arith}
+use Rattle.std.specs.Prelude.{is_some}
 use Rattle.std.specs.FinMap.{get}
 use Rattle.dtx_engine.specs.Making.{meaning}
-use Rattle.dtx_meaning.specs.Laws.{carried_told, refused_told}
+use Rattle.dtx_meaning.specs.Laws.{carried_told, of_inputs, refused_told}
 use Rattle.dtx_meaning.specs.declared.status.Status.TheVariants.{Same}
 use Rattle.dtx_outside.specs.Shelf.{Files}
 use Rattle.dtx_jobs.specs.Excite.{excite_at, exciting}
@@ -34,3 +35,10 @@ returns-in-None-clause-carried g c =
     (g.S.Shelf.files c.args.shelf.now) _ c.excite_apart.result
     (λ held told. apart_means names (means held) c.in-None.ensures)
     c.excite_apart.ensures.carried
+
+pub returns-in-Some-clause-words : goal.returns-in-Some-clause-words
+returns-in-Some-clause-words g c = rw c.ended.ensures (ap is_some (sym c.in-Some.ensures))
+
+pub returns-in-None-clause-words : goal.returns-in-None-clause-words
+returns-in-None-clause-words g c =
+    of_inputs _ 0 1 _ (sym (ap is_some c.in-None.ensures)) (omega arith) c.excite_apart.ensures.input

@@ -1,8 +1,10 @@
-use Rattle.std.proofs.Common.{[], ◌∷◌}
+use Rattle.std.proofs.Common.{[], ◌∷◌, false, refl, arith}
 use Rattle.std.specs.FinMap.{get}
 use Rattle.dtx_engine.specs.Making.{meaning}
+use Rattle.dtx_meaning.specs.Laws.{of_inputs}
 use Rattle.dtx_plan.specs.Plan.{changes_of}
 use Rattle.dtx_jobs.specs.Hurt.{hurting}
+use Rattle.dtx_jobs.specs.OfWordsLaws.{refusal_of_input}
 use Rattle.dtx_jobs.specs.PlanFileLaws.{read_told, unread_told}
 use Rattle.dtx_jobs.specs.Shapes.{single_bytes}
 use Rattle.dtx_jobs.proofs.hurt_command.hurt_changed.Goals as goal
@@ -19,3 +21,10 @@ returns-in-Err-clause-carried g c =
     unread_told changes_of 1 c.args.changes.now c.in-Err.status
     (λ held damage. meaning single_bytes (hurting damage) 0 (c.args.output.now ∷ []) (get held c.args.input.now))
     (g.S.Shelf.files c.args.shelf.now) _ c.ended.result c.in-Err.ensures.told c.changes_in.ensures.kept c.ended.ensures
+
+pub returns-in-Ok-clause-words : goal.returns-in-Ok-clause-words
+returns-in-Ok-clause-words g c = of_inputs false 0 2 _ refl (omega arith) c.carry_to_one.ensures.input
+
+pub returns-in-Err-clause-words : goal.returns-in-Err-clause-words
+returns-in-Err-clause-words g c = rw c.ended.ensures
+    (of_inputs false 1 2 _ refl (omega arith) (refusal_of_input 1 _ c.in-Err.ensures.refusal))

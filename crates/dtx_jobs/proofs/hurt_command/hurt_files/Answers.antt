@@ -1,7 +1,9 @@
-use Rattle.std.proofs.Common.{List, ℕ, [], ◌∷◌, sym, refl}
+use Rattle.std.proofs.Common.{List, ℕ, Bool, [], ◌∷◌, sym, ap, subst, refl}
+use Rattle.std.specs.Prelude.{is_some}
 use Rattle.std.specs.FinMap.{get}
 use Rattle.dtx_engine.specs.Making.{meaning}
 use Rattle.dtx_meaning.specs.Laws.{carried_told, refused_told}
+use Rattle.dtx_meaning.specs.Status.{IsOfInputs}
 use Rattle.dtx_meaning.specs.declared.status.Status.TheVariants.{Same}
 use Rattle.dtx_outside.specs.Shelf.{Files}
 use Rattle.dtx_jobs.specs.Hurt.{hurt_file, hurting}
@@ -30,3 +32,11 @@ returns-in-None-clause-carried g c =
     carried_told (hurt_file c.args.input.now c.args.changes.now c.args.output.now) means
     (g.S.Shelf.files c.args.shelf.now) _ c.hurt_changed.result
     (λ held told. apart_means names (means held) c.in-None.ensures) c.hurt_changed.ensures.carried
+
+pub returns-in-Some-clause-words : goal.returns-in-Some-clause-words
+returns-in-Some-clause-words g c = rw c.ended.ensures (ap is_some (sym c.in-Some.ensures))
+
+pub returns-in-None-clause-words : goal.returns-in-None-clause-words
+returns-in-None-clause-words g c =
+    subst (λ (b : Bool). IsOfInputs b 2 c.hurt_changed.result.status) (ap is_some c.in-None.ensures)
+    c.hurt_changed.ensures.words

@@ -1,6 +1,7 @@
-use Rattle.std.proofs.Common.{◌∙◌}
+use Rattle.std.proofs.Common.{sym, ◌∙◌}
 use Rattle.dtx_top.specs.Ends.{HasHeadlineOf}
 use Rattle.dtx_top.specs.Means.{means_of}
+use Rattle.dtx_top.proofs.ByWords.{words_told}
 use Rattle.dtx_top.proofs.Ending.{complete_told, done_then, done_told, ended_of, others_told, unprinted_told, usage_of}
 use Rattle.dtx_top.proofs.LineLeft.{line_told, line_untold}
 use Rattle.dtx_top.proofs.top.run.Goals as goal
@@ -55,3 +56,8 @@ pub returns-clause-unprinted : goal.returns-clause-unprinted
 returns-clause-unprinted g c = rw (c.finish.ensures, ← c.command-command.ensures)
     (unprinted_told (means_of c.command-command.result c.args.words.now) _ _ _ _ _ _ _ _
     c.perform-performed.ensures.carried c.perform-performed.ensures.gone c.line-printed.ensures.gone)
+
+pub returns-clause-words : goal.returns-clause-words
+returns-clause-words g c = rw (c.finish.ensures, ← c.command-command.ensures)
+    (words_told c.command-command.result c.args.words.now _ _ (sym c.command-command.ensures)
+    c.perform-performed.ensures.words)
