@@ -10,6 +10,7 @@ mod number;
 mod put;
 mod rows;
 
+pub use dtx_meaning::Status;
 pub use fitting::command;
 pub use lines::{finish, line};
 pub use names::{name_among, name_in_line, repeated_name};

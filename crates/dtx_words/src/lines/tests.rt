@@ -30,11 +30,7 @@ fn each_line_ends_in_a_line_feed_and_has_its_numbers_in_order(rt: HostRuntime) -
         ),
         (Command::Make, 1, "packets 8\n"),
         (Command::Hurt, 2, "bytes 8 damaged 9\n"),
-        (
-            Command::Place,
-            4,
-            "packets 8 placed 9 bare 3 loose 1\n",
-        ),
+        (Command::Place, 4, "packets 8 placed 9 bare 3 loose 1\n"),
     ] {
         let outcome = Outcome {
             status: Status::Done,
