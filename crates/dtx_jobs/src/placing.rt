@@ -48,8 +48,7 @@ impl Placing {
     }
 
     /// Takes the packet at that place of a field into account, and answers whether it is the first of its field at
-    /// which
-    /// a placeholder may stand.
+    /// which a placeholder may stand.
     fn meets(&mut self, place: u64, vacant: bool) -> bool
         requires room { self.old.bare < 2 ^ 64 - 1 }
         requires some { place ≢ 0 → self.old.found ≡ false → 0 < self.old.bare }
