@@ -24,7 +24,7 @@ pub(super) fn answered(
 
 #[test]
 fn words_and_names_have_their_status_and_line(rt: HostRuntime) -> Result<(), Fail> {
-    let usage = "usage: dtx adapt|code|excite|receive|net|make|hurt\n";
+    let usage = "usage: dtx adapt|code|excite|receive|net|make|hurt|place\n";
     for (texts, status, code, line) in [
         ([].as_slice(), Status::Usage, 2, usage),
         (&["adapt", "p1", "s.ts"], Status::Usage, 2, usage),
