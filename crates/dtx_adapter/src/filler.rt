@@ -9,11 +9,12 @@ ghost use Rattle.dtx_adapter.specs.Filling.{Fills, said};
 
 use arrayvec::ArrayVec;
 use dtx_cadence::mark;
-use dtx_clock::{PACKETS, stamp};
-use dtx_ops::{Entry, OPERATIONS, Ops, write};
-use dtx_packets::{MOST_PACKETS, Packet};
+use dtx_clock::stamp;
+use dtx_ops::{Entry, Ops, write};
+use dtx_packets::Packet;
 use dtx_plan::{Plan, Transmitter};
 use dtx_rs::Rs;
+use dtx_sizes::{FRAME_PACKETS, MOST_PACKETS, OPERATIONS_PID};
 use dtx_trellis::States;
 use std::marker::Model;
 
@@ -83,7 +84,7 @@ impl Filler {
               (self.old.counter + 1) % COUNTERS else self.old.counter;
         } }
     {
-        if packet.pid() == OPERATIONS {
+        if packet.pid() == OPERATIONS_PID {
             self.fill(index, packet);
             true
         } else {
@@ -98,10 +99,10 @@ impl Filler {
         ensures filled { packet.new.0 ≡ spelling (said self.old index) self.old.counter (sync_at index) }
         ensures counted { self.new ≡ record self.old { counter = (self.old.counter + 1) % COUNTERS } }
     {
-        let frame = (index / PACKETS as u64) as u32;
+        let frame = (index / FRAME_PACKETS as u64) as u32;
         self.ops.stamp = stamp(self.start, frame);
         self.ops.frame = frame;
-        self.ops.index = (index % PACKETS as u64) as u16;
+        self.ops.index = (index % FRAME_PACKETS as u64) as u16;
         write(&self.code, &self.ops, self.counter, packet);
         mark(index, packet);
         self.counter = (self.counter + 1) % COUNTERS;

@@ -17,12 +17,7 @@ ghost use Rattle.dtx_chain.specs.Damage.{numbers_in};
 ghost use Rattle.dtx_chain.specs.Damage.{packet_behind, to_sync, word_in};
 ghost use Rattle.dtx_chain.specs.Undamaged.{ArePackets, as_sent, whole_words, with_sync};
 
-use dtx_coder::GROUP_PACKETS;
-use dtx_packets::PACKET;
-use dtx_trellis::FIELD;
-
-/// How many segments a field has: its field sync and its data segments (ATSC A/53 Part 2).
-const FIELD_SEGMENTS: usize = 313;
+use dtx_sizes::{FIELD_PACKETS, FIELD_SEGMENTS, GROUP_PACKETS, PACKET};
 
 /// The undamaged symbols of packets that make at least one whole group are received as one run. Each packet whose bytes
 /// are all there comes back, in order, with 0x47 as its sync byte; none is flagged, and no byte was put right.
@@ -39,7 +34,7 @@ pub fn received_undamaged()
 /// begins a field, as the packet behind a field sync does. The bytes of the run may be any numbers, and as many or as
 /// few as they are. Where all bytes of word j are there, its packet is number j of those that the run gives.
 pub fn gives_back()
-    ensures packet { (packets : List (List ℕ)) (bytes : List ℕ) (f j : ℕ) → ArePackets packets → f % FIELD ≡ 0
+    ensures packet { (packets : List (List ℕ)) (bytes : List ℕ) (f j : ℕ) → ArePackets packets → f % FIELD_PACKETS ≡ 0
         → f + j < length packets → IsNear packets (f + j) (word_at 207 52 4 bytes j)
         → received_at bytes j ≡ as_corrected packets (f + j) (word_at 207 52 4 bytes j) }
     ensures place { (bytes : List ℕ) (j : ℕ) (other : Received) → IsComplete 207 52 4 (length bytes) j
@@ -71,7 +66,7 @@ pub fn gives_all_back()
 /// Eleven wrong bytes are too many: for each packet of a stream there is a word of 207 bytes that differs from the
 /// packet's codeword in eleven of them, and wherever a run has that word, it gives another packet back.
 pub fn eleven_are_too_many()
-    ensures { (packets : List (List ℕ)) (f j : ℕ) → ArePackets packets → f % FIELD ≡ 0 → f + j < length packets
+    ensures { (packets : List (List ℕ)) (f j : ℕ) → ArePackets packets → f % FIELD_PACKETS ≡ 0 → f + j < length packets
         → (word : List ℕ) × (length word ≡ 207) × AreBytes word × (distance word (codeword_at packets (f + j)) ≡ 11)
         × ((bytes : List ℕ) → word_at 207 52 4 bytes j ≡ word
         → (received_at bytes j).packet.0 ≢ with_sync (slice_index_or packets (f + j) [])) }
@@ -98,9 +93,9 @@ pub fn places()
     ensures sync { (packets : List (List ℕ)) (n : ℕ) → n < length (a53 packets) → n % FIELD_SEGMENTS ≡ 0
         → (second : Bool) × (last : List ℤ) × (slice_index_or (a53 packets) n [] ≡ field_sync second last) }
     ensures segment { (packets : List (List ℕ)) (k : ℕ) → k < GROUP_PACKETS * (length packets / GROUP_PACKETS)
-        → slice_index_or (a53 packets) (k + k / FIELD + 1) [] ≡ segment (levels packets) k }
+        → slice_index_or (a53 packets) (k + k / FIELD_PACKETS + 1) [] ≡ segment (levels packets) k }
     ensures first { (first : ℕ) → (first + to_sync first) % FIELD_SEGMENTS ≡ 0 }
     ensures none { (first i : ℕ) → i < to_sync first → (first + i) % FIELD_SEGMENTS ≢ 0 }
-    ensures behind { (first : ℕ) → packet_behind first + packet_behind first / FIELD ≡ first + to_sync first }
-    ensures begins { (first : ℕ) → packet_behind first % FIELD ≡ 0 }
+    ensures behind { (first : ℕ) → packet_behind first + packet_behind first / FIELD_PACKETS ≡ first + to_sync first }
+    ensures begins { (first : ℕ) → packet_behind first % FIELD_PACKETS ≡ 0 }
 {}

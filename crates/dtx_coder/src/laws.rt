@@ -15,9 +15,10 @@ ghost use Rattle.dtx_coder.specs.Runs.{AreStates};
 pub mod runs;
 
 use crate::air::MOST_SEGMENTS;
-use crate::sizes::{BRANCH_STEP, BRANCHES, CODEWORD, GROUP_PACKETS, SETTLED_PACKETS};
-use dtx_frame::{LAST, SEGMENT};
-use dtx_trellis::{FIELD, GROUP_BYTES};
+use dtx_sizes::{
+    BRANCH_STEP, BRANCHES, CODEWORD, FIELD_PACKETS, FILLING_PACKETS, GROUP_BYTES, GROUP_PACKETS,
+    PRECODE, SEGMENT,
+};
 
 /// A new coder stands for no packets.
 pub fn nothing_given()
@@ -50,14 +51,14 @@ pub fn fronts()
 pub fn goes_on()
     ensures levels { (packets : List (List ℕ)) (u : ℕ) → GROUP_PACKETS * u ≤ length packets
         → levels packets ≡ levels (take (GROUP_PACKETS * u) packets)
-        ++ levels_of (GROUP_PACKETS * u % FIELD) (states (take (GROUP_PACKETS * u) packets))
+        ++ levels_of (GROUP_PACKETS * u % FIELD_PACKETS) (states (take (GROUP_PACKETS * u) packets))
         (drop (GROUP_BYTES * u) (whole_groups packets)) }
     ensures states { (packets : List (List ℕ)) (u : ℕ) → GROUP_PACKETS * u ≤ length packets
-        → states packets ≡ states_after (GROUP_PACKETS * u % FIELD) (states (take (GROUP_PACKETS * u) packets))
+        → states packets ≡ states_after (GROUP_PACKETS * u % FIELD_PACKETS) (states (take (GROUP_PACKETS * u) packets))
         (drop (GROUP_BYTES * u) (whole_groups packets)) }
     ensures segments { (packets : List (List ℕ)) (u : ℕ) → GROUP_PACKETS * u + GROUP_PACKETS ≤ length packets
         → four_segments (levels packets) (GROUP_PACKETS * u)
-        ≡ four_segments (levels_of (GROUP_PACKETS * u % FIELD) (states (take (GROUP_PACKETS * u) packets))
+        ≡ four_segments (levels_of (GROUP_PACKETS * u % FIELD_PACKETS) (states (take (GROUP_PACKETS * u) packets))
         (slice_range (whole_groups packets) (GROUP_BYTES * u) (GROUP_BYTES * u + GROUP_BYTES))) 0 }
 {}
 
@@ -84,11 +85,11 @@ pub fn behind_align()
 /// packet is packet 52 since or a later one.
 pub fn settled()
     ensures bytes { (coder : Coding) (groups : List Group) (n : ℕ)
-        → HasWidths BRANCHES (spreading BRANCH_STEP) coder.branches → CODEWORD * SETTLED_PACKETS ≤ n
+        → HasWidths BRANCHES (spreading BRANCH_STEP) coder.branches → CODEWORD * FILLING_PACKETS ≤ n
         → drop n (bytes_of_groups (aligned_coding coder) groups)
         ≡ drop n (interleaved BRANCHES BRANCH_STEP (coded_groups groups)) }
     ensures group { (coder : Coding) (groups : List Group) (u : ℕ)
-        → HasWidths BRANCHES (spreading BRANCH_STEP) coder.branches → SETTLED_PACKETS ≤ GROUP_PACKETS * u
+        → HasWidths BRANCHES (spreading BRANCH_STEP) coder.branches → FILLING_PACKETS ≤ GROUP_PACKETS * u
         → slice_range (bytes_of_groups (aligned_coding coder) groups) (GROUP_BYTES * u) (GROUP_BYTES * u + GROUP_BYTES)
         ≡ slice_range (interleaved BRANCHES BRANCH_STEP (coded_groups groups)) (GROUP_BYTES * u)
         (GROUP_BYTES * u + GROUP_BYTES) }
@@ -98,7 +99,7 @@ pub fn settled()
 pub fn group_counts()
     ensures segments { (coder : Coding) (group : Group)
         → length (segments_of coder group) ≡ (if group.sync then MOST_SEGMENTS else GROUP_PACKETS) }
-    ensures long { (coder : Coding) (group : Group) → length group.packets ≡ GROUP_PACKETS → length coder.last ≡ LAST
+    ensures long { (coder : Coding) (group : Group) → length group.packets ≡ GROUP_PACKETS → length coder.last ≡ PRECODE
         → EachIndex (segments_of coder group) (λ n. length (slice_index_or (segments_of coder group) n []) ≡ SEGMENT) }
 {}
 
@@ -107,7 +108,7 @@ pub fn group_counts()
 pub fn kept()
     ensures states { (coder : Coding) (group : Group) → AreStates (after_group coder group).states }
     ensures last { (coder : Coding) (group : Group) → length group.packets ≡ GROUP_PACKETS
-        → length (after_group coder group).last ≡ LAST }
+        → length (after_group coder group).last ≡ PRECODE }
     ensures branches { (coder : Coding) (group : Group) → HasWidths BRANCHES (spreading BRANCH_STEP) coder.branches
         → HasWidths BRANCHES (spreading BRANCH_STEP) (after_group coder group).branches }
 {}

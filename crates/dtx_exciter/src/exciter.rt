@@ -10,10 +10,11 @@ use crate::answers::{Told, Why};
 use crate::orders::{Corrector, order_in};
 use crate::serving::{preset_of, served};
 use dtx_cadence::{Anchor, Seen};
-use dtx_coder::{Air, Coder, GROUP_PACKETS};
+use dtx_coder::{Air, Coder};
 use dtx_ops::Ops;
-use dtx_packets::{PACKET, Packet};
-use dtx_trellis::{FIELD, States};
+use dtx_packets::Packet;
+use dtx_sizes::{FIELD_PACKETS, FieldPlace, GROUP_PACKETS, PACKET, field_place};
+use dtx_trellis::States;
 use std::alloc::{AllocError, Global};
 
 /// An exciter. It is given the packets of a feed, from any place of it on and whatever else, and sends the segments
@@ -118,14 +119,9 @@ impl Exciter {
         let sent = is_sent(told);
         let sync = begins_with_sync(first, self.sent, sent);
         let preset = states_of(order);
-        self.coder.group(
-            first % FIELD,
-            first >= FIELD,
-            &self.packets,
-            preset,
-            sync,
-            air,
-        );
+        let FieldPlace { place, second } = field_place(first as u64);
+        self.coder
+            .group(place, second, &self.packets, preset, sync, air);
         keep_if(sent, air);
         self.sent = sent;
         told
@@ -193,7 +189,7 @@ fn keep_if(sent: bool, air: &mut Air)
 fn begins_with_sync(first: u16, before: bool, sent: bool) -> bool
     ensures { result ≡ (sent && before && (first % 312 == 0)) }
 {
-    sent && before && first % FIELD == 0
+    sent && before && first % FIELD_PACKETS == 0
 }
 
 /// The states that an order sets.

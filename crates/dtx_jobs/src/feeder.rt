@@ -14,18 +14,15 @@ use crate::packet_bytes::{join, unjoin};
 use crate::shapes::packets;
 use dtx_adapter::Adapter;
 use dtx_adapter::laws::goes_on;
-use dtx_coder::GROUP_PACKETS;
 use dtx_engine::{Engine, Shape};
 use dtx_meaning::{Outcome, Status};
-use dtx_packets::{MOST_PACKETS, PACKET, Packet};
+use dtx_packets::Packet;
 use dtx_plan::Plan;
+use dtx_sizes::{GROUP_PACKETS, MOST_PACKETS, PACKET, SYNC};
 use std::alloc::{AllocError, Global};
 
 /// How many bytes a group of packets has.
 const GROUP: usize = GROUP_PACKETS * PACKET;
-
-/// The byte with which the packets of a stream begin (ISO/IEC 13818-1, 2.4.3.2).
-const SYNC: u8 = 0x47;
 
 /// Makes the packets of a stream those of its feed under a plan, in their place.
 #[derive(Drop)]

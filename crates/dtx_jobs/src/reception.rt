@@ -10,14 +10,10 @@ ghost use Rattle.dtx_jobs.specs.Tally.{IsBounded, tally_of};
 use crate::shapes::{PIECE_SEGMENTS, segments};
 use crate::tally::Tally;
 use dtx_engine::{Buffer, Engine, Shape};
-use dtx_frame::SEGMENT;
 use dtx_meaning::{Outcome, Status, ended};
-use dtx_packets::PACKET;
 use dtx_receiver::{Batch, MOST_RECEIVED, Received, Receiver, Tracking};
+use dtx_sizes::{MOST_SEGMENTS, PACKET, SEGMENT};
 use std::alloc::{AllocError, Global};
-
-/// How many segments are received at most: 2,000,000 such pieces (the profile's own limit).
-pub const MOST_SEGMENTS: u64 = 626_000_000;
 
 /// How many bytes the packets have that a piece brings at most.
 const RECEIVED_BYTES: usize = PACKET * MOST_RECEIVED * PIECE_SEGMENTS;

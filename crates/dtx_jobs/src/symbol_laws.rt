@@ -13,8 +13,8 @@ ghost use Rattle.dtx_jobs.specs.ReceivedLaws.{received_of};
 ghost use Rattle.dtx_jobs.specs.Shapes as shapes;
 ghost use Rattle.dtx_jobs.specs.SymbolFile.{segments_of, whole_segments};
 
-use crate::reception::MOST_SEGMENTS;
 use dtx_meaning::Status;
+use dtx_sizes::MOST_SEGMENTS;
 
 /// The segments of a file are those of its parts, where the first has whole segments, and loose bytes stand in none.
 pub fn segments_in_pieces()

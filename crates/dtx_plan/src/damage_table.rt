@@ -7,10 +7,11 @@ ghost use Rattle.dtx_plan.specs.DamageTable as spec;
 
 use crate::damage::{Damage, Damages};
 use crate::key::PlanKey;
-use crate::limits::{MOST_DAMAGES, MOST_SYMBOLS};
+use crate::limits::MOST_DAMAGES;
 use crate::refusal::{PlanFault, PlanNo};
 use crate::rows::{known, signed, table, whole, whole_or};
 use crate::rule::PlanRule;
+use dtx_sizes::MOST_SYMBOLS;
 use std::alloc::Global;
 use toml::Value;
 

@@ -8,12 +8,13 @@ ghost use Rattle.dtx_plan.specs.EventTable as spec;
 
 use crate::event::{Event, EventKind, Events};
 use crate::key::PlanKey;
-use crate::limits::{MOST_EVENTS, MOST_PACKETS};
+use crate::limits::MOST_EVENTS;
 use crate::refusal::{PlanFault, PlanNo};
 use crate::rows::{known, table, text, whole};
 use crate::rule::PlanRule;
 use crate::transmitter::Transmitter;
 use crate::transmitter_table::has_address;
+use dtx_sizes::MOST_PACKETS;
 use dtx_trellis::States;
 use std::alloc::Global;
 use toml::{Table, Value};

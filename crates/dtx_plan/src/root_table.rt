@@ -8,12 +8,13 @@ ghost use Rattle.dtx_plan.specs.RootTable as spec;
 use crate::damage::Damages;
 use crate::damage_table::damages;
 use crate::key::PlanKey;
-use crate::limits::{MOST_DAMAGES, MOST_TRANSMITTERS, SECOND};
+use crate::limits::{MOST_DAMAGES, SECOND};
 use crate::net_table::net;
 use crate::plan::Plan;
 use crate::refusal::PlanFault;
 use crate::rows::{array, array_or_none, known, whole};
 use crate::transmitter_table::transmitters;
+use dtx_sizes::MOST_TRANSMITTERS;
 use std::alloc::Global;
 use toml::Table;
 

@@ -6,12 +6,12 @@ ghost use Rattle.dtx_plan.specs.Sound.{AreTransmitters};
 ghost use Rattle.dtx_plan.specs.TransmitterTable as spec;
 
 use crate::key::PlanKey;
-use crate::limits::MOST_TRANSMITTERS;
 use crate::refusal::PlanNo;
 use crate::rows::{known, signed, table, whole, whole_or};
 use crate::rule::PlanRule;
 use crate::transmitter::Transmitter;
 use arrayvec::ArrayVec;
+use dtx_sizes::MOST_TRANSMITTERS;
 use toml::Value;
 
 /// The transmitters, entry by entry.

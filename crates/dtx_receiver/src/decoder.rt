@@ -10,12 +10,16 @@ ghost use Rattle.dtx_receiver.specs.declared.batch.Received.{Received};
 
 use crate::batch::Batch;
 use crate::outer_decoding::{OuterDecoding, give, give_group, new_outer_decoding};
-use crate::sizes::{BRANCH_STEP, BRANCHES, CODEWORD, GROUP_SEGMENTS};
-use dtx_slice::{SEGMENT, Unroll, last_levels, put_levels};
-use dtx_trellis::{FIELD, GROUP_BYTES, GROUP_LEVELS};
-use dtx_whiten::PACKET_DATA;
+use dtx_sizes::{
+    BRANCH_STEP, BRANCHES, CODEWORD, FIELD_PACKETS, GROUP_BYTES, GROUP_LEVELS, GROUP_PACKETS,
+    PACKET_DATA, SEGMENT,
+};
+use dtx_slice::{Unroll, last_levels, put_levels};
 use std::alloc::{AllocError, Global};
 use std::marker::Model;
+
+/// How many data segments a group has: one for each packet.
+const GROUP_SEGMENTS: u16 = GROUP_PACKETS as u16;
 
 /// Decodes a run. `Decodes decoder run` says that it holds what the segments of the run leave.
 #[derive(Drop)]
@@ -58,7 +62,7 @@ impl Decoder {
 
     /// The next data segment of the run, at this place of its field, and the packets that it completes.
     pub(crate) fn take(&mut self, place: u16, segment: &[i8; SEGMENT], batch: &mut Batch)
-        requires place { place < FIELD }
+        requires place { place < FIELD_PACKETS }
         requires room { length batch.old.packets.items ≤ 4 }
         ensures stands { (run : List (List ℤ)) → Decodes self.old run → length run % 313 ≡ place + 1
             → Decodes self.new (run ++ segment.now ∷ []) }
@@ -88,7 +92,7 @@ impl Decoder {
 
     /// The group whose levels are whole, and which begins at this place of its field.
     fn group(&mut self, first: u16, batch: &mut Batch)
-        requires first { first < FIELD }
+        requires first { first < FIELD_PACKETS }
         requires whole { first % 4 ≡ 0 }
         requires room { length batch.old.packets.items ≤ 4 }
         ensures levels { self.new.levels ≡ self.old.levels }

@@ -7,9 +7,9 @@ ghost use Rattle.dtx_receiver.specs.Runs.{tracking};
 
 use crate::batch::Batch;
 use crate::decoder::Decoder;
-use crate::sizes::FIELD_SEGMENTS;
 use crate::tracking::Tracking;
-use dtx_frame::{SEGMENT, looks};
+use dtx_frame::looks;
+use dtx_sizes::{FIELD_SEGMENTS, SEGMENT};
 use std::alloc::{AllocError, Global};
 use std::marker::Model;
 

@@ -20,12 +20,12 @@ ghost use Rattle.dtx_replay.specs.Replaying.{HasNumbers, IsFeedWritten};
 use crate::of_bytes::OfBytes;
 use crate::reception::receive_sent;
 use dtx_engine::Input;
-use dtx_frame::SEGMENT;
 use dtx_jobs::{Feeder, carry_to_one};
 use dtx_meaning::{Outcome, Status, ended};
 use dtx_outside::Shelf;
 use dtx_plan::{NetPlan, Plan};
 use dtx_schedule::{Played, first_past_feed, play};
+use dtx_sizes::SEGMENT;
 use dtx_words::feed_name;
 use std::alloc::Global;
 

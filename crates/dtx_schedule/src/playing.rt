@@ -21,8 +21,9 @@ use crate::event::play_event;
 use crate::stage::Stage;
 use dtx_meaning::Status;
 use dtx_outside::Shelf;
-use dtx_packets::{PACKET, PIECE_PACKETS, Packet};
+use dtx_packets::{PIECE_PACKETS, Packet};
 use dtx_plan::{Events, Transmitter};
+use dtx_sizes::PACKET;
 use std::alloc::Global;
 
 /// What came of a schedule: its numbers.

@@ -21,7 +21,8 @@ use dtx_meaning::Status;
 use dtx_net::{Liar, Net};
 use dtx_outside::{Shelf, WriteNo};
 use dtx_packets::Packet;
-use dtx_plan::{MOST_TRANSMITTERS, Transmitter};
+use dtx_plan::Transmitter;
+use dtx_sizes::MOST_TRANSMITTERS;
 use std::alloc::{AllocError, Global};
 
 /// The exciters of a network, with what the last step brought, and the numbers of all steps.

@@ -5,15 +5,7 @@ ghost use Rattle.dtx_trellis.specs.Pairs.{group_place};
 ghost use Rattle.dtx_trellis.specs.Groups.{levels_of, states_after};
 ghost use Rattle.dtx_slice.specs.Unrolled.{bytes_back, formers_after, formers_in, formers_of};
 
-use crate::sizes::{LAST, SEGMENT, SEGMENT_SYNC};
-use dtx_trellis::{GROUP_BYTES, GROUP_LEVELS};
-
-/// The sizes, in numbers (ATSC A/53 Part 2, data segment; that a field sync repeats twelve symbols, data field sync).
-pub fn sizes()
-    ensures segment { SEGMENT ≡ 832 }
-    ensures sync { SEGMENT_SYNC ≡ 4 }
-    ensures last { LAST ≡ 12 }
-{}
+use dtx_sizes::{GROUP_BYTES, GROUP_LEVELS, PRECODE};
 
 /// Where the former Z2 are those of the coders' states, the bytes of whole groups come back from the levels that the
 /// coders give, and the former Z2 behind them are those of the states that the coders leave.
@@ -37,5 +29,5 @@ pub fn group_after_group()
 /// At the end of a field the former Z2 are those of the last twelve levels, which the field sync behind it repeats.
 pub fn repeated()
     ensures { (s u : ℕ) (formers levels : List ℕ) → length levels ≡ GROUP_LEVELS * u → 0 < u → group_place s u ≡ 0
-        → formers_of (drop (GROUP_LEVELS * u - LAST) levels) ≡ formers_after s formers levels }
+        → formers_of (drop (GROUP_LEVELS * u - PRECODE) levels) ≡ formers_after s formers levels }
 {}

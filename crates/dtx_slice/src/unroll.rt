@@ -3,9 +3,8 @@
 ghost use Rattle.std.specs.Prelude.{◌≡◌, ◌%◌, ◌<◌, EachIndex, length, replicate, slice_index};
 ghost use Rattle.dtx_slice.specs.Unrolled.{bytes_back, formers_after, formers_of};
 
-use crate::sizes::LAST;
 use crate::walk::{last_formers, walk};
-use dtx_trellis::{CODERS, FIELD, GROUP_BYTES, GROUP_LEVELS};
+use dtx_sizes::{CODERS, FIELD_PACKETS, GROUP_BYTES, GROUP_LEVELS, PRECODE};
 use std::marker::Model;
 
 /// The former Z2 of the twelve trellis coders: of each the higher bit of its last symbol (ATSC A/53 Part 2, trellis
@@ -36,7 +35,7 @@ impl Unroll {
     }
 
     /// Takes each coder's former Z2 from the levels of the last twelve symbols of a field sync.
-    pub fn start(&mut self, last: &[u8; LAST])
+    pub fn start(&mut self, last: &[u8; PRECODE])
         requires { EachIndex last.now (λ q. slice_index last.now q < 8) }
         ensures formers { self.new ≡ formers_of last.now }
         ensures long { length self.new ≡ CODERS }
@@ -49,7 +48,7 @@ impl Unroll {
     /// The bytes of the group whose first segment is at place `first` of its field, from its levels. The next group
     /// goes on from the former Z2 that this one leaves.
     pub fn group(&mut self, first: u16, levels: &[u8; GROUP_LEVELS], bytes: &mut [u8; GROUP_BYTES])
-        requires in_field { first < FIELD }
+        requires in_field { first < FIELD_PACKETS }
         requires whole { first % 4 ≡ 0 }
         requires small { EachIndex levels.now (λ d. slice_index levels.now d < 8) }
         ensures bytes { bytes.new ≡ bytes_back first self.old levels.now }
@@ -65,7 +64,7 @@ impl Unroll {
 }
 
 /// Z2 of each coder, from the levels of the last twelve symbols of a field sync.
-fn repeated(last: &[u8; LAST]) -> [u8; CODERS]
+fn repeated(last: &[u8; PRECODE]) -> [u8; CODERS]
     requires { EachIndex last.now (λ q. slice_index last.now q < 8) }
     ensures formers { result ≡ formers_of last.now }
     ensures small { EachIndex result (λ e. slice_index result e < 2) }

@@ -5,7 +5,7 @@ ghost use Rattle.dtx_trellis.specs.Lanes.{coder_turned, turn};
 ghost use Rattle.dtx_slice.specs.Unrolled.{byte_back, former, pair_from};
 ghost use Rattle.dtx_slice.specs.Lanes.{lane_byte, lane_place};
 
-use dtx_trellis::{CODERS, FIELD, GROUP_BYTES, GROUP_LEVELS, ROUNDS, SEGMENT_ROUNDS};
+use dtx_sizes::{CODERS, FIELD_PACKETS, GROUP_BYTES, GROUP_LEVELS, ROUNDS, SEGMENT_ROUNDS};
 use std::simd::prelude::*;
 
 /// How many lanes a vector has. In the four rounds of a byte, lane p is of the coder at place p of the first of them;
@@ -28,7 +28,7 @@ pub(crate) fn walk(
     levels: &[u8; GROUP_LEVELS],
     bytes: &mut [u8; GROUP_BYTES],
 )
-    requires first { first < FIELD }
+    requires first { first < FIELD_PACKETS }
     requires small { EachIndex levels.now (λ d. slice_index levels.now d < 8) }
     requires small_formers { EachIndex formers.now (λ e. slice_index formers.now e < 2) }
     ensures { (j : ℕ) → j < GROUP_BYTES → slice_index bytes.new j ≡ byte_back first formers.now levels.now j }
@@ -44,7 +44,7 @@ pub(crate) fn walk(
 /// out.
 #[inline(always)]
 fn before(formers: &[u8; CODERS], first: usize, levels: &[u8; GROUP_LEVELS], byte: usize) -> u8x16
-    requires first { first < FIELD }
+    requires first { first < FIELD_PACKETS }
     requires byte { byte < CODER_BYTES }
     requires small { EachIndex levels.now (λ d. slice_index levels.now d < 8) }
     requires small_formers { EachIndex formers.now (λ e. slice_index formers.now e < 2) }
@@ -180,7 +180,7 @@ fn store_last(bytes: &mut [u8; GROUP_BYTES], lanes: u8x16)
 
 /// The former Z2 as bit 2, each in the lane of its coder's place in the first round.
 fn laid_out(formers: &[u8; CODERS], first: usize) -> u8x16
-    requires first { first < FIELD }
+    requires first { first < FIELD_PACKETS }
     requires small_formers { EachIndex formers.now (λ e. slice_index formers.now e < 2) }
     ensures long { length result ≡ LANES }
     ensures formers { (p : ℕ) → p < CODERS
@@ -195,7 +195,7 @@ fn laid_out(formers: &[u8; CODERS], first: usize) -> u8x16
 
 /// Z2 of each coder in the last round.
 pub(crate) fn last_formers(first: usize, levels: &[u8; GROUP_LEVELS]) -> [u8; CODERS]
-    requires first { first < FIELD }
+    requires first { first < FIELD_PACKETS }
     requires small { EachIndex levels.now (λ d. slice_index levels.now d < 8) }
     ensures long { length result ≡ CODERS }
     ensures formers { (formers : List ℕ) (e : ℕ) → e < CODERS

@@ -14,8 +14,7 @@ ghost use Rattle.dtx_coder.specs.Runs.{AreStates, AreInTurn, IsRun, after_groups
 ghost use Rattle.dtx_coder.specs.Runs.{last_in, run_segments};
 ghost use Rattle.dtx_coder.specs.Along.{IsNext, RunsAlong, levels_since, states_since};
 
-use crate::sizes::{BRANCH_STEP, BRANCHES, GROUP_PACKETS, SETTLED_PACKETS};
-use dtx_trellis::{FIELD, GROUP_BYTES};
+use dtx_sizes::{BRANCH_STEP, BRANCHES, FILLING_PACKETS, GROUP_BYTES, GROUP_PACKETS};
 
 /// Groups may be cut anywhere: those behind the cut go on from what the ones before it leave.
 pub fn one_after_another()
@@ -87,18 +86,18 @@ pub fn along()
 /// the align, with the coders begun from the preset states at their group.
 pub fn sent_along()
     ensures group { (packets : List (List ℕ)) (g : ℕ) (q : List ℕ) (coder : Coding) (group : Group)
-        → RunsAlong packets g q coder → SETTLED_PACKETS ≤ GROUP_PACKETS * g → IsNext packets coder.states group
+        → RunsAlong packets g q coder → FILLING_PACKETS ≤ GROUP_PACKETS * g → IsNext packets coder.states group
         → segments_of coder group
         ≡ (if group.sync then field_sync group.second coder.last ∷ [] else [])
         ++ four_segments (levels_since g q (packets ++ group.packets)) (length packets - GROUP_PACKETS * g) }
     ensures preset { (packets : List (List ℕ)) (g : ℕ) (q p : List ℕ) (coder : Coding) (group : Group)
-        → RunsAlong packets g q coder → SETTLED_PACKETS ≤ length packets → IsNext packets p group
+        → RunsAlong packets g q coder → FILLING_PACKETS ≤ length packets → IsNext packets p group
         → segments_of coder group
         ≡ (if group.sync then field_sync group.second coder.last ∷ [] else [])
         ++ four_segments (levels_since (length packets / GROUP_PACKETS) p (packets ++ group.packets)) 0 }
     ensures states { (packets : List (List ℕ)) (g : ℕ) (q : List ℕ) (coder : Coding) → RunsAlong packets g q coder
-        → SETTLED_PACKETS ≤ GROUP_PACKETS * g → coder.states ≡ states_since g q packets }
+        → FILLING_PACKETS ≤ GROUP_PACKETS * g → coder.states ≡ states_since g q packets }
     ensures last { (packets : List (List ℕ)) (g : ℕ) (q : List ℕ) (coder : Coding) → RunsAlong packets g q coder
-        → SETTLED_PACKETS ≤ GROUP_PACKETS * g → GROUP_PACKETS * g < length packets
+        → FILLING_PACKETS ≤ GROUP_PACKETS * g → GROUP_PACKETS * g < length packets
         → coder.last ≡ last_of (segment (levels_since g q packets) (length packets - GROUP_PACKETS * g - 1)) }
 {}

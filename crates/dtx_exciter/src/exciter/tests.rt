@@ -6,9 +6,9 @@ use super::*;
 use crate::answers::Preset;
 use arrayvec::ArrayVec;
 use dtx_clock::{Moment, stamp};
-use dtx_frame::SEGMENT;
 use dtx_ops::{Entry, write};
 use dtx_rs::Rs;
+use dtx_sizes::{GROUP_PACKETS, PACKET, SEGMENT};
 use std::test::Fail;
 
 /// A feed as an adapter makes it, four packets at a time, and the segments of its own symbols.

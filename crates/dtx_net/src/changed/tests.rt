@@ -4,8 +4,9 @@ use super::{Liar, flipped, lied};
 use dtx_correct::Linear;
 use dtx_laws::Encode;
 use dtx_ops::read;
-use dtx_packets::{PACKET, Packet};
+use dtx_packets::Packet;
 use dtx_rs::Rs;
+use dtx_sizes::PACKET;
 use dtx_trellis::States;
 use std::test::Fail;
 

@@ -6,11 +6,12 @@ use super::tests::answered;
 use super::*;
 use arrayvec::ArrayVec;
 use dtx_clock::stamp;
-use dtx_coder::{Air, Coder, GROUP_PACKETS};
+use dtx_coder::{Air, Coder};
 use dtx_ops::{Entry, Ops};
 use dtx_outside::{Call, MemoryShelf, MemorySink};
-use dtx_packets::{PACKET, Packet};
+use dtx_packets::Packet;
 use dtx_rs::Rs;
+use dtx_sizes::{GROUP_PACKETS, PACKET};
 use dtx_trellis::States;
 use std::test::Fail;
 
