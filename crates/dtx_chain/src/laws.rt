@@ -9,13 +9,13 @@ ghost use Rattle.dtx_laws.specs.Codeword.{distance};
 ghost use Rattle.dtx_frame.specs.Segments.{field_sync};
 ghost use Rattle.dtx_coder.specs.Stream.{a53, levels, segment};
 ghost use Rattle.dtx_outer.specs.Inner.{IsComplete, word_at};
-ghost use Rattle.dtx_receiver.specs.Packets.{all_packets, packets_of, received, received_at};
+ghost use Rattle.dtx_receiver.specs.Packets.{all_packets, run_packets, received, received_at};
 ghost use Rattle.dtx_receiver.specs.declared.batch.Received.{Received};
 ghost use Rattle.dtx_receiver.specs.Runs.{runs};
 ghost use Rattle.dtx_chain.specs.Damage.{AreReceived, IsNear, IsSlight, as_corrected, codeword_at, from_sync};
 ghost use Rattle.dtx_chain.specs.Damage.{numbers_in};
 ghost use Rattle.dtx_chain.specs.Damage.{packet_behind, to_sync, word_in};
-ghost use Rattle.dtx_chain.specs.Undamaged.{ArePackets, as_sent, whole_words, with_sync};
+ghost use Rattle.dtx_chain.specs.Undamaged.{ArePackets, as_sent, whole_words, as_received};
 
 use dtx_sizes::{FIELD_PACKETS, FIELD_SEGMENTS, GROUP_PACKETS, PACKET};
 
@@ -26,7 +26,7 @@ pub fn received_undamaged()
     ensures good { (packets : List (List ℕ)) → GROUP_PACKETS ≤ length packets → ArePackets packets
         → all_packets (a53 packets) ≡ map (as_sent packets) (whole_words packets) }
     ensures packets { (packets : List (List ℕ)) → GROUP_PACKETS ≤ length packets → ArePackets packets
-        → received (a53 packets) ≡ map (λ k. with_sync (slice_index_or packets k [])) (whole_words packets) }
+        → received (a53 packets) ≡ map (λ k. as_received (slice_index_or packets k [])) (whole_words packets) }
 {}
 
 /// Word j of the bytes of any run gives packet f + j of a stream back, received good and with 0x47 as its sync byte,
@@ -38,7 +38,7 @@ pub fn gives_back()
         → f + j < length packets → IsNear packets (f + j) (word_at 207 52 4 bytes j)
         → received_at bytes j ≡ as_corrected packets (f + j) (word_at 207 52 4 bytes j) }
     ensures place { (bytes : List ℕ) (j : ℕ) (other : Received) → IsComplete 207 52 4 (length bytes) j
-        → slice_index_or (packets_of bytes) j other ≡ received_at bytes j }
+        → slice_index_or (run_packets bytes) j other ≡ received_at bytes j }
 {}
 
 /// Where the symbols of segments in a row of a stream are received with slight damage, and a field sync is among them,
@@ -51,7 +51,7 @@ pub fn gives_all_back()
     ensures packets { (packets : List (List ℕ)) (first : ℕ) (sent got : List (List ℤ))
         → AreReceived packets first sent got → to_sync first < length sent → IsSlight packets first sent got
         → ArePackets packets
-        → received got ≡ map (λ j. with_sync (slice_index_or packets (packet_behind first + j) []))
+        → received got ≡ map (λ j. as_received (slice_index_or packets (packet_behind first + j) []))
         (numbers_in (from_sync first got)) }
     ensures good { (packets : List (List ℕ)) (first : ℕ) (sent got : List (List ℤ)) → AreReceived packets first sent got
         → to_sync first < length sent → IsSlight packets first sent got → ArePackets packets
@@ -69,7 +69,7 @@ pub fn eleven_are_too_many()
     ensures { (packets : List (List ℕ)) (f j : ℕ) → ArePackets packets → f % FIELD_PACKETS ≡ 0 → f + j < length packets
         → (word : List ℕ) × (length word ≡ 207) × AreBytes word × (distance word (codeword_at packets (f + j)) ≡ 11)
         × ((bytes : List ℕ) → word_at 207 52 4 bytes j ≡ word
-        → (received_at bytes j).packet.0 ≢ with_sync (slice_index_or packets (f + j) [])) }
+        → (received_at bytes j).packet.0 ≢ as_received (slice_index_or packets (f + j) [])) }
 {}
 
 /// Each packet that is received has 188 bytes, whatever the segments are.

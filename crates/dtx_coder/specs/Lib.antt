@@ -14,5 +14,5 @@ pub mod NextLaws
 pub mod KeptLaws
 pub mod AlongLaws
 pub mod RunsLaws
-pub mod SettledLaws
+pub mod FlushedLaws
 pub mod AlignLaws

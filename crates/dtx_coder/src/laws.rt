@@ -9,14 +9,14 @@ ghost use Rattle.dtx_trellis.specs.Groups.{levels_of, states_after};
 ghost use Rattle.dtx_coder.specs.Coded.{whole_groups};
 ghost use Rattle.dtx_coder.specs.Stream.{levels, states, four_segments, group_segments, a53, a53_symbols};
 ghost use Rattle.dtx_coder.specs.Groups.{Coding, Group, StandsFor, IsNextGroup, new_coding, aligned_coding};
-ghost use Rattle.dtx_coder.specs.Groups.{after_group, segments_of, coded_groups, bytes_of_groups};
+ghost use Rattle.dtx_coder.specs.Groups.{after_group, air_segments, coded_groups, bytes_of_groups};
 ghost use Rattle.dtx_coder.specs.Runs.{AreStates};
 
 pub mod runs;
 
 use crate::air::MOST_SEGMENTS;
 use dtx_sizes::{
-    BRANCH_STEP, BRANCHES, CODEWORD, FIELD_PACKETS, FILLING_PACKETS, GROUP_BYTES, GROUP_PACKETS,
+    BRANCH_STEP, BRANCHES, CODEWORD, FIELD_PACKETS, FLUSHING_PACKETS, GROUP_BYTES, GROUP_PACKETS,
     PRECODE, SEGMENT,
 };
 
@@ -34,7 +34,7 @@ pub fn next_group()
         → StandsFor (after_group coder group) (packets ++ group.packets) }
     ensures segments { (coder : Coding) (packets : List (List ℕ)) (group : Group) → StandsFor coder packets
         → IsNextGroup packets coder.states group
-        → a53 (packets ++ group.packets) ≡ a53 packets ++ segments_of coder group }
+        → a53 (packets ++ group.packets) ≡ a53 packets ++ air_segments coder group }
 {}
 
 /// The segments of a stream begin with those of its first groups, and packets behind the last whole group add none.
@@ -83,13 +83,13 @@ pub fn behind_align()
 /// Behind an align, whatever the coder held, the bytes that leave as packet 52 and each later one come are those of the
 /// packets given since, and no byte from before is among them: so it is of the 828 bytes of each group whose first
 /// packet is packet 52 since or a later one.
-pub fn settled()
+pub fn flushed()
     ensures bytes { (coder : Coding) (groups : List Group) (n : ℕ)
-        → HasWidths BRANCHES (spreading BRANCH_STEP) coder.branches → CODEWORD * FILLING_PACKETS ≤ n
+        → HasWidths BRANCHES (spreading BRANCH_STEP) coder.branches → CODEWORD * FLUSHING_PACKETS ≤ n
         → drop n (bytes_of_groups (aligned_coding coder) groups)
         ≡ drop n (interleaved BRANCHES BRANCH_STEP (coded_groups groups)) }
     ensures group { (coder : Coding) (groups : List Group) (u : ℕ)
-        → HasWidths BRANCHES (spreading BRANCH_STEP) coder.branches → FILLING_PACKETS ≤ GROUP_PACKETS * u
+        → HasWidths BRANCHES (spreading BRANCH_STEP) coder.branches → FLUSHING_PACKETS ≤ GROUP_PACKETS * u
         → slice_range (bytes_of_groups (aligned_coding coder) groups) (GROUP_BYTES * u) (GROUP_BYTES * u + GROUP_BYTES)
         ≡ slice_range (interleaved BRANCHES BRANCH_STEP (coded_groups groups)) (GROUP_BYTES * u)
         (GROUP_BYTES * u + GROUP_BYTES) }
@@ -98,9 +98,10 @@ pub fn settled()
 /// A group of four packets has five segments where a field sync stands before it, else four, of 832 symbols each.
 pub fn group_counts()
     ensures segments { (coder : Coding) (group : Group)
-        → length (segments_of coder group) ≡ (if group.sync then MOST_SEGMENTS else GROUP_PACKETS) }
+        → length (air_segments coder group) ≡ (if group.sync then MOST_SEGMENTS else GROUP_PACKETS) }
     ensures long { (coder : Coding) (group : Group) → length group.packets ≡ GROUP_PACKETS → length coder.last ≡ PRECODE
-        → EachIndex (segments_of coder group) (λ n. length (slice_index_or (segments_of coder group) n []) ≡ SEGMENT) }
+        → EachIndex (air_segments coder group) (λ n. length (slice_index_or (air_segments coder group) n [])
+        ≡ SEGMENT) }
 {}
 
 /// What stays of a coder's parts with each group of four packets: twelve states, twelve last symbols, branches of their

@@ -25,7 +25,7 @@ pub struct Exciter {
     delay: u32,
     corrector: Corrector,
     anchor: Anchor,
-    settled: bool,
+    flushed: bool,
     sent: bool,
     packets: [Packet; GROUP_PACKETS],
     coder: Coder,
@@ -42,7 +42,7 @@ impl Exciter {
             delay,
             corrector: Corrector::new(),
             anchor: Anchor::new(),
-            settled: false,
+            flushed: false,
             sent: false,
             packets: [Packet([0; PACKET]); GROUP_PACKETS],
             coder: Coder::new(alloc)?,
@@ -88,7 +88,7 @@ impl Exciter {
         self.coder.known();
         self.coder.align();
         self.packets[0] = *packet;
-        self.settled = false;
+        self.flushed = false;
         self.sent = false;
     }
 
@@ -104,7 +104,7 @@ impl Exciter {
             return Told::Quiet;
         }
         let told = self.send(place - 3, air);
-        self.settled = is_settled(self.settled, place);
+        self.flushed = is_flushed(self.flushed, place);
         told
     }
 
@@ -130,10 +130,10 @@ impl Exciter {
     /// The group's own order, where it counts.
     fn order(&self, first: u16) -> Option<Ops>
         requires { first < 624 }
-        ensures order { result ≡ own_order self.now.settled first (bytes_of self.now.packets) }
+        ensures order { result ≡ own_order self.now.flushed first (bytes_of self.now.packets) }
         ensures valid { IfSome result IsValid }
     {
-        if self.settled {
+        if self.flushed {
             order_in(&self.corrector, first, &self.packets)
         } else {
             None
@@ -160,7 +160,7 @@ impl Exciter {
 }
 
 /// Whether 52 or more packets stand under the anchor, as the packet at this place has joined them.
-fn is_settled(before: bool, place: u16) -> bool
+fn is_flushed(before: bool, place: u16) -> bool
     ensures { result ≡ (before || (place == 51)) }
 {
     before || place == 51

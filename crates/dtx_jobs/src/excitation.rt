@@ -121,7 +121,7 @@ impl Engine for Excitation {
 
     ghost shape = { shapes.single_packets };
 
-    ghost making = { λ s. exciting s.address s.delay };
+    ghost recipe = { λ s. exciting s.address s.delay };
 
     ghost stands = { WasExcited };
 

@@ -3,7 +3,7 @@ ghost use Rattle.std.specs.Prelude.{◌≡◌, ◌+◌, ◌*◌, ◌/◌, ◌%�
 ghost use Rattle.dtx_adapter.specs.Adapting.{StandsFor};
 ghost use Rattle.dtx_adapter.specs.Feed.{feed, placeholders};
 ghost use Rattle.dtx_engine.specs.Made.{only};
-ghost use Rattle.dtx_engine.specs.Making.{IsFed};
+ghost use Rattle.dtx_engine.specs.Recipe.{IsFed};
 ghost use Rattle.dtx_packets.specs.Packets.{packets_of, whole_packets};
 ghost use Rattle.dtx_plan.specs.Sound.{IsSound};
 ghost use Rattle.dtx_plan.specs.declared.plan.Plan.{Plan};
@@ -40,7 +40,7 @@ impl<'a> Feeder<'a> {
     pub fn new(alloc: Global, plan: &'a Plan) -> Result<Feeder<'a>, AllocError>
         requires { IsSound plan.now }
         ensures fresh { IfOk result (λ feeder. ⟦<Feeder<'a> as Engine>⟧.stands feeder []) }
-        ensures making { IfOk result (λ feeder. ⟦<Feeder<'a> as Engine>⟧.making feeder ≡ feeding plan.now) }
+        ensures recipe { IfOk result (λ feeder. ⟦<Feeder<'a> as Engine>⟧.recipe feeder ≡ feeding plan.now) }
     {
         Ok(Feeder {
             plan,
@@ -103,7 +103,7 @@ impl Engine for Feeder<'_> {
 
     ghost shape = { shapes.packets };
 
-    ghost making = { λ s. feeding s.plan.now };
+    ghost recipe = { λ s. feeding s.plan.now };
 
     ghost stands = { HasFed };
 

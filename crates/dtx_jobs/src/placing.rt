@@ -8,10 +8,10 @@ ghost use Rattle.dtx_jobs.specs.Place.{IsCounted, as_placeholder};
 use crate::shapes::single_packets;
 use dtx_engine::{Change, Shape};
 use dtx_meaning::{Outcome, Status};
-use dtx_sizes::{FIELD_PACKETS, FILLING_PACKETS, NULL_PID, OPERATIONS_PID, SYNC};
+use dtx_sizes::{FIELD_PACKETS, FLUSHING_PACKETS, NULL_PID, OPERATIONS_PID, SYNC};
 
 /// The first place of a field at which a placeholder is put: so many packets behind its mark.
-const FIRST_PLACE: u64 = FILLING_PACKETS as u64;
+const FIRST_PLACE: u64 = FLUSHING_PACKETS as u64;
 
 /// Turns null packets into placeholders, and counts.
 #[derive(Clone, Copy)]

@@ -1,6 +1,6 @@
 // In which units the commands read their inputs.
 ghost use Rattle.std.specs.Prelude.{◌≡◌};
-ghost use Rattle.dtx_engine.specs.Making.{IsSound};
+ghost use Rattle.dtx_engine.specs.Recipe.{IsSound};
 ghost use Rattle.dtx_jobs.specs.Shapes as shapes;
 
 use dtx_engine::Shape;

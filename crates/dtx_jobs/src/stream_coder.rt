@@ -106,7 +106,7 @@ impl Engine for StreamCoder {
 
     ghost shape = { shapes.packets };
 
-    ghost making = { λ _. coding };
+    ghost recipe = { λ _. coding };
 
     ghost stands = { WasCoded };
 

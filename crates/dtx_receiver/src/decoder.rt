@@ -2,9 +2,9 @@
 
 ghost use Rattle.std.specs.Prelude.{◌≡◌, ℕ, ℤ, ◌+◌, ◌%◌, ◌≤◌, ◌<◌, ◌++◌, ◌∷◌, [], List, IfOk, length};
 ghost use Rattle.dtx_outer.specs.Inner.{StandsFor};
-ghost use Rattle.dtx_slice.specs.Unrolled.{bytes_back, formers_after};
+ghost use Rattle.dtx_slice.specs.Unrolled.{bytes_back, precoder_bits_after};
 ghost use Rattle.dtx_receiver.specs.Bytes.{bytes_in};
-ghost use Rattle.dtx_receiver.specs.Packets.{early_of, packets_of};
+ghost use Rattle.dtx_receiver.specs.Packets.{early_of, run_packets};
 ghost use Rattle.dtx_receiver.specs.Receiver.{Decodes};
 ghost use Rattle.dtx_receiver.specs.declared.batch.Received.{Received};
 
@@ -35,7 +35,7 @@ impl Model for Decoder {
 
     ghost Value = { Decoding };
 
-    ghost view = { λ d. record { levels = d.levels; formers = d.unroll; inner = d.inner; turn = d.turn } };
+    ghost view = { λ d. record { levels = d.levels; precoder_bits = d.unroll; inner = d.inner; turn = d.turn } };
 
     ghost invariant = { λ d. IsDecoding d.levels d.inner d.turn };
 }
@@ -83,7 +83,7 @@ impl Decoder {
         requires room { length batch.old.packets.items ≤ 4 }
         ensures { (run : List (List ℤ)) (before : List Received) → Decodes self.old run
             → early_of (bytes_in run) ≡ before ++ batch.old.packets.items
-            → packets_of (bytes_in run) ≡ before ++ batch.new.packets.items }
+            → run_packets (bytes_in run) ≡ before ++ batch.new.packets.items }
     {
         if self.turn == 0 {
             give(&mut self.inner, &[0; CODEWORD], batch);
@@ -96,15 +96,16 @@ impl Decoder {
         requires whole { first % 4 ≡ 0 }
         requires room { length batch.old.packets.items ≤ 4 }
         ensures levels { self.new.levels ≡ self.old.levels }
-        ensures formers { self.new.formers ≡ formers_after first self.old.formers self.old.levels }
+        ensures precoder_bits { self.new.precoder_bits ≡ precoder_bits_after first self.old.precoder_bits
+            self.old.levels }
         ensures turn { self.new.turn ≡ (self.old.turn + 4) % 52 }
         ensures stands { (before : List ℕ) → StandsFor CODEWORD PACKET_DATA BRANCHES BRANCH_STEP self.old.inner before
             → StandsFor CODEWORD PACKET_DATA BRANCHES BRANCH_STEP self.new.inner (before
-            ++ bytes_back first self.old.formers self.old.levels) }
+            ++ bytes_back first self.old.precoder_bits self.old.levels) }
         ensures packets { (before : List ℕ) (given : List Received)
             → StandsFor CODEWORD PACKET_DATA BRANCHES BRANCH_STEP self.old.inner before
             → early_of before ≡ given ++ batch.old.packets.items
-            → early_of (before ++ bytes_back first self.old.formers self.old.levels) ≡ given
+            → early_of (before ++ bytes_back first self.old.precoder_bits self.old.levels) ≡ given
             ++ batch.new.packets.items }
     {
         let mut bytes = [0; GROUP_BYTES];

@@ -5,8 +5,8 @@ use Rattle.std.specs.Prelude.{Option, Some, None, IfSome, nat_lt, slice_index}
 use Rattle.std.specs.FinMap.{get}
 use Rattle.std.proofs.lemmas.List.{append-nil}
 use Rattle.dtx_adapter.specs.Feed.{placeholders}
-use Rattle.dtx_engine.specs.Making.{Course, Making, course_from, first_refused, first_units, meaning, meaning_at}
-use Rattle.dtx_engine.specs.Making.{meaning_of_file, whole_units}
+use Rattle.dtx_engine.specs.Recipe.{Course, Recipe, course_from, first_refused, first_units, meaning, meaning_at}
+use Rattle.dtx_engine.specs.Recipe.{meaning_of_file, whole_units}
 use Rattle.dtx_engine.specs.declared.engine.Shape.{Shape}
 use Rattle.dtx_engine.specs.declared.piece.Ending.TheVariants.{Whole, Refused}
 use Rattle.dtx_jobs.specs.Feed.{feed_bytes}
@@ -31,37 +31,37 @@ use Rattle.dtx_replay.proofs.Carrying.{is_done_is}
 
 -- ---- all units of an input were allowed, and are not too many
 
-pub record AreAllTaken (shape : Shape) (making : Making) (file : List ℕ) : Type 0 where
-  pub none : first_refused shape making file ≡ None
+pub record AreAllTaken (shape : Shape) (recipe : Recipe) (file : List ℕ) : Type 0 where
+  pub none : first_refused shape recipe file ≡ None
   pub few : nat_lt shape.limit (whole_units shape file) ≡ false
 
 -- so it is where the answer is that the command is done
-pub all_taken : (shape : Shape) (making : Making) (names : List (List ℕ)) (file : List ℕ)
-    → (meaning_of_file shape making names file).outcome.status ≡ Done → AreAllTaken shape making file
-all_taken shape making names file done = by_first (first_refused shape making file) refl done
+pub all_taken : (shape : Shape) (recipe : Recipe) (names : List (List ℕ)) (file : List ℕ)
+    → (meaning_of_file shape recipe names file).outcome.status ≡ Done → AreAllTaken shape recipe file
+all_taken shape recipe names file done = by_first (first_refused shape recipe file) refl done
   where
     means_at : Course → Meaning
-    means_at course = meaning_at making names (first_units shape file course.taken) course.ending
+    means_at course = meaning_at recipe names (first_units shape file course.taken) course.ending
 
-    by_few : (b : Bool) → nat_lt shape.limit (whole_units shape file) ≡ b → first_refused shape making file ≡ None
+    by_few : (b : Bool) → nat_lt shape.limit (whole_units shape file) ≡ b → first_refused shape recipe file ≡ None
         → (means_at (cond b (record { taken = shape.limit; ending = Refused TooLong })
         (record { taken = whole_units shape file; ending = Whole (length file % shape.unit) }))).outcome.status ≡ Done
-        → AreAllTaken shape making file
+        → AreAllTaken shape recipe file
     by_few true few none done = cc
     by_few false few none done = record { none = none; few = few }
 
-    by_first : (o : Option ℕ) → first_refused shape making file ≡ o
+    by_first : (o : Option ℕ) → first_refused shape recipe file ≡ o
         → (means_at (course_from shape file o)).outcome.status ≡ Done
-        → AreAllTaken shape making file
+        → AreAllTaken shape recipe file
     by_first (Some k) is done = cc
     by_first None is done = by_few (nat_lt shape.limit (whole_units shape file)) refl is done
 
-pub taken_means : (shape : Shape) (making : Making) (names : List (List ℕ)) (file : List ℕ)
-    → AreAllTaken shape making file
-    → meaning_of_file shape making names file ≡ meaning_at making names
+pub taken_means : (shape : Shape) (recipe : Recipe) (names : List (List ℕ)) (file : List ℕ)
+    → AreAllTaken shape recipe file
+    → meaning_of_file shape recipe names file ≡ meaning_at recipe names
     (first_units shape file (whole_units shape file)) (Whole (length file % shape.unit))
-taken_means shape making names file all =
-    ap (λ (c : Course). meaning_at making names (first_units shape file c.taken) c.ending)
+taken_means shape recipe names file all =
+    ap (λ (c : Course). meaning_at recipe names (first_units shape file c.taken) c.ending)
     (ap (course_from shape file) all.none
     ∙ ap (λ (b : Bool). cond b (record { taken = shape.limit; ending = Refused TooLong })
     (record { taken = whole_units shape file; ending = Whole (length file % shape.unit) })) all.few)

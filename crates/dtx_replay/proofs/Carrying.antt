@@ -3,9 +3,9 @@ use Rattle.std.proofs.Common.{◌≡◌, ℕ, Bool, true, false, cond, List, [],
 use Rattle.std.proofs.Common.{inr}
 use Rattle.std.specs.Prelude.{Option, Some, None, IfSome, slice_index}
 use Rattle.std.specs.FinMap.{get}
-use Rattle.dtx_engine.specs.Making.{Making, meaning}
+use Rattle.dtx_engine.specs.Recipe.{Recipe, meaning}
 use Rattle.dtx_engine.specs.declared.engine.Shape.{Shape}
-use Rattle.dtx_jobs.specs.Damaged.{damaged}
+use Rattle.dtx_jobs.specs.Damaged.{damaged_making}
 use Rattle.dtx_jobs.specs.PastEnd.{first_past}
 use Rattle.dtx_jobs.specs.Receive.{receiving}
 use Rattle.dtx_jobs.specs.Shapes.{segments}
@@ -21,14 +21,14 @@ use Rattle.dtx_words.specs.NetworkNames.{received_name}
 use Rattle.dtx_replay.specs.NetMeaning.{answered, is_done, received_past, with_received}
 
 -- the engine's making, the output's name and the input's are these
-pub carried_by : (told now : Option Files) (outcome : Outcome) (shape : Shape) (made said : Making) (number : ℕ)
+pub carried_by : (told now : Option Files) (outcome : Outcome) (shape : Shape) (made said : Recipe) (number : ℕ)
     (out output name input : List ℕ)
     → made ≡ said → out ≡ output → name ≡ input
     → IfSome told (λ held. IsCarriedOut (meaning shape made number (out ∷ []) (get held name)) (Some held) outcome now)
     → IfSome told (λ held. IsCarriedOut (meaning shape said number (output ∷ []) (get held input))
     (Some held) outcome now)
 carried_by told now outcome shape made said number out output name input same its named carried =
-    subst (λ (m : Making). IfSome told (λ held. IsCarriedOut (meaning shape m number (output ∷ []) (get held input))
+    subst (λ (m : Recipe). IfSome told (λ held. IsCarriedOut (meaning shape m number (output ∷ []) (get held input))
     (Some held) outcome now)) same
     (subst (λ (o : List ℕ). IfSome told (λ held. IsCarriedOut (meaning shape made number (o ∷ []) (get held input))
     (Some held) outcome now)) its
@@ -51,18 +51,20 @@ pub within_air : (damage : List Damage) (file name : List ℕ) (symbols : ℕ) (
     (outcome : Outcome)
     → first_past damage symbols ≡ None → first_past damage symbols ≡ first_past damage (length file) → told ≡ Some held
     → get held name ≡ Some file
-    → IfSome told (λ held. IsCarriedOut (meaning segments (damaged damage receiving) 3 (received_name ∷ [])
+    → IfSome told (λ held. IsCarriedOut (meaning segments (damaged_making damage receiving) 3 (received_name ∷ [])
     (get held name)) (Some held) outcome now)
     → IsCarriedOut (received_past (first_past damage (length file)) damage file) (Some held) outcome now
 within_air damage file name symbols held told now outcome none serves is there carried =
-    let here : IsCarriedOut (meaning segments (damaged damage receiving) 3 (received_name ∷ []) (get held name))
+    let here : IsCarriedOut (meaning segments (damaged_making damage receiving) 3 (received_name ∷ []) (get held name))
     (Some held) outcome now =
     subst (λ (t : Option Files). IfSome t (λ held. IsCarriedOut
-    (meaning segments (damaged damage receiving) 3 (received_name ∷ []) (get held name)) (Some held) outcome now))
+    (meaning segments (damaged_making damage receiving) 3 (received_name ∷ []) (get held name))
+    (Some held) outcome now))
     is carried in
     subst (λ (o : Option ℕ). IsCarriedOut (received_past o damage file) (Some held) outcome now) (sym none ∙ serves)
     (subst (λ (found : Option (List ℕ)). IsCarriedOut
-    (meaning segments (damaged damage receiving) 3 (received_name ∷ []) found) (Some held) outcome now) there here)
+    (meaning segments (damaged_making damage receiving) 3 (received_name ∷ []) found)
+    (Some held) outcome now) there here)
 
 -- ---- the answer of what was received
 

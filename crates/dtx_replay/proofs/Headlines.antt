@@ -11,8 +11,8 @@ use Rattle.std.proofs.lemmas.List.Elements.{All-get_or}
 use Rattle.std.proofs.lemmas.Option.{slice_get_within, get_or_from_slice_get}
 use Rattle.dtx_chain.specs.ReceivedLaws.{all_whole}
 use Rattle.dtx_engine.specs.Made.{Made, outputs_of}
-use Rattle.dtx_engine.specs.Making.{Making, first_units, meaning_of_file, whole_units}
-use Rattle.dtx_jobs.specs.Damaged.{damaged}
+use Rattle.dtx_engine.specs.Recipe.{Recipe, first_units, meaning_of_file, whole_units}
+use Rattle.dtx_jobs.specs.Damaged.{damaged_making}
 use Rattle.dtx_jobs.specs.Feed.{feed_bytes}
 use Rattle.dtx_jobs.specs.PacketFileLaws.{packets_of-bytes}
 use Rattle.dtx_jobs.specs.PastEnd.{first_past}
@@ -32,8 +32,8 @@ use Rattle.dtx_network.specs.Network.{steps_under}
 use Rattle.dtx_network.specs.Plans.{IsPlan, IsStream}
 use Rattle.dtx_outside.specs.Shelf.{Files}
 use Rattle.dtx_packets.specs.Packets.{packets_of}
-use Rattle.dtx_net.specs.Sent.{segments_of}
-use Rattle.dtx_net.specs.Steps.{place_of}
+use Rattle.dtx_net.specs.Sent.{sent_segments}
+use Rattle.dtx_net.specs.Steps.{transmitter_place}
 use Rattle.dtx_plan.specs.WalksLaws.{plan_sound, plan_transmitters}
 use Rattle.dtx_plan.specs.Plan.{plan_of}
 use Rattle.dtx_plan.specs.Sound.{IsTransmitter}
@@ -65,7 +65,7 @@ use Rattle.dtx_replay.proofs.Streams.{is_stream}
 sent_whole : (plan : Plan) (network : NetPlan) (stream : List (List ℕ)) (address : ℕ)
     → (n : ℕ) × (length (sent_file plan network stream address) ≡ 832 * n)
 unfolding sent_file
-sent_whole plan network stream address = by_place (place_of address plan.transmitters.items)
+sent_whole plan network stream address = by_place (transmitter_place address plan.transmitters.items)
   where
     at : ℕ → Option Transmitter → List ℕ
     at who o = option_map_or (λ t. symbol_file t who (steps_under plan stream network.events)) o []
@@ -73,7 +73,7 @@ sent_whole plan network stream address = by_place (place_of address plan.transmi
     by_transmitter : (who : ℕ) (o : Option Transmitter) → (n : ℕ) × (length (at who o) ≡ 832 * n)
     by_transmitter who None = (0, refl)
     by_transmitter who (Some t) = (
-      length (segments_of t who (steps_under plan stream network.events)),
+      length (sent_segments t who (steps_under plan stream network.events)),
       length-symbol_file t who (steps_under plan stream network.events),
     )
 
@@ -116,8 +116,8 @@ received_done plan network stream receiver done = by_past (first_past receiver.d
     file : List ℕ
     file = sent_file plan network stream receiver.from
 
-    making : Making
-    making = damaged receiver.damage receiving
+    recipe : Recipe
+    recipe = damaged_making receiver.damage receiving
 
     by_past : (o : Option ℕ) → (received_past o receiver.damage file).outcome.status ≡ Done
         → (received_past o receiver.damage file).outputs ≡ (
@@ -126,11 +126,11 @@ received_done plan network stream receiver done = by_past (first_past receiver.d
         ) ∷ []
     by_past (Some entry) done = cc
     by_past None done =
-        let all = all_taken segments making (received_name ∷ []) file done in
+        let all = all_taken segments recipe (received_name ∷ []) file done in
         let given : List ℕ = first_units segments file (whole_units segments file) in
         let long = sent_whole plan network stream receiver.from in
         let same : given ≡ file = all_given file long.0 long.1 in
-        ap (λ (m : Meaning). m.outputs) (taken_means segments making (received_name ∷ []) file all)
+        ap (λ (m : Meaning). m.outputs) (taken_means segments recipe (received_name ∷ []) file all)
         ∙ ap (λ (m : Made). outputs_of (received_name ∷ []) m) (receives_all (hurt receiver.damage given))
         ∙ ap (λ (f : List ℕ). (received_name, received_bytes (hurt receiver.damage f)) ∷ []) same
 
@@ -193,9 +193,9 @@ done_outputs plan network file done = at_first (is_done first.outcome.status) re
 received_back : (plan : Plan) (network : NetPlan) (stream : List (List ℕ)) (held now : Files)
     → AreWholeFiles plan network stream held now → (receiver : ReceivePlan) → network.receive ≡ Some receiver
     → IsSomeAnd (get now received_name)
-    (λ file. packets_of file ≡ received (symbols.segments_of (damaged_file plan network stream receiver)))
+    (λ file. packets_of file ≡ received (symbols.file_segments (damaged_file plan network stream receiver)))
 received_back plan network stream held now files receiver receives =
-    let back : List (List ℤ) = symbols.segments_of (damaged_file plan network stream receiver) in
+    let back : List (List ℤ) = symbols.file_segments (damaged_file plan network stream receiver) in
     let there : get now received_name ≡ Some (packets_received plan network stream receiver) =
     subst (λ (o : Option ReceivePlan). IfSome o (λ r. get now received_name
     ≡ Some (packets_received plan network stream r))) receives files.received in
@@ -212,9 +212,9 @@ headline_of law plan network stream held now plans streams files =
       segments = λ who t listed. segments_of_file t who (steps_under plan stream network.events);
       headline = h;
       gives_back = λ receiver x receives from. (h.follows x).gives_back
-          (symbols.segments_of (damaged_file plan network stream receiver));
+          (symbols.file_segments (damaged_file plan network stream receiver));
       gives_all_back = λ receiver x receives from. (h.follows x).gives_all_back
-          (symbols.segments_of (damaged_file plan network stream receiver));
+          (symbols.file_segments (damaged_file plan network stream receiver));
       packets = received_back plan network stream held now files;
     }
 

@@ -50,17 +50,17 @@ from_back bs n (s ∷ ss) long back here =
 -- ---- the symbol file of a transmitter
 
 pub whole_segments_sent : (t : Transmitter) (who : ℕ) (steps : List Step)
-    → whole_segments (symbol_file t who steps) ≡ length (sent.segments_of t who steps)
+    → whole_segments (symbol_file t who steps) ≡ length (sent.sent_segments t who steps)
 whole_segments_sent t who steps = ap (λ n. n / 832) (length-symbol_file t who steps)
-    ∙ back (length (sent.segments_of t who steps))
+    ∙ back (length (sent.sent_segments t who steps))
   where
     back : (n : ℕ) → 832 * n / 832 ≡ n
     back n = omega arith
 
 pub segments_of_file : (t : Transmitter) (who : ℕ) (steps : List Step)
-    → file.segments_of (symbol_file t who steps) ≡ sent.segments_of t who steps
+    → file.file_segments (symbol_file t who steps) ≡ sent.sent_segments t who steps
 unfolding symbol_file
 segments_of_file t who steps =
     ap (λ n. segments_from (symbol_file t who steps) 0 n) (whole_segments_sent t who steps)
-    ∙ from_back (symbol_file t who steps) 0 (sent.segments_of t who steps) (sent_long t who steps)
+    ∙ from_back (symbol_file t who steps) 0 (sent.sent_segments t who steps) (sent_long t who steps)
     (sent_back t who steps) refl

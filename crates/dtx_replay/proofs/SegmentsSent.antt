@@ -15,15 +15,16 @@ use Rattle.dtx_coder.specs.BytesLaws.{length-whole}
 use Rattle.dtx_coder.specs.CountsLaws.{AreSegments, segments_append, segments_map, segment_at}
 use Rattle.dtx_coder.specs.LevelsLaws.{length-levels_of}
 use Rattle.dtx_coder.specs.SegmentsLaws.{length-segment}
-use Rattle.dtx_exciter.specs.Emission.{segments_since, sent_by, sent_at, sent_before, with_sync, given_under, given}
+use Rattle.dtx_exciter.specs.Emission.{segments_since, sent_by, sent_at, sent_before, behind_field_sync, given_under}
+use Rattle.dtx_exciter.specs.Emission.{last_segments}
 use Rattle.dtx_exciter.specs.Emission.{emission}
 use Rattle.dtx_exciter.specs.Order.{Order, in_force}
-use Rattle.dtx_exciter.specs.Packets.{said, under}
+use Rattle.dtx_exciter.specs.Packets.{readings, under}
 use Rattle.dtx_exciter.specs.Told.{served}
 use Rattle.dtx_exciter.specs.ForceLaws.{force_first, force_stands}
 use Rattle.dtx_files.specs.Symbols.{byte_of_symbol}
 use Rattle.dtx_net.specs.Lives.{lives_of}
-use Rattle.dtx_net.specs.Sent.{segments_of}
+use Rattle.dtx_net.specs.Sent.{sent_segments}
 use Rattle.dtx_net.specs.Steps.{Step}
 use Rattle.dtx_plan.specs.declared.transmitter.Transmitter.{Transmitter}
 use Rattle.dtx_schedule.specs.TransmitterFiles.{symbol_file}
@@ -66,16 +67,16 @@ at_long : (address delay : ℕ) (packets : List (List ℕ)) (i : ℕ) → i + 4 
     → AreSegments (sent_at address delay packets i)
 unfolding sent_at
 at_long address delay packets i within =
-    by_long address delay packets i (in_force (said packets) i)
-    (λ order is. let b = (force_stands (said packets) i order is).below in omega (arith, b)) within
+    by_long address delay packets i (in_force (readings packets) i)
+    (λ order is. let b = (force_stands (readings packets) i order is).below in omega (arith, b)) within
 
 -- no order is in force at the first group
 first_long : (address delay : ℕ) (packets : List (List ℕ)) (i : ℕ) → i ≡ 0
     → AreSegments (sent_at address delay packets i)
 unfolding sent_at
 first_long address delay packets i first =
-    subst (λ n. AreSegments (sent_by address delay packets n (in_force (said packets) n))) (sym first)
-    (subst (λ o. AreSegments (sent_by address delay packets 0 o)) (sym (force_first (said packets))) tt)
+    subst (λ n. AreSegments (sent_by address delay packets n (in_force (readings packets) n))) (sym first)
+    (subst (λ o. AreSegments (sent_by address delay packets 0 o)) (sym (force_first (readings packets))) tt)
 
 before_long : (address delay : ℕ) (packets : List (List ℕ)) (i : ℕ) → i ≤ length packets
     → AreSegments (sent_before address delay packets i)
@@ -100,7 +101,7 @@ sync_long second last twelve = length-append (sync_symbols second) last
     ∙ ap₂ (λ (x y : ℕ). x + y) (length_front second) twelve
 
 with_long : (i : ℕ) (before sent : List (List ℤ)) → AreSegments before → AreSegments sent
-    → AreSegments (with_sync i before sent)
+    → AreSegments (behind_field_sync i before sent)
 with_long i before [] h g = tt
 with_long i [] (s ∷ ss) h g = g
 with_long i (b ∷ bs) (s ∷ ss) h g = by_test (i % 312 == 0)
@@ -126,7 +127,7 @@ under_long address delay (Some packets) =
     i = length packets - 4
 
     whole : List (List ℤ)
-    whole = with_sync i (sent_before address delay packets i) (sent_at address delay packets i)
+    whole = behind_field_sync i (sent_before address delay packets i) (sent_at address delay packets i)
 
     by_test : (t : Bool) → AreSegments whole → AreSegments (cond t whole [])
     by_test true long = long
@@ -136,8 +137,8 @@ under_long address delay (Some packets) =
     long (inl few) = first_long address delay packets i (omega (arith, few))
     long (inr enough) = at_long address delay packets i (omega (arith, enough))
 
-given_long : (address delay : ℕ) (packets : List (List ℕ)) → AreSegments (given address delay packets)
-unfolding given
+given_long : (address delay : ℕ) (packets : List (List ℕ)) → AreSegments (last_segments address delay packets)
+unfolding last_segments
 given_long address delay packets = under_long address delay (under packets)
 
 flat_long : {X : Type 0} (f : X → List (List ℤ)) (xs : List X) → ((x : X) → AreSegments (f x))
@@ -148,12 +149,12 @@ flat_long f (x ∷ xs) each = segments_append (f x) (flat_map f xs) (each x) (fl
 emission_long : (address delay : ℕ) (packets : List (List ℕ)) → AreSegments (emission address delay packets)
 unfolding emission
 emission_long address delay packets =
-    flat_long (λ n. given address delay (take (n + 1) packets)) (range_with_len 0 (length packets))
+    flat_long (λ n. last_segments address delay (take (n + 1) packets)) (range_with_len 0 (length packets))
     (λ n. given_long address delay (take (n + 1) packets))
 
 -- what a transmitter sends
-pub sent_long : (t : Transmitter) (who : ℕ) (steps : List Step) → AreSegments (segments_of t who steps)
-unfolding segments_of
+pub sent_long : (t : Transmitter) (who : ℕ) (steps : List Step) → AreSegments (sent_segments t who steps)
+unfolding sent_segments
 sent_long t who steps = flat_long (emission t.address t.delay) (lives_of who steps) (emission_long t.address t.delay)
 
 -- ---- its symbol file
@@ -164,8 +165,8 @@ length-symbols_of [] long = refl
 length-symbols_of (s ∷ ss) long = omega (arith, length-append s (symbols_of ss), long.0, length-symbols_of ss long.1)
 
 pub length-symbol_file : (t : Transmitter) (who : ℕ) (steps : List Step)
-    → length (symbol_file t who steps) ≡ 832 * length (segments_of t who steps)
+    → length (symbol_file t who steps) ≡ 832 * length (sent_segments t who steps)
 unfolding symbol_file
 length-symbol_file t who steps =
-    length-map (symbols_of (segments_of t who steps)) byte_of_symbol
-    ∙ length-symbols_of (segments_of t who steps) (sent_long t who steps)
+    length-map (symbols_of (sent_segments t who steps)) byte_of_symbol
+    ∙ length-symbols_of (sent_segments t who steps) (sent_long t who steps)

@@ -6,7 +6,7 @@ use Rattle.std.specs.List.{find, range_with_len}
 use Rattle.std.proofs.lemmas.Bool.{and_parts, ltb-false, ltb-true}
 use Rattle.std.proofs.lemmas.List.Elements.{All-from_get_or}
 use Rattle.std.proofs.lemmas.List.FromFn.{get_or-map-range_with_len}
-use Rattle.dtx_engine.specs.Making.{first_refused, unit_at, whole_units}
+use Rattle.dtx_engine.specs.Recipe.{first_refused, unit_at, whole_units}
 use Rattle.dtx_galois.specs.Field.{AreBytes}
 use Rattle.dtx_jobs.specs.PacketFileLaws.{length-packets_of, long-packets_of}
 use Rattle.dtx_jobs.specs.Shapes.{packets}
@@ -44,11 +44,11 @@ unit_bytes : (plan : Plan) (file : List ℕ) (k : ℕ) → AreAllTaken packets (
 unfolding first_refused
 unit_bytes plan file k all within =
     let few : whole_packets file ≤ 624000000 = ltb-false 624000000 (whole_packets file) all.few in
-    let making = adapting plan in
+    let recipe = adapting plan in
     let z : 0 + k ≡ k = omega arith in
-    let passes : not (making.allows k (unit_at packets file k)) ≡ false =
-    ap (λ i. not (making.allows i (unit_at packets file i))) (sym z)
-    ∙ each_fails (λ i. not (making.allows i (unit_at packets file i))) 0
+    let passes : not (recipe.allows k (unit_at packets file k)) ≡ false =
+    ap (λ i. not (recipe.allows i (unit_at packets file i))) (sym z)
+    ∙ each_fails (λ i. not (recipe.allows i (unit_at packets file i))) 0
     (min (whole_units packets file) 624000000) k all.none (omega (arith, few, within)) in
     let allowed = and_parts _ _ (not_false _ passes) in
     bytes_are (packet_at file k) allowed.1

@@ -13,15 +13,16 @@ use Rattle.dtx_trellis.specs.Pairs.{groups}
 use Rattle.dtx_coder.specs.Along.{levels_since}
 use Rattle.dtx_coder.specs.Coded.{whole_groups}
 use Rattle.dtx_coder.specs.Stream.{segment, four_segments, last_of}
-use Rattle.dtx_exciter.specs.Emission.{segments_since, sent_by, sent_at, sent_before, with_sync, given_under, given}
+use Rattle.dtx_exciter.specs.Emission.{segments_since, sent_by, sent_at, sent_before, behind_field_sync, given_under}
+use Rattle.dtx_exciter.specs.Emission.{last_segments}
 use Rattle.dtx_exciter.specs.Emission.{emission}
 use Rattle.dtx_exciter.specs.Order.{Order, in_force}
-use Rattle.dtx_exciter.specs.Packets.{said, under}
+use Rattle.dtx_exciter.specs.Packets.{readings, under}
 use Rattle.dtx_exciter.specs.Told.{served}
 use Rattle.dtx_files.specs.Symbols.{byte_of_symbol}
 use Rattle.dtx_jobs.specs.SymbolFile.{symbol_of_byte}
 use Rattle.dtx_net.specs.Lives.{lives_of}
-use Rattle.dtx_net.specs.Sent.{segments_of}
+use Rattle.dtx_net.specs.Sent.{sent_segments}
 use Rattle.dtx_net.specs.Steps.{Step}
 use Rattle.dtx_plan.specs.declared.transmitter.Transmitter.{Transmitter}
 
@@ -148,7 +149,7 @@ by_back address delay packets i (Some order) = by_test (is_ok (served address de
 
 at_back : (address delay : ℕ) (packets : List (List ℕ)) (i : ℕ) → EachBack (sent_at address delay packets i)
 unfolding sent_at
-at_back address delay packets i = by_back address delay packets i (in_force (said packets) i)
+at_back address delay packets i = by_back address delay packets i (in_force (readings packets) i)
 
 before_back : (address delay : ℕ) (packets : List (List ℕ)) (i : ℕ) → EachBack (sent_before address delay packets i)
 before_back address delay packets i = by_test (nat_le 4 i)
@@ -167,7 +168,8 @@ last_back : (b : List ℤ) (bs : List (List ℤ)) → EachBack (b ∷ bs)
 unfolding last_of
 last_back b bs each = each_drop IsBack 820 (slice_index_or (b ∷ bs) (length bs) []) (one_back (b ∷ bs) (length bs) each)
 
-with_back : (i : ℕ) (before sent : List (List ℤ)) → EachBack before → EachBack sent → EachBack (with_sync i before sent)
+with_back : (i : ℕ) (before sent : List (List ℤ)) → EachBack before → EachBack sent
+    → EachBack (behind_field_sync i before sent)
 with_back i before [] h g = tt
 with_back i [] (s ∷ ss) h g = g
 with_back i (b ∷ bs) (s ∷ ss) h g = by_test (i % 312 == 0)
@@ -187,24 +189,25 @@ under_back address delay (Some packets) = by_test (length packets % 4 == 0)
     i = length packets - 4
 
     by_test : (t : Bool)
-        → EachBack (cond t (with_sync i (sent_before address delay packets i) (sent_at address delay packets i)) [])
+        → EachBack (cond t (behind_field_sync i (sent_before address delay packets i)
+        (sent_at address delay packets i)) [])
     by_test true =
         with_back i (sent_before address delay packets i) (sent_at address delay packets i)
         (before_back address delay packets i) (at_back address delay packets i)
     by_test false = tt
 
-given_back : (address delay : ℕ) (packets : List (List ℕ)) → EachBack (given address delay packets)
-unfolding given
+given_back : (address delay : ℕ) (packets : List (List ℕ)) → EachBack (last_segments address delay packets)
+unfolding last_segments
 given_back address delay packets = under_back address delay (under packets)
 
 emission_back : (address delay : ℕ) (packets : List (List ℕ)) → EachBack (emission address delay packets)
 unfolding emission
 emission_back address delay packets =
-    each_flat AreBack (λ n. given address delay (take (n + 1) packets)) (range_with_len 0 (length packets))
+    each_flat AreBack (λ n. last_segments address delay (take (n + 1) packets)) (range_with_len 0 (length packets))
     (λ n. given_back address delay (take (n + 1) packets))
 
 -- what a transmitter sends
-pub sent_back : (t : Transmitter) (who : ℕ) (steps : List Step) → EachBack (segments_of t who steps)
-unfolding segments_of
+pub sent_back : (t : Transmitter) (who : ℕ) (steps : List Step) → EachBack (sent_segments t who steps)
+unfolding sent_segments
 sent_back t who steps =
     each_flat AreBack (emission t.address t.delay) (lives_of who steps) (emission_back t.address t.delay)

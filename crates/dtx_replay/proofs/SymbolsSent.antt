@@ -7,8 +7,8 @@ use Rattle.std.specs.Option.{option_map_or}
 use Rattle.std.proofs.lemmas.Bool.{cases_lt, false≢true, le-ltb}
 use Rattle.std.proofs.lemmas.List.Elements.{All-head, All-tail}
 use Rattle.dtx_jobs.specs.PastEnd.{ends_past, first_past}
-use Rattle.dtx_net.specs.Sent.{segments_of}
-use Rattle.dtx_net.specs.Steps.{Step, place_of}
+use Rattle.dtx_net.specs.Sent.{sent_segments}
+use Rattle.dtx_net.specs.Steps.{Step, transmitter_place}
 use Rattle.dtx_net.specs.PlaceOfLaws.{place_found, place_missing}
 use Rattle.dtx_network.specs.Network.{steps_under}
 use Rattle.dtx_plan.specs.Sound.{IsDamage}
@@ -57,15 +57,16 @@ first_at_most damage bytes each =
 
 -- where an address stands in the list
 pub record IsPlace (ts : List Transmitter) (address who : ℕ) (t : Transmitter) : Type 0 where
-  pub place : place_of address ts ≡ Some who
+  pub place : transmitter_place address ts ≡ Some who
   pub here : slice_get ts who ≡ Some t
   pub own : t.address ≡ address
 
 pub place_there : (ts : List Transmitter) (address : ℕ) → has_address address ts ≡ true
     → (who : ℕ) × (t : Transmitter) × IsPlace ts address who t
-place_there ts address listed = by_place (place_of address ts) refl
+place_there ts address listed = by_place (transmitter_place address ts) refl
   where
-    by_place : (o : Option ℕ) → place_of address ts ≡ o → (who : ℕ) × (t : Transmitter) × IsPlace ts address who t
+    by_place : (o : Option ℕ) → transmitter_place address ts ≡ o
+        → (who : ℕ) × (t : Transmitter) × IsPlace ts address who t
     by_place None none = absurd (false≢true (sym (place_missing ts address none) ∙ listed))
     by_place (Some who) some = let found = place_found ts address who some in
         (who, found.0, record { place = some; here = found.1; own = found.2 })
@@ -86,12 +87,12 @@ pub counted_serves : (ts : List Transmitter) (steps : List Step) (receiver : Rec
     → symbols ≡ min (segments * 832) (2 ^ 64 - 1)
     → first_past receiver.damage symbols ≡ first_past receiver.damage (length (symbol_file t who steps))
 counted_serves ts steps receiver who segments symbols t is counted each told =
-    let at_place : (t : Transmitter) → slice_get ts who ≡ Some t → segments ≡ length (segments_of t who steps) =
+    let at_place : (t : Transmitter) → slice_get ts who ≡ Some t → segments ≡ length (sent_segments t who steps) =
     subst (λ o. IfSome o (λ who. (t : Transmitter) → slice_get ts who ≡ Some t
-    → segments ≡ length (segments_of t who steps))) is.place counted in
+    → segments ≡ length (sent_segments t who steps))) is.place counted in
     let turned : segments * 832 ≡ 832 * segments = omega arith in
-    let many : segments * 832 ≡ 832 * length (segments_of t who steps) =
+    let many : segments * 832 ≡ 832 * length (sent_segments t who steps) =
     turned ∙ ap (λ n. 832 * n) (at_place t is.here) in
     ap (first_past receiver.damage) (told ∙ ap (λ n. min n (2 ^ 64 - 1)) many)
-    ∙ first_at_most receiver.damage (832 * length (segments_of t who steps)) each
+    ∙ first_at_most receiver.damage (832 * length (sent_segments t who steps)) each
     ∙ ap (first_past receiver.damage) (sym (length-symbol_file t who steps))

@@ -3,7 +3,7 @@
 use Rattle.std.specs.Prelude.{◌≡◌, ℕ, ◌+◌, Option, Some, IsSomeAnd, List, [], ◌∷◌, length, slice_get}
 use Rattle.std.specs.FinMap.{get}
 use Rattle.dtx_adapter.specs.Feed.{feed}
-use Rattle.dtx_jobs.specs.SymbolFile.{segments_of}
+use Rattle.dtx_jobs.specs.SymbolFile.{file_segments}
 use Rattle.dtx_network.specs.GivesBack.{GivesBack, GivesAllBack}
 use Rattle.dtx_net.specs.Sent as sent
 use Rattle.dtx_network.specs.Network.{steps_under, Headline, Joined}
@@ -31,8 +31,8 @@ pub record HeadlineOfFiles (plan : Plan) (network : NetPlan) (stream : List (Lis
   pub files : AreWholeFiles plan network stream held now
   -- The segments of each symbol file, cut at every 832 bytes, are those that its transmitter sends.
   pub segments : (who : ℕ) (t : Transmitter) → slice_get plan.transmitters.items who ≡ Some t
-      → segments_of (symbol_file t who (steps_under plan stream network.events))
-      ≡ sent.segments_of t who (steps_under plan stream network.events)
+      → file_segments (symbol_file t who (steps_under plan stream network.events))
+      ≡ sent.sent_segments t who (steps_under plan stream network.events)
   -- Every transmitter that from any earlier state is given the feed unchanged from a cadence mark on emits, from the
   -- first operations packet whose group begins 52 or more packets later, exactly the symbols of that feed, at moments
   -- that differ between transmitters only by the signalled offsets; and whatever is received of them gives the packets
@@ -42,17 +42,17 @@ pub record HeadlineOfFiles (plan : Plan) (network : NetPlan) (stream : List (Lis
   pub gives_back : (receiver : ReceivePlan) (x : Joined plan stream network.events) → network.receive ≡ Some receiver
       → x.t.address ≡ receiver.from
       → GivesBack (feed plan stream) x.k (x.mark + x.count) (length (headline.follows x).emits.before)
-      (segments_of (damaged_file plan network stream receiver))
+      (file_segments (damaged_file plan network stream receiver))
   -- And where what is received is the stretch alone, slightly damaged, it gives all of them back from its first field
   -- on, and no other.
   pub gives_all_back : (receiver : ReceivePlan) (x : Joined plan stream network.events)
       → network.receive ≡ Some receiver → x.t.address ≡ receiver.from
       → GivesAllBack (feed plan stream) x.k (x.mark + x.count)
-      (segments_of (damaged_file plan network stream receiver))
+      (file_segments (damaged_file plan network stream receiver))
   -- The packets of the file `net.ts` are those received, one by one: packet n of the file is the n-th of them.
   pub packets : (receiver : ReceivePlan) → network.receive ≡ Some receiver
       → IsSomeAnd (get now received_name)
-      (λ file. packets_of file ≡ received (segments_of (damaged_file plan network stream receiver)))
+      (λ file. packets_of file ≡ received (file_segments (damaged_file plan network stream receiver)))
 
 -- The headline holds of the network that these words name, from the files that were held before to those now.
 abbrev pub HasHeadline : List (List ℕ) → Files → Option Files → Type 0

@@ -3,9 +3,9 @@ use Rattle.std.specs.Prelude.{ℕ, Bool, true, false, if◌then◌else◌, List,
 use Rattle.std.specs.Prelude.{None, is_some}
 use Rattle.std.specs.FinMap.{get}
 use Rattle.dtx_adapter.specs.Feed.{placeholders}
-use Rattle.dtx_engine.specs.Making.{Making, meaning_of_file}
+use Rattle.dtx_engine.specs.Recipe.{Recipe, meaning_of_file}
 use Rattle.dtx_jobs.specs.Adapt.{feeding}
-use Rattle.dtx_jobs.specs.Damaged.{damaged}
+use Rattle.dtx_jobs.specs.Damaged.{damaged_making}
 use Rattle.dtx_jobs.specs.PastEnd.{first_past}
 use Rattle.dtx_jobs.specs.PlanFile.{under_plan}
 use Rattle.dtx_jobs.specs.Receive.{receiving}
@@ -61,7 +61,8 @@ answered other m = record { outcome = other m.outcome; outputs = m.outputs }
 -- ends behind them
 abbrev pub received_past : Option ℕ → List Damage → List ℕ → Meaning
 received_past (Some entry) damage symbols = refused (OutOfAir entry)
-received_past None damage symbols = meaning_of_file segments (damaged damage receiving) (received_name ∷ []) symbols
+received_past None damage symbols = meaning_of_file segments (damaged_making damage receiving)
+    (received_name ∷ []) symbols
 
 -- ---- the events are played
 
@@ -103,7 +104,7 @@ fed_meaning plan network stream = events_past (first_past_feed network.events (l
 -- ---- the stream is adapted
 
 -- what is made of a stream: its feed
-abbrev pub adapting : whole.Plan → Making
+abbrev pub adapting : whole.Plan → Recipe
 adapting plan = of_bytes (feeding plan)
 
 -- over the file of the stream, which may not be there

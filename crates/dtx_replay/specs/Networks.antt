@@ -7,7 +7,7 @@ use Rattle.std.specs.Result.{IsOkAnd}
 use Rattle.dtx_jobs.specs.Feed.{feed_bytes}
 use Rattle.dtx_jobs.specs.Receive.{received_bytes}
 use Rattle.dtx_make.specs.Hurt.{hurt}
-use Rattle.dtx_net.specs.Steps.{place_of}
+use Rattle.dtx_net.specs.Steps.{transmitter_place}
 use Rattle.dtx_network.specs.Network.{steps_under}
 use Rattle.dtx_outside.specs.Shelf.{Files}
 use Rattle.dtx_plan.specs.Plan.{plan_of}
@@ -39,7 +39,7 @@ unfoldable pub sent_file : Plan → NetPlan → List (List ℕ) → ℕ → List
 sent_file plan network stream address =
     option_map_or (λ who. option_map_or (λ t. symbol_file t who (steps_under plan stream network.events))
     (slice_get plan.transmitters.items who) [])
-    (place_of address plan.transmitters.items) []
+    (transmitter_place address plan.transmitters.items) []
 
 -- the symbols that are received: those of the receiver's transmitter, with the damage laid over them
 unfoldable pub damaged_file : Plan → NetPlan → List (List ℕ) → ReceivePlan → List ℕ

@@ -10,7 +10,7 @@ ghost use Rattle.dtx_schedule.specs.TransmitterFiles.{symbol_file};
 /// The segments of a transmitter's symbol file are those that it sends: segment n of the file is segment n of them.
 pub fn segments_read_back()
     ensures count { (t : Transmitter) (who : ℕ) (steps : List Step)
-        → file.whole_segments (symbol_file t who steps) ≡ length (sent.segments_of t who steps) }
+        → file.whole_segments (symbol_file t who steps) ≡ length (sent.sent_segments t who steps) }
     ensures segments { (t : Transmitter) (who : ℕ) (steps : List Step)
-        → file.segments_of (symbol_file t who steps) ≡ sent.segments_of t who steps }
+        → file.file_segments (symbol_file t who steps) ≡ sent.sent_segments t who steps }
 {}

@@ -16,7 +16,7 @@ impl<E: Engine> OfBytes<E> {
     pub(crate) fn new(engine: E) -> OfBytes<E>
         requires { E.stands engine [] }
         ensures fresh { ⟦<OfBytes<E> as Engine>⟧.stands result [] }
-        ensures making { ⟦<OfBytes<E> as Engine>⟧.making result ≡ of_bytes (E.making engine) }
+        ensures recipe { ⟦<OfBytes<E> as Engine>⟧.recipe result ≡ of_bytes (E.recipe engine) }
     {
         OfBytes { engine }
     }
@@ -27,7 +27,7 @@ impl<E: Engine> Engine for OfBytes<E> {
 
     ghost shape = { E.shape };
 
-    ghost making = { λ s. of_bytes (E.making s.engine) };
+    ghost recipe = { λ s. of_bytes (E.recipe s.engine) };
 
     ghost stands = { λ s given. E.stands s.engine given };
 

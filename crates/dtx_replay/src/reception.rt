@@ -1,8 +1,8 @@
 // The symbols of a transmitter, received with damage laid over them.
 ghost use Rattle.std.specs.Prelude.{◌≡◌, [], ◌∷◌, ℕ, List, Some, IfSome, length, slice_index};
 ghost use Rattle.std.specs.FinMap as files;
-ghost use Rattle.dtx_engine.specs.Making.{meaning};
-ghost use Rattle.dtx_jobs.specs.Damaged.{damaged};
+ghost use Rattle.dtx_engine.specs.Recipe.{meaning};
+ghost use Rattle.dtx_jobs.specs.Damaged.{damaged_making};
 ghost use Rattle.dtx_jobs.specs.PastEnd as past;
 ghost use Rattle.dtx_jobs.specs.Receive.{receiving};
 ghost use Rattle.dtx_jobs.specs.Shapes as shapes;
@@ -48,7 +48,7 @@ pub(crate) fn receive_sent<S: Shelf>(
 fn receive<S: Shelf>(alloc: Global, shelf: &mut S, receiver: &ReceivePlan) -> Outcome
     requires damage { AreDamages receiver.now.damage }
     ensures carried { IfSome (S.files shelf.old) (λ held. IsCarriedOut
-        (meaning shapes.segments (damaged receiver.now.damage receiving) 3 (received_name ∷ [])
+        (meaning shapes.segments (damaged_making receiver.now.damage receiving) 3 (received_name ∷ [])
         (files.get held (symbol_name receiver.now.from)))
         (Some held) result (S.files shelf.new)) }
     ensures gone { HasGone (S.counts shelf.old) (S.counts shelf.new) (blame_of result.status) }

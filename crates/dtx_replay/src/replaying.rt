@@ -1,7 +1,7 @@
 // A network whose plan is read: its stream adapted, its events played, its symbols received.
 ghost use Rattle.std.specs.Prelude.{◌≡◌, ◌≢◌, [], ◌∷◌, ℕ, List, None, Some, IfSome, length, slice_index};
 ghost use Rattle.std.specs.FinMap as files;
-ghost use Rattle.dtx_engine.specs.Making.{meaning};
+ghost use Rattle.dtx_engine.specs.Recipe.{meaning};
 ghost use Rattle.dtx_jobs.specs.Shapes as shapes;
 ghost use Rattle.dtx_meaning.specs.Meaning.{IsCarriedOut, with_outputs};
 ghost use Rattle.dtx_meaning.specs.Status.{blame_of};

@@ -11,4 +11,4 @@ pub const BRANCH_STEP: usize = 4;
 
 /// How many packets since an align it takes until each byte that leaves the interleaver is one of theirs. As the packet
 /// before comes, one byte still leaves that a branch held.
-pub const FILLING_PACKETS: usize = 52;
+pub const FLUSHING_PACKETS: usize = 52;

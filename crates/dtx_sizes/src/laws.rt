@@ -1,7 +1,7 @@
 //! The numbers, and how they hang together.
 ghost use Rattle.std.specs.Prelude.{◌≡◌, ◌+◌, ◌*◌};
 
-use crate::codewords::{BRANCH_STEP, BRANCHES, CODEWORD, FILLING_PACKETS};
+use crate::codewords::{BRANCH_STEP, BRANCHES, CODEWORD, FLUSHING_PACKETS};
 use crate::fields::{FIELD_PACKETS, FIELD_SEGMENTS, FRAME_PACKETS, GROUP_PACKETS};
 use crate::limits::{
     MOST_ENTRIES, MOST_FRAMES, MOST_PACKETS, MOST_SEGMENTS, MOST_SYMBOLS, MOST_TRANSMITTERS,
@@ -21,7 +21,7 @@ pub fn bytes()
     ensures codeword_is { CODEWORD ≡ 207 }
     ensures branches { BRANCHES ≡ 52 }
     ensures step { BRANCH_STEP ≡ 4 }
-    ensures filling { FILLING_PACKETS ≡ BRANCHES }
+    ensures filling { FLUSHING_PACKETS ≡ BRANCHES }
 {}
 
 /// Segments and groups of four.

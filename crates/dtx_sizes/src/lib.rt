@@ -9,7 +9,7 @@ mod limits;
 mod packets;
 mod segments;
 
-pub use codewords::{BRANCH_STEP, BRANCHES, CODEWORD, FILLING_PACKETS};
+pub use codewords::{BRANCH_STEP, BRANCHES, CODEWORD, FLUSHING_PACKETS};
 pub use fields::{
     FIELD_PACKETS, FIELD_SEGMENTS, FRAME_PACKETS, FieldPlace, GROUP_PACKETS, field_place,
 };

@@ -11,5 +11,5 @@ returns-in-Ok-clause-carried g c =
     carried_by (g.S.Shelf.files c.args.shelf.now) (g.S.Shelf.files c.carry_to_one.new.shelf) c.carry_to_one.result
     packets _
     (adapting c.args.plan.now) 1 c.feed_name.result.now feed_name c.as_str.result.now c.args.network.now.stream
-    (c.new-in-Ok.ensures.making ∙ ap of_bytes c.in-Ok.ensures.making) c.feed_name.ensures c.as_str.ensures
+    (c.new-in-Ok.ensures.recipe ∙ ap of_bytes c.in-Ok.ensures.recipe) c.feed_name.ensures c.as_str.ensures
     c.carry_to_one.ensures.carried

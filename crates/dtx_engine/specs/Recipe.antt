@@ -16,7 +16,7 @@ use Rattle.dtx_engine.specs.declared.piece.Ending.TheVariants.{Whole, Refused}
 
 -- which units are allowed, what is made of the bytes of whole units and what the end adds to it, and how the command
 -- ends where all units were read and so many bytes are loose behind them
-pub record Making : Type 0 where
+pub record Recipe : Type 0 where
   pub allows : ℕ → List ℕ → Bool
   pub made : List ℕ → Made
   pub rest : List ℕ → Made
@@ -32,9 +32,9 @@ pub record IsSound (shape : Shape) : Type 0 where
   pub most : shape.unit * shape.limit ≤ 2 ^ 62
 
 -- the bytes were given too, and these were made of them
-pub record IsFed (making : Making) (given bytes : List ℕ) (stands : List ℕ → Type 0) (gives : Made) : Type 0 where
+pub record IsFed (recipe : Recipe) (given bytes : List ℕ) (stands : List ℕ → Type 0) (gives : Made) : Type 0 where
   pub stand : stands (given ++ bytes)
-  pub made : making.made (given ++ bytes) ≡ joined (making.made given) gives
+  pub made : recipe.made (given ++ bytes) ≡ joined (recipe.made given) gives
 
 -- some bytes, so many, were given
 abbrev pub AreSomeGiven : ℕ → (List ℕ → Type 0) → Type 0
@@ -59,8 +59,8 @@ abbrev pub first_units : Shape → List ℕ → ℕ → List ℕ
 first_units shape file count = take (shape.unit * count) file
 
 -- the first unit that isn't allowed, among as many as an input has at most
-unfoldable pub first_refused : Shape → Making → List ℕ → Option ℕ
-first_refused shape making file = find (λ k. not (making.allows k (unit_at shape file k)))
+unfoldable pub first_refused : Shape → Recipe → List ℕ → Option ℕ
+first_refused shape recipe file = find (λ k. not (recipe.allows k (unit_at shape file k)))
     (range_with_len 0 (min (whole_units shape file) shape.limit))
 
 -- ---- the meaning
@@ -76,33 +76,33 @@ course_from shape file None =
     if nat_lt shape.limit (whole_units shape file) then record { taken = shape.limit; ending = Refused TooLong }
     else record { taken = whole_units shape file; ending = Whole (length file % shape.unit) }
 
-abbrev pub course : Shape → Making → List ℕ → Course
-course shape making file = course_from shape file (first_refused shape making file)
+abbrev pub course : Shape → Recipe → List ℕ → Course
+course shape recipe file = course_from shape file (first_refused shape recipe file)
 
 -- the answer, and what is written, where these bytes were given and the input ended so
-abbrev pub answer_at : Making → List ℕ → Ending → Outcome
-answer_at making given (Whole loose) = making.answer given loose
-answer_at making given (Refused status) = ended status
+abbrev pub answer_at : Recipe → List ℕ → Ending → Outcome
+answer_at recipe given (Whole loose) = recipe.answer given loose
+answer_at recipe given (Refused status) = ended status
 
-abbrev pub made_at : Making → List ℕ → Ending → Made
-made_at making given (Whole loose) = joined (making.made given) (making.rest given)
-made_at making given (Refused status) = making.made given
+abbrev pub made_at : Recipe → List ℕ → Ending → Made
+made_at recipe given (Whole loose) = joined (recipe.made given) (recipe.rest given)
+made_at recipe given (Refused status) = recipe.made given
 
-abbrev pub meaning_at : Making → List (List ℕ) → List ℕ → Ending → Meaning
-meaning_at making names given ending =
-    record { outcome = answer_at making given ending; outputs = outputs_of names (made_at making given ending) }
+abbrev pub meaning_at : Recipe → List (List ℕ) → List ℕ → Ending → Meaning
+meaning_at recipe names given ending =
+    record { outcome = answer_at recipe given ending; outputs = outputs_of names (made_at recipe given ending) }
 
 -- over the bytes of the input: the course of the input says of which units something is made
-abbrev pub meaning_of_file : Shape → Making → List (List ℕ) → List ℕ → Meaning
-meaning_of_file shape making names file =
-    meaning_at making names (first_units shape file (course shape making file).taken) (course shape making file).ending
+abbrev pub meaning_of_file : Shape → Recipe → List (List ℕ) → List ℕ → Meaning
+meaning_of_file shape recipe names file =
+    meaning_at recipe names (first_units shape file (course shape recipe file).taken) (course shape recipe file).ending
 
 -- where the input of that number may not be there, into the outputs of these names
-abbrev pub meaning : Shape → Making → ℕ → List (List ℕ) → Option (List ℕ) → Meaning
-meaning shape making which names None = refused (Absent which)
-meaning shape making which names (Some file) = meaning_of_file shape making names file
+abbrev pub meaning : Shape → Recipe → ℕ → List (List ℕ) → Option (List ℕ) → Meaning
+meaning shape recipe which names None = refused (Absent which)
+meaning shape recipe which names (Some file) = meaning_of_file shape recipe names file
 
 -- what a command `.. IN OUT` means that makes OUT of IN alone
-abbrev pub transformed : Shape → Making → List ℕ → List ℕ → Files → Meaning
-transformed shape making input output held =
-    if bytes_eq input output then refused Same else meaning shape making 0 (output ∷ []) (get held input)
+abbrev pub transformed : Shape → Recipe → List ℕ → List ℕ → Files → Meaning
+transformed shape recipe input output held =
+    if bytes_eq input output then refused Same else meaning shape recipe 0 (output ∷ []) (get held input)

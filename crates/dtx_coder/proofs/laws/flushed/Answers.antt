@@ -1,5 +1,5 @@
-use Rattle.dtx_coder.specs.SettledLaws.{bytes_settled, group_settled}
-use Rattle.dtx_coder.proofs.laws.settled.Goals as goal
+use Rattle.dtx_coder.specs.FlushedLaws.{bytes_settled, group_settled}
+use Rattle.dtx_coder.proofs.laws.flushed.Goals as goal
 
 pub returns-clause-bytes : goal.returns-clause-bytes
 returns-clause-bytes c = bytes_settled
