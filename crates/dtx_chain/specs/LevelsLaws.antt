@@ -21,7 +21,7 @@ use Rattle.dtx_coder.specs.LevelsLaws.{length-levels}
 use Rattle.dtx_coder.specs.SegmentsLaws.{segment_is}
 use Rattle.dtx_coder.specs.CountsLaws.{length-a53}
 use Rattle.dtx_receiver.specs.Bytes.{data_count, data_at, groups_of, levels_from, levels_in, first_formers, bytes_in}
-use Rattle.dtx_receiver.specs.RangesLaws.{flat_map-range_same}
+use Rattle.dtx_lists.proofs.RangeMoved.{flat_map-range_same}
 use Rattle.dtx_chain.specs.PlacesLaws.{sync_at, data_at_place}
 
 -- ---- the levels

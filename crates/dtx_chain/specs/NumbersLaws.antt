@@ -7,7 +7,7 @@ use Rattle.dtx_outer.specs.Inner.{codeword_byte_place, IsComplete}
 use Rattle.dtx_receiver.specs.Packets.{is_complete, received_at, run_packets}
 use Rattle.dtx_receiver.specs.declared.batch.Received.{Received}
 use Rattle.dtx_receiver.specs.CompleteLaws.{complete_told}
-use Rattle.dtx_receiver.specs.RangesLaws.{filter-kept}
+use Rattle.dtx_lists.proofs.RangeFilter.{filter-kept}
 
 -- each byte of a word stands before one of the next word in the same branch
 complete_before : (count k : ℕ) → IsComplete 207 52 4 count (suc k) → IsComplete 207 52 4 count k

@@ -10,7 +10,7 @@ use Rattle.dtx_receiver.specs.Bytes.{bytes_in}
 use Rattle.dtx_receiver.specs.Packets.{is_complete, received_at, run_packets, all_packets, received}
 use Rattle.dtx_receiver.specs.declared.batch.Received.{Received}
 use Rattle.dtx_receiver.specs.CompleteLaws.{complete_told}
-use Rattle.dtx_receiver.specs.RangesLaws.{filter-kept, filter-lost}
+use Rattle.dtx_lists.proofs.RangeFilter.{filter-kept, filter-lost}
 use Rattle.dtx_chain.specs.Undamaged.{ArePackets, as_received, as_sent, whole_words}
 use Rattle.dtx_chain.specs.PlacesLaws.{one_run}
 use Rattle.dtx_chain.specs.LevelsLaws.{bytes_are}

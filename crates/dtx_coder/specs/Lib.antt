@@ -5,7 +5,6 @@ pub mod Runs
 pub mod Along
 pub mod BytesLaws
 pub mod LevelsLaws
-pub mod RangeMovedLaws
 pub mod SlicesLaws
 pub mod SegmentsLaws
 pub mod CountsLaws

@@ -5,7 +5,7 @@ use Rattle.std.specs.List.{range_with_len, flat_map}
 use Rattle.std.proofs.lemmas.Grind.{flat_map-append}
 use Rattle.std.proofs.lemmas.List.{append-nil, length_push, take-append-le, take_all}
 use Rattle.dtx_lists.proofs.Range.{range_with_len-parts}
-use Rattle.dtx_coder.specs.RangeMovedLaws.{flat_map-range_same}
+use Rattle.dtx_lists.proofs.RangeMoved.{flat_map-range_same}
 use Rattle.dtx_coder.specs.Stream.{symbols_of}
 use Rattle.dtx_engine.specs.Made.{only, AreFrontsOf}
 use Rattle.dtx_exciter.specs.EmittedLaws.{emission_push, emission_more}

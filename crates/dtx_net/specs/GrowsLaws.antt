@@ -4,7 +4,7 @@ use Rattle.std.specs.List.{range_with_len, flat_map}
 use Rattle.std.proofs.lemmas.List.{append-nil, append_assoc, length-append, length_push, take-append-le, take_all}
 use Rattle.std.proofs.lemmas.Grind.{flat_map-append}
 use Rattle.dtx_lists.proofs.Range.{range_with_len-parts}
-use Rattle.dtx_coder.specs.RangeMovedLaws.{flat_map-range_same}
+use Rattle.dtx_lists.proofs.RangeMoved.{flat_map-range_same}
 use Rattle.dtx_plan.specs.declared.transmitter.Transmitter.{Transmitter}
 use Rattle.dtx_exciter.specs.Packets.{last_answer}
 use Rattle.dtx_exciter.specs.Emission.{last_segments, emission}

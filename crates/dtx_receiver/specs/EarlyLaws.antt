@@ -13,7 +13,7 @@ use Rattle.dtx_laws.specs.Words.{correction}
 use Rattle.dtx_receiver.specs.Packets.{is_complete, received_by, received_at, run_packets, early_of}
 use Rattle.dtx_receiver.specs.declared.batch.Received.{Received}
 use Rattle.dtx_receiver.specs.CompleteLaws.{complete_told, complete_all, complete_only}
-use Rattle.dtx_receiver.specs.RangesLaws.{filter-range_all, filter-range_none}
+use Rattle.dtx_lists.proofs.RangeFilter.{filter-range_all, filter-range_none}
 
 is_true : (s k : ℕ) → (k + 53 ≤ s) ⊎ ((k + 52 ≡ s) × (k % 52 ≡ 0)) → is_complete (207 * s) k ≡ true
 is_true s k h = (complete_told (207 * s) k).1 (complete_all s k h)

@@ -15,7 +15,7 @@ use Rattle.dtx_slice.specs.PlacesLaws.{former_zero}
 use Rattle.dtx_receiver.specs.Bytes.{data_count, data_at, groups_of, levels_from, levels_in, first_formers}
 use Rattle.dtx_receiver.specs.Bytes.{precoder_bits_in}
 use Rattle.dtx_receiver.specs.Bytes.{bytes_in}
-use Rattle.dtx_receiver.specs.RangesLaws.{flat_map-range_same}
+use Rattle.dtx_lists.proofs.RangeMoved.{flat_map-range_same}
 
 -- ---- numbers
 

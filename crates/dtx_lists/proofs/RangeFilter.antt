@@ -22,10 +22,3 @@ filter-range_none p a zero h = refl
 filter-range_none p a (suc n) h =
     filter-lost p a (range_with_len (a + 1) n) (h a (omega arith) (omega arith))
     ∙ filter-range_none p (a + 1) n (λ i l m. h i (omega arith) (omega arith))
-
-pub flat_map-range_same : {X : Type 0} (f g : ℕ → List X) (a n : ℕ) → ((i : ℕ) → a ≤ i → i < a + n → f i ≡ g i)
-    → flat_map f (range_with_len a n) ≡ flat_map g (range_with_len a n)
-flat_map-range_same f g a zero h = refl
-flat_map-range_same f g a (suc n) h =
-    ap₂ ◌++◌ (h a (omega arith) (omega arith)) (flat_map-range_same f g (a + 1) n
-    (λ i l m. h i (omega arith) (omega arith)))
