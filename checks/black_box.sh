@@ -184,7 +184,7 @@ plan=../inputs/plan.toml
 
 # ---- The cases, subject by subject ----
 
-for part in adapt plans make code receive excite hurt place net names words refused_streams refused_files forbidden_files; do
+for part in adapt plans make code receive excite hurt place net names overlaps words refused_streams refused_files forbidden_files; do
     . "$top/checks/black_box/$part.sh"
 done
 
