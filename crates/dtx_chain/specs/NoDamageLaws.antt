@@ -122,7 +122,8 @@ slight_before ps first sent got r p same few = record {
   syncs = λ i m z. looks i m z (cases_lt i (to_sync first));
   before = few;
   words = λ j c.
-      subst (IsNear ps (packet_behind first + j)) (ap (λ (xs : List (List ℤ)). word_at 207 52 4 (bytes_in xs) j) (sym same))
+      subst (IsNear ps (packet_behind first + j))
+      (ap (λ (xs : List (List ℤ)). word_at 207 52 4 (bytes_in xs) j) (sym same))
       (own.words j (subst (λ (xs : List (List ℤ)). IsComplete 207 52 4 (828 * groups_of xs) j) same c));
 }
   where

@@ -1,7 +1,8 @@
 //! Laws of the definitions: undamaged symbols are one run, and its packets are those that were sent; a word with few
 //! wrong bytes gives its packet back.
 
-ghost use Rattle.std.specs.Prelude.{◌≡◌, ℕ, ℤ, ◌≢◌, ◌+◌, ◌*◌, ◌/◌, ◌%◌, ◌<◌, ◌≤◌, Bool, true, false, List, [], ◌∷◌, length};
+ghost use Rattle.std.specs.Prelude.{◌≡◌, ℕ, ℤ, ◌≢◌, ◌+◌, ◌*◌, ◌/◌, ◌%◌, ◌<◌, ◌≤◌, Bool, true, false, List, [], ◌∷◌};
+ghost use Rattle.std.specs.Prelude.{length};
 ghost use Rattle.std.specs.Prelude.{All, map, slice_index_or, slice_range};
 ghost use Rattle.std.specs.List.{list_all};
 ghost use Rattle.dtx_galois.specs.Field.{AreBytes};

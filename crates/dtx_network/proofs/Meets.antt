@@ -1,6 +1,7 @@
 -- The premises of the headline can be met.
 use Rattle.std.proofs.Common.{◌≡◌, ◌⊎◌, inl, inr, ℕ, zero, suc, ◌+◌, ◌-◌, ◌%◌, ◌<◌, ◌≤◌, ◌==◌, ◌&&◌, Bool, true, false}
-use Rattle.std.proofs.Common.{Option, Some, None, List, [], ◌∷◌, ◌++◌, length, map, take, drop, get_or, refl, sym, ap, ap₂, ◌∙◌}
+use Rattle.std.proofs.Common.{Option, Some, None, List, [], ◌∷◌, ◌++◌, length, map, take, drop, get_or, refl, sym, ap}
+use Rattle.std.proofs.Common.{ap₂, ◌∙◌}
 use Rattle.std.proofs.Common.{◌≢◌}
 use Rattle.std.proofs.Common.{arith}
 use Rattle.std.specs.Prelude.{nat_le, filter, slice_get, slice_range}
@@ -311,7 +312,8 @@ one_life plan stream t who n before after p listed l first then =
     (done_by_others plan stream t who before listed first) (done_by_others plan stream t who after listed then)
     ∙ alone (given_of plan stream 0 n) ∙ ap (λ (m : ℕ). take m fed ∷ []) e
   where
-    alone : (part : List (List ℕ)) → ended [] [] ++ ((going_on [] [] ++ part) ++ first_given []) ∷ lives_then [] ≡ part ∷ []
+    alone : (part : List (List ℕ))
+        → ended [] [] ++ ((going_on [] [] ++ part) ++ first_given []) ∷ lives_then [] ≡ part ∷ []
     alone part = ap (λ (x : List (List ℕ)). x ∷ []) (append-nil part)
 
 pub sends_alone : (plan : Plan) (stream : List (List ℕ)) (t : Transmitter) (who n k : ℕ) (before after : List Event)

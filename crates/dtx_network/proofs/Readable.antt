@@ -186,7 +186,8 @@ readable feed k end f n j before after p inside begins given lies =
     segments_in (before ++ (stretch_of feed k end ++ after)) (length before + to_field k f, n) in
     let m : ℕ = left_from feed k end f in
     let there : IsThere feed (f / 312) (take m run) =
-    part_there feed k end f n before after begins (some_segments run j given) (field_within feed k end f inside begins) in
+    part_there feed k end f n before after begins (some_segments run j given)
+    (field_within feed k end f inside begins) in
     let c = complete_in feed k end f j run p inside begins there given lies (cases_lt (length run) m) in
     record {
       given = given;

@@ -9,3 +9,6 @@ pub mod Streams
 pub mod SymbolsBack
 pub mod SegmentsBack
 pub mod SymbolsSent
+pub mod WorkedDamage
+pub mod WorkedNetwork
+pub mod WorkedStream

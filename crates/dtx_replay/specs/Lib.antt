@@ -4,3 +4,4 @@ pub mod NetNames
 pub mod Networks
 pub mod OfBytes
 pub mod Replaying
+pub mod WorkedNetwork
