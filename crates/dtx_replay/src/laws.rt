@@ -17,7 +17,9 @@ ghost use Rattle.dtx_plan.specs.declared.plan.NetPlan.{NetPlan};
 ghost use Rattle.dtx_plan.specs.declared.plan.Plan.{Plan};
 ghost use Rattle.dtx_replay.specs.WorkedNetwork.{HasAllBack, IsSimple, WorkedNetwork, made_packets};
 
-use dtx_network::laws::{headline, joined_is_met, orders_of_a_feed, packets_of_a_feed, sends_the_stretch_alone};
+use dtx_network::laws::{
+    headline, joined_is_met, orders_of_a_feed, packets_of_a_feed, sends_the_stretch_alone,
+};
 
 /// The segments of a transmitter's symbol file are those that it sends: segment n of the file is segment n of them.
 pub fn segments_read_back()

@@ -7,5 +7,7 @@ mod network_names;
 mod of_bytes;
 mod reception;
 mod replaying;
+#[cfg(test)]
+mod worked_network;
 
 pub use net_command::{NetOutcome, net};
