@@ -107,7 +107,8 @@ few_damaged [] file i few l =
     let none : total (damage_at sent got) 0 515 ≡ 0 =
     total_zeros (damage_at sent got) 0 515
     (λ c _ m. undamaged_at sent got c (symbol_stays [] file i c l (omega (arith, m)) refl)) in
-    chain _ (total (damage_at sent got) 0 515) 0 0 (sum_is (damage_at sent got) 0 515) (below_zero _ none) (omega arith) (omega arith)
+    chain _ (total (damage_at sent got) 0 515) 0 0 (sum_is (damage_at sent got) 0 515)
+    (below_zero _ none) (omega arith) (omega arith)
 few_damaged (e ∷ []) file i few l =
     let sent : List ℤ = segment_at file i in
     let got : List ℤ = segment_at (hurt (e ∷ []) file) i in
