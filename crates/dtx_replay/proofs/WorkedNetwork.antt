@@ -1,10 +1,10 @@
 -- A simple network meets every premise of the headline.
-use Rattle.std.proofs.Common.{◌≡◌, ◌≢◌, ◌⊎◌, inl, inr, ℕ, ℤ, zero, suc, ◌+◌, ◌-◌, ◌*◌, ◌/◌, ◌%◌, ◌<◌, ◌≤◌, ◌==◌, ◌&&◌}
-use Rattle.std.proofs.Common.{Bool, true, false, cond, List, [], ◌∷◌, ◌++◌, length, get_or, refl, sym, ap, ap₂, subst}
+use Rattle.std.proofs.Common.{◌≡◌, ◌⊎◌, inl, inr, ℕ, zero, suc, ◌+◌, ◌-◌, ◌*◌, ◌/◌, ◌%◌, ◌<◌, ◌≤◌, ◌==◌, ◌&&◌}
+use Rattle.std.proofs.Common.{Bool, true, false, List, [], ◌∷◌, ◌++◌, length, refl, sym, ap, subst}
 use Rattle.std.proofs.Common.{◌∙◌, arith}
 use Rattle.std.specs.Prelude.{Option, Some, None, IsSomeAnd, filter, slice_get}
 use Rattle.std.specs.FinMap.{get}
-use Rattle.std.specs.List.{range_with_len, AllByRecursion, Contains}
+use Rattle.std.specs.List.{range_with_len, Contains}
 use Rattle.std.specs.Option.{option_map_or}
 use Rattle.std.proofs.lemmas.Bool.{and_from, eq-eqb}
 use Rattle.std.proofs.lemmas.List.Elements.{Contains-append_right}
@@ -16,9 +16,9 @@ use Rattle.dtx_make.specs.Hurt.{hurt}
 use Rattle.dtx_net.specs.PlaceOfLaws.{place_only}
 use Rattle.dtx_net.specs.Sent.{segments_of}
 use Rattle.dtx_net.specs.Steps.{Step, place_of}
-use Rattle.dtx_network.specs.GivesBack.{BeginsField, IsAllBack, IsReceivedAlone, next_field}
-use Rattle.dtx_network.specs.Headline.{IsFirstOrder, last_packet, stretch_of}
-use Rattle.dtx_network.specs.Network.{AreOfOthers, Headline, Joined, steps_under}
+use Rattle.dtx_network.specs.GivesBack.{BeginsField, IsReceivedAlone, next_field}
+use Rattle.dtx_network.specs.Headline.{IsFirstOrder, stretch_of}
+use Rattle.dtx_network.specs.Network.{AreOfOthers, Joined, steps_under}
 use Rattle.dtx_network.specs.Orders.{has_order}
 use Rattle.dtx_network.specs.Plans.{IsInTime, IsPlan, IsStream}
 use Rattle.dtx_network.specs.Presets.{orders}
