@@ -114,15 +114,19 @@ holds() {
         wrong "$1 is not the feed of $2 packets (${difference%%$'\n'*})"
 }
 
-# are_marked STREAM FEED INDEX..: the feed is the stream but for byte 0 of those packets, B8 in place of 47.
-are_marked() {
-    local stream=$1 feed=$2 index changes
-    shift 2
-    changes=$(cmp -l "$stream" "$feed" 2>&1 | sed 's/^ *//; s/  */ /g')
+# differ_in BYTE OLD NEW STREAM OTHER INDEX..: the other stream is the stream but for that byte of those packets, which is NEW in place of
+# OLD, both in octal digits.
+differ_in() {
+    local byte=$1 old=$2 new=$3 stream=$4 other=$5 index changes
+    shift 5
+    changes=$(cmp -l "$stream" "$other" 2>&1 | sed 's/^ *//; s/  */ /g')
     for index in "$@"; do
-        printf '%d 107 270\n' $((index * 188 + 1))
+        printf '%d %s %s\n' $((index * 188 + byte + 1)) "$old" "$new"
     done | cmp -s - <(printf '%s\n' "$changes") || wrong "changed: ${changes//$'\n'/, }"
 }
+
+# are_marked STREAM FEED INDEX..: the feed is the stream but for byte 0 of those packets, B8 in place of 47.
+are_marked() { differ_in 0 107 270 "$@"; }
 
 # ---- Streams ----
 placeholder=1ffa
@@ -180,7 +184,7 @@ plan=../inputs/plan.toml
 
 # ---- The cases, subject by subject ----
 
-for part in adapt plans make code receive excite hurt place net names words refused_streams refused_files forbidden_files; do
+for part in adapt plans make code receive excite hurt place net names overlaps words refused_streams refused_files forbidden_files; do
     . "$top/checks/black_box/$part.sh"
 done
 

@@ -5,11 +5,10 @@ hurt.py DTX FILES    names each file that differs, and ends with the line `hurt:
 """
 
 import random
-import subprocess
 import sys
 import tempfile
 
-from network import differences, end_of, first_past, hurt, tables
+from network import differences, end_of, first_past, hurt, tables, try_each
 
 
 def made_entry(chance, least, most):
@@ -44,10 +43,10 @@ def line_of(damage, length):
     return f"bytes {length} damaged {sum(entry.get('count', 1) for entry in damage)}"
 
 
-def main(dtx, files):
+def cases(dtx, files):
+    """Random files and damage, and what is wrong with what the program makes of them."""
     chance = random.Random(9)
-    passed = failed = 0
-    for number in range(files):
+    for _ in range(files):
         length = chance.choice((0, 1, 831, 262_143, 262_144, 262_145, 524_288, chance.randrange(700_001), chance.randrange(700_001)))
         whole, damage = chance.randbytes(length), made_damage(chance, length)
         inputs = {"in": whole, "changes.toml": tables("damage", damage).encode() or b"damage = []\n"}
@@ -56,14 +55,8 @@ def main(dtx, files):
             wrong = differences(
                 [dtx, "hurt", "in", "changes.toml", "out"], folder, older | inputs, {"out": hurt(whole, damage)}, line_of(damage, length)
             )
-        if wrong:
-            failed += 1
-            print(f"FAILED: file {number} of {length} bytes, damage {damage[:3]}: {'; '.join(wrong)}")
-        else:
-            passed += 1
-    print(f"hurt: {passed} passed, {failed} failed")
-    return failed > 0
+        yield f"{length} bytes, damage {damage[:3]}", wrong
 
 
 if __name__ == "__main__":
-    sys.exit(main(sys.argv[1], int(sys.argv[2])))
+    sys.exit(try_each("hurt", cases(sys.argv[1], int(sys.argv[2]))))

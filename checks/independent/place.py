@@ -8,7 +8,7 @@ import random
 import sys
 import tempfile
 
-from network import differences
+from network import differences, try_each
 from reference import FIELD, PACKET
 
 NULL, PLACEHOLDER, FIRST = 0x1FFF, 0x1FFA, 52
@@ -43,10 +43,10 @@ def made_packet(chance, share):
     return bytes((0x47, chance.randrange(8) << 5 | number >> 8, number & 0xFF)) + chance.randbytes(PACKET - 3)
 
 
-def main(dtx, streams):
+def cases(dtx, streams):
+    """Random streams, and what is wrong with what the program makes of them."""
     chance = random.Random(11)
-    passed = failed = 0
-    for number in range(streams):
+    for _ in range(streams):
         count = chance.choice((0, 1, 52, 53, 311, 312, 313, 364, 365, chance.randrange(1500), chance.randrange(1500)))
         share = chance.choice((0, 0.002, 0.02, 0.5, 5))
         packets = [made_packet(chance, share) for _ in range(count)]
@@ -59,14 +59,8 @@ def main(dtx, streams):
         inputs = {"in.ts": b"".join(packets) + chance.randbytes(loose)}
         with tempfile.TemporaryDirectory() as folder:
             wrong = differences([dtx, "place", "in.ts", "out.ts"], folder, inputs, {"out.ts": b"".join(wanted)}, line)
-        if wrong:
-            failed += 1
-            print(f"FAILED: stream {number} of {count} packets: {'; '.join(wrong)}")
-        else:
-            passed += 1
-    print(f"place: {passed} passed, {failed} failed")
-    return failed > 0
+        yield f"{count} packets", wrong
 
 
 if __name__ == "__main__":
-    sys.exit(main(sys.argv[1], int(sys.argv[2])))
+    sys.exit(try_each("place", cases(sys.argv[1], int(sys.argv[2]))))

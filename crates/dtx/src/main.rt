@@ -8,12 +8,19 @@ use std::process::ExitCode;
 use std::rt::Env;
 use std::{env, io};
 
+/// What standard error says where an output was not begun, so that no input is lost.
+const OVERLAP: &str = "dtx: an output is a file that is read, or another output, under another name";
+
 fn main(rt: HostRuntime) -> ExitCode {
     match words(&rt) {
         Ok(words) => {
             let mut shelf = HostShelf::new(&rt);
             let mut out = HostSink::new(&rt);
-            ExitCode::from(run(rt.alloc(), &words, &mut shelf, &mut out).code())
+            let status = run(rt.alloc(), &words, &mut shelf, &mut out);
+            if shelf.overlap() {
+                let _ = eprintln!(rt; "{OVERLAP}");
+            }
+            ExitCode::from(status.code())
         }
         Err(e) if e.kind() == ErrorKind::OutOfMemory => ExitCode::from(Status::Memory.code()),
         Err(_) => ExitCode::FAILURE,

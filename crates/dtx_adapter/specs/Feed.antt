@@ -45,12 +45,14 @@ counter_at stream k = placeholders (take k stream) % 16
 
 -- what a packet of the stream becomes as packet k of the feed: a placeholder becomes an operations packet that says
 -- this, with this counter, and every other packet keeps all but byte 0
-unfoldable pub made : Ops → ℕ → ℕ → List ℕ → List ℕ
-made ops counter k packet = if is_placeholder packet then spelling ops counter (sync_at k) else marked k packet
+unfoldable pub as_feed_packet : Ops → ℕ → ℕ → List ℕ → List ℕ
+as_feed_packet ops counter k packet = if is_placeholder packet then spelling ops counter
+    (sync_at k) else marked k packet
 
 -- packet k of the feed, before which these packets of it stand
 unfoldable pub fed_packet : Plan → List (List ℕ) → List (List ℕ) → ℕ → List ℕ
-fed_packet plan stream before k = made (ops_at plan before k) (counter_at stream k) k (slice_index_or stream k [])
+fed_packet plan stream before k = as_feed_packet (ops_at plan before k) (counter_at stream k) k
+    (slice_index_or stream k [])
 
 -- the first n packets of the feed
 unfoldable pub feed_to : Plan → List (List ℕ) → ℕ → List (List ℕ)

@@ -8,7 +8,8 @@ use Rattle.std.proofs.lemmas.List.{length-append, take-append-le, take-append-dr
 use Rattle.std.proofs.lemmas.List.{get_or_append_left, length-take-le}
 use Rattle.std.proofs.lemmas.List.Elements.{filter-append}
 use Rattle.dtx_plan.specs.declared.plan.Plan.{Plan}
-use Rattle.dtx_adapter.specs.Feed.{is_placeholder, placeholders, ops_at, counter_at, made, fed_packet, feed_to, feed}
+use Rattle.dtx_adapter.specs.Feed.{is_placeholder, placeholders, ops_at, counter_at, as_feed_packet, fed_packet}
+use Rattle.dtx_adapter.specs.Feed.{feed_to, feed}
 
 -- ---- placeholders
 
@@ -39,7 +40,7 @@ fed_packet-more : (plan : Plan) (stream more before : List (List ℕ)) (k : ℕ)
     → fed_packet plan (stream ++ more) before k ≡ fed_packet plan stream before k
 unfolding fed_packet counter_at
 fed_packet-more plan stream more before k h =
-    ap₂ (λ counter p. made (ops_at plan before k) counter k p)
+    ap₂ (λ counter p. as_feed_packet (ops_at plan before k) counter k p)
     (ap (λ front. placeholders front % 16) (take-append-le k stream more (omega arith)))
     (get_or_append_left stream more [] k h)
 
@@ -118,7 +119,7 @@ feed_packet plan stream k h =
 -- the feed of one packet more
 pub feed_next : (plan : Plan) (stream : List (List ℕ)) (p : List ℕ)
     → feed plan (stream ++ p ∷ []) ≡ feed plan stream
-    ++ made (ops_at plan (feed plan stream) (length stream)) (placeholders stream % 16) (length stream) p ∷ []
+    ++ as_feed_packet (ops_at plan (feed plan stream) (length stream)) (placeholders stream % 16) (length stream) p ∷ []
 unfolding feed feed_to fed_packet counter_at
 feed_next plan stream p =
     let longer : List (List ℕ) = stream ++ p ∷ [] in
@@ -126,7 +127,7 @@ feed_next plan stream p =
     let more : length longer ≡ suc n = omega (arith, length-append stream (p ∷ [])) in
     ap (feed_to plan longer) more
     ∙ ap (λ before. before ++ fed_packet plan longer before n ∷ []) (feed_to-more plan stream (p ∷ []) n (omega arith))
-    ∙ ap₂ (λ front here. feed_to plan stream n ++ made (ops_at plan (feed_to plan stream n) n)
+    ∙ ap₂ (λ front here. feed_to plan stream n ++ as_feed_packet (ops_at plan (feed_to plan stream n) n)
     (placeholders front % 16) n here ∷ [])
     (take-append_seam stream (p ∷ []))
     (get_or-append_seam stream p [] [])

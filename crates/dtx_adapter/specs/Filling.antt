@@ -16,8 +16,8 @@ pub record Filling : Type 0 where
   pub counter : ℕ
 
 -- what packet k of the feed says, where it is filled
-unfoldable pub said : Filling → ℕ → Ops
-said filling k = record {
+unfoldable pub filled_ops : Filling → ℕ → Ops
+filled_ops filling k = record {
   states = filling.states;
   stamp = stamp_of filling.start (k / 624);
   max_delay = filling.max_delay;

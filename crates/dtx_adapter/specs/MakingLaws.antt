@@ -14,14 +14,14 @@ use Rattle.dtx_packets.specs.declared.packet.Packet as packet
 use Rattle.dtx_plan.specs.declared.plan.Plan.{Plan}
 use Rattle.dtx_plan.specs.declared.transmitter.Transmitter.{Transmitter}
 use Rattle.dtx_plan.specs.TransmitterTable.{addresses_of}
-use Rattle.dtx_adapter.specs.Feed.{entry_of, is_placeholder, placeholders, ops_at, made, feed}
-use Rattle.dtx_adapter.specs.Filling.{Filling, Fills, said}
+use Rattle.dtx_adapter.specs.Feed.{entry_of, is_placeholder, placeholders, ops_at, as_feed_packet, feed}
+use Rattle.dtx_adapter.specs.Filling.{Filling, Fills, filled_ops}
 use Rattle.dtx_adapter.specs.FeedsLaws.{placeholders-append, placeholders-one, length-feed, feed_front, feed_next}
 
 -- what is said is what the feed's operations packet says
 said_is : (plan : Plan) (filling : Filling) (stream before : List (List ℕ)) (k : ℕ) → Fills plan filling stream
-    → filling.states ≡ states (take (4 * (k / 4)) before) → said filling k ≡ ops_at plan before k
-unfolding said ops_at
+    → filling.states ≡ states (take (4 * (k / 4)) before) → filled_ops filling k ≡ ops_at plan before k
+unfolding filled_ops ops_at
 said_is plan filling stream before k fills told =
     let a = fills.start in
     let b = fills.max_delay in
@@ -63,20 +63,21 @@ pub made_next : (plan : Plan) (filling : Filling) (stream given xs : List (List 
     → length stream % 4 ≡ 0 → length given < 4 → k ≡ length stream + length given
     → filling.states ≡ states (feed plan stream)
     → xs ≡ drop (length stream) (feed plan (stream ++ given))
-    → xs ++ made (said filling k) filling.counter k p ∷ []
+    → xs ++ as_feed_packet (filled_ops filling k) filling.counter k p ∷ []
     ≡ drop (length stream) (feed plan (stream ++ (given ++ p ∷ [])))
 made_next plan filling stream given xs p k fills whole few at told e =
     let before : List (List ℕ) = stream ++ given in
     let long : k ≡ length before = omega (arith, at, length-append stream given) in
-    let says : said filling k ≡ ops_at plan (feed plan before) (length before) =
+    let says : filled_ops filling k ≡ ops_at plan (feed plan before) (length before) =
     said_is plan filling before (feed plan before) k fills (told
     ∙ ap states (sym (group_states plan stream given k whole few at)))
     ∙ ap (ops_at plan (feed plan before)) long in
     let next : List ℕ =
-    made (ops_at plan (feed plan before) (length before)) (placeholders before % 16) (length before) p in
-    let here : made (said filling k) filling.counter k p ≡ next =
-    ap (λ ops. made ops filling.counter k p) says
-    ∙ ap₂ (λ counter n. made (ops_at plan (feed plan before) (length before)) counter n p) fills.counter long in
+    as_feed_packet (ops_at plan (feed plan before) (length before)) (placeholders before % 16) (length before) p in
+    let here : as_feed_packet (filled_ops filling k) filling.counter k p ≡ next =
+    ap (λ ops. as_feed_packet ops filling.counter k p) says
+    ∙ ap₂ (λ counter n. as_feed_packet (ops_at plan (feed plan before)
+    (length before)) counter n p) fills.counter long in
     ap₂ (λ front q. front ++ q ∷ []) e here
     ∙ sym (drop-append-le (length stream) (feed plan before) (next ∷ []) (omega (
       arith,

@@ -21,7 +21,7 @@ use Rattle.dtx_ops.specs.ReadingsLaws.{changed_reads, pid_of-spelling}
 use Rattle.dtx_plan.specs.Sound.{IsSound}
 use Rattle.dtx_plan.specs.declared.plan.Plan.{Plan}
 use Rattle.dtx_plan.specs.declared.transmitter.Transmitter.{Transmitter}
-use Rattle.dtx_adapter.specs.Feed.{entry_of, is_placeholder, ops_at, counter_at, made, fed_packet, feed}
+use Rattle.dtx_adapter.specs.Feed.{entry_of, is_placeholder, ops_at, counter_at, as_feed_packet, fed_packet, feed}
 use Rattle.dtx_adapter.specs.FeedsLaws.{feed_packet}
 use Rattle.dtx_adapter.specs.MakingLaws.{entries_differ}
 
@@ -65,18 +65,19 @@ spelled_reads f counter sync valid =
     (omega (arith, distance_self (drop 4 (spelling f counter sync))))
 
 made_operations : (ops : Ops) (counter k : ℕ) (p : List ℕ) → pid_of p ≡ 0x1FFA
-    → made ops counter k p ≡ spelling ops counter (sync_at k)
-unfolding made is_placeholder
+    → as_feed_packet ops counter k p ≡ spelling ops counter (sync_at k)
+unfolding as_feed_packet is_placeholder
 made_operations ops counter k p is =
     cond-true (is_placeholder p) (spelling ops counter (sync_at k)) (marked k p) (eq-eqb (pid_of p) 0x1FFA is)
 
-made_other : (ops : Ops) (counter k : ℕ) (p : List ℕ) → pid_of p ≢ 0x1FFA → made ops counter k p ≡ marked k p
-unfolding made is_placeholder
+made_other : (ops : Ops) (counter k : ℕ) (p : List ℕ) → pid_of p ≢ 0x1FFA → as_feed_packet ops counter k p ≡ marked k p
+unfolding as_feed_packet is_placeholder
 made_other ops counter k p other =
     cond-false (is_placeholder p) (spelling ops counter (sync_at k)) (marked k p) (ne_eqb (pid_of p) 0x1FFA other)
 
 fed_made : (plan : Plan) (stream : List (List ℕ)) (k : ℕ) → k < length stream
-    → get_or (feed plan stream) k [] ≡ made (ops_at plan (take k (feed plan stream)) k) (counter_at stream k) k
+    → get_or (feed plan stream) k [] ≡ as_feed_packet (ops_at plan (take k (feed plan stream)) k)
+    (counter_at stream k) k
     (get_or stream k [])
 unfolding fed_packet
 fed_made plan stream k within = feed_packet plan stream k within
@@ -118,11 +119,13 @@ sync-spelling : (f : Ops) (counter sync : ℕ) → sync_of (spelling f counter s
 unfolding spelling
 sync-spelling f counter sync = refl
 
-sync-made : (ops : Ops) (counter k : ℕ) (p : List ℕ) → length p ≡ 188 → sync_of (made ops counter k p) ≡ sync_at k
-unfolding made
+sync-made : (ops : Ops) (counter k : ℕ) (p : List ℕ) → length p ≡ 188
+    → sync_of (as_feed_packet ops counter k p) ≡ sync_at k
+unfolding as_feed_packet
 sync-made ops counter k p long = by_cases (cases_Bool (is_placeholder p))
   where
-    by_cases : (is_placeholder p ≡ true) ⊎ (is_placeholder p ≡ false) → sync_of (made ops counter k p) ≡ sync_at k
+    by_cases : (is_placeholder p ≡ true) ⊎ (is_placeholder p ≡ false)
+        → sync_of (as_feed_packet ops counter k p) ≡ sync_at k
     by_cases (inl t) = ap sync_of (cond-true (is_placeholder p) (spelling ops counter (sync_at k)) (marked k p) t)
         ∙ sync-spelling ops counter (sync_at k)
     by_cases (inr f) = ap sync_of (cond-false (is_placeholder p) (spelling ops counter (sync_at k)) (marked k p) f)

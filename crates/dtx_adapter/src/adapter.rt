@@ -11,10 +11,10 @@ ghost use Rattle.dtx_adapter.specs.Feed.{entry_of, feed, placeholders};
 ghost use Rattle.dtx_adapter.specs.Filling.{Fills};
 
 use crate::filler::Filler;
-use dtx_coder::{Air, Coder, GROUP_PACKETS};
-use dtx_packets::{MOST_PACKETS, Packet};
+use dtx_coder::{Air, Coder};
+use dtx_packets::Packet;
 use dtx_plan::Plan;
-use dtx_trellis::FIELD;
+use dtx_sizes::{FieldPlace, GROUP_PACKETS, MOST_PACKETS, field_place};
 use std::alloc::{AllocError, Global};
 
 /// An adapter. It is given the packets of a stream in order, and makes those of its feed of them (the profile's own, in
@@ -121,7 +121,6 @@ fn code_group(coder: &mut Coder, first: u64, packets: &[Packet; GROUP_PACKETS], 
     ensures { (fed : List (List ℕ)) → length fed ≡ first → groups.StandsFor coder.old fed
         → groups.StandsFor coder.new (fed ++ map (λ p. p.0) packets.now) }
 {
-    let place = (first % FIELD as u64) as u16;
-    let second = first % (2 * FIELD as u64) >= FIELD as u64;
+    let FieldPlace { place, second } = field_place(first);
     coder.group(place, second, packets, None, place == 0, air);
 }

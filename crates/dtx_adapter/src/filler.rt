@@ -4,16 +4,17 @@ ghost use Rattle.dtx_cadence.specs.Mark.{sync_at};
 ghost use Rattle.dtx_ops.specs.Spelling.{spelling, IsEntry};
 ghost use Rattle.dtx_plan.specs.Sound.{IsSound};
 ghost use Rattle.dtx_adapter.specs.Feed as spec;
-ghost use Rattle.dtx_adapter.specs.Feed.{is_placeholder, made};
-ghost use Rattle.dtx_adapter.specs.Filling.{Fills, said};
+ghost use Rattle.dtx_adapter.specs.Feed.{is_placeholder, as_feed_packet};
+ghost use Rattle.dtx_adapter.specs.Filling.{Fills, filled_ops};
 
 use arrayvec::ArrayVec;
 use dtx_cadence::mark;
-use dtx_clock::{PACKETS, stamp};
-use dtx_ops::{Entry, OPERATIONS, Ops, write};
-use dtx_packets::{MOST_PACKETS, Packet};
+use dtx_clock::stamp;
+use dtx_ops::{Entry, Ops, write};
+use dtx_packets::Packet;
 use dtx_plan::{Plan, Transmitter};
 use dtx_rs::Rs;
+use dtx_sizes::{FRAME_PACKETS, MOST_PACKETS, OPERATIONS_PID};
 use dtx_trellis::States;
 use std::marker::Model;
 
@@ -73,17 +74,17 @@ impl Filler {
     }
 
     /// Makes a packet of the stream the packet of that index of the feed, and answers whether it was a placeholder.
-    #[tactic(auto, unfolding(crate::specs::Feed::is_placeholder, crate::specs::Feed::made))]
+    #[tactic(auto, unfolding(crate::specs::Feed::is_placeholder, crate::specs::Feed::as_feed_packet))]
     pub(crate) fn make(&mut self, index: u64, packet: &mut Packet) -> bool
         requires { index < MOST_PACKETS }
-        ensures made { packet.new.0 ≡ made (said self.old index) self.old.counter index packet.old.0 }
+        ensures made { packet.new.0 ≡ as_feed_packet (filled_ops self.old index) self.old.counter index packet.old.0 }
         ensures placeholder { result ≡ is_placeholder packet.old.0 }
         ensures counted { self.new ≡ record self.old {
           counter = if is_placeholder packet.old.0 then
               (self.old.counter + 1) % COUNTERS else self.old.counter;
         } }
     {
-        if packet.pid() == OPERATIONS {
+        if packet.pid() == OPERATIONS_PID {
             self.fill(index, packet);
             true
         } else {
@@ -95,13 +96,13 @@ impl Filler {
     /// Makes a packet the operations packet of that index of the feed.
     fn fill(&mut self, index: u64, packet: &mut Packet)
         requires { index < MOST_PACKETS }
-        ensures filled { packet.new.0 ≡ spelling (said self.old index) self.old.counter (sync_at index) }
+        ensures filled { packet.new.0 ≡ spelling (filled_ops self.old index) self.old.counter (sync_at index) }
         ensures counted { self.new ≡ record self.old { counter = (self.old.counter + 1) % COUNTERS } }
     {
-        let frame = (index / PACKETS as u64) as u32;
+        let frame = (index / FRAME_PACKETS as u64) as u32;
         self.ops.stamp = stamp(self.start, frame);
         self.ops.frame = frame;
-        self.ops.index = (index % PACKETS as u64) as u16;
+        self.ops.index = (index % FRAME_PACKETS as u64) as u16;
         write(&self.code, &self.ops, self.counter, packet);
         mark(index, packet);
         self.counter = (self.counter + 1) % COUNTERS;

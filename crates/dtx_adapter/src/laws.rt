@@ -11,9 +11,7 @@ ghost use Rattle.dtx_plan.specs.Sound.{IsSound};
 ghost use Rattle.dtx_plan.specs.declared.plan.Plan.{Plan};
 ghost use Rattle.dtx_adapter.specs.Feed.{entry_of, placeholders, ops_at, fed_packet, feed};
 
-use dtx_coder::GROUP_PACKETS;
-use dtx_ops::OPERATIONS;
-use dtx_packets::{MOST_PACKETS, PACKET};
+use dtx_sizes::{GROUP_PACKETS, MOST_PACKETS, OPERATIONS_PID, PACKET};
 
 /// A feed has the packets of its stream, and those that come later change none before them.
 pub fn goes_on()
@@ -39,11 +37,11 @@ pub fn prefix()
 pub fn operations_packets()
     ensures read { (plan : Plan) (stream : List (List ℕ)) (k : ℕ) → IsSound plan
         → All (λ t. IsEntry (entry_of t)) plan.transmitters.items → length stream ≤ MOST_PACKETS
-        → k < length stream → pid_of (slice_index_or stream k []) ≡ OPERATIONS
+        → k < length stream → pid_of (slice_index_or stream k []) ≡ OPERATIONS_PID
         → reading (slice_index_or (feed plan stream) k []) ≡ Ok (ops_at plan (take k (feed plan stream)) k) }
     ensures others { (plan : Plan) (stream : List (List ℕ)) (k : ℕ) → k < length stream
-        → pid_of (slice_index_or stream k []) ≢ OPERATIONS
-        → pid_of (slice_index_or (feed plan stream) k []) ≢ OPERATIONS }
+        → pid_of (slice_index_or stream k []) ≢ OPERATIONS_PID
+        → pid_of (slice_index_or (feed plan stream) k []) ≢ OPERATIONS_PID }
     ensures states { (plan : Plan) (stream : List (List ℕ)) (k : ℕ)
         → (ops_at plan (take k (feed plan stream)) k).states
         ≡ states (take (GROUP_PACKETS * (k / GROUP_PACKETS)) (feed plan stream)) }

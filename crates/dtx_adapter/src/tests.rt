@@ -4,8 +4,9 @@ ghost use Rattle.std.specs.Prelude.{◌≡◌, ◌<◌, ◌≤◌, ◌+◌, ◌*
 
 use crate::Adapter;
 use dtx_laws::Whitener;
-use dtx_packets::{PACKET, Packet};
+use dtx_packets::Packet;
 use dtx_plan::read_plan;
+use dtx_sizes::PACKET;
 use dtx_whiten::Atsc;
 use std::alloc::Global;
 use std::process::Abort;

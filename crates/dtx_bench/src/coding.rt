@@ -4,8 +4,9 @@ use crate::times::{Work, print_least};
 use crate::work::{DATA, WORD, add};
 use dtx_outer::Outer;
 use dtx_rs::Rs;
+use dtx_sizes::FIELD_PACKETS;
 use dtx_spread::Branches;
-use dtx_whiten::{Atsc, FIELD_PACKETS};
+use dtx_whiten::Atsc;
 use std::alloc::Global;
 use std::io;
 use std::rt::Clock;
@@ -19,7 +20,7 @@ struct Coding {
 impl Work for Coding {
     fn round(&mut self) -> u8 {
         let mut out = [0; WORD];
-        for place in 0..FIELD_PACKETS {
+        for place in 0..FIELD_PACKETS as usize {
             self.outer.code(place, &self.head, &mut out);
             add(&mut self.head, &out);
         }

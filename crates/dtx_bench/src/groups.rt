@@ -1,12 +1,13 @@
 //! How long the trellis coders take.
 
 use crate::times::{Work, print_least};
-use dtx_trellis::{CODERS, FIELD, GROUP_BYTES, GROUP_LEVELS, Twelve};
+use dtx_sizes::{CODERS, FIELD_PACKETS, GROUP_BYTES, GROUP_LEVELS};
+use dtx_trellis::Twelve;
 use std::io;
 use std::rt::Clock;
 
 /// How many groups a round codes: those of a field.
-const GROUPS: u16 = FIELD / 4;
+const GROUPS: u16 = FIELD_PACKETS / 4;
 
 #[derive(Drop)]
 struct Groups {

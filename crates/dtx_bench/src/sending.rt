@@ -1,16 +1,15 @@
 //! How long a group takes as a whole, from four packets to the symbols of their segments.
 
 use crate::times::{Work, print_least};
-use dtx_coder::{Air, Coder, GROUP_PACKETS};
-use dtx_frame::{LAST, SEGMENT};
-use dtx_packets::{PACKET, Packet};
-use dtx_trellis::FIELD;
+use dtx_coder::{Air, Coder};
+use dtx_packets::Packet;
+use dtx_sizes::{FIELD_PACKETS, GROUP_PACKETS, PACKET, PRECODE, SEGMENT};
 use std::alloc::Global;
 use std::io;
 use std::rt::Clock;
 
 /// How many groups a round codes: those of a field.
-const GROUPS: u16 = FIELD / 4;
+const GROUPS: u16 = FIELD_PACKETS / 4;
 
 #[derive(Drop)]
 struct Sending {
@@ -26,8 +25,8 @@ impl Work for Sending {
             let sync = first == 0;
             self.coder
                 .group(first, false, &self.packets, None, sync, &mut self.air);
-            for i in 0..LAST {
-                self.packets[0].0[1 + i] ^= self.air.symbols[GROUP_PACKETS * SEGMENT - LAST
+            for i in 0..PRECODE {
+                self.packets[0].0[1 + i] ^= self.air.symbols[GROUP_PACKETS * SEGMENT - PRECODE
                     + i].cast_unsigned();
             }
         }

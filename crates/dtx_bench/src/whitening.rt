@@ -5,7 +5,8 @@ ghost use Rattle.std.specs.Prelude.{◌+◌, ◌≤◌};
 use crate::times::{Work, print_least};
 use crate::work::DATA;
 use dtx_laws::Whitener;
-use dtx_whiten::{Atsc, FIELD_PACKETS};
+use dtx_sizes::FIELD_PACKETS;
+use dtx_whiten::Atsc;
 use std::alloc::Global;
 use std::io;
 use std::rt::Clock;
@@ -25,7 +26,7 @@ struct Whitening {
 impl Work for Whitening {
     fn round(&mut self) -> u8 {
         for _ in 0..FIELDS {
-            for place in 0..FIELD_PACKETS {
+            for place in 0..FIELD_PACKETS as usize {
                 self.head = whiten(&self.whitener, DATA * place, &self.head);
             }
         }

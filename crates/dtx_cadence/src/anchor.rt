@@ -3,7 +3,7 @@ ghost use Rattle.std.specs.Prelude.{◌≡◌, ℕ, [], ◌∷◌, ◌++◌, Lis
 ghost use Rattle.dtx_cadence.specs.Anchor.{StandsFor, IsSeen, seen};
 ghost use Rattle.dtx_cadence.specs.Step.{kept_after, answer};
 
-use crate::marks::{INTERVAL, MARK};
+use dtx_sizes::{FRAME_PACKETS, MARK};
 use std::marker::Model;
 
 /// What an anchor says of one more packet.
@@ -63,7 +63,7 @@ impl Anchor {
         let is_mark = sync == MARK;
         match self.place {
             Some(place) if is_mark == (place == 0) => {
-                self.place = Some((place + 1) % INTERVAL as u16);
+                self.place = Some((place + 1) % FRAME_PACKETS);
                 Seen::At(place)
             }
             Some(_) if is_mark => {

@@ -5,4 +5,4 @@ mod anchor;
 mod marks;
 
 pub use anchor::{Anchor, Seen};
-pub use marks::{INTERVAL, MARK, SYNC, mark};
+pub use marks::mark;

@@ -3,27 +3,23 @@ ghost use Rattle.std.specs.Prelude.{◌≡◌};
 ghost use Rattle.dtx_cadence.specs.Mark.{marked};
 
 use dtx_packets::Packet;
-
-/// The sync byte of a packet that is a mark (the profile's own).
-pub const MARK: u8 = 0xB8;
-
-/// The sync byte of every other packet (ISO/IEC 13818-1, 2.4.3.3).
-pub const SYNC: u8 = 0x47;
-
-/// How many packets there are from one mark to the next, as many as a frame has (the profile's own).
-pub const INTERVAL: u64 = 624;
+use dtx_sizes::{FRAME_PACKETS, MARK, PACKET, SYNC};
 
 /// Sets the sync byte of the packet of that index in the feed: a mark at each multiple of 624.
 pub fn mark(index: u64, packet: &mut Packet)
     ensures { packet.new.0 ≡ marked index packet.old.0 }
 {
-    packet.0[0] = if index % INTERVAL == 0 { MARK } else { SYNC };
+    packet.0[0] = if index % FRAME_PACKETS as u64 == 0 {
+        MARK
+    } else {
+        SYNC
+    };
 }
 
 #[cfg(test)]
 mod tests {
     use super::*;
-    use dtx_packets::PACKET;
+    use dtx_sizes::PACKET;
 
     #[test]
     fn the_first_packet_of_each_frame_is_a_mark(rt: HostRuntime) {

@@ -11,11 +11,11 @@ use Rattle.dtx_slice.specs.Unrolled.{level_groups, byte_back, bytes_back}
 use Rattle.dtx_coder.specs.Stream.{a53}
 use Rattle.dtx_coder.specs.CountsLaws.{length-a53}
 use Rattle.dtx_receiver.specs.Bytes.{data_count, data_at, groups_of, levels_from, levels_in, first_formers, bytes_in}
-use Rattle.dtx_receiver.specs.Packets.{is_complete, received_at, packets_of, all_packets, received}
+use Rattle.dtx_receiver.specs.Packets.{is_complete, received_at, run_packets, all_packets, received}
 use Rattle.dtx_receiver.specs.declared.batch.Received.{Received}
 use Rattle.dtx_receiver.specs.CompleteLaws.{complete_told}
 use Rattle.dtx_receiver.specs.SegmentsLaws.{segment_long}
-use Rattle.dtx_chain.specs.Undamaged.{ArePackets, with_sync}
+use Rattle.dtx_chain.specs.Undamaged.{ArePackets, as_received}
 use Rattle.dtx_chain.specs.Damage.{as_corrected, AreReceived, IsSlight, to_sync, from_sync, packet_behind, numbers_in}
 use Rattle.dtx_chain.specs.Damage.{word_in}
 use Rattle.dtx_chain.specs.SlightLaws.{sent_within, sync_first, field_begins, one_run_left}
@@ -102,9 +102,9 @@ number_within ps first sent got r l j m =
 
 from_run : (ps : List (List ℕ)) (first : ℕ) (sent got : List (List ℤ)) → AreReceived ps first sent got
     → to_sync first < length sent → IsSlight ps first sent got → ArePackets ps
-    → packets_of (bytes_in (from_sync first got))
+    → run_packets (bytes_in (from_sync first got))
     ≡ map (λ j. as_corrected ps (packet_behind first + j) (word_in first got j)) (numbers_in (from_sync first got))
-unfolding packets_of numbers_in word_in
+unfolding run_packets numbers_in word_in
 from_run ps first sent got r l h p =
     ap (λ n. map (received_at bytes) (filter (is_complete n) (range_with_len 0 (n / 207))))
     (run_bytes (from_sync first got) (run_long ps first sent got r))
@@ -130,19 +130,19 @@ pub all_good : (ps : List (List ℕ)) (first : ℕ) (sent got : List (List ℤ))
     (numbers_in (from_sync first got))
 unfolding all_packets
 all_good ps first sent got r l h p =
-    ap (flat_map (λ run. packets_of (bytes_in run))) (one_run_left ps first sent got r l h)
-    ∙ append-nil (packets_of (bytes_in (from_sync first got)))
+    ap (flat_map (λ run. run_packets (bytes_in run))) (one_run_left ps first sent got r l h)
+    ∙ append-nil (run_packets (bytes_in (from_sync first got)))
     ∙ from_run ps first sent got r l h p
 
 corrected_bytes : (ps : List (List ℕ)) (f : ℕ) (word : ℕ → List ℕ) (js : List ℕ)
     → map (λ (r : Received). r.packet.0) (map (λ j. as_corrected ps (f + j) (word j)) js)
-    ≡ map (λ j. with_sync (get_or ps (f + j) [])) js
+    ≡ map (λ j. as_received (get_or ps (f + j) [])) js
 unfolding as_corrected
 corrected_bytes ps f word js = map-map (λ (r : Received). r.packet.0) (λ j. as_corrected ps (f + j) (word j)) js
 
 pub all_back : (ps : List (List ℕ)) (first : ℕ) (sent got : List (List ℤ)) → AreReceived ps first sent got
     → to_sync first < length sent → IsSlight ps first sent got → ArePackets ps
-    → received got ≡ map (λ j. with_sync (get_or ps (packet_behind first + j) [])) (numbers_in (from_sync first got))
+    → received got ≡ map (λ j. as_received (get_or ps (packet_behind first + j) [])) (numbers_in (from_sync first got))
 unfolding received
 all_back ps first sent got r l h p =
     ap (map (λ (r : Received). r.packet.0)) (all_good ps first sent got r l h p)

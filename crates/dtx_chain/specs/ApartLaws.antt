@@ -25,7 +25,7 @@ use Rattle.dtx_whiten.specs.PacketsLaws.{length-randomized, randomized_whitened}
 use Rattle.dtx_outer.specs.Inner.{word_at}
 use Rattle.dtx_receiver.specs.Packets.{received_at}
 use Rattle.dtx_receiver.specs.declared.batch.Received.{Received}
-use Rattle.dtx_chain.specs.Undamaged.{ArePackets, with_sync}
+use Rattle.dtx_chain.specs.Undamaged.{ArePackets, as_received}
 use Rattle.dtx_chain.specs.Damage.{codeword_at, as_corrected}
 use Rattle.dtx_chain.specs.WordsLaws.{is_codeword, corrected_back, packet_at}
 
@@ -212,7 +212,7 @@ others zero p l b = tt
 others (suc n) p l b = ((l, b), others n p l b)
 
 gives_other : (f j : ℕ) (p y : List ℕ) → length p ≡ 188 → AreBytes p → f % 312 ≡ 0
-    → word_at 207 52 4 y j ≡ between (f + j) p → (received_at y j).packet.0 ≡ with_sync (other_last p)
+    → word_at 207 52 4 y j ≡ between (f + j) p → (received_at y j).packet.0 ≡ as_received (other_last p)
 unfolding codeword_at as_corrected
 gives_other f j p y l b z e =
     let q : List ℕ = other_last p in
@@ -224,13 +224,13 @@ gives_other f j p y l b z e =
     (near_other (f + j) p)) in
     ap (λ (r : Received). r.packet.0) (corrected_back ps y f j
     (others (f + j + 1) q (length-other p l) (bytes_other p b)) z (omega (arith, length-replicate (f + j + 1) q)) near)
-    ∙ ap with_sync there
+    ∙ ap as_received there
 
 pub goes_elsewhere : (ps : List (List ℕ)) (f j : ℕ) → ArePackets ps → f % 312 ≡ 0 → f + j < length ps
     → (word : List ℕ) × (length word ≡ 207) × AreBytes word × (distance word (codeword_at ps (f + j)) ≡ 11)
     × ((y : List ℕ) → word_at 207 52 4 y j ≡ word
-    → (received_at y j).packet.0 ≢ with_sync (get_or ps (f + j) []))
-unfolding codeword_at with_sync
+    → (received_at y j).packet.0 ≢ as_received (get_or ps (f + j) []))
+unfolding codeword_at as_received
 goes_elsewhere ps f j h z l =
     let p : List ℕ = get_or ps (f + j) [] in
     let own : (length (get_or ps (f + j) []) ≡ 188) × AreBytes (get_or ps (f + j) []) = packet_at ps (f + j) h l in (

@@ -14,7 +14,7 @@ use Rattle.dtx_receiver.specs.Bytes.{groups_of, bytes_in}
 use Rattle.dtx_receiver.specs.Intervals.{looks_at}
 use Rattle.dtx_receiver.specs.Packets.{is_complete}
 use Rattle.dtx_receiver.specs.declared.batch.Received.{Received}
-use Rattle.dtx_chain.specs.Undamaged.{with_sync}
+use Rattle.dtx_chain.specs.Undamaged.{as_received}
 
 -- ---- words
 
@@ -29,7 +29,7 @@ IsNear packets k word = distance word (codeword_at packets k) ≤ 10
 -- packet k, received good, where the bytes put right are those in which the word differs from its codeword
 unfoldable pub as_corrected : List (List ℕ) → ℕ → List ℕ → Received
 as_corrected packets k word = record {
-  packet = record { 0 = with_sync (slice_index_or packets k []) };
+  packet = record { 0 = as_received (slice_index_or packets k []) };
   fixed = distance word (codeword_at packets k);
   good = true;
 }
@@ -41,8 +41,8 @@ unfoldable pub damage_at : List ℤ → List ℤ → ℕ → ℕ
 damage_at sent got i = if sliced (slice_index_or got i (pos 0)) == sliced (slice_index_or sent i (pos 0)) then 0 else 1
 
 -- how many of a segment's first 515 symbols are damaged
-unfoldable pub damaged : List ℤ → List ℤ → ℕ
-damaged sent got = sum (map (damage_at sent got) (range_with_len 0 515))
+unfoldable pub damaged_symbols : List ℤ → List ℤ → ℕ
+damaged_symbols sent got = sum (map (damage_at sent got) (range_with_len 0 515))
 
 -- ---- segments
 
@@ -78,7 +78,7 @@ pub record IsSlight (packets : List (List ℕ)) (first : ℕ) (sent got : List (
   pub syncs : (i : ℕ) → i < length sent → (first + i) % 313 ≡ 0 → looks_at got i ≡ true
   -- No data segment before the first field sync has more than 31 damaged symbols among its first 515.
   pub before : (i : ℕ) → i < length sent → i < to_sync first
-      → damaged (slice_index_or sent i []) (slice_index_or got i []) ≤ 31
+      → damaged_symbols (slice_index_or sent i []) (slice_index_or got i []) ≤ 31
   -- Each word of the run from the first field sync on whose bytes are all there is near the codeword of its packet.
   pub words : (j : ℕ) → IsComplete 207 52 4 (828 * groups_of (from_sync first got)) j
       → IsNear packets (packet_behind first + j) (word_in first got j)

@@ -9,11 +9,12 @@ use Rattle.dtx_laws.specs.Codeword.{distance}
 use Rattle.dtx_laws.specs.WordsLaws.{distance_self}
 use Rattle.dtx_trellis.specs.Pairs.{group_place}
 use Rattle.dtx_slice.specs.Slicing.{sliced, sliced_data, sliced_last}
-use Rattle.dtx_slice.specs.Unrolled.{bytes_back, byte_back, former, level_groups, formers_of, formers_in, formers_after}
+use Rattle.dtx_slice.specs.Unrolled.{bytes_back, byte_back, precoder_bit, level_groups, precoder_bits_of}
+use Rattle.dtx_slice.specs.Unrolled.{precoder_bits_in, precoder_bits_after}
 use Rattle.dtx_slice.specs.InverseLaws.{bytes_come_back}
 use Rattle.dtx_slice.specs.JoinsLaws.{bytes_append, formers_repeated}
 use Rattle.dtx_frame.specs.SlicesLaws.{end_back, last_back}
-use Rattle.dtx_outer.specs.Inner.{place_of, word_at, IsComplete}
+use Rattle.dtx_outer.specs.Inner.{codeword_byte_place, word_at, IsComplete}
 use Rattle.dtx_outer.specs.WordsLaws.{length-word, get_or-word, word_by, word_stays}
 use Rattle.dtx_coder.specs.Coded.{whole_groups}
 use Rattle.dtx_coder.specs.Stream.{zero_states, levels, segment, no_last, last_of, last_before, a53}
@@ -22,8 +23,8 @@ use Rattle.dtx_coder.specs.LevelsLaws.{length-levels}
 use Rattle.dtx_coder.specs.SegmentsLaws.{segment_is}
 use Rattle.dtx_coder.specs.CountsLaws.{length-a53}
 use Rattle.dtx_receiver.specs.Bytes.{data_count, data_at, groups_of, levels_from, levels_in, first_formers, bytes_in}
-use Rattle.dtx_receiver.specs.RangesLaws.{flat_map-range_same}
 use Rattle.dtx_receiver.specs.SegmentsLaws.{levels_parts}
+use Rattle.dtx_lists.proofs.RangeMoved.{flat_map-range_same}
 use Rattle.dtx_chain.specs.Undamaged.{ArePackets}
 use Rattle.dtx_chain.specs.Damage.{codeword_at, IsNear}
 use Rattle.dtx_chain.specs.PlacesLaws.{sync_at, data_at_place}
@@ -101,8 +102,8 @@ length-levels_to : (ps : List (List ℕ)) (u : ℕ) → u ≤ length ps / 4 → 
 unfolding levels_to
 length-levels_to ps u l = length-take-le (3312 * u) (levels ps) (omega (arith, l, length-levels ps))
 
-none_yet : formers_after 0 (formers_in zero_states) [] ≡ formers_in zero_states
-unfolding formers_after former level_groups formers_in zero_states
+none_yet : precoder_bits_after 0 (precoder_bits_in zero_states) [] ≡ precoder_bits_in zero_states
+unfolding precoder_bits_after precoder_bit level_groups precoder_bits_in zero_states
 none_yet = refl
 
 slice_small : (ps : List (List ℕ)) (a : ℕ) → 828 * a + 828 ≤ length (levels ps) → (i : ℕ) → i < 828
@@ -143,31 +144,32 @@ field_turns : (q : ℕ) → group_place 0 (78 * q) ≡ 0
 unfolding group_place
 field_turns q = omega arith
 
-last_there : (ps : List (List ℕ)) (q : ℕ) → 78 * q ≤ length ps / 4 → formers_of (map sliced (last_before ps (78 * q)))
-    ≡ formers_after 0 (formers_in zero_states) (levels_to ps (78 * q))
+last_there : (ps : List (List ℕ)) (q : ℕ) → 78 * q ≤ length ps / 4
+    → precoder_bits_of (map sliced (last_before ps (78 * q)))
+    ≡ precoder_bits_after 0 (precoder_bits_in zero_states) (levels_to ps (78 * q))
 unfolding levels_to
-last_there ps zero l = ap (λ x. formers_of (map sliced x)) (nothing_before ps) ∙ zero_formers ∙ sym none_yet
+last_there ps zero l = ap (λ x. precoder_bits_of (map sliced x)) (nothing_before ps) ∙ zero_formers ∙ sym none_yet
 last_there ps (suc q) l =
     let u : ℕ = 78 * suc q in
     let some : 0 < u = omega arith in
-    ap (λ x. formers_of (map sliced x)) (last_is ps u some)
-    ∙ ap formers_of (sliced_end (segment (levels ps) (4 * u - 1)) ∙ last_levels ps u some l)
-    ∙ formers_repeated 0 u (formers_in zero_states) (levels_to ps u) (length-levels_to ps u l) some
+    ap (λ x. precoder_bits_of (map sliced x)) (last_is ps u some)
+    ∙ ap precoder_bits_of (sliced_end (segment (levels ps) (4 * u - 1)) ∙ last_levels ps u some l)
+    ∙ formers_repeated 0 u (precoder_bits_in zero_states) (levels_to ps u) (length-levels_to ps u l) some
     (field_turns (suc q))
 
 group_starts : (q n l u : ℕ) → 0 < n → 313 * q + n ≤ l → l ≡ 4 * u + (u + 77) / 78 → 78 * q < u
 group_starts q n l u s a e = omega (arith, s, a, e)
 
 first_there : (ps : List (List ℕ)) (q : ℕ) (run : List (List ℤ)) → IsThere ps q run
-    → first_formers run ≡ formers_after 0 (formers_in zero_states) (levels_to ps (78 * q))
+    → first_formers run ≡ precoder_bits_after 0 (precoder_bits_in zero_states) (levels_to ps (78 * q))
 unfolding first_formers
 first_there ps q run h =
     let there : 313 * q + 0 ≡ 4 * (78 * q) + (78 * q + 77) / 78 = omega arith in
     let some : 78 * q < length ps / 4 =
     group_starts q (length run) (length (a53 ps)) (length ps / 4) h.some h.within (length-a53 ps) in
-    ap (λ s. formers_of (sliced_last s)) (h.same 0 h.some ∙ ap (λ i. get_or (a53 ps) i []) there
+    ap (λ s. precoder_bits_of (sliced_last s)) (h.same 0 h.some ∙ ap (λ i. get_or (a53 ps) i []) there
     ∙ sync_at ps (78 * q) some (omega arith))
-    ∙ ap formers_of (last_back (nat_le 312 (4 * (78 * q) % 624)) (last_before ps (78 * q)))
+    ∙ ap precoder_bits_of (last_back (nat_le 312 (4 * (78 * q) % 624)) (last_before ps (78 * q)))
     ∙ last_there ps q (omega (arith, some))
 
 -- ---- its bytes
@@ -180,27 +182,30 @@ record AreThere (ps : List (List ℕ)) (q : ℕ) (run : List (List ℤ)) : Type 
   pub long : length before ≡ 828 * (78 * q)
   pub own : length (bytes_in run) ≡ 828 * groups_of run
 
-whole_is : (ps : List (List ℕ)) → ArePackets ps → bytes_back 0 (formers_in zero_states) (levels ps) ≡ whole_groups ps
+whole_is : (ps : List (List ℕ)) → ArePackets ps → bytes_back 0 (precoder_bits_in zero_states) (levels ps)
+    ≡ whole_groups ps
 unfolding levels
 whole_is ps h = bytes_come_back 0 (length ps / 4) zero_states (whole_groups ps) (length-whole ps) (whole_small ps h)
 
-length-back : (s u : ℕ) (formers zs : List ℕ) → length zs ≡ 3312 * u → length (bytes_back s formers zs) ≡ 828 * u
+length-back : (s u : ℕ) (precoder_bits zs : List ℕ) → length zs ≡ 3312 * u
+    → length (bytes_back s precoder_bits zs) ≡ 828 * u
 unfolding bytes_back level_groups
-length-back s u formers zs e =
+length-back s u precoder_bits zs e =
     let g : length zs / 3312 ≡ u = omega (arith, e) in
-    length-map-range_with_len (byte_back s formers zs) 0 (828 * (length zs / 3312)) ∙ ap (λ (n : ℕ). 828 * n) g
+    length-map-range_with_len (byte_back s precoder_bits zs) 0 (828 * (length zs / 3312)) ∙ ap (λ (n : ℕ). 828 * n) g
 
 bytes_there : (ps : List (List ℕ)) (q : ℕ) (run : List (List ℤ)) → ArePackets ps → IsThere ps q run
     → AreThere ps q run
 unfolding bytes_in levels_to
 bytes_there ps q run p h = record {
   before = bytes_back 0 none front;
-  after = bytes_back (group_place 0 (groups_of run)) (formers_after 0 formers own) rest;
+  after = bytes_back (group_place 0 (groups_of run)) (precoder_bits_after 0 precoder_bits own) rest;
   all = sym (whole_is ps p) ∙ ap (bytes_back 0 none) parts
       ∙ bytes_append 0 u none front (own ++ rest) (length-levels_to ps u begun)
-      ∙ ap (λ (s : ℕ). bytes_back 0 none front ++ bytes_back s formers (own ++ rest)) (field_turns q)
-      ∙ ap (λ x. bytes_back 0 none front ++ x) (bytes_append 0 (groups_of run) formers own rest own_long
-      ∙ ap₂ (λ x y. bytes_back 0 x y ++ bytes_back (group_place 0 (groups_of run)) (formers_after 0 formers own) rest)
+      ∙ ap (λ (s : ℕ). bytes_back 0 none front ++ bytes_back s precoder_bits (own ++ rest)) (field_turns q)
+      ∙ ap (λ x. bytes_back 0 none front ++ x) (bytes_append 0 (groups_of run) precoder_bits own rest own_long
+      ∙ ap₂ (λ x y. bytes_back 0 x y ++ bytes_back (group_place 0 (groups_of run))
+      (precoder_bits_after 0 precoder_bits own) rest)
       (sym (first_there ps q run h)) (sym own_is));
   long = length-back 0 u none front (length-levels_to ps u begun);
   own = length-back 0 (groups_of run) (first_formers run) (levels_in run) (ap length own_is ∙ own_long);
@@ -210,7 +215,7 @@ bytes_there ps q run p h = record {
     u = 78 * q
 
     none : List ℕ
-    none = formers_in zero_states
+    none = precoder_bits_in zero_states
 
     front : List ℕ
     front = levels_to ps (78 * q)
@@ -224,8 +229,8 @@ bytes_there ps q run p h = record {
     rest : List ℕ
     rest = drop (3312 * groups_of run) (drop (3312 * (78 * q)) (levels ps))
 
-    formers : List ℕ
-    formers = formers_after 0 (formers_in zero_states) (levels_to ps (78 * q))
+    precoder_bits : List ℕ
+    precoder_bits = precoder_bits_after 0 (precoder_bits_in zero_states) (levels_to ps (78 * q))
 
     begun : 78 * q ≤ length ps / 4
     begun = omega (arith, groups_within ps q run h)
@@ -260,10 +265,12 @@ word_moved q j x y e =
     word_by 207 52 4 y j (word_at 207 52 4 (x ++ y) (312 * q + j)) (length-word 207 52 4 (x ++ y) (312 * q + j))
     (λ i l. get_or-word 207 52 4 (x ++ y) (312 * q + j) i l
     ∙ ap (λ n. get_or (x ++ y) n 0) (place i)
-    ∙ get_or-append_right x y (828 * (78 * q)) (828 * (78 * q) + place_of 52 4 (207 * j + i)) 0 e (omega arith)
-    ∙ ap (λ n. get_or y n 0) (back (828 * (78 * q)) (place_of 52 4 (207 * j + i))))
+    ∙ get_or-append_right x y (828 * (78 * q)) (828 * (78 * q) + codeword_byte_place 52 4 (207 * j + i)) 0 e
+    (omega arith)
+    ∙ ap (λ n. get_or y n 0) (back (828 * (78 * q)) (codeword_byte_place 52 4 (207 * j + i))))
   where
-    place : (i : ℕ) → place_of 52 4 (207 * (312 * q + j) + i) ≡ 828 * (78 * q) + place_of 52 4 (207 * j + i)
+    place : (i : ℕ) → codeword_byte_place 52 4 (207 * (312 * q + j) + i)
+        ≡ 828 * (78 * q) + codeword_byte_place 52 4 (207 * j + i)
     place i = omega arith
 
     back : (m n : ℕ) → m + n - m ≡ n

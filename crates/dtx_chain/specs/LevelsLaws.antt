@@ -10,7 +10,7 @@ use Rattle.dtx_lists.proofs.Range.{range_with_len-parts}
 use Rattle.dtx_trellis.specs.Pairs.{groups}
 use Rattle.dtx_trellis.specs.Groups.{level_at, levels_of}
 use Rattle.dtx_slice.specs.Slicing.{sliced, sliced_data, sliced_last}
-use Rattle.dtx_slice.specs.Unrolled.{bytes_back, formers_of, formers_in}
+use Rattle.dtx_slice.specs.Unrolled.{bytes_back, precoder_bits_of, precoder_bits_in}
 use Rattle.dtx_slice.specs.InverseLaws.{bytes_come_back}
 use Rattle.dtx_frame.specs.RuleLaws.{level_at_small}
 use Rattle.dtx_frame.specs.SlicesLaws.{data_back, last_back}
@@ -21,7 +21,7 @@ use Rattle.dtx_coder.specs.LevelsLaws.{length-levels}
 use Rattle.dtx_coder.specs.SegmentsLaws.{segment_is}
 use Rattle.dtx_coder.specs.CountsLaws.{length-a53}
 use Rattle.dtx_receiver.specs.Bytes.{data_count, data_at, groups_of, levels_from, levels_in, first_formers, bytes_in}
-use Rattle.dtx_receiver.specs.RangesLaws.{flat_map-range_same}
+use Rattle.dtx_lists.proofs.RangeMoved.{flat_map-range_same}
 use Rattle.dtx_chain.specs.PlacesLaws.{sync_at, data_at_place}
 
 -- ---- the levels
@@ -102,15 +102,15 @@ pub nothing_before : (ps : List (List ℕ)) → last_before ps 0 ≡ no_last
 unfolding last_before
 nothing_before ps = refl
 
-pub zero_formers : formers_of (map sliced no_last) ≡ formers_in zero_states
-unfolding formers_of sliced no_last formers_in zero_states
+pub zero_formers : precoder_bits_of (map sliced no_last) ≡ precoder_bits_in zero_states
+unfolding precoder_bits_of sliced no_last precoder_bits_in zero_states
 zero_formers = refl
 
-formers_are : (ps : List (List ℕ)) → 4 ≤ length ps → first_formers (a53 ps) ≡ formers_in zero_states
+formers_are : (ps : List (List ℕ)) → 4 ≤ length ps → first_formers (a53 ps) ≡ precoder_bits_in zero_states
 unfolding first_formers
 formers_are ps l =
-    ap (λ s. formers_of (sliced_last s)) (sync_at ps 0 (omega arith) refl)
-    ∙ ap formers_of (last_back (nat_le 312 0) (last_before ps 0) ∙ ap (map sliced) (nothing_before ps))
+    ap (λ s. precoder_bits_of (sliced_last s)) (sync_at ps 0 (omega arith) refl)
+    ∙ ap precoder_bits_of (last_back (nat_le 312 0) (last_before ps 0) ∙ ap (map sliced) (nothing_before ps))
     ∙ zero_formers
 
 pub bytes_are : (ps : List (List ℕ)) → 4 ≤ length ps

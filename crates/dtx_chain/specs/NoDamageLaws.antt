@@ -12,7 +12,8 @@ use Rattle.dtx_coder.specs.Stream.{a53}
 use Rattle.dtx_coder.specs.CountsLaws.{a53_segment}
 use Rattle.dtx_receiver.specs.Bytes.{data_count, groups_of, bytes_in}
 use Rattle.dtx_chain.specs.Undamaged.{ArePackets}
-use Rattle.dtx_chain.specs.Damage.{IsNear, damage_at, damaged, AreReceived, IsSlight, to_sync, from_sync, packet_behind}
+use Rattle.dtx_chain.specs.Damage.{IsNear, damage_at, damaged_symbols, AreReceived, IsSlight, to_sync, from_sync}
+use Rattle.dtx_chain.specs.Damage.{packet_behind}
 use Rattle.dtx_chain.specs.Damage.{word_in}
 use Rattle.dtx_chain.specs.PlacesLaws.{syncs_look}
 use Rattle.dtx_chain.specs.SlightLaws.{sent_within, sent_at, sync_first, none_earlier}
@@ -55,8 +56,8 @@ part_received ps first end =
 
 -- ---- no symbol is damaged
 
-none_damaged : (segment : List ℤ) → damaged segment segment ≡ 0
-unfolding damaged damage_at
+none_damaged : (segment : List ℤ) → damaged_symbols segment segment ≡ 0
+unfolding damaged_symbols damage_at
 none_damaged segment =
     sum_is (damage_at segment segment) 0 515
     ∙ total_zeros (damage_at segment segment) 0 515
@@ -115,7 +116,7 @@ is_slight ps first sent r p = record {
 
 pub slight_before : (ps : List (List ℕ)) (first : ℕ) (sent got : List (List ℤ)) → AreReceived ps first sent got
     → ArePackets ps → from_sync first got ≡ from_sync first sent
-    → ((i : ℕ) → i < length sent → i < to_sync first → damaged (get_or sent i []) (get_or got i []) ≤ 31)
+    → ((i : ℕ) → i < length sent → i < to_sync first → damaged_symbols (get_or sent i []) (get_or got i []) ≤ 31)
     → IsSlight ps first sent got
 unfolding word_in from_sync
 slight_before ps first sent got r p same few = record {

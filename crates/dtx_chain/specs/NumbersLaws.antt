@@ -3,11 +3,11 @@ use Rattle.std.proofs.Common.{◌≡◌, ℕ, zero, suc, ◌+◌, ◌*◌, ◌/�
 use Rattle.std.proofs.Common.{get_or, ap, ◌∙◌, subst, inl, inr, arith, zero-add}
 use Rattle.std.specs.List.{range_with_len, filter}
 use Rattle.std.proofs.lemmas.Bool.{cases_lt}
-use Rattle.dtx_outer.specs.Inner.{place_of, IsComplete}
-use Rattle.dtx_receiver.specs.Packets.{is_complete, received_at, packets_of}
+use Rattle.dtx_outer.specs.Inner.{codeword_byte_place, IsComplete}
+use Rattle.dtx_receiver.specs.Packets.{is_complete, received_at, run_packets}
 use Rattle.dtx_receiver.specs.declared.batch.Received.{Received}
 use Rattle.dtx_receiver.specs.CompleteLaws.{complete_told}
-use Rattle.dtx_receiver.specs.RangesLaws.{filter-kept}
+use Rattle.dtx_lists.proofs.RangeFilter.{filter-kept}
 
 -- each byte of a word stands before one of the next word in the same branch
 complete_before : (count k : ℕ) → IsComplete 207 52 4 count (suc k) → IsComplete 207 52 4 count k
@@ -23,13 +23,13 @@ complete_before count k c = λ j l. by_place j l (cases_lt j 206)
     next : 207 * suc k ≡ 207 * k + 207
     next = omega arith
 
-    at : (i : ℕ) → i < 207 → place_of 52 4 (207 * k + 207 + i) < count
-    at i l = subst (λ (n : ℕ). place_of 52 4 (n + i) < count) next (c i l)
+    at : (i : ℕ) → i < 207 → codeword_byte_place 52 4 (207 * k + 207 + i) < count
+    at i l = subst (λ (n : ℕ). codeword_byte_place 52 4 (n + i) < count) next (c i l)
 
-    by_place : (j : ℕ) → j < 207 → (j < 206) ⊎ (206 ≤ j) → place_of 52 4 (207 * k + j) < count
+    by_place : (j : ℕ) → j < 207 → (j < 206) ⊎ (206 ≤ j) → codeword_byte_place 52 4 (207 * k + j) < count
     by_place j l (inl m) = four_on (207 * k) j (at (j + 1) (omega arith))
     by_place j l (inr m) = let e : 206 ≡ j = omega arith in
-        subst (λ (i : ℕ). place_of 52 4 (207 * k + i) < count) e (three_on (207 * k) (at 155 (omega arith)))
+        subst (λ (i : ℕ). codeword_byte_place 52 4 (207 * k + i) < count) e (three_on (207 * k) (at 155 (omega arith)))
 
 complete_up_to : (count k i : ℕ) → IsComplete 207 52 4 count k → i ≤ k → IsComplete 207 52 4 count i
 complete_up_to count zero i c l = let e : 0 ≡ i = omega arith in subst (IsComplete 207 52 4 count) e c
@@ -56,12 +56,12 @@ filtered_at f p a (suc n) (suc j) d l h =
     ∙ ap f z
 
 pub number_at : (y : List ℕ) (j : ℕ) (other : Received) → IsComplete 207 52 4 (length y) j
-    → get_or (packets_of y) j other ≡ received_at y j
-unfolding packets_of
+    → get_or (run_packets y) j other ≡ received_at y j
+unfolding run_packets
 number_at y j other c =
     filtered_at (received_at y) (is_complete (length y)) 0 (length y / 207) j other (within (c 206 (omega arith)))
     (λ i _ m. (complete_told (length y) i).1 (complete_up_to (length y) j i c (omega (arith, m))))
     ∙ ap (received_at y) (zero-add j)
   where
-    within : place_of 52 4 (207 * j + 206) < length y → j < length y / 207
+    within : codeword_byte_place 52 4 (207 * j + 206) < length y → j < length y / 207
     within h = omega (arith, h)

@@ -12,7 +12,7 @@ use Rattle.dtx_outer.specs.Inner.{word_at}
 use Rattle.dtx_outer.specs.WordsLaws.{length-word}
 use Rattle.dtx_whiten.specs.Randomizer.{randomizer_bytes}
 use Rattle.dtx_receiver.specs.Bytes.{bytes_in}
-use Rattle.dtx_receiver.specs.Packets.{all_packets, is_complete, packet_bytes, packets_of, received, received_at}
+use Rattle.dtx_receiver.specs.Packets.{all_packets, is_complete, packet_bytes, run_packets, received, received_at}
 use Rattle.dtx_receiver.specs.Packets.{received_by}
 use Rattle.dtx_receiver.specs.Runs.{runs}
 use Rattle.dtx_receiver.specs.declared.batch.Received.{Received}
@@ -49,14 +49,14 @@ each_whole bytes (k ∷ ks) =
     All-cons IsWhole (received_at bytes k) (map (received_at bytes) ks) (received_whole bytes k)
     (each_whole bytes ks)
 
-run_whole : (bytes : List ℕ) → All IsWhole (packets_of bytes)
-unfolding packets_of
+run_whole : (bytes : List ℕ) → All IsWhole (run_packets bytes)
+unfolding run_packets
 run_whole bytes = each_whole bytes (filter (is_complete (length bytes)) (range_with_len 0 (length bytes / 207)))
 
-runs_whole : (list : List (List (List ℤ))) → All IsWhole (flat_map (λ run. packets_of (bytes_in run)) list)
+runs_whole : (list : List (List (List ℤ))) → All IsWhole (flat_map (λ run. run_packets (bytes_in run)) list)
 runs_whole [] = All-nil IsWhole
 runs_whole (run ∷ list) =
-    All-append IsWhole (packets_of (bytes_in run)) (flat_map (λ run. packets_of (bytes_in run)) list)
+    All-append IsWhole (run_packets (bytes_in run)) (flat_map (λ run. run_packets (bytes_in run)) list)
     (run_whole (bytes_in run)) (runs_whole list)
 
 pub all_whole : (segments : List (List ℤ)) → All (λ packet. length packet ≡ 188) (received segments)

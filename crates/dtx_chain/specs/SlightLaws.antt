@@ -18,7 +18,7 @@ use Rattle.dtx_receiver.specs.Runs.{runs}
 use Rattle.dtx_receiver.specs.Intervals.{NoneLooks, IsRun, AreRuns, segments_in}
 use Rattle.dtx_receiver.specs.IntervalsLaws.{are_runs, only_runs}
 use Rattle.dtx_receiver.specs.SegmentsLaws.{place_data}
-use Rattle.dtx_chain.specs.Damage.{damage_at, damaged, AreReceived, IsSlight, to_sync, from_sync, packet_behind}
+use Rattle.dtx_chain.specs.Damage.{damage_at, damaged_symbols, AreReceived, IsSlight, to_sync, from_sync, packet_behind}
 use Rattle.dtx_chain.specs.PlacesLaws.{data_at_place}
 
 -- ---- data segments
@@ -37,8 +37,8 @@ differs_within sent got i =
     cost : (x y z : ℕ) → cond (x == z) 0 1 ≤ cond (y == z) 0 1 + cond (y == x) 0 1
     cost x y z = grind (arith, nat_tests)
 
-differing_within : (sent got : List ℤ) → differing sent ≤ differing got + damaged sent got
-unfolding differing damaged
+differing_within : (sent got : List ℤ) → differing sent ≤ differing got + damaged_symbols sent got
+unfolding differing damaged_symbols
 differing_within sent got =
     bound (sum (map (differs sent) (range_with_len 0 515))) (sum (map (differs got) (range_with_len 0 515)))
     (sum (map (damage_at sent got) (range_with_len 0 515)))
@@ -49,7 +49,7 @@ differing_within sent got =
     bound : (x y z a b c : ℕ) → x ≡ a → y ≡ b → z ≡ c → a ≤ b + c → x ≤ y + z
     bound x y z a b c e f g h = omega arith
 
-still_unlike : (sent got : List ℤ) → 64 ≤ differing sent → damaged sent got ≤ 31 → looks_like got ≡ false
+still_unlike : (sent got : List ℤ) → 64 ≤ differing sent → damaged_symbols sent got ≤ 31 → looks_like got ≡ false
 unfolding looks_like
 still_unlike sent got h l = lt-leb (differing got) 32 (omega (arith, differing_within sent got, h, l))
 
@@ -67,7 +67,7 @@ unlike_at ps n l z =
     within = omega (arith, l, z, length-a53 ps)
 
 pub no_sync : (ps : List (List ℕ)) (n : ℕ) (got : List ℤ) → n < length (a53 ps) → n % 313 ≢ 0
-    → damaged (get_or (a53 ps) n []) got ≤ 31 → looks_like got ≡ false
+    → damaged_symbols (get_or (a53 ps) n []) got ≤ 31 → looks_like got ≡ false
 no_sync ps n got l z few = still_unlike (get_or (a53 ps) n []) got (unlike_at ps n l z) few
 
 -- ---- what was sent

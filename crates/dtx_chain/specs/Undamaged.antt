@@ -10,12 +10,12 @@ abbrev pub ArePackets : List (List ℕ) → Type 0
 ArePackets packets = AllByRecursion (λ p. (length p ≡ 188) × AreBytes p) packets
 
 -- the packet as it is received: its sync byte isn't sent, and is 0x47 then
-unfoldable pub with_sync : List ℕ → List ℕ
-with_sync packet = 0x47 ∷ drop 1 packet
+unfoldable pub as_received : List ℕ → List ℕ
+as_received packet = 0x47 ∷ drop 1 packet
 
 -- packet k, received good, with no byte put right
 unfoldable pub as_sent : List (List ℕ) → ℕ → Received
-as_sent packets k = record { packet = record { 0 = with_sync (slice_index_or packets k []) }; fixed = 0; good = true }
+as_sent packets k = record { packet = record { 0 = as_received (slice_index_or packets k []) }; fixed = 0; good = true }
 
 -- the numbers of those packets whose 207 bytes are all among the bytes of the stream's whole groups
 unfoldable pub whole_words : List (List ℕ) → List ℕ

@@ -7,11 +7,11 @@ use Rattle.dtx_coder.specs.Coded.{whole_groups}
 use Rattle.dtx_coder.specs.Stream.{a53}
 use Rattle.dtx_coder.specs.BytesLaws.{length-whole}
 use Rattle.dtx_receiver.specs.Bytes.{bytes_in}
-use Rattle.dtx_receiver.specs.Packets.{is_complete, received_at, packets_of, all_packets, received}
+use Rattle.dtx_receiver.specs.Packets.{is_complete, received_at, run_packets, all_packets, received}
 use Rattle.dtx_receiver.specs.declared.batch.Received.{Received}
 use Rattle.dtx_receiver.specs.CompleteLaws.{complete_told}
-use Rattle.dtx_receiver.specs.RangesLaws.{filter-kept, filter-lost}
-use Rattle.dtx_chain.specs.Undamaged.{ArePackets, with_sync, as_sent, whole_words}
+use Rattle.dtx_lists.proofs.RangeFilter.{filter-kept, filter-lost}
+use Rattle.dtx_chain.specs.Undamaged.{ArePackets, as_received, as_sent, whole_words}
 use Rattle.dtx_chain.specs.PlacesLaws.{one_run}
 use Rattle.dtx_chain.specs.LevelsLaws.{bytes_are}
 use Rattle.dtx_chain.specs.WordsLaws.{whole_small, packet_back}
@@ -33,9 +33,9 @@ map-filter_same f g p a (suc n) h =
     by_test false e r = ap (map f) (filter-lost p a rest e) ∙ r ∙ sym (ap (map g) (filter-lost p a rest e))
 
 from_words : (ps : List (List ℕ)) → ArePackets ps
-    → packets_of (whole_groups ps) ≡ map (as_sent ps)
+    → run_packets (whole_groups ps) ≡ map (as_sent ps)
     (filter (is_complete (828 * (length ps / 4))) (range_with_len 0 (4 * (length ps / 4))))
-unfolding packets_of
+unfolding run_packets
 from_words ps h =
     ap (λ n. map (received_at (whole_groups ps)) (filter (is_complete n) (range_with_len 0 (n / 207))))
     (length-whole ps)
@@ -52,18 +52,18 @@ pub good_packets : (ps : List (List ℕ)) → 4 ≤ length ps → ArePackets ps
     → all_packets (a53 ps) ≡ map (as_sent ps) (whole_words ps)
 unfolding all_packets whole_words
 good_packets ps l h =
-    ap (flat_map (λ run. packets_of (bytes_in run))) (one_run ps l)
-    ∙ append-nil (packets_of (bytes_in (a53 ps)))
-    ∙ ap packets_of (bytes_are ps l (whole_small ps h))
+    ap (flat_map (λ run. run_packets (bytes_in run))) (one_run ps l)
+    ∙ append-nil (run_packets (bytes_in (a53 ps)))
+    ∙ ap run_packets (bytes_are ps l (whole_small ps h))
     ∙ from_words ps h
 
 bytes_back : (ps : List (List ℕ)) (ks : List ℕ) → map (λ (r : Received). r.packet.0) (map (as_sent ps) ks)
-    ≡ map (λ k. with_sync (get_or ps k [])) ks
+    ≡ map (λ k. as_received (get_or ps k [])) ks
 unfolding as_sent
 bytes_back ps [] = refl
-bytes_back ps (k ∷ ks) = ap (λ xs. with_sync (get_or ps k []) ∷ xs) (bytes_back ps ks)
+bytes_back ps (k ∷ ks) = ap (λ xs. as_received (get_or ps k []) ∷ xs) (bytes_back ps ks)
 
 pub packets_back : (ps : List (List ℕ)) → 4 ≤ length ps → ArePackets ps
-    → received (a53 ps) ≡ map (λ k. with_sync (get_or ps k [])) (whole_words ps)
+    → received (a53 ps) ≡ map (λ k. as_received (get_or ps k [])) (whole_words ps)
 unfolding received
 packets_back ps l h = ap (map (λ (r : Received). r.packet.0)) (good_packets ps l h) ∙ bytes_back ps (whole_words ps)

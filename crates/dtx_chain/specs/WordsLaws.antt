@@ -24,7 +24,7 @@ use Rattle.dtx_outer.specs.WordsLaws.{length-word, word_stays, word_back}
 use Rattle.dtx_coder.specs.Coded.{coded_from, coded, spread, whole_groups}
 use Rattle.dtx_coder.specs.BytesLaws.{length-coded, length-whole}
 use Rattle.dtx_receiver.specs.Packets.{received_by, received_at}
-use Rattle.dtx_chain.specs.Undamaged.{ArePackets, with_sync, as_sent}
+use Rattle.dtx_chain.specs.Undamaged.{ArePackets, as_received, as_sent}
 use Rattle.dtx_chain.specs.Damage.{codeword_at, IsNear, as_corrected}
 
 -- ---- codewords
@@ -145,7 +145,7 @@ own_codeword ps k h l = let a : (length (get_or ps k []) ≡ 188) × AreBytes (g
 pub corrected_back : (ps : List (List ℕ)) (y : List ℕ) (f j : ℕ) → ArePackets ps → f % 312 ≡ 0 → f + j < length ps
     → IsNear ps (f + j) (word_at 207 52 4 y j)
     → received_at y j ≡ as_corrected ps (f + j) (word_at 207 52 4 y j)
-unfolding received_at as_corrected with_sync
+unfolding received_at as_corrected as_received
 corrected_back ps y f j h z l n =
     ap (received_by (187 * (j % 312)) word) (correction_only 207 187 word (codeword_at ps (f + j)) (omega arith)
     (length-word 207 52 4 y j) near)
@@ -175,7 +175,7 @@ pub packet_back : (ps : List (List ℕ)) (k : ℕ) → ArePackets ps → k < len
 unfolding as_sent as_corrected
 packet_back ps k h l c =
     corrected_back ps (whole_groups ps) 0 k h refl (omega (arith, l)) (omega (arith, far))
-    ∙ ap₂ (λ (i n : ℕ). record { packet = record { 0 = with_sync (get_or ps i []) }; fixed = n; good = true })
+    ∙ ap₂ (λ (i n : ℕ). record { packet = record { 0 = as_received (get_or ps i []) }; fixed = n; good = true })
     (zero-add k) far
   where
     far : distance (word_at 207 52 4 (whole_groups ps) k) (codeword_at ps (0 + k)) ≡ 0
@@ -188,8 +188,8 @@ packet_back ps k h l c =
 -- a word whose correction gives the packet's bytes back is near
 near_by : (ps : List (List ℕ)) (k from : ℕ) (word : List ℕ) (found : Option (List ℕ)) → ArePackets ps → k < length ps
     → from ≡ 187 * (k % 312) → correction 207 187 word ≡ found → (received_by from word found).good ≡ true
-    → (received_by from word found).packet.0 ≡ with_sync (get_or ps k []) → IsNear ps k word
-unfolding with_sync codeword_at
+    → (received_by from word found).packet.0 ≡ as_received (get_or ps k []) → IsNear ps k word
+unfolding as_received codeword_at
 near_by ps k from word None p l at is good same = cc
 near_by ps k from word (Some code) p l at is good same =
     let packet : List ℕ = get_or ps k [] in
@@ -210,7 +210,7 @@ near_by ps k from word (Some code) p l at is good same =
     omega (arith, correct.near, ap (distance word) own)
 
 pub near_if_back : (ps : List (List ℕ)) (y : List ℕ) (f j : ℕ) → ArePackets ps → f % 312 ≡ 0 → f + j < length ps
-    → (received_at y j).good ≡ true → (received_at y j).packet.0 ≡ with_sync (get_or ps (f + j) [])
+    → (received_at y j).good ≡ true → (received_at y j).packet.0 ≡ as_received (get_or ps (f + j) [])
     → IsNear ps (f + j) (word_at 207 52 4 y j)
 unfolding received_at
 near_if_back ps y f j p z l good same =

@@ -11,19 +11,14 @@ ghost use Rattle.dtx_frame.specs.Detection.{looks_like};
 ghost use Rattle.dtx_frame.specs.Segments.{field_sync};
 ghost use Rattle.dtx_coder.specs.Stream.{a53, levels, segment};
 ghost use Rattle.dtx_outer.specs.Inner.{IsComplete, word_at};
-ghost use Rattle.dtx_receiver.specs.Packets.{all_packets, packets_of, received, received_at};
+ghost use Rattle.dtx_receiver.specs.Packets.{all_packets, run_packets, received, received_at};
 ghost use Rattle.dtx_receiver.specs.declared.batch.Received.{Received};
 ghost use Rattle.dtx_receiver.specs.Runs.{runs};
 ghost use Rattle.dtx_chain.specs.Damage.{AreReceived, IsNear, IsSlight, as_corrected, codeword_at, from_sync};
-ghost use Rattle.dtx_chain.specs.Damage.{damaged, numbers_in, packet_behind, to_sync, word_in};
-ghost use Rattle.dtx_chain.specs.Undamaged.{ArePackets, as_sent, whole_words, with_sync};
+ghost use Rattle.dtx_chain.specs.Damage.{damaged_symbols, numbers_in, packet_behind, to_sync, word_in};
+ghost use Rattle.dtx_chain.specs.Undamaged.{ArePackets, as_sent, whole_words, as_received};
 
-use dtx_coder::GROUP_PACKETS;
-use dtx_packets::PACKET;
-use dtx_trellis::FIELD;
-
-/// How many segments a field has: its field sync and its data segments (ATSC A/53 Part 2).
-const FIELD_SEGMENTS: usize = 313;
+use dtx_sizes::{FIELD_PACKETS, FIELD_SEGMENTS, GROUP_PACKETS, PACKET};
 
 /// The undamaged symbols of packets that make at least one whole group are received as one run. Each packet whose bytes
 /// are all there comes back, in order, with 0x47 as its sync byte; none is flagged, and no byte was put right.
@@ -32,7 +27,7 @@ pub fn received_undamaged()
     ensures good { (packets : List (List ℕ)) → GROUP_PACKETS ≤ length packets → ArePackets packets
         → all_packets (a53 packets) ≡ map (as_sent packets) (whole_words packets) }
     ensures packets { (packets : List (List ℕ)) → GROUP_PACKETS ≤ length packets → ArePackets packets
-        → received (a53 packets) ≡ map (λ k. with_sync (slice_index_or packets k [])) (whole_words packets) }
+        → received (a53 packets) ≡ map (λ k. as_received (slice_index_or packets k [])) (whole_words packets) }
 {}
 
 /// Word j of the bytes of any run gives packet f + j of a stream back, received good and with 0x47 as its sync byte,
@@ -40,19 +35,19 @@ pub fn received_undamaged()
 /// begins a field, as the packet behind a field sync does. The bytes of the run may be any numbers, and as many or as
 /// few as they are. Where all bytes of word j are there, its packet is number j of those that the run gives.
 pub fn gives_back()
-    ensures packet { (packets : List (List ℕ)) (bytes : List ℕ) (f j : ℕ) → ArePackets packets → f % FIELD ≡ 0
+    ensures packet { (packets : List (List ℕ)) (bytes : List ℕ) (f j : ℕ) → ArePackets packets → f % FIELD_PACKETS ≡ 0
         → f + j < length packets → IsNear packets (f + j) (word_at 207 52 4 bytes j)
         → received_at bytes j ≡ as_corrected packets (f + j) (word_at 207 52 4 bytes j) }
     ensures place { (bytes : List ℕ) (j : ℕ) (other : Received) → IsComplete 207 52 4 (length bytes) j
-        → slice_index_or (packets_of bytes) j other ≡ received_at bytes j }
+        → slice_index_or (run_packets bytes) j other ≡ received_at bytes j }
 {}
 
 /// A packet that comes back good and as it was sent, with 0x47 as its sync byte, had a word that differs from its
 /// codeword in at most ten bytes.
 pub fn what_comes_back_was_near()
-    ensures { (packets : List (List ℕ)) (bytes : List ℕ) (f j : ℕ) → ArePackets packets → f % FIELD ≡ 0
+    ensures { (packets : List (List ℕ)) (bytes : List ℕ) (f j : ℕ) → ArePackets packets → f % FIELD_PACKETS ≡ 0
         → f + j < length packets → (received_at bytes j).good ≡ true
-        → (received_at bytes j).packet.0 ≡ with_sync (slice_index_or packets (f + j) [])
+        → (received_at bytes j).packet.0 ≡ as_received (slice_index_or packets (f + j) [])
         → IsNear packets (f + j) (word_at 207 52 4 bytes j) }
 {}
 
@@ -66,7 +61,7 @@ pub fn gives_all_back()
     ensures packets { (packets : List (List ℕ)) (first : ℕ) (sent got : List (List ℤ))
         → AreReceived packets first sent got → to_sync first < length sent → IsSlight packets first sent got
         → ArePackets packets
-        → received got ≡ map (λ j. with_sync (slice_index_or packets (packet_behind first + j) []))
+        → received got ≡ map (λ j. as_received (slice_index_or packets (packet_behind first + j) []))
         (numbers_in (from_sync first got)) }
     ensures good { (packets : List (List ℕ)) (first : ℕ) (sent got : List (List ℤ)) → AreReceived packets first sent got
         → to_sync first < length sent → IsSlight packets first sent got → ArePackets packets
@@ -81,17 +76,17 @@ pub fn gives_all_back()
 /// Eleven wrong bytes are too many: for each packet of a stream there is a word of 207 bytes that differs from the
 /// packet's codeword in eleven of them, and wherever a run has that word, it gives another packet back.
 pub fn eleven_are_too_many()
-    ensures { (packets : List (List ℕ)) (f j : ℕ) → ArePackets packets → f % FIELD ≡ 0 → f + j < length packets
+    ensures { (packets : List (List ℕ)) (f j : ℕ) → ArePackets packets → f % FIELD_PACKETS ≡ 0 → f + j < length packets
         → (word : List ℕ) × (length word ≡ 207) × AreBytes word × (distance word (codeword_at packets (f + j)) ≡ 11)
         × ((bytes : List ℕ) → word_at 207 52 4 bytes j ≡ word
-        → (received_at bytes j).packet.0 ≢ with_sync (slice_index_or packets (f + j) [])) }
+        → (received_at bytes j).packet.0 ≢ as_received (slice_index_or packets (f + j) [])) }
 {}
 
 /// A data segment of a stream with at most 31 damaged symbols among its first 515 isn't taken for a field sync, which
 /// may have 32 wrong ones there: undamaged, it differs from one in 64 or more of them.
 pub fn a_damaged_data_segment_is_no_sync()
     ensures { (packets : List (List ℕ)) (n : ℕ) (got : List ℤ) → n < length (a53 packets) → n % FIELD_SEGMENTS ≢ 0
-        → damaged (slice_index_or (a53 packets) n []) got ≤ 31 → looks_like got ≡ false }
+        → damaged_symbols (slice_index_or (a53 packets) n []) got ≤ 31 → looks_like got ≡ false }
 {}
 
 /// Each packet that is received has 188 bytes, whatever the segments are.
@@ -114,7 +109,7 @@ pub fn damage_before_the_first_sync_is_slight()
     ensures { (packets : List (List ℕ)) (first : ℕ) (sent got : List (List ℤ)) → AreReceived packets first sent got
         → ArePackets packets → from_sync first got ≡ from_sync first sent
         → ((i : ℕ) → i < length sent → i < to_sync first
-        → damaged (slice_index_or sent i []) (slice_index_or got i []) ≤ 31)
+        → damaged_symbols (slice_index_or sent i []) (slice_index_or got i []) ≤ 31)
         → IsSlight packets first sent got }
 {}
 
@@ -125,9 +120,9 @@ pub fn places()
     ensures sync { (packets : List (List ℕ)) (n : ℕ) → n < length (a53 packets) → n % FIELD_SEGMENTS ≡ 0
         → (second : Bool) × (last : List ℤ) × (slice_index_or (a53 packets) n [] ≡ field_sync second last) }
     ensures segment { (packets : List (List ℕ)) (k : ℕ) → k < GROUP_PACKETS * (length packets / GROUP_PACKETS)
-        → slice_index_or (a53 packets) (k + k / FIELD + 1) [] ≡ segment (levels packets) k }
+        → slice_index_or (a53 packets) (k + k / FIELD_PACKETS + 1) [] ≡ segment (levels packets) k }
     ensures first { (first : ℕ) → (first + to_sync first) % FIELD_SEGMENTS ≡ 0 }
     ensures none { (first i : ℕ) → i < to_sync first → (first + i) % FIELD_SEGMENTS ≢ 0 }
-    ensures behind { (first : ℕ) → packet_behind first + packet_behind first / FIELD ≡ first + to_sync first }
-    ensures begins { (first : ℕ) → packet_behind first % FIELD ≡ 0 }
+    ensures behind { (first : ℕ) → packet_behind first + packet_behind first / FIELD_PACKETS ≡ first + to_sync first }
+    ensures begins { (first : ℕ) → packet_behind first % FIELD_PACKETS ≡ 0 }
 {}

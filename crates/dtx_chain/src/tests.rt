@@ -1,9 +1,9 @@
 //! Packets through the group coder and the receiver.
 
-use dtx_coder::{Air, Coder, GROUP_PACKETS};
-use dtx_frame::SEGMENT;
-use dtx_packets::{PACKET, Packet};
+use dtx_coder::{Air, Coder};
+use dtx_packets::Packet;
 use dtx_receiver::{Batch, Receiver, Tracking};
+use dtx_sizes::{GROUP_PACKETS, PACKET, SEGMENT};
 use std::test::Fail;
 
 /// Packet k of a stream, behind this sync byte.

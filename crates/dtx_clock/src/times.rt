@@ -1,21 +1,11 @@
 // Stamps, holds and moments (ATSC A/110, the time of emission; the counting is the profile's own).
 ghost use Rattle.std.specs.Prelude.{◌≡◌, ◌<◌};
 ghost use Rattle.dtx_clock.specs.Clock.{stamp_of, segment_of, count_of, grains_of, moment_of, IsHold};
-ghost use Rattle.dtx_clock.specs.declared.times.TheConstants.{FRAMES, PACKETS, TICKS};
+ghost use Rattle.dtx_sizes.specs.declared.fields.TheConstants.{FRAME_PACKETS};
+ghost use Rattle.dtx_sizes.specs.declared.limits.TheConstants.{MOST_FRAMES, SECOND_TICKS};
 
 use crate::answers::{Late, Moment};
-
-/// How many ticks a second has.
-pub const TICKS: u32 = 10_000_000;
-
-/// How many frames a stream has at most (the profile's own).
-pub const FRAMES: u32 = 1_000_000;
-
-/// How many packets a frame has.
-pub const PACKETS: u16 = 624;
-
-/// How many packets a field has, and so data segments (ATSC A/53 Part 2).
-const FIELD: u16 = 312;
+use dtx_sizes::{FIELD_PACKETS, FRAME_PACKETS, MOST_FRAMES, SECOND_TICKS};
 
 /// How many grains a tick has. The symbol rate is 4.5 MHz * 684 / 286, so a symbol lasts 1430 grains.
 const TICK: u64 = 1539;
@@ -31,19 +21,19 @@ const SECOND: i64 = 15_390_000_000;
 
 /// The stamp of a frame: the tick within its second at which it begins, where frame 0 begins at the tick `start`.
 pub fn stamp(start: u32, frame: u32) -> u32
-    requires start { start < TICKS }
-    requires frame { frame < FRAMES }
+    requires start { start < SECOND_TICKS }
+    requires frame { frame < MOST_FRAMES }
     ensures stamp { result ≡ stamp_of start frame }
-    ensures within { result < TICKS }
+    ensures within { result < SECOND_TICKS }
 {
     let grains = start as u64 * TICK + frame as u64 * FRAME;
-    (grains / TICK % TICKS as u64) as u32
+    (grains / TICK % SECOND_TICKS as u64) as u32
 }
 
 /// For how many ticks a transmitter of that offset, to which the feed takes `delay` ticks, holds what it sends:
 /// `max + offset - delay`. It is `Late` where the delay is greater than `max + offset`.
 pub fn hold(max: u32, offset: i16, delay: u32) -> Result<u32, Late>
-    requires { max < TICKS }
+    requires { max < SECOND_TICKS }
     ensures { IsHold max offset delay result }
 {
     let left = max as i64 + offset as i64 - delay as i64;
@@ -53,9 +43,9 @@ pub fn hold(max: u32, offset: i16, delay: u32) -> Result<u32, Late>
 /// The moment at which the data segment of the packet at that place of its frame begins: the frame's stamp, the maximum
 /// delay and the offset, and then the segments of the frame before it.
 pub fn moment(stamp: u32, max: u32, offset: i16, packet: u16) -> Moment
-    requires stamp { stamp < TICKS }
-    requires max { max < TICKS }
-    requires packet { packet < PACKETS }
+    requires stamp { stamp < SECOND_TICKS }
+    requires max { max < SECOND_TICKS }
+    requires packet { packet < FRAME_PACKETS }
     ensures { result ≡ moment_of stamp max offset packet }
 {
     let grains = grains(stamp, max, offset, packet);
@@ -67,9 +57,9 @@ pub fn moment(stamp: u32, max: u32, offset: i16, packet: u16) -> Moment
 
 /// The grains of a moment within its second.
 fn grains(stamp: u32, max: u32, offset: i16, packet: u16) -> u64
-    requires stamp { stamp < TICKS }
-    requires max { max < TICKS }
-    requires packet { packet < PACKETS }
+    requires stamp { stamp < SECOND_TICKS }
+    requires max { max < SECOND_TICKS }
+    requires packet { packet < FRAME_PACKETS }
     ensures grains { result ≡ grains_of stamp max offset packet }
     ensures within { result < 15390000000 }
 {
@@ -78,9 +68,9 @@ fn grains(stamp: u32, max: u32, offset: i16, packet: u16) -> u64
 
 /// The grains from the clock's zero to a moment. They may be negative, by the offset.
 fn count(stamp: u32, max: u32, offset: i16, packet: u16) -> i64
-    requires stamp { stamp < TICKS }
-    requires max { max < TICKS }
-    requires packet { packet < PACKETS }
+    requires stamp { stamp < SECOND_TICKS }
+    requires max { max < SECOND_TICKS }
+    requires packet { packet < FRAME_PACKETS }
     ensures { result ≡ count_of stamp max offset packet }
 {
     let ticks = stamp as i64 + max as i64 + offset as i64;
@@ -89,11 +79,11 @@ fn count(stamp: u32, max: u32, offset: i16, packet: u16) -> i64
 
 /// The segments of its frame before the data segment of a packet.
 fn segment(packet: u16) -> u16
-    requires { packet < PACKETS }
+    requires { packet < FRAME_PACKETS }
     ensures segment { result ≡ segment_of packet }
     ensures within { result < 626 }
 {
-    if packet < FIELD {
+    if packet < FIELD_PACKETS {
         packet + 1
     } else {
         packet + 2

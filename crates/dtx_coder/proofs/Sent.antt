@@ -12,7 +12,7 @@ use Rattle.dtx_trellis.specs.Groups.{levels_of, states_after}
 use Rattle.dtx_frame.specs.Segments.{field_sync}
 use Rattle.dtx_coder.specs.Coded.{coded_from}
 use Rattle.dtx_coder.specs.Stream.{segment, four_segments, last_of, symbols_of}
-use Rattle.dtx_coder.specs.Groups.{Coding, Group, IsCoded, bytes_of, group_levels, segments_of, after_group}
+use Rattle.dtx_coder.specs.Groups.{Coding, Group, IsCoded, bytes_of, group_levels, air_segments, after_group}
 use Rattle.dtx_coder.specs.SegmentsLaws.{length-segment}
 use Rattle.dtx_coder.specs.NextLaws.{same_coding}
 
@@ -117,7 +117,7 @@ pub does_code : (old : Coding) (g : Group) (bytes levels states : List ℕ) (las
     (count : ℕ) (sent : List ℤ)
     → Does old g bytes levels states last branches count sent
     → IsCoded old g (record { states = states; last = last; branches = branches }) count sent
-unfolding after_group segments_of
+unfolding after_group air_segments
 does_code old g bytes levels states last branches count sent d = record {
   coder =
       same_coding states (states_after g.first g.from (bytes_of old g)) last

@@ -13,13 +13,13 @@ use Rattle.dtx_trellis.specs.Groups.{coder_after, levels_of, states_after}
 use Rattle.dtx_trellis.specs.JoinsLaws.{states_append, levels_append}
 use Rattle.dtx_coder.specs.Coded.{coded_from, coded, spread, whole_groups}
 use Rattle.dtx_coder.specs.Stream.{segment, four_segments, last_of}
-use Rattle.dtx_coder.specs.Groups.{Coding, Group, aligned_coding, bytes_of, group_levels, segments_of, after_group}
+use Rattle.dtx_coder.specs.Groups.{Coding, Group, aligned_coding, bytes_of, group_levels, air_segments, after_group}
 use Rattle.dtx_coder.specs.Runs.{AreStates}
 use Rattle.dtx_coder.specs.Along.{IsNext, RunsAlong, left_since, levels_since, states_since}
 use Rattle.dtx_coder.specs.BytesLaws.{coded_append, coded_place, length-coded, whole_is}
 use Rattle.dtx_coder.specs.LevelsLaws.{length-levels_of}
 use Rattle.dtx_coder.specs.SegmentsLaws.{segment_back, four_back}
-use Rattle.dtx_coder.specs.SettledLaws.{drop_settled}
+use Rattle.dtx_coder.specs.FlushedLaws.{drop_settled}
 use Rattle.dtx_coder.specs.RunsLaws.{levels_at, states_at, last_after}
 
 -- ---- bytes
@@ -177,9 +177,9 @@ step_along packets g u v q p coder group held s = record {
 
 step_sent : (packets : List (List ℕ)) (g u v : ℕ) (q p : List ℕ) (coder : Coding) (group : Group) (held : Branching)
     → Step packets g u v q p coder group held → 52 ≤ 4 * g
-    → segments_of coder group ≡ cond group.sync (field_sync group.second coder.last ∷ []) []
+    → air_segments coder group ≡ cond group.sync (field_sync group.second coder.last ∷ []) []
     ++ four_segments (levels_since g q (packets ++ group.packets)) (4 * v)
-unfolding segments_of levels_since
+unfolding air_segments levels_since
 step_sent packets g u v q p coder group held s l =
     ap (λ ss. cond group.sync (field_sync group.second coder.last ∷ []) [] ++ ss)
     (sym (four_back (levels_of (4 * g % 312) q (left_since held g packets)) (group_levels coder group) (4 * v)
@@ -226,7 +226,7 @@ along_goes_on packets g q coder group r n =
 
 pub sent_group : (packets : List (List ℕ)) (g : ℕ) (q : List ℕ) (coder : Coding) (group : Group)
     → RunsAlong packets g q coder → 52 ≤ 4 * g → IsNext packets coder.states group
-    → segments_of coder group ≡ cond group.sync (field_sync group.second coder.last ∷ []) []
+    → air_segments coder group ≡ cond group.sync (field_sync group.second coder.last ∷ []) []
     ++ four_segments (levels_since g q (packets ++ group.packets)) (length packets - 4 * g)
 sent_group packets g q coder group r l n =
     step_sent packets g (length packets / 4) (length packets / 4 - g) q coder.states coder group r.held
@@ -269,7 +269,7 @@ along_preset packets g q p coder group r n =
 
 pub sent_preset : (packets : List (List ℕ)) (g : ℕ) (q p : List ℕ) (coder : Coding) (group : Group)
     → RunsAlong packets g q coder → 52 ≤ length packets → IsNext packets p group
-    → segments_of coder group ≡ cond group.sync (field_sync group.second coder.last ∷ []) []
+    → air_segments coder group ≡ cond group.sync (field_sync group.second coder.last ∷ []) []
     ++ four_segments (levels_since (length packets / 4) p (packets ++ group.packets)) 0
 sent_preset packets g q p coder group r l n =
     step_sent packets (length packets / 4) (length packets / 4) 0 p p coder group r.held

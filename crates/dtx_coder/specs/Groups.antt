@@ -48,8 +48,8 @@ group_levels coder group = levels_of group.first group.from (bytes_of coder grou
 
 -- the group's segments: a field sync, where it stands there, whose end are the last twelve symbols given before; and
 -- four data segments
-unfoldable pub segments_of : Coding → Group → List (List ℤ)
-segments_of coder group =
+unfoldable pub air_segments : Coding → Group → List (List ℤ)
+air_segments coder group =
     (if group.sync then field_sync group.second coder.last ∷ [] else []) ++ four_segments (group_levels coder group) 0
 
 -- the coder behind the group
@@ -63,8 +63,8 @@ after_group coder group = record {
 -- what a coder gives and holds behind a group: so many segments, whose symbols are the first of these
 pub record IsCoded (old : Coding) (group : Group) (new : Coding) (count : ℕ) (sent : List ℤ) : Type 0 where
   pub coder : new ≡ after_group old group
-  pub segments : count ≡ length (segments_of old group)
-  pub symbols : take (832 * count) sent ≡ symbols_of (segments_of old group)
+  pub segments : count ≡ length (air_segments old group)
+  pub symbols : take (832 * count) sent ≡ symbols_of (air_segments old group)
 
 -- the codewords of groups, one behind the other
 abbrev pub coded_groups : List Group → List ℕ

@@ -14,7 +14,7 @@ use Rattle.dtx_trellis.specs.Groups.{coder_after, states_after}
 use Rattle.dtx_trellis.specs.RoundsLaws.{coder_bits}
 use Rattle.dtx_coder.specs.Coded.{coded_from}
 use Rattle.dtx_coder.specs.Stream.{segment, four_segments, last_of}
-use Rattle.dtx_coder.specs.Groups.{Coding, Group, bytes_of, group_levels, segments_of, after_group}
+use Rattle.dtx_coder.specs.Groups.{Coding, Group, bytes_of, group_levels, air_segments, after_group}
 use Rattle.dtx_coder.specs.Runs.{AreStates}
 use Rattle.dtx_coder.specs.CountsLaws.{AreSegments, segments_append, segments_map, segment_at}
 use Rattle.dtx_coder.specs.RunsLaws.{length-group_levels, last_after}
@@ -22,8 +22,8 @@ use Rattle.dtx_coder.specs.SegmentsLaws.{length-segment}
 
 -- ---- segments
 
-pub length-segments_of : (coder : Coding) (g : Group) → length (segments_of coder g) ≡ cond g.sync 5 4
-unfolding segments_of four_segments
+pub length-segments_of : (coder : Coding) (g : Group) → length (air_segments coder g) ≡ cond g.sync 5 4
+unfolding air_segments four_segments
 length-segments_of coder g =
     length-append (cond g.sync (field_sync g.second coder.last ∷ []) [])
     (map (segment (group_levels coder g)) (range_with_len 0 4))
@@ -46,8 +46,8 @@ segments_sync true second last e = (
 segments_sync false second last e = tt
 
 segments_group : (coder : Coding) (g : Group) → length g.packets ≡ 4 → length coder.last ≡ 12
-    → AreSegments (segments_of coder g)
-unfolding segments_of four_segments
+    → AreSegments (air_segments coder g)
+unfolding air_segments four_segments
 segments_group coder g e l =
     segments_append (cond g.sync (field_sync g.second coder.last ∷ []) [])
     (map (segment (group_levels coder g)) (range_with_len 0 4))
@@ -56,8 +56,8 @@ segments_group coder g e l =
     (λ n a b. length-segment (group_levels coder g) n (omega (arith, b, length-group_levels coder g e))))
 
 pub group_segment : (coder : Coding) (g : Group) → length g.packets ≡ 4 → length coder.last ≡ 12
-    → (i : ℕ) → i < length (segments_of coder g) → length (get_or (segments_of coder g) i []) ≡ 832
-group_segment coder g e l i m = segment_at (segments_of coder g) i (segments_group coder g e l) m
+    → (i : ℕ) → i < length (air_segments coder g) → length (get_or (air_segments coder g) i []) ≡ 832
+group_segment coder g e l i m = segment_at (air_segments coder g) i (segments_group coder g e l) m
 
 -- ---- a coder's parts
 

@@ -5,7 +5,6 @@ pub mod Runs
 pub mod Along
 pub mod BytesLaws
 pub mod LevelsLaws
-pub mod RangeMovedLaws
 pub mod SlicesLaws
 pub mod SegmentsLaws
 pub mod CountsLaws
@@ -14,5 +13,5 @@ pub mod NextLaws
 pub mod KeptLaws
 pub mod AlongLaws
 pub mod RunsLaws
-pub mod SettledLaws
+pub mod FlushedLaws
 pub mod AlignLaws

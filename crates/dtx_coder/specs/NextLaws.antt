@@ -13,7 +13,7 @@ use Rattle.dtx_coder.specs.Coded.{coded_from, coded, spread, whole_groups}
 use Rattle.dtx_coder.specs.Stream.{zero_states, levels, states, segment, four_segments, last_of, no_last, last_before}
 use Rattle.dtx_coder.specs.Stream.{sync_before, group_segments, a53}
 use Rattle.dtx_coder.specs.Groups.{Coding, Group, StandsFor, IsNextGroup, zero_branches, new_coding, stream_coding}
-use Rattle.dtx_coder.specs.Groups.{bytes_of, group_levels, segments_of, after_group}
+use Rattle.dtx_coder.specs.Groups.{bytes_of, group_levels, air_segments, after_group}
 use Rattle.dtx_coder.specs.BytesLaws.{bytes_behind, branches_append, coded_place}
 use Rattle.dtx_coder.specs.LevelsLaws.{levels_behind, states_behind, length-levels, levels_next, states_next}
 use Rattle.dtx_coder.specs.SegmentsLaws.{segment_back, four_back}
@@ -108,8 +108,8 @@ sync_is coder ps u g n =
     ∙ sym (sync_front ps g.packets u u e (omega arith))
 
 group_is : (coder : Coding) (ps : List (List ℕ)) (u : ℕ) (g : Group) → Next coder ps u g
-    → group_segments (ps ++ g.packets) u ≡ segments_of coder g
-unfolding group_segments segments_of
+    → group_segments (ps ++ g.packets) u ≡ air_segments coder g
+unfolding group_segments air_segments
 group_is coder ps u g n =
     let e : length ps ≡ 4 * u = whole_of coder ps u g n in
     ap₂ ◌++◌ (sym (sync_is coder ps u g n))
@@ -118,7 +118,7 @@ group_is coder ps u g n =
     ∙ ap (λ zs. four_segments zs 0) (sym (levels_are coder ps u g n)))
 
 segments_by : (coder : Coding) (ps : List (List ℕ)) (u : ℕ) (g : Group) → Next coder ps u g
-    → a53 (ps ++ g.packets) ≡ a53 ps ++ segments_of coder g
+    → a53 (ps ++ g.packets) ≡ a53 ps ++ air_segments coder g
 segments_by coder ps u g n =
     a53_append ps g.packets u (whole_of coder ps u g n)
     ∙ ap (λ k. a53 ps ++ flat_map (group_segments (ps ++ g.packets)) (range_with_len u k)) (let a = n.next.four in
@@ -127,7 +127,7 @@ segments_by coder ps u g n =
 
 pub next_segments : (coder : Coding) (packets : List (List ℕ)) (group : Group) → StandsFor coder packets
     → IsNextGroup packets coder.states group
-    → a53 (packets ++ group.packets) ≡ a53 packets ++ segments_of coder group
+    → a53 (packets ++ group.packets) ≡ a53 packets ++ air_segments coder group
 next_segments coder packets group s n =
     segments_by coder packets (length packets / 4) group (record { stands = s; next = n; groups = refl })
 

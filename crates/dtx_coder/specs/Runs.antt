@@ -6,7 +6,7 @@ use Rattle.std.specs.List.{enumerate_from, flat_map}
 use Rattle.dtx_frame.specs.Segments.{field_sync}
 use Rattle.dtx_trellis.specs.Pairs.{group_place}
 use Rattle.dtx_coder.specs.Stream.{segment, four_segments, last_of}
-use Rattle.dtx_coder.specs.Groups.{Coding, Group, segments_of, after_group}
+use Rattle.dtx_coder.specs.Groups.{Coding, Group, air_segments, after_group}
 
 -- the state numbers of twelve coders
 pub record AreStates (states : List ℕ) : Type 0 where
@@ -21,11 +21,11 @@ after_groups coder (g ∷ gs) = after_groups (after_group coder g) gs
 -- their segments
 unfoldable pub segments_of_groups : Coding → List Group → List (List ℤ)
 segments_of_groups coder [] = []
-segments_of_groups coder (g ∷ gs) = segments_of coder g ++ segments_of_groups (after_group coder g) gs
+segments_of_groups coder (g ∷ gs) = air_segments coder g ++ segments_of_groups (after_group coder g) gs
 
 -- their packets
-abbrev pub packets_of : List Group → List (List ℕ)
-packets_of groups = flat_map (λ g. g.packets) groups
+abbrev pub group_packets : List Group → List (List ℕ)
+group_packets groups = flat_map (λ g. g.packets) groups
 
 -- groups of four packets, the first one at place s of its field and each further one four places on
 unfoldable pub AreInTurn : ℕ → List Group → Type 0
@@ -38,7 +38,7 @@ GoOn q coder [] = ⊤
 GoOn q coder (g ∷ gs) = (g.from ≡ q) × GoOn (after_group coder g).states (after_group coder g) gs
 
 -- A run: groups in turn, of which only the first one may have preset states.
-pub record IsRun (s : ℕ) (q : List ℕ) (coder : Coding) (groups : List Group) : Type 0 where
+pub record IsGroupRun (s : ℕ) (q : List ℕ) (coder : Coding) (groups : List Group) : Type 0 where
   pub in_turn : AreInTurn s groups
   pub go_on : GoOn q coder groups
 

@@ -12,9 +12,9 @@ use Rattle.dtx_trellis.specs.Groups.{levels_of, states_after}
 use Rattle.dtx_trellis.specs.JoinsLaws.{states_append, levels_append}
 use Rattle.dtx_coder.specs.Coded.{coded_from, coded}
 use Rattle.dtx_coder.specs.Stream.{segment, four_segments, last_of}
-use Rattle.dtx_coder.specs.Groups.{Coding, Group, bytes_of, group_levels, segments_of, after_group, coded_groups}
+use Rattle.dtx_coder.specs.Groups.{Coding, Group, bytes_of, group_levels, air_segments, after_group, coded_groups}
 use Rattle.dtx_coder.specs.Groups.{bytes_of_groups}
-use Rattle.dtx_coder.specs.Runs.{AreInTurn, GoOn, IsRun, after_groups, segments_of_groups, packets_of, last_in}
+use Rattle.dtx_coder.specs.Runs.{AreInTurn, GoOn, IsGroupRun, after_groups, segments_of_groups, group_packets, last_in}
 use Rattle.dtx_coder.specs.Runs.{run_group, run_segments}
 use Rattle.dtx_coder.specs.BytesLaws.{coded_append, coded_place, length-coded}
 use Rattle.dtx_coder.specs.LevelsLaws.{length-levels_of}
@@ -45,8 +45,8 @@ pub segments_append : (coder : Coding) (front rest : List Group)
 unfolding segments_of_groups after_groups
 segments_append coder [] rest = refl
 segments_append coder (g ∷ gs) rest =
-    ap (λ zs. segments_of coder g ++ zs) (segments_append (after_group coder g) gs rest)
-    ∙ sym (append_assoc (segments_of coder g) (segments_of_groups (after_group coder g) gs)
+    ap (λ zs. air_segments coder g ++ zs) (segments_append (after_group coder g) gs rest)
+    ∙ sym (append_assoc (air_segments coder g) (segments_of_groups (after_group coder g) gs)
     (segments_of_groups (after_groups (after_group coder g) gs) rest))
 
 -- ---- bytes
@@ -93,15 +93,15 @@ unfolding coded_from
 coded_none k = refl
 
 coded_in_turn : (gs : List Group) (s k : ℕ) → AreInTurn s gs → s % 312 ≡ k % 312
-    → coded_groups gs ≡ coded_from k (packets_of gs)
+    → coded_groups gs ≡ coded_from k (group_packets gs)
 unfolding AreInTurn
 coded_in_turn [] s k t e = coded_none k
 coded_in_turn (g ∷ gs) s k t e =
     ap₂ ◌++◌ (coded_place g.first k g.packets (ap (λ (n : ℕ). n % 312) t.0
     ∙ e)) (coded_in_turn gs (group_place s 1) (k + length g.packets) t.2 (next_place s k (length g.packets) e t.1))
-    ∙ sym (coded_append k g.packets (packets_of gs))
+    ∙ sym (coded_append k g.packets (group_packets gs))
 
-pub coded_packets : (gs : List Group) → AreInTurn 0 gs → coded_groups gs ≡ coded (packets_of gs)
+pub coded_packets : (gs : List Group) → AreInTurn 0 gs → coded_groups gs ≡ coded (group_packets gs)
 coded_packets gs t = coded_in_turn gs 0 0 t refl
 
 -- ---- states
@@ -132,7 +132,7 @@ states_in coder s q (g ∷ (h ∷ gs)) t o l =
     ∙ ap (λ p. states_after (group_place s 1) p rest) (states_at coder g s q t.0 o.0)
     ∙ sym (states_append s 1 q (bytes_of coder g) rest (one_group coder g t.1))
 
-pub states_run : (coder : Coding) (s : ℕ) (q : List ℕ) (gs : List Group) → IsRun s q coder gs → 0 < length gs
+pub states_run : (coder : Coding) (s : ℕ) (q : List ℕ) (gs : List Group) → IsGroupRun s q coder gs → 0 < length gs
     → (after_groups coder gs).states ≡ states_after s q (bytes_of_groups coder gs)
 states_run coder s q gs r l = states_in coder s q gs r.in_turn r.go_on l
 
@@ -192,8 +192,8 @@ groups_behind last xs zs n (g ∷ gs) e = ap₂ ◌++◌ (group_behind last xs z
 
 -- the first group of a run
 group_front : (coder : Coding) (g : Group) (zs : List ℕ) → length g.packets ≡ 4
-    → segments_of coder g ≡ run_group coder.last (group_levels coder g ++ zs) (0, g)
-unfolding segments_of run_group last_in
+    → air_segments coder g ≡ run_group coder.last (group_levels coder g ++ zs) (0, g)
+unfolding air_segments run_group last_in
 group_front coder g zs e =
     ap (λ ss. cond g.sync (field_sync g.second coder.last ∷ []) [] ++ ss)
     (sym (four_front (group_levels coder g) zs 0 (omega (arith, length-group_levels coder g e))))
@@ -213,7 +213,7 @@ segments_in coder s q (g ∷ gs) t o =
     ∙ ap (λ ys. flat_map (run_group coder.last ys) (enumerate_from 0 (g ∷ gs)))
     (sym (levels_parts coder g s q rest t.0 o.0 t.1))
 
-pub segments_run : (coder : Coding) (s : ℕ) (q : List ℕ) (gs : List Group) → IsRun s q coder gs
+pub segments_run : (coder : Coding) (s : ℕ) (q : List ℕ) (gs : List Group) → IsGroupRun s q coder gs
     → segments_of_groups coder gs ≡ run_segments coder.last (levels_of s q (bytes_of_groups coder gs)) gs
 segments_run coder s q gs r = segments_in coder s q gs r.in_turn r.go_on
 
@@ -235,7 +235,7 @@ last_in_run coder s q (g ∷ gs) t o =
     ∙ ap₂ (last_in coder.last) (sym (levels_parts coder g s q rest t.0 o.0 t.1)) (let e : length gs + 1
     ≡ suc (length gs) = omega arith in e)
 
-pub last_run : (coder : Coding) (s : ℕ) (q : List ℕ) (gs : List Group) → IsRun s q coder gs
+pub last_run : (coder : Coding) (s : ℕ) (q : List ℕ) (gs : List Group) → IsGroupRun s q coder gs
     → (after_groups coder gs).last ≡ last_in coder.last (levels_of s q (bytes_of_groups coder gs)) (length gs)
 last_run coder s q gs r = last_in_run coder s q gs r.in_turn r.go_on
 
@@ -249,7 +249,7 @@ bytes_since coder front run r t =
     ∙ ap (drop (828 * length front)) (sym (bytes_append coder front run))
 
 pub segments_restart : (coder : Coding) (front run : List Group) (r s : ℕ) (q : List ℕ) → AreInTurn r front
-    → IsRun s q (after_groups coder front) run
+    → IsGroupRun s q (after_groups coder front) run
     → segments_of_groups coder (front ++ run)
     ≡ segments_of_groups coder front ++ run_segments (after_groups coder front).last
     (levels_of s q (drop (828 * length front) (bytes_of_groups coder (front ++ run)))) run
@@ -260,7 +260,7 @@ segments_restart coder front run r s q t i =
     ∙ ap (λ ys. run_segments (after_groups coder front).last (levels_of s q ys) run) (bytes_since coder front run r t))
 
 pub states_restart : (coder : Coding) (front run : List Group) (r s : ℕ) (q : List ℕ) → AreInTurn r front
-    → IsRun s q (after_groups coder front) run → 0 < length run
+    → IsGroupRun s q (after_groups coder front) run → 0 < length run
     → (after_groups coder (front ++ run)).states ≡ states_after s q
     (drop (828 * length front) (bytes_of_groups coder (front ++ run)))
 states_restart coder front run r s q t i l =

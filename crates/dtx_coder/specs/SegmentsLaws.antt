@@ -1,7 +1,7 @@
 -- The segments of levels that stand behind others.
 use Rattle.std.proofs.Common.{◌≡◌, ℕ, ◌+◌, ◌-◌, ◌*◌, ◌≤◌, List, ◌++◌, length, map, take, drop, sym, ap, ap₂, ◌∙◌, arith}
 use Rattle.dtx_lists.proofs.Range.{map-range_same}
-use Rattle.dtx_coder.specs.RangeMovedLaws.{map-range_moved}
+use Rattle.dtx_lists.proofs.RangeMoved.{map-range_moved}
 use Rattle.dtx_coder.specs.SlicesLaws.{piece-front, piece-back}
 use Rattle.std.proofs.lemmas.List.{length-append, length-drop, length-map, length-take-le}
 use Rattle.dtx_frame.specs.Segments.{data_segment, segment_sync, symbol_of}

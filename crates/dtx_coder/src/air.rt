@@ -5,9 +5,7 @@ ghost use Rattle.std.specs.Prelude.{slice_index, take};
 ghost use Rattle.dtx_frame.specs.Segments.{data_segment, field_sync};
 ghost use Rattle.dtx_coder.specs.Stream.{four_segments, symbols_of};
 
-use crate::sizes::GROUP_PACKETS;
-use dtx_frame::{LAST, SEGMENT};
-use dtx_trellis::{GROUP_LEVELS, SEGMENT_LEVELS};
+use dtx_sizes::{GROUP_LEVELS, GROUP_PACKETS, PRECODE, SEGMENT, SEGMENT_LEVELS};
 
 /// How many segments a group has at most: a field sync and four data segments.
 pub const MOST_SEGMENTS: u8 = 5;
@@ -36,7 +34,7 @@ impl Air {
     }
 
     /// No segments, but for a field sync where `sync` is set.
-    pub(crate) fn begin(&mut self, sync: bool, second: bool, last: &[i8; LAST])
+    pub(crate) fn begin(&mut self, sync: bool, second: bool, last: &[i8; PRECODE])
         ensures segments { self.new.segments ≡ (if sync then 1 else 0) }
         ensures symbols { take (SEGMENT * self.new.segments) self.new.symbols
             ≡ (if sync then field_sync second last.now else []) }
@@ -63,15 +61,15 @@ impl Air {
     }
 
     /// The last twelve symbols.
-    pub(crate) fn last(&self) -> [i8; LAST]
+    pub(crate) fn last(&self) -> [i8; PRECODE]
         requires some { 0 < self.now.segments }
         requires few { self.now.segments ≤ MOST_SEGMENTS }
-        ensures { result ≡ drop (SEGMENT * self.now.segments - LAST)
+        ensures { result ≡ drop (SEGMENT * self.now.segments - PRECODE)
             (take (SEGMENT * self.now.segments) self.now.symbols) }
     {
         let end = SEGMENT * self.segments as usize;
-        let mut last = [0; LAST];
-        last.copy_from_slice(&self.symbols[end - LAST..end]);
+        let mut last = [0; PRECODE];
+        last.copy_from_slice(&self.symbols[end - PRECODE..end]);
         last
     }
 
@@ -90,7 +88,7 @@ impl Air {
 }
 
 /// Writes a field sync in place.
-fn write_sync(second: bool, last: &[i8; LAST], symbols: &mut [i8])
+fn write_sync(second: bool, last: &[i8; PRECODE], symbols: &mut [i8])
     requires { length symbols.old ≡ SEGMENT }
     ensures { symbols.new ≡ field_sync second last.now }
 {

@@ -8,10 +8,11 @@ ghost use Rattle.dtx_coder.specs.Runs.{AreStates};
 
 use crate::air::Air;
 use crate::outer_coding::{OuterCoding, code_packets, new_outer_coding};
-use crate::sizes::{BRANCH_STEP, BRANCHES, GROUP_PACKETS};
-use dtx_frame::LAST;
 use dtx_packets::Packet;
-use dtx_trellis::{CODERS, FIELD, GROUP_BYTES, GROUP_LEVELS, States, Twelve};
+use dtx_sizes::{
+    BRANCH_STEP, BRANCHES, CODERS, FIELD_PACKETS, GROUP_BYTES, GROUP_LEVELS, GROUP_PACKETS, PRECODE,
+};
+use dtx_trellis::{States, Twelve};
 use std::alloc::{AllocError, Global};
 use std::marker::Model;
 
@@ -22,7 +23,7 @@ use std::marker::Model;
 pub struct Coder {
     outer: OuterCoding,
     twelve: Twelve,
-    last: [i8; LAST],
+    last: [i8; PRECODE],
 }
 
 impl Model for Coder {
@@ -43,7 +44,7 @@ impl Coder {
         Ok(Coder {
             outer: new_outer_coding(alloc)?,
             twelve: Twelve::new(),
-            last: [-7; LAST],
+            last: [-7; PRECODE],
         })
     }
 
@@ -52,7 +53,7 @@ impl Coder {
     pub fn known(&self)
         ensures branches { HasWidths BRANCHES (spreading BRANCH_STEP) self.now.branches }
         ensures states { AreStates self.now.states }
-        ensures last { length self.now.last ≡ LAST }
+        ensures last { length self.now.last ≡ PRECODE }
     {
         let _ = &self.outer;
         let _ = self.twelve.states();
@@ -87,7 +88,7 @@ impl Coder {
         sync: bool,
         air: &mut Air,
     )
-        requires in_field { first < FIELD }
+        requires in_field { first < FIELD_PACKETS }
         requires whole { first % GROUP_PACKETS ≡ 0 }
         requires begins { IsTrue sync → first ≡ 0 }
         ensures { let given : Group = record {
@@ -111,8 +112,8 @@ impl Coder {
 }
 
 /// An array has its length.
-fn twelve_symbols(last: &[i8; LAST])
-    ensures { length last.now ≡ LAST }
+fn twelve_symbols(last: &[i8; PRECODE])
+    ensures { length last.now ≡ PRECODE }
 {}
 
 /// Puts the coders in the preset states, where there are some.

@@ -9,15 +9,16 @@ ghost use Rattle.dtx_trellis.specs.Groups.{levels_of, states_after};
 ghost use Rattle.dtx_coder.specs.Coded.{whole_groups};
 ghost use Rattle.dtx_coder.specs.Stream.{levels, states, four_segments, group_segments, a53, a53_symbols};
 ghost use Rattle.dtx_coder.specs.Groups.{Coding, Group, StandsFor, IsNextGroup, new_coding, aligned_coding};
-ghost use Rattle.dtx_coder.specs.Groups.{after_group, segments_of, coded_groups, bytes_of_groups};
+ghost use Rattle.dtx_coder.specs.Groups.{after_group, air_segments, coded_groups, bytes_of_groups};
 ghost use Rattle.dtx_coder.specs.Runs.{AreStates};
 
 pub mod runs;
 
 use crate::air::MOST_SEGMENTS;
-use crate::sizes::{BRANCH_STEP, BRANCHES, CODEWORD, GROUP_PACKETS, SETTLED_PACKETS};
-use dtx_frame::{LAST, SEGMENT};
-use dtx_trellis::{FIELD, GROUP_BYTES};
+use dtx_sizes::{
+    BRANCH_STEP, BRANCHES, CODEWORD, FIELD_PACKETS, FLUSHING_PACKETS, GROUP_BYTES, GROUP_PACKETS,
+    PRECODE, SEGMENT,
+};
 
 /// A new coder stands for no packets.
 pub fn nothing_given()
@@ -33,7 +34,7 @@ pub fn next_group()
         → StandsFor (after_group coder group) (packets ++ group.packets) }
     ensures segments { (coder : Coding) (packets : List (List ℕ)) (group : Group) → StandsFor coder packets
         → IsNextGroup packets coder.states group
-        → a53 (packets ++ group.packets) ≡ a53 packets ++ segments_of coder group }
+        → a53 (packets ++ group.packets) ≡ a53 packets ++ air_segments coder group }
 {}
 
 /// The segments of a stream begin with those of its first groups, and packets behind the last whole group add none.
@@ -50,14 +51,14 @@ pub fn fronts()
 pub fn goes_on()
     ensures levels { (packets : List (List ℕ)) (u : ℕ) → GROUP_PACKETS * u ≤ length packets
         → levels packets ≡ levels (take (GROUP_PACKETS * u) packets)
-        ++ levels_of (GROUP_PACKETS * u % FIELD) (states (take (GROUP_PACKETS * u) packets))
+        ++ levels_of (GROUP_PACKETS * u % FIELD_PACKETS) (states (take (GROUP_PACKETS * u) packets))
         (drop (GROUP_BYTES * u) (whole_groups packets)) }
     ensures states { (packets : List (List ℕ)) (u : ℕ) → GROUP_PACKETS * u ≤ length packets
-        → states packets ≡ states_after (GROUP_PACKETS * u % FIELD) (states (take (GROUP_PACKETS * u) packets))
+        → states packets ≡ states_after (GROUP_PACKETS * u % FIELD_PACKETS) (states (take (GROUP_PACKETS * u) packets))
         (drop (GROUP_BYTES * u) (whole_groups packets)) }
     ensures segments { (packets : List (List ℕ)) (u : ℕ) → GROUP_PACKETS * u + GROUP_PACKETS ≤ length packets
         → four_segments (levels packets) (GROUP_PACKETS * u)
-        ≡ four_segments (levels_of (GROUP_PACKETS * u % FIELD) (states (take (GROUP_PACKETS * u) packets))
+        ≡ four_segments (levels_of (GROUP_PACKETS * u % FIELD_PACKETS) (states (take (GROUP_PACKETS * u) packets))
         (slice_range (whole_groups packets) (GROUP_BYTES * u) (GROUP_BYTES * u + GROUP_BYTES))) 0 }
 {}
 
@@ -82,13 +83,13 @@ pub fn behind_align()
 /// Behind an align, whatever the coder held, the bytes that leave as packet 52 and each later one come are those of the
 /// packets given since, and no byte from before is among them: so it is of the 828 bytes of each group whose first
 /// packet is packet 52 since or a later one.
-pub fn settled()
+pub fn flushed()
     ensures bytes { (coder : Coding) (groups : List Group) (n : ℕ)
-        → HasWidths BRANCHES (spreading BRANCH_STEP) coder.branches → CODEWORD * SETTLED_PACKETS ≤ n
+        → HasWidths BRANCHES (spreading BRANCH_STEP) coder.branches → CODEWORD * FLUSHING_PACKETS ≤ n
         → drop n (bytes_of_groups (aligned_coding coder) groups)
         ≡ drop n (interleaved BRANCHES BRANCH_STEP (coded_groups groups)) }
     ensures group { (coder : Coding) (groups : List Group) (u : ℕ)
-        → HasWidths BRANCHES (spreading BRANCH_STEP) coder.branches → SETTLED_PACKETS ≤ GROUP_PACKETS * u
+        → HasWidths BRANCHES (spreading BRANCH_STEP) coder.branches → FLUSHING_PACKETS ≤ GROUP_PACKETS * u
         → slice_range (bytes_of_groups (aligned_coding coder) groups) (GROUP_BYTES * u) (GROUP_BYTES * u + GROUP_BYTES)
         ≡ slice_range (interleaved BRANCHES BRANCH_STEP (coded_groups groups)) (GROUP_BYTES * u)
         (GROUP_BYTES * u + GROUP_BYTES) }
@@ -97,9 +98,10 @@ pub fn settled()
 /// A group of four packets has five segments where a field sync stands before it, else four, of 832 symbols each.
 pub fn group_counts()
     ensures segments { (coder : Coding) (group : Group)
-        → length (segments_of coder group) ≡ (if group.sync then MOST_SEGMENTS else GROUP_PACKETS) }
-    ensures long { (coder : Coding) (group : Group) → length group.packets ≡ GROUP_PACKETS → length coder.last ≡ LAST
-        → EachIndex (segments_of coder group) (λ n. length (slice_index_or (segments_of coder group) n []) ≡ SEGMENT) }
+        → length (air_segments coder group) ≡ (if group.sync then MOST_SEGMENTS else GROUP_PACKETS) }
+    ensures long { (coder : Coding) (group : Group) → length group.packets ≡ GROUP_PACKETS → length coder.last ≡ PRECODE
+        → EachIndex (air_segments coder group) (λ n. length (slice_index_or (air_segments coder group) n [])
+        ≡ SEGMENT) }
 {}
 
 /// What stays of a coder's parts with each group of four packets: twelve states, twelve last symbols, branches of their
@@ -107,7 +109,7 @@ pub fn group_counts()
 pub fn kept()
     ensures states { (coder : Coding) (group : Group) → AreStates (after_group coder group).states }
     ensures last { (coder : Coding) (group : Group) → length group.packets ≡ GROUP_PACKETS
-        → length (after_group coder group).last ≡ LAST }
+        → length (after_group coder group).last ≡ PRECODE }
     ensures branches { (coder : Coding) (group : Group) → HasWidths BRANCHES (spreading BRANCH_STEP) coder.branches
         → HasWidths BRANCHES (spreading BRANCH_STEP) (after_group coder group).branches }
 {}

@@ -5,8 +5,6 @@ mod air;
 mod coder;
 pub mod laws;
 mod outer_coding;
-mod sizes;
 
 pub use air::{AIR_SYMBOLS, Air, MOST_SEGMENTS};
 pub use coder::Coder;
-pub use sizes::{GROUP_PACKETS, SETTLED_PACKETS};

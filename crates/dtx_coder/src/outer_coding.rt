@@ -6,13 +6,14 @@ ghost use Rattle.dtx_whiten.specs.Randomizer.{randomizer_bytes};
 ghost use Rattle.dtx_coder.specs.Coded.{coded_from};
 ghost use Rattle.dtx_coder.specs.Groups.{zero_branches};
 
-use crate::sizes::{BRANCH_STEP, BRANCHES, CODEWORD, GROUP_PACKETS};
 use dtx_outer::Outer;
 use dtx_packets::Packet;
 use dtx_rs::Rs;
+use dtx_sizes::{
+    BRANCH_STEP, BRANCHES, CODEWORD, FIELD_PACKETS, GROUP_BYTES, GROUP_PACKETS, PACKET_DATA,
+};
 use dtx_spread::Branches;
-use dtx_trellis::GROUP_BYTES;
-use dtx_whiten::{Atsc, FIELD_PACKETS, PACKET_DATA};
+use dtx_whiten::Atsc;
 use std::alloc::{AllocError, Global};
 
 /// The randomizer, the Reed-Solomon encoder and the interleaver of the standard.

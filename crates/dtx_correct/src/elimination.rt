@@ -75,14 +75,8 @@ fn reduce(
     let chosen = copied(vectors, pivot);
     let inverse = combine(&chosen[..width], syndromes, equation).pow(254);
     for k in 0..width {
-        reduce_one(
-            &mut vectors[k],
-            width,
-            &chosen,
-            inverse,
-            syndromes,
-            equation,
-        );
+        let factor = combine(&vectors[k][..width], syndromes, equation).mul(inverse);
+        add_multiple(&mut vectors[k], width, &chosen, factor);
     }
 }
 
@@ -94,24 +88,13 @@ fn copied(vectors: &[[u8; WIDTH]; WIDTH], k: usize) -> [u8; WIDTH]
     vectors[k]
 }
 
-/// Adds to one vector the multiple of the chosen one that makes it solve the equation, from the inverse of the chosen
-/// one's left side.
-fn reduce_one(
-    vector: &mut [u8; WIDTH],
-    width: usize,
-    chosen: &[u8; WIDTH],
-    inverse: Gf,
-    syndromes: &[u8; ROOM],
-    equation: usize,
-)
-    requires few { width ≤ WIDTH }
-    requires below { width + equation ≤ ROOM }
+/// Adds that multiple of the chosen vector to one, within the width.
+fn add_multiple(vector: &mut [u8; WIDTH], width: usize, chosen: &[u8; WIDTH], factor: Gf)
+    requires { width ≤ WIDTH }
     ensures long { length vector.new ≡ WIDTH }
-    ensures vector { take width vector.new ≡ sums (take width vector.old)
-        (scaled (mul (combination (take width vector.old) (slice_index syndromes.now) equation) inverse.0)
-        (take width chosen.now)) }
+    ensures vector { take width vector.new
+        ≡ sums (take width vector.old) (scaled factor.0 (take width chosen.now)) }
 {
-    let factor = combine(&vector[..width], syndromes, equation).mul(inverse);
     add_scaled(&mut vector[..width], &chosen[..width], factor);
 }
 

@@ -3,7 +3,7 @@ ghost use Rattle.std.specs.Prelude.{◌≡◌, ◌++◌, ◌*◌, ◌+◌, ◌%�
 ghost use Rattle.dtx_outside.specs.Counts.{Nothing};
 ghost use Rattle.dtx_meaning.specs.Status.{IsOfBytes, blame_of};
 ghost use Rattle.dtx_engine.specs.Made.{AreFrontsOf, Made, only};
-ghost use Rattle.dtx_engine.specs.Making.{AreSomeGiven, AreUnitsGiven, Making, IsSound, IsFed};
+ghost use Rattle.dtx_engine.specs.Recipe.{AreSomeGiven, AreUnitsGiven, Recipe, IsSound, IsFed};
 
 use dtx_meaning::Outcome;
 
@@ -28,7 +28,7 @@ pub trait Engine {
     ghost shape: { Shape };
 
     /// What is made of them, as a definition.
-    ghost making: { Self → Making };
+    ghost recipe: { Self → Recipe };
 
     /// These bytes were given to the value.
     ghost stands: { Self → List ℕ → Type 0 };
@@ -44,7 +44,7 @@ pub trait Engine {
     /// The unit of that number is allowed.
     fn allows(&self, index: u64, unit: &[u8]) -> bool
         requires { length unit.now ≡ shape.unit }
-        ensures { result ≡ (making self.now).allows index unit.now };
+        ensures { result ≡ (recipe self.now).allows index unit.now };
 
     /// Takes whole units, the first of which has that number, behind whole groups. It may change the bytes.
     fn feed(&mut self, first: u64, bytes: &mut [u8])
@@ -53,18 +53,18 @@ pub trait Engine {
         requires whole { length bytes.old % shape.unit ≡ 0 }
         requires room { length bytes.old ≤ shape.unit * shape.units }
         requires most { shape.unit * first + length bytes.old ≤ shape.unit * shape.limit }
-        ensures kept { making self.new ≡ making self.old }
+        ensures kept { recipe self.new ≡ recipe self.old }
         ensures fed { (given : List ℕ) → length given ≡ shape.unit * first → stands self.old given
-            → IsFed (making self.old) given bytes.old (stands self.new) (gives self.new bytes.new) };
+            → IsFed (recipe self.old) given bytes.old (stands self.new) (gives self.new bytes.new) };
 
     /// Takes the end, behind which so many bytes are loose, and answers.
     fn finish(&mut self, loose: usize) -> Outcome
         requires given { AreUnitsGiven shape (stands self.old) }
-        ensures kept { making self.new ≡ making self.old }
+        ensures kept { recipe self.new ≡ recipe self.old }
         ensures verdict { blame_of result.status ≡ Nothing }
         ensures bytes { IsOfBytes result.status }
-        ensures outcome { (given : List ℕ) → stands self.old given → result ≡ (making self.old).answer given loose }
-        ensures rest { (given : List ℕ) → stands self.old given → gives self.new [] ≡ (making self.old).rest given };
+        ensures outcome { (given : List ℕ) → stands self.old given → result ≡ (recipe self.old).answer given loose }
+        ensures rest { (given : List ℕ) → stands self.old given → gives self.new [] ≡ (recipe self.old).rest given };
 
     /// What the last call has made for the first output, where these are the bytes that it was lent.
     fn made<'a>(&'a self, bytes: &'a [u8]) -> &'a [u8]
@@ -75,9 +75,9 @@ pub trait Engine {
         ensures { (bytes : List ℕ) → result.now ≡ (gives self.now bytes).second };
 
     /// Of no units nothing is made.
-    ghost starts: { (s : Self) → (making s).made [] ≡ only [] };
+    ghost starts: { (s : Self) → (recipe s).made [] ≡ only [] };
 
     /// What is made of first units is a front part of what is made of more.
     ghost grows: { (s : Self) (a b : List ℕ) → length a % shape.unit ≡ 0
-        → AreFrontsOf ((making s).made a) ((making s).made (a ++ b)) };
+        → AreFrontsOf ((recipe s).made a) ((recipe s).made (a ++ b)) };
 }

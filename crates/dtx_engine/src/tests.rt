@@ -168,7 +168,7 @@ impl Engine for Copies {
 
     ghost shape = { record { unit = 2; units = 4; group = 2; limit = 6 } };
 
-    ghost making = { λ s. record {
+    ghost recipe = { λ s. record {
       allows = λ k unit. not (slice_index_or unit 0 0 == 0);
       made = λ given. both given given;
       rest = λ given. both [] (7 ∷ []);

@@ -7,12 +7,12 @@ use Rattle.std.proofs.lemmas.List.{drop_at}
 use Rattle.dtx_clock.specs.Clock.{grains_of, DifferBy}
 use Rattle.dtx_clock.specs.MomentsLaws.{moments_differ}
 use Rattle.dtx_ops.specs.declared.fields.Ops.{Ops}
-use Rattle.dtx_exciter.specs.Order.{Order, counted, placed}
-use Rattle.dtx_exciter.specs.Packets.{said}
+use Rattle.dtx_exciter.specs.Order.{Order, counting_order, placed}
+use Rattle.dtx_exciter.specs.Packets.{readings}
 use Rattle.dtx_exciter.specs.Emission.{emission}
 use Rattle.dtx_exciter.specs.Lockstep.{IsFeed, IsStretch, segment_place, stretch}
 use Rattle.dtx_exciter.specs.Log.{preset}
-use Rattle.dtx_exciter.specs.Stretch.{before_stretch, offset_at, moment_at, preset_line, orders_in, stretch_lines}
+use Rattle.dtx_exciter.specs.Stretch.{before_stretch, offset_at, order_moment, preset_line, orders_in, stretch_lines}
 use Rattle.dtx_exciter.specs.Stretch.{IsApart, AreApart}
 use Rattle.dtx_exciter.specs.LockstepIsLaws.{lockstep_is}
 
@@ -68,18 +68,20 @@ lines_apart a b s r feed end k = all_apart a b s r k (orders_in feed k end)
 
 -- ---- the first line
 
-pub first_is : (a s : ℕ) (feed : List (List ℕ)) (end k : ℕ) (ops : Ops) → k + 4 ≤ end → counted (said feed) k ≡ Some ops
+pub first_is : (a s : ℕ) (feed : List (List ℕ)) (end k : ℕ) (ops : Ops) → k + 4 ≤ end
+    → counting_order (readings feed) k ≡ Some ops
     → stretch_lines a s feed k end
-    ≡ preset s ops.frame (k % 624) (moment_at a (record { place = k; ops = ops })).tick
-    (moment_at a (record { place = k; ops = ops })).grain ∷ map (preset_line a s k) (orders_in feed (k + 1) end)
+    ≡ preset s ops.frame (k % 624) (order_moment a (record { place = k; ops = ops })).tick
+    (order_moment a (record { place = k; ops = ops })).grain ∷ map (preset_line a s k) (orders_in feed (k + 1) end)
 unfolding stretch_lines orders_in
 first_is a s feed end k ops l h =
     let c : end - 3 - k ≡ suc (end - 3 - (k + 1)) = omega (arith, l) in
     let order : Order = record { place = k; ops = ops } in
-    let pick = λ (g : ℕ). placed g (counted (said feed) g) in
+    let pick = λ (g : ℕ). placed g (counting_order (readings feed) g) in
     let seg : s + (segment_place k - segment_place k) ≡ s = omega arith in
     ap (λ n. map (preset_line a s k) (filter_map pick (range_with_len k n))) c
     ∙ ap (λ o. map (preset_line a s k) (cons_option (placed k o)
     (filter_map pick (range_with_len (k + 1) (end - 3 - (k + 1)))))) h
-    ∙ ap (λ n. preset n ops.frame (k % 624) (moment_at a order).tick (moment_at a order).grain ∷ map (preset_line a s k)
+    ∙ ap (λ n. preset n ops.frame (k % 624) (order_moment a order).tick (order_moment a order).grain ∷ map
+    (preset_line a s k)
     (filter_map pick (range_with_len (k + 1) (end - 3 - (k + 1))))) seg

@@ -8,15 +8,15 @@ use Rattle.std.proofs.lemmas.Bool.{cases_lt, cond-true, cond-false, eq-eqb, ne_e
 use Rattle.std.proofs.lemmas.List.{map-set, take_more_set, length-map, length-set, length_push, drop-append-le}
 use Rattle.std.proofs.lemmas.List.{drop_all, take_all, take-append-le}
 use Rattle.dtx_packets.specs.declared.packet.Packet.{Packet}
-use Rattle.dtx_coder.specs.Groups.{Coding, segments_of, after_group}
+use Rattle.dtx_coder.specs.Groups.{Coding, air_segments, after_group}
 use Rattle.dtx_ops.specs.declared.fields.Ops.{Ops}
 use Rattle.dtx_exciter.specs.declared.exciter.Exciter.{Exciter}
 use Rattle.dtx_exciter.specs.declared.answers.Told.{Told}
 use Rattle.dtx_exciter.specs.declared.answers.Told.TheVariants.{Quiet}
-use Rattle.dtx_exciter.specs.Order.{Order, either, counted, placed, in_force}
+use Rattle.dtx_exciter.specs.Order.{Order, either, counting_order, placed, in_force}
 use Rattle.dtx_exciter.specs.Told.{told_at, told_under, is_sent}
-use Rattle.dtx_exciter.specs.Packets.{said}
-use Rattle.dtx_exciter.specs.Emission.{Holds, sent_by, sent_at, sent_before, with_sync, given_under}
+use Rattle.dtx_exciter.specs.Packets.{readings}
+use Rattle.dtx_exciter.specs.Emission.{Holds, sent_by, sent_at, sent_before, behind_field_sync, given_under}
 use Rattle.dtx_exciter.specs.Step.{bytes_of, own_order, told_group, own_of, group_of, IsSent}
 use Rattle.dtx_exciter.specs.Kept.{whole, last_order, is_served, RunsUnder, KeepsUnder, IsJoined}
 use Rattle.dtx_exciter.specs.ForceLaws.{force_left, force_first, counted_behind, IsBehind}
@@ -25,7 +25,7 @@ use Rattle.dtx_exciter.specs.EndsLaws as Ends
 use Rattle.dtx_exciter.specs.AnswerLaws.{told_group_is, sent_is_served}
 use Rattle.dtx_exciter.specs.GroupSentLaws.{IsGiven, HasSync, group_sent, runs_more, none_by}
 
-length-with : (l : List (List ℕ)) (p : List ℕ) → length (said (l ++ p ∷ [])) ≡ length l + 1
+length-with : (l : List (List ℕ)) (p : List ℕ) → length (readings (l ++ p ∷ [])) ≡ length l + 1
 length-with l p = length-said (l ++ p ∷ []) ∙ length_push l p
 
 -- ---- a packet that ends no group
@@ -37,19 +37,19 @@ last_same l p h = ap₂ in_force (said_append l (p ∷ [])) same ∙ by_place (c
     same : whole (l ++ p ∷ []) - 4 ≡ whole l - 4
     same = omega (arith, h, length_push l p)
 
-    by_place : (whole l < 4) ⊎ (4 ≤ whole l) → in_force (said l ++ said (p ∷ [])) (whole l - 4)
-        ≡ in_force (said l) (whole l - 4)
+    by_place : (whole l < 4) ⊎ (4 ≤ whole l) → in_force (readings l ++ readings (p ∷ [])) (whole l - 4)
+        ≡ in_force (readings l) (whole l - 4)
     by_place (inl m) =
         let z : whole l - 4 ≡ 0 = omega (arith, m) in
-        ap (in_force (said l ++ said (p ∷ []))) z ∙ force_first (said l ++ said (p ∷ []))
-        ∙ sym (ap (in_force (said l)) z ∙ force_first (said l))
-    by_place (inr m) = force_left (said l) (said (p ∷ [])) (whole l - 4) (omega (arith, m, length-said l))
+        ap (in_force (readings l ++ readings (p ∷ []))) z ∙ force_first (readings l ++ readings (p ∷ []))
+        ∙ sym (ap (in_force (readings l)) z ∙ force_first (readings l))
+    by_place (inr m) = force_left (readings l) (readings (p ∷ [])) (whole l - 4) (omega (arith, m, length-said l))
 
 quiet_told : (a d : ℕ) (l : List (List ℕ)) (p : List ℕ) → length l % 4 ≢ 3
-    → Quiet ≡ told_under a d (Some (said (l ++ p ∷ [])))
+    → Quiet ≡ told_under a d (Some (readings (l ++ p ∷ [])))
 quiet_told a d l p h =
-    sym (cond-false (length (said (l ++ p ∷ [])) % 4 == 0) _ _
-    (ne_eqb (length (said (l ++ p ∷ [])) % 4) 0 (λ e. h (omega (arith, e, length-with l p)))))
+    sym (cond-false (length (readings (l ++ p ∷ [])) % 4 == 0) _ _
+    (ne_eqb (length (readings (l ++ p ∷ [])) % 4) 0 (λ e. h (omega (arith, e, length-with l p)))))
 
 quiet_given : (a d : ℕ) (l : List (List ℕ)) (p : List ℕ) → length l % 4 ≢ 3 → given_under a d (Some (l ++ p ∷ [])) ≡ []
 quiet_given a d l p h =
@@ -91,7 +91,7 @@ joined_partial a d l old place packet count symbols k e h four z =
       answer = quiet_told a d l packet.0 n;
       air = subst (λ ss. Holds ss count symbols) (sym (quiet_given a d l packet.0 n)) (none_held count symbols z);
       keeps = record {
-        settled = k.settled ∙ settled_same (length l) n (cases_lt (length l) 52)
+        flushed = k.flushed ∙ settled_same (length l) n (cases_lt (length l) 52)
             ∙ ap (nat_le 52) (sym (length_push l packet.0));
         partial =
             ap₂ (λ (x y : ℕ). take x (bytes_of (set old.packets y packet))) s m
@@ -118,7 +118,7 @@ pub record Joining (a d : ℕ) (l : List (List ℕ)) (old : Exciter) (packet : P
   pub four : length old.packets ≡ 4
 
 abbrev order_now : List (List ℕ) → ℕ → List ℕ → Option Order
-order_now l i p = either (placed i (counted (said (l ++ p ∷ [])) i)) (last_order l)
+order_now l i p = either (placed i (counting_order (readings (l ++ p ∷ [])) i)) (last_order l)
 
 bytes_full : (a d : ℕ) (l : List (List ℕ)) (old : Exciter) (packet : Packet) (i j : ℕ) → Joining a d l old packet i j
     → bytes_of (full old packet).packets ≡ Ends.group l i packet.0
@@ -132,29 +132,30 @@ bytes_full a d l old packet i j c =
     ∙ ap (λ (n : ℕ). drop n l) (Ends.whole-front l i c.ends))
 
 own_full : (a d : ℕ) (l : List (List ℕ)) (old : Exciter) (packet : Packet) (i j : ℕ) → Joining a d l old packet i j
-    → own_of (full old packet) j ≡ counted (said (l ++ packet.0 ∷ [])) i
+    → own_of (full old packet) j ≡ counting_order (readings (l ++ packet.0 ∷ [])) i
 unfolding own_of
 own_full a d l old packet i j c =
-    ap₂ (λ s x. own_order s j x) c.keeps.settled (bytes_full a d l old packet i j c)
+    ap₂ (λ s x. own_order s j x) c.keeps.flushed (bytes_full a d l old packet i j c)
     ∙ Ends.own_is l i j packet.0 c.ends c.place
 
 told_full : (a d : ℕ) (l : List (List ℕ)) (old : Exciter) (packet : Packet) (i j : ℕ) → Joining a d l old packet i j
     → told_group a d j (own_of (full old packet) j) old.sent ≡ told_at a d i (order_now l i packet.0)
 told_full a d l old packet i j c =
     ap (λ o. told_group a d j o old.sent) (own_full a d l old packet i j c)
-    ∙ told_group_is a d i j (counted (said (l ++ packet.0 ∷ [])) i) (last_order l) old.sent c.place c.keeps.sent
+    ∙ told_group_is a d i j (counting_order (readings (l ++ packet.0 ∷ [])) i)
+    (last_order l) old.sent c.place c.keeps.sent
     (λ order e. Ends.last_older l i order c.ends e)
 
 told_now : (a d : ℕ) (l : List (List ℕ)) (p : List ℕ) (i : ℕ) → Ends.Ends l i
-    → told_at a d i (order_now l i p) ≡ told_under a d (Some (said (l ++ p ∷ [])))
+    → told_at a d i (order_now l i p) ≡ told_under a d (Some (readings (l ++ p ∷ [])))
 told_now a d l p i e =
-    let n : length (said (l ++ p ∷ [])) ≡ i + 4 = length-said (l ++ p ∷ []) ∙ Ends.length-all l i p e in
-    let s : length (said (l ++ p ∷ [])) - 4 ≡ i = omega (arith, n) in
+    let n : length (readings (l ++ p ∷ [])) ≡ i + 4 = length-said (l ++ p ∷ []) ∙ Ends.length-all l i p e in
+    let s : length (readings (l ++ p ∷ [])) - 4 ≡ i = omega (arith, n) in
     let w = e.whole in
     ap (told_at a d i) (sym (Ends.force_is l i p e))
-    ∙ sym (cond-true (length (said (l ++ p ∷ [])) % 4 == 0) _ _
-    (eq-eqb (length (said (l ++ p ∷ [])) % 4) 0 (omega (arith, n, w)))
-    ∙ ap (λ k. told_at a d k (in_force (said (l ++ p ∷ [])) k)) s)
+    ∙ sym (cond-true (length (readings (l ++ p ∷ [])) % 4 == 0) _ _
+    (eq-eqb (length (readings (l ++ p ∷ [])) % 4) 0 (omega (arith, n, w)))
+    ∙ ap (λ k. told_at a d k (in_force (readings (l ++ p ∷ [])) k)) s)
 
 -- ---- what is given
 
@@ -164,7 +165,7 @@ unfolding sent_at
 before_now a d l p i e = by_place (cases_lt i 4)
   where
     by_place : (i < 4) ⊎ (4 ≤ i)
-        → cond (nat_le 4 i) (sent_by a d (l ++ p ∷ []) (i - 4) (in_force (said (l ++ p ∷ [])) (i - 4))) []
+        → cond (nat_le 4 i) (sent_by a d (l ++ p ∷ []) (i - 4) (in_force (readings (l ++ p ∷ [])) (i - 4))) []
         ≡ sent_by a d (l ++ p ∷ []) (i - 4) (last_order l)
     by_place (inl m) =
         let w = e.whole in
@@ -180,21 +181,21 @@ unfolding sent_at
 sent_now a d l p i e = ap (sent_by a d (l ++ p ∷ []) i) (Ends.force_is l i p e)
 
 given_now : (a d : ℕ) (l : List (List ℕ)) (p : List ℕ) (i : ℕ) → Ends.Ends l i
-    → given_under a d (Some (l ++ p ∷ [])) ≡ with_sync i (sent_by a d (l ++ p ∷ []) (i - 4) (last_order l))
+    → given_under a d (Some (l ++ p ∷ [])) ≡ behind_field_sync i (sent_by a d (l ++ p ∷ []) (i - 4) (last_order l))
     (sent_by a d (l ++ p ∷ []) i (order_now l i p))
 given_now a d l p i e =
     let n : length (l ++ p ∷ []) ≡ i + 4 = Ends.length-all l i p e in
     let s : length (l ++ p ∷ []) - 4 ≡ i = omega (arith, n) in
     let w = e.whole in
     cond-true (length (l ++ p ∷ []) % 4 == 0) _ _ (eq-eqb (length (l ++ p ∷ []) % 4) 0 (omega (arith, n, w)))
-    ∙ ap (λ k. with_sync k (sent_before a d (l ++ p ∷ []) k) (sent_at a d (l ++ p ∷ []) k)) s
-    ∙ ap₂ (with_sync i) (before_now a d l p i e) (sent_now a d l p i e)
+    ∙ ap (λ k. behind_field_sync k (sent_before a d (l ++ p ∷ []) k) (sent_at a d (l ++ p ∷ []) k)) s
+    ∙ ap₂ (behind_field_sync i) (before_now a d l p i e) (sent_now a d l p i e)
 
 -- ---- the coder
 
 given_full : (a d : ℕ) (l : List (List ℕ)) (old : Exciter) (packet : Packet) (i j : ℕ) (answered : Told)
     → Joining a d l old packet i j
-    → IsGiven (Ends.front l i) (Ends.group l i packet.0) i (counted (said (l ++ packet.0 ∷ [])) i)
+    → IsGiven (Ends.front l i) (Ends.group l i packet.0) i (counting_order (readings (l ++ packet.0 ∷ [])) i)
     (last_order l) old.coder (group_of (full old packet) j answered)
 unfolding group_of
 given_full a d l old packet i j answered c = record {
@@ -226,25 +227,25 @@ served_now : (a d : ℕ) (l : List (List ℕ)) (p : List ℕ) (i : ℕ) (answere
     → answered ≡ told_at a d i (order_now l i p) → is_sent answered ≡ is_served a d (order_now l i p)
 served_now a d l p i answered h = ap is_sent h ∙ sent_is_served a d i (order_now l i p)
 
-settled_own : (said : List (Option Ops)) (i : ℕ) (ops : Ops) → counted said i ≡ Some ops → 52 ≤ i
-settled_own said i ops h = let b : IsBehind i = counted_behind said i ops h in b.settled
+settled_own : (readings : List (Option Ops)) (i : ℕ) (ops : Ops) → counting_order readings i ≡ Some ops → 52 ≤ i
+settled_own readings i ops h = let b : IsBehind i = counted_behind readings i ops h in b.flushed
 
 segments_full : (a d : ℕ) (l : List (List ℕ)) (old : Exciter) (packet : Packet) (i j : ℕ) (answered : Told)
     → Joining a d l old packet i j → answered ≡ told_at a d i (order_now l i packet.0)
-    → (t : Bool) → is_sent answered ≡ t → cond t (segments_of old.coder (group_of (full old packet) j answered)) []
+    → (t : Bool) → is_sent answered ≡ t → cond t (air_segments old.coder (group_of (full old packet) j answered)) []
     ≡ given_under a d (Some (l ++ packet.0 ∷ []))
 segments_full a d l old packet i j answered c h true s =
-    group_sent a d (Ends.front l i) (Ends.group l i packet.0) i (counted (said (l ++ packet.0 ∷ [])) i)
+    group_sent a d (Ends.front l i) (Ends.group l i packet.0) i (counting_order (readings (l ++ packet.0 ∷ [])) i)
     (last_order l) old.coder (group_of (full old packet) j answered) old.sent
-    (given_full a d l old packet i j answered c) (λ ops e. settled_own (said (l ++ packet.0 ∷ [])) i ops e)
+    (given_full a d l old packet i j answered c) (λ ops e. settled_own (readings (l ++ packet.0 ∷ [])) i ops e)
     (λ order e. Ends.last_older l i order c.ends e)
     (sync_full a d l old packet i j answered c s) c.keeps.sent (sym (served_now a d l packet.0 i answered h) ∙ s)
-    ∙ ap (λ x. with_sync i (sent_by a d x (i - 4) (last_order l)) (sent_by a d x i (order_now l i packet.0)))
+    ∙ ap (λ x. behind_field_sync i (sent_by a d x (i - 4) (last_order l)) (sent_by a d x i (order_now l i packet.0)))
     (Ends.parts l i packet.0)
     ∙ sym (given_now a d l packet.0 i c.ends)
 segments_full a d l old packet i j answered c h false s =
     sym (given_now a d l packet.0 i c.ends
-    ∙ ap (with_sync i (sent_by a d (l ++ packet.0 ∷ []) (i - 4) (last_order l)))
+    ∙ ap (behind_field_sync i (sent_by a d (l ++ packet.0 ∷ []) (i - 4) (last_order l)))
     (none_by a d (l ++ packet.0 ∷ []) i (order_now l i packet.0) (sym (served_now a d l packet.0 i answered h) ∙ s)))
 
 -- ---- what is kept
@@ -270,7 +271,7 @@ coder_full a d l old packet i j answered c =
     omega (arith, w, Ends.whole-all l i packet.0 c.ends, Ends.length-all l i packet.0 c.ends))))
     (subst (λ o. RunsUnder all o coder) (sym (Ends.last_all l i packet.0 c.ends ∙ Ends.force_is l i packet.0 c.ends))
     (subst (λ x. RunsUnder x (order_now l i packet.0) coder) (Ends.parts l i packet.0)
-    (runs_more (Ends.front l i) (Ends.group l i packet.0) i (counted (said all) i) (last_order l) old.coder
+    (runs_more (Ends.front l i) (Ends.group l i packet.0) i (counting_order (readings all) i) (last_order l) old.coder
     (group_of (full old packet) j answered) (given_full a d l old packet i j answered c))))
 
 partial_full : (l : List (List ℕ)) (p : List ℕ) (i : ℕ) (xs : List (List ℕ)) → Ends.Ends l i
@@ -292,11 +293,11 @@ keeps_full : (a d : ℕ) (l : List (List ℕ)) (old made e : Exciter) (packet : 
       sent = is_sent answered;
       coder = after_group old.coder (group_of (full old packet) j answered);
     }
-    → e.settled ≡ (made.settled || (place == 51)) → e.sent ≡ made.sent → e.coder ≡ made.coder
+    → e.flushed ≡ (made.flushed || (place == 51)) → e.sent ≡ made.sent → e.coder ≡ made.coder
     → KeepsUnder a d e (l ++ packet.0 ∷ [])
-keeps_full a d l old made e packet i j place answered c p h m settled sent coder = record {
-  settled =
-      settled ∙ ap (λ (x : Exciter). x.settled || (place == 51)) m ∙ ap (λ b. b || (place == 51)) c.keeps.settled
+keeps_full a d l old made e packet i j place answered c p h m flushed sent coder = record {
+  flushed =
+      flushed ∙ ap (λ (x : Exciter). x.flushed || (place == 51)) m ∙ ap (λ b. b || (place == 51)) c.keeps.flushed
       ∙ settled_more (length l) place p (cases_lt (length l) 52) ∙ ap (nat_le 52) (sym (length_push l packet.0));
   partial = partial_full l packet.0 i (bytes_of e.packets) c.ends;
   sent =
@@ -311,9 +312,9 @@ keeps_full a d l old made e packet i j place answered c p h m settled sent coder
 pub joined_full : (a d : ℕ) (l : List (List ℕ)) (old made e : Exciter) (packet : Packet) (i j place : ℕ)
     (answered : Told) (count : ℕ) (symbols : List ℤ) → Joining a d l old packet i j → place ≡ length l % 624
     → old.address ≡ a → old.delay ≡ d → IsSent j (full old packet) made answered count symbols
-    → e.settled ≡ (made.settled || (place == 51)) → e.sent ≡ made.sent → e.coder ≡ made.coder
+    → e.flushed ≡ (made.flushed || (place == 51)) → e.sent ≡ made.sent → e.coder ≡ made.coder
     → IsJoined a d (l ++ packet.0 ∷ []) e answered count symbols
-joined_full a d l old made e packet i j place answered count symbols c p x y s settled sent coder =
+joined_full a d l old made e packet i j place answered count symbols c p x y s flushed sent coder =
     let h : answered ≡ told_at a d i (order_now l i packet.0) =
     s.answer ∙ ap₂ (λ (u v : ℕ). told_group u v j (own_of (full old packet) j) old.sent) x y
     ∙ told_full a d l old packet i j c in
@@ -321,5 +322,5 @@ joined_full a d l old made e packet i j place answered count symbols c p x y s s
       answer = h ∙ told_now a d l packet.0 i c.ends;
       air = subst (λ ss. Holds ss count symbols) (segments_full a d l old packet i j answered c h
           (is_sent answered) refl) s.air;
-      keeps = keeps_full a d l old made e packet i j place answered c p h s.new settled sent coder;
+      keeps = keeps_full a d l old made e packet i j place answered c p h s.new flushed sent coder;
     }

@@ -17,8 +17,8 @@ use Rattle.dtx_exciter.specs.declared.answers.Why.TheVariants.{Cadence}
 use Rattle.dtx_exciter.specs.declared.answers.Told.{Told}
 use Rattle.dtx_exciter.specs.declared.answers.Told.TheVariants.{Quiet, Muted}
 use Rattle.dtx_exciter.specs.Told.{told_under}
-use Rattle.dtx_exciter.specs.Packets.{syncs, said, anchor_of, under, told}
-use Rattle.dtx_exciter.specs.Emission.{Holds, given, given_under}
+use Rattle.dtx_exciter.specs.Packets.{syncs, readings, anchor_of, under, last_answer}
+use Rattle.dtx_exciter.specs.Emission.{Holds, last_segments, given_under}
 use Rattle.dtx_exciter.specs.Step.{bytes_of, IsSame}
 use Rattle.dtx_exciter.specs.Kept.{last_order, is_served, RunsUnder, KeepsUnder, Keeps, StandsFor, IsTaken, IsJoined}
 use Rattle.dtx_exciter.specs.Kept.{Joins}
@@ -48,14 +48,14 @@ stands_nothing a d e x y h = record {
 
 last_single : (p : List ℕ) → last_order (p ∷ []) ≡ None
 unfolding last_order
-last_single p = force_first (said (p ∷ []))
+last_single p = force_first (readings (p ∷ []))
 
 pub keeps_single : (a d : ℕ) (e : Exciter) (packets : List Packet) (packet : Packet) (coder : Coding)
-    → e.settled ≡ false → e.sent ≡ false → e.packets ≡ set packets 0 packet → 0 < length packets
+    → e.flushed ≡ false → e.sent ≡ false → e.packets ≡ set packets 0 packet → 0 < length packets
     → e.coder ≡ aligned_coding coder → AreStates coder.states → HasWidths 52 (spreading 4) coder.branches
     → KeepsUnder a d e (packet.0 ∷ [])
-keeps_single a d e packets packet coder settled sent held some coded states widths = record {
-  settled = settled;
+keeps_single a d e packets packet coder flushed sent held some coded states widths = record {
+  flushed = flushed;
   partial =
       ap (λ x. take 1 (bytes_of x)) held ∙ ap (take 1) (map-set (λ p. p.0) packets 0 packet)
       ∙ take_more_set (bytes_of packets) 0 packet.0 (let n : length (bytes_of packets)
@@ -99,9 +99,10 @@ pub record Makes (a d : ℕ) (now : Option (List (List ℕ))) (e : Exciter) (anc
 
 taken_as : (a d : ℕ) (old : Exciter) (before : List (List ℕ)) (p : List ℕ) (sync : ℕ) (s : Seen) (anchor : Option ℕ)
     (now : Option (List (List ℕ))) (e : Exciter) (answered : Told) (count : ℕ) (symbols : List ℤ)
-    → Sees a d old before p sync s anchor → under (before ++ p ∷ []) ≡ now → answered ≡ told a d (before ++ p ∷ [])
+    → Sees a d old before p sync s anchor → under (before ++ p ∷ []) ≡ now
+    → answered ≡ last_answer a d (before ++ p ∷ [])
     → Makes a d now e anchor count symbols → IsTaken a d (before ++ p ∷ []) e answered count symbols
-unfolding given
+unfolding last_segments
 taken_as a d old before p sync s anchor now e answered count symbols h u t m = record {
   answer = t;
   air = subst (λ o. Holds (given_under a d o) count symbols) (sym u) m.air;
@@ -178,7 +179,7 @@ with_anchor : (a d : ℕ) (old mid : Exciter) (anchor : Option ℕ) (l : List (L
     → mid ≡ record old { anchor = anchor } → KeepsUnder a d old l → KeepsUnder a d mid l
 with_anchor a d old mid anchor l m k =
     subst (λ (x : Exciter). KeepsUnder a d x l) (sym m) (record {
-      settled = k.settled;
+      flushed = k.flushed;
       partial = k.partial;
       sent = k.sent;
       coder = k.coder;
@@ -211,7 +212,7 @@ taken_at old mid e before p sync place anchor answered count symbols a d h m j s
         → IsJoined a d (l ++ p ∷ []) e answered count symbols → IsTaken a d (before ++ p ∷ []) e answered count symbols
     by_join l u g w =
         taken_as a d old before p sync (At place) anchor (Some (l ++ p ∷ [])) e answered count symbols h u
-        (w.answer ∙ ap (λ o. told_under a d (option_map said o)) (sym u) ∙ sym g.answer)
+        (w.answer ∙ ap (λ o. told_under a d (option_map readings o)) (sym u) ∙ sym g.answer)
         (record {
           address = same.address ∙ of_old;
           delay = same.delay ∙ delay_old;

@@ -3,7 +3,7 @@ use Rattle.std.proofs.Common.{◌≡◌, ℕ, ℤ, ◌*◌, ◌%◌, ◌==◌, �
 use Rattle.std.proofs.Common.{take, sym, ap, ap₂, subst, ◌∙◌}
 use Rattle.std.specs.Prelude.{nat_le}
 use Rattle.std.specs.Option.{unwrap_or}
-use Rattle.dtx_coder.specs.Groups.{Coding, Group, IsCoded, segments_of}
+use Rattle.dtx_coder.specs.Groups.{Coding, Group, IsCoded, air_segments}
 use Rattle.dtx_ops.specs.declared.fields.Ops.{Ops}
 use Rattle.dtx_exciter.specs.declared.exciter.Exciter.{Exciter}
 use Rattle.dtx_exciter.specs.declared.answers.Told.{Told}
@@ -14,7 +14,7 @@ use Rattle.dtx_exciter.specs.Step.{bytes_of, own_order, told_group, own_of, grou
 -- what the code does
 pub record Does (old : Exciter) (j : ℕ) (order : Option Ops) (answered : Told) (sent sync : Bool)
     (states : Option (List ℕ)) (coder : Coding) (coded : ℕ) (count : ℕ) (symbols given : List ℤ) : Type 0 where
-  pub order_is : order ≡ own_order old.settled j (bytes_of old.packets)
+  pub order_is : order ≡ own_order old.flushed j (bytes_of old.packets)
   pub told : answered ≡ told_group old.address old.delay j order old.sent
   pub sent_is : sent ≡ is_sent answered
   pub sync_is : sync ≡ (sent && old.sent && (j % 312 == 0))
@@ -77,10 +77,10 @@ does_send old made j order answered sent sync states coder coded count symbols g
       answer = d.told ∙ ap (λ o. told_group old.address old.delay j o old.sent) d.order_is;
       new = m ∙ ap₂ (λ (b : Bool) (c : Coding). record old { sent = b; coder = c }) d.sent_is codes.coder;
       air =
-          subst (λ (x : List ℤ). Holds (cond (is_sent answered) (segments_of old.coder (group_of old j answered)) [])
+          subst (λ (x : List ℤ). Holds (cond (is_sent answered) (air_segments old.coder (group_of old j answered)) [])
           count x) (sym d.symbols_are)
-          (subst (λ (b : Bool). Holds (cond b (segments_of old.coder (group_of old j answered)) []) count symbols)
+          (subst (λ (b : Bool). Holds (cond b (air_segments old.coder (group_of old j answered)) []) count symbols)
           d.sent_is
-          (held_by sent (segments_of old.coder (group_of old j answered)) coded count symbols
+          (held_by sent (air_segments old.coder (group_of old j answered)) coded count symbols
           (record { counted = codes.segments; begins = codes.symbols }) d.count_is));
     }

@@ -9,7 +9,7 @@ use Rattle.dtx_coder.specs.Along.{levels_since}
 use Rattle.dtx_ops.specs.declared.fields.Ops.{Ops}
 use Rattle.dtx_exciter.specs.Order.{Order, in_force}
 use Rattle.dtx_exciter.specs.Told.{served, told_at, is_sent}
-use Rattle.dtx_exciter.specs.Packets.{said, under}
+use Rattle.dtx_exciter.specs.Packets.{readings, under}
 
 -- the four data segments of group u of these packets, where the coders begin with the states q before group g
 unfoldable pub segments_since : ℕ → List ℕ → List (List ℕ) → ℕ → List (List ℤ)
@@ -25,7 +25,7 @@ sent_by address delay packets i (Some order) =
 
 -- those that are sent of the group from i on
 unfoldable pub sent_at : ℕ → ℕ → List (List ℕ) → ℕ → List (List ℤ)
-sent_at address delay packets i = sent_by address delay packets i (in_force (said packets) i)
+sent_at address delay packets i = sent_by address delay packets i (in_force (readings packets) i)
 
 -- those of the group before it
 abbrev pub sent_before : ℕ → ℕ → List (List ℕ) → ℕ → List (List ℤ)
@@ -33,14 +33,14 @@ sent_before address delay packets i = if nat_le 4 i then sent_at address delay p
 
 -- whether the group before that from i on was sent, as its answer tells
 abbrev pub was_sent : ℕ → ℕ → List (Option Ops) → ℕ → Bool
-was_sent address delay said i = nat_le 4 i && is_sent (told_at address delay (i - 4) (in_force said (i - 4)))
+was_sent address delay readings i = nat_le 4 i && is_sent (told_at address delay (i - 4) (in_force readings (i - 4)))
 
 -- a sent group behind a field sync, where it begins a field and the group before it was sent: the field sync ends with
 -- the last twelve symbols that were sent
-abbrev pub with_sync : ℕ → List (List ℤ) → List (List ℤ) → List (List ℤ)
-with_sync i before [] = []
-with_sync i [] (s ∷ ss) = s ∷ ss
-with_sync i (b ∷ bs) (s ∷ ss) =
+abbrev pub behind_field_sync : ℕ → List (List ℤ) → List (List ℤ) → List (List ℤ)
+behind_field_sync i before [] = []
+behind_field_sync i [] (s ∷ ss) = s ∷ ss
+behind_field_sync i (b ∷ bs) (s ∷ ss) =
     (if i % 312 == 0 then field_sync (nat_le 312 (i % 624))
     (last_of (slice_index_or (b ∷ bs) (length bs) [])) ∷ [] else []) ++ s ∷ ss
 
@@ -48,18 +48,18 @@ abbrev pub given_under : ℕ → ℕ → Option (List (List ℕ)) → List (List
 given_under address delay None = []
 given_under address delay (Some packets) =
     if length packets % 4 == 0
-    then with_sync (length packets - 4) (sent_before address delay packets (length packets - 4))
+    then behind_field_sync (length packets - 4) (sent_before address delay packets (length packets - 4))
     (sent_at address delay packets (length packets - 4))
     else []
 
 -- the segments that the last of these packets gives
-unfoldable pub given : ℕ → ℕ → List (List ℕ) → List (List ℤ)
-given address delay packets = given_under address delay (under packets)
+unfoldable pub last_segments : ℕ → ℕ → List (List ℕ) → List (List ℤ)
+last_segments address delay packets = given_under address delay (under packets)
 
 -- all segments that these packets give, in order
 unfoldable pub emission : ℕ → ℕ → List (List ℕ) → List (List ℤ)
 emission address delay packets =
-    flat_map (λ n. given address delay (take (n + 1) packets)) (range_with_len 0 (length packets))
+    flat_map (λ n. last_segments address delay (take (n + 1) packets)) (range_with_len 0 (length packets))
 
 -- so many segments, whose symbols are the first of these
 pub record Holds (segments : List (List ℤ)) (count : ℕ) (symbols : List ℤ) : Type 0 where

@@ -12,9 +12,9 @@ use Rattle.dtx_lists.proofs.Range.{range_with_len-parts}
 use Rattle.dtx_frame.specs.Segments.{field_sync}
 use Rattle.dtx_coder.specs.Stream.{levels, four_segments, last_before, sync_before, group_segments, a53}
 use Rattle.dtx_coder.specs.CountsLaws.{length-a53}
-use Rattle.dtx_coder.specs.RangeMovedLaws.{flat_map-range_same}
+use Rattle.dtx_lists.proofs.RangeMoved.{flat_map-range_same}
 use Rattle.dtx_coder.specs.StreamLaws.{a53_from, a53_whole}
-use Rattle.dtx_exciter.specs.Emission.{given, emission}
+use Rattle.dtx_exciter.specs.Emission.{last_segments, emission}
 use Rattle.dtx_exciter.specs.Lockstep.{segment_place, stretch}
 use Rattle.dtx_exciter.specs.Stretch.{emission_behind}
 use Rattle.dtx_exciter.specs.RangesLaws.{flat_map-range_moved}
@@ -27,34 +27,34 @@ take_behind l r i n e = ap (λ k. take k (l ++ r)) e ∙ take-append-add l r i
 
 -- what is given up to packet n of these
 front_same : (a d : ℕ) (l r : List (List ℕ)) (n : ℕ) → n ≤ length l
-    → flat_map (λ i. given a d (take (i + 1) (l ++ r))) (range_with_len 0 n)
-    ≡ flat_map (λ i. given a d (take (i + 1) l)) (range_with_len 0 n)
+    → flat_map (λ i. last_segments a d (take (i + 1) (l ++ r))) (range_with_len 0 n)
+    ≡ flat_map (λ i. last_segments a d (take (i + 1) l)) (range_with_len 0 n)
 front_same a d l r n h =
-    flat_map-range_same (λ i. given a d (take (i + 1) (l ++ r))) (λ i. given a d (take (i + 1) l)) 0 n
-    (λ i x y. ap (given a d) (take-append-le (i + 1) l r (omega (arith, y, h))))
+    flat_map-range_same (λ i. last_segments a d (take (i + 1) (l ++ r))) (λ i. last_segments a d (take (i + 1) l)) 0 n
+    (λ i x y. ap (last_segments a d) (take-append-le (i + 1) l r (omega (arith, y, h))))
 
 pub emission_more : (a d : ℕ) (l r : List (List ℕ)) → emission a d (l ++ r) ≡ emission a d l ++ emission_behind a d l r
 unfolding emission emission_behind
 emission_more a d l r =
-    let f : ℕ → List (List ℤ) = λ i. given a d (take (i + 1) (l ++ r)) in
+    let f : ℕ → List (List ℤ) = λ i. last_segments a d (take (i + 1) (l ++ r)) in
     ap (λ n. flat_map f (range_with_len 0 n)) (length-append l r)
     ∙ ap (flat_map f) (range_with_len-parts 0 (length l) (length r))
     ∙ flat_map-append f (range_with_len 0 (length l)) (range_with_len (0 + length l) (length r))
     ∙ ap₂ ◌++◌ (front_same a d l r (length l) (omega arith))
-    (flat_map-range_moved f (λ i. given a d (l ++ take (i + 1) r)) (0 + length l) 0 (length r)
-    (λ i h. ap (given a d) (take_behind l r (0 + i + 1) (0 + length l + i + 1) (omega arith))))
+    (flat_map-range_moved f (λ i. last_segments a d (l ++ take (i + 1) r)) (0 + length l) 0 (length r)
+    (λ i h. ap (last_segments a d) (take_behind l r (0 + i + 1) (0 + length l + i + 1) (omega arith))))
 
 pub emission_push : (a d : ℕ) (l : List (List ℕ)) (p : List ℕ)
-    → emission a d (l ++ p ∷ []) ≡ emission a d l ++ given a d (l ++ p ∷ [])
+    → emission a d (l ++ p ∷ []) ≡ emission a d l ++ last_segments a d (l ++ p ∷ [])
 unfolding emission
 emission_push a d l p =
-    let f : ℕ → List (List ℤ) = λ i. given a d (take (i + 1) (l ++ p ∷ [])) in
+    let f : ℕ → List (List ℤ) = λ i. last_segments a d (take (i + 1) (l ++ p ∷ [])) in
     ap (λ n. flat_map f (range_with_len 0 n)) (length_push l p)
     ∙ ap (flat_map f) (range_with_len-parts 0 (length l) 1)
     ∙ flat_map-append f (range_with_len 0 (length l)) (range_with_len (0 + length l) 1)
     ∙ ap₂ ◌++◌ (front_same a d l (p ∷ []) (length l) (omega arith))
     (append-nil (f (0 + length l))
-    ∙ ap (given a d) (take_all (0 + length l + 1) (l ++ p ∷ []) (omega (arith, length_push l p))))
+    ∙ ap (last_segments a d) (take_all (0 + length l + 1) (l ++ p ∷ []) (omega (arith, length_push l p))))
 
 -- ---- the stretch
 

@@ -5,8 +5,8 @@ use Rattle.std.specs.Prelude.{nat_le}
 use Rattle.std.proofs.lemmas.Bool.{cases_lt, eq-eqb, le-leb, lt-leb}
 use Rattle.std.proofs.lemmas.List.{length_push, length-drop, length-take-le, append_assoc, take-append-drop}
 use Rattle.std.proofs.lemmas.List.{get_or-append_right, get_or-map}
-use Rattle.dtx_exciter.specs.Order.{Order, either, ordered, order_at, counted, placed, in_force}
-use Rattle.dtx_exciter.specs.Packets.{reads, said}
+use Rattle.dtx_exciter.specs.Order.{Order, either, ordered, order_at, counting_order, placed, in_force}
+use Rattle.dtx_exciter.specs.Packets.{reads, readings}
 use Rattle.dtx_exciter.specs.Step.{order_in, own_order}
 use Rattle.dtx_exciter.specs.Kept.{whole, last_order}
 use Rattle.dtx_exciter.specs.ForceLaws.{IsBehind, Stands, force_left, force_more, force_first, force_stands}
@@ -46,8 +46,8 @@ whole-all l i p e = let a = e.long in let b = e.whole in omega (arith, a, b, len
 -- ---- the group's own order
 
 said_at : (l : List (List ℕ)) (i m : ℕ) (p : List ℕ) → Ends l i → m < 4
-    → get_or (said (l ++ p ∷ [])) (i + m) None ≡ reads (get_or (group l i p) m [])
-unfolding said
+    → get_or (readings (l ++ p ∷ [])) (i + m) None ≡ reads (get_or (group l i p) m [])
+unfolding readings
 said_at l i m p e k =
     get_or-map reads (l ++ p ∷ []) (i + m) [] None (omega (arith, k, length-all l i p e))
     ∙ ap reads
@@ -59,7 +59,7 @@ said_at l i m p e k =
     less i m = omega arith
 
 order_is : (l : List (List ℕ)) (i j : ℕ) (p : List ℕ) → Ends l i → j ≡ i % 624
-    → order_in j (group l i p) ≡ order_at (said (l ++ p ∷ [])) i
+    → order_in j (group l i p) ≡ order_at (readings (l ++ p ∷ [])) i
 unfolding order_in order_at
 order_is l i j p e h =
     ap₂ either (same 0 j i (let w = e.whole in omega (arith, h, w)) (omega arith) (omega arith))
@@ -68,12 +68,12 @@ order_is l i j p e h =
     (same 3 (j + 3) (i + 3) (let w = e.whole in omega (arith, h, w)) (omega arith) (omega arith))))
   where
     same : (m x k : ℕ) → x ≡ k % 624 → k ≡ i + m → m < 4
-        → ordered x (reads (get_or (group l i p) m [])) ≡ ordered (k % 624) (get_or (said (l ++ p ∷ [])) k None)
-    same m x k a b c = ap₂ ordered a (sym (ap (λ y. get_or (said (l ++ p ∷ [])) y None) b ∙ said_at l i m p e c))
+        → ordered x (reads (get_or (group l i p) m [])) ≡ ordered (k % 624) (get_or (readings (l ++ p ∷ [])) k None)
+    same m x k a b c = ap₂ ordered a (sym (ap (λ y. get_or (readings (l ++ p ∷ [])) y None) b ∙ said_at l i m p e c))
 
 pub own_is : (l : List (List ℕ)) (i j : ℕ) (p : List ℕ) → Ends l i → j ≡ i % 624
-    → own_order (nat_le 52 (length l)) j (group l i p) ≡ counted (said (l ++ p ∷ [])) i
-unfolding counted
+    → own_order (nat_le 52 (length l)) j (group l i p) ≡ counting_order (readings (l ++ p ∷ [])) i
+unfolding counting_order
 own_is l i j p e h = ap₂ (λ b o. cond b o None) (test (length l) (cases_lt (length l) 52) e.long) (order_is l i j p e h)
   where
     test : (n : ℕ) → (n < 52) ⊎ (52 ≤ n) → n ≡ i + 3 → nat_le 52 n ≡ (nat_le 52 i && (i % 4 == 0))
@@ -87,49 +87,50 @@ own_is l i j p e h = ap₂ (λ b o. cond b o None) (test (length l) (cases_lt (l
 zero_or : (i : ℕ) → i % 4 ≡ 0 → (i ≡ 0) ⊎ (4 ≤ i)
 zero_or i h = grind arith
 
-last_is : (l : List (List ℕ)) (i k : ℕ) → Ends l i → i - 4 ≡ k → last_order l ≡ in_force (said l) k
+last_is : (l : List (List ℕ)) (i k : ℕ) → Ends l i → i - 4 ≡ k → last_order l ≡ in_force (readings l) k
 unfolding last_order
-last_is l i k e h = ap (in_force (said l)) (ap (λ (n : ℕ). n - 4) (whole-front l i e) ∙ h)
+last_is l i k e h = ap (in_force (readings l)) (ap (λ (n : ℕ). n - 4) (whole-front l i e) ∙ h)
 
 pub last_none : (l : List (List ℕ)) (i : ℕ) → Ends l i → i ≡ 0 → last_order l ≡ None
-last_none l i e z = last_is l i 0 e (omega (arith, z)) ∙ force_first (said l)
+last_none l i e z = last_is l i 0 e (omega (arith, z)) ∙ force_first (readings l)
 
 pub force_is : (l : List (List ℕ)) (i : ℕ) (p : List ℕ) → Ends l i
-    → in_force (said (l ++ p ∷ [])) i ≡ either (placed i (counted (said (l ++ p ∷ [])) i)) (last_order l)
+    → in_force (readings (l ++ p ∷ [])) i ≡ either (placed i (counting_order (readings (l ++ p ∷ [])) i)) (last_order l)
 force_is l i p e = by_place (zero_or i e.whole)
   where
     by_place : (i ≡ 0) ⊎ (4 ≤ i)
-        → in_force (said (l ++ p ∷ [])) i ≡ either (placed i (counted (said (l ++ p ∷ [])) i)) (last_order l)
+        → in_force (readings (l ++ p ∷ [])) i ≡ either (placed i (counting_order (readings (l
+        ++ p ∷ [])) i)) (last_order l)
     by_place (inl z) =
-        ap (in_force (said (l ++ p ∷ []))) z ∙ force_first (said (l ++ p ∷ []))
-        ∙ sym (ap₂ (λ o r. either (placed i o) r) (counted_early (said (l ++ p ∷ [])) i (omega (arith, z)))
+        ap (in_force (readings (l ++ p ∷ []))) z ∙ force_first (readings (l ++ p ∷ []))
+        ∙ sym (ap₂ (λ o r. either (placed i o) r) (counted_early (readings (l ++ p ∷ [])) i (omega (arith, z)))
         (last_none l i e z))
     by_place (inr m) =
-        force_more (said (l ++ p ∷ [])) i e.whole m
-        ∙ ap (either (placed i (counted (said (l ++ p ∷ [])) i)))
+        force_more (readings (l ++ p ∷ [])) i e.whole m
+        ∙ ap (either (placed i (counting_order (readings (l ++ p ∷ [])) i)))
         (ap (λ s. in_force s (i - 4)) (said_append l (p ∷ []))
-        ∙ force_left (said l) (said (p ∷ [])) (i - 4) (let a = e.long in omega (arith, m, a, length-said l))
+        ∙ force_left (readings l) (readings (p ∷ [])) (i - 4) (let a = e.long in omega (arith, m, a, length-said l))
         ∙ sym (last_is l i (i - 4) e refl))
 
 -- the order in force before the group
 pub before_is : (l : List (List ℕ)) (i : ℕ) (p : List ℕ) → Ends l i → 4 ≤ i
-    → in_force (said (l ++ p ∷ [])) (i - 4) ≡ last_order l
+    → in_force (readings (l ++ p ∷ [])) (i - 4) ≡ last_order l
 before_is l i p e m =
     ap (λ s. in_force s (i - 4)) (said_append l (p ∷ []))
-    ∙ force_left (said l) (said (p ∷ [])) (i - 4) (let a = e.long in omega (arith, m, a, length-said l))
+    ∙ force_left (readings l) (readings (p ∷ [])) (i - 4) (let a = e.long in omega (arith, m, a, length-said l))
     ∙ sym (last_is l i (i - 4) e refl)
 
 pub last_all : (l : List (List ℕ)) (i : ℕ) (p : List ℕ) → Ends l i
-    → last_order (l ++ p ∷ []) ≡ in_force (said (l ++ p ∷ [])) i
+    → last_order (l ++ p ∷ []) ≡ in_force (readings (l ++ p ∷ [])) i
 unfolding last_order
-last_all l i p e = ap (in_force (said (l ++ p ∷ []))) (ap (λ (n : ℕ). n - 4) (whole-all l i p e) ∙ less i)
+last_all l i p e = ap (in_force (readings (l ++ p ∷ []))) (ap (λ (n : ℕ). n - 4) (whole-all l i p e) ∙ less i)
   where
     less : (i : ℕ) → i + 4 - 4 ≡ i
     less i = omega arith
 
 -- it stands before the group, 52 or more packets behind the anchor
 pub record IsOlder (i : ℕ) (order : Order) : Type 0 where
-  pub settled : 52 ≤ order.place
+  pub flushed : 52 ≤ order.place
   pub whole : order.place % 4 ≡ 0
   pub before : order.place + 4 ≤ i
 
@@ -142,11 +143,11 @@ last_older l i order e h = by_place (zero_or i e.whole)
     by_place : (i ≡ 0) ⊎ (4 ≤ i) → IsOlder i order
     by_place (inl z) = absurd (none_some order (sym (last_none l i e z) ∙ h))
     by_place (inr m) =
-        let s : Stands (said l) (i - 4 + 1) order =
-        force_stands (said l) (i - 4) order (sym (last_is l i (i - 4) e refl) ∙ h) in
-        let b : IsBehind order.place = counted_behind (said l) order.place order.ops s.counts in
+        let s : Stands (readings l) (i - 4 + 1) order =
+        force_stands (readings l) (i - 4) order (sym (last_is l i (i - 4) e refl) ∙ h) in
+        let b : IsBehind order.place = counted_behind (readings l) order.place order.ops s.counts in
         record {
-          settled = b.settled;
+          flushed = b.flushed;
           whole = b.whole;
           before = let x = s.below in let y = b.whole in let z = e.whole in
               omega (arith, x, y, z, m);

@@ -10,8 +10,8 @@ use Rattle.dtx_coder.specs.Along.{levels_since}
 use Rattle.dtx_coder.specs.Stream.{levels, segment, four_segments, last_of}
 use Rattle.dtx_exciter.specs.Order.{Order, in_force}
 use Rattle.dtx_exciter.specs.Told.{served}
-use Rattle.dtx_exciter.specs.Packets.{said}
-use Rattle.dtx_exciter.specs.Emission.{segments_since, sent_by, sent_at, sent_before, with_sync, given_under}
+use Rattle.dtx_exciter.specs.Packets.{readings}
+use Rattle.dtx_exciter.specs.Emission.{segments_since, sent_by, sent_at, sent_before, behind_field_sync, given_under}
 use Rattle.dtx_exciter.specs.Stretch.{sync_behind}
 use Rattle.dtx_exciter.specs.ForceLaws.{Stands, force_left, force_stands}
 use Rattle.dtx_exciter.specs.GroupSentLaws.{since_front}
@@ -23,7 +23,7 @@ use Rattle.dtx_exciter.specs.UnderLaws.{length-said, said_append}
 
 -- it stands in front of a group's data segments
 sync_first : (i : ℕ) (b : List (List ℤ)) (zs : List ℕ) (k : ℕ)
-    → with_sync i b (four_segments zs k) ≡ sync_behind b i ++ four_segments zs k
+    → behind_field_sync i b (four_segments zs k) ≡ sync_behind b i ++ four_segments zs k
 unfolding four_segments
 sync_first i [] zs k = refl
 sync_first i (s ∷ ss) zs k = refl
@@ -36,7 +36,7 @@ sync_place (s ∷ ss) i k e =
     ap₂ (λ x y. cond (x == 0) (field_sync (nat_le 312 y) (last_of (get_or (s ∷ ss) (length ss) [])) ∷ []) []) c e
 
 -- a field sync that stands in front of the group before changes nothing
-sync_over : (j k : ℕ) (b ss : List (List ℤ)) → sync_behind (with_sync j b ss) k ≡ sync_behind ss k
+sync_over : (j k : ℕ) (b ss : List (List ℤ)) → sync_behind (behind_field_sync j b ss) k ≡ sync_behind ss k
 sync_over j k b [] = refl
 sync_over j k [] (s ∷ ss) = refl
 sync_over j k (c ∷ cs) (s ∷ ss) = by_test (j % 312 == 0)
@@ -62,13 +62,13 @@ sent_front : (a d : ℕ) (l r : List (List ℕ)) (i : ℕ) → length l ≡ i + 
 unfolding sent_at
 sent_front a d l r i e w =
     ap (sent_by a d (l ++ r) i) (ap (λ s. in_force s i) (said_append l r)
-    ∙ force_left (said l) (said r) i (omega (arith, e, length-said l)))
-    ∙ by_order (in_force (said l) i) refl
+    ∙ force_left (readings l) (readings r) i (omega (arith, e, length-said l)))
+    ∙ by_order (in_force (readings l) i) refl
   where
-    by_order : (o : Option Order) → in_force (said l) i ≡ o → sent_by a d (l ++ r) i o ≡ sent_by a d l i o
+    by_order : (o : Option Order) → in_force (readings l) i ≡ o → sent_by a d (l ++ r) i o ≡ sent_by a d l i o
     by_order None h = refl
     by_order (Some order) h =
-        let s : Stands (said l) (i + 1) order = force_stands (said l) i order h in
+        let s : Stands (readings l) (i + 1) order = force_stands (readings l) i order h in
         let p : order.place < i + 1 = s.below in
         ap (λ x. cond (is_ok (served a d order.ops)) x [])
         (segments_front l r (i / 4) (order.place / 4) order.ops.states (omega (arith, e, w)) (omega (arith, p)))
@@ -82,7 +82,7 @@ pub given_first : (a d : ℕ) (base feed : List (List ℕ)) (mark n first : ℕ)
     ++ four_segments (levels (upto feed mark (first + 4))) (mark + first)
 given_first a d base feed mark n first m g =
     given_last a d base feed mark first inside g.group m.at_other
-    ∙ ap₂ (with_sync (length base + first)) before
+    ∙ ap₂ (behind_field_sync (length base + first)) before
     (sent_same a d base feed mark n (first + 4) first first m
     (place_of feed mark n first first first g (omega arith) g.group (omega arith)))
     ∙ sync_first (length base + first) (sent_at a d (life base feed mark first) (length base + (first - 4)))
@@ -99,7 +99,7 @@ given_first a d base feed mark n first m g =
     inside = let i = m.inside in let w = g.within in omega (arith, i, w)
 
     far : 52 ≤ first
-    far = g.settled
+    far = g.flushed
 
     four : first - 4 + 4 ≡ first
     four = omega (arith, far)
@@ -123,12 +123,12 @@ given_first a d base feed mark n first m g =
         (length base + (first - 4)) long (let w = g.whole in let m2 = m.at_other in omega (arith, w, m2, far))
 
     earlier : given_under a d (Some (life base feed mark first))
-        ≡ with_sync (length base + (first - 4)) (sent_before a d (life base feed mark first)
+        ≡ behind_field_sync (length base + (first - 4)) (sent_before a d (life base feed mark first)
         (length base + (first - 4))) (sent_at a d (life base feed mark first) (length base + (first - 4)))
     earlier =
         ap (λ k. given_under a d (Some (life base feed mark k))) (sym four)
         ∙ given_last a d base feed mark (first - 4) (omega (arith, inside)) (let w = g.whole in
         omega (arith, w, far)) m.at_other
-        ∙ ap (λ k. with_sync (length base + (first - 4))
+        ∙ ap (λ k. behind_field_sync (length base + (first - 4))
         (sent_before a d (life base feed mark k) (length base + (first - 4)))
         (sent_at a d (life base feed mark k) (length base + (first - 4)))) four

@@ -9,8 +9,8 @@ use Rattle.dtx_packets.specs.Packet.{sync_of}
 use Rattle.dtx_cadence.specs.Anchor.{anchor}
 use Rattle.dtx_exciter.specs.declared.answers.Told.TheVariants.{Quiet}
 use Rattle.dtx_exciter.specs.Told.{told_under}
-use Rattle.dtx_exciter.specs.Packets.{syncs, said, anchor_of, under, told}
-use Rattle.dtx_exciter.specs.Emission.{given, given_under}
+use Rattle.dtx_exciter.specs.Packets.{syncs, readings, anchor_of, under, last_answer}
+use Rattle.dtx_exciter.specs.Emission.{last_segments, given_under}
 use Rattle.dtx_exciter.specs.Lockstep.{IsFeed}
 use Rattle.dtx_exciter.specs.AnchoredLaws.{Marked, IsAnchored, anchored}
 use Rattle.dtx_exciter.specs.UnderLaws.{length-syncs, length-said, goes_on}
@@ -94,13 +94,14 @@ follows a d earlier feed mark n f m l s =
         }
 
 pub given_is : (a d : ℕ) (earlier feed : List (List ℕ)) (mark n j : ℕ) → (w : Follows earlier feed mark n) → j < n
-    → given a d (earlier ++ take (j + 1) (drop mark feed)) ≡ given_under a d (Some (life w.base feed mark (j + 1)))
-unfolding given
+    → last_segments a d (earlier ++ take (j + 1) (drop mark feed))
+    ≡ given_under a d (Some (life w.base feed mark (j + 1)))
+unfolding last_segments
 given_is a d earlier feed mark n j w l = ap (given_under a d) (w.holds j l)
 
 -- a packet that ends no group gives nothing
 pub given_none : (a d : ℕ) (earlier feed : List (List ℕ)) (mark n j : ℕ) → (w : Follows earlier feed mark n)
-    → mark + n ≤ length feed → j < n → j % 4 ≢ 3 → given a d (earlier ++ take (j + 1) (drop mark feed)) ≡ []
+    → mark + n ≤ length feed → j < n → j % 4 ≢ 3 → last_segments a d (earlier ++ take (j + 1) (drop mark feed)) ≡ []
 given_none a d earlier feed mark n j w h l m =
     let s = w.in_step in
     given_is a d earlier feed mark n j w l
@@ -113,7 +114,8 @@ given_none a d earlier feed mark n j w h l m =
 -- The anchor stays.
 pub told_is : (a d : ℕ) (earlier feed : List (List ℕ)) (mark n j : ℕ) → (w : Follows earlier feed mark n)
     → mark + n ≤ length feed → 0 < j → j < n
-    → told a d (after earlier feed mark (j + 1)) ≡ told_under a d (Some (said (life w.base feed mark (j + 1))))
+    → last_answer a d (after earlier feed mark (j + 1)) ≡ told_under a d (Some (readings (life w.base feed mark
+    (j + 1))))
 told_is a d earlier feed mark n j w h s l =
     let e : j - 1 + 1 ≡ j = omega arith in
     let more = after_more earlier feed mark j (omega (arith, h, l)) in
@@ -122,7 +124,7 @@ told_is a d earlier feed mark n j w h s l =
     ap anchor_of (sym more) ∙ w.anchors j l in
     let before : anchor_of (after earlier feed mark j) ≡ Some w.place =
     ap (λ k. anchor_of (after earlier feed mark k)) (sym e) ∙ w.anchors (j - 1) (omega (arith, s, l)) in
-    ap (told a d) more
+    ap (last_answer a d) more
     ∙ (goes_on a d (after earlier feed mark j) (get_or (drop mark feed) j []) w.place
     (omega (
       arith,
@@ -133,17 +135,17 @@ told_is a d earlier feed mark n j w h s l =
       length-append earlier (take j (drop mark feed)),
       length-take-le j (drop mark feed) (omega (arith, h, l, length-drop mark feed)),
     )) before now).answer
-    ∙ ap (λ x. told_under a d (option_map said (under x))) (sym more)
-    ∙ ap (λ x. told_under a d (option_map said x)) (w.holds j l)
+    ∙ ap (λ x. told_under a d (option_map readings (under x))) (sym more)
+    ∙ ap (λ x. told_under a d (option_map readings x)) (w.holds j l)
 
 -- a packet that ends no group is answered with nothing
 pub told_none : (a d : ℕ) (earlier feed : List (List ℕ)) (mark n j : ℕ) → (w : Follows earlier feed mark n)
-    → mark + n ≤ length feed → 0 < j → j < n → j % 4 ≢ 3 → told a d (after earlier feed mark (j + 1)) ≡ Quiet
+    → mark + n ≤ length feed → 0 < j → j < n → j % 4 ≢ 3 → last_answer a d (after earlier feed mark (j + 1)) ≡ Quiet
 told_none a d earlier feed mark n j w h s l m =
     let b = w.in_step in
     told_is a d earlier feed mark n j w h s l
-    ∙ cond-false (length (said (life w.base feed mark (j + 1))) % 4 == 0) _ _
-    (ne_eqb (length (said (life w.base feed mark (j + 1))) % 4) 0
+    ∙ cond-false (length (readings (life w.base feed mark (j + 1))) % 4 == 0) _ _
+    (ne_eqb (length (readings (life w.base feed mark (j + 1))) % 4) 0
     (λ z. m (omega (
       arith,
       z,

@@ -5,7 +5,8 @@ use Rattle.std.specs.Prelude.{nat_le}
 use Rattle.std.proofs.lemmas.Bool.{cond-false, eqb-true, ne_eqb, and_left, and_right, and_parts, lt-leb, leb-true}
 use Rattle.std.proofs.lemmas.List.{get_or_append_left}
 use Rattle.dtx_ops.specs.declared.fields.Ops.{Ops}
-use Rattle.dtx_exciter.specs.Order.{Order, either, latest, ordered, ordered_at, order_at, counted, placed, in_force}
+use Rattle.dtx_exciter.specs.Order.{Order, either, latest, ordered, ordered_at, order_at, counting_order, placed}
+use Rattle.dtx_exciter.specs.Order.{in_force}
 
 -- ---- the latest value
 
@@ -30,31 +31,32 @@ order_left l rest g h =
     same : (k : ℕ) → k < length l → ordered_at (l ++ rest) k ≡ ordered_at l k
     same k m = ap (ordered (k % 624)) (get_or_append_left l rest None k m)
 
-pub counted_left : (l rest : List (Option Ops)) (g : ℕ) → g + 4 ≤ length l → counted (l ++ rest) g ≡ counted l g
-unfolding counted
+pub counted_left : (l rest : List (Option Ops)) (g : ℕ) → g + 4 ≤ length l
+    → counting_order (l ++ rest) g ≡ counting_order l g
+unfolding counting_order
 counted_left l rest g h = ap (λ o. cond (nat_le 52 g && (g % 4 == 0)) o None) (order_left l rest g h)
 
 pub force_left : (l rest : List (Option Ops)) (i : ℕ) → i + 4 ≤ length l → in_force (l ++ rest) i ≡ in_force l i
 unfolding in_force
 force_left l rest i h =
-    latest_same (λ g. placed g (counted (l ++ rest) g)) (λ g. placed g (counted l g)) (i + 1)
+    latest_same (λ g. placed g (counting_order (l ++ rest) g)) (λ g. placed g (counting_order l g)) (i + 1)
     (λ k m. ap (placed k) (counted_left l rest k (omega arith)))
 
 -- ---- a group further
 
-pub counted_off : (l : List (Option Ops)) (g : ℕ) → g % 4 ≢ 0 → counted l g ≡ None
-unfolding counted
+pub counted_off : (l : List (Option Ops)) (g : ℕ) → g % 4 ≢ 0 → counting_order l g ≡ None
+unfolding counting_order
 counted_off l g h =
     cond-false (nat_le 52 g && (g % 4 == 0)) (order_at l g) None
     (and_right (nat_le 52 g) (g % 4 == 0) (ne_eqb (g % 4) 0 h))
 
-pub counted_early : (l : List (Option Ops)) (g : ℕ) → g < 52 → counted l g ≡ None
-unfolding counted
+pub counted_early : (l : List (Option Ops)) (g : ℕ) → g < 52 → counting_order l g ≡ None
+unfolding counting_order
 counted_early l g h =
     cond-false (nat_le 52 g && (g % 4 == 0)) (order_at l g) None (and_left (nat_le 52 g) (g % 4 == 0) (lt-leb 52 g h))
 
 pub force_more : (l : List (Option Ops)) (i : ℕ) → i % 4 ≡ 0 → 4 ≤ i
-    → in_force l i ≡ either (placed i (counted l i)) (in_force l (i - 4))
+    → in_force l i ≡ either (placed i (counting_order l i)) (in_force l (i - 4))
 unfolding in_force
 force_more l i h m =
     latest_more f i
@@ -64,7 +66,7 @@ force_more l i h m =
     ∙ latest_skip f (i - 3) (i - 2) (omega arith) (off (i - 3) (omega arith)) ∙ ap (latest f) end)
   where
     f : ℕ → Option Order
-    f g = placed g (counted l g)
+    f g = placed g (counting_order l g)
 
     off : (g : ℕ) → g % 4 ≢ 0 → f g ≡ None
     off g n = ap (placed g) (counted_off l g n)
@@ -81,26 +83,28 @@ force_first l = ap (λ o. either (placed 0 o) None) (counted_early l 0 (omega ar
 -- its group begins below n, and counts
 pub record Stands (l : List (Option Ops)) (n : ℕ) (order : Order) : Type 0 where
   pub below : order.place < n
-  pub counts : counted l order.place ≡ Some order.ops
+  pub counts : counting_order l order.place ≡ Some order.ops
 
 stands_further : (l : List (Option Ops)) (n : ℕ) (order : Order) → Stands l n order → Stands l (n + 1) order
 stands_further l n order s = record { below = let a = s.below in omega (arith, a); counts = s.counts }
 
-stands_here : (l : List (Option Ops)) (g : ℕ) (o : Option Ops) (r : Option Order) (order : Order) → counted l g ≡ o
+stands_here : (l : List (Option Ops)) (g : ℕ) (o : Option Ops) (r : Option Order) (order : Order)
+    → counting_order l g ≡ o
     → either (placed g o) r ≡ Some order → (r ≡ Some order → Stands l g order) → Stands l (g + 1) order
 stands_here l g None r order e h f = stands_further l g order (f h)
 stands_here l g (Some ops) r order e h f =
     let here : record { place = g; ops = ops } ≡ order = ap (unwrapped order) h in
     record {
       below = let p : g ≡ order.place = ap (λ (o : Order). o.place) here in omega (arith, p);
-      counts = ap (counted l) (sym (ap (λ (o : Order). o.place) here)) ∙ e ∙ ap (λ (o : Order). Some o.ops) here;
+      counts = ap (counting_order l) (sym (ap (λ (o : Order). o.place) here)) ∙ e ∙ ap (λ (o : Order). Some o.ops) here;
     }
   where
     unwrapped : Order → Option Order → Order
     unwrapped d None = d
     unwrapped d (Some o) = o
 
-latest_stands : (l : List (Option Ops)) (n : ℕ) (order : Order) → latest (λ g. placed g (counted l g)) n ≡ Some order
+latest_stands : (l : List (Option Ops)) (n : ℕ) (order : Order)
+    → latest (λ g. placed g (counting_order l g)) n ≡ Some order
     → Stands l n order
 latest_stands l zero order e = absurd (none_some order e)
   where
@@ -108,8 +112,8 @@ latest_stands l zero order e = absurd (none_some order e)
     none_some order e = cc
 latest_stands l (suc n) order e =
     let next : n + 1 ≡ suc n = omega arith in
-    subst (λ (k : ℕ). Stands l k order) next (stands_here l n (counted l n)
-    (latest (λ g. placed g (counted l g)) n) order refl e (latest_stands l n order))
+    subst (λ (k : ℕ). Stands l k order) next (stands_here l n (counting_order l n)
+    (latest (λ g. placed g (counting_order l g)) n) order refl e (latest_stands l n order))
 
 pub force_stands : (l : List (Option Ops)) (i : ℕ) (order : Order) → in_force l i ≡ Some order → Stands l (i + 1) order
 unfolding in_force
@@ -117,8 +121,8 @@ force_stands l i order e = latest_stands l (i + 1) order e
 
 -- a group that counts begins 52 or more packets behind the anchor
 counted_test : (l : List (Option Ops)) (g : ℕ) (ops : Ops) (t : Bool) → (nat_le 52 g && (g % 4 == 0)) ≡ t
-    → counted l g ≡ Some ops → (nat_le 52 g && (g % 4 == 0)) ≡ true
-unfolding counted
+    → counting_order l g ≡ Some ops → (nat_le 52 g && (g % 4 == 0)) ≡ true
+unfolding counting_order
 counted_test l g ops true e h = e
 counted_test l g ops false e h =
     absurd (none_some ops (sym (cond-false (nat_le 52 g && (g % 4 == 0)) (order_at l g) None e) ∙ h))
@@ -127,11 +131,11 @@ counted_test l g ops false e h =
     none_some ops e = cc
 
 pub record IsBehind (g : ℕ) : Type 0 where
-  pub settled : 52 ≤ g
+  pub flushed : 52 ≤ g
   pub whole : g % 4 ≡ 0
 
-pub counted_behind : (l : List (Option Ops)) (g : ℕ) (ops : Ops) → counted l g ≡ Some ops → IsBehind g
+pub counted_behind : (l : List (Option Ops)) (g : ℕ) (ops : Ops) → counting_order l g ≡ Some ops → IsBehind g
 counted_behind l g ops h =
     let t : (nat_le 52 g ≡ true) × ((g % 4 == 0) ≡ true) =
     and_parts (nat_le 52 g) (g % 4 == 0) (counted_test l g ops (nat_le 52 g && (g % 4 == 0)) refl h) in
-    record { settled = leb-true 52 g t.0; whole = eqb-true (g % 4) 0 t.1 }
+    record { flushed = leb-true 52 g t.0; whole = eqb-true (g % 4) 0 t.1 }

@@ -12,7 +12,7 @@ use Rattle.dtx_trellis.specs.Groups.{levels_of, states_after}
 use Rattle.dtx_trellis.specs.JoinsLaws.{levels_append}
 use Rattle.dtx_coder.specs.Coded.{whole_groups}
 use Rattle.dtx_coder.specs.Stream.{segment, four_segments, last_of}
-use Rattle.dtx_coder.specs.Groups.{Coding, Group, segments_of, after_group}
+use Rattle.dtx_coder.specs.Groups.{Coding, Group, air_segments, after_group}
 use Rattle.dtx_coder.specs.Along.{IsNext, RunsAlong, levels_since}
 use Rattle.dtx_coder.specs.AlongLaws.{along_goes_on, along_preset, sent_group, sent_preset, last_along}
 use Rattle.dtx_coder.specs.BytesLaws.{length-whole, whole_append}
@@ -21,7 +21,7 @@ use Rattle.dtx_coder.specs.SegmentsLaws.{segment_front}
 use Rattle.dtx_ops.specs.declared.fields.Ops.{Ops}
 use Rattle.dtx_exciter.specs.Order.{Order, either, placed}
 use Rattle.dtx_exciter.specs.Told.{served}
-use Rattle.dtx_exciter.specs.Emission.{segments_since, sent_by, with_sync}
+use Rattle.dtx_exciter.specs.Emission.{segments_since, sent_by, behind_field_sync}
 use Rattle.dtx_exciter.specs.Kept.{is_served, RunsUnder}
 use Rattle.dtx_exciter.specs.EndsLaws.{IsOlder}
 
@@ -101,7 +101,7 @@ sync_of_group coder g = cond g.sync (field_sync g.second coder.last ∷ []) []
 
 data_own : (address delay : ℕ) (w q : List (List ℕ)) (i : ℕ) (ops : Ops) (r : Option Order) (coder : Coding) (g : Group)
     → IsGiven w q i (Some ops) r coder g → 52 ≤ i → is_ok (served address delay ops) ≡ true
-    → segments_of coder g ≡ sync_of_group coder g
+    → air_segments coder g ≡ sync_of_group coder g
     ++ sent_by address delay (w ++ q) i (Some (record { place = i; ops = ops }))
 unfolding segments_since
 data_own address delay w q i ops r coder g n l s =
@@ -117,10 +117,10 @@ data_own address delay w q i ops r coder g n l s =
 
 data_old : (address delay : ℕ) (w q : List (List ℕ)) (i : ℕ) (order : Order) (coder : Coding) (g : Group)
     → IsGiven w q i None (Some order) coder g → IsOlder i order → is_ok (served address delay order.ops) ≡ true
-    → segments_of coder g ≡ sync_of_group coder g ++ sent_by address delay (w ++ q) i (Some order)
+    → air_segments coder g ≡ sync_of_group coder g ++ sent_by address delay (w ++ q) i (Some order)
 unfolding segments_since
 data_old address delay w q i order coder g n o s =
-    let a : 52 ≤ 4 * (order.place / 4) = let x = o.settled in let y = o.whole in omega (arith, x, y) in
+    let a : 52 ≤ 4 * (order.place / 4) = let x = o.flushed in let y = o.whole in omega (arith, x, y) in
     let e : length w - 4 * (order.place / 4) ≡ 4 * (i / 4 - order.place / 4) = let x = n.long in let y = n.whole in
     let z = o.before in omega (arith, x, y, z) in
     sent_group w (order.place / 4) order.ops.states coder g n.runs a n.next
@@ -133,7 +133,7 @@ data_is : (address delay : ℕ) (w q : List (List ℕ)) (i : ℕ) (own : Option 
     (g : Group) → IsGiven w q i own r coder g
     → ((ops : Ops) → own ≡ Some ops → 52 ≤ i) → ((order : Order) → r ≡ Some order → IsOlder i order)
     → is_served address delay (either (placed i own) r) ≡ true
-    → segments_of coder g ≡ sync_of_group coder g ++ sent_by address delay (w ++ q) i (either (placed i own) r)
+    → air_segments coder g ≡ sync_of_group coder g ++ sent_by address delay (w ++ q) i (either (placed i own) r)
 data_is address delay w q i (Some ops) r coder g n f h s = data_own address delay w q i ops r coder g n (f ops refl) s
 data_is address delay w q i None None coder g n f h s = cc
 data_is address delay w q i None (Some order) coder g n f h s =
@@ -141,11 +141,11 @@ data_is address delay w q i None (Some order) coder g n f h s =
 
 -- ---- the field sync
 
-none_before : (i : ℕ) (ss : List (List ℤ)) → with_sync i [] ss ≡ ss
+none_before : (i : ℕ) (ss : List (List ℤ)) → behind_field_sync i [] ss ≡ ss
 none_before i [] = refl
 none_before i (s ∷ ss) = refl
 
-pub some_before : (i n m : ℕ) (ys zs : List ℕ) → with_sync i (four_segments ys n) (four_segments zs m)
+pub some_before : (i n m : ℕ) (ys zs : List ℕ) → behind_field_sync i (four_segments ys n) (four_segments zs m)
     ≡ cond (i % 312 == 0) (field_sync (nat_le 312 (i % 624)) (last_of (segment ys (n + 3))) ∷ []) []
     ++ four_segments zs m
 unfolding four_segments
@@ -184,7 +184,7 @@ last_held : (w q : List (List ℕ)) (i : ℕ) (order : Order) (coder : Coding) (
     → n ≡ 4 * ((i - 4) / 4 - order.place / 4) + 3
     → coder.last ≡ last_of (segment (levels_since (order.place / 4) order.ops.states (w ++ q)) n)
 last_held w q i order coder n long whole runs o e =
-    let x : 52 ≤ order.place = o.settled in
+    let x : 52 ≤ order.place = o.flushed in
     let y : order.place % 4 ≡ 0 = o.whole in
     let z : order.place + 4 ≤ i = o.before in
     let k : length w - 4 * (order.place / 4) - 1 ≡ n = omega (arith, long, whole, y, z, e) in
@@ -205,7 +205,7 @@ no_sync coder g b e = ap (λ t. cond t (field_sync g.second coder.last ∷ []) [
 sync_old : (address delay : ℕ) (w q : List (List ℕ)) (i : ℕ) (order : Order) (coder : Coding) (g : Group)
     (ss : List (List ℤ)) → length w ≡ i → i % 4 ≡ 0 → RunsAlong w (order.place / 4) order.ops.states coder
     → IsOlder i order → HasSync i true g → is_ok (served address delay order.ops) ≡ true → AreFour ss
-    → sync_of_group coder g ++ ss ≡ with_sync i (sent_by address delay (w ++ q) (i - 4) (Some order)) ss
+    → sync_of_group coder g ++ ss ≡ behind_field_sync i (sent_by address delay (w ++ q) (i - 4) (Some order)) ss
 unfolding segments_since
 sync_old address delay w q i order coder g ss long whole runs o h s four =
     let zs : List ℕ = levels_since (order.place / 4) order.ops.states (w ++ q) in
@@ -216,26 +216,26 @@ sync_old address delay w q i order coder g ss long whole runs o h s four =
     ∙ ap₂ (λ second last. cond (i % 312 == 0) (field_sync second last ∷ []) []) h.second
     (last_held w q i order coder (n + 3) long whole runs o refl))
     ∙ sym (some_before i n four.n zs four.zs)
-    ∙ ap₂ (with_sync i) (sym (cond-true (is_ok (served address delay order.ops)) (four_segments zs n) [] s))
+    ∙ ap₂ (behind_field_sync i) (sym (cond-true (is_ok (served address delay order.ops)) (four_segments zs n) [] s))
     (sym four.are)
 
 sync_by_service : (address delay : ℕ) (w q : List (List ℕ)) (i : ℕ) (order : Order) (coder : Coding) (g : Group)
     (ss : List (List ℤ)) (before t : Bool) → length w ≡ i → i % 4 ≡ 0
     → RunsAlong w (order.place / 4) order.ops.states coder
     → IsOlder i order → HasSync i before g → before ≡ t → is_ok (served address delay order.ops) ≡ t → AreFour ss
-    → sync_of_group coder g ++ ss ≡ with_sync i (sent_by address delay (w ++ q) (i - 4) (Some order)) ss
+    → sync_of_group coder g ++ ss ≡ behind_field_sync i (sent_by address delay (w ++ q) (i - 4) (Some order)) ss
 sync_by_service address delay w q i order coder g ss before true long whole runs o h b s four =
     sync_old address delay w q i order coder g ss long whole runs o (subst (λ x. HasSync i x g) b h) s four
 sync_by_service address delay w q i order coder g ss before false long whole runs o h b s four =
     ap (λ x. x ++ ss) (no_sync coder g (i % 312 == 0) (h.sync ∙ ap (λ x. x && (i % 312 == 0)) b))
     ∙ sym (none_before i ss)
-    ∙ ap (λ x. with_sync i x ss) (sym (none_by address delay (w ++ q) (i - 4) (Some order) s))
+    ∙ ap (λ x. behind_field_sync i x ss) (sym (none_by address delay (w ++ q) (i - 4) (Some order) s))
 
 sync_is : (address delay : ℕ) (w q : List (List ℕ)) (i : ℕ) (own : Option Ops) (r : Option Order) (coder : Coding)
     (g : Group) (ss : List (List ℤ)) (before : Bool) → IsGiven w q i own r coder g
     → ((order : Order) → r ≡ Some order → IsOlder i order) → HasSync i before g → before ≡ is_served address delay r
     → AreFour ss
-    → sync_of_group coder g ++ ss ≡ with_sync i (sent_by address delay (w ++ q) (i - 4) r) ss
+    → sync_of_group coder g ++ ss ≡ behind_field_sync i (sent_by address delay (w ++ q) (i - 4) r) ss
 sync_is address delay w q i own None coder g ss before n h y b four =
     ap (λ x. x ++ ss) (no_sync coder g (i % 312 == 0) (y.sync ∙ ap (λ x. x && (i % 312 == 0)) b))
     ∙ sym (none_before i ss)
@@ -248,7 +248,7 @@ pub group_sent : (address delay : ℕ) (w q : List (List ℕ)) (i : ℕ) (own : 
     (coder : Coding) (g : Group) (before : Bool) → IsGiven w q i own r coder g
     → ((ops : Ops) → own ≡ Some ops → 52 ≤ i) → ((order : Order) → r ≡ Some order → IsOlder i order)
     → HasSync i before g → before ≡ is_served address delay r → is_served address delay (either (placed i own) r) ≡ true
-    → segments_of coder g ≡ with_sync i (sent_by address delay (w ++ q) (i - 4) r)
+    → air_segments coder g ≡ behind_field_sync i (sent_by address delay (w ++ q) (i - 4) r)
     (sent_by address delay (w ++ q) i (either (placed i own) r))
 group_sent address delay w q i own r coder g before n f h y b s =
     data_is address delay w q i own r coder g n f h s

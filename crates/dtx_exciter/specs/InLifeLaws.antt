@@ -9,10 +9,11 @@ use Rattle.dtx_frame.specs.Segments.{field_sync}
 use Rattle.dtx_coder.specs.Stream.{levels, states, segment, four_segments, last_of, no_last, last_before, sync_before}
 use Rattle.dtx_coder.specs.Stream.{group_segments}
 use Rattle.dtx_ops.specs.declared.fields.Ops.{Ops}
-use Rattle.dtx_exciter.specs.Order.{Order, either, latest, ordered, ordered_at, order_at, counted, placed, in_force}
+use Rattle.dtx_exciter.specs.Order.{Order, either, latest, ordered, ordered_at, order_at, counting_order, placed}
+use Rattle.dtx_exciter.specs.Order.{in_force}
 use Rattle.dtx_exciter.specs.Told.{served}
-use Rattle.dtx_exciter.specs.Packets.{reads, said}
-use Rattle.dtx_exciter.specs.Emission.{segments_since, sent_by, sent_at, sent_before, with_sync, given_under}
+use Rattle.dtx_exciter.specs.Packets.{reads, readings}
+use Rattle.dtx_exciter.specs.Emission.{segments_since, sent_by, sent_at, sent_before, behind_field_sync, given_under}
 use Rattle.dtx_exciter.specs.Lockstep.{IsFeed}
 use Rattle.dtx_exciter.specs.ForceLaws.{latest_more, counted_behind, IsBehind}
 use Rattle.dtx_exciter.specs.GroupSentLaws.{some_before}
@@ -49,8 +50,8 @@ packet_same base feed mark j i k l e =
     ∙ get_or-drop mark feed i []
 
 said_same : (base feed : List (List ℕ)) (mark j i k : ℕ) → mark + j ≤ length feed → i < j → k ≡ length base + i
-    → get_or (said (life base feed mark j)) k None ≡ get_or (said feed) (mark + i) None
-unfolding said
+    → get_or (readings (life base feed mark j)) k None ≡ get_or (readings feed) (mark + i) None
+unfolding readings
 said_same base feed mark j i k h l e =
     get_or-map reads (life base feed mark j) k [] None (omega (arith, l, e, length-life base feed mark j h))
     ∙ ap reads (packet_same base feed mark j i k l e)
@@ -59,8 +60,8 @@ said_same base feed mark j i k h l e =
 -- ---- the orders
 
 order_same : (base feed : List (List ℕ)) (mark j x : ℕ) → mark % 624 ≡ 0 → length base % 624 ≡ 0
-    → mark + j ≤ length feed → x + 4 ≤ j → order_at (said (life base feed mark j)) (length base + x)
-    ≡ order_at (said feed) (mark + x)
+    → mark + j ≤ length feed → x + 4 ≤ j → order_at (readings (life base feed mark j)) (length base + x)
+    ≡ order_at (readings feed) (mark + x)
 unfolding order_at
 order_same base feed mark j x m b h l =
     ap₂ either (same 0 (length base + x) (mark + x) (omega arith) (omega arith) (omega (arith, l)))
@@ -69,15 +70,15 @@ order_same base feed mark j x m b h l =
     (same 3 (length base + x + 3) (mark + x + 3) (omega arith) (omega arith) (omega (arith, l)))))
   where
     same : (i y z : ℕ) → y ≡ length base + (x + i) → z ≡ mark + (x + i) → x + i < j
-        → ordered_at (said (life base feed mark j)) y ≡ ordered_at (said feed) z
+        → ordered_at (readings (life base feed mark j)) y ≡ ordered_at (readings feed) z
     same i y z p q s =
         let r : y % 624 ≡ z % 624 = omega (arith, m, b, p, q) in
-        ap₂ ordered r (said_same base feed mark j (x + i) y h s p ∙ ap (λ k. get_or (said feed) k None) (sym q))
+        ap₂ ordered r (said_same base feed mark j (x + i) y h s p ∙ ap (λ k. get_or (readings feed) k None) (sym q))
 
 pub counted_same : (base feed : List (List ℕ)) (mark j x : ℕ) → mark % 624 ≡ 0 → length base % 624 ≡ 0
     → mark + j ≤ length feed → x + 4 ≤ j → 52 ≤ x
-    → counted (said (life base feed mark j)) (length base + x) ≡ counted (said feed) (mark + x)
-unfolding counted
+    → counting_order (readings (life base feed mark j)) (length base + x) ≡ counting_order (readings feed) (mark + x)
+unfolding counting_order
 counted_same base feed mark j x m b h l s =
     let r : (length base + x) % 4 ≡ (mark + x) % 4 = omega (arith, m, b) in
     ap₂ (λ t o. cond t o None)
@@ -91,64 +92,68 @@ pub record InStep (base feed : List (List ℕ)) (mark j first x : ℕ) : Type 0 
   pub ops : Ops
   pub behind : first ≤ group
   pub until : group ≤ x
-  pub in_life : in_force (said (life base feed mark j)) (length base + x)
+  pub in_life : in_force (readings (life base feed mark j)) (length base + x)
       ≡ Some (record { place = length base + group; ops = ops })
-  pub its_own : counted (said feed) (mark + group) ≡ Some ops
+  pub its_own : counting_order (readings feed) (mark + group) ≡ Some ops
 
-pub force_here : (said : List (Option Ops)) (i : ℕ) (ops : Ops) → counted said i ≡ Some ops
-    → in_force said i ≡ Some (record { place = i; ops = ops })
+pub force_here : (readings : List (Option Ops)) (i : ℕ) (ops : Ops) → counting_order readings i ≡ Some ops
+    → in_force readings i ≡ Some (record { place = i; ops = ops })
 unfolding in_force
-force_here said i ops h = latest_more (λ g. placed g (counted said g)) i
-    ∙ ap (λ y. either (placed i y) (in_force_below said i)) h
+force_here readings i ops h = latest_more (λ g. placed g (counting_order readings g)) i
+    ∙ ap (λ y. either (placed i y) (in_force_below readings i)) h
   where
     in_force_below : List (Option Ops) → ℕ → Option Order
-    in_force_below said i = latest (λ g. placed g (counted said g)) i
+    in_force_below readings i = latest (λ g. placed g (counting_order readings g)) i
 
-force_on : (said : List (Option Ops)) (i k : ℕ) → k ≡ i + 1 → counted said k ≡ None → in_force said k ≡ in_force said i
+force_on : (readings : List (Option Ops)) (i k : ℕ) → k ≡ i + 1 → counting_order readings k ≡ None
+    → in_force readings k ≡ in_force readings i
 unfolding in_force
-force_on said i k e h =
-    ap (λ n. latest (λ g. placed g (counted said g)) (n + 1)) e
-    ∙ latest_more (λ g. placed g (counted said g)) (i + 1)
-    ∙ ap (λ y. either (placed (i + 1) y) (latest (λ g. placed g (counted said g)) (i + 1))) (ap (counted said) (sym e)
+force_on readings i k e h =
+    ap (λ n. latest (λ g. placed g (counting_order readings g)) (n + 1)) e
+    ∙ latest_more (λ g. placed g (counting_order readings g)) (i + 1)
+    ∙ ap (λ y. either (placed (i + 1) y) (latest (λ g. placed g (counting_order readings g)) (i + 1))) (ap
+    (counting_order readings) (sym e)
     ∙ h)
 
 pub in_step : (a d : ℕ) (base feed : List (List ℕ)) (mark n j first s x : ℕ) (ops : Ops) → Marks a d base feed mark n
-    → j ≤ n → 52 ≤ first → x ≡ first + s → x + 4 ≤ j → counted (said feed) (mark + first) ≡ Some ops
+    → j ≤ n → 52 ≤ first → x ≡ first + s → x + 4 ≤ j → counting_order (readings feed) (mark + first) ≡ Some ops
     → InStep base feed mark j first x
 in_step a d base feed mark n j first zero x ops m l f e k h =
     let inside : mark + j ≤ length feed = let i = m.inside in omega (arith, i, l) in
     let p : mark + first ≡ mark + x = omega (arith, e) in
-    let own : counted (said feed) (mark + x) ≡ Some ops = ap (counted (said feed)) (sym p) ∙ h in
+    let own : counting_order (readings feed) (mark + x) ≡ Some ops = ap (counting_order (readings feed)) (sym p) ∙ h in
     record {
       group = x;
       ops = ops;
       behind = omega (arith, e);
       until = omega arith;
-      in_life = force_here (said (life base feed mark j)) (length base + x) ops
+      in_life = force_here (readings (life base feed mark j)) (length base + x) ops
           (counted_same base feed mark j x m.at_mark m.at_other inside k (omega (arith, e, f)) ∙ own);
       its_own = own;
     }
 in_step a d base feed mark n j first (suc s) x ops m l f e k h =
-    by_order (counted (said feed) (mark + x)) refl
+    by_order (counting_order (readings feed) (mark + x)) refl
     (in_step a d base feed mark n j first s (first + s) ops m l f refl (omega (arith, e, k)) h)
   where
     inside : mark + j ≤ length feed
     inside = let i = m.inside in omega (arith, i, l)
 
-    agrees : counted (said (life base feed mark j)) (length base + x) ≡ counted (said feed) (mark + x)
+    agrees : counting_order (readings (life base feed mark j)) (length base + x)
+        ≡ counting_order (readings feed) (mark + x)
     agrees = counted_same base feed mark j x m.at_mark m.at_other inside k (omega (arith, e, f))
 
     next : length base + x ≡ length base + (first + s) + 1
     next = omega (arith, e)
 
-    by_order : (o : Option Ops) → counted (said feed) (mark + x) ≡ o → InStep base feed mark j first (first + s)
+    by_order : (o : Option Ops) → counting_order (readings feed) (mark + x) ≡ o
+        → InStep base feed mark j first (first + s)
         → InStep base feed mark j first x
     by_order (Some y) g w = record {
       group = x;
       ops = y;
       behind = omega (arith, e);
       until = omega arith;
-      in_life = force_here (said (life base feed mark j)) (length base + x) y (agrees ∙ g);
+      in_life = force_here (readings (life base feed mark j)) (length base + x) y (agrees ∙ g);
       its_own = g;
     }
     by_order None g w = record {
@@ -156,7 +161,8 @@ in_step a d base feed mark n j first (suc s) x ops m l f e k h =
       ops = w.ops;
       behind = w.behind;
       until = let u = w.until in omega (arith, u, e);
-      in_life = force_on (said (life base feed mark j)) (length base + (first + s)) (length base + x) next (agrees ∙ g)
+      in_life = force_on (readings (life base feed mark j)) (length base + (first + s)) (length base + x) next
+          (agrees ∙ g)
           ∙ w.in_life;
       its_own = w.its_own;
     }
@@ -165,8 +171,8 @@ in_step a d base feed mark n j first (suc s) x ops m l f e k h =
 
 -- a place of a group under an order
 pub record IsPlace (feed : List (List ℕ)) (mark n j first x : ℕ) : Type 0 where
-  pub order : (ops : Ops) × (counted (said feed) (mark + first) ≡ Some ops)
-  pub settled : 52 ≤ first
+  pub order : (ops : Ops) × (counting_order (readings feed) (mark + first) ≡ Some ops)
+  pub flushed : 52 ≤ first
   pub later : first ≤ x
   pub group : x % 4 ≡ 0
   pub within : x + 4 ≤ j
@@ -182,25 +188,25 @@ pub sent_same : (a d : ℕ) (base feed : List (List ℕ)) (mark n j first x : �
     → sent_at a d (life base feed mark j) (length base + x) ≡ four_segments (levels (upto feed mark j)) (mark + x)
 unfolding sent_at segments_since
 sent_same a d base feed mark n j first x m p =
-    by_step (in_step a d base feed mark n j first (x - first) x p.order.0 m p.few p.settled (let l = p.later in
+    by_step (in_step a d base feed mark n j first (x - first) x p.order.0 m p.few p.flushed (let l = p.later in
     omega (arith, l)) p.within p.order.1)
   where
     by_step : InStep base feed mark j first x
         → sent_by a d (life base feed mark j) (length base + x)
-        (in_force (said (life base feed mark j)) (length base + x))
+        (in_force (readings (life base feed mark j)) (length base + x))
         ≡ four_segments (levels (upto feed mark j)) (mark + x)
     by_step w =
         let inside : mark + j ≤ length feed = let i = m.inside in let l = p.few in omega (arith, i, l) in
-        let own : IsBehind (mark + w.group) = counted_behind (said feed) (mark + w.group) w.ops w.its_own in
+        let own : IsBehind (mark + w.group) = counted_behind (readings feed) (mark + w.group) w.ops w.its_own in
         let long : length (take mark feed) ≡ mark = length-take-le mark feed (omega (arith, inside)) in
         let part : length (take j (drop mark feed)) ≡ j = length-part feed mark j inside in
-        let m1 = m.at_mark in let p1 = p.settled in let p2 = p.within in let p3 = p.whole in let w1 = w.behind in
+        let m1 = m.at_mark in let p1 = p.flushed in let p2 = p.within in let p3 = p.whole in let w1 = w.behind in
         let w2 = w.until in let o1 = own.whole in
         let same : AreSame base (take mark feed) (take j (drop mark feed)) x w.group = record {
           first = m.at_other;
           second = omega (arith, long, m1);
           groups = omega (arith, part, p3);
-          settled = omega (arith, p1, w1);
+          flushed = omega (arith, p1, w1);
           order = omega (arith, o1, m1);
           later = w2;
           group = p.group;
@@ -232,7 +238,7 @@ sync_same f i v h e =
     (ne_eqb v 0 (λ z. omega (arith, h, z)))))
 
 with_sync_same : (f : List (List ℕ)) (i v : ℕ) → 0 < v → i % 624 ≡ 4 * v % 624
-    → with_sync i (four_segments (levels f) (4 * v - 4)) (four_segments (levels f) (4 * v)) ≡ group_segments f v
+    → behind_field_sync i (four_segments (levels f) (4 * v - 4)) (four_segments (levels f) (4 * v)) ≡ group_segments f v
 unfolding group_segments
 with_sync_same f i v h e = some_before i (4 * v - 4) (4 * v) (levels f) (levels f)
     ∙ ap (λ s. s ++ four_segments (levels f) (4 * v)) (sync_same f i v h e)
@@ -241,19 +247,19 @@ with_sync_same f i v h e = some_before i (4 * v - 4) (4 * v) (levels f) (levels 
 pub given_last : (a d : ℕ) (base feed : List (List ℕ)) (mark x : ℕ) → mark + (x + 4) ≤ length feed → x % 4 ≡ 0
     → length base % 624 ≡ 0
     → given_under a d (Some (life base feed mark (x + 4)))
-    ≡ with_sync (length base + x) (sent_before a d (life base feed mark (x + 4)) (length base + x))
+    ≡ behind_field_sync (length base + x) (sent_before a d (life base feed mark (x + 4)) (length base + x))
     (sent_at a d (life base feed mark (x + 4)) (length base + x))
 given_last a d base feed mark x l y b =
     let n : length (life base feed mark (x + 4)) ≡ length base + (x + 4) = length-life base feed mark (x + 4) l in
     let s : length (life base feed mark (x + 4)) - 4 ≡ length base + x = omega (arith, n) in
     cond-true (length (life base feed mark (x + 4)) % 4 == 0) _ _
     (eq-eqb (length (life base feed mark (x + 4)) % 4) 0 (omega (arith, n, y, b)))
-    ∙ ap (λ k. with_sync k (sent_before a d (life base feed mark (x + 4)) k)
+    ∙ ap (λ k. behind_field_sync k (sent_before a d (life base feed mark (x + 4)) k)
     (sent_at a d (life base feed mark (x + 4)) k)) s
 
 pub record IsGroup (feed : List (List ℕ)) (mark n first x : ℕ) : Type 0 where
-  pub order : (ops : Ops) × (counted (said feed) (mark + first) ≡ Some ops)
-  pub settled : 52 ≤ first
+  pub order : (ops : Ops) × (counting_order (readings feed) (mark + first) ≡ Some ops)
+  pub flushed : 52 ≤ first
   pub whole : first % 4 ≡ 0
   pub later : first ≤ x
   pub group : x % 4 ≡ 0
@@ -263,7 +269,7 @@ pub place_of : (feed : List (List ℕ)) (mark n first x y : ℕ) → IsGroup fee
     → y ≤ x → IsPlace feed mark n (x + 4) first y
 place_of feed mark n first x y g a b c = record {
   order = g.order;
-  settled = g.settled;
+  flushed = g.flushed;
   later = a;
   group = b;
   within = omega (arith, c);
@@ -276,7 +282,7 @@ pub given_next : (a d : ℕ) (base feed : List (List ℕ)) (mark n first x : ℕ
     → given_under a d (Some (life base feed mark (x + 4))) ≡ group_segments (upto feed mark (x + 4)) ((mark + x) / 4)
 given_next a d base feed mark n first x m g l =
     let inside : mark + (x + 4) ≤ length feed = let i = m.inside in let w = g.within in omega (arith, i, w) in
-    let m1 = m.at_mark in let m2 = m.at_other in let g1 = g.group in let g2 = g.settled in let g3 = g.whole in
+    let m1 = m.at_mark in let m2 = m.at_other in let g1 = g.group in let g2 = g.flushed in let g3 = g.whole in
     let v : mark + x ≡ 4 * ((mark + x) / 4) = omega (arith, m1, g1) in
     let u : mark + (x - 4) ≡ 4 * ((mark + x) / 4) - 4 = omega (arith, m1, g1, l) in
     let k : length base + x - 4 ≡ length base + (x - 4) = omega (arith, l) in
@@ -292,6 +298,6 @@ given_next a d base feed mark n first x m g l =
     sent_same a d base feed mark n (x + 4) first x m (place_of feed mark n first x x g g.later g.group (omega arith))
     ∙ ap (four_segments (levels (upto feed mark (x + 4)))) v in
     given_last a d base feed mark x inside g.group m.at_other
-    ∙ ap₂ (with_sync (length base + x)) before here
+    ∙ ap₂ (behind_field_sync (length base + x)) before here
     ∙ with_sync_same (upto feed mark (x + 4)) (length base + x) ((mark + x) / 4) (omega (arith, l))
     (omega (arith, m1, m2, g1))

@@ -8,8 +8,8 @@ use Rattle.dtx_exciter.specs.declared.exciter.Exciter.{Exciter}
 use Rattle.dtx_exciter.specs.Order.{Order, in_force}
 use Rattle.dtx_exciter.specs.declared.answers.Told.{Told}
 use Rattle.dtx_exciter.specs.Told.{served, told_under}
-use Rattle.dtx_exciter.specs.Packets.{syncs, said, under, told}
-use Rattle.dtx_exciter.specs.Emission.{Holds, given, given_under}
+use Rattle.dtx_exciter.specs.Packets.{syncs, readings, under, last_answer}
+use Rattle.dtx_exciter.specs.Emission.{Holds, last_segments, given_under}
 use Rattle.dtx_exciter.specs.Step.{bytes_of}
 
 -- how many packets whole groups have
@@ -18,7 +18,7 @@ whole packets = 4 * (length packets / 4)
 
 -- the order in force for the last whole group
 unfoldable pub last_order : List (List ℕ) → Option Order
-last_order packets = in_force (said packets) (whole packets - 4)
+last_order packets = in_force (readings packets) (whole packets - 4)
 
 -- whether an order in force serves the transmitter
 abbrev pub is_served : ℕ → ℕ → Option Order → Bool
@@ -33,7 +33,7 @@ RunsUnder packets (Some order) coder = RunsAlong packets (order.place / 4) order
 -- what is kept of the packets from the anchor on
 pub record KeepsUnder (address delay : ℕ) (e : Exciter) (packets : List (List ℕ)) : Type 0 where
   -- whether they are 52 or more
-  pub settled : e.settled ≡ nat_le 52 (length packets)
+  pub flushed : e.flushed ≡ nat_le 52 (length packets)
   -- the packets of the group that isn't whole yet
   pub partial : take (length packets % 4) (bytes_of e.packets) ≡ drop (whole packets) packets
   -- whether the last whole group was sent
@@ -55,14 +55,14 @@ pub record StandsFor (a d : ℕ) (e : Exciter) (packets : List (List ℕ)) : Typ
 -- What becomes of an exciter, and what it answers and gives, with the last of these packets.
 pub record IsTaken (a d : ℕ) (packets : List (List ℕ)) (e : Exciter) (answered : Told) (count : ℕ)
     (symbols : List ℤ) : Type 0 where
-  pub answer : answered ≡ told a d packets
-  pub air : Holds (given a d packets) count symbols
+  pub answer : answered ≡ last_answer a d packets
+  pub air : Holds (last_segments a d packets) count symbols
   pub stands : StandsFor a d e packets
 
 -- the same of the packets from the anchor on
 pub record IsJoined (address delay : ℕ) (packets : List (List ℕ)) (e : Exciter) (answered : Told) (count : ℕ)
     (symbols : List ℤ) : Type 0 where
-  pub answer : answered ≡ told_under address delay (Some (said packets))
+  pub answer : answered ≡ told_under address delay (Some (readings packets))
   pub air : Holds (given_under address delay (Some packets)) count symbols
   pub keeps : KeepsUnder address delay e packets
 

@@ -8,18 +8,18 @@ use Rattle.std.proofs.lemmas.Bool.{cond-true, cond-false, eq-eqb, ne_eqb, cases_
 use Rattle.std.proofs.lemmas.Grind.{flat_map-append}
 use Rattle.std.proofs.lemmas.List.{append_assoc, length-append, length-drop, length-take-le, take-append-le, take-take}
 use Rattle.dtx_lists.proofs.Range.{range_with_len-parts}
-use Rattle.dtx_coder.specs.RangeMovedLaws.{flat_map-range_same}
+use Rattle.dtx_lists.proofs.RangeMoved.{flat_map-range_same}
 use Rattle.dtx_ops.specs.declared.fields.Ops.{Ops}
 use Rattle.dtx_exciter.specs.declared.answers.Why.{Why}
 use Rattle.dtx_exciter.specs.declared.answers.Told.TheVariants.{Sent}
-use Rattle.dtx_exciter.specs.Order.{Order, counted, placed, in_force}
+use Rattle.dtx_exciter.specs.Order.{Order, counting_order, placed, in_force}
 use Rattle.dtx_clock.specs.Clock.{moment_of}
 use Rattle.dtx_exciter.specs.Told.{entry_of, offset_of, served, told_by, told_at}
-use Rattle.dtx_exciter.specs.Packets.{said, told}
-use Rattle.dtx_exciter.specs.Emission.{given, emission}
+use Rattle.dtx_exciter.specs.Packets.{readings, last_answer}
+use Rattle.dtx_exciter.specs.Emission.{last_segments, emission}
 use Rattle.dtx_exciter.specs.Lockstep.{IsFeed, IsStretch, segment_place, stretch}
 use Rattle.dtx_exciter.specs.Log.{Line, preset, line_of, life_lines}
-use Rattle.dtx_exciter.specs.Stretch.{lines_behind, before_stretch, moment_at, preset_line, orders_in, stretch_lines}
+use Rattle.dtx_exciter.specs.Stretch.{lines_behind, before_stretch, order_moment, preset_line, orders_in, stretch_lines}
 use Rattle.dtx_exciter.specs.AnswerLaws.{own_told}
 use Rattle.dtx_exciter.specs.EmittedLaws.{take_behind, length-stretch}
 use Rattle.dtx_exciter.specs.FollowedLaws.{after, Follows, told_is, told_none}
@@ -34,7 +34,8 @@ use Rattle.dtx_exciter.specs.UnderLaws.{length-said}
 
 -- the line of the last packet of some
 abbrev line_between : ℕ → ℕ → ℕ → List (List ℕ) → List (List ℕ) → List Line
-line_between a d n before now = line_of (n + length (emission a d before)) (length (given a d now)) (told a d now)
+line_between a d n before now = line_of (n + length (emission a d before)) (length (last_segments a d now))
+    (last_answer a d now)
 
 pub lines_more : (a d n : ℕ) (l r : List (List ℕ))
     → life_lines a d n (l ++ r) ≡ life_lines a d n l ++ lines_behind a d n l r
@@ -57,8 +58,8 @@ lines_more a d n l r =
 -- under the group's own order
 told_own : (a i n m : ℕ) (ops : Ops) (r : Result ℕ Why) → is_ok r ≡ true
     → line_of n m (told_by a i (record { place = i; ops = ops }) r)
-    ≡ preset (n + m - 4) ops.frame (i % 624) (moment_at a (record { place = i; ops = ops })).tick
-    (moment_at a (record { place = i; ops = ops })).grain ∷ []
+    ≡ preset (n + m - 4) ops.frame (i % 624) (order_moment a (record { place = i; ops = ops })).tick
+    (order_moment a (record { place = i; ops = ops })).grain ∷ []
 told_own a i n m ops (Ok hold) s = ap (line_of n m) (sym (own_told a i (i % 624) ops (Ok hold) refl))
 told_own a i n m ops (Err why) s = cc
 
@@ -71,37 +72,39 @@ told_old a i n m order (Err why) h = ap (line_of n m) (cond-false (order.place =
 -- the answer to the last packet of group x behind the mark
 told_last : (a d : ℕ) (earlier feed : List (List ℕ)) (mark n x : ℕ) → (w : Follows earlier feed mark n)
     → mark + n ≤ length feed → x + 4 ≤ n → x % 4 ≡ 0
-    → told a d (after earlier feed mark (x + 3 + 1))
-    ≡ told_at a d (length w.base + x) (in_force (said (life w.base feed mark (x + 3 + 1))) (length w.base + x))
+    → last_answer a d (after earlier feed mark (x + 3 + 1))
+    ≡ told_at a d (length w.base + x) (in_force (readings (life w.base feed mark (x + 3 + 1))) (length w.base + x))
 told_last a d earlier feed mark n x w h l g =
     let b = w.in_step in
-    let long : length (said (life w.base feed mark (x + 3 + 1))) ≡ length w.base + (x + 3 + 1) =
+    let long : length (readings (life w.base feed mark (x + 3 + 1))) ≡ length w.base + (x + 3 + 1) =
     length-said (life w.base feed mark (x + 3 + 1))
     ∙ length-life w.base feed mark (x + 3 + 1) (omega (arith, h, l)) in
-    let at : length (said (life w.base feed mark (x + 3 + 1))) - 4 ≡ length w.base + x = omega (arith, long) in
+    let at : length (readings (life w.base feed mark (x + 3 + 1))) - 4 ≡ length w.base + x = omega (arith, long) in
     told_is a d earlier feed mark n (x + 3) w h (omega arith) (omega (arith, l))
-    ∙ cond-true (length (said (life w.base feed mark (x + 3 + 1))) % 4 == 0) _ _
-    (eq-eqb (length (said (life w.base feed mark (x + 3 + 1))) % 4) 0 (omega (arith, long, b, g)))
-    ∙ ap (λ k. told_at a d k (in_force (said (life w.base feed mark (x + 3 + 1))) k)) at
+    ∙ cond-true (length (readings (life w.base feed mark (x + 3 + 1))) % 4 == 0) _ _
+    (eq-eqb (length (readings (life w.base feed mark (x + 3 + 1))) % 4) 0 (omega (arith, long, b, g)))
+    ∙ ap (λ k. told_at a d k (in_force (readings (life w.base feed mark (x + 3 + 1))) k)) at
 
 -- the order's line, or none
 line_here : (a d s m : ℕ) (base feed : List (List ℕ)) (mark n first x : ℕ) → Marks a d base feed mark n
-    → IsGroup feed mark n first first → first ≤ x → x + 4 ≤ n → (o : Option Ops) → counted (said feed) (mark + x) ≡ o
-    → line_of s m (told_at a d (length base + x) (in_force (said (life base feed mark (x + 3 + 1))) (length base + x)))
+    → IsGroup feed mark n first first → first ≤ x → x + 4 ≤ n → (o : Option Ops)
+    → counting_order (readings feed) (mark + x) ≡ o
+    → line_of s m (told_at a d (length base + x) (in_force (readings (life base feed mark (x + 3 + 1)))
+    (length base + x)))
     ≡ listed (option_map (λ (order : Order). preset (s + m - 4) order.ops.frame (order.place % 624)
-    (moment_at a order).tick (moment_at a order).grain) (placed (mark + x) o))
+    (order_moment a order).tick (order_moment a order).grain) (placed (mark + x) o))
 line_here a d s m base feed mark n first x k g l h (Some ops) e =
-    let i = k.inside in let far = g.settled in let k1 = k.at_mark in let k2 = k.at_other in
+    let i = k.inside in let far = g.flushed in let k1 = k.at_mark in let k2 = k.at_other in
     let place : (length base + x) % 624 ≡ (mark + x) % 624 = omega (arith, k1, k2) in
     ap (λ o. line_of s m (told_at a d (length base + x) o))
-    (force_here (said (life base feed mark (x + 3 + 1))) (length base + x) ops
+    (force_here (readings (life base feed mark (x + 3 + 1))) (length base + x) ops
     (counted_same base feed mark (x + 3 + 1) x k1 k2 (omega (arith, i, h)) (omega arith) (omega (arith, far, l))
     ∙ e))
     ∙ told_own a (length base + x) s m ops (served a d ops) (k.feed_is.serves (mark + x) ops e)
     ∙ ap (λ j. preset (s + m - 4) ops.frame j (moment_of ops.stamp ops.max_delay (offset_of (entry_of a ops)) j).tick
     (moment_of ops.stamp ops.max_delay (offset_of (entry_of a ops)) j).grain ∷ []) place
 line_here a d s m base feed mark n first x k g l h None e =
-    by_step (in_step a d base feed mark n (x + 3 + 1) first (x - first) x g.order.0 k (omega (arith, h)) g.settled
+    by_step (in_step a d base feed mark n (x + 3 + 1) first (x - first) x g.order.0 k (omega (arith, h)) g.flushed
     (omega (arith, l)) (omega arith) g.order.1)
   where
     none_some : (ops : Ops) → ◌≡◌ {A = Option Ops} None (Some ops) → ⊥
@@ -109,24 +112,24 @@ line_here a d s m base feed mark n first x k g l h None e =
 
     by_step : InStep base feed mark (x + 3 + 1) first x
         → line_of s m (told_at a d (length base + x)
-        (in_force (said (life base feed mark (x + 3 + 1))) (length base + x))) ≡ []
+        (in_force (readings (life base feed mark (x + 3 + 1))) (length base + x))) ≡ []
     by_step w =
         ap (λ o. line_of s m (told_at a d (length base + x) o)) w.in_life
         ∙ told_old a (length base + x) s m (record { place = length base + w.group; ops = w.ops }) (served a d w.ops)
         (λ q. let same : mark + x ≡ mark + w.group = omega (arith, q) in
-        none_some w.ops (sym e ∙ ap (counted (said feed)) same ∙ w.its_own))
+        none_some w.ops (sym e ∙ ap (counting_order (readings feed)) same ∙ w.its_own))
 
 -- ---- the line of each packet of the stretch
 
 -- what the packet that ends four packets from packet g of the feed on is to be given
 abbrev line_due : ℕ → ℕ → ℕ → List (List ℕ) → ℕ → List Line
-line_due a s k feed g = listed (option_map (preset_line a s k) (placed g (counted (said feed) g)))
+line_due a s k feed g = listed (option_map (preset_line a s k) (placed g (counting_order (readings feed) g)))
 
 -- how many segments there are before a group's data segments
 seg_is : (a d n : ℕ) (earlier feed : List (List ℕ)) (mark m first x : ℕ) → (w : Follows earlier feed mark m)
     → Marks a d w.base feed mark m → IsGroup feed mark m first first → first ≤ x → x + 4 ≤ m → x % 4 ≡ 0
     → n + length (emission a d (after earlier feed mark (x + 3))) + length
-    (given a d (after earlier feed mark (x + 3 + 1))) - 4
+    (last_segments a d (after earlier feed mark (x + 3 + 1))) - 4
     ≡ n + length (before_first a d earlier feed mark first) + (segment_place (mark + x) - segment_place (mark + first))
 seg_is a d n earlier feed mark m first x w k g l h y =
     let i = k.inside in let k1 = k.at_mark in let g1 = g.whole in
@@ -134,11 +137,11 @@ seg_is a d n earlier feed mark m first x w k g l h y =
     let v : mark + (first + 4 + 4 * ((x - first) / 4)) ≡ 4 * ((mark + x) / 4) + 4 = omega (arith, l, y, g1, k1) in
     let u : 4 * ((mark + x) / 4) ≡ mark + x = omega (arith, y, k1) in
     let all : length (emission a d (after earlier feed mark (x + 3))) + length
-    (given a d (after earlier feed mark (x + 3 + 1)))
+    (last_segments a d (after earlier feed mark (x + 3 + 1)))
     ≡ length (before_first a d earlier feed mark first) +
     (segment_place (mark + x) + 4 - segment_place (mark + first)) =
     sym (length-append (emission a d (after earlier feed mark (x + 3)))
-    (given a d (after earlier feed mark (x + 3 + 1))))
+    (last_segments a d (after earlier feed mark (x + 3 + 1))))
     ∙ ap length (sym (emitted_more a d earlier feed mark (x + 3) (omega (arith, i, h)))
     ∙ ap (λ j. emission a d (after earlier feed mark j)) (sym c)
     ∙ emits a d earlier feed mark m first ((x - first) / 4) w k g (omega (arith, l, h)))
@@ -173,20 +176,20 @@ line_is a d n earlier feed mark m first i w k g l = by_place (cases_eq (i % 4) 0
     s = n + length (emission a d (after earlier feed mark (first + i + 3)))
 
     t : ℕ
-    t = length (given a d (after earlier feed mark (first + i + 3 + 1)))
+    t = length (last_segments a d (after earlier feed mark (first + i + 3 + 1)))
 
     by_order : (o : Option Ops)
         → s + t - 4 ≡ n + length (before_first a d earlier feed mark first) +
         (segment_place (mark + (first + i)) - segment_place (mark + first))
         → listed (option_map (λ (order : Order). preset (s + t - 4) order.ops.frame (order.place % 624)
-        (moment_at a order).tick (moment_at a order).grain) (placed (mark + (first + i)) o))
+        (order_moment a order).tick (order_moment a order).grain) (placed (mark + (first + i)) o))
         ≡ listed (option_map (preset_line a (n + length (before_first a d earlier feed mark first)) (mark + first))
         (placed (mark + (first + i)) o))
     by_order None e = refl
     by_order (Some ops) e =
         let order : Order = record { place = mark + (first + i); ops = ops } in
-        ap (λ q. preset q ops.frame ((mark + (first + i)) % 624) (moment_at a order).tick
-        (moment_at a order).grain ∷ []) e
+        ap (λ q. preset q ops.frame ((mark + (first + i)) % 624) (order_moment a order).tick
+        (order_moment a order).grain ∷ []) e
 
     by_place : (i % 4 ≡ 0) ⊎ (i % 4 ≢ 0)
         → line_between a d n (after earlier feed mark (first + i + 3)) (after earlier feed mark (first + i + 3 + 1))
@@ -195,8 +198,8 @@ line_is a d n earlier feed mark m first i w k g l = by_place (cases_eq (i % 4) 0
         ap (line_of s t) (told_last a d earlier feed mark m (first + i) w inside (omega (arith, l))
         (omega (arith, whole, z)))
         ∙ line_here a d s t w.base feed mark m first (first + i) k g (omega arith) (omega (arith, l))
-        (counted (said feed) (mark + (first + i))) refl
-        ∙ by_order (counted (said feed) (mark + (first + i)))
+        (counting_order (readings feed) (mark + (first + i))) refl
+        ∙ by_order (counting_order (readings feed) (mark + (first + i)))
         (seg_is a d n earlier feed mark m first (first + i) w k g (omega arith) (omega (arith, l))
         (omega (arith, whole, z)))
     by_place (inr z) =
@@ -204,7 +207,7 @@ line_is a d n earlier feed mark m first i w k g l = by_place (cases_eq (i % 4) 0
         (λ e. z (omega (arith, e, whole))))
         ∙ ap (λ o. listed (option_map (preset_line a (n + length (before_first a d earlier feed mark first))
         (mark + first)) (placed (mark + (first + i)) o)))
-        (sym (counted_off (said feed) (mark + (first + i)) (λ e. z (omega (arith, e, whole, at_mark)))))
+        (sym (counted_off (readings feed) (mark + (first + i)) (λ e. z (omega (arith, e, whole, at_mark)))))
 
 -- ---- all of them
 
@@ -213,7 +216,7 @@ lines_from : (a d n : ℕ) (earlier feed : List (List ℕ)) (mark m first : ℕ)
     → life_lines a d n (after earlier feed mark m)
     ≡ life_lines a d n (after earlier feed mark (first + 3))
     ++ map (preset_line a (n + length (before_first a d earlier feed mark first)) (mark + first))
-    (filter_map (λ g. placed g (counted (said feed) g)) (range_with_len (mark + first) (m - (first + 3))))
+    (filter_map (λ g. placed g (counting_order (readings feed) g)) (range_with_len (mark + first) (m - (first + 3))))
 unfolding lines_behind
 lines_from a d n earlier feed mark m first w k g =
     ap (life_lines a d n) parts
@@ -221,7 +224,8 @@ lines_from a d n earlier feed mark m first w k g =
     ∙ ap (λ x. life_lines a d n l ++ x)
     (ap (λ c. flat_map (λ i. line_between a d n (l ++ take i r) (l ++ take (i + 1) r)) (range_with_len 0 c)) long
     ∙ flat_map-range_picked (λ i. line_between a d n (l ++ take i r) (l ++ take (i + 1) r))
-    (λ g. placed g (counted (said feed) g)) (preset_line a (n + length (before_first a d earlier feed mark first))
+    (λ g. placed g (counting_order (readings feed) g)) (preset_line a (n + length
+    (before_first a d earlier feed mark first))
     (mark + first)) 0 (mark + first) (m - (first + 3))
     (λ i h.
     ap₂ (line_between a d n) (joined (0 + i) (first + i + 3) (omega arith) (omega (arith, h)))
@@ -277,9 +281,9 @@ lines_is a d n feed earlier mark end k f s =
     lines_from a d n earlier feed mark (end - mark) (k - mark) w.follows w.marks w.group
     ∙ ap₂ (λ x y. life_lines a d n (after earlier feed mark x) ++ y) e
     (ap₂ (λ x y. map (preset_line a (n + length (before_first a d earlier feed mark (k - mark))) x)
-    (filter_map (λ g. placed g (counted (said feed) g)) (range_with_len x y))) at c
+    (filter_map (λ g. placed g (counting_order (readings feed) g)) (range_with_len x y))) at c
     ∙ ap (λ x. map (preset_line a (n + length x) k)
-    (filter_map (λ g. placed g (counted (said feed) g)) (range_with_len k (end - 3 - k))))
+    (filter_map (λ g. placed g (counting_order (readings feed) g)) (range_with_len k (end - 3 - k))))
     (before_is a d earlier feed mark k (omega (arith, y))))
 
 -- whatever is given then

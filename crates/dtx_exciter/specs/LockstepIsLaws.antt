@@ -6,9 +6,9 @@ use Rattle.std.specs.Prelude.{nat_le, slice_range}
 use Rattle.std.proofs.lemmas.List.{append-nil, append_assoc, length-append}
 use Rattle.dtx_frame.specs.Segments.{field_sync}
 use Rattle.dtx_coder.specs.Stream.{levels, four_segments, last_of, group_segments}
-use Rattle.dtx_exciter.specs.Order.{counted}
-use Rattle.dtx_exciter.specs.Packets.{said}
-use Rattle.dtx_exciter.specs.Emission.{given, given_under, emission}
+use Rattle.dtx_exciter.specs.Order.{counting_order}
+use Rattle.dtx_exciter.specs.Packets.{readings}
+use Rattle.dtx_exciter.specs.Emission.{last_segments, given_under, emission}
 use Rattle.dtx_exciter.specs.Lockstep.{IsFeed, IsStretch, stretch}
 use Rattle.dtx_exciter.specs.Stretch.{emission_behind, sync_behind, before_stretch}
 use Rattle.dtx_exciter.specs.ForceLaws.{counted_behind, IsBehind}
@@ -21,11 +21,11 @@ use Rattle.dtx_exciter.specs.EmittedLaws.{emission_more, emission_push, stretch_
 
 pub emitted_more : (a d : ℕ) (earlier feed : List (List ℕ)) (mark j : ℕ) → mark + j < length feed
     → emission a d (after earlier feed mark (j + 1)) ≡ emission a d (after earlier feed mark j)
-    ++ given a d (after earlier feed mark (j + 1))
+    ++ last_segments a d (after earlier feed mark (j + 1))
 emitted_more a d earlier feed mark j l =
     ap (emission a d) (after_more earlier feed mark j l)
     ∙ emission_push a d (after earlier feed mark j) (get_or (drop mark feed) j [])
-    ∙ ap (λ x. emission a d (after earlier feed mark j) ++ given a d x) (sym (after_more earlier feed mark j l))
+    ∙ ap (λ x. emission a d (after earlier feed mark j) ++ last_segments a d x) (sym (after_more earlier feed mark j l))
 
 emitted_same : (a d : ℕ) (earlier feed : List (List ℕ)) (mark n j k : ℕ) → (w : Follows earlier feed mark n)
     → mark + n ≤ length feed → j < n → j % 4 ≢ 3 → k ≡ j + 1
@@ -62,7 +62,7 @@ emitted_group a d earlier feed mark n x w h l g =
 -- all that is given before the first group's data segments
 abbrev pub before_first : ℕ → ℕ → List (List ℕ) → List (List ℕ) → ℕ → ℕ → List (List ℤ)
 before_first a d earlier feed mark first = emission a d (after earlier feed mark (first + 3))
-    ++ sync_behind (given a d (after earlier feed mark first)) (mark + first)
+    ++ sync_behind (last_segments a d (after earlier feed mark first)) (mark + first)
 
 place_first : (mark first v : ℕ) → mark + first ≡ 4 * v → mark + (first + 4) ≡ 4 * v + 4
 place_first mark first v e = omega (arith, e)
@@ -86,7 +86,7 @@ emits_all a d earlier feed mark n first (suc c) before w m g h l =
     let here : IsGroup feed mark n first (first + 4 + 4 * c) =
     record {
       order = g.order;
-      settled = g.settled;
+      flushed = g.flushed;
       whole = g.whole;
       later = omega arith;
       group = omega (arith, g1);
@@ -129,13 +129,13 @@ emits a d earlier feed mark n first c w m g h =
     sync : List (List ℤ)
     sync = sync_behind (given_under a d (Some (life w.base feed mark first))) (mark + first)
 
-    same : given_under a d (Some (life w.base feed mark first)) ≡ given a d (after earlier feed mark first)
+    same : given_under a d (Some (life w.base feed mark first)) ≡ last_segments a d (after earlier feed mark first)
     same =
-        let far : 52 ≤ first = g.settled in
+        let far : 52 ≤ first = g.flushed in
         let e : first - 1 + 1 ≡ first = omega (arith, far) in
         ap (λ k. given_under a d (Some (life w.base feed mark k))) (sym e)
         ∙ sym (given_is a d earlier feed mark n (first - 1) w (omega (arith, within, far)))
-        ∙ ap (λ k. given a d (after earlier feed mark k)) e
+        ∙ ap (λ k. last_segments a d (after earlier feed mark k)) e
 
     begins : emission a d (after earlier feed mark (first + 4)) ≡ before_first a d earlier feed mark first
         ++ stretch feed (mark + first) (mark + (first + 4))
@@ -182,7 +182,7 @@ pub within : (a d : ℕ) (feed earlier : List (List ℕ)) (mark end k : ℕ) →
     → Within a d earlier feed mark (end - mark) (k - mark)
 within a d feed earlier mark end k f s =
     let x = s.inside in let y = s.behind in let z = s.whole in let i = s.is_mark in
-    let b : IsBehind k = counted_behind (said feed) k s.order.0 s.order.1 in
+    let b : IsBehind k = counted_behind (readings feed) k s.order.0 s.order.1 in
     let o = b.whole in
     let at : mark + (k - mark) ≡ k = omega (arith, y) in
     let inside : mark + (end - mark) ≤ length feed = omega (arith, x, y, z) in
@@ -192,8 +192,8 @@ within a d feed earlier mark end k f s =
       follows = w;
       marks = record { feed_is = f; at_mark = i; at_other = w.in_step; inside = inside };
       group = record {
-        order = (s.order.0, ap (counted (said feed)) at ∙ s.order.1);
-        settled = omega (arith, y);
+        order = (s.order.0, ap (counting_order (readings feed)) at ∙ s.order.1);
+        flushed = omega (arith, y);
         whole = omega (arith, y, i, o);
         later = omega arith;
         group = omega (arith, y, i, o);
@@ -209,7 +209,7 @@ before_is a d earlier feed mark k l =
     let e : k - mark + 3 ≡ k + 3 - mark = omega (arith, l) in
     let at : mark + (k - mark) ≡ k = omega (arith, l) in
     ap₂ (λ x y. emission a d (after earlier feed mark x)
-    ++ sync_behind (given a d (after earlier feed mark (k - mark))) y) e at
+    ++ sync_behind (last_segments a d (after earlier feed mark (k - mark))) y) e at
 
 pub lockstep_is : (a d : ℕ) (feed earlier : List (List ℕ)) (mark end k : ℕ) → IsFeed a d feed
     → IsStretch feed mark end k
@@ -240,7 +240,7 @@ lockstep_is a d feed earlier mark end k f s =
     i = s.is_mark
 
     o : k % 4 ≡ 0
-    o = (counted_behind (said feed) k s.order.0 s.order.1).whole
+    o = (counted_behind (readings feed) k s.order.0 s.order.1).whole
 
     at : mark + (k - mark) ≡ k
     at = omega (arith, y)
@@ -276,8 +276,8 @@ sync_at_most (s ∷ ss) k = by_test (k % 312 == 0)
 pub length-before : (a d : ℕ) (feed earlier : List (List ℕ)) (mark k : ℕ)
     → length (before_stretch a d earlier feed mark k)
     ≡ length (emission a d (earlier ++ slice_range feed mark (k + 3))) + length
-    (sync_behind (given a d (earlier ++ slice_range feed mark k)) k)
+    (sync_behind (last_segments a d (earlier ++ slice_range feed mark k)) k)
 unfolding before_stretch
 length-before a d feed earlier mark k =
     length-append (emission a d (earlier ++ slice_range feed mark (k + 3)))
-    (sync_behind (given a d (earlier ++ slice_range feed mark k)) k)
+    (sync_behind (last_segments a d (earlier ++ slice_range feed mark k)) k)

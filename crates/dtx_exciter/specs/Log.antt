@@ -4,8 +4,8 @@ use Rattle.std.specs.List.{range_with_len}
 use Rattle.dtx_exciter.specs.declared.answers.Why.{Why}
 use Rattle.dtx_exciter.specs.declared.answers.Told.{Told}
 use Rattle.dtx_exciter.specs.declared.answers.Told.TheVariants.{Quiet, Sent, Muted}
-use Rattle.dtx_exciter.specs.Packets.{told}
-use Rattle.dtx_exciter.specs.Emission.{given, emission}
+use Rattle.dtx_exciter.specs.Packets.{last_answer}
+use Rattle.dtx_exciter.specs.Emission.{last_segments, emission}
 
 -- A line speaks of a segment by how many there are before it.
 pub data Line : Type 0 where
@@ -26,8 +26,9 @@ line_of n m (Muted why) = mute n why ∷ []
 unfoldable pub life_lines : ℕ → ℕ → ℕ → List (List ℕ) → List Line
 life_lines address delay n life =
     flat_map
-    (λ i. line_of (n + length (emission address delay (take i life))) (length (given address delay (take (i + 1) life)))
-    (told address delay (take (i + 1) life)))
+    (λ i. line_of (n + length (emission address delay (take i life))) (length (last_segments address delay (take
+    (i + 1) life)))
+    (last_answer address delay (take (i + 1) life)))
     (range_with_len 0 (length life))
 
 -- the lines of lives, with a restart between any two

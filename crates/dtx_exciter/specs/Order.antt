@@ -30,8 +30,8 @@ order_at said g =
     (either (ordered_at said (g + 2)) (ordered_at said (g + 3))))
 
 -- that counts only of a group that begins 52 or more packets behind the anchor
-unfoldable pub counted : List (Option Ops) → ℕ → Option Ops
-counted said g = if nat_le 52 g && (g % 4 == 0) then order_at said g else None
+unfoldable pub counting_order : List (Option Ops) → ℕ → Option Ops
+counting_order said g = if nat_le 52 g && (g % 4 == 0) then order_at said g else None
 
 -- an order, and where its group begins
 pub record Order : Type 0 where
@@ -44,4 +44,4 @@ placed g (Some ops) = Some (record { place = g; ops = ops })
 
 -- the order in force for the group that begins at i: the latest up to that group
 unfoldable pub in_force : List (Option Ops) → ℕ → Option Order
-in_force said i = latest (λ g. placed g (counted said g)) (i + 1)
+in_force said i = latest (λ g. placed g (counting_order said g)) (i + 1)

@@ -19,8 +19,8 @@ read_fields (Err why) = None
 unfoldable pub reads : List ℕ → Option Ops
 reads packet = read_fields (reading packet)
 
-unfoldable pub said : List (List ℕ) → List (Option Ops)
-said packets = map reads packets
+unfoldable pub readings : List (List ℕ) → List (Option Ops)
+readings packets = map reads packets
 
 -- the place of the anchor
 unfoldable pub anchor_of : List (List ℕ) → Option ℕ
@@ -31,5 +31,5 @@ unfoldable pub under : List (List ℕ) → Option (List (List ℕ))
 under packets = option_map (λ a. drop a packets) (anchor_of packets)
 
 -- the answer to the last packet
-unfoldable pub told : ℕ → ℕ → List (List ℕ) → Told
-told address delay packets = told_of address delay (syncs packets) (said packets)
+unfoldable pub last_answer : ℕ → ℕ → List (List ℕ) → Told
+last_answer address delay packets = told_of address delay (syncs packets) (readings packets)

@@ -96,7 +96,7 @@ pub record AreSame (a b t : List (List ℕ)) (x y : ℕ) : Type 0 where
   pub first : length a % 624 ≡ 0
   pub second : length b % 624 ≡ 0
   pub groups : length t % 4 ≡ 0
-  pub settled : 52 ≤ y
+  pub flushed : 52 ≤ y
   pub order : y % 4 ≡ 0
   pub later : y ≤ x
   pub group : x % 4 ≡ 0
@@ -114,8 +114,8 @@ data_same a b t x y q h e =
     let na : 4 * ((length a + x) / 4 - (length a + y) / 4) ≡ x - y = omega (arith, h1, h3, h4, h5) in
     let nb : x - y ≡ 4 * ((length b + x) / 4 - (length b + y) / 4) = omega (arith, h2, h3, h4, h5) in
     let vb : 4 * ((length b + x) / 4) ≡ length b + x = omega (arith, h2, h5) in
-    ap₂ four_segments (levels_mark a t y ((length a + y) / 4) q h.first h.groups h.settled h.order ga) na
-    ∙ ap₂ four_segments (sym (levels_mark b t y ((length b + y) / 4) q h.second h.groups h.settled h.order gb)) nb
+    ap₂ four_segments (levels_mark a t y ((length a + y) / 4) q h.first h.groups h.flushed h.order ga) na
+    ∙ ap₂ four_segments (sym (levels_mark b t y ((length b + y) / 4) q h.second h.groups h.flushed h.order gb)) nb
     ∙ ap (λ p. four_segments (levels_since ((length b + y) / 4) p (b ++ t))
     (4 * ((length b + x) / 4 - (length b + y) / 4)))
     (e ∙ ap (λ k. states (take k (b ++ t))) (sym gb))

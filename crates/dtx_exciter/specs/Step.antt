@@ -4,7 +4,7 @@ use Rattle.std.specs.Prelude.{if◌then◌else◌, Result, Ok, Err, List, [], ma
 use Rattle.std.specs.Option.{unwrap_or}
 use Rattle.dtx_packets.specs.declared.packet.Packet.{Packet}
 use Rattle.dtx_ops.specs.declared.fields.Ops.{Ops}
-use Rattle.dtx_coder.specs.Groups.{Group, segments_of, after_group}
+use Rattle.dtx_coder.specs.Groups.{Group, air_segments, after_group}
 use Rattle.dtx_exciter.specs.declared.exciter.Exciter.{Exciter}
 use Rattle.dtx_exciter.specs.declared.answers.Why.{Why}
 use Rattle.dtx_exciter.specs.declared.answers.Told.{Told}
@@ -27,7 +27,7 @@ order_in j packets =
 
 -- where it counts
 abbrev pub own_order : Bool → ℕ → List (List ℕ) → Option Ops
-own_order settled j packets = if settled then order_in j packets else None
+own_order flushed j packets = if flushed then order_in j packets else None
 
 -- the answer under the group's own order
 abbrev pub told_own : ℕ → ℕ → Ops → Result ℕ Why → Told
@@ -51,7 +51,7 @@ group_given j packets own states before sent = record {
 
 -- the order, and the group as it is given to the coder, of an exciter that holds a whole group, which begins at place j
 unfoldable pub own_of : Exciter → ℕ → Option Ops
-own_of e j = own_order e.settled j (bytes_of e.packets)
+own_of e j = own_order e.flushed j (bytes_of e.packets)
 
 unfoldable pub group_of : Exciter → ℕ → Told → Group
 group_of e j answered = group_given j (bytes_of e.packets) (own_of e j) e.coder.states e.sent (is_sent answered)
@@ -60,7 +60,7 @@ group_of e j answered = group_given j (bytes_of e.packets) (own_of e j) e.coder.
 pub record IsSent (j : ℕ) (old made : Exciter) (answered : Told) (count : ℕ) (symbols : List ℤ) : Type 0 where
   pub answer : answered ≡ told_group old.address old.delay j (own_of old j) old.sent
   pub new : made ≡ record old { sent = is_sent answered; coder = after_group old.coder (group_of old j answered) }
-  pub air : Holds (if is_sent answered then segments_of old.coder (group_of old j answered) else []) count symbols
+  pub air : Holds (if is_sent answered then air_segments old.coder (group_of old j answered) else []) count symbols
 
 -- the transmitter and the anchor stay
 pub record IsSame (old made : Exciter) : Type 0 where

@@ -6,10 +6,10 @@ use Rattle.dtx_clock.specs.declared.answers.Moment.{Moment}
 use Rattle.dtx_clock.specs.Clock.{moment_of, DifferBy}
 use Rattle.dtx_frame.specs.Segments.{field_sync}
 use Rattle.dtx_coder.specs.Stream.{last_of}
-use Rattle.dtx_exciter.specs.Order.{Order, counted, placed}
+use Rattle.dtx_exciter.specs.Order.{Order, counting_order, placed}
 use Rattle.dtx_exciter.specs.Told.{entry_of, offset_of}
-use Rattle.dtx_exciter.specs.Packets.{said, told}
-use Rattle.dtx_exciter.specs.Emission.{given, emission}
+use Rattle.dtx_exciter.specs.Packets.{readings, last_answer}
+use Rattle.dtx_exciter.specs.Emission.{last_segments, emission}
 use Rattle.dtx_exciter.specs.Log.{Line, preset, line_of}
 use Rattle.dtx_exciter.specs.Lockstep.{segment_place}
 
@@ -18,15 +18,15 @@ use Rattle.dtx_exciter.specs.Lockstep.{segment_place}
 -- the segments that further packets give, one after another
 unfoldable pub emission_behind : ℕ → ℕ → List (List ℕ) → List (List ℕ) → List (List ℤ)
 emission_behind address delay packets more =
-    flat_map (λ i. given address delay (packets ++ take (i + 1) more)) (range_with_len 0 (length more))
+    flat_map (λ i. last_segments address delay (packets ++ take (i + 1) more)) (range_with_len 0 (length more))
 
 -- their lines, where n segments were given before the life
 unfoldable pub lines_behind : ℕ → ℕ → ℕ → List (List ℕ) → List (List ℕ) → List Line
 lines_behind address delay n packets more =
     flat_map
     (λ i. line_of (n + length (emission address delay (packets ++ take i more)))
-    (length (given address delay (packets ++ take (i + 1) more)))
-    (told address delay (packets ++ take (i + 1) more)))
+    (length (last_segments address delay (packets ++ take (i + 1) more)))
+    (last_answer address delay (packets ++ take (i + 1) more)))
     (range_with_len 0 (length more))
 
 -- ---- in front of the stretch
@@ -44,27 +44,27 @@ sync_behind (s ∷ ss) k =
 unfoldable pub before_stretch : ℕ → ℕ → List (List ℕ) → List (List ℕ) → ℕ → ℕ → List (List ℤ)
 before_stretch address delay earlier feed mark k =
     emission address delay (earlier ++ slice_range feed mark (k + 3))
-    ++ sync_behind (given address delay (earlier ++ slice_range feed mark k)) k
+    ++ sync_behind (last_segments address delay (earlier ++ slice_range feed mark k)) k
 
 -- ---- the lines of the stretch
 
 -- the orders of a feed's groups that begin at packet k or later and end at packet end or earlier
 unfoldable pub orders_in : List (List ℕ) → ℕ → ℕ → List Order
-orders_in feed k end = filter_map (λ g. placed g (counted (said feed) g)) (range_with_len k (end - 3 - k))
+orders_in feed k end = filter_map (λ g. placed g (counting_order (readings feed) g)) (range_with_len k (end - 3 - k))
 
 -- the offset of a transmitter under an order, and the moment that the order sets there for its group's first data
 -- segment
 abbrev pub offset_at : ℕ → Order → ℤ
 offset_at address order = offset_of (entry_of address order.ops)
 
-abbrev pub moment_at : ℕ → Order → Moment
-moment_at address order = moment_of order.ops.stamp order.ops.max_delay (offset_at address order) (order.place % 624)
+abbrev pub order_moment : ℕ → Order → Moment
+order_moment address order = moment_of order.ops.stamp order.ops.max_delay (offset_at address order) (order.place % 624)
 
 -- the line of an order in a stretch that begins with packet k, whose data segment is segment s of what is given
 abbrev pub preset_line : ℕ → ℕ → ℕ → Order → Line
 preset_line address s k order =
     preset (s + (segment_place order.place - segment_place k)) order.ops.frame (order.place % 624)
-    (moment_at address order).tick (moment_at address order).grain
+    (order_moment address order).tick (order_moment address order).grain
 
 -- the lines of a stretch: one for each order in it, and no other
 unfoldable pub stretch_lines : ℕ → ℕ → List (List ℕ) → ℕ → ℕ → List Line

@@ -13,7 +13,7 @@ use Rattle.dtx_exciter.specs.declared.answers.Why.TheVariants.{Cadence}
 use Rattle.dtx_exciter.specs.declared.answers.Told.{Told}
 use Rattle.dtx_exciter.specs.declared.answers.Told.TheVariants.{Quiet, Muted}
 use Rattle.dtx_exciter.specs.Told.{has_moved, told_under, told_from, told_of}
-use Rattle.dtx_exciter.specs.Packets.{syncs, reads, said, anchor_of, under, told}
+use Rattle.dtx_exciter.specs.Packets.{syncs, reads, readings, anchor_of, under, last_answer}
 
 -- ---- lists one packet longer
 
@@ -25,16 +25,16 @@ pub length-syncs : (d : List (List ℕ)) → length (syncs d) ≡ length d
 unfolding syncs
 length-syncs d = length-map d sync_of
 
-pub said_append : (d e : List (List ℕ)) → said (d ++ e) ≡ said d ++ said e
-unfolding said
+pub said_append : (d e : List (List ℕ)) → readings (d ++ e) ≡ readings d ++ readings e
+unfolding readings
 said_append d e = map-append reads d e
 
-pub length-said : (d : List (List ℕ)) → length (said d) ≡ length d
-unfolding said
+pub length-said : (d : List (List ℕ)) → length (readings d) ≡ length d
+unfolding readings
 length-said d = length-map d reads
 
-pub said_drop : (n : ℕ) (d : List (List ℕ)) → drop n (said d) ≡ said (drop n d)
-unfolding said
+pub said_drop : (n : ℕ) (d : List (List ℕ)) → drop n (readings d) ≡ readings (drop n d)
+unfolding readings
 said_drop n d = drop-map reads n d
 
 -- ---- what the anchor says of one packet more
@@ -54,11 +54,11 @@ told_seen address delay Free now = Quiet
 told_seen address delay Start now = Quiet
 told_seen address delay Moved now = Muted Cadence
 told_seen address delay Lost now = Muted Cadence
-told_seen address delay (At place) now = told_under address delay (option_map said now)
+told_seen address delay (At place) now = told_under address delay (option_map readings now)
 
 pub record Goes (address delay : ℕ) (d : List (List ℕ)) (p : List ℕ) (s : Seen) : Type 0 where
   pub follows : Follows s p (under d) (under (d ++ p ∷ []))
-  pub answer : told address delay (d ++ p ∷ []) ≡ told_seen address delay s (under (d ++ p ∷ []))
+  pub answer : last_answer address delay (d ++ p ∷ []) ≡ told_seen address delay s (under (d ++ p ∷ []))
 
 -- the packets and the answer by the anchors before and with the packet
 unfoldable rest : List (List ℕ) → Option ℕ → Option (List (List ℕ))
@@ -68,19 +68,20 @@ under_by : (d : List (List ℕ)) (o : Option ℕ) → anchor_of d ≡ o → unde
 unfolding under rest
 under_by d o h = ap (λ x. option_map (λ a. drop a d) x) h
 
-said_rest : (d : List (List ℕ)) (o : Option ℕ) → option_map (λ a. drop a (said d)) o ≡ option_map said (rest d o)
+said_rest : (d : List (List ℕ)) (o : Option ℕ) → option_map (λ a. drop a (readings d)) o
+    ≡ option_map readings (rest d o)
 unfolding rest
 said_rest d None = refl
 said_rest d (Some a) = ap Some (said_drop a d)
 
 told_by_anchors : (address delay : ℕ) (d : List (List ℕ)) (p : List ℕ) (before now : Option ℕ) → anchor_of d ≡ before
     → anchor_of (d ++ p ∷ []) ≡ now
-    → told address delay (d ++ p ∷ []) ≡ cond (has_moved before now) (Muted Cadence)
-    (told_under address delay (option_map said (rest (d ++ p ∷ []) now)))
-unfolding told told_of anchor_of
+    → last_answer address delay (d ++ p ∷ []) ≡ cond (has_moved before now) (Muted Cadence)
+    (told_under address delay (option_map readings (rest (d ++ p ∷ []) now)))
+unfolding last_answer told_of anchor_of
 told_by_anchors address delay d p before now b n =
-    ap (λ s. told_from address delay (anchor s) (anchor (syncs (d ++ p ∷ []))) (said (d ++ p ∷ []))) front
-    ∙ ap₂ (λ x y. told_from address delay x y (said (d ++ p ∷ []))) b n
+    ap (λ s. told_from address delay (anchor s) (anchor (syncs (d ++ p ∷ []))) (readings (d ++ p ∷ []))) front
+    ∙ ap₂ (λ x y. told_from address delay x y (readings (d ++ p ∷ []))) b n
     ∙ ap (λ o. cond (has_moved before now) (Muted Cadence) (told_under address delay o)) (said_rest (d ++ p ∷ []) now)
   where
     shorter : length (syncs (d ++ p ∷ [])) - 1 ≡ length (syncs d)
@@ -107,8 +108,8 @@ unfolding rest
 longer d p j l = ap Some (drop-append-le j d (p ∷ []) (omega arith))
 
 -- one packet ends no group
-quiet_single : (address delay : ℕ) (p : List ℕ) → told_under address delay (Some (said (p ∷ []))) ≡ Quiet
-unfolding said
+quiet_single : (address delay : ℕ) (p : List ℕ) → told_under address delay (Some (readings (p ∷ []))) ≡ Quiet
+unfolding readings
 quiet_single address delay p = refl
 
 goes_new : (address delay : ℕ) (d : List (List ℕ)) (p : List ℕ) (b : Bool) → anchor_of d ≡ None
@@ -118,12 +119,12 @@ goes_new address delay d p true h e = record {
   follows = under_by (d ++ p ∷ []) (Some (length d)) e ∙ single d p;
   answer =
       told_by_anchors address delay d p None (Some (length d)) h e
-      ∙ ap (λ o. told_under address delay (option_map said o)) (single d p) ∙ quiet_single address delay p;
+      ∙ ap (λ o. told_under address delay (option_map readings o)) (single d p) ∙ quiet_single address delay p;
 }
 goes_new address delay d p false h e = record {
   follows = under_by (d ++ p ∷ []) None e ∙ nothing (d ++ p ∷ []);
   answer = told_by_anchors address delay d p None None h e
-      ∙ ap (λ o. told_under address delay (option_map said o)) (nothing (d ++ p ∷ []));
+      ∙ ap (λ o. told_under address delay (option_map readings o)) (nothing (d ++ p ∷ []));
 }
 
 goes_moved : (address delay : ℕ) (d : List (List ℕ)) (p : List ℕ) (j : ℕ) → j < length d → anchor_of d ≡ Some j
@@ -133,7 +134,7 @@ goes_moved address delay d p j l h e = record {
   answer =
       told_by_anchors address delay d p (Some j) (Some (length d)) h e
       ∙ cond-true (has_moved (Some j) (Some (length d))) (Muted Cadence)
-      (told_under address delay (option_map said (rest (d ++ p ∷ []) (Some (length d)))))
+      (told_under address delay (option_map readings (rest (d ++ p ∷ []) (Some (length d)))))
       (ap not (ne_eqb j (length d) (omega arith)));
 }
 
@@ -150,8 +151,8 @@ goes_on address delay d p j l h e = record {
   answer =
       told_by_anchors address delay d p (Some j) (Some j) h e
       ∙ cond-false (has_moved (Some j) (Some j)) (Muted Cadence)
-      (told_under address delay (option_map said (rest (d ++ p ∷ []) (Some j)))) (ap not (eq-eqb j j refl))
-      ∙ ap (λ o. told_under address delay (option_map said o)) (sym (under_by (d ++ p ∷ []) (Some j) e));
+      (told_under address delay (option_map readings (rest (d ++ p ∷ []) (Some j)))) (ap not (eq-eqb j j refl))
+      ∙ ap (λ o. told_under address delay (option_map readings o)) (sym (under_by (d ++ p ∷ []) (Some j) e));
 }
 
 goes_changed : (address delay : ℕ) (d : List (List ℕ)) (p : List ℕ) (j : ℕ) (b : Bool) → j < length d

@@ -10,10 +10,11 @@ use crate::answers::{Told, Why};
 use crate::orders::{Corrector, order_in};
 use crate::serving::{preset_of, served};
 use dtx_cadence::{Anchor, Seen};
-use dtx_coder::{Air, Coder, GROUP_PACKETS};
+use dtx_coder::{Air, Coder};
 use dtx_ops::Ops;
-use dtx_packets::{PACKET, Packet};
-use dtx_trellis::{FIELD, States};
+use dtx_packets::Packet;
+use dtx_sizes::{FIELD_PACKETS, FieldPlace, GROUP_PACKETS, PACKET, field_place};
+use dtx_trellis::States;
 use std::alloc::{AllocError, Global};
 
 /// An exciter. It is given the packets of a feed, from any place of it on and whatever else, and sends the segments
@@ -24,7 +25,7 @@ pub struct Exciter {
     delay: u32,
     corrector: Corrector,
     anchor: Anchor,
-    settled: bool,
+    flushed: bool,
     sent: bool,
     packets: [Packet; GROUP_PACKETS],
     coder: Coder,
@@ -41,7 +42,7 @@ impl Exciter {
             delay,
             corrector: Corrector::new(),
             anchor: Anchor::new(),
-            settled: false,
+            flushed: false,
             sent: false,
             packets: [Packet([0; PACKET]); GROUP_PACKETS],
             coder: Coder::new(alloc)?,
@@ -87,7 +88,7 @@ impl Exciter {
         self.coder.known();
         self.coder.align();
         self.packets[0] = *packet;
-        self.settled = false;
+        self.flushed = false;
         self.sent = false;
     }
 
@@ -103,7 +104,7 @@ impl Exciter {
             return Told::Quiet;
         }
         let told = self.send(place - 3, air);
-        self.settled = is_settled(self.settled, place);
+        self.flushed = is_flushed(self.flushed, place);
         told
     }
 
@@ -118,14 +119,9 @@ impl Exciter {
         let sent = is_sent(told);
         let sync = begins_with_sync(first, self.sent, sent);
         let preset = states_of(order);
-        self.coder.group(
-            first % FIELD,
-            first >= FIELD,
-            &self.packets,
-            preset,
-            sync,
-            air,
-        );
+        let FieldPlace { place, second } = field_place(first as u64);
+        self.coder
+            .group(place, second, &self.packets, preset, sync, air);
         keep_if(sent, air);
         self.sent = sent;
         told
@@ -134,10 +130,10 @@ impl Exciter {
     /// The group's own order, where it counts.
     fn order(&self, first: u16) -> Option<Ops>
         requires { first < 624 }
-        ensures order { result ≡ own_order self.now.settled first (bytes_of self.now.packets) }
+        ensures order { result ≡ own_order self.now.flushed first (bytes_of self.now.packets) }
         ensures valid { IfSome result IsValid }
     {
-        if self.settled {
+        if self.flushed {
             order_in(&self.corrector, first, &self.packets)
         } else {
             None
@@ -164,7 +160,7 @@ impl Exciter {
 }
 
 /// Whether 52 or more packets stand under the anchor, as the packet at this place has joined them.
-fn is_settled(before: bool, place: u16) -> bool
+fn is_flushed(before: bool, place: u16) -> bool
     ensures { result ≡ (before || (place == 51)) }
 {
     before || place == 51
@@ -193,7 +189,7 @@ fn keep_if(sent: bool, air: &mut Air)
 fn begins_with_sync(first: u16, before: bool, sent: bool) -> bool
     ensures { result ≡ (sent && before && (first % 312 == 0)) }
 {
-    sent && before && first % FIELD == 0
+    sent && before && first % FIELD_PACKETS == 0
 }
 
 /// The states that an order sets.

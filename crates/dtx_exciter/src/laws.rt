@@ -3,13 +3,13 @@
 ghost use Rattle.std.specs.Prelude.{◌≡◌, ℕ, ℤ, ◌+◌, ◌-◌, ◌%◌, ◌≤◌, ◌==◌, ◌&&◌, ◌∷◌, ◌++◌, true, false, Some};
 ghost use Rattle.std.specs.Prelude.{if◌then◌else◌, List, [], length, map, drop, slice_range};
 ghost use Rattle.dtx_ops.specs.declared.fields.Ops.{Ops};
-ghost use Rattle.dtx_exciter.specs.Order.{counted};
-ghost use Rattle.dtx_exciter.specs.Packets.{said, under, told};
+ghost use Rattle.dtx_exciter.specs.Order.{counting_order};
+ghost use Rattle.dtx_exciter.specs.Packets.{readings, under, last_answer};
 ghost use Rattle.dtx_exciter.specs.Told.{is_sent};
-ghost use Rattle.dtx_exciter.specs.Emission.{was_sent, given, emission};
+ghost use Rattle.dtx_exciter.specs.Emission.{was_sent, last_segments, emission};
 ghost use Rattle.dtx_exciter.specs.Lockstep.{IsFeed, IsStretch, stretch};
 ghost use Rattle.dtx_exciter.specs.Log.{preset, life_lines, log, restarted_lines, restarting_lines, emission_over};
-ghost use Rattle.dtx_exciter.specs.Stretch.{emission_behind, lines_behind, sync_behind, before_stretch, moment_at};
+ghost use Rattle.dtx_exciter.specs.Stretch.{emission_behind, lines_behind, sync_behind, before_stretch, order_moment};
 ghost use Rattle.dtx_exciter.specs.Stretch.{preset_line, orders_in, stretch_lines, AreApart};
 
 // ---- one life
@@ -37,7 +37,7 @@ pub fn counts()
     ensures before { (address delay : ℕ) (feed earlier : List (List ℕ)) (mark k : ℕ)
         → length (before_stretch address delay earlier feed mark k)
         ≡ length (emission address delay (earlier ++ slice_range feed mark (k + 3))) + length
-        (sync_behind (given address delay (earlier ++ slice_range feed mark k)) k) }
+        (sync_behind (last_segments address delay (earlier ++ slice_range feed mark k)) k) }
     ensures sync { (segments : List (List ℤ)) (k : ℕ) → length (sync_behind segments k) ≤ 1 }
 {}
 
@@ -61,10 +61,10 @@ pub fn lines()
 /// The first line of a stretch is that of its first group, and speaks of the stretch's first segment.
 pub fn first_line()
     ensures { (address s : ℕ) (feed : List (List ℕ)) (end k : ℕ) (ops : Ops) → k + 4 ≤ end
-        → counted (said feed) k ≡ Some ops
+        → counting_order (readings feed) k ≡ Some ops
         → stretch_lines address s feed k end
-        ≡ preset s ops.frame (k % 624) (moment_at address (record { place = k; ops = ops })).tick
-        (moment_at address (record { place = k; ops = ops })).grain
+        ≡ preset s ops.frame (k % 624) (order_moment address (record { place = k; ops = ops })).tick
+        (order_moment address (record { place = k; ops = ops })).grain
         ∷ map (preset_line address s k) (orders_in feed (k + 1) end) }
 {}
 
@@ -72,13 +72,13 @@ pub fn first_line()
 /// one more where a field begins with the group and the group before it was sent too.
 pub fn sent_packets_give()
     ensures none { (address delay : ℕ) (packets : List (List ℕ)) (packet : List ℕ)
-        → is_sent (told address delay (packets ++ packet ∷ [])) ≡ false
-        → given address delay (packets ++ packet ∷ []) ≡ [] }
+        → is_sent (last_answer address delay (packets ++ packet ∷ [])) ≡ false
+        → last_segments address delay (packets ++ packet ∷ []) ≡ [] }
     ensures some { (address delay : ℕ) (packets : List (List ℕ)) (packet : List ℕ)
-        → is_sent (told address delay (packets ++ packet ∷ [])) ≡ true
+        → is_sent (last_answer address delay (packets ++ packet ∷ [])) ≡ true
         → (l : List (List ℕ)) × (under (packets ++ packet ∷ []) ≡ Some l)
-        × (length (given address delay (packets ++ packet ∷ []))
-        ≡ (if was_sent address delay (said l) (length l - 4) && ((length l - 4) % 312 == 0) then 5 else 4)) }
+        × (length (last_segments address delay (packets ++ packet ∷ []))
+        ≡ (if was_sent address delay (readings l) (length l - 4) && ((length l - 4) % 312 == 0) then 5 else 4)) }
 {}
 
 /// What packets give stands whatever is given then, and the further packets' segments follow it one packet after

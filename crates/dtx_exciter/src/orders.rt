@@ -5,10 +5,10 @@ ghost use Rattle.dtx_exciter.specs.Order.{ordered};
 ghost use Rattle.dtx_exciter.specs.Packets.{reads};
 ghost use Rattle.dtx_exciter.specs.Step.{bytes_of, order_in};
 
-use dtx_coder::GROUP_PACKETS;
 use dtx_correct::Linear;
 use dtx_ops::{Ops, read};
 use dtx_packets::Packet;
+use dtx_sizes::GROUP_PACKETS;
 
 /// The corrector of operations packets.
 pub(crate) type Corrector = Linear<184, 164>;

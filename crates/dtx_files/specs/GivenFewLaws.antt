@@ -5,9 +5,10 @@ use Rattle.std.specs.Prelude.{◌==◌, Option, Some, None, is_ok}
 use Rattle.std.proofs.lemmas.List.FromFn.{length-map-range_with_len}
 use Rattle.dtx_coder.specs.Along.{levels_since}
 use Rattle.dtx_coder.specs.Stream.{segment, four_segments}
-use Rattle.dtx_exciter.specs.Emission.{segments_since, sent_by, sent_at, sent_before, with_sync, given_under, given}
+use Rattle.dtx_exciter.specs.Emission.{segments_since, sent_by, sent_at, sent_before, behind_field_sync, given_under}
+use Rattle.dtx_exciter.specs.Emission.{last_segments}
 use Rattle.dtx_exciter.specs.Order.{Order, in_force}
-use Rattle.dtx_exciter.specs.Packets.{under, said}
+use Rattle.dtx_exciter.specs.Packets.{under, readings}
 use Rattle.dtx_exciter.specs.Told.{served}
 
 four : (a d : ℕ) (l : List (List ℕ)) (i : ℕ) (o : Option Order) → length (sent_by a d l i o) ≤ 4
@@ -28,7 +29,7 @@ one_more : (b : Bool) (s : List ℤ) (ss : List (List ℤ)) → length (cond b (
 one_more true s ss = omega arith
 one_more false s ss = omega arith
 
-synced : (i : ℕ) (before ss : List (List ℤ)) → length (with_sync i before ss) ≤ length ss + 1
+synced : (i : ℕ) (before ss : List (List ℤ)) → length (behind_field_sync i before ss) ≤ length ss + 1
 synced i before [] = omega arith
 synced i [] (s ∷ ss) = omega arith
 synced i (b ∷ bs) (s ∷ ss) = one_more (i % 312 == 0) _ (s ∷ ss)
@@ -41,11 +42,16 @@ five_under a d (Some l) = by_whole (length l % 4 == 0)
     i : ℕ
     i = length l - 4
 
-    by_whole : (b : Bool) → length (cond b (with_sync i (sent_before a d l i) (sent_at a d l i)) []) ≤ 5
-    by_whole true = omega (arith, synced i (sent_before a d l i) (sent_at a d l i), four a d l i (in_force (said l) i))
+    by_whole : (b : Bool) → length (cond b (behind_field_sync i (sent_before a d l i) (sent_at a d l i)) []) ≤ 5
+    by_whole true = omega (
+      arith,
+      synced i (sent_before a d l i) (sent_at a d l i),
+      four a d l i (in_force
+          (readings l) i),
+    )
     by_whole false = omega arith
 
 -- a packet gives at most five segments
-pub given_few : (a d : ℕ) (l : List (List ℕ)) → length (given a d l) ≤ 5
-unfolding given
+pub given_few : (a d : ℕ) (l : List (List ℕ)) → length (last_segments a d l) ≤ 5
+unfolding last_segments
 given_few a d l = five_under a d (under l)

@@ -3,7 +3,7 @@ ghost use Rattle.std.specs.Prelude.{◌≡◌, ◌*◌, ◌≤◌, map, take};
 ghost use Rattle.dtx_files.specs.Symbols.{byte_of_symbol};
 
 use dtx_coder::{AIR_SYMBOLS, Air};
-use dtx_frame::SEGMENT;
+use dtx_sizes::SEGMENT;
 
 /// Sets the front of the bytes to the symbols of the segments that the air holds, and answers how many they are.
 pub fn bring(air: &Air, bytes: &mut [u8; AIR_SYMBOLS]) -> usize

@@ -4,8 +4,7 @@ ghost use Rattle.std.specs.Prelude.{◌≡◌, ◌<◌, EachIndex, slice_index};
 ghost use Rattle.dtx_frame.specs.Segments.{data_segment};
 
 use crate::tables::IN_FRONT;
-use dtx_slice::{SEGMENT, SEGMENT_SYNC};
-use dtx_trellis::SEGMENT_LEVELS;
+use dtx_sizes::{SEGMENT, SEGMENT_LEVELS, SEGMENT_SYNC};
 
 /// Writes the segment of these levels: its sync, and each level as twice the level less 7 (ATSC A/53 Part 2, data
 /// segment sync).

@@ -4,7 +4,8 @@ ghost use Rattle.std.specs.Prelude.{◌≡◌, ◌<◌, ◌≤◌};
 ghost use Rattle.dtx_frame.specs.Detection.{differs, differing, looks_like, opposite, opposites, looks_second};
 
 use crate::tables::FIRST;
-use dtx_slice::{SEGMENT, level};
+use dtx_sizes::SEGMENT;
+use dtx_slice::level;
 
 /// How many symbols the segment sync and the long sequence have.
 const KNOWN: usize = 515;

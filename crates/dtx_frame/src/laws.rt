@@ -9,8 +9,7 @@ ghost use Rattle.dtx_frame.specs.Sequences.{pn63, pn511};
 ghost use Rattle.dtx_frame.specs.Segments.{data_segment, field_sync, symbol_of};
 ghost use Rattle.dtx_frame.specs.Detection.{differing, looks_like, looks_second};
 
-use dtx_slice::LAST;
-use dtx_trellis::{GROUP_BYTES, SEGMENT_LEVELS};
+use dtx_sizes::{GROUP_BYTES, PRECODE, SEGMENT_LEVELS};
 
 /// An undamaged data segment, segment n of whole groups from any states, differs from a field sync in at least 64 of
 /// its first 515 symbols, and so it doesn't look like one.
@@ -36,7 +35,7 @@ pub fn undamaged()
     ensures data { (levels : List ℕ) → EachIndex levels (λ d. slice_index levels d < 8)
         → sliced_data (data_segment levels) ≡ levels }
     ensures end { (levels : List ℕ) → EachIndex levels (λ d. slice_index levels d < 8)
-        → sliced_last (data_segment levels) ≡ drop (SEGMENT_LEVELS - LAST) levels }
+        → sliced_last (data_segment levels) ≡ drop (SEGMENT_LEVELS - PRECODE) levels }
     ensures last { (second : Bool) (last : List ℤ) → sliced_last (field_sync second last) ≡ map sliced last }
 {}
 

@@ -9,7 +9,6 @@ mod tables;
 
 pub use data::data_segment;
 pub use detection::{is_second, looks};
-pub use dtx_slice::{LAST, SEGMENT, SEGMENT_SYNC};
 pub use sync::field_sync;
 
 #[cfg(test)]

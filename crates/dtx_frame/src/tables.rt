@@ -1,6 +1,6 @@
 //! The symbols of a segment sync, and those of both field syncs up to the last twelve.
 
-use dtx_slice::SEGMENT_SYNC;
+use dtx_sizes::SEGMENT_SYNC;
 
 /// Those of a segment sync.
 pub(crate) static IN_FRONT: [i8; SEGMENT_SYNC] = [5, -5, -5, 5];

@@ -2,8 +2,8 @@
 
 ghost use Rattle.std.specs.Prelude.{◌+◌, ◌≤◌};
 
-use crate::{LAST, SEGMENT, data_segment, field_sync, is_second, looks};
-use dtx_trellis::SEGMENT_LEVELS;
+use crate::{data_segment, field_sync, is_second, looks};
+use dtx_sizes::{PRECODE, SEGMENT, SEGMENT_LEVELS};
 
 /// Whether the symbols from place `at` on are these bits.
 fn has_bits(symbols: &[i8; SEGMENT], at: usize, bits: &[u8]) -> bool {
@@ -28,7 +28,7 @@ fn a_field_sync_has_the_standards_sequences(rt: HostRuntime) {
 #[test]
 fn a_second_fields_middle_sequence_is_inverted(rt: HostRuntime) {
     let mut out = [0; SEGMENT];
-    field_sync(true, &[-7; LAST], &mut out);
+    field_sync(true, &[-7; PRECODE], &mut out);
     assert!(rt; has_bits(&out, 515, b"1110010010110111"));
     assert!(rt; has_bits(&out, 578, b"0001101101001000"));
     assert!(rt; has_bits(&out, 641, b"1110010010110111"));
@@ -50,7 +50,7 @@ fn with_wrong(from: usize, count: usize) -> [i8; SEGMENT]
     requires { from + count ≤ SEGMENT }
 {
     let mut out = [0; SEGMENT];
-    field_sync(false, &[-7; LAST], &mut out);
+    field_sync(false, &[-7; PRECODE], &mut out);
     for i in 0..count {
         out[from + i] = if out[from + i] < 0 { 127 } else { -128 };
     }

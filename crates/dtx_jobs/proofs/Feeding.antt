@@ -8,7 +8,7 @@ use Rattle.dtx_adapter.specs.FeedsLaws.{placeholders-append}
 use Rattle.dtx_adapter.specs.Adapting.{StandsFor}
 use Rattle.dtx_adapter.specs.Feed.{is_placeholder, placeholders}
 use Rattle.dtx_engine.specs.Made.{Made, joined, only}
-use Rattle.dtx_engine.specs.Making.{Making, IsFed}
+use Rattle.dtx_engine.specs.Recipe.{Recipe, IsFed}
 use Rattle.dtx_packets.specs.PacketLaws.{packets_of-append, whole_packets-append}
 use Rattle.dtx_packets.specs.Packets.{packets_of, whole_packets}
 use Rattle.dtx_jobs.specs.Adapt.{feeding}
@@ -39,7 +39,7 @@ counted_of state given is = record {
 -- ---- what was fed
 
 -- a piece behind another
-pub fed_on : (m : Making) (given a b : List ℕ) (s t : List ℕ → Type 0) (x y : List ℕ) → IsFed m given a s (only x)
+pub fed_on : (m : Recipe) (given a b : List ℕ) (s t : List ℕ → Type 0) (x y : List ℕ) → IsFed m given a s (only x)
     → (s (given ++ a) → IsFed m (given ++ a) b t (only y)) → IsFed m given (a ++ b) t (only (x ++ y))
 fed_on m given a b s t x y first second =
     let next : IsFed m (given ++ a) b t (only y) = second first.stand in
@@ -54,7 +54,7 @@ fed_on m given a b s t x y first second =
     }
 
 -- nothing more
-pub fed_none : (m : Making) (given : List ℕ) (s : List ℕ → Type 0) → s given → IsFed m given [] s (only [])
+pub fed_none : (m : Recipe) (given : List ℕ) (s : List ℕ → Type 0) → s given → IsFed m given [] s (only [])
 fed_none m given s is = record {
   stand = subst s (sym (append-nil given)) is;
   made = ap m.made (append-nil given)
@@ -90,7 +90,7 @@ unfolding placeholders
 none_filled = refl
 
 -- a part behind those that were fed
-pub part_fed : (m : Making) (given old cur new : List ℕ) (done n : ℕ) (s t : List ℕ → Type 0) → done ≤ length cur
+pub part_fed : (m : Recipe) (given old cur new : List ℕ) (done n : ℕ) (s t : List ℕ → Type 0) → done ≤ length cur
     → length new ≡ n → drop done cur ≡ drop done old → IsFed m given (take done old) s (only (take done cur))
     → (s (given ++ take done old) → IsFed m (given ++ take done old) (take n (drop done cur)) t (only new))
     → IsFed m given (take (done + n) old) t (only (take (done + n) (put_mid done n cur new)))

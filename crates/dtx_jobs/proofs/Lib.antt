@@ -2,7 +2,7 @@ pub mod Apart
 pub mod BytesOf
 pub mod Feeding
 pub mod LifeOn
-pub mod Making
+pub mod Recipe
 pub mod PacketBytes
 pub mod PlacedBytes
 pub mod PlacedCounts

@@ -6,9 +6,9 @@ use Rattle.std.specs.List.{range_with_len, flat_map}
 use Rattle.std.proofs.lemmas.List.{length-append, length_push}
 use Rattle.std.proofs.lemmas.List.Sums.{sum_by-append}
 use Rattle.dtx_exciter.specs.EmittedLaws.{emission_push}
-use Rattle.dtx_exciter.specs.Emission.{given, emission}
+use Rattle.dtx_exciter.specs.Emission.{last_segments, emission}
 use Rattle.dtx_exciter.specs.Log.{Line, line_of, life_lines}
-use Rattle.dtx_exciter.specs.Packets.{told}
+use Rattle.dtx_exciter.specs.Packets.{last_answer}
 use Rattle.dtx_exciter.specs.declared.answers.Told.{Told}
 use Rattle.dtx_exciter.specs.declared.answers.Told.TheVariants.{Quiet, Sent, Muted}
 use Rattle.dtx_files.specs.GivenFewLaws.{given_few}
@@ -30,7 +30,8 @@ few_in_all f a (suc n) h =
 
 pub emission_few : (a d : ℕ) (l : List (List ℕ)) → length (emission a d l) ≤ 5 * length l
 unfolding emission
-emission_few a d l = few_in_all (λ n. given a d (take (n + 1) l)) 0 (length l) (λ n. given_few a d (take (n + 1) l))
+emission_few a d l = few_in_all (λ n. last_segments a d (take (n + 1) l)) 0 (length l) (λ n. given_few a d (take
+    (n + 1) l))
 
 presets_few : (n m : ℕ) (t : Told) → presets_in (line_of n m t) + mutes_in (line_of n m t) ≤ 1
 presets_few n m Quiet = omega arith
@@ -54,12 +55,12 @@ counted_in_all f a (suc n) h =
 pub lines_few : (a d : ℕ) (l : List (List ℕ))
     → presets_in (life_lines a d 0 l) + mutes_in (life_lines a d 0 l) ≤ length l
 unfolding life_lines
-lines_few a d l = counted_in_all (line_at a d l) 0 (length l) (λ i. presets_few _ _ (told a d (take (i + 1) l)))
+lines_few a d l = counted_in_all (line_at a d l) 0 (length l) (λ i. presets_few _ _ (last_answer a d (take (i + 1) l)))
 
 -- so there is room for what the next packet brings
 pub has_room : (a d : ℕ) (l : List (List ℕ)) (p : List ℕ) (tally : LifeTally) → tally ≡ life_tally a d l
     → tally.packets < 624000000
-    → HasRoom tally (length (given a d (l ++ p ∷ [])))
+    → HasRoom tally (length (last_segments a d (l ++ p ∷ [])))
 has_room a d l p tally is most =
     let packets = ap (λ (t : LifeTally). t.packets) is in
     let segments = ap (λ (t : LifeTally). t.segments) is in
@@ -79,14 +80,14 @@ same_tally a b c e a' b' c' e' p q r s = rw (p, q, r, s) refl
 
 -- the numbers with one packet more
 pub tally_push : (a d : ℕ) (l : List (List ℕ)) (p : List ℕ)
-    → tally_with (life_tally a d l) (length (given a d (l ++ p ∷ [])))
-    (line_of (length (emission a d l)) (length (given a d (l ++ p ∷ []))) (told a d (l ++ p ∷ [])))
+    → tally_with (life_tally a d l) (length (last_segments a d (l ++ p ∷ [])))
+    (line_of (length (emission a d l)) (length (last_segments a d (l ++ p ∷ []))) (last_answer a d (l ++ p ∷ [])))
     ≡ life_tally a d (l ++ p ∷ [])
 tally_push a d l p =
     let line : List Line =
-    line_of (length (emission a d l)) (length (given a d (l ++ p ∷ []))) (told a d (l ++ p ∷ [])) in
+    line_of (length (emission a d l)) (length (last_segments a d (l ++ p ∷ []))) (last_answer a d (l ++ p ∷ [])) in
     same_tally _ _ _ _ _ _ _ _
     (sym (length_push l p))
-    (sym (ap length (emission_push a d l p) ∙ length-append (emission a d l) (given a d (l ++ p ∷ []))))
+    (sym (ap length (emission_push a d l p) ∙ length-append (emission a d l) (last_segments a d (l ++ p ∷ []))))
     (sym (ap presets_in (lines_push a d l p) ∙ sum_by-append one_preset (life_lines a d 0 l) line))
     (sym (ap mutes_in (lines_push a d l p) ∙ sum_by-append one_mute (life_lines a d 0 l) line))

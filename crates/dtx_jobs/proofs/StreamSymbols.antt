@@ -9,7 +9,7 @@ use Rattle.std.proofs.Math.Seq.{take-add}
 use Rattle.std.proofs.lemmas.List.{map-append, take_at, drop_at, take_all, length-append}
 use Rattle.std.proofs.lemmas.List.FromFn.{length-map-range_with_len}
 use Rattle.dtx_coder.specs.NextLaws.{next_segments, next_stands}
-use Rattle.dtx_coder.specs.Groups.{Coding, Group, StandsFor, IsNextGroup, IsCoded, segments_of, group_levels}
+use Rattle.dtx_coder.specs.Groups.{Coding, Group, StandsFor, IsNextGroup, IsCoded, air_segments, group_levels}
 use Rattle.dtx_coder.specs.Stream.{a53, symbols_of, a53_symbols, segment, four_segments}
 use Rattle.dtx_files.specs.Symbols.{byte_of_symbol}
 use Rattle.dtx_frame.specs.Segments.{field_sync}
@@ -52,8 +52,8 @@ pub group_brings : (coder new : Coding) (packets : List (List ℕ)) (group : Gro
 unfolding a53_symbols
 group_brings coder new packets group count sent stands next is =
     ap (λ ss. map byte_of_symbol (symbols_of ss)) (next_segments coder packets group stands next)
-    ∙ ap (map byte_of_symbol) (flat_map-append (λ (s : List ℤ). s) (a53 packets) (segments_of coder group))
-    ∙ map-append byte_of_symbol (symbols_of (a53 packets)) (symbols_of (segments_of coder group))
+    ∙ ap (map byte_of_symbol) (flat_map-append (λ (s : List ℤ). s) (a53 packets) (air_segments coder group))
+    ∙ map-append byte_of_symbol (symbols_of (a53 packets)) (symbols_of (air_segments coder group))
     ∙ ap (λ z. map byte_of_symbol (symbols_of (a53 packets)) ++ z) (ap (map byte_of_symbol) (sym is.symbols))
 
 few : (sync : Bool) (first : List ℤ) (rest : List (List ℤ)) → length rest ≡ 4
@@ -62,8 +62,8 @@ few true first rest four = omega (arith, four)
 few false first rest four = omega (arith, four)
 
 -- a group has at most five segments
-few_segments : (coder : Coding) (group : Group) → length (segments_of coder group) ≤ 5
-unfolding segments_of four_segments
+few_segments : (coder : Coding) (group : Group) → length (air_segments coder group) ≤ 5
+unfolding air_segments four_segments
 few_segments coder group =
     few group.sync (field_sync group.second coder.last) (map (segment (group_levels coder group)) (range_with_len 0 4))
     (length-map-range_with_len (segment (group_levels coder group)) 0 4)

@@ -4,7 +4,7 @@ use Rattle.std.specs.Prelude.{ℤ, if◌then◌else◌}
 use Rattle.std.proofs.lemmas.List.{length-append}
 use Rattle.std.proofs.lemmas.List.Sums.{sum_by-append}
 use Rattle.dtx_receiver.specs.CountingLaws.{nothing_given, no_segments, runs_more}
-use Rattle.dtx_receiver.specs.Packets.{all_packets, given}
+use Rattle.dtx_receiver.specs.Packets.{all_packets, packets_so_far}
 use Rattle.dtx_receiver.specs.Runs.{runs, begun, tracking}
 use Rattle.dtx_receiver.specs.declared.batch.Received.{Received}
 use Rattle.dtx_jobs.specs.Tally.{fixed_in, flagged_in, tally_of, tally_with}
@@ -12,7 +12,7 @@ use Rattle.dtx_jobs.specs.declared.tally.Tally.{Tally}
 
 -- before the first segment
 pub tally_none : (tally : Tally) → tally ≡ record { segments = 0; runs = 0; packets = 0; fixed = 0; flagged = 0 }
-    → tally ≡ tally_of [] (given [])
+    → tally ≡ tally_of [] (packets_so_far [])
 tally_none tally is = rw (nothing_given, no_segments) is
 
 same_tally : (a b c d e a' b' c' d' e' : ℕ) → a ≡ a' → b ≡ b' → c ≡ c' → d ≡ d' → e ≡ e'
@@ -28,26 +28,26 @@ flagged_in-append a b = sum_by-append (λ (p : Received). if p.good then 0 else 
 
 -- with one segment more and the packets that it brought
 pub tally_on : (segments : List (List ℤ)) (x : List ℤ) (brought : List Received)
-    → given (segments ++ x ∷ []) ≡ given segments ++ brought
-    → tally_with (record (tally_of segments (given segments)) {
+    → packets_so_far (segments ++ x ∷ []) ≡ packets_so_far segments ++ brought
+    → tally_with (record (tally_of segments (packets_so_far segments)) {
       segments = length segments + 1;
       runs = length (runs segments) + begun (tracking segments x);
     }) brought
-    ≡ tally_of (segments ++ x ∷ []) (given (segments ++ x ∷ []))
+    ≡ tally_of (segments ++ x ∷ []) (packets_so_far (segments ++ x ∷ []))
 tally_on segments x brought more = same_tally _ _ _ _ _ _ _ _ _ _
     (sym (length-append segments (x ∷ [])))
     (sym (runs_more segments x))
-    (sym (ap length more ∙ length-append (given segments) brought))
-    (sym (ap fixed_in more ∙ fixed_in-append (given segments) brought))
-    (sym (ap flagged_in more ∙ flagged_in-append (given segments) brought))
+    (sym (ap length more ∙ length-append (packets_so_far segments) brought))
+    (sym (ap fixed_in more ∙ fixed_in-append (packets_so_far segments) brought))
+    (sym (ap flagged_in more ∙ flagged_in-append (packets_so_far segments) brought))
 
 -- with the packets that the end brought
 pub tally_ended : (segments : List (List ℤ)) (brought : List Received)
-    → all_packets segments ≡ given segments ++ brought
-    → tally_with (tally_of segments (given segments)) brought ≡ tally_of segments (all_packets segments)
+    → all_packets segments ≡ packets_so_far segments ++ brought
+    → tally_with (tally_of segments (packets_so_far segments)) brought ≡ tally_of segments (all_packets segments)
 tally_ended segments brought more = same_tally _ _ _ _ _ _ _ _ _ _
     refl
     refl
-    (sym (ap length more ∙ length-append (given segments) brought))
-    (sym (ap fixed_in more ∙ fixed_in-append (given segments) brought))
-    (sym (ap flagged_in more ∙ flagged_in-append (given segments) brought))
+    (sym (ap length more ∙ length-append (packets_so_far segments) brought))
+    (sym (ap fixed_in more ∙ fixed_in-append (packets_so_far segments) brought))
+    (sym (ap flagged_in more ∙ flagged_in-append (packets_so_far segments) brought))

@@ -7,7 +7,7 @@ use Rattle.dtx_meaning.specs.declared.status.Outcome.{Outcome}
 use Rattle.dtx_meaning.specs.declared.status.Status.TheVariants.{Done, Usage, Same}
 use Rattle.dtx_adapter.specs.Feed.{placeholders}
 use Rattle.dtx_engine.specs.Made.{only}
-use Rattle.dtx_engine.specs.Making.{Making, meaning}
+use Rattle.dtx_engine.specs.Recipe.{Recipe, meaning}
 use Rattle.dtx_packets.specs.Packet.{sync_of}
 use Rattle.dtx_packets.specs.Packets.{packets_of, whole_packets}
 use Rattle.dtx_plan.specs.declared.plan.Plan.{Plan}
@@ -25,7 +25,7 @@ fed_outcome stream loose = record {
 }
 
 -- Packets that begin with the sync byte 0x47 (ISO/IEC 13818-1, 2.4.3.2) are made those of the feed under a plan.
-abbrev pub feeding : Plan → Making
+abbrev pub feeding : Plan → Recipe
 feeding plan = record {
   allows = λ k packet. sync_of packet == 0x47;
   made = λ stream. only (feed_bytes plan (packets_of stream));

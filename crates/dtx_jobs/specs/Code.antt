@@ -2,7 +2,7 @@
 use Rattle.std.specs.Prelude.{ℕ, ◌==◌, ◌||◌, Bool, List, [], ◌∷◌, length}
 use Rattle.dtx_coder.specs.Stream.{a53}
 use Rattle.dtx_engine.specs.Made.{only}
-use Rattle.dtx_engine.specs.Making.{Making, transformed}
+use Rattle.dtx_engine.specs.Recipe.{Recipe, transformed}
 use Rattle.dtx_meaning.specs.Meaning.{Meaning, refused}
 use Rattle.dtx_meaning.specs.declared.status.Outcome.{Outcome}
 use Rattle.dtx_meaning.specs.declared.status.Status.TheVariants.{Done, Usage}
@@ -25,7 +25,7 @@ code_answer bytes loose = record {
 }
 
 -- what is made of packets
-abbrev pub coding : Making
+abbrev pub coding : Recipe
 coding = record {
   allows = λ _ packet. may_be_coded packet;
   made = λ bytes. only (symbol_bytes (packets_of bytes));

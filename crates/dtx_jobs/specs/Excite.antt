@@ -2,7 +2,7 @@
 use Rattle.std.specs.Prelude.{ℕ, true, if◌then◌else◌, is_some, List, [], ◌∷◌, Option, Some, None}
 use Rattle.std.specs.FinMap.{get}
 use Rattle.dtx_engine.specs.Made.{Made, only}
-use Rattle.dtx_engine.specs.Making.{Making, meaning}
+use Rattle.dtx_engine.specs.Recipe.{Recipe, meaning}
 use Rattle.dtx_meaning.specs.Meaning.{Meaning, refused}
 use Rattle.dtx_meaning.specs.declared.status.Outcome.{Outcome}
 use Rattle.dtx_meaning.specs.declared.status.Status.TheVariants.{Done, Same, Usage}
@@ -26,7 +26,7 @@ excite_answer address delay packets loose =
     record { status = Done; numbers = life_numbers (life_tally address delay packets) loose; shown = 5 }
 
 -- what is made of the packets of a feed, which are of any bytes
-abbrev pub exciting : ℕ → ℕ → Making
+abbrev pub exciting : ℕ → ℕ → Recipe
 exciting address delay = record {
   allows = λ _ _. true;
   made = λ bytes. excited address delay (packets_of bytes);

@@ -5,13 +5,13 @@ use Rattle.std.specs.List.{range_with_len, flat_map}
 use Rattle.std.proofs.lemmas.Grind.{flat_map-append}
 use Rattle.std.proofs.lemmas.List.{append-nil, length_push, take-append-le, take_all}
 use Rattle.dtx_lists.proofs.Range.{range_with_len-parts}
-use Rattle.dtx_coder.specs.RangeMovedLaws.{flat_map-range_same}
+use Rattle.dtx_lists.proofs.RangeMoved.{flat_map-range_same}
 use Rattle.dtx_coder.specs.Stream.{symbols_of}
 use Rattle.dtx_engine.specs.Made.{only, AreFrontsOf}
 use Rattle.dtx_exciter.specs.EmittedLaws.{emission_push, emission_more}
-use Rattle.dtx_exciter.specs.Emission.{given, emission}
+use Rattle.dtx_exciter.specs.Emission.{last_segments, emission}
 use Rattle.dtx_exciter.specs.Log.{Line, line_of, life_lines}
-use Rattle.dtx_exciter.specs.Packets.{told}
+use Rattle.dtx_exciter.specs.Packets.{last_answer}
 use Rattle.dtx_exciter.specs.Stretch.{emission_behind}
 use Rattle.dtx_files.specs.AppendedLaws.{segment_bytes-append, log_text-append}
 use Rattle.dtx_files.specs.LogText.{log_text}
@@ -25,20 +25,20 @@ use Rattle.dtx_jobs.specs.Life.{sent_bytes, logged_bytes}
 
 -- the line that the last of these packets brings
 abbrev pub line_at : ℕ → ℕ → List (List ℕ) → ℕ → List Line
-line_at a d l i = line_of (0 + length (emission a d (take i l))) (length (given a d (take (i + 1) l)))
-    (told a d (take (i + 1) l))
+line_at a d l i = line_of (0 + length (emission a d (take i l))) (length (last_segments a d (take (i + 1) l)))
+    (last_answer a d (take (i + 1) l))
 
 front_same : (a d : ℕ) (l r : List (List ℕ)) (n : ℕ) → n ≤ length l
     → flat_map (line_at a d (l ++ r)) (range_with_len 0 n) ≡ flat_map (line_at a d l) (range_with_len 0 n)
 front_same a d l r n h =
     flat_map-range_same (line_at a d (l ++ r)) (line_at a d l) 0 n
-    (λ i x y. ap₂ (λ s t. line_of (0 + length (emission a d s)) (length (given a d t)) (told a d t))
+    (λ i x y. ap₂ (λ s t. line_of (0 + length (emission a d s)) (length (last_segments a d t)) (last_answer a d t))
     (take-append-le i l r (omega (arith, y, h))) (take-append-le (i + 1) l r (omega (arith, y, h))))
 
 pub lines_push : (a d : ℕ) (l : List (List ℕ)) (p : List ℕ)
     → life_lines a d 0 (l ++ p ∷ [])
-    ≡ life_lines a d 0 l ++ line_of (length (emission a d l)) (length (given a d (l ++ p ∷ [])))
-    (told a d (l ++ p ∷ []))
+    ≡ life_lines a d 0 l ++ line_of (length (emission a d l)) (length (last_segments a d (l ++ p ∷ [])))
+    (last_answer a d (l ++ p ∷ []))
 unfolding life_lines
 lines_push a d l p =
     let f : ℕ → List Line = line_at a d (l ++ p ∷ []) in
@@ -51,21 +51,22 @@ lines_push a d l p =
     ∙ flat_map-append f (range_with_len 0 (length l)) (range_with_len (0 + length l) 1)
     ∙ ap₂ ◌++◌ (front_same a d l (p ∷ []) (length l) (omega arith))
     (append-nil (f (0 + length l))
-    ∙ ap₂ (λ s t. line_of (0 + length (emission a d s)) (length (given a d t)) (told a d t)) same all
-    ∙ ap (λ n. line_of n (length (given a d (l ++ p ∷ []))) (told a d (l ++ p ∷ [])))
+    ∙ ap₂ (λ s t. line_of (0 + length (emission a d s)) (length (last_segments a d t)) (last_answer a d t)) same all
+    ∙ ap (λ n. line_of n (length (last_segments a d (l ++ p ∷ []))) (last_answer a d (l ++ p ∷ [])))
     (zero-add (length (emission a d l))))
 
 pub logged_push : (a d : ℕ) (l : List (List ℕ)) (p : List ℕ)
     → logged_bytes a d (l ++ p ∷ [])
     ≡ logged_bytes a d l ++ log_text
-    (line_of (length (emission a d l)) (length (given a d (l ++ p ∷ []))) (told a d (l ++ p ∷ [])))
+    (line_of (length (emission a d l)) (length (last_segments a d (l ++ p ∷ []))) (last_answer a d (l ++ p ∷ [])))
 logged_push a d l p = ap log_text (lines_push a d l p) ∙ log_text-append (life_lines a d 0 l) _
 
 pub sent_push : (a d : ℕ) (l : List (List ℕ)) (p : List ℕ)
-    → sent_bytes a d (l ++ p ∷ []) ≡ sent_bytes a d l ++ map byte_of_symbol (symbols_of (given a d (l ++ p ∷ [])))
+    → sent_bytes a d (l ++ p ∷ []) ≡ sent_bytes a d l ++ map byte_of_symbol (symbols_of (last_segments a d (l
+    ++ p ∷ [])))
 sent_push a d l p =
     ap (λ ss. map byte_of_symbol (symbols_of ss)) (emission_push a d l p)
-    ∙ segment_bytes-append (emission a d l) (given a d (l ++ p ∷ []))
+    ∙ segment_bytes-append (emission a d l) (last_segments a d (l ++ p ∷ []))
 
 -- ---- any packets further
 
@@ -83,7 +84,8 @@ logged_more a d l [] = ([], ap (logged_bytes a d) (append-nil l) ∙ sym (append
 logged_more a d l (p ∷ r) =
     let rest = logged_more a d (l ++ p ∷ []) r in
     let one : List ℕ =
-    log_text (line_of (length (emission a d l)) (length (given a d (l ++ p ∷ []))) (told a d (l ++ p ∷ []))) in (
+    log_text (line_of (length (emission a d l)) (length (last_segments a d (l ++ p ∷ []))) (last_answer a d (l
+    ++ p ∷ []))) in (
       one ++ rest.0,
       ap (logged_bytes a d) (sym (append_assoc l (p ∷ []) r)) ∙ rest.1 ∙ ap (λ z. z ++ rest.0) (logged_push a d l p)
           ∙ append_assoc (logged_bytes a d l) one rest.0,

@@ -13,7 +13,7 @@ use Rattle.dtx_ops.specs.EntriesLaws.{length-entries}
 use Rattle.dtx_packets.specs.Packets.{packets_of, whole_packets}
 use Rattle.dtx_plan.specs.Sound.{IsSound}
 use Rattle.dtx_plan.specs.declared.plan.Plan.{Plan}
-use Rattle.dtx_adapter.specs.Feed.{entry_of, is_placeholder, ops_at, counter_at, made, fed_packet, feed}
+use Rattle.dtx_adapter.specs.Feed.{entry_of, is_placeholder, ops_at, counter_at, as_feed_packet, fed_packet, feed}
 use Rattle.dtx_adapter.specs.FeedsLaws.{length-feed, feed_packet}
 use Rattle.dtx_jobs.specs.Feed.{feed_bytes}
 use Rattle.dtx_jobs.specs.PacketFileLaws.{IsLong, packets_of-bytes, whole_packets-bytes}
@@ -43,11 +43,11 @@ unfolding spelling
 long-spelling f counter sync few = omega (arith, codeword_length 184 164 (data_of f), length-data_of f few)
 
 long-made : (ops : Ops) (counter k : ℕ) (p : List ℕ) → length ops.offsets.items ≤ 35 → IsLong p
-    → IsLong (made ops counter k p)
-unfolding made
+    → IsLong (as_feed_packet ops counter k p)
+unfolding as_feed_packet
 long-made ops counter k p few long = by_cases (cases_Bool (is_placeholder p))
   where
-    by_cases : (is_placeholder p ≡ true) ⊎ (is_placeholder p ≡ false) → IsLong (made ops counter k p)
+    by_cases : (is_placeholder p ≡ true) ⊎ (is_placeholder p ≡ false) → IsLong (as_feed_packet ops counter k p)
     by_cases (inl t) =
         subst IsLong (sym (cond-true (is_placeholder p) (spelling ops counter (sync_at k)) (marked k p) t))
         (long-spelling ops counter (sync_at k) few)

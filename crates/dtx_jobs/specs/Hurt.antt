@@ -6,11 +6,11 @@ use Rattle.dtx_meaning.specs.Meaning.{Meaning, refused}
 use Rattle.dtx_meaning.specs.Status.{ended}
 use Rattle.dtx_meaning.specs.declared.status.Outcome.{Outcome}
 use Rattle.dtx_meaning.specs.declared.status.Status.TheVariants.{Done, OutOfAir, Same, Usage}
-use Rattle.dtx_make.specs.Hurt.{hurt, damaged}
+use Rattle.dtx_make.specs.Hurt.{hurt, damaged_places}
 use Rattle.dtx_plan.specs.Sound.{AreDamages}
 use Rattle.dtx_plan.specs.declared.damage.Damage.{Damage}
 use Rattle.dtx_engine.specs.Made.{only}
-use Rattle.dtx_engine.specs.Making.{Making, meaning}
+use Rattle.dtx_engine.specs.Recipe.{Recipe, meaning}
 use Rattle.dtx_words.specs.Names.{repeated}
 use Rattle.dtx_jobs.specs.PastEnd.{first_past}
 use Rattle.dtx_jobs.specs.PlanFile.{under_changes}
@@ -22,13 +22,13 @@ use Rattle.dtx_jobs.specs.declared.laying.Laying.{Laying}
 abbrev pub hurt_end : List Damage → ℕ → Option ℕ → Outcome
 hurt_end damage bytes (Some entry) = ended (OutOfAir entry)
 hurt_end damage bytes None =
-    record { status = Done; numbers = bytes ∷ damaged damage bytes ∷ 0 ∷ 0 ∷ 0 ∷ 0 ∷ []; shown = 2 }
+    record { status = Done; numbers = bytes ∷ damaged_places damage bytes ∷ 0 ∷ 0 ∷ 0 ∷ 0 ∷ []; shown = 2 }
 
 abbrev pub hurt_outcome : List Damage → ℕ → Outcome
 hurt_outcome damage bytes = hurt_end damage bytes (first_past damage bytes)
 
 -- Each byte that an entry covers becomes that entry's `put`. Where an entry ends behind the file, all of it is written.
-abbrev pub hurting : List Damage → Making
+abbrev pub hurting : List Damage → Recipe
 hurting damage = record {
   allows = λ k byte. true;
   made = λ file. only (hurt damage file);

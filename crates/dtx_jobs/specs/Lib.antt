@@ -9,7 +9,6 @@ pub mod ExciteLaws
 pub mod Feed
 pub mod FeedFileLaws
 pub mod FeedLaws
-pub mod FirstOfLaws
 pub mod Hurt
 pub mod HurtLaws
 pub mod Life

@@ -5,7 +5,7 @@ use Rattle.std.specs.Prelude.{List, [], ◌∷◌, length, map, take, drop, slic
 use Rattle.std.specs.List.{list_any, range_with_len}
 use Rattle.dtx_adapter.specs.Feed.{is_placeholder}
 use Rattle.dtx_engine.specs.Each.{each_making}
-use Rattle.dtx_engine.specs.Making.{Making, transformed}
+use Rattle.dtx_engine.specs.Recipe.{Recipe, transformed}
 use Rattle.dtx_meaning.specs.Meaning.{Meaning, refused}
 use Rattle.dtx_meaning.specs.declared.status.Outcome.{Outcome}
 use Rattle.dtx_meaning.specs.declared.status.Status.TheVariants.{Done, Usage}
@@ -85,7 +85,7 @@ placed_behind given packet = placed_one (packets_of given) packet
 abbrev pub placing_answer : List ℕ → ℕ → Outcome
 placing_answer given loose = place_answer (packets_of given) loose
 
-abbrev pub placing : Making
+abbrev pub placing : Recipe
 placing = each_making single_packets begins placed_behind placing_answer
 
 -- with these words

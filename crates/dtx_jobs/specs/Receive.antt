@@ -2,17 +2,17 @@
 use Rattle.std.specs.Prelude.{ℕ, ℤ, ◌==◌, true, if◌then◌else◌, List, [], ◌∷◌, length, drop}
 use Rattle.std.specs.List.{flat_map}
 use Rattle.dtx_engine.specs.Made.{only}
-use Rattle.dtx_engine.specs.Making.{Making, transformed}
+use Rattle.dtx_engine.specs.Recipe.{Recipe, transformed}
 use Rattle.dtx_meaning.specs.Meaning.{Meaning, refused}
 use Rattle.dtx_meaning.specs.Status.{ended}
 use Rattle.dtx_meaning.specs.declared.status.Outcome.{Outcome}
 use Rattle.dtx_meaning.specs.declared.status.Status.TheVariants.{Done, NoSync, Usage}
 use Rattle.dtx_outside.specs.Shelf.{Files}
-use Rattle.dtx_receiver.specs.Packets.{all_packets, given, received}
+use Rattle.dtx_receiver.specs.Packets.{all_packets, packets_so_far, received}
 use Rattle.dtx_receiver.specs.Runs.{runs}
 use Rattle.dtx_receiver.specs.declared.batch.Received.{Received}
 use Rattle.dtx_jobs.specs.Shapes.{segments}
-use Rattle.dtx_jobs.specs.SymbolFile.{segments_of}
+use Rattle.dtx_jobs.specs.SymbolFile.{file_segments}
 use Rattle.dtx_jobs.specs.Tally.{numbers_in, tally_of}
 
 -- the bytes of packets, one behind the other
@@ -21,11 +21,11 @@ bytes_of packets = flat_map (λ p. p.packet.0) packets
 
 -- the packets of a symbol file, one behind the other
 abbrev pub received_bytes : List ℕ → List ℕ
-received_bytes file = flat_map (λ p. p) (received (segments_of file))
+received_bytes file = flat_map (λ p. p) (received (file_segments file))
 
 -- those that are given while its segments come
 abbrev pub given_bytes : List ℕ → List ℕ
-given_bytes file = bytes_of (given (segments_of file))
+given_bytes file = bytes_of (packets_so_far (file_segments file))
 
 -- and those that its end brings
 abbrev pub last_bytes : List ℕ → List ℕ
@@ -42,12 +42,12 @@ receive_answer list loose =
     else record { status = Done; numbers = received_numbers list loose; shown = 6 }
 
 -- what is made of symbols
-abbrev pub receiving : Making
+abbrev pub receiving : Recipe
 receiving = record {
   allows = λ _ _. true;
   made = λ bytes. only (given_bytes bytes);
   rest = λ bytes. only (last_bytes bytes);
-  answer = λ bytes loose. receive_answer (segments_of bytes) loose;
+  answer = λ bytes loose. receive_answer (file_segments bytes) loose;
 }
 
 -- what `receive IN OUT` means

@@ -25,5 +25,5 @@ abbrev pub segments_from : List ℕ → ℕ → ℕ → List (List ℤ)
 segments_from file first count = map (segment_at file) (range_with_len first count)
 
 -- the whole segments of a file
-abbrev pub segments_of : List ℕ → List (List ℤ)
-segments_of file = segments_from file 0 (whole_segments file)
+abbrev pub file_segments : List ℕ → List (List ℤ)
+file_segments file = segments_from file 0 (whole_segments file)

@@ -9,7 +9,7 @@ use Rattle.std.proofs.lemmas.List.FromFn.{map-range_with_len_more}
 use Rattle.std.proofs.Math.Seq.{take-append_seam, drop-append_seam}
 use Rattle.std.specs.List.{range_with_len}
 use Rattle.dtx_lists.proofs.Range.{range_with_len-parts}
-use Rattle.dtx_jobs.specs.SymbolFile.{symbols, segment_at, segments_from, segments_of, whole_segments}
+use Rattle.dtx_jobs.specs.SymbolFile.{symbols, segment_at, segments_from, file_segments, whole_segments}
 
 -- the segments of two pieces, one behind the other
 pub segments_from-append : (file : List ℕ) (first m n : ℕ)
@@ -41,12 +41,13 @@ segments_from-piece file first n =
     ∙ sym (segment_at-piece file first n k less)))
 
 -- how many segments bytes have
-pub length-segments_of : (file : List ℕ) → length (segments_of file) ≡ whole_segments file
+pub length-segments_of : (file : List ℕ) → length (file_segments file) ≡ whole_segments file
 length-segments_of file = length-map-range_with_len (segment_at file) 0 (whole_segments file)
 
 -- the segments of bytes behind whole segments
-pub segments_of-append : (a b : List ℕ) → length a % 832 ≡ 0 → segments_of (a ++ b) ≡ segments_of a ++ segments_of b
-segments_of-append a b whole =
+pub file_segments-append : (a b : List ℕ) → length a % 832 ≡ 0
+    → file_segments (a ++ b) ≡ file_segments a ++ file_segments b
+file_segments-append a b whole =
     let m = whole_segments a in
     let n = whole_segments b in
     let long : 832 * m ≡ length a = omega (arith, whole) in
@@ -54,18 +55,18 @@ segments_of-append a b whole =
     let front : take (832 * m) (a ++ b) ≡ a = ap (λ k. take k (a ++ b)) long ∙ take-append_seam a b in
     let behind : drop (832 * m) (a ++ b) ≡ b = ap (λ k. drop k (a ++ b)) long ∙ drop-append_seam a b in
     let place : 0 + m ≡ m = omega arith in
-    let first : segments_from (a ++ b) 0 m ≡ segments_of a =
+    let first : segments_from (a ++ b) 0 m ≡ file_segments a =
     sym (segments_from-piece (a ++ b) 0 m) ∙ ap (λ z. segments_from z 0 m) front in
     let more : n ≡ n = refl in
-    let second : segments_from (a ++ b) (0 + m) n ≡ segments_of b =
+    let second : segments_from (a ++ b) (0 + m) n ≡ file_segments b =
     ap (λ k. segments_from (a ++ b) k n) place ∙ sym (segments_from-piece (a ++ b) m n)
     ∙ ap (λ z. segments_from (take (832 * n) z) 0 n) behind ∙ segments_from-piece b 0 n in
     ap (segments_from (a ++ b) 0) both ∙ segments_from-append (a ++ b) 0 m n
-    ∙ ap (λ z. z ++ segments_from (a ++ b) (0 + m) n) first ∙ ap (λ z. segments_of a ++ z) second
+    ∙ ap (λ z. z ++ segments_from (a ++ b) (0 + m) n) first ∙ ap (λ z. file_segments a ++ z) second
 
 -- where all whole segments were read, the bytes behind them are in none
-pub segments_of-whole : (file : List ℕ) → segments_of (take (832 * whole_segments file) file) ≡ segments_of file
-segments_of-whole file =
+pub file_segments-whole : (file : List ℕ) → file_segments (take (832 * whole_segments file) file) ≡ file_segments file
+file_segments-whole file =
     let all : length (take (832 * whole_segments file) file) ≡ 832 * whole_segments file =
     length-take-le (832 * whole_segments file) file (omega arith) in
     let many : whole_segments (take (832 * whole_segments file) file) ≡ whole_segments file = omega (arith, all) in

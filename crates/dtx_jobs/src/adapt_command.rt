@@ -1,7 +1,7 @@
 // `adapt PLAN IN OUT`: the feed of a stream.
 ghost use Rattle.std.specs.Prelude.{◌≢◌, false, is_some, [], ◌∷◌, Some, IfSome};
 ghost use Rattle.std.specs.FinMap as files;
-ghost use Rattle.dtx_engine.specs.Making.{meaning};
+ghost use Rattle.dtx_engine.specs.Recipe.{meaning};
 ghost use Rattle.dtx_meaning.specs.Meaning.{IsCarriedOut};
 ghost use Rattle.dtx_meaning.specs.Status.{IsOfInput, IsOfInputs, blame_of};
 ghost use Rattle.dtx_outside.specs.Counts.{HasGone};

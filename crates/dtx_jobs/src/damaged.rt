@@ -1,7 +1,7 @@
 // Damage that is laid over an input as it is read.
 ghost use Rattle.std.specs.Prelude.{◌≡◌, []};
 ghost use Rattle.dtx_make.specs.Hurt.{AreInOrder};
-ghost use Rattle.dtx_jobs.specs.Damaged.{damaged};
+ghost use Rattle.dtx_jobs.specs.Damaged.{damaged_making};
 
 use dtx_engine::{Engine, Shape};
 use dtx_make::lay;
@@ -21,7 +21,7 @@ impl<'a, E: Engine> Damaged<'a, E> {
         requires in_order { AreInOrder damage.now }
         requires fresh { E.stands engine [] }
         ensures fresh { ⟦<Damaged<'a, E> as Engine>⟧.stands result [] }
-        ensures making { ⟦<Damaged<'a, E> as Engine>⟧.making result ≡ damaged damage.now (E.making engine) }
+        ensures recipe { ⟦<Damaged<'a, E> as Engine>⟧.recipe result ≡ damaged_making damage.now (E.recipe engine) }
     {
         Damaged { damage, engine }
     }
@@ -34,7 +34,7 @@ impl<E: Engine> Engine for Damaged<'_, E> {
 
     ghost shape = { E.shape };
 
-    ghost making = { λ s. damaged s.damage.now (E.making s.engine) };
+    ghost recipe = { λ s. damaged_making s.damage.now (E.recipe s.engine) };
 
     ghost stands = { λ s given. AreInOrder s.damage.now × E.stands s.engine (hurt s.damage.now given) };
 
@@ -66,7 +66,7 @@ impl<E: Engine> Engine for Damaged<'_, E> {
         self.engine.log()
     }
 
-    ghost starts = { λ s. hurt_starts s.damage.now (E.making s.engine) (E.starts s.engine) };
+    ghost starts = { λ s. hurt_starts s.damage.now (E.recipe s.engine) (E.starts s.engine) };
 
-    ghost grows = { λ s. hurt_grows s.damage.now (E.making s.engine) E.shape.unit (E.grows s.engine) };
+    ghost grows = { λ s. hurt_grows s.damage.now (E.recipe s.engine) E.shape.unit (E.grows s.engine) };
 }

@@ -12,9 +12,9 @@ use dtx_coder::{AIR_SYMBOLS, Air};
 use dtx_engine::{Buffer, Engine, Shape};
 use dtx_exciter::Exciter;
 use dtx_files::{LOG_LINE, write_line};
-use dtx_frame::SEGMENT;
 use dtx_meaning::{Outcome, Status};
-use dtx_packets::{MOST_PACKETS, PACKET, PIECE_PACKETS, Packet};
+use dtx_packets::{PIECE_PACKETS, Packet};
+use dtx_sizes::{MOST_PACKETS, PACKET, SEGMENT};
 use std::alloc::{AllocError, Global};
 
 /// How many symbols an exciter sends for the packets of a piece at most.
@@ -121,7 +121,7 @@ impl Engine for Excitation {
 
     ghost shape = { shapes.single_packets };
 
-    ghost making = { λ s. exciting s.address s.delay };
+    ghost recipe = { λ s. exciting s.address s.delay };
 
     ghost stands = { WasExcited };
 

@@ -1,7 +1,7 @@
 // `excite FEED ADDRESS DELAY OUT LOG`: what an exciter sends for a feed, and its log.
 ghost use Rattle.std.specs.Prelude.{◌≢◌, is_some, [], ◌∷◌, Some, IfSome};
 ghost use Rattle.std.specs.FinMap as held_at;
-ghost use Rattle.dtx_engine.specs.Making.{meaning};
+ghost use Rattle.dtx_engine.specs.Recipe.{meaning};
 ghost use Rattle.dtx_meaning.specs.Meaning.{IsCarriedOut};
 ghost use Rattle.dtx_meaning.specs.Status.{IsOfInput, IsOfInputs, blame_of};
 ghost use Rattle.dtx_outside.specs.Counts.{HasGone};

@@ -3,7 +3,7 @@ ghost use Rattle.std.specs.Prelude.{◌≡◌, ◌+◌, ◌*◌, ◌/◌, ◌%�
 ghost use Rattle.dtx_adapter.specs.Adapting.{StandsFor};
 ghost use Rattle.dtx_adapter.specs.Feed.{feed, placeholders};
 ghost use Rattle.dtx_engine.specs.Made.{only};
-ghost use Rattle.dtx_engine.specs.Making.{IsFed};
+ghost use Rattle.dtx_engine.specs.Recipe.{IsFed};
 ghost use Rattle.dtx_packets.specs.Packets.{packets_of, whole_packets};
 ghost use Rattle.dtx_plan.specs.Sound.{IsSound};
 ghost use Rattle.dtx_plan.specs.declared.plan.Plan.{Plan};
@@ -14,18 +14,15 @@ use crate::packet_bytes::{join, unjoin};
 use crate::shapes::packets;
 use dtx_adapter::Adapter;
 use dtx_adapter::laws::goes_on;
-use dtx_coder::GROUP_PACKETS;
 use dtx_engine::{Engine, Shape};
 use dtx_meaning::{Outcome, Status};
-use dtx_packets::{MOST_PACKETS, PACKET, Packet};
+use dtx_packets::Packet;
 use dtx_plan::Plan;
+use dtx_sizes::{GROUP_PACKETS, MOST_PACKETS, PACKET, SYNC};
 use std::alloc::{AllocError, Global};
 
 /// How many bytes a group of packets has.
 const GROUP: usize = GROUP_PACKETS * PACKET;
-
-/// The byte with which the packets of a stream begin (ISO/IEC 13818-1, 2.4.3.2).
-const SYNC: u8 = 0x47;
 
 /// Makes the packets of a stream those of its feed under a plan, in their place.
 #[derive(Drop)]
@@ -43,7 +40,7 @@ impl<'a> Feeder<'a> {
     pub fn new(alloc: Global, plan: &'a Plan) -> Result<Feeder<'a>, AllocError>
         requires { IsSound plan.now }
         ensures fresh { IfOk result (λ feeder. ⟦<Feeder<'a> as Engine>⟧.stands feeder []) }
-        ensures making { IfOk result (λ feeder. ⟦<Feeder<'a> as Engine>⟧.making feeder ≡ feeding plan.now) }
+        ensures recipe { IfOk result (λ feeder. ⟦<Feeder<'a> as Engine>⟧.recipe feeder ≡ feeding plan.now) }
     {
         Ok(Feeder {
             plan,
@@ -106,7 +103,7 @@ impl Engine for Feeder<'_> {
 
     ghost shape = { shapes.packets };
 
-    ghost making = { λ s. feeding s.plan.now };
+    ghost recipe = { λ s. feeding s.plan.now };
 
     ghost stands = { HasFed };
 

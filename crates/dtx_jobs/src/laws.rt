@@ -10,7 +10,7 @@ ghost use Rattle.dtx_plan.specs.Sound.{IsSound};
 ghost use Rattle.dtx_plan.specs.declared.plan.Plan.{Plan};
 ghost use Rattle.dtx_jobs.specs.Feed.{bytes_of_packets, feed_bytes};
 
-use dtx_packets::PACKET;
+use dtx_sizes::PACKET;
 
 /// The packets of a file have 188 bytes each, and are as many as it has whole ones.
 pub fn packets_of_files()

@@ -26,7 +26,7 @@ impl<'a> Laying<'a> {
     pub fn new(damage: &'a Damages) -> Laying<'a>
         requires { AreDamages damage.now }
         ensures fresh { ⟦<Laying<'a> as Engine>⟧.stands result [] }
-        ensures making { ⟦<Laying<'a> as Engine>⟧.making result ≡ hurting damage.now }
+        ensures recipe { ⟦<Laying<'a> as Engine>⟧.recipe result ≡ hurting damage.now }
     {
         counted_in_pieces();
         Laying {
@@ -45,7 +45,7 @@ impl Engine for Laying<'_> {
 
     ghost shape = { shapes.single_bytes };
 
-    ghost making = { λ s. hurting s.damage.now };
+    ghost recipe = { λ s. hurting s.damage.now };
 
     ghost stands = { HasLaid };
 

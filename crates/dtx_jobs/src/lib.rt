@@ -44,5 +44,5 @@ pub use past_end::first_past;
 pub use place_command::place;
 pub use plan_file::plan_in;
 pub use receive_command::receive;
-pub use reception::{MOST_SEGMENTS, Reception};
+pub use reception::Reception;
 pub use shapes::{PIECE_SEGMENTS, packets, segments, single_bytes, single_packets};

@@ -12,7 +12,7 @@ ghost use Rattle.dtx_jobs.specs.OfWords.{IsOfWords, make_same, numbers_same};
 use dtx_make::packet;
 use dtx_meaning::{Outcome, Status, ended};
 use dtx_outside::{Output, Shelf, Word, WriteNo};
-use dtx_packets::MOST_PACKETS;
+use dtx_sizes::MOST_PACKETS;
 use dtx_words::number_up_to;
 use std::alloc::Global;
 

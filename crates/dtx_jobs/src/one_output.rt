@@ -1,7 +1,7 @@
 // Carrying out a command of one output.
 ghost use Rattle.std.specs.Prelude.{◌≢◌, [], ◌∷◌, Some, IfSome};
 ghost use Rattle.std.specs.FinMap as files;
-ghost use Rattle.dtx_engine.specs.Making.{meaning};
+ghost use Rattle.dtx_engine.specs.Recipe.{meaning};
 ghost use Rattle.dtx_meaning.specs.Meaning.{IsCarriedOut};
 ghost use Rattle.dtx_meaning.specs.Status.{IsOfInput, blame_of};
 ghost use Rattle.dtx_outside.specs.Counts.{HasGone};
@@ -22,7 +22,7 @@ pub fn carry_to_one<E: Engine, S: Shelf>(
     requires fresh { E.stands engine.old [] }
     requires differ { input.name.now ≢ output.now }
     ensures carried { IfSome (S.files shelf.old) (λ held. IsCarriedOut
-        (meaning E.shape (E.making engine.old) input.entry.number (output.now ∷ [])
+        (meaning E.shape (E.recipe engine.old) input.entry.number (output.now ∷ [])
         (files.get held input.entry.name.now))
         (Some held) result (S.files shelf.new)) }
     ensures input { IsOfInput input.entry.number result.status }

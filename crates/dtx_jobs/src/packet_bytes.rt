@@ -3,7 +3,8 @@ ghost use Rattle.std.specs.Prelude.{◌≡◌, ◌*◌, length, map};
 ghost use Rattle.dtx_packets.specs.Packets.{packets_of};
 ghost use Rattle.dtx_jobs.specs.Feed.{bytes_of_packets};
 
-use dtx_packets::{PACKET, Packet};
+use dtx_packets::Packet;
+use dtx_sizes::PACKET;
 
 /// Takes the packets out of their bytes.
 pub(crate) fn unjoin(bytes: &[u8], into: &mut [Packet])

@@ -8,21 +8,10 @@ ghost use Rattle.dtx_jobs.specs.Place.{IsCounted, as_placeholder};
 use crate::shapes::single_packets;
 use dtx_engine::{Change, Shape};
 use dtx_meaning::{Outcome, Status};
+use dtx_sizes::{FIELD_PACKETS, FLUSHING_PACKETS, NULL_PID, OPERATIONS_PID, SYNC};
 
-/// The first byte of a packet (ISO/IEC 13818-1, 2.4.3.2).
-const SYNC: u8 = 0x47;
-
-/// The packet identifier of a null packet (ISO/IEC 13818-1, 2.4.1).
-const NULL_PID: u16 = 0x1FFF;
-
-/// The packet identifier of a placeholder, which an adapter fills (the profile's own).
-const PLACEHOLDER_PID: u16 = 0x1FFA;
-
-/// How many packets make a field.
-const FIELD_PACKETS: u64 = 312;
-
-/// The first place of a field at which a placeholder is put: 52 packets behind its mark.
-const FIRST_PLACE: u64 = 52;
+/// The first place of a field at which a placeholder is put: so many packets behind its mark.
+const FIRST_PLACE: u64 = FLUSHING_PACKETS as u64;
 
 /// Turns null packets into placeholders, and counts.
 #[derive(Clone, Copy)]
@@ -97,7 +86,7 @@ impl Change for Placing {
     fn change(&mut self, index: u64, unit: &mut [u8]) {
         let pid = pid(unit);
         let null = pid == NULL_PID;
-        let first = self.meets(index % FIELD_PACKETS, null || pid == PLACEHOLDER_PID);
+        let first = self.meets(index % FIELD_PACKETS as u64, null || pid == OPERATIONS_PID);
         if first && null {
             become_placeholder(unit);
             self.placed += 1;
@@ -128,5 +117,5 @@ fn become_placeholder(packet: &mut [u8])
     requires long { 2 < length packet.old }
     ensures { packet.new ≡ as_placeholder packet.old }
 {
-    packet[2] -= (NULL_PID - PLACEHOLDER_PID) as u8;
+    packet[2] -= (NULL_PID - OPERATIONS_PID) as u8;
 }

@@ -1,7 +1,7 @@
 // `receive IN OUT`: the packets of a symbol file.
 ghost use Rattle.std.specs.Prelude.{Some, IfSome};
 ghost use Rattle.std.specs.Str.{bytes_eq};
-ghost use Rattle.dtx_engine.specs.Making.{transformed};
+ghost use Rattle.dtx_engine.specs.Recipe.{transformed};
 ghost use Rattle.dtx_meaning.specs.Meaning.{IsCarriedOut};
 ghost use Rattle.dtx_meaning.specs.Status.{IsOfInputs, blame_of};
 ghost use Rattle.dtx_outside.specs.Counts.{HasGone};

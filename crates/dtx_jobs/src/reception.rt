@@ -1,23 +1,19 @@
 // Receiving symbols, a piece of their file at a time.
 ghost use Rattle.std.specs.Prelude.{◌≡◌, ◌+◌, ◌*◌, ◌/◌, ◌%◌, ◌<◌, ◌≤◌, ◌++◌, ◌∷◌, [], ℤ, List, IfOk, length, map};
 ghost use Rattle.dtx_receiver.specs.Runs as runs;
-ghost use Rattle.dtx_receiver.specs.Packets.{all_packets, given};
+ghost use Rattle.dtx_receiver.specs.Packets.{all_packets, packets_so_far};
 ghost use Rattle.dtx_jobs.specs.Receive.{bytes_of};
 ghost use Rattle.dtx_jobs.specs.Reception.{IsReceiving, WasGiven};
-ghost use Rattle.dtx_jobs.specs.SymbolFile.{segments_of, symbol_of_byte, symbols};
+ghost use Rattle.dtx_jobs.specs.SymbolFile.{file_segments, symbol_of_byte, symbols};
 ghost use Rattle.dtx_jobs.specs.Tally.{IsBounded, tally_of};
 
 use crate::shapes::{PIECE_SEGMENTS, segments};
 use crate::tally::Tally;
 use dtx_engine::{Buffer, Engine, Shape};
-use dtx_frame::SEGMENT;
 use dtx_meaning::{Outcome, Status, ended};
-use dtx_packets::PACKET;
 use dtx_receiver::{Batch, MOST_RECEIVED, Received, Receiver, Tracking};
+use dtx_sizes::{MOST_SEGMENTS, PACKET, SEGMENT};
 use std::alloc::{AllocError, Global};
-
-/// How many segments are received at most: 2,000,000 such pieces (the profile's own limit).
-pub const MOST_SEGMENTS: u64 = 626_000_000;
 
 /// How many bytes the packets have that a piece brings at most.
 const RECEIVED_BYTES: usize = PACKET * MOST_RECEIVED * PIECE_SEGMENTS;
@@ -53,9 +49,10 @@ impl Reception {
         requires room { length bytes.now ≤ SEGMENT * PIECE_SEGMENTS }
         requires empty { self.old.packets ≡ [] }
         ensures receiving { (before : List (List ℤ)) → IsReceiving self.old before
-            → IsReceiving self.new (before ++ segments_of bytes.now) }
+            → IsReceiving self.new (before ++ file_segments bytes.now) }
         ensures brought { (before : List (List ℤ)) → IsReceiving self.old before
-            → bytes_of (given (before ++ segments_of bytes.now)) ≡ bytes_of (given before) ++ self.new.packets }
+            → bytes_of (packets_so_far (before ++ file_segments bytes.now))
+            ≡ bytes_of (packets_so_far before) ++ self.new.packets }
         ensures bounded { IsBounded self.new.tally self.new.tally.segments }
     {
         let (segments, _) = bytes.as_chunks::<SEGMENT>();
@@ -72,7 +69,8 @@ impl Reception {
         ensures receiving { (before : List (List ℤ)) → IsReceiving self.old before
             → IsReceiving self.new (before ++ symbols bytes.now ∷ []) }
         ensures brought { (before : List (List ℤ)) → IsReceiving self.old before
-            → given (before ++ symbols bytes.now ∷ []) ≡ given before ++ self.new.batch.packets.items }
+            → packets_so_far (before ++ symbols bytes.now ∷ [])
+            ≡ packets_so_far before ++ self.new.batch.packets.items }
         ensures packets { self.new.packets ≡ self.old.packets ++ bytes_of self.new.batch.packets.items }
         ensures long { length self.new.packets ≤ length self.old.packets + PACKET * MOST_RECEIVED }
         ensures bounded { IsBounded self.new.tally self.new.tally.segments }
@@ -92,7 +90,7 @@ impl Reception {
         requires bounded { IsBounded self.old.tally self.old.tally.segments }
         requires empty { self.old.packets ≡ [] }
         ensures brought { (before : List (List ℤ)) → IsReceiving self.old before
-            → bytes_of (all_packets before) ≡ bytes_of (given before) ++ self.new.packets }
+            → bytes_of (all_packets before) ≡ bytes_of (packets_so_far before) ++ self.new.packets }
         ensures tally { (before : List (List ℤ)) → IsReceiving self.old before
             → self.new.tally ≡ tally_of before (all_packets before) }
     {
@@ -111,7 +109,7 @@ impl Engine for Reception {
 
     ghost shape = { shapes.segments };
 
-    ghost making = { λ _. receiving };
+    ghost recipe = { λ _. receiving };
 
     ghost stands = { WasGiven };
 

@@ -1,13 +1,16 @@
 // In which units the commands read their inputs.
 ghost use Rattle.std.specs.Prelude.{◌≡◌};
-ghost use Rattle.dtx_engine.specs.Making.{IsSound};
+ghost use Rattle.dtx_engine.specs.Recipe.{IsSound};
 ghost use Rattle.dtx_jobs.specs.Shapes as shapes;
 
 use dtx_engine::Shape;
-use dtx_packets::{MOST_PACKETS, PACKET, PIECE_PACKETS};
+use dtx_packets::PIECE_PACKETS;
+use dtx_sizes::{
+    FIELD_SEGMENTS, GROUP_PACKETS, MOST_PACKETS, MOST_SEGMENTS, MOST_SYMBOLS, PACKET, SEGMENT,
+};
 
 /// How many segments are read at once: those of a field.
-pub const PIECE_SEGMENTS: usize = 313;
+pub const PIECE_SEGMENTS: usize = FIELD_SEGMENTS as usize;
 
 /// Packets of 188 bytes (ISO/IEC 13818-1, 2.4.3.2), in groups of four.
 pub fn packets() -> Shape
@@ -17,7 +20,7 @@ pub fn packets() -> Shape
     Shape {
         unit: PACKET,
         units: PIECE_PACKETS,
-        group: 4,
+        group: GROUP_PACKETS as u64,
         limit: MOST_PACKETS,
     }
 }
@@ -41,10 +44,10 @@ pub fn segments() -> Shape
     ensures sound { IsSound result }
 {
     Shape {
-        unit: 832,
+        unit: SEGMENT,
         units: PIECE_SEGMENTS,
         group: 1,
-        limit: 626_000_000,
+        limit: MOST_SEGMENTS,
     }
 }
 
@@ -57,6 +60,6 @@ pub fn single_bytes() -> Shape
         unit: 1,
         units: 262_144,
         group: 1,
-        limit: 520_832_000_000,
+        limit: MOST_SYMBOLS,
     }
 }

@@ -8,19 +8,18 @@ ghost use Rattle.dtx_jobs.specs.Symbols.{symbol_bytes};
 
 use crate::shapes::packets;
 use crate::symbol_buffer::SymbolBuffer;
-use dtx_coder::{AIR_SYMBOLS, Air, Coder, GROUP_PACKETS};
+use dtx_coder::{AIR_SYMBOLS, Air, Coder};
 use dtx_engine::{Engine, Shape};
-use dtx_frame::SEGMENT;
 use dtx_meaning::{Outcome, Status};
-use dtx_packets::{MOST_PACKETS, PACKET, PIECE_PACKETS, Packet};
-use dtx_trellis::FIELD;
+use dtx_packets::{PIECE_PACKETS, Packet};
+use dtx_sizes::{
+    FIELD_PACKETS, FieldPlace, GROUP_PACKETS, MARK, MOST_PACKETS, PACKET, SEGMENT, SYNC,
+    field_place,
+};
 use std::alloc::{AllocError, Global};
 
-/// How many packets a frame has, which is two fields.
-const FRAME: u64 = 624;
-
 /// How many groups a field has.
-const FIELD_GROUPS: u64 = (FIELD as usize / GROUP_PACKETS) as u64;
+const FIELD_GROUPS: u64 = (FIELD_PACKETS as usize / GROUP_PACKETS) as u64;
 
 /// How many bytes a group of packets has.
 const GROUP_BYTES: usize = PACKET * GROUP_PACKETS;
@@ -89,12 +88,10 @@ impl StreamCoder {
         ensures long { length self.new.symbols ≤ length self.old.symbols + AIR_SYMBOLS }
         ensures packets { self.new.packets ≡ self.old.packets }
     {
-        let place = first % FRAME;
-        let second = place >= FIELD as u64;
-        let in_field = (place % FIELD as u64) as u16;
-        let sync = in_field == 0;
+        let FieldPlace { place, second } = field_place(first);
+        let sync = place == 0;
         self.coder
-            .group(in_field, second, &self.group, None, sync, &mut self.air);
+            .group(place, second, &self.group, None, sync, &mut self.air);
         let count = SEGMENT * self.air.segments as usize;
         self.symbols.push(&self.air.symbols[..count]);
     }
@@ -109,7 +106,7 @@ impl Engine for StreamCoder {
 
     ghost shape = { shapes.packets };
 
-    ghost making = { λ _. coding };
+    ghost recipe = { λ _. coding };
 
     ghost stands = { WasCoded };
 
@@ -120,7 +117,7 @@ impl Engine for StreamCoder {
     }
 
     fn allows(&self, _index: u64, unit: &[u8]) -> bool {
-        unit[0] == 0x47 || unit[0] == 0xB8
+        unit[0] == SYNC || unit[0] == MARK
     }
 
     fn feed(&mut self, first: u64, bytes: &mut [u8]) {

@@ -2,26 +2,26 @@
 //! looks like a field sync; and of one with damage laid over its bytes the same of the damaged bytes.
 
 ghost use Rattle.std.specs.Prelude.{◌≡◌, ◌+◌, ◌*◌, ◌≤◌, ◌%◌, ◌++◌, ℕ, List, [], length, take};
-ghost use Rattle.dtx_engine.specs.Making.{meaning_of_file};
+ghost use Rattle.dtx_engine.specs.Recipe.{meaning_of_file};
 ghost use Rattle.dtx_make.specs.Hurt.{hurt};
 ghost use Rattle.dtx_meaning.specs.Status.{ended};
 ghost use Rattle.dtx_plan.specs.declared.damage.Damage.{Damage};
 ghost use Rattle.dtx_receiver.specs.Intervals.{NoneLooks};
-ghost use Rattle.dtx_jobs.specs.Damaged.{damaged};
+ghost use Rattle.dtx_jobs.specs.Damaged.{damaged_making};
 ghost use Rattle.dtx_jobs.specs.Receive.{receive_answer, received_bytes, receiving};
 ghost use Rattle.dtx_jobs.specs.ReceivedLaws.{received_of};
 ghost use Rattle.dtx_jobs.specs.Shapes as shapes;
-ghost use Rattle.dtx_jobs.specs.SymbolFile.{segments_of, whole_segments};
+ghost use Rattle.dtx_jobs.specs.SymbolFile.{file_segments, whole_segments};
 
-use crate::reception::MOST_SEGMENTS;
 use dtx_meaning::Status;
+use dtx_sizes::MOST_SEGMENTS;
 
 /// The segments of a file are those of its parts, where the first has whole segments, and loose bytes stand in none.
 pub fn segments_in_pieces()
     ensures pieces { (first rest : List ℕ) → length first % 832 ≡ 0
-        → segments_of (first ++ rest) ≡ segments_of first ++ segments_of rest }
-    ensures whole { (file : List ℕ) → segments_of (take (832 * whole_segments file) file) ≡ segments_of file }
-    ensures count { (file : List ℕ) → length (segments_of file) ≡ whole_segments file }
+        → file_segments (first ++ rest) ≡ file_segments first ++ file_segments rest }
+    ensures whole { (file : List ℕ) → file_segments (take (832 * whole_segments file) file) ≡ file_segments file }
+    ensures count { (file : List ℕ) → length (file_segments file) ≡ whole_segments file }
 {}
 
 /// Of a file with no more segments than are received all packets are written; so of the damaged bytes, where damage is
@@ -31,14 +31,14 @@ pub fn all_is_received()
         → meaning_of_file shapes.segments receiving names file ≡ received_of names file (length file % 832) }
     ensures damaged { (names : List (List ℕ)) (damage : List Damage) (file : List ℕ)
         → whole_segments file ≤ MOST_SEGMENTS
-        → meaning_of_file shapes.segments (damaged damage receiving) names file
+        → meaning_of_file shapes.segments (damaged_making damage receiving) names file
         ≡ received_of names (hurt damage file) (length file % 832) }
 {}
 
 /// Where no segment looks like a field sync, that is the answer, and no packet is written.
 pub fn nothing_without_a_sync()
-    ensures answer { (file : List ℕ) (loose : ℕ) → NoneLooks (segments_of file) 0 (whole_segments file)
-        → receive_answer (segments_of file) loose ≡ ended Status.NoSync }
-    ensures packets { (file : List ℕ) → NoneLooks (segments_of file) 0 (whole_segments file)
+    ensures answer { (file : List ℕ) (loose : ℕ) → NoneLooks (file_segments file) 0 (whole_segments file)
+        → receive_answer (file_segments file) loose ≡ ended Status.NoSync }
+    ensures packets { (file : List ℕ) → NoneLooks (file_segments file) 0 (whole_segments file)
         → received_bytes file ≡ [] }
 {}

@@ -4,3 +4,6 @@ pub mod RangeSearch
 pub mod RangeParts
 pub mod Parts
 pub mod Find
+pub mod FirstOf
+pub mod RangeFilter
+pub mod RangeMoved

@@ -12,35 +12,35 @@ use Rattle.std.proofs.lemmas.List.{length-drop, length-take-le}
 use Rattle.std.proofs.lemmas.List.Folds.{find-append}
 use Rattle.std.proofs.lemmas.Option.{get_or_from_slice_get}
 use Rattle.dtx_plan.specs.declared.damage.Damage.{Damage}
-use Rattle.dtx_make.specs.Hurt.{AreInOrder, covers, end_of, entry_at}
+use Rattle.dtx_make.specs.Hurt.{AreInOrder, covers, damage_end, entry_at}
 
 apart : (ds : List Damage) (d : Damage) → AreInOrder ds → (n j k : ℕ) → j + n + 1 ≡ k → k < length ds
-    → end_of (get_or ds j d) ≤ (get_or ds k d).at
+    → damage_end (get_or ds j d) ≤ (get_or ds k d).at
 apart ds d o zero j k e l =
     let at : j + 1 ≡ k = omega arith in
-    subst (λ m. end_of (get_or ds j d) ≤ (get_or ds m d).at) at (o j d (omega arith))
+    subst (λ m. damage_end (get_or ds j d) ≤ (get_or ds m d).at) at (o j d (omega arith))
 apart ds d o (suc n) j k e l =
     let at : j + n + 1 + 1 ≡ k = omega arith in
     let before = apart ds d o n j (j + n + 1) refl (omega arith) in
     let next = o (j + n + 1) d (omega arith) in
-    subst (λ m. end_of (get_or ds j d) ≤ (get_or ds m d).at) at (omega (arith, before, next))
+    subst (λ m. damage_end (get_or ds j d) ≤ (get_or ds m d).at) at (omega (arith, before, next))
 
 -- an entry ends before each later one begins
 pub in_order : (ds : List Damage) (d : Damage) → AreInOrder ds → (j k : ℕ) → j < k → k < length ds
-    → end_of (get_or ds j d) ≤ (get_or ds k d).at
+    → damage_end (get_or ds j d) ≤ (get_or ds k d).at
 in_order ds d o j k l h = apart ds d o (k - j - 1) j k (omega arith) h
 
 -- the ends never fall
 pub ends_rise : (ds : List Damage) (d : Damage) → AreInOrder ds → (j k : ℕ) → j ≤ k → k < length ds
-    → end_of (get_or ds j d) ≤ end_of (get_or ds k d)
+    → damage_end (get_or ds j d) ≤ damage_end (get_or ds k d)
 ends_rise ds d o j k l h = by_place (cases_lt j k)
   where
-    by_place : (j < k) ⊎ (k ≤ j) → end_of (get_or ds j d) ≤ end_of (get_or ds k d)
+    by_place : (j < k) ⊎ (k ≤ j) → damage_end (get_or ds j d) ≤ damage_end (get_or ds k d)
     by_place (inl below) = omega (arith, in_order ds d o j k below h)
     by_place (inr above) = let same : j ≡ k = omega arith in
-        subst (λ m. end_of (get_or ds j d) ≤ end_of (get_or ds m d)) same (omega arith)
+        subst (λ m. damage_end (get_or ds j d) ≤ damage_end (get_or ds m d)) same (omega arith)
 
-pub covers_within : (place : ℕ) (e : Damage) → covers place e ≡ true → (e.at ≤ place) × (place < end_of e)
+pub covers_within : (place : ℕ) (e : Damage) → covers place e ≡ true → (e.at ≤ place) × (place < damage_end e)
 covers_within place e t =
     let parts = and_parts (leb e.at place) (ltb place (e.at + e.count)) t in
     (leb-true e.at place parts.0, ltb-true place (e.at + e.count) parts.1)
@@ -48,7 +48,7 @@ covers_within place e t =
 pub covers_after : (place : ℕ) (e : Damage) → place < e.at → covers place e ≡ false
 covers_after place e l = and_left (leb e.at place) (ltb place (e.at + e.count)) (lt-leb e.at place l)
 
-pub covers_before : (place : ℕ) (e : Damage) → end_of e ≤ place → covers place e ≡ false
+pub covers_before : (place : ℕ) (e : Damage) → damage_end e ≤ place → covers place e ≡ false
 covers_before place e l = and_right (leb e.at place) (ltb place (e.at + e.count)) (le-ltb place (e.at + e.count) l)
 
 find_none : {X : Type 0} (p : X → Bool) (xs : List X) → ((k : ℕ) (d : X) → k < length xs → p (get_or xs k d) ≡ false)
@@ -120,22 +120,23 @@ one_covers ds d i place o l = by_test (cases_Bool (covers place (get_or ds i d))
     by_test (inr t) = inl (one (get_or ds i d) place t)
 
 -- the entries up to one that ends by a place end by it too
-pub end_by : (ds : List Damage) (e : Damage) (m place : ℕ) → AreInOrder ds → slice_get ds m ≡ Some e → end_of e ≤ place
+pub end_by : (ds : List Damage) (e : Damage) (m place : ℕ) → AreInOrder ds → slice_get ds m ≡ Some e
+    → damage_end e ≤ place
     → m < length ds
-    → (k : ℕ) (d : Damage) → k < m + 1 → end_of (get_or ds k d) ≤ place
+    → (k : ℕ) (d : Damage) → k < m + 1 → damage_end (get_or ds k d) ≤ place
 end_by ds e m place o is l h k d n =
-    omega (arith, ends_rise ds d o k m (omega arith) h, ap end_of (get_or_from_slice_get ds m e d is))
+    omega (arith, ends_rise ds d o k m (omega arith) h, ap damage_end (get_or_from_slice_get ds m e d is))
 
 -- the entries from one on that ends behind a place end behind it too
 pub end_behind : (ds : List Damage) (e : Damage) (m place : ℕ) → AreInOrder ds → slice_get ds m ≡ Some e
-    → place < end_of e
-    → (k : ℕ) (d : Damage) → m ≤ k → k < length ds → place < end_of (get_or ds k d)
+    → place < damage_end e
+    → (k : ℕ) (d : Damage) → m ≤ k → k < length ds → place < damage_end (get_or ds k d)
 end_behind ds e m place o is l k d n h =
-    omega (arith, ends_rise ds d o m k n h, ap end_of (get_or_from_slice_get ds m e d is))
+    omega (arith, ends_rise ds d o m k n h, ap damage_end (get_or_from_slice_get ds m e d is))
 
 -- the entries that end by a place cover none from there on
 pub entry_at_before : (ds : List Damage) (i place k : ℕ) → i ≤ length ds
-    → ((j : ℕ) (d : Damage) → j < i → end_of (get_or ds j d) ≤ place)
+    → ((j : ℕ) (d : Damage) → j < i → damage_end (get_or ds j d) ≤ place)
     → place ≤ k → entry_at (take i ds) k ≡ None
 entry_at_before ds i place k h ends l = entry_at_none (take i ds) k each
   where
@@ -152,7 +153,7 @@ entry_at_behind ds e i end k o is l m = entry_at-take ds i k each
   where
     begins : (j : ℕ) (d : Damage) → i ≤ j → j < length ds → (i < j) ⊎ (j ≤ i) → end ≤ (get_or ds j d).at
     begins j d n h (inl later) =
-        omega (arith, in_order ds d o i j later h, ap end_of (get_or_from_slice_get ds i e d is))
+        omega (arith, in_order ds d o i j later h, ap damage_end (get_or_from_slice_get ds i e d is))
     begins j d n h (inr same) =
         let there : i ≡ j = omega arith in
         subst (λ z. end ≤ (get_or ds z d).at) there (omega (arith, ap (λ z. z.at) (get_or_from_slice_get ds i e d is)))

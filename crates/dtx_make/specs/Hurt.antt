@@ -23,20 +23,21 @@ abbrev pub byte_at : List Damage → ℕ → ℕ → ℕ
 byte_at damage place byte = option_map_or (λ entry. cast_unsigned w8 entry.put) (entry_at damage place) byte
 
 -- damage laid over bytes that stand at a place of a file
-unfoldable pub laid : List Damage → ℕ → List ℕ → List ℕ
-laid damage place bytes = map (λ i. byte_at damage (place + i) (slice_index bytes i)) (range_with_len 0 (length bytes))
+unfoldable pub damaged_bytes : List Damage → ℕ → List ℕ → List ℕ
+damaged_bytes damage place bytes = map (λ i. byte_at damage (place + i) (slice_index bytes i)) (range_with_len 0
+    (length bytes))
 
 -- damage laid over a whole file
 abbrev pub hurt : List Damage → List ℕ → List ℕ
-hurt damage file = laid damage 0 file
+hurt damage file = damaged_bytes damage 0 file
 
 -- how many of the `count` places from a place on some entry covers
 unfoldable pub damaged_from : List Damage → ℕ → ℕ → ℕ
 damaged_from damage place count = count_by (λ k. is_some (entry_at damage k)) (range_with_len place count)
 
 -- how many of the first `count` places of a file some entry covers
-abbrev pub damaged : List Damage → ℕ → ℕ
-damaged damage count = damaged_from damage 0 count
+abbrev pub damaged_places : List Damage → ℕ → ℕ
+damaged_places damage count = damaged_from damage 0 count
 
 -- of the places from `place` on, before `end`, the entry covers those from `from` on, before `to`
 pub record IsCovered (entry : Damage) (place end from to : ℕ) : Type 0 where
@@ -46,11 +47,11 @@ pub record IsCovered (entry : Damage) (place end from to : ℕ) : Type 0 where
   pub covered : (k : ℕ) → place ≤ k → k < end → covers k entry ≡ (nat_le from k && nat_lt k to)
 
 -- the first place behind those that an entry covers
-abbrev pub end_of : Damage → ℕ
-end_of entry = entry.at + entry.count
+abbrev pub damage_end : Damage → ℕ
+damage_end entry = entry.at + entry.count
 
 -- the entry of that number is the first that ends behind a place; where none does, the number is how many there are
 pub record IsFirstBehind (damage : List Damage) (place first : ℕ) : Type 0 where
   pub within : first ≤ length damage
-  pub before : (k : ℕ) (e : Damage) → k < first → end_of (slice_index_or damage k e) ≤ place
-  pub behind : (k : ℕ) (e : Damage) → first ≤ k → k < length damage → place < end_of (slice_index_or damage k e)
+  pub before : (k : ℕ) (e : Damage) → k < first → damage_end (slice_index_or damage k e) ≤ place
+  pub behind : (k : ℕ) (e : Damage) → first ≤ k → k < length damage → place < damage_end (slice_index_or damage k e)

@@ -14,20 +14,21 @@ use Rattle.std.proofs.lemmas.List.{length-replicate}
 use Rattle.std.proofs.lemmas.List.FromFn.{length-map-range_with_len, get_or-map-range_with_len}
 use Rattle.dtx_lists.proofs.Parts.{append_from_parts}
 use Rattle.dtx_plan.specs.declared.damage.Damage.{Damage}
-use Rattle.dtx_make.specs.Hurt.{AreInOrder, IsCovered, covers, entry_at, byte_at, laid}
+use Rattle.dtx_make.specs.Hurt.{AreInOrder, IsCovered, covers, entry_at, byte_at, damaged_bytes}
 use Rattle.dtx_make.specs.LaidLaws.{length-laid, get_or-laid}
 use Rattle.dtx_make.specs.EntriesLaws.{entry_at_more, entry_at_is, one_covers}
 
 -- a list of as many bytes that has at each place what is laid there
 pub laid_from : (ds : List Damage) (place : ℕ) (xs ys : List ℕ) → length ys ≡ length xs
-    → ((i : ℕ) → i < length xs → get_or ys i 0 ≡ byte_at ds (place + i) (get_or xs i 0)) → ys ≡ laid ds place xs
+    → ((i : ℕ) → i < length xs → get_or ys i 0 ≡ byte_at ds (place + i) (get_or xs i 0))
+    → ys ≡ damaged_bytes ds place xs
 laid_from ds place xs ys long each =
-    ext_get_or 0 ys (laid ds place xs) (long ∙ sym (length-laid ds place xs))
+    ext_get_or 0 ys (damaged_bytes ds place xs) (long ∙ sym (length-laid ds place xs))
     (λ i l. let within : i < length xs = omega arith in each i within ∙ sym (get_or-laid ds place xs i within))
 
 -- where no entry covers any of the places
 pub laid_none : (ds : List Damage) (place : ℕ) (xs : List ℕ)
-    → ((k : ℕ) → place ≤ k → k < place + length xs → entry_at ds k ≡ None) → xs ≡ laid ds place xs
+    → ((k : ℕ) → place ≤ k → k < place + length xs → entry_at ds k ≡ None) → xs ≡ damaged_bytes ds place xs
 laid_none ds place xs h =
     laid_from ds place xs xs refl
     (λ i l. ap (λ o. option_map_or (λ e. cast_unsigned w8 e.put) o (get_or xs i 0))
@@ -36,9 +37,9 @@ laid_none ds place xs h =
 -- where two lists have the same entry at each of the places
 pub laid_same : (ds es : List Damage) (place : ℕ) (xs : List ℕ)
     → ((k : ℕ) → place ≤ k → k < place + length xs → entry_at ds k ≡ entry_at es k)
-    → laid ds place xs ≡ laid es place xs
+    → damaged_bytes ds place xs ≡ damaged_bytes es place xs
 laid_same ds es place xs h =
-    laid_from es place xs (laid ds place xs) (length-laid ds place xs)
+    laid_from es place xs (damaged_bytes ds place xs) (length-laid ds place xs)
     (λ i l. get_or-laid ds place xs i l
     ∙ ap (λ o. option_map_or (λ e. cast_unsigned w8 e.put) o (get_or xs i 0))
     (h (place + i) (omega arith) (omega arith)))
@@ -52,18 +53,21 @@ over f (Some x) (Some y) b (inr e) = cc
 
 -- one more entry is laid over what the entries before it gave
 pub laid_more : (ds : List Damage) (d : Damage) (i place : ℕ) (xs : List ℕ) → AreInOrder ds → i < length ds
-    → laid (get_or ds i d ∷ []) place (laid (take i ds) place xs) ≡ laid (take (i + 1) ds) place xs
+    → damaged_bytes (get_or ds i d ∷ []) place (damaged_bytes (take i ds) place xs)
+    ≡ damaged_bytes (take (i + 1) ds) place xs
 laid_more ds d i place xs o l =
-    laid_from (take (i + 1) ds) place xs (laid (get_or ds i d ∷ []) place (laid (take i ds) place xs))
-    (length-laid (get_or ds i d ∷ []) place (laid (take i ds) place xs) ∙ length-laid (take i ds) place xs) each
+    laid_from (take (i + 1) ds) place xs (damaged_bytes (get_or ds i d ∷ []) place (damaged_bytes (take i ds) place xs))
+    (length-laid (get_or ds i d ∷ []) place (damaged_bytes (take i ds) place xs)
+    ∙ length-laid (take i ds) place xs) each
   where
     put : Damage → ℕ
     put e = cast_unsigned w8 e.put
 
-    each : (j : ℕ) → j < length xs → get_or (laid (get_or ds i d ∷ []) place (laid (take i ds) place xs)) j 0
+    each : (j : ℕ) → j < length xs → get_or (damaged_bytes (get_or ds i d ∷ []) place (damaged_bytes
+        (take i ds) place xs)) j 0
         ≡ byte_at (take (i + 1) ds) (place + j) (get_or xs j 0)
     each j h =
-        get_or-laid (get_or ds i d ∷ []) place (laid (take i ds) place xs) j
+        get_or-laid (get_or ds i d ∷ []) place (damaged_bytes (take i ds) place xs) j
         (omega (arith, length-laid (take i ds) place xs))
         ∙ ap (byte_at (get_or ds i d ∷ []) (place + j)) (get_or-laid (take i ds) place xs j h)
         ∙ sym (over (λ e. cast_unsigned w8 e.put) (entry_at (take i ds) (place + j))
@@ -118,7 +122,7 @@ part_behind a k xs ys i h long l =
 -- the part of the bytes that an entry covers, filled
 pub laid_part : (e : Damage) (place from to k : ℕ) (xs ys : List ℕ) → IsCovered e place (place + length xs) from to
     → to - place - (from - place) ≡ k
-    → ys ≡ replicate k (cast_unsigned w8 e.put) → put_mid (from - place) k xs ys ≡ laid (e ∷ []) place xs
+    → ys ≡ replicate k (cast_unsigned w8 e.put) → put_mid (from - place) k xs ys ≡ damaged_bytes (e ∷ []) place xs
 laid_part e place from to k xs ys c size filled =
     laid_from (e ∷ []) place xs (put_mid (from - place) k xs ys)
     (length-part (from - place) k xs ys (omega (arith, c.least, c.order, c.most)) long) each
@@ -157,13 +161,13 @@ laid_part e place from to k xs ys c size filled =
 -- the byte at a place that an entry covers
 pub laid_covered : (ds : List Damage) (place i : ℕ) (xs : List ℕ) (e : Damage) → AreInOrder ds → i < length xs
     → Contains ds e → covers (place + i) e ≡ true
-    → get_or (laid ds place xs) i 0 ≡ cast_unsigned w8 e.put
+    → get_or (damaged_bytes ds place xs) i 0 ≡ cast_unsigned w8 e.put
 laid_covered ds place i xs e o l c t =
     get_or-laid ds place xs i l ∙ ap (λ z. option_map_or (λ d. cast_unsigned w8 d.put) z (get_or xs i 0))
     (entry_at_is ds e (place + i) o c t)
 
 -- the byte at a place that none covers
 pub laid_stays : (ds : List Damage) (place i : ℕ) (xs : List ℕ) → i < length xs → entry_at ds (place + i) ≡ None
-    → get_or (laid ds place xs) i 0 ≡ get_or xs i 0
+    → get_or (damaged_bytes ds place xs) i 0 ≡ get_or xs i 0
 laid_stays ds place i xs l n = get_or-laid ds place xs i l
     ∙ ap (λ z. option_map_or (λ d. cast_unsigned w8 d.put) z (get_or xs i 0)) n

@@ -3,19 +3,21 @@
 ghost use Rattle.std.specs.Prelude.{◌≡◌, ℕ, ◌+◌, ◌<◌, ◌≤◌, ◌++◌, IsTrue, Contains, None, [], List, length, slice_index};
 ghost use Rattle.std.specs.Int.{w8, cast_unsigned};
 ghost use Rattle.dtx_plan.specs.declared.damage.Damage.{Damage};
-ghost use Rattle.dtx_make.specs.Hurt.{AreInOrder, covers, entry_at, laid, hurt, damaged_from, damaged};
+ghost use Rattle.dtx_make.specs.Hurt.{AreInOrder, covers, entry_at, damaged_bytes, hurt, damaged_from, damaged_places};
 
 /// Damage that is laid piece by piece, each at its place, is the damage laid over the whole.
 pub fn laid_in_pieces()
     ensures piece { (damage : List Damage) (place : ℕ) (first rest : List ℕ)
-        → laid damage place (first ++ rest) ≡ laid damage place first ++ laid damage (place + length first) rest }
+        → damaged_bytes damage place (first ++ rest) ≡ damaged_bytes damage place first
+        ++ damaged_bytes damage (place + length first) rest }
     ensures file { (damage : List Damage) (first rest : List ℕ)
-        → hurt damage (first ++ rest) ≡ hurt damage first ++ laid damage (length first) rest }
+        → hurt damage (first ++ rest) ≡ hurt damage first ++ damaged_bytes damage (length first) rest }
 {}
 
 /// As many bytes stand there as before.
 pub fn length_stays()
-    ensures { (damage : List Damage) (place : ℕ) (bytes : List ℕ) → length (laid damage place bytes) ≡ length bytes }
+    ensures { (damage : List Damage) (place : ℕ) (bytes : List ℕ)
+        → length (damaged_bytes damage place bytes) ≡ length bytes }
 {}
 
 /// A byte that an entry covers is that entry's `put`, whichever entry of those in order it is; a byte that none covers
@@ -24,14 +26,14 @@ pub fn each_byte()
     ensures covered { (damage : List Damage) (place i : ℕ) (bytes : List ℕ) (entry : Damage) → AreInOrder damage
         → i < length bytes
         → Contains damage entry → IsTrue (covers (place + i) entry)
-        → slice_index (laid damage place bytes) i ≡ cast_unsigned w8 entry.put }
+        → slice_index (damaged_bytes damage place bytes) i ≡ cast_unsigned w8 entry.put }
     ensures stays { (damage : List Damage) (place i : ℕ) (bytes : List ℕ) → i < length bytes
-        → entry_at damage (place + i) ≡ None → slice_index (laid damage place bytes) i ≡ slice_index bytes i }
+        → entry_at damage (place + i) ≡ None → slice_index (damaged_bytes damage place bytes) i ≡ slice_index bytes i }
 {}
 
 /// Without an entry the bytes stay, and no place is counted.
 pub fn no_entry()
-    ensures bytes { (place : ℕ) (bytes : List ℕ) → laid [] place bytes ≡ bytes }
+    ensures bytes { (place : ℕ) (bytes : List ℕ) → damaged_bytes [] place bytes ≡ bytes }
     ensures count { (place count : ℕ) → damaged_from [] place count ≡ 0 }
 {}
 
@@ -41,6 +43,6 @@ pub fn counted_in_pieces()
         → damaged_from damage place (first + rest)
         ≡ damaged_from damage place first + damaged_from damage (place + first) rest }
     ensures file { (damage : List Damage) (first rest : ℕ)
-        → damaged damage (first + rest) ≡ damaged damage first + damaged_from damage first rest }
+        → damaged_places damage (first + rest) ≡ damaged_places damage first + damaged_from damage first rest }
     ensures most { (damage : List Damage) (place count : ℕ) → damaged_from damage place count ≤ count }
 {}

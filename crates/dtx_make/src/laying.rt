@@ -1,6 +1,6 @@
 // Damage laid over the bytes of a file (the profile's own).
 ghost use Rattle.std.specs.Prelude.{◌≡◌, ◌+◌, ◌<◌, ◌≤◌, ◌^◌, ◌↔◌, IsTrue, [], ◌∷◌, length};
-ghost use Rattle.dtx_make.specs.Hurt.{AreInOrder, IsCovered, IsFirstBehind, laid, damaged_from, end_of};
+ghost use Rattle.dtx_make.specs.Hurt.{AreInOrder, IsCovered, IsFirstBehind, damaged_bytes, damaged_from, damage_end};
 
 use dtx_plan::{Damage, Damages};
 
@@ -9,7 +9,7 @@ use dtx_plan::{Damage, Damages};
 pub fn lay(damage: &Damages, place: u64, bytes: &mut [u8])
     requires room { place + length bytes.old < 2 ^ 64 }
     requires in_order { AreInOrder damage.now }
-    ensures { bytes.new ≡ laid damage.now place bytes.old }
+    ensures { bytes.new ≡ damaged_bytes damage.now place bytes.old }
 {
     let end = place + bytes.len() as u64;
     for i in first_behind(damage, place)..damage.len() {
@@ -60,7 +60,7 @@ fn first_behind(damage: &Damages, place: u64) -> usize
 
 /// Whether all that the entry covers stands before a place.
 fn ends_by(entry: &Damage, place: u64) -> bool
-    ensures { IsTrue result ↔ (end_of entry.now ≤ place) }
+    ensures { IsTrue result ↔ (damage_end entry.now ≤ place) }
 {
     entry.at <= place && entry.count <= place - entry.at
 }
@@ -68,7 +68,7 @@ fn ends_by(entry: &Damage, place: u64) -> bool
 /// One entry laid over bytes that stand at a place.
 fn lay_entry(entry: &Damage, place: u64, bytes: &mut [u8])
     requires room { place + length bytes.old < 2 ^ 64 }
-    ensures { bytes.new ≡ laid (entry.now ∷ []) place bytes.old }
+    ensures { bytes.new ≡ damaged_bytes (entry.now ∷ []) place bytes.old }
 {
     let (from, to) = covered(entry, place, place + bytes.len() as u64);
     bytes[(from - place) as usize..(to - place) as usize].fill(entry.put.cast_unsigned());

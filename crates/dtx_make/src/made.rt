@@ -2,16 +2,14 @@
 ghost use Rattle.std.specs.Prelude.{◌≡◌, ◌++◌};
 ghost use Rattle.dtx_make.specs.Made.{made_packet, made_payload, first_number, next_number};
 
-use dtx_packets::{PACKET, Packet};
+use dtx_packets::Packet;
+use dtx_sizes::{FIELD_PACKETS, PACKET};
 
 /// How many bytes the header of a packet has (ISO/IEC 13818-1, 2.4.3.2).
 const HEADER: usize = 4;
 
 /// How many bytes stand behind the header.
 const PAYLOAD: usize = PACKET - HEADER;
-
-/// How many packets a data field has (ATSC A/53 Part 2).
-const FIELD_PACKETS: u64 = 312;
 
 /// The place of a field at which a placeholder of an operations packet stands.
 const PLACEHOLDER_PLACE: u64 = 100;
@@ -29,7 +27,7 @@ const INCREMENT: u64 = 1_442_695_040_888_963_407;
 pub fn packet(seed: u64, index: u64) -> Packet
     ensures { result.0 ≡ made_packet seed index }
 {
-    if index % FIELD_PACKETS == PLACEHOLDER_PLACE {
+    if index % FIELD_PACKETS as u64 == PLACEHOLDER_PLACE {
         joined(&[0x47, 0x1F, 0xFA, 0x10], &[0; PAYLOAD])
     } else {
         let counter = (index % 16) as u8;

@@ -15,7 +15,7 @@ use Rattle.std.proofs.lemmas.Option.{slice_get-get_or, slice_get_within, get_or_
 use Rattle.dtx_plan.specs.declared.transmitter.Transmitter.{Transmitter}
 use Rattle.dtx_plan.specs.TransmitterTable.{addresses_of, has_address}
 use Rattle.dtx_plan.specs.Sound.{AreTransmitters}
-use Rattle.dtx_net.specs.Steps.{place_of}
+use Rattle.dtx_net.specs.Steps.{transmitter_place}
 use Rattle.dtx_net.specs.PlacesLaws.{position_found}
 
 none : Transmitter
@@ -28,9 +28,9 @@ address_at ts i t l = get_or-map (λ (t : Transmitter). t.address) ts i t 0 l
 long : (ts : List Transmitter) → length (addresses_of ts) ≡ length ts
 long ts = length-map ts (λ (t : Transmitter). t.address)
 
-pub place_found : (ts : List Transmitter) (address who : ℕ) → place_of address ts ≡ Some who
+pub place_found : (ts : List Transmitter) (address who : ℕ) → transmitter_place address ts ≡ Some who
     → (t : Transmitter) × (slice_get ts who ≡ Some t) × (t.address ≡ address)
-unfolding place_of
+unfolding transmitter_place
 place_found ts address who e =
     let f = position-Some (nat_eq address) (addresses_of ts) who 0 e in
     let within : who < length ts = omega (arith, f.0, long ts) in (
@@ -41,8 +41,8 @@ place_found ts address who e =
     )
 
 pub place_only : (ts : List Transmitter) (who : ℕ) (t : Transmitter) → AreTransmitters ts → slice_get ts who ≡ Some t
-    → place_of t.address ts ≡ Some who
-unfolding place_of
+    → transmitter_place t.address ts ≡ Some who
+unfolding transmitter_place
 place_only ts who t a e =
     let within : who < length (addresses_of ts) = omega (arith, slice_get_within ts who t e, long ts) in
     let here : t.address ≡ get_or (addresses_of ts) who 0 =
@@ -54,8 +54,9 @@ place_only ts who t a e =
     (λ k l. ne_eqb t.address (get_or (addresses_of ts) k 0) (λ same. apart k who 0 l within (sym same ∙ here)))
     (eq-eqb t.address (get_or (addresses_of ts) who 0) here)
 
-pub place_missing : (ts : List Transmitter) (address : ℕ) → place_of address ts ≡ None → has_address address ts ≡ false
-unfolding place_of
+pub place_missing : (ts : List Transmitter) (address : ℕ) → transmitter_place address ts ≡ None
+    → has_address address ts ≡ false
+unfolding transmitter_place
 place_missing ts address e =
     by_cases (cases_lt (position_or_len (nat_eq address) (addresses_of ts)) (length (addresses_of ts)))
   where

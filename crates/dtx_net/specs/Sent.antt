@@ -6,8 +6,8 @@ use Rattle.dtx_net.specs.Steps.{Step}
 use Rattle.dtx_net.specs.Lives.{lives_of}
 
 -- what the transmitter t, which stands at a place of the list, sends over the steps of all
-unfoldable pub segments_of : Transmitter → ℕ → List Step → List (List ℤ)
-segments_of t who steps = emission_over t.address t.delay (lives_of who steps)
+unfoldable pub sent_segments : Transmitter → ℕ → List Step → List (List ℤ)
+sent_segments t who steps = emission_over t.address t.delay (lives_of who steps)
 
 -- the lines of its log
 unfoldable pub lines_of : Transmitter → ℕ → List Step → List Line

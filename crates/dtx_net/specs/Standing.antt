@@ -4,8 +4,8 @@ use Rattle.dtx_plan.specs.declared.transmitter.Transmitter.{Transmitter}
 use Rattle.dtx_plan.specs.TransmitterTable.{addresses_of}
 use Rattle.dtx_exciter.specs.declared.exciter.Exciter.{Exciter}
 use Rattle.dtx_exciter.specs.declared.answers.Told.{Told}
-use Rattle.dtx_exciter.specs.Packets.{told}
-use Rattle.dtx_exciter.specs.Emission.{Holds, given}
+use Rattle.dtx_exciter.specs.Packets.{last_answer}
+use Rattle.dtx_exciter.specs.Emission.{Holds, last_segments}
 use Rattle.dtx_exciter.specs.Kept as exciter
 use Rattle.dtx_net.specs.declared.net.Net.{Net}
 use Rattle.dtx_net.specs.Steps.{Step, packet_step}
@@ -29,8 +29,8 @@ pub record AreNew (n : ℕ) (ts : List Transmitter) (exciters : List Exciter) : 
 -- these steps.
 pub record IsGiven (ts : List Transmitter) (steps : List Step) (who : ℕ) (t : Transmitter) (packet : List ℕ) (net : Net)
     (answered : Told) (count : ℕ) (symbols : List ℤ) : Type 0 where
-  pub answer : answered ≡ told t.address t.delay (last_life who steps ++ packet ∷ [])
-  pub air : Holds (given t.address t.delay (last_life who steps ++ packet ∷ [])) count symbols
+  pub answer : answered ≡ last_answer t.address t.delay (last_life who steps ++ packet ∷ [])
+  pub air : Holds (last_segments t.address t.delay (last_life who steps ++ packet ∷ [])) count symbols
   pub stands : StandsFor ts net (steps ++ packet_step who packet ∷ [])
 
 -- nothing but the exciter at a place may have changed

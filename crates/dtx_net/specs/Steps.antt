@@ -22,8 +22,8 @@ abbrev pub restart_step : ℕ → Step
 restart_step who = record { who = who; packet = None }
 
 -- the place in the list of the transmitter with this address
-unfoldable pub place_of : ℕ → List Transmitter → Option ℕ
-place_of address ts = position (nat_eq address) (addresses_of ts)
+unfoldable pub transmitter_place : ℕ → List Transmitter → Option ℕ
+transmitter_place address ts = position (nat_eq address) (addresses_of ts)
 
 -- packet k of the feed
 abbrev pub feed_packet : List (List ℕ) → ℕ → List ℕ
@@ -44,7 +44,7 @@ steps_at (Some who) actions = map (λ packet. record { who = who; packet = packe
 
 -- the steps of an event, for the transmitter of its address
 unfoldable pub steps_of : List Transmitter → List (List ℕ) → Event → List Step
-steps_of ts feed event = steps_at (place_of (to_of event) ts) (actions_of feed event)
+steps_of ts feed event = steps_at (transmitter_place (to_of event) ts) (actions_of feed event)
 
 -- those of all events, in order
 unfoldable pub schedule : List Transmitter → List (List ℕ) → List Event → List Step

@@ -18,24 +18,24 @@ pub fn flipped(packet: &Packet, at: u8, with: u8) -> Packet
     changed
 }
 
-/// The packet as one that lies of the states: see [`Liar::lied`]. The tables of the code are made for this one packet.
+/// The packet as one that lies of the states: see [`LieWriter::lied`]. The code's tables are made for this one packet.
 pub fn lied(packet: &Packet, states: &States) -> Packet
     ensures { result.0 ≡ lied_packet packet.now.0 states.now }
 {
-    Liar::new().lied(packet, states)
+    LieWriter::new().lied(packet, states)
 }
 
 /// Rewrites operations packets with other states. It holds the tables of their code.
 #[derive(Drop)]
-pub struct Liar {
+pub struct LieWriter {
     encoder: Rs<184, 164>,
     corrector: Linear<184, 164>,
 }
 
-impl Liar {
+impl LieWriter {
     /// The tables are made here. It takes no memory.
-    pub fn new() -> Liar {
-        Liar {
+    pub fn new() -> LieWriter {
+        LieWriter {
             encoder: Rs::new(),
             corrector: Linear::new(),
         }

@@ -4,24 +4,24 @@ ghost use Rattle.std.specs.Prelude.{◌≡◌, ◌≢◌, ◌++◌, ◌∷◌, [
 ghost use Rattle.dtx_plan.specs.declared.transmitter.Transmitter.{Transmitter};
 ghost use Rattle.dtx_plan.specs.TransmitterTable.{has_address};
 ghost use Rattle.dtx_plan.specs.Sound.{AreTransmitters};
-ghost use Rattle.dtx_exciter.specs.Packets.{told};
-ghost use Rattle.dtx_exciter.specs.Emission.{given};
+ghost use Rattle.dtx_exciter.specs.Packets.{last_answer};
+ghost use Rattle.dtx_exciter.specs.Emission.{last_segments};
 ghost use Rattle.dtx_exciter.specs.Log.{restart, line_of};
-ghost use Rattle.dtx_net.specs.Steps.{Step, packet_step, restart_step, place_of};
+ghost use Rattle.dtx_net.specs.Steps.{Step, packet_step, restart_step, transmitter_place};
 ghost use Rattle.dtx_net.specs.Lives.{own_steps, joined_steps, lives_of, last_life, ended_lives};
-ghost use Rattle.dtx_net.specs.Sent.{segments_of, lines_of};
+ghost use Rattle.dtx_net.specs.Sent.{sent_segments, lines_of};
 
 /// What a transmitter sends and what is logged of it are the same in any two schedules that give it the same lives, and
 /// so in any two in which the same is done with it, whatever is done with others and when. Steps of others, anywhere
 /// among its own, change none of its lives.
 pub fn interleavings()
     ensures segments { (t : Transmitter) (who : ℕ) (steps others : List Step) → lives_of who steps ≡ lives_of who others
-        → segments_of t who steps ≡ segments_of t who others }
+        → sent_segments t who steps ≡ sent_segments t who others }
     ensures lines { (t : Transmitter) (who : ℕ) (steps others : List Step) → lives_of who steps ≡ lives_of who others
         → lines_of t who steps ≡ lines_of t who others }
     ensures own { (t : Transmitter) (who : ℕ) (steps others : List Step)
         → own_steps who steps ≡ own_steps who others
-        → (lives_of who steps ≡ lives_of who others) × (segments_of t who steps ≡ segments_of t who others)
+        → (lives_of who steps ≡ lives_of who others) × (sent_segments t who steps ≡ sent_segments t who others)
         × (lines_of t who steps ≡ lines_of t who others) }
     ensures anywhere { (who : ℕ) (before after : List Step) (step : Step) → step.who ≢ who
         → lives_of who (before ++ step ∷ after) ≡ lives_of who (before ++ after) }
@@ -49,30 +49,30 @@ pub fn one_step_more()
 /// With a packet more a transmitter sends what it gives then, and the line of its answer is logged.
 pub fn one_packet_is_sent()
     ensures segments { (t : Transmitter) (who : ℕ) (steps : List Step) (packet : List ℕ)
-        → segments_of t who (steps ++ packet_step who packet ∷ []) ≡ segments_of t who steps
-        ++ given t.address t.delay (last_life who steps ++ packet ∷ []) }
+        → sent_segments t who (steps ++ packet_step who packet ∷ []) ≡ sent_segments t who steps
+        ++ last_segments t.address t.delay (last_life who steps ++ packet ∷ []) }
     ensures lines { (t : Transmitter) (who : ℕ) (steps : List Step) (packet : List ℕ)
         → lines_of t who (steps ++ packet_step who packet ∷ [])
-        ≡ lines_of t who steps ++ line_of (length (segments_of t who steps))
-        (length (given t.address t.delay (last_life who steps ++ packet ∷ [])))
-        (told t.address t.delay (last_life who steps ++ packet ∷ [])) }
+        ≡ lines_of t who steps ++ line_of (length (sent_segments t who steps))
+        (length (last_segments t.address t.delay (last_life who steps ++ packet ∷ [])))
+        (last_answer t.address t.delay (last_life who steps ++ packet ∷ [])) }
 {}
 
 /// With a restart nothing is sent, and it is logged with the number of segments so far.
 pub fn one_restart_is_logged()
     ensures segments { (t : Transmitter) (who : ℕ) (steps : List Step)
-        → segments_of t who (steps ++ restart_step who ∷ []) ≡ segments_of t who steps }
+        → sent_segments t who (steps ++ restart_step who ∷ []) ≡ sent_segments t who steps }
     ensures lines { (t : Transmitter) (who : ℕ) (steps : List Step)
         → lines_of t who (steps ++ restart_step who ∷ []) ≡ lines_of t who steps
-        ++ restart (length (segments_of t who steps)) ∷ [] }
+        ++ restart (length (sent_segments t who steps)) ∷ [] }
 {}
 
 /// The place of an address is the one at which it stands, and there is none exactly where no transmitter has it.
 pub fn places()
-    ensures found { (ts : List Transmitter) (address who : ℕ) → place_of address ts ≡ Some who
+    ensures found { (ts : List Transmitter) (address who : ℕ) → transmitter_place address ts ≡ Some who
         → (t : Transmitter) × (slice_get ts who ≡ Some t) × (t.address ≡ address) }
     ensures only { (ts : List Transmitter) (who : ℕ) (t : Transmitter) → AreTransmitters ts → slice_get ts who ≡ Some t
-        → place_of t.address ts ≡ Some who }
-    ensures missing { (ts : List Transmitter) (address : ℕ) → place_of address ts ≡ None
+        → transmitter_place t.address ts ≡ Some who }
+    ensures missing { (ts : List Transmitter) (address : ℕ) → transmitter_place address ts ≡ None
         → has_address address ts ≡ false }
 {}

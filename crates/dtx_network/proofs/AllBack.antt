@@ -4,7 +4,7 @@ use Rattle.std.proofs.Common.{get_or, sym, ap, ap₂, subst, ◌∙◌, arith}
 use Rattle.std.proofs.lemmas.List.{length-drop, length-take-le}
 use Rattle.dtx_coder.specs.Stream.{a53}
 use Rattle.dtx_coder.specs.CountsLaws.{length-a53}
-use Rattle.dtx_chain.specs.Undamaged.{ArePackets, with_sync}
+use Rattle.dtx_chain.specs.Undamaged.{ArePackets, as_received}
 use Rattle.dtx_chain.specs.Damage.{AreReceived, to_sync, from_sync, packet_behind, numbers_in}
 use Rattle.dtx_chain.specs.SlightLaws.{one_run_left}
 use Rattle.dtx_chain.specs.AllBackLaws.{all_back, none_flagged}
@@ -135,7 +135,7 @@ all_given_back feed k end got packets inside = λ begins alone.
       run = one_run_left feed (segment_place k) (stretch_of feed k end) got r l alone.slight
           ∙ ap (λ (n : ℕ). drop n got ∷ []) (same_sync k);
       packets = all_back feed (segment_place k) (stretch_of feed k end) got r l alone.slight packets
-          ∙ ap₂ (λ (f n : ℕ). map (λ j. with_sync (get_or feed (f + j) [])) (numbers_in (drop n got))) (same_packet k)
+          ∙ ap₂ (λ (f n : ℕ). map (λ j. as_received (get_or feed (f + j) [])) (numbers_in (drop n got))) (same_packet k)
           (same_sync k);
       good = none_flagged feed (segment_place k) (stretch_of feed k end) got r l alone.slight packets;
     }

@@ -10,15 +10,16 @@ use Rattle.std.proofs.lemmas.List.Folds.{flat_map-map}
 use Rattle.std.proofs.lemmas.Option.{slice_get-get_or, slice_get-map}
 use Rattle.dtx_receiver.specs.Bytes.{bytes_in}
 use Rattle.dtx_receiver.specs.Intervals.{AreRuns, segments_in}
-use Rattle.dtx_receiver.specs.Packets.{received_at, packets_of, all_packets, received}
+use Rattle.dtx_receiver.specs.Packets.{received_at, run_packets, all_packets, received}
 use Rattle.dtx_receiver.specs.declared.batch.Received.{Received}
 use Rattle.dtx_receiver.specs.IntervalsLaws.{are_runs, only_runs}
-use Rattle.dtx_chain.specs.Undamaged.{ArePackets, with_sync}
+use Rattle.dtx_chain.specs.Undamaged.{ArePackets, as_received}
 use Rattle.dtx_chain.specs.Damage.{as_corrected}
 use Rattle.dtx_chain.specs.NumbersLaws.{number_at}
 use Rattle.dtx_chain.specs.WordsLaws.{corrected_back}
 use Rattle.dtx_network.specs.Headline.{last_packet}
-use Rattle.dtx_network.specs.GivesBack.{BeginsField, to_field, word_of, IsReadable, packets_of_runs, IsBack, GivesBack}
+use Rattle.dtx_network.specs.GivesBack.{BeginsField, to_field, word_of, CanBeGivenBack, packets_of_runs, IsBack}
+use Rattle.dtx_network.specs.GivesBack.{GivesBack}
 
 -- ---- lists
 
@@ -50,10 +51,10 @@ middle_at before rs after j r h =
 -- all packets, where one of the runs is known
 packets_by_run : (got : List (List ℤ)) (earlier later : List (ℕ × ℕ)) (p : ℕ × ℕ) → AreRuns got 0 (earlier ++ p ∷ later)
     → all_packets got ≡ packets_of_runs got earlier
-    ++ (packets_of (bytes_in (segments_in got p)) ++ packets_of_runs got later)
+    ++ (run_packets (bytes_in (segments_in got p)) ++ packets_of_runs got later)
 unfolding all_packets packets_of_runs
 packets_by_run got earlier later p are =
-    let f : List (List ℤ) → List Received = λ run. packets_of (bytes_in run) in
+    let f : List (List ℤ) → List Received = λ run. run_packets (bytes_in run) in
     ap (flat_map f) ((are_runs got).2
     ∙ ap (map (segments_in got)) (only_runs got 0 (are_runs got).0 (earlier ++ p ∷ later) (are_runs got).1 are))
     ∙ flat_map-map f (segments_in got) (earlier ++ p ∷ later)
@@ -67,7 +68,7 @@ packet_inside : (end f j : ℕ) → f + 4 * ((207 * j + 0 + 52 * 4 * ((207 * j +
 packet_inside end f j l = omega (arith, l)
 
 corrected_packet : (feed : List (List ℕ)) (n : ℕ) (word : List ℕ)
-    → (as_corrected feed n word).packet.0 ≡ with_sync (get_or feed n [])
+    → (as_corrected feed n word).packet.0 ≡ as_received (get_or feed n [])
 unfolding as_corrected
 corrected_packet feed n word = refl
 
@@ -86,7 +87,7 @@ back feed k end s got packets inside = λ f n j earlier later begins are readabl
 ) earlier later begins are readable
   where
     at : (f j : ℕ) (p : ℕ × ℕ) (earlier later : List (ℕ × ℕ)) → BeginsField k end f
-        → AreRuns got 0 (earlier ++ p ∷ later) → IsReadable feed end f (segments_in got p) j
+        → AreRuns got 0 (earlier ++ p ∷ later) → CanBeGivenBack feed end f (segments_in got p) j
         → IsBack feed got (length (packets_of_runs got earlier) + j) (f + j) (word_of (segments_in got p) j)
     at f j p earlier later begins are readable =
         let bytes : List ℕ = bytes_in (segments_in got p) in
@@ -96,7 +97,7 @@ back feed k end s got packets inside = λ f n j earlier later begins are readabl
         let place : ℕ = length (packets_of_runs got earlier) + j in
         let here : slice_get (all_packets got) place ≡ Some r =
         ap (λ (rs : List Received). slice_get rs place) (packets_by_run got earlier later p are)
-        ∙ middle_at (packets_of_runs got earlier) (packets_of bytes) (packets_of_runs got later) j r
+        ∙ middle_at (packets_of_runs got earlier) (run_packets bytes) (packets_of_runs got later) j r
         (λ other. number_at bytes j other readable.given ∙ same) in
         record {
           packet = bytes_at got place r here ∙ ap Some (corrected_packet feed (f + j) (word_of (segments_in got p) j));

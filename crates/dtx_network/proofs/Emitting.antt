@@ -20,7 +20,7 @@ use Rattle.dtx_exciter.specs.LockstepIsLaws.{lockstep_is, lockstep_on, length-be
 use Rattle.dtx_network.specs.Plans.{IsPlan, IsStream, IsListed, IsInTime}
 use Rattle.dtx_network.specs.Orders.{has_order}
 use Rattle.dtx_network.specs.Presets.{orders, moment_at, preset_at, presets}
-use Rattle.dtx_network.specs.Headline.{IsFed, IsFirstOrder, stretch_of, segment_of, end_of}
+use Rattle.dtx_network.specs.Headline.{IsFed, IsFirstOrder, stretch_of, segment_of, line_end}
 use Rattle.dtx_network.specs.Headline.{Around, around, Emits}
 use Rattle.dtx_network.proofs.Orders.{order_some}
 use Rattle.dtx_network.proofs.Served.{feed_locks}
@@ -46,7 +46,7 @@ lines_after a d earlier feed later xs ys mark end =
     (emission a d (earlier ++ (slice_range feed mark end ++ later)))) ys
 
 earlier_lines : (a d : ℕ) (earlier feed : List (List ℕ)) (xs : List (List (List ℕ))) (mark k : ℕ)
-    → All (λ line. end_of line ≤ length (all_before a d earlier feed xs mark k))
+    → All (λ line. line_end line ≤ length (all_before a d earlier feed xs mark k))
     (lines_before a d earlier feed xs mark k)
 earlier_lines a d earlier feed xs mark k =
     let n : ℕ = 0 + length (emission_over a d xs) in
@@ -55,13 +55,13 @@ earlier_lines a d earlier feed xs mark k =
     ≡ length (emission_over a d xs) + length (before_stretch a d earlier feed mark k) =
     length-append (emission_over a d xs) (before_stretch a d earlier feed mark k) in
     let own = length-before a d feed earlier mark k in
-    All-append (λ line. end_of line ≤ length (all_before a d earlier feed xs mark k)) (restarted_lines a d 0 xs)
+    All-append (λ line. line_end line ≤ length (all_before a d earlier feed xs mark k)) (restarted_lines a d 0 xs)
     (life_lines a d n life)
-    (All-weaker (λ line. end_of line ≤ 0 + length (emission_over a d xs))
-    (λ line. end_of line ≤ length (all_before a d earlier feed xs mark k)) (λ line h. omega (arith, h, all))
+    (All-weaker (λ line. line_end line ≤ 0 + length (emission_over a d xs))
+    (λ line. line_end line ≤ length (all_before a d earlier feed xs mark k)) (λ line h. omega (arith, h, all))
     (restarted_lines a d 0 xs) (restarted_up a d 0 xs))
-    (All-weaker (λ line. end_of line ≤ n + length (emission a d life))
-    (λ line. end_of line ≤ length (all_before a d earlier feed xs mark k)) (λ line h. omega (arith, h, all, own))
+    (All-weaker (λ line. line_end line ≤ n + length (emission a d life))
+    (λ line. line_end line ≤ length (all_before a d earlier feed xs mark k)) (λ line h. omega (arith, h, all, own))
     (life_lines a d n life) (life_up a d n life))
 
 later_lines : (a d : ℕ) (earlier feed later : List (List ℕ)) (xs ys : List (List (List ℕ))) (mark end k : ℕ)
@@ -197,7 +197,7 @@ first_is plan offset s feed mark n k first =
 -- no other line speaks of anything within it
 pub no_other : (plan : Plan) (t : Transmitter) (feed : List (List ℕ)) (mark k end : ℕ) (a : Around)
     (segments : List (List ℤ)) (lines : List Line) (line : Line)
-    → (e : Emits plan t feed mark k end a segments lines) → Contains lines line → length e.before < end_of line
+    → (e : Emits plan t feed mark k end a segments lines) → Contains lines line → length e.before < line_end line
     → segment_of line < length e.before + length (stretch_of feed k end)
     → Contains (presets plan t.offset (length e.before) feed k end) line
 no_other plan t feed mark k end a segments lines line e c low high =
@@ -213,7 +213,7 @@ no_other plan t feed mark k end a segments lines line e c low high =
         absurd (omega (arith, h, high))
 
     by_part : Contains e.earlier line ⊎ Contains (own ++ e.later) line → Contains own line
-    by_part (inl c) = let h = All-contains (λ x. end_of x ≤ length e.before) e.earlier line e.up_to c in
+    by_part (inl c) = let h = All-contains (λ x. line_end x ≤ length e.before) e.earlier line e.up_to c in
         absurd (omega (arith, h, low))
     by_part (inr c) = by_own (Contains-append_cases own e.later line c)
 

@@ -13,7 +13,7 @@ use Rattle.dtx_ops.specs.declared.fields.Ops.{Ops}
 use Rattle.dtx_ops.specs.DataLaws.{length-data_of, AreBytes-data_of}
 use Rattle.dtx_ops.specs.ReadingsLaws.{read_as}
 use Rattle.dtx_plan.specs.declared.plan.Plan.{Plan}
-use Rattle.dtx_adapter.specs.Feed.{is_placeholder, ops_at, counter_at, made, fed_packet, feed}
+use Rattle.dtx_adapter.specs.Feed.{is_placeholder, ops_at, counter_at, as_feed_packet, fed_packet, feed}
 use Rattle.dtx_adapter.specs.FeedsLaws.{length-feed, feed_packet}
 use Rattle.dtx_chain.specs.Undamaged.{ArePackets}
 use Rattle.dtx_network.specs.Plans.{IsPlan, IsStream}
@@ -57,11 +57,11 @@ unfolding is_placeholder
 pid_true p t = eqb-true (pid_of p) 0x1FFA t
 
 packet_made : (ops : Ops) (counter k : ℕ) (p : List ℕ) → IsPacket p → counter < 16 → (pid_of p ≡ 0x1FFA → IsValid ops)
-    → IsPacket (made ops counter k p)
-unfolding made
+    → IsPacket (as_feed_packet ops counter k p)
+unfolding as_feed_packet
 packet_made ops counter k p h l valid = by_cases (cases_Bool (is_placeholder p))
   where
-    by_cases : (is_placeholder p ≡ true) ⊎ (is_placeholder p ≡ false) → IsPacket (made ops counter k p)
+    by_cases : (is_placeholder p ≡ true) ⊎ (is_placeholder p ≡ false) → IsPacket (as_feed_packet ops counter k p)
     by_cases (inl t) =
         subst IsPacket (sym (cond-true (is_placeholder p) (spelling ops counter (sync_at k)) (marked k p) t))
         (packet_spelled ops counter k (valid (pid_true p t)) l)

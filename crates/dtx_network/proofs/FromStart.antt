@@ -12,10 +12,11 @@ use Rattle.dtx_plan.specs.declared.plan.Plan.{Plan}
 use Rattle.dtx_plan.specs.declared.transmitter.Transmitter.{Transmitter}
 use Rattle.dtx_adapter.specs.Feed.{feed}
 use Rattle.dtx_exciter.specs.declared.answers.Told.TheVariants.{Quiet}
-use Rattle.dtx_exciter.specs.Order.{Order, either, latest, counted, placed, in_force}
+use Rattle.dtx_exciter.specs.Order.{Order, either, latest, counting_order, placed, in_force}
 use Rattle.dtx_exciter.specs.Told.{told_at, told_under, told_from, told_of}
-use Rattle.dtx_exciter.specs.Packets.{syncs, said, anchor_of, under, told}
-use Rattle.dtx_exciter.specs.Emission.{sent_by, sent_at, sent_before, with_sync, given_under, given, emission}
+use Rattle.dtx_exciter.specs.Packets.{syncs, readings, anchor_of, under, last_answer}
+use Rattle.dtx_exciter.specs.Emission.{sent_by, sent_at, sent_before, behind_field_sync, given_under, last_segments}
+use Rattle.dtx_exciter.specs.Emission.{emission}
 use Rattle.dtx_exciter.specs.Lockstep.{IsFeed, IsStretch, stretch}
 use Rattle.dtx_exciter.specs.Log.{line_of, life_lines}
 use Rattle.dtx_exciter.specs.Stretch.{sync_behind, before_stretch, stretch_lines}
@@ -38,7 +39,7 @@ use Rattle.dtx_network.proofs.Emitting.{stretch_from}
 
 -- no group of the first n packets orders anything
 abbrev pub NoneCounted : List (List ℕ) → ℕ → Type 0
-NoneCounted feed n = (g : ℕ) → g + 4 ≤ n → counted (said feed) g ≡ None
+NoneCounted feed n = (g : ℕ) → g + 4 ≤ n → counting_order (readings feed) g ≡ None
 
 latest_none : {A : Type 0} (f : ℕ → Option A) (n : ℕ) → ((g : ℕ) → g < n → f g ≡ None) → latest f n ≡ None
 latest_none f zero h = refl
@@ -47,21 +48,22 @@ latest_none {A} f (suc n) h =
 
 -- in any front of the feed
 counted_front : (feed : List (List ℕ)) (m g : ℕ) → m ≤ length feed → g + 4 ≤ m
-    → counted (said (take m feed)) g ≡ counted (said feed) g
+    → counting_order (readings (take m feed)) g ≡ counting_order (readings feed) g
 counted_front feed m g l h =
-    sym (counted_left (said (take m feed)) (said (drop m feed)) g (omega (
+    sym (counted_left (readings (take m feed)) (readings (drop m feed)) g (omega (
       arith,
       h,
       length-said (take m feed),
       length-take-le m feed l,
     )))
-    ∙ ap (λ x. counted x g) (sym (said_append (take m feed) (drop m feed)) ∙ ap said (take-append-drop m feed))
+    ∙ ap (λ x. counting_order x g) (sym (said_append (take m feed) (drop m feed))
+    ∙ ap readings (take-append-drop m feed))
 
 force_none : (feed : List (List ℕ)) (n m i : ℕ) → NoneCounted feed n → m ≤ n → n ≤ length feed → i + 4 ≤ m
-    → in_force (said (take m feed)) i ≡ None
+    → in_force (readings (take m feed)) i ≡ None
 unfolding in_force
 force_none feed n m i none l h w =
-    latest_none (λ g. placed g (counted (said (take m feed)) g)) (i + 1)
+    latest_none (λ g. placed g (counting_order (readings (take m feed)) g)) (i + 1)
     (λ g s. ap (placed g) (counted_front feed m g (omega (arith, l, h)) (omega (arith, w, s))
     ∙ none g (omega (arith, w, s, l))))
 
@@ -82,7 +84,7 @@ unfolding under
 under_front a d feed n j f l s = ap (option_map (λ k. drop k (take (j + 1) feed))) (anchor_front a d feed n j f l s)
 
 -- with no order in force
-given_no : (a d : ℕ) (l : List (List ℕ)) → (4 ≤ length l → in_force (said l) (length l - 4) ≡ None) → 0 < length l
+given_no : (a d : ℕ) (l : List (List ℕ)) → (4 ≤ length l → in_force (readings l) (length l - 4) ≡ None) → 0 < length l
     → given_under a d (Some l) ≡ []
 unfolding sent_at
 given_no a d l h s = by_test (cases_Bool (length l % 4 == 0))
@@ -93,27 +95,29 @@ given_no a d l h s = by_test (cases_Bool (length l % 4 == 0))
     by_test : ((length l % 4 == 0) ≡ true) ⊎ ((length l % 4 == 0) ≡ false) → given_under a d (Some l) ≡ []
     by_test (inl t) =
         let w : length l % 4 ≡ 0 = eqb-true (length l % 4) 0 t in
-        ap₂ (λ (b : Bool) (o : Option Order). cond b (with_sync (length l - 4) sent (sent_by a d l (length l - 4) o))
+        ap₂ (λ (b : Bool) (o : Option Order). cond b (behind_field_sync (length l - 4) sent (sent_by a d l
+        (length l - 4) o))
         []) t (h (omega (arith, w, s)))
     by_test (inr t) =
-        ap (λ (b : Bool). cond b (with_sync (length l - 4) sent
-        (sent_by a d l (length l - 4) (in_force (said l) (length l - 4)))) []) t
+        ap (λ (b : Bool). cond b (behind_field_sync (length l - 4) sent
+        (sent_by a d l (length l - 4) (in_force (readings l) (length l - 4)))) []) t
 
-told_no : (a d : ℕ) (l : List (List ℕ)) → (4 ≤ length l → in_force (said l) (length l - 4) ≡ None) → 0 < length l
-    → told_under a d (Some (said l)) ≡ Quiet
+told_no : (a d : ℕ) (l : List (List ℕ)) → (4 ≤ length l → in_force (readings l) (length l - 4) ≡ None) → 0 < length l
+    → told_under a d (Some (readings l)) ≡ Quiet
 told_no a d l h s =
-    ap (λ (n : ℕ). cond (n % 4 == 0) (told_at a d (n - 4) (in_force (said l) (n - 4))) Quiet) (length-said l)
+    ap (λ (n : ℕ). cond (n % 4 == 0) (told_at a d (n - 4) (in_force (readings l) (n - 4))) Quiet) (length-said l)
     ∙ by_test (cases_Bool (length l % 4 == 0))
   where
     by_test : ((length l % 4 == 0) ≡ true) ⊎ ((length l % 4 == 0) ≡ false)
-        → cond (length l % 4 == 0) (told_at a d (length l - 4) (in_force (said l) (length l - 4))) Quiet ≡ Quiet
+        → cond (length l % 4 == 0) (told_at a d (length l - 4) (in_force (readings l) (length l - 4))) Quiet ≡ Quiet
     by_test (inl t) =
         let w : length l % 4 ≡ 0 = eqb-true (length l % 4) 0 t in
         ap₂ (λ (b : Bool) (o : Option Order). cond b (told_at a d (length l - 4) o) Quiet) t (h (omega (arith, w, s)))
-    by_test (inr t) = ap (λ (b : Bool). cond b (told_at a d (length l - 4) (in_force (said l) (length l - 4))) Quiet) t
+    by_test (inr t) = ap (λ (b : Bool). cond b (told_at a d (length l - 4) (in_force (readings l)
+        (length l - 4))) Quiet) t
 
 force_front : (feed : List (List ℕ)) (n j : ℕ) → NoneCounted feed n → n ≤ length feed → j < n
-    → 4 ≤ length (take (j + 1) feed) → in_force (said (take (j + 1) feed)) (length (take (j + 1) feed) - 4) ≡ None
+    → 4 ≤ length (take (j + 1) feed) → in_force (readings (take (j + 1) feed)) (length (take (j + 1) feed) - 4) ≡ None
 force_front feed n j none l s h =
     force_none feed n (j + 1) (length (take (j + 1) feed) - 4) none (omega (arith, s)) l
     (omega (arith, h, length-take-le (j + 1) feed (omega (arith, s, l))))
@@ -122,30 +126,30 @@ some_front : (feed : List (List ℕ)) (n j : ℕ) → n ≤ length feed → j < 
 some_front feed n j l s = omega (arith, length-take-le (j + 1) feed (omega (arith, s, l)))
 
 given_nothing : (a d : ℕ) (feed : List (List ℕ)) (n j : ℕ) → IsFeed a d feed → NoneCounted feed n → n ≤ length feed
-    → j < n → given a d (take (j + 1) feed) ≡ []
-unfolding given
+    → j < n → last_segments a d (take (j + 1) feed) ≡ []
+unfolding last_segments
 given_nothing a d feed n j f none l s =
     ap (given_under a d) (under_front a d feed n j f l s)
     ∙ given_no a d (take (j + 1) feed) (force_front feed n j none l s) (some_front feed n j l s)
 
 -- the first packet moves no anchor
 told_first : (a d : ℕ) (packets : List (List ℕ)) → length packets ≡ 1 → anchor_of packets ≡ Some 0
-    → told a d packets ≡ told_under a d (Some (said packets))
-unfolding told told_of anchor anchor_of
+    → last_answer a d packets ≡ told_under a d (Some (readings packets))
+unfolding last_answer told_of anchor anchor_of
 told_first a d packets e h =
-    ap (λ (n : ℕ). told_from a d (anchor (take (n - 1) (syncs packets))) (anchor (syncs packets)) (said packets))
+    ap (λ (n : ℕ). told_from a d (anchor (take (n - 1) (syncs packets))) (anchor (syncs packets)) (readings packets))
     (length-syncs packets ∙ e)
-    ∙ ap (λ o. told_under a d (option_map (λ k. drop k (said packets)) o)) h
+    ∙ ap (λ o. told_under a d (option_map (λ k. drop k (readings packets)) o)) h
 
 told_nothing : (a d : ℕ) (feed : List (List ℕ)) (n j : ℕ) → IsFeed a d feed → NoneCounted feed n → n ≤ length feed
-    → j < n → told a d (take (j + 1) feed) ≡ Quiet
+    → j < n → last_answer a d (take (j + 1) feed) ≡ Quiet
 told_nothing a d feed n zero f none l s =
     told_first a d (take 1 feed) (length-take-le 1 feed (omega (arith, s, l))) (anchor_front a d feed n 0 f l s)
     ∙ told_no a d (take 1 feed) (force_front feed n 0 none l s) (some_front feed n 0 l s)
 told_nothing a d feed n (suc j) f none l s =
     let w : Follows [] feed 0 n = follows a d [] feed 0 n f (omega arith) (omega (arith, l)) (omega (arith, s)) in
     told_is a d [] feed 0 n (suc j) w (omega (arith, l)) (omega arith) s
-    ∙ ap (λ x. told_under a d (option_map said x)) (sym (w.holds (suc j) s) ∙ under_front a d feed n (suc j) f l s)
+    ∙ ap (λ x. told_under a d (option_map readings x)) (sym (w.holds (suc j) s) ∙ under_front a d feed n (suc j) f l s)
     ∙ told_no a d (take (suc j + 1) feed) (force_front feed n (suc j) none l s) (some_front feed n (suc j) l s)
 
 -- ---- all that is given and logged
@@ -159,22 +163,23 @@ pub emits_nothing : (a d : ℕ) (feed : List (List ℕ)) (n : ℕ) → IsFeed a 
     → emission a d (take n feed) ≡ []
 unfolding emission
 emits_nothing a d feed n f none l =
-    flat_nothing (λ i. given a d (take (i + 1) (take n feed))) 0 (length (take n feed))
+    flat_nothing (λ i. last_segments a d (take (i + 1) (take n feed))) 0 (length (take n feed))
     (λ i m.
     let s : i < n = omega (arith, m, length-take-le n feed l) in
-    ap (given a d) (take-take (i + 1) n feed (omega (arith, s))) ∙ given_nothing a d feed n i f none l s)
+    ap (last_segments a d) (take-take (i + 1) n feed (omega (arith, s))) ∙ given_nothing a d feed n i f none l s)
 
 pub logs_nothing : (a d s : ℕ) (feed : List (List ℕ)) (n : ℕ) → IsFeed a d feed → NoneCounted feed n → n ≤ length feed
     → life_lines a d s (take n feed) ≡ []
 unfolding life_lines
 logs_nothing a d s feed n f none l =
     flat_nothing (λ i. line_of (s + length (emission a d (take i (take n feed))))
-    (length (given a d (take (i + 1) (take n feed)))) (told a d (take (i + 1) (take n feed)))) 0
+    (length (last_segments a d (take (i + 1) (take n feed)))) (last_answer a d (take (i + 1) (take n feed)))) 0
     (length (take n feed))
     (λ i m.
     let h : i < n = omega (arith, m, length-take-le n feed l) in
-    ap (line_of (s + length (emission a d (take i (take n feed)))) (length (given a d (take (i + 1) (take n feed)))))
-    (ap (told a d) (take-take (i + 1) n feed (omega (arith, h))) ∙ told_nothing a d feed n i f none l h))
+    ap (line_of (s + length (emission a d (take i (take n feed)))) (length (last_segments a d (take (i + 1)
+    (take n feed)))))
+    (ap (last_answer a d) (take-take (i + 1) n feed (omega (arith, h))) ∙ told_nothing a d feed n i f none l h))
 
 -- ---- the feed of a plan
 
@@ -187,10 +192,10 @@ none_counted : (plan : Plan) (stream : List (List ℕ)) (n : ℕ) → IsPlan pla
 none_counted plan stream n p u none g l = by_place (cases_lt g 52) (cases_Bool (g % 4 == 0))
   where
     by_place : (g < 52) ⊎ (52 ≤ g) → ((g % 4 == 0) ≡ true) ⊎ ((g % 4 == 0) ≡ false)
-        → counted (said (feed plan stream)) g ≡ None
-    by_place (inl s) h = counted_early (said (feed plan stream)) g s
+        → counting_order (readings (feed plan stream)) g ≡ None
+    by_place (inl s) h = counted_early (readings (feed plan stream)) g s
     by_place (inr s) (inl t) = order_none plan stream g p u (none g (eqb-true (g % 4) 0 t) s l)
-    by_place (inr s) (inr t) = counted_off (said (feed plan stream)) g (eqb-false (g % 4) 0 t)
+    by_place (inr s) (inr t) = counted_off (readings (feed plan stream)) g (eqb-false (g % 4) 0 t)
 
 pub no_segments : (plan : Plan) (stream : List (List ℕ)) (t : Transmitter) (n : ℕ) → IsPlan plan → IsStream stream
     → IsListed plan t → IsInTime plan t → n ≤ length (feed plan stream)
@@ -231,7 +236,7 @@ nothing_before plan stream t n k p u listed time l first =
     let e : k ≡ k - 1 + 1 = omega (arith, far) in
     ap₂ (λ x y. x ++ sync_behind y k) (ap (emission t.address t.delay) (from_mark fed (k + 3))
     ∙ emits_nothing t.address t.delay fed (k + 3) locks none m)
-    (ap (given t.address t.delay) (from_mark fed k ∙ ap (λ j. take j fed) e)
+    (ap (last_segments t.address t.delay) (from_mark fed k ∙ ap (λ j. take j fed) e)
     ∙ given_nothing t.address t.delay fed (k + 3) (k - 1) locks none m (omega (arith, far)))
 
 is_stretch : (plan : Plan) (stream : List (List ℕ)) (n k : ℕ) → IsPlan plan → IsStream stream

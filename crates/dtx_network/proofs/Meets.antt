@@ -14,7 +14,7 @@ use Rattle.std.proofs.lemmas.Option.{get_or_from_slice_get}
 use Rattle.std.proofs.lemmas.List.Elements.{filter-append}
 use Rattle.std.proofs.lemmas.Map.Views.{list_any-from_Contains}
 use Rattle.dtx_lists.proofs.RangeSearch.{IsFirst, find-range_gives, find-range_misses}
-use Rattle.dtx_coder.specs.RangeMovedLaws.{map-range_moved}
+use Rattle.dtx_lists.proofs.RangeMoved.{map-range_moved}
 use Rattle.dtx_plan.specs.declared.plan.Plan.{Plan}
 use Rattle.dtx_plan.specs.declared.transmitter.Transmitter.{Transmitter}
 use Rattle.dtx_plan.specs.declared.event.Event.{Event}
@@ -25,8 +25,8 @@ use Rattle.dtx_adapter.specs.Feed.{feed}
 use Rattle.dtx_adapter.specs.FeedsLaws.{length-feed}
 use Rattle.dtx_exciter.specs.Emission.{emission}
 use Rattle.dtx_exciter.specs.Log.{emission_over}
-use Rattle.dtx_net.specs.Sent.{segments_of}
-use Rattle.dtx_net.specs.Steps.{Step, place_of, actions_of, steps_at, steps_of, schedule}
+use Rattle.dtx_net.specs.Sent.{sent_segments}
+use Rattle.dtx_net.specs.Steps.{Step, transmitter_place, actions_of, steps_at, steps_of, schedule}
 use Rattle.dtx_net.specs.Lives.{own_steps, lives_from, lives_of}
 use Rattle.dtx_net.specs.OwnLaws.{own_here, own_elsewhere}
 use Rattle.dtx_net.specs.PlaceOfLaws.{place_found, place_only}
@@ -280,7 +280,7 @@ own_at who (Some w) (a ∷ actions) n =
     ∙ own_at who (Some w) actions n
 
 not_here : (ts : List Transmitter) (t : Transmitter) (who : ℕ) (event : Event) → slice_get ts who ≡ Some t
-    → to_of event ≢ t.address → place_of (to_of event) ts ≢ Some who
+    → to_of event ≢ t.address → transmitter_place (to_of event) ts ≢ Some who
 not_here ts t who event listed n = λ here.
     let found = place_found ts (to_of event) who here in
     n (sym found.2 ∙ ap (λ (u : Transmitter). u.address)
@@ -293,9 +293,9 @@ done_by_others plan stream t who [] listed others = refl
 done_by_others plan stream t who (event ∷ events) listed others =
     let ts : List Transmitter = plan.transmitters.items in
     let fed : List (List ℕ) = feed plan stream in
-    own_more who (steps_at (place_of (to_of event) ts) (actions_of fed event)) (schedule ts fed events)
+    own_more who (steps_at (transmitter_place (to_of event) ts) (actions_of fed event)) (schedule ts fed events)
     ∙ ap₂ (λ (x y : List (Option (List ℕ))). x ++ y)
-    (own_at who (place_of (to_of event) ts) (actions_of fed event) (not_here ts t who event listed others.0))
+    (own_at who (transmitter_place (to_of event) ts) (actions_of fed event) (not_here ts t who event listed others.0))
     (done_by_others plan stream t who events listed others.1)
 
 one_life : (plan : Plan) (stream : List (List ℕ)) (t : Transmitter) (who n : ℕ) (before after : List Event)
@@ -319,9 +319,9 @@ one_life plan stream t who n before after p listed l first then =
 pub sends_alone : (plan : Plan) (stream : List (List ℕ)) (t : Transmitter) (who n k : ℕ) (before after : List Event)
     → IsPlan plan → IsStream stream → slice_get plan.transmitters.items who ≡ Some t → IsInTime plan t
     → n ≤ length stream → IsFirstOrder (feed plan stream) 0 n k → AreOfOthers t before → AreOfOthers t after
-    → segments_of t who (steps_under plan stream (before ++ Send t.address 0 n ∷ after))
+    → sent_segments t who (steps_under plan stream (before ++ Send t.address 0 n ∷ after))
     ≡ stretch_of (feed plan stream) k n
-unfolding segments_of
+unfolding sent_segments
 sends_alone plan stream t who n k before after p u listed time l order first then =
     ap (emission_over t.address t.delay) (one_life plan stream t who n before after p listed l first then)
     ∙ append-nil (emission t.address t.delay (take n (feed plan stream)))

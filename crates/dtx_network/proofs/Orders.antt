@@ -22,8 +22,8 @@ use Rattle.dtx_plan.specs.Sound.{IsTransmitter}
 use Rattle.dtx_adapter.specs.Feed.{entry_of, ops_at, feed}
 use Rattle.dtx_adapter.specs.FeedsLaws.{length-feed}
 use Rattle.dtx_adapter.specs.ReadingsLaws.{placeholder_reads, others_stay, said_states}
-use Rattle.dtx_exciter.specs.Order.{either, ordered, ordered_at, order_at, counted}
-use Rattle.dtx_exciter.specs.Packets.{read_fields, reads, said}
+use Rattle.dtx_exciter.specs.Order.{either, ordered, ordered_at, order_at, counting_order}
+use Rattle.dtx_exciter.specs.Packets.{read_fields, reads, readings}
 use Rattle.dtx_network.specs.Plans.{IsPlan, IsStream}
 use Rattle.dtx_network.specs.Orders.{is_operations, has_order, first_operations, order_of, IsOrder}
 
@@ -40,8 +40,8 @@ reads_as p ops h = ap read_fields h
 no_pid : pid_of [] ≢ 0x1FFA
 no_pid = λ e. omega (arith, e)
 
-said_at : (ps : List (List ℕ)) (k : ℕ) → get_or (said ps) k None ≡ reads (get_or ps k [])
-unfolding said
+said_at : (ps : List (List ℕ)) (k : ℕ) → get_or (readings ps) k None ≡ reads (get_or ps k [])
+unfolding readings
 said_at ps k = ap (λ (d : Option Ops). get_or (map reads ps) k d) (sym (reads_other [] no_pid))
     ∙ get_or-map reads ps k []
 
@@ -115,7 +115,7 @@ unfolding ops_at
 index_is plan before k = refl
 
 ordered_is : (plan : Plan) (stream : List (List ℕ)) (k : ℕ) → IsPlan plan → IsStream stream
-    → ordered_at (said (feed plan stream)) k ≡ cond (is_operations stream k)
+    → ordered_at (readings (feed plan stream)) k ≡ cond (is_operations stream k)
     (Some (ops_at plan (take k (feed plan stream)) k)) None
 unfolding is_operations
 ordered_is plan stream k p s = by_cases (cases_Bool (is_operations stream k))
@@ -124,7 +124,7 @@ ordered_is plan stream k p s = by_cases (cases_Bool (is_operations stream k))
     ops = ops_at plan (take k (feed plan stream)) k
 
     by_cases : (is_operations stream k ≡ true) ⊎ (is_operations stream k ≡ false)
-        → ordered_at (said (feed plan stream)) k ≡ cond (is_operations stream k) (Some ops) None
+        → ordered_at (readings (feed plan stream)) k ≡ cond (is_operations stream k) (Some ops) None
     by_cases (inl t) =
         ap (ordered (k % 624)) (said_at (feed plan stream) k
         ∙ reads_as (get_or (feed plan stream) k []) ops
@@ -162,11 +162,11 @@ first_picked {A} f p pick g h =
     ∙ either_picked (p g) pick g _ _ refl
 
 pub order_is : (plan : Plan) (stream : List (List ℕ)) (g : ℕ) → IsPlan plan → IsStream stream
-    → counted (said (feed plan stream)) g ≡ order_of plan stream g
-unfolding counted order_of order_at first_operations
+    → counting_order (readings (feed plan stream)) g ≡ order_of plan stream g
+unfolding counting_order order_of order_at first_operations
 order_is plan stream g p s =
     ap (λ (o : Option Ops). cond (nat_le 52 g && (g % 4 == 0)) o None)
-    (first_picked (ordered_at (said (feed plan stream))) (is_operations stream)
+    (first_picked (ordered_at (readings (feed plan stream))) (is_operations stream)
     (λ k. ops_at plan (take k (feed plan stream)) k) g (λ k. ordered_is plan stream k p s))
 
 -- ---- what its fields are
@@ -195,7 +195,7 @@ fields_at plan stream g j w l m =
     }
 
 pub order_says : (plan : Plan) (stream : List (List ℕ)) (g : ℕ) (ops : Ops) → IsPlan plan → IsStream stream
-    → counted (said (feed plan stream)) g ≡ Some ops → IsOrder plan stream g ops
+    → counting_order (readings (feed plan stream)) g ≡ Some ops → IsOrder plan stream g ops
 unfolding order_of first_operations
 order_says plan stream g ops p s h =
     let counts = cond_some (nat_le 52 g && (g % 4 == 0))
@@ -228,7 +228,7 @@ none_of (Some j) e = cc
 
 pub order_some : (plan : Plan) (stream : List (List ℕ)) (g : ℕ) → IsPlan plan → IsStream stream → 52 ≤ g → g % 4 ≡ 0
     → has_order (feed plan stream) g ≡ true
-    → (ops : Ops) × (counted (said (feed plan stream)) g ≡ Some ops)
+    → (ops : Ops) × (counting_order (readings (feed plan stream)) g ≡ Some ops)
 unfolding order_of first_operations has_order
 order_some plan stream g p s far whole h =
     let found = some_of (find (is_operations stream) (range_with_len g 4))
@@ -247,7 +247,7 @@ cond_none true o e = e
 cond_none false o e = refl
 
 pub order_none : (plan : Plan) (stream : List (List ℕ)) (g : ℕ) → IsPlan plan → IsStream stream
-    → has_order (feed plan stream) g ≡ false → counted (said (feed plan stream)) g ≡ None
+    → has_order (feed plan stream) g ≡ false → counting_order (readings (feed plan stream)) g ≡ None
 unfolding order_of first_operations has_order
 order_none plan stream g p s h =
     order_is plan stream g p s

@@ -8,7 +8,7 @@ use Rattle.dtx_lists.proofs.RangeSearch.{IsFirst, find-range_gives}
 use Rattle.dtx_cadence.specs.Anchor.{in_step, keeps_step, anchor}
 use Rattle.dtx_cadence.specs.NextAnchorLaws.{marks}
 use Rattle.dtx_packets.specs.Packet.{sync_of}
-use Rattle.dtx_exciter.specs.Packets.{anchor_of, said, syncs, told}
+use Rattle.dtx_exciter.specs.Packets.{anchor_of, readings, syncs, last_answer}
 use Rattle.dtx_exciter.specs.Told.{has_moved, told_from, told_of, told_under}
 use Rattle.dtx_exciter.specs.UnderLaws.{syncs_push}
 use Rattle.dtx_exciter.specs.declared.answers.Told.TheVariants.{Muted}
@@ -43,12 +43,12 @@ anchor_moves syncs more sync j l f = λ e.
 -- a packet with which the anchor is lost or moves
 pub moved_mutes : (address delay : ℕ) (d : List (List ℕ)) (p : List ℕ)
     → has_moved (anchor_of d) (anchor_of (d ++ p ∷ [])) ≡ true
-    → told address delay (d ++ p ∷ []) ≡ Muted Cadence
-unfolding told told_of anchor_of
+    → last_answer address delay (d ++ p ∷ []) ≡ Muted Cadence
+unfolding last_answer told_of anchor_of
 moved_mutes address delay d p m =
-    ap (λ s. told_from address delay (anchor s) (anchor (syncs (d ++ p ∷ []))) (said (d ++ p ∷ []))) front
+    ap (λ s. told_from address delay (anchor s) (anchor (syncs (d ++ p ∷ []))) (readings (d ++ p ∷ []))) front
     ∙ cond-true (has_moved (anchor (syncs d)) (anchor (syncs (d ++ p ∷ [])))) (Muted Cadence)
-    (told_under address delay (option_map (λ a. drop a (said (d ++ p ∷ []))) (anchor (syncs (d ++ p ∷ []))))) m
+    (told_under address delay (option_map (λ a. drop a (readings (d ++ p ∷ []))) (anchor (syncs (d ++ p ∷ []))))) m
   where
     shorter : length (syncs (d ++ p ∷ [])) - 1 ≡ length (syncs d)
     shorter = omega (arith, ap length (syncs_push d p), length_push (syncs d) (sync_of p))

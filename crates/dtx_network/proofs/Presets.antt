@@ -11,9 +11,9 @@ use Rattle.dtx_ops.specs.declared.fields.Ops.{Ops}
 use Rattle.dtx_plan.specs.declared.plan.Plan.{Plan}
 use Rattle.dtx_plan.specs.declared.transmitter.Transmitter.{Transmitter}
 use Rattle.dtx_adapter.specs.Feed.{feed}
-use Rattle.dtx_exciter.specs.Order.{counted, placed}
+use Rattle.dtx_exciter.specs.Order.{counting_order, placed}
 use Rattle.dtx_exciter.specs.Told.{offset_of}
-use Rattle.dtx_exciter.specs.Packets.{said}
+use Rattle.dtx_exciter.specs.Packets.{readings}
 use Rattle.dtx_exciter.specs.Lockstep.{segment_place}
 use Rattle.dtx_exciter.specs.Log.{Line, preset}
 use Rattle.dtx_exciter.specs.Stretch.{preset_line, orders_in, stretch_lines}
@@ -50,7 +50,7 @@ line_is plan stream t s k g ops p listed o =
 -- the line of a group, where it orders something
 line_at : (plan : Plan) (stream : List (List ℕ)) (t : Transmitter) (s k g : ℕ) → IsPlan plan → IsStream stream
     → IsListed plan t → 52 ≤ g
-    → option_map (preset_line t.address s k) (placed g (counted (said (feed plan stream)) g))
+    → option_map (preset_line t.address s k) (placed g (counting_order (readings (feed plan stream)) g))
     ≡ cond ((g % 4 == 0) && has_order (feed plan stream) g) (Some (preset_at plan t.offset s k g)) None
 line_at plan stream t s k g p u listed far = by_place (cases_Bool (g % 4 == 0))
   where
@@ -61,7 +61,7 @@ line_at plan stream t s k g p u listed far = by_place (cases_Bool (g % 4 == 0))
     line = preset_at plan t.offset s k g
 
     by_order : (g % 4 == 0) ≡ true → (has_order (feed plan stream) g ≡ true) ⊎ (has_order (feed plan stream) g ≡ false)
-        → option_map (preset_line t.address s k) (placed g (counted (said (feed plan stream)) g))
+        → option_map (preset_line t.address s k) (placed g (counting_order (readings (feed plan stream)) g))
         ≡ cond test (Some line) None
     by_order e (inl h) =
         let order = order_some plan stream g p u far (eqb-true (g % 4) 0 e) h in
@@ -73,12 +73,12 @@ line_at plan stream t s k g p u listed far = by_place (cases_Bool (g % 4 == 0))
         ∙ sym (cond-false test (Some line) None (and_right (g % 4 == 0) (has_order (feed plan stream) g) h))
 
     by_place : ((g % 4 == 0) ≡ true) ⊎ ((g % 4 == 0) ≡ false)
-        → option_map (preset_line t.address s k) (placed g (counted (said (feed plan stream)) g))
+        → option_map (preset_line t.address s k) (placed g (counting_order (readings (feed plan stream)) g))
         ≡ cond test (Some line) None
     by_place (inl e) = by_order e (cases_Bool (has_order (feed plan stream) g))
     by_place (inr e) =
         ap (λ (o : Option Ops). option_map (preset_line t.address s k) (placed g o))
-        (counted_off (said (feed plan stream)) g (eqb-false (g % 4) 0 e))
+        (counted_off (readings (feed plan stream)) g (eqb-false (g % 4) 0 e))
         ∙ sym (cond-false test (Some line) None (and_left (g % 4 == 0) (has_order (feed plan stream) g) e))
 
 -- ---- all lines
@@ -105,6 +105,6 @@ pub lines_are : (plan : Plan) (stream : List (List ℕ)) (t : Transmitter) (s k 
     → stretch_lines t.address s (feed plan stream) k end ≡ presets plan t.offset s (feed plan stream) k end
 unfolding stretch_lines orders_in presets orders
 lines_are plan stream t s k end p u listed far =
-    picked_over (preset_line t.address s k) (λ g. placed g (counted (said (feed plan stream)) g))
+    picked_over (preset_line t.address s k) (λ g. placed g (counting_order (readings (feed plan stream)) g))
     (preset_at plan t.offset s k) (λ g. (g % 4 == 0) && has_order (feed plan stream) g) k (end - 3 - k)
     (λ g l m. line_at plan stream t s k g p u listed (omega (arith, far, l)))

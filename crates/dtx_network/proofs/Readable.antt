@@ -4,7 +4,7 @@ use Rattle.std.proofs.Common.{drop, get_or, sym, ap, subst, ◌∙◌, arith}
 use Rattle.std.proofs.lemmas.Bool.{cases_lt}
 use Rattle.std.proofs.lemmas.List.{length-take, length-drop, take_all, get_or-take, get_or-drop, get_or-append-add}
 use Rattle.std.proofs.lemmas.List.{get_or_append_left}
-use Rattle.dtx_outer.specs.Inner.{place_of, IsComplete}
+use Rattle.dtx_outer.specs.Inner.{codeword_byte_place, IsComplete}
 use Rattle.dtx_coder.specs.Stream.{a53}
 use Rattle.dtx_receiver.specs.Bytes.{data_count, groups_of, bytes_in}
 use Rattle.dtx_receiver.specs.Intervals.{segments_in}
@@ -13,7 +13,7 @@ use Rattle.dtx_chain.specs.Undamaged.{ArePackets}
 use Rattle.dtx_chain.specs.Damage.{IsNear}
 use Rattle.dtx_chain.specs.FromSyncLaws.{IsThere, length-bytes_there, front_near, some_segments}
 use Rattle.dtx_network.specs.Headline.{last_packet, stretch_of}
-use Rattle.dtx_network.specs.GivesBack.{BeginsField, to_field, word_of, IsReadable}
+use Rattle.dtx_network.specs.GivesBack.{BeginsField, to_field, word_of, CanBeGivenBack}
 use Rattle.dtx_network.proofs.AllBack.{length-stretch_of}
 
 -- ---- places
@@ -151,7 +151,7 @@ field_within feed k end f inside begins =
 complete_in : (feed : List (List ℕ)) (k end f j : ℕ) (run : List (List ℤ)) → ArePackets feed → end ≤ length feed
     → BeginsField k end f → IsThere feed (f / 312) (take (left_from feed k end f) run)
     → IsComplete 207 52 4 (length (bytes_in run)) j
-    → ((i : ℕ) → i < 207 → f + 4 * (place_of 52 4 (207 * j + i) / 828) + 3 ≤ last_packet end)
+    → ((i : ℕ) → i < 207 → f + 4 * (codeword_byte_place 52 4 (207 * j + i) / 828) + 3 ≤ last_packet end)
     → (length run < left_from feed k end f) ⊎ (left_from feed k end f ≤ length run)
     → IsComplete 207 52 4 (828 * groups_of (take (left_from feed k end f) run)) j
 unfolding groups_of data_count
@@ -167,9 +167,9 @@ complete_in feed k end f j run p inside begins there given lies (inr l) = λ i m
     ≡ 4 * (end / 4) - 1 + (4 * (end / 4) - 1) / 312 + 2 - 313 * (f / 312) =
     omega (arith, l, length-take (left_from feed k end f) run) ∙ length-left feed k end f inside begins in
     let turn = field_turn f begins.begins in
-    let a : ℕ = place_of 52 4 (207 * j + i) / 828 in
+    let a : ℕ = codeword_byte_place 52 4 (207 * j + i) / 828 in
     let fewer = groups_left (f / 312) (end / 4) a (omega (arith, lies i m, turn)) in
-    subst (λ (n : ℕ). place_of 52 4 (207 * j + i) < 828 * ((n - (n + 312) / 313) / 4)) (sym long)
+    subst (λ (n : ℕ). codeword_byte_place 52 4 (207 * j + i) < 828 * ((n - (n + 312) / 313) / 4)) (sym long)
     (omega (arith, fewer))
 
 -- ---- the stretch is readable
@@ -178,8 +178,8 @@ pub readable : (feed : List (List ℕ)) (k end f n j : ℕ) (before after : List
     → end ≤ length feed → BeginsField k end f
     → IsComplete 207 52 4 (length (bytes_in (segments_in (before ++ (stretch_of feed k end ++ after))
     (length before + to_field k f, n)))) j
-    → ((i : ℕ) → i < 207 → f + 4 * (place_of 52 4 (207 * j + i) / 828) + 3 ≤ last_packet end)
-    → IsReadable feed end f (segments_in (before ++ (stretch_of feed k end ++ after))
+    → ((i : ℕ) → i < 207 → f + 4 * (codeword_byte_place 52 4 (207 * j + i) / 828) + 3 ≤ last_packet end)
+    → CanBeGivenBack feed end f (segments_in (before ++ (stretch_of feed k end ++ after))
     (length before + to_field k f, n)) j
 readable feed k end f n j before after p inside begins given lies =
     let run : List (List ℤ) =

@@ -18,15 +18,16 @@ use Rattle.dtx_exciter.specs.declared.answers.Told.{Told}
 use Rattle.dtx_exciter.specs.declared.answers.Told.TheVariants.{Quiet, Sent, Muted}
 use Rattle.dtx_exciter.specs.Order.{Order, in_force}
 use Rattle.dtx_exciter.specs.Told.{served, told_by, told_at, told_under, told_from, told_of, has_moved}
-use Rattle.dtx_exciter.specs.Packets.{syncs, said, anchor_of, under, told}
-use Rattle.dtx_exciter.specs.Emission.{segments_since, sent_by, sent_at, sent_before, with_sync, given_under, given}
+use Rattle.dtx_exciter.specs.Packets.{syncs, readings, anchor_of, under, last_answer}
+use Rattle.dtx_exciter.specs.Emission.{segments_since, sent_by, sent_at, sent_before, behind_field_sync, given_under}
+use Rattle.dtx_exciter.specs.Emission.{last_segments}
 use Rattle.dtx_exciter.specs.Emission.{emission}
 use Rattle.dtx_exciter.specs.Log.{preset, mute, restart, line_of, life_lines, restarted_lines, restarting_lines}
 use Rattle.dtx_exciter.specs.Log.{emission_over}
 use Rattle.dtx_exciter.specs.Stretch.{emission_behind, lines_behind}
 use Rattle.dtx_exciter.specs.EmittedLaws.{emission_more, emission_push}
 use Rattle.dtx_exciter.specs.UnderLaws.{said_drop, length-said}
-use Rattle.dtx_network.specs.Headline.{segment_of, end_of}
+use Rattle.dtx_network.specs.Headline.{segment_of, line_end}
 
 -- ---- a preset has its group's segments
 
@@ -34,7 +35,7 @@ length-since : (g : ℕ) (q : List ℕ) (packets : List (List ℕ)) (u : ℕ) �
 unfolding segments_since four_segments
 length-since g q packets u = length-map-range_with_len (segment (levels_since g q packets)) (4 * (u - g)) 4
 
-with_sync_long : (i : ℕ) (before after : List (List ℤ)) → length after ≤ length (with_sync i before after)
+with_sync_long : (i : ℕ) (before after : List (List ℤ)) → length after ≤ length (behind_field_sync i before after)
 with_sync_long i before [] = omega arith
 with_sync_long i [] (s ∷ ss) = omega arith
 with_sync_long i (b ∷ bs) (s ∷ ss) =
@@ -56,28 +57,29 @@ sent_long a d packets i (Some order) p e = by_result (served a d order.ops) e
     by_result (Ok hold) e = omega (arith, length-since (order.place / 4) order.ops.states packets (i / 4))
     by_result (Err why) e = absurd (not_sent (order.place == i) why p e)
 
-given_at : (a d : ℕ) (l : List (List ℕ)) (p : Preset) → told_under a d (Some (said l)) ≡ Sent (Some p)
+given_at : (a d : ℕ) (l : List (List ℕ)) (p : Preset) → told_under a d (Some (readings l)) ≡ Sent (Some p)
     → 4 ≤ length (given_under a d (Some l))
 unfolding sent_at
 given_at a d l p e =
     by_test (length l % 4 == 0)
-    (sym (ap (λ (n : ℕ). cond (n % 4 == 0) (told_at a d (n - 4) (in_force (said l) (n - 4))) Quiet) (length-said l))
+    (sym (ap (λ (n : ℕ). cond (n % 4 == 0) (told_at a d (n - 4) (in_force (readings l) (n - 4))) Quiet) (length-said l))
     ∙ e)
   where
-    by_test : (t : Bool) → cond t (told_at a d (length l - 4) (in_force (said l) (length l - 4))) Quiet ≡ Sent (Some p)
-        → 4 ≤ length (cond t (with_sync (length l - 4) (sent_before a d l (length l - 4))
+    by_test : (t : Bool) → cond t (told_at a d (length l - 4) (in_force (readings l) (length l - 4))) Quiet
+        ≡ Sent (Some p)
+        → 4 ≤ length (cond t (behind_field_sync (length l - 4) (sent_before a d l (length l - 4))
         (sent_at a d l (length l - 4))) [])
     by_test true e =
         omega (
           arith,
-          sent_long a d l (length l - 4) (in_force (said l) (length l - 4)) p e,
+          sent_long a d l (length l - 4) (in_force (readings l) (length l - 4)) p e,
           with_sync_long (length l - 4) (sent_before a d l (length l - 4)) (sent_at a d l (length l - 4)),
         )
     by_test false e = cc
 
-given_long : (a d : ℕ) (packets : List (List ℕ)) (p : Preset) → told a d packets ≡ Sent (Some p)
-    → 4 ≤ length (given a d packets)
-unfolding told told_of given under anchor_of
+given_long : (a d : ℕ) (packets : List (List ℕ)) (p : Preset) → last_answer a d packets ≡ Sent (Some p)
+    → 4 ≤ length (last_segments a d packets)
+unfolding last_answer told_of last_segments under anchor_of
 given_long a d packets p e =
     by_anchor (anchor (take (length (syncs packets) - 1) (syncs packets))) (anchor (syncs packets)) e
   where
@@ -85,7 +87,7 @@ given_long a d packets p e =
     by_moved true x e = cc
     by_moved false x e = e
 
-    by_anchor : (before now : Option ℕ) → told_from a d before now (said packets) ≡ Sent (Some p)
+    by_anchor : (before now : Option ℕ) → told_from a d before now (readings packets) ≡ Sent (Some p)
         → 4 ≤ length (given_under a d (option_map (λ a. drop a packets) now))
     by_anchor before None e = absurd (quiet (by_moved (has_moved before None) Quiet e))
       where
@@ -94,20 +96,20 @@ given_long a d packets p e =
     by_anchor before (Some j) e =
         given_at a d (drop j packets) p
         (ap (λ s. told_under a d (Some s)) (sym (said_drop j packets))
-        ∙ by_moved (has_moved before (Some j)) (told_under a d (Some (drop j (said packets)))) e)
+        ∙ by_moved (has_moved before (Some j)) (told_under a d (Some (drop j (readings packets)))) e)
 
 -- ---- one line
 
 line_up : (n m : ℕ) (t : Told) → ((p : Preset) → t ≡ Sent (Some p) → 4 ≤ m)
-    → All (λ line. end_of line ≤ n + m) (line_of n m t)
-line_up n m Quiet h = All-nil (λ line. end_of line ≤ n + m)
-line_up n m (Sent None) h = All-nil (λ line. end_of line ≤ n + m)
+    → All (λ line. line_end line ≤ n + m) (line_of n m t)
+line_up n m Quiet h = All-nil (λ line. line_end line ≤ n + m)
+line_up n m (Sent None) h = All-nil (λ line. line_end line ≤ n + m)
 line_up n m (Sent (Some p)) h =
     let few : 4 ≤ m = h p refl in
-    All-cons (λ line. end_of line ≤ n + m) (preset (n + m - 4) p.frame p.packet p.moment.tick p.moment.grain) []
-    (omega (arith, few)) (All-nil (λ line. end_of line ≤ n + m))
+    All-cons (λ line. line_end line ≤ n + m) (preset (n + m - 4) p.frame p.packet p.moment.tick p.moment.grain) []
+    (omega (arith, few)) (All-nil (λ line. line_end line ≤ n + m))
 line_up n m (Muted why) h =
-    All-cons (λ line. end_of line ≤ n + m) (mute n why) [] (omega arith) (All-nil (λ line. end_of line ≤ n + m))
+    All-cons (λ line. line_end line ≤ n + m) (mute n why) [] (omega arith) (All-nil (λ line. line_end line ≤ n + m))
 
 line_down : (n m : ℕ) (t : Told) → ((p : Preset) → t ≡ Sent (Some p) → 4 ≤ m)
     → All (λ line. n ≤ segment_of line) (line_of n m t)
@@ -131,12 +133,12 @@ all_flat P f a (suc n) h =
 
 -- all that was given up to one packet of it
 emission_up : (a d : ℕ) (life : List (List ℕ)) (i : ℕ) → i < length life
-    → length (emission a d (take i life)) + length (given a d (take (i + 1) life)) ≤ length (emission a d life)
+    → length (emission a d (take i life)) + length (last_segments a d (take (i + 1) life)) ≤ length (emission a d life)
 emission_up a d life i l =
     let more : take (i + 1) life ≡ take i life ++ get_or life i [] ∷ [] = take_more life i [] l in
-    let here : emission a d (take (i + 1) life) ≡ emission a d (take i life) ++ given a d (take (i + 1) life) =
+    let here : emission a d (take (i + 1) life) ≡ emission a d (take i life) ++ last_segments a d (take (i + 1) life) =
     ap (emission a d) more ∙ emission_push a d (take i life) (get_or life i [])
-    ∙ ap (λ x. emission a d (take i life) ++ given a d x) (sym more) in
+    ∙ ap (λ x. emission a d (take i life) ++ last_segments a d x) (sym more) in
     let all : emission a d life ≡ emission a d (take (i + 1) life)
     ++ emission_behind a d (take (i + 1) life) (drop (i + 1) life) =
     ap (emission a d) (sym (take-append-drop (i + 1) life))
@@ -145,40 +147,41 @@ emission_up a d life i l =
       arith,
       ap (λ (x : List (List ℤ)). length x) here,
       ap (λ (x : List (List ℤ)). length x) all,
-      length-append (emission a d (take i life)) (given a d (take (i + 1) life)),
+      length-append (emission a d (take i life)) (last_segments a d (take (i + 1) life)),
       length-append (emission a d (take (i + 1) life)) (emission_behind a d (take (i + 1) life) (drop (i + 1) life)),
     )
 
 pub life_up : (a d n : ℕ) (life : List (List ℕ))
-    → All (λ line. end_of line ≤ n + length (emission a d life)) (life_lines a d n life)
+    → All (λ line. line_end line ≤ n + length (emission a d life)) (life_lines a d n life)
 unfolding life_lines
 life_up a d n life =
-    all_flat (λ line. end_of line ≤ n + length (emission a d life))
-    (λ i. line_of (n + length (emission a d (take i life))) (length (given a d (take (i + 1) life)))
-    (told a d (take (i + 1) life))) 0 (length life)
+    all_flat (λ line. line_end line ≤ n + length (emission a d life))
+    (λ i. line_of (n + length (emission a d (take i life))) (length (last_segments a d (take (i + 1) life)))
+    (last_answer a d (take (i + 1) life))) 0 (length life)
     (λ i l m.
-    let most : length (emission a d (take i life)) + length (given a d (take (i + 1) life)) ≤ length
+    let most : length (emission a d (take i life)) + length (last_segments a d (take (i + 1) life)) ≤ length
     (emission a d life) = emission_up a d life i (omega (arith, m)) in
-    All-weaker (λ line. end_of line ≤ n + length (emission a d (take i life)) + length (given a d (take (i + 1) life)))
-    (λ line. end_of line ≤ n + length (emission a d life)) (λ line h. omega (arith, h, most))
-    (line_of (n + length (emission a d (take i life))) (length (given a d (take (i + 1) life)))
-    (told a d (take (i + 1) life)))
-    (line_up (n + length (emission a d (take i life))) (length (given a d (take (i + 1) life)))
-    (told a d (take (i + 1) life)) (given_long a d (take (i + 1) life))))
+    All-weaker (λ line. line_end line ≤ n + length (emission a d (take i life)) + length (last_segments a d (take
+    (i + 1) life)))
+    (λ line. line_end line ≤ n + length (emission a d life)) (λ line h. omega (arith, h, most))
+    (line_of (n + length (emission a d (take i life))) (length (last_segments a d (take (i + 1) life)))
+    (last_answer a d (take (i + 1) life)))
+    (line_up (n + length (emission a d (take i life))) (length (last_segments a d (take (i + 1) life)))
+    (last_answer a d (take (i + 1) life)) (given_long a d (take (i + 1) life))))
 
 pub life_down : (a d n : ℕ) (life : List (List ℕ)) → All (λ line. n ≤ segment_of line) (life_lines a d n life)
 unfolding life_lines
 life_down a d n life =
     all_flat (λ line. n ≤ segment_of line)
-    (λ i. line_of (n + length (emission a d (take i life))) (length (given a d (take (i + 1) life)))
-    (told a d (take (i + 1) life))) 0 (length life)
+    (λ i. line_of (n + length (emission a d (take i life))) (length (last_segments a d (take (i + 1) life)))
+    (last_answer a d (take (i + 1) life))) 0 (length life)
     (λ i l m.
     All-weaker (λ line. n + length (emission a d (take i life)) ≤ segment_of line) (λ line. n ≤ segment_of line)
     (λ line h. omega (arith, h))
-    (line_of (n + length (emission a d (take i life))) (length (given a d (take (i + 1) life)))
-    (told a d (take (i + 1) life)))
-    (line_down (n + length (emission a d (take i life))) (length (given a d (take (i + 1) life)))
-    (told a d (take (i + 1) life)) (given_long a d (take (i + 1) life))))
+    (line_of (n + length (emission a d (take i life))) (length (last_segments a d (take (i + 1) life)))
+    (last_answer a d (take (i + 1) life)))
+    (line_down (n + length (emission a d (take i life))) (length (last_segments a d (take (i + 1) life)))
+    (last_answer a d (take (i + 1) life)) (given_long a d (take (i + 1) life))))
 
 -- the lines of further packets
 pub behind_down : (a d n : ℕ) (packets more : List (List ℕ))
@@ -187,7 +190,8 @@ unfolding lines_behind
 behind_down a d n packets more =
     all_flat (λ line. n + length (emission a d packets) ≤ segment_of line)
     (λ i. line_of (n + length (emission a d (packets ++ take i more)))
-    (length (given a d (packets ++ take (i + 1) more))) (told a d (packets ++ take (i + 1) more))) 0 (length more)
+    (length (last_segments a d (packets ++ take (i + 1) more))) (last_answer a d (packets
+    ++ take (i + 1) more))) 0 (length more)
     (λ i l m.
     let grows : length (emission a d (packets ++ take i more))
     ≡ length (emission a d packets) + length (emission_behind a d packets (take i more)) =
@@ -195,30 +199,32 @@ behind_down a d n packets more =
     ∙ length-append (emission a d packets) (emission_behind a d packets (take i more)) in
     All-weaker (λ line. n + length (emission a d (packets ++ take i more)) ≤ segment_of line)
     (λ line. n + length (emission a d packets) ≤ segment_of line) (λ line h. omega (arith, h, grows))
-    (line_of (n + length (emission a d (packets ++ take i more))) (length (given a d (packets ++ take (i + 1) more)))
-    (told a d (packets ++ take (i + 1) more)))
-    (line_down (n + length (emission a d (packets ++ take i more))) (length (given a d (packets ++ take (i + 1) more)))
-    (told a d (packets ++ take (i + 1) more)) (given_long a d (packets ++ take (i + 1) more))))
+    (line_of (n + length (emission a d (packets ++ take i more))) (length (last_segments a d (packets
+    ++ take (i + 1) more)))
+    (last_answer a d (packets ++ take (i + 1) more)))
+    (line_down (n + length (emission a d (packets ++ take i more))) (length (last_segments a d (packets
+    ++ take (i + 1) more)))
+    (last_answer a d (packets ++ take (i + 1) more)) (given_long a d (packets ++ take (i + 1) more))))
 
 -- ---- the lines of other lives
 
 pub restarted_up : (a d n : ℕ) (xs : List (List (List ℕ)))
-    → All (λ line. end_of line ≤ n + length (emission_over a d xs)) (restarted_lines a d n xs)
+    → All (λ line. line_end line ≤ n + length (emission_over a d xs)) (restarted_lines a d n xs)
 unfolding restarted_lines
-restarted_up a d n [] = All-nil (λ line. end_of line ≤ n + 0)
+restarted_up a d n [] = All-nil (λ line. line_end line ≤ n + 0)
 restarted_up a d n (x ∷ xs) =
     let m : ℕ = n + length (emission a d x) in
     let sum : length (emission_over a d (x ∷ xs)) ≡ length (emission a d x) + length (emission_over a d xs) =
     length-append (emission a d x) (emission_over a d xs) in
-    All-append (λ line. end_of line ≤ n + length (emission_over a d (x ∷ xs))) (life_lines a d n x)
+    All-append (λ line. line_end line ≤ n + length (emission_over a d (x ∷ xs))) (life_lines a d n x)
     (restart m ∷ restarted_lines a d m xs)
-    (All-weaker (λ line. end_of line ≤ n + length (emission a d x))
-    (λ line. end_of line ≤ n + length (emission_over a d (x ∷ xs))) (λ line h. omega (arith, h, sum))
+    (All-weaker (λ line. line_end line ≤ n + length (emission a d x))
+    (λ line. line_end line ≤ n + length (emission_over a d (x ∷ xs))) (λ line h. omega (arith, h, sum))
     (life_lines a d n x) (life_up a d n x))
-    (All-cons (λ line. end_of line ≤ n + length (emission_over a d (x ∷ xs))) (restart m) (restarted_lines a d m xs)
+    (All-cons (λ line. line_end line ≤ n + length (emission_over a d (x ∷ xs))) (restart m) (restarted_lines a d m xs)
     (omega (arith, sum))
-    (All-weaker (λ line. end_of line ≤ m + length (emission_over a d xs))
-    (λ line. end_of line ≤ n + length (emission_over a d (x ∷ xs))) (λ line h. omega (arith, h, sum))
+    (All-weaker (λ line. line_end line ≤ m + length (emission_over a d xs))
+    (λ line. line_end line ≤ n + length (emission_over a d (x ∷ xs))) (λ line h. omega (arith, h, sum))
     (restarted_lines a d m xs)
     (restarted_up a d m xs)))
 

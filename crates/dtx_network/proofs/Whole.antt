@@ -13,7 +13,7 @@ use Rattle.dtx_plan.specs.declared.event.Event.{Event}
 use Rattle.dtx_adapter.specs.Feed.{feed}
 use Rattle.dtx_exciter.specs.declared.answers.Why.{Why}
 use Rattle.dtx_exciter.specs.Log.{Line, preset, mute, restart, log, emission_over}
-use Rattle.dtx_net.specs.Sent.{segments_of, lines_of}
+use Rattle.dtx_net.specs.Sent.{sent_segments, lines_of}
 use Rattle.dtx_chain.specs.Undamaged.{ArePackets}
 use Rattle.dtx_network.specs.Plans.{IsPlan, IsStream}
 use Rattle.dtx_network.specs.Presets.{orders, preset_at, presets}
@@ -37,12 +37,12 @@ contains_map f xs x c = (c.0, omega (arith, c.1, length-map xs f), get_or-map f 
 abbrev EmitsOf : (plan : Plan) (stream : List (List ℕ)) (events : List Event) → Joined plan stream events → Type 0
 EmitsOf plan stream events x =
     Emits plan x.t (feed plan stream) x.mark x.k (x.mark + x.count) (around x.lives_before x.fed x.lives_behind)
-    (segments_of x.t x.who (steps_under plan stream events))
+    (sent_segments x.t x.who (steps_under plan stream events))
     (lines_of x.t x.who (steps_under plan stream events))
 
 it_emits : (plan : Plan) (stream : List (List ℕ)) (events : List Event) → IsPlan plan → IsStream stream
     → (x : Joined plan stream events) → EmitsOf plan stream events x
-unfolding segments_of lines_of
+unfolding sent_segments lines_of
 it_emits plan stream events p s x =
     subst (λ (all : List (List (List ℕ))). Emits plan x.t (feed plan stream) x.mark x.k (x.mark + x.count)
     (around x.lives_before x.fed x.lives_behind) (emission_over x.t.address x.t.delay all)
@@ -93,7 +93,7 @@ follows plan stream events p s x =
       emits = e;
       named = first_is plan x.t.offset (length e.before) fed x.mark x.count x.k x.order;
       unmuted = no_mute plan x.t fed x.mark x.k (x.mark + x.count)
-          (around x.lives_before x.fed x.lives_behind) (segments_of x.t x.who (steps_under plan stream events))
+          (around x.lives_before x.fed x.lives_behind) (sent_segments x.t x.who (steps_under plan stream events))
           (lines_of x.t x.who (steps_under plan stream events)) e;
       gives_back = λ got. back fed x.k (x.mark + x.count) (length e.before) got packets x.fed.inside;
       gives_all_back = λ got. all_given_back fed x.k (x.mark + x.count) got packets x.fed.inside;
@@ -132,6 +132,6 @@ headline plan stream events p s = record {
     logged x g c =
         preset_logged plan x.t (feed plan stream) x.mark x.k (x.mark + x.count)
         (around x.lives_before x.fed x.lives_behind)
-        (segments_of x.t x.who (steps_under plan stream events))
+        (sent_segments x.t x.who (steps_under plan stream events))
         (lines_of x.t x.who (steps_under plan stream events))
         (follows plan stream events p s x).emits g c

@@ -4,13 +4,13 @@
 use Rattle.std.specs.Prelude.{ℕ, ℤ, ◌≡◌, ◌+◌, ◌-◌, ◌*◌, ◌/◌, ◌%◌, ◌<◌, ◌≤◌, true, Some, List, [], ◌∷◌, ◌++◌, EachIndex}
 use Rattle.std.specs.Prelude.{length, map, drop, slice_get, slice_index_or}
 use Rattle.std.specs.List.{flat_map, list_all}
-use Rattle.dtx_outer.specs.Inner.{place_of, word_at, IsComplete}
+use Rattle.dtx_outer.specs.Inner.{codeword_byte_place, word_at, IsComplete}
 use Rattle.dtx_receiver.specs.Bytes.{bytes_in}
 use Rattle.dtx_receiver.specs.Intervals.{AreRuns, segments_in}
-use Rattle.dtx_receiver.specs.Packets.{packets_of, all_packets, received}
+use Rattle.dtx_receiver.specs.Packets.{run_packets, all_packets, received}
 use Rattle.dtx_receiver.specs.Runs.{runs}
 use Rattle.dtx_receiver.specs.declared.batch.Received.{Received}
-use Rattle.dtx_chain.specs.Undamaged.{with_sync}
+use Rattle.dtx_chain.specs.Undamaged.{as_received}
 use Rattle.dtx_chain.specs.Damage.{IsNear, IsSlight, as_corrected, numbers_in}
 use Rattle.dtx_exciter.specs.Lockstep.{segment_place}
 use Rattle.dtx_network.specs.Headline.{last_packet, stretch_of}
@@ -39,23 +39,23 @@ abbrev pub word_of : List (List ℤ) → ℕ → List ℕ
 word_of run j = word_at 207 52 4 (bytes_in run) j
 
 -- The run begins at the field sync before packet f of the feed, and packet j of the run can be given back.
-pub record IsReadable (feed : List (List ℕ)) (end f : ℕ) (run : List (List ℤ)) (j : ℕ) : Type 0 where
+pub record CanBeGivenBack (feed : List (List ℕ)) (end f : ℕ) (run : List (List ℤ)) (j : ℕ) : Type 0 where
   -- It is given for the run: its 207 bytes are all among the run's.
   pub given : IsComplete 207 52 4 (length (bytes_in run)) j
   -- They all lie in segments of the stretch: 828 bytes make a group, which are four data segments, and the last of them
   -- is one of the stretch's.
-  pub inside : (i : ℕ) → i < 207 → f + 4 * (place_of 52 4 (207 * j + i) / 828) + 3 ≤ last_packet end
+  pub inside : (i : ℕ) → i < 207 → f + 4 * (codeword_byte_place 52 4 (207 * j + i) / 828) + 3 ≤ last_packet end
   -- Its word differs from the codeword of packet f + j of the feed in at most ten bytes.
   pub near : IsNear feed (f + j) (word_of run j)
 
 -- the packets of some runs of received segments, run after run
 unfoldable pub packets_of_runs : List (List ℤ) → List (ℕ × ℕ) → List Received
-packets_of_runs got places = flat_map (λ p. packets_of (bytes_in (segments_in got p))) places
+packets_of_runs got places = flat_map (λ p. run_packets (bytes_in (segments_in got p))) places
 
 -- Packet n of the feed stands at a place of all that is received, with 0x47 as its sync byte. It is good, and the bytes
 -- put right are those in which its word differs from its codeword.
 pub record IsBack (feed : List (List ℕ)) (got : List (List ℤ)) (place n : ℕ) (word : List ℕ) : Type 0 where
-  pub packet : slice_get (received got) place ≡ Some (with_sync (slice_index_or feed n []))
+  pub packet : slice_get (received got) place ≡ Some (as_received (slice_index_or feed n []))
   pub good : slice_get (all_packets got) place ≡ Some (as_corrected feed n word)
 
 -- Whatever is received, the stretch from packet k to packet end being at segment s of it: a run that begins at a field
@@ -64,7 +64,7 @@ abbrev pub GivesBack : List (List ℕ) → ℕ → ℕ → ℕ → List (List �
 GivesBack feed k end s got =
     (f n j : ℕ) (earlier later : List (ℕ × ℕ)) → BeginsField k end f
     → AreRuns got 0 (earlier ++ (s + to_field k f, n) ∷ later)
-    → IsReadable feed end f (segments_in got (s + to_field k f, n)) j
+    → CanBeGivenBack feed end f (segments_in got (s + to_field k f, n)) j
     → IsBack feed got (length (packets_of_runs got earlier) + j) (f + j)
     (word_of (segments_in got (s + to_field k f, n)) j)
 
@@ -81,7 +81,7 @@ pub record IsReceivedAlone (feed : List (List ℕ)) (k end : ℕ) (got : List (L
 -- for the run, in order. None is flagged.
 pub record IsAllBack (feed : List (List ℕ)) (k f : ℕ) (got : List (List ℤ)) : Type 0 where
   pub run : runs got ≡ drop (to_field k f) got ∷ []
-  pub packets : received got ≡ map (λ j. with_sync (slice_index_or feed (f + j) []))
+  pub packets : received got ≡ map (λ j. as_received (slice_index_or feed (f + j) []))
       (numbers_in (drop (to_field k f) got))
   pub good : list_all (λ r. r.good) (all_packets got) ≡ true
 

@@ -48,10 +48,10 @@ segment_of (mute n why) = n
 segment_of (restart n) = n
 
 -- the segment behind those of which it speaks: a preset speaks of its group's four data segments, another line of none
-abbrev pub end_of : Line → ℕ
-end_of (preset n frame packet tick grain) = n + 4
-end_of (mute n why) = n
-end_of (restart n) = n
+abbrev pub line_end : Line → ℕ
+line_end (preset n frame packet tick grain) = n + 4
+line_end (mute n why) = n
+line_end (restart n) = n
 
 -- What stands around the packets of a feed in all lives of a transmitter: the lives before the one that is given them,
 -- what that life is given before them and behind them, and the lives behind it.
@@ -107,5 +107,5 @@ pub record Emits (plan : Plan) (t : Transmitter) (feed : List (List ℕ)) (mark 
   pub later_is : later
       ≡ lines_behind t.address t.delay (sent_before t a) (a.before ++ slice_range feed mark end) a.behind
       ++ restarting_lines t.address t.delay (sent_with t feed mark end a) a.lives_behind
-  pub up_to : All (λ line. end_of line ≤ length before) earlier
+  pub up_to : All (λ line. line_end line ≤ length before) earlier
   pub behind : All (λ line. length before + length (stretch_of feed k end) ≤ segment_of line) later

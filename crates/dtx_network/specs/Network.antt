@@ -16,7 +16,7 @@ use Rattle.dtx_exciter.specs.Log.{Line, preset, mute}
 use Rattle.dtx_exciter.specs.Stretch.{IsApart}
 use Rattle.dtx_net.specs.Steps.{Step, schedule}
 use Rattle.dtx_net.specs.Lives.{lives_of}
-use Rattle.dtx_net.specs.Sent.{segments_of, lines_of}
+use Rattle.dtx_net.specs.Sent.{sent_segments, lines_of}
 use Rattle.dtx_network.specs.Plans.{IsInTime}
 use Rattle.dtx_network.specs.Presets.{orders, moment_at, preset_at, presets}
 use Rattle.dtx_network.specs.Headline.{IsFed, IsFirstOrder, stretch_of, around, Emits}
@@ -55,7 +55,7 @@ pub record Follows (plan : Plan) (stream : List (List ℕ)) (events : List Event
   -- is given, and its log their presets; and they are those of this life, which stand behind all that its earlier lives
   -- and it sent before.
   pub emits : Emits plan x.t (feed plan stream) x.mark x.k (x.mark + x.count)
-      (around x.lives_before x.fed x.lives_behind) (segments_of x.t x.who (steps_under plan stream events))
+      (around x.lives_before x.fed x.lives_behind) (sent_segments x.t x.who (steps_under plan stream events))
       (lines_of x.t x.who (steps_under plan stream events))
   -- The first of these presets is that of the first order's group, and names the segment at which those symbols begin.
   pub named : presets plan x.t.offset (length emits.before) (feed plan stream) x.k (x.mark + x.count)

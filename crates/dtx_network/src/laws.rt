@@ -8,14 +8,14 @@ ghost use Rattle.dtx_plan.specs.declared.plan.Plan.{Plan};
 ghost use Rattle.dtx_plan.specs.Plan.{plan_of};
 ghost use Rattle.dtx_plan.specs.declared.transmitter.Transmitter.{Transmitter};
 ghost use Rattle.dtx_adapter.specs.Feed.{entry_of, feed};
-ghost use Rattle.dtx_exciter.specs.Order.{counted};
+ghost use Rattle.dtx_exciter.specs.Order.{counting_order};
 ghost use Rattle.dtx_exciter.specs.Packets as exciter;
-ghost use Rattle.dtx_exciter.specs.Packets.{anchor_of, said};
+ghost use Rattle.dtx_exciter.specs.Packets.{anchor_of, readings};
 ghost use Rattle.dtx_exciter.specs.declared.answers.Told.TheVariants.{Muted};
 ghost use Rattle.dtx_exciter.specs.declared.answers.Why.TheVariants.{Cadence};
 ghost use Rattle.dtx_exciter.specs.Told as told;
 ghost use Rattle.dtx_exciter.specs.Lockstep.{IsFeed, stretch};
-ghost use Rattle.dtx_exciter.specs.Emission.{emission, given};
+ghost use Rattle.dtx_exciter.specs.Emission.{emission, last_segments};
 ghost use Rattle.dtx_exciter.specs.Log.{Line, preset, life_lines, log, emission_over};
 ghost use Rattle.dtx_exciter.specs.Stretch.{stretch_lines, IsApart};
 ghost use Rattle.dtx_network.specs.Plans.{IsPlan, IsStream, IsListed, IsInTime};
@@ -23,9 +23,9 @@ ghost use Rattle.dtx_network.specs.Orders.{has_order, order_of, IsOrder};
 ghost use Rattle.dtx_network.specs.Presets.{orders, moment_at, preset_at, presets};
 ghost use Rattle.dtx_chain.specs.Undamaged.{ArePackets};
 ghost use Rattle.dtx_plan.specs.declared.event.Event.{Event};
-ghost use Rattle.dtx_network.specs.GivesBack.{BeginsField, GivesBack, GivesAllBack, IsReadable, IsReceivedAlone};
+ghost use Rattle.dtx_network.specs.GivesBack.{BeginsField, GivesBack, GivesAllBack, CanBeGivenBack, IsReceivedAlone};
 ghost use Rattle.dtx_network.specs.GivesBack.{to_field};
-ghost use Rattle.dtx_outer.specs.Inner.{place_of, IsComplete};
+ghost use Rattle.dtx_outer.specs.Inner.{codeword_byte_place, IsComplete};
 ghost use Rattle.dtx_receiver.specs.Bytes.{bytes_in};
 ghost use Rattle.dtx_receiver.specs.Intervals.{segments_in};
 ghost use Rattle.dtx_galois.specs.Field.{AreBytes};
@@ -34,8 +34,8 @@ ghost use Rattle.dtx_cadence.specs.Anchor.{in_step, anchor};
 ghost use Rattle.dtx_plan.specs.declared.event.Event.TheVariants.{Send};
 ghost use Rattle.dtx_plan.specs.Sound.{IsEvent};
 ghost use Rattle.dtx_network.specs.Network.{AreOfOthers, Joined, Headline, steps_under};
-ghost use Rattle.dtx_net.specs.Sent.{segments_of};
-ghost use Rattle.dtx_network.specs.Headline.{IsFed, IsFirstOrder, stretch_of, last_packet, segment_of, end_of};
+ghost use Rattle.dtx_net.specs.Sent.{sent_segments};
+ghost use Rattle.dtx_network.specs.Headline.{IsFed, IsFirstOrder, stretch_of, last_packet, segment_of, line_end};
 ghost use Rattle.dtx_network.specs.Headline.{Around, around, Emits};
 
 use dtx_exciter::laws::sent_packets_give;
@@ -58,17 +58,17 @@ pub fn feed_locks()
 /// each transmitter of the plan once, with its own offset.
 pub fn orders_of_a_feed()
     ensures exact { (plan : Plan) (stream : List (List ℕ)) (g : ℕ) → IsPlan plan → IsStream stream
-        → counted (said (feed plan stream)) g ≡ order_of plan stream g }
+        → counting_order (readings (feed plan stream)) g ≡ order_of plan stream g }
     ensures some { (plan : Plan) (stream : List (List ℕ)) (g : ℕ) → IsPlan plan → IsStream stream → 52 ≤ g → g % 4 ≡ 0
         → has_order (feed plan stream) g ≡ true
-        → (ops : Ops) × (counted (said (feed plan stream)) g ≡ Some ops) }
+        → (ops : Ops) × (counting_order (readings (feed plan stream)) g ≡ Some ops) }
     ensures none { (plan : Plan) (stream : List (List ℕ)) (g : ℕ) → IsPlan plan → IsStream stream
         → has_order (feed plan stream) g ≡ false
-        → counted (said (feed plan stream)) g ≡ None }
+        → counting_order (readings (feed plan stream)) g ≡ None }
     ensures placeholders { (plan : Plan) (stream : List (List ℕ)) (g : ℕ) → IsPlan plan → IsStream stream
         → has_order (feed plan stream) g ≡ has_order stream g }
     ensures says { (plan : Plan) (stream : List (List ℕ)) (g : ℕ) (ops : Ops) → IsPlan plan → IsStream stream
-        → counted (said (feed plan stream)) g ≡ Some ops
+        → counting_order (readings (feed plan stream)) g ≡ Some ops
         → IsOrder plan stream g ops }
     ensures entry { (plan : Plan) (stream : List (List ℕ)) (t : Transmitter) (g : ℕ) (ops : Ops) → IsPlan plan
         → IsListed plan t → IsOrder plan stream g ops
@@ -137,7 +137,7 @@ pub fn lines_of_a_stretch()
         (preset_at plan offset s k) (orders feed (k + 1) (mark + n)) }
     ensures no_other { (plan : Plan) (t : Transmitter) (feed : List (List ℕ)) (mark k end : ℕ) (a : Around)
         (segments : List (List ℤ)) (lines : List Line) (line : Line)
-        → (e : Emits plan t feed mark k end a segments lines) → Contains lines line → length e.before < end_of line
+        → (e : Emits plan t feed mark k end a segments lines) → Contains lines line → length e.before < line_end line
         → segment_of line < length e.before + length (stretch_of feed k end)
         → Contains (presets plan t.offset (length e.before) feed k end) line }
 {}
@@ -202,7 +202,7 @@ pub fn sends_the_stretch_alone()
     ensures { (plan : Plan) (stream : List (List ℕ)) (t : Transmitter) (who n k : ℕ) (before after : List Event)
         → IsPlan plan → IsStream stream → slice_get plan.transmitters.items who ≡ Some t → IsInTime plan t
         → n ≤ length stream → IsFirstOrder (feed plan stream) 0 n k → AreOfOthers t before → AreOfOthers t after
-        → segments_of t who (steps_under plan stream (before ++ Send t.address 0 n ∷ after))
+        → sent_segments t who (steps_under plan stream (before ++ Send t.address 0 n ∷ after))
         ≡ stretch_of (feed plan stream) k n }
 {}
 
@@ -221,8 +221,8 @@ pub fn stretch_is_readable()
         → end ≤ length feed → BeginsField k end f
         → IsComplete 207 52 4 (length (bytes_in (segments_in (before ++ (stretch_of feed k end ++ after))
         (length before + to_field k f, n)))) j
-        → ((i : ℕ) → i < 207 → f + 4 * (place_of 52 4 (207 * j + i) / 828) + 3 ≤ last_packet end)
-        → IsReadable feed end f (segments_in (before ++ (stretch_of feed k end ++ after))
+        → ((i : ℕ) → i < 207 → f + 4 * (codeword_byte_place 52 4 (207 * j + i) / 828) + 3 ≤ last_packet end)
+        → CanBeGivenBack feed end f (segments_in (before ++ (stretch_of feed k end ++ after))
         (length before + to_field k f, n)) j }
 {}
 
@@ -247,10 +247,10 @@ pub fn a_mark_out_of_step_loses_the_lock()
 pub fn a_moved_anchor_mutes()
     ensures told { (address delay : ℕ) (packets : List (List ℕ)) (packet : List ℕ)
         → told.has_moved (anchor_of packets) (anchor_of (packets ++ packet ∷ [])) ≡ true
-        → exciter.told address delay (packets ++ packet ∷ []) ≡ Muted Cadence }
+        → exciter.last_answer address delay (packets ++ packet ∷ []) ≡ Muted Cadence }
     ensures nothing { (address delay : ℕ) (packets : List (List ℕ)) (packet : List ℕ)
         → told.has_moved (anchor_of packets) (anchor_of (packets ++ packet ∷ [])) ≡ true
-        → given address delay (packets ++ packet ∷ []) ≡ [] }
+        → last_segments address delay (packets ++ packet ∷ []) ≡ [] }
 {
     sent_packets_give();
 }

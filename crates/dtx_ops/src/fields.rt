@@ -1,9 +1,7 @@
 // The fields of an operations packet (the profile's own).
 use arrayvec::ArrayVec;
+use dtx_sizes::MOST_ENTRIES;
 use dtx_trellis::States;
-
-/// How many entries an operations packet has at most.
-pub const MOST_ENTRIES: usize = 35;
 
 /// A transmitter's address, and its offset in ticks of 100 ns.
 #[derive(Clone, Copy, Debug, Default, PartialEq, Eq)]

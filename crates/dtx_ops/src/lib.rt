@@ -9,7 +9,7 @@ mod refusal;
 mod rules;
 mod writing;
 
-pub use fields::{Entry, MOST_ENTRIES, Ops};
-pub use reading::{OPERATIONS, read};
+pub use fields::{Entry, Ops};
+pub use reading::read;
 pub use refusal::OpsNo;
 pub use writing::write;

@@ -6,7 +6,7 @@ ghost use Rattle.dtx_ops.specs.Rules as rule;
 ghost use Rattle.dtx_ops.specs.Reading as spec;
 ghost use Rattle.dtx_ops.specs.Spelling.{IsValid};
 
-use crate::fields::{Entry, MOST_ENTRIES, Ops};
+use crate::fields::{Entry, Ops};
 use crate::packing::unpacked;
 use crate::refusal::OpsNo;
 use crate::rules::{head_refusal, rest_refusal};
@@ -14,9 +14,7 @@ use arrayvec::ArrayVec;
 use byteorder::{BigEndian, ByteOrder};
 use dtx_laws::Correct;
 use dtx_packets::Packet;
-
-/// The packet identifier of operations packets.
-pub const OPERATIONS: u16 = 0x1FFA;
+use dtx_sizes::{MOST_ENTRIES, OPERATIONS_PID};
 
 /// The fields of an operations packet, or else the first of the ten rules that refuses it. Only the packet identifier
 /// and the payload are looked at, and up to ten bytes of the payload may be wrong.
@@ -25,7 +23,7 @@ pub fn read<C: Correct<184, 164>>(code: &C, packet: &Packet) -> Result<Ops, OpsN
     ensures reading { result ≡ spec.reading packet.now.0 }
     ensures valid { IfOk result IsValid }
 {
-    if packet.pid() != OPERATIONS {
+    if packet.pid() != OPERATIONS_PID {
         return Err(OpsNo::NotOps);
     }
     match corrected(code, packet) {

@@ -4,9 +4,10 @@ ghost use Rattle.std.specs.List.{list_all};
 ghost use Rattle.dtx_ops.specs.Fields.{count_in};
 ghost use Rattle.dtx_ops.specs.Rules as spec;
 
-use crate::fields::{Entry, MOST_ENTRIES};
+use crate::fields::Entry;
 use crate::refusal::OpsNo;
 use byteorder::{BigEndian, ByteOrder};
+use dtx_sizes::{FRAME_PACKETS, MOST_ENTRIES, SECOND_TICKS};
 
 /// The first rule on the data before the entries that holds.
 #[tactic(auto, unfolding(crate::specs::Rules::head_rules, crate::specs::Fields::stamp_in, crate::specs::Fields::max_delay_in, crate::specs::Fields::index_in))]
@@ -19,11 +20,11 @@ pub(crate) fn head_refusal(bytes: &[u8]) -> Option<OpsNo>
         Some(OpsNo::Kind)
     } else if bytes[5] % 16 != 0 {
         Some(OpsNo::Pad)
-    } else if BigEndian::read_u24(&bytes[6..]) >= 10_000_000 {
+    } else if BigEndian::read_u24(&bytes[6..]) >= SECOND_TICKS {
         Some(OpsNo::Stamp)
-    } else if BigEndian::read_u24(&bytes[9..]) >= 10_000_000 {
+    } else if BigEndian::read_u24(&bytes[9..]) >= SECOND_TICKS {
         Some(OpsNo::Delay)
-    } else if BigEndian::read_u16(&bytes[16..]) >= 624 {
+    } else if BigEndian::read_u16(&bytes[16..]) >= FRAME_PACKETS {
         Some(OpsNo::Index)
     } else if bytes[18] as usize > MOST_ENTRIES {
         Some(OpsNo::Count)

@@ -18,16 +18,16 @@ unfoldable pub completing : ℕ → ℕ → ℕ → ℕ
 completing n b m = b * m * (b - 1) - n * (waiting n b m - 1)
 
 -- where byte p of the codewords stands among the bytes of a run
-abbrev pub place_of : ℕ → ℕ → ℕ → ℕ
-place_of b m p = p + b * m * (p % b)
+abbrev pub codeword_byte_place : ℕ → ℕ → ℕ → ℕ
+codeword_byte_place b m p = p + b * m * (p % b)
 
 -- word k of the bytes y of a run
 unfoldable pub word_at : ℕ → ℕ → ℕ → List ℕ → ℕ → List ℕ
-word_at n b m y k = map (λ p. slice_index y (place_of b m p)) (range_with_len (n * k) n)
+word_at n b m y k = map (λ p. slice_index y (codeword_byte_place b m p)) (range_with_len (n * k) n)
 
 -- all bytes of word k are among the first `given` bytes of a run
 abbrev pub IsComplete : (n b m given k : ℕ) → Type 0
-IsComplete n b m given k = (j : ℕ) → j < n → place_of b m (n * k + j) < given
+IsComplete n b m given k = (j : ℕ) → j < n → codeword_byte_place b m (n * k + j) < given
 
 -- what is kept between calls: the whitener's bytes and the gatherer's branches, the last block that was gathered, how
 -- many blocks more give no packet, and which packet of the whitener's period comes next

@@ -15,7 +15,7 @@ use Rattle.dtx_laws.specs.Words.{correction}
 use Rattle.dtx_laws.specs.ChoiceLaws.{correction_is, correction_only}
 use Rattle.dtx_laws.specs.InterleavingLaws.{in_turns, get_or-interleaved}
 use Rattle.dtx_laws.specs.GatheringLaws.{delays, same_branch, gathers_at}
-use Rattle.dtx_outer.specs.Inner.{waiting, completing, place_of, word_at, IsComplete, IsGood, IsBad}
+use Rattle.dtx_outer.specs.Inner.{waiting, completing, codeword_byte_place, word_at, IsComplete, IsGood, IsBad}
 
 -- ---- how many blocks give no packet
 
@@ -113,17 +113,17 @@ waited_within n b m p h = omega (arith, completing_is n b m p h)
 
 pub length-word : (n b m : ℕ) (y : List ℕ) (k : ℕ) → length (word_at n b m y k) ≡ n
 unfolding word_at
-length-word n b m y k = length-map-range_with_len (λ p. get_or y (place_of b m p) 0) (n * k) n
+length-word n b m y k = length-map-range_with_len (λ p. get_or y (codeword_byte_place b m p) 0) (n * k) n
 
 pub get_or-word : (n b m : ℕ) (y : List ℕ) (k j : ℕ) → j < n
-    → get_or (word_at n b m y k) j 0 ≡ get_or y (place_of b m (n * k + j)) 0
+    → get_or (word_at n b m y k) j 0 ≡ get_or y (codeword_byte_place b m (n * k + j)) 0
 unfolding word_at
 get_or-word n b m y k j l =
-    get_or-map-range_with_len (λ p. get_or y (place_of b m p) 0) (n * k) n j (n * k + j) 0 l refl
+    get_or-map-range_with_len (λ p. get_or y (codeword_byte_place b m p) 0) (n * k) n j (n * k + j) 0 l refl
 
 -- known place by place
 pub word_by : (n b m : ℕ) (y : List ℕ) (k : ℕ) (word : List ℕ) → length word ≡ n
-    → ((j : ℕ) → j < n → get_or word j 0 ≡ get_or y (place_of b m (n * k + j)) 0) → word ≡ word_at n b m y k
+    → ((j : ℕ) → j < n → get_or word j 0 ≡ get_or y (codeword_byte_place b m (n * k + j)) 0) → word ≡ word_at n b m y k
 word_by n b m y k word l h =
     ext_get_or 0 word (word_at n b m y k) (l ∙ sym (length-word n b m y k))
     (λ j i. h j (omega (arith, i, l)) ∙ sym (get_or-word n b m y k j (omega (arith, i, l))))
@@ -133,10 +133,10 @@ pub word_stays : (n b m : ℕ) (y z : List ℕ) (k : ℕ) → IsComplete n b m (
     → word_at n b m (y ++ z) k ≡ word_at n b m y k
 word_stays n b m y z k c =
     word_by n b m y k (word_at n b m (y ++ z) k) (length-word n b m (y ++ z) k)
-    (λ j l. get_or-word n b m (y ++ z) k j l ∙ get_or_append_left y z 0 (place_of b m (n * k + j)) (c j l))
+    (λ j l. get_or-word n b m (y ++ z) k j l ∙ get_or_append_left y z 0 (codeword_byte_place b m (n * k + j)) (c j l))
 
 -- no byte waits longer than all branches do
-reaches : (b m p : ℕ) → 0 < b → place_of b m p ≤ p + b * m * (b - 1)
+reaches : (b m p : ℕ) → 0 < b → codeword_byte_place b m p ≤ p + b * m * (b - 1)
 reaches b m p h = omega (arith, delays b m (p % b) (mod_below p b h))
 
 pub complete_then : (n b m given k : ℕ) → 0 < n → 0 < b → n * (waiting n b m + k + 1) ≤ given → IsComplete n b m given k
@@ -153,19 +153,20 @@ turned b t p h =
     let f : t * b ≤ p + t * b = omega arith in
     sym (same_branch b (p + t * b) t h f) ∙ ap (λ i. i % b) e
 
-place_turns : (b m p : ℕ) → place_of b m p ≡ p + m * (p % b) * b
+place_turns : (b m p : ℕ) → codeword_byte_place b m p ≡ p + m * (p % b) * b
 place_turns b m p = omega (arith, in_turns b m (p % b))
 
-branch_of : (b m p : ℕ) → 0 < b → place_of b m p % b ≡ p % b
+branch_of : (b m p : ℕ) → 0 < b → codeword_byte_place b m p % b ≡ p % b
 branch_of b m p h = ap (λ i. i % b) (place_turns b m p) ∙ turned b (m * (p % b)) p h
 
-interleaved_back : (b m : ℕ) (x : List ℕ) (p : ℕ) → 0 < b → interleaved_at b m x (place_of b m p) ≡ get_or x p 0
+interleaved_back : (b m : ℕ) (x : List ℕ) (p : ℕ) → 0 < b → interleaved_at b m x (codeword_byte_place b m p)
+    ≡ get_or x p 0
 interleaved_back b m x p h =
-    let e : b * m * (place_of b m p % b) ≡ b * m * (p % b) = ap (λ i. b * m * i) (branch_of b m p h) in
-    let s : place_of b m p - b * m * (place_of b m p % b) ≡ p = omega (arith, e) in
-    cond-true (nat_le (b * m * (place_of b m p % b)) (place_of b m p))
-    (get_or x (place_of b m p - b * m * (place_of b m p % b)) 0) 0
-    (le-leb (b * m * (place_of b m p % b)) (place_of b m p) (omega (arith, e)))
+    let e : b * m * (codeword_byte_place b m p % b) ≡ b * m * (p % b) = ap (λ i. b * m * i) (branch_of b m p h) in
+    let s : codeword_byte_place b m p - b * m * (codeword_byte_place b m p % b) ≡ p = omega (arith, e) in
+    cond-true (nat_le (b * m * (codeword_byte_place b m p % b)) (codeword_byte_place b m p))
+    (get_or x (codeword_byte_place b m p - b * m * (codeword_byte_place b m p % b)) 0) 0
+    (le-leb (b * m * (codeword_byte_place b m p % b)) (codeword_byte_place b m p) (omega (arith, e)))
     ∙ ap (λ i. get_or x i 0) s
 
 long_block : (n b m k : ℕ) (x : List ℕ) → IsComplete n b m (length x) k → length (take n (drop (n * k) x)) ≡ n
@@ -174,34 +175,36 @@ long_block (suc n) b m k x c =
     length-take-le (suc n) (drop (suc n * k) x) (omega (arith, c n (omega arith), length-drop (suc n * k) x))
 
 pub word_back : (n b m : ℕ) (x y : List ℕ) (k : ℕ) → 0 < b
-    → ((p : ℕ) → place_of b m p < length x
-    → get_or y (place_of b m p) 0 ≡ get_or (interleaved b m x) (place_of b m p) 0)
+    → ((p : ℕ) → codeword_byte_place b m p < length x
+    → get_or y (codeword_byte_place b m p) 0 ≡ get_or (interleaved b m x) (codeword_byte_place b m p) 0)
     → IsComplete n b m (length x) k → word_at n b m y k ≡ take n (drop (n * k) x)
 word_back n b m x y k p s c =
     sym (word_by n b m y k (take n (drop (n * k) x)) (long_block n b m k x c)
     (λ j l. get_or-take n (drop (n * k) x) j 0 l ∙ get_or-drop (n * k) x j 0
-    ∙ sym (s (n * k + j) (c j l) ∙ get_or-interleaved b m x (place_of b m (n * k + j)) (c j l)
+    ∙ sym (s (n * k + j) (c j l) ∙ get_or-interleaved b m x (codeword_byte_place b m (n * k + j)) (c j l)
     ∙ interleaved_back b m x (n * k + j) p)))
 
 pub word_behind : (n b m : ℕ) (lists : List (List ℕ)) (x y : List ℕ) (k : ℕ) → 0 < b → IsInterleavedBehind b m lists x y
     → IsComplete n b m (length x) k → word_at n b m y k ≡ take n (drop (n * k) x)
 word_behind n b m lists x y k p h c =
     word_back n b m x y k p
-    (λ q l. let e : b * m * (place_of b m q % b) ≡ b * m * (q % b) = ap (λ i. b * m * i) (branch_of b m q p) in
-    h.come (place_of b m q) l (omega (arith, e))) c
+    (λ q l. let e : b * m * (codeword_byte_place b m q % b) ≡ b * m * (q % b) = ap (λ i. b * m * i)
+    (branch_of b m q p) in
+    h.come (codeword_byte_place b m q) l (omega (arith, e))) c
 
 -- ---- the words that a gatherer gives
 
 pub gathers_word : (b m : ℕ) (g : Branching) (y : List ℕ) (p : ℕ) → 0 < b → HasWidths b (gathering b m) g → g.next ≡ 0
     → p + b * m * (b - 1) < length y
-    → get_or (leaving_all b g y) (p + b * m * (b - 1)) 0 ≡ get_or y (place_of b m p) 0
+    → get_or (leaving_all b g y) (p + b * m * (b - 1)) 0 ≡ get_or y (codeword_byte_place b m p) 0
 gathers_word b m g y p h s z l =
     let r : p % b < b = mod_below p b h in
     let t : p + b * m * (b - 1) ≡ p + m * (b - 1) * b = omega (arith, in_turns b m (b - 1)) in
     let q : (p + b * m * (b - 1)) % b ≡ p % b = ap (λ i. i % b) t ∙ turned b (m * (b - 1)) p h in
     let e : b * m * (b - 1 - (p + b * m * (b - 1)) % b) ≡ b * m * (b - 1 - p % b) = ap (λ i. b * m * (b - 1 - i)) q in
     let d : b * m * (b - 1 - p % b) + b * m * (p % b) ≡ b * m * (b - 1) = delays b m (p % b) r in
-    let f : p + b * m * (b - 1) - b * m * (b - 1 - (p + b * m * (b - 1)) % b) ≡ place_of b m p = omega (arith, e, d) in
+    let f : p + b * m * (b - 1) - b * m * (b - 1 - (p + b * m * (b - 1)) % b)
+    ≡ codeword_byte_place b m p = omega (arith, e, d) in
     gathers_at b m g y (p + b * m * (b - 1)) s z l (omega (arith, e, d)) ∙ ap (λ i. get_or y i 0) f
 
 -- ---- what a word gives, by its correction as a function

@@ -1,6 +1,6 @@
 -- What a sink in memory holds, and what a call leaves of it.
 use Rattle.std.specs.Prelude.{ℕ, List, ◌++◌, Result, Ok, Err}
-use Rattle.dtx_outside.specs.Calls.{Counted, counted}
+use Rattle.dtx_outside.specs.Calls.{Counted, with_one_call}
 use Rattle.dtx_outside.specs.Sink.{faults_printed}
 use Rattle.dtx_outside.specs.declared.sink.SinkNo.{SinkNo}
 
@@ -18,7 +18,7 @@ text_printed bytes (Err _) old = old
 -- what `write` leaves of it
 abbrev pub after_write : List ℕ → Result ℕ SinkNo → Printed → Printed
 after_write bytes result old = record old {
-  writes = counted old.writes;
+  writes = with_one_call old.writes;
   text = text_printed bytes result old.text;
   faults = faults_printed result old.faults;
 }

@@ -6,19 +6,25 @@ ghost use Rattle.dtx_outside.specs.Refusals.{no_counts, counts_read, counts_writ
 ghost use Rattle.dtx_outside.specs.Shelf.{untold, Gives, IsBegun, IsAppended};
 ghost use Rattle.dtx_outside.specs.Sink.{faults_printed, IsCounted, IsPrinted};
 
+use crate::files_met::FilesMet;
 use crate::refusals::Refusals;
 use crate::{ReadNo, Shelf, Sink, SinkNo, WriteNo};
-use std::fs::{File, OpenOptions};
+use std::fs::{File, OpenFile, OpenOptions};
 use std::io;
 use std::io::{ErrorKind, Read, Seek, SeekFrom, Write};
 use std::marker::Model;
 use std::rt::Files;
 
 /// The files of the host. Each call opens its file and closes it again, so the number of files has no limit of its own.
+///
+/// No file is begun that was read or begun before, under whatever name: `begin` fails then and touches nothing, so an
+/// input is not lost where another path or a link leads to it.
 #[derive(Drop)]
 pub struct HostShelf<'a, R: Files> {
     rt: &'a R,
     refusals: Refusals,
+    met: FilesMet,
+    overlap: bool,
 }
 
 impl<'a, R: Files> Model for HostShelf<'a, R> {
@@ -37,7 +43,14 @@ impl<'a, R: Files> HostShelf<'a, R> {
         HostShelf {
             rt,
             refusals: Refusals::new(),
+            met: FilesMet::new(),
+            overlap: false,
         }
+    }
+
+    /// Whether a file was not begun because it was read or begun before, under this name or another.
+    pub fn overlap(&self) -> bool {
+        self.overlap
     }
 }
 
@@ -59,7 +72,7 @@ impl<R: Files> Shelf for HostShelf<'_, R> {
         // It counts what it answers, and nothing else.
         ensures counted { self.new ≡ counts_read result self.old }
     {
-        let read = read_at(self.rt, name, place, into);
+        let read = read_at(self.rt, &mut self.met, name, place, into);
         self.refusals.note_read(read)
     }
 
@@ -72,7 +85,12 @@ impl<R: Files> Shelf for HostShelf<'_, R> {
         // It counts what it answers, and nothing else.
         ensures counted { self.new ≡ counts_written result self.old }
     {
-        let begun = make_empty(self.rt, name);
+        let begun = if self.met.has(self.rt, name) {
+            self.overlap = true;
+            Err(WriteNo::Failed)
+        } else {
+            make_empty(self.rt, &mut self.met, name)
+        };
         self.refusals.note_write(begun)
     }
 
@@ -90,7 +108,13 @@ impl<R: Files> Shelf for HostShelf<'_, R> {
     }
 }
 
-fn read_at<R: Files>(rt: &R, name: &str, place: u64, into: &mut [u8]) -> Result<usize, ReadNo>
+fn read_at<R: Files>(
+    rt: &R,
+    met: &mut FilesMet,
+    name: &str,
+    place: u64,
+    into: &mut [u8],
+) -> Result<usize, ReadNo>
     ensures { IfOk result (λ n. n ≤ length into.new) }
 {
     let opened = File::open(rt, name);
@@ -99,6 +123,9 @@ fn read_at<R: Files>(rt: &R, name: &str, place: u64, into: &mut [u8]) -> Result<
         Err(e) if e.kind() == ErrorKind::NotFound => return Err(ReadNo::Absent),
         Err(e) => return Err(read_refusal(&e)),
     };
+    if let Ok(found) = file.metadata() {
+        met.note(&found);
+    }
     if let Err(e) = file.seek(SeekFrom::Start(place)) {
         return Err(read_refusal(&e));
     }
@@ -108,9 +135,14 @@ fn read_at<R: Files>(rt: &R, name: &str, place: u64, into: &mut [u8]) -> Result<
     }
 }
 
-fn make_empty<R: Files>(rt: &R, name: &str) -> Result<(), WriteNo> {
+fn make_empty<R: Files>(rt: &R, met: &mut FilesMet, name: &str) -> Result<(), WriteNo> {
     match File::create(rt, name) {
-        Ok(_) => Ok(()),
+        Ok(file) => {
+            if let Ok(found) = file.metadata() {
+                met.note(&found);
+            }
+            Ok(())
+        }
         Err(e) => Err(write_refusal(&e)),
     }
 }
@@ -218,8 +250,6 @@ mod tests {
         assert_eq!(rt; shelf.read(name, 1, &mut into), Ok(4));
         assert_eq!(rt; into[..4], b"bcde"[..4]);
         assert_eq!(rt; shelf.read(name, 5, &mut into), Ok(0));
-        assert_eq!(rt; shelf.begin(name), Ok(()));
-        assert_eq!(rt; shelf.read(name, 0, &mut into), Ok(0));
         assert_eq!(rt; shelf.begin("no_such_folder/f"), Err(WriteNo::Failed));
         assert_eq!(rt;
             shelf.append("no_such_folder/f", b"a"),
@@ -232,7 +262,27 @@ mod tests {
         assert_eq!(rt; shelf.begin("."), Err(WriteNo::Failed));
         assert_eq!(rt; shelf.append(".", b"a"), Err(WriteNo::Failed));
         assert_eq!(rt; shelf.read(".", 0, &mut into), Err(ReadNo::Failed));
+        assert!(rt; !shelf.overlap());
         fs::remove_file(&rt, name)?;
+        Ok(())
+    }
+
+    #[test]
+    fn a_file_that_was_read_or_begun_is_not_begun_again(rt: HostRuntime) -> Result<(), Fail> {
+        let (read, begun) = ("dtx_outside_host_read", "dtx_outside_host_begun");
+        let mut into = [0u8; 8];
+        fs::write(&rt, read, b"abc")?;
+        let mut shelf = HostShelf::new(&rt);
+        assert_eq!(rt; shelf.read(read, 0, &mut into), Ok(3));
+        assert_eq!(rt; shelf.begin(begun), Ok(()));
+        assert!(rt; !shelf.overlap());
+        for name in ["./dtx_outside_host_read", "./dtx_outside_host_begun"] {
+            assert_eq!(rt; shelf.begin(name), Err(WriteNo::Failed));
+        }
+        assert!(rt; shelf.overlap());
+        assert_eq!(rt; shelf.read(read, 0, &mut into), Ok(3));
+        fs::remove_file(&rt, read)?;
+        fs::remove_file(&rt, begun)?;
         Ok(())
     }
 

@@ -2,6 +2,7 @@
 #![tactic(auto)]
 
 mod calls;
+mod files_met;
 mod filling;
 mod held;
 mod host;

@@ -2,7 +2,8 @@
 ghost use Rattle.std.specs.Prelude.{◌≡◌, ◌≤◌, length, map, take, drop};
 ghost use Rattle.dtx_packets.specs.Packets.{whole_packets, packets_of};
 
-use crate::packet::{PACKET, Packet};
+use crate::packet::Packet;
+use dtx_sizes::PACKET;
 
 /// Puts the whole packets of the bytes at the front of the places, and leaves the other places.
 pub(crate) fn cut(bytes: &[u8], into: &mut [Packet])

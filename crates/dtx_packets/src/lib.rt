@@ -6,6 +6,6 @@ mod packet;
 mod reader;
 mod refusal;
 
-pub use packet::{PACKET, Packet};
-pub use reader::{MOST_PACKETS, PIECE_PACKETS, PacketReader};
+pub use packet::Packet;
+pub use reader::{PIECE_PACKETS, PacketReader};
 pub use refusal::NextNo;

@@ -2,8 +2,7 @@
 ghost use Rattle.std.specs.Prelude.{◌≡◌, ◌↔◌, ◌+◌, ◌%◌, IsTrue};
 ghost use Rattle.dtx_packets.specs.Packet.{sync_of, pid_of, HasError, counter_of, with_error};
 
-/// How many bytes a packet has (ISO/IEC 13818-1, 2.4.3.2).
-pub const PACKET: usize = 188;
+use dtx_sizes::PACKET;
 
 /// A transport packet (ISO/IEC 13818-1, 2.4.3.2).
 #[derive(Clone, Copy, Debug, PartialEq, Eq)]

@@ -6,13 +6,11 @@ ghost use Rattle.dtx_packets.specs.Packets.{most_packets};
 ghost use Rattle.dtx_packets.specs.Refusal.{blame_of_next};
 
 use crate::cutting::cut;
-use crate::packet::{PACKET, Packet};
+use crate::packet::Packet;
 use crate::refusal::NextNo;
 use dtx_outside::{Shelf, fill};
+use dtx_sizes::{MOST_PACKETS, PACKET};
 use std::marker::Model;
-
-/// How many packets a stream has at most, and the place of a reader's first packet at most (the profile's own limit).
-pub const MOST_PACKETS: u64 = 624_000_000;
 
 /// How many packets are read at once at most, as many as 64 KiB hold.
 ///
@@ -36,8 +34,8 @@ pub struct PacketReader {
 impl Model for PacketReader {
     ghost use Rattle.std.specs.Prelude.{◌≤◌, ◌<◌};
     ghost use Rattle.dtx_packets.specs.Reading.{Reading};
-    ghost use Rattle.dtx_packets.specs.declared.packet.TheConstants.{PACKET};
-    ghost use Rattle.dtx_packets.specs.declared.reader.TheConstants.{MOST_PACKETS};
+    ghost use Rattle.dtx_sizes.specs.declared.packets.TheConstants.{PACKET};
+    ghost use Rattle.dtx_sizes.specs.declared.limits.TheConstants.{MOST_PACKETS};
 
     ghost Value = { Reading };
 

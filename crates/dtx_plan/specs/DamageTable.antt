@@ -9,8 +9,8 @@ use Rattle.dtx_plan.specs.declared.damage.Damage.{Damage}
 use Rattle.dtx_plan.specs.Rows.{◌>>=◌, refused, table, known, whole, whole_or, signed}
 
 -- where the last entry ends, and 0 before the first
-abbrev pub end_of : List Damage → ℕ
-end_of ds = fold (λ _ d. d.at + d.count) 0 ds
+abbrev pub last_end : List Damage → ℕ
+last_end ds = fold (λ _ d. d.at + d.count) 0 ds
 
 -- order: not before the end of the entry before it
 abbrev pub behind : ℕ → ℕ → ℕ → Result (Unit {0}) PlanNo
@@ -29,4 +29,4 @@ damage_from end item d = do
 
 -- one entry behind the earlier ones
 abbrev pub damage : List Damage → Data → Result Damage PlanNo
-damage earlier d = damage_from (end_of earlier) (length earlier) d
+damage earlier d = damage_from (last_end earlier) (length earlier) d

@@ -7,10 +7,11 @@ ghost use Rattle.dtx_plan.specs.DamageTable as spec;
 
 use crate::damage::{Damage, Damages};
 use crate::key::PlanKey;
-use crate::limits::{MOST_DAMAGES, MOST_SYMBOLS};
+use crate::limits::MOST_DAMAGES;
 use crate::refusal::{PlanFault, PlanNo};
-use crate::rows::{known, signed, table, whole, whole_or};
+use crate::rows::{Row, known, table};
 use crate::rule::PlanRule;
+use dtx_sizes::MOST_SYMBOLS;
 use std::alloc::Global;
 use toml::Value;
 
@@ -39,18 +40,10 @@ fn damage(end: u64, item: u32, value: &Value) -> Result<Damage, PlanNo>
 {
     let entry = table(value, PlanKey::Damage, item)?;
     known(entry, &["at", "count", "put"], PlanKey::Damage, item)?;
-    let at = whole(entry, "at", PlanKey::DamageAt, item, 0, MOST_SYMBOLS - 1)?;
+    let at = Row::new(entry, "at", PlanKey::DamageAt, item).whole(0, MOST_SYMBOLS - 1)?;
     behind(at, end, item)?;
-    let count = whole_or(
-        1,
-        entry,
-        "count",
-        PlanKey::DamageCount,
-        item,
-        1,
-        MOST_SYMBOLS,
-    )?;
-    let put = signed(entry, "put", PlanKey::DamagePut, item, -128, 127)? as i8;
+    let count = Row::new(entry, "count", PlanKey::DamageCount, item).whole_or(1, 1, MOST_SYMBOLS)?;
+    let put = Row::new(entry, "put", PlanKey::DamagePut, item).signed(-128, 127)? as i8;
     Ok(Damage { at, count, put })
 }
 

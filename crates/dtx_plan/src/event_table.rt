@@ -8,12 +8,13 @@ ghost use Rattle.dtx_plan.specs.EventTable as spec;
 
 use crate::event::{Event, EventKind, Events};
 use crate::key::PlanKey;
-use crate::limits::{MOST_EVENTS, MOST_PACKETS};
+use crate::limits::MOST_EVENTS;
 use crate::refusal::{PlanFault, PlanNo};
-use crate::rows::{known, table, text, whole};
+use crate::rows::{Row, known, table};
 use crate::rule::PlanRule;
 use crate::transmitter::Transmitter;
 use crate::transmitter_table::has_address;
+use dtx_sizes::MOST_PACKETS;
 use dtx_trellis::States;
 use std::alloc::Global;
 use toml::{Table, Value};
@@ -46,7 +47,7 @@ fn event(transmitters: &[Transmitter], item: u32, value: &Value) -> Result<Event
     let entry = table(value, PlanKey::Event, item)?;
     let kind = kind(entry, item)?;
     known_keys(kind, entry, item)?;
-    let to = whole(entry, "to", PlanKey::To, item, 0, 65535)? as u16;
+    let to = Row::new(entry, "to", PlanKey::To, item).whole(0, 65535)? as u16;
     no_stranger(to, transmitters, PlanKey::To, item)?;
     event_of(kind, to, entry, item)
 }
@@ -55,7 +56,7 @@ fn event(transmitters: &[Transmitter], item: u32, value: &Value) -> Result<Event
 fn kind(entry: &Table, item: u32) -> Result<EventKind, PlanNo>
     ensures { result ≡ spec.kind (table_view entry.now) item }
 {
-    match text(entry, "do", PlanKey::Do, item) {
+    match Row::new(entry, "do", PlanKey::Do, item).text() {
         Ok(word) => kind_of(word, item),
         Err(refusal) => Err(refusal),
     }
@@ -142,8 +143,8 @@ fn send(to: u16, entry: &Table, item: u32) -> Result<Event, PlanNo>
     ensures to { IfOk result (λ e. to_of e ≡ to) }
     ensures in_range { IfOk result IsInRange }
 {
-    let from = whole(entry, "from", PlanKey::From, item, 0, MOST_PACKETS - 1)?;
-    let count = whole(entry, "count", PlanKey::Count, item, 1, MOST_PACKETS - from)?;
+    let from = Row::new(entry, "from", PlanKey::From, item).whole(0, MOST_PACKETS - 1)?;
+    let count = Row::new(entry, "count", PlanKey::Count, item).whole(1, MOST_PACKETS - from)?;
     Ok(Event::Send { to, from, count })
 }
 
@@ -154,16 +155,9 @@ fn foreign(to: u16, entry: &Table, item: u32) -> Result<Event, PlanNo>
     ensures to { IfOk result (λ e. to_of e ≡ to) }
     ensures in_range { IfOk result IsInRange }
 {
-    let seed = whole(
-        entry,
-        "seed",
-        PlanKey::Seed,
-        item,
-        0,
-        9_223_372_036_854_775_807,
-    )?;
-    let from = whole(entry, "from", PlanKey::From, item, 0, MOST_PACKETS - 1)?;
-    let count = whole(entry, "count", PlanKey::Count, item, 1, MOST_PACKETS - from)?;
+    let seed = Row::new(entry, "seed", PlanKey::Seed, item).whole(0, 9_223_372_036_854_775_807)?;
+    let from = Row::new(entry, "from", PlanKey::From, item).whole(0, MOST_PACKETS - 1)?;
+    let count = Row::new(entry, "count", PlanKey::Count, item).whole(1, MOST_PACKETS - from)?;
     Ok(Event::Foreign {
         to,
         seed,
@@ -179,9 +173,9 @@ fn flip(to: u16, entry: &Table, item: u32) -> Result<Event, PlanNo>
     ensures to { IfOk result (λ e. to_of e ≡ to) }
     ensures in_range { IfOk result IsInRange }
 {
-    let from = whole(entry, "from", PlanKey::From, item, 0, MOST_PACKETS - 1)?;
-    let at = whole(entry, "at", PlanKey::At, item, 0, 187)? as u8;
-    let with = whole(entry, "with", PlanKey::With, item, 1, 255)? as u8;
+    let from = Row::new(entry, "from", PlanKey::From, item).whole(0, MOST_PACKETS - 1)?;
+    let at = Row::new(entry, "at", PlanKey::At, item).whole(0, 187)? as u8;
+    let with = Row::new(entry, "with", PlanKey::With, item).whole(1, 255)? as u8;
     Ok(Event::Flip { to, from, at, with })
 }
 
@@ -192,7 +186,7 @@ fn lie(to: u16, entry: &Table, item: u32) -> Result<Event, PlanNo>
     ensures to { IfOk result (λ e. to_of e ≡ to) }
     ensures in_range { IfOk result IsInRange }
 {
-    let from = whole(entry, "from", PlanKey::From, item, 0, MOST_PACKETS - 1)?;
+    let from = Row::new(entry, "from", PlanKey::From, item).whole(0, MOST_PACKETS - 1)?;
     let states = states(entry, item)?;
     Ok(Event::Lie { to, from, states })
 }
@@ -203,7 +197,7 @@ fn states(entry: &Table, item: u32) -> Result<States, PlanNo>
     ensures count { IfOk result (λ s. length s ≡ 12) }
     ensures each { IfOk result (All (λ state. state < 8)) }
 {
-    match text(entry, "states", PlanKey::States, item) {
+    match Row::new(entry, "states", PlanKey::States, item).text() {
         Ok(digits) => states_of(digits.as_bytes(), item),
         Err(refusal) => Err(refusal),
     }

@@ -24,7 +24,6 @@ mod transmitter_table;
 pub use damage::{Damage, Damages};
 pub use event::{Event, Events};
 pub use key::PlanKey;
-pub use limits::MOST_TRANSMITTERS;
 pub use plan::{NetPlan, Plan, ReceivePlan};
 pub use read::{read_changes, read_plan};
 pub use refusal::{PlanFault, PlanNo};

@@ -11,7 +11,7 @@ use crate::limits::MOST_EVENTS;
 use crate::plan::NetPlan;
 use crate::receive_table::receive;
 use crate::refusal::{PlanFault, PlanNo};
-use crate::rows::{array_or_none, known, member, table, text};
+use crate::rows::{Row, known, member, table};
 use crate::rule::PlanRule;
 use crate::transmitter::Transmitter;
 use dtx_outside::Word;
@@ -41,7 +41,7 @@ fn net_of(alloc: Global, transmitters: &[Transmitter], value: &Value) -> Result<
     let entry = table(value, PlanKey::Net, 0)?;
     known(entry, &["stream", "event", "receive"], PlanKey::Net, 0)?;
     let stream = stream(alloc, entry)?;
-    let items = array_or_none(entry, "event", PlanKey::Event, 0, MOST_EVENTS)?;
+    let items = Row::new(entry, "event", PlanKey::Event, 0).array_or_none(MOST_EVENTS)?;
     let events = events(alloc, transmitters, items)?;
     let receive = receive(alloc, transmitters, entry)?;
     Ok(NetPlan {
@@ -56,7 +56,7 @@ fn stream(alloc: Global, entry: &Table) -> Result<Word, PlanFault>
     ensures walk { IsAnswer (spec.stream (table_view entry.now)) result }
     ensures within { IfOk result (λ w. (1 ≤ length w) × (length w ≤ 255)) }
 {
-    match text(entry, "stream", PlanKey::Stream, 0) {
+    match Row::new(entry, "stream", PlanKey::Stream, 0).text() {
         Ok(name) => stream_of(alloc, name),
         Err(refusal) => Err(PlanFault::No(refusal)),
     }

@@ -2,10 +2,10 @@
 
 use crate::damage::Damages;
 use crate::event::Events;
-use crate::limits::MOST_TRANSMITTERS;
 use crate::transmitter::Transmitter;
 use arrayvec::ArrayVec;
 use dtx_outside::Word;
+use dtx_sizes::MOST_TRANSMITTERS;
 
 /// A plan of a network: the tick at which its feed starts, its maximum delay in ticks of 100 ns, its transmitters, and
 /// what is done with them, where it is said.

@@ -11,7 +11,7 @@ use crate::key::PlanKey;
 use crate::limits::MOST_DAMAGES;
 use crate::plan::ReceivePlan;
 use crate::refusal::PlanFault;
-use crate::rows::{array_or_none, known, member, table, whole};
+use crate::rows::{Row, known, member, table};
 use crate::transmitter::Transmitter;
 use std::alloc::Global;
 use toml::{Table, Value};
@@ -42,11 +42,11 @@ fn receive_of(
 {
     let entry = table(value, PlanKey::Receive, 0)?;
     known(entry, &["from", "damage"], PlanKey::Receive, 0)?;
-    let from = whole(entry, "from", PlanKey::ReceiveFrom, 0, 0, 65535)? as u16;
+    let from = Row::new(entry, "from", PlanKey::ReceiveFrom, 0).whole(0, 65535)? as u16;
     no_stranger(from, transmitters, PlanKey::ReceiveFrom, 0)?;
     let damage = damages(
         alloc,
-        array_or_none(entry, "damage", PlanKey::Damage, 0, MOST_DAMAGES)?,
+        Row::new(entry, "damage", PlanKey::Damage, 0).array_or_none(MOST_DAMAGES)?,
     )?;
     Ok(ReceivePlan { from, damage })
 }

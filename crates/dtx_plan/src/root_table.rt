@@ -8,12 +8,13 @@ ghost use Rattle.dtx_plan.specs.RootTable as spec;
 use crate::damage::Damages;
 use crate::damage_table::damages;
 use crate::key::PlanKey;
-use crate::limits::{MOST_DAMAGES, MOST_TRANSMITTERS, SECOND};
+use crate::limits::{MOST_DAMAGES, SECOND};
 use crate::net_table::net;
 use crate::plan::Plan;
 use crate::refusal::PlanFault;
-use crate::rows::{array, array_or_none, known, whole};
+use crate::rows::{Row, known};
 use crate::transmitter_table::transmitters;
+use dtx_sizes::MOST_TRANSMITTERS;
 use std::alloc::Global;
 use toml::Table;
 
@@ -30,16 +31,9 @@ pub(crate) fn plan(alloc: Global, root: &Table) -> Result<Plan, PlanFault>
         PlanKey::Whole,
         0,
     )?;
-    let start = whole(root, "start", PlanKey::Start, 0, 0, SECOND - 1)? as u32;
-    let max_delay = whole(root, "max_delay", PlanKey::MaxDelay, 0, 0, SECOND - 1)? as u32;
-    let items = array(
-        root,
-        "transmitter",
-        PlanKey::Transmitter,
-        0,
-        1,
-        MOST_TRANSMITTERS,
-    )?;
+    let start = Row::new(root, "start", PlanKey::Start, 0).whole(0, SECOND - 1)? as u32;
+    let max_delay = Row::new(root, "max_delay", PlanKey::MaxDelay, 0).whole(0, SECOND - 1)? as u32;
+    let items = Row::new(root, "transmitter", PlanKey::Transmitter, 0).array(1, MOST_TRANSMITTERS)?;
     let transmitters = transmitters(items)?;
     let net = net(alloc, transmitters.as_slice(), root)?;
     Ok(Plan {
@@ -59,6 +53,6 @@ pub(crate) fn changes(alloc: Global, root: &Table) -> Result<Damages, PlanFault>
     known(root, &["damage"], PlanKey::Whole, 0)?;
     damages(
         alloc,
-        array_or_none(root, "damage", PlanKey::Damage, 0, MOST_DAMAGES)?,
+        Row::new(root, "damage", PlanKey::Damage, 0).array_or_none(MOST_DAMAGES)?,
     )
 }

@@ -10,201 +10,190 @@ use crate::refusal::PlanNo;
 use crate::rule::PlanRule;
 use toml::{Table, Value};
 
-/// The whole number at a key, from `least` to `most`.
-pub(crate) fn whole(
-    table: &Table,
-    name: &str,
+/// A row of a table: what stands at a key, and how a refusal names it.
+#[derive(Clone, Copy)]
+pub(crate) struct Row<'a> {
+    value: Option<&'a Value>,
     key: PlanKey,
     item: u32,
-    least: u64,
-    most: u64,
-) -> Result<u64, PlanNo>
-    ensures row { result ≡ spec.whole (get_member name.now (table_view table.now)) key item least most }
-    ensures within { IfOk result (λ n. (least ≤ n) × (n ≤ most)) }
-{
-    match member(table, name) {
-        Some(value) => whole_value(value, key, item, least, most),
-        None => Err(PlanNo::new(key, item, PlanRule::Missing)),
-    }
 }
 
-/// The whole number at a key, from `least` to `most`, and `absent` where the key is.
-pub(crate) fn whole_or(
-    absent: u64,
-    table: &Table,
-    name: &str,
-    key: PlanKey,
-    item: u32,
-    least: u64,
-    most: u64,
-) -> Result<u64, PlanNo>
-    requires { (least ≤ absent) × (absent ≤ most) }
-    ensures row { result ≡ spec.whole_or absent (get_member name.now (table_view table.now)) key item least most }
-    ensures within { IfOk result (λ n. (least ≤ n) × (n ≤ most)) }
-{
-    match member(table, name) {
-        Some(value) => whole_value(value, key, item, least, most),
-        None => Ok(absent),
-    }
-}
-
-fn whole_value(value: &Value, key: PlanKey, item: u32, least: u64, most: u64) -> Result<u64, PlanNo>
-    ensures row { result ≡ spec.whole_value (view value.now) key item least most }
-    ensures within { IfOk result (λ n. (least ≤ n) × (n ≤ most)) }
-{
-    match value.as_integer() {
-        Some(number) => whole_of(number, key, item, least, most),
-        None => Err(PlanNo::new(key, item, PlanRule::Kind)),
-    }
-}
-
-fn whole_of(number: i64, key: PlanKey, item: u32, least: u64, most: u64) -> Result<u64, PlanNo>
-    ensures row { result ≡ spec.whole_of number key item least most }
-    ensures within { IfOk result (λ n. (least ≤ n) × (n ≤ most)) }
-{
-    if number < 0 {
-        return Err(PlanNo::new(key, item, PlanRule::Range));
-    }
-    let found = number as u64;
-    if least <= found && found <= most {
-        Ok(found)
-    } else {
-        Err(PlanNo::new(key, item, PlanRule::Range))
-    }
-}
-
-/// The number of either sign at a key, from `least` to `most`.
-pub(crate) fn signed(
-    table: &Table,
-    name: &str,
-    key: PlanKey,
-    item: u32,
-    least: i64,
-    most: i64,
-) -> Result<i64, PlanNo>
-    ensures row { result ≡ spec.signed (get_member name.now (table_view table.now)) key item least most }
-    ensures within { IfOk result (λ n. (least ≤ℤ n) × (n ≤ℤ most)) }
-{
-    match member(table, name) {
-        Some(value) => signed_value(value, key, item, least, most),
-        None => Err(PlanNo::new(key, item, PlanRule::Missing)),
-    }
-}
-
-fn signed_value(
-    value: &Value,
-    key: PlanKey,
-    item: u32,
-    least: i64,
-    most: i64,
-) -> Result<i64, PlanNo>
-    ensures row { result ≡ spec.signed_value (view value.now) key item least most }
-    ensures within { IfOk result (λ n. (least ≤ℤ n) × (n ≤ℤ most)) }
-{
-    match value.as_integer() {
-        Some(number) => {
-            if least <= number && number <= most {
-                Ok(number)
-            } else {
-                Err(PlanNo::new(key, item, PlanRule::Range))
-            }
+impl<'a> Row<'a> {
+    /// The row of that name in a table, which a refusal names by `key` and by the number of the entry.
+    pub(crate) fn new(table: &'a Table, name: &str, key: PlanKey, item: u32) -> Row<'a>
+        ensures value { option_map (λ v. view v.now) result.value ≡ get_member name.now (table_view table.now) }
+        ensures key { result.key ≡ key }
+        ensures item { result.item ≡ item }
+    {
+        Row {
+            value: member(table, name),
+            key,
+            item,
         }
-        None => Err(PlanNo::new(key, item, PlanRule::Kind)),
     }
-}
 
-/// The text at a key.
-pub(crate) fn text<'a>(
-    table: &'a Table,
-    name: &str,
-    key: PlanKey,
-    item: u32,
-) -> Result<&'a str, PlanNo>
-    ensures { seen_by (λ s. s.now) result ≡ spec.text (get_member name.now (table_view table.now)) key item }
-{
-    match member(table, name) {
-        Some(value) => text_value(value, key, item),
-        None => Err(PlanNo::new(key, item, PlanRule::Missing)),
+    fn refusal(self, rule: PlanRule) -> PlanNo
+        ensures { result ≡ record { key = self.entry.key; item = self.entry.item; rule = rule } }
+    {
+        PlanNo::new(self.key, self.item, rule)
     }
-}
 
-fn text_value(value: &Value, key: PlanKey, item: u32) -> Result<&str, PlanNo>
-    ensures { seen_by (λ s. s.now) result ≡ spec.text_value (view value.now) key item }
-{
-    match value.as_str() {
-        Some(found) => Ok(found),
-        None => Err(PlanNo::new(key, item, PlanRule::Kind)),
+    /// The whole number that stands there, from `least` to `most`.
+    pub(crate) fn whole(self, least: u64, most: u64) -> Result<u64, PlanNo>
+        ensures row { result
+            ≡ spec.whole (option_map (λ v. view v.now) self.entry.value) self.entry.key self.entry.item least most }
+        ensures within { IfOk result (λ n. (least ≤ n) × (n ≤ most)) }
+    {
+        match self.value {
+            Some(value) => self.whole_value(value, least, most),
+            None => Err(self.refusal(PlanRule::Missing)),
+        }
     }
-}
 
-/// The array at a key, of `least` to `most` entries.
-pub(crate) fn array<'a>(
-    table: &'a Table,
-    name: &str,
-    key: PlanKey,
-    item: u32,
-    least: usize,
-    most: usize,
-) -> Result<&'a [Value], PlanNo>
-    ensures row { seen_by (λ v. items_view v.now) result
-        ≡ spec.array (get_member name.now (table_view table.now)) key item least most }
-    ensures within { IfOk result (λ v. (least ≤ length v.now) × (length v.now ≤ most)) }
-{
-    match member(table, name) {
-        Some(value) => array_value(value, key, item, least, most),
-        None => Err(PlanNo::new(key, item, PlanRule::Missing)),
+    /// The whole number that stands there, from `least` to `most`, and `absent` where nothing stands there.
+    pub(crate) fn whole_or(self, absent: u64, least: u64, most: u64) -> Result<u64, PlanNo>
+        requires { (least ≤ absent) × (absent ≤ most) }
+        ensures row { result
+            ≡ spec.whole_or absent (option_map (λ v. view v.now) self.entry.value) self.entry.key self.entry.item
+            least most }
+        ensures within { IfOk result (λ n. (least ≤ n) × (n ≤ most)) }
+    {
+        match self.value {
+            Some(value) => self.whole_value(value, least, most),
+            None => Ok(absent),
+        }
     }
-}
 
-/// The array at a key, of up to `most` entries, and one of no entries where the key is absent.
-pub(crate) fn array_or_none<'a>(
-    table: &'a Table,
-    name: &str,
-    key: PlanKey,
-    item: u32,
-    most: usize,
-) -> Result<&'a [Value], PlanNo>
-    ensures row { seen_by (λ v. items_view v.now) result
-        ≡ spec.array_or_none (get_member name.now (table_view table.now)) key item most }
-    ensures within { IfOk result (λ v. length v.now ≤ most) }
-{
-    match member(table, name) {
-        Some(value) => array_value(value, key, item, 0, most),
-        None => Ok(&[]),
+    fn whole_value(self, value: &Value, least: u64, most: u64) -> Result<u64, PlanNo>
+        ensures row { result ≡ spec.whole_value (view value.now) self.entry.key self.entry.item least most }
+        ensures within { IfOk result (λ n. (least ≤ n) × (n ≤ most)) }
+    {
+        match value.as_integer() {
+            Some(number) => self.whole_of(number, least, most),
+            None => Err(self.refusal(PlanRule::Kind)),
+        }
     }
-}
 
-fn array_value(
-    value: &Value,
-    key: PlanKey,
-    item: u32,
-    least: usize,
-    most: usize,
-) -> Result<&[Value], PlanNo>
-    ensures row { seen_by (λ v. items_view v.now) result ≡ spec.array_value (view value.now) key item least most }
-    ensures within { IfOk result (λ v. (least ≤ length v.now) × (length v.now ≤ most)) }
-{
-    match value.as_array() {
-        Some(found) => numbered(found.as_slice(), key, item, least, most),
-        None => Err(PlanNo::new(key, item, PlanRule::Kind)),
+    fn whole_of(self, number: i64, least: u64, most: u64) -> Result<u64, PlanNo>
+        ensures row { result ≡ spec.whole_of number self.entry.key self.entry.item least most }
+        ensures within { IfOk result (λ n. (least ≤ n) × (n ≤ most)) }
+    {
+        if number < 0 {
+            return Err(self.refusal(PlanRule::Range));
+        }
+        let found = number as u64;
+        if least <= found && found <= most {
+            Ok(found)
+        } else {
+            Err(self.refusal(PlanRule::Range))
+        }
     }
-}
 
-#[tactic(auto, using(crate::proofs::Items::count_of_view))]
-fn numbered(
-    values: &[Value],
-    key: PlanKey,
-    item: u32,
-    least: usize,
-    most: usize,
-) -> Result<&[Value], PlanNo>
-    ensures row { seen_by (λ v. items_view v.now) result ≡ spec.numbered (items_view values.now) key item least most }
-    ensures within { IfOk result (λ v. (least ≤ length v.now) × (length v.now ≤ most)) }
-{
-    if least <= values.len() && values.len() <= most {
-        Ok(values)
-    } else {
-        Err(PlanNo::new(key, item, PlanRule::Range))
+    /// The number of either sign that stands there, from `least` to `most`.
+    pub(crate) fn signed(self, least: i64, most: i64) -> Result<i64, PlanNo>
+        ensures row { result
+            ≡ spec.signed (option_map (λ v. view v.now) self.entry.value) self.entry.key self.entry.item least most }
+        ensures within { IfOk result (λ n. (least ≤ℤ n) × (n ≤ℤ most)) }
+    {
+        match self.value {
+            Some(value) => self.signed_value(value, least, most),
+            None => Err(self.refusal(PlanRule::Missing)),
+        }
+    }
+
+    fn signed_value(self, value: &Value, least: i64, most: i64) -> Result<i64, PlanNo>
+        ensures row { result ≡ spec.signed_value (view value.now) self.entry.key self.entry.item least most }
+        ensures within { IfOk result (λ n. (least ≤ℤ n) × (n ≤ℤ most)) }
+    {
+        match value.as_integer() {
+            Some(number) => {
+                if least <= number && number <= most {
+                    Ok(number)
+                } else {
+                    Err(self.refusal(PlanRule::Range))
+                }
+            }
+            None => Err(self.refusal(PlanRule::Kind)),
+        }
+    }
+
+    /// The text that stands there.
+    pub(crate) fn text(self) -> Result<&'a str, PlanNo>
+        ensures { seen_by (λ s. s.now) result
+            ≡ spec.text (option_map (λ v. view v.now) self.entry.value) self.entry.key self.entry.item }
+    {
+        match self.value {
+            Some(value) => self.text_value(value),
+            None => Err(self.refusal(PlanRule::Missing)),
+        }
+    }
+
+    fn text_value<'b>(self, value: &'b Value) -> Result<&'b str, PlanNo>
+        ensures { seen_by (λ s. s.now) result ≡ spec.text_value (view value.now) self.entry.key self.entry.item }
+    {
+        match value.as_str() {
+            Some(found) => Ok(found),
+            None => Err(self.refusal(PlanRule::Kind)),
+        }
+    }
+
+    /// The array that stands there, of `least` to `most` entries.
+    pub(crate) fn array(self, least: usize, most: usize) -> Result<&'a [Value], PlanNo>
+        ensures row { seen_by (λ v. items_view v.now) result
+            ≡ spec.array (option_map (λ v. view v.now) self.entry.value) self.entry.key self.entry.item least most }
+        ensures within { IfOk result (λ v. (least ≤ length v.now) × (length v.now ≤ most)) }
+    {
+        match self.value {
+            Some(value) => self.array_value(value, least, most),
+            None => Err(self.refusal(PlanRule::Missing)),
+        }
+    }
+
+    /// The array that stands there, of up to `most` entries, and one of no entries where nothing stands there.
+    pub(crate) fn array_or_none(self, most: usize) -> Result<&'a [Value], PlanNo>
+        ensures row { seen_by (λ v. items_view v.now) result
+            ≡ spec.array_or_none (option_map (λ v. view v.now) self.entry.value) self.entry.key self.entry.item
+            most }
+        ensures within { IfOk result (λ v. length v.now ≤ most) }
+    {
+        match self.value {
+            Some(value) => self.array_value(value, 0, most),
+            None => Ok(&[]),
+        }
+    }
+
+    fn array_value<'b>(
+        self,
+        value: &'b Value,
+        least: usize,
+        most: usize,
+    ) -> Result<&'b [Value], PlanNo>
+        ensures row { seen_by (λ v. items_view v.now) result
+            ≡ spec.array_value (view value.now) self.entry.key self.entry.item least most }
+        ensures within { IfOk result (λ v. (least ≤ length v.now) × (length v.now ≤ most)) }
+    {
+        match value.as_array() {
+            Some(found) => self.numbered(found.as_slice(), least, most),
+            None => Err(self.refusal(PlanRule::Kind)),
+        }
+    }
+
+    #[tactic(auto, using(crate::proofs::Items::count_of_view))]
+    fn numbered<'b>(
+        self,
+        values: &'b [Value],
+        least: usize,
+        most: usize,
+    ) -> Result<&'b [Value], PlanNo>
+        ensures row { seen_by (λ v. items_view v.now) result
+            ≡ spec.numbered (items_view values.now) self.entry.key self.entry.item least most }
+        ensures within { IfOk result (λ v. (least ≤ length v.now) × (length v.now ≤ most)) }
+    {
+        if least <= values.len() && values.len() <= most {
+            Ok(values)
+        } else {
+            Err(self.refusal(PlanRule::Range))
+        }
     }
 }
 

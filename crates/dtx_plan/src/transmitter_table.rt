@@ -6,12 +6,12 @@ ghost use Rattle.dtx_plan.specs.Sound.{AreTransmitters};
 ghost use Rattle.dtx_plan.specs.TransmitterTable as spec;
 
 use crate::key::PlanKey;
-use crate::limits::MOST_TRANSMITTERS;
 use crate::refusal::PlanNo;
-use crate::rows::{known, signed, table, whole, whole_or};
+use crate::rows::{Row, known, table};
 use crate::rule::PlanRule;
 use crate::transmitter::Transmitter;
 use arrayvec::ArrayVec;
+use dtx_sizes::MOST_TRANSMITTERS;
 use toml::Value;
 
 /// The transmitters, entry by entry.
@@ -46,10 +46,10 @@ fn transmitter(earlier: &[Transmitter], value: &Value) -> Result<Transmitter, Pl
         PlanKey::Transmitter,
         item,
     )?;
-    let address = whole(entry, "address", PlanKey::Address, item, 0, 65535)? as u16;
+    let address = Row::new(entry, "address", PlanKey::Address, item).whole(0, 65535)? as u16;
     once(address, earlier, item)?;
-    let offset = signed(entry, "offset", PlanKey::Offset, item, -32768, 32767)? as i16;
-    let delay = whole_or(0, entry, "delay", PlanKey::Delay, item, 0, 4294967295)? as u32;
+    let offset = Row::new(entry, "offset", PlanKey::Offset, item).signed(-32768, 32767)? as i16;
+    let delay = Row::new(entry, "delay", PlanKey::Delay, item).whole_or(0, 0, 4294967295)? as u32;
     Ok(Transmitter {
         address,
         offset,

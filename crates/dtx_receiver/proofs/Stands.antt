@@ -7,13 +7,14 @@ use Rattle.std.proofs.lemmas.Bool.{true≢false}
 use Rattle.std.proofs.lemmas.List.FromFn.{length-map-range_with_len}
 use Rattle.std.proofs.lemmas.List.{length_push, length-append, length-take-le, length-drop, take_at, take_all}
 use Rattle.dtx_slice.specs.Slicing.{sliced_data, sliced_last}
-use Rattle.dtx_slice.specs.Unrolled.{level_groups, byte_back, bytes_back, formers_after, formers_of}
+use Rattle.dtx_slice.specs.Unrolled.{level_groups, byte_back, bytes_back, precoder_bits_after, precoder_bits_of}
 use Rattle.dtx_slice.specs.JoinsLaws.{groups_whole}
 use Rattle.dtx_trellis.specs.Pairs.{group_place}
 use Rattle.dtx_outer.specs.Inner as inner
 use Rattle.dtx_receiver.specs.Runs.{tracked}
-use Rattle.dtx_receiver.specs.Bytes.{data_count, groups_of, levels_from, levels_in, first_formers, formers_in, bytes_in}
-use Rattle.dtx_receiver.specs.Packets.{packets_of, early_of}
+use Rattle.dtx_receiver.specs.Bytes.{data_count, groups_of, levels_from, levels_in, first_formers, precoder_bits_in}
+use Rattle.dtx_receiver.specs.Bytes.{bytes_in}
+use Rattle.dtx_receiver.specs.Packets.{run_packets, early_of}
 use Rattle.dtx_receiver.specs.EarlyLaws.{end_none, end_turn}
 use Rattle.dtx_receiver.specs.Receiver.{Decoding, Decodes, Kept, StandsFor}
 use Rattle.dtx_receiver.specs.SegmentsLaws.{more_data, more_sync, levels_more, levels_stay, Still, still_data}
@@ -22,14 +23,14 @@ use Rattle.dtx_receiver.specs.SegmentsLaws.{first_bytes, formers_first, groups_w
 
 -- ---- a run
 
-pub decodes_first : (x : List ℤ) (new : Decoding) → new.formers ≡ formers_of (sliced_last x)
+pub decodes_first : (x : List ℤ) (new : Decoding) → new.precoder_bits ≡ precoder_bits_of (sliced_last x)
     → inner.StandsFor 207 187 52 4 new.inner [] → new.turn ≡ 0 → Decodes new (x ∷ [])
 unfolding levels_from groups_of data_count
 decodes_first x new f s t = record {
   some = lit< tt;
   long = ap length (first_levels x);
   levels = refl;
-  formers = f ∙ sym (formers_first x);
+  precoder_bits = f ∙ sym (formers_first x);
   inner = subst (inner.StandsFor 207 187 52 4 new.inner) (sym (first_bytes x)) s;
   turn = t;
 }
@@ -45,7 +46,7 @@ decodes_sync x kept run d z =
       levels = ap (λ n. take (828 * (n % 4)) kept.levels) c ∙ d.levels
           ∙ sym (ap₂ (λ g n. levels_from (run ++ x ∷ []) (4 * g) (n % 4)) s.groups c
           ∙ levels_stay run x (4 * groups_of run) (data_count run % 4) (omega (arith, groups_within run)));
-      formers = d.formers ∙ sym s.formers;
+      precoder_bits = d.precoder_bits ∙ sym s.precoder_bits;
       inner = subst (inner.StandsFor 207 187 52 4 kept.inner) (sym s.bytes) d.inner;
       turn = d.turn ∙ ap (λ g. 4 * g % 52) (sym s.groups);
     }
@@ -66,7 +67,8 @@ pub decodes_data : (x : List ℤ) (kept new : Decoding) (run : List (List ℤ)) 
     → length kept.levels ≡ 3312 → length (sliced_data x) ≡ 828
     → new.levels ≡ take (828 * (data_count run % 4)) kept.levels ++ sliced_data x
     ++ drop (828 * (data_count run % 4) + 828) kept.levels
-    → new.formers ≡ kept.formers → new.inner ≡ kept.inner → new.turn ≡ kept.turn → Decodes new (run ++ x ∷ [])
+    → new.precoder_bits ≡ kept.precoder_bits → new.inner ≡ kept.inner → new.turn ≡ kept.turn
+    → Decodes new (run ++ x ∷ [])
 decodes_data x kept new run d n p l m e f i t =
     let s : Still run (run ++ x ∷ []) = still_data run x n p in
     let c : data_count (run ++ x ∷ []) ≡ data_count run + 1 = more_data run x n in
@@ -79,7 +81,7 @@ decodes_data x kept new run d n p l m e f i t =
           (levels_from run (4 * groups_of run) (data_count run % 4)) l (omega arith) m e d.levels
           ∙ sym (ap₂ (λ g n. levels_from (run ++ x ∷ []) (4 * g) n) s.groups (ap (λ n. n % 4) c ∙ r)
           ∙ levels_more run x (4 * groups_of run) (data_count run % 4) n (groups_within run));
-      formers = f ∙ d.formers ∙ sym s.formers;
+      precoder_bits = f ∙ d.precoder_bits ∙ sym s.precoder_bits;
       inner = subst (inner.StandsFor 207 187 52 4 new.inner) (sym s.bytes)
           (subst (λ (k : inner.Kept). inner.StandsFor 207 187 52 4 k (bytes_in run)) (sym i) d.inner);
       turn = t ∙ d.turn ∙ ap (λ g. 4 * g % 52) (sym s.groups);
@@ -132,11 +134,11 @@ whole_levels x kept run place z w d =
 
 pub bytes_group : (x : List ℤ) (kept : Decoding) (run : List (List ℤ)) (place : ℕ) (z : List ℕ)
     → Whole x kept run place z → Decodes kept run
-    → bytes_in (run ++ x ∷ []) ≡ bytes_in run ++ bytes_back (place - place % 4) kept.formers z
+    → bytes_in (run ++ x ∷ []) ≡ bytes_in run ++ bytes_back (place - place % 4) kept.precoder_bits z
 bytes_group x kept run place z w d =
     (grown run x z (not_due_now run place w.due) (part_now run place w.due
     ∙ w.last) d.long (whole_levels x kept run place z w d)).bytes
-    ∙ ap₂ (λ s f. bytes_in run ++ bytes_back s f z) (group_now run place w.due) (sym d.formers)
+    ∙ ap₂ (λ s f. bytes_in run ++ bytes_back s f z) (group_now run place w.due) (sym d.precoder_bits)
 
 levels_none : (run : List (List ℤ)) (a : ℕ) → levels_from run a 0 ≡ []
 unfolding levels_from
@@ -144,8 +146,9 @@ levels_none run a = refl
 
 pub decodes_group : (x : List ℤ) (kept new : Decoding) (run : List (List ℤ)) (place : ℕ) (z : List ℕ)
     → Whole x kept run place z → Decodes kept run
-    → new.levels ≡ z → new.formers ≡ formers_after (place - place % 4) kept.formers z → new.turn ≡ (kept.turn + 4) % 52
-    → inner.StandsFor 207 187 52 4 new.inner (bytes_in run ++ bytes_back (place - place % 4) kept.formers z)
+    → new.levels ≡ z → new.precoder_bits ≡ precoder_bits_after (place - place % 4) kept.precoder_bits z
+    → new.turn ≡ (kept.turn + 4) % 52
+    → inner.StandsFor 207 187 52 4 new.inner (bytes_in run ++ bytes_back (place - place % 4) kept.precoder_bits z)
     → Decodes new (run ++ x ∷ [])
 decodes_group x kept new run place z w d l f t i =
     let g : Grown run (run ++ x ∷ []) z = grown run x z (not_due_now run place w.due) (part_now run place w.due
@@ -158,7 +161,8 @@ decodes_group x kept new run place z w d l f t i =
       levels = ap (λ c. take (828 * c) new.levels) n
           ∙ sym (ap (levels_from (run ++ x ∷ []) (4 * groups_of (run ++ x ∷ []))) n
           ∙ levels_none (run ++ x ∷ []) (4 * groups_of (run ++ x ∷ [])));
-      formers = f ∙ ap₂ (λ s y. formers_after s y z) (sym (group_now run place w.due)) d.formers ∙ sym g.formers;
+      precoder_bits = f ∙ ap₂ (λ s y. precoder_bits_after s y z) (sym (group_now run place w.due)) d.precoder_bits
+          ∙ sym g.precoder_bits;
       inner = subst (inner.StandsFor 207 187 52 4 new.inner) (sym (bytes_group x kept run place z w d)) i;
       turn = t ∙ ap (λ n. (n + 4) % 52) d.turn ∙ turned (groups_of run) ∙ ap (λ g. 4 * g % 52) (sym g.groups);
     }
@@ -181,12 +185,12 @@ bytes_long kept run d =
     blocks g = omega arith
 
 pub ends_turn : (kept : Decoding) (run : List (List ℤ)) (more : List ℕ) → Decodes kept run → kept.turn ≡ 0
-    → length more ≡ 207 → packets_of (bytes_in run) ≡ early_of (bytes_in run ++ more)
+    → length more ≡ 207 → run_packets (bytes_in run) ≡ early_of (bytes_in run ++ more)
 ends_turn kept run more d t l = end_turn (bytes_in run) more (4 * groups_of run) (bytes_long kept run d) l (sym d.turn
     ∙ t)
 
 pub ends_else : (kept : Decoding) (run : List (List ℤ)) → Decodes kept run → kept.turn ≢ 0
-    → packets_of (bytes_in run) ≡ early_of (bytes_in run)
+    → run_packets (bytes_in run) ≡ early_of (bytes_in run)
 ends_else kept run d t = end_none (bytes_in run) (4 * groups_of run) (bytes_long kept run d) (inr (λ z. t (d.turn ∙ z)))
 
 -- ---- the run that is on

@@ -7,7 +7,7 @@ use Rattle.dtx_receiver.specs.declared.batch.Received.{Received}
 use Rattle.dtx_receiver.specs.declared.tracking.Tracking.TheVariants.{Searching, Began, Sync, Data, Ended}
 use Rattle.dtx_receiver.specs.Runs.{Tracked, tracked}
 use Rattle.dtx_receiver.specs.Bytes.{bytes_in}
-use Rattle.dtx_receiver.specs.Packets.{packets_of, early_of, all_packets, given}
+use Rattle.dtx_receiver.specs.Packets.{run_packets, early_of, all_packets, packets_so_far}
 use Rattle.dtx_receiver.specs.Receiver.{Decoding, Decodes, Kept, StandsFor, IsTaken}
 use Rattle.dtx_receiver.specs.SegmentsLaws.{Still, still_sync}
 use Rattle.dtx_receiver.specs.FollowingLaws.{searching, began, sync_came, ended_there, data_came, given_on, given_end}
@@ -15,8 +15,8 @@ use Rattle.dtx_receiver.specs.FollowingLaws.{given_none, given_first, all_run, a
 use Rattle.dtx_receiver.proofs.Stands.{decodes_sync, none_on, On, some_on, stands_none, stands_some}
 
 with_none : (s : List (List ℤ)) (x : List ℤ) (brought : List Received) → brought ≡ []
-    → given (s ++ x ∷ []) ≡ given s ++ [] → given (s ++ x ∷ []) ≡ given s ++ brought
-with_none s x brought b e = e ∙ ap (λ xs. given s ++ xs) (sym b)
+    → packets_so_far (s ++ x ∷ []) ≡ packets_so_far s ++ [] → packets_so_far (s ++ x ∷ []) ≡ packets_so_far s ++ brought
+with_none s x brought b e = e ∙ ap (λ xs. packets_so_far s ++ xs) (sym b)
 
 pub step_searching : (s : List (List ℤ)) (x : List ℤ) (kept : Kept) (brought : List Received) → StandsFor kept s
     → kept.place ≡ None → looks_like x ≡ false → brought ≡ []
@@ -69,7 +69,7 @@ step_sync s x kept new brought h p l b n d =
 pub step_ended : (s : List (List ℤ)) (x : List ℤ) (kept new : Kept) (brought : List Received) → StandsFor kept s
     → kept.place ≡ Some 0 → looks_like x ≡ false
     → new.place ≡ None → ((run : List (List ℤ)) → Decodes kept.decoding run
-    → packets_of (bytes_in run) ≡ early_of (bytes_in run) ++ brought)
+    → run_packets (bytes_in run) ≡ early_of (bytes_in run) ++ brought)
     → IsTaken s x new Ended brought
 step_ended s x kept new brought h p l n g =
     let o : On kept s 0 = some_on kept s 0 h p in
@@ -103,13 +103,13 @@ step_data s x kept new place brought h p z n g =
 -- ---- the end of the list
 
 pub finish_none : (s : List (List ℤ)) (kept : Kept) (brought : List Received) → StandsFor kept s → kept.place ≡ None
-    → brought ≡ [] → all_packets s ≡ given s ++ brought
-finish_none s kept brought h p b = all_none s (none_on kept s h p) ∙ ap (λ xs. given s ++ xs) (sym b)
+    → brought ≡ [] → all_packets s ≡ packets_so_far s ++ brought
+finish_none s kept brought h p b = all_none s (none_on kept s h p) ∙ ap (λ xs. packets_so_far s ++ xs) (sym b)
 
 pub finish_some : (s : List (List ℤ)) (kept : Kept) (place : ℕ) (brought : List Received) → StandsFor kept s
     → kept.place ≡ Some place
     → ((run : List (List ℤ)) → Decodes kept.decoding run
-    → packets_of (bytes_in run) ≡ early_of (bytes_in run) ++ brought) → all_packets s ≡ given s ++ brought
+    → run_packets (bytes_in run) ≡ early_of (bytes_in run) ++ brought) → all_packets s ≡ packets_so_far s ++ brought
 finish_some s kept place brought h p g =
     let o : On kept s place = some_on kept s place h p in
     all_run s o.run brought o.is (g o.run o.decodes)

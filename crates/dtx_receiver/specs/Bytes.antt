@@ -2,7 +2,7 @@
 use Rattle.std.specs.Prelude.{ℕ, ℤ, ◌+◌, ◌-◌, ◌*◌, ◌/◌, List, [], length, slice_index_or}
 use Rattle.std.specs.List.{range_with_len, flat_map}
 use Rattle.dtx_slice.specs.Slicing.{sliced_data, sliced_last}
-use Rattle.dtx_slice.specs.Unrolled.{bytes_back, formers_of, formers_after}
+use Rattle.dtx_slice.specs.Unrolled.{bytes_back, precoder_bits_of, precoder_bits_after}
 
 -- how many data segments a run has: all segments but the field syncs, which stand at the places 0, 313, 626 and so on
 unfoldable pub data_count : List (List ℤ) → ℕ
@@ -27,11 +27,11 @@ levels_in run = levels_from run 0 (4 * groups_of run)
 -- Z2 of the twelve coders before a run's first data segment: what the run's first field sync repeats. Later ones aren't
 -- used.
 unfoldable pub first_formers : List (List ℤ) → List ℕ
-first_formers run = formers_of (sliced_last (slice_index_or run 0 []))
+first_formers run = precoder_bits_of (sliced_last (slice_index_or run 0 []))
 
 -- Z2 of the twelve coders behind the whole groups
-unfoldable pub formers_in : List (List ℤ) → List ℕ
-formers_in run = formers_after 0 (first_formers run) (levels_in run)
+unfoldable pub precoder_bits_in : List (List ℤ) → List ℕ
+precoder_bits_in run = precoder_bits_after 0 (first_formers run) (levels_in run)
 
 -- the bytes of all whole groups: the run's first data segment is at place 0 of a field
 unfoldable pub bytes_in : List (List ℤ) → List ℕ

@@ -3,7 +3,7 @@
 use Rattle.std.proofs.Common.{◌≡◌, ◌≢◌, ℕ, ◌+◌, ◌-◌, ◌*◌, ◌%◌, ◌<◌, ◌≤◌, ◌⊎◌, ◌↔◌, nat_lt, true, inl, inr, arith}
 use Rattle.std.proofs.lemmas.Bool.{cases_lt, cases_eq, lt-ltb, ltb-true}
 use Rattle.dtx_lists.proofs.Range.{list_all-range_at, list_all-range_from}
-use Rattle.dtx_outer.specs.Inner.{place_of, IsComplete}
+use Rattle.dtx_outer.specs.Inner.{codeword_byte_place, IsComplete}
 use Rattle.dtx_receiver.specs.Packets.{is_complete}
 
 pub complete_told : (count k : ℕ) → is_complete count k ≡ true ↔ IsComplete 207 52 4 count k
@@ -11,12 +11,13 @@ unfolding is_complete
 complete_told count k = (there, back)
   where
     there : is_complete count k ≡ true → IsComplete 207 52 4 count k
-    there t = λ j l. ltb-true (place_of 52 4 (207 * k + j)) count
-        (list_all-range_at (λ i. nat_lt (place_of 52 4 (207 * k + i)) count) 0 207 t j (omega arith) (omega arith))
+    there t = λ j l. ltb-true (codeword_byte_place 52 4 (207 * k + j)) count
+        (list_all-range_at (λ i. nat_lt (codeword_byte_place 52 4 (207 * k + i)) count) 0 207 t j (omega arith)
+        (omega arith))
 
     back : IsComplete 207 52 4 count k → is_complete count k ≡ true
-    back c = list_all-range_from (λ i. nat_lt (place_of 52 4 (207 * k + i)) count) 0 207
-        (λ j l m. lt-ltb (place_of 52 4 (207 * k + j)) count (c j (omega arith)))
+    back c = list_all-range_from (λ i. nat_lt (codeword_byte_place 52 4 (207 * k + i)) count) 0 207
+        (λ j l m. lt-ltb (codeword_byte_place 52 4 (207 * k + j)) count (c j (omega arith)))
 
 -- one byte of the last branch is among the first 52
 early : (n s : ℕ) → n + (51 - n % 52) + 208 * ((n + (51 - n % 52)) % 52) < 207 * s → n + 10608 < 207 * s

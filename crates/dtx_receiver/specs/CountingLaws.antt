@@ -9,14 +9,14 @@ use Rattle.std.proofs.lemmas.List.{length-append, append-nil, length-take-le, le
 use Rattle.std.proofs.lemmas.List.FromFn.{length-map-range_with_len}
 use Rattle.dtx_frame.specs.Detection.{looks_like}
 use Rattle.dtx_trellis.specs.Pairs.{group_place}
-use Rattle.dtx_slice.specs.Unrolled.{level_groups, byte_back, bytes_back, formers_after}
+use Rattle.dtx_slice.specs.Unrolled.{level_groups, byte_back, bytes_back, precoder_bits_after}
 use Rattle.dtx_slice.specs.JoinsLaws.{bytes_append}
 use Rattle.dtx_receiver.specs.declared.batch.Received.{Received}
 use Rattle.dtx_receiver.specs.declared.tracking.Tracking.{Tracking}
 use Rattle.dtx_receiver.specs.declared.tracking.Tracking.TheVariants.{Searching, Began, Sync, Data, Ended}
 use Rattle.dtx_receiver.specs.Runs.{Tracked, tracked, runs, tracking, begun}
 use Rattle.dtx_receiver.specs.Bytes.{data_count, first_formers, levels_in, bytes_in}
-use Rattle.dtx_receiver.specs.Packets.{packets_of, early_of, all_packets, given}
+use Rattle.dtx_receiver.specs.Packets.{run_packets, early_of, all_packets, packets_so_far}
 use Rattle.dtx_receiver.specs.EarlyLaws.{early_more, end_more}
 use Rattle.dtx_receiver.specs.SegmentsLaws.{still_data, still_sync, levels_grown, first_stays, some_before}
 use Rattle.dtx_receiver.specs.FollowingLaws.{searching, began, sync_came, ended_there, data_came, given_on, given_end}
@@ -29,8 +29,8 @@ pub no_segments : runs [] ≡ []
 unfolding runs tracked
 no_segments = refl
 
-pub nothing_given : given [] ≡ []
-unfolding given tracked
+pub nothing_given : packets_so_far [] ≡ []
+unfolding packets_so_far tracked
 nothing_given = refl
 
 runs_by : (s : List (List ℤ)) (t : Tracked) → tracked s ≡ t
@@ -115,7 +115,7 @@ bytes_front f y z = (
     rest = drop (3312 * (length y / 3312)) y
 
     new : List ℕ
-    new = formers_after 0 f front
+    new = precoder_bits_after 0 f front
 
     parts : front ++ rest ≡ y
     parts = take-append-drop (3312 * u) y
@@ -162,17 +162,17 @@ early_data run x n = by_part (cases_eq (data_count run % 4) 3)
     by_part (inl p) = early_front run (run ++ x ∷ []) _ (first_stays run x (some_before run n)) (levels_grown run x n p)
     by_part (inr p) = ([], ap early_of (still_data run x n p).bytes ∙ sym (append-nil (early_of (bytes_in run))))
 
-pub given_more : (s : List (List ℤ)) (x : List ℤ) → More (given (s ++ x ∷ [])) (given s)
+pub given_more : (s : List (List ℤ)) (x : List ℤ) → More (packets_so_far (s ++ x ∷ [])) (packets_so_far s)
 given_more s x = by_run (tracked s).run refl (looks_like x) refl
   where
     by_run : (o : Option (List (List ℤ))) → (tracked s).run ≡ o → (b : Bool) → looks_like x ≡ b
-        → More (given (s ++ x ∷ [])) (given s)
+        → More (packets_so_far (s ++ x ∷ [])) (packets_so_far s)
     by_run None e false l = ([], given_none s x e (searching s x e l).0)
     by_run None e true l = ([], given_first s x e (began s x e l).0)
     by_run (Some run) e b l = by_due (cases_eq (length run % 313) 0) b l
       where
         by_due : (length run % 313 ≡ 0) ⊎ (length run % 313 ≢ 0) → (b : Bool) → looks_like x ≡ b
-            → More (given (s ++ x ∷ [])) (given s)
+            → More (packets_so_far (s ++ x ∷ [])) (packets_so_far s)
         by_due (inr d) b l = let m = early_data run x d in
             (m.0, given_on s x run (run ++ x ∷ []) m.0 e (data_came s x run e d).0 m.1)
         by_due (inl d) true l = (
@@ -187,10 +187,10 @@ given_more s x = by_run (tracked s).run refl (looks_like x) refl
               (end_more (bytes_in run) (4 * level_groups (levels_in run)) (bytes_count run)),
         )
 
-pub all_more : (s : List (List ℤ)) → More (all_packets s) (given s)
+pub all_more : (s : List (List ℤ)) → More (all_packets s) (packets_so_far s)
 all_more s = by_run (tracked s).run refl
   where
-    by_run : (o : Option (List (List ℤ))) → (tracked s).run ≡ o → More (all_packets s) (given s)
+    by_run : (o : Option (List (List ℤ))) → (tracked s).run ≡ o → More (all_packets s) (packets_so_far s)
     by_run None e = ([], all_none s e)
     by_run (Some run) e =
         (_, all_run s run _ e (end_more (bytes_in run) (4 * level_groups (levels_in run)) (bytes_count run)))

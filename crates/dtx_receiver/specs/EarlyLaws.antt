@@ -7,13 +7,13 @@ use Rattle.std.proofs.lemmas.Bool.{cases_lt}
 use Rattle.std.proofs.lemmas.List.{length-append, append-nil, map-append}
 use Rattle.std.proofs.lemmas.List.Elements.{filter-append}
 use Rattle.dtx_lists.proofs.Range.{range_with_len-parts, map-range_same}
-use Rattle.dtx_outer.specs.Inner.{place_of, word_at, IsComplete}
+use Rattle.dtx_outer.specs.Inner.{codeword_byte_place, word_at, IsComplete}
 use Rattle.dtx_outer.specs.WordsLaws.{word_stays}
 use Rattle.dtx_laws.specs.Words.{correction}
-use Rattle.dtx_receiver.specs.Packets.{is_complete, received_by, received_at, packets_of, early_of}
+use Rattle.dtx_receiver.specs.Packets.{is_complete, received_by, received_at, run_packets, early_of}
 use Rattle.dtx_receiver.specs.declared.batch.Received.{Received}
 use Rattle.dtx_receiver.specs.CompleteLaws.{complete_told, complete_all, complete_only}
-use Rattle.dtx_receiver.specs.RangesLaws.{filter-range_all, filter-range_none}
+use Rattle.dtx_lists.proofs.RangeFilter.{filter-range_all, filter-range_none}
 
 is_true : (s k : ℕ) → (k + 53 ≤ s) ⊎ ((k + 52 ≡ s) × (k % 52 ≡ 0)) → is_complete (207 * s) k ≡ true
 is_true s k h = (complete_told (207 * s) k).1 (complete_all s k h)
@@ -70,8 +70,8 @@ numbers : (s : ℕ) → 207 * s / 207 ≡ s
 numbers s = omega arith
 
 by_count : (bytes : List ℕ) (s : ℕ) → length bytes ≡ 207 * s
-    → packets_of bytes ≡ map (received_at bytes) (filter (is_complete (207 * s)) (range_with_len 0 s))
-unfolding packets_of
+    → run_packets bytes ≡ map (received_at bytes) (filter (is_complete (207 * s)) (range_with_len 0 s))
+unfolding run_packets
 by_count bytes s e =
     ap (λ n. map (received_at bytes) (filter (is_complete n) (range_with_len 0 (n / 207)))) e
     ∙ ap (λ n. map (received_at bytes) (filter (is_complete (207 * s)) (range_with_len 0 n))) (numbers s)
@@ -142,7 +142,7 @@ early_next bytes more s e f l =
 abbrev pub left_of : List ℕ → ℕ → List Received
 left_of bytes s = map (received_at bytes) (filter (is_complete (207 * s)) (range_with_len (s - 52) (s - (s - 52))))
 
-pub end_more : (bytes : List ℕ) (s : ℕ) → length bytes ≡ 207 * s → packets_of bytes ≡ early_of bytes ++ left_of bytes s
+pub end_more : (bytes : List ℕ) (s : ℕ) → length bytes ≡ 207 * s → run_packets bytes ≡ early_of bytes ++ left_of bytes s
 end_more bytes s e =
     by_count bytes s e ∙ ap (map (received_at bytes)) (parts s)
     ∙ map-append (received_at bytes) (range_with_len 0 (s - 52))
@@ -151,13 +151,13 @@ end_more bytes s e =
 
 -- what is left at the end of a run: nothing, or one packet, which any 207 bytes more bring
 pub end_none : (bytes : List ℕ) (s : ℕ) → length bytes ≡ 207 * s → (s < 52) ⊎ (s % 52 ≢ 0)
-    → packets_of bytes ≡ early_of bytes
+    → run_packets bytes ≡ early_of bytes
 end_none bytes s e c =
     end_more bytes s e ∙ ap (λ xs. early_of bytes ++ map (received_at bytes) xs) (none_left s c)
     ∙ append-nil (early_of bytes)
 
 pub end_one : (bytes more : List ℕ) (s : ℕ) → length bytes ≡ 207 * s → length more ≡ 207 → 52 ≤ s → s % 52 ≡ 0
-    → packets_of bytes ≡ early_of (bytes ++ more)
+    → run_packets bytes ≡ early_of (bytes ++ more)
 end_one bytes more s e f l z =
     end_more bytes s e
     ∙ ap (λ xs. early_of bytes ++ map (received_at bytes) xs) (last_one s l z)
@@ -174,9 +174,9 @@ early_nothing = refl
 
 -- the end of a run whose data segments are a multiple of 52, and of any other
 pub end_turn : (bytes more : List ℕ) (s : ℕ) → length bytes ≡ 207 * s → length more ≡ 207 → s % 52 ≡ 0
-    → packets_of bytes ≡ early_of (bytes ++ more)
+    → run_packets bytes ≡ early_of (bytes ++ more)
 end_turn bytes more s e f z = by_cases (cases_lt s 52)
   where
-    by_cases : (s < 52) ⊎ (52 ≤ s) → packets_of bytes ≡ early_of (bytes ++ more)
+    by_cases : (s < 52) ⊎ (52 ≤ s) → run_packets bytes ≡ early_of (bytes ++ more)
     by_cases (inl few) = end_none bytes s e (inl few) ∙ sym (early_short bytes more s e f few)
     by_cases (inr many) = end_one bytes more s e f many z

@@ -12,7 +12,7 @@ use Rattle.std.proofs.lemmas.List.Elements.{All-nil, All-cons, All-weaker, All-c
 use Rattle.std.proofs.lemmas.List.Elements.{Contains-push_cases}
 use Rattle.std.specs.List.{Contains}
 use Rattle.dtx_frame.specs.Detection.{looks_like}
-use Rattle.dtx_receiver.specs.Runs.{Tracked, tracked, runs, sync_due, told, tracking}
+use Rattle.dtx_receiver.specs.Runs.{Tracked, tracked, runs, sync_due, tracking_of, tracking}
 use Rattle.dtx_receiver.specs.declared.tracking.Tracking.TheVariants.{Searching, Began, Sync, Data, Ended}
 use Rattle.dtx_receiver.specs.Intervals.{looks_at, NoneLooks, IsRun, AreRuns, segments_in}
 use Rattle.dtx_receiver.specs.FollowingLaws.{searching, began, sync_came, ended_there, data_came}
@@ -394,7 +394,7 @@ pub told_on : (s : List (List ℤ)) (x : List ℤ) (places : List (ℕ × ℕ)) 
 unfolding tracking sync_due
 told_on s x places first n a e =
     let o = on_there s places first n a e in
-    ap (λ r. told r (looks_like x)) o.1
+    ap (λ r. tracking_of r (looks_like x)) o.1
     ∙ ap (λ (k : ℕ). cond (k % 313 == 0) (cond (looks_like x) Sync Ended) Data) o.2
 
 -- where none does, none is on
@@ -416,4 +416,4 @@ none_on s places a b = let h : Searched s (length s) (tracked s) = all_searched 
 pub told_off : (s : List (List ℤ)) (x : List ℤ) (places : List (ℕ × ℕ)) → AreRuns s 0 places
     → All (λ p. p.0 + p.1 < length s) places → tracking s x ≡ cond (looks_like x) Began Searching
 unfolding tracking
-told_off s x places a b = ap (λ r. told r (looks_like x)) (none_on s places a b)
+told_off s x places a b = ap (λ r. tracking_of r (looks_like x)) (none_on s places a b)

@@ -4,7 +4,6 @@ pub mod Bytes
 pub mod Packets
 pub mod Receiver
 pub mod CompleteLaws
-pub mod RangesLaws
 pub mod SegmentsLaws
 pub mod FollowingLaws
 pub mod IntervalsLaws

@@ -5,7 +5,7 @@ use Rattle.std.specs.List.{range_with_len, list_all, flat_map}
 use Rattle.dtx_laws.specs.Codeword.{distance}
 use Rattle.dtx_laws.specs.Whitening.{whitened}
 use Rattle.dtx_laws.specs.Words.{correction}
-use Rattle.dtx_outer.specs.Inner.{place_of, word_at}
+use Rattle.dtx_outer.specs.Inner.{codeword_byte_place, word_at}
 use Rattle.dtx_packets.specs.Packet.{with_error}
 use Rattle.dtx_whiten.specs.Randomizer.{randomizer_bytes}
 use Rattle.dtx_receiver.specs.declared.batch.Received.{Received}
@@ -14,7 +14,7 @@ use Rattle.dtx_receiver.specs.Bytes.{bytes_in}
 
 -- whether all 207 bytes of word k are among so many bytes of a run
 unfoldable pub is_complete : ℕ → ℕ → Bool
-is_complete count k = list_all (λ j. nat_lt (place_of 52 4 (207 * k + j)) count) (range_with_len 0 207)
+is_complete count k = list_all (λ j. nat_lt (codeword_byte_place 52 4 (207 * k + j)) count) (range_with_len 0 207)
 
 -- the data of a word as a packet: unwhitened, behind the sync byte 0x47
 abbrev pub packet_bytes : ℕ → List ℕ → List ℕ
@@ -40,8 +40,9 @@ received_at bytes k =
     received_by (187 * (k % 312)) (word_at 207 52 4 bytes k) (correction 207 187 (word_at 207 52 4 bytes k))
 
 -- The packets of a run: each whose bytes are all there. There is at most one for each 207 bytes.
-unfoldable pub packets_of : List ℕ → List Received
-packets_of bytes = map (received_at bytes) (filter (is_complete (length bytes)) (range_with_len 0 (length bytes / 207)))
+unfoldable pub run_packets : List ℕ → List Received
+run_packets bytes = map (received_at bytes) (filter (is_complete (length bytes)) (range_with_len 0
+    (length bytes / 207)))
 
 -- those that are given while the run is on: with 53 data segments or more from the packet's own on
 unfoldable pub early_of : List ℕ → List Received
@@ -49,13 +50,13 @@ early_of bytes = map (received_at bytes) (range_with_len 0 (length bytes / 207 -
 
 -- the packets of a list of segments, run after run
 unfoldable pub all_packets : List (List ℤ) → List Received
-all_packets segments = flat_map (λ run. packets_of (bytes_in run)) (runs segments)
+all_packets segments = flat_map (λ run. run_packets (bytes_in run)) (runs segments)
 
 -- those that are given before the list ends: those of the runs that have ended, and the early ones of the run that is
 -- on
-unfoldable pub given : List (List ℤ) → List Received
-given segments =
-    flat_map (λ run. packets_of (bytes_in run)) (tracked segments).ended
+unfoldable pub packets_so_far : List (List ℤ) → List Received
+packets_so_far segments =
+    flat_map (λ run. run_packets (bytes_in run)) (tracked segments).ended
     ++ flat_map (λ run. early_of (bytes_in run)) (option_to_list (tracked segments).run)
 
 -- the bytes of all packets of a list of segments

@@ -6,14 +6,14 @@ use Rattle.dtx_whiten.specs.Randomizer.{randomizer_bytes}
 use Rattle.dtx_receiver.specs.declared.batch.Received.{Received}
 use Rattle.dtx_receiver.specs.declared.tracking.Tracking.{Tracking}
 use Rattle.dtx_receiver.specs.Runs.{tracked, tracking}
-use Rattle.dtx_receiver.specs.Packets.{given}
-use Rattle.dtx_receiver.specs.Bytes.{data_count, groups_of, levels_from, levels_in, formers_in, bytes_in}
+use Rattle.dtx_receiver.specs.Packets.{packets_so_far}
+use Rattle.dtx_receiver.specs.Bytes.{data_count, groups_of, levels_from, levels_in, precoder_bits_in, bytes_in}
 
 -- what is kept of a run: the levels of the group that is on, Z2 of the twelve coders before it, the outer coding's way
 -- back, and how many data segments are in whole groups, modulo 52
 pub record Decoding : Type 0 where
   pub levels : List ℕ
-  pub formers : List ℕ
+  pub precoder_bits : List ℕ
   pub inner : inner.Kept
   pub turn : ℕ
 
@@ -22,7 +22,7 @@ pub record Decodes (kept : Decoding) (run : List (List ℤ)) : Type 0 where
   pub some : 0 < length run
   pub long : length (levels_in run) ≡ 3312 * groups_of run
   pub levels : take (828 * (data_count run % 4)) kept.levels ≡ levels_from run (4 * groups_of run) (data_count run % 4)
-  pub formers : kept.formers ≡ formers_in run
+  pub precoder_bits : kept.precoder_bits ≡ precoder_bits_in run
   pub inner : inner.StandsFor 207 187 52 4 kept.inner (bytes_in run)
   pub turn : kept.turn ≡ 4 * groups_of run % 52
 
@@ -49,4 +49,4 @@ pub record IsTaken (segments : List (List ℤ)) (x : List ℤ) (new : Kept) (ans
     (brought : List Received) : Type 0 where
   pub told : answer ≡ tracking segments x
   pub stands : StandsFor new (segments ++ x ∷ [])
-  pub packets : given (segments ++ x ∷ []) ≡ given segments ++ brought
+  pub packets : packets_so_far (segments ++ x ∷ []) ≡ packets_so_far segments ++ brought

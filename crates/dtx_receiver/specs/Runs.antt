@@ -37,13 +37,13 @@ unfoldable pub runs : List (List ℤ) → List (List (List ℤ))
 runs segments = (tracked segments).ended ++ option_to_list (tracked segments).run
 
 -- what a segment is told to be, by the run that is on before it and by whether it looks like a field sync
-abbrev pub told : Option (List (List ℤ)) → Bool → Tracking
-told None looks = if looks then Began else Searching
-told (Some run) looks = if sync_due run then (if looks then Sync else Ended) else Data
+abbrev pub tracking_of : Option (List (List ℤ)) → Bool → Tracking
+tracking_of None looks = if looks then Began else Searching
+tracking_of (Some run) looks = if sync_due run then (if looks then Sync else Ended) else Data
 
 -- what the segment behind a list is told to be
 unfoldable pub tracking : List (List ℤ) → List ℤ → Tracking
-tracking segments x = told (tracked segments).run (looks_like x)
+tracking segments x = tracking_of (tracked segments).run (looks_like x)
 
 -- how many runs begin with a segment that is told to be this
 abbrev pub begun : Tracking → ℕ

@@ -9,12 +9,13 @@ use Rattle.std.proofs.lemmas.List.FromFn.{get_or-map-range_with_len}
 use Rattle.dtx_lists.proofs.Range.{range_with_len-parts, map-range_same}
 use Rattle.dtx_trellis.specs.Pairs.{group_place}
 use Rattle.dtx_slice.specs.Slicing.{sliced, sliced_data, sliced_last}
-use Rattle.dtx_slice.specs.Unrolled.{level_groups, former, bytes_back, formers_after, formers_of}
+use Rattle.dtx_slice.specs.Unrolled.{level_groups, precoder_bit, bytes_back, precoder_bits_after, precoder_bits_of}
 use Rattle.dtx_slice.specs.JoinsLaws.{bytes_append, formers_append}
 use Rattle.dtx_slice.specs.PlacesLaws.{former_zero}
-use Rattle.dtx_receiver.specs.Bytes.{data_count, data_at, groups_of, levels_from, levels_in, first_formers, formers_in}
+use Rattle.dtx_receiver.specs.Bytes.{data_count, data_at, groups_of, levels_from, levels_in, first_formers}
+use Rattle.dtx_receiver.specs.Bytes.{precoder_bits_in}
 use Rattle.dtx_receiver.specs.Bytes.{bytes_in}
-use Rattle.dtx_receiver.specs.RangesLaws.{flat_map-range_same}
+use Rattle.dtx_lists.proofs.RangeMoved.{flat_map-range_same}
 
 -- ---- numbers
 
@@ -83,7 +84,7 @@ levels_more run x a n h e =
 pub first_stays : (run : List (List ℤ)) (x : List ℤ) → 0 < length run
     → first_formers (run ++ x ∷ []) ≡ first_formers run
 unfolding first_formers
-first_stays run x l = ap (λ s. formers_of (sliced_last s)) (get_or_append_left run (x ∷ []) [] 0 l)
+first_stays run x l = ap (λ s. precoder_bits_of (sliced_last s)) (get_or_append_left run (x ∷ []) [] 0 l)
 
 -- ---- where no group becomes whole
 
@@ -96,12 +97,12 @@ some_before run n = by_length (length run) n
 pub record Still (run new : List (List ℤ)) : Type 0 where
   pub groups : groups_of new ≡ groups_of run
   pub levels : levels_in new ≡ levels_in run
-  pub formers : formers_in new ≡ formers_in run
+  pub precoder_bits : precoder_bits_in new ≡ precoder_bits_in run
   pub bytes : bytes_in new ≡ bytes_in run
 
 still_from : (run : List (List ℤ)) (x : List ℤ) → 0 < length run → groups_of (run ++ x ∷ []) ≡ groups_of run
     → 4 * groups_of run ≤ data_count run → Still run (run ++ x ∷ [])
-unfolding levels_in formers_in bytes_in
+unfolding levels_in precoder_bits_in bytes_in
 still_from run x l e m =
     let same : levels_in (run ++ x ∷ []) ≡ levels_in run = ap (λ g. levels_from (run ++ x ∷ []) 0 (4 * g)) e
     ∙ levels_stay run x 0 (4 * groups_of run) (omega (arith, m)) in
@@ -109,7 +110,7 @@ still_from run x l e m =
     record {
       groups = e;
       levels = same;
-      formers = ap₂ (λ f y. formers_after 0 f y) first same;
+      precoder_bits = ap₂ (λ f y. precoder_bits_after 0 f y) first same;
       bytes = ap₂ (λ f y. bytes_back 0 f y) first same;
     }
 
@@ -143,8 +144,9 @@ pub record Grown (run new : List (List ℤ)) (z : List ℕ) : Type 0 where
   pub groups : groups_of new ≡ groups_of run + 1
   pub last : levels_from new (4 * groups_of run) 4 ≡ z
   pub levels : levels_in new ≡ levels_in run ++ z
-  pub formers : formers_in new ≡ formers_after (group_place 0 (groups_of run)) (formers_in run) z
-  pub bytes : bytes_in new ≡ bytes_in run ++ bytes_back (group_place 0 (groups_of run)) (formers_in run) z
+  pub precoder_bits : precoder_bits_in new ≡ precoder_bits_after (group_place 0 (groups_of run))
+      (precoder_bits_in run) z
+  pub bytes : bytes_in new ≡ bytes_in run ++ bytes_back (group_place 0 (groups_of run)) (precoder_bits_in run) z
 
 more_groups : (run : List (List ℤ)) (x : List ℤ) → length run % 313 ≢ 0 → data_count run % 4 ≡ 3
     → groups_of (run ++ x ∷ []) ≡ groups_of run + 1
@@ -175,7 +177,7 @@ levels_grown run x n p =
 pub grown : (run : List (List ℤ)) (x : List ℤ) (z : List ℕ) → length run % 313 ≢ 0 → data_count run % 4 ≡ 3
     → length (levels_in run) ≡ 3312 * groups_of run
     → levels_from run (4 * groups_of run) 3 ++ sliced_data x ≡ z → Grown run (run ++ x ∷ []) z
-unfolding formers_in bytes_in
+unfolding precoder_bits_in bytes_in
 grown run x z n p long e =
     let levels : levels_in (run ++ x ∷ []) ≡ levels_in run ++ z =
     levels_grown run x n p ∙ ap (λ ys. levels_in run ++ ys) e in
@@ -184,7 +186,7 @@ grown run x z n p long e =
       groups = more_groups run x n p;
       last = last_grown run x n p ∙ e;
       levels = levels;
-      formers = ap₂ (λ f y. formers_after 0 f y) first levels
+      precoder_bits = ap₂ (λ f y. precoder_bits_after 0 f y) first levels
           ∙ formers_append 0 (groups_of run) (first_formers run) (levels_in run) z long;
       bytes = ap₂ (λ f y. bytes_back 0 f y) first levels
           ∙ bytes_append 0 (groups_of run) (first_formers run) (levels_in run) z long;
@@ -208,13 +210,13 @@ pub first_bytes : (x : List ℤ) → bytes_in (x ∷ []) ≡ []
 unfolding bytes_in bytes_back level_groups
 first_bytes x = ap (bytes_back 0 (first_formers (x ∷ []))) (first_levels x)
 
-pub formers_first : (x : List ℤ) → formers_in (x ∷ []) ≡ formers_of (sliced_last x)
-unfolding formers_in first_formers formers_after formers_of level_groups
+pub formers_first : (x : List ℤ) → precoder_bits_in (x ∷ []) ≡ precoder_bits_of (sliced_last x)
+unfolding precoder_bits_in first_formers precoder_bits_after precoder_bits_of level_groups
 formers_first x =
-    ap (formers_after 0 (formers_of (sliced_last x))) (first_levels x)
-    ∙ map-range_same (former 0 (formers_of (sliced_last x)) [] 0)
+    ap (precoder_bits_after 0 (precoder_bits_of (sliced_last x))) (first_levels x)
+    ∙ map-range_same (precoder_bit 0 (precoder_bits_of (sliced_last x)) [] 0)
     (λ e. get_or (sliced_last x) ((e + 4) % 12) 0 / 4) 0 12
-    (λ e _ l. former_zero 0 e (formers_of (sliced_last x)) []
+    (λ e _ l. former_zero 0 e (precoder_bits_of (sliced_last x)) []
     ∙ get_or-map-range_with_len (λ e. get_or (sliced_last x) ((e + 4) % 12) 0 / 4) 0 12 e e 0 l (omega arith))
 
 -- ---- the levels of a segment

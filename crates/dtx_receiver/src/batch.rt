@@ -3,7 +3,8 @@
 ghost use Rattle.std.specs.Prelude.{◌≡◌, false, [], replicate};
 
 use arrayvec::ArrayVec;
-use dtx_packets::{PACKET, Packet};
+use dtx_packets::Packet;
+use dtx_sizes::PACKET;
 
 /// How many packets a call gives at most has room here. No call gives more than four.
 pub const MOST_RECEIVED: usize = 8;

@@ -2,20 +2,24 @@
 
 ghost use Rattle.std.specs.Prelude.{◌≡◌, ℕ, ℤ, ◌+◌, ◌%◌, ◌≤◌, ◌<◌, ◌++◌, ◌∷◌, [], List, IfOk, length};
 ghost use Rattle.dtx_outer.specs.Inner.{StandsFor};
-ghost use Rattle.dtx_slice.specs.Unrolled.{bytes_back, formers_after};
+ghost use Rattle.dtx_slice.specs.Unrolled.{bytes_back, precoder_bits_after};
 ghost use Rattle.dtx_receiver.specs.Bytes.{bytes_in};
-ghost use Rattle.dtx_receiver.specs.Packets.{early_of, packets_of};
+ghost use Rattle.dtx_receiver.specs.Packets.{early_of, run_packets};
 ghost use Rattle.dtx_receiver.specs.Receiver.{Decodes};
 ghost use Rattle.dtx_receiver.specs.declared.batch.Received.{Received};
 
 use crate::batch::Batch;
 use crate::outer_decoding::{OuterDecoding, give, give_group, new_outer_decoding};
-use crate::sizes::{BRANCH_STEP, BRANCHES, CODEWORD, GROUP_SEGMENTS};
-use dtx_slice::{SEGMENT, Unroll, last_levels, put_levels};
-use dtx_trellis::{FIELD, GROUP_BYTES, GROUP_LEVELS};
-use dtx_whiten::PACKET_DATA;
+use dtx_sizes::{
+    BRANCH_STEP, BRANCHES, CODEWORD, FIELD_PACKETS, GROUP_BYTES, GROUP_LEVELS, GROUP_PACKETS,
+    PACKET_DATA, SEGMENT,
+};
+use dtx_slice::{Unroll, last_levels, put_levels};
 use std::alloc::{AllocError, Global};
 use std::marker::Model;
+
+/// How many data segments a group has: one for each packet.
+const GROUP_SEGMENTS: u16 = GROUP_PACKETS as u16;
 
 /// Decodes a run. `Decodes decoder run` says that it holds what the segments of the run leave.
 #[derive(Drop)]
@@ -31,7 +35,7 @@ impl Model for Decoder {
 
     ghost Value = { Decoding };
 
-    ghost view = { λ d. record { levels = d.levels; formers = d.unroll; inner = d.inner; turn = d.turn } };
+    ghost view = { λ d. record { levels = d.levels; precoder_bits = d.unroll; inner = d.inner; turn = d.turn } };
 
     ghost invariant = { λ d. IsDecoding d.levels d.inner d.turn };
 }
@@ -58,7 +62,7 @@ impl Decoder {
 
     /// The next data segment of the run, at this place of its field, and the packets that it completes.
     pub(crate) fn take(&mut self, place: u16, segment: &[i8; SEGMENT], batch: &mut Batch)
-        requires place { place < FIELD }
+        requires place { place < FIELD_PACKETS }
         requires room { length batch.old.packets.items ≤ 4 }
         ensures stands { (run : List (List ℤ)) → Decodes self.old run → length run % 313 ≡ place + 1
             → Decodes self.new (run ++ segment.now ∷ []) }
@@ -79,7 +83,7 @@ impl Decoder {
         requires room { length batch.old.packets.items ≤ 4 }
         ensures { (run : List (List ℤ)) (before : List Received) → Decodes self.old run
             → early_of (bytes_in run) ≡ before ++ batch.old.packets.items
-            → packets_of (bytes_in run) ≡ before ++ batch.new.packets.items }
+            → run_packets (bytes_in run) ≡ before ++ batch.new.packets.items }
     {
         if self.turn == 0 {
             give(&mut self.inner, &[0; CODEWORD], batch);
@@ -88,19 +92,20 @@ impl Decoder {
 
     /// The group whose levels are whole, and which begins at this place of its field.
     fn group(&mut self, first: u16, batch: &mut Batch)
-        requires first { first < FIELD }
+        requires first { first < FIELD_PACKETS }
         requires whole { first % 4 ≡ 0 }
         requires room { length batch.old.packets.items ≤ 4 }
         ensures levels { self.new.levels ≡ self.old.levels }
-        ensures formers { self.new.formers ≡ formers_after first self.old.formers self.old.levels }
+        ensures precoder_bits { self.new.precoder_bits ≡ precoder_bits_after first self.old.precoder_bits
+            self.old.levels }
         ensures turn { self.new.turn ≡ (self.old.turn + 4) % 52 }
         ensures stands { (before : List ℕ) → StandsFor CODEWORD PACKET_DATA BRANCHES BRANCH_STEP self.old.inner before
             → StandsFor CODEWORD PACKET_DATA BRANCHES BRANCH_STEP self.new.inner (before
-            ++ bytes_back first self.old.formers self.old.levels) }
+            ++ bytes_back first self.old.precoder_bits self.old.levels) }
         ensures packets { (before : List ℕ) (given : List Received)
             → StandsFor CODEWORD PACKET_DATA BRANCHES BRANCH_STEP self.old.inner before
             → early_of before ≡ given ++ batch.old.packets.items
-            → early_of (before ++ bytes_back first self.old.formers self.old.levels) ≡ given
+            → early_of (before ++ bytes_back first self.old.precoder_bits self.old.levels) ≡ given
             ++ batch.new.packets.items }
     {
         let mut bytes = [0; GROUP_BYTES];

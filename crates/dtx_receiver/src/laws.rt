@@ -6,7 +6,7 @@ ghost use Rattle.dtx_frame.specs.Detection.{looks_like};
 ghost use Rattle.dtx_receiver.specs.declared.tracking.Tracking.TheVariants as Tracking;
 ghost use Rattle.dtx_outer.specs.Inner.{IsComplete};
 ghost use Rattle.dtx_receiver.specs.Intervals.{AreRuns, NoneLooks, segments_in};
-ghost use Rattle.dtx_receiver.specs.Packets.{all_packets, given, is_complete};
+ghost use Rattle.dtx_receiver.specs.Packets.{all_packets, packets_so_far, is_complete};
 ghost use Rattle.dtx_receiver.specs.declared.batch.Received.{Received};
 ghost use Rattle.dtx_receiver.specs.Runs.{runs, begun, tracking};
 
@@ -43,11 +43,11 @@ pub fn one_more()
 
 /// What is given with one segment more, and what is left at the end of the list, comes behind what was given before.
 pub fn goes_on()
-    ensures none { given [] ≡ [] }
+    ensures none { packets_so_far [] ≡ [] }
     ensures segment { (segments : List (List ℤ)) (x : List ℤ)
-        → (brought : List Received) × (given (segments ++ x ∷ []) ≡ given segments ++ brought) }
+        → (brought : List Received) × (packets_so_far (segments ++ x ∷ []) ≡ packets_so_far segments ++ brought) }
     ensures end { (segments : List (List ℤ)) → (brought : List Received)
-        × (all_packets segments ≡ given segments ++ brought) }
+        × (all_packets segments ≡ packets_so_far segments ++ brought) }
 {}
 
 /// All bytes of packet k are among those of `count` data segments just where 53 of these or more stand from the

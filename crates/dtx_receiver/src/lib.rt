@@ -6,7 +6,6 @@ mod decoder;
 pub mod laws;
 mod outer_decoding;
 mod receiver;
-mod sizes;
 mod tracking;
 
 pub use batch::{Batch, MOST_RECEIVED, Received};

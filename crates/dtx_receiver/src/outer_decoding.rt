@@ -8,13 +8,12 @@ ghost use Rattle.dtx_receiver.specs.Packets.{early_of};
 ghost use Rattle.dtx_receiver.specs.declared.batch.Received.{Received};
 
 use crate::batch::{Batch, MOST_RECEIVED, Received};
-use crate::sizes::{BRANCH_STEP, BRANCHES, CODEWORD};
 use dtx_correct::Linear;
 use dtx_outer::{Inner, Taken};
-use dtx_packets::{PACKET, Packet};
+use dtx_packets::Packet;
+use dtx_sizes::{BRANCH_STEP, BRANCHES, CODEWORD, GROUP_BYTES, PACKET, PACKET_DATA};
 use dtx_spread::Collect;
-use dtx_trellis::GROUP_BYTES;
-use dtx_whiten::{Atsc, PACKET_DATA};
+use dtx_whiten::Atsc;
 use std::alloc::{AllocError, Global};
 
 /// The de-interleaver, the Reed-Solomon corrector and the randomizer of the standard.

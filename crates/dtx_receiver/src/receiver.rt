@@ -1,15 +1,15 @@
 //! Receives one segment after another.
 
 ghost use Rattle.std.specs.Prelude.{◌≡◌, ℤ, ◌+◌, ◌%◌, ◌<◌, ◌++◌, ◌∷◌, [], List, IfOk};
-ghost use Rattle.dtx_receiver.specs.Packets.{all_packets, given};
+ghost use Rattle.dtx_receiver.specs.Packets.{all_packets, packets_so_far};
 ghost use Rattle.dtx_receiver.specs.Receiver.{StandsFor, IsTaken};
 ghost use Rattle.dtx_receiver.specs.Runs.{tracking};
 
 use crate::batch::Batch;
 use crate::decoder::Decoder;
-use crate::sizes::FIELD_SEGMENTS;
 use crate::tracking::Tracking;
-use dtx_frame::{SEGMENT, looks};
+use dtx_frame::looks;
+use dtx_sizes::{FIELD_SEGMENTS, SEGMENT};
 use std::alloc::{AllocError, Global};
 use std::marker::Model;
 
@@ -54,7 +54,7 @@ impl Receiver {
         ensures stands { (segments : List (List ℤ)) → StandsFor self.old segments
             → StandsFor self.new (segments ++ segment.now ∷ []) }
         ensures packets { (segments : List (List ℤ)) → StandsFor self.old segments
-            → given (segments ++ segment.now ∷ []) ≡ given segments ++ batch.new.packets.items }
+            → packets_so_far (segments ++ segment.now ∷ []) ≡ packets_so_far segments ++ batch.new.packets.items }
     {
         batch.packets.clear();
         self.follow(segment, batch)
@@ -97,7 +97,7 @@ impl Receiver {
     pub fn finish(&mut self, batch: &mut Batch)
         ensures stands { StandsFor self.new [] }
         ensures packets { (segments : List (List ℤ)) → StandsFor self.old segments
-            → all_packets segments ≡ given segments ++ batch.new.packets.items }
+            → all_packets segments ≡ packets_so_far segments ++ batch.new.packets.items }
     {
         batch.packets.clear();
         match self.place {

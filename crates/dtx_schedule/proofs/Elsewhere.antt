@@ -5,7 +5,7 @@ use Rattle.dtx_exciter.specs.Log.{life_lines, log}
 use Rattle.dtx_files.specs.LogText.{log_text}
 use Rattle.dtx_files.specs.Symbols.{segment_bytes}
 use Rattle.dtx_net.specs.Lives.{lives_of}
-use Rattle.dtx_net.specs.Sent.{segments_of, lines_of}
+use Rattle.dtx_net.specs.Sent.{sent_segments, lines_of}
 use Rattle.dtx_net.specs.Steps.{Step}
 use Rattle.dtx_net.specs.GrowsLaws.{segments_same, lines_same}
 use Rattle.dtx_net.specs.LastLifeLaws.{lives_elsewhere}
@@ -13,7 +13,7 @@ use Rattle.dtx_plan.specs.declared.transmitter.Transmitter.{Transmitter}
 use Rattle.dtx_schedule.specs.TransmitterFiles.{symbol_file, log_file}
 
 pub segments_elsewhere : (u : Transmitter) (other : ℕ) (steps : List Step) (step : Step) → step.who ≢ other
-    → segments_of u other (steps ++ step ∷ []) ≡ segments_of u other steps
+    → sent_segments u other (steps ++ step ∷ []) ≡ sent_segments u other steps
 segments_elsewhere u other steps step n =
     segments_same u other (steps ++ step ∷ []) steps (lives_elsewhere other steps step n)
 
@@ -30,8 +30,8 @@ log_elsewhere u other steps step n =
 
 -- ---- before any step
 
-pub no_segments : (t : Transmitter) (who : ℕ) → segments_of t who [] ≡ []
-unfolding segments_of lives_of emission
+pub no_segments : (t : Transmitter) (who : ℕ) → sent_segments t who [] ≡ []
+unfolding sent_segments lives_of emission
 no_segments t who = refl
 
 pub no_symbol_file : (t : Transmitter) (who : ℕ) → symbol_file t who [] ≡ []

@@ -18,7 +18,7 @@ use Rattle.dtx_plan.specs.declared.event.Event.TheVariants.{Send, Foreign, Flip,
 use Rattle.dtx_plan.specs.Sound.{to_of}
 use Rattle.dtx_meaning.specs.declared.status.Status.{Status}
 use Rattle.dtx_net.specs.Changed.{flipped_packet, lied_packet}
-use Rattle.dtx_net.specs.Steps.{Step, packet_step, restart_step, place_of, feed_packet, steps_of, actions_of}
+use Rattle.dtx_net.specs.Steps.{Step, packet_step, restart_step, transmitter_place, feed_packet, steps_of, actions_of}
 use Rattle.dtx_schedule.specs.declared.stage.Stage.{Stage}
 use Rattle.dtx_schedule.specs.Inside.{reads_past}
 use Rattle.dtx_schedule.specs.PlayedSoFar.{IsDoneOf, packet_steps}
@@ -30,11 +30,11 @@ packet_of_feed feed k within =
     sym (get_or-map-range_with_len (packet_at feed) 0 (whole_packets feed) k k [] within (omega arith))
 
 pub nowhere : (ts : List Transmitter) (feed : List (List ℕ)) (e : Event) (before : List Step)
-    → place_of (to_of e) ts ≡ None → before ++ steps_of ts feed e ≡ before
+    → transmitter_place (to_of e) ts ≡ None → before ++ steps_of ts feed e ≡ before
 unfolding steps_of
 nowhere ts feed e before none = rw none (append-nil before)
 
-pub sent : (ts : List Transmitter) (who to from count : ℕ) (feed : List ℕ) → place_of to ts ≡ Some who
+pub sent : (ts : List Transmitter) (who to from count : ℕ) (feed : List ℕ) → transmitter_place to ts ≡ Some who
     → from + count ≤ whole_packets feed
     → packet_steps who (packets_from feed from count) ≡ steps_of ts (packets_of feed) (Send to from count)
 unfolding steps_of actions_of
@@ -48,7 +48,8 @@ sent ts who to from count feed place within =
     ∙ sym (map-map (λ (packet : Option (List ℕ)). record { who = who; packet = packet })
     (λ k. Some (feed_packet (packets_of feed) k)) (range_with_len from count)))
 
-pub made : (ts : List Transmitter) (who to seed from count : ℕ) (feed : List (List ℕ)) → place_of to ts ≡ Some who
+pub made : (ts : List Transmitter) (who to seed from count : ℕ) (feed : List (List ℕ))
+    → transmitter_place to ts ≡ Some who
     → packet_steps who (map (made_packet seed) (range_with_len from count))
     ≡ steps_of ts feed (Foreign to seed from count)
 unfolding steps_of actions_of
@@ -57,21 +58,22 @@ made ts who to seed from count feed place =
     ∙ sym (map-map (λ (packet : Option (List ℕ)). record { who = who; packet = packet })
     (λ k. Some (made_packet seed k)) (range_with_len from count)))
 
-pub flipped : (ts : List Transmitter) (who to from at with : ℕ) (feed packet : List ℕ) → place_of to ts ≡ Some who
+pub flipped : (ts : List Transmitter) (who to from at with : ℕ) (feed packet : List ℕ)
+    → transmitter_place to ts ≡ Some who
     → from < whole_packets feed → packet ≡ packet_at feed from
     → packet_step who (flipped_packet packet at with) ∷ [] ≡ steps_of ts (packets_of feed) (Flip to from at with)
 unfolding steps_of actions_of
 flipped ts who to from at with feed packet place within is =
     rw place (ap (λ p. packet_step who (flipped_packet p at with) ∷ []) (is ∙ packet_of_feed feed from within))
 
-pub lied : (ts : List Transmitter) (who to from : ℕ) (states feed packet : List ℕ) → place_of to ts ≡ Some who
+pub lied : (ts : List Transmitter) (who to from : ℕ) (states feed packet : List ℕ) → transmitter_place to ts ≡ Some who
     → from < whole_packets feed → packet ≡ packet_at feed from
     → packet_step who (lied_packet packet states) ∷ [] ≡ steps_of ts (packets_of feed) (Lie to from states)
 unfolding steps_of actions_of
 lied ts who to from states feed packet place within is =
     rw place (ap (λ p. packet_step who (lied_packet p states) ∷ []) (is ∙ packet_of_feed feed from within))
 
-pub restarted : (ts : List Transmitter) (who to : ℕ) (feed : List (List ℕ)) → place_of to ts ≡ Some who
+pub restarted : (ts : List Transmitter) (who to : ℕ) (feed : List (List ℕ)) → transmitter_place to ts ≡ Some who
     → restart_step who ∷ [] ≡ steps_of ts feed (Restart to)
 unfolding steps_of actions_of
 restarted ts who to feed place = rw place refl
@@ -91,12 +93,13 @@ piece_on before who feed from m n =
 -- what was done with the transmitter at a place is what its event does
 pub event_done : (ts : List Transmitter) (before own : List Step) (held : Files) (result : Result (Unit {0}) Status)
     (stage : Stage) (now : Option Files) (who : ℕ) (feed : List (List ℕ)) (e kind : Event)
-    → e ≡ kind → place_of (to_of e) ts ≡ Some who → (place_of (to_of kind) ts ≡ Some who → own ≡ steps_of ts feed kind)
+    → e ≡ kind → transmitter_place (to_of e) ts ≡ Some who → (transmitter_place (to_of kind) ts ≡ Some who
+    → own ≡ steps_of ts feed kind)
     → IsDoneOf ts (before ++ own) held result stage now
     → IsDoneOf ts (before ++ steps_of ts feed e) held result stage now
 event_done ts before own held result stage now who feed e kind is place same done =
     subst (λ steps. IsDoneOf ts (before ++ steps) held result stage now)
-    (same (subst (λ e. place_of (to_of e) ts ≡ Some who) is place) ∙ ap (steps_of ts feed) (sym is)) done
+    (same (subst (λ e. transmitter_place (to_of e) ts ≡ Some who) is place) ∙ ap (steps_of ts feed) (sym is)) done
 
 -- a part of the feed, or one packet of it, that is within the feed
 pub part_within : (whole to from count : ℕ) (e : Event) → e ≡ Send to from count → reads_past whole e ≡ false

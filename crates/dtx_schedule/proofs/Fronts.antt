@@ -5,15 +5,15 @@ use Rattle.std.specs.Prelude.{Option, Some, None}
 use Rattle.std.specs.Option.{option_map}
 use Rattle.std.proofs.lemmas.Bool.{cases_eq}
 use Rattle.std.proofs.lemmas.List.{append-nil}
-use Rattle.dtx_exciter.specs.Emission.{given}
+use Rattle.dtx_exciter.specs.Emission.{last_segments}
 use Rattle.dtx_exciter.specs.Log.{restart, line_of}
-use Rattle.dtx_exciter.specs.Packets.{told}
+use Rattle.dtx_exciter.specs.Packets.{last_answer}
 use Rattle.dtx_files.specs.AppendedLaws.{segment_bytes-append, log_text-append}
 use Rattle.dtx_files.specs.LogText.{log_text}
 use Rattle.dtx_files.specs.Symbols.{segment_bytes}
 use Rattle.dtx_meaning.specs.Meaning.{ArePartWritten, IsFrontOf, with_outputs}
 use Rattle.dtx_net.specs.Lives.{last_life}
-use Rattle.dtx_net.specs.Sent.{segments_of, lines_of}
+use Rattle.dtx_net.specs.Sent.{sent_segments, lines_of}
 use Rattle.dtx_net.specs.Steps.{Step}
 use Rattle.dtx_net.specs.GrowsLaws.{segments_given, lines_given, segments_restarted, lines_restarted}
 use Rattle.dtx_outside.specs.Shelf.{Files, with_file}
@@ -103,21 +103,21 @@ own_more : (t : Transmitter) (who : ℕ) (steps : List Step) (packet : Option (L
 unfolding symbol_file log_file
 own_more t who steps (Some p) =
     let life : List (List ℕ) = last_life who steps ++ p ∷ [] in
-    let lines = line_of (length (segments_of t who steps)) (length (given t.address t.delay life))
-    (told t.address t.delay life) in (
+    let lines = line_of (length (sent_segments t who steps)) (length (last_segments t.address t.delay life))
+    (last_answer t.address t.delay life) in (
       (
-        segment_bytes (given t.address t.delay life),
+        segment_bytes (last_segments t.address t.delay life),
         sym (ap segment_bytes (segments_given t who steps p)
-            ∙ segment_bytes-append (segments_of t who steps) (given t.address t.delay life)),
+            ∙ segment_bytes-append (sent_segments t who steps) (last_segments t.address t.delay life)),
       ),
       (log_text lines, sym (ap log_text (lines_given t who steps p) ∙ log_text-append (lines_of t who steps) lines)),
     )
 own_more t who steps None = (
-  front_of_same (segment_bytes (segments_of t who steps)) _ (sym (ap segment_bytes (segments_restarted t who steps))),
+  front_of_same (segment_bytes (sent_segments t who steps)) _ (sym (ap segment_bytes (segments_restarted t who steps))),
   (
-    log_text (restart (length (segments_of t who steps)) ∷ []),
+    log_text (restart (length (sent_segments t who steps)) ∷ []),
     sym (ap log_text (lines_restarted t who steps)
-        ∙ log_text-append (lines_of t who steps) (restart (length (segments_of t who steps)) ∷ [])),
+        ∙ log_text-append (lines_of t who steps) (restart (length (sent_segments t who steps)) ∷ [])),
   ),
 )
 

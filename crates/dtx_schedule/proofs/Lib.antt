@@ -1,5 +1,4 @@
 pub mod Fronts
-pub mod FirstOf
 pub mod Elsewhere
 pub mod Named
 pub mod PairLeft

@@ -11,7 +11,7 @@ use Rattle.dtx_plan.specs.declared.transmitter.Transmitter.{Transmitter}
 use Rattle.dtx_plan.specs.Sound.{IsEvent, IsInRange}
 use Rattle.dtx_net.specs.Steps.{schedule, steps_of}
 use Rattle.dtx_schedule.specs.Inside.{first_past_feed, reads_past}
-use Rattle.dtx_schedule.proofs.FirstOf.{position_passes}
+use Rattle.dtx_lists.proofs.FirstOf.{position_passes}
 
 pub nothing_yet : (ts : List Transmitter) (feed : List (List ℕ)) → schedule ts feed [] ≡ []
 unfolding schedule

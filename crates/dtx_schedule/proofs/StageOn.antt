@@ -8,18 +8,18 @@ use Rattle.std.proofs.lemmas.List.{append-nil, get_or-replicate, length-append, 
 use Rattle.std.proofs.lemmas.List.{take-append-le, take_all}
 use Rattle.std.proofs.lemmas.List.Sums.{sum_by-append}
 use Rattle.std.proofs.lemmas.Option.{same_Some, slice_get-get_or, get_or_from_slice_get, slice_get_within}
-use Rattle.dtx_exciter.specs.Emission.{given}
+use Rattle.dtx_exciter.specs.Emission.{last_segments}
 use Rattle.dtx_exciter.specs.Log.{restart, line_of}
-use Rattle.dtx_exciter.specs.Packets.{told}
+use Rattle.dtx_exciter.specs.Packets.{last_answer}
 use Rattle.dtx_exciter.specs.declared.answers.Told.{Told}
 use Rattle.dtx_files.specs.AppendedLaws.{segment_bytes-append, log_text-append}
 use Rattle.dtx_files.specs.GivenFewLaws.{given_few}
 use Rattle.dtx_files.specs.LogText.{log_text}
 use Rattle.dtx_files.specs.Symbols.{byte_of_symbol, segment_bytes}
 use Rattle.dtx_net.specs.Lives.{last_life}
-use Rattle.dtx_net.specs.Sent.{segments_of, lines_of}
+use Rattle.dtx_net.specs.Sent.{sent_segments, lines_of}
 use Rattle.dtx_net.specs.Standing.{IsGiven}
-use Rattle.dtx_net.specs.Steps.{Step, packet_step, place_of, restart_step}
+use Rattle.dtx_net.specs.Steps.{Step, packet_step, transmitter_place, restart_step}
 use Rattle.dtx_net.specs.declared.net.Net.{Net}
 use Rattle.dtx_net.specs.GrowsLaws.{segments_given, lines_given, segments_restarted, lines_restarted}
 use Rattle.dtx_net.specs.PlacesLaws.{set_here, set_elsewhere}
@@ -46,18 +46,18 @@ found_there stage (Some who) some within = record {
 
 -- what the transmitter of an address has sent, by its place
 pub sent_by : (address who : ℕ) (ts : List Transmitter) (steps : List Step) (sent : List ℕ) → AreSent ts steps sent
-    → place_of address ts ≡ Some who
+    → transmitter_place address ts ≡ Some who
     → SentBy address ts steps (get_or sent who 0)
 sent_by address who ts steps sent is place =
     subst (λ (found : Option ℕ). IfSome found (λ who'. (t : Transmitter) → slice_get ts who' ≡ Some t
-    → get_or sent who 0 ≡ length (segments_of t who' steps)))
+    → get_or sent who 0 ≡ length (sent_segments t who' steps)))
     (sym place) (λ t at_t. get_or_from_slice_get sent who _ 0 (is.each who t at_t))
 
-pub sent_by_none : (address n : ℕ) (ts : List Transmitter) (steps : List Step) → place_of address ts ≡ None
+pub sent_by_none : (address n : ℕ) (ts : List Transmitter) (steps : List Step) → transmitter_place address ts ≡ None
     → SentBy address ts steps n
 sent_by_none address n ts steps place =
     subst (λ (found : Option ℕ). IfSome found (λ who. (t : Transmitter) → slice_get ts who ≡ Some t
-    → n ≡ length (segments_of t who steps))) (sym place) tt
+    → n ≡ length (sent_segments t who steps))) (sym place) tt
 
 -- ---- what was sent is counted
 
@@ -76,7 +76,7 @@ refill_set xs ws i n same =
 abbrev SendsMore : List Transmitter → List Step → Step → ℕ → Type 0
 SendsMore ts steps step count =
     (t : Transmitter) → slice_get ts step.who ≡ Some t
-    → length (segments_of t step.who (steps ++ step ∷ [])) ≡ length (segments_of t step.who steps) + count
+    → length (sent_segments t step.who (steps ++ step ∷ [])) ≡ length (sent_segments t step.who steps) + count
 
 pub sent_more : (ts : List Transmitter) (steps : List Step) (step : Step) (sent : List ℕ) (count : ℕ)
     → AreSent ts steps sent → SendsMore ts steps step count
@@ -88,12 +88,12 @@ sent_more ts steps step sent count is more = record {
   where
     each : (who : ℕ) (t : Transmitter) → slice_get ts who ≡ Some t → (who ≡ step.who) ⊎ (who ≡ step.who → ⊥)
         → slice_get (set sent step.who (get_or sent step.who 0 + count)) who
-        ≡ Some (length (segments_of t who (steps ++ step ∷ [])))
+        ≡ Some (length (sent_segments t who (steps ++ step ∷ [])))
     each who t at_t (inl same) =
         let here : slice_get ts step.who ≡ Some t = ap (slice_get ts) (sym same) ∙ at_t in
-        let was : slice_get sent step.who ≡ Some (length (segments_of t step.who steps)) = is.each step.who t here in
+        let was : slice_get sent step.who ≡ Some (length (sent_segments t step.who steps)) = is.each step.who t here in
         subst (λ i. slice_get (set sent step.who (get_or sent step.who 0 + count)) i
-        ≡ Some (length (segments_of t i (steps ++ step ∷ [])))) (sym same)
+        ≡ Some (length (sent_segments t i (steps ++ step ∷ [])))) (sym same)
         (set_here sent step.who (get_or sent step.who 0 + count) (slice_get_within sent step.who _ was)
         ∙ ap Some (ap (λ n. n + count) (get_or_from_slice_get sent step.who _ 0 was) ∙ sym (more t here)))
     each who t at_t (inr n) =
@@ -119,13 +119,13 @@ few_more sent i count most l five few who n at_n = by_cases (cases_eq who i)
 
 pub given_sends : (ts : List Transmitter) (steps : List Step) (who : ℕ) (packet : List ℕ) (count : ℕ)
     → ((t : Transmitter) → slice_get ts who ≡ Some t
-    → count ≡ length (given t.address t.delay (last_life who steps ++ packet ∷ [])))
+    → count ≡ length (last_segments t.address t.delay (last_life who steps ++ packet ∷ [])))
     → SendsMore ts steps (packet_step who packet) count
 given_sends ts steps who packet count counted = λ t at_t.
-    let more : List (List ℤ) = given t.address t.delay (last_life who steps ++ packet ∷ []) in
+    let more : List (List ℤ) = last_segments t.address t.delay (last_life who steps ++ packet ∷ []) in
     ap (λ (segments : List (List ℤ)). length segments) (segments_given t who steps packet)
-    ∙ length-append (segments_of t who steps) more
-    ∙ ap (λ n. length (segments_of t who steps) + n) (sym (counted t at_t))
+    ∙ length-append (sent_segments t who steps) more
+    ∙ ap (λ n. length (sent_segments t who steps) + n) (sym (counted t at_t))
 
 -- a packet brings at most five segments
 pub brings_few : (ts : List Transmitter) (steps : List Step) (who : ℕ) (packet : List ℕ) (answered : Told) (count : ℕ)
@@ -150,9 +150,9 @@ sent_restarted ts steps who sent is = record {
 }
   where
     same : (t : Transmitter) (other : ℕ) → (other ≡ who) ⊎ (other ≡ who → ⊥)
-        → segments_of t other (steps ++ restart_step who ∷ []) ≡ segments_of t other steps
+        → sent_segments t other (steps ++ restart_step who ∷ []) ≡ sent_segments t other steps
     same t other (inl e) =
-        subst (λ i. segments_of t i (steps ++ restart_step who ∷ []) ≡ segments_of t i steps) (sym e)
+        subst (λ i. sent_segments t i (steps ++ restart_step who ∷ []) ≡ sent_segments t i steps) (sym e)
         (segments_restarted t who steps)
     same t other (inr n) = segments_elsewhere t other steps (restart_step who) (λ e. n (sym e))
 
@@ -163,7 +163,7 @@ none_sent ts sent is = record {
   each = λ who t at_t. each who t (slice_get_within ts who t at_t);
 }
   where
-    each : (who : ℕ) (t : Transmitter) → who < length ts → slice_get sent who ≡ Some (length (segments_of t who []))
+    each : (who : ℕ) (t : Transmitter) → who < length ts → slice_get sent who ≡ Some (length (sent_segments t who []))
     each who t l =
         ap (λ (ns : List ℕ). slice_get ns who) is
         ∙ slice_get-get_or (replicate (length ts) 0) who 0
@@ -197,16 +197,16 @@ pub given_brings : (ts : List Transmitter) (steps : List Step) (who : ℕ) (pack
 unfolding symbol_file log_file
 given_brings ts steps who packet sent answered count symbols net bytes line is gives bytes_are line_is = record {
   sent = λ t at_t.
-      let more : List (List ℤ) = given t.address t.delay (last_life who steps ++ packet ∷ []) in
-      ap segment_bytes (segments_given t who steps packet) ∙ segment_bytes-append (segments_of t who steps) more
-      ∙ ap (λ z. segment_bytes (segments_of t who steps) ++ z) (sym (bytes_are
+      let more : List (List ℤ) = last_segments t.address t.delay (last_life who steps ++ packet ∷ []) in
+      ap segment_bytes (segments_given t who steps packet) ∙ segment_bytes-append (sent_segments t who steps) more
+      ∙ ap (λ z. segment_bytes (sent_segments t who steps) ++ z) (sym (bytes_are
       ∙ ap (map byte_of_symbol) (gives t at_t).air.begins));
   logged = λ t at_t.
       let life : List (List ℕ) = last_life who steps ++ packet ∷ [] in
-      let n : ℕ = length (segments_of t who steps) in
-      let m : ℕ = length (given t.address t.delay life) in
+      let n : ℕ = length (sent_segments t who steps) in
+      let m : ℕ = length (last_segments t.address t.delay life) in
       ap log_text (lines_given t who steps packet)
-      ∙ log_text-append (lines_of t who steps) (line_of n m (told t.address t.delay life))
+      ∙ log_text-append (lines_of t who steps) (line_of n m (last_answer t.address t.delay life))
       ∙ ap (λ z. log_text (lines_of t who steps) ++ z)
       (sym (line_is
       ∙ ap (λ k. log_text (line_of k count answered)) (get_or_from_slice_get sent who n 0 (is.each who t at_t))
@@ -220,9 +220,9 @@ pub restart_brings : (ts : List Transmitter) (steps : List Step) (who : ℕ) (se
 unfolding symbol_file log_file
 restart_brings ts steps who sent line is line_is = record {
   sent = λ t at_t. ap segment_bytes (segments_restarted t who steps)
-      ∙ sym (append-nil (segment_bytes (segments_of t who steps)));
+      ∙ sym (append-nil (segment_bytes (sent_segments t who steps)));
   logged = λ t at_t.
-      let n : ℕ = length (segments_of t who steps) in
+      let n : ℕ = length (sent_segments t who steps) in
       ap log_text (lines_restarted t who steps) ∙ log_text-append (lines_of t who steps) (restart n ∷ [])
       ∙ ap (λ z. log_text (lines_of t who steps) ++ z) (sym (line_is
       ∙ ap (λ k. log_text (restart k ∷ [])) (get_or_from_slice_get sent who n 0 (is.each who t at_t))));

@@ -8,7 +8,7 @@ use Rattle.std.proofs.lemmas.Option.{same_Some}
 use Rattle.dtx_outside.specs.Laws.{get-insert_same, get-insert_other, insert-insert, insert_swap}
 use Rattle.dtx_outside.specs.Shelf.{Files, with_file}
 use Rattle.dtx_meaning.specs.Meaning.{Outputs, IsNoOutput, with_outputs}
-use Rattle.dtx_net.specs.Steps.{place_of}
+use Rattle.dtx_net.specs.Steps.{transmitter_place}
 use Rattle.dtx_net.specs.PlaceOfLaws.{place_only}
 use Rattle.dtx_plan.specs.Sound.{AreTransmitters}
 use Rattle.dtx_plan.specs.declared.transmitter.Transmitter.{Transmitter}
@@ -56,7 +56,7 @@ pub apart_of : (ts : List Transmitter) → AreTransmitters ts
     → ((who : ℕ) (t : Transmitter) → slice_get ts who ≡ Some t → t.address < 2 ^ 16) → AreApart ts
 apart_of ts are small = record {
   differ = λ who other t u at_t at_u n same.
-      n (same_Some other who (sym (place_only ts other u are at_u) ∙ ap (λ a. place_of a ts) (sym same)
+      n (same_Some other who (sym (place_only ts other u are at_u) ∙ ap (λ a. transmitter_place a ts) (sym same)
       ∙ place_only ts who t are at_t));
   small = small;
 }

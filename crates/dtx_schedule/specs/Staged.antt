@@ -3,9 +3,9 @@ use Rattle.std.specs.Prelude.{◌≡◌, ℕ, ◌*◌, ◌<◌, ◌≤◌, ◌^�
 use Rattle.std.specs.List.{count_by}
 use Rattle.dtx_plan.specs.Sound.{AreTransmitters}
 use Rattle.dtx_plan.specs.declared.transmitter.Transmitter.{Transmitter}
-use Rattle.dtx_net.specs.Steps.{Step, place_of}
+use Rattle.dtx_net.specs.Steps.{Step, transmitter_place}
 use Rattle.dtx_net.specs.Standing.{StandsFor}
-use Rattle.dtx_net.specs.Sent.{segments_of}
+use Rattle.dtx_net.specs.Sent.{sent_segments}
 use Rattle.dtx_schedule.specs.Pair.{AreNamesOf}
 use Rattle.dtx_schedule.specs.declared.pair.FileNames.{FileNames}
 use Rattle.dtx_schedule.specs.declared.stage.Stage.{Stage}
@@ -18,13 +18,13 @@ packets_given steps = count_by (λ step. is_some step.packet) steps
 pub record AreSent (ts : List Transmitter) (steps : List Step) (sent : List ℕ) : Type 0 where
   pub long : length sent ≡ length ts
   pub each : (who : ℕ) (t : Transmitter) → slice_get ts who ≡ Some t
-      → slice_get sent who ≡ Some (length (segments_of t who steps))
+      → slice_get sent who ≡ Some (length (sent_segments t who steps))
 
 -- so many segments the transmitter of that address has sent over the steps of all
 abbrev pub SentBy : ℕ → List Transmitter → List Step → ℕ → Type 0
 SentBy address ts steps segments =
-    IfSome (place_of address ts) (λ who. (t : Transmitter) → slice_get ts who ≡ Some t
-    → segments ≡ length (segments_of t who steps))
+    IfSome (transmitter_place address ts) (λ who. (t : Transmitter) → slice_get ts who ≡ Some t
+    → segments ≡ length (sent_segments t who steps))
 
 -- the names of the files of each transmitter, in the plan's order
 pub record AreNames (ts : List Transmitter) (names : List FileNames) : Type 0 where

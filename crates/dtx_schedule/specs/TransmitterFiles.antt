@@ -7,12 +7,12 @@ use Rattle.dtx_files.specs.Symbols.{segment_bytes}
 use Rattle.dtx_files.specs.LogText.{log_text}
 use Rattle.dtx_words.specs.NetworkNames.{symbol_name, log_name}
 use Rattle.dtx_net.specs.Steps.{Step}
-use Rattle.dtx_net.specs.Sent.{segments_of, lines_of}
+use Rattle.dtx_net.specs.Sent.{sent_segments, lines_of}
 
 -- the symbol file of the transmitter t, which stands at a place of the plan's list, over the steps of all: what it
 -- sends
 unfoldable pub symbol_file : Transmitter → ℕ → List Step → List ℕ
-symbol_file t who steps = segment_bytes (segments_of t who steps)
+symbol_file t who steps = segment_bytes (sent_segments t who steps)
 
 -- its log
 unfoldable pub log_file : Transmitter → ℕ → List Step → List ℕ

@@ -5,7 +5,7 @@ ghost use Rattle.dtx_outside.specs.Counts.{HasGone};
 ghost use Rattle.dtx_outside.specs.Shelf.{Files};
 ghost use Rattle.dtx_meaning.specs.Status.{blame_of_answer};
 ghost use Rattle.dtx_packets.specs.Packets.{most_packets, packets_from, packets_of, whole_packets};
-ghost use Rattle.dtx_net.specs.Steps.{Step, place_of, steps_of};
+ghost use Rattle.dtx_net.specs.Steps.{Step, transmitter_place, steps_of};
 ghost use Rattle.dtx_plan.specs.Sound.{IsInRange, IsPart, to_of};
 ghost use Rattle.dtx_plan.specs.declared.transmitter.Transmitter.{Transmitter};
 ghost use Rattle.dtx_words.specs.NetworkNames.{feed_name};
@@ -64,7 +64,7 @@ fn play_at<S: Shelf>(
     requires most { stage.old.steps + most_packets ≤ 2 ^ 60 }
     ensures done { (ts : List Transmitter) (held : Files) (before : List Step) (feed : List ℕ)
         → files.get held feed_name ≡ Some feed
-        → place_of (to_of event.now) ts ≡ Some who
+        → transmitter_place (to_of event.now) ts ≡ Some who
         → reads_past (whole_packets feed) event.now ≡ false → IsPlayedSoFar ts before held stage.old (S.files shelf.old)
         → IsDoneOf ts (before ++ steps_of ts (packets_of feed) event.now) held result stage.new (S.files shelf.new) }
     ensures there { IsOk result → HasTransmitter who stage.new }

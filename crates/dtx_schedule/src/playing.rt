@@ -6,8 +6,8 @@ ghost use Rattle.dtx_outside.specs.Shelf.{Files};
 ghost use Rattle.dtx_meaning.specs.Meaning.{with_outputs};
 ghost use Rattle.dtx_meaning.specs.Status.{blame_of_answer};
 ghost use Rattle.dtx_packets.specs.Packets.{most_packets, packets_of, whole_packets};
-ghost use Rattle.dtx_net.specs.Sent.{segments_of};
-ghost use Rattle.dtx_net.specs.Steps.{Step, place_of, schedule};
+ghost use Rattle.dtx_net.specs.Sent.{sent_segments};
+ghost use Rattle.dtx_net.specs.Steps.{Step, transmitter_place, schedule};
 ghost use Rattle.dtx_plan.specs.Sound.{AreTransmitters};
 ghost use Rattle.dtx_plan.specs.declared.transmitter.Transmitter.{Transmitter};
 ghost use Rattle.dtx_words.specs.NetworkNames.{feed_name};
@@ -21,8 +21,9 @@ use crate::event::play_event;
 use crate::stage::Stage;
 use dtx_meaning::Status;
 use dtx_outside::Shelf;
-use dtx_packets::{PACKET, PIECE_PACKETS, Packet};
+use dtx_packets::{PIECE_PACKETS, Packet};
 use dtx_plan::{Events, Transmitter};
+use dtx_sizes::PACKET;
 use std::alloc::Global;
 
 /// What came of a schedule: its numbers.

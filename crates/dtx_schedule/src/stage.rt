@@ -5,7 +5,7 @@ ghost use Rattle.dtx_outside.specs.Counts.{HasGone, blame_of_write};
 ghost use Rattle.dtx_outside.specs.Shelf.{Files};
 ghost use Rattle.dtx_meaning.specs.Meaning.{with_outputs};
 ghost use Rattle.dtx_meaning.specs.Status.{blame_of_answer};
-ghost use Rattle.dtx_net.specs.Steps.{Step, packet_step, place_of, restart_step};
+ghost use Rattle.dtx_net.specs.Steps.{Step, packet_step, transmitter_place, restart_step};
 ghost use Rattle.dtx_plan.specs.Sound.{AreTransmitters};
 ghost use Rattle.dtx_plan.specs.declared.transmitter.Transmitter.{Transmitter};
 ghost use Rattle.dtx_schedule.specs.Pair.{Brings};
@@ -18,10 +18,11 @@ use arrayvec::{ArrayString, ArrayVec};
 use dtx_coder::{AIR_SYMBOLS, Air};
 use dtx_files::{LOG_LINE, bring, write_line, write_restart};
 use dtx_meaning::Status;
-use dtx_net::{Liar, Net};
+use dtx_net::{LieWriter, Net};
 use dtx_outside::{Shelf, WriteNo};
 use dtx_packets::Packet;
-use dtx_plan::{MOST_TRANSMITTERS, Transmitter};
+use dtx_plan::Transmitter;
+use dtx_sizes::MOST_TRANSMITTERS;
 use std::alloc::{AllocError, Global};
 
 /// The exciters of a network, with what the last step brought, and the numbers of all steps.
@@ -29,7 +30,7 @@ use std::alloc::{AllocError, Global};
 pub(crate) struct Stage {
     net: Net,
     air: Air,
-    pub(crate) liar: Liar,
+    pub(crate) liar: LieWriter,
     /// The names of the files of each transmitter, in the plan's order.
     pub(crate) names: ArrayVec<FileNames, MOST_TRANSMITTERS>,
     /// The symbols that the last step brought stand at the front of these, one byte each in two's complement.
@@ -51,7 +52,7 @@ impl Stage {
         Ok(Stage {
             net: Net::new(alloc, transmitters)?,
             air: Air::new(),
-            liar: Liar::new(),
+            liar: LieWriter::new(),
             names: names_of_all(transmitters),
             bytes: [0; AIR_SYMBOLS],
             line: ArrayString::new(),
@@ -63,7 +64,7 @@ impl Stage {
     /// The place in the plan's list of the transmitter with this address, or `None` where there is none.
     pub(crate) fn find(&self, address: u16) -> Option<usize>
         ensures place { (ts : List Transmitter) (steps : List Step) → IsStaged ts self.now steps
-            → result ≡ place_of address ts }
+            → result ≡ transmitter_place address ts }
         ensures there { IsSomeStage self.now → IfSome result (λ who. HasTransmitter who self.now) }
     {
         self.net.find(address)

@@ -12,8 +12,9 @@ use Rattle.dtx_trellis.specs.StepsLaws.{z2_next, z2_first, after_zero}
 use Rattle.dtx_trellis.specs.CodersLaws.{coder_is, higher_at, lower_at, length_higher, pair_0, pair_1, pair_2, pair_3}
 use Rattle.dtx_trellis.specs.RoundsLaws.{coder_bits}
 use Rattle.dtx_trellis.specs.JoinsLaws.{groups_whole}
-use Rattle.dtx_slice.specs.Unrolled.{symbol_place, former, pair_back, byte_back, coder_of, level_groups, bytes_back}
-use Rattle.dtx_slice.specs.Unrolled.{formers_after, formers_in}
+use Rattle.dtx_slice.specs.Unrolled.{symbol_place, precoder_bit, pair_back, byte_back, coder_of, level_groups}
+use Rattle.dtx_slice.specs.Unrolled.{bytes_back}
+use Rattle.dtx_slice.specs.Unrolled.{precoder_bits_after, precoder_bits_in}
 use Rattle.dtx_slice.specs.PlacesLaws.{former_zero, former_next}
 
 turn_back : (x e : ℕ) → x < 3 → e < 12 → ((e + 12 - 4 * x) % 12 + 4 * x) % 12 ≡ e
@@ -64,28 +65,28 @@ higher_bit s r e bytes l =
     omega arith
 
 -- the levels are those of the coders, from states in which the former Z2 are these
-pub record Coded (s : ℕ) (states bytes formers levels : List ℕ) : Type 0 where
+pub record Coded (s : ℕ) (states bytes precoder_bits levels : List ℕ) : Type 0 where
   pub at : (d : ℕ) → d < 3312 * groups bytes → get_or levels d 0 ≡ level_at s states bytes d
-  pub from : (e : ℕ) → e < 12 → get_or formers e 0 ≡ (state_of (get_or states e 0)).q2
+  pub from : (e : ℕ) → e < 12 → get_or precoder_bits e 0 ≡ (state_of (get_or states e 0)).q2
 
-coded_at : (s r e : ℕ) (states bytes formers levels : List ℕ) → Coded s states bytes formers levels
+coded_at : (s r e : ℕ) (states bytes precoder_bits levels : List ℕ) → Coded s states bytes precoder_bits levels
     → r < 276 * groups bytes → e < 12
     → get_or levels (symbol_place s r e) 0 ≡ level (state_of (get_or states e 0)) (higher s bytes e) (lower s bytes e) r
-coded_at s r e states bytes formers levels h l m = h.at (symbol_place s r e) (place_within s r e (groups bytes) l)
+coded_at s r e states bytes precoder_bits levels h l m = h.at (symbol_place s r e) (place_within s r e (groups bytes) l)
     ∙ at_place s r e states bytes m
 
-coded_z2 : (s r e : ℕ) (states bytes formers levels : List ℕ) → Coded s states bytes formers levels
+coded_z2 : (s r e : ℕ) (states bytes precoder_bits levels : List ℕ) → Coded s states bytes precoder_bits levels
     → r < 276 * groups bytes → e < 12
     → get_or levels (symbol_place s r e) 0 / 4 ≡ z2 (state_of (get_or states e 0)) (higher s bytes e) r
-coded_z2 s r e states bytes formers levels h l m =
-    ap (λ x. x / 4) (coded_at s r e states bytes formers levels h l m)
+coded_z2 s r e states bytes precoder_bits levels h l m =
+    ap (λ x. x / 4) (coded_at s r e states bytes precoder_bits levels h l m)
     ∙ level_z2 (state_of (get_or states e 0)) (higher s bytes e) (lower s bytes e) r (lower_bit s r e bytes l)
 
-coded_z1 : (s r e : ℕ) (states bytes formers levels : List ℕ) → Coded s states bytes formers levels
+coded_z1 : (s r e : ℕ) (states bytes precoder_bits levels : List ℕ) → Coded s states bytes precoder_bits levels
     → r < 276 * groups bytes → e < 12
     → get_or levels (symbol_place s r e) 0 / 2 % 2 ≡ get_or (lower s bytes e) r 0
-coded_z1 s r e states bytes formers levels h l m =
-    ap (λ x. x / 2 % 2) (coded_at s r e states bytes formers levels h l m)
+coded_z1 s r e states bytes precoder_bits levels h l m =
+    ap (λ x. x / 2 % 2) (coded_at s r e states bytes precoder_bits levels h l m)
     ∙ level_z1 (state_of (get_or states e 0)) (higher s bytes e) (lower s bytes e) r (lower_bit s r e bytes l)
 
 after_q2 : (q : State) (a b : List ℕ) (t : ℕ) → (state_after q a b (suc t)).q2 ≡ z2 q a t
@@ -105,16 +106,16 @@ after_q2 q a b t =
     back t = omega arith
 
 -- the former Z2 is the coder's q2
-pub coded_former : (s r e : ℕ) (states bytes formers levels : List ℕ) → Coded s states bytes formers levels
+pub coded_former : (s r e : ℕ) (states bytes precoder_bits levels : List ℕ) → Coded s states bytes precoder_bits levels
     → r ≤ 276 * groups bytes → e < 12
-    → former s formers levels r e ≡ (coder_after s states bytes r e).q2
+    → precoder_bit s precoder_bits levels r e ≡ (coder_after s states bytes r e).q2
 unfolding coder_after
-coded_former s zero e states bytes formers levels h l m =
-    former_zero s e formers levels ∙ h.from e m
+coded_former s zero e states bytes precoder_bits levels h l m =
+    former_zero s e precoder_bits levels ∙ h.from e m
     ∙ ap (λ (p : State). p.q2) (sym (after_zero (state_of (get_or states e 0)) (higher s bytes e) (lower s bytes e)))
-coded_former s (suc r) e states bytes formers levels h l m =
-    ap (λ t. former s formers levels t e) (next r) ∙ former_next s r e formers levels
-    ∙ coded_z2 s r e states bytes formers levels h (omega arith) m
+coded_former s (suc r) e states bytes precoder_bits levels h l m =
+    ap (λ t. precoder_bit s precoder_bits levels t e) (next r) ∙ former_next s r e precoder_bits levels
+    ∙ coded_z2 s r e states bytes precoder_bits levels h (omega arith) m
     ∙ sym (after_q2 (state_of (get_or states e 0)) (higher s bytes e) (lower s bytes e) r)
   where
     next : (r : ℕ) → suc r ≡ r + 1
@@ -153,17 +154,17 @@ z2_back s (suc t) e states bytes l =
     first q a z y l e f = omega arith
 
 -- one pair
-coded_pair : (s r e : ℕ) (states bytes formers levels : List ℕ) → Coded s states bytes formers levels
+coded_pair : (s r e : ℕ) (states bytes precoder_bits levels : List ℕ) → Coded s states bytes precoder_bits levels
     → r < 276 * groups bytes → e < 12
-    → pair_back s formers levels r e ≡ pair_at s bytes e r
+    → pair_back s precoder_bits levels r e ≡ pair_at s bytes e r
 unfolding pair_back
-coded_pair s r e states bytes formers levels h l m =
-    parts ((get_or levels (symbol_place s r e) 0 / 4 + former s formers levels r e) % 2)
+coded_pair s r e states bytes precoder_bits levels h l m =
+    parts ((get_or levels (symbol_place s r e) 0 / 4 + precoder_bit s precoder_bits levels r e) % 2)
     (get_or levels (symbol_place s r e) 0 / 2 % 2) (pair_at s bytes e r) (pair_small s e r bytes)
-    (ap₂ (λ x y. (x + y) % 2) (coded_z2 s r e states bytes formers levels h l m)
-    (coded_former s r e states bytes formers levels h (omega arith) m)
+    (ap₂ (λ x y. (x + y) % 2) (coded_z2 s r e states bytes precoder_bits levels h l m)
+    (coded_former s r e states bytes precoder_bits levels h (omega arith) m)
     ∙ z2_back s r e states bytes l ∙ higher_at s e r bytes l)
-    (coded_z1 s r e states bytes formers levels h l m ∙ lower_at s e r bytes l)
+    (coded_z1 s r e states bytes precoder_bits levels h l m ∙ lower_at s e r bytes l)
 
 -- the coder that works on byte j does so in four rounds
 turn_to : (x k : ℕ) → x < 3 → k < 12 → ((k + 4 * x) % 12 + 12 - 4 * x) % 12 ≡ k
@@ -218,40 +219,42 @@ coder_of_small s j = omega arith
 whole : (b : ℕ) → b < 256 → 64 * (b / 64 % 4) + 16 * (b / 16 % 4) + 4 * (b / 4 % 4) + b % 4 ≡ b
 whole b l = omega arith
 
-pair_back_is : (s j i : ℕ) (states bytes formers levels : List ℕ) → Coded s states bytes formers levels
+pair_back_is : (s j i : ℕ) (states bytes precoder_bits levels : List ℕ) → Coded s states bytes precoder_bits levels
     → j < 828 * groups bytes → i < 4
-    → pair_back s formers levels (4 * (j / 12) + i) (coder_of s j) ≡ pair_in (get_or bytes j 0) (4 * (j / 12 % 69) + i)
-pair_back_is s j i states bytes formers levels h l m =
-    coded_pair s (4 * (j / 12) + i) (coder_of s j) states bytes formers levels h (omega arith) (coder_of_small s j)
+    → pair_back s precoder_bits levels (4 * (j / 12) + i) (coder_of s j)
+    ≡ pair_in (get_or bytes j 0) (4 * (j / 12 % 69) + i)
+pair_back_is s j i states bytes precoder_bits levels h l m =
+    coded_pair s (4 * (j / 12) + i) (coder_of s j) states bytes precoder_bits levels h (omega arith)
+    (coder_of_small s j)
     ∙ pair_of_byte s j i bytes m
 
-coded_byte : (s j : ℕ) (states bytes formers levels : List ℕ) → Coded s states bytes formers levels
+coded_byte : (s j : ℕ) (states bytes precoder_bits levels : List ℕ) → Coded s states bytes precoder_bits levels
     → j < 828 * groups bytes → get_or bytes j 0 < 256
-    → byte_back s formers levels j ≡ get_or bytes j 0
+    → byte_back s precoder_bits levels j ≡ get_or bytes j 0
 unfolding byte_back
-coded_byte s j states bytes formers levels h l m =
+coded_byte s j states bytes precoder_bits levels h l m =
     let z : 4 * (j / 12) ≡ 4 * (j / 12) + 0 = omega arith in
-    let p0 : pair_back s formers levels (4 * (j / 12)) (coder_of s j) ≡ get_or bytes j 0 / 64 % 4 =
-    ap (λ r. pair_back s formers levels r (coder_of s j)) z
-    ∙ pair_back_is s j 0 states bytes formers levels h l (omega arith)
+    let p0 : pair_back s precoder_bits levels (4 * (j / 12)) (coder_of s j) ≡ get_or bytes j 0 / 64 % 4 =
+    ap (λ r. pair_back s precoder_bits levels r (coder_of s j)) z
+    ∙ pair_back_is s j 0 states bytes precoder_bits levels h l (omega arith)
     ∙ sym (pair_0 (get_or bytes j 0) (4 * (j / 12 % 69) + 0) (omega arith)) in
-    let p1 : pair_back s formers levels (4 * (j / 12) + 1) (coder_of s j) ≡ get_or bytes j 0 / 16 % 4 =
-    pair_back_is s j 1 states bytes formers levels h l (omega arith)
+    let p1 : pair_back s precoder_bits levels (4 * (j / 12) + 1) (coder_of s j) ≡ get_or bytes j 0 / 16 % 4 =
+    pair_back_is s j 1 states bytes precoder_bits levels h l (omega arith)
     ∙ sym (pair_1 (get_or bytes j 0) (4 * (j / 12 % 69) + 1) (omega arith)) in
-    let p2 : pair_back s formers levels (4 * (j / 12) + 2) (coder_of s j) ≡ get_or bytes j 0 / 4 % 4 =
-    pair_back_is s j 2 states bytes formers levels h l (omega arith)
+    let p2 : pair_back s precoder_bits levels (4 * (j / 12) + 2) (coder_of s j) ≡ get_or bytes j 0 / 4 % 4 =
+    pair_back_is s j 2 states bytes precoder_bits levels h l (omega arith)
     ∙ sym (pair_2 (get_or bytes j 0) (4 * (j / 12 % 69) + 2) (omega arith)) in
-    let p3 : pair_back s formers levels (4 * (j / 12) + 3) (coder_of s j) ≡ get_or bytes j 0 % 4 =
-    pair_back_is s j 3 states bytes formers levels h l (omega arith)
+    let p3 : pair_back s precoder_bits levels (4 * (j / 12) + 3) (coder_of s j) ≡ get_or bytes j 0 % 4 =
+    pair_back_is s j 3 states bytes precoder_bits levels h l (omega arith)
     ∙ sym (pair_3 (get_or bytes j 0) (4 * (j / 12 % 69) + 3) (omega arith)) in
-    ap₂ (λ x y. 64 * x + 16 * y + 4 * pair_back s formers levels (4 * (j / 12) + 2)
-    (coder_of s j) + pair_back s formers levels (4 * (j / 12) + 3) (coder_of s j)) p0 p1
+    ap₂ (λ x y. 64 * x + 16 * y + 4 * pair_back s precoder_bits levels (4 * (j / 12) + 2)
+    (coder_of s j) + pair_back s precoder_bits levels (4 * (j / 12) + 3) (coder_of s j)) p0 p1
     ∙ ap₂ (λ x y. 64 * (get_or bytes j 0 / 64 % 4) + 16 * (get_or bytes j 0 / 16 % 4) + 4 * x + y) p2 p3
     ∙ whole (get_or bytes j 0) m
 
 -- the coders' levels and the Z2 of their states
-coded : (s : ℕ) (states bytes : List ℕ) → Coded s states bytes (formers_in states) (levels_of s states bytes)
-unfolding levels_of formers_in
+coded : (s : ℕ) (states bytes : List ℕ) → Coded s states bytes (precoder_bits_in states) (levels_of s states bytes)
+unfolding levels_of precoder_bits_in
 coded s states bytes = record {
   at = λ d l. get_or-map-range_with_len (level_at s states bytes) 0 (3312 * groups bytes) d d 0 l (omega arith);
   from = λ e l. get_or-map-range_with_len (λ e. get_or states e 0 / 4 % 2) 0 12 e e 0 l (omega arith);
@@ -268,29 +271,30 @@ level_groups_of s states bytes =
 
 pub bytes_come_back : (s u : ℕ) (states bytes : List ℕ) → length bytes ≡ 828 * u
     → ((j : ℕ) → j < length bytes → get_or bytes j 0 < 256)
-    → bytes_back s (formers_in states) (levels_of s states bytes) ≡ bytes
+    → bytes_back s (precoder_bits_in states) (levels_of s states bytes) ≡ bytes
 unfolding bytes_back
 bytes_come_back s u states bytes h f =
     let n : groups bytes ≡ u = groups_whole u bytes h in
-    ap (λ g. map (byte_back s (formers_in states) (levels_of s states bytes)) (range_with_len 0 (828 * g)))
+    ap (λ g. map (byte_back s (precoder_bits_in states) (levels_of s states bytes)) (range_with_len 0 (828 * g)))
     (level_groups_of s states bytes ∙ n)
-    ∙ sym (fill_by_all (byte_back s (formers_in states) (levels_of s states bytes)) bytes (828 * u) 0 h
-    (λ j l. sym (coded_byte s j states bytes (formers_in states) (levels_of s states bytes) (coded s states bytes)
+    ∙ sym (fill_by_all (byte_back s (precoder_bits_in states) (levels_of s states bytes)) bytes (828 * u) 0 h
+    (λ j l. sym (coded_byte s j states bytes (precoder_bits_in states) (levels_of s states bytes) (coded s states bytes)
     (omega arith) (f j (omega arith)))))
 
 number_q2 : (q : State) → AreBits q → number_of q / 4 % 2 ≡ q.q2
 number_q2 q h = omega (arith, h.q2, h.q1, h.q0)
 
 pub formers_go_on : (s : ℕ) (states bytes : List ℕ)
-    → formers_after s (formers_in states) (levels_of s states bytes) ≡ formers_in (states_after s states bytes)
-unfolding formers_after formers_in states_after
+    → precoder_bits_after s (precoder_bits_in states) (levels_of s states bytes)
+    ≡ precoder_bits_in (states_after s states bytes)
+unfolding precoder_bits_after precoder_bits_in states_after
 formers_go_on s states bytes =
-    ap (λ g. map (former s (formers_in states) (levels_of s states bytes) (276 * g)) (range_with_len 0 12))
+    ap (λ g. map (precoder_bit s (precoder_bits_in states) (levels_of s states bytes) (276 * g)) (range_with_len 0 12))
     (level_groups_of s states bytes)
-    ∙ map-range_same (former s (formers_in states) (levels_of s states bytes) (276 * groups bytes))
+    ∙ map-range_same (precoder_bit s (precoder_bits_in states) (levels_of s states bytes) (276 * groups bytes))
     (λ e. get_or (map (λ e. number_of (coder_after s states bytes (276 * groups bytes) e)) (range_with_len 0 12)) e
     0 / 4 % 2) 0 12
-    (λ e _ l. coded_former s (276 * groups bytes) e states bytes (formers_in states) (levels_of s states bytes)
+    (λ e _ l. coded_former s (276 * groups bytes) e states bytes (precoder_bits_in states) (levels_of s states bytes)
     (coded s states bytes) (omega arith) l
     ∙ sym (ap (λ x. x / 4 % 2) (get_or-map-range_with_len
     (λ e. number_of (coder_after s states bytes (276 * groups bytes) e)) 0 12 e e 0 l (omega arith))

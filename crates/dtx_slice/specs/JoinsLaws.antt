@@ -7,8 +7,9 @@ use Rattle.std.proofs.lemmas.List.FromFn.{get_or-map-range_with_len}
 use Rattle.dtx_lists.proofs.Range.{map-range_same}
 use Rattle.dtx_lists.proofs.RangeParts.{map-range_parts}
 use Rattle.dtx_trellis.specs.Pairs.{group_place}
-use Rattle.dtx_slice.specs.Unrolled.{symbol_place, former, pair_from, pair_back, byte_back, coder_of, level_groups}
-use Rattle.dtx_slice.specs.Unrolled.{bytes_back, formers_after, formers_of}
+use Rattle.dtx_slice.specs.Unrolled.{symbol_place, precoder_bit, pair_from, pair_back, byte_back, coder_of}
+use Rattle.dtx_slice.specs.Unrolled.{level_groups}
+use Rattle.dtx_slice.specs.Unrolled.{bytes_back, precoder_bits_after, precoder_bits_of}
 use Rattle.dtx_slice.specs.PlacesLaws.{former_zero, former_next}
 use Rattle.dtx_slice.specs.InverseLaws.{place_within, coder_of_small}
 
@@ -29,22 +30,23 @@ symbol_before : (s u r e : ℕ) (y z : List ℕ) → length y ≡ 3312 * u → r
     → get_or (y ++ z) (symbol_place s r e) 0 ≡ get_or y (symbol_place s r e) 0
 symbol_before s u r e y z h l = get_or_append_left y z 0 (symbol_place s r e) (omega (arith, place_within s r e u l))
 
-former_before : (s u r e : ℕ) (formers y z : List ℕ) → length y ≡ 3312 * u → r ≤ 276 * u
-    → former s formers (y ++ z) r e ≡ former s formers y r e
-former_before s u zero e formers y z h l = former_zero s e formers (y ++ z) ∙ sym (former_zero s e formers y)
-former_before s u (suc r) e formers y z h l =
-    ap (λ t. former s formers (y ++ z) t e) (next r) ∙ former_next s r e formers (y ++ z)
+former_before : (s u r e : ℕ) (precoder_bits y z : List ℕ) → length y ≡ 3312 * u → r ≤ 276 * u
+    → precoder_bit s precoder_bits (y ++ z) r e ≡ precoder_bit s precoder_bits y r e
+former_before s u zero e precoder_bits y z h l = former_zero s e precoder_bits (y ++ z)
+    ∙ sym (former_zero s e precoder_bits y)
+former_before s u (suc r) e precoder_bits y z h l =
+    ap (λ t. precoder_bit s precoder_bits (y ++ z) t e) (next r) ∙ former_next s r e precoder_bits (y ++ z)
     ∙ ap (λ x. x / 4) (symbol_before s u r e y z h (omega arith))
-    ∙ sym (ap (λ t. former s formers y t e) (next r) ∙ former_next s r e formers y)
+    ∙ sym (ap (λ t. precoder_bit s precoder_bits y t e) (next r) ∙ former_next s r e precoder_bits y)
   where
     next : (r : ℕ) → suc r ≡ r + 1
     next r = omega arith
 
-pair_before : (s u r e : ℕ) (formers y z : List ℕ) → length y ≡ 3312 * u → r < 276 * u
-    → pair_back s formers (y ++ z) r e ≡ pair_back s formers y r e
+pair_before : (s u r e : ℕ) (precoder_bits y z : List ℕ) → length y ≡ 3312 * u → r < 276 * u
+    → pair_back s precoder_bits (y ++ z) r e ≡ pair_back s precoder_bits y r e
 unfolding pair_back
-pair_before s u r e formers y z h l =
-    ap₂ pair_from (former_before s u r e formers y z h (omega arith)) (symbol_before s u r e y z h l)
+pair_before s u r e precoder_bits y z h l =
+    ap₂ pair_from (former_before s u r e precoder_bits y z h (omega arith)) (symbol_before s u r e y z h l)
 
 -- four pairs as a byte
 abbrev of_pairs : (ℕ → ℕ) → ℕ → ℕ
@@ -56,17 +58,18 @@ same_pairs f g r t a b c d =
     ap₂ (λ x y. 64 * x + 16 * y + 4 * f (r + 2) + f (r + 3)) a b
     ∙ ap₂ (λ x y. 64 * g t + 16 * g (t + 1) + 4 * x + y) c d
 
-byte_before : (s u j : ℕ) (formers y z : List ℕ) → length y ≡ 3312 * u → j < 828 * u
-    → byte_back s formers (y ++ z) j ≡ byte_back s formers y j
+byte_before : (s u j : ℕ) (precoder_bits y z : List ℕ) → length y ≡ 3312 * u → j < 828 * u
+    → byte_back s precoder_bits (y ++ z) j ≡ byte_back s precoder_bits y j
 unfolding byte_back
-byte_before s u j formers y z h l =
+byte_before s u j precoder_bits y z h l =
     let same : (i : ℕ) → 4 * (j / 12) + i < 276 * u
-    → pair_back s formers (y ++ z) (4 * (j / 12) + i) (coder_of s j)
-    ≡ pair_back s formers y (4 * (j / 12) + i) (coder_of s j) =
-    λ i m. pair_before s u (4 * (j / 12) + i) (coder_of s j) formers y z h m in
-    same_pairs (λ r. pair_back s formers (y ++ z) r (coder_of s j)) (λ r. pair_back s formers y r (coder_of s j))
+    → pair_back s precoder_bits (y ++ z) (4 * (j / 12) + i) (coder_of s j)
+    ≡ pair_back s precoder_bits y (4 * (j / 12) + i) (coder_of s j) =
+    λ i m. pair_before s u (4 * (j / 12) + i) (coder_of s j) precoder_bits y z h m in
+    same_pairs (λ r. pair_back s precoder_bits (y ++ z) r (coder_of s j)) (λ r. pair_back s precoder_bits y r
+    (coder_of s j))
     (4 * (j / 12)) (4 * (j / 12))
-    (pair_before s u (4 * (j / 12)) (coder_of s j) formers y z h (omega arith)) (same 1 (omega arith))
+    (pair_before s u (4 * (j / 12)) (coder_of s j) precoder_bits y z h (omega arith)) (same 1 (omega arith))
     (same 2 (omega arith)) (same 3 (omega arith))
 
 -- behind them
@@ -94,22 +97,26 @@ symbol_behind s u r e y z h =
     back : (a p : ℕ) → a + p - a ≡ p
     back a p = omega arith
 
-former_behind : (s u r e : ℕ) (formers y z : List ℕ) → length y ≡ 3312 * u → e < 12
-    → former s formers (y ++ z) (276 * u + r) e ≡ former (group_place s u) (formers_after s formers y) z r e
-unfolding formers_after
-former_behind s u zero e formers y z h l =
-    ap (λ t. former s formers (y ++ z) t e) (none u) ∙ former_before s u (276 * u) e formers y z h (omega arith)
-    ∙ sym (former_zero (group_place s u) e (map (former s formers y (276 * level_groups y)) (range_with_len 0 12)) z
-    ∙ get_or-map-range_with_len (former s formers y (276 * level_groups y)) 0 12 e e 0 l (omega arith)
-    ∙ ap (λ g. former s formers y (276 * g) e) (groups_whole u y h))
+former_behind : (s u r e : ℕ) (precoder_bits y z : List ℕ) → length y ≡ 3312 * u → e < 12
+    → precoder_bit s precoder_bits (y ++ z) (276 * u + r) e ≡ precoder_bit (group_place s u)
+    (precoder_bits_after s precoder_bits y) z r e
+unfolding precoder_bits_after
+former_behind s u zero e precoder_bits y z h l =
+    ap (λ t. precoder_bit s precoder_bits (y ++ z) t e) (none u)
+    ∙ former_before s u (276 * u) e precoder_bits y z h (omega arith)
+    ∙ sym (former_zero (group_place s u) e (map (precoder_bit s precoder_bits y (276 * level_groups y))
+    (range_with_len 0 12)) z
+    ∙ get_or-map-range_with_len (precoder_bit s precoder_bits y (276 * level_groups y)) 0 12 e e 0 l (omega arith)
+    ∙ ap (λ g. precoder_bit s precoder_bits y (276 * g) e) (groups_whole u y h))
   where
     none : (u : ℕ) → 276 * u + 0 ≡ 276 * u
     none u = omega arith
-former_behind s u (suc r) e formers y z h l =
-    ap (λ t. former s formers (y ++ z) t e) (next u r) ∙ former_next s (276 * u + r) e formers (y ++ z)
+former_behind s u (suc r) e precoder_bits y z h l =
+    ap (λ t. precoder_bit s precoder_bits (y ++ z) t e) (next u r)
+    ∙ former_next s (276 * u + r) e precoder_bits (y ++ z)
     ∙ ap (λ x. x / 4) (symbol_behind s u r e y z h)
-    ∙ sym (ap (λ t. former (group_place s u) (formers_after s formers y) z t e) (one r)
-    ∙ former_next (group_place s u) r e (formers_after s formers y) z)
+    ∙ sym (ap (λ t. precoder_bit (group_place s u) (precoder_bits_after s precoder_bits y) z t e) (one r)
+    ∙ former_next (group_place s u) r e (precoder_bits_after s precoder_bits y) z)
   where
     next : (u r : ℕ) → 276 * u + suc r ≡ 276 * u + r + 1
     next u r = omega arith
@@ -117,11 +124,12 @@ former_behind s u (suc r) e formers y z h l =
     one : (r : ℕ) → suc r ≡ r + 1
     one r = omega arith
 
-pair_behind : (s u r e : ℕ) (formers y z : List ℕ) → length y ≡ 3312 * u → e < 12
-    → pair_back s formers (y ++ z) (276 * u + r) e ≡ pair_back (group_place s u) (formers_after s formers y) z r e
+pair_behind : (s u r e : ℕ) (precoder_bits y z : List ℕ) → length y ≡ 3312 * u → e < 12
+    → pair_back s precoder_bits (y ++ z) (276 * u + r) e ≡ pair_back (group_place s u)
+    (precoder_bits_after s precoder_bits y) z r e
 unfolding pair_back
-pair_behind s u r e formers y z h l =
-    ap₂ pair_from (former_behind s u r e formers y z h l) (symbol_behind s u r e y z h)
+pair_behind s u r e precoder_bits y z h l =
+    ap₂ pair_from (former_behind s u r e precoder_bits y z h l) (symbol_behind s u r e y z h)
 
 coder_on : (s u j : ℕ) → coder_of s (828 * u + j) ≡ coder_of (group_place s u) j
 unfolding coder_of group_place
@@ -134,56 +142,61 @@ coder_on s u j =
     turned : (a b : ℕ) → (s + (a + b)) % 3 ≡ ((s + a) % 312 + b) % 3
     turned a b = omega arith
 
-byte_behind : (s u j : ℕ) (formers y z : List ℕ) → length y ≡ 3312 * u
-    → byte_back s formers (y ++ z) (828 * u + j) ≡ byte_back (group_place s u) (formers_after s formers y) z j
+byte_behind : (s u j : ℕ) (precoder_bits y z : List ℕ) → length y ≡ 3312 * u
+    → byte_back s precoder_bits (y ++ z) (828 * u + j) ≡ byte_back (group_place s u)
+    (precoder_bits_after s precoder_bits y) z j
 unfolding byte_back
-byte_behind s u j formers y z h =
+byte_behind s u j precoder_bits y z h =
     let m : 4 * ((828 * u + j) / 12) ≡ 276 * u + 4 * (j / 12) = omega arith in
-    ap₂ (λ (r e : ℕ). of_pairs (λ t. pair_back s formers (y ++ z) t e) r) m (coder_on s u j)
-    ∙ same_pairs (λ t. pair_back s formers (y ++ z) t (coder_of (group_place s u) j))
-    (λ t. pair_back (group_place s u) (formers_after s formers y) z t (coder_of (group_place s u) j))
+    ap₂ (λ (r e : ℕ). of_pairs (λ t. pair_back s precoder_bits (y ++ z) t e) r) m (coder_on s u j)
+    ∙ same_pairs (λ t. pair_back s precoder_bits (y ++ z) t (coder_of (group_place s u) j))
+    (λ t. pair_back (group_place s u) (precoder_bits_after s precoder_bits y) z t (coder_of (group_place s u) j))
     (276 * u + 4 * (j / 12)) (4 * (j / 12))
     (same (4 * (j / 12))) (next 1) (next 2) (next 3)
   where
-    same : (r : ℕ) → pair_back s formers (y ++ z) (276 * u + r) (coder_of (group_place s u) j)
-        ≡ pair_back (group_place s u) (formers_after s formers y) z r (coder_of (group_place s u) j)
-    same r = pair_behind s u r (coder_of (group_place s u) j) formers y z h (coder_of_small (group_place s u) j)
+    same : (r : ℕ) → pair_back s precoder_bits (y ++ z) (276 * u + r) (coder_of (group_place s u) j)
+        ≡ pair_back (group_place s u) (precoder_bits_after s precoder_bits y) z r (coder_of (group_place s u) j)
+    same r = pair_behind s u r (coder_of (group_place s u) j) precoder_bits y z h (coder_of_small (group_place s u) j)
 
     sum : (r i : ℕ) → 276 * u + r + i ≡ 276 * u + (r + i)
     sum r i = omega arith
 
-    next : (i : ℕ) → pair_back s formers (y ++ z) (276 * u + 4 * (j / 12) + i) (coder_of (group_place s u) j)
-        ≡ pair_back (group_place s u) (formers_after s formers y) z (4 * (j / 12) + i) (coder_of (group_place s u) j)
-    next i = ap (λ t. pair_back s formers (y ++ z) t (coder_of (group_place s u) j)) (sum (4 * (j / 12)) i)
+    next : (i : ℕ) → pair_back s precoder_bits (y ++ z) (276 * u + 4 * (j / 12) + i) (coder_of (group_place s u) j)
+        ≡ pair_back (group_place s u) (precoder_bits_after s precoder_bits y) z (4 * (j / 12) + i) (coder_of
+        (group_place s u) j)
+    next i = ap (λ t. pair_back s precoder_bits (y ++ z) t (coder_of (group_place s u) j)) (sum (4 * (j / 12)) i)
         ∙ same (4 * (j / 12) + i)
 
-pub bytes_append : (s u : ℕ) (formers y z : List ℕ) → length y ≡ 3312 * u
-    → bytes_back s formers (y ++ z) ≡ bytes_back s formers y
-    ++ bytes_back (group_place s u) (formers_after s formers y) z
+pub bytes_append : (s u : ℕ) (precoder_bits y z : List ℕ) → length y ≡ 3312 * u
+    → bytes_back s precoder_bits (y ++ z) ≡ bytes_back s precoder_bits y
+    ++ bytes_back (group_place s u) (precoder_bits_after s precoder_bits y) z
 unfolding bytes_back
-bytes_append s u formers y z h =
-    ap (λ n. map (byte_back s formers (y ++ z)) (range_with_len 0 n)) (ap (λ n. 828 * n) (groups_append u y z h)
+bytes_append s u precoder_bits y z h =
+    ap (λ n. map (byte_back s precoder_bits (y ++ z)) (range_with_len 0 n)) (ap (λ n. 828 * n) (groups_append u y z h)
     ∙ sum u (level_groups z))
-    ∙ map-range_parts (byte_back s formers (y ++ z)) (byte_back (group_place s u) (formers_after s formers y) z)
-    (828 * u) (828 * level_groups z) (λ j _. byte_behind s u j formers y z h)
-    ∙ ap (λ (xs : List ℕ). xs ++ map (byte_back (group_place s u) (formers_after s formers y) z)
+    ∙ map-range_parts (byte_back s precoder_bits (y ++ z)) (byte_back (group_place s u)
+    (precoder_bits_after s precoder_bits y) z)
+    (828 * u) (828 * level_groups z) (λ j _. byte_behind s u j precoder_bits y z h)
+    ∙ ap (λ (xs : List ℕ). xs ++ map (byte_back (group_place s u) (precoder_bits_after s precoder_bits y) z)
     (range_with_len 0 (828 * level_groups z)))
-    (map-range_same (byte_back s formers (y ++ z)) (byte_back s formers y) 0 (828 * u)
-    (λ j _ l. byte_before s u j formers y z h (omega arith))
-    ∙ ap (λ n. map (byte_back s formers y) (range_with_len 0 (828 * n))) (sym (groups_whole u y h)))
+    (map-range_same (byte_back s precoder_bits (y ++ z)) (byte_back s precoder_bits y) 0 (828 * u)
+    (λ j _ l. byte_before s u j precoder_bits y z h (omega arith))
+    ∙ ap (λ n. map (byte_back s precoder_bits y) (range_with_len 0 (828 * n))) (sym (groups_whole u y h)))
   where
     sum : (u n : ℕ) → 828 * (u + n) ≡ 828 * u + 828 * n
     sum u n = omega arith
 
-pub formers_append : (s u : ℕ) (formers y z : List ℕ) → length y ≡ 3312 * u
-    → formers_after s formers (y ++ z) ≡ formers_after (group_place s u) (formers_after s formers y) z
-unfolding formers_after
-formers_append s u formers y z h =
-    ap (λ n. map (former s formers (y ++ z) n) (range_with_len 0 12)) (ap (λ n. 276 * n) (groups_append u y z h)
+pub formers_append : (s u : ℕ) (precoder_bits y z : List ℕ) → length y ≡ 3312 * u
+    → precoder_bits_after s precoder_bits (y ++ z) ≡ precoder_bits_after (group_place s u)
+    (precoder_bits_after s precoder_bits y) z
+unfolding precoder_bits_after
+formers_append s u precoder_bits y z h =
+    ap (λ n. map (precoder_bit s precoder_bits (y ++ z) n) (range_with_len 0 12)) (ap (λ n. 276 * n)
+    (groups_append u y z h)
     ∙ sum u (level_groups z))
-    ∙ map-range_same (former s formers (y ++ z) (276 * u + 276 * level_groups z))
-    (former (group_place s u) (formers_after s formers y) z (276 * level_groups z)) 0 12
-    (λ e _ l. former_behind s u (276 * level_groups z) e formers y z h l)
+    ∙ map-range_same (precoder_bit s precoder_bits (y ++ z) (276 * u + 276 * level_groups z))
+    (precoder_bit (group_place s u) (precoder_bits_after s precoder_bits y) z (276 * level_groups z)) 0 12
+    (λ e _ l. former_behind s u (276 * level_groups z) e precoder_bits y z h l)
   where
     sum : (u n : ℕ) → 276 * (u + n) ≡ 276 * u + 276 * n
     sum u n = omega arith
@@ -201,16 +214,19 @@ end_place s u e l h =
     back : (e : ℕ) → (e + 12 - 4 * 2) % 12 ≡ (e + 4) % 12
     back e = omega arith
 
-pub formers_repeated : (s u : ℕ) (formers levels : List ℕ) → length levels ≡ 3312 * u → 0 < u → group_place s u ≡ 0
-    → formers_of (drop (3312 * u - 12) levels) ≡ formers_after s formers levels
-unfolding formers_of formers_after
-formers_repeated s u formers levels h l m =
+pub formers_repeated : (s u : ℕ) (precoder_bits levels : List ℕ) → length levels ≡ 3312 * u → 0 < u
+    → group_place s u ≡ 0
+    → precoder_bits_of (drop (3312 * u - 12) levels) ≡ precoder_bits_after s precoder_bits levels
+unfolding precoder_bits_of precoder_bits_after
+formers_repeated s u precoder_bits levels h l m =
     map-range_same (λ e. get_or (drop (3312 * u - 12) levels) ((e + 4) % 12) 0 / 4)
-    (former s formers levels (276 * u)) 0 12
+    (precoder_bit s precoder_bits levels (276 * u)) 0 12
     (λ e _ _. ap (λ x. x / 4) (get_or-drop (3312 * u - 12) levels ((e + 4) % 12) 0
     ∙ ap (λ i. get_or levels i 0) (sym (end_place s u e l m)))
-    ∙ sym (ap (λ t. former s formers levels t e) (last u l) ∙ former_next s (276 * u - 1) e formers levels))
-    ∙ ap (λ g. map (former s formers levels (276 * g)) (range_with_len 0 12)) (sym (groups_whole u levels h))
+    ∙ sym (ap (λ t. precoder_bit s precoder_bits levels t e) (last u l)
+    ∙ former_next s (276 * u - 1) e precoder_bits levels))
+    ∙ ap (λ g. map (precoder_bit s precoder_bits levels (276 * g)) (range_with_len 0 12)) (sym
+    (groups_whole u levels h))
   where
     last : (u : ℕ) → 0 < u → 276 * u ≡ 276 * u - 1 + 1
     last u l = omega arith

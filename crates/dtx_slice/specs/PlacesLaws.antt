@@ -4,18 +4,19 @@ use Rattle.std.proofs.Common.{ap, ap₂, ◌∙◌, subst, arith}
 use Rattle.std.proofs.lemmas.Bool.{cases_lt, cond-false, ne_eqb}
 use Rattle.dtx_trellis.specs.Lanes.{coder_turned, turn}
 use Rattle.dtx_trellis.specs.LaneRoundsLaws.{first_coder, first_turn}
-use Rattle.dtx_slice.specs.Unrolled.{symbol_place, former, pair_from, pair_back, byte_back, coder_of}
+use Rattle.dtx_slice.specs.Unrolled.{symbol_place, precoder_bit, pair_from, pair_back, byte_back, coder_of}
 use Rattle.dtx_slice.specs.Lanes.{lane_byte, lane_level, lane_place}
 
-pub former_zero : (s e : ℕ) (formers levels : List ℕ) → former s formers levels 0 e ≡ get_or formers e 0
-unfolding former
-former_zero s e formers levels = refl
+pub former_zero : (s e : ℕ) (precoder_bits levels : List ℕ) → precoder_bit s precoder_bits levels 0 e
+    ≡ get_or precoder_bits e 0
+unfolding precoder_bit
+former_zero s e precoder_bits levels = refl
 
-pub former_next : (s r e : ℕ) (formers levels : List ℕ)
-    → former s formers levels (r + 1) e ≡ get_or levels (symbol_place s r e) 0 / 4
-unfolding former
-former_next s r e formers levels =
-    cond-false (r + 1 == 0) (get_or formers e 0) (get_or levels (symbol_place s (r + 1 - 1) e) 0 / 4)
+pub former_next : (s r e : ℕ) (precoder_bits levels : List ℕ)
+    → precoder_bit s precoder_bits levels (r + 1) e ≡ get_or levels (symbol_place s r e) 0 / 4
+unfolding precoder_bit
+former_next s r e precoder_bits levels =
+    cond-false (r + 1 == 0) (get_or precoder_bits e 0) (get_or levels (symbol_place s (r + 1 - 1) e) 0 / 4)
     (ne_eqb (r + 1) 0 (no r)) ∙ ap (λ u. get_or levels (symbol_place s u e) 0 / 4) (back r)
   where
     no : (r : ℕ) → r + 1 ≡ 0 → ⊥
@@ -51,24 +52,25 @@ lane_byte_coder s h p l =
     ap₂ (λ x y. (x + 4 * ((s + 4 * y / 69) % 3)) % 12) a b
 
 -- the levels of two rounds of one byte, one behind the other
-lane_pair : (s h i p : ℕ) (formers levels : List ℕ) → i < 3 → p < 12
-    → pair_back s formers levels (4 * h + (i + 1)) (lane_coder s h p)
+lane_pair : (s h i p : ℕ) (precoder_bits levels : List ℕ) → i < 3 → p < 12
+    → pair_back s precoder_bits levels (4 * h + (i + 1)) (lane_coder s h p)
     ≡ pair_from (lane_level levels h i p / 4) (lane_level levels h (i + 1) p)
 unfolding pair_back
-lane_pair s h i p formers levels l m =
+lane_pair s h i p precoder_bits levels l m =
     ap₂ (λ x y. pair_from x (get_or levels y 0))
-    (ap (λ r. former s formers levels r (lane_coder s h p)) (sum h i)
-    ∙ former_next s (4 * h + i) (lane_coder s h p) formers levels
+    (ap (λ r. precoder_bit s precoder_bits levels r (lane_coder s h p)) (sum h i)
+    ∙ former_next s (4 * h + i) (lane_coder s h p) precoder_bits levels
     ∙ ap (λ x. get_or levels x 0 / 4) (lane_symbol s h i p (omega arith) m))
     (lane_symbol s h (i + 1) p (omega arith) m)
   where
     sum : (h i : ℕ) → 4 * h + (i + 1) ≡ 4 * h + i + 1
     sum h i = omega arith
 
-lane_first : (s h p b : ℕ) (formers levels : List ℕ) → p < 12 → b ≡ former s formers levels (4 * h) (lane_coder s h p)
-    → pair_back s formers levels (4 * h) (lane_coder s h p) ≡ pair_from b (lane_level levels h 0 p)
+lane_first : (s h p b : ℕ) (precoder_bits levels : List ℕ) → p < 12
+    → b ≡ precoder_bit s precoder_bits levels (4 * h) (lane_coder s h p)
+    → pair_back s precoder_bits levels (4 * h) (lane_coder s h p) ≡ pair_from b (lane_level levels h 0 p)
 unfolding pair_back
-lane_first s h p b formers levels l e =
+lane_first s h p b precoder_bits levels l e =
     ap₂ (λ x y. pair_from x (get_or levels y 0)) (sym e) (ap (λ r. symbol_place s r (lane_coder s h p)) (none h)
     ∙ lane_symbol s h 0 p (omega arith) l)
   where
@@ -76,20 +78,20 @@ lane_first s h p b formers levels l e =
     none h = omega arith
 
 -- the lane's byte is the group's
-pub lane_byte_is : (s h p b : ℕ) (formers levels : List ℕ) → p < 12
-    → b ≡ former s formers levels (4 * h) (lane_coder s h p)
-    → lane_byte b levels h p ≡ byte_back s formers levels (12 * h + p)
+pub lane_byte_is : (s h p b : ℕ) (precoder_bits levels : List ℕ) → p < 12
+    → b ≡ precoder_bit s precoder_bits levels (4 * h) (lane_coder s h p)
+    → lane_byte b levels h p ≡ byte_back s precoder_bits levels (12 * h + p)
 unfolding lane_byte byte_back
-lane_byte_is s h p b formers levels l e =
-    sym (ap₂ (λ (x e : ℕ). 64 * pair_back s formers levels (4 * x) e + 16 * pair_back s formers levels
-    (4 * x + 1) e + 4 * pair_back s formers levels (4 * x + 2) e + pair_back s formers levels (4 * x + 3) e)
+lane_byte_is s h p b precoder_bits levels l e =
+    sym (ap₂ (λ (x e : ℕ). 64 * pair_back s precoder_bits levels (4 * x) e + 16 * pair_back s precoder_bits levels
+    (4 * x + 1) e + 4 * pair_back s precoder_bits levels (4 * x + 2) e + pair_back s precoder_bits levels (4 * x + 3) e)
     (divided h p l) (lane_byte_coder s h p l)
-    ∙ ap₂ (λ x y. 64 * x + 16 * y + 4 * pair_back s formers levels (4 * h + 2)
-    (lane_coder s h p) + pair_back s formers levels (4 * h + 3) (lane_coder s h p))
-    (lane_first s h p b formers levels l e) (lane_pair s h 0 p formers levels (omega arith) l)
+    ∙ ap₂ (λ x y. 64 * x + 16 * y + 4 * pair_back s precoder_bits levels (4 * h + 2)
+    (lane_coder s h p) + pair_back s precoder_bits levels (4 * h + 3) (lane_coder s h p))
+    (lane_first s h p b precoder_bits levels l e) (lane_pair s h 0 p precoder_bits levels (omega arith) l)
     ∙ ap₂ (λ x y. 64 * pair_from b (lane_level levels h 0 p) + 16 * pair_from (lane_level levels h 0 p / 4)
     (lane_level levels h 1 p) + 4 * x + y)
-    (lane_pair s h 1 p formers levels (omega arith) l) (lane_pair s h 2 p formers levels (omega arith) l))
+    (lane_pair s h 1 p precoder_bits levels (omega arith) l) (lane_pair s h 2 p precoder_bits levels (omega arith) l))
   where
     divided : (h p : ℕ) → p < 12 → (12 * h + p) / 12 ≡ h
     divided h p l = omega arith
@@ -126,26 +128,27 @@ lane_moves h i p l m n =
     moved p m = omega arith
 
 -- Z2 before a group, laid out as bit 2
-pub before_first : (s p x : ℕ) (formers levels : List ℕ) → get_or formers ((p + 4 * (s % 3)) % 12) 0 < 2
-    → x ≡ 4 * get_or formers ((p + 4 * (s % 3)) % 12) 0
-    → x / 4 % 2 ≡ former s formers levels 0 (coder_turned (turn s 0) p)
-before_first s p x formers levels l e =
-    bit (get_or formers ((p + 4 * (s % 3)) % 12) 0) l e ∙ ap (λ k. get_or formers k 0) (sym (first_coder s p))
-    ∙ sym (former_zero s (coder_turned (turn s 0) p) formers levels)
+pub before_first : (s p x : ℕ) (precoder_bits levels : List ℕ) → get_or precoder_bits ((p + 4 * (s % 3)) % 12) 0 < 2
+    → x ≡ 4 * get_or precoder_bits ((p + 4 * (s % 3)) % 12) 0
+    → x / 4 % 2 ≡ precoder_bit s precoder_bits levels 0 (coder_turned (turn s 0) p)
+before_first s p x precoder_bits levels l e =
+    bit (get_or precoder_bits ((p + 4 * (s % 3)) % 12) 0) l e
+    ∙ ap (λ k. get_or precoder_bits k 0) (sym (first_coder s p))
+    ∙ sym (former_zero s (coder_turned (turn s 0) p) precoder_bits levels)
   where
     bit : (f : ℕ) → f < 2 → x ≡ 4 * f → x / 4 % 2 ≡ f
     bit f l e = omega arith
 
 -- Z2 before a later byte is bit 2 of the levels of the round before
-pub before_later : (s h p x : ℕ) (formers levels : List ℕ) → 0 < h → h < 69 → p < 12 → x < 8
+pub before_later : (s h p x : ℕ) (precoder_bits levels : List ℕ) → 0 < h → h < 69 → p < 12 → x < 8
     → x ≡ get_or levels (12 * (4 * h - 1) + p) 0
-    → x / 4 % 2 ≡ former s formers levels (4 * h) (lane_coder s h p)
-before_later s h p x formers levels z l m n e =
+    → x / 4 % 2 ≡ precoder_bit s precoder_bits levels (4 * h) (lane_coder s h p)
+before_later s h p x precoder_bits levels z l m n e =
     let f : 4 * h - 1 + 1 ≡ 4 * h = omega arith in
     bit x n ∙ ap (λ y. y / 4) (e ∙ ap (λ i. get_or levels i 0) (sym (own_place s (4 * h - 1) p m))
     ∙ ap (λ t. get_or levels (symbol_place s (4 * h - 1) (coder_turned t p)) 0) (sym (first_turn s h l)))
-    ∙ sym (former_next s (4 * h - 1) (lane_coder s h p) formers levels)
-    ∙ ap (λ r. former s formers levels r (lane_coder s h p)) f
+    ∙ sym (former_next s (4 * h - 1) (lane_coder s h p) precoder_bits levels)
+    ∙ ap (λ r. precoder_bit s precoder_bits levels r (lane_coder s h p)) f
   where
     bit : (x : ℕ) → x < 8 → x / 4 % 2 ≡ x / 4
     bit x n = omega arith
@@ -155,10 +158,10 @@ unfolding symbol_place
 last_symbol s e = omega arith
 
 -- Z2 behind the last round
-pub former_last : (s e : ℕ) (formers levels : List ℕ)
-    → get_or levels (3300 + (e + 12 - 4 * (s % 3)) % 12) 0 / 4 ≡ former s formers levels 276 e
-former_last s e formers levels = ap (λ i. get_or levels i 0 / 4) (last_symbol s e)
-    ∙ sym (former_next s 275 e formers levels)
+pub former_last : (s e : ℕ) (precoder_bits levels : List ℕ)
+    → get_or levels (3300 + (e + 12 - 4 * (s % 3)) % 12) 0 / 4 ≡ precoder_bit s precoder_bits levels 276 e
+former_last s e precoder_bits levels = ap (λ i. get_or levels i 0 / 4) (last_symbol s e)
+    ∙ sym (former_next s 275 e precoder_bits levels)
 
 -- the byte of four pairs
 pub lane_joined : (h p b x0 x1 x2 x3 q0 q1 q2 q3 : ℕ) (levels : List ℕ) → x0 < 8 → x1 < 8 → x2 < 8

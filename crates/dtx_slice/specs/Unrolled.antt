@@ -10,9 +10,9 @@ unfoldable pub symbol_place : ℕ → ℕ → ℕ → ℕ
 symbol_place s r e = 12 * r + (e + 12 - 4 * ((s + r / 69) % 3)) % 12
 
 -- Z2 of coder e before round r
-unfoldable pub former : ℕ → List ℕ → List ℕ → ℕ → ℕ → ℕ
-former s formers levels r e =
-    if r == 0 then slice_index formers e else slice_index levels (symbol_place s (r - 1) e) / 4
+unfoldable pub precoder_bit : ℕ → List ℕ → List ℕ → ℕ → ℕ → ℕ
+precoder_bit s precoder_bits levels r e =
+    if r == 0 then slice_index precoder_bits e else slice_index levels (symbol_place s (r - 1) e) / 4
 
 -- the pair of a level: X2 = Z2 + the former Z2, X1 = Z1
 abbrev pub pair_from : ℕ → ℕ → ℕ
@@ -20,7 +20,8 @@ pair_from before level = 2 * ((level / 4 + before) % 2) + level / 2 % 2
 
 -- coder e's pair of round r
 unfoldable pub pair_back : ℕ → List ℕ → List ℕ → ℕ → ℕ → ℕ
-pair_back s formers levels r e = pair_from (former s formers levels r e) (slice_index levels (symbol_place s r e))
+pair_back s precoder_bits levels r e = pair_from (precoder_bit s precoder_bits levels r e) (slice_index levels
+    (symbol_place s r e))
 
 -- the coder that works on byte j, in rounds 4 * (j / 12) to 4 * (j / 12) + 3
 unfoldable pub coder_of : ℕ → ℕ → ℕ
@@ -28,11 +29,12 @@ coder_of s j = (j % 12 + 4 * ((s + 4 * (j / 12) / 69) % 3)) % 12
 
 -- byte j, from four pairs of its coder: the first is bits 7 and 6
 unfoldable pub byte_back : ℕ → List ℕ → List ℕ → ℕ → ℕ
-byte_back s formers levels j =
+byte_back s precoder_bits levels j =
     let r : ℕ = 4 * (j / 12) in
     let e : ℕ = coder_of s j in
-    64 * pair_back s formers levels r e + 16 * pair_back s formers levels (r + 1) e + 4 * pair_back s formers levels
-    (r + 2) e + pair_back s formers levels (r + 3) e
+    64 * pair_back s precoder_bits levels r e + 16 * pair_back s precoder_bits levels
+    (r + 1) e + 4 * pair_back s precoder_bits levels
+    (r + 2) e + pair_back s precoder_bits levels (r + 3) e
 
 -- how many whole groups there are
 unfoldable pub level_groups : List ℕ → ℕ
@@ -40,17 +42,19 @@ level_groups levels = length levels / 3312
 
 -- all bytes, 828 of each group
 unfoldable pub bytes_back : ℕ → List ℕ → List ℕ → List ℕ
-bytes_back s formers levels = map (byte_back s formers levels) (range_with_len 0 (828 * level_groups levels))
+bytes_back s precoder_bits levels = map (byte_back s precoder_bits levels) (range_with_len 0
+    (828 * level_groups levels))
 
 -- Z2 of coders 0 to 11 behind all groups
-unfoldable pub formers_after : ℕ → List ℕ → List ℕ → List ℕ
-formers_after s formers levels = map (former s formers levels (276 * level_groups levels)) (range_with_len 0 12)
+unfoldable pub precoder_bits_after : ℕ → List ℕ → List ℕ → List ℕ
+precoder_bits_after s precoder_bits levels = map (precoder_bit s precoder_bits levels (276 * level_groups levels))
+    (range_with_len 0 12)
 
 -- Z2 of coders 0 to 11, from the levels of the last twelve symbols of a field sync. These repeat the last symbols of a
 -- field, and so number q is of coder (q + 8) mod 12.
-unfoldable pub formers_of : List ℕ → List ℕ
-formers_of last = map (λ e. slice_index last ((e + 4) % 12) / 4) (range_with_len 0 12)
+unfoldable pub precoder_bits_of : List ℕ → List ℕ
+precoder_bits_of last = map (λ e. slice_index last ((e + 4) % 12) / 4) (range_with_len 0 12)
 
 -- Z2 of coders 0 to 11 in these states
-unfoldable pub formers_in : List ℕ → List ℕ
-formers_in states = map (λ e. slice_index states e / 4 % 2) (range_with_len 0 12)
+unfoldable pub precoder_bits_in : List ℕ → List ℕ
+precoder_bits_in states = map (λ e. slice_index states e / 4 % 2) (range_with_len 0 12)

@@ -3,39 +3,33 @@
 ghost use Rattle.std.specs.Prelude.{◌≡◌, ℕ, ◌+◌, ◌-◌, ◌*◌, ◌%◌, ◌<◌, ◌++◌, List, EachIndex, length, drop, slice_index};
 ghost use Rattle.dtx_trellis.specs.Pairs.{group_place};
 ghost use Rattle.dtx_trellis.specs.Groups.{levels_of, states_after};
-ghost use Rattle.dtx_slice.specs.Unrolled.{bytes_back, formers_after, formers_in, formers_of};
+ghost use Rattle.dtx_slice.specs.Unrolled.{bytes_back, precoder_bits_after, precoder_bits_in, precoder_bits_of};
 
-use crate::sizes::{LAST, SEGMENT, SEGMENT_SYNC};
-use dtx_trellis::{GROUP_BYTES, GROUP_LEVELS};
-
-/// The sizes, in numbers (ATSC A/53 Part 2, data segment; that a field sync repeats twelve symbols, data field sync).
-pub fn sizes()
-    ensures segment { SEGMENT ≡ 832 }
-    ensures sync { SEGMENT_SYNC ≡ 4 }
-    ensures last { LAST ≡ 12 }
-{}
+use dtx_sizes::{GROUP_BYTES, GROUP_LEVELS, PRECODE};
 
 /// Where the former Z2 are those of the coders' states, the bytes of whole groups come back from the levels that the
 /// coders give, and the former Z2 behind them are those of the states that the coders leave.
 pub fn inverts()
     ensures bytes { (s u : ℕ) (states bytes : List ℕ) → length bytes ≡ GROUP_BYTES * u
         → EachIndex bytes (λ j. slice_index bytes j < 256)
-        → bytes_back s (formers_in states) (levels_of s states bytes) ≡ bytes }
-    ensures formers { (s u : ℕ) (states bytes : List ℕ) → length bytes ≡ GROUP_BYTES * u
-        → formers_after s (formers_in states) (levels_of s states bytes) ≡ formers_in (states_after s states bytes) }
+        → bytes_back s (precoder_bits_in states) (levels_of s states bytes) ≡ bytes }
+    ensures precoder_bits { (s u : ℕ) (states bytes : List ℕ) → length bytes ≡ GROUP_BYTES * u
+        → precoder_bits_after s (precoder_bits_in states) (levels_of s states bytes)
+        ≡ precoder_bits_in (states_after s states bytes) }
 {}
 
 /// Behind `u` whole groups the bytes go on from the former Z2 that these leave.
 pub fn group_after_group()
-    ensures bytes { (s u : ℕ) (formers y z : List ℕ) → length y ≡ GROUP_LEVELS * u
-        → bytes_back s formers (y ++ z) ≡ bytes_back s formers y
-        ++ bytes_back (group_place s u) (formers_after s formers y) z }
-    ensures formers { (s u : ℕ) (formers y z : List ℕ) → length y ≡ GROUP_LEVELS * u
-        → formers_after s formers (y ++ z) ≡ formers_after (group_place s u) (formers_after s formers y) z }
+    ensures bytes { (s u : ℕ) (precoder_bits y z : List ℕ) → length y ≡ GROUP_LEVELS * u
+        → bytes_back s precoder_bits (y ++ z) ≡ bytes_back s precoder_bits y
+        ++ bytes_back (group_place s u) (precoder_bits_after s precoder_bits y) z }
+    ensures precoder_bits { (s u : ℕ) (precoder_bits y z : List ℕ) → length y ≡ GROUP_LEVELS * u
+        → precoder_bits_after s precoder_bits (y ++ z) ≡ precoder_bits_after (group_place s u)
+        (precoder_bits_after s precoder_bits y) z }
 {}
 
 /// At the end of a field the former Z2 are those of the last twelve levels, which the field sync behind it repeats.
 pub fn repeated()
-    ensures { (s u : ℕ) (formers levels : List ℕ) → length levels ≡ GROUP_LEVELS * u → 0 < u → group_place s u ≡ 0
-        → formers_of (drop (GROUP_LEVELS * u - LAST) levels) ≡ formers_after s formers levels }
+    ensures { (s u : ℕ) (precoder_bits levels : List ℕ) → length levels ≡ GROUP_LEVELS * u → 0 < u → group_place s u ≡ 0
+        → precoder_bits_of (drop (GROUP_LEVELS * u - PRECODE) levels) ≡ precoder_bits_after s precoder_bits levels }
 {}

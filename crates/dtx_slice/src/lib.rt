@@ -2,12 +2,10 @@
 #![tactic(auto)]
 
 pub mod laws;
-mod sizes;
 mod slicing;
 mod unroll;
 mod walk;
 
-pub use sizes::{LAST, SEGMENT, SEGMENT_SYNC};
 pub use slicing::{last_levels, level, levels, put_levels};
 pub use unroll::Unroll;
 

@@ -3,8 +3,7 @@
 ghost use Rattle.std.specs.Prelude.{◌≡◌, ◌+◌, ◌*◌, ◌<◌, ◌++◌, EachIndex, length, take, drop, slice_index};
 ghost use Rattle.dtx_slice.specs.Slicing.{sliced, sliced_data, sliced_last};
 
-use crate::sizes::{LAST, SEGMENT, SEGMENT_SYNC};
-use dtx_trellis::{GROUP_LEVELS, SEGMENT_LEVELS};
+use dtx_sizes::{GROUP_LEVELS, PRECODE, SEGMENT, SEGMENT_LEVELS, SEGMENT_SYNC};
 
 /// The level, 0 to 7, of a symbol, which may be any signed byte (ATSC A/53 Part 2, the levels of 8-VSB; where the
 /// levels part is the profile's own).
@@ -40,13 +39,13 @@ pub fn put_levels(segment: &[i8; SEGMENT], at: usize, group: &mut [u8; GROUP_LEV
 }
 
 /// The levels of the last twelve symbols of a segment.
-pub fn last_levels(segment: &[i8; SEGMENT]) -> [u8; LAST]
+pub fn last_levels(segment: &[i8; SEGMENT]) -> [u8; PRECODE]
     ensures levels { result ≡ sliced_last segment.now }
     ensures small { EachIndex result (λ q. slice_index result q < 8) }
 {
-    let mut out = [0; LAST];
-    for q in 0..LAST {
-        out[q] = level(segment[SEGMENT - LAST + q]);
+    let mut out = [0; PRECODE];
+    for q in 0..PRECODE {
+        out[q] = level(segment[SEGMENT - PRECODE + q]);
     }
     out
 }

@@ -2,8 +2,8 @@
 
 ghost use Rattle.std.specs.Prelude.{◌≡◌, ◌%◌, ◌<◌, EachIndex, slice_index};
 
-use crate::{LAST, SEGMENT, Unroll, last_levels, level, levels, put_levels};
-use dtx_trellis::{CODERS, FIELD, GROUP_BYTES, GROUP_LEVELS, SEGMENT_LEVELS};
+use crate::{Unroll, last_levels, level, levels, put_levels};
+use dtx_sizes::{FIELD_PACKETS, GROUP_BYTES, GROUP_LEVELS, PRECODE, SEGMENT, SEGMENT_LEVELS};
 
 #[test]
 fn a_symbol_of_any_strength_has_the_level_that_is_nearest(rt: HostRuntime) {
@@ -34,9 +34,9 @@ fn a_segments_symbols_are_sliced_where_they_stand(rt: HostRuntime) {
 }
 
 /// The bytes of a group of level 0 alone, behind a field sync with such last levels.
-fn behind(last: &[u8; LAST], first: u16) -> [u8; GROUP_BYTES]
+fn behind(last: &[u8; PRECODE], first: u16) -> [u8; GROUP_BYTES]
     requires last { EachIndex last.now (λ q. slice_index last.now q < 8) }
-    requires in_field { first < FIELD }
+    requires in_field { first < FIELD_PACKETS }
     requires whole { first % 4 ≡ 0 }
 {
     let mut unroll = Unroll::new();

@@ -1,18 +1,17 @@
 //! From the levels of a group back to its bytes.
 
 ghost use Rattle.std.specs.Prelude.{◌≡◌, ◌%◌, ◌<◌, EachIndex, length, replicate, slice_index};
-ghost use Rattle.dtx_slice.specs.Unrolled.{bytes_back, formers_after, formers_of};
+ghost use Rattle.dtx_slice.specs.Unrolled.{bytes_back, precoder_bits_after, precoder_bits_of};
 
-use crate::sizes::LAST;
-use crate::walk::{last_formers, walk};
-use dtx_trellis::{CODERS, FIELD, GROUP_BYTES, GROUP_LEVELS};
+use crate::walk::{last_precoder_bits, walk};
+use dtx_sizes::{CODERS, FIELD_PACKETS, GROUP_BYTES, GROUP_LEVELS, PRECODE};
 use std::marker::Model;
 
 /// The former Z2 of the twelve trellis coders: of each the higher bit of its last symbol (ATSC A/53 Part 2, trellis
 /// coding).
 #[derive(Drop)]
 pub struct Unroll {
-    formers: [u8; CODERS],
+    precoder_bits: [u8; CODERS],
 }
 
 impl Model for Unroll {
@@ -20,9 +19,9 @@ impl Model for Unroll {
 
     ghost Value = { List ℕ };
 
-    ghost view = { λ u. u.formers };
+    ghost view = { λ u. u.precoder_bits };
 
-    ghost invariant = { λ u. EachIndex u.formers (λ e. slice_index u.formers e < 2) };
+    ghost invariant = { λ u. EachIndex u.precoder_bits (λ e. slice_index u.precoder_bits e < 2) };
 }
 
 impl Unroll {
@@ -31,48 +30,48 @@ impl Unroll {
         ensures { result ≡ replicate CODERS 0 }
     {
         Unroll {
-            formers: [0; CODERS],
+            precoder_bits: [0; CODERS],
         }
     }
 
     /// Takes each coder's former Z2 from the levels of the last twelve symbols of a field sync.
-    pub fn start(&mut self, last: &[u8; LAST])
+    pub fn start(&mut self, last: &[u8; PRECODE])
         requires { EachIndex last.now (λ q. slice_index last.now q < 8) }
-        ensures formers { self.new ≡ formers_of last.now }
+        ensures precoder_bits { self.new ≡ precoder_bits_of last.now }
         ensures long { length self.new ≡ CODERS }
         ensures small { EachIndex self.new (λ e. slice_index self.new e < 2) }
     {
-        let formers = repeated(last);
-        self.formers = formers;
+        let precoder_bits = repeated(last);
+        self.precoder_bits = precoder_bits;
     }
 
     /// The bytes of the group whose first segment is at place `first` of its field, from its levels. The next group
     /// goes on from the former Z2 that this one leaves.
     pub fn group(&mut self, first: u16, levels: &[u8; GROUP_LEVELS], bytes: &mut [u8; GROUP_BYTES])
-        requires in_field { first < FIELD }
+        requires in_field { first < FIELD_PACKETS }
         requires whole { first % 4 ≡ 0 }
         requires small { EachIndex levels.now (λ d. slice_index levels.now d < 8) }
         ensures bytes { bytes.new ≡ bytes_back first self.old levels.now }
-        ensures formers { self.new ≡ formers_after first self.old levels.now }
+        ensures precoder_bits { self.new ≡ precoder_bits_after first self.old levels.now }
         ensures long { length self.new ≡ CODERS }
         ensures small_formers { EachIndex self.new (λ e. slice_index self.new e < 2) }
     {
-        let from = self.formers;
+        let from = self.precoder_bits;
         walk(&from, first as usize, levels, bytes);
-        let behind = last_formers(first as usize, levels);
-        self.formers = behind;
+        let behind = last_precoder_bits(first as usize, levels);
+        self.precoder_bits = behind;
     }
 }
 
 /// Z2 of each coder, from the levels of the last twelve symbols of a field sync.
-fn repeated(last: &[u8; LAST]) -> [u8; CODERS]
+fn repeated(last: &[u8; PRECODE]) -> [u8; CODERS]
     requires { EachIndex last.now (λ q. slice_index last.now q < 8) }
-    ensures formers { result ≡ formers_of last.now }
+    ensures precoder_bits { result ≡ precoder_bits_of last.now }
     ensures small { EachIndex result (λ e. slice_index result e < 2) }
 {
-    let mut formers = [0; CODERS];
+    let mut precoder_bits = [0; CODERS];
     for e in 0..CODERS {
-        formers[e] = last[(e + 4) % CODERS] / 4;
+        precoder_bits[e] = last[(e + 4) % CODERS] / 4;
     }
-    formers
+    precoder_bits
 }

@@ -2,10 +2,10 @@
 
 ghost use Rattle.std.specs.Prelude.{◌≡◌, ℕ, ◌+◌, ◌*◌, ◌/◌, ◌%◌, ◌<◌, List, EachIndex, length, slice_index};
 ghost use Rattle.dtx_trellis.specs.Lanes.{coder_turned, turn};
-ghost use Rattle.dtx_slice.specs.Unrolled.{byte_back, former, pair_from};
+ghost use Rattle.dtx_slice.specs.Unrolled.{byte_back, precoder_bit, pair_from};
 ghost use Rattle.dtx_slice.specs.Lanes.{lane_byte, lane_place};
 
-use dtx_trellis::{CODERS, FIELD, GROUP_BYTES, GROUP_LEVELS, ROUNDS, SEGMENT_ROUNDS};
+use dtx_sizes::{CODERS, FIELD_PACKETS, GROUP_BYTES, GROUP_LEVELS, ROUNDS, SEGMENT_ROUNDS};
 use std::simd::prelude::*;
 
 /// How many lanes a vector has. In the four rounds of a byte, lane p is of the coder at place p of the first of them;
@@ -23,18 +23,18 @@ const LAST_ROUND: usize = ROUNDS - 1;
 
 /// Writes the bytes of a group, from these former Z2 and its levels.
 pub(crate) fn walk(
-    formers: &[u8; CODERS],
+    precoder_bits: &[u8; CODERS],
     first: usize,
     levels: &[u8; GROUP_LEVELS],
     bytes: &mut [u8; GROUP_BYTES],
 )
-    requires first { first < FIELD }
+    requires first { first < FIELD_PACKETS }
     requires small { EachIndex levels.now (λ d. slice_index levels.now d < 8) }
-    requires small_formers { EachIndex formers.now (λ e. slice_index formers.now e < 2) }
-    ensures { (j : ℕ) → j < GROUP_BYTES → slice_index bytes.new j ≡ byte_back first formers.now levels.now j }
+    requires small_formers { EachIndex precoder_bits.now (λ e. slice_index precoder_bits.now e < 2) }
+    ensures { (j : ℕ) → j < GROUP_BYTES → slice_index bytes.new j ≡ byte_back first precoder_bits.now levels.now j }
 {
     for byte in 0..CODER_BYTES {
-        let before = before(formers, first, levels, byte);
+        let before = before(precoder_bits, first, levels, byte);
         let lanes = four_rounds(before, levels, byte);
         store(bytes, byte, lanes);
     }
@@ -43,18 +43,23 @@ pub(crate) fn walk(
 /// What holds each coder's former Z2 as bit 2: its levels of the round before byte `byte`, or what laid the former Z2
 /// out.
 #[inline(always)]
-fn before(formers: &[u8; CODERS], first: usize, levels: &[u8; GROUP_LEVELS], byte: usize) -> u8x16
-    requires first { first < FIELD }
+fn before(
+    precoder_bits: &[u8; CODERS],
+    first: usize,
+    levels: &[u8; GROUP_LEVELS],
+    byte: usize,
+) -> u8x16
+    requires first { first < FIELD_PACKETS }
     requires byte { byte < CODER_BYTES }
     requires small { EachIndex levels.now (λ d. slice_index levels.now d < 8) }
-    requires small_formers { EachIndex formers.now (λ e. slice_index formers.now e < 2) }
+    requires small_formers { EachIndex precoder_bits.now (λ e. slice_index precoder_bits.now e < 2) }
     ensures long { length result ≡ LANES }
-    ensures formers { (p : ℕ) → p < CODERS
-        → slice_index result p / 4 % 2 ≡ former first formers.now levels.now (4 * byte)
+    ensures precoder_bits { (p : ℕ) → p < CODERS
+        → slice_index result p / 4 % 2 ≡ precoder_bit first precoder_bits.now levels.now (4 * byte)
         (coder_turned (turn first (4 * byte)) p) }
 {
     if byte == 0 {
-        laid_out(formers, first)
+        laid_out(precoder_bits, first)
     } else {
         load(levels, 4 * byte - 1)
     }
@@ -179,34 +184,34 @@ fn store_last(bytes: &mut [u8; GROUP_BYTES], lanes: u8x16)
 }
 
 /// The former Z2 as bit 2, each in the lane of its coder's place in the first round.
-fn laid_out(formers: &[u8; CODERS], first: usize) -> u8x16
-    requires first { first < FIELD }
-    requires small_formers { EachIndex formers.now (λ e. slice_index formers.now e < 2) }
+fn laid_out(precoder_bits: &[u8; CODERS], first: usize) -> u8x16
+    requires first { first < FIELD_PACKETS }
+    requires small_formers { EachIndex precoder_bits.now (λ e. slice_index precoder_bits.now e < 2) }
     ensures long { length result ≡ LANES }
-    ensures formers { (p : ℕ) → p < CODERS
-        → slice_index result p ≡ 4 * slice_index formers.now ((p + 4 * (first % 3)) % CODERS) }
+    ensures precoder_bits { (p : ℕ) → p < CODERS
+        → slice_index result p ≡ 4 * slice_index precoder_bits.now ((p + 4 * (first % 3)) % CODERS) }
 {
     let mut lanes = [0u8; LANES];
     for p in 0..CODERS {
-        lanes[p] = 4 * formers[(p + 4 * (first % 3)) % CODERS];
+        lanes[p] = 4 * precoder_bits[(p + 4 * (first % 3)) % CODERS];
     }
     u8x16::from_array(lanes)
 }
 
 /// Z2 of each coder in the last round.
-pub(crate) fn last_formers(first: usize, levels: &[u8; GROUP_LEVELS]) -> [u8; CODERS]
-    requires first { first < FIELD }
+pub(crate) fn last_precoder_bits(first: usize, levels: &[u8; GROUP_LEVELS]) -> [u8; CODERS]
+    requires first { first < FIELD_PACKETS }
     requires small { EachIndex levels.now (λ d. slice_index levels.now d < 8) }
     ensures long { length result ≡ CODERS }
-    ensures formers { (formers : List ℕ) (e : ℕ) → e < CODERS
-        → slice_index result e ≡ former first formers levels.now ROUNDS e }
+    ensures precoder_bits { (precoder_bits : List ℕ) (e : ℕ) → e < CODERS
+        → slice_index result e ≡ precoder_bit first precoder_bits levels.now ROUNDS e }
     ensures small { EachIndex result (λ e. slice_index result e < 2) }
 {
-    let mut formers = [0u8; CODERS];
+    let mut precoder_bits = [0u8; CODERS];
     for e in 0..CODERS {
         // The coders stand as in the first segment, from which the last is three on.
         let place = (e + CODERS - 4 * (first % 3)) % CODERS;
-        formers[e] = levels[GROUP_LEVELS - CODERS + place] / 4;
+        precoder_bits[e] = levels[GROUP_LEVELS - CODERS + place] / 4;
     }
-    formers
+    precoder_bits
 }

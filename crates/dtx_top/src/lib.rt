@@ -1,8 +1,16 @@
 //! The program: one call that does all of it.
 #![tactic(auto)]
 
+pub mod laws;
+mod net_command;
+mod network_names;
+mod of_bytes;
 mod performing;
+mod reception;
+mod replaying;
 mod top;
+#[cfg(test)]
+mod worked_network;
 
 pub use dtx_meaning::Status;
 pub use top::run;

@@ -2,7 +2,7 @@
 -- place s of its field (ATSC A/53 Part 2, trellis coding).
 use Rattle.std.specs.Prelude.{ℕ, ◌*◌, ◌/◌, List, map, slice_index}
 use Rattle.std.specs.List.{range_with_len}
-use Rattle.dtx_trellis.specs.declared.group.TheConstants.{CODERS, GROUP_LEVELS, ROUNDS}
+use Rattle.dtx_sizes.specs.declared.segments.TheConstants.{CODERS, GROUP_LEVELS, ROUNDS}
 use Rattle.dtx_trellis.specs.Trellis.{State, level, state_after, state_of, number_of}
 use Rattle.dtx_trellis.specs.Pairs.{groups, higher, lower, coder_at}
 

@@ -1,7 +1,7 @@
 -- Twelve coders side by side: lane p is of the coder at place p of a round, where the segment has moved the coders on
 -- by 4 * x.
 use Rattle.std.specs.Prelude.{ℕ, ◌≡◌, ◌<◌, ◌+◌, ◌*◌, ◌/◌, ◌%◌, List, length, slice_index}
-use Rattle.dtx_trellis.specs.declared.group.TheConstants.{CODERS, SEGMENT_ROUNDS}
+use Rattle.dtx_sizes.specs.declared.segments.TheConstants.{CODERS, SEGMENT_ROUNDS}
 use Rattle.dtx_trellis.specs.declared.lanes.TheConstants.{LANES}
 use Rattle.dtx_trellis.specs.Pairs.{byte_place, pair_in}
 use Rattle.dtx_trellis.specs.Groups.{coder_after}

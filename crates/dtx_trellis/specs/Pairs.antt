@@ -3,8 +3,9 @@
 -- places on.
 use Rattle.std.specs.Prelude.{ℕ, ◌+◌, ◌*◌, ◌-◌, ◌/◌, ◌%◌, ◌^◌, List, map, length, slice_index}
 use Rattle.std.specs.List.{range_with_len}
-use Rattle.dtx_trellis.specs.declared.group.TheConstants.{CODERS, FIELD, GROUP_BYTES, ROUNDS, SEGMENT_LEVELS}
-use Rattle.dtx_trellis.specs.declared.group.TheConstants.{SEGMENT_ROUNDS}
+use Rattle.dtx_sizes.specs.declared.fields.TheConstants.{FIELD_PACKETS}
+use Rattle.dtx_sizes.specs.declared.segments.TheConstants.{CODERS, GROUP_BYTES, ROUNDS, SEGMENT_LEVELS}
+use Rattle.dtx_sizes.specs.declared.segments.TheConstants.{SEGMENT_ROUNDS}
 
 -- how many whole groups there are
 unfoldable pub groups : List ℕ → ℕ
@@ -12,7 +13,7 @@ groups bytes = length bytes / GROUP_BYTES
 
 -- the place in its field of group u
 unfoldable pub group_place : ℕ → ℕ → ℕ
-group_place s u = (s + 4 * u) % FIELD
+group_place s u = (s + 4 * u) % FIELD_PACKETS
 
 -- In round r of a group at place s: which of the group's bytes coder e works on. It keeps to a byte for four rounds,
 -- and the coders move on by four from segment to segment.

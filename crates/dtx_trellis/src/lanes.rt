@@ -4,7 +4,7 @@ ghost use Rattle.std.specs.Prelude.{◌≡◌, ◌↔◌, ℕ, ◌+◌, ◌-◌,
 ghost use Rattle.dtx_trellis.specs.Groups.{level_at};
 ghost use Rattle.dtx_trellis.specs.Lanes.{HoldsBytes, HoldsPairs, HoldsStates, turn};
 
-use crate::group::{CODERS, FIELD, GROUP_BYTES, ROUNDS, SEGMENT_ROUNDS};
+use dtx_sizes::{CODERS, FIELD_PACKETS, GROUP_BYTES, ROUNDS, SEGMENT_ROUNDS};
 use std::simd::prelude::*;
 
 /// How many lanes a vector has.
@@ -86,7 +86,7 @@ impl Lanes {
         bytes: &[u8; GROUP_BYTES],
         round: usize,
     ) -> (Lanes, u8x16)
-        requires first { first < FIELD }
+        requires first { first < FIELD_PACKETS }
         requires round { round < ROUNDS }
         requires states { HoldsStates first from.now bytes.now round (turn first round) self.top self.middle self.low }
         requires pairs { HoldsPairs first bytes.now round (turn first round) pairs }

@@ -1,5 +1,5 @@
 //! Laws of the definitions: stepping a state gives the sums, and groups go on from the states that the groups before
-//! them leave. The sizes, and worked places of the standard's tables.
+//! them leave. Worked places of the standard's tables.
 
 ghost use Rattle.std.specs.Prelude.{◌≡◌, ℕ, ◌+◌, ◌*◌, ◌/◌, ◌%◌, ◌<◌, ◌≤◌, ◌++◌, List, [], ◌∷◌, length, map, replicate};
 ghost use Rattle.std.specs.Prelude.{slice_index};
@@ -7,20 +7,7 @@ ghost use Rattle.dtx_trellis.specs.Trellis.{State, AreBits, level, level_of, nex
 ghost use Rattle.dtx_trellis.specs.Pairs.{byte_place, coder_at, group_place, higher, lower, pair_in};
 ghost use Rattle.dtx_trellis.specs.Groups.{coder_after, level_at, levels_of, states_after};
 
-use crate::group::{
-    CODERS, FIELD, GROUP_BYTES, GROUP_LEVELS, ROUNDS, SEGMENT_LEVELS, SEGMENT_ROUNDS,
-};
-
-/// The sizes, in numbers (ATSC A/53 Part 2, data segment and trellis coding).
-pub fn sizes()
-    ensures coders { CODERS ≡ 12 }
-    ensures bytes { GROUP_BYTES ≡ 828 }
-    ensures rounds { ROUNDS ≡ 276 }
-    ensures segment_rounds { SEGMENT_ROUNDS ≡ 69 }
-    ensures segment_levels { SEGMENT_LEVELS ≡ 828 }
-    ensures levels { GROUP_LEVELS ≡ 3312 }
-    ensures segments { FIELD ≡ 312 }
-{}
+use dtx_sizes::GROUP_BYTES;
 
 /// The first data symbols of segments 0 to 4 of a field: their coders, the bytes of the field on which these work, and
 /// which bits of the byte they take: 7 and 6, 5 and 4, 3 and 2, 1 and 0, and 7 and 6 again (ATSC A/53 Part 2, the table

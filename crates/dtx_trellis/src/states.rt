@@ -1,6 +1,6 @@
 //! The states of the twelve coders.
 
-use crate::group::CODERS;
+use dtx_sizes::CODERS;
 use std::marker::Model;
 
 /// The number of each coder's state, 4 * q2 + 2 * q1 + q0 and so below 8 (ATSC A/53 Part 2, trellis coding). A value

@@ -2,9 +2,9 @@
 
 ghost use Rattle.std.specs.Prelude.{◌≡◌, ◌%◌, ◌<◌, EachIndex, length, replicate, slice_index};
 
-use crate::group::{CODERS, FIELD, GROUP_BYTES, GROUP_LEVELS};
 use crate::states::States;
 use crate::walk::walk;
+use dtx_sizes::{CODERS, FIELD_PACKETS, GROUP_BYTES, GROUP_LEVELS};
 use std::marker::Model;
 
 /// Twelve coders, each in one of eight states (ATSC A/53 Part 2, trellis coding).
@@ -57,7 +57,7 @@ impl Twelve {
     /// The levels, 0 to 7, of the data of the group whose first segment is at place `first` of its field, in the order
     /// of emission. The next group goes on from the states that this one leaves.
     pub fn group(&mut self, first: u16, bytes: &[u8; GROUP_BYTES], levels: &mut [u8; GROUP_LEVELS])
-        requires in_field { first < FIELD }
+        requires in_field { first < FIELD_PACKETS }
         requires whole { first % 4 ≡ 0 }
         ensures levels { levels.new ≡ levels_of first self.old bytes.now }
         ensures small { EachIndex levels.new (λ d. slice_index levels.new d < 8) }

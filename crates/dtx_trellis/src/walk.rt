@@ -5,8 +5,10 @@ ghost use Rattle.dtx_trellis.specs.Trellis.{number_of};
 ghost use Rattle.dtx_trellis.specs.Groups.{coder_after, level_at};
 ghost use Rattle.dtx_trellis.specs.Lanes.{HoldsBytes, HoldsPairs, HoldsStates, turn};
 
-use crate::group::{CODER_BYTES, CODERS, FIELD, GROUP_BYTES, GROUP_LEVELS, ROUNDS, SEGMENT_ROUNDS};
 use crate::lanes::{LANES, Lanes};
+use dtx_sizes::{
+    CODER_BYTES, CODERS, FIELD_PACKETS, GROUP_BYTES, GROUP_LEVELS, ROUNDS, SEGMENT_ROUNDS,
+};
 use std::simd::prelude::*;
 
 /// The last byte of a coder.
@@ -22,7 +24,7 @@ pub(crate) fn walk(
     bytes: &[u8; GROUP_BYTES],
     levels: &mut [u8; GROUP_LEVELS],
 ) -> [u8; CODERS]
-    requires { first < FIELD }
+    requires { first < FIELD_PACKETS }
     ensures levels { (d : ℕ) → d < GROUP_LEVELS → slice_index levels.new d ≡ level_at first from.now bytes.now d }
     ensures long { length result ≡ CODERS }
     ensures states { (e : ℕ) → e < CODERS
@@ -45,7 +47,7 @@ fn byte_group(
     bytes: &[u8; GROUP_BYTES],
     levels: &mut [u8; GROUP_LEVELS],
 ) -> Lanes
-    requires first { first < FIELD }
+    requires first { first < FIELD_PACKETS }
     requires group { byte < CODER_BYTES }
     requires states { HoldsStates first from.now bytes.now (4 * byte)
         (turn first (4 * byte - 1)) start.top start.middle start.low }
@@ -86,7 +88,7 @@ fn advance(
     round: usize,
     levels: &mut [u8; GROUP_LEVELS],
 ) -> Lanes
-    requires first { first < FIELD }
+    requires first { first < FIELD_PACKETS }
     requires round { round < ROUNDS }
     requires same_byte { (round + 1) / 4 ≡ round / 4 }
     requires segment { segment < 4 }
@@ -117,7 +119,7 @@ fn emit(
     round: usize,
     levels: &mut [u8; GROUP_LEVELS],
 ) -> Lanes
-    requires first { first < FIELD }
+    requires first { first < FIELD_PACKETS }
     requires round { round < ROUNDS }
     requires states { HoldsStates first from.now bytes.now round (turn first round) lanes.top lanes.middle lanes.low }
     requires pairs { HoldsPairs first bytes.now round (turn first round) pairs }
@@ -183,7 +185,7 @@ fn store_last(levels: &mut [u8; GROUP_LEVELS], level: u8x16)
 
 /// The coders' states, each in the lane of its place in the first round.
 fn laid_out(from: &[u8; CODERS], first: usize, bytes: &[u8; GROUP_BYTES]) -> Lanes
-    requires { first < FIELD }
+    requires { first < FIELD_PACKETS }
     ensures { HoldsStates first from.now bytes.now 0 (turn first 0) result.top result.middle result.low }
 {
     let mut top = [0u8; LANES];
@@ -210,7 +212,7 @@ fn numbers(
     from: &[u8; CODERS],
     bytes: &[u8; GROUP_BYTES],
 ) -> [u8; CODERS]
-    requires first { first < FIELD }
+    requires first { first < FIELD_PACKETS }
     requires states { HoldsStates first from.now bytes.now ROUNDS
         (turn first LAST_ROUND) lanes.top lanes.middle lanes.low }
     ensures long { length result ≡ CODERS }

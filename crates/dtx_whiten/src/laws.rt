@@ -8,7 +8,7 @@ ghost use Rattle.dtx_laws.specs.Whitening.{whitened};
 ghost use Rattle.dtx_whiten.specs.Randomizer.{polynomial, preload, register, randomizer_byte, randomizer_bytes};
 ghost use Rattle.dtx_whiten.specs.Randomized.{randomized, randomized_stream};
 
-use crate::field::{FIELD_PACKETS, PACKET_DATA};
+use dtx_sizes::{FIELD_PACKETS, PACKET_DATA};
 
 /// The register's content has a lower degree than the generator polynomial, and differs from X^t times the preload by a
 /// multiple of it.

@@ -1,10 +1,8 @@
 //! The data randomizer (ATSC A/53 Part 2, data randomizer): the bytes that are added to the packets of a data field.
 #![tactic(auto)]
 
-mod field;
 pub mod laws;
 mod randomizer;
 mod register;
 
-pub use field::{FIELD_PACKETS, PACKET_DATA};
 pub use randomizer::Atsc;

@@ -1,13 +1,14 @@
 //! The randomizer's bytes, made once.
 
 ghost use Rattle.std.specs.Prelude.{◌≡◌, ◌*◌, IfOk, vec_len};
-ghost use Rattle.dtx_whiten.specs.declared.field.TheConstants.{FIELD_PACKETS, PACKET_DATA};
+ghost use Rattle.dtx_sizes.specs.declared.fields.TheConstants.{FIELD_PACKETS};
+ghost use Rattle.dtx_sizes.specs.declared.packets.TheConstants.{PACKET_DATA};
 ghost use Rattle.dtx_whiten.specs.Randomizer.{randomizer_bytes};
 ghost use Rattle.dtx_whiten.specs.Bytes.{all_long, all_are_bytes, period_fits};
 
-use crate::field::{FIELD_PACKETS, PACKET_DATA};
 use crate::register::{PRELOAD, shifted, tapped};
 use dtx_laws::Whitener;
+use dtx_sizes::{FIELD_PACKETS, PACKET_DATA};
 use std::alloc::{AllocError, Global};
 
 /// The randomizer's bytes for the packets of a data field, one after another.
@@ -19,7 +20,7 @@ pub struct Atsc {
 }
 
 impl Whitener for Atsc {
-    const PERIOD: usize = PACKET_DATA * FIELD_PACKETS;
+    const PERIOD: usize = PACKET_DATA * FIELD_PACKETS as usize;
 
     ghost PERIOD = { PACKET_DATA * FIELD_PACKETS };
 

@@ -2,7 +2,7 @@
 ghost use Rattle.std.specs.Prelude.{◌≡◌};
 ghost use Rattle.dtx_words.specs.Rows.{row_behind, row_of};
 
-use dtx_packets::MOST_PACKETS;
+use dtx_sizes::MOST_PACKETS;
 
 /// A command, which the first word names.
 #[derive(Clone, Copy, Debug, PartialEq, Eq)]

@@ -3,10 +3,9 @@
 ghost use Rattle.std.specs.Prelude.{◌<◌};
 
 use super::*;
-use dtx_frame::SEGMENT;
 use dtx_laws::Whitener;
-use dtx_packets::PACKET;
-use dtx_whiten::{Atsc, PACKET_DATA};
+use dtx_sizes::{GROUP_PACKETS, PACKET, PACKET_DATA, SEGMENT};
+use dtx_whiten::Atsc;
 use std::test::Fail;
 
 /// The symbols of all segments as one number, which tells their order too.

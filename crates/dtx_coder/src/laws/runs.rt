@@ -8,14 +8,14 @@ ghost use Rattle.dtx_frame.specs.Segments.{field_sync};
 ghost use Rattle.dtx_trellis.specs.Groups.{levels_of, states_after};
 ghost use Rattle.dtx_coder.specs.Coded.{coded};
 ghost use Rattle.dtx_coder.specs.Stream.{segment, four_segments, last_of};
-ghost use Rattle.dtx_coder.specs.Groups.{Coding, Group, aligned_coding, after_group, segments_of, coded_groups};
+ghost use Rattle.dtx_coder.specs.Groups.{Coding, Group, aligned_coding, after_group, air_segments, coded_groups};
 ghost use Rattle.dtx_coder.specs.Groups.{bytes_of_groups};
-ghost use Rattle.dtx_coder.specs.Runs.{AreStates, AreInTurn, IsRun, after_groups, segments_of_groups, packets_of};
+ghost use Rattle.dtx_coder.specs.Runs.{AreStates, AreInTurn, IsGroupRun, after_groups, segments_of_groups};
+ghost use Rattle.dtx_coder.specs.Runs.{group_packets};
 ghost use Rattle.dtx_coder.specs.Runs.{last_in, run_segments};
 ghost use Rattle.dtx_coder.specs.Along.{IsNext, RunsAlong, levels_since, states_since};
 
-use crate::sizes::{BRANCH_STEP, BRANCHES, GROUP_PACKETS, SETTLED_PACKETS};
-use dtx_trellis::{FIELD, GROUP_BYTES};
+use dtx_sizes::{BRANCH_STEP, BRANCHES, FLUSHING_PACKETS, GROUP_BYTES, GROUP_PACKETS};
 
 /// Groups may be cut anywhere: those behind the cut go on from what the ones before it leave.
 pub fn one_after_another()
@@ -37,19 +37,19 @@ pub fn interleaved_groups()
         → (after_groups coder groups).branches ≡ after_all BRANCHES coder.branches (coded_groups groups) }
     ensures long { (coder : Coding) (groups : List Group) (s : ℕ) → AreInTurn s groups
         → length (bytes_of_groups coder groups) ≡ GROUP_BYTES * length groups }
-    ensures packets { (groups : List Group) → AreInTurn 0 groups → coded_groups groups ≡ coded (packets_of groups) }
+    ensures packets { (groups : List Group) → AreInTurn 0 groups → coded_groups groups ≡ coded (group_packets groups) }
 {}
 
 /// The segments of a run are those of the levels that its first states and all of its bytes give, and so are the states
 /// and the last twelve symbols behind it.
 pub fn runs()
-    ensures segments { (coder : Coding) (s : ℕ) (q : List ℕ) (groups : List Group) → IsRun s q coder groups
+    ensures segments { (coder : Coding) (s : ℕ) (q : List ℕ) (groups : List Group) → IsGroupRun s q coder groups
         → segments_of_groups coder groups ≡ run_segments coder.last
         (levels_of s q (bytes_of_groups coder groups)) groups }
-    ensures states { (coder : Coding) (s : ℕ) (q : List ℕ) (groups : List Group) → IsRun s q coder groups
+    ensures states { (coder : Coding) (s : ℕ) (q : List ℕ) (groups : List Group) → IsGroupRun s q coder groups
         → 0 < length groups
         → (after_groups coder groups).states ≡ states_after s q (bytes_of_groups coder groups) }
-    ensures last { (coder : Coding) (s : ℕ) (q : List ℕ) (groups : List Group) → IsRun s q coder groups
+    ensures last { (coder : Coding) (s : ℕ) (q : List ℕ) (groups : List Group) → IsGroupRun s q coder groups
         → (after_groups coder groups).last ≡ last_in coder.last (levels_of s q (bytes_of_groups coder groups))
         (length groups) }
 {}
@@ -58,12 +58,12 @@ pub fn runs()
 /// symbols, which end a first field sync, come into its segments.
 pub fn restarts()
     ensures segments { (coder : Coding) (front run : List Group) (r s : ℕ) (q : List ℕ) → AreInTurn r front
-        → IsRun s q (after_groups coder front) run
+        → IsGroupRun s q (after_groups coder front) run
         → segments_of_groups coder (front ++ run)
         ≡ segments_of_groups coder front ++ run_segments (after_groups coder front).last
         (levels_of s q (drop (GROUP_BYTES * length front) (bytes_of_groups coder (front ++ run)))) run }
     ensures states { (coder : Coding) (front run : List Group) (r s : ℕ) (q : List ℕ) → AreInTurn r front
-        → IsRun s q (after_groups coder front) run → 0 < length run
+        → IsGroupRun s q (after_groups coder front) run → 0 < length run
         → (after_groups coder (front ++ run)).states
         ≡ states_after s q (drop (GROUP_BYTES * length front) (bytes_of_groups coder (front ++ run))) }
 {}
@@ -87,18 +87,18 @@ pub fn along()
 /// the align, with the coders begun from the preset states at their group.
 pub fn sent_along()
     ensures group { (packets : List (List ℕ)) (g : ℕ) (q : List ℕ) (coder : Coding) (group : Group)
-        → RunsAlong packets g q coder → SETTLED_PACKETS ≤ GROUP_PACKETS * g → IsNext packets coder.states group
-        → segments_of coder group
+        → RunsAlong packets g q coder → FLUSHING_PACKETS ≤ GROUP_PACKETS * g → IsNext packets coder.states group
+        → air_segments coder group
         ≡ (if group.sync then field_sync group.second coder.last ∷ [] else [])
         ++ four_segments (levels_since g q (packets ++ group.packets)) (length packets - GROUP_PACKETS * g) }
     ensures preset { (packets : List (List ℕ)) (g : ℕ) (q p : List ℕ) (coder : Coding) (group : Group)
-        → RunsAlong packets g q coder → SETTLED_PACKETS ≤ length packets → IsNext packets p group
-        → segments_of coder group
+        → RunsAlong packets g q coder → FLUSHING_PACKETS ≤ length packets → IsNext packets p group
+        → air_segments coder group
         ≡ (if group.sync then field_sync group.second coder.last ∷ [] else [])
         ++ four_segments (levels_since (length packets / GROUP_PACKETS) p (packets ++ group.packets)) 0 }
     ensures states { (packets : List (List ℕ)) (g : ℕ) (q : List ℕ) (coder : Coding) → RunsAlong packets g q coder
-        → SETTLED_PACKETS ≤ GROUP_PACKETS * g → coder.states ≡ states_since g q packets }
+        → FLUSHING_PACKETS ≤ GROUP_PACKETS * g → coder.states ≡ states_since g q packets }
     ensures last { (packets : List (List ℕ)) (g : ℕ) (q : List ℕ) (coder : Coding) → RunsAlong packets g q coder
-        → SETTLED_PACKETS ≤ GROUP_PACKETS * g → GROUP_PACKETS * g < length packets
+        → FLUSHING_PACKETS ≤ GROUP_PACKETS * g → GROUP_PACKETS * g < length packets
         → coder.last ≡ last_of (segment (levels_since g q packets) (length packets - GROUP_PACKETS * g - 1)) }
 {}

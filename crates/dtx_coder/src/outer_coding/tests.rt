@@ -3,6 +3,7 @@
 ghost use Rattle.std.specs.Prelude.{◌<◌};
 
 use super::*;
+use dtx_sizes::{CODEWORD, FIELD_PACKETS, PACKET_DATA};
 use std::test::Fail;
 
 /// The bytes that leave as the same packet comes to both codings.

@@ -6,9 +6,9 @@ use super::*;
 use crate::answers::Preset;
 use arrayvec::ArrayVec;
 use dtx_clock::{Moment, stamp};
-use dtx_frame::SEGMENT;
 use dtx_ops::{Entry, write};
 use dtx_rs::Rs;
+use dtx_sizes::{GROUP_PACKETS, PACKET, SEGMENT};
 use std::test::Fail;
 
 /// A feed as an adapter makes it, four packets at a time, and the segments of its own symbols.
@@ -97,15 +97,13 @@ type Line = (u64, Told);
 /// The lines of an exciter and how many segments it gives in all, where it is given the packets of a feed but for some.
 fn lines(
     alloc: Global,
-    address: u16,
-    delay: u32,
+    mut exciter: Exciter,
     count: u64,
     orders: &[u64],
     without: (u64, u64),
 ) -> Result<(Vec<Line>, u64), Fail>
     requires { count ≤ 2000 }
 {
-    let mut exciter = Exciter::new(alloc, address, delay)?;
     let mut air = Air::new();
     let mut segments = 0u64;
     let mut lines = Vec::new(alloc);
@@ -141,7 +139,13 @@ const ORDERS: [u64; 4] = [100, 412, 724, 1036];
 
 #[test]
 fn each_order_has_its_moment(rt: HostRuntime) -> Result<(), Fail> {
-    let (log, segments) = lines(rt.alloc(), 7, 1000, 1300, &ORDERS, (0, 0))?;
+    let (log, segments) = lines(
+        rt.alloc(),
+        Exciter::new(rt.alloc(), 7, 1000)?,
+        1300,
+        &ORDERS,
+        (0, 0),
+    )?;
     let expected = [
         (0, preset(0, 100, 5078070, 640)),
         (313, preset(0, 412, 5320042, 612)),
@@ -156,14 +160,26 @@ fn each_order_has_its_moment(rt: HostRuntime) -> Result<(), Fail> {
 #[test]
 fn an_order_counts_from_52_packets_on(rt: HostRuntime) -> Result<(), Fail> {
     for early in [48, 51] {
-        let (log, segments) = lines(rt.alloc(), 7, 1000, 60, &[early, 52], (0, 0))?;
+        let (log, segments) = lines(
+            rt.alloc(),
+            Exciter::new(rt.alloc(), 7, 1000)?,
+            60,
+            &[early, 52],
+            (0, 0),
+        )?;
         assert_eq!(rt;
             log.as_slice(),
             [(0, preset(0, 52, 5040962, 1372))].as_slice()
         );
         assert_eq!(rt; segments, 8);
     }
-    let (log, segments) = lines(rt.alloc(), 7, 1000, 52, &[48, 51], (0, 0))?;
+    let (log, segments) = lines(
+        rt.alloc(),
+        Exciter::new(rt.alloc(), 7, 1000)?,
+        52,
+        &[48, 51],
+        (0, 0),
+    )?;
     assert_eq!(rt; log.len(), 0);
     assert_eq!(rt; segments, 0);
     Ok(())
@@ -171,7 +187,13 @@ fn an_order_counts_from_52_packets_on(rt: HostRuntime) -> Result<(), Fail> {
 
 #[test]
 fn no_field_sync_stands_before_a_first_group(rt: HostRuntime) -> Result<(), Fail> {
-    let (log, segments) = lines(rt.alloc(), 7, 1000, 320, &[312], (0, 0))?;
+    let (log, segments) = lines(
+        rt.alloc(),
+        Exciter::new(rt.alloc(), 7, 1000)?,
+        320,
+        &[312],
+        (0, 0),
+    )?;
     assert_eq!(rt;
         log.as_slice(),
         [(0, preset(0, 312, 5242735, 85))].as_slice()
@@ -182,7 +204,13 @@ fn no_field_sync_stands_before_a_first_group(rt: HostRuntime) -> Result<(), Fail
 
 #[test]
 fn an_order_of_a_groups_third_packet_is_of_the_group(rt: HostRuntime) -> Result<(), Fail> {
-    let (log, segments) = lines(rt.alloc(), 7, 1000, 104, &[102], (0, 0))?;
+    let (log, segments) = lines(
+        rt.alloc(),
+        Exciter::new(rt.alloc(), 7, 1000)?,
+        104,
+        &[102],
+        (0, 0),
+    )?;
     assert_eq!(rt;
         log.as_slice(),
         [(0, preset(0, 100, 5078070, 640))].as_slice()
@@ -193,7 +221,13 @@ fn an_order_of_a_groups_third_packet_is_of_the_group(rt: HostRuntime) -> Result<
 
 #[test]
 fn a_mark_out_of_step_begins_anew(rt: HostRuntime) -> Result<(), Fail> {
-    let (log, segments) = lines(rt.alloc(), 7, 1000, 1300, &ORDERS, (202, 624))?;
+    let (log, segments) = lines(
+        rt.alloc(),
+        Exciter::new(rt.alloc(), 7, 1000)?,
+        1300,
+        &ORDERS,
+        (202, 624),
+    )?;
     let expected = [
         (0, preset(0, 100, 5078070, 640)),
         (100, Told::Muted(Why::Cadence)),
@@ -209,11 +243,23 @@ fn a_mark_out_of_step_begins_anew(rt: HostRuntime) -> Result<(), Fail> {
 fn a_late_transmitter_and_one_that_is_not_listed_send_nothing(rt: HostRuntime) -> Result<(), Fail> {
     let cases = [(7, 4999991, Why::Late), (8, 1000, Why::Unlisted)];
     for (address, delay, why) in cases {
-        let (log, segments) = lines(rt.alloc(), address, delay, 108, &[52, 100], (0, 0))?;
+        let (log, segments) = lines(
+            rt.alloc(),
+            Exciter::new(rt.alloc(), address, delay)?,
+            108,
+            &[52, 100],
+            (0, 0),
+        )?;
         assert_eq!(rt; log.as_slice(), [(0, Told::Muted(why)); 2].as_slice());
         assert_eq!(rt; segments, 0);
     }
-    let (log, segments) = lines(rt.alloc(), 7, 4999990, 104, &ORDERS, (0, 0))?;
+    let (log, segments) = lines(
+        rt.alloc(),
+        Exciter::new(rt.alloc(), 7, 4999990)?,
+        104,
+        &ORDERS,
+        (0, 0),
+    )?;
     assert_eq!(rt; log.len(), 1);
     assert_eq!(rt; segments, 4);
     Ok(())

@@ -1,11 +1,12 @@
 //! A worked operations packet, lied and flipped.
 
-use super::{Liar, flipped, lied};
+use super::{LieWriter, flipped, lied};
 use dtx_correct::Linear;
 use dtx_laws::Encode;
 use dtx_ops::read;
-use dtx_packets::{PACKET, Packet};
+use dtx_packets::Packet;
 use dtx_rs::Rs;
+use dtx_sizes::PACKET;
 use dtx_trellis::States;
 use std::test::Fail;
 
@@ -46,7 +47,7 @@ fn a_damaged_packet_lies_undamaged(rt: HostRuntime) {
 }
 
 fn lied_with_ones(packet: &Packet) -> Packet {
-    Liar::new().lied(packet, &States([1; 12]))
+    LieWriter::new().lied(packet, &States([1; 12]))
 }
 
 #[test]

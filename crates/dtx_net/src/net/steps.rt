@@ -3,7 +3,7 @@ ghost use Rattle.std.specs.Prelude.{◌≡◌, ◌<◌, ◌++◌, ◌∷◌, [],
 ghost use Rattle.dtx_plan.specs.declared.transmitter.Transmitter.{Transmitter};
 ghost use Rattle.dtx_plan.specs.TransmitterTable as spec;
 ghost use Rattle.dtx_plan.specs.Sound.{AreTransmitters};
-ghost use Rattle.dtx_net.specs.Steps.{Step, restart_step, place_of};
+ghost use Rattle.dtx_net.specs.Steps.{Step, restart_step, transmitter_place};
 ghost use Rattle.dtx_net.specs.Standing.{StandsFor, AreNew, IsGiven, ChangesOnly};
 
 use super::Net;
@@ -30,7 +30,7 @@ impl Net {
     pub fn find(&self, address: u16) -> Option<usize>
         ensures within { IfSome result (λ who. who < vec_len self.now.exciters) }
         ensures place { (ts : List Transmitter) (steps : List Step) → StandsFor ts self.now steps
-            → result ≡ place_of address ts }
+            → result ≡ transmitter_place address ts }
     {
         for place in 0..self.addresses.len() {
             if self.addresses[place] == address {

@@ -7,7 +7,8 @@ ghost use Rattle.dtx_laws.specs.Codeword.{distance};
 ghost use Rattle.dtx_laws.specs.Interleaving.{interleaved, IsInterleavedBehind};
 ghost use Rattle.dtx_laws.specs.Whitening.{whitened};
 ghost use Rattle.dtx_laws.specs.Words.{correction};
-ghost use Rattle.dtx_outer.specs.Inner.{Kept, StandsFor, waiting, place_of, word_at, IsComplete, IsGood, IsBad};
+ghost use Rattle.dtx_outer.specs.Inner.{Kept, StandsFor, waiting, codeword_byte_place, word_at, IsComplete, IsGood};
+ghost use Rattle.dtx_outer.specs.Inner.{IsBad};
 
 /// `waiting n b m` is the least number of blocks of `n` bytes that cover the delay of `b * m * (b - 1)` bytes. For the
 /// air it is 52.
@@ -28,7 +29,7 @@ pub fn either()
 pub fn the_word()
     ensures long { (n b m : ℕ) (y : List ℕ) (k : ℕ) → length (word_at n b m y k) ≡ n }
     ensures at { (n b m : ℕ) (y : List ℕ) (k j : ℕ) → j < n
-        → slice_index (word_at n b m y k) j ≡ slice_index y (place_of b m (n * k + j)) }
+        → slice_index (word_at n b m y k) j ≡ slice_index y (codeword_byte_place b m (n * k + j)) }
 {}
 
 /// A word whose bytes have all come stays as it is when more bytes come: a block of any content can bring its call. And

@@ -1,10 +1,10 @@
 //! Worked runs: streams of zeros, whose data symbols are all -7, and noise, which no codeword is near.
 
 use super::*;
-use dtx_frame::{LAST, field_sync};
+use dtx_frame::field_sync;
 use dtx_laws::Whitener;
-use dtx_packets::PACKET;
-use dtx_whiten::{Atsc, PACKET_DATA};
+use dtx_sizes::{PACKET, PACKET_DATA, PRECODE, SEGMENT};
+use dtx_whiten::Atsc;
 use std::test::Fail;
 
 /// What the packets of some calls come to: how many there are, how many bytes were put right, how many were flagged,
@@ -42,7 +42,7 @@ impl Totals {
 }
 
 /// A field sync behind these symbols.
-fn sync(last: &[i8; LAST]) -> [i8; SEGMENT] {
+fn sync(last: &[i8; PRECODE]) -> [i8; SEGMENT] {
     let mut out = [0; SEGMENT];
     field_sync(false, last, &mut out);
     out
@@ -79,7 +79,7 @@ fn noise(n: u32) -> [i8; SEGMENT] {
 fn of_zeros(receiver: &mut Receiver, count: u32) -> (Totals, Totals) {
     let mut batch = Batch::new();
     let mut totals = Totals::none();
-    receiver.take(&sync(&[-7; LAST]), &mut batch);
+    receiver.take(&sync(&[-7; PRECODE]), &mut batch);
     for _ in 0..count {
         receiver.take(&zeros(), &mut batch);
         totals.add(&batch);
@@ -116,7 +116,7 @@ fn the_packets_of_zeros_are_the_randomizers_bytes(rt: HostRuntime) -> Result<(),
     let atsc = Atsc::new(rt.alloc())?;
     let mut receiver = Receiver::new(rt.alloc())?;
     let mut batch = Batch::new();
-    receiver.take(&sync(&[-7; LAST]), &mut batch);
+    receiver.take(&sync(&[-7; PRECODE]), &mut batch);
     for _ in 0..56 {
         receiver.take(&zeros(), &mut batch);
     }
@@ -139,7 +139,7 @@ fn two_lost_segments_are_put_right(rt: HostRuntime) -> Result<(), Fail> {
     let mut totals = Totals::none();
     for n in 0..626 {
         let segment = match n {
-            0 | 313 => sync(&[-7; LAST]),
+            0 | 313 => sync(&[-7; PRECODE]),
             201 | 202 => [127; SEGMENT],
             _ => zeros(),
         };
@@ -177,7 +177,7 @@ fn noise_gives_flagged_packets_with_the_bytes_as_gathered(rt: HostRuntime) -> Re
         receiver.take(&sync(&last), &mut batch);
         for n in 0..count {
             if n == 312 {
-                let tracking = receiver.take(&sync(&[7; LAST]), &mut batch);
+                let tracking = receiver.take(&sync(&[7; PRECODE]), &mut batch);
                 assert_eq!(rt; tracking, Tracking::Sync);
             }
             receiver.take(&noise(n), &mut batch);
@@ -203,7 +203,7 @@ fn a_run_ends_before_a_segment_that_should_be_a_field_sync(rt: HostRuntime) -> R
     let mut totals = Totals::none();
     assert_eq!(rt; receiver.take(&noise(0), &mut batch), Tracking::Searching);
     assert_eq!(rt;
-        receiver.take(&sync(&[-7; LAST]), &mut batch),
+        receiver.take(&sync(&[-7; PRECODE]), &mut batch),
         Tracking::Began
     );
     for _ in 0..312 {
@@ -215,7 +215,7 @@ fn a_run_ends_before_a_segment_that_should_be_a_field_sync(rt: HostRuntime) -> R
     assert_eq!(rt; batch.packets.len(), 1);
     assert_eq!(rt; receiver.take(&zeros(), &mut batch), Tracking::Searching);
     assert_eq!(rt;
-        receiver.take(&sync(&[-7; LAST]), &mut batch),
+        receiver.take(&sync(&[-7; PRECODE]), &mut batch),
         Tracking::Began
     );
     receiver.finish(&mut batch);
@@ -228,11 +228,11 @@ fn a_field_sync_within_a_field_is_data(rt: HostRuntime) -> Result<(), Fail> {
     let mut receiver = Receiver::new(rt.alloc())?;
     let mut batch = Batch::new();
     assert_eq!(rt;
-        receiver.take(&sync(&[-7; LAST]), &mut batch),
+        receiver.take(&sync(&[-7; PRECODE]), &mut batch),
         Tracking::Began
     );
     assert_eq!(rt;
-        receiver.take(&sync(&[-7; LAST]), &mut batch),
+        receiver.take(&sync(&[-7; PRECODE]), &mut batch),
         Tracking::Data
     );
     Ok(())

@@ -6,11 +6,12 @@ use super::tests::answered;
 use super::*;
 use arrayvec::ArrayVec;
 use dtx_clock::stamp;
-use dtx_coder::{Air, Coder, GROUP_PACKETS};
+use dtx_coder::{Air, Coder};
 use dtx_ops::{Entry, Ops};
 use dtx_outside::{Call, MemoryShelf, MemorySink};
-use dtx_packets::{PACKET, Packet};
+use dtx_packets::Packet;
 use dtx_rs::Rs;
+use dtx_sizes::{GROUP_PACKETS, PACKET};
 use dtx_trellis::States;
 use std::test::Fail;
 
@@ -100,13 +101,12 @@ fn excited(
 fn logs(
     rt: &HostRuntime,
     bytes: &[u8],
-    address: &str,
-    delay: &str,
+    transmitter: (&str, &str),
     line: &str,
     log: &str,
 ) -> Result<bool, Fail> {
     let mut out = MemorySink::new(rt.alloc());
-    let shelf = excited(rt, bytes, address, delay, &mut out)?;
+    let shelf = excited(rt, bytes, transmitter.0, transmitter.1, &mut out)?;
     Ok(out.bytes() == line.as_bytes() && shelf.get("l") == Some(log.as_bytes()))
 }
 
@@ -119,7 +119,7 @@ preset 626 1 100 5562013 640\npreset 939 1 412 5803985 612\n";
 #[test]
 fn an_exciter_sends_the_end_of_the_feeds_own_symbols(rt: HostRuntime) -> Result<(), Fail> {
     let bytes = feed(rt.alloc(), 1300, &ORDERS)?;
-    assert!(rt; logs(&rt, &bytes, "7", "1000", LINE, LOG)?);
+    assert!(rt; logs(&rt, &bytes, ("7", "1000"), LINE, LOG)?);
     let mut out = MemorySink::new(rt.alloc());
     let mut shelf = excited(&rt, &bytes, "7", "1000", &mut out)?;
     let status = answered(&rt, &["code", "f", "c"], &mut shelf, &mut out)?;
@@ -138,12 +138,12 @@ fn orders_count_from_52_packets_on_and_no_sync_begins_what_is_sent(
     let line = "packets 60 segments 8 presets 1 mutes 0 loose 0\n";
     let log = "preset 0 0 52 5040962 1372\n";
     let bytes = feed(rt.alloc(), 60, &[48, 52])?;
-    assert!(rt; logs(&rt, &bytes, "7", "1000", line, log)?);
+    assert!(rt; logs(&rt, &bytes, ("7", "1000"), line, log)?);
 
     let line = "packets 320 segments 8 presets 1 mutes 0 loose 0\n";
     let log = "preset 0 0 312 5242735 85\n";
     let bytes = feed(rt.alloc(), 320, &[312])?;
-    assert!(rt; logs(&rt, &bytes, "7", "1000", line, log)?);
+    assert!(rt; logs(&rt, &bytes, ("7", "1000"), line, log)?);
     Ok(())
 }
 
@@ -156,7 +156,7 @@ fn a_mark_out_of_step_is_a_mute_and_loose_bytes_are_counted(rt: HostRuntime) -> 
     let line = "packets 878 segments 678 presets 3 mutes 1 loose 187\n";
     let log =
         "preset 0 0 100 5078070 640\nmute 100 cadence\npreset 100 1 100 5562013 640\npreset 413 1 412 5803985 612\n";
-    assert!(rt; logs(&rt, &bytes, "7", "1000", line, log)?);
+    assert!(rt; logs(&rt, &bytes, ("7", "1000"), line, log)?);
     Ok(())
 }
 
@@ -166,9 +166,9 @@ fn late_and_unlisted_transmitters_log_a_mute_at_each_order(rt: HostRuntime) -> R
     let silent = "packets 1300 segments 0 presets 0 mutes 4 loose 0\n";
     let late = "mute 0 late\nmute 0 late\nmute 0 late\nmute 0 late\n";
     let unlisted = "mute 0 unlisted\nmute 0 unlisted\nmute 0 unlisted\nmute 0 unlisted\n";
-    assert!(rt; logs(&rt, &bytes, "7", "4999990", LINE, LOG)?);
-    assert!(rt; logs(&rt, &bytes, "7", "4999991", silent, late)?);
-    assert!(rt; logs(&rt, &bytes, "8", "1000", silent, unlisted)?);
+    assert!(rt; logs(&rt, &bytes, ("7", "4999990"), LINE, LOG)?);
+    assert!(rt; logs(&rt, &bytes, ("7", "4999991"), silent, late)?);
+    assert!(rt; logs(&rt, &bytes, ("8", "1000"), silent, unlisted)?);
     Ok(())
 }
 

@@ -26,23 +26,21 @@ fn held(rt: &HostRuntime) -> Result<MemoryShelf, Fail> {
     Ok(shelf)
 }
 
-/// Whether these words have this answer over them where that call fails, and so many of the files are there then.
+/// Whether these words have this answer over them where that call fails, and so many of these files are left.
 fn ends(
     rt: &HostRuntime,
     texts: &[&str],
-    call: Call,
-    nth: u64,
+    failing: (Call, u64),
     status: Status,
-    names: &[&str],
-    there: usize,
+    left: (&[&str], usize),
 ) -> Result<bool, Fail>
-    requires { nth < 9 }
+    requires { failing.1 < 9 }
 {
     let mut shelf = held(rt)?;
     let mut out = MemorySink::new(rt.alloc());
-    shelf.fail(call, nth)?;
+    shelf.fail(failing.0, failing.1)?;
     let ended = answered(rt, texts, &mut shelf, &mut out)?;
-    Ok(ended == status && count(&shelf, names) == there)
+    Ok(ended == status && count(&shelf, left.0) == left.1)
 }
 
 /// How many of the files are there.
@@ -57,10 +55,10 @@ fn count(shelf: &MemoryShelf, names: &[&str]) -> usize {
 fn a_failing_file_ends_a_network_with_its_status(rt: HostRuntime) -> Result<(), Fail> {
     let net = ["net", "p"];
     let (reads, writes) = (Status::ReadFault, Status::WriteFault);
-    assert!(rt; ends(&rt, &net, Call::Read, 0, reads, &FILES, 0)?);
-    assert!(rt; ends(&rt, &net, Call::Append, 0, writes, &FILES, 1)?);
-    assert!(rt; ends(&rt, &net, Call::Begin, 2, writes, &FILES, 2)?);
-    assert!(rt; ends(&rt, &net, Call::Append, 1, writes, &FILES, 5)?);
+    assert!(rt; ends(&rt, &net, (Call::Read, 0), reads, (&FILES, 0))?);
+    assert!(rt; ends(&rt, &net, (Call::Append, 0), writes, (&FILES, 1))?);
+    assert!(rt; ends(&rt, &net, (Call::Begin, 2), writes, (&FILES, 2))?);
+    assert!(rt; ends(&rt, &net, (Call::Append, 1), writes, (&FILES, 5))?);
     Ok(())
 }
 
@@ -68,9 +66,9 @@ fn a_failing_file_ends_a_network_with_its_status(rt: HostRuntime) -> Result<(), 
 fn a_failing_file_ends_damaging_with_its_status(rt: HostRuntime) -> Result<(), Fail> {
     let hurt = ["hurt", "s.ts", "c", "o"];
     let (reads, writes) = (Status::ReadFault, Status::WriteFault);
-    assert!(rt; ends(&rt, &hurt, Call::Read, 0, reads, &["o"], 0)?);
-    assert!(rt; ends(&rt, &hurt, Call::Begin, 0, writes, &["o"], 0)?);
-    assert!(rt; ends(&rt, &hurt, Call::Append, 0, writes, &["o"], 1)?);
+    assert!(rt; ends(&rt, &hurt, (Call::Read, 0), reads, (&["o"], 0))?);
+    assert!(rt; ends(&rt, &hurt, (Call::Begin, 0), writes, (&["o"], 0))?);
+    assert!(rt; ends(&rt, &hurt, (Call::Append, 0), writes, (&["o"], 1))?);
     Ok(())
 }
 

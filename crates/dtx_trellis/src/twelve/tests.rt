@@ -3,6 +3,7 @@
 ghost use Rattle.std.specs.Prelude.{◌≡◌, ◌%◌, ◌<◌};
 
 use super::*;
+use dtx_sizes::{CODERS, GROUP_BYTES, GROUP_LEVELS};
 
 /// The coders, of which one is in a state of its own, and what they give for one byte that isn't 0.
 fn coded(

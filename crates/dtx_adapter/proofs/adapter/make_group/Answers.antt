@@ -2,8 +2,8 @@ use Rattle.std.proofs.Common.{◌≡◌, ℕ, suc, ◌+◌, ◌%◌, ◌<◌, �
 use Rattle.std.proofs.Common.{length, take, drop, get_or, sym, ap, subst, ◌∙◌, arith, append_assoc}
 use Rattle.std.proofs.lemmas.List.{take_all, length-map, length-set, length-take-le, drop-set-lt}
 use Rattle.dtx_packets.specs.declared.packet.Packet as packet
-use Rattle.dtx_adapter.specs.Feed.{is_placeholder, placeholders, made, feed}
-use Rattle.dtx_adapter.specs.Filling.{Filling, Fills, said}
+use Rattle.dtx_adapter.specs.Feed.{is_placeholder, placeholders, as_feed_packet, feed}
+use Rattle.dtx_adapter.specs.Filling.{Filling, Fills, filled_ops}
 use Rattle.dtx_adapter.specs.FeedsLaws.{placeholders-append, placeholders-one}
 use Rattle.dtx_adapter.specs.MakingLaws.{fills_none, made_none, fills_next, made_next, raw, still_given, given_next}
 use Rattle.dtx_adapter.specs.MakingLaws.{made_more}
@@ -82,7 +82,8 @@ loop-i-preserved c =
           ∙ length-take-le i old (omega arith) in
           made_more now i c.make.new.packet (omega arith)
           ∙ ap (λ q. raw (take i now) ++ q ∷ []) (c.make.ensures.made
-          ∙ ap (λ (q : packet.Packet). made (said filler (c.args.first + i)) filler.counter (c.args.first + i) q.0)
+          ∙ ap (λ (q : packet.Packet). as_feed_packet (filled_ops filler (c.args.first + i)) filler.counter
+          (c.args.first + i) q.0)
           still.0)
           ∙ made_next plan filler stream (raw (take i old)) (raw (take i now)) p (c.args.first + i)
           (before.fills plan stream fills)

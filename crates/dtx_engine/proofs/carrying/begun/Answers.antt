@@ -10,6 +10,6 @@ returns-in_err-begin-clause-carried g c = λ apart held file told there.
     let names = g.W.Outlet.names c.args.outlet.now in
     let p = err_from_is_err_and c.from_residual.result c.from_residual.ensures.1 in
     let part = c.in_err-begin.ensures.begun _ told in
-    unbegun c.args.place.shape (g.E.Engine.making c.args.engine.now) names held file
+    unbegun c.args.place.shape (g.E.Engine.recipe c.args.engine.now) names held file
     (g.S.Shelf.files c.begin.new.shelf) c.in_err-begin.field-0.0 (outcome_of c.from_residual.result)
     (ap outcome_of (p.1 ∙ ap Err p.2)) part.0 part.1

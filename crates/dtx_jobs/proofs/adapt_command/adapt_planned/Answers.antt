@@ -1,6 +1,6 @@
 use Rattle.std.proofs.Common.{[], ◌∷◌, false, refl, arith}
 use Rattle.std.specs.FinMap.{get}
-use Rattle.dtx_engine.specs.Making.{meaning}
+use Rattle.dtx_engine.specs.Recipe.{meaning}
 use Rattle.dtx_meaning.specs.Laws.{of_inputs}
 use Rattle.dtx_plan.specs.Plan.{plan_of}
 use Rattle.dtx_jobs.specs.Adapt.{feeding}

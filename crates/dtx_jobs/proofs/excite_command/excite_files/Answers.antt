@@ -1,7 +1,7 @@
 use Rattle.std.proofs.Common.{List, ℕ, [], ◌∷◌, sym, ap, refl, arith}
 use Rattle.std.specs.Prelude.{is_some}
 use Rattle.std.specs.FinMap.{get}
-use Rattle.dtx_engine.specs.Making.{meaning}
+use Rattle.dtx_engine.specs.Recipe.{meaning}
 use Rattle.dtx_meaning.specs.Laws.{carried_told, of_inputs, refused_told}
 use Rattle.dtx_meaning.specs.declared.status.Status.TheVariants.{Same}
 use Rattle.dtx_outside.specs.Shelf.{Files}

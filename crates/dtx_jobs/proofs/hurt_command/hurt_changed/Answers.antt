@@ -1,6 +1,6 @@
 use Rattle.std.proofs.Common.{[], ◌∷◌, false, refl, arith}
 use Rattle.std.specs.FinMap.{get}
-use Rattle.dtx_engine.specs.Making.{meaning}
+use Rattle.dtx_engine.specs.Recipe.{meaning}
 use Rattle.dtx_meaning.specs.Laws.{of_inputs}
 use Rattle.dtx_plan.specs.Plan.{changes_of}
 use Rattle.dtx_jobs.specs.Hurt.{hurting}
@@ -14,7 +14,7 @@ returns-in-Ok-clause-carried g c =
     read_told changes_of 1 c.args.changes.now c.in-Ok.damage
     (λ held damage. meaning single_bytes (hurting damage) 0 (c.args.output.now ∷ []) (get held c.args.input.now))
     (g.S.Shelf.files c.args.shelf.now) _ _ c.carry_to_one.result c.changes_in.ensures.kept c.in-Ok.ensures.told
-    (rw (← c.new-laying.ensures.making) c.carry_to_one.ensures.carried)
+    (rw (← c.new-laying.ensures.recipe) c.carry_to_one.ensures.carried)
 
 pub returns-in-Err-clause-carried : goal.returns-in-Err-clause-carried
 returns-in-Err-clause-carried g c =

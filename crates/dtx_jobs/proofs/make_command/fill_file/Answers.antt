@@ -1,4 +1,4 @@
-use Rattle.dtx_jobs.proofs.Making.{made_unwritten}
+use Rattle.dtx_jobs.proofs.Recipe.{made_unwritten}
 use Rattle.dtx_jobs.proofs.make_command.fill_file.Goals as goal
 
 pub returns-in-Err-clause-carried : goal.returns-in-Err-clause-carried

@@ -2,7 +2,7 @@ use Rattle.std.proofs.Common.{arith}
 use Rattle.std.proofs.lemmas.Grind.{common_steps}
 use Rattle.std.proofs.lemmas.Result.{err_from_is_err_and}
 use Rattle.dtx_make.specs.Made.{made_stream}
-use Rattle.dtx_jobs.proofs.Making.{made_none, made_on, made_part}
+use Rattle.dtx_jobs.proofs.Recipe.{made_none, made_on, made_part}
 use Rattle.dtx_jobs.proofs.make_command.write_made.Goals as goal
 
 pub loop-index-init : goal.loop-index-init

@@ -1,4 +1,4 @@
-use Rattle.dtx_jobs.specs.FirstOfLaws.{FailBefore}
+use Rattle.dtx_lists.proofs.FirstOf.{FailBefore}
 use Rattle.dtx_jobs.specs.PastEnd.{ends_past}
 use Rattle.dtx_jobs.proofs.past_end.first_past.Given as goal
 

@@ -2,16 +2,18 @@ use Rattle.std.proofs.Common.{sym, subst}
 use Rattle.dtx_receiver.specs.IntervalsLaws.{no_runs}
 use Rattle.dtx_receiver.specs.Intervals.{NoneLooks}
 use Rattle.dtx_jobs.specs.ReceivedLaws.{no_sync_answered, nothing_received}
-use Rattle.dtx_jobs.specs.SymbolFile.{segments_of}
+use Rattle.dtx_jobs.specs.SymbolFile.{file_segments}
 use Rattle.dtx_jobs.specs.SymbolFileLaws.{length-segments_of}
 use Rattle.dtx_jobs.proofs.symbol_laws.nothing_without_a_sync.Goals as goal
 
 pub returns : goal.returns
 returns c = record {
   answer = λ file loose none.
-      no_sync_answered (segments_of file) loose
-      ((no_runs (segments_of file)).1 (subst (NoneLooks (segments_of file) 0) (sym (length-segments_of file)) none));
+      no_sync_answered (file_segments file) loose
+      ((no_runs (file_segments file)).1 (subst (NoneLooks (file_segments file) 0) (sym
+      (length-segments_of file)) none));
   packets = λ file none.
       nothing_received file
-      ((no_runs (segments_of file)).1 (subst (NoneLooks (segments_of file) 0) (sym (length-segments_of file)) none));
+      ((no_runs (file_segments file)).1 (subst (NoneLooks (file_segments file) 0) (sym
+      (length-segments_of file)) none));
 }

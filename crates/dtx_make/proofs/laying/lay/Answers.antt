@@ -1,6 +1,6 @@
 use Rattle.std.proofs.Common.{◌≡◌, ◌+◌, ◌∷◌, [], sym, ◌∙◌, ap, take, length, get_or, arith}
 use Rattle.std.proofs.lemmas.Option.{get_or_from_slice_get}
-use Rattle.dtx_make.specs.Hurt.{laid}
+use Rattle.dtx_make.specs.Hurt.{damaged_bytes}
 use Rattle.dtx_make.specs.EntriesLaws.{entry_at_before, entry_at_behind}
 use Rattle.dtx_make.specs.LaidBytesLaws.{laid_none, laid_same, laid_more}
 use Rattle.dtx_make.proofs.laying.lay.Goals as goal
@@ -24,8 +24,8 @@ loop-i-preserved c =
       within = omega arith;
       bytes =
           c.lay_entry.ensures
-          ∙ ap (laid (entry ∷ []) c.args.place) c.loop-i.invariant.bytes
-          ∙ ap (λ e. laid (e ∷ []) c.args.place (laid
+          ∙ ap (damaged_bytes (entry ∷ []) c.args.place) c.loop-i.invariant.bytes
+          ∙ ap (λ e. damaged_bytes (e ∷ []) c.args.place (damaged_bytes
           (take c.loop-i.i c.args.damage.now) c.args.place c.args.bytes.now)) (sym is)
           ∙ laid_more c.args.damage.now entry c.loop-i.i c.args.place c.args.bytes.now c.requires.in_order
           (omega arith);

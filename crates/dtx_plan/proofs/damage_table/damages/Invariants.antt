@@ -2,14 +2,14 @@ use Rattle.std.proofs.Common.{◌≡◌, ◌≤◌, ◌+◌, drop, length, []}
 use Rattle.std.specs.List.{All, AllAdjacentBelow}
 use Rattle.toml.specs.View.{items_view}
 use Rattle.dtx_plan.specs.Rows.{entries}
-use Rattle.dtx_plan.specs.DamageTable.{damage, end_of}
+use Rattle.dtx_plan.specs.DamageTable.{damage, last_end}
 use Rattle.dtx_plan.specs.Sound.{IsDamage}
 use Rattle.dtx_plan.proofs.damage_table.damages.Given as goal
 
 abbrev pub invariant-loop-value : goal.invariant-loop-value
 invariant-loop-value l = record {
   count : length l.all.items ≡ l.value-index;
-  end : end_of l.all.items ≡ l.end;
+  end : last_end l.all.items ≡ l.end;
   same : entries damage l.all.items (items_view (drop l.value-index l.values))
       ≡ entries damage [] (items_view l.values);
   each : All IsDamage l.all.items;

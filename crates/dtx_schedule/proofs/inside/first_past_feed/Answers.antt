@@ -1,7 +1,7 @@
 use Rattle.std.proofs.Common.{sym, ◌∙◌, arith}
 use Rattle.dtx_plan.specs.declared.event.Event.TheVariants.{Restart}
 use Rattle.dtx_schedule.specs.Inside.{first_past_feed, reads_past}
-use Rattle.dtx_schedule.proofs.FirstOf.{position_is, position_none, before_next}
+use Rattle.dtx_lists.proofs.FirstOf.{position_is, position_none, before_next}
 use Rattle.dtx_schedule.proofs.inside.first_past_feed.Goals as goal
 
 pub loop-i-init : goal.loop-i-init

@@ -4,5 +4,5 @@ use Rattle.dtx_slice.proofs.laws.group_after_group.Goals as goal
 pub returns-clause-bytes : goal.returns-clause-bytes
 returns-clause-bytes c = bytes_append
 
-pub returns-clause-formers : goal.returns-clause-formers
-returns-clause-formers c = formers_append
+pub returns-clause-precoder_bits : goal.returns-clause-precoder_bits
+returns-clause-precoder_bits c = formers_append

@@ -4,5 +4,5 @@ use Rattle.dtx_slice.proofs.laws.inverts.Goals as goal
 pub returns-clause-bytes : goal.returns-clause-bytes
 returns-clause-bytes c = bytes_come_back
 
-pub returns-clause-formers : goal.returns-clause-formers
-returns-clause-formers c = λ s u states bytes h. formers_go_on s states bytes
+pub returns-clause-precoder_bits : goal.returns-clause-precoder_bits
+returns-clause-precoder_bits c = λ s u states bytes h. formers_go_on s states bytes

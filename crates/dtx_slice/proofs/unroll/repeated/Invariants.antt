@@ -3,6 +3,6 @@ use Rattle.dtx_slice.proofs.unroll.repeated.Given as goal
 
 abbrev pub invariant-loop-e : goal.invariant-loop-e
 invariant-loop-e l = record {
-  long : length l.formers ≡ 12;
-  written : (k : ℕ) → k < l.e → get_or l.formers k 0 ≡ get_or l.last ((k + 4) % 12) 0 / 4;
+  long : length l.precoder_bits ≡ 12;
+  written : (k : ℕ) → k < l.e → get_or l.precoder_bits k 0 ≡ get_or l.last ((k + 4) % 12) 0 / 4;
 }

@@ -5,5 +5,5 @@ use Rattle.dtx_slice.proofs.walk.walk.Given as goal
 abbrev pub invariant-loop-byte : goal.invariant-loop-byte
 invariant-loop-byte l = record {
   long : length l.bytes ≡ 828;
-  bytes : (j : ℕ) → j < 12 * l.byte → get_or l.bytes j 0 ≡ byte_back l.first l.formers l.levels j;
+  bytes : (j : ℕ) → j < 12 * l.byte → get_or l.bytes j 0 ≡ byte_back l.first l.precoder_bits l.levels j;
 }

@@ -1,7 +1,7 @@
 use Rattle.std.proofs.Common.{◌/◌, ◌%◌, ap, ◌∙◌, arith}
 use Rattle.dtx_cadence.specs.Mark.{sync_at, marked}
 use Rattle.dtx_ops.specs.Spelling.{spelling}
-use Rattle.dtx_adapter.specs.Filling.{Filling, said}
+use Rattle.dtx_adapter.specs.Filling.{Filling, filled_ops}
 use Rattle.dtx_adapter.proofs.filler.Filler.fill.Goals as goal
 
 pub invariant_of-self : goal.invariant_of-self
@@ -13,7 +13,7 @@ invariant_of-self c = record {
 }
 
 pub returns-clause-filled : goal.returns-clause-filled
-unfolding said spelling
+unfolding filled_ops spelling
 returns-clause-filled c =
     let ops = c.self.inside.ops in
     c.mark.ensures
@@ -25,5 +25,5 @@ returns-clause-filled c =
       index = c.args.index % 624;
     }) c.self.inside.counter (sync_at c.args.index))
     c.stamp-self-inside.ensures.stamp
-    ∙ ap (λ (filling : Filling). spelling (said filling c.args.index) filling.counter (sync_at c.args.index))
+    ∙ ap (λ (filling : Filling). spelling (filled_ops filling c.args.index) filling.counter (sync_at c.args.index))
     c.self.view_is

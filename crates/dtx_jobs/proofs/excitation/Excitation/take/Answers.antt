@@ -2,9 +2,9 @@ use Rattle.std.proofs.Common.{◌≡◌, ◌*◌, ◌++◌, ◌∷◌, [], ℕ, 
 use Rattle.std.proofs.Common.{append_assoc}
 use Rattle.std.proofs.lemmas.List.{length-append, length-map, length-take}
 use Rattle.dtx_coder.specs.Stream.{symbols_of}
-use Rattle.dtx_exciter.specs.Emission.{given, emission}
+use Rattle.dtx_exciter.specs.Emission.{last_segments, emission}
 use Rattle.dtx_exciter.specs.Log.{line_of}
-use Rattle.dtx_exciter.specs.Packets.{told}
+use Rattle.dtx_exciter.specs.Packets.{last_answer}
 use Rattle.dtx_files.specs.GivenFewLaws.{given_few}
 use Rattle.dtx_files.specs.LogText.{log_text}
 use Rattle.dtx_files.specs.Symbols.{byte_of_symbol}
@@ -77,13 +77,13 @@ returns-clause-life c = λ ps life.
     let p = c.args.packet.now.0 in
     let taken = c.take-told.ensures a d ps life.exciter in
     let n : ℕ = length (emission a d ps) in
-    let m : ℕ = length (given a d (ps ++ p ∷ [])) in
-    let told = c.take-told.result in
+    let m : ℕ = length (last_segments a d (ps ++ p ∷ [])) in
+    let last_answer = c.take-told.result in
     record {
       exciter = taken.stands;
       tally = c.add.ensures n m
-          ∙ ap (λ (t : LifeTally). tally_with t c.take-told.new.air.segments (line_of n m told)) life.tally
-          ∙ ap (λ k. tally_with (life_tally a d ps) k (line_of n m told)) taken.air.counted
+          ∙ ap (λ (t : LifeTally). tally_with t c.take-told.new.air.segments (line_of n m last_answer)) life.tally
+          ∙ ap (λ k. tally_with (life_tally a d ps) k (line_of n m last_answer)) taken.air.counted
           ∙ ap (λ t. tally_with (life_tally a d ps) m (line_of n m t)) taken.answer
           ∙ tally_push a d ps p;
     }
@@ -94,7 +94,7 @@ returns-clause-sent c = λ ps bytes life is.
     let d = c.args.self.now.delay in
     let p = c.args.packet.now.0 in
     let taken = c.take-told.ensures a d ps life.exciter in
-    let brought : List ℕ = map byte_of_symbol (symbols_of (given a d (ps ++ p ∷ []))) in
+    let brought : List ℕ = map byte_of_symbol (symbols_of (last_segments a d (ps ++ p ∷ []))) in
     sent_push a d ps p ∙ ap (λ z. z ++ brought) is ∙ append_assoc bytes c.args.self.now.symbols brought
     ∙ ap (λ z. bytes ++ z)
     (ap (λ z. c.args.self.now.symbols ++ z) (ap (map byte_of_symbol) (sym taken.air.begins)) ∙ sym c.push.ensures)
@@ -106,9 +106,9 @@ returns-clause-logged c = λ ps bytes life is.
     let p = c.args.packet.now.0 in
     let taken = c.take-told.ensures a d ps life.exciter in
     let n : ℕ = length (emission a d ps) in
-    let m : ℕ = length (given a d (ps ++ p ∷ [])) in
+    let m : ℕ = length (last_segments a d (ps ++ p ∷ [])) in
     let before = ap (λ (t : LifeTally). t.segments) life.tally in
-    let brought : List ℕ = log_text (line_of n m (told a d (ps ++ p ∷ []))) in
+    let brought : List ℕ = log_text (line_of n m (last_answer a d (ps ++ p ∷ []))) in
     let text : c.as_bytes.result.now ≡ brought =
     c.as_bytes.ensures.value ∙ c.as_str.ensures.value ∙ c.write_line.ensures
     ∙ ap (λ k. log_text (line_of k c.take-told.new.air.segments c.take-told.result)) before

@@ -2,7 +2,7 @@ use Rattle.std.proofs.Common.{◌≡◌, ◌+◌, ◌-◌, ◌*◌, ◌≤◌, �
 use Rattle.std.proofs.Common.{ap, subst, ◌∙◌, arith}
 use Rattle.std.proofs.lemmas.List.{length-append, length-take-le, length-drop, take_all}
 use Rattle.dtx_engine.specs.Made.{only}
-use Rattle.dtx_engine.specs.Making.{IsFed}
+use Rattle.dtx_engine.specs.Recipe.{IsFed}
 use Rattle.dtx_jobs.specs.Adapt.{feeding}
 use Rattle.dtx_jobs.specs.Feed.{HasFed}
 use Rattle.dtx_jobs.proofs.Feeding.{counted_of, fed_none, part_fed}

@@ -1,6 +1,6 @@
 use Rattle.std.proofs.Common.{◌≡◌, ◌+◌, ◌-◌, ◌*◌, ◌/◌, ◌%◌, ◌<◌, ◌≤◌, List, ℕ, length, take, drop}
 use Rattle.dtx_engine.specs.Made.{only}
-use Rattle.dtx_engine.specs.Making.{IsFed}
+use Rattle.dtx_engine.specs.Recipe.{IsFed}
 use Rattle.dtx_jobs.specs.Adapt.{feeding}
 use Rattle.dtx_jobs.specs.Feed.{HasFed, IsCounted}
 use Rattle.dtx_jobs.proofs.feeder.FeederEngine.feed.Given as goal

@@ -1,5 +1,5 @@
 use Rattle.std.proofs.Common.{◌≡◌, ◌+◌, ◌++◌, ◌∷◌, [], subst, sym, ap, ◌∙◌, arith}
-use Rattle.dtx_receiver.specs.Packets.{given}
+use Rattle.dtx_receiver.specs.Packets.{packets_so_far}
 use Rattle.dtx_receiver.specs.Receiver.{StandsFor}
 use Rattle.dtx_receiver.specs.Runs.{begun, tracking}
 use Rattle.dtx_jobs.specs.Tally.{tally_of, tally_with}
@@ -15,18 +15,18 @@ returns-clause-receiving c = λ segments is.
     let told : c.begun.result ≡ begun (tracking segments x) = c.begun.ensures.begun
     ∙ ap begun (c.take-tracking.ensures.answer segments is.receiver) in
     let counted : tally_with (record old { segments = old.segments + 1; runs = old.runs + c.begun.result }) batch
-    ≡ tally_of (segments ++ x ∷ []) (given (segments ++ x ∷ [])) =
+    ≡ tally_of (segments ++ x ∷ []) (packets_so_far (segments ++ x ∷ [])) =
     ap (λ n. tally_with (record old { segments = old.segments + 1; runs = old.runs + n }) batch) told
     ∙ ap (λ (t : Tally). tally_with
     (record t { segments = t.segments + 1; runs = t.runs + begun (tracking segments x) }) batch) is.tally
     ∙ tally_on segments x batch
     (c.take-tracking.ensures.packets segments is.receiver
-    ∙ ap (λ z. given segments ++ z) (sym c.as_slice.ensures.value)) in
+    ∙ ap (λ z. packets_so_far segments ++ z) (sym c.as_slice.ensures.value)) in
     record {
       receiver = subst (λ s. StandsFor c.take-tracking.new.self (segments ++ s ∷ [])) c.to_symbols.ensures
           (c.take-tracking.ensures.stands segments is.receiver);
       tally = subst (λ s. c.add.new.self
-          ≡ tally_of (segments ++ s ∷ []) (given (segments ++ s ∷ []))) c.to_symbols.ensures
+          ≡ tally_of (segments ++ s ∷ []) (packets_so_far (segments ++ s ∷ []))) c.to_symbols.ensures
           (c.add.ensures.counted ∙ counted);
     }
 

@@ -2,7 +2,7 @@ use Rattle.std.proofs.Common.{◌≡◌, ◌*◌, ◌/◌, ◌<◌, ◌++◌, []
 use Rattle.std.proofs.Common.{append_assoc}
 use Rattle.std.proofs.lemmas.List.{append-nil}
 use Rattle.dtx_packets.specs.Chunks.{get_or-first_chunks}
-use Rattle.dtx_receiver.specs.Packets.{given}
+use Rattle.dtx_receiver.specs.Packets.{packets_so_far}
 use Rattle.dtx_jobs.specs.Receive.{bytes_of}
 use Rattle.dtx_jobs.specs.ReceiveLaws.{bytes_of-append}
 use Rattle.dtx_jobs.specs.Reception.{IsReceiving}
@@ -14,8 +14,8 @@ pub loop-i-init : goal.loop-i-init
 loop-i-init c = record {
   receiving = λ before is. subst (IsReceiving c.args.self.now) (sym (append-nil before)) is;
   brought = λ before is.
-      ap (λ s. bytes_of (given s)) (append-nil before) ∙ sym (append-nil (bytes_of (given before)))
-      ∙ ap (λ z. bytes_of (given before) ++ z) (sym c.requires.empty);
+      ap (λ s. bytes_of (packets_so_far s)) (append-nil before) ∙ sym (append-nil (bytes_of (packets_so_far before)))
+      ∙ ap (λ z. bytes_of (packets_so_far before) ++ z) (sym c.requires.empty);
   bounded = c.requires.bounded;
   count = omega arith;
   room = omega (arith, ap length c.requires.empty);
@@ -36,12 +36,12 @@ loop-i-preserved c =
       brought = λ before is.
           let front = before ++ segments_from bytes 0 i in
           let batch = c.take.new.self.batch.packets.items in
-          ap (λ s. bytes_of (given s)) (sym (segment_on before bytes i _ chunk))
+          ap (λ s. bytes_of (packets_so_far s)) (sym (segment_on before bytes i _ chunk))
           ∙ ap bytes_of (c.take.ensures.brought front (c.loop-i.invariant.receiving before is))
-          ∙ bytes_of-append (given front) batch
+          ∙ bytes_of-append (packets_so_far front) batch
           ∙ ap (λ z. z ++ bytes_of batch) (c.loop-i.invariant.brought before is)
-          ∙ append_assoc (bytes_of (given before)) c.loop-i.self.packets (bytes_of batch)
-          ∙ ap (λ z. bytes_of (given before) ++ z) (sym c.take.ensures.packets);
+          ∙ append_assoc (bytes_of (packets_so_far before)) c.loop-i.self.packets (bytes_of batch)
+          ∙ ap (λ z. bytes_of (packets_so_far before) ++ z) (sym c.take.ensures.packets);
       bounded = c.take.ensures.bounded;
       count = omega (arith, c.take.ensures.count, c.loop-i.invariant.count);
       room = omega (arith, c.take.ensures.long, c.loop-i.invariant.room);

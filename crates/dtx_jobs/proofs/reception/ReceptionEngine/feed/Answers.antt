@@ -1,10 +1,10 @@
 use Rattle.std.proofs.Common.{ap, sym, subst, ◌∙◌, arith}
 use Rattle.dtx_engine.specs.Made.{only}
-use Rattle.dtx_receiver.specs.Packets.{given}
+use Rattle.dtx_receiver.specs.Packets.{packets_so_far}
 use Rattle.dtx_jobs.specs.Receive.{bytes_of}
 use Rattle.dtx_jobs.specs.Reception.{IsReceiving}
-use Rattle.dtx_jobs.specs.SymbolFile.{segments_of}
-use Rattle.dtx_jobs.specs.SymbolFileLaws.{segments_of-append, length-segments_of}
+use Rattle.dtx_jobs.specs.SymbolFile.{file_segments}
+use Rattle.dtx_jobs.specs.SymbolFileLaws.{file_segments-append, length-segments_of}
 use Rattle.dtx_jobs.specs.declared.tally.Tally.{Tally}
 use Rattle.dtx_jobs.proofs.reception.ReceptionEngine.feed.Goals as goal
 
@@ -21,14 +21,15 @@ pub returns-clause-fed : goal.returns-clause-fed
 returns-clause-fed c = λ before long stand.
     let bytes = c.args.bytes.now in
     let was = stand.receiving in
-    let all = segments_of-append before bytes (omega (arith, long)) in
+    let all = file_segments-append before bytes (omega (arith, long)) in
     record {
       stand = record {
         receiving = subst (IsReceiving c.take_all.new.self) (sym all)
-            (c.take_all.ensures.receiving (segments_of before) (record { receiver = was.receiver; tally = was.tally }));
+            (c.take_all.ensures.receiving (file_segments before)
+            (record { receiver = was.receiver; tally = was.tally }));
         bounded = c.take_all.ensures.bounded;
       };
-      made = ap (λ s. only (bytes_of (given s))) all
-          ∙ ap only (c.take_all.ensures.brought (segments_of before)
+      made = ap (λ s. only (bytes_of (packets_so_far s))) all
+          ∙ ap only (c.take_all.ensures.brought (file_segments before)
           (record { receiver = was.receiver; tally = was.tally }));
     }

@@ -1,7 +1,7 @@
 use Rattle.std.proofs.Common.{ap, arith}
 use Rattle.dtx_engine.specs.Made.{only}
 use Rattle.dtx_jobs.specs.ReceiveLaws.{receives_last}
-use Rattle.dtx_jobs.specs.SymbolFile.{segments_of}
+use Rattle.dtx_jobs.specs.SymbolFile.{file_segments}
 use Rattle.dtx_jobs.specs.SymbolFileLaws.{length-segments_of}
 use Rattle.dtx_jobs.specs.declared.tally.Tally.{Tally}
 use Rattle.dtx_jobs.proofs.reception.ReceptionEngine.finish.Goals as goal
@@ -20,10 +20,10 @@ pub returns-then-self-eq0-clause-rest : goal.returns-then-self-eq0-clause-rest
 returns-then-self-eq0-clause-rest c = λ given stand.
     let was = stand.receiving in
     ap only (receives_last given c.end.new.self.packets
-    (c.end.ensures.brought (segments_of given) (record { receiver = was.receiver; tally = was.tally })))
+    (c.end.ensures.brought (file_segments given) (record { receiver = was.receiver; tally = was.tally })))
 
 pub returns-else-self-eq0-clause-rest : goal.returns-else-self-eq0-clause-rest
 returns-else-self-eq0-clause-rest c = λ given stand.
     let was = stand.receiving in
     ap only (receives_last given c.end.new.self.packets
-    (c.end.ensures.brought (segments_of given) (record { receiver = was.receiver; tally = was.tally })))
+    (c.end.ensures.brought (file_segments given) (record { receiver = was.receiver; tally = was.tally })))

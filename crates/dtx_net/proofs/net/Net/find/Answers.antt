@@ -2,12 +2,12 @@ use Rattle.std.proofs.Common.{◌≡◌, ◌<◌, ℕ, List, sym, ap, ◌∙◌,
 use Rattle.std.specs.Prelude.{nat_eq, position}
 use Rattle.std.proofs.lemmas.Bool.{eq-eqb}
 use Rattle.std.proofs.lemmas.List.{get_or_default}
-use Rattle.dtx_net.specs.Steps.{place_of}
+use Rattle.dtx_net.specs.Steps.{transmitter_place}
 use Rattle.dtx_net.specs.PlacesLaws.{position_found, position_missed}
 use Rattle.dtx_net.proofs.net.Net.find.Goals as goal
 
 pub returns-then-index-address-clause-place : goal.returns-then-index-address-clause-place
-unfolding place_of
+unfolding transmitter_place
 returns-then-index-address-clause-place c = λ ts steps s.
     let all : List ℕ = c.args.self.now.addresses.items in
     let within : c.loop-place.place < length all = let k = c.args.self.now.addresses.ok.0 in omega (arith, k) in
@@ -18,7 +18,7 @@ returns-then-index-address-clause-place c = λ ts steps s.
     ∙ ap (position (nat_eq c.args.address)) s.addresses
 
 pub returns-clause-place : goal.returns-clause-place
-unfolding place_of
+unfolding transmitter_place
 returns-clause-place c = λ ts steps s.
     let all : List ℕ = c.args.self.now.addresses.items in
     sym (position_missed (nat_eq c.args.address) all

@@ -9,7 +9,7 @@ pub returns-then-self-eq0 : goal.returns-then-self-eq0
 returns-then-self-eq0 c = λ run before d e.
     let kept : Decoding = record {
       levels = c.self.inside.levels;
-      formers = c.self.inside.unroll;
+      precoder_bits = c.self.inside.unroll;
       inner = c.self.inside.inner;
       turn = c.self.inside.turn;
     } in
@@ -21,7 +21,7 @@ pub returns-else-self-eq0 : goal.returns-else-self-eq0
 returns-else-self-eq0 c = λ run before d e.
     let kept : Decoding = record {
       levels = c.self.inside.levels;
-      formers = c.self.inside.unroll;
+      precoder_bits = c.self.inside.unroll;
       inner = c.self.inside.inner;
       turn = c.self.inside.turn;
     } in

@@ -12,7 +12,7 @@ pub returns-then-part-eq-GROUP_SEGMENTS-clause-stands : goal.returns-then-part-e
 returns-then-part-eq-GROUP_SEGMENTS-clause-stands c = λ run d e.
     let kept : Decoding = record {
       levels = c.self.inside.levels;
-      formers = c.self.inside.unroll;
+      precoder_bits = c.self.inside.unroll;
       inner = c.self.inside.inner;
       turn = c.self.inside.turn;
     } in
@@ -28,14 +28,14 @@ returns-then-part-eq-GROUP_SEGMENTS-clause-stands c = λ run d e.
           c.put_levels.ensures.levels;
     } in
     decodes_group c.args.segment.now kept c.group.new.self run c.args.place c.put_levels.new.group w here
-    c.group.ensures.levels c.group.ensures.formers c.group.ensures.turn
+    c.group.ensures.levels c.group.ensures.precoder_bits c.group.ensures.turn
     (c.group.ensures.stands (bytes_in run) here.inner)
 
 pub returns-then-part-eq-GROUP_SEGMENTS-clause-packets : goal.returns-then-part-eq-GROUP_SEGMENTS-clause-packets
 returns-then-part-eq-GROUP_SEGMENTS-clause-packets c = λ run before d e g.
     let kept : Decoding = record {
       levels = c.self.inside.levels;
-      formers = c.self.inside.unroll;
+      precoder_bits = c.self.inside.unroll;
       inner = c.self.inside.inner;
       turn = c.self.inside.turn;
     } in
@@ -57,13 +57,13 @@ pub returns-else-part-eq-GROUP_SEGMENTS-clause-stands : goal.returns-else-part-e
 returns-else-part-eq-GROUP_SEGMENTS-clause-stands c = λ run d e.
     let kept : Decoding = record {
       levels = c.self.inside.levels;
-      formers = c.self.inside.unroll;
+      precoder_bits = c.self.inside.unroll;
       inner = c.self.inside.inner;
       turn = c.self.inside.turn;
     } in
     let new : Decoding = record {
       levels = c.put_levels.new.group;
-      formers = c.self.inside.unroll;
+      precoder_bits = c.self.inside.unroll;
       inner = c.self.inside.inner;
       turn = c.self.inside.turn;
     } in

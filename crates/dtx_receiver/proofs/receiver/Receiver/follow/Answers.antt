@@ -2,7 +2,7 @@ use Rattle.std.proofs.Common.{◌≡◌, ◌≢◌, ℕ, ℤ, ◌+◌, ◌-◌, 
 use Rattle.std.proofs.Common.{length, arith}
 use Rattle.std.proofs.lemmas.List.{append-nil}
 use Rattle.dtx_receiver.specs.Bytes.{bytes_in}
-use Rattle.dtx_receiver.specs.Packets.{early_of, packets_of}
+use Rattle.dtx_receiver.specs.Packets.{early_of, run_packets}
 use Rattle.dtx_receiver.specs.Receiver.{Kept, Decodes, StandsFor}
 use Rattle.dtx_receiver.proofs.Steps.{Carries, step_searching, step_began, step_sync, step_ended, step_data}
 use Rattle.dtx_receiver.proofs.receiver.Receiver.follow.Goals as goal

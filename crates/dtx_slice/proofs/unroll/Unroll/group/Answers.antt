@@ -1,16 +1,20 @@
 use Rattle.std.proofs.Common.{◌≡◌, subst}
-use Rattle.dtx_slice.specs.Unrolled.{bytes_back, formers_after}
+use Rattle.dtx_slice.specs.Unrolled.{bytes_back, precoder_bits_after}
 use Rattle.dtx_slice.proofs.Ends.{bytes_end, formers_end}
 use Rattle.dtx_slice.proofs.unroll.Unroll.group.Goals as goal
 
 pub returns-clause-bytes : goal.returns-clause-bytes
 returns-clause-bytes c =
     subst (λ q. c.walk.new.bytes ≡ bytes_back c.args.first q c.args.levels.now) c.self.view_is
-    (bytes_end c.args.first c.self.inside.formers c.args.levels.now c.walk.new.bytes c.told-levels c.walk.array_long
+    (bytes_end c.args.first c.self.inside.precoder_bits c.args.levels.now c.walk.new.bytes c.told-levels
+    c.walk.array_long
     c.walk.ensures)
 
-pub returns-clause-formers : goal.returns-clause-formers
-returns-clause-formers c =
-    subst (λ q. c.last_formers-behind.result ≡ formers_after c.args.first q c.args.levels.now) c.self.view_is
-    (formers_end c.args.first c.self.inside.formers c.args.levels.now c.last_formers-behind.result c.told-levels
-    c.last_formers-behind.ensures.long (c.last_formers-behind.ensures.formers c.self.inside.formers))
+pub returns-clause-precoder_bits : goal.returns-clause-precoder_bits
+returns-clause-precoder_bits c =
+    subst (λ q. c.last_precoder_bits-behind.result ≡ precoder_bits_after c.args.first q c.args.levels.now)
+    c.self.view_is
+    (formers_end c.args.first c.self.inside.precoder_bits c.args.levels.now c.last_precoder_bits-behind.result
+    c.told-levels
+    c.last_precoder_bits-behind.ensures.long (c.last_precoder_bits-behind.ensures.precoder_bits
+    c.self.inside.precoder_bits))

@@ -1,0 +1,81 @@
+# Outputs that are inputs under other names: nothing is lost.
+
+# overlaps FILE WORD..: the program, given the words, finds that an output is a file that is read, or another output: it
+# ends with a write fault, says why on standard error, and the file stays as it was.
+overlaps() {
+    local file=$1 status
+    shift
+    cp "$file" "$room/before"
+    "${program[@]}" "$@" >"$room/said" 2>"$room/complaint"
+    status=$?
+    [[ $status == 12 ]] || wrong "$*: status $status, not 12"
+    [[ $(cat "$room/said") == 'write fault' ]] || wrong "$*: printed '$(cat -v "$room/said")'"
+    [[ $(cat "$room/complaint") == 'dtx: an output is a file that is read, or another output, under another name' ]] ||
+        wrong "$*: on standard error '$(cat -v "$room/complaint")'"
+    cmp -s "$file" "$room/before" || wrong "$*: $file was changed"
+    [[ $(sums) == "$inputs_before" ]] || wrong "$*: an input was changed"
+}
+
+# named FILE: other names of a file of this folder, each on a line: by `./`, by `..`, whole, and by three links.
+named() {
+    local file=$1
+    rm -f symbolic hard chain
+    ln -s "$file" symbolic
+    ln "$file" hard
+    ln -s symbolic chain
+    printf '%s\n' "./$file" "../folder/$file" "$folder/$file" symbolic hard chain
+}
+
+given 624 0
+start 'an output that is the input under another name'
+cp ../inputs/given.ts in.ts
+"$dtx" code in.ts "$room/given.sym" >/dev/null
+cp "$room/given.sym" in.sym
+printf 'damage = [{ at = 1, put = 2 }]\n' >changes.toml
+while read -r name; do
+    overlaps in.ts adapt "$plan" in.ts "$name"
+    overlaps in.ts adapt "$plan" "$name" in.ts
+    overlaps in.ts code in.ts "$name"
+    overlaps in.ts place in.ts "$name"
+    overlaps in.ts excite in.ts 7 0 "$name" out.log
+    rm -f out.log out.sym
+    overlaps in.ts excite in.ts 7 0 out.sym "$name"
+    rm -f out.log out.sym
+    overlaps in.ts hurt in.ts changes.toml "$name"
+done < <(named in.ts)
+while read -r name; do
+    overlaps in.sym receive in.sym "$name"
+done < <(named in.sym)
+while read -r name; do
+    overlaps changes.toml hurt in.ts changes.toml "$name"
+done < <(named changes.toml)
+cp "$plan" plan.toml
+while read -r name; do
+    overlaps plan.toml adapt plan.toml in.ts "$name"
+done < <(named plan.toml)
+
+start 'two outputs that are one file'
+: >out
+ln -s out other
+overlaps ../inputs/given.ts excite ../inputs/given.ts 7 0 out other
+overlaps ../inputs/given.ts excite ../inputs/given.ts 7 0 out ./out
+
+start 'a link to an input in the place of a file that a network writes'
+for name in net.feed tx-7.sym tx-7.log tx-9.sym tx-9.log net.ts; do
+    rm -f ./*
+    cp ../inputs/given.ts s.ts
+    {
+        network s.ts && send 7 0 624 && send 9 0 624
+        printf '[net.receive]\nfrom = 7\n'
+    } >plan.toml
+    ln -s s.ts "$name"
+    overlaps s.ts net plan.toml
+    ln -sf plan.toml "$name"
+    overlaps plan.toml net plan.toml
+    rm "$name"
+    ln s.ts "$name"
+    overlaps s.ts net plan.toml
+done
+
+start 'a device that is read and written is no file that is lost'
+run 0 'packets 0 segments 0 loose 0' code /dev/null /dev/full

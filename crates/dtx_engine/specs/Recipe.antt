@@ -1,0 +1,108 @@
+-- What is made of an input that is read in units, and what a command means that does so.
+use Rattle.std.specs.Prelude.{◌≡◌, ℕ, ◌*◌, ◌/◌, ◌%◌, ◌<◌, ◌≤◌, ◌^◌, Bool, not, min, nat_lt, if◌then◌else◌, List, []}
+use Rattle.std.specs.Prelude.{◌∷◌, ◌++◌, length, take, drop, Option, Some, None}
+use Rattle.std.specs.FinMap.{get}
+use Rattle.std.specs.List.{find, range_with_len}
+use Rattle.std.specs.Str.{bytes_eq}
+use Rattle.dtx_outside.specs.Shelf.{Files}
+use Rattle.dtx_meaning.specs.Meaning.{Meaning, refused}
+use Rattle.dtx_meaning.specs.Status.{ended}
+use Rattle.dtx_meaning.specs.declared.status.Outcome.{Outcome}
+use Rattle.dtx_meaning.specs.declared.status.Status.TheVariants.{Absent, Packet, Same, TooLong}
+use Rattle.dtx_engine.specs.Made.{Made, joined, outputs_of}
+use Rattle.dtx_engine.specs.declared.engine.Shape.{Shape}
+use Rattle.dtx_engine.specs.declared.piece.Ending.{Ending}
+use Rattle.dtx_engine.specs.declared.piece.Ending.TheVariants.{Whole, Refused}
+
+-- which units are allowed, what is made of the bytes of whole units and what the end adds to it, and how the command
+-- ends where all units were read and so many bytes are loose behind them
+pub record Recipe : Type 0 where
+  pub allows : ℕ → List ℕ → Bool
+  pub made : List ℕ → Made
+  pub rest : List ℕ → Made
+  pub answer : List ℕ → ℕ → Outcome
+
+-- units that can be read
+pub record IsSound (shape : Shape) : Type 0 where
+  pub unit : 0 < shape.unit
+  pub units : 0 < shape.units
+  pub group : 0 < shape.group
+  pub grouped : shape.units % shape.group ≡ 0
+  pub piece : shape.unit * shape.units ≤ 2 ^ 24
+  pub most : shape.unit * shape.limit ≤ 2 ^ 62
+
+-- the bytes were given too, and these were made of them
+pub record IsFed (recipe : Recipe) (given bytes : List ℕ) (stands : List ℕ → Type 0) (gives : Made) : Type 0 where
+  pub stand : stands (given ++ bytes)
+  pub made : recipe.made (given ++ bytes) ≡ joined (recipe.made given) gives
+
+-- some bytes, so many, were given
+abbrev pub AreSomeGiven : ℕ → (List ℕ → Type 0) → Type 0
+AreSomeGiven count stands = (given : List ℕ) × (length given ≡ count) × stands given
+
+-- some whole units were given, not more than an input has at most
+abbrev pub AreUnitsGiven : Shape → (List ℕ → Type 0) → Type 0
+AreUnitsGiven shape stands = (units : ℕ) × (units ≤ shape.limit) × AreSomeGiven (shape.unit * units) stands
+
+-- ---- units of a file
+
+-- how many whole units a file has
+abbrev pub whole_units : Shape → List ℕ → ℕ
+whole_units shape file = length file / shape.unit
+
+-- unit k of a file
+abbrev pub unit_at : Shape → List ℕ → ℕ → List ℕ
+unit_at shape file k = take shape.unit (drop (shape.unit * k) file)
+
+-- the first units of a file
+abbrev pub first_units : Shape → List ℕ → ℕ → List ℕ
+first_units shape file count = take (shape.unit * count) file
+
+-- the first unit that isn't allowed, among as many as an input has at most
+unfoldable pub first_refused : Shape → Recipe → List ℕ → Option ℕ
+first_refused shape recipe file = find (λ k. not (recipe.allows k (unit_at shape file k)))
+    (range_with_len 0 (min (whole_units shape file) shape.limit))
+
+-- ---- the meaning
+
+-- of how many units something is made, and how the input ends
+pub record Course : Type 0 where
+  pub taken : ℕ
+  pub ending : Ending
+
+abbrev pub course_from : Shape → List ℕ → Option ℕ → Course
+course_from shape file (Some k) = record { taken = k / shape.group * shape.group; ending = Refused (Packet k) }
+course_from shape file None =
+    if nat_lt shape.limit (whole_units shape file) then record { taken = shape.limit; ending = Refused TooLong }
+    else record { taken = whole_units shape file; ending = Whole (length file % shape.unit) }
+
+abbrev pub course : Shape → Recipe → List ℕ → Course
+course shape recipe file = course_from shape file (first_refused shape recipe file)
+
+-- the answer, and what is written, where these bytes were given and the input ended so
+abbrev pub answer_at : Recipe → List ℕ → Ending → Outcome
+answer_at recipe given (Whole loose) = recipe.answer given loose
+answer_at recipe given (Refused status) = ended status
+
+abbrev pub made_at : Recipe → List ℕ → Ending → Made
+made_at recipe given (Whole loose) = joined (recipe.made given) (recipe.rest given)
+made_at recipe given (Refused status) = recipe.made given
+
+abbrev pub meaning_at : Recipe → List (List ℕ) → List ℕ → Ending → Meaning
+meaning_at recipe names given ending =
+    record { outcome = answer_at recipe given ending; outputs = outputs_of names (made_at recipe given ending) }
+
+-- over the bytes of the input: the course of the input says of which units something is made
+abbrev pub meaning_of_file : Shape → Recipe → List (List ℕ) → List ℕ → Meaning
+meaning_of_file shape recipe names file =
+    meaning_at recipe names (first_units shape file (course shape recipe file).taken) (course shape recipe file).ending
+
+-- where the input of that number may not be there, into the outputs of these names
+abbrev pub meaning : Shape → Recipe → ℕ → List (List ℕ) → Option (List ℕ) → Meaning
+meaning shape recipe which names None = refused (Absent which)
+meaning shape recipe which names (Some file) = meaning_of_file shape recipe names file
+
+-- what a command `.. IN OUT` means that makes OUT of IN alone
+abbrev pub transformed : Shape → Recipe → List ℕ → List ℕ → Files → Meaning
+transformed shape recipe input output held =
+    if bytes_eq input output then refused Same else meaning shape recipe 0 (output ∷ []) (get held input)

@@ -1,0 +1,213 @@
+-- Every symbol that a transmitter sends, whatever it is given, is the symbol of its byte in the symbol file.
+use Rattle.std.proofs.Common.{◌≡◌, ℕ, zero, suc, ℤ, pos, negsuc, ◌+◌, ◌-◌, ◌*◌, ◌/◌, ◌%◌, ◌<◌, ◌≤◌, ◌==◌, Bool, true}
+use Rattle.std.proofs.Common.{false, cond, Option, Some, None, List, [], ◌∷◌, ◌++◌, length, map, take, drop, get_or}
+use Rattle.std.proofs.Common.{refl, arith}
+use Rattle.std.specs.Prelude.{nat_le, is_ok, slice_index_or}
+use Rattle.std.specs.List.{flat_map, range_with_len, AllByRecursion}
+use Rattle.dtx_frame.specs.Segments.{bit_symbol, segment_sync, symbol_of, data_segment, inverted, mode_bits}
+use Rattle.dtx_frame.specs.Segments.{reserved_bits, sync_symbols, field_sync}
+use Rattle.dtx_frame.specs.Sequences.{pn511, pn63}
+use Rattle.dtx_frame.specs.RuleLaws.{level_at_small}
+use Rattle.dtx_trellis.specs.Groups.{level_at, levels_of}
+use Rattle.dtx_trellis.specs.Pairs.{groups}
+use Rattle.dtx_coder.specs.Along.{levels_since}
+use Rattle.dtx_coder.specs.Coded.{whole_groups}
+use Rattle.dtx_coder.specs.Stream.{segment, four_segments, last_of}
+use Rattle.dtx_exciter.specs.Emission.{segments_since, sent_by, sent_at, sent_before, behind_field_sync, given_under}
+use Rattle.dtx_exciter.specs.Emission.{last_segments}
+use Rattle.dtx_exciter.specs.Emission.{emission}
+use Rattle.dtx_exciter.specs.Order.{Order, in_force}
+use Rattle.dtx_exciter.specs.Packets.{readings, under}
+use Rattle.dtx_exciter.specs.Told.{served}
+use Rattle.dtx_files.specs.Symbols.{byte_of_symbol}
+use Rattle.dtx_jobs.specs.SymbolFile.{symbol_of_byte}
+use Rattle.dtx_net.specs.Lives.{lives_of}
+use Rattle.dtx_net.specs.Sent.{sent_segments}
+use Rattle.dtx_net.specs.Steps.{Step}
+use Rattle.dtx_plan.specs.declared.transmitter.Transmitter.{Transmitter}
+
+-- the symbol comes back from its byte
+abbrev pub IsBack : ℤ → Type 0
+IsBack symbol = symbol_of_byte (byte_of_symbol symbol) ≡ symbol
+
+-- each of the symbols does
+abbrev pub AreBack : List ℤ → Type 0
+AreBack symbols = AllByRecursion IsBack symbols
+
+-- each symbol of each of the segments does
+abbrev pub EachBack : List (List ℤ) → Type 0
+EachBack segments = AllByRecursion AreBack segments
+
+-- ---- what holds of each element of a list
+
+each_append : {X : Type 0} (P : X → Type 0) (xs ys : List X) → AllByRecursion P xs → AllByRecursion P ys
+    → AllByRecursion P (xs ++ ys)
+each_append P [] ys h g = g
+each_append P (x ∷ xs) ys h g = (h.0, each_append P xs ys h.1 g)
+
+each_take : {X : Type 0} (P : X → Type 0) (n : ℕ) (xs : List X) → AllByRecursion P xs → AllByRecursion P (take n xs)
+each_take P zero xs h = tt
+each_take P (suc n) [] h = tt
+each_take P (suc n) (x ∷ xs) h = (h.0, each_take P n xs h.1)
+
+each_drop : {X : Type 0} (P : X → Type 0) (n : ℕ) (xs : List X) → AllByRecursion P xs → AllByRecursion P (drop n xs)
+each_drop P zero xs h = h
+each_drop P (suc n) [] h = tt
+each_drop P (suc n) (x ∷ xs) h = each_drop P n xs h.1
+
+each_map : {X Y : Type 0} (P : X → Type 0) (Q : Y → Type 0) (f : X → Y) (xs : List X) → ((x : X) → P x → Q (f x))
+    → AllByRecursion P xs → AllByRecursion Q (map f xs)
+each_map P Q f [] gives h = tt
+each_map P Q f (x ∷ xs) gives h = (gives x h.0, each_map P Q f xs gives h.1)
+
+each_range : {X : Type 0} (P : X → Type 0) (f : ℕ → X) (a n : ℕ) → ((i : ℕ) → a ≤ i → i < a + n → P (f i))
+    → AllByRecursion P (map f (range_with_len a n))
+each_range P f a zero at = tt
+each_range P f a (suc n) at =
+    (at a (omega arith) (omega arith), each_range P f (a + 1) n (λ i l m. at i (omega (arith, l)) (omega (arith, m))))
+
+each_flat : {X Y : Type 0} (P : Y → Type 0) (f : X → List Y) (xs : List X) → ((x : X) → AllByRecursion P (f x))
+    → AllByRecursion P (flat_map f xs)
+each_flat P f [] each = tt
+each_flat P f (x ∷ xs) each = each_append P (f x) (flat_map f xs) (each x) (each_flat P f xs each)
+
+-- ---- symbols
+
+bit_back : (b : ℕ) → IsBack (bit_symbol b)
+unfolding bit_symbol
+bit_back b = by_test (b == 1)
+  where
+    by_test : (t : Bool) → IsBack (cond t (pos 5) (negsuc 4))
+    by_test true = refl
+    by_test false = refl
+
+bits_back : (bits : List ℕ) → AreBack (map bit_symbol bits)
+bits_back [] = tt
+bits_back (b ∷ bs) = (bit_back b, bits_back bs)
+
+front_back : AreBack segment_sync
+unfolding segment_sync
+front_back = bits_back (1 ∷ 0 ∷ 0 ∷ 1 ∷ [])
+
+level_back : (z : ℕ) → z < 8 → IsBack (symbol_of z)
+unfolding symbol_of
+level_back zero l = refl
+level_back (suc zero) l = refl
+level_back (suc (suc zero)) l = refl
+level_back (suc (suc (suc zero))) l = refl
+level_back (suc (suc (suc (suc zero)))) l = refl
+level_back (suc (suc (suc (suc (suc zero))))) l = refl
+level_back (suc (suc (suc (suc (suc (suc zero)))))) l = refl
+level_back (suc (suc (suc (suc (suc (suc (suc zero))))))) l = refl
+level_back (suc (suc (suc (suc (suc (suc (suc (suc z)))))))) l = absurd (omega arith)
+
+-- ---- segments
+
+levels_small : (s : ℕ) (q bytes : List ℕ) → AllByRecursion (λ z. z < 8) (levels_of s q bytes)
+unfolding levels_of
+levels_small s q bytes =
+    each_range (λ z. z < 8) (level_at s q bytes) 0 (3312 * groups bytes)
+    (λ d l m. level_at_small s d q bytes (omega (arith, m)))
+
+segment_back : (zs : List ℕ) (n : ℕ) → AllByRecursion (λ z. z < 8) zs → AreBack (segment zs n)
+unfolding segment data_segment
+segment_back zs n small =
+    each_append IsBack segment_sync (map symbol_of piece) front_back
+    (each_map (λ z. z < 8) IsBack symbol_of piece level_back
+    (each_take (λ z. z < 8) (828 * n + 828 - 828 * n) (drop (828 * n) zs)
+    (each_drop (λ z. z < 8) (828 * n) zs small)))
+  where
+    piece : List ℕ
+    piece = take (828 * n + 828 - 828 * n) (drop (828 * n) zs)
+
+sync_back : (second : Bool) (last : List ℤ) → AreBack last → AreBack (field_sync second last)
+unfolding field_sync sync_symbols
+sync_back second last back =
+    each_append IsBack (sync_symbols second) last
+    (each_append IsBack segment_sync (map bit_symbol bits) front_back (bits_back bits)) back
+  where
+    bits : List ℕ
+    bits = pn511 ++ pn63 ++ cond second (inverted pn63) pn63 ++ pn63 ++ mode_bits ++ reserved_bits
+
+-- ---- what is sent
+
+since_back : (g : ℕ) (q : List ℕ) (packets : List (List ℕ)) (u : ℕ) → EachBack (segments_since g q packets u)
+unfolding segments_since four_segments levels_since
+since_back g q packets u =
+    each_range AreBack (segment (levels_since g q packets)) (4 * (u - g)) 4
+    (λ n l m. segment_back (levels_since g q packets) n
+    (levels_small (4 * g % 312) q (drop (828 * g) (whole_groups packets))))
+
+by_back : (address delay : ℕ) (packets : List (List ℕ)) (i : ℕ) (order : Option Order)
+    → EachBack (sent_by address delay packets i order)
+by_back address delay packets i None = tt
+by_back address delay packets i (Some order) = by_test (is_ok (served address delay order.ops))
+  where
+    by_test : (t : Bool) → EachBack (cond t (segments_since (order.place / 4) order.ops.states packets (i / 4)) [])
+    by_test true = since_back (order.place / 4) order.ops.states packets (i / 4)
+    by_test false = tt
+
+at_back : (address delay : ℕ) (packets : List (List ℕ)) (i : ℕ) → EachBack (sent_at address delay packets i)
+unfolding sent_at
+at_back address delay packets i = by_back address delay packets i (in_force (readings packets) i)
+
+before_back : (address delay : ℕ) (packets : List (List ℕ)) (i : ℕ) → EachBack (sent_before address delay packets i)
+before_back address delay packets i = by_test (nat_le 4 i)
+  where
+    by_test : (t : Bool) → EachBack (cond t (sent_at address delay packets (i - 4)) [])
+    by_test true = at_back address delay packets (i - 4)
+    by_test false = tt
+
+one_back : (ss : List (List ℤ)) (i : ℕ) → EachBack ss → AreBack (get_or ss i [])
+one_back [] i each = tt
+one_back (s ∷ ss) zero each = each.0
+one_back (s ∷ ss) (suc i) each = one_back ss i each.1
+
+last_back : (b : List ℤ) (bs : List (List ℤ)) → EachBack (b ∷ bs)
+    → AreBack (last_of (slice_index_or (b ∷ bs) (length bs) []))
+unfolding last_of
+last_back b bs each = each_drop IsBack 820 (slice_index_or (b ∷ bs) (length bs) []) (one_back (b ∷ bs) (length bs) each)
+
+with_back : (i : ℕ) (before sent : List (List ℤ)) → EachBack before → EachBack sent
+    → EachBack (behind_field_sync i before sent)
+with_back i before [] h g = tt
+with_back i [] (s ∷ ss) h g = g
+with_back i (b ∷ bs) (s ∷ ss) h g = by_test (i % 312 == 0)
+  where
+    by_test : (t : Bool)
+        → EachBack (cond t (field_sync (nat_le 312 (i % 624)) (last_of (slice_index_or (b ∷ bs) (length bs) [])) ∷ [])
+        [] ++ s ∷ ss)
+    by_test true =
+        (sync_back (nat_le 312 (i % 624)) (last_of (slice_index_or (b ∷ bs) (length bs) [])) (last_back b bs h), g)
+    by_test false = g
+
+under_back : (address delay : ℕ) (found : Option (List (List ℕ))) → EachBack (given_under address delay found)
+under_back address delay None = tt
+under_back address delay (Some packets) = by_test (length packets % 4 == 0)
+  where
+    i : ℕ
+    i = length packets - 4
+
+    by_test : (t : Bool)
+        → EachBack (cond t (behind_field_sync i (sent_before address delay packets i)
+        (sent_at address delay packets i)) [])
+    by_test true =
+        with_back i (sent_before address delay packets i) (sent_at address delay packets i)
+        (before_back address delay packets i) (at_back address delay packets i)
+    by_test false = tt
+
+given_back : (address delay : ℕ) (packets : List (List ℕ)) → EachBack (last_segments address delay packets)
+unfolding last_segments
+given_back address delay packets = under_back address delay (under packets)
+
+emission_back : (address delay : ℕ) (packets : List (List ℕ)) → EachBack (emission address delay packets)
+unfolding emission
+emission_back address delay packets =
+    each_flat AreBack (λ n. last_segments address delay (take (n + 1) packets)) (range_with_len 0 (length packets))
+    (λ n. given_back address delay (take (n + 1) packets))
+
+-- what a transmitter sends
+pub sent_back : (t : Transmitter) (who : ℕ) (steps : List Step) → EachBack (sent_segments t who steps)
+unfolding sent_segments
+sent_back t who steps =
+    each_flat AreBack (emission t.address t.delay) (lives_of who steps) (emission_back t.address t.delay)
