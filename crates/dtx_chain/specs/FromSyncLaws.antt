@@ -1,7 +1,7 @@
 -- The bytes of undamaged segments in a row that begin with one of a stream's field syncs, and their words.
 use Rattle.std.proofs.Common.{◌≡◌, ℕ, ℤ, zero, suc, ◌+◌, ◌-◌, ◌*◌, ◌/◌, ◌%◌, ◌<◌, ◌≤◌, ◌==◌, nat_le, List, []}
-use Rattle.std.proofs.Common.{◌++◌, length, map, take, drop, get_or, refl, sym, ap, ap₂, ◌∙◌, subst, arith}
-use Rattle.std.proofs.lemmas.List.{drop-drop, drop-take, take-append-drop, length-drop, length-take-le}
+use Rattle.std.proofs.Common.{◌∷◌, ◌++◌, length, map, take, drop, get_or, refl, sym, ap, ap₂, ◌∙◌, subst, arith}
+use Rattle.std.proofs.lemmas.List.{drop-drop, drop-take, take-append-drop, length-drop, length-take, length-take-le}
 use Rattle.std.proofs.lemmas.List.{get_or-take, get_or-drop, get_or-append_right}
 use Rattle.std.proofs.lemmas.List.FromFn.{length-map-range_with_len}
 use Rattle.std.proofs.lemmas.Bool.{cond-false, ne_eqb}
@@ -23,6 +23,7 @@ use Rattle.dtx_coder.specs.LevelsLaws.{length-levels}
 use Rattle.dtx_coder.specs.SegmentsLaws.{segment_is}
 use Rattle.dtx_coder.specs.CountsLaws.{length-a53}
 use Rattle.dtx_receiver.specs.Bytes.{data_count, data_at, groups_of, levels_from, levels_in, first_formers, bytes_in}
+use Rattle.dtx_receiver.specs.SegmentsLaws.{levels_parts}
 use Rattle.dtx_lists.proofs.RangeMoved.{flat_map-range_same}
 use Rattle.dtx_chain.specs.Undamaged.{ArePackets}
 use Rattle.dtx_chain.specs.Damage.{codeword_at, IsNear}
@@ -303,3 +304,91 @@ word_there ps q j run p h c = omega (arith, far)
     far =
         ap (λ w. distance w (codeword_at ps (312 * q + j))) (same ∙ word_is ps (312 * q + j) within complete)
         ∙ distance_self (codeword_at ps (312 * q + j))
+
+-- ---- a run of which a front stands there
+
+length-levels_there : (ps : List (List ℕ)) (q : ℕ) (run : List (List ℤ)) → IsThere ps q run
+    → length (levels_in run) ≡ 3312 * groups_of run
+length-levels_there ps q run h =
+    ap length (levels_there ps q run h)
+    ∙ length-take-le (828 * (4 * groups_of run)) (drop (828 * (312 * q)) (levels ps)) (omega (
+      arith,
+      groups_within ps q run h,
+      length-levels ps,
+      length-drop (828 * (312 * q)) (levels ps),
+    ))
+    ∙ groups (groups_of run)
+  where
+    groups : (g : ℕ) → 828 * (4 * g) ≡ 3312 * g
+    groups g = omega arith
+
+pub length-bytes_there : (ps : List (List ℕ)) (q : ℕ) (run : List (List ℤ)) → ArePackets ps → IsThere ps q run
+    → length (bytes_in run) ≡ 828 * groups_of run
+length-bytes_there ps q run p h = (bytes_there ps q run p h).own
+
+groups_front : (run : List (List ℤ)) (m : ℕ) → groups_of (take m run) ≤ groups_of run
+unfolding groups_of data_count
+groups_front run m = by_length (length (take m run)) (length run) (omega (arith, length-take m run))
+  where
+    by_length : (a b : ℕ) → a ≤ b → (a - (a + 312) / 313) / 4 ≤ (b - (b + 312) / 313) / 4
+    by_length a b l = omega (arith, l)
+
+own_levels : (run : List (List ℤ)) (m : ℕ)
+    → levels_from (take m run) 0 (4 * groups_of (take m run)) ≡ levels_from run 0 (4 * groups_of (take m run))
+unfolding levels_from data_at
+own_levels run m =
+    flat_map-range_same (λ d. sliced_data (get_or (take m run) (d + d / 312 + 1) []))
+    (λ d. sliced_data (get_or run (d + d / 312 + 1) [])) 0 (4 * groups_of (take m run))
+    (λ d a l. ap sliced_data (get_or-take m run (d + d / 312 + 1) []
+    (omega (arith, segment_in (take m run) d l, length-take m run))))
+
+-- the levels of the front come first
+levels_front : (run : List (List ℤ)) (m : ℕ) → let g : ℕ = groups_of (take m run) in
+    levels_in run ≡ levels_in (take m run) ++ levels_from run (0 + 4 * g) (4 * (groups_of run - g))
+unfolding levels_in
+levels_front run m =
+    let g : ℕ = groups_of (take m run) in
+    let n : 4 * groups_of run ≡ 4 * g + 4 * (groups_of run - g) = omega (arith, groups_front run m) in
+    ap (levels_from run 0) n ∙ levels_parts run 0 (4 * g) (4 * (groups_of run - g))
+    ∙ ap (λ (x : List ℕ). x ++ levels_from run (0 + 4 * g) (4 * (groups_of run - g))) (sym (own_levels run m))
+
+-- and so do its bytes
+bytes_front : (ps : List (List ℕ)) (q m : ℕ) (run : List (List ℤ)) → IsThere ps q (take m run)
+    → (more : List ℕ) × (bytes_in run ≡ bytes_in (take m run) ++ more)
+unfolding bytes_in first_formers
+bytes_front ps q m run h =
+    let g : ℕ = groups_of (take m run) in
+    let first : get_or (take m run) 0 [] ≡ get_or run 0 [] =
+    get_or-take m run 0 [] (omega (arith, h.some, length-take m run)) in
+    let formers : List ℕ = formers_of (sliced_last (get_or run 0 [])) in
+    let rest : List ℕ = levels_from run (0 + 4 * g) (4 * (groups_of run - g)) in (
+      bytes_back (group_place 0 g) (formers_after 0 formers (levels_in (take m run))) rest,
+      ap (bytes_back 0 formers) (levels_front run m)
+          ∙ bytes_append 0 g formers (levels_in (take m run)) rest (length-levels_there ps q (take m run) h)
+          ∙ ap (λ (x : List ℤ). bytes_back 0 (formers_of (sliced_last x)) (levels_in (take m run))
+          ++ bytes_back (group_place 0 g) (formers_after 0 formers (levels_in (take m run))) rest) (sym first),
+    )
+
+-- whatever comes then, the words of the front are near
+pub front_near : (ps : List (List ℕ)) (q m j : ℕ) (run : List (List ℤ)) → ArePackets ps → IsThere ps q (take m run)
+    → IsComplete 207 52 4 (828 * groups_of (take m run)) j → IsNear ps (312 * q + j) (word_at 207 52 4 (bytes_in run) j)
+front_near ps q m j run p h c =
+    let front = bytes_front ps q m run h in
+    let all : IsComplete 207 52 4 (length (bytes_in (take m run))) j =
+    subst (λ (n : ℕ). IsComplete 207 52 4 n j) (sym (length-bytes_there ps q (take m run) p h)) c in
+    subst (IsNear ps (312 * q + j)) (sym (ap (λ (y : List ℕ). word_at 207 52 4 y j) front.1
+    ∙ word_stays 207 52 4 (bytes_in (take m run)) front.0 j all))
+    (word_there ps q j (take m run) p h c)
+
+no_levels : levels_in [] ≡ []
+unfolding levels_in levels_from groups_of data_count
+no_levels = refl
+
+no_bytes : bytes_in [] ≡ []
+unfolding bytes_in bytes_back level_groups
+no_bytes = ap (bytes_back 0 (first_formers [])) no_levels
+
+-- a run that has a word has a segment
+pub some_segments : (run : List (List ℤ)) (j : ℕ) → IsComplete 207 52 4 (length (bytes_in run)) j → 0 < length run
+some_segments [] j given = let l = given 0 (omega arith) in absurd (omega (arith, l, ap length no_bytes))
+some_segments (x ∷ run) j given = omega arith

@@ -1,22 +1,22 @@
 -- Undamaged segments of a stream are slightly damaged ones.
 use Rattle.std.proofs.Common.{◌≡◌, ◌⊎◌, inl, inr, ℕ, ℤ, pos, zero, suc, ◌+◌, ◌-◌, ◌*◌, ◌/◌, ◌<◌, ◌≤◌, ◌==◌}
-use Rattle.std.proofs.Common.{List, [], ◌∷◌, length, take, drop, get_or, refl, ap, ◌∙◌, arith}
+use Rattle.std.proofs.Common.{◌%◌, true, List, [], ◌∷◌, length, take, drop, get_or, refl, sym, ap, subst, ◌∙◌, arith}
 use Rattle.std.specs.Prelude.{slice_range}
 use Rattle.std.proofs.lemmas.Bool.{cases_lt, cond-true, eq-eqb}
 use Rattle.std.proofs.lemmas.List.{length-take, length-drop, get_or-take, get_or-drop}
 use Rattle.dtx_slice.specs.Slicing.{sliced}
 use Rattle.dtx_frame.specs.Detection.{looks_like}
 use Rattle.dtx_frame.specs.CountsLaws.{sum_is, total_zeros}
-use Rattle.dtx_outer.specs.Inner.{IsComplete}
+use Rattle.dtx_outer.specs.Inner.{IsComplete, word_at}
 use Rattle.dtx_coder.specs.Stream.{a53}
 use Rattle.dtx_coder.specs.CountsLaws.{a53_segment}
-use Rattle.dtx_receiver.specs.Bytes.{data_count, groups_of}
+use Rattle.dtx_receiver.specs.Bytes.{data_count, groups_of, bytes_in}
 use Rattle.dtx_chain.specs.Undamaged.{ArePackets}
 use Rattle.dtx_chain.specs.Damage.{IsNear, damage_at, damaged_symbols, AreReceived, IsSlight, to_sync, from_sync}
 use Rattle.dtx_chain.specs.Damage.{packet_behind}
 use Rattle.dtx_chain.specs.Damage.{word_in}
 use Rattle.dtx_chain.specs.PlacesLaws.{syncs_look}
-use Rattle.dtx_chain.specs.SlightLaws.{sent_within, sent_at, sync_first}
+use Rattle.dtx_chain.specs.SlightLaws.{sent_within, sent_at, sync_first, none_earlier}
 use Rattle.dtx_chain.specs.FromSyncLaws.{IsThere, word_there}
 
 -- ---- what is received
@@ -111,3 +111,32 @@ is_slight ps first sent r p = record {
   before = λ i _ _. omega (arith, none_damaged (get_or sent i []));
   words = λ j c. near_at ps first sent j r p c (cases_lt (to_sync first) (length sent));
 }
+
+-- ---- damage before the first field sync alone
+
+pub slight_before : (ps : List (List ℕ)) (first : ℕ) (sent got : List (List ℤ)) → AreReceived ps first sent got
+    → ArePackets ps → from_sync first got ≡ from_sync first sent
+    → ((i : ℕ) → i < length sent → i < to_sync first → damaged_symbols (get_or sent i []) (get_or got i []) ≤ 31)
+    → IsSlight ps first sent got
+unfolding word_in from_sync
+slight_before ps first sent got r p same few = record {
+  syncs = λ i m z. looks i m z (cases_lt i (to_sync first));
+  before = few;
+  words = λ j c.
+      subst (IsNear ps (packet_behind first + j))
+      (ap (λ (xs : List (List ℤ)). word_at 207 52 4 (bytes_in xs) j) (sym same))
+      (own.words j (subst (λ (xs : List (List ℤ)). IsComplete 207 52 4 (828 * groups_of xs) j) same c));
+}
+  where
+    own : IsSlight ps first sent sent
+    own = is_slight ps first sent (are_received ps first sent r.in_a_row) p
+
+    looks : (i : ℕ) → i < length sent → (first + i) % 313 ≡ 0 → (i < to_sync first) ⊎ (to_sync first ≤ i)
+        → looks_like (get_or got i []) ≡ true
+    looks i m z (inl l) = absurd (none_earlier first i l z)
+    looks i m z (inr l) =
+        let e : to_sync first + (i - to_sync first) ≡ i = omega (arith, l) in
+        ap looks_like (ap (λ n. get_or got n []) (sym e) ∙ sym (get_or-drop (to_sync first) got (i - to_sync first) [])
+        ∙ ap (λ (xs : List (List ℤ)). get_or xs (i - to_sync first) []) same
+        ∙ get_or-drop (to_sync first) sent (i - to_sync first) [] ∙ ap (λ n. get_or sent n []) e)
+        ∙ own.syncs i m z

@@ -66,6 +66,10 @@ unlike_at ps n l z =
     within : n - (n + 312) / 313 < 4 * (length ps / 4)
     within = omega (arith, l, z, length-a53 ps)
 
+pub no_sync : (ps : List (List ℕ)) (n : ℕ) (got : List ℤ) → n < length (a53 ps) → n % 313 ≢ 0
+    → damaged_symbols (get_or (a53 ps) n []) got ≤ 31 → looks_like got ≡ false
+no_sync ps n got l z few = still_unlike (get_or (a53 ps) n []) got (unlike_at ps n l z) few
+
 -- ---- what was sent
 
 pub sent_within : (ps : List (List ℕ)) (first : ℕ) (sent got : List (List ℤ)) → AreReceived ps first sent got

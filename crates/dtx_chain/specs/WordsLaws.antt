@@ -2,6 +2,7 @@
 use Rattle.std.proofs.Common.{◌≡◌, ℕ, zero, suc, ◌+◌, ◌-◌, ◌*◌, ◌/◌, ◌%◌, ◌<◌, nat_le, cond, Bool, true, false, List}
 use Rattle.std.proofs.Common.{[], ◌∷◌, ◌++◌, length, take, drop, get_or, refl, sym, ap, ap₂, ◌∙◌, subst, arith, lit<}
 use Rattle.std.proofs.Common.{add-zero, zero-add}
+use Rattle.std.specs.Prelude.{Option, Some, None}
 use Rattle.std.proofs.lemmas.List.{take_at, drop_at, drop-drop, take-append-drop, get_or-take}
 use Rattle.std.proofs.lemmas.List.FromFn.{get_or-map-range_with_len}
 use Rattle.dtx_galois.specs.Field.{AreBytes}
@@ -9,8 +10,9 @@ use Rattle.dtx_galois.specs.BytesLaws.{bytes_append}
 use Rattle.dtx_laws.specs.Codeword.{IsCodeword, IsCorrection, distance}
 use Rattle.dtx_laws.specs.Interleaving.{interleaved, interleaved_at}
 use Rattle.dtx_laws.specs.Whitening.{whitened}
-use Rattle.dtx_laws.specs.Words.{codeword}
-use Rattle.dtx_laws.specs.ChoiceLaws.{codeword_is, codeword_begins, codeword_length, correction_only}
+use Rattle.dtx_laws.specs.Words.{codeword, correction}
+use Rattle.dtx_laws.specs.ChoiceLaws.{codeword_is, codeword_begins, codeword_length, codeword_only, correction_is}
+use Rattle.dtx_laws.specs.ChoiceLaws.{correction_only}
 use Rattle.dtx_laws.specs.WhiteningLaws.{bytes_whitened, whitened_twice}
 use Rattle.dtx_laws.specs.WordsLaws.{distance_self}
 use Rattle.dtx_whiten.specs.Randomizer.{randomizer_bytes}
@@ -180,3 +182,37 @@ packet_back ps k h l c =
     far =
         ap₂ distance (word_is ps k l c) (ap (codeword_at ps) (zero-add k))
         ∙ distance_self (codeword_at ps k)
+
+-- ---- and the other way round
+
+-- a word whose correction gives the packet's bytes back is near
+near_by : (ps : List (List ℕ)) (k from : ℕ) (word : List ℕ) (found : Option (List ℕ)) → ArePackets ps → k < length ps
+    → from ≡ 187 * (k % 312) → correction 207 187 word ≡ found → (received_by from word found).good ≡ true
+    → (received_by from word found).packet.0 ≡ as_received (get_or ps k []) → IsNear ps k word
+unfolding as_received codeword_at
+near_by ps k from word None p l at is good same = cc
+near_by ps k from word (Some code) p l at is good same =
+    let packet : List ℕ = get_or ps k [] in
+    let long = packet_at ps k p l in
+    let correct : IsCorrection 207 187 word code = correction_is 207 187 word code is in
+    let back : whitened randomizer_bytes from (take 187 code) ≡ drop 1 packet = ap (drop 1) same in
+    let head : take 187 code ≡ randomized k packet =
+    sym (whitened_twice randomizer_bytes (take 187 code) from)
+    ∙ ap₂ (λ (a : ℕ) (d : List ℕ). whitened randomizer_bytes a d) at back
+    ∙ sym (randomized_whitened k packet long.0) in
+    let bytes : AreBytes (randomized k packet) =
+    subst AreBytes (sym (randomized_whitened k packet long.0))
+    (bytes_whitened randomizer_bytes (drop 1 packet) (187 * (k % 312)) bytes_randomizer_bytes
+    (bytes_behind packet long.1)) in
+    let own : code ≡ codeword 207 187 (randomized k packet) =
+    codeword_only 207 187 (randomized k packet) code (omega arith) (lit< tt) (length-randomized k packet) bytes
+    correct.codeword head in
+    omega (arith, correct.near, ap (distance word) own)
+
+pub near_if_back : (ps : List (List ℕ)) (y : List ℕ) (f j : ℕ) → ArePackets ps → f % 312 ≡ 0 → f + j < length ps
+    → (received_at y j).good ≡ true → (received_at y j).packet.0 ≡ as_received (get_or ps (f + j) [])
+    → IsNear ps (f + j) (word_at 207 52 4 y j)
+unfolding received_at
+near_if_back ps y f j p z l good same =
+    near_by ps (f + j) (187 * (j % 312)) (word_at 207 52 4 y j) (correction 207 187 (word_at 207 52 4 y j)) p l
+    (omega (arith, z)) refl good same

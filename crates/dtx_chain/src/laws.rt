@@ -1,11 +1,13 @@
 //! Laws of the definitions: undamaged symbols are one run, and its packets are those that were sent; a word with few
 //! wrong bytes gives its packet back.
 
-ghost use Rattle.std.specs.Prelude.{◌≡◌, ℕ, ℤ, ◌≢◌, ◌+◌, ◌*◌, ◌/◌, ◌%◌, ◌<◌, ◌≤◌, Bool, true, List, [], ◌∷◌, length};
+ghost use Rattle.std.specs.Prelude.{◌≡◌, ℕ, ℤ, ◌≢◌, ◌+◌, ◌*◌, ◌/◌, ◌%◌, ◌<◌, ◌≤◌, Bool, true, false, List, [], ◌∷◌};
+ghost use Rattle.std.specs.Prelude.{length};
 ghost use Rattle.std.specs.Prelude.{All, map, slice_index_or, slice_range};
 ghost use Rattle.std.specs.List.{list_all};
 ghost use Rattle.dtx_galois.specs.Field.{AreBytes};
 ghost use Rattle.dtx_laws.specs.Codeword.{distance};
+ghost use Rattle.dtx_frame.specs.Detection.{looks_like};
 ghost use Rattle.dtx_frame.specs.Segments.{field_sync};
 ghost use Rattle.dtx_coder.specs.Stream.{a53, levels, segment};
 ghost use Rattle.dtx_outer.specs.Inner.{IsComplete, word_at};
@@ -13,8 +15,7 @@ ghost use Rattle.dtx_receiver.specs.Packets.{all_packets, run_packets, received,
 ghost use Rattle.dtx_receiver.specs.declared.batch.Received.{Received};
 ghost use Rattle.dtx_receiver.specs.Runs.{runs};
 ghost use Rattle.dtx_chain.specs.Damage.{AreReceived, IsNear, IsSlight, as_corrected, codeword_at, from_sync};
-ghost use Rattle.dtx_chain.specs.Damage.{numbers_in};
-ghost use Rattle.dtx_chain.specs.Damage.{packet_behind, to_sync, word_in};
+ghost use Rattle.dtx_chain.specs.Damage.{damaged_symbols, numbers_in, packet_behind, to_sync, word_in};
 ghost use Rattle.dtx_chain.specs.Undamaged.{ArePackets, as_sent, whole_words, as_received};
 
 use dtx_sizes::{FIELD_PACKETS, FIELD_SEGMENTS, GROUP_PACKETS, PACKET};
@@ -39,6 +40,15 @@ pub fn gives_back()
         → received_at bytes j ≡ as_corrected packets (f + j) (word_at 207 52 4 bytes j) }
     ensures place { (bytes : List ℕ) (j : ℕ) (other : Received) → IsComplete 207 52 4 (length bytes) j
         → slice_index_or (run_packets bytes) j other ≡ received_at bytes j }
+{}
+
+/// A packet that comes back good and as it was sent, with 0x47 as its sync byte, had a word that differs from its
+/// codeword in at most ten bytes.
+pub fn what_comes_back_was_near()
+    ensures { (packets : List (List ℕ)) (bytes : List ℕ) (f j : ℕ) → ArePackets packets → f % FIELD_PACKETS ≡ 0
+        → f + j < length packets → (received_at bytes j).good ≡ true
+        → (received_at bytes j).packet.0 ≡ as_received (slice_index_or packets (f + j) [])
+        → IsNear packets (f + j) (word_at 207 52 4 bytes j) }
 {}
 
 /// Where the symbols of segments in a row of a stream are received with slight damage, and a field sync is among them,
@@ -72,6 +82,13 @@ pub fn eleven_are_too_many()
         → (received_at bytes j).packet.0 ≢ as_received (slice_index_or packets (f + j) [])) }
 {}
 
+/// A data segment of a stream with at most 31 damaged symbols among its first 515 isn't taken for a field sync, which
+/// may have 32 wrong ones there: undamaged, it differs from one in 64 or more of them.
+pub fn a_damaged_data_segment_is_no_sync()
+    ensures { (packets : List (List ℕ)) (n : ℕ) (got : List ℤ) → n < length (a53 packets) → n % FIELD_SEGMENTS ≢ 0
+        → damaged_symbols (slice_index_or (a53 packets) n []) got ≤ 31 → looks_like got ≡ false }
+{}
+
 /// Each packet that is received has 188 bytes, whatever the segments are.
 pub fn received_packets_are_whole()
     ensures { (segments : List (List ℤ)) → All (λ packet. length packet ≡ PACKET) (received segments) }
@@ -84,6 +101,16 @@ pub fn no_damage()
         → AreReceived packets first (slice_range (a53 packets) first end) (slice_range (a53 packets) first end) }
     ensures slight { (packets : List (List ℕ)) (first : ℕ) (sent : List (List ℤ))
         → AreReceived packets first sent sent → ArePackets packets → IsSlight packets first sent sent }
+{}
+
+/// Damage before the first field sync alone is slight, where no data segment there has more than 31 damaged symbols
+/// among its first 515.
+pub fn damage_before_the_first_sync_is_slight()
+    ensures { (packets : List (List ℕ)) (first : ℕ) (sent got : List (List ℤ)) → AreReceived packets first sent got
+        → ArePackets packets → from_sync first got ≡ from_sync first sent
+        → ((i : ℕ) → i < length sent → i < to_sync first
+        → damaged_symbols (slice_index_or sent i []) (slice_index_or got i []) ≤ 31)
+        → IsSlight packets first sent got }
 {}
 
 /// Where the segments of a stream stand that these definitions count on. Its field syncs are those at multiples of 313,

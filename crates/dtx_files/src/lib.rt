@@ -1,6 +1,7 @@
 //! How what a transmitter sends and logs stands in files: symbols as bytes, and the text of a log.
 #![tactic(auto)]
 
+pub mod laws;
 mod log_text;
 mod symbols;
 

@@ -13,3 +13,4 @@ pub mod Meets
 pub mod Undamaged
 pub mod TooFew
 pub mod OutOfStep
+pub mod Readable

@@ -1,13 +1,16 @@
 -- The premises of the headline can be met.
-use Rattle.std.proofs.Common.{◌≡◌, ◌⊎◌, inl, inr, ℕ, suc, ◌+◌, ◌-◌, ◌%◌, ◌<◌, ◌≤◌, ◌==◌, ◌&&◌, Bool, true, false}
-use Rattle.std.proofs.Common.{Option, Some, None, List, [], ◌∷◌, ◌++◌, length, map, get_or, refl, sym, ap, subst, ◌∙◌}
+use Rattle.std.proofs.Common.{◌≡◌, ◌⊎◌, inl, inr, ℕ, zero, suc, ◌+◌, ◌-◌, ◌%◌, ◌<◌, ◌≤◌, ◌==◌, ◌&&◌, Bool, true, false}
+use Rattle.std.proofs.Common.{Option, Some, None, List, [], ◌∷◌, ◌++◌, length, map, take, drop, get_or, refl, sym, ap}
+use Rattle.std.proofs.Common.{ap₂, ◌∙◌}
+use Rattle.std.proofs.Common.{◌≢◌}
 use Rattle.std.proofs.Common.{arith}
 use Rattle.std.specs.Prelude.{nat_le, filter, slice_get, slice_range}
 use Rattle.std.specs.List.{range_with_len, find}
 use Rattle.std.proofs.lemmas.Bool.{cases_Bool, false≢true, eq-eqb, eqb-true, le-leb, leb-true, and_from, and_parts}
 use Rattle.std.proofs.lemmas.Cmp.{nat_eq_equiv}
-use Rattle.std.proofs.lemmas.List.{append-nil, append_assoc, map-append, take_all}
+use Rattle.std.proofs.lemmas.List.{append-nil, append_assoc, map-append}
 use Rattle.std.proofs.lemmas.Grind.{flat_map-append}
+use Rattle.std.proofs.lemmas.Option.{get_or_from_slice_get}
 use Rattle.std.proofs.lemmas.List.Elements.{filter-append}
 use Rattle.std.proofs.lemmas.Map.Views.{list_any-from_Contains}
 use Rattle.dtx_lists.proofs.RangeSearch.{IsFirst, find-range_gives, find-range_misses}
@@ -17,33 +20,47 @@ use Rattle.dtx_plan.specs.declared.transmitter.Transmitter.{Transmitter}
 use Rattle.dtx_plan.specs.declared.event.Event.{Event}
 use Rattle.dtx_plan.specs.declared.event.Event.TheVariants.{Send}
 use Rattle.dtx_plan.specs.TransmitterTable.{addresses_of}
-use Rattle.dtx_plan.specs.Sound.{IsEvent}
+use Rattle.dtx_plan.specs.Sound.{IsEvent, to_of}
 use Rattle.dtx_adapter.specs.Feed.{feed}
 use Rattle.dtx_adapter.specs.FeedsLaws.{length-feed}
-use Rattle.dtx_net.specs.Steps.{Step, actions_of, steps_at, steps_of, schedule}
+use Rattle.dtx_exciter.specs.Emission.{emission}
+use Rattle.dtx_exciter.specs.Log.{emission_over}
+use Rattle.dtx_net.specs.Sent.{sent_segments}
+use Rattle.dtx_net.specs.Steps.{Step, transmitter_place, actions_of, steps_at, steps_of, schedule}
 use Rattle.dtx_net.specs.Lives.{own_steps, lives_from, lives_of}
-use Rattle.dtx_net.specs.OwnLaws.{own_here}
-use Rattle.dtx_net.specs.PlaceOfLaws.{place_only}
+use Rattle.dtx_net.specs.OwnLaws.{own_here, own_elsewhere}
+use Rattle.dtx_net.specs.PlaceOfLaws.{place_found, place_only}
 use Rattle.dtx_network.specs.Plans.{IsPlan, IsStream, IsInTime}
 use Rattle.dtx_network.specs.Orders.{has_order}
-use Rattle.dtx_network.specs.Headline.{IsFirstOrder}
-use Rattle.dtx_network.specs.Network.{steps_under, Joined}
+use Rattle.dtx_network.specs.Headline.{IsFirstOrder, stretch_of}
+use Rattle.dtx_network.specs.Network.{steps_under, Joined, AreOfOthers}
+use Rattle.dtx_network.proofs.FromStart.{segments_from}
 use Rattle.dtx_network.proofs.Orders.{same_orders}
 use Rattle.dtx_network.proofs.Whole.{contains_from_get, contains_map}
 
--- ---- the life in which it is given all
+-- ---- the life in which it is given packets of the feed
 
--- all packets of a list, one after another
-all_given : (ps : List (List ℕ)) → map (λ k. Some (get_or ps k [])) (range_with_len 0 (length ps)) ≡ map Some ps
-all_given [] = refl
-all_given (p ∷ ps) =
+-- packets of a list in a row, one after another
+all_given : (ps : List (List ℕ)) (a n : ℕ) → a + n ≤ length ps
+    → map (λ k. Some (get_or ps k [])) (range_with_len a n) ≡ map Some (take n (drop a ps))
+all_given [] zero zero l = refl
+all_given [] zero (suc n) l = absurd (omega arith)
+all_given [] (suc a) n l = absurd (omega arith)
+all_given (p ∷ ps) zero zero l = refl
+all_given (p ∷ ps) zero (suc n) l =
     ap (λ (rest : List (Option (List ℕ))). Some p ∷ rest)
-    (map-range_moved (λ k. Some (get_or (p ∷ ps) k [])) (λ k. Some (get_or ps k [])) (0 + 1) 0 (length ps)
+    (map-range_moved (λ k. Some (get_or (p ∷ ps) k [])) (λ k. Some (get_or ps k [])) (0 + 1) 0 n
     (λ i l.
     let e : 0 + 1 + i ≡ suc i = omega arith in
     let z : i ≡ 0 + i = omega arith in
     ap (λ k. Some (get_or (p ∷ ps) k [])) e ∙ ap (λ k. Some (get_or ps k [])) z)
-    ∙ all_given ps)
+    ∙ all_given ps 0 n (omega arith))
+all_given (p ∷ ps) (suc a) n l =
+    map-range_moved (λ k. Some (get_or (p ∷ ps) k [])) (λ k. Some (get_or ps k [])) (suc a) a n
+    (λ i l.
+    let e : suc a + i ≡ suc (a + i) = omega arith in
+    ap (λ k. Some (get_or (p ∷ ps) k [])) e)
+    ∙ all_given ps a n (omega arith)
 
 -- the lives that end in these actions, where the first of them begins with these packets, and the packets of the life
 -- that goes on
@@ -104,128 +121,132 @@ own_all who (a ∷ actions) =
     own_here who (record { who = who; packet = a }) (steps_at (Some who) actions) refl
     ∙ ap (λ (rest : List (Option (List ℕ))). a ∷ rest) (own_all who actions)
 
--- the event that gives a transmitter the whole feed
-abbrev pub whole_feed : List (List ℕ) → Transmitter → Event
-whole_feed stream t = Send t.address 0 (length stream)
+-- the event that gives a transmitter packets of the feed from one on
+abbrev pub part_of_feed : Transmitter → ℕ → ℕ → Event
+part_of_feed t mark n = Send t.address mark n
 
 -- what is done with a transmitter in some events
 done_in : Plan → List (List ℕ) → ℕ → List Event → List (Option (List ℕ))
 done_in plan stream who events = own_steps who (steps_under plan stream events)
 
+-- those packets
+abbrev given_of : Plan → List (List ℕ) → ℕ → ℕ → List (List ℕ)
+given_of plan stream mark n = slice_range (feed plan stream) mark (mark + n)
+
 -- its steps in that event
-whole_steps : (plan : Plan) (stream : List (List ℕ)) (t : Transmitter) (who : ℕ) → IsPlan plan
-    → slice_get plan.transmitters.items who ≡ Some t
-    → own_steps who (steps_of plan.transmitters.items (feed plan stream) (whole_feed stream t))
-    ≡ map Some (feed plan stream)
+part_steps : (plan : Plan) (stream : List (List ℕ)) (t : Transmitter) (who mark n : ℕ) → IsPlan plan
+    → slice_get plan.transmitters.items who ≡ Some t → mark + n ≤ length stream
+    → own_steps who (steps_of plan.transmitters.items (feed plan stream) (part_of_feed t mark n))
+    ≡ map Some (given_of plan stream mark n)
 unfolding steps_of actions_of
-whole_steps plan stream t who p listed =
+part_steps plan stream t who mark n p listed l =
     let fed : List (List ℕ) = feed plan stream in
-    let actions : ℕ → List (Option (List ℕ)) = λ n. map (λ k. Some (get_or fed k [])) (range_with_len 0 n) in
-    ap (λ (o : Option ℕ). own_steps who (steps_at o (actions (length stream))))
+    let actions : List (Option (List ℕ)) = map (λ k. Some (get_or fed k [])) (range_with_len mark n) in
+    let e : n ≡ mark + n - mark = omega arith in
+    ap (λ (o : Option ℕ). own_steps who (steps_at o actions))
     (place_only plan.transmitters.items who t p.sound.transmitters listed)
-    ∙ own_all who (actions (length stream)) ∙ ap actions (sym (length-feed plan stream)) ∙ all_given fed
+    ∙ own_all who actions ∙ all_given fed mark n (omega (arith, l, length-feed plan stream))
+    ∙ ap (λ (m : ℕ). map Some (take m (drop mark fed))) e
 
 -- its lives, with that event among others
-lives_are : (plan : Plan) (stream : List (List ℕ)) (t : Transmitter) (who : ℕ) (before after : List Event)
-    → IsPlan plan → slice_get plan.transmitters.items who ≡ Some t
+lives_are : (plan : Plan) (stream : List (List ℕ)) (t : Transmitter) (who mark n : ℕ) (before after : List Event)
+    → IsPlan plan → slice_get plan.transmitters.items who ≡ Some t → mark + n ≤ length stream
     → let a : List (Option (List ℕ)) = done_in plan stream who before in
     let b : List (Option (List ℕ)) = done_in plan stream who after in
-    lives_of who (steps_under plan stream (before ++ whole_feed stream t ∷ after))
-    ≡ ended [] a ++ ((going_on [] a ++ feed plan stream) ++ first_given b) ∷ lives_then b
+    lives_of who (steps_under plan stream (before ++ part_of_feed t mark n ∷ after))
+    ≡ ended [] a ++ ((going_on [] a ++ given_of plan stream mark n) ++ first_given b) ∷ lives_then b
 unfolding lives_of schedule done_in
-lives_are plan stream t who before after p listed =
+lives_are plan stream t who mark n before after p listed l =
     let fed : List (List ℕ) = feed plan stream in
+    let part : List (List ℕ) = given_of plan stream mark n in
     let ts : List Transmitter = plan.transmitters.items in
     let a : List (Option (List ℕ)) = done_in plan stream who before in
     let b : List (Option (List ℕ)) = done_in plan stream who after in
-    let own : List Step = steps_of ts fed (whole_feed stream t) in
+    let own : List Step = steps_of ts fed (part_of_feed t mark n) in
     ap (λ (steps : List Step). lives_from [] (own_steps who steps))
-    (flat_map-append (steps_of ts fed) before (whole_feed stream t ∷ after))
+    (flat_map-append (steps_of ts fed) before (part_of_feed t mark n ∷ after))
     ∙ ap (lives_from []) (own_more who (schedule ts fed before) (own ++ schedule ts fed after)
     ∙ ap (λ (x : List (Option (List ℕ))). a ++ x) (own_more who own (schedule ts fed after)
-    ∙ ap (λ (x : List (Option (List ℕ))). x ++ b) (whole_steps plan stream t who p listed)))
-    ∙ lives_on [] a (map Some fed ++ b)
-    ∙ ap (λ (x : List (List (List ℕ))). ended [] a ++ x) (lives_given (going_on [] a) fed b
-    ∙ lives_first (going_on [] a ++ fed) b)
+    ∙ ap (λ (x : List (Option (List ℕ))). x ++ b) (part_steps plan stream t who mark n p listed l)))
+    ∙ lives_on [] a (map Some part ++ b)
+    ∙ ap (λ (x : List (List (List ℕ))). ended [] a ++ x) (lives_given (going_on [] a) part b
+    ∙ lives_first (going_on [] a ++ part) b)
 
 -- ---- the first order
 
--- the first group that may count and holds an operations packet, where some group is one
-first_order : (fed : List (List ℕ)) (g : ℕ) → g % 4 ≡ 0 → 52 ≤ g → g + 4 ≤ length fed → has_order fed g ≡ true
-    → (k : ℕ) × IsFirstOrder fed 0 (length fed) k × (k ≤ g)
-first_order fed g whole far l h = by_find (find test (range_with_len 0 (g + 1))) refl
+-- the first group that may count behind a mark and holds an operations packet, where some group is one
+first_order : (fed : List (List ℕ)) (mark n g : ℕ) → g % 4 ≡ 0 → mark + 52 ≤ g → g + 4 ≤ mark + n
+    → has_order fed g ≡ true → (k : ℕ) × IsFirstOrder fed mark n k × (k ≤ g)
+first_order fed mark n g whole far l h = by_find (find test (range_with_len 0 (g + 1))) refl
   where
     test : ℕ → Bool
-    test i = nat_le 52 i && ((i % 4 == 0) && has_order fed i)
+    test i = nat_le (mark + 52) i && ((i % 4 == 0) && has_order fed i)
 
-    passes : (i : ℕ) → i % 4 ≡ 0 → 52 ≤ i → has_order fed i ≡ true → test i ≡ true
+    passes : (i : ℕ) → i % 4 ≡ 0 → mark + 52 ≤ i → has_order fed i ≡ true → test i ≡ true
     passes i w f o =
-        and_from (nat_le 52 i) ((i % 4 == 0) && has_order fed i) (le-leb 52 i f)
+        and_from (nat_le (mark + 52) i) ((i % 4 == 0) && has_order fed i) (le-leb (mark + 52) i f)
         (and_from (i % 4 == 0) (has_order fed i) (eq-eqb (i % 4) 0 w) o)
 
-    fails : (i : ℕ) → i % 4 ≡ 0 → 52 ≤ i → test i ≡ false → (has_order fed i ≡ true) ⊎ (has_order fed i ≡ false)
-        → has_order fed i ≡ false
+    fails : (i : ℕ) → i % 4 ≡ 0 → mark + 52 ≤ i → test i ≡ false
+        → (has_order fed i ≡ true) ⊎ (has_order fed i ≡ false) → has_order fed i ≡ false
     fails i w f t (inl o) = absurd (false≢true (sym t ∙ passes i w f o))
     fails i w f t (inr o) = o
 
     by_find : (o : Option ℕ) → find test (range_with_len 0 (g + 1)) ≡ o
-        → (k : ℕ) × IsFirstOrder fed 0 (length fed) k × (k ≤ g)
+        → (k : ℕ) × IsFirstOrder fed mark n k × (k ≤ g)
     by_find None e = absurd (false≢true (sym (find-range_misses test 0 (g + 1) e g (omega arith) (omega arith))
         ∙ passes g whole far h))
     by_find (Some k) e =
         let first : IsFirst test 0 (g + 1) k = find-range_gives test 0 (g + 1) k e in
         let within : k < 0 + (g + 1) = first.within in
-        let outer = and_parts (nat_le 52 k) ((k % 4 == 0) && has_order fed k) first.passes in
+        let outer = and_parts (nat_le (mark + 52) k) ((k % 4 == 0) && has_order fed k) first.passes in
         let inner = and_parts (k % 4 == 0) (has_order fed k) outer.1 in
-        let behind : 52 ≤ k = leb-true 52 k outer.0 in (
+        let behind : mark + 52 ≤ k = leb-true (mark + 52) k outer.0 in (
           k,
           record {
             group = eqb-true (k % 4) 0 inner.0;
-            behind = omega (arith, behind);
+            behind = behind;
             whole = omega (arith, within, l);
             order = inner.1;
-            least = λ i w f m. fails i w (omega (arith, f)) (first.before i (omega arith) m)
-                (cases_Bool (has_order fed i));
+            least = λ i w f m. fails i w f (first.before i (omega arith) m) (cases_Bool (has_order fed i));
           },
           omega (arith, within),
         )
 
 -- ---- it joins
 
-pub is_met : (plan : Plan) (stream : List (List ℕ)) (t : Transmitter) (who g : ℕ) (before after : List Event)
+pub is_met : (plan : Plan) (stream : List (List ℕ)) (t : Transmitter) (who mark n g : ℕ) (before after : List Event)
     → IsPlan plan → IsStream stream → slice_get plan.transmitters.items who ≡ Some t → IsInTime plan t
-    → g % 4 ≡ 0 → 52 ≤ g → g + 4 ≤ length stream → has_order stream g ≡ true
-    → (x : Joined plan stream (before ++ Send t.address 0 (length stream) ∷ after)) × (x.t ≡ t) × (x.who ≡ who)
-    × (x.mark ≡ 0) × (x.count ≡ length stream) × (x.k ≤ g)
-is_met plan stream t who g before after p u listed time whole far l h =
+    → mark % 624 ≡ 0 → mark + n ≤ length stream
+    → g % 4 ≡ 0 → mark + 52 ≤ g → g + 4 ≤ mark + n → has_order stream g ≡ true
+    → (x : Joined plan stream (before ++ Send t.address mark n ∷ after)) × (x.t ≡ t) × (x.who ≡ who)
+    × (x.mark ≡ mark) × (x.count ≡ n) × (x.k ≤ g)
+is_met plan stream t who mark n g before after p u listed time is_mark inside whole far l h =
     let fed : List (List ℕ) = feed plan stream in
+    let part : List (List ℕ) = given_of plan stream mark n in
     let a : List (Option (List ℕ)) = done_in plan stream who before in
     let b : List (Option (List ℕ)) = done_in plan stream who after in
-    let long : length fed ≡ length stream = length-feed plan stream in
-    let first = first_order fed g whole far (omega (arith, l, long)) (same_orders plan stream g p u ∙ h) in
-    let upto : fed ≡ slice_range fed 0 (0 + length stream) =
-    sym (take_all (0 + length stream - 0) fed (omega (arith, long))) in (
+    let first = first_order fed mark n g whole far l (same_orders plan stream g p u ∙ h) in (
       record {
         t = t;
         who = who;
         lives_before = ended [] a;
-        life = (going_on [] a ++ fed) ++ first_given b;
+        life = (going_on [] a ++ part) ++ first_given b;
         lives_behind = lives_then b;
-        mark = 0;
-        count = length stream;
+        mark = mark;
+        count = n;
         k = first.0;
         listed = listed;
         in_time = time;
-        lived = lives_are plan stream t who before after p listed;
+        lived = lives_are plan stream t who mark n before after p listed inside;
         fed = record {
-          is_mark = omega arith;
-          inside = omega (arith, long);
+          is_mark = is_mark;
+          inside = omega (arith, inside, length-feed plan stream);
           earlier = going_on [] a;
           later = first_given b;
-          holds = append_assoc (going_on [] a) fed (first_given b)
-              ∙ ap (λ (x : List (List ℕ)). going_on [] a ++ (x ++ first_given b)) upto;
+          holds = append_assoc (going_on [] a) part (first_given b);
         };
-        order = subst (λ (n : ℕ). IsFirstOrder fed 0 n first.0) long first.1;
+        order = first.1;
       },
       refl,
       refl,
@@ -235,14 +256,74 @@ is_met plan stream t who g before after p u listed time whole far l h =
     )
 
 -- a plan may hold that event
-pub may_be : (plan : Plan) (stream : List (List ℕ)) (t : Transmitter) (who : ℕ) → IsStream stream
-    → slice_get plan.transmitters.items who ≡ Some t → 1 ≤ length stream
-    → IsEvent plan.transmitters.items (Send t.address 0 (length stream))
-may_be plan stream t who u listed some =
+pub may_be : (plan : Plan) (stream : List (List ℕ)) (t : Transmitter) (who mark n : ℕ) → IsStream stream
+    → slice_get plan.transmitters.items who ≡ Some t → 1 ≤ n → mark + n ≤ length stream
+    → IsEvent plan.transmitters.items (Send t.address mark n)
+may_be plan stream t who mark n u listed some inside =
     let ts : List Transmitter = plan.transmitters.items in
     let most = u.most in
     record {
       listed = list_any-from_Contains nat_eq_equiv t.address (addresses_of ts)
           (contains_map (λ (x : Transmitter). x.address) ts t (contains_from_get ts who t listed));
-      in_range = record { some = some; most = omega (arith, most) };
+      in_range = record { some = some; most = omega (arith, most, inside) };
     }
+
+-- ---- the stretch alone
+
+-- what is done with others at a place is none of its own
+own_at : (who : ℕ) (o : Option ℕ) (actions : List (Option (List ℕ))) → o ≢ Some who
+    → own_steps who (steps_at o actions) ≡ []
+own_at who None actions n = refl
+own_at who (Some w) [] n = refl
+own_at who (Some w) (a ∷ actions) n =
+    own_elsewhere who (record { who = w; packet = a }) (steps_at (Some w) actions) (λ e. n (ap Some e))
+    ∙ own_at who (Some w) actions n
+
+not_here : (ts : List Transmitter) (t : Transmitter) (who : ℕ) (event : Event) → slice_get ts who ≡ Some t
+    → to_of event ≢ t.address → transmitter_place (to_of event) ts ≢ Some who
+not_here ts t who event listed n = λ here.
+    let found = place_found ts (to_of event) who here in
+    n (sym found.2 ∙ ap (λ (u : Transmitter). u.address)
+    (sym (get_or_from_slice_get ts who found.0 t found.1) ∙ get_or_from_slice_get ts who t t listed))
+
+done_by_others : (plan : Plan) (stream : List (List ℕ)) (t : Transmitter) (who : ℕ) (events : List Event)
+    → slice_get plan.transmitters.items who ≡ Some t → AreOfOthers t events → done_in plan stream who events ≡ []
+unfolding done_in schedule steps_of
+done_by_others plan stream t who [] listed others = refl
+done_by_others plan stream t who (event ∷ events) listed others =
+    let ts : List Transmitter = plan.transmitters.items in
+    let fed : List (List ℕ) = feed plan stream in
+    own_more who (steps_at (transmitter_place (to_of event) ts) (actions_of fed event)) (schedule ts fed events)
+    ∙ ap₂ (λ (x y : List (Option (List ℕ))). x ++ y)
+    (own_at who (transmitter_place (to_of event) ts) (actions_of fed event) (not_here ts t who event listed others.0))
+    (done_by_others plan stream t who events listed others.1)
+
+one_life : (plan : Plan) (stream : List (List ℕ)) (t : Transmitter) (who n : ℕ) (before after : List Event)
+    → IsPlan plan → slice_get plan.transmitters.items who ≡ Some t → n ≤ length stream → AreOfOthers t before
+    → AreOfOthers t after
+    → lives_of who (steps_under plan stream (before ++ Send t.address 0 n ∷ after)) ≡ take n (feed plan stream) ∷ []
+unfolding ended going_on first_given lives_then
+one_life plan stream t who n before after p listed l first then =
+    let fed : List (List ℕ) = feed plan stream in
+    let e : 0 + n - 0 ≡ n = omega arith in
+    lives_are plan stream t who 0 n before after p listed (omega (arith, l))
+    ∙ ap₂ (λ (a b : List (Option (List ℕ))). ended [] a
+    ++ ((going_on [] a ++ given_of plan stream 0 n) ++ first_given b) ∷ lives_then b)
+    (done_by_others plan stream t who before listed first) (done_by_others plan stream t who after listed then)
+    ∙ alone (given_of plan stream 0 n) ∙ ap (λ (m : ℕ). take m fed ∷ []) e
+  where
+    alone : (part : List (List ℕ))
+        → ended [] [] ++ ((going_on [] [] ++ part) ++ first_given []) ∷ lives_then [] ≡ part ∷ []
+    alone part = ap (λ (x : List (List ℕ)). x ∷ []) (append-nil part)
+
+pub sends_alone : (plan : Plan) (stream : List (List ℕ)) (t : Transmitter) (who n k : ℕ) (before after : List Event)
+    → IsPlan plan → IsStream stream → slice_get plan.transmitters.items who ≡ Some t → IsInTime plan t
+    → n ≤ length stream → IsFirstOrder (feed plan stream) 0 n k → AreOfOthers t before → AreOfOthers t after
+    → sent_segments t who (steps_under plan stream (before ++ Send t.address 0 n ∷ after))
+    ≡ stretch_of (feed plan stream) k n
+unfolding sent_segments
+sends_alone plan stream t who n k before after p u listed time l order first then =
+    ap (emission_over t.address t.delay) (one_life plan stream t who n before after p listed l first then)
+    ∙ append-nil (emission t.address t.delay (take n (feed plan stream)))
+    ∙ segments_from plan stream t n k p u (contains_from_get plan.transmitters.items who t listed) time
+    (omega (arith, l, length-feed plan stream)) order

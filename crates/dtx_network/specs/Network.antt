@@ -3,11 +3,13 @@
 -- adapter's feed unchanged from a cadence mark on emits, from the first operations packet whose group begins 52 or more
 -- packets later, exactly the symbols of that feed, at moments that differ between transmitters only by the signalled
 -- offsets; and symbols with at most ten wrong bytes per codeword give their packets back.
-use Rattle.std.specs.Prelude.{ℕ, ℤ, ◌≡◌, ◌⊎◌, ◌+◌, ◌-ℤ◌, ◌/◌, ◌%◌, ◌≤◌, Some, List, ◌∷◌, ◌++◌, length, map, slice_get}
-use Rattle.std.specs.List.{Contains}
+use Rattle.std.specs.Prelude.{ℕ, ℤ, ◌≡◌, ◌≢◌, ◌⊎◌, ◌+◌, ◌-ℤ◌, ◌/◌, ◌%◌, ◌≤◌, Some, List, ◌∷◌, ◌++◌, length, map}
+use Rattle.std.specs.Prelude.{slice_get}
+use Rattle.std.specs.List.{Contains, AllByRecursion}
 use Rattle.dtx_plan.specs.declared.plan.Plan.{Plan}
 use Rattle.dtx_plan.specs.declared.transmitter.Transmitter.{Transmitter}
 use Rattle.dtx_plan.specs.declared.event.Event.{Event}
+use Rattle.dtx_plan.specs.Sound.{to_of}
 use Rattle.dtx_adapter.specs.Feed.{feed}
 use Rattle.dtx_exciter.specs.declared.answers.Why.{Why}
 use Rattle.dtx_exciter.specs.Log.{Line, preset, mute}
@@ -23,6 +25,10 @@ use Rattle.dtx_network.specs.GivesBack.{GivesBack, GivesAllBack}
 -- the steps of a schedule, with the feed of the plan and the stream
 abbrev pub steps_under : Plan → List (List ℕ) → List Event → List Step
 steps_under plan stream events = schedule plan.transmitters.items (feed plan stream) events
+
+-- these events are of other transmitters than this one
+abbrev pub AreOfOthers : Transmitter → List Event → Type 0
+AreOfOthers t events = AllByRecursion (λ event. to_of event ≢ t.address) events
 
 -- A transmitter joins the feed: it stands at a place of the plan's list and is in time, and one of its lives in the
 -- schedule, between the lives before it and those behind it, is given `count` packets of the feed from a mark on,

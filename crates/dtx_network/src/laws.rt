@@ -23,14 +23,19 @@ ghost use Rattle.dtx_network.specs.Orders.{has_order, order_of, IsOrder};
 ghost use Rattle.dtx_network.specs.Presets.{orders, moment_at, preset_at, presets};
 ghost use Rattle.dtx_chain.specs.Undamaged.{ArePackets};
 ghost use Rattle.dtx_plan.specs.declared.event.Event.{Event};
-ghost use Rattle.dtx_network.specs.GivesBack.{GivesBack, GivesAllBack, IsReceivedAlone};
+ghost use Rattle.dtx_network.specs.GivesBack.{BeginsField, GivesBack, GivesAllBack, CanBeGivenBack, IsReceivedAlone};
+ghost use Rattle.dtx_network.specs.GivesBack.{to_field};
+ghost use Rattle.dtx_outer.specs.Inner.{codeword_byte_place, IsComplete};
+ghost use Rattle.dtx_receiver.specs.Bytes.{bytes_in};
+ghost use Rattle.dtx_receiver.specs.Intervals.{segments_in};
 ghost use Rattle.dtx_galois.specs.Field.{AreBytes};
 ghost use Rattle.dtx_coder.specs.Coded.{spread};
 ghost use Rattle.dtx_cadence.specs.Anchor.{in_step, anchor};
 ghost use Rattle.dtx_plan.specs.declared.event.Event.TheVariants.{Send};
 ghost use Rattle.dtx_plan.specs.Sound.{IsEvent};
-ghost use Rattle.dtx_network.specs.Network.{Joined, Headline};
-ghost use Rattle.dtx_network.specs.Headline.{IsFed, IsFirstOrder, stretch_of, segment_of, line_end};
+ghost use Rattle.dtx_network.specs.Network.{AreOfOthers, Joined, Headline, steps_under};
+ghost use Rattle.dtx_net.specs.Sent.{sent_segments};
+ghost use Rattle.dtx_network.specs.Headline.{IsFed, IsFirstOrder, stretch_of, last_packet, segment_of, line_end};
 ghost use Rattle.dtx_network.specs.Headline.{Around, around, Emits};
 
 use dtx_exciter::laws::sent_packets_give;
@@ -173,19 +178,32 @@ pub fn headline()
         → Headline plan stream events }
 {}
 
-/// What the headline asks of a transmitter can be met, whatever happens before and then: with one event, which a plan
-/// may hold, that gives a listed transmitter in time the whole feed from packet 0 on, it joins the feed there, where
-/// the stream has a placeholder for an operations packet in a whole group that begins at packet 52 or later; its first
-/// order is that group's or an earlier one's.
+/// What the headline asks of a transmitter can be met at every mark of the feed that has an order behind it, whatever
+/// happens before and then: with one event, which a plan may hold, that gives a listed transmitter in time packets of
+/// the feed from a mark on, it joins the feed there, where the stream has a placeholder for an operations packet in a
+/// whole group among them that begins 52 or more packets behind the mark; its first order is that group's or an earlier
+/// one's.
 pub fn joined_is_met()
-    ensures met { (plan : Plan) (stream : List (List ℕ)) (t : Transmitter) (who g : ℕ) (before after : List Event)
+    ensures met { (plan : Plan) (stream : List (List ℕ)) (t : Transmitter) (who mark n g : ℕ)
+        (before after : List Event)
         → IsPlan plan → IsStream stream → slice_get plan.transmitters.items who ≡ Some t → IsInTime plan t
-        → g % 4 ≡ 0 → 52 ≤ g → g + 4 ≤ length stream → has_order stream g ≡ true
-        → (x : Joined plan stream (before ++ Send t.address 0 (length stream) ∷ after)) × (x.t ≡ t) × (x.who ≡ who)
-        × (x.mark ≡ 0) × (x.count ≡ length stream) × (x.k ≤ g) }
-    ensures may_be { (plan : Plan) (stream : List (List ℕ)) (t : Transmitter) (who : ℕ) → IsStream stream
-        → slice_get plan.transmitters.items who ≡ Some t → 1 ≤ length stream
-        → IsEvent plan.transmitters.items (Send t.address 0 (length stream)) }
+        → mark % 624 ≡ 0 → mark + n ≤ length stream
+        → g % 4 ≡ 0 → mark + 52 ≤ g → g + 4 ≤ mark + n → has_order stream g ≡ true
+        → (x : Joined plan stream (before ++ Send t.address mark n ∷ after)) × (x.t ≡ t) × (x.who ≡ who)
+        × (x.mark ≡ mark) × (x.count ≡ n) × (x.k ≤ g) }
+    ensures may_be { (plan : Plan) (stream : List (List ℕ)) (t : Transmitter) (who mark n : ℕ) → IsStream stream
+        → slice_get plan.transmitters.items who ≡ Some t → 1 ≤ n → mark + n ≤ length stream
+        → IsEvent plan.transmitters.items (Send t.address mark n) }
+{}
+
+/// A transmitter that is given the feed from packet 0 on, and nothing else, sends the stretch alone, whatever is done
+/// with others meanwhile: its symbol file holds the feed's own segments from its first order on, and no other.
+pub fn sends_the_stretch_alone()
+    ensures { (plan : Plan) (stream : List (List ℕ)) (t : Transmitter) (who n k : ℕ) (before after : List Event)
+        → IsPlan plan → IsStream stream → slice_get plan.transmitters.items who ≡ Some t → IsInTime plan t
+        → n ≤ length stream → IsFirstOrder (feed plan stream) 0 n k → AreOfOthers t before → AreOfOthers t after
+        → sent_segments t who (steps_under plan stream (before ++ Send t.address 0 n ∷ after))
+        ≡ stretch_of (feed plan stream) k n }
 {}
 
 /// What the way back asks of the stretch alone can be met, from every packet on: as it was sent it is received with
@@ -193,6 +211,19 @@ pub fn joined_is_met()
 pub fn stretch_is_slight()
     ensures { (feed : List (List ℕ)) (k end : ℕ) → ArePackets feed
         → IsReceivedAlone feed k end (stretch_of feed k end) }
+{}
+
+/// What the way back asks of a word is met by a symbol file as a transmitter leaves it: whatever stands before the
+/// stretch as it was sent and behind it, in a run that begins at a field sync of the stretch each packet is readable
+/// whose bytes are all among the run's and lie in segments of the stretch.
+pub fn stretch_is_readable()
+    ensures { (feed : List (List ℕ)) (k end f n j : ℕ) (before after : List (List ℤ)) → ArePackets feed
+        → end ≤ length feed → BeginsField k end f
+        → IsComplete 207 52 4 (length (bytes_in (segments_in (before ++ (stretch_of feed k end ++ after))
+        (length before + to_field k f, n)))) j
+        → ((i : ℕ) → i < 207 → f + 4 * (codeword_byte_place 52 4 (207 * j + i) / 828) + 3 ≤ last_packet end)
+        → CanBeGivenBack feed end f (segments_in (before ++ (stretch_of feed k end ++ after))
+        (length before + to_field k f, n)) j }
 {}
 
 /// A byte of the interleaver that is sent in packet 51 behind a mark and comes from before it: to each last packet

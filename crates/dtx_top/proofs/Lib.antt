@@ -13,3 +13,6 @@ pub mod SegmentsSent
 pub mod Streams
 pub mod SymbolsBack
 pub mod SymbolsSent
+pub mod WorkedDamage
+pub mod WorkedNetwork
+pub mod WorkedStream

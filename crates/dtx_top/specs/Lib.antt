@@ -8,3 +8,4 @@ pub mod NetNames
 pub mod Networks
 pub mod OfBytes
 pub mod Replaying
+pub mod WorkedNetwork

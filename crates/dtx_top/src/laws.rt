@@ -1,11 +1,25 @@
 //! Laws of the definitions: the segments of a transmitter's symbol file are those that it sends.
 
-ghost use Rattle.std.specs.Prelude.{◌≡◌, ℕ, List, length};
+ghost use Rattle.std.specs.Prelude.{◌≡◌, ◌≤◌, ℕ, IsSomeAnd, List, Some, length, true};
+ghost use Rattle.std.specs.FinMap.{get};
+ghost use Rattle.dtx_outside.specs.Shelf.{Files};
+ghost use Rattle.dtx_plan.specs.declared.plan.ReceivePlan.{ReceivePlan};
+ghost use Rattle.dtx_words.specs.NetworkNames.{received_name};
+ghost use Rattle.dtx_top.specs.HeadlineOfFiles.{HeadlineOfFiles};
 ghost use Rattle.dtx_plan.specs.declared.transmitter.Transmitter.{Transmitter};
 ghost use Rattle.dtx_net.specs.Steps.{Step};
 ghost use Rattle.dtx_net.specs.Sent as sent;
 ghost use Rattle.dtx_jobs.specs.SymbolFile as file;
 ghost use Rattle.dtx_schedule.specs.TransmitterFiles.{symbol_file};
+ghost use Rattle.dtx_network.specs.Orders.{has_order};
+ghost use Rattle.dtx_network.specs.Plans.{IsPlan, IsStream};
+ghost use Rattle.dtx_plan.specs.declared.plan.NetPlan.{NetPlan};
+ghost use Rattle.dtx_plan.specs.declared.plan.Plan.{Plan};
+ghost use Rattle.dtx_top.specs.WorkedNetwork.{HasAllBack, IsSimple, WorkedNetwork, made_packets};
+
+use dtx_network::laws::{
+    headline, joined_is_met, orders_of_a_feed, packets_of_a_feed, sends_the_stretch_alone,
+};
 
 /// The segments of a transmitter's symbol file are those that it sends: segment n of the file is segment n of them.
 pub fn segments_read_back()
@@ -13,4 +27,29 @@ pub fn segments_read_back()
         → file.whole_segments (symbol_file t who steps) ≡ length (sent.sent_segments t who steps) }
     ensures segments { (t : Transmitter) (who : ℕ) (steps : List Step)
         → file.file_segments (symbol_file t who steps) ≡ sent.sent_segments t who steps }
+{}
+
+/// A simple network meets every premise of the headline, with little damage and without: two transmitters in time are
+/// given the whole feed, and nothing else, and the first one is received. Where the command `net` has done it, the file
+/// `net.ts` has exactly the packets of the feed from its first field on whose bytes are all there.
+pub fn simple_networks_work()
+    ensures works { (plan : Plan) (network : NetPlan) (stream : List (List ℕ)) (a b : Transmitter) → IsPlan plan
+        → IsStream stream → IsSimple plan network stream a b → WorkedNetwork plan network stream 100 }
+    ensures file { (plan : Plan) (network : NetPlan) (stream : List (List ℕ)) (held now : Files)
+        (w : WorkedNetwork plan network stream 100) → HeadlineOfFiles plan network stream held now
+        → (receiver : ReceivePlan) → network.receive ≡ Some receiver
+        → IsSomeAnd (get now received_name) (HasAllBack plan network stream receiver w.one.k) }
+{
+    joined_is_met();
+    sends_the_stretch_alone();
+    orders_of_a_feed();
+    packets_of_a_feed();
+    headline();
+}
+
+/// Made packets are a stream, and the group from packet 100 on holds a placeholder.
+pub fn made_packets_are_a_stream()
+    ensures stream { (seed count : ℕ) → count ≤ 624000000 → IsStream (made_packets seed count) }
+    ensures count { (seed count : ℕ) → length (made_packets seed count) ≡ count }
+    ensures order { (seed count : ℕ) → 104 ≤ count → has_order (made_packets seed count) 100 ≡ true }
 {}

@@ -9,6 +9,8 @@ mod performing;
 mod reception;
 mod replaying;
 mod top;
+#[cfg(test)]
+mod worked_network;
 
 pub use dtx_meaning::Status;
 pub use top::run;

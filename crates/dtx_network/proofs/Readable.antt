@@ -1,0 +1,197 @@
+-- A stretch as it was sent is readable, whatever stands before it and behind it.
+use Rattle.std.proofs.Common.{◌≡◌, ◌⊎◌, inl, inr, ℕ, ℤ, ◌+◌, ◌-◌, ◌*◌, ◌/◌, ◌%◌, ◌<◌, ◌≤◌, List, [], ◌++◌, length, take}
+use Rattle.std.proofs.Common.{drop, get_or, sym, ap, subst, ◌∙◌, arith}
+use Rattle.std.proofs.lemmas.Bool.{cases_lt}
+use Rattle.std.proofs.lemmas.List.{length-take, length-drop, take_all, get_or-take, get_or-drop, get_or-append-add}
+use Rattle.std.proofs.lemmas.List.{get_or_append_left}
+use Rattle.dtx_outer.specs.Inner.{codeword_byte_place, IsComplete}
+use Rattle.dtx_coder.specs.Stream.{a53}
+use Rattle.dtx_receiver.specs.Bytes.{data_count, groups_of, bytes_in}
+use Rattle.dtx_receiver.specs.Intervals.{segments_in}
+use Rattle.dtx_exciter.specs.Lockstep.{segment_place}
+use Rattle.dtx_chain.specs.Undamaged.{ArePackets}
+use Rattle.dtx_chain.specs.Damage.{IsNear}
+use Rattle.dtx_chain.specs.FromSyncLaws.{IsThere, length-bytes_there, front_near, some_segments}
+use Rattle.dtx_network.specs.Headline.{last_packet, stretch_of}
+use Rattle.dtx_network.specs.GivesBack.{BeginsField, to_field, word_of, CanBeGivenBack}
+use Rattle.dtx_network.proofs.AllBack.{length-stretch_of}
+
+-- ---- places
+
+-- how many segments the stretch has from the field sync before packet f on
+left_from : List (List ℕ) → ℕ → ℕ → ℕ → ℕ
+left_from feed k end f = length (stretch_of feed k end) - to_field k f
+
+field_turn : (f : ℕ) → f % 312 ≡ 0 → 312 * (f / 312) ≡ f
+field_turn f z = omega (arith, z)
+
+-- the segment of that field sync
+sync_place : (k f : ℕ) → k < f → f % 312 ≡ 0 → segment_place k + to_field k f ≡ 313 * (f / 312)
+sync_place k f l z = by_turns (f / 312) (k / 312) (earlier k f l) (field_turn f z)
+  where
+    earlier : (k f : ℕ) → k < f → k / 312 ≤ f / 312
+    earlier k f l = omega (arith, l)
+
+    by_turns : (q r : ℕ) → r ≤ q → 312 * q ≡ f → k + r + 1 + (f + q + 1 - 1 - (k + r + 1)) ≡ 313 * q
+    by_turns q r m e = omega (arith, l, m, e)
+
+-- ---- the stretch's part of the run
+
+stretch_at : (feed : List (List ℕ)) (k end i : ℕ) → i < length (stretch_of feed k end)
+    → get_or (stretch_of feed k end) i [] ≡ get_or (a53 feed) (segment_place k + i) []
+unfolding stretch_of
+stretch_at feed k end i l =
+    get_or-take (segment_place (last_packet end) + 1 - segment_place k) (drop (segment_place k) (a53 feed)) i []
+    (omega (
+      arith,
+      l,
+      length-take (segment_place (last_packet end) + 1 - segment_place k) (drop (segment_place k) (a53 feed)),
+    ))
+    ∙ get_or-drop (segment_place k) (a53 feed) i []
+
+stretch_within : (feed : List (List ℕ)) (k end : ℕ) → 0 < length (stretch_of feed k end)
+    → segment_place k + length (stretch_of feed k end) ≤ length (a53 feed)
+unfolding stretch_of
+stretch_within feed k end l =
+    omega (
+      arith,
+      l,
+      length-take (segment_place (last_packet end) + 1 - segment_place k) (drop (segment_place k) (a53 feed)),
+      length-drop (segment_place k) (a53 feed),
+    )
+
+-- a segment of the run, by what stands before it
+run_at : (before rest : List (List ℤ)) (a n i : ℕ) → i < n
+    → get_or (segments_in (before ++ rest) (length before + a, n)) i [] ≡ get_or rest (a + i) []
+run_at before rest a n i l =
+    let e : length before + a + i ≡ length before + (a + i) = omega arith in
+    get_or-take (length before + a + n - (length before + a)) (drop (length before + a) (before ++ rest)) i []
+    (omega (arith, l))
+    ∙ get_or-drop (length before + a) (before ++ rest) i []
+    ∙ ap (λ (m : ℕ). get_or (before ++ rest) m []) e
+    ∙ get_or-append-add before rest (a + i) []
+
+length-run : (segments : List (List ℤ)) (p n : ℕ) → length (segments_in segments (p, n)) ≤ n
+length-run segments p n =
+    omega (arith, length-take (p + n - p) (drop p segments))
+
+-- the stretch's part stands in the feed's own segments
+part_there : (feed : List (List ℕ)) (k end f n : ℕ) (before after : List (List ℤ)) → BeginsField k end f
+    → let run : List (List ℤ) =
+    segments_in (before ++ (stretch_of feed k end ++ after)) (length before + to_field k f, n) in
+    0 < length run → to_field k f < length (stretch_of feed k end)
+    → IsThere feed (f / 312) (take (left_from feed k end f) run)
+unfolding left_from
+part_there feed k end f n before after begins some inside =
+    let sent : List (List ℤ) = stretch_of feed k end in
+    let t : ℕ = to_field k f in
+    let m : ℕ = length (stretch_of feed k end) - to_field k f in
+    let run : List (List ℤ) = segments_in (before ++ (sent ++ after)) (length before + t, n) in
+    let at : segment_place k + t ≡ 313 * (f / 312) = sync_place k f begins.behind begins.begins in
+    let less = length-take m run in
+    let most = length-run (before ++ (sent ++ after)) (length before + t) n in
+    record {
+      some = omega (arith, some, less, inside);
+      within = omega (arith, less, at, inside, stretch_within feed k end (omega (arith, inside)));
+      same = λ i l.
+          let here : i < m = omega (arith, l, less) in
+          let here_run : i < n = omega (arith, l, less, most) in
+          let e : segment_place k + (t + i) ≡ 313 * (f / 312) + i = omega (arith, at) in
+          get_or-take m run i [] here
+          ∙ run_at before (sent ++ after) t n i here_run
+          ∙ get_or_append_left sent after [] (t + i) (omega (arith, here, inside))
+          ∙ stretch_at feed k end (t + i) (omega (arith, here, inside))
+          ∙ ap (λ (j : ℕ). get_or (a53 feed) j []) e;
+    }
+
+-- ---- the words that lie in it
+
+-- it has the groups up to the stretch's last one
+groups_left : (q v a : ℕ) → 312 * q + 4 * a + 3 ≤ 4 * v - 1
+    → let m : ℕ = 4 * v - 1 + (4 * v - 1) / 312 + 2 - 313 * q in a < (m - (m + 312) / 313) / 4
+groups_left q v a l = by_rest (4 * v - 1 - 312 * q) (omega (arith, l))
+  where
+    by_rest : (d : ℕ) → 312 * q + d ≡ 4 * v - 1
+        → let m : ℕ = 4 * v - 1 + (4 * v - 1) / 312 + 2 - 313 * q in a < (m - (m + 312) / 313) / 4
+    by_rest d e =
+        let turns : (4 * v - 1) / 312 ≡ q + d / 312 = omega (arith, e) in
+        let count : 4 * v - 1 + (4 * v - 1) / 312 + 2 - 313 * q ≡ d + d / 312 + 2 = omega (arith, e, turns) in
+        let all : d + d / 312 + 2 - (d + d / 312 + 2 + 312) / 313 ≡ d + 1 = omega arith in
+        subst (λ (m : ℕ). a < (m - (m + 312) / 313) / 4) (sym count) (omega (arith, all, l, e))
+
+length-left : (feed : List (List ℕ)) (k end f : ℕ) → end ≤ length feed → BeginsField k end f
+    → left_from feed k end f ≡ 4 * (end / 4) - 1 + (4 * (end / 4) - 1) / 312 + 2 - 313 * (f / 312)
+unfolding left_from
+length-left feed k end f inside begins =
+    let at : segment_place k + to_field k f ≡ 313 * (f / 312) = sync_place k f begins.behind begins.begins in
+    omega (
+      arith,
+      at,
+      length-stretch_of feed k end (omega (arith, begins.behind, begins.inside)) inside,
+      begins.inside,
+      begins.behind,
+    )
+
+-- the stretch holds the field sync
+field_within : (feed : List (List ℕ)) (k end f : ℕ) → end ≤ length feed → BeginsField k end f
+    → to_field k f < length (stretch_of feed k end)
+field_within feed k end f inside begins =
+    omega (
+      arith,
+      length-stretch_of feed k end (omega (arith, begins.behind, begins.inside)) inside,
+      begins.behind,
+      begins.inside,
+      turns f (4 * (end / 4) - 1) begins.inside,
+    )
+  where
+    turns : (f l : ℕ) → f ≤ l → f / 312 ≤ l / 312
+    turns f l m = omega (arith, m)
+
+-- the run ends within the stretch, or holds all of it from there on
+complete_in : (feed : List (List ℕ)) (k end f j : ℕ) (run : List (List ℤ)) → ArePackets feed → end ≤ length feed
+    → BeginsField k end f → IsThere feed (f / 312) (take (left_from feed k end f) run)
+    → IsComplete 207 52 4 (length (bytes_in run)) j
+    → ((i : ℕ) → i < 207 → f + 4 * (codeword_byte_place 52 4 (207 * j + i) / 828) + 3 ≤ last_packet end)
+    → (length run < left_from feed k end f) ⊎ (left_from feed k end f ≤ length run)
+    → IsComplete 207 52 4 (828 * groups_of (take (left_from feed k end f) run)) j
+unfolding groups_of data_count
+complete_in feed k end f j run p inside begins there given lies (inl l) =
+    let all : take (left_from feed k end f) run ≡ run =
+    take_all (left_from feed k end f) run (omega (arith, l)) in
+    subst (λ (n : ℕ). IsComplete 207 52 4 n j)
+    (ap (λ (r : List (List ℤ)). length (bytes_in r)) (sym all)
+    ∙ length-bytes_there feed (f / 312) (take (left_from feed k end f) run) p there)
+    given
+complete_in feed k end f j run p inside begins there given lies (inr l) = λ i m.
+    let long : length (take (left_from feed k end f) run)
+    ≡ 4 * (end / 4) - 1 + (4 * (end / 4) - 1) / 312 + 2 - 313 * (f / 312) =
+    omega (arith, l, length-take (left_from feed k end f) run) ∙ length-left feed k end f inside begins in
+    let turn = field_turn f begins.begins in
+    let a : ℕ = codeword_byte_place 52 4 (207 * j + i) / 828 in
+    let fewer = groups_left (f / 312) (end / 4) a (omega (arith, lies i m, turn)) in
+    subst (λ (n : ℕ). codeword_byte_place 52 4 (207 * j + i) < 828 * ((n - (n + 312) / 313) / 4)) (sym long)
+    (omega (arith, fewer))
+
+-- ---- the stretch is readable
+
+pub readable : (feed : List (List ℕ)) (k end f n j : ℕ) (before after : List (List ℤ)) → ArePackets feed
+    → end ≤ length feed → BeginsField k end f
+    → IsComplete 207 52 4 (length (bytes_in (segments_in (before ++ (stretch_of feed k end ++ after))
+    (length before + to_field k f, n)))) j
+    → ((i : ℕ) → i < 207 → f + 4 * (codeword_byte_place 52 4 (207 * j + i) / 828) + 3 ≤ last_packet end)
+    → CanBeGivenBack feed end f (segments_in (before ++ (stretch_of feed k end ++ after))
+    (length before + to_field k f, n)) j
+readable feed k end f n j before after p inside begins given lies =
+    let run : List (List ℤ) =
+    segments_in (before ++ (stretch_of feed k end ++ after)) (length before + to_field k f, n) in
+    let m : ℕ = left_from feed k end f in
+    let there : IsThere feed (f / 312) (take m run) =
+    part_there feed k end f n before after begins (some_segments run j given)
+    (field_within feed k end f inside begins) in
+    let c = complete_in feed k end f j run p inside begins there given lies (cases_lt (length run) m) in
+    record {
+      given = given;
+      inside = lies;
+      near = subst (λ (g : ℕ). IsNear feed (g + j) (word_of run j)) (field_turn f begins.begins)
+          (front_near feed (f / 312) m j run p there c);
+    }

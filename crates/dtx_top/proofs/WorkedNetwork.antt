@@ -1,0 +1,215 @@
+-- A simple network meets every premise of the headline.
+use Rattle.std.proofs.Common.{◌≡◌, ◌⊎◌, inl, inr, ℕ, zero, suc, ◌+◌, ◌-◌, ◌*◌, ◌/◌, ◌%◌, ◌<◌, ◌≤◌, ◌==◌, ◌&&◌}
+use Rattle.std.proofs.Common.{Bool, true, false, List, [], ◌∷◌, ◌++◌, length, refl, sym, ap, subst}
+use Rattle.std.proofs.Common.{◌∙◌, arith}
+use Rattle.std.specs.Prelude.{Option, Some, None, IsSomeAnd, filter, slice_get}
+use Rattle.std.specs.FinMap.{get}
+use Rattle.std.specs.List.{range_with_len, Contains}
+use Rattle.std.specs.Option.{option_map_or}
+use Rattle.std.proofs.lemmas.Bool.{and_from, eq-eqb}
+use Rattle.std.proofs.lemmas.List.Elements.{Contains-append_right}
+use Rattle.dtx_adapter.specs.Feed.{feed}
+use Rattle.dtx_chain.specs.Undamaged.{ArePackets}
+use Rattle.dtx_jobs.specs.SymbolFile as file
+use Rattle.dtx_lists.proofs.Range.{range_cases}
+use Rattle.dtx_make.specs.Hurt.{hurt}
+use Rattle.dtx_net.specs.PlaceOfLaws.{place_only}
+use Rattle.dtx_net.specs.Sent.{sent_segments}
+use Rattle.dtx_net.specs.Steps.{Step, transmitter_place}
+use Rattle.dtx_network.specs.GivesBack.{BeginsField, IsReceivedAlone, next_field}
+use Rattle.dtx_network.specs.Headline.{IsFirstOrder, stretch_of}
+use Rattle.dtx_network.specs.Network.{AreOfOthers, Joined, steps_under}
+use Rattle.dtx_network.specs.Orders.{has_order}
+use Rattle.dtx_network.specs.Plans.{IsInTime, IsPlan, IsStream}
+use Rattle.dtx_network.specs.Presets.{orders}
+use Rattle.dtx_outside.specs.Shelf.{Files}
+use Rattle.dtx_packets.specs.Packets.{packets_of}
+use Rattle.dtx_plan.specs.declared.event.Event.{Event}
+use Rattle.dtx_plan.specs.declared.event.Event.TheVariants.{Send}
+use Rattle.dtx_plan.specs.declared.plan.NetPlan.{NetPlan}
+use Rattle.dtx_plan.specs.declared.plan.Plan.{Plan}
+use Rattle.dtx_plan.specs.declared.plan.ReceivePlan.{ReceivePlan}
+use Rattle.dtx_plan.specs.declared.transmitter.Transmitter.{Transmitter}
+use Rattle.dtx_receiver.specs.Packets.{received}
+use Rattle.dtx_lists.proofs.RangeFilter.{filter-kept, filter-lost}
+use Rattle.dtx_schedule.specs.TransmitterFiles.{symbol_file}
+use Rattle.dtx_words.specs.NetworkNames.{received_name}
+use Rattle.dtx_top.specs.HeadlineOfFiles.{HeadlineLaw, HeadlineOfFiles}
+use Rattle.dtx_top.specs.Networks.{damaged_file, sent_file}
+use Rattle.dtx_top.specs.WorkedNetwork.{HasAllBack, IsSimple, WorkedNetwork}
+use Rattle.dtx_top.proofs.SegmentsBack.{segments_of_file}
+use Rattle.dtx_top.proofs.WorkedDamage.{few_slight}
+
+-- ---- the network's laws
+
+-- a transmitter that joins at packet 0, with all packets
+abbrev pub Met : Plan → List (List ℕ) → Transmitter → ℕ → ℕ → ℕ → ℕ → List Event → Type 0
+Met plan stream t who mark n g events =
+    (x : Joined plan stream events) × (x.t ≡ t) × (x.who ≡ who) × (x.mark ≡ mark) × (x.count ≡ n) × (x.k ≤ g)
+
+abbrev pub MetLaw : Type 0
+MetLaw = (plan : Plan) (stream : List (List ℕ)) (t : Transmitter) (who mark n g : ℕ) (before after : List Event)
+    → IsPlan plan → IsStream stream → slice_get plan.transmitters.items who ≡ Some t → IsInTime plan t
+    → mark % 624 ≡ 0 → mark + n ≤ length stream
+    → g % 4 ≡ 0 → mark + 52 ≤ g → g + 4 ≤ mark + n → has_order stream g ≡ true
+    → Met plan stream t who mark n g (before ++ Send t.address mark n ∷ after)
+
+abbrev pub AloneLaw : Type 0
+AloneLaw = (plan : Plan) (stream : List (List ℕ)) (t : Transmitter) (who n k : ℕ) (before after : List Event)
+    → IsPlan plan → IsStream stream → slice_get plan.transmitters.items who ≡ Some t → IsInTime plan t
+    → n ≤ length stream → IsFirstOrder (feed plan stream) 0 n k → AreOfOthers t before → AreOfOthers t after
+    → sent_segments t who (steps_under plan stream (before ++ Send t.address 0 n ∷ after))
+    ≡ stretch_of (feed plan stream) k n
+
+abbrev pub OrdersLaw : Type 0
+OrdersLaw = (plan : Plan) (stream : List (List ℕ)) (g : ℕ) → IsPlan plan → IsStream stream
+    → has_order (feed plan stream) g ≡ has_order stream g
+
+abbrev pub PacketsLaw : Type 0
+PacketsLaw = (plan : Plan) (stream : List (List ℕ)) → IsPlan plan → IsStream stream → ArePackets (feed plan stream)
+
+pub record Laws : Type 0 where
+  pub met : MetLaw
+  pub alone : AloneLaw
+  pub orders : OrdersLaw
+  pub packets : PacketsLaw
+  pub headline : HeadlineLaw
+
+-- ---- numbers
+
+passing_in : (p : ℕ → Bool) (a n g : ℕ) → a ≤ g → g < a + n → p g ≡ true → Contains (filter p (range_with_len a n)) g
+passing_in p a zero g l m h = absurd (omega (arith, l, m))
+passing_in p a (suc n) g l m h =
+    by_place (range_cases a g l) (λ k. passing_in p (a + 1) n g k (omega (arith, m)) h)
+  where
+    rest : List ℕ
+    rest = range_with_len (a + 1) n
+
+    at_test : (t : Bool) → p a ≡ t → Contains (filter p rest) g → Contains (filter p (a ∷ rest)) g
+    at_test true e c =
+        subst (λ (xs : List ℕ). Contains xs g) (sym (filter-kept p a rest e))
+        (Contains-append_right (a ∷ []) (filter p rest) g c)
+    at_test false e c = subst (λ (xs : List ℕ). Contains xs g) (sym (filter-lost p a rest e)) c
+
+    by_place : (a ≡ g) ⊎ (a + 1 ≤ g) → (a + 1 ≤ g → Contains (filter p rest) g) → Contains (filter p (a ∷ rest)) g
+    by_place (inl e) f =
+        subst (λ (xs : List ℕ). Contains xs g) (sym (filter-kept p a rest (ap p e ∙ h)))
+        (0, omega arith, e)
+    by_place (inr k) f = at_test (p a) refl (f k)
+
+order_in : (fed : List (List ℕ)) (k end g : ℕ) → k ≤ g → g + 4 ≤ end → g % 4 ≡ 0 → has_order fed g ≡ true
+    → Contains (orders fed k end) g
+unfolding orders
+order_in fed k end g l m z h =
+    passing_in (λ g. (g % 4 == 0) && has_order fed g) k (end - 3 - k) g l (omega (arith, l, m))
+    (and_from (g % 4 == 0) (has_order fed g) (eq-eqb (g % 4) 0 z) h)
+
+begins_field : (k end : ℕ) → k ≤ 100 → 372 ≤ end → BeginsField k end (next_field k)
+begins_field k end l m = record {
+  begins = turns (k / 312 + 1);
+  behind = omega (arith, l);
+  inside = omega (arith, l, m);
+}
+  where
+    turns : (q : ℕ) → 312 * q % 312 ≡ 0
+    turns q = omega arith
+
+-- ---- what is received
+
+-- the first transmitter's symbol file is the one that is received
+sent_is : (plan : Plan) (network : NetPlan) (stream : List (List ℕ)) (a : Transmitter) (address : ℕ) → IsPlan plan
+    → slice_get plan.transmitters.items 0 ≡ Some a → address ≡ a.address
+    → sent_file plan network stream address ≡ symbol_file a 0 (steps_under plan stream network.events)
+unfolding sent_file
+sent_is plan network stream a address p listed e =
+    let own : ℕ → Transmitter → List ℕ = λ who t. symbol_file t who (steps_under plan stream network.events) in
+    ap (λ (o : Option ℕ).
+    option_map_or (λ who. option_map_or (own who) (slice_get plan.transmitters.items who) []) o [])
+    (ap (λ (n : ℕ). transmitter_place n plan.transmitters.items) e ∙ place_only plan.transmitters.items 0 a p.sound.transmitters
+    listed)
+    ∙ ap (λ (o : Option Transmitter). option_map_or (own 0) o []) listed
+
+-- ---- the network
+
+pub worked : Laws → (plan : Plan) (network : NetPlan) (stream : List (List ℕ)) (a b : Transmitter) → IsPlan plan
+    → IsStream stream → IsSimple plan network stream a b → WorkedNetwork plan network stream 100
+unfolding damaged_file
+worked laws plan network stream a b p u s = record {
+  one = one.0;
+  other = other.0;
+  two = λ e. s.differ (ap (λ (t : Transmitter). t.address) (sym one.1) ∙ e
+      ∙ ap (λ (t : Transmitter). t.address) other.1);
+  follows = (laws.headline plan stream network.events p u).follows one.0;
+  other_follows = (laws.headline plan stream network.events p u).follows other.0;
+  apart = (laws.headline plan stream network.events p u).apart one.0 other.0 100
+      (order_in fed one.0.k (one.0.mark + one.0.count) 100 one.5 (omega (arith, end_one, s.long)) (omega arith) order)
+      (order_in fed other.0.k (other.0.mark + other.0.count) 100 other.5 (omega (arith, end_other, s.long))
+      (omega arith) order);
+  slight = slight;
+  all_back = λ receiver is.
+      ((laws.headline plan stream network.events p u).follows one.0).gives_all_back
+      (file.file_segments (damaged_file plan network stream receiver))
+      (begins_field one.0.k (one.0.mark + one.0.count) one.5 (omega (arith, end_one, s.long)))
+      (subst (λ (n : ℕ). IsReceivedAlone fed one.0.k n
+      (file.file_segments (damaged_file plan network stream receiver))) (sym end_one) (slight receiver is));
+}
+  where
+    fed : List (List ℕ)
+    fed = feed plan stream
+
+    order : has_order (feed plan stream) 100 ≡ true
+    order = laws.orders plan stream 100 p u ∙ s.order
+
+    one : Met plan stream a 0 0 (length stream) 100 network.events
+    one = subst (Met plan stream a 0 0 (length stream) 100) (sym s.events)
+        (laws.met plan stream a 0 0 (length stream) 100 [] (Send b.address 0 (length stream) ∷ []) p u s.first s.in_time
+        (omega arith) (omega arith) (omega arith) (omega arith) (omega (arith, s.long)) s.order)
+
+    other : Met plan stream b 1 0 (length stream) 100 network.events
+    other = subst (Met plan stream b 1 0 (length stream) 100) (sym s.events)
+        (laws.met plan stream b 1 0 (length stream) 100 (Send a.address 0 (length stream) ∷ []) [] p u s.second
+        s.other_in_time (omega arith) (omega arith) (omega arith) (omega arith) (omega (arith, s.long)) s.order)
+
+    end_one : one.0.mark + one.0.count ≡ length stream
+    end_one = omega (arith, one.3, one.4)
+
+    end_other : other.0.mark + other.0.count ≡ length stream
+    end_other = omega (arith, other.3, other.4)
+
+    first : IsFirstOrder (feed plan stream) 0 (length stream) one.0.k
+    first = subst (λ (n : ℕ). IsFirstOrder (feed plan stream) 0 n one.0.k) one.4
+        (subst (λ (m : ℕ). IsFirstOrder (feed plan stream) m one.0.count one.0.k) one.3 one.0.order)
+
+    alone : sent_segments a 0 (steps_under plan stream network.events)
+        ≡ stretch_of (feed plan stream) one.0.k (length stream)
+    alone = subst (λ (events : List Event). sent_segments a 0 (steps_under plan stream events)
+        ≡ stretch_of (feed plan stream) one.0.k (length stream)) (sym s.events)
+        (laws.alone plan stream a 0 (length stream) one.0.k [] (Send b.address 0 (length stream) ∷ []) p u s.first
+        s.in_time (omega arith) first tt (λ e. s.differ (sym e), tt))
+
+    slight : (receiver : ReceivePlan) → network.receive ≡ Some receiver
+        → IsReceivedAlone (feed plan stream) one.0.k (length stream)
+        (file.file_segments (damaged_file plan network stream receiver))
+    slight receiver is =
+        let asked = s.received receiver is in
+        let steps : List Step = steps_under plan stream network.events in
+        subst (λ (f : List ℕ). IsReceivedAlone fed one.0.k (length stream) (file.file_segments (hurt receiver.damage f)))
+        (sym (sent_is plan network stream a receiver.from p s.first asked.0))
+        (few_slight fed one.0.k (length stream) (symbol_file a 0 steps) receiver.damage (laws.packets plan stream p u)
+        one.5 (segments_of_file a 0 steps ∙ alone) asked.1)
+
+-- ---- its files
+
+some_and : {X : Type 0} (o : Option X) (P Q : X → Type 0) → ((x : X) → P x → Q x) → IsSomeAnd o P → IsSomeAnd o Q
+some_and None P Q f h = h
+some_and (Some x) P Q f h = f x h
+
+pub file_back : (plan : Plan) (network : NetPlan) (stream : List (List ℕ)) (held now : Files)
+    (w : WorkedNetwork plan network stream 100) → HeadlineOfFiles plan network stream held now
+    → (receiver : ReceivePlan) → network.receive ≡ Some receiver
+    → IsSomeAnd (get now received_name) (HasAllBack plan network stream receiver w.one.k)
+file_back plan network stream held now w h receiver is =
+    some_and (get now received_name)
+    (λ bytes. packets_of bytes ≡ received (file.file_segments (damaged_file plan network stream receiver)))
+    (HasAllBack plan network stream receiver w.one.k)
+    (λ bytes e. e ∙ (w.all_back receiver is).packets) (h.packets receiver is)

@@ -1,0 +1,86 @@
+-- A network that is shown to meet every premise of the headline (the profile's own).
+use Rattle.std.specs.Prelude.{ℕ, ◌≡◌, ◌≢◌, ◌+◌, ◌≤◌, ◌-ℤ◌, Some, IsSomeAnd, List, [], ◌∷◌, length, map, drop}
+use Rattle.std.specs.Prelude.{slice_get, true}
+use Rattle.std.specs.Prelude.{slice_index_or}
+use Rattle.std.specs.List.{range_with_len}
+use Rattle.std.specs.Result.{IsOkAnd}
+use Rattle.dtx_adapter.specs.Feed.{feed}
+use Rattle.dtx_chain.specs.Damage.{numbers_in}
+use Rattle.dtx_chain.specs.Undamaged.{as_received}
+use Rattle.dtx_jobs.specs.SymbolFile.{file_segments}
+use Rattle.dtx_make.specs.Made.{made_packet}
+use Rattle.dtx_net.specs.Sent.{lines_of}
+use Rattle.dtx_network.specs.GivesBack.{IsReceivedAlone, IsAllBack, next_field, to_field}
+use Rattle.dtx_network.specs.Network.{steps_under, Joined, Follows, AreApart}
+use Rattle.dtx_network.specs.Orders.{has_order}
+use Rattle.dtx_network.specs.Plans.{IsInTime}
+use Rattle.dtx_network.specs.Presets.{preset_at}
+use Rattle.dtx_packets.specs.Packets.{packets_of}
+use Rattle.dtx_plan.specs.Plan.{plan_of}
+use Rattle.dtx_plan.specs.declared.damage.Damage.{Damage}
+use Rattle.dtx_plan.specs.declared.event.Event.TheVariants.{Send}
+use Rattle.dtx_plan.specs.declared.plan.NetPlan.{NetPlan}
+use Rattle.dtx_plan.specs.declared.plan.Plan.{Plan}
+use Rattle.dtx_plan.specs.declared.plan.ReceivePlan.{ReceivePlan}
+use Rattle.dtx_plan.specs.declared.transmitter.Transmitter.{Transmitter}
+use Rattle.dtx_top.specs.Networks.{damaged_file}
+
+-- Two transmitters of a network join the feed of a stream; whatever is said of such is said of them, without a premise.
+pub record WorkedNetwork (plan : Plan) (network : NetPlan) (stream : List (List ℕ)) (g : ℕ) : Type 0 where
+  pub one : Joined plan stream network.events
+  pub other : Joined plan stream network.events
+  pub two : one.t.address ≢ other.t.address
+  -- Both emit exactly the feed's symbols.
+  pub follows : Follows plan stream network.events one
+  pub other_follows : Follows plan stream network.events other
+  -- The moments at which they send the group from packet g on differ only by the offsets.
+  pub apart : AreApart (one.t.offset -ℤ other.t.offset)
+      (lines_of one.t one.who (steps_under plan stream network.events))
+      (lines_of other.t other.who (steps_under plan stream network.events))
+      (preset_at plan one.t.offset (length follows.emits.before) one.k g)
+      (preset_at plan other.t.offset (length other_follows.emits.before) other.k g)
+  -- What is received of the first one, with the plan's damage, is its stretch with slight damage ..
+  pub slight : (receiver : ReceivePlan) → network.receive ≡ Some receiver
+      → IsReceivedAlone (feed plan stream) one.k (length stream)
+      (file_segments (damaged_file plan network stream receiver))
+  -- .. and all its packets are given back.
+  pub all_back : (receiver : ReceivePlan) → network.receive ≡ Some receiver
+      → IsAllBack (feed plan stream) one.k (next_field one.k)
+      (file_segments (damaged_file plan network stream receiver))
+
+-- a plan's text and a stream are those of such a network
+abbrev pub IsWorked : List ℕ → List (List ℕ) → ℕ → Type 0
+IsWorked text stream g =
+    IsOkAnd (plan_of text) (λ plan. IsSomeAnd plan.net (λ network. WorkedNetwork plan network stream g))
+
+-- The packets of a file are exactly those of the feed, from the first field behind packet k on, whose bytes are all
+-- there, in order, with 0x47 as their sync bytes.
+abbrev pub HasAllBack : Plan → NetPlan → List (List ℕ) → ReceivePlan → ℕ → List ℕ → Type 0
+HasAllBack plan network stream receiver k file =
+    packets_of file ≡ map (λ j. as_received (slice_index_or (feed plan stream) (next_field k + j) []))
+    (numbers_in (drop (to_field k (next_field k)) (file_segments (damaged_file plan network stream receiver))))
+
+-- No entry of damage, or one of at most 31 symbols, which ends in the first 212 segments.
+abbrev pub IsFew : List Damage → Type 0
+IsFew [] = Unit {0}
+IsFew (entry ∷ []) = (entry.count ≤ 31) × (entry.at + entry.count ≤ 176384)
+IsFew damage = ⊥
+
+-- What is asked of its plan and its stream: each of the first two transmitters is in time and is given the whole feed
+-- at once, and nothing else; the group from packet 100 on holds an operations packet, and 60 packets or more come
+-- behind the first field; the first transmitter is received, with little damage.
+pub record IsSimple (plan : Plan) (network : NetPlan) (stream : List (List ℕ)) (a b : Transmitter) : Type 0 where
+  pub first : slice_get plan.transmitters.items 0 ≡ Some a
+  pub second : slice_get plan.transmitters.items 1 ≡ Some b
+  pub in_time : IsInTime plan a
+  pub other_in_time : IsInTime plan b
+  pub differ : a.address ≢ b.address
+  pub events : network.events ≡ Send a.address 0 (length stream) ∷ Send b.address 0 (length stream) ∷ []
+  pub order : has_order stream 100 ≡ true
+  pub long : 372 ≤ length stream
+  pub received : (receiver : ReceivePlan) → network.receive ≡ Some receiver
+      → (receiver.from ≡ a.address) × IsFew receiver.damage
+
+-- that many packets of the made stream of a seed
+unfoldable pub made_packets : ℕ → ℕ → List (List ℕ)
+made_packets seed count = map (made_packet seed) (range_with_len 0 count)
