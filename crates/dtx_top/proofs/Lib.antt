@@ -1,3 +1,14 @@
+pub mod Adapted
 pub mod ByWords
+pub mod Carrying
 pub mod Ending
+pub mod FileNames
+pub mod Headlines
 pub mod LineLeft
+pub mod NetFiles
+pub mod Played
+pub mod SegmentsBack
+pub mod SegmentsSent
+pub mod Streams
+pub mod SymbolsBack
+pub mod SymbolsSent

@@ -1,3 +1,9 @@
 pub mod Ends
+pub mod HeadlineOfFiles
 pub mod Lines
 pub mod Means
+pub mod NetMeaning
+pub mod NetNames
+pub mod Networks
+pub mod OfBytes
+pub mod Replaying

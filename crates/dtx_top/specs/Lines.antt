@@ -10,7 +10,7 @@ use Rattle.dtx_words.specs.Printed.{printed}
 use Rattle.dtx_words.specs.declared.rows.Command.{Command}
 use Rattle.dtx_words.specs.declared.rows.Command.TheVariants.{Net}
 use Rattle.dtx_top.specs.Means.{means_of}
-use Rattle.dtx_replay.specs.NetNames.{net_names, plan_word, told_name, IsUntoldName}
+use Rattle.dtx_top.specs.NetNames.{net_names, plan_word, told_name, IsUntoldName}
 
 -- ---- which line
 

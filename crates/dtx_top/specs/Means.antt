@@ -1,6 +1,6 @@
 -- What words mean, over all commands.
 use Rattle.std.specs.Prelude.{ℕ, List, Option, Some, None}
-use Rattle.dtx_replay.specs.NetMeaning.{net_meaning}
+use Rattle.dtx_top.specs.NetMeaning.{net_meaning}
 use Rattle.dtx_outside.specs.Shelf.{Files}
 use Rattle.dtx_jobs.specs.Adapt.{adapt_meaning}
 use Rattle.dtx_jobs.specs.Code.{code_meaning}

@@ -1,7 +1,13 @@
 //! The program: one call that does all of it.
 #![tactic(auto)]
 
+pub mod laws;
+mod net_command;
+mod network_names;
+mod of_bytes;
 mod performing;
+mod reception;
+mod replaying;
 mod top;
 
 pub use dtx_meaning::Status;

@@ -8,11 +8,11 @@ ghost use Rattle.dtx_top.specs.Ends.{HasHeadlineOf, IsOfCommand};
 ghost use Rattle.dtx_top.specs.Lines.{name_kept, names_told, IsSomeName};
 ghost use Rattle.dtx_top.specs.Means.{means_of};
 
+use crate::net_command::{NetOutcome, net};
 use arrayvec::ArrayString;
 use dtx_jobs::{adapt, code, excite, hurt, make, place, receive};
 use dtx_meaning::{Outcome, Status, ended};
 use dtx_outside::{Shelf, Word};
-use dtx_replay::{NetOutcome, net};
 use dtx_words::Command;
 use std::alloc::Global;
 

@@ -8,10 +8,10 @@ ghost use Rattle.dtx_top.specs.Ends.{HasEnded, HasHeadlineOf, IsByWords, IsFault
 ghost use Rattle.dtx_top.specs.Lines.{name_kept, HasLine, IsSomeLine, IsToldLine};
 ghost use Rattle.dtx_top.specs.Means.{means};
 
+use crate::net_command::NetOutcome;
 use crate::performing::perform;
 use dtx_meaning::Status;
 use dtx_outside::{Shelf, Sink, Word};
-use dtx_replay::NetOutcome;
 use dtx_words::{Command, command, finish, line, name_in_line};
 use std::alloc::Global;
 

@@ -1,6 +1,0 @@
-pub mod HeadlineOfFiles
-pub mod NetMeaning
-pub mod NetNames
-pub mod Networks
-pub mod OfBytes
-pub mod Replaying

@@ -1,0 +1,188 @@
+-- A stream that was adapted whole, and what follows of its feed.
+use Rattle.std.proofs.Common.{◌≡◌, ℕ, ◌%◌, Bool, true, false, cond, List, [], ◌∷◌, ◌++◌, length, refl, sym, ap, subst}
+use Rattle.std.proofs.Common.{◌∙◌, inl, inr, arith}
+use Rattle.std.specs.Prelude.{Option, Some, None, IfSome, nat_lt, slice_index}
+use Rattle.std.specs.FinMap.{get}
+use Rattle.std.proofs.lemmas.List.{append-nil}
+use Rattle.dtx_adapter.specs.Feed.{placeholders}
+use Rattle.dtx_engine.specs.Making.{Course, Making, course_from, first_refused, first_units, meaning, meaning_at}
+use Rattle.dtx_engine.specs.Making.{meaning_of_file, whole_units}
+use Rattle.dtx_engine.specs.declared.engine.Shape.{Shape}
+use Rattle.dtx_engine.specs.declared.piece.Ending.TheVariants.{Whole, Refused}
+use Rattle.dtx_jobs.specs.Feed.{feed_bytes}
+use Rattle.dtx_jobs.specs.PacketFileLaws.{length-packets_of, long-packets_of}
+use Rattle.dtx_jobs.specs.Shapes.{packets}
+use Rattle.dtx_meaning.specs.Laws.{carried_before, carried_then}
+use Rattle.dtx_meaning.specs.Meaning.{Meaning, IsCarriedOut, IsWhole, and_then, with_outputs}
+use Rattle.dtx_meaning.specs.Status.{IsFault}
+use Rattle.dtx_meaning.specs.declared.status.Outcome.{Outcome}
+use Rattle.dtx_meaning.specs.declared.status.Status.{Status}
+use Rattle.dtx_meaning.specs.declared.status.Status.TheVariants.{Done, TooLong}
+use Rattle.dtx_outside.specs.Laws.{get-insert_same}
+use Rattle.dtx_outside.specs.Shelf.{Files, with_file}
+use Rattle.dtx_packets.specs.PacketLaws.{packets_of-piece, whole_packets-piece}
+use Rattle.dtx_packets.specs.Packets.{packets_of, whole_packets}
+use Rattle.dtx_plan.specs.declared.plan.NetPlan.{NetPlan}
+use Rattle.dtx_plan.specs.declared.plan.Plan.{Plan}
+use Rattle.dtx_words.specs.NetworkNames.{feed_name}
+use Rattle.dtx_top.specs.NetMeaning.{adapting, fed_meaning, is_done, network_meaning}
+use Rattle.dtx_top.specs.Replaying.{IsFeedWritten}
+use Rattle.dtx_top.proofs.Carrying.{is_done_is}
+
+-- ---- all units of an input were allowed, and are not too many
+
+pub record AreAllTaken (shape : Shape) (making : Making) (file : List ℕ) : Type 0 where
+  pub none : first_refused shape making file ≡ None
+  pub few : nat_lt shape.limit (whole_units shape file) ≡ false
+
+-- so it is where the answer is that the command is done
+pub all_taken : (shape : Shape) (making : Making) (names : List (List ℕ)) (file : List ℕ)
+    → (meaning_of_file shape making names file).outcome.status ≡ Done → AreAllTaken shape making file
+all_taken shape making names file done = by_first (first_refused shape making file) refl done
+  where
+    means_at : Course → Meaning
+    means_at course = meaning_at making names (first_units shape file course.taken) course.ending
+
+    by_few : (b : Bool) → nat_lt shape.limit (whole_units shape file) ≡ b → first_refused shape making file ≡ None
+        → (means_at (cond b (record { taken = shape.limit; ending = Refused TooLong })
+        (record { taken = whole_units shape file; ending = Whole (length file % shape.unit) }))).outcome.status ≡ Done
+        → AreAllTaken shape making file
+    by_few true few none done = cc
+    by_few false few none done = record { none = none; few = few }
+
+    by_first : (o : Option ℕ) → first_refused shape making file ≡ o
+        → (means_at (course_from shape file o)).outcome.status ≡ Done
+        → AreAllTaken shape making file
+    by_first (Some k) is done = cc
+    by_first None is done = by_few (nat_lt shape.limit (whole_units shape file)) refl is done
+
+pub taken_means : (shape : Shape) (making : Making) (names : List (List ℕ)) (file : List ℕ)
+    → AreAllTaken shape making file
+    → meaning_of_file shape making names file ≡ meaning_at making names
+    (first_units shape file (whole_units shape file)) (Whole (length file % shape.unit))
+taken_means shape making names file all =
+    ap (λ (c : Course). meaning_at making names (first_units shape file c.taken) c.ending)
+    (ap (course_from shape file) all.none
+    ∙ ap (λ (b : Bool). cond b (record { taken = shape.limit; ending = Refused TooLong })
+    (record { taken = whole_units shape file; ending = Whole (length file % shape.unit) })) all.few)
+
+-- ---- the feed of a stream was written
+
+-- the whole packets of the stream's file
+abbrev pub given_of : List ℕ → List ℕ
+given_of file = first_units packets file (whole_units packets file)
+
+pub packets_given_of : (file : List ℕ) → packets_of (given_of file) ≡ packets_of file
+packets_given_of file = packets_of-piece file 0 (whole_packets file) (omega arith)
+
+written : (plan : Plan) (file : List ℕ) (held mid : Files) (fed : Outcome) → AreAllTaken packets (adapting plan) file
+    → IsWhole (meaning_of_file packets (adapting plan) (feed_name ∷ []) file) (Some held) fed (Some mid)
+    → IsFeedWritten plan (packets_of file) fed mid
+written plan file held mid fed all whole =
+    let means = taken_means packets (adapting plan) (feed_name ∷ []) file all in
+    let given : List ℕ = given_of file in
+    let bytes : List ℕ = feed_bytes plan (packets_of given) ++ [] in
+    let answer = whole.answer ∙ ap (λ (m : Meaning). m.outcome) means in
+    let files : Some mid ≡ Some (with_file feed_name bytes held) =
+    whole.files ∙ ap (λ (m : Meaning). with_outputs m.outputs (Some held)) means in
+    let are : mid ≡ with_file feed_name bytes held = cc in
+    record {
+      long = long-packets_of file;
+      numbers = record {
+        packets = ap (λ (o : Outcome). slice_index o.numbers 0) answer
+            ∙ whole_packets-piece file 0 (whole_packets file) (omega arith)
+            ∙ sym (length-packets_of file);
+        filled = ap (λ (o : Outcome). slice_index o.numbers 1) answer ∙ ap placeholders (packets_given_of file);
+      };
+      feed = ap (λ (files : Files). get files feed_name) are ∙ get-insert_same held feed_name bytes
+          ∙ ap Some (append-nil (feed_bytes plan (packets_of given)) ∙ ap (feed_bytes plan) (packets_given_of file));
+    }
+
+-- ---- what follows of it
+
+not_fault : (status : Status) → status ≡ Done → IsFault status → ⊥
+not_fault status done fault = subst IsFault done fault
+
+pub fed_then : (plan : Plan) (network : NetPlan) (held : Files) (found : Option (List ℕ)) (mid now : Option Files)
+    (fed result : Outcome) → fed.status ≡ Done
+    → IsCarriedOut (meaning packets (adapting plan) 1 (feed_name ∷ []) found) (Some held) fed mid
+    → ((told : Files) (stream : List (List ℕ)) → mid ≡ Some told → IsFeedWritten plan stream fed told
+    → IsCarriedOut (fed_meaning plan network stream) (Some told) result now)
+    → IsCarriedOut (network_meaning plan network found) (Some held) result now
+fed_then plan network held found mid now fed result done (inr broken) next =
+    absurd (not_fault fed.status done broken.fault)
+fed_then plan network held None mid now fed result done (inl whole) next = let e =
+    ap (λ (o : Outcome). o.status) whole.answer in cc
+fed_then plan network held (Some file) mid now fed result done (inl whole) next =
+    at_done (is_done first.outcome.status) refl
+  where
+    first : Meaning
+    first = meaning_of_file packets (adapting plan) (feed_name ∷ []) file
+
+    first_done : first.outcome.status ≡ Done
+    first_done = sym (ap (λ (o : Outcome). o.status) whole.answer) ∙ done
+
+    all : AreAllTaken packets (adapting plan) file
+    all = all_taken packets (adapting plan) (feed_name ∷ []) file first_done
+
+    between : Files
+    between = with_file feed_name (feed_bytes plan (packets_of (given_of file)) ++ []) held
+
+    told : mid ≡ Some between
+    told = whole.files
+        ∙ ap (λ (m : Meaning). with_outputs m.outputs (Some held))
+        (taken_means packets (adapting plan) (feed_name ∷ []) file all)
+
+    behind : IsCarriedOut (and_then first (fed_meaning plan network (packets_of file))) (Some held) result now
+    behind = carried_then first (fed_meaning plan network (packets_of file)) (Some held) (Some between) now result
+        (sym told ∙ whole.files)
+        (next between (packets_of file) told
+        (written plan file held between fed all (record { answer = whole.answer; files = sym told ∙ whole.files })))
+
+    at_done : (b : Bool) → is_done first.outcome.status ≡ b
+        → IsCarriedOut (cond b (and_then first (fed_meaning plan network (packets_of file))) first)
+        (Some held) result now
+    at_done true e = behind
+    at_done false e = let t : is_done first.outcome.status ≡ true = ap is_done first_done in cc
+
+pub fed_alone : (plan : Plan) (network : NetPlan) (held : Files) (found : Option (List ℕ)) (now : Option Files)
+    (fed : Outcome) → (fed.status ≡ Done → ⊥)
+    → IsCarriedOut (meaning packets (adapting plan) 1 (feed_name ∷ []) found) (Some held) fed now
+    → IsCarriedOut (network_meaning plan network found) (Some held) fed now
+fed_alone plan network held None now fed not_done carried = carried
+fed_alone plan network held (Some file) now fed not_done carried = at_done (is_done first.outcome.status) refl carried
+  where
+    first : Meaning
+    first = meaning_of_file packets (adapting plan) (feed_name ∷ []) file
+
+    next : Meaning
+    next = fed_meaning plan network (packets_of file)
+
+    at_done : (b : Bool) → is_done first.outcome.status ≡ b → IsCarriedOut first (Some held) fed now
+        → IsCarriedOut (cond b (and_then first next) first) (Some held) fed now
+    at_done false e carried = carried
+    at_done true e (inl whole) =
+        absurd (not_done (ap (λ (o : Outcome). o.status) whole.answer ∙ is_done_is first.outcome.status e))
+    at_done true e (inr broken) = carried_before first next (Some held) now fed broken.fault (inr broken)
+
+-- ---- where the files are told
+
+pub fed_then_told : (plan : Plan) (network : NetPlan) (told mid now : Option Files) (fed result : Outcome)
+    → fed.status ≡ Done
+    → IfSome told (λ held. IsCarriedOut (meaning packets (adapting plan) 1 (feed_name ∷ []) (get held network.stream))
+    (Some held) fed mid)
+    → ((held : Files) (stream : List (List ℕ)) → mid ≡ Some held → IsFeedWritten plan stream fed held
+    → IsCarriedOut (fed_meaning plan network stream) (Some held) result now)
+    → IfSome told (λ held. IsCarriedOut (network_meaning plan network (get held network.stream)) (Some held) result now)
+fed_then_told plan network None mid now fed result done carried next = tt
+fed_then_told plan network (Some held) mid now fed result done carried next =
+    fed_then plan network held (get held network.stream) mid now fed result done carried next
+
+pub fed_alone_told : (plan : Plan) (network : NetPlan) (told now : Option Files) (fed : Outcome)
+    → (fed.status ≡ Done → ⊥)
+    → IfSome told (λ held. IsCarriedOut (meaning packets (adapting plan) 1 (feed_name ∷ []) (get held network.stream))
+    (Some held) fed now)
+    → IfSome told (λ held. IsCarriedOut (network_meaning plan network (get held network.stream)) (Some held) fed now)
+fed_alone_told plan network None now fed not_done carried = tt
+fed_alone_told plan network (Some held) now fed not_done carried =
+    fed_alone plan network held (get held network.stream) now fed not_done carried

@@ -1,0 +1,301 @@
+-- The headline, of a network whose meaning was carried out and is done.
+use Rattle.std.proofs.Common.{◌≡◌, ℕ, ◌*◌, ◌/◌, ◌<◌, ◌^◌, Bool, true, false, cond, List, [], ◌∷◌, ◌++◌, length, refl}
+use Rattle.std.proofs.Common.{sym, ap, subst, ◌∙◌, arith}
+use Rattle.std.specs.Prelude.{Option, Some, None, Result, Ok, Err, IfSome, IsSomeAnd, ℤ, is_some, slice_get}
+use Rattle.std.specs.Prelude.{slice_index}
+use Rattle.std.specs.FinMap.{get}
+use Rattle.std.specs.Option.{option_map_or}
+use Rattle.std.specs.Result.{IsOkAnd}
+use Rattle.std.proofs.lemmas.List.{append-nil, take_all}
+use Rattle.std.proofs.lemmas.List.Elements.{All-get_or}
+use Rattle.std.proofs.lemmas.Option.{slice_get_within, get_or_from_slice_get}
+use Rattle.dtx_chain.specs.ReceivedLaws.{all_whole}
+use Rattle.dtx_engine.specs.Made.{Made, outputs_of}
+use Rattle.dtx_engine.specs.Making.{Making, first_units, meaning_of_file, whole_units}
+use Rattle.dtx_jobs.specs.Damaged.{damaged}
+use Rattle.dtx_jobs.specs.Feed.{feed_bytes}
+use Rattle.dtx_jobs.specs.PacketFileLaws.{packets_of-bytes}
+use Rattle.dtx_jobs.specs.PastEnd.{first_past}
+use Rattle.dtx_jobs.specs.PlanFile.{under_plan, under_said}
+use Rattle.dtx_jobs.specs.Receive.{received_bytes, receiving}
+use Rattle.dtx_jobs.specs.ReceiveLaws.{receives_all}
+use Rattle.dtx_jobs.specs.Shapes.{packets, segments}
+use Rattle.dtx_jobs.specs.SymbolFile as symbols
+use Rattle.dtx_schedule.specs.Inside.{first_past_feed}
+use Rattle.dtx_make.specs.Hurt.{hurt}
+use Rattle.dtx_meaning.specs.Laws.{whole_of_carried}
+use Rattle.dtx_meaning.specs.Meaning.{Meaning, Outputs, IsCarriedOut, and_then, refused, with_outputs}
+use Rattle.dtx_meaning.specs.Status.{IsFault}
+use Rattle.dtx_meaning.specs.declared.status.Outcome.{Outcome}
+use Rattle.dtx_meaning.specs.declared.status.Status.TheVariants.{Done, Same}
+use Rattle.dtx_network.specs.Network.{steps_under}
+use Rattle.dtx_network.specs.Plans.{IsPlan, IsStream}
+use Rattle.dtx_outside.specs.Shelf.{Files}
+use Rattle.dtx_packets.specs.Packets.{packets_of}
+use Rattle.dtx_net.specs.Sent.{segments_of}
+use Rattle.dtx_net.specs.Steps.{place_of}
+use Rattle.dtx_plan.specs.WalksLaws.{plan_sound, plan_transmitters}
+use Rattle.dtx_plan.specs.Plan.{plan_of}
+use Rattle.dtx_plan.specs.Sound.{IsTransmitter}
+use Rattle.dtx_plan.specs.declared.plan.NetPlan.{NetPlan}
+use Rattle.dtx_plan.specs.declared.plan.Plan.{Plan}
+use Rattle.dtx_plan.specs.declared.plan.ReceivePlan.{ReceivePlan}
+use Rattle.dtx_plan.specs.declared.refusal.PlanNo.{PlanNo}
+use Rattle.dtx_plan.specs.declared.transmitter.Transmitter.{Transmitter}
+use Rattle.dtx_receiver.specs.Packets.{received}
+use Rattle.dtx_schedule.specs.FilesLaws.{apart_of, files_with, with_outputs-told}
+use Rattle.dtx_schedule.specs.TransmitterFiles.{played_outputs, symbol_file}
+use Rattle.dtx_words.specs.Names.{repeated}
+use Rattle.dtx_words.specs.NetworkNames.{feed_name, received_name}
+use Rattle.dtx_top.specs.HeadlineOfFiles.{HeadlineLaw, HeadlineOfFiles}
+use Rattle.dtx_top.specs.NetMeaning.{adapting, events_past, fed_meaning, is_done, network_meaning, planned_meaning}
+use Rattle.dtx_top.specs.NetMeaning.{played_and_received, received_of, received_past, with_received}
+use Rattle.dtx_top.specs.Networks.{OfNetwork, AreWholeFiles, damaged_file, network_names, packets_received}
+use Rattle.dtx_top.specs.Networks.{sent_file}
+use Rattle.dtx_top.proofs.Adapted.{AreAllTaken, all_taken, packets_given_of, taken_means}
+use Rattle.dtx_top.proofs.Carrying.{is_done_is}
+use Rattle.dtx_top.proofs.NetFiles.{network_files, network_outputs, received_outputs}
+use Rattle.dtx_top.proofs.SegmentsBack.{segments_of_file}
+use Rattle.dtx_top.proofs.SegmentsSent.{length-symbol_file}
+use Rattle.dtx_top.proofs.Streams.{is_stream}
+
+-- ---- what was received
+
+-- a symbol file has whole segments, also where there is none
+sent_whole : (plan : Plan) (network : NetPlan) (stream : List (List ℕ)) (address : ℕ)
+    → (n : ℕ) × (length (sent_file plan network stream address) ≡ 832 * n)
+unfolding sent_file
+sent_whole plan network stream address = by_place (place_of address plan.transmitters.items)
+  where
+    at : ℕ → Option Transmitter → List ℕ
+    at who o = option_map_or (λ t. symbol_file t who (steps_under plan stream network.events)) o []
+
+    by_transmitter : (who : ℕ) (o : Option Transmitter) → (n : ℕ) × (length (at who o) ≡ 832 * n)
+    by_transmitter who None = (0, refl)
+    by_transmitter who (Some t) = (
+      length (segments_of t who (steps_under plan stream network.events)),
+      length-symbol_file t who (steps_under plan stream network.events),
+    )
+
+    by_place : (o : Option ℕ)
+        → (n : ℕ) × (length (option_map_or (λ who. at who (slice_get plan.transmitters.items who)) o []) ≡ 832 * n)
+    by_place None = (0, refl)
+    by_place (Some who) = by_transmitter who (slice_get plan.transmitters.items who)
+
+all_given : (file : List ℕ) (n : ℕ) → length file ≡ 832 * n
+    → first_units segments file (whole_units segments file) ≡ file
+all_given file n long = take_all (832 * (length file / 832)) file (omega (arith, long))
+
+done_back : (fed filled steps : ℕ) (outcome : Outcome) → (with_received fed filled steps outcome).status ≡ Done
+    → outcome.status ≡ Done
+done_back fed filled steps outcome done = by_test (is_done outcome.status) refl done
+  where
+    reported : Outcome
+    reported = record {
+      status = Done;
+      numbers = fed ∷ filled ∷ steps ∷ slice_index outcome.numbers 2 ∷ slice_index outcome.numbers 3 ∷ slice_index
+          outcome.numbers 4 ∷ [];
+      shown = 6;
+    }
+
+    by_test : (b : Bool) → is_done outcome.status ≡ b → (cond b reported outcome).status ≡ Done → outcome.status ≡ Done
+    by_test true e done = is_done_is outcome.status e
+    by_test false e done = done
+
+-- where the symbols were received, what is written of them
+received_done : (plan : Plan) (network : NetPlan) (stream : List (List ℕ)) (receiver : ReceivePlan)
+    → (received_of plan network stream receiver).outcome.status ≡ Done
+    → (received_of plan network stream receiver).outputs ≡ (
+      received_name,
+      packets_received plan network stream receiver,
+    ) ∷ []
+unfolding damaged_file
+received_done plan network stream receiver done = by_past (first_past receiver.damage (length file))
+    (done_back _ _ _ (received_past (first_past receiver.damage (length file)) receiver.damage file).outcome done)
+  where
+    file : List ℕ
+    file = sent_file plan network stream receiver.from
+
+    making : Making
+    making = damaged receiver.damage receiving
+
+    by_past : (o : Option ℕ) → (received_past o receiver.damage file).outcome.status ≡ Done
+        → (received_past o receiver.damage file).outputs ≡ (
+          received_name,
+          received_bytes (hurt receiver.damage file),
+        ) ∷ []
+    by_past (Some entry) done = cc
+    by_past None done =
+        let all = all_taken segments making (received_name ∷ []) file done in
+        let given : List ℕ = first_units segments file (whole_units segments file) in
+        let long = sent_whole plan network stream receiver.from in
+        let same : given ≡ file = all_given file long.0 long.1 in
+        ap (λ (m : Meaning). m.outputs) (taken_means segments making (received_name ∷ []) file all)
+        ∙ ap (λ (m : Made). outputs_of (received_name ∷ []) m) (receives_all (hurt receiver.damage given))
+        ∙ ap (λ (f : List ℕ). (received_name, received_bytes (hurt receiver.damage f)) ∷ []) same
+
+-- ---- all outputs
+
+by_receiver : (plan : Plan) (network : NetPlan) (stream : List (List ℕ)) (receive : Option ReceivePlan)
+    → (played_and_received plan network stream receive).outcome.status ≡ Done
+    → (played_and_received plan network stream receive).outputs
+    ≡ played_outputs plan.transmitters.items (steps_under plan stream network.events)
+    ++ received_outputs receive (packets_received plan network stream)
+by_receiver plan network stream None done =
+    sym (append-nil (played_outputs plan.transmitters.items (steps_under plan stream network.events)))
+by_receiver plan network stream (Some receiver) done =
+    ap (λ (more : Outputs). played_outputs plan.transmitters.items (steps_under plan stream network.events)
+    ++ more) (received_done plan network stream receiver done)
+
+by_events : (plan : Plan) (network : NetPlan) (stream : List (List ℕ)) (o : Option ℕ)
+    → (events_past o plan network stream).outcome.status ≡ Done
+    → (events_past o plan network stream).outputs
+    ≡ played_outputs plan.transmitters.items (steps_under plan stream network.events)
+    ++ received_outputs network.receive (packets_received plan network stream)
+by_events plan network stream (Some event) done = cc
+by_events plan network stream None done = by_receiver plan network stream network.receive done
+
+record IsDone (plan : Plan) (network : NetPlan) (file : List ℕ) : Type 0 where
+  all : AreAllTaken packets (adapting plan) file
+  outputs : (network_meaning plan network (Some file)).outputs
+      ≡ network_outputs plan network (packets_of file) (packets_received plan network (packets_of file))
+
+done_outputs : (plan : Plan) (network : NetPlan) (file : List ℕ)
+    → (network_meaning plan network (Some file)).outcome.status ≡ Done → IsDone plan network file
+done_outputs plan network file done = at_first (is_done first.outcome.status) refl done
+  where
+    first : Meaning
+    first = meaning_of_file packets (adapting plan) (feed_name ∷ []) file
+
+    next : Meaning
+    next = fed_meaning plan network (packets_of file)
+
+    at_first : (b : Bool) → is_done first.outcome.status ≡ b
+        → (cond b (and_then first next) first).outcome.status ≡ Done → IsDone plan network file
+    at_first false e done = let t : is_done first.outcome.status ≡ true = ap is_done done in cc
+    at_first true e done =
+        let all = all_taken packets (adapting plan) (feed_name ∷ []) file (is_done_is first.outcome.status e) in
+        record {
+          all = all;
+          outputs = ap (λ (b : Bool). (cond b (and_then first next) first).outputs) e
+              ∙ ap (λ (o : Outputs). o ++ next.outputs)
+              (ap (λ (m : Meaning). m.outputs) (taken_means packets (adapting plan) (feed_name ∷ []) file all)
+              ∙ ap (λ (bytes : List ℕ). (feed_name, bytes) ∷ []) (append-nil _
+              ∙ ap (feed_bytes plan) (packets_given_of file)))
+              ∙ ap (λ (o : Outputs). (feed_name, feed_bytes plan (packets_of file)) ∷ o)
+              (by_events plan network (packets_of file)
+              (first_past_feed network.events (length (packets_of file))) done);
+        }
+
+-- ---- the headline
+
+-- the packets of the file of what is received
+received_back : (plan : Plan) (network : NetPlan) (stream : List (List ℕ)) (held now : Files)
+    → AreWholeFiles plan network stream held now → (receiver : ReceivePlan) → network.receive ≡ Some receiver
+    → IsSomeAnd (get now received_name)
+    (λ file. packets_of file ≡ received (symbols.segments_of (damaged_file plan network stream receiver)))
+received_back plan network stream held now files receiver receives =
+    let back : List (List ℤ) = symbols.segments_of (damaged_file plan network stream receiver) in
+    let there : get now received_name ≡ Some (packets_received plan network stream receiver) =
+    subst (λ (o : Option ReceivePlan). IfSome o (λ r. get now received_name
+    ≡ Some (packets_received plan network stream r))) receives files.received in
+    subst (λ (o : Option (List ℕ)). IsSomeAnd o (λ file. packets_of file ≡ received back)) (sym there)
+    (packets_of-bytes (received back) (all_whole back))
+
+headline_of : HeadlineLaw → (plan : Plan) (network : NetPlan) (stream : List (List ℕ)) (held now : Files) → IsPlan plan
+    → IsStream stream → AreWholeFiles plan network stream held now
+    → HeadlineOfFiles plan network stream held now
+headline_of law plan network stream held now plans streams files =
+    let h = law plan stream network.events plans streams in
+    record {
+      files = files;
+      segments = λ who t listed. segments_of_file t who (steps_under plan stream network.events);
+      headline = h;
+      gives_back = λ receiver x receives from. (h.follows x).gives_back
+          (symbols.segments_of (damaged_file plan network stream receiver));
+      gives_all_back = λ receiver x receives from. (h.follows x).gives_all_back
+          (symbols.segments_of (damaged_file plan network stream receiver));
+      packets = received_back plan network stream held now files;
+    }
+
+small : (plan : Plan) → IsPlan plan → (who : ℕ) (t : Transmitter) → slice_get plan.transmitters.items who ≡ Some t
+    → t.address < 2 ^ 16
+small plan is who t at_t =
+    let ts : List Transmitter = plan.transmitters.items in
+    (subst IsTransmitter (get_or_from_slice_get ts who t t at_t)
+    (All-get_or IsTransmitter ts who t (slice_get_within ts who t at_t) is.transmitters)).address
+
+-- the files and the headline, of a network whose plan is read
+stream_done : HeadlineLaw
+    → (plan : Plan) (network : NetPlan) (held : Files) (now : Option Files) (found : Option (List ℕ))
+    → IsPlan plan
+    → (network_meaning plan network found).outcome.status ≡ Done
+    → now ≡ with_outputs (network_meaning plan network found).outputs (Some held)
+    → IsSomeAnd found (λ file. IsSomeAnd now (HeadlineOfFiles plan network (packets_of file) held))
+stream_done law plan network held now None is done files = cc
+stream_done law plan network held now (Some file) is done files =
+    let whole = done_outputs plan network file done in
+    let stream : List (List ℕ) = packets_of file in
+    let outputs : Outputs = network_outputs plan network stream (packets_received plan network stream) in
+    let told : now ≡ Some (files_with outputs held) =
+    files ∙ ap (λ (o : Outputs). with_outputs o (Some held)) whole.outputs ∙ with_outputs-told outputs held in
+    let apart = apart_of plan.transmitters.items is.sound.transmitters (small plan is) in
+    subst (λ (o : Option Files). IsSomeAnd o (HeadlineOfFiles plan network stream held)) (sym told)
+    (headline_of law plan network stream held (files_with outputs held) is (is_stream plan file whole.all)
+    (network_files plan network stream (packets_received plan network stream) held
+    (files_with outputs held) apart refl))
+
+abbrev Claims : Files → Option Files → Plan → NetPlan → Type 0
+Claims held now plan network =
+    IsSomeAnd (get held network.stream) (λ file. IsSomeAnd now (HeadlineOfFiles plan network (packets_of file) held))
+
+named_done : HeadlineLaw
+    → (name : List ℕ) (plan : Plan) (network : NetPlan) (held : Files) (now : Option Files) (b : Bool)
+    → IsPlan plan
+    → (cond b (refused Same) (network_meaning plan network (get held network.stream))).outcome.status ≡ Done
+    → now ≡ with_outputs (cond b (refused Same) (network_meaning plan network (get held network.stream))).outputs
+    (Some held) → Claims held now plan network
+named_done law name plan network held now true is done files = cc
+named_done law name plan network held now false is done files =
+    stream_done law plan network held now (get held network.stream) is done files
+
+planned_done : HeadlineLaw
+    → (name : List ℕ) (plan : Plan) (n : Option NetPlan) (held : Files) (now : Option Files) → IsPlan plan
+    → (planned_meaning name held plan n).outcome.status ≡ Done
+    → now ≡ with_outputs (planned_meaning name held plan n).outputs (Some held)
+    → IsSomeAnd n (Claims held now plan)
+planned_done law name plan None held now is done files = cc
+planned_done law name plan (Some network) held now is done files =
+    named_done law name plan network held now (is_some (repeated (network_names name plan network))) is done files
+
+-- what is meant under a plan of this name
+abbrev Under : List ℕ → Files → Plan → Meaning
+Under name held said = planned_meaning name held said said.net
+
+said_done : HeadlineLaw
+    → (name bytes : List ℕ) (r : Result Plan PlanNo) (held : Files) (now : Option Files) → plan_of bytes ≡ r
+    → (under_said (Under name held) r).outcome.status ≡ Done
+    → now ≡ with_outputs (under_said (Under name held) r).outputs (Some held)
+    → IsOkAnd r (λ plan. IsSomeAnd plan.net (Claims held now plan))
+said_done law name bytes (Err refusal) held now is done files = cc
+said_done law name bytes (Ok plan) held now is done files =
+    planned_done law name plan plan.net held now (record {
+      sound = plan_sound bytes plan is;
+      transmitters = plan_transmitters bytes plan is;
+    }) done files
+
+file_done : HeadlineLaw → (name : List ℕ) (found : Option (List ℕ)) (held : Files) (now : Option Files)
+    → (under_plan 0 found (Under name held)).outcome.status ≡ Done
+    → now ≡ with_outputs (under_plan 0 found (Under name held)).outputs (Some held)
+    → IsSomeAnd found (λ bytes. IsOkAnd (plan_of bytes) (λ plan. IsSomeAnd plan.net (Claims held now plan)))
+file_done law name None held now done files = cc
+file_done law name (Some bytes) held now done files = said_done law name bytes (plan_of bytes) held now refl done files
+
+pub headline_done : HeadlineLaw → (name : List ℕ) (held : Files) (now : Option Files) (outcome : Outcome)
+    → IsCarriedOut (under_plan 0 (get held name) (λ said. planned_meaning name held said said.net))
+    (Some held) outcome now → outcome.status ≡ Done
+    → OfNetwork name held (λ plan network file. IsSomeAnd now (HeadlineOfFiles plan network (packets_of file) held))
+headline_done law name held now outcome carried done =
+    let is = whole_of_carried (under_plan 0 (get held name) (Under name held)) (Some held) now outcome carried
+    (λ fault. subst IsFault done fault) in
+    file_done law name (get held name) held now (sym (ap (λ (o : Outcome). o.status) is.answer) ∙ done) is.files

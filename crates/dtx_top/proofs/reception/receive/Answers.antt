@@ -1,0 +1,16 @@
+use Rattle.std.proofs.Common.{◌∙◌}
+use Rattle.dtx_jobs.specs.Damaged.{damaged}
+use Rattle.dtx_jobs.specs.Receive.{receiving}
+use Rattle.dtx_jobs.specs.Shapes.{segments}
+use Rattle.dtx_words.specs.NetworkNames.{received_name, symbol_name}
+use Rattle.dtx_top.proofs.Carrying.{carried_by}
+use Rattle.dtx_top.proofs.reception.receive.Goals as goal
+
+pub returns-in-Ok-clause-carried : goal.returns-in-Ok-clause-carried
+returns-in-Ok-clause-carried g c =
+    carried_by (g.S.Shelf.files c.args.shelf.now) (g.S.Shelf.files c.carry_to_one.new.shelf) c.carry_to_one.result
+    segments _
+    (damaged c.args.receiver.now.damage receiving) 3 c.received_name.result.now received_name c.as_str.result.now
+    (symbol_name c.args.receiver.now.from)
+    c.new-engine.ensures.making c.received_name.ensures (c.as_str.ensures.value
+    ∙ c.symbol_name-name.ensures) c.carry_to_one.ensures.carried

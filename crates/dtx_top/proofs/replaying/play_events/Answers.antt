@@ -1,0 +1,26 @@
+use Rattle.std.specs.Prelude.{Ok, Err}
+use Rattle.dtx_top.proofs.Played.{damages_of, play_fault, played_over}
+use Rattle.dtx_top.proofs.replaying.play_events.Goals as goal
+
+pub receive_played-requires : goal.receive_played-requires
+receive_played-requires g c =
+    damages_of c.args.plan.now.transmitters.items c.args.network.now.receive c.requires.network.receive
+
+pub returns-in-Ok-clause-carried : goal.returns-in-Ok-clause-carried
+returns-in-Ok-clause-carried g c = λ held stream is written inside.
+    let over = played_over c.args.plan.now c.args.network.now stream c.deref.result.now c.args.fed.now held
+    (g.S.Shelf.files c.args.shelf.now)
+    (g.S.Shelf.files c.play.new.shelf) (Ok c.in-Ok.played) c.requires.sound c.deref.ensures.0 is written inside
+    c.in-Ok.ensures.played in
+    c.receive_played.ensures.carried c.args.plan.now held stream c.requires.network written.numbers over.staged
+    over.files
+
+pub returns-in-Err-clause-carried : goal.returns-in-Err-clause-carried
+returns-in-Err-clause-carried g c = λ held stream is written inside.
+    let over = played_over c.args.plan.now c.args.network.now stream c.deref.result.now c.args.fed.now held
+    (g.S.Shelf.files c.args.shelf.now)
+    (g.S.Shelf.files c.play.new.shelf) (Err c.in-Err.status) c.requires.sound c.deref.ensures.0 is written inside
+    c.in-Err.ensures.played in
+    play_fault c.args.plan.now c.args.network.now stream c.args.network.now.receive held c.in-Err.status c.ended.result
+    (g.S.Shelf.files c.play.new.shelf)
+    over c.ended.ensures

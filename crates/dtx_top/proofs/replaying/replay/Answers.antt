@@ -1,0 +1,18 @@
+use Rattle.dtx_top.proofs.Adapted.{fed_alone_told, fed_then_told}
+use Rattle.dtx_top.proofs.replaying.replay.Goals as goal
+
+pub returns-in-Done-clause-carried : goal.returns-in-Done-clause-carried
+returns-in-Done-clause-carried g c =
+    fed_then_told c.args.plan.now c.args.network.now (g.S.Shelf.files c.args.shelf.now)
+    (g.S.Shelf.files c.feed_stream-fed.new.shelf)
+    (g.S.Shelf.files c.play_within.new.shelf) c.feed_stream-fed.result c.play_within.result c.in-Done.is
+    c.feed_stream-fed.ensures.carried
+    c.play_within.ensures.carried
+
+pub returns-in_default : goal.returns-in_default
+returns-in_default g c = record {
+  carried = fed_alone_told c.args.plan.now c.args.network.now (g.S.Shelf.files c.args.shelf.now)
+      (g.S.Shelf.files c.feed_stream-fed.new.shelf)
+      c.feed_stream-fed.result c.in_default.not-Done c.feed_stream-fed.ensures.carried;
+  gone = c.feed_stream-fed.ensures.gone;
+}

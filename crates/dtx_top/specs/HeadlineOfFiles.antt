@@ -1,0 +1,61 @@
+-- The headline, said of the files of a network that is done (the profile's own, in the manner of ATSC A/110; the
+-- symbols are those of ATSC A/53 Part 2).
+use Rattle.std.specs.Prelude.{◌≡◌, ℕ, ◌+◌, Option, Some, IsSomeAnd, List, [], ◌∷◌, length, slice_get}
+use Rattle.std.specs.FinMap.{get}
+use Rattle.dtx_adapter.specs.Feed.{feed}
+use Rattle.dtx_jobs.specs.SymbolFile.{segments_of}
+use Rattle.dtx_network.specs.GivesBack.{GivesBack, GivesAllBack}
+use Rattle.dtx_net.specs.Sent as sent
+use Rattle.dtx_network.specs.Network.{steps_under, Headline, Joined}
+use Rattle.dtx_network.specs.Plans.{IsPlan, IsStream}
+use Rattle.dtx_outside.specs.Shelf.{Files}
+use Rattle.dtx_packets.specs.Packets.{packets_of}
+use Rattle.dtx_plan.specs.declared.event.Event.{Event}
+use Rattle.dtx_plan.specs.declared.plan.NetPlan.{NetPlan}
+use Rattle.dtx_plan.specs.declared.plan.Plan.{Plan}
+use Rattle.dtx_plan.specs.declared.plan.ReceivePlan.{ReceivePlan}
+use Rattle.dtx_plan.specs.declared.transmitter.Transmitter.{Transmitter}
+use Rattle.dtx_receiver.specs.Packets.{received}
+use Rattle.dtx_schedule.specs.TransmitterFiles.{symbol_file}
+use Rattle.dtx_words.specs.NetworkNames.{received_name}
+use Rattle.dtx_top.specs.Networks.{damaged_file, AreWholeFiles, OfNetwork}
+
+-- the headline of every plan and stream, as the network's law says it
+abbrev pub HeadlineLaw : Type 0
+HeadlineLaw = (plan : Plan) (stream : List (List ℕ)) (events : List Event) → IsPlan plan → IsStream stream
+    → Headline plan stream events
+
+-- For every plan and stream whose network was done, from the files that were held before to those now.
+pub record HeadlineOfFiles (plan : Plan) (network : NetPlan) (stream : List (List ℕ)) (held now : Files) : Type 0 where
+  -- The files are the feed, what each transmitter sends and logs over its lives, and what is received.
+  pub files : AreWholeFiles plan network stream held now
+  -- The segments of each symbol file, cut at every 832 bytes, are those that its transmitter sends.
+  pub segments : (who : ℕ) (t : Transmitter) → slice_get plan.transmitters.items who ≡ Some t
+      → segments_of (symbol_file t who (steps_under plan stream network.events))
+      ≡ sent.segments_of t who (steps_under plan stream network.events)
+  -- Every transmitter that from any earlier state is given the feed unchanged from a cadence mark on emits, from the
+  -- first operations packet whose group begins 52 or more packets later, exactly the symbols of that feed, at moments
+  -- that differ between transmitters only by the signalled offsets; and whatever is received of them gives the packets
+  -- back whose words have at most ten wrong bytes.
+  pub headline : Headline plan stream network.events
+  -- Where what is received is such a transmitter's symbol file with the plan's damage, it gives those packets back.
+  pub gives_back : (receiver : ReceivePlan) (x : Joined plan stream network.events) → network.receive ≡ Some receiver
+      → x.t.address ≡ receiver.from
+      → GivesBack (feed plan stream) x.k (x.mark + x.count) (length (headline.follows x).emits.before)
+      (segments_of (damaged_file plan network stream receiver))
+  -- And where what is received is the stretch alone, slightly damaged, it gives all of them back from its first field
+  -- on, and no other.
+  pub gives_all_back : (receiver : ReceivePlan) (x : Joined plan stream network.events)
+      → network.receive ≡ Some receiver → x.t.address ≡ receiver.from
+      → GivesAllBack (feed plan stream) x.k (x.mark + x.count)
+      (segments_of (damaged_file plan network stream receiver))
+  -- The packets of the file `net.ts` are those received, one by one: packet n of the file is the n-th of them.
+  pub packets : (receiver : ReceivePlan) → network.receive ≡ Some receiver
+      → IsSomeAnd (get now received_name)
+      (λ file. packets_of file ≡ received (segments_of (damaged_file plan network stream receiver)))
+
+-- The headline holds of the network that these words name, from the files that were held before to those now.
+abbrev pub HasHeadline : List (List ℕ) → Files → Option Files → Type 0
+HasHeadline (verb ∷ plan ∷ []) held now =
+    OfNetwork plan held (λ said network file. IsSomeAnd now (HeadlineOfFiles said network (packets_of file) held))
+HasHeadline words held now = ⊥

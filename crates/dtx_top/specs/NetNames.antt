@@ -1,0 +1,73 @@
+-- The names of a network's files, and the one in its line.
+use Rattle.std.specs.Prelude.{◌≡◌, ℕ, nat_eq, Bool, false, if◌then◌else◌, List, [], ◌∷◌, Option, Some, None, Result, Ok}
+use Rattle.std.specs.Prelude.{Err, slice_index_or}
+use Rattle.std.specs.FinMap.{get}
+use Rattle.dtx_meaning.specs.declared.status.Status.{Status}
+use Rattle.dtx_meaning.specs.declared.status.Status.TheVariants.{Absent}
+use Rattle.dtx_outside.specs.Shelf.{Files}
+use Rattle.dtx_plan.specs.Plan.{plan_of}
+use Rattle.dtx_plan.specs.declared.plan.NetPlan.{NetPlan}
+use Rattle.dtx_plan.specs.declared.plan.Plan as whole
+use Rattle.dtx_plan.specs.declared.plan.ReceivePlan.{ReceivePlan}
+use Rattle.dtx_plan.specs.declared.refusal.PlanNo.{PlanNo}
+use Rattle.dtx_words.specs.NetworkNames.{feed_name, symbol_name}
+use Rattle.dtx_top.specs.Networks.{network_names}
+
+-- ---- the names of a network
+
+abbrev pub names_under : List ℕ → whole.Plan → Option NetPlan → List (List ℕ)
+names_under name plan None = name ∷ []
+names_under name plan (Some network) = network_names name plan network
+
+abbrev pub names_said : List ℕ → Result whole.Plan PlanNo → List (List ℕ)
+names_said name (Err refusal) = name ∷ []
+names_said name (Ok plan) = names_under name plan plan.net
+
+abbrev pub names_of_file : List ℕ → Option (List ℕ) → List (List ℕ)
+names_of_file name None = name ∷ []
+names_of_file name (Some bytes) = names_said name (plan_of bytes)
+
+-- PLAN alone where it gives no network; else PLAN, the stream, the feed, the files of the transmitters, and what is
+-- received
+abbrev pub net_names : List (List ℕ) → Files → List (List ℕ)
+net_names (verb ∷ plan ∷ []) held = names_of_file plan (get held plan)
+net_names words held = []
+
+-- ---- the name in the line
+
+-- the word PLAN
+abbrev pub plan_word : List (List ℕ) → List ℕ
+plan_word words = slice_index_or words 1 []
+
+-- the plan isn't there
+abbrev pub misses_plan : Status → Bool
+misses_plan (Absent input) = nat_eq input 0
+misses_plan _ = false
+
+-- where the plan isn't there its name, and else the name that is kept beside the answer
+abbrev pub told_name : List ℕ → Status → List ℕ → List ℕ
+told_name plan status kept = if misses_plan status then plan else kept
+
+-- the address of the transmitter whose symbols are received
+abbrev pub receiver_of : Option ReceivePlan → ℕ
+receiver_of None = 0
+receiver_of (Some receiver) = receiver.from
+
+-- the name that is kept of an input that isn't there: 1 is the stream, 2 the feed, 3 the symbols that are received
+abbrev pub kept_name : NetPlan → Status → List ℕ
+kept_name network (Absent input) =
+    if nat_eq input 1 then network.stream
+    else if nat_eq input 2 then feed_name
+    else if nat_eq input 3 then symbol_name (receiver_of network.receive) else []
+kept_name network _ = []
+
+-- what the name that is kept says also where files are not told
+pub record IsKeptName (status : Status) (kept : List ℕ) : Type 0 where
+  pub feed : status ≡ Absent 2 → kept ≡ feed_name
+  pub symbols : status ≡ Absent 3 → (address : ℕ) × (kept ≡ symbol_name address)
+
+-- and what the name in the line says
+pub record IsUntoldName (word : List ℕ) (status : Status) (name : List ℕ) : Type 0 where
+  pub plan : status ≡ Absent 0 → name ≡ word
+  pub feed : status ≡ Absent 2 → name ≡ feed_name
+  pub symbols : status ≡ Absent 3 → (address : ℕ) × (name ≡ symbol_name address)

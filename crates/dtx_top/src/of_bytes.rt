@@ -1,0 +1,63 @@
+// An engine whose input is known to be made of bytes.
+ghost use Rattle.std.specs.Prelude.{◌≡◌, []};
+ghost use Rattle.dtx_top.specs.OfBytes.{of_bytes};
+
+use dtx_engine::{Engine, Shape};
+use dtx_meaning::Outcome;
+
+/// The engine, with its units known to be made of bytes.
+#[derive(Drop)]
+pub(crate) struct OfBytes<E> {
+    engine: E,
+}
+
+impl<E: Engine> OfBytes<E> {
+    /// The engine, which was given nothing.
+    pub(crate) fn new(engine: E) -> OfBytes<E>
+        requires { E.stands engine [] }
+        ensures fresh { ⟦<OfBytes<E> as Engine>⟧.stands result [] }
+        ensures making { ⟦<OfBytes<E> as Engine>⟧.making result ≡ of_bytes (E.making engine) }
+    {
+        OfBytes { engine }
+    }
+}
+
+impl<E: Engine> Engine for OfBytes<E> {
+    ghost use Rattle.std.specs.Prelude.{List, ℕ};
+
+    ghost shape = { E.shape };
+
+    ghost making = { λ s. of_bytes (E.making s.engine) };
+
+    ghost stands = { λ s given. E.stands s.engine given };
+
+    ghost gives = { λ s bytes. E.gives s.engine bytes };
+
+    fn sizes(&self) -> Shape {
+        self.engine.sizes()
+    }
+
+    fn allows(&self, index: u64, unit: &[u8]) -> bool {
+        self.engine.allows(index, unit)
+    }
+
+    fn feed(&mut self, first: u64, bytes: &mut [u8]) {
+        self.engine.feed(first, bytes);
+    }
+
+    fn finish(&mut self, loose: usize) -> Outcome {
+        self.engine.finish(loose)
+    }
+
+    fn made<'a>(&'a self, bytes: &'a [u8]) -> &'a [u8] {
+        self.engine.made(bytes)
+    }
+
+    fn log(&self) -> &[u8] {
+        self.engine.log()
+    }
+
+    ghost starts = { λ s. E.starts s.engine };
+
+    ghost grows = { λ s. E.grows s.engine };
+}

@@ -1,0 +1,68 @@
+// The symbols of a transmitter, received with damage laid over them.
+ghost use Rattle.std.specs.Prelude.{◌≡◌, [], ◌∷◌, ℕ, List, Some, IfSome, length, slice_index};
+ghost use Rattle.std.specs.FinMap as files;
+ghost use Rattle.dtx_engine.specs.Making.{meaning};
+ghost use Rattle.dtx_jobs.specs.Damaged.{damaged};
+ghost use Rattle.dtx_jobs.specs.PastEnd as past;
+ghost use Rattle.dtx_jobs.specs.Receive.{receiving};
+ghost use Rattle.dtx_jobs.specs.Shapes as shapes;
+ghost use Rattle.dtx_meaning.specs.Meaning.{IsCarriedOut};
+ghost use Rattle.dtx_meaning.specs.Status.{blame_of};
+ghost use Rattle.dtx_outside.specs.Counts.{HasGone};
+ghost use Rattle.dtx_outside.specs.Shelf.{Files};
+ghost use Rattle.dtx_plan.specs.Sound.{AreDamages};
+ghost use Rattle.dtx_words.specs.NetworkNames.{received_name, symbol_name};
+ghost use Rattle.dtx_top.specs.NetMeaning.{received_past};
+
+use dtx_engine::Input;
+use dtx_jobs::{Damaged, Reception, carry_to_one, first_past};
+use dtx_meaning::{Outcome, Status, ended};
+use dtx_outside::Shelf;
+use dtx_plan::ReceivePlan;
+use dtx_words::{received_name, symbol_name};
+use std::alloc::Global;
+
+/// Receives the symbols of the receiver's transmitter, which are so many, with its damage laid over them.
+pub(crate) fn receive_sent<S: Shelf>(
+    alloc: Global,
+    shelf: &mut S,
+    receiver: &ReceivePlan,
+    symbols: u64,
+) -> Outcome
+    requires damage { AreDamages receiver.now.damage }
+    ensures carried { (held : Files) (file : List ℕ) → S.files shelf.old ≡ Some held
+        → files.get held (symbol_name receiver.now.from) ≡ Some file
+        → past.first_past receiver.now.damage symbols ≡ past.first_past receiver.now.damage (length file)
+        → IsCarriedOut (received_past (past.first_past receiver.now.damage (length file)) receiver.now.damage file)
+        (Some held)
+        result (S.files shelf.new) }
+    ensures gone { HasGone (S.counts shelf.old) (S.counts shelf.new) (blame_of result.status) }
+{
+    match first_past(&receiver.damage, symbols) {
+        Some(entry) => ended(Status::OutOfAir(entry)),
+        None => receive(alloc, shelf, receiver),
+    }
+}
+
+/// Does so where each entry of damage ends within them.
+fn receive<S: Shelf>(alloc: Global, shelf: &mut S, receiver: &ReceivePlan) -> Outcome
+    requires damage { AreDamages receiver.now.damage }
+    ensures carried { IfSome (S.files shelf.old) (λ held. IsCarriedOut
+        (meaning shapes.segments (damaged receiver.now.damage receiving) 3 (received_name ∷ [])
+        (files.get held (symbol_name receiver.now.from)))
+        (Some held) result (S.files shelf.new)) }
+    ensures gone { HasGone (S.counts shelf.old) (S.counts shelf.new) (blame_of result.status) }
+{
+    match Reception::new(alloc) {
+        Ok(reception) => {
+            let name = symbol_name(receiver.from);
+            let input = Input {
+                name: name.as_str(),
+                number: 3,
+            };
+            let mut engine = Damaged::new(&receiver.damage, reception);
+            carry_to_one(alloc, &mut engine, input, received_name(), shelf)
+        }
+        Err(cause) => ended(Status::from(cause)),
+    }
+}

@@ -1,0 +1,173 @@
+// A network whose plan is read: its stream adapted, its events played, its symbols received.
+ghost use Rattle.std.specs.Prelude.{◌≡◌, ◌≢◌, [], ◌∷◌, ℕ, List, None, Some, IfSome, length, slice_index};
+ghost use Rattle.std.specs.FinMap as files;
+ghost use Rattle.dtx_engine.specs.Making.{meaning};
+ghost use Rattle.dtx_jobs.specs.Shapes as shapes;
+ghost use Rattle.dtx_meaning.specs.Meaning.{IsCarriedOut, with_outputs};
+ghost use Rattle.dtx_meaning.specs.Status.{blame_of};
+ghost use Rattle.dtx_network.specs.Network.{steps_under};
+ghost use Rattle.dtx_outside.specs.Counts.{HasGone};
+ghost use Rattle.dtx_outside.specs.Shelf.{Files};
+ghost use Rattle.dtx_plan.specs.declared.plan.Plan.{Plan};
+ghost use Rattle.dtx_plan.specs.Sound.{AreDamages, IsNet, IsSound};
+ghost use Rattle.dtx_schedule.specs.Inside as inside;
+ghost use Rattle.dtx_schedule.specs.Staged.{IsStaged};
+ghost use Rattle.dtx_schedule.specs.TransmitterFiles.{played_outputs};
+ghost use Rattle.dtx_words.specs.NetworkNames.{feed_name};
+ghost use Rattle.dtx_top.specs.NetMeaning as means;
+ghost use Rattle.dtx_top.specs.Replaying.{HasNumbers, IsFeedWritten};
+
+use crate::of_bytes::OfBytes;
+use crate::reception::receive_sent;
+use dtx_engine::Input;
+use dtx_frame::SEGMENT;
+use dtx_jobs::{Feeder, carry_to_one};
+use dtx_meaning::{Outcome, Status, ended};
+use dtx_outside::Shelf;
+use dtx_plan::{NetPlan, Plan};
+use dtx_schedule::{Played, first_past_feed, play};
+use dtx_words::feed_name;
+use std::alloc::Global;
+
+/// Adapts the stream to the feed, plays the events over it, and receives the symbols, where a receiver is asked for.
+pub(crate) fn replay<S: Shelf>(
+    alloc: Global,
+    plan: &Plan,
+    network: &NetPlan,
+    shelf: &mut S,
+) -> Outcome
+    requires sound { IsSound plan.now }
+    requires network { IsNet plan.now.transmitters.items network.now }
+    requires differ { network.now.stream ≢ feed_name }
+    ensures carried { IfSome (S.files shelf.old) (λ held. IsCarriedOut
+        (means.network_meaning plan.now network.now (files.get held network.now.stream)) (Some held) result
+        (S.files shelf.new)) }
+    ensures gone { HasGone (S.counts shelf.old) (S.counts shelf.new) (blame_of result.status) }
+{
+    let fed = feed_stream(alloc, plan, network, shelf);
+    match fed.status {
+        Status::Done => play_within(alloc, plan, network, shelf, &fed),
+        _ => fed,
+    }
+}
+
+/// Adapts the stream to the feed.
+fn feed_stream<S: Shelf>(alloc: Global, plan: &Plan, network: &NetPlan, shelf: &mut S) -> Outcome
+    requires sound { IsSound plan.now }
+    requires differ { network.now.stream ≢ feed_name }
+    ensures carried { IfSome (S.files shelf.old) (λ held. IsCarriedOut
+        (meaning shapes.packets (means.adapting plan.now) 1 (feed_name ∷ []) (files.get held network.now.stream))
+        (Some held) result (S.files shelf.new)) }
+    ensures gone { HasGone (S.counts shelf.old) (S.counts shelf.new) (blame_of result.status) }
+{
+    match Feeder::new(alloc, plan) {
+        Ok(feeder) => {
+            let stream = Input {
+                name: network.stream.as_str(),
+                number: 1,
+            };
+            carry_to_one(alloc, &mut OfBytes::new(feeder), stream, feed_name(), shelf)
+        }
+        Err(cause) => ended(Status::from(cause)),
+    }
+}
+
+/// Plays the events over the feed that was written, where none reads past it, and receives the symbols.
+fn play_within<S: Shelf>(
+    alloc: Global,
+    plan: &Plan,
+    network: &NetPlan,
+    shelf: &mut S,
+    fed: &Outcome,
+) -> Outcome
+    requires sound { IsSound plan.now }
+    requires network { IsNet plan.now.transmitters.items network.now }
+    ensures carried { (held : Files) (stream : List (List ℕ)) → S.files shelf.old ≡ Some held
+        → IsFeedWritten plan.now stream fed.now held
+        → IsCarriedOut (means.fed_meaning plan.now network.now stream) (Some held) result (S.files shelf.new) }
+    ensures gone { HasGone (S.counts shelf.old) (S.counts shelf.new) (blame_of result.status) }
+{
+    match first_past_feed(&network.events, fed.numbers[0]) {
+        Some(event) => ended(Status::OutOfFeed(event)),
+        None => play_events(alloc, plan, network, shelf, fed),
+    }
+}
+
+/// Plays the events over the feed that was written, and receives the symbols.
+fn play_events<S: Shelf>(
+    alloc: Global,
+    plan: &Plan,
+    network: &NetPlan,
+    shelf: &mut S,
+    fed: &Outcome,
+) -> Outcome
+    requires sound { IsSound plan.now }
+    requires network { IsNet plan.now.transmitters.items network.now }
+    ensures carried { (held : Files) (stream : List (List ℕ)) → S.files shelf.old ≡ Some held
+        → IsFeedWritten plan.now stream fed.now held → inside.first_past_feed network.now.events (length stream) ≡ None
+        → IsCarriedOut (means.played_and_received plan.now network.now stream network.now.receive) (Some held)
+        result (S.files shelf.new) }
+    ensures gone { HasGone (S.counts shelf.old) (S.counts shelf.new) (blame_of result.status) }
+{
+    match play(alloc, shelf, &plan.transmitters, &network.events) {
+        Ok(played) => receive_played(alloc, network, shelf, fed, &played),
+        Err(status) => ended(status),
+    }
+}
+
+/// Receives the symbols that the events sent, where a receiver is asked for.
+fn receive_played<S: Shelf>(
+    alloc: Global,
+    network: &NetPlan,
+    shelf: &mut S,
+    fed: &Outcome,
+    played: &Played,
+) -> Outcome
+    requires { IfSome network.now.receive (λ receiver. AreDamages receiver.damage) }
+    ensures carried { (plan : Plan) (held : Files) (stream : List (List ℕ))
+        → IsNet plan.transmitters.items network.now → HasNumbers stream fed.now
+        → IsStaged plan.transmitters.items played.now.stage (steps_under plan stream network.now.events)
+        → S.files shelf.old ≡ with_outputs (played_outputs plan.transmitters.items
+        (steps_under plan stream network.now.events)) (Some held)
+        → IsCarriedOut (means.played_and_received plan network.now stream network.now.receive) (Some held)
+        result (S.files shelf.new) }
+    ensures gone { HasGone (S.counts shelf.old) (S.counts shelf.new) (blame_of result.status) }
+{
+    match &network.receive {
+        Some(receiver) => {
+            let symbols = played.sent(receiver.from).saturating_mul(SEGMENT as u64);
+            let received = receive_sent(alloc, shelf, receiver, symbols);
+            with_received(fed, played.steps(), received)
+        }
+        None => Outcome {
+            status: Status::Done,
+            numbers: [fed.numbers[0], fed.numbers[1], played.steps(), 0, 0, 0],
+            shown: 3,
+        },
+    }
+}
+
+/// The answer of a reception, with the numbers of the whole network where it is done.
+fn with_received(fed: &Outcome, steps: u64, received: Outcome) -> Outcome
+    ensures { result ≡ means.with_received (slice_index fed.now.numbers 0)
+        (slice_index fed.now.numbers 1) steps received }
+{
+    match received.status {
+        Status::Done => {
+            let [_, _, packets, fixed, flagged, _] = received.numbers;
+            Outcome {
+                status: Status::Done,
+                numbers: [
+                    fed.numbers[0],
+                    fed.numbers[1],
+                    steps,
+                    packets,
+                    fixed,
+                    flagged,
+                ],
+                shown: 6,
+            }
+        }
+        _ => received,
+    }
+}
