@@ -1,6 +1,6 @@
 -- What is made of an input that is read in units, and what a command means that does so.
 use Rattle.std.specs.Prelude.{◌≡◌, ℕ, ◌*◌, ◌/◌, ◌%◌, ◌<◌, ◌≤◌, ◌^◌, Bool, not, min, nat_lt, if◌then◌else◌, List, []}
-use Rattle.std.specs.Prelude.{◌∷◌, ◌++◌, length, take, drop, Option, Some, None}
+use Rattle.std.specs.Prelude.{◌⊎◌, false, ◌∷◌, ◌++◌, length, take, drop, Option, Some, None}
 use Rattle.std.specs.FinMap.{get}
 use Rattle.std.specs.List.{find, range_with_len}
 use Rattle.std.specs.Str.{bytes_eq}
@@ -8,7 +8,9 @@ use Rattle.dtx_outside.specs.Shelf.{Files}
 use Rattle.dtx_meaning.specs.Meaning.{Meaning, refused}
 use Rattle.dtx_meaning.specs.Status.{ended}
 use Rattle.dtx_meaning.specs.declared.status.Outcome.{Outcome}
-use Rattle.dtx_meaning.specs.declared.status.Status.TheVariants.{Absent, Packet, Same, TooLong}
+use Rattle.dtx_meaning.specs.declared.status.Status.{Status}
+use Rattle.dtx_meaning.specs.declared.status.Status.TheVariants.{Absent, Packet, Same, TooLong, ReadFault, WriteFault}
+use Rattle.dtx_meaning.specs.declared.status.Status.TheVariants.{Memory}
 use Rattle.dtx_engine.specs.Made.{Made, joined, outputs_of}
 use Rattle.dtx_engine.specs.declared.engine.Shape.{Shape}
 use Rattle.dtx_engine.specs.declared.piece.Ending.{Ending}
@@ -21,6 +23,21 @@ pub record Making : Type 0 where
   pub made : List ℕ → Made
   pub rest : List ℕ → Made
   pub answer : List ℕ → ℕ → Outcome
+
+-- the making answers so at the end of some input
+abbrev pub IsEndOf : Making → Status → Type 0
+IsEndOf making status = (given : List ℕ) × (loose : ℕ) × (status ≡ (making.answer given loose).status)
+
+-- What may be answered of an input of which this is made, whatever it holds: that some unit isn't allowed or that there
+-- are too many, how the making ends, that the input isn't there, or a fault.
+abbrev pub IsAnswerOf : Making → Status → Type 0
+IsAnswerOf making (Packet k) = ((unit : List ℕ) × (making.allows k unit ≡ false)) ⊎ IsEndOf making (Packet k)
+IsAnswerOf making TooLong = Unit {0}
+IsAnswerOf making (Absent input) = Unit {0}
+IsAnswerOf making ReadFault = Unit {0}
+IsAnswerOf making WriteFault = Unit {0}
+IsAnswerOf making Memory = Unit {0}
+IsAnswerOf making status = IsEndOf making status
 
 -- units that can be read
 pub record IsSound (shape : Shape) : Type 0 where

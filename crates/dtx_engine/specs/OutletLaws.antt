@@ -1,7 +1,7 @@
 -- Laws of outputs: what is gathered is written in part, and a part of less is a part of more.
-use Rattle.std.specs.Prelude.{ℕ, List, [], ◌∷◌, ◌++◌, Option}
+use Rattle.std.specs.Prelude.{◌≢◌, ℕ, List, [], ◌∷◌, ◌++◌, Option}
 use Rattle.std.specs.Option.{option_map}
-use Rattle.std.proofs.Common.{sym, ap, ◌∙◌, inl, inr}
+use Rattle.std.proofs.Common.{refl, sym, ap, ◌∙◌, inl, inr}
 use Rattle.std.proofs.lemmas.List.{append_assoc}
 use Rattle.dtx_outside.specs.Shelf.{Files, with_file}
 use Rattle.dtx_outside.specs.Written.{IsGathered}
@@ -54,3 +54,12 @@ pub no_output : (name : List ℕ) (names : List (List ℕ)) (made : Made) → Is
 no_output name [] made apart = tt
 no_output name (first ∷ []) made apart = (apart.0, tt)
 no_output name (first ∷ (second ∷ rest)) made apart = (apart.0, (apart.1.0, tt))
+
+-- where there is a name there is an output
+pub some_names : (name : List ℕ) (rest : List (List ℕ)) → name ∷ rest ≢ []
+some_names name rest = λ none. cc
+
+pub some_outputs : (names : List (List ℕ)) (made : Made) → names ≢ [] → outputs_of names made ≢ []
+some_outputs [] made some = absurd (some refl)
+some_outputs (first ∷ []) made some = λ none. cc
+some_outputs (first ∷ (second ∷ rest)) made some = λ none. cc

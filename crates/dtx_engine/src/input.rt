@@ -4,6 +4,7 @@ ghost use Rattle.std.specs.FinMap as files;
 ghost use Rattle.dtx_outside.specs.Counts.{HasGone};
 ghost use Rattle.dtx_meaning.specs.Status.{IsOfInput, blame_of_answer};
 ghost use Rattle.dtx_engine.specs.Course.{IsAsked};
+ghost use Rattle.dtx_engine.specs.Making.{IsAnswerOf, Making};
 
 use dtx_meaning::{Status, of_read};
 use dtx_outside::Shelf;
@@ -19,9 +20,11 @@ pub struct Input<'a> {
 
 /// Asks for one byte of the input of that number, so that one that isn't there or can't be read is met before any
 /// output is begun.
+#[tactic(auto, using(crate::specs::AnswersLaws::read_answers))]
 pub fn ask_for<S: Shelf>(shelf: &mut S, which: u8, input: &str) -> Result<(), Status>
     ensures told { IfSome (S.files shelf.old) (λ held. IsAsked (files.get held input.now) which result) }
     ensures input { IfErr result (IsOfInput which) }
+    ensures answer { (making : Making) → IfErr result (IsAnswerOf making) }
     ensures kept { S.files shelf.new ≡ S.files shelf.old }
     ensures gone { HasGone (S.counts shelf.old) (S.counts shelf.new) (blame_of_answer result) }
 {

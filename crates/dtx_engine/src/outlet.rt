@@ -48,6 +48,9 @@ pub trait Outlet {
         ensures fault { IsFaultAlone result }
         ensures gone { HasGone (S.counts shelf.old) (S.counts shelf.new) (blame_of_answer result) };
 
+    /// There is one at least.
+    ghost some: { (w : Self) → names w ≢ [] };
+
     /// What was given is written in part.
     ghost part: { (w : Self) (start : Option Files) (made : Made) (now : Option Files) → gathered w start made now
         → ArePartWritten (outputs_of (names w) made) start now };
@@ -77,7 +80,7 @@ impl<'a> One<'a> {
 impl<'a> Outlet for One<'a> {
     ghost use Rattle.std.specs.Prelude.{◌≡◌, [], ◌∷◌};
     ghost use Rattle.dtx_outside.specs.Written.{IsGathered};
-    ghost use Rattle.dtx_engine.specs.OutletLaws.{part_of_one};
+    ghost use Rattle.dtx_engine.specs.OutletLaws.{part_of_one, some_names};
 
     ghost names = { λ w. w.name.now ∷ [] };
 
@@ -104,6 +107,8 @@ impl<'a> Outlet for One<'a> {
         self.output.flush(shelf, self.name)?;
         Ok(())
     }
+
+    ghost some = { λ w. some_names w.name.now [] };
 
     ghost part = { λ w start made now is. part_of_one w.name.now start made w.output now is };
 }
@@ -138,7 +143,7 @@ impl<'a> Two<'a> {
 impl<'a> Outlet for Two<'a> {
     ghost use Rattle.std.specs.Prelude.{◌≡◌, ◌≢◌, [], ◌∷◌};
     ghost use Rattle.dtx_engine.specs.Outlet.{AreBothGathered};
-    ghost use Rattle.dtx_engine.specs.OutletLaws.{part_of_two};
+    ghost use Rattle.dtx_engine.specs.OutletLaws.{part_of_two, some_names};
 
     ghost names = { λ w. w.first.now ∷ w.second.now ∷ [] };
 
@@ -169,6 +174,8 @@ impl<'a> Outlet for Two<'a> {
         self.second_output.flush(shelf, self.second)?;
         Ok(())
     }
+
+    ghost some = { λ w. some_names w.first.now (w.second.now ∷ []) };
 
     ghost part = { λ w start made now is. part_of_two w.first.now w.second.now start made w.first_output
         w.second_output now is.1 };

@@ -60,4 +60,4 @@ pub made_unwritten : (start now : Option Files) (output : List ℕ) (seed count 
 made_unwritten start now output seed count cause status outcome same is part =
     carried_part (made_file seed count output) start now outcome
     (subst (λ (o : Outcome). IsFault o.status) (sym (is ∙ ap ended same)) (write_is_fault cause))
-    (part_output start now output (made_stream seed count) part)
+    (λ none. cc) (part_output start now output (made_stream seed count) part)

@@ -1,4 +1,6 @@
 pub mod Adapt
+pub mod Answers
+pub mod AnswersLaws
 pub mod Code
 pub mod CodeLaws
 pub mod Damaged
@@ -14,9 +16,9 @@ pub mod Hurt
 pub mod HurtLaws
 pub mod Life
 pub mod Make
-pub mod PacketFileLaws
 pub mod OfWords
 pub mod OfWordsLaws
+pub mod PacketFileLaws
 pub mod PastEnd
 pub mod Place
 pub mod PlanFile

@@ -11,7 +11,7 @@ use Rattle.dtx_meaning.specs.Meaning.{Meaning, IsCarriedOut, refused}
 use Rattle.dtx_meaning.specs.Status.{IsFault, ended}
 use Rattle.dtx_meaning.specs.declared.status.Outcome.{Outcome}
 use Rattle.dtx_meaning.specs.declared.status.Status.{Status}
-use Rattle.dtx_meaning.specs.declared.status.Status.TheVariants.{Absent, Plan, ReadFault, Memory, Same}
+use Rattle.dtx_meaning.specs.declared.status.Status.TheVariants.{Absent, Plan, ReadFault, WriteFault, Memory, Same}
 use Rattle.dtx_outside.specs.Shelf.{Files}
 use Rattle.dtx_plan.specs.declared.refusal.PlanNo.{PlanNo}
 use Rattle.dtx_words.specs.Names.{repeated}
@@ -62,8 +62,10 @@ unread_carried said number found (Absent input) means start now outcome is same 
     (carried_refused (Absent input) start now outcome same ends)
 unread_carried said number found ReadFault means start now outcome is same ends =
     carried_fault (under_file said number found means) start now outcome same (fault_at ReadFault outcome ends tt)
+    (λ writing. let e : ReadFault ≡ WriteFault = sym (ap (λ (o : Outcome). o.status) ends) ∙ writing in cc)
 unread_carried said number found Memory means start now outcome is same ends =
     carried_fault (under_file said number found means) start now outcome same (fault_at Memory outcome ends tt)
+    (λ writing. let e : Memory ≡ WriteFault = sym (ap (λ (o : Outcome). o.status) ends) ∙ writing in cc)
 unread_carried said number found status means start now outcome is same ends = absurd is
 
 -- where the files are told

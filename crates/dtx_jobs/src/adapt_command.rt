@@ -7,6 +7,8 @@ ghost use Rattle.dtx_meaning.specs.Status.{IsOfInput, IsOfInputs, blame_of};
 ghost use Rattle.dtx_outside.specs.Counts.{HasGone};
 ghost use Rattle.dtx_plan.specs.Sound.{IsSound};
 ghost use Rattle.dtx_words.specs.Names.{repeated};
+ghost use Rattle.dtx_words.specs.declared.rows.Command.TheVariants as command;
+ghost use Rattle.dtx_jobs.specs.Answers.{Knows};
 ghost use Rattle.dtx_jobs.specs.Adapt.{adapt_meaning, adapted, feeding};
 ghost use Rattle.dtx_jobs.specs.OfWords.{IsOfWords, three_same};
 ghost use Rattle.dtx_jobs.specs.PlanFile.{under_plan};
@@ -31,6 +33,7 @@ pub fn adapt<S: Shelf>(alloc: Global, words: &[Word], shelf: &mut S) -> Outcome
     ensures carried { IfSome (S.files shelf.old) (λ held.
         IsCarriedOut (adapt_meaning words.now held) (Some held) result (S.files shelf.new)) }
     ensures words { IsOfWords (three_same words.now) 2 result.status }
+    ensures answers { Knows command.Adapt result.status }
     ensures gone { HasGone (S.counts shelf.old) (S.counts shelf.new) (blame_of result.status) }
 {
     match words {
@@ -52,6 +55,7 @@ fn adapt_files<S: Shelf>(
     ensures carried { IfSome (S.files shelf.old) (λ held.
         IsCarriedOut (adapted plan.now input.now output.now held) (Some held) result (S.files shelf.new)) }
     ensures words { IsOfInputs (is_some (repeated (plan.now ∷ input.now ∷ output.now ∷ []))) 2 result.status }
+    ensures answers { Knows command.Adapt result.status }
     ensures gone { HasGone (S.counts shelf.old) (S.counts shelf.new) (blame_of result.status) }
 {
     match repeated_name(&[plan, input, output]) {
@@ -74,6 +78,7 @@ fn adapt_planned<S: Shelf>(
         meaning shapes.packets (feeding said) 1 (output.now ∷ []) (files.get held input.now)))
         (Some held) result (S.files shelf.new)) }
     ensures words { IsOfInputs false 2 result.status }
+    ensures answers { Knows command.Adapt result.status }
     ensures gone { HasGone (S.counts shelf.old) (S.counts shelf.new) (blame_of result.status) }
 {
     match plan_in(alloc, shelf, 0, plan) {
@@ -96,6 +101,7 @@ fn adapt_under<S: Shelf>(
         (meaning shapes.packets (feeding plan.now) 1 (output.now ∷ []) (files.get held input.now))
         (Some held) result (S.files shelf.new)) }
     ensures input { IsOfInput 1 result.status }
+    ensures answers { Knows command.Adapt result.status }
     ensures gone { HasGone (S.counts shelf.old) (S.counts shelf.new) (blame_of result.status) }
 {
     let stream = Input {

@@ -7,6 +7,8 @@ ghost use Rattle.dtx_meaning.specs.Status.{IsOfInput, IsOfInputs, blame_of};
 ghost use Rattle.dtx_outside.specs.Counts.{HasGone};
 ghost use Rattle.dtx_words.specs.Names.{repeated};
 ghost use Rattle.dtx_words.specs.Number.{number_in};
+ghost use Rattle.dtx_words.specs.declared.rows.Command.TheVariants as command;
+ghost use Rattle.dtx_jobs.specs.Answers.{Knows};
 ghost use Rattle.dtx_jobs.specs.Excitation.{WasExcited};
 ghost use Rattle.dtx_jobs.specs.Excite.{excite_at, excite_meaning, excite_with, exciting};
 ghost use Rattle.dtx_jobs.specs.OfWords.{IsOfWords, excite_same, numbers_same};
@@ -37,6 +39,7 @@ pub fn excite<S: Shelf>(alloc: Global, words: &[Word], shelf: &mut S) -> Outcome
     ensures carried { IfSome (S.files shelf.old) (λ held.
         IsCarriedOut (excite_meaning words.now held) (Some held) result (S.files shelf.new)) }
     ensures words { IsOfWords (excite_same words.now) 1 result.status }
+    ensures answers { Knows command.Excite result.status }
     ensures gone { HasGone (S.counts shelf.old) (S.counts shelf.new) (blame_of result.status) }
 {
     match words {
@@ -67,6 +70,7 @@ fn excite_read<S: Shelf>(
     ensures words { IsOfWords (numbers_same (number_in 65535 address.now) (number_in 4294967295 delay.now)
         (is_some (repeated (files.entry.feed.now ∷ files.entry.output.now ∷ files.entry.log.now ∷ []))))
         1 result.status }
+    ensures answers { Knows command.Excite result.status }
     ensures gone { HasGone (S.counts shelf.old) (S.counts shelf.new) (blame_of result.status) }
 {
     match number_up_to(u16::MAX as u64, address) {
@@ -92,6 +96,7 @@ fn excite_files<S: Shelf>(
     ensures words { IsOfInputs
         (is_some (repeated (files.entry.feed.now ∷ files.entry.output.now ∷ files.entry.log.now ∷ []))) 1
         result.status }
+    ensures answers { Knows command.Excite result.status }
     ensures gone { HasGone (S.counts shelf.old) (S.counts shelf.new) (blame_of result.status) }
 {
     match repeated_name(&[files.feed, files.output, files.log]) {
@@ -116,6 +121,7 @@ fn excite_apart<S: Shelf>(
         (held_at.get held files.entry.feed.now))
         (Some held) result (S.files shelf.new)) }
     ensures input { IsOfInput 0 result.status }
+    ensures answers { Knows command.Excite result.status }
     ensures gone { HasGone (S.counts shelf.old) (S.counts shelf.new) (blame_of result.status) }
 {
     match Excitation::new(alloc, address, delay) {
@@ -125,6 +131,7 @@ fn excite_apart<S: Shelf>(
 }
 
 /// Gives the feed to an exciter that was given nothing, and writes both files.
+#[tactic(auto, using(crate::specs::AnswersLaws::excite_knows))]
 fn excite_both<S: Shelf>(
     alloc: Global,
     exciter: &mut Excitation,
@@ -140,6 +147,7 @@ fn excite_both<S: Shelf>(
         (files.entry.output.now ∷ files.entry.log.now ∷ []) (held_at.get held files.entry.feed.now))
         (Some held) result (S.files shelf.new)) }
     ensures input { IsOfInput 0 result.status }
+    ensures answers { Knows command.Excite result.status }
     ensures gone { HasGone (S.counts shelf.old) (S.counts shelf.new) (blame_of result.status) }
 {
     let feed = Input {

@@ -6,6 +6,8 @@ ghost use Rattle.dtx_meaning.specs.Meaning.{IsCarriedOut};
 ghost use Rattle.dtx_meaning.specs.Status.{IsOfInputs, blame_of};
 ghost use Rattle.dtx_outside.specs.Counts.{HasGone};
 ghost use Rattle.dtx_words.specs.Names.{repeated};
+ghost use Rattle.dtx_words.specs.declared.rows.Command.TheVariants as command;
+ghost use Rattle.dtx_jobs.specs.Answers.{Knows};
 ghost use Rattle.dtx_jobs.specs.Hurt.{hurt_file, hurt_meaning, hurting};
 ghost use Rattle.dtx_jobs.specs.OfWords.{IsOfWords, three_same};
 ghost use Rattle.dtx_jobs.specs.PlanFile.{under_changes};
@@ -27,6 +29,7 @@ pub fn hurt<S: Shelf>(alloc: Global, words: &[Word], shelf: &mut S) -> Outcome
     ensures carried { IfSome (S.files shelf.old) (λ held.
         IsCarriedOut (hurt_meaning words.now held) (Some held) result (S.files shelf.new)) }
     ensures words { IsOfWords (three_same words.now) 2 result.status }
+    ensures answers { Knows command.Hurt result.status }
     ensures gone { HasGone (S.counts shelf.old) (S.counts shelf.new) (blame_of result.status) }
 {
     match words {
@@ -54,6 +57,7 @@ fn hurt_files<S: Shelf>(
     ensures carried { IfSome (S.files shelf.old) (λ held.
         IsCarriedOut (hurt_file input.now changes.now output.now held) (Some held) result (S.files shelf.new)) }
     ensures words { IsOfInputs (is_some (repeated (input.now ∷ changes.now ∷ output.now ∷ []))) 2 result.status }
+    ensures answers { Knows command.Hurt result.status }
     ensures gone { HasGone (S.counts shelf.old) (S.counts shelf.new) (blame_of result.status) }
 {
     match repeated_name(&[input, changes, output]) {
@@ -76,6 +80,7 @@ fn hurt_changed<S: Shelf>(
         meaning shapes.single_bytes (hurting damage) 0 (output.now ∷ []) (files.get held input.now)))
         (Some held) result (S.files shelf.new)) }
     ensures words { IsOfInputs false 2 result.status }
+    ensures answers { Knows command.Hurt result.status }
     ensures gone { HasGone (S.counts shelf.old) (S.counts shelf.new) (blame_of result.status) }
 {
     match changes_in(alloc, shelf, 1, changes) {

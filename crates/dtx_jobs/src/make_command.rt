@@ -6,6 +6,8 @@ ghost use Rattle.dtx_meaning.specs.Status.{IsOfInputs, blame_of, outcome_of};
 ghost use Rattle.dtx_outside.specs.Counts.{HasGone, blame_of_write};
 ghost use Rattle.dtx_outside.specs.Shelf.{Files};
 ghost use Rattle.dtx_outside.specs.Written.{IsWritten, IsFlushOf};
+ghost use Rattle.dtx_words.specs.declared.rows.Command.TheVariants as command;
+ghost use Rattle.dtx_jobs.specs.Answers.{Knows};
 ghost use Rattle.dtx_jobs.specs.Make.{made_file, made_of, make_meaning};
 ghost use Rattle.dtx_jobs.specs.OfWords.{IsOfWords, make_same, numbers_same};
 
@@ -22,6 +24,7 @@ pub fn make<S: Shelf>(alloc: Global, words: &[Word], shelf: &mut S) -> Outcome
     ensures carried { IfSome (S.files shelf.old) (λ held.
         IsCarriedOut (make_meaning words.now held) (Some held) result (S.files shelf.new)) }
     ensures words { IsOfWords (make_same words.now) 0 result.status }
+    ensures answers { Knows command.Make result.status }
     ensures gone { HasGone (S.counts shelf.old) (S.counts shelf.new) (blame_of result.status) }
 {
     match words {
@@ -45,6 +48,7 @@ fn make_ordered<S: Shelf>(
     ensures carried { IfSome (S.files shelf.old) (λ held.
         IsCarriedOut (made_of seed count output.now) (Some held) result (S.files shelf.new)) }
     ensures words { IsOfWords (numbers_same seed count false) 0 result.status }
+    ensures answers { Knows command.Make result.status }
     ensures gone { HasGone (S.counts shelf.old) (S.counts shelf.new) (blame_of result.status) }
 {
     match (seed, count) {
@@ -57,7 +61,7 @@ fn make_ordered<S: Shelf>(
 }
 
 /// Makes that many packets of that seed. The memory for them is taken before the file is begun.
-#[tactic(auto, using(crate::specs::OfWordsLaws::write_of_inputs))]
+#[tactic(auto, using(crate::specs::AnswersLaws::write_known, crate::specs::OfWordsLaws::write_of_inputs))]
 fn make_file<S: Shelf>(
     alloc: Global,
     seed: u64,
@@ -68,6 +72,7 @@ fn make_file<S: Shelf>(
     ensures carried { IsCarriedOut (made_file seed count output.now) (S.files shelf.old) (outcome_of result)
         (S.files shelf.new) }
     ensures words { IsOfInputs false 0 (outcome_of result).status }
+    ensures answers { Knows command.Make (outcome_of result).status }
     ensures gone { HasGone (S.counts shelf.old) (S.counts shelf.new) (blame_of (outcome_of result).status) }
 {
     let mut made = Output::new(alloc)?;
@@ -76,7 +81,7 @@ fn make_file<S: Shelf>(
 }
 
 /// Makes them in a file that was begun, and answers.
-#[tactic(auto, using(crate::specs::OfWordsLaws::write_of_inputs))]
+#[tactic(auto, using(crate::specs::AnswersLaws::write_known, crate::specs::OfWordsLaws::write_of_inputs))]
 fn fill_file<S: Shelf>(
     seed: u64,
     count: u64,
@@ -88,6 +93,7 @@ fn fill_file<S: Shelf>(
     ensures carried { (start : Option Files) → IsWritten start output.now [] (S.files shelf.old)
         → IsCarriedOut (made_file seed count output.now) start result (S.files shelf.new) }
     ensures words { IsOfInputs false 0 result.status }
+    ensures answers { Knows command.Make result.status }
     ensures gone { HasGone (S.counts shelf.old) (S.counts shelf.new) (blame_of result.status) }
 {
     match write_made(seed, count, output, made, shelf) {

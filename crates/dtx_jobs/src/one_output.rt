@@ -1,7 +1,7 @@
 // Carrying out a command of one output.
 ghost use Rattle.std.specs.Prelude.{◌≢◌, [], ◌∷◌, Some, IfSome};
 ghost use Rattle.std.specs.FinMap as files;
-ghost use Rattle.dtx_engine.specs.Making.{meaning};
+ghost use Rattle.dtx_engine.specs.Making.{IsAnswerOf, meaning};
 ghost use Rattle.dtx_meaning.specs.Meaning.{IsCarriedOut};
 ghost use Rattle.dtx_meaning.specs.Status.{IsOfInput, blame_of};
 ghost use Rattle.dtx_outside.specs.Counts.{HasGone};
@@ -26,6 +26,7 @@ pub fn carry_to_one<E: Engine, S: Shelf>(
         (files.get held input.entry.name.now))
         (Some held) result (S.files shelf.new)) }
     ensures input { IsOfInput input.entry.number result.status }
+    ensures answer { IsAnswerOf (E.making engine.old) result.status }
     ensures gone { HasGone (S.counts shelf.old) (S.counts shelf.new) (blame_of result.status) }
 {
     match One::new(alloc, output) {

@@ -3,6 +3,8 @@ ghost use Rattle.std.specs.Prelude.{Some, IfSome};
 ghost use Rattle.dtx_meaning.specs.Meaning.{IsCarriedOut};
 ghost use Rattle.dtx_meaning.specs.Status.{blame_of};
 ghost use Rattle.dtx_outside.specs.Counts.{HasGone};
+ghost use Rattle.dtx_words.specs.declared.rows.Command.TheVariants as command;
+ghost use Rattle.dtx_jobs.specs.Answers.{Knows};
 ghost use Rattle.dtx_jobs.specs.OfWords.{IsOfWords, two_same};
 ghost use Rattle.dtx_jobs.specs.Place.{place_meaning};
 
@@ -20,6 +22,7 @@ pub fn place<S: Shelf>(alloc: Global, words: &[Word], shelf: &mut S) -> Outcome
     ensures carried { IfSome (S.files shelf.old) (λ held.
         IsCarriedOut (place_meaning words.now held) (Some held) result (S.files shelf.new)) }
     ensures words { IsOfWords (two_same words.now) 1 result.status }
+    ensures answers { Knows command.Place result.status }
     ensures gone { HasGone (S.counts shelf.old) (S.counts shelf.new) (blame_of result.status) }
 {
     match words {

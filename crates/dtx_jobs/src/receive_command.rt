@@ -5,6 +5,8 @@ ghost use Rattle.dtx_engine.specs.Making.{transformed};
 ghost use Rattle.dtx_meaning.specs.Meaning.{IsCarriedOut};
 ghost use Rattle.dtx_meaning.specs.Status.{IsOfInputs, blame_of};
 ghost use Rattle.dtx_outside.specs.Counts.{HasGone};
+ghost use Rattle.dtx_words.specs.declared.rows.Command.TheVariants as command;
+ghost use Rattle.dtx_jobs.specs.Answers.{Knows};
 ghost use Rattle.dtx_jobs.specs.Receive.{receive_meaning, receiving};
 ghost use Rattle.dtx_jobs.specs.OfWords.{IsOfWords, two_same};
 ghost use Rattle.dtx_jobs.specs.Shapes as shapes;
@@ -23,6 +25,7 @@ pub fn receive<S: Shelf>(alloc: Global, words: &[Word], shelf: &mut S) -> Outcom
     ensures carried { IfSome (S.files shelf.old) (λ held.
         IsCarriedOut (receive_meaning words.now held) (Some held) result (S.files shelf.new)) }
     ensures words { IsOfWords (two_same words.now) 1 result.status }
+    ensures answers { Knows command.Receive result.status }
     ensures gone { HasGone (S.counts shelf.old) (S.counts shelf.new) (blame_of result.status) }
 {
     match words {
@@ -36,6 +39,7 @@ fn receive_files<S: Shelf>(alloc: Global, input: &str, output: &str, shelf: &mut
     ensures carried { IfSome (S.files shelf.old) (λ held. IsCarriedOut
         (transformed shapes.segments receiving input.now output.now held) (Some held) result (S.files shelf.new)) }
     ensures words { IsOfInputs (bytes_eq input.now output.now) 1 result.status }
+    ensures answers { Knows command.Receive result.status }
     ensures gone { HasGone (S.counts shelf.old) (S.counts shelf.new) (blame_of result.status) }
 {
     match Reception::new(alloc) {

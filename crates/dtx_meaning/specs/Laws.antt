@@ -11,7 +11,7 @@ use Rattle.dtx_outside.specs.WrittenLaws.{IsSameAt-written}
 use Rattle.dtx_outside.specs.declared.shelf.WriteNo.{WriteNo}
 use Rattle.dtx_outside.specs.declared.shelf.WriteNo.TheVariants as write
 use Rattle.dtx_meaning.specs.Meaning.{Outputs, Meaning, refused, and_then, with_outputs, ArePartWritten, IsNoOutput}
-use Rattle.dtx_meaning.specs.Meaning.{IsWhole, IsCarriedOut, IsAnswered, IsDone}
+use Rattle.dtx_meaning.specs.Meaning.{IsWhole, IsBroken, IsCarriedOut, IsAnswered, IsDone}
 use Rattle.dtx_meaning.specs.Status.{IsFault, IsOfBytes, IsOfInput, IsOfInputs, blame_of, ended, of_write}
 use Rattle.dtx_meaning.specs.declared.status.Outcome.{Outcome}
 use Rattle.dtx_meaning.specs.declared.status.Status.{Status}
@@ -84,21 +84,25 @@ pub carried_refused : (status : Status) (start now : Option Files) (outcome : Ou
     → outcome ≡ ended status → IsCarriedOut (refused status) start outcome now
 carried_refused status start now outcome same is = inl (record { answer = is; files = same })
 
--- a fault that was met before anything was touched
+-- a fault that was met before anything was touched, and is none of writing
 pub carried_fault : (m : Meaning) (start now : Option Files) (outcome : Outcome) → now ≡ start
-    → IsFault outcome.status → IsCarriedOut m start outcome now
-carried_fault m start now outcome same fault =
-    inr (record { fault = fault; files = part_of_none m.outputs start now same })
+    → IsFault outcome.status → outcome.status ≢ WriteFault → IsCarriedOut m start outcome now
+carried_fault m start now outcome same fault other = inr (record {
+  fault = fault;
+  writing = λ writing. absurd (other writing);
+  files = part_of_none m.outputs start now same;
+})
 
 -- all was written
 pub carried_whole : (m : Meaning) (start now : Option Files) (outcome : Outcome) → outcome ≡ m.outcome
     → now ≡ with_outputs m.outputs start → IsCarriedOut m start outcome now
 carried_whole m start now outcome is files = inl (record { answer = is; files = files })
 
--- a fault, and front parts
+-- a fault, and front parts of some outputs
 pub carried_part : (m : Meaning) (start now : Option Files) (outcome : Outcome) → IsFault outcome.status
-    → ArePartWritten m.outputs start now → IsCarriedOut m start outcome now
-carried_part m start now outcome fault part = inr (record { fault = fault; files = part })
+    → m.outputs ≢ [] → ArePartWritten m.outputs start now → IsCarriedOut m start outcome now
+carried_part m start now outcome fault some part =
+    inr (record { fault = fault; writing = λ writing. some; files = part })
 
 -- one meaning under another name
 pub carried_as : (a b : Meaning) (start now : Option Files) (outcome : Outcome) → a ≡ b
@@ -116,12 +120,6 @@ refused_told means None now status outcome same left is = tt
 refused_told means (Some held) now status outcome same left is =
     carried_as (means held) (refused status) (Some held) now outcome (same held refl)
     (carried_refused status (Some held) now outcome left is)
-
--- a fault that was met before anything was touched
-pub fault_told : (means : Files → Meaning) (told now : Option Files) (outcome : Outcome) → now ≡ told
-    → IsFault outcome.status → IfSome told (λ held. IsCarriedOut (means held) (Some held) outcome now)
-fault_told means None now outcome left fault = tt
-fault_told means (Some held) now outcome left fault = carried_fault (means held) (Some held) now outcome left fault
 
 -- one meaning under another name
 pub carried_told : (means other : Files → Meaning) (told now : Option Files) (outcome : Outcome)
@@ -166,6 +164,15 @@ same_at_carried m name start now outcome apart is =
 
 -- ---- one meaning after the other
 
+-- first some outputs, then the others: there is one where either has one
+some_behind : (a b : Outputs) → b ≢ [] → a ++ b ≢ []
+some_behind [] b some = some
+some_behind (o ∷ a) b some = λ none. cc
+
+pub some_before : (a b : Outputs) → a ≢ [] → a ++ b ≢ []
+some_before [] b some = absurd (some refl)
+some_before (o ∷ a) b some = λ none. cc
+
 -- the first was done, and then the second carried out
 pub carried_then : (first second : Meaning) (start between now : Option Files) (outcome : Outcome)
     → between ≡ with_outputs first.outputs start → IsCarriedOut second between outcome now
@@ -178,17 +185,20 @@ carried_then first second start between now outcome done is = elim is [
   })
   | inr broken ↦ inr (record {
     fault = broken.fault;
+    writing = λ writing. some_behind first.outputs second.outputs (broken.writing writing);
     files = part_behind first.outputs second.outputs start now
         (subst (λ (s : Option Files). ArePartWritten second.outputs s now) done broken.files);
   })
 ]
 
 -- the first met a fault
-pub carried_before : (first second : Meaning) (start now : Option Files) (outcome : Outcome) → IsFault outcome.status
-    → IsCarriedOut first start outcome now → IsCarriedOut (and_then first second) start outcome now
-carried_before first second start now outcome fault is =
-    carried_part (and_then first second) start now outcome fault
-    (part_before first.outputs second.outputs start now (part_of_carried first start now outcome is))
+pub carried_before : (first second : Meaning) (start now : Option Files) (outcome : Outcome)
+    → IsBroken first start outcome now → IsCarriedOut (and_then first second) start outcome now
+carried_before first second start now outcome broken = inr (record {
+  fault = broken.fault;
+  writing = λ writing. some_before first.outputs second.outputs (broken.writing writing);
+  files = part_before first.outputs second.outputs start now broken.files;
+})
 
 -- ---- the line
 
@@ -197,14 +207,17 @@ pub done_printed : (m : Meaning) (start now : Option Files) (outcome : Outcome) 
     → IsCarriedOut m start outcome now → IsDone m start outcome.status unprinted now
 done_printed m start now outcome unprinted is = elim is [
   | inl whole ↦ inl (record { answer = ap (λ (o : Outcome). o.status) whole.answer; files = whole.files })
-  | inr broken ↦ inr (inl (record { fault = broken.fault; files = broken.files }))
+  | inr broken ↦ inr (inl (record { fault = broken.fault; writing = broken.writing; files = broken.files }))
 ]
 
--- a fault was met while the line was printed
-pub done_faulted : (m : Meaning) (start now : Option Files) (outcome : Outcome) (status : Status) (unprinted : Type 0)
-    → IsCarriedOut m start outcome now → IsFault status → IsDone m start status unprinted now
-done_faulted m start now outcome status unprinted is fault =
-    inr (inl (record { fault = fault; files = part_of_carried m start now outcome is }))
+-- memory was wanted while the line was printed
+pub done_wanting : (m : Meaning) (start now : Option Files) (outcome : Outcome) (unprinted : Type 0)
+    → IsCarriedOut m start outcome now → IsDone m start Memory unprinted now
+done_wanting m start now outcome unprinted is = inr (inl (record {
+  fault = tt;
+  writing = λ writing. let e : Memory ≡ WriteFault = writing in absurd (let no : ⊥ = cc in no);
+  files = part_of_carried m start now outcome is;
+}))
 
 -- all was done, and the line alone could not be printed
 pub done_unprinted : (m : Meaning) (start now : Option Files) (outcome : Outcome) (unprinted : Type 0)
@@ -305,6 +318,11 @@ fault_of_input number NoSync fault = elim fault [ ]
 fault_of_input number ReadFault fault = tt
 fault_of_input number WriteFault fault = tt
 fault_of_input number Memory fault = tt
+
+-- so is a refusal to write
+pub write_of_input : (number : ℕ) (cause : WriteNo) → IsOfInput number (of_write cause)
+write_of_input number write.Failed = tt
+write_of_input number write.Memory = tt
 
 -- an answer to the bytes is one of each input
 pub bytes_of_input : (number : ℕ) (status : Status) → IsOfBytes status → IsOfInput number status

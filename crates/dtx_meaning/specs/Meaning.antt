@@ -55,9 +55,10 @@ pub record IsWhole (meaning : Meaning) (start : Option Files) (outcome : Outcome
   pub answer : outcome ≡ meaning.outcome
   pub files : now ≡ with_outputs meaning.outputs start
 
--- a fault or want of memory, and a front part of the outputs
+-- a fault or want of memory, and a front part of the outputs; writing fails only where there is something to be written
 pub record IsBroken (meaning : Meaning) (start : Option Files) (outcome : Outcome) (now : Option Files) : Type 0 where
   pub fault : IsFault outcome.status
+  pub writing : outcome.status ≡ WriteFault → meaning.outputs ≢ []
   pub files : ArePartWritten meaning.outputs start now
 
 -- the meaning was carried out as far as nothing failed
@@ -71,9 +72,10 @@ pub record IsAnswered (meaning : Meaning) (start : Option Files) (status : Statu
   pub answer : status ≡ meaning.outcome.status
   pub files : now ≡ with_outputs meaning.outputs start
 
--- a fault or want of memory, and a front part of the outputs
+-- a fault or want of memory, and a front part of the outputs; writing fails only where there is something to be written
 pub record IsFaulted (meaning : Meaning) (start : Option Files) (status : Status) (now : Option Files) : Type 0 where
   pub fault : IsFault status
+  pub writing : status ≡ WriteFault → meaning.outputs ≢ []
   pub files : ArePartWritten meaning.outputs start now
 
 -- all was done, each output is whole, and the line alone could not be printed

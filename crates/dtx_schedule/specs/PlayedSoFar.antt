@@ -5,7 +5,8 @@ use Rattle.dtx_outside.specs.declared.shelf.WriteNo.{WriteNo}
 use Rattle.dtx_meaning.specs.Meaning.{with_outputs}
 use Rattle.dtx_meaning.specs.Status.{IsFault}
 use Rattle.dtx_meaning.specs.declared.status.Status.{Status}
-use Rattle.dtx_meaning.specs.declared.status.Status.TheVariants.{Absent, ReadFault, Memory, TooLong}
+use Rattle.dtx_meaning.specs.declared.status.Status.TheVariants.{Absent, TooLong, OutOfFeed, ReadFault, WriteFault}
+use Rattle.dtx_meaning.specs.declared.status.Status.TheVariants.{Memory}
 use Rattle.dtx_packets.specs.declared.packet.Packet as packet
 use Rattle.dtx_packets.specs.declared.refusal.NextNo.{NextNo}
 use Rattle.dtx_packets.specs.declared.refusal.NextNo.TheVariants as next
@@ -56,6 +57,17 @@ of_next next.Absent = Absent 2
 of_next next.Failed = ReadFault
 of_next next.Memory = Memory
 of_next next.TooLong = TooLong
+
+-- A refusal while a schedule is played, whatever the files are: the feed, which is input 2, isn't there or ends too
+-- early, or a fault.
+abbrev pub IsOfFeed : Status → Type 0
+IsOfFeed (Absent input) = input ≡ 2
+IsOfFeed TooLong = Unit {0}
+IsOfFeed (OutOfFeed event) = Unit {0}
+IsOfFeed ReadFault = Unit {0}
+IsOfFeed WriteFault = Unit {0}
+IsOfFeed Memory = Unit {0}
+IsOfFeed _ = ⊥
 
 -- what reading one packet of a feed answers that has it
 abbrev pub IsPacketOf : List ℕ → ℕ → Result packet.Packet Status → Type 0

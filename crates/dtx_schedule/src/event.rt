@@ -1,5 +1,5 @@
 // One event of a schedule, done step by step.
-ghost use Rattle.std.specs.Prelude.{◌≡◌, ◌+◌, ◌<◌, ◌≤◌, ◌^◌, ◌++◌, ℕ, List, Some, false, IfOk, IsOk, length};
+ghost use Rattle.std.specs.Prelude.{◌≡◌, ◌+◌, ◌<◌, ◌≤◌, ◌^◌, ◌++◌, ℕ, List, Some, false, IfErr, IfOk, IsOk, length};
 ghost use Rattle.std.specs.FinMap as files;
 ghost use Rattle.dtx_outside.specs.Counts.{HasGone};
 ghost use Rattle.dtx_outside.specs.Shelf.{Files};
@@ -10,7 +10,7 @@ ghost use Rattle.dtx_plan.specs.Sound.{IsInRange, IsPart, to_of};
 ghost use Rattle.dtx_plan.specs.declared.transmitter.Transmitter.{Transmitter};
 ghost use Rattle.dtx_words.specs.NetworkNames.{feed_name};
 ghost use Rattle.dtx_schedule.specs.Inside.{reads_past};
-ghost use Rattle.dtx_schedule.specs.PlayedSoFar.{IsDoneOf, IsGivenOf, IsPlayedSoFar, packet_steps};
+ghost use Rattle.dtx_schedule.specs.PlayedSoFar.{IsDoneOf, IsGivenOf, IsOfFeed, IsPlayedSoFar, packet_steps};
 ghost use Rattle.dtx_schedule.specs.Staged.{HasTransmitter, IsSomeStage};
 
 use crate::giving::{MadePart, give_all, give_made};
@@ -40,6 +40,7 @@ pub(crate) fn play_event<S: Shelf>(
         → IsDoneOf ts (before ++ steps_of ts (packets_of feed) event.now) held result stage.new (S.files shelf.new) }
     ensures some { IsOk result → IsSomeStage stage.new }
     ensures steps { IsOk result → stage.new.steps ≤ stage.old.steps + most_packets }
+    ensures refusal { IfErr result IsOfFeed }
     ensures gone { HasGone (S.counts shelf.old) (S.counts shelf.new) (blame_of_answer result) }
 {
     // An event's transmitter is one of the plan's, so there is a place.
@@ -69,6 +70,7 @@ fn play_at<S: Shelf>(
         → IsDoneOf ts (before ++ steps_of ts (packets_of feed) event.now) held result stage.new (S.files shelf.new) }
     ensures there { IsOk result → HasTransmitter who stage.new }
     ensures steps { IsOk result → stage.new.steps ≤ stage.old.steps + most_packets }
+    ensures refusal { IfErr result IsOfFeed }
     ensures gone { HasGone (S.counts shelf.old) (S.counts shelf.new) (blame_of_answer result) }
 {
     match *event {
@@ -132,6 +134,7 @@ fn send<S: Shelf>(
         result stage.new (S.files shelf.new) }
     ensures there { IsOk result → HasTransmitter who stage.new }
     ensures steps { IsOk result → stage.new.steps ≡ stage.old.steps + part.now.count }
+    ensures refusal { IfErr result IsOfFeed }
     ensures gone { HasGone (S.counts shelf.old) (S.counts shelf.new) (blame_of_answer result) }
 {
     let mut given = 0;
@@ -166,6 +169,7 @@ fn send_piece<S: Shelf>(
         → IsGivenOf ts before who feed part.now.from part.now.count held result stage.new (S.files shelf.new) }
     ensures count { IfOk result (λ n. (0 < n) × (n ≤ part.now.count) × (stage.new.steps ≡ stage.old.steps + n)) }
     ensures there { IsOk result → HasTransmitter who stage.new }
+    ensures refusal { IfErr result IsOfFeed }
     ensures gone { HasGone (S.counts shelf.old) (S.counts shelf.new) (blame_of_answer result) }
 {
     let count = read_piece(shelf, part, packets)?;

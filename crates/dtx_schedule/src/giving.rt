@@ -1,5 +1,5 @@
 // Packets of one transmitter, given one after another.
-ghost use Rattle.std.specs.Prelude.{◌≡◌, ◌+◌, ◌≤◌, ◌^◌, ◌++◌, List, IsOk, length, map};
+ghost use Rattle.std.specs.Prelude.{◌≡◌, ◌+◌, ◌≤◌, ◌^◌, ◌++◌, List, IfErr, IsOk, length, map};
 ghost use Rattle.std.specs.List.{range_with_len};
 ghost use Rattle.dtx_outside.specs.Counts.{HasGone};
 ghost use Rattle.dtx_outside.specs.Shelf.{Files};
@@ -8,7 +8,7 @@ ghost use Rattle.dtx_meaning.specs.Status.{blame_of_answer};
 ghost use Rattle.dtx_net.specs.Steps.{Step};
 ghost use Rattle.dtx_plan.specs.Sound.{IsPart};
 ghost use Rattle.dtx_plan.specs.declared.transmitter.Transmitter.{Transmitter};
-ghost use Rattle.dtx_schedule.specs.PlayedSoFar.{IsDoneOf, IsPlayedSoFar, packet_steps};
+ghost use Rattle.dtx_schedule.specs.PlayedSoFar.{IsDoneOf, IsOfFeed, IsPlayedSoFar, packet_steps};
 ghost use Rattle.dtx_schedule.specs.Staged.{HasTransmitter};
 
 use crate::stage::Stage;
@@ -40,6 +40,7 @@ pub(crate) fn give_all<S: Shelf>(
         (S.files shelf.new) }
     ensures there { IsOk result → HasTransmitter who stage.new }
     ensures steps { IsOk result → stage.new.steps ≡ stage.old.steps + length packets.now }
+    ensures refusal { IfErr result IsOfFeed }
     ensures gone { HasGone (S.counts shelf.old) (S.counts shelf.new) (blame_of_answer result) }
 {
     for i in 0..packets.len() {
@@ -65,6 +66,7 @@ pub(crate) fn give_made<S: Shelf>(
         result stage.new (S.files shelf.new) }
     ensures there { IsOk result → HasTransmitter who stage.new }
     ensures steps { IsOk result → stage.new.steps ≡ stage.old.steps + part.now.count }
+    ensures refusal { IfErr result IsOfFeed }
     ensures gone { HasGone (S.counts shelf.old) (S.counts shelf.new) (blame_of_answer result) }
 {
     for i in 0..part.count {

@@ -1,12 +1,12 @@
 // The packets of the feed that an event reads.
-ghost use Rattle.std.specs.Prelude.{◌≡◌, ◌<◌, ◌≤◌, ℕ, List, Some, IfOk, IfSome, length};
+ghost use Rattle.std.specs.Prelude.{◌≡◌, ◌<◌, ◌≤◌, ℕ, List, Some, IfErr, IfOk, IfSome, length};
 ghost use Rattle.std.specs.FinMap as files;
 ghost use Rattle.dtx_outside.specs.Counts.{HasGone};
 ghost use Rattle.dtx_meaning.specs.Status.{blame_of_answer};
 ghost use Rattle.dtx_packets.specs.Packets.{most_packets, whole_packets};
 ghost use Rattle.dtx_plan.specs.Sound.{IsPart};
 ghost use Rattle.dtx_words.specs.NetworkNames.{feed_name};
-ghost use Rattle.dtx_schedule.specs.PlayedSoFar.{IsPacketOf, IsPieceCount, IsPieceOf, of_next};
+ghost use Rattle.dtx_schedule.specs.PlayedSoFar.{IsOfFeed, IsPacketOf, IsPieceCount, IsPieceOf, of_next};
 
 use dtx_meaning::Status;
 use dtx_outside::Shelf;
@@ -30,6 +30,7 @@ pub(crate) fn read_one<S: Shelf>(shelf: &mut S, event: u32, from: u64) -> Result
     ensures told { IfSome (S.files shelf.old) (λ held. (feed : List ℕ) → files.get held feed_name ≡ Some feed
         → from < whole_packets feed → IsPacketOf feed from result) }
     ensures kept { S.files shelf.new ≡ S.files shelf.old }
+    ensures refusal { IfErr result IsOfFeed }
     ensures gone { HasGone (S.counts shelf.old) (S.counts shelf.new) (blame_of_answer result) }
 {
     match PacketReader::at(from, 1).next(shelf, feed_name()) {
@@ -52,6 +53,7 @@ pub(crate) fn read_piece<S: Shelf>(
         → part.now.from < whole_packets feed → IsPieceOf feed part.now.from result packets.new) }
     ensures count { IfOk result (IsPieceCount part.now.count packets.new) }
     ensures kept { S.files shelf.new ≡ S.files shelf.old }
+    ensures refusal { IfErr result IsOfFeed }
     ensures gone { HasGone (S.counts shelf.old) (S.counts shelf.new) (blame_of_answer result) }
 {
     match PacketReader::at(part.from, part.count).next_many(shelf, feed_name(), packets) {
@@ -67,7 +69,8 @@ pub(crate) fn read_piece<S: Shelf>(
 
 /// The status after a refusal to read the feed.
 fn of_next(cause: NextNo) -> Status
-    ensures { result ≡ of_next cause }
+    ensures status { result ≡ of_next cause }
+    ensures refusal { IsOfFeed result }
 {
     match cause {
         NextNo::Absent => Status::Absent(FEED),

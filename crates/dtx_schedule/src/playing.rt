@@ -1,5 +1,5 @@
 // A schedule, played step by step.
-ghost use Rattle.std.specs.Prelude.{◌≡◌, ◌≤◌, ℕ, [], List, None, Some, length, slice_index};
+ghost use Rattle.std.specs.Prelude.{◌≡◌, ◌≤◌, ℕ, [], List, None, Some, IfErr, length, slice_index};
 ghost use Rattle.std.specs.FinMap as files;
 ghost use Rattle.dtx_outside.specs.Counts.{HasGone};
 ghost use Rattle.dtx_outside.specs.Shelf.{Files};
@@ -13,7 +13,7 @@ ghost use Rattle.dtx_plan.specs.declared.transmitter.Transmitter.{Transmitter};
 ghost use Rattle.dtx_words.specs.NetworkNames.{feed_name};
 ghost use Rattle.dtx_schedule.specs.Inside.{first_past_feed};
 ghost use Rattle.dtx_schedule.specs.Played.{AreEvents, AreInRange, IsPlayOf, IsRunOf};
-ghost use Rattle.dtx_schedule.specs.PlayedSoFar.{IsDoneOf, IsPlayedSoFar};
+ghost use Rattle.dtx_schedule.specs.PlayedSoFar.{IsDoneOf, IsOfFeed, IsPlayedSoFar};
 ghost use Rattle.dtx_schedule.specs.Staged.{IsSomeStage, IsStaged, packets_given, SentBy};
 
 use crate::beginning::begin_files;
@@ -79,6 +79,7 @@ pub fn play<S: Shelf>(
         → first_past_feed events.now (whole_packets feed) ≡ None
         → IsPlayOf transmitters.now (schedule transmitters.now (packets_of feed) events.now) held result
         (S.files shelf.new) }
+    ensures refusal { IfErr result IsOfFeed }
     ensures gone { HasGone (S.counts shelf.old) (S.counts shelf.new) (blame_of_answer result) }
 {
     let mut stage = Stage::new(alloc, transmitters)?;
@@ -88,6 +89,7 @@ pub fn play<S: Shelf>(
 }
 
 /// Begins the files of the transmitters, and plays the events into them.
+#[tactic(auto, using(crate::proofs::Refusals::write_of_feed))]
 fn run<S: Shelf>(
     shelf: &mut S,
     events: &Events,
@@ -101,6 +103,7 @@ fn run<S: Shelf>(
         → S.files shelf.old ≡ Some held
         → files.get held feed_name ≡ Some feed → first_past_feed events.now (whole_packets feed) ≡ None
         → IsRunOf ts (schedule ts (packets_of feed) events.now) held result stage.new (S.files shelf.new) }
+    ensures refusal { IfErr result IsOfFeed }
     ensures gone { HasGone (S.counts shelf.old) (S.counts shelf.new) (blame_of_answer result) }
 {
     begin_files(shelf, &stage.names)?;
@@ -121,6 +124,7 @@ fn play_events<S: Shelf>(
         → first_past_feed events.now (whole_packets feed) ≡ None
         → IsPlayedSoFar ts [] held stage.old (S.files shelf.old)
         → IsDoneOf ts (schedule ts (packets_of feed) events.now) held result stage.new (S.files shelf.new) }
+    ensures refusal { IfErr result IsOfFeed }
     ensures gone { HasGone (S.counts shelf.old) (S.counts shelf.new) (blame_of_answer result) }
 {
     for i in 0..events.len() {

@@ -1,5 +1,5 @@
 // All exciters of a network at work, and what is written of them.
-ghost use Rattle.std.specs.Prelude.{◌≡◌, ◌+◌, ◌<◌, ◌≤◌, ◌^◌, ◌++◌, ◌∷◌, [], List, Some, IfOk, IfSome, IsOk, length};
+ghost use Rattle.std.specs.Prelude.{◌≡◌, ◌+◌, ◌<◌, ◌≤◌, ◌^◌, ◌++◌, ◌∷◌, [], List, Some, IfErr, IfOk, IfSome, IsOk, length};
 ghost use Rattle.std.specs.Prelude.{replicate, take};
 ghost use Rattle.dtx_outside.specs.Counts.{HasGone, blame_of_write};
 ghost use Rattle.dtx_outside.specs.Shelf.{Files};
@@ -9,7 +9,7 @@ ghost use Rattle.dtx_net.specs.Steps.{Step, packet_step, place_of, restart_step}
 ghost use Rattle.dtx_plan.specs.Sound.{AreTransmitters};
 ghost use Rattle.dtx_plan.specs.declared.transmitter.Transmitter.{Transmitter};
 ghost use Rattle.dtx_schedule.specs.Pair.{Brings};
-ghost use Rattle.dtx_schedule.specs.PlayedSoFar.{IsDoneOf, IsPlayedSoFar, IsWrittenOf};
+ghost use Rattle.dtx_schedule.specs.PlayedSoFar.{IsDoneOf, IsOfFeed, IsPlayedSoFar, IsWrittenOf};
 ghost use Rattle.dtx_schedule.specs.Staged.{AreNames, HasTransmitter, IsSomeStage, IsStaged};
 ghost use Rattle.dtx_schedule.specs.TransmitterFiles.{played_outputs};
 
@@ -71,6 +71,7 @@ impl Stage {
 
     /// Gives the transmitter at a place of the list one packet more, of any bytes, and appends to its files what it
     /// sends for it, and then the line of its log. An empty piece isn't appended.
+    #[tactic(auto, using(crate::proofs::Refusals::write_of_feed))]
     pub(crate) fn give<S: Shelf>(
         &mut self,
         shelf: &mut S,
@@ -84,6 +85,7 @@ impl Stage {
             → IsDoneOf ts (before ++ packet_step who packet.now.0 ∷ []) held result self.new (S.files shelf.new) }
         ensures there { IsOk result → HasTransmitter who self.new }
         ensures steps { IsOk result → self.new.steps ≡ self.old.steps + 1 }
+        ensures refusal { IfErr result IsOfFeed }
         ensures gone { HasGone (S.counts shelf.old) (S.counts shelf.new) (blame_of_answer result) }
     {
         let count = self.take(who, packet);
@@ -92,6 +94,7 @@ impl Stage {
     }
 
     /// Restarts the transmitter at a place of the list, and appends that to its log.
+    #[tactic(auto, using(crate::proofs::Refusals::write_of_feed))]
     pub(crate) fn restart<S: Shelf>(&mut self, shelf: &mut S, who: usize) -> Result<(), Status>
         requires there { HasTransmitter who self.old }
         requires most { self.old.steps < 2 ^ 60 }
@@ -100,6 +103,7 @@ impl Stage {
             → IsDoneOf ts (before ++ restart_step who ∷ []) held result self.new (S.files shelf.new) }
         ensures there { IsOk result → HasTransmitter who self.new }
         ensures steps { IsOk result → self.new.steps ≡ self.old.steps }
+        ensures refusal { IfErr result IsOfFeed }
         ensures gone { HasGone (S.counts shelf.old) (S.counts shelf.new) (blame_of_answer result) }
     {
         self.renew(who);

@@ -163,7 +163,7 @@ fed_alone plan network held (Some file) now fed not_done carried = at_done (is_d
     at_done false e carried = carried
     at_done true e (inl whole) =
         absurd (not_done (ap (λ (o : Outcome). o.status) whole.answer ∙ is_done_is first.outcome.status e))
-    at_done true e (inr broken) = carried_before first next (Some held) now fed broken.fault (inr broken)
+    at_done true e (inr broken) = carried_before first next (Some held) now fed broken
 
 -- ---- where the files are told
 

@@ -8,17 +8,19 @@ use Rattle.dtx_outside.specs.declared.sink.SinkNo.{SinkNo}
 use Rattle.dtx_outside.specs.declared.sink.SinkNo.TheVariants as sink
 use Rattle.dtx_meaning.specs.Status.{IsOfInputs}
 use Rattle.dtx_meaning.specs.declared.status.Status.{Status}
-use Rattle.dtx_meaning.specs.declared.status.Status.TheVariants.{Usage, Memory}
+use Rattle.dtx_meaning.specs.declared.status.Status.TheVariants.{Usage, WriteFault, Memory}
+use Rattle.dtx_jobs.specs.Answers.{Knows}
 use Rattle.dtx_jobs.specs.OfWords.{IsOfWords, excite_same, make_same, numbers_same, three_same, two_same}
 use Rattle.dtx_words.specs.Fitting.{command_of, fit_fields, fits}
 use Rattle.dtx_words.specs.FittingLaws.{command_fits}
 use Rattle.dtx_words.specs.Line.{finished}
 use Rattle.dtx_words.specs.Names.{names_at, repeated}
-use Rattle.dtx_words.specs.Rows.{adapt_row, code_row, excite_row, make_row}
+use Rattle.dtx_words.specs.Rows.{adapt_row, code_row, excite_row, make_row, net_row}
 use Rattle.dtx_words.specs.declared.rows.Command.{Command}
 use Rattle.dtx_words.specs.declared.rows.Command.TheVariants.{Adapt, Code, Excite, Receive, Net, Make, Hurt, Place}
 use Rattle.dtx_words.specs.declared.rows.Field.{Field}
 use Rattle.dtx_top.specs.Ends.{IsByWords, IsOfCommand}
+use Rattle.dtx_top.specs.NetAnswers.{IsOfNetWords, IsOfNetwork}
 use Rattle.dtx_top.proofs.Ending.{finished_failed}
 
 -- ---- so many words
@@ -31,6 +33,12 @@ fit_length [] (word ∷ words) fit = let e : false ≡ true = fit in cc
 fit_length (field ∷ fields) [] fit = let e : false ≡ true = fit in cc
 fit_length (field ∷ fields) (word ∷ words) fit =
     let rest : length words ≡ length fields = fit_length fields words (and_parts _ _ fit).1 in omega (arith, rest)
+
+with_one : (P : List (List ℕ) → Type 0) (words : List (List ℕ)) → length words ≡ 1
+    → ((a : List ℕ) → P (a ∷ [])) → P words
+with_one P [] long all = absurd (omega (arith, long))
+with_one P (a ∷ []) long all = all a
+with_one P (a ∷ b ∷ rest) long all = absurd (omega (arith, long))
 
 with_two : (P : List (List ℕ) → Type 0) (words : List (List ℕ)) → length words ≡ 2
     → ((a b : List ℕ) → P (a ∷ b ∷ [])) → P words
@@ -105,18 +113,24 @@ make_told verb words status fit = with_three (λ ws. fit_fields make_row.fields 
     let behind = (and_parts _ _ fit).1 in
     numbers_told _ _ false 0 status (and_parts _ _ fit).0 (and_parts _ _ behind).0 is) fit
 
+-- `net PLAN`
+net_told : (verb : List ℕ) (words : List (List ℕ)) (status : Status) → fit_fields net_row.fields words ≡ true
+    → IsOfNetWords (verb ∷ words) status → IsOfNetwork status
+net_told verb words status fit = with_one (λ ws. IsOfNetWords (verb ∷ ws) status → IsOfNetwork status) words
+    (fit_length net_row.fields words fit) (λ plan is. is)
+
 -- words that fit a command
 fitted_told : (command : Command) (words : List (List ℕ)) (status : Status) → fits command words ≡ true
     → IsOfCommand (Some command) words status → IsByWords (Some command) words status
 fitted_told command [] status fit is = let e : false ≡ true = fit in cc
-fitted_told Adapt (verb ∷ words) status fit is = three_told verb words status (and_parts _ _ fit).1 is
-fitted_told Code (verb ∷ words) status fit is = two_told verb words status (and_parts _ _ fit).1 is
-fitted_told Excite (verb ∷ words) status fit is = excite_told verb words status (and_parts _ _ fit).1 is
-fitted_told Receive (verb ∷ words) status fit is = two_told verb words status (and_parts _ _ fit).1 is
-fitted_told Net (verb ∷ words) status fit is = tt
-fitted_told Make (verb ∷ words) status fit is = make_told verb words status (and_parts _ _ fit).1 is
-fitted_told Hurt (verb ∷ words) status fit is = three_told verb words status (and_parts _ _ fit).1 is
-fitted_told Place (verb ∷ words) status fit is = two_told verb words status (and_parts _ _ fit).1 is
+fitted_told Adapt (verb ∷ words) status fit is = (three_told verb words status (and_parts _ _ fit).1 is.0, is.1)
+fitted_told Code (verb ∷ words) status fit is = (two_told verb words status (and_parts _ _ fit).1 is.0, is.1)
+fitted_told Excite (verb ∷ words) status fit is = (excite_told verb words status (and_parts _ _ fit).1 is.0, is.1)
+fitted_told Receive (verb ∷ words) status fit is = (two_told verb words status (and_parts _ _ fit).1 is.0, is.1)
+fitted_told Net (verb ∷ words) status fit is = net_told verb words status (and_parts _ _ fit).1 is
+fitted_told Make (verb ∷ words) status fit is = (make_told verb words status (and_parts _ _ fit).1 is.0, is.1)
+fitted_told Hurt (verb ∷ words) status fit is = (three_told verb words status (and_parts _ _ fit).1 is.0, is.1)
+fitted_told Place (verb ∷ words) status fit is = (two_told verb words status (and_parts _ _ fit).1 is.0, is.1)
 
 -- ---- behind the line
 
@@ -132,6 +146,47 @@ inputs_finished same inputs status (Err sink.Failed) is = elim (finished_failed 
   | inr kept ↦ (let P : Status → Type 0 = λ s. IsOfInputs same inputs s in subst P (sym kept) is)
 ]
 
+-- the answer of a network, whose line was printed so
+network_finished : (status : Status) (line : Result (Unit {0}) SinkNo) → IsOfNetwork status
+    → IsOfNetwork (finished status line)
+network_finished status (Ok u) is = is
+network_finished status (Err sink.Memory) is = tt
+network_finished status (Err sink.Failed) is = elim (finished_failed status) [
+  | inl done ↦ (let P : Status → Type 0 = λ s. IsOfNetwork (finished s (Err sink.Failed)) in subst P (sym done) tt)
+  | inr kept ↦ (let P : Status → Type 0 = λ s. IsOfNetwork s in subst P (sym kept) is)
+]
+
+-- each command knows want of memory, and that its line could not be printed
+memory_known : (command : Command) → Knows command Memory
+memory_known Adapt = tt
+memory_known Code = tt
+memory_known Excite = tt
+memory_known Receive = tt
+memory_known Net = tt
+memory_known Make = tt
+memory_known Hurt = tt
+memory_known Place = tt
+
+write_fault_known : (command : Command) → Knows command WriteFault
+write_fault_known Adapt = tt
+write_fault_known Code = tt
+write_fault_known Excite = tt
+write_fault_known Receive = tt
+write_fault_known Net = tt
+write_fault_known Make = tt
+write_fault_known Hurt = tt
+write_fault_known Place = tt
+
+knows_finished : (command : Command) (status : Status) (line : Result (Unit {0}) SinkNo) → Knows command status
+    → Knows command (finished status line)
+knows_finished command status (Ok u) is = is
+knows_finished command status (Err sink.Memory) is = memory_known command
+knows_finished command status (Err sink.Failed) is = elim (finished_failed status) [
+  | inl done ↦ (let P : Status → Type 0 = λ s. Knows command (finished s (Err sink.Failed)) in
+      subst P (sym done) (write_fault_known command))
+  | inr kept ↦ (let P : Status → Type 0 = λ s. Knows command s in subst P (sym kept) is)
+]
+
 usage_finished : (status : Status) (line : Result (Unit {0}) SinkNo) → status ≡ Usage
     → (finished status line ≡ Usage) ⊎ (finished status line ≡ Memory)
 usage_finished status (Ok u) is = inl is
@@ -140,14 +195,21 @@ usage_finished status (Err sink.Failed) is = inl (ap (λ s. finished s (Err sink
 
 by_words_finished : (command : Command) (words : List (List ℕ)) (status : Status) (line : Result (Unit {0}) SinkNo)
     → IsByWords (Some command) words status → IsByWords (Some command) words (finished status line)
-by_words_finished Adapt words status line is = inputs_finished _ _ status line is
-by_words_finished Code words status line is = inputs_finished _ _ status line is
-by_words_finished Excite words status line is = inputs_finished _ _ status line is
-by_words_finished Receive words status line is = inputs_finished _ _ status line is
-by_words_finished Net words status line is = tt
-by_words_finished Make words status line is = inputs_finished _ _ status line is
-by_words_finished Hurt words status line is = inputs_finished _ _ status line is
-by_words_finished Place words status line is = inputs_finished _ _ status line is
+by_words_finished Adapt words status line is =
+    (inputs_finished _ _ status line is.0, knows_finished Adapt status line is.1)
+by_words_finished Code words status line is =
+    (inputs_finished _ _ status line is.0, knows_finished Code status line is.1)
+by_words_finished Excite words status line is =
+    (inputs_finished _ _ status line is.0, knows_finished Excite status line is.1)
+by_words_finished Receive words status line is =
+    (inputs_finished _ _ status line is.0, knows_finished Receive status line is.1)
+by_words_finished Net words status line is = network_finished status line is
+by_words_finished Make words status line is =
+    (inputs_finished _ _ status line is.0, knows_finished Make status line is.1)
+by_words_finished Hurt words status line is =
+    (inputs_finished _ _ status line is.0, knows_finished Hurt status line is.1)
+by_words_finished Place words status line is =
+    (inputs_finished _ _ status line is.0, knows_finished Place status line is.1)
 
 -- the command that the words fit, behind its line
 pub words_told : (command : Option Command) (words : List (List ℕ)) (status : Status)

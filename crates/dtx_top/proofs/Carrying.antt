@@ -3,6 +3,7 @@ use Rattle.std.proofs.Common.{◌≡◌, ℕ, Bool, true, false, cond, List, [],
 use Rattle.std.proofs.Common.{inr}
 use Rattle.std.specs.Prelude.{Option, Some, None, IfSome, slice_index}
 use Rattle.std.specs.FinMap.{get}
+use Rattle.std.proofs.lemmas.Bool.{cond-false}
 use Rattle.dtx_engine.specs.Making.{Making, meaning}
 use Rattle.dtx_engine.specs.declared.engine.Shape.{Shape}
 use Rattle.dtx_jobs.specs.Damaged.{damaged}
@@ -93,10 +94,25 @@ fault_stays fed filled steps outcome fault = at_test (is_done outcome.status) (f
     at_test true e = cc
     at_test false e = fault
 
+status_stays : (fed filled steps : ℕ) (outcome : Outcome) → is_done outcome.status ≡ false
+    → (with_received fed filled steps outcome).status ≡ outcome.status
+status_stays fed filled steps outcome none = ap (λ (o : Outcome). o.status)
+    (cond-false (is_done outcome.status) (record {
+      status = Done;
+      numbers = fed ∷ filled ∷ steps ∷ slice_index outcome.numbers 2 ∷ slice_index outcome.numbers 3 ∷ slice_index
+          outcome.numbers 4 ∷ [];
+      shown = 6;
+    }) outcome none)
+
 pub answered_carried : (m : Meaning) (fed filled steps : ℕ) (start now : Option Files) (outcome : Outcome)
     → IsCarriedOut m start outcome now
     → IsCarriedOut (answered (with_received fed filled steps) m) start (with_received fed filled steps outcome) now
 answered_carried m fed filled steps start now outcome (inl whole) =
     inl (record { answer = ap (with_received fed filled steps) whole.answer; files = whole.files })
 answered_carried m fed filled steps start now outcome (inr broken) =
-    inr (record { fault = fault_stays fed filled steps outcome broken.fault; files = broken.files })
+    inr (record {
+      fault = fault_stays fed filled steps outcome broken.fault;
+      writing = λ writing. broken.writing
+          (sym (status_stays fed filled steps outcome (fault_not_done outcome.status broken.fault)) ∙ writing);
+      files = broken.files;
+    })

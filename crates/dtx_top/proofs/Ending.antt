@@ -6,7 +6,7 @@ use Rattle.dtx_outside.specs.Shelf.{Files, IsSameAt}
 use Rattle.dtx_outside.specs.Sink.{IsCounted, HasRisenBy}
 use Rattle.dtx_outside.specs.declared.sink.SinkNo.{SinkNo}
 use Rattle.dtx_outside.specs.declared.sink.SinkNo.TheVariants as sink
-use Rattle.dtx_meaning.specs.Laws.{done_printed, done_faulted, done_unprinted, same_at_done, status_of_done}
+use Rattle.dtx_meaning.specs.Laws.{done_printed, done_wanting, done_unprinted, same_at_done, status_of_done}
 use Rattle.dtx_meaning.specs.Laws.{whole_of_carried}
 use Rattle.dtx_meaning.specs.Meaning.{Meaning, IsCarriedOut, IsDone, IsNoOutput, IsUnprinted}
 use Rattle.dtx_meaning.specs.Status.{IsFault, blame_of}
@@ -43,7 +43,7 @@ pub done_of : (m : Meaning) (start now : Option Files) (outcome : Outcome) (line
     → IsDone m start (finished outcome.status line) (Rose first last) now
 done_of m start now outcome (Ok u) first last is counted = done_printed m start now outcome (Rose first last) is
 done_of m start now outcome (Err sink.Memory) first last is counted =
-    done_faulted m start now outcome Memory (Rose first last) is tt
+    done_wanting m start now outcome (Rose first last) is
 done_of m start now outcome (Err sink.Failed) first last is counted = elim (finished_failed outcome.status) [
   | inl done ↦ (let P : Status → Type 0 = λ s. IsDone m start (finished s (Err sink.Failed)) (Rose first last) now in
       subst P (sym done) (done_unprinted m start now outcome (Rose first last) is done counted.risen))

@@ -5,6 +5,7 @@ pub mod Ending
 pub mod FileNames
 pub mod Headlines
 pub mod LineLeft
+pub mod NetAnswers
 pub mod NetFiles
 pub mod Played
 pub mod SegmentsBack

@@ -12,14 +12,16 @@ use Rattle.dtx_meaning.specs.Meaning.{IsCarriedOut}
 use Rattle.dtx_meaning.specs.Status.{IsFault}
 use Rattle.dtx_meaning.specs.declared.status.Outcome.{Outcome}
 use Rattle.dtx_meaning.specs.declared.status.Status.{Status}
-use Rattle.dtx_meaning.specs.declared.status.Status.TheVariants.{Done}
+use Rattle.dtx_meaning.specs.declared.status.Status.TheVariants.{Done, Usage}
 use Rattle.dtx_meaning.specs.declared.status.Status.TheVariants.{WriteFault, Memory}
 use Rattle.dtx_words.specs.Line.{finished, line_at, line_of}
 use Rattle.dtx_words.specs.Names.{line_name}
 use Rattle.dtx_words.specs.Printed.{printed, IsPut}
 use Rattle.dtx_words.specs.declared.rows.Command.{Command}
 use Rattle.dtx_words.specs.declared.rows.Command.TheVariants.{Adapt, Code, Excite, Receive, Net, Make, Hurt, Place}
-use Rattle.dtx_top.specs.Lines.{name_kept, names_told, HasLine, HasPartLine, IsSomeLine, IsSomeName, IsToldLine}
+use Rattle.dtx_top.specs.Lines.{name_kept, names_told, HasLine, HasPartLine, IsSomeCount, IsSomeLine, IsSomeName}
+use Rattle.dtx_top.specs.Lines.{IsToldLine}
+use Rattle.dtx_top.specs.NetAnswers.{ShowsNetwork}
 use Rattle.dtx_top.specs.Means.{means_of}
 
 -- ---- how much of it
@@ -102,10 +104,15 @@ line_is : (command : Option Command) (words : List (List ℕ)) (held : Files) (o
     → IsToldLine command words held outcome.status
     (line_of command outcome (name_kept command words outcome.status kept))
 line_is command words held outcome now kept is named =
-    ap (line_at command outcome.status outcome) (name_told command words held outcome.status kept named)
-    ∙ same_line command outcome.status outcome (means_of command words held).outcome _
-    (λ done. (whole_of_carried (means_of command words held) (Some held) now outcome is
-    (no_fault outcome.status done)).answer)
+    let same : outcome.status ≡ Done → outcome ≡ (means_of command words held).outcome =
+    λ done. (whole_of_carried (means_of command words held) (Some held) now outcome is
+    (no_fault outcome.status done)).answer in
+    record {
+      done = λ done. sym (ap (λ (o : Outcome). o.status) (same done)) ∙ done;
+      line = ap (line_at command outcome.status outcome)
+          (name_told command words held outcome.status kept named)
+          ∙ same_line command outcome.status outcome (means_of command words held).outcome _ same;
+    }
 
 -- the line that is left, over files that are told
 pub line_told : (command : Option Command) (words : List (List ℕ)) (told now : Option Files) (outcome : Outcome)
@@ -137,17 +144,32 @@ some_name (Some Hurt) words status kept is = refl
 some_name (Some Place) words status kept is = refl
 some_name None words status kept is = refl
 
+-- how many numbers stand in a line, whatever the files are
+some_count : (command : Option Command) (outcome : Outcome) → (command ≡ None → outcome.status ≡ Usage)
+    → (command ≡ Some Net → ShowsNetwork outcome.status outcome) → IsSomeCount command outcome.status outcome
+some_count (Some Net) outcome none is = is refl
+some_count (Some Adapt) outcome none is = tt
+some_count (Some Code) outcome none is = tt
+some_count (Some Excite) outcome none is = tt
+some_count (Some Receive) outcome none is = tt
+some_count (Some Make) outcome none is = tt
+some_count (Some Hurt) outcome none is = tt
+some_count (Some Place) outcome none is = tt
+some_count None outcome none is = λ done. let e : Usage ≡ Done = sym (none refl) ∙ done in cc
+
 -- the line that is left, whatever the files are
 pub line_untold : (command : Option Command) (words : List (List ℕ)) (outcome : Outcome) (kept : List ℕ)
     (line : Result (Unit {0}) SinkNo) (first last : ℕ) (old new : Option (List ℕ))
     → (command ≡ Some Net → IsSomeName command words outcome.status (name_kept command words outcome.status kept))
+    → (command ≡ None → outcome.status ≡ Usage) → (command ≡ Some Net → ShowsNetwork outcome.status outcome)
     → IsPut (line_of command outcome (name_kept command words outcome.status kept)) old line new
     → IsCounted first line last
     → HasLine (IsSomeLine command words) (finished outcome.status line) (Rose first last) old new
-line_untold command words outcome kept line first last old new named put counted =
+line_untold command words outcome kept line first last old new named usage shown put counted =
     line_left (IsSomeLine command words) outcome.status _ line first last old new (record {
       outcome = outcome;
       name = name_kept command words outcome.status kept;
       named = some_name command words outcome.status kept named;
+      count = some_count command outcome usage shown;
       line = refl;
     }) put counted

@@ -1,12 +1,12 @@
 -- The events of a network, played over the feed of its stream, and what is received of them.
-use Rattle.std.proofs.Common.{◌≡◌, ℕ, List, length, sym, ap, subst, ◌∙◌, inl}
+use Rattle.std.proofs.Common.{◌≡◌, ◌≢◌, ℕ, ◌≤◌, List, [], ◌∷◌, length, sym, ap, subst, ◌∙◌, inl, arith}
 use Rattle.std.specs.Prelude.{Option, Some, None, Result, IfSome, slice_index}
 use Rattle.std.specs.FinMap.{get}
 use Rattle.dtx_adapter.specs.Feed.{feed, placeholders}
 use Rattle.dtx_jobs.specs.Feed.{feed_bytes}
 use Rattle.dtx_jobs.specs.FeedFileLaws.{packets_of-feed_bytes, whole_packets-feed_bytes}
 use Rattle.dtx_jobs.specs.PastEnd.{first_past}
-use Rattle.dtx_meaning.specs.Laws.{carried_part, carried_then, part_before}
+use Rattle.dtx_meaning.specs.Laws.{carried_part, carried_then, part_before, some_before}
 use Rattle.dtx_meaning.specs.Meaning.{Meaning, IsCarriedOut, with_outputs}
 use Rattle.dtx_meaning.specs.Status.{IsFault, ended}
 use Rattle.dtx_meaning.specs.declared.status.Outcome.{Outcome}
@@ -23,7 +23,7 @@ use Rattle.dtx_plan.specs.declared.transmitter.Transmitter.{Transmitter}
 use Rattle.dtx_schedule.specs.Inside.{first_past_feed}
 use Rattle.dtx_schedule.specs.Played.{IsPlayFault, IsPlayOf}
 use Rattle.dtx_schedule.specs.Staged.{packets_given}
-use Rattle.dtx_schedule.specs.TransmitterFiles.{played_outputs}
+use Rattle.dtx_schedule.specs.TransmitterFiles.{Contents, files_of, played, played_outputs}
 use Rattle.dtx_schedule.specs.declared.playing.Played.{Played}
 use Rattle.dtx_words.specs.NetworkNames.{feed_name}
 use Rattle.dtx_top.specs.NetMeaning.{played_and_received, played_outcome, playing, received_of, received_past}
@@ -59,22 +59,32 @@ played_over plan network stream ts fed held told now result sound its is written
     (subst (λ (packets : List (List ℕ)). IsPlayOf ts (schedule ts packets network.events) held result now)
     (packets_of-feed_bytes plan stream sound written.long) over)
 
+-- where there is a transmitter there are its files
+some_files : (contents : Contents) (ts : List Transmitter) → 1 ≤ length ts → files_of contents ts ≢ []
+some_files contents [] some = absurd (omega (arith, some))
+some_files contents (t ∷ ts) some = λ none. cc
+
 -- a fault while they were played
 pub play_fault : (plan : Plan) (network : NetPlan) (stream : List (List ℕ)) (receive : Option ReceivePlan)
     (held : Files) (status : Status) (outcome : Outcome)
-    (now : Option Files) → IsPlayFault plan.transmitters.items (steps_under plan stream network.events) held status now
+    (now : Option Files) → 1 ≤ length plan.transmitters.items
+    → IsPlayFault plan.transmitters.items (steps_under plan stream network.events) held status now
     → outcome ≡ ended status
     → IsCarriedOut (played_and_received plan network stream receive) (Some held) outcome now
-play_fault plan network stream receive held status outcome now is ends = by_receiver receive
+play_fault plan network stream receive held status outcome now transmitters is ends = by_receiver receive
   where
     fault : IsFault outcome.status
     fault = subst (λ (o : Outcome). IsFault o.status) (sym ends) is.fault
 
+    some : (playing plan network stream).outputs ≢ []
+    some = some_files (played (steps_under plan stream network.events)) plan.transmitters.items transmitters
+
     by_receiver : (receive : Option ReceivePlan)
         → IsCarriedOut (played_and_received plan network stream receive) (Some held) outcome now
-    by_receiver None = carried_part (playing plan network stream) (Some held) now outcome fault is.part
+    by_receiver None = carried_part (playing plan network stream) (Some held) now outcome fault some is.part
     by_receiver (Some receiver) =
         carried_part (played_and_received plan network stream (Some receiver)) (Some held) now outcome fault
+        (some_before (playing plan network stream).outputs (received_of plan network stream receiver).outputs some)
         (part_before (playing plan network stream).outputs (received_of plan network stream receiver).outputs
         (Some held) now is.part)
 

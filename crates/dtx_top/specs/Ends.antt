@@ -5,6 +5,7 @@ use Rattle.dtx_outside.specs.Shelf.{Files}
 use Rattle.dtx_meaning.specs.Status.{IsOfInputs}
 use Rattle.dtx_meaning.specs.declared.status.Status.{Status}
 use Rattle.dtx_meaning.specs.declared.status.Status.TheVariants.{Done, Usage, Absent, ReadFault, WriteFault, Memory}
+use Rattle.dtx_jobs.specs.Answers.{Knows}
 use Rattle.dtx_jobs.specs.OfWords.{IsOfWords, excite_same, make_same, three_same, two_same}
 use Rattle.dtx_words.specs.Names.{names_of, repeated}
 use Rattle.dtx_words.specs.Rows.{row_of}
@@ -13,6 +14,7 @@ use Rattle.dtx_words.specs.declared.rows.Command.TheVariants.{Adapt, Code, Excit
 use Rattle.dtx_words.specs.declared.rows.Field.{Field}
 use Rattle.dtx_words.specs.declared.rows.Field.TheVariants.{Input}
 use Rattle.dtx_top.specs.HeadlineOfFiles.{HasHeadline}
+use Rattle.dtx_top.specs.NetAnswers.{IsOfNetWords, IsOfNetwork}
 
 -- The cause of an answer, of the counts of the shelf and of that of the sink. On `Done` all stand, so no fault was met.
 -- `WriteFault` is also answered where the line of `Done` could not be printed; want of memory may be met behind a
@@ -59,22 +61,24 @@ inputs_among (Input ∷ fields) = suc (inputs_among fields)
 inputs_among (field ∷ fields) = inputs_among fields
 
 -- Words that fit a command are never answered `Usage`. They are answered `Same` where two of the command's file names
--- are equal, unless memory is wanted, and only there; and an input that isn't there is one that the words name. For
--- `net`, whose plan names further files, nothing is said here.
+-- are equal, unless memory is wanted, and only there; an input that isn't there is one that the words name; and each
+-- refusal is one that the command knows. Of `net`, whose plan names further files, an input that isn't there is one of
+-- the four that it reads.
 abbrev pub IsByWords : Option Command → List (List ℕ) → Status → Type 0
 IsByWords None words status = (status ≡ Usage) ⊎ (status ≡ Memory)
-IsByWords (Some Net) words status = Unit {0}
+IsByWords (Some Net) words status = IsOfNetwork status
 IsByWords (Some command) words status =
     IsOfInputs (is_some (repeated (names_of (Some command) words))) (inputs_among (row_of command).fields) status
+    × Knows command status
 
 -- the same of a command, before its line is printed
 abbrev pub IsOfCommand : Option Command → List (List ℕ) → Status → Type 0
 IsOfCommand None words status = status ≡ Usage
-IsOfCommand (Some Adapt) words status = IsOfWords (three_same words) 2 status
-IsOfCommand (Some Code) words status = IsOfWords (two_same words) 1 status
-IsOfCommand (Some Excite) words status = IsOfWords (excite_same words) 1 status
-IsOfCommand (Some Receive) words status = IsOfWords (two_same words) 1 status
-IsOfCommand (Some Net) words status = Unit {0}
-IsOfCommand (Some Make) words status = IsOfWords (make_same words) 0 status
-IsOfCommand (Some Hurt) words status = IsOfWords (three_same words) 2 status
-IsOfCommand (Some Place) words status = IsOfWords (two_same words) 1 status
+IsOfCommand (Some Adapt) words status = IsOfWords (three_same words) 2 status × Knows Adapt status
+IsOfCommand (Some Code) words status = IsOfWords (two_same words) 1 status × Knows Code status
+IsOfCommand (Some Excite) words status = IsOfWords (excite_same words) 1 status × Knows Excite status
+IsOfCommand (Some Receive) words status = IsOfWords (two_same words) 1 status × Knows Receive status
+IsOfCommand (Some Net) words status = IsOfNetWords words status
+IsOfCommand (Some Make) words status = IsOfWords (make_same words) 0 status × Knows Make status
+IsOfCommand (Some Hurt) words status = IsOfWords (three_same words) 2 status × Knows Hurt status
+IsOfCommand (Some Place) words status = IsOfWords (two_same words) 1 status × Knows Place status

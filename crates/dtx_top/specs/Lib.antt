@@ -2,6 +2,7 @@ pub mod Ends
 pub mod HeadlineOfFiles
 pub mod Lines
 pub mod Means
+pub mod NetAnswers
 pub mod NetMeaning
 pub mod NetNames
 pub mod Networks

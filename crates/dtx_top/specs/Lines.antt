@@ -1,5 +1,5 @@
 -- The line that a call leaves behind: of its answer, its names and its numbers.
-use Rattle.std.specs.Prelude.{◌≡◌, ◌⊎◌, ℕ, ◌≤◌, List, length, take, Option, Some}
+use Rattle.std.specs.Prelude.{◌≡◌, ◌≢◌, ◌⊎◌, ℕ, ◌≤◌, List, length, take, Option, Some, None}
 use Rattle.dtx_outside.specs.Shelf.{Files}
 use Rattle.dtx_meaning.specs.declared.status.Outcome.{Outcome}
 use Rattle.dtx_meaning.specs.declared.status.Status.{Status}
@@ -10,6 +10,7 @@ use Rattle.dtx_words.specs.Printed.{printed}
 use Rattle.dtx_words.specs.declared.rows.Command.{Command}
 use Rattle.dtx_words.specs.declared.rows.Command.TheVariants.{Net}
 use Rattle.dtx_top.specs.Means.{means_of}
+use Rattle.dtx_top.specs.NetAnswers.{ShowsNetwork}
 use Rattle.dtx_top.specs.NetNames.{net_names, plan_word, told_name, IsUntoldName}
 
 -- ---- which line
@@ -19,11 +20,13 @@ abbrev pub names_told : Option Command → List (List ℕ) → Files → List (L
 names_told (Some Net) words held = net_names words held
 names_told command words held = names_of command words
 
--- the text is the line of an answer to these words over these files
-abbrev pub IsToldLine : Option Command → List (List ℕ) → Files → Status → List ℕ → Type 0
-IsToldLine command words held status text =
-    text ≡ line_at command status (means_of command words held).outcome
-    (line_name status (names_told command words held))
+-- The text is the line of an answer to these words over these files. The line of `Done` comes only where the meaning
+-- is done.
+pub record IsToldLine (command : Option Command) (words : List (List ℕ)) (held : Files) (status : Status)
+    (text : List ℕ) : Type 0 where
+  pub done : status ≡ Done → (means_of command words held).outcome.status ≡ Done
+  pub line : text ≡ line_at command status (means_of command words held).outcome
+      (line_name status (names_told command words held))
 
 -- the name in a line: among the words, or for `net` the one that it keeps, unless PLAN isn't there
 abbrev pub name_kept : Option Command → List (List ℕ) → Status → List ℕ → List ℕ
@@ -35,12 +38,20 @@ abbrev pub IsSomeName : Option Command → List (List ℕ) → Status → List �
 IsSomeName (Some Net) words status name = IsUntoldName (plan_word words) status name
 IsSomeName command words status name = name ≡ line_name status (names_of command words)
 
+-- So many numbers may stand in it: of a network that is done three or six, else as many as its row has labels. Where
+-- the words fit no command nothing is done.
+abbrev pub IsSomeCount : Option Command → Status → Outcome → Type 0
+IsSomeCount None status outcome = status ≢ Done
+IsSomeCount (Some Net) status outcome = ShowsNetwork status outcome
+IsSomeCount (Some command) status outcome = Unit {0}
+
 -- the text is a line of an answer to these words, whatever the files are: with some numbers
 pub record IsSomeLine (command : Option Command) (words : List (List ℕ)) (status : Status)
     (text : List ℕ) : Type 0 where
   pub outcome : Outcome
   pub name : List ℕ
   pub named : IsSomeName command words status name
+  pub count : IsSomeCount command status outcome
   pub line : text ≡ line_at command status outcome name
 
 -- ---- how much of it

@@ -9,6 +9,7 @@ ghost use Rattle.dtx_plan.specs.Sound.{HasSoundNet, IsNet, IsSound};
 ghost use Rattle.dtx_words.specs.Names.{line_name, repeated};
 ghost use Rattle.dtx_words.specs.NetworkNames.{feed_name};
 ghost use Rattle.dtx_top.specs.HeadlineOfFiles.{HasHeadline};
+ghost use Rattle.dtx_top.specs.NetAnswers.{IsOfNetWords, IsOfNetwork, ShowsNetwork};
 ghost use Rattle.dtx_top.specs.NetMeaning.{net_meaning, network_meaning, planned_meaning};
 ghost use Rattle.dtx_top.specs.NetNames.{IsKeptName, IsUntoldName, kept_name, names_of_file, names_under, net_names};
 ghost use Rattle.dtx_top.specs.NetNames.{plan_word, receiver_of, told_name};
@@ -56,6 +57,10 @@ pub fn net<S: Shelf>(alloc: Global, words: &[Word], shelf: &mut S) -> NetOutcome
     ensures untold_name { IsUntoldName (plan_word words.now) result.outcome.status
         (told_name (plan_word words.now) result.outcome.status result.name.bytes) }
 
+    // Also where the files are not told: what the words alone say of the answer, and how many numbers it shows.
+    ensures words { IsOfNetWords words.now result.outcome.status }
+    ensures shown { ShowsNetwork result.outcome.status result.outcome }
+
     // Where it is done the headline holds of its files.
     ensures headline { IfSome (S.files shelf.old) (λ held. result.outcome.status ≡ Status.Done
         → HasHeadline words.now held (S.files shelf.new)) }
@@ -68,6 +73,7 @@ pub fn net<S: Shelf>(alloc: Global, words: &[Word], shelf: &mut S) -> NetOutcome
 }
 
 /// Reads the plan, and does what `net` does under it.
+#[tactic(auto, using(crate::proofs::NetAnswers::plan_of_network))]
 fn net_file<S: Shelf>(alloc: Global, name: &str, shelf: &mut S) -> NetOutcome
     ensures carried { IfSome (S.files shelf.old) (λ held. IsCarriedOut
         (under_plan 0 (files.get held name.now) (λ said. planned_meaning name.now held said said.net))
@@ -76,6 +82,8 @@ fn net_file<S: Shelf>(alloc: Global, name: &str, shelf: &mut S) -> NetOutcome
     ensures name { IfSome (S.files shelf.old) (λ held. told_name name.now result.outcome.status result.name.bytes
         ≡ line_name result.outcome.status (names_of_file name.now (files.get held name.now))) }
     ensures kept { IsKeptName result.outcome.status result.name.bytes }
+    ensures network { IsOfNetwork result.outcome.status }
+    ensures shown { ShowsNetwork result.outcome.status result.outcome }
 {
     match plan_in(alloc, shelf, 0, name) {
         Ok(plan) => net_planned(alloc, name, &plan, shelf),
@@ -105,6 +113,8 @@ fn net_planned<S: Shelf>(alloc: Global, name: &str, plan: &Plan, shelf: &mut S) 
     ensures name { IfSome (S.files shelf.old) (λ held. told_name name.now result.outcome.status result.name.bytes
         ≡ line_name result.outcome.status (names_under name.now plan.now plan.now.net)) }
     ensures kept { IsKeptName result.outcome.status result.name.bytes }
+    ensures network { IsOfNetwork result.outcome.status }
+    ensures shown { ShowsNetwork result.outcome.status result.outcome }
 {
     match &plan.net {
         Some(network) => net_apart(alloc, name, plan, network, shelf),
@@ -133,6 +143,8 @@ fn net_apart<S: Shelf>(
     ensures name { IfSome (S.files shelf.old) (λ held. told_name name.now result.outcome.status result.name.bytes
         ≡ line_name result.outcome.status (network_names name.now plan.now network.now)) }
     ensures kept { IsKeptName result.outcome.status result.name.bytes }
+    ensures network { IsOfNetwork result.outcome.status }
+    ensures shown { ShowsNetwork result.outcome.status result.outcome }
 {
     match repeated_file(name, plan, network) {
         Some(twice) => NetOutcome {
@@ -158,6 +170,8 @@ fn net_replayed<S: Shelf>(
         (S.files shelf.new)) }
     ensures gone { HasGone (S.counts shelf.old) (S.counts shelf.new) (blame_of result.outcome.status) }
     ensures name { result.name.bytes ≡ kept_name network.now result.outcome.status }
+    ensures network { IsOfNetwork result.outcome.status }
+    ensures shown { ShowsNetwork result.outcome.status result.outcome }
 {
     let outcome = replay(alloc, plan, network, shelf);
     NetOutcome {

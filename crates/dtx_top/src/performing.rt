@@ -7,6 +7,7 @@ ghost use Rattle.dtx_words.specs.Names.{line_name};
 ghost use Rattle.dtx_top.specs.Ends.{HasHeadlineOf, IsOfCommand};
 ghost use Rattle.dtx_top.specs.Lines.{name_kept, names_told, IsSomeName};
 ghost use Rattle.dtx_top.specs.Means.{means_of};
+ghost use Rattle.dtx_top.specs.NetAnswers.{ShowsNetwork};
 
 use crate::net_command::{NetOutcome, net};
 use arrayvec::ArrayString;
@@ -31,6 +32,7 @@ pub(crate) fn perform<S: Shelf>(
         ≡ line_name result.outcome.status (names_told command words.now held)) }
     ensures untold_name { command ≡ Some Command.Net → IsSomeName command words.now result.outcome.status
         (name_kept command words.now result.outcome.status result.name.bytes) }
+    ensures shown { command ≡ Some Command.Net → ShowsNetwork result.outcome.status result.outcome }
     ensures words { IsOfCommand command words.now result.outcome.status }
     ensures usage { command ≡ None → (result.outcome.status ≡ Status.Usage) × (S.files shelf.new ≡ S.files shelf.old) }
     ensures headline { IfSome (S.files shelf.old) (λ held. result.outcome.status ≡ Status.Done

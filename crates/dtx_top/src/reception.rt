@@ -7,7 +7,7 @@ ghost use Rattle.dtx_jobs.specs.PastEnd as past;
 ghost use Rattle.dtx_jobs.specs.Receive.{receiving};
 ghost use Rattle.dtx_jobs.specs.Shapes as shapes;
 ghost use Rattle.dtx_meaning.specs.Meaning.{IsCarriedOut};
-ghost use Rattle.dtx_meaning.specs.Status.{blame_of};
+ghost use Rattle.dtx_meaning.specs.Status.{IsOfInput, blame_of};
 ghost use Rattle.dtx_outside.specs.Counts.{HasGone};
 ghost use Rattle.dtx_outside.specs.Shelf.{Files};
 ghost use Rattle.dtx_plan.specs.Sound.{AreDamages};
@@ -36,6 +36,7 @@ pub(crate) fn receive_sent<S: Shelf>(
         → IsCarriedOut (received_past (past.first_past receiver.now.damage (length file)) receiver.now.damage file)
         (Some held)
         result (S.files shelf.new) }
+    ensures input { IsOfInput 3 result.status }
     ensures gone { HasGone (S.counts shelf.old) (S.counts shelf.new) (blame_of result.status) }
 {
     match first_past(&receiver.damage, symbols) {
@@ -51,6 +52,7 @@ fn receive<S: Shelf>(alloc: Global, shelf: &mut S, receiver: &ReceivePlan) -> Ou
         (meaning shapes.segments (damaged receiver.now.damage receiving) 3 (received_name ∷ [])
         (files.get held (symbol_name receiver.now.from)))
         (Some held) result (S.files shelf.new)) }
+    ensures input { IsOfInput 3 result.status }
     ensures gone { HasGone (S.counts shelf.old) (S.counts shelf.new) (blame_of result.status) }
 {
     match Reception::new(alloc) {

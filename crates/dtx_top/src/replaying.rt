@@ -4,7 +4,7 @@ ghost use Rattle.std.specs.FinMap as files;
 ghost use Rattle.dtx_engine.specs.Making.{meaning};
 ghost use Rattle.dtx_jobs.specs.Shapes as shapes;
 ghost use Rattle.dtx_meaning.specs.Meaning.{IsCarriedOut, with_outputs};
-ghost use Rattle.dtx_meaning.specs.Status.{blame_of};
+ghost use Rattle.dtx_meaning.specs.Status.{IsOfInput, blame_of};
 ghost use Rattle.dtx_network.specs.Network.{steps_under};
 ghost use Rattle.dtx_outside.specs.Counts.{HasGone};
 ghost use Rattle.dtx_outside.specs.Shelf.{Files};
@@ -14,6 +14,7 @@ ghost use Rattle.dtx_schedule.specs.Inside as inside;
 ghost use Rattle.dtx_schedule.specs.Staged.{IsStaged};
 ghost use Rattle.dtx_schedule.specs.TransmitterFiles.{played_outputs};
 ghost use Rattle.dtx_words.specs.NetworkNames.{feed_name};
+ghost use Rattle.dtx_top.specs.NetAnswers.{IsOfNetwork, ShowsNetwork};
 ghost use Rattle.dtx_top.specs.NetMeaning as means;
 ghost use Rattle.dtx_top.specs.Replaying.{HasNumbers, IsFeedWritten};
 
@@ -30,6 +31,7 @@ use dtx_words::feed_name;
 use std::alloc::Global;
 
 /// Adapts the stream to the feed, plays the events over it, and receives the symbols, where a receiver is asked for.
+#[tactic(auto, using(crate::proofs::NetAnswers::of_network))]
 pub(crate) fn replay<S: Shelf>(
     alloc: Global,
     plan: &Plan,
@@ -42,6 +44,8 @@ pub(crate) fn replay<S: Shelf>(
     ensures carried { IfSome (S.files shelf.old) (λ held. IsCarriedOut
         (means.network_meaning plan.now network.now (files.get held network.now.stream)) (Some held) result
         (S.files shelf.new)) }
+    ensures network { IsOfNetwork result.status }
+    ensures shown { ShowsNetwork result.status result }
     ensures gone { HasGone (S.counts shelf.old) (S.counts shelf.new) (blame_of result.status) }
 {
     let fed = feed_stream(alloc, plan, network, shelf);
@@ -58,6 +62,7 @@ fn feed_stream<S: Shelf>(alloc: Global, plan: &Plan, network: &NetPlan, shelf: &
     ensures carried { IfSome (S.files shelf.old) (λ held. IsCarriedOut
         (meaning shapes.packets (means.adapting plan.now) 1 (feed_name ∷ []) (files.get held network.now.stream))
         (Some held) result (S.files shelf.new)) }
+    ensures input { IsOfInput 1 result.status }
     ensures gone { HasGone (S.counts shelf.old) (S.counts shelf.new) (blame_of result.status) }
 {
     match Feeder::new(alloc, plan) {
@@ -85,6 +90,8 @@ fn play_within<S: Shelf>(
     ensures carried { (held : Files) (stream : List (List ℕ)) → S.files shelf.old ≡ Some held
         → IsFeedWritten plan.now stream fed.now held
         → IsCarriedOut (means.fed_meaning plan.now network.now stream) (Some held) result (S.files shelf.new) }
+    ensures network { IsOfNetwork result.status }
+    ensures shown { ShowsNetwork result.status result }
     ensures gone { HasGone (S.counts shelf.old) (S.counts shelf.new) (blame_of result.status) }
 {
     match first_past_feed(&network.events, fed.numbers[0]) {
@@ -107,6 +114,8 @@ fn play_events<S: Shelf>(
         → IsFeedWritten plan.now stream fed.now held → inside.first_past_feed network.now.events (length stream) ≡ None
         → IsCarriedOut (means.played_and_received plan.now network.now stream network.now.receive) (Some held)
         result (S.files shelf.new) }
+    ensures network { IsOfNetwork result.status }
+    ensures shown { ShowsNetwork result.status result }
     ensures gone { HasGone (S.counts shelf.old) (S.counts shelf.new) (blame_of result.status) }
 {
     match play(alloc, shelf, &plan.transmitters, &network.events) {
@@ -116,6 +125,7 @@ fn play_events<S: Shelf>(
 }
 
 /// Receives the symbols that the events sent, where a receiver is asked for.
+#[tactic(auto, using(crate::proofs::NetAnswers::of_network))]
 fn receive_played<S: Shelf>(
     alloc: Global,
     network: &NetPlan,
@@ -131,6 +141,8 @@ fn receive_played<S: Shelf>(
         (steps_under plan stream network.now.events)) (Some held)
         → IsCarriedOut (means.played_and_received plan network.now stream network.now.receive) (Some held)
         result (S.files shelf.new) }
+    ensures network { IsOfNetwork result.status }
+    ensures shown { ShowsNetwork result.status result }
     ensures gone { HasGone (S.counts shelf.old) (S.counts shelf.new) (blame_of result.status) }
 {
     match &network.receive {
@@ -149,7 +161,9 @@ fn receive_played<S: Shelf>(
 
 /// The answer of a reception, with the numbers of the whole network where it is done.
 fn with_received(fed: &Outcome, steps: u64, received: Outcome) -> Outcome
-    ensures { result ≡ means.with_received (slice_index fed.now.numbers 0)
+    ensures shown { ShowsNetwork result.status result }
+    ensures status { result.status ≡ received.status }
+    ensures outcome { result ≡ means.with_received (slice_index fed.now.numbers 0)
         (slice_index fed.now.numbers 1) steps received }
 {
     match received.status {

@@ -76,7 +76,7 @@ pub fn run<S: Shelf, O: Sink>(alloc: Global, words: &[Word], shelf: &mut S, out:
     // Also where the files are not told: each fault has its count, and no count falls.
     ensures gone { HasEnded (S.counts shelf.old) (S.counts shelf.new) (O.faults out.old) (O.faults out.new) result }
 
-    // Also where the files are not told: the line is that of the answer, with some numbers.
+    // Also where the files are not told: the line is that of the answer, with some numbers, and as many as it has.
     ensures untold_line { HasLine (IsSomeLine (command_of words.now) words.now) result
         (Rose (O.faults out.old) (O.faults out.new)) (O.written out.old) (O.written out.new) }
 
@@ -84,8 +84,8 @@ pub fn run<S: Shelf, O: Sink>(alloc: Global, words: &[Word], shelf: &mut S, out:
     ensures usage { command_of words.now ≡ None → IsUsage result (S.files shelf.old) (S.files shelf.new) }
 
     // Also where the files are not told: what the words alone say of the answer. `Usage` comes only where they fit no
-    // command, `Same` only where two names are equal, and there always unless memory is wanted; and an input that isn't
-    // there is one that they name.
+    // command, `Same` only where two names are equal, and there always unless memory is wanted; an input that isn't
+    // there is one that they name, or one of the four that `net` reads; and each refusal is one that the command knows.
     ensures words { IsByWords (command_of words.now) words.now result }
 
     // Nothing is refused without cause: where no fault is counted, the answer is that of the meaning, unless memory is

@@ -12,4 +12,4 @@ returns-in_err-begin-clause-carried g c = λ apart held file told there.
     let part = c.in_err-begin.ensures.begun _ told in
     unbegun c.args.place.shape (g.E.Engine.making c.args.engine.now) names held file
     (g.S.Shelf.files c.begin.new.shelf) c.in_err-begin.field-0.0 (outcome_of c.from_residual.result)
-    (ap outcome_of (p.1 ∙ ap Err p.2)) part.0 part.1
+    (g.met.W.Outlet.some c.args.outlet.now) (ap outcome_of (p.1 ∙ ap Err p.2)) part.0 part.1

@@ -7,6 +7,7 @@ use Rattle.dtx_jobs.specs.Adapt.{feeding}
 use Rattle.dtx_jobs.specs.OfWordsLaws.{refusal_of_input}
 use Rattle.dtx_jobs.specs.PlanFileLaws.{read_told, unread_told}
 use Rattle.dtx_jobs.specs.Shapes.{packets}
+use Rattle.dtx_jobs.specs.AnswersLaws.{plan_knows}
 use Rattle.dtx_jobs.proofs.adapt_command.adapt_planned.Goals as goal
 
 pub returns-in-Ok-clause-carried : goal.returns-in-Ok-clause-carried
@@ -28,3 +29,6 @@ returns-in-Ok-clause-words g c = of_inputs false 1 2 _ refl (omega arith) c.adap
 pub returns-in-Err-clause-words : goal.returns-in-Err-clause-words
 returns-in-Err-clause-words g c = rw c.ended.ensures
     (of_inputs false 0 2 _ refl (omega arith) (refusal_of_input 0 _ c.in-Err.ensures.refusal))
+
+pub returns-in-Err-clause-answers : goal.returns-in-Err-clause-answers
+returns-in-Err-clause-answers g c = rw c.ended.ensures (plan_knows 0 _ c.in-Err.ensures.refusal)

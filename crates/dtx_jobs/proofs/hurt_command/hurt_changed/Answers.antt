@@ -7,6 +7,7 @@ use Rattle.dtx_jobs.specs.Hurt.{hurting}
 use Rattle.dtx_jobs.specs.OfWordsLaws.{refusal_of_input}
 use Rattle.dtx_jobs.specs.PlanFileLaws.{read_told, unread_told}
 use Rattle.dtx_jobs.specs.Shapes.{single_bytes}
+use Rattle.dtx_jobs.specs.AnswersLaws.{changes_know, hurt_knows}
 use Rattle.dtx_jobs.proofs.hurt_command.hurt_changed.Goals as goal
 
 pub returns-in-Ok-clause-carried : goal.returns-in-Ok-clause-carried
@@ -28,3 +29,10 @@ returns-in-Ok-clause-words g c = of_inputs false 0 2 _ refl (omega arith) c.carr
 pub returns-in-Err-clause-words : goal.returns-in-Err-clause-words
 returns-in-Err-clause-words g c = rw c.ended.ensures
     (of_inputs false 1 2 _ refl (omega arith) (refusal_of_input 1 _ c.in-Err.ensures.refusal))
+
+pub returns-in-Ok-clause-answers : goal.returns-in-Ok-clause-answers
+returns-in-Ok-clause-answers g c =
+    hurt_knows c.in-Ok.damage _ (rw (← c.new-laying.ensures.making) c.carry_to_one.ensures.answer)
+
+pub returns-in-Err-clause-answers : goal.returns-in-Err-clause-answers
+returns-in-Err-clause-answers g c = rw c.ended.ensures (changes_know 1 _ c.in-Err.ensures.refusal)

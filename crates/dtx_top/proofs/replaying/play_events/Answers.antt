@@ -1,4 +1,7 @@
 use Rattle.std.specs.Prelude.{Ok, Err}
+use Rattle.std.proofs.Common.{sym, ap, ◌∙◌}
+use Rattle.dtx_meaning.specs.declared.status.Outcome.{Outcome}
+use Rattle.dtx_top.proofs.NetAnswers.{feed_not_done, feed_of_network}
 use Rattle.dtx_top.proofs.Played.{damages_of, play_fault, played_over}
 use Rattle.dtx_top.proofs.replaying.play_events.Goals as goal
 
@@ -23,4 +26,11 @@ returns-in-Err-clause-carried g c = λ held stream is written inside.
     c.in-Err.ensures.played in
     play_fault c.args.plan.now c.args.network.now stream c.args.network.now.receive held c.in-Err.status c.ended.result
     (g.S.Shelf.files c.play.new.shelf)
-    over c.ended.ensures
+    c.requires.sound.transmitters.some over c.ended.ensures
+
+pub returns-in-Err-clause-network : goal.returns-in-Err-clause-network
+returns-in-Err-clause-network g c = rw c.ended.ensures (feed_of_network _ c.in-Err.ensures.refusal)
+
+pub returns-in-Err-clause-shown : goal.returns-in-Err-clause-shown
+returns-in-Err-clause-shown g c = λ done.
+    absurd (feed_not_done _ c.in-Err.ensures.refusal (sym (ap (λ (o : Outcome). o.status) c.ended.ensures) ∙ done))

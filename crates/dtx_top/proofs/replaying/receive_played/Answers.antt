@@ -48,4 +48,4 @@ returns-in-Some-clause-carried g c = λ plan held stream net numbers staged is.
     c.receive_sent-received.result c.with_received.result file
     numbers (c.steps.ensures ts steps staged) (sym (sent_file_is plan network stream receiver.from who t place))
     (sym (with_outputs-told (played_outputs ts steps) held))
-    (c.receive_sent-received.ensures.carried mid file told there serves) c.with_received.ensures)
+    (c.receive_sent-received.ensures.carried mid file told there serves) c.with_received.ensures.outcome)

@@ -1,3 +1,5 @@
+use Rattle.std.proofs.Common.{arith}
+use Rattle.dtx_top.proofs.NetAnswers.{of_network}
 use Rattle.dtx_top.proofs.Adapted.{fed_alone_told, fed_then_told}
 use Rattle.dtx_top.proofs.replaying.replay.Goals as goal
 
@@ -14,5 +16,7 @@ returns-in_default g c = record {
   carried = fed_alone_told c.args.plan.now c.args.network.now (g.S.Shelf.files c.args.shelf.now)
       (g.S.Shelf.files c.feed_stream-fed.new.shelf)
       c.feed_stream-fed.result c.in_default.not-Done c.feed_stream-fed.ensures.carried;
+  network = of_network 1 _ (omega arith) c.feed_stream-fed.ensures.input;
+  shown = λ done. absurd (c.in_default.not-Done done);
   gone = c.feed_stream-fed.ensures.gone;
 }

@@ -35,6 +35,7 @@ pub returns-clause-untold_line : goal.returns-clause-untold_line
 returns-clause-untold_line g c = rw (c.finish.ensures, ← c.command-command.ensures)
     (line_untold c.command-command.result c.args.words.now c.perform-performed.result.outcome
     c.perform-performed.result.name.bytes _ _ _ _ _ c.perform-performed.ensures.untold_name
+    (λ none. (c.perform-performed.ensures.usage none).0) c.perform-performed.ensures.shown
     (rw (← c.name_of-name.ensures) c.line-printed.ensures.written) c.line-printed.ensures.gone)
 
 pub returns-clause-headline : goal.returns-clause-headline

@@ -1,0 +1,21 @@
+-- What an answer of `net` says also where the files are not told.
+use Rattle.std.specs.Prelude.{◌≡◌, ◌⊎◌, ℕ, ◌<◌, List, [], ◌∷◌}
+use Rattle.dtx_meaning.specs.declared.status.Outcome.{Outcome}
+use Rattle.dtx_meaning.specs.declared.status.Status.{Status}
+use Rattle.dtx_meaning.specs.declared.status.Status.TheVariants.{Done, Usage, Absent}
+
+-- Where the words fit: an input that isn't there is 0, the plan; 1, the stream; 2, the feed; or 3, the symbols that are
+-- received.
+abbrev pub IsOfNetwork : Status → Type 0
+IsOfNetwork Usage = ⊥
+IsOfNetwork (Absent input) = input < 4
+IsOfNetwork status = Unit {0}
+
+-- words that don't fit are answered so, and no others
+abbrev pub IsOfNetWords : List (List ℕ) → Status → Type 0
+IsOfNetWords (verb ∷ plan ∷ []) status = IsOfNetwork status
+IsOfNetWords words status = status ≡ Usage
+
+-- the line of a network that is done shows three numbers, or six where symbols were received
+abbrev pub ShowsNetwork : Status → Outcome → Type 0
+ShowsNetwork status outcome = status ≡ Done → (outcome.shown ≡ 3) ⊎ (outcome.shown ≡ 6)
