@@ -7,4 +7,5 @@ pub mod NetMeaning
 pub mod NetNames
 pub mod Networks
 pub mod OfBytes
+pub mod OldClauses
 pub mod Replaying

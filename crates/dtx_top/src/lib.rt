@@ -5,6 +5,7 @@ pub mod laws;
 mod net_command;
 mod network_names;
 mod of_bytes;
+pub mod old;
 mod performing;
 mod reception;
 mod replaying;
