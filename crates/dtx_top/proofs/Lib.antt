@@ -7,7 +7,6 @@ pub mod Headlines
 pub mod LineLeft
 pub mod NetAnswers
 pub mod NetFiles
-pub mod OldProofs
 pub mod Played
 pub mod SegmentsBack
 pub mod SegmentsSent

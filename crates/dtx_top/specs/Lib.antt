@@ -7,5 +7,4 @@ pub mod NetMeaning
 pub mod NetNames
 pub mod Networks
 pub mod OfBytes
-pub mod OldClauses
 pub mod Replaying

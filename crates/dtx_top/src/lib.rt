@@ -5,7 +5,6 @@ pub mod laws;
 mod net_command;
 mod network_names;
 mod of_bytes;
-pub mod old;
 mod performing;
 mod reception;
 mod replaying;
