@@ -58,7 +58,8 @@ code_knows WriteFault is = tt
 code_knows Memory is = tt
 
 -- a feed that an exciter is given
-pub excite_knows : (address delay : ℕ) (status : Status) → IsAnswerOf (exciting address delay) status → Knows Excite status
+pub excite_knows : (address delay : ℕ) (status : Status) → IsAnswerOf (exciting address delay) status
+    → Knows Excite status
 excite_knows address delay Done is = tt
 excite_knows address delay Usage is = tt
 excite_knows address delay Same is = tt

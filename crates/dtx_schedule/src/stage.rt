@@ -1,6 +1,6 @@
 // All exciters of a network at work, and what is written of them.
-ghost use Rattle.std.specs.Prelude.{◌≡◌, ◌+◌, ◌<◌, ◌≤◌, ◌^◌, ◌++◌, ◌∷◌, [], List, Some, IfErr, IfOk, IfSome, IsOk, length};
-ghost use Rattle.std.specs.Prelude.{replicate, take};
+ghost use Rattle.std.specs.Prelude.{◌≡◌, ◌+◌, ◌<◌, ◌≤◌, ◌^◌, ◌++◌, ◌∷◌, [], List, Some, IfErr, IfOk, IfSome, IsOk};
+ghost use Rattle.std.specs.Prelude.{length, replicate, take};
 ghost use Rattle.dtx_outside.specs.Counts.{HasGone, blame_of_write};
 ghost use Rattle.dtx_outside.specs.Shelf.{Files};
 ghost use Rattle.dtx_meaning.specs.Meaning.{with_outputs};
