@@ -360,13 +360,14 @@ bytes_front ps q m run h =
     let g : ℕ = groups_of (take m run) in
     let first : get_or (take m run) 0 [] ≡ get_or run 0 [] =
     get_or-take m run 0 [] (omega (arith, h.some, length-take m run)) in
-    let formers : List ℕ = formers_of (sliced_last (get_or run 0 [])) in
+    let precoder_bits : List ℕ = precoder_bits_of (sliced_last (get_or run 0 [])) in
     let rest : List ℕ = levels_from run (0 + 4 * g) (4 * (groups_of run - g)) in (
-      bytes_back (group_place 0 g) (formers_after 0 formers (levels_in (take m run))) rest,
-      ap (bytes_back 0 formers) (levels_front run m)
-          ∙ bytes_append 0 g formers (levels_in (take m run)) rest (length-levels_there ps q (take m run) h)
-          ∙ ap (λ (x : List ℤ). bytes_back 0 (formers_of (sliced_last x)) (levels_in (take m run))
-          ++ bytes_back (group_place 0 g) (formers_after 0 formers (levels_in (take m run))) rest) (sym first),
+      bytes_back (group_place 0 g) (precoder_bits_after 0 precoder_bits (levels_in (take m run))) rest,
+      ap (bytes_back 0 precoder_bits) (levels_front run m)
+          ∙ bytes_append 0 g precoder_bits (levels_in (take m run)) rest (length-levels_there ps q (take m run) h)
+          ∙ ap (λ (x : List ℤ). bytes_back 0 (precoder_bits_of (sliced_last x)) (levels_in (take m run))
+          ++ bytes_back (group_place 0 g) (precoder_bits_after 0 precoder_bits (levels_in (take m run))) rest)
+            (sym first),
     )
 
 -- whatever comes then, the words of the front are near
