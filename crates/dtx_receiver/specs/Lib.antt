@@ -9,3 +9,4 @@ pub mod FollowingLaws
 pub mod IntervalsLaws
 pub mod EarlyLaws
 pub mod CountingLaws
+pub mod SplicingLaws
