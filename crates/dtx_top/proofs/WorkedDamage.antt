@@ -211,7 +211,8 @@ few_slight feed k end file ds packets near is few =
           omega (
             arith,
             few_damaged ds file i few (omega (arith, within)),
-            ap (λ (s : List ℤ). damaged_symbols s (get_or got i [])) (sym (ap (λ (xs : List (List ℤ)). get_or xs i []) is)
+            ap (λ (s : List ℤ). damaged_symbols s (get_or got i []))
+                (sym (ap (λ (xs : List (List ℤ)). get_or xs i []) is)
                 ∙ segment_in file i within),
             ap (damaged_symbols (segment_at file i)) (segment_in (hurt ds file) i within_got),
           ));

@@ -125,7 +125,8 @@ sent_is plan network stream a address p listed e =
     let own : ℕ → Transmitter → List ℕ = λ who t. symbol_file t who (steps_under plan stream network.events) in
     ap (λ (o : Option ℕ).
     option_map_or (λ who. option_map_or (own who) (slice_get plan.transmitters.items who) []) o [])
-    (ap (λ (n : ℕ). transmitter_place n plan.transmitters.items) e ∙ place_only plan.transmitters.items 0 a p.sound.transmitters
+    (ap (λ (n : ℕ). transmitter_place n plan.transmitters.items) e
+    ∙ place_only plan.transmitters.items 0 a p.sound.transmitters
     listed)
     ∙ ap (λ (o : Option Transmitter). option_map_or (own 0) o []) listed
 
@@ -193,7 +194,8 @@ worked laws plan network stream a b p u s = record {
     slight receiver is =
         let asked = s.received receiver is in
         let steps : List Step = steps_under plan stream network.events in
-        subst (λ (f : List ℕ). IsReceivedAlone fed one.0.k (length stream) (file.file_segments (hurt receiver.damage f)))
+        subst (λ (f : List ℕ). IsReceivedAlone fed one.0.k (length stream) (file.file_segments
+        (hurt receiver.damage f)))
         (sym (sent_is plan network stream a receiver.from p s.first asked.0))
         (few_slight fed one.0.k (length stream) (symbol_file a 0 steps) receiver.damage (laws.packets plan stream p u)
         one.5 (segments_of_file a 0 steps ∙ alone) asked.1)
