@@ -13,7 +13,7 @@ use dtx_cadence::{Anchor, Seen};
 use dtx_coder::{Air, Coder};
 use dtx_ops::Ops;
 use dtx_packets::Packet;
-use dtx_sizes::{FIELD_PACKETS, FieldPlace, GROUP_PACKETS, PACKET, field_place};
+use dtx_sizes::{FIELD_PACKETS, GROUP_PACKETS, PACKET};
 use dtx_trellis::States;
 use std::alloc::{AllocError, Global};
 
@@ -119,7 +119,6 @@ impl Exciter {
         let sent = is_sent(told);
         let sync = begins_with_sync(first, self.sent, sent);
         let preset = states_of(order);
-        let FieldPlace { place, second } = field_place(first as u64);
         self.coder
             .group(place, second, &self.packets, preset, sync, air);
         keep_if(sent, air);
