@@ -20,16 +20,16 @@ use Rattle.dtx_jobs.specs.Symbols.{symbol_bytes, in_groups}
 -- ---- a group
 
 -- the group behind some packets
-pub next_group : (packets : List (List ℕ)) (from : List ℕ) (first place in_field : ℕ) (second sync : Bool)
-    (four : List (List ℕ))
-    → length packets ≡ first → first % 4 ≡ 0 → length four ≡ 4 → place ≡ first % 624 → in_field ≡ place % 312
-    → (IsTrue second ↔ (312 ≤ place)) → (IsTrue sync ↔ (in_field ≡ 0))
-    → IsNextGroup packets from (record { first = in_field; second = second; sync = sync; from = from; packets = four })
-next_group packets from first place in_field second sync four long whole is_four at in_its is_second is_sync = record {
+pub next_group : (packets : List (List ℕ)) (from : List ℕ) (first : ℕ) (second sync : Bool) (four : List (List ℕ))
+    → length packets ≡ first → first % 4 ≡ 0 → length four ≡ 4 → (IsTrue second ↔ (312 ≤ first % 624))
+    → (IsTrue sync ↔ (first % 312 ≡ 0))
+    → IsNextGroup packets from
+    (record { first = first % 312; second = second; sync = sync; from = from; packets = four })
+next_group packets from first second sync four long whole is_four is_second is_sync = record {
   whole = omega (arith, long, whole);
   four = is_four;
-  place = omega (arith, long, at, in_its);
-  second = subst (λ k. IsTrue second ↔ (312 ≤ k)) (omega (arith, long, at)) is_second;
+  place = omega (arith, long);
+  second = subst (λ k. IsTrue second ↔ (312 ≤ k % 624)) (sym long) is_second;
   sync = is_sync;
   states = refl;
 }

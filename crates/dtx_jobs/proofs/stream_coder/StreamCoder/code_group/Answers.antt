@@ -23,26 +23,24 @@ push-requires c =
 
 pub returns-clause-coder : goal.returns-clause-coder
 returns-clause-coder c = λ packets long stands.
-    let place : ℕ = c.args.first % 624 in
     let four : length c.args.self.now.group ≡ 4 = search rules in
     let all : List (List ℕ) = map (λ (p : packet.Packet). p.0) c.args.self.now.group in
-    let next = next_group packets c.args.self.now.coder.states c.args.first place (place % 312) (nat_le 312 place)
-    (place % 312 == 0) all long c.requires.grouped
-    (length-map c.args.self.now.group (λ (p : packet.Packet). p.0) ∙ four) (search rules) (search rules)
-    (second_is place) (sync_is (place % 312)) in
+    let next = next_group packets c.args.self.now.coder.states c.args.first (nat_le 312 (c.args.first % 624))
+    (c.args.first % 312 == 0) all long c.requires.grouped
+    (length-map c.args.self.now.group (λ (p : packet.Packet). p.0) ∙ four)
+    (second_is (c.args.first % 624)) (sync_is (c.args.first % 312)) in
     group_stands c.args.self.now.coder c.group.new.self packets _ c.group.new.air.segments c.group.new.air.symbols
     stands next c.group.ensures
 
 pub returns-clause-brought : goal.returns-clause-brought
 returns-clause-brought c = λ packets bytes long stands is.
-    let place : ℕ = c.args.first % 624 in
     let four : length c.args.self.now.group ≡ 4 = search rules in
     let all : List (List ℕ) = map (λ (p : packet.Packet). p.0) c.args.self.now.group in
     let sent : List ℕ = map byte_of_symbol (take (832 * c.group.new.air.segments) c.group.new.air.symbols) in
-    let next = next_group packets c.args.self.now.coder.states c.args.first place (place % 312) (nat_le 312 place)
-    (place % 312 == 0) all long c.requires.grouped
-    (length-map c.args.self.now.group (λ (p : packet.Packet). p.0) ∙ four) (search rules) (search rules)
-    (second_is place) (sync_is (place % 312)) in
+    let next = next_group packets c.args.self.now.coder.states c.args.first (nat_le 312 (c.args.first % 624))
+    (c.args.first % 312 == 0) all long c.requires.grouped
+    (length-map c.args.self.now.group (λ (p : packet.Packet). p.0) ∙ four)
+    (second_is (c.args.first % 624)) (sync_is (c.args.first % 312)) in
     group_brings c.args.self.now.coder c.group.new.self packets _ c.group.new.air.segments c.group.new.air.symbols
     stands next c.group.ensures
     ∙ ap (λ z. z ++ sent) is ∙ append_assoc bytes c.args.self.now.symbols sent
