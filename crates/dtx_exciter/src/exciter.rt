@@ -119,8 +119,14 @@ impl Exciter {
         let sent = is_sent(told);
         let sync = begins_with_sync(first, self.sent, sent);
         let preset = states_of(order);
-        self.coder
-            .group(place, second, &self.packets, preset, sync, air);
+        self.coder.group(
+            first % FIELD_PACKETS,
+            first >= FIELD_PACKETS,
+            &self.packets,
+            preset,
+            sync,
+            air,
+        );
         keep_if(sent, air);
         self.sent = sent;
         told
