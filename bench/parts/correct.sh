@@ -1,24 +1,50 @@
 #!/bin/sh
-# Measures the corrector beside the encoder, on one core and in one run, and prints the least times. It ends with 1 where an
-# undamaged word takes more than one and a half times as long as to encode it.
-# It wants the kit's `rt` where the program isn't built yet.
+# Measures the correctors beside the encoder and beside a corrector in plain Rust by the same method, on one core and in one run,
+# and prints the least times. The status is 0 where an undamaged word takes the linear corrector at most one and a half times as
+# long as to encode it; where the faster one takes at most so much of the plain one's time: 1 with one wrong byte, 0.8 with four,
+# 0.67 with seven, 0.61 with ten; and where it gives a word up no later than it corrects ten.
+# It wants `rustc`, and the kit's `rt` where the program isn't built yet.
 set -eu
 
 top=$(cd "$(dirname "$0")/../.." && pwd)
 . "$top/bench/parts/parts.sh"
+folder=$(mktemp -d)
+trap 'rm -rf "$folder"' EXIT
+plain=$folder/correct
+# The kit builds for this processor too, where it builds for x86-64.
+processor=
+if [ "$(uname -m)" = x86_64 ]; then
+    processor='-C target-cpu=x86-64-v2'
+fi
+# shellcheck disable=SC2086
+rustc --edition 2024 -O -C codegen-units=1 $processor -o "$plain" "$top/bench/parts/correct.rs"
+
+# Both make the same bytes wrong, so a sum of what came of them is the same.
 for _ in 1 2 3; do
     $pinned "$proved" correct
+    $pinned "$plain"
 done | awk '
-    $3 == "ns" {
-        time = $2
-        $2 = "N"
-        if (!($0 in least) || time < least[$0]) least[$0] = time
+    $1 == "encode" && (!encode || $2 < encode) { encode = $2 }
+    $3 == "wrong:" {
+        if (!(($1, $2) in least) || $4 < least[$1, $2]) least[$1, $2] = $4
+        sum[$1, $2] = $9
+    }
+    function ratio(wrong) { return least["fast", wrong] / least["plain", wrong] }
+    function tell(wrong, bar) {
+        printf "%d wrong: %d ns, in plain Rust %d ns, ratio %.2f\n", wrong, least["fast", wrong], least["plain", wrong],
+            ratio(wrong)
+        if (sum["fast", wrong] != sum["plain", wrong]) differ = differ " " wrong
+        if (ratio(wrong) > bar) slow = slow " " wrong
     }
     END {
-        encode = least["encode N ns a packet"]
-        correct = least["correct N ns an undamaged packet"]
         printf "encode: %d ns a packet\n", encode
-        printf "correct: %d ns an undamaged packet, ratio %.2f\n", correct, correct / encode
-        printf "correct: %d ns a packet with ten wrong bytes\n", least["correct N ns a packet with ten wrong bytes"]
-        exit correct > 1.5 * encode
+        printf "linear, undamaged: %d ns a word, ratio %.2f\n", least["linear", 0], least["linear", 0] / encode
+        printf "linear, 10 wrong: %d ns a word\n", least["linear", 10]
+        printf "fast, undamaged: %d ns a word\n", least["fast", 0]
+        tell(1, 1); tell(4, 0.8); tell(7, 0.67); tell(10, 0.61); tell(11, 0.61)
+        if (least["fast", 11] > least["fast", 10]) slow = slow " given up"
+        if (least["linear", 0] > 1.5 * encode) slow = slow " undamaged"
+        if (differ) print "other words came of:" differ
+        if (slow) print "too slow:" slow
+        exit (differ || slow) ? 1 : 0
     }'

@@ -3,6 +3,7 @@
 #![tactic(auto)]
 
 mod coding;
+mod comparing;
 mod correcting;
 mod groups;
 mod sending;
@@ -12,6 +13,7 @@ mod whitening;
 mod work;
 
 use coding::print_outer_times;
+use comparing::print_comparison;
 use correcting::print_correct_times;
 use dtx_rs::Rs;
 use groups::print_trellis_times;
@@ -39,13 +41,14 @@ fn main(rt: HostRuntime) -> io::Result<()> {
         None => print_check(&rt, &code),
         Some(word) if word.as_str() == "encode" => print_times(&rt, &code),
         Some(word) if word.as_str() == "correct" => print_correct_times(&rt, &code),
+        Some(word) if word.as_str() == "compare" => print_comparison(&rt, &code),
         Some(word) if word.as_str() == "whiten" => print_whiten_times(&rt, rt.alloc()),
         Some(word) if word.as_str() == "spread" => print_spread_times(&rt, rt.alloc()),
         Some(word) if word.as_str() == "outer" => print_outer_times(&rt, rt.alloc()),
         Some(word) if word.as_str() == "trellis" => print_trellis_times(&rt),
         Some(word) if word.as_str() == "group" => print_group_times(&rt, rt.alloc()),
         Some(_) => println!(rt;
-            "usage: dtx_bench [encode | correct | whiten | spread | outer | trellis | group]"
+            "usage: dtx_bench [encode | correct | compare | whiten | spread | outer | trellis | group]"
         ),
     }
 }

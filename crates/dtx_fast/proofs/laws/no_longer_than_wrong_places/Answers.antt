@@ -1,0 +1,5 @@
+use Rattle.dtx_fast.specs.ConnectionLaws.{least_of_word}
+use Rattle.dtx_fast.proofs.laws.no_longer_than_wrong_places.Goals as goal
+
+pub returns : goal.returns
+returns c = least_of_word

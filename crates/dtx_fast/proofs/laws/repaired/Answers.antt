@@ -1,0 +1,5 @@
+use Rattle.dtx_fast.specs.RepairLaws.{repaired_right}
+use Rattle.dtx_fast.proofs.laws.repaired.Goals as goal
+
+pub returns : goal.returns
+returns c = repaired_right

@@ -1,0 +1,64 @@
+-- Recurrences of a sequence, which the method of Berlekamp and Massey finds. Of the coefficients that of the newest
+-- term stands first.
+use Rattle.std.specs.Prelude.{ℕ, ◌≡◌, ◌-◌, ◌<◌, ◌≤◌, ◌==◌, if◌then◌else◌, List, [], ◌∷◌, slice_index}
+use Rattle.std.proofs.Common.{zero, suc}
+use Rattle.std.specs.Int.RustNames.{bit_xor}
+use Rattle.dtx_galois.specs.Field.{mul, pow}
+use Rattle.dtx_laws.specs.Locator.{low_value, power_at}
+
+-- c 0 * s n + c 1 * s (n - 1) + .. , of w terms
+unfoldable pub discrepancy : ℕ → (ℕ → ℕ) → (ℕ → ℕ) → ℕ → ℕ
+discrepancy zero c s n = 0
+discrepancy (suc w) c s n = bit_xor (discrepancy w c s n) (mul (c w) (s (n - w)))
+
+-- A recurrence of order l: each of the terms of s from l to n - 1 follows from the l terms before it, by coefficients
+-- of which the first is 1.
+pub record IsRecurrence (n l : ℕ) (s c : ℕ → ℕ) : Type 0 where
+  pub newest : c 0 ≡ 1
+  pub next : (i : ℕ) → l ≤ i → i < n → discrepancy (suc l) c s i ≡ 0
+
+-- no recurrence of the first n terms has an order below l
+abbrev pub IsLeast : ℕ → ℕ → (ℕ → ℕ) → Type 0
+IsLeast n l s = (k : ℕ) (b : ℕ → ℕ) → IsRecurrence n k s b → l ≤ k
+
+-- the coefficients y places on, behind zeros
+unfoldable pub moved : ℕ → (ℕ → ℕ) → ℕ → ℕ
+moved zero b k = b k
+moved (suc y) b zero = 0
+moved (suc y) b (suc k) = moved y b k
+
+-- the coefficients of the product of 1 - y * X over the y's
+unfoldable pub connection : List ℕ → ℕ → ℕ
+connection [] zero = 1
+connection [] (suc k) = 0
+connection (y ∷ ys) k = bit_xor (connection ys k) (mul y (moved 1 (connection ys) k))
+
+-- the first w coefficients, the last of them first: the recurrence as a locator
+unfoldable pub turned : ℕ → (ℕ → ℕ) → List ℕ
+turned zero c = []
+turned (suc w) c = c w ∷ turned w c
+
+-- the coefficients of the quotient by X - x of the polynomial with these coefficients, the highest first
+unfoldable pub quotient : ℕ → (ℕ → ℕ) → ℕ → ℕ
+quotient x c zero = c 0
+quotient x c (suc k) = bit_xor (mul (quotient x c k) x) (c (suc k))
+
+-- c 0 + c 1 * y + .. , of w terms
+unfoldable pub walked : ℕ → (ℕ → ℕ) → ℕ → ℕ
+walked zero c y = 0
+walked (suc w) c y = bit_xor (walked w c y) (mul (c w) (pow y w))
+
+-- the value of the error at the place of the power x, by a recurrence of order l of the syndromes s: a combination of
+-- the syndromes by the quotient, over the quotient's value, of which the power 254 is the inverse
+unfoldable pub error_value : ℕ → (ℕ → ℕ) → (ℕ → ℕ) → ℕ → ℕ
+error_value l c s x = mul (discrepancy l (quotient x c) s (l - 1)) (pow (low_value (turned l (quotient x c)) x) 254)
+
+-- the power of α whose product with that at place p of n is 1
+unfoldable pub inverse_at : ℕ → ℕ → ℕ
+inverse_at n p = pow (pow 2 254) (n - 1 - p)
+
+-- the byte at place p of n, with its error taken away where the recurrence vanishes there
+abbrev pub repaired_at : ℕ → ℕ → (ℕ → ℕ) → (ℕ → ℕ) → List ℕ → ℕ → ℕ
+repaired_at n l c s word p =
+    if walked (suc l) c (inverse_at n p) == 0 then bit_xor (slice_index word p) (error_value l c s (power_at n p))
+    else slice_index word p

@@ -1,0 +1,63 @@
+//! The corrector of a code.
+
+ghost use Rattle.std.specs.Prelude.{◌≡◌, ℕ, List, length, take};
+ghost use Rattle.dtx_laws.specs.Codeword.{IsCode, IsCodeword, IsCorrection};
+ghost use Rattle.dtx_galois.specs.Field.{AreBytes};
+
+use crate::recurrence::find_recurrence;
+use crate::repair::patch;
+use crate::tables::Tables;
+use dtx_laws::correcting::{accept, encoded_again};
+use dtx_laws::{Correct, TooMany};
+use dtx_rs::Rs;
+
+/// Corrects words of the code of `N` bytes a word with `K` bytes of data. It holds the code's encoder and tables, 130
+/// KB in all, so make one and keep it.
+#[derive(Drop)]
+pub struct Fast<const N: usize, const K: usize> {
+    encoder: Rs<N, K>,
+    tables: Tables,
+    ghost code: { IsCode N K },
+}
+
+impl<const N: usize, const K: usize> Fast<N, K> {
+    /// The corrector, whose tables are made here. It takes no memory.
+    pub fn new() -> Self
+        requires { IsCode N K }
+    {
+        Fast {
+            encoder: Rs::new(),
+            tables: Tables::new(),
+        }
+    }
+}
+
+impl<const N: usize, const K: usize> Correct<N, K> for Fast<N, K> {
+    fn known(&self) {}
+
+    fn correct(&self, word: &mut [u8; N]) -> Result<u8, TooMany> {
+        let code = encoded_again(&self.encoder, word);
+        if code == *word {
+            return Ok(0);
+        }
+        let mut tried = *word;
+        repair(&self.tables, &mut tried[..], &code[..], K);
+        accept(&self.encoder, word, &tried)
+    }
+}
+
+/// Makes a word its correction, where it has one, from the codeword that begins with its `k` bytes of data.
+fn repair(tables: &Tables, word: &mut [u8], code: &[u8], k: usize)
+    requires same { length code.now ≡ length word.old }
+    requires code { IsCode (length word.old) k }
+    requires bytes { AreBytes word.old }
+    requires codeword { IsCodeword (length word.old) k code.now }
+    requires begins { take k code.now ≡ take k word.old }
+    ensures { (right : List ℕ) → IsCorrection (length word.old) k word.old right → word.new ≡ right }
+{
+    let syndromes = tables.syndromes(&word[k..], &code[k..]);
+    if let Some(found) = find_recurrence(&syndromes, word.len() - k) {
+        let walk = tables.walk(&found, word.len());
+        patch(word, &walk, &found, &syndromes);
+    }
+}

@@ -1,0 +1,14 @@
+//! The faster corrector of codewords: the locator by the method of Berlekamp and Massey, the values by Forney's
+//! quotient.
+#![tactic(auto)]
+
+mod fast;
+pub mod laws;
+mod recurrence;
+mod repair;
+mod rows;
+mod tables;
+#[cfg(test)]
+mod tests;
+
+pub use fast::Fast;

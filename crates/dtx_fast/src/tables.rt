@@ -1,0 +1,104 @@
+//! The tables that correct up to ten wrong bytes.
+
+ghost use Rattle.std.specs.Prelude.{◌≡◌, ℕ, ◌+◌, ◌-◌, ◌<◌, ◌≤◌, length, slice_index};
+ghost use Rattle.std.specs.Int.RustNames.{bit_xor};
+ghost use Rattle.dtx_galois.specs.Field.{pow, value};
+ghost use Rattle.dtx_galois.specs.Word.{sums};
+ghost use Rattle.dtx_fast.specs.Recurrence.{walked};
+
+use crate::recurrence::Recurrence;
+use crate::repair::walk;
+use crate::rows::{HALVES, Rows};
+use dtx_galois::ALPHA;
+use dtx_laws::correcting::{ROOM, syndromes_of};
+
+/// For how many parity bytes there are rows of syndromes; half as many is the greatest order for which there are rows
+/// of places.
+const PARITY: usize = 20;
+
+/// How many syndromes a row has: no fewer than there are parity bytes, in whole vectors.
+const SYNDROMES: usize = 32;
+
+/// How many rows of syndromes there are, and how many of places.
+const SYNDROME_ROWS: usize = HALVES * PARITY;
+
+const PLACE_ROWS: usize = HALVES * (PARITY / 2 + 1);
+
+/// The rows by which syndromes are made of parity bytes, and those by which a recurrence is walked over all places: 110
+/// KB.
+#[derive(Drop)]
+pub struct Tables {
+    syndromes: Rows<SYNDROMES, SYNDROME_ROWS>,
+    places: Rows<ROOM, PLACE_ROWS>,
+    ghost powers: { syndromes.base.0 ≡ 2 },
+    ghost inverses: { places.base.0 ≡ pow 2 254 },
+}
+
+impl Tables {
+    /// The tables, which are the same for each code.
+    pub fn new() -> Self {
+        Tables {
+            syndromes: Rows::new(ALPHA),
+            places: Rows::new(ALPHA.pow(254)),
+        }
+    }
+
+    /// What `dtx_laws::correcting::syndromes_of` gives.
+    pub fn syndromes(&self, parity: &[u8], right: &[u8]) -> [u8; ROOM]
+        requires same { length parity.now ≡ length right.now }
+        requires few { length parity.now ≤ 255 }
+        ensures long { length result ≡ ROOM }
+        ensures values { (i : ℕ) → i < length parity.now
+            → slice_index result i ≡ value (sums parity.now right.now) (pow 2 i) }
+    {
+        if parity.len() <= PARITY {
+            let differences = differences(parity, right);
+            widened(&self.syndromes.walk(&differences[..parity.len()]))
+        } else {
+            syndromes_of(parity, right)
+        }
+    }
+
+    /// What `repair::walk` gives.
+    pub fn walk(&self, found: &Recurrence, len: usize) -> [u8; ROOM]
+        requires { len ≤ 255 }
+        ensures long { length result ≡ ROOM }
+        ensures values { (q : ℕ) → q < len → slice_index result q
+            ≡ walked (found.now.order + 1) (slice_index found.now.coefficients) (pow (pow 2 254) q) }
+    {
+        if found.order <= PARITY / 2 {
+            self.places.walk(&found.coefficients[..found.order + 1])
+        } else {
+            walk(found, len)
+        }
+    }
+}
+
+/// The sums of the bytes, from the last on.
+fn differences(parity: &[u8], right: &[u8]) -> [u8; PARITY]
+    requires same { length parity.now ≡ length right.now }
+    requires few { length parity.now ≤ PARITY }
+    ensures long { length result ≡ PARITY }
+    ensures sums { (k : ℕ) → k < length parity.now → slice_index result k
+        ≡ bit_xor (slice_index parity.now (length parity.now - 1 - k))
+        (slice_index right.now (length parity.now - 1 - k)) }
+{
+    let mut differences = [0; PARITY];
+    for k in 0..parity.len() {
+        let place = parity.len() - 1 - k;
+        differences[k] = parity[place] ^ right[place];
+    }
+    differences
+}
+
+/// The syndromes of a row, and then zeros.
+fn widened(row: &[u8; SYNDROMES]) -> [u8; ROOM]
+    ensures long { length result ≡ ROOM }
+    ensures same { (i : ℕ) → i < SYNDROMES → slice_index result i ≡ slice_index row.now i }
+{
+    let mut syndromes = [0; ROOM];
+    for i in 0..SYNDROMES {
+        syndromes[i] = row[i];
+    }
+    syndromes
+}

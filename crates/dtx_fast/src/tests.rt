@@ -1,0 +1,67 @@
+//! Words damaged in every spread, and another codec's verdicts.
+
+mod vectors;
+
+use crate::Fast;
+use dtx_laws::{Correct, TooMany};
+use std::process::Abort;
+use vectors::{AIR, AIR_LEFT, Corrected, DVB, DVB_LEFT, PACKET, PACKET_LEFT};
+
+#[test]
+fn each_number_of_wrong_bytes_up_to_half_the_parity_is_put_right(rt: HostRuntime) {
+    expect_each_number(&rt, &Fast::<207, 187>::new());
+    expect_each_number(&rt, &Fast::<184, 164>::new());
+    // The shortest code, and one of the longest, which has more parity bytes than there are rows for.
+    expect_each_number(&rt, &Fast::<3, 1>::new());
+    expect_each_number(&rt, &Fast::<255, 223>::new());
+}
+
+#[test]
+fn words_are_corrected_or_given_up_as_by_another_codec(rt: HostRuntime) {
+    let air = Fast::<207, 187>::new();
+    for row in &AIR {
+        expect_corrected(&rt, &air, row);
+    }
+    for word in &AIR_LEFT {
+        expect_left(&rt, &air, word);
+    }
+    expect_corrected(&rt, &Fast::<184, 164>::new(), &PACKET[0]);
+    expect_left(&rt, &Fast::<184, 164>::new(), &PACKET_LEFT[0]);
+    expect_corrected(&rt, &Fast::<204, 188>::new(), &DVB[0]);
+    expect_left(&rt, &Fast::<204, 188>::new(), &DVB_LEFT[0]);
+}
+
+/// The word of zeros, damaged in the front, at the end, and in both and between.
+fn expect_each_number<const N: usize, const K: usize>(rt: &impl Abort, code: &Fast<N, K>) {
+    for wrong in 0..(N - K) / 2 + 1 {
+        let mut front = [0; N];
+        let mut end = [0; N];
+        let mut across = [0; N];
+        for i in 0..wrong {
+            front[i] = i as u8 ^ 0xa5;
+            end[N - 1 - i] = 0xff;
+            across[i * N / wrong] = 1;
+        }
+        for word in [front, end, across] {
+            let mut word = word;
+            assert_eq!(rt; code.correct(&mut word), Ok(wrong as u8));
+            assert_eq!(rt; word, [0; N]);
+        }
+    }
+}
+
+fn expect_corrected<const N: usize, const K: usize>(
+    rt: &impl Abort,
+    code: &Fast<N, K>,
+    row: &Corrected<N>,
+) {
+    let mut word = row.word;
+    assert_eq!(rt; code.correct(&mut word), Ok(row.changed));
+    assert_eq!(rt; word, row.right);
+}
+
+fn expect_left<const N: usize, const K: usize>(rt: &impl Abort, code: &Fast<N, K>, word: &[u8; N]) {
+    let mut tried = *word;
+    assert_eq!(rt; code.correct(&mut tried), Err(TooMany));
+    assert_eq!(rt; tried, *word);
+}
