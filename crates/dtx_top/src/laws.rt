@@ -7,16 +7,18 @@ ghost use Rattle.dtx_plan.specs.declared.plan.ReceivePlan.{ReceivePlan};
 ghost use Rattle.dtx_words.specs.NetworkNames.{received_name};
 ghost use Rattle.dtx_top.specs.HeadlineOfFiles.{HeadlineOfFiles};
 ghost use Rattle.dtx_plan.specs.declared.transmitter.Transmitter.{Transmitter};
+ghost use Rattle.dtx_net.specs.Lives.{own_steps};
 ghost use Rattle.dtx_net.specs.Steps.{Step};
 ghost use Rattle.dtx_net.specs.Sent as sent;
 ghost use Rattle.dtx_jobs.specs.SymbolFile as file;
-ghost use Rattle.dtx_schedule.specs.TransmitterFiles.{symbol_file};
+ghost use Rattle.dtx_schedule.specs.TransmitterFiles.{log_file, symbol_file};
 ghost use Rattle.dtx_network.specs.Orders.{has_order};
 ghost use Rattle.dtx_network.specs.Plans.{IsPlan, IsStream};
 ghost use Rattle.dtx_plan.specs.declared.plan.NetPlan.{NetPlan};
 ghost use Rattle.dtx_plan.specs.declared.plan.Plan.{Plan};
 ghost use Rattle.dtx_top.specs.WorkedNetwork.{HasAllBack, IsSimple, WorkedNetwork, made_packets};
 
+use dtx_net::laws::interleavings;
 use dtx_network::laws::{
     headline, joined_is_met, orders_of_a_feed, packets_of_a_feed, sends_the_stretch_alone,
 };
@@ -29,9 +31,21 @@ pub fn segments_read_back()
         → file.file_segments (symbol_file t who steps) ≡ sent.sent_segments t who steps }
 {}
 
-/// A simple network meets every premise of the headline, with little damage and without: two transmitters in time are
-/// given the whole feed, and nothing else, and the first one is received. Where the command `net` has done it, the file
-/// `net.ts` has exactly the packets of the feed from its first field on whose bytes are all there.
+/// What stands in a transmitter's two files is the same in any two schedules in which the same is done with it, whatever
+/// is done with others and when.
+pub fn files_of_interleavings()
+    ensures symbols { (t : Transmitter) (who : ℕ) (steps others : List Step)
+        → own_steps who steps ≡ own_steps who others → symbol_file t who steps ≡ symbol_file t who others }
+    ensures log { (t : Transmitter) (who : ℕ) (steps others : List Step)
+        → own_steps who steps ≡ own_steps who others → log_file t who steps ≡ log_file t who others }
+{
+    interleavings();
+}
+
+/// A simple network meets what the headline asks of transmitters, symbols and damage, with little damage and without:
+/// two transmitters in time are given the whole feed, and nothing else, and the first one is received. Where the
+/// command `net` has done it, the file `net.ts` has exactly the packets of the feed from the stretch's first field sync
+/// on whose bytes are all there.
 pub fn simple_networks_work()
     ensures works { (plan : Plan) (network : NetPlan) (stream : List (List ℕ)) (a b : Transmitter) → IsPlan plan
         → IsStream stream → IsSimple plan network stream a b → WorkedNetwork plan network stream 100 }

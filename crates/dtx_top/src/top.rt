@@ -80,12 +80,13 @@ pub fn run<S: Shelf, O: Sink>(alloc: Global, words: &[Word], shelf: &mut S, out:
     ensures untold_line { HasLine (IsSomeLine (command_of words.now) words.now) result
         (Rose (O.faults out.old) (O.faults out.new)) (O.written out.old) (O.written out.new) }
 
-    // Also where the files are not told: words that fit no command touch nothing, and have no other answer.
+    // Words that fit no command have no other answer, also where the files are not told, and touch nothing.
     ensures usage { command_of words.now ≡ None → IsUsage result (S.files shelf.old) (S.files shelf.new) }
 
     // Also where the files are not told: what the words alone say of the answer. `Usage` comes only where they fit no
-    // command, `Same` only where two names are equal, and there always unless memory is wanted; an input that isn't
-    // there is one that they name, or one of the four that `net` reads; and each refusal is one that the command knows.
+    // command; `Same` only where two names are equal, and there always unless memory is wanted, but for `net`, whose
+    // names its plan tells; an input that isn't there is one that they name, or one of the four that `net` reads; and
+    // each refusal is one that the command knows.
     ensures words { IsByWords (command_of words.now) words.now result }
 
     // Nothing is refused without cause: where no fault is counted, the answer is that of the meaning, unless memory is
