@@ -13,33 +13,36 @@ use Rattle.dtx_coder.specs.Groups.{Coding, Group, StandsFor, IsNextGroup, IsCode
 use Rattle.dtx_coder.specs.Stream.{a53, symbols_of, a53_symbols, segment, four_segments}
 use Rattle.dtx_files.specs.Symbols.{byte_of_symbol}
 use Rattle.dtx_frame.specs.Segments.{field_sync}
+use Rattle.dtx_sizes.specs.Fields.{field_place}
+use Rattle.dtx_sizes.specs.declared.fields.FieldPlace.{FieldPlace}
 use Rattle.dtx_packets.specs.PacketLaws.{packets_of-append, packets_from-append}
 use Rattle.dtx_packets.specs.Packets.{packet_at, packets_from, packets_of, whole_packets}
 use Rattle.dtx_jobs.specs.Symbols.{symbol_bytes, in_groups}
 
 -- ---- a group
 
--- the group behind some packets
-pub next_group : (packets : List (List ℕ)) (from : List ℕ) (first : ℕ) (second sync : Bool) (four : List (List ℕ))
-    → length packets ≡ first → first % 4 ≡ 0 → length four ≡ 4 → (IsTrue second ↔ (312 ≤ first % 624))
-    → (IsTrue sync ↔ (first % 312 ≡ 0))
-    → IsNextGroup packets from
-    (record { first = first % 312; second = second; sync = sync; from = from; packets = four })
-next_group packets from first second sync four long whole is_four is_second is_sync = record {
-  whole = omega (arith, long, whole);
-  four = is_four;
-  place = omega (arith, long);
-  second = subst (λ k. IsTrue second ↔ (312 ≤ k % 624)) (sym long) is_second;
-  sync = is_sync;
-  states = refl;
-}
-
 -- the tests of a group's field
-pub second_is : (place : ℕ) → IsTrue (nat_le 312 place) ↔ (312 ≤ place)
+second_is : (place : ℕ) → IsTrue (nat_le 312 place) ↔ (312 ≤ place)
 second_is place = (leb-true 312 place, le-leb 312 place)
 
-pub sync_is : (place : ℕ) → IsTrue (place == 0) ↔ (place ≡ 0)
+sync_is : (place : ℕ) → IsTrue (place == 0) ↔ (place ≡ 0)
 sync_is place = (eqb-true place 0, eq-eqb place 0)
+
+-- the group behind some packets
+pub next_group : (packets : List (List ℕ)) (from : List ℕ) (first : ℕ) (at : FieldPlace) (four : List (List ℕ))
+    → length packets ≡ first → first % 4 ≡ 0 → length four ≡ 4 → at ≡ field_place first
+    → IsNextGroup packets from
+    (record { first = at.place; second = at.second; sync = at.place == 0; from = from; packets = four })
+next_group packets from first at four long whole is_four is = record {
+  whole = omega (arith, long, whole);
+  four = is_four;
+  place = ap (λ (p : FieldPlace). p.place) is ∙ ap (λ n. n % 312) (sym long);
+  second = subst (λ (b : Bool). IsTrue b ↔ (312 ≤ length packets % 624))
+      (sym (ap (λ (p : FieldPlace). p.second) is ∙ ap (λ n. nat_le 312 (n % 624)) (sym long)))
+      (second_is (length packets % 624));
+  sync = sync_is at.place;
+  states = refl;
+}
 
 pub group_stands : (coder new : Coding) (packets : List (List ℕ)) (group : Group) (count : ℕ) (sent : List ℤ)
     → StandsFor coder packets → IsNextGroup packets coder.states group

@@ -31,8 +31,8 @@ pub fn segments_read_back()
         → file.file_segments (symbol_file t who steps) ≡ sent.sent_segments t who steps }
 {}
 
-/// What stands in a transmitter's two files is the same in any two schedules in which the same is done with it, whatever
-/// is done with others and when.
+/// What stands in a transmitter's two files is the same in any two schedules in which the same is done with it,
+/// whatever is done with others and when.
 pub fn files_of_interleavings()
     ensures symbols { (t : Transmitter) (who : ℕ) (steps others : List Step)
         → own_steps who steps ≡ own_steps who others → symbol_file t who steps ≡ symbol_file t who others }

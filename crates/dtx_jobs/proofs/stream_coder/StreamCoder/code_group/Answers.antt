@@ -3,7 +3,7 @@ use Rattle.std.proofs.Common.{◌∙◌, arith, append_assoc}
 use Rattle.std.proofs.lemmas.List.{length-append, length-map, length-take}
 use Rattle.dtx_files.specs.Symbols.{byte_of_symbol}
 use Rattle.dtx_packets.specs.declared.packet.Packet as packet
-use Rattle.dtx_jobs.proofs.StreamSymbols.{next_group, second_is, sync_is, few_coded, group_stands, group_brings}
+use Rattle.dtx_jobs.proofs.StreamSymbols.{next_group, few_coded, group_stands, group_brings}
 use Rattle.dtx_jobs.proofs.stream_coder.StreamCoder.code_group.Goals as goal
 
 pub shared_ref_as_front-push : goal.shared_ref_as_front-push
@@ -25,10 +25,9 @@ pub returns-clause-coder : goal.returns-clause-coder
 returns-clause-coder c = λ packets long stands.
     let four : length c.args.self.now.group ≡ 4 = search rules in
     let all : List (List ℕ) = map (λ (p : packet.Packet). p.0) c.args.self.now.group in
-    let next = next_group packets c.args.self.now.coder.states c.args.first (nat_le 312 (c.args.first % 624))
-    (c.args.first % 312 == 0) all long c.requires.grouped
-    (length-map c.args.self.now.group (λ (p : packet.Packet). p.0) ∙ four)
-    (second_is (c.args.first % 624)) (sync_is (c.args.first % 312)) in
+    let next = next_group packets c.args.self.now.coder.states c.args.first c.field_place-place.result all long
+    c.requires.grouped (length-map c.args.self.now.group (λ (p : packet.Packet). p.0) ∙ four)
+    c.field_place-place.ensures in
     group_stands c.args.self.now.coder c.group.new.self packets _ c.group.new.air.segments c.group.new.air.symbols
     stands next c.group.ensures
 
@@ -37,10 +36,9 @@ returns-clause-brought c = λ packets bytes long stands is.
     let four : length c.args.self.now.group ≡ 4 = search rules in
     let all : List (List ℕ) = map (λ (p : packet.Packet). p.0) c.args.self.now.group in
     let sent : List ℕ = map byte_of_symbol (take (832 * c.group.new.air.segments) c.group.new.air.symbols) in
-    let next = next_group packets c.args.self.now.coder.states c.args.first (nat_le 312 (c.args.first % 624))
-    (c.args.first % 312 == 0) all long c.requires.grouped
-    (length-map c.args.self.now.group (λ (p : packet.Packet). p.0) ∙ four)
-    (second_is (c.args.first % 624)) (sync_is (c.args.first % 312)) in
+    let next = next_group packets c.args.self.now.coder.states c.args.first c.field_place-place.result all long
+    c.requires.grouped (length-map c.args.self.now.group (λ (p : packet.Packet). p.0) ∙ four)
+    c.field_place-place.ensures in
     group_brings c.args.self.now.coder c.group.new.self packets _ c.group.new.air.segments c.group.new.air.symbols
     stands next c.group.ensures
     ∙ ap (λ z. z ++ sent) is ∙ append_assoc bytes c.args.self.now.symbols sent
