@@ -3,7 +3,7 @@
 ghost use Rattle.std.specs.Prelude.{◌≡◌, ◌%◌, ◌<◌};
 
 use super::*;
-use dtx_sizes::{CODERS, GROUP_BYTES, GROUP_LEVELS};
+use dtx_sizes::{CODERS, FIELD_PACKETS, GROUP_BYTES, GROUP_LEVELS};
 
 /// The coders, of which one is in a state of its own, and what they give for one byte that isn't 0.
 fn coded(
@@ -13,7 +13,7 @@ fn coded(
     byte: usize,
     value: u8,
 ) -> (Twelve, [u8; GROUP_LEVELS])
-    requires in_field { first < FIELD }
+    requires in_field { first < FIELD_PACKETS }
     requires whole { first % 4 ≡ 0 }
     requires coder { coder < CODERS }
     requires state { state < 8 }
