@@ -17,7 +17,7 @@ use std::alloc::Global;
 const COUNT: usize = 400;
 
 /// Two transmitters are given the whole feed, and the first one is received.
-const WITHOUT_DAMAGE: &str = "start = 0
+pub(crate) const WITHOUT_DAMAGE: &str = "start = 0
 max_delay = 5000000
 [[transmitter]]
 address = 7
@@ -43,7 +43,7 @@ from = 7
 ";
 
 /// The same, with 20 symbols of the second segment damaged.
-const WITH_DAMAGE: &str = "start = 0
+pub(crate) const WITH_DAMAGE: &str = "start = 0
 max_delay = 5000000
 [[transmitter]]
 address = 7

@@ -3,6 +3,7 @@ ghost use Rattle.std.specs.Prelude.{◌<◌};
 
 use super::tests::answered;
 use super::*;
+use crate::worked_network::{WITH_DAMAGE, WITHOUT_DAMAGE};
 use dtx_outside::{Call, MemoryShelf, MemorySink};
 use std::test::Fail;
 
@@ -81,5 +82,22 @@ fn a_network_is_done_with_ample_memory(rt: HostRuntime) -> Result<(), Fail> {
     let (line, log) = ("feed 4 filled 0 steps 3\n", "restart 0\n");
     assert_eq!(rt; out.bytes(), line.as_bytes());
     assert_eq!(rt; shelf.get("tx-9.log"), Some(log.as_bytes()));
+    Ok(())
+}
+
+/// Of 400 packets those from packet 312 on are received, whose field sync is the first that is sent, but for the last 52,
+/// whose bytes aren't all sent.
+#[test]
+fn the_worked_networks_are_done(rt: HostRuntime) -> Result<(), Fail> {
+    for text in [WITHOUT_DAMAGE, WITH_DAMAGE] {
+        let mut shelf = MemoryShelf::new(rt.alloc());
+        let mut out = MemorySink::new(rt.alloc());
+        shelf.put("p", text.as_bytes())?;
+        answered(&rt, &["make", "1", "400", "made.ts"], &mut shelf, &mut out)?;
+        let status = answered(&rt, &["net", "p"], &mut shelf, &mut out)?;
+        assert_eq!(rt; status, Status::Done);
+        let received = shelf.get("net.ts").unwrap_or(&[]);
+        assert_eq!(rt; received.len(), 36 * 188);
+    }
     Ok(())
 }
