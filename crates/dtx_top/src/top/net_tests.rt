@@ -85,8 +85,8 @@ fn a_network_is_done_with_ample_memory(rt: HostRuntime) -> Result<(), Fail> {
     Ok(())
 }
 
-/// Of 400 packets those from packet 312 on are received, whose field sync is the first that is sent, but for the last 52,
-/// whose bytes aren't all sent.
+/// Of 400 packets those from packet 312 on are received, whose field sync is the first that is sent, but for the last
+/// 52, whose bytes aren't all sent.
 #[test]
 fn the_worked_networks_are_done(rt: HostRuntime) -> Result<(), Fail> {
     for text in [WITHOUT_DAMAGE, WITH_DAMAGE] {
