@@ -40,7 +40,7 @@ hurting damage = record {
 pub record HasLaid (state : Laying) (given : List ℕ) : Type 0 where
   pub damages : AreDamages state.damage.now
   pub count : state.count ≡ length given
-  pub damaged : state.damaged ≡ damaged state.damage.now (length given)
+  pub damaged : state.damaged ≡ damaged_places state.damage.now (length given)
 
 -- with files of these names
 abbrev pub hurt_file : List ℕ → List ℕ → List ℕ → Files → Meaning
