@@ -9,7 +9,8 @@ use std::rt::Env;
 use std::{env, io};
 
 /// What standard error says where an output was not begun, so that no input is lost.
-const OVERLAP: &str = "dtx: an output is a file that is read, or another output, under another name";
+const OVERLAP: &str =
+    "dtx: an output is a file that is read, or another output, under another name";
 
 fn main(rt: HostRuntime) -> ExitCode {
     match words(&rt) {
