@@ -17,7 +17,7 @@ use Rattle.dtx_receiver.specs.declared.tracking.Tracking.TheVariants.{Searching,
 use Rattle.dtx_receiver.specs.Runs.{Tracked, tracked, runs, tracking, begun}
 use Rattle.dtx_receiver.specs.Bytes.{data_count, first_formers, levels_in, bytes_in}
 use Rattle.dtx_receiver.specs.Packets.{packets_of, early_of, all_packets, given}
-use Rattle.dtx_receiver.specs.EarlyLaws.{early_more, end_more}
+use Rattle.dtx_receiver.specs.EarlyLaws.{early_more, end_more, packets_more}
 use Rattle.dtx_receiver.specs.SegmentsLaws.{still_data, still_sync, levels_grown, first_stays, some_before}
 use Rattle.dtx_receiver.specs.FollowingLaws.{searching, began, sync_came, ended_there, data_came, given_on, given_end}
 use Rattle.dtx_receiver.specs.FollowingLaws.{given_none, given_first, all_run, all_none}
@@ -161,6 +161,30 @@ early_data run x n = by_part (cases_eq (data_count run % 4) 3)
         → More (early_of (bytes_in (run ++ x ∷ []))) (early_of (bytes_in run))
     by_part (inl p) = early_front run (run ++ x ∷ []) _ (first_stays run x (some_before run n)) (levels_grown run x n p)
     by_part (inr p) = ([], ap early_of (still_data run x n p).bytes ∙ sym (append-nil (early_of (bytes_in run))))
+
+whole_front : (run new : List (List ℤ)) (z : List ℕ) → first_formers new ≡ first_formers run
+    → levels_in new ≡ levels_in run ++ z → More (packets_of (bytes_in new)) (packets_of (bytes_in run))
+unfolding bytes_in
+whole_front run new z e f =
+    let b = bytes_front (first_formers run) (levels_in run) z in
+    let m = packets_more (bytes_in run) b.0 (4 * level_groups (levels_in run)) b.1 (bytes_count run) b.2 in
+    (m.0, ap packets_of (ap₂ (λ g y. bytes_back 0 g y) e f ∙ b.3) ∙ m.1)
+
+-- the packets of a run with one segment more
+pub whole_more : (run : List (List ℤ)) (x : List ℤ) → 0 < length run
+    → More (packets_of (bytes_in (run ++ x ∷ []))) (packets_of (bytes_in run))
+whole_more run x some = by_place (cases_eq (length run % 313) 0) (cases_eq (data_count run % 4) 3)
+  where
+    same : bytes_in (run ++ x ∷ []) ≡ bytes_in run
+        → More (packets_of (bytes_in (run ++ x ∷ []))) (packets_of (bytes_in run))
+    same e = ([], ap packets_of e ∙ sym (append-nil (packets_of (bytes_in run))))
+
+    by_place : (length run % 313 ≡ 0) ⊎ (length run % 313 ≢ 0) → (data_count run % 4 ≡ 3) ⊎ (data_count run % 4 ≢ 3)
+        → More (packets_of (bytes_in (run ++ x ∷ []))) (packets_of (bytes_in run))
+    by_place (inl d) p = same (still_sync run x some d).bytes
+    by_place (inr n) (inl p) =
+        whole_front run (run ++ x ∷ []) _ (first_stays run x some) (levels_grown run x n p)
+    by_place (inr n) (inr p) = same (still_data run x n p).bytes
 
 pub given_more : (s : List (List ℤ)) (x : List ℤ) → More (given (s ++ x ∷ [])) (given s)
 given_more s x = by_run (tracked s).run refl (looks_like x) refl

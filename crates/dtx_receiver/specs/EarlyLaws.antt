@@ -1,10 +1,11 @@
 -- The packets of a run by how many data segments are in whole groups: those that are given while it is on, and the last
 -- one.
 use Rattle.std.proofs.Common.{◌≡◌, ◌≢◌, ℕ, zero, suc, ◌+◌, ◌-◌, ◌*◌, ◌/◌, ◌%◌, ◌<◌, ◌≤◌, ◌⊎◌, ◌==◌, Bool, true, false}
-use Rattle.std.proofs.Common.{cond, List, [], ◌∷◌, ◌++◌, map, length, refl, sym, ap, ap₂, ◌∙◌, subst, inl, inr, arith}
+use Rattle.std.proofs.Common.{cond, List, [], ◌∷◌, ◌++◌, map, length, take, drop, refl, sym, ap, ap₂, ◌∙◌, subst, inl, inr, arith}
 use Rattle.std.specs.List.{filter, range_with_len}
-use Rattle.std.proofs.lemmas.Bool.{cases_lt}
-use Rattle.std.proofs.lemmas.List.{length-append, append-nil, map-append}
+use Rattle.std.proofs.lemmas.Bool.{cases_eq, cases_lt}
+use Rattle.std.proofs.lemmas.List.{length-append, append-nil, map-append, append_assoc, length-take-le}
+use Rattle.std.proofs.lemmas.List.{take-append-drop, nil_from_length}
 use Rattle.std.proofs.lemmas.List.Elements.{filter-append}
 use Rattle.dtx_lists.proofs.Range.{range_with_len-parts, map-range_same}
 use Rattle.dtx_outer.specs.Inner.{place_of, word_at, IsComplete}
@@ -180,3 +181,37 @@ end_turn bytes more s e f z = by_cases (cases_lt s 52)
     by_cases : (s < 52) ⊎ (52 ≤ s) → packets_of bytes ≡ early_of (bytes ++ more)
     by_cases (inl few) = end_none bytes s e (inl few) ∙ sym (early_short bytes more s e f few)
     by_cases (inr many) = end_one bytes more s e f many z
+
+-- the packets of a run stay, whatever bytes come behind it
+packets_stay : (bytes more : List ℕ) (s n : ℕ) → length bytes ≡ 207 * s → length more ≡ 207 * n
+    → (before rest : List ℕ) (m : ℕ) → before ++ rest ≡ bytes ++ more → length before ≡ 207 * m
+    → m ≤ s + n → packets_of bytes ≡ early_of before
+    → (brought : List Received) × (packets_of (bytes ++ more) ≡ packets_of bytes ++ brought)
+packets_stay bytes more s n e f before rest m is long within same =
+    let whole : length (bytes ++ more) ≡ 207 * (s + n) = length-append bytes more ∙ omega (arith, e, f) in
+    let left : length rest ≡ 207 * (s + n - m) = omega (arith, ap length is, length-append before rest, whole, long) in
+    let next : List Received = next_of (before ++ rest) m (s + n - m) in (
+      next ++ left_of (bytes ++ more) (s + n),
+      end_more (bytes ++ more) (s + n) whole
+          ∙ ap (λ xs. xs ++ left_of (bytes ++ more) (s + n)) (ap early_of (sym is)
+          ∙ early_more before rest m (s + n - m) long left ∙ ap (λ xs. xs ++ next) (sym same))
+          ∙ append_assoc (packets_of bytes) next (left_of (bytes ++ more) (s + n)),
+    )
+
+pub packets_more : (bytes more : List ℕ) (s n : ℕ) → length bytes ≡ 207 * s → length more ≡ 207 * n
+    → (brought : List Received) × (packets_of (bytes ++ more) ≡ packets_of bytes ++ brought)
+packets_more bytes more s n e f = by_turn (cases_eq (s % 52) 0) (cases_lt 0 n)
+  where
+    by_turn : (s % 52 ≡ 0) ⊎ (s % 52 ≢ 0) → (0 < n) ⊎ (n ≤ 0)
+        → (brought : List Received) × (packets_of (bytes ++ more) ≡ packets_of bytes ++ brought)
+    by_turn (inl z) (inl some) =
+        let first : List ℕ = take 207 more in
+        let long : length first ≡ 207 = length-take-le 207 more (omega (arith, f, some)) in
+        packets_stay bytes more s n e f (bytes ++ first) (drop 207 more) (s + 1)
+        (append_assoc bytes first (drop 207 more) ∙ ap (λ xs. bytes ++ xs) (take-append-drop 207 more))
+        (length-append bytes first ∙ omega (arith, e, long)) (omega (arith, some)) (end_turn bytes first s e long z)
+    by_turn (inl z) (inr none) =
+        let nothing : more ≡ [] = nil_from_length more (omega (arith, f, none)) in
+        ([], ap packets_of (ap (λ xs. bytes ++ xs) nothing ∙ append-nil bytes) ∙ sym (append-nil (packets_of bytes)))
+    by_turn (inr z) any =
+        packets_stay bytes more s n e f bytes more s refl e (omega arith) (end_none bytes s e (inr z))

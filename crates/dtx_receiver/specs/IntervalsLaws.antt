@@ -398,7 +398,7 @@ told_on s x places first n a e =
     ∙ ap (λ (k : ℕ). cond (k % 313 == 0) (cond (looks_like x) Sync Ended) Data) o.2
 
 -- where none does, none is on
-none_on : (s : List (List ℤ)) (places : List (ℕ × ℕ)) → AreRuns s 0 places → All (λ p. p.0 + p.1 < length s) places
+pub none_on : (s : List (List ℤ)) (places : List (ℕ × ℕ)) → AreRuns s 0 places → All (λ p. p.0 + p.1 < length s) places
     → (tracked s).run ≡ None
 none_on s places a b = let h : Searched s (length s) (tracked s) = all_searched s in by_run h (tracked s).run refl h.at
   where

@@ -10,3 +10,4 @@ pub mod FollowingLaws
 pub mod IntervalsLaws
 pub mod EarlyLaws
 pub mod CountingLaws
+pub mod SplicingLaws

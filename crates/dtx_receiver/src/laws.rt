@@ -1,12 +1,12 @@
 //! Laws of the definitions: what runs are, and which packets a run gives.
 
 ghost use Rattle.std.specs.Prelude.{◌≡◌, ◌↔◌, ℕ, ℤ, ◌+◌, ◌*◌, ◌%◌, ◌<◌, ◌≤◌, ◌==◌, ◌⊎◌, ◌++◌, ◌∷◌, []};
-ghost use Rattle.std.specs.Prelude.{if◌then◌else◌, List, true, length, map, All};
+ghost use Rattle.std.specs.Prelude.{if◌then◌else◌, List, true, length, map, take, All};
 ghost use Rattle.dtx_frame.specs.Detection.{looks_like};
 ghost use Rattle.dtx_receiver.specs.declared.tracking.Tracking.TheVariants as Tracking;
 ghost use Rattle.dtx_outer.specs.Inner.{IsComplete};
 ghost use Rattle.dtx_receiver.specs.Intervals.{AreRuns, NoneLooks, segments_in};
-ghost use Rattle.dtx_receiver.specs.Packets.{all_packets, given, is_complete};
+ghost use Rattle.dtx_receiver.specs.Packets.{all_packets, given, is_complete, received};
 ghost use Rattle.dtx_receiver.specs.declared.batch.Received.{Received};
 ghost use Rattle.dtx_receiver.specs.Runs.{runs, begun, tracking};
 
@@ -58,4 +58,29 @@ pub fn complete()
         → (k + 53 ≤ count) ⊎ ((k + 52 ≡ count) × (k % 52 ≡ 0)) }
     ensures all { (count k : ℕ) → (k + 53 ≤ count) ⊎ ((k + 52 ≡ count) × (k % 52 ≡ 0))
         → IsComplete 207 52 4 (207 * count) k }
+{}
+
+/// Of the first n segments of a list the first packets of the list are received: a cut brings no packet, and changes
+/// none.
+pub fn cut()
+    ensures packets { (segments : List (List ℤ)) (n : ℕ)
+        → (rest : List Received) × (all_packets segments ≡ all_packets (take n segments) ++ rest) }
+    ensures bytes { (segments : List (List ℤ)) (n : ℕ)
+        → (rest : List (List ℕ)) × (received segments ≡ received (take n segments) ++ rest) }
+{}
+
+/// Where no run is on at the end of a list, of it and a second one behind it each one's packets are received, one
+/// behind the other. No run is on where the list has none, or where its last run ends before one of its segments,
+/// which is one at which a field sync is due and which doesn't look like one.
+pub fn splice()
+    ensures none { (first second : List (List ℤ)) → NoneLooks first 0 (length first)
+        → received (first ++ second) ≡ received second }
+    ensures ended { (first second : List (List ℤ)) (places : List (ℕ × ℕ)) (place n : ℕ)
+        → AreRuns first 0 (places ++ (place, n) ∷ []) → place + n < length first
+        → received (first ++ second) ≡ received first ++ received second }
+    ensures runs { (first second : List (List ℤ)) (places : List (ℕ × ℕ)) → AreRuns first 0 places
+        → All (λ p. p.0 + p.1 < length first) places → runs (first ++ second) ≡ runs first ++ runs second }
+    ensures packets { (first second : List (List ℤ)) (places : List (ℕ × ℕ)) → AreRuns first 0 places
+        → All (λ p. p.0 + p.1 < length first) places
+        → all_packets (first ++ second) ≡ all_packets first ++ all_packets second }
 {}
