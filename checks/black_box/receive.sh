@@ -17,6 +17,7 @@ has_digest feed.sym 6c253b73c974cb029a62103218b92bb240df240b99b248cf48f20d82eace
 run 0 'segments 1305 runs 1 packets 1249 fixed 0 flagged 0 loose 0' receive feed.sym out.ts
 has_digest out.ts c2621661d1fdb70783b472c351877cd188c28b896a075193a0b2c6f8fa310663
 cp feed.sym "$room/feed.sym"
+cp out.ts "$room/received.ts"
 cp feed.ts "$room/feed.ts"
 tail -c 1001728 feed.sym >"$room/from_order.sym"
 
@@ -25,6 +26,28 @@ has_digest "$room/from_order.sym" d053d41c45f273e3e262b297d5fa7c7df44adbfb998e92
 run 0 'segments 1204 runs 1 packets 937 fixed 0 flagged 0 loose 0' receive "$room/from_order.sym" out.ts
 has_digest out.ts 25bcdec4408a72dc0fc771a6f9f4864b5bece438a7f254858a62c49148eb8056
 leaves out.ts
+
+start 'cut symbols give the first packets'
+head -c $((700 * 832 + 100)) "$room/feed.sym" >in.sym
+run 0 'segments 700 runs 1 packets 644 fixed 0 flagged 0 loose 100' receive in.sym out.ts
+head -c $((644 * 188)) "$room/received.ts" | cmp -s - out.ts || wrong 'out.ts is not the first 644 packets'
+
+start 'symbols twice in a row: the first run ends in the second copy, and the next one begins with its second field sync'
+cat "$room/feed.sym" "$room/feed.sym" >in.sym
+"$dtx" receive in.sym out.ts >"$room/said" 2>"$room/complaint"
+ended 0 $?
+[[ $(cat "$room/said") == 'segments 2610 runs 2 packets 2446 '* ]] || wrong "printed $(cat "$room/said")"
+head -c $((1249 * 188)) out.ts | cmp -s - "$room/received.ts" || wrong 'the first packets are not those of one copy'
+tail -c $((937 * 188)) out.ts >last.ts
+has_digest last.ts 25bcdec4408a72dc0fc771a6f9f4864b5bece438a7f254858a62c49148eb8056
+
+start 'symbols without their first field sync'
+tail -c +833 "$room/feed.sym" >in.sym
+run 0 'segments 1304 runs 1 packets 937 fixed 0 flagged 0 loose 0' receive in.sym out.ts
+has_digest out.ts 25bcdec4408a72dc0fc771a6f9f4864b5bece438a7f254858a62c49148eb8056
+
+start 'random lists of segments, cut and spliced'
+"$top/checks/independent/splices.py" "$dtx" 20 >"$room/said" || wrong "$(grep FAILED "$room/said" | head -n 3)"
 
 start 'twelve wrong symbols are put right'
 cp "$room/from_order.sym" in.sym

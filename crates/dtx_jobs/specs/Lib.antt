@@ -24,6 +24,7 @@ pub mod PlanFileLaws
 pub mod Receive
 pub mod ReceiveLaws
 pub mod ReceivedLaws
+pub mod SplicedSymbolsLaws
 pub mod Reception
 pub mod Shapes
 pub mod StreamCoder

@@ -1,6 +1,8 @@
 -- What `receive` makes of a symbol file (ATSC A/53 Part 2, the way back).
-use Rattle.std.specs.Prelude.{ℕ, ℤ, ◌==◌, true, if◌then◌else◌, List, [], ◌∷◌, length, drop}
+use Rattle.std.specs.Prelude.{◌≡◌, ℕ, ℤ, ◌==◌, true, false, if◌then◌else◌, Some, List, [], ◌∷◌, length, drop}
+use Rattle.std.specs.FinMap.{get}
 use Rattle.std.specs.List.{flat_map}
+use Rattle.std.specs.Str.{bytes_eq}
 use Rattle.dtx_engine.specs.Made.{only}
 use Rattle.dtx_engine.specs.Making.{Making, transformed}
 use Rattle.dtx_meaning.specs.Meaning.{Meaning, refused}
@@ -54,3 +56,9 @@ receiving = record {
 abbrev pub receive_meaning : List (List ℕ) → Files → Meaning
 receive_meaning (verb ∷ input ∷ output ∷ []) held = transformed segments receiving input output held
 receive_meaning words held = refused Usage
+
+-- `receive` writes these bytes of that symbol file, whatever the names of its files are
+abbrev pub IsWritten : List ℕ → List ℕ → Type 0
+IsWritten file bytes = (verb input output : List ℕ) (held : Files) → bytes_eq input output ≡ false
+    → get held input ≡ Some file
+    → (receive_meaning (verb ∷ input ∷ output ∷ []) held).outputs ≡ (output, bytes) ∷ []

@@ -1,14 +1,15 @@
 //! Laws of what is received of a symbol file: the packets of all its whole segments, or nothing where none of them
-//! looks like a field sync; and of one with damage laid over its bytes the same of the damaged bytes.
+//! looks like a field sync; of one with damage laid over its bytes the same of the damaged bytes; and of one that is
+//! cut, or of two one behind the other, what is written of the whole, or of each.
 
-ghost use Rattle.std.specs.Prelude.{◌≡◌, ◌+◌, ◌*◌, ◌≤◌, ◌%◌, ◌++◌, ℕ, List, [], length, take};
+ghost use Rattle.std.specs.Prelude.{◌≡◌, ◌+◌, ◌*◌, ◌<◌, ◌≤◌, ◌%◌, ◌++◌, ℕ, All, List, [], length, take};
 ghost use Rattle.dtx_engine.specs.Making.{meaning_of_file};
 ghost use Rattle.dtx_make.specs.Hurt.{hurt};
 ghost use Rattle.dtx_meaning.specs.Status.{ended};
 ghost use Rattle.dtx_plan.specs.declared.damage.Damage.{Damage};
-ghost use Rattle.dtx_receiver.specs.Intervals.{NoneLooks};
+ghost use Rattle.dtx_receiver.specs.Intervals.{AreRuns, NoneLooks};
 ghost use Rattle.dtx_jobs.specs.Damaged.{damaged};
-ghost use Rattle.dtx_jobs.specs.Receive.{receive_answer, received_bytes, receiving};
+ghost use Rattle.dtx_jobs.specs.Receive.{IsWritten, receive_answer, received_bytes, receiving};
 ghost use Rattle.dtx_jobs.specs.ReceivedLaws.{received_of};
 ghost use Rattle.dtx_jobs.specs.Shapes as shapes;
 ghost use Rattle.dtx_jobs.specs.SymbolFile.{segments_of, whole_segments};
@@ -41,4 +42,19 @@ pub fn nothing_without_a_sync()
         → receive_answer (segments_of file) loose ≡ ended Status.NoSync }
     ensures packets { (file : List ℕ) → NoneLooks (segments_of file) 0 (whole_segments file)
         → received_bytes file ≡ [] }
+{}
+
+/// Of the first bytes of a symbol file, wherever it is cut, the first of the bytes are written that are written of the
+/// file.
+pub fn cut_symbols()
+    ensures { (file : List ℕ) (n : ℕ) → whole_segments file ≤ MOST_SEGMENTS
+        → (first rest : List ℕ) × IsWritten file (first ++ rest) × IsWritten (take n file) first }
+{}
+
+/// Where no run is on at the end of a file of whole segments, of it and a second one behind it that is written which is
+/// written of each, one behind the other. No run is on where each run of the file ends before one of its segments.
+pub fn spliced_symbols()
+    ensures { (a b : List ℕ) (places : List (ℕ × ℕ)) → whole_segments (a ++ b) ≤ MOST_SEGMENTS
+        → length a % 832 ≡ 0 → AreRuns (segments_of a) 0 places → All (λ p. p.0 + p.1 < whole_segments a) places
+        → (x y : List ℕ) × IsWritten a x × IsWritten b y × IsWritten (a ++ b) (x ++ y) }
 {}
