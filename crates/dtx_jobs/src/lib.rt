@@ -11,6 +11,8 @@ mod hurt_command;
 pub mod laws;
 mod laying;
 mod life_tally;
+#[cfg(test)]
+mod made_stream_tests;
 mod make_command;
 mod one_output;
 #[cfg(test)]
