@@ -8,16 +8,8 @@ set -eu
 
 top=$(cd "$(dirname "$0")/../.." && pwd)
 . "$top/bench/parts/parts.sh"
-folder=$(mktemp -d)
-trap 'rm -rf "$folder"' EXIT
-plain=$folder/correct
-# The kit builds for this processor too, where it builds for x86-64.
-processor=
-if [ "$(uname -m)" = x86_64 ]; then
-    processor='-C target-cpu=x86-64-v2'
-fi
 # shellcheck disable=SC2086
-rustc --edition 2024 -O -C codegen-units=1 $processor -o "$plain" "$top/bench/parts/correct.rs"
+build_plain correct $processor
 
 # Both make the same bytes wrong, so a sum of what came of them is the same.
 for _ in 1 2 3; do

@@ -5,10 +5,7 @@ set -eu
 
 top=$(cd "$(dirname "$0")/../.." && pwd)
 . "$top/bench/parts/parts.sh"
-folder=$(mktemp -d)
-trap 'rm -rf "$folder"' EXIT
-plain=$folder/encode
-rustc --edition 2024 -O -C codegen-units=1 -o "$plain" "$top/bench/parts/encode.rs"
+build_plain encode
 
 if [ "$("$proved")" != "$("$plain")" ]; then
     echo "the two programs encode differently" >&2

@@ -12,7 +12,7 @@ import sys
 import tempfile
 
 from exciter import coded_group, field_sync
-from network import differences
+from network import differences, try_each
 from receiver import LEVELS, SEGMENT, looks, received
 from reference import FIELD, PACKET, coded
 
@@ -103,26 +103,20 @@ def wrongs(dtx, first, second, cut):
     return found
 
 
-def main(dtx, lists):
+def cases(dtx, lists):
+    """Random lists, cut and spliced, and what is wrong with what the program makes of them; and what is wrong where too few of them
+    tell something."""
     chance = random.Random(14)
     coded = coded_segments([b"\x47" + chance.randbytes(PACKET - 1) for _ in range(640)])
-    passed = failed = off = 0
-    for number in range(lists):
+    off = 0
+    for _ in range(lists):
         first, second = made_list(chance, coded), made_list(chance, coded)
         cut = cut_place(chance, first + second)
         off += not is_on(first) and len(answer(first)[0]) > 0 and len(answer(second)[0]) > 0
-        wrong = wrongs(dtx, first, second, cut)
-        if wrong:
-            failed += 1
-            print(f"FAILED: list {number} of {len(first)} and {len(second)} bytes, cut at {cut}: {'; '.join(wrong)}")
-        else:
-            passed += 1
+        yield f"{len(first)} and {len(second)} bytes, cut at {cut}", wrongs(dtx, first, second, cut)
     if off < lists // 5:
-        failed += 1
-        print(f"FAILED: in only {off} of {lists} lists has a run ended, and packets come in front and behind")
-    print(f"splices: {passed} passed, {failed} failed")
-    return failed > 0
+        yield "all lists", [f"in only {off} of {lists} has a run ended, and packets come in front and behind"]
 
 
 if __name__ == "__main__":
-    sys.exit(main(sys.argv[1], int(sys.argv[2])))
+    sys.exit(try_each("splices", cases(sys.argv[1], int(sys.argv[2]))))
