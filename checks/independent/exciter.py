@@ -10,7 +10,7 @@ import subprocess
 import sys
 import tempfile
 
-from reference import FIELD, FRAME, PACKET, adapted, coded, packets_of, read
+from reference import FIELD, FRAME, PACKET, adapted, coded, packets_of, read, try_each
 
 ADDRESSES = (7, 9, 8)
 DELAYS = (0, 1000, 4_999_990, 4_999_991, 5_000_025, 5_000_026)
@@ -216,12 +216,13 @@ def part(chance, feed, marked):
     return changed
 
 
-def main(dtx, lists):
+def cases(dtx, lists):
+    """Random lists, and what is wrong with what the program makes of them; and what is wrong where too few of them are sent."""
     chance = random.Random(8)
     feed = made_feed(chance, 1000)
-    passed = failed = sent = 0
+    sent = 0
     with tempfile.TemporaryDirectory() as folder:
-        for number in range(lists):
+        for _ in range(lists):
             packets = part(chance, feed, False) if chance.random() < 0.5 else []
             packets += part(chance, feed, chance.random() < 0.9)
             address, delay = chance.choice(ADDRESSES[:2] * 4 + ADDRESSES), chance.choice(DELAYS[:2] * 3 + DELAYS)
@@ -231,17 +232,12 @@ def main(dtx, lists):
             symbols, log, line = excited(packets, address, delay)
             sent += len(symbols) > 0
             same = ran.returncode == 0 and ran.stdout == line
-            if same and open(f"{folder}/out.sym", "rb").read() == symbols and open(f"{folder}/out.log").read() == log:
-                passed += 1
-            else:
-                failed += 1
-                print(f"FAILED: list {number} of {len(packets)} packets, address {address}, delay {delay}: printed {ran.stdout!r}, not {line!r}")
+            same = same and open(f"{folder}/out.sym", "rb").read() == symbols and open(f"{folder}/out.log").read() == log
+            wrong = [] if same else [f"printed {ran.stdout!r}, not {line!r}, or another file"]
+            yield f"{len(packets)} packets, address {address}, delay {delay}", wrong
     if sent < lists // 3:
-        failed += 1
-        print(f"FAILED: only {sent} of {lists} lists are sent at all")
-    print(f"exciter: {passed} passed, {failed} failed")
-    return failed > 0
+        yield "all lists", [f"only {sent} of {lists} are sent at all"]
 
 
 if __name__ == "__main__":
-    sys.exit(main(sys.argv[1], int(sys.argv[2])))
+    sys.exit(try_each("exciter", cases(sys.argv[1], int(sys.argv[2]))))

@@ -8,7 +8,8 @@ import random
 import sys
 import tempfile
 
-from network import differences, end_of, first_past, hurt, tables, try_each
+from network import differences, end_of, first_past, hurt, tables
+from reference import try_each
 
 
 def made_entry(chance, least, most):

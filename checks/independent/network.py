@@ -287,19 +287,6 @@ def differences(words, folder, before, made, line):
     return wrong
 
 
-def try_each(name, cases):
-    """Goes through cases, each with what it is and what is wrong with it: names those that failed, and ends with their numbers."""
-    passed = failed = 0
-    for number, (case, wrong) in enumerate(cases):
-        if wrong:
-            failed += 1
-            print(f"FAILED: number {number}, {case}: {'; '.join(wrong)}")
-        else:
-            passed += 1
-    print(f"{name}: {passed} passed, {failed} failed")
-    return failed > 0
-
-
 def main(dtx, schedules):
     chance = random.Random(21)
     passed = failed = 0

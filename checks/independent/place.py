@@ -8,8 +8,8 @@ import random
 import sys
 import tempfile
 
-from network import differences, try_each
-from reference import FIELD, PACKET
+from network import differences
+from reference import FIELD, PACKET, try_each
 
 NULL, PLACEHOLDER, FIRST = 0x1FFF, 0x1FFA, 52
 

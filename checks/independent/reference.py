@@ -1,5 +1,6 @@
 #!/usr/bin/env python3
-"""Makes streams for the checks, after the written rules; it shares nothing with dtx.
+"""Makes streams for the checks, after the written rules; it shares nothing with dtx. What the independent programs share stands here
+too.
 
 reference.py feed IN OUT    adapts a stream under the plan of examples/two-sites.toml
 reference.py zeros N OUT    a stream of N packets whose coded bytes are all 0
@@ -251,6 +252,19 @@ def adapted(stream, plan=TWO_SITES):
 def zeros(count):
     """Packets that the randomizer turns to 0."""
     return b"".join(b"\x47" + WHITE[187 * place : 187 * place + 187] for place in (k % FIELD for k in range(count)))
+
+
+def try_each(name, cases):
+    """Goes through cases, each with what it is and what is wrong with it: names those that failed, and ends with their numbers."""
+    passed = failed = 0
+    for number, (case, wrong) in enumerate(cases):
+        if wrong:
+            failed += 1
+            print(f"FAILED: number {number}, {case}: {'; '.join(wrong)}")
+        else:
+            passed += 1
+    print(f"{name}: {passed} passed, {failed} failed")
+    return failed > 0
 
 
 if __name__ == "__main__":

@@ -12,9 +12,9 @@ import sys
 import tempfile
 
 from exciter import coded_group, field_sync
-from network import differences, try_each
+from network import differences
 from receiver import LEVELS, SEGMENT, looks, received
-from reference import FIELD, PACKET, coded
+from reference import FIELD, PACKET, coded, try_each
 
 # How long a stretch is: around the segments with which packets come, and around those at which a field sync is due.
 LENGTHS = (1, 5, 52, 53, 54, 57, 58, 105, 109, 312, 313, 314, 330, 625, 626, 627)
