@@ -67,7 +67,8 @@ pub record Follows (plan : Plan) (stream : List (List ℕ)) (events : List Event
   pub unmuted : (n : ℕ) (why : Why) → Contains (lines_of x.t x.who (steps_under plan stream events)) (mute n why)
       → (n ≤ length emits.before)
       ⊎ (length emits.before + length (stretch_of (feed plan stream) x.k (x.mark + x.count)) ≤ n)
-  -- Whatever is received, with those symbols at that segment of it, gives the packets back whose words have at most ten
+  -- Whatever is received, with those symbols at that segment of it: a run that begins at one of their field syncs gives
+  -- each packet back whose bytes are all among the run's and lie in segments of theirs, and whose word has at most ten
   -- wrong bytes.
   pub gives_back : (got : List (List ℤ)) → GivesBack (feed plan stream) x.k (x.mark + x.count) (length emits.before) got
   -- Those symbols alone, received with slight damage, give all their packets back and no other.
@@ -82,8 +83,8 @@ pub record AreApart (ticks : ℤ) (log log_other : List Line) (one other : Line)
 
 -- The headline.
 pub record Headline (plan : Plan) (stream : List (List ℕ)) (events : List Event) : Type 0 where
-  -- Every transmitter that joins the feed, from any earlier state, emits exactly the feed's symbols, and they give the
-  -- packets back.
+  -- Every transmitter that joins the feed, from any earlier state, emits exactly the feed's symbols, and a run that
+  -- begins at one of their field syncs gives the packets back that it holds whole, with at most ten wrong bytes a word.
   pub follows : (x : Joined plan stream events) → Follows plan stream events x
   -- Any two of them log a preset of each group with an operations packet that both have, and the moments of these
   -- differ only by the offsets.

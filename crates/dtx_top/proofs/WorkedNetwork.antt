@@ -36,7 +36,7 @@ use Rattle.dtx_schedule.specs.TransmitterFiles.{symbol_file}
 use Rattle.dtx_words.specs.NetworkNames.{received_name}
 use Rattle.dtx_top.specs.HeadlineOfFiles.{HeadlineLaw, HeadlineOfFiles}
 use Rattle.dtx_top.specs.Networks.{damaged_file, sent_file}
-use Rattle.dtx_top.specs.WorkedNetwork.{HasAllBack, IsSimple, WorkedNetwork}
+use Rattle.dtx_top.specs.WorkedNetwork.{HasAllBack, IsGivenBack, IsLittle, IsSimple, WorkedNetwork}
 use Rattle.dtx_top.proofs.SegmentsBack.{segments_of_file}
 use Rattle.dtx_top.proofs.WorkedDamage.{few_slight}
 
@@ -132,10 +132,15 @@ sent_is plan network stream a address p listed e =
 
 -- ---- the network
 
-pub worked : Laws → (plan : Plan) (network : NetPlan) (stream : List (List ℕ)) (a b : Transmitter) → IsPlan plan
-    → IsStream stream → IsSimple plan network stream a b → WorkedNetwork plan network stream 100
+some_and : {X : Type 0} (o : Option X) (P Q : X → Type 0) → ((x : X) → P x → Q x) → IsSomeAnd o P → IsSomeAnd o Q
+some_and None P Q f h = h
+some_and (Some x) P Q f h = f x h
+
+pub worked : Laws → (plan : Plan) (network : NetPlan) (stream : List (List ℕ)) (a b : Transmitter) (entries : ℕ)
+    → IsPlan plan → IsStream stream → IsSimple plan network stream a b entries
+    → WorkedNetwork plan network stream 100 entries
 unfolding damaged_file
-worked laws plan network stream a b p u s = record {
+worked laws plan network stream a b entries p u s = record {
   one = one.0;
   other = other.0;
   two = λ e. s.differ (ap (λ (t : Transmitter). t.address) (sym one.1) ∙ e
@@ -146,13 +151,8 @@ worked laws plan network stream a b p u s = record {
       (order_in fed one.0.k (one.0.mark + one.0.count) 100 one.5 (omega (arith, end_one, s.long)) (omega arith) order)
       (order_in fed other.0.k (other.0.mark + other.0.count) 100 other.5 (omega (arith, end_other, s.long))
       (omega arith) order);
-  slight = slight;
-  all_back = λ receiver is.
-      ((laws.headline plan stream network.events p u).follows one.0).gives_all_back
-      (file.file_segments (damaged_file plan network stream receiver))
-      (begins_field one.0.k (one.0.mark + one.0.count) one.5 (omega (arith, end_one, s.long)))
-      (subst (λ (n : ℕ). IsReceivedAlone fed one.0.k n
-      (file.file_segments (damaged_file plan network stream receiver))) (sym end_one) (slight receiver is));
+  given_back = some_and network.receive (IsLittle a.address entries)
+      (IsGivenBack plan network stream one.0.k entries) given_back s.received;
 }
   where
     fed : List (List ℕ)
@@ -188,30 +188,44 @@ worked laws plan network stream a b p u s = record {
         (laws.alone plan stream a 0 (length stream) one.0.k [] (Send b.address 0 (length stream) ∷ []) p u s.first
         s.in_time (omega arith) first tt (λ e. s.differ (sym e), tt))
 
-    slight : (receiver : ReceivePlan) → network.receive ≡ Some receiver
+    slight : (receiver : ReceivePlan) → IsLittle a.address entries receiver
         → IsReceivedAlone (feed plan stream) one.0.k (length stream)
         (file.file_segments (damaged_file plan network stream receiver))
-    slight receiver is =
-        let asked = s.received receiver is in
+    slight receiver little =
         let steps : List Step = steps_under plan stream network.events in
         subst (λ (f : List ℕ). IsReceivedAlone fed one.0.k (length stream) (file.file_segments
         (hurt receiver.damage f)))
-        (sym (sent_is plan network stream a receiver.from p s.first asked.0))
+        (sym (sent_is plan network stream a receiver.from p s.first little.from))
         (few_slight fed one.0.k (length stream) (symbol_file a 0 steps) receiver.damage (laws.packets plan stream p u)
-        one.5 (segments_of_file a 0 steps ∙ alone) asked.1)
+        one.5 (segments_of_file a 0 steps ∙ alone) little.few)
+
+    given_back : (receiver : ReceivePlan) → IsLittle a.address entries receiver
+        → IsGivenBack plan network stream one.0.k entries receiver
+    given_back receiver little = record {
+      entries = little.entries;
+      slight = slight receiver little;
+      all_back = ((laws.headline plan stream network.events p u).follows one.0).gives_all_back
+          (file.file_segments (damaged_file plan network stream receiver))
+          (begins_field one.0.k (one.0.mark + one.0.count) one.5 (omega (arith, end_one, s.long)))
+          (subst (λ (n : ℕ). IsReceivedAlone fed one.0.k n
+          (file.file_segments (damaged_file plan network stream receiver))) (sym end_one) (slight receiver little));
+    }
 
 -- ---- its files
 
-some_and : {X : Type 0} (o : Option X) (P Q : X → Type 0) → ((x : X) → P x → Q x) → IsSomeAnd o P → IsSomeAnd o Q
-some_and None P Q f h = h
-some_and (Some x) P Q f h = f x h
-
-pub file_back : (plan : Plan) (network : NetPlan) (stream : List (List ℕ)) (held now : Files)
-    (w : WorkedNetwork plan network stream 100) → HeadlineOfFiles plan network stream held now
-    → (receiver : ReceivePlan) → network.receive ≡ Some receiver
-    → IsSomeAnd (get now received_name) (HasAllBack plan network stream receiver w.one.k)
-file_back plan network stream held now w h receiver is =
-    some_and (get now received_name)
-    (λ bytes. packets_of bytes ≡ received (file.file_segments (damaged_file plan network stream receiver)))
-    (HasAllBack plan network stream receiver w.one.k)
-    (λ bytes e. e ∙ (w.all_back receiver is).packets) (h.packets receiver is)
+pub file_back : (plan : Plan) (network : NetPlan) (stream : List (List ℕ)) (held now : Files) (entries : ℕ)
+    (w : WorkedNetwork plan network stream 100 entries) → HeadlineOfFiles plan network stream held now
+    → IsSomeAnd network.receive (λ receiver.
+    IsSomeAnd (get now received_name) (HasAllBack plan network stream receiver w.one.k))
+file_back plan network stream held now entries w h = of_receiver network.receive refl w.given_back
+  where
+    of_receiver : (o : Option ReceivePlan) → network.receive ≡ o
+        → IsSomeAnd o (IsGivenBack plan network stream w.one.k entries)
+        → IsSomeAnd o (λ receiver. IsSomeAnd (get now received_name)
+        (HasAllBack plan network stream receiver w.one.k))
+    of_receiver None is back = back
+    of_receiver (Some receiver) is back =
+        some_and (get now received_name)
+        (λ bytes. packets_of bytes ≡ received (file.file_segments (damaged_file plan network stream receiver)))
+        (HasAllBack plan network stream receiver w.one.k)
+        (λ bytes e. e ∙ back.all_back.packets) (h.packets receiver is)

@@ -35,8 +35,9 @@ pub record HeadlineOfFiles (plan : Plan) (network : NetPlan) (stream : List (Lis
       ≡ sent.sent_segments t who (steps_under plan stream network.events)
   -- Every transmitter that from any earlier state is given the feed unchanged from a cadence mark on emits, from the
   -- first operations packet whose group begins 52 or more packets later, exactly the symbols of that feed, at moments
-  -- that differ between transmitters only by the signalled offsets; and whatever is received of them gives the packets
-  -- back whose words have at most ten wrong bytes.
+  -- that differ between transmitters only by the signalled offsets; and in whatever is received of them, a run that
+  -- begins at one of their field syncs gives the packets back whose bytes are all among the run's and lie in segments
+  -- of theirs, and whose words have at most ten wrong bytes.
   pub headline : Headline plan stream network.events
   -- Where what is received is such a transmitter's symbol file with the plan's damage, it gives those packets back.
   pub gives_back : (receiver : ReceivePlan) (x : Joined plan stream network.events) → network.receive ≡ Some receiver

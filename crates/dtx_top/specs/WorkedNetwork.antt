@@ -25,8 +25,18 @@ use Rattle.dtx_plan.specs.declared.plan.ReceivePlan.{ReceivePlan}
 use Rattle.dtx_plan.specs.declared.transmitter.Transmitter.{Transmitter}
 use Rattle.dtx_top.specs.Networks.{damaged_file}
 
+-- The symbols that this receiver is given, the stretch from packet k on, have that many entries of damage laid over
+-- them, which is slight, and all its packets are given back.
+pub record IsGivenBack (plan : Plan) (network : NetPlan) (stream : List (List ℕ)) (k entries : ℕ)
+    (receiver : ReceivePlan) : Type 0 where
+  pub entries : length receiver.damage ≡ entries
+  pub slight : IsReceivedAlone (feed plan stream) k (length stream)
+      (file_segments (damaged_file plan network stream receiver))
+  pub all_back : IsAllBack (feed plan stream) k (next_field k)
+      (file_segments (damaged_file plan network stream receiver))
+
 -- Two transmitters of a network join the feed of a stream; whatever is said of such is said of them, without a premise.
-pub record WorkedNetwork (plan : Plan) (network : NetPlan) (stream : List (List ℕ)) (g : ℕ) : Type 0 where
+pub record WorkedNetwork (plan : Plan) (network : NetPlan) (stream : List (List ℕ)) (g entries : ℕ) : Type 0 where
   pub one : Joined plan stream network.events
   pub other : Joined plan stream network.events
   pub two : one.t.address ≢ other.t.address
@@ -39,19 +49,13 @@ pub record WorkedNetwork (plan : Plan) (network : NetPlan) (stream : List (List 
       (lines_of other.t other.who (steps_under plan stream network.events))
       (preset_at plan one.t.offset (length follows.emits.before) one.k g)
       (preset_at plan other.t.offset (length other_follows.emits.before) other.k g)
-  -- What is received of the first one, with the plan's damage, is its stretch with slight damage ..
-  pub slight : (receiver : ReceivePlan) → network.receive ≡ Some receiver
-      → IsReceivedAlone (feed plan stream) one.k (length stream)
-      (file_segments (damaged_file plan network stream receiver))
-  -- .. and all its packets are given back.
-  pub all_back : (receiver : ReceivePlan) → network.receive ≡ Some receiver
-      → IsAllBack (feed plan stream) one.k (next_field one.k)
-      (file_segments (damaged_file plan network stream receiver))
+  -- The first one is received, with damage of so many entries, and given back.
+  pub given_back : IsSomeAnd network.receive (IsGivenBack plan network stream one.k entries)
 
 -- a plan's text and a stream are those of such a network
-abbrev pub IsWorked : List ℕ → List (List ℕ) → ℕ → Type 0
-IsWorked text stream g =
-    IsOkAnd (plan_of text) (λ plan. IsSomeAnd plan.net (λ network. WorkedNetwork plan network stream g))
+abbrev pub IsWorked : List ℕ → List (List ℕ) → ℕ → ℕ → Type 0
+IsWorked text stream g entries =
+    IsOkAnd (plan_of text) (λ plan. IsSomeAnd plan.net (λ network. WorkedNetwork plan network stream g entries))
 
 -- The packets of a file are exactly those of the feed, from the first field behind packet k on, whose bytes are all
 -- there, in order, with 0x47 as their sync bytes.
@@ -66,10 +70,17 @@ IsFew [] = Unit {0}
 IsFew (entry ∷ []) = (entry.count ≤ 31) × (entry.at + entry.count ≤ 176384)
 IsFew damage = ⊥
 
+-- The transmitter of this address is received, with few entries of damage, which are that many.
+pub record IsLittle (address entries : ℕ) (receiver : ReceivePlan) : Type 0 where
+  pub from : receiver.from ≡ address
+  pub few : IsFew receiver.damage
+  pub entries : length receiver.damage ≡ entries
+
 -- What is asked of its plan and its stream: each of the first two transmitters is in time and is given the whole feed
 -- at once, and nothing else; the group from packet 100 on holds an operations packet, and 60 packets or more come
--- behind the first field; the first transmitter is received, with little damage.
-pub record IsSimple (plan : Plan) (network : NetPlan) (stream : List (List ℕ)) (a b : Transmitter) : Type 0 where
+-- behind the first field; the first transmitter is received, with little damage of so many entries.
+pub record IsSimple (plan : Plan) (network : NetPlan) (stream : List (List ℕ)) (a b : Transmitter)
+    (entries : ℕ) : Type 0 where
   pub first : slice_get plan.transmitters.items 0 ≡ Some a
   pub second : slice_get plan.transmitters.items 1 ≡ Some b
   pub in_time : IsInTime plan a
@@ -78,8 +89,7 @@ pub record IsSimple (plan : Plan) (network : NetPlan) (stream : List (List ℕ))
   pub events : network.events ≡ Send a.address 0 (length stream) ∷ Send b.address 0 (length stream) ∷ []
   pub order : has_order stream 100 ≡ true
   pub long : 372 ≤ length stream
-  pub received : (receiver : ReceivePlan) → network.receive ≡ Some receiver
-      → (receiver.from ≡ a.address) × IsFew receiver.damage
+  pub received : IsSomeAnd network.receive (IsLittle a.address entries)
 
 -- that many packets of the made stream of a seed
 unfoldable pub made_packets : ℕ → ℕ → List (List ℕ)

@@ -1,9 +1,8 @@
 //! Laws of the definitions: the segments of a transmitter's symbol file are those that it sends.
 
-ghost use Rattle.std.specs.Prelude.{◌≡◌, ◌≤◌, ℕ, IsSomeAnd, List, Some, length, true};
+ghost use Rattle.std.specs.Prelude.{◌≡◌, ◌≤◌, ℕ, IsSomeAnd, List, length, true};
 ghost use Rattle.std.specs.FinMap.{get};
 ghost use Rattle.dtx_outside.specs.Shelf.{Files};
-ghost use Rattle.dtx_plan.specs.declared.plan.ReceivePlan.{ReceivePlan};
 ghost use Rattle.dtx_words.specs.NetworkNames.{received_name};
 ghost use Rattle.dtx_top.specs.HeadlineOfFiles.{HeadlineOfFiles};
 ghost use Rattle.dtx_plan.specs.declared.transmitter.Transmitter.{Transmitter};
@@ -47,12 +46,13 @@ pub fn files_of_interleavings()
 /// command `net` has done it, the file `net.ts` has exactly the packets of the feed from the stretch's first field sync
 /// on whose bytes are all there.
 pub fn simple_networks_work()
-    ensures works { (plan : Plan) (network : NetPlan) (stream : List (List ℕ)) (a b : Transmitter) → IsPlan plan
-        → IsStream stream → IsSimple plan network stream a b → WorkedNetwork plan network stream 100 }
-    ensures file { (plan : Plan) (network : NetPlan) (stream : List (List ℕ)) (held now : Files)
-        (w : WorkedNetwork plan network stream 100) → HeadlineOfFiles plan network stream held now
-        → (receiver : ReceivePlan) → network.receive ≡ Some receiver
-        → IsSomeAnd (get now received_name) (HasAllBack plan network stream receiver w.one.k) }
+    ensures works { (plan : Plan) (network : NetPlan) (stream : List (List ℕ)) (a b : Transmitter) (entries : ℕ)
+        → IsPlan plan → IsStream stream → IsSimple plan network stream a b entries
+        → WorkedNetwork plan network stream 100 entries }
+    ensures file { (plan : Plan) (network : NetPlan) (stream : List (List ℕ)) (held now : Files) (entries : ℕ)
+        (w : WorkedNetwork plan network stream 100 entries) → HeadlineOfFiles plan network stream held now
+        → IsSomeAnd network.receive (λ receiver. IsSomeAnd (get now received_name)
+        (HasAllBack plan network stream receiver w.one.k)) }
 {
     joined_is_met();
     sends_the_stretch_alone();

@@ -5,12 +5,11 @@
 ghost use Rattle.std.specs.Prelude.{◌≡◌, ◌≢◌, ◌+◌, ◌≤◌, ◌∷◌, [], IfSome, IsSomeAnd, Some, length, slice_get, true};
 ghost use Rattle.dtx_network.specs.Plans.{IsInTime, IsPlan};
 ghost use Rattle.dtx_plan.specs.declared.event.Event.TheVariants.{Send};
-ghost use Rattle.dtx_plan.specs.declared.plan.ReceivePlan.{ReceivePlan};
-ghost use Rattle.dtx_top.specs.WorkedNetwork.{IsFew, IsSimple, IsWorked, WorkedNetwork, made_packets};
+ghost use Rattle.dtx_top.specs.WorkedNetwork.{IsFew, IsLittle, IsSimple, IsWorked, WorkedNetwork, made_packets};
 
 use crate::laws::{made_packets_are_a_stream, simple_networks_work};
 use dtx_network::laws::plans_that_are_read;
-use dtx_plan::{Damages, Event, NetPlan, Plan, Transmitter, read_plan};
+use dtx_plan::{Damages, Event, NetPlan, Plan, ReceivePlan, Transmitter, read_plan};
 use std::alloc::Global;
 
 /// How many packets the made stream has.
@@ -72,45 +71,51 @@ count = 20
 put = 127
 ";
 
-/// Whether the plan of this text is that of a simple network, over the made stream of seed 1 with so many packets.
-fn works(alloc: Global, text: &[u8], count: usize) -> bool
-    ensures { result ≡ true → IsWorked text.now (made_packets 1 count) 100 }
+/// Whether the plan of this text is that of a simple network, over the made stream of seed 1 with so many packets, whose
+/// damage has that many entries.
+fn works(alloc: Global, text: &[u8], count: usize, entries: usize) -> bool
+    ensures { result ≡ true → IsWorked text.now (made_packets 1 count) 100 entries }
 {
     plans_that_are_read();
     match read_plan(alloc, text) {
-        Ok(plan) => plan_works(&plan, count),
+        Ok(plan) => plan_works(&plan, count, entries),
         Err(_) => false,
     }
 }
 
 /// Whether the plan is that of a simple network.
-fn plan_works(plan: &Plan, count: usize) -> bool
+fn plan_works(plan: &Plan, count: usize, entries: usize) -> bool
     requires { IsPlan plan.now }
     ensures { result ≡ true
-        → IsSomeAnd plan.now.net (λ network. WorkedNetwork plan.now network (made_packets 1 count) 100) }
+        → IsSomeAnd plan.now.net (λ network. WorkedNetwork plan.now network (made_packets 1 count) 100 entries) }
 {
     match &plan.net {
-        Some(network) => network_works(plan, network, count),
+        Some(network) => network_works(plan, network, count, entries),
         None => false,
     }
 }
 
 /// Whether the network is a simple one.
-fn network_works(plan: &Plan, network: &NetPlan, count: usize) -> bool
+fn network_works(plan: &Plan, network: &NetPlan, count: usize, entries: usize) -> bool
     requires { IsPlan plan.now }
-    ensures { result ≡ true → WorkedNetwork plan.now network.now (made_packets 1 count) 100 }
+    ensures { result ≡ true → WorkedNetwork plan.now network.now (made_packets 1 count) 100 entries }
 {
     made_packets_are_a_stream();
     simple_networks_work();
-    match simple(plan, network, count) {
+    match simple(plan, network, count, entries) {
         Some(_) => true,
         None => false,
     }
 }
 
 /// The first two transmitters, where the network is a simple one.
-fn simple(plan: &Plan, network: &NetPlan, count: usize) -> Option<(Transmitter, Transmitter)>
-    ensures simple { IfSome result (λ ts. IsSimple plan.now network.now (made_packets 1 count) ts.0 ts.1) }
+fn simple(
+    plan: &Plan,
+    network: &NetPlan,
+    count: usize,
+    entries: usize,
+) -> Option<(Transmitter, Transmitter)>
+    ensures simple { IfSome result (λ ts. IsSimple plan.now network.now (made_packets 1 count) ts.0 ts.1 entries) }
     ensures most { IfSome result (λ ts. count ≤ 624000000) }
 {
     made_packets_are_a_stream();
@@ -119,7 +124,7 @@ fn simple(plan: &Plan, network: &NetPlan, count: usize) -> Option<(Transmitter, 
     }
     let first = given_all(plan, 0, &network.events.get(0), count)?;
     let second = given_all(plan, 1, &network.events.get(1), count)?;
-    if first.address == second.address || !receives(network, first.address) {
+    if first.address == second.address || !receives(network, first.address, entries) {
         return None;
     }
     Some((first, second))
@@ -149,15 +154,21 @@ fn given_all(plan: &Plan, who: usize, event: &Event, count: usize) -> Option<Tra
     }
 }
 
-/// Whether the symbols that are received, if any are, are those of the transmitter of this address, with little damage.
-fn receives(network: &NetPlan, address: u16) -> bool
-    ensures { result ≡ true → (receiver : ReceivePlan) → network.now.receive ≡ Some receiver
-        → (receiver.from ≡ address) × IsFew receiver.damage }
+/// Whether the transmitter of this address is received, with little damage of that many entries.
+fn receives(network: &NetPlan, address: u16, entries: usize) -> bool
+    ensures { result ≡ true → IsSomeAnd network.now.receive (IsLittle address entries) }
 {
     match &network.receive {
-        Some(receiver) => receiver.from == address && is_few(&receiver.damage),
-        None => true,
+        Some(receiver) => is_little(receiver, address, entries),
+        None => false,
     }
+}
+
+/// Whether what is received is of that transmitter, with little damage of that many entries.
+fn is_little(receiver: &ReceivePlan, address: u16, entries: usize) -> bool
+    ensures { result ≡ true → IsLittle address entries receiver.now }
+{
+    receiver.from == address && receiver.damage.len() == entries && is_few(&receiver.damage)
 }
 
 /// Whether there is no entry of damage, or one of at most 31 symbols, which ends in the first 212 segments.
@@ -173,7 +184,7 @@ fn is_few(damage: &Damages) -> bool
 
 #[test]
 fn two_transmitters_meet_every_premise_with_damage_and_without(rt: HostRuntime) {
-    for text in [WITHOUT_DAMAGE, WITH_DAMAGE] {
-        assert!(rt; works(rt.alloc(), text.as_bytes(), COUNT));
+    for (text, entries) in [(WITHOUT_DAMAGE, 0), (WITH_DAMAGE, 1)] {
+        assert!(rt; works(rt.alloc(), text.as_bytes(), COUNT, entries));
     }
 }
