@@ -1,5 +1,5 @@
 -- The packets that an exciter was given since it was new or reset, as their sync bytes and what they read as.
-use Rattle.std.specs.Prelude.{ℕ, Option, Some, None, option_map, Result, Ok, Err, List, map, drop}
+use Rattle.std.specs.Prelude.{ℕ, ◌%◌, Option, Some, None, option_map, Result, Ok, Err, List, length, map, drop}
 use Rattle.dtx_packets.specs.Packet.{sync_of}
 use Rattle.dtx_cadence.specs.Anchor.{anchor}
 use Rattle.dtx_ops.specs.declared.fields.Ops.{Ops}
@@ -29,6 +29,14 @@ anchor_of packets = anchor (syncs packets)
 -- the packets from the anchor on
 unfoldable pub under : List (List ℕ) → Option (List (List ℕ))
 under packets = option_map (λ a. drop a packets) (anchor_of packets)
+
+-- how many packets, from the anchor on, stand behind the last whole group of four
+abbrev pub part_of : Option (List (List ℕ)) → ℕ
+part_of None = 0
+part_of (Some packets) = length packets % 4
+
+unfoldable pub group_part : List (List ℕ) → ℕ
+group_part packets = part_of (under packets)
 
 -- the answer to the last packet
 unfoldable pub last_answer : ℕ → ℕ → List (List ℕ) → Told

@@ -1,10 +1,10 @@
 //! Laws of the definitions.
 
-ghost use Rattle.std.specs.Prelude.{◌≡◌, ℕ, ℤ, ◌+◌, ◌-◌, ◌%◌, ◌≤◌, ◌==◌, ◌&&◌, ◌∷◌, ◌++◌, true, false, Some};
+ghost use Rattle.std.specs.Prelude.{◌≡◌, ℕ, ℤ, ◌+◌, ◌-◌, ◌*◌, ◌%◌, ◌≤◌, ◌==◌, ◌&&◌, ◌∷◌, ◌++◌, true, false, Some};
 ghost use Rattle.std.specs.Prelude.{if◌then◌else◌, List, [], length, map, drop, slice_range};
 ghost use Rattle.dtx_ops.specs.declared.fields.Ops.{Ops};
 ghost use Rattle.dtx_exciter.specs.Order.{counting_order};
-ghost use Rattle.dtx_exciter.specs.Packets.{readings, under, last_answer};
+ghost use Rattle.dtx_exciter.specs.Packets.{readings, under, last_answer, group_part};
 ghost use Rattle.dtx_exciter.specs.Told.{is_sent};
 ghost use Rattle.dtx_exciter.specs.Emission.{was_sent, last_segments, emission};
 ghost use Rattle.dtx_exciter.specs.Lockstep.{IsFeed, IsStretch, stretch};
@@ -79,6 +79,15 @@ pub fn sent_packets_give()
         → (l : List (List ℕ)) × (under (packets ++ packet ∷ []) ≡ Some l)
         × (length (last_segments address delay (packets ++ packet ∷ []))
         ≡ (if was_sent address delay (readings l) (length l - 4) && ((length l - 4) % 312 == 0) then 5 else 4)) }
+{}
+
+/// A group ends at most every fourth packet, and gives at most five segments then: four packets are owed for each group
+/// that is sent, of which those behind the last whole group count.
+pub fn groups_are_spaced()
+    ensures spaced { (address delay : ℕ) (packets : List (List ℕ)) (packet : List ℕ)
+        → 4 * length (last_segments address delay (packets ++ packet ∷ [])) + 5 * group_part (packets ++ packet ∷ [])
+        ≤ 5 * (group_part packets + 1) }
+    ensures part { (packets : List (List ℕ)) → group_part packets ≤ 3 }
 {}
 
 /// What packets give stands whatever is given then, and the further packets' segments follow it one packet after

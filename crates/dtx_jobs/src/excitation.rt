@@ -1,5 +1,6 @@
 // An exciter that is given a feed, a piece of its packets at a time.
 ghost use Rattle.std.specs.Prelude.{◌≡◌, ◌+◌, ◌*◌, ◌/◌, ◌<◌, ◌≤◌, ◌++◌, ◌∷◌, [], ℕ, List, IfOk, length, map, take};
+ghost use Rattle.dtx_exciter.specs.Packets.{group_part};
 ghost use Rattle.dtx_packets.specs.Packets.{packets_of};
 ghost use Rattle.dtx_jobs.specs.Excitation.{IsLife, WasExcited};
 ghost use Rattle.dtx_jobs.specs.Life.{sent_bytes, logged_bytes};
@@ -11,14 +12,16 @@ use arrayvec::ArrayString;
 use dtx_coder::{AIR_SYMBOLS, Air};
 use dtx_engine::{Buffer, Engine, Shape};
 use dtx_exciter::Exciter;
+use dtx_exciter::laws::groups_are_spaced;
 use dtx_files::{LOG_LINE, write_line};
 use dtx_meaning::{Outcome, Status};
 use dtx_packets::{PIECE_PACKETS, Packet};
-use dtx_sizes::{MOST_PACKETS, PACKET, SEGMENT};
+use dtx_sizes::{GROUP_PACKETS, MOST_PACKETS, PACKET, SEGMENT};
 use std::alloc::{AllocError, Global};
 
-/// How many symbols an exciter sends for the packets of a piece at most.
-const SENT_BYTES: usize = AIR_SYMBOLS * PIECE_PACKETS;
+/// How many symbols an exciter sends for the packets of a piece at most: those of its whole groups, and of one that
+/// began before it; and room for one group more.
+const SENT_BYTES: usize = AIR_SYMBOLS * (PIECE_PACKETS / GROUP_PACKETS + 2);
 
 /// How many bytes their lines in the log have at most.
 const LOGGED_BYTES: usize = LOG_LINE * PIECE_PACKETS;
@@ -76,6 +79,7 @@ impl Excitation {
             → logged_bytes self.old.address self.old.delay (before ++ packets_of bytes.now)
             ≡ logged_bytes self.old.address self.old.delay before ++ self.new.lines }
     {
+        groups_are_spaced();
         let (packets, _) = bytes.as_chunks::<PACKET>();
         for i in 0..packets.len() {
             self.take(&Packet(packets[i]));
@@ -98,10 +102,13 @@ impl Excitation {
         ensures logged { (before : List (List ℕ)) (bytes : List ℕ) → IsLife self.old before
             → logged_bytes self.old.address self.old.delay before ≡ bytes ++ self.old.lines
             → logged_bytes self.old.address self.old.delay (before ++ packet.now.0 ∷ []) ≡ bytes ++ self.new.lines }
-        ensures more_symbols { length self.new.symbols ≤ length self.old.symbols + AIR_SYMBOLS }
+        ensures spaced { (before : List (List ℕ)) → IsLife self.old before
+            → 4 * length self.new.symbols + AIR_SYMBOLS * group_part (before ++ packet.now.0 ∷ [])
+            ≤ 4 * length self.old.symbols + AIR_SYMBOLS * (group_part before + 1) }
         ensures more_lines { length self.new.lines ≤ length self.old.lines + LOG_LINE }
         ensures packets { self.new.tally.packets ≡ self.old.tally.packets + 1 }
     {
+        groups_are_spaced();
         let told = self.exciter.take(packet, &mut self.air);
         let segments = self.air.segments;
         write_line(told, self.tally.segments, segments, &mut self.line);

@@ -53,17 +53,16 @@ push-requires c =
       ),
     )
 
-pub returns-clause-more_symbols : goal.returns-clause-more_symbols
-returns-clause-more_symbols c =
+pub returns-clause-spaced : goal.returns-clause-spaced
+returns-clause-spaced c = λ ps life.
     let old = c.args.self.now in
-    let some = c.requires.some in
-    let taken = c.take-told.ensures old.address old.delay some.0 some.1.exciter in
+    let taken = c.take-told.ensures old.address old.delay ps life.exciter in
     let count : ℕ = 832 * c.take-told.new.air.segments in
     let sent : List ℤ = take count c.take-told.new.air.symbols in
     omega (
       arith,
       taken.air.counted,
-      given_few old.address old.delay (some.0 ++ c.args.packet.now.0 ∷ []),
+      c.groups_are_spaced.ensures.spaced old.address old.delay ps c.args.packet.now.0,
       ap length c.push.ensures,
       length-append old.symbols (map byte_of_symbol sent),
       length-map sent byte_of_symbol,

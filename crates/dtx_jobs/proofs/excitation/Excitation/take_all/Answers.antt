@@ -1,6 +1,7 @@
 use Rattle.std.proofs.Common.{◌≡◌, ◌+◌, ◌/◌, ◌<◌, ◌++◌, ◌∷◌, ℕ, List, [], length, get_or, ap, ap₂, sym, subst, ◌∙◌}
 use Rattle.std.proofs.Common.{arith, append_assoc}
 use Rattle.std.proofs.lemmas.List.FromFn.{map-range_with_len_more}
+use Rattle.dtx_exciter.specs.Packets.{group_part}
 use Rattle.dtx_packets.specs.Chunks.{get_or-first_chunks}
 use Rattle.dtx_packets.specs.Packets.{packet_at, packets_from}
 use Rattle.dtx_jobs.specs.Excitation.{IsLife}
@@ -46,7 +47,14 @@ loop-i-preserved c =
           ∙ sym (ap (λ f. f (front ++ p ∷ [])) logs)
           ∙ c.take.ensures.logged front (logged_bytes old.address old.delay before) (so_far.life before is)
           (ap (λ f. f front) logs ∙ so_far.logged before is);
-      symbols = omega (arith, c.take.ensures.more_symbols, so_far.symbols);
+      symbols = λ before is.
+          let front = before ++ packets_from bytes 0 i in
+          omega (
+            arith,
+            c.take.ensures.spaced front (so_far.life before is),
+            so_far.symbols before is,
+            ap group_part (packet_on before bytes i p chunk),
+          );
       lines = omega (arith, c.take.ensures.more_lines, so_far.lines);
       packets = omega (arith, c.take.ensures.packets, so_far.packets);
     }

@@ -1,4 +1,5 @@
 use Rattle.std.proofs.Common.{◌≡◌, ◌≤◌, ◌+◌, ◌*◌, ◌++◌, ℕ, List, length}
+use Rattle.dtx_exciter.specs.Packets.{group_part}
 use Rattle.dtx_packets.specs.Packets.{packets_from}
 use Rattle.dtx_jobs.specs.Excitation.{IsLife}
 use Rattle.dtx_jobs.specs.Life.{sent_bytes, logged_bytes}
@@ -15,7 +16,9 @@ invariant-loop-i l = record {
   logged : (before : List (List ℕ)) → IsLife l.fn.self before
       → logged_bytes l.fn.self.address l.fn.self.delay (before ++ packets_from l.bytes 0 l.i)
       ≡ logged_bytes l.fn.self.address l.fn.self.delay before ++ l.self.lines;
-  symbols : length l.self.symbols ≤ 4160 * l.i;
+  symbols : (before : List (List ℕ)) → IsLife l.fn.self before
+      → 4 * length l.self.symbols + 4160 * group_part (before ++ packets_from l.bytes 0 l.i)
+      ≤ 4160 * (group_part before + l.i);
   lines : length l.self.lines ≤ 64 * l.i;
   packets : l.self.tally.packets ≡ l.fn.self.tally.packets + l.i;
 }
