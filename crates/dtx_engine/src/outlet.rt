@@ -8,7 +8,7 @@ ghost use Rattle.dtx_engine.specs.Made.{Made, both, joined, only, outputs_of};
 ghost use Rattle.dtx_engine.specs.Outlet.{IsAllPut, IsFaultAlone, IsPut};
 
 use dtx_meaning::Status;
-use dtx_outside::{Output, Shelf};
+use dtx_outside::{Output, PIECE, Shelf};
 use std::alloc::{AllocError, Global};
 
 /// The outputs of a command, which are written side by side.
@@ -60,7 +60,7 @@ pub trait Outlet {
 #[derive(Drop)]
 pub struct One<'a> {
     name: &'a str,
-    output: Output,
+    output: Output<PIECE>,
 }
 
 impl<'a> One<'a> {
@@ -113,18 +113,21 @@ impl<'a> Outlet for One<'a> {
     ghost part = { λ w start made now is. part_of_one w.name.now start made w.output now is };
 }
 
+/// How many bytes are gathered for each of two outputs: few, since a large piece goes to its file at once.
+const GATHERED: usize = 16_384;
+
 /// Two outputs of two names.
 #[derive(Drop)]
 pub struct Two<'a> {
     first: &'a str,
     second: &'a str,
-    first_output: Output,
-    second_output: Output,
+    first_output: Output<GATHERED>,
+    second_output: Output<GATHERED>,
 }
 
 impl<'a> Two<'a> {
-    /// The outputs of these names, of which nothing was given. It takes the memory of two pieces. (Match its answer:
-    /// `?` gets no proof here.)
+    /// The outputs of these names, of which nothing was given. Little memory is taken. (Match its answer: `?` gets no
+    /// proof here.)
     pub fn new(alloc: Global, first: &'a str, second: &'a str) -> Result<Two<'a>, AllocError>
         requires { first.now ≢ second.now }
         ensures { IfOk result (λ w. ⟦<Two<'a> as Outlet>⟧.fresh w

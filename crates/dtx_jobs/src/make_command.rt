@@ -13,7 +13,7 @@ ghost use Rattle.dtx_jobs.specs.OfWords.{IsOfWords, make_same, numbers_same};
 
 use dtx_make::packet;
 use dtx_meaning::{Outcome, Status, ended};
-use dtx_outside::{Output, Shelf, Word, WriteNo};
+use dtx_outside::{Output, PIECE, Shelf, Word, WriteNo};
 use dtx_sizes::MOST_PACKETS;
 use dtx_words::number_up_to;
 use std::alloc::Global;
@@ -86,7 +86,7 @@ fn fill_file<S: Shelf>(
     seed: u64,
     count: u64,
     output: &str,
-    made: &mut Output,
+    made: &mut Output<PIECE>,
     shelf: &mut S,
 ) -> Outcome
     requires { made.old ≡ [] }
@@ -111,7 +111,7 @@ fn write_made<S: Shelf>(
     seed: u64,
     count: u64,
     output: &str,
-    made: &mut Output,
+    made: &mut Output<PIECE>,
     shelf: &mut S,
 ) -> Result<(), WriteNo>
     requires { made.old ≡ [] }
