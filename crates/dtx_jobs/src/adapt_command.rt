@@ -15,9 +15,8 @@ ghost use Rattle.dtx_jobs.specs.PlanFile.{under_plan};
 ghost use Rattle.dtx_jobs.specs.Shapes as shapes;
 
 use crate::feeder::Feeder;
-use crate::one_output::carry_to_one;
 use crate::plan_file::plan_in;
-use dtx_engine::Input;
+use dtx_engine::{Input, carry_to_one};
 use dtx_meaning::{Outcome, Status, ended};
 use dtx_outside::{Shelf, Word};
 use dtx_plan::Plan;

@@ -14,9 +14,8 @@ ghost use Rattle.dtx_jobs.specs.PlanFile.{under_changes};
 ghost use Rattle.dtx_jobs.specs.Shapes as shapes;
 
 use crate::laying::Laying;
-use crate::one_output::carry_to_one;
 use crate::plan_file::changes_in;
-use dtx_engine::Input;
+use dtx_engine::{Input, carry_to_one};
 use dtx_meaning::{Outcome, Status, ended};
 use dtx_outside::{Shelf, Word};
 use dtx_words::repeated_name;

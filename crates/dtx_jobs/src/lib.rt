@@ -12,7 +12,6 @@ pub mod laws;
 mod laying;
 mod life_tally;
 mod make_command;
-mod one_output;
 #[cfg(test)]
 mod one_output_tests;
 mod packet_bytes;
@@ -39,7 +38,6 @@ pub use excite_command::excite;
 pub use feeder::Feeder;
 pub use hurt_command::hurt;
 pub use make_command::make;
-pub use one_output::carry_to_one;
 pub use past_end::first_past;
 pub use place_command::place;
 pub use plan_file::plan_in;

@@ -14,8 +14,8 @@ ghost use Rattle.dtx_plan.specs.Sound.{AreDamages};
 ghost use Rattle.dtx_words.specs.NetworkNames.{received_name, symbol_name};
 ghost use Rattle.dtx_top.specs.NetMeaning.{received_past};
 
-use dtx_engine::Input;
-use dtx_jobs::{Damaged, Reception, carry_to_one, first_past};
+use dtx_engine::{Input, carry_to_one};
+use dtx_jobs::{Damaged, Reception, first_past};
 use dtx_meaning::{Outcome, Status, ended};
 use dtx_outside::Shelf;
 use dtx_plan::ReceivePlan;

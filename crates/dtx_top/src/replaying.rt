@@ -20,8 +20,8 @@ ghost use Rattle.dtx_top.specs.Replaying.{HasNumbers, IsFeedWritten};
 
 use crate::of_bytes::OfBytes;
 use crate::reception::receive_sent;
-use dtx_engine::Input;
-use dtx_jobs::{Feeder, carry_to_one};
+use dtx_engine::{Input, carry_to_one};
+use dtx_jobs::Feeder;
 use dtx_meaning::{Outcome, Status, ended};
 use dtx_outside::Shelf;
 use dtx_plan::{NetPlan, Plan};
