@@ -12,13 +12,9 @@ pub mod laws;
 mod laying;
 mod life_tally;
 mod make_command;
-#[cfg(test)]
-mod one_output_tests;
 mod packet_bytes;
 mod past_end;
 mod place_command;
-#[cfg(test)]
-mod place_tests;
 mod placing;
 mod plan_file;
 mod receive_command;
@@ -27,8 +23,6 @@ mod shapes;
 mod stream_coder;
 mod symbol_buffer;
 pub mod symbol_laws;
-#[cfg(test)]
-mod symbol_tests;
 mod tally;
 
 pub use adapt_command::adapt;

@@ -130,6 +130,12 @@ mod adapt_tests;
 #[cfg(test)]
 mod excite_tests;
 #[cfg(test)]
+mod failing_tests;
+#[cfg(test)]
 mod net_tests;
+#[cfg(test)]
+mod place_tests;
+#[cfg(test)]
+mod row_tests;
 #[cfg(test)]
 mod tests;
