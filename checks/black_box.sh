@@ -79,7 +79,6 @@ fills_up() {
     local size=$1 whole=$2 out=${!#}
     shift 2
     (
-        trap '' XFSZ
         ulimit -f "$size"
         "$dtx" "$@" >"$room/said" 2>"$room/complaint"
     )
@@ -184,7 +183,8 @@ plan=../inputs/plan.toml
 
 # ---- The cases, subject by subject ----
 
-for part in adapt plans make code receive excite hurt place net names overlaps words refused_streams refused_files forbidden_files; do
+for part in adapt plans make code receive excite hurt place net names overlaps words refused_streams refused_files forbidden_files \
+    host_faults progress; do
     . "$top/checks/black_box/$part.sh"
 done
 

@@ -37,6 +37,14 @@ if [[ $("${program[@]}" 2>/dev/null) == "$usage" ]]; then
     are_empty tx-7.sym
     leaves s.ts plan.toml net.feed tx-7.sym tx-7.log
 
+    start 'a network in a folder that may not be written'
+    stream 60 s.ts
+    { network s.ts && send 7 0 60; } >plan.toml
+    chmod 555 .
+    run 12 'write fault' net plan.toml
+    leaves s.ts plan.toml
+    chmod 755 .
+
     start 'changes that may not be read'
     chmod 777 .
     : >changes.toml

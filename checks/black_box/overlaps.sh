@@ -77,5 +77,21 @@ for name in net.feed tx-7.sym tx-7.log tx-9.sym tx-9.log net.ts; do
     overlaps s.ts net plan.toml
 done
 
+start 'a link to an input in the place of the last files of a large network'
+cp ../inputs/given.ts s.ts
+{
+    printf 'start = 0\nmax_delay = 5000000\n'
+    printf '[[transmitter]]\naddress = %s\noffset = 0\ndelay = 0\n' {1..35}
+    printf '[net]\nstream = "s.ts"\n'
+    send 35 0 624
+} >plan.toml
+for name in tx-1.log tx-35.sym tx-35.log; do
+    ln -s s.ts "$name"
+    overlaps s.ts net plan.toml
+    ln -sf tx-1.sym "$name"
+    overlaps s.ts net plan.toml
+    rm tx-* net.feed
+done
+
 start 'a device that is read and written is no file that is lost'
 run 0 'packets 0 segments 0 loose 0' code /dev/null /dev/full

@@ -135,7 +135,6 @@ leaves out.log out.sym
 
 start 'symbols of an exciter that fill up their output in mid-stream'
 (
-    trap '' XFSZ
     ulimit -f 600
     "$dtx" excite "$room/feed.ts" 7 1000 out.sym out.log >"$room/said" 2>"$room/complaint"
 )

@@ -1,11 +1,12 @@
 // The program `dtx`: it collects its words, and hands the host's files and standard output to `run`.
 #![tactic(auto)]
 
-use dtx_outside::{HostShelf, HostSink, Word};
+use dtx_outside::{HostShelf, HostSink, Progress, Word};
 use dtx_top::{Status, run};
-use std::io::ErrorKind;
+use std::fs::File;
+use std::io::{ErrorKind, IsTerminal};
 use std::process::ExitCode;
-use std::rt::Env;
+use std::rt::{Env, Files};
 use std::{env, io};
 
 /// What standard error says where an output was not begun, so that no input is lost.
@@ -13,11 +14,14 @@ const OVERLAP: &str =
     "dtx: an output is a file that is read, or another output, under another name";
 
 fn main(rt: HostRuntime) -> ExitCode {
+    let _standing = stand_in(&rt);
     match words(&rt) {
         Ok(words) => {
-            let mut shelf = HostShelf::new(&rt);
-            let mut out = HostSink::new(&rt);
+            let progress = Progress::new(&rt, rt.stderr().is_terminal());
+            let mut shelf = HostShelf::new(&rt, &progress);
+            let mut out = HostSink::new(&rt, &progress);
             let status = run(rt.alloc(), &words, &mut shelf, &mut out);
+            progress.wipe(&rt);
             if shelf.overlap() {
                 let _ = eprintln!(rt; "{OVERLAP}");
             }
@@ -26,6 +30,16 @@ fn main(rt: HostRuntime) -> ExitCode {
         Err(e) if e.kind() == ErrorKind::OutOfMemory => ExitCode::from(Status::Memory.code()),
         Err(_) => ExitCode::FAILURE,
     }
+}
+
+/// Opens what stands in for standard streams that are closed, so that no file of a command takes their places: printing
+/// to such a one fails, and writes into no file.
+fn stand_in<R: Files>(rt: &R) -> [io::Result<R::File>; 3] {
+    [
+        File::open(rt, "/dev/null"),
+        File::open(rt, "/dev/null"),
+        File::open(rt, "/dev/null"),
+    ]
 }
 
 /// The words after the program's name.

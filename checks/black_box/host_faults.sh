@@ -1,0 +1,179 @@
+# What the host does to files, devices and standard streams while the program runs.
+
+# is_said STATUS LINE ENDED: a run that ended so was to end with the status, and to print just that line.
+is_said() {
+    ended "$1" "$3"
+    [[ $(cat "$room/said") == "$2" ]] || wrong "printed '$(cat -v "$room/said")', not '$2'"
+}
+
+# is_front FILE WHOLE: the file is a front part of the whole one, and not empty.
+is_front() {
+    [[ -s $1 ]] || wrong "${1##*/} is empty"
+    head -c "$(stat -c %s "$1")" "$2" | cmp -s - "$1" || wrong "${1##*/} is no front part of ${2##*/}"
+}
+
+# meanwhile DO OUT WORD..: runs the program, given the words, of which OUT names an output, which is a pipe here. Once the
+# first byte has come through it, when more was read and the rest of it waits, does DO, and then takes the rest.
+meanwhile() {
+    local do=$1 out=$2 run
+    shift 2
+    mkfifo "$out"
+    exec 8<>"$out"
+    timeout 60 "$dtx" "$@" >"$room/said" 2>"$room/complaint" 8>&- &
+    run=$!
+    exec 9<"$out"
+    timeout 30 dd bs=1 count=1 status=none <&9 >"$room/piped"
+    exec 8>&-
+    eval "$do"
+    timeout 60 cat <&9 >>"$room/piped"
+    exec 9<&-
+    wait "$run"
+}
+
+# ---- Files that others change meanwhile ----
+given 625 0
+
+start 'an output that is a pipe'
+meanwhile : out.sym code ../inputs/long.ts out.sym
+is_said 0 'packets 3000 segments 3010 loose 0' $?
+cmp -s "$room/piped" "$room/long.sym" || wrong 'other symbols came through the pipe'
+leaves out.sym
+
+start 'an output that is a pipe which is read no more'
+meanwhile 'exec 9</dev/null' out.sym code ../inputs/long.ts out.sym
+is_said 12 'write fault' $?
+
+while IFS=: read -r shows do; do
+    start "an input that is $shows while it is read"
+    cp ../inputs/long.ts in.ts
+    meanwhile "$do" out.sym code in.ts out.sym
+    is_said 11 'read fault' $?
+    is_front "$room/piped" "$room/long.sym"
+done <<'end'
+lost:rm in.ts
+emptied:truncate -s 0 in.ts
+cut to fewer bytes than were read:truncate -s 1000 in.ts
+replaced by another file:cp in.ts other.ts; mv other.ts in.ts
+replaced by a folder:rm in.ts; mkdir in.ts
+end
+
+while IFS=: read -r shows do; do
+    start "an output that is $shows while it is written"
+    meanwhile "$do" out.sym excite "$room/feed.ts" 7 1000 out.sym out.log
+    is_said 12 'write fault' $?
+    is_front "$room/piped" "$room/from_order.sym"
+done <<'end'
+lost:rm out.log
+cut or written by another:echo more >>out.log
+replaced by another file:cp out.log other.log; mv other.log out.log
+replaced by a link to an input:ln -sf ../inputs/given.ts out.log
+end
+
+# ---- Inputs and outputs that are no files ----
+
+start 'an input that is a pipe that no one writes'
+mkfifo in.ts
+program=(timeout 20 "$dtx")
+run 11 'read fault' code in.ts out.sym
+run 11 'read fault' adapt "$plan" in.ts out.ts
+run 11 'read fault' adapt in.ts ../inputs/given.ts out.ts
+run 11 'read fault' hurt ../inputs/given.ts in.ts out.ts
+run 11 'read fault' net in.ts
+leaves in.ts
+
+start 'an input that is a pipe that another program writes'
+run 11 'read fault' code /dev/stdin out.sym < <(cat ../inputs/given.ts)
+leaves_nothing
+
+start 'a socket as an input and as an output'
+python3 -c 'import socket; socket.socket(socket.AF_UNIX).bind("socket")'
+run 11 'read fault' code socket out.sym
+run 12 'write fault' code ../inputs/given.ts socket
+leaves socket
+
+start 'a terminal as an input'
+program=(timeout 20 python3 "$top/checks/black_box/terminal.py" shown '' 1 "$dtx")
+run 11 'read fault' code TERMINAL out.sym
+leaves shown
+program=("$dtx")
+
+# ---- Names ----
+
+start 'the longest name that the host takes, and longer ones'
+printf -v before '%.0s./' {1..2045}
+cp ../inputs/given.ts in.ts
+run 0 'packets 625 segments 626 loose 0' code "${before}in.ts" out.sym
+run 4 "absent ${before}no.ts" code "${before}no.ts" out.sym
+run 11 'read fault' code "${before}in.ts/" out.sym
+run 12 'write fault' code in.ts "${before}out.ts"
+printf -v long_name '%0256d' 0
+run 11 'read fault' code "$long_name" out.sym
+run 12 'write fault' code in.ts "$long_name"
+leaves in.ts out.sym
+
+# ---- Full disks ----
+
+# on_small_disk WORD..: runs the program, given the words, in a folder `disk` that is a file system of 400 kB, and copies
+# what stands there then to `kept`. The status is 99 where nothing can be mounted.
+on_small_disk() {
+    mkdir disk
+    unshare --mount "${as_root[@]}" bash -c '
+        mount -t tmpfs -o size=400k none disk || exit 99
+        (cd disk && "${@:2}" >"$1/said" 2>"$1/complaint")
+        status=$?
+        cp -r disk kept
+        exit $status' small_disk "$room" "$dtx" "$@" 2>"$room/mounting"
+}
+
+as_root=()
+((EUID == 0)) || as_root=(--map-root-user)
+start 'a disk that fills up in the middle'
+on_small_disk code ../../inputs/long.ts out.sym
+status=$?
+if ((status == 99)) || [[ ! -d kept ]]; then
+    echo 'black box: the cases of a small disk were left out, since none can be mounted here'
+else
+    is_said 12 'write fault' $status
+    is_front kept/out.sym "$room/long.sym"
+
+    start 'a disk that fills up in the middle of a network'
+    stream 1300 s.ts
+    { network s.ts && send 7 0 1300 && send 9 0 1300; } >plan.toml
+    run 0 'feed 1300 filled 4 steps 2600' net plan.toml
+    mkdir whole
+    mv net.feed tx-* whole
+    sed -i 's|"s.ts"|"../s.ts"|' plan.toml
+    on_small_disk net ../plan.toml
+    is_said 12 'write fault' $?
+    for name in net.feed tx-7.sym; do
+        is_front kept/$name whole/$name
+    done
+fi
+
+# ---- Standard streams ----
+
+start 'a standard output that is a pipe that no one reads'
+mkfifo pipe
+exec 8<>pipe 9>pipe 8>&-
+"$dtx" code ../inputs/given.ts out.sym >&9 2>"$room/complaint"
+ended 12 $?
+exec 9>&-
+coded_front 625
+leaves pipe out.sym
+
+start 'closed standard streams'
+"$dtx" code ../inputs/given.ts out.sym <&- >&- 2>&-
+[[ $? == 12 ]] || wrong 'the status is not 12'
+coded_front 625
+"$dtx" code missing.ts other.sym <&- >&- 2>&-
+[[ $? == 4 ]] || wrong 'the status is not 4'
+leaves out.sym
+
+start 'closed standard streams, and an output that is a pipe'
+mkfifo out.sym
+cat out.sym >"$room/piped" &
+timeout 20 "$dtx" code ../inputs/given.ts out.sym <&- >&- 2>&-
+[[ $? == 12 ]] || wrong 'the status is not 12'
+wait
+(($(stat -c %s "$room/piped") == 626 * 832)) || wrong 'other bytes came through the pipe'
+is_front "$room/piped" "$room/long.sym"

@@ -1,0 +1,167 @@
+// The file system, through the runtime that `main` is given: what each call of the shelf does there.
+ghost use Rattle.std.specs.Prelude.{◌≤◌, IfOk, length};
+
+use crate::files_met::FilesMet;
+use crate::pipes::Pipes;
+use crate::{Progress, ReadNo, WriteNo};
+use std::fs::{File, OpenFile, OpenOptions};
+use std::io::{ErrorKind, Read, Seek, SeekFrom, Write};
+use std::os::unix::fs::FileTypeExt;
+use std::rt::Files;
+use std::time::Clock;
+use std::{fs, io};
+
+/// The files that the runtime reaches, and those of them that were met.
+#[derive(Drop)]
+pub(crate) struct HostFiles<'a, R: Files> {
+    rt: &'a R,
+    progress: &'a Progress,
+    met: FilesMet,
+    pipes: Pipes<R::File>,
+    overlap: bool,
+}
+
+impl<'a, R: Files + AllocGlobal + Clock + Eprint> HostFiles<'a, R> {
+    pub(crate) fn new(rt: &'a R, progress: &'a Progress) -> HostFiles<'a, R> {
+        HostFiles {
+            rt,
+            progress,
+            met: FilesMet::new(rt.alloc()),
+            pipes: Pipes::new(rt.alloc()),
+            overlap: false,
+        }
+    }
+
+    /// Whether a file was not begun because it was read or begun before, under this name or another.
+    pub(crate) fn overlap(&self) -> bool {
+        self.overlap
+    }
+
+    /// Reads by one call of the system. A pipe is refused by its name, since opening it may wait, and what else has no
+    /// places by the first `seek`.
+    pub(crate) fn read(&mut self, name: &str, place: u64, into: &mut [u8]) -> Result<usize, ReadNo>
+        ensures { IfOk result (λ n. n ≤ length into.new) }
+    {
+        if place == 0 && is_pipe(self.rt, name) {
+            return Err(ReadNo::Failed);
+        }
+        let mut file = match File::open(self.rt, name) {
+            Ok(file) => file,
+            Err(e) => return Err(open_refusal(&e, place)),
+        };
+        let found = match file.metadata() {
+            Ok(found) => found,
+            Err(e) => return Err(read_refusal(&e)),
+        };
+        self.met.note_read(&found, place)?;
+        let n = read_at(&mut file, place, into)?;
+        let read_to = place.saturating_add(n as u64);
+        self.progress.note(self.rt, n as u64, read_to, found.len());
+        Ok(n)
+    }
+
+    /// Opens the file, which it makes where it isn't there, and only where it is none that was met takes away what it
+    /// holds. From there on every failure is one of writing, since the file may have been made.
+    pub(crate) fn begin(&mut self, name: &str) -> Result<(), WriteNo> {
+        self.met.make_room()?;
+        let file = match OpenOptions::new()
+            .write(true)
+            .create(true)
+            .open(self.rt, name)
+        {
+            Ok(file) => file,
+            Err(e) => return Err(write_refusal(&e)),
+        };
+        match self.take(file) {
+            Ok(()) => Ok(()),
+            Err(_) => Err(WriteNo::Failed),
+        }
+    }
+
+    /// Takes an open file as one that is begun.
+    fn take(&mut self, file: R::File) -> io::Result<()> {
+        let found = file.metadata()?;
+        if self.met.would_lose(&found) {
+            self.overlap = true;
+            return Err(io::Error::from(ErrorKind::AlreadyExists));
+        }
+        if found.is_file() {
+            file.set_len(0)?;
+        }
+        if self.met.note_begun(&found).is_err() {
+            return Err(io::Error::from(ErrorKind::OutOfMemory));
+        }
+        if found.file_type().is_fifo() {
+            self.pipes.hold(&found, file)?;
+        }
+        Ok(())
+    }
+
+    /// Adds the bytes to a file that was begun, and to no other.
+    pub(crate) fn append(&mut self, name: &str, bytes: &[u8]) -> Result<(), WriteNo> {
+        if let Some(pipe) = self.pipes.named(self.rt, name) {
+            return add(pipe, bytes);
+        }
+        let mut file = match OpenOptions::new().append(true).open(self.rt, name) {
+            Ok(file) => file,
+            Err(e) => return Err(write_refusal(&e)),
+        };
+        let Ok(found) = file.metadata() else {
+            return Err(WriteNo::Failed);
+        };
+        self.met.note_added(&found, bytes.len() as u64)?;
+        add(&mut file, bytes)
+    }
+}
+
+fn is_pipe<R: Files>(rt: &R, name: &str) -> bool {
+    match fs::metadata(rt, name) {
+        Ok(found) => found.file_type().is_fifo(),
+        Err(_) => false,
+    }
+}
+
+fn read_at<F: Read + Seek>(file: &mut F, place: u64, into: &mut [u8]) -> Result<usize, ReadNo>
+    ensures { IfOk result (λ n. n ≤ length into.new) }
+{
+    if let Err(e) = file.seek(SeekFrom::Start(place)) {
+        return Err(read_refusal(&e));
+    }
+    match file.read(into) {
+        Ok(n) => Ok(n),
+        Err(e) => Err(read_refusal(&e)),
+    }
+}
+
+/// A part may have been written when this fails: it never counts as want of memory, which leaves all as it was.
+fn add<F: Write>(file: &mut F, bytes: &[u8]) -> Result<(), WriteNo> {
+    match file.write_all(bytes) {
+        Ok(()) => Ok(()),
+        Err(_) => Err(WriteNo::Failed),
+    }
+}
+
+/// A file that is not there is absent, but where earlier bytes of it were read it is one that was lost meanwhile.
+fn open_refusal(e: &io::Error, place: u64) -> ReadNo {
+    if e.kind() == ErrorKind::NotFound && place == 0 {
+        ReadNo::Absent
+    } else {
+        read_refusal(e)
+    }
+}
+
+fn read_refusal(e: &io::Error) -> ReadNo {
+    if e.kind() == ErrorKind::OutOfMemory {
+        ReadNo::Memory
+    } else {
+        ReadNo::Failed
+    }
+}
+
+fn write_refusal(e: &io::Error) -> WriteNo {
+    if e.kind() == ErrorKind::OutOfMemory {
+        WriteNo::Memory
+    } else {
+        WriteNo::Failed
+    }
+}

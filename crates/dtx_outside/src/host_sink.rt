@@ -1,0 +1,81 @@
+// The standard output, through the runtime that `main` is given. It tells no content.
+ghost use Rattle.std.specs.Prelude.{◌≡◌, ◌<◌, ◌≤◌, None, Ok, IfOk, length};
+ghost use Rattle.dtx_outside.specs.Sink.{faults_printed, IsCounted, IsPrinted};
+
+use crate::{Progress, Sink, SinkNo};
+use std::io::ErrorKind;
+use std::marker::Model;
+
+/// The standard output. What is printed comes behind no line of progress: that is wiped before.
+#[derive(Drop)]
+pub struct HostSink<'a, R: Print + Eprint> {
+    rt: &'a R,
+    progress: &'a Progress,
+    faults: u64,
+}
+
+impl<'a, R: Print + Eprint> Model for HostSink<'a, R> {
+    ghost use Rattle.std.specs.Prelude.{ℕ};
+
+    ghost Value = { ℕ };
+
+    ghost view = { λ s. s.faults };
+}
+
+impl<'a, R: Print + Eprint> HostSink<'a, R> {
+    /// The standard output that the runtime reaches, with no fault counted yet.
+    pub fn new(rt: &'a R, progress: &'a Progress) -> HostSink<'a, R>
+        ensures { result ≡ 0 }
+    {
+        HostSink {
+            rt,
+            progress,
+            faults: 0,
+        }
+    }
+}
+
+impl<R: Print + Eprint> Sink for HostSink<'_, R> {
+    ghost written = { λ _. None };
+
+    ghost faults = { λ s. s };
+
+    fn write(&mut self, bytes: &[u8]) -> Result<usize, SinkNo>
+
+        // The trait's clauses on what was taken, and on the count.
+        ensures bound { IfOk result (λ n. n ≤ length bytes.now) }
+        ensures some { IfOk result (λ n. 0 < length bytes.now → 0 < n) }
+        ensures empty { length bytes.now ≡ 0 → result ≡ Ok 0 }
+        ensures bytes { IsPrinted bytes.now None result None }
+        ensures gone { IsCounted self.old result self.new }
+
+        // It counts what it answers, and nothing else.
+        ensures counted { self.new ≡ faults_printed result self.old }
+    {
+        if bytes.is_empty() {
+            return Ok(0);
+        }
+        self.progress.wipe(self.rt);
+        match self.rt.write_some(bytes) {
+            Ok(n) if n > 0 => Ok(n),
+            Err(e) if e.kind() == ErrorKind::OutOfMemory => Err(SinkNo::Memory),
+            Ok(_) | Err(_) => {
+                self.faults = self.faults.saturating_add(1);
+                Err(SinkNo::Failed)
+            }
+        }
+    }
+}
+
+#[cfg(test)]
+mod tests {
+    use super::*;
+
+    #[test]
+    fn bytes_are_printed(rt: HostRuntime) {
+        let progress = Progress::new(&rt, false);
+        let mut sink = HostSink::new(&rt, &progress);
+        assert_eq!(rt; sink.write(b"printed\n"), Ok(8));
+        assert_eq!(rt; sink.faults, 0);
+    }
+}
