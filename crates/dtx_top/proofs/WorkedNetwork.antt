@@ -202,7 +202,7 @@ worked laws plan network stream a b entries p u s = record {
     given_back : (receiver : ReceivePlan) → IsLittle a.address entries receiver
         → IsGivenBack plan network stream one.0.k entries receiver
     given_back receiver little = record {
-      entries = little.entries;
+      many = little.many;
       slight = slight receiver little;
       all_back = ((laws.headline plan stream network.events p u).follows one.0).gives_all_back
           (file.file_segments (damaged_file plan network stream receiver))

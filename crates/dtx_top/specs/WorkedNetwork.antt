@@ -29,7 +29,7 @@ use Rattle.dtx_top.specs.Networks.{damaged_file}
 -- them, which is slight, and all its packets are given back.
 pub record IsGivenBack (plan : Plan) (network : NetPlan) (stream : List (List ℕ)) (k entries : ℕ)
     (receiver : ReceivePlan) : Type 0 where
-  pub entries : length receiver.damage ≡ entries
+  pub many : length receiver.damage ≡ entries
   pub slight : IsReceivedAlone (feed plan stream) k (length stream)
       (file_segments (damaged_file plan network stream receiver))
   pub all_back : IsAllBack (feed plan stream) k (next_field k)
@@ -74,7 +74,7 @@ IsFew damage = ⊥
 pub record IsLittle (address entries : ℕ) (receiver : ReceivePlan) : Type 0 where
   pub from : receiver.from ≡ address
   pub few : IsFew receiver.damage
-  pub entries : length receiver.damage ≡ entries
+  pub many : length receiver.damage ≡ entries
 
 -- What is asked of its plan and its stream: each of the first two transmitters is in time and is given the whole feed
 -- at once, and nothing else; the group from packet 100 on holds an operations packet, and 60 packets or more come
