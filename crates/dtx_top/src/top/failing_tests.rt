@@ -188,35 +188,35 @@ fn half_of_the_output_stands_before_the_last_read(rt: HostRuntime) -> Result<(),
     Ok(())
 }
 
-/// Two plans: one transmitter is given the feed in two parts, and the other one between them.
-const IN_TURN: [(&str, &str); 2] = [("7", "9"), ("9", "7")];
+/// The head of a plan of two transmitters.
+const HEAD: &str = "start = 0\nmax_delay = 5000000\n\
+[[transmitter]]\naddress = 7\noffset = -10\ndelay = 1000\n\
+[[transmitter]]\naddress = 9\noffset = 25\ndelay = 2000\n\
+[net]\nstream = \"s.ts\"\n";
 
-/// The plan in which the transmitter at the first address is given the feed in two parts.
-fn plan_in_turn(rt: &HostRuntime, first: &str, second: &str) -> Result<String, Fail> {
-    let mut text = String::from_str(
-        rt.alloc(),
-        "start = 0\nmax_delay = 5000000\n\
-        [[transmitter]]\naddress = 7\noffset = -10\ndelay = 1000\n\
-        [[transmitter]]\naddress = 9\noffset = 25\ndelay = 2000\n\
-        [net]\nstream = \"s.ts\"\n",
-    )?;
-    for (to, from, count) in [
-        (first, "0", "300"),
-        (second, "0", "1300"),
-        (first, "300", "1000"),
-    ] {
-        for part in [
-            "[[net.event]]\ndo = \"send\"\nto = ",
-            to,
-            "\nfrom = ",
-            from,
-            "\ncount = ",
-            count,
-            "\n",
-        ] {
-            text.push_str(part)?;
-        }
-    }
+/// The address of a transmitter that is given the feed in two parts, that of the other one, which is given it whole
+/// between them, and these events.
+const IN_TURN: [(&str, &str, &str); 2] = [
+    (
+        "7",
+        "9",
+        "[[net.event]]\ndo = \"send\"\nto = 7\nfrom = 0\ncount = 300\n\
+        [[net.event]]\ndo = \"send\"\nto = 9\nfrom = 0\ncount = 1300\n\
+        [[net.event]]\ndo = \"send\"\nto = 7\nfrom = 300\ncount = 1000\n",
+    ),
+    (
+        "9",
+        "7",
+        "[[net.event]]\ndo = \"send\"\nto = 9\nfrom = 0\ncount = 300\n\
+        [[net.event]]\ndo = \"send\"\nto = 7\nfrom = 0\ncount = 1300\n\
+        [[net.event]]\ndo = \"send\"\nto = 9\nfrom = 300\ncount = 1000\n",
+    ),
+];
+
+/// The plan with these events.
+fn plan_of(rt: &HostRuntime, events: &str) -> Result<String, Fail> {
+    let mut text = String::from_str(rt.alloc(), HEAD)?;
+    text.push_str(events)?;
     Ok(text)
 }
 
@@ -233,9 +233,9 @@ fn names(address: &str) -> (&'static str, &'static str) {
 /// files of the other one are whole, and its symbols stand but for some of the last.
 #[test]
 fn a_network_breaks_off_at_one_step_for_all(rt: HostRuntime) -> Result<(), Fail> {
-    for (first, second) in IN_TURN {
+    for (first, second, events) in IN_TURN {
         let mut whole = Desk::new(&rt);
-        whole.put("p", plan_in_turn(&rt, first, second)?.as_bytes())?;
+        whole.put("p", plan_of(&rt, events)?.as_bytes())?;
         whole.run(&["make", "1", "1300", "s.ts"])?;
         let made = whole.calls(Call::Append);
         whole.run(&["net", "p"])?;
