@@ -15,8 +15,7 @@ use Rattle.dtx_outside.specs.declared.shelf.WriteNo.{WriteNo}
 use Rattle.dtx_plan.specs.declared.transmitter.Transmitter.{Transmitter}
 use Rattle.dtx_words.specs.NetworkNames.{symbol_name, log_name}
 use Rattle.dtx_schedule.specs.TransmitterFiles.{files_of, log_file, nothing, played, played_outputs}
-use Rattle.dtx_schedule.proofs.Elsewhere.{no_log_file, no_symbol_file}
-use Rattle.dtx_schedule.specs.FilesLaws.{contents_same}
+use Rattle.dtx_schedule.specs.FilesLaws.{contents_same, no_log_file, no_symbol_file}
 
 -- the outputs of the first n transmitters, with nothing in them
 abbrev pub first_empty : List Transmitter → ℕ → Outputs

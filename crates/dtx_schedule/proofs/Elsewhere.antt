@@ -1,11 +1,8 @@
--- What a step of one transmitter leaves of the others, and of what is there before any step.
-use Rattle.std.proofs.Common.{◌≡◌, ◌≢◌, ℕ, List, [], ◌∷◌, ◌++◌, refl, ap}
-use Rattle.dtx_exciter.specs.Emission.{emission}
-use Rattle.dtx_exciter.specs.Log.{life_lines, log}
+-- What a step of one transmitter leaves of the others.
+use Rattle.std.proofs.Common.{◌≡◌, ◌≢◌, ℕ, List, [], ◌∷◌, ◌++◌, ap}
 use Rattle.dtx_files.specs.LogText.{log_text}
 use Rattle.dtx_files.specs.Symbols.{segment_bytes}
-use Rattle.dtx_net.specs.Lives.{lives_of}
-use Rattle.dtx_net.specs.Sent.{sent_segments, lines_of}
+use Rattle.dtx_net.specs.Sent.{sent_segments}
 use Rattle.dtx_net.specs.Steps.{Step}
 use Rattle.dtx_net.specs.GrowsLaws.{segments_same, lines_same}
 use Rattle.dtx_net.specs.LastLifeLaws.{lives_elsewhere}
@@ -27,17 +24,3 @@ pub log_elsewhere : (u : Transmitter) (other : ℕ) (steps : List Step) (step : 
 unfolding log_file
 log_elsewhere u other steps step n =
     ap log_text (lines_same u other (steps ++ step ∷ []) steps (lives_elsewhere other steps step n))
-
--- ---- before any step
-
-pub no_segments : (t : Transmitter) (who : ℕ) → sent_segments t who [] ≡ []
-unfolding sent_segments lives_of emission
-no_segments t who = refl
-
-pub no_symbol_file : (t : Transmitter) (who : ℕ) → symbol_file t who [] ≡ []
-unfolding symbol_file
-no_symbol_file t who = ap segment_bytes (no_segments t who)
-
-pub no_log_file : (t : Transmitter) (who : ℕ) → log_file t who [] ≡ []
-unfolding log_file lines_of lives_of log life_lines
-no_log_file t who = refl

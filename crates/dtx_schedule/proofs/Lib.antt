@@ -5,6 +5,7 @@ pub mod FeedKept
 pub mod Fronts
 pub mod Named
 pub mod PairLeft
+pub mod ProgressOf
 pub mod Refusals
 pub mod ScheduleOn
 pub mod SoFar

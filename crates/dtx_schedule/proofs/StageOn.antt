@@ -28,7 +28,8 @@ use Rattle.dtx_schedule.specs.Pair.{Brings}
 use Rattle.dtx_schedule.specs.Staged.{packets_given, AreSent, HasTransmitter, IsSomeStage, SentBy}
 use Rattle.dtx_schedule.specs.declared.stage.Stage.{Stage}
 use Rattle.dtx_schedule.specs.TransmitterFiles.{symbol_file, log_file}
-use Rattle.dtx_schedule.proofs.Elsewhere.{no_segments, segments_elsewhere}
+use Rattle.dtx_schedule.proofs.Elsewhere.{segments_elsewhere}
+use Rattle.dtx_schedule.specs.FilesLaws.{no_segments}
 
 -- ---- places
 

@@ -1,4 +1,5 @@
--- The files of transmitters as outputs: what each holds, and the two of one transmitter written anew.
+-- The files of transmitters as outputs: what each holds, the two of one transmitter written anew, and both before any
+-- step.
 use Rattle.std.proofs.Common.{◌≡◌, ◌≢◌, ◌⊎◌, ℕ, zero, suc, ◌<◌, ◌^◌, List, [], ◌∷◌, refl, sym, ap, subst, ◌∙◌, inl, inr}
 use Rattle.std.proofs.Common.{arith}
 use Rattle.std.specs.Prelude.{Some, slice_get}
@@ -7,7 +8,12 @@ use Rattle.std.proofs.lemmas.Bool.{cases_eq}
 use Rattle.std.proofs.lemmas.Option.{same_Some}
 use Rattle.dtx_outside.specs.Laws.{get-insert_same, get-insert_other, insert-insert, insert_swap}
 use Rattle.dtx_outside.specs.Shelf.{Files, with_file}
+use Rattle.dtx_exciter.specs.Emission.{emission}
+use Rattle.dtx_exciter.specs.Log.{life_lines, log}
+use Rattle.dtx_files.specs.Symbols.{segment_bytes}
 use Rattle.dtx_meaning.specs.Meaning.{Outputs, IsNoOutput, with_outputs}
+use Rattle.dtx_net.specs.Lives.{lives_of}
+use Rattle.dtx_net.specs.Sent.{lines_of, sent_segments}
 use Rattle.dtx_net.specs.Steps.{transmitter_place}
 use Rattle.dtx_net.specs.PlaceOfLaws.{place_only}
 use Rattle.dtx_plan.specs.Sound.{AreTransmitters}
@@ -15,7 +21,7 @@ use Rattle.dtx_plan.specs.declared.transmitter.Transmitter.{Transmitter}
 use Rattle.dtx_words.specs.NetworkNames.{symbol_name, log_name}
 use Rattle.dtx_words.specs.NetworkNamesLaws.{symbols_differ, logs_differ, symbols_no_logs}
 use Rattle.dtx_schedule.specs.Pair.{HasPair, with_pair}
-use Rattle.dtx_schedule.specs.TransmitterFiles.{Contents, files_of}
+use Rattle.dtx_schedule.specs.TransmitterFiles.{Contents, files_of, log_file, symbol_file}
 
 -- ---- outputs over files that are told
 
@@ -222,3 +228,17 @@ contents_same (u ∷ ts) f g same =
     ) ∷ files_of (λ who. f (suc who)) ts) (same 0 u refl)
     ∙ ap (λ (rest : Outputs). (symbol_name u.address, (g 0 u).0) ∷ (log_name u.address, (g 0 u).1) ∷ rest)
     (contents_same ts (λ who. f (suc who)) (λ who. g (suc who)) (λ who t at_t. same (suc who) t at_t))
+
+-- ---- before any step
+
+pub no_segments : (t : Transmitter) (who : ℕ) → sent_segments t who [] ≡ []
+unfolding sent_segments lives_of emission
+no_segments t who = refl
+
+pub no_symbol_file : (t : Transmitter) (who : ℕ) → symbol_file t who [] ≡ []
+unfolding symbol_file
+no_symbol_file t who = ap segment_bytes (no_segments t who)
+
+pub no_log_file : (t : Transmitter) (who : ℕ) → log_file t who [] ≡ []
+unfolding log_file lines_of lives_of log life_lines
+no_log_file t who = refl

@@ -5,6 +5,7 @@ mod beginning;
 mod event;
 mod giving;
 mod inside;
+pub mod laws;
 mod pair;
 mod part;
 mod playing;

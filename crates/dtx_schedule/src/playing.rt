@@ -14,6 +14,7 @@ ghost use Rattle.dtx_words.specs.NetworkNames.{feed_name};
 ghost use Rattle.dtx_schedule.specs.Inside.{first_past_feed};
 ghost use Rattle.dtx_schedule.specs.Played.{AreEvents, AreInRange, IsPlayOf, IsRunOf};
 ghost use Rattle.dtx_schedule.specs.PlayedSoFar.{IsDoneOf, IsOfFeed, IsPlayedSoFar};
+ghost use Rattle.dtx_schedule.specs.Progress.{IsProgressOf};
 ghost use Rattle.dtx_schedule.specs.Staged.{IsSomeStage, IsStaged, packets_given, SentBy};
 
 use crate::beginning::begin_files;
@@ -79,6 +80,13 @@ pub fn play<S: Shelf>(
         → files.get held feed_name ≡ Some feed
         → first_past_feed events.now (whole_packets feed) ≡ None
         → IsPlayOf transmitters.now (schedule transmitters.now (packets_of feed) events.now) held result
+        (S.files shelf.new) }
+
+    // How far it came, whatever the answer: one number of steps for all transmitters.
+    ensures progress { (held : Files) (feed : List ℕ) → S.files shelf.old ≡ Some held
+        → files.get held feed_name ≡ Some feed
+        → first_past_feed events.now (whole_packets feed) ≡ None
+        → IsProgressOf transmitters.now (schedule transmitters.now (packets_of feed) events.now) held result
         (S.files shelf.new) }
     ensures refusal { IfErr result IsOfFeed }
     ensures gone { HasGone (S.counts shelf.old) (S.counts shelf.new) (blame_of_answer result) }

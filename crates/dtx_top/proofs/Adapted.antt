@@ -12,12 +12,13 @@ use Rattle.dtx_engine.specs.declared.piece.Ending.TheVariants.{Whole, Refused}
 use Rattle.dtx_jobs.specs.Feed.{feed_bytes}
 use Rattle.dtx_jobs.specs.PacketFileLaws.{length-packets_of, long-packets_of}
 use Rattle.dtx_jobs.specs.Shapes.{packets}
-use Rattle.dtx_meaning.specs.Laws.{carried_before, carried_then}
+use Rattle.dtx_meaning.specs.Laws.{carried_before, carried_then, part_of_carried}
 use Rattle.dtx_meaning.specs.Meaning.{Meaning, IsCarriedOut, IsWhole, and_then, with_outputs}
 use Rattle.dtx_meaning.specs.Status.{IsFault}
 use Rattle.dtx_meaning.specs.declared.status.Outcome.{Outcome}
 use Rattle.dtx_meaning.specs.declared.status.Status.{Status}
 use Rattle.dtx_meaning.specs.declared.status.Status.TheVariants.{Done, TooLong}
+use Rattle.dtx_network.specs.Network.{steps_under}
 use Rattle.dtx_outside.specs.Laws.{get-insert_same}
 use Rattle.dtx_outside.specs.Shelf.{Files, with_file}
 use Rattle.dtx_packets.specs.PacketLaws.{packets_of-piece, whole_packets-piece}
@@ -26,8 +27,11 @@ use Rattle.dtx_plan.specs.declared.plan.NetPlan.{NetPlan}
 use Rattle.dtx_plan.specs.declared.plan.Plan.{Plan}
 use Rattle.dtx_words.specs.NetworkNames.{feed_name}
 use Rattle.dtx_top.specs.NetMeaning.{adapting, fed_meaning, is_done, network_meaning}
+use Rattle.dtx_top.specs.NetProgress.{HasPlayProgress, HasNetProgress, HasStreamProgress, feed_outputs}
+use Rattle.dtx_top.specs.NetProgress.{reception_outputs}
 use Rattle.dtx_top.specs.Replaying.{IsFeedWritten}
 use Rattle.dtx_top.proofs.Carrying.{is_done_is}
+use Rattle.dtx_top.proofs.NetProgresses.{fed_on, only_fed}
 
 -- ---- all units of an input were allowed, and are not too many
 
@@ -98,6 +102,37 @@ written plan file held mid fed all whole =
           ∙ ap Some (append-nil (feed_bytes plan (packets_of given)) ∙ ap (feed_bytes plan) (packets_given_of file));
     }
 
+-- what is written of the stream of a file that is adapted whole
+pub record IsAdapted (plan : Plan) (file : List ℕ) (held : Files) (fed : Outcome) (mid : Option Files) : Type 0 where
+  pub between : Files
+  pub told : mid ≡ Some between
+  pub whole : Some between ≡ with_outputs (feed_outputs plan file) (Some held)
+  pub written : IsFeedWritten plan (packets_of file) fed between
+
+pub adapted_whole : (plan : Plan) (file : List ℕ) (held : Files) (fed : Outcome) (mid : Option Files)
+    → fed.status ≡ Done
+    → IsWhole (meaning_of_file packets (adapting plan) (feed_name ∷ []) file) (Some held) fed mid
+    → IsAdapted plan file held fed mid
+adapted_whole plan file held fed mid done whole = record {
+  between = between;
+  told = told;
+  whole = sym told ∙ whole.files;
+  written = written plan file held between fed all
+      (record { answer = whole.answer; files = sym told ∙ whole.files });
+}
+  where
+    all : AreAllTaken packets (adapting plan) file
+    all = all_taken packets (adapting plan) (feed_name ∷ []) file
+        (sym (ap (λ (o : Outcome). o.status) whole.answer) ∙ done)
+
+    between : Files
+    between = with_file feed_name (feed_bytes plan (packets_of (given_of file)) ++ []) held
+
+    told : mid ≡ Some between
+    told = whole.files
+        ∙ ap (λ (m : Meaning). with_outputs m.outputs (Some held))
+        (taken_means packets (adapting plan) (feed_name ∷ []) file all)
+
 -- ---- what follows of it
 
 not_fault : (status : Status) → status ≡ Done → IsFault status → ⊥
@@ -122,22 +157,12 @@ fed_then plan network held (Some file) mid now fed result done (inl whole) next 
     first_done : first.outcome.status ≡ Done
     first_done = sym (ap (λ (o : Outcome). o.status) whole.answer) ∙ done
 
-    all : AreAllTaken packets (adapting plan) file
-    all = all_taken packets (adapting plan) (feed_name ∷ []) file first_done
-
-    between : Files
-    between = with_file feed_name (feed_bytes plan (packets_of (given_of file)) ++ []) held
-
-    told : mid ≡ Some between
-    told = whole.files
-        ∙ ap (λ (m : Meaning). with_outputs m.outputs (Some held))
-        (taken_means packets (adapting plan) (feed_name ∷ []) file all)
+    is : IsAdapted plan file held fed mid
+    is = adapted_whole plan file held fed mid done whole
 
     behind : IsCarriedOut (and_then first (fed_meaning plan network (packets_of file))) (Some held) result now
-    behind = carried_then first (fed_meaning plan network (packets_of file)) (Some held) (Some between) now result
-        (sym told ∙ whole.files)
-        (next between (packets_of file) told
-        (written plan file held between fed all (record { answer = whole.answer; files = sym told ∙ whole.files })))
+    behind = carried_then first (fed_meaning plan network (packets_of file)) (Some held) (Some is.between) now result
+        is.whole (next is.between (packets_of file) is.told is.written)
 
     at_done : (b : Bool) → is_done first.outcome.status ≡ b
         → IsCarriedOut (cond b (and_then first (fed_meaning plan network (packets_of file))) first)
@@ -186,3 +211,50 @@ pub fed_alone_told : (plan : Plan) (network : NetPlan) (told now : Option Files)
 fed_alone_told plan network None now fed not_done carried = tt
 fed_alone_told plan network (Some held) now fed not_done carried =
     fed_alone plan network held (get held network.stream) now fed not_done carried
+
+-- ---- how far it came
+
+-- the feed is whole
+fed_then_come : (plan : Plan) (network : NetPlan) (held : Files) (found : Option (List ℕ)) (mid now : Option Files)
+    (fed : Outcome) (status : Status) → fed.status ≡ Done
+    → IsCarriedOut (meaning packets (adapting plan) 1 (feed_name ∷ []) found) (Some held) fed mid
+    → ((told : Files) (stream : List (List ℕ)) → mid ≡ Some told → IsFeedWritten plan stream fed told
+    → HasPlayProgress plan network stream status told now)
+    → IfSome found (λ file. HasNetProgress plan network file status held now)
+fed_then_come plan network held None mid now fed status done carried next = tt
+fed_then_come plan network held (Some file) mid now fed status done (inr broken) next =
+    absurd (not_fault fed.status done broken.fault)
+fed_then_come plan network held (Some file) mid now fed status done (inl whole) next =
+    let is = adapted_whole plan file held fed mid done whole in
+    fed_on (feed_outputs plan file) plan.transmitters.items (steps_under plan (packets_of file) network.events)
+    (reception_outputs plan network (packets_of file) network.receive) status held is.between now is.whole
+    (next is.between (packets_of file) is.told is.written)
+
+pub fed_then_progress : (plan : Plan) (network : NetPlan) (told mid now : Option Files) (fed : Outcome)
+    (status : Status) → fed.status ≡ Done
+    → IfSome told (λ held. IsCarriedOut (meaning packets (adapting plan) 1 (feed_name ∷ []) (get held network.stream))
+    (Some held) fed mid)
+    → ((held : Files) (stream : List (List ℕ)) → mid ≡ Some held → IsFeedWritten plan stream fed held
+    → HasPlayProgress plan network stream status held now)
+    → IfSome told (λ held. HasStreamProgress plan network status held now)
+fed_then_progress plan network None mid now fed status done carried next = tt
+fed_then_progress plan network (Some held) mid now fed status done carried next =
+    fed_then_come plan network held (get held network.stream) mid now fed status done carried next
+
+-- the feed isn't whole
+fed_alone_come : (plan : Plan) (network : NetPlan) (held : Files) (found : Option (List ℕ)) (now : Option Files)
+    (fed : Outcome) → IsCarriedOut (meaning packets (adapting plan) 1 (feed_name ∷ []) found) (Some held) fed now
+    → IfSome found (λ file. HasNetProgress plan network file fed.status held now)
+fed_alone_come plan network held None now fed carried = tt
+fed_alone_come plan network held (Some file) now fed carried =
+    only_fed (feed_outputs plan file) plan.transmitters.items (steps_under plan (packets_of file) network.events)
+    (reception_outputs plan network (packets_of file) network.receive) fed.status held now
+    (part_of_carried (meaning_of_file packets (adapting plan) (feed_name ∷ []) file) (Some held) now fed carried)
+
+pub fed_alone_progress : (plan : Plan) (network : NetPlan) (told now : Option Files) (fed : Outcome)
+    → IfSome told (λ held. IsCarriedOut (meaning packets (adapting plan) 1 (feed_name ∷ []) (get held network.stream))
+    (Some held) fed now)
+    → IfSome told (λ held. HasStreamProgress plan network fed.status held now)
+fed_alone_progress plan network None now fed carried = tt
+fed_alone_progress plan network (Some held) now fed carried =
+    fed_alone_come plan network held (get held network.stream) now fed carried

@@ -7,6 +7,7 @@ pub mod Headlines
 pub mod LineLeft
 pub mod NetAnswers
 pub mod NetFiles
+pub mod NetProgresses
 pub mod Played
 pub mod SegmentsBack
 pub mod SegmentsSent

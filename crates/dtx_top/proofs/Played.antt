@@ -1,17 +1,17 @@
 -- The events of a network, played over the feed of its stream, and what is received of them.
-use Rattle.std.proofs.Common.{◌≡◌, ◌≢◌, ℕ, ◌≤◌, List, [], ◌∷◌, length, sym, ap, subst, ◌∙◌, inl, arith}
-use Rattle.std.specs.Prelude.{Option, Some, None, Result, IfSome, slice_index}
+use Rattle.std.proofs.Common.{◌≡◌, ◌≢◌, ℕ, ◌*◌, ◌-◌, ◌^◌, ◌≤◌, List, [], ◌∷◌, length, sym, ap, subst, ◌∙◌, inl, arith}
+use Rattle.std.specs.Prelude.{Option, Some, None, IfSome, min, slice_index}
 use Rattle.std.specs.FinMap.{get}
 use Rattle.dtx_adapter.specs.Feed.{feed, placeholders}
 use Rattle.dtx_jobs.specs.Feed.{feed_bytes}
 use Rattle.dtx_jobs.specs.FeedFileLaws.{packets_of-feed_bytes, whole_packets-feed_bytes}
 use Rattle.dtx_jobs.specs.PastEnd.{first_past}
-use Rattle.dtx_meaning.specs.Laws.{carried_part, carried_then, part_before, some_before}
+use Rattle.dtx_meaning.specs.Laws.{carried_part, carried_then, part_before, part_of_carried, some_before}
 use Rattle.dtx_meaning.specs.Meaning.{Meaning, IsCarriedOut, with_outputs}
 use Rattle.dtx_meaning.specs.Status.{IsFault, ended}
 use Rattle.dtx_meaning.specs.declared.status.Outcome.{Outcome}
 use Rattle.dtx_meaning.specs.declared.status.Status.{Status}
-use Rattle.dtx_net.specs.Steps.{schedule}
+use Rattle.dtx_net.specs.Steps.{Step, schedule}
 use Rattle.dtx_network.specs.Network.{steps_under}
 use Rattle.dtx_outside.specs.Shelf.{Files}
 use Rattle.dtx_packets.specs.Packets.{packets_of, whole_packets}
@@ -20,43 +20,48 @@ use Rattle.dtx_plan.specs.declared.plan.NetPlan.{NetPlan}
 use Rattle.dtx_plan.specs.declared.plan.Plan.{Plan}
 use Rattle.dtx_plan.specs.declared.plan.ReceivePlan.{ReceivePlan}
 use Rattle.dtx_plan.specs.declared.transmitter.Transmitter.{Transmitter}
+use Rattle.dtx_schedule.specs.FilesLaws.{apart_of, files_with, has_pair, with_outputs-told}
 use Rattle.dtx_schedule.specs.Inside.{first_past_feed}
-use Rattle.dtx_schedule.specs.Played.{IsPlayFault, IsPlayOf}
-use Rattle.dtx_schedule.specs.Staged.{packets_given}
-use Rattle.dtx_schedule.specs.TransmitterFiles.{Contents, files_of, played, played_outputs}
-use Rattle.dtx_schedule.specs.declared.playing.Played.{Played}
-use Rattle.dtx_words.specs.NetworkNames.{feed_name}
+use Rattle.dtx_schedule.specs.Played.{IsPlayFault}
+use Rattle.dtx_schedule.specs.Staged.{IsStaged, SentBy, packets_given}
+use Rattle.dtx_schedule.specs.TransmitterFiles.{Contents, files_of, played, played_outputs, symbol_file}
+use Rattle.dtx_schedule.specs.declared.stage.Stage.{Stage}
+use Rattle.dtx_words.specs.NetworkNames.{feed_name, symbol_name}
 use Rattle.dtx_top.specs.NetMeaning.{played_and_received, played_outcome, playing, received_of, received_past}
 use Rattle.dtx_top.specs.NetMeaning.{with_received}
+use Rattle.dtx_top.specs.NetProgress.{NetProgress, reception_outputs}
 use Rattle.dtx_top.specs.Networks.{sent_file}
 use Rattle.dtx_top.specs.Replaying.{HasNumbers, IsFeedWritten}
 use Rattle.dtx_top.proofs.Carrying.{answered_carried}
+use Rattle.dtx_top.proofs.NetProgresses.{received_on}
+use Rattle.dtx_top.proofs.SymbolsSent.{IsPlace, counted_serves, place_there, sent_file_is}
 
 pub damages_of : (ts : List Transmitter) (receive : Option ReceivePlan) → IfSome receive (IsReceived ts)
     → IfSome receive (λ receiver. AreDamages receiver.damage)
 damages_of ts None is = tt
 damages_of ts (Some receiver) is = is.damage
 
--- what playing says of the feed, as it was written of a stream
-abbrev pub PlaysFeed : List Transmitter → NetPlan → Option Files → Result Played Status → Option Files → Type 0
-PlaysFeed ts network told result now =
+-- what playing says of the feed, as it was written of a stream: `Says` of the transmitters and the steps
+abbrev pub PlaysFeed : (List Transmitter → List Step → Files → Type 0) → List Transmitter → NetPlan → Option Files
+    → Type 0
+PlaysFeed Says ts network told =
     (held : Files) (bytes : List ℕ) → told ≡ Some held → get held feed_name ≡ Some bytes
     → first_past_feed network.events (whole_packets bytes) ≡ None
-    → IsPlayOf ts (schedule ts (packets_of bytes) network.events) held result now
+    → Says ts (schedule ts (packets_of bytes) network.events) held
 
-pub played_over : (plan : Plan) (network : NetPlan) (stream : List (List ℕ)) (ts : List Transmitter) (fed : Outcome)
-    (held : Files) (told now : Option Files)
-    (result : Result Played Status) → IsSound plan → ts ≡ plan.transmitters.items → told ≡ Some held
+pub played_over : (Says : List Transmitter → List Step → Files → Type 0) (plan : Plan) (network : NetPlan)
+    (stream : List (List ℕ)) (ts : List Transmitter) (fed : Outcome) (held : Files) (told : Option Files)
+    → IsSound plan → ts ≡ plan.transmitters.items → told ≡ Some held
     → IsFeedWritten plan stream fed held
-    → first_past_feed network.events (length stream) ≡ None → PlaysFeed ts network told result now
-    → IsPlayOf plan.transmitters.items (steps_under plan stream network.events) held result now
-played_over plan network stream ts fed held told now result sound its is written inside says =
+    → first_past_feed network.events (length stream) ≡ None → PlaysFeed Says ts network told
+    → Says plan.transmitters.items (steps_under plan stream network.events) held
+played_over Says plan network stream ts fed held told sound its is written inside says =
     let bytes : List ℕ = feed_bytes plan stream in
     let whole : whole_packets bytes ≡ length stream = whole_packets-feed_bytes plan stream sound written.long in
-    let over : IsPlayOf ts (schedule ts (packets_of bytes) network.events) held result now =
+    let over : Says ts (schedule ts (packets_of bytes) network.events) held =
     says held bytes is written.feed (ap (first_past_feed network.events) whole ∙ inside) in
-    subst (λ (us : List Transmitter). IsPlayOf us (schedule us (feed plan stream) network.events) held result now) its
-    (subst (λ (packets : List (List ℕ)). IsPlayOf ts (schedule ts packets network.events) held result now)
+    subst (λ (us : List Transmitter). Says us (schedule us (feed plan stream) network.events) held) its
+    (subst (λ (packets : List (List ℕ)). Says ts (schedule ts packets network.events) held)
     (packets_of-feed_bytes plan stream sound written.long) over)
 
 -- where there is a transmitter there are its files
@@ -102,34 +107,96 @@ all_played plan network stream held now fed steps result numbers counted files i
   files = files;
 })
 
--- with one the symbols are received
-pub received_behind : (plan : Plan) (network : NetPlan) (receiver : ReceivePlan) (stream : List (List ℕ))
-    (held mid : Files) (now : Option Files) (fed : Outcome)
-    (steps : ℕ) (received result : Outcome) (file : List ℕ) → HasNumbers stream fed
-    → steps ≡ packets_given (steps_under plan stream network.events)
-    → file ≡ sent_file plan network stream receiver.from
-    → Some mid ≡ with_outputs (played_outputs plan.transmitters.items (steps_under plan stream network.events))
+-- with one the symbols are received, from the files that the schedule left
+pub record AreReceived (plan : Plan) (network : NetPlan) (stream : List (List ℕ)) (receiver : ReceivePlan)
+    (held : Files) (received : Outcome) (now : Option Files) : Type 0 where
+  pub mid : Files
+  pub left : Some mid ≡ with_outputs (played_outputs plan.transmitters.items
+      (steps_under plan stream network.events)) (Some held)
+  pub carried : IsCarriedOut (received_past
+      (first_past receiver.damage (length (sent_file plan network stream receiver.from))) receiver.damage
+      (sent_file plan network stream receiver.from)) (Some mid) received now
+
+pub received_told : (plan : Plan) (network : NetPlan) (stream : List (List ℕ)) (receiver : ReceivePlan)
+    (held : Files) (told now : Option Files) (received : Outcome) (stage : Stage) (segments symbols : ℕ)
+    → IsReceived plan.transmitters.items receiver
+    → IsStaged plan.transmitters.items stage (steps_under plan stream network.events)
+    → SentBy receiver.from plan.transmitters.items (steps_under plan stream network.events) segments
+    → symbols ≡ min (segments * 832) (2 ^ 64 - 1)
+    → told ≡ with_outputs (played_outputs plan.transmitters.items (steps_under plan stream network.events))
     (Some held)
+    → ((held : Files) (file : List ℕ) → told ≡ Some held → get held (symbol_name receiver.from) ≡ Some file
+    → first_past receiver.damage symbols ≡ first_past receiver.damage (length file)
     → IsCarriedOut (received_past (first_past receiver.damage (length file)) receiver.damage file)
-    (Some mid) received now
+    (Some held) received now)
+    → AreReceived plan network stream receiver held received now
+received_told plan network stream receiver held told now received stage segments symbols is staged counted many
+    left says = record {
+      mid = mid;
+      left = sym (with_outputs-told (played_outputs ts steps) held);
+      carried = subst (λ file. IsCarriedOut (received_past (first_past receiver.damage (length file)) receiver.damage
+          file) (Some mid) received now) (sym (sent_file_is plan network stream receiver.from who t place))
+          (says mid (symbol_file t who steps) (left ∙ with_outputs-told (played_outputs ts steps) held) there
+          (counted_serves ts steps receiver who segments symbols t place counted is.damage.each many));
+    }
+  where
+    ts : List Transmitter
+    ts = plan.transmitters.items
+
+    steps : List Step
+    steps = steps_under plan stream network.events
+
+    mid : Files
+    mid = files_with (played_outputs ts steps) held
+
+    who : ℕ
+    who = (place_there ts receiver.from is.listed).0
+
+    t : Transmitter
+    t = (place_there ts receiver.from is.listed).1
+
+    place : IsPlace ts receiver.from who t
+    place = (place_there ts receiver.from is.listed).2
+
+    there : get mid (symbol_name receiver.from) ≡ Some (symbol_file t who steps)
+    there = subst (λ a. get mid (symbol_name a) ≡ Some (symbol_file t who steps)) place.own
+        (has_pair ts who t (played steps) held (apart_of ts staged.transmitters staged.names.small) place.here).sent
+
+pub received_behind : (plan : Plan) (network : NetPlan) (receiver : ReceivePlan) (stream : List (List ℕ))
+    (held : Files) (now : Option Files) (fed : Outcome) (steps : ℕ) (received result : Outcome)
+    → HasNumbers stream fed → steps ≡ packets_given (steps_under plan stream network.events)
+    → AreReceived plan network stream receiver held received now
     → result ≡ with_received (slice_index fed.numbers 0) (slice_index fed.numbers 1) steps received
     → IsCarriedOut (played_and_received plan network stream (Some receiver)) (Some held) result now
-received_behind plan network receiver stream held mid now fed steps received result file numbers counted its files
-    carried is =
+received_behind plan network receiver stream held now fed steps received result numbers counted sent is =
     let m : Meaning =
     received_past (first_past receiver.damage (length (sent_file plan network stream receiver.from)))
     receiver.damage
     (sent_file plan network stream receiver.from) in
-    let sent : IsCarriedOut m (Some mid) received now =
-    subst (λ (f : List ℕ). IsCarriedOut (received_past (first_past receiver.damage (length f)) receiver.damage f)
-    (Some mid) received now) its carried in
     let same : result ≡ with_received (length stream) (placeholders stream)
     (packets_given (steps_under plan stream network.events)) received =
     is ∙ ap (λ n. with_received n (slice_index fed.numbers 1) steps received) numbers.packets
     ∙ ap (λ n. with_received (length stream) n steps received) numbers.filled
     ∙ ap (λ n. with_received (length stream) (placeholders stream) n received) counted in
     carried_then (playing plan network stream) (received_of plan network stream receiver) (Some held)
-    (Some mid) now result files
-    (subst (λ (o : Outcome). IsCarriedOut (received_of plan network stream receiver) (Some mid) o now) (sym same)
+    (Some sent.mid) now result sent.left
+    (subst (λ (o : Outcome). IsCarriedOut (received_of plan network stream receiver) (Some sent.mid) o now) (sym same)
     (answered_carried m (length stream) (placeholders stream) (packets_given (steps_under plan stream network.events))
-    (Some mid) now received sent))
+    (Some sent.mid) now received sent.carried))
+
+-- ---- how far it came
+
+-- the symbols were received, whatever is answered then
+pub received_progress : (plan : Plan) (network : NetPlan) (stream : List (List ℕ)) (receive : Option ReceivePlan)
+    (receiver : ReceivePlan) (held : Files) (now : Option Files) (received : Outcome) (status : Status)
+    → receive ≡ Some receiver → AreReceived plan network stream receiver held received now
+    → NetProgress [] plan.transmitters.items (steps_under plan stream network.events)
+    (reception_outputs plan network stream receive) status held now
+received_progress plan network stream receive receiver held now received status its is =
+    subst (λ o. NetProgress [] plan.transmitters.items (steps_under plan stream network.events)
+    (reception_outputs plan network stream o) status held now) (sym its)
+    (received_on plan.transmitters.items (steps_under plan stream network.events)
+    (reception_outputs plan network stream (Some receiver)) status held (Some is.mid) now is.left
+    (part_of_carried (received_past
+    (first_past receiver.damage (length (sent_file plan network stream receiver.from))) receiver.damage
+    (sent_file plan network stream receiver.from)) (Some is.mid) now received is.carried))

@@ -15,6 +15,7 @@ use Rattle.dtx_words.specs.declared.rows.Field.{Field}
 use Rattle.dtx_words.specs.declared.rows.Field.TheVariants.{Input}
 use Rattle.dtx_top.specs.HeadlineOfFiles.{HasHeadline}
 use Rattle.dtx_top.specs.NetAnswers.{IsOfNetWords, IsOfNetwork}
+use Rattle.dtx_top.specs.NetProgress.{HasProgress}
 
 -- The cause of an answer, of the counts of the shelf and of that of the sink. On `Done` all stand, so no fault was met.
 -- `WriteFault` is also answered where the line of `Done` could not be printed; want of memory may be met behind a
@@ -51,6 +52,11 @@ pub record IsUsage (status : Status) (told now : Option Files) : Type 0 where
 abbrev pub HasHeadlineOf : Option Command → List (List ℕ) → Files → Option Files → Type 0
 HasHeadlineOf (Some Net) words held now = HasHeadline words held now
 HasHeadlineOf command words held now = Unit {0}
+
+-- how far a network came, where the words are those of one
+abbrev pub HasProgressOf : Option Command → List (List ℕ) → Files → Status → Option Files → Type 0
+HasProgressOf (Some Net) words held status now = HasProgress words held status now
+HasProgressOf command words held status now = Unit {0}
 
 -- ---- what the words alone say of the answer
 

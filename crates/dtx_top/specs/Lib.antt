@@ -5,6 +5,7 @@ pub mod Means
 pub mod NetAnswers
 pub mod NetMeaning
 pub mod NetNames
+pub mod NetProgress
 pub mod Networks
 pub mod OfBytes
 pub mod Replaying

@@ -13,6 +13,7 @@ ghost use Rattle.dtx_top.specs.NetAnswers.{IsOfNetWords, IsOfNetwork, ShowsNetwo
 ghost use Rattle.dtx_top.specs.NetMeaning.{net_meaning, network_meaning, planned_meaning};
 ghost use Rattle.dtx_top.specs.NetNames.{IsKeptName, IsUntoldName, kept_name, names_of_file, names_under, net_names};
 ghost use Rattle.dtx_top.specs.NetNames.{plan_word, receiver_of, told_name};
+ghost use Rattle.dtx_top.specs.NetProgress.{HasFileProgress, HasPlanProgress, HasProgress, HasStreamProgress};
 ghost use Rattle.dtx_top.specs.Networks.{network_names};
 
 use crate::network_names::repeated_file;
@@ -61,6 +62,10 @@ pub fn net<S: Shelf>(alloc: Global, words: &[Word], shelf: &mut S) -> NetOutcome
     ensures words { IsOfNetWords words.now result.outcome.status }
     ensures shown { ShowsNetwork result.outcome.status result.outcome }
 
+    // How far it came, whatever it answers: one number of steps for the files of all transmitters.
+    ensures progress { IfSome (S.files shelf.old) (λ held.
+        HasProgress words.now held result.outcome.status (S.files shelf.new)) }
+
     // Where it is done the headline holds of its files.
     ensures headline { IfSome (S.files shelf.old) (λ held. result.outcome.status ≡ Status.Done
         → HasHeadline words.now held (S.files shelf.new)) }
@@ -79,6 +84,8 @@ fn net_file<S: Shelf>(alloc: Global, name: &str, shelf: &mut S) -> NetOutcome
         (under_plan 0 (files.get held name.now) (λ said. planned_meaning name.now held said said.net))
         (Some held) result.outcome (S.files shelf.new)) }
     ensures gone { HasGone (S.counts shelf.old) (S.counts shelf.new) (blame_of result.outcome.status) }
+    ensures progress { IfSome (S.files shelf.old) (λ held. HasFileProgress name.now
+        result.outcome.status held (S.files shelf.new)) }
     ensures name { IfSome (S.files shelf.old) (λ held. told_name name.now result.outcome.status result.name.bytes
         ≡ line_name result.outcome.status (names_of_file name.now (files.get held name.now))) }
     ensures kept { IsKeptName result.outcome.status result.name.bytes }
@@ -110,6 +117,8 @@ fn net_planned<S: Shelf>(alloc: Global, name: &str, plan: &Plan, shelf: &mut S) 
         (planned_meaning name.now held plan.now plan.now.net)
         (Some held) result.outcome (S.files shelf.new)) }
     ensures gone { HasGone (S.counts shelf.old) (S.counts shelf.new) (blame_of result.outcome.status) }
+    ensures progress { IfSome (S.files shelf.old) (λ held. HasPlanProgress plan.now plan.now.net
+        result.outcome.status held (S.files shelf.new)) }
     ensures name { IfSome (S.files shelf.old) (λ held. told_name name.now result.outcome.status result.name.bytes
         ≡ line_name result.outcome.status (names_under name.now plan.now plan.now.net)) }
     ensures kept { IsKeptName result.outcome.status result.name.bytes }
@@ -140,6 +149,8 @@ fn net_apart<S: Shelf>(
         (planned_meaning name.now held plan.now (Some network.now))
         (Some held) result.outcome (S.files shelf.new)) }
     ensures gone { HasGone (S.counts shelf.old) (S.counts shelf.new) (blame_of result.outcome.status) }
+    ensures progress { IfSome (S.files shelf.old) (λ held. HasStreamProgress plan.now network.now
+        result.outcome.status held (S.files shelf.new)) }
     ensures name { IfSome (S.files shelf.old) (λ held. told_name name.now result.outcome.status result.name.bytes
         ≡ line_name result.outcome.status (network_names name.now plan.now network.now)) }
     ensures kept { IsKeptName result.outcome.status result.name.bytes }
@@ -169,6 +180,8 @@ fn net_replayed<S: Shelf>(
         (network_meaning plan.now network.now (files.get held network.now.stream)) (Some held) result.outcome
         (S.files shelf.new)) }
     ensures gone { HasGone (S.counts shelf.old) (S.counts shelf.new) (blame_of result.outcome.status) }
+    ensures progress { IfSome (S.files shelf.old) (λ held. HasStreamProgress plan.now network.now
+        result.outcome.status held (S.files shelf.new)) }
     ensures name { result.name.bytes ≡ kept_name network.now result.outcome.status }
     ensures network { IsOfNetwork result.outcome.status }
     ensures shown { ShowsNetwork result.outcome.status result.outcome }

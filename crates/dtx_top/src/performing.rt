@@ -4,7 +4,7 @@ ghost use Rattle.dtx_outside.specs.Counts.{HasGone};
 ghost use Rattle.dtx_meaning.specs.Meaning.{IsCarriedOut};
 ghost use Rattle.dtx_meaning.specs.Status.{blame_of};
 ghost use Rattle.dtx_words.specs.Names.{line_name};
-ghost use Rattle.dtx_top.specs.Ends.{HasHeadlineOf, IsOfCommand};
+ghost use Rattle.dtx_top.specs.Ends.{HasHeadlineOf, HasProgressOf, IsOfCommand};
 ghost use Rattle.dtx_top.specs.Lines.{name_kept, names_told, IsSomeName};
 ghost use Rattle.dtx_top.specs.Means.{means_of};
 ghost use Rattle.dtx_top.specs.NetAnswers.{ShowsNetwork};
@@ -35,6 +35,8 @@ pub(crate) fn perform<S: Shelf>(
     ensures shown { command ≡ Some Command.Net → ShowsNetwork result.outcome.status result.outcome }
     ensures words { IsOfCommand command words.now result.outcome.status }
     ensures usage { command ≡ None → (result.outcome.status ≡ Status.Usage) × (S.files shelf.new ≡ S.files shelf.old) }
+    ensures progress { IfSome (S.files shelf.old) (λ held.
+        HasProgressOf command words.now held result.outcome.status (S.files shelf.new)) }
     ensures headline { IfSome (S.files shelf.old) (λ held. result.outcome.status ≡ Status.Done
         → HasHeadlineOf command words.now held (S.files shelf.new)) }
 {

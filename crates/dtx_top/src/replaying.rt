@@ -16,6 +16,7 @@ ghost use Rattle.dtx_schedule.specs.TransmitterFiles.{played_outputs};
 ghost use Rattle.dtx_words.specs.NetworkNames.{feed_name};
 ghost use Rattle.dtx_top.specs.NetAnswers.{IsOfNetwork, ShowsNetwork};
 ghost use Rattle.dtx_top.specs.NetMeaning as means;
+ghost use Rattle.dtx_top.specs.NetProgress.{HasPlayProgress, HasStreamProgress};
 ghost use Rattle.dtx_top.specs.Replaying.{HasNumbers, IsFeedWritten};
 
 use crate::of_bytes::OfBytes;
@@ -43,6 +44,8 @@ pub(crate) fn replay<S: Shelf>(
     requires differ { network.now.stream ≢ feed_name }
     ensures carried { IfSome (S.files shelf.old) (λ held. IsCarriedOut
         (means.network_meaning plan.now network.now (files.get held network.now.stream)) (Some held) result
+        (S.files shelf.new)) }
+    ensures progress { IfSome (S.files shelf.old) (λ held. HasStreamProgress plan.now network.now result.status held
         (S.files shelf.new)) }
     ensures network { IsOfNetwork result.status }
     ensures shown { ShowsNetwork result.status result }
@@ -90,6 +93,9 @@ fn play_within<S: Shelf>(
     ensures carried { (held : Files) (stream : List (List ℕ)) → S.files shelf.old ≡ Some held
         → IsFeedWritten plan.now stream fed.now held
         → IsCarriedOut (means.fed_meaning plan.now network.now stream) (Some held) result (S.files shelf.new) }
+    ensures progress { (held : Files) (stream : List (List ℕ)) → S.files shelf.old ≡ Some held
+        → IsFeedWritten plan.now stream fed.now held
+        → HasPlayProgress plan.now network.now stream result.status held (S.files shelf.new) }
     ensures network { IsOfNetwork result.status }
     ensures shown { ShowsNetwork result.status result }
     ensures gone { HasGone (S.counts shelf.old) (S.counts shelf.new) (blame_of result.status) }
@@ -114,6 +120,9 @@ fn play_events<S: Shelf>(
         → IsFeedWritten plan.now stream fed.now held → inside.first_past_feed network.now.events (length stream) ≡ None
         → IsCarriedOut (means.played_and_received plan.now network.now stream network.now.receive) (Some held)
         result (S.files shelf.new) }
+    ensures progress { (held : Files) (stream : List (List ℕ)) → S.files shelf.old ≡ Some held
+        → IsFeedWritten plan.now stream fed.now held → inside.first_past_feed network.now.events (length stream) ≡ None
+        → HasPlayProgress plan.now network.now stream result.status held (S.files shelf.new) }
     ensures network { IsOfNetwork result.status }
     ensures shown { ShowsNetwork result.status result }
     ensures gone { HasGone (S.counts shelf.old) (S.counts shelf.new) (blame_of result.status) }
@@ -141,6 +150,12 @@ fn receive_played<S: Shelf>(
         (steps_under plan stream network.now.events)) (Some held)
         → IsCarriedOut (means.played_and_received plan network.now stream network.now.receive) (Some held)
         result (S.files shelf.new) }
+    ensures progress { (plan : Plan) (held : Files) (stream : List (List ℕ))
+        → IsNet plan.transmitters.items network.now
+        → IsStaged plan.transmitters.items played.now.stage (steps_under plan stream network.now.events)
+        → S.files shelf.old ≡ with_outputs (played_outputs plan.transmitters.items
+        (steps_under plan stream network.now.events)) (Some held)
+        → HasPlayProgress plan network.now stream result.status held (S.files shelf.new) }
     ensures network { IsOfNetwork result.status }
     ensures shown { ShowsNetwork result.status result }
     ensures gone { HasGone (S.counts shelf.old) (S.counts shelf.new) (blame_of result.status) }

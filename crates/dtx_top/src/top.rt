@@ -4,7 +4,7 @@ ghost use Rattle.dtx_outside.specs.Counts.{Rose};
 ghost use Rattle.dtx_outside.specs.Shelf.{IsSameAt};
 ghost use Rattle.dtx_meaning.specs.Meaning.{IsDone, IsNoOutput, IsUnprinted};
 ghost use Rattle.dtx_words.specs.Fitting.{command_of};
-ghost use Rattle.dtx_top.specs.Ends.{HasEnded, HasHeadlineOf, IsByWords, IsFaultless, IsUsage};
+ghost use Rattle.dtx_top.specs.Ends.{HasEnded, HasHeadlineOf, HasProgressOf, IsByWords, IsFaultless, IsUsage};
 ghost use Rattle.dtx_top.specs.Lines.{name_kept, HasLine, IsSomeLine, IsToldLine};
 ghost use Rattle.dtx_top.specs.Means.{means};
 
@@ -99,6 +99,11 @@ pub fn run<S: Shelf, O: Sink>(alloc: Global, words: &[Word], shelf: &mut S, out:
     ensures others { IfSome (S.files shelf.old) (λ held. (name : List ℕ)
         → IsNoOutput name (means words.now held).outputs
         → IsSameAt name (S.files shelf.old) (S.files shelf.new)) }
+
+    // How far a network came, whatever the answer: one number of steps says it of the files of all transmitters, which
+    // are begun behind the whole feed; what is received is begun behind the last step.
+    ensures progress { IfSome (S.files shelf.old) (λ held.
+        HasProgressOf (command_of words.now) words.now held result (S.files shelf.new)) }
 
     // The headline: for every packet stream and schedule, an exciter that from any earlier state is given the adapter's
     // feed unchanged from a cadence mark on emits, from the first operations packet whose group begins 52 or more

@@ -9,6 +9,7 @@ use Rattle.dtx_packets.specs.Packets.{packets_of}
 use Rattle.dtx_plan.specs.declared.transmitter.Transmitter.{Transmitter}
 use Rattle.dtx_schedule.specs.Played.{IsPlayFault, IsPlayOf}
 use Rattle.dtx_schedule.specs.TransmitterFiles.{files_of, nothing, played_outputs}
+use Rattle.dtx_schedule.proofs.ProgressOf.{progress_of, progress_played}
 use Rattle.dtx_schedule.proofs.ScheduleOn.{all_in_range}
 use Rattle.dtx_schedule.proofs.playing.play.Goals as goal
 
@@ -56,3 +57,23 @@ pub returns-clause-played : goal.returns-clause-played
 returns-clause-played g c = λ held feed told there inside.
     let is = c.in_ok-run.ensures.run c.args.transmitters.now held feed c.in_ok-stage.ensures told there inside in
     record { files = is.files; staged = is.staged }
+
+pub returns-in_err-stage-clause-progress : goal.returns-in_err-stage-clause-progress
+returns-in_err-stage-clause-progress g c = λ held feed told there inside.
+    progress_of c.args.transmitters.now (schedule c.args.transmitters.now (packets_of feed) c.args.events.now) held _
+    (g.S.Shelf.files c.args.shelf.now) (returns-in_err-stage-clause-played g c held feed told there inside)
+
+pub returns-in_err-packets-clause-progress : goal.returns-in_err-packets-clause-progress
+returns-in_err-packets-clause-progress g c = λ held feed told there inside.
+    progress_of c.args.transmitters.now (schedule c.args.transmitters.now (packets_of feed) c.args.events.now) held _
+    (g.S.Shelf.files c.args.shelf.now) (returns-in_err-packets-clause-played g c held feed told there inside)
+
+pub returns-in_err-run-clause-progress : goal.returns-in_err-run-clause-progress
+returns-in_err-run-clause-progress g c = λ held feed told there inside.
+    progress_of c.args.transmitters.now (schedule c.args.transmitters.now (packets_of feed) c.args.events.now) held _
+    (g.S.Shelf.files c.run.new.shelf) (returns-in_err-run-clause-played g c held feed told there inside)
+
+pub returns-clause-progress : goal.returns-clause-progress
+returns-clause-progress g c = λ held feed told there inside.
+    progress_played c.args.transmitters.now (schedule c.args.transmitters.now (packets_of feed) c.args.events.now) held
+    (g.S.Shelf.files c.run.new.shelf) (returns-clause-played g c held feed told there inside).files

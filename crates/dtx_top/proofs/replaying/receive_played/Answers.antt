@@ -1,19 +1,15 @@
-use Rattle.std.proofs.Common.{◌≡◌, ℕ, List, sym, subst, ◌∙◌}
+use Rattle.std.proofs.Common.{◌≡◌, List, refl, sym, subst}
 use Rattle.std.specs.Prelude.{Option, Some, IfSome}
-use Rattle.std.specs.FinMap.{get}
+use Rattle.dtx_meaning.specs.Laws.{part_of_none}
 use Rattle.dtx_meaning.specs.Meaning.{IsCarriedOut}
-use Rattle.dtx_net.specs.Steps.{Step}
 use Rattle.dtx_network.specs.Network.{steps_under}
-use Rattle.dtx_outside.specs.Shelf.{Files}
 use Rattle.dtx_plan.specs.Sound.{IsReceived}
 use Rattle.dtx_plan.specs.declared.plan.ReceivePlan.{ReceivePlan}
 use Rattle.dtx_plan.specs.declared.transmitter.Transmitter.{Transmitter}
-use Rattle.dtx_schedule.specs.FilesLaws.{apart_of, files_with, has_pair, with_outputs-told}
-use Rattle.dtx_schedule.specs.TransmitterFiles.{played, played_outputs, symbol_file}
-use Rattle.dtx_words.specs.NetworkNames.{symbol_name}
 use Rattle.dtx_top.specs.NetMeaning.{played_and_received}
-use Rattle.dtx_top.proofs.Played.{received_behind}
-use Rattle.dtx_top.proofs.SymbolsSent.{counted_serves, place_there, sent_file_is}
+use Rattle.dtx_top.specs.NetProgress.{reception_outputs}
+use Rattle.dtx_top.proofs.NetProgresses.{received_on}
+use Rattle.dtx_top.proofs.Played.{received_behind, received_progress, received_told}
 use Rattle.dtx_top.proofs.replaying.receive_played.Goals as goal
 
 its_receiver : (ts : List Transmitter) (receive : Option ReceivePlan) (receiver : ReceivePlan) → receive ≡ Some receiver
@@ -26,26 +22,36 @@ returns-in-Some-clause-carried g c = λ plan held stream net numbers staged is.
     let receiver = c.in-Some.receiver in
     let network = c.args.network.now in
     let ts : List Transmitter = plan.transmitters.items in
-    let steps : List Step = steps_under plan stream network.events in
-    let received = its_receiver ts network.receive receiver c.in-Some.is net.receive in
-    let found = place_there ts receiver.from received.listed in
-    let who : ℕ = found.0 in
-    let t : Transmitter = found.1 in
-    let place = found.2 in
-    let file : List ℕ = symbol_file t who steps in
-    let mid : Files = files_with (played_outputs ts steps) held in
-    let told = is ∙ with_outputs-told (played_outputs ts steps) held in
-    let apart = apart_of ts staged.transmitters staged.names.small in
-    let there : get mid (symbol_name receiver.from) ≡ Some file =
-    subst (λ a. get mid (symbol_name a) ≡ Some file) place.own
-    (has_pair ts who t (played steps) held apart place.here).sent in
-    let serves = counted_serves ts steps receiver who c.sent.result c.saturating_mul-symbols.result t place
-    (c.sent.ensures ts steps staged) received.damage.each c.saturating_mul-symbols.ensures in
+    let steps = steps_under plan stream network.events in
     let now = g.S.Shelf.files c.receive_sent-received.new.shelf in
+    let sent = received_told plan network stream receiver held (g.S.Shelf.files c.args.shelf.now) now
+    c.receive_sent-received.result c.args.played.now.stage c.sent.result c.saturating_mul-symbols.result
+    (its_receiver ts network.receive receiver c.in-Some.is net.receive) staged (c.sent.ensures ts steps staged)
+    c.saturating_mul-symbols.ensures is c.receive_sent-received.ensures.carried in
     subst (λ (o : Option ReceivePlan). IsCarriedOut (played_and_received plan network stream o)
     (Some held) c.with_received.result now) (sym c.in-Some.is)
-    (received_behind plan network receiver stream held mid now c.args.fed.now c.steps.result
-    c.receive_sent-received.result c.with_received.result file
-    numbers (c.steps.ensures ts steps staged) (sym (sent_file_is plan network stream receiver.from who t place))
-    (sym (with_outputs-told (played_outputs ts steps) held))
-    (c.receive_sent-received.ensures.carried mid file told there serves) c.with_received.ensures.outcome)
+    (received_behind plan network receiver stream held now c.args.fed.now c.steps.result
+    c.receive_sent-received.result c.with_received.result numbers (c.steps.ensures ts steps staged) sent
+    c.with_received.ensures.outcome)
+
+pub returns-in-Some-clause-progress : goal.returns-in-Some-clause-progress
+returns-in-Some-clause-progress g c = λ plan held stream net staged is.
+    let receiver = c.in-Some.receiver in
+    let network = c.args.network.now in
+    let ts : List Transmitter = plan.transmitters.items in
+    let steps = steps_under plan stream network.events in
+    let now = g.S.Shelf.files c.receive_sent-received.new.shelf in
+    received_progress plan network stream network.receive receiver held now c.receive_sent-received.result
+    c.with_received.result.status c.in-Some.is
+    (received_told plan network stream receiver held (g.S.Shelf.files c.args.shelf.now) now
+    c.receive_sent-received.result c.args.played.now.stage c.sent.result c.saturating_mul-symbols.result
+    (its_receiver ts network.receive receiver c.in-Some.is net.receive) staged (c.sent.ensures ts steps staged)
+    c.saturating_mul-symbols.ensures is c.receive_sent-received.ensures.carried)
+
+pub returns-in-None-clause-progress : goal.returns-in-None-clause-progress
+returns-in-None-clause-progress g c = λ plan held stream net staged is.
+    let network = c.args.network.now in
+    let now = g.S.Shelf.files c.args.shelf.now in
+    let got = reception_outputs plan network stream network.receive in
+    received_on plan.transmitters.items (steps_under plan stream network.events) got _ held now now is
+    (part_of_none got now now refl)

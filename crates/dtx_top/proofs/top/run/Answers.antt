@@ -4,6 +4,7 @@ use Rattle.dtx_top.specs.Means.{means_of}
 use Rattle.dtx_top.proofs.ByWords.{words_told}
 use Rattle.dtx_top.proofs.Ending.{complete_told, done_then, done_told, ended_of, others_told, unprinted_told, usage_of}
 use Rattle.dtx_top.proofs.LineLeft.{line_told, line_untold}
+use Rattle.dtx_top.proofs.NetProgresses.{progress_told}
 use Rattle.dtx_top.proofs.top.run.Goals as goal
 
 pub returns-clause-carried : goal.returns-clause-carried
@@ -62,3 +63,7 @@ pub returns-clause-words : goal.returns-clause-words
 returns-clause-words g c = rw (c.finish.ensures, ← c.command-command.ensures)
     (words_told c.command-command.result c.args.words.now _ _ (sym c.command-command.ensures)
     c.perform-performed.ensures.words)
+
+pub returns-clause-progress : goal.returns-clause-progress
+returns-clause-progress g c = rw (c.finish.ensures, ← c.command-command.ensures)
+    (progress_told c.command-command.result c.args.words.now _ _ _ _ c.perform-performed.ensures.progress)

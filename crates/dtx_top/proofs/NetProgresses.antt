@@ -1,0 +1,266 @@
+-- How far a network came, part by part.
+use Rattle.std.proofs.Common.{◌≡◌, ◌⊎◌, ℕ, List, [], ◌∷◌, ◌++◌, refl, sym, ap, subst, ◌∙◌, inl, inr}
+use Rattle.std.proofs.Common.{arith}
+use Rattle.std.specs.Prelude.{Option, Some, None, IfSome, IfOk, Result, Ok, Err}
+use Rattle.std.specs.Option.{option_map}
+use Rattle.std.specs.FinMap.{get}
+use Rattle.std.proofs.lemmas.List.{append-nil}
+use Rattle.dtx_jobs.specs.PlanFile.{IsPlanRead}
+use Rattle.dtx_meaning.specs.Laws.{part_of_none, with_outputs-append}
+use Rattle.dtx_meaning.specs.Meaning.{ArePartWritten, Outputs, with_outputs}
+use Rattle.dtx_meaning.specs.Status.{IsFault, ended}
+use Rattle.dtx_meaning.specs.declared.status.Outcome.{Outcome}
+use Rattle.dtx_meaning.specs.declared.status.Status.{Status}
+use Rattle.dtx_net.specs.Steps.{Step}
+use Rattle.dtx_network.specs.Network.{steps_under}
+use Rattle.dtx_outside.specs.Shelf.{Files, with_file}
+use Rattle.dtx_outside.specs.declared.sink.SinkNo.{SinkNo}
+use Rattle.dtx_outside.specs.declared.sink.SinkNo.TheVariants as sink
+use Rattle.dtx_packets.specs.Packets.{packets_of}
+use Rattle.dtx_plan.specs.Plan.{plan_of}
+use Rattle.dtx_plan.specs.declared.plan.NetPlan.{NetPlan}
+use Rattle.dtx_plan.specs.declared.plan.Plan as whole
+use Rattle.dtx_plan.specs.declared.refusal.PlanNo.{PlanNo}
+use Rattle.dtx_plan.specs.declared.transmitter.Transmitter.{Transmitter}
+use Rattle.dtx_schedule.specs.Progress.{Progress, begun_files}
+use Rattle.dtx_schedule.specs.ProgressLaws.{all_files, all_played, only_begun}
+use Rattle.dtx_schedule.specs.TransmitterFiles.{played, played_outputs}
+use Rattle.dtx_words.specs.Line.{finished}
+use Rattle.dtx_words.specs.declared.rows.Command.{Command}
+use Rattle.dtx_words.specs.declared.rows.Command.TheVariants.{Net}
+use Rattle.dtx_top.specs.Ends.{HasProgressOf}
+use Rattle.dtx_top.specs.NetProgress.{AreFirstParts, HasFileProgress, HasNetProgress, HasPlanProgress}
+use Rattle.dtx_top.specs.NetProgress.{HasProgress, HasStreamProgress, NetProgress, feed_outputs, reception_outputs}
+use Rattle.dtx_top.proofs.Ending.{finished_failed}
+
+-- ---- parts of outputs
+
+pub first_parts : (outputs : Outputs) (start now : Option Files) → ArePartWritten outputs start now
+    → (parts : Outputs) × AreFirstParts parts outputs × (now ≡ with_outputs parts start)
+first_parts [] start now is = ([], tt, is)
+first_parts (o ∷ rest) start now (inl same) = ([], tt, same)
+first_parts (o ∷ rest) start now (inr (front, is, more)) =
+    let behind = first_parts rest (option_map (with_file o.0 front) start) now more in
+    ((o.0, front) ∷ behind.0, (refl, is, behind.1), behind.2)
+
+whole_parts : (outputs : Outputs) → AreFirstParts outputs outputs
+whole_parts [] = tt
+whole_parts (o ∷ rest) = (refl, ([], append-nil o.1), whole_parts rest)
+
+parts_of_none : (parts : Outputs) → AreFirstParts parts [] → parts ≡ []
+parts_of_none [] is = refl
+parts_of_none (part ∷ parts) is = absurd is
+
+-- ---- before the schedule
+
+-- no file of a transmitter was begun, and of the feed a part
+pub only_fed : (fed : Outputs) (ts : List Transmitter) (steps : List Step) (got : Outputs) (status : Status)
+    (held : Files) (now : Option Files) → ArePartWritten fed (Some held) now
+    → NetProgress fed ts steps got status held now
+only_fed fed ts steps got status held now part =
+    let parts = first_parts fed (Some held) now part in record {
+      feed = parts.0;
+      feed_part = parts.1;
+      schedule = only_begun ts steps 0 (omega arith);
+      feed_first = λ some. absurd (omega (arith, some));
+      reception = [];
+      reception_part = tt;
+      schedule_first = λ some. absurd (some refl);
+      ends = inr (inl refl);
+      files = parts.2 ∙ ap (λ outputs. with_outputs outputs (Some held)) (sym (append-nil parts.0));
+    }
+
+-- nothing was touched
+pub nothing_fed : (fed : Outputs) (ts : List Transmitter) (steps : List Step) (got : Outputs) (status : Status)
+    (held : Files) (now : Option Files) → now ≡ Some held → NetProgress fed ts steps got status held now
+nothing_fed fed ts steps got status held now same =
+    only_fed fed ts steps got status held now
+    (part_of_none fed (Some held) now same)
+
+-- ---- behind the feed
+
+-- a fault in the midst of the schedule
+pub broken_off : (ts : List Transmitter) (steps : List Step) (got : Outputs) (status : Status) (outcome : Outcome)
+    (held : Files) (now : Option Files) (sent : Progress ts steps) → IsFault status → outcome ≡ ended status
+    → now ≡ with_outputs (begun_files ts steps sent) (Some held)
+    → NetProgress [] ts steps got outcome.status held now
+broken_off ts steps got status outcome held now sent fault is left = record {
+  feed = [];
+  feed_part = tt;
+  schedule = sent;
+  feed_first = λ some. refl;
+  reception = [];
+  reception_part = tt;
+  schedule_first = λ some. absurd (some refl);
+  ends = inl (subst (λ (o : Outcome). IsFault o.status) (sym is) fault);
+  files = left ∙ ap (λ outputs. with_outputs outputs (Some held)) (sym (append-nil (begun_files ts steps sent)));
+}
+
+-- the schedule is done, and of what is received a part is written
+pub received_on : (ts : List Transmitter) (steps : List Step) (got : Outputs) (status : Status) (held : Files)
+    (mid now : Option Files) → mid ≡ with_outputs (played_outputs ts steps) (Some held) → ArePartWritten got mid now
+    → NetProgress [] ts steps got status held now
+received_on ts steps got status held mid now is part =
+    let parts = first_parts got mid now part in
+    let sent : Progress ts steps = all_played ts steps in record {
+      feed = [];
+      feed_part = tt;
+      schedule = sent;
+      feed_first = λ some. refl;
+      reception = parts.0;
+      reception_part = parts.1;
+      schedule_first = λ some. record { begun = refl; done = refl };
+      ends = inr (inr (record { begun = refl; done = refl }));
+      files = parts.2 ∙ ap (with_outputs parts.0) is
+          ∙ ap (λ outputs. with_outputs parts.0 (with_outputs outputs (Some held))) (sym (all_files (played steps) ts))
+          ∙ sym (with_outputs-append (begun_files ts steps sent) parts.0 (Some held));
+    }
+
+-- the feed is whole, and the schedule came so far behind it
+pub fed_on : (fed : Outputs) (ts : List Transmitter) (steps : List Step) (got : Outputs) (status : Status)
+    (held mid : Files) (now : Option Files) → Some mid ≡ with_outputs fed (Some held)
+    → NetProgress [] ts steps got status mid now → NetProgress fed ts steps got status held now
+fed_on fed ts steps got status held mid now whole is = record {
+  feed = fed;
+  feed_part = whole_parts fed;
+  schedule = is.schedule;
+  feed_first = λ some. refl;
+  reception = is.reception;
+  reception_part = is.reception_part;
+  schedule_first = is.schedule_first;
+  ends = is.ends;
+  files = is.files ∙ ap (λ feed. with_outputs (feed ++ behind) (Some mid)) (parts_of_none is.feed is.feed_part)
+      ∙ ap (with_outputs behind) whole ∙ sym (with_outputs-append fed behind (Some held));
+}
+  where
+    behind : Outputs
+    behind = begun_files ts steps is.schedule ++ is.reception
+
+-- ---- over files that are told
+
+-- nothing was touched
+pub stream_untouched : (plan : whole.Plan) (network : NetPlan) (status : Status) (told now : Option Files)
+    → now ≡ told → IfSome told (λ held. HasStreamProgress plan network status held now)
+stream_untouched plan network status None now same = tt
+stream_untouched plan network status (Some held) now same = by_file (get held network.stream)
+  where
+    by_file : (found : Option (List ℕ)) → IfSome found (λ file. HasNetProgress plan network file status held now)
+    by_file None = tt
+    by_file (Some file) = nothing_fed (feed_outputs plan file) plan.transmitters.items
+        (steps_under plan (packets_of file) network.events)
+        (reception_outputs plan network (packets_of file) network.receive) status held now same
+
+net_untouched : (plan : whole.Plan) (net : Option NetPlan) (status : Status) (held : Files) (now : Option Files)
+    → now ≡ Some held → HasPlanProgress plan net status held now
+net_untouched plan None status held now same = tt
+net_untouched plan (Some network) status held now same = stream_untouched plan network status (Some held) now same
+
+pub file_untouched : (name : List ℕ) (status : Status) (told now : Option Files) → now ≡ told
+    → IfSome told (λ held. HasFileProgress name status held now)
+file_untouched name status None now same = tt
+file_untouched name status (Some held) now same = by_file (get held name)
+  where
+    by_plan : (said : Result whole.Plan PlanNo) → IfOk said (λ plan. HasPlanProgress plan plan.net status held now)
+    by_plan (Err refusal) = tt
+    by_plan (Ok plan) = net_untouched plan plan.net status held now same
+
+    by_file : (found : Option (List ℕ))
+        → IfSome found (λ bytes. IfOk (plan_of bytes) (λ plan. HasPlanProgress plan plan.net status held now))
+    by_file None = tt
+    by_file (Some bytes) = by_plan (plan_of bytes)
+
+-- the plan was read
+pub file_read : (name : List ℕ) (plan : whole.Plan) (status : Status) (told mid now : Option Files) → mid ≡ told
+    → IfSome told (λ held. IsPlanRead (get held name) 0 (Ok plan))
+    → IfSome mid (λ held. HasPlanProgress plan plan.net status held now)
+    → IfSome told (λ held. HasFileProgress name status held now)
+file_read name plan status None mid now same is progress = tt
+file_read name plan status (Some held) mid now same is progress = by_file (get held name) is
+  where
+    here : HasPlanProgress plan plan.net status held now
+    here = subst (λ f. IfSome f (λ held. HasPlanProgress plan plan.net status held now)) same progress
+
+    by_file : (found : Option (List ℕ)) → IsPlanRead found 0 (Ok plan)
+        → IfSome found (λ bytes. IfOk (plan_of bytes) (λ plan. HasPlanProgress plan plan.net status held now))
+    by_file None is = absurd is
+    by_file (Some bytes) is =
+        subst (λ said. IfOk said (λ plan. HasPlanProgress plan plan.net status held now)) (sym is) here
+
+-- ---- behind the line
+
+-- the line leaves the status, or makes a fault of it
+finished_or_fault : (status : Status) (line : Result (Unit {0}) SinkNo)
+    → (finished status line ≡ status) ⊎ IsFault (finished status line)
+finished_or_fault status (Ok u) = inl refl
+finished_or_fault status (Err sink.Memory) = inr tt
+finished_or_fault status (Err sink.Failed) = elim (finished_failed status) [
+  | inl done ↦ inr (let P : Status → Type 0 = λ s. IsFault (finished s (Err sink.Failed)) in subst P (sym done) tt)
+  | inr same ↦ inl same
+]
+
+-- under another status, or a fault
+answered_so : (fed : Outputs) (ts : List Transmitter) (steps : List Step) (got : Outputs) (status other : Status)
+    (held : Files) (now : Option Files) → (other ≡ status) ⊎ IsFault other
+    → NetProgress fed ts steps got status held now → NetProgress fed ts steps got other held now
+answered_so fed ts steps got status other held now (inl same) is =
+    let P : Status → Type 0 = λ s. NetProgress fed ts steps got s held now in subst P (sym same) is
+answered_so fed ts steps got status other held now (inr fault) is = record {
+  feed = is.feed;
+  feed_part = is.feed_part;
+  schedule = is.schedule;
+  feed_first = is.feed_first;
+  reception = is.reception;
+  reception_part = is.reception_part;
+  schedule_first = is.schedule_first;
+  ends = inl fault;
+  files = is.files;
+}
+
+stream_so : (plan : whole.Plan) (network : NetPlan) (status other : Status) (held : Files) (now : Option Files)
+    → (other ≡ status) ⊎ IsFault other → (found : Option (List ℕ))
+    → IfSome found (λ file. HasNetProgress plan network file status held now)
+    → IfSome found (λ file. HasNetProgress plan network file other held now)
+stream_so plan network status other held now same None is = tt
+stream_so plan network status other held now same (Some file) is =
+    answered_so (feed_outputs plan file) plan.transmitters.items (steps_under plan (packets_of file) network.events)
+    (reception_outputs plan network (packets_of file) network.receive) status other held now same is
+
+net_so : (plan : whole.Plan) (status other : Status) (held : Files) (now : Option Files)
+    → (other ≡ status) ⊎ IsFault other → (net : Option NetPlan) → HasPlanProgress plan net status held now
+    → HasPlanProgress plan net other held now
+net_so plan status other held now same None is = tt
+net_so plan status other held now same (Some network) is =
+    stream_so plan network status other held now same (get held network.stream) is
+
+plan_so : (status other : Status) (held : Files) (now : Option Files) → (other ≡ status) ⊎ IsFault other
+    → (said : Result whole.Plan PlanNo) → IfOk said (λ plan. HasPlanProgress plan plan.net status held now)
+    → IfOk said (λ plan. HasPlanProgress plan plan.net other held now)
+plan_so status other held now same (Err refusal) is = tt
+plan_so status other held now same (Ok plan) is = net_so plan status other held now same plan.net is
+
+file_so : (status other : Status) (held : Files) (now : Option Files) → (other ≡ status) ⊎ IsFault other
+    → (found : Option (List ℕ))
+    → IfSome found (λ bytes. IfOk (plan_of bytes) (λ plan. HasPlanProgress plan plan.net status held now))
+    → IfSome found (λ bytes. IfOk (plan_of bytes) (λ plan. HasPlanProgress plan plan.net other held now))
+file_so status other held now same None is = tt
+file_so status other held now same (Some bytes) is = plan_so status other held now same (plan_of bytes) is
+
+words_so : (words : List (List ℕ)) (status other : Status) (held : Files) (now : Option Files)
+    → (other ≡ status) ⊎ IsFault other → HasProgress words held status now → HasProgress words held other now
+words_so [] status other held now same is = tt
+words_so (verb ∷ []) status other held now same is = tt
+words_so (verb ∷ plan ∷ []) status other held now same is = file_so status other held now same (get held plan) is
+words_so (verb ∷ plan ∷ more ∷ rest) status other held now same is = tt
+
+command_so : (command : Option Command) (words : List (List ℕ)) (status other : Status) (held : Files)
+    (now : Option Files) → (other ≡ status) ⊎ IsFault other → HasProgressOf command words held status now
+    → HasProgressOf command words held other now
+command_so (Some Net) words status other held now same is = words_so words status other held now same is
+command_so _ words status other held now same is = tt
+
+pub progress_told : (command : Option Command) (words : List (List ℕ)) (told now : Option Files) (status : Status)
+    (line : Result (Unit {0}) SinkNo) → IfSome told (λ held. HasProgressOf command words held status now)
+    → IfSome told (λ held. HasProgressOf command words held (finished status line) now)
+progress_told command words None now status line is = tt
+progress_told command words (Some held) now status line is =
+    command_so command words status (finished status line) held now (finished_or_fault status line) is

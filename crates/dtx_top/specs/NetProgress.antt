@@ -1,0 +1,90 @@
+-- How far a network came: what stands in its files when it ends, whatever it answers (the profile's own).
+use Rattle.std.specs.Prelude.{◌≡◌, ◌≢◌, ◌⊎◌, ℕ, ◌<◌, Option, Some, None, IfSome, IfOk, List, [], ◌∷◌, ◌++◌}
+use Rattle.std.specs.FinMap.{get}
+use Rattle.dtx_engine.specs.Recipe.{meaning_of_file}
+use Rattle.dtx_jobs.specs.Shapes.{packets}
+use Rattle.dtx_meaning.specs.Meaning.{IsFrontOf, Outputs, with_outputs}
+use Rattle.dtx_meaning.specs.Status.{IsFault}
+use Rattle.dtx_meaning.specs.declared.status.Status.{Status}
+use Rattle.dtx_net.specs.Steps.{Step}
+use Rattle.dtx_network.specs.Network.{steps_under}
+use Rattle.dtx_outside.specs.Shelf.{Files}
+use Rattle.dtx_packets.specs.Packets.{packets_of}
+use Rattle.dtx_plan.specs.Plan.{plan_of}
+use Rattle.dtx_plan.specs.declared.plan.NetPlan.{NetPlan}
+use Rattle.dtx_plan.specs.declared.plan.Plan as whole
+use Rattle.dtx_plan.specs.declared.plan.ReceivePlan.{ReceivePlan}
+use Rattle.dtx_plan.specs.declared.transmitter.Transmitter.{Transmitter}
+use Rattle.dtx_schedule.specs.Progress.{IsComplete, Progress, begun_files}
+use Rattle.dtx_words.specs.NetworkNames.{feed_name}
+use Rattle.dtx_top.specs.NetMeaning.{adapting, received_of}
+
+-- some of the first outputs, each with a front part of its bytes
+abbrev pub AreFirstParts : Outputs → Outputs → Type 0
+AreFirstParts [] outputs = Unit {0}
+AreFirstParts (part ∷ parts) [] = ⊥
+AreFirstParts (part ∷ parts) (o ∷ rest) = (part.0 ≡ o.0) × IsFrontOf part.1 o.1 × AreFirstParts parts rest
+
+-- How far a network came that writes this feed, plays these steps over it and receives this of them. No file was
+-- touched but its own, and they were begun in one order: `net.feed`, those of the transmitters, `net.ts`.
+pub record NetProgress (whole_feed : Outputs) (ts : List Transmitter) (steps : List Step) (whole_reception : Outputs)
+    (status : Status) (held : Files) (now : Option Files) : Type 0 where
+  -- `net.feed`, if it was begun, holds a front part of the feed.
+  pub feed : Outputs
+  pub feed_part : AreFirstParts feed whole_feed
+  -- The schedule came so far: so many files of the transmitters are begun, so many steps are done, one number for all
+  -- transmitters, and each of those files holds what these steps give and a front part of what one more gives. None is
+  -- begun before the feed is whole.
+  pub schedule : Progress ts steps
+  pub feed_first : 0 < schedule.begun → feed ≡ whole_feed
+  -- `net.ts`, if it was begun, holds a front part of what is received. It isn't begun before all steps are done.
+  pub reception : Outputs
+  pub reception_part : AreFirstParts reception whole_reception
+  pub schedule_first : reception ≢ [] → IsComplete ts steps schedule
+  -- Only a fault or want of memory ends in the midst of the schedule: every other answer comes before a file of a
+  -- transmitter is begun, or once all steps are done.
+  pub ends : IsFault status ⊎ ((schedule.begun ≡ 0) ⊎ IsComplete ts steps schedule)
+  pub files : now ≡ with_outputs (feed ++ (begun_files ts steps schedule ++ reception)) (Some held)
+
+-- ---- of `net`
+
+-- the feed of the stream in this file, as far as its packets are allowed, as an output
+abbrev pub feed_outputs : whole.Plan → List ℕ → Outputs
+feed_outputs plan file = (meaning_of_file packets (adapting plan) (feed_name ∷ []) file).outputs
+
+-- what is received of the network over a stream, as an output, where a receiver is asked for
+abbrev pub reception_outputs : whole.Plan → NetPlan → List (List ℕ) → Option ReceivePlan → Outputs
+reception_outputs plan network stream None = []
+reception_outputs plan network stream (Some receiver) = (received_of plan network stream receiver).outputs
+
+-- how far a network came over a stream behind its feed, which is written
+abbrev pub HasPlayProgress : whole.Plan → NetPlan → List (List ℕ) → Status → Files → Option Files → Type 0
+HasPlayProgress plan network stream status held now =
+    NetProgress [] plan.transmitters.items (steps_under plan stream network.events)
+    (reception_outputs plan network stream network.receive) status held now
+
+-- how far it came over the stream of these bytes
+abbrev pub HasNetProgress : whole.Plan → NetPlan → List ℕ → Status → Files → Option Files → Type 0
+HasNetProgress plan network file status held now =
+    NetProgress (feed_outputs plan file) plan.transmitters.items (steps_under plan (packets_of file) network.events)
+    (reception_outputs plan network (packets_of file) network.receive) status held now
+
+-- over the stream that it names, where that is there
+abbrev pub HasStreamProgress : whole.Plan → NetPlan → Status → Files → Option Files → Type 0
+HasStreamProgress plan network status held now =
+    IfSome (get held network.stream) (λ file. HasNetProgress plan network file status held now)
+
+-- under a plan and what its table `net` says, where it has one
+abbrev pub HasPlanProgress : whole.Plan → Option NetPlan → Status → Files → Option Files → Type 0
+HasPlanProgress plan net status held now = IfSome net (λ network. HasStreamProgress plan network status held now)
+
+-- under the plan of the file of this name, where that is one
+abbrev pub HasFileProgress : List ℕ → Status → Files → Option Files → Type 0
+HasFileProgress name status held now =
+    IfSome (get held name) (λ bytes. IfOk (plan_of bytes) (λ plan. HasPlanProgress plan plan.net status held now))
+
+-- How far the network came that these words name, from the files that were held before to those now: where PLAN is a
+-- plan with a table `net`, and its stream is there.
+abbrev pub HasProgress : List (List ℕ) → Files → Status → Option Files → Type 0
+HasProgress (verb ∷ plan ∷ []) held status now = HasFileProgress plan status held now
+HasProgress words held status now = Unit {0}
