@@ -93,5 +93,13 @@ for name in tx-1.log tx-35.sym tx-35.log; do
     rm tx-* net.feed
 done
 
+start 'an output that is the file of standard output'
+for word in out.sym ./out.sym /dev/stdout; do
+    echo older >out.sym
+    "$dtx" code ../inputs/given.ts $word >>out.sym 2>"$room/complaint"
+    [[ $? == 12 && $(<out.sym) == $'older\nwrite fault' ]] || wrong "$word: holds $(head -n 2 out.sym)"
+    [[ $(<"$room/complaint") == 'dtx: an output is a file that is read, or another output,'* ]] || wrong "$word: no complaint"
+done
+
 start 'a device that is read and written is no file that is lost'
 run 0 'packets 0 segments 0 loose 0' code /dev/null /dev/full
