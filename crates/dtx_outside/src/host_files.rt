@@ -61,9 +61,15 @@ impl<'a, R: Files + AllocGlobal + Clock + Eprint> HostFiles<'a, R> {
     }
 
     /// Opens the file, which it makes where it isn't there, and only where it is none that was met, nor that of standard
-    /// output, takes away what it holds. From there on every failure is one of writing, since the file may have been made.
+    /// output, takes away what it holds. That is asked of the name, so that such a file isn't even opened, and of the open file,
+    /// since another may have come under the name. From there on every failure is one of writing, since the file may have been made.
     pub(crate) fn begin(&mut self, name: &str) -> Result<(), WriteNo> {
         self.met.make_room()?;
+        if let Ok(found) = fs::metadata(self.rt, name)
+            && self.overlaps(&found)
+        {
+            return Err(WriteNo::Failed);
+        }
         let file = match OpenOptions::new()
             .write(true)
             .create(true)
@@ -78,11 +84,17 @@ impl<'a, R: Files + AllocGlobal + Clock + Eprint> HostFiles<'a, R> {
         }
     }
 
+    /// Whether the file is one that may not be begun, which is kept in mind.
+    fn overlaps(&mut self, found: &Metadata) -> bool {
+        let overlaps = self.met.would_lose(found) || is_printed_to(self.rt, found);
+        self.overlap |= overlaps;
+        overlaps
+    }
+
     /// Takes an open file as one that is begun.
     fn take(&mut self, file: R::File) -> io::Result<()> {
         let found = file.metadata()?;
-        if self.met.would_lose(&found) || is_printed_to(self.rt, &found) {
-            self.overlap = true;
+        if self.overlaps(&found) {
             return Err(io::Error::from(ErrorKind::AlreadyExists));
         }
         if found.is_file() {
