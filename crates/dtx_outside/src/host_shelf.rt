@@ -16,9 +16,9 @@ use std::time::Clock;
 /// only a pipe that is written stays open.
 ///
 /// No file is begun that was read or begun before, under whatever name, or that standard output goes to: `begin` fails
-/// then and touches nothing, so an input is not lost where another path or a link leads to it. Nothing is added to a file
-/// that was not begun, or that isn't as long as what was added; and nothing is read on behind byte 0 where another file
-/// has come under the name, or the file was lost or cut. So an answer without a fault speaks of one file a name.
+/// then and touches nothing, so an input is not lost where another path or a link leads to it. Nothing is added to a
+/// file that was not begun, or that isn't as long as what was added; and nothing is read on behind byte 0 where another
+/// file has come under the name, or the file was lost or cut. So an answer without a fault speaks of one file a name.
 #[derive(Drop)]
 pub struct HostShelf<'a, R: Files> {
     files: HostFiles<'a, R>,
