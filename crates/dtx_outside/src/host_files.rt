@@ -60,8 +60,8 @@ impl<'a, R: Files + AllocGlobal + Clock + Eprint> HostFiles<'a, R> {
         Ok(n)
     }
 
-    /// Opens the file, which it makes where it isn't there, and only where it is none that was met, nor that of standard
-    /// output, takes away what it holds. That is asked of the name, so that such a file isn't even opened, and of the
+    /// Opens the file, which it makes where it isn't there, and takes away what it holds only where it is none that was
+    /// met, nor that of standard output. That is asked of the name, so that such a file isn't even opened, and of the
     /// open file, since another may have come under the name. From there on every failure is one of writing, since the
     /// file may have been made.
     pub(crate) fn begin(&mut self, name: &str) -> Result<(), WriteNo> {
