@@ -455,7 +455,6 @@ while read -r size full; do
     stream 1300 s.ts
     { network s.ts && send 9 0 50 && send 7 0 1300 && send 9 0 1300 && receiver 7; } >plan.toml
     (
-        trap '' XFSZ
         ulimit -f "$size"
         "$dtx" net plan.toml >"$room/said" 2>"$room/complaint"
     )

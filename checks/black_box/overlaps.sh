@@ -85,12 +85,24 @@ cp ../inputs/given.ts s.ts
     printf '[net]\nstream = "s.ts"\n'
     send 35 0 624
 } >plan.toml
-for name in tx-1.log tx-35.sym tx-35.log; do
-    ln -s s.ts "$name"
-    overlaps s.ts net plan.toml
-    ln -sf tx-1.sym "$name"
-    overlaps s.ts net plan.toml
+while read -r name earlier; do
+    for file in s.ts "$earlier"; do
+        ln -sf "$file" "$name"
+        overlaps s.ts net plan.toml
+    done
     rm tx-* net.feed
+done <<'end'
+tx-1.log tx-1.sym
+tx-35.sym tx-34.log
+tx-35.log tx-35.sym
+end
+
+start 'an output that is the file of standard output'
+for word in out.sym ./out.sym /dev/stdout; do
+    echo older >out.sym
+    "$dtx" code ../inputs/given.ts $word >>out.sym 2>"$room/complaint"
+    [[ $? == 12 && $(<out.sym) == $'older\nwrite fault' ]] || wrong "$word: holds $(head -n 2 out.sym)"
+    [[ $(<"$room/complaint") == 'dtx: an output is a file that is read, or another output,'* ]] || wrong "$word: no complaint"
 done
 
 start 'a device that is read and written is no file that is lost'

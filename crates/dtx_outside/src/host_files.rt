@@ -1,10 +1,10 @@
 // The file system, through the runtime that `main` is given: what each call of the shelf does there.
 ghost use Rattle.std.specs.Prelude.{◌≤◌, IfOk, length};
 
-use crate::files_met::FilesMet;
+use crate::files_met::{FilesMet, id_of};
 use crate::pipes::Pipes;
 use crate::{Progress, ReadNo, WriteNo};
-use std::fs::{File, OpenFile, OpenOptions};
+use std::fs::{File, Metadata, OpenFile, OpenOptions};
 use std::io::{ErrorKind, Read, Seek, SeekFrom, Write};
 use std::os::unix::fs::FileTypeExt;
 use std::rt::Files;
@@ -32,7 +32,7 @@ impl<'a, R: Files + AllocGlobal + Clock + Eprint> HostFiles<'a, R> {
         }
     }
 
-    /// Whether a file was not begun because it was read or begun before, under this name or another.
+    /// Whether a file was not begun because it was read or begun before, under this name or another, or is printed to.
     pub(crate) fn overlap(&self) -> bool {
         self.overlap
     }
@@ -60,10 +60,17 @@ impl<'a, R: Files + AllocGlobal + Clock + Eprint> HostFiles<'a, R> {
         Ok(n)
     }
 
-    /// Opens the file, which it makes where it isn't there, and only where it is none that was met takes away what it
-    /// holds. From there on every failure is one of writing, since the file may have been made.
+    /// Opens the file, which it makes where it isn't there, and takes away what it holds only where it is none that was
+    /// met, nor that of standard output. That is asked of the name, so that such a file isn't even opened, and of the
+    /// open file, since another may have come under the name. From there on every failure is one of writing, since the
+    /// file may have been made.
     pub(crate) fn begin(&mut self, name: &str) -> Result<(), WriteNo> {
         self.met.make_room()?;
+        if let Ok(found) = fs::metadata(self.rt, name)
+            && self.overlaps(&found)
+        {
+            return Err(WriteNo::Failed);
+        }
         let file = match OpenOptions::new()
             .write(true)
             .create(true)
@@ -78,11 +85,17 @@ impl<'a, R: Files + AllocGlobal + Clock + Eprint> HostFiles<'a, R> {
         }
     }
 
+    /// Whether the file is one that may not be begun, which is kept in mind.
+    fn overlaps(&mut self, found: &Metadata) -> bool {
+        let overlaps = self.met.would_lose(found) || is_printed_to(self.rt, found);
+        self.overlap |= overlaps;
+        overlaps
+    }
+
     /// Takes an open file as one that is begun.
     fn take(&mut self, file: R::File) -> io::Result<()> {
         let found = file.metadata()?;
-        if self.met.would_lose(&found) {
-            self.overlap = true;
+        if self.overlaps(&found) {
             return Err(io::Error::from(ErrorKind::AlreadyExists));
         }
         if found.is_file() {
@@ -117,6 +130,14 @@ impl<'a, R: Files + AllocGlobal + Clock + Eprint> HostFiles<'a, R> {
 fn is_pipe<R: Files>(rt: &R, name: &str) -> bool {
     match fs::metadata(rt, name) {
         Ok(found) => found.file_type().is_fifo(),
+        Err(_) => false,
+    }
+}
+
+/// Whether standard output goes to that file: the line of the answer would stand over what is written there.
+fn is_printed_to<R: Files>(rt: &R, found: &Metadata) -> bool {
+    match fs::metadata(rt, "/dev/stdout") {
+        Ok(printed) => found.is_file() && id_of(&printed) == id_of(found),
         Err(_) => false,
     }
 }

@@ -15,10 +15,10 @@ use std::time::Clock;
 /// The files of the host. Each call opens its file and closes it again, so the number of files has no limit of its own;
 /// only a pipe that is written stays open.
 ///
-/// No file is begun that was read or begun before, under whatever name: `begin` fails then and touches nothing, so an
-/// input is not lost where another path or a link leads to it. Nothing is added to a file that was not begun, or that
-/// isn't as long as what was added; and nothing is read on behind byte 0 where another file has come under the name, or
-/// the file was lost or cut. So an answer without a fault speaks of one file a name.
+/// No file is begun that was read or begun before, under whatever name, or that standard output goes to: `begin` fails
+/// then and touches nothing, so an input is not lost where another path or a link leads to it. Nothing is added to a
+/// file that was not begun, or that isn't as long as what was added; and nothing is read on behind byte 0 where another
+/// file has come under the name, or the file was lost or cut. So an answer without a fault speaks of one file a name.
 #[derive(Drop)]
 pub struct HostShelf<'a, R: Files> {
     files: HostFiles<'a, R>,
@@ -44,7 +44,7 @@ impl<'a, R: Files + AllocGlobal + Clock + Eprint> HostShelf<'a, R> {
         }
     }
 
-    /// Whether a file was not begun because it was read or begun before, under this name or another.
+    /// Whether a file was not begun because it was read or begun before, under this name or another, or is printed to.
     pub fn overlap(&self) -> bool {
         self.files.overlap()
     }
