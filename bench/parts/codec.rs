@@ -18,6 +18,10 @@ mod encoder {
         pub fn encode(&self, head: &[u8; DATA], word: &mut [u8; WORD]) {
             self.0.encode(head, word);
         }
+
+        pub fn encode_four(&self, heads: &[[u8; DATA]; 4], words: &mut [[u8; WORD]; 4]) {
+            self.0.encode_four(heads, words);
+        }
     }
 }
 
@@ -84,15 +88,15 @@ impl Interleaver {
         Interleaver { next: 0, place: 0, block: vec![0; HELD + ROOM] }
     }
 
-    fn pass(&mut self, bytes: &mut [u8; WORD]) {
-        if self.place + WORD + HELD > self.block.len() {
+    fn pass<const LEN: usize>(&mut self, bytes: &mut [u8; LEN]) {
+        if self.place + LEN + HELD > self.block.len() {
             self.block.copy_within(self.place..self.place + HELD, 0);
             self.place = 0;
         }
         let mut done = 0;
-        while done < WORD {
+        while done < LEN {
             let place = self.place + done;
-            if self.next == 0 && WORD - done >= BRANCHES {
+            if self.next == 0 && LEN - done >= BRANCHES {
                 let row: &[u8; BRANCHES] = bytes[done..done + BRANCHES].try_into().unwrap();
                 let there: &mut [u8; ROW] = (&mut self.block[place..place + ROW]).try_into().unwrap();
                 for branch in 0..BRANCHES {
@@ -105,8 +109,8 @@ impl Interleaver {
                 self.next = if self.next + 1 == BRANCHES { 0 } else { self.next + 1 };
             }
         }
-        bytes.copy_from_slice(&self.block[self.place..self.place + WORD]);
-        self.place += WORD;
+        bytes.copy_from_slice(&self.block[self.place..self.place + LEN]);
+        self.place += LEN;
     }
 }
 
@@ -325,12 +329,12 @@ impl Group {
     }
 
     fn send(&mut self, first: usize, packets: &[[u8; PACKET]; GROUP_PACKETS], sync: bool) {
+        let heads = from_fn(|i| self.whitener.whiten(DATA * (first + i), packets[i].last_chunk().unwrap()));
+        let mut words = [[0; WORD]; GROUP_PACKETS];
+        self.encoder.encode_four(&heads, &mut words);
         let mut bytes = [0; GROUP_BYTES];
-        for (i, out) in bytes.as_chunks_mut::<WORD>().0.iter_mut().enumerate() {
-            let head = packets[i].last_chunk().unwrap();
-            self.encoder.encode(&self.whitener.whiten(DATA * (first + i), head), out);
-            self.interleaver.pass(out);
-        }
+        bytes.copy_from_slice(words.as_flattened());
+        self.interleaver.pass(&mut bytes);
         let mut levels = [0; GROUP_LEVELS];
         self.coders.group(first, &bytes, &mut levels);
         let (segments, _) = self.symbols.as_chunks_mut::<SEGMENT>();
@@ -377,7 +381,7 @@ fn whiten() {
 
 fn spread() {
     let mut interleaver = Interleaver::new();
-    let mut word = from_fn(|i| i as u8);
+    let mut word: [u8; WORD] = from_fn(|i| i as u8);
     print_least("spread", "packet", PASSED, || {
         for _ in 0..PASSED {
             interleaver.pass(&mut word);

@@ -89,15 +89,19 @@ impl Table {
         join(head, &state, word);
     }
 
-    fn encode_two(&self, first: &[u8; DATA], first_word: &mut [u8; WORD], second: &[u8; DATA], second_word: &mut [u8; WORD]) {
-        let mut state = self.started(first);
-        let mut other = self.started(second);
-        for (one, two) in first[3..].as_chunks::<4>().0.iter().zip(second[3..].as_chunks::<4>().0) {
-            state = self.fed(&state, one);
-            other = self.fed(&other, two);
+    fn encode_four(&self, heads: &[[u8; DATA]; 4], words: &mut [[u8; WORD]; 4]) {
+        let [one, two, three, four] = heads;
+        let (mut a, mut b, mut c, mut d) = (self.started(one), self.started(two), self.started(three), self.started(four));
+        for step in 0..DATA / 4 {
+            let at = 3 + 4 * step;
+            a = self.fed(&a, &[one[at], one[at + 1], one[at + 2], one[at + 3]]);
+            b = self.fed(&b, &[two[at], two[at + 1], two[at + 2], two[at + 3]]);
+            c = self.fed(&c, &[three[at], three[at + 1], three[at + 2], three[at + 3]]);
+            d = self.fed(&d, &[four[at], four[at + 1], four[at + 2], four[at + 3]]);
         }
-        join(first, &state, first_word);
-        join(second, &other, second_word);
+        for ((head, state), word) in heads.iter().zip([a, b, c, d]).zip(words) {
+            join(head, &state, word);
+        }
     }
 }
 
@@ -124,15 +128,16 @@ fn encode(table: &Table, words: u32) -> [u8; PARITY] {
     word[DATA..].try_into().unwrap()
 }
 
-fn encode_two(table: &Table, pairs: u32) -> [[u8; PARITY]; 2] {
-    let (mut first, mut second) = ([1; DATA], [2; DATA]);
-    let (mut first_word, mut second_word) = ([0; WORD], [0; WORD]);
-    for _ in 0..pairs {
-        table.encode_two(&first, &mut first_word, &second, &mut second_word);
-        add(&mut first, &first_word);
-        add(&mut second, &second_word);
+fn encode_four(table: &Table, fours: u32) -> [[u8; PARITY]; 4] {
+    let mut heads = [[1; DATA], [2; DATA], [3; DATA], [4; DATA]];
+    let mut words = [[0; WORD]; 4];
+    for _ in 0..fours {
+        table.encode_four(&heads, &mut words);
+        for (head, word) in heads.iter_mut().zip(&words) {
+            add(head, word);
+        }
     }
-    [first_word[DATA..].try_into().unwrap(), second_word[DATA..].try_into().unwrap()]
+    words.map(|word| word[DATA..].try_into().unwrap())
 }
 
 fn hex(bytes: &[u8]) -> String {
@@ -142,22 +147,22 @@ fn hex(bytes: &[u8]) -> String {
 fn main() {
     let table = Table::new();
     if std::env::args().nth(1).is_none() {
-        let [first, second] = encode_two(&table, CHECKED);
-        println!("encode {} encode_two {} {}", hex(&encode(&table, CHECKED)), hex(&first), hex(&second));
+        let four = encode_four(&table, CHECKED).map(|parity| hex(&parity)).join(" ");
+        println!("encode {} encode_four {four}", hex(&encode(&table, CHECKED)));
         return;
     }
-    let (mut one, mut two) = (u128::MAX, u128::MAX);
+    let (mut one, mut four) = (u128::MAX, u128::MAX);
     let mut sum = 0u8;
     for _ in 0..ROUNDS {
         let start = Instant::now();
         sum = sum.wrapping_add(encode(&table, WORDS)[0]);
         one = one.min(start.elapsed().as_nanos());
         let start = Instant::now();
-        let [first, second] = encode_two(&table, WORDS);
-        sum = sum.wrapping_add(first[0] ^ second[0]);
-        two = two.min(start.elapsed().as_nanos());
+        let parities = encode_four(&table, WORDS);
+        sum = sum.wrapping_add(parities[0][0] ^ parities[3][0]);
+        four = four.min(start.elapsed().as_nanos());
     }
     println!("encode {} ns a packet", one / u128::from(WORDS));
-    println!("encode_two {} ns a packet", two / u128::from(2 * WORDS));
+    println!("encode_four {} ns a packet", four / u128::from(4 * WORDS));
     println!("sum {sum}");
 }

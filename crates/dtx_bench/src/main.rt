@@ -23,15 +23,15 @@ use std::rt::Clock;
 use std::time::Instant;
 use std::{env, io};
 use whitening::print_whiten_times;
-use work::{DATA, WORD, encode, encode_two};
+use work::{DATA, WORD, encode, encode_four};
 
 /// How often the work is measured; the least time counts.
 const ROUNDS: u32 = 200;
 
-/// How many packets a round encodes one by one, and then how many pairs of packets.
+/// How many packets a round encodes one by one, and then how many times four packets.
 const WORDS: u32 = 2_000;
 
-/// After how many words, and after how many pairs, the parity bytes are printed.
+/// After how many words, and after how many times four words, the parity bytes are printed.
 const CHECKED: u32 = 1_000;
 
 fn main(rt: HostRuntime) -> io::Result<()> {
@@ -56,11 +56,12 @@ fn main(rt: HostRuntime) -> io::Result<()> {
 fn print_check(rt: &impl Print, code: &Rs<WORD, DATA>) -> io::Result<()> {
     print!(rt; "encode ")?;
     print_hex(rt, &encode(code, CHECKED))?;
-    let (first, second) = encode_two(code, CHECKED);
-    print!(rt; " encode_two ")?;
-    print_hex(rt, &first)?;
-    print!(rt; " ")?;
-    print_hex(rt, &second)?;
+    print!(rt; " encode_four")?;
+    let parities = encode_four(code, CHECKED);
+    for p in 0..4 {
+        print!(rt; " ")?;
+        print_hex(rt, &parities[p][..])?;
+    }
     println!(rt; "")
 }
 
@@ -73,18 +74,18 @@ fn print_hex(rt: &impl Print, bytes: &[u8]) -> io::Result<()> {
 
 fn print_times(rt: &(impl Clock + Print), code: &Rs<WORD, DATA>) -> io::Result<()> {
     let mut one = u128::MAX;
-    let mut two = u128::MAX;
+    let mut four = u128::MAX;
     let mut sum = 0u8;
     for _ in 0..ROUNDS {
         let start = Instant::now(rt)?;
         sum = sum.wrapping_add(encode(code, WORDS)[0]);
         one = one.min(start.elapsed(rt)?.as_nanos());
         let start = Instant::now(rt)?;
-        let (first, second) = encode_two(code, WORDS);
-        sum = sum.wrapping_add(first[0] ^ second[0]);
-        two = two.min(start.elapsed(rt)?.as_nanos());
+        let parities = encode_four(code, WORDS);
+        sum = sum.wrapping_add(parities[0][0] ^ parities[3][0]);
+        four = four.min(start.elapsed(rt)?.as_nanos());
     }
     println!(rt; "encode {} ns a packet", one / u128::from(WORDS))?;
-    println!(rt; "encode_two {} ns a packet", two / u128::from(2 * WORDS))?;
+    println!(rt; "encode_four {} ns a packet", four / u128::from(4 * WORDS))?;
     println!(rt; "sum {sum}")
 }

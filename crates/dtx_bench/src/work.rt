@@ -23,18 +23,26 @@ pub fn encode(code: &Rs<WORD, DATA>, words: u32) -> [u8; PARITY] {
     parity(&word)
 }
 
-/// The parity bytes of the last of so many pairs of words.
-pub fn encode_two(code: &Rs<WORD, DATA>, pairs: u32) -> ([u8; PARITY], [u8; PARITY]) {
-    let mut first = [1; DATA];
-    let mut second = [2; DATA];
-    let mut first_word = [0; WORD];
-    let mut second_word = [0; WORD];
-    for _ in 0..pairs {
-        code.encode_two(&first, &mut first_word, &second, &mut second_word);
-        add(&mut first, &first_word);
-        add(&mut second, &second_word);
+/// The parity bytes of the last four of so many words, which are encoded four at once.
+pub fn encode_four(code: &Rs<WORD, DATA>, fours: u32) -> [[u8; PARITY]; 4] {
+    let mut heads = [[1; DATA], [2; DATA], [3; DATA], [4; DATA]];
+    let mut words = [[0; WORD]; 4];
+    for _ in 0..fours {
+        code.encode_four(&heads, &mut words);
+        add_four(&mut heads, &words);
     }
-    (parity(&first_word), parity(&second_word))
+    [
+        parity(&words[0]),
+        parity(&words[1]),
+        parity(&words[2]),
+        parity(&words[3]),
+    ]
+}
+
+fn add_four(heads: &mut [[u8; DATA]; 4], words: &[[u8; WORD]; 4]) {
+    for p in 0..4 {
+        add(&mut heads[p], &words[p]);
+    }
 }
 
 /// Adds the parity bytes to the first bytes of the data.

@@ -1,6 +1,6 @@
 //! The outer coding of a group's packets.
 
-ghost use Rattle.std.specs.Prelude.{◌≡◌, ◌+◌, ◌<◌, ◌≤◌, [], ◌∷◌, IfOk, map};
+ghost use Rattle.std.specs.Prelude.{◌≡◌, ℕ, ◌+◌, ◌<◌, ◌≤◌, [], IfOk, drop, length, map, slice_index_or, take};
 ghost use Rattle.dtx_laws.specs.Branches.{leaving_all, after_all};
 ghost use Rattle.dtx_whiten.specs.Randomizer.{randomizer_bytes};
 ghost use Rattle.dtx_coder.specs.Coded.{coded_from};
@@ -10,7 +10,7 @@ use dtx_outer::Outer;
 use dtx_packets::Packet;
 use dtx_rs::Rs;
 use dtx_sizes::{
-    BRANCH_STEP, BRANCHES, CODEWORD, FIELD_PACKETS, GROUP_BYTES, GROUP_PACKETS, PACKET_DATA,
+    BRANCH_STEP, BRANCHES, CODEWORD, FIELD_PACKETS, GROUP_BYTES, GROUP_PACKETS, PACKET, PACKET_DATA,
 };
 use dtx_spread::Branches;
 use dtx_whiten::Atsc;
@@ -51,26 +51,36 @@ pub(crate) fn code_packets(
           (coded_from first (map (λ p. p.0) packets.now));
     } }
 {
+    let mut words = [[0; CODEWORD]; GROUP_PACKETS];
+    outer.codewords(PACKET_DATA * first, &heads_of(packets), &mut words);
     for i in 0..GROUP_PACKETS {
-        let mut word = [0; CODEWORD];
-        code_packet(outer, first + i, &packets[i], &mut word);
-        bytes[CODEWORD * i..CODEWORD * i + CODEWORD].copy_from_slice(&word);
+        bytes[CODEWORD * i..CODEWORD * i + CODEWORD].copy_from_slice(&words[i]);
     }
+    outer.pass(&mut bytes[..]);
 }
 
-/// The bytes that leave as the codeword of packet `place` of its field comes.
-fn code_packet(outer: &mut OuterCoding, place: usize, packet: &Packet, word: &mut [u8; CODEWORD])
-    requires white { outer.old.white ≡ randomizer_bytes }
-    requires place { place < FIELD_PACKETS }
-    ensures bytes { word.new ≡ leaving_all BRANCHES outer.old.branches (coded_from place (packet.now.0 ∷ [])) }
-    ensures outer { outer.new ≡ record outer.old {
-      branches = after_all BRANCHES outer.old.branches
-          (coded_from place (packet.now.0 ∷ []));
-    } }
+/// The packets' data, which stand behind their sync bytes.
+fn heads_of(packets: &[Packet; GROUP_PACKETS]) -> [[u8; PACKET_DATA]; GROUP_PACKETS]
+    ensures heads { (p : ℕ) → p < GROUP_PACKETS → slice_index_or result p []
+        ≡ take PACKET_DATA (drop 1 (slice_index_or packets.now p (record { 0 = [] })).0) }
+    ensures long { (p : ℕ) → p < GROUP_PACKETS
+        → length (slice_index_or packets.now p (record { 0 = [] })).0 ≡ PACKET }
+{
+    let mut heads = [[0; PACKET_DATA]; GROUP_PACKETS];
+    for p in 0..GROUP_PACKETS {
+        heads[p] = head_of(&packets[p]);
+    }
+    heads
+}
+
+/// A packet's data.
+fn head_of(packet: &Packet) -> [u8; PACKET_DATA]
+    ensures head { result ≡ take PACKET_DATA (drop 1 packet.now.0) }
+    ensures long { length packet.now.0 ≡ PACKET }
 {
     let mut head = [0; PACKET_DATA];
     head.copy_from_slice(&packet.0[1..]);
-    outer.code(place, &head, word);
+    head
 }
 
 #[cfg(test)]

@@ -5,13 +5,13 @@ ghost use Rattle.dtx_exciter.specs.Order.{ordered};
 ghost use Rattle.dtx_exciter.specs.Packets.{reads};
 ghost use Rattle.dtx_exciter.specs.Step.{bytes_of, order_in};
 
-use dtx_correct::Linear;
+use dtx_fast::Fast;
 use dtx_ops::{Ops, read};
 use dtx_packets::Packet;
 use dtx_sizes::GROUP_PACKETS;
 
 /// The corrector of operations packets.
-pub(crate) type Corrector = Linear<184, 164>;
+pub(crate) type Corrector = Fast<184, 164>;
 
 /// The fields of the first packet of a group that reads and whose index is its place in the frame, where the group's
 /// first one stands at `first`.

@@ -4,6 +4,7 @@
 
 mod fast;
 pub mod laws;
+mod places;
 mod recurrence;
 mod repair;
 mod rows;

@@ -32,13 +32,22 @@ impl Recurrence {
         ensures order { result.order ≡ order }
         ensures bytes { (k : ℕ) → slice_index coefficients.now k < 256 }
     {
-        let mut own = [0; WIDTH];
-        own.copy_from_slice(coefficients);
         Recurrence {
-            coefficients: own,
+            coefficients: copied(coefficients),
             order,
         }
     }
+}
+
+/// The coefficients as an array.
+pub fn copied(coefficients: &[u8]) -> [u8; WIDTH]
+    requires { length coefficients.now ≡ WIDTH }
+    ensures same { result ≡ coefficients.now }
+    ensures bytes { (k : ℕ) → slice_index coefficients.now k < 256 }
+{
+    let mut own = [0; WIDTH];
+    own.copy_from_slice(coefficients);
+    own
 }
 
 /// The shortest recurrence of the first `count` terms, where its order isn't more than half of them.

@@ -6,32 +6,29 @@ ghost use Rattle.dtx_galois.specs.Field.{pow, value};
 ghost use Rattle.dtx_galois.specs.Word.{sums};
 ghost use Rattle.dtx_fast.specs.Recurrence.{walked};
 
+use crate::places::{MOST_ORDER, Places};
 use crate::recurrence::Recurrence;
 use crate::repair::walk;
 use crate::rows::{HALVES, Rows};
 use dtx_galois::ALPHA;
 use dtx_laws::correcting::{ROOM, syndromes_of};
 
-/// For how many parity bytes there are rows of syndromes; half as many is the greatest order for which there are rows
-/// of places.
-const PARITY: usize = 20;
+/// For how many parity bytes there are rows of syndromes.
+const PARITY: usize = 2 * MOST_ORDER;
 
 /// How many syndromes a row has: no fewer than there are parity bytes, in whole vectors.
 const SYNDROMES: usize = 32;
 
-/// How many rows of syndromes there are, and how many of places.
+/// How many rows of syndromes there are.
 const SYNDROME_ROWS: usize = HALVES * PARITY;
 
-const PLACE_ROWS: usize = HALVES * (PARITY / 2 + 1);
-
-/// The rows by which syndromes are made of parity bytes, and those by which a recurrence is walked over all places: 110
+/// The rows by which syndromes are made of parity bytes, and those by which a recurrence is walked over all places: 43
 /// KB.
 #[derive(Drop)]
 pub struct Tables {
     syndromes: Rows<SYNDROMES, SYNDROME_ROWS>,
-    places: Rows<ROOM, PLACE_ROWS>,
+    places: Places,
     ghost powers: { syndromes.base.0 ≡ 2 },
-    ghost inverses: { places.base.0 ≡ pow 2 254 },
 }
 
 impl Tables {
@@ -39,7 +36,7 @@ impl Tables {
     pub fn new() -> Self {
         Tables {
             syndromes: Rows::new(ALPHA),
-            places: Rows::new(ALPHA.pow(254)),
+            places: Places::new(),
         }
     }
 
@@ -66,8 +63,8 @@ impl Tables {
         ensures values { (q : ℕ) → q < len → slice_index result q
             ≡ walked (found.now.order + 1) (slice_index found.now.coefficients) (pow (pow 2 254) q) }
     {
-        if found.order <= PARITY / 2 {
-            self.places.walk(&found.coefficients[..found.order + 1])
+        if found.order <= MOST_ORDER {
+            self.places.walk(found)
         } else {
             walk(found, len)
         }

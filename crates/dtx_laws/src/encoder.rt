@@ -1,6 +1,6 @@
 //! The trait of the encoders of codewords.
 
-ghost use Rattle.std.specs.Prelude.{◌≡◌, length};
+ghost use Rattle.std.specs.Prelude.{◌≡◌, ℕ, ◌<◌, [], length, slice_index_or};
 ghost use Rattle.dtx_laws.specs.Codeword.{IsCode, IsCodeword};
 ghost use Rattle.dtx_laws.specs.Words.{codeword};
 
@@ -16,22 +16,8 @@ pub trait Encode<const N: usize, const K: usize> {
         ensures is { IsCodeword N K word.new }
         ensures long { length word.new ≡ N };
 
-    /// Sets two words at once, each as `encode` does.
-    fn encode_two(
-        &self,
-        first: &[u8; K],
-        first_word: &mut [u8; N],
-        second: &[u8; K],
-        second_word: &mut [u8; N],
-    )
-        ensures first { first_word.new ≡ codeword N K first.now }
-        ensures first_is { IsCodeword N K first_word.new }
-        ensures first_long { length first_word.new ≡ N }
-        ensures second { second_word.new ≡ codeword N K second.now }
-        ensures second_is { IsCodeword N K second_word.new }
-        ensures second_long { length second_word.new ≡ N }
-    {
-        self.encode(first, first_word);
-        self.encode(second, second_word);
-    }
+    /// Sets four words at once, each as `encode` does.
+    fn encode_four(&self, heads: &[[u8; K]; 4], words: &mut [[u8; N]; 4])
+        ensures { (p : ℕ) → p < 4
+            → slice_index_or words.new p [] ≡ codeword N K (slice_index_or heads.now p []) };
 }

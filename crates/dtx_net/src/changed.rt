@@ -2,7 +2,7 @@
 ghost use Rattle.std.specs.Prelude.{◌≡◌, ◌<◌};
 ghost use Rattle.dtx_net.specs.Changed.{flipped_packet, lied_packet};
 
-use dtx_correct::Linear;
+use dtx_fast::Fast;
 use dtx_ops::{read, write};
 use dtx_packets::Packet;
 use dtx_rs::Rs;
@@ -29,7 +29,7 @@ pub fn lied(packet: &Packet, states: &States) -> Packet
 #[derive(Drop)]
 pub struct LieWriter {
     encoder: Rs<184, 164>,
-    corrector: Linear<184, 164>,
+    corrector: Fast<184, 164>,
 }
 
 impl LieWriter {
@@ -37,7 +37,7 @@ impl LieWriter {
     pub fn new() -> LieWriter {
         LieWriter {
             encoder: Rs::new(),
-            corrector: Linear::new(),
+            corrector: Fast::new(),
         }
     }
 

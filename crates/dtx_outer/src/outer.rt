@@ -1,12 +1,12 @@
 //! Whitens, encodes and interleaves.
 
-ghost use Rattle.std.specs.Prelude.{◌≡◌, ◌+◌, ◌*◌, ◌≤◌, length};
+ghost use Rattle.std.specs.Prelude.{◌≡◌, ℕ, ◌+◌, ◌*◌, ◌<◌, ◌≤◌, [], length, slice_index_or};
 ghost use Rattle.dtx_galois.specs.Field.{AreBytes};
 ghost use Rattle.dtx_laws.specs.Branches.{IsInterleaver, HasWidths, spreading, leaving_all, after_all, aligned};
 ghost use Rattle.dtx_laws.specs.Codeword.{IsCode};
 ghost use Rattle.dtx_outer.specs.Outer.{Held, IsPeriod, coded};
 
-use crate::whitening::whiten;
+use crate::whitening::{whiten, whiten_four};
 use dtx_laws::{Encode, Spread, Whitener};
 use std::marker::Model;
 
@@ -92,6 +92,25 @@ impl<
         let white = whiten(&self.whitener, K * place, head);
         self.code.encode(&white, out);
         self.spread.pass(out);
+    }
+
+    /// The codewords of the data of four packets that follow each other, of which the first is whitened from byte `from`
+    /// of the whitener's period on. Nothing goes to the interleaver.
+    pub fn codewords(&self, from: usize, heads: &[[u8; K]; 4], words: &mut [[u8; N]; 4])
+        requires { from + 4 * K ≤ W.PERIOD }
+        ensures { (p : ℕ) → p < 4 → slice_index_or words.new p []
+            ≡ coded N K self.now.white (from + K * p) (slice_index_or heads.now p []) }
+    {
+        let white = whiten_four(&self.whitener, from, heads);
+        self.code.encode_four(&white, words);
+    }
+
+    /// The bytes that leave the interleaver as these come.
+    pub fn pass(&mut self, bytes: &mut [u8])
+        ensures bytes { bytes.new ≡ leaving_all B self.old.branches bytes.old }
+        ensures branches { self.new ≡ record self.old { branches = after_all B self.old.branches bytes.old } }
+    {
+        self.spread.pass(bytes);
     }
 
     /// The next byte goes to branch 0. The branches keep what they hold.

@@ -8,7 +8,7 @@ ghost use Rattle.dtx_receiver.specs.Packets.{early_of};
 ghost use Rattle.dtx_receiver.specs.declared.batch.Received.{Received};
 
 use crate::batch::{Batch, MOST_RECEIVED, Received};
-use dtx_correct::Linear;
+use dtx_fast::Fast;
 use dtx_outer::{Inner, Taken};
 use dtx_packets::Packet;
 use dtx_sizes::{BRANCH_STEP, BRANCHES, CODEWORD, GROUP_BYTES, PACKET, PACKET_DATA};
@@ -19,7 +19,7 @@ use std::alloc::{AllocError, Global};
 /// The de-interleaver, the Reed-Solomon corrector and the randomizer of the standard.
 pub(crate) type OuterDecoding = Inner<
     Atsc,
-    Linear<CODEWORD, PACKET_DATA>,
+    Fast<CODEWORD, PACKET_DATA>,
     Collect<BRANCHES, BRANCH_STEP>,
     CODEWORD,
     PACKET_DATA,
@@ -32,7 +32,7 @@ pub(crate) fn new_outer_decoding(alloc: Global) -> Result<OuterDecoding, AllocEr
     ensures white { IfOk result (λ inner. inner.white ≡ randomizer_bytes) }
     ensures stands { IfOk result (λ inner. StandsFor CODEWORD PACKET_DATA BRANCHES BRANCH_STEP inner []) }
 {
-    Ok(Inner::new(Atsc::new(alloc)?, Linear::new(), Collect::new(alloc)?))
+    Ok(Inner::new(Atsc::new(alloc)?, Fast::new(), Collect::new(alloc)?))
 }
 
 /// The next block of a run's bytes, and the packet that it completes, if it does.

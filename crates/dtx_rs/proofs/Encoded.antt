@@ -1,6 +1,6 @@
 -- The data and then the register that was fed with them are the codeword.
-use Rattle.std.proofs.Common.{◌≡◌, ℕ, ◌+◌, ◌-◌, ◌<◌, ◌≤◌, List, ◌++◌, length, take, replicate, sym, ap, ap₂, ◌∙◌, subst}
-use Rattle.std.proofs.Common.{arith}
+use Rattle.std.proofs.Common.{◌≡◌, ℕ, zero, suc, ◌+◌, ◌-◌, ◌<◌, ◌≤◌, List, [], ◌∷◌, ◌++◌, length, get_or, take, replicate}
+use Rattle.std.proofs.Common.{sym, ap, ap₂, ◌∙◌, subst, arith}
 use Rattle.std.proofs.lemmas.List.{length-replicate, take_at, take-replicate, replicate-append-replicate}
 use Rattle.std.proofs.Math.Seq.{take-append-add}
 use Rattle.dtx_galois.specs.Field.{AreBytes}
@@ -67,3 +67,13 @@ register_codeword n k divisor head new code d lh b e =
 pub made_codeword : (n k : ℕ) (head new : List ℕ) → IsCode n k → length head ≡ k → AreBytes head
     → new ≡ codeword n k head → IsCodeword n k new
 made_codeword n k head new code l b e = subst (IsCodeword n k) (sym e) (codeword_is n k head code.longer l b)
+
+-- one of four, each made of one of four
+pub one_of_four : (f : List ℕ → List ℕ) (xs ys : List (List ℕ)) (p : ℕ) → p < 4
+    → ys ≡ f (get_or xs 0 []) ∷ f (get_or xs 1 []) ∷ f (get_or xs 2 []) ∷ f (get_or xs 3 []) ∷ []
+    → get_or ys p [] ≡ f (get_or xs p [])
+one_of_four f xs ys zero l e = ap (λ zs. get_or zs 0 []) e
+one_of_four f xs ys (suc zero) l e = ap (λ zs. get_or zs 1 []) e
+one_of_four f xs ys (suc (suc zero)) l e = ap (λ zs. get_or zs 2 []) e
+one_of_four f xs ys (suc (suc (suc zero))) l e = ap (λ zs. get_or zs 3 []) e
+one_of_four f xs ys (suc (suc (suc (suc p)))) l e = absurd (omega (arith, l))

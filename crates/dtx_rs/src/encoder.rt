@@ -1,6 +1,6 @@
 //! The encoder of a code, and the syndromes of its words.
 
-ghost use Rattle.std.specs.Prelude.{◌≡◌, ◌+◌, ◌-◌, ◌<◌, ◌≤◌, ◌++◌, length, replicate, take};
+ghost use Rattle.std.specs.Prelude.{◌≡◌, ℕ, ◌+◌, ◌-◌, ◌<◌, ◌≤◌, [], ◌++◌, length, replicate, slice_index_or, take};
 ghost use Rattle.dtx_galois.specs.Field.{AreBytes, pow, value};
 ghost use Rattle.dtx_laws.specs.Codeword.{IsCode};
 ghost use Rattle.dtx_laws.specs.Register.{generator, register};
@@ -59,20 +59,19 @@ impl<const N: usize, const K: usize> Encode<N, K> for Rs<N, K> {
         }
     }
 
-    fn encode_two(
-        &self,
-        first: &[u8; K],
-        first_word: &mut [u8; N],
-        second: &[u8; K],
-        second_word: &mut [u8; N],
-    ) {
+    fn encode_four(&self, heads: &[[u8; K]; 4], words: &mut [[u8; N]; 4]) {
         if N - K <= WIDTH {
-            let (parity, other) = self.table.parity_of_two(&first[..], &second[..]);
-            join(&first[..], &parity, &mut first_word[..]);
-            join(&second[..], &other, &mut second_word[..]);
+            join_four(
+                heads,
+                &self
+                    .table
+                    .parity_of_four(&heads[0][..], &heads[1][..], &heads[2][..], &heads[3][..]),
+                words,
+            );
         } else {
-            self.encode(first, first_word);
-            self.encode(second, second_word);
+            for p in 0..4 {
+                self.encode(&heads[p], &mut words[p]);
+            }
         }
     }
 }
@@ -84,6 +83,24 @@ fn front(divisor: &[u8; ELEMENTS]) -> [u8; WIDTH]
     let mut front = [0; WIDTH];
     front.copy_from_slice(&divisor[..WIDTH]);
     front
+}
+
+/// Joins each of four data with its parity bytes.
+fn join_four<const N: usize, const K: usize>(
+    heads: &[[u8; K]; 4],
+    parities: &[[u8; WIDTH]; 4],
+    words: &mut [[u8; N]; 4],
+)
+    requires room { K ≤ N }
+    requires few { N ≤ K + WIDTH }
+    ensures long { (p : ℕ) → p < 4 → length (slice_index_or heads.now p []) ≡ K }
+    ensures bytes { (p : ℕ) → p < 4 → AreBytes (slice_index_or heads.now p []) }
+    ensures words { (p : ℕ) → p < 4 → slice_index_or words.new p [] ≡ slice_index_or heads.now p []
+        ++ take (N - K) (slice_index_or parities.now p []) }
+{
+    for p in 0..4 {
+        join(&heads[p][..], &parities[p], &mut words[p][..]);
+    }
 }
 
 /// The data, and then as many parity bytes as there is room for.

@@ -1,6 +1,6 @@
 //! The table by which four bytes of data are divided in one step.
 
-ghost use Rattle.std.specs.Prelude.{◌≡◌, ℕ, ◌+◌, ◌-◌, ◌*◌, ◌/◌, ◌%◌, ◌<◌, [], ◌∷◌, ◌++◌, drop, length, replicate};
+ghost use Rattle.std.specs.Prelude.{◌≡◌, ℕ, ◌+◌, ◌-◌, ◌*◌, ◌/◌, ◌%◌, ◌<◌, [], ◌∷◌, ◌++◌, drop, length, map, replicate};
 ghost use Rattle.std.specs.Prelude.{slice_index, slice_index_or, take};
 ghost use Rattle.dtx_galois.specs.Word.{sums};
 ghost use Rattle.dtx_laws.specs.Register.{fed, register};
@@ -52,22 +52,37 @@ impl Table {
         bytes_of(&state)
     }
 
-    /// The registers of zeros after all the data of each of two heads, by steps in turn, so that neither waits for the
-    /// other.
-    pub fn parity_of_two(&self, one: &[u8], two: &[u8]) -> ([u8; WIDTH], [u8; WIDTH])
-        requires { length one.now ≡ length two.now }
-        ensures one { result.0 ≡ register self.now.divisor (replicate WIDTH 0) one.now }
-        ensures two { result.1 ≡ register self.now.divisor (replicate WIDTH 0) two.now }
+    /// The registers of zeros after all the data of each of four heads, by steps in turn, so that none waits for the
+    /// others.
+    pub fn parity_of_four(
+        &self,
+        one: &[u8],
+        two: &[u8],
+        three: &[u8],
+        four: &[u8],
+    ) -> [[u8; WIDTH]; 4]
+        requires two { length two.now ≡ length one.now }
+        requires three { length three.now ≡ length one.now }
+        requires four { length four.now ≡ length one.now }
+        ensures { result ≡ map (register self.now.divisor (replicate WIDTH 0))
+            (one.now ∷ two.now ∷ three.now ∷ four.now ∷ []) }
     {
         let first = one.len() % STEP;
-        let mut state = self.started(one);
-        let mut other = self.started(two);
+        let mut a = self.started(one);
+        let mut b = self.started(two);
+        let mut c = self.started(three);
+        let mut d = self.started(four);
         for step in 0..one.len() / STEP {
             let at = first + STEP * step;
-            state = self.fed(&state, &[one[at], one[at + 1], one[at + 2], one[at + 3]]);
-            other = self.fed(&other, &[two[at], two[at + 1], two[at + 2], two[at + 3]]);
+            a = self.fed(&a, &[one[at], one[at + 1], one[at + 2], one[at + 3]]);
+            b = self.fed(&b, &[two[at], two[at + 1], two[at + 2], two[at + 3]]);
+            c = self.fed(
+                &c,
+                &[three[at], three[at + 1], three[at + 2], three[at + 3]],
+            );
+            d = self.fed(&d, &[four[at], four[at + 1], four[at + 2], four[at + 3]]);
         }
-        (bytes_of(&state), bytes_of(&other))
+        [bytes_of(&a), bytes_of(&b), bytes_of(&c), bytes_of(&d)]
     }
 
     /// The register after the bytes before the first whole step.

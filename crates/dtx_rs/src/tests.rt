@@ -58,15 +58,18 @@ fn expect_codewords<const N: usize, const K: usize, const P: usize>(
         assert!(rt; word.starts_with(&codeword.head));
         assert!(rt; word.ends_with(&codeword.parity));
     }
-    let mut other = [0; N];
-    code.encode_two(
-        &codewords[0].head,
-        &mut word,
-        &codewords[1].head,
-        &mut other,
-    );
-    assert!(rt; word.ends_with(&codewords[0].parity));
-    assert!(rt; other.ends_with(&codewords[1].parity));
+    let mut words = [[0; N]; 4];
+    let heads = [
+        codewords[0].head,
+        codewords[1].head,
+        codewords[2].head,
+        codewords[0].head,
+    ];
+    code.encode_four(&heads, &mut words);
+    for p in 0..4 {
+        assert!(rt; words[p].starts_with(&heads[p]));
+        assert!(rt; words[p].ends_with(&codewords[p % 3].parity));
+    }
 }
 
 fn expect_syndromes<const N: usize, const K: usize>(

@@ -46,10 +46,28 @@ pub fn accept<E: Encode<N, K>, const N: usize, const K: usize>(
     ensures long { length word.new ≡ N }
 {
     encoder.known();
-    let changed = distance(&word[..], &tried[..]);
-    if 2 * changed <= N - K && is_codeword(encoder, tried) {
-        *word = *tried;
-        Ok(changed as u8)
+    if is_codeword(encoder, tried) {
+        accept_codeword::<N, K>(word, tried)
+    } else {
+        Err(TooMany)
+    }
+}
+
+/// Takes a codeword in place of the word, where it is the word's correction.
+pub fn accept_codeword<const N: usize, const K: usize>(
+    word: &mut [u8; N],
+    code: &[u8; N],
+) -> Result<u8, TooMany>
+    requires code { IsCode N K }
+    requires codeword { IsCodeword N K code.now }
+    ensures answer { MatchResult result (IsCorrected N K word.old word.new)
+        (λ _e. IsRefused N K code.now word.old word.new) }
+    ensures long { length word.new ≡ N }
+{
+    let changed = distance(&word[..], &code[..]);
+    if 2 * changed as usize <= N - K {
+        *word = *code;
+        Ok(changed)
     } else {
         Err(TooMany)
     }
@@ -63,10 +81,10 @@ fn is_codeword<E: Encode<N, K>, const N: usize, const K: usize>(encoder: &E, wor
 }
 
 /// In how many places two words of one length differ.
-fn distance(word: &[u8], other: &[u8]) -> usize
-    requires { length word.now ≡ length other.now }
-    ensures value { result ≡ distance word.now other.now }
-    ensures few { result ≤ length word.now }
+fn distance(word: &[u8], other: &[u8]) -> u8
+    requires same { length word.now ≡ length other.now }
+    requires few { length word.now ≤ 255 }
+    ensures { result ≡ distance word.now other.now }
 {
     let mut count = 0;
     for i in 0..word.len() {

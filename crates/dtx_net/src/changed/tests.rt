@@ -1,7 +1,7 @@
 //! A worked operations packet, lied and flipped.
 
 use super::{LieWriter, flipped, lied};
-use dtx_correct::Linear;
+use dtx_fast::Fast;
 use dtx_laws::Encode;
 use dtx_ops::read;
 use dtx_packets::Packet;
@@ -63,7 +63,7 @@ fn a_flip_changes_one_byte(rt: HostRuntime) -> Result<(), Fail> {
     let mut changed = packet;
     changed.0[5] = 0x25;
     assert_eq!(rt; flipped(&packet, 5, 0xA5), changed);
-    let code = Linear::new();
+    let code = Fast::new();
     assert_eq!(rt; read(&code, &changed)?, read(&code, &packet)?);
     changed = packet;
     changed.0[187] ^= 0xFF;
