@@ -71,8 +71,8 @@ count = 20
 put = 127
 ";
 
-/// Whether the plan of this text is that of a simple network, over the made stream of seed 1 with so many packets, whose
-/// damage has that many entries.
+/// Whether the plan of this text is that of a simple network, over the made stream of seed 1 with so many packets,
+/// whose damage has that many entries.
 fn works(alloc: Global, text: &[u8], count: usize, entries: usize) -> bool
     ensures { result ≡ true → IsWorked text.now (made_packets 1 count) 100 entries }
 {

@@ -9,8 +9,8 @@ const PLAN: &str = "start = 0\nmax_delay = 5000000\n\
 [[transmitter]]\naddress = 7\noffset = -10\ndelay = 1000\n\
 [[transmitter]]\naddress = 9\noffset = 25\ndelay = 2000\n";
 
-/// The words of a command that reads the packets `s` and writes packets to `o`, the sync bytes of the packets of `s`, how
-/// many zeros are loose behind them, the line, and the sync bytes of the packets of `o`. All other bytes are zeros.
+/// The words of a command that reads the packets `s` and writes packets to `o`, the sync bytes of the packets of `s`,
+/// how many zeros are loose behind them, the line, and the sync bytes of the packets of `o`. All other bytes are zeros.
 const PACKETS: [(&[&str], &[u8], usize, &str, &[u8]); 9] = [
     (
         &["adapt", "p", "s", "o"],
