@@ -155,9 +155,9 @@ pub fn packets_of_a_feed()
 {}
 
 /// Whatever segments are received, the stretch of a feed being at segment s of them: a run that begins at a field sync
-/// of the stretch gives each packet back whose 207 bytes are all among the run's and lie in segments of the stretch, and
-/// whose word has at most ten wrong bytes, good and with 0x47 as its sync byte, behind the packets of the runs before
-/// it.
+/// of the stretch gives each packet back whose 207 bytes are all among the run's and lie in segments of the stretch,
+/// and whose word has at most ten wrong bytes, good and with 0x47 as its sync byte, behind the packets of the runs
+/// before it.
 pub fn gives_back()
     ensures { (feed : List (List ℕ)) (k end s : ℕ) (got : List (List ℤ)) → ArePackets feed → end ≤ length feed
         → GivesBack feed k end s got }
