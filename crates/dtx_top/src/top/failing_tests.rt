@@ -229,8 +229,8 @@ fn names(address: &str) -> (&'static str, &'static str) {
     }
 }
 
-/// All transmitters come as far in their schedule: where the last append fails, which is one of the first address's, the
-/// files of the other one are whole, and its symbols stand but for some of the last.
+/// All transmitters come as far in their schedule: where the last append fails, which is one of the first address's,
+/// the files of the other one are whole, and its symbols stand but for some of the last.
 #[test]
 fn a_network_breaks_off_at_one_step_for_all(rt: HostRuntime) -> Result<(), Fail> {
     for (first, second, events) in IN_TURN {
