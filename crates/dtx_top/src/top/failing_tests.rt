@@ -22,6 +22,13 @@ struct Case {
     outputs: &'static [&'static str],
 }
 
+impl Case {
+    /// The command's word.
+    fn name(&self) -> &str {
+        self.words.first().unwrap_or(&"")
+    }
+}
+
 const CASES: [Case; 8] = [
     Case {
         words: &["adapt", "p", "s.ts", "o"],
@@ -144,21 +151,21 @@ fn a_failing_call_has_its_status_and_leaves_front_parts(rt: HostRuntime) -> Resu
     let inputs = inputs(&rt)?;
     for case in &CASES {
         let mut whole = copied(&rt, &inputs)?;
-        assert_eq!(rt; whole.run(case.words)?, Status::Done, "{}", case.words[0]);
+        assert_eq!(rt; whole.run(case.words)?, Status::Done, "{}", case.name());
         assert!(rt;
             end_well(&rt, case, &inputs, &whole, Call::Read)?,
             "{}",
-            case.words[0]
+            case.name()
         );
         assert!(rt;
             end_well(&rt, case, &inputs, &whole, Call::Begin)?,
             "{}",
-            case.words[0]
+            case.name()
         );
         assert!(rt;
             end_well(&rt, case, &inputs, &whole, Call::Append)?,
             "{}",
-            case.words[0]
+            case.name()
         );
     }
     Ok(())
@@ -173,16 +180,11 @@ fn half_of_the_output_stands_before_the_last_read(rt: HostRuntime) -> Result<(),
         whole.run(case.words)?;
         let mut desk = copied(&rt, &inputs)?;
         desk.fail(Call::Read, whole.calls(Call::Read).saturating_sub(1))?;
-        assert_eq!(rt;
-            desk.run(case.words)?,
-            Status::ReadFault,
-            "{}",
-            case.words[0]
-        );
+        assert_eq!(rt; desk.run(case.words)?, Status::ReadFault, "{}", case.name());
         assert!(rt;
             2 * desk.file("o").len() >= whole.file("o").len(),
             "{}",
-            case.words[0]
+            case.name()
         );
     }
     Ok(())
@@ -243,10 +245,11 @@ fn a_network_breaks_off_at_one_step_for_all(rt: HostRuntime) -> Result<(), Fail>
         let mut desk = Desk::new(&rt);
         desk.put("p", whole.file("p"))?;
         desk.put("s.ts", whole.file("s.ts"))?;
-        desk.fail(
-            Call::Append,
-            whole.calls(Call::Append).saturating_sub(made + 1),
-        )?;
+        let last = whole
+            .calls(Call::Append)
+            .saturating_sub(made)
+            .saturating_sub(1);
+        desk.fail(Call::Append, last)?;
         assert_eq!(rt; desk.run(&["net", "p"])?, Status::WriteFault);
         let (symbols, log) = names(second);
         assert!(rt; desk.file(symbols) == whole.file(symbols));
