@@ -43,7 +43,7 @@ use Rattle.dtx_plan.specs.declared.plan.ReceivePlan.{ReceivePlan}
 use Rattle.dtx_plan.specs.declared.refusal.PlanNo.{PlanNo}
 use Rattle.dtx_plan.specs.declared.transmitter.Transmitter.{Transmitter}
 use Rattle.dtx_receiver.specs.Packets.{received}
-use Rattle.dtx_schedule.specs.FilesLaws.{apart_of, files_with, with_outputs-told}
+use Rattle.dtx_schedule.specs.FilesLaws.{AreApart, apart_of, files_with, with_outputs-told}
 use Rattle.dtx_schedule.specs.TransmitterFiles.{played_outputs, symbol_file}
 use Rattle.dtx_words.specs.Names.{repeated}
 use Rattle.dtx_words.specs.NetworkNames.{feed_name, received_name}
@@ -225,6 +225,9 @@ small plan is who t at_t =
     (subst IsTransmitter (get_or_from_slice_get ts who t t at_t)
     (All-get_or IsTransmitter ts who t (slice_get_within ts who t at_t) is.transmitters)).address
 
+pub apart_plan : (plan : Plan) → IsPlan plan → AreApart plan.transmitters.items
+apart_plan plan is = apart_of plan.transmitters.items is.sound.transmitters (small plan is)
+
 -- the files and the headline, of a network whose plan is read
 stream_done : HeadlineLaw
     → (plan : Plan) (network : NetPlan) (held : Files) (now : Option Files) (found : Option (List ℕ))
@@ -239,7 +242,7 @@ stream_done law plan network held now (Some file) is done files =
     let outputs : Outputs = network_outputs plan network stream (packets_received plan network stream) in
     let told : now ≡ Some (files_with outputs held) =
     files ∙ ap (λ (o : Outputs). with_outputs o (Some held)) whole.outputs ∙ with_outputs-told outputs held in
-    let apart = apart_of plan.transmitters.items is.sound.transmitters (small plan is) in
+    let apart = apart_plan plan is in
     subst (λ (o : Option Files). IsSomeAnd o (HeadlineOfFiles plan network stream held)) (sym told)
     (headline_of law plan network stream held (files_with outputs held) is (is_stream plan file whole.all)
     (network_files plan network stream (packets_received plan network stream) held

@@ -14,6 +14,7 @@ pub mod SegmentsSent
 pub mod Streams
 pub mod SymbolsBack
 pub mod SymbolsSent
+pub mod UnderWay
 pub mod WorkedDamage
 pub mod WorkedNetwork
 pub mod WorkedStream

@@ -33,7 +33,7 @@ feed_no_log address = letter feed_name (log_name address) 0 110 116 refl refl (�
 pub symbols_not_received : (address : ℕ) → symbol_name address ≢ received_name
 symbols_not_received address = letter (symbol_name address) received_name 0 116 110 refl refl (λ e. omega (arith, e))
 
-log_not_received : (address : ℕ) → log_name address ≢ received_name
+pub log_not_received : (address : ℕ) → log_name address ≢ received_name
 log_not_received address = letter (log_name address) received_name 0 116 110 refl refl (λ e. omega (arith, e))
 
 feed_not_received : feed_name ≢ received_name
@@ -45,7 +45,7 @@ no_output-append : (a b : Outputs) (name : List ℕ) → IsNoOutput name a → I
 no_output-append [] b name first second = second
 no_output-append (o ∷ a) b name first second = (first.0, no_output-append a b name first.1 second)
 
-files_with-append : (a b : Outputs) (held : Files) → files_with (a ++ b) held ≡ files_with b (files_with a held)
+pub files_with-append : (a b : Outputs) (held : Files) → files_with (a ++ b) held ≡ files_with b (files_with a held)
 files_with-append [] b held = refl
 files_with-append (o ∷ a) b held = files_with-append a b (with_file o.0 o.1 held)
 

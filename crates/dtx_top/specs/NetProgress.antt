@@ -1,5 +1,6 @@
 -- How far a network came: what stands in its files when it ends, whatever it answers (the profile's own).
-use Rattle.std.specs.Prelude.{◌≡◌, ◌≢◌, ◌⊎◌, ℕ, ◌<◌, Option, Some, None, IfSome, IfOk, List, [], ◌∷◌, ◌++◌}
+use Rattle.std.specs.Prelude.{◌≡◌, ◌≢◌, ◌⊎◌, ℕ, ◌+◌, ◌<◌, Option, Some, None, IsSomeAnd, IfSome, IfOk, List, []}
+use Rattle.std.specs.Prelude.{◌∷◌, ◌++◌, slice_get, take}
 use Rattle.std.specs.FinMap.{get}
 use Rattle.dtx_engine.specs.Recipe.{meaning_of_file}
 use Rattle.dtx_jobs.specs.Shapes.{packets}
@@ -16,7 +17,8 @@ use Rattle.dtx_plan.specs.declared.plan.Plan as whole
 use Rattle.dtx_plan.specs.declared.plan.ReceivePlan.{ReceivePlan}
 use Rattle.dtx_plan.specs.declared.transmitter.Transmitter.{Transmitter}
 use Rattle.dtx_schedule.specs.Progress.{IsComplete, Progress, begun_files}
-use Rattle.dtx_words.specs.NetworkNames.{feed_name}
+use Rattle.dtx_schedule.specs.TransmitterFiles.{log_file, symbol_file}
+use Rattle.dtx_words.specs.NetworkNames.{feed_name, log_name, symbol_name}
 use Rattle.dtx_top.specs.NetMeaning.{adapting, received_of}
 
 -- some of the first outputs, each with a front part of its bytes
@@ -45,6 +47,18 @@ pub record NetProgress (whole_feed : Outputs) (ts : List Transmitter) (steps : L
   -- transmitter is begun, or once all steps are done.
   pub ends : IsFault status ⊎ ((schedule.begun ≡ 0) ⊎ IsComplete ts steps schedule)
   pub files : now ≡ with_outputs (feed ++ (begun_files ts steps schedule ++ reception)) (Some held)
+
+-- these bytes begin with the first and are a front part of the second
+abbrev pub IsBetween : List ℕ → List ℕ → List ℕ → Type 0
+IsBetween least most bytes = IsFrontOf least bytes × IsFrontOf bytes most
+
+-- By their names: each file of the transmitters holds all that so many steps give, and a front part of what these and
+-- the next one give, or where none is left, of what all steps give.
+pub record AreUnderWay (ts : List Transmitter) (steps : List Step) (done : ℕ) (now : Files) : Type 0 where
+  pub symbols : (who : ℕ) (t : Transmitter) → slice_get ts who ≡ Some t → IsSomeAnd (get now (symbol_name t.address))
+      (IsBetween (symbol_file t who (take done steps)) (symbol_file t who (take (done + 1) steps)))
+  pub logs : (who : ℕ) (t : Transmitter) → slice_get ts who ≡ Some t → IsSomeAnd (get now (log_name t.address))
+      (IsBetween (log_file t who (take done steps)) (log_file t who (take (done + 1) steps)))
 
 -- ---- of `net`
 

@@ -1,8 +1,10 @@
 //! Laws of the definitions: the segments of a transmitter's symbol file are those that it sends.
 
-ghost use Rattle.std.specs.Prelude.{◌≡◌, ◌≤◌, ℕ, IsSomeAnd, List, length, true};
+ghost use Rattle.std.specs.Prelude.{◌≡◌, ◌*◌, ◌≤◌, ℕ, IsSomeAnd, List, Some, length, true};
 ghost use Rattle.std.specs.FinMap.{get};
+ghost use Rattle.dtx_meaning.specs.declared.status.Status.{Status};
 ghost use Rattle.dtx_outside.specs.Shelf.{Files};
+ghost use Rattle.dtx_packets.specs.Packets.{packets_of};
 ghost use Rattle.dtx_words.specs.NetworkNames.{received_name};
 ghost use Rattle.dtx_top.specs.HeadlineOfFiles.{HeadlineOfFiles};
 ghost use Rattle.dtx_plan.specs.declared.transmitter.Transmitter.{Transmitter};
@@ -12,9 +14,11 @@ ghost use Rattle.dtx_net.specs.Sent as sent;
 ghost use Rattle.dtx_jobs.specs.SymbolFile as file;
 ghost use Rattle.dtx_schedule.specs.TransmitterFiles.{log_file, symbol_file};
 ghost use Rattle.dtx_network.specs.Orders.{has_order};
+ghost use Rattle.dtx_network.specs.Network.{steps_under};
 ghost use Rattle.dtx_network.specs.Plans.{IsPlan, IsStream};
 ghost use Rattle.dtx_plan.specs.declared.plan.NetPlan.{NetPlan};
 ghost use Rattle.dtx_plan.specs.declared.plan.Plan.{Plan};
+ghost use Rattle.dtx_top.specs.NetProgress.{AreUnderWay, HasNetProgress};
 ghost use Rattle.dtx_top.specs.WorkedNetwork.{HasAllBack, IsSimple, WorkedNetwork, made_packets};
 
 use dtx_net::laws::interleavings;
@@ -40,6 +44,17 @@ pub fn files_of_interleavings()
 {
     interleavings();
 }
+
+/// The files of the transmitters by their names, wherever a network ends once all of them are begun: with t steps done,
+/// the symbol file of each begins with all that the first t steps give, and is a front part of what the first t + 1
+/// steps give; so is its log, of the lines that they give. Where t is all steps, both are whole.
+pub fn files_of_a_network_under_way()
+    ensures { (plan : Plan) (network : NetPlan) (file : List ℕ) (status : Status) (held now : Files)
+        (progress : HasNetProgress plan network file status held (Some now)) → IsPlan plan
+        → progress.schedule.begun ≡ 2 * length plan.transmitters.items
+        → AreUnderWay plan.transmitters.items (steps_under plan (packets_of file) network.events)
+        progress.schedule.done now }
+{}
 
 /// A simple network meets what the headline asks of transmitters, symbols and damage, with little damage and without:
 /// two transmitters in time are given the whole feed, and nothing else, and the first one is received. Where the
