@@ -1,6 +1,6 @@
 -- The values of a walk block by block: those of a later block are those of the first, of moved coefficients.
-use Rattle.std.proofs.Common.{◌≡◌, ℕ, zero, suc, ◌+◌, ◌-◌, ◌*◌, ◌<◌, ◌≤◌, ◌⊎◌, inl, inr, List, get_or, bit_xor, refl, sym}
-use Rattle.std.proofs.Common.{ap, ap₂, ◌∙◌, arith}
+use Rattle.std.proofs.Common.{◌≡◌, ℕ, zero, suc, ◌+◌, ◌-◌, ◌*◌, ◌<◌, ◌≤◌, ◌⊎◌, inl, inr, List, get_or, bit_xor, refl}
+use Rattle.std.proofs.Common.{sym, ap, ap₂, ◌∙◌, arith}
 use Rattle.dtx_galois.specs.Field.{mul, pow}
 use Rattle.dtx_galois.specs.FieldLaws.{mul_assoc, mul_comm, mul_one}
 use Rattle.dtx_galois.specs.PowersLaws.{pow_add, pow_mul, pow_one}

@@ -1,6 +1,6 @@
 -- The data and then the register that was fed with them are the codeword.
-use Rattle.std.proofs.Common.{◌≡◌, ℕ, zero, suc, ◌+◌, ◌-◌, ◌<◌, ◌≤◌, List, [], ◌∷◌, ◌++◌, length, get_or, take, replicate}
-use Rattle.std.proofs.Common.{sym, ap, ap₂, ◌∙◌, subst, arith}
+use Rattle.std.proofs.Common.{◌≡◌, ℕ, zero, suc, ◌+◌, ◌-◌, ◌<◌, ◌≤◌, List, [], ◌∷◌, ◌++◌, length, get_or, take}
+use Rattle.std.proofs.Common.{replicate, sym, ap, ap₂, ◌∙◌, subst, arith}
 use Rattle.std.proofs.lemmas.List.{length-replicate, take_at, take-replicate, replicate-append-replicate}
 use Rattle.std.proofs.Math.Seq.{take-append-add}
 use Rattle.dtx_galois.specs.Field.{AreBytes}

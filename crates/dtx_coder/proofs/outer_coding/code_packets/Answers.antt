@@ -27,7 +27,8 @@ loop-i-preserved c =
     let is : c.copy_from_slice.new.self ≡ word =
     c.copy_from_slice.ensures.after ∙ c.codewords.ensures i l
     ∙ ap (λ k. coded 207 187 c.args.outer.now.white k (get_or c.heads_of.result i [])) from
-    ∙ codeword_is place packet c.args.outer.now.white (get_or c.heads_of.result i []) c.requires.white (c.heads_of.ensures.long i l)
+    ∙ codeword_is place packet c.args.outer.now.white (get_or c.heads_of.result i []) c.requires.white
+    (c.heads_of.ensures.long i l)
     (omega (arith, l, c.requires.place)) (c.heads_of.ensures.heads i l) in
     let long : length c.copy_from_slice.new.self ≡ 207 = search rules in
     record {
