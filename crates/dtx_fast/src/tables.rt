@@ -16,17 +16,14 @@ use dtx_laws::correcting::{ROOM, syndromes_of};
 /// For how many parity bytes there are rows of syndromes.
 const PARITY: usize = 2 * MOST_ORDER;
 
-/// How many syndromes a row has: no fewer than there are parity bytes, in whole vectors.
-const SYNDROMES: usize = 32;
-
 /// How many rows of syndromes there are.
 const SYNDROME_ROWS: usize = HALVES * PARITY;
 
-/// The rows by which syndromes are made of parity bytes, and those by which a recurrence is walked over all places: 43
+/// The rows by which syndromes are made of parity bytes, and those by which a recurrence is walked over all places: 24
 /// KB.
 #[derive(Drop)]
 pub struct Tables {
-    syndromes: Rows<SYNDROMES, SYNDROME_ROWS>,
+    syndromes: Rows<PARITY, SYNDROME_ROWS>,
     places: Places,
     ghost powers: { syndromes.base.0 ≡ 2 },
 }
@@ -89,12 +86,12 @@ fn differences(parity: &[u8], right: &[u8]) -> [u8; PARITY]
 }
 
 /// The syndromes of a row, and then zeros.
-fn widened(row: &[u8; SYNDROMES]) -> [u8; ROOM]
+fn widened(row: &[u8; PARITY]) -> [u8; ROOM]
     ensures long { length result ≡ ROOM }
-    ensures same { (i : ℕ) → i < SYNDROMES → slice_index result i ≡ slice_index row.now i }
+    ensures same { (i : ℕ) → i < PARITY → slice_index result i ≡ slice_index row.now i }
 {
     let mut syndromes = [0; ROOM];
-    for i in 0..SYNDROMES {
+    for i in 0..PARITY {
         syndromes[i] = row[i];
     }
     syndromes

@@ -94,7 +94,7 @@ impl<
         self.spread.pass(out);
     }
 
-    /// The codewords of the data of four packets that follow each other, the first of which is whitened from byte
+    /// The codewords of the data of four packets that follow each other, of which the first is whitened from byte
     /// `from` of the whitener's period on. Nothing goes to the interleaver.
     pub fn codewords(&self, from: usize, heads: &[[u8; K]; 4], words: &mut [[u8; N]; 4])
         requires { from + 4 * K ≤ W.PERIOD }

@@ -68,21 +68,29 @@ impl Table {
             (one.now ∷ two.now ∷ three.now ∷ four.now ∷ []) }
     {
         let first = one.len() % STEP;
-        let mut a = self.started(one);
-        let mut b = self.started(two);
-        let mut c = self.started(three);
-        let mut d = self.started(four);
+        let mut of_one = self.started(one);
+        let mut of_two = self.started(two);
+        let mut of_three = self.started(three);
+        let mut of_four = self.started(four);
         for step in 0..one.len() / STEP {
             let at = first + STEP * step;
-            a = self.fed(&a, &[one[at], one[at + 1], one[at + 2], one[at + 3]]);
-            b = self.fed(&b, &[two[at], two[at + 1], two[at + 2], two[at + 3]]);
-            c = self.fed(
-                &c,
+            of_one = self.fed(&of_one, &[one[at], one[at + 1], one[at + 2], one[at + 3]]);
+            of_two = self.fed(&of_two, &[two[at], two[at + 1], two[at + 2], two[at + 3]]);
+            of_three = self.fed(
+                &of_three,
                 &[three[at], three[at + 1], three[at + 2], three[at + 3]],
             );
-            d = self.fed(&d, &[four[at], four[at + 1], four[at + 2], four[at + 3]]);
+            of_four = self.fed(
+                &of_four,
+                &[four[at], four[at + 1], four[at + 2], four[at + 3]],
+            );
         }
-        [bytes_of(&a), bytes_of(&b), bytes_of(&c), bytes_of(&d)]
+        [
+            bytes_of(&of_one),
+            bytes_of(&of_two),
+            bytes_of(&of_three),
+            bytes_of(&of_four),
+        ]
     }
 
     /// The register after the bytes before the first whole step.

@@ -28,7 +28,8 @@ loop-i-preserved c =
     c.copy_from_slice.ensures.after ∙ c.codewords.ensures i l
     ∙ ap (λ k. coded 207 187 c.args.outer.now.white k (get_or c.heads_of.result i [])) from
     ∙ codeword_is place packet c.args.outer.now.white (get_or c.heads_of.result i []) c.requires.white
-    (c.heads_of.ensures.long i l) (omega (arith, l, c.requires.place)) (c.heads_of.ensures.heads i l) in
+    (c.heads_of.ensures.long i l)
+    (omega (arith, l, c.requires.place)) (c.heads_of.ensures.heads i l) in
     let long : length c.copy_from_slice.new.self ≡ 207 = search rules in
     record {
       long = length-put_mid (207 * i) (207 * i + 207 - 207 * i) c.loop-i.bytes c.copy_from_slice.new.self
