@@ -8,7 +8,7 @@ ghost use Rattle.dtx_coder.specs.Stream.{four_segments, symbols_of};
 use dtx_sizes::{GROUP_LEVELS, GROUP_PACKETS, PRECODE, SEGMENT, SEGMENT_LEVELS};
 
 /// How many segments a group has at most: a field sync and four data segments.
-pub const MOST_SEGMENTS: u8 = 5;
+pub const AIR_SEGMENTS: u8 = 5;
 
 /// How many symbols they have.
 pub const AIR_SYMBOLS: usize = 4160;
@@ -63,7 +63,7 @@ impl Air {
     /// The last twelve symbols.
     pub(crate) fn last(&self) -> [i8; PRECODE]
         requires some { 0 < self.now.segments }
-        requires few { self.now.segments ≤ MOST_SEGMENTS }
+        requires few { self.now.segments ≤ AIR_SEGMENTS }
         ensures { result ≡ drop (SEGMENT * self.now.segments - PRECODE)
             (take (SEGMENT * self.now.segments) self.now.symbols) }
     {
@@ -75,7 +75,7 @@ impl Air {
 
     /// The data segment of these levels more.
     fn add(&mut self, levels: &[u8; SEGMENT_LEVELS])
-        requires room { self.old.segments < MOST_SEGMENTS }
+        requires room { self.old.segments < AIR_SEGMENTS }
         requires levels { EachIndex levels.now (λ d. slice_index levels.now d < 8) }
         ensures segments { self.new.segments ≡ self.old.segments + 1 }
         ensures symbols { take (SEGMENT * self.new.segments) self.new.symbols

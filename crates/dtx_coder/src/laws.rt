@@ -14,7 +14,7 @@ ghost use Rattle.dtx_coder.specs.Runs.{AreStates};
 
 pub mod runs;
 
-use crate::air::MOST_SEGMENTS;
+use crate::air::AIR_SEGMENTS;
 use dtx_sizes::{
     BRANCH_STEP, BRANCHES, CODEWORD, FIELD_PACKETS, FLUSHING_PACKETS, GROUP_BYTES, GROUP_PACKETS,
     PRECODE, SEGMENT,
@@ -98,7 +98,7 @@ pub fn flushed()
 /// A group of four packets has five segments where a field sync stands before it, else four, of 832 symbols each.
 pub fn group_counts()
     ensures segments { (coder : Coding) (group : Group)
-        → length (air_segments coder group) ≡ (if group.sync then MOST_SEGMENTS else GROUP_PACKETS) }
+        → length (air_segments coder group) ≡ (if group.sync then AIR_SEGMENTS else GROUP_PACKETS) }
     ensures long { (coder : Coding) (group : Group) → length group.packets ≡ GROUP_PACKETS → length coder.last ≡ PRECODE
         → EachIndex (air_segments coder group) (λ n. length (slice_index_or (air_segments coder group) n [])
         ≡ SEGMENT) }

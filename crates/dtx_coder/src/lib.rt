@@ -6,5 +6,5 @@ mod coder;
 pub mod laws;
 mod outer_coding;
 
-pub use air::{AIR_SYMBOLS, Air, MOST_SEGMENTS};
+pub use air::{AIR_SEGMENTS, AIR_SYMBOLS, Air};
 pub use coder::Coder;

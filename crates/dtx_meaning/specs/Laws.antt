@@ -319,11 +319,6 @@ fault_of_input number ReadFault fault = tt
 fault_of_input number WriteFault fault = tt
 fault_of_input number Memory fault = tt
 
--- so is a refusal to write
-pub write_of_input : (number : ℕ) (cause : WriteNo) → IsOfInput number (of_write cause)
-write_of_input number write.Failed = tt
-write_of_input number write.Memory = tt
-
 -- an answer to the bytes is one of each input
 pub bytes_of_input : (number : ℕ) (status : Status) → IsOfBytes status → IsOfInput number status
 bytes_of_input number Done is = tt

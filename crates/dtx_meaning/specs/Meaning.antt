@@ -87,8 +87,8 @@ pub record IsUnprinted (meaning : Meaning) (start : Option Files) (status : Stat
   pub files : now ≡ with_outputs meaning.outputs start
 
 -- What came of a meaning: its answer with its outputs whole, or a fault with front parts of them, or all was done and
--- the line alone could not be printed. A fault of writing or want of memory that is met while the line of another
--- answer is printed leaves its outputs whole, which are front parts of themselves.
+-- the line alone could not be printed. Want of memory that is met while a line is printed leaves the outputs whole,
+-- which are front parts of themselves.
 abbrev pub IsDone : Meaning → Option Files → Status → Type 0 → Option Files → Type 0
 IsDone meaning start status unprinted now =
     IsAnswered meaning start status now

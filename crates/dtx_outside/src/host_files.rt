@@ -47,13 +47,13 @@ impl<'a, R: Files + AllocGlobal + Clock + Eprint> HostFiles<'a, R> {
         }
         let mut file = match File::open(self.rt, name) {
             Ok(file) => file,
-            Err(e) => return Err(open_refusal(&e, place)),
+            Err(e) => return Err(open_refusal(&e, self.met.knows(name))),
         };
         let found = match file.metadata() {
             Ok(found) => found,
             Err(e) => return Err(read_refusal(&e)),
         };
-        self.met.note_read(&found, place)?;
+        self.met.note_read(name, &found, place)?;
         let n = read_at(&mut file, place, into)?;
         let read_to = place.saturating_add(n as u64);
         self.progress.note(self.rt, n as u64, read_to, found.len());
@@ -65,7 +65,7 @@ impl<'a, R: Files + AllocGlobal + Clock + Eprint> HostFiles<'a, R> {
     /// open file, since another may have come under the name. From there on every failure is one of writing, since the
     /// file may have been made.
     pub(crate) fn begin(&mut self, name: &str) -> Result<(), WriteNo> {
-        self.met.make_room()?;
+        let kept = self.met.make_room(name)?;
         if let Ok(found) = fs::metadata(self.rt, name)
             && self.overlaps(&found)
         {
@@ -79,7 +79,7 @@ impl<'a, R: Files + AllocGlobal + Clock + Eprint> HostFiles<'a, R> {
             Ok(file) => file,
             Err(e) => return Err(write_refusal(&e)),
         };
-        match self.take(file) {
+        match self.take(kept, file) {
             Ok(()) => Ok(()),
             Err(_) => Err(WriteNo::Failed),
         }
@@ -92,18 +92,16 @@ impl<'a, R: Files + AllocGlobal + Clock + Eprint> HostFiles<'a, R> {
         overlaps
     }
 
-    /// Takes an open file as one that is begun.
-    fn take(&mut self, file: R::File) -> io::Result<()> {
+    /// Takes an open file as one that is begun. A disk is none: what is added would stand over what was added before.
+    fn take(&mut self, name: String, file: R::File) -> io::Result<()> {
         let found = file.metadata()?;
-        if self.overlaps(&found) {
+        if self.overlaps(&found) || found.file_type().is_block_device() {
             return Err(io::Error::from(ErrorKind::AlreadyExists));
         }
         if found.is_file() {
             file.set_len(0)?;
         }
-        if self.met.note_begun(&found).is_err() {
-            return Err(io::Error::from(ErrorKind::OutOfMemory));
-        }
+        self.met.note_begun(name, &found)?;
         if found.file_type().is_fifo() {
             self.pipes.hold(&found, file)?;
         }
@@ -122,7 +120,7 @@ impl<'a, R: Files + AllocGlobal + Clock + Eprint> HostFiles<'a, R> {
         let Ok(found) = file.metadata() else {
             return Err(WriteNo::Failed);
         };
-        self.met.note_added(&found, bytes.len() as u64)?;
+        self.met.note_added(name, &found, bytes.len() as u64)?;
         add(&mut file, bytes)
     }
 }
@@ -162,9 +160,9 @@ fn add<F: Write>(file: &mut F, bytes: &[u8]) -> Result<(), WriteNo> {
     }
 }
 
-/// A file that is not there is absent, but where earlier bytes of it were read it is one that was lost meanwhile.
-fn open_refusal(e: &io::Error, place: u64) -> ReadNo {
-    if e.kind() == ErrorKind::NotFound && place == 0 {
+/// A file that is not there is absent, but where one was met under its name it is one that was lost meanwhile.
+fn open_refusal(e: &io::Error, is_known: bool) -> ReadNo {
+    if e.kind() == ErrorKind::NotFound && !is_known {
         ReadNo::Absent
     } else {
         read_refusal(e)

@@ -17,8 +17,8 @@ use std::time::Clock;
 ///
 /// No file is begun that was read or begun before, under whatever name, or that standard output goes to: `begin` fails
 /// then and touches nothing, so an input is not lost where another path or a link leads to it. Nothing is added to a
-/// file that was not begun, or that isn't as long as what was added; and nothing is read on behind byte 0 where another
-/// file has come under the name, or the file was lost or cut. So an answer without a fault speaks of one file a name.
+/// file that was not begun under its name, or that isn't as long as what was added; and nothing is read where another
+/// file has come under a name, or the file was lost or cut to less than what was read.
 #[derive(Drop)]
 pub struct HostShelf<'a, R: Files> {
     files: HostFiles<'a, R>,
@@ -166,12 +166,18 @@ mod tests {
         assert_eq!(rt; shelf.append(name, b"d"), Err(WriteNo::Failed));
         assert_eq!(rt; shelf.read(name, 3, &mut into), Err(ReadNo::Failed));
         assert_eq!(rt; shelf.read(name, 0, &mut into), Ok(3));
+        let other = "dtx_outside_host_other";
+        fs::write(&rt, other, b"xyz")?;
+        fs::rename(&rt, name, "dtx_outside_host_kept")?;
+        fs::rename(&rt, other, name)?;
+        assert_eq!(rt; shelf.read(name, 0, &mut into), Err(ReadNo::Failed));
+        fs::rename(&rt, "dtx_outside_host_kept", name)?;
         fs::write(&rt, name, b"ab")?;
         assert_eq!(rt; shelf.read(name, 2, &mut into), Ok(0));
         assert_eq!(rt; shelf.read(name, 3, &mut into), Err(ReadNo::Failed));
         fs::remove_file(&rt, name)?;
         assert_eq!(rt; shelf.read(name, 2, &mut into), Err(ReadNo::Failed));
-        assert_eq!(rt; shelf.read(name, 0, &mut into), Err(ReadNo::Absent));
+        assert_eq!(rt; shelf.read(name, 0, &mut into), Err(ReadNo::Failed));
         let mut shelf = HostShelf::new(&rt, &progress);
         assert_eq!(rt; shelf.begin(name), Ok(()));
         assert_eq!(rt; shelf.append(name, b"abc"), Ok(()));

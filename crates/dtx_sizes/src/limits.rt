@@ -9,7 +9,7 @@ pub const MOST_PACKETS: u64 = 624_000_000;
 /// How many segments are received at most: those of as many frames, of 626 segments each.
 pub const MOST_SEGMENTS: u64 = 626_000_000;
 
-/// How many symbols are received at most: those of as many segments, of 832 symbols each.
+/// How many symbols are received at most, and bytes damaged: those of as many segments, of 832 symbols each.
 pub const MOST_SYMBOLS: u64 = 520_832_000_000;
 
 /// How many transmitters an operations packet has entries for at most.
@@ -18,5 +18,5 @@ pub const MOST_ENTRIES: usize = 35;
 /// How many transmitters a network has at most: each operations packet lists them all.
 pub const MOST_TRANSMITTERS: usize = MOST_ENTRIES;
 
-/// How many ticks of 100 ns a second has. Stamps and delays are below it.
+/// How many ticks of 100 ns a second has. A stamp and a maximum delay are below it.
 pub const SECOND_TICKS: u32 = 10_000_000;

@@ -77,36 +77,52 @@ fn inputs(rt: &HostRuntime) -> Result<Desk, Fail> {
     Ok(desk)
 }
 
-/// The same files, with which nothing was done.
-fn copied(rt: &HostRuntime, inputs: &Desk) -> Result<Desk, Fail> {
+/// What stands under the names of the outputs before a command.
+const BEFORE: &[u8] = b"as before";
+
+/// The same files, with which nothing was done, and files under the names of the outputs.
+fn copied(rt: &HostRuntime, inputs: &Desk, outputs: &[&str]) -> Result<Desk, Fail> {
     let mut desk = Desk::new(rt);
     for name in INPUTS {
         desk.put(name, inputs.file(name))?;
     }
+    for name in outputs {
+        desk.put(name, BEFORE)?;
+    }
     Ok(desk)
 }
 
-/// Whether each input stands, and each output is a front part of the whole one.
-fn are_fronts(desk: &Desk, inputs: &Desk, whole: &Desk, outputs: &[&str]) -> bool {
+/// Whether each input stands.
+fn inputs_stand(desk: &Desk, inputs: &Desk) -> bool {
     INPUTS
         .iter()
         .all(|name| desk.file(name) == inputs.file(name))
-        && outputs
-            .iter()
-            .all(|name| whole.file(name).starts_with(desk.file(name)))
 }
 
-/// Whether no output is there behind one that is not.
-fn are_in_order(desk: &Desk, outputs: &[&str]) -> bool {
-    let begun = outputs.iter().filter(|name| desk.has(name)).count();
-    outputs.iter().take(begun).all(|name| desk.has(name))
+/// Whether the outputs that were begun are the first ones, and each is a front part of the whole one.
+fn are_fronts(desk: &Desk, whole: &Desk, outputs: &[&str]) -> bool {
+    let begun = outputs
+        .iter()
+        .filter(|name| desk.file(name) != BEFORE)
+        .count();
+    outputs
+        .iter()
+        .take(begun)
+        .all(|name| whole.file(name).starts_with(desk.file(name)))
 }
 
-/// The answer to a call of that kind that fails.
-fn fault(call: Call) -> Status {
+/// Whether each output is the whole one.
+fn are_whole(desk: &Desk, whole: &Desk, outputs: &[&str]) -> bool {
+    outputs
+        .iter()
+        .all(|name| desk.file(name) == whole.file(name))
+}
+
+/// The answer to a call of that kind that fails, and the line.
+fn fault(call: Call) -> (Status, &'static str) {
     match call {
-        Call::Read => Status::ReadFault,
-        Call::Begin | Call::Append => Status::WriteFault,
+        Call::Read => (Status::ReadFault, "read fault\n"),
+        Call::Begin | Call::Append => (Status::WriteFault, "write fault\n"),
     }
 }
 
@@ -120,14 +136,16 @@ fn ends_well(
     failing: (Call, u64),
 ) -> Result<bool, Fail> {
     let (call, nth) = failing;
-    let mut desk = copied(rt, inputs)?;
+    let mut desk = copied(rt, inputs, case.outputs)?;
     desk.fail(call, nth)?;
     let status = desk.run(case.words)?;
-    let fronts = are_fronts(&desk, inputs, whole, case.outputs);
+    let stands = inputs_stand(&desk, inputs);
     if nth < whole.calls(call) {
-        return Ok(status == fault(call) && fronts && are_in_order(&desk, case.outputs));
+        let (answer, line) = fault(call);
+        let fronts = are_fronts(&desk, whole, case.outputs);
+        return Ok(stands && fronts && status == answer && desk.has_printed(line));
     }
-    Ok(status == Status::Done && are_fronts(whole, inputs, &desk, case.outputs))
+    Ok(stands && status == Status::Done && are_whole(&desk, whole, case.outputs))
 }
 
 /// Whether it does so for the first three calls of that kind, and for the last.
@@ -150,7 +168,7 @@ fn end_well(
 fn a_failing_call_has_its_status_and_leaves_front_parts(rt: HostRuntime) -> Result<(), Fail> {
     let inputs = inputs(&rt)?;
     for case in &CASES {
-        let mut whole = copied(&rt, &inputs)?;
+        let mut whole = copied(&rt, &inputs, case.outputs)?;
         assert_eq!(rt; whole.run(case.words)?, Status::Done, "{}", case.name());
         assert!(rt;
             end_well(&rt, case, &inputs, &whole, Call::Read)?,
@@ -176,9 +194,9 @@ fn a_failing_call_has_its_status_and_leaves_front_parts(rt: HostRuntime) -> Resu
 fn half_of_the_output_stands_before_the_last_read(rt: HostRuntime) -> Result<(), Fail> {
     let inputs = inputs(&rt)?;
     for case in CASES.iter().take(4) {
-        let mut whole = copied(&rt, &inputs)?;
+        let mut whole = copied(&rt, &inputs, case.outputs)?;
         whole.run(case.words)?;
-        let mut desk = copied(&rt, &inputs)?;
+        let mut desk = copied(&rt, &inputs, case.outputs)?;
         desk.fail(Call::Read, whole.calls(Call::Read).saturating_sub(1))?;
         assert_eq!(rt; desk.run(case.words)?, Status::ReadFault, "{}", case.name());
         assert!(rt;
@@ -242,6 +260,8 @@ fn a_network_breaks_off_at_one_step_for_all(rt: HostRuntime) -> Result<(), Fail>
         let made = whole.calls(Call::Append);
         whole.run(&["net", "p"])?;
         assert!(rt; whole.has_printed("packets 1300\nfeed 1300 filled 4 steps 2600\n"));
+        assert_eq!(rt; whole.file("tx-7.sym").len(), 1_001_728);
+        assert!(rt; whole.file("tx-9.sym") == whole.file("tx-7.sym"));
         let mut desk = Desk::new(&rt);
         desk.put("p", whole.file("p"))?;
         desk.put("s.ts", whole.file("s.ts"))?;
@@ -251,6 +271,7 @@ fn a_network_breaks_off_at_one_step_for_all(rt: HostRuntime) -> Result<(), Fail>
             .saturating_sub(1);
         desk.fail(Call::Append, last)?;
         assert_eq!(rt; desk.run(&["net", "p"])?, Status::WriteFault);
+        assert!(rt; desk.has_printed("write fault\n"));
         let (symbols, log) = names(second);
         assert!(rt; desk.file(symbols) == whole.file(symbols));
         assert!(rt; desk.file(log) == whole.file(log));

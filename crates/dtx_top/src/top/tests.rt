@@ -47,11 +47,6 @@ impl Desk {
         self.shelf.get(name).unwrap_or(&[])
     }
 
-    /// Whether a file is there.
-    pub(super) fn has(&self, name: &str) -> bool {
-        self.shelf.get(name).is_some()
-    }
-
     /// Whether this was printed.
     pub(super) fn has_printed(&self, text: &str) -> bool {
         self.out.bytes() == text.as_bytes()
