@@ -36,8 +36,9 @@ impl FilesMet {
         }
     }
 
-    /// Keeps a file in mind that is to be read from byte `place` on. It fails where another file was met under its name,
-    /// where it was not there when earlier bytes were read, or has become shorter: what is read would not be of one file.
+    /// Keeps a file in mind that is to be read from byte `place` on. It fails where another file was met under its
+    /// name, where it was not there when earlier bytes were read, or has become shorter: what is read would not be of
+    /// one file.
     pub(crate) fn note_read(
         &mut self,
         name: &str,
