@@ -131,10 +131,6 @@ fn name_of<'a>(command: Option<Command>, words: &'a [Word], performed: &'a NetOu
 }
 
 #[cfg(test)]
-mod adapt_tests;
-#[cfg(test)]
-mod excite_tests;
-#[cfg(test)]
 mod failing_tests;
 #[cfg(test)]
 mod net_tests;
