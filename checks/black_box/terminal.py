@@ -46,10 +46,15 @@ def main(shown, pipe, streams, *words):
             os.dup2(slave, 1)
         os.execvp(words[0], words)
     os.close(slave)
+    taker = threading.Thread(target=take, args=(pipe, f"{pipe}.taken"), daemon=True)
     if pipe:
-        threading.Thread(target=take, args=(pipe, f"{pipe}.taken"), daemon=True).start()
+        taker.start()
     show(master, shown)
-    sys.exit(os.waitstatus_to_exitcode(os.waitpid(child, 0)[1]))
+    status = os.waitstatus_to_exitcode(os.waitpid(child, 0)[1])
+    if pipe:
+        # What the program wrote may still be on its way; where it never opened the pipe, nothing comes.
+        taker.join(10)
+    sys.exit(status)
 
 
 main(*sys.argv[1:])
