@@ -12,6 +12,13 @@ find_gnuradio() {
     return 1
 }
 
+# Ends the script where there is none, which is no failure.
+need_gnuradio() {
+    find_gnuradio && return
+    echo 'GNU Radio is not installed here'
+    exit 0
+}
+
 # rate NAME PACKETS MICROSECONDS
 rate() {
     awk -v name="$1" -v packets="$2" -v time="$3" \

@@ -24,10 +24,7 @@ printf 'best of %d%s\n' $rounds "${pinned[*]:+, on one processor}"
 rate 'dtx code' $packets "${best[dtx code]}"
 rm "$room/out.sym"
 
-if ! find_gnuradio; then
-    echo 'GNU Radio is not installed here'
-    exit 0
-fi
+need_gnuradio
 # Its start is no part of the coding: the time of a few packets is taken off.
 head -c $((least_packets * 188)) "$room/few.ts" >"$room/least.ts"
 start=$(timed "$gnuradio_python" "$top/bench/gnuradio/code.py" "$room/least.ts" "$room/out.sym")

@@ -29,10 +29,7 @@ printf 'best of %d%s\n' $rounds "${pinned[*]:+, on one processor}"
 rate 'dtx receive' $packets "${best[dtx receive]}"
 rm "$room/in.sym" "$room/out.ts"
 
-if ! find_gnuradio; then
-    echo 'GNU Radio is not installed here'
-    exit 0
-fi
+need_gnuradio
 # Its start is no part of the receiving: the time of one field is taken off.
 head -c $field_symbols "$room/few.sym" >"$room/least.sym"
 start=$(timed "$gnuradio_python" "$top/bench/gnuradio/receive.py" "$room/least.sym" "$room/out.ts")

@@ -11,10 +11,7 @@ more=4
 
 . "$(dirname "${BASH_SOURCE[0]}")/../commands/timing.sh"
 . "$top/bench/gnuradio/blocks.sh"
-if ! find_gnuradio; then
-    echo 'GNU Radio is not installed here'
-    exit 0
-fi
+need_gnuradio
 "$program" make 1 $packets "$room/in.ts" >"$room/said"
 "$program" make 1 $((packets + more)) "$room/twelves.ts" >"$room/said"
 "$program" code "$room/in.ts" "$room/dtx.sym" >"$room/said"

@@ -69,6 +69,45 @@ replaced by another file:cp out.log other.log; mv other.log out.log
 replaced by a link to an input:ln -sf ../inputs/given.ts out.log
 end
 
+while IFS=: read -r shows do; do
+    start "a log of a network that is $shows between two of its lines"
+    stream 1300 s.ts
+    { network s.ts && send 7 0 1300; } >plan.toml
+    meanwhile "$do" tx-7.sym net plan.toml
+    is_said 12 'write fault' $?
+    is_front "$room/piped" "$room/from_order.sym"
+done <<'end'
+lost:rm tx-7.log
+cut:truncate -s 5 tx-7.log
+written by another:echo more >>tx-7.log
+replaced by another file:cp tx-7.log other.log; mv other.log tx-7.log
+end
+
+start 'a network of more files than may be open'
+stream 1300 s.ts
+{
+    printf 'start = 0\nmax_delay = 5000000\n'
+    printf '[[transmitter]]\naddress = %s\noffset = 0\ndelay = 0\n' {1..35}
+    printf '[net]\nstream = "s.ts"\n'
+    for from in 0 650; do
+        for address in {1..35}; do
+            send $address $from 650
+        done
+    done
+} >plan.toml
+for most in 1024 16; do
+    (
+        ulimit -n $most
+        "$dtx" net plan.toml >"$room/said" 2>"$room/complaint"
+    )
+    is_said 0 'feed 1300 filled 4 steps 45500' $?
+    "$dtx" excite net.feed 1 0 one.sym one.log >/dev/null
+    for address in {1..35}; do
+        cmp -s tx-$address.sym one.sym || wrong "with $most open files tx-$address.sym has other symbols"
+        cmp -s tx-$address.log one.log || wrong "with $most open files tx-$address.log has other lines"
+    done
+done
+
 # ---- Inputs and outputs that are no files ----
 
 start 'an input that is a pipe that no one writes'

@@ -4,21 +4,20 @@ ghost use Rattle.std.specs.Prelude.{◌≡◌, ◌≤◌, ◌+◌, ◌++◌, [],
 use std::alloc::{AllocError, Global};
 use std::marker::Model;
 
-/// Bytes, of which there are at most `N`. Its memory is taken once.
+/// Bytes, of which there are at most `N`. Its memory is taken once, and left as it comes.
 #[derive(Drop)]
 pub struct Buffer<const N: usize> {
     bytes: Vec<u8>,
-    filled: usize,
 }
 
 impl<const N: usize> Model for Buffer<N> {
-    ghost use Rattle.std.specs.Prelude.{ℕ, List, ◌≡◌, ◌≤◌, take, length};
+    ghost use Rattle.std.specs.Prelude.{ℕ, List, ◌≤◌, vec_len, vec_capacity};
 
     ghost Value = { List ℕ };
 
-    ghost view = { λ b. take b.filled b.bytes.items };
+    ghost view = { λ b. b.bytes.items };
 
-    ghost invariant = { λ b. (length b.bytes.items ≡ N) × (b.filled ≤ N) };
+    ghost invariant = { λ b. (vec_len b.bytes ≤ N) × (N ≤ vec_capacity b.bytes) };
 }
 
 impl<const N: usize> Buffer<N> {
@@ -27,8 +26,7 @@ impl<const N: usize> Buffer<N> {
         ensures { IfOk result (λ b. b ≡ []) }
     {
         Ok(Buffer {
-            bytes: vec![in alloc; 0u8; N]?,
-            filled: 0,
+            bytes: Vec::with_capacity(alloc, N)?,
         })
     }
 
@@ -36,7 +34,7 @@ impl<const N: usize> Buffer<N> {
     pub fn clear(&mut self)
         ensures { self.new ≡ [] }
     {
-        self.filled = 0;
+        self.bytes.clear();
     }
 
     /// Puts bytes behind those that it holds.
@@ -44,15 +42,13 @@ impl<const N: usize> Buffer<N> {
         requires { length self.old + length bytes.now ≤ N }
         ensures { self.new ≡ self.old ++ bytes.now }
     {
-        let end = self.filled + bytes.len();
-        self.bytes[self.filled..end].copy_from_slice(bytes);
-        self.filled = end;
+        let _ = self.bytes.extend_from_slice(bytes);
     }
 
     /// What it holds.
     pub fn bytes(&self) -> &[u8]
         ensures { result.now ≡ self.now }
     {
-        &self.bytes[..self.filled]
+        self.bytes.as_slice()
     }
 }

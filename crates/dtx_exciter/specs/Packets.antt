@@ -35,6 +35,7 @@ abbrev pub part_of : Option (List (List ℕ)) → ℕ
 part_of None = 0
 part_of (Some packets) = length packets % 4
 
+-- the same of all that was given: 0 where there is no anchor
 unfoldable pub group_part : List (List ℕ) → ℕ
 group_part packets = part_of (under packets)
 

@@ -81,8 +81,10 @@ pub fn sent_packets_give()
         ≡ (if was_sent address delay (readings l) (length l - 4) && ((length l - 4) % 312 == 0) then 5 else 4)) }
 {}
 
-/// A group ends at most every fourth packet, and gives at most five segments then: four packets are owed for each group
-/// that is sent, of which those behind the last whole group count.
+/// How many segments packets give at most. With p packets behind the last whole group under the anchor, which is all of
+/// them under it where no group is whole, and 0 where there is no anchor, one packet more gives at most five quarters
+/// of p + 1 segments, less five quarters of what stands so behind it. So m packets in a row give at most 5 (p + m) / 4,
+/// and p is at most 3.
 pub fn groups_are_spaced()
     ensures spaced { (address delay : ℕ) (packets : List (List ℕ)) (packet : List ℕ)
         → 4 * length (last_segments address delay (packets ++ packet ∷ [])) + 5 * group_part (packets ++ packet ∷ [])

@@ -1,13 +1,14 @@
 //! The corrector of a code.
 
-ghost use Rattle.std.specs.Prelude.{◌≡◌, ℕ, List, length, take};
+ghost use Rattle.std.specs.Prelude.{◌≡◌, ℕ, List, MatchResult, length, take};
 ghost use Rattle.dtx_laws.specs.Codeword.{IsCode, IsCodeword, IsCorrection};
+ghost use Rattle.dtx_laws.specs.Correction.{IsCorrected, IsLeft};
 ghost use Rattle.dtx_galois.specs.Field.{AreBytes};
 
 use crate::recurrence::find_recurrence;
 use crate::repair::patch;
 use crate::tables::Tables;
-use dtx_laws::correcting::{accept, encoded_again};
+use dtx_laws::correcting::{accept, encoded_again, encoded_again_four};
 use dtx_laws::{Correct, TooMany};
 use dtx_rs::Rs;
 
@@ -30,6 +31,22 @@ impl<const N: usize, const K: usize> Fast<N, K> {
             tables: Tables::new(),
         }
     }
+
+    /// Corrects a word, from the codeword that begins with its data.
+    fn correct_by(&self, code: &[u8; N], word: &mut [u8; N]) -> Result<u8, TooMany>
+        requires bytes { AreBytes word.old }
+        requires codeword { IsCodeword N K code.now }
+        requires begins { take K code.now ≡ take K word.old }
+        ensures answer { MatchResult result (IsCorrected N K word.old word.new) (λ _e. IsLeft N K word.old word.new) }
+        ensures long { length word.new ≡ N }
+    {
+        if *code == *word {
+            return Ok(0);
+        }
+        let mut tried = *word;
+        repair(&self.tables, &mut tried[..], &code[..], K);
+        accept(&self.encoder, word, &tried)
+    }
 }
 
 impl<const N: usize, const K: usize> Correct<N, K> for Fast<N, K> {
@@ -37,12 +54,17 @@ impl<const N: usize, const K: usize> Correct<N, K> for Fast<N, K> {
 
     fn correct(&self, word: &mut [u8; N]) -> Result<u8, TooMany> {
         let code = encoded_again(&self.encoder, word);
-        if code == *word {
-            return Ok(0);
+        self.correct_by(&code, word)
+    }
+
+    fn correct_four(&self, words: &mut [[u8; N]; 4]) -> [Result<u8, TooMany>; 4] {
+        let mut codes = [[0; N]; 4];
+        encoded_again_four(&self.encoder, words, &mut codes);
+        let mut answers = [Ok(0); 4];
+        for p in 0..4 {
+            answers[p] = self.correct_by(&codes[p], &mut words[p]);
         }
-        let mut tried = *word;
-        repair(&self.tables, &mut tried[..], &code[..], K);
-        accept(&self.encoder, word, &tried)
+        answers
     }
 }
 

@@ -2,7 +2,7 @@
 use Rattle.dtx_meaning.specs.declared.status.Status.{Status}
 use Rattle.dtx_meaning.specs.declared.status.Status.TheVariants.{Plan, Packet, TooLong, OutOfFeed, OutOfAir, NoSync}
 use Rattle.dtx_words.specs.declared.rows.Command.{Command}
-use Rattle.dtx_words.specs.declared.rows.Command.TheVariants.{Adapt, Code, Excite, Receive, Make, Hurt, Place}
+use Rattle.dtx_words.specs.declared.rows.Command.TheVariants.{Adapt, Code, Excite, Receive, Make, Hurt, Place, Trial}
 
 -- The command may be answered so, whatever the words and the files are: a refusal of a plan where it reads one, of a
 -- packet where it judges them, and so on.
@@ -36,4 +36,6 @@ Knows Place (Plan refusal) = ⊥
 Knows Place (OutOfFeed event) = ⊥
 Knows Place (OutOfAir entry) = ⊥
 Knows Place NoSync = ⊥
+Knows Trial (Plan refusal) = ⊥
+Knows Trial (OutOfAir entry) = ⊥
 Knows command status = Unit {0}

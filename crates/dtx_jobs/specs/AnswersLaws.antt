@@ -14,6 +14,7 @@ use Rattle.dtx_plan.specs.declared.damage.Damage.{Damage}
 use Rattle.dtx_plan.specs.declared.plan.Plan as plans
 use Rattle.dtx_words.specs.declared.rows.Command.{Command}
 use Rattle.dtx_words.specs.declared.rows.Command.TheVariants.{Adapt, Code, Excite, Receive, Net, Make, Hurt, Place}
+use Rattle.dtx_words.specs.declared.rows.Command.TheVariants.{Trial}
 use Rattle.dtx_jobs.specs.Adapt.{feeding}
 use Rattle.dtx_jobs.specs.Answers.{Knows}
 use Rattle.dtx_jobs.specs.Code.{coding}
@@ -167,6 +168,7 @@ same_known Net = tt
 same_known Make = tt
 same_known Hurt = tt
 same_known Place = tt
+same_known Trial = tt
 
 -- a command of one input and one output, whose names may be equal
 pub transformed_knows : (recipe : Recipe) (command : Command) (status : Status)

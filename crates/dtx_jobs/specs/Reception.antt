@@ -9,7 +9,7 @@ use Rattle.dtx_jobs.specs.Tally.{tally_of, IsBounded}
 -- these segments were given: the receiver stands for them, and the numbers are theirs and those of the packets that
 -- they gave
 pub record IsReceiving (reception : Reception) (segments : List (List ℤ)) : Type 0 where
-  pub receiver : StandsFor reception.receiver segments
+  pub receiver : StandsFor reception.receiver.value segments
   pub tally : reception.tally ≡ tally_of segments (packets_so_far segments)
 
 -- the segments of these bytes were given, and the numbers are none that so many segments can't give

@@ -7,5 +7,5 @@ use Rattle.dtx_jobs.specs.declared.stream_coder.StreamCoder.{StreamCoder}
 
 -- the packets of these bytes were given: the coder stands for their whole groups, and they are counted
 pub record WasCoded (state : StreamCoder) (bytes : List ℕ) : Type 0 where
-  pub coder : StandsFor state.coder (take (in_groups (packets_of bytes)) (packets_of bytes))
+  pub coder : StandsFor state.coder.value (take (in_groups (packets_of bytes)) (packets_of bytes))
   pub packets : state.packets ≡ whole_packets bytes

@@ -87,6 +87,7 @@ fn adapt_planned<S: Shelf>(
 }
 
 /// Does so under that plan.
+#[inline(never)]
 fn adapt_under<S: Shelf>(
     alloc: Global,
     plan: &Plan,

@@ -35,6 +35,7 @@ pub fn code<S: Shelf>(alloc: Global, words: &[Word], shelf: &mut S) -> Outcome
 }
 
 /// Does so with files of these names.
+#[inline(never)]
 fn code_files<S: Shelf>(alloc: Global, input: &str, output: &str, shelf: &mut S) -> Outcome
     ensures carried { IfSome (S.files shelf.old) (λ held. IsCarriedOut
         (transformed shapes.packets coding input.now output.now held) (Some held) result (S.files shelf.new)) }

@@ -31,7 +31,7 @@ const LOGGED_BYTES: usize = LOG_LINE * PIECE_PACKETS;
 pub(crate) struct Excitation {
     address: u16,
     delay: u32,
-    exciter: Exciter,
+    exciter: Box<Exciter>,
     air: Air,
     /// The line of the log that the last packet brought, or nothing.
     line: ArrayString<LOG_LINE>,
@@ -52,7 +52,7 @@ impl Excitation {
         Ok(Excitation {
             address,
             delay,
-            exciter: Exciter::new(alloc, address, delay)?,
+            exciter: Box::new(alloc, Exciter::new(alloc, address, delay)?)?,
             air: Air::new(),
             line: ArrayString::new(),
             tally: LifeTally::new(),

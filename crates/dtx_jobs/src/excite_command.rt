@@ -106,6 +106,7 @@ fn excite_files<S: Shelf>(
 }
 
 /// Does so with files whose names differ.
+#[inline(never)]
 fn excite_apart<S: Shelf>(
     alloc: Global,
     address: u16,

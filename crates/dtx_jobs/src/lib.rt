@@ -31,7 +31,7 @@ pub use damaged::Damaged;
 pub use excite_command::excite;
 pub use feeder::Feeder;
 pub use hurt_command::hurt;
-pub use make_command::make;
+pub use make_command::{make, make_stream};
 pub use past_end::first_past;
 pub use place_command::place;
 pub use plan_file::plan_in;

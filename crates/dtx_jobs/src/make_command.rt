@@ -52,11 +52,27 @@ fn make_ordered<S: Shelf>(
     ensures gone { HasGone (S.counts shelf.old) (S.counts shelf.new) (blame_of result.status) }
 {
     match (seed, count) {
-        (Some(seed), Some(count)) => match make_file(alloc, seed, count, output, shelf) {
-            Ok(outcome) => outcome,
-            Err(status) => ended(status),
-        },
+        (Some(seed), Some(count)) => make_stream(alloc, seed, count, output, shelf),
         _ => ended(Status::Usage),
+    }
+}
+
+/// Writes that many packets of that seed to the output: those that `make` writes. The number is how many they are.
+pub fn make_stream<S: Shelf>(
+    alloc: Global,
+    seed: u64,
+    count: u64,
+    output: &str,
+    shelf: &mut S,
+) -> Outcome
+    ensures carried { IsCarriedOut (made_file seed count output.now) (S.files shelf.old) result (S.files shelf.new) }
+    ensures words { IsOfInputs false 0 result.status }
+    ensures answers { Knows command.Make result.status }
+    ensures gone { HasGone (S.counts shelf.old) (S.counts shelf.new) (blame_of result.status) }
+{
+    match make_file(alloc, seed, count, output, shelf) {
+        Ok(outcome) => outcome,
+        Err(status) => ended(status),
     }
 }
 

@@ -35,6 +35,7 @@ pub fn receive<S: Shelf>(alloc: Global, words: &[Word], shelf: &mut S) -> Outcom
 }
 
 /// Does so with files of these names.
+#[inline(never)]
 fn receive_files<S: Shelf>(alloc: Global, input: &str, output: &str, shelf: &mut S) -> Outcome
     ensures carried { IfSome (S.files shelf.old) (λ held. IsCarriedOut
         (transformed shapes.segments receiving input.now output.now held) (Some held) result (S.files shelf.new)) }

@@ -21,7 +21,7 @@ const RECEIVED_BYTES: usize = PACKET * MOST_RECEIVED * PIECE_SEGMENTS;
 /// A receiver with the packets that the last piece brought, and the numbers of all.
 #[derive(Drop)]
 pub struct Reception {
-    receiver: Receiver,
+    receiver: Box<Receiver>,
     batch: Batch,
     segment: [i8; SEGMENT],
     tally: Tally,
@@ -34,7 +34,7 @@ impl Reception {
         ensures { IfOk result (λ r. WasGiven r []) }
     {
         Ok(Reception {
-            receiver: Receiver::new(alloc)?,
+            receiver: Box::new(alloc, Receiver::new(alloc)?)?,
             batch: Batch::new(),
             segment: [0; SEGMENT],
             tally: Tally::new(),

@@ -31,7 +31,7 @@ const CODED_BYTES: usize = AIR_SYMBOLS * (PIECE_PACKETS / GROUP_PACKETS);
 /// sent.
 #[derive(Drop)]
 pub(crate) struct StreamCoder {
-    coder: Coder,
+    coder: Box<Coder>,
     air: Air,
     group: [Packet; GROUP_PACKETS],
     /// The symbols that the last piece brought.
@@ -46,7 +46,7 @@ impl StreamCoder {
         ensures { IfOk result (λ coder. WasCoded coder []) }
     {
         Ok(StreamCoder {
-            coder: Coder::new(alloc)?,
+            coder: Box::new(alloc, Coder::new(alloc)?)?,
             air: Air::new(),
             group: [Packet([0; PACKET]); GROUP_PACKETS],
             symbols: SymbolBuffer::new(alloc)?,
@@ -60,10 +60,10 @@ impl StreamCoder {
         requires room { length bytes.now ≤ PACKET * PIECE_PACKETS }
         requires most { first + length bytes.now / PACKET ≤ MOST_PACKETS }
         requires empty { self.old.symbols ≡ [] }
-        ensures coder { (before : List (List ℕ)) → length before ≡ first → StandsFor self.old.coder before
-            → StandsFor self.new.coder
+        ensures coder { (before : List (List ℕ)) → length before ≡ first → StandsFor self.old.coder.value before
+            → StandsFor self.new.coder.value
             (before ++ packets_from bytes.now 0 (GROUP_PACKETS * (length bytes.now / GROUP_BYTES))) }
-        ensures brought { (before : List (List ℕ)) → length before ≡ first → StandsFor self.old.coder before
+        ensures brought { (before : List (List ℕ)) → length before ≡ first → StandsFor self.old.coder.value before
             → symbol_bytes (before ++ packets_from bytes.now 0 (GROUP_PACKETS * (length bytes.now / GROUP_BYTES)))
             ≡ symbol_bytes before ++ self.new.symbols }
         ensures packets { self.new.packets ≡ self.old.packets }
@@ -79,10 +79,10 @@ impl StreamCoder {
     fn code_group(&mut self, first: u64)
         requires grouped { first % GROUP_PACKETS ≡ 0 }
         requires room { length self.old.symbols + AIR_SYMBOLS ≤ CODED_BYTES }
-        ensures coder { (before : List (List ℕ)) → length before ≡ first → StandsFor self.old.coder before
-            → StandsFor self.new.coder (before ++ map (λ p. p.0) self.old.group) }
+        ensures coder { (before : List (List ℕ)) → length before ≡ first → StandsFor self.old.coder.value before
+            → StandsFor self.new.coder.value (before ++ map (λ p. p.0) self.old.group) }
         ensures brought { (before : List (List ℕ)) (bytes : List ℕ) → length before ≡ first
-            → StandsFor self.old.coder before
+            → StandsFor self.old.coder.value before
             → symbol_bytes before ≡ bytes ++ self.old.symbols
             → symbol_bytes (before ++ map (λ p. p.0) self.old.group) ≡ bytes ++ self.new.symbols }
         ensures long { length self.new.symbols ≤ length self.old.symbols + AIR_SYMBOLS }

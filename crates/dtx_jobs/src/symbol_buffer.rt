@@ -5,21 +5,23 @@ ghost use Rattle.dtx_files.specs.Symbols.{byte_of_symbol};
 use std::alloc::{AllocError, Global};
 use std::marker::Model;
 
-/// Symbols as bytes in two's complement, at most `N`. Its memory is taken once.
+/// Symbols as bytes in two's complement, at most `N`. Its memory is taken once, and cleared only as far as it was ever
+/// filled.
 #[derive(Drop)]
 pub(crate) struct SymbolBuffer<const N: usize> {
+    /// As many as were ever held at a time.
     bytes: Vec<u8>,
     filled: usize,
 }
 
 impl<const N: usize> Model for SymbolBuffer<N> {
-    ghost use Rattle.std.specs.Prelude.{ℕ, List, ◌≡◌, ◌≤◌, take, length};
+    ghost use Rattle.std.specs.Prelude.{ℕ, List, ◌≤◌, take, vec_len, vec_capacity};
 
     ghost Value = { List ℕ };
 
     ghost view = { λ b. take b.filled b.bytes.items };
 
-    ghost invariant = { λ b. (length b.bytes.items ≡ N) × (b.filled ≤ N) };
+    ghost invariant = { λ b. (b.filled ≤ vec_len b.bytes) × (vec_len b.bytes ≤ N) × (N ≤ vec_capacity b.bytes) };
 }
 
 impl<const N: usize> SymbolBuffer<N> {
@@ -28,7 +30,7 @@ impl<const N: usize> SymbolBuffer<N> {
         ensures { IfOk result (λ b. b ≡ []) }
     {
         Ok(SymbolBuffer {
-            bytes: vec![in alloc; 0u8; N]?,
+            bytes: Vec::with_capacity(alloc, N)?,
             filled: 0,
         })
     }
@@ -46,6 +48,9 @@ impl<const N: usize> SymbolBuffer<N> {
         ensures { self.new ≡ self.old ++ map byte_of_symbol symbols.now }
     {
         let end = self.filled + symbols.len();
+        if self.bytes.len() < end {
+            let _ = self.bytes.resize(end, 0);
+        }
         write_bytes(symbols, &mut self.bytes[self.filled..end]);
         self.filled = end;
     }

@@ -83,11 +83,12 @@ pub record AreApart (ticks : ℤ) (log log_other : List Line) (one other : Line)
 
 -- The headline.
 pub record Headline (plan : Plan) (stream : List (List ℕ)) (events : List Event) : Type 0 where
-  -- Every transmitter that joins the feed, from any earlier state, emits exactly the feed's symbols, and a run that
-  -- begins at one of their field syncs gives the packets back that it holds whole, with at most ten wrong bytes a word.
+  -- Every transmitter that joins the feed, from any earlier state, emits exactly the feed's symbols in the stretch; a
+  -- run that begins at one of their field syncs gives the packets back whose bytes are all its own and lie in segments
+  -- of the stretch, with at most ten wrong bytes a word; and so does the stretch alone with slight damage.
   pub follows : (x : Joined plan stream events) → Follows plan stream events x
   -- Any two of them log a preset of each group with an operations packet that both have, and the moments of these
-  -- differ only by the offsets.
+  -- differ only by the offsets and some whole seconds.
   pub apart : (x y : Joined plan stream events) (g : ℕ) → Contains (orders (feed plan stream) x.k (x.mark + x.count)) g
       → Contains (orders (feed plan stream) y.k (y.mark + y.count)) g
       → AreApart (x.t.offset -ℤ y.t.offset) (lines_of x.t x.who (steps_under plan stream events))

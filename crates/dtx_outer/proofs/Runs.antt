@@ -1,15 +1,23 @@
 -- A run, block by block: the word that a block completes, and what is kept.
 use Rattle.std.proofs.Common.{◌≡◌, ℕ, ◌+◌, ◌-◌, ◌*◌, ◌/◌, ◌%◌, ◌<◌, ◌≤◌, ◌⊎◌, ◌==◌, inl, inr, cond, Bool, true, false}
-use Rattle.std.proofs.Common.{List, [], ◌++◌, length, get_or, take, drop, refl, sym, ap, ap₂, ◌∙◌, arith}
+use Rattle.std.proofs.Common.{List, [], ◌∷◌, ◌++◌, length, get_or, take, drop, refl, sym, ap, ap₂, ◌∙◌, arith}
+use Rattle.std.proofs.Common.{zero, suc, subst}
 use Rattle.std.proofs.Common.{mul-le-mul_left, mul-le-mul_right, div-add-mod'}
 use Rattle.std.proofs.lemmas.Bool.{cases_lt, eqb-true, eqb-false}
-use Rattle.std.proofs.lemmas.Nat.{div-mul-add, mod-mul-add}
+use Rattle.std.proofs.lemmas.Nat.{div-mul-add, mod-mul-add, mod_below}
 use Rattle.std.proofs.lemmas.List.{get_or_append_left, get_or-append_right, get_or-take, get_or-drop, drop_at}
-use Rattle.std.proofs.lemmas.List.{length-drop, length-append, length-take-le}
+use Rattle.std.proofs.lemmas.List.{length-drop, length-append, length-take-le, take_all, append_assoc, append-nil}
+use Rattle.std.proofs.lemmas.List.{get_or-set_same, get_or-set_other}
+use Rattle.std.proofs.Math.ListN.{set}
+use Rattle.std.proofs.Math.Seq.{take-add}
 use Rattle.dtx_laws.specs.Branches.{IsInterleaver, Branching, HasWidths, gathering, aligned, leaving_all, after_all}
+use Rattle.dtx_laws.specs.Branches.{after_byte, leaving}
 use Rattle.dtx_laws.specs.InterleavingLaws.{HasWidths-aligned}
 use Rattle.dtx_laws.specs.PlacesLaws.{length_leaving, leaving_append, after_append}
-use Rattle.dtx_outer.specs.Inner.{waiting, completing, word_at, Kept, StandsFor}
+use Rattle.dtx_outer.specs.Inner.{waiting, completing, word_at, Kept, StandsFor, Gives, IsTaken, IsNext, block_behind}
+use Rattle.dtx_outer.specs.Outer.{IsPeriod}
+use Rattle.dtx_outer.specs.declared.inner.Taken.{Taken}
+use Rattle.dtx_outer.specs.declared.inner.Taken.TheVariants.{None}
 use Rattle.dtx_outer.specs.WordsLaws.{waiting_some, completing_is, completing_within, word_by, gathers_word}
 
 -- ---- the word that a block completes
@@ -270,3 +278,216 @@ start_stands n k b m d e h ev ew ep = record {
   waits = omega (arith, ew);
   place = ep ∙ place_zero (waiting n b m) (length e.white / k);
 }
+
+-- ---- a block, whether it gives a packet or not
+
+-- what is given
+pub taken_next : (n k b m : ℕ) (d : Kept) (y bs gathered old new : List ℕ) (taken : Taken) → 0 < n → IsInterleaver b m
+    → length bs ≡ n → StandsFor n k b m d y
+    → gathered ≡ drop (completing n b m) d.before ++ take (completing n b m) (leaving_all b d.branches bs)
+    → (0 < d.waits → (taken ≡ None) × (new ≡ old))
+    → (d.waits ≡ 0 → Gives n k d.white (k * d.place) gathered new taken)
+    → IsTaken n k b m d.white y bs old new taken
+taken_next n k b m d y bs gathered old new taken p i lb s w f g = record {
+  none = λ l. none l (cases_lt 0 d.waits);
+  packet = λ j e. packet j e (cases_lt 0 d.waits);
+}
+  where
+    none : length y < n * waiting n b m → (0 < d.waits) ⊎ (d.waits ≤ 0) → (taken ≡ None) × (new ≡ old)
+    none l (inl h) = f h
+    none l (inr h) = absurd (waits_no_more n k b m d y s (omega (arith, h)) l)
+
+    packet : (j : ℕ) → length y ≡ n * (waiting n b m + j) → (0 < d.waits) ⊎ (d.waits ≤ 0)
+        → Gives n k d.white (k * (j % (length d.white / k))) (word_at n b m (y ++ bs) j) new taken
+    packet j e (inl h) = absurd (still_waits n k b m j d y p s h e)
+    packet j e (inr h) =
+        subst (λ (x : ℕ). Gives n k d.white (k * x) (word_at n b m (y ++ bs) j) new taken)
+        (place_given n k b m j d y p s e)
+        (subst (λ (word : List ℕ). Gives n k d.white (k * d.place) word new taken)
+        (w ∙ word_given n k b m j d y bs p i lb s e) (g (omega (arith, h))))
+
+-- a period has packets
+whole_packets : (n k b period : ℕ) → 0 < k → IsPeriod n k b period → 0 < period / k
+whole_packets n k b period p h = by_cases (cases_lt 0 (period / k))
+  where
+    by_cases : (0 < period / k) ⊎ (period / k ≤ 0) → 0 < period / k
+    by_cases (inl l) = l
+    by_cases (inr l) = let z : period / k ≡ 0 = omega (arith, l) in
+        let y : period / k * k ≡ 0 * k = ap (λ i. i * k) z in
+        absurd (omega (arith, y, div-add-mod' period k, h.packets, h.some))
+
+-- what is kept
+pub stands_next : (n k b m period : ℕ) (d e : Kept) (y bs : List ℕ) → 0 < k → IsPeriod n k b period
+    → length d.white ≡ period → length bs ≡ n → StandsFor n k b m d y
+    → IsNext k (record d { branches = after_all b d.branches bs; before = leaving_all b d.branches bs }) e
+    → StandsFor n k b m e (y ++ bs)
+stands_next n k b m period d e y bs p h w lb s x = by_cases (cases_lt 0 d.waits)
+  where
+    count : 0 < length d.white / k
+    count = omega (arith, ap (λ i. i / k) w, whole_packets n k b period p h)
+
+    within : d.place < length d.white / k
+    within = omega (arith, s.place, mod_below (s.blocks - waiting n b m) (length d.white / k) count)
+
+    by_cases : (0 < d.waits) ⊎ (d.waits ≤ 0) → StandsFor n k b m e (y ++ bs)
+    by_cases (inl l) = stands_waiting n k b m d e y bs lb s l x.white x.branches x.before x.waits (x.waiting l)
+    by_cases (inr l) = let z : d.waits ≡ 0 = omega (arith, l) in
+        stands_given n k b m d e y bs lb s z within x.white x.branches x.before (omega (arith, x.waits, z)) (x.given z)
+
+-- ---- parts of what leaves
+
+pub take_leaving : (b n : ℕ) (v : Branching) (ys : List ℕ)
+    → take n (leaving_all b v ys) ≡ leaving_all b v (take n ys)
+unfolding leaving_all
+take_leaving b zero v ys = refl
+take_leaving b (suc n) v [] = refl
+take_leaving b (suc n) v (x ∷ xs) = ap (λ zs. leaving v x ∷ zs) (take_leaving b n (after_byte b v x) xs)
+
+pub drop_leaving : (b n : ℕ) (v : Branching) (ys : List ℕ)
+    → drop n (leaving_all b v ys) ≡ leaving_all b (after_all b v (take n ys)) (drop n ys)
+unfolding leaving_all after_all
+drop_leaving b zero v ys = refl
+drop_leaving b (suc n) v [] = refl
+drop_leaving b (suc n) v (x ∷ xs) = drop_leaving b n (after_byte b v x) xs
+
+-- block p of what leaves
+pub block_leaving : (n b : ℕ) (before : List ℕ) (v : Branching) (ys : List ℕ) (p : ℕ)
+    → block_behind n before (leaving_all b v ys) (suc p)
+    ≡ leaving_all b (after_all b v (take (n * p) ys)) (take n (drop (n * p) ys))
+block_leaving n b before v ys p =
+    ap (take n) (drop_leaving b (n * p) v ys)
+    ∙ take_leaving b n (after_all b v (take (n * p) ys)) (drop (n * p) ys)
+
+-- ---- four blocks
+
+-- between two of them: so many blocks of the bytes have given what they give
+abbrev pub between : ℕ → ℕ → Kept → Kept → List ℕ → ℕ → Kept
+between n b d e bytes p = record e {
+  branches = after_all b d.branches (take (n * p) bytes);
+  before = block_behind n d.before (leaving_all b d.branches bytes) p;
+}
+
+pub between_first : (n k b m : ℕ) (d e : Kept) (y bytes : List ℕ) → e.white ≡ d.white → e.waits ≡ d.waits
+    → e.place ≡ d.place → StandsFor n k b m d y
+    → StandsFor n k b m (between n b d e bytes 0) (y ++ take (n * 0) bytes)
+unfolding after_all
+between_first n k b m d e y bytes ew et ep s =
+    subst (λ j. StandsFor n k b m (record e {
+      branches = after_all b d.branches (take j bytes);
+      before = d.before;
+    }) (y ++ take j bytes)) (sym zero_blocks)
+    (subst (StandsFor n k b m (record e { branches = after_all b d.branches []; before = d.before }))
+    (sym (append-nil y)) at_first)
+  where
+    zero_blocks : n * 0 ≡ 0
+    zero_blocks = grind arith
+
+    at_first : StandsFor n k b m (record e { branches = after_all b d.branches []; before = d.before }) y
+    at_first = record {
+      start = s.start;
+      widths = s.widths;
+      aligned = s.aligned;
+      blocks = s.blocks;
+      given = s.given;
+      branches = s.branches;
+      before = s.before;
+      waits = et ∙ s.waits;
+      place = ep ∙ s.place ∙ ap (λ (w : List ℕ). (s.blocks - waiting n b m) % (length w / k)) (sym ew);
+    }
+
+-- one block more of the bytes
+one_more : (n p : ℕ) (bytes : List ℕ) → take (n * p) bytes ++ take n (drop (n * p) bytes) ≡ take (n * (p + 1)) bytes
+one_more n p bytes = sym (take-add (n * p) n bytes) ∙ ap (λ i. take i bytes) further
+  where
+    further : n * p + n ≡ n * (p + 1)
+    further = grind arith
+
+pub between_next : (n k b m period : ℕ) (d e f : Kept) (y bytes : List ℕ) (p : ℕ) → 0 < k → IsPeriod n k b period
+    → length e.white ≡ period → length (take n (drop (n * p) bytes)) ≡ n
+    → StandsFor n k b m (between n b d e bytes p) (y ++ take (n * p) bytes) → IsNext k e f
+    → StandsFor n k b m (between n b d f bytes (p + 1)) (y ++ take (n * (p + 1)) bytes)
+between_next n k b m period d e f y bytes p h i w lb s x =
+    subst (StandsFor n k b m (between n b d f bytes (p + 1)))
+    (append_assoc y (take (n * p) bytes) (take n (drop (n * p) bytes)) ∙ ap (λ zs. y ++ zs) (one_more n p bytes))
+    (stands_next n k b m period (between n b d e bytes p) (between n b d f bytes (p + 1)) (y ++ take (n * p) bytes)
+    (take n (drop (n * p) bytes)) h i w lb s
+    (record {
+      white = x.white;
+      branches = ap (after_all b d.branches) (sym (one_more n p bytes))
+          ∙ after_append b d.branches (take (n * p) bytes) (take n (drop (n * p) bytes));
+      before = ap (block_behind n d.before (leaving_all b d.branches bytes)) next
+          ∙ block_leaving n b d.before d.branches bytes p;
+      waits = x.waits;
+      waiting = x.waiting;
+      given = x.given;
+    }))
+  where
+    next : p + 1 ≡ suc p
+    next = omega arith
+
+pub between_taken : (n k b m : ℕ) (d e : Kept) (y bytes gathered old new : List ℕ) (p : ℕ) (taken : Taken) → 0 < n
+    → IsInterleaver b m
+    → length (take n (drop (n * p) bytes)) ≡ n
+    → StandsFor n k b m (between n b d e bytes p) (y ++ take (n * p) bytes)
+    → gathered ≡ drop (completing n b m) (block_behind n d.before (leaving_all b d.branches bytes) p)
+    ++ take (completing n b m) (block_behind n d.before (leaving_all b d.branches bytes) (suc p))
+    → (0 < e.waits → (taken ≡ None) × (new ≡ old))
+    → (e.waits ≡ 0 → Gives n k e.white (k * e.place) gathered new taken)
+    → IsTaken n k b m e.white (y ++ take (n * p) bytes) (take n (drop (n * p) bytes)) old new taken
+between_taken n k b m d e y bytes gathered old new p taken h i lb s w f g =
+    taken_next n k b m (between n b d e bytes p) (y ++ take (n * p) bytes) (take n (drop (n * p) bytes)) gathered old
+    new taken h i lb s
+    (w ∙ ap (λ zs. drop (completing n b m) (block_behind n d.before (leaving_all b d.branches bytes) p)
+    ++ take (completing n b m) zs) (block_leaving n b d.before d.branches bytes p))
+    f g
+
+pub between_last : (n k b m : ℕ) (d e : Kept) (y bytes : List ℕ) (p : ℕ) → p ≡ 4 → length bytes ≡ n * 4
+    → e.branches ≡ after_all b d.branches bytes
+    → e.before ≡ block_behind n d.before (leaving_all b d.branches bytes) 4
+    → StandsFor n k b m (between n b d e bytes p) (y ++ take (n * p) bytes) → StandsFor n k b m e (y ++ bytes)
+between_last n k b m d e y bytes p q l eb ev s = at_last (subst (λ j. StandsFor n k b m (between n b d e bytes j)
+    (y ++ take (n * j) bytes)) q s)
+  where
+    whole : take (n * 4) bytes ≡ bytes
+    whole = take_all (n * 4) bytes (omega (arith, l))
+
+    at_last : StandsFor n k b m (between n b d e bytes 4) (y ++ take (n * 4) bytes) → StandsFor n k b m e (y ++ bytes)
+    at_last s =
+        let r = subst (λ zs. StandsFor n k b m (between n b d e bytes 4) (y ++ zs)) whole s in record {
+          start = r.start;
+          widths = r.widths;
+          aligned = r.aligned;
+          blocks = r.blocks;
+          given = r.given;
+          branches = eb ∙ ap (after_all b d.branches) (sym whole) ∙ r.branches;
+          before = λ z. ev ∙ r.before z;
+          waits = r.waits;
+          place = r.place;
+        }
+
+-- a block of four
+pub block_long : (n p : ℕ) (bytes : List ℕ) → length bytes ≡ n * 4 → p < 4 → length (take n (drop (n * p) bytes)) ≡ n
+block_long n p bytes l h =
+    let f : n * (p + 1) ≡ n * p + n = grind arith in
+    let g : n * (p + 1) ≤ n * 4 = mul-le-mul_left n (upto h) in
+    length-take-le n (drop (n * p) bytes) (omega (arith, length-drop (n * p) bytes, l, f, g))
+  where
+    upto : p < 4 → p + 1 ≤ 4
+    upto h = omega arith
+
+-- one element more of two lists that are set from their fronts on
+pub set_further : {A B : Type 0} (xs : List A) (ys : List B) (i : ℕ) (x d : A) (y e : B) (P : ℕ → A → B → Type 0)
+    → i < length xs → i < length ys → ((j : ℕ) → j < i → P j (get_or xs j d) (get_or ys j e)) → P i x y
+    → (j : ℕ) → j < i + 1 → P j (get_or (set xs i x) j d) (get_or (set ys i y) j e)
+set_further xs ys i x d y e P lx ly before here j h = by_cases (cases_lt j i)
+  where
+    by_cases : (j < i) ⊎ (i ≤ j) → P j (get_or (set xs i x) j d) (get_or (set ys i y) j e)
+    by_cases (inl k) =
+        let other : j ≡ i → ⊥ = λ q. omega (arith, q, k) in
+        subst (λ a. P j a (get_or (set ys i y) j e)) (sym (get_or-set_other xs i j x d other))
+        (subst (P j (get_or xs j d)) (sym (get_or-set_other ys i j y e other)) (before j k))
+    by_cases (inr k) =
+        let q : i ≡ j = omega (arith, h, k) in
+        subst (λ r. P r (get_or (set xs i x) r d) (get_or (set ys i y) r e)) q
+        (subst (λ a. P i a (get_or (set ys i y) i e)) (sym (get_or-set_same xs i x d lx))
+        (subst (P i x) (sym (get_or-set_same ys i y e ly)) here))

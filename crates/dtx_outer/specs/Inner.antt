@@ -1,5 +1,7 @@
 -- The way back, block by block of a run.
-use Rattle.std.specs.Prelude.{ℕ, ◌≡◌, ◌+◌, ◌-◌, ◌*◌, ◌/◌, ◌%◌, ◌<◌, List, map, length, take, drop, slice_index}
+use Rattle.std.specs.Prelude.{ℕ, ◌≡◌, ◌+◌, ◌-◌, ◌*◌, ◌/◌, ◌%◌, ◌<◌, ◌==◌, if◌then◌else◌, ◌++◌, List, map, length, take}
+use Rattle.std.specs.Prelude.{drop, slice_index}
+use Rattle.std.proofs.Common.{zero, suc}
 use Rattle.std.specs.List.{range_with_len}
 use Rattle.dtx_laws.specs.Branches.{Branching, HasWidths, gathering, leaving_all, after_all}
 use Rattle.dtx_laws.specs.Codeword.{IsCorrection}
@@ -38,6 +40,11 @@ pub record Kept : Type 0 where
   pub waits : ℕ
   pub place : ℕ
 
+-- block p of n bytes each, where one stands before the first of the bytes
+abbrev pub block_behind : ℕ → List ℕ → List ℕ → ℕ → List ℕ
+block_behind n before bytes zero = before
+block_behind n before bytes (suc p) = take n (drop (n * p) bytes)
+
 -- What is kept is that of a run that has given the bytes y, in blocks of n. It began at an align, at which the branches
 -- held any bytes, and before the first block any block may be kept.
 pub record StandsFor (n k b m : ℕ) (inner : Kept) (y : List ℕ) : Type 0 where
@@ -69,3 +76,19 @@ abbrev pub Gives : (n k : ℕ) (white : List ℕ) (from : ℕ) (word out : List 
 Gives n k white from word out None = ⊥
 Gives n k white from word out (Good fixed) = IsGood n k white from word out fixed
 Gives n k white from word out Bad = IsBad n k white from word out
+
+-- What the block that comes behind the bytes y of a run gives, and writes over out. Of the first blocks it is nothing,
+-- and of the block after j more packet j of the run, unwhitened as packet j of a stream.
+pub record IsTaken (n k b m : ℕ) (white y block old new : List ℕ) (taken : Taken) : Type 0 where
+  pub none : length y < n * waiting n b m → (taken ≡ None) × (new ≡ old)
+  pub packet : (j : ℕ) → length y ≡ n * (waiting n b m + j)
+      → Gives n k white (k * (j % (length white / k))) (word_at n b m (y ++ block) j) new taken
+
+-- what is kept when a gathered block has given what it gives
+pub record IsNext (k : ℕ) (old new : Kept) : Type 0 where
+  pub white : new.white ≡ old.white
+  pub branches : new.branches ≡ old.branches
+  pub before : new.before ≡ old.before
+  pub waits : new.waits ≡ old.waits - 1
+  pub waiting : 0 < old.waits → new.place ≡ old.place
+  pub given : old.waits ≡ 0 → new.place ≡ (if old.place + 1 == length old.white / k then 0 else old.place + 1)

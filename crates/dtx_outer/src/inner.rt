@@ -1,12 +1,14 @@
 //! Gathers, corrects and unwhitens.
 
 ghost use Rattle.std.specs.Prelude.{◌≡◌, ℕ, ◌+◌, ◌-◌, ◌*◌, ◌/◌, ◌%◌, ◌<◌, ◌≤◌, ◌==◌, if◌then◌else◌, ◌++◌, List, []};
-ghost use Rattle.std.specs.Prelude.{length, take, drop};
+ghost use Rattle.std.specs.Prelude.{MatchResult, length, slice_index_or, take, drop};
+ghost use Rattle.std.proofs.Common.{suc};
 ghost use Rattle.dtx_galois.specs.Field.{AreBytes};
 ghost use Rattle.dtx_laws.specs.Branches.{IsInterleaver, HasWidths, gathering, leaving_all, after_all};
 ghost use Rattle.dtx_laws.specs.Codeword.{IsCode};
+ghost use Rattle.dtx_laws.specs.Correction.{IsCorrected, IsLeft};
 ghost use Rattle.dtx_outer.specs.Outer.{IsPeriod};
-ghost use Rattle.dtx_outer.specs.Inner.{Kept, StandsFor, Gives, waiting, completing, word_at};
+ghost use Rattle.dtx_outer.specs.Inner.{Kept, StandsFor, Gives, IsTaken, IsNext, waiting, completing, block_behind};
 
 use crate::whitening::whiten;
 use dtx_laws::{Correct, Gather, TooMany, Whitener};
@@ -134,24 +136,59 @@ impl<
     ///
     /// No call takes memory, and a run may have any number of blocks.
     pub fn take(&mut self, bytes: &[u8; N], out: &mut [u8; K]) -> Taken
-        ensures none { (y : List ℕ) → StandsFor N K B M self.old y → length y < N * waiting N B M
-            → (result ≡ Taken.None) × (out.new ≡ out.old) }
-        ensures packet { (y : List ℕ) (k : ℕ) → StandsFor N K B M self.old y → length y ≡ N * (waiting N B M + k)
-            → Gives N K self.old.white (K * (k % (length self.old.white / K)))
-            (word_at N B M (y ++ bytes.now) k) out.new result }
+        ensures taken { (y : List ℕ) → StandsFor N K B M self.old y
+            → IsTaken N K B M self.old.white y bytes.now out.old out.new result }
         ensures stands { (y : List ℕ) → StandsFor N K B M self.old y → StandsFor N K B M self.new (y ++ bytes.now) }
         ensures white { self.new.white ≡ self.old.white }
     {
         self.known();
         let mut word = [0; N];
         self.next_word(bytes, &mut word);
+        let corrected = self.code.correct(&mut word);
+        self.give_next(corrected, &word, out)
+    }
+
+    /// The next four blocks of a run, each as `take` takes it. The bytes are replaced by those that were gathered.
+    pub fn take_four(&mut self, bytes: &mut [u8], outs: &mut [[u8; K]; 4]) -> [Taken; 4]
+        requires { length bytes.old ≡ N * 4 }
+        ensures taken { (y : List ℕ) (p : ℕ) → StandsFor N K B M self.old y → p < 4
+            → IsTaken N K B M self.old.white (y ++ take (N * p) bytes.old) (take N (drop (N * p) bytes.old))
+            (slice_index_or outs.old p []) (slice_index_or outs.new p []) (slice_index_or result p Taken.None) }
+        ensures stands { (y : List ℕ) → StandsFor N K B M self.old y → StandsFor N K B M self.new (y ++ bytes.old) }
+        ensures white { self.new.white ≡ self.old.white }
+    {
+        self.known();
+        let mut words = [[0; N]; 4];
+        self.next_words(bytes, &mut words);
+        let corrected = self.code.correct_four(&mut words);
+        let mut taken = [Taken::None; 4];
+        for p in 0..4 {
+            taken[p] = self.give_next(corrected[p], &words[p], &mut outs[p]);
+        }
+        taken
+    }
+
+    /// What a word gives that was gathered, and of which the corrector made this one.
+    fn give_next(
+        &mut self,
+        corrected: Result<u8, TooMany>,
+        word: &[u8; N],
+        out: &mut [u8; K],
+    ) -> Taken
+        requires { IsCode N K }
+        ensures waiting { 0 < self.old.waits → (result ≡ Taken.None) × (out.new ≡ out.old) }
+        ensures given { self.old.waits ≡ 0 → (gathered : List ℕ)
+            → MatchResult corrected (IsCorrected N K gathered word.now) (λ _e. IsLeft N K gathered word.now)
+            → Gives N K self.old.white (K * self.old.place) gathered out.new result }
+        ensures kept { IsNext K self.old self.new }
+    {
         if self.waits > 0 {
             self.waits -= 1;
             return Taken::None;
         }
         let place = self.place;
         self.place = following(place, W::PERIOD / K);
-        give(&self.code, &self.whitener, K * place, &mut word, out)
+        give(corrected, &self.whitener, K * place, word, out)
     }
 
     /// Gathers a block. The word is the end of the block before it and the begin of this one, so that its first byte is
@@ -171,23 +208,42 @@ impl<
         window(&self.before, &now, completed::<N, B, M>(), word);
         self.before = now;
     }
+
+    /// Gathers four blocks, and their words as `next_word` does.
+    fn next_words(&mut self, bytes: &mut [u8], words: &mut [[u8; N]; 4])
+        requires code { IsCode N K }
+        requires numbers { IsInterleaver B M }
+        requires four { length bytes.old ≡ N * 4 }
+        ensures words { (p : ℕ) → p < 4 → slice_index_or words.new p []
+            ≡ drop (completing N B M) (block_behind N self.old.before (leaving_all B self.old.branches bytes.old) p)
+            ++ take (completing N B M)
+            (block_behind N self.old.before (leaving_all B self.old.branches bytes.old) (suc p)) }
+        ensures kept { self.new ≡ record self.old {
+          branches = after_all B self.old.branches bytes.old;
+          before = block_behind N self.old.before (leaving_all B self.old.branches bytes.old) 4;
+        } }
+    {
+        self.gather.gather(bytes);
+        windows(&self.before, bytes, completed::<N, B, M>(), words);
+        self.before.copy_from_slice(&bytes[3 * N..]);
+    }
 }
 
 /// The data of a word, unwhitened from a place on.
-fn give<W: Whitener, C: Correct<N, K>, const N: usize, const K: usize>(
-    code: &C,
+fn give<W: Whitener, const N: usize, const K: usize>(
+    corrected: Result<u8, TooMany>,
     whitener: &W,
     from: usize,
-    word: &mut [u8; N],
+    word: &[u8; N],
     out: &mut [u8; K],
 ) -> Taken
+    requires code { IsCode N K }
     requires within { from + K ≤ W.PERIOD }
-    ensures { Gives N K (W.bytes whitener.now) from word.old out.new result }
+    ensures { (gathered : List ℕ)
+        → MatchResult corrected (IsCorrected N K gathered word.now) (λ _e. IsLeft N K gathered word.now)
+        → Gives N K (W.bytes whitener.now) from gathered out.new result }
 {
-    code.known();
-    let corrected = code.correct(word);
-    out.copy_from_slice(&word[..K]);
-    *out = whiten(whitener, from, out);
+    *out = whiten(whitener, from, &word[..K]);
     match corrected {
         Ok(fixed) => Taken::Good { fixed },
         Err(TooMany) => Taken::Bad,
@@ -225,6 +281,20 @@ fn window(before: &[u8], now: &[u8], skip: usize, word: &mut [u8])
     let rest = before.len() - skip;
     word[..rest].copy_from_slice(&before[skip..]);
     word[rest..].copy_from_slice(&now[..skip]);
+}
+
+/// The four windows of a block and the four blocks behind it.
+fn windows<const N: usize>(before: &[u8; N], now: &[u8], skip: usize, words: &mut [[u8; N]; 4])
+    requires few { N ≤ 255 }
+    requires four { length now.now ≡ N * 4 }
+    requires skip { skip ≤ N }
+    ensures { (p : ℕ) → p < 4 → slice_index_or words.new p []
+        ≡ drop skip (block_behind N before.now now.now p) ++ take skip (block_behind N before.now now.now (suc p)) }
+{
+    window(before, &now[..N], skip, &mut words[0]);
+    window(&now[..N], &now[N..2 * N], skip, &mut words[1]);
+    window(&now[N..2 * N], &now[2 * N..3 * N], skip, &mut words[2]);
+    window(&now[2 * N..3 * N], &now[3 * N..], skip, &mut words[3]);
 }
 
 /// The place after this one, of so many in a turn.

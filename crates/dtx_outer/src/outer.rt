@@ -89,7 +89,7 @@ impl<
               (coded N K self.old.white (K * place) head.now);
         } }
     {
-        let white = whiten(&self.whitener, K * place, head);
+        let white = whiten(&self.whitener, K * place, &head[..]);
         self.code.encode(&white, out);
         self.spread.pass(out);
     }

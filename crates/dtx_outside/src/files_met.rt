@@ -1,8 +1,13 @@
-// Which files of the host were read and which were begun, under which names, and how long the latter have to be.
+// Which files of the host were met, under which names: how long those have to be that were begun, and which of them are
+// held open.
 use crate::{ReadNo, WriteNo};
 use std::alloc::{AllocError, Global};
 use std::fs::Metadata;
-use std::os::unix::fs::MetadataExt;
+use std::io::Write;
+use std::os::unix::fs::{FileTypeExt, MetadataExt};
+
+/// How many files are held open at a time, but for the pipes.
+const MOST_HELD: usize = 64;
 
 /// A file of the host, by its device and its number there: what two names of one file, and its links, have in common.
 #[derive(Clone, Copy, Debug, PartialEq, Eq)]
@@ -11,28 +16,70 @@ pub(crate) struct FileId {
     number: u64,
 }
 
-/// A file that was met under a name. Of one that was begun, the bytes that were added to it since.
+/// A file that was met under a name.
 #[derive(Drop)]
-struct Met {
+pub(crate) struct Met<F> {
     name: String,
     id: FileId,
-    length: u64,
+    is_pipe: bool,
+    /// Of a file that was begun, the bytes that were added to it since.
+    added: Option<u64>,
+    /// The open file, where it is held.
+    file: Option<F>,
 }
 
-/// All files that were met. Devices and pipes may be met again, since beginning one takes nothing away.
+impl<F: Write + Drop> Met<F> {
+    /// Adds bytes to the file, where it is held open and is the one that is found under its name.
+    pub(crate) fn append(&mut self, found: &Metadata, bytes: &[u8]) -> Result<(), WriteNo> {
+        self.note_added(found, bytes.len() as u64)?;
+        match &mut self.file {
+            Some(file) => add(file, bytes),
+            None => Err(WriteNo::Failed),
+        }
+    }
+
+    fn note_added(&mut self, found: &Metadata, bytes: u64) -> Result<(), WriteNo> {
+        let Some(added) = self.added else {
+            return Err(WriteNo::Failed);
+        };
+        if self.id != id_of(found) || found.is_file() && found.len() != added {
+            return Err(WriteNo::Failed);
+        }
+        self.added = Some(added.saturating_add(bytes));
+        Ok(())
+    }
+
+    fn has_name(&self, name: &str) -> bool {
+        self.name.as_str() == name
+    }
+
+    fn is_begun(&self, name: &str) -> bool {
+        self.added.is_some() && self.has_name(name)
+    }
+
+    fn may_be_closed(&self) -> bool {
+        self.file.is_some() && !self.is_pipe
+    }
+}
+
+/// All files that were met, in that order. Devices and pipes may be met again, since beginning one takes nothing away.
+///
+/// A pipe that was begun stays open, since who reads it takes each closing for the end, and opening one that nobody
+/// reads any more would wait.
 #[derive(Drop)]
-pub(crate) struct FilesMet {
+pub(crate) struct FilesMet<F> {
     alloc: Global,
-    read: Vec<Met>,
-    begun: Vec<Met>,
+    met: Vec<Met<F>>,
+    /// The place of the begun file that was looked for last: most often it is looked for again.
+    last: usize,
 }
 
-impl FilesMet {
-    pub(crate) fn new(alloc: Global) -> FilesMet {
+impl<F: Write + Drop> FilesMet<F> {
+    pub(crate) fn new(alloc: Global) -> FilesMet<F> {
         FilesMet {
             alloc,
-            read: Vec::new(alloc),
-            begun: Vec::new(alloc),
+            met: Vec::new(alloc),
+            last: 0,
         }
     }
 
@@ -65,21 +112,30 @@ impl FilesMet {
 
     /// Takes the memory for one file more that is begun, and for its name.
     pub(crate) fn make_room(&mut self, name: &str) -> Result<String, AllocError> {
-        self.begun.reserve(1)?;
+        self.met.reserve(1)?;
         String::from_str(self.alloc, name)
     }
 
     /// Whether the file would be lost if it were begun: it was read or begun before.
     pub(crate) fn would_lose(&self, found: &Metadata) -> bool {
-        found.is_file() && self.has(id_of(found))
+        let id = id_of(found);
+        found.is_file() && self.met.iter().any(|met| met.id == id)
     }
 
-    /// Keeps a file in mind that is begun, and empty.
-    pub(crate) fn note_begun(&mut self, name: String, found: &Metadata) -> Result<(), AllocError> {
-        self.begun.push(Met {
+    /// Keeps a file in mind that is begun, and empty. A pipe is held open.
+    pub(crate) fn note_begun(
+        &mut self,
+        name: String,
+        found: &Metadata,
+        file: F,
+    ) -> Result<(), AllocError> {
+        let is_pipe = found.file_type().is_fifo();
+        self.met.push(Met {
             name,
             id: id_of(found),
-            length: 0,
+            is_pipe,
+            added: Some(0),
+            file: if is_pipe { Some(file) } else { None },
         })?;
         Ok(())
     }
@@ -92,38 +148,69 @@ impl FilesMet {
         found: &Metadata,
         bytes: u64,
     ) -> Result<(), WriteNo> {
-        for file in self.begun.iter_mut() {
-            if file.name.as_str() == name {
-                let is_same = file.id == id_of(found);
-                if !is_same || found.is_file() && found.len() != file.length {
-                    return Err(WriteNo::Failed);
-                }
-                file.length = file.length.saturating_add(bytes);
-                return Ok(());
+        match self.begun(name) {
+            Some(met) => met.note_added(found, bytes),
+            None => Err(WriteNo::Failed),
+        }
+    }
+
+    /// The file that was begun under that name, where it is held open.
+    pub(crate) fn held(&mut self, name: &str) -> Option<&mut Met<F>> {
+        let met = self.begun(name)?;
+        if met.file.is_some() { Some(met) } else { None }
+    }
+
+    /// Holds the file that was begun under that name open, where not too many are held.
+    pub(crate) fn hold(&mut self, name: &str, file: F) {
+        let held = self.met.iter().filter(|met| met.may_be_closed()).count();
+        if held < MOST_HELD
+            && let Some(met) = self.begun(name)
+        {
+            met.file = Some(file);
+        }
+    }
+
+    /// Closes all files that are held open but for the pipes, and answers whether there were any.
+    pub(crate) fn let_go(&mut self) -> bool {
+        let mut any = false;
+        for met in self.met.iter_mut() {
+            if met.may_be_closed() {
+                met.file = None;
+                any = true;
             }
         }
-        Err(WriteNo::Failed)
+        any
+    }
+
+    fn begun(&mut self, name: &str) -> Option<&mut Met<F>> {
+        let place = self.place_begun(name)?;
+        self.last = place;
+        self.met.get_mut(place)
+    }
+
+    fn place_begun(&self, name: &str) -> Option<usize> {
+        match self.met.get(self.last) {
+            Some(met) if met.is_begun(name) => Some(self.last),
+            _ => self.met.iter().position(|met| met.is_begun(name)),
+        }
     }
 
     fn keep_read(&mut self, name: &str, id: FileId) -> Result<(), AllocError> {
         let name = String::from_str(self.alloc, name)?;
-        self.read.push(Met {
+        self.met.push(Met {
             name,
             id,
-            length: 0,
+            is_pipe: false,
+            added: None,
+            file: None,
         })?;
         Ok(())
     }
 
     /// The file that was met under that name.
     fn id_under(&self, name: &str) -> Option<FileId> {
-        let met = |file: &&Met| file.name.as_str() == name;
-        let file = self.read.iter().find(met).or(self.begun.iter().find(met))?;
-        Some(file.id)
-    }
-
-    fn has(&self, id: FileId) -> bool {
-        self.read.iter().any(|file| file.id == id) || self.begun.iter().any(|file| file.id == id)
+        let met = self.met.iter().find(|met| met.has_name(name))?;
+        Some(met.id)
     }
 }
 
@@ -131,5 +218,13 @@ pub(crate) fn id_of(found: &Metadata) -> FileId {
     FileId {
         device: found.dev(),
         number: found.ino(),
+    }
+}
+
+/// A part may have been written when this fails: it never counts as want of memory, which leaves all as it was.
+pub(crate) fn add<F: Write>(file: &mut F, bytes: &[u8]) -> Result<(), WriteNo> {
+    match file.write_all(bytes) {
+        Ok(()) => Ok(()),
+        Err(_) => Err(WriteNo::Failed),
     }
 }

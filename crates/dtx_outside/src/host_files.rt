@@ -1,11 +1,10 @@
 // The file system, through the runtime that `main` is given: what each call of the shelf does there.
 ghost use Rattle.std.specs.Prelude.{◌≤◌, IfOk, length};
 
-use crate::files_met::{FilesMet, id_of};
-use crate::pipes::Pipes;
+use crate::files_met::{FilesMet, add, id_of};
 use crate::{Progress, ReadNo, WriteNo};
-use std::fs::{File, Metadata, OpenFile, OpenOptions};
-use std::io::{ErrorKind, Read, Seek, SeekFrom, Write};
+use std::fs::{Metadata, OpenFile, OpenOptions};
+use std::io::{ErrorKind, Read, Seek, SeekFrom};
 use std::os::unix::fs::FileTypeExt;
 use std::rt::Files;
 use std::time::Clock;
@@ -16,8 +15,7 @@ use std::{fs, io};
 pub(crate) struct HostFiles<'a, R: Files> {
     rt: &'a R,
     progress: &'a Progress,
-    met: FilesMet,
-    pipes: Pipes<R::File>,
+    met: FilesMet<R::File>,
     overlap: bool,
 }
 
@@ -27,7 +25,6 @@ impl<'a, R: Files + AllocGlobal + Clock + Eprint> HostFiles<'a, R> {
             rt,
             progress,
             met: FilesMet::new(rt.alloc()),
-            pipes: Pipes::new(rt.alloc()),
             overlap: false,
         }
     }
@@ -45,7 +42,7 @@ impl<'a, R: Files + AllocGlobal + Clock + Eprint> HostFiles<'a, R> {
         if place == 0 && is_pipe(self.rt, name) {
             return Err(ReadNo::Failed);
         }
-        let mut file = match File::open(self.rt, name) {
+        let mut file = match self.open(OpenOptions::new().read(true), name) {
             Ok(file) => file,
             Err(e) => return Err(open_refusal(&e, self.met.knows(name))),
         };
@@ -71,11 +68,7 @@ impl<'a, R: Files + AllocGlobal + Clock + Eprint> HostFiles<'a, R> {
         {
             return Err(WriteNo::Failed);
         }
-        let file = match OpenOptions::new()
-            .write(true)
-            .create(true)
-            .open(self.rt, name)
-        {
+        let file = match self.open(OpenOptions::new().write(true).create(true), name) {
             Ok(file) => file,
             Err(e) => return Err(write_refusal(&e)),
         };
@@ -101,19 +94,20 @@ impl<'a, R: Files + AllocGlobal + Clock + Eprint> HostFiles<'a, R> {
         if found.is_file() {
             file.set_len(0)?;
         }
-        self.met.note_begun(name, &found)?;
-        if found.file_type().is_fifo() {
-            self.pipes.hold(&found, file)?;
-        }
+        self.met.note_begun(name, &found, file)?;
         Ok(())
     }
 
-    /// Adds the bytes to a file that was begun, and to no other.
+    /// Adds the bytes to a file that was begun, and to no other. It is held open from its first bytes on, and then only
+    /// its name is looked at.
     pub(crate) fn append(&mut self, name: &str, bytes: &[u8]) -> Result<(), WriteNo> {
-        if let Some(pipe) = self.pipes.named(self.rt, name) {
-            return add(pipe, bytes);
+        if let Some(file) = self.met.held(name) {
+            return match fs::metadata(self.rt, name) {
+                Ok(found) => file.append(&found, bytes),
+                Err(e) => Err(write_refusal(&e)),
+            };
         }
-        let mut file = match OpenOptions::new().append(true).open(self.rt, name) {
+        let mut file = match self.open(OpenOptions::new().append(true), name) {
             Ok(file) => file,
             Err(e) => return Err(write_refusal(&e)),
         };
@@ -121,7 +115,18 @@ impl<'a, R: Files + AllocGlobal + Clock + Eprint> HostFiles<'a, R> {
             return Err(WriteNo::Failed);
         };
         self.met.note_added(name, &found, bytes.len() as u64)?;
-        add(&mut file, bytes)
+        add(&mut file, bytes)?;
+        self.met.hold(name, file);
+        Ok(())
+    }
+
+    /// Opens a file. Where that fails, the host may allow no more open files: then those that are held are closed,
+    /// and it is tried once more.
+    fn open(&mut self, how: &OpenOptions, name: &str) -> io::Result<R::File> {
+        match how.open(self.rt, name) {
+            Err(_) if self.met.let_go() => how.open(self.rt, name),
+            opened => opened,
+        }
     }
 }
 
@@ -149,14 +154,6 @@ fn read_at<F: Read + Seek>(file: &mut F, place: u64, into: &mut [u8]) -> Result<
     match file.read(into) {
         Ok(n) => Ok(n),
         Err(e) => Err(read_refusal(&e)),
-    }
-}
-
-/// A part may have been written when this fails: it never counts as want of memory, which leaves all as it was.
-fn add<F: Write>(file: &mut F, bytes: &[u8]) -> Result<(), WriteNo> {
-    match file.write_all(bytes) {
-        Ok(()) => Ok(()),
-        Err(_) => Err(WriteNo::Failed),
     }
 }
 

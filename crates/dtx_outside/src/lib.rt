@@ -11,7 +11,6 @@ mod host_sink;
 mod memory_shelf;
 mod memory_sink;
 mod output;
-mod pipes;
 mod progress;
 mod refusals;
 mod shelf;

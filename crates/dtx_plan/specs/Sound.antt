@@ -36,10 +36,10 @@ to_of (Flip to from at with) = to
 to_of (Lie to from states) = to
 to_of (Restart to) = to
 
--- the numbers of an event are in their ranges
+-- the numbers of an event are in the ranges that a schedule takes; a plan's text says less of seeds, by its row
 abbrev pub IsInRange : Event → Type 0
 IsInRange (Send to from count) = IsPart from count
-IsInRange (Foreign to seed from count) = IsPart from count × (seed < 2 ^ 63)
+IsInRange (Foreign to seed from count) = IsPart from count × (seed < 2 ^ 64)
 IsInRange (Flip to from at with) = (from < 624000000) × (at < 188) × (1 ≤ with)
 IsInRange (Lie to from states) = (from < 624000000) × (length states ≡ 12) × All (λ state. state < 8) states
 IsInRange (Restart to) = Unit {0}

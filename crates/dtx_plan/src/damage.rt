@@ -1,6 +1,7 @@
 // The damage to a file.
-ghost use Rattle.std.specs.Prelude.{◌≡◌, ◌<◌, length, slice_get, Some};
+ghost use Rattle.std.specs.Prelude.{◌≡◌, ◌<◌, [], length, slice_get, Some};
 
+use std::alloc::Global;
 use std::marker::Model;
 
 /// One entry of damage: `put` stands in place of each of the `count` bytes from `at` on, which of a symbol file are
@@ -28,6 +29,15 @@ impl Model for Damages {
 }
 
 impl Damages {
+    /// No entry.
+    pub fn none(alloc: Global) -> Damages
+        ensures { result ≡ [] }
+    {
+        Damages {
+            all: Vec::new(alloc),
+        }
+    }
+
     /// How many entries there are.
     pub fn len(&self) -> usize
         ensures { result ≡ length self.now }

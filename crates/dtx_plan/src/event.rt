@@ -1,7 +1,8 @@
 // The events of a plan.
-ghost use Rattle.std.specs.Prelude.{◌≡◌, ◌<◌, length, slice_get, Some};
+ghost use Rattle.std.specs.Prelude.{◌≡◌, ◌<◌, length, slice_get, IfOk, Some};
 
 use dtx_trellis::States;
+use std::alloc::{AllocError, Global};
 use std::marker::Model;
 
 /// One step of the schedule of a network: what the transmitter of the address `to` is given.
@@ -65,6 +66,15 @@ impl Model for Events {
 }
 
 impl Events {
+    /// These events, in their order.
+    pub fn from_slice(alloc: Global, events: &[Event]) -> Result<Events, AllocError>
+        ensures { IfOk result (λ all. all ≡ events.now) }
+    {
+        let mut all = Vec::new(alloc);
+        all.extend_from_slice(events)?;
+        Ok(Events { all })
+    }
+
     /// How many events there are.
     pub fn len(&self) -> usize
         ensures { result ≡ length self.now }

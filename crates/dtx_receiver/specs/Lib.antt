@@ -1,4 +1,5 @@
 pub mod Runs
+pub mod Handed
 pub mod Intervals
 pub mod Bytes
 pub mod Packets

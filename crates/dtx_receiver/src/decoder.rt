@@ -110,7 +110,7 @@ impl Decoder {
     {
         let mut bytes = [0; GROUP_BYTES];
         self.unroll.group(first, &self.levels, &mut bytes);
-        give_group(&mut self.inner, &bytes, batch);
+        give_group(&mut self.inner, &mut bytes, batch);
         self.turn = (self.turn + 4) % 52;
     }
 }

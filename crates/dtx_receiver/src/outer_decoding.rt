@@ -4,6 +4,7 @@ ghost use Rattle.std.specs.Prelude.{◌≡◌, true, false, ℕ, ◌+◌, ◌<�
 ghost use Rattle.dtx_outer.specs.Inner.{StandsFor};
 ghost use Rattle.dtx_packets.specs.Packet.{with_error};
 ghost use Rattle.dtx_whiten.specs.Randomizer.{randomizer_bytes};
+ghost use Rattle.dtx_receiver.specs.Handed.{handed};
 ghost use Rattle.dtx_receiver.specs.Packets.{early_of};
 ghost use Rattle.dtx_receiver.specs.declared.batch.Received.{Received};
 
@@ -46,31 +47,45 @@ pub(crate) fn give(inner: &mut OuterDecoding, block: &[u8; CODEWORD], batch: &mu
         → StandsFor CODEWORD PACKET_DATA BRANCHES BRANCH_STEP inner.old before
         → early_of before ≡ given ++ batch.old.packets.items
         → early_of (before ++ block.now) ≡ given ++ batch.new.packets.items }
-    ensures few { length batch.new.packets.items ≤ length batch.old.packets.items + 1 }
 {
     let mut head = [0; PACKET_DATA];
-    match inner.take(block, &mut head) {
-        Taken::None => {}
-        Taken::Good { fixed } => batch.packets.push(corrected(&head, fixed)),
-        Taken::Bad => batch.packets.push(as_gathered(&head)),
-    }
+    let taken = inner.take(block, &mut head);
+    hand(taken, &head, batch);
 }
 
-/// The next group of a run's bytes, four blocks, and the packets that they complete.
-pub(crate) fn give_group(inner: &mut OuterDecoding, bytes: &[u8; GROUP_BYTES], batch: &mut Batch)
+/// The next group of a run's bytes, four blocks, and the packets that they complete. The bytes are used up.
+pub(crate) fn give_group(
+    inner: &mut OuterDecoding,
+    bytes: &mut [u8; GROUP_BYTES],
+    batch: &mut Batch,
+)
     requires white { inner.old.white ≡ randomizer_bytes }
     requires room { length batch.old.packets.items ≤ 4 }
     ensures white { inner.new.white ≡ randomizer_bytes }
     ensures stands { (before : List ℕ) → StandsFor CODEWORD PACKET_DATA BRANCHES BRANCH_STEP inner.old before
-        → StandsFor CODEWORD PACKET_DATA BRANCHES BRANCH_STEP inner.new (before ++ bytes.now) }
+        → StandsFor CODEWORD PACKET_DATA BRANCHES BRANCH_STEP inner.new (before ++ bytes.old) }
     ensures packets { (before : List ℕ) (given : List Received)
         → StandsFor CODEWORD PACKET_DATA BRANCHES BRANCH_STEP inner.old before
         → early_of before ≡ given ++ batch.old.packets.items
-        → early_of (before ++ bytes.now) ≡ given ++ batch.new.packets.items }
+        → early_of (before ++ bytes.old) ≡ given ++ batch.new.packets.items }
 {
-    let (blocks, _) = bytes.as_chunks::<CODEWORD>();
-    for block in blocks {
-        give(inner, block, batch);
+    let mut heads = [[0; PACKET_DATA]; 4];
+    let taken = inner.take_four(&mut bytes[..], &mut heads);
+    for p in 0..4 {
+        hand(taken[p], &heads[p], batch);
+    }
+}
+
+/// Puts what a block gave behind the packets of the batch.
+fn hand(taken: Taken, head: &[u8; PACKET_DATA], batch: &mut Batch)
+    requires { length batch.old.packets.items < MOST_RECEIVED }
+    ensures packets { batch.new.packets.items ≡ batch.old.packets.items ++ handed taken head.now }
+    ensures few { length batch.new.packets.items ≤ length batch.old.packets.items + 1 }
+{
+    match taken {
+        Taken::None => {}
+        Taken::Good { fixed } => batch.packets.push(corrected(head, fixed)),
+        Taken::Bad => batch.packets.push(as_gathered(head)),
     }
 }
 

@@ -68,6 +68,7 @@ fn count_at(counts: &[u64], place: usize) -> u64
 /// each transmitter, A being its address: step by step, each with the packet or the restart that the event gives its
 /// transmitter (the profile's own). All memory is taken before a file is begun. The symbols of a step and then its line
 /// are appended before the next step begins.
+#[inline(never)]
 pub fn play<S: Shelf>(
     alloc: Global,
     shelf: &mut S,

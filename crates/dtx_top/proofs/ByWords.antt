@@ -15,18 +15,20 @@ use Rattle.dtx_words.specs.Fitting.{command_of, fit_fields, fits}
 use Rattle.dtx_words.specs.FittingLaws.{command_fits}
 use Rattle.dtx_words.specs.Line.{finished}
 use Rattle.dtx_words.specs.Names.{names_at, repeated}
-use Rattle.dtx_words.specs.Rows.{adapt_row, code_row, excite_row, make_row, net_row}
+use Rattle.dtx_words.specs.Rows.{adapt_row, code_row, excite_row, make_row, net_row, trial_row}
 use Rattle.dtx_words.specs.declared.rows.Command.{Command}
 use Rattle.dtx_words.specs.declared.rows.Command.TheVariants.{Adapt, Code, Excite, Receive, Net, Make, Hurt, Place}
+use Rattle.dtx_words.specs.declared.rows.Command.TheVariants.{Trial}
 use Rattle.dtx_words.specs.declared.rows.Field.{Field}
 use Rattle.dtx_top.specs.Ends.{IsByWords, IsOfCommand}
 use Rattle.dtx_top.specs.NetAnswers.{IsOfNetWords, IsOfNetwork}
+use Rattle.dtx_top.specs.Trial.{trial_same}
 use Rattle.dtx_top.proofs.Ending.{finished_failed}
 
 -- ---- so many words
 
 -- as many words as fields
-fit_length : (fields : List Field) (words : List (List ℕ)) → fit_fields fields words ≡ true
+pub fit_length : (fields : List Field) (words : List (List ℕ)) → fit_fields fields words ≡ true
     → length words ≡ length fields
 fit_length [] [] fit = refl
 fit_length [] (word ∷ words) fit = let e : false ≡ true = fit in cc
@@ -40,7 +42,7 @@ with_one P [] long all = absurd (omega (arith, long))
 with_one P (a ∷ []) long all = all a
 with_one P (a ∷ b ∷ rest) long all = absurd (omega (arith, long))
 
-with_two : (P : List (List ℕ) → Type 0) (words : List (List ℕ)) → length words ≡ 2
+pub with_two : (P : List (List ℕ) → Type 0) (words : List (List ℕ)) → length words ≡ 2
     → ((a b : List ℕ) → P (a ∷ b ∷ [])) → P words
 with_two P [] long all = absurd (omega (arith, long))
 with_two P (a ∷ []) long all = absurd (omega (arith, long))
@@ -119,6 +121,16 @@ net_told : (verb : List ℕ) (words : List (List ℕ)) (status : Status) → fit
 net_told verb words status fit = with_one (λ ws. IsOfNetWords (verb ∷ ws) status → IsOfNetwork status) words
     (fit_length net_row.fields words fit) (λ plan is. is)
 
+-- `trial SEED COUNT`
+trial_told : (verb : List ℕ) (words : List (List ℕ)) (status : Status) → fit_fields trial_row.fields words ≡ true
+    → IsOfWords (trial_same (verb ∷ words)) 3 status → IsOfInputs false 3 status
+trial_told verb words status fit = with_two (λ ws. fit_fields trial_row.fields ws ≡ true
+    → IsOfWords (trial_same (verb ∷ ws)) 3 status → IsOfInputs false 3 status) words
+    (fit_length trial_row.fields words fit)
+    (λ a b fit is.
+    let behind = (and_parts _ _ fit).1 in
+    numbers_told _ _ false 3 status (and_parts _ _ fit).0 (and_parts _ _ behind).0 is) fit
+
 -- words that fit a command
 fitted_told : (command : Command) (words : List (List ℕ)) (status : Status) → fits command words ≡ true
     → IsOfCommand (Some command) words status → IsByWords (Some command) words status
@@ -131,6 +143,7 @@ fitted_told Net (verb ∷ words) status fit is = net_told verb words status (and
 fitted_told Make (verb ∷ words) status fit is = (make_told verb words status (and_parts _ _ fit).1 is.0, is.1)
 fitted_told Hurt (verb ∷ words) status fit is = (three_told verb words status (and_parts _ _ fit).1 is.0, is.1)
 fitted_told Place (verb ∷ words) status fit is = (two_told verb words status (and_parts _ _ fit).1 is.0, is.1)
+fitted_told Trial (verb ∷ words) status fit is = (trial_told verb words status (and_parts _ _ fit).1 is.0, is.1)
 
 -- ---- behind the line
 
@@ -166,6 +179,7 @@ memory_known Net = tt
 memory_known Make = tt
 memory_known Hurt = tt
 memory_known Place = tt
+memory_known Trial = tt
 
 write_fault_known : (command : Command) → Knows command WriteFault
 write_fault_known Adapt = tt
@@ -176,6 +190,7 @@ write_fault_known Net = tt
 write_fault_known Make = tt
 write_fault_known Hurt = tt
 write_fault_known Place = tt
+write_fault_known Trial = tt
 
 knows_finished : (command : Command) (status : Status) (line : Result (Unit {0}) SinkNo) → Knows command status
     → Knows command (finished status line)
@@ -210,6 +225,8 @@ by_words_finished Hurt words status line is =
     (inputs_finished _ _ status line is.0, knows_finished Hurt status line is.1)
 by_words_finished Place words status line is =
     (inputs_finished _ _ status line is.0, knows_finished Place status line is.1)
+by_words_finished Trial words status line is =
+    (inputs_finished _ _ status line is.0, knows_finished Trial status line is.1)
 
 -- the command that the words fit, behind its line
 pub words_told : (command : Option Command) (words : List (List ℕ)) (status : Status)

@@ -54,7 +54,7 @@ twice_short first stream sent all receive twice short sent_short are is =
 
 -- ---- where none comes twice
 
-any_of : (earlier : List (List ℕ)) (name : List ℕ) → Contains earlier name
+pub any_of : (earlier : List (List ℕ)) (name : List ℕ) → Contains earlier name
     → list_any (λ first. bytes_eq first name) earlier ≡ true
 any_of [] name c = absurd (omega (arith, c.1))
 any_of (first ∷ earlier) name c = by_place (any_of earlier name) (Contains-append_cases (first ∷ []) earlier name c)

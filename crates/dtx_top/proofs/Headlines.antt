@@ -229,7 +229,7 @@ pub apart_plan : (plan : Plan) → IsPlan plan → AreApart plan.transmitters.it
 apart_plan plan is = apart_of plan.transmitters.items is.sound.transmitters (small plan is)
 
 -- the files and the headline, of a network whose plan is read
-stream_done : HeadlineLaw
+pub stream_done : HeadlineLaw
     → (plan : Plan) (network : NetPlan) (held : Files) (now : Option Files) (found : Option (List ℕ))
     → IsPlan plan
     → (network_meaning plan network found).outcome.status ≡ Done

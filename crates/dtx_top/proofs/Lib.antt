@@ -14,6 +14,11 @@ pub mod SegmentsSent
 pub mod Streams
 pub mod SymbolsBack
 pub mod SymbolsSent
+pub mod TrialAnswers
+pub mod TrialDone
+pub mod TrialFed
+pub mod TrialReceived
+pub mod Trials
 pub mod UnderWay
 pub mod WorkedDamage
 pub mod WorkedNetwork

@@ -21,7 +21,7 @@ use Rattle.dtx_top.specs.Networks.{AreNetworkFiles, received_names, written_name
 
 -- ---- names
 
-letter : (name other : List ℕ) (k a b : ℕ) → get_or name k 0 ≡ a → get_or other k 0 ≡ b → a ≢ b → name ≢ other
+pub letter : (name other : List ℕ) (k a b : ℕ) → get_or name k 0 ≡ a → get_or other k 0 ≡ b → a ≢ b → name ≢ other
 letter name other k a b at_name at_other n same = n (sym at_name ∙ ap (λ (x : List ℕ). get_or x k 0) same ∙ at_other)
 
 pub feed_no_symbols : (address : ℕ) → feed_name ≢ symbol_name address

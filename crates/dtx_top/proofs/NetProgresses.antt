@@ -1,11 +1,12 @@
 -- How far a network came, part by part.
-use Rattle.std.proofs.Common.{◌≡◌, ◌⊎◌, ℕ, List, [], ◌∷◌, ◌++◌, refl, sym, ap, subst, ◌∙◌, inl, inr}
+use Rattle.std.proofs.Common.{◌≡◌, ◌⊎◌, ℕ, ◌-◌, ◌^◌, List, [], ◌∷◌, ◌++◌, refl, sym, ap, subst, ◌∙◌, inl, inr}
 use Rattle.std.proofs.Common.{arith}
 use Rattle.std.specs.Prelude.{Option, Some, None, IfSome, IfOk, Result, Ok, Err}
 use Rattle.std.specs.Option.{option_map}
 use Rattle.std.specs.FinMap.{get}
 use Rattle.std.proofs.lemmas.List.{append-nil}
 use Rattle.dtx_jobs.specs.PlanFile.{IsPlanRead}
+use Rattle.dtx_make.specs.Made.{made_stream}
 use Rattle.dtx_meaning.specs.Laws.{part_of_none, with_outputs-append}
 use Rattle.dtx_meaning.specs.Meaning.{ArePartWritten, Outputs, with_outputs}
 use Rattle.dtx_meaning.specs.Status.{IsFault, ended}
@@ -26,11 +27,14 @@ use Rattle.dtx_schedule.specs.Progress.{Progress, begun_files}
 use Rattle.dtx_schedule.specs.ProgressLaws.{all_files, all_played, only_begun}
 use Rattle.dtx_schedule.specs.TransmitterFiles.{played, played_outputs}
 use Rattle.dtx_words.specs.Line.{finished}
+use Rattle.dtx_words.specs.Number.{number_in, number_within}
 use Rattle.dtx_words.specs.declared.rows.Command.{Command}
-use Rattle.dtx_words.specs.declared.rows.Command.TheVariants.{Net}
+use Rattle.dtx_words.specs.declared.rows.Command.TheVariants.{Net, Trial}
 use Rattle.dtx_top.specs.Ends.{HasProgressOf}
 use Rattle.dtx_top.specs.NetProgress.{AreFirstParts, HasFileProgress, HasNetProgress, HasPlanProgress}
 use Rattle.dtx_top.specs.NetProgress.{HasProgress, HasStreamProgress, NetProgress, feed_outputs, reception_outputs}
+use Rattle.dtx_top.specs.Trial.{HasMadeProgress, HasNumbersProgress, HasTrialNet, HasTrialProgress, trial_events}
+use Rattle.dtx_top.specs.Trial.{trial_network, trial_plan, trial_transmitters, with_trial}
 use Rattle.dtx_top.proofs.Ending.{finished_failed}
 
 -- ---- parts of outputs
@@ -198,13 +202,11 @@ finished_or_fault status (Err sink.Failed) = elim (finished_failed status) [
   | inr same ↦ inl same
 ]
 
--- under another status, or a fault
-answered_so : (fed : Outputs) (ts : List Transmitter) (steps : List Step) (got : Outputs) (status other : Status)
-    (held : Files) (now : Option Files) → (other ≡ status) ⊎ IsFault other
+-- under another status, which is a fault where the first one is
+pub answered_so : (fed : Outputs) (ts : List Transmitter) (steps : List Step) (got : Outputs) (status other : Status)
+    (held : Files) (now : Option Files) → (IsFault status → IsFault other)
     → NetProgress fed ts steps got status held now → NetProgress fed ts steps got other held now
-answered_so fed ts steps got status other held now (inl same) is =
-    let P : Status → Type 0 = λ s. NetProgress fed ts steps got s held now in subst P (sym same) is
-answered_so fed ts steps got status other held now (inr fault) is = record {
+answered_so fed ts steps got status other held now faults is = record {
   feed = is.feed;
   feed_part = is.feed_part;
   schedule = is.schedule;
@@ -212,9 +214,14 @@ answered_so fed ts steps got status other held now (inr fault) is = record {
   reception = is.reception;
   reception_part = is.reception_part;
   schedule_first = is.schedule_first;
-  ends = inl fault;
+  ends = elim is.ends [ inl fault ↦ inl (faults fault) | inr come ↦ inr come ];
   files = is.files;
 }
+
+-- the same status, or a fault
+stays_fault : (status other : Status) → (other ≡ status) ⊎ IsFault other → IsFault status → IsFault other
+stays_fault status other (inl same) fault = let P : Status → Type 0 = λ s. IsFault s in subst P (sym same) fault
+stays_fault status other (inr other_fault) fault = other_fault
 
 stream_so : (plan : whole.Plan) (network : NetPlan) (status other : Status) (held : Files) (now : Option Files)
     → (other ≡ status) ⊎ IsFault other → (found : Option (List ℕ))
@@ -223,7 +230,8 @@ stream_so : (plan : whole.Plan) (network : NetPlan) (status other : Status) (hel
 stream_so plan network status other held now same None is = tt
 stream_so plan network status other held now same (Some file) is =
     answered_so (feed_outputs plan file) plan.transmitters.items (steps_under plan (packets_of file) network.events)
-    (reception_outputs plan network (packets_of file) network.receive) status other held now same is
+    (reception_outputs plan network (packets_of file) network.receive) status other held now
+    (stays_fault status other same) is
 
 net_so : (plan : whole.Plan) (status other : Status) (held : Files) (now : Option Files)
     → (other ≡ status) ⊎ IsFault other → (net : Option NetPlan) → HasPlanProgress plan net status held now
@@ -252,10 +260,41 @@ words_so (verb ∷ []) status other held now same is = tt
 words_so (verb ∷ plan ∷ []) status other held now same is = file_so status other held now same (get held plan) is
 words_so (verb ∷ plan ∷ more ∷ rest) status other held now same is = tt
 
+-- of a trial
+made_so : (seed count : ℕ) (status other : Status) (held : Files) (now : Option Files)
+    → (other ≡ status) ⊎ IsFault other → HasMadeProgress seed count status held now
+    → HasMadeProgress seed count other held now
+unfolding HasTrialNet
+made_so seed count status other held now same (inl broken) = inl (stays_fault status other same broken.0, broken.1)
+made_so seed count status other held now same (inr come) =
+    let stream : List (List ℕ) = packets_of (made_stream seed count) in
+    inr (answered_so (feed_outputs (trial_plan seed count) (made_stream seed count)) trial_transmitters
+    (steps_under (trial_plan seed count) stream (trial_events seed count))
+    (reception_outputs (trial_plan seed count) (trial_network seed count) stream (trial_network seed count).receive)
+    status other (with_trial seed count held) now (stays_fault status other same) come)
+
+numbers_so : (seed count : Option ℕ) (status other : Status) (held : Files) (now : Option Files)
+    → (other ≡ status) ⊎ IsFault other → HasNumbersProgress seed count status held now
+    → HasNumbersProgress seed count other held now
+numbers_so None count status other held now same is = tt
+numbers_so (Some seed) None status other held now same is = tt
+numbers_so (Some seed) (Some count) status other held now same is = made_so seed count status other held now same is
+
+trial_so : (words : List (List ℕ)) (status other : Status) (held : Files) (now : Option Files)
+    → (other ≡ status) ⊎ IsFault other → HasTrialProgress words held status now
+    → HasTrialProgress words held other now
+trial_so [] status other held now same is = tt
+trial_so (verb ∷ []) status other held now same is = tt
+trial_so (verb ∷ seed ∷ []) status other held now same is = tt
+trial_so (verb ∷ seed ∷ count ∷ []) status other held now same is =
+    numbers_so (number_in (2 ^ 64 - 1) seed) (number_within 624 1000000 count) status other held now same is
+trial_so (verb ∷ seed ∷ count ∷ more ∷ rest) status other held now same is = tt
+
 command_so : (command : Option Command) (words : List (List ℕ)) (status other : Status) (held : Files)
     (now : Option Files) → (other ≡ status) ⊎ IsFault other → HasProgressOf command words held status now
     → HasProgressOf command words held other now
 command_so (Some Net) words status other held now same is = words_so words status other held now same is
+command_so (Some Trial) words status other held now same is = trial_so words status other held now same is
 command_so _ words status other held now same is = tt
 
 pub progress_told : (command : Option Command) (words : List (List ℕ)) (told now : Option Files) (status : Status)

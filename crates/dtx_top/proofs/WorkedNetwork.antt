@@ -1,4 +1,4 @@
--- A simple network meets every premise of the headline.
+-- A simple network meets what the headline asks of transmitters, symbols and damage.
 use Rattle.std.proofs.Common.{◌≡◌, ◌⊎◌, inl, inr, ℕ, zero, suc, ◌+◌, ◌-◌, ◌*◌, ◌/◌, ◌%◌, ◌<◌, ◌≤◌, ◌==◌, ◌&&◌}
 use Rattle.std.proofs.Common.{Bool, true, false, List, [], ◌∷◌, ◌++◌, length, refl, sym, ap, subst}
 use Rattle.std.proofs.Common.{◌∙◌, arith}
@@ -152,7 +152,7 @@ worked laws plan network stream a b entries p u s = record {
       (order_in fed other.0.k (other.0.mark + other.0.count) 100 other.5 (omega (arith, end_other, s.long))
       (omega arith) order);
   given_back = some_and network.receive (IsLittle a.address entries)
-      (IsGivenBack plan network stream one.0.k entries) given_back s.received;
+      (IsGivenBack plan network stream one.0.t.address one.0.k entries) given_back s.received;
 }
   where
     fed : List (List ℕ)
@@ -200,9 +200,11 @@ worked laws plan network stream a b entries p u s = record {
         one.5 (segments_of_file a 0 steps ∙ alone) little.few)
 
     given_back : (receiver : ReceivePlan) → IsLittle a.address entries receiver
-        → IsGivenBack plan network stream one.0.k entries receiver
+        → IsGivenBack plan network stream one.0.t.address one.0.k entries receiver
     given_back receiver little = record {
+      from = little.from ∙ ap (λ (t : Transmitter). t.address) (sym one.1);
       many = little.many;
+      begins = begins_field one.0.k (length stream) one.5 s.long;
       slight = slight receiver little;
       all_back = ((laws.headline plan stream network.events p u).follows one.0).gives_all_back
           (file.file_segments (damaged_file plan network stream receiver))
@@ -220,7 +222,7 @@ pub file_back : (plan : Plan) (network : NetPlan) (stream : List (List ℕ)) (he
 file_back plan network stream held now entries w h = of_receiver network.receive refl w.given_back
   where
     of_receiver : (o : Option ReceivePlan) → network.receive ≡ o
-        → IsSomeAnd o (IsGivenBack plan network stream w.one.k entries)
+        → IsSomeAnd o (IsGivenBack plan network stream w.one.t.address w.one.k entries)
         → IsSomeAnd o (λ receiver. IsSomeAnd (get now received_name)
         (HasAllBack plan network stream receiver w.one.k))
     of_receiver None is back = back

@@ -33,7 +33,7 @@ zeros : (n : ℕ) → AreBytes (replicate n 0)
 zeros zero = tt
 zeros (suc n) = (lit< tt, zeros n)
 
-packet_bytes : (seed index : ℕ) → AreBytes (made_packet seed index)
+pub packet_bytes : (seed index : ℕ) → AreBytes (made_packet seed index)
 unfolding made_packet
 packet_bytes seed index = choose (index % 312 == 100)
   where
@@ -42,7 +42,7 @@ packet_bytes seed index = choose (index % 312 == 100)
     choose true = (lit< tt, (lit< tt, (lit< tt, (lit< tt, zeros 184))))
     choose false = (lit< tt, (lit< tt, (lit< tt, (omega arith, payload_bytes seed index))))
 
-packet_in : (seed count i : ℕ) → i < count → get_or (made_packets seed count) i [] ≡ made_packet seed i
+pub packet_in : (seed count i : ℕ) → i < count → get_or (made_packets seed count) i [] ≡ made_packet seed i
 unfolding made_packets
 packet_in seed count i l = get_or-map-range_with_len (made_packet seed) 0 count i i [] l (omega arith)
 

@@ -1,5 +1,5 @@
 -- How a call ends, whose line was printed or not: which counts have risen, and that nothing is refused without cause.
-use Rattle.std.specs.Prelude.{◌≡◌, ◌⊎◌, ℕ, zero, suc, ◌≤◌, is_some, List, [], ◌∷◌, Option, Some, None}
+use Rattle.std.specs.Prelude.{◌≡◌, ◌⊎◌, ℕ, zero, suc, ◌≤◌, false, is_some, List, [], ◌∷◌, Option, Some, None}
 use Rattle.dtx_outside.specs.Counts.{Counts, Rose}
 use Rattle.dtx_outside.specs.Shelf.{Files}
 use Rattle.dtx_meaning.specs.Status.{IsOfInputs}
@@ -11,11 +11,13 @@ use Rattle.dtx_words.specs.Names.{names_of, repeated}
 use Rattle.dtx_words.specs.Rows.{row_of}
 use Rattle.dtx_words.specs.declared.rows.Command.{Command}
 use Rattle.dtx_words.specs.declared.rows.Command.TheVariants.{Adapt, Code, Excite, Receive, Net, Make, Hurt, Place}
+use Rattle.dtx_words.specs.declared.rows.Command.TheVariants.{Trial}
 use Rattle.dtx_words.specs.declared.rows.Field.{Field}
 use Rattle.dtx_words.specs.declared.rows.Field.TheVariants.{Input}
 use Rattle.dtx_top.specs.HeadlineOfFiles.{HasHeadline}
 use Rattle.dtx_top.specs.NetAnswers.{IsOfNetWords, IsOfNetwork}
 use Rattle.dtx_top.specs.NetProgress.{HasProgress}
+use Rattle.dtx_top.specs.Trial.{HasTrialHeadline, HasTrialProgress, trial_same}
 
 -- The cause of an answer, of the counts of the shelf and of that of the sink. On `Done` all stand, so no fault was met.
 -- `WriteFault` is also answered where the line of `Done` could not be printed; want of memory may be met behind a
@@ -51,11 +53,13 @@ pub record IsUsage (status : Status) (told now : Option Files) : Type 0 where
 -- the headline, where the words are those of a network
 abbrev pub HasHeadlineOf : Option Command → List (List ℕ) → Files → Option Files → Type 0
 HasHeadlineOf (Some Net) words held now = HasHeadline words held now
+HasHeadlineOf (Some Trial) words held now = HasTrialHeadline words held now
 HasHeadlineOf command words held now = Unit {0}
 
 -- how far a network came, where the words are those of one
 abbrev pub HasProgressOf : Option Command → List (List ℕ) → Files → Status → Option Files → Type 0
 HasProgressOf (Some Net) words held status now = HasProgress words held status now
+HasProgressOf (Some Trial) words held status now = HasTrialProgress words held status now
 HasProgressOf command words held status now = Unit {0}
 
 -- ---- what the words alone say of the answer
@@ -69,10 +73,11 @@ inputs_among (field ∷ fields) = inputs_among fields
 -- Words that fit a command are never answered `Usage`. They are answered `Same` where two of the command's file names
 -- are equal, unless memory is wanted, and only there; an input that isn't there is one that the words name; and each
 -- refusal is one that the command knows. Of `net`, whose plan names further files, an input that isn't there is one of
--- the four that it reads.
+-- the four that it reads; of `trial`, whose words name no file, one of the three that it reads.
 abbrev pub IsByWords : Option Command → List (List ℕ) → Status → Type 0
 IsByWords None words status = (status ≡ Usage) ⊎ (status ≡ Memory)
 IsByWords (Some Net) words status = IsOfNetwork status
+IsByWords (Some Trial) words status = IsOfInputs false 3 status × Knows Trial status
 IsByWords (Some command) words status =
     IsOfInputs (is_some (repeated (names_of (Some command) words))) (inputs_among (row_of command).fields) status
     × Knows command status
@@ -88,3 +93,4 @@ IsOfCommand (Some Net) words status = IsOfNetWords words status
 IsOfCommand (Some Make) words status = IsOfWords (make_same words) 0 status × Knows Make status
 IsOfCommand (Some Hurt) words status = IsOfWords (three_same words) 2 status × Knows Hurt status
 IsOfCommand (Some Place) words status = IsOfWords (two_same words) 1 status × Knows Place status
+IsOfCommand (Some Trial) words status = IsOfWords (trial_same words) 3 status × Knows Trial status

@@ -9,4 +9,5 @@ pub mod NetProgress
 pub mod Networks
 pub mod OfBytes
 pub mod Replaying
+pub mod Trial
 pub mod WorkedNetwork

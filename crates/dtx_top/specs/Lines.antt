@@ -8,16 +8,18 @@ use Rattle.dtx_words.specs.Line.{line_at}
 use Rattle.dtx_words.specs.Names.{line_name, names_of}
 use Rattle.dtx_words.specs.Printed.{printed}
 use Rattle.dtx_words.specs.declared.rows.Command.{Command}
-use Rattle.dtx_words.specs.declared.rows.Command.TheVariants.{Net}
+use Rattle.dtx_words.specs.declared.rows.Command.TheVariants.{Net, Trial}
 use Rattle.dtx_top.specs.Means.{means_of}
 use Rattle.dtx_top.specs.NetAnswers.{ShowsNetwork}
 use Rattle.dtx_top.specs.NetNames.{net_names, plan_word, told_name, IsUntoldName}
+use Rattle.dtx_top.specs.Trial.{trial_names}
 
 -- ---- which line
 
--- the file names of a command: those among its words; of `net` also those that its plan gives
+-- the file names of a command: those among its words; of `net` also those that its plan gives; those of a trial
 abbrev pub names_told : Option Command → List (List ℕ) → Files → List (List ℕ)
 names_told (Some Net) words held = net_names words held
+names_told (Some Trial) words held = trial_names
 names_told command words held = names_of command words
 
 -- The text is the line of an answer to these words over these files. The line of `Done` comes only where the meaning
@@ -31,11 +33,13 @@ pub record IsToldLine (command : Option Command) (words : List (List ℕ)) (held
 -- the name in a line: among the words, or for `net` the one that it keeps, unless PLAN isn't there
 abbrev pub name_kept : Option Command → List (List ℕ) → Status → List ℕ → List ℕ
 name_kept (Some Net) words status kept = told_name (plan_word words) status kept
+name_kept (Some Trial) words status kept = line_name status trial_names
 name_kept command words status kept = line_name status (names_of command words)
 
 -- that name may stand in the line of an answer, whatever the files are
 abbrev pub IsSomeName : Option Command → List (List ℕ) → Status → List ℕ → Type 0
 IsSomeName (Some Net) words status name = IsUntoldName (plan_word words) status name
+IsSomeName (Some Trial) words status name = name ≡ line_name status trial_names
 IsSomeName command words status name = name ≡ line_name status (names_of command words)
 
 -- So many numbers may stand in it: of a network that is done three or six, else as many as its row has labels. Where

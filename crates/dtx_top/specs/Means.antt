@@ -1,6 +1,7 @@
 -- What words mean, over all commands.
 use Rattle.std.specs.Prelude.{ℕ, List, Option, Some, None}
 use Rattle.dtx_top.specs.NetMeaning.{net_meaning}
+use Rattle.dtx_top.specs.Trial.{trial_meaning}
 use Rattle.dtx_outside.specs.Shelf.{Files}
 use Rattle.dtx_jobs.specs.Adapt.{adapt_meaning}
 use Rattle.dtx_jobs.specs.Code.{code_meaning}
@@ -14,6 +15,7 @@ use Rattle.dtx_meaning.specs.declared.status.Status.TheVariants.{Usage}
 use Rattle.dtx_words.specs.Fitting.{command_of}
 use Rattle.dtx_words.specs.declared.rows.Command.{Command}
 use Rattle.dtx_words.specs.declared.rows.Command.TheVariants.{Adapt, Code, Excite, Receive, Net, Make, Hurt, Place}
+use Rattle.dtx_words.specs.declared.rows.Command.TheVariants.{Trial}
 
 -- what the words mean where they fit that command, and where they fit none
 abbrev pub means_of : Option Command → List (List ℕ) → Files → Meaning
@@ -26,6 +28,7 @@ means_of (Some Net) words held = net_meaning words held
 means_of (Some Make) words held = make_meaning words held
 means_of (Some Hurt) words held = hurt_meaning words held
 means_of (Some Place) words held = place_meaning words held
+means_of (Some Trial) words held = trial_meaning words held
 
 -- how the words are answered and what they write where nothing fails: a function of the words and of the files
 abbrev pub means : List (List ℕ) → Files → Meaning

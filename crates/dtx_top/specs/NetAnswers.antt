@@ -1,8 +1,10 @@
 -- What an answer of `net` says also where the files are not told.
-use Rattle.std.specs.Prelude.{◌≡◌, ◌⊎◌, ℕ, ◌<◌, List, [], ◌∷◌}
+use Rattle.std.specs.Prelude.{◌≡◌, ◌≢◌, ◌⊎◌, ℕ, ◌<◌, ◌≤◌, List, [], ◌∷◌, Option, Some, None}
 use Rattle.dtx_meaning.specs.declared.status.Outcome.{Outcome}
 use Rattle.dtx_meaning.specs.declared.status.Status.{Status}
-use Rattle.dtx_meaning.specs.declared.status.Status.TheVariants.{Done, Usage, Absent}
+use Rattle.dtx_meaning.specs.declared.status.Status.TheVariants.{Done, Usage, Same, Absent, Plan}
+use Rattle.dtx_meaning.specs.declared.status.Status.TheVariants.{OutOfAir}
+use Rattle.dtx_plan.specs.declared.plan.ReceivePlan.{ReceivePlan}
 
 -- Where the words fit: an input that isn't there is 0, the plan; 1, the stream; 2, the feed; or 3, the symbols that are
 -- received.
@@ -10,6 +12,21 @@ abbrev pub IsOfNetwork : Status → Type 0
 IsOfNetwork Usage = ⊥
 IsOfNetwork (Absent input) = input < 4
 IsOfNetwork status = Unit {0}
+
+-- what is received has damage laid over it
+abbrev pub HasDamage : Option ReceivePlan → Type 0
+HasDamage None = ⊥
+HasDamage (Some receiver) = receiver.damage ≢ []
+
+-- The same where the plan is read and no two names are equal, of what is received: then an input that isn't there is no
+-- plan; and damage ends behind the symbols only where there is some.
+abbrev pub IsOfReplay : Option ReceivePlan → Status → Type 0
+IsOfReplay receive Usage = ⊥
+IsOfReplay receive Same = ⊥
+IsOfReplay receive (Plan refusal) = ⊥
+IsOfReplay receive (Absent input) = (1 ≤ input) × (input < 4)
+IsOfReplay receive (OutOfAir entry) = HasDamage receive
+IsOfReplay receive status = Unit {0}
 
 -- words that don't fit are answered so, and no others
 abbrev pub IsOfNetWords : List (List ℕ) → Status → Type 0

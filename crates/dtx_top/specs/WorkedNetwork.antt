@@ -1,4 +1,5 @@
--- A network that is shown to meet every premise of the headline (the profile's own).
+-- A network that is shown to meet what the headline asks of transmitters, symbols and damage, and the file that it
+-- gives back (the profile's own). That the command `net` has done it is no part of these definitions.
 use Rattle.std.specs.Prelude.{ℕ, ◌≡◌, ◌≢◌, ◌+◌, ◌≤◌, ◌-ℤ◌, Some, IsSomeAnd, List, [], ◌∷◌, length, map, drop}
 use Rattle.std.specs.Prelude.{slice_get, true}
 use Rattle.std.specs.Prelude.{slice_index_or}
@@ -10,7 +11,7 @@ use Rattle.dtx_chain.specs.Undamaged.{as_received}
 use Rattle.dtx_jobs.specs.SymbolFile.{file_segments}
 use Rattle.dtx_make.specs.Made.{made_packet}
 use Rattle.dtx_net.specs.Sent.{lines_of}
-use Rattle.dtx_network.specs.GivesBack.{IsReceivedAlone, IsAllBack, next_field, to_field}
+use Rattle.dtx_network.specs.GivesBack.{BeginsField, IsReceivedAlone, IsAllBack, next_field, to_field}
 use Rattle.dtx_network.specs.Network.{steps_under, Joined, Follows, AreApart}
 use Rattle.dtx_network.specs.Orders.{has_order}
 use Rattle.dtx_network.specs.Plans.{IsInTime}
@@ -25,46 +26,55 @@ use Rattle.dtx_plan.specs.declared.plan.ReceivePlan.{ReceivePlan}
 use Rattle.dtx_plan.specs.declared.transmitter.Transmitter.{Transmitter}
 use Rattle.dtx_top.specs.Networks.{damaged_file}
 
--- The symbols that this receiver is given, the stretch from packet k on, have that many entries of damage laid over
--- them, which is slight, and all its packets are given back.
-pub record IsGivenBack (plan : Plan) (network : NetPlan) (stream : List (List ℕ)) (k entries : ℕ)
+-- This receiver takes the symbols of the transmitter of this address, with that many entries of damage laid over them.
+-- What it takes is as long as the stretch from packet k to the end of the stream, and is that with slight damage, or
+-- none. The stretch holds a field sync. One run is received, from the first one on: its packets whose bytes are all
+-- there, in order, with 0x47 as their sync bytes, none flagged, and no other.
+pub record IsGivenBack (plan : Plan) (network : NetPlan) (stream : List (List ℕ)) (address k entries : ℕ)
     (receiver : ReceivePlan) : Type 0 where
+  pub from : receiver.from ≡ address
   pub many : length receiver.damage ≡ entries
+  pub begins : BeginsField k (length stream) (next_field k)
   pub slight : IsReceivedAlone (feed plan stream) k (length stream)
       (file_segments (damaged_file plan network stream receiver))
   pub all_back : IsAllBack (feed plan stream) k (next_field k)
       (file_segments (damaged_file plan network stream receiver))
 
--- Two transmitters of a network join the feed of a stream; whatever is said of such is said of them, without a premise.
+-- Two transmitters of a network, of different addresses, join the feed of a stream. What `Follows` says is said of
+-- both, their moments of the group from packet g on are apart, and the one is given back; no premise is left.
 pub record WorkedNetwork (plan : Plan) (network : NetPlan) (stream : List (List ℕ)) (g entries : ℕ) : Type 0 where
   pub one : Joined plan stream network.events
   pub other : Joined plan stream network.events
   pub two : one.t.address ≢ other.t.address
-  -- Both emit exactly the feed's symbols.
+  -- What the headline says of each that joins.
   pub follows : Follows plan stream network.events one
   pub other_follows : Follows plan stream network.events other
-  -- The moments at which they send the group from packet g on differ only by the offsets.
+  -- Both log a preset of the group from packet g on, and the moments of the two differ by the offsets and some whole
+  -- seconds.
   pub apart : AreApart (one.t.offset -ℤ other.t.offset)
       (lines_of one.t one.who (steps_under plan stream network.events))
       (lines_of other.t other.who (steps_under plan stream network.events))
       (preset_at plan one.t.offset (length follows.emits.before) one.k g)
       (preset_at plan other.t.offset (length other_follows.emits.before) other.k g)
-  -- The first one is received, with damage of so many entries, and given back.
-  pub given_back : IsSomeAnd network.receive (IsGivenBack plan network stream one.k entries)
+  -- The one is received, with damage of so many entries, and given back.
+  pub given_back : IsSomeAnd network.receive (IsGivenBack plan network stream one.t.address one.k entries)
 
--- a plan's text and a stream are those of such a network
+-- A plan's text has a table `net`, and over this stream, whatever name the table gives it, that is such a network, with
+-- a group from packet g on and so many entries of damage.
 abbrev pub IsWorked : List ℕ → List (List ℕ) → ℕ → ℕ → Type 0
 IsWorked text stream g entries =
     IsOkAnd (plan_of text) (λ plan. IsSomeAnd plan.net (λ network. WorkedNetwork plan network stream g entries))
 
--- The packets of a file are exactly those of the feed, from the first field behind packet k on, whose bytes are all
--- there, in order, with 0x47 as their sync bytes.
+-- The whole packets of a file are those of the feed from the first field behind packet k on, in order, with 0x47 as
+-- their sync bytes: each whose bytes are all there behind the segments that the stretch has before its first field
+-- sync.
 abbrev pub HasAllBack : Plan → NetPlan → List (List ℕ) → ReceivePlan → ℕ → List ℕ → Type 0
 HasAllBack plan network stream receiver k file =
     packets_of file ≡ map (λ j. as_received (slice_index_or (feed plan stream) (next_field k + j) []))
     (numbers_in (drop (to_field k (next_field k)) (file_segments (damaged_file plan network stream receiver))))
 
--- No entry of damage, or one of at most 31 symbols, which ends in the first 212 segments.
+-- No entry of damage, or one of at most 31 symbols, which ends in the first 212 segments: the first field sync of a
+-- stretch from packet 100 or an earlier one on comes behind them.
 abbrev pub IsFew : List Damage → Type 0
 IsFew [] = Unit {0}
 IsFew (entry ∷ []) = (entry.count ≤ 31) × (entry.at + entry.count ≤ 176384)
@@ -76,9 +86,10 @@ pub record IsLittle (address entries : ℕ) (receiver : ReceivePlan) : Type 0 wh
   pub few : IsFew receiver.damage
   pub many : length receiver.damage ≡ entries
 
--- What is asked of its plan and its stream: each of the first two transmitters is in time and is given the whole feed
--- at once, and nothing else; the group from packet 100 on holds an operations packet, and 60 packets or more come
--- behind the first field; the first transmitter is received, with little damage of so many entries.
+-- What is asked of a plan, its network and a stream: the plan's first two transmitters have different addresses and are
+-- in time; the schedule is two events, which give the first one and then the second one all packets of the feed; the
+-- stream's group from packet 100 on holds a placeholder, and it has 372 packets or more, which are 60 behind the first
+-- field; the first transmitter is received, with little damage, or none, of so many entries.
 pub record IsSimple (plan : Plan) (network : NetPlan) (stream : List (List ℕ)) (a b : Transmitter)
     (entries : ℕ) : Type 0 where
   pub first : slice_get plan.transmitters.items 0 ≡ Some a
@@ -91,6 +102,6 @@ pub record IsSimple (plan : Plan) (network : NetPlan) (stream : List (List ℕ))
   pub long : 372 ≤ length stream
   pub received : IsSomeAnd network.receive (IsLittle a.address entries)
 
--- that many packets of the made stream of a seed
+-- the first packets of the made stream of a seed, so many
 unfoldable pub made_packets : ℕ → ℕ → List (List ℕ)
 made_packets seed count = map (made_packet seed) (range_with_len 0 count)

@@ -1,6 +1,6 @@
 //! Laws of the definitions: the segments of a transmitter's symbol file are those that it sends.
 
-ghost use Rattle.std.specs.Prelude.{◌≡◌, ◌*◌, ◌≤◌, ℕ, IsSomeAnd, List, Some, length, true};
+ghost use Rattle.std.specs.Prelude.{◌≡◌, ◌-◌, ◌*◌, ◌^◌, ◌≤◌, ℕ, IsSomeAnd, List, Some, length, true};
 ghost use Rattle.std.specs.FinMap.{get};
 ghost use Rattle.dtx_meaning.specs.declared.status.Status.{Status};
 ghost use Rattle.dtx_outside.specs.Shelf.{Files};
@@ -18,9 +18,14 @@ ghost use Rattle.dtx_network.specs.Network.{steps_under};
 ghost use Rattle.dtx_network.specs.Plans.{IsPlan, IsStream};
 ghost use Rattle.dtx_plan.specs.declared.plan.NetPlan.{NetPlan};
 ghost use Rattle.dtx_plan.specs.declared.plan.Plan.{Plan};
+ghost use Rattle.dtx_words.specs.Fitting.{command_of};
+ghost use Rattle.dtx_words.specs.declared.rows.Command.TheVariants as command;
+ghost use Rattle.dtx_top.specs.Means.{means};
 ghost use Rattle.dtx_top.specs.NetProgress.{AreUnderWay, HasNetProgress};
+ghost use Rattle.dtx_top.specs.Trial.{trial_made, trial_plan};
 ghost use Rattle.dtx_top.specs.WorkedNetwork.{HasAllBack, IsSimple, WorkedNetwork, made_packets};
 
+use dtx_exciter::laws::groups_are_spaced;
 use dtx_net::laws::interleavings;
 use dtx_network::laws::{
     headline, joined_is_met, orders_of_a_feed, packets_of_a_feed, sends_the_stretch_alone,
@@ -57,9 +62,11 @@ pub fn files_of_a_network_under_way()
 {}
 
 /// A simple network meets what the headline asks of transmitters, symbols and damage, with little damage and without:
-/// two transmitters in time are given the whole feed, and nothing else, and the first one is received. Where the
-/// command `net` has done it, the file `net.ts` has exactly the packets of the feed from the stretch's first field sync
-/// on whose bytes are all there.
+/// two transmitters of different addresses, in time, are given the whole feed of a stream with a placeholder in the
+/// group from packet 100 on and 372 packets or more, nothing else is done, and the first one is received. In the files
+/// of such a network of which the headline holds, as it does where the command `net` is done, `net.ts` has exactly the
+/// packets of the feed from the stretch's first field sync on whose bytes are all there, in order, with 0x47 as their
+/// sync bytes.
 pub fn simple_networks_work()
     ensures works { (plan : Plan) (network : NetPlan) (stream : List (List ℕ)) (a b : Transmitter) (entries : ℕ)
         → IsPlan plan → IsStream stream → IsSimple plan network stream a b entries
@@ -82,3 +89,19 @@ pub fn made_packets_are_a_stream()
     ensures count { (seed count : ℕ) → length (made_packets seed count) ≡ count }
     ensures order { (seed count : ℕ) → 104 ≤ count → has_order (made_packets seed count) 100 ≡ true }
 {}
+
+/// The plan of a trial is one that a network takes, and what a trial means is done. So over files that are told its
+/// answer is `Done`, a fault or want of memory, and never `Absent`, `Packet`, `TooLong`, `OutOfFeed` or `NoSync`: its
+/// stream was made, of packets that begin with 0x47; it has as many as the events give; and among what its third
+/// transmitter sends, which isn't too long, there is a field sync.
+pub fn a_trial_is_done()
+    ensures plan { (seed count : ℕ) → IsPlan (trial_plan seed count) }
+    ensures done { (seed count : ℕ) → seed ≤ 2 ^ 64 - 1 → 624 ≤ count → count ≤ 1000000
+        → (trial_made seed count).outcome.status ≡ Status.Done }
+    ensures words { (words : List (List ℕ)) (held : Files) → command_of words ≡ Some command.Trial
+        → (means words held).outcome.status ≡ Status.Done }
+{
+    joined_is_met();
+    headline();
+    groups_are_spaced();
+}

@@ -9,6 +9,8 @@ mod performing;
 mod reception;
 mod replaying;
 mod top;
+mod trial_command;
+mod trial_plan;
 #[cfg(test)]
 mod worked_network;
 

@@ -46,6 +46,7 @@ pub struct NetOutcome {
 /// symbols of its transmitter, with the plan's damage laid over them, into `net.ts`. The numbers are the packets of the
 /// feed, the placeholders filled and the packets given to exciters, and then, where a receiver is asked for, the
 /// packets that it gives, the bytes put right and the packets flagged.
+#[inline(never)]
 pub fn net<S: Shelf>(alloc: Global, words: &[Word], shelf: &mut S) -> NetOutcome
     ensures carried { IfSome (S.files shelf.old) (λ held.
         IsCarriedOut (net_meaning words.now held) (Some held) result.outcome (S.files shelf.new)) }
@@ -167,6 +168,7 @@ fn net_apart<S: Shelf>(
 }
 
 /// Does what `net` does where no two names are equal.
+#[tactic(auto, using(crate::proofs::NetAnswers::network_of_replay))]
 fn net_replayed<S: Shelf>(
     alloc: Global,
     plan: &Plan,

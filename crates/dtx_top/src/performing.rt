@@ -10,6 +10,7 @@ ghost use Rattle.dtx_top.specs.Means.{means_of};
 ghost use Rattle.dtx_top.specs.NetAnswers.{ShowsNetwork};
 
 use crate::net_command::{NetOutcome, net};
+use crate::trial_command::trial;
 use arrayvec::ArrayString;
 use dtx_jobs::{adapt, code, excite, hurt, make, place, receive};
 use dtx_meaning::{Outcome, Status, ended};
@@ -49,6 +50,7 @@ pub(crate) fn perform<S: Shelf>(
         Some(Command::Make) => nameless(make(alloc, words, shelf)),
         Some(Command::Hurt) => nameless(hurt(alloc, words, shelf)),
         Some(Command::Place) => nameless(place(alloc, words, shelf)),
+        Some(Command::Trial) => nameless(trial(alloc, words, shelf)),
         None => nameless(ended(Status::Usage)),
     }
 }

@@ -7,11 +7,12 @@ ghost use Rattle.dtx_jobs.specs.PastEnd as past;
 ghost use Rattle.dtx_jobs.specs.Receive.{receiving};
 ghost use Rattle.dtx_jobs.specs.Shapes as shapes;
 ghost use Rattle.dtx_meaning.specs.Meaning.{IsCarriedOut};
-ghost use Rattle.dtx_meaning.specs.Status.{IsOfInput, blame_of};
+ghost use Rattle.dtx_meaning.specs.Status.{blame_of};
 ghost use Rattle.dtx_outside.specs.Counts.{HasGone};
 ghost use Rattle.dtx_outside.specs.Shelf.{Files};
 ghost use Rattle.dtx_plan.specs.Sound.{AreDamages};
 ghost use Rattle.dtx_words.specs.NetworkNames.{received_name, symbol_name};
+ghost use Rattle.dtx_top.specs.NetAnswers.{IsOfReplay};
 ghost use Rattle.dtx_top.specs.NetMeaning.{received_past};
 
 use dtx_engine::{Input, carry_to_one};
@@ -36,7 +37,7 @@ pub(crate) fn receive_sent<S: Shelf>(
         → IsCarriedOut (received_past (past.first_past receiver.now.damage (length file)) receiver.now.damage file)
         (Some held)
         result (S.files shelf.new) }
-    ensures input { IsOfInput 3 result.status }
+    ensures network { IsOfReplay (Some receiver.now) result.status }
     ensures gone { HasGone (S.counts shelf.old) (S.counts shelf.new) (blame_of result.status) }
 {
     match first_past(&receiver.damage, symbols) {
@@ -46,13 +47,14 @@ pub(crate) fn receive_sent<S: Shelf>(
 }
 
 /// Does so where each entry of damage ends within them.
+#[inline(never)]
 fn receive<S: Shelf>(alloc: Global, shelf: &mut S, receiver: &ReceivePlan) -> Outcome
     requires damage { AreDamages receiver.now.damage }
     ensures carried { IfSome (S.files shelf.old) (λ held. IsCarriedOut
         (meaning shapes.segments (damaged_making receiver.now.damage receiving) 3 (received_name ∷ [])
         (files.get held (symbol_name receiver.now.from)))
         (Some held) result (S.files shelf.new)) }
-    ensures input { IsOfInput 3 result.status }
+    ensures network { IsOfReplay (Some receiver.now) result.status }
     ensures gone { HasGone (S.counts shelf.old) (S.counts shelf.new) (blame_of result.status) }
 {
     match Reception::new(alloc) {

@@ -4,7 +4,7 @@ ghost use Rattle.std.specs.FinMap as files;
 ghost use Rattle.dtx_engine.specs.Recipe.{meaning};
 ghost use Rattle.dtx_jobs.specs.Shapes as shapes;
 ghost use Rattle.dtx_meaning.specs.Meaning.{IsCarriedOut, with_outputs};
-ghost use Rattle.dtx_meaning.specs.Status.{IsOfInput, blame_of};
+ghost use Rattle.dtx_meaning.specs.Status.{blame_of};
 ghost use Rattle.dtx_network.specs.Network.{steps_under};
 ghost use Rattle.dtx_outside.specs.Counts.{HasGone};
 ghost use Rattle.dtx_outside.specs.Shelf.{Files};
@@ -14,7 +14,7 @@ ghost use Rattle.dtx_schedule.specs.Inside as inside;
 ghost use Rattle.dtx_schedule.specs.Staged.{IsStaged};
 ghost use Rattle.dtx_schedule.specs.TransmitterFiles.{played_outputs};
 ghost use Rattle.dtx_words.specs.NetworkNames.{feed_name};
-ghost use Rattle.dtx_top.specs.NetAnswers.{IsOfNetwork, ShowsNetwork};
+ghost use Rattle.dtx_top.specs.NetAnswers.{IsOfReplay, ShowsNetwork};
 ghost use Rattle.dtx_top.specs.NetMeaning as means;
 ghost use Rattle.dtx_top.specs.NetProgress.{HasPlayProgress, HasStreamProgress};
 ghost use Rattle.dtx_top.specs.Replaying.{HasNumbers, IsFeedWritten};
@@ -32,7 +32,6 @@ use dtx_words::feed_name;
 use std::alloc::Global;
 
 /// Adapts the stream to the feed, plays the events over it, and receives the symbols, where a receiver is asked for.
-#[tactic(auto, using(crate::proofs::NetAnswers::of_network))]
 pub(crate) fn replay<S: Shelf>(
     alloc: Global,
     plan: &Plan,
@@ -47,7 +46,7 @@ pub(crate) fn replay<S: Shelf>(
         (S.files shelf.new)) }
     ensures progress { IfSome (S.files shelf.old) (λ held. HasStreamProgress plan.now network.now result.status held
         (S.files shelf.new)) }
-    ensures network { IsOfNetwork result.status }
+    ensures network { IsOfReplay network.now.receive result.status }
     ensures shown { ShowsNetwork result.status result }
     ensures gone { HasGone (S.counts shelf.old) (S.counts shelf.new) (blame_of result.status) }
 {
@@ -59,13 +58,14 @@ pub(crate) fn replay<S: Shelf>(
 }
 
 /// Adapts the stream to the feed.
+#[inline(never)]
 fn feed_stream<S: Shelf>(alloc: Global, plan: &Plan, network: &NetPlan, shelf: &mut S) -> Outcome
     requires sound { IsSound plan.now }
     requires differ { network.now.stream ≢ feed_name }
     ensures carried { IfSome (S.files shelf.old) (λ held. IsCarriedOut
         (meaning shapes.packets (means.adapting plan.now) 1 (feed_name ∷ []) (files.get held network.now.stream))
         (Some held) result (S.files shelf.new)) }
-    ensures input { IsOfInput 1 result.status }
+    ensures network { IsOfReplay network.now.receive result.status }
     ensures gone { HasGone (S.counts shelf.old) (S.counts shelf.new) (blame_of result.status) }
 {
     match Feeder::new(alloc, plan) {
@@ -96,7 +96,7 @@ fn play_within<S: Shelf>(
     ensures progress { (held : Files) (stream : List (List ℕ)) → S.files shelf.old ≡ Some held
         → IsFeedWritten plan.now stream fed.now held
         → HasPlayProgress plan.now network.now stream result.status held (S.files shelf.new) }
-    ensures network { IsOfNetwork result.status }
+    ensures network { IsOfReplay network.now.receive result.status }
     ensures shown { ShowsNetwork result.status result }
     ensures gone { HasGone (S.counts shelf.old) (S.counts shelf.new) (blame_of result.status) }
 {
@@ -123,7 +123,7 @@ fn play_events<S: Shelf>(
     ensures progress { (held : Files) (stream : List (List ℕ)) → S.files shelf.old ≡ Some held
         → IsFeedWritten plan.now stream fed.now held → inside.first_past_feed network.now.events (length stream) ≡ None
         → HasPlayProgress plan.now network.now stream result.status held (S.files shelf.new) }
-    ensures network { IsOfNetwork result.status }
+    ensures network { IsOfReplay network.now.receive result.status }
     ensures shown { ShowsNetwork result.status result }
     ensures gone { HasGone (S.counts shelf.old) (S.counts shelf.new) (blame_of result.status) }
 {
@@ -134,7 +134,6 @@ fn play_events<S: Shelf>(
 }
 
 /// Receives the symbols that the events sent, where a receiver is asked for.
-#[tactic(auto, using(crate::proofs::NetAnswers::of_network))]
 fn receive_played<S: Shelf>(
     alloc: Global,
     network: &NetPlan,
@@ -156,7 +155,7 @@ fn receive_played<S: Shelf>(
         → S.files shelf.old ≡ with_outputs (played_outputs plan.transmitters.items
         (steps_under plan stream network.now.events)) (Some held)
         → HasPlayProgress plan network.now stream result.status held (S.files shelf.new) }
-    ensures network { IsOfNetwork result.status }
+    ensures network { IsOfReplay network.now.receive result.status }
     ensures shown { ShowsNetwork result.status result }
     ensures gone { HasGone (S.counts shelf.old) (S.counts shelf.new) (blame_of result.status) }
 {

@@ -3,16 +3,20 @@ ghost use Rattle.std.specs.Prelude.{◌≡◌, ◌⊎◌, ℕ, List, None, Some,
 ghost use Rattle.dtx_outside.specs.Counts.{Rose};
 ghost use Rattle.dtx_outside.specs.Shelf.{IsSameAt};
 ghost use Rattle.dtx_meaning.specs.Meaning.{IsDone, IsNoOutput, IsUnprinted};
+ghost use Rattle.dtx_meaning.specs.Status.{IsFault};
 ghost use Rattle.dtx_words.specs.Fitting.{command_of};
+ghost use Rattle.dtx_words.specs.Names.{line_name};
 ghost use Rattle.dtx_top.specs.Ends.{HasEnded, HasHeadlineOf, HasProgressOf, IsByWords, IsFaultless, IsUsage};
 ghost use Rattle.dtx_top.specs.Lines.{name_kept, HasLine, IsSomeLine, IsToldLine};
 ghost use Rattle.dtx_top.specs.Means.{means};
+ghost use Rattle.dtx_top.specs.Trial.{trial_names};
 
+use crate::laws::a_trial_is_done;
 use crate::net_command::NetOutcome;
 use crate::performing::perform;
 use dtx_meaning::Status;
 use dtx_outside::{Shelf, Sink, Word};
-use dtx_words::{Command, command, finish, line, name_in_line};
+use dtx_words::{Command, command, feed_name, finish, line, name_among, name_in_line, trial_name};
 use std::alloc::Global;
 
 /// Does what the words ask for, over the files of the shelf, and prints a line to the sink at the end. The words are
@@ -53,6 +57,10 @@ use std::alloc::Global;
 /// becomes a placeholder, unless a placeholder stands there before it (the profile's own): so a stream from an encoder
 /// can be adapted.
 ///
+/// `trial SEED COUNT` writes the packets 0 to COUNT - 1 that `dtx_make::packet` gives for SEED to `trial.ts`, and plays
+/// a network over them as `net` does (the profile's own): three transmitters are given the feed, the third one behind
+/// 50 packets without a mark, and the third one is received. COUNT is 624 to 1,000,000.
+///
 /// Words that fit no command end in `Usage`.
 pub fn run<S: Shelf, O: Sink>(alloc: Global, words: &[Word], shelf: &mut S, out: &mut O) -> Status
     // Over files that are told: the answer is that of the words' meaning and its outputs are whole; or a fault or want
@@ -85,8 +93,8 @@ pub fn run<S: Shelf, O: Sink>(alloc: Global, words: &[Word], shelf: &mut S, out:
 
     // Also where the files are not told: what the words alone say of the answer. `Usage` comes only where they fit no
     // command; `Same` only where two names are equal, and there always unless memory is wanted, but for `net`, whose
-    // names its plan tells; an input that isn't there is one that they name, or one of the four that `net` reads; and
-    // each refusal is one that the command knows.
+    // names its plan tells; an input that isn't there is one that they name, or one of the four that `net` reads or of
+    // the three that `trial` reads; and each refusal is one that the command knows.
     ensures words { IsByWords (command_of words.now) words.now result }
 
     // Nothing is refused without cause: where no fault is counted, the answer is that of the meaning, unless memory is
@@ -111,7 +119,12 @@ pub fn run<S: Shelf, O: Sink>(alloc: Global, words: &[Word], shelf: &mut S, out:
     // signalled offsets; and symbols with at most ten wrong bytes per codeword give its packets back.
     ensures headline { IfSome (S.files shelf.old) (λ held. result ≡ Status.Done
         → HasHeadlineOf (command_of words.now) words.now held (S.files shelf.new)) }
+
+    // A trial is done, unless a fault was met or memory is wanted.
+    ensures trial { IfSome (S.files shelf.old) (λ held. command_of words.now ≡ Some Command.Trial
+        → (result ≡ Status.Done) ⊎ IsFault result) }
 {
+    a_trial_is_done();
     let command = command(words);
     let performed = perform(alloc, command, words, shelf);
     let name = name_of(command, words, &performed);
@@ -119,15 +132,23 @@ pub fn run<S: Shelf, O: Sink>(alloc: Global, words: &[Word], shelf: &mut S, out:
     finish(performed.outcome.status, printed)
 }
 
-/// The name in the line: among the words, or of a network the one that it keeps.
+/// The name in the line: among the words; of a network the one that it keeps; of a trial that of its file.
 fn name_of<'a>(command: Option<Command>, words: &'a [Word], performed: &'a NetOutcome) -> &'a str
     ensures { result.now ≡ name_kept command words.now performed.now.outcome.status performed.now.name.bytes }
 {
     match (command, performed.outcome.status) {
         (Some(Command::Net), Status::Absent(0)) => name_in_line(command, words, Status::Absent(0)),
         (Some(Command::Net), _) => performed.name.as_str(),
+        (Some(Command::Trial), status) => trial_input(status),
         (command, status) => name_in_line(command, words, status),
     }
+}
+
+/// The name in the line of a trial, whose words name no file: that of the input that isn't there.
+fn trial_input(status: Status) -> &'static str
+    ensures { result.now ≡ line_name status trial_names }
+{
+    name_among(status, &[trial_name(), feed_name(), "tx-3.sym"])
 }
 
 #[cfg(test)]
@@ -140,3 +161,5 @@ mod place_tests;
 mod row_tests;
 #[cfg(test)]
 mod tests;
+#[cfg(test)]
+mod trial_tests;

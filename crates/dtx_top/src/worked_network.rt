@@ -1,6 +1,7 @@
-//! A worked network that meets every premise of the headline, with damage and without. What is decided when the test
-//! runs gives the facts from which the rest is proved: where `works` answers `true`, the headline holds of the two
-//! transmitters without a premise.
+//! A worked network that meets what the headline asks of transmitters, symbols and damage, with damage and without.
+//! What is decided when the test runs gives the facts from which the rest is proved: where `works` answers `true`, what
+//! the headline says of transmitters that join is said of these two, without a premise. Each function answers `true`
+//! only where what it asks holds. That the command `net` does such a network is a test of its own.
 
 ghost use Rattle.std.specs.Prelude.{◌≡◌, ◌≢◌, ◌+◌, ◌≤◌, ◌∷◌, [], IfSome, IsSomeAnd, Some, length, slice_get, true};
 ghost use Rattle.dtx_network.specs.Plans.{IsInTime, IsPlan};
@@ -41,7 +42,7 @@ count = 400
 from = 7
 ";
 
-/// The same, with 20 symbols of the second segment damaged.
+/// The same, with other bytes laid over 20 symbols of the second segment.
 pub(crate) const WITH_DAMAGE: &str = "start = 0
 max_delay = 5000000
 [[transmitter]]

@@ -4,19 +4,20 @@ use Rattle.std.specs.List.{find}
 use Rattle.std.specs.Str.{bytes_eq}
 use Rattle.dtx_words.specs.declared.rows.Command.{Command}
 use Rattle.dtx_words.specs.declared.rows.Field.{Field}
-use Rattle.dtx_words.specs.declared.rows.Field.TheVariants.{Input, Output, Number}
-use Rattle.dtx_words.specs.Number.{number_in}
+use Rattle.dtx_words.specs.declared.rows.Field.TheVariants.{Input, Output, Number, Within}
+use Rattle.dtx_words.specs.Number.{number_in, number_within}
 use Rattle.dtx_words.specs.Rows.{Row, row_of, commands}
 
 -- a word fits a file name if it isn't empty
 abbrev pub is_name : List ℕ → Bool
 is_name word = not (length word == 0)
 
--- a word fits a field: a file name, or a number that is at most that one
+-- a word fits a field: a file name, or a number that is at most that one, or that is within two
 abbrev pub fits_field : Field → List ℕ → Bool
 fits_field Input word = is_name word
 fits_field Output word = is_name word
 fits_field (Number most) word = is_some (number_in most word)
+fits_field (Within least most) word = is_some (number_within least most word)
 
 -- as many words as fields, each of which fits its field
 abbrev pub fit_fields : List Field → List (List ℕ) → Bool

@@ -7,6 +7,7 @@ use Rattle.std.proofs.lemmas.Bool.{and_parts}
 use Rattle.std.proofs.lemmas.Slice.Eq.{bytes_eq-Decides}
 use Rattle.dtx_words.specs.declared.rows.Command.{Command}
 use Rattle.dtx_words.specs.declared.rows.Command.TheVariants.{Adapt, Code, Excite, Receive, Net, Make, Hurt, Place}
+use Rattle.dtx_words.specs.declared.rows.Command.TheVariants.{Trial}
 use Rattle.dtx_words.specs.Fitting.{fits, command_of}
 use Rattle.dtx_words.specs.Rows.{row_of, commands}
 
@@ -47,6 +48,7 @@ fails_of_all p all Net = all.1.1.1.1.0
 fails_of_all p all Make = all.1.1.1.1.1.0
 fails_of_all p all Hurt = all.1.1.1.1.1.1.0
 fails_of_all p all Place = all.1.1.1.1.1.1.1.0
+fails_of_all p all Trial = all.1.1.1.1.1.1.1.1.0
 
 -- the command of a word
 command_named : List ℕ → Option Command
@@ -62,6 +64,7 @@ named_by_verb Net = refl
 named_by_verb Make = refl
 named_by_verb Hurt = refl
 named_by_verb Place = refl
+named_by_verb Trial = refl
 
 -- the first of words that fit a command is its word
 verb_is : (c : Command) (verb : List ℕ) (words : List (List ℕ)) → fits c (verb ∷ words) ≡ true → verb ≡ (row_of c).verb

@@ -1,9 +1,13 @@
--- The names of the files that a network writes.
+-- The names of the files that a network writes, and of the stream of a trial.
 use Rattle.std.specs.Prelude.{ℕ, List, ◌++◌, codes, decimal}
 
 -- the feed
 abbrev pub feed_name : List ℕ
 feed_name = codes "net.feed"
+
+-- the stream of a trial
+abbrev pub trial_name : List ℕ
+trial_name = codes "trial.ts"
 
 -- the packets that are received
 abbrev pub received_name : List ℕ

@@ -11,6 +11,15 @@ number_in most word =
     if bytes_eq word (decimal (digits_value 10 word)) && nat_le (digits_value 10 word) most then Some
     (digits_value 10 word) else None
 
+-- a number, where it is `least` or more
+abbrev pub at_least : ℕ → Option ℕ → Option ℕ
+at_least least None = None
+at_least least (Some number) = if nat_le least number then Some number else None
+
+-- the number of which the word is the decimal spelling, where there is one, from `least` to `most`
+abbrev pub number_within : ℕ → ℕ → List ℕ → Option ℕ
+number_within least most word = at_least least (number_in most word)
+
 -- a word begins with a digit, and with 0 only where it is nothing else
 pub record BeginsPlain (word : List ℕ) : Type 0 where
   pub digit : IsInRange 48 57 (slice_index word 0)

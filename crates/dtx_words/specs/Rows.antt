@@ -3,9 +3,10 @@ use Rattle.std.specs.Prelude.{ℕ, ◌-◌, ◌^◌, Bool, true, false, not, ◌
 use Rattle.std.specs.List.{list_any}
 use Rattle.dtx_words.specs.declared.rows.Command.{Command}
 use Rattle.dtx_words.specs.declared.rows.Command.TheVariants.{Adapt, Code, Excite, Receive, Net, Make, Hurt, Place}
+use Rattle.dtx_words.specs.declared.rows.Command.TheVariants.{Trial}
 use Rattle.dtx_words.specs.declared.rows.CommandRow.{CommandRow}
 use Rattle.dtx_words.specs.declared.rows.Field.{Field}
-use Rattle.dtx_words.specs.declared.rows.Field.TheVariants.{Input, Output, Number}
+use Rattle.dtx_words.specs.declared.rows.Field.TheVariants.{Input, Output, Number, Within}
 
 -- the field is the name of a file that is read
 abbrev pub is_input : Field → Bool
@@ -97,6 +98,15 @@ place_row = record {
   fewest = 4;
 }
 
+-- `trial SEED COUNT`: a seed of 64 bits, 624 to 1,000,000 packets; the line is that of `net` with a receiver
+abbrev pub trial_row : Row
+trial_row = record {
+  verb = codes "trial";
+  fields = Number (2 ^ 64 - 1) ∷ Within 624 1000000 ∷ [];
+  labels = net_row.labels;
+  fewest = 6;
+}
+
 -- the row of a command
 abbrev pub row_of : Command → Row
 row_of Adapt = adapt_row
@@ -107,6 +117,7 @@ row_of Net = net_row
 row_of Make = make_row
 row_of Hurt = hurt_row
 row_of Place = place_row
+row_of Trial = trial_row
 
 -- the row behind the references that the code holds
 abbrev pub row_behind : CommandRow → Row
@@ -125,4 +136,4 @@ are_inputs_first (field ∷ fields) = are_inputs_first fields
 
 -- all commands, in the order of the usage line
 abbrev pub commands : List Command
-commands = Adapt ∷ Code ∷ Excite ∷ Receive ∷ Net ∷ Make ∷ Hurt ∷ Place ∷ []
+commands = Adapt ∷ Code ∷ Excite ∷ Receive ∷ Net ∷ Make ∷ Hurt ∷ Place ∷ Trial ∷ []

@@ -2,7 +2,7 @@
 ghost use Rattle.std.specs.Prelude.{◌≡◌};
 ghost use Rattle.dtx_words.specs.Fitting.{command_of, fits, fit_fields, fits_field};
 
-use crate::number::number_up_to;
+use crate::number::{number_up_to, number_within};
 use crate::rows::{COMMANDS, row};
 use crate::{Command, Field};
 use dtx_outside::Word;
@@ -48,5 +48,6 @@ fn fits_field(field: Field, word: &str) -> bool
     match field {
         Field::Input | Field::Output => !word.is_empty(),
         Field::Number(most) => number_up_to(most, word).is_some(),
+        Field::Within(least, most) => number_within(least, most, word).is_some(),
     }
 }

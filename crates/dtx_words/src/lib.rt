@@ -15,7 +15,7 @@ pub use fitting::command;
 pub use lines::{finish, line};
 pub use names::{name_among, name_in_line, repeated_name};
 pub use network_names::{
-    NETWORK_NAME, feed_name, log_name, names_differ, received_name, symbol_name,
+    NETWORK_NAME, feed_name, log_name, names_differ, received_name, symbol_name, trial_name,
 };
-pub use number::number_up_to;
-pub use rows::{Command, Field};
+pub use number::{number_up_to, number_within};
+pub use rows::{Command, FEWEST_TRIAL, Field, MOST_TRIAL};

@@ -1,6 +1,6 @@
-// The names of the files that a network writes.
+// The names of the files that a network writes, and of the stream of a trial.
 ghost use Rattle.std.specs.Prelude.{◌≡◌, ◌≢◌, ◌<◌, ◌≤◌, ◌^◌, ◌++◌, ℕ, length, codes, decimal};
-ghost use Rattle.dtx_words.specs.NetworkNames.{feed_name, log_name, received_name, symbol_name};
+ghost use Rattle.dtx_words.specs.NetworkNames.{feed_name, log_name, received_name, symbol_name, trial_name};
 
 use arrayvec::ArrayString;
 use itoa::Buffer;
@@ -13,6 +13,13 @@ pub fn feed_name() -> &'static str
     ensures { result.now ≡ feed_name }
 {
     "net.feed"
+}
+
+/// The name of the stream of a trial.
+pub fn trial_name() -> &'static str
+    ensures { result.now ≡ trial_name }
+{
+    "trial.ts"
 }
 
 /// The name of the packets that are received.

@@ -1,6 +1,6 @@
 // A whole number among the words.
 ghost use Rattle.std.specs.Prelude.{◌≡◌, ◌≤◌, ◌↔◌, ℕ, Some, IsTrue, decimal};
-ghost use Rattle.dtx_words.specs.Number.{number_in, BeginsPlain};
+ghost use Rattle.dtx_words.specs.Number.{number_in, number_within, BeginsPlain};
 
 /// The number of which the word is the decimal spelling, without sign and without a leading zero unless it is `0`; or
 /// `None` where it is that of none up to `most`.
@@ -13,6 +13,16 @@ pub fn number_up_to(most: u64, word: &str) -> Option<u64>
     }
     match word.parse::<u64>() {
         Ok(number) if number <= most => Some(number),
+        _ => None,
+    }
+}
+
+/// The number of which the word is the decimal spelling, as `number_up_to` reads it, where it is `least` or more.
+pub fn number_within(least: u64, most: u64, word: &str) -> Option<u64>
+    ensures { result ≡ number_within least most word.now }
+{
+    match number_up_to(most, word) {
+        Some(number) if number >= least => Some(number),
         _ => None,
     }
 }

@@ -4,6 +4,12 @@ ghost use Rattle.dtx_words.specs.Rows.{row_behind, row_of};
 
 use dtx_sizes::MOST_PACKETS;
 
+/// How many packets the stream of a trial has at least: those of one frame.
+pub const FEWEST_TRIAL: u64 = 624;
+
+/// How many packets the stream of a trial has at most (the profile's own limit).
+pub const MOST_TRIAL: u64 = 1_000_000;
+
 /// A command, which the first word names.
 #[derive(Clone, Copy, Debug, PartialEq, Eq)]
 pub enum Command {
@@ -23,6 +29,8 @@ pub enum Command {
     Hurt,
     /// `place IN OUT`
     Place,
+    /// `trial SEED COUNT`
+    Trial,
 }
 
 /// What a word behind the first one is.
@@ -34,6 +42,8 @@ pub enum Field {
     Output,
     /// A whole number that is at most this.
     Number(u64),
+    /// A whole number that is at least the first of these and at most the second.
+    Within(u64, u64),
 }
 
 /// All that is to be said of a command's words and of its line.
@@ -50,7 +60,7 @@ pub(crate) struct CommandRow {
 }
 
 /// All commands.
-pub(crate) const COMMANDS: [Command; 8] = [
+pub(crate) const COMMANDS: [Command; 9] = [
     Command::Adapt,
     Command::Code,
     Command::Excite,
@@ -59,6 +69,7 @@ pub(crate) const COMMANDS: [Command; 8] = [
     Command::Make,
     Command::Hurt,
     Command::Place,
+    Command::Trial,
 ];
 
 /// `adapt PLAN IN OUT`
@@ -106,18 +117,21 @@ const RECEIVE: CommandRow = CommandRow {
     fewest: 6,
 };
 
+/// What stands before the numbers of a network's line.
+const NETWORK_LABELS: &[&str] = &[
+    "feed ",
+    " filled ",
+    " steps ",
+    " packets ",
+    " fixed ",
+    " flagged ",
+];
+
 /// `net PLAN`
 const NET: CommandRow = CommandRow {
     verb: "net",
     fields: &[Field::Input],
-    labels: &[
-        "feed ",
-        " filled ",
-        " steps ",
-        " packets ",
-        " fixed ",
-        " flagged ",
-    ],
+    labels: NETWORK_LABELS,
     fewest: 3,
 };
 
@@ -149,6 +163,17 @@ const PLACE: CommandRow = CommandRow {
     fewest: 4,
 };
 
+/// `trial SEED COUNT`
+const TRIAL: CommandRow = CommandRow {
+    verb: "trial",
+    fields: &[
+        Field::Number(u64::MAX),
+        Field::Within(FEWEST_TRIAL, MOST_TRIAL),
+    ],
+    labels: NETWORK_LABELS,
+    fewest: 6,
+};
+
 /// The row of a command.
 pub(crate) fn row(command: Command) -> CommandRow
     ensures { row_behind result ≡ row_of command }
@@ -162,5 +187,6 @@ pub(crate) fn row(command: Command) -> CommandRow
         Command::Make => MAKE,
         Command::Hurt => HURT,
         Command::Place => PLACE,
+        Command::Trial => TRIAL,
     }
 }

@@ -92,6 +92,22 @@ fn copied(rt: &HostRuntime, inputs: &Desk, outputs: &[&str]) -> Result<Desk, Fai
     Ok(desk)
 }
 
+/// The number of no call.
+const NEVER: u64 = u64::MAX;
+
+/// What the command answers and leaves over these inputs, where the call of that kind and number fails.
+fn done(
+    rt: &HostRuntime,
+    case: &Case,
+    inputs: &Desk,
+    failing: (Call, u64),
+) -> Result<(Status, Desk), Fail> {
+    let mut desk = copied(rt, inputs, case.outputs)?;
+    desk.fail(failing.0, failing.1)?;
+    let status = desk.run(case.words)?;
+    Ok((status, desk))
+}
+
 /// Whether each input stands.
 fn inputs_stand(desk: &Desk, inputs: &Desk) -> bool {
     INPUTS
@@ -126,6 +142,12 @@ fn fault(call: Call) -> (Status, &'static str) {
     }
 }
 
+/// Whether the command ended as it should where a call of that kind failed: with the fault and front parts.
+fn is_broken_off(case: &Case, call: Call, status: Status, desk: &Desk, whole: &Desk) -> bool {
+    let (answer, line) = fault(call);
+    status == answer && desk.has_printed(line) && are_fronts(desk, whole, case.outputs)
+}
+
 /// Whether the command ends as it should where the call of that kind and number fails: where it makes that call, with
 /// the fault and front parts, and else as though nothing were planned.
 fn ends_well(
@@ -135,17 +157,14 @@ fn ends_well(
     whole: &Desk,
     failing: (Call, u64),
 ) -> Result<bool, Fail> {
+    let (status, desk) = done(rt, case, inputs, failing)?;
     let (call, nth) = failing;
-    let mut desk = copied(rt, inputs, case.outputs)?;
-    desk.fail(call, nth)?;
-    let status = desk.run(case.words)?;
-    let stands = inputs_stand(&desk, inputs);
-    if nth < whole.calls(call) {
-        let (answer, line) = fault(call);
-        let fronts = are_fronts(&desk, whole, case.outputs);
-        return Ok(stands && fronts && status == answer && desk.has_printed(line));
-    }
-    Ok(stands && status == Status::Done && are_whole(&desk, whole, case.outputs))
+    let ends = if nth < whole.calls(call) {
+        is_broken_off(case, call, status, &desk, whole)
+    } else {
+        status == Status::Done && are_whole(&desk, whole, case.outputs)
+    };
+    Ok(ends && inputs_stand(&desk, inputs))
 }
 
 /// Whether it does so for the first three calls of that kind, and for the last.
@@ -164,46 +183,40 @@ fn end_well(
     Ok(true)
 }
 
+/// Whether the command is done, and ends as it should where a call of any kind fails.
+fn all_end_well(rt: &HostRuntime, case: &Case, inputs: &Desk) -> Result<bool, Fail> {
+    let (status, whole) = done(rt, case, inputs, (Call::Read, NEVER))?;
+    for call in [Call::Read, Call::Begin, Call::Append] {
+        if !end_well(rt, case, inputs, &whole, call)? {
+            return Ok(false);
+        }
+    }
+    Ok(status == Status::Done)
+}
+
 #[test]
 fn a_failing_call_has_its_status_and_leaves_front_parts(rt: HostRuntime) -> Result<(), Fail> {
     let inputs = inputs(&rt)?;
     for case in &CASES {
-        let mut whole = copied(&rt, &inputs, case.outputs)?;
-        assert_eq!(rt; whole.run(case.words)?, Status::Done, "{}", case.name());
-        assert!(rt;
-            end_well(&rt, case, &inputs, &whole, Call::Read)?,
-            "{}",
-            case.name()
-        );
-        assert!(rt;
-            end_well(&rt, case, &inputs, &whole, Call::Begin)?,
-            "{}",
-            case.name()
-        );
-        assert!(rt;
-            end_well(&rt, case, &inputs, &whole, Call::Append)?,
-            "{}",
-            case.name()
-        );
+        assert!(rt; all_end_well(&rt, case, &inputs)?, "{}", case.name());
     }
     Ok(())
 }
 
-/// A stream is never held whole: where the last read fails, at least half of the output stands.
+/// Whether at least half of the output stands where the last read fails.
+fn half_stands(rt: &HostRuntime, case: &Case, inputs: &Desk) -> Result<bool, Fail> {
+    let (_, whole) = done(rt, case, inputs, (Call::Read, NEVER))?;
+    let last = whole.calls(Call::Read).saturating_sub(1);
+    let (status, desk) = done(rt, case, inputs, (Call::Read, last))?;
+    Ok(status == Status::ReadFault && 2 * desk.file("o").len() >= whole.file("o").len())
+}
+
+/// A stream is never held whole.
 #[test]
 fn half_of_the_output_stands_before_the_last_read(rt: HostRuntime) -> Result<(), Fail> {
     let inputs = inputs(&rt)?;
     for case in CASES.iter().take(4) {
-        let mut whole = copied(&rt, &inputs, case.outputs)?;
-        whole.run(case.words)?;
-        let mut desk = copied(&rt, &inputs, case.outputs)?;
-        desk.fail(Call::Read, whole.calls(Call::Read).saturating_sub(1))?;
-        assert_eq!(rt; desk.run(case.words)?, Status::ReadFault, "{}", case.name());
-        assert!(rt;
-            2 * desk.file("o").len() >= whole.file("o").len(),
-            "{}",
-            case.name()
-        );
+        assert!(rt; half_stands(&rt, case, &inputs)?, "{}", case.name());
     }
     Ok(())
 }
@@ -249,36 +262,57 @@ fn names(address: &str) -> (&'static str, &'static str) {
     }
 }
 
+/// What `net` answers and leaves with these events over this stream, where the append of that number fails.
+fn played(
+    rt: &HostRuntime,
+    events: &str,
+    stream: &[u8],
+    failing: u64,
+) -> Result<(Status, Desk), Fail> {
+    let mut desk = Desk::new(rt);
+    desk.put("p", plan_of(rt, events)?.as_bytes())?;
+    desk.put("s.ts", stream)?;
+    desk.fail(Call::Append, failing)?;
+    let status = desk.run(&["net", "p"])?;
+    Ok((status, desk))
+}
+
+/// Whether both transmitters have sent all symbols of the feed.
+fn all_is_sent(whole: &Desk) -> bool {
+    whole.has_printed("feed 1300 filled 4 steps 2600\n")
+        && whole.file("tx-7.sym").len() == 1_001_728
+        && whole.file("tx-9.sym") == whole.file("tx-7.sym")
+}
+
+/// Whether the files of the transmitter at this address are whole.
+fn files_are_whole(desk: &Desk, whole: &Desk, address: &str) -> bool {
+    let (symbols, log) = names(address);
+    desk.file(symbols) == whole.file(symbols) && desk.file(log) == whole.file(log)
+}
+
+/// Whether its symbols stand but for some of the last.
+fn symbols_are_cut(desk: &Desk, whole: &Desk, address: &str) -> bool {
+    let (symbols, _) = names(address);
+    let left = desk.file(symbols);
+    let sent = whole.file(symbols);
+    sent.starts_with(left) && 998_400 <= left.len() && left.len() < sent.len()
+}
+
 /// All transmitters come as far in their schedule: where the last append fails, which is one of the first address's,
 /// the files of the other one are whole, and its symbols stand but for some of the last.
 #[test]
 fn a_network_breaks_off_at_one_step_for_all(rt: HostRuntime) -> Result<(), Fail> {
+    let inputs = inputs(&rt)?;
+    let stream = inputs.file("s.ts");
     for (first, second, events) in IN_TURN {
-        let mut whole = Desk::new(&rt);
-        whole.put("p", plan_of(&rt, events)?.as_bytes())?;
-        whole.run(&["make", "1", "1300", "s.ts"])?;
-        let made = whole.calls(Call::Append);
-        whole.run(&["net", "p"])?;
-        assert!(rt; whole.has_printed("packets 1300\nfeed 1300 filled 4 steps 2600\n"));
-        assert_eq!(rt; whole.file("tx-7.sym").len(), 1_001_728);
-        assert!(rt; whole.file("tx-9.sym") == whole.file("tx-7.sym"));
-        let mut desk = Desk::new(&rt);
-        desk.put("p", whole.file("p"))?;
-        desk.put("s.ts", whole.file("s.ts"))?;
-        let last = whole
-            .calls(Call::Append)
-            .saturating_sub(made)
-            .saturating_sub(1);
-        desk.fail(Call::Append, last)?;
-        assert_eq!(rt; desk.run(&["net", "p"])?, Status::WriteFault);
+        let (_, whole) = played(&rt, events, stream, NEVER)?;
+        assert!(rt; all_is_sent(&whole));
+        let last = whole.calls(Call::Append).saturating_sub(1);
+        let (status, desk) = played(&rt, events, stream, last)?;
+        assert_eq!(rt; status, Status::WriteFault);
         assert!(rt; desk.has_printed("write fault\n"));
-        let (symbols, log) = names(second);
-        assert!(rt; desk.file(symbols) == whole.file(symbols));
-        assert!(rt; desk.file(log) == whole.file(log));
-        let (symbols, _) = names(first);
-        let left = desk.file(symbols);
-        assert!(rt; whole.file(symbols).starts_with(left));
-        assert!(rt; 998_400 <= left.len() && left.len() < whole.file(symbols).len());
+        assert!(rt; files_are_whole(&desk, &whole, second));
+        assert!(rt; symbols_are_cut(&desk, &whole, first));
     }
     Ok(())
 }

@@ -67,10 +67,10 @@ fn words_of(alloc: Global, texts: &[&str]) -> Result<Vec<Word>, Fail> {
 }
 
 /// What the program prints where it is not told what to do.
-const USAGE: &str = "usage: dtx adapt|code|excite|receive|net|make|hurt|place\n";
+const USAGE: &str = "usage: dtx adapt|code|excite|receive|net|make|hurt|place|trial\n";
 
 /// Words that are refused before a file is begun, where none is there, with the code of the status and the line.
-const REFUSALS: [(&[&str], i32, &str); 16] = [
+const REFUSALS: [(&[&str], i32, &str); 18] = [
     (&[], 2, USAGE),
     (&["make"], 2, USAGE),
     (&["make", "1", "4"], 2, USAGE),
@@ -87,6 +87,8 @@ const REFUSALS: [(&[&str], i32, &str); 16] = [
     (&["excite", "f", "0", "0", "o", "f"], 3, "same f\n"),
     (&["hurt", "i", "c", "c"], 3, "same c\n"),
     (&["place", "no", "out"], 4, "absent no\n"),
+    (&["trial", "1", "623"], 2, USAGE),
+    (&["trial", "1", "1000001"], 2, USAGE),
 ];
 
 #[test]

@@ -31,6 +31,11 @@ fn each_line_ends_in_a_line_feed_and_has_its_numbers_in_order(rt: HostRuntime) -
         (Command::Make, 1, "packets 8\n"),
         (Command::Hurt, 2, "bytes 8 damaged 9\n"),
         (Command::Place, 4, "packets 8 placed 9 bare 3 loose 1\n"),
+        (
+            Command::Trial,
+            6,
+            "feed 8 filled 9 steps 3 packets 1 fixed 2 flagged 5\n",
+        ),
     ] {
         let outcome = Outcome {
             status: Status::Done,
@@ -54,7 +59,7 @@ fn each_refusal_has_its_line(rt: HostRuntime) -> Result<(), Fail> {
     for (status, text) in [
         (
             Status::Usage,
-            "usage: dtx adapt|code|excite|receive|net|make|hurt|place\n",
+            "usage: dtx adapt|code|excite|receive|net|make|hurt|place|trial\n",
         ),
         (Status::Same, "same x\n"),
         (Status::Absent(1), "absent x\n"),

@@ -1,53 +1,44 @@
-use Rattle.std.proofs.Common.{◌≡◌, ℕ, ◌+◌, ◌*◌, ◌/◌, ◌<◌, ◌≤◌, ◌++◌, [], List, length, get_or, take, drop, sym, ap, ap₂}
-use Rattle.std.proofs.Common.{◌∙◌, subst, append_assoc, arith}
+use Rattle.std.proofs.Common.{◌≡◌, ℕ, ◌+◌, ◌*◌, ◌<◌, ◌≤◌, ◌++◌, List, length, take, drop, sym, ap, ◌∙◌, append_assoc}
+use Rattle.std.proofs.Common.{arith}
 use Rattle.std.proofs.Math.Seq.{take-add}
-use Rattle.std.proofs.lemmas.List.{take_all}
-use Rattle.dtx_packets.specs.Chunks.{get_or-first_chunks}
-use Rattle.dtx_outer.specs.Inner.{StandsFor}
+use Rattle.std.proofs.lemmas.List.{take_all, length-append, length-drop, length-take-le}
+use Rattle.dtx_receiver.specs.Handed.{handed}
 use Rattle.dtx_receiver.specs.Packets.{early_of}
+use Rattle.dtx_receiver.proofs.Giving.{gives, with_more}
 use Rattle.dtx_receiver.proofs.outer_decoding.give_group.Goals as goal
 
 next : (i : ℕ) → 207 * i + 207 ≡ 207 * (i + 1)
 next i = omega arith
 
-pub loop-block-preserved : goal.loop-block-preserved
-loop-block-preserved c =
-    let i : ℕ = c.loop-block.block-index in
-    let inv = c.loop-block.invariant in
-    let count : length c.as_chunks.result.0.now ≡ length c.args.bytes.now / 207 = c.as_chunks.ensures.front_len in
-    let l : i < 4 = omega (arith, c.told-bytes, count, c.loop-block-test.true) in
-    let block : List ℕ = get_or c.as_chunks.result.0.now i [] in
-    let part : get_or c.as_chunks.result.0.now i [] ≡ take 207 (drop (207 * i) c.args.bytes.now) =
-    ap (λ xs. get_or xs i []) c.as_chunks.ensures.front
-    ∙ get_or-first_chunks 207 (length c.args.bytes.now / 207) c.args.bytes.now i (omega (arith, c.told-bytes, l)) in
-    let more : (before : List ℕ) → before ++ take (207 * i) c.args.bytes.now ++ block ≡ before
-    ++ take (207 * (i + 1)) c.args.bytes.now =
-    λ before. append_assoc before (take (207 * i) c.args.bytes.now) block
-    ∙ ap (λ xs. before ++ xs) (ap (λ xs. take (207 * i) c.args.bytes.now ++ xs) part
-    ∙ sym (take-add (207 * i) 207 c.args.bytes.now) ∙ ap (λ n. take n c.args.bytes.now) (next i)) in
-    let few = inv.few in
-    let fewer = c.give.ensures.few in
+pub loop-p-preserved : goal.loop-p-preserved
+loop-p-preserved c =
+    let p : ℕ = c.loop-p.p in
+    let bytes : List ℕ = c.args.bytes.now in
+    let inv = c.loop-p.invariant in
+    let l : p < 4 = c.loop-p-test.true in
+    let part : List ℕ = take 207 (drop (207 * p) bytes) in
+    let long : length part ≡ 207 =
+    length-take-le 207 (drop (207 * p) bytes) (omega (arith, length-drop (207 * p) bytes, c.told-bytes, l)) in
+    let come : length (take (207 * p) bytes) ≡ 207 * p =
+    length-take-le (207 * p) bytes (omega (arith, c.told-bytes, l)) in
+    let more : (before : List ℕ) → (before ++ take (207 * p) bytes) ++ part ≡ before ++ take (207 * (p + 1)) bytes =
+    λ before. append_assoc before (take (207 * p) bytes) part
+    ∙ ap (λ xs. before ++ xs) (sym (take-add (207 * p) 207 bytes) ∙ ap (λ n. take n bytes) (next p)) in
     record {
-      white = c.give.ensures.white;
-      stands = λ before s. subst (StandsFor 207 187 52 4 c.give.new.inner) (more before)
-          (c.give.ensures.stands (before ++ take (207 * i) c.args.bytes.now) (inv.stands before s));
-      packets = λ before given s e. ap early_of (sym (more before))
-          ∙ c.give.ensures.packets (before ++ take (207 * i) c.args.bytes.now) given (inv.stands before s)
-          (inv.packets before given s e);
-      few = omega (arith, few, fewer);
+      packets = λ before given s f. ap early_of (sym (more before))
+          ∙ with_more (before ++ take (207 * p) bytes) ((before ++ take (207 * p) bytes) ++ part) given
+          c.loop-p.batch.packets.items c.hand.new.batch.packets.items _
+          (gives c.args.inner.now.white (before ++ take (207 * p) bytes) part _ _ (s.blocks + p) _ c.requires.white
+          (omega (arith, length-append before (take (207 * p) bytes), s.given, come)) long
+          (c.take_four-taken.ensures.taken before p s l))
+          c.hand.ensures.packets (inv.packets before given s f);
+      few = omega (arith, inv.few, c.hand.ensures.few);
     }
 
 pub returns-clause-packets : goal.returns-clause-packets
 returns-clause-packets c =
-    let count : length c.as_chunks.result.0.now ≡ length c.args.bytes.now / 207 = c.as_chunks.ensures.front_len in
-    let e : c.loop-block.block-index ≡ 4 = omega (
-      arith,
-      c.told-bytes,
-      count,
-      c.loop-block-test.false,
-      c.loop-block.auto.block-index-end,
-    ) in
+    let e : c.loop-p.p ≡ 4 = omega (arith, c.loop-p-test.false, c.loop-p.auto.p-end) in
     λ before given s f.
-    ap (λ xs. early_of (before ++ xs)) (sym (take_all (207 * c.loop-block.block-index) c.args.bytes.now
+    ap (λ xs. early_of (before ++ xs)) (sym (take_all (207 * c.loop-p.p) c.args.bytes.now
     (omega (arith, e, c.told-bytes))))
-    ∙ c.loop-block.invariant.packets before given s f
+    ∙ c.loop-p.invariant.packets before given s f

@@ -1,9 +1,11 @@
-use Rattle.std.proofs.Common.{◌∙◌}
+use Rattle.std.proofs.Common.{subst, ◌∙◌}
+use Rattle.dtx_engine.specs.Recipe.{IsAnswerOf, Recipe}
 use Rattle.dtx_jobs.specs.Damaged.{damaged_making}
 use Rattle.dtx_jobs.specs.Receive.{receiving}
 use Rattle.dtx_jobs.specs.Shapes.{segments}
 use Rattle.dtx_words.specs.NetworkNames.{received_name, symbol_name}
 use Rattle.dtx_top.proofs.Carrying.{carried_by}
+use Rattle.dtx_top.proofs.NetAnswers.{symbols_of_replay}
 use Rattle.dtx_top.proofs.reception.receive.Goals as goal
 
 pub returns-in-Ok-clause-carried : goal.returns-in-Ok-clause-carried
@@ -14,3 +16,9 @@ returns-in-Ok-clause-carried g c =
     (symbol_name c.args.receiver.now.from)
     c.new-engine.ensures.recipe c.received_name.ensures (c.as_str.ensures.value
     ∙ c.symbol_name-name.ensures) c.carry_to_one.ensures.carried
+
+pub returns-in-Ok-clause-network : goal.returns-in-Ok-clause-network
+returns-in-Ok-clause-network g c =
+    symbols_of_replay c.args.receiver.now c.carry_to_one.result.status c.carry_to_one.ensures.input
+    (subst (λ (r : Recipe). IsAnswerOf r c.carry_to_one.result.status) c.new-engine.ensures.recipe
+    c.carry_to_one.ensures.answer)

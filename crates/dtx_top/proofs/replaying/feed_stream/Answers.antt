@@ -1,9 +1,11 @@
-use Rattle.std.proofs.Common.{ap, ◌∙◌}
+use Rattle.std.proofs.Common.{ap, subst, ◌∙◌}
+use Rattle.dtx_engine.specs.Recipe.{IsAnswerOf, Recipe}
 use Rattle.dtx_jobs.specs.Shapes.{packets}
 use Rattle.dtx_words.specs.NetworkNames.{feed_name}
 use Rattle.dtx_top.specs.NetMeaning.{adapting}
 use Rattle.dtx_top.specs.OfBytes.{of_bytes}
 use Rattle.dtx_top.proofs.Carrying.{carried_by}
+use Rattle.dtx_top.proofs.NetAnswers.{stream_of_replay}
 use Rattle.dtx_top.proofs.replaying.feed_stream.Goals as goal
 
 pub returns-in-Ok-clause-carried : goal.returns-in-Ok-clause-carried
@@ -13,3 +15,10 @@ returns-in-Ok-clause-carried g c =
     (adapting c.args.plan.now) 1 c.feed_name.result.now feed_name c.as_str.result.now c.args.network.now.stream
     (c.new-in-Ok.ensures.recipe ∙ ap of_bytes c.in-Ok.ensures.recipe) c.feed_name.ensures c.as_str.ensures
     c.carry_to_one.ensures.carried
+
+pub returns-in-Ok-clause-network : goal.returns-in-Ok-clause-network
+returns-in-Ok-clause-network g c =
+    stream_of_replay c.args.plan.now c.args.network.now.receive c.carry_to_one.result.status
+    c.carry_to_one.ensures.input
+    (subst (λ (r : Recipe). IsAnswerOf r c.carry_to_one.result.status)
+    (c.new-in-Ok.ensures.recipe ∙ ap of_bytes c.in-Ok.ensures.recipe) c.carry_to_one.ensures.answer)

@@ -5,7 +5,7 @@ use Rattle.dtx_network.specs.Network.{steps_under}
 use Rattle.dtx_schedule.specs.Played.{IsPlayOf}
 use Rattle.dtx_schedule.specs.Progress.{IsProgressOf}
 use Rattle.dtx_top.specs.NetProgress.{reception_outputs}
-use Rattle.dtx_top.proofs.NetAnswers.{feed_not_done, feed_of_network}
+use Rattle.dtx_top.proofs.NetAnswers.{feed_not_done, feed_of_replay}
 use Rattle.dtx_top.proofs.NetProgresses.{broken_off}
 use Rattle.dtx_top.proofs.Played.{damages_of, play_fault, played_over}
 use Rattle.dtx_top.proofs.replaying.play_events.Goals as goal
@@ -54,7 +54,7 @@ returns-in-Err-clause-progress g c = λ held stream is written inside.
     c.ended.ensures progress.1
 
 pub returns-in-Err-clause-network : goal.returns-in-Err-clause-network
-returns-in-Err-clause-network g c = rw c.ended.ensures (feed_of_network _ c.in-Err.ensures.refusal)
+returns-in-Err-clause-network g c = rw c.ended.ensures (feed_of_replay _ _ c.in-Err.ensures.refusal)
 
 pub returns-in-Err-clause-shown : goal.returns-in-Err-clause-shown
 returns-in-Err-clause-shown g c = λ done.

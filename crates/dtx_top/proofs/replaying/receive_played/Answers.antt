@@ -2,10 +2,12 @@ use Rattle.std.proofs.Common.{◌≡◌, List, refl, sym, subst}
 use Rattle.std.specs.Prelude.{Option, Some, IfSome}
 use Rattle.dtx_meaning.specs.Laws.{part_of_none}
 use Rattle.dtx_meaning.specs.Meaning.{IsCarriedOut}
+use Rattle.dtx_meaning.specs.declared.status.Status.{Status}
 use Rattle.dtx_network.specs.Network.{steps_under}
 use Rattle.dtx_plan.specs.Sound.{IsReceived}
 use Rattle.dtx_plan.specs.declared.plan.ReceivePlan.{ReceivePlan}
 use Rattle.dtx_plan.specs.declared.transmitter.Transmitter.{Transmitter}
+use Rattle.dtx_top.specs.NetAnswers.{IsOfReplay}
 use Rattle.dtx_top.specs.NetMeaning.{played_and_received}
 use Rattle.dtx_top.specs.NetProgress.{reception_outputs}
 use Rattle.dtx_top.proofs.NetProgresses.{received_on}
@@ -47,6 +49,12 @@ returns-in-Some-clause-progress g c = λ plan held stream net staged is.
     c.receive_sent-received.result c.args.played.now.stage c.sent.result c.saturating_mul-symbols.result
     (its_receiver ts network.receive receiver c.in-Some.is net.receive) staged (c.sent.ensures ts steps staged)
     c.saturating_mul-symbols.ensures is c.receive_sent-received.ensures.carried)
+
+pub returns-in-Some-clause-network : goal.returns-in-Some-clause-network
+returns-in-Some-clause-network g c =
+    subst (λ (o : Option ReceivePlan). IsOfReplay o c.with_received.result.status) (sym c.in-Some.is)
+    (subst (λ (s : Status). IsOfReplay (Some c.in-Some.receiver) s) (sym c.with_received.ensures.status)
+    c.receive_sent-received.ensures.network)
 
 pub returns-in-None-clause-progress : goal.returns-in-None-clause-progress
 returns-in-None-clause-progress g c = λ plan held stream net staged is.

@@ -1,5 +1,3 @@
-use Rattle.std.proofs.Common.{arith}
-use Rattle.dtx_top.proofs.NetAnswers.{of_network}
 use Rattle.dtx_top.proofs.Adapted.{fed_alone_progress, fed_alone_told, fed_then_progress, fed_then_told}
 use Rattle.dtx_top.proofs.replaying.replay.Goals as goal
 
@@ -26,7 +24,7 @@ returns-in_default g c = record {
       c.feed_stream-fed.result c.in_default.not-Done c.feed_stream-fed.ensures.carried;
   progress = fed_alone_progress c.args.plan.now c.args.network.now (g.S.Shelf.files c.args.shelf.now)
       (g.S.Shelf.files c.feed_stream-fed.new.shelf) c.feed_stream-fed.result c.feed_stream-fed.ensures.carried;
-  network = of_network 1 _ (omega arith) c.feed_stream-fed.ensures.input;
+  network = c.feed_stream-fed.ensures.network;
   shown = λ done. absurd (c.in_default.not-Done done);
   gone = c.feed_stream-fed.ensures.gone;
 }

@@ -1,6 +1,7 @@
 use Rattle.std.proofs.Common.{◌≡◌, refl, true}
 use Rattle.dtx_words.specs.declared.rows.Command.{Command}
 use Rattle.dtx_words.specs.declared.rows.Command.TheVariants.{Adapt, Code, Excite, Receive, Net, Make, Hurt, Place}
+use Rattle.dtx_words.specs.declared.rows.Command.TheVariants.{Trial}
 use Rattle.dtx_words.specs.Rows.{are_inputs_first, row_of}
 use Rattle.dtx_words.proofs.laws.inputs_come_first.Goals as goal
 
@@ -13,6 +14,7 @@ of_each Net = refl
 of_each Make = refl
 of_each Hurt = refl
 of_each Place = refl
+of_each Trial = refl
 
 pub returns : goal.returns
 returns c = of_each

@@ -1,10 +1,12 @@
-use Rattle.std.proofs.Common.{sym, ◌∙◌}
+use Rattle.std.proofs.Common.{[], subst, sym, ◌∙◌}
+use Rattle.dtx_exciter.specs.Kept.{StandsFor}
 use Rattle.dtx_jobs.proofs.LifeOn.{tally_none}
 use Rattle.dtx_jobs.proofs.excitation.Excitation.new.Goals as goal
 
 pub returns-clause-life : goal.returns-clause-life
 returns-clause-life c = record {
-  exciter = c.in_ok-new.ensures;
-  tally = c.new-4.ensures
+  exciter = subst (λ e. StandsFor c.args.address c.args.delay e []) (sym c.in_ok-new-2.ensures.ok)
+      c.in_ok-new.ensures;
+  tally = c.new-5.ensures
       ∙ sym (tally_none c.args.address c.args.delay);
 }

@@ -2,6 +2,7 @@ use Rattle.std.proofs.Common.{◌≡◌, ◌*◌, ◌++◌, ◌∷◌, [], ℕ, 
 use Rattle.std.proofs.Common.{append_assoc}
 use Rattle.std.proofs.lemmas.List.{length-append, length-map, length-take}
 use Rattle.dtx_coder.specs.Stream.{symbols_of}
+use Rattle.dtx_exciter.specs.Kept.{StandsFor}
 use Rattle.dtx_exciter.specs.Emission.{last_segments, emission}
 use Rattle.dtx_exciter.specs.Log.{line_of}
 use Rattle.dtx_exciter.specs.Packets.{last_answer}
@@ -18,7 +19,9 @@ pub write_line-requires : goal.write_line-requires
 write_line-requires c =
     let old = c.args.self.now in
     let some = c.requires.some in
-    let taken = c.take-told.ensures old.address old.delay some.0 some.1.exciter in
+    let stands = subst (λ e. StandsFor old.address old.delay e some.0) (sym c.deref_mut.ensures.value)
+    some.1.exciter in
+    let taken = c.take-told.ensures old.address old.delay some.0 stands in
     (subst (HasRoom old.tally) (sym taken.air.counted)
     (has_room old.address old.delay some.0 c.args.packet.now.0 old.tally some.1.tally c.requires.most)).segments
 
@@ -26,7 +29,9 @@ pub add-requires : goal.add-requires
 add-requires c =
     let old = c.args.self.now in
     let some = c.requires.some in
-    let taken = c.take-told.ensures old.address old.delay some.0 some.1.exciter in
+    let stands = subst (λ e. StandsFor old.address old.delay e some.0) (sym c.deref_mut.ensures.value)
+    some.1.exciter in
+    let taken = c.take-told.ensures old.address old.delay some.0 stands in
     subst (HasRoom old.tally) (sym taken.air.counted)
     (has_room old.address old.delay some.0 c.args.packet.now.0 old.tally some.1.tally c.requires.most)
 
@@ -34,14 +39,18 @@ pub shared_ref_as_front-push : goal.shared_ref_as_front-push
 shared_ref_as_front-push c =
     let old = c.args.self.now in
     let some = c.requires.some in
-    let taken = c.take-told.ensures old.address old.delay some.0 some.1.exciter in
+    let stands = subst (λ e. StandsFor old.address old.delay e some.0) (sym c.deref_mut.ensures.value)
+    some.1.exciter in
+    let taken = c.take-told.ensures old.address old.delay some.0 stands in
     omega (arith, taken.air.counted, given_few old.address old.delay (some.0 ++ c.args.packet.now.0 ∷ []))
 
 pub push-requires : goal.push-requires
 push-requires c =
     let old = c.args.self.now in
     let some = c.requires.some in
-    let taken = c.take-told.ensures old.address old.delay some.0 some.1.exciter in
+    let stands = subst (λ e. StandsFor old.address old.delay e some.0) (sym c.deref_mut.ensures.value)
+    some.1.exciter in
+    let taken = c.take-told.ensures old.address old.delay some.0 stands in
     let count : ℕ = 832 * c.take-told.new.air.segments in (
       omega arith,
       omega (
@@ -56,7 +65,8 @@ push-requires c =
 pub returns-clause-spaced : goal.returns-clause-spaced
 returns-clause-spaced c = λ ps life.
     let old = c.args.self.now in
-    let taken = c.take-told.ensures old.address old.delay ps life.exciter in
+    let stands = subst (λ e. StandsFor old.address old.delay e ps) (sym c.deref_mut.ensures.value) life.exciter in
+    let taken = c.take-told.ensures old.address old.delay ps stands in
     let count : ℕ = 832 * c.take-told.new.air.segments in
     let sent : List ℤ = take count c.take-told.new.air.symbols in
     omega (
@@ -74,7 +84,8 @@ returns-clause-life c = λ ps life.
     let a = c.args.self.now.address in
     let d = c.args.self.now.delay in
     let p = c.args.packet.now.0 in
-    let taken = c.take-told.ensures a d ps life.exciter in
+    let stands = subst (λ e. StandsFor a d e ps) (sym c.deref_mut.ensures.value) life.exciter in
+    let taken = c.take-told.ensures a d ps stands in
     let n : ℕ = length (emission a d ps) in
     let m : ℕ = length (last_segments a d (ps ++ p ∷ [])) in
     let last_answer = c.take-told.result in
@@ -92,7 +103,8 @@ returns-clause-sent c = λ ps bytes life is.
     let a = c.args.self.now.address in
     let d = c.args.self.now.delay in
     let p = c.args.packet.now.0 in
-    let taken = c.take-told.ensures a d ps life.exciter in
+    let stands = subst (λ e. StandsFor a d e ps) (sym c.deref_mut.ensures.value) life.exciter in
+    let taken = c.take-told.ensures a d ps stands in
     let brought : List ℕ = map byte_of_symbol (symbols_of (last_segments a d (ps ++ p ∷ []))) in
     sent_push a d ps p ∙ ap (λ z. z ++ brought) is ∙ append_assoc bytes c.args.self.now.symbols brought
     ∙ ap (λ z. bytes ++ z)
@@ -103,7 +115,8 @@ returns-clause-logged c = λ ps bytes life is.
     let a = c.args.self.now.address in
     let d = c.args.self.now.delay in
     let p = c.args.packet.now.0 in
-    let taken = c.take-told.ensures a d ps life.exciter in
+    let stands = subst (λ e. StandsFor a d e ps) (sym c.deref_mut.ensures.value) life.exciter in
+    let taken = c.take-told.ensures a d ps stands in
     let n : ℕ = length (emission a d ps) in
     let m : ℕ = length (last_segments a d (ps ++ p ∷ [])) in
     let before = ap (λ (t : LifeTally). t.segments) life.tally in

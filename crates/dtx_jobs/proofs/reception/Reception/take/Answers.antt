@@ -9,22 +9,23 @@ use Rattle.dtx_jobs.proofs.reception.Reception.take.Goals as goal
 
 pub returns-clause-receiving : goal.returns-clause-receiving
 returns-clause-receiving c = λ segments is.
+    let stands = subst (λ r. StandsFor r segments) (sym c.deref_mut.ensures.value) is.receiver in
     let batch = c.as_slice.result.now in
     let x = c.to_symbols.new.segment in
     let old : Tally = c.args.self.now.tally in
     let told : c.begun.result ≡ begun (tracking segments x) = c.begun.ensures.begun
-    ∙ ap begun (c.take-tracking.ensures.answer segments is.receiver) in
+    ∙ ap begun (c.take-tracking.ensures.answer segments stands) in
     let counted : tally_with (record old { segments = old.segments + 1; runs = old.runs + c.begun.result }) batch
     ≡ tally_of (segments ++ x ∷ []) (packets_so_far (segments ++ x ∷ [])) =
     ap (λ n. tally_with (record old { segments = old.segments + 1; runs = old.runs + n }) batch) told
     ∙ ap (λ (t : Tally). tally_with
     (record t { segments = t.segments + 1; runs = t.runs + begun (tracking segments x) }) batch) is.tally
     ∙ tally_on segments x batch
-    (c.take-tracking.ensures.packets segments is.receiver
+    (c.take-tracking.ensures.packets segments stands
     ∙ ap (λ z. packets_so_far segments ++ z) (sym c.as_slice.ensures.value)) in
     record {
       receiver = subst (λ s. StandsFor c.take-tracking.new.self (segments ++ s ∷ [])) c.to_symbols.ensures
-          (c.take-tracking.ensures.stands segments is.receiver);
+          (c.take-tracking.ensures.stands segments stands);
       tally = subst (λ s. c.add.new.self
           ≡ tally_of (segments ++ s ∷ []) (packets_so_far (segments ++ s ∷ []))) c.to_symbols.ensures
           (c.add.ensures.counted ∙ counted);

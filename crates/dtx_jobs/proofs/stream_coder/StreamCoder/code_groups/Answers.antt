@@ -43,7 +43,7 @@ loop-i-preserved c =
     let group : List (List ℕ) = map (λ (p : Packet). p.0) c.cut_group.new.group in
     record {
       coder = λ before long stands.
-          subst (StandsFor c.code_group.new.self.coder)
+          subst (StandsFor c.code_group.new.self.coder.value)
           (group_on before bytes i _ group (omega (arith, here)) chunk c.cut_group.ensures)
           (c.code_group.ensures.coder (before ++ packets_from bytes 0 (4 * i))
           (long_so_far before bytes c.args.first i long)

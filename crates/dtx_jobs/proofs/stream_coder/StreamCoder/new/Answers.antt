@@ -3,4 +3,4 @@ use Rattle.dtx_coder.specs.NextLaws.{new_stands}
 use Rattle.dtx_jobs.proofs.stream_coder.StreamCoder.new.Goals as goal
 
 pub returns : goal.returns
-returns c = record { coder = c.in_ok-new.ensures ∙ new_stands; packets = refl }
+returns c = record { coder = c.in_ok-new-2.ensures.ok ∙ c.in_ok-new.ensures ∙ new_stands; packets = refl }

@@ -14,12 +14,13 @@ returns-clause-fed c = λ before long stand.
     let bytes = c.args.bytes.now in
     let ps = packets_of before in
     let many : length ps ≡ first = length-packets_of before ∙ omega (arith, long) in
-    let was = subst (StandsFor c.args.self.now.coder)
+    let was = subst (StandsFor c.args.self.now.coder.value)
     (all_in_groups ps (omega (arith, many, c.requires.grouped))) stand.coder in
     let groups = groups_of_piece before bytes first long c.requires.grouped in
     record {
       stand = record {
-        coder = subst (StandsFor c.code_groups.new.self.coder) (sym groups) (c.code_groups.ensures.coder ps many was);
+        coder = subst (StandsFor c.code_groups.new.self.coder.value) (sym groups)
+            (c.code_groups.ensures.coder ps many was);
         packets = omega (arith, long, length-append before bytes);
       };
       made = ap only (symbols_whole (packets_of (before ++ bytes)) ∙ ap symbol_bytes groups

@@ -4,12 +4,11 @@ use Rattle.std.proofs.lemmas.Bool.Decides.{Decides-eqb}
 use Rattle.std.specs.Bool.{Decides}
 use Rattle.dtx_laws.specs.Codeword.{IsCodeword}
 use Rattle.dtx_laws.specs.AnswersLaws.{codeword_answer}
-use Rattle.dtx_fast.proofs.fast.FastCorrect.correct.Goals as goal
+use Rattle.dtx_fast.proofs.fast.Fast.correct_by.Goals as goal
 
 pub returns-then-eq-clause-answer : goal.returns-then-eq-clause-answer
 returns-then-eq-clause-answer g c =
-    let code = c.encoded_again-code in
-    let same : Decides c.eq.result (code.result ≡ c.args.word.now) =
-    slice_eq-Decides Decides-eqb code.result c.args.word.now c.eq.result c.eq.ensures in
+    let same : Decides c.eq.result (c.args.code.now ≡ c.args.word.now) =
+    slice_eq-Decides Decides-eqb c.args.code.now c.args.word.now c.eq.result c.eq.ensures in
     codeword_answer g.row.N g.row.K c.args.word.now
-    (subst (IsCodeword g.row.N g.row.K) (same.0 c.if-eq.true) code.ensures.codeword)
+    (subst (IsCodeword g.row.N g.row.K) (same.0 c.if-eq.true) c.requires.codeword)

@@ -1,0 +1,54 @@
+#!/usr/bin/env bash
+# Measures `dtx receive` on symbols of a made stream in whose words 1.3 bytes, and then ten, are wrong, beside GNU Radio's receive chain on
+# a part of them, where Debian's packages `gnuradio` and `python3-numpy` are installed, and says how many of the packets each gave back.
+# All of it in one run, on one processor where `taskset` is there, `dtx` the best of three and the other once. It needs 500 MB on the disk
+# of temporary files. The status is 0 where `dtx` is at least 40 and 15 times as fast, and where there is no GNU Radio.
+
+set -eu
+rounds=3
+fields=340
+# GNU Radio is slow, so it gets a part of the symbols: so many whole fields.
+few_fields=34
+field_symbols=$((313 * 832))
+field_packets=312
+packets=$((fields * field_packets))
+
+. "$(dirname "${BASH_SOURCE[0]}")/../commands/timing.sh"
+. "$top/bench/gnuradio/blocks.sh"
+need_gnuradio
+"$program" make 1 $packets "$room/in.ts" >"$room/said"
+"$program" code "$room/in.ts" "$room/in.sym" >"$room/said"
+
+# back FILE: how many packets of the stream are among those of the file.
+back() {
+    "$gnuradio_python" -c '
+import sys
+stream, given = (open(name, "rb").read() for name in sys.argv[1:])
+packets = {stream[i + 1 : i + 188] for i in range(0, len(stream), 188)}
+print(sum(given[i + 1 : i + 188] in packets for i in range(0, len(given) - 187, 188)), "of", len(given) // 188)' \
+        "$room/in.ts" "$1"
+}
+
+# beside MEAN BAR: measures both with so many wrong bytes a word.
+beside() {
+    local start whole round
+    "$gnuradio_python" "$top/bench/gnuradio/damage.py" "$room/in.sym" "$room/hurt.sym" "$1"
+    head -c $((few_fields * field_symbols)) "$room/hurt.sym" >"$room/few.sym"
+    head -c $field_symbols "$room/hurt.sym" >"$room/least.sym"
+    unset 'best[dtx receive]'
+    for ((round = 0; round < rounds; round++)); do
+        measure 'dtx receive' "$room/out.ts" "$program" receive "$room/hurt.sym" "$room/out.ts"
+    done
+    printf '%s wrong bytes a word: %s\n' "$1" "$(cat "$room/said")"
+    rate 'dtx receive' $packets "${best[dtx receive]}"
+    # Its start is no part of the receiving: the time of one field is taken off.
+    start=$(timed "$gnuradio_python" "$top/bench/gnuradio/receive.py" "$room/least.sym" "$room/few.ts")
+    whole=$(timed "$gnuradio_python" "$top/bench/gnuradio/receive.py" "$room/few.sym" "$room/few.ts")
+    printf 'dtx gave back %s packets, GNU Radio %s\n' "$(back "$room/out.ts")" "$(back "$room/few.ts")"
+    compared 'dtx receive' $packets $(((few_fields - 1) * field_packets)) $((whole - start)) "$2"
+}
+
+status=0
+beside 1.3 40 || status=1
+beside 10 15 || status=1
+exit $status

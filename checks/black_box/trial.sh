@@ -1,0 +1,36 @@
+# A trial. The numbers are those of a program that shares nothing with dtx; its files are those of `make` and of `net` under its plan.
+
+start 'a trial of a hundred fields'
+run 0 'feed 31200 filled 100 steps 93650 packets 30837 fixed 0 flagged 0' trial 1 31200
+leaves trial.ts net.feed net.ts tx-{1,2,3}.{sym,log}
+for file in tx-{1,2,3}.sym; do
+    [[ $(stat -c %s $file) == 25957568 ]] || wrong "$file has $(stat -c %s $file) bytes"
+    cmp -s tx-1.sym $file || wrong "$file is not tx-1.sym"
+done
+
+start 'a trial is the network of its plan over a made stream'
+run 0 'packets 1300' make 7 1300 trial.ts
+cp trial.ts "$room/stream-of-trial.ts"
+{
+    printf 'start = 0\nmax_delay = 5000000\n'
+    printf '[[transmitter]]\naddress = %s\noffset = %s\n' 1 0 2 25 3 -10
+    printf '[net]\nstream = "trial.ts"\n'
+    send 1 0 1300 && send 2 0 1300 && foreign 3 7 0 50 && send 3 0 1300 && receiver 3
+} >plan.toml
+is_network 0 plan.toml
+line=$(cat "$room/said")
+rm -rf tx-* net.* trial.ts
+run 0 "$line" trial 7 1300
+for file in "$room"/wanted/*; do
+    cmp -s "$file" "${file##*/}" || wrong "${file##*/} is another file"
+done
+cmp -s trial.ts "$room/stream-of-trial.ts" || wrong 'trial.ts is another stream'
+leaves plan.toml trial.ts net.feed net.ts tx-{1,2,3}.{sym,log}
+
+start 'a trial of less than a frame'
+run 2 "$usage" trial 1 623
+leaves_nothing
+
+start 'a trial of too many packets'
+run 2 "$usage" trial 1 1000001
+leaves_nothing

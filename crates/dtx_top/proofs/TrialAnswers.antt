@@ -1,0 +1,72 @@
+-- What is answered of a trial over files that are told: it is done, or a fault or want of memory was met.
+use Rattle.std.proofs.Common.{◌≡◌, ℕ, ◌-◌, ◌^◌, ◌≤◌, true, false, List, [], ◌∷◌, refl, sym, subst, ◌∙◌, inl, inr}
+use Rattle.std.specs.Prelude.{◌⊎◌, Option, Some, None, IfSome, is_some}
+use Rattle.std.proofs.lemmas.Bool.{and_parts}
+use Rattle.dtx_meaning.specs.Meaning.{IsDone}
+use Rattle.dtx_meaning.specs.Status.{IsFault}
+use Rattle.dtx_meaning.specs.declared.status.Status.{Status}
+use Rattle.dtx_meaning.specs.declared.status.Status.TheVariants.{Done}
+use Rattle.dtx_outside.specs.Shelf.{Files}
+use Rattle.dtx_words.specs.Fitting.{command_of, fit_fields, fits}
+use Rattle.dtx_words.specs.FittingLaws.{command_fits}
+use Rattle.dtx_words.specs.Number.{number_in, number_within}
+use Rattle.dtx_words.specs.Rows.{trial_row}
+use Rattle.dtx_words.specs.declared.rows.Command.{Command}
+use Rattle.dtx_words.specs.declared.rows.Command.TheVariants.{Trial}
+use Rattle.dtx_top.specs.Means.{means, means_of}
+use Rattle.dtx_top.specs.Trial.{trial_made, trial_meaning, trial_of}
+use Rattle.dtx_top.proofs.ByWords.{fit_length, with_two}
+use Rattle.dtx_top.proofs.Trials.{number_most, within_range}
+
+-- trials of numbers in their ranges are done
+abbrev pub TrialLaw : Type 0
+TrialLaw = (seed count : ℕ) → seed ≤ 2 ^ 64 - 1 → 624 ≤ count → count ≤ 1000000
+    → (trial_made seed count).outcome.status ≡ Done
+
+-- ---- what the words mean
+
+within_most : (most : ℕ) (word : List ℕ) (found : Option ℕ) → number_in most word ≡ found
+    → IfSome found (λ number. number ≤ most)
+within_most most word None is = tt
+within_most most word (Some number) is = number_most most word number is
+
+numbers_done : TrialLaw → (seed count : Option ℕ) → IfSome seed (λ number. number ≤ 2 ^ 64 - 1)
+    → IfSome count (λ number. (624 ≤ number) × (number ≤ 1000000)) → is_some seed ≡ true → is_some count ≡ true
+    → (trial_of seed count).outcome.status ≡ Done
+numbers_done law None count small within one other = let e : false ≡ true = one in cc
+numbers_done law (Some seed) None small within one other = let e : false ≡ true = other in cc
+numbers_done law (Some seed) (Some count) small within one other = law seed count small within.0 within.1
+
+fitted_done : TrialLaw → (words : List (List ℕ)) (held : Files) → fits Trial words ≡ true
+    → (trial_meaning words held).outcome.status ≡ Done
+fitted_done law [] held fit = let e : false ≡ true = fit in cc
+fitted_done law (verb ∷ words) held fit =
+    let all = (and_parts _ _ fit).1 in
+    with_two (λ ws. fit_fields trial_row.fields ws ≡ true → (trial_meaning (verb ∷ ws) held).outcome.status ≡ Done)
+    words (fit_length trial_row.fields words all) (λ seed count fit.
+    let behind = (and_parts _ _ fit).1 in
+    numbers_done law (number_in (2 ^ 64 - 1) seed) (number_within 624 1000000 count)
+    (within_most (2 ^ 64 - 1) seed (number_in (2 ^ 64 - 1) seed) refl)
+    (within_range 624 1000000 count (number_within 624 1000000 count) refl)
+    (and_parts _ _ fit).0 (and_parts _ _ behind).0) all
+
+pub words_done : TrialLaw → (words : List (List ℕ)) (held : Files) → command_of words ≡ Some Trial
+    → (means words held).outcome.status ≡ Done
+words_done law words held is =
+    subst (λ (command : Option Command). (means_of command words held).outcome.status ≡ Done) (sym is)
+    (fitted_done law words held (command_fits words Trial is))
+
+-- ---- what is answered
+
+pub trial_ended : ((words : List (List ℕ)) (held : Files) → command_of words ≡ Some Trial
+    → (means words held).outcome.status ≡ Done) → (command : Option Command) (words : List (List ℕ))
+    (told now : Option Files) (status : Status) (unprinted : Type 0) → command_of words ≡ command
+    → IfSome told (λ held. IsDone (means_of command words held) (Some held) status unprinted now)
+    → IfSome told (λ held. command ≡ Some Trial → (status ≡ Done) ⊎ IsFault status)
+trial_ended done command words None now status unprinted fit carried = tt
+trial_ended done command words (Some held) now status unprinted fit carried = λ is. elim carried [
+  | inl answered ↦ inl (answered.answer ∙ subst (λ (c : Option Command). (means_of c words held).outcome.status ≡ Done)
+      fit (done words held (fit ∙ is)))
+  | inr (inl faulted) ↦ inr faulted.fault
+  | inr (inr printed) ↦ inr (subst IsFault (sym printed.answer) tt)
+]

@@ -1,0 +1,122 @@
+-- The stream of a trial is adapted whole, and no event of a trial reads past its feed.
+use Rattle.std.proofs.Common.{◌≡◌, ℕ, zero, suc, ◌+◌, ◌%◌, ◌<◌, ◌≤◌, ◌==◌, Bool, true, false, cond, not, List, [], ◌∷◌}
+use Rattle.std.proofs.Common.{◌++◌, length, get_or, refl, sym, ap, subst, ◌∙◌, arith}
+use Rattle.std.specs.Prelude.{None, min, nat_lt, position, replicate}
+use Rattle.std.specs.List.{AllByRecursion, find, position_or_len, range_with_len}
+use Rattle.std.proofs.lemmas.Bool.{and_from, cond-false, cond-true, eq-eqb, le-ltb, lt-ltb}
+use Rattle.std.proofs.lemmas.List.Folds.{flat_map-map}
+use Rattle.std.proofs.lemmas.List.FromFn.{get_or-map-range_with_len}
+use Rattle.dtx_engine.specs.Recipe.{first_refused, meaning_of_file, unit_at, whole_units}
+use Rattle.dtx_galois.specs.Field.{AreBytes}
+use Rattle.dtx_jobs.specs.PacketFileLaws.{packets_of-bytes}
+use Rattle.dtx_jobs.specs.Shapes.{packets}
+use Rattle.dtx_make.specs.Made.{made_packet, made_payload, made_stream}
+use Rattle.dtx_make.specs.StreamsLaws.{length-made_stream}
+use Rattle.dtx_meaning.specs.Meaning.{Meaning}
+use Rattle.dtx_packets.specs.Packet.{sync_of}
+use Rattle.dtx_packets.specs.Packets.{packet_at, packets_of, whole_packets}
+use Rattle.dtx_plan.specs.declared.plan.Plan.{Plan}
+use Rattle.dtx_schedule.specs.Inside.{first_past_feed, reads_past}
+use Rattle.dtx_words.specs.NetworkNames.{feed_name}
+use Rattle.dtx_top.specs.NetMeaning.{adapting, is_done}
+use Rattle.dtx_top.specs.OfBytes.{are_bytes}
+use Rattle.dtx_top.specs.Trial.{trial_events}
+use Rattle.dtx_top.specs.WorkedNetwork.{made_packets}
+use Rattle.dtx_top.proofs.Adapted.{AreAllTaken, taken_means}
+use Rattle.dtx_top.proofs.WorkedStream.{length-made, packet_bytes, packet_in, made_stream as are_stream}
+
+-- ---- the packets of the stream
+
+pub trial_packets : (seed count : ℕ) → count ≤ 624000000
+    → packets_of (made_stream seed count) ≡ made_packets seed count
+unfolding made_stream made_packets
+trial_packets seed count most =
+    ap packets_of (sym (flat_map-map (λ p. p) (made_packet seed) (range_with_len 0 count)))
+    ∙ packets_of-bytes (made_packets seed count) (are_stream seed count most).long
+
+packet_there : (seed count k : ℕ) → count ≤ 624000000 → k < count
+    → packet_at (made_stream seed count) k ≡ made_packet seed k
+packet_there seed count k most within =
+    let file : List ℕ = made_stream seed count in
+    sym (get_or-map-range_with_len (packet_at file) 0 (whole_packets file) k k []
+    (omega (arith, within, length-made_stream seed count)) (omega arith))
+    ∙ ap (λ (ps : List (List ℕ)). get_or ps k []) (trial_packets seed count most)
+    ∙ packet_in seed count k within
+
+-- ---- each is allowed
+
+begins : (seed index : ℕ) → sync_of (made_packet seed index) ≡ 0x47
+unfolding made_packet
+begins seed index = choose (index % 312 == 100)
+  where
+    choose : (t : Bool) → sync_of (cond t ((0x47 ∷ 0x1F ∷ 0xFA ∷ 0x10 ∷ []) ++ replicate 184 0)
+        ((0x47 ∷ 0x00 ∷ 0x31 ∷ (0x10 + index % 16) ∷ []) ++ made_payload seed index)) ≡ 0x47
+    choose true = refl
+    choose false = refl
+
+bytes_pass : (xs : List ℕ) → AreBytes xs → are_bytes xs ≡ true
+bytes_pass [] are = refl
+bytes_pass (x ∷ xs) are = and_from _ _ (lt-ltb x 256 are.0) (bytes_pass xs are.1)
+
+allowed : (plan : Plan) (seed k : ℕ) → (adapting plan).allows k (made_packet seed k) ≡ true
+allowed plan seed k =
+    and_from _ _ (eq-eqb (sync_of (made_packet seed k)) 0x47 (begins seed k))
+    (bytes_pass (made_packet seed k) (packet_bytes seed k))
+
+none_found : (p : ℕ → Bool) (a n : ℕ) → ((i : ℕ) → a ≤ i → i < a + n → p i ≡ false)
+    → find p (range_with_len a n) ≡ None
+none_found p a zero fails = refl
+none_found p a (suc n) fails =
+    cond-false _ _ _ (fails a (omega arith) (omega arith))
+    ∙ none_found p (a + 1) n (λ i l m. fails i (omega arith) (omega arith))
+
+none_refused : (plan : Plan) (seed count : ℕ) → count ≤ 624000000
+    → first_refused packets (adapting plan) (made_stream seed count) ≡ None
+unfolding first_refused
+none_refused plan seed count most =
+    let file : List ℕ = made_stream seed count in
+    none_found (λ k. not ((adapting plan).allows k (unit_at packets file k))) 0
+    (min (whole_units packets file) 624000000) (λ k l m.
+    ap not (subst (λ (unit : List ℕ). (adapting plan).allows k unit ≡ true)
+    (sym (packet_there seed count k most (omega (arith, m, length-made_stream seed count)))) (allowed plan seed k)))
+
+-- ---- so its feed is made
+
+all_taken : (plan : Plan) (seed count : ℕ) → count ≤ 624000000
+    → AreAllTaken packets (adapting plan) (made_stream seed count)
+all_taken plan seed count most = record {
+  none = none_refused plan seed count most;
+  few = le-ltb 624000000 (whole_packets (made_stream seed count))
+      (omega (arith, most, length-made_stream seed count));
+}
+
+pub fed_done : (plan : Plan) (seed count : ℕ) → count ≤ 624000000
+    → is_done (meaning_of_file packets (adapting plan) (feed_name ∷ []) (made_stream seed count)).outcome.status ≡ true
+fed_done plan seed count most =
+    ap (λ (m : Meaning). is_done m.outcome.status)
+    (taken_means packets (adapting plan) (feed_name ∷ []) (made_stream seed count) (all_taken plan seed count most))
+
+-- ---- the events are within it
+
+all_fail : {X : Type 0} (test : X → Bool) (xs : List X) → AllByRecursion (λ x. test x ≡ false) xs
+    → position_or_len test xs ≡ length xs
+all_fail test [] fails = refl
+all_fail test (x ∷ xs) fails =
+    let step : position_or_len test (x ∷ xs) ≡ 1 + position_or_len test xs =
+    cond-true (not (test x)) (1 + position_or_len test xs) 0 (ap not fails.0) in
+    omega (arith, step, all_fail test xs fails.1)
+
+no_position : {X : Type 0} (test : X → Bool) (xs : List X) → AllByRecursion (λ x. test x ≡ false) xs
+    → position test xs ≡ None
+no_position test xs fails =
+    cond-false _ _ _ (le-ltb (position_or_len test xs) (length xs) (omega (arith, all_fail test xs fails)))
+
+pub events_inside : (seed count : ℕ)
+    → first_past_feed (trial_events seed count) (length (made_packets seed count)) ≡ None
+unfolding first_past_feed
+events_inside seed count =
+    no_position (reads_past (length (made_packets seed count))) (trial_events seed count)
+    (whole, (whole, (refl, (whole, tt))))
+  where
+    whole : nat_lt (length (made_packets seed count)) (0 + count) ≡ false
+    whole = le-ltb (length (made_packets seed count)) (0 + count) (omega (arith, length-made seed count))

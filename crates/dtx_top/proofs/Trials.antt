@@ -1,0 +1,415 @@
+-- A trial: its plan is one that a network takes, and what is carried out of it.
+use Rattle.std.proofs.Common.{◌≡◌, ◌≢◌, ℕ, ◌-◌, ◌^◌, ◌<◌, ◌≤◌, Bool, true, false, cond, length, List, []}
+use Rattle.std.proofs.Common.{◌∷◌, get_or, refl, sym}
+use Rattle.std.proofs.Common.{ap, subst, ◌∙◌, inl, inr, arith, lit<}
+use Rattle.std.specs.Prelude.{ℤ, pos, negsuc, unsigned_abs, Option, Some, None, All, IfSome, IsSomeAnd, ◌&&◌, nat_le}
+use Rattle.std.specs.Prelude.{decimal}
+use Rattle.std.specs.Str.{bytes_eq}
+use Rattle.std.specs.Str.Parse.{digits_value}
+use Rattle.std.proofs.lemmas.Bool.{and_parts, leb-true}
+use Rattle.std.specs.FinMap.{get}
+use Rattle.std.specs.Int.{w16}
+use Rattle.std.specs.List.{Contains, IsDistinct}
+use Rattle.std.proofs.lemmas.Int.{fits_signed_from_abs}
+use Rattle.std.proofs.lemmas.List.Elements.{All-cons, All-nil}
+use Rattle.std.proofs.lemmas.Option.{same_Some}
+use Rattle.dtx_jobs.specs.Answers.{Knows}
+use Rattle.dtx_jobs.specs.Make.{made_file}
+use Rattle.dtx_make.specs.Made.{made_stream}
+use Rattle.dtx_meaning.specs.Laws.{carried_before, carried_then, part_of_carried, part_of_none}
+use Rattle.dtx_meaning.specs.Laws.{whole_of_carried}
+use Rattle.dtx_meaning.specs.Meaning.{Meaning, IsCarriedOut}
+use Rattle.dtx_meaning.specs.Status.{IsFault, IsOfInputs, blame_of}
+use Rattle.dtx_meaning.specs.declared.status.Outcome.{Outcome}
+use Rattle.dtx_meaning.specs.declared.status.Status.{Status}
+use Rattle.dtx_meaning.specs.declared.status.Status.TheVariants.{Done, Usage, Same, Absent, Plan, Packet, TooLong}
+use Rattle.dtx_meaning.specs.declared.status.Status.TheVariants.{OutOfFeed, OutOfAir, NoSync, ReadFault, WriteFault}
+use Rattle.dtx_meaning.specs.declared.status.Status.TheVariants.{Memory}
+use Rattle.dtx_network.specs.Network.{steps_under}
+use Rattle.dtx_network.specs.Plans.{IsPlan}
+use Rattle.dtx_outside.specs.Laws.{get-insert_same}
+use Rattle.dtx_outside.specs.Shelf.{Files}
+use Rattle.dtx_packets.specs.Packets.{packets_of}
+use Rattle.dtx_plan.specs.Sound.{AreDamages, AreTransmitters, IsDamage, IsEvent, IsNet, IsPart, IsSound, IsTransmitter}
+use Rattle.dtx_plan.specs.declared.event.Event.TheVariants.{Foreign, Send}
+use Rattle.dtx_plan.specs.declared.plan.NetPlan.{NetPlan}
+use Rattle.dtx_plan.specs.declared.plan.Plan as whole
+use Rattle.dtx_words.specs.NetworkNames.{feed_name, trial_name}
+use Rattle.dtx_words.specs.Number.{at_least, number_in, number_within}
+use Rattle.dtx_words.specs.declared.rows.Command.TheVariants.{Make, Trial}
+use Rattle.dtx_top.specs.HeadlineOfFiles.{HeadlineLaw, HeadlineOfFiles}
+use Rattle.dtx_top.specs.NetAnswers.{IsOfReplay}
+use Rattle.dtx_top.specs.NetMeaning.{answered, network_meaning}
+use Rattle.dtx_top.specs.NetProgress.{HasNetProgress, HasStreamProgress, feed_outputs, reception_outputs}
+use Rattle.dtx_top.specs.Networks.{written_names}
+use Rattle.dtx_top.specs.Trial.{HasMadeProgress, HasNumbersHeadline, HasTrialNet, IsTrialDone, IsTrialPlan, near}
+use Rattle.dtx_top.specs.Trial.{of_trial, trial_events, trial_made, trial_network, trial_outcome, trial_plan}
+use Rattle.dtx_top.specs.Trial.{trial_played, trial_transmitters, with_trial}
+use Rattle.dtx_top.proofs.FileNames.{any_of}
+use Rattle.dtx_top.proofs.Headlines.{stream_done}
+use Rattle.dtx_top.proofs.NetFiles.{letter}
+use Rattle.dtx_top.proofs.NetProgresses.{answered_so}
+
+-- ---- the plan
+
+are_three : AreTransmitters trial_transmitters
+unfolding IsDistinct
+are_three = record {
+  some = omega arith;
+  most = omega arith;
+  distinct = ((refl, (refl, tt)), ((refl, tt), (tt, tt)));
+}
+
+plan_sound : (seed count : ℕ) → IsSound (trial_plan seed count)
+plan_sound seed count = record { start = lit< tt; max_delay = lit< tt; transmitters = are_three }
+
+in_range : (address : ℕ) (offset : ℤ) → address < 2 ^ 16 → unsigned_abs offset < 2 ^ 15
+    → IsTransmitter (near address offset)
+in_range address offset small few =
+    record { address = small; offset = fits_signed_from_abs w16 offset few; delay = lit< tt }
+
+each_in_range : All IsTransmitter trial_transmitters
+each_in_range =
+    All-cons IsTransmitter (near 1 (pos 0)) (near 2 (pos 25) ∷ near 3 (negsuc 9) ∷ [])
+    (in_range 1 (pos 0) (lit< tt) (lit< tt))
+    (All-cons IsTransmitter (near 2 (pos 25)) (near 3 (negsuc 9) ∷ []) (in_range 2 (pos 25) (lit< tt) (lit< tt))
+    (All-cons IsTransmitter (near 3 (negsuc 9)) [] (in_range 3 (negsuc 9) (lit< tt) (lit< tt))
+    (All-nil IsTransmitter)))
+
+pub is_plan : (seed count : ℕ) → IsPlan (trial_plan seed count)
+is_plan seed count = record { sound = plan_sound seed count; transmitters = each_in_range }
+
+is_net : (seed count : ℕ) → seed ≤ 2 ^ 64 - 1 → 624 ≤ count → count ≤ 1000000
+    → IsNet trial_transmitters (trial_network seed count)
+is_net seed count small least most = record {
+  some = omega arith;
+  name = omega arith;
+  most = omega arith;
+  events = All-cons (IsEvent trial_transmitters) (Send 1 0 count)
+      (Send 2 0 count ∷ Foreign 3 seed 0 50 ∷ Send 3 0 count ∷ []) first
+      (All-cons (IsEvent trial_transmitters) (Send 2 0 count) (Foreign 3 seed 0 50 ∷ Send 3 0 count ∷ []) second
+      (All-cons (IsEvent trial_transmitters) (Foreign 3 seed 0 50) (Send 3 0 count ∷ []) foreign
+      (All-cons (IsEvent trial_transmitters) (Send 3 0 count) [] third (All-nil (IsEvent trial_transmitters)))));
+  receive = record { listed = refl; damage = none };
+}
+  where
+    whole : IsPart 0 count
+    whole = record { some = omega (arith, least); most = omega (arith, most) }
+
+    first : IsEvent trial_transmitters (Send 1 0 count)
+    first = record { listed = refl; in_range = whole }
+
+    second : IsEvent trial_transmitters (Send 2 0 count)
+    second = record { listed = refl; in_range = whole }
+
+    third : IsEvent trial_transmitters (Send 3 0 count)
+    third = record { listed = refl; in_range = whole }
+
+    part : IsPart 0 50
+    part = record { some = omega arith; most = omega arith }
+
+    foreign : IsEvent trial_transmitters (Foreign 3 seed 0 50)
+    foreign = record { listed = refl; in_range = (part, omega (arith, small)) }
+
+    none : AreDamages []
+    none = record { each = All-nil IsDamage; in_order = λ i d l. absurd (omega (arith, l)); most = omega arith }
+
+-- the plan of a trial, with what it says of its network
+pub record IsNetworkOf (plan : whole.Plan) (network : NetPlan) : Type 0 where
+  pub sound : IsSound plan
+  pub net : IsNet plan.transmitters.items network
+  pub differ : network.stream ≢ feed_name
+
+stream_no_feed : trial_name ≢ feed_name
+stream_no_feed = letter trial_name feed_name 0 116 110 refl refl (λ e. omega (arith, e))
+
+pub its_network : (plan : whole.Plan) (seed count : ℕ) (network : NetPlan) → plan ≡ trial_plan seed count
+    → plan.net ≡ Some network → trial_network seed count ≡ network
+its_network plan seed count network is has = same_Some (trial_network seed count) network
+    (sym (ap (λ (p : whole.Plan). p.net) is) ∙ has)
+
+pub network_of : (plan : whole.Plan) (network : NetPlan) → IsTrialPlan plan → plan.net ≡ Some network
+    → IsNetworkOf plan network
+network_of plan network x has =
+    subst (λ (p : whole.Plan). IsNetworkOf p network) (sym x.is)
+    (subst (λ (n : NetPlan). IsNetworkOf (trial_plan x.seed x.count) n)
+    (its_network plan x.seed x.count network x.is has)
+    (record {
+      sound = plan_sound x.seed x.count;
+      net = is_net x.seed x.count x.small x.least x.most;
+      differ = stream_no_feed;
+    }))
+
+-- ---- the answer
+
+fault_of_trial : (status : Status) → IsFault status → IsFault (of_trial status)
+fault_of_trial ReadFault fault = tt
+fault_of_trial WriteFault fault = tt
+fault_of_trial Memory fault = tt
+fault_of_trial status fault = absurd fault
+
+write_of_trial : (status : Status) → of_trial status ≡ WriteFault → status ≡ WriteFault
+write_of_trial (Absent input) is = cc
+write_of_trial status is = is
+
+done_of_trial : (status : Status) → of_trial status ≡ Done → status ≡ Done
+done_of_trial (Absent input) is = cc
+done_of_trial status is = is
+
+trial_answered : (m : Meaning) (start now : Option Files) (outcome : Outcome) → IsCarriedOut m start outcome now
+    → IsCarriedOut (answered trial_outcome m) start (trial_outcome outcome) now
+trial_answered m start now outcome (inl whole) =
+    inl (record { answer = ap trial_outcome whole.answer; files = whole.files })
+trial_answered m start now outcome (inr broken) = inr (record {
+  fault = fault_of_trial outcome.status broken.fault;
+  writing = λ writing. broken.writing (write_of_trial outcome.status writing);
+  files = broken.files;
+})
+
+pub blame_of_trial : (status : Status) → blame_of (of_trial status) ≡ blame_of status
+blame_of_trial (Absent input) = refl
+blame_of_trial status = refl
+
+-- what the words alone say of it
+abbrev pub IsOfTrial : Status → Type 0
+IsOfTrial status = IsOfInputs false 3 status × Knows Trial status
+
+pub replay_of_trial : (network : NetPlan) (status : Status) → IsOfReplay network.receive status
+    → (seed : ℕ) → (count : ℕ) → trial_network seed count ≡ network → IsOfTrial (of_trial status)
+replay_of_trial network status is seed count same =
+    let P : NetPlan → Type 0 = λ n. IsOfReplay n.receive status in by_status status (subst P (sym same) is)
+  where
+    by_status : (status : Status) → IsOfReplay (trial_network seed count).receive status → IsOfTrial (of_trial status)
+    by_status Usage is = absurd is
+    by_status Same is = absurd is
+    by_status (Absent input) is = ((refl, omega (arith, is.0, is.1)), tt)
+    by_status Done is = (refl, tt)
+    by_status (Plan refusal) is = absurd is
+    by_status (Packet k) is = (refl, tt)
+    by_status TooLong is = (refl, tt)
+    by_status (OutOfFeed event) is = (refl, tt)
+    by_status (OutOfAir entry) is = absurd (is refl)
+    by_status NoSync is = (refl, tt)
+    by_status ReadFault is = (refl, tt)
+    by_status WriteFault is = (refl, tt)
+    by_status Memory is = (tt, tt)
+
+pub make_of_trial : (status : Status) → IsOfInputs false 0 status → Knows Make status → IsOfTrial status
+make_of_trial Usage is known = absurd is
+make_of_trial Same is known = cc
+make_of_trial (Absent input) is known = absurd (omega (arith, is.1))
+make_of_trial Done is known = (refl, tt)
+make_of_trial (Plan refusal) is known = absurd known
+make_of_trial (Packet k) is known = absurd known
+make_of_trial TooLong is known = absurd known
+make_of_trial (OutOfFeed event) is known = absurd known
+make_of_trial (OutOfAir entry) is known = absurd known
+make_of_trial NoSync is known = absurd known
+make_of_trial ReadFault is known = (refl, tt)
+make_of_trial WriteFault is known = (refl, tt)
+make_of_trial Memory is known = (tt, tt)
+
+-- ---- the network over the stream
+
+-- a claim on the network of the plan and of what its stream's file holds is one on that of the trial
+on_stream : (P : whole.Plan → NetPlan → Option (List ℕ) → Type 0) (plan : whole.Plan) (network : NetPlan)
+    (seed count : ℕ) (held : Files) → plan ≡ trial_plan seed count → plan.net ≡ Some network
+    → get held trial_name ≡ Some (made_stream seed count) → P plan network (get held network.stream)
+    → P (trial_plan seed count) (trial_network seed count) (Some (made_stream seed count))
+on_stream P plan network seed count held is has there holds =
+    subst (λ (found : Option (List ℕ)). P (trial_plan seed count) (trial_network seed count) found) there
+    (subst (λ (n : NetPlan). P (trial_plan seed count) n (get held n.stream))
+    (sym (its_network plan seed count network is has))
+    (subst (λ (p : whole.Plan). P p network (get held network.stream)) is holds))
+
+pub played_carried : (plan : whole.Plan) (network : NetPlan) (seed count : ℕ) (held : Files) (told now : Option Files)
+    (outcome : Outcome) → plan ≡ trial_plan seed count → plan.net ≡ Some network → told ≡ Some held
+    → get held trial_name ≡ Some (made_stream seed count)
+    → IfSome told (λ held. IsCarriedOut (network_meaning plan network (get held network.stream)) (Some held) outcome
+    now)
+    → IsCarriedOut (trial_played seed count) (Some held) (trial_outcome outcome) now
+unfolding trial_played
+played_carried plan network seed count held told now outcome is has tells there carried =
+    let here = subst (λ (t : Option Files). IfSome t (λ held.
+    IsCarriedOut (network_meaning plan network (get held network.stream)) (Some held) outcome now)) tells carried in
+    trial_answered (network_meaning (trial_plan seed count) (trial_network seed count) (Some (made_stream seed count)))
+    (Some held) now outcome
+    (on_stream (λ p n found. IsCarriedOut (network_meaning p n found) (Some held) outcome now) plan network seed count
+    held is has there here)
+
+pub played_progress : (plan : whole.Plan) (network : NetPlan) (seed count : ℕ) (held : Files) (told now : Option Files)
+    (status : Status) → plan ≡ trial_plan seed count → plan.net ≡ Some network → told ≡ Some held
+    → get held trial_name ≡ Some (made_stream seed count)
+    → IfSome told (λ held. HasStreamProgress plan network status held now)
+    → HasNetProgress (trial_plan seed count) (trial_network seed count) (made_stream seed count) (of_trial status) held
+    now
+played_progress plan network seed count held told now status is has tells there come =
+    let here = subst (λ (t : Option Files). IfSome t (λ held. HasStreamProgress plan network status held now)) tells
+    come in
+    let stream : List (List ℕ) = packets_of (made_stream seed count) in
+    answered_so (feed_outputs (trial_plan seed count) (made_stream seed count)) trial_transmitters
+    (steps_under (trial_plan seed count) stream (trial_events seed count))
+    (reception_outputs (trial_plan seed count) (trial_network seed count) stream (trial_network seed count).receive)
+    status (of_trial status) held now (fault_of_trial status)
+    (on_stream (λ p n found. IfSome found (λ file. HasNetProgress p n file status held now)) plan network seed count
+    held is has there here)
+
+-- ---- the stream is made before
+
+made_whole : (seed count : ℕ) (held : Files) (mid : Option Files) (made : Outcome) → made.status ≡ Done
+    → IsCarriedOut (made_file seed count trial_name) (Some held) made mid → mid ≡ Some (with_trial seed count held)
+made_whole seed count held mid made done carried =
+    (whole_of_carried (made_file seed count trial_name) (Some held) mid made carried
+    (λ fault. subst IsFault done fault)).files
+
+-- what is said of the network over the files that hold the stream
+abbrev pub OverStream : ℕ → ℕ → Option Files → (Files → Type 0) → Type 0
+OverStream seed count mid P =
+    (held : Files) → mid ≡ Some held → get held trial_name ≡ Some (made_stream seed count) → P held
+
+pub then_carried : (seed count : ℕ) (told mid now : Option Files) (made outcome : Outcome) → made.status ≡ Done
+    → IsCarriedOut (made_file seed count trial_name) told made mid
+    → OverStream seed count mid (λ held. IsCarriedOut (trial_played seed count) (Some held) outcome now)
+    → IfSome told (λ held. IsCarriedOut (trial_made seed count) (Some held) outcome now)
+then_carried seed count None mid now made outcome done carried next = tt
+then_carried seed count (Some held) mid now made outcome done carried next =
+    carried_then (made_file seed count trial_name) (trial_played seed count) (Some held)
+    (Some (with_trial seed count held)) now outcome refl
+    (next (with_trial seed count held) (made_whole seed count held mid made done carried)
+    (get-insert_same held trial_name (made_stream seed count)))
+
+pub then_come : (seed count : ℕ) (told mid now : Option Files) (made : Outcome) (status : Status) → made.status ≡ Done
+    → IsCarriedOut (made_file seed count trial_name) told made mid
+    → OverStream seed count mid (λ held. HasNetProgress (trial_plan seed count) (trial_network seed count)
+    (made_stream seed count) status held now)
+    → IfSome told (λ held. HasMadeProgress seed count status held now)
+unfolding HasTrialNet
+then_come seed count None mid now made status done carried next = tt
+then_come seed count (Some held) mid now made status done carried next =
+    inr (next (with_trial seed count held) (made_whole seed count held mid made done carried)
+    (get-insert_same held trial_name (made_stream seed count)))
+
+-- the stream isn't whole
+made_fault : (seed count : ℕ) (start now : Option Files) (made : Outcome) → (made.status ≡ Done → ⊥)
+    → IsCarriedOut (made_file seed count trial_name) start made now → IsFault made.status
+made_fault seed count start now made not_done (inl whole) =
+    absurd (not_done (ap (λ (o : Outcome). o.status) whole.answer))
+made_fault seed count start now made not_done (inr broken) = broken.fault
+
+pub alone_carried : (seed count : ℕ) (told now : Option Files) (made : Outcome) → (made.status ≡ Done → ⊥)
+    → IsCarriedOut (made_file seed count trial_name) told made now
+    → IfSome told (λ held. IsCarriedOut (trial_made seed count) (Some held) made now)
+alone_carried seed count None now made not_done carried = tt
+alone_carried seed count (Some held) now made not_done (inl whole) =
+    absurd (not_done (ap (λ (o : Outcome). o.status) whole.answer))
+alone_carried seed count (Some held) now made not_done (inr broken) =
+    carried_before (made_file seed count trial_name) (trial_played seed count) (Some held) now made broken
+
+pub alone_come : (seed count : ℕ) (told now : Option Files) (made : Outcome) → (made.status ≡ Done → ⊥)
+    → IsCarriedOut (made_file seed count trial_name) told made now
+    → IfSome told (λ held. HasMadeProgress seed count made.status held now)
+alone_come seed count None now made not_done carried = tt
+alone_come seed count (Some held) now made not_done carried =
+    inl (
+      made_fault seed count (Some held) now made not_done carried,
+      part_of_carried (made_file seed count trial_name) (Some held) now made carried,
+    )
+
+-- nothing was touched for want of memory
+pub wanting_come : (seed count : ℕ) (told now : Option Files) (status : Status) → now ≡ told → IsFault status
+    → IfSome told (λ held. HasMadeProgress seed count status held now)
+wanting_come seed count None now status same fault = tt
+wanting_come seed count (Some held) now status same fault =
+    inl (fault, part_of_none ((trial_name, made_stream seed count) ∷ []) (Some held) now same)
+
+-- ---- the words
+
+pub number_most : (most : ℕ) (word : List ℕ) (number : ℕ) → number_in most word ≡ Some number → number ≤ most
+unfolding number_in
+number_most most word number is =
+    at_test (bytes_eq word (decimal value) && nat_le value most) refl is
+  where
+    value : ℕ
+    value = digits_value 10 word
+
+    at_test : (b : Bool) → (bytes_eq word (decimal value) && nat_le value most) ≡ b
+        → cond b (Some value) None ≡ Some number → number ≤ most
+    at_test true fits is =
+        subst (λ (n : ℕ). n ≤ most) (same_Some value number is) (leb-true value most (and_parts _ _ fits).1)
+    at_test false fits is = cc
+
+pub within_range : (least most : ℕ) (word : List ℕ) (found : Option ℕ) → found ≡ number_within least most word
+    → IfSome found (λ number. (least ≤ number) × (number ≤ most))
+within_range least most word found is =
+    subst (λ (o : Option ℕ). IfSome o (λ number. (least ≤ number) × (number ≤ most))) (sym is)
+    (by_number (number_in most word) refl)
+  where
+    at_test : (number : ℕ) (b : Bool) → nat_le least number ≡ b → number ≤ most
+        → IfSome (cond b (Some number) None) (λ number. (least ≤ number) × (number ≤ most))
+    at_test number true fits below = (leb-true least number fits, below)
+    at_test number false fits below = tt
+
+    by_number : (o : Option ℕ) → number_in most word ≡ o
+        → IfSome (at_least least o) (λ number. (least ≤ number) × (number ≤ most))
+    by_number None is = tt
+    by_number (Some number) is =
+        at_test number (nat_le least number) refl (number_most most word number is)
+
+-- three words, of which two are known
+pub three_words : (words : List (List ℕ)) (seed count : List ℕ) → 3 ≤ length words → length words < 4
+    → seed ≡ get_or words 1 seed → count ≡ get_or words 2 count
+    → (verb : List ℕ) × (words ≡ verb ∷ seed ∷ count ∷ [])
+three_words [] seed count least most one two = absurd (omega (arith, least))
+three_words (verb ∷ []) seed count least most one two = absurd (omega (arith, least))
+three_words (verb ∷ a ∷ []) seed count least most one two = absurd (omega (arith, least))
+three_words (verb ∷ a ∷ b ∷ []) seed count least most one two =
+    (verb, ap (λ x. verb ∷ x ∷ b ∷ []) (sym one) ∙ ap (λ x. verb ∷ seed ∷ x ∷ []) (sym two))
+three_words (verb ∷ a ∷ b ∷ c ∷ rest) seed count least most one two = absurd (omega (arith, most))
+
+-- a claim on two numbers is one on what these words spell
+pub of_words : (P : Option ℕ → Option ℕ → Type 0) (seed count : Option ℕ) (seed_word count_word : List ℕ)
+    → seed ≡ number_in (2 ^ 64 - 1) seed_word → count ≡ number_within 624 1000000 count_word → P seed count
+    → P (number_in (2 ^ 64 - 1) seed_word) (number_within 624 1000000 count_word)
+of_words P seed count seed_word count_word one two holds =
+    subst (λ (o : Option ℕ). P (number_in (2 ^ 64 - 1) seed_word) o) two
+    (subst (λ (o : Option ℕ). P o count) one holds)
+
+-- ---- the headline
+
+no_written : (seed count : ℕ) → Contains (written_names (trial_plan seed count) (trial_network seed count)) trial_name
+    → ⊥
+no_written seed count has = let e : true ≡ false =
+    sym (any_of (written_names (trial_plan seed count) (trial_network seed count)) trial_name has) in cc
+
+done_files : (seed count : ℕ) (held : Files) (now : Option Files)
+    → IsSomeAnd now (HeadlineOfFiles (trial_plan seed count) (trial_network seed count)
+    (packets_of (made_stream seed count)) (with_trial seed count held))
+    → IsSomeAnd now (IsTrialDone seed count held)
+done_files seed count held None is = is
+done_files seed count held (Some now) is = record {
+  stream = is.files.others trial_name (no_written seed count)
+      ∙ get-insert_same held trial_name (made_stream seed count);
+  network = is;
+}
+
+pub trial_headline : HeadlineLaw → (seed count : ℕ) (held : Files) (now : Option Files) (outcome : Outcome)
+    → IsCarriedOut (trial_made seed count) (Some held) outcome now → outcome.status ≡ Done
+    → IsSomeAnd now (IsTrialDone seed count held)
+unfolding trial_played
+trial_headline law seed count held now outcome carried done =
+    let plan = trial_plan seed count in
+    let network = trial_network seed count in
+    let whole = whole_of_carried (trial_made seed count) (Some held) now outcome carried
+    (λ fault. subst IsFault done fault) in
+    let answered : of_trial (network_meaning plan network (Some (made_stream seed count))).outcome.status ≡ Done =
+    sym (ap (λ (o : Outcome). o.status) whole.answer) ∙ done in
+    done_files seed count held now
+    (stream_done law plan network (with_trial seed count held) now (Some (made_stream seed count))
+    (is_plan seed count) (done_of_trial _ answered) whole.files)
+
+pub headline_told : HeadlineLaw → (seed count : ℕ) (told now : Option Files) (outcome : Outcome)
+    → IfSome told (λ held. IsCarriedOut (trial_made seed count) (Some held) outcome now)
+    → IfSome told (λ held. outcome.status ≡ Done → HasNumbersHeadline (Some seed) (Some count) held now)
+headline_told law seed count None now outcome carried = tt
+headline_told law seed count (Some held) now outcome carried =
+    λ done. trial_headline law seed count held now outcome carried done
