@@ -1,7 +1,9 @@
 #!/usr/bin/env bash
 # Measures what examples/many/excite.sh gains on all processors of this machine: 1,000,000 packets given to one exciter, and the same in as
-# many pieces as there are processors, at once; with the cut and the join, and without them. The best of three each, in one run. It needs
-# 4 GB on the disk of temporary files. The status is 0 where the pieces alone gain at least 0.8 times the number of processors.
+# many pieces as there are processors, at once. Three ways: the pieces alone, whose symbols go through pipes to readers that drop them, as they
+# would to the next program; the pieces alone into files; and the whole script with its cut and its join. Into files it is the system that
+# counts, since it has to find a fresh page for each 4 kB that is written. The best of three each, in one run. It needs 4 GB on the disk of
+# temporary files. The status is 0 where the pieces alone, through pipes, gain at least 0.8 times the number of processors.
 
 set -eu
 rounds=3
@@ -20,6 +22,24 @@ apart() {
     (cd "$room/pieces" && seq 0 $((processors - 1)) | xargs -P "$processors" -n 1 ./piece.sh)
 }
 
+# piped FOLDER COMMAND..: the command, beside which a reader takes what goes to each pipe of the folder.
+piped() {
+    local folder=$1 pipe
+    shift
+    for pipe in "$folder"/out-*; do
+        cat "$pipe" >/dev/null &
+    done
+    "$@"
+    wait
+}
+
+# one_piped: one exciter, whose symbols go to the pipe of its folder.
+one_piped() {
+    "$program" excite "$room/feed.ts" 7 1000 "$room/single/out-0" "$room/single/log"
+}
+
+mkdir "$room/single"
+mkfifo "$room/single/out-0"
 for ((round = 0; round < rounds; round++)); do
     measure one "$room/one.sym" "$program" excite "$room/feed.ts" 7 1000 "$room/one.sym" "$room/one.log"
     rm -rf "$room/pieces"
@@ -29,14 +49,23 @@ for ((round = 0; round < rounds; round++)); do
     cmp "$room/one.log" "$room/all.log"
     rm "$room/all.sym" "$room/one.sym"
     measure apart "$room/pieces/out-0" apart
+    rm "$room/pieces"/out-*
+    measure single "$room/said" piped "$room/single" one_piped
+    for ((piece = 0; piece < processors; piece++)); do
+        mkfifo "$room/pieces/out-$piece"
+    done
+    measure pieces "$room/said" piped "$room/pieces" apart
 done
 
+# gain NAME ONE MANY: how many times as fast the many are as the one.
 gain() {
-    awk -v name="$1" -v one="${best[one]}" -v many="$2" -v processors="$processors" \
+    awk -v name="$1" -v one="${best[$2]}" -v many="${best[$3]}" -v processors="$processors" \
         'BEGIN { printf "%s: %.2f times as fast on %d processors (%.2f of each)\n", name, one / many, processors, one / many / processors }'
 }
 
-printf '%d packets, best of %d: one process %.2f s\n' $packets $rounds "$(awk -v t="${best[one]}" 'BEGIN { print t / 1e6 }')"
-gain 'cut, pieces and join' "${best[all]}"
-gain 'the pieces alone' "${best[apart]}"
-awk -v one="${best[one]}" -v many="${best[apart]}" -v processors="$processors" -v bar=$bar 'BEGIN { exit one / many < bar * processors }'
+printf '%d packets, best of %d: one process %.2f s into a file, %.2f s through a pipe\n' $packets $rounds \
+    "$(awk -v t="${best[one]}" 'BEGIN { print t / 1e6 }')" "$(awk -v t="${best[single]}" 'BEGIN { print t / 1e6 }')"
+gain 'cut, pieces and join' one all
+gain 'the pieces alone, into files' one apart
+gain 'the pieces alone, through pipes' single pieces
+awk -v one="${best[single]}" -v many="${best[pieces]}" -v processors="$processors" -v bar=$bar 'BEGIN { exit one / many < bar * processors }'

@@ -47,11 +47,11 @@ fn each_packet_comes_back_52_blocks_later_run_after_run(rt: HostRuntime) -> Resu
             outer.code(k % 312, &data(run, k), &mut block);
             let taken = inner.take(&block, &mut out);
             if k < 52 {
-                assert_eq!(rt; taken, Taken::None, "run {run}, block {k}");
-                assert_eq!(rt; out, [0xa5; 187], "run {run}, block {k}");
+                assert!(rt; taken == Taken::None, "run {run}, block {k}");
+                assert!(rt; out == [0xa5; 187], "run {run}, block {k}");
             } else {
-                assert_eq!(rt; taken, Taken::Good { fixed: 0 }, "run {run}, block {k}");
-                assert_eq!(rt; out, data(run, k - 52), "run {run}, block {k}");
+                assert!(rt; taken == Taken::Good { fixed: 0 }, "run {run}, block {k}");
+                assert!(rt; out == data(run, k - 52), "run {run}, block {k}");
             }
         }
     }
@@ -96,9 +96,9 @@ fn ten_wrong_bytes_of_a_word_are_put_right_and_eleven_are_told(
     ] {
         let mut out = [0; 187];
         let taken = first_taken(&mut inner, &word, &mut out, rt.alloc())?;
-        assert_eq!(rt; taken, want);
-        assert_eq!(rt; [out[0], out[1], out[2], out[3]], [0xc0, 0x6d, 0x3f, 0x99]);
-        assert_eq!(rt; out[186], 0x58);
+        assert!(rt; taken == want);
+        assert!(rt; [out[0], out[1], out[2], out[3]] == [0xc0, 0x6d, 0x3f, 0x99]);
+        assert!(rt; out[186] == 0x58);
     }
     Ok(())
 }

@@ -58,8 +58,8 @@ fn a_frame_comes_back_but_for_its_last_51_packets(rt: HostRuntime) -> Result<(),
             back = next.unwrap_or(0);
         }
     }
-    assert_eq!(rt; back, 572);
+    assert!(rt; back == 572);
     receiver.finish(&mut batch);
-    assert_eq!(rt; expect_sent(&batch, back), Some(573));
+    assert!(rt; expect_sent(&batch, back) == Some(573));
     Ok(())
 }

@@ -79,9 +79,8 @@ fn marks_stand_where_624_divides(rt: HostRuntime) -> Result<(), Fail> {
     let mut bytes = vec![in rt.alloc(); 0x47u8; PACKETS * 188 + 5]?;
     let mut shelf = MemoryShelf::new(rt.alloc());
     shelf.put("in", &bytes)?;
-    assert_eq!(rt;
-        transform(rt.alloc(), &mut Each::new(Marks), "in", "out", &mut shelf),
-        done(1300, 5)
+    assert!(rt;
+        transform(rt.alloc(), &mut Each::new(Marks), "in", "out", &mut shelf) == done(1300, 5)
     );
     bytes[0] = 0xB8;
     bytes[624 * 188] = 0xB8;
@@ -103,12 +102,12 @@ fn equal_and_absent_names_are_refused(rt: HostRuntime) -> Result<(), Fail> {
     let mut shelf = MemoryShelf::new(rt.alloc());
     shelf.put("in", &[1, 2, 3])?;
     for (input, output, status) in [("in", "in", Status::Same), ("no", "out", Status::Absent(0))] {
-        assert_eq!(rt;
-            transform(rt.alloc(), &mut Each::new(Marks), input, output, &mut shelf),
-            refused(status)
+        assert!(rt;
+            transform(rt.alloc(), &mut Each::new(Marks), input, output, &mut shelf)
+                == refused(status)
         );
     }
-    assert_eq!(rt; shelf.get("in").map(|file| file.len()), Some(3));
+    assert!(rt; shelf.get("in").map(|file| file.len()) == Some(3));
     assert!(rt; shelf.get("out").is_none());
     Ok(())
 }
@@ -119,11 +118,11 @@ fn a_refused_packet_keeps_the_groups_before_it(rt: HostRuntime) -> Result<(), Fa
     let mut shelf = MemoryShelf::new(rt.alloc());
     bytes[1203 * 188] = 0x46;
     shelf.put("in", &bytes)?;
-    assert_eq!(rt;
-        transform(rt.alloc(), &mut Each::new(Marks), "in", "out", &mut shelf),
-        refused(Status::Packet(1203))
+    assert!(rt;
+        transform(rt.alloc(), &mut Each::new(Marks), "in", "out", &mut shelf)
+            == refused(Status::Packet(1203))
     );
-    assert_eq!(rt; shelf.get("out").map(|file| file.len()), Some(1200 * 188));
+    assert!(rt; shelf.get("out").map(|file| file.len()) == Some(1200 * 188));
     Ok(())
 }
 
@@ -135,9 +134,8 @@ fn faults_leave_front_parts(rt: HostRuntime) -> Result<(), Fail> {
     shelf.fail(Call::Read, 6)?;
     shelf.fail(Call::Append, 3)?;
     for status in [Status::ReadFault, Status::WriteFault] {
-        assert_eq!(rt;
-            transform(rt.alloc(), &mut Each::new(Marks), "in", "out", &mut shelf),
-            refused(status)
+        assert!(rt;
+            transform(rt.alloc(), &mut Each::new(Marks), "in", "out", &mut shelf) == refused(status)
         );
     }
     Ok(())
@@ -242,9 +240,8 @@ fn two_outputs_stand_side_by_side(rt: HostRuntime) -> Result<(), Fail> {
         match Two::new(rt.alloc(), "out", "log") {
             Err(no) => return Err(no.into()),
             Ok(mut outlet) => {
-                assert_eq!(rt;
-                    carry_out(rt.alloc(), &mut engine, input, &mut outlet, &mut shelf),
-                    outcome
+                assert!(rt;
+                    carry_out(rt.alloc(), &mut engine, input, &mut outlet, &mut shelf) == outcome
                 );
             }
         }

@@ -1,5 +1,8 @@
 pub mod Apart
 pub mod BytesOf
+pub mod DvbBack
+pub mod DvbChunks
+pub mod DvbReads
 pub mod Feeding
 pub mod LifeOn
 pub mod Recipe

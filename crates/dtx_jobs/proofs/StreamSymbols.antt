@@ -85,7 +85,7 @@ pub all_in_groups : (packets : List (List ℕ)) → length packets % 4 ≡ 0 →
 all_in_groups packets whole = take_all (in_groups packets) packets (omega (arith, whole))
 
 -- the first packets of a file
-front_of : (file : List ℕ) (m : ℕ) → m ≤ whole_packets file → take m (packets_of file) ≡ packets_from file 0 m
+pub front_of : (file : List ℕ) (m : ℕ) → m ≤ whole_packets file → take m (packets_of file) ≡ packets_from file 0 m
 front_of file m within =
     let rest : m + (whole_packets file - m) ≡ whole_packets file = omega (arith, within) in
     ap (take m) (ap (packets_from file 0) (sym rest) ∙ packets_from-append file 0 m (whole_packets file - m))

@@ -3,6 +3,7 @@ use Rattle.dtx_meaning.specs.declared.status.Status.{Status}
 use Rattle.dtx_meaning.specs.declared.status.Status.TheVariants.{Plan, Packet, TooLong, OutOfFeed, OutOfAir, NoSync}
 use Rattle.dtx_words.specs.declared.rows.Command.{Command}
 use Rattle.dtx_words.specs.declared.rows.Command.TheVariants.{Adapt, Code, Excite, Receive, Make, Hurt, Place, Trial}
+use Rattle.dtx_words.specs.declared.rows.Command.TheVariants.{DvbCode, DvbRead}
 
 -- The command may be answered so, whatever the words and the files are: a refusal of a plan where it reads one, of a
 -- packet where it judges them, and so on.
@@ -38,4 +39,13 @@ Knows Place (OutOfAir entry) = ⊥
 Knows Place NoSync = ⊥
 Knows Trial (Plan refusal) = ⊥
 Knows Trial (OutOfAir entry) = ⊥
+Knows DvbCode (Plan refusal) = ⊥
+Knows DvbCode (OutOfFeed event) = ⊥
+Knows DvbCode (OutOfAir entry) = ⊥
+Knows DvbCode NoSync = ⊥
+Knows DvbRead (Plan refusal) = ⊥
+Knows DvbRead (Packet k) = ⊥
+Knows DvbRead (OutOfFeed event) = ⊥
+Knows DvbRead (OutOfAir entry) = ⊥
+Knows DvbRead NoSync = ⊥
 Knows command status = Unit {0}

@@ -14,10 +14,12 @@ use Rattle.dtx_plan.specs.declared.damage.Damage.{Damage}
 use Rattle.dtx_plan.specs.declared.plan.Plan as plans
 use Rattle.dtx_words.specs.declared.rows.Command.{Command}
 use Rattle.dtx_words.specs.declared.rows.Command.TheVariants.{Adapt, Code, Excite, Receive, Net, Make, Hurt, Place}
-use Rattle.dtx_words.specs.declared.rows.Command.TheVariants.{Trial}
+use Rattle.dtx_words.specs.declared.rows.Command.TheVariants.{Trial, DvbCode, DvbRead}
 use Rattle.dtx_jobs.specs.Adapt.{feeding}
 use Rattle.dtx_jobs.specs.Answers.{Knows}
 use Rattle.dtx_jobs.specs.Code.{coding}
+use Rattle.dtx_jobs.specs.DvbCode.{dvb_coding}
+use Rattle.dtx_jobs.specs.DvbRead.{dvb_reading}
 use Rattle.dtx_jobs.specs.Excite.{exciting}
 use Rattle.dtx_jobs.specs.Hurt.{hurting, hurt_end}
 use Rattle.dtx_jobs.specs.PlanFile.{IsPlanRefusal}
@@ -157,6 +159,39 @@ hurt_knows damage ReadFault is = tt
 hurt_knows damage WriteFault is = tt
 hurt_knows damage Memory is = tt
 
+-- a stream that the outer coding of DVB sends
+pub dvb_code_knows : (status : Status) → IsAnswerOf dvb_coding status → Knows DvbCode status
+dvb_code_knows Done is = tt
+dvb_code_knows Usage is = tt
+dvb_code_knows Same is = tt
+dvb_code_knows (Absent input) is = tt
+dvb_code_knows (Plan refusal) (given, loose, is) = let e : Plan refusal ≡ Done = is in cc
+dvb_code_knows (Packet k) is = tt
+dvb_code_knows TooLong is = tt
+dvb_code_knows (OutOfFeed event) (given, loose, is) = let e : OutOfFeed event ≡ Done = is in cc
+dvb_code_knows (OutOfAir entry) (given, loose, is) = let e : OutOfAir entry ≡ Done = is in cc
+dvb_code_knows NoSync (given, loose, is) = let e : NoSync ≡ Done = is in cc
+dvb_code_knows ReadFault is = tt
+dvb_code_knows WriteFault is = tt
+dvb_code_knows Memory is = tt
+
+-- blocks that are read back
+pub dvb_read_knows : (status : Status) → IsAnswerOf dvb_reading status → Knows DvbRead status
+dvb_read_knows Done is = tt
+dvb_read_knows Usage is = tt
+dvb_read_knows Same is = tt
+dvb_read_knows (Absent input) is = tt
+dvb_read_knows (Plan refusal) (given, loose, is) = let e : Plan refusal ≡ Done = is in cc
+dvb_read_knows (Packet k) (inl (unit, refused)) = let e : true ≡ false = refused in cc
+dvb_read_knows (Packet k) (inr (given, loose, is)) = let e : Packet k ≡ Done = is in cc
+dvb_read_knows TooLong is = tt
+dvb_read_knows (OutOfFeed event) (given, loose, is) = let e : OutOfFeed event ≡ Done = is in cc
+dvb_read_knows (OutOfAir entry) (given, loose, is) = let e : OutOfAir entry ≡ Done = is in cc
+dvb_read_knows NoSync (given, loose, is) = let e : NoSync ≡ Done = is in cc
+dvb_read_knows ReadFault is = tt
+dvb_read_knows WriteFault is = tt
+dvb_read_knows Memory is = tt
+
 -- ---- equal names, plans, faults
 
 same_known : (command : Command) → Knows command Same
@@ -169,6 +204,8 @@ same_known Make = tt
 same_known Hurt = tt
 same_known Place = tt
 same_known Trial = tt
+same_known DvbCode = tt
+same_known DvbRead = tt
 
 -- a command of one input and one output, whose names may be equal
 pub transformed_knows : (recipe : Recipe) (command : Command) (status : Status)

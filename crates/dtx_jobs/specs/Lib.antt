@@ -5,6 +5,13 @@ pub mod Code
 pub mod CodeLaws
 pub mod Damaged
 pub mod DamagedLaws
+pub mod DvbBack
+pub mod DvbCode
+pub mod DvbCodeLaws
+pub mod DvbCoding
+pub mod DvbRead
+pub mod DvbReadLaws
+pub mod DvbReading
 pub mod Excitation
 pub mod Excite
 pub mod ExciteLaws

@@ -16,6 +16,11 @@ abbrev pub two_same : List (List ℕ) → Option Bool
 two_same (verb ∷ input ∷ output ∷ []) = Some (bytes_eq input output)
 two_same words = None
 
+-- of `.. .. IN OUT`, whose command has two words
+abbrev pub two_behind_same : List (List ℕ) → Option Bool
+two_behind_same (verb ∷ second ∷ input ∷ output ∷ []) = Some (bytes_eq input output)
+two_behind_same words = None
+
 -- of `.. A B OUT`
 abbrev pub three_same : List (List ℕ) → Option Bool
 three_same (verb ∷ first ∷ second ∷ output ∷ []) = Some (is_some (repeated (first ∷ second ∷ output ∷ [])))

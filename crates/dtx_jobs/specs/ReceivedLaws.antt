@@ -29,12 +29,12 @@ use Rattle.dtx_jobs.specs.SymbolFileLaws.{file_segments-whole}
 
 -- ---- the end of a file whose units are all allowed
 
-none_found : (xs : List ℕ) → find (λ _. not true) xs ≡ None
+pub none_found : (xs : List ℕ) → find (λ _. not true) xs ≡ None
 none_found [] = refl
 none_found (x ∷ xs) = none_found xs
 
 -- where it has no more units than it may have, it is read to its end
-all_read : (shape : Shape) (recipe : Recipe) (names : List (List ℕ)) (file : List ℕ)
+pub all_read : (shape : Shape) (recipe : Recipe) (names : List (List ℕ)) (file : List ℕ)
     → first_refused shape recipe file ≡ None → whole_units shape file ≤ shape.limit
     → meaning_of_file shape recipe names file
     ≡ meaning_at recipe names (first_units shape file (whole_units shape file)) (Whole (length file % shape.unit))

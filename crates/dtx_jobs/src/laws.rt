@@ -1,6 +1,7 @@
 //! Laws of what the commands make, and of the files that they read and write: packets written one behind another are
 //! read back, a feed too, and the packets of a file have 188 bytes.
 
+pub mod dvb_streams;
 pub mod placing;
 
 ghost use Rattle.std.specs.Prelude.{◌≡◌, ℕ, List, All, length};

@@ -4,7 +4,8 @@ ghost use Rattle.std.specs.FinMap as files;
 ghost use Rattle.dtx_outside.specs.Counts.{HasGone};
 ghost use Rattle.dtx_meaning.specs.Status.{blame_of_answer};
 ghost use Rattle.dtx_plan.specs.Sound.{IsSound, HasSoundNet, AreDamages};
-ghost use Rattle.dtx_jobs.specs.PlanFile.{IsChangesRead, IsPlanRead, IsPlanRefusal, IsReadAll, IsReadOn, IsReadRefusal};
+ghost use Rattle.dtx_jobs.specs.PlanFile.{IsChangesRead, IsPlanRead, IsPlanRefusal, IsReadAll, IsReadOn};
+ghost use Rattle.dtx_jobs.specs.PlanFile.{IsReadRefusal};
 ghost use Rattle.dtx_jobs.specs.PlanFile.{IsSmallFile};
 
 use dtx_meaning::{Status, of_plan, of_read};

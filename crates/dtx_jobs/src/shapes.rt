@@ -3,6 +3,7 @@ ghost use Rattle.std.specs.Prelude.{◌≡◌};
 ghost use Rattle.dtx_engine.specs.Recipe.{IsSound};
 ghost use Rattle.dtx_jobs.specs.Shapes as shapes;
 
+use dtx_dvb::BLOCK;
 use dtx_engine::Shape;
 use dtx_packets::PIECE_PACKETS;
 use dtx_sizes::{
@@ -32,6 +33,19 @@ pub fn single_packets() -> Shape
 {
     Shape {
         unit: PACKET,
+        units: PIECE_PACKETS,
+        group: 1,
+        limit: MOST_PACKETS,
+    }
+}
+
+/// Blocks of 204 bytes (EN 300 429, 7.2), as many as there may be packets.
+pub fn blocks() -> Shape
+    ensures same { result ≡ shapes.blocks }
+    ensures sound { IsSound result }
+{
+    Shape {
+        unit: BLOCK,
         units: PIECE_PACKETS,
         group: 1,
         limit: MOST_PACKETS,

@@ -101,11 +101,11 @@ mod tests {
         let mut sink = MemorySink::new(rt.alloc());
         sink.fail(1)?;
         for answer in [Ok(3), Err(SinkNo::Failed), Ok(3)] {
-            assert_eq!(rt; sink.write(b"abc"), answer);
+            assert!(rt; sink.write(b"abc") == answer);
         }
-        assert_eq!(rt; sink.write(b""), Ok(0));
-        assert_eq!(rt; sink.bytes(), b"abcabc".as_slice());
-        assert_eq!(rt; sink.calls(), 4);
+        assert!(rt; sink.write(b"") == Ok(0));
+        assert!(rt; sink.bytes() == b"abcabc".as_slice());
+        assert!(rt; sink.calls() == 4);
         Ok(())
     }
 }

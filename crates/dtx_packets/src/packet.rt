@@ -65,10 +65,10 @@ mod tests {
         for (header, sync, pid, error, counter) in cases {
             let mut packet = Packet([0; PACKET]);
             packet.0[..4].copy_from_slice(&header);
-            assert_eq!(rt; packet.sync(), sync);
-            assert_eq!(rt; packet.pid(), pid);
-            assert_eq!(rt; packet.error(), error);
-            assert_eq!(rt; packet.counter(), counter);
+            assert!(rt; packet.sync() == sync);
+            assert!(rt; packet.pid() == pid);
+            assert!(rt; packet.error() == error);
+            assert!(rt; packet.counter() == counter);
         }
     }
 
@@ -81,7 +81,7 @@ mod tests {
             assert!(rt; packet.error());
             let mut wanted = Packet([0x5A; PACKET]);
             wanted.0[1] = after;
-            assert_eq!(rt; packet, wanted);
+            assert!(rt; packet == wanted);
         }
     }
 }

@@ -197,15 +197,12 @@ mod tests {
         shelf.put("four", &[0x47; 4 * PACKET])?;
         let mut reader = PacketReader::new(3);
         for _ in 0..3 {
-            assert_eq!(rt;
-                reader.next(&mut shelf, "four"),
-                Ok(Some(Packet([0x47; PACKET])))
-            );
+            assert!(rt; reader.next(&mut shelf, "four") == Ok(Some(Packet([0x47; PACKET]))));
         }
         for _ in 0..2 {
-            assert_eq!(rt; reader.next(&mut shelf, "four"), Err(NextNo::TooLong));
+            assert!(rt; reader.next(&mut shelf, "four") == Err(NextNo::TooLong));
         }
-        assert_eq!(rt; reader.next(&mut shelf, "none"), Err(NextNo::Absent));
+        assert!(rt; reader.next(&mut shelf, "none") == Err(NextNo::Absent));
         Ok(())
     }
 
@@ -215,13 +212,10 @@ mod tests {
         shelf.put("loose", &[0x47; 3 * PACKET + 187])?;
         let mut reader = PacketReader::new(3);
         for _ in 0..3 {
-            assert_eq!(rt;
-                reader.next(&mut shelf, "loose"),
-                Ok(Some(Packet([0x47; PACKET])))
-            );
+            assert!(rt; reader.next(&mut shelf, "loose") == Ok(Some(Packet([0x47; PACKET]))));
         }
-        assert_eq!(rt; reader.next(&mut shelf, "loose"), Ok(None));
-        assert_eq!(rt; reader.loose(), 187);
+        assert!(rt; reader.next(&mut shelf, "loose") == Ok(None));
+        assert!(rt; reader.loose() == 187);
         Ok(())
     }
 
@@ -241,13 +235,10 @@ mod tests {
             (1, [6, 4, 5]),
             (0, [6, 4, 5]),
         ] {
-            assert_eq!(rt;
-                reader.next_many(&mut shelf, "seven", &mut packets),
-                Ok(count)
-            );
-            assert_eq!(rt; packets.map(|packet| packet.sync()), syncs);
+            assert!(rt; reader.next_many(&mut shelf, "seven", &mut packets) == Ok(count));
+            assert!(rt; packets.map(|packet| packet.sync()) == syncs);
         }
-        assert_eq!(rt; reader.loose(), 5);
+        assert!(rt; reader.loose() == 5);
         Ok(())
     }
 }

@@ -1,5 +1,6 @@
 -- The files of the transmitters while they are begun.
-use Rattle.std.proofs.Common.{◌≡◌, ◌⊎◌, ℕ, ◌+◌, List, [], ◌∷◌, ◌++◌, length, take, drop, refl, sym, ap, subst, ◌∙◌, inl}
+use Rattle.std.proofs.Common.{◌≡◌, ◌⊎◌, ℕ, ◌+◌, List, [], ◌∷◌, ◌++◌, length, take, drop, refl, sym, ap, subst, ◌∙◌}
+use Rattle.std.proofs.Common.{inl}
 use Rattle.std.proofs.Common.{inr}
 use Rattle.std.specs.Prelude.{Option, Some, Result, slice_get}
 use Rattle.std.specs.Option.{option_map}

@@ -19,7 +19,7 @@ use Rattle.dtx_plan.specs.Sound.{to_of}
 use Rattle.dtx_meaning.specs.declared.status.Status.{Status}
 use Rattle.dtx_net.specs.Changed.{flipped_packet, lied_packet}
 use Rattle.dtx_net.specs.Steps.{Step, packet_step, restart_step, transmitter_place, feed_packet, steps_of, actions_of}
-use Rattle.dtx_schedule.specs.declared.stage.Stage.{Stage}
+use Rattle.dtx_schedule.specs.declared.playout.Playout.{Playout}
 use Rattle.dtx_schedule.specs.Inside.{reads_past}
 use Rattle.dtx_schedule.specs.PlayedSoFar.{IsDoneOf, packet_steps}
 
@@ -92,13 +92,13 @@ piece_on before who feed from m n =
 
 -- what was done with the transmitter at a place is what its event does
 pub event_done : (ts : List Transmitter) (before own : List Step) (held : Files) (result : Result (Unit {0}) Status)
-    (stage : Stage) (now : Option Files) (who : ℕ) (feed : List (List ℕ)) (e kind : Event)
+    (playout : Playout) (now : Option Files) (who : ℕ) (feed : List (List ℕ)) (e kind : Event)
     → e ≡ kind → transmitter_place (to_of e) ts ≡ Some who → (transmitter_place (to_of kind) ts ≡ Some who
     → own ≡ steps_of ts feed kind)
-    → IsDoneOf ts (before ++ own) held result stage now
-    → IsDoneOf ts (before ++ steps_of ts feed e) held result stage now
-event_done ts before own held result stage now who feed e kind is place same done =
-    subst (λ steps. IsDoneOf ts (before ++ steps) held result stage now)
+    → IsDoneOf ts (before ++ own) held result playout now
+    → IsDoneOf ts (before ++ steps_of ts feed e) held result playout now
+event_done ts before own held result playout now who feed e kind is place same done =
+    subst (λ steps. IsDoneOf ts (before ++ steps) held result playout now)
     (same (subst (λ e. transmitter_place (to_of e) ts ≡ Some who) is place) ∙ ap (steps_of ts feed) (sym is)) done
 
 -- a part of the feed, or one packet of it, that is within the feed

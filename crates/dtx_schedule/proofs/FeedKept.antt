@@ -9,7 +9,7 @@ use Rattle.dtx_net.specs.Steps.{Step}
 use Rattle.dtx_outside.specs.Shelf.{Files}
 use Rattle.dtx_plan.specs.declared.transmitter.Transmitter.{Transmitter}
 use Rattle.dtx_words.specs.NetworkNames.{feed_name, symbol_name, log_name}
-use Rattle.dtx_schedule.specs.declared.stage.Stage.{Stage}
+use Rattle.dtx_schedule.specs.declared.playout.Playout.{Playout}
 use Rattle.dtx_schedule.specs.PlayedSoFar.{IsPlayedSoFar, IsUnderWay}
 use Rattle.dtx_schedule.specs.TransmitterFiles.{Contents, files_of, played, played_outputs}
 use Rattle.dtx_schedule.specs.FilesLaws.{get_past, with_outputs-told}
@@ -30,24 +30,24 @@ feed_apart (t ∷ ts) contents = (
 )
 
 -- what is read of the files as they are is read of the feed as it was
-pub feed_read : (P : List ℕ → Type 0) (ts : List Transmitter) (steps : List Step) (held : Files) (stage : Stage)
+pub feed_read : (P : List ℕ → Type 0) (ts : List Transmitter) (steps : List Step) (held : Files) (playout : Playout)
     (now : Option Files) (feed : List ℕ)
-    → get held feed_name ≡ Some feed → IsPlayedSoFar ts steps held stage now
+    → get held feed_name ≡ Some feed → IsPlayedSoFar ts steps held playout now
     → IfSome now (λ files. (feed : List ℕ) → get files feed_name ≡ Some feed → P feed) → P feed
-feed_read P ts steps held stage now feed there is read =
+feed_read P ts steps held playout now feed there is read =
     subst (λ (told : Option Files). IfSome told (λ files. (feed : List ℕ) → get files feed_name ≡ Some feed → P feed))
     (is.files ∙ with_outputs-told (played_outputs ts steps) held) read
     feed (get_past (played_outputs ts steps) feed_name held (feed_apart ts (played steps)) ∙ there)
 
 -- reading leaves the files
-pub kept_on : (ts : List Transmitter) (steps : List Step) (held : Files) (stage : Stage) (now mid : Option Files)
+pub kept_on : (ts : List Transmitter) (steps : List Step) (held : Files) (playout : Playout) (now mid : Option Files)
     → mid ≡ now
-    → IsPlayedSoFar ts steps held stage now → IsPlayedSoFar ts steps held stage mid
-kept_on ts steps held stage now mid kept is = subst (IsPlayedSoFar ts steps held stage) (sym kept) is
+    → IsPlayedSoFar ts steps held playout now → IsPlayedSoFar ts steps held playout mid
+kept_on ts steps held playout now mid kept is = subst (IsPlayedSoFar ts steps held playout) (sym kept) is
 
 -- where the feed isn't read no step is under way
-pub unread : (ts : List Transmitter) (steps rest : List Step) (held : Files) (stage : Stage) (now mid : Option Files)
-    (status : Status) → mid ≡ now
-    → IsPlayedSoFar ts steps held stage now → IsFault status → IsFault status × IsUnderWay ts (steps ++ rest) held mid
-unread ts steps rest held stage now mid status kept is fault =
-    (fault, at_rest ts steps rest held mid (kept_on ts steps held stage now mid kept is).files)
+pub unread : (ts : List Transmitter) (steps rest : List Step) (held : Files) (playout : Playout)
+    (now mid : Option Files) (status : Status) → mid ≡ now
+    → IsPlayedSoFar ts steps held playout now → IsFault status → IsFault status × IsUnderWay ts (steps ++ rest) held mid
+unread ts steps rest held playout now mid status kept is fault =
+    (fault, at_rest ts steps rest held mid (kept_on ts steps held playout now mid kept is).files)

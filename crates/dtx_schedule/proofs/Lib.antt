@@ -9,5 +9,5 @@ pub mod ProgressOf
 pub mod Refusals
 pub mod ScheduleOn
 pub mod SoFar
-pub mod StageOn
+pub mod PlayoutOn
 pub mod Written

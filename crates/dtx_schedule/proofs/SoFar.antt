@@ -1,5 +1,6 @@
 -- How far a schedule is played, once more steps are done.
-use Rattle.std.proofs.Common.{◌≡◌, ℕ, ◌+◌, ◌<◌, List, [], ◌∷◌, ◌++◌, map, take, drop, length, refl, sym, ap, subst, ◌∙◌}
+use Rattle.std.proofs.Common.{◌≡◌, ℕ, ◌+◌, ◌<◌, List, [], ◌∷◌, ◌++◌, map, take, drop, length, refl, sym, ap, subst}
+use Rattle.std.proofs.Common.{◌∙◌}
 use Rattle.std.proofs.Common.{append_assoc, get_or}
 use Rattle.std.specs.Prelude.{Option, Err}
 use Rattle.std.specs.List.{range_with_len}
@@ -14,16 +15,16 @@ use Rattle.dtx_outside.specs.declared.shelf.WriteNo.TheVariants as write
 use Rattle.dtx_packets.specs.declared.packet.Packet as packet
 use Rattle.dtx_plan.specs.declared.transmitter.Transmitter.{Transmitter}
 use Rattle.dtx_net.specs.Steps.{Step, packet_step}
-use Rattle.dtx_schedule.specs.declared.stage.Stage.{Stage}
+use Rattle.dtx_schedule.specs.declared.playout.Playout.{Playout}
 use Rattle.dtx_schedule.specs.PlayedSoFar.{IsDoneOf, IsUnderWay, packet_steps}
 use Rattle.dtx_schedule.proofs.Fronts.{under_way_more}
 
 -- where a file isn't written
-pub unwritten : (ts : List Transmitter) (steps : List Step) (held : Files) (stage : Stage) (now : Option Files)
+pub unwritten : (ts : List Transmitter) (steps : List Step) (held : Files) (playout : Playout) (now : Option Files)
     (cause : WriteNo)
-    → IsUnderWay ts steps held now → IsDoneOf ts steps held (Err (of_write cause)) stage now
-unwritten ts steps held stage now write.Failed left = (tt, left)
-unwritten ts steps held stage now write.Memory left = (tt, left)
+    → IsUnderWay ts steps held now → IsDoneOf ts steps held (Err (of_write cause)) playout now
+unwritten ts steps held playout now write.Failed left = (tt, left)
+unwritten ts steps held playout now write.Memory left = (tt, left)
 
 -- a fault while the first of some steps are done is one while all are
 pub fault_more : (ts : List Transmitter) (some more all : List Step) (held : Files) (status : Status)

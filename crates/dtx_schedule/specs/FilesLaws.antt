@@ -1,6 +1,7 @@
 -- The files of transmitters as outputs: what each holds, the two of one transmitter written anew, and both before any
 -- step.
-use Rattle.std.proofs.Common.{◌≡◌, ◌≢◌, ◌⊎◌, ℕ, zero, suc, ◌<◌, ◌^◌, List, [], ◌∷◌, refl, sym, ap, subst, ◌∙◌, inl, inr}
+use Rattle.std.proofs.Common.{◌≡◌, ◌≢◌, ◌⊎◌, ℕ, zero, suc, ◌<◌, ◌^◌, List, [], ◌∷◌, refl, sym, ap, subst, ◌∙◌, inl}
+use Rattle.std.proofs.Common.{inr}
 use Rattle.std.proofs.Common.{arith}
 use Rattle.std.specs.Prelude.{Some, slice_get}
 use Rattle.std.specs.FinMap.{get, insert}

@@ -3,7 +3,7 @@ pub mod Inside
 pub mod Pair
 pub mod Played
 pub mod PlayedSoFar
+pub mod Playout
 pub mod Progress
 pub mod ProgressLaws
-pub mod Staged
 pub mod TransmitterFiles

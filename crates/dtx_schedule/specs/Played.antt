@@ -11,9 +11,9 @@ use Rattle.dtx_plan.specs.declared.transmitter.Transmitter.{Transmitter}
 use Rattle.dtx_net.specs.Steps.{Step}
 use Rattle.dtx_schedule.specs.TransmitterFiles.{files_of, nothing, played_outputs}
 use Rattle.dtx_schedule.specs.PlayedSoFar.{IsPlayedSoFar, IsUnderWay}
-use Rattle.dtx_schedule.specs.Staged.{IsStaged}
+use Rattle.dtx_schedule.specs.Playout.{IsPlayout}
 use Rattle.dtx_schedule.specs.declared.playing.Played.{Played}
-use Rattle.dtx_schedule.specs.declared.stage.Stage.{Stage}
+use Rattle.dtx_schedule.specs.declared.playout.Playout.{Playout}
 
 -- events of transmitters of the plan, as many as a plan has at most
 pub record AreEvents (ts : List Transmitter) (events : List Event) : Type 0 where
@@ -46,12 +46,12 @@ pub record IsPlayFault (ts : List Transmitter) (steps : List Step) (held : Files
 pub record ArePlayed (ts : List Transmitter) (steps : List Step) (held : Files) (played : Played)
     (now : Option Files) : Type 0 where
   pub files : now ≡ with_outputs (played_outputs ts steps) (Some held)
-  pub staged : IsStaged ts played.stage steps
+  pub playing : IsPlayout ts played.playout steps
 
 -- What beginning the files and playing a schedule of these steps into them leaves.
-abbrev pub IsRunOf : List Transmitter → List Step → Files → Result (Unit {0}) Status → Stage → Option Files → Type 0
-IsRunOf ts steps held (Ok _) stage now = IsPlayedSoFar ts steps held stage now
-IsRunOf ts steps held (Err status) stage now = IsPlayFault ts steps held status now
+abbrev pub IsRunOf : List Transmitter → List Step → Files → Result (Unit {0}) Status → Playout → Option Files → Type 0
+IsRunOf ts steps held (Ok _) playout now = IsPlayedSoFar ts steps held playout now
+IsRunOf ts steps held (Err status) playout now = IsPlayFault ts steps held status now
 
 -- What playing a schedule of these steps answers and leaves of the files that were held before.
 abbrev pub IsPlayOf : List Transmitter → List Step → Files → Result Played Status → Option Files → Type 0

@@ -13,18 +13,18 @@ use Rattle.dtx_packets.specs.declared.refusal.NextNo.TheVariants as next
 use Rattle.dtx_packets.specs.Packets.{packet_at, packets_from}
 use Rattle.dtx_plan.specs.declared.transmitter.Transmitter.{Transmitter}
 use Rattle.dtx_net.specs.Steps.{Step, packet_step}
-use Rattle.dtx_schedule.specs.declared.stage.Stage.{Stage}
+use Rattle.dtx_schedule.specs.declared.playout.Playout.{Playout}
 use Rattle.dtx_schedule.specs.TransmitterFiles.{AreFronts, Contents, files_of, played, played_outputs}
-use Rattle.dtx_schedule.specs.Staged.{IsStaged}
+use Rattle.dtx_schedule.specs.Playout.{IsPlayout}
 
 -- so many packets are given to the transmitter at a place, in order
 abbrev pub packet_steps : ℕ → List (List ℕ) → List Step
 packet_steps who packets = map (packet_step who) packets
 
--- these steps were done with the stage, and the files are those of them
-pub record IsPlayedSoFar (ts : List Transmitter) (steps : List Step) (held : Files) (stage : Stage)
+-- these steps were done with the playout, and the files are those of them
+pub record IsPlayedSoFar (ts : List Transmitter) (steps : List Step) (held : Files) (playout : Playout)
     (now : Option Files) : Type 0 where
-  pub staged : IsStaged ts stage steps
+  pub playing : IsPlayout ts playout steps
   pub files : now ≡ with_outputs (played_outputs ts steps) (Some held)
 
 -- The first of these steps are done, and at most one more is under way: each file of a transmitter has all that those
@@ -42,9 +42,9 @@ pub record IsUnderWay (ts : List Transmitter) (steps : List Step) (held : Files)
 
 -- what doing leaves that was to bring the steps to these: they are done; or a fault was met, and one of them is under
 -- way
-abbrev pub IsDoneOf : List Transmitter → List Step → Files → Result (Unit {0}) Status → Stage → Option Files → Type 0
-IsDoneOf ts steps held (Ok _) stage now = IsPlayedSoFar ts steps held stage now
-IsDoneOf ts steps held (Err status) stage now = IsFault status × IsUnderWay ts steps held now
+abbrev pub IsDoneOf : List Transmitter → List Step → Files → Result (Unit {0}) Status → Playout → Option Files → Type 0
+IsDoneOf ts steps held (Ok _) playout now = IsPlayedSoFar ts steps held playout now
+IsDoneOf ts steps held (Err status) playout now = IsFault status × IsUnderWay ts steps held now
 
 -- what writing what one step brings leaves
 abbrev pub IsWrittenOf : List Transmitter → List Step → Files → Result (Unit {0}) WriteNo → Option Files → Type 0
@@ -88,9 +88,9 @@ pub record IsPieceCount (count : ℕ) (into : List packet.Packet) (n : ℕ) : Ty
 
 -- what giving the first packets of a part, which begins with a packet of the feed, leaves: so many more are given; or a
 -- fault was met while one of all packets of the part was
-abbrev pub IsGivenOf : List Transmitter → List Step → ℕ → List ℕ → ℕ → ℕ → Files → Result ℕ Status → Stage
+abbrev pub IsGivenOf : List Transmitter → List Step → ℕ → List ℕ → ℕ → ℕ → Files → Result ℕ Status → Playout
     → Option Files → Type 0
-IsGivenOf ts before who feed from count held (Ok n) stage now =
-    IsPlayedSoFar ts (before ++ packet_steps who (packets_from feed from n)) held stage now
-IsGivenOf ts before who feed from count held (Err status) stage now =
+IsGivenOf ts before who feed from count held (Ok n) playout now =
+    IsPlayedSoFar ts (before ++ packet_steps who (packets_from feed from n)) held playout now
+IsGivenOf ts before who feed from count held (Err status) playout now =
     IsFault status × IsUnderWay ts (before ++ packet_steps who (packets_from feed from count)) held now

@@ -3,7 +3,7 @@ ghost use Rattle.std.specs.Prelude.{List};
 ghost use Rattle.dtx_outside.specs.Counts.{HasGone, blame_of_write};
 ghost use Rattle.dtx_plan.specs.declared.transmitter.Transmitter.{Transmitter};
 ghost use Rattle.dtx_schedule.specs.Played.{IsBegunOf};
-ghost use Rattle.dtx_schedule.specs.Staged.{AreNames};
+ghost use Rattle.dtx_schedule.specs.Playout.{AreNames};
 
 use crate::pair::FileNames;
 use dtx_outside::{Shelf, WriteNo};

@@ -11,11 +11,11 @@ ghost use Rattle.dtx_plan.specs.declared.transmitter.Transmitter.{Transmitter};
 ghost use Rattle.dtx_words.specs.NetworkNames.{feed_name};
 ghost use Rattle.dtx_schedule.specs.Inside.{reads_past};
 ghost use Rattle.dtx_schedule.specs.PlayedSoFar.{IsDoneOf, IsGivenOf, IsOfFeed, IsPlayedSoFar, packet_steps};
-ghost use Rattle.dtx_schedule.specs.Staged.{HasTransmitter, IsSomeStage};
+ghost use Rattle.dtx_schedule.specs.Playout.{HasTransmitter, IsSomePlayout};
 
 use crate::giving::{MadePart, give_all, give_made};
 use crate::part::{Part, read_one, read_piece};
-use crate::stage::Stage;
+use crate::playout::Playout;
 use dtx_meaning::Status;
 use dtx_net::flipped;
 use dtx_outside::Shelf;
@@ -28,24 +28,25 @@ pub(crate) fn play_event<S: Shelf>(
     number: u32,
     event: &Event,
     packets: &mut [Packet],
-    stage: &mut Stage,
+    playout: &mut Playout,
 ) -> Result<(), Status>
     requires room { length packets.old ≡ PIECE_PACKETS }
     requires event { IsInRange event.now }
-    requires some { IsSomeStage stage.old }
-    requires most { stage.old.steps + most_packets ≤ 2 ^ 60 }
+    requires some { IsSomePlayout playout.old }
+    requires most { playout.old.steps + most_packets ≤ 2 ^ 60 }
     ensures done { (ts : List Transmitter) (held : Files) (before : List Step) (feed : List ℕ)
         → files.get held feed_name ≡ Some feed
-        → reads_past (whole_packets feed) event.now ≡ false → IsPlayedSoFar ts before held stage.old (S.files shelf.old)
-        → IsDoneOf ts (before ++ steps_of ts (packets_of feed) event.now) held result stage.new (S.files shelf.new) }
-    ensures some { IsOk result → IsSomeStage stage.new }
-    ensures steps { IsOk result → stage.new.steps ≤ stage.old.steps + most_packets }
+        → reads_past (whole_packets feed) event.now ≡ false
+        → IsPlayedSoFar ts before held playout.old (S.files shelf.old)
+        → IsDoneOf ts (before ++ steps_of ts (packets_of feed) event.now) held result playout.new (S.files shelf.new) }
+    ensures some { IsOk result → IsSomePlayout playout.new }
+    ensures steps { IsOk result → playout.new.steps ≤ playout.old.steps + most_packets }
     ensures refusal { IfErr result IsOfFeed }
     ensures gone { HasGone (S.counts shelf.old) (S.counts shelf.new) (blame_of_answer result) }
 {
     // An event's transmitter is one of the plan's, so there is a place.
-    match stage.find(to_of(event)) {
-        Some(who) => play_at(shelf, who, number, event, packets, stage),
+    match playout.find(to_of(event)) {
+        Some(who) => play_at(shelf, who, number, event, packets, playout),
         None => Ok(()),
     }
 }
@@ -57,19 +58,20 @@ fn play_at<S: Shelf>(
     number: u32,
     event: &Event,
     packets: &mut [Packet],
-    stage: &mut Stage,
+    playout: &mut Playout,
 ) -> Result<(), Status>
     requires room { length packets.old ≡ PIECE_PACKETS }
     requires event { IsInRange event.now }
-    requires there { HasTransmitter who stage.old }
-    requires most { stage.old.steps + most_packets ≤ 2 ^ 60 }
+    requires there { HasTransmitter who playout.old }
+    requires most { playout.old.steps + most_packets ≤ 2 ^ 60 }
     ensures done { (ts : List Transmitter) (held : Files) (before : List Step) (feed : List ℕ)
         → files.get held feed_name ≡ Some feed
         → transmitter_place (to_of event.now) ts ≡ Some who
-        → reads_past (whole_packets feed) event.now ≡ false → IsPlayedSoFar ts before held stage.old (S.files shelf.old)
-        → IsDoneOf ts (before ++ steps_of ts (packets_of feed) event.now) held result stage.new (S.files shelf.new) }
-    ensures there { IsOk result → HasTransmitter who stage.new }
-    ensures steps { IsOk result → stage.new.steps ≤ stage.old.steps + most_packets }
+        → reads_past (whole_packets feed) event.now ≡ false
+        → IsPlayedSoFar ts before held playout.old (S.files shelf.old)
+        → IsDoneOf ts (before ++ steps_of ts (packets_of feed) event.now) held result playout.new (S.files shelf.new) }
+    ensures there { IsOk result → HasTransmitter who playout.new }
+    ensures steps { IsOk result → playout.new.steps ≤ playout.old.steps + most_packets }
     ensures refusal { IfErr result IsOfFeed }
     ensures gone { HasGone (S.counts shelf.old) (S.counts shelf.new) (blame_of_answer result) }
 {
@@ -80,24 +82,24 @@ fn play_at<S: Shelf>(
                 from,
                 count,
             };
-            send(shelf, who, &part, packets, stage)
+            send(shelf, who, &part, packets, playout)
         }
         Event::Foreign {
             seed,
             from,
             count,
             ..
-        } => give_made(shelf, who, &MadePart { seed, from, count }, stage),
+        } => give_made(shelf, who, &MadePart { seed, from, count }, playout),
         Event::Flip { from, at, with, .. } => {
             let packet = read_one(shelf, number, from)?;
-            stage.give(shelf, who, &flipped(&packet, at, with))
+            playout.give(shelf, who, &flipped(&packet, at, with))
         }
         Event::Lie { from, states, .. } => {
             let packet = read_one(shelf, number, from)?;
-            let lied = stage.liar.lied(&packet, &states);
-            stage.give(shelf, who, &lied)
+            let lied = playout.liar.lied(&packet, &states);
+            playout.give(shelf, who, &lied)
         }
-        Event::Restart { .. } => stage.restart(shelf, who),
+        Event::Restart { .. } => playout.restart(shelf, who),
     }
 }
 
@@ -120,20 +122,20 @@ fn send<S: Shelf>(
     who: usize,
     part: &Part,
     packets: &mut [Packet],
-    stage: &mut Stage,
+    playout: &mut Playout,
 ) -> Result<(), Status>
     requires room { length packets.old ≡ PIECE_PACKETS }
-    requires there { HasTransmitter who stage.old }
+    requires there { HasTransmitter who playout.old }
     requires part { IsPart part.now.from part.now.count }
-    requires most { stage.old.steps + part.now.count ≤ 2 ^ 60 }
+    requires most { playout.old.steps + part.now.count ≤ 2 ^ 60 }
     ensures done { (ts : List Transmitter) (held : Files) (before : List Step) (feed : List ℕ)
         → files.get held feed_name ≡ Some feed
         → part.now.from + part.now.count ≤ whole_packets feed
-        → IsPlayedSoFar ts before held stage.old (S.files shelf.old)
+        → IsPlayedSoFar ts before held playout.old (S.files shelf.old)
         → IsDoneOf ts (before ++ packet_steps who (packets_from feed part.now.from part.now.count)) held
-        result stage.new (S.files shelf.new) }
-    ensures there { IsOk result → HasTransmitter who stage.new }
-    ensures steps { IsOk result → stage.new.steps ≡ stage.old.steps + part.now.count }
+        result playout.new (S.files shelf.new) }
+    ensures there { IsOk result → HasTransmitter who playout.new }
+    ensures steps { IsOk result → playout.new.steps ≡ playout.old.steps + part.now.count }
     ensures refusal { IfErr result IsOfFeed }
     ensures gone { HasGone (S.counts shelf.old) (S.counts shelf.new) (blame_of_answer result) }
 {
@@ -144,7 +146,7 @@ fn send<S: Shelf>(
             from: part.from + given,
             count: part.count - given,
         };
-        let count = send_piece(shelf, who, &rest, packets, stage)?;
+        let count = send_piece(shelf, who, &rest, packets, playout)?;
         given += count;
     }
     Ok(())
@@ -157,22 +159,22 @@ fn send_piece<S: Shelf>(
     who: usize,
     part: &Part,
     packets: &mut [Packet],
-    stage: &mut Stage,
+    playout: &mut Playout,
 ) -> Result<u64, Status>
     requires room { length packets.old ≡ PIECE_PACKETS }
-    requires there { HasTransmitter who stage.old }
+    requires there { HasTransmitter who playout.old }
     requires part { IsPart part.now.from part.now.count }
-    requires most { stage.old.steps + part.now.count ≤ 2 ^ 60 }
+    requires most { playout.old.steps + part.now.count ≤ 2 ^ 60 }
     ensures done { (ts : List Transmitter) (held : Files) (before : List Step) (feed : List ℕ)
         → files.get held feed_name ≡ Some feed
-        → part.now.from < whole_packets feed → IsPlayedSoFar ts before held stage.old (S.files shelf.old)
-        → IsGivenOf ts before who feed part.now.from part.now.count held result stage.new (S.files shelf.new) }
-    ensures count { IfOk result (λ n. (0 < n) × (n ≤ part.now.count) × (stage.new.steps ≡ stage.old.steps + n)) }
-    ensures there { IsOk result → HasTransmitter who stage.new }
+        → part.now.from < whole_packets feed → IsPlayedSoFar ts before held playout.old (S.files shelf.old)
+        → IsGivenOf ts before who feed part.now.from part.now.count held result playout.new (S.files shelf.new) }
+    ensures count { IfOk result (λ n. (0 < n) × (n ≤ part.now.count) × (playout.new.steps ≡ playout.old.steps + n)) }
+    ensures there { IsOk result → HasTransmitter who playout.new }
     ensures refusal { IfErr result IsOfFeed }
     ensures gone { HasGone (S.counts shelf.old) (S.counts shelf.new) (blame_of_answer result) }
 {
     let count = read_piece(shelf, part, packets)?;
-    give_all(shelf, who, &packets[..count], stage)?;
+    give_all(shelf, who, &packets[..count], playout)?;
     Ok(count as u64)
 }

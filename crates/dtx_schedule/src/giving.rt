@@ -9,9 +9,9 @@ ghost use Rattle.dtx_net.specs.Steps.{Step};
 ghost use Rattle.dtx_plan.specs.Sound.{IsPart};
 ghost use Rattle.dtx_plan.specs.declared.transmitter.Transmitter.{Transmitter};
 ghost use Rattle.dtx_schedule.specs.PlayedSoFar.{IsDoneOf, IsOfFeed, IsPlayedSoFar, packet_steps};
-ghost use Rattle.dtx_schedule.specs.Staged.{HasTransmitter};
+ghost use Rattle.dtx_schedule.specs.Playout.{HasTransmitter};
 
-use crate::stage::Stage;
+use crate::playout::Playout;
 use dtx_make::packet;
 use dtx_meaning::Status;
 use dtx_outside::Shelf;
@@ -30,21 +30,21 @@ pub(crate) fn give_all<S: Shelf>(
     shelf: &mut S,
     who: usize,
     packets: &[Packet],
-    stage: &mut Stage,
+    playout: &mut Playout,
 ) -> Result<(), Status>
-    requires there { HasTransmitter who stage.old }
-    requires most { stage.old.steps + length packets.now ≤ 2 ^ 60 }
+    requires there { HasTransmitter who playout.old }
+    requires most { playout.old.steps + length packets.now ≤ 2 ^ 60 }
     ensures done { (ts : List Transmitter) (held : Files) (before : List Step)
-        → IsPlayedSoFar ts before held stage.old (S.files shelf.old)
-        → IsDoneOf ts (before ++ packet_steps who (map (λ p. p.0) packets.now)) held result stage.new
+        → IsPlayedSoFar ts before held playout.old (S.files shelf.old)
+        → IsDoneOf ts (before ++ packet_steps who (map (λ p. p.0) packets.now)) held result playout.new
         (S.files shelf.new) }
-    ensures there { IsOk result → HasTransmitter who stage.new }
-    ensures steps { IsOk result → stage.new.steps ≡ stage.old.steps + length packets.now }
+    ensures there { IsOk result → HasTransmitter who playout.new }
+    ensures steps { IsOk result → playout.new.steps ≡ playout.old.steps + length packets.now }
     ensures refusal { IfErr result IsOfFeed }
     ensures gone { HasGone (S.counts shelf.old) (S.counts shelf.new) (blame_of_answer result) }
 {
     for i in 0..packets.len() {
-        stage.give(shelf, who, &packets[i])?;
+        playout.give(shelf, who, &packets[i])?;
     }
     Ok(())
 }
@@ -54,23 +54,23 @@ pub(crate) fn give_made<S: Shelf>(
     shelf: &mut S,
     who: usize,
     part: &MadePart,
-    stage: &mut Stage,
+    playout: &mut Playout,
 ) -> Result<(), Status>
-    requires there { HasTransmitter who stage.old }
-    requires most { stage.old.steps + part.now.count ≤ 2 ^ 60 }
+    requires there { HasTransmitter who playout.old }
+    requires most { playout.old.steps + part.now.count ≤ 2 ^ 60 }
     requires part { IsPart part.now.from part.now.count }
     ensures done { (ts : List Transmitter) (held : Files) (before : List Step)
-        → IsPlayedSoFar ts before held stage.old (S.files shelf.old)
+        → IsPlayedSoFar ts before held playout.old (S.files shelf.old)
         → IsDoneOf ts (before ++ packet_steps who
         (map (made_packet part.now.seed) (range_with_len part.now.from part.now.count))) held
-        result stage.new (S.files shelf.new) }
-    ensures there { IsOk result → HasTransmitter who stage.new }
-    ensures steps { IsOk result → stage.new.steps ≡ stage.old.steps + part.now.count }
+        result playout.new (S.files shelf.new) }
+    ensures there { IsOk result → HasTransmitter who playout.new }
+    ensures steps { IsOk result → playout.new.steps ≡ playout.old.steps + part.now.count }
     ensures refusal { IfErr result IsOfFeed }
     ensures gone { HasGone (S.counts shelf.old) (S.counts shelf.new) (blame_of_answer result) }
 {
     for i in 0..part.count {
-        stage.give(shelf, who, &packet(part.seed, part.from + i))?;
+        playout.give(shelf, who, &packet(part.seed, part.from + i))?;
     }
     Ok(())
 }

@@ -9,7 +9,7 @@ pub mod laws;
 mod pair;
 mod part;
 mod playing;
-mod stage;
+mod playout;
 
 pub use inside::first_past_feed;
 pub use playing::{Played, play};

@@ -15,11 +15,11 @@ ghost use Rattle.dtx_schedule.specs.Inside.{first_past_feed};
 ghost use Rattle.dtx_schedule.specs.Played.{AreEvents, AreInRange, IsPlayOf, IsRunOf};
 ghost use Rattle.dtx_schedule.specs.PlayedSoFar.{IsDoneOf, IsOfFeed, IsPlayedSoFar};
 ghost use Rattle.dtx_schedule.specs.Progress.{IsProgressOf};
-ghost use Rattle.dtx_schedule.specs.Staged.{IsSomeStage, IsStaged, packets_given, SentBy};
+ghost use Rattle.dtx_schedule.specs.Playout.{IsSomePlayout, IsPlayout, packets_given, SentBy};
 
 use crate::beginning::begin_files;
 use crate::event::play_event;
-use crate::stage::Stage;
+use crate::playout::Playout;
 use dtx_meaning::Status;
 use dtx_outside::Shelf;
 use dtx_packets::{PIECE_PACKETS, Packet};
@@ -30,25 +30,25 @@ use std::alloc::Global;
 /// What came of a schedule: its numbers.
 #[derive(Drop)]
 pub struct Played {
-    stage: Stage,
+    playout: Playout,
 }
 
 impl Played {
     /// How many packets were given: the steps but for the restarts.
     pub fn steps(&self) -> u64
-        ensures { (ts : List Transmitter) (steps : List Step) → IsStaged ts self.now.stage steps
+        ensures { (ts : List Transmitter) (steps : List Step) → IsPlayout ts self.now.playout steps
             → result ≡ packets_given steps }
     {
-        self.stage.steps
+        self.playout.steps
     }
 
     /// How many segments the transmitter of that address has sent.
     pub fn sent(&self, address: u16) -> u64
-        ensures { (ts : List Transmitter) (steps : List Step) → IsStaged ts self.now.stage steps
+        ensures { (ts : List Transmitter) (steps : List Step) → IsPlayout ts self.now.playout steps
             → SentBy address ts steps result }
     {
-        match self.stage.find(address) {
-            Some(who) => count_at(&self.stage.sent, who),
+        match self.playout.find(address) {
+            Some(who) => count_at(&self.playout.sent, who),
             None => 0,
         }
     }
@@ -92,10 +92,10 @@ pub fn play<S: Shelf>(
     ensures refusal { IfErr result IsOfFeed }
     ensures gone { HasGone (S.counts shelf.old) (S.counts shelf.new) (blame_of_answer result) }
 {
-    let mut stage = Stage::new(alloc, transmitters)?;
+    let mut playout = Playout::new(alloc, transmitters)?;
     let mut packets = vec![in alloc; Packet([0; PACKET]); PIECE_PACKETS]?;
-    run(shelf, events, &mut packets, &mut stage)?;
-    Ok(Played { stage })
+    run(shelf, events, &mut packets, &mut playout)?;
+    Ok(Played { playout })
 }
 
 /// Begins the files of the transmitters, and plays the events into them.
@@ -104,20 +104,20 @@ fn run<S: Shelf>(
     shelf: &mut S,
     events: &Events,
     packets: &mut [Packet],
-    stage: &mut Stage,
+    playout: &mut Playout,
 ) -> Result<(), Status>
     requires room { length packets.old ≡ PIECE_PACKETS }
     requires events { AreInRange events.now }
-    requires staged { (ts : List Transmitter) × IsStaged ts stage.old [] }
-    ensures run { (ts : List Transmitter) (held : Files) (feed : List ℕ) → IsStaged ts stage.old []
+    requires playing { (ts : List Transmitter) × IsPlayout ts playout.old [] }
+    ensures run { (ts : List Transmitter) (held : Files) (feed : List ℕ) → IsPlayout ts playout.old []
         → S.files shelf.old ≡ Some held
         → files.get held feed_name ≡ Some feed → first_past_feed events.now (whole_packets feed) ≡ None
-        → IsRunOf ts (schedule ts (packets_of feed) events.now) held result stage.new (S.files shelf.new) }
+        → IsRunOf ts (schedule ts (packets_of feed) events.now) held result playout.new (S.files shelf.new) }
     ensures refusal { IfErr result IsOfFeed }
     ensures gone { HasGone (S.counts shelf.old) (S.counts shelf.new) (blame_of_answer result) }
 {
-    begin_files(shelf, &stage.names)?;
-    play_events(shelf, events, packets, stage)
+    begin_files(shelf, &playout.names)?;
+    play_events(shelf, events, packets, playout)
 }
 
 /// Plays the events into the files of the transmitters, which were begun.
@@ -125,20 +125,20 @@ fn play_events<S: Shelf>(
     shelf: &mut S,
     events: &Events,
     packets: &mut [Packet],
-    stage: &mut Stage,
+    playout: &mut Playout,
 ) -> Result<(), Status>
     requires room { length packets.old ≡ PIECE_PACKETS }
     requires events { AreInRange events.now }
-    requires staged { (ts : List Transmitter) × IsStaged ts stage.old [] }
+    requires playing { (ts : List Transmitter) × IsPlayout ts playout.old [] }
     ensures done { (ts : List Transmitter) (held : Files) (feed : List ℕ) → files.get held feed_name ≡ Some feed
         → first_past_feed events.now (whole_packets feed) ≡ None
-        → IsPlayedSoFar ts [] held stage.old (S.files shelf.old)
-        → IsDoneOf ts (schedule ts (packets_of feed) events.now) held result stage.new (S.files shelf.new) }
+        → IsPlayedSoFar ts [] held playout.old (S.files shelf.old)
+        → IsDoneOf ts (schedule ts (packets_of feed) events.now) held result playout.new (S.files shelf.new) }
     ensures refusal { IfErr result IsOfFeed }
     ensures gone { HasGone (S.counts shelf.old) (S.counts shelf.new) (blame_of_answer result) }
 {
     for i in 0..events.len() {
-        play_event(shelf, i as u32, &events.get(i), packets, stage)?;
+        play_event(shelf, i as u32, &events.get(i), packets, playout)?;
     }
     Ok(())
 }

@@ -10,7 +10,8 @@ use Rattle.dtx_meaning.specs.Status.{IsOfInputs}
 use Rattle.dtx_meaning.specs.declared.status.Status.{Status}
 use Rattle.dtx_meaning.specs.declared.status.Status.TheVariants.{Usage, WriteFault, Memory}
 use Rattle.dtx_jobs.specs.Answers.{Knows}
-use Rattle.dtx_jobs.specs.OfWords.{IsOfWords, excite_same, make_same, numbers_same, three_same, two_same}
+use Rattle.dtx_jobs.specs.OfWords.{IsOfWords, excite_same, make_same, numbers_same, three_same, two_behind_same}
+use Rattle.dtx_jobs.specs.OfWords.{two_same}
 use Rattle.dtx_words.specs.Fitting.{command_of, fit_fields, fits}
 use Rattle.dtx_words.specs.FittingLaws.{command_fits}
 use Rattle.dtx_words.specs.Line.{finished}
@@ -18,8 +19,11 @@ use Rattle.dtx_words.specs.Names.{names_at, repeated}
 use Rattle.dtx_words.specs.Rows.{adapt_row, code_row, excite_row, make_row, net_row, trial_row}
 use Rattle.dtx_words.specs.declared.rows.Command.{Command}
 use Rattle.dtx_words.specs.declared.rows.Command.TheVariants.{Adapt, Code, Excite, Receive, Net, Make, Hurt, Place}
-use Rattle.dtx_words.specs.declared.rows.Command.TheVariants.{Trial}
+use Rattle.dtx_words.specs.declared.rows.Command.TheVariants.{Trial, DvbCode, DvbRead}
 use Rattle.dtx_words.specs.declared.rows.Field.{Field}
+use Rattle.dtx_words.specs.declared.rows.Field.TheVariants.{Second}
+use Rattle.dtx_words.specs.declared.rows.SecondWord.{SecondWord}
+use Rattle.dtx_words.specs.declared.rows.SecondWord.TheVariants as second
 use Rattle.dtx_top.specs.Ends.{IsByWords, IsOfCommand}
 use Rattle.dtx_top.specs.NetAnswers.{IsOfNetWords, IsOfNetwork}
 use Rattle.dtx_top.specs.Trial.{trial_same}
@@ -74,6 +78,15 @@ two_told verb words status fit = with_two (λ ws. IsOfWords (two_same (verb ∷ 
     → IsOfInputs (is_some (repeated (names_at code_row.fields ws))) 1 status) words
     (fit_length code_row.fields words fit)
     (λ a b is. subst (λ (s : Bool). IsOfInputs s 1 status) (sym (second_repeated b (bytes_eq a b))) is)
+
+-- `.. .. IN OUT`
+two_behind_told : (word : SecondWord) (verb : List ℕ) (words : List (List ℕ)) (status : Status)
+    → fit_fields (Second word ∷ code_row.fields) words ≡ true → IsOfWords (two_behind_same (verb ∷ words)) 1 status
+    → IsOfInputs (is_some (repeated (names_at (Second word ∷ code_row.fields) words))) 1 status
+two_behind_told word verb words status fit = with_three (λ ws. IsOfWords (two_behind_same (verb ∷ ws)) 1 status
+    → IsOfInputs (is_some (repeated (names_at (Second word ∷ code_row.fields) ws))) 1 status) words
+    (fit_length (Second word ∷ code_row.fields) words fit)
+    (λ a b c is. subst (λ (s : Bool). IsOfInputs s 1 status) (sym (second_repeated c (bytes_eq b c))) is)
 
 -- `.. A B OUT`
 three_told : (verb : List ℕ) (words : List (List ℕ)) (status : Status) → fit_fields adapt_row.fields words ≡ true
@@ -144,6 +157,10 @@ fitted_told Make (verb ∷ words) status fit is = (make_told verb words status (
 fitted_told Hurt (verb ∷ words) status fit is = (three_told verb words status (and_parts _ _ fit).1 is.0, is.1)
 fitted_told Place (verb ∷ words) status fit is = (two_told verb words status (and_parts _ _ fit).1 is.0, is.1)
 fitted_told Trial (verb ∷ words) status fit is = (trial_told verb words status (and_parts _ _ fit).1 is.0, is.1)
+fitted_told DvbCode (verb ∷ words) status fit is =
+    (two_behind_told second.Code verb words status (and_parts _ _ fit).1 is.0, is.1)
+fitted_told DvbRead (verb ∷ words) status fit is =
+    (two_behind_told second.Read verb words status (and_parts _ _ fit).1 is.0, is.1)
 
 -- ---- behind the line
 
@@ -180,6 +197,8 @@ memory_known Make = tt
 memory_known Hurt = tt
 memory_known Place = tt
 memory_known Trial = tt
+memory_known DvbCode = tt
+memory_known DvbRead = tt
 
 write_fault_known : (command : Command) → Knows command WriteFault
 write_fault_known Adapt = tt
@@ -191,6 +210,8 @@ write_fault_known Make = tt
 write_fault_known Hurt = tt
 write_fault_known Place = tt
 write_fault_known Trial = tt
+write_fault_known DvbCode = tt
+write_fault_known DvbRead = tt
 
 knows_finished : (command : Command) (status : Status) (line : Result (Unit {0}) SinkNo) → Knows command status
     → Knows command (finished status line)
@@ -227,6 +248,10 @@ by_words_finished Place words status line is =
     (inputs_finished _ _ status line is.0, knows_finished Place status line is.1)
 by_words_finished Trial words status line is =
     (inputs_finished _ _ status line is.0, knows_finished Trial status line is.1)
+by_words_finished DvbCode words status line is =
+    (inputs_finished _ _ status line is.0, knows_finished DvbCode status line is.1)
+by_words_finished DvbRead words status line is =
+    (inputs_finished _ _ status line is.0, knows_finished DvbRead status line is.1)
 
 -- the command that the words fit, behind its line
 pub words_told : (command : Option Command) (words : List (List ℕ)) (status : Status)

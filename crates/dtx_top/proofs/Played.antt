@@ -23,9 +23,9 @@ use Rattle.dtx_plan.specs.declared.transmitter.Transmitter.{Transmitter}
 use Rattle.dtx_schedule.specs.FilesLaws.{apart_of, files_with, has_pair, with_outputs-told}
 use Rattle.dtx_schedule.specs.Inside.{first_past_feed}
 use Rattle.dtx_schedule.specs.Played.{IsPlayFault}
-use Rattle.dtx_schedule.specs.Staged.{IsStaged, SentBy, packets_given}
+use Rattle.dtx_schedule.specs.Playout.{IsPlayout, SentBy, packets_given}
 use Rattle.dtx_schedule.specs.TransmitterFiles.{Contents, files_of, played, played_outputs, symbol_file}
-use Rattle.dtx_schedule.specs.declared.stage.Stage.{Stage}
+use Rattle.dtx_schedule.specs.declared.playout.Playout.{Playout}
 use Rattle.dtx_words.specs.NetworkNames.{feed_name, symbol_name}
 use Rattle.dtx_top.specs.NetMeaning.{played_and_received, played_outcome, playing, received_of, received_past}
 use Rattle.dtx_top.specs.NetMeaning.{with_received}
@@ -118,9 +118,9 @@ pub record AreReceived (plan : Plan) (network : NetPlan) (stream : List (List �
       (sent_file plan network stream receiver.from)) (Some mid) received now
 
 pub received_told : (plan : Plan) (network : NetPlan) (stream : List (List ℕ)) (receiver : ReceivePlan)
-    (held : Files) (told now : Option Files) (received : Outcome) (stage : Stage) (segments symbols : ℕ)
+    (held : Files) (told now : Option Files) (received : Outcome) (playout : Playout) (segments symbols : ℕ)
     → IsReceived plan.transmitters.items receiver
-    → IsStaged plan.transmitters.items stage (steps_under plan stream network.events)
+    → IsPlayout plan.transmitters.items playout (steps_under plan stream network.events)
     → SentBy receiver.from plan.transmitters.items (steps_under plan stream network.events) segments
     → symbols ≡ min (segments * 832) (2 ^ 64 - 1)
     → told ≡ with_outputs (played_outputs plan.transmitters.items (steps_under plan stream network.events))
@@ -130,7 +130,7 @@ pub received_told : (plan : Plan) (network : NetPlan) (stream : List (List ℕ))
     → IsCarriedOut (received_past (first_past receiver.damage (length file)) receiver.damage file)
     (Some held) received now)
     → AreReceived plan network stream receiver held received now
-received_told plan network stream receiver held told now received stage segments symbols is staged counted many
+received_told plan network stream receiver held told now received playout segments symbols is playing counted many
     left says = record {
       mid = mid;
       left = sym (with_outputs-told (played_outputs ts steps) held);
@@ -160,7 +160,7 @@ received_told plan network stream receiver held told now received stage segments
 
     there : get mid (symbol_name receiver.from) ≡ Some (symbol_file t who steps)
     there = subst (λ a. get mid (symbol_name a) ≡ Some (symbol_file t who steps)) place.own
-        (has_pair ts who t (played steps) held (apart_of ts staged.transmitters staged.names.small) place.here).sent
+        (has_pair ts who t (played steps) held (apart_of ts playing.transmitters playing.names.small) place.here).sent
 
 pub received_behind : (plan : Plan) (network : NetPlan) (receiver : ReceivePlan) (stream : List (List ℕ))
     (held : Files) (now : Option Files) (fed : Outcome) (steps : ℕ) (received result : Outcome)

@@ -6,12 +6,12 @@ use Rattle.dtx_meaning.specs.Status.{IsOfInputs}
 use Rattle.dtx_meaning.specs.declared.status.Status.{Status}
 use Rattle.dtx_meaning.specs.declared.status.Status.TheVariants.{Done, Usage, Absent, ReadFault, WriteFault, Memory}
 use Rattle.dtx_jobs.specs.Answers.{Knows}
-use Rattle.dtx_jobs.specs.OfWords.{IsOfWords, excite_same, make_same, three_same, two_same}
+use Rattle.dtx_jobs.specs.OfWords.{IsOfWords, excite_same, make_same, three_same, two_behind_same, two_same}
 use Rattle.dtx_words.specs.Names.{names_of, repeated}
 use Rattle.dtx_words.specs.Rows.{row_of}
 use Rattle.dtx_words.specs.declared.rows.Command.{Command}
 use Rattle.dtx_words.specs.declared.rows.Command.TheVariants.{Adapt, Code, Excite, Receive, Net, Make, Hurt, Place}
-use Rattle.dtx_words.specs.declared.rows.Command.TheVariants.{Trial}
+use Rattle.dtx_words.specs.declared.rows.Command.TheVariants.{Trial, DvbCode, DvbRead}
 use Rattle.dtx_words.specs.declared.rows.Field.{Field}
 use Rattle.dtx_words.specs.declared.rows.Field.TheVariants.{Input}
 use Rattle.dtx_top.specs.HeadlineOfFiles.{HasHeadline}
@@ -94,3 +94,5 @@ IsOfCommand (Some Make) words status = IsOfWords (make_same words) 0 status × K
 IsOfCommand (Some Hurt) words status = IsOfWords (three_same words) 2 status × Knows Hurt status
 IsOfCommand (Some Place) words status = IsOfWords (two_same words) 1 status × Knows Place status
 IsOfCommand (Some Trial) words status = IsOfWords (trial_same words) 3 status × Knows Trial status
+IsOfCommand (Some DvbCode) words status = IsOfWords (two_behind_same words) 1 status × Knows DvbCode status
+IsOfCommand (Some DvbRead) words status = IsOfWords (two_behind_same words) 1 status × Knows DvbRead status

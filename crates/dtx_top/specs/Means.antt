@@ -5,6 +5,8 @@ use Rattle.dtx_top.specs.Trial.{trial_meaning}
 use Rattle.dtx_outside.specs.Shelf.{Files}
 use Rattle.dtx_jobs.specs.Adapt.{adapt_meaning}
 use Rattle.dtx_jobs.specs.Code.{code_meaning}
+use Rattle.dtx_jobs.specs.DvbCode.{dvb_code_meaning}
+use Rattle.dtx_jobs.specs.DvbRead.{dvb_read_meaning}
 use Rattle.dtx_jobs.specs.Excite.{excite_meaning}
 use Rattle.dtx_jobs.specs.Hurt.{hurt_meaning}
 use Rattle.dtx_jobs.specs.Make.{make_meaning}
@@ -15,7 +17,7 @@ use Rattle.dtx_meaning.specs.declared.status.Status.TheVariants.{Usage}
 use Rattle.dtx_words.specs.Fitting.{command_of}
 use Rattle.dtx_words.specs.declared.rows.Command.{Command}
 use Rattle.dtx_words.specs.declared.rows.Command.TheVariants.{Adapt, Code, Excite, Receive, Net, Make, Hurt, Place}
-use Rattle.dtx_words.specs.declared.rows.Command.TheVariants.{Trial}
+use Rattle.dtx_words.specs.declared.rows.Command.TheVariants.{Trial, DvbCode, DvbRead}
 
 -- what the words mean where they fit that command, and where they fit none
 abbrev pub means_of : Option Command → List (List ℕ) → Files → Meaning
@@ -29,6 +31,8 @@ means_of (Some Make) words held = make_meaning words held
 means_of (Some Hurt) words held = hurt_meaning words held
 means_of (Some Place) words held = place_meaning words held
 means_of (Some Trial) words held = trial_meaning words held
+means_of (Some DvbCode) words held = dvb_code_meaning words held
+means_of (Some DvbRead) words held = dvb_read_meaning words held
 
 -- how the words are answered and what they write where nothing fails: a function of the words and of the files
 abbrev pub means : List (List ℕ) → Files → Meaning

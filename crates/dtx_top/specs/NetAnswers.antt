@@ -1,4 +1,4 @@
--- What an answer of `net` says also where the files are not told.
+-- What an answer of `net`, and of the network of `trial`, says also where the files are not told.
 use Rattle.std.specs.Prelude.{◌≡◌, ◌≢◌, ◌⊎◌, ℕ, ◌<◌, ◌≤◌, List, [], ◌∷◌, Option, Some, None}
 use Rattle.dtx_meaning.specs.declared.status.Outcome.{Outcome}
 use Rattle.dtx_meaning.specs.declared.status.Status.{Status}

@@ -24,7 +24,7 @@ use Rattle.dtx_plan.specs.declared.plan.Plan as whole
 use Rattle.dtx_plan.specs.declared.plan.ReceivePlan.{ReceivePlan}
 use Rattle.dtx_plan.specs.declared.rule.PlanRule.TheVariants.{Missing}
 use Rattle.dtx_schedule.specs.Inside.{first_past_feed}
-use Rattle.dtx_schedule.specs.Staged.{packets_given}
+use Rattle.dtx_schedule.specs.Playout.{packets_given}
 use Rattle.dtx_schedule.specs.TransmitterFiles.{played_outputs}
 use Rattle.dtx_words.specs.Names.{repeated}
 use Rattle.dtx_words.specs.NetworkNames.{feed_name, received_name}

@@ -1,5 +1,6 @@
 -- The names of a network's files, and the one in its line.
-use Rattle.std.specs.Prelude.{◌≡◌, ℕ, nat_eq, Bool, false, if◌then◌else◌, List, [], ◌∷◌, Option, Some, None, Result, Ok}
+use Rattle.std.specs.Prelude.{◌≡◌, ℕ, nat_eq, Bool, false, if◌then◌else◌, List, [], ◌∷◌, Option, Some, None, Result}
+use Rattle.std.specs.Prelude.{Ok}
 use Rattle.std.specs.Prelude.{Err, slice_index_or}
 use Rattle.std.specs.FinMap.{get}
 use Rattle.dtx_meaning.specs.declared.status.Status.{Status}

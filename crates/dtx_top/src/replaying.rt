@@ -11,7 +11,7 @@ ghost use Rattle.dtx_outside.specs.Shelf.{Files};
 ghost use Rattle.dtx_plan.specs.declared.plan.Plan.{Plan};
 ghost use Rattle.dtx_plan.specs.Sound.{AreDamages, IsNet, IsSound};
 ghost use Rattle.dtx_schedule.specs.Inside as inside;
-ghost use Rattle.dtx_schedule.specs.Staged.{IsStaged};
+ghost use Rattle.dtx_schedule.specs.Playout.{IsPlayout};
 ghost use Rattle.dtx_schedule.specs.TransmitterFiles.{played_outputs};
 ghost use Rattle.dtx_words.specs.NetworkNames.{feed_name};
 ghost use Rattle.dtx_top.specs.NetAnswers.{IsOfReplay, ShowsNetwork};
@@ -144,14 +144,14 @@ fn receive_played<S: Shelf>(
     requires { IfSome network.now.receive (λ receiver. AreDamages receiver.damage) }
     ensures carried { (plan : Plan) (held : Files) (stream : List (List ℕ))
         → IsNet plan.transmitters.items network.now → HasNumbers stream fed.now
-        → IsStaged plan.transmitters.items played.now.stage (steps_under plan stream network.now.events)
+        → IsPlayout plan.transmitters.items played.now.playout (steps_under plan stream network.now.events)
         → S.files shelf.old ≡ with_outputs (played_outputs plan.transmitters.items
         (steps_under plan stream network.now.events)) (Some held)
         → IsCarriedOut (means.played_and_received plan network.now stream network.now.receive) (Some held)
         result (S.files shelf.new) }
     ensures progress { (plan : Plan) (held : Files) (stream : List (List ℕ))
         → IsNet plan.transmitters.items network.now
-        → IsStaged plan.transmitters.items played.now.stage (steps_under plan stream network.now.events)
+        → IsPlayout plan.transmitters.items played.now.playout (steps_under plan stream network.now.events)
         → S.files shelf.old ≡ with_outputs (played_outputs plan.transmitters.items
         (steps_under plan stream network.now.events)) (Some held)
         → HasPlayProgress plan network.now stream result.status held (S.files shelf.new) }

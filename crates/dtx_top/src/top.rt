@@ -61,6 +61,10 @@ use std::alloc::Global;
 /// a network over them as `net` does (the profile's own): three transmitters are given the feed, the third one behind
 /// 50 packets without a mark, and the third one is received. COUNT is 624 to 1,000,000.
 ///
+/// `dvb code IN OUT` writes the packets of IN, which begin with 0x47, to OUT as EN 300 429 sends them: randomized, as
+/// Reed-Solomon codewords of 204 bytes, interleaved. `dvb read IN OUT` writes the packets of such bytes to OUT, each
+/// with up to eight wrong bytes of its word put right, or flagged where its word has no correction.
+///
 /// Words that fit no command end in `Usage`.
 pub fn run<S: Shelf, O: Sink>(alloc: Global, words: &[Word], shelf: &mut S, out: &mut O) -> Status
     // Over files that are told: the answer is that of the words' meaning and its outputs are whole; or a fault or want

@@ -17,7 +17,7 @@ use std::alloc::Global;
 const COUNT: usize = 400;
 
 /// Two transmitters are given the whole feed, and the first one is received.
-pub(crate) const WITHOUT_DAMAGE: &str = "start = 0
+pub(crate) const WITHOUT_DAMAGE: &[u8] = b"start = 0
 max_delay = 5000000
 [[transmitter]]
 address = 7
@@ -43,7 +43,7 @@ from = 7
 ";
 
 /// The same, with other bytes laid over 20 symbols of the second segment.
-pub(crate) const WITH_DAMAGE: &str = "start = 0
+pub(crate) const WITH_DAMAGE: &[u8] = b"start = 0
 max_delay = 5000000
 [[transmitter]]
 address = 7
@@ -186,6 +186,6 @@ fn is_few(damage: &Damages) -> bool
 #[test]
 fn two_transmitters_meet_every_premise_with_damage_and_without(rt: HostRuntime) {
     for (text, entries) in [(WITHOUT_DAMAGE, 0), (WITH_DAMAGE, 1)] {
-        assert!(rt; works(rt.alloc(), text.as_bytes(), COUNT, entries));
+        assert!(rt; works(rt.alloc(), text, COUNT, entries));
     }
 }

@@ -4,20 +4,22 @@ use Rattle.std.specs.List.{find}
 use Rattle.std.specs.Str.{bytes_eq}
 use Rattle.dtx_words.specs.declared.rows.Command.{Command}
 use Rattle.dtx_words.specs.declared.rows.Field.{Field}
-use Rattle.dtx_words.specs.declared.rows.Field.TheVariants.{Input, Output, Number, Within}
+use Rattle.dtx_words.specs.declared.rows.Field.TheVariants.{Input, Output, Number, Within, Second}
 use Rattle.dtx_words.specs.Number.{number_in, number_within}
-use Rattle.dtx_words.specs.Rows.{Row, row_of, commands}
+use Rattle.dtx_words.specs.Rows.{Row, row_of, commands, second_text}
 
 -- a word fits a file name if it isn't empty
 abbrev pub is_name : List ℕ → Bool
 is_name word = not (length word == 0)
 
--- a word fits a field: a file name, or a number that is at most that one, or that is within two
+-- a word fits a field: a file name, or a number that is at most that one, or that is within two, or the command's own
+-- second word
 abbrev pub fits_field : Field → List ℕ → Bool
 fits_field Input word = is_name word
 fits_field Output word = is_name word
 fits_field (Number most) word = is_some (number_in most word)
 fits_field (Within least most) word = is_some (number_within least most word)
+fits_field (Second second) word = bytes_eq word (second_text second)
 
 -- as many words as fields, each of which fits its field
 abbrev pub fit_fields : List Field → List (List ℕ) → Bool

@@ -1,5 +1,5 @@
 -- Laws of the command that the words fit: it is the one that they fit, and there is no other.
-use Rattle.std.specs.Prelude.{◌≡◌, ℕ, Bool, true, false, cond, List, [], ◌∷◌, Option, Some, None, refl}
+use Rattle.std.specs.Prelude.{◌≡◌, ℕ, Bool, true, false, ◌&&◌, cond, codes, List, [], ◌∷◌, Option, Some, None, refl}
 use Rattle.std.specs.List.{find}
 use Rattle.std.specs.Str.{bytes_eq}
 use Rattle.std.proofs.Common.{sym, ap, ◌∙◌, subst}
@@ -7,9 +7,11 @@ use Rattle.std.proofs.lemmas.Bool.{and_parts}
 use Rattle.std.proofs.lemmas.Slice.Eq.{bytes_eq-Decides}
 use Rattle.dtx_words.specs.declared.rows.Command.{Command}
 use Rattle.dtx_words.specs.declared.rows.Command.TheVariants.{Adapt, Code, Excite, Receive, Net, Make, Hurt, Place}
-use Rattle.dtx_words.specs.declared.rows.Command.TheVariants.{Trial}
-use Rattle.dtx_words.specs.Fitting.{fits, command_of}
-use Rattle.dtx_words.specs.Rows.{row_of, commands}
+use Rattle.dtx_words.specs.declared.rows.Command.TheVariants.{Trial, DvbCode, DvbRead}
+use Rattle.dtx_words.specs.declared.rows.Field.{Field}
+use Rattle.dtx_words.specs.declared.rows.Field.TheVariants.{Input, Output, Number, Within, Second}
+use Rattle.dtx_words.specs.Fitting.{fits, fit_fields, command_of}
+use Rattle.dtx_words.specs.Rows.{row_of, commands, second_text}
 
 -- no command passes
 abbrev DoAllFail : (Command → Bool) → List Command → Type 0
@@ -49,22 +51,53 @@ fails_of_all p all Make = all.1.1.1.1.1.0
 fails_of_all p all Hurt = all.1.1.1.1.1.1.0
 fails_of_all p all Place = all.1.1.1.1.1.1.1.0
 fails_of_all p all Trial = all.1.1.1.1.1.1.1.1.0
+fails_of_all p all DvbCode = all.1.1.1.1.1.1.1.1.1.0
+fails_of_all p all DvbRead = all.1.1.1.1.1.1.1.1.1.1.0
 
--- the command of a word
-command_named : List ℕ → Option Command
-command_named verb = find (λ c. bytes_eq verb (row_of c).verb) commands
+-- the second word may be this: it is the command's own one, where it has one
+abbrev opens : List Field → List ℕ → Bool
+opens [] word = true
+opens (Input ∷ fields) word = true
+opens (Output ∷ fields) word = true
+opens (Number most ∷ fields) word = true
+opens (Within least most ∷ fields) word = true
+opens (Second second ∷ fields) word = bytes_eq word (second_text second)
 
-named_by_verb : (c : Command) → command_named (row_of c).verb ≡ Some c
+-- the first of some words, or no letters where there is none
+abbrev first_word : List (List ℕ) → List ℕ
+first_word [] = []
+first_word (word ∷ words) = word
+
+opens_of : (fields : List Field) (words : List (List ℕ)) → fit_fields fields words ≡ true
+    → opens fields (first_word words) ≡ true
+opens_of [] words fit = refl
+opens_of (Input ∷ fields) words fit = refl
+opens_of (Output ∷ fields) words fit = refl
+opens_of (Number most ∷ fields) words fit = refl
+opens_of (Within least most ∷ fields) words fit = refl
+opens_of (Second second ∷ fields) [] fit = let e : false ≡ true = fit in cc
+opens_of (Second second ∷ fields) (word ∷ words) fit = (and_parts _ _ fit).0
+
+-- the command of a first and a second word
+command_named : List ℕ → List ℕ → Option Command
+command_named verb word = find (λ c. bytes_eq verb (row_of c).verb && opens (row_of c).fields word) commands
+
+named_by_words : (c : Command) (word : List ℕ) → opens (row_of c).fields word ≡ true
+    → command_named (row_of c).verb word ≡ Some c
 unfolding command_named
-named_by_verb Adapt = refl
-named_by_verb Code = refl
-named_by_verb Excite = refl
-named_by_verb Receive = refl
-named_by_verb Net = refl
-named_by_verb Make = refl
-named_by_verb Hurt = refl
-named_by_verb Place = refl
-named_by_verb Trial = refl
+named_by_words Adapt word is = refl
+named_by_words Code word is = refl
+named_by_words Excite word is = refl
+named_by_words Receive word is = refl
+named_by_words Net word is = refl
+named_by_words Make word is = refl
+named_by_words Hurt word is = refl
+named_by_words Place word is = refl
+named_by_words Trial word is = refl
+named_by_words DvbCode word is =
+    subst (λ w. command_named (codes "dvb") w ≡ Some DvbCode) (sym ((bytes_eq-Decides word (codes "code")).0 is)) refl
+named_by_words DvbRead word is =
+    subst (λ w. command_named (codes "dvb") w ≡ Some DvbRead) (sym ((bytes_eq-Decides word (codes "read")).0 is)) refl
 
 -- the first of words that fit a command is its word
 verb_is : (c : Command) (verb : List ℕ) (words : List (List ℕ)) → fits c (verb ∷ words) ≡ true → verb ≡ (row_of c).verb
@@ -75,8 +108,9 @@ pub fits_only : (words : List (List ℕ)) (a b : Command) → fits a words ≡ t
 fits_only [] a b first second = let e : false ≡ true = first in cc
 fits_only (verb ∷ words) a b first second =
     let e : Some a ≡ Some b =
-    sym (named_by_verb a) ∙ ap command_named (sym (verb_is a verb words first) ∙ verb_is b verb words second)
-    ∙ named_by_verb b in
+    sym (named_by_words a (first_word words) (opens_of (row_of a).fields words (and_parts _ _ first).1))
+    ∙ ap (λ v. command_named v (first_word words)) (sym (verb_is a verb words first) ∙ verb_is b verb words second)
+    ∙ named_by_words b (first_word words) (opens_of (row_of b).fields words (and_parts _ _ second).1) in
     cc
 
 -- the words fit the command that is found

@@ -8,7 +8,7 @@ use Rattle.dtx_meaning.specs.declared.status.Status.{Status}
 use Rattle.dtx_meaning.specs.declared.status.Status.TheVariants.{Done, Usage, Same, Absent, Plan, Packet, TooLong}
 use Rattle.dtx_meaning.specs.declared.status.Status.TheVariants.{OutOfFeed, OutOfAir, NoSync, ReadFault, WriteFault}
 use Rattle.dtx_meaning.specs.declared.status.Status.TheVariants.{Memory}
-use Rattle.dtx_words.specs.Rows.{row_of, commands}
+use Rattle.dtx_words.specs.Rows.{row_of, first_words}
 use Rattle.dtx_words.specs.declared.rows.Command.{Command}
 
 -- each label with its number behind it
@@ -29,7 +29,7 @@ verbs_behind before (command ∷ rest) = before ++ ((row_of command).verb ++ ver
 
 -- `usage: dtx` and the words of all commands
 abbrev pub usage_line : List ℕ
-usage_line = verbs_behind (codes "usage: dtx ") commands ++ codes "\n"
+usage_line = verbs_behind (codes "usage: dtx ") first_words ++ codes "\n"
 
 -- the line of a command that is done: its labels with their numbers
 abbrev pub done_line : Option Command → Outcome → List ℕ

@@ -7,7 +7,7 @@ use Rattle.dtx_meaning.specs.declared.status.Status.{Status}
 use Rattle.dtx_meaning.specs.declared.status.Status.TheVariants.{Same, Absent}
 use Rattle.dtx_words.specs.declared.rows.Command.{Command}
 use Rattle.dtx_words.specs.declared.rows.Field.{Field}
-use Rattle.dtx_words.specs.declared.rows.Field.TheVariants.{Input, Output, Number, Within}
+use Rattle.dtx_words.specs.declared.rows.Field.TheVariants.{Input, Output, Number, Within, Second}
 use Rattle.dtx_words.specs.Rows.{row_of}
 
 -- the field is the name of a file
@@ -16,6 +16,7 @@ is_file Input = true
 is_file Output = true
 is_file (Number most) = false
 is_file (Within least most) = false
+is_file (Second second) = false
 
 -- the words at the fields of files, in their order
 abbrev pub names_at : List Field → List (List ℕ) → List (List ℕ)

@@ -3,15 +3,22 @@ use Rattle.std.specs.Prelude.{ℕ, ◌-◌, ◌^◌, Bool, true, false, not, ◌
 use Rattle.std.specs.List.{list_any}
 use Rattle.dtx_words.specs.declared.rows.Command.{Command}
 use Rattle.dtx_words.specs.declared.rows.Command.TheVariants.{Adapt, Code, Excite, Receive, Net, Make, Hurt, Place}
-use Rattle.dtx_words.specs.declared.rows.Command.TheVariants.{Trial}
+use Rattle.dtx_words.specs.declared.rows.Command.TheVariants.{Trial, DvbCode, DvbRead}
 use Rattle.dtx_words.specs.declared.rows.CommandRow.{CommandRow}
 use Rattle.dtx_words.specs.declared.rows.Field.{Field}
-use Rattle.dtx_words.specs.declared.rows.Field.TheVariants.{Input, Output, Number, Within}
+use Rattle.dtx_words.specs.declared.rows.Field.TheVariants.{Input, Output, Number, Within, Second}
+use Rattle.dtx_words.specs.declared.rows.SecondWord.{SecondWord}
+use Rattle.dtx_words.specs.declared.rows.SecondWord.TheVariants as second
 
 -- the field is the name of a file that is read
 abbrev pub is_input : Field → Bool
 is_input Input = true
 is_input _ = false
+
+-- how the second word of a command is written that has two
+abbrev pub second_text : SecondWord → List ℕ
+second_text second.Code = codes "code"
+second_text second.Read = codes "read"
 
 -- all that is to be said of a command's words and of its line
 pub record Row : Type 0 where
@@ -107,6 +114,24 @@ trial_row = record {
   fewest = 6;
 }
 
+-- `dvb code IN OUT`
+abbrev pub dvb_code_row : Row
+dvb_code_row = record {
+  verb = codes "dvb";
+  fields = Second second.Code ∷ Input ∷ Output ∷ [];
+  labels = codes "packets " ∷ codes " loose " ∷ [];
+  fewest = 2;
+}
+
+-- `dvb read IN OUT`
+abbrev pub dvb_read_row : Row
+dvb_read_row = record {
+  verb = codes "dvb";
+  fields = Second second.Read ∷ Input ∷ Output ∷ [];
+  labels = codes "blocks " ∷ codes " packets " ∷ codes " fixed " ∷ codes " flagged " ∷ codes " loose " ∷ [];
+  fewest = 5;
+}
+
 -- the row of a command
 abbrev pub row_of : Command → Row
 row_of Adapt = adapt_row
@@ -118,6 +143,8 @@ row_of Make = make_row
 row_of Hurt = hurt_row
 row_of Place = place_row
 row_of Trial = trial_row
+row_of DvbCode = dvb_code_row
+row_of DvbRead = dvb_read_row
 
 -- the row behind the references that the code holds
 abbrev pub row_behind : CommandRow → Row
@@ -134,6 +161,10 @@ are_inputs_first [] = true
 are_inputs_first (Output ∷ fields) = not (list_any is_input fields) && are_inputs_first fields
 are_inputs_first (field ∷ fields) = are_inputs_first fields
 
--- all commands, in the order of the usage line
+-- all commands
 abbrev pub commands : List Command
-commands = Adapt ∷ Code ∷ Excite ∷ Receive ∷ Net ∷ Make ∷ Hurt ∷ Place ∷ Trial ∷ []
+commands = Adapt ∷ Code ∷ Excite ∷ Receive ∷ Net ∷ Make ∷ Hurt ∷ Place ∷ Trial ∷ DvbCode ∷ DvbRead ∷ []
+
+-- one command for each first word, in the order of the usage line
+abbrev pub first_words : List Command
+first_words = Adapt ∷ Code ∷ Excite ∷ Receive ∷ Net ∷ Make ∷ Hurt ∷ Place ∷ Trial ∷ DvbCode ∷ []

@@ -49,5 +49,6 @@ fn fits_field(field: Field, word: &str) -> bool
         Field::Input | Field::Output => !word.is_empty(),
         Field::Number(most) => number_up_to(most, word).is_some(),
         Field::Within(least, most) => number_within(least, most, word).is_some(),
+        Field::Second(second) => word == second.text(),
     }
 }

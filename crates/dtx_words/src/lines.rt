@@ -7,7 +7,7 @@ ghost use Rattle.dtx_words.specs.Rows.{row_of};
 
 use crate::Command;
 use crate::put::put_all;
-use crate::rows::{COMMANDS, row};
+use crate::rows::{FIRST_WORDS, row};
 use dtx_meaning::{Outcome, Status};
 use dtx_outside::{Sink, SinkNo};
 use itoa::Buffer;
@@ -82,7 +82,7 @@ fn put_usage<O: Sink>(out: &mut O) -> Result<(), SinkNo>
     ensures gone { IsCounted (O.faults out.old) result (O.faults out.new) }
 {
     let mut before = "usage: dtx ";
-    for command in COMMANDS {
+    for command in FIRST_WORDS {
         put_verb(before, command, out)?;
         before = "|";
     }

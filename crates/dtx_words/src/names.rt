@@ -68,6 +68,6 @@ fn is_file(field: Field) -> bool
 {
     match field {
         Field::Input | Field::Output => true,
-        Field::Number(_) | Field::Within(_, _) => false,
+        Field::Number(_) | Field::Within(_, _) | Field::Second(_) => false,
     }
 }

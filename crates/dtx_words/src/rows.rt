@@ -1,6 +1,6 @@
 // One row a command: its word, its fields, and the labels of its line.
 ghost use Rattle.std.specs.Prelude.{◌≡◌};
-ghost use Rattle.dtx_words.specs.Rows.{row_behind, row_of};
+ghost use Rattle.dtx_words.specs.Rows.{row_behind, row_of, second_text};
 
 use dtx_sizes::MOST_PACKETS;
 
@@ -10,7 +10,7 @@ pub const FEWEST_TRIAL: u64 = 624;
 /// How many packets the stream of a trial has at most (the profile's own limit).
 pub const MOST_TRIAL: u64 = 1_000_000;
 
-/// A command, which the first word names.
+/// A command, which the first word names, or the first two.
 #[derive(Clone, Copy, Debug, PartialEq, Eq)]
 pub enum Command {
     /// `adapt PLAN IN OUT`
@@ -31,6 +31,31 @@ pub enum Command {
     Place,
     /// `trial SEED COUNT`
     Trial,
+    /// `dvb code IN OUT`
+    DvbCode,
+    /// `dvb read IN OUT`
+    DvbRead,
+}
+
+/// The second word of a command that has two.
+#[derive(Clone, Copy)]
+pub enum SecondWord {
+    /// `code`
+    Code,
+    /// `read`
+    Read,
+}
+
+impl SecondWord {
+    /// How it is written.
+    pub(crate) fn text(self) -> &'static str
+        ensures { result.now ≡ second_text self }
+    {
+        match self {
+            SecondWord::Code => "code",
+            SecondWord::Read => "read",
+        }
+    }
 }
 
 /// What a word behind the first one is.
@@ -44,6 +69,8 @@ pub enum Field {
     Number(u64),
     /// A whole number that is at least the first of these and at most the second.
     Within(u64, u64),
+    /// The second word of the command.
+    Second(SecondWord),
 }
 
 /// All that is to be said of a command's words and of its line.
@@ -60,7 +87,7 @@ pub(crate) struct CommandRow {
 }
 
 /// All commands.
-pub(crate) const COMMANDS: [Command; 9] = [
+pub(crate) const COMMANDS: [Command; 11] = [
     Command::Adapt,
     Command::Code,
     Command::Excite,
@@ -70,6 +97,22 @@ pub(crate) const COMMANDS: [Command; 9] = [
     Command::Hurt,
     Command::Place,
     Command::Trial,
+    Command::DvbCode,
+    Command::DvbRead,
+];
+
+/// One command for each first word, in the order of the usage line.
+pub(crate) const FIRST_WORDS: [Command; 10] = [
+    Command::Adapt,
+    Command::Code,
+    Command::Excite,
+    Command::Receive,
+    Command::Net,
+    Command::Make,
+    Command::Hurt,
+    Command::Place,
+    Command::Trial,
+    Command::DvbCode,
 ];
 
 /// `adapt PLAN IN OUT`
@@ -174,6 +217,22 @@ const TRIAL: CommandRow = CommandRow {
     fewest: 6,
 };
 
+/// `dvb code IN OUT`
+const DVB_CODE: CommandRow = CommandRow {
+    verb: "dvb",
+    fields: &[Field::Second(SecondWord::Code), Field::Input, Field::Output],
+    labels: &["packets ", " loose "],
+    fewest: 2,
+};
+
+/// `dvb read IN OUT`
+const DVB_READ: CommandRow = CommandRow {
+    verb: "dvb",
+    fields: &[Field::Second(SecondWord::Read), Field::Input, Field::Output],
+    labels: &["blocks ", " packets ", " fixed ", " flagged ", " loose "],
+    fewest: 5,
+};
+
 /// The row of a command.
 pub(crate) fn row(command: Command) -> CommandRow
     ensures { row_behind result ≡ row_of command }
@@ -188,5 +247,7 @@ pub(crate) fn row(command: Command) -> CommandRow
         Command::Hurt => HURT,
         Command::Place => PLACE,
         Command::Trial => TRIAL,
+        Command::DvbCode => DVB_CODE,
+        Command::DvbRead => DVB_READ,
     }
 }

@@ -152,8 +152,8 @@ fn each_order_has_its_moment(rt: HostRuntime) -> Result<(), Fail> {
         (626, preset(1, 100, 5562013, 640)),
         (939, preset(1, 412, 5803985, 612)),
     ];
-    assert_eq!(rt; log.as_slice(), expected.as_slice());
-    assert_eq!(rt; segments, 1204);
+    assert!(rt; log.as_slice() == expected.as_slice());
+    assert!(rt; segments == 1204);
     Ok(())
 }
 
@@ -167,11 +167,8 @@ fn an_order_counts_from_52_packets_on(rt: HostRuntime) -> Result<(), Fail> {
             &[early, 52],
             (0, 0),
         )?;
-        assert_eq!(rt;
-            log.as_slice(),
-            [(0, preset(0, 52, 5040962, 1372))].as_slice()
-        );
-        assert_eq!(rt; segments, 8);
+        assert!(rt; log.as_slice() == [(0, preset(0, 52, 5040962, 1372))].as_slice());
+        assert!(rt; segments == 8);
     }
     let (log, segments) = lines(
         rt.alloc(),
@@ -180,8 +177,8 @@ fn an_order_counts_from_52_packets_on(rt: HostRuntime) -> Result<(), Fail> {
         &[48, 51],
         (0, 0),
     )?;
-    assert_eq!(rt; log.len(), 0);
-    assert_eq!(rt; segments, 0);
+    assert!(rt; log.len() == 0);
+    assert!(rt; segments == 0);
     Ok(())
 }
 
@@ -194,11 +191,8 @@ fn no_field_sync_stands_before_a_first_group(rt: HostRuntime) -> Result<(), Fail
         &[312],
         (0, 0),
     )?;
-    assert_eq!(rt;
-        log.as_slice(),
-        [(0, preset(0, 312, 5242735, 85))].as_slice()
-    );
-    assert_eq!(rt; segments, 8);
+    assert!(rt; log.as_slice() == [(0, preset(0, 312, 5242735, 85))].as_slice());
+    assert!(rt; segments == 8);
     Ok(())
 }
 
@@ -211,11 +205,8 @@ fn an_order_of_a_groups_third_packet_is_of_the_group(rt: HostRuntime) -> Result<
         &[102],
         (0, 0),
     )?;
-    assert_eq!(rt;
-        log.as_slice(),
-        [(0, preset(0, 100, 5078070, 640))].as_slice()
-    );
-    assert_eq!(rt; segments, 4);
+    assert!(rt; log.as_slice() == [(0, preset(0, 100, 5078070, 640))].as_slice());
+    assert!(rt; segments == 4);
     Ok(())
 }
 
@@ -234,8 +225,8 @@ fn a_mark_out_of_step_begins_anew(rt: HostRuntime) -> Result<(), Fail> {
         (100, preset(1, 100, 5562013, 640)),
         (413, preset(1, 412, 5803985, 612)),
     ];
-    assert_eq!(rt; log.as_slice(), expected.as_slice());
-    assert_eq!(rt; segments, 678);
+    assert!(rt; log.as_slice() == expected.as_slice());
+    assert!(rt; segments == 678);
     Ok(())
 }
 
@@ -250,8 +241,8 @@ fn a_late_transmitter_and_one_that_is_not_listed_send_nothing(rt: HostRuntime) -
             &[52, 100],
             (0, 0),
         )?;
-        assert_eq!(rt; log.as_slice(), [(0, Told::Muted(why)); 2].as_slice());
-        assert_eq!(rt; segments, 0);
+        assert!(rt; log.as_slice() == [(0, Told::Muted(why)); 2].as_slice());
+        assert!(rt; segments == 0);
     }
     let (log, segments) = lines(
         rt.alloc(),
@@ -260,8 +251,8 @@ fn a_late_transmitter_and_one_that_is_not_listed_send_nothing(rt: HostRuntime) -
         &ORDERS,
         (0, 0),
     )?;
-    assert_eq!(rt; log.len(), 1);
-    assert_eq!(rt; segments, 4);
+    assert!(rt; log.len() == 1);
+    assert!(rt; segments == 4);
     Ok(())
 }
 
@@ -279,20 +270,18 @@ fn what_is_given_are_the_feeds_own_segments(rt: HostRuntime) -> Result<(), Fail>
         for packet in &packets {
             exciter.take(packet, &mut air);
         }
-        assert_eq!(rt;
-            air.segments,
-            if u < 13 { 0 } else { feed.air.segments },
+        assert!(rt;
+            air.segments == if u < 13 { 0 } else { feed.air.segments },
             "group {u}"
         );
         let end = SEGMENT * air.segments as usize;
-        assert_eq!(rt;
-            air.symbols.get(..end),
-            feed.air.symbols.get(..end),
+        assert!(rt;
+            air.symbols.get(..end) == feed.air.symbols.get(..end),
             "group {u}"
         );
     }
     exciter.reset();
     let packets = feed.group(320, &[320]);
-    assert_eq!(rt; exciter.take(&packets[0], &mut air), Told::Quiet);
+    assert!(rt; exciter.take(&packets[0], &mut air) == Told::Quiet);
     Ok(())
 }

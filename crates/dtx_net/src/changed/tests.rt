@@ -33,7 +33,7 @@ fn worked(states: [u8; 5], header: [u8; 4]) -> Packet {
 fn a_lie_changes_the_states_and_keeps_the_counter(rt: HostRuntime) {
     let packet = worked([0x80, 0x00, 0x00, 0x00, 0x10], [0xB8, 0xDF, 0xFA, 0xED]);
     let zero = worked([0; 5], [0xB8, 0x1F, 0xFA, 0x1D]);
-    assert_eq!(rt; lied(&packet, &States([0; 12])), zero);
+    assert!(rt; lied(&packet, &States([0; 12])) == zero);
 }
 
 #[test]
@@ -43,7 +43,7 @@ fn a_damaged_packet_lies_undamaged(rt: HostRuntime) {
         packet.0[5 + 18 * k] ^= 0xA5;
     }
     let ones = worked([0x24, 0x92, 0x49, 0x24, 0x90], [0x47, 0x1F, 0xFA, 0x1F]);
-    assert_eq!(rt; lied_with_ones(&packet), ones);
+    assert!(rt; lied_with_ones(&packet) == ones);
 }
 
 fn lied_with_ones(packet: &Packet) -> Packet {
@@ -54,7 +54,7 @@ fn lied_with_ones(packet: &Packet) -> Packet {
 fn what_is_no_operations_packet_does_not_lie(rt: HostRuntime) {
     let mut packet = worked([0; 5], [0x47, 0x1F, 0xFA, 0x10]);
     packet.0[2] = 0xFB;
-    assert_eq!(rt; lied_with_ones(&packet), packet);
+    assert!(rt; lied_with_ones(&packet) == packet);
 }
 
 #[test]
@@ -62,11 +62,11 @@ fn a_flip_changes_one_byte(rt: HostRuntime) -> Result<(), Fail> {
     let packet = worked([0x80, 0x00, 0x00, 0x00, 0x10], [0x47, 0x1F, 0xFA, 0x10]);
     let mut changed = packet;
     changed.0[5] = 0x25;
-    assert_eq!(rt; flipped(&packet, 5, 0xA5), changed);
+    assert!(rt; flipped(&packet, 5, 0xA5) == changed);
     let code = Fast::new();
-    assert_eq!(rt; read(&code, &changed)?, read(&code, &packet)?);
+    assert!(rt; read(&code, &changed)? == read(&code, &packet)?);
     changed = packet;
     changed.0[187] ^= 0xFF;
-    assert_eq!(rt; flipped(&packet, 187, 0xFF), changed);
+    assert!(rt; flipped(&packet, 187, 0xFF) == changed);
     Ok(())
 }

@@ -120,7 +120,7 @@ fn both(stage: &mut Stage, k: u64) -> [Option<Told>; 2]
 fn an_address_has_its_place_in_the_list(rt: HostRuntime) -> Result<(), Fail> {
     let net = Stage::new(rt.alloc())?.net;
     let found = [net.find(7), net.find(9), net.find(8)];
-    assert_eq!(rt; found, [Some(0), Some(1), None]);
+    assert!(rt; found == [Some(0), Some(1), None]);
     Ok(())
 }
 
@@ -128,28 +128,25 @@ fn an_address_has_its_place_in_the_list(rt: HostRuntime) -> Result<(), Fail> {
 fn each_transmitter_goes_on_with_its_own_life(rt: HostRuntime) -> Result<(), Fail> {
     let mut stage = Stage::new(rt.alloc())?;
     for index in 0..3 {
-        assert_eq!(rt;
-            stage.give(9, &dtx_make::packet(2, index)),
-            Some(Told::Quiet)
-        );
+        assert!(rt; stage.give(9, &dtx_make::packet(2, index)) == Some(Told::Quiet));
     }
     for k in 0..103 {
-        assert_eq!(rt; both(&mut stage, k), [Some(Told::Quiet); 2]);
+        assert!(rt; both(&mut stage, k) == [Some(Told::Quiet); 2]);
     }
-    assert_eq!(rt;
-        both(&mut stage, 103),
-        [
-            Some(preset(5078070, 4998990)),
-            Some(preset(5078105, 4998025)),
-        ]
+    assert!(rt;
+        both(&mut stage, 103)
+            == [
+                Some(preset(5078070, 4998990)),
+                Some(preset(5078105, 4998025)),
+            ]
     );
-    assert_eq!(rt; both(&mut stage, 104), [Some(Told::Quiet); 2]);
+    assert!(rt; both(&mut stage, 104) == [Some(Told::Quiet); 2]);
     stage.restart(9);
     for k in 105..107 {
-        assert_eq!(rt; both(&mut stage, k), [Some(Told::Quiet); 2]);
+        assert!(rt; both(&mut stage, k) == [Some(Told::Quiet); 2]);
     }
     let sent = Told::Sent { preset: None };
-    assert_eq!(rt; both(&mut stage, 107), [Some(sent), Some(Told::Quiet)]);
-    assert_eq!(rt; stage.air.segments, 0);
+    assert!(rt; both(&mut stage, 107) == [Some(sent), Some(Told::Quiet)]);
+    assert!(rt; stage.air.segments == 0);
     Ok(())
 }

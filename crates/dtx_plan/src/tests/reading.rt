@@ -50,25 +50,25 @@ count = 12
 put = 127
 ";
     let plan = read_plan(alloc, text.as_bytes()).ok().ok_or("no plan")?;
-    assert_eq!(rt; (plan.start, plan.max_delay), (0, 5000000));
-    assert_eq!(rt;
-        plan.transmitters.as_slice(),
-        [
-            Transmitter {
-                address: 7,
-                offset: -10,
-                delay: 1000
-            },
-            Transmitter {
-                address: 9,
-                offset: -10,
-                delay: 0
-            },
-        ]
-        .as_slice()
+    assert!(rt; (plan.start, plan.max_delay) == (0, 5000000));
+    assert!(rt;
+        plan.transmitters.as_slice()
+            == [
+                Transmitter {
+                    address: 7,
+                    offset: -10,
+                    delay: 1000
+                },
+                Transmitter {
+                    address: 9,
+                    offset: -10,
+                    delay: 0
+                },
+            ]
+            .as_slice()
     );
     let net = plan.net.ok_or("no net")?;
-    assert_eq!(rt; net.stream.as_str(), "s.ts");
+    assert!(rt; net.stream.as_str() == "s.ts");
     for (i, event) in [
         Event::Send {
             to: 7,
@@ -98,17 +98,17 @@ put = 127
     .enumerate()
     {
         assert!(rt; i < net.events.len());
-        assert_eq!(rt; net.events.get(i), event);
+        assert!(rt; net.events.get(i) == event);
     }
     let receive = net.receive.ok_or("no receive")?;
-    assert_eq!(rt; (receive.from, receive.damage.len()), (7, 1));
-    assert_eq!(rt;
-        receive.damage.get(0),
-        Damage {
-            at: 300000,
-            count: 12,
-            put: 127
-        }
+    assert!(rt; (receive.from, receive.damage.len()) == (7, 1));
+    assert!(rt;
+        receive.damage.get(0)
+            == Damage {
+                at: 300000,
+                count: 12,
+                put: 127
+            }
     );
     let changes = read_changes(
         alloc,
@@ -116,14 +116,14 @@ put = 127
     )
     .ok()
     .ok_or("no changes")?;
-    assert_eq!(rt; changes.len(), 2);
-    assert_eq!(rt;
-        changes.get(1),
-        Damage {
-            at: 2,
-            count: 1,
-            put: 0
-        }
+    assert!(rt; changes.len() == 2);
+    assert!(rt;
+        changes.get(1)
+            == Damage {
+                at: 2,
+                count: 1,
+                put: 0
+            }
     );
     Ok(())
 }

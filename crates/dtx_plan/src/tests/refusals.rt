@@ -38,9 +38,8 @@ fn plans_are_refused(
 ) -> Result<(), Fail> {
     for (text, key, item, rule) in rows {
         let plan = format!(in rt.alloc(); "{before}{text}")?;
-        assert_eq!(rt;
-            words(read_plan(rt.alloc(), plan.as_bytes())),
-            Some((*key, *item, *rule)),
+        assert!(rt;
+            words(read_plan(rt.alloc(), plan.as_bytes())) == Some((*key, *item, *rule)),
             "{plan}"
         );
     }
@@ -50,9 +49,8 @@ fn plans_are_refused(
 /// Each row's changes are refused so.
 fn changes_are_refused(rt: &(impl AllocGlobal + Abort), rows: &[Row]) -> Result<(), Fail> {
     for (text, key, item, rule) in rows {
-        assert_eq!(rt;
-            words(read_changes(rt.alloc(), text.as_bytes())),
-            Some((*key, *item, *rule)),
+        assert!(rt;
+            words(read_changes(rt.alloc(), text.as_bytes())) == Some((*key, *item, *rule)),
             "{text}"
         );
     }
@@ -449,20 +447,11 @@ fn long_files_arrays_and_names_are_refused_by_their_bytes_and_entries(
 ) -> Result<(), Fail> {
     let alloc = rt.alloc();
     let mut bytes = vec![in alloc; b' '; 16777216]?;
-    assert_eq!(rt;
-        words(read_plan(alloc, &bytes)),
-        Some(("start", 0, "missing"))
-    );
+    assert!(rt; words(read_plan(alloc, &bytes)) == Some(("start", 0, "missing")));
     bytes.push(b' ')?;
-    assert_eq!(rt; words(read_plan(alloc, &bytes)), Some(("whole", 0, "size")));
-    assert_eq!(rt;
-        words(read_changes(alloc, &bytes)),
-        Some(("whole", 0, "size"))
-    );
-    assert_eq!(rt;
-        words(read_plan(alloc, &[b'#', 0xFF])),
-        Some(("whole", 0, "text"))
-    );
+    assert!(rt; words(read_plan(alloc, &bytes)) == Some(("whole", 0, "size")));
+    assert!(rt; words(read_changes(alloc, &bytes)) == Some(("whole", 0, "size")));
+    assert!(rt; words(read_plan(alloc, &[b'#', 0xFF])) == Some(("whole", 0, "text")));
     for (before, first, one, count, last, want) in [
         (EVENTS, "[", "1,", 10000, "]", ("event", 0, "kind")),
         (EVENTS, "[", "1,", 10001, "]", ("event", 0, "range")),
@@ -512,9 +501,8 @@ fn long_files_arrays_and_names_are_refused_by_their_bytes_and_entries(
             text.push_str(one)?;
         }
         text.push_str(last)?;
-        assert_eq!(rt;
-            words(read_plan(alloc, text.as_bytes())),
-            Some(want),
+        assert!(rt;
+            words(read_plan(alloc, text.as_bytes())) == Some(want),
             "{one}"
         );
     }

@@ -104,9 +104,9 @@ fn a_packet_comes_once_53_segments_stand_and_the_52_packets_of_a_turn_at_the_end
         (104, 52, 53),
     ] {
         let totals = of_zeros(&mut receiver, count);
-        assert_eq!(rt; totals.0.packets, early, "{count} segments, as they come");
-        assert_eq!(rt; totals.1.packets, all, "{count} segments, and the end");
-        assert_eq!(rt; (totals.1.fixed, totals.1.flagged), (0, 0));
+        assert!(rt; totals.0.packets == early, "{count} segments, as they come");
+        assert!(rt; totals.1.packets == all, "{count} segments, and the end");
+        assert!(rt; (totals.1.fixed, totals.1.flagged) == (0, 0));
     }
     Ok(())
 }
@@ -121,13 +121,13 @@ fn the_packets_of_zeros_are_the_randomizers_bytes(rt: HostRuntime) -> Result<(),
         receiver.take(&zeros(), &mut batch);
     }
     let packets = batch.packets.as_slice();
-    assert_eq!(rt; packets.len(), 4);
+    assert!(rt; packets.len() == 4);
     for (k, received) in packets.iter().enumerate().take(4) {
         let mut packet = [0x47; PACKET];
         for j in 0..PACKET_DATA {
             packet[1 + j] = atsc.byte(PACKET_DATA * k + j);
         }
-        assert_eq!(rt; received.packet.0[..], packet[..], "packet {k}");
+        assert!(rt; received.packet.0[..] == packet[..], "packet {k}");
     }
     Ok(())
 }
@@ -148,15 +148,12 @@ fn two_lost_segments_are_put_right(rt: HostRuntime) -> Result<(), Fail> {
             313 => Tracking::Sync,
             _ => Tracking::Data,
         };
-        assert_eq!(rt; receiver.take(&segment, &mut batch), want, "segment {n}");
+        assert!(rt; receiver.take(&segment, &mut batch) == want, "segment {n}");
         totals.add(&batch);
     }
     receiver.finish(&mut batch);
     totals.add(&batch);
-    assert_eq!(rt;
-        (totals.packets, totals.fixed, totals.flagged),
-        (573, 420, 0)
-    );
+    assert!(rt; (totals.packets, totals.fixed, totals.flagged) == (573, 420, 0));
     Ok(())
 }
 
@@ -178,7 +175,7 @@ fn noise_gives_flagged_packets_with_the_bytes_as_gathered(rt: HostRuntime) -> Re
         for n in 0..count {
             if n == 312 {
                 let tracking = receiver.take(&sync(&[7; PRECODE]), &mut batch);
-                assert_eq!(rt; tracking, Tracking::Sync);
+                assert!(rt; tracking == Tracking::Sync);
             }
             receiver.take(&noise(n), &mut batch);
             totals.add(&batch);
@@ -191,7 +188,7 @@ fn noise_gives_flagged_packets_with_the_bytes_as_gathered(rt: HostRuntime) -> Re
             flagged: packets,
             digest,
         };
-        assert_eq!(rt; totals, want, "{count} segments");
+        assert!(rt; totals == want, "{count} segments");
     }
     Ok(())
 }
@@ -201,25 +198,19 @@ fn a_run_ends_before_a_segment_that_should_be_a_field_sync(rt: HostRuntime) -> R
     let mut receiver = Receiver::new(rt.alloc())?;
     let mut batch = Batch::new();
     let mut totals = Totals::none();
-    assert_eq!(rt; receiver.take(&noise(0), &mut batch), Tracking::Searching);
-    assert_eq!(rt;
-        receiver.take(&sync(&[-7; PRECODE]), &mut batch),
-        Tracking::Began
-    );
+    assert!(rt; receiver.take(&noise(0), &mut batch) == Tracking::Searching);
+    assert!(rt; receiver.take(&sync(&[-7; PRECODE]), &mut batch) == Tracking::Began);
     for _ in 0..312 {
-        assert_eq!(rt; receiver.take(&zeros(), &mut batch), Tracking::Data);
+        assert!(rt; receiver.take(&zeros(), &mut batch) == Tracking::Data);
         totals.add(&batch);
     }
-    assert_eq!(rt; totals.packets, 260);
-    assert_eq!(rt; receiver.take(&zeros(), &mut batch), Tracking::Ended);
-    assert_eq!(rt; batch.packets.len(), 1);
-    assert_eq!(rt; receiver.take(&zeros(), &mut batch), Tracking::Searching);
-    assert_eq!(rt;
-        receiver.take(&sync(&[-7; PRECODE]), &mut batch),
-        Tracking::Began
-    );
+    assert!(rt; totals.packets == 260);
+    assert!(rt; receiver.take(&zeros(), &mut batch) == Tracking::Ended);
+    assert!(rt; batch.packets.len() == 1);
+    assert!(rt; receiver.take(&zeros(), &mut batch) == Tracking::Searching);
+    assert!(rt; receiver.take(&sync(&[-7; PRECODE]), &mut batch) == Tracking::Began);
     receiver.finish(&mut batch);
-    assert_eq!(rt; batch.packets.len(), 0);
+    assert!(rt; batch.packets.len() == 0);
     Ok(())
 }
 
@@ -227,13 +218,7 @@ fn a_run_ends_before_a_segment_that_should_be_a_field_sync(rt: HostRuntime) -> R
 fn a_field_sync_within_a_field_is_data(rt: HostRuntime) -> Result<(), Fail> {
     let mut receiver = Receiver::new(rt.alloc())?;
     let mut batch = Batch::new();
-    assert_eq!(rt;
-        receiver.take(&sync(&[-7; PRECODE]), &mut batch),
-        Tracking::Began
-    );
-    assert_eq!(rt;
-        receiver.take(&sync(&[-7; PRECODE]), &mut batch),
-        Tracking::Data
-    );
+    assert!(rt; receiver.take(&sync(&[-7; PRECODE]), &mut batch) == Tracking::Began);
+    assert!(rt; receiver.take(&sync(&[-7; PRECODE]), &mut batch) == Tracking::Data);
     Ok(())
 }

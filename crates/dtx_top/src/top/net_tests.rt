@@ -5,7 +5,7 @@ use crate::worked_network::{WITH_DAMAGE, WITHOUT_DAMAGE};
 use std::test::Fail;
 
 /// A network of two transmitters, one of which is given a part of a group and restarted.
-const PLAN: &str = "start = 0\nmax_delay = 5000000\n\
+const PLAN: &[u8] = b"start = 0\nmax_delay = 5000000\n\
 [[transmitter]]\naddress = 7\noffset = -10\n\
 [[transmitter]]\naddress = 9\noffset = 25\n\
 [net]\nstream = \"s.ts\"\n\
@@ -15,11 +15,11 @@ const PLAN: &str = "start = 0\nmax_delay = 5000000\n\
 #[test]
 fn a_restart_stands_in_the_log(rt: HostRuntime) -> Result<(), Fail> {
     let mut desk = Desk::new(&rt);
-    desk.put("p", PLAN.as_bytes())?;
+    desk.put("p", PLAN)?;
     desk.put("s.ts", &[0x47; 752])?;
     desk.run(&["net", "p"])?;
     assert!(rt; desk.has_printed("feed 4 filled 0 steps 3\n"));
-    assert_eq!(rt; desk.file("tx-9.log"), b"restart 0\n".as_slice());
+    assert!(rt; desk.file("tx-9.log") == b"restart 0\n".as_slice());
     Ok(())
 }
 
@@ -29,10 +29,10 @@ fn a_restart_stands_in_the_log(rt: HostRuntime) -> Result<(), Fail> {
 fn the_worked_networks_are_done(rt: HostRuntime) -> Result<(), Fail> {
     for text in [WITHOUT_DAMAGE, WITH_DAMAGE] {
         let mut desk = Desk::new(&rt);
-        desk.put("p", text.as_bytes())?;
+        desk.put("p", text)?;
         desk.run(&["make", "1", "400", "made.ts"])?;
-        assert_eq!(rt; desk.run(&["net", "p"])?, Status::Done);
-        assert_eq!(rt; desk.file("net.ts").len(), 36 * 188);
+        assert!(rt; desk.run(&["net", "p"])? == Status::Done);
+        assert!(rt; desk.file("net.ts").len() == 36 * 188);
     }
     Ok(())
 }

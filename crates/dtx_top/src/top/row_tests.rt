@@ -5,7 +5,7 @@ use dtx_outside::Call;
 use std::test::Fail;
 
 /// A plan of two transmitters, as lines.
-const PLAN: &str = "start = 0\nmax_delay = 5000000\n\
+const PLAN: &[u8] = b"start = 0\nmax_delay = 5000000\n\
 [[transmitter]]\naddress = 7\noffset = -10\ndelay = 1000\n\
 [[transmitter]]\naddress = 9\noffset = 25\ndelay = 2000\n";
 
@@ -88,7 +88,7 @@ fn stream_of(rt: &HostRuntime, syncs: &[u8], loose: usize) -> Result<Vec<u8>, Fa
 fn few_packets_have_their_line_and_output(rt: HostRuntime) -> Result<(), Fail> {
     for (words, syncs, loose, line, left) in PACKETS {
         let mut desk = Desk::new(&rt);
-        desk.put("p", PLAN.as_bytes())?;
+        desk.put("p", PLAN)?;
         desk.put("s", &stream_of(&rt, syncs, loose)?)?;
         desk.run(words)?;
         assert!(rt; desk.has_printed(line), "{line}");
@@ -115,24 +115,24 @@ fn whole_groups_are_coded_behind_a_field_sync(rt: HostRuntime) -> Result<(), Fai
         desk.run(&["code", "s", "o"])?;
         assert!(rt; desk.has_printed(line), "{line}");
         let coded = desk.file("o");
-        assert_eq!(rt; coded.len(), symbols);
+        assert!(rt; coded.len() == symbols);
         // A segment begins with the levels 5, -5, -5, 5 (ATSC A/53 Part 2, data segment sync).
-        assert_eq!(rt; coded.get(..4), Some([5, 251, 251, 5].as_slice()));
-        assert_eq!(rt; coded.get(832..836), Some([5, 251, 251, 5].as_slice()));
+        assert!(rt; coded.get(..4) == Some([5, 251, 251, 5].as_slice()));
+        assert!(rt; coded.get(832..836) == Some([5, 251, 251, 5].as_slice()));
     }
     Ok(())
 }
 
 /// Changes to the bytes 1, 2, 3, 4, the line, and the bytes then.
-const CHANGES: [(&str, &str, [u8; 4]); 3] = [
-    ("damage = []", "bytes 4 damaged 0\n", [1, 2, 3, 4]),
+const CHANGES: [(&[u8], &str, [u8; 4]); 3] = [
+    (b"damage = []", "bytes 4 damaged 0\n", [1, 2, 3, 4]),
     (
-        "damage = [{ at = 1, count = 2, put = -1 }]",
+        b"damage = [{ at = 1, count = 2, put = -1 }]",
         "bytes 4 damaged 2\n",
         [1, 0xFF, 0xFF, 4],
     ),
     (
-        "damage = [{ at = 0, put = 5 }, { at = 3, count = 2, put = 6 }]",
+        b"damage = [{ at = 0, put = 5 }, { at = 3, count = 2, put = 6 }]",
         "out of air 1\n",
         [5, 2, 3, 6],
     ),
@@ -143,27 +143,27 @@ fn a_file_is_hurt_to_its_end(rt: HostRuntime) -> Result<(), Fail> {
     for (changes, line, left) in CHANGES {
         let mut desk = Desk::new(&rt);
         desk.put("i", &[1, 2, 3, 4])?;
-        desk.put("c", changes.as_bytes())?;
+        desk.put("c", changes)?;
         desk.run(&["hurt", "i", "c", "o"])?;
         assert!(rt; desk.has_printed(line), "{line}");
-        assert_eq!(rt; desk.file("o"), left.as_slice());
+        assert!(rt; desk.file("o") == left.as_slice());
     }
     Ok(())
 }
 
 /// Plans that are refused, with the line.
-const PLANS: [(&str, &str); 4] = [
-    ("start = ", "plan whole 0 text\n"),
+const PLANS: [(&[u8], &str); 4] = [
+    (b"start = ", "plan whole 0 text\n"),
     (
-        "max_delay = 5000000\n[[transmitter]]\naddress = 7\noffset = -10\n",
+        b"max_delay = 5000000\n[[transmitter]]\naddress = 7\noffset = -10\n",
         "plan start 0 missing\n",
     ),
     (
-        "start = 0\nmax_delay = 10000000\n[[transmitter]]\naddress = 7\noffset = -10\n",
+        b"start = 0\nmax_delay = 10000000\n[[transmitter]]\naddress = 7\noffset = -10\n",
         "plan max_delay 0 range\n",
     ),
     (
-        "start = 0\nmax_delay = 5000000\n[[transmitter]]\naddress = 7\noffset = -10\n\
+        b"start = 0\nmax_delay = 5000000\n[[transmitter]]\naddress = 7\noffset = -10\n\
         [[transmitter]]\naddress = 7\noffset = 25\n",
         "plan address 1 twice\n",
     ),
@@ -173,11 +173,11 @@ const PLANS: [(&str, &str); 4] = [
 fn a_plan_is_refused_by_its_first_broken_rule(rt: HostRuntime) -> Result<(), Fail> {
     for (plan, line) in PLANS {
         let mut desk = Desk::new(&rt);
-        desk.put("p", plan.as_bytes())?;
+        desk.put("p", plan)?;
         desk.put("s", &[])?;
         desk.run(&["adapt", "p", "s", "o"])?;
         assert!(rt; desk.has_printed(line), "{line}");
-        assert_eq!(rt; desk.calls(Call::Begin), 0, "{line}");
+        assert!(rt; desk.calls(Call::Begin) == 0, "{line}");
     }
     Ok(())
 }

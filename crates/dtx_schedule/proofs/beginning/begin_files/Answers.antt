@@ -7,7 +7,7 @@ use Rattle.dtx_outside.specs.Shelf.{IsBegun}
 use Rattle.dtx_plan.specs.declared.transmitter.Transmitter.{Transmitter}
 use Rattle.dtx_schedule.specs.Pair.{AreNamesOf}
 use Rattle.dtx_schedule.specs.Played.{IsBegunOf}
-use Rattle.dtx_schedule.specs.Staged.{AreNames}
+use Rattle.dtx_schedule.specs.Playout.{AreNames}
 use Rattle.dtx_schedule.specs.declared.pair.FileNames.{FileNames}
 use Rattle.dtx_schedule.proofs.Begun.{all_begun, log_not_begun, next_begun, none_begun, symbols_not_begun}
 use Rattle.dtx_schedule.proofs.beginning.begin_files.Goals as goal

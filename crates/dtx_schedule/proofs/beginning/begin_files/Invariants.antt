@@ -2,7 +2,7 @@ use Rattle.std.proofs.Common.{◌≡◌, List}
 use Rattle.dtx_meaning.specs.Meaning.{with_outputs}
 use Rattle.dtx_outside.specs.Counts.{HasGone, Nothing}
 use Rattle.dtx_plan.specs.declared.transmitter.Transmitter.{Transmitter}
-use Rattle.dtx_schedule.specs.Staged.{AreNames}
+use Rattle.dtx_schedule.specs.Playout.{AreNames}
 use Rattle.dtx_schedule.proofs.Begun.{first_empty}
 use Rattle.dtx_schedule.proofs.beginning.begin_files.Given as goal
 

@@ -22,11 +22,11 @@ returns-in_err-packet-in-Flip-clause-done g c = λ ts held before feed there pla
     let status = c.in_err-packet-in-Flip.field-0.0 in
     let p = err_from_is_err_and c.from_residual.result c.from_residual.ensures.1 in
     let fault = feed_read (λ feed. from < whole_packets feed
-    → IsPacketOf feed from (Err status)) ts before held c.args.stage.now was feed there is
+    → IsPacketOf feed from (Err status)) ts before held c.args.playout.now was feed there is
     c.in_err-packet-in-Flip.ensures.told within in
     let own : List Step = steps_of ts (packets_of feed) c.args.event.now in
-    subst (λ r. IsDoneOf ts (before ++ own) held r c.args.stage.now mid) (sym (p.1 ∙ ap Err p.2))
-    (unread ts before own held c.args.stage.now was mid status c.read_one.ensures.kept is fault)
+    subst (λ r. IsDoneOf ts (before ++ own) held r c.args.playout.now mid) (sym (p.1 ∙ ap Err p.2))
+    (unread ts before own held c.args.playout.now was mid status c.read_one.ensures.kept is fault)
 
 pub returns-in_err-packet-in-Lie-clause-done : goal.returns-in_err-packet-in-Lie-clause-done
 returns-in_err-packet-in-Lie-clause-done g c = λ ts held before feed there place past is.
@@ -40,11 +40,11 @@ returns-in_err-packet-in-Lie-clause-done g c = λ ts held before feed there plac
     let p = err_from_is_err_and c.from_residual-in_err-packet-in-Lie.result
     c.from_residual-in_err-packet-in-Lie.ensures.1 in
     let fault = feed_read (λ feed. from < whole_packets feed
-    → IsPacketOf feed from (Err status)) ts before held c.args.stage.now was feed there is
+    → IsPacketOf feed from (Err status)) ts before held c.args.playout.now was feed there is
     c.in_err-packet-in-Lie.ensures.told within in
     let own : List Step = steps_of ts (packets_of feed) c.args.event.now in
-    subst (λ r. IsDoneOf ts (before ++ own) held r c.args.stage.now mid) (sym (p.1 ∙ ap Err p.2))
-    (unread ts before own held c.args.stage.now was mid status c.read_one-in-Lie.ensures.kept is fault)
+    subst (λ r. IsDoneOf ts (before ++ own) held r c.args.playout.now mid) (sym (p.1 ∙ ap Err p.2))
+    (unread ts before own held c.args.playout.now was mid status c.read_one-in-Lie.ensures.kept is fault)
 
 pub returns-in-Send-clause-done : goal.returns-in-Send-clause-done
 returns-in-Send-clause-done g c = λ ts held before feed there place past is.
@@ -54,7 +54,7 @@ returns-in-Send-clause-done g c = λ ts held before feed there place past is.
     let count = c.in-Send.count in
     let event : c.args.event.now ≡ Send to from count = cc in
     let within = part_within (whole_packets feed) to from count c.args.event.now event past in
-    event_done ts before (packet_steps who (packets_from feed from count)) held c.send.result c.send.new.stage
+    event_done ts before (packet_steps who (packets_from feed from count)) held c.send.result c.send.new.playout
     (g.S.Shelf.files c.send.new.shelf)
     who (packets_of feed) c.args.event.now (Send to from count) event place
     (λ its. sent ts who to from count feed its within)
@@ -69,7 +69,7 @@ returns-in-Foreign-clause-done g c = λ ts held before feed there place past is.
     let count = c.in-Foreign.count in
     let event : c.args.event.now ≡ Foreign to seed from count = cc in
     event_done ts before (packet_steps who (map (made_packet seed) (range_with_len from count))) held c.give_made.result
-    c.give_made.new.stage
+    c.give_made.new.playout
     (g.S.Shelf.files c.give_made.new.shelf) who (packets_of feed) c.args.event.now
     (Foreign to seed from count) event place
     (λ its. made ts who to seed from count (packets_of feed) its)
@@ -88,14 +88,14 @@ returns-in_ok-packet-in-Flip-clause-done g c = λ ts held before feed there plac
     let mid = g.S.Shelf.files c.read_one.new.shelf in
     let read = feed_read (λ feed. from < whole_packets feed
     → IsPacketOf feed from (Ok c.in_ok-packet-in-Flip.packet)) ts before held
-    c.args.stage.now was feed there is c.in_ok-packet-in-Flip.ensures.told within in
+    c.args.playout.now was feed there is c.in_ok-packet-in-Flip.ensures.told within in
     let step : List Step = packet_step who c.flipped.result.0 ∷ [] in
     event_done ts before step held c.give.result c.give.new.self (g.S.Shelf.files c.give.new.shelf) who
     (packets_of feed) c.args.event.now
     (Flip to from c.in-Flip.at c.in-Flip.with) event place
     (λ its. ap (λ p. packet_step who p ∷ []) c.flipped.ensures
     ∙ flipped ts who to from c.in-Flip.at c.in-Flip.with feed packet its within read)
-    (c.give.ensures.done ts held before (kept_on ts before held c.args.stage.now was mid c.read_one.ensures.kept is))
+    (c.give.ensures.done ts held before (kept_on ts before held c.args.playout.now was mid c.read_one.ensures.kept is))
 
 pub returns-in_ok-packet-in-Lie-clause-done : goal.returns-in_ok-packet-in-Lie-clause-done
 returns-in_ok-packet-in-Lie-clause-done g c = λ ts held before feed there place past is.
@@ -109,14 +109,14 @@ returns-in_ok-packet-in-Lie-clause-done g c = λ ts held before feed there place
     let mid = g.S.Shelf.files c.read_one-in-Lie.new.shelf in
     let read = feed_read (λ feed. from < whole_packets feed
     → IsPacketOf feed from (Ok c.in_ok-packet-in-Lie.packet)) ts before held
-    c.args.stage.now was feed there is c.in_ok-packet-in-Lie.ensures.told within in
+    c.args.playout.now was feed there is c.in_ok-packet-in-Lie.ensures.told within in
     let step : List Step = packet_step who c.lied-lied.result.0 ∷ [] in
     event_done ts before step held c.give-in-Lie.result c.give-in-Lie.new.self
     (g.S.Shelf.files c.give-in-Lie.new.shelf) who (packets_of feed)
     c.args.event.now (Lie to from c.in-Lie.states) event place
     (λ its. ap (λ p. packet_step who p ∷ []) c.lied-lied.ensures
     ∙ lied ts who to from c.in-Lie.states feed packet its within read)
-    (c.give-in-Lie.ensures.done ts held before (kept_on ts before held c.args.stage.now was mid
+    (c.give-in-Lie.ensures.done ts held before (kept_on ts before held c.args.playout.now was mid
     c.read_one-in-Lie.ensures.kept is))
 
 pub returns-in-Restart-clause-done : goal.returns-in-Restart-clause-done

@@ -10,7 +10,7 @@ use Rattle.dtx_schedule.proofs.event.play_event.Goals as goal
 pub returns-in-None-clause-done : goal.returns-in-None-clause-done
 returns-in-None-clause-done g c = λ ts held before feed there past is.
     let none : transmitter_place (to_of c.args.event.now) ts ≡ None =
-    ap (λ a. transmitter_place a ts) (sym c.to_of.ensures) ∙ sym (c.find.ensures.place ts before is.staged)
+    ap (λ a. transmitter_place a ts) (sym c.to_of.ensures) ∙ sym (c.find.ensures.place ts before is.playing)
     ∙ c.in-None.is in
-    subst (λ steps. IsPlayedSoFar ts steps held c.args.stage.now (g.S.Shelf.files c.args.shelf.now))
+    subst (λ steps. IsPlayedSoFar ts steps held c.args.playout.now (g.S.Shelf.files c.args.shelf.now))
     (sym (nowhere ts (packets_of feed) c.args.event.now before none)) is

@@ -20,7 +20,7 @@ returns-in_err-count-clause-done g c = λ ts held before feed there within is.
     let p = err_from_is_err_and c.from_residual.result c.from_residual.ensures.1 in
     let all : given + (part.count - given) ≡ part.count = omega (arith, less) in
     subst (λ r. IsDoneOf ts (before ++ packet_steps c.args.who (packets_from feed part.from part.count)) held r
-    c.send_piece.new.stage now) (sym (p.1 ∙ ap Err p.2))
+    c.send_piece.new.playout now) (sym (p.1 ∙ ap Err p.2))
     (subst (λ (steps : List Step). IsFault status × IsUnderWay ts steps held now)
     (piece_on before c.args.who feed part.from given (part.count - given)
     ∙ ap (λ n. before ++ packet_steps c.args.who (packets_from feed part.from n)) all)
@@ -39,7 +39,7 @@ loop-given-preserved g c =
           let part = c.args.part.now in
           let so_far : List Step = before ++ packet_steps c.args.who (packets_from feed part.from given) in
           let less = c.loop-given-test.true in
-          subst (λ steps. IsPlayedSoFar ts steps held c.send_piece.new.stage (g.S.Shelf.files c.send_piece.new.shelf))
+          subst (λ steps. IsPlayedSoFar ts steps held c.send_piece.new.playout (g.S.Shelf.files c.send_piece.new.shelf))
           (piece_on before c.args.who feed part.from given c.in_ok-count.count)
           (c.in_ok-count.ensures.done ts held so_far feed there (omega (arith, within, less))
           (old.done ts held before feed there within is));
@@ -54,5 +54,5 @@ returns-clause-done g c = λ ts held before feed there within is.
     let past = c.loop-given-test.false in
     let all : c.loop-given.given ≡ part.count = omega (arith, past, c.loop-given.invariant.in_range) in
     subst (λ n. IsPlayedSoFar ts (before ++ packet_steps c.args.who (packets_from feed part.from n)) held
-    c.loop-given.stage (g.S.Shelf.files c.loop-given.shelf)) all
+    c.loop-given.playout (g.S.Shelf.files c.loop-given.shelf)) all
     (c.loop-given.invariant.done ts held before feed there within is)

@@ -8,7 +8,7 @@ use Rattle.dtx_plan.specs.declared.transmitter.Transmitter.{Transmitter}
 use Rattle.dtx_words.specs.NetworkNames.{feed_name}
 use Rattle.dtx_net.specs.Steps.{Step}
 use Rattle.dtx_schedule.specs.PlayedSoFar.{IsPlayedSoFar, packet_steps}
-use Rattle.dtx_schedule.specs.Staged.{HasTransmitter}
+use Rattle.dtx_schedule.specs.Playout.{HasTransmitter}
 use Rattle.dtx_schedule.proofs.event.send.Given as goal
 
 abbrev pub invariant-loop-given : goal.invariant-loop-given
@@ -17,11 +17,11 @@ invariant-loop-given g l = record {
   room : length l.packets ≡ 348;
   done : (ts : List Transmitter) (held : Files) (before : List Step) (feed : List ℕ) → get held feed_name ≡ Some feed
       → l.part.from + l.part.count ≤ whole_packets feed
-      → IsPlayedSoFar ts before held l.fn.stage (g.S.Shelf.files l.fn.shelf)
-      → IsPlayedSoFar ts (before ++ packet_steps l.who (packets_from feed l.part.from l.given)) held l.stage
+      → IsPlayedSoFar ts before held l.fn.playout (g.S.Shelf.files l.fn.shelf)
+      → IsPlayedSoFar ts (before ++ packet_steps l.who (packets_from feed l.part.from l.given)) held l.playout
       (g.S.Shelf.files l.shelf);
-  there : HasTransmitter l.who l.stage;
-  count : l.stage.steps ≡ l.fn.stage.steps + l.given;
+  there : HasTransmitter l.who l.playout;
+  count : l.playout.steps ≡ l.fn.playout.steps + l.given;
   gone : HasGone (g.S.Shelf.counts l.fn.shelf) (g.S.Shelf.counts l.shelf) Nothing;
 }
 

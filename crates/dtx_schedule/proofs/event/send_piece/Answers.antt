@@ -18,10 +18,10 @@ returns-in_err-count-clause-done g c = λ ts held before feed there within is.
     let p = err_from_is_err_and c.from_residual.result c.from_residual.ensures.1 in
     let fault = feed_read (λ feed. part.from < whole_packets feed
     → IsPieceOf feed part.from (Err status) c.read_piece.new.packets) ts before held
-    c.args.stage.now was feed there is c.in_err-count.ensures.told within in
-    subst (λ r. IsGivenOf ts before c.args.who feed part.from part.count held r c.args.stage.now mid) (sym (p.1
+    c.args.playout.now was feed there is c.in_err-count.ensures.told within in
+    subst (λ r. IsGivenOf ts before c.args.who feed part.from part.count held r c.args.playout.now mid) (sym (p.1
     ∙ ap Err p.2))
-    (unread ts before (packet_steps c.args.who (packets_from feed part.from part.count)) held c.args.stage.now was mid
+    (unread ts before (packet_steps c.args.who (packets_from feed part.from part.count)) held c.args.playout.now was mid
     status c.read_piece.ensures.kept is fault)
 
 pub returns-in_err-give_all-clause-done : goal.returns-in_err-give_all-clause-done
@@ -36,9 +36,9 @@ returns-in_err-give_all-clause-done g c = λ ts held before feed there within is
     let p = err_from_is_err_and c.from_residual-in_err-give_all.result c.from_residual-in_err-give_all.ensures.1 in
     let packets = feed_read (λ feed. part.from < whole_packets feed
     → IsPieceOf feed part.from (Ok count) c.read_piece.new.packets) ts before held
-    c.args.stage.now was feed there is c.in_ok-count.ensures.told within in
+    c.args.playout.now was feed there is c.in_ok-count.ensures.told within in
     let all : count + (part.count - count) ≡ part.count = omega (arith, c.in_ok-count.ensures.count.within) in
-    subst (λ r. IsGivenOf ts before who feed part.from part.count held r c.give_all.new.stage now) (sym (p.1
+    subst (λ r. IsGivenOf ts before who feed part.from part.count held r c.give_all.new.playout now) (sym (p.1
     ∙ ap Err p.2))
     (fault_more ts (before ++ packet_steps who (packets_from feed part.from count))
     (packet_steps who (packets_from feed (part.from + count) (part.count - count)))
@@ -47,7 +47,7 @@ returns-in_err-give_all-clause-done g c = λ ts held before feed there within is
     ∙ ap (λ n. before ++ packet_steps who (packets_from feed part.from n)) all)
     (subst (λ ps. IsFault status × IsUnderWay ts (before ++ packet_steps who ps) held now) packets
     (c.in_err-give_all.ensures.done ts held before
-    (kept_on ts before held c.args.stage.now was mid c.read_piece.ensures.kept is))))
+    (kept_on ts before held c.args.playout.now was mid c.read_piece.ensures.kept is))))
 
 pub returns-clause-done : goal.returns-clause-done
 returns-clause-done g c = λ ts held before feed there within is.
@@ -57,8 +57,8 @@ returns-clause-done g c = λ ts held before feed there within is.
     let count = c.in_ok-count.count in
     let packets = feed_read (λ feed. from < whole_packets feed
     → IsPieceOf feed from (Ok count) c.read_piece.new.packets) ts before held
-    c.args.stage.now was feed there is c.in_ok-count.ensures.told within in
-    subst (λ ps. IsPlayedSoFar ts (before ++ packet_steps c.args.who ps) held c.give_all.new.stage
+    c.args.playout.now was feed there is c.in_ok-count.ensures.told within in
+    subst (λ ps. IsPlayedSoFar ts (before ++ packet_steps c.args.who ps) held c.give_all.new.playout
     (g.S.Shelf.files c.give_all.new.shelf)) packets
     (c.in_ok-give_all.ensures.done ts held before
-    (kept_on ts before held c.args.stage.now was mid c.read_piece.ensures.kept is))
+    (kept_on ts before held c.args.playout.now was mid c.read_piece.ensures.kept is))

@@ -42,6 +42,6 @@ pub returns-clause-done : goal.returns-clause-done
 returns-clause-done g c = λ ts held before is.
     let packets = c.args.packets.now in
     let all : c.loop-i.i ≡ length packets = omega (arith, c.loop-i-test.false, c.loop-i.auto.i-end) in
-    subst (λ ps. IsPlayedSoFar ts (before ++ packet_steps c.args.who (map (λ p. p.0) ps)) held c.loop-i.stage
+    subst (λ ps. IsPlayedSoFar ts (before ++ packet_steps c.args.who (map (λ p. p.0) ps)) held c.loop-i.playout
     (g.S.Shelf.files c.loop-i.shelf))
     (ap (λ n. take n packets) all ∙ take-length packets) (c.loop-i.invariant.done ts held before is)

@@ -22,8 +22,8 @@ wanting ts steps held now same = record {
   off = inl (part_of_none (files_of nothing ts) (Some held) now same);
 }
 
-pub returns-in_err-stage-clause-played : goal.returns-in_err-stage-clause-played
-returns-in_err-stage-clause-played g c = λ held feed told there inside.
+pub returns-in_err-playout-clause-played : goal.returns-in_err-playout-clause-played
+returns-in_err-playout-clause-played g c = λ held feed told there inside.
     let ts = c.args.transmitters.now in
     let now = g.S.Shelf.files c.args.shelf.now in
     let steps : List Step = schedule ts (packets_of feed) c.args.events.now in
@@ -51,17 +51,17 @@ returns-in_err-run-clause-played g c = λ held feed told there inside.
     let steps : List Step = schedule ts (packets_of feed) c.args.events.now in
     let p = err_from_is_err_and c.from_residual-in_err-run.result c.from_residual-in_err-run.ensures.1 in
     subst (λ r. IsPlayOf ts steps held r now) (sym (p.1 ∙ ap Err p.2))
-    (c.in_err-run.ensures.run ts held feed c.in_ok-stage.ensures told there inside)
+    (c.in_err-run.ensures.run ts held feed c.in_ok-playout.ensures told there inside)
 
 pub returns-clause-played : goal.returns-clause-played
 returns-clause-played g c = λ held feed told there inside.
-    let is = c.in_ok-run.ensures.run c.args.transmitters.now held feed c.in_ok-stage.ensures told there inside in
-    record { files = is.files; staged = is.staged }
+    let is = c.in_ok-run.ensures.run c.args.transmitters.now held feed c.in_ok-playout.ensures told there inside in
+    record { files = is.files; playing = is.playing }
 
-pub returns-in_err-stage-clause-progress : goal.returns-in_err-stage-clause-progress
-returns-in_err-stage-clause-progress g c = λ held feed told there inside.
+pub returns-in_err-playout-clause-progress : goal.returns-in_err-playout-clause-progress
+returns-in_err-playout-clause-progress g c = λ held feed told there inside.
     progress_of c.args.transmitters.now (schedule c.args.transmitters.now (packets_of feed) c.args.events.now) held _
-    (g.S.Shelf.files c.args.shelf.now) (returns-in_err-stage-clause-played g c held feed told there inside)
+    (g.S.Shelf.files c.args.shelf.now) (returns-in_err-playout-clause-played g c held feed told there inside)
 
 pub returns-in_err-packets-clause-progress : goal.returns-in_err-packets-clause-progress
 returns-in_err-packets-clause-progress g c = λ held feed told there inside.

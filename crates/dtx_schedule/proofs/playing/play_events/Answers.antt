@@ -8,17 +8,17 @@ use Rattle.dtx_net.specs.Steps.{Step, schedule, steps_of}
 use Rattle.dtx_schedule.specs.PlayedSoFar.{IsDoneOf, IsPlayedSoFar}
 use Rattle.dtx_schedule.proofs.ScheduleOn.{event_at, nothing_yet, schedule_on, schedule_rest, stays_within}
 use Rattle.dtx_schedule.proofs.SoFar.{fault_more}
-use Rattle.dtx_schedule.proofs.StageOn.{none_given}
+use Rattle.dtx_schedule.proofs.PlayoutOn.{none_given}
 use Rattle.dtx_schedule.proofs.playing.play_events.Goals as goal
 
 pub loop-i-init : goal.loop-i-init
 loop-i-init g c = record {
   room = c.requires.room;
   done = λ ts held feed there inside is.
-      subst (λ steps. IsPlayedSoFar ts steps held c.args.stage.now (g.S.Shelf.files c.args.shelf.now))
+      subst (λ steps. IsPlayedSoFar ts steps held c.args.playout.now (g.S.Shelf.files c.args.shelf.now))
       (sym (nothing_yet ts (packets_of feed))) is;
-  some = record { ts = c.requires.staged.0; steps = []; staged = c.requires.staged.1 };
-  count = omega (arith, c.requires.staged.1.count, none_given);
+  some = record { ts = c.requires.playing.0; steps = []; playing = c.requires.playing.1 };
+  count = omega (arith, c.requires.playing.1.count, none_given);
   gone = grind (arith, common_steps);
 }
 
@@ -35,7 +35,7 @@ returns-in_err-play_event-clause-done g c = λ ts held feed there inside is.
     let now = g.S.Shelf.files c.play_event.new.shelf in
     let p = err_from_is_err_and c.from_residual.result c.from_residual.ensures.1 in
     let rest : List Step = schedule ts stream (drop (i + 1) events) in
-    subst (λ r. IsDoneOf ts (schedule ts stream events) held r c.play_event.new.stage now) (sym (p.1 ∙ ap Err p.2))
+    subst (λ r. IsDoneOf ts (schedule ts stream events) held r c.play_event.new.playout now) (sym (p.1 ∙ ap Err p.2))
     (fault_more ts (schedule ts stream (take i events) ++ steps_of ts stream c.get.result) rest
     (schedule ts stream events) held status now
     (ap (λ steps. steps ++ rest) (schedule_on ts stream events i c.get.result c.get.ensures)
@@ -52,7 +52,7 @@ loop-i-preserved g c =
       done = λ ts held feed there inside is.
           let events = c.args.events.now in
           let i = c.loop-i.i in
-          subst (λ steps. IsPlayedSoFar ts steps held c.play_event.new.stage (g.S.Shelf.files c.play_event.new.shelf))
+          subst (λ steps. IsPlayedSoFar ts steps held c.play_event.new.playout (g.S.Shelf.files c.play_event.new.shelf))
           (schedule_on ts (packets_of feed) events i c.get.result c.get.ensures)
           (c.in_ok-play_event.ensures.done ts held (schedule ts (packets_of feed) (take i events)) feed there
           (stays_within events (whole_packets feed) i c.get.result inside c.get.ensures)
@@ -67,7 +67,7 @@ returns-clause-done g c = λ ts held feed there inside is.
     let events = c.args.events.now in
     let past = c.loop-i-test.false in
     let all : c.loop-i.i ≡ length events = omega (arith, past, c.loop-i.auto.i-end, c.len-i-end.ensures) in
-    subst (λ es. IsPlayedSoFar ts (schedule ts (packets_of feed) es) held c.loop-i.stage
+    subst (λ es. IsPlayedSoFar ts (schedule ts (packets_of feed) es) held c.loop-i.playout
     (g.S.Shelf.files c.loop-i.shelf))
     (ap (λ n. take n events) all ∙ take-length events)
     (c.loop-i.invariant.done ts held feed there inside is)

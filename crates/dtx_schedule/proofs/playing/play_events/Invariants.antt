@@ -9,7 +9,7 @@ use Rattle.dtx_words.specs.NetworkNames.{feed_name}
 use Rattle.dtx_net.specs.Steps.{schedule}
 use Rattle.dtx_schedule.specs.Inside.{first_past_feed}
 use Rattle.dtx_schedule.specs.PlayedSoFar.{IsPlayedSoFar}
-use Rattle.dtx_schedule.specs.Staged.{IsSomeStage}
+use Rattle.dtx_schedule.specs.Playout.{IsSomePlayout}
 use Rattle.dtx_schedule.proofs.playing.play_events.Given as goal
 
 abbrev pub invariant-loop-i : goal.invariant-loop-i
@@ -17,9 +17,9 @@ invariant-loop-i g l = record {
   room : length l.packets ≡ 348;
   done : (ts : List Transmitter) (held : Files) (feed : List ℕ) → get held feed_name ≡ Some feed
       → first_past_feed l.events (whole_packets feed) ≡ None
-      → IsPlayedSoFar ts [] held l.fn.stage (g.S.Shelf.files l.fn.shelf)
-      → IsPlayedSoFar ts (schedule ts (packets_of feed) (take l.i l.events)) held l.stage (g.S.Shelf.files l.shelf);
-  some : IsSomeStage l.stage;
-  count : l.stage.steps ≤ 624000000 * l.i;
+      → IsPlayedSoFar ts [] held l.fn.playout (g.S.Shelf.files l.fn.shelf)
+      → IsPlayedSoFar ts (schedule ts (packets_of feed) (take l.i l.events)) held l.playout (g.S.Shelf.files l.shelf);
+  some : IsSomePlayout l.playout;
+  count : l.playout.steps ≤ 624000000 * l.i;
   gone : HasGone (g.S.Shelf.counts l.fn.shelf) (g.S.Shelf.counts l.shelf) Nothing;
 }

@@ -10,30 +10,30 @@ use Rattle.dtx_packets.specs.Packets.{packets_of}
 use Rattle.dtx_plan.specs.declared.transmitter.Transmitter.{Transmitter}
 use Rattle.dtx_schedule.specs.Played.{IsRunOf}
 use Rattle.dtx_schedule.specs.PlayedSoFar.{IsDoneOf}
-use Rattle.dtx_schedule.specs.Staged.{AreNames}
+use Rattle.dtx_schedule.specs.Playout.{AreNames}
 use Rattle.dtx_schedule.specs.TransmitterFiles.{files_of, nothing, played}
-use Rattle.dtx_schedule.specs.declared.stage.Stage.{Stage}
+use Rattle.dtx_schedule.specs.declared.playout.Playout.{Playout}
 use Rattle.dtx_schedule.proofs.Begun.{none_played}
 use Rattle.dtx_schedule.proofs.Fronts.{nothing_first, part_under_way, parts_grow}
 use Rattle.dtx_schedule.proofs.playing.run.Goals as goal
 
-run_of : (ts : List Transmitter) (steps : List Step) (held : Files) (result : Result (Unit {0}) Status) (stage : Stage)
-    (now : Option Files)
-    → IsDoneOf ts steps held result stage now → IsRunOf ts steps held result stage now
-run_of ts steps held (Ok _) stage now is = is
-run_of ts steps held (Err status) stage now (fault, is) =
+run_of : (ts : List Transmitter) (steps : List Step) (held : Files) (result : Result (Unit {0}) Status)
+    (playout : Playout) (now : Option Files)
+    → IsDoneOf ts steps held result playout now → IsRunOf ts steps held result playout now
+run_of ts steps held (Ok _) playout now is = is
+run_of ts steps held (Err status) playout now (fault, is) =
     record { fault = fault; part = part_under_way ts steps held now is; off = inr is }
 
 pub returns-in_err-begin_files-clause-run : goal.returns-in_err-begin_files-clause-run
-returns-in_err-begin_files-clause-run g c = λ ts held feed staged told there inside.
+returns-in_err-begin_files-clause-run g c = λ ts held feed playing told there inside.
     let now = g.S.Shelf.files c.begin_files.new.shelf in
     let steps : List Step = schedule ts (packets_of feed) c.args.events.now in
-    let named : AreNames ts c.deref.result.now = subst (AreNames ts) (sym c.deref.ensures.0) staged.names in
+    let named : AreNames ts c.deref.result.now = subst (AreNames ts) (sym c.deref.ensures.0) playing.names in
     let begun : ArePartWritten (files_of nothing ts) (Some held) now =
     subst (λ (s : Option Files). ArePartWritten (files_of nothing ts) s now) told
     (c.in_err-begin_files.ensures.begun ts named) in
     let p = err_from_is_err_and c.from_residual.result c.from_residual.ensures.1 in
-    subst (λ r. IsRunOf ts steps held r c.args.stage.now now) (sym (p.1 ∙ ap Err p.2))
+    subst (λ r. IsRunOf ts steps held r c.args.playout.now now) (sym (p.1 ∙ ap Err p.2))
     (record {
       fault = write_is_fault c.in_err-begin_files.field-0.0;
       part = parts_grow ts nothing (played steps) (Some held) now (nothing_first ts (played steps)) begun;
@@ -41,16 +41,16 @@ returns-in_err-begin_files-clause-run g c = λ ts held feed staged told there in
     })
 
 pub returns-clause-run : goal.returns-clause-run
-returns-clause-run g c = λ ts held feed staged told there inside.
+returns-clause-run g c = λ ts held feed playing told there inside.
     let mid = g.S.Shelf.files c.begin_files.new.shelf in
     let now = g.S.Shelf.files c.play_events.new.shelf in
     let steps : List Step = schedule ts (packets_of feed) c.args.events.now in
-    let named : AreNames ts c.deref.result.now = subst (AreNames ts) (sym c.deref.ensures.0) staged.names in
+    let named : AreNames ts c.deref.result.now = subst (AreNames ts) (sym c.deref.ensures.0) playing.names in
     let begun : mid ≡ with_outputs (files_of nothing ts) (Some held) =
     c.in_ok-begin_files.ensures.begun ts named ∙ ap (with_outputs (files_of nothing ts)) told in
-    run_of ts steps held c.play_events.result c.play_events.new.stage now
+    run_of ts steps held c.play_events.result c.play_events.new.playout now
     (c.play_events.ensures.done ts held feed there inside (record {
-      staged = staged;
+      playing = playing;
       files = begun
           ∙ none_played ts (Some held);
     }))

@@ -19,7 +19,7 @@ returns-in-Ok-clause-carried g c = λ held stream is written inside.
     let over = played_over (λ ts steps held. IsPlayOf ts steps held (Ok c.in-Ok.played)
     (g.S.Shelf.files c.play.new.shelf)) c.args.plan.now c.args.network.now stream c.deref.result.now c.args.fed.now held
     (g.S.Shelf.files c.args.shelf.now) c.requires.sound c.deref.ensures.0 is written inside c.in-Ok.ensures.played in
-    c.receive_played.ensures.carried c.args.plan.now held stream c.requires.network written.numbers over.staged
+    c.receive_played.ensures.carried c.args.plan.now held stream c.requires.network written.numbers over.playing
     over.files
 
 pub returns-in-Ok-clause-progress : goal.returns-in-Ok-clause-progress
@@ -27,7 +27,7 @@ returns-in-Ok-clause-progress g c = λ held stream is written inside.
     let over = played_over (λ ts steps held. IsPlayOf ts steps held (Ok c.in-Ok.played)
     (g.S.Shelf.files c.play.new.shelf)) c.args.plan.now c.args.network.now stream c.deref.result.now c.args.fed.now held
     (g.S.Shelf.files c.args.shelf.now) c.requires.sound c.deref.ensures.0 is written inside c.in-Ok.ensures.played in
-    c.receive_played.ensures.progress c.args.plan.now held stream c.requires.network over.staged over.files
+    c.receive_played.ensures.progress c.args.plan.now held stream c.requires.network over.playing over.files
 
 pub returns-in-Err-clause-carried : goal.returns-in-Err-clause-carried
 returns-in-Err-clause-carried g c = λ held stream is written inside.

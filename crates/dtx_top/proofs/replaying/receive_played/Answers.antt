@@ -20,24 +20,24 @@ its_receiver : (ts : List Transmitter) (receive : Option ReceivePlan) (receiver 
 its_receiver ts receive receiver is received = subst (λ (o : Option ReceivePlan). IfSome o (IsReceived ts)) is received
 
 pub returns-in-Some-clause-carried : goal.returns-in-Some-clause-carried
-returns-in-Some-clause-carried g c = λ plan held stream net numbers staged is.
+returns-in-Some-clause-carried g c = λ plan held stream net numbers playing is.
     let receiver = c.in-Some.receiver in
     let network = c.args.network.now in
     let ts : List Transmitter = plan.transmitters.items in
     let steps = steps_under plan stream network.events in
     let now = g.S.Shelf.files c.receive_sent-received.new.shelf in
     let sent = received_told plan network stream receiver held (g.S.Shelf.files c.args.shelf.now) now
-    c.receive_sent-received.result c.args.played.now.stage c.sent.result c.saturating_mul-symbols.result
-    (its_receiver ts network.receive receiver c.in-Some.is net.receive) staged (c.sent.ensures ts steps staged)
+    c.receive_sent-received.result c.args.played.now.playout c.sent.result c.saturating_mul-symbols.result
+    (its_receiver ts network.receive receiver c.in-Some.is net.receive) playing (c.sent.ensures ts steps playing)
     c.saturating_mul-symbols.ensures is c.receive_sent-received.ensures.carried in
     subst (λ (o : Option ReceivePlan). IsCarriedOut (played_and_received plan network stream o)
     (Some held) c.with_received.result now) (sym c.in-Some.is)
     (received_behind plan network receiver stream held now c.args.fed.now c.steps.result
-    c.receive_sent-received.result c.with_received.result numbers (c.steps.ensures ts steps staged) sent
+    c.receive_sent-received.result c.with_received.result numbers (c.steps.ensures ts steps playing) sent
     c.with_received.ensures.outcome)
 
 pub returns-in-Some-clause-progress : goal.returns-in-Some-clause-progress
-returns-in-Some-clause-progress g c = λ plan held stream net staged is.
+returns-in-Some-clause-progress g c = λ plan held stream net playing is.
     let receiver = c.in-Some.receiver in
     let network = c.args.network.now in
     let ts : List Transmitter = plan.transmitters.items in
@@ -46,8 +46,8 @@ returns-in-Some-clause-progress g c = λ plan held stream net staged is.
     received_progress plan network stream network.receive receiver held now c.receive_sent-received.result
     c.with_received.result.status c.in-Some.is
     (received_told plan network stream receiver held (g.S.Shelf.files c.args.shelf.now) now
-    c.receive_sent-received.result c.args.played.now.stage c.sent.result c.saturating_mul-symbols.result
-    (its_receiver ts network.receive receiver c.in-Some.is net.receive) staged (c.sent.ensures ts steps staged)
+    c.receive_sent-received.result c.args.played.now.playout c.sent.result c.saturating_mul-symbols.result
+    (its_receiver ts network.receive receiver c.in-Some.is net.receive) playing (c.sent.ensures ts steps playing)
     c.saturating_mul-symbols.ensures is c.receive_sent-received.ensures.carried)
 
 pub returns-in-Some-clause-network : goal.returns-in-Some-clause-network
@@ -57,7 +57,7 @@ returns-in-Some-clause-network g c =
     c.receive_sent-received.ensures.network)
 
 pub returns-in-None-clause-progress : goal.returns-in-None-clause-progress
-returns-in-None-clause-progress g c = λ plan held stream net staged is.
+returns-in-None-clause-progress g c = λ plan held stream net playing is.
     let network = c.args.network.now in
     let now = g.S.Shelf.files c.args.shelf.now in
     let got = reception_outputs plan network stream network.receive in

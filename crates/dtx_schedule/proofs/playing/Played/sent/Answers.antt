@@ -1,15 +1,15 @@
 use Rattle.std.proofs.Common.{get_or, sym, ap, subst, ◌∙◌}
-use Rattle.dtx_schedule.specs.Staged.{SentBy}
-use Rattle.dtx_schedule.proofs.StageOn.{sent_by, sent_by_none}
+use Rattle.dtx_schedule.specs.Playout.{SentBy}
+use Rattle.dtx_schedule.proofs.PlayoutOn.{sent_by, sent_by_none}
 use Rattle.dtx_schedule.proofs.playing.Played.sent.Goals as goal
 
 pub returns-in-Some : goal.returns-in-Some
-returns-in-Some c = λ ts steps staged.
+returns-in-Some c = λ ts steps playing.
     let who = c.in-Some.who in
     subst (SentBy c.args.address ts steps) (sym (c.count_at.ensures ∙ ap (λ ns. get_or ns who 0) c.deref.ensures.0))
-    (sent_by c.args.address who ts steps c.args.self.now.stage.sent.items staged.sent
-    (sym (c.find.ensures.place ts steps staged) ∙ c.in-Some.is))
+    (sent_by c.args.address who ts steps c.args.self.now.playout.sent.items playing.sent
+    (sym (c.find.ensures.place ts steps playing) ∙ c.in-Some.is))
 
 pub returns-in-None : goal.returns-in-None
-returns-in-None c = λ ts steps staged.
-    sent_by_none c.args.address 0 ts steps (sym (c.find.ensures.place ts steps staged) ∙ c.in-None.is)
+returns-in-None c = λ ts steps playing.
+    sent_by_none c.args.address 0 ts steps (sym (c.find.ensures.place ts steps playing) ∙ c.in-None.is)

@@ -1,0 +1,19 @@
+-- What a block gives, of what is gathered for it.
+use Rattle.std.specs.Prelude.{ℕ, List, [], ◌∷◌}
+use Rattle.dtx_outer.specs.declared.inner.Taken.{Taken}
+use Rattle.dtx_outer.specs.declared.inner.Taken.TheVariants.{None, Good, Bad}
+use Rattle.dtx_packets.specs.Packet.{with_error}
+use Rattle.dtx_dvb.specs.Read.{Read}
+use Rattle.dtx_dvb.specs.Reading.{with_sync}
+
+-- the packet, or none
+abbrev pub given : Taken → List ℕ → List Read
+given None packet = []
+given (Good fixed) packet = record { taken = Good fixed; packet = packet } ∷ []
+given Bad packet = record { taken = Bad; packet = packet } ∷ []
+
+-- the bytes of a packet that was taken so, with its sync byte
+abbrev pub finished : Taken → List ℕ → List ℕ
+finished None bytes = bytes
+finished (Good fixed) bytes = with_sync bytes
+finished Bad bytes = with_sync (with_error bytes)

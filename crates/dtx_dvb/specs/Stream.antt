@@ -1,0 +1,35 @@
+-- A stream of packets as it is sent (EN 300 429). A packet is its list of 188 bytes. Packets are counted from 0, and
+-- packet 0 is the first of a group of eight.
+use Rattle.std.specs.Prelude.{ℕ, ◌+◌, ◌*◌, ◌%◌, List, map, slice_index}
+use Rattle.std.specs.List.{range_with_len, enumerate_from, flat_map}
+use Rattle.std.specs.Int.RustNames.{bit_xor}
+use Rattle.dtx_laws.specs.Branches.{Branching, spreading, zeroed}
+use Rattle.dtx_laws.specs.Words.{codeword}
+use Rattle.dtx_laws.specs.Interleaving.{interleaved}
+use Rattle.dtx_dvb.specs.Dispersal.{dispersal_byte}
+
+-- packet k with the dispersal's bytes from 188 * (k mod 8) on added bit by bit to all of its bytes (randomization)
+unfoldable pub randomized : ℕ → List ℕ → List ℕ
+randomized k packet =
+    map (λ j. bit_xor (slice_index packet j) (dispersal_byte (188 * (k % 8) + j))) (range_with_len 0 188)
+
+-- its block: the codeword of 204 bytes that begins with it (Reed-Solomon coding)
+abbrev pub block_of : ℕ → List ℕ → List ℕ
+block_of k packet = codeword 204 188 (randomized k packet)
+
+-- the blocks, one behind the other, of packets that follow each other, the first of them as packet k
+unfoldable pub blocks_from : ℕ → List (List ℕ) → List ℕ
+blocks_from k packets = flat_map (λ p. block_of p.0 p.1) (enumerate_from k packets)
+
+-- the blocks of a stream
+abbrev pub blocks : List (List ℕ) → List ℕ
+blocks packets = blocks_from 0 packets
+
+-- a stream as it is sent: byte n is byte n - 204 * (n mod 12) of the blocks, and 0 where that place is before the first
+-- (convolutional interleaving)
+unfoldable pub dvb : List (List ℕ) → List ℕ
+dvb packets = interleaved 12 17 (blocks packets)
+
+-- the interleaver with zeros in every branch
+abbrev pub zero_branches : Branching
+zero_branches = zeroed 12 (spreading 17)

@@ -1,0 +1,133 @@
+//! The bytes that disperse the energy, made once.
+
+ghost use Rattle.std.specs.Prelude.{◌≡◌, ℕ, ◌+◌, ◌*◌, ◌<◌, ◌≤◌, EachIndex, IfOk, length, slice_index, vec_len};
+ghost use Rattle.dtx_dvb.specs.declared.sizes.TheConstants.{PERIOD};
+ghost use Rattle.dtx_dvb.specs.Dispersal.{loaded, sequence, eight_bits, dispersal_byte, dispersal_bytes};
+ghost use Rattle.dtx_dvb.specs.DispersalLaws.{all_long, all_are_bytes, period_fits};
+
+use crate::sizes::PERIOD;
+use dtx_laws::Whitener;
+use dtx_sizes::PACKET;
+use std::alloc::{AllocError, Global};
+
+/// The bits that the sequence is loaded with, in the order in which they would have left.
+const LOADED: [u8; 15] = [0, 0, 0, 0, 0, 0, 0, 1, 0, 1, 0, 1, 0, 0, 1];
+
+/// How many bits leave in a period: none while byte 0 does.
+const PERIOD_BITS: usize = 8 * (PERIOD - 1);
+
+/// The dispersal's bytes for the eight packets of its period, one after another.
+#[derive(Drop)]
+pub struct Dvb {
+    bytes: Vec<u8>,
+    ghost long: { vec_len bytes ≡ PERIOD },
+    ghost all: { bytes.items ≡ dispersal_bytes },
+}
+
+impl Whitener for Dvb {
+    const PERIOD: usize = PERIOD;
+
+    ghost PERIOD = { PERIOD };
+
+    ghost bytes = { λ dvb. dvb.bytes.items };
+
+    fn byte(&self, at: usize) -> u8 {
+        self.bytes[at]
+    }
+
+    ghost long = { λ dvb. all_long dvb.bytes.items dvb.all };
+
+    ghost are_bytes = { λ dvb. all_are_bytes dvb.bytes.items dvb.all };
+
+    ghost fits = { period_fits };
+}
+
+impl Dvb {
+    /// The bytes, from the bits of the sequence. Only want of memory is refused.
+    pub fn new(alloc: Global) -> Result<Dvb, AllocError>
+        ensures { IfOk result (λ dvb. ⟦<Dvb as Whitener>⟧.bytes dvb ≡ dispersal_bytes) }
+    {
+        let bits = period_bits(alloc)?;
+        let mut bytes = Vec::with_capacity(alloc, PERIOD)?;
+        for t in 0..PERIOD {
+            bytes.push(byte_at(t, &bits))?;
+        }
+        Ok(Dvb { bytes })
+    }
+}
+
+/// The sequence's bits for a period, behind those that it is loaded with.
+fn period_bits(alloc: Global) -> Result<Vec<u8>, AllocError>
+    ensures { IfOk result (λ bits. bits.items ≡ sequence PERIOD_BITS) }
+{
+    let mut bits = Vec::from_array(alloc, LOADED)?;
+    for t in 0..PERIOD_BITS {
+        let next = bits[t + 1] ^ bits[t];
+        bits.push(next)?;
+    }
+    Ok(bits)
+}
+
+/// Byte `t` of the dispersal: the sequence runs on while a later sync byte leaves as it is.
+fn byte_at(t: usize, bits: &[u8]) -> u8
+    requires bits { bits.now ≡ sequence PERIOD_BITS }
+    requires within { t < PERIOD }
+    ensures { result ≡ dispersal_byte t }
+{
+    if t == 0 {
+        return 0xFF;
+    }
+    if t % PACKET == 0 {
+        return 0;
+    }
+    byte_of(bits, LOADED.len() + 8 * (t - 1))
+}
+
+/// The byte of eight bits, the highest first.
+fn byte_of(bits: &[u8], at: usize) -> u8
+    requires within { at + 8 ≤ length bits.now }
+    requires small { EachIndex bits.now (λ i. slice_index bits.now i < 2) }
+    ensures { result ≡ eight_bits (λ i. slice_index bits.now (at + i)) }
+{
+    let high = 128 * bits[at] as u32
+        + 64 * bits[at + 1] as u32
+        + 32 * bits[at + 2] as u32
+        + 16 * bits[at + 3] as u32;
+    let low = 8 * bits[at + 4] as u32
+        + 4 * bits[at + 5] as u32
+        + 2 * bits[at + 6] as u32
+        + bits[at + 7] as u32;
+    (high + low) as u8
+}
+
+#[cfg(test)]
+mod tests {
+    use super::*;
+    use std::test::Fail;
+
+    fn drawn<W: Whitener>(whitener: &W, at: usize) -> Option<u8> {
+        if at < W::PERIOD {
+            return Some(whitener.byte(at));
+        }
+        None
+    }
+
+    #[test]
+    fn the_bytes_are_those_of_the_standard(rt: HostRuntime) -> Result<(), Fail> {
+        let cases = [
+            (0, Some(0xFF)),
+            (1, Some(0x03)),
+            (2, Some(0xF6)),
+            (3, Some(0x08)),
+            (4, Some(0x34)),
+            (188, Some(0x00)),
+            (1_503, Some(0xCB)),
+            (1_504, None),
+        ];
+        let dvb = Dvb::new(rt.alloc())?;
+        for (at, byte) in cases {
+            assert_eq!(rt; drawn(&dvb, at), byte, "byte {at}");
+        }
+        Ok(())
+    }
+}

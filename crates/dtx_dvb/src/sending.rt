@@ -1,0 +1,104 @@
+//! From packets to the bytes that are sent.
+
+ghost use Rattle.std.specs.Prelude.{◌≡◌, ℕ, ◌+◌, ◌%◌, ◌<◌, ◌≤◌, ◌++◌, ◌∷◌, [], List, IfOk, length, slice_index_or};
+ghost use Rattle.dtx_laws.specs.Branches.{leaving_all, after_all};
+ghost use Rattle.dtx_dvb.specs.Dispersal.{dispersal_bytes};
+ghost use Rattle.dtx_dvb.specs.Stream.{block_of, blocks_from, dvb, zero_branches};
+ghost use Rattle.dtx_dvb.specs.Sending.{HasSent};
+
+use crate::dispersal::Dvb;
+use crate::sizes::{BLOCK, BRANCH_STEP, BRANCHES, FOUR, FOUR_BLOCKS, PERIOD_PACKETS};
+use dtx_outer::Outer;
+use dtx_packets::Packet;
+use dtx_rs::Rs;
+use dtx_sizes::PACKET;
+use dtx_spread::Branches;
+use std::alloc::{AllocError, Global};
+use std::marker::Model;
+
+/// The dispersal, the Reed-Solomon encoder and the interleaver of the standard.
+type OuterCoding = Outer<
+    Dvb,
+    Rs<BLOCK, PACKET>,
+    Branches<BRANCHES, BRANCH_STEP>,
+    BLOCK,
+    PACKET,
+    BRANCHES,
+    BRANCH_STEP,
+>;
+
+/// Codes the packets of a stream (EN 300 429). It is seen as the interleaver's branches. `HasSent packets out` says
+/// that they hold what these packets leave.
+#[derive(Drop)]
+pub struct DvbOut {
+    outer: OuterCoding,
+}
+
+impl Model for DvbOut {
+    ghost use Rattle.std.specs.Prelude.{◌≡◌};
+    ghost use Rattle.dtx_laws.specs.Branches.{Branching};
+    ghost use Rattle.dtx_dvb.specs.Dispersal.{dispersal_bytes};
+
+    ghost Value = { Branching };
+
+    ghost view = { λ out. out.outer.branches };
+
+    ghost invariant = { λ out. out.outer.white ≡ dispersal_bytes };
+}
+
+impl DvbOut {
+    /// At the start of a stream, with zeros in every branch. Only want of memory is refused.
+    pub fn new(alloc: Global) -> Result<DvbOut, AllocError>
+        ensures { IfOk result (λ out. HasSent [] out) }
+    {
+        Ok(DvbOut {
+            outer: Outer::new(Dvb::new(alloc)?, Rs::new(), Branches::new(alloc)?),
+        })
+    }
+
+    /// The bytes that leave as the next packet comes, the one at this place of a group of eight: packet k of a stream
+    /// stands at place k mod 8.
+    pub fn packet(&mut self, place: u8, packet: &Packet, out: &mut [u8; BLOCK])
+        requires { place < PERIOD_PACKETS }
+        ensures bytes { out.new ≡ leaving_all BRANCHES self.old (block_of place packet.now.0) }
+        ensures branches { self.new ≡ after_all BRANCHES self.old (block_of place packet.now.0) }
+        ensures stream { (packets : List (List ℕ)) → HasSent packets self.old
+            → place ≡ length packets % PERIOD_PACKETS
+            → dvb (packets ++ packet.now.0 ∷ []) ≡ dvb packets ++ out.new }
+        ensures sent { (packets : List (List ℕ)) → HasSent packets self.old → place ≡ length packets % PERIOD_PACKETS
+            → HasSent (packets ++ packet.now.0 ∷ []) self.new }
+    {
+        self.outer.code(place as usize, &packet.0, out);
+    }
+
+    /// The bytes that leave as four packets come that follow each other, the first of them at this place of a group of
+    /// eight. They are coded together.
+    pub fn four(&mut self, place: u8, packets: &[[u8; PACKET]; FOUR], out: &mut [u8; FOUR_BLOCKS])
+        requires { place + FOUR ≤ PERIOD_PACKETS }
+        ensures bytes { out.new ≡ leaving_all BRANCHES self.old (blocks_from place packets.now) }
+        ensures branches { self.new ≡ after_all BRANCHES self.old (blocks_from place packets.now) }
+        ensures stream { (before : List (List ℕ)) → HasSent before self.old
+            → place ≡ length before % PERIOD_PACKETS → dvb (before ++ packets.now) ≡ dvb before ++ out.new }
+        ensures sent { (before : List (List ℕ)) → HasSent before self.old → place ≡ length before % PERIOD_PACKETS
+            → HasSent (before ++ packets.now) self.new }
+    {
+        are_whole(packets);
+        let mut words = [[0; BLOCK]; FOUR];
+        self.outer
+            .codewords(PACKET * place as usize, packets, &mut words);
+        for i in 0..FOUR {
+            out[BLOCK * i..BLOCK * i + BLOCK].copy_from_slice(&words[i]);
+        }
+        self.outer.pass(&mut out[..]);
+    }
+}
+
+/// Each of the arrays has all bytes of a packet. That is known of an array where it is read, so each is: nothing of it
+/// is left in the program.
+fn are_whole(packets: &[[u8; PACKET]; FOUR])
+    ensures { (p : ℕ) → p < FOUR → length (slice_index_or packets.now p []) ≡ PACKET }
+{
+    for p in 0..FOUR {
+        let _ = &packets[p][..];
+    }
+}

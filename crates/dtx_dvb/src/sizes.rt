@@ -1,0 +1,27 @@
+//! The numbers of the outer coding (EN 300 429).
+
+use dtx_sizes::PACKET;
+
+/// A packet with its correction bytes, in bytes (Reed-Solomon coding).
+pub const BLOCK: usize = 204;
+
+/// How many branches the interleaver has (convolutional interleaving).
+pub const BRANCHES: usize = 12;
+
+/// By how many bytes each branch is longer than the one before it.
+pub const BRANCH_STEP: usize = 17;
+
+/// How many packets the dispersal's period has (randomization).
+pub const PERIOD_PACKETS: usize = 8;
+
+/// The dispersal's period, in bytes.
+pub const PERIOD: usize = PACKET * PERIOD_PACKETS;
+
+/// How many blocks of a stream give no packet: the interleaver delays by so many.
+pub const WAITING: usize = 11;
+
+/// How many packets are coded together.
+pub const FOUR: usize = 4;
+
+/// Their blocks, in bytes.
+pub const FOUR_BLOCKS: usize = BLOCK * FOUR;

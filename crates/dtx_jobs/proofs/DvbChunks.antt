@@ -1,0 +1,70 @@
+-- Lists that are taken in chunks, and the packets of a piece as chunks.
+use Rattle.std.proofs.Common.{◌≡◌, ℕ, zero, suc, ◌+◌, ◌*◌, ◌/◌, ◌<◌, ◌≤◌, List, [], ◌∷◌, ◌++◌, length, get_or, take}
+use Rattle.std.proofs.Common.{drop, refl, sym, ap, ap₂, ◌∙◌, arith}
+use Rattle.std.specs.List.{flat_map}
+use Rattle.std.specs.Simd.{first_chunks}
+use Rattle.std.proofs.Math.Seq.{take-add}
+use Rattle.std.proofs.lemmas.Grind.{flat_map-append}
+use Rattle.std.proofs.lemmas.List.{append_assoc, append-nil, length-append, length-take-le, take_more}
+use Rattle.std.proofs.lemmas.List.{take-append-drop}
+use Rattle.std.proofs.lemmas.List.FromFn.{fill_by_all}
+use Rattle.dtx_packets.specs.Chunks.{get_or-first_chunks}
+use Rattle.dtx_packets.specs.Packets.{packet_at, packets_of, whole_packets}
+
+-- one element more of a list, behind others
+pub one_on : {X : Type 0} (before xs : List X) (i : ℕ) (d : X) → i < length xs
+    → (before ++ take i xs) ++ get_or xs i d ∷ [] ≡ before ++ take (i + 1) xs
+one_on before xs i d within =
+    append_assoc before (take i xs) (get_or xs i d ∷ []) ∙ ap (λ z. before ++ z) (sym (take_more xs i d within))
+
+-- one chunk more of a list of chunks, behind others
+pub chunk_on : {X : Type 0} (before : List X) (chunks : List (List X)) (i : ℕ) (d : List X) → i < length chunks
+    → (before ++ flat_map (λ c. c) (take i chunks)) ++ get_or chunks i d
+    ≡ before ++ flat_map (λ c. c) (take (i + 1) chunks)
+chunk_on before chunks i d within =
+    append_assoc before (flat_map (λ c. c) (take i chunks)) (get_or chunks i d)
+    ∙ ap (λ z. before ++ z) (
+    ap (λ z. flat_map (λ c. c) (take i chunks) ++ z) (sym (append-nil (get_or chunks i d)))
+    ∙ sym (ap (flat_map (λ c. c)) (take_more chunks i d within)
+    ∙ flat_map-append (λ c. c) (take i chunks) (get_or chunks i d ∷ [])))
+
+-- the first chunks of a list, one behind another, are its front
+pub chunks_flat : {X : Type 0} (n k : ℕ) (xs : List X) → flat_map (λ c. c) (first_chunks n k xs) ≡ take (k * n) xs
+chunks_flat n zero xs = let none : 0 ≡ 0 * n = omega arith in ap (λ m. take m xs) none
+chunks_flat n (suc k) xs =
+    let more : n + k * n ≡ suc k * n = omega arith in
+    ap (λ z. take n xs ++ z) (chunks_flat n k (drop n xs)) ∙ sym (take-add n (k * n) xs) ∙ ap (λ m. take m xs) more
+
+-- they and what is left are the list
+pub chunks_and_rest : {X : Type 0} (n k : ℕ) (xs : List X)
+    → flat_map (λ c. c) (first_chunks n k xs) ++ drop (k * n) xs ≡ xs
+chunks_and_rest n k xs = ap (λ z. z ++ drop (k * n) xs) (chunks_flat n k xs) ∙ take-append-drop (k * n) xs
+
+-- how long they are
+pub length-chunks_flat : {X : Type 0} (n k : ℕ) (xs : List X) → k * n ≤ length xs
+    → length (flat_map (λ c. c) (first_chunks n k xs)) ≡ k * n
+length-chunks_flat n k xs within = ap length (chunks_flat n k xs) ∙ length-take-le (k * n) xs within
+
+-- how long the first of chunks of one length are
+pub length-first : {X : Type 0} (n : ℕ) (chunks : List (List X)) (k : ℕ)
+    → ((i : ℕ) → i < length chunks → length (get_or chunks i []) ≡ n) → k ≤ length chunks
+    → length (flat_map (λ c. c) (take k chunks)) ≡ n * k
+length-first n chunks zero each within = let none : 0 ≡ n * 0 = omega arith in none
+length-first n [] (suc k) each within = absurd (omega (arith, within))
+length-first n (c ∷ cs) (suc k) each within =
+    let next : n + n * k ≡ n * suc k = omega arith in
+    length-append c (flat_map (λ c. c) (take k cs))
+    ∙ ap₂ (λ (a b : ℕ). a + b) (each 0 (omega arith))
+    (length-first n cs k (λ i l. each (suc i) (omega (arith, l))) (omega (arith, within)))
+    ∙ next
+
+length-chunks : {X : Type 0} (n k : ℕ) (xs : List X) → length (first_chunks n k xs) ≡ k
+length-chunks n zero xs = refl
+length-chunks n (suc k) xs = ap (λ (m : ℕ). suc m) (length-chunks n k (drop n xs))
+
+-- the chunks of 188 bytes are packets
+pub packets_are : (bytes : List ℕ) → first_chunks 188 (length bytes / 188) bytes ≡ packets_of bytes
+packets_are bytes =
+    fill_by_all (packet_at bytes) (first_chunks 188 (whole_packets bytes) bytes) (whole_packets bytes) []
+    (length-chunks 188 (whole_packets bytes) bytes)
+    (λ k within. get_or-first_chunks 188 (whole_packets bytes) bytes k within)

@@ -1,0 +1,45 @@
+use Rattle.std.proofs.Common.{◌∷◌, [], ◌++◌, refl, sym, ap, subst, ◌∙◌, arith}
+use Rattle.std.specs.Prelude.{Err}
+use Rattle.std.proofs.lemmas.Result.{err_from_is_err_and}
+use Rattle.dtx_net.specs.Steps.{Step, packet_step}
+use Rattle.dtx_schedule.specs.PlayedSoFar.{IsDoneOf}
+use Rattle.dtx_schedule.proofs.SoFar.{unwritten}
+use Rattle.dtx_schedule.proofs.playout.Playout.give.Goals as goal
+
+pub write-requires-clause-within : goal.write-requires-clause-within
+write-requires-clause-within g c =
+    let there = c.requires.there in
+    let playing = c.take-count.ensures.playing there.ts there.steps there.playing in
+    let long = playing.names.long in
+    omega (arith, long, there.within)
+
+pub returns-in_err-write-clause-done : goal.returns-in_err-write-clause-done
+returns-in_err-write-clause-done g c = λ ts held before is.
+    let step : Step = packet_step c.args.who c.args.packet.now.0 in
+    let after = c.take-count.ensures.playing ts before is.playing in
+    let now = g.S.Shelf.files c.write.new.shelf in
+    let p = err_from_is_err_and c.from_residual.result c.from_residual.ensures.1 in
+    subst (λ r. IsDoneOf ts (before ++ step ∷ []) held r c.take-count.new.self now) (sym (p.1 ∙ ap Err p.2))
+    (unwritten ts (before ++ step ∷ []) held c.take-count.new.self now c.in_err-write.field-0.0
+    (c.in_err-write.ensures.written ts held before step refl after.transmitters after.names
+    (c.take-count.ensures.brings ts before is.playing) is.files))
+
+pub returns-clause-done : goal.returns-clause-done
+returns-clause-done g c = λ ts held before is.
+    let step : Step = packet_step c.args.who c.args.packet.now.0 in
+    let after = c.take-count.ensures.playing ts before is.playing in
+    record {
+      playing = after;
+      files = c.in_ok-write.ensures.written ts held before step refl after.transmitters after.names
+          (c.take-count.ensures.brings ts before is.playing) is.files;
+    }
+
+pub returns-clause-there : goal.returns-clause-there
+returns-clause-there g c = λ _.
+    let there = c.requires.there in
+    record {
+      ts = there.ts;
+      steps = there.steps ++ packet_step c.args.who c.args.packet.now.0 ∷ [];
+      playing = c.take-count.ensures.playing there.ts there.steps there.playing;
+      within = there.within;
+    }

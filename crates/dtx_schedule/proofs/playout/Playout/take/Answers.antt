@@ -1,0 +1,70 @@
+use Rattle.std.proofs.Common.{◌≡◌, ◌+◌, ◌*◌, ◌<◌, ◌≤◌, ◌++◌, ◌∷◌, [], ℕ, List, pos, length, map, take, get_or, sym, ap}
+use Rattle.std.proofs.Common.{subst, ◌∙◌, arith}
+use Rattle.std.specs.Prelude.{Some, slice_get}
+use Rattle.std.proofs.lemmas.Option.{slice_get-get_or}
+use Rattle.dtx_exciter.specs.Log.{line_of}
+use Rattle.dtx_files.specs.LogText.{log_text}
+use Rattle.dtx_files.specs.Symbols.{byte_of_symbol}
+use Rattle.dtx_net.specs.Standing.{IsGiven}
+use Rattle.dtx_net.specs.Steps.{packet_step}
+use Rattle.dtx_plan.specs.declared.transmitter.Transmitter.{Transmitter}
+use Rattle.dtx_schedule.specs.Playout.{AreSent}
+use Rattle.dtx_schedule.proofs.PlayoutOn.{given_packet, brings_few, few_more, given_brings, given_sends, refill_set}
+use Rattle.dtx_schedule.proofs.PlayoutOn.{sent_more}
+use Rattle.dtx_schedule.proofs.playout.Playout.take.Goals as goal
+
+pub step-told-requires : goal.step-told-requires
+step-told-requires c =
+    let there = c.requires.there in
+    let long = there.playing.net.long in
+    omega (arith, long, there.within)
+
+pub bring-requires : goal.bring-requires
+bring-requires c =
+    let there = c.requires.there in
+    brings_few there.ts there.steps c.args.who c.args.packet.now.0 c.step-told.result c.step-told.new.air.segments
+    c.step-told.new.air.symbols
+    c.step-told.new.self there.within
+    (λ t at_t. c.step-told.ensures.given there.ts there.steps t there.playing.net at_t)
+
+pub returns-clause-playing : goal.returns-clause-playing
+returns-clause-playing c = λ ts steps s.
+    let who = c.args.who in
+    let packet = c.args.packet.now.0 in
+    let sent = c.args.self.now.sent.items in
+    let count = c.step-told.new.air.segments in
+    let symbols = c.step-told.new.air.symbols in
+    let gives : (t : Transmitter) → slice_get ts who ≡ Some t
+    → IsGiven ts steps who t packet c.step-told.new.self c.step-told.result count symbols =
+    λ t at_t. c.step-told.ensures.given ts steps t s.net at_t in
+    let inside : who < length ts = let there = c.requires.there in let a = there.playing.net.long in let b =
+    s.net.long in omega (arith, there.within, a, b) in
+    let five : count ≤ 5 =
+    brings_few ts steps who packet c.step-told.result count symbols c.step-told.new.self inside gives in
+    let within : who < length sent = let long = s.sent.long in omega (arith, long, inside) in
+    let items = refill_set sent c.deref_mut.result.now who count c.deref_mut.ensures.value in
+    record {
+      transmitters = s.transmitters;
+      names = s.names;
+      net = (gives (get_or ts who (record { address = 0; offset = pos 0; delay = 0 }))
+          (slice_get-get_or ts who _ inside)).stands;
+      sent = subst (AreSent ts (steps ++ packet_step who packet ∷ [])) (sym items)
+          (sent_more ts steps (packet_step who packet) sent count s.sent
+          (given_sends ts steps who packet count (λ t at_t. (gives t at_t).air.counted)));
+      few = subst (λ (ns : List ℕ). (i : ℕ) (n : ℕ) → slice_get ns i ≡ Some n
+          → n ≤ 5 * (c.args.self.now.steps + 1)) (sym items)
+          (few_more sent who count c.args.self.now.steps within five s.few);
+      count = ap (λ n. n + 1) s.count ∙ sym (given_packet steps who packet);
+    }
+
+pub returns-clause-brings : goal.returns-clause-brings
+returns-clause-brings c = λ ts steps s.
+    let who = c.args.who in
+    let count = c.step-told.new.air.segments in
+    let symbols = c.step-told.new.air.symbols in
+    given_brings ts steps who c.args.packet.now.0 c.args.self.now.sent.items c.step-told.result count symbols
+    c.step-told.new.self (take c.bring.result c.bring.new.bytes) c.write_line.new.text.bytes s.sent
+    (λ t at_t. c.step-told.ensures.given ts steps t s.net at_t)
+    (c.bring.ensures.bytes ∙ ap (λ n. map byte_of_symbol (take n symbols)) c.bring.ensures.count)
+    (c.write_line.ensures
+    ∙ ap (λ (ns : List ℕ). log_text (line_of (get_or ns who 0) count c.step-told.result)) c.deref.ensures.0)
