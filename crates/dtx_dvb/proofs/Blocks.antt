@@ -7,11 +7,11 @@ use borrow.Rule.Slice.PartMut.{put_mid}
 use Rattle.dtx_laws.specs.Words.{codeword}
 use Rattle.dtx_laws.specs.Whitening.{whitened}
 use Rattle.dtx_outer.specs.Outer.{coded}
-use Rattle.dtx_dvb.specs.Dispersal.{dispersal_bytes}
+use Rattle.dtx_dvb.specs.Randomizer.{randomizer_bytes}
 use Rattle.dtx_dvb.specs.Stream.{block_of, blocks_from}
 use Rattle.dtx_dvb.specs.StreamLaws.{randomized_whitened, blocks_append, blocks_one}
 
-pub coded_is : (place : ℕ) (white packet : List ℕ) → white ≡ dispersal_bytes → length packet ≡ 188 → place < 8
+pub coded_is : (place : ℕ) (white packet : List ℕ) → white ≡ randomizer_bytes → length packet ≡ 188 → place < 8
     → coded 204 188 white (188 * place) packet ≡ block_of place packet
 coded_is place white packet w e l =
     ap (codeword 204 188)

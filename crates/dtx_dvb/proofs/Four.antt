@@ -10,7 +10,7 @@ use Rattle.dtx_outer.specs.Inner.{IsTaken}
 use Rattle.dtx_outer.specs.declared.inner.Taken.{Taken}
 use Rattle.dtx_outer.specs.declared.inner.Taken.TheVariants.{None}
 use Rattle.dtx_dvb.specs.Read.{Read}
-use Rattle.dtx_dvb.specs.Dispersal.{dispersal_bytes}
+use Rattle.dtx_dvb.specs.Randomizer.{randomizer_bytes}
 use Rattle.dtx_dvb.specs.Reading.{read_dvb}
 use Rattle.dtx_dvb.specs.Given.{given, finished}
 use Rattle.dtx_dvb.proofs.Giving.{gives}
@@ -20,7 +20,7 @@ pub record AreTaken (y bytes : List ℕ) (old packets : List (List ℕ)) (taken 
   pub white : List ℕ
   pub new : List (List ℕ)
   pub blocks : ℕ
-  pub white_is : white ≡ dispersal_bytes
+  pub white_is : white ≡ randomizer_bytes
   pub behind : length y ≡ 204 * blocks
   pub long : length bytes ≡ 816
   pub taken_each : (p : ℕ) → p < 4

@@ -10,8 +10,8 @@ use Rattle.dtx_outer.specs.declared.inner.Taken.{Taken}
 use Rattle.dtx_outer.specs.declared.inner.Taken.TheVariants.{None, Good, Bad}
 use Rattle.dtx_outer.specs.WordsLaws.{length-word, good_data, bad_data}
 use Rattle.dtx_dvb.specs.Read.{Read}
-use Rattle.dtx_dvb.specs.Dispersal.{dispersal_bytes}
-use Rattle.dtx_dvb.specs.DispersalLaws.{length-dispersal_bytes}
+use Rattle.dtx_dvb.specs.Randomizer.{randomizer_bytes}
+use Rattle.dtx_dvb.specs.RandomizerLaws.{length-randomizer_bytes}
 use Rattle.dtx_dvb.specs.Reading.{with_sync, read_by, read_at, read_dvb}
 use Rattle.dtx_dvb.specs.ReadingLaws.{waiting_dvb, read_short, read_next}
 use Rattle.dtx_dvb.specs.Given.{given, finished}
@@ -31,9 +31,9 @@ bad_gives e = false≢true (ap gives_nothing e)
 
 -- ---- how many blocks have come
 
--- the place of packet k among the dispersal's bytes
-place_is : (white : List ℕ) (k : ℕ) → white ≡ dispersal_bytes → 188 * (k % (length white / 188)) ≡ 188 * (k % 8)
-place_is white k e = ap (λ n. 188 * (k % (n / 188))) (ap length e ∙ length-dispersal_bytes)
+-- the place of packet k among the randomizer's bytes
+place_is : (white : List ℕ) (k : ℕ) → white ≡ randomizer_bytes → 188 * (k % (length white / 188)) ≡ 188 * (k % 8)
+place_is white k e = ap (λ n. 188 * (k % (n / 188))) (ap length e ∙ length-randomizer_bytes)
 
 -- after s blocks, of which eleven give nothing
 blocks_are : (bytes : List ℕ) (s : ℕ) → length bytes ≡ 204 * s → 11 ≤ s
@@ -71,7 +71,7 @@ one before block s r g l never is = by_cases (cases_lt s 11)
         read_next before block s g l many
         ∙ ap (λ (x : Read). read_dvb before ++ x ∷ []) (is (s - 11) (blocks_are before s g many))
 
-read_good : (bytes : List ℕ) (k fixed : ℕ) (white out : List ℕ) → white ≡ dispersal_bytes
+read_good : (bytes : List ℕ) (k fixed : ℕ) (white out : List ℕ) → white ≡ randomizer_bytes
     → IsGood 204 188 white (188 * (k % (length white / 188))) (word_at 204 12 17 bytes k) out fixed
     → read_at bytes k ≡ record { taken = Good fixed; packet = with_sync out }
 unfolding read_at
@@ -79,25 +79,25 @@ read_good bytes k fixed white out e g =
     let word : List ℕ = word_at 204 12 17 bytes k in
     let d = good_data 204 188 white (188 * (k % (length white / 188))) word out fixed (omega arith)
     (length-word 204 12 17 bytes k) g in
-    let same : whitened dispersal_bytes (188 * (k % 8)) (take 188 d.0) ≡ out =
+    let same : whitened randomizer_bytes (188 * (k % 8)) (take 188 d.0) ≡ out =
     ap₂ (λ w p. whitened w p (take 188 d.0)) (sym e) (sym (place_is white k e)) ∙ sym d.3 in
     ap (read_by (188 * (k % 8)) word) d.1
     ∙ ap₂ (λ (o : List ℕ) (n : ℕ). record { taken = Good n; packet = with_sync o }) same (sym d.2)
 
-read_bad : (bytes : List ℕ) (k : ℕ) (white out : List ℕ) → white ≡ dispersal_bytes
+read_bad : (bytes : List ℕ) (k : ℕ) (white out : List ℕ) → white ≡ randomizer_bytes
     → IsBad 204 188 white (188 * (k % (length white / 188))) (word_at 204 12 17 bytes k) out
     → read_at bytes k ≡ record { taken = Bad; packet = with_sync (with_error out) }
 unfolding read_at
 read_bad bytes k white out e g =
     let word : List ℕ = word_at 204 12 17 bytes k in
     let d = bad_data 204 188 white (188 * (k % (length white / 188))) word out g in
-    let same : whitened dispersal_bytes (188 * (k % 8)) (take 188 word) ≡ out =
+    let same : whitened randomizer_bytes (188 * (k % 8)) (take 188 word) ≡ out =
     ap₂ (λ w p. whitened w p (take 188 word)) (sym e) (sym (place_is white k e)) ∙ sym d.1 in
     ap (read_by (188 * (k % 8)) word) d.0
     ∙ ap (λ (o : List ℕ). record { taken = Bad; packet = with_sync (with_error o) }) same
 
 -- what the block behind s others brings, by what was taken of it
-pub gives : (white before block old new : List ℕ) (s : ℕ) (taken : Taken) → white ≡ dispersal_bytes
+pub gives : (white before block old new : List ℕ) (s : ℕ) (taken : Taken) → white ≡ randomizer_bytes
     → length before ≡ 204 * s → length block ≡ 204
     → IsTaken 204 188 12 17 white before block old new taken
     → read_dvb (before ++ block) ≡ read_dvb before ++ given taken (finished taken new)

@@ -16,8 +16,8 @@ use Rattle.dtx_outer.specs.Inner.{word_at}
 use Rattle.dtx_outer.specs.WordsLaws.{length-word, word_back}
 use Rattle.dtx_outer.specs.declared.inner.Taken.TheVariants.{Good}
 use Rattle.dtx_dvb.specs.Read.{Read, fixed_of, flag_of, fixed_in, flagged_in}
-use Rattle.dtx_dvb.specs.Dispersal.{dispersal_bytes}
-use Rattle.dtx_dvb.specs.DispersalLaws.{bytes_dispersal_bytes}
+use Rattle.dtx_dvb.specs.Randomizer.{randomizer_bytes}
+use Rattle.dtx_dvb.specs.RandomizerLaws.{bytes_randomizer_bytes}
 use Rattle.dtx_dvb.specs.Stream.{randomized, block_of, blocks, dvb}
 use Rattle.dtx_dvb.specs.StreamLaws.{length-randomized, randomized_whitened, length-blocks, block_at, length-dvb}
 use Rattle.dtx_dvb.specs.Reading.{with_sync, read_by, read_at, read_dvb}
@@ -29,7 +29,7 @@ use Rattle.dtx_dvb.specs.Damage.{ArePackets, block_in, wrong_in, IsSlight, as_co
 pub bytes_randomized : (k : ℕ) (p : List ℕ) → length p ≡ 188 → AreBytes p → AreBytes (randomized k p)
 bytes_randomized k p l b =
     subst AreBytes (sym (randomized_whitened k p l))
-    (bytes_whitened dispersal_bytes p (188 * (k % 8)) bytes_dispersal_bytes b)
+    (bytes_whitened randomizer_bytes p (188 * (k % 8)) bytes_randomizer_bytes b)
 
 pub block_is : (k : ℕ) (p : List ℕ) → length p ≡ 188 → AreBytes p → IsCodeword 204 188 (block_of k p)
 block_is k p l b = codeword_is 204 188 (randomized k p) (lit< tt) (length-randomized k p) (bytes_randomized k p l b)
@@ -50,12 +50,12 @@ synced (x ∷ xs) l e = ap (λ (y : ℕ). y ∷ xs) (sym e)
 
 -- the block of packet k gives the packet's bytes back
 bytes_back : (ps : List (List ℕ)) (k : ℕ) → length (get_or ps k []) ≡ 188
-    → whitened dispersal_bytes (188 * (k % 8)) (take 188 (block_in ps k)) ≡ get_or ps k []
+    → whitened randomizer_bytes (188 * (k % 8)) (take 188 (block_in ps k)) ≡ get_or ps k []
 unfolding block_in
 bytes_back ps k l =
-    ap (whitened dispersal_bytes (188 * (k % 8))) (block_begins k (get_or ps k [])
+    ap (whitened randomizer_bytes (188 * (k % 8))) (block_begins k (get_or ps k [])
     ∙ randomized_whitened k (get_or ps k []) l)
-    ∙ whitened_twice dispersal_bytes (get_or ps k []) (188 * (k % 8))
+    ∙ whitened_twice randomizer_bytes (get_or ps k []) (188 * (k % 8))
 
 pub block_there : (ps : List (List ℕ)) (k : ℕ) → k < length ps
     → take 204 (drop (204 * k) (blocks ps)) ≡ block_in ps k
@@ -88,7 +88,7 @@ corrected_back ps y k h l n =
     packet : (length (get_or ps k []) ≡ 188) × AreBytes (get_or ps k []) × (get_or (get_or ps k []) 0 0 ≡ 0x47)
     packet = packet_at ps k h l
 
-    same : with_sync (whitened dispersal_bytes (188 * (k % 8)) (take 188 (block_in ps k))) ≡ get_or ps k []
+    same : with_sync (whitened randomizer_bytes (188 * (k % 8)) (take 188 (block_in ps k))) ≡ get_or ps k []
     same = ap with_sync (bytes_back ps k packet.0) ∙ synced (get_or ps k []) packet.0 packet.2
 
 -- ---- all packets

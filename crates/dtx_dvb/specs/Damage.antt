@@ -1,4 +1,4 @@
--- Damage of a stream's bytes, and how much of it is undone (EN 300 429, Reed-Solomon coding: eight bytes of a block).
+-- Damage of a stream's bytes, and how much of it is undone (EN 300 429, 7.2: eight bytes of a block).
 use Rattle.std.specs.Prelude.{ℕ, ◌≡◌, ◌+◌, ◌*◌, ◌<◌, ◌≤◌, ◌⊎◌, List, [], length, slice_index, slice_index_or}
 use Rattle.std.specs.List.{AllByRecursion}
 use Rattle.dtx_galois.specs.Field.{AreBytes}

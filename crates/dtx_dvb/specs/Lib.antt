@@ -1,5 +1,5 @@
-pub mod Dispersal
-pub mod DispersalLaws
+pub mod Randomizer
+pub mod RandomizerLaws
 pub mod Stream
 pub mod Sending
 pub mod StreamLaws

@@ -8,7 +8,7 @@ use Rattle.dtx_laws.specs.Words.{correction}
 use Rattle.dtx_outer.specs.Inner.{word_at}
 use Rattle.dtx_outer.specs.declared.inner.Taken.TheVariants.{Good, Bad}
 use Rattle.dtx_packets.specs.Packet.{with_error}
-use Rattle.dtx_dvb.specs.Dispersal.{dispersal_bytes}
+use Rattle.dtx_dvb.specs.Randomizer.{randomizer_bytes}
 use Rattle.dtx_dvb.specs.Read.{Read}
 
 -- the packet with 0x47 as its sync byte
@@ -20,11 +20,11 @@ with_sync packet = slice_set packet 0 0x47
 abbrev pub read_by : ℕ → List ℕ → Option (List ℕ) → Read
 read_by from word (Some code) = record {
   taken = Good (distance word code);
-  packet = with_sync (whitened dispersal_bytes from (take 188 code));
+  packet = with_sync (whitened randomizer_bytes from (take 188 code));
 }
 read_by from word None = record {
   taken = Bad;
-  packet = with_sync (with_error (whitened dispersal_bytes from (take 188 word)));
+  packet = with_sync (with_error (whitened randomizer_bytes from (take 188 word)));
 }
 
 -- packet k: its word is bytes m + 204 * (m mod 12), for m from 204 * k to 204 * k + 203

@@ -6,14 +6,14 @@ use Rattle.std.specs.Int.RustNames.{bit_xor}
 use Rattle.dtx_laws.specs.Branches.{Branching, spreading, zeroed}
 use Rattle.dtx_laws.specs.Words.{codeword}
 use Rattle.dtx_laws.specs.Interleaving.{interleaved}
-use Rattle.dtx_dvb.specs.Dispersal.{dispersal_byte}
+use Rattle.dtx_dvb.specs.Randomizer.{randomizer_byte}
 
--- packet k with the dispersal's bytes from 188 * (k mod 8) on added bit by bit to all of its bytes (randomization)
+-- packet k with the randomizer's bytes from 188 * (k mod 8) on added bit by bit to all of its bytes (7.1)
 unfoldable pub randomized : ℕ → List ℕ → List ℕ
 randomized k packet =
-    map (λ j. bit_xor (slice_index packet j) (dispersal_byte (188 * (k % 8) + j))) (range_with_len 0 188)
+    map (λ j. bit_xor (slice_index packet j) (randomizer_byte (188 * (k % 8) + j))) (range_with_len 0 188)
 
--- its block: the codeword of 204 bytes that begins with it (Reed-Solomon coding)
+-- its block: the codeword of 204 bytes that begins with it (7.2)
 abbrev pub block_of : ℕ → List ℕ → List ℕ
 block_of k packet = codeword 204 188 (randomized k packet)
 
@@ -26,7 +26,7 @@ abbrev pub blocks : List (List ℕ) → List ℕ
 blocks packets = blocks_from 0 packets
 
 -- a stream as it is sent: byte n is byte n - 204 * (n mod 12) of the blocks, and 0 where that place is before the first
--- (convolutional interleaving)
+-- (7.3)
 unfoldable pub dvb : List (List ℕ) → List ℕ
 dvb packets = interleaved 12 17 (blocks packets)
 

@@ -14,8 +14,8 @@ use Rattle.dtx_laws.specs.WhiteningLaws.{whitened_by}
 use Rattle.dtx_laws.specs.ChoiceLaws.{codeword_length}
 use Rattle.dtx_laws.specs.PlacesLaws.{leaving_append, after_append}
 use Rattle.dtx_laws.specs.InterleavingLaws.{length-interleaved, get_or-interleaved, zeros_give}
-use Rattle.dtx_dvb.specs.Dispersal.{dispersal_byte, dispersal_bytes}
-use Rattle.dtx_dvb.specs.DispersalLaws.{get_or-dispersal_bytes}
+use Rattle.dtx_dvb.specs.Randomizer.{randomizer_byte, randomizer_bytes}
+use Rattle.dtx_dvb.specs.RandomizerLaws.{get_or-randomizer_bytes}
 use Rattle.dtx_dvb.specs.Stream.{randomized, block_of, blocks_from, blocks, dvb, zero_branches}
 use Rattle.dtx_dvb.specs.Sending.{HasSent}
 
@@ -24,29 +24,29 @@ use Rattle.dtx_dvb.specs.Sending.{HasSent}
 pub length-randomized : (k : ℕ) (packet : List ℕ) → length (randomized k packet) ≡ 188
 unfolding randomized
 length-randomized k packet =
-    length-map-range_with_len (λ j. bit_xor (get_or packet j 0) (dispersal_byte (188 * (k % 8) + j))) 0 188
+    length-map-range_with_len (λ j. bit_xor (get_or packet j 0) (randomizer_byte (188 * (k % 8) + j))) 0 188
 
 pub get_or-randomized : (k : ℕ) (packet : List ℕ) (j : ℕ) → j < 188
-    → get_or (randomized k packet) j 0 ≡ bit_xor (get_or packet j 0) (dispersal_byte (188 * (k % 8) + j))
+    → get_or (randomized k packet) j 0 ≡ bit_xor (get_or packet j 0) (randomizer_byte (188 * (k % 8) + j))
 unfolding randomized
 get_or-randomized k packet j l =
-    get_or-map-range_with_len (λ j. bit_xor (get_or packet j 0) (dispersal_byte (188 * (k % 8) + j))) 0 188 j j
+    get_or-map-range_with_len (λ j. bit_xor (get_or packet j 0) (randomizer_byte (188 * (k % 8) + j))) 0 188 j j
     0 l (let e : 0 + j ≡ j = omega arith in e)
 
 pub randomized_whitened : (k : ℕ) (packet : List ℕ) → length packet ≡ 188
-    → randomized k packet ≡ whitened dispersal_bytes (188 * (k % 8)) packet
+    → randomized k packet ≡ whitened randomizer_bytes (188 * (k % 8)) packet
 randomized_whitened k packet e =
-    whitened_by dispersal_bytes (188 * (k % 8)) packet (randomized k packet) (length-randomized k packet ∙ sym e)
+    whitened_by randomizer_bytes (188 * (k % 8)) packet (randomized k packet) (length-randomized k packet ∙ sym e)
     (λ j l. let m : j < 188 = omega (arith, l, e) in
     get_or-randomized k packet j m
     ∙ ap (bit_xor (get_or packet j 0))
-    (sym (get_or-dispersal_bytes (188 * (k % 8) + j) (omega (arith, m, mod_below k 8 (omega arith))))))
+    (sym (get_or-randomizer_bytes (188 * (k % 8) + j) (omega (arith, m, mod_below k 8 (omega arith))))))
 
--- the dispersal begins anew with each group of eight
+-- the randomizer begins anew with each group of eight
 pub randomized_place : (j k : ℕ) (packet : List ℕ) → j % 8 ≡ k % 8 → randomized j packet ≡ randomized k packet
 unfolding randomized
 randomized_place j k packet e =
-    ap (λ (m : ℕ). map (λ i. bit_xor (get_or packet i 0) (dispersal_byte (188 * m + i))) (range_with_len 0 188)) e
+    ap (λ (m : ℕ). map (λ i. bit_xor (get_or packet i 0) (randomizer_byte (188 * m + i))) (range_with_len 0 188)) e
 
 -- ---- blocks
 

@@ -5,8 +5,8 @@ use Rattle.std.proofs.lemmas.Bool.{cases_eq, cond-true, cond-false, eq-eqb, ne_e
 use Rattle.std.proofs.lemmas.List.{get_or-take, get_or-drop}
 use Rattle.dtx_galois.specs.Field.{AreBytes}
 use Rattle.dtx_laws.specs.InterleavingLaws.{get_or-interleaved}
-use Rattle.dtx_dvb.specs.Dispersal.{dispersal_byte}
-use Rattle.dtx_dvb.specs.DispersalLaws.{byte_first, byte_sync}
+use Rattle.dtx_dvb.specs.Randomizer.{randomizer_byte}
+use Rattle.dtx_dvb.specs.RandomizerLaws.{byte_first, byte_sync}
 use Rattle.dtx_dvb.specs.Stream.{randomized, block_of, blocks, dvb}
 use Rattle.dtx_dvb.specs.StreamLaws.{get_or-randomized, length-blocks}
 use Rattle.dtx_dvb.specs.Damage.{ArePackets, block_in}
@@ -25,7 +25,7 @@ first_byte ps k l =
     ∙ ap (λ b. get_or b 0 0) (block_begins k (get_or ps k []))
 
 -- what is added to the sync byte of packet k
-added : (k : ℕ) → (k % 8 ≡ 0) ⊎ (k % 8 ≢ 0) → bit_xor 0x47 (dispersal_byte (188 * (k % 8) + 0))
+added : (k : ℕ) → (k % 8 ≡ 0) ⊎ (k % 8 ≢ 0) → bit_xor 0x47 (randomizer_byte (188 * (k % 8) + 0))
     ≡ cond (k % 8 == 0) 0xb8 0x47
 added k (inl e) =
     ap (bit_xor 0x47) (sym (byte_first (188 * (k % 8) + 0) (omega (arith, e))))
@@ -40,7 +40,7 @@ sync_byte ps k h l =
     let p : (length (get_or ps k []) ≡ 188) × AreBytes (get_or ps k []) × (get_or (get_or ps k []) 0 0 ≡ 0x47) =
     packet_at ps k h l in
     first_byte ps k l ∙ get_or-randomized k (get_or ps k []) 0 (omega arith)
-    ∙ ap (λ x. bit_xor x (dispersal_byte (188 * (k % 8) + 0))) p.2
+    ∙ ap (λ x. bit_xor x (randomizer_byte (188 * (k % 8) + 0))) p.2
     ∙ added k (cases_eq (k % 8) 0)
 
 -- the first byte of a block isn't delayed

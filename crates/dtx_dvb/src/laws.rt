@@ -12,7 +12,7 @@ ghost use Rattle.dtx_laws.specs.Interleaving.{interleaved_at};
 ghost use Rattle.dtx_laws.specs.Whitening.{whitened};
 ghost use Rattle.dtx_outer.specs.Inner.{IsComplete};
 ghost use Rattle.dtx_dvb.specs.Damage.{ArePackets, IsBurst, IsSlight, as_corrected, as_sent, block_in, wrong_in};
-ghost use Rattle.dtx_dvb.specs.Dispersal.{dispersal_bit, dispersal_byte, dispersal_bytes, loaded, sequence};
+ghost use Rattle.dtx_dvb.specs.Randomizer.{randomizer_bit, randomizer_byte, randomizer_bytes, loaded, sequence};
 ghost use Rattle.dtx_dvb.specs.Given.{given};
 ghost use Rattle.dtx_dvb.specs.Read.{Read, fixed_in, fixed_of, flag_of, flagged_in};
 ghost use Rattle.dtx_dvb.specs.Reading.{read_at, read_dvb};
@@ -62,7 +62,7 @@ pub fn the_blocks()
         → IsCodeword BLOCK PACKET (block_of k packet) }
     ensures begins { (k : ℕ) (packet : List ℕ) → take PACKET (block_of k packet) ≡ randomized k packet }
     ensures whitened { (k : ℕ) (packet : List ℕ) → length packet ≡ PACKET
-        → randomized k packet ≡ whitened dispersal_bytes (PACKET * (k % PERIOD_PACKETS)) packet }
+        → randomized k packet ≡ whitened randomizer_bytes (PACKET * (k % PERIOD_PACKETS)) packet }
 {}
 
 /// Every eighth sync byte is inverted, and the others are as they were, in the blocks and as they are sent.
@@ -117,19 +117,19 @@ pub fn counted()
         → flagged_in (before ++ behind) ≡ flagged_in before + flagged_in behind }
 {}
 
-/// The sequence of the dispersal: behind the fifteen bits that it is loaded with, each bit is the sum of those 14 and
+/// The sequence of the randomizer: behind the fifteen bits that it is loaded with, each bit is the sum of those 14 and
 /// 15 places before it.
 pub fn the_sequence()
     ensures long { (n : ℕ) → length (sequence n) ≡ 15 + n }
     ensures loaded { (n i : ℕ) → i < 15 → slice_index (sequence n) i ≡ slice_index loaded i }
     ensures rule { (n t : ℕ) → t < n → slice_index (sequence n) (15 + t)
         ≡ bit_xor (slice_index (sequence n) (1 + t)) (slice_index (sequence n) t) }
-    ensures bit { (n t : ℕ) → t < n → slice_index (sequence n) (15 + t) ≡ dispersal_bit t }
+    ensures bit { (n t : ℕ) → t < n → slice_index (sequence n) (15 + t) ≡ randomizer_bit t }
 {}
 
-/// The bytes of the dispersal, place by place.
+/// The bytes of the randomizer, place by place.
 pub fn the_bytes()
-    ensures long { length dispersal_bytes ≡ PERIOD }
-    ensures at { (t : ℕ) → t < PERIOD → slice_index dispersal_bytes t ≡ dispersal_byte t }
-    ensures are_bytes { AreBytes dispersal_bytes }
+    ensures long { length randomizer_bytes ≡ PERIOD }
+    ensures at { (t : ℕ) → t < PERIOD → slice_index randomizer_bytes t ≡ randomizer_byte t }
+    ensures are_bytes { AreBytes randomizer_bytes }
 {}

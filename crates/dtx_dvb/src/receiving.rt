@@ -3,12 +3,12 @@
 ghost use Rattle.std.specs.Prelude.{◌≡◌, ℕ, ◌+◌, ◌*◌, ◌<◌, ◌++◌, [], List, IfOk, length, slice_index_or};
 ghost use Rattle.std.specs.List.{range_with_len, flat_map};
 ghost use Rattle.dtx_packets.specs.Packet.{with_error};
-ghost use Rattle.dtx_dvb.specs.Dispersal.{dispersal_bytes};
+ghost use Rattle.dtx_dvb.specs.Randomizer.{randomizer_bytes};
 ghost use Rattle.dtx_dvb.specs.Reading.{read_dvb};
 ghost use Rattle.dtx_dvb.specs.Sending.{HasRead};
 ghost use Rattle.dtx_dvb.specs.Given.{given, finished};
 
-use crate::dispersal::Dvb;
+use crate::randomizer::Dvb;
 use crate::sizes::{BLOCK, BRANCH_STEP, BRANCHES, FOUR, FOUR_BLOCKS, WAITING};
 use dtx_fast::Fast;
 use dtx_outer::{Inner, Taken};
@@ -18,7 +18,7 @@ use dtx_spread::Collect;
 use std::alloc::{AllocError, Global};
 use std::marker::Model;
 
-/// The de-interleaver, the Reed-Solomon corrector and the dispersal of the standard.
+/// The de-interleaver, the Reed-Solomon corrector and the randomizer of the standard.
 type OuterDecoding = Inner<
     Dvb,
     Fast<BLOCK, PACKET>,
@@ -39,13 +39,13 @@ pub struct DvbIn {
 impl Model for DvbIn {
     ghost use Rattle.std.specs.Prelude.{◌≡◌};
     ghost use Rattle.dtx_outer.specs.Inner.{Kept};
-    ghost use Rattle.dtx_dvb.specs.Dispersal.{dispersal_bytes};
+    ghost use Rattle.dtx_dvb.specs.Randomizer.{randomizer_bytes};
 
     ghost Value = { Kept };
 
     ghost view = { λ reader. reader.inner };
 
-    ghost invariant = { λ reader. reader.inner.white ≡ dispersal_bytes };
+    ghost invariant = { λ reader. reader.inner.white ≡ randomizer_bytes };
 }
 
 impl DvbIn {

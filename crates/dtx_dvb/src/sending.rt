@@ -2,11 +2,11 @@
 
 ghost use Rattle.std.specs.Prelude.{◌≡◌, ℕ, ◌+◌, ◌%◌, ◌<◌, ◌≤◌, ◌++◌, ◌∷◌, [], List, IfOk, length, slice_index_or};
 ghost use Rattle.dtx_laws.specs.Branches.{leaving_all, after_all};
-ghost use Rattle.dtx_dvb.specs.Dispersal.{dispersal_bytes};
+ghost use Rattle.dtx_dvb.specs.Randomizer.{randomizer_bytes};
 ghost use Rattle.dtx_dvb.specs.Stream.{block_of, blocks_from, dvb, zero_branches};
 ghost use Rattle.dtx_dvb.specs.Sending.{HasSent};
 
-use crate::dispersal::Dvb;
+use crate::randomizer::Dvb;
 use crate::sizes::{BLOCK, BRANCH_STEP, BRANCHES, FOUR, FOUR_BLOCKS, PERIOD_PACKETS};
 use dtx_outer::Outer;
 use dtx_packets::Packet;
@@ -16,7 +16,7 @@ use dtx_spread::Branches;
 use std::alloc::{AllocError, Global};
 use std::marker::Model;
 
-/// The dispersal, the Reed-Solomon encoder and the interleaver of the standard.
+/// The randomizer, the Reed-Solomon encoder and the interleaver of the standard.
 type OuterCoding = Outer<
     Dvb,
     Rs<BLOCK, PACKET>,
@@ -37,13 +37,13 @@ pub struct DvbOut {
 impl Model for DvbOut {
     ghost use Rattle.std.specs.Prelude.{◌≡◌};
     ghost use Rattle.dtx_laws.specs.Branches.{Branching};
-    ghost use Rattle.dtx_dvb.specs.Dispersal.{dispersal_bytes};
+    ghost use Rattle.dtx_dvb.specs.Randomizer.{randomizer_bytes};
 
     ghost Value = { Branching };
 
     ghost view = { λ out. out.outer.branches };
 
-    ghost invariant = { λ out. out.outer.white ≡ dispersal_bytes };
+    ghost invariant = { λ out. out.outer.white ≡ randomizer_bytes };
 }
 
 impl DvbOut {

@@ -2,19 +2,19 @@
 
 use dtx_sizes::PACKET;
 
-/// A packet with its correction bytes, in bytes (Reed-Solomon coding).
+/// A packet with its correction bytes, in bytes (EN 300 429, 7.2).
 pub const BLOCK: usize = 204;
 
-/// How many branches the interleaver has (convolutional interleaving).
+/// How many branches the interleaver has (EN 300 429, 7.3).
 pub const BRANCHES: usize = 12;
 
 /// By how many bytes each branch is longer than the one before it.
 pub const BRANCH_STEP: usize = 17;
 
-/// How many packets the dispersal's period has (randomization).
+/// How many packets the randomizer's period has (EN 300 429, 7.1).
 pub const PERIOD_PACKETS: usize = 8;
 
-/// The dispersal's period, in bytes.
+/// The randomizer's period, in bytes.
 pub const PERIOD: usize = PACKET * PERIOD_PACKETS;
 
 /// How many blocks of a stream give no packet: the interleaver delays by so many.

@@ -61,7 +61,7 @@ fn spoil(blocks: &mut Blocks, from: usize) {
     }
 }
 
-// The numbers are those of a program in Python that follows the standard's equations: the dispersal's bits by their
+// The numbers are those of a program in Python that follows the standard's equations: the randomizer's bits by their
 // rule, the sixteen correction bytes by solving the equations that the word vanishes at the first sixteen powers of α,
 // and byte n of what is sent as byte n - 204 * (n mod 12) of the blocks.
 #[test]
@@ -77,8 +77,8 @@ fn the_blocks_are_those_of_an_independent_program(rt: HostRuntime) -> Result<(),
     let blocks = sent(&mut DvbOut::new(rt.alloc())?);
     for (k, first, sum) in cases {
         let block = blocks[k];
-        assert_eq!(rt; [block[0], block[1], block[2]], first, "block {k}");
-        assert_eq!(rt; sum_of(&block), sum, "block {k}");
+        assert!(rt; [block[0], block[1], block[2]] == first, "block {k}");
+        assert!(rt; sum_of(&block) == sum, "block {k}");
     }
     Ok(())
 }
@@ -94,17 +94,13 @@ fn four_packets_at_once_are_sent_and_read_as_one_by_one(rt: HostRuntime) -> Resu
         let packets = [packet(k), packet(k + 1), packet(k + 2), packet(k + 3)];
         out.four((k % 8) as u8, &packets, &mut bytes);
         for i in 0..FOUR {
-            assert_eq!(rt;
-                &bytes[BLOCK * i..BLOCK * i + BLOCK],
-                blocks[k + i].as_slice()
-            );
+            assert!(rt; &bytes[BLOCK * i..BLOCK * i + BLOCK] == blocks[k + i].as_slice());
         }
         let mut given = [[0xA5; PACKET]; FOUR];
         let taken = reader.four(&mut bytes, &mut given);
         for i in 0..FOUR {
-            assert_eq!(rt;
-                (taken[i], Packet(given[i])),
-                reads[k + i],
+            assert!(rt;
+                (taken[i], Packet(given[i])) == reads[k + i],
                 "block {}",
                 k + i
             );
@@ -121,15 +117,14 @@ fn any_96_wrong_bytes_in_a_row_are_put_right(rt: HostRuntime) -> Result<(), Fail
         let reads = read(&mut DvbIn::new(rt.alloc())?, &blocks);
         for k in 0..COUNT {
             if k < WAITING {
-                assert_eq!(rt;
-                    reads[k],
-                    (Taken::None, Packet([0xA5; PACKET])),
+                assert!(rt;
+                    reads[k] == (Taken::None, Packet([0xA5; PACKET])),
                     "block {k}"
                 );
             } else {
                 let want = Packet(packet(k - WAITING));
                 assert!(rt; matches!(reads[k].0, Taken::Good { .. }), "block {k}");
-                assert_eq!(rt; reads[k].1, want, "block {k}");
+                assert!(rt; reads[k].1 == want, "block {k}");
             }
         }
     }
@@ -154,7 +149,10 @@ fn a_word_with_nine_wrong_bytes_is_flagged(rt: HostRuntime) -> Result<(), Fail> 
             as_gathered.flag_error();
         }
         let reads = read(&mut DvbIn::new(rt.alloc())?, &blocks);
-        assert_eq!(rt; reads[WAITING], (want, as_gathered), "{wrong} wrong bytes");
+        assert!(rt;
+            reads[WAITING] == (want, as_gathered),
+            "{wrong} wrong bytes"
+        );
     }
     Ok(())
 }

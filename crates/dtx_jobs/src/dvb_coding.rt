@@ -15,7 +15,7 @@ use std::alloc::{AllocError, Global};
 /// How many bytes are sent of a piece at most.
 const SENT_BYTES: usize = BLOCK * PIECE_PACKETS;
 
-/// Sends a stream, four packets at once where they stand in one half of a group of eight.
+/// Sends a stream, four packets at once where they stand in one group of eight.
 #[derive(Drop)]
 pub(crate) struct DvbCoding {
     coder: Box<DvbOut>,

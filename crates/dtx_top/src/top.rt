@@ -62,8 +62,9 @@ use std::alloc::Global;
 /// 50 packets without a mark, and the third one is received. COUNT is 624 to 1,000,000.
 ///
 /// `dvb code IN OUT` writes the packets of IN, which begin with 0x47, to OUT as EN 300 429 sends them: randomized, as
-/// Reed-Solomon codewords of 204 bytes, interleaved. `dvb read IN OUT` writes the packets of such bytes to OUT, each
-/// with up to eight wrong bytes of its word put right, or flagged where its word has no correction.
+/// Reed-Solomon codewords of 204 bytes, interleaved. `dvb read IN OUT` writes the packets of such bytes, of which the
+/// first begins a group of eight packets, to OUT: one for each block of 204 bytes behind the first eleven, each with up
+/// to eight wrong bytes of its word put right, or flagged where its word has no correction.
 ///
 /// Words that fit no command end in `Usage`.
 pub fn run<S: Shelf, O: Sink>(alloc: Global, words: &[Word], shelf: &mut S, out: &mut O) -> Status
@@ -155,6 +156,8 @@ fn trial_input(status: Status) -> &'static str
     name_among(status, &[trial_name(), feed_name(), "tx-3.sym"])
 }
 
+#[cfg(test)]
+mod dvb_tests;
 #[cfg(test)]
 mod failing_tests;
 #[cfg(test)]

@@ -27,7 +27,7 @@ abbrev pub verbs_behind : List ℕ → List Command → List ℕ
 verbs_behind before [] = []
 verbs_behind before (command ∷ rest) = before ++ ((row_of command).verb ++ verbs_behind (codes "|") rest)
 
--- `usage: dtx` and the words of all commands
+-- `usage: dtx` and each first word of a command once
 abbrev pub usage_line : List ℕ
 usage_line = verbs_behind (codes "usage: dtx ") first_words ++ codes "\n"
 

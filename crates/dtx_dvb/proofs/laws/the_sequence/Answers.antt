@@ -1,4 +1,4 @@
-use Rattle.dtx_dvb.specs.DispersalLaws.{length-sequence, loaded_in, sequence_rule, bit_in}
+use Rattle.dtx_dvb.specs.RandomizerLaws.{length-sequence, loaded_in, sequence_rule, bit_in}
 use Rattle.dtx_dvb.proofs.laws.the_sequence.Goals as goal
 
 pub returns-clause-long : goal.returns-clause-long

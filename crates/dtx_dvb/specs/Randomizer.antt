@@ -1,4 +1,4 @@
--- The bytes that disperse the energy (EN 300 429, randomization). Bits are 0 and 1, and a sum of bits is bit_xor.
+-- The randomizer's bytes (EN 300 429, 7.1). Bits are 0 and 1, and a sum of bits is bit_xor.
 use Rattle.std.specs.Prelude.{ℕ, ◌+◌, ◌-◌, ◌*◌, ◌%◌, ◌==◌, if◌then◌else◌, List, [], ◌∷◌, ◌++◌, length, map}
 use Rattle.std.specs.Prelude.{slice_index}
 use Rattle.std.proofs.Common.{zero, suc}
@@ -19,19 +19,19 @@ sequence zero = loaded
 sequence (suc n) = with_next (sequence n)
 
 -- o[t]
-unfoldable pub dispersal_bit : ℕ → ℕ
-dispersal_bit t = slice_index (sequence (suc t)) (15 + t)
+unfoldable pub randomizer_bit : ℕ → ℕ
+randomizer_bit t = slice_index (sequence (suc t)) (15 + t)
 
 -- the byte whose bits, the highest first, are these
 abbrev pub eight_bits : (ℕ → ℕ) → ℕ
 eight_bits o = 128 * o 0 + 64 * o 1 + 32 * o 2 + 16 * o 3 + 8 * o 4 + 4 * o 5 + 2 * o 6 + o 7
 
--- byte t: 255 for the first sync byte of eight packets, nothing for the other ones, and else o[8 * (t - 1)] to
--- o[8 * (t - 1) + 7]
-unfoldable pub dispersal_byte : ℕ → ℕ
-dispersal_byte t =
-    if t == 0 then 0xff else (if t % 188 == 0 then 0 else eight_bits (λ i. dispersal_bit (8 * (t - 1) + i)))
+-- byte t: 255 for the first sync byte of eight packets, 0 for each other one, while the sequence runs on, and else
+-- o[8 * (t - 1)] to o[8 * (t - 1) + 7]
+unfoldable pub randomizer_byte : ℕ → ℕ
+randomizer_byte t =
+    if t == 0 then 0xff else (if t % 188 == 0 then 0 else eight_bits (λ i. randomizer_bit (8 * (t - 1) + i)))
 
 -- the bytes of a period, 188 for each of eight packets
-unfoldable pub dispersal_bytes : List ℕ
-dispersal_bytes = map dispersal_byte (range_with_len 0 (188 * 8))
+unfoldable pub randomizer_bytes : List ℕ
+randomizer_bytes = map randomizer_byte (range_with_len 0 (188 * 8))

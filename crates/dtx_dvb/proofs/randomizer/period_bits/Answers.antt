@@ -1,9 +1,9 @@
 use Rattle.std.proofs.Common.{◌≡◌, ℕ, ◌+◌, ◌++◌, [], ◌∷◌, List, length, get_or, bit_xor, sym, ap, ap₂, ◌∙◌}
 use Rattle.std.proofs.Common.{arith, add-one}
 use Rattle.std.proofs.lemmas.List.{get_or_default}
-use Rattle.dtx_dvb.specs.Dispersal.{loaded, sequence}
-use Rattle.dtx_dvb.specs.DispersalLaws.{length-sequence, sequence_next}
-use Rattle.dtx_dvb.proofs.dispersal.period_bits.Goals as goal
+use Rattle.dtx_dvb.specs.Randomizer.{loaded, sequence}
+use Rattle.dtx_dvb.specs.RandomizerLaws.{length-sequence, sequence_next}
+use Rattle.dtx_dvb.proofs.randomizer.period_bits.Goals as goal
 
 pub loop-t-init : goal.loop-t-init
 unfolding sequence loaded

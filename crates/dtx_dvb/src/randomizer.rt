@@ -1,9 +1,9 @@
-//! The bytes that disperse the energy, made once.
+//! The randomizer's bytes, made once (EN 300 429, 7.1).
 
 ghost use Rattle.std.specs.Prelude.{◌≡◌, ℕ, ◌+◌, ◌*◌, ◌<◌, ◌≤◌, EachIndex, IfOk, length, slice_index, vec_len};
 ghost use Rattle.dtx_dvb.specs.declared.sizes.TheConstants.{PERIOD};
-ghost use Rattle.dtx_dvb.specs.Dispersal.{loaded, sequence, eight_bits, dispersal_byte, dispersal_bytes};
-ghost use Rattle.dtx_dvb.specs.DispersalLaws.{all_long, all_are_bytes, period_fits};
+ghost use Rattle.dtx_dvb.specs.Randomizer.{loaded, sequence, eight_bits, randomizer_byte, randomizer_bytes};
+ghost use Rattle.dtx_dvb.specs.RandomizerLaws.{all_long, all_are_bytes, period_fits};
 
 use crate::sizes::PERIOD;
 use dtx_laws::Whitener;
@@ -16,12 +16,12 @@ const LOADED: [u8; 15] = [0, 0, 0, 0, 0, 0, 0, 1, 0, 1, 0, 1, 0, 0, 1];
 /// How many bits leave in a period: none while byte 0 does.
 const PERIOD_BITS: usize = 8 * (PERIOD - 1);
 
-/// The dispersal's bytes for the eight packets of its period, one after another.
+/// The randomizer's bytes for the eight packets of its period, one after another.
 #[derive(Drop)]
 pub struct Dvb {
     bytes: Vec<u8>,
     ghost long: { vec_len bytes ≡ PERIOD },
-    ghost all: { bytes.items ≡ dispersal_bytes },
+    ghost all: { bytes.items ≡ randomizer_bytes },
 }
 
 impl Whitener for Dvb {
@@ -45,7 +45,7 @@ impl Whitener for Dvb {
 impl Dvb {
     /// The bytes, from the bits of the sequence. Only want of memory is refused.
     pub fn new(alloc: Global) -> Result<Dvb, AllocError>
-        ensures { IfOk result (λ dvb. ⟦<Dvb as Whitener>⟧.bytes dvb ≡ dispersal_bytes) }
+        ensures { IfOk result (λ dvb. ⟦<Dvb as Whitener>⟧.bytes dvb ≡ randomizer_bytes) }
     {
         let bits = period_bits(alloc)?;
         let mut bytes = Vec::with_capacity(alloc, PERIOD)?;
@@ -68,11 +68,11 @@ fn period_bits(alloc: Global) -> Result<Vec<u8>, AllocError>
     Ok(bits)
 }
 
-/// Byte `t` of the dispersal: the sequence runs on while a later sync byte leaves as it is.
+/// Byte `t` of the randomizer: the sequence runs on while a later sync byte leaves as it is.
 fn byte_at(t: usize, bits: &[u8]) -> u8
     requires bits { bits.now ≡ sequence PERIOD_BITS }
     requires within { t < PERIOD }
-    ensures { result ≡ dispersal_byte t }
+    ensures { result ≡ randomizer_byte t }
 {
     if t == 0 {
         return 0xFF;
@@ -126,7 +126,7 @@ mod tests {
         ];
         let dvb = Dvb::new(rt.alloc())?;
         for (at, byte) in cases {
-            assert_eq!(rt; drawn(&dvb, at), byte, "byte {at}");
+            assert!(rt; drawn(&dvb, at) == byte, "byte {at}");
         }
         Ok(())
     }

@@ -1,6 +1,6 @@
 use Rattle.std.proofs.Common.{◌≡◌, ◌*◌, vec_len, arith}
-use Rattle.dtx_dvb.specs.DispersalLaws.{dispersal_bytes_by}
-use Rattle.dtx_dvb.proofs.dispersal.Dvb.new.Goals as goal
+use Rattle.dtx_dvb.specs.RandomizerLaws.{randomizer_bytes_by}
+use Rattle.dtx_dvb.proofs.randomizer.Dvb.new.Goals as goal
 
 pub invariant_of-result : goal.invariant_of-result
 invariant_of-result c =
@@ -8,6 +8,6 @@ invariant_of-result c =
     omega (arith, c.loop-t.invariant.long, c.loop-t-test.false, c.loop-t.auto.t-end) in
     record {
       long = l;
-      all = dispersal_bytes_by c.loop-t.bytes.items (omega (arith, l, c.loop-t.bytes.ok.0))
+      all = randomizer_bytes_by c.loop-t.bytes.items (omega (arith, l, c.loop-t.bytes.ok.0))
           (λ t h. c.loop-t.invariant.each t (omega (arith, h, c.loop-t-test.false)));
     }

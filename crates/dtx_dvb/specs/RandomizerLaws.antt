@@ -1,4 +1,4 @@
--- What is known of the dispersal's bits and bytes.
+-- What is known of the randomizer's bits and bytes.
 use Rattle.std.proofs.Common.{◌≡◌, ℕ, zero, suc, ◌≢◌, ◌+◌, ◌-◌, ◌*◌, ◌%◌, ◌<◌, ◌≤◌, ◌^◌, ◌⊎◌, ◌==◌, cond, Bool}
 use Rattle.std.proofs.Common.{true, false, List, [], ◌∷◌, ◌++◌, length, get_or, bit_xor, inl, inr, nat_lt, refl, sym}
 use Rattle.std.proofs.Common.{ap, ap₂, ◌∙◌, subst, arith, lit<}
@@ -9,8 +9,8 @@ use Rattle.std.proofs.lemmas.List.FromFn.{length-map-range_with_len, get_or-map-
 use Rattle.dtx_galois.specs.Field.{AreBytes}
 use Rattle.dtx_galois.specs.BytesLaws.{AreBytes-from_places}
 use Rattle.dtx_lists.proofs.Below.{at_below}
-use Rattle.dtx_dvb.specs.Dispersal.{loaded, with_next, sequence, dispersal_bit, eight_bits, dispersal_byte}
-use Rattle.dtx_dvb.specs.Dispersal.{dispersal_bytes}
+use Rattle.dtx_dvb.specs.Randomizer.{loaded, with_next, sequence, randomizer_bit, eight_bits, randomizer_byte}
+use Rattle.dtx_dvb.specs.Randomizer.{randomizer_bytes}
 
 -- ---- bits
 
@@ -31,8 +31,8 @@ sequence_stays n (suc m) i l =
     ∙ sequence_stays n m i l
 
 -- place by place
-pub bit_in : (n t : ℕ) → t < n → get_or (sequence n) (15 + t) 0 ≡ dispersal_bit t
-unfolding dispersal_bit
+pub bit_in : (n t : ℕ) → t < n → get_or (sequence n) (15 + t) 0 ≡ randomizer_bit t
+unfolding randomizer_bit
 bit_in n t l =
     ap (λ k. get_or (sequence k) (15 + t) 0) (let e : n ≡ n - suc t + suc t = omega (arith, l) in e)
     ∙ sequence_stays (suc t) (n - suc t) (15 + t) (omega arith)
@@ -93,27 +93,27 @@ unfolding sequence
 small_bits zero i l = small_loaded i (omega (arith, l, length-sequence zero))
 small_bits (suc n) i l = small_push (sequence n) i (small_bits n) (omega (arith, length-sequence n)) l
 
-small_bit : (t : ℕ) → dispersal_bit t < 2
-unfolding dispersal_bit
+small_bit : (t : ℕ) → randomizer_bit t < 2
+unfolding randomizer_bit
 small_bit t = small_bits (suc t) (15 + t) (omega (arith, length-sequence (suc t)))
 
 -- ---- bytes
 
-pub length-dispersal_bytes : length dispersal_bytes ≡ 188 * 8
-unfolding dispersal_bytes
-length-dispersal_bytes = length-map-range_with_len dispersal_byte 0 (188 * 8)
+pub length-randomizer_bytes : length randomizer_bytes ≡ 188 * 8
+unfolding randomizer_bytes
+length-randomizer_bytes = length-map-range_with_len randomizer_byte 0 (188 * 8)
 
-pub get_or-dispersal_bytes : (t : ℕ) → t < 188 * 8 → get_or dispersal_bytes t 0 ≡ dispersal_byte t
-unfolding dispersal_bytes
-get_or-dispersal_bytes t l =
-    get_or-map-range_with_len dispersal_byte 0 (188 * 8) t t 0 l (let e : 0 + t ≡ t = omega arith in e)
+pub get_or-randomizer_bytes : (t : ℕ) → t < 188 * 8 → get_or randomizer_bytes t 0 ≡ randomizer_byte t
+unfolding randomizer_bytes
+get_or-randomizer_bytes t l =
+    get_or-map-range_with_len randomizer_byte 0 (188 * 8) t t 0 l (let e : 0 + t ≡ t = omega arith in e)
 
-small_byte : (t : ℕ) → dispersal_byte t < 256
-unfolding dispersal_byte
+small_byte : (t : ℕ) → randomizer_byte t < 256
+unfolding randomizer_byte
 small_byte t = by_test (t == 0) (t % 188 == 0)
   where
     o : ℕ → ℕ
-    o i = dispersal_bit (8 * (t - 1) + i)
+    o i = randomizer_bit (8 * (t - 1) + i)
 
     small : (i : ℕ) → o i < 2
     small i = small_bit (8 * (t - 1) + i)
@@ -124,35 +124,35 @@ small_byte t = by_test (t == 0) (t % 188 == 0)
     by_test false false =
         omega (arith, small 0, small 1, small 2, small 3, small 4, small 5, small 6, small 7)
 
-pub bytes_dispersal_bytes : AreBytes dispersal_bytes
-bytes_dispersal_bytes =
-    AreBytes-from_places dispersal_bytes
+pub bytes_randomizer_bytes : AreBytes randomizer_bytes
+bytes_randomizer_bytes =
+    AreBytes-from_places randomizer_bytes
     (λ t l. subst (λ (x : ℕ). x < 256)
-    (sym (get_or-dispersal_bytes t (subst (λ (x : ℕ). t < x) length-dispersal_bytes l))) (small_byte t))
+    (sym (get_or-randomizer_bytes t (subst (λ (x : ℕ). t < x) length-randomizer_bytes l))) (small_byte t))
 
 -- by the three kinds of places
-pub byte_first : (t : ℕ) → t ≡ 0 → 255 ≡ dispersal_byte t
-unfolding dispersal_byte
+pub byte_first : (t : ℕ) → t ≡ 0 → 255 ≡ randomizer_byte t
+unfolding randomizer_byte
 byte_first t e = sym (cond-true (t == 0) 255 _ (eq-eqb t 0 e))
 
-pub byte_sync : (t : ℕ) → t ≢ 0 → t % 188 ≡ 0 → 0 ≡ dispersal_byte t
-unfolding dispersal_byte
+pub byte_sync : (t : ℕ) → t ≢ 0 → t % 188 ≡ 0 → 0 ≡ randomizer_byte t
+unfolding randomizer_byte
 byte_sync t n e =
     sym (cond-false (t == 0) 255 _ (ne_eqb t 0 n) ∙ cond-true (t % 188 == 0) 0 _ (eq-eqb (t % 188) 0 e))
 
 pub byte_else : (n t : ℕ) → t ≢ 0 → t % 188 ≢ 0 → 8 * (t - 1) + 8 ≤ n
-    → dispersal_byte t ≡ eight_bits (λ i. get_or (sequence n) (15 + 8 * (t - 1) + i) 0)
-unfolding dispersal_byte
+    → randomizer_byte t ≡ eight_bits (λ i. get_or (sequence n) (15 + 8 * (t - 1) + i) 0)
+unfolding randomizer_byte
 byte_else n t a b l =
     cond-false (t == 0) 255 _ (ne_eqb t 0 a) ∙ cond-false (t % 188 == 0) 0 _ (ne_eqb (t % 188) 0 b)
     ∙ eight
   where
-    place : (i : ℕ) → i < 8 → dispersal_bit (8 * (t - 1) + i) ≡ get_or (sequence n) (15 + 8 * (t - 1) + i) 0
+    place : (i : ℕ) → i < 8 → randomizer_bit (8 * (t - 1) + i) ≡ get_or (sequence n) (15 + 8 * (t - 1) + i) 0
     place i m =
         sym (bit_in n (8 * (t - 1) + i) (omega (arith, l, m)))
         ∙ ap (λ k. get_or (sequence n) k 0) (let e : 15 + (8 * (t - 1) + i) ≡ 15 + 8 * (t - 1) + i = omega arith in e)
 
-    eight : eight_bits (λ i. dispersal_bit (8 * (t - 1) + i))
+    eight : eight_bits (λ i. randomizer_bit (8 * (t - 1) + i))
         ≡ eight_bits (λ i. get_or (sequence n) (15 + 8 * (t - 1) + i) 0)
     eight = omega (
       arith,
@@ -167,16 +167,16 @@ byte_else n t a b l =
     )
 
 -- known place by place
-pub dispersal_bytes_by : (bytes : List ℕ) → length bytes ≡ 188 * 8
-    → ((t : ℕ) → t < 188 * 8 → get_or bytes t 0 ≡ dispersal_byte t) → bytes ≡ dispersal_bytes
-unfolding dispersal_bytes
-dispersal_bytes_by bytes l h = fill_by_all dispersal_byte bytes (188 * 8) 0 l h
+pub randomizer_bytes_by : (bytes : List ℕ) → length bytes ≡ 188 * 8
+    → ((t : ℕ) → t < 188 * 8 → get_or bytes t 0 ≡ randomizer_byte t) → bytes ≡ randomizer_bytes
+unfolding randomizer_bytes
+randomizer_bytes_by bytes l h = fill_by_all randomizer_byte bytes (188 * 8) 0 l h
 
-pub all_long : (bytes : List ℕ) → bytes ≡ dispersal_bytes → length bytes ≡ 188 * 8
-all_long bytes e = ap length e ∙ length-dispersal_bytes
+pub all_long : (bytes : List ℕ) → bytes ≡ randomizer_bytes → length bytes ≡ 188 * 8
+all_long bytes e = ap length e ∙ length-randomizer_bytes
 
-pub all_are_bytes : (bytes : List ℕ) → bytes ≡ dispersal_bytes → AreBytes bytes
-all_are_bytes bytes e = subst AreBytes (sym e) bytes_dispersal_bytes
+pub all_are_bytes : (bytes : List ℕ) → bytes ≡ randomizer_bytes → AreBytes bytes
+all_are_bytes bytes e = subst AreBytes (sym e) bytes_randomizer_bytes
 
 pub period_fits : 188 * 8 < 2 ^ 64
 period_fits = lit< tt
