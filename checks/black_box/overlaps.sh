@@ -37,6 +37,8 @@ while read -r name; do
     overlaps in.ts adapt "$plan" "$name" in.ts
     overlaps in.ts code in.ts "$name"
     overlaps in.ts place in.ts "$name"
+    overlaps in.ts dvb code in.ts "$name"
+    overlaps in.ts dvb read in.ts "$name"
     overlaps in.ts excite in.ts 7 0 "$name" out.log
     rm -f out.log out.sym
     overlaps in.ts excite in.ts 7 0 out.sym "$name"
@@ -45,6 +47,7 @@ while read -r name; do
 done < <(named in.ts)
 while read -r name; do
     overlaps in.sym receive in.sym "$name"
+    overlaps in.sym soft in.sym "$name"
 done < <(named in.sym)
 while read -r name; do
     overlaps changes.toml hurt in.ts changes.toml "$name"

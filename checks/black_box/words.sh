@@ -85,6 +85,25 @@ is_usage '`place` with a word too few' place ../inputs/given.ts
 is_usage '`place` with a word too many' place ../inputs/given.ts out.ts more
 is_usage '`place` with an empty input' place '' out.ts
 is_usage '`place` with an empty output' place ../inputs/given.ts ''
+is_usage '`soft` alone' soft
+is_usage '`soft` with a word too few' soft ../inputs/given.sym
+is_usage '`soft` with a word too many' soft ../inputs/given.sym out.sym more
+is_usage '`soft` with an empty input' soft '' out.sym
+is_usage '`soft` with an empty output' soft ../inputs/given.sym ''
+is_usage '`dvb` alone' dvb
+is_usage '`dvb` without its second word' dvb ../inputs/given.ts out
+is_usage '`dvb` with an unknown second word' dvb receive ../inputs/given.ts out
+is_usage '`dvb` with an empty second word' dvb '' ../inputs/given.ts out
+is_usage '`dvb` with its words in one' 'dvb code' ../inputs/given.ts out
+is_usage 'the second word of `dvb` first' read ../inputs/given.ts out
+for verb in code read; do
+    is_usage "\`dvb $verb\` alone" dvb $verb
+    is_usage "\`dvb $verb\` with a word too few" dvb $verb ../inputs/given.ts
+    is_usage "\`dvb $verb\` with a word too many" dvb $verb ../inputs/given.ts out more
+    is_usage "\`dvb $verb\` with an empty input" dvb $verb '' out
+    is_usage "\`dvb $verb\` with an empty output" dvb $verb ../inputs/given.ts ''
+    is_usage "\`dvb $verb\` with a capital letter" dvb ${verb^} ../inputs/given.ts out
+done
 
 while read -r shows given_plan input output named; do
     start "equal names: $shows"

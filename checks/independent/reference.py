@@ -32,25 +32,31 @@ for _ in range(254):
 LOGS = {power: log for log, power in enumerate(POWERS)}
 
 
-def generator():
-    """The product of x + alpha^i for i from 0 to 19, highest coefficient first."""
+# How many correction bytes a codeword of the air has, and of the operations packet.
+PARITY = 20
+
+
+def generator(parity):
+    """The product of x + alpha^i for each i below a number, highest coefficient first."""
     product = [1]
-    for i in range(20):
+    for i in range(parity):
         product = [a ^ multiplied(b, POWERS[i]) for a, b in zip(product + [0], [0] + product)]
     return product
 
 
-# The multiples of the generator's lower coefficients, for each byte, as numbers of twenty bytes.
-FACTORS = generator()[1:]
-ROWS = [int.from_bytes(bytes(multiplied(factor, c) for c in FACTORS), "big") for factor in range(256)]
+@functools.cache
+def rows(parity):
+    """The multiples of the generator's lower coefficients, for each byte, as numbers of so many bytes."""
+    factors = generator(parity)[1:]
+    return [int.from_bytes(bytes(multiplied(factor, c) for c in factors), "big") for factor in range(256)]
 
 
-def correction_bytes(data):
-    """The twenty bytes behind the data of a codeword: the remainder of a division."""
-    rest = 0
+def correction_bytes(data, parity=PARITY):
+    """The bytes behind the data of a codeword: the remainder of a division."""
+    rest, multiples, most = 0, rows(parity), 2 ** (8 * parity)
     for byte in data:
-        rest = (rest << 8) % 2**160 ^ ROWS[byte ^ rest >> 152]
-    return rest.to_bytes(20, "big")
+        rest = (rest << 8) % most ^ multiples[byte ^ rest >> 8 * parity - 8]
+    return rest.to_bytes(parity, "big")
 
 
 def product_of(a, b):
@@ -69,7 +75,7 @@ def value(coefficients, power):
 def locator(syndromes):
     """The shortest recurrence of the syndromes, lowest coefficient first, by the method of Berlekamp and Massey."""
     found, before, length, gap, last = [1], [1], 0, 1, 1
-    for n in range(20):
+    for n in range(len(syndromes)):
         off = 0
         for coefficient, syndrome in zip(found, reversed(syndromes[: n + 1])):
             off ^= product_of(coefficient, syndrome)
@@ -88,24 +94,24 @@ def locator(syndromes):
     return found, length
 
 
-def is_codeword(word):
-    return correction_bytes(word[:-20]) == word[-20:]
+def is_codeword(word, parity=PARITY):
+    return correction_bytes(word[:-parity], parity) == word[-parity:]
 
 
-def corrected(word):
-    """The codeword that differs from a word in at most ten places, or nothing. What is found is tested, so it is one; and where there
-    is one, the recurrence of the syndromes finds its places."""
-    if is_codeword(word):
+def corrected(word, parity=PARITY):
+    """The codeword that differs from a word in at most half as many places as it has correction bytes, or nothing. What is found is
+    tested, so it is one; and where there is one, the recurrence of the syndromes finds its places."""
+    if is_codeword(word, parity):
         return word
     count = len(word)
-    syndromes = [value(word, i) for i in range(20)]
+    syndromes = [value(word, i) for i in range(parity)]
     recurrence, length = locator(syndromes)
     powers = [power for power in range(count) if value(recurrence[::-1], -power) == 0]
-    if length > 10 or len(powers) != length:
+    if length > parity // 2 or len(powers) != length:
         return None
-    over = [0] * 20
+    over = [0] * parity
     for i, coefficient in enumerate(recurrence):
-        for j in range(20 - i):
+        for j in range(parity - i):
             over[i + j] ^= product_of(coefficient, syndromes[j])
     slope = [coefficient if i % 2 == 0 else 0 for i, coefficient in enumerate(recurrence[1:])]
     mended = bytearray(word)
@@ -115,7 +121,7 @@ def corrected(word):
             return None
         error = product_of(product_of(value(over[::-1], -power), POWERS[power]), POWERS[(255 - LOGS[below]) % 255])
         mended[count - 1 - power] ^= error
-    return bytes(mended) if is_codeword(bytes(mended)) else None
+    return bytes(mended) if is_codeword(bytes(mended), parity) else None
 
 
 def whitening():

@@ -1,0 +1,61 @@
+#!/usr/bin/env bash
+# Measures `dtx soft` on the symbols of a made stream with noise beside GNU Radio's whole receive chain on a part of them, and beside its
+# Viterbi decoder alone on that part's lists of symbols of each trellis coder and field, where Debian's packages `gnuradio` and
+# `python3-numpy` are installed, and says whether the paths of both cost the same. All of it in one run, on one processor where `taskset` is
+# there, `dtx` the best of three and the other once. It needs 500 MB on the disk of temporary files. The status is 0 where `dtx` is at
+# least 20 times as fast as each of them and the costs are the same, and where there is no GNU Radio.
+
+set -eu
+rounds=3
+bar=20
+deviation=0.24
+fields=340
+# GNU Radio is slow, so it gets a part of the symbols: so many whole fields.
+few_fields=34
+field_symbols=$((313 * 832))
+field_packets=312
+packets=$((fields * field_packets))
+
+. "$(dirname "${BASH_SOURCE[0]}")/../commands/timing.sh"
+. "$top/bench/gnuradio/blocks.sh"
+need_gnuradio
+trellis=("$gnuradio_python" "$top/bench/gnuradio/trellis.py")
+"$program" make 1 $packets "$room/in.ts" >"$room/said"
+"$program" code "$room/in.ts" "$room/in.sym" >"$room/said"
+"${trellis[@]}" noise $deviation "$room/in.sym" "$room/noisy.sym"
+head -c $((few_fields * field_symbols)) "$room/noisy.sym" >"$room/few.sym"
+head -c $field_symbols "$room/noisy.sym" >"$room/least.sym"
+
+for ((round = 0; round < rounds; round++)); do
+    measure 'dtx soft' "$room/out.sym" "$program" soft "$room/noisy.sym" "$room/out.sym"
+done
+printf 'best of %d%s: %s\n' $rounds "${pinned[*]:+, on one processor}" "$(cat "$room/said")"
+rate 'dtx soft' $packets "${best[dtx soft]}"
+
+# beside WHAT SUFFIX COMMAND..: measures the command, whose words are followed by an input and an output. Its start is no part of the work:
+# the time of one field is taken off.
+status=0
+beside() {
+    local what=$1 suffix=$2 start whole
+    shift 2
+    start=$(timed "$@" "$room/least.$suffix" "$room/theirs")
+    whole=$(timed "$@" "$room/few.$suffix" "$room/theirs")
+    printf '%s:\n' "$what"
+    compared 'dtx soft' $packets $(((few_fields - 1) * field_packets)) $((whole - start)) $bar || status=1
+}
+
+beside 'the whole receive chain' sym "$gnuradio_python" "$top/bench/gnuradio/receive.py"
+for part in few least; do
+    "${trellis[@]}" lists "$room/$part.sym" "$room/$part.lists"
+done
+beside 'the Viterbi decoder alone' lists "${trellis[@]}" paths
+
+line=$("$program" soft "$room/few.sym" "$room/out.sym")
+cost=$("${trellis[@]}" cost "$room/few.lists" "$room/theirs")
+if [[ $line == *" fields $few_fields cost $cost "* ]]; then
+    printf 'the paths of both cost %d\n' "$cost"
+else
+    printf 'the paths of GNU Radio cost %d, and dtx says: %s\n' "$cost" "$line"
+    status=1
+fi
+exit $status
