@@ -86,11 +86,11 @@ if command -v parallel >/dev/null; then
     unset PARALLEL
 fi
 
-# In the place of another machine: what comes to it is done here, in a home of its own.
+# In the place of another machine: what comes to it is done here, in a home and by a shell of its own, as a login has them.
 mkdir "$room/many/home" "$room/many/away"
 cat >"$room/many/away/ssh" <<end
 #!/usr/bin/env bash
-export HOME=$room/many/home
+export HOME=$room/many/home SHELL=$BASH
 cd || exit
 while [[ \$1 == -* ]]; do
     case \$1 in -l | -o | -p) shift ;; esac
