@@ -3,7 +3,7 @@ use Rattle.dtx_meaning.specs.declared.status.Status.{Status}
 use Rattle.dtx_meaning.specs.declared.status.Status.TheVariants.{Plan, Packet, TooLong, OutOfFeed, OutOfAir, NoSync}
 use Rattle.dtx_words.specs.declared.rows.Command.{Command}
 use Rattle.dtx_words.specs.declared.rows.Command.TheVariants.{Adapt, Code, Excite, Receive, Make, Hurt, Place, Trial}
-use Rattle.dtx_words.specs.declared.rows.Command.TheVariants.{DvbCode, DvbRead}
+use Rattle.dtx_words.specs.declared.rows.Command.TheVariants.{Soft, DvbCode, DvbRead}
 
 -- The command may be answered so, whatever the words and the files are: a refusal of a plan where it reads one, of a
 -- packet where it judges them, and so on.
@@ -39,6 +39,11 @@ Knows Place (OutOfAir entry) = ⊥
 Knows Place NoSync = ⊥
 Knows Trial (Plan refusal) = ⊥
 Knows Trial (OutOfAir entry) = ⊥
+Knows Soft (Plan refusal) = ⊥
+Knows Soft (Packet k) = ⊥
+Knows Soft (OutOfFeed event) = ⊥
+Knows Soft (OutOfAir entry) = ⊥
+Knows Soft NoSync = ⊥
 Knows DvbCode (Plan refusal) = ⊥
 Knows DvbCode (OutOfFeed event) = ⊥
 Knows DvbCode (OutOfAir entry) = ⊥

@@ -14,7 +14,7 @@ use Rattle.dtx_plan.specs.declared.damage.Damage.{Damage}
 use Rattle.dtx_plan.specs.declared.plan.Plan as plans
 use Rattle.dtx_words.specs.declared.rows.Command.{Command}
 use Rattle.dtx_words.specs.declared.rows.Command.TheVariants.{Adapt, Code, Excite, Receive, Net, Make, Hurt, Place}
-use Rattle.dtx_words.specs.declared.rows.Command.TheVariants.{Trial, DvbCode, DvbRead}
+use Rattle.dtx_words.specs.declared.rows.Command.TheVariants.{Trial, Soft, DvbCode, DvbRead}
 use Rattle.dtx_jobs.specs.Adapt.{feeding}
 use Rattle.dtx_jobs.specs.Answers.{Knows}
 use Rattle.dtx_jobs.specs.Code.{coding}
@@ -25,6 +25,7 @@ use Rattle.dtx_jobs.specs.Hurt.{hurting, hurt_end}
 use Rattle.dtx_jobs.specs.PlanFile.{IsPlanRefusal}
 use Rattle.dtx_jobs.specs.Place.{placing}
 use Rattle.dtx_jobs.specs.Receive.{receiving}
+use Rattle.dtx_jobs.specs.Soft.{softening}
 
 -- ---- how a making answers
 
@@ -192,6 +193,23 @@ dvb_read_knows ReadFault is = tt
 dvb_read_knows WriteFault is = tt
 dvb_read_knows Memory is = tt
 
+-- symbols that are softened
+pub soft_knows : (status : Status) → IsAnswerOf softening status → Knows Soft status
+soft_knows Done is = tt
+soft_knows Usage is = tt
+soft_knows Same is = tt
+soft_knows (Absent input) is = tt
+soft_knows (Plan refusal) (given, loose, is) = let e : Plan refusal ≡ Done = is in cc
+soft_knows (Packet k) (inl (unit, refused)) = let e : true ≡ false = refused in cc
+soft_knows (Packet k) (inr (given, loose, is)) = let e : Packet k ≡ Done = is in cc
+soft_knows TooLong is = tt
+soft_knows (OutOfFeed event) (given, loose, is) = let e : OutOfFeed event ≡ Done = is in cc
+soft_knows (OutOfAir entry) (given, loose, is) = let e : OutOfAir entry ≡ Done = is in cc
+soft_knows NoSync (given, loose, is) = let e : NoSync ≡ Done = is in cc
+soft_knows ReadFault is = tt
+soft_knows WriteFault is = tt
+soft_knows Memory is = tt
+
 -- ---- equal names, plans, faults
 
 same_known : (command : Command) → Knows command Same
@@ -204,6 +222,7 @@ same_known Make = tt
 same_known Hurt = tt
 same_known Place = tt
 same_known Trial = tt
+same_known Soft = tt
 same_known DvbCode = tt
 same_known DvbRead = tt
 

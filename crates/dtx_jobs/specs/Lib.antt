@@ -35,6 +35,12 @@ pub mod ReceivedLaws
 pub mod SplicedSymbolsLaws
 pub mod Reception
 pub mod Shapes
+pub mod Soft
+pub mod SoftLaws
+pub mod SoftPlacesLaws
+pub mod SoftRowsLaws
+pub mod Softening
+pub mod SofteningLaws
 pub mod StreamCoder
 pub mod SymbolFile
 pub mod SymbolFileLaws

@@ -167,7 +167,7 @@ fn begun(tracking: Tracking) -> u64
 }
 
 /// Sets the symbols to those of the bytes.
-fn to_symbols(bytes: &[u8; SEGMENT], segment: &mut [i8; SEGMENT])
+pub(crate) fn to_symbols(bytes: &[u8; SEGMENT], segment: &mut [i8; SEGMENT])
     ensures { segment.new ≡ symbols bytes.now }
 {
     for i in 0..SEGMENT {

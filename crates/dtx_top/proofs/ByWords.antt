@@ -19,7 +19,7 @@ use Rattle.dtx_words.specs.Names.{names_at, repeated}
 use Rattle.dtx_words.specs.Rows.{adapt_row, code_row, excite_row, make_row, net_row, trial_row}
 use Rattle.dtx_words.specs.declared.rows.Command.{Command}
 use Rattle.dtx_words.specs.declared.rows.Command.TheVariants.{Adapt, Code, Excite, Receive, Net, Make, Hurt, Place}
-use Rattle.dtx_words.specs.declared.rows.Command.TheVariants.{Trial, DvbCode, DvbRead}
+use Rattle.dtx_words.specs.declared.rows.Command.TheVariants.{Trial, Soft, DvbCode, DvbRead}
 use Rattle.dtx_words.specs.declared.rows.Field.{Field}
 use Rattle.dtx_words.specs.declared.rows.Field.TheVariants.{Second}
 use Rattle.dtx_words.specs.declared.rows.SecondWord.{SecondWord}
@@ -157,6 +157,7 @@ fitted_told Make (verb ∷ words) status fit is = (make_told verb words status (
 fitted_told Hurt (verb ∷ words) status fit is = (three_told verb words status (and_parts _ _ fit).1 is.0, is.1)
 fitted_told Place (verb ∷ words) status fit is = (two_told verb words status (and_parts _ _ fit).1 is.0, is.1)
 fitted_told Trial (verb ∷ words) status fit is = (trial_told verb words status (and_parts _ _ fit).1 is.0, is.1)
+fitted_told Soft (verb ∷ words) status fit is = (two_told verb words status (and_parts _ _ fit).1 is.0, is.1)
 fitted_told DvbCode (verb ∷ words) status fit is =
     (two_behind_told second.Code verb words status (and_parts _ _ fit).1 is.0, is.1)
 fitted_told DvbRead (verb ∷ words) status fit is =
@@ -197,6 +198,7 @@ memory_known Make = tt
 memory_known Hurt = tt
 memory_known Place = tt
 memory_known Trial = tt
+memory_known Soft = tt
 memory_known DvbCode = tt
 memory_known DvbRead = tt
 
@@ -210,6 +212,7 @@ write_fault_known Make = tt
 write_fault_known Hurt = tt
 write_fault_known Place = tt
 write_fault_known Trial = tt
+write_fault_known Soft = tt
 write_fault_known DvbCode = tt
 write_fault_known DvbRead = tt
 
@@ -248,6 +251,8 @@ by_words_finished Place words status line is =
     (inputs_finished _ _ status line is.0, knows_finished Place status line is.1)
 by_words_finished Trial words status line is =
     (inputs_finished _ _ status line is.0, knows_finished Trial status line is.1)
+by_words_finished Soft words status line is =
+    (inputs_finished _ _ status line is.0, knows_finished Soft status line is.1)
 by_words_finished DvbCode words status line is =
     (inputs_finished _ _ status line is.0, knows_finished DvbCode status line is.1)
 by_words_finished DvbRead words status line is =

@@ -19,7 +19,7 @@ use Rattle.dtx_words.specs.Names.{line_name}
 use Rattle.dtx_words.specs.Printed.{printed, IsPut}
 use Rattle.dtx_words.specs.declared.rows.Command.{Command}
 use Rattle.dtx_words.specs.declared.rows.Command.TheVariants.{Adapt, Code, Excite, Receive, Net, Make, Hurt, Place}
-use Rattle.dtx_words.specs.declared.rows.Command.TheVariants.{Trial, DvbCode, DvbRead}
+use Rattle.dtx_words.specs.declared.rows.Command.TheVariants.{Trial, Soft, DvbCode, DvbRead}
 use Rattle.dtx_top.specs.Lines.{name_kept, names_told, HasLine, HasPartLine, IsSomeCount, IsSomeLine, IsSomeName}
 use Rattle.dtx_top.specs.Lines.{IsToldLine}
 use Rattle.dtx_top.specs.NetAnswers.{ShowsNetwork}
@@ -95,6 +95,7 @@ name_told (Some Make) words held status kept is = refl
 name_told (Some Hurt) words held status kept is = refl
 name_told (Some Place) words held status kept is = refl
 name_told (Some Trial) words held status kept is = refl
+name_told (Some Soft) words held status kept is = refl
 name_told (Some DvbCode) words held status kept is = refl
 name_told (Some DvbRead) words held status kept is = refl
 name_told None words held status kept is = refl
@@ -147,6 +148,7 @@ some_name (Some Make) words status kept is = refl
 some_name (Some Hurt) words status kept is = refl
 some_name (Some Place) words status kept is = refl
 some_name (Some Trial) words status kept is = refl
+some_name (Some Soft) words status kept is = refl
 some_name (Some DvbCode) words status kept is = refl
 some_name (Some DvbRead) words status kept is = refl
 some_name None words status kept is = refl
@@ -163,6 +165,7 @@ some_count (Some Make) outcome none is = tt
 some_count (Some Hurt) outcome none is = tt
 some_count (Some Place) outcome none is = tt
 some_count (Some Trial) outcome none is = tt
+some_count (Some Soft) outcome none is = tt
 some_count (Some DvbCode) outcome none is = tt
 some_count (Some DvbRead) outcome none is = tt
 some_count None outcome none is = λ done. let e : Usage ≡ Done = sym (none refl) ∙ done in cc

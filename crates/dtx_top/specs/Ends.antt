@@ -11,7 +11,7 @@ use Rattle.dtx_words.specs.Names.{names_of, repeated}
 use Rattle.dtx_words.specs.Rows.{row_of}
 use Rattle.dtx_words.specs.declared.rows.Command.{Command}
 use Rattle.dtx_words.specs.declared.rows.Command.TheVariants.{Adapt, Code, Excite, Receive, Net, Make, Hurt, Place}
-use Rattle.dtx_words.specs.declared.rows.Command.TheVariants.{Trial, DvbCode, DvbRead}
+use Rattle.dtx_words.specs.declared.rows.Command.TheVariants.{Trial, Soft, DvbCode, DvbRead}
 use Rattle.dtx_words.specs.declared.rows.Field.{Field}
 use Rattle.dtx_words.specs.declared.rows.Field.TheVariants.{Input}
 use Rattle.dtx_top.specs.HeadlineOfFiles.{HasHeadline}
@@ -94,5 +94,6 @@ IsOfCommand (Some Make) words status = IsOfWords (make_same words) 0 status × K
 IsOfCommand (Some Hurt) words status = IsOfWords (three_same words) 2 status × Knows Hurt status
 IsOfCommand (Some Place) words status = IsOfWords (two_same words) 1 status × Knows Place status
 IsOfCommand (Some Trial) words status = IsOfWords (trial_same words) 3 status × Knows Trial status
+IsOfCommand (Some Soft) words status = IsOfWords (two_same words) 1 status × Knows Soft status
 IsOfCommand (Some DvbCode) words status = IsOfWords (two_behind_same words) 1 status × Knows DvbCode status
 IsOfCommand (Some DvbRead) words status = IsOfWords (two_behind_same words) 1 status × Knows DvbRead status

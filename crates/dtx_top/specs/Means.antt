@@ -12,12 +12,13 @@ use Rattle.dtx_jobs.specs.Hurt.{hurt_meaning}
 use Rattle.dtx_jobs.specs.Make.{make_meaning}
 use Rattle.dtx_jobs.specs.Place.{place_meaning}
 use Rattle.dtx_jobs.specs.Receive.{receive_meaning}
+use Rattle.dtx_jobs.specs.Soft.{soft_meaning}
 use Rattle.dtx_meaning.specs.Meaning.{Meaning, refused}
 use Rattle.dtx_meaning.specs.declared.status.Status.TheVariants.{Usage}
 use Rattle.dtx_words.specs.Fitting.{command_of}
 use Rattle.dtx_words.specs.declared.rows.Command.{Command}
 use Rattle.dtx_words.specs.declared.rows.Command.TheVariants.{Adapt, Code, Excite, Receive, Net, Make, Hurt, Place}
-use Rattle.dtx_words.specs.declared.rows.Command.TheVariants.{Trial, DvbCode, DvbRead}
+use Rattle.dtx_words.specs.declared.rows.Command.TheVariants.{Trial, Soft, DvbCode, DvbRead}
 
 -- what the words mean where they fit that command, and where they fit none
 abbrev pub means_of : Option Command → List (List ℕ) → Files → Meaning
@@ -31,6 +32,7 @@ means_of (Some Make) words held = make_meaning words held
 means_of (Some Hurt) words held = hurt_meaning words held
 means_of (Some Place) words held = place_meaning words held
 means_of (Some Trial) words held = trial_meaning words held
+means_of (Some Soft) words held = soft_meaning words held
 means_of (Some DvbCode) words held = dvb_code_meaning words held
 means_of (Some DvbRead) words held = dvb_read_meaning words held
 

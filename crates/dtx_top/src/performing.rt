@@ -12,7 +12,7 @@ ghost use Rattle.dtx_top.specs.NetAnswers.{ShowsNetwork};
 use crate::net_command::{NetOutcome, net};
 use crate::trial_command::trial;
 use arrayvec::ArrayString;
-use dtx_jobs::{adapt, code, dvb_code, dvb_read, excite, hurt, make, place, receive};
+use dtx_jobs::{adapt, code, dvb_code, dvb_read, excite, hurt, make, place, receive, soft};
 use dtx_meaning::{Outcome, Status, ended};
 use dtx_outside::{Shelf, Word};
 use dtx_words::Command;
@@ -51,6 +51,7 @@ pub(crate) fn perform<S: Shelf>(
         Some(Command::Hurt) => nameless(hurt(alloc, words, shelf)),
         Some(Command::Place) => nameless(place(alloc, words, shelf)),
         Some(Command::Trial) => nameless(trial(alloc, words, shelf)),
+        Some(Command::Soft) => nameless(soft(alloc, words, shelf)),
         Some(Command::DvbCode) => nameless(dvb_code(alloc, words, shelf)),
         Some(Command::DvbRead) => nameless(dvb_read(alloc, words, shelf)),
         None => nameless(ended(Status::Usage)),

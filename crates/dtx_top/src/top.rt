@@ -61,6 +61,10 @@ use std::alloc::Global;
 /// a network over them as `net` does (the profile's own): three transmitters are given the feed, the third one behind
 /// 50 packets without a mark, and the third one is received. COUNT is 624 to 1,000,000.
 ///
+/// `soft IN OUT` writes the segments of the symbols IN to OUT, where in each field of a run the data symbols of its
+/// whole groups of four segments become those of the least path of each trellis coder, in the sum of the squares (ATSC
+/// A/53 Part 2, trellis coding); all other segments stay.
+///
 /// `dvb code IN OUT` writes the packets of IN, which begin with 0x47, to OUT as EN 300 429 sends them: randomized, as
 /// Reed-Solomon codewords of 204 bytes, interleaved. `dvb read IN OUT` writes the packets of such bytes, of which the
 /// first begins a group of eight packets, to OUT: one for each block of 204 bytes behind the first eleven, each with up

@@ -3,7 +3,7 @@ use Rattle.std.specs.Prelude.{ℕ, ◌-◌, ◌^◌, Bool, true, false, not, ◌
 use Rattle.std.specs.List.{list_any}
 use Rattle.dtx_words.specs.declared.rows.Command.{Command}
 use Rattle.dtx_words.specs.declared.rows.Command.TheVariants.{Adapt, Code, Excite, Receive, Net, Make, Hurt, Place}
-use Rattle.dtx_words.specs.declared.rows.Command.TheVariants.{Trial, DvbCode, DvbRead}
+use Rattle.dtx_words.specs.declared.rows.Command.TheVariants.{Trial, Soft, DvbCode, DvbRead}
 use Rattle.dtx_words.specs.declared.rows.CommandRow.{CommandRow}
 use Rattle.dtx_words.specs.declared.rows.Field.{Field}
 use Rattle.dtx_words.specs.declared.rows.Field.TheVariants.{Input, Output, Number, Within, Second}
@@ -114,6 +114,15 @@ trial_row = record {
   fewest = 6;
 }
 
+-- `soft IN OUT`
+abbrev pub soft_row : Row
+soft_row = record {
+  verb = codes "soft";
+  fields = Input ∷ Output ∷ [];
+  labels = codes "segments " ∷ codes " fields " ∷ codes " cost " ∷ codes " loose " ∷ [];
+  fewest = 4;
+}
+
 -- `dvb code IN OUT`
 abbrev pub dvb_code_row : Row
 dvb_code_row = record {
@@ -143,6 +152,7 @@ row_of Make = make_row
 row_of Hurt = hurt_row
 row_of Place = place_row
 row_of Trial = trial_row
+row_of Soft = soft_row
 row_of DvbCode = dvb_code_row
 row_of DvbRead = dvb_read_row
 
@@ -163,8 +173,8 @@ are_inputs_first (field ∷ fields) = are_inputs_first fields
 
 -- all commands
 abbrev pub commands : List Command
-commands = Adapt ∷ Code ∷ Excite ∷ Receive ∷ Net ∷ Make ∷ Hurt ∷ Place ∷ Trial ∷ DvbCode ∷ DvbRead ∷ []
+commands = Adapt ∷ Code ∷ Excite ∷ Receive ∷ Net ∷ Make ∷ Hurt ∷ Place ∷ Trial ∷ Soft ∷ DvbCode ∷ DvbRead ∷ []
 
 -- one command for each first word, in the order of the usage line
 abbrev pub first_words : List Command
-first_words = Adapt ∷ Code ∷ Excite ∷ Receive ∷ Net ∷ Make ∷ Hurt ∷ Place ∷ Trial ∷ DvbCode ∷ []
+first_words = Adapt ∷ Code ∷ Excite ∷ Receive ∷ Net ∷ Make ∷ Hurt ∷ Place ∷ Trial ∷ Soft ∷ DvbCode ∷ []

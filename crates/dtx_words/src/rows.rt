@@ -31,6 +31,8 @@ pub enum Command {
     Place,
     /// `trial SEED COUNT`
     Trial,
+    /// `soft IN OUT`
+    Soft,
     /// `dvb code IN OUT`
     DvbCode,
     /// `dvb read IN OUT`
@@ -87,7 +89,7 @@ pub(crate) struct CommandRow {
 }
 
 /// All commands.
-pub(crate) const COMMANDS: [Command; 11] = [
+pub(crate) const COMMANDS: [Command; 12] = [
     Command::Adapt,
     Command::Code,
     Command::Excite,
@@ -97,12 +99,13 @@ pub(crate) const COMMANDS: [Command; 11] = [
     Command::Hurt,
     Command::Place,
     Command::Trial,
+    Command::Soft,
     Command::DvbCode,
     Command::DvbRead,
 ];
 
 /// One command for each first word, in the order of the usage line.
-pub(crate) const FIRST_WORDS: [Command; 10] = [
+pub(crate) const FIRST_WORDS: [Command; 11] = [
     Command::Adapt,
     Command::Code,
     Command::Excite,
@@ -112,6 +115,7 @@ pub(crate) const FIRST_WORDS: [Command; 10] = [
     Command::Hurt,
     Command::Place,
     Command::Trial,
+    Command::Soft,
     Command::DvbCode,
 ];
 
@@ -217,6 +221,14 @@ const TRIAL: CommandRow = CommandRow {
     fewest: 6,
 };
 
+/// `soft IN OUT`
+const SOFT: CommandRow = CommandRow {
+    verb: "soft",
+    fields: &[Field::Input, Field::Output],
+    labels: &["segments ", " fields ", " cost ", " loose "],
+    fewest: 4,
+};
+
 /// `dvb code IN OUT`
 const DVB_CODE: CommandRow = CommandRow {
     verb: "dvb",
@@ -247,6 +259,7 @@ pub(crate) fn row(command: Command) -> CommandRow
         Command::Hurt => HURT,
         Command::Place => PLACE,
         Command::Trial => TRIAL,
+        Command::Soft => SOFT,
         Command::DvbCode => DVB_CODE,
         Command::DvbRead => DVB_READ,
     }

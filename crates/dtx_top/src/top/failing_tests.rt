@@ -29,7 +29,7 @@ impl Case {
     }
 }
 
-const CASES: [Case; 10] = [
+const CASES: [Case; 11] = [
     Case {
         words: &["adapt", "p", "s.ts", "o"],
         outputs: &["o"],
@@ -62,6 +62,10 @@ const CASES: [Case; 10] = [
     },
     Case {
         words: &["place", "s.ts", "o"],
+        outputs: &["o"],
+    },
+    Case {
+        words: &["soft", "c.sym", "o"],
         outputs: &["o"],
     },
     Case {

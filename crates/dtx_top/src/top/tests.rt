@@ -67,10 +67,10 @@ fn words_of(alloc: Global, texts: &[&str]) -> Result<Vec<Word>, Fail> {
 }
 
 /// What the program prints where it is not told what to do.
-const USAGE: &str = "usage: dtx adapt|code|excite|receive|net|make|hurt|place|trial|dvb\n";
+const USAGE: &str = "usage: dtx adapt|code|excite|receive|net|make|hurt|place|trial|soft|dvb\n";
 
 /// Words that are refused before a file is begun, where none is there, with the code of the status and the line.
-const REFUSALS: [(&[&str], i32, &str); 22] = [
+const REFUSALS: [(&[&str], i32, &str); 23] = [
     (&[], 2, USAGE),
     (&["make"], 2, USAGE),
     (&["make", "1", "4"], 2, USAGE),
@@ -87,6 +87,7 @@ const REFUSALS: [(&[&str], i32, &str); 22] = [
     (&["excite", "f", "0", "0", "o", "f"], 3, "same f\n"),
     (&["hurt", "i", "c", "c"], 3, "same c\n"),
     (&["place", "no", "out"], 4, "absent no\n"),
+    (&["soft", "no", "out"], 4, "absent no\n"),
     (&["dvb"], 2, USAGE),
     (&["dvb", "write", "a", "b"], 2, USAGE),
     (&["dvb", "code", "a", "a"], 3, "same a\n"),

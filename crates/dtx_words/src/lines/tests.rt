@@ -36,6 +36,7 @@ fn each_line_ends_in_a_line_feed_and_has_its_numbers_in_order(rt: HostRuntime) -
             6,
             "feed 8 filled 9 steps 3 packets 1 fixed 2 flagged 5\n",
         ),
+        (Command::Soft, 4, "segments 8 fields 9 cost 3 loose 1\n"),
         (Command::DvbCode, 2, "packets 8 loose 9\n"),
         (
             Command::DvbRead,
@@ -65,7 +66,7 @@ fn each_refusal_has_its_line(rt: HostRuntime) -> Result<(), Fail> {
     for (status, text) in [
         (
             Status::Usage,
-            "usage: dtx adapt|code|excite|receive|net|make|hurt|place|trial|dvb\n",
+            "usage: dtx adapt|code|excite|receive|net|make|hurt|place|trial|soft|dvb\n",
         ),
         (Status::Same, "same x\n"),
         (Status::Absent(1), "absent x\n"),

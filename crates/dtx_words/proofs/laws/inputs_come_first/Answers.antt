@@ -1,7 +1,7 @@
 use Rattle.std.proofs.Common.{◌≡◌, refl, true}
 use Rattle.dtx_words.specs.declared.rows.Command.{Command}
 use Rattle.dtx_words.specs.declared.rows.Command.TheVariants.{Adapt, Code, Excite, Receive, Net, Make, Hurt, Place}
-use Rattle.dtx_words.specs.declared.rows.Command.TheVariants.{Trial, DvbCode, DvbRead}
+use Rattle.dtx_words.specs.declared.rows.Command.TheVariants.{Trial, Soft, DvbCode, DvbRead}
 use Rattle.dtx_words.specs.Rows.{are_inputs_first, row_of}
 use Rattle.dtx_words.proofs.laws.inputs_come_first.Goals as goal
 
@@ -15,6 +15,7 @@ of_each Make = refl
 of_each Hurt = refl
 of_each Place = refl
 of_each Trial = refl
+of_each Soft = refl
 of_each DvbCode = refl
 of_each DvbRead = refl
 

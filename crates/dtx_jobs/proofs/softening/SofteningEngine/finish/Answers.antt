@@ -1,0 +1,49 @@
+use Rattle.std.proofs.Common.{ℕ, [], ◌∷◌, ◌++◌, ap, ap₂, ◌∙◌, arith, length, refl, take}
+use Rattle.dtx_files.specs.Symbols.{segment_bytes}
+use Rattle.dtx_engine.specs.Made.{only}
+use Rattle.dtx_meaning.specs.declared.status.Outcome.{Outcome}
+use Rattle.dtx_meaning.specs.declared.status.Status.TheVariants.{Done}
+use Rattle.dtx_soft.specs.Softened.{softened_cost}
+use Rattle.dtx_jobs.specs.Soft.{counted, flushed, is_some}
+use Rattle.dtx_jobs.specs.SoftLaws.{no_cost}
+use Rattle.dtx_jobs.specs.SofteningLaws.{all_counted, rest_of}
+use Rattle.dtx_jobs.specs.SymbolFile.{file_segments}
+use Rattle.dtx_jobs.specs.SymbolFileLaws.{length-segments_of}
+use Rattle.dtx_jobs.proofs.softening.SofteningEngine.finish.Goals as goal
+
+pub flush-requires-clause-fields : goal.flush-requires-clause-fields
+flush-requires-clause-fields c =
+    let units = c.requires.given in
+    let some = units.2 in
+    let was = some.2.is_kept in
+    omega (arith, was.fields, some.2.softening.count, some.1, units.1, length-segments_of some.0)
+
+pub flush-requires-clause-cost : goal.flush-requires-clause-cost
+flush-requires-clause-cost c =
+    let units = c.requires.given in
+    let some = units.2 in
+    let was = some.2.is_kept in
+    omega (arith, was.cost, some.2.softening.count, some.1, units.1, length-segments_of some.0)
+
+pub returns-clause-outcome : goal.returns-clause-outcome
+returns-clause-outcome c = λ given stand.
+    let s = file_segments given in
+    let old = c.args.self.now in
+    let outcome : ℕ → ℕ → ℕ → Outcome =
+    λ segments fields cost.
+    record { status = Done; numbers = segments ∷ fields ∷ cost ∷ c.args.loose ∷ 0 ∷ 0 ∷ []; shown = 4 } in
+    let rows = c.rows_of-rows.ensures.rows in
+    let fields = all_counted is_some old s c.rows_of-rows.result old.fields c.flush.new.self.fields refl stand.softening
+    rows stand.softening.fields c.flush.ensures.fields in
+    let cost = all_counted (softened_cost 1) old s c.rows_of-rows.result old.cost c.flush.new.self.cost no_cost
+    stand.softening rows stand.softening.cost c.flush.ensures.cost in
+    ap₂ (λ n m. outcome n m c.flush.new.self.cost) (c.flush.ensures.count ∙ stand.softening.count) fields
+    ∙ ap (λ n. outcome (length s) (counted is_some s (length s)) n) cost
+
+pub returns-clause-rest : goal.returns-clause-rest
+returns-clause-rest c = λ given stand.
+    let s = file_segments given in
+    let old = c.args.self.now in
+    ap only (c.flush.ensures.symbols
+    ∙ ap (λ z. z ++ segment_bytes (flushed (take c.rows_of-rows.result old.field.items))) c.clear.ensures
+    ∙ rest_of old s c.rows_of-rows.result stand.softening c.rows_of-rows.ensures.rows)

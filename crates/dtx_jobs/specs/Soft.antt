@@ -1,0 +1,111 @@
+-- What `soft` makes of a symbol file: in each field of a run the data segments in whole groups have the symbols of each
+-- coder replaced by those of its least path (ATSC A/53 Part 2, trellis coding).
+use Rattle.std.specs.Prelude.{ℕ, ℤ, ◌-◌, ◌*◌, ◌/◌, ◌%◌, min, true, if◌then◌else◌, Option, Some, None, List, []}
+use Rattle.std.specs.Prelude.{◌∷◌, ◌++◌, length, map, sum, take, drop, slice_index_or, unwrap_or}
+use Rattle.std.proofs.Common.{zero, suc}
+use Rattle.std.specs.List.{range_with_len}
+use Rattle.dtx_engine.specs.Made.{only}
+use Rattle.dtx_engine.specs.Recipe.{Recipe, transformed}
+use Rattle.dtx_files.specs.Symbols.{segment_bytes}
+use Rattle.dtx_meaning.specs.Meaning.{Meaning, refused}
+use Rattle.dtx_meaning.specs.declared.status.Status.TheVariants.{Done, Usage}
+use Rattle.dtx_outside.specs.Shelf.{Files}
+use Rattle.dtx_receiver.specs.Runs.{sync_due, tracked}
+use Rattle.dtx_soft.specs.Softened.{softened, softened_cost}
+use Rattle.dtx_jobs.specs.Shapes as shapes
+use Rattle.dtx_jobs.specs.SymbolFile.{file_segments}
+
+-- ---- places
+
+-- which of the 312 data segments of its field the next one of a run is, where it is one
+abbrev pub place_in : Option (List (List ℤ)) → Option ℕ
+place_in None = None
+place_in (Some run) = if sync_due run then None else Some (length run % 313 - 1)
+
+-- and which one the segment behind these is
+unfoldable pub next_place : List (List ℤ) → Option ℕ
+next_place segments = place_in (tracked segments).run
+
+-- and which one segment i of these is
+abbrev pub place_at : List (List ℤ) → ℕ → Option ℕ
+place_at segments i = next_place (take i segments)
+
+-- ---- symbols
+
+-- the data segments in whole groups, of the field whose first one is segment n
+unfoldable pub in_groups : List (List ℤ) → ℕ → List (List ℤ)
+in_groups segments n = take (4 * (min 312 (length segments - n) / 4)) (drop n segments)
+
+-- Segment i, where it is data at that place of its field: it stays as it is where it stands in no whole group.
+abbrev pub soft_from : List (List ℤ) → ℕ → Option ℕ → List ℤ
+soft_from segments i None = slice_index_or segments i []
+soft_from segments i (Some place) =
+    slice_index_or (softened 1 (in_groups segments (i - place))) place (slice_index_or segments i [])
+
+unfoldable pub soft_at : List (List ℤ) → ℕ → List ℤ
+soft_at segments i = soft_from segments i (place_at segments i)
+
+-- all segments
+unfoldable pub soft_symbols : List (List ℤ) → List (List ℤ)
+soft_symbols segments = map (soft_at segments) (range_with_len 0 (length segments))
+
+-- ---- numbers
+
+-- what the whole groups of a field count for, where segment i is its first data segment
+abbrev pub count_from : (List (List ℤ) → ℕ) → List (List ℤ) → ℕ → Option ℕ → ℕ
+count_from count segments i None = 0
+count_from count segments i (Some zero) = count (in_groups segments i)
+count_from count segments i (Some (suc place)) = 0
+
+-- those of all fields that begin among the first n segments
+unfoldable pub counted : (List (List ℤ) → ℕ) → List (List ℤ) → ℕ → ℕ
+counted count segments n = sum (map (λ i. count_from count segments i (place_at segments i)) (range_with_len 0 n))
+
+-- 1 where there are some
+abbrev pub is_some : List (List ℤ) → ℕ
+is_some groups = min 1 (length groups)
+
+-- the segments, the fields with a whole group, what all least paths cost, the bytes behind the last whole segment
+abbrev pub soft_numbers : List (List ℤ) → ℕ → List ℕ
+soft_numbers segments loose =
+    length segments ∷ counted is_some segments (length segments) ∷ counted (softened_cost 1) segments (length segments)
+    ∷ loose ∷ 0 ∷ 0 ∷ []
+
+-- ---- piece by piece
+
+-- how many data segments of the field that is on there are, and how many segments before them
+abbrev pub pending : List (List ℤ) → ℕ
+pending segments = unwrap_or (next_place segments) 0
+
+abbrev pub settled : List (List ℤ) → ℕ
+settled segments = length segments - pending segments
+
+-- what is made of these so far, and what the end adds
+unfoldable pub soft_so_far : List (List ℤ) → List (List ℤ)
+soft_so_far segments = map (soft_at segments) (range_with_len 0 (settled segments))
+
+unfoldable pub soft_rest : List (List ℤ) → List (List ℤ)
+soft_rest segments = map (soft_at segments) (range_with_len (settled segments) (pending segments))
+
+abbrev pub softening : Recipe
+softening = record {
+  allows = λ _ _. true;
+  made = λ bytes. only (segment_bytes (soft_so_far (file_segments bytes)));
+  rest = λ bytes. only (segment_bytes (soft_rest (file_segments bytes)));
+  answer = λ bytes loose. record { status = Done; numbers = soft_numbers (file_segments bytes) loose; shown = 4 };
+}
+
+-- what `soft IN OUT` means
+abbrev pub soft_meaning : List (List ℕ) → Files → Meaning
+soft_meaning (verb ∷ input ∷ output ∷ []) held = transformed shapes.segments softening input output held
+soft_meaning words held = refused Usage
+
+-- ---- a field
+
+-- of the first data segments of a field those in whole groups
+unfoldable pub groups_in : List (List ℤ) → List (List ℤ)
+groups_in rows = take (4 * (length rows / 4)) rows
+
+-- the first data segments of a field, with those in whole groups softened
+unfoldable pub flushed : List (List ℤ) → List (List ℤ)
+flushed rows = softened 1 (groups_in rows) ++ drop (4 * (length rows / 4)) rows

@@ -1,0 +1,387 @@
+-- Laws of what `soft` makes, one segment after another.
+use Rattle.std.proofs.Common.{◌≡◌, ℕ, ℤ, zero, suc, ◌+◌, ◌-◌, ◌*◌, ◌/◌, ◌<◌, ◌≤◌, ◌⊎◌, inl, inr, Bool, true, false}
+use Rattle.std.proofs.Common.{cond, Option, Some, None, List, [], ◌∷◌, ◌++◌, length, map, sum, take, drop, get_or}
+use Rattle.std.proofs.Common.{min, unwrap_or, refl, sym, ap, ap₂, ◌∙◌, subst, arith}
+use Rattle.std.specs.List.{range_with_len}
+use Rattle.std.proofs.lemmas.Bool.{cases_lt}
+use Rattle.std.proofs.lemmas.List.{append_assoc, append-nil, drop-append-le, get_or-drop, get_or_append_left}
+use Rattle.std.proofs.lemmas.List.{length-append, length-drop, length_push, length-take-le, map-append, take-append-le}
+use Rattle.std.proofs.lemmas.List.Sums.{sum_by-append, sum_by-cons}
+use Rattle.std.proofs.lemmas.List.FromFn.{fill_by_all, length-map-range_with_len}
+use Rattle.std.proofs.Math.Seq.{get_or-append_seam}
+use Rattle.dtx_frame.specs.Detection.{looks_like}
+use Rattle.dtx_lists.proofs.Range.{map-range_same, range_with_len-parts}
+use Rattle.dtx_lists.proofs.RangeMoved.{map-range_moved}
+use Rattle.dtx_soft.specs.Coders.{costs, symbols_of}
+use Rattle.dtx_soft.specs.Paths.{distance}
+use Rattle.dtx_soft.specs.Softened.{softened, softened_cost, softened_segment}
+use Rattle.dtx_jobs.specs.Soft.{count_from, counted, flushed, groups_in, in_groups, next_place, pending, place_at}
+use Rattle.dtx_jobs.specs.Soft.{settled, soft_at, soft_from, soft_rest, soft_so_far, soft_symbols}
+use Rattle.dtx_jobs.specs.SoftPlacesLaws.{IsFollowed, before_push, at_push, follows, place_copied, place_on}
+use Rattle.dtx_jobs.specs.SoftPlacesLaws.{place_ends}
+use Rattle.dtx_jobs.specs.SoftPlacesLaws.{follows_on, place_small}
+
+-- ---- what stays
+
+part_stays : (s t : List (List ℤ)) (n : ℕ) → n + 312 ≤ length s → in_groups (s ++ t) n ≡ in_groups s n
+unfolding in_groups
+part_stays s t n l =
+    let all : 4 * (min 312 (length (s ++ t) - n) / 4) ≡ 312 = omega (arith, length-append s t) in
+    let own : 4 * (min 312 (length s - n) / 4) ≡ 312 = omega arith in
+    ap₂ take all (drop-append-le n s t (omega arith))
+    ∙ take-append-le 312 (drop n s) t (omega (arith, length-drop n s)) ∙ ap (λ k. take k (drop n s)) (sym own)
+
+soft_stays : (s t : List (List ℤ)) (n i : ℕ) → IsFollowed s n → i < length s - n → soft_at (s ++ t) i ≡ soft_at s i
+unfolding soft_at
+soft_stays s t n i h l =
+    ap (soft_from (s ++ t) i) (before_push s t i (omega arith)) ∙ by_place (next_place (take i s)) refl
+  where
+    by_place : (o : Option ℕ) → next_place (take i s) ≡ o → soft_from (s ++ t) i o ≡ soft_from s i o
+    by_place None e = get_or_append_left s t [] i (omega arith)
+    by_place (Some p) e =
+        let c = h.closed i p l e in
+        ap₂ (λ (part : List (List ℤ)) (x : List ℤ). get_or (softened 1 part) p x)
+        (part_stays s t (i - p) (omega (arith, c.0, c.1))) (get_or_append_left s t [] i (omega arith))
+
+so_far_stays : (s t : List (List ℤ)) (n : ℕ) → IsFollowed s n
+    → map (soft_at (s ++ t)) (range_with_len 0 (length s - n)) ≡ map (soft_at s) (range_with_len 0 (length s - n))
+so_far_stays s t n h =
+    map-range_same (soft_at (s ++ t)) (soft_at s) 0 (length s - n) (λ i a b. soft_stays s t n i h (omega arith))
+
+abbrev count_at : (List (List ℤ) → ℕ) → List (List ℤ) → ℕ → ℕ
+count_at count s i = count_from count s i (place_at s i)
+
+count_stays : (count : List (List ℤ) → ℕ) (s t : List (List ℤ)) (n i : ℕ) → IsFollowed s n → i < length s - n
+    → count_at count (s ++ t) i ≡ count_at count s i
+count_stays count s t n i h l =
+    ap (count_from count (s ++ t) i) (before_push s t i (omega arith)) ∙ by_place (next_place (take i s)) refl
+  where
+    by_place : (o : Option ℕ) → next_place (take i s) ≡ o → count_from count (s ++ t) i o ≡ count_from count s i o
+    by_place None e = refl
+    by_place (Some zero) e = (let c = h.closed i 0 l e in ap count (part_stays s t i (omega (arith, c.1))))
+    by_place (Some (suc p)) e = refl
+
+counted_stays : (count : List (List ℤ) → ℕ) (s t : List (List ℤ)) (n : ℕ) → IsFollowed s n
+    → counted count (s ++ t) (length s - n) ≡ counted count s (length s - n)
+unfolding counted
+counted_stays count s t n h =
+    ap sum (map-range_same (count_at count (s ++ t)) (count_at count s) 0 (length s - n)
+    (λ i a b. count_stays count s t n i h (omega arith)))
+
+-- ---- a field
+
+-- the last n segments are the first n data segments of a field
+record IsField (s : List (List ℤ)) (first n : ℕ) : Type 0 where
+  few : n ≤ 312
+  long : first + n ≡ length s
+  places : (j : ℕ) → j < n → next_place (take (first + j) s) ≡ Some j
+
+groups_are : (s : List (List ℤ)) (first n : ℕ) → IsField s first n → in_groups s first ≡ groups_in (drop first s)
+unfolding in_groups groups_in
+groups_are s first n h =
+    let few = h.few in
+    let long = h.long in
+    let e : 4 * (min 312 (length s - first) / 4) ≡ 4 * (length (drop first s) / 4) =
+    omega (arith, length-drop first s) in
+    ap (λ k. take k (drop first s)) e
+
+length-softened : (scale : ℕ) (rows : List (List ℤ)) → length (softened scale rows) ≡ length rows
+unfolding softened
+length-softened scale rows = length-map-range_with_len (softened_segment scale rows) 0 (length rows)
+
+patched : {X : Type 0} (a b : List X) (j : ℕ) (d : X) → length a ≤ length b
+    → get_or a j (get_or b j d) ≡ get_or (a ++ drop (length a) b) j d
+patched [] b j d l = refl
+patched (x ∷ a) [] j d l = absurd (omega arith)
+patched (x ∷ a) (y ∷ b) zero d l = refl
+patched (x ∷ a) (y ∷ b) (suc j) d l = patched a b j d (omega arith)
+
+pub length-groups : (rows : List (List ℤ)) → length (groups_in rows) ≡ 4 * (length rows / 4)
+unfolding groups_in
+length-groups rows = length-take-le (4 * (length rows / 4)) rows (omega arith)
+
+field_at : (s : List (List ℤ)) (first n j : ℕ) → IsField s first n → j < n
+    → soft_at s (first + j) ≡ get_or (flushed (drop first s)) j []
+unfolding soft_at flushed
+field_at s first n j h l =
+    let rows = drop first s in
+    let back : first + j - j ≡ first = omega arith in
+    let long : length (softened 1 (groups_in rows)) ≡ 4 * (length rows / 4) =
+    length-softened 1 (groups_in rows) ∙ length-groups rows in
+    ap (soft_from s (first + j)) (h.places j l)
+    ∙ ap₂ (λ (part : List (List ℤ)) (x : List ℤ). get_or (softened 1 part) j x)
+    (ap (in_groups s) back ∙ groups_are s first n h) (sym (get_or-drop first s j []))
+    ∙ patched (softened 1 (groups_in rows)) rows j [] (omega (arith, long))
+    ∙ ap (λ k. get_or (softened 1 (groups_in rows) ++ drop k rows) j []) long
+
+length-flushed : (rows : List (List ℤ)) → length (flushed rows) ≡ length rows
+unfolding flushed
+length-flushed rows =
+    let a = length-append (softened 1 (groups_in rows)) (drop (4 * (length rows / 4)) rows) in
+    let b = length-softened 1 (groups_in rows) in
+    let c = length-groups rows in
+    let d = length-drop (4 * (length rows / 4)) rows in
+    omega (arith, a, b, c, d)
+
+field_soft : (s : List (List ℤ)) (first n : ℕ) → IsField s first n
+    → map (soft_at s) (range_with_len first n) ≡ flushed (drop first s)
+field_soft s first n h =
+    let rows = drop first s in
+    let long : length (flushed rows) ≡ n = omega (arith, length-flushed rows, length-drop first s, h.long) in
+    map-range_moved (soft_at s) (λ j. get_or (flushed rows) j []) first 0 n
+    (λ j l. (let same : 0 + j ≡ j = omega arith in field_at s first n j h l
+    ∙ ap (λ k. get_or (flushed rows) k []) (sym same)))
+    ∙ sym (fill_by_all (λ j. get_or (flushed rows) j []) (flushed rows) n [] long (λ k l. refl))
+
+none_counts : (f : ℕ → ℕ) (a n : ℕ) → ((i : ℕ) → a ≤ i → i < a + n → f i ≡ 0) → sum (map f (range_with_len a n)) ≡ 0
+none_counts f a zero h = refl
+none_counts f a (suc n) h =
+    let first = h a (omega arith) (omega arith) in
+    let rest = none_counts f (a + 1) n (λ i l m. h i (omega arith) (omega arith)) in
+    let both : sum (f a ∷ map f (range_with_len (a + 1) n)) ≡ f a + sum (map f (range_with_len (a + 1) n)) =
+    sum_by-cons (λ x. x) (f a) (map f (range_with_len (a + 1) n)) in
+    both ∙ ap₂ (λ x y. x + y) first rest
+
+field_counts : (count : List (List ℤ) → ℕ) (s : List (List ℤ)) (first n : ℕ) → IsField s first n → count [] ≡ 0
+    → sum (map (count_at count s) (range_with_len first n)) ≡ count (groups_in (drop first s))
+field_counts count s first zero h none =
+    sym (ap count (empty (groups_in (drop first s))
+    (omega (arith, length-groups (drop first s), length-drop first s, h.long))) ∙ none)
+  where
+    empty : (xs : List (List ℤ)) → length xs ≡ 0 → xs ≡ []
+    empty [] e = refl
+    empty (x ∷ xs) e = absurd (omega arith)
+field_counts count s first (suc n) h none =
+    let here : count_at count s first ≡ count (groups_in (drop first s)) =
+    ap (λ i. count_from count s first (next_place (take i s))) (sym (same first))
+    ∙ ap (count_from count s first) (h.places 0 (omega arith)) ∙ ap count (groups_are s first (suc n) h) in
+    let rest : sum (map (count_at count s) (range_with_len (first + 1) n)) ≡ 0 =
+    none_counts (count_at count s) (first + 1) n (λ i l m. behind i (i - first - 1) (omega arith) (omega arith)) in
+    let both : sum (count_at count s first ∷ map (count_at count s) (range_with_len (first + 1) n))
+    ≡ count_at count s first + sum (map (count_at count s) (range_with_len (first + 1) n)) =
+    sum_by-cons (λ x. x) (count_at count s first) (map (count_at count s) (range_with_len (first + 1) n)) in
+    both ∙ ap₂ (λ x y. x + y) here rest ∙ same (count (groups_in (drop first s)))
+  where
+    same : (k : ℕ) → k + 0 ≡ k
+    same k = omega arith
+
+    behind : (i j : ℕ) → first + suc j ≡ i → suc j < suc n → count_at count s i ≡ 0
+    behind i j e l =
+        ap (λ k. count_from count s i (next_place (take k s))) (sym e)
+        ∙ ap (count_from count s i) (h.places (suc j) l)
+
+-- ---- the pieces
+
+followed_field : (s : List (List ℤ)) (n : ℕ) → IsFollowed s n → n ≤ 312 → IsField s (length s - n) n
+followed_field s n h l = record { few = l; long = omega (arith, h.within); places = h.places }
+
+pub pending_copied : (s : List (List ℤ)) (x : List ℤ) → next_place s ≡ None → pending (s ++ x ∷ []) ≡ 0
+pending_copied s x e = ap (λ (o : Option ℕ). unwrap_or o 0) (place_copied s x e) ∙ either (looks_like x)
+  where
+    either : (b : Bool) → ◌≡◌ {A = ℕ} (unwrap_or (cond b (Some 0) None) 0) 0
+    either true = refl
+    either false = refl
+
+pub pending_is : (s : List (List ℤ)) (o : Option ℕ) → next_place s ≡ o → pending s ≡ unwrap_or o 0
+pending_is s o e = ap (λ (o : Option ℕ). unwrap_or o 0) e
+
+follows_at : (s : List (List ℤ)) (o : Option ℕ) → next_place s ≡ o → IsFollowed s (unwrap_or o 0)
+follows_at s o e = subst (IsFollowed s) (pending_is s o e) (follows s)
+
+nothing_before : (s : List (List ℤ)) → length s - 0 ≡ length s
+nothing_before s = omega arith
+
+pub so_far_copied : (s : List (List ℤ)) (x : List ℤ) → next_place s ≡ None
+    → soft_so_far (s ++ x ∷ []) ≡ soft_so_far s ++ x ∷ []
+unfolding soft_so_far soft_at
+so_far_copied s x e =
+    let all : settled (s ++ x ∷ []) ≡ (length s - 0) + 1 = omega (arith, pending_copied s x e, length_push s x) in
+    let own : length s - 0 ≡ settled s = omega (arith, pending_is s None e) in
+    let zero_on : 0 + (length s - 0) ≡ length s = omega arith in
+    ap (λ n. map (soft_at (s ++ x ∷ [])) (range_with_len 0 n)) all
+    ∙ ap (map (soft_at (s ++ x ∷ []))) (range_with_len-parts 0 (length s - 0) 1)
+    ∙ map-append (soft_at (s ++ x ∷ [])) (range_with_len 0 (length s - 0)) (range_with_len (0 + (length s - 0)) 1)
+    ∙ ap₂ ◌++◌ (so_far_stays s (x ∷ []) 0 (follows_at s None e) ∙ ap (λ n. map (soft_at s) (range_with_len 0 n)) own)
+    (ap (λ n. map (soft_at (s ++ x ∷ [])) (range_with_len n 1)) zero_on
+    ∙ ap (λ (y : List ℤ). y ∷ []) (ap (soft_from (s ++ x ∷ []) (length s)) (at_push s x (length s) refl ∙ e)
+    ∙ get_or-append_seam s x [] []))
+
+pub so_far_kept : (s : List (List ℤ)) (x : List ℤ) (p : ℕ) → next_place s ≡ Some p → p + 1 < 312
+    → soft_so_far (s ++ x ∷ []) ≡ soft_so_far s
+unfolding soft_so_far
+so_far_kept s x p e l =
+    let f = follows_at s (Some p) e in
+    let on = pending_is (s ++ x ∷ []) (Some (p + 1)) (place_on s x p e l) in
+    let all : settled (s ++ x ∷ []) ≡ length s - p = omega (arith, on, length_push s x) in
+    let own : length s - p ≡ settled s = omega (arith, pending_is s (Some p) e) in
+    ap (λ n. map (soft_at (s ++ x ∷ [])) (range_with_len 0 n)) all
+    ∙ so_far_stays s (x ∷ []) p f ∙ ap (λ n. map (soft_at s) (range_with_len 0 n)) own
+
+pub so_far_full : (s : List (List ℤ)) (x : List ℤ) → next_place s ≡ Some 311
+    → soft_so_far (s ++ x ∷ []) ≡ soft_so_far s ++ flushed (drop (settled s) s ++ x ∷ [])
+unfolding soft_so_far
+so_far_full s x e =
+    let f = follows_at s (Some 311) e in
+    let within = f.within in
+    let on = pending_is (s ++ x ∷ []) None (place_ends s x e) in
+    let field : IsField (s ++ x ∷ []) (length s - 311) 312 =
+    field_of (length (s ++ x ∷ []) - 312) (omega (arith, length_push s x))
+    (followed_field (s ++ x ∷ []) 312 (follows_on s x 311 f e) (omega arith)) in
+    let all : settled (s ++ x ∷ []) ≡ (length s - 311) + 312 = omega (arith, on, length_push s x) in
+    let own : length s - 311 ≡ settled s = omega (arith, pending_is s (Some 311) e) in
+    let zero_on : 0 + (length s - 311) ≡ length s - 311 = omega arith in
+    ap (λ n. map (soft_at (s ++ x ∷ [])) (range_with_len 0 n)) all
+    ∙ ap (map (soft_at (s ++ x ∷ []))) (range_with_len-parts 0 (length s - 311) 312)
+    ∙ map-append (soft_at (s ++ x ∷ [])) (range_with_len 0 (length s - 311)) (range_with_len (0 + (length s - 311)) 312)
+    ∙ ap₂ ◌++◌ (so_far_stays s (x ∷ []) 311 f ∙ ap (λ n. map (soft_at s) (range_with_len 0 n)) own)
+    (ap (λ n. map (soft_at (s ++ x ∷ [])) (range_with_len n 312)) zero_on
+    ∙ field_soft (s ++ x ∷ []) (length s - 311) 312 field
+    ∙ ap flushed (drop-append-le (length s - 311) s (x ∷ []) (omega arith)
+    ∙ ap (λ n. drop n s ++ x ∷ []) own))
+  where
+    field_of : (n : ℕ) → n ≡ length s - 311 → IsField (s ++ x ∷ []) n 312 → IsField (s ++ x ∷ []) (length s - 311) 312
+    field_of n e h = subst (λ n. IsField (s ++ x ∷ []) n 312) e h
+
+pending_few : (s : List (List ℤ)) → pending s ≤ 312
+pending_few s = by_place (next_place s) refl
+  where
+    by_place : (o : Option ℕ) → next_place s ≡ o → unwrap_or o 0 ≤ 312
+    by_place None e = omega arith
+    by_place (Some p) e = (let l = place_small s p e in omega (arith, l))
+
+pub rest_is : (s : List (List ℤ)) → soft_rest s ≡ flushed (drop (settled s) s)
+unfolding soft_rest
+rest_is s = field_soft s (settled s) (pending s) (followed_field s (pending s) (follows s) (pending_few s))
+
+pub all_is : (s : List (List ℤ)) → soft_so_far s ++ soft_rest s ≡ soft_symbols s
+unfolding soft_so_far soft_rest soft_symbols
+all_is s =
+    let f = follows s in
+    let parts : settled s + pending s ≡ length s = omega (arith, f.within) in
+    let zero_on : 0 + settled s ≡ settled s = omega arith in
+    sym (ap (λ n. map (soft_at s) (range_with_len 0 n)) (sym parts)
+    ∙ ap (map (soft_at s)) (range_with_len-parts 0 (settled s) (pending s))
+    ∙ map-append (soft_at s) (range_with_len 0 (settled s)) (range_with_len (0 + settled s) (pending s))
+    ∙ ap (λ n. map (soft_at s) (range_with_len 0 (settled s))
+    ++ map (soft_at s) (range_with_len n (pending s))) zero_on)
+
+-- ---- with more segments more is made
+
+pub one_on : (s : List (List ℤ)) (x : List ℤ)
+    → (brought : List (List ℤ)) × (soft_so_far (s ++ x ∷ []) ≡ soft_so_far s ++ brought)
+one_on s x = by_place (next_place s) refl
+  where
+    by_end : (p : ℕ) → next_place s ≡ Some p → (p + 1 < 312) ⊎ (312 ≤ p + 1)
+        → (brought : List (List ℤ)) × (soft_so_far (s ++ x ∷ []) ≡ soft_so_far s ++ brought)
+    by_end p e (inl l) = ([], so_far_kept s x p e l ∙ sym (append-nil (soft_so_far s)))
+    by_end p e (inr l) =
+        let small = place_small s p e in
+        let same : p ≡ 311 = omega arith in
+        (flushed (drop (settled s) s ++ x ∷ []), so_far_full s x (e ∙ ap Some same))
+
+    by_place : (o : Option ℕ) → next_place s ≡ o
+        → (brought : List (List ℤ)) × (soft_so_far (s ++ x ∷ []) ≡ soft_so_far s ++ brought)
+    by_place None e = (x ∷ [], so_far_copied s x e)
+    by_place (Some p) e = by_end p e (cases_lt (p + 1) 312)
+
+pub so_far_on : (s more : List (List ℤ))
+    → (brought : List (List ℤ)) × (soft_so_far (s ++ more) ≡ soft_so_far s ++ brought)
+so_far_on s [] = ([], ap soft_so_far (append-nil s) ∙ sym (append-nil (soft_so_far s)))
+so_far_on s (x ∷ more) =
+    let first = one_on s x in
+    let rest = so_far_on (s ++ x ∷ []) more in (
+      first.0 ++ rest.0,
+      ap soft_so_far (sym (append_assoc s (x ∷ []) more)) ∙ rest.1 ∙ ap (λ z. z ++ rest.0) first.1
+          ∙ append_assoc (soft_so_far s) first.0 rest.0,
+    )
+
+pub none_so_far : soft_so_far [] ≡ []
+unfolding soft_so_far
+none_so_far =
+    let none : settled [] ≡ 0 = omega arith in
+    ap (λ n. map (soft_at []) (range_with_len 0 n)) none
+
+-- ---- numbers
+
+counted_more : (count : List (List ℤ) → ℕ) (s : List (List ℤ)) (m n : ℕ)
+    → counted count s (m + n) ≡ counted count s m + sum (map (count_at count s) (range_with_len m n))
+unfolding counted
+counted_more count s m n =
+    let on : 0 + m ≡ m = omega arith in
+    ap (λ r. sum (map (count_at count s) r)) (range_with_len-parts 0 m n)
+    ∙ ap sum (map-append (count_at count s) (range_with_len 0 m) (range_with_len (0 + m) n))
+    ∙ sum_by-append (λ x. x) (map (count_at count s) (range_with_len 0 m))
+    (map (count_at count s) (range_with_len (0 + m) n))
+    ∙ ap (λ k. sum (map (count_at count s) (range_with_len 0 m))
+    + sum (map (count_at count s) (range_with_len k n))) on
+
+pub count_copied : (count : List (List ℤ) → ℕ) (s : List (List ℤ)) (x : List ℤ) → next_place s ≡ None
+    → counted count (s ++ x ∷ []) (settled (s ++ x ∷ [])) ≡ counted count s (settled s)
+count_copied count s x e =
+    let all : settled (s ++ x ∷ []) ≡ (length s - 0) + 1 = omega (arith, pending_copied s x e, length_push s x) in
+    let own : length s - 0 ≡ settled s = omega (arith, pending_is s None e) in
+    let here : count_at count (s ++ x ∷ []) (length s - 0) ≡ 0 =
+    ap (count_from count (s ++ x ∷ []) (length s - 0)) (at_push s x (length s - 0) (omega arith) ∙ e) in
+    ap (counted count (s ++ x ∷ [])) all ∙ counted_more count (s ++ x ∷ []) (length s - 0) 1
+    ∙ ap₂ (λ a b. a + b)
+    (counted_stays count s (x ∷ []) 0 (follows_at s None e) ∙ ap (counted count s) own)
+    (none_counts (count_at count (s ++ x ∷ [])) (length s - 0) 1
+    (λ i a b. (let same : length s - 0 ≡ i = omega arith in ap (count_at count (s ++ x ∷ [])) (sym same) ∙ here)))
+    ∙ nothing_more (counted count s (settled s))
+  where
+    nothing_more : (n : ℕ) → n + 0 ≡ n
+    nothing_more n = omega arith
+
+pub count_kept : (count : List (List ℤ) → ℕ) (s : List (List ℤ)) (x : List ℤ) (p : ℕ) → next_place s ≡ Some p
+    → p + 1 < 312 → counted count (s ++ x ∷ []) (settled (s ++ x ∷ [])) ≡ counted count s (settled s)
+count_kept count s x p e l =
+    let f = follows_at s (Some p) e in
+    let on = pending_is (s ++ x ∷ []) (Some (p + 1)) (place_on s x p e l) in
+    let all : settled (s ++ x ∷ []) ≡ length s - p = omega (arith, on, length_push s x) in
+    let own : length s - p ≡ settled s = omega (arith, pending_is s (Some p) e) in
+    ap (counted count (s ++ x ∷ [])) all ∙ counted_stays count s (x ∷ []) p f ∙ ap (counted count s) own
+
+pub count_full : (count : List (List ℤ) → ℕ) (s : List (List ℤ)) (x : List ℤ) → next_place s ≡ Some 311
+    → count [] ≡ 0
+    → counted count (s ++ x ∷ []) (settled (s ++ x ∷ []))
+    ≡ counted count s (settled s) + count (groups_in (drop (settled s) s ++ x ∷ []))
+count_full count s x e none =
+    let f = follows_at s (Some 311) e in
+    let within = f.within in
+    let on = pending_is (s ++ x ∷ []) None (place_ends s x e) in
+    let field : IsField (s ++ x ∷ []) (length s - 311) 312 =
+    field_of (length (s ++ x ∷ []) - 312) (omega (arith, length_push s x))
+    (followed_field (s ++ x ∷ []) 312 (follows_on s x 311 f e) (omega arith)) in
+    let all : settled (s ++ x ∷ []) ≡ (length s - 311) + 312 = omega (arith, on, length_push s x) in
+    let own : length s - 311 ≡ settled s = omega (arith, pending_is s (Some 311) e) in
+    ap (counted count (s ++ x ∷ [])) all ∙ counted_more count (s ++ x ∷ []) (length s - 311) 312
+    ∙ ap₂ (λ a b. a + b) (counted_stays count s (x ∷ []) 311 f ∙ ap (counted count s) own)
+    (field_counts count (s ++ x ∷ []) (length s - 311) 312 field none
+    ∙ ap (λ rows. count (groups_in rows)) (drop-append-le (length s - 311) s (x ∷ []) (omega arith)
+    ∙ ap (λ n. drop n s ++ x ∷ []) own))
+  where
+    field_of : (n : ℕ) → n ≡ length s - 311 → IsField (s ++ x ∷ []) n 312 → IsField (s ++ x ∷ []) (length s - 311) 312
+    field_of n e h = subst (λ n. IsField (s ++ x ∷ []) n 312) e h
+
+pub count_rest : (count : List (List ℤ) → ℕ) (s : List (List ℤ)) → count [] ≡ 0
+    → counted count s (length s) ≡ counted count s (settled s) + count (groups_in (drop (settled s) s))
+count_rest count s none =
+    let f = follows s in
+    let parts : settled s + pending s ≡ length s = omega (arith, f.within) in
+    ap (counted count s) (sym parts) ∙ counted_more count s (settled s) (pending s)
+    ∙ ap (λ n. counted count s (settled s) + n)
+    (field_counts count s (settled s) (pending s) (followed_field s (pending s) f (pending_few s)) none)
+
+pub none_counted : (count : List (List ℤ) → ℕ) → counted count [] (settled []) ≡ 0
+unfolding counted
+none_counted count =
+    let none : settled [] ≡ 0 = omega arith in
+    ap (λ n. sum (map (count_at count []) (range_with_len 0 n))) none
+
+pub within : (s : List (List ℤ)) (p : ℕ) → next_place s ≡ Some p → p ≤ length s
+within s p e = (follows_at s (Some p) e).within
+
+-- no segments cost nothing
+pub no_cost : softened_cost 1 [] ≡ 0
+unfolding softened_cost softened costs symbols_of distance
+no_cost = refl

@@ -1,0 +1,41 @@
+-- What is kept while symbols are softened.
+use Rattle.std.specs.Prelude.{◌≡◌, ℕ, ℤ, pos, ◌*◌, ◌<◌, ◌≤◌, nat_abs, IfSome, List, length, take, drop, slice_index_or}
+use Rattle.std.specs.Prelude.{unwrap_or, vec_len}
+use Rattle.dtx_soft.specs.CostLaws.{AreSigned}
+use Rattle.dtx_soft.specs.Softened.{softened_cost}
+use Rattle.dtx_jobs.specs.declared.softening.Softening.{Softening}
+use Rattle.dtx_jobs.specs.declared.softening.TheConstants.{MOST_COST}
+use Rattle.dtx_jobs.specs.Soft.{counted, is_some, next_place, pending, settled}
+use Rattle.dtx_jobs.specs.SymbolFile.{file_segments}
+
+-- each symbol of a segment is a signed byte
+abbrev pub IsSigned : List ℤ → Type 0
+IsSigned segment = (k : ℕ) → nat_abs (slice_index_or segment k (pos 0)) ≤ 128
+
+-- how many data segments of the field that is on are kept
+abbrev pub kept_rows : Softening → ℕ
+kept_rows kept = unwrap_or kept.place 0
+
+-- these segments were given: the place of the next one is known, the data segments of the field that is on are kept,
+-- and the numbers are those of the fields before it
+pub record IsSoftening (kept : Softening) (segments : List (List ℤ)) : Type 0 where
+  pub place : kept.place ≡ next_place segments
+  pub field : take (pending segments) kept.field.items ≡ drop (settled segments) segments
+  pub count : kept.segments ≡ length segments
+  pub fields : kept.fields ≡ counted is_some segments (settled segments)
+  pub cost : kept.cost ≡ counted (softened_cost 1) segments (settled segments)
+
+-- there is room for a field, the symbols that are kept are signed bytes, the decoder has the standard's levels, and the
+-- numbers are none that so many segments can't give
+pub record IsKept (kept : Softening) : Type 0 where
+  pub room : vec_len kept.field ≡ 312
+  pub small : IfSome kept.place (λ place. place < 312)
+  pub signed : AreSigned (take (kept_rows kept) kept.field.items)
+  pub scale : kept.soft.scale ≡ 1
+  pub fields : kept.fields ≤ kept.segments
+  pub cost : kept.cost ≤ MOST_COST * kept.segments
+
+-- the segments of these bytes were given
+pub record WasSoftened (kept : Softening) (bytes : List ℕ) : Type 0 where
+  pub softening : IsSoftening kept (file_segments bytes)
+  pub is_kept : IsKept kept

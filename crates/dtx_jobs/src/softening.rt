@@ -1,0 +1,344 @@
+// Softening symbols, a piece of their file at a time.
+ghost use Rattle.std.specs.Prelude.{◌≡◌, ◌+◌, ◌*◌, ◌/◌, ◌%◌, ◌<◌, ◌≤◌, ◌++◌, ◌∷◌, [], ℕ, ℤ, List, IfOk};
+ghost use Rattle.std.specs.Prelude.{Some, None, length, take};
+ghost use Rattle.std.specs.Prelude.{vec_len};
+ghost use Rattle.std.specs.Prelude.{slice_index_or, IfSome, unwrap_or, if◌then◌else◌};
+ghost use Rattle.dtx_files.specs.Symbols.{segment_bytes};
+ghost use Rattle.dtx_frame.specs.Detection.{looks_like};
+ghost use Rattle.dtx_soft.specs.CostLaws.{AreSigned};
+ghost use Rattle.dtx_soft.specs.Softened.{softened, softened_cost};
+ghost use Rattle.dtx_jobs.specs.Soft.{flushed, groups_in, is_some, soft_rest, soft_so_far};
+ghost use Rattle.dtx_jobs.specs.Softening.{IsKept, IsSigned, IsSoftening, WasSoftened, kept_rows};
+ghost use Rattle.dtx_jobs.specs.SymbolFile.{file_segments, symbols};
+
+use crate::reception::to_symbols;
+use crate::shapes::{PIECE_SEGMENTS, segments};
+use crate::symbol_buffer::SymbolBuffer;
+use dtx_engine::{Engine, Shape};
+use dtx_frame::looks;
+use dtx_meaning::{Outcome, Status};
+use dtx_sizes::{FIELD_PACKETS, GROUP_PACKETS, MOST_SEGMENTS, SEGMENT};
+use dtx_soft::Soft;
+use std::alloc::{AllocError, Global};
+
+/// How many data segments a field has.
+const FIELD_ROWS: usize = FIELD_PACKETS as usize;
+
+/// How many symbols a piece brings at most: its own, and those of the field that was on before it.
+const SOFT_BYTES: usize = SEGMENT * (PIECE_SEGMENTS + FIELD_ROWS);
+
+/// What the least paths of a field cost at most: no symbol of 258,336 is off its level's by more than 135.
+pub(crate) const MOST_COST: u64 = 258_336 * 18_225;
+
+/// The data segments of the field that is on, the symbols that the last piece brought, and the numbers of all.
+#[derive(Drop)]
+pub(crate) struct Softening {
+    soft: Soft,
+    field: Vec<[i8; SEGMENT]>,
+    /// Which data segment of its field the next segment is, where it is one.
+    place: Option<u16>,
+    segment: [i8; SEGMENT],
+    symbols: SymbolBuffer<SOFT_BYTES>,
+    segments: u64,
+    fields: u64,
+    cost: u64,
+}
+
+impl Softening {
+    /// Nothing was softened.
+    pub(crate) fn new(alloc: Global) -> Result<Softening, AllocError>
+        ensures { IfOk result (λ s. WasSoftened s []) }
+    {
+        Ok(Softening {
+            soft: Soft::new(alloc)?,
+            field: vec![in alloc; [0; SEGMENT]; FIELD_ROWS]?,
+            place: None,
+            segment: [0; SEGMENT],
+            symbols: SymbolBuffer::new(alloc)?,
+            segments: 0,
+            fields: 0,
+            cost: 0,
+        })
+    }
+
+    /// Takes segments, as the bytes of a file, and gathers the symbols that they bring.
+    fn take_all(&mut self, bytes: &[u8])
+        requires most { self.old.segments + length bytes.now / SEGMENT ≤ MOST_SEGMENTS }
+        requires is_kept { IsKept self.old }
+        requires room { length bytes.now ≤ SEGMENT * PIECE_SEGMENTS }
+        requires empty { self.old.symbols ≡ [] }
+        ensures softening { (before : List (List ℤ)) → IsSoftening self.old before
+            → IsSoftening self.new (before ++ file_segments bytes.now) }
+        ensures brought { (before : List (List ℤ)) → IsSoftening self.old before
+            → segment_bytes (soft_so_far (before ++ file_segments bytes.now))
+            ≡ segment_bytes (soft_so_far before) ++ self.new.symbols }
+        ensures is_kept { IsKept self.new }
+    {
+        let (segments, _) = bytes.as_chunks::<SEGMENT>();
+        for i in 0..segments.len() {
+            self.take(&segments[i]);
+        }
+    }
+
+    /// Takes the next segment, and gathers the symbols that it brings.
+    fn take(&mut self, bytes: &[u8; SEGMENT])
+        requires most { self.old.segments < MOST_SEGMENTS }
+        requires is_kept { IsKept self.old }
+        requires room { length self.old.symbols + SEGMENT * (1 + kept_rows self.old) ≤ SOFT_BYTES }
+        ensures softening { (before : List (List ℤ)) → IsSoftening self.old before
+            → IsSoftening self.new (before ++ symbols bytes.now ∷ []) }
+        ensures brought { (before : List (List ℤ)) (front : List ℕ) → IsSoftening self.old before
+            → segment_bytes (soft_so_far before) ≡ front ++ self.old.symbols
+            → segment_bytes (soft_so_far (before ++ symbols bytes.now ∷ [])) ≡ front ++ self.new.symbols }
+        ensures is_kept { IsKept self.new }
+        ensures count { self.new.segments ≡ self.old.segments + 1 }
+        ensures long { length self.new.symbols + SEGMENT * kept_rows self.new
+            ≡ length self.old.symbols + SEGMENT * (1 + kept_rows self.old) }
+    {
+        signed(&bytes[..]);
+        to_symbols(bytes, &mut self.segment);
+        match self.place {
+            None => self.copy(),
+            Some(place) => self.keep(place),
+        }
+    }
+
+    /// Gathers the segment as it is, where it is no data segment of a run.
+    fn copy(&mut self)
+        requires most { self.old.segments < MOST_SEGMENTS }
+        requires is_kept { IsKept self.old }
+        requires none { self.old.place ≡ None }
+        requires room { length self.old.symbols + SEGMENT ≤ SOFT_BYTES }
+        ensures softening { (before : List (List ℤ)) → IsSoftening self.old before
+            → IsSoftening self.new (before ++ self.old.segment ∷ []) }
+        ensures brought { (before : List (List ℤ)) (front : List ℕ) → IsSoftening self.old before
+            → segment_bytes (soft_so_far before) ≡ front ++ self.old.symbols
+            → segment_bytes (soft_so_far (before ++ self.old.segment ∷ [])) ≡ front ++ self.new.symbols }
+        ensures is_kept { IsKept self.new }
+        ensures count { self.new.segments ≡ self.old.segments + 1 }
+        ensures rows { kept_rows self.new ≡ 0 }
+        ensures long { length self.new.symbols ≡ length self.old.symbols + SEGMENT }
+    {
+        self.symbols.push(&self.segment);
+        self.segments += 1;
+        self.place = place_behind(&self.segment);
+    }
+
+    /// Keeps the segment, which is data at that place of its field, and ends the field with its last one.
+    fn keep(&mut self, place: u16)
+        requires most { self.old.segments < MOST_SEGMENTS }
+        requires is_kept { IsKept self.old }
+        requires is { self.old.place ≡ Some place }
+        requires signed { IsSigned self.old.segment }
+        requires room { length self.old.symbols + SEGMENT * (1 + place) ≤ SOFT_BYTES }
+        ensures softening { (before : List (List ℤ)) → IsSoftening self.old before
+            → IsSoftening self.new (before ++ self.old.segment ∷ []) }
+        ensures brought { (before : List (List ℤ)) (front : List ℕ) → IsSoftening self.old before
+            → segment_bytes (soft_so_far before) ≡ front ++ self.old.symbols
+            → segment_bytes (soft_so_far (before ++ self.old.segment ∷ [])) ≡ front ++ self.new.symbols }
+        ensures is_kept { IsKept self.new }
+        ensures count { self.new.segments ≡ self.old.segments + 1 }
+        ensures long { length self.new.symbols + SEGMENT * kept_rows self.new
+            ≡ length self.old.symbols + SEGMENT * (1 + place) }
+    {
+        self.field[place as usize] = self.segment;
+        self.segments += 1;
+        if place + 1 < FIELD_PACKETS {
+            self.place = Some(place + 1);
+            return;
+        }
+        self.flush(FIELD_ROWS);
+        self.place = None;
+    }
+
+    /// Gathers the symbols of the first data segments of a field, so many, with those in whole groups softened.
+    fn flush(&mut self, count: usize)
+        requires few { count ≤ FIELD_ROWS }
+        requires room { vec_len self.old.field ≡ FIELD_ROWS }
+        requires signed { AreSigned (take count self.old.field.items) }
+        requires scale { self.old.soft.scale ≡ 1 }
+        requires fields { self.old.fields ≤ MOST_SEGMENTS }
+        requires cost { self.old.cost ≤ MOST_COST * MOST_SEGMENTS }
+        requires fits { length self.old.symbols + SEGMENT * count ≤ SOFT_BYTES }
+        ensures symbols { self.new.symbols
+            ≡ self.old.symbols ++ segment_bytes (flushed (take count self.old.field.items)) }
+        ensures long { length self.new.symbols ≡ length self.old.symbols + SEGMENT * count }
+        ensures fields { self.new.fields ≡ self.old.fields + is_some (groups_in (take count self.old.field.items)) }
+        ensures cost { self.new.cost ≡ self.old.cost + softened_cost 1 (groups_in (take count self.old.field.items)) }
+        ensures most { self.new.cost ≤ self.old.cost + MOST_COST }
+        ensures scale { self.new.soft.scale ≡ 1 }
+        ensures count { self.new.segments ≡ self.old.segments }
+        ensures kept { vec_len self.new.field ≡ FIELD_ROWS }
+    {
+        self.fields += (count / GROUP_PACKETS).min(1) as u64;
+        self.cost += flush_field(&mut self.soft, &mut self.field, count, &mut self.symbols);
+    }
+}
+
+impl Engine for Softening {
+    ghost use Rattle.dtx_engine.specs.Made.{only};
+    ghost use Rattle.dtx_jobs.specs.Shapes as shapes;
+    ghost use Rattle.dtx_jobs.specs.Soft.{softening};
+    ghost use Rattle.dtx_jobs.specs.Softening.{WasSoftened};
+    ghost use Rattle.dtx_jobs.specs.SofteningLaws.{softens_more, softens_none};
+
+    ghost shape = { shapes.segments };
+
+    ghost recipe = { λ _. softening };
+
+    ghost stands = { WasSoftened };
+
+    ghost gives = { λ s _. only s.symbols };
+
+    fn sizes(&self) -> Shape {
+        segments()
+    }
+
+    fn allows(&self, _index: u64, _unit: &[u8]) -> bool {
+        true
+    }
+
+    fn feed(&mut self, _first: u64, bytes: &mut [u8]) {
+        self.symbols.clear();
+        self.take_all(bytes);
+    }
+
+    fn finish(&mut self, loose: usize) -> Outcome {
+        self.symbols.clear();
+        let rows = rows_of(self.place);
+        self.flush(rows);
+        Outcome {
+            status: Status::Done,
+            numbers: [self.segments, self.fields, self.cost, loose as u64, 0, 0],
+            shown: 4,
+        }
+    }
+
+    fn made<'a>(&'a self, _bytes: &'a [u8]) -> &'a [u8] {
+        self.symbols.bytes()
+    }
+
+    fn log(&self) -> &[u8] {
+        &[]
+    }
+
+    ghost starts = { λ _. softens_none };
+
+    ghost grows = { λ _ a b whole. softens_more a b whole };
+}
+
+/// How many data segments of a field are before that place.
+fn rows_of(place: Option<u16>) -> usize
+    requires { IfSome place (λ place. place < FIELD_ROWS) }
+    ensures rows { result ≡ unwrap_or place 0 }
+    ensures few { result ≤ FIELD_ROWS }
+{
+    match place {
+        Some(place) => place as usize,
+        None => 0,
+    }
+}
+
+/// Gathers the symbols of a field's first segments, so many.
+fn flush_field(
+    soft: &mut Soft,
+    field: &mut Vec<[i8; SEGMENT]>,
+    count: usize,
+    symbols: &mut SymbolBuffer<SOFT_BYTES>,
+) -> u64
+    requires room { vec_len field.old ≡ FIELD_ROWS }
+    requires few { count ≤ FIELD_ROWS }
+    requires scale { soft.old.scale ≡ 1 }
+    requires signed { AreSigned (take count field.old.items) }
+    requires fits { length symbols.old + SEGMENT * count ≤ SOFT_BYTES }
+    ensures symbols { symbols.new ≡ symbols.old ++ segment_bytes (flushed (take count field.old.items)) }
+    ensures long { length symbols.new ≡ length symbols.old + SEGMENT * count }
+    ensures cost { result ≡ softened_cost 1 (groups_in (take count field.old.items)) }
+    ensures most { result ≤ MOST_COST }
+    ensures scale { soft.new.scale ≡ 1 }
+    ensures kept { vec_len field.new ≡ FIELD_ROWS }
+{
+    flush_rows(soft, &mut field[..count], symbols)
+}
+
+/// Gathers the symbols of the first data segments of a field, with those in whole groups softened, and answers what
+/// their least paths cost.
+fn flush_rows(
+    soft: &mut Soft,
+    rows: &mut [[i8; SEGMENT]],
+    symbols: &mut SymbolBuffer<SOFT_BYTES>,
+) -> u64
+    requires scale { soft.old.scale ≡ 1 }
+    requires few { length rows.old ≤ FIELD_PACKETS }
+    requires signed { AreSigned rows.old }
+    requires fits { length symbols.old + SEGMENT * length rows.old ≤ SOFT_BYTES }
+    ensures symbols { symbols.new ≡ symbols.old ++ segment_bytes (flushed rows.old) }
+    ensures long { length symbols.new ≡ length symbols.old + SEGMENT * length rows.old }
+    ensures cost { result ≡ softened_cost 1 (groups_in rows.old) }
+    ensures most { result ≤ MOST_COST }
+    ensures scale { soft.new.scale ≡ 1 }
+{
+    let cost = soften(soft, rows);
+    gather(rows, symbols);
+    cost
+}
+
+/// Data follows a segment that looks like a field sync, where none is on or one is due.
+fn place_behind(segment: &[i8; SEGMENT]) -> Option<u16>
+    ensures { result ≡ (if looks_like segment.now then Some 0 else None) }
+{
+    if looks(segment) { Some(0) } else { None }
+}
+
+/// The symbols of bytes are signed bytes.
+fn signed(bytes: &[u8])
+    ensures { IsSigned (symbols bytes.now) }
+{
+    let _count = bytes.len();
+}
+
+/// Softens the first data segments of a field, and answers what their least paths cost.
+fn soften(soft: &mut Soft, rows: &mut [[i8; SEGMENT]]) -> u64
+    requires scale { soft.old.scale ≡ 1 }
+    requires few { length rows.old ≤ FIELD_PACKETS }
+    requires signed { AreSigned rows.old }
+    ensures rows { rows.new ≡ flushed rows.old }
+    ensures cost { result ≡ softened_cost 1 (groups_in rows.old) }
+    ensures most { result ≤ MOST_COST }
+    ensures scale { soft.new.scale ≡ 1 }
+{
+    let whole = GROUP_PACKETS * (rows.len() / GROUP_PACKETS);
+    soften_groups(soft, &mut rows[..whole])
+}
+
+/// Softens whole groups.
+fn soften_groups(soft: &mut Soft, rows: &mut [[i8; SEGMENT]]) -> u64
+    requires scale { soft.old.scale ≡ 1 }
+    requires whole { length rows.old % GROUP_PACKETS ≡ 0 }
+    requires few { length rows.old ≤ FIELD_PACKETS }
+    requires signed { AreSigned rows.old }
+    ensures rows { rows.new ≡ softened 1 rows.old }
+    ensures cost { result ≡ softened_cost 1 rows.old }
+    ensures most { result ≤ MOST_COST }
+    ensures scale { soft.new.scale ≡ 1 }
+{
+    let cost = soft.field(rows);
+    known(rows);
+    cost
+}
+
+/// Segments have 832 symbols each.
+fn known(rows: &[[i8; SEGMENT]])
+    ensures { (i : ℕ) → i < length rows.now → length (slice_index_or rows.now i []) ≡ SEGMENT }
+{}
+
+/// Puts the symbols of segments behind those that are gathered.
+fn gather(rows: &[[i8; SEGMENT]], symbols: &mut SymbolBuffer<SOFT_BYTES>)
+    requires { length symbols.old + SEGMENT * length rows.now ≤ SOFT_BYTES }
+    ensures bytes { symbols.new ≡ symbols.old ++ segment_bytes rows.now }
+    ensures long { length symbols.new ≡ length symbols.old + SEGMENT * length rows.now }
+{
+    for i in 0..rows.len() {
+        symbols.push(&rows[i]);
+    }
+}

@@ -1,0 +1,11 @@
+pub mod Writes
+pub mod Steps
+pub mod Paths
+pub mod Potentials
+pub mod Certificates
+pub mod OwnSymbols
+pub mod Places
+pub mod Softened
+pub mod OwnField
+pub mod CoderPaths
+pub mod Lanes

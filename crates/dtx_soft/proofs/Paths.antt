@@ -1,0 +1,142 @@
+-- Least paths and potentials, one more symbol in front (Bellman).
+use Rattle.std.proofs.Common.{◌≡◌, ℕ, zero, suc, ℤ, ◌+◌, ◌<◌, ◌≤◌, ◌⊎◌, inl, inr, List, [], ◌∷◌}
+use Rattle.std.proofs.Common.{length, get_or, map, refl, sym, ap, ◌∙◌, subst, arith}
+use Rattle.std.specs.List.{zip}
+use Rattle.std.proofs.lemmas.List.Sums.{sum_by-cons}
+use Rattle.std.proofs.lemmas.Bool.{cases_lt}
+use Rattle.dtx_soft.specs.Paths.{IsPath, cost, distance, next_state, squared, symbol_at}
+use Rattle.dtx_soft.specs.Least.{AreInOrder, IsLeastFrom, IsPotential}
+use Rattle.dtx_soft.proofs.Steps.{IsFirstLeast, onto}
+
+pub cost-cons : (scale : ℕ) (v : ℤ) (symbols : List ℤ) (z : ℕ) (levels : List ℕ)
+    → cost scale (v ∷ symbols) (z ∷ levels) ≡ squared v (symbol_at scale z) + cost scale symbols levels
+unfolding cost distance
+cost-cons scale v symbols z levels =
+    sum_by-cons (λ pair. squared pair.0 pair.1) (v, symbol_at scale z) (zip symbols (map (symbol_at scale) levels))
+
+pub next_small : (state z : ℕ) → state < 4 → next_state state z < 4
+unfolding next_state
+next_small state z l = omega arith
+
+-- the potentials of all states
+abbrev pub ArePotentialsAt : ℕ → List ℤ → List ℕ → Type 0
+ArePotentialsAt scale symbols potentials = (s : ℕ) → s < 4 → IsPotential scale symbols s (get_or potentials s 0)
+
+-- a path costs no less than its first level comes to
+onto_below : (scale : ℕ) (v : ℤ) (symbols : List ℤ) (behind : List ℕ) (state z : ℕ) (levels : List ℕ)
+    → ArePotentialsAt scale symbols behind → state < 4 → length levels ≡ length symbols
+    → IsPath (next_state state z) levels → onto scale v behind state z ≤ cost scale (v ∷ symbols) (z ∷ levels)
+onto_below scale v symbols behind state z levels p l n path =
+    let a = (p (next_state state z) (next_small state z l)).below levels n path in
+    let e = cost-cons scale v symbols z levels in
+    omega (arith, a, e)
+
+-- and it costs as much where it is a least one from there
+pub least_is : (scale : ℕ) (symbols : List ℤ) (state potential : ℕ) (levels : List ℕ)
+    → IsPotential scale symbols state potential → IsLeastFrom scale symbols state levels
+    → cost scale symbols levels ≡ potential
+least_is scale symbols state potential levels p h =
+    let a = p.below levels h.long h.path in
+    let b = h.least p.met.0 p.met.1 p.met.2 in
+    omega (arith, a, b, p.met.3)
+
+pub one_more : (scale : ℕ) (v : ℤ) (symbols : List ℤ) (behind : List ℕ) (state z : ℕ) (levels : List ℕ)
+    → ArePotentialsAt scale symbols behind → state < 4 → IsFirstLeast scale v behind state z
+    → IsLeastFrom scale symbols (next_state state z) levels → IsLeastFrom scale (v ∷ symbols) state (z ∷ levels)
+one_more scale v symbols behind state z levels p l h q = record {
+  long = ap suc q.long;
+  path = (h.small, h.begins, q.path);
+  least = least_of;
+  first = first_of;
+}
+  where
+    value : cost scale (v ∷ symbols) (z ∷ levels) ≡ onto scale v behind state z
+    value = cost-cons scale v symbols z levels ∙ ap (λ x. squared v (symbol_at scale z) + x)
+        (least_is scale symbols (next_state state z) (get_or behind (next_state state z) 0) levels
+        (p (next_state state z) (next_small state z l)) q)
+
+    least_of : (others : List ℕ) → length others ≡ suc (length symbols) → IsPath state others
+        → cost scale (v ∷ symbols) (z ∷ levels) ≤ cost scale (v ∷ symbols) others
+    least_of [] e path = absurd (omega arith)
+    least_of (y ∷ ys) e path =
+        let a = onto_below scale v symbols behind state y ys p l (omega arith) path.2 in
+        let b = h.least y path.0 path.1 in
+        omega (arith, a, b, value)
+
+    first_of : (others : List ℕ) → length others ≡ suc (length symbols) → IsPath state others
+        → cost scale (v ∷ symbols) others ≡ cost scale (v ∷ symbols) (z ∷ levels) → AreInOrder (z ∷ levels) others
+    first_of [] e path t = absurd (omega arith)
+    first_of (y ∷ ys) e path t =
+        let a = onto_below scale v symbols behind state y ys p l (omega arith) path.2 in
+        let b = h.least y path.0 path.1 in
+        let c : onto scale v behind state y ≡ onto scale v behind state z = omega (arith, a, b, value, t) in
+        go y ys (omega arith) path.2 t (by_order z y (h.first y path.0 path.1 c) (cases_lt z y))
+      where
+        by_order : (a b : ℕ) → a ≤ b → (a < b) ⊎ (b ≤ a) → (a < b) ⊎ (a ≡ b)
+        by_order a b k (inl m) = inl m
+        by_order a b k (inr m) = inr (omega arith)
+
+        go : (y : ℕ) (ys : List ℕ) → length ys ≡ length symbols → IsPath (next_state state y) ys
+            → cost scale (v ∷ symbols) (y ∷ ys) ≡ cost scale (v ∷ symbols) (z ∷ levels) → (z < y) ⊎ (z ≡ y)
+            → (z < y) ⊎ ((z ≡ y) × AreInOrder levels ys)
+        go y ys n path t (inl k) = inl k
+        go y ys n path t (inr k) = inr (
+          k,
+          q.first ys n (subst (λ x. IsPath (next_state state x) ys) (sym k) path)
+              (same (subst (λ x. cost scale (v ∷ symbols) (x ∷ ys) ≡ cost scale (v ∷ symbols) (z ∷ levels)) (sym k) t)),
+        )
+          where
+            same : cost scale (v ∷ symbols) (z ∷ ys) ≡ cost scale (v ∷ symbols) (z ∷ levels)
+                → cost scale symbols ys ≡ cost scale symbols levels
+            same t =
+                omega (arith, t, cost-cons scale v symbols z ys, cost-cons scale v symbols z levels)
+
+pub potential_more : (scale : ℕ) (v : ℤ) (symbols : List ℤ) (behind : List ℕ) (state z : ℕ)
+    → ArePotentialsAt scale symbols behind → state < 4 → IsFirstLeast scale v behind state z
+    → IsPotential scale (v ∷ symbols) state (onto scale v behind state z)
+potential_more scale v symbols behind state z p l h = record {
+  below = below_of;
+  met = (
+    z ∷ rest.met.0,
+    ap suc rest.met.1,
+    (h.small, h.begins, rest.met.2),
+    cost-cons scale v symbols z rest.met.0 ∙ ap (λ x. squared v (symbol_at scale z) + x) rest.met.3,
+  );
+}
+  where
+    rest : IsPotential scale symbols (next_state state z) (get_or behind (next_state state z) 0)
+    rest = p (next_state state z) (next_small state z l)
+
+    below_of : (others : List ℕ) → length others ≡ suc (length symbols) → IsPath state others
+        → onto scale v behind state z ≤ cost scale (v ∷ symbols) others
+    below_of [] e path = absurd (omega arith)
+    below_of (y ∷ ys) e path =
+        let a = onto_below scale v symbols behind state y ys p l (omega arith) path.2 in
+        let b = h.least y path.0 path.1 in
+        omega (arith, a, b)
+
+-- no symbols
+pub nothing_costs : (scale : ℕ) (others : List ℕ) → cost scale [] others ≡ 0
+unfolding cost distance
+nothing_costs scale others = refl
+
+pub nothing_least : (scale state : ℕ) → IsLeastFrom scale [] state []
+nothing_least scale state = record {
+  long = refl;
+  path = tt;
+  least = λ others e path. omega (arith, nothing_costs scale [], nothing_costs scale others);
+  first = λ others e path t. tt;
+}
+
+pub nothing_potential : (scale state : ℕ) → IsPotential scale [] state 0
+nothing_potential scale state = record {
+  below = λ levels e path. omega arith;
+  met = ([], refl, tt, nothing_costs scale []);
+}
+
+-- every level of a path is below 8
+pub path_small : (state : ℕ) (levels : List ℕ) → IsPath state levels → (k : ℕ) → k < length levels
+    → get_or levels k 0 < 8
+path_small state [] path k l = absurd (omega arith)
+path_small state (z ∷ levels) path zero l = path.0
+path_small state (z ∷ levels) path (suc k) l = path_small (next_state state z) levels path.2 k (omega arith)

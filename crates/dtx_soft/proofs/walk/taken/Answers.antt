@@ -1,0 +1,42 @@
+use Rattle.std.proofs.Common.{◌≡◌, ℕ, ◌+◌, ◌-◌, ◌*◌, ◌/◌, ◌%◌, ◌^◌, ◌<◌, ◌⊎◌, inl, inr, get_or, subst, arith}
+use Rattle.dtx_soft.specs.Paths.{next_state}
+use Rattle.dtx_soft.specs.Nearest.{IsTaken}
+use Rattle.dtx_soft.proofs.Writes.{four}
+use Rattle.dtx_soft.proofs.Steps.{bit_taken}
+use Rattle.dtx_soft.proofs.walk.taken.Goals as goal
+
+is_bit : {P Q : Type 0} {n : ℕ} → (P × (n ≡ 1)) ⊎ (Q × (n ≡ 0)) → n < 2
+is_bit (inl h) = omega (arith, h.1)
+is_bit (inr h) = omega (arith, h.1)
+
+pub returns : goal.returns
+unfolding next_state
+returns c =
+    four (λ s. IsTaken c.args.row.now c.args.behind.now s (bits / 2 ^ (2 * (1 - s % 2) + s / 2) % 2))
+    (subst (IsTaken c.args.row.now c.args.behind.now 0) (omega (arith, a, b, d, e))
+    (bit_taken c.args.row.now c.args.behind.now 0 (get_or c.args.row.now.ties 0 0) c.is_less-a.result
+    (c.requires.ties 0 (omega arith)) c.is_less-a.ensures))
+    (subst (IsTaken c.args.row.now c.args.behind.now 1) (omega (arith, a, b, d, e))
+    (bit_taken c.args.row.now c.args.behind.now 1 (get_or c.args.row.now.ties 0 0) c.is_less-b.result
+    (c.requires.ties 0 (omega arith)) c.is_less-b.ensures))
+    (subst (IsTaken c.args.row.now c.args.behind.now 2) (omega (arith, a, b, d, e))
+    (bit_taken c.args.row.now c.args.behind.now 2 (get_or c.args.row.now.ties 1 0) c.is_less-c.result
+    (c.requires.ties 1 (omega arith)) c.is_less-c.ensures))
+    (subst (IsTaken c.args.row.now c.args.behind.now 3) (omega (arith, a, b, d, e))
+    (bit_taken c.args.row.now c.args.behind.now 3 (get_or c.args.row.now.ties 1 0) c.is_less-d.result
+    (c.requires.ties 1 (omega arith)) c.is_less-d.ensures))
+  where
+    bits : ℕ
+    bits = c.is_less-b.result + 2 * c.is_less-d.result + 4 * c.is_less-a.result + 8 * c.is_less-c.result
+
+    a : c.is_less-a.result < 2
+    a = is_bit c.is_less-a.ensures
+
+    b : c.is_less-b.result < 2
+    b = is_bit c.is_less-b.ensures
+
+    d : c.is_less-c.result < 2
+    d = is_bit c.is_less-c.ensures
+
+    e : c.is_less-d.result < 2
+    e = is_bit c.is_less-d.ensures

@@ -1,0 +1,30 @@
+-- When potentials prove that a path is a least one. They need not be the least costs.
+use Rattle.std.specs.Prelude.{ℕ, ℤ, pos, ◌≡◌, ◌+◌, ◌/◌, ◌%◌, ◌<◌, ◌≤◌, List, [], length, slice_index, slice_index_or}
+use Rattle.dtx_soft.specs.Paths.{IsPath, cost, next_state, squared, symbol_at}
+
+-- no state's entry is above what a step from it costs and the entry of the state that the step leads to
+abbrev pub AllowsSteps : ℤ → List ℕ → List ℕ → Type 0
+AllowsSteps symbol entry behind = (state z : ℕ) → state < 4 → z < 8 → z % 2 ≡ state / 2
+    → slice_index entry state ≤ squared symbol (symbol_at 1 z) + slice_index behind (next_state state z)
+
+-- at every symbol
+abbrev pub AllowAllSteps : List ℤ → List (List ℕ) → Type 0
+AllowAllSteps symbols potentials = (t : ℕ) → t < length symbols
+    → AllowsSteps (slice_index_or symbols t (pos 0)) (slice_index_or potentials t [])
+    (slice_index_or potentials (t + 1) [])
+
+-- whether a state has the least of four entries
+abbrev pub HasLeast : List ℕ → ℕ → Type 0
+HasLeast entry start = (state : ℕ) → state < 4 → slice_index entry start ≤ slice_index entry state
+
+-- All that is to be tested: levels are a path from the start, the last entry is zeros, no step goes below its entry,
+-- and the path costs what the first entry has for its start, where no other state has less.
+pub record IsCertificate (symbols : List ℤ) (start : ℕ) (levels : List ℕ) (potentials : List (List ℕ)) : Type 0 where
+  pub begins : start < 4
+  pub long : length levels ≡ length symbols
+  pub entries : length potentials ≡ length symbols + 1
+  pub zeros : (state : ℕ) → state < 4 → slice_index (slice_index_or potentials (length symbols) []) state ≡ 0
+  pub steps : AllowAllSteps symbols potentials
+  pub least : HasLeast (slice_index_or potentials 0 []) start
+  pub path : IsPath start levels
+  pub met : cost 1 symbols levels ≡ slice_index (slice_index_or potentials 0 []) start

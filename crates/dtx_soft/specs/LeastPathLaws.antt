@@ -1,0 +1,372 @@
+-- What the function of least paths gives, and that there is one least path.
+use Rattle.std.proofs.Common.{◌≡◌, ℕ, zero, suc, ℤ, ◌+◌, ◌*◌, ◌/◌, ◌<◌, ◌≤◌, ◌⊎◌, inl, inr, nat_le, Bool, true}
+use Rattle.std.proofs.Common.{false, cond, Some, List, [], ◌∷◌, ◌++◌, length, map, drop, unwrap_or, refl, get_or}
+use Rattle.std.proofs.Common.{sym, ap, ap₂, ◌∙◌, subst, arith}
+use Rattle.std.proofs.lemmas.Bool.{cases_lt, le-leb, leb-true, true≢false, and_parts, and_from}
+use Rattle.std.specs.List.{range_with_len, flat_map, list_all, find, AllByRecursion}
+use Rattle.dtx_lists.proofs.Range.{range_cases}
+use Rattle.dtx_soft.specs.Paths.{IsPath, cost, next_state}
+use Rattle.dtx_soft.specs.Least.{AreInOrder, IsLeast}
+use Rattle.dtx_soft.specs.LeastPath.{all_paths, costs_least, least_path, paths_from}
+
+-- ---- elements of a list of lists
+
+abbrev IsIn : List ℕ → List (List ℕ) → Type 0
+IsIn x [] = ⊥
+IsIn x (y ∷ ys) = (x ≡ y) ⊎ IsIn x ys
+
+in_left : (x : List ℕ) (ys zs : List (List ℕ)) → IsIn x ys → IsIn x (ys ++ zs)
+in_left x [] zs h = absurd h
+in_left x (y ∷ ys) zs (inl e) = inl e
+in_left x (y ∷ ys) zs (inr h) = inr (in_left x ys zs h)
+
+in_right : (x : List ℕ) (ys zs : List (List ℕ)) → IsIn x zs → IsIn x (ys ++ zs)
+in_right x [] zs h = h
+in_right x (y ∷ ys) zs h = inr (in_right x ys zs h)
+
+in_map : (z : ℕ) (x : List ℕ) (ys : List (List ℕ)) → IsIn x ys → IsIn (z ∷ x) (map (λ y. z ∷ y) ys)
+in_map z x [] h = absurd h
+in_map z x (y ∷ ys) (inl e) = inl (ap (λ y. z ∷ y) e)
+in_map z x (y ∷ ys) (inr h) = inr (in_map z x ys h)
+
+-- a list of the part of some number of a range
+in_flat : (f : ℕ → List (List ℕ)) (x : List ℕ) (b a n : ℕ) → a ≤ b → b < a + n → IsIn x (f b)
+    → IsIn x (flat_map f (range_with_len a n))
+in_flat f x b a zero l m h = absurd (omega arith)
+in_flat f x b a (suc n) l m h = by_place (range_cases a b l) (λ p. in_flat f x b (a + 1) n p (omega arith) h)
+  where
+    by_place : (a ≡ b) ⊎ (a + 1 ≤ b) → (a + 1 ≤ b → IsIn x (flat_map f (range_with_len (a + 1) n)))
+        → IsIn x (f a ++ flat_map f (range_with_len (a + 1) n))
+    by_place (inl e) behind =
+        in_left x (f a) (flat_map f (range_with_len (a + 1) n)) (subst (λ (c : ℕ). IsIn x (f c)) (sym e) h)
+    by_place (inr p) behind = in_right x (f a) (flat_map f (range_with_len (a + 1) n)) (behind p)
+
+all_at : (P : List ℕ → Type 0) (xs : List (List ℕ)) (x : List ℕ) → AllByRecursion P xs → IsIn x xs → P x
+all_at P [] x h i = absurd i
+all_at P (y ∷ ys) x h (inl e) = subst (λ z. P z) (sym e) h.0
+all_at P (y ∷ ys) x h (inr i) = all_at P ys x h.1 i
+
+all_append : (P : List ℕ → Type 0) (xs ys : List (List ℕ)) → AllByRecursion P xs → AllByRecursion P ys
+    → AllByRecursion P (xs ++ ys)
+all_append P [] ys h k = k
+all_append P (x ∷ xs) ys h k = (h.0, all_append P xs ys h.1 k)
+
+all_map : (P Q : List ℕ → Type 0) (z : ℕ) (xs : List (List ℕ)) → ((x : List ℕ) → P x → Q (z ∷ x))
+    → AllByRecursion P xs → AllByRecursion Q (map (λ x. z ∷ x) xs)
+all_map P Q z [] f h = tt
+all_map P Q z (x ∷ xs) f h = (f x h.0, all_map P Q z xs f h.1)
+
+all_flat : (P : List ℕ → Type 0) (f : ℕ → List (List ℕ)) (a n : ℕ)
+    → ((k : ℕ) → a ≤ k → k < a + n → AllByRecursion P (f k)) → AllByRecursion P (flat_map f (range_with_len a n))
+all_flat P f a zero h = tt
+all_flat P f a (suc n) h =
+    all_append P (f a) (flat_map f (range_with_len (a + 1) n)) (h a (omega arith) (omega arith))
+    (all_flat P f (a + 1) n (λ k l m. h k (omega arith) (omega arith)))
+
+-- what a test says of all, and the other way
+tested_at : (p : List ℕ → Bool) (xs : List (List ℕ)) (x : List ℕ) → list_all p xs ≡ true → IsIn x xs → p x ≡ true
+tested_at p [] x h i = absurd i
+tested_at p (y ∷ ys) x h (inl e) = ap p e ∙ (and_parts (p y) (list_all p ys) h).0
+tested_at p (y ∷ ys) x h (inr i) = tested_at p ys x (and_parts (p y) (list_all p ys) h).1 i
+
+tested_from : (p : List ℕ → Bool) (xs : List (List ℕ)) → AllByRecursion (λ x. p x ≡ true) xs → list_all p xs ≡ true
+tested_from p [] h = refl
+tested_from p (x ∷ xs) h = and_from (p x) (list_all p xs) h.0 (tested_from p xs h.1)
+
+-- ---- all paths
+
+abbrev IsAPath : ℕ → ℕ → List ℕ → Type 0
+IsAPath n state levels = (length levels ≡ n) × IsPath state levels
+
+next_small : (state z : ℕ) → state < 4 → next_state state z < 4
+unfolding next_state
+next_small state z l = omega arith
+
+paths_are : (n state : ℕ) → state < 4 → AllByRecursion (IsAPath n state) (paths_from n state)
+unfolding paths_from
+paths_are zero state l = ((refl, tt), tt)
+paths_are (suc n) state l =
+    all_flat (IsAPath (suc n) state)
+    (λ k. map (λ levels. (2 * k + state / 2) ∷ levels) (paths_from n (next_state state (2 * k + state / 2)))) 0 4
+    (λ k a b. all_map (IsAPath n (next_state state (2 * k + state / 2))) (IsAPath (suc n) state) (2 * k + state / 2)
+    (paths_from n (next_state state (2 * k + state / 2)))
+    (λ levels h. (ap suc h.0, (omega arith, omega arith, h.1)))
+    (paths_are n (next_state state (2 * k + state / 2)) (next_small state (2 * k + state / 2) l)))
+
+paths_have : (n state : ℕ) (levels : List ℕ) → state < 4 → length levels ≡ n → IsPath state levels
+    → IsIn levels (paths_from n state)
+unfolding paths_from
+paths_have zero state [] l e h = inl refl
+paths_have zero state (z ∷ levels) l e h = absurd (omega arith)
+paths_have (suc n) state [] l e h = absurd (omega arith)
+paths_have (suc n) state (z ∷ levels) l e (small, begins, path) =
+    let level : z ≡ 2 * (z / 2) + state / 2 = omega arith in
+    in_flat (λ k. map (λ levels. (2 * k + state / 2) ∷ levels) (paths_from n (next_state state (2 * k + state / 2))))
+    (z ∷ levels) (z / 2) 0 4 (omega arith) (omega arith)
+    (subst (λ y. IsIn (z ∷ levels) (map (λ levels. y ∷ levels) (paths_from n (next_state state y)))) level
+    (in_map z levels (paths_from n (next_state state z))
+    (paths_have n (next_state state z) levels (next_small state z l) (omega arith) path)))
+
+-- a path behind its start
+abbrev IsStarted : ℕ → List ℕ → Type 0
+IsStarted n [] = ⊥
+IsStarted n (state ∷ levels) = (state < 4) × IsAPath n state levels
+
+all_are : (n : ℕ) → AllByRecursion (IsStarted n) (all_paths n)
+unfolding all_paths
+all_are n =
+    all_flat (IsStarted n) (λ start. map (λ levels. start ∷ levels) (paths_from n start)) 0 4
+    (λ k a b. all_map (IsAPath n k) (IsStarted n) k (paths_from n k) (λ levels h. (omega arith, h))
+    (paths_are n k (omega arith)))
+
+all_have : (n start : ℕ) (levels : List ℕ) → start < 4 → length levels ≡ n → IsPath start levels
+    → IsIn (start ∷ levels) (all_paths n)
+unfolding all_paths
+all_have n start levels l e path =
+    in_flat (λ start. map (λ levels. start ∷ levels) (paths_from n start)) (start ∷ levels) start 0 4 (omega arith)
+    (omega arith) (in_map start levels (paths_from n start) (paths_have n start levels l e path))
+
+-- ---- their order
+
+abbrev AreOrdered : List (List ℕ) → Type 0
+AreOrdered [] = Unit {0}
+AreOrdered (x ∷ xs) = AllByRecursion (AreInOrder x) xs × AreOrdered xs
+
+ordered_append : (xs ys : List (List ℕ)) → AreOrdered xs → AreOrdered ys
+    → AllByRecursion (λ x. AllByRecursion (AreInOrder x) ys) xs → AreOrdered (xs ++ ys)
+ordered_append [] ys h k m = k
+ordered_append (x ∷ xs) ys h k m =
+    (all_append (AreInOrder x) xs ys h.0 m.0, ordered_append xs ys h.1 k m.1)
+
+ordered_map : (z : ℕ) (xs : List (List ℕ)) → AreOrdered xs → AreOrdered (map (λ x. z ∷ x) xs)
+ordered_map z [] h = tt
+ordered_map z (x ∷ xs) h =
+    (all_map (AreInOrder x) (AreInOrder (z ∷ x)) z xs (λ y k. inr (refl, k)) h.0, ordered_map z xs h.1)
+
+any_all : (xs : List (List ℕ)) → AllByRecursion (λ _. Unit {0}) xs
+any_all [] = tt
+any_all (x ∷ xs) = (tt, any_all xs)
+
+ordered_flat : (g : ℕ → ℕ) (f : ℕ → List (List ℕ)) (a n : ℕ) → ((j k : ℕ) → j < k → g j < g k)
+    → ((k : ℕ) → AreOrdered (f k))
+    → AreOrdered (flat_map (λ k. map (λ x. g k ∷ x) (f k)) (range_with_len a n))
+ordered_flat g f a zero rises h = tt
+ordered_flat g f a (suc n) rises h =
+    ordered_append (map (λ x. g a ∷ x) (f a)) (flat_map (λ k. map (λ x. g k ∷ x) (f k)) (range_with_len (a + 1) n))
+    (ordered_map (g a) (f a) (h a)) (ordered_flat g f (a + 1) n rises h)
+    (all_map (λ _. Unit {0}) (λ x. AllByRecursion (AreInOrder x)
+    (flat_map (λ k. map (λ x. g k ∷ x) (f k)) (range_with_len (a + 1) n))) (g a) (f a)
+    (λ x _. all_flat (AreInOrder (g a ∷ x)) (λ k. map (λ x. g k ∷ x) (f k)) (a + 1) n
+    (λ k l m. all_map (λ _. Unit {0}) (AreInOrder (g a ∷ x)) (g k) (f k) (λ y _. inl (rises a k (omega arith)))
+    (any_all (f k)))) (any_all (f a)))
+
+paths_ordered : (n state : ℕ) → AreOrdered (paths_from n state)
+unfolding paths_from
+paths_ordered zero state = (tt, tt)
+paths_ordered (suc n) state =
+    ordered_flat (λ k. 2 * k + state / 2) (λ k. paths_from n (next_state state (2 * k + state / 2))) 0 4
+    (λ j k l. omega arith) (λ k. paths_ordered n (next_state state (2 * k + state / 2)))
+
+all_ordered : (n : ℕ) → AreOrdered (all_paths n)
+unfolding all_paths
+all_ordered n = ordered_flat (λ k. k) (λ k. paths_from n k) 0 4 (λ j k l. l) (λ k. paths_ordered n k)
+
+in_order_self : (xs : List ℕ) → AreInOrder xs xs
+in_order_self [] = tt
+in_order_self (x ∷ xs) = inr (refl, in_order_self xs)
+
+in_order_both : (xs ys : List ℕ) → AreInOrder xs ys → AreInOrder ys xs → xs ≡ ys
+in_order_both [] [] h k = refl
+in_order_both [] (y ∷ ys) h k = absurd k
+in_order_both (x ∷ xs) [] h k = absurd h
+in_order_both (x ∷ xs) (y ∷ ys) (inl l) (inl m) = absurd (omega arith)
+in_order_both (x ∷ xs) (y ∷ ys) (inl l) (inr m) = let e = m.0 in absurd (omega arith)
+in_order_both (x ∷ xs) (y ∷ ys) (inr l) (inl m) = let e = l.0 in absurd (omega arith)
+in_order_both (x ∷ xs) (y ∷ ys) (inr l) (inr m) = ap₂ ◌∷◌ l.0 (in_order_both xs ys l.1 m.1)
+
+-- ---- the first that passes a test
+
+record IsFirst (p : List ℕ → Bool) (xs : List (List ℕ)) (x found : List ℕ) : Type 0 where
+  within : IsIn found xs
+  passes : p found ≡ true
+  before : AreInOrder found x
+
+first_found : (p : List ℕ → Bool) (xs : List (List ℕ)) (x : List ℕ) → AreOrdered xs → IsIn x xs → p x ≡ true
+    → IsFirst p xs x (unwrap_or (find p xs) [])
+first_found p [] x h i t = absurd i
+first_found p (y ∷ ys) x h i t = by_test (p y) refl i (λ behind. first_found p ys x h.1 behind t)
+  where
+    by_test : (b : Bool) → p y ≡ b → (x ≡ y) ⊎ IsIn x ys
+        → (IsIn x ys → IsFirst p ys x (unwrap_or (find p ys) []))
+        → IsFirst p (y ∷ ys) x (unwrap_or (cond b (Some y) (find p ys)) [])
+    by_test true e (inl same) on = record {
+      within = inl refl;
+      passes = e;
+      before = subst (λ z. AreInOrder y z) (sym same) (in_order_self y);
+    }
+    by_test true e (inr behind) on = record {
+      within = inl refl;
+      passes = e;
+      before = all_at (AreInOrder y) ys x h.0 behind;
+    }
+    by_test false e (inl same) on = absurd (true≢false (sym t ∙ ap p same ∙ e))
+    by_test false e (inr behind) on =
+        let rest = on behind in
+        record { within = inr rest.within; passes = rest.passes; before = rest.before }
+
+-- ---- the least path
+
+costs_from : (scale : ℕ) (symbols : List ℤ) (start : ℕ) (levels : List ℕ) → IsLeast scale symbols start levels
+    → costs_least scale symbols (start ∷ levels) ≡ true
+unfolding costs_least
+costs_from scale symbols start levels h =
+    tested_from (λ other. nat_le (cost scale symbols levels) (cost scale symbols (drop 1 other)))
+    (all_paths (length symbols)) (each (all_paths (length symbols)) (all_are (length symbols)))
+  where
+    each_one : (other : List ℕ) → IsStarted (length symbols) other
+        → nat_le (cost scale symbols levels) (cost scale symbols (drop 1 other)) ≡ true
+    each_one [] k = absurd k
+    each_one (state ∷ others) k =
+        le-leb (cost scale symbols levels) (cost scale symbols others) (h.least state others k.0 k.1.0 k.1.1)
+
+    each : (xs : List (List ℕ)) → AllByRecursion (IsStarted (length symbols)) xs
+        → AllByRecursion (λ other. nat_le (cost scale symbols levels) (cost scale symbols (drop 1 other)) ≡ true) xs
+    each [] k = tt
+    each (x ∷ xs) k = (each_one x k.0, each xs k.1)
+
+costs_at : (scale : ℕ) (symbols : List ℤ) (path other : List ℕ) → costs_least scale symbols path ≡ true
+    → IsIn other (all_paths (length symbols)) → cost scale symbols (drop 1 path) ≤ cost scale symbols (drop 1 other)
+unfolding costs_least
+costs_at scale symbols path other t i =
+    leb-true (cost scale symbols (drop 1 path)) (cost scale symbols (drop 1 other))
+    (tested_at (λ other. nat_le (cost scale symbols (drop 1 path)) (cost scale symbols (drop 1 other)))
+    (all_paths (length symbols)) other t i)
+
+-- what is a least path is the one that the function gives
+pub least_path_is : (scale : ℕ) (symbols : List ℤ) (start : ℕ) (levels : List ℕ)
+    → IsLeast scale symbols start levels → least_path scale symbols ≡ start ∷ levels
+unfolding least_path
+least_path_is scale symbols start levels h =
+    let own = all_have (length symbols) start levels h.begins h.long h.path in
+    let found = first_found (costs_least scale symbols) (all_paths (length symbols)) (start ∷ levels)
+    (all_ordered (length symbols)) own (costs_from scale symbols start levels h) in
+    same (unwrap_or (find (costs_least scale symbols) (all_paths (length symbols))) [])
+    (all_at (IsStarted (length symbols)) (all_paths (length symbols))
+    (unwrap_or (find (costs_least scale symbols) (all_paths (length symbols))) []) (all_are (length symbols))
+    found.within)
+    (costs_at scale symbols (unwrap_or (find (costs_least scale symbols) (all_paths (length symbols))) [])
+    (start ∷ levels) found.passes own)
+    found.before
+  where
+    same : (found : List ℕ) → IsStarted (length symbols) found
+        → cost scale symbols (drop 1 found) ≤ cost scale symbols levels → AreInOrder found (start ∷ levels)
+        → found ≡ start ∷ levels
+    same [] k l before = absurd k
+    same (state ∷ others) k l before =
+        let least = h.least state others k.0 k.1.0 k.1.1 in
+        in_order_both (state ∷ others) (start ∷ levels) before
+        (h.first state others k.0 k.1.0 k.1.1 (omega (arith, least, l)))
+
+-- so its levels are
+pub least_levels_are : (scale : ℕ) (symbols : List ℤ) (start : ℕ) (levels : List ℕ)
+    → IsLeast scale symbols start levels → drop 1 (least_path scale symbols) ≡ levels
+least_levels_are scale symbols start levels h = ap (drop 1) (least_path_is scale symbols start levels h)
+
+-- ---- there always is one
+
+record HasMinimum (f : List ℕ → ℕ) (xs : List (List ℕ)) : Type 0 where
+  path : List ℕ
+  inside : IsIn path xs
+  below : (other : List ℕ) → IsIn other xs → f path ≤ f other
+
+minimum : (f : List ℕ → ℕ) (x : List ℕ) (xs : List (List ℕ)) → HasMinimum f (x ∷ xs)
+minimum f x [] = record { path = x; inside = inl refl; below = only }
+  where
+    only : (other : List ℕ) → IsIn other (x ∷ []) → f x ≤ f other
+    only other (inl e) = (let same = ap f e in omega (arith, same))
+    only other (inr i) = absurd i
+minimum f x (y ∷ ys) = joined (minimum f y ys)
+  where
+    joined : HasMinimum f (y ∷ ys) → HasMinimum f (x ∷ (y ∷ ys))
+    joined rest = by_order (cases_lt (f x) (f rest.path))
+      where
+        by_order : (f x < f rest.path) ⊎ (f rest.path ≤ f x) → HasMinimum f (x ∷ (y ∷ ys))
+        by_order (inl l) = record { path = x; inside = inl refl; below = above }
+          where
+            above : (other : List ℕ) → IsIn other (x ∷ (y ∷ ys)) → f x ≤ f other
+            above other (inl e) = (let same = ap f e in omega (arith, same))
+            above other (inr i) = (let m = rest.below other i in omega (arith, m, l))
+        by_order (inr l) = record { path = rest.path; inside = inr rest.inside; below = above }
+          where
+            above : (other : List ℕ) → IsIn other (x ∷ (y ∷ ys)) → f rest.path ≤ f other
+            above other (inl e) = (let same = ap f e in omega (arith, same, l))
+            above other (inr i) = rest.below other i
+
+minimum_in : (f : List ℕ → ℕ) (xs : List (List ℕ)) (x : List ℕ) → IsIn x xs → HasMinimum f xs
+minimum_in f [] x i = absurd i
+minimum_in f (y ∷ ys) x i = minimum f y ys
+
+-- some path of n levels from state 0
+some_path : (n state : ℕ) → state < 4 → (levels : List ℕ) × (length levels ≡ n) × IsPath state levels
+some_path zero state l = ([], refl, tt)
+some_path (suc n) state l =
+    let rest = some_path n (next_state state (state / 2)) (next_small state (state / 2) l) in
+    ((state / 2) ∷ rest.0, ap suc rest.1, (omega arith, omega arith, rest.2))
+
+tested_all : (p : List ℕ → Bool) (xs : List (List ℕ)) → ((x : List ℕ) → IsIn x xs → p x ≡ true)
+    → list_all p xs ≡ true
+tested_all p [] h = refl
+tested_all p (x ∷ xs) h =
+    and_from (p x) (list_all p xs) (h x (inl refl)) (tested_all p xs (λ y i. h y (inr i)))
+
+costs_below : (scale : ℕ) (symbols : List ℤ) (path : List ℕ)
+    → ((other : List ℕ) → IsIn other (all_paths (length symbols))
+    → cost scale symbols (drop 1 path) ≤ cost scale symbols (drop 1 other)) → costs_least scale symbols path ≡ true
+unfolding costs_least
+costs_below scale symbols path h =
+    tested_all (λ other. nat_le (cost scale symbols (drop 1 path)) (cost scale symbols (drop 1 other)))
+    (all_paths (length symbols))
+    (λ other i. le-leb (cost scale symbols (drop 1 path)) (cost scale symbols (drop 1 other)) (h other i))
+
+-- what the function gives is a least path
+pub least_path_found : (scale : ℕ) (symbols : List ℤ)
+    → IsLeast scale symbols (get_or (least_path scale symbols) 0 0) (drop 1 (least_path scale symbols))
+unfolding least_path
+least_path_found scale symbols =
+    from_path (unwrap_or (find (costs_least scale symbols) (all_paths (length symbols))) [])
+    (all_at (IsStarted (length symbols)) (all_paths (length symbols))
+    (unwrap_or (find (costs_least scale symbols) (all_paths (length symbols))) []) (all_are (length symbols))
+    (found least.path least.inside passes).within)
+    (found least.path least.inside passes).passes
+    (λ x i t. (found x i t).before)
+  where
+    least : HasMinimum (λ path. cost scale symbols (drop 1 path)) (all_paths (length symbols))
+    least =
+        let some = some_path (length symbols) 0 (omega arith) in
+        minimum_in (λ path. cost scale symbols (drop 1 path)) (all_paths (length symbols)) (0 ∷ some.0)
+        (all_have (length symbols) 0 some.0 (omega arith) some.1 some.2)
+
+    passes : costs_least scale symbols least.path ≡ true
+    passes = costs_below scale symbols least.path least.below
+
+    found : (x : List ℕ) → IsIn x (all_paths (length symbols)) → costs_least scale symbols x ≡ true
+        → IsFirst (costs_least scale symbols) (all_paths (length symbols)) x
+        (unwrap_or (find (costs_least scale symbols) (all_paths (length symbols))) [])
+    found x i t =
+        first_found (costs_least scale symbols) (all_paths (length symbols)) x (all_ordered (length symbols)) i t
+
+    from_path : (path : List ℕ) → IsStarted (length symbols) path → costs_least scale symbols path ≡ true
+        → ((x : List ℕ) → IsIn x (all_paths (length symbols)) → costs_least scale symbols x ≡ true
+        → AreInOrder path x)
+        → IsLeast scale symbols (get_or path 0 0) (drop 1 path)
+    from_path [] h t before = absurd h
+    from_path (start ∷ levels) h t before = record {
+      begins = h.0;
+      long = h.1.0;
+      path = h.1.1;
+      least = λ state others l n path. costs_at scale symbols (start ∷ levels) (state ∷ others) t
+          (all_have (length symbols) state others l n path);
+      first = λ state others l n path e. before (state ∷ others) (all_have (length symbols) state others l n path)
+          (costs_below scale symbols (state ∷ others)
+          (λ other i. (let most = costs_at scale symbols (start ∷ levels) other t i in omega (arith, most, e))));
+    }

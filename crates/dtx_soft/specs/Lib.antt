@@ -1,0 +1,11 @@
+pub mod Paths
+pub mod Least
+pub mod LeastPath
+pub mod LeastPathLaws
+pub mod Nearest
+pub mod Decoder
+pub mod Certificate
+pub mod Coders
+pub mod Softened
+pub mod SoftenedLaws
+pub mod CostLaws

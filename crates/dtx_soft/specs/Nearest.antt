@@ -1,0 +1,55 @@
+-- Two levels with one next state differ in Z2 alone, so only the nearer one may be on a least path.
+use Rattle.std.specs.Prelude.{ℕ, ℤ, pos, ◌≡◌, ◌+◌, ◌/◌, ◌%◌, ◌<◌, ◌≤◌, ◌⊎◌, ◌-ℤ◌, min, List, length, slice_index}
+use Rattle.std.specs.Prelude.{slice_index_or}
+use Rattle.dtx_soft.specs.Paths.{next_state, squared, symbol_at}
+use Rattle.dtx_soft.specs.declared.nearest.Nearest.{Nearest}
+
+-- of two levels z and z + 4, the first one that is nearest to a symbol, and the square of what the symbol is off it
+pub record IsNearest (scale : ℕ) (symbol : ℤ) (z level square : ℕ) : Type 0 where
+  pub small : level < 8
+  pub bounded : square ≤ 64516
+  pub alike : level % 4 ≡ z % 4
+  pub exact : square ≡ squared symbol (symbol_at scale level)
+  pub nearest : (other : ℕ) → other < 8 → other % 4 ≡ z % 4 → square ≤ squared symbol (symbol_at scale other)
+  pub first : (other : ℕ) → other < 8 → other % 4 ≡ z % 4 → squared symbol (symbol_at scale other) ≡ square
+      → level ≤ other
+
+-- 1 where another level comes before a level in order, and else 0
+pub record IsTie (level other tie : ℕ) : Type 0 where
+  pub before : other < level → tie ≡ 1
+  pub behind : level ≤ other → tie ≡ 0
+
+-- for each of the four pairs, and between those that may follow one state
+pub record AreNearest (scale : ℕ) (symbol : ℤ) (row : Nearest) : Type 0 where
+  pub levels : length row.levels ≡ 4
+  pub squares : length row.squares ≡ 4
+  pub each : (z : ℕ) → z < 4
+      → IsNearest scale symbol z (slice_index row.levels z) (slice_index row.squares z)
+  pub ties : (z : ℕ) → z < 2
+      → IsTie (slice_index row.levels z) (slice_index row.levels (z + 2)) (slice_index row.ties z)
+
+-- what the first of two levels comes to: the square and the potential of the state behind it
+abbrev pub through : Nearest → List ℕ → ℕ → ℕ → ℕ
+through row behind state z = slice_index row.squares z + slice_index behind (next_state state z)
+
+-- the potential of a state: of the two pairs of levels that may follow the one that comes to less
+abbrev pub cheapest : Nearest → List ℕ → ℕ → ℕ
+cheapest row behind state = min (through row behind state (state / 2)) (through row behind state (state / 2 + 2))
+
+-- whether a pair is to be taken before another one
+abbrev pub ComesFirst : Nearest → List ℕ → ℕ → ℕ → ℕ → Type 0
+ComesFirst row behind state z other = (through row behind state z ≤ through row behind state other)
+    × (through row behind state z ≡ through row behind state other
+    → slice_index row.levels z ≤ slice_index row.levels other)
+
+-- which of the two pairs of levels that may follow a state is to be taken: 0 for the first and 1 for the second
+abbrev pub IsTaken : Nearest → List ℕ → ℕ → ℕ → Type 0
+IsTaken row behind state pair =
+    ((pair ≡ 0) × ComesFirst row behind state (state / 2) (state / 2 + 2))
+    ⊎ ((pair ≡ 1) × ComesFirst row behind state (state / 2 + 2) (state / 2))
+
+-- entry n is that of symbol n - 128
+pub record IsTable (scale : ℕ) (rows : List Nearest) : Type 0 where
+  pub long : length rows ≡ 256
+  pub row : (n : ℕ) (default : Nearest) → n < 256
+      → AreNearest scale (pos n -ℤ pos 128) (slice_index_or rows n default)

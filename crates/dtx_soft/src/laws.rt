@@ -1,0 +1,73 @@
+//! Laws of the definitions: the one least path, certificates, and symbols that are a path's own.
+
+ghost use Rattle.std.specs.Prelude.{◌≡◌, ℕ, ℤ, ◌+◌, ◌*◌, ◌<◌, ◌≤◌, List, [], ◌∷◌, length, map, slice_index};
+ghost use Rattle.std.specs.Prelude.{slice_index_or};
+ghost use Rattle.std.specs.List.{range_with_len};
+ghost use Rattle.dtx_trellis.specs.Trellis.{AreBits, State, level};
+ghost use Rattle.dtx_soft.specs.Paths.{IsPath, cost, symbol_at};
+ghost use Rattle.dtx_soft.specs.Least.{ArePotentials, IsLeast, NoneCostsLess};
+ghost use Rattle.dtx_soft.specs.Certificate.{IsCertificate};
+ghost use Rattle.dtx_soft.specs.Coders.{IsSoftened, costs, symbols_of};
+ghost use Rattle.dtx_soft.specs.CostLaws.{AreSigned};
+ghost use Rattle.dtx_soft.specs.Softened.{IsOwn, softened, softened_cost};
+ghost use Rattle.dtx_soft.specs.LeastPath.{least_levels, least_path, least_start};
+
+use dtx_sizes::{CODERS, FIELD_PACKETS, SEGMENT};
+
+/// A certificate proves its path a least one: no path from any state costs less.
+pub fn certified()
+    ensures { (symbols : List ℤ) (start : ℕ) (levels : List ℕ) (potentials : List (List ℕ))
+        → IsCertificate symbols start levels potentials → NoneCostsLess 1 symbols levels }
+{}
+
+/// The least path and the least costs are a certificate.
+pub fn certifies()
+    ensures { (symbols : List ℤ) (start : ℕ) (levels : List ℕ) (potentials : List (List ℕ))
+        → IsLeast 1 symbols start levels → ArePotentials 1 symbols potentials
+        → IsCertificate symbols start levels potentials }
+{}
+
+/// Where symbols are those of a path's levels, the least path costs nothing and has the same symbols.
+pub fn keeps_own_symbols()
+    ensures { (scale start found : ℕ) (levels others : List ℕ) → start < 4 → IsPath start levels
+        → IsLeast scale (map (symbol_at scale) levels) found others
+        → (cost scale (map (symbol_at scale) levels) others ≡ 0)
+        × (map (symbol_at scale) others ≡ map (symbol_at scale) levels) }
+{}
+
+/// There is one least path over symbols, the one that the function gives.
+pub fn one_least_path()
+    ensures found { (scale : ℕ) (symbols : List ℤ)
+        → IsLeast scale symbols (least_start scale symbols) (least_levels scale symbols) }
+    ensures one { (scale : ℕ) (symbols : List ℤ) (start : ℕ) (levels : List ℕ) → IsLeast scale symbols start levels
+        → least_path scale symbols ≡ start ∷ levels }
+{}
+
+/// Segments of 832 symbols each that were softened are what the function gives.
+pub fn one_softening()
+    ensures { (scale : ℕ) (old new : List (List ℤ)) → IsSoftened scale old new
+        → ((i : ℕ) → i < length new → length (slice_index_or new i []) ≡ SEGMENT) → new ≡ softened scale old }
+{}
+
+/// What the least paths of a field cost at most, where its symbols are signed bytes: none is off a level by more than
+/// 135, and each coder has 21,528.
+pub fn costs_are_small()
+    ensures { (old new : List (List ℤ)) → length old ≤ FIELD_PACKETS → AreSigned old → IsSoftened 1 old new
+        → costs old new CODERS ≤ 12 * (21528 * 18225) }
+{}
+
+/// Segments of 832 symbols each in which each coder's symbols are those of a path's own levels stay as they are, and
+/// their least paths cost nothing.
+pub fn keeps_own_field()
+    ensures { (scale : ℕ) (segments : List (List ℤ))
+        → ((i : ℕ) → i < length segments → length (slice_index_or segments i []) ≡ SEGMENT)
+        → ((e : ℕ) → e < CODERS → IsOwn scale (symbols_of segments e))
+        → (softened scale segments ≡ segments) × (softened_cost scale segments ≡ 0) }
+{}
+
+/// The levels of a trellis coder are a path, whatever its precoder adds. `a` has the higher bits of its pairs and `b`
+/// the lower ones.
+pub fn coder_takes_a_path()
+    ensures { (q : State) (a b : List ℕ) → AreBits q → ((t : ℕ) → t < length a → slice_index b t < 2)
+        → IsPath (2 * q.q1 + q.q0) (map (level q a b) (range_with_len 0 (length a))) }
+{}

@@ -1,0 +1,20 @@
+//! Soft decoding of the twelve trellis coders: of all paths the one whose levels lie nearest to the symbols.
+#![tactic(auto)]
+
+mod certificate;
+mod coders;
+mod field;
+pub mod laws;
+mod nearest;
+mod soft;
+mod table;
+mod walk;
+mod walker;
+
+pub use certificate::proves;
+pub use nearest::MAX_SCALE;
+pub use soft::Soft;
+pub use walk::{Found, MAX_SYMBOLS};
+
+#[cfg(test)]
+mod tests;

@@ -1,0 +1,119 @@
+//! For each symbol and each two levels with one next state, the nearer one.
+
+ghost use Rattle.std.specs.Prelude.{◌≡◌, ◌<◌, ◌≤◌, pos, ◌+ℤ◌, ◌≤ℤ◌, IfOk, length};
+ghost use Rattle.dtx_soft.specs.Paths.{squared, symbol_at};
+ghost use Rattle.dtx_soft.specs.Nearest.{AreNearest, IsNearest, IsTable, IsTie};
+
+use std::alloc::{AllocError, Global};
+
+/// How many levels there are.
+pub(crate) const LEVELS: u8 = 8;
+
+/// The greatest scale. At it the symbols of all levels are signed bytes.
+pub const MAX_SCALE: u8 = 18;
+
+/// The greatest square of what a symbol is off a level, (128 + 7 * 18)^2.
+pub(crate) const MAX_SQUARE: u32 = 64_516;
+
+/// Of each two levels z and z + 4, for z below 4, the one nearest to a symbol, and the square of what the symbol is off
+/// it. Where both are as near it is z. For z = 0 and z = 1 a tie is 1 where the level of z + 2 comes before that of z,
+/// and else 0.
+#[derive(Clone, Copy, Drop)]
+pub(crate) struct Nearest {
+    pub(crate) levels: [u8; 4],
+    pub(crate) squares: [u32; 4],
+    pub(crate) ties: [u32; 2],
+    /// Fills the row up to 32 bytes, so that it is found by a shift.
+    filler: u32,
+}
+
+/// How many symbols there are, from -128 to 127.
+const SYMBOLS: usize = 256;
+
+/// The rows of all symbols; that of symbol v is number v + 128.
+pub(crate) fn rows_of(alloc: Global, scale: u8) -> Result<Vec<Nearest>, AllocError>
+    requires { scale ≤ MAX_SCALE }
+    ensures { IfOk result (λ rows. IsTable scale rows.items) }
+{
+    let empty = Nearest {
+        levels: [0; 4],
+        squares: [0; 4],
+        ties: [0; 2],
+        filler: 0,
+    };
+    let mut rows = vec![in alloc; empty; SYMBOLS]?;
+    fill(&mut rows[..], scale);
+    Ok(rows)
+}
+
+/// Writes the rows of all symbols.
+fn fill(rows: &mut [Nearest], scale: u8)
+    requires scale { scale ≤ MAX_SCALE }
+    requires long { length rows.old ≡ SYMBOLS }
+    ensures { IsTable scale rows.new }
+{
+    for n in 0..SYMBOLS {
+        rows[n] = row(scale, (n as i16 - 128) as i8);
+    }
+}
+
+/// The row of a symbol.
+fn row(scale: u8, symbol: i8) -> Nearest
+    requires { scale ≤ MAX_SCALE }
+    ensures { AreNearest scale symbol result }
+{
+    let first = nearer(scale, symbol, 0);
+    let second = nearer(scale, symbol, 1);
+    let third = nearer(scale, symbol, 2);
+    let fourth = nearer(scale, symbol, 3);
+    Nearest {
+        levels: [first.0, second.0, third.0, fourth.0],
+        squares: [first.1, second.1, third.1, fourth.1],
+        ties: [tie(first.0, third.0), tie(second.0, fourth.0)],
+        filler: 0,
+    }
+}
+
+/// 1 where another level comes before a level in order.
+fn tie(level: u8, other: u8) -> u32
+    ensures { IsTie level other result }
+{
+    if other < level { 1 } else { 0 }
+}
+
+/// Of z and z + 4 the level that is nearest to a symbol, and the square of what the symbol is off it.
+fn nearer(scale: u8, symbol: i8, z: u8) -> (u8, u32)
+    requires scale { scale ≤ MAX_SCALE }
+    requires pair { z < 4 }
+    ensures { IsNearest scale symbol z result.0 result.1 }
+{
+    let low = squared_distance(scale, symbol, z);
+    let high = squared_distance(scale, symbol, z + 4);
+    if high < low { (z + 4, high) } else { (z, low) }
+}
+
+/// The square of what a symbol is off level z.
+#[tactic(auto, unfolding(crate::specs::Paths::squared))]
+pub(crate) fn squared_distance(scale: u8, symbol: i8, z: u8) -> u32
+    requires scale { scale ≤ MAX_SCALE }
+    requires level { z < LEVELS }
+    ensures square { result ≡ squared symbol (symbol_at scale z) }
+    ensures small { result ≤ MAX_SQUARE }
+{
+    let off = (symbol as i16 - symbol_at(scale, z)).unsigned_abs() as u32;
+    off * off
+}
+
+/// The symbol of level z, which is 2 * z - 7 at scale 1.
+#[tactic(auto, unfolding(crate::specs::Paths::symbol_at))]
+pub(crate) fn symbol_at(scale: u8, z: u8) -> i16
+    requires scale { scale ≤ MAX_SCALE }
+    requires level { z < LEVELS }
+    ensures symbol { result ≡ symbol_at scale z }
+    ensures from { pos 0 ≤ℤ (result +ℤ pos 126) }
+    ensures to { result ≤ℤ pos 126 }
+{
+    let up = scale as u16 * (2 * z as u16);
+    let down = scale as u16 * 7;
+    up as i16 - down as i16
+}

@@ -1,0 +1,107 @@
+//! The soft decoder.
+
+ghost use Rattle.std.specs.Prelude.{◌≡◌, ℕ, ◌+◌, ◌*◌, ◌%◌, ◌<◌, ◌≤◌, EachIndex, IfOk, length, slice_index};
+ghost use Rattle.dtx_soft.specs.Paths.{cost};
+ghost use Rattle.dtx_soft.specs.Least.{ArePotentials, IsLeast};
+ghost use Rattle.dtx_soft.specs.Coders.{IsSoftened, costs, symbols_of};
+ghost use Rattle.dtx_soft.specs.Decoder.{new_decoder};
+
+use crate::field::soften;
+use crate::nearest::MAX_SCALE;
+use crate::walk::{Found, MAX_SYMBOLS};
+use crate::walker::Walker;
+use dtx_sizes::{CODERS, FIELD_PACKETS, SEGMENT, SEGMENT_ROUNDS};
+use std::alloc::{AllocError, Global};
+use std::marker::Model;
+
+/// Decodes the symbols of a trellis coder: of all paths it finds the one whose levels lie nearest to them, in the sum
+/// of the squares (ATSC A/53 Part 2, trellis coding). It is seen as the scale of its levels and the potentials of the
+/// symbols that it decoded last.
+#[derive(Drop)]
+pub struct Soft {
+    walker: Walker,
+    entries: usize,
+    symbols: Vec<i8>,
+    levels: Vec<u8>,
+}
+
+impl Model for Soft {
+    ghost use Rattle.std.specs.Prelude.{◌≡◌, ◌≤◌, take, vec_len};
+    ghost use Rattle.dtx_soft.specs.declared.walk.TheConstants.{MAX_SYMBOLS};
+    ghost use Rattle.dtx_soft.specs.declared.walker.TheConstants.{ENTRIES};
+    ghost use Rattle.dtx_soft.specs.Decoder.{Decoder};
+
+    ghost Value = { Decoder };
+
+    ghost view = { λ s. record {
+      scale = s.walker.table.scale;
+      potentials = take s.entries s.walker.potentials.items;
+    } };
+
+    ghost invariant = { λ s. (s.entries ≤ ENTRIES) × (vec_len s.symbols ≡ MAX_SYMBOLS)
+        × (vec_len s.levels ≡ MAX_SYMBOLS) };
+}
+
+impl Soft {
+    /// A decoder of symbols at the standard's levels, which are 2 * z - 7 for z from 0 to 7.
+    pub fn new(alloc: Global) -> Result<Soft, AllocError>
+        ensures { IfOk result (λ soft. soft ≡ new_decoder 1) }
+    {
+        Soft::scaled(alloc, 1)
+    }
+
+    /// A decoder of symbols at so many times the standard's levels.
+    pub fn scaled(alloc: Global, scale: u8) -> Result<Soft, AllocError>
+        requires { scale ≤ MAX_SCALE }
+        ensures { IfOk result (λ soft. soft ≡ new_decoder scale) }
+    {
+        Ok(Soft {
+            walker: Walker::new(alloc, scale)?,
+            entries: 0,
+            symbols: vec![in alloc; 0i8; MAX_SYMBOLS]?,
+            levels: vec![in alloc; 0u8; MAX_SYMBOLS]?,
+        })
+    }
+
+    /// Writes the levels of the least path over a coder's symbols, and answers its cost and start.
+    pub fn best(&mut self, symbols: &[i8], levels: &mut [u8]) -> Found
+        requires few { length symbols.now ≤ MAX_SYMBOLS }
+        requires room { length levels.old ≡ length symbols.now }
+        ensures least { IsLeast self.old.scale symbols.now result.start levels.new }
+        ensures cost { result.cost ≡ cost self.old.scale symbols.now levels.new }
+        ensures small { EachIndex levels.new (λ t. slice_index levels.new t < 8) }
+        ensures potentials { ArePotentials self.old.scale symbols.now self.new.potentials }
+        ensures scale { self.new.scale ≡ self.old.scale }
+    {
+        self.entries = symbols.len() + 1;
+        self.walker.find(symbols, levels)
+    }
+
+    /// One entry more than there were symbols: entry t has for each state the least cost of a path over the symbols
+    /// from t on. Before any symbols it is empty.
+    pub fn potentials(&self) -> &[[u32; 4]]
+        ensures { result.now ≡ self.now.potentials }
+    {
+        &self.walker.potentials[..self.entries]
+    }
+
+    /// Replaces the symbols of each of the twelve coders by those of their least path, in the first data segments of a
+    /// field, and answers the sum of what the twelve paths cost. Behind it the potentials are those of coder 11's
+    /// symbols as they were given.
+    pub fn field(&mut self, segments: &mut [[i8; SEGMENT]]) -> u64
+        requires whole { length segments.old % 4 ≡ 0 }
+        requires few { length segments.old ≤ FIELD_PACKETS }
+        ensures segments { IsSoftened self.old.scale segments.old segments.new }
+        ensures cost { result ≡ costs segments.old segments.new CODERS }
+        ensures potentials { ArePotentials self.old.scale (symbols_of segments.old 11) self.new.potentials }
+        ensures scale { self.new.scale ≡ self.old.scale }
+    {
+        self.entries = SEGMENT_ROUNDS * segments.len() + 1;
+        soften(
+            &mut self.walker,
+            &mut self.symbols,
+            &mut self.levels,
+            segments,
+        )
+    }
+}

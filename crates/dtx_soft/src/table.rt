@@ -1,0 +1,38 @@
+//! The rows of all symbols at one scale.
+
+ghost use Rattle.std.specs.Prelude.{◌≡◌, ◌≤◌, IfOk};
+ghost use Rattle.dtx_soft.specs.Nearest.{AreNearest, IsTable};
+ghost use Rattle.dtx_soft.specs.declared.nearest.TheConstants.{MAX_SCALE};
+
+use crate::nearest::{MAX_SCALE, Nearest, rows_of};
+use std::alloc::{AllocError, Global};
+
+/// For each symbol the nearer of each two levels with one next state.
+#[derive(Drop)]
+pub(crate) struct Table {
+    pub(crate) scale: u8,
+    rows: Vec<Nearest>,
+    ghost small: { scale ≤ MAX_SCALE },
+    ghost right: { IsTable scale rows.items },
+}
+
+impl Table {
+    /// The table for levels at a scale.
+    pub(crate) fn new(alloc: Global, scale: u8) -> Result<Table, AllocError>
+        requires { scale ≤ MAX_SCALE }
+        ensures { IfOk result (λ table. table.scale ≡ scale) }
+    {
+        Ok(Table {
+            scale,
+            rows: rows_of(alloc, scale)?,
+        })
+    }
+
+    /// The row of a symbol.
+    #[inline(always)]
+    pub(crate) fn row(&self, symbol: i8) -> &Nearest
+        ensures { AreNearest self.now.scale symbol result.now }
+    {
+        &self.rows[(symbol as i16 + 128) as usize]
+    }
+}

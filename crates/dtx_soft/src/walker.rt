@@ -1,0 +1,67 @@
+//! The tables of a soft decoder.
+
+ghost use Rattle.std.specs.Prelude.{◌≡◌, ℕ, ◌+◌, ◌*◌, ◌<◌, ◌≤◌, EachIndex, IfOk, length, slice_index, vec_len};
+ghost use Rattle.dtx_soft.specs.Paths.{cost};
+ghost use Rattle.dtx_soft.specs.Least.{HoldPotentials, IsLeast};
+ghost use Rattle.dtx_soft.specs.declared.walker.TheConstants.{ENTRIES};
+
+use crate::nearest::{LEVELS, MAX_SCALE};
+use crate::table::Table;
+use crate::walk::{Found, MAX_SYMBOLS, find};
+use std::alloc::{AllocError, Global};
+
+/// How many entries the table of potentials has, one more than there may be symbols.
+pub(crate) const ENTRIES: usize = MAX_SYMBOLS + 1;
+
+/// The nearer levels of each symbol, and the potentials of the symbols that were decoded last.
+#[derive(Drop)]
+pub(crate) struct Walker {
+    pub(crate) table: Table,
+    pub(crate) potentials: Vec<[u32; 4]>,
+    ghost room: { vec_len potentials ≡ ENTRIES },
+}
+
+impl Walker {
+    /// Tables for levels at a scale.
+    pub(crate) fn new(alloc: Global, scale: u8) -> Result<Walker, AllocError>
+        requires { scale ≤ MAX_SCALE }
+        ensures { IfOk result (λ walker. walker.table.scale ≡ scale) }
+    {
+        Ok(Walker {
+            table: Table::new(alloc, scale)?,
+            potentials: vec![in alloc; [0u32; 4]; ENTRIES]?,
+        })
+    }
+
+    /// Finds the least path over symbols, and writes its levels, and the potentials to the front of their table.
+    pub(crate) fn find(&mut self, symbols: &[i8], levels: &mut [u8]) -> Found
+        requires few { length symbols.now ≤ MAX_SYMBOLS }
+        requires room { length levels.old ≡ length symbols.now }
+        ensures least { IsLeast self.old.table.scale symbols.now result.start levels.new }
+        ensures cost { result.cost ≡ cost self.old.table.scale symbols.now levels.new }
+        ensures small { EachIndex levels.new (λ t. slice_index levels.new t < LEVELS) }
+        ensures potentials { HoldPotentials self.old.table.scale symbols.now self.new.potentials.items }
+        ensures table { self.new.table ≡ self.old.table }
+    {
+        find_into(&self.table, symbols, &mut self.potentials, levels)
+    }
+}
+
+/// Writes the potentials to a list.
+fn find_into(
+    table: &Table,
+    symbols: &[i8],
+    potentials: &mut Vec<[u32; 4]>,
+    levels: &mut [u8],
+) -> Found
+    requires few { length symbols.now ≤ MAX_SYMBOLS }
+    requires entries { vec_len potentials.old ≡ ENTRIES }
+    requires room { length levels.old ≡ length symbols.now }
+    ensures least { IsLeast table.now.scale symbols.now result.start levels.new }
+    ensures cost { result.cost ≡ cost table.now.scale symbols.now levels.new }
+    ensures small { EachIndex levels.new (λ t. slice_index levels.new t < LEVELS) }
+    ensures potentials { HoldPotentials table.now.scale symbols.now potentials.new.items }
+    ensures entries { vec_len potentials.new ≡ ENTRIES }
+{
+    find(table, symbols, &mut potentials[..], levels)
+}
