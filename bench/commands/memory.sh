@@ -1,7 +1,8 @@
 #!/usr/bin/env bash
 # Measures how much memory each command holds at most, over a stream of 31,200 packets, and the program where no words are given: each the
 # least of five runs, since where the loader puts the program and its stack changes it by up to 250 kB. It needs 60 MB on the disk of
-# temporary files. The status is 0 where each is at most its bar, which is what the commands held when each had a loop of its own.
+# temporary files. The status is 0 where each is at most its bar, which is what the commands held when each had a loop of its own; of `soft`,
+# which holds a field, 12 MB, and of the other outer coding what `adapt` and `receive` may hold.
 
 set -eu
 rounds=5
@@ -50,4 +51,7 @@ within 2188 receive in.sym out.ts
 within 1568 make 1 $packets out.ts
 within 1944 hurt in.ts damage.toml out.ts
 within 2132 net net.toml
+within 12288 soft in.sym out.sym
+within 2140 dvb code in.ts in.dvb
+within 2188 dvb read in.dvb out.ts
 exit $status
