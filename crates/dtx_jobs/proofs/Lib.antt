@@ -12,5 +12,6 @@ pub mod PlacedCounts
 pub mod PlacedPackets
 pub mod PlacedTally
 pub mod SmallFile
+pub mod SoftRuns
 pub mod StreamSymbols
 pub mod Tallied

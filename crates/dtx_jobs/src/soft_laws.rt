@@ -1,9 +1,20 @@
 //! Laws of what `soft` makes.
 
-ghost use Rattle.std.specs.Prelude.{◌≡◌, ◌++◌, ℤ, List};
+ghost use Rattle.std.specs.Prelude.{◌≡◌, ◌<◌, ◌++◌, ℕ, ℤ, List, [], length, map, slice_index_or, take};
+ghost use Rattle.dtx_receiver.specs.Runs.{runs, tracking};
 ghost use Rattle.dtx_jobs.specs.Soft.{soft_rest, soft_so_far, soft_symbols};
 
 /// What is made of segments so far, with what their end adds, is all.
 pub fn all_is_made()
     ensures { (segments : List (List ℤ)) → soft_so_far segments ++ soft_rest segments ≡ soft_symbols segments }
+{}
+
+/// The runs of what is made are those of the segments: as many, each as long, and each segment of the output is told to
+/// be what it was in the input, so that runs begin, go on and end at the same segments.
+pub fn runs_stay()
+    ensures lengths { (segments : List (List ℤ)) → map length (runs (soft_symbols segments))
+        ≡ map length (runs segments) }
+    ensures tracking { (segments : List (List ℤ)) (i : ℕ) → i < length segments
+        → tracking (take i (soft_symbols segments)) (slice_index_or (soft_symbols segments) i [])
+        ≡ tracking (take i segments) (slice_index_or segments i []) }
 {}
