@@ -13,5 +13,7 @@ pub mod PlacedPackets
 pub mod PlacedTally
 pub mod SmallFile
 pub mod SoftRuns
+pub mod SoftStays
+pub mod SoftStream
 pub mod StreamSymbols
 pub mod Tallied

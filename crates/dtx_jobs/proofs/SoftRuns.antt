@@ -1,7 +1,7 @@
 -- The runs of what `soft` makes are those of its segments: it copies each segment that may begin or end a run.
 use Rattle.std.proofs.Common.{◌≡◌, ℕ, ℤ, zero, suc, ◌+◌, ◌%◌, ◌<◌, ◌≤◌, ◌==◌, Bool, true, false, cond}
-use Rattle.std.proofs.Common.{Option, Some, None, option_map, List, [], ◌∷◌, ◌++◌, length, map, take, get_or, refl, sym, ap}
-use Rattle.std.proofs.Common.{ap₂, ◌∙◌, ◌-◌, subst₂, arith}
+use Rattle.std.proofs.Common.{Option, Some, None, option_map, List, [], ◌∷◌, ◌++◌, length, map, take, get_or, refl, sym}
+use Rattle.std.proofs.Common.{ap, ap₂, ◌∙◌, ◌-◌, subst₂, arith}
 use Rattle.std.specs.Prelude.{option_to_list}
 use Rattle.std.proofs.lemmas.List.{length_push, map-append, take_more, take_all}
 use Rattle.std.proofs.lemmas.List.FromFn.{get_or-map-range_with_len, length-map-range_with_len}
@@ -33,7 +33,8 @@ where_due q false e h = cc
 abbrev outcome : Bool → Bool → List (List (List ℤ)) → List (List ℤ) → List ℤ → Tracked
 outcome due looks ended run x =
     cond due
-    (cond looks (record { ended = ended; run = Some (run ++ x ∷ []) }) (record { ended = ended ++ run ∷ []; run = None }))
+    (cond looks (record { ended = ended; run = Some (run ++ x ∷ []) })
+    (record { ended = ended ++ run ∷ []; run = None }))
     (record { ended = ended; run = Some (run ++ x ∷ []) })
 
 -- one segment further
@@ -133,8 +134,8 @@ alike s (suc i) l =
 
 all_alike : (s : List (List ℤ)) → AreAlike (tracked (soft_symbols s)) (tracked s)
 all_alike s =
-    subst₂ (λ t u. AreAlike (tracked t) (tracked u)) (take_all (length s) (soft_symbols s) (omega (arith, soft_length s)))
-    (take_all (length s) s (omega arith)) (alike s (length s) (omega arith))
+    subst₂ (λ t u. AreAlike (tracked t) (tracked u))
+    (take_all (length s) (soft_symbols s) (omega (arith, soft_length s))) (take_all (length s) s (omega arith)) (alike s (length s) (omega arith))
 
 -- as many runs, of the same lengths
 pub soft_runs : (s : List (List ℤ)) → map length (runs (soft_symbols s)) ≡ map length (runs s)
