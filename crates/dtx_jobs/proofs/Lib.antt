@@ -12,5 +12,8 @@ pub mod PlacedCounts
 pub mod PlacedPackets
 pub mod PlacedTally
 pub mod SmallFile
+pub mod SoftRuns
+pub mod SoftStays
+pub mod SoftStream
 pub mod StreamSymbols
 pub mod Tallied

@@ -133,7 +133,7 @@ field_soft s first n h =
     ∙ ap (λ k. get_or (flushed rows) k []) (sym same)))
     ∙ sym (fill_by_all (λ j. get_or (flushed rows) j []) (flushed rows) n [] long (λ k l. refl))
 
-none_counts : (f : ℕ → ℕ) (a n : ℕ) → ((i : ℕ) → a ≤ i → i < a + n → f i ≡ 0) → sum (map f (range_with_len a n)) ≡ 0
+pub none_counts : (f : ℕ → ℕ) (a n : ℕ) → ((i : ℕ) → a ≤ i → i < a + n → f i ≡ 0) → sum (map f (range_with_len a n)) ≡ 0
 none_counts f a zero h = refl
 none_counts f a (suc n) h =
     let first = h a (omega arith) (omega arith) in

@@ -1,0 +1,137 @@
+-- `soft` leaves the segments of a stream as they are.
+use Rattle.std.proofs.Common.{◌≡◌, ℕ, ℤ, zero, suc, ◌+◌, ◌-◌, ◌*◌, ◌/◌, ◌%◌, ◌<◌, ◌≤◌, ◌⊎◌, inl, inr, Bool, true, cond}
+use Rattle.std.proofs.Common.{Option, Some, None, List, [], ◌∷◌, ◌++◌, length, take, drop, get_or, min, refl, sym, ap, ◌∙◌}
+use Rattle.std.proofs.Common.{arith}
+use Rattle.std.proofs.lemmas.Bool.{cases_lt}
+use Rattle.std.proofs.lemmas.List.{get_or-drop, get_or-take, get_or_default, get_or_past, length-take, take_more}
+use Rattle.std.proofs.lemmas.List.FromFn.{fill_by_all}
+use Rattle.dtx_frame.specs.AlikeLaws.{looks_alike}
+use Rattle.dtx_frame.specs.Detection.{looks_like}
+use Rattle.dtx_coder.specs.CountsLaws.{a53_segment}
+use Rattle.dtx_coder.specs.Stream.{a53}
+use Rattle.dtx_chain.specs.PlacesLaws.{sync_at_place}
+use Rattle.dtx_soft.specs.Coders.{symbols_of}
+use Rattle.dtx_soft.specs.Softened.{IsOwn, softened, softened_cost}
+use Rattle.dtx_jobs.specs.Soft.{count_from, counted, in_groups, next_place, place_at, soft_at, soft_from, soft_symbols}
+use Rattle.dtx_jobs.specs.SoftLaws.{none_counts}
+use Rattle.dtx_jobs.specs.SoftPlacesLaws.{place_copied, place_ends, place_first, place_on}
+use Rattle.dtx_jobs.proofs.SoftStream.{TakesPaths, count, field_at, field_own, length-field}
+
+-- ---- places
+
+-- a field sync stands wherever one is due in a run that begins with the first segment
+abbrev IsInStep : List (List ℤ) → Type 0
+IsInStep s = (i : ℕ) → i < length s → i % 313 ≡ 0 → looks_like (get_or s i []) ≡ true
+
+abbrev place_of : ℕ → Option ℕ
+place_of zero = None
+place_of (suc p) = Some p
+
+in_step : (s : List (List ℤ)) → IsInStep s → (i : ℕ) → i ≤ length s → next_place (take i s) ≡ place_of (i % 313)
+in_step s h zero l = place_first
+in_step s h (suc i) l =
+    let next : suc i ≡ i + 1 = omega arith in
+    ap (λ n. next_place (take n s)) next ∙ ap next_place (take_more s i [] (omega arith))
+    ∙ by_place (i % 313) refl (in_step s h i (omega arith))
+  where
+    by_end : (p : ℕ) → i % 313 ≡ suc p → next_place (take i s) ≡ Some p → (p + 1 < 312) ⊎ (312 ≤ p + 1)
+        → next_place (take i s ++ get_or s i [] ∷ []) ≡ place_of (suc i % 313)
+    by_end p e before (inl k) =
+        let further : suc i % 313 ≡ suc (p + 1) = omega (arith, e) in
+        place_on (take i s) (get_or s i []) p before k ∙ ap place_of (sym further)
+    by_end p e before (inr k) =
+        let last : p ≡ 311 = omega (arith, e) in
+        let around : suc i % 313 ≡ 0 = omega (arith, e) in
+        place_ends (take i s) (get_or s i []) (before ∙ ap Some last) ∙ ap place_of (sym around)
+
+    by_place : (n : ℕ) → i % 313 ≡ n → next_place (take i s) ≡ place_of (i % 313)
+        → next_place (take i s ++ get_or s i [] ∷ []) ≡ place_of (suc i % 313)
+    by_place zero e before =
+        let first : suc i % 313 ≡ 1 = omega (arith, e) in
+        place_copied (take i s) (get_or s i []) (before ∙ ap place_of e)
+        ∙ ap (λ (b : Bool). cond b (Some 0) None) (h i (omega arith) e) ∙ ap place_of (sym first)
+    by_place (suc p) e before = by_end p e (before ∙ ap place_of e) (cases_lt (p + 1) 312)
+
+stream_in_step : (ps : List (List ℕ)) → IsInStep (a53 ps)
+stream_in_step ps i l e = (let sync = sync_at_place ps i l e in ap looks_like sync.2 ∙ looks_alike sync.0 sync.1)
+
+-- ---- fields
+
+-- that a field whose symbols are paths' own stays
+abbrev KeepsOwn : Type 0
+KeepsOwn = (scale : ℕ) (segments : List (List ℤ))
+    → ((i : ℕ) → i < length segments → length (get_or segments i []) ≡ 832)
+    → ((e : ℕ) → e < 12 → IsOwn scale (symbols_of segments e))
+    → (softened scale segments ≡ segments) × (softened_cost scale segments ≡ 0)
+
+field_stays : TakesPaths → KeepsOwn → (ps : List (List ℕ)) (f : ℕ) → 313 * f + 1 ≤ length (a53 ps)
+    → (softened 1 (in_groups (a53 ps) (313 * f + 1)) ≡ in_groups (a53 ps) (313 * f + 1))
+    × (softened_cost 1 (in_groups (a53 ps) (313 * f + 1)) ≡ 0)
+field_stays takes keeps ps f l =
+    keeps 1 (in_groups (a53 ps) (313 * f + 1)) (λ i m. row i (omega (arith, m, length-field ps f l)))
+    (λ e m. field_own takes ps f e l m)
+  where
+    row : (i : ℕ) → i < count ps f → length (get_or (in_groups (a53 ps) (313 * f + 1)) i []) ≡ 832
+    row i m = ap length (field_at ps f i m) ∙ a53_segment ps (313 * f + 1 + i) (omega (arith, m))
+
+-- an entry of a part, with that of the whole where the part has none
+kept : {X : Type 0} (n first p i : ℕ) (xs : List X) (d : X) → first + p ≡ i → i < length xs
+    → get_or (take n (drop first xs)) p (get_or xs i d) ≡ get_or xs i d
+kept n first p i xs d e l = by_place (cases_lt p n)
+  where
+    by_place : (p < n) ⊎ (n ≤ p) → get_or (take n (drop first xs)) p (get_or xs i d) ≡ get_or xs i d
+    by_place (inl m) =
+        get_or-take n (drop first xs) p (get_or xs i d) m ∙ get_or-drop first xs p (get_or xs i d)
+        ∙ ap (λ k. get_or xs k (get_or xs i d)) e ∙ get_or_default xs i (get_or xs i d) d l
+    by_place (inr m) =
+        get_or_past (take n (drop first xs)) p (get_or xs i d) (omega (arith, m, length-take n (drop first xs)))
+
+kept_groups : (s : List (List ℤ)) (first p i : ℕ) → first + p ≡ i → i < length s
+    → get_or (in_groups s first) p (get_or s i []) ≡ get_or s i []
+unfolding in_groups
+kept_groups s first p i e l = kept (4 * (min 312 (length s - first) / 4)) first p i s [] e l
+
+-- ---- all segments
+
+stays_at : TakesPaths → KeepsOwn → (ps : List (List ℕ)) (i : ℕ) → i < length (a53 ps)
+    → soft_at (a53 ps) i ≡ get_or (a53 ps) i []
+unfolding soft_at
+stays_at takes keeps ps i l =
+    ap (soft_from (a53 ps) i) (in_step (a53 ps) (stream_in_step ps) i (omega arith)) ∙ by_place (i % 313) refl
+  where
+    by_place : (n : ℕ) → i % 313 ≡ n → soft_from (a53 ps) i (place_of n) ≡ get_or (a53 ps) i []
+    by_place zero e = refl
+    by_place (suc p) e =
+        let first : i - p ≡ 313 * (i / 313) + 1 = omega (arith, e) in
+        let there : 313 * (i / 313) + 1 + p ≡ i = omega (arith, e) in
+        ap (λ n. get_or (softened 1 (in_groups (a53 ps) n)) p (get_or (a53 ps) i [])) first
+        ∙ ap (λ (rows : List (List ℤ)). get_or rows p (get_or (a53 ps) i []))
+        (field_stays takes keeps ps (i / 313) (omega (arith, there, l))).0
+        ∙ kept_groups (a53 ps) (313 * (i / 313) + 1) p i there l
+
+pub stream_stays : TakesPaths → KeepsOwn → (ps : List (List ℕ)) → soft_symbols (a53 ps) ≡ a53 ps
+unfolding soft_symbols
+stream_stays takes keeps ps =
+    sym (fill_by_all (soft_at (a53 ps)) (a53 ps) (length (a53 ps)) [] refl
+    (λ i l. sym (stays_at takes keeps ps i l)))
+
+costs_nothing_at : TakesPaths → KeepsOwn → (ps : List (List ℕ)) (i : ℕ) → i < length (a53 ps)
+    → count_from (softened_cost 1) (a53 ps) i (place_at (a53 ps) i) ≡ 0
+costs_nothing_at takes keeps ps i l =
+    ap (count_from (softened_cost 1) (a53 ps) i) (in_step (a53 ps) (stream_in_step ps) i (omega arith))
+    ∙ by_place (i % 313) refl
+  where
+    by_place : (n : ℕ) → i % 313 ≡ n → count_from (softened_cost 1) (a53 ps) i (place_of n) ≡ 0
+    by_place zero e = refl
+    by_place (suc zero) e =
+        let first : i ≡ 313 * (i / 313) + 1 = omega (arith, e) in
+        ap (λ n. softened_cost 1 (in_groups (a53 ps) n)) first
+        ∙ (field_stays takes keeps ps (i / 313) (omega (arith, first, l))).1
+    by_place (suc (suc p)) e = refl
+
+pub stream_costs_nothing : TakesPaths → KeepsOwn → (ps : List (List ℕ))
+    → counted (softened_cost 1) (a53 ps) (length (a53 ps)) ≡ 0
+unfolding counted
+stream_costs_nothing takes keeps ps =
+    none_counts (λ i. count_from (softened_cost 1) (a53 ps) i (place_at (a53 ps) i)) 0 (length (a53 ps))
+    (λ i l m. costs_nothing_at takes keeps ps i (omega (arith, m)))

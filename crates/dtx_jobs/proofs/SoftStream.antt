@@ -1,0 +1,231 @@
+-- What `soft` makes of the segments of a stream: each coder's symbols in a field are those of a path's own levels.
+use Rattle.std.proofs.Common.{◌≡◌, ℕ, ℤ, pos, ◌+◌, ◌-◌, ◌*◌, ◌/◌, ◌%◌, ◌<◌, ◌≤◌, ◌-ℤ◌, List}
+use Rattle.std.proofs.Common.{[], ◌++◌, length, map, take, drop, get_or, min, sym, ap, ap₂, ◌∙◌, subst, arith}
+use Rattle.std.specs.List.{range_with_len}
+use Rattle.std.proofs.Math.Seq.{take-add}
+use Rattle.std.proofs.lemmas.Simd.{map-map}
+use Rattle.std.proofs.lemmas.List.{get_or-append_right, get_or-drop, get_or-map, get_or-take, length-drop}
+use Rattle.std.proofs.lemmas.List.{length-take-le}
+use Rattle.std.proofs.lemmas.List.FromFn.{fill_by_all, get_or-map-range_with_len, length-map-range_with_len}
+use Rattle.dtx_trellis.specs.Trellis.{AreBits, State, level, state_after, state_of}
+use Rattle.dtx_trellis.specs.Pairs.{coder_at, groups, higher, lower}
+use Rattle.dtx_trellis.specs.Groups.{level_at, levels_of}
+use Rattle.dtx_trellis.specs.CodersLaws.{coder_is, length_higher, length_lower}
+use Rattle.dtx_trellis.specs.GoesOnLaws.{after_bits, level_goes_on, same_levels}
+use Rattle.dtx_trellis.specs.JoinsLaws.{groups_whole}
+use Rattle.dtx_trellis.specs.RoundsLaws.{bits_of}
+use Rattle.dtx_slice.specs.InverseLaws.{lower_bit, place_within}
+use Rattle.dtx_slice.specs.Unrolled.{symbol_place}
+use Rattle.dtx_frame.specs.Segments.{data_segment, segment_sync, symbol_of}
+use Rattle.dtx_frame.specs.SymbolsLaws.{length_sync}
+use Rattle.dtx_coder.specs.BytesLaws.{length-whole}
+use Rattle.dtx_coder.specs.Coded.{whole_groups}
+use Rattle.dtx_coder.specs.CountsLaws.{length-a53}
+use Rattle.dtx_coder.specs.LevelsLaws.{length-levels}
+use Rattle.dtx_coder.specs.SegmentsLaws.{segment_is}
+use Rattle.dtx_coder.specs.Stream.{a53, levels, segment, zero_states}
+use Rattle.dtx_chain.specs.PlacesLaws.{data_at_place}
+use Rattle.dtx_soft.specs.Coders.{data_symbol, symbols_of}
+use Rattle.dtx_soft.specs.Paths.{IsPath, symbol_at}
+use Rattle.dtx_soft.specs.Softened.{IsOwn}
+use Rattle.dtx_jobs.specs.Soft.{in_groups}
+
+-- ---- one coder
+
+-- that a coder's levels are a path
+abbrev pub TakesPaths : Type 0
+TakesPaths = (q : State) (a b : List ℕ) → AreBits q → ((t : ℕ) → t < length a → get_or b t 0 < 2)
+    → IsPath (2 * q.q1 + q.q0) (map (level q a b) (range_with_len 0 (length a)))
+
+-- n entries from entry r on
+abbrev part : {A : Type 0} → ℕ → ℕ → List A → List A
+part r n xs = take n (drop r xs)
+
+part_at : {A : Type 0} (r n i : ℕ) (xs : List A) (d : A) → i < n → get_or (part r n xs) i d ≡ get_or xs (r + i) d
+part_at r n i xs d l = get_or-take n (drop r xs) i d l ∙ get_or-drop r xs i d
+
+length-part : {A : Type 0} (r n : ℕ) (xs : List A) → r + n ≤ length xs → length (part r n xs) ≡ n
+length-part r n xs l = length-take-le n (drop r xs) (omega (arith, length-drop r xs))
+
+-- its levels from pair r on are those of the state that it is in then
+part_level : (q : State) (a b : List ℕ) (r n t : ℕ) → AreBits q → length a ≡ length b → r + n ≤ length a → t < n
+    → level q a b (r + t) ≡ level (state_after q (take r a) (take r b) r) (part r n a) (part r n b) t
+part_level q a b r n t h e l m =
+    same_levels q a b (take (r + n) a) (take (r + n) b) (r + t) h (record {
+      long = omega arith;
+      longer = omega (arith, length-take-le (r + n) a l);
+      higher = λ j k. sym (get_or-take (r + n) a j 0 (omega (arith, k)));
+      lower = λ j k. sym (get_or-take (r + n) b j 0 (omega (arith, k)));
+    })
+    ∙ ap₂ (λ x y. level q x y (r + t)) (take-add r n a) (take-add r n b)
+    ∙ ap (λ k. level q (take r a ++ part r n a) (take r b ++ part r n b) (k + t)) (sym front)
+    ∙ level_goes_on q (take r a) (take r b) (part r n a) (part r n b) t h
+    (front ∙ sym (length-take-le r b (omega (arith, e)))) (omega (arith, length-part r n a l))
+    ∙ ap (λ k. level (state_after q (take r a) (take r b) k) (part r n a) (part r n b) t) front
+  where
+    front : length (take r a) ≡ r
+    front = length-take-le r a (omega arith)
+
+-- symbols that are those of a part of its levels are a path's own
+part_own : TakesPaths → (q : State) (a b : List ℕ) (r n : ℕ) (symbols : List ℤ) → AreBits q → length a ≡ length b
+    → r + n ≤ length a → ((t : ℕ) → t < length a → get_or b t 0 < 2) → length symbols ≡ n
+    → ((t : ℕ) → t < n → get_or symbols t (pos 0) ≡ symbol_at 1 (level q a b (r + t)))
+    → IsOwn 1 symbols
+part_own takes q a b r n symbols h e l small long same = record {
+  start = 2 * own.q1 + own.q0;
+  levels = map (level own (part r n a) (part r n b)) (range_with_len 0 (length (part r n a)));
+  begins = (let m = bits.q1 in let k = bits.q0 in omega arith);
+  path = takes own (part r n a) (part r n b) bits (λ t m. small_part t (omega (arith, m, length-part r n a l)));
+  same = by_symbol;
+}
+  where
+    own : State
+    own = state_after q (take r a) (take r b) r
+
+    bits : AreBits (state_after q (take r a) (take r b) r)
+    bits = after_bits q (take r a) (take r b) r h (omega (arith, length-take-le r a (omega (arith, l))))
+
+    small_part : (t : ℕ) → t < n → get_or (part r n b) t 0 < 2
+    small_part t m = subst (λ x. x < 2) (sym (part_at r n t b 0 m)) (small (r + t) (omega (arith, l, m)))
+
+    by_symbol : symbols ≡ map (symbol_at 1)
+        (map (level (state_after q (take r a) (take r b) r) (part r n a) (part r n b))
+        (range_with_len 0 (length (part r n a))))
+    by_symbol =
+        fill_by_all (λ t. symbol_at 1 (level own (part r n a) (part r n b) t)) symbols (length (part r n a)) (pos 0)
+        (long ∙ sym (length-part r n a l))
+        (λ t m. let k : t < n = omega (arith, m, length-part r n a l) in
+        same t k ∙ ap (symbol_at 1) (part_level q a b r n t h e l k))
+        ∙ sym (map-map (symbol_at 1) (level own (part r n a) (part r n b)) (range_with_len 0 (length (part r n a))))
+
+-- ---- the symbols of a field
+
+turn_back : (x e : ℕ) → x < 3 → e < 12 → ((e + 12 - 4 * x) % 12 + 4 * x) % 12 ≡ e
+turn_back x e l m = omega arith
+
+place_coder : (r e : ℕ) → e < 12 → coder_at 0 (symbol_place 0 r e) ≡ e
+unfolding symbol_place
+place_coder r e l =
+    coder_is 0 r ((e + 12 - 4 * ((0 + r / 69) % 3)) % 12) (omega arith)
+    ∙ turn_back ((0 + r / 69) % 3) e (omega arith) l
+
+place_round : (r e : ℕ) → symbol_place 0 r e / 12 ≡ r
+unfolding symbol_place
+place_round r e = omega arith
+
+-- a field's first pairs stand behind 312 segments of each field before it
+place_further : (f t e : ℕ) → symbol_place 0 (21528 * f + t) e ≡ 828 * (312 * f) + symbol_place 0 t e
+unfolding symbol_place
+place_further f t e =
+    let same : (0 + (21528 * f + t) / 69) % 3 ≡ (0 + t / 69) % 3 = omega arith in
+    ap (λ x. 12 * (21528 * f + t) + (e + 12 - 4 * x) % 12) same
+    ∙ more ((e + 12 - 4 * ((0 + t / 69) % 3)) % 12)
+  where
+    more : (x : ℕ) → 12 * (21528 * f + t) + x ≡ 828 * (312 * f) + (12 * t + x)
+    more x = omega arith
+
+place_small : (t e n : ℕ) → t < 69 * n → symbol_place 0 t e < 828 * n
+unfolding symbol_place
+place_small t e n l = omega arith
+
+groups_are : (ps : List (List ℕ)) → groups (whole_groups ps) ≡ length ps / 4
+groups_are ps = groups_whole (length ps / 4) (whole_groups ps) (length-whole ps)
+
+-- the level of coder e's pair r in a stream
+stream_level : (ps : List (List ℕ)) (e r : ℕ) → e < 12 → r < 276 * (length ps / 4)
+    → get_or (levels ps) (symbol_place 0 r e) 0
+    ≡ level (state_of (get_or zero_states e 0)) (higher 0 (whole_groups ps) e) (lower 0 (whole_groups ps) e) r
+unfolding levels levels_of level_at
+stream_level ps e r l m =
+    get_or-map-range_with_len (level_at 0 zero_states (whole_groups ps)) 0 (3312 * groups (whole_groups ps))
+    (symbol_place 0 r e) (symbol_place 0 r e) 0
+    (place_within 0 r e (groups (whole_groups ps)) (omega (arith, m, groups_are ps))) (omega arith)
+    ∙ ap₂ (λ (c t : ℕ). level (state_of (get_or zero_states c 0)) (higher 0 (whole_groups ps) c)
+    (lower 0 (whole_groups ps) c) t) (place_coder r e l) (place_round r e)
+
+data_in : (zs : List ℕ) (k j : ℕ) → j < 828 → 828 * k + 828 ≤ length zs
+    → get_or (segment zs k) (4 + j) (pos 0) ≡ symbol_at 1 (get_or zs (828 * k + j) 0)
+unfolding data_segment symbol_of symbol_at
+data_in zs k j l m =
+    let back : 4 + j - 4 ≡ j = omega arith in
+    ap (λ (x : List ℤ). get_or x (4 + j) (pos 0)) (segment_is zs k)
+    ∙ get_or-append_right segment_sync (map symbol_of (part (828 * k) 828 zs)) 4 (4 + j) (pos 0) length_sync
+    (omega arith)
+    ∙ ap (λ i. get_or (map symbol_of (part (828 * k) 828 zs)) i (pos 0)) back
+    ∙ get_or-map symbol_of (part (828 * k) 828 zs) j 0 (pos 0) (omega (arith, length-part (828 * k) 828 zs m))
+    ∙ ap symbol_of (part_at (828 * k) 828 j zs 0 l) ∙ at_one (get_or zs (828 * k + j) 0)
+  where
+    at_one : (z : ℕ) → pos (2 * z) -ℤ pos 7 ≡ pos (1 * (2 * z)) -ℤ pos (1 * 7)
+    at_one z = (let e : 2 * z ≡ 1 * (2 * z) = omega arith in ap (λ n. pos n -ℤ pos 7) e)
+
+-- how many data segments of field f stand in whole groups
+abbrev pub count : List (List ℕ) → ℕ → ℕ
+count ps f = 4 * (min 312 (length (a53 ps) - (313 * f + 1)) / 4)
+
+fits : (g f l : ℕ) → l ≡ 4 * g + (g + 77) / 78 → 313 * f + 1 ≤ l
+    → 312 * f + 4 * (min 312 (l - (313 * f + 1)) / 4) ≤ 4 * g
+fits g f l e m = omega arith
+
+field_fits : (ps : List (List ℕ)) (f : ℕ) → 313 * f + 1 ≤ length (a53 ps)
+    → 312 * f + count ps f ≤ 4 * (length ps / 4)
+field_fits ps f l = fits (length ps / 4) f (length (a53 ps)) (length-a53 ps) l
+
+pub length-field : (ps : List (List ℕ)) (f : ℕ) → 313 * f + 1 ≤ length (a53 ps)
+    → length (in_groups (a53 ps) (313 * f + 1)) ≡ count ps f
+unfolding in_groups
+length-field ps f l = length-part (313 * f + 1) (count ps f) (a53 ps) (omega arith)
+
+-- segment i of field f
+pub field_at : (ps : List (List ℕ)) (f i : ℕ) → i < count ps f
+    → get_or (in_groups (a53 ps) (313 * f + 1)) i [] ≡ get_or (a53 ps) (313 * f + 1 + i) []
+unfolding in_groups
+field_at ps f i l = part_at (313 * f + 1) (count ps f) i (a53 ps) [] l
+
+field_data : (ps : List (List ℕ)) (f i : ℕ) → 313 * f + 1 ≤ length (a53 ps) → i < count ps f
+    → get_or (in_groups (a53 ps) (313 * f + 1)) i [] ≡ segment (levels ps) (312 * f + i)
+field_data ps f i l m =
+    let fit = field_fits ps f l in
+    let there : 313 * f + 1 + i ≡ 312 * f + i + (312 * f + i) / 312 + 1 = omega arith in
+    field_at ps f i m ∙ ap (λ n. get_or (a53 ps) n []) there ∙ data_at_place ps (312 * f + i) (omega arith)
+
+field_symbol : (ps : List (List ℕ)) (f d : ℕ) → 313 * f + 1 ≤ length (a53 ps) → d < 828 * count ps f
+    → data_symbol (in_groups (a53 ps) (313 * f + 1)) d ≡ symbol_at 1 (get_or (levels ps) (828 * (312 * f) + d) 0)
+unfolding data_symbol
+field_symbol ps f d l m =
+    let fit = field_fits ps f l in
+    let i : d / 828 < count ps f = omega arith in
+    let there : 828 * (312 * f + d / 828) + d % 828 ≡ 828 * (312 * f) + d = omega arith in
+    ap (λ (x : List ℤ). get_or x (4 + d % 828) (pos 0)) (field_data ps f (d / 828) l i)
+    ∙ data_in (levels ps) (312 * f + d / 828) (d % 828) (omega arith) (omega (arith, length-levels ps))
+    ∙ ap (λ n. symbol_at 1 (get_or (levels ps) n 0)) there
+
+-- each coder's symbols in whole groups of field f
+pub field_own : TakesPaths → (ps : List (List ℕ)) (f e : ℕ) → 313 * f + 1 ≤ length (a53 ps) → e < 12
+    → IsOwn 1 (symbols_of (in_groups (a53 ps) (313 * f + 1)) e)
+unfolding symbols_of
+field_own takes ps f e l m =
+    part_own takes (state_of (get_or zero_states e 0)) (higher 0 (whole_groups ps) e) (lower 0 (whole_groups ps) e)
+    (21528 * f) (69 * length (in_groups (a53 ps) (313 * f + 1))) (symbols_of (in_groups (a53 ps) (313 * f + 1)) e)
+    (bits_of (get_or zero_states e 0)) (length_higher 0 e (whole_groups ps) ∙ sym (length_lower 0 e (whole_groups ps)))
+    (omega (arith, fit, long, length_higher 0 e (whole_groups ps), groups_are ps))
+    (λ t k. lower_bit 0 t e (whole_groups ps) (omega (arith, k, length_higher 0 e (whole_groups ps))))
+    (length-map-range_with_len (λ t. data_symbol (in_groups (a53 ps) (313 * f + 1)) (symbol_place 0 t e)) 0
+    (69 * length (in_groups (a53 ps) (313 * f + 1))))
+    by_pair
+  where
+    fit : 312 * f + count ps f ≤ 4 * (length ps / 4)
+    fit = field_fits ps f l
+
+    long : length (in_groups (a53 ps) (313 * f + 1)) ≡ count ps f
+    long = length-field ps f l
+
+    by_pair : (t : ℕ) → t < 69 * length (in_groups (a53 ps) (313 * f + 1))
+        → get_or (symbols_of (in_groups (a53 ps) (313 * f + 1)) e) t (pos 0)
+        ≡ symbol_at 1 (level (state_of (get_or zero_states e 0)) (higher 0 (whole_groups ps) e)
+        (lower 0 (whole_groups ps) e) (21528 * f + t))
+    by_pair t k =
+        get_or-map-range_with_len (λ t. data_symbol (in_groups (a53 ps) (313 * f + 1)) (symbol_place 0 t e)) 0
+        (69 * length (in_groups (a53 ps) (313 * f + 1))) t t (pos 0) k (omega arith)
+        ∙ field_symbol ps f (symbol_place 0 t e) l (place_small t e (count ps f) (omega (arith, k, long)))
+        ∙ ap (symbol_at 1) (ap (λ n. get_or (levels ps) n 0) (sym (place_further f t e))
+        ∙ stream_level ps e (21528 * f + t) m (omega (arith, k, long, fit)))

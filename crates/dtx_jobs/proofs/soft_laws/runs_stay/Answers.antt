@@ -1,0 +1,8 @@
+use Rattle.dtx_jobs.proofs.SoftRuns.{soft_runs, soft_tracking}
+use Rattle.dtx_jobs.proofs.soft_laws.runs_stay.Goals as goal
+
+pub returns-clause-lengths : goal.returns-clause-lengths
+returns-clause-lengths c = soft_runs
+
+pub returns-clause-tracking : goal.returns-clause-tracking
+returns-clause-tracking c = soft_tracking
