@@ -135,7 +135,8 @@ alike s (suc i) l =
 all_alike : (s : List (List ℤ)) → AreAlike (tracked (soft_symbols s)) (tracked s)
 all_alike s =
     subst₂ (λ t u. AreAlike (tracked t) (tracked u))
-    (take_all (length s) (soft_symbols s) (omega (arith, soft_length s))) (take_all (length s) s (omega arith)) (alike s (length s) (omega arith))
+    (take_all (length s) (soft_symbols s) (omega (arith, soft_length s)))
+    (take_all (length s) s (omega arith)) (alike s (length s) (omega arith))
 
 -- as many runs, of the same lengths
 pub soft_runs : (s : List (List ℤ)) → map length (runs (soft_symbols s)) ≡ map length (runs s)
