@@ -2,7 +2,8 @@
 # Measures what examples/many/excite.sh gains on all processors of this machine: 1,000,000 packets given to one exciter, and the same in as
 # many pieces as there are processors, at once. Three ways: the pieces alone, whose symbols go through pipes to readers that drop them, as they
 # would to the next program; the pieces alone into files; and the whole script with its cut and its join. Into files it is the system that
-# counts, since it has to find a fresh page for each 4 kB that is written. The best of three each, in one run. It needs 4 GB on the disk of
+# counts, since it has to find a fresh page for each 4 kB that is written, and to bring them to the disk: that gain changes from run to run.
+# One process is taken by its better time, into a file or through a pipe. The best of three each, in one run. It needs 4 GB on the disk of
 # temporary files. The status is 0 where the pieces alone, through pipes, gain at least 0.8 times the number of processors.
 
 set -eu
@@ -57,15 +58,16 @@ for ((round = 0; round < rounds; round++)); do
     measure pieces "$room/said" piped "$room/pieces" apart
 done
 
-# gain NAME ONE MANY: how many times as fast the many are as the one.
+one=$((best[one] < best[single] ? best[one] : best[single]))
+# gain NAME MANY: how many times as fast the many are as one process.
 gain() {
-    awk -v name="$1" -v one="${best[$2]}" -v many="${best[$3]}" -v processors="$processors" \
+    awk -v name="$1" -v one=$one -v many="${best[$2]}" -v processors="$processors" \
         'BEGIN { printf "%s: %.2f times as fast on %d processors (%.2f of each)\n", name, one / many, processors, one / many / processors }'
 }
 
 printf '%d packets, best of %d: one process %.2f s into a file, %.2f s through a pipe\n' $packets $rounds \
     "$(awk -v t="${best[one]}" 'BEGIN { print t / 1e6 }')" "$(awk -v t="${best[single]}" 'BEGIN { print t / 1e6 }')"
-gain 'cut, pieces and join' one all
-gain 'the pieces alone, into files' one apart
-gain 'the pieces alone, through pipes' single pieces
-awk -v one="${best[single]}" -v many="${best[pieces]}" -v processors="$processors" -v bar=$bar 'BEGIN { exit one / many < bar * processors }'
+gain 'cut, pieces and join' all
+gain 'the pieces alone, into files' apart
+gain 'the pieces alone, through pipes' pieces
+awk -v one=$one -v many="${best[pieces]}" -v processors="$processors" -v bar=$bar 'BEGIN { exit one / many < bar * processors }'
