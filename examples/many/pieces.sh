@@ -120,7 +120,7 @@ has_words() {
 }
 
 # by_parallel COUNT LOG: the pieces by GNU parallel, where LOG is not empty with a log. It has a variable PARALLEL of its
-# own, which isn't ours.
+# own, which isn't ours, and keeps notes in the home, where there is one.
 by_parallel() {
     local elsewhere=()
     if [[ ${SSHLOGIN-} ]]; then
@@ -128,7 +128,7 @@ by_parallel() {
             --transferfile in-{} --transferfile words-{} --return out-{} --return line-{} --return status-{})
         [[ ! $2 ]] || elsewhere+=(--return log-{})
     fi
-    seq 0 $(($1 - 1)) | env -u PARALLEL parallel "${elsewhere[@]}" ./piece.sh {}
+    seq 0 $(($1 - 1)) | env -u PARALLEL HOME="${HOME:-$folder}" parallel "${elsewhere[@]}" ./piece.sh {}
 }
 
 # run_all COUNT [LOG]: runs all pieces. Where one isn't done, the first such one's line is printed, and its status is ours.
