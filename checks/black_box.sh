@@ -184,7 +184,7 @@ plan=../inputs/plan.toml
 # ---- The cases, subject by subject ----
 
 for part in adapt plans make code receive excite hurt place net trial soft dvb names overlaps words refused_streams refused_files \
-    forbidden_files host_faults progress many; do
+    forbidden_files host_faults each_call progress many; do
     . "$top/checks/black_box/$part.sh"
 done
 

@@ -1,0 +1,110 @@
+# Each call of the host fails in turn: what a command answers then, and what it leaves. A library in front of the system's own makes one read,
+# write or growth of memory fail; it is built here, where there is a C compiler.
+
+# each_fails KIND STATUS LINE WORD..: the program, given the words, in each run of which one more call of that kind fails, until a run makes no
+# more of them: it ends with the status and the line, and leaves front parts of what one leaves that isn't disturbed.
+each_fails() {
+    local kind=$1 status=$2 line=$3 number got file
+    shift 3
+    for ((number = 1; number < 2000; number++)); do
+        rm -f -- *
+        FAILS=$kind:$number LD_PRELOAD=$room/calls/fails.so "$top/crates/dtx/out/dtx" "$@" >"$room/said" 2>"$room/complaint"
+        got=$?
+        ((got)) || break
+        ended "$status" $got
+        # Where there is no memory for the words, there is none for a line.
+        [[ $(cat "$room/said") == "$line" || $kind == memory && ! -s $room/said ]] ||
+            wrong "$kind $number of $1: printed $(cat -v "$room/said")"
+        for file in *; do
+            [[ ! -e $file ]] || head -c "$(stat -c %s "$file")" "$room/whole/$file" | cmp -s - "$file" ||
+                wrong "$kind $number of $1: $file is no front part"
+        done
+        ((${#wrongs[@]} < 3)) || return
+    done
+    ((number > 1)) || wrong "no $kind of $1 failed"
+    diff -r . "$room/whole" >"$room/said" || wrong "$1 without a failure leaves other files"
+}
+
+if command -v cc >/dev/null; then
+    mkdir "$room/calls"
+    cat >"$room/calls/fails.c" <<'end'
+#define _GNU_SOURCE
+#include <dlfcn.h>
+#include <errno.h>
+#include <stdlib.h>
+#include <string.h>
+#include <unistd.h>
+
+/* FAILS=KIND:NUMBER names the call that fails, counted from 1. */
+static int fails(const char *kind) {
+    static long count;
+    const char *plan = getenv("FAILS");
+    size_t length = strlen(kind);
+    return plan && !strncmp(plan, kind, length) && ++count == atol(plan + length + 1);
+}
+
+ssize_t read(int file, void *bytes, size_t count) {
+    ssize_t (*call)(int, void *, size_t) = dlsym(RTLD_NEXT, "read");
+    if (file > 2 && fails("read")) {
+        errno = EIO;
+        return -1;
+    }
+    return call(file, bytes, count);
+}
+
+ssize_t write(int file, const void *bytes, size_t count) {
+    ssize_t (*call)(int, const void *, size_t) = dlsym(RTLD_NEXT, "write");
+    if (file > 2 && fails("write")) {
+        errno = ENOSPC;
+        return -1;
+    }
+    return call(file, bytes, count);
+}
+
+void *__libc_malloc(size_t size);
+void *malloc(size_t size) {
+    if (fails("memory")) {
+        errno = ENOMEM;
+        return NULL;
+    }
+    return __libc_malloc(size);
+}
+end
+    cc -shared -fPIC -O1 -o "$room/calls/fails.so" "$room/calls/fails.c" -ldl 2>"$room/complaint"
+    "$dtx" make 1 700 "$inputs/calls.ts" >"$room/said"
+    "$dtx" adapt "$inputs/plan.toml" "$inputs/calls.ts" "$inputs/calls.feed" >"$room/said"
+    "$dtx" code "$inputs/calls.ts" "$inputs/calls.sym" >"$room/said"
+    "$dtx" dvb code "$inputs/calls.ts" "$inputs/calls.dvb" >"$room/said"
+    printf 'damage = [{ at = 1000, count = 100000, put = 1 }]\n' >"$inputs/calls.changes"
+    sed '/^\[net\]/,$d' "$inputs/plan.toml" >"$inputs/calls.plan"
+    printf '[net]\nstream = "../inputs/calls.ts"\n' >>"$inputs/calls.plan"
+    printf '[[net.event]]\ndo = "send"\nto = %d\nfrom = 0\ncount = %d\n' 7 700 9 60 >>"$inputs/calls.plan"
+    printf '[[net.event]]\ndo = "restart"\nto = 9\n[net.receive]\nfrom = 7\n' >>"$inputs/calls.plan"
+    inputs_before=$(sums)
+    while read -ra words; do
+        start "each call of \`${words[*]}\` fails in turn"
+        rm -rf "$room/whole"
+        mkdir "$room/whole"
+        (cd "$room/whole" && "$dtx" "${words[@]}") >"$room/said" 2>"$room/complaint"
+        ended 0 $?
+        # `make` reads nothing.
+        [[ ${words[0]} == make ]] || each_fails read 11 'read fault' "${words[@]}"
+        each_fails write 12 'write fault' "${words[@]}"
+        each_fails memory 13 'no memory' "${words[@]}"
+    done <<'end'
+adapt ../inputs/plan.toml ../inputs/calls.ts out.ts
+code ../inputs/calls.ts out.sym
+excite ../inputs/calls.feed 7 1000 out.sym out.log
+receive ../inputs/calls.sym out.ts
+soft ../inputs/calls.sym out.sym
+dvb code ../inputs/calls.ts out.dvb
+dvb read ../inputs/calls.dvb out.ts
+place ../inputs/calls.ts out.ts
+hurt ../inputs/calls.sym ../inputs/calls.changes out.sym
+make 1 1000 out.ts
+net ../inputs/calls.plan
+trial 1 624
+end
+    rm "$inputs"/calls.*
+    inputs_before=$(sums)
+fi
