@@ -84,9 +84,40 @@ fills_up() {
     )
     ended 12 $?
     [[ $(cat "$room/said") == 'write fault' ]] || wrong "printed $(cat "$room/said")"
-    [[ -s $out ]] || wrong 'nothing was written before the fault'
-    head -c "$(stat -c %s "$out")" "$whole" | cmp -s - "$out" || wrong "$out is no front part of $whole"
+    is_begun "$out" "$whole"
     leaves "$out"
+}
+
+# is_front FILE WHOLE: the file is a front part of the whole one.
+is_front() {
+    head -c "$(stat -c %s "$1")" "$2" | cmp -s - "$1" || wrong "${1##*/} is no front part of ${2##*/}"
+}
+
+# is_begun FILE WHOLE: and not empty.
+is_begun() {
+    [[ -s $1 ]] || wrong "${1##*/} is empty"
+    is_front "$1" "$2"
+}
+
+# refuses_files WORD..: what the command of these words, of an input and an output, refuses of its files.
+refuses_files() {
+    local shows input output status line
+    # A blank of a line is written as an underscore here.
+    given 60 0
+    while read -r shows input output status line; do
+        start "\`$*\` is refused: $shows"
+        mkdir folder
+        run "$status" "${line//_/ }" "$@" "$input" "$output"
+        leaves folder
+    done <<'end'
+a_missing_input missing out 4 absent_missing
+an_input_that_is_a_folder folder out 11 read_fault
+an_output_that_is_a_folder ../inputs/given.ts folder 12 write_fault
+an_output_in_a_folder_that_is_not_there ../inputs/given.ts nowhere/out 12 write_fault
+a_missing_input_before_such_an_output missing nowhere/out 4 absent_missing
+equal_names ../inputs/given.ts ../inputs/given.ts 3 same_../inputs/given.ts
+equal_names_that_are_missing missing missing 3 same_missing
+end
 }
 
 # has_digest FILE DIGEST: the file is the one that a program made which shares nothing with dtx.

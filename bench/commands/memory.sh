@@ -39,7 +39,7 @@ within() {
         held=$(memory "$program" "$@" | tail -n 1)
         [[ $least && $least -le $held ]] || least=$held
     done
-    printf '%-8s %5d kB (bar: %d)\n' "${1:-no words}" "$least" "$bar"
+    printf '%5d kB (bar: %d) %s\n' "$least" "$bar" "${*:-no words}"
     ((least <= bar)) || status=1
 }
 

@@ -1,6 +1,27 @@
 # shellcheck shell=bash
 # What the measures beside GNU Radio share, to be sourced by them behind timing.sh: the Python that its blocks are installed
-# for, and how the times of both are told.
+# for, the part of the symbols that it gets, and how the times of both are told.
+
+# GNU Radio is slow, so it gets a part of the symbols: so many whole fields.
+few_fields=34
+field_symbols=$((313 * 832))
+field_packets=312
+
+# cut_fields FILE: makes few.sym, the part of its symbols that GNU Radio gets, and least.sym, one field of them.
+cut_fields() {
+    head -c $((few_fields * field_symbols)) "$1" >"$room/few.sym"
+    head -c $field_symbols "$1" >"$room/least.sym"
+}
+
+# without_start LEAST FEW OUT COMMAND..: how long the command, whose words are followed by an input and an output, takes for FEW, less what it
+# takes for LEAST, in microseconds: its start is no part of the work.
+without_start() {
+    local least=$1 few=$2 out=$3 start whole
+    shift 3
+    start=$(timed "$@" "$least" "$out") || return
+    whole=$(timed "$@" "$few" "$out") || return
+    echo $((whole - start))
+}
 
 # Sets `gnuradio_python`; the status is not 0 where there is none.
 find_gnuradio() {

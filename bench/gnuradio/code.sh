@@ -25,8 +25,6 @@ rate 'dtx code' $packets "${best[dtx code]}"
 rm "$room/out.sym"
 
 need_gnuradio
-# Its start is no part of the coding: the time of a few packets is taken off.
 head -c $((least_packets * 188)) "$room/few.ts" >"$room/least.ts"
-start=$(timed "$gnuradio_python" "$top/bench/gnuradio/code.py" "$room/least.ts" "$room/out.sym")
-whole=$(timed "$gnuradio_python" "$top/bench/gnuradio/code.py" "$room/few.ts" "$room/out.sym")
-compared 'dtx code' $packets $((few_packets - least_packets)) $((whole - start)) $bar
+taken=$(without_start "$room/least.ts" "$room/few.ts" "$room/out.sym" "$gnuradio_python" "$top/bench/gnuradio/code.py")
+compared 'dtx code' $packets $((few_packets - least_packets)) "$taken" $bar

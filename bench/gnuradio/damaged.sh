@@ -7,15 +7,11 @@
 set -eu
 rounds=3
 fields=340
-# GNU Radio is slow, so it gets a part of the symbols: so many whole fields.
-few_fields=34
-field_symbols=$((313 * 832))
-field_packets=312
-packets=$((fields * field_packets))
 
 . "$(dirname "${BASH_SOURCE[0]}")/../commands/timing.sh"
 . "$top/bench/gnuradio/blocks.sh"
 need_gnuradio
+packets=$((fields * field_packets))
 "$program" make 1 $packets "$room/in.ts" >"$room/said"
 "$program" code "$room/in.ts" "$room/in.sym" >"$room/said"
 
@@ -31,21 +27,18 @@ print(sum(given[i + 1 : i + 188] in packets for i in range(0, len(given) - 187, 
 
 # beside MEAN BAR: measures both with so many wrong bytes a word.
 beside() {
-    local start whole round
+    local taken round
     "$gnuradio_python" "$top/bench/gnuradio/damage.py" "$room/in.sym" "$room/hurt.sym" "$1"
-    head -c $((few_fields * field_symbols)) "$room/hurt.sym" >"$room/few.sym"
-    head -c $field_symbols "$room/hurt.sym" >"$room/least.sym"
+    cut_fields "$room/hurt.sym"
     unset 'best[dtx receive]'
     for ((round = 0; round < rounds; round++)); do
         measure 'dtx receive' "$room/out.ts" "$program" receive "$room/hurt.sym" "$room/out.ts"
     done
     printf '%s wrong bytes a word: %s\n' "$1" "$(cat "$room/said")"
     rate 'dtx receive' $packets "${best[dtx receive]}"
-    # Its start is no part of the receiving: the time of one field is taken off.
-    start=$(timed "$gnuradio_python" "$top/bench/gnuradio/receive.py" "$room/least.sym" "$room/few.ts")
-    whole=$(timed "$gnuradio_python" "$top/bench/gnuradio/receive.py" "$room/few.sym" "$room/few.ts")
+    taken=$(without_start "$room/least.sym" "$room/few.sym" "$room/few.ts" "$gnuradio_python" "$top/bench/gnuradio/receive.py")
     printf 'dtx gave back %s packets, GNU Radio %s\n' "$(back "$room/out.ts")" "$(back "$room/few.ts")"
-    compared 'dtx receive' $packets $(((few_fields - 1) * field_packets)) $((whole - start)) "$2"
+    compared 'dtx receive' $packets $(((few_fields - 1) * field_packets)) "$taken" "$2"
 }
 
 status=0

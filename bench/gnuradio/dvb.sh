@@ -32,10 +32,7 @@ need_gnuradio
 declare -A made=([code]=bytes [read]=packets)
 status=0
 
-# by_gnuradio KIND IN OUT: the time that GNU Radio takes to code or to read, in microseconds.
-by_gnuradio() {
-    timed "$gnuradio_python" "$top/bench/gnuradio/dvb.py" "$@"
-}
+by_gnuradio=("$gnuradio_python" "$top/bench/gnuradio/dvb.py")
 
 # are_same WHAT FILE OTHER: says whether the other file, which isn't empty, is the first bytes of the file.
 are_same() {
@@ -50,15 +47,14 @@ are_same() {
 }
 
 # beside KIND BAR IN SIZE OURS: measures GNU Radio on the first packets or blocks of IN, each of so many bytes, and compares what it gives
-# with OURS. Its start is no part of the work: the time of a few packets is taken off.
+# with OURS.
 beside() {
-    local start whole
+    local taken
     head -c $((few_packets * $4)) "$3" >"$room/few"
     head -c $((least_packets * $4)) "$3" >"$room/least"
-    start=$(by_gnuradio "$1" "$room/least" "$room/theirs")
-    whole=$(by_gnuradio "$1" "$room/few" "$room/theirs")
+    taken=$(without_start "$room/least" "$room/few" "$room/theirs" "${by_gnuradio[@]}" "$1")
     are_same "${made[$1]}" "$5" "$room/theirs"
-    compared "dtx dvb $1" $packets $((few_packets - least_packets)) $((whole - start)) "$2" || status=1
+    compared "dtx dvb $1" $packets $((few_packets - least_packets)) "$taken" "$2" || status=1
 }
 
 beside code $code_bar "$room/in.ts" 188 "$room/in.dvb"
@@ -72,6 +68,6 @@ awk -v blocks=100000 -v block=$block 'BEGIN {
 "$program" hurt "$room/few" "$room/eight.toml" "$room/hurt.dvb" >"$room/said"
 "$program" dvb read "$room/hurt.dvb" "$room/out.ts" >"$room/said"
 printf 'eight wrong bytes a word: %s\n' "$(cat "$room/said")"
-by_gnuradio read "$room/hurt.dvb" "$room/theirs" >"$room/said"
+"${by_gnuradio[@]}" read "$room/hurt.dvb" "$room/theirs" >"$room/said"
 are_same packets "$room/out.ts" "$room/theirs"
 exit $status

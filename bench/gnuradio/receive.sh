@@ -9,18 +9,13 @@ set -eu
 rounds=3
 bar=8
 packets=1063920
-# GNU Radio is slow, so it gets a part of the symbols: so many whole fields.
-few_fields=34
-field_symbols=$((313 * 832))
-field_packets=312
 
 . "$(dirname "${BASH_SOURCE[0]}")/../commands/timing.sh"
 . "$top/bench/gnuradio/blocks.sh"
 "$program" make 1 $packets "$room/in.ts" >"$room/said"
 "$program" code "$room/in.ts" "$room/in.sym" >"$room/said"
 rm "$room/in.ts"
-head -c $((few_fields * field_symbols)) "$room/in.sym" >"$room/few.sym"
-few_packets=$((few_fields * field_packets))
+cut_fields "$room/in.sym"
 
 for ((round = 0; round < rounds; round++)); do
     measure 'dtx receive' "$room/out.ts" "$program" receive "$room/in.sym" "$room/out.ts"
@@ -30,8 +25,5 @@ rate 'dtx receive' $packets "${best[dtx receive]}"
 rm "$room/in.sym" "$room/out.ts"
 
 need_gnuradio
-# Its start is no part of the receiving: the time of one field is taken off.
-head -c $field_symbols "$room/few.sym" >"$room/least.sym"
-start=$(timed "$gnuradio_python" "$top/bench/gnuradio/receive.py" "$room/least.sym" "$room/out.ts")
-whole=$(timed "$gnuradio_python" "$top/bench/gnuradio/receive.py" "$room/few.sym" "$room/out.ts")
-compared 'dtx receive' $packets $((few_packets - field_packets)) $((whole - start)) $bar
+taken=$(without_start "$room/least.sym" "$room/few.sym" "$room/out.ts" "$gnuradio_python" "$top/bench/gnuradio/receive.py")
+compared 'dtx receive' $packets $(((few_fields - 1) * field_packets)) "$taken" $bar

@@ -10,21 +10,16 @@ rounds=3
 bar=20
 deviation=0.24
 fields=340
-# GNU Radio is slow, so it gets a part of the symbols: so many whole fields.
-few_fields=34
-field_symbols=$((313 * 832))
-field_packets=312
-packets=$((fields * field_packets))
 
 . "$(dirname "${BASH_SOURCE[0]}")/../commands/timing.sh"
 . "$top/bench/gnuradio/blocks.sh"
 need_gnuradio
+packets=$((fields * field_packets))
 trellis=("$gnuradio_python" "$top/bench/gnuradio/trellis.py")
 "$program" make 1 $packets "$room/in.ts" >"$room/said"
 "$program" code "$room/in.ts" "$room/in.sym" >"$room/said"
 "${trellis[@]}" noise $deviation "$room/in.sym" "$room/noisy.sym"
-head -c $((few_fields * field_symbols)) "$room/noisy.sym" >"$room/few.sym"
-head -c $field_symbols "$room/noisy.sym" >"$room/least.sym"
+cut_fields "$room/noisy.sym"
 
 for ((round = 0; round < rounds; round++)); do
     measure 'dtx soft' "$room/out.sym" "$program" soft "$room/noisy.sym" "$room/out.sym"
@@ -32,16 +27,14 @@ done
 printf 'best of %d%s: %s\n' $rounds "${pinned[*]:+, on one processor}" "$(cat "$room/said")"
 rate 'dtx soft' $packets "${best[dtx soft]}"
 
-# beside WHAT SUFFIX COMMAND..: measures the command, whose words are followed by an input and an output. Its start is no part of the work:
-# the time of one field is taken off.
+# beside WHAT SUFFIX COMMAND..: measures the command, whose words are followed by an input and an output.
 status=0
 beside() {
-    local what=$1 suffix=$2 start whole
+    local what=$1 suffix=$2 taken
     shift 2
-    start=$(timed "$@" "$room/least.$suffix" "$room/theirs")
-    whole=$(timed "$@" "$room/few.$suffix" "$room/theirs")
+    taken=$(without_start "$room/least.$suffix" "$room/few.$suffix" "$room/theirs" "$@")
     printf '%s:\n' "$what"
-    compared 'dtx soft' $packets $(((few_fields - 1) * field_packets)) $((whole - start)) $bar || status=1
+    compared 'dtx soft' $packets $(((few_fields - 1) * field_packets)) "$taken" $bar || status=1
 }
 
 beside 'the whole receive chain' sym "$gnuradio_python" "$top/bench/gnuradio/receive.py"

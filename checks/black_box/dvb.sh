@@ -41,7 +41,7 @@ leaves x.ts y
 cp x.ts y "$room"
 
 # The first bytes of a packet of zeros, each of which the interleaver sends 204 bytes later than the one before it.
-start 'the bytes that disperse the energy of zeros'
+start 'the bytes that randomize zeros'
 for ((index = 0; index < 9; index++)); do
     printf '\x47'
     head -c 187 /dev/zero
@@ -155,24 +155,9 @@ start 'random streams, coded, damaged and read'
 
 # ---- Refusals ----
 
-# A blank of a line is written as an underscore here.
-given 60 0
-while read -r shows input output status line; do
-    for verb in code read; do
-        start "\`dvb $verb\` is refused: $shows"
-        mkdir folder
-        run "$status" "${line//_/ }" dvb $verb "$input" "$output"
-        leaves folder
-    done
-done <<'end'
-a_missing_input missing out 4 absent_missing
-an_input_that_is_a_folder folder out 11 read_fault
-an_output_that_is_a_folder ../inputs/given.ts folder 12 write_fault
-an_output_in_a_folder_that_is_not_there ../inputs/given.ts nowhere/out 12 write_fault
-a_missing_input_before_such_an_output missing nowhere/out 4 absent_missing
-equal_names ../inputs/given.ts ../inputs/given.ts 3 same_../inputs/given.ts
-equal_names_that_are_missing missing missing 3 same_missing
-end
+for verb in code read; do
+    refuses_files dvb $verb
+done
 
 start 'the disk is full of coded bytes'
 fills_up 300 "$room/long.dvb" dvb code ../inputs/long.ts out

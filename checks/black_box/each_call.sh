@@ -16,8 +16,7 @@ each_fails() {
         [[ $(cat "$room/said") == "$line" || $kind == memory && ! -s $room/said ]] ||
             wrong "$kind $number of $1: printed $(cat -v "$room/said")"
         for file in *; do
-            [[ ! -e $file ]] || head -c "$(stat -c %s "$file")" "$room/whole/$file" | cmp -s - "$file" ||
-                wrong "$kind $number of $1: $file is no front part"
+            [[ ! -e $file ]] || is_front "$file" "$room/whole/$file"
         done
         ((${#wrongs[@]} < 3)) || return
     done

@@ -6,12 +6,6 @@ is_said() {
     [[ $(cat "$room/said") == "$2" ]] || wrong "printed '$(cat -v "$room/said")', not '$2'"
 }
 
-# is_front FILE WHOLE: the file is a front part of the whole one, and not empty.
-is_front() {
-    [[ -s $1 ]] || wrong "${1##*/} is empty"
-    head -c "$(stat -c %s "$1")" "$2" | cmp -s - "$1" || wrong "${1##*/} is no front part of ${2##*/}"
-}
-
 # meanwhile DO OUT WORD..: runs the program, given the words, of which OUT names an output, which is a pipe here. Once the
 # first byte has come through it, when more was read and the rest of it waits, does DO, and then takes the rest.
 meanwhile() {
@@ -48,7 +42,7 @@ while IFS=: read -r shows do; do
     cp ../inputs/long.ts in.ts
     meanwhile "$do" out.sym code in.ts out.sym
     is_said 11 'read fault' $?
-    is_front "$room/piped" "$room/long.sym"
+    is_begun "$room/piped" "$room/long.sym"
 done <<'end'
 lost:rm in.ts
 emptied:truncate -s 0 in.ts
@@ -61,7 +55,7 @@ while IFS=: read -r shows do; do
     start "an output that is $shows while it is written"
     meanwhile "$do" out.sym excite "$room/feed.ts" 7 1000 out.sym out.log
     is_said 12 'write fault' $?
-    is_front "$room/piped" "$room/from_order.sym"
+    is_begun "$room/piped" "$room/from_order.sym"
 done <<'end'
 lost:rm out.log
 cut or written by another:echo more >>out.log
@@ -75,7 +69,7 @@ while IFS=: read -r shows do; do
     { network s.ts && send 7 0 1300; } >plan.toml
     meanwhile "$do" tx-7.sym net plan.toml
     is_said 12 'write fault' $?
-    is_front "$room/piped" "$room/from_order.sym"
+    is_begun "$room/piped" "$room/from_order.sym"
 done <<'end'
 lost:rm tx-7.log
 cut:truncate -s 5 tx-7.log
@@ -173,7 +167,7 @@ if ((status == 99)) || [[ ! -d kept ]]; then
     echo 'black box: the cases of a small disk were left out, since none can be mounted here'
 else
     is_said 12 'write fault' $status
-    is_front kept/out.sym "$room/long.sym"
+    is_begun kept/out.sym "$room/long.sym"
 
     start 'a disk that fills up in the middle of a network'
     stream 1300 s.ts
@@ -185,7 +179,7 @@ else
     on_small_disk net ../plan.toml
     is_said 12 'write fault' $?
     for name in net.feed tx-7.sym; do
-        is_front kept/$name whole/$name
+        is_begun kept/$name whole/$name
     done
 fi
 
@@ -215,4 +209,4 @@ timeout 20 "$dtx" code ../inputs/given.ts out.sym <&- >&- 2>&-
 [[ $? == 12 ]] || wrong 'the status is not 12'
 wait
 (($(stat -c %s "$room/piped") == 626 * 832)) || wrong 'other bytes came through the pipe'
-is_front "$room/piped" "$room/long.sym"
+is_begun "$room/piped" "$room/long.sym"

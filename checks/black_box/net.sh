@@ -462,13 +462,12 @@ while read -r size full; do
     [[ $(cat "$room/said") == 'write fault' ]] || wrong "printed $(cat "$room/said")"
     case $full in
         net.feed)
-            head -c "$(stat -c %s net.feed)" "$room/feed.ts" | cmp -s - net.feed || wrong 'net.feed is no front part of the feed'
+            is_front net.feed "$room/feed.ts"
             leaves s.ts plan.toml net.feed
             ;;
         tx-7.sym)
             has_digest net.feed "$fed"
-            [[ -s tx-7.sym ]] || wrong 'nothing was written before the fault'
-            head -c "$(stat -c %s tx-7.sym)" "$room/from_order.sym" | cmp -s - tx-7.sym || wrong 'tx-7.sym is no front part of the symbols'
+            is_begun tx-7.sym "$room/from_order.sym"
             head -n 1 tx-7.log | cmp -s - <(echo 'preset 0 0 100 5078070 640') || wrong 'tx-7.log does not begin with its first line'
             are_empty tx-9.sym tx-9.log
             leaves s.ts plan.toml "${both[@]}"

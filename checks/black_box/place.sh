@@ -61,21 +61,7 @@ start 'random streams'
 
 # ---- Refusals ----
 
-# A blank of a line is written as an underscore here.
-given 60 0
-while read -r shows input output status line; do
-    start "\`place\` is refused: $shows"
-    mkdir folder
-    run "$status" "${line//_/ }" place "$input" "$output"
-    leaves folder
-done <<'end'
-a_missing_input missing out.ts 4 absent_missing
-an_input_that_is_a_folder folder out.ts 11 read_fault
-an_output_that_is_a_folder ../inputs/given.ts folder 12 write_fault
-an_output_in_a_folder_that_is_not_there ../inputs/given.ts nowhere/out.ts 12 write_fault
-equal_names ../inputs/given.ts ../inputs/given.ts 3 same_../inputs/given.ts
-equal_names_that_are_missing missing missing 3 same_missing
-end
+refuses_files place
 
 start 'the disk is full'
 given 3000 0

@@ -139,8 +139,7 @@ start 'symbols of an exciter that fill up their output in mid-stream'
     "$dtx" excite "$room/feed.ts" 7 1000 out.sym out.log >"$room/said" 2>"$room/complaint"
 )
 ended 12 $?
-[[ -s out.sym ]] || wrong 'nothing was written before the fault'
-head -c "$(stat -c %s out.sym)" "$room/from_order.sym" | cmp -s - out.sym || wrong 'out.sym is no front part of the symbols'
+is_begun out.sym "$room/from_order.sym"
 
 if [[ -c /dev/full ]]; then
     start 'a full device as the output'

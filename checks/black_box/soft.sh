@@ -96,22 +96,7 @@ start 'random lists of segments with noise'
 
 # ---- Refusals ----
 
-# A blank of a line is written as an underscore here.
-given 60 0
-while read -r shows input output status line; do
-    start "\`soft\` is refused: $shows"
-    mkdir folder
-    run "$status" "${line//_/ }" soft "$input" "$output"
-    leaves folder
-done <<'end'
-a_missing_input missing out.sym 4 absent_missing
-an_input_that_is_a_folder folder out.sym 11 read_fault
-an_output_that_is_a_folder ../inputs/given.ts folder 12 write_fault
-an_output_in_a_folder_that_is_not_there ../inputs/given.ts nowhere/out.sym 12 write_fault
-a_missing_input_before_such_an_output missing nowhere/out.sym 4 absent_missing
-equal_names ../inputs/given.ts ../inputs/given.ts 3 same_../inputs/given.ts
-equal_names_that_are_missing missing missing 3 same_missing
-end
+refuses_files soft
 
 start 'the disk is full of softened symbols'
 fills_up 300 "$room/softened.sym" soft "$room/noisy.sym" out.sym

@@ -20,16 +20,6 @@ is_usage 'a capital letter' Adapt plan ../inputs/given.ts out.ts
 is_usage 'a blank after the command' 'adapt ' plan ../inputs/given.ts out.ts
 is_usage 'a part of the command' adap plan ../inputs/given.ts out.ts
 is_usage 'an unknown command' copy plan ../inputs/given.ts out.ts
-is_usage '`code` alone' code
-is_usage '`code` with a word too few' code ../inputs/given.ts
-is_usage '`code` with a word too many' code ../inputs/given.ts out.sym more
-is_usage '`code` with an empty input' code '' out.sym
-is_usage '`code` with an empty output' code ../inputs/given.ts ''
-is_usage '`receive` alone' receive
-is_usage '`receive` with a word too few' receive ../inputs/given.sym
-is_usage '`receive` with a word too many' receive ../inputs/given.sym out.ts more
-is_usage '`receive` with an empty input' receive '' out.ts
-is_usage '`receive` with an empty output' receive ../inputs/given.sym ''
 is_usage '`make` alone' make
 is_usage '`make` with a word too few' make 1 4
 is_usage '`make` with a word too many' make 1 4 out.ts more
@@ -80,16 +70,6 @@ is_usage '`hurt` with a word too many' hurt ../inputs/given.ts changes out more
 is_usage '`hurt` with an empty input' hurt '' changes out
 is_usage '`hurt` with empty changes' hurt ../inputs/given.ts '' out
 is_usage '`hurt` with an empty output' hurt ../inputs/given.ts changes ''
-is_usage '`place` alone' place
-is_usage '`place` with a word too few' place ../inputs/given.ts
-is_usage '`place` with a word too many' place ../inputs/given.ts out.ts more
-is_usage '`place` with an empty input' place '' out.ts
-is_usage '`place` with an empty output' place ../inputs/given.ts ''
-is_usage '`soft` alone' soft
-is_usage '`soft` with a word too few' soft ../inputs/given.sym
-is_usage '`soft` with a word too many' soft ../inputs/given.sym out.sym more
-is_usage '`soft` with an empty input' soft '' out.sym
-is_usage '`soft` with an empty output' soft ../inputs/given.sym ''
 is_usage '`dvb` alone' dvb
 is_usage '`dvb` without its second word' dvb ../inputs/given.ts out
 is_usage '`dvb` with an unknown second word' dvb receive ../inputs/given.ts out
@@ -97,13 +77,24 @@ is_usage '`dvb` with an empty second word' dvb '' ../inputs/given.ts out
 is_usage '`dvb` with its words in one' 'dvb code' ../inputs/given.ts out
 is_usage 'the second word of `dvb` first' read ../inputs/given.ts out
 for verb in code read; do
-    is_usage "\`dvb $verb\` alone" dvb $verb
-    is_usage "\`dvb $verb\` with a word too few" dvb $verb ../inputs/given.ts
-    is_usage "\`dvb $verb\` with a word too many" dvb $verb ../inputs/given.ts out more
-    is_usage "\`dvb $verb\` with an empty input" dvb $verb '' out
-    is_usage "\`dvb $verb\` with an empty output" dvb $verb ../inputs/given.ts ''
     is_usage "\`dvb $verb\` with a capital letter" dvb ${verb^} ../inputs/given.ts out
 done
+
+# Commands of an input and an output.
+while read -ra words; do
+    is_usage "\`${words[*]}\` alone" "${words[@]}"
+    is_usage "\`${words[*]}\` with a word too few" "${words[@]}" ../inputs/given.ts
+    is_usage "\`${words[*]}\` with a word too many" "${words[@]}" ../inputs/given.ts out more
+    is_usage "\`${words[*]}\` with an empty input" "${words[@]}" '' out
+    is_usage "\`${words[*]}\` with an empty output" "${words[@]}" ../inputs/given.ts ''
+done <<'end'
+code
+receive
+place
+soft
+dvb code
+dvb read
+end
 
 while read -r shows given_plan input output named; do
     start "equal names: $shows"

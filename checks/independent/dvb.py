@@ -19,7 +19,7 @@ BRANCHES, STEP = 12, 17
 LOAD = "100101010000000"
 
 
-def dispersal():
+def randomizer():
     """The bytes that a group of eight packets is added to: those of a register of fifteen bits, whose two last ones give the next bit.
     The first sync byte is inverted; at the others the register goes on, and its bits are left out."""
     register, bits = [int(bit) for bit in LOAD], []
@@ -32,17 +32,17 @@ def dispersal():
     return bytes(out)
 
 
-DISPERSAL = dispersal()
+RANDOMIZER = randomizer()
 
 
-def dispersed(packet, k):
-    """The 188 bytes of packet k with the dispersal's added, which takes them away again too."""
+def randomized(packet, k):
+    """The 188 bytes of packet k with the randomizer's added, which takes them away again too."""
     start = PACKET * (k % GROUP)
-    return bytes(a ^ b for a, b in zip(packet, DISPERSAL[start : start + PACKET]))
+    return bytes(a ^ b for a, b in zip(packet, RANDOMIZER[start : start + PACKET]))
 
 
 def block_of(packet, k):
-    data = dispersed(packet, k)
+    data = randomized(packet, k)
     return data + correction_bytes(data, PARITY)
 
 
@@ -61,7 +61,7 @@ def sent_at(m):
 def packet_of(word, k):
     """The packet of a word, how many bytes were put right, and whether it has a correction."""
     codeword = corrected(word, PARITY)
-    packet = dispersed((codeword or word)[:PACKET], k)
+    packet = randomized((codeword or word)[:PACKET], k)
     if codeword is None:
         return bytes([0x47, packet[1] | 0x80]) + packet[2:], 0, False
     return b"\x47" + packet[1:], sum(a != b for a, b in zip(codeword, word)), True
