@@ -212,10 +212,16 @@ sums() {
 cp "$top/examples/two-sites.toml" "$inputs/plan.toml"
 plan=../inputs/plan.toml
 
+# plan_of FIRST COUNT: a plan of so many transmitters, with the addresses from FIRST on, all at the common moment.
+plan_of() {
+    printf 'start = 0\nmax_delay = 5000000\n'
+    seq -f $'[[transmitter]]\naddress = %.0f\noffset = 0' "$1" $(($1 + $2 - 1))
+}
+
 # ---- The cases, subject by subject ----
 
-for part in adapt plans make code receive excite hurt place net trial soft dvb names overlaps words refused_streams refused_files \
-    forbidden_files host_faults each_call progress many; do
+for part in adapt plans make code receive excite hurt place net pages trial soft dvb names overlaps words refused_streams \
+    refused_files forbidden_files host_faults each_call progress many; do
     . "$top/checks/black_box/$part.sh"
 done
 

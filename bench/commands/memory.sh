@@ -1,8 +1,9 @@
 #!/usr/bin/env bash
 # Measures how much memory each command holds at most, over a stream of 31,200 packets, and the program where no words are given: each the
-# least of five runs, since where the loader puts the program and its stack changes it by up to 250 kB. It needs 60 MB on the disk of
+# least of five runs, since where the loader puts the program and its stack changes it by up to 250 kB. It needs 200 MB on the disk of
 # temporary files. The status is 0 where each is at most its bar, which is what the commands held when each had a loop of its own; of `soft`,
-# which holds a field, 12 MB, and of the other outer coding what `adapt` and `receive` may hold.
+# which holds a field, 12 MB, of the other outer coding what `adapt` and `receive` may hold, and of `net` with 1,020 transmitters over a
+# frame 256 MB, and over a frame with 35 what it may hold with one and 8 MB more.
 
 set -eu
 rounds=5
@@ -11,22 +12,20 @@ packets=31200
 . "$(dirname "${BASH_SOURCE[0]}")/timing.sh"
 cd "$room"
 
-cat >net.toml <<end
-start = 0
-max_delay = 5000000
-[[transmitter]]
-address = 1
-offset = 0
-[net]
-stream = "in.ts"
-[[net.event]]
-do = "send"
-to = 1
-from = 0
-count = $packets
-end
+# network STREAM PACKETS TRANSMITTERS: the plan of a network, each transmitter of which is given so many packets of the feed.
+network() {
+    printf 'start = 0\nmax_delay = 5000000\n'
+    printf '[[transmitter]]\naddress = %d\noffset = 0\n' $(seq "$3")
+    printf '[net]\nstream = "%s"\n' "$1"
+    printf '[[net.event]]\ndo = "send"\nto = %d\nfrom = 0\ncount = '"$2"'\n' $(seq "$3")
+}
+
+network in.ts $packets 1 >net.toml
+network frame.ts 624 35 >net-35.toml
+network frame.ts 624 1020 >net-1020.toml
 printf '[[damage]]\nat = 1000\ncount = 1000\nput = 0\n' >damage.toml
 "$program" make 1 $packets in.ts >said
+"$program" make 1 624 frame.ts >said
 "$program" adapt net.toml in.ts feed.ts >said
 "$program" code in.ts in.sym >said
 
@@ -51,6 +50,8 @@ within 2188 receive in.sym out.ts
 within 1568 make 1 $packets out.ts
 within 1944 hurt in.ts damage.toml out.ts
 within 2132 net net.toml
+within 10324 net net-35.toml
+within 262144 net net-1020.toml
 within 12288 soft in.sym out.sym
 within 2140 dvb code in.ts in.dvb
 within 2188 dvb read in.dvb out.ts

@@ -1,15 +1,21 @@
 #!/usr/bin/env bash
 # Measures `dtx net` of three transmitters, each of which is given the whole feed of 31,200 packets, beside `dtx adapt` and three times
-# `dtx excite` of the same stream; `net` of 35 transmitters over two frames; the memory of both, and that of one transmitter over the two
-# frames; and `dtx hurt` of 200 MB, with one entry of damage and with 100,000, beside `cat`. All of it in one run, on one processor where
-# `taskset` is there, each the best of three. It needs 1 GB on the disk of temporary files. The status is 0 where 35 exciters need at most
-# 8 MB more memory than one.
+# `dtx excite` of the same stream; `net` of 35 transmitters over two frames; `net` of 1,020 transmitters over a frame, beside three that are
+# given as many packets together; the memory of each, and that of one transmitter over the two frames; and `dtx hurt` of 200 MB, with one
+# entry of damage and with 100,000, beside `cat`. All of it in one run, on one processor where `taskset` is there, each the best of three.
+# The stream of the 1,020, and that of the three beside them, has placeholders enough at the beginning of each frame that all thirty pages
+# are told in time for most of it to be sent. It needs 2 GB on the disk of temporary files. The status is 0 where 35 exciters need at most 8
+# MB more memory than one, 1,020 need at most 256 MB, and with 1,020 a packet that is given takes at most 1.25 times as long as with three.
 
 set -eu
 rounds=3
 memory_bar=8192
+most_memory_bar=262144
+time_bar=1.25
 packets=31200
 few_packets=1248
+most_transmitters=1020
+frame=624
 large_packets=1063830
 most_entries=100000
 
@@ -29,12 +35,32 @@ network() {
     done
 }
 
+# paged IN OUT: a stream in which each of the first 45 groups of a frame begins with a placeholder.
+paged() {
+    python3 - "$1" "$2" <<'end'
+import sys
+stream = bytearray(open(sys.argv[1], "rb").read())
+for packet in range(0, len(stream) // 188, 4):
+    if packet % 624 < 180:
+        stream[188 * packet:188 * packet + 3] = b"\x47\x1f\xfa"
+open(sys.argv[2], "wb").write(stream)
+end
+}
+
+# Three transmitters are given about as many packets as the 1,020.
+beside_packets=$((most_transmitters / 3 * frame))
 "$program" make 1 $packets in.ts >said
 "$program" make 1 $few_packets few.ts >said
 "$program" make 1 $large_packets large.ts >said
+"$program" make 1 $beside_packets made.ts >said
+paged made.ts beside.ts
+head -c $((frame * 188)) beside.ts >frame.ts
+rm made.ts
 network in.ts $packets 3 >three.toml
 network few.ts $few_packets 1 >one.toml
 network few.ts $few_packets 35 >thirty-five.toml
+network frame.ts $frame $most_transmitters >most-transmitters.toml
+network beside.ts $beside_packets 3 >beside.toml
 bytes=$((large_packets * 188))
 printf '[[damage]]\nat = %d\ncount = 1000\nput = 0\n' $((bytes / 2)) >damage.toml
 awk -v entries=$most_entries -v step=$((bytes / most_entries)) \
@@ -47,6 +73,11 @@ for ((round = 0; round < rounds; round++)); do
     measure 'excite' out.sym "$program" excite feed.ts 1 0 out.sym out.log
     rm -f tx-*
     measure 'net of 35' net.feed "$program" net thirty-five.toml
+    rm -f tx-*
+    measure 'net of 1,020' net.feed "$program" net most-transmitters.toml
+    rm -f tx-*
+    measure '3 beside' net.feed "$program" net beside.toml
+    rm -f tx-*
     measure 'cat' none cat large.ts
     measure 'hurt' out.ts "$program" hurt large.ts damage.toml out.ts
     measure 'hurt at most' out.ts "$program" hurt large.ts most.toml out.ts
@@ -63,6 +94,8 @@ line 'net of 3' $((packets * 188)) 'feed, each packet given three times'
 line 'adapt' $((packets * 188)) 'feed'
 line 'excite' $((packets * 188)) 'feed'
 line 'net of 35' $((few_packets * 188)) 'feed, each packet given 35 times'
+line 'net of 1,020' $((frame * 188)) "feed, each packet given $most_transmitters times"
+line '3 beside' $((beside_packets * 188)) 'feed, each packet given three times'
 line 'cat' $bytes 'file'
 line 'hurt' $bytes "file, one entry"
 line 'hurt at most' $bytes "file, $most_entries entries"
@@ -70,9 +103,22 @@ awk -v time="${best[net of 3]}" -v adapt="${best[adapt]}" -v excite="${best[exci
     'BEGIN { printf "net of 3 takes %.2f times as long as adapt and three times excite\n", time / (adapt + 3 * excite) }'
 awk -v hurt="${best[hurt]}" -v cat="${best[cat]}" 'BEGIN { printf "hurt takes %.2f times as long as cat\n", hurt / cat }'
 
+per_packet() {
+    awk -v time="${best[$1]}" -v given=$2 'BEGIN { printf "%.3f", time / given }'
+}
+most_time=$(per_packet 'net of 1,020' $((most_transmitters * frame)))
+few_time=$(per_packet '3 beside' $((3 * beside_packets)))
+time_ratio=$(awk -v most="$most_time" -v few="$few_time" 'BEGIN { printf "%.2f", most / few }')
+printf 'a packet that is given takes %s microseconds with %d transmitters, and %s with 3: %s times as long (bar: %s)\n' \
+    "$most_time" $most_transmitters "$few_time" "$time_ratio" $time_bar
+
 three=$(memory "$program" net three.toml)
 one=$(memory "$program" net one.toml)
 many=$(memory "$program" net thirty-five.toml)
+most=$(memory "$program" net most-transmitters.toml)
 printf 'memory of net: %d kB with 3 transmitters over %d packets; over %d packets %d kB with one and %d kB with 35, %d kB more (bar: %d kB)\n' \
     "$three" $packets $few_packets "$one" "$many" $((many - one)) $memory_bar
-((many - one <= memory_bar))
+printf 'memory of net: %d kB with %d transmitters over %d packets (bar: %d kB), %d kB for each but the first\n' \
+    "$most" $most_transmitters $frame $most_memory_bar $(((most - one) / (most_transmitters - 1)))
+((many - one <= memory_bar && most <= most_memory_bar))
+awk -v ratio="$time_ratio" -v bar=$time_bar 'BEGIN { exit ratio > bar }'

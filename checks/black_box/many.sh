@@ -26,6 +26,10 @@ mkdir "$room/many"
     done
     "$dtx" adapt "$inputs/plan.toml" sparse.ts sparse.feed
     "$dtx" excite sparse.feed 7 1000 sparse.sym sparse.log >sparse.line
+    # A network of three pages, so one field in three lists an exciter.
+    plan_of 100 70 >seventy.toml
+    "$dtx" adapt seventy.toml made.ts seventy.feed
+    "$dtx" excite seventy.feed 169 0 seventy.sym seventy.log >seventy.line
 ) >"$room/many.said"
 given 0 0
 
@@ -121,6 +125,11 @@ chmod +x "$room/many/cluster/sbatch"
 
 start 'pieces as an array of jobs are joined to what one process writes'
 excite_by PATH="$room/many/cluster:$PATH" SLURM=1 FOLDER="$room/many/pieces"
+
+start 'pieces of a feed with three pages'
+program=("$many/excite.sh")
+run 0 "$(cat "$room/many/seventy.line")" 3 ../many/seventy.feed 169 0 all.sym all.log
+same seventy sym log
 
 start 'pieces of a feed with few orders'
 program=("$many/excite.sh")

@@ -150,16 +150,17 @@ for segment in 0 1 2 3 60 311; do
         wrong "segment $segment is coded from other states than those that the packet says"
 done
 
-start 'flipped packets: a mark, a placeholder told by its PID no more, an operations packet that is mended'
+start 'flipped packets: a stray mark and a missing one, a placeholder told by its PID no more, an operations packet that is mended'
 stream 700 s.ts
 {
     network s.ts
     send 7 0 100 && flip 7 100 2 4 && send 7 101 599
-    send 9 0 100 && flip 9 100 50 255 && send 9 101 99 && flip 9 200 0 255 && send 9 201 499
+    send 9 0 100 && flip 9 100 50 255 && send 9 101 99
+    flip 9 200 0 255 && send 9 201 423 && flip 9 624 0 255 && send 9 625 75
 } >plan.toml
 is_network 0 plan.toml
 log_is tx-7.log 'preset 0 0 412 5320042 612'
-log_is tx-9.log 'preset 0 0 100 5078105 640' 'mute 100 cadence' 'mute 100 cadence'
+log_is tx-9.log 'preset 0 0 100 5078105 640' 'preset 313 0 412 5320077 612'
 
 start 'addresses at their ends, out of order, and transmitters that are late or given nothing'
 stream 700 s.ts

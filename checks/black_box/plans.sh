@@ -150,16 +150,42 @@ start = 0\nmax_delay = 0\ntransmitter = [{ address = 0, offset = 32767 }]\n
 {damage}at = 0\nput = -128\n[[net.receive.damage]]\nat = 1\ncount = 520832000000\nput = 127\n
 end
 
-start 'a plan of 35 transmitters, and one of 36'
-{
-    printf 'start = 0\nmax_delay = 5000000\n'
-    for ((address = 1; address <= 35; address++)); do
-        printf '[[transmitter]]\naddress = %d\noffset = 0\n' $address
-    done
-} >plan.toml
-run 0 'packets 3 filled 0 loose 0' adapt plan.toml ../inputs/given.ts out.ts
-printf '[[transmitter]]\naddress = 36\noffset = 0\n' >>plan.toml
+start 'a plan of 1,020 transmitters, and one of 1,021'
+for count in 35 36 1020; do
+    plan_of 1 $count >plan.toml
+    run 0 'packets 3 filled 0 loose 0' adapt plan.toml ../inputs/given.ts out.ts
+done
+rm out.ts
+plan_of 1 1021 >plan.toml
 run 5 'plan transmitter 0 range' adapt plan.toml ../inputs/given.ts out.ts
+leaves plan.toml
+
+start 'a plan of 1,021 transmitters whose entries break rules'
+{ printf 'start = 0\nmax_delay = 0\ntransmitter = [' && printf '0, %.0s' {1..1021} && echo ']'; } >plan.toml
+run 5 'plan transmitter 0 range' adapt plan.toml ../inputs/given.ts out.ts
+sed -i 's/0, //' plan.toml
+run 5 'plan transmitter 0 kind' adapt plan.toml ../inputs/given.ts out.ts
+
+# The last of 1,020 entries breaks a rule.
+while IFS='|' read -r line last; do
+    start "1,020 transmitters, the last of which is refused: $line"
+    plan_of 1 1019 >plan.toml
+    printf '[[transmitter]]\n%b' "$last" >>plan.toml
+    run 5 "plan $line" adapt plan.toml ../inputs/given.ts out.ts
+    leaves plan.toml
+done <<'end'
+address 1019 twice|address = 1\noffset = 0\n
+address 1019 twice|address = 1019\noffset = 0\n
+address 1019 range|address = 65536\noffset = 0\n
+offset 1019 missing|address = 1020\n
+transmitter 1019 unknown|address = 1020\noffset = 0\npower = 1\n
+end
+
+start 'an event for the last of 1,020 transmitters, and one for nobody'
+{ plan_of 1 1020 && printf '[net]\nstream = "s.ts"\n[[net.event]]\ndo = "restart"\nto = 1020\n'; } >plan.toml
+run 0 'packets 3 filled 0 loose 0' adapt plan.toml ../inputs/given.ts out.ts
+printf '[[net.event]]\ndo = "restart"\nto = 1021\n' >>plan.toml
+run 5 'plan to 1 stranger' adapt plan.toml ../inputs/given.ts out.ts
 
 # The examples: plans that are read, and a plan for each common mistake, which says its line in its last comment.
 for example in "$top"/examples/*.toml; do

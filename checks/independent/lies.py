@@ -6,11 +6,12 @@ lies.py FEED CHANGE OUT    CHANGE is a word of CHANGES; the correction bytes are
 
 import sys
 
-from reference import PACKET, correction_bytes
+from reference import MOST, PACKET, correction_bytes, entries_at, misread
 
 PLACE = 100 * PACKET
-# Where the fields of the data stand: kind, states and four bits of 0, stamp, maximum delay, frame, index, count, entries.
-KIND, PAD, STAMP, DELAY, INDEX, COUNT, ENTRIES = 0, 5, 6, 9, 16, 18, 19
+# Where the fields of the data stand: kind, states and four bits of 0, stamp, maximum delay, frame, index; in kind 2 also page and number of
+# pages. Behind them the count of the entries stands just before these.
+KIND, PAD, STAMP, DELAY, INDEX, PAGE, PAGES = 0, 5, 6, 9, 16, 18, 19
 TOO_MANY = 10_000_000
 
 
@@ -21,25 +22,53 @@ def put(place, number, size):
     return change
 
 
+def entry(number):
+    """A change of the address of an entry; the first entry's becomes 8, that of the second the first one's."""
+    def change(data):
+        at = entries_at(data[KIND])
+        data[at + 4 * number : at + 4 * number + 2] = data[at : at + 2] if number else b"\0\x08"
+    return change
+
+
 def pad(data):
     data[PAD] |= 1
 
 
 def fill(data):
-    data[ENTRIES + 4 * data[COUNT]] = 1
+    at = entries_at(data[KIND])
+    data[at + 4 * data[at - 1] :] = bytes(163 - at - 4 * data[at - 1]) + b"\1"
 
 
+def count(data):
+    """One entry too many for the kind, of which there is room, with another address each."""
+    at, number = entries_at(data[KIND]), MOST[data[KIND]] + 1
+    added = b"".join((1000 + k).to_bytes(2, "big") + b"\0\0" for k in range(data[at - 1], number))
+    data[at + 4 * data[at - 1] : at + 4 * number] = added
+    data[at - 1] = number
+
+
+def no_pages_and_count(data):
+    put(PAGES, 0, 1)(data)
+    count(data)
+
+
+# Each change, and the rule that the changed packet is the first to break, if any.
 CHANGES = {
-    "kind": put(KIND, 0, 1),
-    "pad": pad,
-    "stamp": put(STAMP, TOO_MANY, 3),
-    "delay": put(DELAY, TOO_MANY, 3),
-    "index": put(INDEX, 624, 2),
-    "count": put(COUNT, 36, 1),
-    "twice": put(ENTRIES + 4, 7, 2),
-    "fill": fill,
-    "place": put(INDEX, 99, 2),
-    "address": put(ENTRIES, 8, 2),
+    "kind": (put(KIND, 0, 1), "Kind"),
+    "third": (put(KIND, 3, 1), "Kind"),
+    "pad": (pad, "Pad"),
+    "stamp": (put(STAMP, TOO_MANY, 3), "Stamp"),
+    "delay": (put(DELAY, TOO_MANY, 3), "Delay"),
+    "index": (put(INDEX, 624, 2), "Index"),
+    "page": (put(PAGE, 2, 1), "Page"),
+    "no-pages": (put(PAGES, 0, 1), "Page"),
+    "pages": (put(PAGES, 31, 1), "Page"),
+    "no-pages-and-count": (no_pages_and_count, "Page"),
+    "count": (count, "Count"),
+    "twice": (entry(1), "Twice"),
+    "fill": (fill, "Fill"),
+    "place": (put(INDEX, 99, 2), None),
+    "address": (entry(0), None),
 }
 
 
@@ -50,9 +79,11 @@ def changed(packet, word):
     if word in ("ten", "eleven"):
         wrong = 10 if word == "ten" else 11
         return packet[:4] + bytes(byte ^ 0x55 for byte in packet[4:4 + wrong]) + packet[4 + wrong:]
-    data = bytearray(packet[4:168])
-    CHANGES[word](data)
-    return packet[:4] + bytes(data) + correction_bytes(data)
+    data, (change, broken) = bytearray(packet[4:168]), CHANGES[word]
+    change(data)
+    if misread(bytes(data)) != broken:
+        sys.exit(f"{word}: breaks the rule {misread(bytes(data))}, not {broken}")
+    return packet[:4] + bytes(data) + correction_bytes(bytes(data))
 
 
 def main(feed, word, out):

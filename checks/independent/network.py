@@ -2,8 +2,9 @@
 """Tries `dtx net` on random small networks, against the written rules over whole lists: the feed, each transmitter's lives out of its own
 steps of the schedule, and what is received of the symbols.
 
-network.py DTX SCHEDULES    names each network that differs, and ends with the line `network: N passed, M failed`
-network.py net PLAN FOLDER  writes the files of the network of a plan to the folder, and prints its line
+network.py DTX SCHEDULES       names each network that differs, and ends with the line `network: N passed, M failed`
+network.py many DTX SCHEDULES  the same of networks of 36 to 120 transmitters, few of which are given something, and of one of 1,020
+network.py net PLAN FOLDER     writes the files of the network of a plan to the folder, and prints its line
 """
 
 import os
@@ -153,10 +154,10 @@ def toml(plan):
     return text
 
 
-def made_stream(chance):
+def made_stream(chance, shares=(0.01, 0.03, 0.1)):
     """Packets of several PIDs, placeholders among them, and sometimes loose bytes behind."""
-    share, often, stream = chance.choice((0.01, 0.03, 0.1)), chance.random() < 0.8, bytearray()
-    few, more, many = 60, chance.randrange(60, 701), chance.randrange(420, 701)
+    share, often, stream = chance.choice(shares), chance.random() < 0.8, bytearray()
+    few, more, many = 60, chance.randrange(60, 701), chance.choice((chance.randrange(420, 701), chance.randrange(420, 701), 1400))
     for k in range(chance.choice((few, more, more, many, many, many, many))):
         pid = chance.choice((0x0031, 0x1FFB, 0x0FFA, 0x1FFF))
         if chance.random() < share or often and k == 53:
@@ -165,11 +166,11 @@ def made_stream(chance):
     return bytes(stream) + chance.randbytes(chance.choice((0, 0, 1, 187)))
 
 
-def made_plan(chance):
-    """A plan without events."""
+def made_plan(chance, count):
+    """A plan of so many transmitters, without events."""
     start, longest = chance.choice((0, chance.randrange(10_000_000))), chance.choice((5_000_000, chance.randrange(10_000_000)))
     transmitters = []
-    for address in chance.sample((0, 7, 9, 10, 65535, *chance.sample(range(65536), 4)), chance.randrange(1, 5)):
+    for address in chance.sample((0, 7, 9, 10, 65535, *chance.sample(range(11, 65535), max(4, count))), count):
         offset = chance.choice((0, -10, 25, -32768, 32767))
         latest = max(0, longest + offset)
         delay = chance.choice((0, 0, 0, *(chance.randrange(latest + 1) for _ in range(4)), latest, latest + 1, 2**32 - 1))
@@ -187,20 +188,22 @@ def changed(chance, to, k):
 
 def made_script(chance, to, packets):
     """The events of one transmitter: parts of the feed in pieces, in which packets are changed or left out, and between the parts
-    restarts and foreign packets."""
-    events, count = [], len(packets)
+    restarts and foreign packets: a few, as many as fill up a frame, or so many that a lock is lost."""
+    events, count, at = [], len(packets), 0
     for _ in range(chance.choice((0, 1, 1, 1, 2, 3))):
         if chance.random() < 0.5:
             events.append({"do": "restart", "to": to})
-        if chance.random() < 0.2:
-            start = chance.choice((0, 95, chance.randrange(624_000_000 - 60)))
+        if chance.random() < 0.3:
+            start = chance.choice((0, 95, chance.randrange(624_000_000 - 1300)))
             seed = chance.choice((2, chance.randrange(2**63)))
-            events.append({"do": "foreign", "to": to, "seed": seed, "from": start, "count": chance.randrange(1, 60)})
+            few, frame, many = chance.randrange(1, 60), FRAME - at % FRAME, chance.randrange(1150, 1300)
+            events.append({"do": "foreign", "to": to, "seed": seed, "from": start, "count": chance.choice((few, few, frame, many))})
         at = chance.choice((0, 0, 0, 0, 0, FRAME if count > FRAME else 0, chance.randrange(count)))
-        end = min(count, at + chance.choice((30, 70, 200, *[700] * 6)))
+        end = min(count, at + chance.choice((30, 70, 200, *[1400] * 6)))
         while at < end:
             orders = [k for k in range(at, end) if is_placeholder(packets[k])]
-            stop = chance.choice((end, end, chance.randrange(at, end), chance.choice(orders or [end])))
+            marks = [k for k in range(at + 1, end) if k % FRAME == 0]
+            stop = chance.choice((end, end, chance.randrange(at, end), chance.choice(orders or [end]), *marks))
             if stop > at:
                 events.append({"do": "send", "to": to, "from": at, "count": stop - at})
             at = stop
@@ -241,20 +244,23 @@ def made_damage(chance, symbols):
     return entries
 
 
-def made_network(chance):
-    """A stream, and a plan with its events, whose receiver's damage fits what was sent, or with an event or an entry too far out."""
-    plan, stream = made_plan(chance), made_stream(chance)
+def made_network(chance, many=None):
+    """A stream, and a plan with its events, whose receiver's damage fits what was sent, or with an event or an entry too far out. Of many
+    transmitters a few are given something."""
+    plan = made_plan(chance, many or chance.randrange(1, 5))
+    stream = made_stream(chance, (0.1, 0.2, 0.3)) if many else made_stream(chance)
     net, packets = plan["net"], packets_of(adapted(stream, plan))
-    events = merged(chance, [made_script(chance, each["address"], packets) for each in plan["transmitter"]])
+    given = chance.sample(plan["transmitter"], chance.randrange(2, 5)) if many else plan["transmitter"]
+    events = merged(chance, [made_script(chance, each["address"], packets) for each in given])
     if chance.random() < 0.15:
         to, count = chance.choice(plan["transmitter"])["address"], len(packets)
         bad = changed(chance, to, count) if chance.random() < 0.5 else {"do": "send", "to": to, "from": count - 1, "count": 2}
         for _ in range(2):
             events.insert(chance.randrange(len(events) + 1), bad)
     elif chance.random() < 0.9:
-        files = [transmitted(each, events, packets)[0] for each in plan["transmitter"]]
+        files = [transmitted(each, events, packets)[0] for each in given]
         symbols = chance.choice(files + [max(files, key=len)] * 4)
-        receiver, length = plan["transmitter"][files.index(symbols)], len(symbols)
+        receiver, length = given[files.index(symbols)], len(symbols)
         damage = made_damage(chance, symbols)
         if chance.random() < 0.12:
             start = max((end_of(entry) for entry in damage), default=0)
@@ -287,13 +293,14 @@ def differences(words, folder, before, made, line):
     return wrong
 
 
-def main(dtx, schedules):
-    chance = random.Random(21)
+def main(dtx, schedules, many):
+    chance = random.Random(36 if many else 21)
     passed = failed = 0
-    met = dict.fromkeys(["flagged", "fixed", "sent", *STATUS], 0)
+    met = dict.fromkeys(["fixed", "sent", "packets"] if many else ["flagged", "fixed", "sent", "cadence", *STATUS], 0)
     with tempfile.TemporaryDirectory() as room:
         for number in range(schedules):
-            plan, stream = made_network(chance)
+            count = many and (1020 if number == schedules - 1 else chance.randrange(36, 121))
+            plan, stream = made_network(chance, count)
             names = ["net.feed", "net.ts"] + [f"tx-{each['address']}.{end}" for each in plan["transmitter"] for end in ("sym", "log")]
             older = {name: chance.randbytes(2_000_000) for name in chance.sample(names, chance.choice((0, 0, 1, 2)))}
             folder = os.path.join(room, str(number))
@@ -304,6 +311,8 @@ def main(dtx, schedules):
             for kind in met:
                 met[kind] += kind in line and f"{kind} 0" not in line.split(" steps")[-1]
             met["sent"] += any(name.endswith(".sym") and content for name, content in files.items())
+            if not many:
+                met["cadence"] += any(b"cadence" in content for name, content in files.items() if name.endswith(".log"))
             if wrong:
                 failed += 1
                 print(f"FAILED: network {number}: {'; '.join(wrong)}")
@@ -327,4 +336,5 @@ if __name__ == "__main__":
         put_files(sys.argv[3], files)
         print(line)
     else:
-        sys.exit(main(sys.argv[1], int(sys.argv[2])))
+        many = sys.argv[1] == "many"
+        sys.exit(main(sys.argv[-2], int(sys.argv[-1]), many))

@@ -2,12 +2,13 @@
 """Makes streams for the checks, after the written rules; it shares nothing with dtx. What the independent programs share stands here
 too.
 
-reference.py feed IN OUT    adapts a stream under the plan of examples/two-sites.toml
-reference.py zeros N OUT    a stream of N packets whose coded bytes are all 0
+reference.py feed IN OUT [PLAN]    adapts a stream under a plan, or under that of examples/two-sites.toml
+reference.py zeros N OUT           a stream of N packets whose coded bytes are all 0
 """
 
 import functools
 import sys
+import tomllib
 
 PACKET, FIELD, FRAME = 188, 312, 624
 TWO_SITES = {"start": 0, "max_delay": 5_000_000, "transmitter": [{"address": 7, "offset": -10}, {"address": 9, "offset": 25}]}
@@ -178,47 +179,81 @@ def is_placeholder(packet):
     return packet[1] & 0x1F == 0x1F and packet[2] == 0xFA
 
 
+# The most entries of an operations packet, by its kind, and the most pages of a network. Kind 1 has all of a network's transmitters, and is
+# page 0 of one page; kind 2 has those of a page.
+MOST, MOST_PAGES = {1: 35, 2: 34}, 30
+
+
 def spelled(head, counter, fields):
     """The operations packet of a sync byte, a counter and fields."""
     bits = 0
     for state in fields["states"]:
         bits = 8 * bits + state
-    data = b"\1" + (16 * bits).to_bytes(5, "big") + fields["stamp"].to_bytes(3, "big") + fields["max_delay"].to_bytes(3, "big")
-    data += fields["frame"].to_bytes(4, "big") + fields["index"].to_bytes(2, "big") + bytes([len(fields["offsets"])])
+    data = bytes([fields["kind"]]) + (16 * bits).to_bytes(5, "big")
+    data += fields["stamp"].to_bytes(3, "big") + fields["max_delay"].to_bytes(3, "big")
+    data += fields["frame"].to_bytes(4, "big") + fields["index"].to_bytes(2, "big")
+    data += bytes([fields["page"], fields["pages"]]) if fields["kind"] == 2 else b""
+    data += bytes([len(fields["offsets"])])
     for address, offset in fields["offsets"].items():
         data += address.to_bytes(2, "big") + offset.to_bytes(2, "big", signed=True)
     data = data.ljust(164, b"\0")
     return bytes([head, 0x1F, 0xFA, 0x10 + counter % 16]) + data + correction_bytes(data)
 
 
-@functools.cache
-def read(packet):
-    """The fields that a packet reads as, or nothing."""
-    codeword = corrected(packet[4:]) if is_placeholder(packet) else None
-    if codeword is None:
-        return None
-    data = codeword[:164]
-    bits, count = int.from_bytes(data[1:6], "big"), data[18]
-    entries = [(data[at : at + 2], data[at + 2 : at + 4]) for at in range(19, 19 + 4 * min(count, 35), 4)]
-    fields = {
+def entries_at(kind):
+    """Where the entries stand in the data of an operations packet; their count is the byte before them."""
+    return 21 if kind == 2 else 19
+
+
+def said(data):
+    """The fields that the data of an operations packet say, of which the offsets are those of the entries that there may be."""
+    bits, at = int.from_bytes(data[1:6], "big"), entries_at(data[0])
+    count = min(data[at - 1], MOST.get(data[0], 0))
+    entries = [(data[place : place + 2], data[place + 2 : place + 4]) for place in range(at, at + 4 * count, 4)]
+    return {
+        "kind": data[0],
         "states": [bits >> 4 >> 3 * (11 - coder) & 7 for coder in range(12)],
         "stamp": int.from_bytes(data[6:9], "big"),
         "max_delay": int.from_bytes(data[9:12], "big"),
         "frame": int.from_bytes(data[12:16], "big"),
         "index": int.from_bytes(data[16:18], "big"),
+        "page": data[18] if data[0] == 2 else 0,
+        "pages": data[19] if data[0] == 2 else 1,
         "offsets": {int.from_bytes(address, "big"): int.from_bytes(offset, "big", signed=True) for address, offset in entries},
     }
-    is_read = (
-        data[0] == 1
-        and bits % 16 == 0
-        and fields["stamp"] < 10_000_000
-        and fields["max_delay"] < 10_000_000
-        and fields["index"] < FRAME
-        and count <= 35
-        and len(fields["offsets"]) == count
-        and not any(data[19 + 4 * count :])
+
+
+def misread(data):
+    """Why the data of an operations packet don't read: the first rule that they break, or nothing."""
+    fields, at = said(data), entries_at(data[0])
+    count = data[at - 1]
+    rules = (
+        ("Kind", fields["kind"] not in MOST),
+        ("Pad", data[5] % 16 > 0),
+        ("Stamp", fields["stamp"] >= 10_000_000),
+        ("Delay", fields["max_delay"] >= 10_000_000),
+        ("Index", fields["index"] >= FRAME),
+        ("Page", not fields["page"] < fields["pages"] <= MOST_PAGES),
+        ("Count", count > MOST.get(fields["kind"], 0)),
+        ("Twice", len(fields["offsets"]) < count),
+        ("Fill", any(data[at + 4 * count :])),
     )
-    return fields if is_read else None
+    return next((name for name, is_broken in rules if is_broken), None)
+
+
+@functools.cache
+def refusal(packet):
+    """Why a packet doesn't read as an operations packet, or nothing where it does."""
+    if not is_placeholder(packet):
+        return "NotOps"
+    codeword = corrected(packet[4:])
+    return misread(codeword[:164]) if codeword else "Uncorrectable"
+
+
+@functools.cache
+def read(packet):
+    """The fields that a packet reads as, or nothing."""
+    return None if refusal(packet) else said(corrected(packet[4:])[:164])
 
 
 def packets_of(stream):
@@ -226,9 +261,19 @@ def packets_of(stream):
     return [bytes(stream[at : at + PACKET]) for at in range(0, len(stream) - PACKET + 1, PACKET)]
 
 
+def listed(plan, turn):
+    """The kind of an operations packet, its page, the number of pages and the offsets, where so many groups before it have one."""
+    transmitters = plan["transmitter"]
+    kind = 1 if len(transmitters) <= MOST[1] else 2
+    pages = -(-len(transmitters) // MOST[2]) if kind == 2 else 1
+    page = turn % pages
+    shown = transmitters[MOST[2] * page : MOST[2] * (page + 1)] if kind == 2 else transmitters
+    return {"kind": kind, "page": page, "pages": pages, "offsets": {each["address"]: each["offset"] for each in shown}}
+
+
 def adapted(stream, plan=TWO_SITES):
     """The feed of a stream under a plan: marks, and operations packets in the place of the placeholders."""
-    feed, coded_bytes, states, filled = bytearray(), bytearray(), [0] * 12, 0
+    feed, coded_bytes, states, filled, turn = bytearray(), bytearray(), [0] * 12, 0, 0
     packets = packets_of(stream)
     for first in range(0, len(packets), 4):
         group = packets[first : first + 4]
@@ -242,12 +287,12 @@ def adapted(stream, plan=TWO_SITES):
                     "max_delay": plan["max_delay"],
                     "frame": k // FRAME,
                     "index": k % FRAME,
-                    "offsets": {each["address"]: each["offset"] for each in plan["transmitter"]},
                 }
-                packet = spelled(head, filled, fields)
+                packet = spelled(head, filled, fields | listed(plan, turn))
                 filled += 1
             feed += packet
             coded_bytes += coded(packet, k % FIELD)
+        turn += any(is_placeholder(packet) for packet in group)
         if len(group) == 4:
             start = 207 * first
             places = (n - 208 * (n % 52) for n in range(start, start + 828))
@@ -275,5 +320,9 @@ def try_each(name, cases):
 
 if __name__ == "__main__":
     kind, given, target = sys.argv[1:4]
-    made = adapted(open(given, "rb").read()) if kind == "feed" else zeros(int(given))
+    if kind == "zeros":
+        made = zeros(int(given))
+    else:
+        plan = tomllib.loads(open(sys.argv[4]).read()) if len(sys.argv) > 4 else TWO_SITES
+        made = adapted(open(given, "rb").read(), plan)
     open(target, "wb").write(made)

@@ -3,7 +3,7 @@
 # so many exciters side by side, each given a piece of the feed. The feed is one of `dtx adapt`, unchanged, in which this
 # exciter is listed and in time.
 #
-# An exciter that is given a feed from one of its marks on sends from its first order on what one sends that was given all
+# An exciter that is given a feed from one of its marks on sends from its first listing on what one sends that was given all
 # of it. So each piece begins at a mark, and goes on until the next one has begun to send: where both send, the symbols and
 # the lines of the log are compared, and the next one's are taken.
 

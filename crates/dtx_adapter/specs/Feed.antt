@@ -1,8 +1,8 @@
 -- The feed that an adapter makes of a stream under a plan (the profile's own, in the manner of ATSC A/110). Packets are
 -- counted from 0, and 624 make a frame.
-use Rattle.std.specs.Prelude.{ℕ, ◌*◌, ◌/◌, ◌%◌, ◌==◌, Bool, if◌then◌else◌, List, [], ◌∷◌, ◌++◌, length, map, take}
-use Rattle.std.specs.Prelude.{slice_index_or}
-use Rattle.std.specs.List.{filter}
+use Rattle.std.specs.Prelude.{ℕ, ◌+◌, ◌*◌, ◌/◌, ◌%◌, ◌==◌, nat_le, Bool, true, if◌then◌else◌, List, [], ◌∷◌, ◌++◌}
+use Rattle.std.specs.Prelude.{length, map, take, slice_index_or, slice_range}
+use Rattle.std.specs.List.{filter, list_any, range_with_len}
 use Rattle.std.proofs.Common.{zero, suc}
 use Rattle.dtx_packets.specs.Packet.{pid_of}
 use Rattle.dtx_cadence.specs.Mark.{sync_at, marked}
@@ -11,6 +11,8 @@ use Rattle.dtx_coder.specs.Stream.{states}
 use Rattle.dtx_ops.specs.Spelling.{spelling}
 use Rattle.dtx_ops.specs.declared.fields.Entry.{Entry}
 use Rattle.dtx_ops.specs.declared.fields.Ops.{Ops}
+use Rattle.dtx_ops.specs.declared.paging.Paging.{Paging}
+use Rattle.dtx_ops.specs.declared.paging.Paging.TheVariants.{One, Of}
 use Rattle.dtx_plan.specs.declared.plan.Plan.{Plan}
 use Rattle.dtx_plan.specs.declared.transmitter.Transmitter.{Transmitter}
 
@@ -26,17 +28,49 @@ placeholders packets = length (filter is_placeholder packets)
 abbrev pub entry_of : Transmitter → Entry
 entry_of t = record { address = t.address; offset = t.offset }
 
--- What the operations packet k says, before which these packets of the feed stand: the states that the coders have
--- behind all whole groups before its own, the stamp of its frame, the plan's maximum delay and its transmitters in
--- their order, the number of the frame, and the packet's place in it.
-unfoldable pub ops_at : Plan → List (List ℕ) → ℕ → Ops
-ops_at plan before k = record {
+-- how many pages so many transmitters take, 34 on each
+unfoldable pub pages_for : ℕ → ℕ
+pages_for count = (count + 33) / 34
+
+-- the page that a group's operations packets carry, behind n other groups that hold some: up to 35 transmitters stand
+-- on the only page, and more of them on pages that take turns
+unfoldable pub paging_of : {X : Type 0} → List X → ℕ → Paging
+paging_of ts n = if nat_le (length ts) 35 then One else Of (n % pages_for (length ts)) (pages_for (length ts))
+
+-- the transmitters on a page, in their order: page p has those from 34 p on, 34 at most
+abbrev pub listed : {X : Type 0} → List X → Paging → List X
+listed ts One = ts
+listed ts (Of page pages) = slice_range ts (34 * page) (34 * page + 34)
+
+-- transmitter i stands on the page
+abbrev pub is_listed : Paging → ℕ → Bool
+is_listed One i = true
+is_listed (Of page pages) i = page == i / 34
+
+-- group u of the stream, its packets 4 u to 4 u + 3, holds a placeholder
+unfoldable pub is_filled : List (List ℕ) → ℕ → Bool
+is_filled stream u = list_any is_placeholder (slice_range stream (4 * u) (4 * u + 4))
+
+-- how many groups before group u hold one
+unfoldable pub filled_groups : List (List ℕ) → ℕ → ℕ
+filled_groups stream u = length (filter (is_filled stream) (range_with_len 0 u))
+
+-- the page that the operations packets of group u carry
+abbrev pub paging_at : Plan → List (List ℕ) → ℕ → Paging
+paging_at plan stream u = paging_of plan.transmitters (filled_groups stream u)
+
+-- What operations packet k of a stream's feed says, before which these packets of the feed stand: the states that the
+-- coders have behind all whole groups before its own, the stamp of its frame, the plan's maximum delay, the number of
+-- the frame, the packet's place in it, the page of its group, and the plan's transmitters on that page.
+unfoldable pub ops_at : Plan → List (List ℕ) → List (List ℕ) → ℕ → Ops
+ops_at plan stream before k = record {
   states = states (take (4 * (k / 4)) before);
   stamp = stamp_of plan.start (k / 624);
   max_delay = plan.max_delay;
   frame = k / 624;
   index = k % 624;
-  offsets = record { items = map entry_of plan.transmitters.items };
+  paging = paging_at plan stream (k / 4);
+  offsets = record { items = map entry_of (listed plan.transmitters (paging_at plan stream (k / 4))) };
 }
 
 -- the counter of operations packet k: how many stand before it, modulo 16
@@ -51,7 +85,7 @@ as_feed_packet ops counter k packet = if is_placeholder packet then spelling ops
 
 -- packet k of the feed, before which these packets of it stand
 unfoldable pub fed_packet : Plan → List (List ℕ) → List (List ℕ) → ℕ → List ℕ
-fed_packet plan stream before k = as_feed_packet (ops_at plan before k) (counter_at stream k) k
+fed_packet plan stream before k = as_feed_packet (ops_at plan stream before k) (counter_at stream k) k
     (slice_index_or stream k [])
 
 -- the first n packets of the feed

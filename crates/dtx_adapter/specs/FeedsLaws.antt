@@ -1,6 +1,6 @@
 -- The feed of a stream: its length, its parts, and its next packet.
-use Rattle.std.proofs.Common.{◌≡◌, ◌⊎◌, inl, inr, ℕ, zero, suc, ◌+◌, ◌%◌, ◌<◌, ◌≤◌, Bool, true, false, cond, List, []}
-use Rattle.std.proofs.Common.{◌∷◌, ◌++◌, length, take, drop, get_or, refl, sym, ap, ap₂, ◌∙◌, arith}
+use Rattle.std.proofs.Common.{◌≡◌, ◌⊎◌, inl, inr, ℕ, zero, suc, ◌+◌, ◌/◌, ◌%◌, ◌<◌, ◌≤◌, Bool, true, false, cond}
+use Rattle.std.proofs.Common.{List, [], ◌∷◌, ◌++◌, length, take, drop, get_or, refl, sym, ap, ap₂, ◌∙◌, arith}
 use Rattle.std.specs.List.{filter}
 use Rattle.std.proofs.Math.Seq.{get_or-append_seam, take-append_seam}
 use Rattle.std.proofs.lemmas.Bool.{cases_lt}
@@ -9,7 +9,8 @@ use Rattle.std.proofs.lemmas.List.{get_or_append_left, length-take-le}
 use Rattle.std.proofs.lemmas.List.Elements.{filter-append}
 use Rattle.dtx_plan.specs.declared.plan.Plan.{Plan}
 use Rattle.dtx_adapter.specs.Feed.{is_placeholder, placeholders, ops_at, counter_at, as_feed_packet, fed_packet}
-use Rattle.dtx_adapter.specs.Feed.{feed_to, feed}
+use Rattle.dtx_adapter.specs.Feed.{filled_groups, feed_to, feed}
+use Rattle.dtx_adapter.specs.GroupsLaws.{filled_groups-more}
 
 -- ---- placeholders
 
@@ -36,11 +37,21 @@ length-feed_to plan stream (suc n) =
     omega (arith, length-append before (fed_packet plan stream before n ∷ []), length-feed_to plan stream n)
 
 -- packets that come later change none of them
+ops_at-more : (plan : Plan) (stream more before : List (List ℕ)) (k : ℕ) → k ≤ length stream
+    → ops_at plan (stream ++ more) before k ≡ ops_at plan stream before k
+unfolding ops_at
+ops_at-more plan stream more before k h =
+    let same : filled_groups (stream ++ more) (k / 4) ≡ filled_groups stream (k / 4) =
+    filled_groups-more stream more (k / 4) (omega (arith, h)) in
+    cc
+
 fed_packet-more : (plan : Plan) (stream more before : List (List ℕ)) (k : ℕ) → k < length stream
     → fed_packet plan (stream ++ more) before k ≡ fed_packet plan stream before k
 unfolding fed_packet counter_at
 fed_packet-more plan stream more before k h =
-    ap₂ (λ counter p. as_feed_packet (ops_at plan before k) counter k p)
+    ap (λ ops. as_feed_packet ops (counter_at (stream ++ more) k) k (get_or (stream ++ more) k []))
+    (ops_at-more plan stream more before k (omega arith))
+    ∙ ap₂ (λ counter p. as_feed_packet (ops_at plan stream before k) counter k p)
     (ap (λ front. placeholders front % 16) (take-append-le k stream more (omega arith)))
     (get_or_append_left stream more [] k h)
 
@@ -119,7 +130,8 @@ feed_packet plan stream k h =
 -- the feed of one packet more
 pub feed_next : (plan : Plan) (stream : List (List ℕ)) (p : List ℕ)
     → feed plan (stream ++ p ∷ []) ≡ feed plan stream
-    ++ as_feed_packet (ops_at plan (feed plan stream) (length stream)) (placeholders stream % 16) (length stream) p ∷ []
+    ++ as_feed_packet (ops_at plan stream (feed plan stream) (length stream)) (placeholders stream % 16)
+    (length stream) p ∷ []
 unfolding feed feed_to fed_packet counter_at
 feed_next plan stream p =
     let longer : List (List ℕ) = stream ++ p ∷ [] in
@@ -127,7 +139,9 @@ feed_next plan stream p =
     let more : length longer ≡ suc n = omega (arith, length-append stream (p ∷ [])) in
     ap (feed_to plan longer) more
     ∙ ap (λ before. before ++ fed_packet plan longer before n ∷ []) (feed_to-more plan stream (p ∷ []) n (omega arith))
-    ∙ ap₂ (λ front here. feed_to plan stream n ++ as_feed_packet (ops_at plan (feed_to plan stream n) n)
+    ∙ ap (λ ops. feed_to plan stream n ++ as_feed_packet ops (placeholders (take n longer) % 16) n
+    (get_or longer n []) ∷ []) (ops_at-more plan stream (p ∷ []) (feed_to plan stream n) n (omega arith))
+    ∙ ap₂ (λ front here. feed_to plan stream n ++ as_feed_packet (ops_at plan stream (feed_to plan stream n) n)
     (placeholders front % 16) n here ∷ [])
     (take-append_seam stream (p ∷ []))
     (get_or-append_seam stream p [] [])

@@ -1,19 +1,24 @@
 -- What fills placeholders, as contracts see it.
-use Rattle.std.specs.Prelude.{ℕ, ◌≡◌, ◌≢◌, ◌<◌, ◌/◌, ◌%◌, List, AllPairs, map}
+use Rattle.std.specs.Prelude.{ℕ, ◌≡◌, ◌≢◌, ◌+◌, ◌<◌, ◌/◌, ◌%◌, Bool, false, if◌then◌else◌, List, AllPairs, length, map}
 use Rattle.dtx_clock.specs.Clock.{stamp_of}
 use Rattle.dtx_ops.specs.declared.fields.Entry.{Entry}
 use Rattle.dtx_ops.specs.declared.fields.Ops.{Ops}
+use Rattle.dtx_ops.specs.declared.paging.Paging.{Paging}
+use Rattle.dtx_ops.specs.declared.paging.Paging.TheVariants.{One, Of}
+use Rattle.dtx_ops.specs.Paging.{IsPaged}
 use Rattle.dtx_plan.specs.declared.plan.Plan.{Plan}
-use Rattle.dtx_adapter.specs.Feed.{entry_of, placeholders}
+use Rattle.dtx_adapter.specs.Feed.{entry_of, placeholders, listed, is_filled, paging_at}
 
--- the tick at which the feed starts, the states before the group, the maximum delay, the transmitters, and the next
--- packet's counter
+-- the tick at which the feed starts, the states before the group, the maximum delay, all transmitters, the page of the
+-- group at hand, the next packet's counter, and whether that group filled a placeholder
 pub record Filling : Type 0 where
   pub start : ℕ
   pub states : List ℕ
   pub max_delay : ℕ
   pub entries : List Entry
+  pub paging : Paging
   pub counter : ℕ
+  pub filled : Bool
 
 -- what packet k of the feed says, where it is filled
 unfoldable pub filled_ops : Filling → ℕ → Ops
@@ -23,20 +28,40 @@ filled_ops filling k = record {
   max_delay = filling.max_delay;
   frame = k / 624;
   index = k % 624;
-  offsets = record { items = filling.entries };
+  paging = filling.paging;
+  offsets = record { items = listed filling.entries filling.paging };
 }
 
--- What is said can be read: start and maximum delay are below one second of 10,000,000 ticks, the addresses differ, and
--- the counter is of four bits.
-pub record IsReadable (ticks delay count : ℕ) (transmitters : List Entry) : Type 0 where
+-- the page behind a page, and behind the last one the first
+abbrev pub next_page : Paging → Paging
+next_page One = One
+next_page (Of page pages) = Of ((page + 1) % pages) pages
+
+-- a group begins, before which the coders have these states: where the group before it filled a placeholder, the next
+-- page comes
+unfoldable pub begun : Filling → List ℕ → Filling
+begun filling states = record filling {
+  states = states;
+  paging = if filling.filled then next_page filling.paging else filling.paging;
+  filled = false;
+}
+
+-- What is said can be read: start and maximum delay are below one second of 10,000,000 ticks, the counter is of four
+-- bits, the addresses differ, the page has its place, and its transmitters are at hand.
+pub record IsReadable (ticks delay count : ℕ) (transmitters : List Entry) (turn : Paging) (offsets : List Entry)
+    : Type 0 where
   pub start : ticks < 10000000
   pub max_delay : delay < 10000000
   pub counter : count < 16
   pub differ : AllPairs (λ a b. a ≢ b) (map (λ e. e.address) transmitters)
+  pub paged : IsPaged turn (length offsets)
+  pub at_hand : offsets ≡ listed transmitters turn
 
--- what fills the placeholders of a plan's feed, and was given these packets of the stream
-pub record Fills (plan : Plan) (filling : Filling) (stream : List (List ℕ)) : Type 0 where
+-- what fills the placeholders of a plan's feed, was given these packets of the stream, and has group u at hand
+pub record Fills (plan : Plan) (filling : Filling) (stream : List (List ℕ)) (u : ℕ) : Type 0 where
   pub start : filling.start ≡ plan.start
   pub max_delay : filling.max_delay ≡ plan.max_delay
-  pub entries : filling.entries ≡ map entry_of plan.transmitters.items
+  pub entries : filling.entries ≡ map entry_of plan.transmitters
+  pub paging : filling.paging ≡ paging_at plan stream u
   pub counter : filling.counter ≡ placeholders stream % 16
+  pub filled : filling.filled ≡ is_filled stream u

@@ -1,6 +1,6 @@
 // An adapter.
-ghost use Rattle.std.specs.Prelude.{◌≡◌, ◌==◌, ◌<◌, ◌≤◌, ◌+◌, ◌*◌, ◌/◌, ◌%◌, ◌++◌, [], ℕ, List, All, IfOk, length, map};
-ghost use Rattle.std.specs.Prelude.{take, drop};
+ghost use Rattle.std.specs.Prelude.{◌≡◌, ◌==◌, ◌<◌, ◌≤◌, ◌+◌, ◌*◌, ◌/◌, ◌%◌, ◌++◌, [], ℕ, List, All, IfOk, OnOk};
+ghost use Rattle.std.specs.Prelude.{length, map, take, drop};
 ghost use Rattle.dtx_coder.specs.Groups as groups;
 ghost use Rattle.dtx_coder.specs.Stream.{states};
 ghost use Rattle.dtx_ops.specs.Spelling.{IsEntry};
@@ -36,11 +36,11 @@ impl Adapter {
         ensures stands { IfOk result (λ adapter. StandsFor plan.now adapter []) }
         ensures none { IfOk result (λ adapter. adapter.given ≡ 0) }
 
-        // Each transmitter has the numbers of an entry, whatever the result.
-        ensures fit { All (λ t. IsEntry (entry_of t)) plan.now.transmitters.items }
+        // Each transmitter has the numbers of an entry.
+        ensures fit { OnOk result (All (λ t. IsEntry (entry_of t)) plan.now.transmitters) }
     {
         Ok(Adapter {
-            filler: Filler::new(plan),
+            filler: Filler::new(alloc, plan)?,
             coder: Coder::new(alloc)?,
             air: Air::new(),
             given: 0,
@@ -97,12 +97,13 @@ impl Adapter {
 fn make_group(filler: &mut Filler, first: u64, packets: &mut [Packet]) -> u8
     requires few { length packets.old ≤ GROUP_PACKETS }
     requires most { first + length packets.old ≤ MOST_PACKETS }
-    ensures fed { (plan : Plan) (stream : List (List ℕ)) → Fills plan filler.old stream → length stream ≡ first
-        → first % GROUP_PACKETS ≡ 0
+    ensures fed { (plan : Plan) (stream : List (List ℕ)) → Fills plan filler.old stream (first / GROUP_PACKETS)
+        → length stream ≡ first → first % GROUP_PACKETS ≡ 0
         → filler.old.states ≡ states (feed plan stream)
         → map (λ p. p.0) packets.new ≡ drop (length stream) (feed plan (stream ++ map (λ p. p.0) packets.old)) }
-    ensures fills { (plan : Plan) (stream : List (List ℕ)) → Fills plan filler.old stream
-        → Fills plan filler.new (stream ++ map (λ p. p.0) packets.old) }
+    ensures fills { (plan : Plan) (stream : List (List ℕ)) → Fills plan filler.old stream (first / GROUP_PACKETS)
+        → length stream ≡ first → first % GROUP_PACKETS ≡ 0
+        → Fills plan filler.new (stream ++ map (λ p. p.0) packets.old) (first / GROUP_PACKETS) }
     ensures filled { result ≡ placeholders (map (λ p. p.0) packets.old) }
     ensures long { length packets.new ≡ length packets.old }
 {

@@ -1,21 +1,22 @@
 // Makes packets of a feed, one at a time.
-ghost use Rattle.std.specs.Prelude.{◌≡◌, ◌<◌, ◌+◌, ◌%◌, [], if◌then◌else◌, All, map};
+ghost use Rattle.std.specs.Prelude.{◌≡◌, ◌<◌, ◌≤◌, ◌+◌, ◌%◌, [], if◌then◌else◌, true, All, IfOk, OnOk, length, map};
 ghost use Rattle.dtx_cadence.specs.Mark.{sync_at};
 ghost use Rattle.dtx_ops.specs.Spelling.{spelling, IsEntry};
 ghost use Rattle.dtx_plan.specs.Sound.{IsSound};
 ghost use Rattle.dtx_adapter.specs.Feed as spec;
 ghost use Rattle.dtx_adapter.specs.Feed.{is_placeholder, as_feed_packet};
-ghost use Rattle.dtx_adapter.specs.Filling.{Fills, filled_ops};
+ghost use Rattle.dtx_adapter.specs.Filling.{Fills, filled_ops, next_page, begun};
 
-use arrayvec::ArrayVec;
+use crate::page::{entries_on, first_page, part};
 use dtx_cadence::mark;
 use dtx_clock::stamp;
-use dtx_ops::{Entry, Ops, write};
+use dtx_ops::{Entry, Ops, Paging, write};
 use dtx_packets::Packet;
 use dtx_plan::{Plan, Transmitter};
 use dtx_rs::Rs;
-use dtx_sizes::{FRAME_PACKETS, MOST_PACKETS, OPERATIONS_PID};
+use dtx_sizes::{FRAME_PACKETS, MOST_PACKETS, MOST_TRANSMITTERS, OPERATIONS_PID};
 use dtx_trellis::States;
+use std::alloc::{AllocError, Global};
 use std::marker::Model;
 
 /// How many counters there are.
@@ -27,12 +28,16 @@ const COUNTERS: u8 = 16;
 pub(crate) struct Filler {
     /// The tick at which the feed starts, below 10,000,000.
     start: u32,
-    /// What the operations packets say. Maximum delay and transmitters stay, the states are set for each group, all
-    /// else for each packet.
+    /// All transmitters of the plan, in their order.
+    entries: Vec<Entry>,
+    /// What the operations packets say. The maximum delay stays, the states are set for each group, the page and its
+    /// transmitters where the group before filled a placeholder, all else for each packet.
     ops: Ops,
     code: Rs<184, 164>,
     /// How many placeholders were filled, modulo 16.
     counter: u8,
+    /// Whether the group at hand filled one.
+    filled: bool,
 }
 
 impl Model for Filler {
@@ -44,33 +49,56 @@ impl Model for Filler {
       start = f.start;
       states = f.ops.states;
       max_delay = f.ops.max_delay;
-      entries = f.ops.offsets.items;
+      entries = f.entries.items;
+      paging = f.ops.paging;
       counter = f.counter;
+      filled = f.filled;
     } };
 
-    ghost invariant = { λ f. IsReadable f.start f.ops.max_delay f.counter f.ops.offsets.items };
+    ghost invariant = { λ f. IsReadable f.start f.ops.max_delay f.counter f.entries.items f.ops.paging
+        f.ops.offsets.items };
 }
 
 impl Filler {
-    /// That of a plan. It has filled nothing.
-    pub(crate) fn new(plan: &Plan) -> Filler
+    /// That of a plan. It has filled nothing. Only want of memory is refused.
+    pub(crate) fn new(alloc: Global, plan: &Plan) -> Result<Filler, AllocError>
         requires { IsSound plan.now }
-        ensures fills { Fills plan.now result [] }
-        ensures fit { All (λ t. IsEntry (spec.entry_of t)) plan.now.transmitters.items }
+        ensures fills { IfOk result (λ filler. Fills plan.now filler [] 0) }
+        ensures fit { OnOk result (All (λ t. IsEntry (spec.entry_of t)) plan.now.transmitters) }
     {
-        Filler {
+        let entries = entries_of(alloc, plan.transmitters.as_slice())?;
+        Ok(Filler {
             start: plan.start,
-            ops: ops_of(plan),
+            ops: ops_of(plan.max_delay, entries.as_slice()),
+            entries,
             code: Rs::new(),
             counter: 0,
+            filled: false,
+        })
+    }
+
+    /// Begins a group, before which the coders have these states: where the group before it filled a placeholder, the
+    /// next page comes.
+    #[tactic(auto, unfolding(crate::specs::Filling::begun))]
+    pub(crate) fn begin(&mut self, states: States)
+        ensures { self.new ≡ begun self.old states }
+    {
+        self.ops.states = states;
+        if self.filled {
+            self.filled = false;
+            self.turn();
         }
     }
 
-    /// Sets the states that the operations packets of a group say.
-    pub(crate) fn begin(&mut self, states: States)
-        ensures { self.new ≡ record self.old { states = states } }
+    /// Turns to the next page.
+    fn turn(&mut self)
+        ensures { self.new ≡ record self.old { paging = next_page self.old.paging } }
     {
-        self.ops.states = states;
+        if let Paging::Of { page, pages } = self.ops.paging {
+            let page = (page + 1) % pages;
+            self.ops.paging = Paging::Of { page, pages };
+            self.ops.offsets = part(self.entries.as_slice(), page);
+        }
     }
 
     /// Makes a packet of the stream the packet of that index of the feed, and answers whether it was a placeholder.
@@ -82,6 +110,7 @@ impl Filler {
         ensures counted { self.new ≡ record self.old {
           counter = if is_placeholder packet.old.0 then
               (self.old.counter + 1) % COUNTERS else self.old.counter;
+          filled = if is_placeholder packet.old.0 then true else self.old.filled;
         } }
     {
         if packet.pid() == OPERATIONS_PID {
@@ -97,7 +126,10 @@ impl Filler {
     fn fill(&mut self, index: u64, packet: &mut Packet)
         requires { index < MOST_PACKETS }
         ensures filled { packet.new.0 ≡ spelling (filled_ops self.old index) self.old.counter (sync_at index) }
-        ensures counted { self.new ≡ record self.old { counter = (self.old.counter + 1) % COUNTERS } }
+        ensures counted { self.new ≡ record self.old {
+          counter = (self.old.counter + 1) % COUNTERS;
+          filled = true;
+        } }
     {
         let frame = (index / FRAME_PACKETS as u64) as u32;
         self.ops.stamp = stamp(self.start, frame);
@@ -106,28 +138,39 @@ impl Filler {
         write(&self.code, &self.ops, self.counter, packet);
         mark(index, packet);
         self.counter = (self.counter + 1) % COUNTERS;
+        self.filled = true;
     }
 }
 
-/// What stays the same in the operations packets of a plan: its maximum delay, and its transmitters in their order.
-fn ops_of(plan: &Plan) -> Ops
-    requires { IsSound plan.now }
-    ensures max_delay { result.max_delay ≡ plan.now.max_delay }
-    ensures entries { result.offsets.items ≡ map spec.entry_of plan.now.transmitters.items }
-    ensures fit { All (λ t. IsEntry (spec.entry_of t)) plan.now.transmitters.items }
+/// What the operations packets say at first: the maximum delay, the first page, and its transmitters.
+fn ops_of(max_delay: u32, entries: &[Entry]) -> Ops
+    requires { length entries.now ≤ MOST_TRANSMITTERS }
+    ensures max_delay { result.max_delay ≡ max_delay }
+    ensures paging { result.paging ≡ spec.paging_of entries.now 0 }
+    ensures at_hand { result.offsets.items ≡ spec.listed entries.now result.paging }
 {
-    let mut offsets = ArrayVec::new();
-    for transmitter in plan.transmitters.as_slice() {
-        offsets.push(entry_of(*transmitter));
-    }
+    let paging = first_page(entries);
     Ops {
         states: States([0; 12]),
         stamp: 0,
-        max_delay: plan.max_delay,
+        max_delay,
         frame: 0,
         index: 0,
-        offsets,
+        paging,
+        offsets: entries_on(entries, paging),
     }
+}
+
+/// The transmitters of a plan as entries, in their order.
+fn entries_of(alloc: Global, transmitters: &[Transmitter]) -> Result<Vec<Entry>, AllocError>
+    ensures entries { IfOk result (λ entries. entries.items ≡ map spec.entry_of transmitters.now) }
+    ensures fit { OnOk result (All (λ t. IsEntry (spec.entry_of t)) transmitters.now) }
+{
+    let mut entries = Vec::with_capacity(alloc, transmitters.len())?;
+    for transmitter in transmitters {
+        entries.push(entry_of(*transmitter))?;
+    }
+    Ok(entries)
 }
 
 /// A transmitter of a plan as an entry.

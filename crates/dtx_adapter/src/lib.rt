@@ -7,6 +7,7 @@ mod filler;
 pub mod laws;
 #[cfg(test)]
 mod ops_tests;
+mod page;
 #[cfg(test)]
 mod tests;
 

@@ -5,7 +5,7 @@ ghost use Rattle.std.specs.Prelude.{◌<◌};
 use arrayvec::ArrayVec;
 use dtx_correct::Linear;
 use dtx_laws::Encode;
-use dtx_ops::{Entry, Ops, OpsNo, read, write};
+use dtx_ops::{Entry, Ops, OpsNo, Paging, read, write};
 use dtx_packets::Packet;
 use dtx_rs::Rs;
 use dtx_sizes::PACKET;
@@ -17,6 +17,12 @@ use std::test::Fail;
 const BEGINS: [u8; 23] = [
     0x01, 0x80, 0x00, 0x00, 0x00, 0x10, 0x02, 0x7C, 0x07, 0x4C, 0x4B, 0x40, 0x00, 0x00, 0x00, 0x15,
     0x00, 0x64, 0x01, 0x00, 0x07, 0xFF, 0xF6,
+];
+
+/// The data of a worked packet of kind 2, of page 1 of 2, up to the end of its last entry.
+const PAGE_BEGINS: [u8; 29] = [
+    0x02, 0x80, 0x00, 0x00, 0x00, 0x10, 0x02, 0x7C, 0x07, 0x4C, 0x4B, 0x40, 0x00, 0x00, 0x00, 0x15,
+    0x00, 0x64, 0x01, 0x02, 0x02, 0x00, 0x22, 0xFF, 0xF6, 0xFF, 0xFF, 0x7F, 0xFF,
 ];
 
 /// Its fields.
@@ -32,7 +38,26 @@ fn worked() -> Ops {
         max_delay: 5_000_000,
         frame: 21,
         index: 100,
+        paging: Paging::One,
         offsets,
+    }
+}
+
+/// The fields of the worked packet of kind 2.
+fn worked_page() -> Ops {
+    let mut offsets = ArrayVec::new();
+    offsets.push(Entry {
+        address: 34,
+        offset: -10,
+    });
+    offsets.push(Entry {
+        address: 65535,
+        offset: 32767,
+    });
+    Ops {
+        paging: Paging::Of { page: 1, pages: 2 },
+        offsets,
+        ..worked()
     }
 }
 
@@ -42,9 +67,15 @@ fn worked_data() -> [u8; 164] {
     data
 }
 
-/// The worked data with four other bytes from a place on.
-fn data_with(at: u8, bytes: [u8; 4]) -> [u8; 164] {
-    let mut data = worked_data();
+fn page_data() -> [u8; 164] {
+    let mut data = [0; 164];
+    data[..29].copy_from_slice(&PAGE_BEGINS);
+    data
+}
+
+/// The data with four other bytes from a place on.
+fn data_with(worked: [u8; 164], at: u8, bytes: [u8; 4]) -> [u8; 164] {
+    let mut data = worked;
     for k in 0..4 {
         data[(at as usize + k) % 164] = bytes[k];
     }
@@ -155,9 +186,69 @@ fn each_refusal_comes_by_its_rule_and_the_first_one_first(rt: HostRuntime) {
         (160, [0x00, 0x00, 0x00, 0x80], OpsNo::Fill),
     ];
     for (at, bytes, refusal) in cases {
-        expect_refusal(&rt, &packet_of(&data_with(at, bytes)), refusal);
+        expect_refusal(
+            &rt,
+            &packet_of(&data_with(worked_data(), at, bytes)),
+            refusal,
+        );
     }
     expect_refusal(&rt, &packet_with(&[0; 184]), OpsNo::Kind);
+}
+
+#[test]
+fn a_page_is_read_and_written(rt: HostRuntime) -> Result<(), Fail> {
+    let packet = packet_of(&page_data());
+    assert!(rt; read(&Linear::new(), &packet)? == worked_page());
+    let written = written_again(&packet, 0x47, 9)?;
+    assert!(rt; &written.0[..4] == [0x47, 0x1F, 0xFA, 0x19].as_slice());
+    assert!(rt; &written.0[4..168] == page_data().as_slice());
+    assert!(rt; &written.0[168..] == &packet.0[168..]);
+    Ok(())
+}
+
+#[test]
+fn the_last_page_of_the_most_is_read_and_written(rt: HostRuntime) -> Result<(), Fail> {
+    let mut data = data_with([0; 164], 0, [0x02, 0x00, 0x00, 0x00]);
+    data[18..21].copy_from_slice(&[29, 30, 34]);
+    for k in 0..34 {
+        data[22 + 4 * k] = k as u8;
+        data[23 + 4 * k] = 0x80;
+    }
+    let packet = packet_of(&data);
+    let ops = read(&Linear::new(), &packet)?;
+    assert!(rt;
+        ops.paging
+            == Paging::Of {
+                page: 29,
+                pages: 30
+            }
+    );
+    let last = Entry {
+        address: 33,
+        offset: -32768,
+    };
+    assert!(rt; ops.offsets.len() == 34);
+    assert!(rt; ops.offsets.as_slice().last() == Some(&last));
+    assert!(rt; &written_again(&packet, 0x47, 15)?.0[4..] == &packet.0[4..]);
+    Ok(())
+}
+
+#[test]
+fn each_refusal_of_a_page_comes_by_its_rule_and_the_first_one_first(rt: HostRuntime) {
+    let cases = [
+        (0, [0x03, 0x80, 0x00, 0x00], OpsNo::Kind),
+        (16, [0x02, 0x70, 0x02, 0x02], OpsNo::Index),
+        (18, [0x02, 0x02, 0x02, 0x00], OpsNo::Page),
+        (18, [0x00, 0x00, 0x23, 0x00], OpsNo::Page),
+        (18, [0x1E, 0x1F, 0x02, 0x00], OpsNo::Page),
+        (18, [0x01, 0x02, 0x23, 0x00], OpsNo::Count),
+        (25, [0x00, 0x22, 0x7F, 0xFF], OpsNo::Twice),
+        (29, [0x01, 0x00, 0x00, 0x00], OpsNo::Fill),
+        (160, [0x00, 0x00, 0x00, 0x80], OpsNo::Fill),
+    ];
+    for (at, bytes, refusal) in cases {
+        expect_refusal(&rt, &packet_of(&data_with(page_data(), at, bytes)), refusal);
+    }
 }
 
 #[test]

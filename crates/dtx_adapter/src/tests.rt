@@ -1,6 +1,6 @@
 //! An adapter on worked streams. Its operations packets are those that were worked by hand.
 
-ghost use Rattle.std.specs.Prelude.{◌≡◌, ◌<◌, ◌≤◌, ◌+◌, ◌*◌, IfOk, length};
+ghost use Rattle.std.specs.Prelude.{◌≡◌, ◌<◌, ◌≤◌, ◌+◌, ◌*◌, ◌%◌, IfOk, length};
 
 use crate::Adapter;
 use dtx_laws::Whitener;
@@ -30,7 +30,27 @@ fn adapter_of(alloc: Global, start: u32) -> Result<Adapter, Fail>
     ensures { IfOk result (λ adapter. adapter.given ≡ 0) }
 {
     let text = format!(in alloc; "start = {start}{REST}")?;
-    match read_plan(alloc, text.as_bytes()) {
+    adapter_under(alloc, text.as_bytes())
+}
+
+/// The adapter of a plan with so many transmitters, from address 100 on.
+fn adapter_of_many(alloc: Global, count: u8) -> Result<Adapter, Fail>
+    ensures { IfOk result (λ adapter. adapter.given ≡ 0) }
+{
+    let mut text = format!(in alloc; "start = 0\nmax_delay = 5000000\n")?;
+    for i in 0..u32::from(count) {
+        let address = 100 + i;
+        let entry = format!(in alloc; "[[transmitter]]\naddress = {address}\noffset = 0\n")?;
+        text.push_str(entry.as_str())?;
+    }
+    adapter_under(alloc, text.as_bytes())
+}
+
+/// The adapter of the plan of this text.
+fn adapter_under(alloc: Global, text: &[u8]) -> Result<Adapter, Fail>
+    ensures { IfOk result (λ adapter. adapter.given ≡ 0) }
+{
+    match read_plan(alloc, text) {
         Ok(plan) => Ok(Adapter::new(alloc, &plan)?),
         Err(_) => Err("no plan")?,
     }
@@ -153,5 +173,69 @@ fn the_seventeenth_operations_packet_has_counter_0_again(rt: HostRuntime) -> Res
     let mut last = [placeholder()];
     assert!(rt; adapter.group(&mut last) == 1);
     expect_bytes(&rt, &last[0], 0, &[0x47, 0x1F, 0xFA, 0x10]);
+    Ok(())
+}
+
+/// Gives a group whose second and fourth packet are placeholders, and another one that holds none: both operations
+/// packets are of that kind, and have these bytes from byte 18 of their data on.
+fn expect_page(rt: &impl Abort, adapter: &mut Adapter, kind: u8, page: &[u8; 9])
+    requires open { adapter.old.given % 4 ≡ 0 }
+    requires few { adapter.old.given ≤ 100 }
+    ensures { adapter.new.given ≡ adapter.old.given + 8 }
+{
+    let mut group = [packet(1), placeholder(), packet(2), placeholder()];
+    assert!(rt; adapter.group(&mut group) == 2);
+    expect_bytes(rt, &group[1], 4, &[kind]);
+    expect_bytes(rt, &group[1], 22, page);
+    expect_bytes(rt, &group[3], 4, &[kind]);
+    expect_bytes(rt, &group[3], 22, page);
+    adapter.group(&mut [packet(3); 4]);
+}
+
+/// Page, number of pages and count stand in bytes 18 to 20 of kind 2, and the count in byte 18 of kind 1.
+#[test]
+fn pages_take_turns_among_the_groups_that_hold_placeholders(rt: HostRuntime) -> Result<(), Fail> {
+    let cases = [
+        (
+            35,
+            1,
+            [35, 0, 100, 0, 0, 0, 101, 0, 0],
+            [35, 0, 100, 0, 0, 0, 101, 0, 0],
+        ),
+        (
+            36,
+            2,
+            [0, 2, 34, 0, 100, 0, 0, 0, 101],
+            [1, 2, 2, 0, 134, 0, 0, 0, 135],
+        ),
+        (
+            40,
+            2,
+            [0, 2, 34, 0, 100, 0, 0, 0, 101],
+            [1, 2, 6, 0, 134, 0, 0, 0, 135],
+        ),
+    ];
+    for (count, kind, first, second) in cases {
+        let mut adapter = adapter_of_many(rt.alloc(), count)?;
+        expect_page(&rt, &mut adapter, kind, &first);
+        expect_page(&rt, &mut adapter, kind, &second);
+        expect_page(&rt, &mut adapter, kind, &first);
+        expect_page(&rt, &mut adapter, kind, &second);
+    }
+    Ok(())
+}
+
+#[test]
+fn the_last_page_has_the_last_transmitters_alone(rt: HostRuntime) -> Result<(), Fail> {
+    let mut adapter = adapter_of_many(rt.alloc(), 40)?;
+    let mut group = [placeholder(), packet(1), packet(2), packet(3)];
+    assert!(rt; adapter.group(&mut group) == 1);
+    let mut rest = [placeholder()];
+    assert!(rt; adapter.group(&mut rest) == 1);
+    let page = [
+        1, 2, 6, 0, 134, 0, 0, 0, 135, 0, 0, 0, 136, 0, 0, 0, 137, 0, 0, 0, 138, 0, 0, 0, 139, 0, 0,
+    ];
+    expect_bytes(&rt, &rest[0], 22, &page);
+    expect_bytes(&rt, &rest[0], 49, &[0; 119]);
     Ok(())
 }

@@ -1,53 +1,111 @@
 -- What an anchor keeps and answers, one sync byte further.
-use Rattle.std.proofs.Common.{◌≡◌, ℕ, ◌+◌, ◌-◌, ◌%◌, ◌<◌, ◌==◌, Bool, true, false, cond, Option, Some, None, option_map}
-use Rattle.std.proofs.Common.{List, [], ◌∷◌, ◌++◌, length, refl, sym, ap, ◌∙◌, arith}
-use mathlib.Core.Bool.{beq}
-use Rattle.std.proofs.lemmas.Bool.{cond-true, cond-false, eq-eqb, ne_eqb}
+use Rattle.std.proofs.Common.{◌≡◌, ℕ, ◌+◌, ◌-◌, ◌%◌, ◌<◌, ◌==◌, Bool, true, false, ◌&&◌, not, cond, Option}
+use Rattle.std.proofs.Common.{Some, None, option_map, List, [], ◌∷◌, ◌++◌, length, refl, sym, ap, ap₂, ◌∙◌, arith}
+use Rattle.std.proofs.lemmas.Bool.{eqb-true, eqb-false}
 use Rattle.std.proofs.lemmas.List.{length_push}
-use Rattle.dtx_cadence.specs.declared.anchor.Seen.TheVariants.{Free, Start, Moved, Lost, At}
-use Rattle.dtx_cadence.specs.Anchor.{in_step, anchor, seen_by, seen, next_place, StandsFor}
-use Rattle.dtx_cadence.specs.Step.{kept_after, answer}
-use Rattle.dtx_cadence.specs.NextAnchorLaws.{new_anchor, anchor_free, anchor_next, anchor_below}
+use Rattle.dtx_cadence.specs.declared.anchor.Lock.{Lock}
+use Rattle.dtx_cadence.specs.declared.anchor.Seen.TheVariants.{Free, Start, Lost, At}
+use Rattle.dtx_cadence.specs.Anchor.{has_mark, anchor, is_missed, seen_by, seen, lock, StandsFor}
+use Rattle.dtx_cadence.specs.Step.{first_lock, is_lost, moved_on, kept_after, answer}
+use Rattle.dtx_cadence.specs.NextAnchorLaws.{ends_with, anchor_free, anchor_next, anchor_below}
+use Rattle.dtx_cadence.specs.NextAnchorLaws.{mark_push, front_alike}
 
--- a list in step with an anchor is in step with its place modulo 624
-in_step_place : (s n : ℕ) → in_step s (n % 624) ≡ in_step s n
-in_step_place s n = let e : n % 624 % 624 ≡ n % 624 = omega arith in ap (λ (m : ℕ). beq (s == 0xB8) (m == 0)) e
+-- what is kept of n sync bytes under an anchor at j
+abbrev under : List ℕ → ℕ → ℕ → Lock
+under d n j = record { place = (n - j) % 624; missed = is_missed d n j }
 
+abbrev kept_of : List ℕ → ℕ → Option ℕ → Option Lock
+kept_of d n o = option_map (under d n) o
+
+-- behind the anchor's own packet
 place_new : (n : ℕ) → 1 ≡ (n + 1 - n) % 624
 place_new n = omega arith
 
+due_new : (n : ℕ) → n + 1 - 1 - (n + 1 - 1 - n) % 624 ≡ n
+due_new n = omega arith
+
+kept_new : (d : List ℕ) (s : ℕ) (b : Bool) → (s == 0xB8) ≡ b
+    → cond b (Some first_lock) None ≡ kept_of (d ++ s ∷ []) (length d + 1) (cond b (Some (length d)) None)
+kept_new d s true e =
+    ap₂ (λ (p : ℕ) (m : Bool). Some (record { place = p; missed = m })) (place_new (length d))
+    (sym (ap (λ k. not (has_mark (d ++ s ∷ []) k)) (due_new (length d)) ∙ ap not (mark_push d s ∙ e)))
+kept_new d s false e = refl
+
+-- behind a packet with which the anchor stays
 place_more : (n j : ℕ) → j < n → ((n - j) % 624 + 1) % 624 ≡ (n + 1 - j) % 624
 place_more n j l = omega arith
 
--- the places of an anchor in a list of n
-abbrev placed : ℕ → Option ℕ → Option ℕ
-placed n o = option_map (λ j. (n - j) % 624) o
+missed_due : (d : List ℕ) (s j : ℕ) → j < length d → (length d - j) % 624 ≡ 0
+    → not (s == 0xB8) ≡ is_missed (d ++ s ∷ []) (length d + 1) j
+missed_due d s j l e =
+    let k : length d + 1 - 1 - (length d + 1 - 1 - j) % 624 ≡ length d = omega (arith, l, e) in
+    sym (ap (λ i. not (has_mark (d ++ s ∷ []) i)) k ∙ ap not (mark_push d s))
 
-kept_new : (n : ℕ) (b : Bool) → cond b (Some 1) None ≡ placed (n + 1) (cond b (Some n) None)
-kept_new n true = ap Some (place_new n)
-kept_new n false = refl
+missed_on : (d : List ℕ) (s j : ℕ) (f : (length d - j) % 624 ≡ 0 → ⊥) → j < length d
+    → is_missed d (length d) j ≡ is_missed (d ++ s ∷ []) (length d + 1) j
+missed_on d s j f l =
+    let p : 0 < (length d - j) % 624 = above ((length d - j) % 624) f in
+    let k : length d - 1 - (length d - 1 - j) % 624 ≡ length d + 1 - 1 - (length d + 1 - 1 - j) % 624 =
+    same (length d) j l p in
+    ap not (sym (front_alike d (s ∷ []) (length d) (omega arith) (length d - 1 - (length d - 1 - j) % 624)
+    (omega (arith, l)))
+    ∙ ap (has_mark (d ++ s ∷ [])) k)
+  where
+    above : (n : ℕ) → (n ≡ 0 → ⊥) → 0 < n
+    above n g = omega (arith, g)
 
-kept_by_test : (d : List ℕ) (s j : ℕ) → j < length d → (t : Bool)
-    → cond t (Some (((length d - j) % 624 + 1) % 624)) (cond (s == 0xB8) (Some 1) None)
-    ≡ placed (length d + 1) (cond t (Some j) (new_anchor d s))
-kept_by_test d s j l true = ap Some (place_more (length d) j l)
-kept_by_test d s j l false = kept_new (length d) (s == 0xB8)
+    same : (n j : ℕ) → j < n → 0 < (n - j) % 624 → n - 1 - (n - 1 - j) % 624 ≡ n + 1 - 1 - (n + 1 - 1 - j) % 624
+    same n j l p = omega arith
+
+moved : (d : List ℕ) (s j : ℕ) → j < length d
+    → moved_on (under d (length d) j) (s == 0xB8) ≡ under (d ++ s ∷ []) (length d + 1) j
+moved d s j l =
+    ap₂ (λ (p : ℕ) (m : Bool). record { place = p; missed = m }) (place_more (length d) j l)
+    (by_test ((length d - j) % 624 == 0) refl)
+  where
+    by_test : (b : Bool) → ((length d - j) % 624 == 0) ≡ b
+        → cond b (not (s == 0xB8)) (is_missed d (length d) j) ≡ is_missed (d ++ s ∷ []) (length d + 1) j
+    by_test true e = missed_due d s j l (eqb-true ((length d - j) % 624) 0 e)
+    by_test false e = missed_on d s j (eqb-false ((length d - j) % 624) 0 e) l
+
+-- the packet takes the anchor away where the lock says so
+lost_same : (d : List ℕ) (s j : ℕ) → j < length d → is_lost (under d (length d) j) (s == 0xB8) ≡ ends_with d s j
+lost_same d s j l = by_test ((length d - j) % 624 == 0) refl
+  where
+    due : (n j : ℕ) → j < n → (n - j) % 624 ≡ 0 → n - 1 - (n - 1 - j) % 624 ≡ n - 624
+    due n j l z = omega arith
+
+    by_test : (b : Bool) → ((length d - j) % 624 == 0) ≡ b
+        → (b && not (s == 0xB8) && is_missed d (length d) j)
+        ≡ (b && not (s == 0xB8) && not (has_mark d (length d - 624)))
+    by_test true e =
+        let z : (length d - j) % 624 ≡ 0 = eqb-true ((length d - j) % 624) 0 e in
+        let k : length d - 1 - (length d - 1 - j) % 624 ≡ length d - 624 = due (length d) j l z in
+        ap (λ i. not (s == 0xB8) && not (has_mark d i)) k
+    by_test false e = refl
+
+kept_stays : (d : List ℕ) (s j : ℕ) (b : Bool) → j < length d
+    → cond b None (Some (moved_on (under d (length d) j) (s == 0xB8)))
+    ≡ kept_of (d ++ s ∷ []) (length d + 1) (cond b None (Some j))
+kept_stays d s j true l = refl
+kept_stays d s j false l = ap Some (moved d s j l)
 
 kept_by_anchor : (d : List ℕ) (s : ℕ) (o : Option ℕ) → anchor d ≡ o
-    → kept_after (placed (length d) o) s ≡ placed (length d + 1) (anchor (d ++ s ∷ []))
-kept_by_anchor d s None h = kept_new (length d) (s == 0xB8) ∙ ap (placed (length d + 1)) (sym (anchor_free d s h))
+    → kept_after (kept_of d (length d) o) s ≡ kept_of (d ++ s ∷ []) (length d + 1) (anchor (d ++ s ∷ []))
+kept_by_anchor d s None h =
+    kept_new d s (s == 0xB8) refl ∙ ap (kept_of (d ++ s ∷ []) (length d + 1)) (sym (anchor_free d s h))
 kept_by_anchor d s (Some j) h =
-    ap (λ t. cond t (Some (((length d - j) % 624 + 1) % 624)) (cond (s == 0xB8) (Some 1) None))
-    (in_step_place s (length d - j))
-    ∙ kept_by_test d s j (anchor_below d j h) (in_step s (length d - j))
-    ∙ ap (placed (length d + 1)) (sym (anchor_next d s j h (in_step s (length d - j)) refl))
+    let l : j < length d = anchor_below d j h in
+    ap (λ b. cond b None (Some (moved_on (under d (length d) j) (s == 0xB8)))) (lost_same d s j l)
+    ∙ kept_stays d s j (ends_with d s j) l
+    ∙ ap (kept_of (d ++ s ∷ []) (length d + 1)) (sym (anchor_next d s j h))
 
-pub stands_next : (kept : Option ℕ) (d : List ℕ) (s : ℕ) → StandsFor kept d
+pub stands_next : (kept : Option Lock) (d : List ℕ) (s : ℕ) → StandsFor kept d
     → StandsFor (kept_after kept s) (d ++ s ∷ [])
-unfolding next_place
+unfolding lock
 stands_next kept d s h =
     ap (λ o. kept_after o s) h ∙ kept_by_anchor d s (anchor d) refl
-    ∙ ap (λ n. placed n (anchor (d ++ s ∷ []))) (sym (length_push d s))
+    ∙ ap (λ n. kept_of (d ++ s ∷ []) n (anchor (d ++ s ∷ []))) (sym (length_push d s))
 
 -- ---- the answer
 
@@ -55,24 +113,19 @@ seen_new : (n : ℕ) (b : Bool) → cond b Start Free ≡ seen_by n None (cond b
 seen_new n true = refl
 seen_new n false = refl
 
-moved_new : (n j : ℕ) (b : Bool) → j < n → cond b Moved Lost ≡ seen_by n (Some j) (cond b (Some n) None)
-moved_new n j true l = sym (cond-false (j == n) (At ((n - n) % 624)) Moved (ne_eqb j n (omega arith)))
-moved_new n j false l = refl
-
-seen_by_test : (d : List ℕ) (s j : ℕ) → j < length d → (t : Bool)
-    → cond t (At ((length d - j) % 624)) (cond (s == 0xB8) Moved Lost)
-    ≡ seen_by (length d) (Some j) (cond t (Some j) (new_anchor d s))
-seen_by_test d s j l true = sym (cond-true (j == j) (At ((length d - j) % 624)) Moved (eq-eqb j j refl))
-seen_by_test d s j l false = moved_new (length d) j (s == 0xB8) l
+seen_stays : (n j : ℕ) (b : Bool) → cond b Lost (At ((n - j) % 624)) ≡ seen_by n (Some j) (cond b None (Some j))
+seen_stays n j true = refl
+seen_stays n j false = refl
 
 seen_by_anchor : (d : List ℕ) (s : ℕ) (o : Option ℕ) → anchor d ≡ o
-    → answer (placed (length d) o) s ≡ seen_by (length d) o (anchor (d ++ s ∷ []))
+    → answer (kept_of d (length d) o) s ≡ seen_by (length d) o (anchor (d ++ s ∷ []))
 seen_by_anchor d s None h = seen_new (length d) (s == 0xB8) ∙ ap (seen_by (length d) None) (sym (anchor_free d s h))
 seen_by_anchor d s (Some j) h =
-    ap (λ t. cond t (At ((length d - j) % 624)) (cond (s == 0xB8) Moved Lost)) (in_step_place s (length d - j))
-    ∙ seen_by_test d s j (anchor_below d j h) (in_step s (length d - j))
-    ∙ ap (seen_by (length d) (Some j)) (sym (anchor_next d s j h (in_step s (length d - j)) refl))
+    let l : j < length d = anchor_below d j h in
+    ap (λ b. cond b Lost (At ((length d - j) % 624))) (lost_same d s j l)
+    ∙ seen_stays (length d) j (ends_with d s j)
+    ∙ ap (seen_by (length d) (Some j)) (sym (anchor_next d s j h))
 
-pub seen_next : (kept : Option ℕ) (d : List ℕ) (s : ℕ) → StandsFor kept d → answer kept s ≡ seen d s
-unfolding next_place seen
+pub seen_next : (kept : Option Lock) (d : List ℕ) (s : ℕ) → StandsFor kept d → answer kept s ≡ seen d s
+unfolding lock seen
 seen_next kept d s h = ap (λ o. answer o s) h ∙ seen_by_anchor d s (anchor d) refl

@@ -1,24 +1,35 @@
 -- The anchor of the packets that were given, as their sync bytes tell it (the profile's own). A packet is a mark where
 -- its sync byte is 0xB8; all other sync bytes are alike.
-use Rattle.std.specs.Prelude.{ℕ, ◌≡◌, ◌<◌, ◌+◌, ◌-◌, ◌%◌, ◌==◌, Bool, Option, Some, None, find, option_map}
+use Rattle.std.specs.Prelude.{ℕ, ◌≡◌, ◌<◌, ◌-◌, ◌%◌, ◌==◌, ◌&&◌, Bool, not, Option, Some, None, option_map}
 use Rattle.std.specs.Prelude.{if◌then◌else◌, List, [], ◌∷◌, ◌++◌, length, slice_index}
-use Rattle.std.specs.List.{range_with_len, list_all}
-use mathlib.Core.Bool.{beq}
+use Rattle.std.proofs.Common.{zero, suc}
+use Rattle.dtx_cadence.specs.declared.anchor.Lock.{Lock}
 use Rattle.dtx_cadence.specs.declared.anchor.Seen.{Seen}
-use Rattle.dtx_cadence.specs.declared.anchor.Seen.TheVariants.{Free, Start, Moved, Lost, At}
+use Rattle.dtx_cadence.specs.declared.anchor.Seen.TheVariants.{Free, Start, Lost, At}
 
--- a sync byte is in step with a mark that stands so many packets before it: it is a mark exactly where 624 divides that
--- number
-abbrev pub in_step : ℕ → ℕ → Bool
-in_step sync distance = beq (sync == 0xB8) (distance % 624 == 0)
+-- whether packet i is a mark
+abbrev pub has_mark : List ℕ → ℕ → Bool
+has_mark syncs i = slice_index syncs i == 0xB8
 
--- each sync byte from place j on is in step with a mark at j
-unfoldable pub keeps_step : List ℕ → ℕ → Bool
-keeps_step syncs j = list_all (λ m. in_step (slice_index syncs (j + m)) m) (range_with_len 0 (length syncs - j))
+-- whether packet i takes an anchor at packet j away: a mark is due there, and neither it nor the one that was due
+-- before it came
+abbrev pub ends_lock : List ℕ → ℕ → ℕ → Bool
+ends_lock syncs i j = ((i - j) % 624 == 0) && not (has_mark syncs i) && not (has_mark syncs (i - 624))
 
--- the anchor is the least place from which on each sync byte is in step; there may be none
+-- the anchor at packet i, from the one before it: a first mark becomes the anchor, which then stays until two marks
+-- that are due in a row are missing
+abbrev pub anchor_at : List ℕ → ℕ → Option ℕ → Option ℕ
+anchor_at syncs i None = if has_mark syncs i then Some i else None
+anchor_at syncs i (Some j) = if ends_lock syncs i j then None else Some j
+
+-- the anchor behind the first n packets
+unfoldable pub anchor_to : List ℕ → ℕ → Option ℕ
+anchor_to syncs zero = None
+anchor_to syncs (suc i) = anchor_at syncs i (anchor_to syncs i)
+
+-- the anchor behind all of them
 unfoldable pub anchor : List ℕ → Option ℕ
-anchor syncs = find (keeps_step syncs) (range_with_len 0 (length syncs))
+anchor syncs = anchor_to syncs (length syncs)
 
 -- where one more sync byte is given behind n of them: what the anchor before it and the anchor with it say of its
 -- packet
@@ -26,19 +37,26 @@ abbrev pub seen_by : ℕ → Option ℕ → Option ℕ → Seen
 seen_by n None None = Free
 seen_by n None (Some j) = Start
 seen_by n (Some a) None = Lost
-seen_by n (Some a) (Some j) = if a == j then At ((n - j) % 624) else Moved
+seen_by n (Some a) (Some j) = At ((n - j) % 624)
 
 -- the answer to one more sync byte
 unfoldable pub seen : List ℕ → ℕ → Seen
 seen syncs sync = seen_by (length syncs) (anchor syncs) (anchor (syncs ++ sync ∷ []))
 
--- the place, modulo 624, of the next packet under the anchor
-unfoldable pub next_place : List ℕ → Option ℕ
-next_place syncs = option_map (λ j. (length syncs - j) % 624) (anchor syncs)
+-- whether the mark that was due last in the first n packets, under an anchor at packet j, is missing
+abbrev pub is_missed : List ℕ → ℕ → ℕ → Bool
+is_missed syncs n j = not (has_mark syncs (n - 1 - (n - 1 - j) % 624))
+
+-- the place, modulo 624, of the next packet under the anchor, and whether the mark that was due last is missing
+unfoldable pub lock : List ℕ → Option Lock
+lock syncs =
+    option_map
+    (λ j. record { place = (length syncs - j) % 624; missed = is_missed syncs (length syncs) j })
+    (anchor syncs)
 
 -- what an anchor keeps is what these sync bytes leave
-abbrev pub StandsFor : Option ℕ → List ℕ → Type 0
-StandsFor kept syncs = kept ≡ next_place syncs
+abbrev pub StandsFor : Option Lock → List ℕ → Type 0
+StandsFor kept syncs = kept ≡ lock syncs
 
 -- a place under the anchor is below 624
 abbrev pub IsSeen : Seen → Type 0

@@ -1,143 +1,173 @@
--- The anchor, one sync byte further: it holds, moves or is lost.
-use Rattle.std.proofs.Common.{◌≡◌, ℕ, suc, ◌+◌, ◌-◌, ◌%◌, ◌<◌, ◌≤◌, ◌⊎◌, ◌==◌, Bool, true, false, ◌&&◌, cond, Option}
-use Rattle.std.proofs.Common.{Some, None, List, [], ◌∷◌, ◌++◌, length, get_or, refl, sym, ap, ap₂, ◌∙◌, arith, inl, inr}
-use Rattle.std.proofs.Common.{zero-add}
-use mathlib.Core.Bool.{beq}
-use Rattle.std.specs.List.{range_with_len, list_all, find}
-use Rattle.std.proofs.lemmas.Bool.{cases_lt, and_from, and_left, eqb-true, true≢false}
-use Rattle.std.proofs.lemmas.List.{length_push, get_or_append_left, get_or_push}
-use Rattle.dtx_lists.proofs.Range.{list_all-range_same, list_all-range_more, list_all-range_at}
-use Rattle.dtx_lists.proofs.RangeSearch.{IsFirst, find-range_first, find-range_last, find-range_gives}
-use Rattle.dtx_lists.proofs.RangeSearch.{find-range_misses}
-use Rattle.dtx_cadence.specs.Anchor.{in_step, keeps_step, anchor}
+-- The anchor, one sync byte further: it stays or is lost, or there is a new one.
+use Rattle.std.proofs.Common.{◌≡◌, ℕ, zero, suc, ◌+◌, ◌-◌, ◌%◌, ◌<◌, ◌≤◌, ◌==◌, Bool, true, false, ◌&&◌, not, cond}
+use Rattle.std.proofs.Common.{Option, Some, None, List, [], ◌∷◌, ◌++◌, length, take, refl, sym, ap, ap₂, ◌∙◌}
+use Rattle.std.proofs.Common.{arith}
+use Rattle.std.proofs.lemmas.List.{length_push, length-take-le, get_or_append_left, get_or_push, get_or-take}
+use Rattle.dtx_cadence.specs.Anchor.{has_mark, ends_lock, anchor_at, anchor_to, anchor}
+use Rattle.dtx_cadence.specs.Cadence.{AreAlike}
 
--- ---- the test of a place, one sync byte further
+-- ---- the anchor behind the first packets is that of those alone
 
-pub keeps_push : (d : List ℕ) (s j : ℕ) → j ≤ length d
-    → keeps_step (d ++ s ∷ []) j ≡ (keeps_step d j && in_step s (length d - j))
-unfolding keeps_step
-keeps_push d s j l =
-    ap (λ n. list_all (λ m. in_step (get_or (d ++ s ∷ []) (j + m) 0) m) (range_with_len 0 n))
-    (more (length d) j l (length (d ++ s ∷ [])) (length_push d s))
-    ∙ list_all-range_more (λ m. in_step (get_or (d ++ s ∷ []) (j + m) 0) m) 0 (length d - j)
-    ∙ ap₂ (λ x y. x && y)
-    (list_all-range_same (λ m. in_step (get_or (d ++ s ∷ []) (j + m) 0) m) (λ m. in_step (get_or d (j + m) 0) m) 0
-    (length d - j)
-    (λ i g h. ap (λ x. in_step x i) (get_or_append_left d (s ∷ []) 0 (j + i) (omega arith))))
-    (ap₂ in_step (get_or_push d s 0 (j + (0 + (length d - j))) (omega arith)) (zero-add (length d - j)))
+ends_same : (xs ys : List ℕ) (n i j : ℕ) → AreAlike xs ys n → i < n → ends_lock xs i j ≡ ends_lock ys i j
+ends_same xs ys n i j h l =
+    ap₂ (λ x y. ((i - j) % 624 == 0) && not x && not y) (h i l) (h (i - 624) (omega (arith, l)))
+
+at_same : (xs ys : List ℕ) (n i : ℕ) (o : Option ℕ) → AreAlike xs ys n → i < n
+    → anchor_at xs i o ≡ anchor_at ys i o
+at_same xs ys n i None h l = ap (λ b. cond b (Some i) None) (h i l)
+at_same xs ys n i (Some j) h l = ap (λ b. cond b None (Some j)) (ends_same xs ys n i j h l)
+
+pub anchor_to_same : (xs ys : List ℕ) (n : ℕ) → AreAlike xs ys n → anchor_to xs n ≡ anchor_to ys n
+unfolding anchor_to
+anchor_to_same xs ys zero h = refl
+anchor_to_same xs ys (suc n) h =
+    at_same xs ys (suc n) n (anchor_to xs n) h (omega arith)
+    ∙ ap (anchor_at ys n) (anchor_to_same xs ys n (λ i l. h i (omega (arith, l))))
+
+pub front_alike : (d e : List ℕ) (n : ℕ) → n ≤ length d → AreAlike (d ++ e) d n
+front_alike d e n l = λ i h. ap (λ x. x == 0xB8) (get_or_append_left d e 0 i (omega (arith, l, h)))
+
+pub anchor_to_front : (d e : List ℕ) (n : ℕ) → n ≤ length d → anchor_to (d ++ e) n ≡ anchor_to d n
+anchor_to_front d e n l = anchor_to_same (d ++ e) d n (front_alike d e n l)
+
+pub anchor_take : (d : List ℕ) (n : ℕ) → n ≤ length d → anchor (take n d) ≡ anchor_to d n
+unfolding anchor
+anchor_take d n l =
+    ap (anchor_to (take n d)) (length-take-le n d l)
+    ∙ anchor_to_same (take n d) d n (λ i h. ap (λ x. x == 0xB8) (get_or-take n d i 0 h))
+
+-- behind more packets
+pub anchor_behind : (d e : List ℕ) → anchor_to (d ++ e) (length d) ≡ anchor d
+unfolding anchor
+anchor_behind d e = anchor_to_front d e (length d) (omega arith)
+
+-- ---- one more
+
+pub anchor_push : (d : List ℕ) (s : ℕ) → anchor (d ++ s ∷ []) ≡ anchor_at (d ++ s ∷ []) (length d) (anchor d)
+unfolding anchor anchor_to
+anchor_push d s =
+    ap (anchor_to (d ++ s ∷ [])) (length_push d s ∙ one (length d))
+    ∙ ap (anchor_at (d ++ s ∷ []) (length d)) (anchor_behind d (s ∷ []))
   where
-    more : (n j : ℕ) → j ≤ n → (k : ℕ) → k ≡ n + 1 → k - j ≡ suc (n - j)
-    more n j l k e = omega arith
-
-keeps_end : (d : List ℕ) → keeps_step d (length d) ≡ true
-unfolding keeps_step
-keeps_end d = ap (λ n. list_all (λ m. in_step (get_or d (length d + m) 0) m) (range_with_len 0 n)) (none (length d))
-  where
-    none : (n : ℕ) → n - n ≡ 0
-    none n = omega arith
-
--- ---- two places that keep step lie a multiple of 624 apart, as the mark at the later one says
-
-beq_same : (x y : Bool) → beq x y ≡ true → x ≡ y
-beq_same true true e = refl
-beq_same true false e = cc
-beq_same false true e = cc
-beq_same false false e = refl
-
-pub marks : (d : List ℕ) (j m : ℕ) → keeps_step d j ≡ true → j + m < length d
-    → (get_or d (j + m) 0 == 0xB8) ≡ (m % 624 == 0)
-unfolding keeps_step
-marks d j m t l =
-    beq_same (get_or d (j + m) 0 == 0xB8) (m % 624 == 0)
-    (list_all-range_at (λ m. in_step (get_or d (j + m) 0) m) 0 (length d - j) t m (omega arith) (omega arith))
-
-apart : (d : List ℕ) (i j : ℕ) → i ≤ j → j < length d → keeps_step d i ≡ true → keeps_step d j ≡ true
-    → (j - i) % 624 ≡ 0
-apart d i j l m ti tj =
-    let a : (get_or d (j + 0) 0 == 0xB8) ≡ true = marks d j 0 tj (omega arith) in
-    let b : (get_or d (i + (j - i)) 0 == 0xB8) ≡ ((j - i) % 624 == 0) = marks d i (j - i) ti (omega arith) in
-    let e : i + (j - i) ≡ j + 0 = omega arith in
-    eqb-true ((j - i) % 624) 0 (sym b ∙ ap (λ k. get_or d k 0 == 0xB8) e ∙ a)
-
-same_step : (d : List ℕ) (s i j : ℕ) → i ≤ j → j < length d → keeps_step d i ≡ true → keeps_step d j ≡ true
-    → in_step s (length d - i) ≡ in_step s (length d - j)
-same_step d s i j l m ti tj =
-    let e : (j - i) % 624 ≡ 0 = apart d i j l m ti tj in
-    ap (λ x. beq (s == 0xB8) (x == 0)) (mods (length d) i j l m e)
-  where
-    mods : (n i j : ℕ) → i ≤ j → j < n → (j - i) % 624 ≡ 0 → (n - i) % 624 ≡ (n - j) % 624
-    mods n i j l m e = omega arith
-
--- ---- the anchor
+    one : (n : ℕ) → n + 1 ≡ suc n
+    one n = omega arith
 
 -- a new anchor at this packet, where it is a mark
 abbrev pub new_anchor : List ℕ → ℕ → Option ℕ
 new_anchor d s = cond (s == 0xB8) (Some (length d)) None
 
-pub anchor_holds : (d : List ℕ) (s j : ℕ) → anchor d ≡ Some j → in_step s (length d - j) ≡ true
-    → anchor (d ++ s ∷ []) ≡ Some j
-unfolding anchor
-anchor_holds d s j h f =
-    let w : IsFirst (keeps_step d) 0 (length d) j = find-range_gives (keeps_step d) 0 (length d) j h in
-    let n : length (d ++ s ∷ []) ≡ length d + 1 = length_push d s in
-    find-range_first (keeps_step (d ++ s ∷ [])) 0 (length (d ++ s ∷ [])) j (omega arith) (omega (arith, w.within))
-    (keeps_push d s j (omega (arith, w.within)) ∙ and_from (keeps_step d j) (in_step s (length d - j)) w.passes f)
-    (λ i l m. keeps_push d s i (omega (arith, w.within))
-    ∙ and_left (keeps_step d i) (in_step s (length d - i)) (w.before i l m))
+-- whether the packet takes an anchor at j away
+abbrev pub ends_with : List ℕ → ℕ → ℕ → Bool
+ends_with d s j = ((length d - j) % 624 == 0) && not (s == 0xB8) && not (has_mark d (length d - 624))
 
-anew : (d : List ℕ) (s : ℕ) → ((i : ℕ) → i < length d → keeps_step d i ≡ true → in_step s (length d - i) ≡ false)
-    → anchor (d ++ s ∷ []) ≡ new_anchor d s
-unfolding anchor
-anew d s f =
-    ap (λ n. find (keeps_step (d ++ s ∷ [])) (range_with_len 0 n)) (length_push d s ∙ one (length d))
-    ∙ find-range_last (keeps_step (d ++ s ∷ [])) 0 (length d) (λ i l m. keeps_push d s i (omega arith)
-    ∙ by_test (keeps_step d i) (in_step s (length d - i)) (λ t. f i (omega arith) t))
-    ∙ ap₂ (λ t (k : ℕ). cond t (Some k) None)
-    (ap (keeps_step (d ++ s ∷ [])) (zero-add (length d)) ∙ keeps_push d s (length d) (omega arith)
-    ∙ ap₂ (λ x y. x && y) (keeps_end d) (at_none s (length d)))
-    (zero-add (length d))
-  where
-    one : (n : ℕ) → n + 1 ≡ suc n
-    one n = omega arith
-
-    by_test : (x y : Bool) → (x ≡ true → y ≡ false) → (x && y) ≡ false
-    by_test true y g = g refl
-    by_test false y g = refl
-
-    beq_true : (b : Bool) → beq b true ≡ b
-    beq_true true = refl
-    beq_true false = refl
-
-    at_none : (s n : ℕ) → in_step s (n - n) ≡ (s == 0xB8)
-    at_none s n =
-        let e : n - n ≡ 0 = omega arith in
-        ap (λ (m : ℕ). beq (s == 0xB8) (m % 624 == 0)) e ∙ beq_true (s == 0xB8)
-
-pub anchor_fails : (d : List ℕ) (s j : ℕ) → anchor d ≡ Some j → in_step s (length d - j) ≡ false
-    → anchor (d ++ s ∷ []) ≡ new_anchor d s
-unfolding anchor
-anchor_fails d s j h f =
-    let w : IsFirst (keeps_step d) 0 (length d) j = find-range_gives (keeps_step d) 0 (length d) j h in
-    anew d s (λ i l t. by_order i (cases_lt i j) w l t)
-  where
-    by_order : (i : ℕ) → (i < j) ⊎ (j ≤ i) → IsFirst (keeps_step d) 0 (length d) j → i < length d
-        → keeps_step d i ≡ true → in_step s (length d - i) ≡ false
-    by_order i (inl g) w l t = absurd (true≢false (sym t ∙ w.before i (omega arith) g))
-    by_order i (inr g) w l t = sym (same_step d s j i g l w.passes t) ∙ f
+pub mark_push : (d : List ℕ) (s : ℕ) → has_mark (d ++ s ∷ []) (length d) ≡ (s == 0xB8)
+mark_push d s = ap (λ x. x == 0xB8) (get_or_push d s 0 (length d) refl)
 
 pub anchor_free : (d : List ℕ) (s : ℕ) → anchor d ≡ None → anchor (d ++ s ∷ []) ≡ new_anchor d s
-unfolding anchor
 anchor_free d s h =
-    anew d s (λ i l t. absurd (true≢false (sym t
-    ∙ find-range_misses (keeps_step d) 0 (length d) h i (omega arith) (omega arith))))
+    anchor_push d s ∙ ap (anchor_at (d ++ s ∷ []) (length d)) h
+    ∙ ap (λ b. cond b (Some (length d)) None) (mark_push d s)
+
+-- ---- an anchor is a mark among the packets
+
+pub anchor_to_below : (d : List ℕ) (n j : ℕ) → anchor_to d n ≡ Some j → j < n
+unfolding anchor_to
+anchor_to_below d zero j h = cc
+anchor_to_below d (suc n) j h = by_before (anchor_to d n) (λ i e. anchor_to_below d n i e) h
+  where
+    by_new : (b : Bool) → cond b (Some n) None ≡ Some j → j < suc n
+    by_new true e = let q : n ≡ j = cc in omega (arith, q)
+    by_new false e = cc
+
+    by_old : (i : ℕ) (b : Bool) → i < n → cond b None (Some i) ≡ Some j → j < suc n
+    by_old i true l e = cc
+    by_old i false l e = let q : i ≡ j = cc in omega (arith, q, l)
+
+    by_before : (o : Option ℕ) → ((i : ℕ) → o ≡ Some i → i < n) → anchor_at d n o ≡ Some j → j < suc n
+    by_before None f g = by_new (has_mark d n) g
+    by_before (Some i) f g = by_old i (ends_lock d n i) (f i refl) g
 
 pub anchor_below : (d : List ℕ) (j : ℕ) → anchor d ≡ Some j → j < length d
 unfolding anchor
-anchor_below d j h = let w : IsFirst (keeps_step d) 0 (length d) j = find-range_gives (keeps_step d) 0 (length d) j h in
-    omega (arith, w.within)
+anchor_below d j h = anchor_to_below d (length d) j h
 
--- where there is an anchor, it holds by the test and else it is at this packet or lost
-pub anchor_next : (d : List ℕ) (s j : ℕ) → anchor d ≡ Some j → (t : Bool) → in_step s (length d - j) ≡ t
-    → anchor (d ++ s ∷ []) ≡ cond t (Some j) (new_anchor d s)
-anchor_next d s j h true e = anchor_holds d s j h e
-anchor_next d s j h false e = anchor_fails d s j h e
+-- where there is an anchor, it stays or is lost
+pub anchor_next : (d : List ℕ) (s j : ℕ) → anchor d ≡ Some j
+    → anchor (d ++ s ∷ []) ≡ cond (ends_with d s j) None (Some j)
+anchor_next d s j h =
+    let l : j < length d = anchor_below d j h in
+    anchor_push d s ∙ ap (anchor_at (d ++ s ∷ []) (length d)) h
+    ∙ ap₂ (λ x y. cond (((length d - j) % 624 == 0) && not x && not y) None (Some j)) (mark_push d s)
+    (front_alike d (s ∷ []) (length d) (omega arith) (length d - 624) (omega (arith, l)))
+
+-- ---- an anchor stays where no packet takes it away
+
+abbrev pub Stays : List ℕ → ℕ → ℕ → ℕ → Type 0
+Stays d j n m = (i : ℕ) → n ≤ i → i < n + m → ends_lock d i j ≡ false
+
+pub stays : (d : List ℕ) (j n m : ℕ) → anchor_to d n ≡ Some j → Stays d j n m → anchor_to d (n + m) ≡ Some j
+unfolding anchor_to
+stays d j n zero h f = let e : n + 0 ≡ n = omega arith in ap (anchor_to d) e ∙ h
+stays d j n (suc m) h f =
+    let e : n + suc m ≡ suc (n + m) = omega arith in
+    ap (anchor_to d) e
+    ∙ ap (anchor_at d (n + m)) (stays d j n m h (λ i l k. f i l (omega (arith, k))))
+    ∙ ap (λ b. cond b None (Some j)) (f (n + m) (omega arith) (omega arith))
+
+-- an anchor that is one among earlier packets was so from then on
+pub stood : (d : List ℕ) (j n m : ℕ) → j < n → anchor_to d (n + m) ≡ Some j → anchor_to d n ≡ Some j
+unfolding anchor_to
+stood d j n zero l h = let e : n ≡ n + 0 = omega arith in ap (anchor_to d) e ∙ h
+stood d j n (suc m) l h =
+    let e : suc (n + m) ≡ n + suc m = omega arith in
+    by_before (anchor_to d (n + m)) (stood d j n m l) (ap (anchor_to d) e ∙ h)
+  where
+    by_new : (b : Bool) → cond b (Some (n + m)) None ≡ Some j → anchor_to d n ≡ Some j
+    by_new true e = let q : n + m ≡ j = cc in absurd (omega (arith, q, l))
+    by_new false e = cc
+
+    by_old : (i : ℕ) (b : Bool) → (Some i ≡ Some j → anchor_to d n ≡ Some j) → cond b None (Some i) ≡ Some j
+        → anchor_to d n ≡ Some j
+    by_old i true f e = cc
+    by_old i false f e = f e
+
+    by_before : (o : Option ℕ) → (o ≡ Some j → anchor_to d n ≡ Some j) → anchor_at d (n + m) o ≡ Some j
+        → anchor_to d n ≡ Some j
+    by_before None f g = by_new (has_mark d (n + m)) g
+    by_before (Some i) f g = by_old i (ends_lock d (n + m) i) f g
+
+-- and no packet since took it away
+pub none_ended : (d : List ℕ) (j n m : ℕ) → j < n → anchor_to d (n + m) ≡ Some j → Stays d j n m
+unfolding anchor_to
+none_ended d j n m l h = λ i f g.
+    let e : suc i + (n + m - suc i) ≡ n + m = omega (arith, g) in
+    let k : n + (i - n) ≡ i = omega (arith, f) in
+    let b : n + (n + m - n) ≡ n + m = omega arith in
+    let now : anchor_to d (suc i) ≡ Some j = stood d j (suc i) (n + m - suc i) (omega (arith, l, f)) (ap (anchor_to d) e
+    ∙ h) in
+    let u : i + (n + m - i) ≡ n + m = omega (arith, g) in
+    let before : anchor_to d i ≡ Some j = stood d j i (n + m - i) (omega (arith, l, f)) (ap (anchor_to d) u ∙ h) in
+    by_test (ends_lock d i j) (sym (ap (anchor_at d i) before) ∙ now)
+  where
+    by_test : (b : Bool) → cond b None (Some j) ≡ Some j → b ≡ false
+    by_test true e = cc
+    by_test false e = refl
+
+-- an anchor is a mark
+pub anchor_is_mark : (d : List ℕ) (n j : ℕ) → anchor_to d n ≡ Some j → has_mark d j ≡ true
+unfolding anchor_to
+anchor_is_mark d zero j h = cc
+anchor_is_mark d (suc n) j h = by_before (anchor_to d n) (λ i e. anchor_is_mark d n i e) h
+  where
+    by_new : (b : Bool) → has_mark d n ≡ b → cond b (Some n) None ≡ Some j → has_mark d j ≡ true
+    by_new true t e = let q : n ≡ j = cc in ap (has_mark d) (sym q) ∙ t
+    by_new false t e = cc
+
+    by_old : (i : ℕ) (b : Bool) → has_mark d i ≡ true → cond b None (Some i) ≡ Some j → has_mark d j ≡ true
+    by_old i true t e = cc
+    by_old i false t e = let q : i ≡ j = cc in ap (has_mark d) (sym q) ∙ t
+
+    by_before : (o : Option ℕ) → ((i : ℕ) → o ≡ Some i → has_mark d i ≡ true) → anchor_at d n o ≡ Some j
+        → has_mark d j ≡ true
+    by_before None f g = by_new (has_mark d n) refl g
+    by_before (Some i) f g = by_old i (ends_lock d n i) (f i refl) g

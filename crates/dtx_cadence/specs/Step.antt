@@ -1,15 +1,30 @@
 -- An anchor, one sync byte further.
-use Rattle.std.specs.Prelude.{ℕ, ◌+◌, ◌%◌, ◌==◌, Option, Some, None, if◌then◌else◌}
+use Rattle.std.specs.Prelude.{ℕ, ◌+◌, ◌%◌, ◌==◌, ◌&&◌, Bool, not, false, Option, Some, None, if◌then◌else◌}
+use Rattle.dtx_cadence.specs.declared.anchor.Lock.{Lock}
 use Rattle.dtx_cadence.specs.declared.anchor.Seen.{Seen}
-use Rattle.dtx_cadence.specs.declared.anchor.Seen.TheVariants.{Free, Start, Moved, Lost, At}
-use Rattle.dtx_cadence.specs.Anchor.{in_step}
+use Rattle.dtx_cadence.specs.declared.anchor.Seen.TheVariants.{Free, Start, Lost, At}
+
+-- what an anchor keeps behind its own packet
+abbrev pub first_lock : Lock
+first_lock = record { place = 1; missed = false }
+
+-- whether a packet takes the anchor away, where it is a mark or not
+abbrev pub is_lost : Lock → Bool → Bool
+is_lost lock is_mark = (lock.place == 0) && not is_mark && lock.missed
+
+-- what is kept behind a packet with which the anchor stays
+abbrev pub moved_on : Lock → Bool → Lock
+moved_on lock is_mark = record {
+  place = (lock.place + 1) % 624;
+  missed = if lock.place == 0 then not is_mark else lock.missed;
+}
 
 -- what is kept behind a sync byte
-abbrev pub kept_after : Option ℕ → ℕ → Option ℕ
-kept_after None sync = if sync == 0xB8 then Some 1 else None
-kept_after (Some p) sync = if in_step sync p then Some ((p + 1) % 624) else (if sync == 0xB8 then Some 1 else None)
+abbrev pub kept_after : Option Lock → ℕ → Option Lock
+kept_after None sync = if sync == 0xB8 then Some first_lock else None
+kept_after (Some lock) sync = if is_lost lock (sync == 0xB8) then None else Some (moved_on lock (sync == 0xB8))
 
 -- what is answered to it
-abbrev pub answer : Option ℕ → ℕ → Seen
+abbrev pub answer : Option Lock → ℕ → Seen
 answer None sync = if sync == 0xB8 then Start else Free
-answer (Some p) sync = if in_step sync p then At p else (if sync == 0xB8 then Moved else Lost)
+answer (Some lock) sync = if is_lost lock (sync == 0xB8) then Lost else At lock.place

@@ -1,7 +1,7 @@
 // Where the cadence of the packets that were given is anchored.
-ghost use Rattle.std.specs.Prelude.{◌≡◌, ℕ, [], ◌∷◌, ◌++◌, List};
+ghost use Rattle.std.specs.Prelude.{◌≡◌, ◌<◌, ℕ, [], ◌∷◌, ◌++◌, List};
 ghost use Rattle.dtx_cadence.specs.Anchor.{StandsFor, IsSeen, seen};
-ghost use Rattle.dtx_cadence.specs.Step.{kept_after, answer};
+ghost use Rattle.dtx_cadence.specs.Step.{is_lost, moved_on, kept_after, answer};
 
 use dtx_sizes::{FRAME_PACKETS, MARK};
 use std::marker::Model;
@@ -13,29 +13,37 @@ pub enum Seen {
     Free,
     /// There was none, and this packet is the anchor.
     Start,
-    /// This packet is the anchor in place of an older one.
-    Moved,
-    /// The older anchor failed, and there is none.
+    /// There was one, and there is none: two marks that were due in a row are missing, the second with this packet.
     Lost,
-    /// The older anchor holds, and this packet stands at this place of it, from 0 to 623.
+    /// The anchor stays, and this packet stands at this place of it, from 0 to 623.
     At(u16),
 }
 
-/// The anchor of the packets of which it was told: the first packet from which on the marks stand exactly at each 624th
-/// (the profile's own). It is seen as the place of the next packet, or none.
+/// What an anchor says of the packets to come.
+#[derive(Clone, Copy)]
+struct Lock {
+    /// The place of the next packet, from 0 to 623; a mark is due at 0.
+    place: u16,
+    /// Whether the mark that was due last is missing.
+    missed: bool,
+}
+
+/// The anchor of the packets of which it was told: a first mark, which stays the anchor until two marks that are due in
+/// a row are missing, whatever marks stand elsewhere (the profile's own).
 #[derive(Drop)]
 pub struct Anchor {
-    place: Option<u16>,
+    lock: Option<Lock>,
 }
 
 impl Model for Anchor {
-    ghost use Rattle.std.specs.Prelude.{ℕ, ◌<◌, Option, IfSome};
+    ghost use Rattle.std.specs.Prelude.{◌<◌, Option, IfSome};
+    ghost use Rattle.dtx_cadence.specs.declared.anchor.Lock.{Lock};
 
-    ghost Value = { Option ℕ };
+    ghost Value = { Option Lock };
 
-    ghost view = { λ a. a.place };
+    ghost view = { λ a. a.lock };
 
-    ghost invariant = { λ a. IfSome a.place (λ p. p < 624) };
+    ghost invariant = { λ a. IfSome a.lock (λ l. l.place < 624) };
 }
 
 impl Anchor {
@@ -43,7 +51,7 @@ impl Anchor {
     pub fn new() -> Anchor
         ensures { StandsFor result [] }
     {
-        Anchor { place: None }
+        Anchor { lock: None }
     }
 
     /// Is told the sync byte of the next packet.
@@ -61,25 +69,46 @@ impl Anchor {
         ensures kept { self.new ≡ kept_after self.old sync }
     {
         let is_mark = sync == MARK;
-        match self.place {
-            Some(place) if is_mark == (place == 0) => {
-                self.place = Some((place + 1) % FRAME_PACKETS);
-                Seen::At(place)
-            }
-            Some(_) if is_mark => {
-                self.place = Some(1);
-                Seen::Moved
-            }
-            Some(_) => {
-                self.place = None;
-                Seen::Lost
+        match self.lock {
+            Some(lock) => {
+                if is_lost(lock, is_mark) {
+                    self.lock = None;
+                    return Seen::Lost;
+                }
+                self.lock = Some(moved_on(lock, is_mark));
+                Seen::At(lock.place)
             }
             None if is_mark => {
-                self.place = Some(1);
+                self.lock = Some(Lock {
+                    place: 1,
+                    missed: false,
+                });
                 Seen::Start
             }
             None => Seen::Free,
         }
+    }
+}
+
+/// Whether a packet takes the anchor away.
+fn is_lost(lock: Lock, is_mark: bool) -> bool
+    ensures { result ≡ is_lost lock is_mark }
+{
+    lock.place == 0 && !is_mark && lock.missed
+}
+
+/// What is kept behind a packet with which the anchor stays.
+fn moved_on(lock: Lock, is_mark: bool) -> Lock
+    requires { lock.place < 624 }
+    ensures { result ≡ moved_on lock is_mark }
+{
+    Lock {
+        place: (lock.place + 1) % FRAME_PACKETS,
+        missed: if lock.place == 0 {
+            !is_mark
+        } else {
+            lock.missed
+        },
     }
 }
 
@@ -98,8 +127,8 @@ mod tests {
     }
 
     #[test]
-    fn the_anchor_is_the_mark_from_which_on_the_marks_stand_at_each_624th(rt: HostRuntime) {
-        let cases: [(u64, &[u64], Seen); 14] = [
+    fn a_first_mark_is_the_anchor_until_two_due_marks_in_a_row_are_missing(rt: HostRuntime) {
+        let cases: [(u64, &[u64], Seen); 20] = [
             (5, &[], Seen::Free),
             (1, &[0], Seen::Start),
             (8, &[7], Seen::Start),
@@ -108,15 +137,24 @@ mod tests {
             // the second mark is due
             (632, &[7, 631], Seen::At(0)),
             (633, &[7, 631], Seen::At(1)),
-            (632, &[7], Seen::Lost),
-            (633, &[7], Seen::Free),
-            // a mark out of step takes the anchor's place, also one packet behind it
-            (9, &[7, 8], Seen::Moved),
-            (101, &[7, 100], Seen::Moved),
-            (102, &[7, 100], Seen::At(1)),
-            // the older anchor doesn't come back, though its next mark is due
-            (632, &[7, 100, 631], Seen::Moved),
-            (725, &[7, 100, 724], Seen::At(0)),
+            // one missing mark moves nothing
+            (632, &[7], Seen::At(0)),
+            (633, &[7], Seen::At(1)),
+            (1256, &[7, 1255], Seen::At(0)),
+            // the first one came, so the third alone is missing
+            (1880, &[7, 1255], Seen::At(0)),
+            // two missing in a row
+            (1255, &[7], Seen::At(623)),
+            (1256, &[7], Seen::Lost),
+            (1257, &[7], Seen::Free),
+            (2504, &[7, 1255], Seen::Lost),
+            // a stray mark moves nothing, also one packet behind the anchor, nor does it stand for one that is due
+            (9, &[7, 8], Seen::At(1)),
+            (102, &[7, 100], Seen::At(94)),
+            (725, &[7, 100, 724], Seen::At(93)),
+            (1256, &[7, 100, 632, 724], Seen::Lost),
+            // the next mark behind a lost anchor is the anchor
+            (1349, &[7, 100, 724, 1348], Seen::Start),
         ];
         for (count, marks, seen) in cases {
             assert_eq!(rt; last_seen(count, marks), seen, "{count} {marks:?}");

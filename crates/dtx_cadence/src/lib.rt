@@ -2,6 +2,7 @@
 #![tactic(auto)]
 
 mod anchor;
+pub mod laws;
 mod marks;
 
 pub use anchor::{Anchor, Seen};

@@ -1,7 +1,7 @@
 -- Two transmitters in one stretch, and its first line.
 use Rattle.std.proofs.Common.{◌≡◌, ℕ, suc, ◌+◌, ◌-◌, ◌*◌, ◌/◌, ◌%◌, ◌≤◌, Some, List, [], ◌∷◌, ◌++◌, length, map, drop}
 use Rattle.std.proofs.Common.{refl, sym, ap, subst, ◌∙◌, arith}
-use Rattle.std.specs.Prelude.{slice_range, pos, ◌-ℤ◌, ◌*ℤ◌}
+use Rattle.std.specs.Prelude.{slice_range, ℤ, pos, ◌-ℤ◌, ◌*ℤ◌}
 use Rattle.std.specs.List.{range_with_len, filter_map, cons_option}
 use Rattle.std.proofs.lemmas.List.{drop_at}
 use Rattle.dtx_clock.specs.Clock.{grains_of, DifferBy}
@@ -10,78 +10,79 @@ use Rattle.dtx_ops.specs.declared.fields.Ops.{Ops}
 use Rattle.dtx_exciter.specs.Order.{Order, counting_order, placed}
 use Rattle.dtx_exciter.specs.Packets.{readings}
 use Rattle.dtx_exciter.specs.Emission.{emission}
-use Rattle.dtx_exciter.specs.Lockstep.{IsFeed, IsStretch, segment_place, stretch}
+use Rattle.dtx_exciter.specs.Lockstep.{IsFeed, locked_from, IsStretch, segment_place, stretch}
 use Rattle.dtx_exciter.specs.Log.{preset}
-use Rattle.dtx_exciter.specs.Stretch.{before_stretch, offset_at, order_moment, preset_line, orders_in, stretch_lines}
+use Rattle.dtx_exciter.specs.Stretch.{before_stretch, order_moment, preset_line, orders_in, stretch_lines}
 use Rattle.dtx_exciter.specs.Stretch.{IsApart, AreApart}
 use Rattle.dtx_exciter.specs.LockstepIsLaws.{lockstep_is}
 
 -- ---- segments
 
 -- those from the stretch on
-from_stretch : (a d : ℕ) (feed earlier : List (List ℕ)) (mark end k : ℕ) → IsFeed a d feed → IsStretch feed mark end k
+from_stretch : (a d : ℕ) (z : ℤ) (feed earlier : List (List ℕ)) (mark end k : ℕ) → IsFeed a d z feed
+    → IsStretch a feed (locked_from earlier mark) mark end k
     → drop (length (before_stretch a d earlier feed mark k)) (emission a d (earlier ++ slice_range feed mark end))
     ≡ stretch feed k end
-from_stretch a d feed earlier mark end k f s =
-    ap (drop (length (before_stretch a d earlier feed mark k))) (lockstep_is a d feed earlier mark end k f s)
+from_stretch a d z feed earlier mark end k f s =
+    ap (drop (length (before_stretch a d earlier feed mark k))) (lockstep_is a d z feed earlier mark end k f s)
     ∙ drop_at (before_stretch a d earlier feed mark k) (stretch feed k end)
     (length (before_stretch a d earlier feed mark k)) refl
 
-pub segments_same : (a b delay_a delay_b : ℕ) (feed earlier_a earlier_b : List (List ℕ)) (mark_a mark_b end k : ℕ)
-    → IsFeed a delay_a feed → IsFeed b delay_b feed → IsStretch feed mark_a end k → IsStretch feed mark_b end k
+pub segments_same : (a b delay_a delay_b : ℕ) (offset_a offset_b : ℤ) (feed earlier_a earlier_b : List (List ℕ))
+    (mark_a mark_b end k : ℕ) → IsFeed a delay_a offset_a feed → IsFeed b delay_b offset_b feed
+    → IsStretch a feed (locked_from earlier_a mark_a) mark_a end k
+    → IsStretch b feed (locked_from earlier_b mark_b) mark_b end k
     → drop (length (before_stretch a delay_a earlier_a feed mark_a k))
     (emission a delay_a (earlier_a ++ slice_range feed mark_a end))
     ≡ drop (length (before_stretch b delay_b earlier_b feed mark_b k))
     (emission b delay_b (earlier_b ++ slice_range feed mark_b end))
-segments_same a b delay_a delay_b feed earlier_a earlier_b mark_a mark_b end k f g s t =
-    from_stretch a delay_a feed earlier_a mark_a end k f s
-    ∙ sym (from_stretch b delay_b feed earlier_b mark_b end k g t)
+segments_same a b delay_a delay_b offset_a offset_b feed earlier_a earlier_b mark_a mark_b end k f g s t =
+    from_stretch a delay_a offset_a feed earlier_a mark_a end k f s
+    ∙ sym (from_stretch b delay_b offset_b feed earlier_b mark_b end k g t)
 
 -- ---- moments
 
 whole_grains : (n : ℕ) → n ≡ n / 1539 * 1539 + n % 1539
 whole_grains n = omega arith
 
-line_apart : (a b s r k : ℕ) (order : Order)
-    → IsApart (offset_at a order -ℤ offset_at b order) (preset_line a s k order) (preset_line b r k order)
-line_apart a b s r k order =
-    let x : ℕ = grains_of order.ops.stamp order.ops.max_delay (offset_at a order) (order.place % 624) in
-    let y : ℕ = grains_of order.ops.stamp order.ops.max_delay (offset_at b order) (order.place % 624) in (
+line_apart : (y z : ℤ) (s r k : ℕ) (order : Order)
+    → IsApart (y -ℤ z) (preset_line y s k order) (preset_line z r k order)
+line_apart y z s r k order =
+    let m : ℕ = grains_of order.ops.stamp order.ops.max_delay y (order.place % 624) in
+    let n : ℕ = grains_of order.ops.stamp order.ops.max_delay z (order.place % 624) in (
       refl,
       refl,
-      subst (λ (n : ℕ). DifferBy n (y / 1539 * 1539 + y % 1539) ((offset_at a order -ℤ offset_at b order) *ℤ pos 1539))
-          (whole_grains x)
-          (subst (λ (n : ℕ). DifferBy x n ((offset_at a order -ℤ offset_at b order) *ℤ pos 1539)) (whole_grains y)
-          (moments_differ order.ops.stamp order.ops.max_delay (order.place % 624) (offset_at a order)
-          (offset_at b order))),
+      subst (λ (i : ℕ). DifferBy i (n / 1539 * 1539 + n % 1539) ((y -ℤ z) *ℤ pos 1539)) (whole_grains m)
+          (subst (λ (i : ℕ). DifferBy m i ((y -ℤ z) *ℤ pos 1539)) (whole_grains n)
+          (moments_differ order.ops.stamp order.ops.max_delay (order.place % 624) y z)),
     )
 
-all_apart : (a b s r k : ℕ) (orders : List Order)
-    → AreApart a b orders (map (preset_line a s k) orders) (map (preset_line b r k) orders)
-all_apart a b s r k [] = tt
-all_apart a b s r k (order ∷ orders) = (line_apart a b s r k order, all_apart a b s r k orders)
+all_apart : (y z : ℤ) (s r k : ℕ) (orders : List Order)
+    → AreApart (y -ℤ z) orders (map (preset_line y s k) orders) (map (preset_line z r k) orders)
+all_apart y z s r k [] = tt
+all_apart y z s r k (order ∷ orders) = (line_apart y z s r k order, all_apart y z s r k orders)
 
-pub lines_apart : (a b s r : ℕ) (feed : List (List ℕ)) (end k : ℕ)
-    → AreApart a b (orders_in feed k end) (stretch_lines a s feed k end) (stretch_lines b r feed k end)
+pub lines_apart : (y z : ℤ) (s r : ℕ) (feed : List (List ℕ)) (end k : ℕ)
+    → AreApart (y -ℤ z) (orders_in feed k end) (stretch_lines y s feed k end) (stretch_lines z r feed k end)
 unfolding stretch_lines
-lines_apart a b s r feed end k = all_apart a b s r k (orders_in feed k end)
+lines_apart y z s r feed end k = all_apart y z s r k (orders_in feed k end)
 
 -- ---- the first line
 
-pub first_is : (a s : ℕ) (feed : List (List ℕ)) (end k : ℕ) (ops : Ops) → k + 4 ≤ end
+pub first_is : (z : ℤ) (s : ℕ) (feed : List (List ℕ)) (end k : ℕ) (ops : Ops) → k + 4 ≤ end
     → counting_order (readings feed) k ≡ Some ops
-    → stretch_lines a s feed k end
-    ≡ preset s ops.frame (k % 624) (order_moment a (record { place = k; ops = ops })).tick
-    (order_moment a (record { place = k; ops = ops })).grain ∷ map (preset_line a s k) (orders_in feed (k + 1) end)
+    → stretch_lines z s feed k end
+    ≡ preset s ops.frame (k % 624) (order_moment z (record { place = k; ops = ops })).tick
+    (order_moment z (record { place = k; ops = ops })).grain ∷ map (preset_line z s k) (orders_in feed (k + 1) end)
 unfolding stretch_lines orders_in
-first_is a s feed end k ops l h =
+first_is z s feed end k ops l h =
     let c : end - 3 - k ≡ suc (end - 3 - (k + 1)) = omega (arith, l) in
     let order : Order = record { place = k; ops = ops } in
     let pick = λ (g : ℕ). placed g (counting_order (readings feed) g) in
     let seg : s + (segment_place k - segment_place k) ≡ s = omega arith in
-    ap (λ n. map (preset_line a s k) (filter_map pick (range_with_len k n))) c
-    ∙ ap (λ o. map (preset_line a s k) (cons_option (placed k o)
+    ap (λ n. map (preset_line z s k) (filter_map pick (range_with_len k n))) c
+    ∙ ap (λ o. map (preset_line z s k) (cons_option (placed k o)
     (filter_map pick (range_with_len (k + 1) (end - 3 - (k + 1)))))) h
-    ∙ ap (λ n. preset n ops.frame (k % 624) (order_moment a order).tick (order_moment a order).grain ∷ map
-    (preset_line a s k)
+    ∙ ap (λ n. preset n ops.frame (k % 624) (order_moment z order).tick (order_moment z order).grain ∷ map
+    (preset_line z s k)
     (filter_map pick (range_with_len (k + 1) (end - 3 - (k + 1))))) seg

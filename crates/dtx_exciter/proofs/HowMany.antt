@@ -7,14 +7,14 @@ use Rattle.std.proofs.lemmas.Bool.{eqb-true, eqb-false, false≢true}
 use Rattle.std.proofs.lemmas.List.{length-append}
 use Rattle.std.proofs.lemmas.List.FromFn.{length-map-range_with_len}
 use Rattle.dtx_cadence.specs.declared.anchor.Seen.{Seen}
-use Rattle.dtx_cadence.specs.declared.anchor.Seen.TheVariants.{Free, Start, Moved, Lost, At}
+use Rattle.dtx_cadence.specs.declared.anchor.Seen.TheVariants.{Free, Start, Lost, At}
 use Rattle.dtx_cadence.specs.Anchor.{seen}
 use Rattle.dtx_packets.specs.Packet.{sync_of}
 use Rattle.dtx_coder.specs.Along.{levels_since}
 use Rattle.dtx_coder.specs.Stream.{segment, four_segments, last_of}
 use Rattle.dtx_frame.specs.Segments.{field_sync}
 use Rattle.dtx_exciter.specs.declared.answers.Told.TheVariants.{Quiet}
-use Rattle.dtx_exciter.specs.Order.{Order, in_force}
+use Rattle.dtx_exciter.specs.Order.{Order, orders}
 use Rattle.dtx_exciter.specs.Told.{served, told_at, told_under, is_sent}
 use Rattle.dtx_exciter.specs.Packets.{syncs, readings, under, last_answer, part_of, group_part}
 use Rattle.dtx_exciter.specs.Emission.{segments_since, sent_by, sent_at, sent_before, behind_field_sync, given_under}
@@ -29,9 +29,9 @@ use Rattle.dtx_exciter.specs.UnderLaws.{length-said, Goes, goes}
 
 -- the answer and the segments of the packets from the anchor on
 told_where : (a d : ℕ) (l : List (List ℕ)) → told_under a d (Some (readings l))
-    ≡ cond (length l % 4 == 0) (told_at a d (length l - 4) (in_force (readings l) (length l - 4))) Quiet
+    ≡ cond (length l % 4 == 0) (told_at a d (length l - 4) (orders (readings l) (length l - 4))) Quiet
 told_where a d l =
-    ap (λ (n : ℕ). cond (n % 4 == 0) (told_at a d (n - 4) (in_force (readings l) (n - 4))) Quiet) (length-said l)
+    ap (λ (n : ℕ). cond (n % 4 == 0) (told_at a d (n - 4) (orders (readings l) (n - 4))) Quiet) (length-said l)
 
 none_under : (a d : ℕ) (l : List (List ℕ)) → is_sent (told_under a d (Some (readings l))) ≡ false
     → given_under a d (Some l) ≡ []
@@ -42,12 +42,12 @@ none_under a d l e = by_whole (length l % 4 == 0) (sym (ap is_sent (told_where a
     i = length l - 4
 
     by_whole : (t : Bool)
-        → is_sent (cond t (told_at a d (length l - 4) (in_force (readings l) (length l - 4))) Quiet) ≡ false
+        → is_sent (cond t (told_at a d (length l - 4) (orders (readings l) (length l - 4))) Quiet) ≡ false
         → cond t (behind_field_sync (length l - 4) (sent_before a d l (length l - 4))
         (sent_at a d l (length l - 4))) [] ≡ []
     by_whole true h =
         ap (behind_field_sync (length l - 4) (sent_before a d l (length l - 4))) (none_by a d l (length l - 4)
-        (in_force (readings l) (length l - 4)) (sym (sent_is_served a d (length l - 4) (in_force (readings l)
+        (orders (readings l) (length l - 4)) (sym (sent_is_served a d (length l - 4) (orders (readings l)
         (length l - 4)))
         ∙ h))
     by_whole false h = refl
@@ -57,7 +57,6 @@ none_seen : (a d : ℕ) (ps : List (List ℕ)) (p : List ℕ) (s : Seen) → Goe
 unfolding last_segments
 none_seen a d ps p Free g e = ap (given_under a d) g.follows
 none_seen a d ps p Start g e = ap (given_under a d) g.follows
-none_seen a d ps p Moved g e = ap (given_under a d) g.follows
 none_seen a d ps p Lost g e = ap (given_under a d) g.follows
 none_seen a d ps p (At place) g e =
     let l : List (List ℕ) = g.follows.0 ++ p ∷ [] in
@@ -70,11 +69,11 @@ none_given a d ps p e = none_seen a d ps p (seen (syncs ps) (sync_of p)) (goes a
 
 -- ---- four or five
 
-length-sent : (a d : ℕ) (l : List (List ℕ)) (i : ℕ) (o : Option Order)
+length-sent : (a d : ℕ) (l : List (List ℕ)) (i : ℕ) (o : List Order)
     → length (sent_by a d l i o) ≡ cond (is_served a d o) 4 0
 unfolding segments_since four_segments
-length-sent a d l i None = refl
-length-sent a d l i (Some order) = by_service (is_ok (served a d order.ops))
+length-sent a d l i [] = refl
+length-sent a d l i (order ∷ older) = by_service (is_ok (served a d (order ∷ older)))
   where
     by_service : (t : Bool) → length (cond t (segments_since (order.place / 4) order.ops.states l (i / 4)) [])
         ≡ cond t 4 0
@@ -88,11 +87,11 @@ length-before : (a d : ℕ) (l : List (List ℕ)) (i : ℕ)
 unfolding sent_at
 length-before a d l i = by_place (nat_le 4 i)
   where
-    by_place : (t : Bool) → length (cond t (sent_by a d l (i - 4) (in_force (readings l) (i - 4))) [])
-        ≡ cond (t && is_sent (told_at a d (i - 4) (in_force (readings l) (i - 4)))) 4 0
+    by_place : (t : Bool) → length (cond t (sent_by a d l (i - 4) (orders (readings l) (i - 4))) [])
+        ≡ cond (t && is_sent (told_at a d (i - 4) (orders (readings l) (i - 4)))) 4 0
     by_place true =
-        length-sent a d l (i - 4) (in_force (readings l) (i - 4))
-        ∙ ap (λ t. cond t 4 0) (sym (sent_is_served a d (i - 4) (in_force (readings l) (i - 4))))
+        length-sent a d l (i - 4) (orders (readings l) (i - 4))
+        ∙ ap (λ t. cond t 4 0) (sym (sent_is_served a d (i - 4) (orders (readings l) (i - 4))))
     by_place false = refl
 
 synced : (i : ℕ) (before ss : List (List ℤ)) (t : Bool) → length before ≡ cond t 4 0 → length ss ≡ 4
@@ -115,15 +114,15 @@ unfolding sent_at
 some_under a d l e = by_whole (length l % 4 == 0) (sym (ap is_sent (told_where a d l)) ∙ e)
   where
     by_whole : (t : Bool)
-        → is_sent (cond t (told_at a d (length l - 4) (in_force (readings l) (length l - 4))) Quiet) ≡ true
+        → is_sent (cond t (told_at a d (length l - 4) (orders (readings l) (length l - 4))) Quiet) ≡ true
         → length (cond t (behind_field_sync (length l - 4) (sent_before a d l (length l - 4))
         (sent_at a d l (length l - 4))) [])
         ≡ cond (was_sent a d (readings l) (length l - 4) && ((length l - 4) % 312 == 0)) 5 4
     by_whole true h =
         synced (length l - 4) (sent_before a d l (length l - 4)) (sent_at a d l (length l - 4))
         (was_sent a d (readings l) (length l - 4)) (length-before a d l (length l - 4))
-        (length-sent a d l (length l - 4) (in_force (readings l) (length l - 4))
-        ∙ ap (λ t. cond t 4 0) (sym (sent_is_served a d (length l - 4) (in_force (readings l) (length l - 4))) ∙ h))
+        (length-sent a d l (length l - 4) (orders (readings l) (length l - 4))
+        ∙ ap (λ t. cond t 4 0) (sym (sent_is_served a d (length l - 4) (orders (readings l) (length l - 4))) ∙ h))
     by_whole false h = absurd (false≢true h)
 
 HasMany : ℕ → ℕ → List (List ℕ) → Type 0
@@ -136,7 +135,6 @@ some_seen : (a d : ℕ) (ps : List (List ℕ)) (p : List ℕ) (s : Seen) → Goe
 unfolding last_segments HasMany
 some_seen a d ps p Free g e = absurd (false≢true (sym (ap is_sent g.answer) ∙ e))
 some_seen a d ps p Start g e = absurd (false≢true (sym (ap is_sent g.answer) ∙ e))
-some_seen a d ps p Moved g e = absurd (false≢true (sym (ap is_sent g.answer) ∙ e))
 some_seen a d ps p Lost g e = absurd (false≢true (sym (ap is_sent g.answer) ∙ e))
 some_seen a d ps p (At place) g e =
     let l : List (List ℕ) = g.follows.0 ++ p ∷ [] in (
@@ -227,7 +225,6 @@ spaced_seen : (a d : ℕ) (ps : List (List ℕ)) (p : List ℕ) (s : Seen) → G
 unfolding IsSpaced
 spaced_seen a d ps p Free g = spaced_none a d ps p g.follows
 spaced_seen a d ps p Start g = spaced_single a d ps p g.follows
-spaced_seen a d ps p Moved g = spaced_single a d ps p g.follows
 spaced_seen a d ps p Lost g = spaced_none a d ps p g.follows
 spaced_seen a d ps p (At place) g =
     let l = g.follows.0 in

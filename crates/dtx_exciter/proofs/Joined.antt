@@ -3,6 +3,7 @@ use Rattle.std.proofs.Common.{◌≡◌, ◌≢◌, ℕ, ℤ, ◌+◌, ◌-◌, 
 use Rattle.std.proofs.Common.{cond, Option, Some, option_map, List, [], ◌∷◌, ◌++◌, length, take, drop, set, refl, sym}
 use Rattle.std.proofs.Common.{ap, ap₂, subst, ◌∙◌, arith, inl, inr}
 use Rattle.std.specs.Prelude.{nat_le}
+use Rattle.std.specs.List.{cons_option}
 use Rattle.std.specs.Option.{unwrap_or}
 use Rattle.std.proofs.lemmas.Bool.{cases_lt, cond-true, cond-false, eq-eqb, ne_eqb, le-leb, lt-leb}
 use Rattle.std.proofs.lemmas.List.{map-set, take_more_set, length-map, length-set, length_push, drop-append-le}
@@ -13,12 +14,14 @@ use Rattle.dtx_ops.specs.declared.fields.Ops.{Ops}
 use Rattle.dtx_exciter.specs.declared.exciter.Exciter.{Exciter}
 use Rattle.dtx_exciter.specs.declared.answers.Told.{Told}
 use Rattle.dtx_exciter.specs.declared.answers.Told.TheVariants.{Quiet}
-use Rattle.dtx_exciter.specs.Order.{Order, either, counting_order, placed, in_force}
+use Rattle.dtx_exciter.specs.Order.{Order, counting_order, placed, orders}
+use Rattle.dtx_exciter.specs.declared.pages.Pages.{Pages}
+use Rattle.dtx_exciter.specs.HeldPages.{HoldsPages, HoldsMore}
 use Rattle.dtx_exciter.specs.Told.{told_at, told_under, is_sent}
 use Rattle.dtx_exciter.specs.Packets.{readings}
 use Rattle.dtx_exciter.specs.Emission.{Holds, sent_by, sent_at, sent_before, behind_field_sync, given_under}
 use Rattle.dtx_exciter.specs.Step.{bytes_of, own_order, told_group, own_of, group_of, IsSent}
-use Rattle.dtx_exciter.specs.Kept.{whole, last_order, is_served, RunsUnder, KeepsUnder, IsJoined}
+use Rattle.dtx_exciter.specs.Kept.{whole, last_orders, is_served, RunsUnder, KeepsUnder, IsJoined}
 use Rattle.dtx_exciter.specs.ForceLaws.{force_left, force_first, counted_behind, IsBehind}
 use Rattle.dtx_exciter.specs.UnderLaws.{said_append, length-said}
 use Rattle.dtx_exciter.specs.EndsLaws as Ends
@@ -30,19 +33,19 @@ length-with l p = length-said (l ++ p ∷ []) ∙ length_push l p
 
 -- ---- a packet that ends no group
 
-last_same : (l : List (List ℕ)) (p : List ℕ) → length l % 4 ≢ 3 → last_order (l ++ p ∷ []) ≡ last_order l
-unfolding last_order
-last_same l p h = ap₂ in_force (said_append l (p ∷ [])) same ∙ by_place (cases_lt (whole l) 4)
+last_same : (l : List (List ℕ)) (p : List ℕ) → length l % 4 ≢ 3 → last_orders (l ++ p ∷ []) ≡ last_orders l
+unfolding last_orders
+last_same l p h = ap₂ orders (said_append l (p ∷ [])) same ∙ by_place (cases_lt (whole l) 4)
   where
     same : whole (l ++ p ∷ []) - 4 ≡ whole l - 4
     same = omega (arith, h, length_push l p)
 
-    by_place : (whole l < 4) ⊎ (4 ≤ whole l) → in_force (readings l ++ readings (p ∷ [])) (whole l - 4)
-        ≡ in_force (readings l) (whole l - 4)
+    by_place : (whole l < 4) ⊎ (4 ≤ whole l) → orders (readings l ++ readings (p ∷ [])) (whole l - 4)
+        ≡ orders (readings l) (whole l - 4)
     by_place (inl m) =
         let z : whole l - 4 ≡ 0 = omega (arith, m) in
-        ap (in_force (readings l ++ readings (p ∷ []))) z ∙ force_first (readings l ++ readings (p ∷ []))
-        ∙ sym (ap (in_force (readings l)) z ∙ force_first (readings l))
+        ap (orders (readings l ++ readings (p ∷ []))) z ∙ force_first (readings l ++ readings (p ∷ []))
+        ∙ sym (ap (orders (readings l)) z ∙ force_first (readings l))
     by_place (inr m) = force_left (readings l) (readings (p ∷ [])) (whole l - 4) (omega (arith, m, length-said l))
 
 quiet_told : (a d : ℕ) (l : List (List ℕ)) (p : List ℕ) → length l % 4 ≢ 3
@@ -100,7 +103,8 @@ joined_partial a d l old place packet count symbols k e h four z =
             ∙ sym (ap (λ (y : ℕ). drop y (l ++ packet.0 ∷ [])) w
             ∙ drop-append-le (whole l) l (packet.0 ∷ []) (omega arith));
         sent = k.sent ∙ ap (is_served a d) (sym (last_same l packet.0 n));
-        coder = subst (λ x. RunsUnder x (last_order (l ++ packet.0 ∷ [])) old.coder) (sym (front_same l packet.0 n))
+        pages = subst (λ r. HoldsPages a r old.pages) (sym (last_same l packet.0 n)) k.pages;
+        coder = subst (λ x. RunsUnder x (last_orders (l ++ packet.0 ∷ [])) old.coder) (sym (front_same l packet.0 n))
             (subst (λ o. RunsUnder (take (whole l) l) o old.coder) (sym (last_same l packet.0 n)) k.coder);
       };
     }
@@ -117,8 +121,8 @@ pub record Joining (a d : ℕ) (l : List (List ℕ)) (old : Exciter) (packet : P
   pub place : j ≡ i % 624
   pub four : length old.packets ≡ 4
 
-abbrev order_now : List (List ℕ) → ℕ → List ℕ → Option Order
-order_now l i p = either (placed i (counting_order (readings (l ++ p ∷ [])) i)) (last_order l)
+abbrev orders_now : List (List ℕ) → ℕ → List ℕ → List Order
+orders_now l i p = cons_option (placed i (counting_order (readings (l ++ p ∷ [])) i)) (last_orders l)
 
 bytes_full : (a d : ℕ) (l : List (List ℕ)) (old : Exciter) (packet : Packet) (i j : ℕ) → Joining a d l old packet i j
     → bytes_of (full old packet).packets ≡ Ends.group l i packet.0
@@ -138,16 +142,25 @@ own_full a d l old packet i j c =
     ap₂ (λ s x. own_order s j x) c.keeps.flushed (bytes_full a d l old packet i j c)
     ∙ Ends.own_is l i j packet.0 c.ends c.place
 
-told_full : (a d : ℕ) (l : List (List ℕ)) (old : Exciter) (packet : Packet) (i j : ℕ) → Joining a d l old packet i j
-    → told_group a d j (own_of (full old packet) j) old.sent ≡ told_at a d i (order_now l i packet.0)
-told_full a d l old packet i j c =
-    ap (λ o. told_group a d j o old.sent) (own_full a d l old packet i j c)
+-- what is kept of the pages with the group's order, if it has one
+pages_full : (a d : ℕ) (l : List (List ℕ)) (old : Exciter) (packet : Packet) (i j : ℕ) (pages : Pages)
+    → Joining a d l old packet i j → HoldsMore a (own_of (full old packet) j) old.pages pages
+    → HoldsPages a (orders_now l i packet.0) pages
+pages_full a d l old packet i j pages c h =
+    subst (λ o. HoldsPages a (cons_option (placed i o) (last_orders l)) pages) (own_full a d l old packet i j c)
+    (h (last_orders l) i c.keeps.pages)
+
+told_full : (a d : ℕ) (l : List (List ℕ)) (old : Exciter) (packet : Packet) (i j : ℕ) (pages : Pages)
+    → Joining a d l old packet i j → HoldsPages a (orders_now l i packet.0) pages
+    → told_group d j (own_of (full old packet) j) pages old.sent ≡ told_at a d i (orders_now l i packet.0)
+told_full a d l old packet i j pages c h =
+    ap (λ o. told_group d j o pages old.sent) (own_full a d l old packet i j c)
     ∙ told_group_is a d i j (counting_order (readings (l ++ packet.0 ∷ [])) i)
-    (last_order l) old.sent c.place c.keeps.sent
-    (λ order e. Ends.last_older l i order c.ends e)
+    (last_orders l) pages old.sent c.place h c.keeps.sent
+    (λ order older e. Ends.last_older l i order older c.ends e)
 
 told_now : (a d : ℕ) (l : List (List ℕ)) (p : List ℕ) (i : ℕ) → Ends.Ends l i
-    → told_at a d i (order_now l i p) ≡ told_under a d (Some (readings (l ++ p ∷ [])))
+    → told_at a d i (orders_now l i p) ≡ told_under a d (Some (readings (l ++ p ∷ [])))
 told_now a d l p i e =
     let n : length (readings (l ++ p ∷ [])) ≡ i + 4 = length-said (l ++ p ∷ []) ∙ Ends.length-all l i p e in
     let s : length (readings (l ++ p ∷ [])) - 4 ≡ i = omega (arith, n) in
@@ -155,18 +168,18 @@ told_now a d l p i e =
     ap (told_at a d i) (sym (Ends.force_is l i p e))
     ∙ sym (cond-true (length (readings (l ++ p ∷ [])) % 4 == 0) _ _
     (eq-eqb (length (readings (l ++ p ∷ [])) % 4) 0 (omega (arith, n, w)))
-    ∙ ap (λ k. told_at a d k (in_force (readings (l ++ p ∷ [])) k)) s)
+    ∙ ap (λ k. told_at a d k (orders (readings (l ++ p ∷ [])) k)) s)
 
 -- ---- what is given
 
 before_now : (a d : ℕ) (l : List (List ℕ)) (p : List ℕ) (i : ℕ) → Ends.Ends l i
-    → sent_before a d (l ++ p ∷ []) i ≡ sent_by a d (l ++ p ∷ []) (i - 4) (last_order l)
+    → sent_before a d (l ++ p ∷ []) i ≡ sent_by a d (l ++ p ∷ []) (i - 4) (last_orders l)
 unfolding sent_at
 before_now a d l p i e = by_place (cases_lt i 4)
   where
     by_place : (i < 4) ⊎ (4 ≤ i)
-        → cond (nat_le 4 i) (sent_by a d (l ++ p ∷ []) (i - 4) (in_force (readings (l ++ p ∷ [])) (i - 4))) []
-        ≡ sent_by a d (l ++ p ∷ []) (i - 4) (last_order l)
+        → cond (nat_le 4 i) (sent_by a d (l ++ p ∷ []) (i - 4) (orders (readings (l ++ p ∷ [])) (i - 4))) []
+        ≡ sent_by a d (l ++ p ∷ []) (i - 4) (last_orders l)
     by_place (inl m) =
         let w = e.whole in
         let z : i ≡ 0 = omega (arith, m, w) in
@@ -176,13 +189,13 @@ before_now a d l p i e = by_place (cases_lt i 4)
         ∙ ap (sent_by a d (l ++ p ∷ []) (i - 4)) (Ends.before_is l i p e m)
 
 sent_now : (a d : ℕ) (l : List (List ℕ)) (p : List ℕ) (i : ℕ) → Ends.Ends l i
-    → sent_at a d (l ++ p ∷ []) i ≡ sent_by a d (l ++ p ∷ []) i (order_now l i p)
+    → sent_at a d (l ++ p ∷ []) i ≡ sent_by a d (l ++ p ∷ []) i (orders_now l i p)
 unfolding sent_at
 sent_now a d l p i e = ap (sent_by a d (l ++ p ∷ []) i) (Ends.force_is l i p e)
 
 given_now : (a d : ℕ) (l : List (List ℕ)) (p : List ℕ) (i : ℕ) → Ends.Ends l i
-    → given_under a d (Some (l ++ p ∷ [])) ≡ behind_field_sync i (sent_by a d (l ++ p ∷ []) (i - 4) (last_order l))
-    (sent_by a d (l ++ p ∷ []) i (order_now l i p))
+    → given_under a d (Some (l ++ p ∷ [])) ≡ behind_field_sync i (sent_by a d (l ++ p ∷ []) (i - 4) (last_orders l))
+    (sent_by a d (l ++ p ∷ []) i (orders_now l i p))
 given_now a d l p i e =
     let n : length (l ++ p ∷ []) ≡ i + 4 = Ends.length-all l i p e in
     let s : length (l ++ p ∷ []) - 4 ≡ i = omega (arith, n) in
@@ -196,10 +209,10 @@ given_now a d l p i e =
 given_full : (a d : ℕ) (l : List (List ℕ)) (old : Exciter) (packet : Packet) (i j : ℕ) (answered : Told)
     → Joining a d l old packet i j
     → IsGiven (Ends.front l i) (Ends.group l i packet.0) i (counting_order (readings (l ++ packet.0 ∷ [])) i)
-    (last_order l) old.coder (group_of (full old packet) j answered)
+    (last_orders l) old.coder (group_of (full old packet) j answered)
 unfolding group_of
 given_full a d l old packet i j answered c = record {
-  runs = subst (λ (n : ℕ). RunsUnder (take n l) (last_order l) old.coder) (Ends.whole-front l i c.ends) c.keeps.coder;
+  runs = subst (λ (n : ℕ). RunsUnder (take n l) (last_orders l) old.coder) (Ends.whole-front l i c.ends) c.keeps.coder;
   next = record {
     place = let x = c.place in let e : j % 312 ≡ i % 312 = omega (arith, x) in
         e ∙ ap (λ (n : ℕ). n % 312) (sym (Ends.length-front l i c.ends));
@@ -224,29 +237,29 @@ sync_full a d l old packet i j answered c s = record {
 }
 
 served_now : (a d : ℕ) (l : List (List ℕ)) (p : List ℕ) (i : ℕ) (answered : Told)
-    → answered ≡ told_at a d i (order_now l i p) → is_sent answered ≡ is_served a d (order_now l i p)
-served_now a d l p i answered h = ap is_sent h ∙ sent_is_served a d i (order_now l i p)
+    → answered ≡ told_at a d i (orders_now l i p) → is_sent answered ≡ is_served a d (orders_now l i p)
+served_now a d l p i answered h = ap is_sent h ∙ sent_is_served a d i (orders_now l i p)
 
 settled_own : (readings : List (Option Ops)) (i : ℕ) (ops : Ops) → counting_order readings i ≡ Some ops → 52 ≤ i
 settled_own readings i ops h = let b : IsBehind i = counted_behind readings i ops h in b.flushed
 
 segments_full : (a d : ℕ) (l : List (List ℕ)) (old : Exciter) (packet : Packet) (i j : ℕ) (answered : Told)
-    → Joining a d l old packet i j → answered ≡ told_at a d i (order_now l i packet.0)
+    → Joining a d l old packet i j → answered ≡ told_at a d i (orders_now l i packet.0)
     → (t : Bool) → is_sent answered ≡ t → cond t (air_segments old.coder (group_of (full old packet) j answered)) []
     ≡ given_under a d (Some (l ++ packet.0 ∷ []))
 segments_full a d l old packet i j answered c h true s =
     group_sent a d (Ends.front l i) (Ends.group l i packet.0) i (counting_order (readings (l ++ packet.0 ∷ [])) i)
-    (last_order l) old.coder (group_of (full old packet) j answered) old.sent
+    (last_orders l) old.coder (group_of (full old packet) j answered) old.sent
     (given_full a d l old packet i j answered c) (λ ops e. settled_own (readings (l ++ packet.0 ∷ [])) i ops e)
-    (λ order e. Ends.last_older l i order c.ends e)
+    (λ order older e. Ends.last_older l i order older c.ends e)
     (sync_full a d l old packet i j answered c s) c.keeps.sent (sym (served_now a d l packet.0 i answered h) ∙ s)
-    ∙ ap (λ x. behind_field_sync i (sent_by a d x (i - 4) (last_order l)) (sent_by a d x i (order_now l i packet.0)))
+    ∙ ap (λ x. behind_field_sync i (sent_by a d x (i - 4) (last_orders l)) (sent_by a d x i (orders_now l i packet.0)))
     (Ends.parts l i packet.0)
     ∙ sym (given_now a d l packet.0 i c.ends)
 segments_full a d l old packet i j answered c h false s =
     sym (given_now a d l packet.0 i c.ends
-    ∙ ap (behind_field_sync i (sent_by a d (l ++ packet.0 ∷ []) (i - 4) (last_order l)))
-    (none_by a d (l ++ packet.0 ∷ []) i (order_now l i packet.0) (sym (served_now a d l packet.0 i answered h) ∙ s)))
+    ∙ ap (behind_field_sync i (sent_by a d (l ++ packet.0 ∷ []) (i - 4) (last_orders l)))
+    (none_by a d (l ++ packet.0 ∷ []) i (orders_now l i packet.0) (sym (served_now a d l packet.0 i answered h) ∙ s)))
 
 -- ---- what is kept
 
@@ -262,16 +275,16 @@ settled_more n place e (inl m) = ap (λ b. b || (place == 51)) (lt-leb 52 n m) �
 
 coder_full : (a d : ℕ) (l : List (List ℕ)) (old : Exciter) (packet : Packet) (i j : ℕ) (answered : Told)
     → Joining a d l old packet i j
-    → RunsUnder (take (whole (l ++ packet.0 ∷ [])) (l ++ packet.0 ∷ [])) (last_order (l ++ packet.0 ∷ []))
+    → RunsUnder (take (whole (l ++ packet.0 ∷ [])) (l ++ packet.0 ∷ [])) (last_orders (l ++ packet.0 ∷ []))
     (after_group old.coder (group_of (full old packet) j answered))
 coder_full a d l old packet i j answered c =
     let all : List (List ℕ) = l ++ packet.0 ∷ [] in
     let coder : Coding = after_group old.coder (group_of (full old packet) j answered) in
-    subst (λ x. RunsUnder x (last_order all) coder) (sym (take_all (whole all) all (let w = c.ends.whole in
+    subst (λ x. RunsUnder x (last_orders all) coder) (sym (take_all (whole all) all (let w = c.ends.whole in
     omega (arith, w, Ends.whole-all l i packet.0 c.ends, Ends.length-all l i packet.0 c.ends))))
     (subst (λ o. RunsUnder all o coder) (sym (Ends.last_all l i packet.0 c.ends ∙ Ends.force_is l i packet.0 c.ends))
-    (subst (λ x. RunsUnder x (order_now l i packet.0) coder) (Ends.parts l i packet.0)
-    (runs_more (Ends.front l i) (Ends.group l i packet.0) i (counting_order (readings all) i) (last_order l) old.coder
+    (subst (λ x. RunsUnder x (orders_now l i packet.0) coder) (Ends.parts l i packet.0)
+    (runs_more (Ends.front l i) (Ends.group l i packet.0) i (counting_order (readings all) i) (last_orders l) old.coder
     (group_of (full old packet) j answered) (given_full a d l old packet i j answered c))))
 
 partial_full : (l : List (List ℕ)) (p : List ℕ) (i : ℕ) (xs : List (List ℕ)) → Ends.Ends l i
@@ -288,14 +301,16 @@ partial_full l p i xs e =
     )))
 
 keeps_full : (a d : ℕ) (l : List (List ℕ)) (old made e : Exciter) (packet : Packet) (i j place : ℕ) (answered : Told)
-    → Joining a d l old packet i j → place ≡ length l % 624 → answered ≡ told_at a d i (order_now l i packet.0)
+    → Joining a d l old packet i j → place ≡ length l % 624 → answered ≡ told_at a d i (orders_now l i packet.0)
     → made ≡ record (full old packet) {
       sent = is_sent answered;
+      pages = made.pages;
       coder = after_group old.coder (group_of (full old packet) j answered);
     }
-    → e.flushed ≡ (made.flushed || (place == 51)) → e.sent ≡ made.sent → e.coder ≡ made.coder
+    → HoldsPages a (orders_now l i packet.0) made.pages
+    → e.flushed ≡ (made.flushed || (place == 51)) → e.sent ≡ made.sent → e.pages ≡ made.pages → e.coder ≡ made.coder
     → KeepsUnder a d e (l ++ packet.0 ∷ [])
-keeps_full a d l old made e packet i j place answered c p h m flushed sent coder = record {
+keeps_full a d l old made e packet i j place answered c p h m holds flushed sent pages coder = record {
   flushed =
       flushed ∙ ap (λ (x : Exciter). x.flushed || (place == 51)) m ∙ ap (λ b. b || (place == 51)) c.keeps.flushed
       ∙ settled_more (length l) place p (cases_lt (length l) 52) ∙ ap (nat_le 52) (sym (length_push l packet.0));
@@ -303,24 +318,31 @@ keeps_full a d l old made e packet i j place answered c p h m flushed sent coder
   sent =
       sent ∙ ap (λ (x : Exciter). x.sent) m ∙ served_now a d l packet.0 i answered h
       ∙ ap (is_served a d) (sym (Ends.last_all l i packet.0 c.ends ∙ Ends.force_is l i packet.0 c.ends));
+  pages =
+      subst (HoldsPages a (last_orders (l ++ packet.0 ∷ []))) (sym pages)
+      (subst (λ r. HoldsPages a r made.pages)
+      (sym (Ends.last_all l i packet.0 c.ends ∙ Ends.force_is l i packet.0 c.ends)) holds);
   coder =
       subst (λ x. RunsUnder (take (whole (l ++ packet.0 ∷ [])) (l ++ packet.0 ∷ []))
-      (last_order (l ++ packet.0 ∷ [])) x)
+      (last_orders (l ++ packet.0 ∷ [])) x)
       (sym (coder ∙ ap (λ (x : Exciter). x.coder) m)) (coder_full a d l old packet i j answered c);
 }
 
 pub joined_full : (a d : ℕ) (l : List (List ℕ)) (old made e : Exciter) (packet : Packet) (i j place : ℕ)
     (answered : Told) (count : ℕ) (symbols : List ℤ) → Joining a d l old packet i j → place ≡ length l % 624
     → old.address ≡ a → old.delay ≡ d → IsSent j (full old packet) made answered count symbols
-    → e.flushed ≡ (made.flushed || (place == 51)) → e.sent ≡ made.sent → e.coder ≡ made.coder
+    → e.flushed ≡ (made.flushed || (place == 51)) → e.sent ≡ made.sent → e.pages ≡ made.pages → e.coder ≡ made.coder
     → IsJoined a d (l ++ packet.0 ∷ []) e answered count symbols
-joined_full a d l old made e packet i j place answered count symbols c p x y s flushed sent coder =
-    let h : answered ≡ told_at a d i (order_now l i packet.0) =
-    s.answer ∙ ap₂ (λ (u v : ℕ). told_group u v j (own_of (full old packet) j) old.sent) x y
-    ∙ told_full a d l old packet i j c in
+joined_full a d l old made e packet i j place answered count symbols c p x y s flushed sent pages coder =
+    let holds : HoldsPages a (orders_now l i packet.0) made.pages =
+    pages_full a d l old packet i j made.pages c
+    (subst (λ (u : ℕ). HoldsMore u (own_of (full old packet) j) old.pages made.pages) x s.pages) in
+    let h : answered ≡ told_at a d i (orders_now l i packet.0) =
+    s.answer ∙ ap (λ (v : ℕ). told_group v j (own_of (full old packet) j) made.pages old.sent) y
+    ∙ told_full a d l old packet i j made.pages c holds in
     record {
       answer = h ∙ told_now a d l packet.0 i c.ends;
       air = subst (λ ss. Holds ss count symbols) (segments_full a d l old packet i j answered c h
           (is_sent answered) refl) s.air;
-      keeps = keeps_full a d l old made e packet i j place answered c p h s.new flushed sent coder;
+      keeps = keeps_full a d l old made e packet i j place answered c p h s.new holds flushed sent pages coder;
     }

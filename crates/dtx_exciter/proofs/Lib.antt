@@ -5,3 +5,6 @@ pub mod Taken
 pub mod Joined
 pub mod Apart
 pub mod HowMany
+pub mod Untold
+pub mod Turned
+pub mod WhichTold

@@ -1,11 +1,12 @@
 -- What an exciter keeps where it begins, and what one packet more makes of it.
 use Rattle.std.proofs.Common.{◌≡◌, ℕ, ℤ, ◌%◌, ◌<◌, false, Option, Some, None, option_map, List, [], ◌∷◌, ◌++◌, length}
-use Rattle.std.proofs.Common.{take, set, refl, sym, ap, subst, ◌∙◌, arith}
+use Rattle.std.proofs.Common.{take, set, replicate, refl, sym, ap, subst, ◌∙◌, arith}
 use Rattle.std.proofs.lemmas.List.{map-set, take_more_set, length-map}
 use Rattle.dtx_packets.specs.declared.packet.Packet.{Packet}
 use Rattle.dtx_packets.specs.Packet.{sync_of}
+use Rattle.dtx_cadence.specs.declared.anchor.Lock.{Lock}
 use Rattle.dtx_cadence.specs.declared.anchor.Seen.{Seen}
-use Rattle.dtx_cadence.specs.declared.anchor.Seen.TheVariants.{Free, Start, Moved, Lost, At}
+use Rattle.dtx_cadence.specs.declared.anchor.Seen.TheVariants.{Free, Start, Lost, At}
 use Rattle.dtx_cadence.specs.Anchor as cadence
 use Rattle.dtx_laws.specs.Branches.{HasWidths, spreading}
 use Rattle.dtx_coder.specs.Groups.{Coding, aligned_coding}
@@ -20,15 +21,18 @@ use Rattle.dtx_exciter.specs.Told.{told_under}
 use Rattle.dtx_exciter.specs.Packets.{syncs, readings, anchor_of, under, last_answer}
 use Rattle.dtx_exciter.specs.Emission.{Holds, last_segments, given_under}
 use Rattle.dtx_exciter.specs.Step.{bytes_of, IsSame}
-use Rattle.dtx_exciter.specs.Kept.{last_order, is_served, RunsUnder, KeepsUnder, Keeps, StandsFor, IsTaken, IsJoined}
+use Rattle.dtx_exciter.specs.Kept.{last_orders, is_served, RunsUnder, KeepsUnder, Keeps, StandsFor, IsTaken, IsJoined}
 use Rattle.dtx_exciter.specs.Kept.{Joins}
+use Rattle.dtx_exciter.specs.declared.pages.Pages.{Pages}
+use Rattle.dtx_exciter.specs.HeldPages.{HoldsPages}
+use Rattle.dtx_exciter.specs.HeldPagesLaws.{nothing_holds}
 use Rattle.dtx_exciter.specs.ForceLaws.{force_first}
 use Rattle.dtx_exciter.specs.UnderLaws.{Goes, goes, syncs_push}
 
 -- ---- nothing given
 
 under_nothing : under [] ≡ None
-unfolding under anchor_of syncs cadence.anchor
+unfolding under anchor_of syncs cadence.anchor cadence.anchor_to
 under_nothing = refl
 
 syncs_nothing : [] ≡ syncs []
@@ -46,21 +50,27 @@ stands_nothing a d e x y h = record {
 
 -- ---- the anchor's packet
 
-last_single : (p : List ℕ) → last_order (p ∷ []) ≡ None
-unfolding last_order
+pub holds_new : (a : ℕ) (p : Pages) → p ≡ record { count = 0; told = replicate 30 false; held = None }
+    → HoldsPages a [] p
+holds_new a p e = subst (HoldsPages a []) (sym e) (nothing_holds a)
+
+last_single : (p : List ℕ) → last_orders (p ∷ []) ≡ []
+unfolding last_orders
 last_single p = force_first (readings (p ∷ []))
 
 pub keeps_single : (a d : ℕ) (e : Exciter) (packets : List Packet) (packet : Packet) (coder : Coding)
-    → e.flushed ≡ false → e.sent ≡ false → e.packets ≡ set packets 0 packet → 0 < length packets
+    → e.flushed ≡ false → e.sent ≡ false → HoldsPages a [] e.pages → e.packets ≡ set packets 0 packet
+    → 0 < length packets
     → e.coder ≡ aligned_coding coder → AreStates coder.states → HasWidths 52 (spreading 4) coder.branches
     → KeepsUnder a d e (packet.0 ∷ [])
-keeps_single a d e packets packet coder flushed sent held some coded states widths = record {
+keeps_single a d e packets packet coder flushed sent pages held some coded states widths = record {
   flushed = flushed;
   partial =
       ap (λ x. take 1 (bytes_of x)) held ∙ ap (take 1) (map-set (λ p. p.0) packets 0 packet)
       ∙ take_more_set (bytes_of packets) 0 packet.0 (let n : length (bytes_of packets)
       ≡ length packets = length-map packets (λ p. p.0) in omega (arith, n, some));
   sent = sent ∙ ap (is_served a d) (sym (last_single packet.0));
+  pages = subst (λ r. HoldsPages a r e.pages) (sym (last_single packet.0)) pages;
   coder =
       subst (λ o. RunsUnder [] o e.coder) (sym (last_single packet.0))
       (coder.states, subst (RunsAlong [] 0 coder.states) (sym coded) (along_begins coder states widths));
@@ -69,18 +79,18 @@ keeps_single a d e packets packet coder flushed sent held some coded states widt
 -- ---- any packet
 
 pub record Sees (a d : ℕ) (old : Exciter) (before : List (List ℕ)) (p : List ℕ) (sync : ℕ) (s : Seen)
-    (anchor : Option ℕ) : Type 0 where
+    (anchor : Option Lock) : Type 0 where
   pub stood : StandsFor a d old before
   pub is_sync : sync ≡ sync_of p
   pub saw : s ≡ cadence.seen (syncs before) sync
   pub stands : cadence.StandsFor anchor (syncs before ++ sync ∷ [])
 
-goes_as : (a d : ℕ) (old : Exciter) (before : List (List ℕ)) (p : List ℕ) (sync : ℕ) (s : Seen) (anchor : Option ℕ)
+goes_as : (a d : ℕ) (old : Exciter) (before : List (List ℕ)) (p : List ℕ) (sync : ℕ) (s : Seen) (anchor : Option Lock)
     → Sees a d old before p sync s anchor → Goes a d before p s
 goes_as a d old before p sync s anchor h =
     subst (Goes a d before p) (sym (h.saw ∙ ap (cadence.seen (syncs before)) h.is_sync)) (goes a d before p)
 
-anchor_as : (a d : ℕ) (old : Exciter) (before : List (List ℕ)) (p : List ℕ) (sync : ℕ) (s : Seen) (anchor : Option ℕ)
+anchor_as : (a d : ℕ) (old : Exciter) (before : List (List ℕ)) (p : List ℕ) (sync : ℕ) (s : Seen) (anchor : Option Lock)
     → Sees a d old before p sync s anchor → cadence.StandsFor anchor (syncs (before ++ p ∷ []))
 anchor_as a d old before p sync s anchor h =
     subst (cadence.StandsFor anchor) (ap (λ x. syncs before ++ x ∷ []) h.is_sync ∙ sym (syncs_push before p)) h.stands
@@ -89,7 +99,7 @@ none_held : (symbols : List ℤ) → Holds [] 0 symbols
 none_held symbols = record { counted = refl; begins = refl }
 
 -- by what stands under the anchor with it
-pub record Makes (a d : ℕ) (now : Option (List (List ℕ))) (e : Exciter) (anchor : Option ℕ) (count : ℕ)
+pub record Makes (a d : ℕ) (now : Option (List (List ℕ))) (e : Exciter) (anchor : Option Lock) (count : ℕ)
     (symbols : List ℤ) : Type 0 where
   pub address : e.address ≡ a
   pub delay : e.delay ≡ d
@@ -97,7 +107,7 @@ pub record Makes (a d : ℕ) (now : Option (List (List ℕ))) (e : Exciter) (anc
   pub air : Holds (given_under a d now) count symbols
   pub kept : Keeps a d e now
 
-taken_as : (a d : ℕ) (old : Exciter) (before : List (List ℕ)) (p : List ℕ) (sync : ℕ) (s : Seen) (anchor : Option ℕ)
+taken_as : (a d : ℕ) (old : Exciter) (before : List (List ℕ)) (p : List ℕ) (sync : ℕ) (s : Seen) (anchor : Option Lock)
     (now : Option (List (List ℕ))) (e : Exciter) (answered : Told) (count : ℕ) (symbols : List ℤ)
     → Sees a d old before p sync s anchor → under (before ++ p ∷ []) ≡ now
     → answered ≡ last_answer a d (before ++ p ∷ [])
@@ -116,7 +126,7 @@ taken_as a d old before p sync s anchor now e answered count symbols h u t m = r
 }
 
 -- where there is no anchor
-pub taken_free : (a d : ℕ) (old : Exciter) (before : List (List ℕ)) (p : List ℕ) (sync : ℕ) (anchor : Option ℕ)
+pub taken_free : (a d : ℕ) (old : Exciter) (before : List (List ℕ)) (p : List ℕ) (sync : ℕ) (anchor : Option Lock)
     (symbols : List ℤ) → Sees a d old before p sync Free anchor
     → IsTaken a d (before ++ p ∷ []) (record old { anchor = anchor }) Quiet 0 symbols
 taken_free a d old before p sync anchor symbols h =
@@ -125,7 +135,7 @@ taken_free a d old before p sync anchor symbols h =
     (sym g.answer)
     (record { address = h.stood.address; delay = h.stood.delay; anchored = refl; air = none_held symbols; kept = tt })
 
-pub taken_lost : (a d : ℕ) (old : Exciter) (before : List (List ℕ)) (p : List ℕ) (sync : ℕ) (anchor : Option ℕ)
+pub taken_lost : (a d : ℕ) (old : Exciter) (before : List (List ℕ)) (p : List ℕ) (sync : ℕ) (anchor : Option Lock)
     (symbols : List ℤ) → Sees a d old before p sync Lost anchor
     → IsTaken a d (before ++ p ∷ []) (record old { anchor = anchor }) (Muted Cadence) 0 symbols
 taken_lost a d old before p sync anchor symbols h =
@@ -135,7 +145,7 @@ taken_lost a d old before p sync anchor symbols h =
     (record { address = h.stood.address; delay = h.stood.delay; anchored = refl; air = none_held symbols; kept = tt })
 
 -- where this packet is the anchor: it is begun with
-begun : (a d : ℕ) (old mid e : Exciter) (before : List (List ℕ)) (p : List ℕ) (anchor : Option ℕ) (symbols : List ℤ)
+begun : (a d : ℕ) (old mid e : Exciter) (before : List (List ℕ)) (p : List ℕ) (anchor : Option Lock) (symbols : List ℤ)
     → StandsFor a d old before → mid ≡ record old { anchor = anchor }
     → KeepsUnder mid.address mid.delay e (p ∷ []) → IsSame mid e → Makes a d (Some (p ∷ [])) e anchor 0 symbols
 begun a d old mid e before p anchor symbols h m k same = record {
@@ -153,21 +163,13 @@ begun a d old mid e before p anchor symbols h m k same = record {
     delay_old : mid.delay ≡ d
     delay_old = ap (λ (x : Exciter). x.delay) m ∙ h.delay
 
-pub taken_start : (a d : ℕ) (old mid e : Exciter) (before : List (List ℕ)) (p : List ℕ) (sync : ℕ) (anchor : Option ℕ)
-    (symbols : List ℤ) → Sees a d old before p sync Start anchor → mid ≡ record old { anchor = anchor }
+pub taken_start : (a d : ℕ) (old mid e : Exciter) (before : List (List ℕ)) (p : List ℕ) (sync : ℕ)
+    (anchor : Option Lock) (symbols : List ℤ) → Sees a d old before p sync Start anchor
+    → mid ≡ record old { anchor = anchor }
     → KeepsUnder mid.address mid.delay e (p ∷ []) → IsSame mid e → IsTaken a d (before ++ p ∷ []) e Quiet 0 symbols
 taken_start a d old mid e before p sync anchor symbols h m k same =
     let g : Goes a d before p Start = goes_as a d old before p sync Start anchor h in
     taken_as a d old before p sync Start anchor (Some (p ∷ [])) e Quiet 0 symbols h g.follows (sym g.answer)
-    (begun a d old mid e before p anchor symbols h.stood m k same)
-
-pub taken_moved : (a d : ℕ) (old mid e : Exciter) (before : List (List ℕ)) (p : List ℕ) (sync : ℕ) (anchor : Option ℕ)
-    (symbols : List ℤ) → Sees a d old before p sync Moved anchor → mid ≡ record old { anchor = anchor }
-    → KeepsUnder mid.address mid.delay e (p ∷ []) → IsSame mid e
-    → IsTaken a d (before ++ p ∷ []) e (Muted Cadence) 0 symbols
-taken_moved a d old mid e before p sync anchor symbols h m k same =
-    let g : Goes a d before p Moved = goes_as a d old before p sync Moved anchor h in
-    taken_as a d old before p sync Moved anchor (Some (p ∷ [])) e (Muted Cadence) 0 symbols h g.follows (sym g.answer)
     (begun a d old mid e before p anchor symbols h.stood m k same)
 
 -- where the anchor holds: it joins those under it
@@ -175,13 +177,14 @@ kept_old : (a d : ℕ) (old : Exciter) (before : List (List ℕ)) (l : List (Lis
     → under before ≡ Some l → KeepsUnder a d old l
 kept_old a d old before l h u = subst (Keeps a d old) u h.kept
 
-with_anchor : (a d : ℕ) (old mid : Exciter) (anchor : Option ℕ) (l : List (List ℕ))
+with_anchor : (a d : ℕ) (old mid : Exciter) (anchor : Option Lock) (l : List (List ℕ))
     → mid ≡ record old { anchor = anchor } → KeepsUnder a d old l → KeepsUnder a d mid l
 with_anchor a d old mid anchor l m k =
     subst (λ (x : Exciter). KeepsUnder a d x l) (sym m) (record {
       flushed = k.flushed;
       partial = k.partial;
       sent = k.sent;
+      pages = k.pages;
       coder = k.coder;
     })
 
@@ -194,7 +197,7 @@ joined_as a d mid e p place answered count symbols l x y j k h =
     (j l (subst (λ (n : ℕ). KeepsUnder n mid.delay mid l) (sym x) (subst (λ (n : ℕ). KeepsUnder a n mid l) (sym y) k))
     h))
 
-pub taken_at : (old mid e : Exciter) (before : List (List ℕ)) (p : List ℕ) (sync place : ℕ) (anchor : Option ℕ)
+pub taken_at : (old mid e : Exciter) (before : List (List ℕ)) (p : List ℕ) (sync place : ℕ) (anchor : Option Lock)
     (answered : Told) (count : ℕ) (symbols : List ℤ) (a d : ℕ) → Sees a d old before p sync (At place) anchor
     → mid ≡ record old { anchor = anchor }
     → Joins place p mid e answered count symbols → IsSame mid e

@@ -7,7 +7,7 @@ use Rattle.dtx_frame.specs.Segments.{field_sync}
 use Rattle.dtx_coder.specs.Stream.{four_segments, last_of, symbols_of}
 use Rattle.dtx_coder.specs.Along.{levels_since}
 use Rattle.dtx_ops.specs.declared.fields.Ops.{Ops}
-use Rattle.dtx_exciter.specs.Order.{Order, in_force}
+use Rattle.dtx_exciter.specs.Order.{Order, orders}
 use Rattle.dtx_exciter.specs.Told.{served, told_at, is_sent}
 use Rattle.dtx_exciter.specs.Packets.{readings, under}
 
@@ -15,17 +15,17 @@ use Rattle.dtx_exciter.specs.Packets.{readings, under}
 unfoldable pub segments_since : ℕ → List ℕ → List (List ℕ) → ℕ → List (List ℤ)
 segments_since g q packets u = four_segments (levels_since g q packets) (4 * (u - g))
 
--- the data segments of the group from i on under an order, where it serves: the coders begin with its states before its
--- group
-abbrev pub sent_by : ℕ → ℕ → List (List ℕ) → ℕ → Option Order → List (List ℤ)
-sent_by address delay packets i None = []
-sent_by address delay packets i (Some order) =
-    if is_ok (served address delay order.ops) then segments_since (order.place / 4) order.ops.states packets
+-- the data segments of the group from i on under these orders, where the transmitter is served: the coders begin with
+-- the states of the order in force, before its group
+abbrev pub sent_by : ℕ → ℕ → List (List ℕ) → ℕ → List Order → List (List ℤ)
+sent_by address delay packets i [] = []
+sent_by address delay packets i (order ∷ older) =
+    if is_ok (served address delay (order ∷ older)) then segments_since (order.place / 4) order.ops.states packets
     (i / 4) else []
 
 -- those that are sent of the group from i on
 unfoldable pub sent_at : ℕ → ℕ → List (List ℕ) → ℕ → List (List ℤ)
-sent_at address delay packets i = sent_by address delay packets i (in_force (readings packets) i)
+sent_at address delay packets i = sent_by address delay packets i (orders (readings packets) i)
 
 -- those of the group before it
 abbrev pub sent_before : ℕ → ℕ → List (List ℕ) → ℕ → List (List ℤ)
@@ -33,7 +33,7 @@ sent_before address delay packets i = if nat_le 4 i then sent_at address delay p
 
 -- whether the group before that from i on was sent, as its answer tells
 abbrev pub was_sent : ℕ → ℕ → List (Option Ops) → ℕ → Bool
-was_sent address delay readings i = nat_le 4 i && is_sent (told_at address delay (i - 4) (in_force readings (i - 4)))
+was_sent address delay readings i = nat_le 4 i && is_sent (told_at address delay (i - 4) (orders readings (i - 4)))
 
 -- a sent group behind a field sync, where it begins a field and the group before it was sent: the field sync ends with
 -- the last twelve symbols that were sent

@@ -1,14 +1,15 @@
 -- A packet that ends a group: the group's packets, its own order, and the order in force.
-use Rattle.std.proofs.Common.{◌≡◌, ℕ, ◌+◌, ◌-◌, ◌%◌, ◌<◌, ◌≤◌, ◌⊎◌, ◌==◌, ◌&&◌, cond, Option, Some, None, List, [], ◌∷◌}
+use Rattle.std.proofs.Common.{◌≡◌, ℕ, ◌+◌, ◌-◌, ◌%◌, ◌<◌, ◌≤◌, ◌⊎◌, ◌==◌, ◌&&◌, cond, None, List, [], ◌∷◌}
 use Rattle.std.proofs.Common.{◌++◌, length, get_or, drop, take, refl, sym, ap, ap₂, ◌∙◌, arith, inl, inr}
 use Rattle.std.specs.Prelude.{nat_le}
+use Rattle.std.specs.List.{cons_option}
 use Rattle.std.proofs.lemmas.Bool.{cases_lt, eq-eqb, le-leb, lt-leb}
 use Rattle.std.proofs.lemmas.List.{length_push, length-drop, length-take-le, append_assoc, take-append-drop}
 use Rattle.std.proofs.lemmas.List.{get_or-append_right, get_or-map}
-use Rattle.dtx_exciter.specs.Order.{Order, either, ordered, order_at, counting_order, placed, in_force}
+use Rattle.dtx_exciter.specs.Order.{Order, either, ordered, order_at, counting_order, placed, orders}
 use Rattle.dtx_exciter.specs.Packets.{reads, readings}
 use Rattle.dtx_exciter.specs.Step.{order_in, own_order}
-use Rattle.dtx_exciter.specs.Kept.{whole, last_order}
+use Rattle.dtx_exciter.specs.Kept.{whole, last_orders}
 use Rattle.dtx_exciter.specs.ForceLaws.{IsBehind, Stands, force_left, force_more, force_first, force_stands}
 use Rattle.dtx_exciter.specs.ForceLaws.{counted_early, counted_behind}
 use Rattle.dtx_exciter.specs.UnderLaws.{said_append, length-said}
@@ -87,43 +88,44 @@ own_is l i j p e h = ap₂ (λ b o. cond b o None) (test (length l) (cases_lt (l
 zero_or : (i : ℕ) → i % 4 ≡ 0 → (i ≡ 0) ⊎ (4 ≤ i)
 zero_or i h = grind arith
 
-last_is : (l : List (List ℕ)) (i k : ℕ) → Ends l i → i - 4 ≡ k → last_order l ≡ in_force (readings l) k
-unfolding last_order
-last_is l i k e h = ap (in_force (readings l)) (ap (λ (n : ℕ). n - 4) (whole-front l i e) ∙ h)
+last_is : (l : List (List ℕ)) (i k : ℕ) → Ends l i → i - 4 ≡ k → last_orders l ≡ orders (readings l) k
+unfolding last_orders
+last_is l i k e h = ap (orders (readings l)) (ap (λ (n : ℕ). n - 4) (whole-front l i e) ∙ h)
 
-pub last_none : (l : List (List ℕ)) (i : ℕ) → Ends l i → i ≡ 0 → last_order l ≡ None
+pub last_none : (l : List (List ℕ)) (i : ℕ) → Ends l i → i ≡ 0 → last_orders l ≡ []
 last_none l i e z = last_is l i 0 e (omega (arith, z)) ∙ force_first (readings l)
 
 pub force_is : (l : List (List ℕ)) (i : ℕ) (p : List ℕ) → Ends l i
-    → in_force (readings (l ++ p ∷ [])) i ≡ either (placed i (counting_order (readings (l ++ p ∷ [])) i)) (last_order l)
+    → orders (readings (l ++ p ∷ [])) i
+    ≡ cons_option (placed i (counting_order (readings (l ++ p ∷ [])) i)) (last_orders l)
 force_is l i p e = by_place (zero_or i e.whole)
   where
     by_place : (i ≡ 0) ⊎ (4 ≤ i)
-        → in_force (readings (l ++ p ∷ [])) i ≡ either (placed i (counting_order (readings (l
-        ++ p ∷ [])) i)) (last_order l)
+        → orders (readings (l ++ p ∷ [])) i
+        ≡ cons_option (placed i (counting_order (readings (l ++ p ∷ [])) i)) (last_orders l)
     by_place (inl z) =
-        ap (in_force (readings (l ++ p ∷ []))) z ∙ force_first (readings (l ++ p ∷ []))
-        ∙ sym (ap₂ (λ o r. either (placed i o) r) (counted_early (readings (l ++ p ∷ [])) i (omega (arith, z)))
+        ap (orders (readings (l ++ p ∷ []))) z ∙ force_first (readings (l ++ p ∷ []))
+        ∙ sym (ap₂ (λ o r. cons_option (placed i o) r) (counted_early (readings (l ++ p ∷ [])) i (omega (arith, z)))
         (last_none l i e z))
     by_place (inr m) =
         force_more (readings (l ++ p ∷ [])) i e.whole m
-        ∙ ap (either (placed i (counting_order (readings (l ++ p ∷ [])) i)))
-        (ap (λ s. in_force s (i - 4)) (said_append l (p ∷ []))
+        ∙ ap (cons_option (placed i (counting_order (readings (l ++ p ∷ [])) i)))
+        (ap (λ s. orders s (i - 4)) (said_append l (p ∷ []))
         ∙ force_left (readings l) (readings (p ∷ [])) (i - 4) (let a = e.long in omega (arith, m, a, length-said l))
         ∙ sym (last_is l i (i - 4) e refl))
 
 -- the order in force before the group
 pub before_is : (l : List (List ℕ)) (i : ℕ) (p : List ℕ) → Ends l i → 4 ≤ i
-    → in_force (readings (l ++ p ∷ [])) (i - 4) ≡ last_order l
+    → orders (readings (l ++ p ∷ [])) (i - 4) ≡ last_orders l
 before_is l i p e m =
-    ap (λ s. in_force s (i - 4)) (said_append l (p ∷ []))
+    ap (λ s. orders s (i - 4)) (said_append l (p ∷ []))
     ∙ force_left (readings l) (readings (p ∷ [])) (i - 4) (let a = e.long in omega (arith, m, a, length-said l))
     ∙ sym (last_is l i (i - 4) e refl)
 
 pub last_all : (l : List (List ℕ)) (i : ℕ) (p : List ℕ) → Ends l i
-    → last_order (l ++ p ∷ []) ≡ in_force (readings (l ++ p ∷ [])) i
-unfolding last_order
-last_all l i p e = ap (in_force (readings (l ++ p ∷ []))) (ap (λ (n : ℕ). n - 4) (whole-all l i p e) ∙ less i)
+    → last_orders (l ++ p ∷ []) ≡ orders (readings (l ++ p ∷ [])) i
+unfolding last_orders
+last_all l i p e = ap (orders (readings (l ++ p ∷ []))) (ap (λ (n : ℕ). n - 4) (whole-all l i p e) ∙ less i)
   where
     less : (i : ℕ) → i + 4 - 4 ≡ i
     less i = omega arith
@@ -134,17 +136,15 @@ pub record IsOlder (i : ℕ) (order : Order) : Type 0 where
   pub whole : order.place % 4 ≡ 0
   pub before : order.place + 4 ≤ i
 
-pub last_older : (l : List (List ℕ)) (i : ℕ) (order : Order) → Ends l i → last_order l ≡ Some order → IsOlder i order
-last_older l i order e h = by_place (zero_or i e.whole)
+pub last_older : (l : List (List ℕ)) (i : ℕ) (order : Order) (older : List Order) → Ends l i
+    → last_orders l ≡ order ∷ older → IsOlder i order
+last_older l i order older e h = by_place (zero_or i e.whole)
   where
-    none_some : (order : Order) → ◌≡◌ {A = Option Order} None (Some order) → ⊥
-    none_some order e = cc
-
     by_place : (i ≡ 0) ⊎ (4 ≤ i) → IsOlder i order
-    by_place (inl z) = absurd (none_some order (sym (last_none l i e z) ∙ h))
+    by_place (inl z) = absurd (omega (arith, ap (λ (x : List Order). length x) (sym (last_none l i e z) ∙ h)))
     by_place (inr m) =
         let s : Stands (readings l) (i - 4 + 1) order =
-        force_stands (readings l) (i - 4) order (sym (last_is l i (i - 4) e refl) ∙ h) in
+        force_stands (readings l) (i - 4) order older (sym (last_is l i (i - 4) e refl) ∙ h) in
         let b : IsBehind order.place = counted_behind (readings l) order.place order.ops s.counts in
         record {
           flushed = b.flushed;

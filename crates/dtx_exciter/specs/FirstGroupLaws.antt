@@ -1,6 +1,6 @@
 -- What the first group of a stretch gives: its data segments, behind a field sync where the group before it was sent.
-use Rattle.std.proofs.Common.{◌≡◌, ℕ, ℤ, ◌+◌, ◌-◌, ◌*◌, ◌/◌, ◌%◌, ◌<◌, ◌≤◌, ◌==◌, Bool, true, false, cond, Option, Some}
-use Rattle.std.proofs.Common.{None, List, [], ◌∷◌, ◌++◌, length, take, drop, get_or, refl, sym, ap, ap₂, ◌∙◌, arith}
+use Rattle.std.proofs.Common.{◌≡◌, ℕ, ℤ, ◌+◌, ◌-◌, ◌*◌, ◌/◌, ◌%◌, ◌<◌, ◌≤◌, ◌==◌, Bool, true, false, cond, Some}
+use Rattle.std.proofs.Common.{List, [], ◌∷◌, ◌++◌, length, take, drop, get_or, refl, sym, ap, ap₂, ◌∙◌, arith}
 use Rattle.std.specs.Prelude.{nat_le, is_ok}
 use Rattle.std.proofs.lemmas.Bool.{cond-true, le-leb}
 use Rattle.std.proofs.lemmas.List.{append_assoc}
@@ -8,7 +8,7 @@ use Rattle.dtx_lists.proofs.Range.{map-range_same}
 use Rattle.dtx_frame.specs.Segments.{field_sync}
 use Rattle.dtx_coder.specs.Along.{levels_since}
 use Rattle.dtx_coder.specs.Stream.{levels, segment, four_segments, last_of}
-use Rattle.dtx_exciter.specs.Order.{Order, in_force}
+use Rattle.dtx_exciter.specs.Order.{Order, orders}
 use Rattle.dtx_exciter.specs.Told.{served}
 use Rattle.dtx_exciter.specs.Packets.{readings}
 use Rattle.dtx_exciter.specs.Emission.{segments_since, sent_by, sent_at, sent_before, behind_field_sync, given_under}
@@ -61,30 +61,30 @@ sent_front : (a d : ℕ) (l r : List (List ℕ)) (i : ℕ) → length l ≡ i + 
     → sent_at a d (l ++ r) i ≡ sent_at a d l i
 unfolding sent_at
 sent_front a d l r i e w =
-    ap (sent_by a d (l ++ r) i) (ap (λ s. in_force s i) (said_append l r)
+    ap (sent_by a d (l ++ r) i) (ap (λ s. orders s i) (said_append l r)
     ∙ force_left (readings l) (readings r) i (omega (arith, e, length-said l)))
-    ∙ by_order (in_force (readings l) i) refl
+    ∙ by_order (orders (readings l) i) refl
   where
-    by_order : (o : Option Order) → in_force (readings l) i ≡ o → sent_by a d (l ++ r) i o ≡ sent_by a d l i o
-    by_order None h = refl
-    by_order (Some order) h =
-        let s : Stands (readings l) (i + 1) order = force_stands (readings l) i order h in
+    by_order : (o : List Order) → orders (readings l) i ≡ o → sent_by a d (l ++ r) i o ≡ sent_by a d l i o
+    by_order [] h = refl
+    by_order (order ∷ older) h =
+        let s : Stands (readings l) (i + 1) order = force_stands (readings l) i order older h in
         let p : order.place < i + 1 = s.below in
-        ap (λ x. cond (is_ok (served a d order.ops)) x [])
+        ap (λ x. cond (is_ok (served a d (order ∷ older))) x [])
         (segments_front l r (i / 4) (order.place / 4) order.ops.states (omega (arith, e, w)) (omega (arith, p)))
 
 -- ---- the first group
 
-pub given_first : (a d : ℕ) (base feed : List (List ℕ)) (mark n first : ℕ) → Marks a d base feed mark n
-    → IsGroup feed mark n first first
+pub given_first : (a d : ℕ) (z : ℤ) (base feed : List (List ℕ)) (mark n first : ℕ) → Marks a d z base feed mark n
+    → IsGroup a feed mark n first first
     → given_under a d (Some (life base feed mark (first + 4)))
     ≡ sync_behind (given_under a d (Some (life base feed mark first))) (mark + first)
     ++ four_segments (levels (upto feed mark (first + 4))) (mark + first)
-given_first a d base feed mark n first m g =
+given_first a d z base feed mark n first m g =
     given_last a d base feed mark first inside g.group m.at_other
     ∙ ap₂ (behind_field_sync (length base + first)) before
-    (sent_same a d base feed mark n (first + 4) first first m
-    (place_of feed mark n first first first g (omega arith) g.group (omega arith)))
+    (sent_same a d z base feed mark n (first + 4) first first m
+    (place_of a feed mark n first first first g (omega arith) g.group (omega arith)))
     ∙ sync_first (length base + first) (sent_at a d (life base feed mark first) (length base + (first - 4)))
     (levels (upto feed mark (first + 4))) (mark + first)
     ∙ ap (λ x. x ++ four_segments (levels (upto feed mark (first + 4))) (mark + first))

@@ -1,5 +1,6 @@
 -- An exciter behind a feed's mark: the packets under its anchor, what it gives, and what it answers.
-use Rattle.std.proofs.Common.{◌≡◌, ◌≢◌, ℕ, ◌+◌, ◌-◌, ◌%◌, ◌<◌, ◌≤◌, ◌==◌, Some, option_map, List, [], ◌∷◌, ◌++◌, length}
+use Rattle.std.proofs.Common.{◌≡◌, ◌≢◌, ℕ, ℤ, ◌+◌, ◌-◌, ◌%◌, ◌<◌, ◌≤◌, ◌==◌, Some, option_map, List, [], ◌∷◌, ◌++◌}
+use Rattle.std.proofs.Common.{length}
 use Rattle.std.proofs.Common.{take, drop, map, get_or, sym, ap, ◌∙◌, arith}
 use Rattle.std.proofs.lemmas.Bool.{cond-false, ne_eqb}
 use Rattle.std.proofs.lemmas.List.{append_assoc, get_or-drop, get_or-map, get_or-take, length-append, length-drop}
@@ -12,16 +13,18 @@ use Rattle.dtx_exciter.specs.Told.{told_under}
 use Rattle.dtx_exciter.specs.Packets.{syncs, readings, anchor_of, under, last_answer}
 use Rattle.dtx_exciter.specs.Emission.{last_segments, given_under}
 use Rattle.dtx_exciter.specs.Lockstep.{IsFeed}
-use Rattle.dtx_exciter.specs.AnchoredLaws.{Marked, IsAnchored, anchored}
+use Rattle.dtx_cadence.specs.AnchoredLaws.{anchored}
+use Rattle.dtx_cadence.specs.Cadence.{IsMarked, IsInStep, IsAnchored}
 use Rattle.dtx_exciter.specs.UnderLaws.{length-syncs, length-said, goes_on}
 use Rattle.dtx_exciter.specs.InLifeLaws.{life, length-life}
 
 -- ---- the anchor
 
-marked_part : (a d : ℕ) (feed : List (List ℕ)) (mark n : ℕ) → IsFeed a d feed → mark % 624 ≡ 0 → mark + n ≤ length feed
-    → Marked (syncs (take n (drop mark feed)))
+pub marked_part : (a d : ℕ) (z : ℤ) (feed : List (List ℕ)) (mark n : ℕ) → IsFeed a d z feed → mark % 624 ≡ 0
+    → mark + n ≤ length feed
+    → IsMarked (syncs (take n (drop mark feed)))
 unfolding syncs
-marked_part a d feed mark n f m l = λ i h.
+marked_part a d z feed mark n f m l = λ i h.
     let small : i < n = omega (
       arith,
       h,
@@ -35,7 +38,7 @@ marked_part a d feed mark n f m l = λ i h.
     ∙ ap sync_of (get_or-take n (drop mark feed) i [] small ∙ get_or-drop mark feed i []))
     ∙ f.marks (mark + i) (omega (arith, l, small)) ∙ ap (λ (k : ℕ). k == 0) e
 
-syncs_append : (xs ys : List (List ℕ)) → syncs (xs ++ ys) ≡ syncs xs ++ syncs ys
+pub syncs_append : (xs ys : List (List ℕ)) → syncs (xs ++ ys) ≡ syncs xs ++ syncs ys
 unfolding syncs
 syncs_append xs ys = map-append sync_of xs ys
 
@@ -53,27 +56,28 @@ after_more earlier feed mark j l =
     ap (λ x. earlier ++ x) (take_more (drop mark feed) j [] (omega (arith, l, length-drop mark feed)))
     ∙ sym (append_assoc earlier (take j (drop mark feed)) (get_or (drop mark feed) j [] ∷ []))
 
--- the packets under the anchor from the feed's mark on
+-- the packets under the anchor from the feed's mark on, where nothing was locked before it or a lock in step
 pub record Follows (earlier feed : List (List ℕ)) (mark n : ℕ) : Type 0 where
   pub base : List (List ℕ)
   pub in_step : length base % 624 ≡ 0
   pub place : ℕ
   pub before : place ≤ length earlier
+  pub steps : (length earlier - place) % 624 ≡ 0
   pub anchors : (j : ℕ) → j < n → anchor_of (after earlier feed mark (j + 1)) ≡ Some place
   pub holds : (j : ℕ) → j < n → under (after earlier feed mark (j + 1)) ≡ Some (life base feed mark (j + 1))
 
-pub follows : (a d : ℕ) (earlier feed : List (List ℕ)) (mark n : ℕ) → IsFeed a d feed → mark % 624 ≡ 0
-    → mark + n ≤ length feed → 0 < n → Follows earlier feed mark n
+pub follows : (a d : ℕ) (z : ℤ) (earlier feed : List (List ℕ)) (mark n : ℕ) → IsFeed a d z feed → mark % 624 ≡ 0
+    → mark + n ≤ length feed → 0 < n → IsInStep (syncs earlier) → Follows earlier feed mark n
 unfolding under anchor_of
-follows a d earlier feed mark n f m l s =
-    by_anchor (anchored (syncs earlier) (syncs (take n (drop mark feed))) (marked_part a d feed mark n f m l)
-    (omega (arith, s, long)))
+follows a d z earlier feed mark n f m l s t =
+    by_anchor (anchored (syncs earlier) (syncs (take n (drop mark feed))) (marked_part a d z feed mark n f m l)
+    (omega (arith, s, long)) t)
   where
     long : length (syncs (take n (drop mark feed))) ≡ n
     long = length-syncs (take n (drop mark feed))
         ∙ length-take-le n (drop mark feed) (omega (arith, l, length-drop mark feed))
 
-    by_anchor : IsAnchored (syncs earlier) (syncs (take n (drop mark feed))) → Follows earlier feed mark n
+    by_anchor : IsAnchored (syncs earlier) (syncs (take n (drop mark feed))) 0 → Follows earlier feed mark n
     by_anchor w =
         let within : w.place ≤ length earlier = let x = w.within in omega (arith, x, length-syncs earlier) in
         let steps = w.steps in
@@ -81,12 +85,13 @@ follows a d earlier feed mark n f m l s =
         λ j h.
         ap anchor (syncs_append earlier (take (j + 1) (drop mark feed))
         ∙ ap (λ x. syncs earlier ++ x) (sym (syncs_take (j + 1) n (drop mark feed) (omega (arith, h)))))
-        ∙ w.holds j (omega (arith, h, long)) in
+        ∙ w.holds j (omega arith) (omega (arith, h, long)) in
         record {
           base = drop w.place earlier;
           in_step = omega (arith, steps, length-drop w.place earlier, length-syncs earlier);
           place = w.place;
           before = within;
+          steps = omega (arith, steps, length-syncs earlier);
           anchors = anchors;
           holds = λ j h.
               ap (option_map (λ k. drop k (after earlier feed mark (j + 1)))) (anchors j h)

@@ -1,24 +1,29 @@
--- The order in force, over one packet more.
+-- The orders so far, over one packet more.
 use Rattle.std.proofs.Common.{◌≡◌, ◌≢◌, ℕ, zero, suc, ◌+◌, ◌-◌, ◌%◌, ◌<◌, ◌≤◌, ◌==◌, ◌&&◌, Bool, true, false, cond}
-use Rattle.std.proofs.Common.{Option, Some, None, List, ◌++◌, length, refl, sym, ap, ap₂, subst, ◌∙◌, arith}
+use Rattle.std.proofs.Common.{Option, Some, None, List, [], ◌∷◌, ◌++◌, length, get_or, refl, sym, ap, ap₂, subst, ◌∙◌}
+use Rattle.std.proofs.Common.{arith}
 use Rattle.std.specs.Prelude.{nat_le}
+use Rattle.std.specs.List.{cons_option}
 use Rattle.std.proofs.lemmas.Bool.{cond-false, eqb-true, ne_eqb, and_left, and_right, and_parts, lt-leb, leb-true}
 use Rattle.std.proofs.lemmas.List.{get_or_append_left}
 use Rattle.dtx_ops.specs.declared.fields.Ops.{Ops}
-use Rattle.dtx_exciter.specs.Order.{Order, either, latest, ordered, ordered_at, order_at, counting_order, placed}
-use Rattle.dtx_exciter.specs.Order.{in_force}
+use Rattle.dtx_exciter.specs.Order.{Order, either, latest_first, ordered, ordered_at, order_at, counting_order, placed}
+use Rattle.dtx_exciter.specs.Order.{orders}
 
--- ---- the latest value
+-- ---- the values, the latest first
 
-latest_same : {A : Type 0} (f g : ℕ → Option A) (n : ℕ) → ((k : ℕ) → k < n → f k ≡ g k) → latest f n ≡ latest g n
+latest_same : {A : Type 0} (f g : ℕ → Option A) (n : ℕ) → ((k : ℕ) → k < n → f k ≡ g k)
+    → latest_first f n ≡ latest_first g n
 latest_same f g zero h = refl
-latest_same f g (suc n) h = ap₂ either (h n (omega arith)) (latest_same f g n (λ k l. h k (omega arith)))
+latest_same f g (suc n) h = ap₂ cons_option (h n (omega arith)) (latest_same f g n (λ k l. h k (omega arith)))
 
-pub latest_more : {A : Type 0} (f : ℕ → Option A) (n : ℕ) → latest f (n + 1) ≡ either (f n) (latest f n)
-latest_more f n = let e : n + 1 ≡ suc n = omega arith in ap (latest f) e
+pub latest_more : {A : Type 0} (f : ℕ → Option A) (n : ℕ)
+    → latest_first f (n + 1) ≡ cons_option (f n) (latest_first f n)
+latest_more f n = let e : n + 1 ≡ suc n = omega arith in ap (latest_first f) e
 
-latest_skip : {A : Type 0} (f : ℕ → Option A) (n m : ℕ) → m ≡ n + 1 → f n ≡ None → latest f m ≡ latest f n
-latest_skip f n m e h = ap (latest f) e ∙ latest_more f n ∙ ap (λ o. either o (latest f n)) h
+latest_skip : {A : Type 0} (f : ℕ → Option A) (n m : ℕ) → m ≡ n + 1 → f n ≡ None
+    → latest_first f m ≡ latest_first f n
+latest_skip f n m e h = ap (latest_first f) e ∙ latest_more f n ∙ ap (λ o. cons_option o (latest_first f n)) h
 
 -- ---- what is ordered stays where a packet is added
 
@@ -36,8 +41,8 @@ pub counted_left : (l rest : List (Option Ops)) (g : ℕ) → g + 4 ≤ length l
 unfolding counting_order
 counted_left l rest g h = ap (λ o. cond (nat_le 52 g && (g % 4 == 0)) o None) (order_left l rest g h)
 
-pub force_left : (l rest : List (Option Ops)) (i : ℕ) → i + 4 ≤ length l → in_force (l ++ rest) i ≡ in_force l i
-unfolding in_force
+pub force_left : (l rest : List (Option Ops)) (i : ℕ) → i + 4 ≤ length l → orders (l ++ rest) i ≡ orders l i
+unfolding orders
 force_left l rest i h =
     latest_same (λ g. placed g (counting_order (l ++ rest) g)) (λ g. placed g (counting_order l g)) (i + 1)
     (λ k m. ap (placed k) (counted_left l rest k (omega arith)))
@@ -56,14 +61,14 @@ counted_early l g h =
     cond-false (nat_le 52 g && (g % 4 == 0)) (order_at l g) None (and_left (nat_le 52 g) (g % 4 == 0) (lt-leb 52 g h))
 
 pub force_more : (l : List (Option Ops)) (i : ℕ) → i % 4 ≡ 0 → 4 ≤ i
-    → in_force l i ≡ either (placed i (counting_order l i)) (in_force l (i - 4))
-unfolding in_force
+    → orders l i ≡ cons_option (placed i (counting_order l i)) (orders l (i - 4))
+unfolding orders
 force_more l i h m =
     latest_more f i
-    ∙ ap (either (f i))
+    ∙ ap (cons_option (f i))
     (latest_skip f (i - 1) i (omega arith) (off (i - 1) (omega arith))
     ∙ latest_skip f (i - 2) (i - 1) (omega arith) (off (i - 2) (omega arith))
-    ∙ latest_skip f (i - 3) (i - 2) (omega arith) (off (i - 3) (omega arith)) ∙ ap (latest f) end)
+    ∙ latest_skip f (i - 3) (i - 2) (omega arith) (off (i - 3) (omega arith)) ∙ ap (latest_first f) end)
   where
     f : ℕ → Option Order
     f g = placed g (counting_order l g)
@@ -74,9 +79,20 @@ force_more l i h m =
     end : i - 3 ≡ i - 4 + 1
     end = omega arith
 
-pub force_first : (l : List (Option Ops)) → in_force l 0 ≡ None
-unfolding in_force
-force_first l = ap (λ o. either (placed 0 o) None) (counted_early l 0 (omega arith))
+-- one number further
+pub force_next : (l : List (Option Ops)) (i k : ℕ) → k ≡ i + 1
+    → orders l k ≡ cons_option (placed k (counting_order l k)) (orders l i)
+unfolding orders
+force_next l i k e =
+    ap (λ n. latest_first f (n + 1)) e ∙ latest_more f (i + 1)
+    ∙ ap (λ n. cons_option (f n) (latest_first f (i + 1))) (sym e)
+  where
+    f : ℕ → Option Order
+    f g = placed g (counting_order l g)
+
+pub force_first : (l : List (Option Ops)) → orders l 0 ≡ []
+unfolding orders
+force_first l = ap (λ o. cons_option (placed 0 o) []) (counted_early l 0 (omega arith))
 
 -- ---- where the order in force stands
 
@@ -88,36 +104,30 @@ pub record Stands (l : List (Option Ops)) (n : ℕ) (order : Order) : Type 0 whe
 stands_further : (l : List (Option Ops)) (n : ℕ) (order : Order) → Stands l n order → Stands l (n + 1) order
 stands_further l n order s = record { below = let a = s.below in omega (arith, a); counts = s.counts }
 
-stands_here : (l : List (Option Ops)) (g : ℕ) (o : Option Ops) (r : Option Order) (order : Order)
+stands_here : (l : List (Option Ops)) (g : ℕ) (o : Option Ops) (r : List Order) (order : Order) (older : List Order)
     → counting_order l g ≡ o
-    → either (placed g o) r ≡ Some order → (r ≡ Some order → Stands l g order) → Stands l (g + 1) order
-stands_here l g None r order e h f = stands_further l g order (f h)
-stands_here l g (Some ops) r order e h f =
-    let here : record { place = g; ops = ops } ≡ order = ap (unwrapped order) h in
+    → cons_option (placed g o) r ≡ order ∷ older → (r ≡ order ∷ older → Stands l g order) → Stands l (g + 1) order
+stands_here l g None r order older e h f = stands_further l g order (f h)
+stands_here l g (Some ops) r order older e h f =
+    let here : record { place = g; ops = ops } ≡ order = ap (λ x. get_or x 0 order) h in
     record {
       below = let p : g ≡ order.place = ap (λ (o : Order). o.place) here in omega (arith, p);
       counts = ap (counting_order l) (sym (ap (λ (o : Order). o.place) here)) ∙ e ∙ ap (λ (o : Order). Some o.ops) here;
     }
-  where
-    unwrapped : Order → Option Order → Order
-    unwrapped d None = d
-    unwrapped d (Some o) = o
 
-latest_stands : (l : List (Option Ops)) (n : ℕ) (order : Order)
-    → latest (λ g. placed g (counting_order l g)) n ≡ Some order
+latest_stands : (l : List (Option Ops)) (n : ℕ) (order : Order) (older : List Order)
+    → latest_first (λ g. placed g (counting_order l g)) n ≡ order ∷ older
     → Stands l n order
-latest_stands l zero order e = absurd (none_some order e)
-  where
-    none_some : (order : Order) → ◌≡◌ {A = Option Order} None (Some order) → ⊥
-    none_some order e = cc
-latest_stands l (suc n) order e =
+latest_stands l zero order older e = absurd (omega (arith, ap (λ (x : List Order). length x) e))
+latest_stands l (suc n) order older e =
     let next : n + 1 ≡ suc n = omega arith in
     subst (λ (k : ℕ). Stands l k order) next (stands_here l n (counting_order l n)
-    (latest (λ g. placed g (counting_order l g)) n) order refl e (latest_stands l n order))
+    (latest_first (λ g. placed g (counting_order l g)) n) order older refl e (latest_stands l n order older))
 
-pub force_stands : (l : List (Option Ops)) (i : ℕ) (order : Order) → in_force l i ≡ Some order → Stands l (i + 1) order
-unfolding in_force
-force_stands l i order e = latest_stands l (i + 1) order e
+pub force_stands : (l : List (Option Ops)) (i : ℕ) (order : Order) (older : List Order) → orders l i ≡ order ∷ older
+    → Stands l (i + 1) order
+unfolding orders
+force_stands l i order older e = latest_stands l (i + 1) order older e
 
 -- a group that counts begins 52 or more packets behind the anchor
 counted_test : (l : List (Option Ops)) (g : ℕ) (ops : Ops) (t : Bool) → (nat_le 52 g && (g % 4 == 0)) ≡ t

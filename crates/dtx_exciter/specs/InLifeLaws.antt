@@ -1,7 +1,9 @@
 -- An exciter's packets behind a mark of a feed: the same packets, the same orders, and the feed's own segments.
-use Rattle.std.proofs.Common.{◌≡◌, ℕ, zero, suc, ◌+◌, ◌-◌, ◌*◌, ◌/◌, ◌%◌, ◌<◌, ◌≤◌, ◌==◌, ◌&&◌, cond, Option, Some}
-use Rattle.std.proofs.Common.{None, List, [], ◌∷◌, ◌++◌, length, take, drop, get_or, refl, sym, ap, ap₂, ◌∙◌, arith}
+use Rattle.std.proofs.Common.{◌≡◌, ℕ, ℤ, zero, suc, ◌+◌, ◌-◌, ◌*◌, ◌/◌, ◌%◌, ◌<◌, ◌≤◌, ◌==◌, ◌&&◌, cond, Option, Some}
+use Rattle.std.proofs.Common.{None, true, List, [], ◌∷◌, ◌++◌, length, take, drop, get_or, refl, sym, ap, ap₂, ◌∙◌}
+use Rattle.std.proofs.Common.{arith}
 use Rattle.std.specs.Prelude.{nat_le, is_ok}
+use Rattle.std.specs.List.{cons_option}
 use Rattle.std.proofs.lemmas.Bool.{cond-true, cond-false, eq-eqb, ne_eqb, le-leb}
 use Rattle.std.proofs.lemmas.List.{get_or-append_right, get_or-drop, get_or-take, get_or-map, length-append}
 use Rattle.std.proofs.lemmas.List.{length-drop, length-take-le, take-take}
@@ -9,14 +11,16 @@ use Rattle.dtx_frame.specs.Segments.{field_sync}
 use Rattle.dtx_coder.specs.Stream.{levels, states, segment, four_segments, last_of, no_last, last_before, sync_before}
 use Rattle.dtx_coder.specs.Stream.{group_segments}
 use Rattle.dtx_ops.specs.declared.fields.Ops.{Ops}
-use Rattle.dtx_exciter.specs.Order.{Order, either, latest, ordered, ordered_at, order_at, counting_order, placed}
-use Rattle.dtx_exciter.specs.Order.{in_force}
+use Rattle.dtx_exciter.specs.Order.{Order, either, latest_first, ordered, ordered_at, order_at, counting_order, placed}
+use Rattle.dtx_exciter.specs.Order.{orders}
+use Rattle.dtx_exciter.specs.Pages.{lists}
 use Rattle.dtx_exciter.specs.Told.{served}
 use Rattle.dtx_exciter.specs.Packets.{reads, readings}
 use Rattle.dtx_exciter.specs.Emission.{segments_since, sent_by, sent_at, sent_before, behind_field_sync, given_under}
 use Rattle.dtx_exciter.specs.Lockstep.{IsFeed}
-use Rattle.dtx_exciter.specs.ForceLaws.{latest_more, counted_behind, IsBehind}
+use Rattle.dtx_exciter.specs.ForceLaws.{latest_more, force_next, counted_behind, IsBehind}
 use Rattle.dtx_exciter.specs.GroupSentLaws.{some_before}
+use Rattle.dtx_exciter.specs.ListedLaws.{IsListed, listed_here, listed_next, served_by_feed}
 use Rattle.dtx_exciter.specs.SinceMarkLaws.{AreSame, data_same, take_parts}
 
 -- ---- the packets
@@ -26,8 +30,8 @@ abbrev pub life : List (List ℕ) → List (List ℕ) → ℕ → ℕ → List (
 life base feed mark j = base ++ take j (drop mark feed)
 
 -- both begin at marks
-pub record Marks (address delay : ℕ) (base feed : List (List ℕ)) (mark n : ℕ) : Type 0 where
-  pub feed_is : IsFeed address delay feed
+pub record Marks (address delay : ℕ) (offset : ℤ) (base feed : List (List ℕ)) (mark n : ℕ) : Type 0 where
+  pub feed_is : IsFeed address delay offset feed
   pub at_mark : mark % 624 ≡ 0
   pub at_other : length base % 624 ≡ 0
   pub inside : mark + n ≤ length feed
@@ -86,54 +90,51 @@ counted_same base feed mark j x m b h l s =
     ∙ sym (le-leb 52 (mark + x) (omega (arith, s)))) (ap (λ k. k == 0) r))
     (order_same base feed mark j x m b h l)
 
--- the order in force, and the group of the feed that it is of
-pub record InStep (base feed : List (List ℕ)) (mark j first x : ℕ) : Type 0 where
+-- the orders so far: the latest is that of a group of the feed, and lists the transmitter or leaves it listed
+pub record InStep (a : ℕ) (base feed : List (List ℕ)) (mark j first x : ℕ) : Type 0 where
   pub group : ℕ
   pub ops : Ops
+  pub older : List Order
   pub behind : first ≤ group
   pub until : group ≤ x
-  pub in_life : in_force (readings (life base feed mark j)) (length base + x)
-      ≡ Some (record { place = length base + group; ops = ops })
+  pub in_life : orders (readings (life base feed mark j)) (length base + x)
+      ≡ record { place = length base + group; ops = ops } ∷ older
   pub its_own : counting_order (readings feed) (mark + group) ≡ Some ops
+  pub listed : IsListed a feed (record { place = length base + group; ops = ops } ∷ older)
+  -- the group at x has an order where it is that one
+  pub own : (other : Ops) → counting_order (readings feed) (mark + x) ≡ Some other → group ≡ x
 
-pub force_here : (readings : List (Option Ops)) (i : ℕ) (ops : Ops) → counting_order readings i ≡ Some ops
-    → in_force readings i ≡ Some (record { place = i; ops = ops })
-unfolding in_force
+-- the orders so far, with an order at i
+force_here : (readings : List (Option Ops)) (i : ℕ) (ops : Ops) → counting_order readings i ≡ Some ops
+    → orders readings i ≡ record { place = i; ops = ops } ∷ latest_first (λ g. placed g (counting_order readings g)) i
+unfolding orders
 force_here readings i ops h = latest_more (λ g. placed g (counting_order readings g)) i
-    ∙ ap (λ y. either (placed i y) (in_force_below readings i)) h
-  where
-    in_force_below : List (Option Ops) → ℕ → Option Order
-    in_force_below readings i = latest (λ g. placed g (counting_order readings g)) i
+    ∙ ap (λ y. cons_option (placed i y) (latest_first (λ g. placed g (counting_order readings g)) i)) h
 
-force_on : (readings : List (Option Ops)) (i k : ℕ) → k ≡ i + 1 → counting_order readings k ≡ None
-    → in_force readings k ≡ in_force readings i
-unfolding in_force
-force_on readings i k e h =
-    ap (λ n. latest (λ g. placed g (counting_order readings g)) (n + 1)) e
-    ∙ latest_more (λ g. placed g (counting_order readings g)) (i + 1)
-    ∙ ap (λ y. either (placed (i + 1) y) (latest (λ g. placed g (counting_order readings g)) (i + 1))) (ap
-    (counting_order readings) (sym e)
-    ∙ h)
-
-pub in_step : (a d : ℕ) (base feed : List (List ℕ)) (mark n j first s x : ℕ) (ops : Ops) → Marks a d base feed mark n
-    → j ≤ n → 52 ≤ first → x ≡ first + s → x + 4 ≤ j → counting_order (readings feed) (mark + first) ≡ Some ops
-    → InStep base feed mark j first x
-in_step a d base feed mark n j first zero x ops m l f e k h =
+pub in_step : (a d : ℕ) (z : ℤ) (base feed : List (List ℕ)) (mark n j first s x : ℕ) (ops : Ops)
+    → Marks a d z base feed mark n → j ≤ n → 52 ≤ first → x ≡ first + s → x + 4 ≤ j
+    → counting_order (readings feed) (mark + first) ≡ Some ops → lists a ops ≡ true → InStep a base feed mark j first x
+in_step a d z base feed mark n j first zero x ops m l f e k h listed =
     let inside : mark + j ≤ length feed = let i = m.inside in omega (arith, i, l) in
     let p : mark + first ≡ mark + x = omega (arith, e) in
     let own : counting_order (readings feed) (mark + x) ≡ Some ops = ap (counting_order (readings feed)) (sym p) ∙ h in
+    let older : List Order = latest_first (λ g. placed g (counting_order (readings (life base feed mark j)) g))
+    (length base + x) in
     record {
       group = x;
       ops = ops;
+      older = older;
       behind = omega (arith, e);
       until = omega arith;
       in_life = force_here (readings (life base feed mark j)) (length base + x) ops
           (counted_same base feed mark j x m.at_mark m.at_other inside k (omega (arith, e, f)) ∙ own);
       its_own = own;
+      listed = listed_here a feed (mark + x) (record { place = length base + x; ops = ops }) older own listed;
+      own = λ other c. refl;
     }
-in_step a d base feed mark n j first (suc s) x ops m l f e k h =
+in_step a d z base feed mark n j first (suc s) x ops m l f e k h listed =
     by_order (counting_order (readings feed) (mark + x)) refl
-    (in_step a d base feed mark n j first s (first + s) ops m l f refl (omega (arith, e, k)) h)
+    (in_step a d z base feed mark n j first s (first + s) ops m l f refl (omega (arith, e, k)) h listed)
   where
     inside : mark + j ≤ length feed
     inside = let i = m.inside in omega (arith, i, l)
@@ -145,33 +146,47 @@ in_step a d base feed mark n j first (suc s) x ops m l f e k h =
     next : length base + x ≡ length base + (first + s) + 1
     next = omega (arith, e)
 
+    none_some : (y : Ops) → ◌≡◌ {A = Option Ops} None (Some y) → ⊥
+    none_some y q = cc
+
     by_order : (o : Option Ops) → counting_order (readings feed) (mark + x) ≡ o
-        → InStep base feed mark j first (first + s)
-        → InStep base feed mark j first x
-    by_order (Some y) g w = record {
-      group = x;
-      ops = y;
-      behind = omega (arith, e);
-      until = omega arith;
-      in_life = force_here (readings (life base feed mark j)) (length base + x) y (agrees ∙ g);
-      its_own = g;
-    }
+        → InStep a base feed mark j first (first + s)
+        → InStep a base feed mark j first x
+    by_order (Some y) g w =
+        let latest : Order = record { place = length base + w.group; ops = w.ops } in
+        record {
+          group = x;
+          ops = y;
+          older = latest ∷ w.older;
+          behind = omega (arith, e);
+          until = omega arith;
+          in_life =
+              force_next (readings (life base feed mark j)) (length base + (first + s)) (length base + x) next
+              ∙ ap₂ (λ o r. cons_option (placed (length base + x) o) r) (agrees ∙ g) w.in_life;
+          its_own = g;
+          listed = listed_next a d z feed (mark + x) (mark + w.group)
+              (record { place = length base + x; ops = y }) latest w.older m.feed_is g w.its_own w.listed;
+          own = λ other c. refl;
+        }
     by_order None g w = record {
       group = w.group;
       ops = w.ops;
+      older = w.older;
       behind = w.behind;
       until = let u = w.until in omega (arith, u, e);
-      in_life = force_on (readings (life base feed mark j)) (length base + (first + s)) (length base + x) next
-          (agrees ∙ g)
-          ∙ w.in_life;
+      in_life =
+          force_next (readings (life base feed mark j)) (length base + (first + s)) (length base + x) next
+          ∙ ap₂ (λ o r. cons_option (placed (length base + x) o) r) (agrees ∙ g) w.in_life;
       its_own = w.its_own;
+      listed = w.listed;
+      own = λ other c. absurd (none_some other (sym g ∙ c));
     }
 
 -- ---- the segments
 
 -- a place of a group under an order
-pub record IsPlace (feed : List (List ℕ)) (mark n j first x : ℕ) : Type 0 where
-  pub order : (ops : Ops) × (counting_order (readings feed) (mark + first) ≡ Some ops)
+pub record IsPlace (a : ℕ) (feed : List (List ℕ)) (mark n j first x : ℕ) : Type 0 where
+  pub order : (ops : Ops) × (counting_order (readings feed) (mark + first) ≡ Some ops) × (lists a ops ≡ true)
   pub flushed : 52 ≤ first
   pub later : first ≤ x
   pub group : x % 4 ≡ 0
@@ -183,17 +198,17 @@ pub record IsPlace (feed : List (List ℕ)) (mark n j first x : ℕ) : Type 0 wh
 abbrev pub upto : List (List ℕ) → ℕ → ℕ → List (List ℕ)
 upto feed mark j = take (mark + j) feed
 
-pub sent_same : (a d : ℕ) (base feed : List (List ℕ)) (mark n j first x : ℕ) → Marks a d base feed mark n
-    → IsPlace feed mark n j first x
+pub sent_same : (a d : ℕ) (z : ℤ) (base feed : List (List ℕ)) (mark n j first x : ℕ) → Marks a d z base feed mark n
+    → IsPlace a feed mark n j first x
     → sent_at a d (life base feed mark j) (length base + x) ≡ four_segments (levels (upto feed mark j)) (mark + x)
 unfolding sent_at segments_since
-sent_same a d base feed mark n j first x m p =
-    by_step (in_step a d base feed mark n j first (x - first) x p.order.0 m p.few p.flushed (let l = p.later in
-    omega (arith, l)) p.within p.order.1)
+sent_same a d z base feed mark n j first x m p =
+    by_step (in_step a d z base feed mark n j first (x - first) x p.order.0 m p.few p.flushed (let l = p.later in
+    omega (arith, l)) p.within p.order.1 p.order.2)
   where
-    by_step : InStep base feed mark j first x
+    by_step : InStep a base feed mark j first x
         → sent_by a d (life base feed mark j) (length base + x)
-        (in_force (readings (life base feed mark j)) (length base + x))
+        (orders (readings (life base feed mark j)) (length base + x))
         ≡ four_segments (levels (upto feed mark j)) (mark + x)
     by_step w =
         let inside : mark + j ≤ length feed = let i = m.inside in let l = p.few in omega (arith, i, l) in
@@ -218,7 +233,9 @@ sent_same a d base feed mark n j first x m p =
         ap₂ take (ap (λ (k : ℕ). k + w.group) long) parts
         ∙ take-take (mark + w.group) (mark + j) feed (omega (arith, w2, p2)) in
         ap (sent_by a d (life base feed mark j) (length base + x)) w.in_life
-        ∙ cond-true (is_ok (served a d w.ops)) _ _ (m.feed_is.serves (mark + w.group) w.ops w.its_own)
+        ∙ cond-true (is_ok (served a d (record { place = length base + w.group; ops = w.ops } ∷ w.older))) _ _
+        (served_by_feed a d z feed (mark + w.group) (record { place = length base + w.group; ops = w.ops }) w.older
+        m.feed_is w.its_own w.listed).ok
         ∙ data_same base (take mark feed) (take j (drop mark feed)) x w.group w.ops.states same
         (m.feed_is.states (mark + w.group) w.ops w.its_own ∙ ap states (sym front))
         ∙ ap₂ (λ f (k : ℕ). four_segments (levels f) (k + x)) parts long
@@ -257,30 +274,31 @@ given_last a d base feed mark x l y b =
     ∙ ap (λ k. behind_field_sync k (sent_before a d (life base feed mark (x + 4)) k)
     (sent_at a d (life base feed mark (x + 4)) k)) s
 
-pub record IsGroup (feed : List (List ℕ)) (mark n first x : ℕ) : Type 0 where
-  pub order : (ops : Ops) × (counting_order (readings feed) (mark + first) ≡ Some ops)
+pub record IsGroup (a : ℕ) (feed : List (List ℕ)) (mark n first x : ℕ) : Type 0 where
+  pub order : (ops : Ops) × (counting_order (readings feed) (mark + first) ≡ Some ops) × (lists a ops ≡ true)
   pub flushed : 52 ≤ first
   pub whole : first % 4 ≡ 0
   pub later : first ≤ x
   pub group : x % 4 ≡ 0
   pub within : x + 4 ≤ n
 
-pub place_of : (feed : List (List ℕ)) (mark n first x y : ℕ) → IsGroup feed mark n first x → first ≤ y → y % 4 ≡ 0
-    → y ≤ x → IsPlace feed mark n (x + 4) first y
-place_of feed mark n first x y g a b c = record {
+pub place_of : (a : ℕ) (feed : List (List ℕ)) (mark n first x y : ℕ) → IsGroup a feed mark n first x → first ≤ y
+    → y % 4 ≡ 0
+    → y ≤ x → IsPlace a feed mark n (x + 4) first y
+place_of a feed mark n first x y g l w h = record {
   order = g.order;
   flushed = g.flushed;
-  later = a;
-  group = b;
-  within = omega (arith, c);
-  whole = let w = g.group in omega (arith, w);
+  later = l;
+  group = w;
+  within = omega (arith, h);
+  whole = let v = g.group in omega (arith, v);
   few = g.within;
 }
 
-pub given_next : (a d : ℕ) (base feed : List (List ℕ)) (mark n first x : ℕ) → Marks a d base feed mark n
-    → IsGroup feed mark n first x → first + 4 ≤ x
+pub given_next : (a d : ℕ) (z : ℤ) (base feed : List (List ℕ)) (mark n first x : ℕ) → Marks a d z base feed mark n
+    → IsGroup a feed mark n first x → first + 4 ≤ x
     → given_under a d (Some (life base feed mark (x + 4))) ≡ group_segments (upto feed mark (x + 4)) ((mark + x) / 4)
-given_next a d base feed mark n first x m g l =
+given_next a d z base feed mark n first x m g l =
     let inside : mark + (x + 4) ≤ length feed = let i = m.inside in let w = g.within in omega (arith, i, w) in
     let m1 = m.at_mark in let m2 = m.at_other in let g1 = g.group in let g2 = g.flushed in let g3 = g.whole in
     let v : mark + x ≡ 4 * ((mark + x) / 4) = omega (arith, m1, g1) in
@@ -290,12 +308,13 @@ given_next a d base feed mark n first x m g l =
     ≡ four_segments (levels (upto feed mark (x + 4))) (4 * ((mark + x) / 4) - 4) =
     cond-true (nat_le 4 (length base + x)) _ _ (le-leb 4 (length base + x) (omega (arith, l)))
     ∙ ap (sent_at a d (life base feed mark (x + 4))) k
-    ∙ sent_same a d base feed mark n (x + 4) first (x - 4) m
-    (place_of feed mark n first x (x - 4) g (omega (arith, l)) (omega (arith, g1)) (omega arith))
+    ∙ sent_same a d z base feed mark n (x + 4) first (x - 4) m
+    (place_of a feed mark n first x (x - 4) g (omega (arith, l)) (omega (arith, g1)) (omega arith))
     ∙ ap (four_segments (levels (upto feed mark (x + 4)))) u in
     let here : sent_at a d (life base feed mark (x + 4)) (length base + x)
     ≡ four_segments (levels (upto feed mark (x + 4))) (4 * ((mark + x) / 4)) =
-    sent_same a d base feed mark n (x + 4) first x m (place_of feed mark n first x x g g.later g.group (omega arith))
+    sent_same a d z base feed mark n (x + 4) first x m
+    (place_of a feed mark n first x x g g.later g.group (omega arith))
     ∙ ap (four_segments (levels (upto feed mark (x + 4)))) v in
     given_last a d base feed mark x inside g.group m.at_other
     ∙ ap₂ (behind_field_sync (length base + x)) before here

@@ -5,30 +5,31 @@ use Rattle.dtx_cadence.specs.Anchor as cadence
 use Rattle.dtx_coder.specs.Groups.{Coding}
 use Rattle.dtx_coder.specs.Along.{RunsAlong}
 use Rattle.dtx_exciter.specs.declared.exciter.Exciter.{Exciter}
-use Rattle.dtx_exciter.specs.Order.{Order, in_force}
+use Rattle.dtx_exciter.specs.Order.{Order, orders}
 use Rattle.dtx_exciter.specs.declared.answers.Told.{Told}
 use Rattle.dtx_exciter.specs.Told.{served, told_under}
 use Rattle.dtx_exciter.specs.Packets.{syncs, readings, under, last_answer}
 use Rattle.dtx_exciter.specs.Emission.{Holds, last_segments, given_under}
+use Rattle.dtx_exciter.specs.HeldPages.{HoldsPages}
 use Rattle.dtx_exciter.specs.Step.{bytes_of}
 
 -- how many packets whole groups have
 abbrev pub whole : List (List ℕ) → ℕ
 whole packets = 4 * (length packets / 4)
 
--- the order in force for the last whole group
-unfoldable pub last_order : List (List ℕ) → Option Order
-last_order packets = in_force (readings packets) (whole packets - 4)
+-- the orders up to the last whole group
+unfoldable pub last_orders : List (List ℕ) → List Order
+last_orders packets = orders (readings packets) (whole packets - 4)
 
--- whether an order in force serves the transmitter
-abbrev pub is_served : ℕ → ℕ → Option Order → Bool
-is_served address delay None = false
-is_served address delay (Some order) = is_ok (served address delay order.ops)
+-- whether the transmitter is served under these orders
+abbrev pub is_served : ℕ → ℕ → List Order → Bool
+is_served address delay [] = false
+is_served address delay (order ∷ older) = is_ok (served address delay (order ∷ older))
 
 -- the coder was given the groups of these packets since the anchor, from the states of the order in force on
-abbrev pub RunsUnder : List (List ℕ) → Option Order → Coding → Type 0
-RunsUnder packets None coder = (q : List ℕ) × RunsAlong packets 0 q coder
-RunsUnder packets (Some order) coder = RunsAlong packets (order.place / 4) order.ops.states coder
+abbrev pub RunsUnder : List (List ℕ) → List Order → Coding → Type 0
+RunsUnder packets [] coder = (q : List ℕ) × RunsAlong packets 0 q coder
+RunsUnder packets (order ∷ older) coder = RunsAlong packets (order.place / 4) order.ops.states coder
 
 -- what is kept of the packets from the anchor on
 pub record KeepsUnder (address delay : ℕ) (e : Exciter) (packets : List (List ℕ)) : Type 0 where
@@ -37,8 +38,10 @@ pub record KeepsUnder (address delay : ℕ) (e : Exciter) (packets : List (List 
   -- the packets of the group that isn't whole yet
   pub partial : take (length packets % 4) (bytes_of e.packets) ≡ drop (whole packets) packets
   -- whether the last whole group was sent
-  pub sent : e.sent ≡ is_served address delay (last_order packets)
-  pub coder : RunsUnder (take (whole packets) packets) (last_order packets) e.coder
+  pub sent : e.sent ≡ is_served address delay (last_orders packets)
+  -- what its orders say of the pages
+  pub pages : HoldsPages address (last_orders packets) e.pages
+  pub coder : RunsUnder (take (whole packets) packets) (last_orders packets) e.coder
 
 abbrev pub Keeps : ℕ → ℕ → Exciter → Option (List (List ℕ)) → Type 0
 Keeps address delay e None = ⊤

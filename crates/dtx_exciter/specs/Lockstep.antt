@@ -1,31 +1,59 @@
 -- An exciter that is given a feed from one of its marks on, whatever it was given before.
-use Rattle.std.specs.Prelude.{ℕ, ◌≡◌, ◌+◌, ◌/◌, ◌%◌, ◌≤◌, ◌<◌, ◌==◌, true, Some, is_ok, List, [], length, take, drop}
-use Rattle.std.specs.Prelude.{slice_index_or}
-use Rattle.std.specs.Prelude.{ℤ}
+use Rattle.std.specs.Prelude.{ℕ, ◌≡◌, ◌+◌, ◌-◌, ◌/◌, ◌%◌, ◌≤◌, ◌<◌, ◌==◌, if◌then◌else◌, true, Option, Some, None}
+use Rattle.std.specs.Prelude.{List, [], ◌++◌, length, take, drop, slice_index_or, slice_range, ℤ, pos, ◌+ℤ◌, ◌≤ℤ◌}
 use Rattle.dtx_packets.specs.Packet.{sync_of}
+use Rattle.dtx_ops.specs.Paging.{page_of, pages_of}
+use Rattle.dtx_ops.specs.declared.fields.Entry.{Entry}
 use Rattle.dtx_ops.specs.declared.fields.Ops.{Ops}
 use Rattle.dtx_coder.specs.Stream.{states, a53}
 use Rattle.dtx_exciter.specs.Order.{counting_order}
-use Rattle.dtx_exciter.specs.Told.{served}
-use Rattle.dtx_exciter.specs.Packets.{readings}
+use Rattle.dtx_exciter.specs.Pages.{entry_of, lists}
+use Rattle.dtx_exciter.specs.Packets.{readings, anchor_of}
 
--- What the exciter of the transmitter with this address and delay asks of a feed: a mark stands at each 624th packet
--- and nowhere else, and each order 52 or more packets behind its start sets the states that the feed's own coders have
--- before the order's group, and serves the transmitter.
-pub record IsFeed (address delay : ℕ) (feed : List (List ℕ)) : Type 0 where
+-- What the exciter of the transmitter with this address and delay asks of a feed to go with it at this offset: a mark
+-- stands at each 624th packet and nowhere else. The orders 52 or more packets behind its start set the states that the
+-- feed's own coders have before the order's group. All have one number of pages. Of the orders of one page all list the
+-- address or none does; those that list it do with this offset. The delay is at most each maximum delay plus it.
+pub record IsFeed (address delay : ℕ) (offset : ℤ) (feed : List (List ℕ)) : Type 0 where
   pub marks : (k : ℕ) → k < length feed → (sync_of (slice_index_or feed k []) == 0xB8) ≡ (k % 624 == 0)
   pub states : (g : ℕ) (ops : Ops) → counting_order (readings feed) g ≡ Some ops → ops.states ≡ states (take g feed)
+  pub pages : (g h : ℕ) (ops other : Ops) → counting_order (readings feed) g ≡ Some ops
+      → counting_order (readings feed) h ≡ Some other → pages_of ops.paging ≡ pages_of other.paging
+  pub same : (g h : ℕ) (ops other : Ops) → counting_order (readings feed) g ≡ Some ops
+      → counting_order (readings feed) h ≡ Some other → page_of ops.paging ≡ page_of other.paging
+      → lists address ops ≡ lists address other
+  pub entry : (g : ℕ) (ops : Ops) (e : Entry) → counting_order (readings feed) g ≡ Some ops
+      → entry_of address ops ≡ Some e → e.offset ≡ offset
   pub serves : (g : ℕ) (ops : Ops) → counting_order (readings feed) g ≡ Some ops
-      → is_ok (served address delay ops) ≡ true
+      → pos delay ≤ℤ (pos ops.max_delay +ℤ offset)
 
--- The feed's packets from mark to end, and among them, 52 or more behind the mark, the order of the group from place k
--- on.
-pub record IsStretch (feed : List (List ℕ)) (mark end k : ℕ) : Type 0 where
+-- the packet of a feed from which on an exciter is locked to it, where it is given the feed from this mark on behind n
+-- packets with this anchor: from the mark on where nothing was locked, or the old lock is in step with the mark; else
+-- the old lock is out of step, and lost by the third mark
+abbrev pub locked_by : Option ℕ → ℕ → ℕ → ℕ
+locked_by None n mark = mark
+locked_by (Some j) n mark = if (n - j) % 624 == 0 then mark else mark + 1248
+
+-- the same behind the earlier packets of its life
+unfoldable pub locked_from : List (List ℕ) → ℕ → ℕ
+locked_from earlier mark = locked_by (anchor_of earlier) (length earlier) mark
+
+-- Behind packet z of the feed and each further one the anchor is the same, in step with the feed, where the feed is
+-- given from mark on behind earlier packets.
+pub record HasLock (earlier feed : List (List ℕ)) (mark z : ℕ) : Type 0 where
+  pub place : ℕ
+  pub within : place ≤ length earlier + (z - mark)
+  pub steps : (length earlier + (z - mark) - place) % 624 ≡ 0
+  pub holds : (n : ℕ) → z < n → n ≤ length feed → anchor_of (earlier ++ slice_range feed mark n) ≡ Some place
+
+-- The feed's packets from mark to end, and among them, 52 or more behind packet z, the order of the group from place k
+-- on, which lists the address.
+pub record IsStretch (address : ℕ) (feed : List (List ℕ)) (z mark end k : ℕ) : Type 0 where
   pub is_mark : mark % 624 ≡ 0
   pub inside : end ≤ length feed
-  pub behind : mark + 52 ≤ k
+  pub behind : z + 52 ≤ k
   pub whole : k + 4 ≤ end
-  pub order : (ops : Ops) × (counting_order (readings feed) k ≡ Some ops)
+  pub order : (ops : Ops) × (counting_order (readings feed) k ≡ Some ops) × (lists address ops ≡ true)
 
 -- the place among the segments of a stream of the data segment of packet k: a field sync stands before each 312
 abbrev pub segment_place : ℕ → ℕ

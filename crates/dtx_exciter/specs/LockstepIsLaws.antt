@@ -7,14 +7,17 @@ use Rattle.std.proofs.lemmas.List.{append-nil, append_assoc, length-append}
 use Rattle.dtx_frame.specs.Segments.{field_sync}
 use Rattle.dtx_coder.specs.Stream.{levels, four_segments, last_of, group_segments}
 use Rattle.dtx_exciter.specs.Order.{counting_order}
-use Rattle.dtx_exciter.specs.Packets.{readings}
+use Rattle.dtx_cadence.specs.Cadence.{IsInStep}
+use Rattle.dtx_exciter.specs.Packets.{syncs, readings}
 use Rattle.dtx_exciter.specs.Emission.{last_segments, given_under, emission}
-use Rattle.dtx_exciter.specs.Lockstep.{IsFeed, IsStretch, stretch}
+use Rattle.dtx_exciter.specs.Lockstep.{IsFeed, locked_from, IsStretch, stretch}
 use Rattle.dtx_exciter.specs.Stretch.{emission_behind, sync_behind, before_stretch}
 use Rattle.dtx_exciter.specs.ForceLaws.{counted_behind, IsBehind}
 use Rattle.dtx_exciter.specs.InLifeLaws.{life, Marks, IsGroup, given_next}
 use Rattle.dtx_exciter.specs.FirstGroupLaws.{given_first}
 use Rattle.dtx_exciter.specs.FollowedLaws.{after, after_more, Follows, follows, given_is, given_none}
+use Rattle.dtx_exciter.specs.LockedLaws.{IsLocked, locked_life, locked_stretch, locked_parts, stretch_locked}
+use Rattle.dtx_exciter.specs.LockedLaws.{before_locked}
 use Rattle.dtx_exciter.specs.EmittedLaws.{emission_more, emission_push, stretch_first, stretch_next, stretch_whole}
 
 -- ---- all that is given
@@ -67,23 +70,23 @@ before_first a d earlier feed mark first = emission a d (after earlier feed mark
 place_first : (mark first v : ℕ) → mark + first ≡ 4 * v → mark + (first + 4) ≡ 4 * v + 4
 place_first mark first v e = omega (arith, e)
 
-emits_all : (a d : ℕ) (earlier feed : List (List ℕ)) (mark n first c : ℕ) (before : List (List ℤ))
-    → (w : Follows earlier feed mark n) → (m : Marks a d w.base feed mark n) → IsGroup feed mark n first first
+emits_all : (a d : ℕ) (z : ℤ) (earlier feed : List (List ℕ)) (mark n first c : ℕ) (before : List (List ℤ))
+    → (w : Follows earlier feed mark n) → (m : Marks a d z w.base feed mark n) → IsGroup a feed mark n first first
     → emission a d (after earlier feed mark (first + 4)) ≡ before ++ stretch feed (mark + first) (mark + (first + 4))
     → first + 4 + 4 * c ≤ n
     → emission a d (after earlier feed mark (first + 4 + 4 * c)) ≡ before
     ++ stretch feed (mark + first) (mark + (first + 4 + 4 * c))
-emits_all a d earlier feed mark n first zero before w m g h l =
+emits_all a d z earlier feed mark n first zero before w m g h l =
     let e : first + 4 ≡ first + 4 + 4 * 0 = omega arith in
     ap (λ k. emission a d (after earlier feed mark k)) (sym e) ∙ h
     ∙ ap (λ k. before ++ stretch feed (mark + first) (mark + k)) e
-emits_all a d earlier feed mark n first (suc c) before w m g h l =
+emits_all a d z earlier feed mark n first (suc c) before w m g h l =
     let x : ℕ = first + 4 + 4 * c in
     let e : first + 4 + 4 * suc c ≡ first + 4 + 4 * c + 4 = omega arith in
     let inside = m.inside in let m1 = m.at_mark in let g1 = g.whole in
     let v : mark + (first + 4 + 4 * c) ≡ 4 * ((mark + (first + 4 + 4 * c)) / 4) = omega (arith, m1, g1) in
     let u : 4 * ((mark + (first + 4 + 4 * c)) / 4) + 4 ≡ mark + (first + 4 + 4 * c + 4) = omega (arith, v) in
-    let here : IsGroup feed mark n first (first + 4 + 4 * c) =
+    let here : IsGroup a feed mark n first (first + 4 + 4 * c) =
     record {
       order = g.order;
       flushed = g.flushed;
@@ -94,8 +97,8 @@ emits_all a d earlier feed mark n first (suc c) before w m g h l =
     } in
     ap (λ k. emission a d (after earlier feed mark k)) e
     ∙ emitted_group a d earlier feed mark n (first + 4 + 4 * c) w inside (omega (arith, l)) (omega (arith, g1))
-    ∙ ap₂ ◌++◌ (emits_all a d earlier feed mark n first c before w m g h (omega (arith, l)))
-    (given_next a d w.base feed mark n first (first + 4 + 4 * c) m here (omega arith))
+    ∙ ap₂ ◌++◌ (emits_all a d z earlier feed mark n first c before w m g h (omega (arith, l)))
+    (given_next a d z w.base feed mark n first (first + 4 + 4 * c) m here (omega arith))
     ∙ append_assoc before (stretch feed (mark + first) (mark + (first + 4 + 4 * c)))
     (group_segments (take (mark + (first + 4 + 4 * c + 4)) feed) ((mark + (first + 4 + 4 * c)) / 4))
     ∙ ap (λ y. before ++ y)
@@ -107,12 +110,12 @@ emits_all a d earlier feed mark n first (suc c) before w m g h l =
     ∙ ap (λ k. before ++ stretch feed (mark + first) (mark + k)) (sym e)
 
 -- up to the end of any group of the stretch
-pub emits : (a d : ℕ) (earlier feed : List (List ℕ)) (mark n first c : ℕ) → (w : Follows earlier feed mark n)
-    → Marks a d w.base feed mark n → IsGroup feed mark n first first → first + 4 + 4 * c ≤ n
+pub emits : (a d : ℕ) (z : ℤ) (earlier feed : List (List ℕ)) (mark n first c : ℕ) → (w : Follows earlier feed mark n)
+    → Marks a d z w.base feed mark n → IsGroup a feed mark n first first → first + 4 + 4 * c ≤ n
     → emission a d (after earlier feed mark (first + 4 + 4 * c)) ≡ before_first a d earlier feed mark first
     ++ stretch feed (mark + first) (mark + (first + 4 + 4 * c))
-emits a d earlier feed mark n first c w m g h =
-    emits_all a d earlier feed mark n first c (before_first a d earlier feed mark first) w m g begins h
+emits a d z earlier feed mark n first c w m g h =
+    emits_all a d z earlier feed mark n first c (before_first a d earlier feed mark first) w m g begins h
   where
     inside : mark + n ≤ length feed
     inside = m.inside
@@ -142,7 +145,7 @@ emits a d earlier feed mark n first c w m g h =
     begins =
         emitted_group a d earlier feed mark n first w inside within g.whole
         ∙ ap₂ ◌++◌ (sym (emitted_within a d earlier feed mark n first w inside within g.whole))
-        (given_first a d w.base feed mark n first m g)
+        (given_first a d z w.base feed mark n first m g)
         ∙ sym (append_assoc (emission a d (after earlier feed mark (first + 3))) sync
         (four_segments (levels (take (mark + (first + 4)) feed)) (mark + first)))
         ∙ ap₂ (λ x y. (emission a d (after earlier feed mark (first + 3)) ++ sync_behind x (mark + first)) ++ y) same
@@ -173,31 +176,32 @@ tail_same a d earlier feed mark n m (suc r) w h e y s = by_parts m r n w h e y s
 -- ---- a stretch, from a mark to its end
 
 -- a stretch by its places behind the mark
-pub record Within (a d : ℕ) (earlier feed : List (List ℕ)) (mark n first : ℕ) : Type 0 where
+pub record Within (a d : ℕ) (z : ℤ) (earlier feed : List (List ℕ)) (mark n first : ℕ) : Type 0 where
   pub follows : Follows earlier feed mark n
-  pub marks : Marks a d follows.base feed mark n
-  pub group : IsGroup feed mark n first first
+  pub marks : Marks a d z follows.base feed mark n
+  pub group : IsGroup a feed mark n first first
 
-pub within : (a d : ℕ) (feed earlier : List (List ℕ)) (mark end k : ℕ) → IsFeed a d feed → IsStretch feed mark end k
-    → Within a d earlier feed mark (end - mark) (k - mark)
-within a d feed earlier mark end k f s =
-    let x = s.inside in let y = s.behind in let z = s.whole in let i = s.is_mark in
+pub within : (a d : ℕ) (z : ℤ) (feed earlier : List (List ℕ)) (mark end k : ℕ) → IsFeed a d z feed
+    → IsStretch a feed mark mark end k → IsInStep (syncs earlier)
+    → Within a d z earlier feed mark (end - mark) (k - mark)
+within a d z feed earlier mark end k f s r =
+    let x = s.inside in let y = s.behind in let t = s.whole in let i = s.is_mark in
     let b : IsBehind k = counted_behind (readings feed) k s.order.0 s.order.1 in
     let o = b.whole in
     let at : mark + (k - mark) ≡ k = omega (arith, y) in
-    let inside : mark + (end - mark) ≤ length feed = omega (arith, x, y, z) in
+    let inside : mark + (end - mark) ≤ length feed = omega (arith, x, y, t) in
     let w : Follows earlier feed mark (end - mark) =
-    follows a d earlier feed mark (end - mark) f i inside (omega (arith, y, z)) in
+    follows a d z earlier feed mark (end - mark) f i inside (omega (arith, y, t)) r in
     record {
       follows = w;
       marks = record { feed_is = f; at_mark = i; at_other = w.in_step; inside = inside };
       group = record {
-        order = (s.order.0, ap (counting_order (readings feed)) at ∙ s.order.1);
+        order = (s.order.0, ap (counting_order (readings feed)) at ∙ s.order.1, s.order.2);
         flushed = omega (arith, y);
         whole = omega (arith, y, i, o);
         later = omega arith;
         group = omega (arith, y, i, o);
-        within = omega (arith, y, z);
+        within = omega (arith, y, t);
       };
     }
 
@@ -211,21 +215,22 @@ before_is a d earlier feed mark k l =
     ap₂ (λ x y. emission a d (after earlier feed mark x)
     ++ sync_behind (last_segments a d (after earlier feed mark (k - mark))) y) e at
 
-pub lockstep_is : (a d : ℕ) (feed earlier : List (List ℕ)) (mark end k : ℕ) → IsFeed a d feed
-    → IsStretch feed mark end k
+-- where nothing was locked before the mark or a lock in step
+lockstep_at : (a d : ℕ) (z : ℤ) (feed earlier : List (List ℕ)) (mark end k : ℕ) → IsFeed a d z feed
+    → IsStretch a feed mark mark end k → IsInStep (syncs earlier)
     → emission a d (earlier ++ slice_range feed mark end) ≡ before_stretch a d earlier feed mark k ++ stretch feed k end
-lockstep_is a d feed earlier mark end k f s =
+lockstep_at a d z feed earlier mark end k f s r =
     tail_same a d earlier feed mark (end - mark) (k - mark + 4 + 4 * c)
     (end - (mark + (k - mark + 4 + 4 * c))) w.follows w.marks.inside size (omega (arith, y, i, o))
-    (omega (arith, y, z))
-    ∙ emits a d earlier feed mark (end - mark) (k - mark) c w.follows w.marks w.group (omega (arith, y, z))
-    ∙ ap₂ (λ t p. t ++ stretch feed p (mark + (k - mark + 4 + 4 * c)))
+    (omega (arith, y, t))
+    ∙ emits a d z earlier feed mark (end - mark) (k - mark) c w.follows w.marks w.group (omega (arith, y, t))
+    ∙ ap₂ (λ b p. b ++ stretch feed p (mark + (k - mark + 4 + 4 * c)))
     (before_is a d earlier feed mark k (omega (arith, y))) at
-    ∙ ap (λ t. before_stretch a d earlier feed mark k
-    ++ t) (stretch_whole feed k end (mark + (k - mark + 4 + 4 * c)) s.inside (omega (arith, y, z, i, o)))
+    ∙ ap (λ b. before_stretch a d earlier feed mark k
+    ++ b) (stretch_whole feed k end (mark + (k - mark + 4 + 4 * c)) s.inside (omega (arith, y, t, i, o)))
   where
-    w : Within a d earlier feed mark (end - mark) (k - mark)
-    w = within a d feed earlier mark end k f s
+    w : Within a d z earlier feed mark (end - mark) (k - mark)
+    w = within a d z feed earlier mark end k f s r
 
     c : ℕ
     c = (end - mark - (k - mark) - 4) / 4
@@ -233,8 +238,8 @@ lockstep_is a d feed earlier mark end k f s =
     y : mark + 52 ≤ k
     y = s.behind
 
-    z : k + 4 ≤ end
-    z = s.whole
+    t : k + 4 ≤ end
+    t = s.whole
 
     i : mark % 624 ≡ 0
     i = s.is_mark
@@ -246,19 +251,32 @@ lockstep_is a d feed earlier mark end k f s =
     at = omega (arith, y)
 
     size : end - mark ≡ k - mark + 4 + 4 * c + (end - (mark + (k - mark + 4 + 4 * c)))
-    size = omega (arith, y, z)
+    size = omega (arith, y, t)
+
+-- whatever was given before
+pub lockstep_is : (a d : ℕ) (z : ℤ) (feed earlier : List (List ℕ)) (mark end k : ℕ) → IsFeed a d z feed
+    → IsStretch a feed (locked_from earlier mark) mark end k
+    → emission a d (earlier ++ slice_range feed mark end) ≡ before_stretch a d earlier feed mark k ++ stretch feed k end
+lockstep_is a d z feed earlier mark end k f s =
+    let w : IsLocked earlier feed mark (locked_from earlier mark) = locked_stretch a d z feed earlier mark end k f s in
+    let y = s.behind in let t = s.whole in let b = w.behind in
+    ap (emission a d) (locked_parts earlier feed mark (locked_from earlier mark) end b (omega (arith, y, t)))
+    ∙ lockstep_at a d z feed (locked_life earlier feed mark (locked_from earlier mark)) (locked_from earlier mark) end k
+    f (stretch_locked a feed earlier mark (locked_from earlier mark) end k s w) w.in_step
+    ∙ ap (λ x. x ++ stretch feed k end)
+    (before_locked a d earlier feed mark (locked_from earlier mark) k b (omega (arith, y)))
 
 -- whatever is given then
-pub lockstep_on : (a d : ℕ) (feed earlier later : List (List ℕ)) (mark end k : ℕ) → IsFeed a d feed
-    → IsStretch feed mark end k
+pub lockstep_on : (a d : ℕ) (z : ℤ) (feed earlier later : List (List ℕ)) (mark end k : ℕ) → IsFeed a d z feed
+    → IsStretch a feed (locked_from earlier mark) mark end k
     → emission a d (earlier ++ (slice_range feed mark end ++ later))
     ≡ before_stretch a d earlier feed mark k ++ (stretch feed k end
     ++ emission_behind a d (earlier ++ slice_range feed mark end) later)
-lockstep_on a d feed earlier later mark end k f s =
+lockstep_on a d z feed earlier later mark end k f s =
     ap (emission a d) (sym (append_assoc earlier (slice_range feed mark end) later))
     ∙ emission_more a d (earlier ++ slice_range feed mark end) later
     ∙ ap (λ x. x ++ emission_behind a d (earlier ++ slice_range feed mark end) later)
-    (lockstep_is a d feed earlier mark end k f s)
+    (lockstep_is a d z feed earlier mark end k f s)
     ∙ append_assoc (before_stretch a d earlier feed mark k) (stretch feed k end)
     (emission_behind a d (earlier ++ slice_range feed mark end) later)
 

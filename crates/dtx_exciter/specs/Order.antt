@@ -1,6 +1,8 @@
 -- What the packets under an anchor order (the profile's own). They are counted from the anchor, and each is told here
 -- by the operations fields that it reads as, where it reads.
-use Rattle.std.specs.Prelude.{ℕ, ◌+◌, ◌%◌, ◌==◌, nat_le, ◌&&◌, Option, Some, None, if◌then◌else◌, List, slice_index_or}
+use Rattle.std.specs.Prelude.{ℕ, ◌+◌, ◌%◌, ◌==◌, nat_le, ◌&&◌, Option, Some, None, if◌then◌else◌, List, []}
+use Rattle.std.specs.Prelude.{slice_index_or}
+use Rattle.std.specs.List.{cons_option}
 use Rattle.std.proofs.Common.{zero, suc}
 use Rattle.dtx_ops.specs.declared.fields.Ops.{Ops}
 
@@ -9,10 +11,10 @@ abbrev pub either : {A : Type 0} → Option A → Option A → Option A
 either (Some x) y = Some x
 either None y = y
 
--- the value at the greatest number below n that has one
-abbrev pub latest : {A : Type 0} → (ℕ → Option A) → ℕ → Option A
-latest f zero = None
-latest f (suc n) = either (f n) (latest f n)
+-- the values at the numbers below n, that of the greatest number first
+abbrev pub latest_first : {A : Type 0} → (ℕ → Option A) → ℕ → List A
+latest_first f zero = []
+latest_first f (suc n) = cons_option (f n) (latest_first f n)
 
 -- what a packet at a place of its frame orders: its fields, where it reads and its index is its place
 abbrev pub ordered : ℕ → Option Ops → Option Ops
@@ -42,6 +44,6 @@ abbrev pub placed : ℕ → Option Ops → Option Order
 placed g None = None
 placed g (Some ops) = Some (record { place = g; ops = ops })
 
--- the order in force for the group that begins at i: the latest up to that group
-unfoldable pub in_force : List (Option Ops) → ℕ → Option Order
-in_force said i = latest (λ g. placed g (counting_order said g)) (i + 1)
+-- the orders of the groups up to the one that begins at i, the latest first: that one is in force for the group
+unfoldable pub orders : List (Option Ops) → ℕ → List Order
+orders said i = latest_first (λ g. placed g (counting_order said g)) (i + 1)

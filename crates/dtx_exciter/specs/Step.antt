@@ -1,6 +1,7 @@
 -- What an exciter does with one whole group, from what it keeps.
 use Rattle.std.specs.Prelude.{ℕ, ℤ, ◌≡◌, ◌+◌, ◌%◌, ◌==◌, nat_le, Bool, ◌&&◌, Option, Some, None, option_map}
-use Rattle.std.specs.Prelude.{if◌then◌else◌, Result, Ok, Err, List, [], map, slice_index_or}
+use Rattle.std.specs.Prelude.{if◌then◌else◌, Result, Ok, Err, List, [], map, take, slice_index_or}
+use Rattle.std.specs.List.{list_all}
 use Rattle.std.specs.Option.{unwrap_or}
 use Rattle.dtx_packets.specs.declared.packet.Packet.{Packet}
 use Rattle.dtx_ops.specs.declared.fields.Ops.{Ops}
@@ -8,9 +9,12 @@ use Rattle.dtx_coder.specs.Groups.{Group, air_segments, after_group}
 use Rattle.dtx_exciter.specs.declared.exciter.Exciter.{Exciter}
 use Rattle.dtx_exciter.specs.declared.answers.Why.{Why}
 use Rattle.dtx_exciter.specs.declared.answers.Told.{Told}
-use Rattle.dtx_exciter.specs.declared.answers.Told.TheVariants.{Quiet, Sent, Muted}
+use Rattle.dtx_exciter.specs.declared.answers.Told.TheVariants.{Quiet, Sent}
 use Rattle.dtx_exciter.specs.Order.{either, ordered}
-use Rattle.dtx_exciter.specs.Told.{served, preset_of, is_sent}
+use Rattle.dtx_exciter.specs.declared.pages.Pages.{Pages}
+use Rattle.dtx_exciter.specs.Pages.{offset_of}
+use Rattle.dtx_exciter.specs.HeldPages.{HoldsMore}
+use Rattle.dtx_exciter.specs.Told.{hold_by, preset_of, told_why, is_sent}
 use Rattle.dtx_exciter.specs.Packets.{reads}
 use Rattle.dtx_exciter.specs.Emission.{Holds}
 
@@ -29,15 +33,22 @@ order_in j packets =
 abbrev pub own_order : Bool → ℕ → List (List ℕ) → Option Ops
 own_order flushed j packets = if flushed then order_in j packets else None
 
--- the answer under the group's own order
-abbrev pub told_own : ℕ → ℕ → Ops → Result ℕ Why → Told
-told_own address j ops (Ok hold) = Sent (Some (preset_of address ops j hold))
-told_own address j ops (Err why) = Muted why
+-- for how long what is sent is held under an order, from what is kept of the pages, or why nothing is sent
+abbrev pub served_by : ℕ → ℕ → Pages → Result ℕ (Option Why)
+served_by delay most pages =
+    hold_by delay most (option_map (λ h. h.entry) pages.held) (list_all (λ told. told) (take pages.count pages.told))
 
--- the answer at a group, which is sent under an older order where the group before it was sent
-abbrev pub told_group : ℕ → ℕ → ℕ → Option Ops → Bool → Told
-told_group address delay j (Some ops) sent = told_own address j ops (served address delay ops)
-told_group address delay j None sent = if sent then Sent None else Quiet
+-- the answer under the group's own order
+abbrev pub told_own : ℕ → Ops → ℤ → Result ℕ (Option Why) → Told
+told_own j ops offset (Ok hold) = Sent (Some (preset_of ops offset j hold))
+told_own j ops offset (Err why) = told_why why
+
+-- the answer at a group, with what is kept of the pages: it is sent under an older order where the group before it was
+-- sent
+abbrev pub told_group : ℕ → ℕ → Option Ops → Pages → Bool → Told
+told_group delay j (Some ops) pages sent =
+    told_own j ops (offset_of (option_map (λ h. h.entry) pages.held)) (served_by delay ops.max_delay pages)
+told_group delay j None pages sent = if sent then Sent None else Quiet
 
 -- the group as it is given to the coder
 abbrev pub group_given : ℕ → List (List ℕ) → Option Ops → List ℕ → Bool → Bool → Group
@@ -58,8 +69,13 @@ group_of e j answered = group_given j (bytes_of e.packets) (own_of e j) e.coder.
 
 -- what is done with it
 pub record IsSent (j : ℕ) (old made : Exciter) (answered : Told) (count : ℕ) (symbols : List ℤ) : Type 0 where
-  pub answer : answered ≡ told_group old.address old.delay j (own_of old j) old.sent
-  pub new : made ≡ record old { sent = is_sent answered; coder = after_group old.coder (group_of old j answered) }
+  pub pages : HoldsMore old.address (own_of old j) old.pages made.pages
+  pub answer : answered ≡ told_group old.delay j (own_of old j) made.pages old.sent
+  pub new : made ≡ record old {
+    sent = is_sent answered;
+    pages = made.pages;
+    coder = after_group old.coder (group_of old j answered);
+  }
   pub air : Holds (if is_sent answered then air_segments old.coder (group_of old j answered) else []) count symbols
 
 -- the transmitter and the anchor stay

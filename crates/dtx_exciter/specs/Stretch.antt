@@ -1,5 +1,5 @@
 -- What stands in front of a feed's stretch and behind any packets, and the lines of a stretch (the profile's own).
-use Rattle.std.specs.Prelude.{ℕ, ℤ, pos, ◌≡◌, ◌+◌, ◌-◌, ◌*◌, ◌%◌, ◌==◌, ◌-ℤ◌, ◌*ℤ◌, ⊤, nat_le, if◌then◌else◌, List, []}
+use Rattle.std.specs.Prelude.{ℕ, ℤ, pos, ◌≡◌, ◌+◌, ◌-◌, ◌*◌, ◌%◌, ◌==◌, ◌*ℤ◌, ⊤, nat_le, if◌then◌else◌, List, []}
 use Rattle.std.specs.Prelude.{◌∷◌, ◌++◌, length, map, take, slice_index_or, slice_range}
 use Rattle.std.specs.List.{range_with_len, flat_map, filter_map}
 use Rattle.dtx_clock.specs.declared.answers.Moment.{Moment}
@@ -7,7 +7,6 @@ use Rattle.dtx_clock.specs.Clock.{moment_of, DifferBy}
 use Rattle.dtx_frame.specs.Segments.{field_sync}
 use Rattle.dtx_coder.specs.Stream.{last_of}
 use Rattle.dtx_exciter.specs.Order.{Order, counting_order, placed}
-use Rattle.dtx_exciter.specs.Told.{entry_of, offset_of}
 use Rattle.dtx_exciter.specs.Packets.{readings, last_answer}
 use Rattle.dtx_exciter.specs.Emission.{last_segments, emission}
 use Rattle.dtx_exciter.specs.Log.{Line, preset, line_of}
@@ -52,23 +51,19 @@ before_stretch address delay earlier feed mark k =
 unfoldable pub orders_in : List (List ℕ) → ℕ → ℕ → List Order
 orders_in feed k end = filter_map (λ g. placed g (counting_order (readings feed) g)) (range_with_len k (end - 3 - k))
 
--- the offset of a transmitter under an order, and the moment that the order sets there for its group's first data
--- segment
-abbrev pub offset_at : ℕ → Order → ℤ
-offset_at address order = offset_of (entry_of address order.ops)
-
-abbrev pub order_moment : ℕ → Order → Moment
-order_moment address order = moment_of order.ops.stamp order.ops.max_delay (offset_at address order) (order.place % 624)
+-- the moment that an order sets for its group's first data segment, where this offset is in force
+abbrev pub order_moment : ℤ → Order → Moment
+order_moment offset order = moment_of order.ops.stamp order.ops.max_delay offset (order.place % 624)
 
 -- the line of an order in a stretch that begins with packet k, whose data segment is segment s of what is given
-abbrev pub preset_line : ℕ → ℕ → ℕ → Order → Line
-preset_line address s k order =
+abbrev pub preset_line : ℤ → ℕ → ℕ → Order → Line
+preset_line offset s k order =
     preset (s + (segment_place order.place - segment_place k)) order.ops.frame (order.place % 624)
-    (order_moment address order).tick (order_moment address order).grain
+    (order_moment offset order).tick (order_moment offset order).grain
 
 -- the lines of a stretch: one for each order in it, and no other
-unfoldable pub stretch_lines : ℕ → ℕ → List (List ℕ) → ℕ → ℕ → List Line
-stretch_lines address s feed k end = map (preset_line address s k) (orders_in feed k end)
+unfoldable pub stretch_lines : ℤ → ℕ → List (List ℕ) → ℕ → ℕ → List Line
+stretch_lines offset s feed k end = map (preset_line offset s k) (orders_in feed k end)
 
 -- Two lines are presets of one packet of one frame, and their moments differ by so many ticks of 1,539 grains and some
 -- whole seconds.
@@ -77,10 +72,8 @@ IsApart ticks (preset s f p t g) (preset r e q u h) =
     (f ≡ e) × (p ≡ q) × DifferBy (t * 1539 + g) (u * 1539 + h) (ticks *ℤ pos 1539)
 IsApart ticks one other = ⊥
 
--- The lines of two transmitters go together, a pair for each of these orders, and differ by the transmitters' offsets
--- under it.
-abbrev pub AreApart : ℕ → ℕ → List Order → List Line → List Line → Type 0
-AreApart a b [] [] [] = ⊤
-AreApart a b (order ∷ orders) (x ∷ xs) (y ∷ ys) =
-    IsApart (offset_at a order -ℤ offset_at b order) x y × AreApart a b orders xs ys
-AreApart a b orders xs ys = ⊥
+-- The lines of two transmitters go together, a pair for each of these orders, and differ by so many ticks.
+abbrev pub AreApart : ℤ → List Order → List Line → List Line → Type 0
+AreApart ticks [] [] [] = ⊤
+AreApart ticks (order ∷ orders) (x ∷ xs) (y ∷ ys) = IsApart ticks x y × AreApart ticks orders xs ys
+AreApart ticks orders xs ys = ⊥

@@ -1,7 +1,8 @@
 -- What an exciter answers to a packet (the profile's own). The packets that it was given are told here by their sync
 -- bytes and by the operations fields that they read as.
-use Rattle.std.specs.Prelude.{ℕ, ◌-◌, ◌%◌, ◌==◌, Bool, true, false, not, Option, Some, None, option_map, find}
-use Rattle.std.specs.Prelude.{if◌then◌else◌, Result, Ok, Err, List, length, take, drop, ℤ, pos, negsuc, ◌+ℤ◌, ◌-ℤ◌}
+use Rattle.std.specs.Prelude.{ℕ, ◌-◌, ◌%◌, ◌==◌, Bool, true, false, Option, Some, None, option_map}
+use Rattle.std.specs.Prelude.{if◌then◌else◌, Result, Ok, Err, List, [], ◌∷◌, length, take, drop, ℤ, pos, negsuc}
+use Rattle.std.specs.Prelude.{◌+ℤ◌, ◌-ℤ◌}
 use Rattle.dtx_cadence.specs.Anchor.{anchor}
 use Rattle.dtx_clock.specs.Clock.{moment_of}
 use Rattle.dtx_ops.specs.declared.fields.Entry.{Entry}
@@ -11,52 +12,57 @@ use Rattle.dtx_exciter.specs.declared.answers.Why.TheVariants.{Cadence, Unlisted
 use Rattle.dtx_exciter.specs.declared.answers.Preset.{Preset}
 use Rattle.dtx_exciter.specs.declared.answers.Told.{Told}
 use Rattle.dtx_exciter.specs.declared.answers.Told.TheVariants.{Quiet, Sent, Muted}
-use Rattle.dtx_exciter.specs.Order.{Order, in_force}
+use Rattle.dtx_exciter.specs.Order.{Order, orders}
+use Rattle.dtx_exciter.specs.Pages.{of_one_cycle, all_pages_told, entry_in_force, offset_of}
 
--- ---- whether an order serves a transmitter
-
--- the entry of an address
-abbrev pub entry_of : ℕ → Ops → Option Entry
-entry_of address ops = find (λ e. e.address == address) ops.offsets.items
+-- ---- whether a transmitter is served
 
 -- what is left: the transmitter is late where that is negative
-abbrev pub left_of : ℤ → Result ℕ Why
+abbrev pub left_of : ℤ → Result ℕ (Option Why)
 left_of (pos n) = Ok n
-left_of (negsuc n) = Err Late
+left_of (negsuc n) = Err (Some Late)
 
--- the maximum delay and the entry's offset less the delay
-abbrev pub hold_by : ℕ → Ops → Option Entry → Result ℕ Why
-hold_by delay ops None = Err Unlisted
-hold_by delay ops (Some e) = left_of (pos ops.max_delay +ℤ e.offset -ℤ pos delay)
+-- the maximum delay and the offset of the entry in force less the delay: where there is none, the transmitter waits for
+-- its page, and is unlisted once all pages are told
+abbrev pub hold_by : ℕ → ℕ → Option Entry → Bool → Result ℕ (Option Why)
+hold_by delay most None told = Err (if told then Some Unlisted else None)
+hold_by delay most (Some e) told = left_of (pos most +ℤ e.offset -ℤ pos delay)
 
--- for how long an order holds what is sent, or why it doesn't serve the transmitter
-unfoldable pub served : ℕ → ℕ → Ops → Result ℕ Why
-served address delay ops = hold_by delay ops (entry_of address ops)
+-- for how long what is sent is held under these orders, the latest of which is in force, or why nothing is sent, where
+-- that is told
+unfoldable pub served : ℕ → ℕ → List Order → Result ℕ (Option Why)
+served address delay [] = Err None
+served address delay (order ∷ older) =
+    hold_by delay order.ops.max_delay (entry_in_force address (order ∷ older))
+    (all_pages_told (of_one_cycle (order ∷ older)))
 
 -- ---- the answer to the group's last packet
 
-abbrev pub offset_of : Option Entry → ℤ
-offset_of None = pos 0
-offset_of (Some e) = e.offset
-
--- the preset of an order at place j of its frame
-abbrev pub preset_of : ℕ → Ops → ℕ → ℕ → Preset
-preset_of address ops j hold = record {
+-- the preset of an order at place j of its frame, with the offset in force
+abbrev pub preset_of : Ops → ℤ → ℕ → ℕ → Preset
+preset_of ops offset j hold = record {
   frame = ops.frame;
   packet = j;
-  moment = moment_of ops.stamp ops.max_delay (offset_of (entry_of address ops)) j;
+  moment = moment_of ops.stamp ops.max_delay offset j;
   hold = hold;
 }
 
--- the answer at the group from i on under an order, which is the group's own where it stands there
-abbrev pub told_by : ℕ → ℕ → Order → Result ℕ Why → Told
-told_by address i order (Ok hold) =
-    Sent (if order.place == i then Some (preset_of address order.ops (i % 624) hold) else None)
-told_by address i order (Err why) = if order.place == i then Muted why else Quiet
+-- the answer at an order that doesn't serve
+abbrev pub told_why : Option Why → Told
+told_why None = Quiet
+told_why (Some why) = Muted why
 
-abbrev pub told_at : ℕ → ℕ → ℕ → Option Order → Told
-told_at address delay i None = Quiet
-told_at address delay i (Some order) = told_by address i order (served address delay order.ops)
+-- the answer at the group from i on under an order, which is the group's own where it stands there
+abbrev pub told_by : ℕ → Order → ℤ → Result ℕ (Option Why) → Told
+told_by i order offset (Ok hold) =
+    Sent (if order.place == i then Some (preset_of order.ops offset (i % 624) hold) else None)
+told_by i order offset (Err why) = if order.place == i then told_why why else Quiet
+
+-- under these orders, the latest of which is in force
+abbrev pub told_at : ℕ → ℕ → ℕ → List Order → Told
+told_at address delay i [] = Quiet
+told_at address delay i (order ∷ older) =
+    told_by i order (offset_of (entry_in_force address (order ∷ older))) (served address delay (order ∷ older))
 
 -- ---- the answer to any packet
 
@@ -64,18 +70,17 @@ told_at address delay i (Some order) = told_by address i order (served address d
 abbrev pub told_under : ℕ → ℕ → Option (List (Option Ops)) → Told
 told_under address delay None = Quiet
 told_under address delay (Some said) =
-    if length said % 4 == 0 then told_at address delay (length said - 4) (in_force said (length said - 4)) else Quiet
+    if length said % 4 == 0 then told_at address delay (length said - 4) (orders said (length said - 4)) else Quiet
 
--- whether there was an anchor and it isn't the anchor now
-abbrev pub has_moved : Option ℕ → Option ℕ → Bool
-has_moved None now = false
-has_moved (Some a) None = true
-has_moved (Some a) (Some b) = not (a == b)
+-- whether there was an anchor and there is none now
+abbrev pub was_lost : Option ℕ → Option ℕ → Bool
+was_lost (Some a) None = true
+was_lost before now = false
 
 -- the answer by the anchors before and at the last packet
 abbrev pub told_from : ℕ → ℕ → Option ℕ → Option ℕ → List (Option Ops) → Told
 told_from address delay before now said =
-    if has_moved before now then Muted Cadence else told_under address delay (option_map (λ a. drop a said) now)
+    if was_lost before now then Muted Cadence else told_under address delay (option_map (λ a. drop a said) now)
 
 -- the answer to the last packet of those with these sync bytes, which read as these fields
 unfoldable pub told_of : ℕ → ℕ → List ℕ → List (Option Ops) → Told

@@ -1,18 +1,17 @@
 -- The packets from the anchor on, over one packet more.
-use Rattle.std.proofs.Common.{◌≡◌, ℕ, ◌-◌, ◌%◌, ◌<◌, ◌==◌, Bool, true, false, not, cond, Option, Some, None, option_map}
+use Rattle.std.proofs.Common.{◌≡◌, ℕ, ◌-◌, ◌%◌, ◌<◌, ◌==◌, Bool, true, false, cond, Option, Some, None, option_map}
 use Rattle.std.proofs.Common.{List, [], ◌∷◌, ◌++◌, length, drop, take, refl, sym, ap, ap₂, subst, ◌∙◌, arith}
-use Rattle.std.proofs.lemmas.Bool.{cond-true, cond-false, eq-eqb, ne_eqb}
 use Rattle.std.proofs.lemmas.List.{length_push, length-drop, map-append, length-map, drop_at, drop-append-le, drop-map}
 use Rattle.std.proofs.lemmas.List.{take_at}
 use Rattle.dtx_packets.specs.Packet.{sync_of}
 use Rattle.dtx_cadence.specs.declared.anchor.Seen.{Seen}
-use Rattle.dtx_cadence.specs.declared.anchor.Seen.TheVariants.{Free, Start, Moved, Lost, At}
-use Rattle.dtx_cadence.specs.Anchor.{anchor, seen_by, seen, in_step}
-use Rattle.dtx_cadence.specs.NextAnchorLaws.{new_anchor, anchor_free, anchor_next, anchor_below}
+use Rattle.dtx_cadence.specs.declared.anchor.Seen.TheVariants.{Free, Start, Lost, At}
+use Rattle.dtx_cadence.specs.Anchor.{anchor, seen_by, seen}
+use Rattle.dtx_cadence.specs.NextAnchorLaws.{new_anchor, ends_with, anchor_free, anchor_next, anchor_below}
 use Rattle.dtx_exciter.specs.declared.answers.Why.TheVariants.{Cadence}
 use Rattle.dtx_exciter.specs.declared.answers.Told.{Told}
 use Rattle.dtx_exciter.specs.declared.answers.Told.TheVariants.{Quiet, Muted}
-use Rattle.dtx_exciter.specs.Told.{has_moved, told_under, told_from, told_of}
+use Rattle.dtx_exciter.specs.Told.{was_lost, told_under, told_from, told_of}
 use Rattle.dtx_exciter.specs.Packets.{syncs, reads, readings, anchor_of, under, last_answer}
 
 -- ---- lists one packet longer
@@ -43,7 +42,6 @@ said_drop n d = drop-map reads n d
 abbrev pub Follows : Seen → List ℕ → Option (List (List ℕ)) → Option (List (List ℕ)) → Type 0
 Follows Free p before now = now ≡ None
 Follows Start p before now = now ≡ Some (p ∷ [])
-Follows Moved p before now = now ≡ Some (p ∷ [])
 Follows Lost p before now = now ≡ None
 Follows (At place) p before now = (l : List (List ℕ)) × (before ≡ Some l) × (now ≡ Some (l ++ p ∷ []))
     × (place ≡ length l % 624)
@@ -52,7 +50,6 @@ Follows (At place) p before now = (l : List (List ℕ)) × (before ≡ Some l) �
 abbrev pub told_seen : ℕ → ℕ → Seen → Option (List (List ℕ)) → Told
 told_seen address delay Free now = Quiet
 told_seen address delay Start now = Quiet
-told_seen address delay Moved now = Muted Cadence
 told_seen address delay Lost now = Muted Cadence
 told_seen address delay (At place) now = told_under address delay (option_map readings now)
 
@@ -76,13 +73,13 @@ said_rest d (Some a) = ap Some (said_drop a d)
 
 told_by_anchors : (address delay : ℕ) (d : List (List ℕ)) (p : List ℕ) (before now : Option ℕ) → anchor_of d ≡ before
     → anchor_of (d ++ p ∷ []) ≡ now
-    → last_answer address delay (d ++ p ∷ []) ≡ cond (has_moved before now) (Muted Cadence)
+    → last_answer address delay (d ++ p ∷ []) ≡ cond (was_lost before now) (Muted Cadence)
     (told_under address delay (option_map readings (rest (d ++ p ∷ []) now)))
 unfolding last_answer told_of anchor_of
 told_by_anchors address delay d p before now b n =
     ap (λ s. told_from address delay (anchor s) (anchor (syncs (d ++ p ∷ []))) (readings (d ++ p ∷ []))) front
     ∙ ap₂ (λ x y. told_from address delay x y (readings (d ++ p ∷ []))) b n
-    ∙ ap (λ o. cond (has_moved before now) (Muted Cadence) (told_under address delay o)) (said_rest (d ++ p ∷ []) now)
+    ∙ ap (λ o. cond (was_lost before now) (Muted Cadence) (told_under address delay o)) (said_rest (d ++ p ∷ []) now)
   where
     shorter : length (syncs (d ++ p ∷ [])) - 1 ≡ length (syncs d)
     shorter = omega (arith, ap length (syncs_push d p), length_push (syncs d) (sync_of p))
@@ -127,17 +124,6 @@ goes_new address delay d p false h e = record {
       ∙ ap (λ o. told_under address delay (option_map readings o)) (nothing (d ++ p ∷ []));
 }
 
-goes_moved : (address delay : ℕ) (d : List (List ℕ)) (p : List ℕ) (j : ℕ) → j < length d → anchor_of d ≡ Some j
-    → anchor_of (d ++ p ∷ []) ≡ Some (length d) → Goes address delay d p Moved
-goes_moved address delay d p j l h e = record {
-  follows = under_by (d ++ p ∷ []) (Some (length d)) e ∙ single d p;
-  answer =
-      told_by_anchors address delay d p (Some j) (Some (length d)) h e
-      ∙ cond-true (has_moved (Some j) (Some (length d))) (Muted Cadence)
-      (told_under address delay (option_map readings (rest (d ++ p ∷ []) (Some (length d)))))
-      (ap not (ne_eqb j (length d) (omega arith)));
-}
-
 pub goes_on : (address delay : ℕ) (d : List (List ℕ)) (p : List ℕ) (j : ℕ) → j < length d → anchor_of d ≡ Some j
     → anchor_of (d ++ p ∷ []) ≡ Some j → Goes address delay d p (At ((length d - j) % 624))
 goes_on address delay d p j l h e = record {
@@ -150,29 +136,21 @@ goes_on address delay d p j l h e = record {
   );
   answer =
       told_by_anchors address delay d p (Some j) (Some j) h e
-      ∙ cond-false (has_moved (Some j) (Some j)) (Muted Cadence)
-      (told_under address delay (option_map readings (rest (d ++ p ∷ []) (Some j)))) (ap not (eq-eqb j j refl))
       ∙ ap (λ o. told_under address delay (option_map readings o)) (sym (under_by (d ++ p ∷ []) (Some j) e));
 }
 
-goes_changed : (address delay : ℕ) (d : List (List ℕ)) (p : List ℕ) (j : ℕ) (b : Bool) → j < length d
-    → anchor_of d ≡ Some j → anchor_of (d ++ p ∷ []) ≡ cond b (Some (length d)) None
-    → Goes address delay d p (seen_by (length d) (Some j) (cond b (Some (length d)) None))
-goes_changed address delay d p j true l h e =
-    subst (Goes address delay d p) (sym (cond-false (j == length d) (At ((length d - length d) % 624)) Moved
-    (ne_eqb j (length d) (omega arith)))) (goes_moved address delay d p j l h e)
-goes_changed address delay d p j false l h e = record {
+goes_lost : (address delay : ℕ) (d : List (List ℕ)) (p : List ℕ) (j : ℕ) → anchor_of d ≡ Some j
+    → anchor_of (d ++ p ∷ []) ≡ None → Goes address delay d p Lost
+goes_lost address delay d p j h e = record {
   follows = under_by (d ++ p ∷ []) None e ∙ nothing (d ++ p ∷ []);
   answer = told_by_anchors address delay d p (Some j) None h e;
 }
 
-goes_by_test : (address delay : ℕ) (d : List (List ℕ)) (p : List ℕ) (j : ℕ) (b t : Bool) → j < length d
-    → anchor_of d ≡ Some j → anchor_of (d ++ p ∷ []) ≡ cond t (Some j) (cond b (Some (length d)) None)
-    → Goes address delay d p (seen_by (length d) (Some j) (cond t (Some j) (cond b (Some (length d)) None)))
-goes_by_test address delay d p j b true l h e =
-    subst (Goes address delay d p) (sym (cond-true (j == j) (At ((length d - j) % 624)) Moved (eq-eqb j j refl)))
-    (goes_on address delay d p j l h e)
-goes_by_test address delay d p j b false l h e = goes_changed address delay d p j b l h e
+goes_by_test : (address delay : ℕ) (d : List (List ℕ)) (p : List ℕ) (j : ℕ) (t : Bool) → j < length d
+    → anchor_of d ≡ Some j → anchor_of (d ++ p ∷ []) ≡ cond t None (Some j)
+    → Goes address delay d p (seen_by (length d) (Some j) (cond t None (Some j)))
+goes_by_test address delay d p j true l h e = goes_lost address delay d p j h e
+goes_by_test address delay d p j false l h e = goes_on address delay d p j l h e
 
 -- the anchor, of packets
 anchor_with : (d : List (List ℕ)) (p : List ℕ) → anchor_of (d ++ p ∷ []) ≡ anchor (syncs d ++ sync_of p ∷ [])
@@ -207,10 +185,7 @@ goes address delay d p = by_anchor (anchor (syncs d)) refl
         subst (Goes address delay d p) (sym (seen_is d p None (cond (sync_of p == 0xB8) (Some (length d)) None) h e))
         (goes_new address delay d p (sync_of p == 0xB8) (anchor_is d None h) (anchor_with d p ∙ e))
     by_anchor (Some j) h =
-        let t : Bool = in_step (sync_of p) (length (syncs d) - j) in
-        let e : anchor (syncs d ++ sync_of p ∷ []) ≡ cond t (Some j) (cond (sync_of p == 0xB8) (Some (length d)) None) =
-        anchor_next (syncs d) (sync_of p) j h t refl ∙ ap (cond t (Some j)) (new_anchor_is d p) in
-        subst (Goes address delay d p)
-        (sym (seen_is d p (Some j) (cond t (Some j) (cond (sync_of p == 0xB8) (Some (length d)) None)) h e))
-        (goes_by_test address delay d p j (sync_of p == 0xB8) t (below j h) (anchor_is d (Some j) h) (anchor_with d p
-        ∙ e))
+        let t : Bool = ends_with (syncs d) (sync_of p) j in
+        let e : anchor (syncs d ++ sync_of p ∷ []) ≡ cond t None (Some j) = anchor_next (syncs d) (sync_of p) j h in
+        subst (Goes address delay d p) (sym (seen_is d p (Some j) (cond t None (Some j)) h e))
+        (goes_by_test address delay d p j t (below j h) (anchor_is d (Some j) h) (anchor_with d p ∙ e))

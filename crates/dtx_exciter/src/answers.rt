@@ -4,11 +4,11 @@ use dtx_clock::Moment;
 /// Why a group isn't sent, where that is told.
 #[derive(Clone, Copy, Debug, PartialEq, Eq)]
 pub enum Why {
-    /// The anchor has moved or is lost.
+    /// The anchor is lost: two marks that were due in a row are missing.
     Cadence,
-    /// The order doesn't list the transmitter's address.
+    /// The transmitter's address has no entry in force, and each page of the network's transmitters was told.
     Unlisted,
-    /// The transmitter's delay is greater than the order's maximum delay plus its offset.
+    /// The transmitter's delay is greater than the order's maximum delay plus the offset in force.
     Late,
 }
 

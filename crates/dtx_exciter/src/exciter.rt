@@ -8,7 +8,8 @@ ghost use Rattle.dtx_exciter.specs.Kept.{StandsFor, KeepsUnder, IsTaken, Joins};
 
 use crate::answers::{Told, Why};
 use crate::orders::{Corrector, order_in};
-use crate::serving::{preset_of, served};
+use crate::pages::Pages;
+use crate::serving::{preset_of, served, told_why};
 use dtx_cadence::{Anchor, Seen};
 use dtx_coder::{Air, Coder};
 use dtx_ops::Ops;
@@ -27,6 +28,7 @@ pub struct Exciter {
     anchor: Anchor,
     flushed: bool,
     sent: bool,
+    pages: Pages,
     packets: [Packet; GROUP_PACKETS],
     coder: Coder,
 }
@@ -44,6 +46,7 @@ impl Exciter {
             anchor: Anchor::new(),
             flushed: false,
             sent: false,
+            pages: Pages::new(0),
             packets: [Packet([0; PACKET]); GROUP_PACKETS],
             coder: Coder::new(alloc)?,
         })
@@ -63,10 +66,6 @@ impl Exciter {
             Seen::Start => {
                 self.begin(packet);
                 Told::Quiet
-            }
-            Seen::Moved => {
-                self.begin(packet);
-                Told::Muted(Why::Cadence)
             }
             Seen::At(place) => self.join(place, packet, air),
         }
@@ -90,6 +89,7 @@ impl Exciter {
         self.packets[0] = *packet;
         self.flushed = false;
         self.sent = false;
+        self.pages = Pages::new(0);
     }
 
     /// The packet stands at this place of its frame.
@@ -115,6 +115,7 @@ impl Exciter {
         ensures { IsSent first self.old self.new result air.new.segments air.new.symbols }
     {
         let order = self.order(first);
+        self.pages.see(self.address, &order);
         let told = self.answer(first, &order);
         let sent = is_sent(told);
         let sync = begins_with_sync(first, self.sent, sent);
@@ -149,14 +150,14 @@ impl Exciter {
     fn answer(&self, first: u16, order: &Option<Ops>) -> Told
         requires place { first < 624 }
         requires valid { IfSome order.now IsValid }
-        ensures { result ≡ told_group self.now.address self.now.delay first order.now self.now.sent }
+        ensures { result ≡ told_group self.now.delay first order.now self.now.pages self.now.sent }
     {
         match order {
-            Some(ops) => match served(self.address, self.delay, ops) {
+            Some(ops) => match served(self.delay, ops.max_delay, &self.pages) {
                 Ok(hold) => Told::Sent {
-                    preset: Some(preset_of(self.address, ops, first, hold)),
+                    preset: Some(preset_of(ops, &self.pages, first, hold)),
                 },
-                Err(why) => Told::Muted(why),
+                Err(why) => told_why(why),
             },
             None if self.sent => Told::Sent { preset: None },
             None => Told::Quiet,

@@ -1,31 +1,49 @@
 //! Laws of the definitions.
 
-ghost use Rattle.std.specs.Prelude.{◌≡◌, ℕ, ℤ, ◌+◌, ◌-◌, ◌*◌, ◌%◌, ◌≤◌, ◌==◌, ◌&&◌, ◌∷◌, ◌++◌, true, false, Some};
-ghost use Rattle.std.specs.Prelude.{if◌then◌else◌, List, [], length, map, drop, slice_range};
+ghost use Rattle.std.specs.Prelude.{◌≡◌, ◌↔◌, ℕ, ℤ, ◌+◌, ◌-◌, ◌-ℤ◌, ◌*◌, ◌%◌, ◌<◌, ◌≤◌, ◌==◌, ◌&&◌, true, false};
+ghost use Rattle.std.specs.Prelude.{if◌then◌else◌, Option, Some, None, List, [], ◌∷◌, ◌++◌, length, map, drop};
+ghost use Rattle.std.specs.Prelude.{slice_range, slice_set, slice_index_or, take};
+ghost use Rattle.dtx_cadence.specs.Cadence.{AreAlike, AreAlikeWhereDue, HasMarksRound};
 ghost use Rattle.dtx_ops.specs.declared.fields.Ops.{Ops};
-ghost use Rattle.dtx_exciter.specs.Order.{counting_order};
-ghost use Rattle.dtx_exciter.specs.Packets.{readings, under, last_answer, group_part};
-ghost use Rattle.dtx_exciter.specs.Told.{is_sent};
+ghost use Rattle.dtx_exciter.specs.Order.{Order, counting_order, orders};
+ghost use Rattle.dtx_exciter.specs.Pages.{pages, of_one_cycle, all_pages_told, entry_in_force, WasTold};
+ghost use Rattle.dtx_exciter.specs.declared.answers.Why.TheVariants.{Unlisted};
+ghost use Rattle.dtx_exciter.specs.declared.answers.Told.TheVariants.{Quiet, Muted};
+ghost use Rattle.dtx_exciter.specs.Packets.{syncs, anchor_of, readings, under, last_answer, group_part};
+ghost use Rattle.dtx_exciter.specs.Told.{told_at, is_sent};
 ghost use Rattle.dtx_exciter.specs.Emission.{was_sent, last_segments, emission};
-ghost use Rattle.dtx_exciter.specs.Lockstep.{IsFeed, IsStretch, stretch};
+ghost use Rattle.dtx_exciter.specs.Lockstep.{IsFeed, locked_from, HasLock, IsStretch, stretch};
+ghost use Rattle.dtx_exciter.specs.SentAlike.{bodies, AreSentAlike};
 ghost use Rattle.dtx_exciter.specs.Log.{preset, life_lines, log, restarted_lines, restarting_lines, emission_over};
 ghost use Rattle.dtx_exciter.specs.Stretch.{emission_behind, lines_behind, sync_behind, before_stretch, order_moment};
 ghost use Rattle.dtx_exciter.specs.Stretch.{preset_line, orders_in, stretch_lines, AreApart};
 
 // ---- one life
 
-/// An exciter that is given a feed unchanged from one of its marks on, whatever it was given before, gives from the
-/// first data segment of each order's group on that begins 52 or more packets behind the mark just the feed's own
-/// segments, in a row and with nothing between, up to the last group that ends before the packets that are given then.
-/// What it gives before them is what it gives before the last packet of that group, and then at most one field sync, in
-/// front of the group.
+/// From which packet on an exciter is locked to a feed that it is given unchanged from one of its marks on. That is the
+/// mark in a new life, and never later than the third mark, whatever the exciter was given before: a lock out of step
+/// is lost before it. From there on one anchor holds, in step with the feed.
+pub fn locked()
+    ensures anew { (mark : ℕ) → locked_from [] mark ≡ mark }
+    ensures soon { (earlier : List (List ℕ)) (mark : ℕ)
+        → (mark ≤ locked_from earlier mark) × (locked_from earlier mark ≤ mark + 1248) }
+    ensures lock { (address delay : ℕ) (offset : ℤ) (feed earlier : List (List ℕ)) (mark : ℕ)
+        → IsFeed address delay offset feed → mark % 624 ≡ 0 → locked_from earlier mark < length feed
+        → HasLock earlier feed mark (locked_from earlier mark) }
+{}
+
+/// An exciter that is given a feed unchanged from one of its marks on gives, from any order on that lists it and whose
+/// group begins 52 or more packets behind the place from which it is locked, just the feed's own segments, from the
+/// first data segment of that group on, in a row and with nothing between, up to the last group that ends before the
+/// packets that are given then. What it gives before them is what it gives before the last packet of that group, and
+/// then at most one field sync, in front of the group.
 pub fn lockstep()
-    ensures exact { (address delay : ℕ) (feed earlier : List (List ℕ)) (mark end k : ℕ) → IsFeed address delay feed
-        → IsStretch feed mark end k
+    ensures exact { (address delay : ℕ) (offset : ℤ) (feed earlier : List (List ℕ)) (mark end k : ℕ)
+        → IsFeed address delay offset feed → IsStretch address feed (locked_from earlier mark) mark end k
         → emission address delay (earlier ++ slice_range feed mark end)
         ≡ before_stretch address delay earlier feed mark k ++ stretch feed k end }
-    ensures behind { (address delay : ℕ) (feed earlier later : List (List ℕ)) (mark end k : ℕ)
-        → IsFeed address delay feed → IsStretch feed mark end k
+    ensures behind { (address delay : ℕ) (offset : ℤ) (feed earlier later : List (List ℕ)) (mark end k : ℕ)
+        → IsFeed address delay offset feed → IsStretch address feed (locked_from earlier mark) mark end k
         → emission address delay (earlier ++ (slice_range feed mark end ++ later))
         ≡ before_stretch address delay earlier feed mark k
         ++ (stretch feed k end ++ emission_behind address delay (earlier ++ slice_range feed mark end) later) }
@@ -45,27 +63,27 @@ pub fn counts()
 /// for each order of the stretch and no other, which speaks of the group's first data segment and has the order's
 /// moment there.
 pub fn lines()
-    ensures exact { (address delay n : ℕ) (feed earlier : List (List ℕ)) (mark end k : ℕ) → IsFeed address delay feed
-        → IsStretch feed mark end k
+    ensures exact { (address delay n : ℕ) (offset : ℤ) (feed earlier : List (List ℕ)) (mark end k : ℕ)
+        → IsFeed address delay offset feed → IsStretch address feed (locked_from earlier mark) mark end k
         → life_lines address delay n (earlier ++ slice_range feed mark end)
         ≡ life_lines address delay n (earlier ++ slice_range feed mark (k + 3))
-        ++ stretch_lines address (n + length (before_stretch address delay earlier feed mark k)) feed k end }
-    ensures behind { (address delay n : ℕ) (feed earlier later : List (List ℕ)) (mark end k : ℕ)
-        → IsFeed address delay feed → IsStretch feed mark end k
+        ++ stretch_lines offset (n + length (before_stretch address delay earlier feed mark k)) feed k end }
+    ensures behind { (address delay n : ℕ) (offset : ℤ) (feed earlier later : List (List ℕ)) (mark end k : ℕ)
+        → IsFeed address delay offset feed → IsStretch address feed (locked_from earlier mark) mark end k
         → life_lines address delay n (earlier ++ (slice_range feed mark end ++ later))
         ≡ life_lines address delay n (earlier ++ slice_range feed mark (k + 3))
-        ++ (stretch_lines address (n + length (before_stretch address delay earlier feed mark k)) feed k end
+        ++ (stretch_lines offset (n + length (before_stretch address delay earlier feed mark k)) feed k end
         ++ lines_behind address delay n (earlier ++ slice_range feed mark end) later) }
 {}
 
 /// The first line of a stretch is that of its first group, and speaks of the stretch's first segment.
 pub fn first_line()
-    ensures { (address s : ℕ) (feed : List (List ℕ)) (end k : ℕ) (ops : Ops) → k + 4 ≤ end
+    ensures { (offset : ℤ) (s : ℕ) (feed : List (List ℕ)) (end k : ℕ) (ops : Ops) → k + 4 ≤ end
         → counting_order (readings feed) k ≡ Some ops
-        → stretch_lines address s feed k end
-        ≡ preset s ops.frame (k % 624) (order_moment address (record { place = k; ops = ops })).tick
-        (order_moment address (record { place = k; ops = ops })).grain
-        ∷ map (preset_line address s k) (orders_in feed (k + 1) end) }
+        → stretch_lines offset s feed k end
+        ≡ preset s ops.frame (k % 624) (order_moment offset (record { place = k; ops = ops })).tick
+        (order_moment offset (record { place = k; ops = ops })).grain
+        ∷ map (preset_line offset s k) (orders_in feed (k + 1) end) }
 {}
 
 /// How many segments a packet gives: none where its answer isn't that its group is sent, and else the group's four, and
@@ -107,20 +125,68 @@ pub fn lines_go_on()
         ++ lines_behind address delay n packets more }
 {}
 
+// ---- sync bytes
+
+/// A sync byte tells an exciter of marks alone: packets that differ in their sync bytes alone, and have the same anchor
+/// behind each packet, have the same answers, segments and lines.
+pub fn sync_bytes_are_not_sent()
+    ensures answers { (address delay n : ℕ) (xs ys : List (List ℕ)) → AreSentAlike xs ys → n ≤ length xs
+        → last_answer address delay (take n xs) ≡ last_answer address delay (take n ys) }
+    ensures segments { (address delay : ℕ) (xs ys : List (List ℕ)) → AreSentAlike xs ys
+        → emission address delay xs ≡ emission address delay ys }
+    ensures lines { (address delay n : ℕ) (xs ys : List (List ℕ)) → AreSentAlike xs ys
+        → life_lines address delay n xs ≡ life_lines address delay n ys }
+{}
+
+/// One missing mark changes nothing: under an anchor, the sync byte of a packet may be any, where there are marks 624
+/// packets before it and behind it.
+pub fn one_missing_mark()
+    ensures { (packets : List (List ℕ)) (packet : List ℕ) (i j : ℕ) → anchor_of (take i packets) ≡ Some j
+        → i < length packets → HasMarksRound (syncs packets) i → drop 1 packet ≡ drop 1 (slice_index_or packets i [])
+        → AreSentAlike packets (slice_set packets i packet) }
+{}
+
+/// Any number of stray marks change nothing under an anchor: packets that differ in their sync bytes alone, and have
+/// the same marks up to the anchor and where marks are due.
+pub fn stray_marks()
+    ensures { (xs ys : List (List ℕ)) (j : ℕ) → bodies xs ≡ bodies ys → anchor_of xs ≡ Some j
+        → AreAlike (syncs xs) (syncs ys) (j + 1) → AreAlikeWhereDue (syncs xs) (syncs ys) j → AreSentAlike xs ys }
+{}
+
 // ---- two transmitters
 
 /// Two transmitters that are given a feed from a mark of it on, each behind packets of its own, give the same segments
-/// in the stretch, and for each order there a line of the same frame and packet; the two lines' moments differ by the
-/// difference of their offsets under the order, in ticks of 1539 grains, and otherwise by whole seconds.
+/// in a stretch that begins with an order that lists both, and for each order there a line of the same frame and
+/// packet; the two lines' moments differ by the difference of the two offsets, in ticks of 1539 grains, and otherwise
+/// by whole seconds.
 pub fn same_everywhere()
-    ensures segments { (a b delay_a delay_b : ℕ) (feed earlier_a earlier_b : List (List ℕ)) (mark_a mark_b end k : ℕ)
-        → IsFeed a delay_a feed → IsFeed b delay_b feed → IsStretch feed mark_a end k → IsStretch feed mark_b end k
+    ensures segments { (a b delay_a delay_b : ℕ) (offset_a offset_b : ℤ) (feed earlier_a earlier_b : List (List ℕ))
+        (mark_a mark_b end k : ℕ) → IsFeed a delay_a offset_a feed → IsFeed b delay_b offset_b feed
+        → IsStretch a feed (locked_from earlier_a mark_a) mark_a end k
+        → IsStretch b feed (locked_from earlier_b mark_b) mark_b end k
         → drop (length (before_stretch a delay_a earlier_a feed mark_a k))
         (emission a delay_a (earlier_a ++ slice_range feed mark_a end))
         ≡ drop (length (before_stretch b delay_b earlier_b feed mark_b k))
         (emission b delay_b (earlier_b ++ slice_range feed mark_b end)) }
-    ensures moments { (a b s r : ℕ) (feed : List (List ℕ)) (end k : ℕ)
-        → AreApart a b (orders_in feed k end) (stretch_lines a s feed k end) (stretch_lines b r feed k end) }
+    ensures moments { (offset_a offset_b : ℤ) (s r : ℕ) (feed : List (List ℕ)) (end k : ℕ)
+        → AreApart (offset_a -ℤ offset_b) (orders_in feed k end) (stretch_lines offset_a s feed k end)
+        (stretch_lines offset_b r feed k end) }
+{}
+
+// ---- several pages
+
+/// A transmitter without an entry in force is told so at an order exactly where all pages were told; else nothing is
+/// answered there, and it waits for its page. All are told exactly where, for each of the order in force's pages, some
+/// order tells it and each one from there on has this number of pages.
+pub fn pages()
+    ensures answer { (address delay : ℕ) (order : Order) (older : List Order)
+        → entry_in_force address (order ∷ older) ≡ None
+        → told_at address delay order.place (order ∷ older)
+        ≡ (if all_pages_told (of_one_cycle (order ∷ older)) then Muted Unlisted else Quiet) }
+    ensures told { (said : List (Option Ops)) (i : ℕ) (order : Order) (older : List Order)
+        → orders said i ≡ order ∷ older
+        → (all_pages_told (of_one_cycle (order ∷ older)) ≡ true)
+        ↔ ((k : ℕ) → k < pages order → WasTold said i (pages order) k) }
 {}
 
 // ---- several lives
@@ -143,18 +209,20 @@ pub fn in_lives()
 /// Lockstep in one of several lives: all that the transmitter sends, and its whole log, with the stretch and its lines
 /// in them.
 pub fn lockstep_in_lives()
-    ensures segments { (address delay : ℕ) (feed earlier later : List (List ℕ)) (xs ys : List (List (List ℕ)))
-        (mark end k : ℕ) → IsFeed address delay feed → IsStretch feed mark end k
+    ensures segments { (address delay : ℕ) (offset : ℤ) (feed earlier later : List (List ℕ))
+        (xs ys : List (List (List ℕ))) (mark end k : ℕ) → IsFeed address delay offset feed
+        → IsStretch address feed (locked_from earlier mark) mark end k
         → emission_over address delay (xs ++ (earlier ++ (slice_range feed mark end ++ later)) ∷ ys)
         ≡ (emission_over address delay xs ++ before_stretch address delay earlier feed mark k)
         ++ (stretch feed k end ++ (emission_behind address delay (earlier ++ slice_range feed mark end) later
         ++ emission_over address delay ys)) }
-    ensures lines { (address delay n : ℕ) (feed earlier later : List (List ℕ)) (xs ys : List (List (List ℕ)))
-        (mark end k : ℕ) → IsFeed address delay feed → IsStretch feed mark end k
+    ensures lines { (address delay n : ℕ) (offset : ℤ) (feed earlier later : List (List ℕ))
+        (xs ys : List (List (List ℕ))) (mark end k : ℕ) → IsFeed address delay offset feed
+        → IsStretch address feed (locked_from earlier mark) mark end k
         → let s : ℕ = n + length (emission_over address delay xs) in
         log address delay n (xs ++ (earlier ++ (slice_range feed mark end ++ later)) ∷ ys)
         ≡ (restarted_lines address delay n xs ++ life_lines address delay s (earlier ++ slice_range feed mark (k + 3)))
-        ++ (stretch_lines address (s + length (before_stretch address delay earlier feed mark k)) feed k end
+        ++ (stretch_lines offset (s + length (before_stretch address delay earlier feed mark k)) feed k end
         ++ (lines_behind address delay s (earlier ++ slice_range feed mark end) later
         ++ restarting_lines address delay (s + length
         (emission address delay (earlier ++ (slice_range feed mark end ++ later)))) ys)) }

@@ -5,6 +5,7 @@ mod answers;
 mod exciter;
 pub mod laws;
 mod orders;
+mod pages;
 mod serving;
 
 pub use answers::{Preset, Told, Why};

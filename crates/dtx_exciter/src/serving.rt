@@ -1,30 +1,35 @@
-// Whether an order serves a transmitter, and what it sets there.
-ghost use Rattle.std.specs.Prelude.{◌≡◌, ◌<◌, pos, ◌+ℤ◌, ◌-ℤ◌};
+// Whether a transmitter is served under an order, and what the order sets there.
+ghost use Rattle.std.specs.Prelude.{◌≡◌, ◌<◌, pos, ◌+ℤ◌, ◌-ℤ◌, option_map};
 ghost use Rattle.dtx_ops.specs.Spelling.{IsValid};
-ghost use Rattle.dtx_exciter.specs.Told.{entry_of, left_of, preset_of, served};
+ghost use Rattle.dtx_exciter.specs.Pages.{offset_of};
+ghost use Rattle.dtx_exciter.specs.Told.{left_of, preset_of, told_why};
+ghost use Rattle.dtx_exciter.specs.Step.{served_by};
 
-use crate::answers::{Preset, Why};
+use crate::answers::{Preset, Told, Why};
+use crate::pages::Pages;
 use dtx_clock::{hold, moment};
 use dtx_ops::{Entry, Ops};
 
-/// For how many ticks an order holds what a transmitter sends, or why it doesn't serve the transmitter.
-pub(crate) fn served(address: u16, delay: u32, ops: &Ops) -> Result<u32, Why>
-    requires { IsValid ops.now }
-    ensures { result ≡ served address delay ops.now }
+/// For how many ticks what is sent is held under an order of this maximum delay, or why nothing is sent: `Err(None)`
+/// where the transmitter waits for its page.
+pub(crate) fn served(delay: u32, max_delay: u32, pages: &Pages) -> Result<u32, Option<Why>>
+    requires { max_delay < 10000000 }
+    ensures { result ≡ served_by delay max_delay pages.now }
 {
-    match entry_of(address, ops) {
-        Some(entry) => hold_left(delay, ops.max_delay, entry),
-        None => Err(Why::Unlisted),
+    match pages.entry() {
+        Some(entry) => hold_left(delay, max_delay, entry),
+        None if pages.all_told() => Err(Some(Why::Unlisted)),
+        None => Err(None),
     }
 }
 
 /// What an order sets at a group that begins at this place of its frame.
-pub(crate) fn preset_of(address: u16, ops: &Ops, place: u16, hold: u32) -> Preset
+pub(crate) fn preset_of(ops: &Ops, pages: &Pages, place: u16, hold: u32) -> Preset
     requires valid { IsValid ops.now }
     requires place { place < 624 }
-    ensures { result ≡ preset_of address ops.now place hold }
+    ensures { result ≡ preset_of ops.now (offset_of (option_map (λ h. h.entry) pages.now.held)) place hold }
 {
-    let offset = match entry_of(address, ops) {
+    let offset = match pages.entry() {
         Some(entry) => entry.offset,
         None => 0,
     };
@@ -36,24 +41,22 @@ pub(crate) fn preset_of(address: u16, ops: &Ops, place: u16, hold: u32) -> Prese
     }
 }
 
-fn hold_left(delay: u32, max_delay: u32, entry: Entry) -> Result<u32, Why>
+/// The answer at an order that doesn't serve.
+pub(crate) fn told_why(why: Option<Why>) -> Told
+    ensures { result ≡ told_why why }
+{
+    match why {
+        Some(why) => Told::Muted(why),
+        None => Told::Quiet,
+    }
+}
+
+fn hold_left(delay: u32, max_delay: u32, entry: Entry) -> Result<u32, Option<Why>>
     requires { max_delay < 10000000 }
     ensures { result ≡ left_of (pos max_delay +ℤ entry.offset -ℤ pos delay) }
 {
     match hold(max_delay, entry.offset, delay) {
         Ok(left) => Ok(left),
-        Err(_) => Err(Why::Late),
+        Err(_) => Err(Some(Why::Late)),
     }
-}
-
-/// The entry of an address.
-fn entry_of(address: u16, ops: &Ops) -> Option<Entry>
-    ensures { result ≡ entry_of address ops.now }
-{
-    for entry in ops.offsets.as_slice() {
-        if entry.address == address {
-            return Some(*entry);
-        }
-    }
-    None
 }

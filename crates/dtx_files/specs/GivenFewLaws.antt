@@ -7,14 +7,14 @@ use Rattle.dtx_coder.specs.Along.{levels_since}
 use Rattle.dtx_coder.specs.Stream.{segment, four_segments}
 use Rattle.dtx_exciter.specs.Emission.{segments_since, sent_by, sent_at, sent_before, behind_field_sync, given_under}
 use Rattle.dtx_exciter.specs.Emission.{last_segments}
-use Rattle.dtx_exciter.specs.Order.{Order, in_force}
+use Rattle.dtx_exciter.specs.Order.{Order, orders}
 use Rattle.dtx_exciter.specs.Packets.{under, readings}
 use Rattle.dtx_exciter.specs.Told.{served}
 
-four : (a d : ℕ) (l : List (List ℕ)) (i : ℕ) (o : Option Order) → length (sent_by a d l i o) ≤ 4
+four : (a d : ℕ) (l : List (List ℕ)) (i : ℕ) (os : List Order) → length (sent_by a d l i os) ≤ 4
 unfolding segments_since four_segments
-four a d l i None = omega arith
-four a d l i (Some order) = by_served (is_ok (served a d order.ops))
+four a d l i [] = omega arith
+four a d l i (order ∷ older) = by_served (is_ok (served a d (order ∷ older)))
   where
     by_served : (b : Bool) → length (cond b (segments_since (order.place / 4) order.ops.states l (i / 4)) []) ≤ 4
     by_served true =
@@ -46,8 +46,7 @@ five_under a d (Some l) = by_whole (length l % 4 == 0)
     by_whole true = omega (
       arith,
       synced i (sent_before a d l i) (sent_at a d l i),
-      four a d l i (in_force
-          (readings l) i),
+      four a d l i (orders (readings l) i),
     )
     by_whole false = omega arith
 

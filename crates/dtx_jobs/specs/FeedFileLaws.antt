@@ -1,49 +1,34 @@
 -- The packets of a feed have 188 bytes each, as those of its stream have.
-use Rattle.std.proofs.Common.{◌≡◌, ◌⊎◌, inl, inr, ℕ, ◌-◌, ◌*◌, ◌<◌, ◌≤◌, true, false, List, [], ◌++◌, length, take}
-use Rattle.std.proofs.Common.{get_or, replicate, refl, sym, subst, ◌∙◌, length-append, arith}
-use Rattle.std.specs.List.{All, flat_map}
+use Rattle.std.proofs.Common.{◌≡◌, ◌⊎◌, inl, inr, ℕ, ◌/◌, ◌<◌, ◌≤◌, true, false, List, [], length, take}
+use Rattle.std.proofs.Common.{get_or, sym, subst, ◌∙◌, arith}
+use Rattle.std.specs.List.{All}
 use Rattle.std.proofs.lemmas.Bool.{cases_Bool, cond-true, cond-false}
-use Rattle.std.proofs.lemmas.List.{length-map, length-replicate, length-set}
+use Rattle.std.proofs.lemmas.List.{length-map, length-set}
 use Rattle.std.proofs.lemmas.List.Elements.{All-from_get_or, All-get_or}
 use Rattle.dtx_laws.specs.ChoiceLaws.{codeword_length}
 use Rattle.dtx_cadence.specs.Mark.{sync_at, marked}
-use Rattle.dtx_ops.specs.Spelling.{entry_bytes, times_bytes, head_bytes, data_of, spelling}
+use Rattle.dtx_ops.specs.DataLaws.{data_long}
+use Rattle.dtx_ops.specs.Paging.{most_of}
+use Rattle.dtx_ops.specs.Spelling.{data_of, spelling}
 use Rattle.dtx_ops.specs.declared.fields.Ops.{Ops}
-use Rattle.dtx_ops.specs.EntriesLaws.{length-entries}
 use Rattle.dtx_packets.specs.Packets.{packets_of, whole_packets}
 use Rattle.dtx_plan.specs.Sound.{IsSound}
 use Rattle.dtx_plan.specs.declared.plan.Plan.{Plan}
-use Rattle.dtx_adapter.specs.Feed.{entry_of, is_placeholder, ops_at, counter_at, as_feed_packet, fed_packet, feed}
+use Rattle.dtx_plan.specs.declared.transmitter.Transmitter.{Transmitter}
+use Rattle.dtx_adapter.specs.Feed.{entry_of, is_placeholder, filled_groups, listed, paging_of, ops_at, counter_at}
+use Rattle.dtx_adapter.specs.Feed.{as_feed_packet, fed_packet, feed}
 use Rattle.dtx_adapter.specs.FeedsLaws.{length-feed, feed_packet}
+use Rattle.dtx_adapter.specs.PagesLaws.{page_has_place}
 use Rattle.dtx_jobs.specs.Feed.{feed_bytes}
 use Rattle.dtx_jobs.specs.PacketFileLaws.{IsLong, packets_of-bytes, whole_packets-bytes}
 
-length-head_bytes : (f : Ops) → length (head_bytes f) ≡ 19
-unfolding head_bytes times_bytes
-length-head_bytes f = refl
-
--- the data of fields with at most 35 entries
-length-data_of : (f : Ops) → length f.offsets.items ≤ 35 → length (data_of f) ≡ 164
-unfolding data_of
-length-data_of f few =
-    let es = f.offsets.items in
-    let zeros : List ℕ = replicate (145 - 4 * length es) 0 in
-    length-append (head_bytes f ++ flat_map entry_bytes es) zeros
-    ∙ omega (
-      arith,
-      few,
-      length-append (head_bytes f) (flat_map entry_bytes es),
-      length-head_bytes f,
-      length-entries es,
-      length-replicate {A = ℕ} (145 - 4 * length es) 0,
-    )
-
-long-spelling : (f : Ops) (counter sync : ℕ) → length f.offsets.items ≤ 35 → IsLong (spelling f counter sync)
+long-spelling : (f : Ops) (counter sync : ℕ) → length f.offsets.items ≤ most_of f.paging
+    → IsLong (spelling f counter sync)
 unfolding spelling
-long-spelling f counter sync few = omega (arith, codeword_length 184 164 (data_of f), length-data_of f few)
+long-spelling f counter sync few = omega (arith, codeword_length 184 164 (data_of f), data_long f few)
 
-long-made : (ops : Ops) (counter k : ℕ) (p : List ℕ) → length ops.offsets.items ≤ 35 → IsLong p
-    → IsLong (as_feed_packet ops counter k p)
+long-made : (ops : Ops) (counter k : ℕ) (p : List ℕ) → length ops.offsets.items ≤ most_of ops.paging
+    → IsLong p → IsLong (as_feed_packet ops counter k p)
 unfolding as_feed_packet
 long-made ops counter k p few long = by_cases (cases_Bool (is_placeholder p))
   where
@@ -55,10 +40,15 @@ long-made ops counter k p few long = by_cases (cases_Bool (is_placeholder p))
         subst IsLong (sym (cond-false (is_placeholder p) (spelling ops counter (sync_at k)) (marked k p) f))
         (length-set p 0 (sync_at k) ∙ long)
 
-few_entries : (plan : Plan) (before : List (List ℕ)) (k : ℕ) → IsSound plan
-    → length (ops_at plan before k).offsets.items ≤ 35
+-- an operations packet of a feed lists no more transmitters than its page has
+few_entries : (plan : Plan) (stream before : List (List ℕ)) (k : ℕ) → IsSound plan
+    → length (ops_at plan stream before k).offsets.items ≤ most_of (ops_at plan stream before k).paging
 unfolding ops_at
-few_entries plan before k sound = omega (arith, length-map plan.transmitters.items entry_of, sound.transmitters.most)
+few_entries plan stream before k sound =
+    let ts : List Transmitter = plan.transmitters in
+    let n : ℕ = filled_groups stream (k / 4) in
+    let place = page_has_place ts n sound.transmitters.most in
+    omega (arith, place.fits, length-map (listed ts (paging_of ts n)) entry_of)
 
 long-fed : (plan : Plan) (stream : List (List ℕ)) (k : ℕ) → IsSound plan → All IsLong stream → k < length stream
     → IsLong (get_or (feed plan stream) k [])
@@ -66,8 +56,8 @@ unfolding fed_packet
 long-fed plan stream k sound long within =
     let before : List (List ℕ) = take k (feed plan stream) in
     subst IsLong (sym (feed_packet plan stream k within))
-    (long-made (ops_at plan before k) (counter_at stream k) k (get_or stream k [])
-    (few_entries plan before k sound) (All-get_or IsLong stream k [] within long))
+    (long-made (ops_at plan stream before k) (counter_at stream k) k (get_or stream k [])
+    (few_entries plan stream before k sound) (All-get_or IsLong stream k [] within long))
 
 long-feed : (plan : Plan) (stream : List (List ℕ)) → IsSound plan → All IsLong stream → All IsLong (feed plan stream)
 long-feed plan stream sound long =

@@ -10,7 +10,7 @@ use dtx_engine::{Change, Shape};
 use dtx_meaning::{Outcome, Status};
 use dtx_sizes::{FIELD_PACKETS, FLUSHING_PACKETS, NULL_PID, OPERATIONS_PID, SYNC};
 
-/// The first place of a field at which a placeholder is put: so many packets behind its mark.
+/// The first place of a field at which a placeholder is put: so many packets behind its first packet.
 const FIRST_PLACE: u64 = FLUSHING_PACKETS as u64;
 
 /// Turns null packets into placeholders, and counts.

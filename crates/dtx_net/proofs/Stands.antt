@@ -35,17 +35,21 @@ new_more n ts es t made a at_n stands = record {
         (subst (λ (x : Transmitter). exciter.StandsFor x.address x.delay made []) same stands)
 
 -- another exciter at a place
-abbrev pub replaced : (net : Net) → ℕ → Exciter → vec_len net.addresses ≡ vec_len net.exciters → Net
-replaced net who e same = record { addresses = net.addresses; exciters = with_item net.exciters who e; same = same }
+abbrev pub replaced : (net : Net) → ℕ → Exciter → length net.transmitters ≡ vec_len net.exciters → Net
+replaced net who e same = record {
+  transmitters = net.transmitters;
+  exciters = with_item net.exciters who e;
+  same = same;
+}
 
 pub stands_replaced : (ts : List Transmitter) (net : Net) (steps : List Step) (step : Step) (made : Exciter)
-    (same : vec_len net.addresses ≡ vec_len net.exciters) → StandsFor ts net steps → step.who < vec_len net.exciters
+    (same : length net.transmitters ≡ vec_len net.exciters) → StandsFor ts net steps → step.who < vec_len net.exciters
     → ((t : Transmitter) → slice_get ts step.who ≡ Some t
     → exciter.StandsFor t.address t.delay made (last_life step.who (steps ++ step ∷ [])))
     → StandsFor ts (replaced net step.who made same) (steps ++ step ∷ [])
 stands_replaced ts net steps step made same s l h =
     record {
-      addresses = s.addresses;
+      transmitters = s.transmitters;
       long = s.long;
       each = λ who t e at_t at_e. each who t e at_t at_e (cases_eq who step.who);
     }
@@ -66,10 +70,10 @@ stands_replaced ts net steps step made same s l h =
         subst (exciter.StandsFor t.address t.delay e) (sym (last_elsewhere who steps step (λ x. other (sym x))))
         (s.each who t e at_t (sym (set_elsewhere net.exciters.items step.who who made other) ∙ at_e))
 
-pub elsewhere_replaced : (net : Net) (who : ℕ) (made : Exciter) (same : vec_len net.addresses ≡ vec_len net.exciters)
+pub elsewhere_replaced : (net : Net) (who : ℕ) (made : Exciter) (same : length net.transmitters ≡ vec_len net.exciters)
     → ChangesOnly who net (replaced net who made same)
 elsewhere_replaced net who made same = record {
-  addresses = refl;
+  transmitters = refl;
   long = refl;
   others = λ other n. set_elsewhere net.exciters.items who other made n;
 }

@@ -1,18 +1,14 @@
 -- The place of an address among those of the transmitters.
-use Rattle.std.proofs.Common.{◌≡◌, ◌≢◌, ℕ, ◌<◌, ◌≤◌, ◌⊎◌, Bool, false, Some, None, List, length, pos, sym, ap, ◌∙◌}
-use Rattle.std.proofs.Common.{arith, get_or, inl, inr}
-use Rattle.std.specs.Prelude.{nat_eq, nat_lt, slice_get, AllPairs}
-use Rattle.std.specs.List.{list_any, position_or_len}
-use Rattle.std.proofs.lemmas.Bool.{cases_lt, cond-true, lt-ltb, eq-eqb, ne_eqb, eqb-true}
+use Rattle.std.proofs.Common.{◌≡◌, ◌≢◌, ℕ, ◌<◌, false, Some, None, List, length, pos, sym, ap, ◌∙◌, arith, get_or}
+use Rattle.std.specs.Prelude.{nat_eq, slice_get, is_some, AllPairs}
+use Rattle.std.proofs.lemmas.Bool.{eq-eqb, ne_eqb, eqb-true}
 use Rattle.std.proofs.lemmas.Bool.Decides.{Decides-eqb}
 use Rattle.std.proofs.lemmas.List.{get_or-map, length-map}
-use Rattle.std.proofs.lemmas.List.Elements.{All-from_get_or}
-use Rattle.std.proofs.lemmas.List.Folds.{list_any_none}
 use Rattle.std.proofs.lemmas.List.Quantifiers.{position-Some}
-use Rattle.std.proofs.lemmas.List.Sums.{fails_before_first}
 use Rattle.std.proofs.lemmas.Map.Made.{AllPairs-from_IsDistinct}
 use Rattle.std.proofs.lemmas.Option.{slice_get-get_or, slice_get_within, get_or_from_slice_get}
 use Rattle.dtx_plan.specs.declared.transmitter.Transmitter.{Transmitter}
+use Rattle.dtx_plan.specs.PlacesLaws.{has_place}
 use Rattle.dtx_plan.specs.TransmitterTable.{addresses_of, has_address}
 use Rattle.dtx_plan.specs.Sound.{AreTransmitters}
 use Rattle.dtx_net.specs.Steps.{transmitter_place}
@@ -56,22 +52,4 @@ place_only ts who t a e =
 
 pub place_missing : (ts : List Transmitter) (address : ℕ) → transmitter_place address ts ≡ None
     → has_address address ts ≡ false
-unfolding transmitter_place
-place_missing ts address e =
-    by_cases (cases_lt (position_or_len (nat_eq address) (addresses_of ts)) (length (addresses_of ts)))
-  where
-    test : ℕ → Bool
-    test = nat_eq address
-
-    all : List ℕ
-    all = addresses_of ts
-
-    by_cases : (position_or_len test all < length all) ⊎ (length all ≤ position_or_len test all)
-        → list_any test all ≡ false
-    by_cases (inl within) =
-        let found = cond-true (nat_lt (position_or_len test all) (length all)) (Some (position_or_len test all)) None
-        (lt-ltb (position_or_len test all) (length all) within) in
-        cc
-    by_cases (inr past) =
-        list_any_none test all (All-from_get_or (λ x. test x ≡ false) all 0
-        (λ k l. fails_before_first test all k 0 (omega (arith, l, past))))
+place_missing ts address e = has_place address ts ∙ ap is_some e

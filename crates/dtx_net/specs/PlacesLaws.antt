@@ -2,8 +2,7 @@
 use Rattle.std.proofs.Common.{◌≡◌, ◌≢◌, ℕ, zero, suc, ◌<◌, Bool, true, false, cond, Some, None, List, [], ◌∷◌, ◌++◌}
 use Rattle.std.proofs.Common.{◌⊎◌, inl, inr, length, set, refl, sym, ap, subst, ◌∙◌, arith, get_or}
 use Rattle.std.specs.Prelude.{nat_lt, slice_get, position}
-use Rattle.std.proofs.lemmas.Bool.{cond-true, cond-false, lt-ltb}
-use Rattle.std.proofs.lemmas.Bool.Decides.{nat_tests}
+use Rattle.std.proofs.lemmas.Bool.{cond-true, lt-ltb}
 use Rattle.std.proofs.lemmas.List.{length-set, get_or-set_same}
 use Rattle.std.proofs.lemmas.List.Sums.{position_or_len_is}
 use Rattle.std.proofs.lemmas.Option.{slice_get-get_or}
@@ -38,20 +37,9 @@ pushed_here (z ∷ zs) (suc i) x y e = after (pushed_here zs i x y e)
 
 -- ---- the first place that passes
 
-ltb_self : (n : ℕ) → nat_lt n n ≡ false
-ltb_self n = grind (arith, nat_tests)
-
 pub position_found : (p : ℕ → Bool) (xs : List ℕ) (i : ℕ) → i < length xs
     → ((k : ℕ) → k < i → p (get_or xs k 0) ≡ false) → p (get_or xs i 0) ≡ true → position p xs ≡ Some i
 position_found p xs i l before here =
     let e : position_or_len p xs ≡ i = position_or_len_is p xs i 0 (omega (arith, l)) before (λ _. here) in
     subst (λ (n : ℕ). cond (nat_lt n (length xs)) (Some n) None ≡ Some i) (sym e)
     (cond-true (nat_lt i (length xs)) (Some i) None (lt-ltb i (length xs) l))
-
-pub position_missed : (p : ℕ → Bool) (xs : List ℕ) → ((k : ℕ) → k < length xs → p (get_or xs k 0) ≡ false)
-    → position p xs ≡ None
-position_missed p xs none =
-    let e : position_or_len p xs ≡ length xs =
-    position_or_len_is p xs (length xs) 0 (omega arith) none (λ l. absurd (omega (arith, l))) in
-    subst (λ (n : ℕ). cond (nat_lt n (length xs)) (Some n) None ≡ None) (sym e)
-    (cond-false (nat_lt (length xs) (length xs)) (Some (length xs)) None (ltb_self (length xs)))

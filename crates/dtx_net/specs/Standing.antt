@@ -1,7 +1,6 @@
 -- What the exciters of a network keep of the steps that were done with it.
 use Rattle.std.specs.Prelude.{ℕ, ℤ, ◌≡◌, ◌≢◌, Some, List, [], ◌∷◌, ◌++◌, length, slice_get, vec_len}
 use Rattle.dtx_plan.specs.declared.transmitter.Transmitter.{Transmitter}
-use Rattle.dtx_plan.specs.TransmitterTable.{addresses_of}
 use Rattle.dtx_exciter.specs.declared.exciter.Exciter.{Exciter}
 use Rattle.dtx_exciter.specs.declared.answers.Told.{Told}
 use Rattle.dtx_exciter.specs.Packets.{last_answer}
@@ -13,7 +12,7 @@ use Rattle.dtx_net.specs.Lives.{last_life}
 
 -- each exciter of the network of these transmitters stands for the last life of its transmitter in these steps
 pub record StandsFor (ts : List Transmitter) (net : Net) (steps : List Step) : Type 0 where
-  pub addresses : net.addresses.items ≡ addresses_of ts
+  pub transmitters : net.transmitters ≡ ts
   pub long : vec_len net.exciters ≡ length ts
   pub each : (who : ℕ) (t : Transmitter) (e : Exciter) → slice_get ts who ≡ Some t
       → slice_get net.exciters.items who ≡ Some e
@@ -35,6 +34,6 @@ pub record IsGiven (ts : List Transmitter) (steps : List Step) (who : ℕ) (t : 
 
 -- nothing but the exciter at a place may have changed
 pub record ChangesOnly (who : ℕ) (old made : Net) : Type 0 where
-  pub addresses : made.addresses ≡ old.addresses
+  pub transmitters : made.transmitters ≡ old.transmitters
   pub long : vec_len made.exciters ≡ vec_len old.exciters
   pub others : (other : ℕ) → other ≢ who → slice_get made.exciters.items other ≡ slice_get old.exciters.items other

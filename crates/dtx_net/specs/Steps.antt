@@ -1,11 +1,11 @@
 -- The steps of a schedule (the profile's own).
-use Rattle.std.specs.Prelude.{ℕ, nat_eq, Option, Some, None, List, [], ◌∷◌, map, position, slice_index_or}
+use Rattle.std.specs.Prelude.{ℕ, Option, Some, None, List, [], ◌∷◌, map, slice_index_or}
 use Rattle.std.specs.List.{range_with_len, flat_map}
 use Rattle.dtx_make.specs.Made.{made_packet}
 use Rattle.dtx_plan.specs.declared.transmitter.Transmitter.{Transmitter}
 use Rattle.dtx_plan.specs.declared.event.Event.{Event}
 use Rattle.dtx_plan.specs.declared.event.Event.TheVariants.{Send, Foreign, Flip, Lie, Restart}
-use Rattle.dtx_plan.specs.TransmitterTable.{addresses_of}
+unfoldable pub use Rattle.dtx_plan.specs.TransmitterTable.{transmitter_place}
 use Rattle.dtx_plan.specs.Sound.{to_of}
 use Rattle.dtx_net.specs.Changed.{flipped_packet, lied_packet}
 
@@ -20,10 +20,6 @@ packet_step who packet = record { who = who; packet = Some packet }
 
 abbrev pub restart_step : ℕ → Step
 restart_step who = record { who = who; packet = None }
-
--- the place in the list of the transmitter with this address
-unfoldable pub transmitter_place : ℕ → List Transmitter → Option ℕ
-transmitter_place address ts = position (nat_eq address) (addresses_of ts)
 
 -- packet k of the feed
 abbrev pub feed_packet : List (List ℕ) → ℕ → List ℕ

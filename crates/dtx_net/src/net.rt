@@ -1,17 +1,18 @@
 // All exciters of a network.
-ghost use Rattle.std.specs.Prelude.{◌≡◌, vec_len};
+ghost use Rattle.std.specs.Prelude.{◌≡◌, length, vec_len};
 
 mod steps;
 #[cfg(test)]
 mod tests;
 
 use dtx_exciter::Exciter;
+use dtx_plan::Transmitters;
 
 /// The exciters of a network, each at the place of its transmitter in the plan's list. They are given packets and
 /// restarted one by one, in any order, and none sees what another one is given (the profile's own).
 #[derive(Drop)]
 pub struct Net {
-    addresses: Vec<u16>,
+    transmitters: Transmitters,
     exciters: Vec<Exciter>,
-    ghost same: { vec_len addresses ≡ vec_len exciters },
+    ghost same: { length transmitters ≡ vec_len exciters },
 }

@@ -1,6 +1,7 @@
 -- A transmitter of a network emits exactly.
 use Rattle.std.proofs.Common.{◌≡◌, ◌⊎◌, inl, inr, ℕ, ℤ, suc, ◌+◌, ◌-◌, ◌*◌, ◌/◌, ◌%◌, ◌<◌, ◌≤◌, ◌==◌, ◌&&◌, Bool, All}
-use Rattle.std.proofs.Common.{List, ◌∷◌, ◌++◌, length, map, refl, sym, ap, subst, ◌∙◌, arith, pos, ◌-ℤ◌, ◌*ℤ◌}
+use Rattle.std.proofs.Common.{true, Some, List, ◌∷◌, ◌++◌, length, map, refl, sym, ap, subst, ◌∙◌, arith, pos, ◌-ℤ◌}
+use Rattle.std.proofs.Common.{◌*ℤ◌}
 use Rattle.std.specs.Prelude.{slice_range}
 use Rattle.std.specs.List.{range_with_len, filter, Contains}
 use Rattle.std.proofs.lemmas.Bool.{cond-true, and_from, eq-eqb}
@@ -10,20 +11,25 @@ use Rattle.dtx_clock.specs.Clock.{stamp_of, grains_of, DifferBy}
 use Rattle.dtx_clock.specs.MomentsLaws.{moments_differ}
 use Rattle.dtx_plan.specs.declared.plan.Plan.{Plan}
 use Rattle.dtx_plan.specs.declared.transmitter.Transmitter.{Transmitter}
-use Rattle.dtx_adapter.specs.Feed.{feed}
+use Rattle.dtx_ops.specs.declared.fields.Ops.{Ops}
+use Rattle.dtx_adapter.specs.Feed.{paging_at, is_listed, feed}
+use Rattle.dtx_exciter.specs.Order.{counting_order}
+use Rattle.dtx_exciter.specs.Pages.{lists}
+use Rattle.dtx_exciter.specs.Packets.{readings}
 use Rattle.dtx_exciter.specs.Emission.{emission}
-use Rattle.dtx_exciter.specs.Lockstep.{IsFeed, IsStretch, segment_place, stretch}
+use Rattle.dtx_exciter.specs.Lockstep.{IsFeed, IsStretch, locked_from, segment_place, stretch}
 use Rattle.dtx_exciter.specs.Log.{Line, preset, life_lines, log, restarted_lines, restarting_lines, emission_over}
 use Rattle.dtx_exciter.specs.Stretch.{emission_behind, lines_behind, before_stretch, stretch_lines, IsApart}
 use Rattle.dtx_exciter.specs.InLivesLaws.{stretch_segments, stretch_log}
 use Rattle.dtx_exciter.specs.LockstepIsLaws.{lockstep_is, lockstep_on, length-before}
 use Rattle.dtx_network.specs.Plans.{IsPlan, IsStream, IsListed, IsInTime}
-use Rattle.dtx_network.specs.Orders.{has_order}
+use Rattle.dtx_network.specs.Orders.{has_order, has_listing}
 use Rattle.dtx_network.specs.Presets.{orders, moment_at, preset_at, presets}
-use Rattle.dtx_network.specs.Headline.{IsFed, IsFirstOrder, stretch_of, segment_of, line_end}
+use Rattle.dtx_network.specs.Headline.{IsFed, IsFirstListing, stretch_of, segment_of, line_end}
 use Rattle.dtx_network.specs.Headline.{Around, around, Emits}
-use Rattle.dtx_network.proofs.Orders.{order_some}
-use Rattle.dtx_network.proofs.Served.{feed_locks}
+use Rattle.dtx_network.proofs.Orders.{order_some, order_says}
+use Rattle.dtx_network.proofs.Listings.{lists_is, listing_is, listing_orders}
+use Rattle.dtx_network.proofs.Served.{place_of, feed_locks}
 use Rattle.dtx_network.proofs.Presets.{lines_are}
 use Rattle.dtx_network.proofs.Stretches.{stretch_is}
 use Rattle.dtx_network.proofs.Segs.{life_up, behind_down, restarted_up, restarting_down}
@@ -64,11 +70,11 @@ earlier_lines a d earlier feed xs mark k =
     (λ line. line_end line ≤ length (all_before a d earlier feed xs mark k)) (λ line h. omega (arith, h, all, own))
     (life_lines a d n life) (life_up a d n life))
 
-later_lines : (a d : ℕ) (earlier feed later : List (List ℕ)) (xs ys : List (List (List ℕ))) (mark end k : ℕ)
-    → IsFeed a d feed → IsStretch feed mark end k
+later_lines : (a d : ℕ) (z : ℤ) (earlier feed later : List (List ℕ)) (xs ys : List (List (List ℕ))) (mark end k : ℕ)
+    → IsFeed a d z feed → IsStretch a feed (locked_from earlier mark) mark end k
     → All (λ line. length (all_before a d earlier feed xs mark k) + length (stretch feed k end) ≤ segment_of line)
     (lines_after a d earlier feed later xs ys mark end)
-later_lines a d earlier feed later xs ys mark end k f s =
+later_lines a d z earlier feed later xs ys mark end k f s =
     let n : ℕ = 0 + length (emission_over a d xs) in
     let front : List (List ℕ) = earlier ++ slice_range feed mark end in
     let life : List (List ℕ) = earlier ++ (slice_range feed mark end ++ later) in
@@ -77,11 +83,11 @@ later_lines a d earlier feed later xs ys mark end k f s =
     length-append (emission_over a d xs) (before_stretch a d earlier feed mark k) in
     let given_front : length (emission a d front)
     ≡ length (before_stretch a d earlier feed mark k) + length (stretch feed k end) =
-    ap (λ (x : List (List ℤ)). length x) (lockstep_is a d feed earlier mark end k f s)
+    ap (λ (x : List (List ℤ)). length x) (lockstep_is a d z feed earlier mark end k f s)
     ∙ length-append (before_stretch a d earlier feed mark k) (stretch feed k end) in
     let given_all : length (emission a d life) ≡ length (before_stretch a d earlier feed mark k) +
     (length (stretch feed k end) + length (emission_behind a d front later)) =
-    ap (λ (x : List (List ℤ)). length x) (lockstep_on a d feed earlier later mark end k f s)
+    ap (λ (x : List (List ℤ)). length x) (lockstep_on a d z feed earlier later mark end k f s)
     ∙ length-append (before_stretch a d earlier feed mark k) (stretch feed k end ++ emission_behind a d front later)
     ∙ ap (λ (m : ℕ). length (before_stretch a d earlier feed mark k) + m)
     (length-append (stretch feed k end) (emission_behind a d front later)) in
@@ -98,21 +104,40 @@ later_lines a d earlier feed later xs ys mark end k f s =
 
 -- ---- the feed of a plan
 
-pub stretch_from : (plan : Plan) (stream : List (List ℕ)) (mark n k : ℕ) → IsPlan plan → IsStream stream
-    → mark % 624 ≡ 0 → mark + n ≤ length (feed plan stream) → IsFirstOrder (feed plan stream) mark n k
-    → IsStretch (feed plan stream) mark (mark + n) k
-stretch_from plan stream mark n k p u m l first = record {
+-- the order of the group of a listing lists the transmitter
+listing_order : (plan : Plan) (stream : List (List ℕ)) (t : Transmitter) (k : ℕ) → IsPlan plan → IsStream stream
+    → IsListed plan t → 52 ≤ k → k % 4 ≡ 0 → has_listing t.address (feed plan stream) k ≡ true
+    → (ops : Ops) × (counting_order (readings (feed plan stream)) k ≡ Some ops) × (lists t.address ops ≡ true)
+listing_order plan stream t k p u listed far group listing =
+    let place = place_of plan t listed in
+    let orders : has_order (feed plan stream) k ≡ true = listing_orders t.address (feed plan stream) k listing in
+    let order = order_some plan stream k p u far group orders in
+    let own : is_listed (paging_at plan stream (k / 4)) place.0 ≡ true =
+    sym (ap (λ (b : Bool). b && is_listed (paging_at plan stream (k / 4)) place.0) orders)
+    ∙ sym (listing_is plan stream t place.0 k p u place.1 group) ∙ listing in (
+      order.0,
+      order.1,
+      lists_is plan stream t place.0 k order.0 p place.1 (order_says plan stream k order.0 p u order.1) ∙ own,
+    )
+
+pub stretch_from : (plan : Plan) (stream : List (List ℕ)) (t : Transmitter) (earlier : List (List ℕ)) (mark end k : ℕ)
+    → IsPlan plan → IsStream stream → IsListed plan t → mark % 624 ≡ 0 → end ≤ length (feed plan stream)
+    → IsFirstListing t.address (feed plan stream) (locked_from earlier mark) end k
+    → IsStretch t.address (feed plan stream) (locked_from earlier mark) mark end k
+stretch_from plan stream t earlier mark end k p u listed m l first = record {
   is_mark = m;
   inside = l;
   behind = first.behind;
   whole = first.whole;
-  order = let far = first.behind in order_some plan stream k p u (omega (arith, far)) first.group first.order;
+  order = let far = first.behind in
+      listing_order plan stream t k p u listed (omega (arith, far)) first.group first.listing;
 }
 
 emits_at : (plan : Plan) (stream : List (List ℕ)) (t : Transmitter) (earlier later : List (List ℕ))
     (xs ys : List (List (List ℕ))) (mark n k : ℕ)
     → IsPlan plan → IsStream stream → IsListed plan t → IsInTime plan t → mark % 624 ≡ 0
-    → mark + n ≤ length (feed plan stream) → IsFirstOrder (feed plan stream) mark n k
+    → mark + n ≤ length (feed plan stream)
+    → IsFirstListing t.address (feed plan stream) (locked_from earlier mark) (mark + n) k
     → Emits plan t (feed plan stream) mark k (mark + n)
     (record { lives_before = xs; before = earlier; behind = later; lives_behind = ys })
     (emission_over t.address t.delay (xs ++ (earlier
@@ -123,8 +148,9 @@ emits_at plan stream t earlier later xs ys mark n k p u listed time m l first =
     let d = t.delay in
     let fed : List (List ℕ) = feed plan stream in
     let end : ℕ = mark + n in
-    let locks : IsFeed a d fed = feed_locks plan stream t p u listed time in
-    let s : IsStretch fed mark end k = stretch_from plan stream mark n k p u m l first in
+    let locks : IsFeed a d t.offset fed = feed_locks plan stream t p u listed time in
+    let s : IsStretch a fed (locked_from earlier mark) mark end k =
+    stretch_from plan stream t earlier mark end k p u listed m l first in
     let same : stretch_of fed k end ≡ stretch fed k end = stretch_is fed k end first.whole l in
     let far = first.behind in
     let before : List (List ℤ) = all_before a d earlier fed xs mark k in
@@ -132,10 +158,10 @@ emits_at plan stream t earlier later xs ys mark n k p u listed time m l first =
     ++ emission_over a d ys in
     let place : 0 + length (emission_over a d xs) + length (before_stretch a d earlier fed mark k) ≡ length before =
     omega (arith, length-append (emission_over a d xs) (before_stretch a d earlier fed mark k)) in
-    let presets_are : stretch_lines a (0 + length (emission_over a d xs) + length
+    let presets_are : stretch_lines t.offset (0 + length (emission_over a d xs) + length
     (before_stretch a d earlier fed mark k)) fed k end ≡ presets plan t.offset (length before) fed k end =
-    ap (λ (r : ℕ). stretch_lines a r fed k end) place
-    ∙ lines_are plan stream t (length before) k end p u listed (omega (arith, far)) in
+    ap (λ (r : ℕ). stretch_lines t.offset r fed k end) place
+    ∙ lines_are plan stream t.offset (length before) k end p u (omega (arith, far)) in
     let none : 0 + length (emission_over a d xs) ≡ length (emission_over a d xs) = omega arith in
     let life : List (List ℕ) = earlier ++ (slice_range fed mark end ++ later) in
     record {
@@ -147,24 +173,24 @@ emits_at plan stream t earlier later xs ys mark n k p u listed time m l first =
           ++ life_lines a d r (earlier ++ slice_range fed mark (k + 3))) none;
       later_is = ap (λ (r : ℕ). lines_behind a d r (earlier ++ slice_range fed mark end) later
           ++ restarting_lines a d (r + length (emission a d life)) ys) none;
-      symbols = stretch_segments a d fed earlier later xs ys mark end k locks s
+      symbols = stretch_segments a d t.offset fed earlier later xs ys mark end k locks s
           ∙ ap (λ x. before ++ (x ++ after)) (sym same);
       earlier = lines_before a d earlier fed xs mark k;
       later = lines_after a d earlier fed later xs ys mark end;
-      log = stretch_log a d 0 fed earlier later xs ys mark end k locks s
+      log = stretch_log a d 0 t.offset fed earlier later xs ys mark end k locks s
           ∙ ap (λ x. lines_before a d earlier fed xs mark k
           ++ (x ++ lines_after a d earlier fed later xs ys mark end)) presets_are;
       up_to = earlier_lines a d earlier fed xs mark k;
       behind =
           subst (λ x. All (λ line. length before + length x ≤ segment_of line)
           (lines_after a d earlier fed later xs ys mark end)) (sym same)
-          (later_lines a d earlier fed later xs ys mark end k locks s);
+          (later_lines a d t.offset earlier fed later xs ys mark end k locks s);
     }
 
 pub emits : (plan : Plan) (stream : List (List ℕ)) (t : Transmitter) (xs ys : List (List (List ℕ)))
     (life : List (List ℕ)) (mark n k : ℕ)
     → IsPlan plan → IsStream stream → IsListed plan t → IsInTime plan t → (fed : IsFed (feed plan stream) life mark n)
-    → IsFirstOrder (feed plan stream) mark n k
+    → IsFirstListing t.address (feed plan stream) (locked_from fed.earlier mark) (mark + n) k
     → Emits plan t (feed plan stream) mark k (mark + n) (around xs fed ys)
     (emission_over t.address t.delay (xs ++ life ∷ ys)) (log t.address t.delay 0 (xs ++ life ∷ ys))
 emits plan stream t xs ys life mark n k p u listed time fed first =
@@ -176,23 +202,24 @@ emits plan stream t xs ys life mark n k p u listed time fed first =
 -- ---- its lines
 
 -- the first of the stretch
-pub first_is : (plan : Plan) (offset : ℤ) (s : ℕ) (feed : List (List ℕ)) (mark n k : ℕ) → IsFirstOrder feed mark n k
-    → presets plan offset s feed k (mark + n)
+pub first_is : (plan : Plan) (offset : ℤ) (s address : ℕ) (feed : List (List ℕ)) (z end k : ℕ)
+    → IsFirstListing address feed z end k → presets plan offset s feed k end
     ≡ preset s (k / 624) (k % 624) (moment_at plan offset k).tick (moment_at plan offset k).grain ∷ map
-    (preset_at plan offset s k) (orders feed (k + 1) (mark + n))
+    (preset_at plan offset s k) (orders feed (k + 1) end)
 unfolding presets orders
-first_is plan offset s feed mark n k first =
+first_is plan offset s address feed z end k first =
     let l = first.whole in
     let test : ℕ → Bool = λ g. (g % 4 == 0) && has_order feed g in
-    let c : mark + n - 3 - k ≡ suc (mark + n - 3 - (k + 1)) = omega (arith, l) in
+    let c : end - 3 - k ≡ suc (end - 3 - (k + 1)) = omega (arith, l) in
     let seg : s + (segment_place k - segment_place k) ≡ s = omega arith in
     ap (λ m. map (preset_at plan offset s k) (filter test (range_with_len k m))) c
     ∙ ap (map (preset_at plan offset s k))
-    (cond-true (test k) (k ∷ filter test (range_with_len (k + 1) (mark + n - 3 - (k + 1))))
-    (filter test (range_with_len (k + 1) (mark + n - 3 - (k + 1))))
-    (and_from (k % 4 == 0) (has_order feed k) (eq-eqb (k % 4) 0 first.group) first.order))
+    (cond-true (test k) (k ∷ filter test (range_with_len (k + 1) (end - 3 - (k + 1))))
+    (filter test (range_with_len (k + 1) (end - 3 - (k + 1))))
+    (and_from (k % 4 == 0) (has_order feed k) (eq-eqb (k % 4) 0 first.group)
+    (listing_orders address feed k first.listing)))
     ∙ ap (λ m. preset m (k / 624) (k % 624) (moment_at plan offset k).tick (moment_at plan offset k).grain ∷ map
-    (preset_at plan offset s k) (filter test (range_with_len (k + 1) (mark + n - 3 - (k + 1))))) seg
+    (preset_at plan offset s k) (filter test (range_with_len (k + 1) (end - 3 - (k + 1))))) seg
 
 -- no other line speaks of anything within it
 pub no_other : (plan : Plan) (t : Transmitter) (feed : List (List ℕ)) (mark k end : ℕ) (a : Around)

@@ -80,9 +80,9 @@ packet_fed : (plan : Plan) (stream : List (List ℕ)) (k : ℕ) → IsPlan plan 
 unfolding fed_packet
 packet_fed plan stream k p s l =
     subst IsPacket (sym (feed_packet plan stream k l))
-    (packet_made (ops_at plan (take k (feed plan stream)) k) (counter_at stream k) k (get_or stream k [])
+    (packet_made (ops_at plan stream (take k (feed plan stream)) k) (counter_at stream k) k (get_or stream k [])
     (s.long k [] l, s.bytes k [] l) (small_counter stream k)
-    (λ e. (read_as (get_or (feed plan stream) k []) (ops_at plan (take k (feed plan stream)) k)
+    (λ e. (read_as (get_or (feed plan stream) k []) (ops_at plan stream (take k (feed plan stream)) k)
     (operations_read plan stream k p s e)).valid))
 
 pub feed_packets : (plan : Plan) (stream : List (List ℕ)) → IsPlan plan → IsStream stream

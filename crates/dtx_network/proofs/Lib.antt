@@ -1,9 +1,12 @@
 pub mod Orders
+pub mod Listings
 pub mod Served
 pub mod Presets
+pub mod Turns
 pub mod Stretches
 pub mod Segs
 pub mod Emitting
+pub mod Waiting
 pub mod FromStart
 pub mod FeedPackets
 pub mod Back
@@ -13,4 +16,5 @@ pub mod Meets
 pub mod Undamaged
 pub mod TooFew
 pub mod OutOfStep
+pub mod OtherMarks
 pub mod Readable

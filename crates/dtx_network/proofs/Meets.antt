@@ -1,9 +1,7 @@
 -- The premises of the headline can be met.
 use Rattle.std.proofs.Common.{◌≡◌, ◌⊎◌, inl, inr, ℕ, zero, suc, ◌+◌, ◌-◌, ◌%◌, ◌<◌, ◌≤◌, ◌==◌, ◌&&◌, Bool, true, false}
 use Rattle.std.proofs.Common.{Option, Some, None, List, [], ◌∷◌, ◌++◌, length, map, take, drop, get_or, refl, sym, ap}
-use Rattle.std.proofs.Common.{ap₂, ◌∙◌}
-use Rattle.std.proofs.Common.{◌≢◌}
-use Rattle.std.proofs.Common.{arith}
+use Rattle.std.proofs.Common.{ap₂, subst, ◌∙◌, ◌≢◌, arith}
 use Rattle.std.specs.Prelude.{nat_le, filter, slice_get, slice_range}
 use Rattle.std.specs.List.{range_with_len, find}
 use Rattle.std.proofs.lemmas.Bool.{cases_Bool, false≢true, eq-eqb, eqb-true, le-leb, leb-true, and_from, and_parts}
@@ -24,18 +22,22 @@ use Rattle.dtx_plan.specs.Sound.{IsEvent, to_of}
 use Rattle.dtx_adapter.specs.Feed.{feed}
 use Rattle.dtx_adapter.specs.FeedsLaws.{length-feed}
 use Rattle.dtx_exciter.specs.Emission.{emission}
+use Rattle.dtx_exciter.specs.LockedLaws.{locked_nothing, locked_soon}
+use Rattle.dtx_exciter.specs.Lockstep.{locked_from}
 use Rattle.dtx_exciter.specs.Log.{emission_over}
 use Rattle.dtx_net.specs.Sent.{sent_segments}
 use Rattle.dtx_net.specs.Steps.{Step, transmitter_place, actions_of, steps_at, steps_of, schedule}
-use Rattle.dtx_net.specs.Lives.{own_steps, lives_from, lives_of}
+use Rattle.dtx_net.specs.Lives.{own_steps, lives_from, lives_of, last_life}
+use Rattle.dtx_net.specs.LastLifeLaws.{last_life_is}
 use Rattle.dtx_net.specs.OwnLaws.{own_here, own_elsewhere}
 use Rattle.dtx_net.specs.PlaceOfLaws.{place_found, place_only}
 use Rattle.dtx_network.specs.Plans.{IsPlan, IsStream, IsInTime}
-use Rattle.dtx_network.specs.Orders.{has_order}
-use Rattle.dtx_network.specs.Headline.{IsFirstOrder, stretch_of}
+use Rattle.dtx_network.specs.Orders.{has_listing, pages_in}
+use Rattle.dtx_network.specs.Presets.{orders}
+use Rattle.dtx_network.specs.Headline.{IsFirstListing, stretch_of}
 use Rattle.dtx_network.specs.Network.{steps_under, Joined, AreOfOthers}
 use Rattle.dtx_network.proofs.FromStart.{segments_from}
-use Rattle.dtx_network.proofs.Orders.{same_orders}
+use Rattle.dtx_network.proofs.Turns.{lists_in_turn}
 use Rattle.dtx_network.proofs.Whole.{contains_from_get, contains_map}
 
 -- ---- the life in which it is given packets of the feed
@@ -80,6 +82,14 @@ unfolding ended going_on
 lives_on life [] ys = refl
 lives_on life (Some p ∷ xs) ys = lives_on (life ++ p ∷ []) xs ys
 lives_on life (None ∷ xs) ys = ap (λ (l : List (List (List ℕ))). life ∷ l) (lives_on [] xs ys)
+
+-- the packets of the life that goes on are those of its last one
+last_goes_on : (who : ℕ) (steps : List Step) → last_life who steps ≡ going_on [] (own_steps who steps)
+unfolding lives_of
+last_goes_on who steps =
+    let a : List (Option (List ℕ)) = own_steps who steps in
+    last_life_is who steps (ended [] a) (going_on [] a)
+    (ap (lives_from []) (sym (append-nil a)) ∙ lives_on [] a [])
 
 -- the packets up to the first restart, and the lives behind it
 first_given : List (Option (List ℕ)) → List (List ℕ)
@@ -135,8 +145,8 @@ given_of plan stream mark n = slice_range (feed plan stream) mark (mark + n)
 
 -- its steps in that event
 part_steps : (plan : Plan) (stream : List (List ℕ)) (t : Transmitter) (who mark n : ℕ) → IsPlan plan
-    → slice_get plan.transmitters.items who ≡ Some t → mark + n ≤ length stream
-    → own_steps who (steps_of plan.transmitters.items (feed plan stream) (part_of_feed t mark n))
+    → slice_get plan.transmitters who ≡ Some t → mark + n ≤ length stream
+    → own_steps who (steps_of plan.transmitters (feed plan stream) (part_of_feed t mark n))
     ≡ map Some (given_of plan stream mark n)
 unfolding steps_of actions_of
 part_steps plan stream t who mark n p listed l =
@@ -144,13 +154,13 @@ part_steps plan stream t who mark n p listed l =
     let actions : List (Option (List ℕ)) = map (λ k. Some (get_or fed k [])) (range_with_len mark n) in
     let e : n ≡ mark + n - mark = omega arith in
     ap (λ (o : Option ℕ). own_steps who (steps_at o actions))
-    (place_only plan.transmitters.items who t p.sound.transmitters listed)
+    (place_only plan.transmitters who t p.sound.transmitters listed)
     ∙ own_all who actions ∙ all_given fed mark n (omega (arith, l, length-feed plan stream))
     ∙ ap (λ (m : ℕ). map Some (take m (drop mark fed))) e
 
 -- its lives, with that event among others
 lives_are : (plan : Plan) (stream : List (List ℕ)) (t : Transmitter) (who mark n : ℕ) (before after : List Event)
-    → IsPlan plan → slice_get plan.transmitters.items who ≡ Some t → mark + n ≤ length stream
+    → IsPlan plan → slice_get plan.transmitters who ≡ Some t → mark + n ≤ length stream
     → let a : List (Option (List ℕ)) = done_in plan stream who before in
     let b : List (Option (List ℕ)) = done_in plan stream who after in
     lives_of who (steps_under plan stream (before ++ part_of_feed t mark n ∷ after))
@@ -159,7 +169,7 @@ unfolding lives_of schedule done_in
 lives_are plan stream t who mark n before after p listed l =
     let fed : List (List ℕ) = feed plan stream in
     let part : List (List ℕ) = given_of plan stream mark n in
-    let ts : List Transmitter = plan.transmitters.items in
+    let ts : List Transmitter = plan.transmitters in
     let a : List (Option (List ℕ)) = done_in plan stream who before in
     let b : List (Option (List ℕ)) = done_in plan stream who after in
     let own : List Step = steps_of ts fed (part_of_feed t mark n) in
@@ -172,61 +182,106 @@ lives_are plan stream t who mark n before after p listed l =
     ∙ ap (λ (x : List (List (List ℕ))). ended [] a ++ x) (lives_given (going_on [] a) part b
     ∙ lives_first (going_on [] a ++ part) b)
 
--- ---- the first order
+-- ---- the first listing
 
--- the first group that may count behind a mark and holds an operations packet, where some group is one
-first_order : (fed : List (List ℕ)) (mark n g : ℕ) → g % 4 ≡ 0 → mark + 52 ≤ g → g + 4 ≤ mark + n
-    → has_order fed g ≡ true → (k : ℕ) × IsFirstOrder fed mark n k × (k ≤ g)
-first_order fed mark n g whole far l h = by_find (find test (range_with_len 0 (g + 1))) refl
+-- the first group that may count behind a mark and lists the address, where some group is one
+first_listing : (address : ℕ) (fed : List (List ℕ)) (z end g : ℕ) → g % 4 ≡ 0 → z + 52 ≤ g → g + 4 ≤ end
+    → has_listing address fed g ≡ true → (k : ℕ) × IsFirstListing address fed z end k × (k ≤ g)
+first_listing address fed z end g whole far l h = by_find (find test (range_with_len 0 (g + 1))) refl
   where
     test : ℕ → Bool
-    test i = nat_le (mark + 52) i && ((i % 4 == 0) && has_order fed i)
+    test i = nat_le (z + 52) i && ((i % 4 == 0) && has_listing address fed i)
 
-    passes : (i : ℕ) → i % 4 ≡ 0 → mark + 52 ≤ i → has_order fed i ≡ true → test i ≡ true
+    passes : (i : ℕ) → i % 4 ≡ 0 → z + 52 ≤ i → has_listing address fed i ≡ true → test i ≡ true
     passes i w f o =
-        and_from (nat_le (mark + 52) i) ((i % 4 == 0) && has_order fed i) (le-leb (mark + 52) i f)
-        (and_from (i % 4 == 0) (has_order fed i) (eq-eqb (i % 4) 0 w) o)
+        and_from (nat_le (z + 52) i) ((i % 4 == 0) && has_listing address fed i) (le-leb (z + 52) i f)
+        (and_from (i % 4 == 0) (has_listing address fed i) (eq-eqb (i % 4) 0 w) o)
 
-    fails : (i : ℕ) → i % 4 ≡ 0 → mark + 52 ≤ i → test i ≡ false
-        → (has_order fed i ≡ true) ⊎ (has_order fed i ≡ false) → has_order fed i ≡ false
+    fails : (i : ℕ) → i % 4 ≡ 0 → z + 52 ≤ i → test i ≡ false
+        → (has_listing address fed i ≡ true) ⊎ (has_listing address fed i ≡ false) → has_listing address fed i ≡ false
     fails i w f t (inl o) = absurd (false≢true (sym t ∙ passes i w f o))
     fails i w f t (inr o) = o
 
     by_find : (o : Option ℕ) → find test (range_with_len 0 (g + 1)) ≡ o
-        → (k : ℕ) × IsFirstOrder fed mark n k × (k ≤ g)
+        → (k : ℕ) × IsFirstListing address fed z end k × (k ≤ g)
     by_find None e = absurd (false≢true (sym (find-range_misses test 0 (g + 1) e g (omega arith) (omega arith))
         ∙ passes g whole far h))
     by_find (Some k) e =
         let first : IsFirst test 0 (g + 1) k = find-range_gives test 0 (g + 1) k e in
         let within : k < 0 + (g + 1) = first.within in
-        let outer = and_parts (nat_le (mark + 52) k) ((k % 4 == 0) && has_order fed k) first.passes in
-        let inner = and_parts (k % 4 == 0) (has_order fed k) outer.1 in
-        let behind : mark + 52 ≤ k = leb-true (mark + 52) k outer.0 in (
+        let outer = and_parts (nat_le (z + 52) k) ((k % 4 == 0) && has_listing address fed k) first.passes in
+        let inner = and_parts (k % 4 == 0) (has_listing address fed k) outer.1 in
+        let behind : z + 52 ≤ k = leb-true (z + 52) k outer.0 in (
           k,
           record {
             group = eqb-true (k % 4) 0 inner.0;
             behind = behind;
             whole = omega (arith, within, l);
-            order = inner.1;
-            least = λ i w f m. fails i w f (first.before i (omega arith) m) (cases_Bool (has_order fed i));
+            listing = inner.1;
+            least = λ i w f m. fails i w f (first.before i (omega arith) m) (cases_Bool (has_listing address fed i));
           },
           omega (arith, within),
         )
 
+-- ---- what is done with others
+
+-- what is done with others at a place is none of its own
+own_at : (who : ℕ) (o : Option ℕ) (actions : List (Option (List ℕ))) → o ≢ Some who
+    → own_steps who (steps_at o actions) ≡ []
+own_at who None actions n = refl
+own_at who (Some w) [] n = refl
+own_at who (Some w) (a ∷ actions) n =
+    own_elsewhere who (record { who = w; packet = a }) (steps_at (Some w) actions) (λ e. n (ap Some e))
+    ∙ own_at who (Some w) actions n
+
+not_here : (ts : List Transmitter) (t : Transmitter) (who : ℕ) (event : Event) → slice_get ts who ≡ Some t
+    → to_of event ≢ t.address → transmitter_place (to_of event) ts ≢ Some who
+not_here ts t who event listed n = λ here.
+    let found = place_found ts (to_of event) who here in
+    n (sym found.2 ∙ ap (λ (u : Transmitter). u.address)
+    (sym (get_or_from_slice_get ts who found.0 t found.1) ∙ get_or_from_slice_get ts who t t listed))
+
+done_by_others : (plan : Plan) (stream : List (List ℕ)) (t : Transmitter) (who : ℕ) (events : List Event)
+    → slice_get plan.transmitters who ≡ Some t → AreOfOthers t events → done_in plan stream who events ≡ []
+unfolding done_in schedule steps_of
+done_by_others plan stream t who [] listed others = refl
+done_by_others plan stream t who (event ∷ events) listed others =
+    let ts : List Transmitter = plan.transmitters in
+    let fed : List (List ℕ) = feed plan stream in
+    own_more who (steps_at (transmitter_place (to_of event) ts) (actions_of fed event)) (schedule ts fed events)
+    ∙ ap₂ (λ (x y : List (Option (List ℕ))). x ++ y)
+    (own_at who (transmitter_place (to_of event) ts) (actions_of fed event) (not_here ts t who event listed others.0))
+    (done_by_others plan stream t who events listed others.1)
+
 -- ---- it joins
 
+-- what its life was given before some packets of the feed
+abbrev pub given_before : Plan → List (List ℕ) → ℕ → List Event → List (List ℕ)
+given_before plan stream who events = last_life who (steps_under plan stream events)
+
+-- It joins with these packets of the feed, its first listing is this group's or an earlier one's, and its life was
+-- given these packets before.
+abbrev pub JoinsBehind : Plan → List (List ℕ) → List Event → List Event → Transmitter → ℕ → ℕ → ℕ → ℕ
+    → List (List ℕ) → Type 0
+JoinsBehind plan stream before after t who mark n g earlier =
+    (x : Joined plan stream (before ++ Send t.address mark n ∷ after)) × (x.t ≡ t) × (x.who ≡ who)
+    × (x.mark ≡ mark) × (x.count ≡ n) × (x.k ≤ g) × (x.fed.earlier ≡ earlier)
+
 pub is_met : (plan : Plan) (stream : List (List ℕ)) (t : Transmitter) (who mark n g : ℕ) (before after : List Event)
-    → IsPlan plan → IsStream stream → slice_get plan.transmitters.items who ≡ Some t → IsInTime plan t
+    → IsPlan plan → IsStream stream → slice_get plan.transmitters who ≡ Some t → IsInTime plan t
     → mark % 624 ≡ 0 → mark + n ≤ length stream
-    → g % 4 ≡ 0 → mark + 52 ≤ g → g + 4 ≤ mark + n → has_order stream g ≡ true
-    → (x : Joined plan stream (before ++ Send t.address mark n ∷ after)) × (x.t ≡ t) × (x.who ≡ who)
-    × (x.mark ≡ mark) × (x.count ≡ n) × (x.k ≤ g)
+    → g % 4 ≡ 0 → locked_from (given_before plan stream who before) mark + 52 ≤ g → g + 4 ≤ mark + n
+    → has_listing t.address (feed plan stream) g ≡ true
+    → JoinsBehind plan stream before after t who mark n g (given_before plan stream who before)
+unfolding done_in
 is_met plan stream t who mark n g before after p u listed time is_mark inside whole far l h =
     let fed : List (List ℕ) = feed plan stream in
     let part : List (List ℕ) = given_of plan stream mark n in
     let a : List (Option (List ℕ)) = done_in plan stream who before in
     let b : List (Option (List ℕ)) = done_in plan stream who after in
-    let first = first_order fed mark n g whole far l (same_orders plan stream g p u ∙ h) in (
+    let near : locked_from (going_on [] a) mark + 52 ≤ g = subst (λ (x : List (List ℕ)). locked_from x mark + 52 ≤ g)
+    (last_goes_on who (steps_under plan stream before)) far in
+    let first = first_listing t.address fed (locked_from (going_on [] a) mark) (mark + n) g whole near l h in (
       record {
         t = t;
         who = who;
@@ -246,21 +301,81 @@ is_met plan stream t who mark n g before after p u listed time is_mark inside wh
           later = first_given b;
           holds = append_assoc (going_on [] a) part (first_given b);
         };
-        order = first.1;
+        listing = first.1;
       },
       refl,
       refl,
       refl,
       refl,
       first.2,
+      sym (last_goes_on who (steps_under plan stream before)),
     )
+
+-- where it was given nothing before
+pub met_first : (plan : Plan) (stream : List (List ℕ)) (t : Transmitter) (who mark n g : ℕ) (before after : List Event)
+    → IsPlan plan → IsStream stream → slice_get plan.transmitters who ≡ Some t → IsInTime plan t
+    → AreOfOthers t before → mark % 624 ≡ 0 → mark + n ≤ length stream
+    → g % 4 ≡ 0 → mark + 52 ≤ g → g + 4 ≤ mark + n
+    → has_listing t.address (feed plan stream) g ≡ true → JoinsBehind plan stream before after t who mark n g []
+unfolding done_in going_on
+met_first plan stream t who mark n g before after p u listed time others is_mark inside whole far l h =
+    let nothing : given_before plan stream who before ≡ [] = last_goes_on who (steps_under plan stream before)
+    ∙ ap (going_on []) (done_by_others plan stream t who before listed others) in
+    let z : locked_from (given_before plan stream who before) mark ≡ mark =
+    ap (λ x. locked_from x mark) nothing ∙ locked_nothing mark in
+    let met = is_met plan stream t who mark n g before after p u listed time is_mark inside whole
+    (omega (arith, z, far)) l h in
+    (met.0, met.1, met.2, met.3, met.4, met.5, met.6 ∙ nothing)
+
+-- whatever it was given before
+pub met_in_any_state : (plan : Plan) (stream : List (List ℕ)) (t : Transmitter) (who mark n g : ℕ)
+    (before after : List Event)
+    → IsPlan plan → IsStream stream → slice_get plan.transmitters who ≡ Some t → IsInTime plan t
+    → mark % 624 ≡ 0 → mark + n ≤ length stream
+    → g % 4 ≡ 0 → mark + 1300 ≤ g → g + 4 ≤ mark + n
+    → has_listing t.address (feed plan stream) g ≡ true
+    → (x : Joined plan stream (before ++ Send t.address mark n ∷ after)) × (x.t ≡ t) × (x.who ≡ who)
+    × (x.mark ≡ mark) × (x.count ≡ n) × (x.k ≤ g)
+met_in_any_state plan stream t who mark n g before after p u listed time is_mark inside whole far l h =
+    let z = (locked_soon (given_before plan stream who before) mark).1 in
+    let met = is_met plan stream t who mark n g before after p u listed time is_mark inside whole
+    (omega (arith, z, far)) l h in
+    (met.0, met.1, met.2, met.3, met.4, met.5)
+
+pub met_in_turn : (plan : Plan) (stream : List (List ℕ)) (t : Transmitter) (who mark n : ℕ)
+    (before after : List Event)
+    → IsPlan plan → IsStream stream → slice_get plan.transmitters who ≡ Some t → IsInTime plan t
+    → mark % 624 ≡ 0 → mark + n ≤ length stream
+    → pages_in plan ≤ length (orders stream (locked_from (given_before plan stream who before) mark + 52) (mark + n))
+    → (x : Joined plan stream (before ++ Send t.address mark n ∷ after)) × (x.t ≡ t) × (x.who ≡ who)
+    × (x.mark ≡ mark) × (x.count ≡ n)
+met_in_turn plan stream t who mark n before after p u listed time is_mark inside enough =
+    let z : ℕ = locked_from (given_before plan stream who before) mark in
+    let one = lists_in_turn plan stream t (z + 52) (mark + n) p u
+    (contains_from_get plan.transmitters who t listed) enough in
+    let met = is_met plan stream t who mark n one.group before after p u listed time is_mark inside one.whole
+    one.behind one.inside one.listing in
+    (met.0, met.1, met.2, met.3, met.4)
+
+pub met_in_turn_in_any_state : (plan : Plan) (stream : List (List ℕ)) (t : Transmitter) (who mark n : ℕ)
+    (before after : List Event)
+    → IsPlan plan → IsStream stream → slice_get plan.transmitters who ≡ Some t → IsInTime plan t
+    → mark % 624 ≡ 0 → mark + n ≤ length stream → pages_in plan ≤ length (orders stream (mark + 1300) (mark + n))
+    → (x : Joined plan stream (before ++ Send t.address mark n ∷ after)) × (x.t ≡ t) × (x.who ≡ who)
+    × (x.mark ≡ mark) × (x.count ≡ n)
+met_in_turn_in_any_state plan stream t who mark n before after p u listed time is_mark inside enough =
+    let one = lists_in_turn plan stream t (mark + 1300) (mark + n) p u
+    (contains_from_get plan.transmitters who t listed) enough in
+    let met = met_in_any_state plan stream t who mark n one.group before after p u listed time is_mark inside one.whole
+    one.behind one.inside one.listing in
+    (met.0, met.1, met.2, met.3, met.4)
 
 -- a plan may hold that event
 pub may_be : (plan : Plan) (stream : List (List ℕ)) (t : Transmitter) (who mark n : ℕ) → IsStream stream
-    → slice_get plan.transmitters.items who ≡ Some t → 1 ≤ n → mark + n ≤ length stream
-    → IsEvent plan.transmitters.items (Send t.address mark n)
+    → slice_get plan.transmitters who ≡ Some t → 1 ≤ n → mark + n ≤ length stream
+    → IsEvent plan.transmitters (Send t.address mark n)
 may_be plan stream t who mark n u listed some inside =
-    let ts : List Transmitter = plan.transmitters.items in
+    let ts : List Transmitter = plan.transmitters in
     let most = u.most in
     record {
       listed = list_any-from_Contains nat_eq_equiv t.address (addresses_of ts)
@@ -270,36 +385,8 @@ may_be plan stream t who mark n u listed some inside =
 
 -- ---- the stretch alone
 
--- what is done with others at a place is none of its own
-own_at : (who : ℕ) (o : Option ℕ) (actions : List (Option (List ℕ))) → o ≢ Some who
-    → own_steps who (steps_at o actions) ≡ []
-own_at who None actions n = refl
-own_at who (Some w) [] n = refl
-own_at who (Some w) (a ∷ actions) n =
-    own_elsewhere who (record { who = w; packet = a }) (steps_at (Some w) actions) (λ e. n (ap Some e))
-    ∙ own_at who (Some w) actions n
-
-not_here : (ts : List Transmitter) (t : Transmitter) (who : ℕ) (event : Event) → slice_get ts who ≡ Some t
-    → to_of event ≢ t.address → transmitter_place (to_of event) ts ≢ Some who
-not_here ts t who event listed n = λ here.
-    let found = place_found ts (to_of event) who here in
-    n (sym found.2 ∙ ap (λ (u : Transmitter). u.address)
-    (sym (get_or_from_slice_get ts who found.0 t found.1) ∙ get_or_from_slice_get ts who t t listed))
-
-done_by_others : (plan : Plan) (stream : List (List ℕ)) (t : Transmitter) (who : ℕ) (events : List Event)
-    → slice_get plan.transmitters.items who ≡ Some t → AreOfOthers t events → done_in plan stream who events ≡ []
-unfolding done_in schedule steps_of
-done_by_others plan stream t who [] listed others = refl
-done_by_others plan stream t who (event ∷ events) listed others =
-    let ts : List Transmitter = plan.transmitters.items in
-    let fed : List (List ℕ) = feed plan stream in
-    own_more who (steps_at (transmitter_place (to_of event) ts) (actions_of fed event)) (schedule ts fed events)
-    ∙ ap₂ (λ (x y : List (Option (List ℕ))). x ++ y)
-    (own_at who (transmitter_place (to_of event) ts) (actions_of fed event) (not_here ts t who event listed others.0))
-    (done_by_others plan stream t who events listed others.1)
-
 one_life : (plan : Plan) (stream : List (List ℕ)) (t : Transmitter) (who n : ℕ) (before after : List Event)
-    → IsPlan plan → slice_get plan.transmitters.items who ≡ Some t → n ≤ length stream → AreOfOthers t before
+    → IsPlan plan → slice_get plan.transmitters who ≡ Some t → n ≤ length stream → AreOfOthers t before
     → AreOfOthers t after
     → lives_of who (steps_under plan stream (before ++ Send t.address 0 n ∷ after)) ≡ take n (feed plan stream) ∷ []
 unfolding ended going_on first_given lives_then
@@ -317,13 +404,14 @@ one_life plan stream t who n before after p listed l first then =
     alone part = ap (λ (x : List (List ℕ)). x ∷ []) (append-nil part)
 
 pub sends_alone : (plan : Plan) (stream : List (List ℕ)) (t : Transmitter) (who n k : ℕ) (before after : List Event)
-    → IsPlan plan → IsStream stream → slice_get plan.transmitters.items who ≡ Some t → IsInTime plan t
-    → n ≤ length stream → IsFirstOrder (feed plan stream) 0 n k → AreOfOthers t before → AreOfOthers t after
+    → IsPlan plan → IsStream stream → slice_get plan.transmitters who ≡ Some t → IsInTime plan t
+    → n ≤ length stream → IsFirstListing t.address (feed plan stream) 0 n k → AreOfOthers t before
+    → AreOfOthers t after
     → sent_segments t who (steps_under plan stream (before ++ Send t.address 0 n ∷ after))
     ≡ stretch_of (feed plan stream) k n
 unfolding sent_segments
-sends_alone plan stream t who n k before after p u listed time l order first then =
+sends_alone plan stream t who n k before after p u listed time l listing first then =
     ap (emission_over t.address t.delay) (one_life plan stream t who n before after p listed l first then)
     ∙ append-nil (emission t.address t.delay (take n (feed plan stream)))
-    ∙ segments_from plan stream t n k p u (contains_from_get plan.transmitters.items who t listed) time
-    (omega (arith, l, length-feed plan stream)) order
+    ∙ segments_from plan stream t n k p u (contains_from_get plan.transmitters who t listed) time
+    (omega (arith, l, length-feed plan stream)) listing

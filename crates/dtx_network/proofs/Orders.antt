@@ -19,7 +19,7 @@ use Rattle.dtx_ops.specs.ReadingsLaws.{read_as}
 use Rattle.dtx_ops.specs.RefusingLaws.{reading_other}
 use Rattle.dtx_plan.specs.declared.plan.Plan.{Plan}
 use Rattle.dtx_plan.specs.Sound.{IsTransmitter}
-use Rattle.dtx_adapter.specs.Feed.{entry_of, ops_at, feed}
+use Rattle.dtx_adapter.specs.Feed.{entry_of, paging_at, listed, ops_at, feed}
 use Rattle.dtx_adapter.specs.FeedsLaws.{length-feed}
 use Rattle.dtx_adapter.specs.ReadingsLaws.{placeholder_reads, others_stay, said_states}
 use Rattle.dtx_exciter.specs.Order.{either, ordered, ordered_at, order_at, counting_order}
@@ -29,15 +29,15 @@ use Rattle.dtx_network.specs.Orders.{is_operations, has_order, first_operations,
 
 -- ---- what a packet reads as
 
-reads_other : (p : List ℕ) → pid_of p ≢ 0x1FFA → reads p ≡ None
+pub reads_other : (p : List ℕ) → pid_of p ≢ 0x1FFA → reads p ≡ None
 unfolding reads
 reads_other p h = ap read_fields (reading_other p h)
 
-reads_as : (p : List ℕ) (ops : Ops) → reading p ≡ Ok ops → reads p ≡ Some ops
+pub reads_as : (p : List ℕ) (ops : Ops) → reading p ≡ Ok ops → reads p ≡ Some ops
 unfolding reads
 reads_as p ops h = ap read_fields h
 
-no_pid : pid_of [] ≢ 0x1FFA
+pub no_pid : pid_of [] ≢ 0x1FFA
 no_pid = λ e. omega (arith, e)
 
 said_at : (ps : List (List ℕ)) (k : ℕ) → get_or (readings ps) k None ≡ reads (get_or ps k [])
@@ -55,7 +55,7 @@ within ps k e = by_cases (cases_lt k (length ps))
     by_cases (inl l) = l
     by_cases (inr g) = absurd (no_pid (ap pid_of (sym (get_or_past ps k [] g)) ∙ e))
 
-other_stays : (plan : Plan) (stream : List (List ℕ)) (k : ℕ) → pid_of (get_or stream k []) ≢ 0x1FFA
+pub other_stays : (plan : Plan) (stream : List (List ℕ)) (k : ℕ) → pid_of (get_or stream k []) ≢ 0x1FFA
     → pid_of (get_or (feed plan stream) k []) ≢ 0x1FFA
 other_stays plan stream k other = by_cases (cases_lt k (length stream))
   where
@@ -66,17 +66,17 @@ other_stays plan stream k other = by_cases (cases_lt k (length stream))
         ∙ e)
 
 -- the plan's transmitters are entries of an operations packet
-are_entries : (plan : Plan) → IsPlan plan → All (λ t. IsEntry (entry_of t)) plan.transmitters.items
+are_entries : (plan : Plan) → IsPlan plan → All (λ t. IsEntry (entry_of t)) plan.transmitters
 are_entries plan p =
     All-weaker IsTransmitter (λ t. IsEntry (entry_of t)) (λ t h. record {
       address = h.address;
       offset = h.offset;
-    }) plan.transmitters.items p.transmitters
+    }) plan.transmitters p.transmitters
 
 -- each of them reads as what is said at its place
 pub operations_read : (plan : Plan) (stream : List (List ℕ)) (k : ℕ) → IsPlan plan → IsStream stream
     → pid_of (get_or stream k []) ≡ 0x1FFA
-    → reading (get_or (feed plan stream) k []) ≡ Ok (ops_at plan (take k (feed plan stream)) k)
+    → reading (get_or (feed plan stream) k []) ≡ Ok (ops_at plan stream (take k (feed plan stream)) k)
 operations_read plan stream k p s e =
     placeholder_reads plan stream k p.sound (are_entries plan p) s.most (within stream k e) e
 
@@ -90,7 +90,7 @@ same_operations plan stream k p s = by_cases (cases_Bool (pid_of (get_or stream 
         → (pid_of (get_or (feed plan stream) k []) == 0x1FFA) ≡ (pid_of (get_or stream k []) == 0x1FFA)
     by_cases (inl t) =
         eq-eqb (pid_of (get_or (feed plan stream) k [])) 0x1FFA
-        (read_as (get_or (feed plan stream) k []) (ops_at plan (take k (feed plan stream)) k)
+        (read_as (get_or (feed plan stream) k []) (ops_at plan stream (take k (feed plan stream)) k)
         (operations_read plan stream k p s (eqb-true (pid_of (get_or stream k [])) 0x1FFA t))).pid
         ∙ sym t
     by_cases (inr f) =
@@ -110,18 +110,18 @@ same_orders plan stream g p s =
 
 -- ---- what a group orders
 
-index_is : (plan : Plan) (before : List (List ℕ)) (k : ℕ) → (ops_at plan before k).index ≡ k % 624
+index_is : (plan : Plan) (stream before : List (List ℕ)) (k : ℕ) → (ops_at plan stream before k).index ≡ k % 624
 unfolding ops_at
-index_is plan before k = refl
+index_is plan stream before k = refl
 
 ordered_is : (plan : Plan) (stream : List (List ℕ)) (k : ℕ) → IsPlan plan → IsStream stream
     → ordered_at (readings (feed plan stream)) k ≡ cond (is_operations stream k)
-    (Some (ops_at plan (take k (feed plan stream)) k)) None
+    (Some (ops_at plan stream (take k (feed plan stream)) k)) None
 unfolding is_operations
 ordered_is plan stream k p s = by_cases (cases_Bool (is_operations stream k))
   where
     ops : Ops
-    ops = ops_at plan (take k (feed plan stream)) k
+    ops = ops_at plan stream (take k (feed plan stream)) k
 
     by_cases : (is_operations stream k ≡ true) ⊎ (is_operations stream k ≡ false)
         → ordered_at (readings (feed plan stream)) k ≡ cond (is_operations stream k) (Some ops) None
@@ -130,7 +130,7 @@ ordered_is plan stream k p s = by_cases (cases_Bool (is_operations stream k))
         ∙ reads_as (get_or (feed plan stream) k []) ops
         (operations_read plan stream k p s (eqb-true (pid_of (get_or stream k [])) 0x1FFA t)))
         ∙ cond-true (ops.index == k % 624) (Some ops) None
-        (eq-eqb ops.index (k % 624) (index_is plan (take k (feed plan stream)) k))
+        (eq-eqb ops.index (k % 624) (index_is plan stream (take k (feed plan stream)) k))
         ∙ sym (cond-true (is_operations stream k) (Some ops) None t)
     by_cases (inr f) =
         ap (ordered (k % 624)) (said_at (feed plan stream) k
@@ -167,7 +167,7 @@ unfolding counting_order order_of order_at first_operations
 order_is plan stream g p s =
     ap (λ (o : Option Ops). cond (nat_le 52 g && (g % 4 == 0)) o None)
     (first_picked (ordered_at (readings (feed plan stream))) (is_operations stream)
-    (λ k. ops_at plan (take k (feed plan stream)) k) g (λ k. ordered_is plan stream k p s))
+    (λ k. ops_at plan stream (take k (feed plan stream)) k) g (λ k. ordered_is plan stream k p s))
 
 -- ---- what its fields are
 
@@ -181,17 +181,19 @@ map_some None f x e = cc
 map_some (Some j) f x e = (j, refl, cc)
 
 fields_at : (plan : Plan) (stream : List (List ℕ)) (g j : ℕ) → g % 4 ≡ 0 → g ≤ j → j < g + 4
-    → IsOrder plan stream g (ops_at plan (take j (feed plan stream)) j)
+    → IsOrder plan stream g (ops_at plan stream (take j (feed plan stream)) j)
 unfolding ops_at
 fields_at plan stream g j w l m =
     let frame : j / 624 ≡ g / 624 = omega (arith, w, l, m) in
     let group : 4 * (j / 4) ≡ g = omega (arith, w, l, m) in
+    let turn : j / 4 ≡ g / 4 = omega (arith, w, l, m) in
     record {
       states = said_states plan stream j ∙ ap (λ n. states (take n (feed plan stream))) group;
       stamp = ap (λ (f : ℕ). (plan.start * 1539 + f * 744789760) / 1539 % 10000000) frame;
       max_delay = refl;
       frame = frame;
-      entries = refl;
+      paging = ap (paging_at plan stream) turn;
+      entries = ap (λ (u : ℕ). map entry_of (listed plan.transmitters (paging_at plan stream u))) turn;
     }
 
 pub order_says : (plan : Plan) (stream : List (List ℕ)) (g : ℕ) (ops : Ops) → IsPlan plan → IsStream stream
@@ -199,10 +201,11 @@ pub order_says : (plan : Plan) (stream : List (List ℕ)) (g : ℕ) (ops : Ops) 
 unfolding order_of first_operations
 order_says plan stream g ops p s h =
     let counts = cond_some (nat_le 52 g && (g % 4 == 0))
-    (option_map (λ k. ops_at plan (take k (feed plan stream)) k) (first_operations stream g)) ops
+    (option_map (λ k. ops_at plan stream (take k (feed plan stream)) k) (first_operations stream g)) ops
     (sym (order_is plan stream g p s) ∙ h) in
     let place = and_parts (nat_le 52 g) (g % 4 == 0) counts.0 in
-    let found = map_some (first_operations stream g) (λ k. ops_at plan (take k (feed plan stream)) k) ops counts.1 in
+    let found = map_some (first_operations stream g) (λ k. ops_at plan stream (take k (feed plan stream)) k) ops
+    counts.1 in
     let first : IsFirst (is_operations stream) g 4 found.0 =
     find-range_gives (is_operations stream) g 4 found.0 found.1 in
     subst (IsOrder plan stream g) found.2 (fields_at plan stream g found.0
@@ -233,13 +236,13 @@ unfolding order_of first_operations has_order
 order_some plan stream g p s far whole h =
     let found = some_of (find (is_operations stream) (range_with_len g 4))
     (sym (any_found (is_operations stream) (range_with_len g 4)) ∙ sym (same_orders plan stream g p s) ∙ h) in (
-      ops_at plan (take found.0 (feed plan stream)) found.0,
+      ops_at plan stream (take found.0 (feed plan stream)) found.0,
       order_is plan stream g p s
           ∙ cond-true (nat_le 52 g && (g % 4 == 0))
-          (option_map (λ k. ops_at plan (take k (feed plan stream)) k)
+          (option_map (λ k. ops_at plan stream (take k (feed plan stream)) k)
           (find (is_operations stream) (range_with_len g 4))) None
           (and_from (nat_le 52 g) (g % 4 == 0) (le-leb 52 g far) (eq-eqb (g % 4) 0 whole))
-          ∙ ap (option_map (λ k. ops_at plan (take k (feed plan stream)) k)) found.1,
+          ∙ ap (option_map (λ k. ops_at plan stream (take k (feed plan stream)) k)) found.1,
     )
 
 cond_none : {A : Type 0} (b : Bool) (o : Option A) → o ≡ None → cond b o None ≡ None
@@ -251,8 +254,8 @@ pub order_none : (plan : Plan) (stream : List (List ℕ)) (g : ℕ) → IsPlan p
 unfolding order_of first_operations has_order
 order_none plan stream g p s h =
     order_is plan stream g p s
-    ∙ cond_none (nat_le 52 g && (g % 4 == 0)) (option_map (λ k. ops_at plan (take k (feed plan stream)) k)
+    ∙ cond_none (nat_le 52 g && (g % 4 == 0)) (option_map (λ k. ops_at plan stream (take k (feed plan stream)) k)
     (find (is_operations stream) (range_with_len g 4)))
-    (ap (option_map (λ k. ops_at plan (take k (feed plan stream)) k))
+    (ap (option_map (λ k. ops_at plan stream (take k (feed plan stream)) k))
     (none_of (find (is_operations stream) (range_with_len g 4))
     (sym (any_found (is_operations stream) (range_with_len g 4)) ∙ sym (same_orders plan stream g p s) ∙ h)))

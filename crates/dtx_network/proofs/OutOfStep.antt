@@ -1,53 +1,32 @@
--- A sync byte out of step loses the anchor, and a lost anchor mutes.
-use Rattle.std.proofs.Common.{◌≡◌, ◌≢◌, ℕ, ◌+◌, ◌-◌, ◌%◌, ◌≤◌, ◌==◌, Bool, true, false, Some, List, ◌∷◌, ◌++◌}
-use Rattle.std.proofs.Common.{[], length, get_or, take, drop, option_map, refl, sym, ap, ap₂, ◌∙◌, arith}
-use mathlib.Core.Bool.{beq}
-use Rattle.std.proofs.lemmas.Bool.{true≢false, cond-true}
-use Rattle.std.proofs.lemmas.List.{length-append, length_push, get_or-append_right, take_at}
-use Rattle.dtx_lists.proofs.RangeSearch.{IsFirst, find-range_gives}
-use Rattle.dtx_cadence.specs.Anchor.{in_step, keeps_step, anchor}
-use Rattle.dtx_cadence.specs.NextAnchorLaws.{marks}
+-- A lost anchor mutes; and an anchor is lost by two marks that are due in a row and missing, or where it is out of step
+-- with a feed, before the third mark of it.
+use Rattle.std.proofs.Common.{◌≡◌, ◌⊎◌, inl, inr, ℕ, ℤ, zero, suc, ◌+◌, ◌-◌, ◌%◌, ◌<◌, ◌≤◌, ◌==◌, Bool, true, false}
+use Rattle.std.proofs.Common.{cond, Some, None, option_map, List, [], ◌∷◌, ◌++◌, length, get_or, take, drop, refl}
+use Rattle.std.proofs.Common.{sym, ap, ap₂, subst, ◌∙◌, arith}
+use Rattle.std.specs.Prelude.{slice_range}
+use Rattle.std.proofs.lemmas.Bool.{cond-true, eqb-false}
+use Rattle.std.proofs.lemmas.List.{append-nil, length-append, length_push, length-drop, length-take-le, take_at}
+use Rattle.std.proofs.lemmas.List.{take_all}
 use Rattle.dtx_packets.specs.Packet.{sync_of}
-use Rattle.dtx_exciter.specs.Packets.{anchor_of, readings, syncs, last_answer}
-use Rattle.dtx_exciter.specs.Told.{has_moved, told_from, told_of, told_under}
-use Rattle.dtx_exciter.specs.UnderLaws.{syncs_push}
+use Rattle.dtx_cadence.specs.Anchor.{has_mark, anchor}
+use Rattle.dtx_cadence.specs.AnchoredLaws.{two_missing, in_step_at_third}
+use Rattle.dtx_cadence.specs.NextAnchorLaws.{anchor_below, anchor_next, ends_with}
 use Rattle.dtx_exciter.specs.declared.answers.Told.TheVariants.{Muted}
 use Rattle.dtx_exciter.specs.declared.answers.Why.TheVariants.{Cadence}
+use Rattle.dtx_exciter.specs.FollowedLaws.{marked_part, syncs_append, after, after_more}
+use Rattle.dtx_exciter.specs.Lockstep.{IsFeed}
+use Rattle.dtx_exciter.specs.Packets.{anchor_of, readings, syncs, last_answer}
+use Rattle.dtx_exciter.specs.Told.{was_lost, told_from, told_of, told_under}
+use Rattle.dtx_exciter.specs.UnderLaws.{syncs_push, length-syncs}
 
-beq_self : (b : Bool) → beq b b ≡ true
-beq_self true = refl
-beq_self false = refl
-
-keeps : (syncs : List ℕ) (j : ℕ) → anchor syncs ≡ Some j → keeps_step syncs j ≡ true
-unfolding anchor
-keeps syncs j e = let w : IsFirst (keeps_step syncs) 0 (length syncs) j =
-    find-range_gives (keeps_step syncs) 0 (length syncs) j e in w.passes
-
--- whatever is given then
-pub anchor_moves : (syncs more : List ℕ) (sync j : ℕ) → j ≤ length syncs → in_step sync (length syncs - j) ≡ false
-    → anchor (syncs ++ sync ∷ more) ≢ Some j
-anchor_moves syncs more sync j l f = λ e.
-    let all : List ℕ = syncs ++ sync ∷ more in
-    let n : ℕ = length syncs - j in
-    let here : j + n ≡ length syncs = omega (arith, l) in
-    let none : length syncs - length syncs ≡ 0 = omega arith in
-    let own : get_or all (j + n) 0 ≡ sync =
-    ap (λ i. get_or all i 0) here
-    ∙ get_or-append_right syncs (sync ∷ more) (length syncs) (length syncs) 0 refl (omega arith)
-    ∙ ap (λ i. get_or (sync ∷ more) i 0) none in
-    let step : (get_or all (j + n) 0 == 0xB8) ≡ (n % 624 == 0) =
-    marks all j n (keeps all j e) (omega (arith, here, length-append syncs (sync ∷ more))) in
-    true≢false (sym (ap (λ b. beq b (n % 624 == 0)) (ap (λ x. x == 0xB8) (sym own) ∙ step)
-    ∙ beq_self (n % 624 == 0)) ∙ f)
-
--- a packet with which the anchor is lost or moves
-pub moved_mutes : (address delay : ℕ) (d : List (List ℕ)) (p : List ℕ)
-    → has_moved (anchor_of d) (anchor_of (d ++ p ∷ [])) ≡ true
+-- a packet with which the anchor is lost
+pub lost_mutes : (address delay : ℕ) (d : List (List ℕ)) (p : List ℕ)
+    → was_lost (anchor_of d) (anchor_of (d ++ p ∷ [])) ≡ true
     → last_answer address delay (d ++ p ∷ []) ≡ Muted Cadence
 unfolding last_answer told_of anchor_of
-moved_mutes address delay d p m =
+lost_mutes address delay d p m =
     ap (λ s. told_from address delay (anchor s) (anchor (syncs (d ++ p ∷ []))) (readings (d ++ p ∷ []))) front
-    ∙ cond-true (has_moved (anchor (syncs d)) (anchor (syncs (d ++ p ∷ [])))) (Muted Cadence)
+    ∙ cond-true (was_lost (anchor (syncs d)) (anchor (syncs (d ++ p ∷ [])))) (Muted Cadence)
     (told_under address delay (option_map (λ a. drop a (readings (d ++ p ∷ []))) (anchor (syncs (d ++ p ∷ []))))) m
   where
     shorter : length (syncs (d ++ p ∷ [])) - 1 ≡ length (syncs d)
@@ -55,3 +34,106 @@ moved_mutes address delay d p m =
 
     front : take (length (syncs (d ++ p ∷ [])) - 1) (syncs (d ++ p ∷ [])) ≡ syncs d
     front = ap₂ take shorter (syncs_push d p) ∙ take_at (syncs d) (sync_of p ∷ []) (length (syncs d)) refl
+
+-- two marks in a row that are due and missing
+pub two_missing_lose : (d : List (List ℕ)) (p : List ℕ) (j : ℕ) → anchor_of d ≡ Some j → (length d - j) % 624 ≡ 0
+    → (sync_of p == 0xB8) ≡ false → has_mark (syncs d) (length d - 624) ≡ false
+    → was_lost (anchor_of d) (anchor_of (d ++ p ∷ [])) ≡ true
+unfolding anchor_of
+two_missing_lose d p j h e m g =
+    ap₂ was_lost h (ap anchor (syncs_push d p)
+    ∙ two_missing (syncs d) (sync_of p) j h (ap (λ n. (n - j) % 624) (length-syncs d) ∙ e) m
+    (ap (λ n. has_mark (syncs d) (n - 624)) (length-syncs d) ∙ g))
+
+-- ---- out of step with a feed
+
+-- With one of the first n packets of a feed that it is given, an exciter's anchor is lost.
+abbrev pub IsLostWithin : List (List ℕ) → List (List ℕ) → ℕ → ℕ → Type 0
+IsLostWithin earlier feed mark n =
+    (m : ℕ) × (m < n)
+    × (was_lost (anchor_of (after earlier feed mark m)) (anchor_of (after earlier feed mark (m + 1))) ≡ true)
+
+-- until then it stays
+stays_or_lost : (earlier feed : List (List ℕ)) (mark j n : ℕ) → anchor_of earlier ≡ Some j → mark + n ≤ length feed
+    → IsLostWithin earlier feed mark n ⊎ (anchor_of (after earlier feed mark n) ≡ Some j)
+unfolding anchor_of
+stays_or_lost earlier feed mark j zero h l = inr (ap anchor_of (append-nil earlier) ∙ h)
+stays_or_lost earlier feed mark j (suc n) h l =
+    by_front (stays_or_lost earlier feed mark j n h (omega (arith, l)))
+  where
+    d : List (List ℕ)
+    d = after earlier feed mark n
+
+    p : List ℕ
+    p = get_or (drop mark feed) n []
+
+    one : n + 1 ≡ suc n
+    one = omega arith
+
+    next : anchor_of d ≡ Some j → anchor_of (after earlier feed mark (n + 1))
+        ≡ cond (ends_with (syncs d) (sync_of p) j) None (Some j)
+    next e =
+        ap anchor_of (after_more earlier feed mark n (omega (arith, l)))
+        ∙ ap anchor (syncs_push d p) ∙ anchor_next (syncs d) (sync_of p) j e
+
+    by_test : (t : Bool) → anchor_of d ≡ Some j → anchor_of (after earlier feed mark (n + 1)) ≡ cond t None (Some j)
+        → IsLostWithin earlier feed mark (suc n) ⊎ (anchor_of (after earlier feed mark (suc n)) ≡ Some j)
+    by_test true e g = inl (n, omega arith, ap₂ was_lost e g)
+    by_test false e g = inr (ap (λ k. anchor_of (after earlier feed mark k)) (sym one) ∙ g)
+
+    by_front : IsLostWithin earlier feed mark n ⊎ (anchor_of d ≡ Some j)
+        → IsLostWithin earlier feed mark (suc n) ⊎ (anchor_of (after earlier feed mark (suc n)) ≡ Some j)
+    by_front (inl w) = let m = w.1 in inl (w.0, omega (arith, m), w.2)
+    by_front (inr e) = by_test (ends_with (syncs d) (sync_of p) j) e (next e)
+
+-- an anchor that stays up to the third mark is in step
+third_in_step : (a d : ℕ) (y : ℤ) (earlier feed : List (List ℕ)) (mark j : ℕ) → IsFeed a d y feed → mark % 624 ≡ 0
+    → mark + 1248 ≤ length feed → anchor_of earlier ≡ Some j
+    → anchor_of (after earlier feed mark 1248) ≡ Some j → (length earlier - j) % 624 ≡ 0
+unfolding anchor_of
+third_in_step a d y earlier feed mark j f m l h e =
+    let below : j < length (syncs earlier) = anchor_below (syncs earlier) j h in
+    let step : (length (syncs earlier ++ take 1248 part) - j) % 624 ≡ 0 =
+    in_step_at_third (syncs earlier) part (marked_part a d y feed mark 1248 f m l) (omega (arith, long)) j
+    (ap anchor (ap (λ x. syncs earlier ++ x) (take_all 1248 part (omega (arith, long)))
+    ∙ sym (syncs_append earlier (take 1248 (drop mark feed)))) ∙ e) in
+    omega (
+      arith,
+      step,
+      below,
+      long,
+      length-syncs earlier,
+      length-append (syncs earlier) (take 1248 part),
+      length-take-le 1248 part (omega (arith, long)),
+    )
+  where
+    part : List ℕ
+    part = syncs (take 1248 (drop mark feed))
+
+    long : length part ≡ 1248
+    long = length-syncs (take 1248 (drop mark feed))
+        ∙ length-take-le 1248 (drop mark feed) (omega (arith, l, length-drop mark feed))
+
+pub lost_before_third : (a d : ℕ) (y : ℤ) (feed earlier : List (List ℕ)) (mark j : ℕ) → IsFeed a d y feed
+    → mark % 624 ≡ 0 → mark + 1248 ≤ length feed → anchor_of earlier ≡ Some j
+    → ((length earlier - j) % 624 == 0) ≡ false
+    → (m : ℕ) × (m < 1248) × (last_answer a d (earlier ++ slice_range feed mark (mark + m + 1)) ≡ Muted Cadence)
+lost_before_third a d y feed earlier mark j f m l h out =
+    by_stay (stays_or_lost earlier feed mark j 1248 h l)
+  where
+    by_stay : IsLostWithin earlier feed mark 1248 ⊎ (anchor_of (after earlier feed mark 1248) ≡ Some j)
+        → (m : ℕ) × (m < 1248) × (last_answer a d (earlier ++ slice_range feed mark (mark + m + 1)) ≡ Muted Cadence)
+    by_stay (inl w) =
+        let n : ℕ = w.0 in
+        let low = w.1 in
+        let e : mark + n + 1 - mark ≡ n + 1 = omega arith in
+        let more = after_more earlier feed mark n (omega (arith, low, l)) in (
+          n,
+          low,
+          ap (λ k. last_answer a d (earlier ++ take k (drop mark feed))) e
+              ∙ ap (last_answer a d) more
+              ∙ lost_mutes a d (after earlier feed mark n) (get_or (drop mark feed) n [])
+              (subst (λ x. was_lost (anchor_of (after earlier feed mark n)) (anchor_of x) ≡ true) more w.2),
+        )
+    by_stay (inr e) = absurd (eqb-false ((length earlier - j) % 624) 0 out
+        (third_in_step a d y earlier feed mark j f m l h e))

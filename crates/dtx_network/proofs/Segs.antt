@@ -16,8 +16,9 @@ use Rattle.dtx_exciter.specs.declared.answers.Why.TheVariants.{Cadence}
 use Rattle.dtx_exciter.specs.declared.answers.Preset.{Preset}
 use Rattle.dtx_exciter.specs.declared.answers.Told.{Told}
 use Rattle.dtx_exciter.specs.declared.answers.Told.TheVariants.{Quiet, Sent, Muted}
-use Rattle.dtx_exciter.specs.Order.{Order, in_force}
-use Rattle.dtx_exciter.specs.Told.{served, told_by, told_at, told_under, told_from, told_of, has_moved}
+use Rattle.dtx_exciter.specs.Order.{Order, orders}
+use Rattle.dtx_exciter.specs.Pages.{entry_in_force, offset_of}
+use Rattle.dtx_exciter.specs.Told.{served, told_why, told_by, told_at, told_under, told_from, told_of, was_lost}
 use Rattle.dtx_exciter.specs.Packets.{syncs, readings, anchor_of, under, last_answer}
 use Rattle.dtx_exciter.specs.Emission.{segments_since, sent_by, sent_at, sent_before, behind_field_sync, given_under}
 use Rattle.dtx_exciter.specs.Emission.{last_segments}
@@ -43,16 +44,20 @@ with_sync_long i (b ∷ bs) (s ∷ ss) =
     cond (i % 312 == 0) (field_sync (nat_le 312 (i % 624)) (last_of (get_or (b ∷ bs) (length bs) [])) ∷ []) [] in
     omega (arith, length-append sync (s ∷ ss))
 
-not_sent : (t : Bool) (why : Why) (p : Preset) → cond t (Muted why) Quiet ≡ Sent (Some p) → ⊥
-not_sent true why p e = cc
+not_sent : (t : Bool) (why : Option Why) (p : Preset) → cond t (told_why why) Quiet ≡ Sent (Some p) → ⊥
+not_sent true None p e = cc
+not_sent true (Some why) p e = cc
 not_sent false why p e = cc
 
-sent_long : (a d : ℕ) (packets : List (List ℕ)) (i : ℕ) (o : Option Order) (p : Preset)
-    → told_at a d i o ≡ Sent (Some p) → 4 ≤ length (sent_by a d packets i o)
-sent_long a d packets i None p e = cc
-sent_long a d packets i (Some order) p e = by_result (served a d order.ops) e
+sent_long : (a d : ℕ) (packets : List (List ℕ)) (i : ℕ) (r : List Order) (p : Preset)
+    → told_at a d i r ≡ Sent (Some p) → 4 ≤ length (sent_by a d packets i r)
+sent_long a d packets i [] p e = cc
+sent_long a d packets i (order ∷ older) p e = by_result (served a d (order ∷ older)) e
   where
-    by_result : (r : Result ℕ Why) → told_by a i order r ≡ Sent (Some p)
+    offset : ℤ
+    offset = offset_of (entry_in_force a (order ∷ older))
+
+    by_result : (r : Result ℕ (Option Why)) → told_by i order offset r ≡ Sent (Some p)
         → 4 ≤ length (cond (is_ok r) (segments_since (order.place / 4) order.ops.states packets (i / 4)) [])
     by_result (Ok hold) e = omega (arith, length-since (order.place / 4) order.ops.states packets (i / 4))
     by_result (Err why) e = absurd (not_sent (order.place == i) why p e)
@@ -62,17 +67,17 @@ given_at : (a d : ℕ) (l : List (List ℕ)) (p : Preset) → told_under a d (So
 unfolding sent_at
 given_at a d l p e =
     by_test (length l % 4 == 0)
-    (sym (ap (λ (n : ℕ). cond (n % 4 == 0) (told_at a d (n - 4) (in_force (readings l) (n - 4))) Quiet) (length-said l))
+    (sym (ap (λ (n : ℕ). cond (n % 4 == 0) (told_at a d (n - 4) (orders (readings l) (n - 4))) Quiet) (length-said l))
     ∙ e)
   where
-    by_test : (t : Bool) → cond t (told_at a d (length l - 4) (in_force (readings l) (length l - 4))) Quiet
+    by_test : (t : Bool) → cond t (told_at a d (length l - 4) (orders (readings l) (length l - 4))) Quiet
         ≡ Sent (Some p)
         → 4 ≤ length (cond t (behind_field_sync (length l - 4) (sent_before a d l (length l - 4))
         (sent_at a d l (length l - 4))) [])
     by_test true e =
         omega (
           arith,
-          sent_long a d l (length l - 4) (in_force (readings l) (length l - 4)) p e,
+          sent_long a d l (length l - 4) (orders (readings l) (length l - 4)) p e,
           with_sync_long (length l - 4) (sent_before a d l (length l - 4)) (sent_at a d l (length l - 4)),
         )
     by_test false e = cc
@@ -83,20 +88,20 @@ unfolding last_answer told_of last_segments under anchor_of
 given_long a d packets p e =
     by_anchor (anchor (take (length (syncs packets) - 1) (syncs packets))) (anchor (syncs packets)) e
   where
-    by_moved : (t : Bool) (x : Told) → cond t (Muted Cadence) x ≡ Sent (Some p) → x ≡ Sent (Some p)
-    by_moved true x e = cc
-    by_moved false x e = e
+    by_lost : (t : Bool) (x : Told) → cond t (Muted Cadence) x ≡ Sent (Some p) → x ≡ Sent (Some p)
+    by_lost true x e = cc
+    by_lost false x e = e
 
     by_anchor : (before now : Option ℕ) → told_from a d before now (readings packets) ≡ Sent (Some p)
         → 4 ≤ length (given_under a d (option_map (λ a. drop a packets) now))
-    by_anchor before None e = absurd (quiet (by_moved (has_moved before None) Quiet e))
+    by_anchor before None e = absurd (quiet (by_lost (was_lost before None) Quiet e))
       where
         quiet : ◌≡◌ {A = Told} Quiet (Sent (Some p)) → ⊥
         quiet e = cc
     by_anchor before (Some j) e =
         given_at a d (drop j packets) p
         (ap (λ s. told_under a d (Some s)) (sym (said_drop j packets))
-        ∙ by_moved (has_moved before (Some j)) (told_under a d (Some (drop j (readings packets)))) e)
+        ∙ by_lost (was_lost before (Some j)) (told_under a d (Some (drop j (readings packets)))) e)
 
 -- ---- one line
 

@@ -1,92 +1,63 @@
 -- A feed is one that exciters lock to, and serves each listed transmitter that is in time.
-use Rattle.std.proofs.Common.{◌≡◌, ◌≢◌, ℕ, zero, suc, ◌%◌, ◌<◌, ◌==◌, Bool, true, false, cond, Some, List, [], ◌∷◌}
-use Rattle.std.proofs.Common.{length, map, get_or, refl, sym, ap, ◌∙◌, arith, ℤ, pos, negsuc, ◌+ℤ◌, ◌-ℤ◌}
-use Rattle.std.specs.Prelude.{is_ok, ◌≤ℤ◌}
-use Rattle.std.specs.List.{find}
-use Rattle.std.proofs.lemmas.Bool.{cond-true, cond-false, eq-eqb, ne_eqb}
-use Rattle.std.proofs.lemmas.Int.{ints}
-use Rattle.std.proofs.lemmas.List.{get_or-map, length-map}
+use Rattle.std.proofs.Common.{◌≡◌, ℕ, ◌/◌, ◌%◌, ◌<◌, ◌==◌, Bool, true, false, cond, Some, None, List, [], length}
+use Rattle.std.proofs.Common.{refl, sym, ap, subst, ◌∙◌, arith, pos, ◌+ℤ◌}
+use Rattle.std.specs.Prelude.{slice_get, ◌≤ℤ◌}
+use Rattle.std.proofs.lemmas.Option.{slice_get-get_or}
+use Rattle.dtx_ops.specs.Paging.{page_of, pages_of}
 use Rattle.dtx_ops.specs.declared.fields.Entry.{Entry}
 use Rattle.dtx_ops.specs.declared.fields.Ops.{Ops}
+use Rattle.dtx_ops.specs.declared.paging.Paging.{Paging}
 use Rattle.dtx_plan.specs.declared.plan.Plan.{Plan}
 use Rattle.dtx_plan.specs.declared.transmitter.Transmitter.{Transmitter}
-use Rattle.dtx_adapter.specs.Feed.{entry_of, feed}
+use Rattle.dtx_adapter.specs.Feed.{entry_of, paging_at, is_listed, filled_groups, feed}
 use Rattle.dtx_adapter.specs.FeedsLaws.{length-feed}
-use Rattle.dtx_adapter.specs.MakingLaws.{entries_differ}
 use Rattle.dtx_adapter.specs.ReadingsLaws.{sync_fed}
-use Rattle.dtx_exciter.specs.Told as told
+use Rattle.dtx_exciter.specs.Pages as pages
 use Rattle.dtx_exciter.specs.Lockstep.{IsFeed}
 use Rattle.dtx_network.specs.Plans.{IsPlan, IsStream, IsListed, IsInTime}
 use Rattle.dtx_network.specs.Orders.{IsOrder}
 use Rattle.dtx_network.proofs.Orders.{order_says}
+use Rattle.dtx_network.proofs.Listings.{pages_are, same_page, entry_is, lists_is}
 
--- ---- a transmitter's entry
+-- ---- two orders
 
--- the first element that passes is found
-find_first : {X : Type 0} (p : X → Bool) (xs : List X) (k : ℕ) (d : X) → k < length xs → p (get_or xs k d) ≡ true
-    → ((i : ℕ) → i < k → p (get_or xs i d) ≡ false) → find p xs ≡ Some (get_or xs k d)
-find_first p [] k d l t f = absurd (omega arith)
-find_first p (x ∷ xs) zero d l t f = cond-true (p x) (Some x) (find p xs) t
-find_first p (x ∷ xs) (suc k) d l t f =
-    cond-false (p x) (Some x) (find p xs) (f 0 (omega arith))
-    ∙ find_first p xs k d (omega arith) t (λ i m. f (suc i) (omega arith))
+-- how many groups before a group hold a placeholder
+abbrev earlier : List (List ℕ) → ℕ → ℕ
+earlier stream g = filled_groups stream (g / 4)
 
-pub entry_found : (plan : Plan) (t : Transmitter) → IsPlan plan → IsListed plan t
-    → find (λ e. e.address == t.address) (map entry_of plan.transmitters.items) ≡ Some (entry_of t)
-entry_found plan t p listed =
-    find_first (λ e. e.address == t.address) es k (entry_of t) within
-    (eq-eqb (get_or es k (entry_of t)).address t.address (ap (λ (e : Entry). e.address) here))
-    (λ i l. ne_eqb (get_or es i (entry_of t)).address t.address (λ same. differ i l (same
-    ∙ sym (ap (λ (e : Entry). e.address) here))))
-    ∙ ap Some here
-  where
-    ts : List Transmitter
-    ts = plan.transmitters.items
+same_pages : (plan : Plan) (stream : List (List ℕ)) (g h : ℕ) (ops other : Ops) → IsOrder plan stream g ops
+    → IsOrder plan stream h other → pages_of ops.paging ≡ pages_of other.paging
+same_pages plan stream g h ops other o p =
+    ap (λ (x : Paging). pages_of x) o.paging
+    ∙ pages_are plan.transmitters (earlier stream g) (earlier stream h)
+    ∙ sym (ap (λ (x : Paging). pages_of x) p.paging)
 
-    es : List Entry
-    es = map entry_of ts
+same_lists : (plan : Plan) (stream : List (List ℕ)) (t : Transmitter) (who g h : ℕ) (ops other : Ops) → IsPlan plan
+    → slice_get plan.transmitters who ≡ Some t → IsOrder plan stream g ops → IsOrder plan stream h other
+    → page_of ops.paging ≡ page_of other.paging → pages.lists t.address ops ≡ pages.lists t.address other
+same_lists plan stream t who g h ops other p listed o q same =
+    lists_is plan stream t who g ops p listed o
+    ∙ same_page plan.transmitters (earlier stream g) (earlier stream h) who
+    (ap (λ (x : Paging). page_of x) (sym o.paging) ∙ same ∙ ap (λ (x : Paging). page_of x) q.paging)
+    ∙ sym (lists_is plan stream t who h other p listed q)
 
-    k : ℕ
-    k = listed.0
+-- ---- one order
 
-    inside : k < length ts
-    inside = listed.1
+some_picked : {A : Type 0} (b : Bool) (x y : A) → cond b (Some x) None ≡ Some y → x ≡ y
+some_picked true x y e = cc
+some_picked false x y e = cc
 
-    within : k < length es
-    within = omega (arith, inside, length-map ts entry_of)
+own_offset : (plan : Plan) (stream : List (List ℕ)) (t : Transmitter) (who g : ℕ) (ops : Ops) (e : Entry)
+    → IsPlan plan → slice_get plan.transmitters who ≡ Some t → IsOrder plan stream g ops
+    → pages.entry_of t.address ops ≡ Some e → e.offset ≡ t.offset
+own_offset plan stream t who g ops e p listed o h =
+    sym (ap (λ (x : Entry). x.offset) (some_picked (is_listed (paging_at plan stream (g / 4)) who) (entry_of t) e
+    (sym (entry_is plan stream t who g ops p listed o) ∙ h)))
 
-    here : get_or es k (entry_of t) ≡ entry_of t
-    here = get_or-map entry_of ts k t (entry_of t) inside ∙ ap entry_of listed.2
-
-    address_at : (i : ℕ) → i < length es → get_or (map (λ (e : Entry). e.address) es) i t.address
-        ≡ (get_or es i (entry_of t)).address
-    address_at i l = get_or-map (λ (e : Entry). e.address) es i (entry_of t) t.address l
-
-    differ : (i : ℕ) → i < k → (get_or es i (entry_of t)).address ≢ (get_or es k (entry_of t)).address
-    differ i l same =
-        entries_differ ts es refl p.sound.transmitters.distinct i k t.address l
-        (omega (arith, within, length-map es (λ (e : Entry). e.address)))
-        (address_at i (omega (arith, l, within)) ∙ same ∙ sym (address_at k within))
-
--- an order's entry for a listed transmitter
-pub entry_is : (plan : Plan) (stream : List (List ℕ)) (t : Transmitter) (g : ℕ) (ops : Ops) → IsPlan plan
-    → IsListed plan t → IsOrder plan stream g ops → told.entry_of t.address ops ≡ Some (entry_of t)
-entry_is plan stream t g ops p listed o = ap (find (λ e. e.address == t.address)) o.entries
-    ∙ entry_found plan t p listed
-
--- ---- it is served
-
-left_ok : (z : ℤ) → pos 0 ≤ℤ z → is_ok (told.left_of z) ≡ true
-left_ok (pos n) h = refl
-left_ok (negsuc n) h = absurd (omega (arith, ints))
-
-serves_it : (plan : Plan) (stream : List (List ℕ)) (t : Transmitter) (g : ℕ) (ops : Ops) → IsPlan plan → IsListed plan t
-    → IsInTime plan t → IsOrder plan stream g ops → is_ok (told.served t.address t.delay ops) ≡ true
-unfolding told.served
-serves_it plan stream t g ops p listed time o =
-    ap (λ e. is_ok (told.hold_by t.delay ops e)) (entry_is plan stream t g ops p listed o)
-    ∙ ap (λ (most : ℕ). is_ok (told.left_of (pos most +ℤ t.offset -ℤ pos t.delay))) o.max_delay
-    ∙ left_ok (pos plan.max_delay +ℤ t.offset -ℤ pos t.delay) (omega (arith, ints, time))
+serves_it : (plan : Plan) (stream : List (List ℕ)) (t : Transmitter) (g : ℕ) (ops : Ops) → IsInTime plan t
+    → IsOrder plan stream g ops → pos t.delay ≤ℤ (pos ops.max_delay +ℤ t.offset)
+serves_it plan stream t g ops time o =
+    subst (λ (most : ℕ). pos t.delay ≤ℤ (pos most +ℤ t.offset)) (sym o.max_delay) time
 
 -- ---- the feed
 
@@ -94,11 +65,28 @@ mark_told : (b : Bool) → (cond b 0xB8 0x47 == 0xB8) ≡ b
 mark_told true = refl
 mark_told false = refl
 
-pub feed_locks : (plan : Plan) (stream : List (List ℕ)) (t : Transmitter) → IsPlan plan → IsStream stream
-    → IsListed plan t → IsInTime plan t → IsFeed t.address t.delay (feed plan stream)
-feed_locks plan stream t p s listed time = record {
+locks_at : (plan : Plan) (stream : List (List ℕ)) (t : Transmitter) (who : ℕ) → IsPlan plan → IsStream stream
+    → slice_get plan.transmitters who ≡ Some t → IsInTime plan t
+    → IsFeed t.address t.delay t.offset (feed plan stream)
+locks_at plan stream t who p s listed time = record {
   marks = λ k l. let within : k < length stream = omega (arith, l, length-feed plan stream) in
       ap (λ (b : ℕ). b == 0xB8) (sync_fed plan stream k within (s.long k [] within)) ∙ mark_told (k % 624 == 0);
   states = λ g ops h. (order_says plan stream g ops p s h).states;
-  serves = λ g ops h. serves_it plan stream t g ops p listed time (order_says plan stream g ops p s h);
+  pages = λ g h ops other e f. same_pages plan stream g h ops other (order_says plan stream g ops p s e)
+      (order_says plan stream h other p s f);
+  same = λ g h ops other e f. same_lists plan stream t who g h ops other p listed (order_says plan stream g ops p s e)
+      (order_says plan stream h other p s f);
+  entry = λ g ops e h. own_offset plan stream t who g ops e p listed (order_says plan stream g ops p s h);
+  serves = λ g ops h. serves_it plan stream t g ops time (order_says plan stream g ops p s h);
 }
+
+-- the place of a listed transmitter
+pub place_of : (plan : Plan) (t : Transmitter) → IsListed plan t
+    → (who : ℕ) × (slice_get plan.transmitters who ≡ Some t)
+place_of plan t listed =
+    (listed.0, slice_get-get_or plan.transmitters listed.0 t listed.1 ∙ ap Some listed.2)
+
+pub feed_locks : (plan : Plan) (stream : List (List ℕ)) (t : Transmitter) → IsPlan plan → IsStream stream
+    → IsListed plan t → IsInTime plan t → IsFeed t.address t.delay t.offset (feed plan stream)
+feed_locks plan stream t p s listed time =
+    let place = place_of plan t listed in locks_at plan stream t place.0 p s place.1 time

@@ -12,6 +12,7 @@ use Rattle.dtx_plan.specs.declared.transmitter.Transmitter.{Transmitter}
 use Rattle.dtx_plan.specs.declared.event.Event.{Event}
 use Rattle.dtx_adapter.specs.Feed.{feed}
 use Rattle.dtx_exciter.specs.declared.answers.Why.{Why}
+use Rattle.dtx_exciter.specs.Lockstep.{locked_from}
 use Rattle.dtx_exciter.specs.Log.{Line, preset, mute, restart, log, emission_over}
 use Rattle.dtx_net.specs.Sent.{sent_segments, lines_of}
 use Rattle.dtx_chain.specs.Undamaged.{ArePackets}
@@ -48,7 +49,7 @@ it_emits plan stream events p s x =
     (around x.lives_before x.fed x.lives_behind) (emission_over x.t.address x.t.delay all)
     (log x.t.address x.t.delay 0 all)) (sym x.lived)
     (emits plan stream x.t x.lives_before x.lives_behind x.life x.mark x.count x.k p s
-    (contains_from_get plan.transmitters.items x.who x.t x.listed) x.in_time x.fed x.order)
+    (contains_from_get plan.transmitters x.who x.t x.listed) x.in_time x.fed x.listing)
 
 -- a preset isn't a mute
 abbrev IsPreset : Line → Type 0
@@ -91,7 +92,8 @@ follows plan stream events p s x =
     let packets : ArePackets fed = feed_packets plan stream p s in
     record {
       emits = e;
-      named = first_is plan x.t.offset (length e.before) fed x.mark x.count x.k x.order;
+      named = first_is plan x.t.offset (length e.before) x.t.address fed (locked_from x.fed.earlier x.mark)
+          (x.mark + x.count) x.k x.listing;
       unmuted = no_mute plan x.t fed x.mark x.k (x.mark + x.count)
           (around x.lives_before x.fed x.lives_behind) (sent_segments x.t x.who (steps_under plan stream events))
           (lines_of x.t x.who (steps_under plan stream events)) e;

@@ -1,6 +1,6 @@
--- From the first operations packet that begins 52 or more packets behind a mark of the feed, an exciter that is given
--- the feed unchanged from that mark on emits exactly the feed's own symbols (ATSC A/53 Part 2), at moments of the plan:
--- what these words mean.
+-- An exciter that is given a feed unchanged from a mark on is locked to it from that mark or the third one on, as what
+-- it was given before decides. From its first listing on that begins 52 or more packets behind that, it emits exactly
+-- the feed's own symbols (ATSC A/53 Part 2), at moments of the plan: what these words mean.
 use Rattle.std.specs.Prelude.{ℕ, ℤ, ◌≡◌, ◌+◌, ◌-◌, ◌*◌, ◌/◌, ◌%◌, ◌<◌, ◌≤◌, true, false, List, ◌++◌, All, length}
 use Rattle.std.specs.Prelude.{slice_range}
 use Rattle.dtx_coder.specs.Stream.{a53}
@@ -11,7 +11,7 @@ use Rattle.dtx_exciter.specs.Emission.{emission}
 use Rattle.dtx_exciter.specs.Log.{Line, preset, mute, restart, life_lines, restarted_lines, restarting_lines}
 use Rattle.dtx_exciter.specs.Log.{emission_over}
 use Rattle.dtx_exciter.specs.Stretch.{emission_behind, lines_behind, before_stretch}
-use Rattle.dtx_network.specs.Orders.{has_order}
+use Rattle.dtx_network.specs.Orders.{has_listing}
 use Rattle.dtx_network.specs.Presets.{presets}
 
 -- A life is given the feed unchanged from a mark on: it holds the n packets of the feed from packet mark on, in a row.
@@ -23,14 +23,15 @@ pub record IsFed (feed life : List (List ℕ)) (mark n : ℕ) : Type 0 where
   pub later : List (List ℕ)
   pub holds : life ≡ earlier ++ (slice_range feed mark (mark + n) ++ later)
 
--- The group from packet k on is the first one with an operations packet that begins 52 or more packets behind the mark,
--- and it lies within the packets that are given.
-pub record IsFirstOrder (feed : List (List ℕ)) (mark n k : ℕ) : Type 0 where
+-- The first listing of an address, for an exciter that is locked to the feed from packet z on: the group from packet k
+-- on is the first one with an operations packet that lists it and begins 52 or more packets behind packet z, and it
+-- ends at packet `end` or earlier.
+pub record IsFirstListing (address : ℕ) (feed : List (List ℕ)) (z end k : ℕ) : Type 0 where
   pub group : k % 4 ≡ 0
-  pub behind : mark + 52 ≤ k
-  pub whole : k + 4 ≤ mark + n
-  pub order : has_order feed k ≡ true
-  pub least : (i : ℕ) → i % 4 ≡ 0 → mark + 52 ≤ i → i < k → has_order feed i ≡ false
+  pub behind : z + 52 ≤ k
+  pub whole : k + 4 ≤ end
+  pub listing : has_listing address feed k ≡ true
+  pub least : (i : ℕ) → i % 4 ≡ 0 → z + 52 ≤ i → i < k → has_listing address feed i ≡ false
 
 -- the last packet of the last whole group of a feed that ends at or before packet end
 abbrev pub last_packet : ℕ → ℕ

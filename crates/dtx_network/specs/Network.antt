@@ -1,8 +1,9 @@
 -- The headline of a network, as one definition (the profile's own, in the manner of ATSC A/110; the symbols are those
 -- of ATSC A/53 Part 2): for every packet stream and schedule, an exciter that from any earlier state is given the
--- adapter's feed unchanged from a cadence mark on emits, from the first operations packet whose group begins 52 or more
--- packets later, exactly the symbols of that feed, at moments that differ between transmitters only by the signalled
--- offsets; and symbols with at most ten wrong bytes per codeword give their packets back.
+-- adapter's feed unchanged through three cadence marks and on emits, from its first listing whose group starts 52 or
+-- more packets later, exactly the symbols of that feed, at moments that differ between transmitters only by the
+-- signalled offsets; and symbols with at most ten wrong bytes per codeword give its packets back. It counts from the
+-- first of the three marks where the exciter wasn't locked there or was locked in step with it, else from the third.
 use Rattle.std.specs.Prelude.{ℕ, ℤ, ◌≡◌, ◌≢◌, ◌⊎◌, ◌+◌, ◌-ℤ◌, ◌/◌, ◌%◌, ◌≤◌, Some, List, ◌∷◌, ◌++◌, length, map}
 use Rattle.std.specs.Prelude.{slice_get}
 use Rattle.std.specs.List.{Contains, AllByRecursion}
@@ -12,6 +13,7 @@ use Rattle.dtx_plan.specs.declared.event.Event.{Event}
 use Rattle.dtx_plan.specs.Sound.{to_of}
 use Rattle.dtx_adapter.specs.Feed.{feed}
 use Rattle.dtx_exciter.specs.declared.answers.Why.{Why}
+use Rattle.dtx_exciter.specs.Lockstep.{locked_from}
 use Rattle.dtx_exciter.specs.Log.{Line, preset, mute}
 use Rattle.dtx_exciter.specs.Stretch.{IsApart}
 use Rattle.dtx_net.specs.Steps.{Step, schedule}
@@ -19,12 +21,12 @@ use Rattle.dtx_net.specs.Lives.{lives_of}
 use Rattle.dtx_net.specs.Sent.{sent_segments, lines_of}
 use Rattle.dtx_network.specs.Plans.{IsInTime}
 use Rattle.dtx_network.specs.Presets.{orders, moment_at, preset_at, presets}
-use Rattle.dtx_network.specs.Headline.{IsFed, IsFirstOrder, stretch_of, around, Emits}
+use Rattle.dtx_network.specs.Headline.{IsFed, IsFirstListing, stretch_of, around, Emits}
 use Rattle.dtx_network.specs.GivesBack.{GivesBack, GivesAllBack}
 
 -- the steps of a schedule, with the feed of the plan and the stream
 abbrev pub steps_under : Plan → List (List ℕ) → List Event → List Step
-steps_under plan stream events = schedule plan.transmitters.items (feed plan stream) events
+steps_under plan stream events = schedule plan.transmitters (feed plan stream) events
 
 -- these events are of other transmitters than this one
 abbrev pub AreOfOthers : Transmitter → List Event → Type 0
@@ -32,7 +34,8 @@ AreOfOthers t events = AllByRecursion (λ event. to_of event ≢ t.address) even
 
 -- A transmitter joins the feed: it stands at a place of the plan's list and is in time, and one of its lives in the
 -- schedule, between the lives before it and those behind it, is given `count` packets of the feed from a mark on,
--- whatever it was given before, among them the first operations packet that counts, in the group from packet k on.
+-- whatever it was given before, among them its own first listing that counts, in the group from packet k on: behind
+-- the packet from which it is locked to the feed, as what that life was given before decides.
 pub record Joined (plan : Plan) (stream : List (List ℕ)) (events : List Event) : Type 0 where
   pub t : Transmitter
   pub who : ℕ
@@ -42,22 +45,23 @@ pub record Joined (plan : Plan) (stream : List (List ℕ)) (events : List Event)
   pub mark : ℕ
   pub count : ℕ
   pub k : ℕ
-  pub listed : slice_get plan.transmitters.items who ≡ Some t
+  pub listed : slice_get plan.transmitters who ≡ Some t
   pub in_time : IsInTime plan t
   pub lived : lives_of who (steps_under plan stream events) ≡ lives_before ++ life ∷ lives_behind
   pub fed : IsFed (feed plan stream) life mark count
-  pub order : IsFirstOrder (feed plan stream) mark count k
+  pub listing : IsFirstListing t.address (feed plan stream) (locked_from fed.earlier mark) (mark + count) k
 
 -- What a transmitter does that has joined the feed, and what is given back of it.
 pub record Follows (plan : Plan) (stream : List (List ℕ)) (events : List Event)
     (x : Joined plan stream events) : Type 0 where
-  -- Its symbol file holds exactly the feed's own symbols from the first order's group to the last whole group that it
+  -- Its symbol file holds exactly the feed's own symbols from the first listing's group to the last whole group that it
   -- is given, and its log their presets; and they are those of this life, which stand behind all that its earlier lives
   -- and it sent before.
   pub emits : Emits plan x.t (feed plan stream) x.mark x.k (x.mark + x.count)
       (around x.lives_before x.fed x.lives_behind) (sent_segments x.t x.who (steps_under plan stream events))
       (lines_of x.t x.who (steps_under plan stream events))
-  -- The first of these presets is that of the first order's group, and names the segment at which those symbols begin.
+  -- The first of these presets is that of the first listing's group, and names the segment at which those symbols
+  -- begin.
   pub named : presets plan x.t.offset (length emits.before) (feed plan stream) x.k (x.mark + x.count)
       ≡ preset (length emits.before) (x.k / 624) (x.k % 624) (moment_at plan x.t.offset x.k).tick
       (moment_at plan x.t.offset x.k).grain

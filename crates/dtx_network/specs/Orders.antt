@@ -1,14 +1,19 @@
--- What a feed orders, group by group (the profile's own, in the manner of ATSC A/110). Packets are counted from 0, and
--- a group is four of them.
-use Rattle.std.specs.Prelude.{ℕ, ◌≡◌, ◌/◌, ◌%◌, ◌==◌, ◌&&◌, nat_le, Bool, Option, None, option_map, find, if◌then◌else◌}
-use Rattle.std.specs.Prelude.{List, [], map, take, slice_index_or}
+-- What a feed orders, group by group, and whom a group lists (the profile's own, in the manner of ATSC A/110). Packets
+-- are counted from 0, and a group is four of them.
+use Rattle.std.specs.Prelude.{ℕ, ◌≡◌, ◌/◌, ◌%◌, ◌==◌, ◌&&◌, nat_le, Bool, false, Option, Some, None, option_map, find}
+use Rattle.std.specs.Prelude.{if◌then◌else◌, List, [], map, take, slice_index_or}
 use Rattle.std.specs.List.{range_with_len, list_any}
 use Rattle.dtx_packets.specs.Packet.{pid_of}
 use Rattle.dtx_ops.specs.declared.fields.Ops.{Ops}
+use Rattle.dtx_ops.specs.Paging.{pages_of}
 use Rattle.dtx_plan.specs.declared.plan.Plan.{Plan}
 use Rattle.dtx_clock.specs.Clock.{stamp_of}
 use Rattle.dtx_coder.specs.Stream.{states as states_of}
-use Rattle.dtx_adapter.specs.Feed.{entry_of, ops_at, feed}
+use Rattle.dtx_adapter.specs.Feed.{entry_of, paging_of, paging_at, listed, ops_at, feed}
+use Rattle.dtx_exciter.specs.Pages.{lists}
+use Rattle.dtx_exciter.specs.Packets.{reads}
+
+-- ---- operations packets
 
 -- packet k is an operations packet: its packet identifier is 0x1FFA
 unfoldable pub is_operations : List (List ℕ) → ℕ → Bool
@@ -22,18 +27,38 @@ has_order packets g = list_any (is_operations packets) (range_with_len g 4)
 unfoldable pub first_operations : List (List ℕ) → ℕ → Option ℕ
 first_operations packets g = find (is_operations packets) (range_with_len g 4)
 
+-- ---- listings
+
+-- what a packet reads as lists the address
+abbrev pub is_listing : ℕ → Option Ops → Bool
+is_listing address None = false
+is_listing address (Some ops) = lists address ops
+
+-- one of the four packets from packet g on is an operations packet that lists the address
+unfoldable pub has_listing : ℕ → List (List ℕ) → ℕ → Bool
+has_listing address packets g =
+    list_any (λ k. is_listing address (reads (slice_index_or packets k []))) (range_with_len g 4)
+
+-- how many pages a plan's transmitters take, one an order: after so many orders each was listed
+abbrev pub pages_in : Plan → ℕ
+pages_in plan = pages_of (paging_of plan.transmitters 0)
+
+-- ---- what a group of a feed orders
+
 -- What the group from packet g of a feed on orders, where that counts, as it does 52 or more packets behind the feed's
 -- start: what the group's first operations packet says.
 unfoldable pub order_of : Plan → List (List ℕ) → ℕ → Option Ops
 order_of plan stream g =
-    if nat_le 52 g && (g % 4 == 0) then option_map (λ k. ops_at plan (take k (feed plan stream)) k)
+    if nat_le 52 g && (g % 4 == 0) then option_map (λ k. ops_at plan stream (take k (feed plan stream)) k)
     (first_operations stream g) else None
 
 -- Fields are what the group from packet g of a feed on orders: the states that the feed's coders have before the group,
--- the stamp of its frame, the plan's maximum delay and transmitters, and its frame.
+-- the stamp of its frame, the plan's maximum delay, its frame, the page whose turn it is, and the plan's transmitters
+-- on that page.
 pub record IsOrder (plan : Plan) (stream : List (List ℕ)) (g : ℕ) (ops : Ops) : Type 0 where
   pub states : ops.states ≡ states_of (take g (feed plan stream))
   pub stamp : ops.stamp ≡ stamp_of plan.start (g / 624)
   pub max_delay : ops.max_delay ≡ plan.max_delay
   pub frame : ops.frame ≡ g / 624
-  pub entries : ops.offsets.items ≡ map entry_of plan.transmitters.items
+  pub paging : ops.paging ≡ paging_at plan stream (g / 4)
+  pub entries : ops.offsets.items ≡ map entry_of (listed plan.transmitters (paging_at plan stream (g / 4)))

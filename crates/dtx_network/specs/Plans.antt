@@ -9,7 +9,7 @@ use Rattle.dtx_plan.specs.declared.transmitter.Transmitter.{Transmitter}
 -- a plan is one that an adapter takes, and its transmitters' numbers are in their ranges
 pub record IsPlan (plan : Plan) : Type 0 where
   pub sound : IsSound plan
-  pub transmitters : All IsTransmitter plan.transmitters.items
+  pub transmitters : All IsTransmitter plan.transmitters
 
 -- a stream has packets of 188 bytes, each of them a byte, and at most 624,000,000 packets
 pub record IsStream (stream : List (List ℕ)) : Type 0 where
@@ -19,7 +19,7 @@ pub record IsStream (stream : List (List ℕ)) : Type 0 where
 
 -- the transmitter is one of the plan's
 abbrev pub IsListed : Plan → Transmitter → Type 0
-IsListed plan t = Contains plan.transmitters.items t
+IsListed plan t = Contains plan.transmitters t
 
 -- the transmitter is in time: its delay is at most the plan's maximum delay and its offset
 abbrev pub IsInTime : Plan → Transmitter → Type 0

@@ -1,25 +1,28 @@
 //! Laws of the definitions.
 
-ghost use Rattle.std.specs.Prelude.{◌≡◌, ◌≢◌, ℕ, ℤ, ◌+◌, ◌-◌, ◌*◌, ◌/◌, ◌%◌, ◌<◌, ◌≤◌, ◌-ℤ◌, true, false, Some};
-ghost use Rattle.std.specs.Prelude.{None, Ok, List, [], ◌∷◌, ◌++◌, length, map, take, slice_get, slice_index};
+ghost use Rattle.std.specs.Prelude.{◌≡◌, ◌≢◌, ℕ, ℤ, ◌+◌, ◌-◌, ◌*◌, ◌/◌, ◌%◌, ◌<◌, ◌≤◌, ◌==◌, ◌&&◌, ◌-ℤ◌, true, false};
+ghost use Rattle.std.specs.Prelude.{Some, None, if◌then◌else◌, Ok, List, [], ◌∷◌, ◌++◌, length, map, take, slice_get};
+ghost use Rattle.std.specs.Prelude.{drop, slice_index, slice_index_or, slice_range, slice_set};
 ghost use Rattle.std.specs.List.{Contains};
 ghost use Rattle.dtx_ops.specs.declared.fields.Ops.{Ops};
 ghost use Rattle.dtx_plan.specs.declared.plan.Plan.{Plan};
 ghost use Rattle.dtx_plan.specs.Plan.{plan_of};
 ghost use Rattle.dtx_plan.specs.declared.transmitter.Transmitter.{Transmitter};
-ghost use Rattle.dtx_adapter.specs.Feed.{entry_of, feed};
+ghost use Rattle.dtx_adapter.specs.Feed.{entry_of, is_listed, paging_at, feed};
 ghost use Rattle.dtx_exciter.specs.Order.{counting_order};
 ghost use Rattle.dtx_exciter.specs.Packets as exciter;
-ghost use Rattle.dtx_exciter.specs.Packets.{anchor_of, readings};
+ghost use Rattle.dtx_exciter.specs.Packets.{anchor_of, readings, syncs};
 ghost use Rattle.dtx_exciter.specs.declared.answers.Told.TheVariants.{Muted};
 ghost use Rattle.dtx_exciter.specs.declared.answers.Why.TheVariants.{Cadence};
-ghost use Rattle.dtx_exciter.specs.Told as told;
-ghost use Rattle.dtx_exciter.specs.Lockstep.{IsFeed, stretch};
+ghost use Rattle.dtx_exciter.specs.Pages as pages;
+ghost use Rattle.dtx_exciter.specs.Told.{was_lost};
+ghost use Rattle.dtx_exciter.specs.Lockstep.{IsFeed, stretch, locked_from};
+ghost use Rattle.dtx_exciter.specs.SentAlike.{bodies, AreSentAlike};
 ghost use Rattle.dtx_exciter.specs.Emission.{emission, last_segments};
 ghost use Rattle.dtx_exciter.specs.Log.{Line, preset, life_lines, log, emission_over};
 ghost use Rattle.dtx_exciter.specs.Stretch.{stretch_lines, IsApart};
 ghost use Rattle.dtx_network.specs.Plans.{IsPlan, IsStream, IsListed, IsInTime};
-ghost use Rattle.dtx_network.specs.Orders.{has_order, order_of, IsOrder};
+ghost use Rattle.dtx_network.specs.Orders.{has_order, has_listing, pages_in, order_of, IsOrder};
 ghost use Rattle.dtx_network.specs.Presets.{orders, moment_at, preset_at, presets};
 ghost use Rattle.dtx_chain.specs.Undamaged.{ArePackets};
 ghost use Rattle.dtx_plan.specs.declared.event.Event.{Event};
@@ -30,12 +33,14 @@ ghost use Rattle.dtx_receiver.specs.Bytes.{bytes_in};
 ghost use Rattle.dtx_receiver.specs.Intervals.{segments_in};
 ghost use Rattle.dtx_galois.specs.Field.{AreBytes};
 ghost use Rattle.dtx_coder.specs.Coded.{spread};
-ghost use Rattle.dtx_cadence.specs.Anchor.{in_step, anchor};
+ghost use Rattle.dtx_cadence.specs.Anchor.{has_mark};
+ghost use Rattle.dtx_packets.specs.Packet.{sync_of};
 ghost use Rattle.dtx_plan.specs.declared.event.Event.TheVariants.{Send};
 ghost use Rattle.dtx_plan.specs.Sound.{IsEvent};
 ghost use Rattle.dtx_network.specs.Network.{AreOfOthers, Joined, Headline, steps_under};
 ghost use Rattle.dtx_net.specs.Sent.{sent_segments};
-ghost use Rattle.dtx_network.specs.Headline.{IsFed, IsFirstOrder, stretch_of, last_packet, segment_of, line_end};
+ghost use Rattle.dtx_net.specs.Lives.{last_life};
+ghost use Rattle.dtx_network.specs.Headline.{IsFed, IsFirstListing, stretch_of, last_packet, segment_of, line_end};
 ghost use Rattle.dtx_network.specs.Headline.{Around, around, Emits};
 
 use dtx_exciter::laws::sent_packets_give;
@@ -46,16 +51,17 @@ pub fn plans_that_are_read()
 {}
 
 /// The feed of a plan is one that the exciter of each listed transmitter locks to, where the transmitter is in time:
-/// its marks stand at each 624th packet, its orders set the states of its own coders, and each of them serves the
-/// transmitter.
+/// its marks stand at each 624th packet, and its orders set the states of its own coders. They all have one number of
+/// pages, those of one page list the same transmitters, and each that lists the transmitter has its offset and serves
+/// it.
 pub fn feed_locks()
     ensures { (plan : Plan) (stream : List (List ℕ)) (t : Transmitter) → IsPlan plan → IsStream stream → IsListed plan t
-        → IsInTime plan t → IsFeed t.address t.delay (feed plan stream) }
+        → IsInTime plan t → IsFeed t.address t.delay t.offset (feed plan stream) }
 {}
 
 /// A group of a feed orders something exactly where it begins 52 or more packets behind the feed's start and holds an
-/// operations packet, which is where its stream holds a placeholder; it orders what the first of them says, and lists
-/// each transmitter of the plan once, with its own offset.
+/// operations packet, which is where its stream holds a placeholder; it orders what the first of them says, and has the
+/// entry of a transmitter of the plan, with its own offset, exactly where the transmitter stands on the group's page.
 pub fn orders_of_a_feed()
     ensures exact { (plan : Plan) (stream : List (List ℕ)) (g : ℕ) → IsPlan plan → IsStream stream
         → counting_order (readings (feed plan stream)) g ≡ order_of plan stream g }
@@ -70,17 +76,38 @@ pub fn orders_of_a_feed()
     ensures says { (plan : Plan) (stream : List (List ℕ)) (g : ℕ) (ops : Ops) → IsPlan plan → IsStream stream
         → counting_order (readings (feed plan stream)) g ≡ Some ops
         → IsOrder plan stream g ops }
-    ensures entry { (plan : Plan) (stream : List (List ℕ)) (t : Transmitter) (g : ℕ) (ops : Ops) → IsPlan plan
-        → IsListed plan t → IsOrder plan stream g ops
-        → told.entry_of t.address ops ≡ Some (entry_of t) }
+    ensures entry { (plan : Plan) (stream : List (List ℕ)) (t : Transmitter) (who g : ℕ) (ops : Ops) → IsPlan plan
+        → slice_get plan.transmitters who ≡ Some t → IsOrder plan stream g ops
+        → pages.entry_of t.address ops
+        ≡ (if is_listed (paging_at plan stream (g / 4)) who then Some (entry_of t) else None) }
+{}
+
+/// A group of a feed lists a transmitter of the plan exactly where it holds an operations packet and its page is the
+/// transmitter's; with at most 35 transmitters, who take one page, exactly where it holds one.
+pub fn listings_of_a_feed()
+    ensures exact { (plan : Plan) (stream : List (List ℕ)) (t : Transmitter) (who g : ℕ) → IsPlan plan
+        → IsStream stream → slice_get plan.transmitters who ≡ Some t → g % 4 ≡ 0
+        → has_listing t.address (feed plan stream) g
+        ≡ (has_order (feed plan stream) g && is_listed (paging_at plan stream (g / 4)) who) }
+    ensures one_page { (plan : Plan) (stream : List (List ℕ)) (t : Transmitter) (g : ℕ) → IsPlan plan
+        → IsStream stream → IsListed plan t → length plan.transmitters ≤ 35
+        → has_listing t.address (feed plan stream) g ≡ has_order (feed plan stream) g }
+{}
+
+/// Among any groups of a feed in a row that hold operations packets one lists the transmitter, where they are as many
+/// as the plan has pages: so a listing comes within one cycle of pages.
+pub fn listing_in_turn()
+    ensures { (plan : Plan) (stream : List (List ℕ)) (t : Transmitter) (k end : ℕ) → IsPlan plan → IsStream stream
+        → IsListed plan t → pages_in plan ≤ length (orders (feed plan stream) k end)
+        → (g : ℕ) × Contains (orders (feed plan stream) k end) g
+        × (has_listing t.address (feed plan stream) g ≡ true) }
 {}
 
 /// The lines that an exciter logs in a stretch of a feed are the presets of the stretch's orders: one for each group
-/// that holds an operations packet, and no other.
+/// that holds an operations packet, whether or not it lists the transmitter, and no other.
 pub fn lines_of_a_feed()
-    ensures { (plan : Plan) (stream : List (List ℕ)) (t : Transmitter) (s k end : ℕ) → IsPlan plan → IsStream stream
-        → IsListed plan t → 52 ≤ k
-        → stretch_lines t.address s (feed plan stream) k end ≡ presets plan t.offset s (feed plan stream) k end }
+    ensures { (plan : Plan) (stream : List (List ℕ)) (offset : ℤ) (s k end : ℕ) → IsPlan plan → IsStream stream
+        → 52 ≤ k → stretch_lines offset s (feed plan stream) k end ≡ presets plan offset s (feed plan stream) k end }
 {}
 
 /// The stretch as a slice of all of the feed's own segments is what the exciter gives of the packets up to its end.
@@ -91,50 +118,53 @@ pub fn stretch_of_a_feed()
 
 /// For every stream and all lives of a listed transmitter that is in time: where one life, whatever it held before and
 /// holds behind, is given the feed unchanged from a mark on, the transmitter emits exactly the feed's own segments from
-/// the first operations packet that begins 52 or more packets behind the mark. They stand behind what its earlier lives
-/// send and what this one sends before, and in front of what this one sends then and its later lives send; and so do
-/// its lines.
+/// its first listing on that begins 52 or more packets behind the mark from which it is locked to the feed. They stand
+/// behind what its earlier lives send and what this one sends before, and in front of what this one sends then and its
+/// later lives send; and so do its lines.
 pub fn emits()
     ensures { (plan : Plan) (stream : List (List ℕ)) (t : Transmitter) (xs ys : List (List (List ℕ)))
         (life : List (List ℕ)) (mark n k : ℕ)
         → IsPlan plan → IsStream stream → IsListed plan t → IsInTime plan t
-        → (fed : IsFed (feed plan stream) life mark n) → IsFirstOrder (feed plan stream) mark n k
+        → (fed : IsFed (feed plan stream) life mark n)
+        → IsFirstListing t.address (feed plan stream) (locked_from fed.earlier mark) (mark + n) k
         → Emits plan t (feed plan stream) mark k (mark + n) (around xs fed ys)
         (emission_over t.address t.delay (xs ++ life ∷ ys)) (log t.address t.delay 0 (xs ++ life ∷ ys)) }
 {}
 
 /// An exciter that is given a feed from its first packet on sends the feed's own segments (ATSC A/53 Part 2) from its
-/// first order on that begins at packet 52 or later, and nothing before, and its whole log is the presets of these
-/// orders. While it is given no whole group that begins at packet 52 or later and holds an operations packet, it sends
-/// and logs nothing.
+/// first listing on that begins at packet 52 or later, and nothing before, and its whole log is the presets of the
+/// orders from there on. While it is given no whole group that begins at packet 52 or later and lists it, it sends and
+/// logs nothing, whatever other pages it is told: its own is still to come.
 pub fn from_its_start()
     ensures segments { (plan : Plan) (stream : List (List ℕ)) (t : Transmitter) (n k : ℕ) → IsPlan plan
         → IsStream stream → IsListed plan t → IsInTime plan t
-        → n ≤ length (feed plan stream) → IsFirstOrder (feed plan stream) 0 n k
+        → n ≤ length (feed plan stream) → IsFirstListing t.address (feed plan stream) 0 n k
         → emission t.address t.delay (take n (feed plan stream)) ≡ stretch_of (feed plan stream) k n }
     ensures lines { (plan : Plan) (stream : List (List ℕ)) (t : Transmitter) (n k : ℕ) → IsPlan plan → IsStream stream
         → IsListed plan t → IsInTime plan t
-        → n ≤ length (feed plan stream) → IsFirstOrder (feed plan stream) 0 n k
+        → n ≤ length (feed plan stream) → IsFirstListing t.address (feed plan stream) 0 n k
         → life_lines t.address t.delay 0 (take n (feed plan stream)) ≡ presets plan t.offset 0 (feed plan stream) k n }
     ensures no_segments { (plan : Plan) (stream : List (List ℕ)) (t : Transmitter) (n : ℕ) → IsPlan plan
         → IsStream stream → IsListed plan t → IsInTime plan t
         → n ≤ length (feed plan stream) → ((g : ℕ) → g % 4 ≡ 0 → 52 ≤ g → g + 4 ≤ n
-        → has_order (feed plan stream) g ≡ false) → emission t.address t.delay (take n (feed plan stream)) ≡ [] }
+        → has_listing t.address (feed plan stream) g ≡ false)
+        → emission t.address t.delay (take n (feed plan stream)) ≡ [] }
     ensures no_lines { (plan : Plan) (stream : List (List ℕ)) (t : Transmitter) (n : ℕ) → IsPlan plan → IsStream stream
         → IsListed plan t → IsInTime plan t
         → n ≤ length (feed plan stream) → ((g : ℕ) → g % 4 ≡ 0 → 52 ≤ g → g + 4 ≤ n
-        → has_order (feed plan stream) g ≡ false) → life_lines t.address t.delay 0 (take n (feed plan stream)) ≡ [] }
+        → has_listing t.address (feed plan stream) g ≡ false)
+        → life_lines t.address t.delay 0 (take n (feed plan stream)) ≡ [] }
 {}
 
 /// The first preset of a stretch is that of its first group, and speaks of the stretch's first segment. No line of the
 /// log but the stretch's presets speaks of anything between its beginning and its end, and so no mute: a line that ends
 /// behind its beginning and begins before its end is one of them.
 pub fn lines_of_a_stretch()
-    ensures first { (plan : Plan) (offset : ℤ) (s : ℕ) (feed : List (List ℕ)) (mark n k : ℕ)
-        → IsFirstOrder feed mark n k
-        → presets plan offset s feed k (mark + n)
+    ensures first { (plan : Plan) (offset : ℤ) (s address : ℕ) (feed : List (List ℕ)) (z end k : ℕ)
+        → IsFirstListing address feed z end k
+        → presets plan offset s feed k end
         ≡ preset s (k / 624) (k % 624) (moment_at plan offset k).tick (moment_at plan offset k).grain ∷ map
-        (preset_at plan offset s k) (orders feed (k + 1) (mark + n)) }
+        (preset_at plan offset s k) (orders feed (k + 1) end) }
     ensures no_other { (plan : Plan) (t : Transmitter) (feed : List (List ℕ)) (mark k end : ℕ) (a : Around)
         (segments : List (List ℤ)) (lines : List Line) (line : Line)
         → (e : Emits plan t feed mark k end a segments lines) → Contains lines line → length e.before < line_end line
@@ -171,38 +201,71 @@ pub fn gives_all_back()
 {}
 
 /// The headline: for every packet stream and schedule, an exciter that from any earlier state is given the adapter's
-/// feed unchanged from a cadence mark on emits, from the first operations packet whose group begins 52 or more packets
-/// later, exactly the symbols of that feed (ATSC A/53 Part 2), at moments that differ between transmitters only by the
-/// signalled offsets; and symbols with at most ten wrong bytes per codeword give their packets back.
+/// feed unchanged through three cadence marks and on emits, from its first listing whose group starts 52 or more
+/// packets later, exactly the symbols of that feed (ATSC A/53 Part 2), at moments that differ between transmitters only
+/// by the signalled offsets; and symbols with at most ten wrong bytes per codeword give its packets back.
 pub fn headline()
     ensures { (plan : Plan) (stream : List (List ℕ)) (events : List Event) → IsPlan plan → IsStream stream
         → Headline plan stream events }
 {}
 
-/// What the headline asks of a transmitter can be met at every mark of the feed that has an order behind it, whatever
+/// What the headline asks of a transmitter can be met at every mark of the feed that has a listing behind it, whatever
 /// happens before and then: with one event, which a plan may hold, that gives a listed transmitter in time packets of
-/// the feed from a mark on, it joins the feed there, where the stream has a placeholder for an operations packet in a
-/// whole group among them that begins 52 or more packets behind the mark; its first order is that group's or an earlier
-/// one's.
+/// the feed from a mark on, it joins the feed there, where a whole group among them lists it that begins 52 or more
+/// packets behind the mark from which it is locked, by what its life was given before; its first listing is that
+/// group's or an earlier one's. It is locked from the mark on where it was given nothing before, and in any state from
+/// the third mark on at the latest, which is 1,248 packets later. There is such a group where the stream has
+/// placeholders in as many of these groups as the plan has pages.
 pub fn joined_is_met()
     ensures met { (plan : Plan) (stream : List (List ℕ)) (t : Transmitter) (who mark n g : ℕ)
         (before after : List Event)
-        → IsPlan plan → IsStream stream → slice_get plan.transmitters.items who ≡ Some t → IsInTime plan t
+        → IsPlan plan → IsStream stream → slice_get plan.transmitters who ≡ Some t → IsInTime plan t
         → mark % 624 ≡ 0 → mark + n ≤ length stream
-        → g % 4 ≡ 0 → mark + 52 ≤ g → g + 4 ≤ mark + n → has_order stream g ≡ true
+        → g % 4 ≡ 0 → locked_from (last_life who (steps_under plan stream before)) mark + 52 ≤ g → g + 4 ≤ mark + n
+        → has_listing t.address (feed plan stream) g ≡ true
+        → (x : Joined plan stream (before ++ Send t.address mark n ∷ after)) × (x.t ≡ t) × (x.who ≡ who)
+        × (x.mark ≡ mark) × (x.count ≡ n) × (x.k ≤ g)
+        × (x.fed.earlier ≡ last_life who (steps_under plan stream before)) }
+    ensures met_first { (plan : Plan) (stream : List (List ℕ)) (t : Transmitter) (who mark n g : ℕ)
+        (before after : List Event)
+        → IsPlan plan → IsStream stream → slice_get plan.transmitters who ≡ Some t → IsInTime plan t
+        → AreOfOthers t before → mark % 624 ≡ 0 → mark + n ≤ length stream
+        → g % 4 ≡ 0 → mark + 52 ≤ g → g + 4 ≤ mark + n → has_listing t.address (feed plan stream) g ≡ true
+        → (x : Joined plan stream (before ++ Send t.address mark n ∷ after)) × (x.t ≡ t) × (x.who ≡ who)
+        × (x.mark ≡ mark) × (x.count ≡ n) × (x.k ≤ g) × (x.fed.earlier ≡ []) }
+    ensures met_in_any_state { (plan : Plan) (stream : List (List ℕ)) (t : Transmitter) (who mark n g : ℕ)
+        (before after : List Event)
+        → IsPlan plan → IsStream stream → slice_get plan.transmitters who ≡ Some t → IsInTime plan t
+        → mark % 624 ≡ 0 → mark + n ≤ length stream
+        → g % 4 ≡ 0 → mark + 1300 ≤ g → g + 4 ≤ mark + n → has_listing t.address (feed plan stream) g ≡ true
         → (x : Joined plan stream (before ++ Send t.address mark n ∷ after)) × (x.t ≡ t) × (x.who ≡ who)
         × (x.mark ≡ mark) × (x.count ≡ n) × (x.k ≤ g) }
+    ensures in_turn { (plan : Plan) (stream : List (List ℕ)) (t : Transmitter) (who mark n : ℕ)
+        (before after : List Event)
+        → IsPlan plan → IsStream stream → slice_get plan.transmitters who ≡ Some t → IsInTime plan t
+        → mark % 624 ≡ 0 → mark + n ≤ length stream
+        → pages_in plan
+        ≤ length (orders stream (locked_from (last_life who (steps_under plan stream before)) mark + 52) (mark + n))
+        → (x : Joined plan stream (before ++ Send t.address mark n ∷ after)) × (x.t ≡ t) × (x.who ≡ who)
+        × (x.mark ≡ mark) × (x.count ≡ n) }
+    ensures in_turn_in_any_state { (plan : Plan) (stream : List (List ℕ)) (t : Transmitter) (who mark n : ℕ)
+        (before after : List Event)
+        → IsPlan plan → IsStream stream → slice_get plan.transmitters who ≡ Some t → IsInTime plan t
+        → mark % 624 ≡ 0 → mark + n ≤ length stream → pages_in plan ≤ length (orders stream (mark + 1300) (mark + n))
+        → (x : Joined plan stream (before ++ Send t.address mark n ∷ after)) × (x.t ≡ t) × (x.who ≡ who)
+        × (x.mark ≡ mark) × (x.count ≡ n) }
     ensures may_be { (plan : Plan) (stream : List (List ℕ)) (t : Transmitter) (who mark n : ℕ) → IsStream stream
-        → slice_get plan.transmitters.items who ≡ Some t → 1 ≤ n → mark + n ≤ length stream
-        → IsEvent plan.transmitters.items (Send t.address mark n) }
+        → slice_get plan.transmitters who ≡ Some t → 1 ≤ n → mark + n ≤ length stream
+        → IsEvent plan.transmitters (Send t.address mark n) }
 {}
 
 /// A transmitter that is given the feed from packet 0 on, and nothing else, sends the stretch alone, whatever is done
-/// with others meanwhile: its symbol file holds the feed's own segments from its first order on, and no other.
+/// with others meanwhile: its symbol file holds the feed's own segments from its first listing on, and no other.
 pub fn sends_the_stretch_alone()
     ensures { (plan : Plan) (stream : List (List ℕ)) (t : Transmitter) (who n k : ℕ) (before after : List Event)
-        → IsPlan plan → IsStream stream → slice_get plan.transmitters.items who ≡ Some t → IsInTime plan t
-        → n ≤ length stream → IsFirstOrder (feed plan stream) 0 n k → AreOfOthers t before → AreOfOthers t after
+        → IsPlan plan → IsStream stream → slice_get plan.transmitters who ≡ Some t → IsInTime plan t
+        → n ≤ length stream → IsFirstListing t.address (feed plan stream) 0 n k → AreOfOthers t before
+        → AreOfOthers t after
         → sent_segments t who (steps_under plan stream (before ++ Send t.address 0 n ∷ after))
         ≡ stretch_of (feed plan stream) k n }
 {}
@@ -237,21 +300,52 @@ pub fn fewer_packets_are_too_few()
         ≢ slice_index (spread (front ++ p ∷ packets)) (207 * (length front + 52) + 50)) }
 {}
 
-/// A mark out of step loses the lock: whatever is given then, no packet is the anchor with which the sync byte of a
-/// later one is out of step, be it a mark that is not due or one that is wanting.
-pub fn a_mark_out_of_step_loses_the_lock()
-    ensures { (syncs more : List ℕ) (sync j : ℕ) → j ≤ length syncs → in_step sync (length syncs - j) ≡ false
-        → anchor (syncs ++ sync ∷ more) ≢ Some j }
-{}
-
-/// A packet with which the anchor is lost or moves is answered by a mute for the cadence's sake, and gives no segment.
-pub fn a_moved_anchor_mutes()
+/// A packet with which the anchor is lost is answered by a mute for the cadence's sake, and gives no segment. It is
+/// lost with the second one of two packets in a row at which marks are due and missing.
+pub fn a_lost_anchor_mutes()
     ensures told { (address delay : ℕ) (packets : List (List ℕ)) (packet : List ℕ)
-        → told.has_moved (anchor_of packets) (anchor_of (packets ++ packet ∷ [])) ≡ true
+        → was_lost (anchor_of packets) (anchor_of (packets ++ packet ∷ [])) ≡ true
         → exciter.last_answer address delay (packets ++ packet ∷ []) ≡ Muted Cadence }
     ensures nothing { (address delay : ℕ) (packets : List (List ℕ)) (packet : List ℕ)
-        → told.has_moved (anchor_of packets) (anchor_of (packets ++ packet ∷ [])) ≡ true
+        → was_lost (anchor_of packets) (anchor_of (packets ++ packet ∷ [])) ≡ true
         → last_segments address delay (packets ++ packet ∷ []) ≡ [] }
+    ensures two_missing { (packets : List (List ℕ)) (packet : List ℕ) (j : ℕ) → anchor_of packets ≡ Some j
+        → (length packets - j) % 624 ≡ 0 → (sync_of packet == 0xB8) ≡ false
+        → has_mark (syncs packets) (length packets - 624) ≡ false
+        → was_lost (anchor_of packets) (anchor_of (packets ++ packet ∷ [])) ≡ true }
 {
     sent_packets_give();
 }
+
+/// A lock out of step with a feed is lost before the third mark of it that is given in a row: one of the 1,248 packets
+/// before it is answered by a mute for the cadence's sake.
+pub fn a_lock_out_of_step_is_lost()
+    ensures { (address delay : ℕ) (offset : ℤ) (feed earlier : List (List ℕ)) (mark j : ℕ)
+        → IsFeed address delay offset feed → mark % 624 ≡ 0 → mark + 1248 ≤ length feed → anchor_of earlier ≡ Some j
+        → ((length earlier - j) % 624 == 0) ≡ false
+        → (m : ℕ) × (m < 1248)
+        × (exciter.last_answer address delay (earlier ++ slice_range feed mark (mark + m + 1)) ≡ Muted Cadence) }
+{}
+
+/// One missing mark changes nothing: where an exciter is given a feed from a mark on, but one packet of it with another
+/// sync byte, 624 or more packets behind the mark from which it is locked, it answers and sends what it would have, as
+/// packets that are sent alike do.
+pub fn one_mark_may_be_missing()
+    ensures { (address delay : ℕ) (offset : ℤ) (feed earlier : List (List ℕ)) (mark n i : ℕ) (packet : List ℕ)
+        → IsFeed address delay offset feed → mark % 624 ≡ 0 → mark + n ≤ length feed → i % 624 ≡ 0
+        → locked_from earlier mark + 624 ≤ i → i < mark + n → drop 1 packet ≡ drop 1 (slice_index_or feed i [])
+        → AreSentAlike (earlier ++ slice_range feed mark (mark + n))
+        (earlier ++ slice_range (slice_set feed i packet) mark (mark + n)) }
+{}
+
+/// Any number of stray marks change nothing under a lock: where an exciter is given the packets of a feed from a mark
+/// on with other sync bytes, but with the feed's own marks, and no other, up to the mark from which it is locked, and
+/// with each of the feed's own marks behind it, it answers and sends what it would have.
+pub fn stray_marks_move_nothing()
+    ensures { (address delay : ℕ) (offset : ℤ) (feed earlier other : List (List ℕ)) (mark n : ℕ)
+        → IsFeed address delay offset feed → mark % 624 ≡ 0 → mark + n ≤ length feed
+        → locked_from earlier mark < mark + n → bodies other ≡ bodies (slice_range feed mark (mark + n))
+        → ((i : ℕ) → mark + i ≤ locked_from earlier mark → has_mark (syncs other) i ≡ (i % 624 == 0))
+        → ((i : ℕ) → i < n → i % 624 ≡ 0 → has_mark (syncs other) i ≡ true)
+        → AreSentAlike (earlier ++ slice_range feed mark (mark + n)) (earlier ++ other) }
+{}

@@ -2,12 +2,13 @@
 use Rattle.std.proofs.Common.{◌≡◌, ℕ, ◌+◌, ◌-◌, ◌*◌, ◌<◌, ◌≤◌, List, [], ◌∷◌, ◌++◌, length, take, drop, get_or, set}
 use Rattle.std.proofs.Common.{refl, ap, sym, ◌∙◌, append_assoc, length-append, arith}
 use Rattle.std.proofs.Math.Seq.{take-append_seam, drop-append_seam, take-length}
-use Rattle.std.proofs.lemmas.List.{drop_all, append-nil, take_more, drop-drop, take_all, length-drop, set-append_right}
+use Rattle.std.proofs.lemmas.List.{drop_all, append-nil, take_more, drop-drop, take_all, length-drop}
 use Rattle.std.proofs.lemmas.Grind.{flat_map-append}
 use Rattle.std.specs.List.{flat_map}
 use borrow.Rule.Slice.PartMut.{put_mid}
 use Rattle.dtx_ops.specs.declared.fields.Entry.{Entry}
 use Rattle.dtx_ops.specs.declared.fields.Ops.{Ops}
+use Rattle.dtx_ops.specs.Paging.{paging_bytes, count_place}
 use Rattle.dtx_ops.specs.Spelling.{entry_bytes, times_bytes, head_bytes}
 
 -- ys are written behind xs
@@ -68,32 +69,23 @@ pub set_first : (xs : List ℕ) (a : ℕ) → 1 ≤ length xs → set xs 0 a ≡
 set_first [] a h = absurd (omega arith)
 set_first (x ∷ xs) a h = refl
 
--- one byte behind xs and ys
-pub set_behind : (xs ys out : List ℕ) (n k j : ℕ) → length xs ≡ k → length ys ≡ j → k + j < length out
-    → set (xs ++ (ys ++ drop j (drop k out))) (k + j) n ≡ (xs ++ (ys ++ n ∷ [])) ++ drop (k + j + 1) out
-set_behind xs ys out n k j h l m =
-    let both : length (xs ++ ys) ≡ k + j = omega (arith, length-append xs ys) in
-    let rest : drop j (drop k out) ≡ drop (k + j) out = drop-drop j k out in
-    let none : k + j - (k + j) ≡ 0 = omega arith in
-    let first : set (drop (k + j) out) 0 n ≡ (n ∷ []) ++ drop (k + j + 1) out =
-    set_first (drop (k + j) out) n (omega (arith, length-drop (k + j) out))
-    ∙ ap (λ (t : List ℕ). (n ∷ []) ++ t) (drop-drop 1 (k + j) out) in
-    ap (λ (t : List ℕ). set (xs ++ (ys ++ t)) (k + j) n) rest
-    ∙ ap (λ (t : List ℕ). set t (k + j) n) (sym (append_assoc xs ys (drop (k + j) out)))
-    ∙ set-append_right (xs ++ ys) (drop (k + j) out) (k + j) (k + j) n both (omega arith)
-    ∙ ap (λ (t : ℕ). (xs ++ ys) ++ set (drop (k + j) out) t n) none
-    ∙ ap (λ (t : List ℕ). (xs ++ ys) ++ t) first
-    ∙ sym (append_assoc (xs ++ ys) (n ∷ []) (drop (k + j + 1) out))
-    ∙ ap (λ (t : List ℕ). t ++ drop (k + j + 1) out) (append_assoc xs ys (n ∷ []))
+-- two pieces, and behind them a third and the rest
+pub three_pieces : (xs ys zs rest : List ℕ) → (xs ++ ys) ++ (zs ++ rest) ≡ (xs ++ (ys ++ zs)) ++ rest
+three_pieces xs ys zs rest =
+    append_assoc xs ys (zs ++ rest) ∙ ap (λ (t : List ℕ). xs ++ t) (sym (append_assoc ys zs rest))
+    ∙ sym (append_assoc xs (ys ++ zs) rest)
 
--- nineteen bytes before the entries
+-- the bytes before the entries
 pub length-times_bytes : (f : Ops) → length (times_bytes f) ≡ 12
 unfolding times_bytes
 length-times_bytes f = refl
 
-pub length-head_bytes : (f : Ops) → length (head_bytes f) ≡ 19
+pub length-head_bytes : (f : Ops) → length (head_bytes f) ≡ count_place f.paging + 1
 unfolding head_bytes
-length-head_bytes f = omega (arith, length-times_bytes f, length-append (times_bytes f) (length f.offsets.items ∷ []))
+length-head_bytes f =
+    let name : List ℕ = paging_bytes f.paging in
+    let n : ℕ = length f.offsets.items in
+    omega (arith, length-times_bytes f, length-append (times_bytes f) (name ++ n ∷ []), length-append name (n ∷ []))
 
 -- a packet of which byte 0 stays
 pub packet_written : (xs word : List ℕ) (a b c : ℕ) → length xs ≡ 188

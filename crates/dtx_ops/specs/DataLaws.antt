@@ -1,10 +1,10 @@
 -- The data of fields, and the fields of data.
-use Rattle.std.proofs.Common.{◌≡◌, ℕ, suc, ◌+◌, ◌-◌, ◌*◌, ◌/◌, ◌%◌, ◌^◌, ◌<◌, ◌==◌, List, [], ◌∷◌, ◌++◌, None, Ok}
+use Rattle.std.proofs.Common.{◌≡◌, ℕ, suc, ◌+◌, ◌-◌, ◌*◌, ◌/◌, ◌%◌, ◌^◌, ◌<◌, ◌≤◌, ◌==◌, List, [], ◌∷◌, ◌++◌, None, Ok}
 use Rattle.std.proofs.Common.{length, drop, get_or, replicate, slice_index, refl, ap, ap₂, sym, ◌∙◌, length-append}
-use Rattle.std.proofs.Common.{drop-cons, arith}
+use Rattle.std.proofs.Common.{append_assoc, subst, arith}
 use Rattle.std.proofs.Math.Nat.{mod-lt}
 use Rattle.std.proofs.Math.Seq.{drop-append_seam}
-use Rattle.std.proofs.lemmas.List.{drop-drop, length-drop, length-replicate, get_or-drop}
+use Rattle.std.proofs.lemmas.List.{length-drop, length-replicate, get_or-drop}
 use Rattle.std.proofs.lemmas.List.FromFn.{get_or-map-range_with_len}
 use Rattle.std.specs.List.{AllByRecursion, flat_map, list_all}
 use Rattle.byteorder.specs.Endian.{big_bytes, big_number}
@@ -13,8 +13,9 @@ use Rattle.dtx_galois.specs.Field.{AreBytes}
 use Rattle.dtx_galois.specs.BytesLaws.{bytes_append, bytes_zeros}
 use Rattle.dtx_ops.specs.declared.fields.Entry.{Entry}
 use Rattle.dtx_ops.specs.declared.fields.Ops.{Ops}
-use Rattle.dtx_ops.specs.Fields.{states_at, states_in, stamp_in, max_delay_in, frame_in, index_in, count_in, entries_in}
-use Rattle.dtx_ops.specs.Fields.{fields}
+use Rattle.dtx_ops.specs.Fields.{states_at, states_in, stamp_in, max_delay_in, frame_in, index_in, paging_in, count_in}
+use Rattle.dtx_ops.specs.Fields.{behind_count, entries_in, fields}
+use Rattle.dtx_ops.specs.Paging.{kind_of, paging_bytes, count_place, most_of, IsPaged}
 use Rattle.dtx_ops.specs.Rules.{first, data_rules, has_twice}
 use Rattle.dtx_ops.specs.Reading.{unless, data_reading}
 use Rattle.dtx_ops.specs.Spelling.{states_bits, entry_bytes, times_bytes, head_bytes, data_of, IsValid}
@@ -23,50 +24,71 @@ use Rattle.dtx_ops.specs.DigitsLaws.{states_at-bits, bits-states_at, bits_pad, b
 use Rattle.dtx_ops.specs.EntriesLaws.{length-entries, entries_in-bytes, bytes-entries_in, are_entries_in}
 use Rattle.dtx_ops.specs.EntriesLaws.{length-entries_in, bytes-entries}
 use Rattle.dtx_ops.specs.NumbersLaws.{number_at, bytes_are, byte_within, AreBytes-drop}
+use Rattle.dtx_ops.specs.PagingLaws.{room, most_few, kind_small, bytes_paging, byte_and_rest, name_and_rest}
+use Rattle.dtx_ops.specs.PagingLaws.{paging_named, count_named, behind_named}
 use Rattle.dtx_ops.specs.PassingLaws.{Passes, passes_unrefused, unrefused_passes, zeros_blank, blank_zeros}
 
+-- the bytes behind the entries, which are 00
+abbrev zeros_of : Ops → List ℕ
+zeros_of f = replicate (145 - length (paging_bytes f.paging) - 4 * length f.offsets.items) 0
+
 -- the data from each place on
-abbrev from_19 : Ops → List ℕ
-from_19 f = flat_map entry_bytes f.offsets.items ++ replicate (145 - 4 * length f.offsets.items) 0
+abbrev from_page : Ops → List ℕ
+from_page f = flat_map entry_bytes f.offsets.items ++ zeros_of f
+
+abbrev from_18 : Ops → List ℕ
+from_18 f = paging_bytes f.paging ++ length f.offsets.items ∷ from_page f
 
 abbrev from_12 : Ops → List ℕ
-from_12 f = big_bytes 4 f.frame ++ (big_bytes 2 f.index ++ (length f.offsets.items ∷ from_19 f))
+from_12 f = big_bytes 4 f.frame ++ (big_bytes 2 f.index ++ from_18 f)
 
 abbrev from_6 : Ops → List ℕ
 from_6 f = big_bytes 3 f.stamp ++ (big_bytes 3 f.max_delay ++ from_12 f)
 
-layout : (f : Ops) → data_of f ≡ 1 ∷ (big_bytes 5 (states_bits f.states) ++ from_6 f)
+layout : (f : Ops) → data_of f ≡ kind_of f.paging ∷ (big_bytes 5 (states_bits f.states) ++ from_6 f)
 unfolding data_of head_bytes times_bytes
-layout f = refl
+layout f =
+    ap (λ (t : List ℕ). kind_of f.paging ∷ (big_bytes 5 (states_bits f.states) ++ (big_bytes 3 f.stamp
+    ++ (big_bytes 3 f.max_delay ++ (big_bytes 4 f.frame ++ (big_bytes 2 f.index ++ t))))))
+    (append_assoc (paging_bytes f.paging ++ length f.offsets.items ∷ []) (flat_map entry_bytes f.offsets.items)
+    (zeros_of f)
+    ∙ append_assoc (paging_bytes f.paging) (length f.offsets.items ∷ []) (from_page f))
 
-pub length-data_of : (f : Ops) → IsValid f → length (data_of f) ≡ 164
-length-data_of f h =
+pub data_long : (f : Ops) → length f.offsets.items ≤ most_of f.paging → length (data_of f) ≡ 164
+data_long f few =
     let es = f.offsets.items in
+    let name : List ℕ = paging_bytes f.paging in
     ap (λ (t : List ℕ). length t) (layout f)
     ∙ omega (
       arith,
-      h.few,
-      length-append (flat_map entry_bytes es) (replicate (145 - 4 * length es) 0),
+      few,
+      room f.paging,
+      length-append name (length es ∷ from_page f),
+      length-append (flat_map entry_bytes es) (zeros_of f),
       length-entries es,
-      length-replicate {A = ℕ} (145 - 4 * length es) 0,
+      length-replicate {A = ℕ} (145 - length name - 4 * length es) 0,
     )
+
+pub length-data_of : (f : Ops) → IsValid f → length (data_of f) ≡ 164
+length-data_of f h = data_long f h.paged.fits
 
 pub AreBytes-data_of : (f : Ops) → IsValid f → AreBytes (data_of f)
 AreBytes-data_of f h =
     let es = f.offsets.items in
-    let rest : AreBytes (from_19 f) =
-    bytes_append (flat_map entry_bytes es) (replicate (145 - 4 * length es) 0) (bytes-entries es)
-    (bytes_zeros (145 - 4 * length es)) in
-    let count : AreBytes (length es ∷ from_19 f) = (omega (arith, h.few), rest) in
-    let index = bytes_append (big_bytes 2 f.index) (length es ∷ from_19 f) (bytes_are 2 f.index) count in
-    let frame = bytes_append (big_bytes 4 f.frame) (big_bytes 2 f.index ++ (length es ∷ from_19 f))
-    (bytes_are 4 f.frame) index in
+    let name : List ℕ = paging_bytes f.paging in
+    let rest : AreBytes (from_page f) = bytes_append (flat_map entry_bytes es) (zeros_of f) (bytes-entries es)
+    (bytes_zeros (145 - length name - 4 * length es)) in
+    let count : AreBytes (length es ∷ from_page f) = (omega (arith, h.few), rest) in
+    let named = bytes_append name (length es ∷ from_page f) (bytes_paging f.paging (length es) h.paged) count in
+    let index = bytes_append (big_bytes 2 f.index) (from_18 f) (bytes_are 2 f.index) named in
+    let frame = bytes_append (big_bytes 4 f.frame) (big_bytes 2 f.index ++ from_18 f) (bytes_are 4 f.frame) index in
     let max_delay = bytes_append (big_bytes 3 f.max_delay) (from_12 f) (bytes_are 3 f.max_delay) frame in
     let stamp = bytes_append (big_bytes 3 f.stamp) (big_bytes 3 f.max_delay
     ++ from_12 f) (bytes_are 3 f.stamp) max_delay in
     let states = bytes_append (big_bytes 5 (states_bits f.states)) (from_6 f)
     (bytes_are 5 (states_bits f.states)) stamp in
-    let all : AreBytes (1 ∷ (big_bytes 5 (states_bits f.states) ++ from_6 f)) = (omega arith, states) in
+    let all : AreBytes (kind_of f.paging ∷ (big_bytes 5 (states_bits f.states) ++ from_6 f)) =
+    (kind_small f.paging, states) in
     rw (layout f) all
 
 all_below : (states : List ℕ) → ((e : ℕ) → e < length states → slice_index states e < 8)
@@ -82,16 +104,16 @@ times_back : (f : Ops) → IsValid f → (stamp_in (data_of f) ≡ f.stamp) × (
     × (frame_in (data_of f) ≡ f.frame) × (index_in (data_of f) ≡ f.index)
 unfolding stamp_in max_delay_in frame_in index_in
 times_back f h =
-    let e : (k : ℕ) → drop k (data_of f) ≡ drop k (1 ∷ (big_bytes 5 (states_bits f.states) ++ from_6 f)) =
+    let e : (k : ℕ) → drop k (data_of f)
+    ≡ drop k (kind_of f.paging ∷ (big_bytes 5 (states_bits f.states) ++ from_6 f)) =
     λ k. ap (drop k) (layout f) in (
       ap (big_number 3) (e 6) ∙ big_number-reads_back 3 f.stamp (big_bytes 3 f.max_delay
           ++ from_12 f) (omega (arith, h.stamp)),
       ap (big_number 3) (e 9) ∙ big_number-reads_back 3 f.max_delay (from_12 f) (omega (arith, h.max_delay)),
       ap (big_number 4) (e 12)
-          ∙ big_number-reads_back 4 f.frame (big_bytes 2 f.index ++ (length f.offsets.items ∷ from_19 f))
-          (omega (arith, h.frame)),
+          ∙ big_number-reads_back 4 f.frame (big_bytes 2 f.index ++ from_18 f) (omega (arith, h.frame)),
       ap (big_number 2) (e 16)
-          ∙ big_number-reads_back 2 f.index (length f.offsets.items ∷ from_19 f) (omega (arith, h.index)),
+          ∙ big_number-reads_back 2 f.index (from_18 f) (omega (arith, h.index)),
     )
 
 states_back : (f : Ops) → IsValid f → states_in (data_of f) ≡ f.states
@@ -102,23 +124,29 @@ states_back f h =
     ∙ big_number-reads_back 5 (states_bits f.states) (from_6 f) (bits_below f.states h.twelve small) in
     ap states_at number ∙ states_at-bits f.states h.twelve small
 
-behind_head : (f : Ops) → drop 19 (data_of f) ≡ from_19 f
-behind_head f = ap (drop 19) (layout f)
+named : (f : Ops) → drop 18 (data_of f) ≡ from_18 f
+named f = ap (drop 18) (layout f)
+
+paging_back : (f : Ops) → paging_in (data_of f) ≡ f.paging
+paging_back f =
+    paging_named f.paging (data_of f) (length f.offsets.items ∷ from_page f)
+    (ap (λ (t : List ℕ). slice_index t 0) (layout f)) (named f)
 
 count_back : (f : Ops) → count_in (data_of f) ≡ length f.offsets.items
-count_back f = ap (λ (t : List ℕ). slice_index t 18) (layout f)
+count_back f = count_named f.paging (length f.offsets.items) (data_of f) (from_page f) (paging_back f) (named f)
 
-entries_back : (f : Ops) → IsValid f → entries_in (count_in (data_of f)) (data_of f) ≡ f.offsets.items
+page_back : (f : Ops) → behind_count (data_of f) ≡ from_page f
+page_back f = behind_named f.paging (length f.offsets.items) (data_of f) (from_page f) (paging_back f) (named f)
+
+entries_back : (f : Ops) → IsValid f → entries_in (count_in (data_of f)) (behind_count (data_of f)) ≡ f.offsets.items
 entries_back f h =
-    let es = f.offsets.items in
-    ap (λ (n : ℕ). entries_in n (data_of f)) (count_back f)
-    ∙ entries_in-bytes es (replicate (145 - 4 * length es) 0) (data_of f) h.entries (behind_head f)
+    ap₂ entries_in (count_back f) (page_back f) ∙ entries_in-bytes f.offsets.items (zeros_of f) h.entries
 
 pub fields-data_of : (f : Ops) → IsValid f → fields (data_of f) ≡ f
 unfolding fields
 fields-data_of f h =
     let times = times_back f h in
-    rw (states_back f h, times.0, times.1, times.2, times.3, entries_back f h) refl
+    rw (states_back f h, times.0, times.1, times.2, times.3, paging_back f, entries_back f h) refl
 
 pub passes-data_of : (f : Ops) → IsValid f → Passes (data_of f)
 passes-data_of f h =
@@ -126,22 +154,23 @@ passes-data_of f h =
     let times = times_back f h in
     let pad : slice_index (data_of f) 5 ≡ states_bits f.states % 256 =
     ap (λ (t : List ℕ). slice_index t 5) (layout f) in
-    let zeros : List ℕ = replicate (145 - 4 * length es) 0 in
-    let rest : drop (19 + 4 * count_in (data_of f)) (data_of f) ≡ zeros =
-    ap (λ (n : ℕ). drop (19 + 4 * n) (data_of f)) (count_back f)
-    ∙ sym (drop-drop (4 * length es) 19 (data_of f))
-    ∙ ap (drop (4 * length es)) (behind_head f)
-    ∙ ap (λ (n : ℕ). drop n (from_19 f)) (sym (length-entries es))
-    ∙ drop-append_seam (flat_map entry_bytes es) zeros in
+    let rest : drop (4 * count_in (data_of f)) (behind_count (data_of f)) ≡ zeros_of f =
+    ap₂ (λ (n : ℕ) (t : List ℕ). drop (4 * n) t) (count_back f) (page_back f)
+    ∙ ap (λ (n : ℕ). drop n (from_page f)) (sym (length-entries es))
+    ∙ drop-append_seam (flat_map entry_bytes es) (zeros_of f) in
+    let paged : IsPaged (paging_in (data_of f)) (count_in (data_of f)) =
+    rw (paging_back f, count_back f) h.paged in
     record {
-      kind = ap (λ (t : List ℕ). slice_index t 0) (layout f);
+      kind = ap (λ (t : List ℕ). slice_index t 0) (layout f) ∙ ap kind_of (sym (paging_back f));
       pad = omega (arith, pad, bits_pad f.states);
       stamp = omega (arith, times.0, h.stamp);
       max_delay = omega (arith, times.1, h.max_delay);
       index = omega (arith, times.3, h.index);
-      count = omega (arith, count_back f, h.few);
+      paged = paged;
       once = ap has_twice (entries_back f h) ∙ not_twice es h.differ;
-      blank = ap (list_all (λ byte. byte == 0)) rest ∙ blank_zeros (145 - 4 * length es);
+      blank =
+          ap (list_all (λ byte. byte == 0)) rest
+          ∙ blank_zeros (145 - length (paging_bytes f.paging) - 4 * length es);
     }
 
 -- valid fields, read from their data
@@ -150,10 +179,17 @@ unfolding data_reading
 data_reading-data_of f h =
     ap₂ unless (unrefused_passes (data_of f) (passes-data_of f h)) (fields-data_of f h)
 
--- the byte at a place and those behind it
-byte_and_rest : (k : ℕ) (bytes : List ℕ) → k < length bytes → slice_index bytes k ∷ drop (k + 1) bytes ≡ drop k bytes
-byte_and_rest k bytes l = let e : suc k ≡ k + 1 = omega arith in
-    sym (drop-cons bytes k 0 l ∙ ap (λ (n : ℕ). slice_index bytes k ∷ drop n bytes) e)
+-- the bytes behind the count
+page_long : (bytes : List ℕ) → length bytes ≡ 164
+    → length (paging_bytes (paging_in bytes)) + length (behind_count bytes) ≡ 145
+page_long bytes l =
+    let name : List ℕ = paging_bytes (paging_in bytes) in
+    let all = ap (λ (t : List ℕ). length t) (name_and_rest bytes l) in
+    omega (arith, l, all, length-append name (count_in bytes ∷ behind_count bytes), length-drop 18 bytes)
+
+AreBytes-page : (bytes : List ℕ) → AreBytes bytes → AreBytes (behind_count bytes)
+unfolding behind_count
+AreBytes-page bytes h = AreBytes-drop (count_place (paging_in bytes) + 1) bytes h
 
 -- the data of the fields of data that no rule refuses
 pub data_of-fields : (bytes : List ℕ) → length bytes ≡ 164 → AreBytes bytes → Passes bytes
@@ -161,15 +197,18 @@ pub data_of-fields : (bytes : List ℕ) → length bytes ≡ 164 → AreBytes by
 unfolding fields states_in stamp_in max_delay_in frame_in index_in
 data_of-fields bytes l h p =
     let n : ℕ = count_in bytes in
-    let es : List Entry = entries_in n bytes in
-    let long : length es ≡ n = length-entries_in n bytes in
-    let zeros : replicate (145 - 4 * length es) 0 ≡ drop (19 + 4 * n) bytes =
-    ap (λ (m : ℕ). replicate m 0) (omega (arith, long, l, p.count, length-drop (19 + 4 * n) bytes))
-    ∙ sym (zeros_blank (drop (19 + 4 * n) bytes) p.blank) in
-    let at_19 : from_19 (fields bytes) ≡ drop 19 bytes =
-    ap (λ (t : List ℕ). flat_map entry_bytes es ++ t) zeros ∙ bytes-entries_in n bytes (omega (arith, l, p.count)) h in
-    let at_18 : length es ∷ from_19 (fields bytes) ≡ drop 18 bytes = ap₂ (λ (m : ℕ) (t : List ℕ). m ∷ t) long at_19
-    ∙ byte_and_rest 18 bytes (omega (arith, l)) in
+    let page : List ℕ = behind_count bytes in
+    let name : List ℕ = paging_bytes (paging_in bytes) in
+    let es : List Entry = entries_in n page in
+    let long : length es ≡ n = length-entries_in n page in
+    let fits : 4 * n ≤ length page = omega (arith, page_long bytes l, p.paged.fits, room (paging_in bytes)) in
+    let zeros : replicate (145 - length name - 4 * length es) 0 ≡ drop (4 * n) page =
+    ap (λ (m : ℕ). replicate m 0) (omega (arith, long, page_long bytes l, length-drop (4 * n) page))
+    ∙ sym (zeros_blank (drop (4 * n) page) p.blank) in
+    let at_page : from_page (fields bytes) ≡ page =
+    ap (λ (t : List ℕ). flat_map entry_bytes es ++ t) zeros ∙ bytes-entries_in n page fits (AreBytes-page bytes h) in
+    let at_18 : from_18 (fields bytes) ≡ drop 18 bytes =
+    ap₂ (λ (m : ℕ) (t : List ℕ). name ++ m ∷ t) long at_page ∙ name_and_rest bytes l in
     let at_16 = ap (λ (t : List ℕ). big_bytes 2 (index_in bytes) ++ t) at_18
     ∙ number_at 2 16 18 bytes refl (omega (arith, l)) h in
     let at_12 = ap (λ (t : List ℕ). big_bytes 4 (frame_in bytes) ++ t) at_16
@@ -193,6 +232,8 @@ pub valid_fields : (bytes : List ℕ) → length bytes ≡ 164 → AreBytes byte
 unfolding fields states_in states_at stamp_in max_delay_in frame_in index_in
 valid_fields bytes l h p =
     let n : ℕ = count_in bytes in
+    let page : List ℕ = behind_count bytes in
+    let fits : 4 * n ≤ length page = omega (arith, page_long bytes l, p.paged.fits, room (paging_in bytes)) in
     let number : ℕ = big_number 5 (drop 1 bytes) in
     record {
       twelve = refl;
@@ -205,9 +246,10 @@ valid_fields bytes l h p =
       max_delay = p.max_delay;
       frame = big_from-lt 0 4 (drop 12 bytes) (byte_within (drop 12 bytes) (AreBytes-drop 12 bytes h));
       index = p.index;
-      few = omega (arith, length-entries_in n bytes, p.count);
-      entries = are_entries_in n bytes (omega (arith, l, p.count)) h;
-      differ = differ_unless_twice (entries_in n bytes) p.once;
+      few = omega (arith, length-entries_in n page, p.paged.fits, most_few (paging_in bytes));
+      paged = subst (λ (m : ℕ). IsPaged (paging_in bytes) m) (sym (length-entries_in n page)) p.paged;
+      entries = are_entries_in n page fits (AreBytes-page bytes h);
+      differ = differ_unless_twice (entries_in n page) p.once;
     }
 
 -- ---- the same by the rules

@@ -91,56 +91,55 @@ behind_entries (e ∷ es) (suc k) d rest l =
     let next : suc (suc (suc (suc (4 * k)))) + 4 ≡ suc (suc (suc (suc (4 * k + 4)))) = omega arith in
     rw (here, next) (behind_entries es k d rest (omega arith))
 
--- the entries in their bytes, behind a head of nineteen bytes
-pub entries_in-bytes : (es : List Entry) (rest bytes : List ℕ) → All IsEntry es
-    → drop 19 bytes ≡ flat_map entry_bytes es ++ rest → entries_in (length es) bytes ≡ es
+-- the entries in their bytes
+pub entries_in-bytes : (es : List Entry) (rest : List ℕ) → All IsEntry es
+    → entries_in (length es) (flat_map entry_bytes es ++ rest) ≡ es
 unfolding entries_in
-entries_in-bytes es rest bytes h e =
+entries_in-bytes es rest h =
     let none : Entry = record { address = 0; offset = pos 0 } in
-    sym (fill_by_all (λ i. entry_in (drop (19 + 4 * i) bytes)) es (length es) none refl (λ k l.
-    let there : drop (19 + 4 * k) bytes ≡ drop (4 * k) (flat_map entry_bytes es ++ rest) =
-    sym (drop-drop (4 * k) 19 bytes) ∙ ap (drop (4 * k)) e in
-    sym (ap entry_in (there ∙ behind_entries es k none rest l)
-    ∙ entry_in-bytes (get_or es k none) (drop (4 * k + 4) (flat_map entry_bytes es ++ rest)) (h k none l))))
+    let bytes : List ℕ = flat_map entry_bytes es ++ rest in
+    sym (fill_by_all (λ i. entry_in (drop (4 * i) bytes)) es (length es) none refl (λ k l.
+    sym (ap entry_in (behind_entries es k none rest l)
+    ∙ entry_in-bytes (get_or es k none) (drop (4 * k + 4) bytes) (h k none l))))
 
 -- the bytes of the entries in them, and the rest
-pub bytes-entries_in : (count : ℕ) (bytes : List ℕ) → 19 + 4 * count ≤ length bytes → AreBytes bytes
-    → flat_map entry_bytes (entries_in count bytes) ++ drop (19 + 4 * count) bytes ≡ drop 19 bytes
+pub bytes-entries_in : (count : ℕ) (bytes : List ℕ) → 4 * count ≤ length bytes → AreBytes bytes
+    → flat_map entry_bytes (entries_in count bytes) ++ drop (4 * count) bytes ≡ bytes
 unfolding entries_in
 bytes-entries_in zero bytes l h = refl
 bytes-entries_in (suc n) bytes l h =
-    let entry : ℕ → Entry = λ i. entry_in (drop (19 + 4 * i) bytes) in
+    let entry : ℕ → Entry = λ i. entry_in (drop (4 * i) bytes) in
     let before : List Entry = map entry (range_with_len 0 n) in
-    let here : List ℕ = drop (19 + 4 * n) bytes in
+    let here : List ℕ = drop (4 * n) bytes in
     let plus : suc n ≡ n + 1 = omega arith in
-    let far : 19 + 4 * suc n ≡ 19 + 4 * n + 4 = omega arith in
+    let far : 4 * suc n ≡ 4 * n + 4 = omega arith in
     let more : map entry (range_with_len 0 (suc n)) ≡ before ++ entry n ∷ [] =
     ap (λ (m : ℕ). map entry (range_with_len 0 m)) plus ∙ map-range_with_len_more entry 0 n n (omega arith) in
-    let next : drop (19 + 4 * suc n) bytes ≡ drop 4 here = ap (λ (m : ℕ). drop m bytes) far
-    ∙ sym (drop-drop 4 (19 + 4 * n) bytes) in
+    let next : drop (4 * suc n) bytes ≡ drop 4 here = ap (λ (m : ℕ). drop m bytes) far
+    ∙ sym (drop-drop 4 (4 * n) bytes) in
     let one : flat_map entry_bytes (entry n ∷ []) ≡ entry_bytes (entry n) = append-nil (entry_bytes (entry n)) in
     ap₂ (λ (es : List Entry) (t : List ℕ). flat_map entry_bytes es ++ t) more next
     ∙ ap (λ (t : List ℕ). t ++ drop 4 here) (flat_map-append entry_bytes before (entry n ∷ [])
     ∙ ap (λ (t : List ℕ). flat_map entry_bytes before ++ t) one)
     ∙ append_assoc (flat_map entry_bytes before) (entry_bytes (entry n)) (drop 4 here)
     ∙ ap (λ (t : List ℕ). flat_map entry_bytes before
-    ++ t) (bytes-entry_in here (omega (arith, length-drop (19 + 4 * n) bytes)) (AreBytes-drop (19 + 4 * n) bytes h))
+    ++ t) (bytes-entry_in here (omega (arith, length-drop (4 * n) bytes)) (AreBytes-drop (4 * n) bytes h))
     ∙ bytes-entries_in n bytes (omega arith) h
 
 -- entries that were read
-pub are_entries_in : (count : ℕ) (bytes : List ℕ) → 19 + 4 * count ≤ length bytes → AreBytes bytes
+pub are_entries_in : (count : ℕ) (bytes : List ℕ) → 4 * count ≤ length bytes → AreBytes bytes
     → All IsEntry (entries_in count bytes)
 unfolding entries_in
 are_entries_in count bytes l h = λ k d m.
     let long : k < count =
-    omega (arith, m, length-map-range_with_len (λ i. entry_in (drop (19 + 4 * i) bytes)) 0 count) in
-    let here = get_or-map-range_with_len (λ i. entry_in (drop (19 + 4 * i) bytes)) 0 count k k d long (omega arith) in
-    rw here (is_entry_in (drop (19 + 4 * k) bytes) (omega (arith, length-drop (19 + 4 * k) bytes))
-    (AreBytes-drop (19 + 4 * k) bytes h))
+    omega (arith, m, length-map-range_with_len (λ i. entry_in (drop (4 * i) bytes)) 0 count) in
+    let here = get_or-map-range_with_len (λ i. entry_in (drop (4 * i) bytes)) 0 count k k d long (omega arith) in
+    rw here (is_entry_in (drop (4 * k) bytes) (omega (arith, length-drop (4 * k) bytes))
+    (AreBytes-drop (4 * k) bytes h))
 
 pub length-entries_in : (count : ℕ) (bytes : List ℕ) → length (entries_in count bytes) ≡ count
 unfolding entries_in
-length-entries_in count bytes = length-map-range_with_len (λ i. entry_in (drop (19 + 4 * i) bytes)) 0 count
+length-entries_in count bytes = length-map-range_with_len (λ i. entry_in (drop (4 * i) bytes)) 0 count
 
 -- each of the first i entries and the next one
 pub one_more_entry : (es : List Entry) (i : ℕ) (none : Entry) → i < length es → IsEntry (get_or es i none)

@@ -1,10 +1,13 @@
--- The fields in the 164 data bytes of an operations packet (the profile's own). Numbers are big-endian.
-use Rattle.std.specs.Prelude.{ℕ, ◌+◌, ◌-◌, ◌*◌, ◌/◌, ◌%◌, ◌^◌, List, map, drop, slice_index}
+-- The fields in the 164 data bytes of an operations packet, of either kind (the profile's own). Numbers are big-endian.
+use Rattle.std.specs.Prelude.{ℕ, ◌+◌, ◌-◌, ◌*◌, ◌/◌, ◌%◌, ◌^◌, ◌==◌, if◌then◌else◌, List, map, drop, slice_index}
 use Rattle.std.specs.Int.{w16, cast_signed}
 use Rattle.std.specs.List.{range_with_len}
 use Rattle.byteorder.specs.Endian.{big_number}
 use Rattle.dtx_ops.specs.declared.fields.Entry.{Entry}
 use Rattle.dtx_ops.specs.declared.fields.Ops.{Ops}
+use Rattle.dtx_ops.specs.declared.paging.Paging.{Paging}
+use Rattle.dtx_ops.specs.declared.paging.Paging.TheVariants.{One, Of}
+use Rattle.dtx_ops.specs.Paging.{count_place}
 
 -- the state of coder e is three bits of a number of forty bits, of which it has bits 39 - 3 e to 37 - 3 e
 unfoldable pub states_at : ℕ → List ℕ
@@ -30,17 +33,25 @@ frame_in bytes = big_number 4 (drop 12 bytes)
 unfoldable pub index_in : List ℕ → ℕ
 index_in bytes = big_number 2 (drop 16 bytes)
 
--- the count of entries is byte 18
-abbrev pub count_in : List ℕ → ℕ
-count_in bytes = slice_index bytes 18
+-- kind 2 has the page in byte 18 and the number of pages in byte 19
+unfoldable pub paging_in : List ℕ → Paging
+paging_in bytes = if slice_index bytes 0 == 2 then Of (slice_index bytes 18) (slice_index bytes 19) else One
+
+-- the count of entries is byte 18 in kind 1 and byte 20 in kind 2
+unfoldable pub count_in : List ℕ → ℕ
+count_in bytes = slice_index bytes (count_place (paging_in bytes))
+
+-- the bytes behind the count
+unfoldable pub behind_count : List ℕ → List ℕ
+behind_count bytes = drop (count_place (paging_in bytes) + 1) bytes
 
 -- the entry in four bytes: the address, and then the offset in two's complement
 unfoldable pub entry_in : List ℕ → Entry
 entry_in bytes = record { address = big_number 2 bytes; offset = cast_signed w16 (big_number 2 (drop 2 bytes)) }
 
--- that many entries, from byte 19 on
+-- that many entries, one behind the other
 unfoldable pub entries_in : ℕ → List ℕ → List Entry
-entries_in count bytes = map (λ i. entry_in (drop (19 + 4 * i) bytes)) (range_with_len 0 count)
+entries_in count bytes = map (λ i. entry_in (drop (4 * i) bytes)) (range_with_len 0 count)
 
 -- all fields
 unfoldable pub fields : List ℕ → Ops
@@ -50,5 +61,6 @@ fields bytes = record {
   max_delay = max_delay_in bytes;
   frame = frame_in bytes;
   index = index_in bytes;
-  offsets = record { items = entries_in (count_in bytes) bytes };
+  paging = paging_in bytes;
+  offsets = record { items = entries_in (count_in bytes) (behind_count bytes) };
 }

@@ -1,3 +1,4 @@
+pub mod Paging
 pub mod Spelling
 pub mod Fields
 pub mod Rules
@@ -5,6 +6,7 @@ pub mod Reading
 pub mod RefusingLaws
 pub mod NumbersLaws
 pub mod EntriesLaws
+pub mod PagingLaws
 pub mod DataLaws
 pub mod ReadingsLaws
 pub mod AddressesLaws

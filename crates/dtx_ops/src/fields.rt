@@ -1,4 +1,5 @@
 // The fields of an operations packet (the profile's own).
+use crate::paging::Paging;
 use arrayvec::ArrayVec;
 use dtx_sizes::MOST_ENTRIES;
 use dtx_trellis::States;
@@ -23,6 +24,8 @@ pub struct Ops {
     pub frame: u32,
     /// The packet's place in its frame, below 624.
     pub index: u16,
-    /// The transmitters, whose addresses differ from each other.
+    /// Which page of the transmitters the packet carries.
+    pub paging: Paging,
+    /// The transmitters of the page, whose addresses differ from each other.
     pub offsets: ArrayVec<Entry, MOST_ENTRIES>,
 }

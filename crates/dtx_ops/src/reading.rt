@@ -1,23 +1,24 @@
 // Reading an operations packet.
-ghost use Rattle.std.specs.Prelude.{◌≡◌, ◌+◌, ◌*◌, ◌<◌, ◌≤◌, [], IfOk, Some, None, drop, length, take};
-ghost use Rattle.byteorder.specs.Endian.{big_number};
-ghost use Rattle.dtx_ops.specs.Fields.{count_in, entry_in, entries_in, fields};
+ghost use Rattle.std.specs.Prelude.{◌≡◌, ◌+◌, ◌*◌, ◌<◌, ◌≤◌, ◌++◌, [], IfOk, Some, None, drop, length, take};
+ghost use Rattle.dtx_ops.specs.Fields.{paging_in, count_in, behind_count, entry_in, entries_in, fields};
+ghost use Rattle.dtx_ops.specs.Paging.{IsPaged};
 ghost use Rattle.dtx_ops.specs.Rules as rule;
 ghost use Rattle.dtx_ops.specs.Reading as spec;
 ghost use Rattle.dtx_ops.specs.Spelling.{IsValid};
 
 use crate::fields::{Entry, Ops};
 use crate::packing::unpacked;
+use crate::paging::Paging;
 use crate::refusal::OpsNo;
-use crate::rules::{head_refusal, rest_refusal};
+use crate::rules::{head_refusal, page_refusal, rest_refusal};
 use arrayvec::ArrayVec;
 use byteorder::{BigEndian, ByteOrder};
 use dtx_laws::Correct;
 use dtx_packets::Packet;
 use dtx_sizes::{MOST_ENTRIES, OPERATIONS_PID};
 
-/// The fields of an operations packet, or else the first of the ten rules that refuses it. Only the packet identifier
-/// and the payload are looked at, and up to ten bytes of the payload may be wrong.
+/// The fields of an operations packet, or else the first of the eleven rules that refuses it. Only the packet
+/// identifier and the payload are looked at, and up to ten bytes of the payload may be wrong.
 #[tactic(auto, unfolding(crate::specs::Reading::reading))]
 pub fn read<C: Correct<184, 164>>(code: &C, packet: &Packet) -> Result<Ops, OpsNo>
     ensures reading { result ≡ spec.reading packet.now.0 }
@@ -71,31 +72,68 @@ fn read_data(bytes: &[u8]) -> Result<Ops, OpsNo>
 {
     match head_refusal(bytes) {
         Some(no) => Err(no),
-        None => read_rest(bytes),
+        None => read_page(paging(bytes), bytes),
+    }
+}
+
+/// The page that the data carry.
+#[tactic(auto, unfolding(crate::specs::Fields::paging_in))]
+fn paging(bytes: &[u8]) -> Paging
+    requires { length bytes.now ≡ 164 }
+    ensures { result ≡ paging_in bytes.now }
+{
+    if bytes[0] == 2 {
+        Paging::Of {
+            page: bytes[18],
+            pages: bytes[19],
+        }
+    } else {
+        Paging::One
+    }
+}
+
+/// The fields in the data, or else the first rule on the page, the entries and the bytes behind them that refuses them.
+#[tactic(auto, unfolding(crate::specs::Fields::count_in), using(crate::specs::RefusingLaws::first_none, crate::specs::RefusingLaws::first_some))]
+fn read_page(paging: Paging, bytes: &[u8]) -> Result<Ops, OpsNo>
+    requires long { length bytes.now ≡ 164 }
+    requires paging { paging ≡ paging_in bytes.now }
+    ensures { result
+        ≡ spec.unless (rule.first (rule.page_rules (paging_in bytes.now) (count_in bytes.now)
+        ++ rule.rest_rules (entries_in (count_in bytes.now) (behind_count bytes.now))
+        (drop (4 * count_in bytes.now) (behind_count bytes.now)))) (fields bytes.now) }
+{
+    match page_refusal(paging, bytes[paging.count_place()]) {
+        Some(no) => Err(no),
+        None => read_rest(paging, bytes),
     }
 }
 
 /// The fields in the data, or else the first rule on the entries and the bytes behind them that refuses them.
-fn read_rest(bytes: &[u8]) -> Result<Ops, OpsNo>
+#[tactic(auto, unfolding(crate::specs::Fields::count_in, crate::specs::Fields::behind_count))]
+fn read_rest(paging: Paging, bytes: &[u8]) -> Result<Ops, OpsNo>
     requires long { length bytes.now ≡ 164 }
-    requires few { count_in bytes.now ≤ 35 }
+    requires paging { paging ≡ paging_in bytes.now }
+    requires paged { IsPaged paging (count_in bytes.now) }
     ensures { result
-        ≡ spec.unless (rule.first (rule.rest_rules (entries_in (count_in bytes.now) bytes.now)
-        (drop (19 + 4 * count_in bytes.now) bytes.now))) (fields bytes.now) }
+        ≡ spec.unless (rule.first (rule.rest_rules (entries_in (count_in bytes.now) (behind_count bytes.now))
+        (drop (4 * count_in bytes.now) (behind_count bytes.now)))) (fields bytes.now) }
 {
-    let count = bytes[18] as usize;
-    let offsets = entries(count, bytes);
-    match rest_refusal(offsets.as_slice(), &bytes[19 + 4 * count..]) {
+    let place = paging.count_place();
+    let count = bytes[place] as usize;
+    let page = &bytes[place + 1..];
+    let offsets = entries(count, page);
+    match rest_refusal(offsets.as_slice(), &page[4 * count..]) {
         Some(no) => Err(no),
-        None => Ok(fields_of(bytes, offsets)),
+        None => Ok(fields_of(bytes, paging, offsets)),
     }
 }
 
-/// The fields in the data, whose entries are read already.
+/// The fields in the data, whose page and entries are read already.
 #[tactic(auto, unfolding(crate::specs::Fields::fields, crate::specs::Fields::states_in, crate::specs::Fields::stamp_in, crate::specs::Fields::max_delay_in, crate::specs::Fields::frame_in, crate::specs::Fields::index_in))]
-fn fields_of(bytes: &[u8], offsets: ArrayVec<Entry, MOST_ENTRIES>) -> Ops
+fn fields_of(bytes: &[u8], paging: Paging, offsets: ArrayVec<Entry, MOST_ENTRIES>) -> Ops
     requires long { length bytes.now ≡ 164 }
-    requires entries { offsets.items ≡ entries_in (count_in bytes.now) bytes.now }
+    requires paging { paging ≡ paging_in bytes.now }
+    requires entries { offsets.items ≡ entries_in (count_in bytes.now) (behind_count bytes.now) }
     ensures { result ≡ fields bytes.now }
 {
     Ops {
@@ -104,6 +142,7 @@ fn fields_of(bytes: &[u8], offsets: ArrayVec<Entry, MOST_ENTRIES>) -> Ops
         max_delay: BigEndian::read_u24(&bytes[9..]),
         frame: BigEndian::read_u32(&bytes[12..]),
         index: BigEndian::read_u16(&bytes[16..]),
+        paging,
         offsets,
     }
 }
@@ -112,12 +151,12 @@ fn fields_of(bytes: &[u8], offsets: ArrayVec<Entry, MOST_ENTRIES>) -> Ops
 #[tactic(auto, unfolding(crate::specs::Fields::entries_in))]
 fn entries(count: usize, bytes: &[u8]) -> ArrayVec<Entry, MOST_ENTRIES>
     requires few { count ≤ 35 }
-    requires room { 19 + 4 * count ≤ length bytes.now }
+    requires room { 4 * count ≤ length bytes.now }
     ensures { result.items ≡ entries_in count bytes.now }
 {
     let mut found = ArrayVec::new();
     for i in 0..count {
-        found.push(entry(&bytes[19 + 4 * i..]));
+        found.push(entry(&bytes[4 * i..]));
     }
     found
 }

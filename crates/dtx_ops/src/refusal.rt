@@ -1,7 +1,8 @@
 // Why a packet does not read.
 use thiserror::Error;
 
-/// Why a packet isn't read, in the order in which the rules are tried. From `Kind` on they speak of the corrected data.
+/// Why a packet isn't read, in the order in which the rules are tried, but for `Page`, which is tried before `Count`.
+/// From `Kind` on they speak of the corrected data.
 #[derive(Clone, Copy, Debug, PartialEq, Eq, Error)]
 pub enum OpsNo {
     /// The packet identifier isn't 0x1FFA.
@@ -10,7 +11,7 @@ pub enum OpsNo {
     /// No codeword lies within ten places of the payload.
     #[error("Uncorrectable")]
     Uncorrectable,
-    /// The kind isn't 1.
+    /// The kind is neither 1 nor 2.
     #[error("Kind")]
     Kind,
     /// The four bits after the states aren't 0.
@@ -25,7 +26,7 @@ pub enum OpsNo {
     /// The index is 624 or more.
     #[error("Index")]
     Index,
-    /// The count of entries is above 35.
+    /// The count of entries is above 35 in kind 1, or above 34 in kind 2.
     #[error("Count")]
     Count,
     /// Two entries have one address.
@@ -34,6 +35,9 @@ pub enum OpsNo {
     /// A byte after the entries isn't 0.
     #[error("Fill")]
     Fill,
+    /// The number of pages is 0 or above 30, or the page isn't below it. It is tried between `Index` and `Count`.
+    #[error("Page")]
+    Page,
 }
 
 #[cfg(test)]
@@ -54,6 +58,7 @@ mod tests {
             (OpsNo::Count, "Count"),
             (OpsNo::Twice, "Twice"),
             (OpsNo::Fill, "Fill"),
+            (OpsNo::Page, "Page"),
         ];
         for (no, name) in cases {
             assert!(rt; format!(in rt.alloc(); "{no}")?.as_str() == name);

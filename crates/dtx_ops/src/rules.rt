@@ -1,22 +1,22 @@
 // The rules on the data of an operations packet, in their order.
-ghost use Rattle.std.specs.Prelude.{◌≡◌, ◌==◌, ◌≤◌, None, length};
+ghost use Rattle.std.specs.Prelude.{◌≡◌, ◌==◌, None, length};
 ghost use Rattle.std.specs.List.{list_all};
-ghost use Rattle.dtx_ops.specs.Fields.{count_in};
+ghost use Rattle.dtx_ops.specs.Paging.{IsPaged};
 ghost use Rattle.dtx_ops.specs.Rules as spec;
 
 use crate::fields::Entry;
+use crate::paging::Paging;
 use crate::refusal::OpsNo;
 use byteorder::{BigEndian, ByteOrder};
-use dtx_sizes::{FRAME_PACKETS, MOST_ENTRIES, SECOND_TICKS};
+use dtx_sizes::{FRAME_PACKETS, MOST_PAGES, SECOND_TICKS};
 
-/// The first rule on the data before the entries that holds.
+/// The first rule on the data before the page that holds.
 #[tactic(auto, unfolding(crate::specs::Rules::head_rules, crate::specs::Fields::stamp_in, crate::specs::Fields::max_delay_in, crate::specs::Fields::index_in))]
 pub(crate) fn head_refusal(bytes: &[u8]) -> Option<OpsNo>
     requires { length bytes.now ≡ 164 }
-    ensures first { result ≡ spec.first (spec.head_rules bytes.now) }
-    ensures few { result ≡ None → count_in bytes.now ≤ 35 }
+    ensures { result ≡ spec.first (spec.head_rules bytes.now) }
 {
-    if bytes[0] != 1 {
+    if bytes[0] != 1 && bytes[0] != 2 {
         Some(OpsNo::Kind)
     } else if bytes[5] % 16 != 0 {
         Some(OpsNo::Pad)
@@ -26,7 +26,19 @@ pub(crate) fn head_refusal(bytes: &[u8]) -> Option<OpsNo>
         Some(OpsNo::Delay)
     } else if BigEndian::read_u16(&bytes[16..]) >= FRAME_PACKETS {
         Some(OpsNo::Index)
-    } else if bytes[18] as usize > MOST_ENTRIES {
+    } else {
+        None
+    }
+}
+
+/// The first rule on the page and its count of entries that holds.
+pub(crate) fn page_refusal(paging: Paging, count: u8) -> Option<OpsNo>
+    ensures first { result ≡ spec.first (spec.page_rules paging count) }
+    ensures paged { result ≡ None → IsPaged paging count }
+{
+    if paging.pages() > MOST_PAGES || paging.page() >= paging.pages() {
+        Some(OpsNo::Page)
+    } else if count as usize > paging.most_entries() {
         Some(OpsNo::Count)
     } else {
         None

@@ -1,24 +1,28 @@
 // Writing an operations packet.
-ghost use Rattle.std.specs.Prelude.{◌≡◌, ◌≢◌, ◌*◌, ◌^◌, ◌<◌, ◌≤◌, ◌++◌, All, AllPairs, EachIndex, drop, length, map};
-ghost use Rattle.std.specs.Prelude.{replicate, slice_index};
+ghost use Rattle.std.specs.Prelude.{◌≡◌, ◌≢◌, ◌+◌, ◌*◌, ◌^◌, ◌<◌, ◌≤◌, [], ◌∷◌, ◌++◌, All, AllPairs, EachIndex, drop};
+ghost use Rattle.std.specs.Prelude.{length, map, replicate, slice_index};
 ghost use Rattle.std.specs.List.{flat_map};
 ghost use Rattle.byteorder.specs.Endian.{big_bytes};
 ghost use Rattle.dtx_laws.specs.Words.{codeword};
+ghost use Rattle.dtx_ops.specs.Paging.{paging_bytes, count_place, IsPaged};
 ghost use Rattle.dtx_ops.specs.Spelling.{entry_bytes, times_bytes, head_bytes, data_of, spelling, IsEntry, IsValid};
 
 use crate::fields::{Entry, Ops};
 use crate::packing::packed;
+use crate::paging::Paging;
 use byteorder::{BigEndian, ByteOrder};
 use dtx_laws::Encode;
 use dtx_packets::Packet;
 
 /// Makes the packet an operations packet of these fields and that counter. Its byte 0 stays. Stamp and maximum delay
-/// are to be below 10,000,000 ticks, the index below 624 and the counter below 16, and the addresses are to differ.
+/// are to be below 10,000,000 ticks, the index below 624 and the counter below 16, the
+/// page below the number of pages, which is at most 30, with at most 34 entries, and the addresses are to differ.
 #[tactic(auto, unfolding(crate::specs::Spelling::spelling))]
 pub fn write<E: Encode<184, 164>>(code: &E, ops: &Ops, counter: u8, packet: &mut Packet)
     requires stamp { ops.now.stamp < 10000000 }
     requires max_delay { ops.now.max_delay < 10000000 }
     requires index { ops.now.index < 624 }
+    requires paged { IsPaged ops.now.paging (length ops.now.offsets.items) }
     requires differ { AllPairs (λ a b. a ≢ b) (map (λ e. e.address) ops.now.offsets.items) }
     requires counter { counter < 16 }
     ensures spelling { packet.new.0 ≡ spelling ops.now counter (slice_index packet.old.0 0) }
@@ -36,6 +40,7 @@ fn payload<E: Encode<184, 164>>(code: &E, ops: &Ops) -> [u8; 184]
     requires stamp { ops.now.stamp < 10000000 }
     requires max_delay { ops.now.max_delay < 10000000 }
     requires index { ops.now.index < 624 }
+    requires paged { IsPaged ops.now.paging (length ops.now.offsets.items) }
     requires differ { AllPairs (λ a b. a ≢ b) (map (λ e. e.address) ops.now.offsets.items) }
     ensures codeword { result ≡ codeword 184 164 (data_of ops.now) }
     ensures valid { IsValid ops.now }
@@ -53,13 +58,17 @@ fn write_data(ops: &Ops, out: &mut [u8])
     requires stamp { ops.now.stamp < 10000000 }
     requires max_delay { ops.now.max_delay < 10000000 }
     requires index { ops.now.index < 624 }
+    requires paged { IsPaged ops.now.paging (length ops.now.offsets.items) }
     requires differ { AllPairs (λ a b. a ≢ b) (map (λ e. e.address) ops.now.offsets.items) }
     requires blank { out.old ≡ replicate 164 0 }
     ensures data { out.new ≡ data_of ops.now }
     ensures valid { IsValid ops.now }
 {
     write_head(ops, out);
-    write_entries(ops.offsets.as_slice(), &mut out[19..]);
+    write_entries(
+        ops.offsets.as_slice(),
+        &mut out[ops.paging.count_place() + 1..],
+    );
 }
 
 /// The data before the entries.
@@ -67,16 +76,16 @@ fn write_data(ops: &Ops, out: &mut [u8])
 fn write_head(ops: &Ops, out: &mut [u8])
     requires stamp { ops.now.stamp < 10000000 }
     requires max_delay { ops.now.max_delay < 10000000 }
-    requires room { 19 ≤ length out.old }
-    ensures head { out.new ≡ head_bytes ops.now ++ drop 19 out.old }
+    requires room { 21 ≤ length out.old }
+    ensures head { out.new ≡ head_bytes ops.now ++ drop (count_place ops.now.paging + 1) out.old }
     ensures twelve { length ops.now.states ≡ 12 }
     ensures states { EachIndex ops.now.states (λ e. slice_index ops.now.states e < 8) }
     ensures frame { ops.now.frame < 2 ^ 32 }
 {
-    out[0] = 1;
+    out[0] = ops.paging.kind();
     BigEndian::write_uint(&mut out[1..], packed(ops.states), 5);
     write_times(ops, &mut out[6..]);
-    out[18] = ops.offsets.len() as u8;
+    write_count(ops.paging, ops.offsets.len() as u8, &mut out[18..]);
 }
 
 /// Stamp, maximum delay, frame and index.
@@ -110,6 +119,27 @@ fn write_place(frame: u32, index: u16, out: &mut [u8])
 {
     BigEndian::write_u32(out, frame);
     BigEndian::write_u16(&mut out[4..], index);
+}
+
+/// What names the page, and the count of entries.
+fn write_count(paging: Paging, count: u8, out: &mut [u8])
+    requires { 3 ≤ length out.old }
+    ensures { out.new ≡ (paging_bytes paging ++ count ∷ []) ++ drop (length (paging_bytes paging) + 1) out.old }
+{
+    match paging {
+        Paging::One => out[0] = count,
+        Paging::Of { page, pages } => write_paging(page, pages, count, out),
+    }
+}
+
+/// A page, the number of pages, and a count of entries.
+fn write_paging(page: u8, pages: u8, count: u8, out: &mut [u8])
+    requires { 3 ≤ length out.old }
+    ensures { out.new ≡ page ∷ pages ∷ count ∷ drop 3 out.old }
+{
+    out[0] = page;
+    out[1] = pages;
+    out[2] = count;
 }
 
 /// The entries, four bytes each.

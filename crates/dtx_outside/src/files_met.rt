@@ -160,12 +160,14 @@ impl<F: Write + Drop> FilesMet<F> {
         if met.file.is_some() { Some(met) } else { None }
     }
 
-    /// Holds the file that was begun under that name open, where not too many are held.
+    /// Holds the file that was begun under that name open. Where too many are held, those are closed first: files are
+    /// mostly added to one after another, so it is this one that is looked for again.
     pub(crate) fn hold(&mut self, name: &str, file: F) {
         let held = self.met.iter().filter(|met| met.may_be_closed()).count();
-        if held < MOST_HELD
-            && let Some(met) = self.begun(name)
-        {
+        if held >= MOST_HELD {
+            self.let_go();
+        }
+        if let Some(met) = self.begun(name) {
             met.file = Some(file);
         }
     }

@@ -12,7 +12,7 @@ use std::marker::Model;
 use std::rt::Files;
 use std::time::Clock;
 
-/// The files of the host. A file that is written stays open once bytes were added to it, where not too many are open;
+/// The files of the host. A file that is written stays open once bytes were added to it, until too many are open;
 /// each other call opens its file and closes it again, so the number of files has no limit of its own.
 ///
 /// No file is begun that was read or begun before, under whatever name, or that standard output goes to: `begin` fails

@@ -1,6 +1,7 @@
 pub mod Words
 pub mod Rows
 pub mod TransmitterTable
+pub mod Places
 pub mod DamageTable
 pub mod EventTable
 pub mod ReceiveTable
@@ -9,4 +10,5 @@ pub mod RootTable
 pub mod Plan
 pub mod Sound
 pub mod AddressesLaws
+pub mod PlacesLaws
 pub mod WalksLaws

@@ -16,10 +16,10 @@ plan root = do
   _ ← known (codes "start" ∷ codes "max_delay" ∷ codes "transmitter" ∷ codes "net" ∷ []) root key.Whole 0
   start ← whole (get_member (codes "start") root) key.Start 0 0 9999999
   max_delay ← whole (get_member (codes "max_delay") root) key.MaxDelay 0 0 9999999
-  items ← array (get_member (codes "transmitter") root) key.Transmitter 0 1 35
+  items ← array (get_member (codes "transmitter") root) key.Transmitter 0 1 1020
   transmitters ← entries transmitter [] items
   network ← net transmitters root
-  Ok (record { start = start; max_delay = max_delay; transmitters = record { items = transmitters }; net = network })
+  Ok (record { start = start; max_delay = max_delay; transmitters = transmitters; net = network })
 
 -- changes: the root has the one key `damage`
 unfoldable pub changes : Members → Result (List Damage) PlanNo

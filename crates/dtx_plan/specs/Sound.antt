@@ -11,10 +11,10 @@ use Rattle.dtx_plan.specs.declared.plan.NetPlan.{NetPlan}
 use Rattle.dtx_plan.specs.declared.plan.Plan.{Plan}
 use Rattle.dtx_plan.specs.TransmitterTable.{addresses_of, has_address}
 
--- 1 to 35 transmitters, whose addresses differ from each other
+-- 1 to 1,020 transmitters, whose addresses differ from each other
 pub record AreTransmitters (ts : List Transmitter) : Type 0 where
   pub some : 1 ≤ length ts
-  pub most : length ts ≤ 35
+  pub most : length ts ≤ 1020
   pub distinct : IsDistinct nat_eq (addresses_of ts)
 
 -- the numbers of a transmitter: an address of 16 bits, an offset of 16 bits with a sign, and a delay of 32 bits
@@ -78,8 +78,8 @@ pub record IsNet (ts : List Transmitter) (n : NetPlan) : Type 0 where
 pub record IsSound (p : Plan) : Type 0 where
   pub start : p.start < 10000000
   pub max_delay : p.max_delay < 10000000
-  pub transmitters : AreTransmitters p.transmitters.items
+  pub transmitters : AreTransmitters p.transmitters
 
 -- what is done with its transmitters, where it is said
 abbrev pub HasSoundNet : Plan → Type 0
-HasSoundNet p = IfSome p.net (IsNet p.transmitters.items)
+HasSoundNet p = IfSome p.net (IsNet p.transmitters)

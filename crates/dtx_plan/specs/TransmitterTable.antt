@@ -1,6 +1,6 @@
 -- The rows of an entry of the array `transmitter`.
-use Rattle.std.specs.Prelude.{ℕ, pos, negsuc, codes, nat_eq, Bool, if◌then◌else◌, List, [], ◌∷◌, length, map, Result}
-use Rattle.std.specs.Prelude.{Ok}
+use Rattle.std.specs.Prelude.{ℕ, pos, negsuc, codes, nat_eq, Bool, if◌then◌else◌, List, [], ◌∷◌, length, map, Option}
+use Rattle.std.specs.Prelude.{position, Result, Ok}
 use Rattle.std.specs.List.{list_any}
 use Rattle.toml.specs.Data.{Data, get_member}
 use Rattle.dtx_plan.specs.declared.key.PlanKey.TheVariants as key
@@ -16,6 +16,10 @@ addresses_of ts = map (λ t. t.address) ts
 -- some transmitter has the address
 abbrev pub has_address : ℕ → List Transmitter → Bool
 has_address address ts = list_any (nat_eq address) (addresses_of ts)
+
+-- the place in the list of the transmitter with this address
+unfoldable pub transmitter_place : ℕ → List Transmitter → Option ℕ
+transmitter_place address ts = position (nat_eq address) (addresses_of ts)
 
 -- twice: no earlier entry has the address
 abbrev pub once : ℕ → List Transmitter → ℕ → Result (Unit {0}) PlanNo

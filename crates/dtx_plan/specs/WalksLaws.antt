@@ -207,7 +207,7 @@ abbrev made : ℕ → ℕ → List Transmitter → Option NetPlan → Plan
 made start max_delay ts network = record {
   start = start;
   max_delay = max_delay;
-  transmitters = record { items = ts };
+  transmitters = ts;
   net = network;
 }
 
@@ -220,8 +220,8 @@ from_entries root start max_delay items = entries transmitter [] items >>= λ ts
 
 abbrev from_array : Members → ℕ → ℕ → Result Plan PlanNo
 from_array root start max_delay =
-    array (get_member (codes "transmitter") root) key.Transmitter 0 1 35 >>= λ items. from_entries root start max_delay
-    items
+    array (get_member (codes "transmitter") root) key.Transmitter 0 1 1020 >>= λ items. from_entries root start
+    max_delay items
 
 abbrev from_max : Members → ℕ → Result Plan PlanNo
 from_max root start =
@@ -233,7 +233,7 @@ from_start root = whole (get_member (codes "start") root) key.Start 0 0 9999999 
 
 record IsRead (p : Plan) : Type 0 where
   sound : IsSound p
-  each : All IsTransmitter p.transmitters.items
+  each : All IsTransmitter p.transmitters
 
 root_read : (root : Members) (p : Plan) → plan root ≡ Ok p → IsRead p
 unfolding plan
@@ -243,13 +243,13 @@ root_read root p e =
     let start = bind_ok (whole (get_member (codes "start") root) key.Start 0 0 9999999) (from_max root) p keys.2 in
     let most = bind_ok (whole (get_member (codes "max_delay") root) key.MaxDelay 0 0 9999999)
     (from_array root start.0) p start.2 in
-    let items = bind_ok (array (get_member (codes "transmitter") root) key.Transmitter 0 1 35)
+    let items = bind_ok (array (get_member (codes "transmitter") root) key.Transmitter 0 1 1020)
     (from_entries root start.0 most.0) p most.2 in
     let ts = bind_ok (entries transmitter [] items.0) (from_net root start.0 most.0) p items.2 in
     let network = bind_ok (net ts.0 root) (λ n. Ok (made start.0 most.0 ts.0 n)) p ts.2 in
     let a = whole_range (get_member (codes "start") root) key.Start 0 0 9999999 start.0 start.1 in
     let b = whole_range (get_member (codes "max_delay") root) key.MaxDelay 0 0 9999999 most.0 most.1 in
-    let c = array_range (get_member (codes "transmitter") root) key.Transmitter 0 1 35 items.0 items.1 in
+    let c = array_range (get_member (codes "transmitter") root) key.Transmitter 0 1 1020 items.0 items.1 in
     let r = all_read items.0 [] ts.0 ts.1 (record { distinct = distinct_none [] refl; each = All-nil IsTransmitter }) in
     let count = r.1 in
     let read : Plan = made start.0 most.0 ts.0 network.0 in
@@ -273,5 +273,5 @@ plan_read bytes p e = let root = bind_ok (root_of bytes) plan p e in root_read r
 pub plan_sound : (bytes : List ℕ) (p : Plan) → plan_of bytes ≡ Ok p → IsSound p
 plan_sound bytes p e = (plan_read bytes p e).sound
 
-pub plan_transmitters : (bytes : List ℕ) (p : Plan) → plan_of bytes ≡ Ok p → All IsTransmitter p.transmitters.items
+pub plan_transmitters : (bytes : List ℕ) (p : Plan) → plan_of bytes ≡ Ok p → All IsTransmitter p.transmitters
 plan_transmitters bytes p e = (plan_read bytes p e).each

@@ -12,8 +12,7 @@ use crate::limits::MOST_EVENTS;
 use crate::refusal::{PlanFault, PlanNo};
 use crate::rows::{Row, known, table};
 use crate::rule::PlanRule;
-use crate::transmitter::Transmitter;
-use crate::transmitter_table::has_address;
+use crate::transmitters::Transmitters;
 use dtx_sizes::MOST_PACKETS;
 use dtx_trellis::States;
 use std::alloc::Global;
@@ -22,7 +21,7 @@ use toml::{Table, Value};
 /// The events, entry by entry.
 pub(crate) fn events(
     alloc: Global,
-    transmitters: &[Transmitter],
+    transmitters: &Transmitters,
     values: &[Value],
 ) -> Result<Events, PlanFault>
     requires { length values.now ≤ MOST_EVENTS }
@@ -40,7 +39,7 @@ pub(crate) fn events(
 
 /// One entry.
 #[tactic(auto, unfolding(crate::specs::EventTable::event_at))]
-fn event(transmitters: &[Transmitter], item: u32, value: &Value) -> Result<Event, PlanNo>
+fn event(transmitters: &Transmitters, item: u32, value: &Value) -> Result<Event, PlanNo>
     ensures walk { result ≡ spec.event_at transmitters.now item (view value.now) }
     ensures sound { IfOk result (IsEvent transmitters.now) }
 {
@@ -106,14 +105,14 @@ fn known_keys(kind: EventKind, entry: &Table, item: u32) -> Result<(), PlanNo>
 /// Some transmitter has the address.
 pub(crate) fn no_stranger(
     address: u16,
-    transmitters: &[Transmitter],
+    transmitters: &Transmitters,
     key: PlanKey,
     item: u32,
 ) -> Result<(), PlanNo>
     ensures walk { result ≡ spec.no_stranger address transmitters.now key item }
     ensures listed { IfOk result (λ _. has_address address transmitters.now ≡ true) }
 {
-    if has_address(address, transmitters) {
+    if transmitters.has(address) {
         Ok(())
     } else {
         Err(PlanNo::new(key, item, PlanRule::Stranger))

@@ -10,5 +10,5 @@ ghost use Rattle.dtx_plan.specs.Sound.{IsSound, IsTransmitter};
 pub fn plans_are_sound()
     ensures sound { (bytes : List ℕ) (plan : Plan) → plan_of bytes ≡ Ok plan → IsSound plan }
     ensures transmitters { (bytes : List ℕ) (plan : Plan) → plan_of bytes ≡ Ok plan
-        → All IsTransmitter plan.transmitters.items }
+        → All IsTransmitter plan.transmitters }
 {}

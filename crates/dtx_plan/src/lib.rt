@@ -20,6 +20,7 @@ mod rule;
 mod tests;
 mod transmitter;
 mod transmitter_table;
+mod transmitters;
 
 pub use damage::{Damage, Damages};
 pub use event::{Event, Events};
@@ -29,3 +30,4 @@ pub use read::{read_changes, read_plan};
 pub use refusal::{PlanFault, PlanNo};
 pub use rule::PlanRule;
 pub use transmitter::Transmitter;
+pub use transmitters::Transmitters;

@@ -13,7 +13,7 @@ use crate::receive_table::receive;
 use crate::refusal::{PlanFault, PlanNo};
 use crate::rows::{Row, known, member, table};
 use crate::rule::PlanRule;
-use crate::transmitter::Transmitter;
+use crate::transmitters::Transmitters;
 use dtx_outside::Word;
 use std::alloc::Global;
 use toml::{Table, Value};
@@ -21,7 +21,7 @@ use toml::{Table, Value};
 /// What is done with the transmitters, where it is said.
 pub(crate) fn net(
     alloc: Global,
-    transmitters: &[Transmitter],
+    transmitters: &Transmitters,
     root: &Table,
 ) -> Result<Option<NetPlan>, PlanFault>
     ensures walk { IsAnswer (spec.net transmitters.now (table_view root.now)) result }
@@ -34,7 +34,7 @@ pub(crate) fn net(
 }
 
 #[tactic(auto, unfolding(crate::specs::NetTable::net_of))]
-fn net_of(alloc: Global, transmitters: &[Transmitter], value: &Value) -> Result<NetPlan, PlanFault>
+fn net_of(alloc: Global, transmitters: &Transmitters, value: &Value) -> Result<NetPlan, PlanFault>
     ensures walk { IsAnswer (spec.net_of transmitters.now (view value.now)) result }
     ensures sound { IfOk result (IsNet transmitters.now) }
 {

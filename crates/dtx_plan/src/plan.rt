@@ -2,10 +2,8 @@
 
 use crate::damage::Damages;
 use crate::event::Events;
-use crate::transmitter::Transmitter;
-use arrayvec::ArrayVec;
+use crate::transmitters::Transmitters;
 use dtx_outside::Word;
-use dtx_sizes::MOST_TRANSMITTERS;
 
 /// A plan of a network: the tick at which its feed starts, its maximum delay in ticks of 100 ns, its transmitters, and
 /// what is done with them, where it is said.
@@ -13,7 +11,7 @@ use dtx_sizes::MOST_TRANSMITTERS;
 pub struct Plan {
     pub start: u32,
     pub max_delay: u32,
-    pub transmitters: ArrayVec<Transmitter, MOST_TRANSMITTERS>,
+    pub transmitters: Transmitters,
     pub net: Option<NetPlan>,
 }
 

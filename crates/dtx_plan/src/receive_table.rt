@@ -12,14 +12,14 @@ use crate::limits::MOST_DAMAGES;
 use crate::plan::ReceivePlan;
 use crate::refusal::PlanFault;
 use crate::rows::{Row, known, member, table};
-use crate::transmitter::Transmitter;
+use crate::transmitters::Transmitters;
 use std::alloc::Global;
 use toml::{Table, Value};
 
 /// What is received, where it is said.
 pub(crate) fn receive(
     alloc: Global,
-    transmitters: &[Transmitter],
+    transmitters: &Transmitters,
     net: &Table,
 ) -> Result<Option<ReceivePlan>, PlanFault>
     ensures walk { IsAnswer (spec.receive transmitters.now (table_view net.now)) result }
@@ -34,7 +34,7 @@ pub(crate) fn receive(
 #[tactic(auto, unfolding(crate::specs::ReceiveTable::receive_of))]
 fn receive_of(
     alloc: Global,
-    transmitters: &[Transmitter],
+    transmitters: &Transmitters,
     value: &Value,
 ) -> Result<ReceivePlan, PlanFault>
     ensures walk { IsAnswer (spec.receive_of transmitters.now (view value.now)) result }

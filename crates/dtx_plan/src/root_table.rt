@@ -34,8 +34,8 @@ pub(crate) fn plan(alloc: Global, root: &Table) -> Result<Plan, PlanFault>
     let start = Row::new(root, "start", PlanKey::Start, 0).whole(0, SECOND - 1)? as u32;
     let max_delay = Row::new(root, "max_delay", PlanKey::MaxDelay, 0).whole(0, SECOND - 1)? as u32;
     let items = Row::new(root, "transmitter", PlanKey::Transmitter, 0).array(1, MOST_TRANSMITTERS)?;
-    let transmitters = transmitters(items)?;
-    let net = net(alloc, transmitters.as_slice(), root)?;
+    let transmitters = transmitters(alloc, items)?;
+    let net = net(alloc, &transmitters, root)?;
     Ok(Plan {
         start,
         max_delay,

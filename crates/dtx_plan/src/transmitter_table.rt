@@ -1,39 +1,38 @@
 // The walk over the array `transmitter`.
 ghost use Rattle.std.specs.Prelude.{◌≡◌, ◌^◌, ◌<◌, ◌≤◌, [], length, IfOk, false};
 ghost use Rattle.toml.specs.View.{view, items_view};
-ghost use Rattle.dtx_plan.specs.Rows.{seen_by, entries};
+ghost use Rattle.dtx_plan.specs.Rows.{IsAnswer, entries};
 ghost use Rattle.dtx_plan.specs.Sound.{AreTransmitters};
 ghost use Rattle.dtx_plan.specs.TransmitterTable as spec;
 
 use crate::key::PlanKey;
-use crate::refusal::PlanNo;
+use crate::refusal::{PlanFault, PlanNo};
 use crate::rows::{Row, known, table};
 use crate::rule::PlanRule;
 use crate::transmitter::Transmitter;
-use arrayvec::ArrayVec;
+use crate::transmitters::Transmitters;
 use dtx_sizes::MOST_TRANSMITTERS;
+use std::alloc::Global;
 use toml::Value;
 
 /// The transmitters, entry by entry.
-pub(crate) fn transmitters(
-    values: &[Value],
-) -> Result<ArrayVec<Transmitter, MOST_TRANSMITTERS>, PlanNo>
+pub(crate) fn transmitters(alloc: Global, values: &[Value]) -> Result<Transmitters, PlanFault>
     requires some { 1 ≤ length values.now }
     requires fits { length values.now ≤ MOST_TRANSMITTERS }
-    ensures walk { seen_by (λ v. v.items) result ≡ entries spec.transmitter [] (items_view values.now) }
-    ensures sound { IfOk result (λ v. AreTransmitters v.items) }
+    ensures walk { IsAnswer (entries spec.transmitter [] (items_view values.now)) result }
+    ensures sound { IfOk result AreTransmitters }
 {
-    let mut found = ArrayVec::new();
+    let mut found = Transmitters::none(alloc);
     for value in values {
-        let next = transmitter(found.as_slice(), value)?;
-        found.push(next);
+        let next = transmitter(&found, value)?;
+        found.push(next)?;
     }
     Ok(found)
 }
 
 /// One entry behind the earlier ones.
 #[tactic(auto, unfolding(crate::specs::TransmitterTable::transmitter))]
-fn transmitter(earlier: &[Transmitter], value: &Value) -> Result<Transmitter, PlanNo>
+fn transmitter(earlier: &Transmitters, value: &Value) -> Result<Transmitter, PlanNo>
     requires { length earlier.now < 2 ^ 32 }
     ensures walk { result ≡ spec.transmitter earlier.now (view value.now) }
     ensures once { IfOk result (λ t. spec.has_address t.address earlier.now ≡ false) }
@@ -58,25 +57,13 @@ fn transmitter(earlier: &[Transmitter], value: &Value) -> Result<Transmitter, Pl
 }
 
 /// No earlier entry has the address.
-fn once(address: u16, earlier: &[Transmitter], item: u32) -> Result<(), PlanNo>
+fn once(address: u16, earlier: &Transmitters, item: u32) -> Result<(), PlanNo>
     ensures walk { result ≡ spec.once address earlier.now item }
     ensures once { IfOk result (λ _. spec.has_address address earlier.now ≡ false) }
 {
-    if has_address(address, earlier) {
+    if earlier.has(address) {
         Err(PlanNo::new(PlanKey::Address, item, PlanRule::Twice))
     } else {
         Ok(())
     }
-}
-
-/// Whether some transmitter has the address.
-pub(crate) fn has_address(address: u16, transmitters: &[Transmitter]) -> bool
-    ensures { result ≡ spec.has_address address transmitters.now }
-{
-    for transmitter in transmitters {
-        if transmitter.address == address {
-            return true;
-        }
-    }
-    false
 }

@@ -1,11 +1,9 @@
 -- What is kept of a network, one step further.
 use Rattle.std.proofs.Common.{◌≡◌, ◌⊎◌, ℕ, ℤ, ◌+◌, ◌*◌, ◌<◌, ◌≤◌, List, [], ◌∷◌, ◌++◌, refl, cond, length, map, set}
-use Rattle.std.proofs.Common.{take, drop, get_or, replicate, pos, sym, ap, subst, ◌∙◌, inl, inr, arith}
+use Rattle.std.proofs.Common.{take, get_or, replicate, pos, sym, ap, subst, ◌∙◌, inl, inr, arith}
 use Rattle.std.specs.Prelude.{Option, Some, None, IfSome, is_some, slice_get, vec_len}
-use Rattle.std.specs.List.{refill}
 use Rattle.std.proofs.lemmas.Bool.{cases_eq}
 use Rattle.std.proofs.lemmas.List.{append-nil, get_or-replicate, length-append, length-replicate, length-set}
-use Rattle.std.proofs.lemmas.List.{take-append-le, take_all}
 use Rattle.std.proofs.lemmas.List.Sums.{sum_by-append}
 use Rattle.std.proofs.lemmas.Option.{same_Some, slice_get-get_or, get_or_from_slice_get, slice_get_within}
 use Rattle.dtx_exciter.specs.Emission.{last_segments}
@@ -61,17 +59,6 @@ sent_by_none address n ts steps place =
     → n ≡ length (sent_segments t who steps))) (sym place) tt
 
 -- ---- what was sent is counted
-
--- a list written through a slice of all of it
-refill_same : (xs ws : List ℕ) → length ws ≡ length xs → refill (length xs) xs ws ≡ ws
-refill_same xs ws same = take-append-le (length xs) ws (drop (length ws) xs) (omega (arith, same))
-    ∙ take_all (length xs) ws (omega (arith, same))
-
-pub refill_set : (xs ws : List ℕ) (i n : ℕ) → ws ≡ xs
-    → refill (length xs) xs (set ws i (get_or ws i 0 + n)) ≡ set xs i (get_or xs i 0 + n)
-refill_set xs ws i n same =
-    refill_same xs (set ws i (get_or ws i 0 + n)) (length-set ws i (get_or ws i 0 + n) ∙ ap length same)
-    ∙ ap (λ ys. set ys i (get_or ys i 0 + n)) same
 
 -- where the transmitter of the step sent so many more
 abbrev SendsMore : List Transmitter → List Step → Step → ℕ → Type 0

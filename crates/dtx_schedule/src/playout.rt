@@ -14,7 +14,7 @@ ghost use Rattle.dtx_schedule.specs.Playout.{AreNames, HasTransmitter, IsSomePla
 ghost use Rattle.dtx_schedule.specs.TransmitterFiles.{played_outputs};
 
 use crate::pair::{FileNames, append_both, names_of};
-use arrayvec::{ArrayString, ArrayVec};
+use arrayvec::ArrayString;
 use dtx_coder::{AIR_SYMBOLS, Air};
 use dtx_files::{LOG_LINE, bring, write_line, write_restart};
 use dtx_meaning::Status;
@@ -22,7 +22,6 @@ use dtx_net::{LieWriter, Net};
 use dtx_outside::{Shelf, WriteNo};
 use dtx_packets::Packet;
 use dtx_plan::Transmitter;
-use dtx_sizes::MOST_TRANSMITTERS;
 use std::alloc::{AllocError, Global};
 
 /// The exciters of a network, with what the last step brought, and the numbers of all steps.
@@ -32,13 +31,13 @@ pub(crate) struct Playout {
     air: Air,
     pub(crate) liar: Box<LieWriter>,
     /// The names of the files of each transmitter, in the plan's order.
-    pub(crate) names: ArrayVec<FileNames, MOST_TRANSMITTERS>,
+    pub(crate) names: Vec<FileNames>,
     /// The symbols that the last step brought stand at the front of these, one byte each in two's complement.
     bytes: [u8; AIR_SYMBOLS],
     /// The line of the log that the last step brought, or nothing.
     line: ArrayString<LOG_LINE>,
     /// How many segments each transmitter has sent, in the plan's order.
-    pub(crate) sent: ArrayVec<u64, MOST_TRANSMITTERS>,
+    pub(crate) sent: Vec<u64>,
     /// How many packets were given.
     pub(crate) steps: u64,
 }
@@ -53,10 +52,10 @@ impl Playout {
             net: Net::new(alloc, transmitters)?,
             air: Air::new(),
             liar: Box::new(alloc, LieWriter::new())?,
-            names: names_of_all(transmitters),
+            names: names_of_all(alloc, transmitters)?,
             bytes: [0; AIR_SYMBOLS],
             line: ArrayString::new(),
-            sent: zeros(transmitters.len()),
+            sent: vec![in alloc; 0; transmitters.len()]?,
             steps: 0,
         })
     }
@@ -162,25 +161,12 @@ impl Playout {
 }
 
 /// The names of the files of each transmitter, in the plan's order.
-fn names_of_all(transmitters: &[Transmitter]) -> ArrayVec<FileNames, MOST_TRANSMITTERS>
-    requires { length transmitters.now ≤ MOST_TRANSMITTERS }
-    ensures { AreNames transmitters.now result.items }
+fn names_of_all(alloc: Global, transmitters: &[Transmitter]) -> Result<Vec<FileNames>, AllocError>
+    ensures { IfOk result (λ names. AreNames transmitters.now names.items) }
 {
-    let mut names = ArrayVec::new();
+    let mut names = Vec::with_capacity(alloc, transmitters.len())?;
     for transmitter in transmitters {
-        names.push(names_of(transmitter.address));
+        names.push(names_of(transmitter.address))?;
     }
-    names
-}
-
-/// That many times 0.
-fn zeros(count: usize) -> ArrayVec<u64, MOST_TRANSMITTERS>
-    requires { count ≤ MOST_TRANSMITTERS }
-    ensures { result.items ≡ replicate count 0 }
-{
-    let mut sent = ArrayVec::new();
-    for _ in 0..count {
-        sent.push(0);
-    }
-    sent
+    Ok(names)
 }

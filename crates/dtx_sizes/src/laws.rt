@@ -4,8 +4,8 @@ ghost use Rattle.std.specs.Prelude.{◌≡◌, ◌+◌, ◌*◌};
 use crate::codewords::{BRANCH_STEP, BRANCHES, CODEWORD, FLUSHING_PACKETS};
 use crate::fields::{FIELD_PACKETS, FIELD_SEGMENTS, FRAME_PACKETS, GROUP_PACKETS};
 use crate::limits::{
-    MOST_ENTRIES, MOST_FRAMES, MOST_PACKETS, MOST_SEGMENTS, MOST_SYMBOLS, MOST_TRANSMITTERS,
-    SECOND_TICKS,
+    MOST_ENTRIES, MOST_FRAMES, MOST_PACKETS, MOST_PAGES, MOST_SEGMENTS, MOST_SYMBOLS,
+    MOST_TRANSMITTERS, PAGE_ENTRIES, SECOND_TICKS,
 };
 use crate::packets::{PACKET, PACKET_DATA};
 use crate::segments::{
@@ -52,6 +52,8 @@ pub fn limits()
     ensures packets { MOST_PACKETS ≡ MOST_FRAMES * FRAME_PACKETS }
     ensures segments { MOST_SEGMENTS ≡ MOST_FRAMES * (2 * FIELD_SEGMENTS) }
     ensures symbols { MOST_SYMBOLS ≡ MOST_SEGMENTS * SEGMENT }
-    ensures transmitters { MOST_TRANSMITTERS ≡ 35 }
+    ensures entries { MOST_ENTRIES ≡ 35 }
+    ensures page { PAGE_ENTRIES ≡ 34 }
+    ensures transmitters { MOST_TRANSMITTERS ≡ MOST_PAGES * PAGE_ENTRIES }
     ensures ticks { SECOND_TICKS ≡ 10000000 }
 {}

@@ -12,11 +12,17 @@ pub const MOST_SEGMENTS: u64 = 626_000_000;
 /// How many symbols are received at most, and bytes damaged: those of as many segments, of 832 symbols each.
 pub const MOST_SYMBOLS: u64 = 520_832_000_000;
 
-/// How many transmitters an operations packet has entries for at most.
+/// How many entries an operations packet that lists all transmitters has at most.
 pub const MOST_ENTRIES: usize = 35;
 
-/// How many transmitters a network has at most: each operations packet lists them all.
-pub const MOST_TRANSMITTERS: usize = MOST_ENTRIES;
+/// How many entries a page of transmitters has at most.
+pub const PAGE_ENTRIES: usize = 34;
+
+/// How many pages a network's transmitters take at most.
+pub const MOST_PAGES: u8 = 30;
+
+/// How many transmitters a network has at most: those of as many pages.
+pub const MOST_TRANSMITTERS: usize = 1020;
 
 /// How many ticks of 100 ns a second has. A stamp and a maximum delay are below it.
 pub const SECOND_TICKS: u32 = 10_000_000;

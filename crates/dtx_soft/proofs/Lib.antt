@@ -9,3 +9,12 @@ pub mod Softened
 pub mod OwnField
 pub mod CoderPaths
 pub mod Lanes
+pub mod Units
+pub mod SquareTests
+pub mod SquareGaps
+pub mod GapSteps
+pub mod Wraps
+pub mod Rows
+pub mod Columns
+pub mod Starts
+pub mod Traces

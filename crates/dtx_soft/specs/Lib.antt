@@ -9,3 +9,6 @@ pub mod Coders
 pub mod Softened
 pub mod SoftenedLaws
 pub mod CostLaws
+pub mod Gaps
+pub mod Squares
+pub mod Trace

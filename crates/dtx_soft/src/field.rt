@@ -1,89 +1,91 @@
 //! All twelve coders of a field.
 
-ghost use Rattle.std.specs.Prelude.{◌≡◌, ◌≢◌, ℕ, ◌+◌, ◌*◌, ◌<◌, ◌≤◌, EachIndex, length, slice_index, vec_len};
-ghost use Rattle.dtx_slice.specs.Unrolled.{symbol_place};
-ghost use Rattle.dtx_soft.specs.Paths.{distance};
+ghost use Rattle.std.specs.Prelude.{◌≡◌, ℕ, ◌+◌, ◌*◌, ◌≤◌, length, map, slice_index, sum, vec_len};
+ghost use Rattle.std.specs.List.{range_with_len};
 ghost use Rattle.dtx_soft.specs.Least.{HoldPotentials};
-ghost use Rattle.dtx_soft.specs.Coders.{AreLeast, IsSoftened, KeepsSyncs, costs, symbols_of};
+ghost use Rattle.dtx_soft.specs.Coders.{IsSoftened, costs, symbols_of};
 
-use crate::coders::{gather, scatter};
+use crate::coders::gather;
+use crate::gaps::{LANES, backward};
+use crate::nearest::MAX_SCALE;
+use crate::rounds::{lay_out, put_back};
+use crate::trace::forward;
 use crate::walk::MAX_SYMBOLS;
 use crate::walker::Walker;
 use dtx_sizes::{CODERS, FIELD_PACKETS, SEGMENT, SEGMENT_ROUNDS};
 
-/// Replaces the symbols of each coder by those of its least path, and answers the sum of the costs. `symbols` and
-/// `levels` have room for those of one coder.
+/// Replaces the symbols of each coder by those of its least path, and answers the sum of the costs. `symbols` has room
+/// for those of one coder, `rounds` for those of all, and `marks` for a mark of each.
 pub(crate) fn soften(
     walker: &mut Walker,
     symbols: &mut Vec<i8>,
-    levels: &mut Vec<u8>,
+    rounds: &mut Vec<[i8; LANES]>,
+    marks: &mut Vec<[u8; LANES]>,
     segments: &mut [[i8; SEGMENT]],
 ) -> u64
     requires few { length segments.old ≤ FIELD_PACKETS }
     requires symbols { vec_len symbols.old ≡ MAX_SYMBOLS }
-    requires levels { vec_len levels.old ≡ MAX_SYMBOLS }
+    requires rounds { vec_len rounds.old ≡ MAX_SYMBOLS }
+    requires marks { vec_len marks.old ≡ MAX_SYMBOLS }
     ensures segments { IsSoftened walker.old.table.scale segments.old segments.new }
     ensures cost { result ≡ costs segments.old segments.new CODERS }
     ensures potentials { HoldPotentials walker.old.table.scale (symbols_of segments.old 11)
         walker.new.potentials.items }
     ensures table { walker.new.table ≡ walker.old.table }
     ensures symbols { vec_len symbols.new ≡ MAX_SYMBOLS }
-    ensures levels { vec_len levels.new ≡ MAX_SYMBOLS }
+    ensures rounds { vec_len rounds.new ≡ MAX_SYMBOLS }
+    ensures marks { vec_len marks.new ≡ MAX_SYMBOLS }
 {
     let count = SEGMENT_ROUNDS * segments.len();
-    soften_all(
-        walker,
-        &mut symbols[..count],
-        &mut levels[..count],
+    hold_last(walker, &mut symbols[..count], segments);
+    soften_rounds(
+        walker.table.scale,
+        &mut rounds[..count],
+        &mut marks[..count],
         segments,
     )
 }
 
-/// Takes the coders in order.
-fn soften_all(
-    walker: &mut Walker,
-    symbols: &mut [i8],
-    levels: &mut [u8],
-    segments: &mut [[i8; SEGMENT]],
-) -> u64
-    requires few { length segments.old ≤ FIELD_PACKETS }
-    requires symbols { length symbols.old ≡ SEGMENT_ROUNDS * length segments.old }
-    requires levels { length levels.old ≡ SEGMENT_ROUNDS * length segments.old }
-    ensures segments { IsSoftened walker.old.table.scale segments.old segments.new }
-    ensures cost { result ≡ costs segments.old segments.new CODERS }
-    ensures potentials { HoldPotentials walker.old.table.scale (symbols_of segments.old 11)
+/// Writes the potentials of the last coder's symbols.
+fn hold_last(walker: &mut Walker, symbols: &mut [i8], segments: &[[i8; SEGMENT]])
+    requires few { length segments.now ≤ FIELD_PACKETS }
+    requires symbols { length symbols.old ≡ SEGMENT_ROUNDS * length segments.now }
+    ensures potentials { HoldPotentials walker.old.table.scale (symbols_of segments.now 11)
         walker.new.potentials.items }
     ensures table { walker.new.table ≡ walker.old.table }
 {
-    let mut total = 0;
-    for coder in 0..CODERS {
-        total += soften_coder(walker, coder, symbols, levels, segments) as u64;
-    }
-    total
+    gather(segments, CODERS - 1, symbols);
+    walker.hold(symbols);
 }
 
-/// Replaces the symbols of one coder, and answers the cost.
-fn soften_coder(
-    walker: &mut Walker,
-    coder: usize,
-    symbols: &mut [i8],
-    levels: &mut [u8],
+/// Takes the coders side by side.
+fn soften_rounds(
+    scale: u8,
+    rounds: &mut [[i8; LANES]],
+    marks: &mut [[u8; LANES]],
     segments: &mut [[i8; SEGMENT]],
-) -> u32
+) -> u64
+    requires scale { scale ≤ MAX_SCALE }
     requires few { length segments.old ≤ FIELD_PACKETS }
-    requires coder { coder < CODERS }
-    requires symbols { length symbols.old ≡ SEGMENT_ROUNDS * length segments.old }
-    requires levels { length levels.old ≡ SEGMENT_ROUNDS * length segments.old }
-    ensures coder { AreLeast walker.old.table.scale (symbols_of segments.old coder) (symbols_of segments.new coder) }
-    ensures others { (e : ℕ) → e < CODERS → e ≢ coder → symbols_of segments.new e ≡ symbols_of segments.old e }
-    ensures syncs { KeepsSyncs segments.old segments.new }
-    ensures cost { result ≡ distance (symbols_of segments.old coder) (symbols_of segments.new coder) }
-    ensures potentials { HoldPotentials walker.old.table.scale (symbols_of segments.old coder)
-        walker.new.potentials.items }
-    ensures table { walker.new.table ≡ walker.old.table }
+    requires rounds { length rounds.old ≡ SEGMENT_ROUNDS * length segments.old }
+    requires marks { length marks.old ≡ SEGMENT_ROUNDS * length segments.old }
+    ensures segments { IsSoftened scale segments.old segments.new }
+    ensures cost { result ≡ costs segments.old segments.new CODERS }
 {
-    gather(segments, coder, symbols);
-    let found = walker.find(symbols, levels);
-    scatter(walker.table.scale, levels, coder, segments);
-    found.cost
+    lay_out(segments, rounds);
+    let gaps = backward(scale, rounds, marks);
+    let costs = forward(scale, marks, &gaps, rounds);
+    put_back(rounds, segments);
+    total(&costs)
+}
+
+/// The sum of what the coders' paths cost.
+fn total(costs: &[u32; LANES]) -> u64
+    ensures { result ≡ sum (map (λ e. slice_index costs.now e) (range_with_len 0 CODERS)) }
+{
+    let mut total = 0;
+    for e in 0..CODERS {
+        total += costs[e] as u64;
+    }
+    total
 }

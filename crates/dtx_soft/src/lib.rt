@@ -4,10 +4,13 @@
 mod certificate;
 mod coders;
 mod field;
+mod gaps;
 pub mod laws;
 mod nearest;
+mod rounds;
 mod soft;
 mod table;
+mod trace;
 mod walk;
 mod walker;
 

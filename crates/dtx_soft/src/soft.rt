@@ -7,6 +7,7 @@ ghost use Rattle.dtx_soft.specs.Coders.{IsSoftened, costs, symbols_of};
 ghost use Rattle.dtx_soft.specs.Decoder.{new_decoder};
 
 use crate::field::soften;
+use crate::gaps::LANES;
 use crate::nearest::MAX_SCALE;
 use crate::walk::{Found, MAX_SYMBOLS};
 use crate::walker::Walker;
@@ -22,7 +23,8 @@ pub struct Soft {
     walker: Walker,
     entries: usize,
     symbols: Vec<i8>,
-    levels: Vec<u8>,
+    rounds: Vec<[i8; LANES]>,
+    marks: Vec<[u8; LANES]>,
 }
 
 impl Model for Soft {
@@ -39,7 +41,7 @@ impl Model for Soft {
     } };
 
     ghost invariant = { λ s. (s.entries ≤ ENTRIES) × (vec_len s.symbols ≡ MAX_SYMBOLS)
-        × (vec_len s.levels ≡ MAX_SYMBOLS) };
+        × (vec_len s.rounds ≡ MAX_SYMBOLS) × (vec_len s.marks ≡ MAX_SYMBOLS) };
 }
 
 impl Soft {
@@ -59,7 +61,8 @@ impl Soft {
             walker: Walker::new(alloc, scale)?,
             entries: 0,
             symbols: vec![in alloc; 0i8; MAX_SYMBOLS]?,
-            levels: vec![in alloc; 0u8; MAX_SYMBOLS]?,
+            rounds: vec![in alloc; [0i8; LANES]; MAX_SYMBOLS]?,
+            marks: vec![in alloc; [0u8; LANES]; MAX_SYMBOLS]?,
         })
     }
 
@@ -100,7 +103,8 @@ impl Soft {
         soften(
             &mut self.walker,
             &mut self.symbols,
-            &mut self.levels,
+            &mut self.rounds,
+            &mut self.marks,
             segments,
         )
     }

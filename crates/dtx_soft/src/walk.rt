@@ -49,7 +49,7 @@ pub(crate) fn find(
 }
 
 /// Writes the least costs of paths from each state over the symbols from each place on.
-fn fill_potentials(table: &Table, symbols: &[i8], potentials: &mut [[u32; 4]])
+pub(crate) fn fill_potentials(table: &Table, symbols: &[i8], potentials: &mut [[u32; 4]])
     requires few { length symbols.now ≤ MAX_SYMBOLS }
     requires room { length symbols.now < length potentials.old }
     ensures potentials { HoldPotentials table.now.scale symbols.now potentials.new }

@@ -7,7 +7,7 @@ ghost use Rattle.dtx_soft.specs.declared.walker.TheConstants.{ENTRIES};
 
 use crate::nearest::{LEVELS, MAX_SCALE};
 use crate::table::Table;
-use crate::walk::{Found, MAX_SYMBOLS, find};
+use crate::walk::{Found, MAX_SYMBOLS, fill_potentials, find};
 use std::alloc::{AllocError, Global};
 
 /// How many entries the table of potentials has, one more than there may be symbols.
@@ -45,6 +45,25 @@ impl Walker {
     {
         find_into(&self.table, symbols, &mut self.potentials, levels)
     }
+
+    /// Writes the potentials of symbols to the front of their table.
+    pub(crate) fn hold(&mut self, symbols: &[i8])
+        requires few { length symbols.now ≤ MAX_SYMBOLS }
+        ensures potentials { HoldPotentials self.old.table.scale symbols.now self.new.potentials.items }
+        ensures table { self.new.table ≡ self.old.table }
+    {
+        hold_in(&self.table, symbols, &mut self.potentials);
+    }
+}
+
+/// Writes the potentials to a list, and nothing else.
+fn hold_in(table: &Table, symbols: &[i8], potentials: &mut Vec<[u32; 4]>)
+    requires few { length symbols.now ≤ MAX_SYMBOLS }
+    requires entries { vec_len potentials.old ≡ ENTRIES }
+    ensures potentials { HoldPotentials table.now.scale symbols.now potentials.new.items }
+    ensures entries { vec_len potentials.new ≡ ENTRIES }
+{
+    fill_potentials(table, symbols, &mut potentials[..]);
 }
 
 /// Writes the potentials to a list.

@@ -226,7 +226,7 @@ fed_then_come plan network held (Some file) mid now fed status done (inr broken)
     absurd (not_fault fed.status done broken.fault)
 fed_then_come plan network held (Some file) mid now fed status done (inl whole) next =
     let is = adapted_whole plan file held fed mid done whole in
-    fed_on (feed_outputs plan file) plan.transmitters.items (steps_under plan (packets_of file) network.events)
+    fed_on (feed_outputs plan file) plan.transmitters (steps_under plan (packets_of file) network.events)
     (reception_outputs plan network (packets_of file) network.receive) status held is.between now is.whole
     (next is.between (packets_of file) is.told is.written)
 
@@ -247,7 +247,7 @@ fed_alone_come : (plan : Plan) (network : NetPlan) (held : Files) (found : Optio
     → IfSome found (λ file. HasNetProgress plan network file fed.status held now)
 fed_alone_come plan network held None now fed carried = tt
 fed_alone_come plan network held (Some file) now fed carried =
-    only_fed (feed_outputs plan file) plan.transmitters.items (steps_under plan (packets_of file) network.events)
+    only_fed (feed_outputs plan file) plan.transmitters (steps_under plan (packets_of file) network.events)
     (reception_outputs plan network (packets_of file) network.receive) fed.status held now
     (part_of_carried (meaning_of_file packets (adapting plan) (feed_name ∷ []) file) (Some held) now fed carried)
 

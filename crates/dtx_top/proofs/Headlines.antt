@@ -65,7 +65,7 @@ use Rattle.dtx_top.proofs.Streams.{is_stream}
 sent_whole : (plan : Plan) (network : NetPlan) (stream : List (List ℕ)) (address : ℕ)
     → (n : ℕ) × (length (sent_file plan network stream address) ≡ 832 * n)
 unfolding sent_file
-sent_whole plan network stream address = by_place (transmitter_place address plan.transmitters.items)
+sent_whole plan network stream address = by_place (transmitter_place address plan.transmitters)
   where
     at : ℕ → Option Transmitter → List ℕ
     at who o = option_map_or (λ t. symbol_file t who (steps_under plan stream network.events)) o []
@@ -78,9 +78,9 @@ sent_whole plan network stream address = by_place (transmitter_place address pla
     )
 
     by_place : (o : Option ℕ)
-        → (n : ℕ) × (length (option_map_or (λ who. at who (slice_get plan.transmitters.items who)) o []) ≡ 832 * n)
+        → (n : ℕ) × (length (option_map_or (λ who. at who (slice_get plan.transmitters who)) o []) ≡ 832 * n)
     by_place None = (0, refl)
-    by_place (Some who) = by_transmitter who (slice_get plan.transmitters.items who)
+    by_place (Some who) = by_transmitter who (slice_get plan.transmitters who)
 
 all_given : (file : List ℕ) (n : ℕ) → length file ≡ 832 * n
     → first_units segments file (whole_units segments file) ≡ file
@@ -139,18 +139,18 @@ received_done plan network stream receiver done = by_past (first_past receiver.d
 by_receiver : (plan : Plan) (network : NetPlan) (stream : List (List ℕ)) (receive : Option ReceivePlan)
     → (played_and_received plan network stream receive).outcome.status ≡ Done
     → (played_and_received plan network stream receive).outputs
-    ≡ played_outputs plan.transmitters.items (steps_under plan stream network.events)
+    ≡ played_outputs plan.transmitters (steps_under plan stream network.events)
     ++ received_outputs receive (packets_received plan network stream)
 by_receiver plan network stream None done =
-    sym (append-nil (played_outputs plan.transmitters.items (steps_under plan stream network.events)))
+    sym (append-nil (played_outputs plan.transmitters (steps_under plan stream network.events)))
 by_receiver plan network stream (Some receiver) done =
-    ap (λ (more : Outputs). played_outputs plan.transmitters.items (steps_under plan stream network.events)
+    ap (λ (more : Outputs). played_outputs plan.transmitters (steps_under plan stream network.events)
     ++ more) (received_done plan network stream receiver done)
 
 by_events : (plan : Plan) (network : NetPlan) (stream : List (List ℕ)) (o : Option ℕ)
     → (events_past o plan network stream).outcome.status ≡ Done
     → (events_past o plan network stream).outputs
-    ≡ played_outputs plan.transmitters.items (steps_under plan stream network.events)
+    ≡ played_outputs plan.transmitters (steps_under plan stream network.events)
     ++ received_outputs network.receive (packets_received plan network stream)
 by_events plan network stream (Some event) done = cc
 by_events plan network stream None done = by_receiver plan network stream network.receive done
@@ -218,15 +218,15 @@ headline_of law plan network stream held now plans streams files =
       packets = received_back plan network stream held now files;
     }
 
-small : (plan : Plan) → IsPlan plan → (who : ℕ) (t : Transmitter) → slice_get plan.transmitters.items who ≡ Some t
+small : (plan : Plan) → IsPlan plan → (who : ℕ) (t : Transmitter) → slice_get plan.transmitters who ≡ Some t
     → t.address < 2 ^ 16
 small plan is who t at_t =
-    let ts : List Transmitter = plan.transmitters.items in
+    let ts : List Transmitter = plan.transmitters in
     (subst IsTransmitter (get_or_from_slice_get ts who t t at_t)
     (All-get_or IsTransmitter ts who t (slice_get_within ts who t at_t) is.transmitters)).address
 
-pub apart_plan : (plan : Plan) → IsPlan plan → AreApart plan.transmitters.items
-apart_plan plan is = apart_of plan.transmitters.items is.sound.transmitters (small plan is)
+pub apart_plan : (plan : Plan) → IsPlan plan → AreApart plan.transmitters
+apart_plan plan is = apart_of plan.transmitters is.sound.transmitters (small plan is)
 
 -- the files and the headline, of a network whose plan is read
 pub stream_done : HeadlineLaw

@@ -18,6 +18,7 @@ pub mod TrialAnswers
 pub mod TrialDone
 pub mod TrialFed
 pub mod TrialReceived
+pub mod TrialUnlocked
 pub mod Trials
 pub mod UnderWay
 pub mod WorkedDamage

@@ -57,7 +57,7 @@ received_outputs (Some receiver) made = (received_name, made receiver) ∷ []
 abbrev pub network_outputs : Plan → NetPlan → List (List ℕ) → (ReceivePlan → List ℕ) → Outputs
 network_outputs plan network stream made =
     (feed_name, feed_bytes plan stream)
-    ∷ (played_outputs plan.transmitters.items (steps_under plan stream network.events)
+    ∷ (played_outputs plan.transmitters (steps_under plan stream network.events)
     ++ received_outputs network.receive made)
 
 -- ---- names that are none of them
@@ -105,10 +105,10 @@ got (Some receiver) made held = get-insert_same held received_name (made receive
 
 pub network_files : (plan : Plan) (network : NetPlan) (stream : List (List ℕ)) (made : ReceivePlan
     → List ℕ) (held now : Files)
-    → AreApart plan.transmitters.items → now ≡ files_with (network_outputs plan network stream made) held
+    → AreApart plan.transmitters → now ≡ files_with (network_outputs plan network stream made) held
     → AreNetworkFiles plan network stream made held now
 network_files plan network stream made held now apart is =
-    let ts : List Transmitter = plan.transmitters.items in
+    let ts : List Transmitter = plan.transmitters in
     let steps : List Step = steps_under plan stream network.events in
     let sent : Outputs = played_outputs ts steps in
     let rest : Outputs = received_outputs network.receive made in

@@ -150,7 +150,7 @@ stream_untouched plan network status (Some held) now same = by_file (get held ne
   where
     by_file : (found : Option (List ℕ)) → IfSome found (λ file. HasNetProgress plan network file status held now)
     by_file None = tt
-    by_file (Some file) = nothing_fed (feed_outputs plan file) plan.transmitters.items
+    by_file (Some file) = nothing_fed (feed_outputs plan file) plan.transmitters
         (steps_under plan (packets_of file) network.events)
         (reception_outputs plan network (packets_of file) network.receive) status held now same
 
@@ -229,7 +229,7 @@ stream_so : (plan : whole.Plan) (network : NetPlan) (status other : Status) (hel
     → IfSome found (λ file. HasNetProgress plan network file other held now)
 stream_so plan network status other held now same None is = tt
 stream_so plan network status other held now same (Some file) is =
-    answered_so (feed_outputs plan file) plan.transmitters.items (steps_under plan (packets_of file) network.events)
+    answered_so (feed_outputs plan file) plan.transmitters (steps_under plan (packets_of file) network.events)
     (reception_outputs plan network (packets_of file) network.receive) status other held now
     (stays_fault status other same) is
 

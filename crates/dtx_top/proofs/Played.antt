@@ -51,10 +51,10 @@ PlaysFeed Says ts network told =
 
 pub played_over : (Says : List Transmitter → List Step → Files → Type 0) (plan : Plan) (network : NetPlan)
     (stream : List (List ℕ)) (ts : List Transmitter) (fed : Outcome) (held : Files) (told : Option Files)
-    → IsSound plan → ts ≡ plan.transmitters.items → told ≡ Some held
+    → IsSound plan → ts ≡ plan.transmitters → told ≡ Some held
     → IsFeedWritten plan stream fed held
     → first_past_feed network.events (length stream) ≡ None → PlaysFeed Says ts network told
-    → Says plan.transmitters.items (steps_under plan stream network.events) held
+    → Says plan.transmitters (steps_under plan stream network.events) held
 played_over Says plan network stream ts fed held told sound its is written inside says =
     let bytes : List ℕ = feed_bytes plan stream in
     let whole : whole_packets bytes ≡ length stream = whole_packets-feed_bytes plan stream sound written.long in
@@ -72,8 +72,8 @@ some_files contents (t ∷ ts) some = λ none. cc
 -- a fault while they were played
 pub play_fault : (plan : Plan) (network : NetPlan) (stream : List (List ℕ)) (receive : Option ReceivePlan)
     (held : Files) (status : Status) (outcome : Outcome)
-    (now : Option Files) → 1 ≤ length plan.transmitters.items
-    → IsPlayFault plan.transmitters.items (steps_under plan stream network.events) held status now
+    (now : Option Files) → 1 ≤ length plan.transmitters
+    → IsPlayFault plan.transmitters (steps_under plan stream network.events) held status now
     → outcome ≡ ended status
     → IsCarriedOut (played_and_received plan network stream receive) (Some held) outcome now
 play_fault plan network stream receive held status outcome now transmitters is ends = by_receiver receive
@@ -82,7 +82,7 @@ play_fault plan network stream receive held status outcome now transmitters is e
     fault = subst (λ (o : Outcome). IsFault o.status) (sym ends) is.fault
 
     some : (playing plan network stream).outputs ≢ []
-    some = some_files (played (steps_under plan stream network.events)) plan.transmitters.items transmitters
+    some = some_files (played (steps_under plan stream network.events)) plan.transmitters transmitters
 
     by_receiver : (receive : Option ReceivePlan)
         → IsCarriedOut (played_and_received plan network stream receive) (Some held) outcome now
@@ -97,7 +97,7 @@ play_fault plan network stream receive held status outcome now transmitters is e
 pub all_played : (plan : Plan) (network : NetPlan) (stream : List (List ℕ)) (held : Files) (now : Option Files)
     (fed : Outcome) (steps : ℕ) (result : Outcome)
     → HasNumbers stream fed → steps ≡ packets_given (steps_under plan stream network.events)
-    → now ≡ with_outputs (played_outputs plan.transmitters.items (steps_under plan stream network.events)) (Some held)
+    → now ≡ with_outputs (played_outputs plan.transmitters (steps_under plan stream network.events)) (Some held)
     → result ≡ played_outcome (slice_index fed.numbers 0) (slice_index fed.numbers 1) steps
     → IsCarriedOut (playing plan network stream) (Some held) result now
 all_played plan network stream held now fed steps result numbers counted files is = inl (record {
@@ -111,7 +111,7 @@ all_played plan network stream held now fed steps result numbers counted files i
 pub record AreReceived (plan : Plan) (network : NetPlan) (stream : List (List ℕ)) (receiver : ReceivePlan)
     (held : Files) (received : Outcome) (now : Option Files) : Type 0 where
   pub mid : Files
-  pub left : Some mid ≡ with_outputs (played_outputs plan.transmitters.items
+  pub left : Some mid ≡ with_outputs (played_outputs plan.transmitters
       (steps_under plan stream network.events)) (Some held)
   pub carried : IsCarriedOut (received_past
       (first_past receiver.damage (length (sent_file plan network stream receiver.from))) receiver.damage
@@ -119,11 +119,11 @@ pub record AreReceived (plan : Plan) (network : NetPlan) (stream : List (List �
 
 pub received_told : (plan : Plan) (network : NetPlan) (stream : List (List ℕ)) (receiver : ReceivePlan)
     (held : Files) (told now : Option Files) (received : Outcome) (playout : Playout) (segments symbols : ℕ)
-    → IsReceived plan.transmitters.items receiver
-    → IsPlayout plan.transmitters.items playout (steps_under plan stream network.events)
-    → SentBy receiver.from plan.transmitters.items (steps_under plan stream network.events) segments
+    → IsReceived plan.transmitters receiver
+    → IsPlayout plan.transmitters playout (steps_under plan stream network.events)
+    → SentBy receiver.from plan.transmitters (steps_under plan stream network.events) segments
     → symbols ≡ min (segments * 832) (2 ^ 64 - 1)
-    → told ≡ with_outputs (played_outputs plan.transmitters.items (steps_under plan stream network.events))
+    → told ≡ with_outputs (played_outputs plan.transmitters (steps_under plan stream network.events))
     (Some held)
     → ((held : Files) (file : List ℕ) → told ≡ Some held → get held (symbol_name receiver.from) ≡ Some file
     → first_past receiver.damage symbols ≡ first_past receiver.damage (length file)
@@ -141,7 +141,7 @@ received_told plan network stream receiver held told now received playout segmen
     }
   where
     ts : List Transmitter
-    ts = plan.transmitters.items
+    ts = plan.transmitters
 
     steps : List Step
     steps = steps_under plan stream network.events
@@ -190,12 +190,12 @@ received_behind plan network receiver stream held now fed steps received result 
 pub received_progress : (plan : Plan) (network : NetPlan) (stream : List (List ℕ)) (receive : Option ReceivePlan)
     (receiver : ReceivePlan) (held : Files) (now : Option Files) (received : Outcome) (status : Status)
     → receive ≡ Some receiver → AreReceived plan network stream receiver held received now
-    → NetProgress [] plan.transmitters.items (steps_under plan stream network.events)
+    → NetProgress [] plan.transmitters (steps_under plan stream network.events)
     (reception_outputs plan network stream receive) status held now
 received_progress plan network stream receive receiver held now received status its is =
-    subst (λ o. NetProgress [] plan.transmitters.items (steps_under plan stream network.events)
+    subst (λ o. NetProgress [] plan.transmitters (steps_under plan stream network.events)
     (reception_outputs plan network stream o) status held now) (sym its)
-    (received_on plan.transmitters.items (steps_under plan stream network.events)
+    (received_on plan.transmitters (steps_under plan stream network.events)
     (reception_outputs plan network stream (Some receiver)) status held (Some is.mid) now is.left
     (part_of_carried (received_past
     (first_past receiver.damage (length (sent_file plan network stream receiver.from))) receiver.damage

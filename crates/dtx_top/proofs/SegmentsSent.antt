@@ -18,7 +18,7 @@ use Rattle.dtx_coder.specs.SegmentsLaws.{length-segment}
 use Rattle.dtx_exciter.specs.Emission.{segments_since, sent_by, sent_at, sent_before, behind_field_sync, given_under}
 use Rattle.dtx_exciter.specs.Emission.{last_segments}
 use Rattle.dtx_exciter.specs.Emission.{emission}
-use Rattle.dtx_exciter.specs.Order.{Order, in_force}
+use Rattle.dtx_exciter.specs.Order.{Order, orders}
 use Rattle.dtx_exciter.specs.Packets.{readings, under}
 use Rattle.dtx_exciter.specs.Told.{served}
 use Rattle.dtx_exciter.specs.ForceLaws.{force_first, force_stands}
@@ -52,14 +52,14 @@ since_long g q packets u behind within =
       length-levels_since g q packets,
     )))
 
-by_long : (address delay : ℕ) (packets : List (List ℕ)) (i : ℕ) (order : Option Order)
-    → ((o : Order) → order ≡ Some o → o.place ≤ i) → i + 4 ≤ length packets
-    → AreSegments (sent_by address delay packets i order)
-by_long address delay packets i None stands within = tt
-by_long address delay packets i (Some order) stands within = by_test (is_ok (served address delay order.ops))
+by_long : (address delay : ℕ) (packets : List (List ℕ)) (i : ℕ) (said : List Order)
+    → ((o : Order) (older : List Order) → said ≡ o ∷ older → o.place ≤ i) → i + 4 ≤ length packets
+    → AreSegments (sent_by address delay packets i said)
+by_long address delay packets i [] stands within = tt
+by_long address delay packets i (order ∷ older) stands within = by_test (is_ok (served address delay (order ∷ older)))
   where
     by_test : (t : Bool) → AreSegments (cond t (segments_since (order.place / 4) order.ops.states packets (i / 4)) [])
-    by_test true = since_long (order.place / 4) order.ops.states packets (i / 4) (let b = stands order refl in
+    by_test true = since_long (order.place / 4) order.ops.states packets (i / 4) (let b = stands order older refl in
         omega (arith, b)) (omega (arith, within))
     by_test false = tt
 
@@ -67,16 +67,16 @@ at_long : (address delay : ℕ) (packets : List (List ℕ)) (i : ℕ) → i + 4 
     → AreSegments (sent_at address delay packets i)
 unfolding sent_at
 at_long address delay packets i within =
-    by_long address delay packets i (in_force (readings packets) i)
-    (λ order is. let b = (force_stands (readings packets) i order is).below in omega (arith, b)) within
+    by_long address delay packets i (orders (readings packets) i)
+    (λ order older is. let b = (force_stands (readings packets) i order older is).below in omega (arith, b)) within
 
 -- no order is in force at the first group
 first_long : (address delay : ℕ) (packets : List (List ℕ)) (i : ℕ) → i ≡ 0
     → AreSegments (sent_at address delay packets i)
 unfolding sent_at
 first_long address delay packets i first =
-    subst (λ n. AreSegments (sent_by address delay packets n (in_force (readings packets) n))) (sym first)
-    (subst (λ o. AreSegments (sent_by address delay packets 0 o)) (sym (force_first (readings packets))) tt)
+    subst (λ n. AreSegments (sent_by address delay packets n (orders (readings packets) n))) (sym first)
+    (subst (λ said. AreSegments (sent_by address delay packets 0 said)) (sym (force_first (readings packets))) tt)
 
 before_long : (address delay : ℕ) (packets : List (List ℕ)) (i : ℕ) → i ≤ length packets
     → AreSegments (sent_before address delay packets i)

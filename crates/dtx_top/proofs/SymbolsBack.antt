@@ -16,7 +16,7 @@ use Rattle.dtx_coder.specs.Stream.{segment, four_segments, last_of}
 use Rattle.dtx_exciter.specs.Emission.{segments_since, sent_by, sent_at, sent_before, behind_field_sync, given_under}
 use Rattle.dtx_exciter.specs.Emission.{last_segments}
 use Rattle.dtx_exciter.specs.Emission.{emission}
-use Rattle.dtx_exciter.specs.Order.{Order, in_force}
+use Rattle.dtx_exciter.specs.Order.{Order, orders}
 use Rattle.dtx_exciter.specs.Packets.{readings, under}
 use Rattle.dtx_exciter.specs.Told.{served}
 use Rattle.dtx_files.specs.Symbols.{byte_of_symbol}
@@ -138,10 +138,10 @@ since_back g q packets u =
     (λ n l m. segment_back (levels_since g q packets) n
     (levels_small (4 * g % 312) q (drop (828 * g) (whole_groups packets))))
 
-by_back : (address delay : ℕ) (packets : List (List ℕ)) (i : ℕ) (order : Option Order)
-    → EachBack (sent_by address delay packets i order)
-by_back address delay packets i None = tt
-by_back address delay packets i (Some order) = by_test (is_ok (served address delay order.ops))
+by_back : (address delay : ℕ) (packets : List (List ℕ)) (i : ℕ) (said : List Order)
+    → EachBack (sent_by address delay packets i said)
+by_back address delay packets i [] = tt
+by_back address delay packets i (order ∷ older) = by_test (is_ok (served address delay (order ∷ older)))
   where
     by_test : (t : Bool) → EachBack (cond t (segments_since (order.place / 4) order.ops.states packets (i / 4)) [])
     by_test true = since_back (order.place / 4) order.ops.states packets (i / 4)
@@ -149,7 +149,7 @@ by_back address delay packets i (Some order) = by_test (is_ok (served address de
 
 at_back : (address delay : ℕ) (packets : List (List ℕ)) (i : ℕ) → EachBack (sent_at address delay packets i)
 unfolding sent_at
-at_back address delay packets i = by_back address delay packets i (in_force (readings packets) i)
+at_back address delay packets i = by_back address delay packets i (orders (readings packets) i)
 
 before_back : (address delay : ℕ) (packets : List (List ℕ)) (i : ℕ) → EachBack (sent_before address delay packets i)
 before_back address delay packets i = by_test (nat_le 4 i)

@@ -72,12 +72,12 @@ place_there ts address listed = by_place (transmitter_place address ts) refl
         (who, found.0, record { place = some; here = found.1; own = found.2 })
 
 pub sent_file_is : (plan : Plan) (network : NetPlan) (stream : List (List ℕ)) (address who : ℕ) (t : Transmitter)
-    → IsPlace plan.transmitters.items address who t
+    → IsPlace plan.transmitters address who t
     → sent_file plan network stream address ≡ symbol_file t who (steps_under plan stream network.events)
 unfolding sent_file
 sent_file_is plan network stream address who t is =
     ap (λ o. option_map_or (λ who. option_map_or (λ t. symbol_file t who (steps_under plan stream network.events))
-    (slice_get plan.transmitters.items who) []) o []) is.place
+    (slice_get plan.transmitters who) []) o []) is.place
     ∙ ap (λ o. option_map_or (λ t. symbol_file t who (steps_under plan stream network.events)) o []) is.here
 
 -- what was counted of it serves in place of its length

@@ -45,7 +45,7 @@ packet_there seed count k most within =
 
 -- ---- each is allowed
 
-begins : (seed index : ℕ) → sync_of (made_packet seed index) ≡ 0x47
+pub begins : (seed index : ℕ) → sync_of (made_packet seed index) ≡ 0x47
 unfolding made_packet
 begins seed index = choose (index % 312 == 100)
   where

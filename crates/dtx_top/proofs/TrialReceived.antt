@@ -56,7 +56,9 @@ use Rattle.dtx_top.specs.Networks.{sent_file}
 use Rattle.dtx_top.specs.Trial.{near, trial_events, trial_network, trial_plan, trial_transmitters}
 use Rattle.dtx_top.specs.WorkedNetwork.{made_packets}
 use Rattle.dtx_top.proofs.SegmentsBack.{segments_of_file, whole_segments_sent}
-use Rattle.dtx_top.proofs.WorkedNetwork.{Met, MetLaw}
+use Rattle.dtx_top.proofs.TrialUnlocked.{events_before, third_unlocked}
+use Rattle.dtx_net.specs.Lives.{last_life}
+use Rattle.dtx_top.proofs.WorkedNetwork.{ListLaws, Met, MetLaw, lists_each}
 use Rattle.dtx_top.proofs.WorkedStream.{length-made, made_order, made_stream}
 
 -- ---- how many segments a transmitter sends at most
@@ -271,6 +273,7 @@ file_done file few some =
 -- the laws that are cited
 pub record ReceivedLaws : Type 0 where
   pub met : MetLaw
+  pub lists : ListLaws
   pub headline : HeadlineLaw
   pub spaced : SpacedLaw
 
@@ -288,14 +291,21 @@ third_sends seed count stream p =
     ap (λ (o : Option ℕ). option_map_or (λ who. option_map_or (own who) (slice_get trial_transmitters who) []) o [])
     (place_only trial_transmitters 2 third p.sound.transmitters refl)
 
--- it joins the feed at packet 0, and its first order is that of the group from packet 100 on, or an earlier one
+-- what its life holds before the feed
+abbrev third_before : ℕ → ℕ → List (List ℕ)
+third_before seed count =
+    last_life 2 (steps_under (trial_plan seed count) (made_packets seed count) (events_before seed count))
+
+-- it joins the feed at packet 0, and its first listing is that of the group from packet 100 on, or an earlier one
 third_joins : ReceivedLaws → (seed count : ℕ) → 624 ≤ count → count ≤ 1000000 → IsPlan (trial_plan seed count)
-    → Met (trial_plan seed count) (made_packets seed count) third 2 0 count 100 (trial_events seed count)
+    → Met (trial_plan seed count) (made_packets seed count) third 2 0 count 100 (third_before seed count)
+    (trial_events seed count)
 third_joins laws seed count least most p =
-    laws.met (trial_plan seed count) (made_packets seed count) third 2 0 count 100
-    (Send 1 0 count ∷ Send 2 0 count ∷ Foreign 3 seed 0 50 ∷ []) [] p
-    (made_stream seed count (omega (arith, most))) refl in_time refl (omega (arith, length-made seed count))
-    refl (omega arith) (omega (arith, least)) (made_order seed count (omega (arith, least)))
+    laws.met (trial_plan seed count) (made_packets seed count) third 2 0 count 100 (events_before seed count) [] p
+    (made_stream seed count (omega (arith, most))) refl in_time refl (omega (arith, length-made seed count)) refl
+    (omega (arith, third_unlocked seed count (made_packets seed count) p)) (omega (arith, least))
+    (lists_each laws.lists (trial_plan seed count) (made_packets seed count) third 2 100 p
+    (made_stream seed count (omega (arith, most))) refl (omega arith) (made_order seed count (omega (arith, least))))
   where
     in_time : IsInTime (trial_plan seed count) third
     in_time = le_z_yes tt
@@ -318,7 +328,7 @@ third_runs laws seed count least most p =
     fed : List (List ℕ)
     fed = feed plan (made_packets seed count)
 
-    joins : Met plan (made_packets seed count) third 2 0 count 100 events
+    joins : Met plan (made_packets seed count) third 2 0 count 100 (third_before seed count) events
     joins = third_joins laws seed count least most p
 
     x : Joined plan (made_packets seed count) events

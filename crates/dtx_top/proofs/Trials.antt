@@ -117,7 +117,7 @@ is_net seed count small least most = record {
 -- the plan of a trial, with what it says of its network
 pub record IsNetworkOf (plan : whole.Plan) (network : NetPlan) : Type 0 where
   pub sound : IsSound plan
-  pub net : IsNet plan.transmitters.items network
+  pub net : IsNet plan.transmitters network
   pub differ : network.stream ≢ feed_name
 
 stream_no_feed : trial_name ≢ feed_name

@@ -73,8 +73,8 @@ behind_feed whole_feed whole_reception ts steps status held now progress name be
 
 pub under_way : (plan : Plan) (network : NetPlan) (file : List ℕ) (status : Status) (held now : Files)
     (progress : HasNetProgress plan network file status held (Some now)) → IsPlan plan
-    → progress.schedule.begun ≡ 2 * length plan.transmitters.items
-    → AreUnderWay plan.transmitters.items (steps_under plan (packets_of file) network.events) progress.schedule.done now
+    → progress.schedule.begun ≡ 2 * length plan.transmitters
+    → AreUnderWay plan.transmitters (steps_under plan (packets_of file) network.events) progress.schedule.done now
 under_way plan network file status held now progress is begun = record {
   symbols = λ who t at_t. found (symbol_name t.address) (progress.schedule.contents who t).0
       (IsBetween (symbol_file t who (take done steps)) (symbol_file t who (take (done + 1) steps)))
@@ -87,7 +87,7 @@ under_way plan network file status held now progress is begun = record {
 }
   where
     ts : List Transmitter
-    ts = plan.transmitters.items
+    ts = plan.transmitters
 
     steps : List Step
     steps = steps_under plan (packets_of file) network.events

@@ -1,6 +1,6 @@
 -- A simple network meets what the headline asks of transmitters, symbols and damage.
 use Rattle.std.proofs.Common.{◌≡◌, ◌⊎◌, inl, inr, ℕ, zero, suc, ◌+◌, ◌-◌, ◌*◌, ◌/◌, ◌%◌, ◌<◌, ◌≤◌, ◌==◌, ◌&&◌}
-use Rattle.std.proofs.Common.{Bool, true, false, List, [], ◌∷◌, ◌++◌, length, refl, sym, ap, subst}
+use Rattle.std.proofs.Common.{Bool, true, false, cond, List, [], ◌∷◌, ◌++◌, length, refl, sym, ap, subst}
 use Rattle.std.proofs.Common.{◌∙◌, arith}
 use Rattle.std.specs.Prelude.{Option, Some, None, IsSomeAnd, filter, slice_get}
 use Rattle.std.specs.FinMap.{get}
@@ -8,19 +8,23 @@ use Rattle.std.specs.List.{range_with_len, Contains}
 use Rattle.std.specs.Option.{option_map_or}
 use Rattle.std.proofs.lemmas.Bool.{and_from, eq-eqb}
 use Rattle.std.proofs.lemmas.List.Elements.{Contains-append_right}
+use Rattle.std.proofs.lemmas.Option.{get_or_from_slice_get, slice_get_within}
 use Rattle.dtx_adapter.specs.Feed.{feed}
 use Rattle.dtx_chain.specs.Undamaged.{ArePackets}
+use Rattle.dtx_exciter.specs.Lockstep.{locked_by, locked_from}
+use Rattle.dtx_exciter.specs.Packets.{anchor_of}
 use Rattle.dtx_jobs.specs.SymbolFile as file
 use Rattle.dtx_lists.proofs.Range.{range_cases}
 use Rattle.dtx_make.specs.Hurt.{hurt}
+use Rattle.dtx_net.specs.Lives.{last_life}
 use Rattle.dtx_net.specs.PlaceOfLaws.{place_only}
 use Rattle.dtx_net.specs.Sent.{sent_segments}
 use Rattle.dtx_net.specs.Steps.{Step, transmitter_place}
 use Rattle.dtx_network.specs.GivesBack.{BeginsField, IsReceivedAlone, next_field}
-use Rattle.dtx_network.specs.Headline.{IsFirstOrder, stretch_of}
+use Rattle.dtx_network.specs.Headline.{IsFirstListing, stretch_of}
 use Rattle.dtx_network.specs.Network.{AreOfOthers, Joined, steps_under}
-use Rattle.dtx_network.specs.Orders.{has_order}
-use Rattle.dtx_network.specs.Plans.{IsInTime, IsPlan, IsStream}
+use Rattle.dtx_network.specs.Orders.{has_listing, has_order}
+use Rattle.dtx_network.specs.Plans.{IsInTime, IsListed, IsPlan, IsStream}
 use Rattle.dtx_network.specs.Presets.{orders}
 use Rattle.dtx_outside.specs.Shelf.{Files}
 use Rattle.dtx_packets.specs.Packets.{packets_of}
@@ -42,22 +46,34 @@ use Rattle.dtx_top.proofs.WorkedDamage.{few_slight}
 
 -- ---- the network's laws
 
--- a transmitter that joins at packet 0, with all packets
-abbrev pub Met : Plan → List (List ℕ) → Transmitter → ℕ → ℕ → ℕ → ℕ → List Event → Type 0
-Met plan stream t who mark n g events =
+-- a transmitter that joins at a mark, with so many packets, behind these earlier ones of its life
+abbrev pub Met : Plan → List (List ℕ) → Transmitter → ℕ → ℕ → ℕ → ℕ → List (List ℕ) → List Event → Type 0
+Met plan stream t who mark n g earlier events =
     (x : Joined plan stream events) × (x.t ≡ t) × (x.who ≡ who) × (x.mark ≡ mark) × (x.count ≡ n) × (x.k ≤ g)
+    × (x.fed.earlier ≡ earlier)
 
 abbrev pub MetLaw : Type 0
 MetLaw = (plan : Plan) (stream : List (List ℕ)) (t : Transmitter) (who mark n g : ℕ) (before after : List Event)
-    → IsPlan plan → IsStream stream → slice_get plan.transmitters.items who ≡ Some t → IsInTime plan t
+    → IsPlan plan → IsStream stream → slice_get plan.transmitters who ≡ Some t → IsInTime plan t
     → mark % 624 ≡ 0 → mark + n ≤ length stream
-    → g % 4 ≡ 0 → mark + 52 ≤ g → g + 4 ≤ mark + n → has_order stream g ≡ true
-    → Met plan stream t who mark n g (before ++ Send t.address mark n ∷ after)
+    → g % 4 ≡ 0 → locked_from (last_life who (steps_under plan stream before)) mark + 52 ≤ g → g + 4 ≤ mark + n
+    → has_listing t.address (feed plan stream) g ≡ true
+    → Met plan stream t who mark n g (last_life who (steps_under plan stream before))
+    (before ++ Send t.address mark n ∷ after)
+
+-- where it was given nothing before
+abbrev pub MetFirstLaw : Type 0
+MetFirstLaw = (plan : Plan) (stream : List (List ℕ)) (t : Transmitter) (who mark n g : ℕ) (before after : List Event)
+    → IsPlan plan → IsStream stream → slice_get plan.transmitters who ≡ Some t → IsInTime plan t
+    → AreOfOthers t before → mark % 624 ≡ 0 → mark + n ≤ length stream
+    → g % 4 ≡ 0 → mark + 52 ≤ g → g + 4 ≤ mark + n → has_listing t.address (feed plan stream) g ≡ true
+    → Met plan stream t who mark n g [] (before ++ Send t.address mark n ∷ after)
 
 abbrev pub AloneLaw : Type 0
 AloneLaw = (plan : Plan) (stream : List (List ℕ)) (t : Transmitter) (who n k : ℕ) (before after : List Event)
-    → IsPlan plan → IsStream stream → slice_get plan.transmitters.items who ≡ Some t → IsInTime plan t
-    → n ≤ length stream → IsFirstOrder (feed plan stream) 0 n k → AreOfOthers t before → AreOfOthers t after
+    → IsPlan plan → IsStream stream → slice_get plan.transmitters who ≡ Some t → IsInTime plan t
+    → n ≤ length stream → IsFirstListing t.address (feed plan stream) 0 n k → AreOfOthers t before
+    → AreOfOthers t after
     → sent_segments t who (steps_under plan stream (before ++ Send t.address 0 n ∷ after))
     ≡ stretch_of (feed plan stream) k n
 
@@ -65,15 +81,46 @@ abbrev pub OrdersLaw : Type 0
 OrdersLaw = (plan : Plan) (stream : List (List ℕ)) (g : ℕ) → IsPlan plan → IsStream stream
     → has_order (feed plan stream) g ≡ has_order stream g
 
+abbrev pub ListingsLaw : Type 0
+ListingsLaw = (plan : Plan) (stream : List (List ℕ)) (t : Transmitter) (g : ℕ) → IsPlan plan → IsStream stream
+    → IsListed plan t → length plan.transmitters ≤ 35
+    → has_listing t.address (feed plan stream) g ≡ has_order (feed plan stream) g
+
 abbrev pub PacketsLaw : Type 0
 PacketsLaw = (plan : Plan) (stream : List (List ℕ)) → IsPlan plan → IsStream stream → ArePackets (feed plan stream)
 
-pub record Laws : Type 0 where
-  pub met : MetLaw
-  pub alone : AloneLaw
+-- which groups of a feed order something, and whom they list
+pub record ListLaws : Type 0 where
   pub orders : OrdersLaw
+  pub listings : ListingsLaw
+
+pub record Laws : Type 0 where
+  pub met : MetFirstLaw
+  pub alone : AloneLaw
+  pub lists : ListLaws
   pub packets : PacketsLaw
   pub headline : HeadlineLaw
+
+-- ---- from where on it is locked
+
+by_step : (t : Bool) (mark : ℕ) → (cond t mark (mark + 1248) ≡ mark) ⊎ (cond t mark (mark + 1248) ≡ mark + 1248)
+by_step true mark = inl refl
+by_step false mark = inr refl
+
+by_lock : (o : Option ℕ) (n mark : ℕ) → (locked_by o n mark ≡ mark) ⊎ (locked_by o n mark ≡ mark + 1248)
+by_lock None n mark = inl refl
+by_lock (Some j) n mark = by_step ((n - j) % 624 == 0) mark
+
+-- from the mark on, or from the third one
+first_or_third : (earlier : List (List ℕ)) (mark : ℕ)
+    → (locked_from earlier mark ≡ mark) ⊎ (locked_from earlier mark ≡ mark + 1248)
+unfolding locked_from
+first_or_third earlier mark = by_lock (anchor_of earlier) (length earlier) mark
+
+-- it is packet 0 where a group counts that begins at packet 100 or earlier
+from_first : (z mark k : ℕ) → (z ≡ mark) ⊎ (z ≡ mark + 1248) → mark ≡ 0 → z + 52 ≤ k → k ≤ 100 → z ≡ 0
+from_first z mark k (inl e) first far near = omega (arith, e, first)
+from_first z mark k (inr e) first far near = omega (arith, e, far, near)
 
 -- ---- numbers
 
@@ -118,15 +165,15 @@ begins_field k end l m = record {
 
 -- the first transmitter's symbol file is the one that is received
 sent_is : (plan : Plan) (network : NetPlan) (stream : List (List ℕ)) (a : Transmitter) (address : ℕ) → IsPlan plan
-    → slice_get plan.transmitters.items 0 ≡ Some a → address ≡ a.address
+    → slice_get plan.transmitters 0 ≡ Some a → address ≡ a.address
     → sent_file plan network stream address ≡ symbol_file a 0 (steps_under plan stream network.events)
 unfolding sent_file
 sent_is plan network stream a address p listed e =
     let own : ℕ → Transmitter → List ℕ = λ who t. symbol_file t who (steps_under plan stream network.events) in
     ap (λ (o : Option ℕ).
-    option_map_or (λ who. option_map_or (own who) (slice_get plan.transmitters.items who) []) o [])
-    (ap (λ (n : ℕ). transmitter_place n plan.transmitters.items) e
-    ∙ place_only plan.transmitters.items 0 a p.sound.transmitters
+    option_map_or (λ who. option_map_or (own who) (slice_get plan.transmitters who) []) o [])
+    (ap (λ (n : ℕ). transmitter_place n plan.transmitters) e
+    ∙ place_only plan.transmitters 0 a p.sound.transmitters
     listed)
     ∙ ap (λ (o : Option Transmitter). option_map_or (own 0) o []) listed
 
@@ -135,6 +182,16 @@ sent_is plan network stream a address p listed e =
 some_and : {X : Type 0} (o : Option X) (P Q : X → Type 0) → ((x : X) → P x → Q x) → IsSomeAnd o P → IsSomeAnd o Q
 some_and None P Q f h = h
 some_and (Some x) P Q f h = f x h
+
+-- where a plan's transmitters stand on the only page, each group that holds an operations packet lists each of them
+pub lists_each : ListLaws → (plan : Plan) (stream : List (List ℕ)) (t : Transmitter) (who g : ℕ) → IsPlan plan
+    → IsStream stream → slice_get plan.transmitters who ≡ Some t → length plan.transmitters ≤ 35
+    → has_order stream g ≡ true
+    → has_listing t.address (feed plan stream) g ≡ true
+lists_each laws plan stream t who g p u at few holds =
+    laws.listings plan stream t g p u
+    (who, slice_get_within plan.transmitters who t at, get_or_from_slice_get plan.transmitters who t t at) few
+    ∙ laws.orders plan stream g p u ∙ holds
 
 pub worked : Laws → (plan : Plan) (network : NetPlan) (stream : List (List ℕ)) (a b : Transmitter) (entries : ℕ)
     → IsPlan plan → IsStream stream → IsSimple plan network stream a b entries
@@ -159,17 +216,19 @@ worked laws plan network stream a b entries p u s = record {
     fed = feed plan stream
 
     order : has_order (feed plan stream) 100 ≡ true
-    order = laws.orders plan stream 100 p u ∙ s.order
+    order = laws.lists.orders plan stream 100 p u ∙ s.order
 
-    one : Met plan stream a 0 0 (length stream) 100 network.events
-    one = subst (Met plan stream a 0 0 (length stream) 100) (sym s.events)
+    one : Met plan stream a 0 0 (length stream) 100 [] network.events
+    one = subst (Met plan stream a 0 0 (length stream) 100 []) (sym s.events)
         (laws.met plan stream a 0 0 (length stream) 100 [] (Send b.address 0 (length stream) ∷ []) p u s.first s.in_time
-        (omega arith) (omega arith) (omega arith) (omega arith) (omega (arith, s.long)) s.order)
+        tt (omega arith) (omega arith) (omega arith) (omega arith) (omega (arith, s.long))
+        (lists_each laws.lists plan stream a 0 100 p u s.first s.few s.order))
 
-    other : Met plan stream b 1 0 (length stream) 100 network.events
-    other = subst (Met plan stream b 1 0 (length stream) 100) (sym s.events)
+    other : Met plan stream b 1 0 (length stream) 100 [] network.events
+    other = subst (Met plan stream b 1 0 (length stream) 100 []) (sym s.events)
         (laws.met plan stream b 1 0 (length stream) 100 (Send a.address 0 (length stream) ∷ []) [] p u s.second
-        s.other_in_time (omega arith) (omega arith) (omega arith) (omega arith) (omega (arith, s.long)) s.order)
+        s.other_in_time (s.differ, tt) (omega arith) (omega arith) (omega arith) (omega arith) (omega (arith, s.long))
+        (lists_each laws.lists plan stream b 1 100 p u s.second s.few s.order))
 
     end_one : one.0.mark + one.0.count ≡ length stream
     end_one = omega (arith, one.3, one.4)
@@ -177,9 +236,15 @@ worked laws plan network stream a b entries p u s = record {
     end_other : other.0.mark + other.0.count ≡ length stream
     end_other = omega (arith, other.3, other.4)
 
-    first : IsFirstOrder (feed plan stream) 0 (length stream) one.0.k
-    first = subst (λ (n : ℕ). IsFirstOrder (feed plan stream) 0 n one.0.k) one.4
-        (subst (λ (m : ℕ). IsFirstOrder (feed plan stream) m one.0.count one.0.k) one.3 one.0.order)
+    lock : locked_from one.0.fed.earlier one.0.mark ≡ 0
+    lock = from_first (locked_from one.0.fed.earlier one.0.mark) one.0.mark one.0.k
+        (first_or_third one.0.fed.earlier one.0.mark) one.3 one.0.listing.behind one.5
+
+    first : IsFirstListing a.address (feed plan stream) 0 (length stream) one.0.k
+    first = subst (λ (end : ℕ). IsFirstListing a.address (feed plan stream) 0 end one.0.k) end_one
+        (subst (λ (z : ℕ). IsFirstListing a.address (feed plan stream) z (one.0.mark + one.0.count) one.0.k) lock
+        (subst (λ (t : Transmitter). IsFirstListing t.address (feed plan stream)
+        (locked_from one.0.fed.earlier one.0.mark) (one.0.mark + one.0.count) one.0.k) one.1 one.0.listing))
 
     alone : sent_segments a 0 (steps_under plan stream network.events)
         ≡ stretch_of (feed plan stream) one.0.k (length stream)

@@ -30,11 +30,11 @@ pub record HeadlineOfFiles (plan : Plan) (network : NetPlan) (stream : List (Lis
   -- The files are the feed, what each transmitter sends and logs over its lives, and what is received.
   pub files : AreWholeFiles plan network stream held now
   -- The segments of each symbol file, cut at every 832 bytes, are those that its transmitter sends.
-  pub segments : (who : ℕ) (t : Transmitter) → slice_get plan.transmitters.items who ≡ Some t
+  pub segments : (who : ℕ) (t : Transmitter) → slice_get plan.transmitters who ≡ Some t
       → file_segments (symbol_file t who (steps_under plan stream network.events))
       ≡ sent.sent_segments t who (steps_under plan stream network.events)
-  -- Every transmitter that from any earlier state is given the feed unchanged from a cadence mark on emits, from the
-  -- first operations packet whose group begins 52 or more packets later, exactly the symbols of that feed, at moments
+  -- Every transmitter that from any earlier state is given the feed unchanged through three cadence marks and on emits,
+  -- from its first listing whose group starts 52 or more packets later, exactly the symbols of that feed, at moments
   -- that differ between transmitters only by the signalled offsets; and in whatever is received of them, a run that
   -- begins at one of their field syncs gives the packets back whose bytes are all among the run's and lie in segments
   -- of theirs, and whose words have at most ten wrong bytes.

@@ -1,4 +1,5 @@
 pub mod Ends
+pub mod GivenNames
 pub mod HeadlineOfFiles
 pub mod Lines
 pub mod Means

@@ -76,7 +76,7 @@ abbrev pub playing : whole.Plan → NetPlan → List (List ℕ) → Meaning
 playing plan network stream = record {
   outcome = played_outcome (length stream) (placeholders stream)
       (packets_given (steps_under plan stream network.events));
-  outputs = played_outputs plan.transmitters.items (steps_under plan stream network.events);
+  outputs = played_outputs plan.transmitters (steps_under plan stream network.events);
 }
 
 -- and what is received of it, where a receiver is asked for

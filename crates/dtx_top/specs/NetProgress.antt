@@ -74,13 +74,13 @@ reception_outputs plan network stream (Some receiver) = (received_of plan networ
 -- how far a network came over a stream behind its feed, which is written
 abbrev pub HasPlayProgress : whole.Plan → NetPlan → List (List ℕ) → Status → Files → Option Files → Type 0
 HasPlayProgress plan network stream status held now =
-    NetProgress [] plan.transmitters.items (steps_under plan stream network.events)
+    NetProgress [] plan.transmitters (steps_under plan stream network.events)
     (reception_outputs plan network stream network.receive) status held now
 
 -- how far it came over the stream of these bytes
 abbrev pub HasNetProgress : whole.Plan → NetPlan → List ℕ → Status → Files → Option Files → Type 0
 HasNetProgress plan network file status held now =
-    NetProgress (feed_outputs plan file) plan.transmitters.items (steps_under plan (packets_of file) network.events)
+    NetProgress (feed_outputs plan file) plan.transmitters (steps_under plan (packets_of file) network.events)
     (reception_outputs plan network (packets_of file) network.receive) status held now
 
 -- over the stream that it names, where that is there

@@ -26,7 +26,7 @@ received_names (Some receiver) = received_name ∷ []
 
 -- the files that a network writes: the feed, the two files of each transmitter in the plan's order, what is received
 abbrev pub written_names : Plan → NetPlan → List (List ℕ)
-written_names plan network = feed_name ∷ (transmitter_names plan.transmitters.items ++ received_names network.receive)
+written_names plan network = feed_name ∷ (transmitter_names plan.transmitters ++ received_names network.receive)
 
 -- all its files: the plan, the stream, and those
 abbrev pub network_names : List ℕ → Plan → NetPlan → List (List ℕ)
@@ -38,8 +38,8 @@ network_names name plan network = name ∷ network.stream ∷ written_names plan
 unfoldable pub sent_file : Plan → NetPlan → List (List ℕ) → ℕ → List ℕ
 sent_file plan network stream address =
     option_map_or (λ who. option_map_or (λ t. symbol_file t who (steps_under plan stream network.events))
-    (slice_get plan.transmitters.items who) [])
-    (transmitter_place address plan.transmitters.items) []
+    (slice_get plan.transmitters who) [])
+    (transmitter_place address plan.transmitters) []
 
 -- the symbols that are received: those of the receiver's transmitter, with the damage laid over them
 unfoldable pub damaged_file : Plan → NetPlan → List (List ℕ) → ReceivePlan → List ℕ
@@ -51,9 +51,9 @@ AreOthersKept names held now = (name : List ℕ) → ¬ Contains names name → 
 
 -- each transmitter's files hold what it sends and logs over the whole schedule
 pub record AreSentFiles (plan : Plan) (network : NetPlan) (stream : List (List ℕ)) (now : Files) : Type 0 where
-  pub symbols : (who : ℕ) (t : _) → slice_get plan.transmitters.items who ≡ Some t
+  pub symbols : (who : ℕ) (t : _) → slice_get plan.transmitters who ≡ Some t
       → get now (symbol_name t.address) ≡ Some (symbol_file t who (steps_under plan stream network.events))
-  pub logs : (who : ℕ) (t : _) → slice_get plan.transmitters.items who ≡ Some t
+  pub logs : (who : ℕ) (t : _) → slice_get plan.transmitters who ≡ Some t
       → get now (log_name t.address) ≡ Some (log_file t who (steps_under plan stream network.events))
 
 -- The feed, the files of the transmitters and these bytes as what is received were written, where a receiver is asked

@@ -51,7 +51,7 @@ abbrev pub trial_plan : ℕ → ℕ → whole.Plan
 trial_plan seed count = record {
   start = 0;
   max_delay = 5000000;
-  transmitters = record { items = trial_transmitters };
+  transmitters = trial_transmitters;
   net = Some (trial_network seed count);
 }
 

@@ -86,14 +86,16 @@ pub record IsLittle (address entries : ℕ) (receiver : ReceivePlan) : Type 0 wh
   pub few : IsFew receiver.damage
   pub many : length receiver.damage ≡ entries
 
--- What is asked of a plan, its network and a stream: the plan's first two transmitters have different addresses and are
--- in time; the schedule is two events, which give the first one and then the second one all packets of the feed; the
--- stream's group from packet 100 on holds a placeholder, and it has 372 packets or more, which are 60 behind the first
--- field; the first transmitter is received, with little damage, or none, of so many entries.
+-- What is asked of a plan, its network and a stream: the plan has at most 35 transmitters, whom each operations packet
+-- lists; the first two have different addresses and are in time; the schedule is two events, which give the first one
+-- and then the second one all packets of the feed; the stream's group from packet 100 on holds a placeholder, and it
+-- has 372 packets or more, which are 60 behind the first field; the first transmitter is received, with little damage,
+-- or none, of so many entries.
 pub record IsSimple (plan : Plan) (network : NetPlan) (stream : List (List ℕ)) (a b : Transmitter)
     (entries : ℕ) : Type 0 where
-  pub first : slice_get plan.transmitters.items 0 ≡ Some a
-  pub second : slice_get plan.transmitters.items 1 ≡ Some b
+  pub few : length plan.transmitters ≤ 35
+  pub first : slice_get plan.transmitters 0 ≡ Some a
+  pub second : slice_get plan.transmitters 1 ≡ Some b
   pub in_time : IsInTime plan a
   pub other_in_time : IsInTime plan b
   pub differ : a.address ≢ b.address

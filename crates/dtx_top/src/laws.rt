@@ -28,7 +28,8 @@ ghost use Rattle.dtx_top.specs.WorkedNetwork.{HasAllBack, IsSimple, WorkedNetwor
 use dtx_exciter::laws::groups_are_spaced;
 use dtx_net::laws::interleavings;
 use dtx_network::laws::{
-    headline, joined_is_met, orders_of_a_feed, packets_of_a_feed, sends_the_stretch_alone,
+    headline, joined_is_met, listings_of_a_feed, orders_of_a_feed, packets_of_a_feed,
+    sends_the_stretch_alone,
 };
 
 /// The segments of a transmitter's symbol file are those that it sends: segment n of the file is segment n of them.
@@ -56,17 +57,17 @@ pub fn files_of_interleavings()
 pub fn files_of_a_network_under_way()
     ensures { (plan : Plan) (network : NetPlan) (file : List ℕ) (status : Status) (held now : Files)
         (progress : HasNetProgress plan network file status held (Some now)) → IsPlan plan
-        → progress.schedule.begun ≡ 2 * length plan.transmitters.items
-        → AreUnderWay plan.transmitters.items (steps_under plan (packets_of file) network.events)
+        → progress.schedule.begun ≡ 2 * length plan.transmitters
+        → AreUnderWay plan.transmitters (steps_under plan (packets_of file) network.events)
         progress.schedule.done now }
 {}
 
 /// A simple network meets what the headline asks of transmitters, symbols and damage, with little damage and without:
-/// two transmitters of different addresses, in time, are given the whole feed of a stream with a placeholder in the
-/// group from packet 100 on and 372 packets or more, nothing else is done, and the first one is received. In the files
-/// of such a network of which the headline holds, as it does where the command `net` is done, `net.ts` has exactly the
-/// packets of the feed from the stretch's first field sync on whose bytes are all there, in order, with 0x47 as their
-/// sync bytes.
+/// two of at most 35 transmitters, of different addresses and in time, are given the whole feed of a stream with a
+/// placeholder in the group from packet 100 on and 372 packets or more, nothing else is done, and the first one is
+/// received. In the files of such a network of which the headline holds, as it does where the command `net` is done,
+/// `net.ts` has exactly the packets of the feed from the stretch's first field sync on whose bytes are all there, in
+/// order, with 0x47 as their sync bytes.
 pub fn simple_networks_work()
     ensures works { (plan : Plan) (network : NetPlan) (stream : List (List ℕ)) (a b : Transmitter) (entries : ℕ)
         → IsPlan plan → IsStream stream → IsSimple plan network stream a b entries
@@ -79,6 +80,7 @@ pub fn simple_networks_work()
     joined_is_met();
     sends_the_stretch_alone();
     orders_of_a_feed();
+    listings_of_a_feed();
     packets_of_a_feed();
     headline();
 }
@@ -102,6 +104,8 @@ pub fn a_trial_is_done()
         → (means words held).outcome.status ≡ Status.Done }
 {
     joined_is_met();
+    orders_of_a_feed();
+    listings_of_a_feed();
     headline();
     groups_are_spaced();
 }

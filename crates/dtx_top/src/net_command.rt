@@ -145,7 +145,7 @@ fn net_apart<S: Shelf>(
     shelf: &mut S,
 ) -> NetOutcome
     requires sound { IsSound plan.now }
-    requires network { IsNet plan.now.transmitters.items network.now }
+    requires network { IsNet plan.now.transmitters network.now }
     ensures carried { IfSome (S.files shelf.old) (λ held. IsCarriedOut
         (planned_meaning name.now held plan.now (Some network.now))
         (Some held) result.outcome (S.files shelf.new)) }
@@ -176,7 +176,7 @@ fn net_replayed<S: Shelf>(
     shelf: &mut S,
 ) -> NetOutcome
     requires sound { IsSound plan.now }
-    requires network { IsNet plan.now.transmitters.items network.now }
+    requires network { IsNet plan.now.transmitters network.now }
     requires differ { network.now.stream ≢ feed_name }
     ensures carried { IfSome (S.files shelf.old) (λ held. IsCarriedOut
         (network_meaning plan.now network.now (files.get held network.now.stream)) (Some held) result.outcome

@@ -1,23 +1,18 @@
-// The names of all files of a network, and which of them comes twice.
-ghost use Rattle.std.specs.Prelude.{◌≡◌, ◌+◌, ◌≤◌, ◌∷◌, ◌++◌, All, length, map};
+// Which name of a network's files comes twice. The names of the files that it writes differ from each other, so only
+// that of the plan and that of the stream can come again among them: no list of all names is made.
+ghost use Rattle.std.specs.Prelude.{◌≡◌, ◌<◌, ◌≤◌, ◌^◌, ◌∷◌, ◌++◌, All, [], find, length};
 ghost use Rattle.std.specs.Option.{option_map};
 ghost use Rattle.dtx_plan.specs.Sound.{IsNet, IsSound};
 ghost use Rattle.dtx_schedule.specs.TransmitterFiles.{transmitter_names};
 ghost use Rattle.dtx_words.specs.Names.{repeated};
-ghost use Rattle.dtx_words.specs.NetworkNames.{feed_name};
+ghost use Rattle.dtx_words.specs.NetworkNames.{feed_name, log_name, symbol_name};
 ghost use Rattle.dtx_top.specs.Networks.{network_names, received_names};
+ghost use Rattle.dtx_top.specs.GivenNames.{is_given};
 
 use crate::net_command::STREAM_NAME;
-use arrayvec::{ArrayString, ArrayVec};
-use dtx_plan::{NetPlan, Plan, Transmitter};
-use dtx_words::{NETWORK_NAME, feed_name, log_name, received_name, repeated_name, symbol_name};
-
-/// How many files the transmitters have at most, two each.
-const SENT_FILES: usize = 70;
-
-/// How many files a network has at most: the plan, the stream, the feed, those of the transmitters, and what is
-/// received.
-const NETWORK_FILES: usize = 74;
+use arrayvec::ArrayString;
+use dtx_plan::{NetPlan, Plan, ReceivePlan, Transmitter};
+use dtx_words::{feed_name, log_name, received_name, symbol_name};
 
 /// The first name among those of the network's files that equals an earlier one.
 pub(crate) fn repeated_file(
@@ -26,72 +21,82 @@ pub(crate) fn repeated_file(
     network: &NetPlan,
 ) -> Option<ArrayString<STREAM_NAME>>
     requires sound { IsSound plan.now }
-    requires network { IsNet plan.now.transmitters.items network.now }
+    requires network { IsNet plan.now.transmitters network.now }
     ensures { option_map (λ name. name.bytes) result ≡ repeated (network_names name.now plan.now network.now) }
 {
-    let sent = sent_names(&plan.transmitters);
-    let all = all_names(name, network, &sent);
-    match repeated_name(&all) {
-        Some(twice) => {
-            let mut repeated = ArrayString::new();
-            repeated.push_str(twice);
-            Some(repeated)
-        }
-        None => None,
+    let stream = network.stream.as_str();
+    let sent = given_again(name, stream, plan.transmitters.as_slice());
+    if name == stream {
+        Some(kept(stream))
+    } else if is_given(name, stream, feed_name()) {
+        Some(kept(feed_name()))
+    } else {
+        sent.or(received_again(name, stream, &network.receive))
     }
 }
 
-/// The names of the two files of each transmitter, in the plan's order.
-fn sent_names(transmitters: &[Transmitter]) -> ArrayVec<ArrayString<NETWORK_NAME>, SENT_FILES>
-    requires { length transmitters.now ≤ 35 }
-    ensures names { map (λ name. name.bytes) result.items ≡ transmitter_names transmitters.now }
-    ensures count { length result.items ≤ 70 }
+/// The first name of a transmitter's file that is the plan's or the stream's.
+fn given_again(
+    plan: &str,
+    stream: &str,
+    transmitters: &[Transmitter],
+) -> Option<ArrayString<STREAM_NAME>>
+    ensures name { option_map (λ name. name.bytes) result
+        ≡ find (is_given plan.now stream.now) (transmitter_names transmitters.now) }
+    ensures small { All (λ t. t.address < 2 ^ 16) transmitters.now }
 {
-    let mut names = ArrayVec::new();
-    for i in 0..transmitters.len() {
-        names.push(symbol_name(transmitters[i].address));
-        names.push(log_name(transmitters[i].address));
+    let mut again = None;
+    for transmitter in transmitters {
+        again = again.or(own_again(plan, stream, transmitter.address));
     }
-    names
+    again
 }
 
-/// All names in their order: the plan, the stream, the feed, those that are sent, and what is received.
-fn all_names<'a>(
-    plan: &'a str,
-    network: &'a NetPlan,
-    sent: &'a [ArrayString<NETWORK_NAME>],
-) -> ArrayVec<&'a str, NETWORK_FILES>
-    requires { length sent.now ≤ 70 }
-    ensures names { map (λ name. name.now) result.items
-        ≡ plan.now ∷ network.now.stream ∷ feed_name ∷ (map (λ name. name.bytes) sent.now
-        ++ received_names network.now.receive) }
-    ensures short { All (λ name. length name ≤ 12) (map (λ name. name.bytes) sent.now) }
+/// The first of the names of the two files of the transmitter at an address that is the plan's or the stream's.
+fn own_again(plan: &str, stream: &str, address: u16) -> Option<ArrayString<STREAM_NAME>>
+    ensures name { option_map (λ name. name.bytes) result
+        ≡ find (is_given plan.now stream.now) (symbol_name address ∷ log_name address ∷ []) }
+    ensures small { address < 2 ^ 16 }
 {
-    let mut names = begun_names(plan, network, sent);
-    if network.receive.is_some() {
-        names.push(received_name());
+    let (symbols, log) = (symbol_name(address), log_name(address));
+    if is_given(plan, stream, symbols.as_str()) {
+        Some(kept(symbols.as_str()))
+    } else if is_given(plan, stream, log.as_str()) {
+        Some(kept(log.as_str()))
+    } else {
+        None
     }
-    names
 }
 
-/// All names but that of what is received.
-fn begun_names<'a>(
-    plan: &'a str,
-    network: &'a NetPlan,
-    sent: &'a [ArrayString<NETWORK_NAME>],
-) -> ArrayVec<&'a str, NETWORK_FILES>
-    requires { length sent.now ≤ 70 }
-    ensures names { map (λ name. name.now) result.items
-        ≡ plan.now ∷ network.now.stream ∷ feed_name ∷ map (λ name. name.bytes) sent.now }
-    ensures short { All (λ name. length name ≤ 12) (map (λ name. name.bytes) sent.now) }
-    ensures count { length result.items ≡ 3 + length sent.now }
+/// The name of what is received, where a receiver is asked for and the name is the plan's or the stream's.
+fn received_again(
+    plan: &str,
+    stream: &str,
+    receive: &Option<ReceivePlan>,
+) -> Option<ArrayString<STREAM_NAME>>
+    ensures { option_map (λ name. name.bytes) result
+        ≡ find (is_given plan.now stream.now) (received_names receive.now) }
 {
-    let mut names = ArrayVec::new();
-    names.push(plan);
-    names.push(network.stream.as_str());
-    names.push(feed_name());
-    for i in 0..sent.len() {
-        names.push(sent[i].as_str());
+    if receive.is_some() && is_given(plan, stream, received_name()) {
+        Some(kept(received_name()))
+    } else {
+        None
     }
-    names
+}
+
+/// Whether a name is the plan's or the stream's.
+fn is_given(plan: &str, stream: &str, name: &str) -> bool
+    ensures { result ≡ is_given plan.now stream.now name.now }
+{
+    plan == name || stream == name
+}
+
+/// The name in a text of its own.
+fn kept(name: &str) -> ArrayString<STREAM_NAME>
+    requires { length name.now ≤ STREAM_NAME }
+    ensures { result.bytes ≡ name.now }
+{
+    let mut kept = ArrayString::new();
+    kept.push_str(name);
+    kept
 }

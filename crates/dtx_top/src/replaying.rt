@@ -39,7 +39,7 @@ pub(crate) fn replay<S: Shelf>(
     shelf: &mut S,
 ) -> Outcome
     requires sound { IsSound plan.now }
-    requires network { IsNet plan.now.transmitters.items network.now }
+    requires network { IsNet plan.now.transmitters network.now }
     requires differ { network.now.stream ≢ feed_name }
     ensures carried { IfSome (S.files shelf.old) (λ held. IsCarriedOut
         (means.network_meaning plan.now network.now (files.get held network.now.stream)) (Some held) result
@@ -89,7 +89,7 @@ fn play_within<S: Shelf>(
     fed: &Outcome,
 ) -> Outcome
     requires sound { IsSound plan.now }
-    requires network { IsNet plan.now.transmitters.items network.now }
+    requires network { IsNet plan.now.transmitters network.now }
     ensures carried { (held : Files) (stream : List (List ℕ)) → S.files shelf.old ≡ Some held
         → IsFeedWritten plan.now stream fed.now held
         → IsCarriedOut (means.fed_meaning plan.now network.now stream) (Some held) result (S.files shelf.new) }
@@ -115,7 +115,7 @@ fn play_events<S: Shelf>(
     fed: &Outcome,
 ) -> Outcome
     requires sound { IsSound plan.now }
-    requires network { IsNet plan.now.transmitters.items network.now }
+    requires network { IsNet plan.now.transmitters network.now }
     ensures carried { (held : Files) (stream : List (List ℕ)) → S.files shelf.old ≡ Some held
         → IsFeedWritten plan.now stream fed.now held → inside.first_past_feed network.now.events (length stream) ≡ None
         → IsCarriedOut (means.played_and_received plan.now network.now stream network.now.receive) (Some held)
@@ -127,7 +127,7 @@ fn play_events<S: Shelf>(
     ensures shown { ShowsNetwork result.status result }
     ensures gone { HasGone (S.counts shelf.old) (S.counts shelf.new) (blame_of result.status) }
 {
-    match play(alloc, shelf, &plan.transmitters, &network.events) {
+    match play(alloc, shelf, plan.transmitters.as_slice(), &network.events) {
         Ok(played) => receive_played(alloc, network, shelf, fed, &played),
         Err(status) => ended(status),
     }
@@ -143,16 +143,16 @@ fn receive_played<S: Shelf>(
 ) -> Outcome
     requires { IfSome network.now.receive (λ receiver. AreDamages receiver.damage) }
     ensures carried { (plan : Plan) (held : Files) (stream : List (List ℕ))
-        → IsNet plan.transmitters.items network.now → HasNumbers stream fed.now
-        → IsPlayout plan.transmitters.items played.now.playout (steps_under plan stream network.now.events)
-        → S.files shelf.old ≡ with_outputs (played_outputs plan.transmitters.items
+        → IsNet plan.transmitters network.now → HasNumbers stream fed.now
+        → IsPlayout plan.transmitters played.now.playout (steps_under plan stream network.now.events)
+        → S.files shelf.old ≡ with_outputs (played_outputs plan.transmitters
         (steps_under plan stream network.now.events)) (Some held)
         → IsCarriedOut (means.played_and_received plan network.now stream network.now.receive) (Some held)
         result (S.files shelf.new) }
     ensures progress { (plan : Plan) (held : Files) (stream : List (List ℕ))
-        → IsNet plan.transmitters.items network.now
-        → IsPlayout plan.transmitters.items played.now.playout (steps_under plan stream network.now.events)
-        → S.files shelf.old ≡ with_outputs (played_outputs plan.transmitters.items
+        → IsNet plan.transmitters network.now
+        → IsPlayout plan.transmitters played.now.playout (steps_under plan stream network.now.events)
+        → S.files shelf.old ≡ with_outputs (played_outputs plan.transmitters
         (steps_under plan stream network.now.events)) (Some held)
         → HasPlayProgress plan network.now stream result.status held (S.files shelf.new) }
     ensures network { IsOfReplay network.now.receive result.status }

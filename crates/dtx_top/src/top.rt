@@ -123,8 +123,8 @@ pub fn run<S: Shelf, O: Sink>(alloc: Global, words: &[Word], shelf: &mut S, out:
         HasProgressOf (command_of words.now) words.now held result (S.files shelf.new)) }
 
     // The headline: for every packet stream and schedule, an exciter that from any earlier state is given the adapter's
-    // feed unchanged from a cadence mark on emits, from the first operations packet whose group begins 52 or more
-    // packets later, exactly the symbols of that feed, at moments that differ between transmitters only by the
+    // feed unchanged through three cadence marks and on emits, from its first listing whose group starts 52 or more
+    // packets later, exactly the A/53 symbols of that feed, at moments that differ between transmitters only by the
     // signalled offsets; and symbols with at most ten wrong bytes per codeword give its packets back.
     ensures headline { IfSome (S.files shelf.old) (λ held. result ≡ Status.Done
         → HasHeadlineOf (command_of words.now) words.now held (S.files shelf.new)) }
@@ -166,6 +166,8 @@ mod dvb_tests;
 mod failing_tests;
 #[cfg(test)]
 mod net_tests;
+#[cfg(test)]
+mod page_tests;
 #[cfg(test)]
 mod place_tests;
 #[cfg(test)]

@@ -2,10 +2,8 @@
 ghost use Rattle.std.specs.Prelude.{◌≡◌, IfOk};
 ghost use Rattle.dtx_top.specs.Trial.{near, trial_events, trial_network, trial_plan, trial_transmitters};
 
-use arrayvec::ArrayVec;
 use dtx_outside::Word;
-use dtx_plan::{Damages, Event, Events, NetPlan, Plan, ReceivePlan, Transmitter};
-use dtx_sizes::MOST_TRANSMITTERS;
+use dtx_plan::{Damages, Event, Events, NetPlan, Plan, ReceivePlan, Transmitter, Transmitters};
 use dtx_words::trial_name;
 use std::alloc::{AllocError, Global};
 
@@ -17,20 +15,16 @@ pub(crate) fn trial_plan(alloc: Global, seed: u64, count: u64) -> Result<Plan, A
     Ok(Plan {
         start: 0,
         max_delay: 5_000_000,
-        transmitters: trial_transmitters(),
+        transmitters: trial_transmitters(alloc)?,
         net: Some(network),
     })
 }
 
 /// Its three transmitters.
-fn trial_transmitters() -> ArrayVec<Transmitter, MOST_TRANSMITTERS>
-    ensures { result.items ≡ trial_transmitters }
+fn trial_transmitters(alloc: Global) -> Result<Transmitters, AllocError>
+    ensures { IfOk result (λ transmitters. transmitters ≡ trial_transmitters) }
 {
-    let mut transmitters = ArrayVec::new();
-    transmitters.push(near(1, 0));
-    transmitters.push(near(2, 25));
-    transmitters.push(near(3, -10));
-    transmitters
+    Transmitters::from_slice(alloc, &[near(1, 0), near(2, 25), near(3, -10)])
 }
 
 /// A transmitter to which the feed takes no time.

@@ -11,6 +11,7 @@ ghost use Rattle.dtx_top.specs.WorkedNetwork.{IsFew, IsLittle, IsSimple, IsWorke
 use crate::laws::{made_packets_are_a_stream, simple_networks_work};
 use dtx_network::laws::plans_that_are_read;
 use dtx_plan::{Damages, Event, NetPlan, Plan, ReceivePlan, Transmitter, read_plan};
+use dtx_sizes::MOST_ENTRIES;
 use std::alloc::Global;
 
 /// How many packets the made stream has.
@@ -109,7 +110,7 @@ fn network_works(plan: &Plan, network: &NetPlan, count: usize, entries: usize) -
     }
 }
 
-/// The first two transmitters, where the network is a simple one.
+/// The first two transmitters, where the network is a simple one: they stand on the only page.
 fn simple(
     plan: &Plan,
     network: &NetPlan,
@@ -120,6 +121,9 @@ fn simple(
     ensures most { IfSome result (λ ts. count ≤ 624000000) }
 {
     made_packets_are_a_stream();
+    if plan.transmitters.len() > MOST_ENTRIES {
+        return None;
+    }
     if network.events.len() != 2 || count < 372 || count > 624_000_000 {
         return None;
     }
@@ -134,14 +138,14 @@ fn simple(
 /// The transmitter at a place of the plan's list, where it is in time and the event gives it that many packets of the
 /// feed from packet 0 on.
 fn given_all(plan: &Plan, who: usize, event: &Event, count: usize) -> Option<Transmitter>
-    ensures listed { IfSome result (λ t. slice_get plan.now.transmitters.items who ≡ Some t) }
+    ensures listed { IfSome result (λ t. slice_get plan.now.transmitters who ≡ Some t) }
     ensures in_time { IfSome result (λ t. IsInTime plan.now t) }
     ensures event { IfSome result (λ t. event.now ≡ Send t.address 0 count) }
 {
     if who >= plan.transmitters.len() {
         return None;
     }
-    let t = plan.transmitters[who];
+    let t = plan.transmitters.as_slice()[who];
     if t.delay as i64 > plan.max_delay as i64 + t.offset as i64 {
         return None;
     }

@@ -41,7 +41,7 @@ pub fn what_stays()
 {}
 
 /// The group of four packets in which a placeholder stands at place 52 of its field or behind begins there too: 52
-/// packets or more behind the mark of the field.
+/// packets or more behind the field's first packet.
 pub fn groups_begin_late()
     ensures late { (k : ℕ) → 52 ≤ k % 312 → 52 ≤ 4 * (k / 4) % 312 }
     ensures field { (k : ℕ) → 52 ≤ k % 312 → 4 * (k / 4) / 312 ≡ k / 312 }

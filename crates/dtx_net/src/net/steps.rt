@@ -1,7 +1,6 @@
 // The calls of a network.
 ghost use Rattle.std.specs.Prelude.{◌≡◌, ◌<◌, ◌++◌, ◌∷◌, [], ℕ, List, Some, IfOk, IfSome, length, slice_get, vec_len};
 ghost use Rattle.dtx_plan.specs.declared.transmitter.Transmitter.{Transmitter};
-ghost use Rattle.dtx_plan.specs.TransmitterTable as spec;
 ghost use Rattle.dtx_plan.specs.Sound.{AreTransmitters};
 ghost use Rattle.dtx_net.specs.Steps.{Step, restart_step, transmitter_place};
 ghost use Rattle.dtx_net.specs.Standing.{StandsFor, AreNew, IsGiven, ChangesOnly};
@@ -10,18 +9,18 @@ use super::Net;
 use dtx_coder::Air;
 use dtx_exciter::{Exciter, Told};
 use dtx_packets::Packet;
-use dtx_plan::Transmitter;
+use dtx_plan::{Transmitter, Transmitters};
 use std::alloc::{AllocError, Global};
 
 impl Net {
-    /// The network of 1 to 35 transmitters whose addresses differ from each other. Nothing was done with it. All memory
-    /// is taken here.
+    /// The network of 1 to 1,020 transmitters whose addresses differ from each other. Nothing was done with it. All
+    /// memory is taken here.
     pub fn new(alloc: Global, transmitters: &[Transmitter]) -> Result<Net, AllocError>
         requires { AreTransmitters transmitters.now }
         ensures { IfOk result (λ net. StandsFor transmitters.now net []) }
     {
         Ok(Net {
-            addresses: addresses_of(alloc, transmitters)?,
+            transmitters: Transmitters::from_slice(alloc, transmitters)?,
             exciters: exciters_of(alloc, transmitters)?,
         })
     }
@@ -32,12 +31,7 @@ impl Net {
         ensures place { (ts : List Transmitter) (steps : List Step) → StandsFor ts self.now steps
             → result ≡ transmitter_place address ts }
     {
-        for place in 0..self.addresses.len() {
-            if self.addresses[place] == address {
-                return Some(place);
-            }
-        }
-        None
+        self.transmitters.place(address)
     }
 
     /// The transmitter at a place of the list is given one more packet, of any bytes. What is answered, and what the
@@ -62,17 +56,6 @@ impl Net {
     {
         self.exciters[who].reset()
     }
-}
-
-/// The addresses of the transmitters.
-fn addresses_of(alloc: Global, transmitters: &[Transmitter]) -> Result<Vec<u16>, AllocError>
-    ensures { IfOk result (λ addresses. addresses.items ≡ spec.addresses_of transmitters.now) }
-{
-    let mut addresses = Vec::with_capacity(alloc, transmitters.len())?;
-    for transmitter in transmitters {
-        addresses.push(transmitter.address)?;
-    }
-    Ok(addresses)
 }
 
 /// An exciter for each of the transmitters.

@@ -8,7 +8,7 @@ use arrayvec::ArrayVec;
 use dtx_clock::Moment;
 use dtx_coder::Air;
 use dtx_exciter::{Preset, Told};
-use dtx_ops::{Entry, Ops, write};
+use dtx_ops::{Entry, Ops, Paging, write};
 use dtx_packets::Packet;
 use dtx_plan::Transmitter;
 use dtx_rs::Rs;
@@ -90,6 +90,7 @@ fn order() -> Packet {
         max_delay: 5_000_000,
         frame: 0,
         index: 100,
+        paging: Paging::One,
         offsets,
     };
     let mut packet = Packet([0x47; PACKET]);

@@ -111,18 +111,7 @@ fn a_plan_is_refused_at_its_root_and_at_its_transmitters(rt: HostRuntime) -> Res
         &rt,
         TRANSMITTERS,
         &[
-            (
-                "[1,1,1,1,1,1,1,1,1,1,1,1,1,1,1,1,1,1,1,1,1,1,1,1,1,1,1,1,1,1,1,1,1,1,1,1]",
-                "transmitter",
-                0,
-                "range",
-            ),
-            (
-                "[1,1,1,1,1,1,1,1,1,1,1,1,1,1,1,1,1,1,1,1,1,1,1,1,1,1,1,1,1,1,1,1,1,1,1]",
-                "transmitter",
-                0,
-                "kind",
-            ),
+            ("[1]", "transmitter", 0, "kind"),
             ("[{ to = 7 }]", "transmitter", 0, "unknown"),
             ("[{ offset = 'x' }]", "address", 0, "missing"),
             ("[{ address = '7', offset = 'x' }]", "address", 0, "kind"),

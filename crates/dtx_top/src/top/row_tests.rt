@@ -181,3 +181,25 @@ fn a_plan_is_refused_by_its_first_broken_rule(rt: HostRuntime) -> Result<(), Fai
     }
     Ok(())
 }
+
+/// Of the feed of 1,300 made packets, packets 202 to 623 are gone: the mark that is due as packet 624 is missing, those
+/// as packets 202 and 826 are stray, and the operations packets behind them don't have their place as index.
+#[test]
+fn a_lock_outlives_a_missing_mark_and_stray_marks(rt: HostRuntime) -> Result<(), Fail> {
+    let mut desk = Desk::new(&rt);
+    desk.put("p", PLAN)?;
+    desk.run(&["make", "1", "1300", "s"])?;
+    desk.run(&["adapt", "p", "s", "f"])?;
+    let mut given = Vec::new(rt.alloc());
+    given.extend_from_slice(desk.file("f").get(..202 * 188).unwrap_or(&[]))?;
+    given.extend_from_slice(desk.file("f").get(624 * 188..).unwrap_or(&[]))?;
+    desk.put("g", &given)?;
+    let status = desk.run(&["excite", "g", "7", "1000", "o", "l"])?;
+    assert!(rt; status == Status::Done);
+    let lines = "packets 1300\npackets 1300 filled 4 loose 0\n\
+        packets 878 segments 778 presets 1 mutes 0 loose 0\n";
+    assert!(rt; desk.has_printed(lines));
+    assert!(rt; desk.file("o").len() == 778 * 832);
+    assert!(rt; desk.file("l") == b"preset 0 0 100 5078070 640\n".as_slice());
+    Ok(())
+}

@@ -1,6 +1,6 @@
-use Rattle.std.proofs.Common.{◌≡◌, ℕ, suc, ◌+◌, ◌%◌, ◌<◌, ◌≤◌, Bool, true, false, refl, cond, List, [], ◌∷◌, ◌++◌}
+use Rattle.std.proofs.Common.{◌≡◌, ℕ, suc, ◌+◌, ◌/◌, ◌%◌, ◌<◌, ◌≤◌, Bool, true, false, refl, cond, List, [], ◌∷◌, ◌++◌}
 use Rattle.std.proofs.Common.{length, take, drop, get_or, sym, ap, subst, ◌∙◌, arith, append_assoc}
-use Rattle.std.proofs.lemmas.List.{take_all, length-map, length-set, length-take-le, drop-set-lt}
+use Rattle.std.proofs.lemmas.List.{length-append, take_all, length-map, length-set, length-take-le, drop-set-lt}
 use Rattle.dtx_packets.specs.declared.packet.Packet as packet
 use Rattle.dtx_adapter.specs.Feed.{is_placeholder, placeholders, as_feed_packet, feed}
 use Rattle.dtx_adapter.specs.Filling.{Filling, Fills, filled_ops}
@@ -18,7 +18,7 @@ loop-i-init c = record {
   filled = refl;
   few = omega arith;
   told = refl;
-  fills = λ plan stream fills. fills_none plan c.args.filler.now stream fills;
+  fills = λ plan stream fills long whole. fills_none plan c.args.filler.now stream (c.args.first / 4) fills;
   fed = λ plan stream fills long whole told. made_none plan stream;
 }
 
@@ -58,11 +58,18 @@ loop-i-preserved c =
     let was : is_placeholder (get_or now i d).0 ≡ is_placeholder p =
     ap (λ (q : packet.Packet). is_placeholder q.0) still.0 in
     let counted : c.make.new.self ≡ record filler {
-      counter = cond (is_placeholder p)
-          ((filler.counter + 1) % 16) filler.counter;
+      counter = cond (is_placeholder p) ((filler.counter + 1) % 16) filler.counter;
+      filled = cond (is_placeholder p) true filler.filled;
     } =
     c.make.ensures.counted
-    ∙ ap (λ b. record filler { counter = cond b ((filler.counter + 1) % 16) filler.counter }) was in
+    ∙ ap (λ b. record filler {
+      counter = cond b ((filler.counter + 1) % 16) filler.counter;
+      filled = cond b true filler.filled;
+    }) was in
+    let u : ℕ = c.args.first / 4 in
+    let long_given : length (raw (take i old)) ≡ i = length-map (take i old) (λ (q : packet.Packet). q.0)
+    ∙ length-take-le i old (omega arith) in
+    let few_given : length (raw (take i old)) < 4 = omega arith in
     record {
       long = length-set now i c.make.new.packet ∙ before.long;
       rest = drop-set-lt (i + 1) now i c.make.new.packet (omega arith)
@@ -72,22 +79,24 @@ loop-i-preserved c =
           ∙ was) before.filled ∙ ap placeholders (sym given);
       few = omega (arith, adds, at_most_one c.make.result, before.few);
       told = ap (λ (f : Filling). f.states) counted ∙ before.told;
-      fills = λ plan stream fills.
-          subst (λ front. Fills plan c.make.new.self (stream ++ front)) (sym given)
-          (subst (Fills plan c.make.new.self) (append_assoc stream (raw (take i old)) (p ∷ []))
-          (fills_next plan filler c.make.new.self (stream ++ raw (take i old)) p
-          (before.fills plan stream fills) counted));
+      fills = λ plan stream fills long whole.
+          let at = length-append stream (raw (take i old)) in
+          subst (λ front. Fills plan c.make.new.self (stream ++ front) u) (sym given)
+          (subst (λ whole. Fills plan c.make.new.self whole u) (append_assoc stream (raw (take i old)) (p ∷ []))
+          (fills_next plan filler c.make.new.self (stream ++ raw (take i old)) p u
+          (before.fills plan stream fills long whole) (omega (arith, at, long, whole))
+          (omega (arith, at, long, whole, few_given)) counted));
       fed = λ plan stream fills long whole told.
-          let few : length (raw (take i old)) ≡ i = length-map (take i old) (λ (q : packet.Packet). q.0)
-          ∙ length-take-le i old (omega arith) in
+          let group : (c.args.first + i) / 4 ≡ u = omega (arith, whole, few_given, long_given) in
           made_more now i c.make.new.packet (omega arith)
           ∙ ap (λ q. raw (take i now) ++ q ∷ []) (c.make.ensures.made
           ∙ ap (λ (q : packet.Packet). as_feed_packet (filled_ops filler (c.args.first + i)) filler.counter
           (c.args.first + i) q.0)
           still.0)
           ∙ made_next plan filler stream (raw (take i old)) (raw (take i now)) p (c.args.first + i)
-          (before.fills plan stream fills)
-          (ap (λ n. n % 4) long ∙ whole) (omega (arith, few)) (omega (arith, few, long)) (before.told
+          (subst (Fills plan filler (stream ++ raw (take i old))) (sym group)
+          (before.fills plan stream fills long whole))
+          (ap (λ n. n % 4) long ∙ whole) few_given (omega (arith, long_given, long)) (before.told
           ∙ told) (before.fed plan stream fills long whole told)
           ∙ ap (λ front. drop (length stream) (feed plan (stream ++ front))) (sym given);
     }
@@ -103,8 +112,9 @@ returns c =
           ap raw (sym (take_all i now (omega (arith, c.loop-i.invariant.long))))
           ∙ c.loop-i.invariant.fed plan stream fills long whole told
           ∙ ap (λ (front : List packet.Packet). drop (length stream) (feed plan (stream ++ raw front))) all;
-      fills = λ plan stream fills. subst (λ (front : List packet.Packet). Fills plan c.loop-i.filler (stream
-          ++ raw front)) all (c.loop-i.invariant.fills plan stream fills);
+      fills = λ plan stream fills long whole.
+          subst (λ (front : List packet.Packet). Fills plan c.loop-i.filler (stream ++ raw front) (c.args.first / 4))
+          all (c.loop-i.invariant.fills plan stream fills long whole);
       filled = c.loop-i.invariant.filled ∙ ap (λ (front : List packet.Packet). placeholders (raw front)) all;
       long = c.loop-i.invariant.long;
     }

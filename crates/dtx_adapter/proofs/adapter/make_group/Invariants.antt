@@ -1,4 +1,4 @@
-use Rattle.std.proofs.Common.{◌≡◌, ℕ, ◌%◌, ◌≤◌, ◌++◌, List, length, map, take, drop}
+use Rattle.std.proofs.Common.{◌≡◌, ℕ, ◌/◌, ◌%◌, ◌≤◌, ◌++◌, List, length, map, take, drop}
 use Rattle.dtx_coder.specs.Stream.{states}
 use Rattle.dtx_packets.specs.declared.packet.Packet as packet
 use Rattle.dtx_plan.specs.declared.plan.Plan.{Plan}
@@ -13,10 +13,11 @@ invariant-loop-i l = record {
   filled : l.filled ≡ placeholders (map (λ (p : packet.Packet). p.0) (take l.i l.fn.packets));
   few : l.filled ≤ l.i;
   told : l.filler.states ≡ l.fn.filler.states;
-  fills : (plan : Plan) (stream : List (List ℕ)) → Fills plan l.fn.filler stream
-      → Fills plan l.filler (stream ++ map (λ (p : packet.Packet). p.0) (take l.i l.fn.packets));
-  fed : (plan : Plan) (stream : List (List ℕ)) → Fills plan l.fn.filler stream → length stream ≡ l.first
-      → l.first % 4 ≡ 0 → l.fn.filler.states ≡ states (feed plan stream)
+  fills : (plan : Plan) (stream : List (List ℕ)) → Fills plan l.fn.filler stream (l.first / 4)
+      → length stream ≡ l.first → l.first % 4 ≡ 0
+      → Fills plan l.filler (stream ++ map (λ (p : packet.Packet). p.0) (take l.i l.fn.packets)) (l.first / 4);
+  fed : (plan : Plan) (stream : List (List ℕ)) → Fills plan l.fn.filler stream (l.first / 4)
+      → length stream ≡ l.first → l.first % 4 ≡ 0 → l.fn.filler.states ≡ states (feed plan stream)
       → map (λ (p : packet.Packet). p.0) (take l.i l.packets)
       ≡ drop (length stream) (feed plan (stream ++ map (λ (p : packet.Packet). p.0) (take l.i l.fn.packets)));
 }

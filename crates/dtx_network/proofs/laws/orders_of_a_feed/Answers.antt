@@ -1,5 +1,5 @@
 use Rattle.dtx_network.proofs.Orders.{same_orders, order_is, order_some, order_none, order_says}
-use Rattle.dtx_network.proofs.Served.{entry_is}
+use Rattle.dtx_network.proofs.Listings.{entry_is}
 use Rattle.dtx_network.proofs.laws.orders_of_a_feed.Goals as goal
 
 pub returns-clause-exact : goal.returns-clause-exact

@@ -1,4 +1,4 @@
-use Rattle.std.proofs.Common.{◌+◌, ◌*◌, List, [], ◌∷◌, ◌++◌, length, drop, ap, ap₂, sym, ◌∙◌, length-append, arith}
+use Rattle.std.proofs.Common.{◌*◌, List, [], ◌∷◌, ◌++◌, length, drop, ap, ap₂, sym, ◌∙◌, length-append, arith}
 use Rattle.std.proofs.lemmas.List.FromFn.{map-range_with_len_more}
 use Rattle.dtx_ops.specs.declared.fields.Entry.{Entry}
 use Rattle.dtx_ops.specs.Fields.{entry_in, entries_in}
@@ -10,7 +10,7 @@ unfolding entries_in
 loop-i-preserved c =
     let bytes = c.args.bytes.now in
     let i = c.loop-i.i in
-    let next = c.entry.ensures ∙ ap entry_in (to_end (19 + 4 * i) bytes) in
+    let next = c.entry.ensures ∙ ap entry_in (to_end (4 * i) bytes) in
     record {
       count = omega (
         arith,
@@ -22,5 +22,5 @@ loop-i-preserved c =
       read =
           c.push.ensures.items
           ∙ ap₂ (λ (es : List Entry) (e : Entry). es ++ e ∷ []) c.loop-i.invariant.read next
-          ∙ sym (map-range_with_len_more (λ j. entry_in (drop (19 + 4 * j) bytes)) 0 i i (omega arith));
+          ∙ sym (map-range_with_len_more (λ j. entry_in (drop (4 * j) bytes)) 0 i i (omega arith));
     }

@@ -7,8 +7,8 @@ use Rattle.dtx_plan.proofs.transmitter_table.transmitters.Given as goal
 
 abbrev pub invariant-loop-value : goal.invariant-loop-value
 invariant-loop-value l = record {
-  count : length l.found.items ≡ l.value-index;
-  same : entries transmitter l.found.items (items_view (drop l.value-index l.values))
+  count : length l.found ≡ l.value-index;
+  same : entries transmitter l.found (items_view (drop l.value-index l.values))
       ≡ entries transmitter [] (items_view l.values);
-  distinct : IsDistinct nat_eq (addresses_of l.found.items);
+  distinct : IsDistinct nat_eq (addresses_of l.found);
 }

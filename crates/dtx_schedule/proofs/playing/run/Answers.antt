@@ -28,7 +28,7 @@ pub returns-in_err-begin_files-clause-run : goal.returns-in_err-begin_files-clau
 returns-in_err-begin_files-clause-run g c = λ ts held feed playing told there inside.
     let now = g.S.Shelf.files c.begin_files.new.shelf in
     let steps : List Step = schedule ts (packets_of feed) c.args.events.now in
-    let named : AreNames ts c.deref.result.now = subst (AreNames ts) (sym c.deref.ensures.0) playing.names in
+    let named : AreNames ts c.deref.result.now = subst (AreNames ts) (sym c.deref.ensures.value) playing.names in
     let begun : ArePartWritten (files_of nothing ts) (Some held) now =
     subst (λ (s : Option Files). ArePartWritten (files_of nothing ts) s now) told
     (c.in_err-begin_files.ensures.begun ts named) in
@@ -45,7 +45,7 @@ returns-clause-run g c = λ ts held feed playing told there inside.
     let mid = g.S.Shelf.files c.begin_files.new.shelf in
     let now = g.S.Shelf.files c.play_events.new.shelf in
     let steps : List Step = schedule ts (packets_of feed) c.args.events.now in
-    let named : AreNames ts c.deref.result.now = subst (AreNames ts) (sym c.deref.ensures.0) playing.names in
+    let named : AreNames ts c.deref.result.now = subst (AreNames ts) (sym c.deref.ensures.value) playing.names in
     let begun : mid ≡ with_outputs (files_of nothing ts) (Some held) =
     c.in_ok-begin_files.ensures.begun ts named ∙ ap (with_outputs (files_of nothing ts)) told in
     run_of ts steps held c.play_events.result c.play_events.new.playout now

@@ -7,6 +7,10 @@ use Rattle.dtx_top.proofs.laws.a_trial_is_done.Goals as goal
 cited : goal.After-groups_are_spaced → ReceivedLaws
 cited c = record {
   met = c.joined_is_met.ensures.met;
+  lists = record {
+    orders = c.orders_of_a_feed.ensures.placeholders;
+    listings = c.listings_of_a_feed.ensures.one_page;
+  };
   headline = c.headline.ensures;
   spaced = c.groups_are_spaced.ensures.spaced;
 }

@@ -12,28 +12,31 @@ use Rattle.dtx_top.proofs.replaying.play_events.Goals as goal
 
 pub receive_played-requires : goal.receive_played-requires
 receive_played-requires g c =
-    damages_of c.args.plan.now.transmitters.items c.args.network.now.receive c.requires.network.receive
+    damages_of c.args.plan.now.transmitters c.args.network.now.receive c.requires.network.receive
 
 pub returns-in-Ok-clause-carried : goal.returns-in-Ok-clause-carried
 returns-in-Ok-clause-carried g c = λ held stream is written inside.
     let over = played_over (λ ts steps held. IsPlayOf ts steps held (Ok c.in-Ok.played)
-    (g.S.Shelf.files c.play.new.shelf)) c.args.plan.now c.args.network.now stream c.deref.result.now c.args.fed.now held
-    (g.S.Shelf.files c.args.shelf.now) c.requires.sound c.deref.ensures.0 is written inside c.in-Ok.ensures.played in
+    (g.S.Shelf.files c.play.new.shelf)) c.args.plan.now c.args.network.now stream c.as_slice.result.now c.args.fed.now
+    held (g.S.Shelf.files c.args.shelf.now) c.requires.sound c.as_slice.ensures is written inside
+    c.in-Ok.ensures.played in
     c.receive_played.ensures.carried c.args.plan.now held stream c.requires.network written.numbers over.playing
     over.files
 
 pub returns-in-Ok-clause-progress : goal.returns-in-Ok-clause-progress
 returns-in-Ok-clause-progress g c = λ held stream is written inside.
     let over = played_over (λ ts steps held. IsPlayOf ts steps held (Ok c.in-Ok.played)
-    (g.S.Shelf.files c.play.new.shelf)) c.args.plan.now c.args.network.now stream c.deref.result.now c.args.fed.now held
-    (g.S.Shelf.files c.args.shelf.now) c.requires.sound c.deref.ensures.0 is written inside c.in-Ok.ensures.played in
+    (g.S.Shelf.files c.play.new.shelf)) c.args.plan.now c.args.network.now stream c.as_slice.result.now c.args.fed.now
+    held (g.S.Shelf.files c.args.shelf.now) c.requires.sound c.as_slice.ensures is written inside
+    c.in-Ok.ensures.played in
     c.receive_played.ensures.progress c.args.plan.now held stream c.requires.network over.playing over.files
 
 pub returns-in-Err-clause-carried : goal.returns-in-Err-clause-carried
 returns-in-Err-clause-carried g c = λ held stream is written inside.
     let over = played_over (λ ts steps held. IsPlayOf ts steps held (Err c.in-Err.status)
-    (g.S.Shelf.files c.play.new.shelf)) c.args.plan.now c.args.network.now stream c.deref.result.now c.args.fed.now held
-    (g.S.Shelf.files c.args.shelf.now) c.requires.sound c.deref.ensures.0 is written inside c.in-Err.ensures.played in
+    (g.S.Shelf.files c.play.new.shelf)) c.args.plan.now c.args.network.now stream c.as_slice.result.now c.args.fed.now
+    held (g.S.Shelf.files c.args.shelf.now) c.requires.sound c.as_slice.ensures is written inside
+    c.in-Err.ensures.played in
     play_fault c.args.plan.now c.args.network.now stream c.args.network.now.receive held c.in-Err.status c.ended.result
     (g.S.Shelf.files c.play.new.shelf)
     c.requires.sound.transmitters.some over c.ended.ensures
@@ -44,12 +47,12 @@ returns-in-Err-clause-progress g c = λ held stream is written inside.
     let network = c.args.network.now in
     let now = g.S.Shelf.files c.play.new.shelf in
     let fault = (played_over (λ ts steps held. IsPlayOf ts steps held (Err c.in-Err.status) now) plan network stream
-    c.deref.result.now c.args.fed.now held (g.S.Shelf.files c.args.shelf.now) c.requires.sound c.deref.ensures.0 is
+    c.as_slice.result.now c.args.fed.now held (g.S.Shelf.files c.args.shelf.now) c.requires.sound c.as_slice.ensures is
     written inside c.in-Err.ensures.played).fault in
     let progress = played_over (λ ts steps held. IsProgressOf ts steps held (Err c.in-Err.status) now) plan network
-    stream c.deref.result.now c.args.fed.now held (g.S.Shelf.files c.args.shelf.now) c.requires.sound c.deref.ensures.0
-    is written inside c.in-Err.ensures.progress in
-    broken_off plan.transmitters.items (steps_under plan stream network.events)
+    stream c.as_slice.result.now c.args.fed.now held (g.S.Shelf.files c.args.shelf.now) c.requires.sound
+    c.as_slice.ensures is written inside c.in-Err.ensures.progress in
+    broken_off plan.transmitters (steps_under plan stream network.events)
     (reception_outputs plan network stream network.receive) c.in-Err.status c.ended.result held now progress.0 fault
     c.ended.ensures progress.1
 

@@ -8,6 +8,6 @@ pub returns-in-Some-clause-progress : goal.returns-in-Some-clause-progress
 returns-in-Some-clause-progress g c = λ held stream is written.
     let plan = c.args.plan.now in
     let network = c.args.network.now in
-    nothing_fed [] plan.transmitters.items (steps_under plan stream network.events)
+    nothing_fed [] plan.transmitters (steps_under plan stream network.events)
     (reception_outputs plan network stream network.receive) c.ended.result.status held
     (g.S.Shelf.files c.args.shelf.now) is

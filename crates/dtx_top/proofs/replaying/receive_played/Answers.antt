@@ -23,7 +23,7 @@ pub returns-in-Some-clause-carried : goal.returns-in-Some-clause-carried
 returns-in-Some-clause-carried g c = λ plan held stream net numbers playing is.
     let receiver = c.in-Some.receiver in
     let network = c.args.network.now in
-    let ts : List Transmitter = plan.transmitters.items in
+    let ts : List Transmitter = plan.transmitters in
     let steps = steps_under plan stream network.events in
     let now = g.S.Shelf.files c.receive_sent-received.new.shelf in
     let sent = received_told plan network stream receiver held (g.S.Shelf.files c.args.shelf.now) now
@@ -40,7 +40,7 @@ pub returns-in-Some-clause-progress : goal.returns-in-Some-clause-progress
 returns-in-Some-clause-progress g c = λ plan held stream net playing is.
     let receiver = c.in-Some.receiver in
     let network = c.args.network.now in
-    let ts : List Transmitter = plan.transmitters.items in
+    let ts : List Transmitter = plan.transmitters in
     let steps = steps_under plan stream network.events in
     let now = g.S.Shelf.files c.receive_sent-received.new.shelf in
     received_progress plan network stream network.receive receiver held now c.receive_sent-received.result
@@ -61,5 +61,5 @@ returns-in-None-clause-progress g c = λ plan held stream net playing is.
     let network = c.args.network.now in
     let now = g.S.Shelf.files c.args.shelf.now in
     let got = reception_outputs plan network stream network.receive in
-    received_on plan.transmitters.items (steps_under plan stream network.events) got _ held now now is
+    received_on plan.transmitters (steps_under plan stream network.events) got _ held now now is
     (part_of_none got now now refl)

@@ -21,8 +21,9 @@ returns-clause-simple c =
     let count : length (made_packets 1 c.args.count) ≡ c.args.count =
     c.made_packets_are_a_stream.ensures.count 1 c.args.count in
     let some : 372 ≤ c.args.count = omega (arith, c.if-count-lt372.false) in
-    let two : length c.args.network.now.events ≡ 2 = omega (arith, c.if-len-ne2.false, c.len.ensures) in
+    let two : length c.args.network.now.events ≡ 2 = omega (arith, c.if-len-ne2.false, c.len-2.ensures) in
     record {
+      few = omega (arith, c.if-len-gt-MOST_ENTRIES.false, c.len.ensures);
       first = c.in_ok-first.ensures.listed;
       second = c.in_ok-second.ensures.listed;
       in_time = c.in_ok-first.ensures.in_time;

@@ -1,7 +1,7 @@
 use Rattle.std.proofs.Common.{refl}
-use Rattle.dtx_cadence.specs.Anchor.{next_place, anchor}
+use Rattle.dtx_cadence.specs.Anchor.{lock, anchor, anchor_to}
 use Rattle.dtx_cadence.proofs.anchor.Anchor.new.Goals as goal
 
 pub returns : goal.returns
-unfolding next_place anchor
+unfolding lock anchor anchor_to
 returns c = refl

@@ -26,4 +26,4 @@ returns-clause-joined c = λ l k e.
     { packets = set c.args.self.now.packets n c.args.packet.now }) c.send-told.new.self c.send-told.result
     c.send-told.new.air.segments c.send-told.new.air.symbols)
     last c.send-told.ensures)
-    c.is_flushed-self.ensures refl refl
+    c.is_flushed-self.ensures refl refl refl

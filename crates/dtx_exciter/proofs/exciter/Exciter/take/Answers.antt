@@ -1,5 +1,5 @@
 use Rattle.std.proofs.Common.{refl}
-use Rattle.dtx_exciter.proofs.Taken.{taken_free, taken_lost, taken_start, taken_moved, taken_at}
+use Rattle.dtx_exciter.proofs.Taken.{taken_free, taken_lost, taken_start, taken_at}
 use Rattle.dtx_exciter.specs.Packets.{syncs}
 use Rattle.dtx_exciter.proofs.exciter.Exciter.take.Goals as goal
 
@@ -36,18 +36,6 @@ returns-in-Start c =
       stands = c.in-Start.ensures.stands (syncs before) h.anchor;
     })
     refl c.begin.ensures.keeps c.begin.ensures.same
-
-pub returns-in-Moved : goal.returns-in-Moved
-returns-in-Moved c =
-    λ a d before h. taken_moved a d c.args.self.now _ c.begin-in-Moved.new.self before c.args.packet.now.0 c.sync.result
-    c.see.new.self c.args.air.now.symbols
-    (record {
-      stood = h;
-      is_sync = c.sync.ensures;
-      saw = c.in-Moved.ensures.seen (syncs before) h.anchor;
-      stands = c.in-Moved.ensures.stands (syncs before) h.anchor;
-    })
-    refl c.begin-in-Moved.ensures.keeps c.begin-in-Moved.ensures.same
 
 pub returns-in-At : goal.returns-in-At
 returns-in-At c =

@@ -7,7 +7,7 @@ pub returns : goal.returns
 returns c =
     let made = c.in_ok-exciters_of.ensures in
     record {
-      addresses = c.in_ok-addresses_of.ensures;
+      transmitters = c.in_ok-from_slice.ensures;
       long = c.in_ok-exciters_of.field-0.ok.0 ∙ made.long;
       each = λ who t e at_t at_e. subst (exciter.StandsFor t.address t.delay e) (sym (last_nothing who))
           (made.each who t e at_t at_e);

@@ -6,7 +6,7 @@ use Rattle.dtx_schedule.proofs.playing.Played.sent.Goals as goal
 pub returns-in-Some : goal.returns-in-Some
 returns-in-Some c = λ ts steps playing.
     let who = c.in-Some.who in
-    subst (SentBy c.args.address ts steps) (sym (c.count_at.ensures ∙ ap (λ ns. get_or ns who 0) c.deref.ensures.0))
+    subst (SentBy c.args.address ts steps) (sym (c.count_at.ensures ∙ ap (λ ns. get_or ns who 0) c.deref.ensures.value))
     (sent_by c.args.address who ts steps c.args.self.now.playout.sent.items playing.sent
     (sym (c.find.ensures.place ts steps playing) ∙ c.in-Some.is))
 

@@ -1,6 +1,8 @@
-use Rattle.std.proofs.Common.{◌≡◌, ◌+◌, ◌*◌, ◌<◌, ◌≤◌, ◌++◌, ◌∷◌, [], ℕ, List, pos, length, map, take, get_or, sym, ap}
+use Rattle.std.proofs.Common.{◌≡◌, ◌+◌, ◌*◌, ◌<◌, ◌≤◌, ◌++◌, ◌∷◌, [], ℕ, List, pos, length, map, take, get_or, set}
+use Rattle.std.proofs.Common.{sym, ap}
 use Rattle.std.proofs.Common.{subst, ◌∙◌, arith}
 use Rattle.std.specs.Prelude.{Some, slice_get}
+use Rattle.std.proofs.lemmas.List.{get_or_default}
 use Rattle.std.proofs.lemmas.Option.{slice_get-get_or}
 use Rattle.dtx_exciter.specs.Log.{line_of}
 use Rattle.dtx_files.specs.LogText.{log_text}
@@ -9,7 +11,7 @@ use Rattle.dtx_net.specs.Standing.{IsGiven}
 use Rattle.dtx_net.specs.Steps.{packet_step}
 use Rattle.dtx_plan.specs.declared.transmitter.Transmitter.{Transmitter}
 use Rattle.dtx_schedule.specs.Playout.{AreSent}
-use Rattle.dtx_schedule.proofs.PlayoutOn.{given_packet, brings_few, few_more, given_brings, given_sends, refill_set}
+use Rattle.dtx_schedule.proofs.PlayoutOn.{given_packet, brings_few, few_more, given_brings, given_sends}
 use Rattle.dtx_schedule.proofs.PlayoutOn.{sent_more}
 use Rattle.dtx_schedule.proofs.playout.Playout.take.Goals as goal
 
@@ -42,7 +44,8 @@ returns-clause-playing c = λ ts steps s.
     let five : count ≤ 5 =
     brings_few ts steps who packet c.step-told.result count symbols c.step-told.new.self inside gives in
     let within : who < length sent = let long = s.sent.long in omega (arith, long, inside) in
-    let items = refill_set sent c.deref_mut.result.now who count c.deref_mut.ensures.value in
+    let items = ap (λ n. set sent who (n + count)) (c.index_mut.ensures.value
+    ∙ get_or_default sent who c.index_mut.result.now 0 within) in
     record {
       transmitters = s.transmitters;
       names = s.names;
@@ -62,9 +65,13 @@ returns-clause-brings c = λ ts steps s.
     let who = c.args.who in
     let count = c.step-told.new.air.segments in
     let symbols = c.step-told.new.air.symbols in
-    given_brings ts steps who c.args.packet.now.0 c.args.self.now.sent.items c.step-told.result count symbols
+    let sent = c.args.self.now.sent.items in
+    let there = c.requires.there in
+    let within : who < length sent = let long = there.playing.sent.long in omega (arith, there.within, long) in
+    given_brings ts steps who c.args.packet.now.0 sent c.step-told.result count symbols
     c.step-told.new.self (take c.bring.result c.bring.new.bytes) c.write_line.new.text.bytes s.sent
     (λ t at_t. c.step-told.ensures.given ts steps t s.net at_t)
     (c.bring.ensures.bytes ∙ ap (λ n. map byte_of_symbol (take n symbols)) c.bring.ensures.count)
     (c.write_line.ensures
-    ∙ ap (λ (ns : List ℕ). log_text (line_of (get_or ns who 0) count c.step-told.result)) c.deref.ensures.0)
+    ∙ ap (λ n. log_text (line_of n count c.step-told.result)) (c.index.ensures
+    ∙ get_or_default sent who c.index.result.now 0 within))

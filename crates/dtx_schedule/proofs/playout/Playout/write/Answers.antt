@@ -11,19 +11,17 @@ use Rattle.dtx_schedule.proofs.Written.{AddsTo, are_apart, step_written}
 use Rattle.dtx_schedule.proofs.playout.Playout.write.Goals as goal
 
 -- with the names at a place, of those of all
-adds_to : (ts : List Transmitter) (names read : List FileNames) (who : ℕ) (t : Transmitter) (its : FileNames)
+adds_to : (ts : List Transmitter) (names : List FileNames) (who : ℕ) (t : Transmitter) (its : FileNames)
     (symbols line : List ℕ)
     (told : Option Files) (result : Result (Unit {0}) WriteNo) (now : Option Files) → AreNames ts names
     → slice_get ts who ≡ Some t → who < length names
-    → read ≡ names → its ≡ get_or read who its
+    → its ≡ get_or names who its
     → ((address : ℕ) (sent logged : List ℕ) (held : Files) → AreNamesOf address its → told ≡ Some held
     → HasPair address sent logged held → IsPairOf address sent logged symbols line held result now)
     → AddsTo t.address symbols line told result now
-adds_to ts names read who t its symbols line told result now named at_t within same is appended =
-    λ sent logged held there has.
-    let here : its ≡ get_or names who its = is ∙ ap (λ (xs : List FileNames). get_or xs who its) same in
-    appended t.address sent logged held (named.each who t its at_t
-    (slice_get_read names (length names) who its refl within here)) there has
+adds_to ts names who t its symbols line told result now named at_t within is appended =
+    λ sent logged held there has. appended t.address sent logged held (named.each who t its at_t
+    (slice_get_read names (length names) who its refl within is)) there has
 
 pub returns-clause-written : goal.returns-clause-written
 returns-clause-written g c = λ ts held steps step same are named brings is.
@@ -41,6 +39,5 @@ returns-clause-written g c = λ ts held steps step same are named brings is.
     (ap (slice_get ts) same ∙ at_t) brings is
     (subst (λ line. AddsTo t.address symbols line told c.append_both.result now) (c.as_bytes-line.ensures.value
     ∙ c.as_str.ensures.value)
-    (adds_to ts names c.deref.result.now who t c.index-deref-who.result symbols c.as_bytes-line.result.now told
-    c.append_both.result now named at_t
-    c.requires.within c.deref.ensures.0 c.index-deref-who.is c.append_both.ensures.appended))
+    (adds_to ts names who t c.index.result.now symbols c.as_bytes-line.result.now told c.append_both.result now named
+    at_t c.requires.within c.index.ensures c.append_both.ensures.appended))

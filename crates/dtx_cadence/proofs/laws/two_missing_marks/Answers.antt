@@ -1,0 +1,5 @@
+use Rattle.dtx_cadence.specs.AnchoredLaws.{two_missing}
+use Rattle.dtx_cadence.proofs.laws.two_missing_marks.Goals as goal
+
+pub returns : goal.returns
+returns c = two_missing

@@ -1,0 +1,145 @@
+-- What is kept of both sides of a run, with one segment more, and the packets that it gives.
+use Rattle.std.proofs.Common.{◌≡◌, ◌≢◌, ℕ, ℤ, ◌+◌, ◌-◌, ◌*◌, ◌%◌, ◌<◌, ◌≤◌, ◌⊎◌, List, [], ◌∷◌, ◌++◌, length, map}
+use Rattle.std.proofs.Common.{sym, ap, ap₂, ◌∙◌, subst, inl, inr, arith}
+use Rattle.std.proofs.lemmas.Bool.{cases_lt}
+use Rattle.std.proofs.lemmas.List.{append-nil, length-map}
+use Rattle.dtx_receiver.specs.Bytes.{groups_of, bytes_in}
+use Rattle.dtx_receiver.specs.SegmentsLaws.{Still, still_data, still_sync, first_groups}
+use Rattle.dtx_erase.specs.Marks.{shown, shown_run, is_set, marks_in}
+use Rattle.dtx_erase.specs.Mended.{mended_early, mended_run_early}
+use Rattle.dtx_erase.specs.Sides.{Holds, Decoding, Decodes}
+use Rattle.dtx_erase.specs.MarksLaws.{shown_groups, marks_are, shown_push}
+use Rattle.dtx_erase.proofs.Stands.{holds_sync, part_now, not_due_now, groups_whole}
+
+shown_long : (run : List (List ℤ)) → length (shown_run run) ≡ length run
+shown_long run = length-map run (map shown)
+
+-- both sides take a segment
+both : (P : List (List ℤ) → Type 0) (run : List (List ℤ)) (x : List ℤ) → P (shown_run run ++ map shown x ∷ [])
+    → P (shown_run (run ++ x ∷ []))
+both P run x h = subst P (sym (shown_push run x)) h
+
+pub flags_long : (kept : Decoding) (run : List (List ℤ)) → Decodes kept run
+    → length (bytes_in (shown_run run)) ≡ 828 * groups_of run
+flags_long kept run d = d.marks.gathers.given ∙ ap (λ g. 828 * g) (shown_groups run)
+
+pub marks_of : (kept : Decoding) (run : List (List ℤ)) → Decodes kept run
+    → marks_in run ≡ map is_set (bytes_in (shown_run run))
+marks_of kept run d = marks_are run (flags_long kept run d ∙ sym d.bytes.gathers.given)
+
+pub early_is : (kept : Decoding) (run : List (List ℤ)) → Decodes kept run
+    → mended_run_early run ≡ mended_early (bytes_in run) (map is_set (bytes_in (shown_run run)))
+early_is kept run d = ap (mended_early (bytes_in run)) (marks_of kept run d)
+
+-- ---- the first field sync, and later ones
+
+pub decodes_first : (x : List ℤ) (new : Decoding) → Holds new.bytes (x ∷ []) → Holds new.marks (map shown x ∷ [])
+    → new.waits ≡ 13 → new.place ≡ 0 → Decodes new (x ∷ [])
+decodes_first x new b m w p = record {
+  bytes = b;
+  marks = m;
+  waits = w ∙ ap (λ g. 13 - g) (sym (first_groups x));
+  place = p ∙ ap (λ g. (4 * g - 52) % 312) (sym (first_groups x));
+}
+
+sync_groups : (x : List ℤ) (run : List (List ℤ)) → 0 < length run → length run % 313 ≡ 0
+    → groups_of (run ++ x ∷ []) ≡ groups_of run
+sync_groups x run s z = let t : Still run (run ++ x ∷ []) = still_sync run x s z in t.groups
+
+pub decodes_sync : (x : List ℤ) (kept : Decoding) (run : List (List ℤ)) → Decodes kept run → length run % 313 ≡ 0
+    → Decodes kept (run ++ x ∷ [])
+decodes_sync x kept run d z =
+    let g : groups_of (run ++ x ∷ []) ≡ groups_of run = sync_groups x run d.bytes.some z in
+    record {
+      bytes = holds_sync x kept.bytes run d.bytes z;
+      marks = both (Holds kept.marks) run x (holds_sync (map shown x) kept.marks (shown_run run) d.marks
+          (ap (λ n. n % 313) (shown_long run) ∙ z));
+      waits = d.waits ∙ ap (λ n. 13 - n) (sym g);
+      place = d.place ∙ ap (λ n. (4 * n - 52) % 312) (sym g);
+    }
+
+-- where neither bytes nor marks come
+early_still : (x : List ℤ) (kept new : Decoding) (run : List (List ℤ)) → Decodes kept run → Decodes new (run ++ x ∷ [])
+    → bytes_in (run ++ x ∷ []) ≡ bytes_in run
+    → bytes_in (shown_run run ++ map shown x ∷ []) ≡ bytes_in (shown_run run)
+    → mended_run_early (run ++ x ∷ []) ≡ mended_run_early run ++ []
+early_still x kept new run d h e f =
+    early_is new (run ++ x ∷ []) h
+    ∙ ap₂ (λ bytes flags. mended_early bytes (map is_set flags)) e (ap bytes_in (shown_push run x) ∙ f)
+    ∙ sym (early_is kept run d) ∙ sym (append-nil (mended_run_early run))
+
+pub early_sync : (x : List ℤ) (kept : Decoding) (run : List (List ℤ)) → Decodes kept run → length run % 313 ≡ 0
+    → mended_run_early (run ++ x ∷ []) ≡ mended_run_early run ++ []
+early_sync x kept run d z =
+    let s : Still run (run ++ x ∷ []) = still_sync run x d.bytes.some z in
+    let t : Still (shown_run run) (shown_run run ++ map shown x ∷ []) =
+    still_sync (shown_run run) (map shown x) d.marks.some (ap (λ n. n % 313) (shown_long run) ∙ z) in
+    early_still x kept kept run d (decodes_sync x kept run d z) s.bytes t.bytes
+
+-- ---- data segments
+
+-- both sides have taken the segment, at this place of its field
+pub record Both (x : List ℤ) (kept new : Decoding) (run : List (List ℤ)) (place : ℕ) : Type 0 where
+  pub due : length run % 313 ≡ place + 1
+  pub old : Decodes kept run
+  pub bytes : Holds new.bytes (run ++ x ∷ [])
+  pub marks : Holds new.marks (shown_run run ++ map shown x ∷ [])
+
+pub shown_due : (run : List (List ℤ)) (place : ℕ) → length run % 313 ≡ place + 1
+    → length (shown_run run) % 313 ≡ place + 1
+shown_due run place e = ap (λ n. n % 313) (shown_long run) ∙ e
+
+still_one : (x : List ℤ) (run : List (List ℤ)) (place : ℕ) → length run % 313 ≡ place + 1 → place % 4 ≢ 3
+    → Still run (run ++ x ∷ [])
+still_one x run place e n =
+    still_data run x (not_due_now run place e) (λ z. n (sym (part_now run place e) ∙ z))
+
+pub decodes_data : (x : List ℤ) (kept new : Decoding) (run : List (List ℤ)) (place : ℕ) → Both x kept new run place
+    → place % 4 ≢ 3 → new.waits ≡ kept.waits → new.place ≡ kept.place → Decodes new (run ++ x ∷ [])
+decodes_data x kept new run place b n w p =
+    let s : Still run (run ++ x ∷ []) = still_one x run place b.due n in
+    record {
+      bytes = b.bytes;
+      marks = both (Holds new.marks) run x b.marks;
+      waits = w ∙ b.old.waits ∙ ap (λ g. 13 - g) (sym s.groups);
+      place = p ∙ b.old.place ∙ ap (λ g. (4 * g - 52) % 312) (sym s.groups);
+    }
+
+pub early_data : (x : List ℤ) (kept new : Decoding) (run : List (List ℤ)) (place : ℕ) → Both x kept new run place
+    → place % 4 ≢ 3 → new.waits ≡ kept.waits → new.place ≡ kept.place
+    → mended_run_early (run ++ x ∷ []) ≡ mended_run_early run ++ []
+early_data x kept new run place b n w p =
+    let s : Still run (run ++ x ∷ []) = still_one x run place b.due n in
+    let t : Still (shown_run run) (shown_run run ++ map shown x ∷ []) =
+    still_one (map shown x) (shown_run run) place (shown_due run place b.due) n in
+    early_still x kept new run b.old (decodes_data x kept new run place b n w p) s.bytes t.bytes
+
+-- ---- the segment that makes a group whole
+
+pub decodes_group : (x : List ℤ) (kept new : Decoding) (run : List (List ℤ)) (place : ℕ) → Both x kept new run place
+    → place % 4 ≡ 3 → (0 < kept.waits → (new.waits + 1 ≡ kept.waits) × (new.place ≡ kept.place))
+    → (kept.waits ≡ 0 → (new.waits ≡ 0) × (new.place ≡ (kept.place + 4) % 312))
+    → Decodes new (run ++ x ∷ [])
+decodes_group x kept new run place b n w p =
+    let g : groups_of (run ++ x ∷ []) ≡ groups_of run + 1 = groups_whole run x place b.due n in
+    let h : (new.waits ≡ 13 - (groups_of run + 1)) × (new.place ≡ (4 * (groups_of run + 1) - 52) % 312) =
+    counted (groups_of run) (cases_lt 0 kept.waits) b.old.waits b.old.place in
+    record {
+      bytes = b.bytes;
+      marks = both (Holds new.marks) run x b.marks;
+      waits = h.0 ∙ ap (λ g. 13 - g) (sym g);
+      place = h.1 ∙ ap (λ g. (4 * g - 52) % 312) (sym g);
+    }
+  where
+    counted : (g : ℕ) → (0 < kept.waits) ⊎ (kept.waits ≤ 0) → kept.waits ≡ 13 - g → kept.place ≡ (4 * g - 52) % 312
+        → (new.waits ≡ 13 - (g + 1)) × (new.place ≡ (4 * (g + 1) - 52) % 312)
+    counted g (inl l) e f = let a = w l in (omega (arith, a.0, e, l), a.1 ∙ f ∙ ap (λ n. n % 312) (few g e l))
+      where
+        few : (g : ℕ) → kept.waits ≡ 13 - g → 0 < kept.waits → 4 * g - 52 ≡ 4 * (g + 1) - 52
+        few g e l = omega (arith, e, l)
+    counted g (inr l) e f =
+        let a = p (omega (arith, l)) in
+        (omega (arith, a.0, e, l), a.1 ∙ ap (λ n. (n + 4) % 312) f ∙ four g (omega (arith, e, l)))
+      where
+        four : (g : ℕ) → 13 ≤ g → ((4 * g - 52) % 312 + 4) % 312 ≡ (4 * (g + 1) - 52) % 312
+        four g l = omega (arith, l)

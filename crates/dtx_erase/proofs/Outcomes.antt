@@ -1,0 +1,30 @@
+-- The answers of what mends, from those of a corrector and of the final test.
+use Rattle.std.proofs.Common.{◌≡◌, ℕ, ◌≤◌, List, Bool, length, take, refl, sym, subst}
+use Rattle.std.specs.Prelude.{Result, Ok, Err, MatchResult}
+use Rattle.dtx_laws.specs.Codeword.{IsCodeword}
+use Rattle.dtx_laws.specs.Correction.{IsCorrected, IsLeft}
+use Rattle.dtx_laws.specs.WordsLaws.{one_codeword}
+use Rattle.dtx_erase.specs.Mending.{lost, IsMending, IsMended, IsUnmended}
+use Rattle.dtx_erase.specs.MendingLaws.{correction_mends, mending_corrects}
+
+-- without marks the corrector's answer is the mender's
+pub corrected_answer : {E : Type 0} (n k : ℕ) (marks : List Bool) (old new : List ℕ) (r : Result ℕ E) → length old ≡ n
+    → length marks ≡ n → lost marks ≡ 0 → MatchResult r (IsCorrected n k old new) (λ _e. IsLeft n k old new)
+    → MatchResult r (IsMended n k marks old new) (λ _e. IsUnmended n k marks old new)
+corrected_answer n k marks old new (Ok c) lo lm z h = record {
+  mending = correction_mends n k marks old new lo lm z h.correction;
+  changed = h.changed;
+}
+corrected_answer n k marks old new (Err e) lo lm z h = record {
+  none = λ code p. h.none code (mending_corrects n k marks old code lo lm z p);
+  same = h.same;
+}
+
+-- what was restored is no codeword, so there was no mending
+pub not_restored : (n k : ℕ) (marks : List Bool) (word tried again : List ℕ) → n ≤ 255
+    → ((right : List ℕ) → IsMending n k marks word right → tried ≡ right) → IsCodeword n k again
+    → take k again ≡ take k tried → (again ≡ tried → ⊥) → IsUnmended n k marks word word
+not_restored n k marks word tried again l h c b d = record {
+  none = λ right p. d (one_codeword n k again tried l c (subst (IsCodeword n k) (sym (h right p)) p.codeword) b);
+  same = refl;
+}

@@ -1,0 +1,279 @@
+-- Where a word has a mending, what is patched at the marked places and where a locator of the others vanishes is the
+-- mending.
+use Rattle.std.proofs.Common.{◌≡◌, ◌≢◌, ℕ, zero, suc, ◌+◌, ◌-◌, ◌*◌, ◌<◌, ◌≤◌, ◌==◌, ◌||◌, ◌&&◌, not, cond, Bool, true}
+use Rattle.std.proofs.Common.{false, List, ◌∷◌, length, get_or, take, bit_xor, refl, sym, ap, ap₂, ◌∙◌, subst, arith}
+use Rattle.std.proofs.Common.{add-one}
+use Rattle.std.proofs.lemmas.List.{ext_get_or}
+use Rattle.std.proofs.lemmas.Bool.{eqb-true, eqb-false}
+use Rattle.std.specs.Int.Bits.{xor_zero_r, xor_assoc, xor_self, xor_lt, xor_comm}
+use Rattle.dtx_galois.specs.Field.{mul, pow, value, AreBytes}
+use Rattle.dtx_galois.specs.FieldLaws.{mul_comm, mul_assoc, mul_one, mul_zero, zero_mul, mul_inverse}
+use Rattle.dtx_galois.specs.ValuesLaws.{value_more}
+use Rattle.dtx_laws.specs.Codeword.{IsCorrection}
+use Rattle.dtx_laws.specs.Locator.{low_value, is_marked, power_at, vanishes_at}
+use Rattle.dtx_laws.specs.ErrorValues.{others, weight, without, error_at, patched_at}
+use Rattle.dtx_laws.specs.KernelLaws.{kernel, same_sequence}
+use Rattle.dtx_laws.specs.OthersLaws.{few_others, weight_at_other, weight_small, weight_not_zero}
+use Rattle.dtx_laws.specs.PairsLaws.{pairs, moment_pairs, without_is, only}
+use Rattle.dtx_laws.specs.PartsLaws.{byte_at}
+use Rattle.dtx_fast.specs.ConnectionLaws.{least_of_word}
+use Rattle.dtx_fast.specs.QuotientLaws.{length_turned, bytes_turned, combination_turned}
+use Rattle.dtx_fast.specs.Recurrence.{IsRecurrence, IsLeast, turned}
+use Rattle.dtx_erase.specs.Mending.{lost, IsMending}
+use Rattle.dtx_erase.proofs.Marked.{length_marked, others_either, length_with, others_all}
+use Rattle.dtx_erase.proofs.Weighed.{weighed, bytes_weighed, length_weighed, value_weighed, weighed_differ}
+use Rattle.dtx_erase.proofs.Weighed.{weighed_correction}
+
+-- ---- the values of the errors at places of which the others are few
+
+by_mark : (u : Bool) (w e c : ℕ) → (u ≡ true → e ≡ bit_xor w c) → (u ≡ false → w ≡ c) → cond u (bit_xor w e) w ≡ c
+by_mark true w e c h f = ap (bit_xor w) (h refl) ∙ sym (xor_assoc w w c) ∙ ap (λ (z : ℕ). bit_xor z c) (xor_self w)
+    ∙ xor_comm 0 c ∙ xor_zero_r c
+by_mark false w e c h f = f refl
+
+error_from : (d v : ℕ) → d < 256 → v < 256 → v ≢ 0 → mul (mul d v) (pow v 254) ≡ d
+error_from d v ld lv h = mul_assoc d v (pow v 254) ∙ ap (mul d) (mul_inverse v (pos v h) lv) ∙ mul_comm d 1
+    ∙ mul_one d ld
+  where
+    pos : (v : ℕ) → v ≢ 0 → 0 < v
+    pos v h = omega arith
+
+mark_cases : (u : Bool) (d v : ℕ) → (u ≡ true → v ≡ 0) → (u ≡ false → d ≡ 0) → mul d v ≡ 0
+mark_cases true d v h f = ap (mul d) (h refl) ∙ mul_zero d
+mark_cases false d v h f = ap (λ (z : ℕ). mul z v) (f refl) ∙ zero_mul v
+
+error_is : (n p m : ℕ) (mark : ℕ → Bool) (word code : List ℕ) (s : ℕ → ℕ) → n ≤ 255 → p < n → length word ≡ n
+    → length code ≡ n → AreBytes word → AreBytes code
+    → ((j : ℕ) → j < m → s j ≡ bit_xor (value word (pow 2 j)) (value code (pow 2 j))) → length (others n mark p n) < m
+    → ((q : ℕ) → q < n → mark q ≡ false → get_or word q 0 ≡ get_or code q 0)
+    → error_at n mark s p ≡ bit_xor (get_or word p 0) (get_or code p 0)
+unfolding error_at power_at
+error_is n p m mark word code s l a lw lc bw bc h few f =
+    ap (λ (z : ℕ). mul z (pow (weight (pow 2 (n - 1 - p)) (others n mark p n)) 254))
+    (without_is (others n mark p n) s 0 m (pairs word code) (λ j r. h j r
+    ∙ sym (moment_pairs j word code (lw ∙ sym lc))) (omega arith)
+    ∙ only (λ x. weight x (others n mark p n)) word code p (lw ∙ sym lc) (omega arith)
+    (λ q r e. mark_cases (mark q) (bit_xor (get_or word q 0) (get_or code q 0))
+    (weight (pow 2 (length word - 1 - q)) (others n mark p n))
+    (λ t. ap (λ z. weight (pow 2 (z - 1 - q)) (others n mark p n)) lw ∙ weight_at_other n mark p q n (omega arith) t e)
+    (λ t. ap (λ (z : ℕ). bit_xor z (get_or code q 0)) (f q (omega arith) t) ∙ xor_self (get_or code q 0)))
+    ∙ ap (λ z. mul (bit_xor (get_or word p 0) (get_or code p 0)) (weight (pow 2 (z - 1 - p)) (others n mark p n))) lw)
+    ∙ error_from (bit_xor (get_or word p 0) (get_or code p 0)) (weight (pow 2 (n - 1 - p)) (others n mark p n))
+    (xor_lt 8 (get_or word p 0) (get_or code p 0) (byte_at word p bw) (byte_at code p bc))
+    (weight_small (pow 2 (n - 1 - p)) (others n mark p n)) (weight_not_zero n mark p n l a (omega arith))
+
+-- where two words differ at marked places alone, what is patched there is the other word
+patched_right : (n m : ℕ) (mark : ℕ → Bool) (word code new : List ℕ) (s : ℕ → ℕ) → n ≤ 255 → length word ≡ n
+    → length code ≡ n → AreBytes word → AreBytes code
+    → ((j : ℕ) → j < m → s j ≡ bit_xor (value word (pow 2 j)) (value code (pow 2 j)))
+    → ((q : ℕ) → q < n → mark q ≡ false → get_or word q 0 ≡ get_or code q 0)
+    → length (others n mark n n) ≤ m
+    → ((p : ℕ) → p < n → get_or new p 0 ≡ patched_at n mark s word p)
+    → length new ≡ n → new ≡ code
+patched_right n m mark word code new s l lw lc bw bc h f few hn ln =
+    ext_get_or 0 new code (ln ∙ sym lc)
+    (λ p q.
+    let lp : p < n = omega (arith, ln) in
+    hn p lp
+    ∙ by_mark (mark p) (get_or word p 0) (error_at n mark s p) (get_or code p 0)
+    (λ t. error_is n p m mark word code s l lp lw lc bw bc h
+    (omega (arith, length_with n p mark lp t)) f)
+    (f p lp))
+
+-- ---- the locator
+
+-- the coefficients of a recurrence, the newest first, as a polynomial with the highest coefficient first
+value_turned : (cs : List ℕ) (x w : ℕ) → w ≤ length cs → AreBytes cs
+    → value (take w cs) x ≡ low_value (turned w (λ i. get_or cs i 0)) x
+unfolding turned value
+value_turned cs x zero l b = refl
+value_turned cs x (suc w) l b =
+    ap (λ j. value (take j cs) x) (sym (add-one w))
+    ∙ value_more cs w x (omega arith) (byte_at cs w b)
+    ∙ ap (λ (z : ℕ). bit_xor z (get_or cs w 0)) (mul_comm (value (take w cs) x) x
+    ∙ ap (mul x) (value_turned cs x w (omega arith) b))
+    ∙ xor_comm (mul x (low_value (turned w (λ i. get_or cs i 0)) x)) (get_or cs w 0)
+
+last_of_turned : (w : ℕ) (c : ℕ → ℕ) → get_or (turned (suc w) c) w 0 ≡ c 0
+unfolding turned
+last_of_turned zero c = refl
+last_of_turned (suc w) c = last_of_turned w c
+
+-- What the lemmas below take: of n bytes f = lost marks are marked, and c is a recurrence of order l of the first 2 * t
+-- terms of r, which is what cancelling the marked places leaves of the syndromes s.
+pub record AreMarked (n k t : ℕ) (marks : List Bool) (word : List ℕ) (s r : ℕ → ℕ) : Type 0 where
+  pub short : n ≤ 255
+  pub within : n - k ≤ n
+  pub bytes : AreBytes word
+  pub long : length word ≡ n
+  pub marks_long : length marks ≡ n
+  pub few : lost marks + 2 * t ≤ n - k
+  pub most : n - k ≤ lost marks + 2 * t + 1
+  pub syndromes : (i : ℕ) → i < n - k → s i ≡ value word (pow 2 i)
+  pub rest : (i : ℕ) → i + lost marks < n - k → r i ≡ without (others n (is_marked marks) n n) s i
+
+abbrev marked : ℕ → List Bool → List ℕ
+marked n marks = others n (is_marked marks) n n
+
+weight_zero : (n p : ℕ) (marks : List Bool) → p < n → get_or marks p false ≡ true
+    → weight (pow 2 (n - 1 - p)) (marked n marks) ≡ 0
+unfolding power_at
+weight_zero n p marks l t = weight_at_other n (is_marked marks) n p n l t (λ e. apart n p l e)
+  where
+    apart : (n p : ℕ) → p < n → p ≡ n → ⊥
+    apart n p l e = omega arith
+
+weight_some : (n p : ℕ) (marks : List Bool) → n ≤ 255 → p < n → is_marked marks p ≡ false
+    → weight (pow 2 (n - 1 - p)) (marked n marks) ≢ 0
+unfolding power_at
+weight_some n p marks l m t =
+    subst (λ (ys : List ℕ). weight (pow 2 (n - 1 - p)) ys ≢ 0) (others_all n p n (is_marked marks) (omega arith) t)
+    (weight_not_zero n (is_marked marks) p n l m (omega arith))
+
+correction_of : (n k t : ℕ) (marks : List Bool) (word code : List ℕ) (s r : ℕ → ℕ) → AreMarked n k t marks word s r
+    → IsMending n k marks word code
+    → IsCorrection n (n - 2 * t) (weighed (marked n marks) word) (weighed (marked n marks) code)
+correction_of n k t marks word code s r a p =
+    weighed_correction n k t (marked n marks) marks word code a.long a.marks_long (length_marked n marks a.marks_long)
+    a.few a.most (λ q l u. weight_zero n q marks l u) p
+
+values_of : (n k t : ℕ) (marks : List Bool) (word : List ℕ) (s r : ℕ → ℕ) → AreMarked n k t marks word s r
+    → (i : ℕ) → i < 2 * t → r i ≡ value (weighed (marked n marks) word) (pow 2 i)
+values_of n k t marks word s r a i l =
+    a.rest i (omega (arith, a.few))
+    ∙ value_weighed (marked n marks) word s i (n - k) a.syndromes
+    (omega (arith, a.few, length_marked n marks a.marks_long))
+
+-- where no recurrence of the order t or less gives the terms, there is no mending
+pub none_to_find : (n k t : ℕ) (marks : List Bool) (word code : List ℕ) (s r : ℕ → ℕ) → AreMarked n k t marks word s r
+    → IsLeast (2 * t) (t + 1) r → IsMending n k marks word code → ⊥
+none_to_find n k t marks word code s r a least p =
+    let c : IsCorrection n (n - 2 * t) (weighed (marked n marks) word) (weighed (marked n marks) code) =
+    correction_of n k t marks word code s r a p in
+    omega (
+      arith,
+      c.near,
+      a.few,
+      a.within,
+      least_of_word n (n - 2 * t) (2 * t) (t + 1) (weighed (marked n marks) word) (weighed (marked n marks) code) r
+          (length_weighed (marked n marks) word ∙ a.long) c (omega (arith, a.few, a.within))
+          (values_of n k t marks word s r a) least,
+    )
+
+-- whether a place is marked, or the recurrence vanishes there
+abbrev pub is_suspect : ℕ → List Bool → List ℕ → ℕ → ℕ → Bool
+is_suspect n marks cs l p = is_marked marks p || value (take (l + 1) cs) (power_at n p) == 0
+
+pub record IsFound (t l : ℕ) (cs : List ℕ) (r : ℕ → ℕ) : Type 0 where
+  pub bytes : AreBytes cs
+  pub room : l + 1 ≤ length cs
+  pub half : l ≤ t
+  pub recurs : IsRecurrence (2 * t) l r (λ i. get_or cs i 0)
+
+small_at : (cs : List ℕ) → AreBytes cs → (k : ℕ) → get_or cs k 0 < 256
+small_at cs b k = byte_at cs k b
+
+vanishing : (n l p : ℕ) (cs : List ℕ) → l + 1 ≤ length cs → AreBytes cs
+    → (value (take (l + 1) cs) (power_at n p) == 0) ≡ vanishes_at n (turned (suc l) (λ i. get_or cs i 0)) p
+vanishing n l p cs h b =
+    ap (λ x. x == 0) (value_turned cs (power_at n p) (l + 1) h b
+    ∙ ap (λ w. low_value (turned w (λ i. get_or cs i 0)) (power_at n p)) (add-one l))
+
+back : (n t : ℕ) → 2 * t ≤ n → n - (n - 2 * t) ≡ 2 * t
+back n t l = omega arith
+
+-- a place that is not suspect is right
+right_elsewhere : (n k t l : ℕ) (marks : List Bool) (word code cs : List ℕ) (s r : ℕ → ℕ)
+    → AreMarked n k t marks word s r → IsFound t l cs r → IsMending n k marks word code
+    → (q : ℕ) → q < n → is_suspect n marks cs l q ≡ false → get_or word q 0 ≡ get_or code q 0
+right_elsewhere n k t l marks word code cs s r a f p q lq u =
+    by_test (get_or word q 0 == get_or code q 0) refl
+  where
+    neither : (u v : Bool) → (u || v) ≡ false → (u ≡ false) × (v ≡ false)
+    neither true v e = cc
+    neither false v e = (refl, e)
+
+    parts : (is_marked marks q ≡ false) × ((value (take (l + 1) cs) (power_at n q) == 0) ≡ false)
+    parts = neither (is_marked marks q) (value (take (l + 1) cs) (power_at n q) == 0) u
+
+    by_test : (v : Bool) → (get_or word q 0 == get_or code q 0) ≡ v → get_or word q 0 ≡ get_or code q 0
+    by_test true e = eqb-true (get_or word q 0) (get_or code q 0) e
+    by_test false e =
+        let c : IsCorrection n (n - 2 * t) (weighed (marked n marks) word) (weighed (marked n marks) code) =
+        correction_of n k t marks word code s r a p in
+        absurd (eqb-false (low_value (turned (suc l) (λ i. get_or cs i 0)) (power_at n q)) 0
+        (sym (vanishing n l q cs f.room f.bytes) ∙ parts.1)
+        (unfold power_at in
+        kernel n (n - 2 * t) t (weighed (marked n marks) word) (weighed (marked n marks) code)
+        (turned (suc l) (λ i. get_or cs i 0)) a.short (back n t (omega (arith, a.few, a.within)))
+        (bytes_weighed (marked n marks) word)
+        (length_weighed (marked n marks) word ∙ a.long) c (bytes_turned (suc l) (λ i. get_or cs i 0)
+        (small_at cs f.bytes)) (omega (arith, length_turned (suc l) (λ i. get_or cs i 0), f.half))
+        (λ i m. sym (same_sequence (turned (suc l) (λ i. get_or cs i 0)) r
+        (λ j. value (weighed (marked n marks) word) (pow 2 j)) i
+        (λ j d. values_of n k t marks word s r a j
+        (omega (arith, length_turned (suc l) (λ i. get_or cs i 0), f.half, m, d))))
+        ∙ combination_turned l (λ i. get_or cs i 0) r i
+        ∙ f.recurs.next (i + l) (omega arith) (omega (arith, m, f.half)))
+        q lq
+        (weighed_differ n q (marked n marks) word code a.long p.codeword.long a.bytes p.codeword.bytes lq
+        (weight_some n q marks a.short lq parts.0) (eqb-false (get_or word q 0) (get_or code q 0) e))))
+
+same_others : (n : ℕ) (a b : ℕ → Bool) (p c : ℕ) → ((q : ℕ) → q < c → a q ≡ b q) → others n a p c ≡ others n b p c
+unfolding others
+same_others n a b p zero h = refl
+same_others n a b p (suc c) h =
+    ap₂ (λ (u : Bool) (ys : List ℕ). cond (u && not (c == p)) (power_at n c ∷ ys) ys) (h c (omega arith))
+    (same_others n a b p c (λ q l. h q (omega arith)))
+
+others_same : (n : ℕ) (a b : ℕ → Bool) (p c : ℕ) → ((q : ℕ) → q < c → a q ≡ b q)
+    → length (others n a p c) ≡ length (others n b p c)
+others_same n a b p c h = ap length (same_others n a b p c h)
+
+-- a recurrence vanishes at no more places than its order says
+pub few_zeros : (n l : ℕ) (cs : List ℕ) → n ≤ 255 → l + 1 ≤ length cs → AreBytes cs → get_or cs 0 0 ≡ 1
+    → length (others n (λ q. value (take (l + 1) cs) (power_at n q) == 0) n n) ≤ l
+few_zeros n l cs short room bytes highest =
+    omega (
+      arith,
+      others_same n (λ q. value (take (l + 1) cs) (power_at n q) == 0)
+          (vanishes_at n (turned (suc l) (λ i. get_or cs i 0))) n n (λ q m. vanishing n l q cs room bytes),
+      few_others n n l (turned (suc l) (λ i. get_or cs i 0)) short
+          (bytes_turned (suc l) (λ i. get_or cs i 0) (small_at cs bytes))
+          (λ z. one_not_zero (sym highest ∙ sym (last_of_turned l (λ i. get_or cs i 0)) ∙ z)),
+      length_turned (suc l) (λ i. get_or cs i 0),
+    )
+  where
+    one_not_zero : ◌≡◌ {A = ℕ} 1 0 → ⊥
+    one_not_zero e = omega arith
+
+-- few places are suspect
+few_suspects : (n k t l : ℕ) (marks : List Bool) (word cs : List ℕ) (s r : ℕ → ℕ)
+    → AreMarked n k t marks word s r → IsFound t l cs r → length (others n (is_suspect n marks cs l) n n) ≤ n - k
+few_suspects n k t l marks word cs s r a f =
+    omega (
+      arith,
+      others_either n n n (is_marked marks) (λ q. value (take (l + 1) cs) (power_at n q) == 0),
+      length_marked n marks a.marks_long,
+      few_zeros n l cs a.short f.room f.bytes f.recurs.newest,
+      f.half,
+      a.few,
+    )
+
+-- where the word has a mending, it is what is patched at the suspect places
+pub restored_right : (n k t l : ℕ) (marks : List Bool) (word code new cs : List ℕ) (s r : ℕ → ℕ) (mark : ℕ → Bool)
+    → AreMarked n k t marks word s r → IsFound t l cs r
+    → ((p : ℕ) → p < n → mark p ≡ is_suspect n marks cs l p)
+    → ((p : ℕ) → p < n → get_or new p 0 ≡ patched_at n mark s word p)
+    → length new ≡ n → IsMending n k marks word code → new ≡ code
+restored_right n k t l marks word code new cs s r mark a f hm hn ln p =
+    patched_right n (n - k) mark word code new s a.short a.long p.codeword.long a.bytes p.codeword.bytes
+    (λ j m. a.syndromes j m ∙ sym (xor_zero_r (value word (pow 2 j)))
+    ∙ ap (bit_xor (value word (pow 2 j))) (sym (p.codeword.vanishes j m)))
+    (λ q lq u. right_elsewhere n k t l marks word code cs s r a f p q lq (sym (hm q lq) ∙ u))
+    (omega (
+      arith,
+      few_suspects n k t l marks word cs s r a f,
+      others_same n mark (is_suspect n marks cs l) n n hm,
+    ))
+    hn ln

@@ -1,0 +1,29 @@
+use Rattle.std.proofs.Common.{◌≡◌, ◌∙◌, sym, subst}
+use Rattle.std.proofs.lemmas.Slice.Eq.{slice_eq-Decides}
+use Rattle.std.proofs.lemmas.Bool.{true≢false}
+use Rattle.std.proofs.lemmas.Bool.Decides.{Decides-eqb}
+use Rattle.std.specs.Bool.{Decides}
+use Rattle.dtx_laws.specs.Codeword.{IsCodeword}
+use Rattle.dtx_erase.specs.Mending.{IsMending}
+use Rattle.dtx_erase.specs.MendingLaws.{own_answer}
+use Rattle.dtx_erase.proofs.Outcomes.{not_restored}
+use Rattle.dtx_erase.proofs.erasing.Erase.mend_marked.Goals as goal
+
+pub returns-then-eq-clause-answer : goal.returns-then-eq-clause-answer
+returns-then-eq-clause-answer g c =
+    let code = c.encoded_again-code in
+    let same : Decides c.eq.result (code.result ≡ c.args.word.now) =
+    slice_eq-Decides Decides-eqb code.result c.args.word.now c.eq.result c.eq.ensures in
+    own_answer g.row.N g.row.K c.args.marks.now c.args.word.now
+    (subst (IsCodeword g.row.N g.row.K) (same.0 c.if-eq.true) code.ensures.codeword) c.requires
+
+pub returns-else-eq-2-clause-answer : goal.returns-else-eq-2-clause-answer
+returns-else-eq-2-clause-answer g c =
+    let again = c.encoded_again in
+    let same : Decides c.eq-2.result (c.encoded_again.result ≡ c.restore.new.word) =
+    slice_eq-Decides Decides-eqb c.encoded_again.result c.restore.new.word c.eq-2.result c.eq-2.ensures in
+    not_restored g.row.N g.row.K c.args.marks.now c.args.word.now c.restore.new.word again.result
+    again.ensures.code.short
+    (λ right p. c.restore.ensures right
+    (subst (λ m. IsMending m g.row.K c.args.marks.now c.args.word.now right) (sym c.told-word) p))
+    again.ensures.codeword again.ensures.begins (λ e. true≢false (sym (same.1 e) ∙ c.if-eq-2.false))

@@ -1,0 +1,5 @@
+use Rattle.dtx_erase.specs.UnmarkedLaws.{mended_packet}
+use Rattle.dtx_erase.proofs.laws.near_packet.Goals as goal
+
+pub returns : goal.returns
+returns c = mended_packet

@@ -1,0 +1,5 @@
+use Rattle.dtx_erase.specs.MendingLaws.{one_mending}
+use Rattle.dtx_erase.proofs.laws.one_mending.Goals as goal
+
+pub returns : goal.returns
+returns c = one_mending

@@ -1,0 +1,16 @@
+use Rattle.std.proofs.Common.{◌∙◌, ℕ, ◌-◌, ap, arith, get_or}
+use Rattle.dtx_galois.specs.Field.{mul}
+use Rattle.dtx_fast.specs.StageLaws.{mended_at, stage_mended}
+use Rattle.dtx_erase.proofs.recurrence.Stage.mend.Goals as goal
+
+pub returns-clause-stage : goal.returns-clause-stage
+returns-clause-stage c n s h t e =
+    let self = c.args.self.now in
+    let b : ℕ → ℕ = λ i. get_or c.args.self.now.before i 0 in
+    let old : ℕ → ℕ = λ i. get_or c.args.self.now.coefficients i 0 in
+    let new : ℕ → ℕ = λ i. get_or c.add_moved.new.coefficients i 0 in
+    stage_mended n self.order self.gap self.inverse.0 c.mul-factor.result.0 s old b new h c.requires.room t
+    (c.mul-factor.ensures ∙ ap (λ (x : ℕ). mul x c.args.self.now.inverse.0) e)
+    (mended_at self.gap self.order c.mul-factor.result.0 old new b c.add_moved.ensures.below c.add_moved.ensures.between
+    c.add_moved.ensures.above
+    (λ k l m. h.before_behind (k - c.args.self.now.gap) (omega (arith, l, m, t, h.within))))

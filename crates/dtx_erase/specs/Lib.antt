@@ -1,0 +1,10 @@
+pub mod Mending
+pub mod MendingLaws
+pub mod Marks
+pub mod Mended
+pub mod Sides
+pub mod ChosenLaws
+pub mod MarksLaws
+pub mod MendedLaws
+pub mod FollowingLaws
+pub mod UnmarkedLaws

@@ -1,0 +1,135 @@
+//! What mends words of a code.
+
+ghost use Rattle.std.specs.Prelude.{◌≡◌, ◌-◌, ◌≤◌, ℕ, List, MatchResult, length, take};
+ghost use Rattle.dtx_galois.specs.Field.{AreBytes};
+ghost use Rattle.dtx_laws.specs.Codeword.{IsCode, IsCodeword};
+ghost use Rattle.dtx_erase.specs.Mending.{IsDeclined, IsMended, IsMending, IsUnmended, lost};
+
+use crate::marks::{cancelled, distance, lost, suspects, unmarked_distance};
+use crate::mender::Mend;
+use crate::recurrence::find_recurrence;
+use crate::values::patch;
+use dtx_fast::Fast;
+use dtx_laws::correcting::{encoded_again, syndromes_of};
+use dtx_laws::{Correct, TooMany};
+use dtx_rs::Rs;
+
+/// Mends words of the code of `N` bytes a word with `K` bytes of data. It holds the code's encoder and corrector, 66 KB
+/// in all, so make one and keep it.
+#[derive(Drop)]
+pub struct Erase<const N: usize, const K: usize> {
+    encoder: Rs<N, K>,
+    corrector: Fast<N, K>,
+    ghost code: { IsCode N K },
+}
+
+impl<const N: usize, const K: usize> Erase<N, K> {
+    /// What mends words, with its tables. It takes no memory.
+    pub fn new() -> Self
+        requires { IsCode N K }
+    {
+        Erase {
+            encoder: Rs::new(),
+            corrector: Fast::new(),
+        }
+    }
+
+    /// Mends a word by its correction, where that is the mending. It isn't tried where more bytes are missing than a
+    /// correction changes.
+    fn mend_by_correction(
+        &self,
+        word: &mut [u8; N],
+        marks: &[bool; N],
+        missing: usize,
+    ) -> Result<u8, TooMany>
+        ensures answer { MatchResult result (IsMended N K marks.now word.old word.new) (λ _e. word.new ≡ word.old) }
+        ensures long { length word.new ≡ N }
+    {
+        if missing > (N - K) / 2 {
+            return Err(TooMany);
+        }
+        let mut tried = *word;
+        self.corrector.correct(&mut tried)?;
+        accept::<N, K>(word, &tried, marks)
+    }
+
+    /// Mends a word of which no more places are marked than there are correction bytes.
+    fn mend_marked(&self, word: &mut [u8; N], marks: &[bool; N]) -> Result<u8, TooMany>
+        requires { lost marks.now ≤ N - K }
+        ensures answer { MatchResult result (IsMended N K marks.now word.old word.new)
+            (λ _e. IsUnmended N K marks.now word.old word.new) }
+        ensures long { length word.new ≡ N }
+    {
+        let code = encoded_again(&self.encoder, word);
+        if code == *word {
+            return Ok(0);
+        }
+        let mut tried = *word;
+        restore(&mut tried[..], &code[..], &marks[..], K);
+        if encoded_again(&self.encoder, &tried) == tried {
+            accept::<N, K>(word, &tried, marks)
+        } else {
+            Err(TooMany)
+        }
+    }
+}
+
+impl<const N: usize, const K: usize> Mend<N, K> for Erase<N, K> {
+    fn known(&self) {}
+
+    fn mend(&self, word: &mut [u8; N], marks: &[bool; N]) -> Result<u8, TooMany> {
+        let missing = lost(&marks[..]);
+        if missing == 0 {
+            return self.corrector.correct(word);
+        }
+        if missing > N - K {
+            return Err(TooMany);
+        }
+        if let Ok(changed) = self.mend_by_correction(word, marks, missing) {
+            return Ok(changed);
+        }
+        self.mend_marked(word, marks)
+    }
+}
+
+/// Takes a codeword in place of the word, where it is the word's mending.
+fn accept<const N: usize, const K: usize>(
+    word: &mut [u8; N],
+    code: &[u8; N],
+    marks: &[bool; N],
+) -> Result<u8, TooMany>
+    requires code { IsCode N K }
+    requires codeword { IsCodeword N K code.now }
+    ensures answer { MatchResult result (IsMended N K marks.now word.old word.new)
+        (λ _e. IsDeclined N K marks.now code.now word.old word.new) }
+    ensures long { length word.new ≡ N }
+{
+    let wrong = unmarked_distance(&marks[..], &word[..], &code[..]) as usize;
+    if 2 * wrong + lost(&marks[..]) <= N - K {
+        let changed = distance(&word[..], &code[..]);
+        *word = *code;
+        Ok(changed)
+    } else {
+        Err(TooMany)
+    }
+}
+
+/// Makes a word its mending, where it has one, from the codeword that begins with its `k` bytes of data.
+fn restore(word: &mut [u8], code: &[u8], marks: &[bool], k: usize)
+    requires same { length code.now ≡ length word.old }
+    requires marks { length marks.now ≡ length word.old }
+    requires code { IsCode (length word.old) k }
+    requires bytes { AreBytes word.old }
+    requires codeword { IsCodeword (length word.old) k code.now }
+    requires begins { take k code.now ≡ take k word.old }
+    requires few { lost marks.now ≤ length word.old - k }
+    ensures { (right : List ℕ) → IsMending (length word.old) k marks.now word.old right → word.new ≡ right }
+{
+    let parity = word.len() - k;
+    let syndromes = syndromes_of(&word[k..], &code[k..]);
+    let rest = cancelled(&syndromes, marks, parity);
+    if let Some(found) = find_recurrence(&rest, (parity - lost(marks)) / 2) {
+        let suspects = suspects(marks, &found.coefficients[..], found.order);
+        patch(word, &suspects, &syndromes);
+    }
+}

@@ -1,0 +1,86 @@
+//! The laws of mendings, over the definitions and for every `n` and `k`: so they hold of everything that mends. And the
+//! laws of what is received where symbols are missing.
+
+ghost use Rattle.std.specs.Prelude.{◌≡◌, ℕ, ℤ, Bool, true, List, ◌+◌, ◌-◌, ◌*◌, ◌%◌, ◌≤◌, length, map};
+ghost use Rattle.dtx_laws.specs.Codeword.{IsCodeword, IsCorrection, distance};
+ghost use Rattle.dtx_outer.specs.Inner.{word_at};
+ghost use Rattle.dtx_receiver.specs.Bytes.{bytes_in};
+ghost use Rattle.dtx_receiver.specs.Packets.{all_packets, packet_bytes, packets_so_far, received};
+ghost use Rattle.dtx_erase.specs.Marks.{AllThere, is_set, marks_in, shown_run};
+ghost use Rattle.dtx_erase.specs.Mended.{all_mended, marks_at, mended, mended_at, mended_so_far};
+ghost use Rattle.dtx_erase.specs.Mending.{IsMended, IsMending, IsUnmended, lost, unmarked_distance};
+
+use dtx_sizes::{BRANCH_STEP, BRANCHES, CODEWORD, PACKET_DATA};
+
+/// A word has at most one mending.
+pub fn one_mending()
+    ensures { (n k : ℕ) (marks : List Bool) (word a b : List ℕ) → n ≤ 255 → length word ≡ n → length marks ≡ n
+        → IsMending n k marks word a → IsMending n k marks word b → a ≡ b }
+{}
+
+/// There is just one answer to a word and its marks.
+pub fn one_answer()
+    ensures same { (n k : ℕ) (marks : List Bool) (word a b : List ℕ) (c d : ℕ) → n ≤ 255 → length word ≡ n
+        → length marks ≡ n → IsMended n k marks word a c → IsMended n k marks word b d → (a ≡ b) × (c ≡ d) }
+    ensures either { (n k : ℕ) (marks : List Bool) (word a b : List ℕ) (c : ℕ) → IsMended n k marks word a c
+        → IsUnmended n k marks word b → ⊥ }
+{}
+
+/// Without marks a mending is a correction, and a correction is a mending.
+pub fn without_marks()
+    ensures correction { (n k : ℕ) (marks : List Bool) (word code : List ℕ) → length word ≡ n → length marks ≡ n
+        → lost marks ≡ 0 → IsMending n k marks word code → IsCorrection n k word code }
+    ensures mending { (n k : ℕ) (marks : List Bool) (word code : List ℕ) → length word ≡ n → length marks ≡ n
+        → lost marks ≡ 0 → IsCorrection n k word code → IsMending n k marks word code }
+{}
+
+/// A codeword of which no more places are marked than there are correction bytes is its own mending, which changes no
+/// place.
+pub fn codeword_mended()
+    ensures { (n k : ℕ) (marks : List Bool) (word : List ℕ) → IsCodeword n k word → lost marks ≤ n - k
+        → IsMended n k marks word word 0 }
+{}
+
+/// A codeword of which e unmarked bytes became wrong is the mending, whatever stands at the f marked places, where `2 *
+/// e + f` is at most `n - k`.
+pub fn damage_mended()
+    ensures only { (n k : ℕ) (marks : List Bool) (code word : List ℕ) → n ≤ 255 → length word ≡ n → length marks ≡ n
+        → IsCodeword n k code → 2 * unmarked_distance marks word code + lost marks ≤ n - k
+        → (right : List ℕ) → IsMending n k marks word right → right ≡ code }
+    ensures is { (n k : ℕ) (marks : List Bool) (code word : List ℕ) → IsCodeword n k code
+        → 2 * unmarked_distance marks word code + lost marks ≤ n - k → IsMending n k marks word code }
+{}
+
+/// Where no symbol is missing, each packet is as `Receiver` gives it, with how many bytes were put right and whether
+/// its word had a correction.
+pub fn nothing_missing()
+    ensures packets { (segments : List (List ℤ)) → AllThere segments → all_mended segments ≡ all_packets segments }
+    ensures so_far { (segments : List (List ℤ)) → AllThere segments
+        → mended_so_far segments ≡ packets_so_far segments }
+    ensures bytes { (segments : List (List ℤ)) → AllThere segments → mended segments ≡ received segments }
+{}
+
+/// A packet's word that differs from a codeword in e unmarked bytes, where f are marked and `2 * e + f` is at most 20,
+/// gives the codeword's packet, whatever stands at the marked places.
+pub fn near_packet()
+    ensures { (bytes : List ℕ) (marks : List Bool) (k : ℕ) (code : List ℕ) → IsCodeword CODEWORD PACKET_DATA code
+        → 2 * unmarked_distance (marks_at marks k) (word_at CODEWORD BRANCHES BRANCH_STEP bytes k) code
+        + lost (marks_at marks k) ≤ 20
+        → mended_at bytes marks k ≡ record {
+          packet = record { 0 = packet_bytes (PACKET_DATA * (k % 312)) code };
+          fixed = distance (word_at CODEWORD BRANCHES BRANCH_STEP bytes k) code;
+          good = true;
+        } }
+{}
+
+/// As many packets are given as `Receiver` gives, whatever is missing.
+pub fn as_many()
+    ensures { (segments : List (List ℤ)) → length (all_mended segments) ≡ length (all_packets segments) }
+{}
+
+/// The marks of a run are the bytes other than 0 of the run in which each missing symbol is 7 and any other -7, where
+/// both have as many bytes. So whatever is done with bytes does for marks.
+pub fn marks_as_bytes()
+    ensures { (run : List (List ℤ)) → length (bytes_in (shown_run run)) ≡ length (bytes_in run)
+        → marks_in run ≡ map is_set (bytes_in (shown_run run)) }
+{}

@@ -1,0 +1,138 @@
+//! Marked places: how many there are, how two words differ elsewhere, and what they leave of the syndromes.
+
+ghost use Rattle.std.specs.Prelude.{◌≡◌, ℕ, ◌+◌, ◌-◌, ◌<◌, ◌≤◌, ◌==◌, ◌&&◌, ◌||◌, not, if◌then◌else◌};
+ghost use Rattle.std.specs.Prelude.{IsTrue, length, slice_index, take};
+ghost use Rattle.std.specs.Int.RustNames.{bit_xor};
+ghost use Rattle.dtx_galois.specs.Field.{AreBytes, mul, value};
+ghost use Rattle.dtx_laws.specs.Codeword.{distance};
+ghost use Rattle.dtx_laws.specs.ErrorValues.{others, without};
+ghost use Rattle.dtx_laws.specs.Locator.{is_marked, power_at};
+ghost use Rattle.dtx_erase.specs.Mending.{lost, unmarked_distance};
+
+use dtx_galois::{Gf, eval};
+use dtx_laws::correcting::{ROOM, power_at};
+
+/// How many places are marked.
+pub fn lost(marks: &[bool]) -> usize
+    ensures count { result ≡ lost marks.now }
+    ensures few { result ≤ length marks.now }
+{
+    let mut count = 0;
+    for i in 0..marks.len() {
+        if marks[i] {
+            count += 1;
+        }
+    }
+    count
+}
+
+/// In how many unmarked places two words of one length differ.
+pub fn unmarked_distance(marks: &[bool], word: &[u8], other: &[u8]) -> u8
+    requires marks { length marks.now ≡ length word.now }
+    requires same { length word.now ≡ length other.now }
+    requires few { length word.now ≤ 255 }
+    ensures { result ≡ unmarked_distance marks.now word.now other.now }
+{
+    let mut count = 0;
+    for i in 0..word.len() {
+        if differ(marks[i], word[i], other[i]) {
+            count += 1;
+        }
+    }
+    count
+}
+
+/// Whether a place is unmarked and two bytes differ there.
+#[inline(always)]
+fn differ(mark: bool, byte: u8, other: u8) -> bool
+    ensures { result ≡ not (mark || byte == other) }
+{
+    !mark && byte != other
+}
+
+/// Cancels the marked places from the first `count` syndromes of a word: of the rest the last ones, as many as places
+/// are marked, are then of no use.
+pub fn cancelled(syndromes: &[u8; ROOM], marks: &[bool], count: usize) -> [u8; ROOM]
+    requires few { length marks.now ≤ 255 }
+    requires syndromes { count ≤ 255 }
+    ensures long { length result ≡ ROOM }
+    ensures rest { (i : ℕ)
+        → i + length (others (length marks.now) (is_marked marks.now) (length marks.now) (length marks.now)) < count
+        → slice_index result i ≡ without
+        (others (length marks.now) (is_marked marks.now) (length marks.now) (length marks.now))
+        (slice_index syndromes.now) i }
+{
+    let mut rest = *syndromes;
+    for place in 0..marks.len() {
+        if marks[place] {
+            cancel(&mut rest, count, power_at(marks.len(), place));
+        }
+    }
+    rest
+}
+
+/// Cancels a power from the first `count` entries of a sequence, of which the last is then of no use.
+fn cancel(sequence: &mut [u8; ROOM], count: usize, power: Gf)
+    requires { count ≤ 255 }
+    ensures long { length sequence.new ≡ ROOM }
+    ensures values { (i : ℕ) → i + 1 < count
+        → slice_index sequence.new i ≡ bit_xor (slice_index sequence.old (i + 1))
+        (mul power.0 (slice_index sequence.old i)) }
+{
+    for i in 1..count {
+        sequence[i - 1] = Gf(sequence[i]).add(power.mul(Gf(sequence[i - 1]))).0;
+    }
+}
+
+/// Marks the places that are marked, and those at which the polynomial with the first `order + 1` coefficients, the
+/// highest first, vanishes: these are `order` at most, and once so many are found no more are looked for.
+pub fn suspects(marks: &[bool], coefficients: &[u8], order: usize) -> [bool; ROOM]
+    requires few { length marks.now ≤ 255 }
+    requires room { order < length coefficients.now }
+    requires highest { slice_index coefficients.now 0 ≡ 1 }
+    ensures long { length result ≡ ROOM }
+    ensures bytes { AreBytes coefficients.now }
+    ensures marks { (p : ℕ) → p < length marks.now → is_marked result p ≡ (is_marked marks.now p
+        || value (take (order + 1) coefficients.now) (power_at (length marks.now) p) == 0) }
+{
+    let mut all = [false; ROOM];
+    let mut left = order;
+    for place in 0..marks.len() {
+        let zero = is_zero(&coefficients[..order + 1], left, marks.len(), place);
+        all[place] = marks[place] || zero;
+        left = left_after(left, zero);
+    }
+    all
+}
+
+/// Whether a polynomial vanishes at a place, where zeros are left to be found.
+fn is_zero(coefficients: &[u8], left: usize, len: usize, place: usize) -> bool
+    requires few { len ≤ 255 }
+    requires some { place < len }
+    ensures { result ≡ (not (left == 0) && value coefficients.now (power_at len place) == 0) }
+{
+    left != 0 && eval(coefficients, power_at(len, place)).0 == 0
+}
+
+/// How many zeros are left behind a place.
+fn left_after(left: usize, zero: bool) -> usize
+    requires { IsTrue zero → 0 < left }
+    ensures { result ≡ left - (if zero then 1 else 0) }
+{
+    if zero { left - 1 } else { left }
+}
+
+/// In how many places two words of one length differ.
+pub fn distance(word: &[u8], other: &[u8]) -> u8
+    requires same { length word.now ≡ length other.now }
+    requires few { length word.now ≤ 255 }
+    ensures { result ≡ distance word.now other.now }
+{
+    let mut count = 0;
+    for i in 0..word.len() {
+        if word[i] != other[i] {
+            count += 1;
+        }
+    }
+    count
+}

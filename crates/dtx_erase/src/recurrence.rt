@@ -1,0 +1,203 @@
+//! The shortest recurrence of a sequence, by the method of Berlekamp and Massey: the laws of its stages are those of
+//! `dtx_fast`.
+
+ghost use Rattle.std.specs.Prelude.{◌≡◌, ◌≢◌, ℕ, ◌+◌, ◌-◌, ◌*◌, ◌<◌, ◌≤◌, IfNone, IfSome, IsFalse, IsTrue};
+ghost use Rattle.std.specs.Prelude.{length, slice_index};
+ghost use Rattle.std.specs.Int.RustNames.{bit_xor};
+ghost use Rattle.dtx_galois.specs.Field.{mul};
+ghost use Rattle.dtx_fast.specs.Recurrence.{IsLeast, discrepancy};
+ghost use Rattle.dtx_fast.specs.Stage.{IsStage};
+ghost use Rattle.dtx_erase.specs.declared.recurrence.TheConstants.{WIDTH};
+
+use dtx_galois::Gf;
+use dtx_laws::correcting::ROOM;
+
+/// How many coefficients a recurrence has room for: more than half as many as a word can have bytes.
+pub const WIDTH: usize = 128;
+
+/// A recurrence of the terms so far, of whose coefficients that of the newest term, 1, stands first; the one before its
+/// order grew for the last time, how many terms ago that one failed, and the inverse of what it failed by.
+#[derive(Drop)]
+pub struct Stage {
+    pub coefficients: [u8; WIDTH],
+    pub order: usize,
+    before: [u8; WIDTH],
+    gap: usize,
+    inverse: Gf,
+    ghost long: { length coefficients ≡ WIDTH },
+    ghost before_long: { length before ≡ WIDTH },
+}
+
+/// The shortest recurrence of the first `2 * most` terms, where its order isn't more than `most`.
+pub fn find_recurrence(terms: &[u8; ROOM], most: usize) -> Option<Stage>
+    requires { most < WIDTH }
+    ensures some { IfSome result (λ found. (found.order ≤ most)
+        × (slice_index found.coefficients 0 ≡ 1)
+        × IsStage (2 * most) found.order found.gap found.inverse.0 (slice_index terms.now)
+        (slice_index found.coefficients) (slice_index found.before)) }
+    ensures none { IfNone result (IsLeast (2 * most) (most + 1) (slice_index terms.now)) }
+{
+    let mut stage = Stage::new();
+    for n in 0..2 * most {
+        if !stage.take(terms, n, most) {
+            return None;
+        }
+    }
+    Some(stage)
+}
+
+impl Stage {
+    /// Before the first term.
+    fn new() -> Self
+        ensures stage { (s : ℕ → ℕ) → IsStage 0 result.order result.gap result.inverse.0 s
+            (slice_index result.coefficients) (slice_index result.before) }
+        ensures empty { result.order ≡ 0 }
+    {
+        Stage {
+            coefficients: one(),
+            order: 0,
+            before: one(),
+            gap: 1,
+            inverse: Gf(1),
+        }
+    }
+
+    /// Takes term `n` in, where an order of at most `most` is enough: whether it is.
+    fn take(&mut self, terms: &[u8; ROOM], n: usize, most: usize) -> bool
+        requires known { n + 1 < ROOM }
+        requires room { most < WIDTH }
+        requires stage { IsStage n self.old.order self.old.gap self.old.inverse.0 (slice_index terms.now)
+            (slice_index self.old.coefficients) (slice_index self.old.before) }
+        requires half { self.old.order ≤ most }
+        ensures taken { IsTrue result → IsStage (n + 1) self.new.order self.new.gap self.new.inverse.0
+            (slice_index terms.now) (slice_index self.new.coefficients) (slice_index self.new.before) }
+        ensures half { IsTrue result → self.new.order ≤ most }
+        ensures refused { IsFalse result → IsLeast (n + 1) (most + 1) (slice_index terms.now) }
+    {
+        let difference = self.discrepancy(terms, n);
+        if difference.0 == 0 {
+            self.keep();
+            true
+        } else if n < 2 * self.order {
+            self.mend(difference);
+            true
+        } else if n + 1 - self.order <= most {
+            self.raise(difference, n);
+            true
+        } else {
+            false
+        }
+    }
+
+    /// What the recurrence lacks of term `n`.
+    #[inline(always)]
+    fn discrepancy(&self, terms: &[u8; ROOM], n: usize) -> Gf
+        requires known { n < ROOM }
+        requires earlier { self.now.order ≤ n }
+        requires room { self.now.order < WIDTH }
+        ensures { result.0 ≡ discrepancy (self.now.order + 1) (slice_index self.now.coefficients)
+            (slice_index terms.now) n }
+    {
+        let mut sum = Gf(0);
+        for k in 0..self.order + 1 {
+            sum = sum.add(Gf(self.coefficients[k]).mul(Gf(terms[n - k])));
+        }
+        sum
+    }
+
+    /// Takes a term in that the recurrence gives.
+    #[inline(always)]
+    fn keep(&mut self)
+        requires fits { self.old.gap < ROOM }
+        ensures stage { (n : ℕ) (s : ℕ → ℕ) → IsStage n self.old.order self.old.gap self.old.inverse.0 s
+            (slice_index self.old.coefficients) (slice_index self.old.before)
+            → discrepancy (self.old.order + 1) (slice_index self.old.coefficients) s n ≡ 0
+            → IsStage (n + 1) self.new.order self.new.gap self.new.inverse.0 s (slice_index self.new.coefficients)
+            (slice_index self.new.before) }
+        ensures same { self.new.order ≡ self.old.order }
+    {
+        self.gap += 1;
+    }
+
+    /// Takes a term in, by the same order.
+    fn mend(&mut self, difference: Gf)
+        requires room { self.old.order < WIDTH }
+        requires fits { self.old.gap < ROOM }
+        ensures stage { (n : ℕ) (s : ℕ → ℕ) → IsStage n self.old.order self.old.gap self.old.inverse.0 s
+            (slice_index self.old.coefficients) (slice_index self.old.before) → n < 2 * self.old.order
+            → difference.0 ≡ discrepancy (self.old.order + 1) (slice_index self.old.coefficients) s n
+            → IsStage (n + 1) self.new.order self.new.gap self.new.inverse.0 s (slice_index self.new.coefficients)
+            (slice_index self.new.before) }
+        ensures same { self.new.order ≡ self.old.order }
+    {
+        let factor = difference.mul(self.inverse);
+        add_moved(
+            &mut self.coefficients,
+            &self.before,
+            self.gap,
+            self.order,
+            factor,
+        );
+        self.gap += 1;
+    }
+
+    /// Takes term `n` in, by a greater order.
+    fn raise(&mut self, difference: Gf, n: usize)
+        requires some { difference.0 ≢ 0 }
+        requires known { n < ROOM }
+        requires earlier { self.old.order ≤ n }
+        requires room { n + 1 - self.old.order < WIDTH }
+        ensures stage { (s : ℕ → ℕ) → IsStage n self.old.order self.old.gap self.old.inverse.0 s
+            (slice_index self.old.coefficients) (slice_index self.old.before) → 2 * self.old.order ≤ n
+            → difference.0 ≡ discrepancy (self.old.order + 1) (slice_index self.old.coefficients) s n
+            → IsStage (n + 1) self.new.order self.new.gap self.new.inverse.0 s (slice_index self.new.coefficients)
+            (slice_index self.new.before) }
+        ensures longer { self.new.order ≡ n + 1 - self.old.order }
+    {
+        let before = self.coefficients;
+        let factor = difference.mul(self.inverse);
+        self.order = n + 1 - self.order;
+        add_moved(
+            &mut self.coefficients,
+            &self.before,
+            self.gap,
+            self.order,
+            factor,
+        );
+        self.before = before;
+        self.inverse = difference.inv();
+        self.gap = 1;
+    }
+}
+
+/// A one, and then zeros.
+fn one() -> [u8; WIDTH]
+    ensures first { slice_index result 0 ≡ 1 }
+    ensures others { (k : ℕ) → 0 < k → slice_index result k ≡ 0 }
+    ensures long { length result ≡ WIDTH }
+{
+    let mut one = [0; WIDTH];
+    one[0] = 1;
+    one
+}
+
+/// Adds so many times other coefficients, moved `gap` places on, to those up to place `last`.
+#[inline(always)]
+fn add_moved(
+    coefficients: &mut [u8; WIDTH],
+    other: &[u8; WIDTH],
+    gap: usize,
+    last: usize,
+    factor: Gf,
+)
+    requires { last < WIDTH }
+    ensures long { length coefficients.new ≡ WIDTH }
+    ensures below { (k : ℕ) → k < gap → slice_index coefficients.new k ≡ slice_index coefficients.old k }
+    ensures between { (k : ℕ) → gap ≤ k → k ≤ last → slice_index coefficients.new k
+        ≡ bit_xor (slice_index coefficients.old k) (mul factor.0 (slice_index other.now (k - gap))) }
+    ensures above { (k : ℕ) → gap ≤ k → last < k → slice_index coefficients.new k ≡ slice_index coefficients.old k }
+{
+    for k in gap..last + 1 {
+        coefficients[k] ^= factor.mul(Gf(other[k - gap])).0;
+    }
+}

@@ -1,0 +1,122 @@
+//! The values of the errors at the suspect places: what `dtx_laws::correcting::patch` gives, with a number of products
+//! that grows with the square of how many places are suspect, and not with its cube.
+
+ghost use Rattle.std.specs.Prelude.{◌≡◌, ℕ, ◌+◌, ◌<◌, ◌≤◌, [], true, length, slice_index};
+ghost use Rattle.std.specs.Int.RustNames.{bit_xor};
+ghost use Rattle.dtx_galois.specs.Field.{mul};
+ghost use Rattle.dtx_laws.specs.ErrorValues.{error_at, others, patched_at};
+ghost use Rattle.dtx_laws.specs.Locator.{is_marked};
+ghost use Rattle.dtx_laws.specs.declared.correcting.TheConstants.{ROOM};
+ghost use Rattle.dtx_fast.specs.Recurrence.{connection, error_value};
+
+use dtx_galois::Gf;
+use dtx_laws::correcting::{ROOM, power_at};
+
+/// Takes the errors away from the suspect places.
+pub fn patch(word: &mut [u8], suspects: &[bool; ROOM], syndromes: &[u8; ROOM])
+    requires { length word.old ≤ 255 }
+    ensures long { length word.new ≡ length word.old }
+    ensures patched { (p : ℕ) → p < length word.old → slice_index word.new p ≡ patched_at (length word.old)
+        (is_marked suspects.now) (slice_index syndromes.now) word.old p }
+{
+    let len = word.len();
+    let product = product_of(suspects, len);
+    for place in 0..len {
+        if suspects[place] {
+            word[place] ^= error_at(&product, suspects, &syndromes[..], len, place).0;
+        }
+    }
+}
+
+/// The coefficients of a product of factors `X - y`, the highest first.
+#[derive(Drop)]
+struct Product {
+    coefficients: [u8; ROOM],
+    degree: usize,
+    ghost long: { length coefficients ≡ ROOM },
+    ghost room: { degree < ROOM },
+}
+
+/// The product over the powers at the suspect places of a word of `len` bytes.
+fn product_of(suspects: &[bool; ROOM], len: usize) -> Product
+    requires { len ≤ 255 }
+    ensures degree { result.degree ≡ length (others len (is_marked suspects.now) len len) }
+    ensures product { (k : ℕ)
+        → slice_index result.coefficients k ≡ connection (others len (is_marked suspects.now) len len) k }
+{
+    let mut coefficients = one();
+    let mut degree = 0;
+    for place in 0..len {
+        if suspects[place] {
+            multiply(&mut coefficients, degree, power_at(len, place));
+            degree += 1;
+        }
+    }
+    Product {
+        coefficients,
+        degree,
+    }
+}
+
+/// The product of no factors.
+fn one() -> [u8; ROOM]
+    ensures long { length result ≡ ROOM }
+    ensures product { (k : ℕ) → slice_index result k ≡ connection [] k }
+{
+    let mut coefficients = [0; ROOM];
+    coefficients[0] = 1;
+    coefficients
+}
+
+/// Multiplies a polynomial of a degree by `X - y`.
+fn multiply(coefficients: &mut [u8; ROOM], degree: usize, power: Gf)
+    requires { degree + 1 < ROOM }
+    ensures long { length coefficients.new ≡ ROOM }
+    ensures first { slice_index coefficients.new 0 ≡ slice_index coefficients.old 0 }
+    ensures next { (k : ℕ) → k ≤ degree → slice_index coefficients.new (k + 1)
+        ≡ bit_xor (slice_index coefficients.old (k + 1)) (mul power.0 (slice_index coefficients.old k)) }
+    ensures behind { (k : ℕ) → degree < k
+        → slice_index coefficients.new (k + 1) ≡ slice_index coefficients.old (k + 1) }
+{
+    for k in (0..degree + 1).rev() {
+        coefficients[k + 1] ^= power.mul(Gf(coefficients[k])).0;
+    }
+}
+
+/// The value of the error at a suspect place.
+fn error_at(
+    product: &Product,
+    suspects: &[bool; ROOM],
+    syndromes: &[u8],
+    len: usize,
+    place: usize,
+) -> Gf
+    requires few { len ≤ 255 }
+    requires some { place < len }
+    requires suspect { is_marked suspects.now place ≡ true }
+    requires syndromes { length syndromes.now ≡ ROOM }
+    requires degree { product.now.degree ≡ length (others len (is_marked suspects.now) len len) }
+    requires product { (k : ℕ)
+        → slice_index product.now.coefficients k ≡ connection (others len (is_marked suspects.now) len len) k }
+    ensures { result.0 ≡ error_at len (is_marked suspects.now) (slice_index syndromes.now) place }
+{
+    error_value(product, syndromes, power_at(len, place))
+}
+
+/// The value of the error at the place of a power, by the quotient of the product by `X - x`: the combination of the
+/// syndromes by it, over its own value at x. The power 254 of an element is its inverse.
+fn error_value(product: &Product, syndromes: &[u8], at: Gf) -> Gf
+    requires { length syndromes.now ≡ ROOM }
+    ensures { result.0 ≡ error_value product.now.degree (slice_index product.now.coefficients)
+        (slice_index syndromes.now) at.0 }
+{
+    let mut sum = Gf(0);
+    let mut value = Gf(0);
+    let mut quotient = Gf(product.coefficients[0]);
+    for k in 0..product.degree {
+        sum = sum.add(quotient.mul(Gf(syndromes[product.degree - 1 - k])));
+        value = quotient.add(at.mul(value));
+        quotient = quotient.mul(at).add(Gf(product.coefficients[k + 1]));
+    }
+    sum.mul(value.pow(254))
+}

@@ -1,0 +1,5 @@
+use Rattle.dtx_exciter.specs.SentAlikeLaws.{stray}
+use Rattle.dtx_exciter.proofs.laws.stray_marks.Goals as goal
+
+pub returns : goal.returns
+returns c = stray

@@ -1,0 +1,71 @@
+use Rattle.std.proofs.Common.{◌≡◌, ◌≢◌, ℕ, ℤ, pos, ◌+◌, ◌%◌, ◌<◌, ◌+ℤ◌, ◌≤ℤ◌, ◌⊎◌, inl, inr, get_or, slice_set, sym, ap}
+use Rattle.std.proofs.Common.{◌∙◌, subst, w8, to_z, of_z, arith, rules}
+use mir.Val.{SFits}
+use Rattle.std.proofs.lemmas.Bool.{cases_eq}
+use Rattle.std.proofs.lemmas.Int.{to_z-of_z}
+use Rattle.std.proofs.lemmas.List.{get_or-set_same, get_or-set_other, length-set}
+use Rattle.dtx_soft.specs.Trace.{IsMoved, nearer_symbol, stand_at}
+use Rattle.dtx_soft.proofs.trace.move_lanes.Goals as goal
+
+pub loop-n-preserved : goal.loop-n-preserved
+loop-n-preserved c = record {
+  long = length-set c.loop-n.written c.loop-n.n _ ∙ c.loop-n.invariant.long;
+  done = λ k l. done k l (cases_eq k c.loop-n.n);
+  left = λ k l. c.put_state.ensures.others k (λ e. absurd (omega arith)) ∙ c.loop-n.invariant.left k (omega arith);
+}
+  where
+    symbol : ℤ
+    symbol = get_or c.args.symbols.now c.loop-n.n (pos 0)
+
+    fits : SFits w8 (get_or c.args.symbols.now c.loop-n.n (pos 0))
+    fits = search rules
+
+    marks : ℕ
+    marks = get_or c.args.marks.now c.loop-n.n 0
+
+    written : ℤ
+    written = to_z w8 (of_z w8 c.nearer.result)
+
+    same : written ≡ c.nearer.result
+    same = to_z-of_z w8 c.nearer.result (search rules)
+
+    stand : c.stand_of-stand.result ≡ stand_at c.args.stands.now c.loop-n.n
+    stand = c.stand_of-stand.ensures ∙ c.loop-n.invariant.left c.loop-n.n (omega arith)
+
+    plain : IsMoved c.args.scale symbol marks c.stand_of-stand.result (stand_at c.put_state.new.stands c.loop-n.n)
+        written
+    plain = record {
+      q1 = c.put_state.ensures.q1 ∙ ap (λ pair. (pair + c.stand_of-stand.result.q0) % 2) c.pair-pair.ensures.pair;
+      q0 = c.put_state.ensures.q0;
+      written_is = same ∙ c.nearer.ensures.symbol ∙ ap (λ v. nearer_symbol c.args.scale v c.stand_of-stand.result.q1
+          c.pair-pair.result) (to_z-of_z w8 symbol fits) ∙ ap (λ pair. nearer_symbol c.args.scale symbol
+          c.stand_of-stand.result.q1 pair) c.pair-pair.ensures.pair;
+      from = subst (λ v. pos 0 ≤ℤ (v +ℤ pos 126)) (sym same) c.nearer.ensures.from;
+      to = subst (λ v. v ≤ℤ pos 126) (sym same) c.nearer.ensures.to;
+      cost = c.put_state.ensures.cost ∙ sym (ap (λ s. s.cost) c.stand_of-stand.ensures);
+    }
+
+    next : IsMoved c.args.scale symbol marks (stand_at c.args.stands.now c.loop-n.n)
+        (stand_at c.put_state.new.stands c.loop-n.n) written
+    next = subst (λ s. IsMoved c.args.scale symbol marks s (stand_at c.put_state.new.stands c.loop-n.n) written) stand
+        plain
+
+    done : (k : ℕ) → k < c.loop-n.n + 1 → (k ≡ c.loop-n.n) ⊎ (k ≢ c.loop-n.n)
+        → IsMoved c.args.scale (get_or c.args.symbols.now k (pos 0)) (get_or c.args.marks.now k 0)
+        (stand_at c.args.stands.now k) (stand_at c.put_state.new.stands k)
+        (get_or (slice_set c.loop-n.written c.loop-n.n written) k (pos 0))
+    done k l (inl e) =
+        subst (λ k. IsMoved c.args.scale (get_or c.args.symbols.now k (pos 0)) (get_or c.args.marks.now k 0)
+        (stand_at c.args.stands.now k) (stand_at c.put_state.new.stands k)
+        (get_or (slice_set c.loop-n.written c.loop-n.n written) k (pos 0))) (sym e)
+        (subst (IsMoved c.args.scale symbol marks (stand_at c.args.stands.now c.loop-n.n)
+        (stand_at c.put_state.new.stands c.loop-n.n))
+        (sym (get_or-set_same c.loop-n.written c.loop-n.n written (pos 0)
+        (omega (arith, c.loop-n.invariant.long)))) next)
+    done k l (inr n) =
+        subst (IsMoved c.args.scale (get_or c.args.symbols.now k (pos 0)) (get_or c.args.marks.now k 0)
+        (stand_at c.args.stands.now k) (stand_at c.put_state.new.stands k))
+        (sym (get_or-set_other c.loop-n.written c.loop-n.n k written (pos 0) n))
+        (subst (λ s. IsMoved c.args.scale (get_or c.args.symbols.now k (pos 0)) (get_or c.args.marks.now k 0)
+        (stand_at c.args.stands.now k) s (get_or c.loop-n.written k (pos 0)))
+        (sym (c.put_state.ensures.others k n)) (c.loop-n.invariant.done k (omega arith)))

@@ -1,0 +1,106 @@
+-- Differences of costs in units, by which the coders are decoded side by side: at one symbol the squares of all
+-- levels are alike but for multiples of four times the scale.
+use Rattle.std.specs.Prelude.{ℕ, ℤ, pos, ◌≡◌, ◌+◌, ◌*◌, ◌/◌, ◌%◌, ◌^◌, ◌<◌, ◌+ℤ◌, ◌≤ℤ◌, max, min, List, [], ◌∷◌}
+use Rattle.std.specs.Prelude.{map, drop, nat_le, nat_lt, if◌then◌else◌, slice_index, slice_index_or}
+use Rattle.dtx_soft.specs.declared.nearest.Nearest.{Nearest}
+use Rattle.dtx_soft.specs.declared.gaps.Gap.{Gap}
+use Rattle.dtx_soft.specs.declared.gaps.Gaps.{Gaps}
+use Rattle.dtx_soft.specs.Least.{IsPotential}
+use Rattle.dtx_soft.specs.Nearest.{IsTaken, cheapest}
+use Rattle.dtx_soft.specs.Paths.{squared, symbol_at}
+
+-- the unit of differences
+abbrev pub unit : ℕ → ℕ
+unit scale = max 1 (4 * scale)
+
+-- Three numbers are the differences of four costs in units: of the first and the third cost, of the second and the
+-- fourth, and of the third and the fourth.
+pub record AreGaps (unit : ℕ) (costs : List ℕ) (even odd across : ℤ) : Type 0 where
+  pub base : ℕ
+  pub lift : ℕ
+  pub units : List ℕ
+  pub each : (s : ℕ) → s < 4 → slice_index costs s + unit * lift ≡ base + unit * slice_index units s
+  pub even_is : pos (slice_index units 0) ≡ pos (slice_index units 2) +ℤ even
+  pub odd_is : pos (slice_index units 1) ≡ pos (slice_index units 3) +ℤ odd
+  pub across_is : pos (slice_index units 2) ≡ pos (slice_index units 3) +ℤ across
+
+abbrev pub HasGaps : ℕ → List ℕ → Gap → Type 0
+HasGaps scale costs gap = AreGaps (unit scale) costs gap.even gap.odd gap.across
+
+-- so small are they always: a walk of two steps leads from each state to each
+pub record IsBounded (gap : Gap) : Type 0 where
+  pub even_from : pos 0 ≤ℤ (gap.even +ℤ pos 2400)
+  pub even_to : gap.even ≤ℤ pos 2400
+  pub odd_from : pos 0 ≤ℤ (gap.odd +ℤ pos 2400)
+  pub odd_to : gap.odd ≤ℤ pos 2400
+  pub across_from : pos 0 ≤ℤ (gap.across +ℤ pos 512)
+  pub across_to : gap.across ≤ℤ pos 512
+  pub beside_from : gap.odd ≤ℤ (gap.even +ℤ gap.across +ℤ pos 512)
+  pub beside_to : (gap.even +ℤ gap.across) ≤ℤ (gap.odd +ℤ pos 512)
+
+-- the nearer of levels z and z + 4, and the square of what the symbol is off it
+abbrev pub nearer_level : ℕ → ℤ → ℕ → ℕ
+nearer_level scale symbol z =
+    if nat_le (squared symbol (symbol_at scale z)) (squared symbol (symbol_at scale (z + 4))) then z else z + 4
+
+abbrev pub nearer_square : ℕ → ℤ → ℕ → ℕ
+nearer_square scale symbol z =
+    min (squared symbol (symbol_at scale z)) (squared symbol (symbol_at scale (z + 4)))
+
+-- 1 where the level of z + 2 comes before that of z
+abbrev pub tie_of : ℕ → ℤ → ℕ → ℕ
+tie_of scale symbol z =
+    if nat_lt (nearer_level scale symbol (z + 2)) (nearer_level scale symbol z) then 1 else 0
+
+-- the row of a symbol
+unfoldable pub row_of : ℕ → ℤ → Nearest
+row_of scale symbol = record {
+  levels = nearer_level scale symbol 0 ∷ nearer_level scale symbol 1 ∷ nearer_level scale symbol 2
+      ∷ nearer_level scale symbol 3 ∷ [];
+  squares = nearer_square scale symbol 0 ∷ nearer_square scale symbol 1 ∷ nearer_square scale symbol 2
+      ∷ nearer_square scale symbol 3 ∷ [];
+  ties = tie_of scale symbol 0 ∷ tie_of scale symbol 1 ∷ [];
+  filler = 0;
+}
+
+-- the gaps of the potentials before one more symbol in front
+abbrev pub IsBefore : ℕ → ℤ → Gap → Gap → Type 0
+IsBefore scale symbol old new = (behind before : List ℕ) → HasGaps scale behind old
+    → ((s : ℕ) → s < 4 → slice_index before s ≡ cheapest (row_of scale symbol) behind s) → HasGaps scale before new
+
+-- bit s of the marks is 1 where of the two pairs of levels that may follow state s the second is to be taken
+abbrev pub AreTaken : ℕ → ℤ → Gap → ℕ → Type 0
+AreTaken scale symbol gap marks = (behind : List ℕ) → HasGaps scale behind gap → (s : ℕ) → s < 4
+    → IsTaken (row_of scale symbol) behind s (marks / 2 ^ s % 2)
+
+-- both, at a symbol that is a signed byte
+pub record IsStep (scale : ℕ) (symbol : ℤ) (old new : Gap) (marks : ℕ) : Type 0 where
+  pub from : pos 0 ≤ℤ (symbol +ℤ pos 128)
+  pub to : symbol ≤ℤ pos 127
+  pub gaps : IsBefore scale symbol old new
+  pub taken : AreTaken scale symbol old marks
+
+-- those of one lane
+abbrev pub gap_at : Gaps → ℕ → Gap
+gap_at gaps n = record {
+  even = slice_index_or gaps.even n (pos 0);
+  odd = slice_index_or gaps.odd n (pos 0);
+  across = slice_index_or gaps.across n (pos 0);
+}
+
+-- the symbols of one lane, one in each round
+unfoldable pub column : List (List ℤ) → ℕ → List ℤ
+column rounds n = map (λ round. slice_index_or round n (pos 0)) rounds
+
+-- gaps of the least costs over symbols from each state
+pub record AreLeastGaps (scale : ℕ) (symbols : List ℤ) (gap : Gap) : Type 0 where
+  pub potentials : List ℕ
+  pub least : (s : ℕ) → s < 4 → IsPotential scale symbols s (slice_index potentials s)
+  pub gaps : HasGaps scale potentials gap
+
+-- at symbol t a mark for each state says which pair of levels a least path takes
+pub record AreMarks (scale : ℕ) (symbols : List ℤ) (t marks : ℕ) : Type 0 where
+  pub behind : List ℕ
+  pub least : (s : ℕ) → s < 4 → IsPotential scale (drop (t + 1) symbols) s (slice_index behind s)
+  pub taken : (s : ℕ) → s < 4
+      → IsTaken (row_of scale (slice_index_or symbols t (pos 0))) behind s (marks / 2 ^ s % 2)
