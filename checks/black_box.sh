@@ -8,7 +8,7 @@ umask 022
 export LC_ALL=C
 top=$(cd "$(dirname "${BASH_SOURCE[0]}")/.." && pwd) || exit 1
 dtx=$top/dtx
-usage='usage: dtx adapt|code|excite|receive|net|make|hurt|place|trial|soft|dvb'
+usage='usage: dtx adapt|code|excite|receive|net|make|hurt|place|trial|soft|mend|dvb|repeat|acquire|watch'
 
 if [[ $("$dtx" </dev/null) != "$usage" ]]; then
     echo 'FAILED: the program could not be built'
@@ -220,7 +220,7 @@ plan_of() {
 
 # ---- The cases, subject by subject ----
 
-for part in adapt plans make code receive excite hurt place net pages trial soft dvb names overlaps words refused_streams \
+for part in adapt plans make code receive excite hurt place net pages trial soft mend dvb repeat acquire watch names overlaps words refused_streams \
     refused_files forbidden_files host_faults each_call progress many; do
     . "$top/checks/black_box/$part.sh"
 done

@@ -1,13 +1,14 @@
 #!/usr/bin/env bash
 # Measures `dtx adapt` of a made stream of 200 MB and `dtx excite` of its feed beside `dtx code` of the same packets, whose coder both of
-# them run; and the memory of `adapt` and `excite` at 200 MB and at 2 MB. All of it in one run, on one processor where `taskset` is
+# them run; `dtx watch` of the feed beside `excite`; and the memory of `adapt` and `excite` at 200 MB and at 2 MB. All of it in one run, on one processor where `taskset` is
 # there, each the best of three. It needs 2.5 GB on the disk of temporary files. The status is 0 where `adapt` takes at most 1.3 times as
-# long as `code` of the stream, `excite` at most 1.3 times as long as `code` of the feed, and the memory is the same, but for 256 kB by
+# long as `code` of the stream, `excite` at most 1.3 times as long as `code` of the feed, `watch` at most 1.1 times as long as `excite`, and the memory is the same, but for 256 kB by
 # which it differs from run to run.
 
 set -eu
 rounds=3
 bar=1.3
+watch_bar=1.1
 memory_bar=256
 packets=1063830
 few_packets=10639
@@ -25,19 +26,14 @@ for ((round = 0; round < rounds; round++)); do
     rm "$room/out.sym"
     measure 'excite' "$room/out.sym" "$program" excite "$room/feed.ts" 7 1000 "$room/out.sym" "$room/out.log"
     rm "$room/out.sym"
+    measure 'watch' "$room/out.txt" "$program" watch "$room/feed.ts" "$room/out.txt"
 done
 
 printf '200 MB, best of %d%s\n' $rounds "${pinned[*]:+, on one processor}"
-for name in 'code of the stream' adapt 'code of the feed' excite; do
+for name in 'code of the stream' adapt 'code of the feed' excite watch; do
     awk -v name="$name" -v time="${best[$name]}" -v packets=$packets \
         'BEGIN { printf "%-20s %7.3f s %6.0f MB/s %5.0f ns a packet\n", name, time / 1e6, packets * 188 / time, time * 1e3 / packets }'
 done
-
-# within NAME OTHER: says how many times as long the one takes as the other, and whether that is within the bar.
-within() {
-    awk -v name="$1" -v other="$2" -v time="${best[$1]}" -v than="${best[$2]}" -v bar=$bar \
-        'BEGIN { printf "%s takes %.2f times as long as %s (bar: %s)\n", name, time / than, other, bar; exit time > bar * than }'
-}
 
 # steady NAME LARGE SMALL: says how much memory it held at 200 MB and at 2 MB, and whether that is the same.
 steady() {
@@ -46,8 +42,9 @@ steady() {
 }
 
 status=0
-within adapt 'code of the stream' || status=1
-within excite 'code of the feed' || status=1
+within adapt $bar 'code of the stream' || status=1
+within excite $bar 'code of the feed' || status=1
+within watch $watch_bar excite || status=1
 "$program" adapt "$plan" "$room/few.ts" "$room/few.feed" >"$room/said"
 steady adapt "$(memory "$program" adapt "$plan" "$room/in.ts" "$room/out.ts")" \
     "$(memory "$program" adapt "$plan" "$room/few.ts" "$room/out.ts")" || status=1

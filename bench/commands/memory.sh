@@ -2,7 +2,8 @@
 # Measures how much memory each command holds at most, over a stream of 31,200 packets, and the program where no words are given: each the
 # least of five runs, since where the loader puts the program and its stack changes it by up to 250 kB. It needs 200 MB on the disk of
 # temporary files. The status is 0 where each is at most its bar, which is what the commands held when each had a loop of its own; of `soft`,
-# which holds a field, 12 MB, of the other outer coding what `adapt` and `receive` may hold, and of `net` with 1,020 transmitters over a
+# which holds a field, and of `acquire` 12 MB, of `mend` twice what `receive` may hold, of `repeat` what `receive` and `excite` may hold, of
+# `watch` what `excite` may hold, of the other outer coding what `adapt` and `receive` may hold, and of `net` with 1,020 transmitters over a
 # frame 256 MB, and over a frame with 35 what it may hold with one and 8 MB more.
 
 set -eu
@@ -53,6 +54,10 @@ within 2132 net net.toml
 within 10324 net net-35.toml
 within 262144 net net-1020.toml
 within 12288 soft in.sym out.sym
+within 12288 acquire 1 in.sym out.sym
+within 4376 mend in.sym out.ts
+within 4428 repeat in.sym 1 0 out.sym out.log
+within 2240 watch feed.ts out.txt
 within 2140 dvb code in.ts in.dvb
 within 2188 dvb read in.dvb out.ts
 exit $status

@@ -47,6 +47,14 @@ open(sys.argv[2], "wb").write(stream)
 end
 }
 
+# set_aside: puts the files of the transmitters aside, empty. They aren't removed, since a file system that keeps the numbers of
+# files that were just removed from new ones looks for others among all of them (ext4 does), file after file.
+set_aside() {
+    local away
+    away=$(mktemp -d -p "$room")
+    find . -maxdepth 1 -name 'tx-*' -exec truncate -s 0 {} + -exec mv -t "$away" {} +
+}
+
 # Three transmitters are given about as many packets as the 1,020.
 beside_packets=$((most_transmitters / 3 * frame))
 "$program" make 1 $packets in.ts >said
@@ -67,17 +75,17 @@ awk -v entries=$most_entries -v step=$((bytes / most_entries)) \
     'BEGIN { for (k = 0; k < entries; k++) printf "[[damage]]\nat = %.0f\ncount = 9\nput = 1\n", k * step }' >most.toml
 
 for ((round = 0; round < rounds; round++)); do
-    rm -f tx-*
+    set_aside
     measure 'net of 3' net.feed "$program" net three.toml
     measure 'adapt' feed.ts "$program" adapt three.toml in.ts feed.ts
     measure 'excite' out.sym "$program" excite feed.ts 1 0 out.sym out.log
-    rm -f tx-*
+    set_aside
     measure 'net of 35' net.feed "$program" net thirty-five.toml
-    rm -f tx-*
+    set_aside
     measure 'net of 1,020' net.feed "$program" net most-transmitters.toml
-    rm -f tx-*
+    set_aside
     measure '3 beside' net.feed "$program" net beside.toml
-    rm -f tx-*
+    set_aside
     measure 'cat' none cat large.ts
     measure 'hurt' out.ts "$program" hurt large.ts damage.toml out.ts
     measure 'hurt at most' out.ts "$program" hurt large.ts most.toml out.ts

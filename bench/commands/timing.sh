@@ -37,6 +37,17 @@ measure() {
     fi
 }
 
+# within NAME BAR OTHER..: says how many times as long the one takes as the others together, and whether that is within the bar.
+within() {
+    local name=$1 bar=$2 each than=0
+    shift 2
+    for each in "$@"; do
+        than=$((than + best[$each]))
+    done
+    awk -v name="$name" -v others="$*" -v time="${best[$name]}" -v than=$than -v bar="$bar" \
+        'BEGIN { printf "%s takes %.2f times as long as %s (bar: %s)\n", name, time / than, others, bar; exit time > bar * than }'
+}
+
 # memory COMMAND..: the most kB that the command held at a time.
 memory() {
     if [[ -x /usr/bin/time ]]; then

@@ -56,3 +56,13 @@ compared() {
         exit ratio < bar
     }'
 }
+
+# back FILE: how many packets of the stream in.ts are among those of the file, and how many it has.
+back() {
+    "$gnuradio_python" -c '
+import sys
+stream, given = (open(name, "rb").read() for name in sys.argv[1:])
+packets = {stream[i + 1 : i + 188] for i in range(0, len(stream), 188)}
+print(sum(given[i + 1 : i + 188] in packets for i in range(0, len(given) - 187, 188)), "of", len(given) // 188)' \
+        "$room/in.ts" "$1"
+}

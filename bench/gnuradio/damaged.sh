@@ -15,16 +15,6 @@ packets=$((fields * field_packets))
 "$program" make 1 $packets "$room/in.ts" >"$room/said"
 "$program" code "$room/in.ts" "$room/in.sym" >"$room/said"
 
-# back FILE: how many packets of the stream are among those of the file.
-back() {
-    "$gnuradio_python" -c '
-import sys
-stream, given = (open(name, "rb").read() for name in sys.argv[1:])
-packets = {stream[i + 1 : i + 188] for i in range(0, len(stream), 188)}
-print(sum(given[i + 1 : i + 188] in packets for i in range(0, len(given) - 187, 188)), "of", len(given) // 188)' \
-        "$room/in.ts" "$1"
-}
-
 # beside MEAN BAR: measures both with so many wrong bytes a word.
 beside() {
     local taken round

@@ -1,5 +1,6 @@
 #!/usr/bin/env python3
-"""Receives symbols by GNU Radio's ATSC blocks and writes their packets: receive.py IN OUT."""
+"""Receives symbols by GNU Radio's ATSC blocks and writes their packets: receive.py IN OUT [SCALE], where a symbol lies at so many steps a
+unit."""
 
 import sys
 
@@ -8,12 +9,13 @@ from gnuradio import blocks, dtv, gr
 SEGMENT = 832
 
 source, sink = sys.argv[1:3]
+scale = float(sys.argv[3]) if len(sys.argv) > 3 else 1.0
 chain = gr.top_block()
 checker = dtv.atsc_fs_checker()
 last = dtv.atsc_derandomizer()
 chain.connect(
     blocks.file_source(gr.sizeof_char, source, False),
-    blocks.char_to_float(1, 1.0),
+    blocks.char_to_float(1, scale),
     blocks.stream_to_vector(gr.sizeof_float, SEGMENT),
     checker,
 )

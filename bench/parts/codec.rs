@@ -1,7 +1,8 @@
 // The shapes of the coding's parts in plain Rust, beside which the proved ones are measured: whitening by a local copy, the
-// interleaver in one block, the outer coding of both with the encoder, the trellis coders in sixteen lanes, and a group of all of
-// these with the field sync and the data segments. See codec.sh.
+// interleaver in one block, the outer coding of both with the encoder, the trellis coders in sixteen lanes, a group of all of these
+// with the field sync and the data segments, and the certificate of a least path. See codec.sh.
 use std::array::from_fn;
+use std::hint::black_box;
 use std::time::Instant;
 
 mod encoder {
@@ -45,6 +46,7 @@ const SYNC_FRONT: usize = 820;
 const LAST: usize = 12;
 const GROUP_PACKETS: usize = 4;
 const PACKET: usize = 188;
+const CODER_SYMBOLS: usize = 21_528;
 const ROUNDS: u32 = 400;
 const WHITENED_FIELDS: usize = 4;
 const PASSED: usize = 1_000;
@@ -353,6 +355,79 @@ impl Group {
     }
 }
 
+// The symbols of a trellis coder in a field, the least path over them, and the least costs from each place on.
+struct Certificate {
+    symbols: Vec<i8>,
+    start: usize,
+    levels: Vec<usize>,
+    potentials: Vec<[u32; 4]>,
+}
+
+fn next_state(state: usize, level: usize) -> usize {
+    2 * ((level / 2 % 2 + state % 2) % 2) + state / 2
+}
+
+fn squared(symbol: i8, level: usize) -> u32 {
+    let off = symbol as i32 - (2 * level as i32 - 7);
+    (off * off) as u32
+}
+
+// What a step from a state comes to.
+fn onto(symbol: i8, state: usize, level: usize, behind: &[u32; 4]) -> u32 {
+    squared(symbol, level) + behind[next_state(state, level)]
+}
+
+impl Certificate {
+    fn new(symbols: Vec<i8>) -> Certificate {
+        let best = |symbol, state: usize, behind: &[u32; 4]| {
+            (0..4).map(|k| 2 * k + state / 2).min_by_key(|&level| onto(symbol, state, level, behind)).unwrap()
+        };
+        let mut potentials = vec![[0; 4]; symbols.len() + 1];
+        for t in (0..symbols.len()).rev() {
+            let behind = potentials[t + 1];
+            potentials[t] = from_fn(|state| onto(symbols[t], state, best(symbols[t], state, &behind), &behind));
+        }
+        let start = (0..4).min_by_key(|&state| potentials[0][state]).unwrap();
+        let mut state = start;
+        let mut levels = Vec::new();
+        for t in 0..symbols.len() {
+            levels.push(best(symbols[t], state, &potentials[t + 1]));
+            state = next_state(state, levels[t]);
+        }
+        Certificate { symbols, start, levels, potentials }
+    }
+
+    fn proves(&self) -> bool {
+        if self.potentials[self.symbols.len()] != [0; 4] || !self.allows_all_steps() {
+            return false;
+        }
+        let least = self.potentials[0][self.start];
+        if self.potentials[0].iter().any(|&entry| entry < least) {
+            return false;
+        }
+        let (mut state, mut left) = (self.start, least);
+        for (&symbol, &level) in self.symbols.iter().zip(&self.levels) {
+            let costs = squared(symbol, level);
+            if level >= 8 || level % 2 != state / 2 || costs > left {
+                return false;
+            }
+            left -= costs;
+            state = next_state(state, level);
+        }
+        left == 0
+    }
+
+    fn allows_all_steps(&self) -> bool {
+        self.symbols.iter().zip(self.potentials.windows(2)).all(|(&symbol, entries)| {
+            (0..8).all(|level| {
+                let state = 2 * (level % 2);
+                entries[0][state] <= onto(symbol, state, level, &entries[1])
+                    && entries[0][state + 1] <= onto(symbol, state + 1, level, &entries[1])
+            })
+        })
+    }
+}
+
 fn print_least(name: &str, piece: &str, pieces: usize, mut round: impl FnMut() -> u8) {
     let mut least = u128::MAX;
     let mut sum = 0u8;
@@ -436,6 +511,12 @@ fn group() {
     });
 }
 
+fn proves() {
+    let symbols: Vec<i8> = (0..CODER_SYMBOLS).map(|t| (t % 251 % 16) as i8 - 8).collect();
+    let certificate = Certificate::new(symbols);
+    print_least("proves", "symbol", CODER_SYMBOLS, || black_box(&certificate).proves() as u8);
+}
+
 fn main() {
     match std::env::args().nth(1).as_deref() {
         Some("whiten") => whiten(),
@@ -443,6 +524,7 @@ fn main() {
         Some("outer") => outer(),
         Some("trellis") => trellis(),
         Some("group") => group(),
-        _ => println!("usage: codec [whiten | spread | outer | trellis | group]"),
+        Some("proves") => proves(),
+        _ => println!("usage: codec [whiten | spread | outer | trellis | group | proves]"),
     }
 }

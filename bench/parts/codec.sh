@@ -1,7 +1,7 @@
 #!/bin/sh
-# Measures whitening, the interleaver, the outer coding, the trellis coders and a whole group beside the same shapes in plain Rust,
-# on one core and in one run, and prints the least time of each and their ratio. The status is 0 where the trellis coders take at
-# most twice as long as the same sixteen lanes in plain Rust.
+# Measures whitening, the interleaver, the outer coding, the trellis coders, a whole group and the certificate of a least path beside
+# the same shapes in plain Rust, on one core and in one run, and prints the least time of each and their ratio. The status is 0 where
+# the trellis coders take at most twice as long as the same sixteen lanes in plain Rust.
 # It wants `rustc`, and the kit's `rt` where the program isn't built yet.
 set -eu
 bar=2
@@ -12,7 +12,7 @@ top=$(cd "$(dirname "$0")/../.." && pwd)
 build_plain codec $processor
 
 # Both do the same rounds, so a sum of what came of them is the same.
-for work in whiten spread outer trellis group; do
+for work in whiten spread outer trellis group proves; do
     for _ in 1 2 3; do
         $pinned "$proved" $work | sed "s/^/proved $work /"
         $pinned "$plain" $work | sed "s/^/plain $work /"
@@ -32,7 +32,7 @@ done | awk -v bar=$bar '
             least["plain", work], ratio(work)
     }
     END {
-        tell("whiten"); tell("spread"); tell("outer"); tell("trellis"); tell("group")
+        tell("whiten"); tell("spread"); tell("outer"); tell("trellis"); tell("group"); tell("proves")
         if (differ != "") {
             print "the two programs code differently:" differ
             exit 1

@@ -96,6 +96,10 @@ code ../inputs/calls.ts out.sym
 excite ../inputs/calls.feed 7 1000 out.sym out.log
 receive ../inputs/calls.sym out.ts
 soft ../inputs/calls.sym out.sym
+mend ../inputs/calls.sym out.ts
+repeat ../inputs/calls.sym 7 1000 out.sym out.log
+acquire 1 ../inputs/calls.sym out.sym
+watch ../inputs/calls.feed out.txt
 dvb code ../inputs/calls.ts out.dvb
 dvb read ../inputs/calls.dvb out.ts
 place ../inputs/calls.ts out.ts

@@ -39,6 +39,7 @@ while read -r name; do
     overlaps in.ts place in.ts "$name"
     overlaps in.ts dvb code in.ts "$name"
     overlaps in.ts dvb read in.ts "$name"
+    overlaps in.ts watch in.ts "$name"
     overlaps in.ts excite in.ts 7 0 "$name" out.log
     rm -f out.log out.sym
     overlaps in.ts excite in.ts 7 0 out.sym "$name"
@@ -48,6 +49,12 @@ done < <(named in.ts)
 while read -r name; do
     overlaps in.sym receive in.sym "$name"
     overlaps in.sym soft in.sym "$name"
+    overlaps in.sym mend in.sym "$name"
+    overlaps in.sym acquire 1 in.sym "$name"
+    overlaps in.sym repeat in.sym 7 0 "$name" out.log
+    rm -f out.log out.sym
+    overlaps in.sym repeat in.sym 7 0 out.sym "$name"
+    rm -f out.log out.sym
 done < <(named in.sym)
 while read -r name; do
     overlaps changes.toml hurt in.ts changes.toml "$name"

@@ -25,7 +25,7 @@ leaves in.ts in.sym hurt.sym out.sym
 
 start 'packets that noise makes unreadable come back of softened symbols'
 head -c $((626 * 832)) "$room/feed.sym" >in.sym
-"$top/examples/noise.py" 28 1 in.sym noisy.sym
+"$top/examples/capture.py" 1 24.28 1 in.sym noisy.sym
 "$dtx" receive noisy.sym noisy.ts >"$room/said" 2>"$room/complaint"
 ended 0 $?
 [[ $(cat "$room/said") =~ ^segments\ 626\ runs\ 1\ packets\ 573\ fixed\ [0-9]+\ flagged\ [1-9][0-9]{2}\ loose\ 0$ ]] ||

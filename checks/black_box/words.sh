@@ -32,6 +32,7 @@ while read -r number; do
     is_usage "the count '$number'" make 1 "$number" out.ts
     is_usage "the address '$number'" excite ../inputs/given.ts "$number" 0 out.sym out.log
     is_usage "the delay '$number'" excite ../inputs/given.ts 7 "$number" out.sym out.log
+    is_usage "the scale '$number'" acquire "$number" ../inputs/given.ts out.sym
 done <<'end'
 
 01
@@ -61,6 +62,11 @@ is_usage '`excite` with empty symbols' excite ../inputs/given.ts 7 0 '' out.log
 is_usage '`excite` with an empty log' excite ../inputs/given.ts 7 0 out.sym ''
 is_usage 'an address beyond 16 bits' excite ../inputs/given.ts 65536 0 out.sym out.log
 is_usage 'a delay beyond 32 bits' excite ../inputs/given.ts 7 4294967296 out.sym out.log
+is_usage '`repeat` with a word too few' repeat ../inputs/given.ts 7 0 out.sym
+is_usage '`repeat` with a word too many' repeat ../inputs/given.ts 7 0 out.sym out.log more
+is_usage 'an address of a repeater beyond 16 bits' repeat ../inputs/given.ts 65536 0 out.sym out.log
+is_usage 'a scale below 1' acquire 0 ../inputs/given.ts out.sym
+is_usage 'a scale beyond 18' acquire 19 ../inputs/given.ts out.sym
 is_usage '`net` alone' net
 is_usage '`net` with a word too many' net plan more
 is_usage '`net` with an empty plan' net ''
@@ -92,6 +98,9 @@ code
 receive
 place
 soft
+mend
+watch
+acquire 1
 dvb code
 dvb read
 end
@@ -118,6 +127,10 @@ feed_and_log ../inputs/given.ts out.sym ../inputs/given.ts ../inputs/given.ts
 symbols_and_log ../inputs/given.ts out.sym out.sym out.sym
 two_that_are_missing missing missing out.log missing
 end
+
+start 'equal names of `repeat`'
+run 3 'same ../inputs/given.ts' repeat ../inputs/given.ts 7 0 out.sym ../inputs/given.ts
+leaves_nothing
 
 start 'equal names of `receive`'
 run 3 'same ../inputs/given.ts' receive ../inputs/given.ts ../inputs/given.ts

@@ -12,7 +12,7 @@ import subprocess
 import sys
 import tempfile
 
-from reference import FIELD, FRAME, PACKET, adapted, coded, is_placeholder, packets_of, read, try_each
+from reference import FIELD, FRAME, PACKET, TWO_SITES, adapted, coded, is_placeholder, packets_of, read, try_each
 
 ADDRESSES = (7, 9, 8)
 DELAYS = (0, 1000, 4_999_990, 4_999_991, 5_000_025, 5_000_026)
@@ -185,15 +185,15 @@ def excited(packets, address, delay):
     return symbols, "".join(each + "\n" for each in lines), f"packets {len(packets)} {numbers} loose 0\n"
 
 
-def made_feed(chance, count, share=0.1):
-    """A feed of random packets, of which a share are operations packets."""
+def made_feed(chance, count, share=0.1, plan=TWO_SITES):
+    """A feed of random packets under a plan, of which a share are operations packets."""
     stream = bytearray()
     for _ in range(count):
         if chance.random() < share:
             stream += b"\x47\x1f\xfa\x10" + bytes(184)
         else:
             stream += b"\x47\x00\x31\x10" + chance.randbytes(184)
-    return packets_of(adapted(bytes(stream)))
+    return packets_of(adapted(bytes(stream), plan))
 
 
 def spoiled(chance, packet):
@@ -259,7 +259,7 @@ def astray(chance, packets):
             packets[beside] = with_sync(packets[beside], 0xB8)
         if luck < 0.45:
             packets[k] = with_sync(packets[k], chance.choice((0x47, 0x47, 0x00, 0xB9, 0x38)))
-    for k in chance.sample(range(len(packets)), chance.choice((0, 0, 0, 1, 6, 40))):
+    for k in chance.sample(range(len(packets)), min(len(packets), chance.choice((0, 0, 0, 1, 6, 40)))):
         packets[k] = with_sync(packets[k], 0xB8)
     return packets
 

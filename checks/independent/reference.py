@@ -305,6 +305,23 @@ def zeros(count):
     return b"".join(b"\x47" + WHITE[187 * place : 187 * place + 187] for place in (k % FIELD for k in range(count)))
 
 
+def kinds_missing(met, tries, what="lists"):
+    """What is wrong with random tries where one of the kinds that were counted never came."""
+    for kind, number in met.items():
+        if not number:
+            yield f"all {what}", [f"none of {tries} is one of kind '{kind}'"]
+
+
+def answer_file(answer, source, target):
+    """Writes what is made of a file's bytes, prints the line, and gives the status that follows it."""
+    with open(source, "rb") as file:
+        made, line = answer(file.read())
+    with open(target, "wb") as file:
+        file.write(made)
+    print(line)
+    return 10 if line == "no sync" else 0
+
+
 def try_each(name, cases):
     """Goes through cases, each with what it is and what is wrong with it: names those that failed, and ends with their numbers."""
     passed = failed = 0

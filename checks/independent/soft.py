@@ -13,7 +13,7 @@ import tempfile
 
 from network import differences
 from receiver import LEVELS, SEGMENT, looks, runs_of
-from reference import FIELD, PACKET, try_each
+from reference import FIELD, PACKET, answer_file, kinds_missing, try_each
 from splices import coded_segments, cut_place, made_list
 
 STATES = range(4)
@@ -23,9 +23,9 @@ def signed(byte):
     return byte - 256 if byte > 127 else byte
 
 
-def square(byte, level):
-    """The square of how far a symbol is from that of a level."""
-    return (signed(byte) - (2 * level - 7)) ** 2
+def square(byte, level, scale=1):
+    """The square of how far a symbol is from that of a level, at so many steps a unit."""
+    return (signed(byte) - scale * (2 * level - 7)) ** 2
 
 
 def behind(state, level):
@@ -60,13 +60,13 @@ def least_of_all(symbols):
 
 # ---- The table ----
 
-def steps(byte, state):
+def steps(byte, state, scale=1):
     """What a path may do with a symbol in a state: the state behind it, the square and the level. Of two levels that lead to one state
     the nearer one is kept, and of two that are as near the smaller one."""
     kept = []
     for low in (state >> 1, 2 + (state >> 1)):
-        level = min((low, low + 4), key=lambda each: (square(byte, each), each))
-        kept.append((behind(state, level), square(byte, level), level))
+        level = min((low, low + 4), key=lambda each: (square(byte, each, scale), each))
+        kept.append((behind(state, level), square(byte, level, scale), level))
     return kept
 
 
@@ -74,16 +74,20 @@ STEPS = [[steps(byte, state) for state in STATES] for byte in range(256)]
 
 
 def least(symbols):
+    return least_over(symbols, STEPS)
+
+
+def least_over(symbols, moves):
     """The same by a table, which is filled from the end: for each symbol and state, what the least path costs from there on."""
     costs = [0, 0, 0, 0]
     table = [costs]
     for symbol in reversed(symbols):
-        costs = [min(costs[to] + far, costs[other] + less) for (to, far, _), (other, less, _) in STEPS[symbol]]
+        costs = [min(costs[to] + far, costs[other] + less) for (to, far, _), (other, less, _) in moves[symbol]]
         table.append(costs)
     cost, start = min((cost, state) for state, cost in enumerate(costs))
     state, levels = start, []
     for symbol, costs, left in zip(symbols, table[::-1], table[-2::-1]):
-        level, state = min((level, to) for to, far, level in STEPS[symbol][state] if far + left[to] == costs[state])
+        level, state = min((level, to) for to, far, level in moves[symbol][state] if far + left[to] == costs[state])
         levels.append(level)
     return cost, start, tuple(levels)
 
@@ -207,17 +211,10 @@ def cases(dtx, lists):
         symbols = with_noise(chance, random_list(chance, coded, number % 4 == 0))
         symbols = symbols[: cut_place(chance, symbols) if chance.random() < 0.3 else None]
         yield f"{len(symbols)} bytes", wrongs(dtx, symbols, met)
-    for kind, number in met.items():
-        if not number:
-            yield "all lists", [f"none of {lists} is one of kind '{kind}'"]
+    yield from kinds_missing(met, lists)
 
 
 if __name__ == "__main__":
     if sys.argv[1] == "soft":
-        with open(sys.argv[2], "rb") as file:
-            answer, told = soft(file.read())
-        with open(sys.argv[3], "wb") as file:
-            file.write(answer)
-        print(told)
-    else:
-        sys.exit(try_each("soft", cases(sys.argv[1], int(sys.argv[2]))))
+        sys.exit(answer_file(soft, *sys.argv[2:]))
+    sys.exit(try_each("soft", cases(sys.argv[1], int(sys.argv[2]))))

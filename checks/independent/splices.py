@@ -13,7 +13,7 @@ import tempfile
 
 from exciter import coded_group, field_sync
 from network import differences
-from receiver import LEVELS, SEGMENT, looks, received
+from receiver import LEVELS, SEGMENT, looks, received, told
 from reference import FIELD, PACKET, coded, try_each
 
 # How long a stretch is: around the segments with which packets come, and around those at which a field sync is due.
@@ -80,11 +80,7 @@ def cut_place(chance, symbols):
 def answer(symbols):
     """The packets and the line of a symbol file."""
     made = received(symbols)
-    if made is None:
-        return b"", "no sync"
-    runs, packets, fixed, flagged = made[1]
-    whole, loose = divmod(len(symbols), SEGMENT)
-    return made[0], f"segments {whole} runs {runs} packets {packets} fixed {fixed} flagged {flagged} loose {loose}"
+    return told(symbols, made)
 
 
 def wrongs(dtx, first, second, cut):

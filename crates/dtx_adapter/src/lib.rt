@@ -5,10 +5,6 @@
 mod adapter;
 mod filler;
 pub mod laws;
-#[cfg(test)]
-mod ops_tests;
 mod page;
-#[cfg(test)]
-mod tests;
 
 pub use adapter::Adapter;

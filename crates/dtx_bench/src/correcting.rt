@@ -72,7 +72,7 @@ fn print_time(
     Ok(())
 }
 
-fn codewords_of(code: &Rs<WORD, DATA>) -> [[u8; WORD]; CODEWORDS] {
+pub fn codewords_of(code: &Rs<WORD, DATA>) -> [[u8; WORD]; CODEWORDS] {
     let mut codewords = [[0; WORD]; CODEWORDS];
     for i in 0..CODEWORDS {
         code.encode(&[i as u8; DATA], &mut codewords[i]);
@@ -100,7 +100,7 @@ fn correct(
 }
 
 /// Makes so many bytes wrong, at most twelve, at places and by values that go with the word's number.
-fn damage(word: &mut [u8; WORD], number: usize, wrong: usize) {
+pub fn damage(word: &mut [u8; WORD], number: usize, wrong: usize) {
     let start = number % 16;
     for i in 0..wrong.min(12) {
         word[start + 17 * i] ^= (16 * i + start) as u8 | 1;

@@ -2,21 +2,27 @@
 // own. Without a word it prints what the encoder's work gives.
 #![tactic(auto)]
 
+mod certifying;
 mod coding;
 mod comparing;
 mod correcting;
 mod groups;
+mod mending;
+mod receiving;
 mod sending;
 mod spreading;
 mod times;
 mod whitening;
 mod work;
 
+use certifying::print_proves_times;
 use coding::print_outer_times;
 use comparing::print_comparison;
 use correcting::print_correct_times;
 use dtx_rs::Rs;
 use groups::print_trellis_times;
+use mending::print_mend_times;
+use receiving::print_receive_times;
 use sending::print_group_times;
 use spreading::print_spread_times;
 use std::rt::Clock;
@@ -47,8 +53,11 @@ fn main(rt: HostRuntime) -> io::Result<()> {
         Some(word) if word.as_str() == "outer" => print_outer_times(&rt, rt.alloc()),
         Some(word) if word.as_str() == "trellis" => print_trellis_times(&rt),
         Some(word) if word.as_str() == "group" => print_group_times(&rt, rt.alloc()),
+        Some(word) if word.as_str() == "proves" => print_proves_times(&rt, rt.alloc()),
+        Some(word) if word.as_str() == "receive" => print_receive_times(&rt, rt.alloc()),
+        Some(word) if word.as_str() == "mend" => print_mend_times(&rt, &code),
         Some(_) => println!(rt;
-            "usage: dtx_bench [encode | correct | compare | whiten | spread | outer | trellis | group]"
+            "usage: dtx_bench [encode|correct|compare|whiten|spread|outer|trellis|group|proves|receive|mend]"
         ),
     }
 }

@@ -5,7 +5,7 @@ use Rattle.std.specs.List.{range_with_len, flat_map, filter, list_all}
 use Rattle.std.proofs.lemmas.List.{append-nil, length-append, length-drop, get_or-drop}
 use Rattle.std.proofs.lemmas.Simd.{map-map}
 use Rattle.std.proofs.lemmas.List.FromFn.{length-map-range_with_len}
-use Rattle.dtx_outer.specs.Inner.{word_at}
+use Rattle.dtx_outer.specs.Inner.{IsComplete}
 use Rattle.dtx_slice.specs.Slicing.{sliced_data}
 use Rattle.dtx_slice.specs.Unrolled.{level_groups, byte_back, bytes_back}
 use Rattle.dtx_coder.specs.Stream.{a53}
@@ -100,29 +100,39 @@ number_within ps first sent got r l j m =
 
 -- ---- its packets
 
-from_run : (ps : List (List ℕ)) (first : ℕ) (sent got : List (List ℤ)) → AreReceived ps first sent got
-    → to_sync first < length sent → IsSlight ps first sent got → ArePackets ps
-    → run_packets (bytes_in (from_sync first got))
+-- of any way from words to packets that gives those of the stream back
+pub run_back : (ps : List (List ℕ)) (first : ℕ) (sent got : List (List ℤ)) (at : ℕ → Received)
+    → AreReceived ps first sent got → to_sync first < length sent
+    → ((j : ℕ) → packet_behind first + j < length ps → IsComplete 207 52 4 (828 * groups_of (from_sync first got)) j
+    → at j ≡ as_corrected ps (packet_behind first + j) (word_in first got j))
+    → map at (filter (is_complete (length (bytes_in (from_sync first got))))
+    (range_with_len 0 (length (bytes_in (from_sync first got)) / 207)))
     ≡ map (λ j. as_corrected ps (packet_behind first + j) (word_in first got j)) (numbers_in (from_sync first got))
-unfolding run_packets numbers_in word_in
-from_run ps first sent got r l h p =
-    ap (λ n. map (received_at bytes) (filter (is_complete n) (range_with_len 0 (n / 207))))
+unfolding numbers_in
+run_back ps first sent got at r l h =
+    ap (λ n. map at (filter (is_complete n) (range_with_len 0 (n / 207))))
     (run_bytes (from_sync first got) (run_long ps first sent got r))
-    ∙ ap (λ n. map (received_at bytes) (filter (is_complete (828 * groups)) (range_with_len 0 n))) (count groups)
-    ∙ map-filter_same (received_at bytes) (λ j. as_corrected ps (packet_behind first + j) (word_at 207 52 4 bytes j))
+    ∙ ap (λ n. map at (filter (is_complete (828 * groups)) (range_with_len 0 n))) (count groups)
+    ∙ map-filter_same at (λ j. as_corrected ps (packet_behind first + j) (word_in first got j))
     (is_complete (828 * groups)) 0 (4 * groups)
-    (λ j _ b t. corrected_back ps bytes (packet_behind first) j p (field_begins first)
-    (number_within ps first sent got r l j (omega (arith, b)))
-    (h.words j ((complete_told (828 * groups) j).0 t)))
+    (λ j _ b t. h j (number_within ps first sent got r l j (omega (arith, b)))
+    ((complete_told (828 * groups) j).0 t))
   where
-    bytes : List ℕ
-    bytes = bytes_in (from_sync first got)
-
     groups : ℕ
     groups = groups_of (from_sync first got)
 
     count : (g : ℕ) → 828 * g / 207 ≡ 4 * g
     count g = omega arith
+
+from_run : (ps : List (List ℕ)) (first : ℕ) (sent got : List (List ℤ)) → AreReceived ps first sent got
+    → to_sync first < length sent → IsSlight ps first sent got → ArePackets ps
+    → run_packets (bytes_in (from_sync first got))
+    ≡ map (λ j. as_corrected ps (packet_behind first + j) (word_in first got j)) (numbers_in (from_sync first got))
+unfolding run_packets word_in
+from_run ps first sent got r l h p =
+    run_back ps first sent got (received_at (bytes_in (from_sync first got))) r l
+    (λ j m c. corrected_back ps (bytes_in (from_sync first got)) (packet_behind first) j p (field_begins first) m
+    (h.words j c))
 
 pub all_good : (ps : List (List ℕ)) (first : ℕ) (sent got : List (List ℤ)) → AreReceived ps first sent got
     → to_sync first < length sent → IsSlight ps first sent got → ArePackets ps
@@ -130,11 +140,11 @@ pub all_good : (ps : List (List ℕ)) (first : ℕ) (sent got : List (List ℤ))
     (numbers_in (from_sync first got))
 unfolding all_packets
 all_good ps first sent got r l h p =
-    ap (flat_map (λ run. run_packets (bytes_in run))) (one_run_left ps first sent got r l h)
+    ap (flat_map (λ run. run_packets (bytes_in run))) (one_run_left ps first sent got r l h.found)
     ∙ append-nil (run_packets (bytes_in (from_sync first got)))
     ∙ from_run ps first sent got r l h p
 
-corrected_bytes : (ps : List (List ℕ)) (f : ℕ) (word : ℕ → List ℕ) (js : List ℕ)
+pub corrected_bytes : (ps : List (List ℕ)) (f : ℕ) (word : ℕ → List ℕ) (js : List ℕ)
     → map (λ (r : Received). r.packet.0) (map (λ j. as_corrected ps (f + j) (word j)) js)
     ≡ map (λ j. as_received (get_or ps (f + j) [])) js
 unfolding as_corrected
@@ -148,7 +158,7 @@ all_back ps first sent got r l h p =
     ap (map (λ (r : Received). r.packet.0)) (all_good ps first sent got r l h p)
     ∙ corrected_bytes ps (packet_behind first) (word_in first got) (numbers_in (from_sync first got))
 
-corrected_good : (ps : List (List ℕ)) (f : ℕ) (word : ℕ → List ℕ) (js : List ℕ)
+pub corrected_good : (ps : List (List ℕ)) (f : ℕ) (word : ℕ → List ℕ) (js : List ℕ)
     → list_all (λ (r : Received). r.good) (map (λ j. as_corrected ps (f + j) (word j)) js) ≡ true
 unfolding as_corrected
 corrected_good ps f word [] = refl

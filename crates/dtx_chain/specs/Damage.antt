@@ -72,13 +72,17 @@ numbers_in run = filter (is_complete (828 * groups_of run)) (range_with_len 0 (4
 unfoldable pub word_in : ℕ → List (List ℤ) → ℕ → List ℕ
 word_in first got j = word_at 207 52 4 (bytes_in (from_sync first got)) j
 
--- Damage that is slight.
-pub record IsSlight (packets : List (List ℕ)) (first : ℕ) (sent got : List (List ℤ)) : Type 0 where
+-- The field syncs of segments in a row of a stream, from one on, are found among those received.
+pub record AreFound (first : ℕ) (sent got : List (List ℤ)) : Type 0 where
   -- Each field sync looks like one as it was received.
   pub syncs : (i : ℕ) → i < length sent → (first + i) % 313 ≡ 0 → looks_at got i ≡ true
   -- No data segment before the first field sync has more than 31 damaged symbols among its first 515.
   pub before : (i : ℕ) → i < length sent → i < to_sync first
       → damaged_symbols (slice_index_or sent i []) (slice_index_or got i []) ≤ 31
+
+-- Damage that is slight.
+pub record IsSlight (packets : List (List ℕ)) (first : ℕ) (sent got : List (List ℤ)) : Type 0 where
+  pub found : AreFound first sent got
   -- Each word of the run from the first field sync on whose bytes are all there is near the codeword of its packet.
   pub words : (j : ℕ) → IsComplete 207 52 4 (828 * groups_of (from_sync first got)) j
       → IsNear packets (packet_behind first + j) (word_in first got j)

@@ -1,6 +1,7 @@
 pub mod Undamaged
 pub mod Damage
 pub mod NumbersLaws
+pub mod RunsLaws
 pub mod WordsLaws
 pub mod SlightLaws
 pub mod AllBackLaws

@@ -105,10 +105,12 @@ near_at ps first sent j r p c (inr l) =
 pub is_slight : (ps : List (List ℕ)) (first : ℕ) (sent : List (List ℤ)) → AreReceived ps first sent sent
     → ArePackets ps → IsSlight ps first sent sent
 is_slight ps first sent r p = record {
-  syncs = λ i m z.
-      ap looks_like (sent_at ps first sent sent r i m)
-      ∙ syncs_look ps (first + i) (omega (arith, m, sent_within ps first sent sent r (omega (arith, m)))) z;
-  before = λ i _ _. omega (arith, none_damaged (get_or sent i []));
+  found = record {
+    syncs = λ i m z.
+        ap looks_like (sent_at ps first sent sent r i m)
+        ∙ syncs_look ps (first + i) (omega (arith, m, sent_within ps first sent sent r (omega (arith, m)))) z;
+    before = λ i _ _. omega (arith, none_damaged (get_or sent i []));
+  };
   words = λ j c. near_at ps first sent j r p c (cases_lt (to_sync first) (length sent));
 }
 
@@ -120,8 +122,7 @@ pub slight_before : (ps : List (List ℕ)) (first : ℕ) (sent got : List (List 
     → IsSlight ps first sent got
 unfolding word_in from_sync
 slight_before ps first sent got r p same few = record {
-  syncs = λ i m z. looks i m z (cases_lt i (to_sync first));
-  before = few;
+  found = record { syncs = λ i m z. looks i m z (cases_lt i (to_sync first)); before = few };
   words = λ j c.
       subst (IsNear ps (packet_behind first + j))
       (ap (λ (xs : List (List ℤ)). word_at 207 52 4 (bytes_in xs) j) (sym same))
@@ -139,4 +140,4 @@ slight_before ps first sent got r p same few = record {
         ap looks_like (ap (λ n. get_or got n []) (sym e) ∙ sym (get_or-drop (to_sync first) got (i - to_sync first) [])
         ∙ ap (λ (xs : List (List ℤ)). get_or xs (i - to_sync first) []) same
         ∙ get_or-drop (to_sync first) sent (i - to_sync first) [] ∙ ap (λ n. get_or sent n []) e)
-        ∙ own.syncs i m z
+        ∙ own.found.syncs i m z

@@ -55,13 +55,18 @@ filtered_at f p a (suc n) (suc j) d l h =
     ∙ filtered_at f p (a + 1) n j d (omega arith) (λ i m o. h i (omega arith) (omega arith))
     ∙ ap f z
 
-pub number_at : (y : List ℕ) (j : ℕ) (other : Received) → IsComplete 207 52 4 (length y) j
-    → get_or (run_packets y) j other ≡ received_at y j
-unfolding run_packets
-number_at y j other c =
-    filtered_at (received_at y) (is_complete (length y)) 0 (length y / 207) j other (within (c 206 (omega arith)))
+-- the packets of a run's complete words, in any way from words to packets
+pub number_of : (y : List ℕ) (at : ℕ → Received) (j : ℕ) (other : Received) → IsComplete 207 52 4 (length y) j
+    → get_or (map at (filter (is_complete (length y)) (range_with_len 0 (length y / 207)))) j other ≡ at j
+number_of y at j other c =
+    filtered_at at (is_complete (length y)) 0 (length y / 207) j other (within (c 206 (omega arith)))
     (λ i _ m. (complete_told (length y) i).1 (complete_up_to (length y) j i c (omega (arith, m))))
-    ∙ ap (received_at y) (zero-add j)
+    ∙ ap at (zero-add j)
   where
     within : codeword_byte_place 52 4 (207 * j + 206) < length y → j < length y / 207
     within h = omega (arith, h)
+
+pub number_at : (y : List ℕ) (j : ℕ) (other : Received) → IsComplete 207 52 4 (length y) j
+    → get_or (run_packets y) j other ≡ received_at y j
+unfolding run_packets
+number_at y j other c = number_of y (received_at y) j other c

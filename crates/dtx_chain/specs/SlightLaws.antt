@@ -18,7 +18,7 @@ use Rattle.dtx_receiver.specs.Runs.{runs}
 use Rattle.dtx_receiver.specs.Intervals.{NoneLooks, IsRun, AreRuns, segments_in}
 use Rattle.dtx_receiver.specs.IntervalsLaws.{are_runs, only_runs}
 use Rattle.dtx_receiver.specs.SegmentsLaws.{place_data}
-use Rattle.dtx_chain.specs.Damage.{damage_at, damaged_symbols, AreReceived, IsSlight, to_sync, from_sync, packet_behind}
+use Rattle.dtx_chain.specs.Damage.{damage_at, damaged_symbols, AreFound, AreReceived, to_sync, from_sync, packet_behind}
 use Rattle.dtx_chain.specs.PlacesLaws.{data_at_place}
 
 -- ---- data segments
@@ -118,8 +118,7 @@ behind_sync first = by_turns (first + to_sync first) (sync_first first)
 -- ---- one run
 
 pub one_run_left : (ps : List (List ℕ)) (first : ℕ) (sent got : List (List ℤ)) → AreReceived ps first sent got
-    → to_sync first < length sent → IsSlight ps first sent got
-    → runs got ≡ from_sync first got ∷ []
+    → to_sync first < length sent → AreFound first sent got → runs got ≡ from_sync first got ∷ []
 unfolding from_sync
 one_run_left ps first sent got r l h =
     (are_runs got).2

@@ -6,5 +6,3 @@ pub mod laws;
 mod outer_blocks;
 #[cfg(test)]
 mod outer_ways;
-#[cfg(test)]
-mod tests;

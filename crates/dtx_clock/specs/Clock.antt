@@ -1,8 +1,8 @@
 -- Stamps, holds and moments (the profile's own). A second has 10,000,000 ticks, and a tick 1,539 grains. The symbol
 -- rate is 4.5 MHz * 684 / 286 (ATSC A/53 Part 2), so a symbol lasts 1,430 grains, a segment 1,189,760 and a frame
 -- 744,789,760.
-use Rattle.std.specs.Prelude.{◌≡◌, ℕ, ◌+◌, ◌*◌, ◌/◌, ◌%◌, nat_lt, if◌then◌else◌, ℤ, pos, ◌+ℤ◌, ◌-ℤ◌, ◌*ℤ◌, ◌<ℤ◌, Result}
-use Rattle.std.specs.Prelude.{Ok, Err, unsigned_abs}
+use Rattle.std.specs.Prelude.{◌≡◌, ℕ, ◌+◌, ◌-◌, ◌*◌, ◌/◌, ◌%◌, ◌==◌, ◌||◌, nat_lt, Bool, if◌then◌else◌, ℤ, pos, ◌+ℤ◌}
+use Rattle.std.specs.Prelude.{◌-ℤ◌, ◌*ℤ◌, ◌<ℤ◌, Result, Ok, Err, unsigned_abs}
 use Rattle.std.specs.Int.{int_rem_euclid}
 use Rattle.dtx_clock.specs.declared.answers.Late.{Late}
 use Rattle.dtx_clock.specs.declared.answers.Moment.{Moment}
@@ -10,6 +10,13 @@ use Rattle.dtx_clock.specs.declared.answers.Moment.{Moment}
 -- the stamp of a frame, by one division of the whole sum: rounded lengths of frames would add up to less
 abbrev pub stamp_of : ℕ → ℕ → ℕ
 stamp_of start frame = (start * 1539 + frame * 744789760) / 1539 % 10000000
+
+-- whether a clock that runs gets from one stamp to another in so many frames: what lies between the two, modulo one
+-- second, is the length of the frames by one division, rounded down or up
+abbrev pub runs : ℕ → ℕ → ℕ → Bool
+runs from to frames =
+    ((to + 10000000 - from % 10000000) % 10000000 == frames * 744789760 / 1539 % 10000000)
+    || ((to + 10000000 - from % 10000000) % 10000000 == (frames * 744789760 + 1538) / 1539 % 10000000)
 
 -- what is left of the sum of maximum delay and offset behind the delay, or late where the delay is greater than that
 -- sum

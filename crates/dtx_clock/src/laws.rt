@@ -1,7 +1,12 @@
-//! Laws of moments.
+//! Laws of stamps and moments.
 
-ghost use Rattle.std.specs.Prelude.{◌≡◌, ℕ, ◌+◌, ◌*◌, ◌<◌, ℤ, pos, ◌-ℤ◌, ◌*ℤ◌};
-ghost use Rattle.dtx_clock.specs.Clock.{grains_of, moment_of, DifferBy};
+ghost use Rattle.std.specs.Prelude.{◌≡◌, ℕ, ◌+◌, ◌*◌, ◌<◌, true, ℤ, pos, ◌-ℤ◌, ◌*ℤ◌};
+ghost use Rattle.dtx_clock.specs.Clock.{stamp_of, runs, grains_of, moment_of, DifferBy};
+
+/// The stamps of two frames are apart as a clock runs, whatever the tick at which frame 0 begins.
+pub fn stamps_run()
+    ensures { (start frame frames : ℕ) → runs (stamp_of start frame) (stamp_of start (frame + frames)) frames ≡ true }
+{}
 
 /// The moments of one packet at two transmitters differ by the difference of their offsets, in ticks of 1539 grains,
 /// and otherwise by whole seconds.

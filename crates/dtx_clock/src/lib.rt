@@ -8,4 +8,4 @@ mod tests;
 mod times;
 
 pub use answers::{Late, Moment};
-pub use times::{hold, moment, stamp};
+pub use times::{hold, moment, runs, stamp};

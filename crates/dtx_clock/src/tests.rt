@@ -1,6 +1,6 @@
 //! Worked numbers of the clock.
 
-use crate::{Late, Moment, hold, moment, stamp};
+use crate::{Late, Moment, hold, moment, runs, stamp};
 
 #[test]
 fn stamps_of_frames_come_from_one_division(rt: HostRuntime) {
@@ -15,6 +15,35 @@ fn stamps_of_frames_come_from_one_division(rt: HostRuntime) {
     ];
     for (start, frame, tick) in cases {
         assert_eq!(rt; stamp(start, frame), tick, "frame {frame} from {start}");
+    }
+}
+
+#[test]
+fn a_clock_runs_by_the_length_of_frames_rounded_down_or_up(rt: HostRuntime) {
+    let cases = [
+        // 1 frame lasts 483,943 ticks and 1,483 grains
+        (0, 483943, 1, true),
+        (0, 483944, 1, true),
+        (0, 483942, 1, false),
+        (0, 483945, 1, false),
+        // 21 frames last more than a second, and no sum of rounded frames
+        (0, 162823, 21, true),
+        (0, 162824, 21, true),
+        (0, 162803, 21, false),
+        // over the end of a second
+        (9999999, 483942, 1, true),
+        (7, 7, 0, true),
+        (7, 8, 0, false),
+        // 1,539 frames last whole ticks
+        (0, 4789760, 1539, true),
+        (0, 4789761, 1539, false),
+    ];
+    for (from, to, frames, is_right) in cases {
+        assert_eq!(rt;
+            runs(from, to, frames),
+            is_right,
+            "{from} to {to} in {frames}"
+        );
     }
 }
 

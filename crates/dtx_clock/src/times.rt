@@ -1,6 +1,6 @@
 // Stamps, holds and moments (ATSC A/110, the time of emission; the counting is the profile's own).
 ghost use Rattle.std.specs.Prelude.{◌≡◌, ◌<◌};
-ghost use Rattle.dtx_clock.specs.Clock.{stamp_of, segment_of, count_of, grains_of, moment_of, IsHold};
+ghost use Rattle.dtx_clock.specs.Clock.{stamp_of, runs, segment_of, count_of, grains_of, moment_of, IsHold};
 ghost use Rattle.dtx_sizes.specs.declared.fields.TheConstants.{FRAME_PACKETS};
 ghost use Rattle.dtx_sizes.specs.declared.limits.TheConstants.{MOST_FRAMES, SECOND_TICKS};
 
@@ -28,6 +28,17 @@ pub fn stamp(start: u32, frame: u32) -> u32
 {
     let grains = start as u64 * TICK + frame as u64 * FRAME;
     (grains / TICK % SECOND_TICKS as u64) as u32
+}
+
+/// Whether a clock that runs gets from the stamp `from` to the stamp `to` in so many frames: what lies between the two,
+/// modulo one second, is the length of the frames by one division, rounded down or up.
+pub fn runs(from: u32, to: u32, frames: u32) -> bool
+    ensures { result ≡ runs from to frames }
+{
+    let second = SECOND_TICKS as u64;
+    let ticks = (to as u64 + second - from as u64 % second) % second;
+    let grains = frames as u64 * FRAME;
+    ticks == grains / TICK % second || ticks == (grains + (TICK - 1)) / TICK % second
 }
 
 /// For how many ticks a transmitter of that offset, to which the feed takes `delay` ticks, holds what it sends:

@@ -1,9 +1,8 @@
 -- The codewords of packets, one after another.
-use Rattle.std.proofs.Common.{◌≡◌, ℕ, ◌+◌, ◌*◌, ◌%◌, ◌<◌, ◌≤◌, List, [], ◌∷◌, ◌++◌, length, map, get_or, take, drop}
+use Rattle.std.proofs.Common.{◌≡◌, ℕ, ◌+◌, ◌*◌, ◌%◌, ◌<◌, List, [], ◌∷◌, ◌++◌, length, map, get_or, take, drop}
 use Rattle.std.proofs.Common.{refl, lit<, sym, ap, ap₂, ◌∙◌, arith}
-use Rattle.std.proofs.lemmas.List.{append-nil, length-append, length-drop, length-map, length-take-le, map_more}
+use Rattle.std.proofs.lemmas.List.{append-nil, length-drop, length-map, length-take-le, map_more}
 use Rattle.std.proofs.lemmas.List.{take_all}
-use borrow.Rule.Slice.PartMut.{put_mid}
 use Rattle.dtx_laws.specs.Words.{codeword}
 use Rattle.dtx_laws.specs.Branches.{spreading, after_all}
 use Rattle.dtx_laws.specs.Whitening.{whitened}
@@ -49,18 +48,3 @@ atsc_aligned outer a = record { white = a.white; widths = HasWidths-aligned 52 (
 pub atsc_after : (outer : Held) (x : List ℕ) → IsAtsc outer
     → IsAtsc (record outer { branches = after_all 52 outer.branches x })
 atsc_after outer x a = record { white = a.white; widths = HasWidths-all 52 (spreading 4) outer.branches x a.widths }
-
--- a write to a part keeps a list's length
-pub length-put_mid : {A : Type 0} (a k : ℕ) (xs ys : List A) → a + k ≤ length xs → length ys ≡ k
-    → length (put_mid a k xs ys) ≡ length xs
-length-put_mid a k xs ys l e =
-    length-append (take a xs) (ys ++ drop k (drop a xs))
-    ∙ omega (
-      arith,
-      l,
-      e,
-      length-take-le a xs (omega (arith, l)),
-      length-append ys (drop k (drop a xs)),
-      length-drop k (drop a xs),
-      length-drop a xs,
-    )

@@ -1,10 +1,10 @@
 -- The coded and interleaved bytes of packets that stand behind other packets.
-use Rattle.std.proofs.Common.{◌≡◌, ℕ, suc, ◌+◌, ◌*◌, ◌/◌, ◌%◌, List, [], ◌∷◌, ◌++◌, length, take, drop, map, get_or}
-use Rattle.std.proofs.Common.{bit_xor, refl, sym, ap, ap₂, ◌∙◌, arith, lit<, add-zero, zero-add}
-use Rattle.std.specs.List.{enumerate_from, flat_map, range_with_len}
+use Rattle.std.proofs.Common.{◌≡◌, ℕ, ◌+◌, ◌*◌, ◌/◌, ◌%◌, ◌<◌, List, [], ◌∷◌, ◌++◌, length, take, drop, map, get_or}
+use Rattle.std.proofs.Common.{bit_xor, refl, sym, ap, ap₂, ◌∙◌, arith, lit<, zero-add}
+use Rattle.std.specs.List.{range_with_len}
 use Rattle.std.proofs.lemmas.List.{append-nil, length-append, length-take-le, take_all, take_at, take-take}
 use Rattle.std.proofs.lemmas.List.{take-append-drop}
-use Rattle.std.proofs.lemmas.Grind.{flat_map-append}
+use Rattle.dtx_lists.proofs.Enumerated.{pieces_append, length-pieces, piece_at}
 use Rattle.dtx_laws.specs.Words.{codeword}
 use Rattle.dtx_laws.specs.Branches.{leaving_all, after_all}
 use Rattle.dtx_laws.specs.Interleaving.{interleaved}
@@ -21,21 +21,10 @@ use Rattle.dtx_coder.specs.Groups.{zero_branches}
 abbrev code : ℕ × List ℕ → List ℕ
 code p = codeword 207 187 (randomized p.0 p.1)
 
-enumerate_append : {X : Type 0} (n : ℕ) (xs ys : List X)
-    → enumerate_from n (xs ++ ys) ≡ enumerate_from n xs ++ enumerate_from (n + length xs) ys
-enumerate_append n [] ys = ap (λ k. enumerate_from k ys) (sym (add-zero n))
-enumerate_append n (x ∷ xs) ys =
-    ap (λ zs. (n, x) ∷ zs) (enumerate_append (n + 1) xs ys
-    ∙ ap (λ k. enumerate_from (n + 1) xs ++ enumerate_from k ys) (further n (length xs)))
-  where
-    further : (n m : ℕ) → n + 1 + m ≡ n + suc m
-    further n m = omega arith
-
 pub coded_append : (k : ℕ) (ps qs : List (List ℕ))
     → coded_from k (ps ++ qs) ≡ coded_from k ps ++ coded_from (k + length ps) qs
 unfolding coded_from
-coded_append k ps qs = ap (flat_map code) (enumerate_append k ps qs)
-    ∙ flat_map-append code (enumerate_from k ps) (enumerate_from (k + length ps) qs)
+coded_append k ps qs = pieces_append code k ps qs
 
 -- the randomizer begins anew with each field
 pub coded_place : (j k : ℕ) (ps : List (List ℕ)) → j % 312 ≡ k % 312 → coded_from j ps ≡ coded_from k ps
@@ -52,14 +41,13 @@ length-codeword k p = codeword_length 207 187 (randomized k p) ∙ ap (λ n. n +
 
 pub length-coded : (k : ℕ) (ps : List (List ℕ)) → length (coded_from k ps) ≡ 207 * length ps
 unfolding coded_from
-length-coded k [] = refl
-length-coded k (p ∷ ps) =
-    length-append (codeword 207 187 (randomized k p)) (coded_from (k + 1) ps)
-    ∙ ap₂ (λ (x y : ℕ). x + y) (length-codeword k p) (length-coded (k + 1) ps)
-    ∙ more (length ps)
-  where
-    more : (n : ℕ) → 207 + 207 * n ≡ 207 * suc n
-    more n = omega arith
+length-coded k ps = length-pieces code 207 k ps length-codeword
+
+-- the codeword of packet k stands there
+pub coded_at : (s : ℕ) (ps : List (List ℕ)) (k : ℕ) → k < length ps
+    → take 207 (drop (207 * k) (coded_from s ps)) ≡ codeword 207 187 (randomized (s + k) (get_or ps k []))
+unfolding coded_from
+coded_at s ps k l = piece_at code 207 s ps k [] length-codeword l
 
 -- from zeros in every branch what leaves is the map of places
 leaving_zeros : (x : List ℕ) → leaving_all 52 zero_branches x ≡ interleaved 52 4 x

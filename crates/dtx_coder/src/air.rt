@@ -53,6 +53,7 @@ impl Air {
         ensures segments { self.new.segments ≡ self.old.segments + GROUP_PACKETS }
         ensures symbols { take (SEGMENT * self.new.segments) self.new.symbols
             ≡ take (SEGMENT * self.old.segments) self.old.symbols ++ symbols_of (four_segments levels.now 0) }
+        ensures long { length levels.now ≡ GROUP_LEVELS }
     {
         let (parts, _) = levels.as_chunks::<SEGMENT_LEVELS>();
         for part in parts {

@@ -8,9 +8,11 @@ ghost use Rattle.dtx_coder.specs.Runs.{AreStates};
 
 use crate::air::Air;
 use crate::outer_coding::{OuterCoding, code_packets, new_outer_coding};
+use crate::tables::Tables;
 use dtx_packets::Packet;
 use dtx_sizes::{
-    BRANCH_STEP, BRANCHES, CODERS, FIELD_PACKETS, GROUP_BYTES, GROUP_LEVELS, GROUP_PACKETS, PRECODE,
+    BRANCH_STEP, BRANCHES, CODERS, CODEWORD, FIELD_PACKETS, GROUP_BYTES, GROUP_LEVELS,
+    GROUP_PACKETS, PRECODE,
 };
 use dtx_trellis::{States, Twelve};
 use std::alloc::{AllocError, Global};
@@ -24,6 +26,11 @@ pub struct Coder {
     outer: OuterCoding,
     twelve: Twelve,
     last: [i8; PRECODE],
+    /// What the last group became on its way: codewords, the bytes behind the interleaver, levels. They stand here
+    /// since each group writes all of them anew, so that none has to clear them before.
+    words: [[u8; CODEWORD]; GROUP_PACKETS],
+    bytes: [u8; GROUP_BYTES],
+    levels: [u8; GROUP_LEVELS],
 }
 
 impl Model for Coder {
@@ -41,10 +48,20 @@ impl Coder {
     pub fn new(alloc: Global) -> Result<Coder, AllocError>
         ensures { IfOk result (λ coder. coder ≡ new_coding) }
     {
+        Coder::sharing(alloc, &Tables::new(alloc)?)
+    }
+
+    /// The same, by tables that others may share.
+    pub fn sharing(alloc: Global, tables: &Tables) -> Result<Coder, AllocError>
+        ensures { IfOk result (λ coder. coder ≡ new_coding) }
+    {
         Ok(Coder {
-            outer: new_outer_coding(alloc)?,
+            outer: new_outer_coding(alloc, tables)?,
             twelve: Twelve::new(),
             last: [-7; PRECODE],
+            words: [[0; CODEWORD]; GROUP_PACKETS],
+            bytes: [0; GROUP_BYTES],
+            levels: [0; GROUP_LEVELS],
         })
     }
 
@@ -100,13 +117,17 @@ impl Coder {
         } in
             IsCoded self.old given self.new air.new.segments air.new.symbols }
     {
-        let mut bytes = [0; GROUP_BYTES];
-        code_packets(&mut self.outer, first as usize, packets, &mut bytes);
+        code_packets(
+            &mut self.outer,
+            first as usize,
+            packets,
+            &mut self.words,
+            &mut self.bytes,
+        );
         start_from(&mut self.twelve, preset);
-        let mut levels = [0; GROUP_LEVELS];
-        self.twelve.group(first, &bytes, &mut levels);
+        self.twelve.group(first, &self.bytes, &mut self.levels);
         air.begin(sync, second, &self.last);
-        air.add_group(&levels);
+        air.add_group(&self.levels);
         self.last = air.last();
     }
 }
@@ -124,6 +145,3 @@ fn start_from(twelve: &mut Twelve, preset: Option<States>)
         twelve.set(states);
     }
 }
-
-#[cfg(test)]
-mod tests;

@@ -6,6 +6,7 @@ ghost use Rattle.dtx_whiten.specs.Randomizer.{randomizer_bytes};
 ghost use Rattle.dtx_coder.specs.Coded.{coded_from};
 ghost use Rattle.dtx_coder.specs.Groups.{zero_branches};
 
+use crate::tables::Tables;
 use dtx_outer::Outer;
 use dtx_packets::Packet;
 use dtx_rs::Rs;
@@ -15,11 +16,12 @@ use dtx_sizes::{
 use dtx_spread::Branches;
 use dtx_whiten::Atsc;
 use std::alloc::{AllocError, Global};
+use std::rc::Rc;
 
 /// The randomizer, the Reed-Solomon encoder and the interleaver of the standard.
 pub(crate) type OuterCoding = Outer<
-    Atsc,
-    Rs<CODEWORD, PACKET_DATA>,
+    Rc<Atsc>,
+    Rc<Rs<CODEWORD, PACKET_DATA>>,
     Branches<BRANCHES, BRANCH_STEP>,
     CODEWORD,
     PACKET_DATA,
@@ -27,19 +29,24 @@ pub(crate) type OuterCoding = Outer<
     BRANCH_STEP,
 >;
 
-/// With zeros in every branch.
-pub(crate) fn new_outer_coding(alloc: Global) -> Result<OuterCoding, AllocError>
+/// By these tables, with zeros in every branch.
+pub(crate) fn new_outer_coding(alloc: Global, tables: &Tables) -> Result<OuterCoding, AllocError>
     ensures { IfOk result (λ outer. outer ≡ record { white = randomizer_bytes; branches = zero_branches }) }
 {
-    Ok(Outer::new(Atsc::new(alloc)?, Rs::new(), Branches::new(alloc)?))
+    Ok(Outer::new(
+        tables.whitener.clone()?,
+        tables.code.clone()?,
+        Branches::new(alloc)?,
+    ))
 }
 
 /// The bytes that leave the interleaver as the codewords of four packets come, the first of them packet `first` of its
-/// field.
+/// field. The codewords are left too.
 pub(crate) fn code_packets(
     outer: &mut OuterCoding,
     first: usize,
     packets: &[Packet; GROUP_PACKETS],
+    words: &mut [[u8; CODEWORD]; GROUP_PACKETS],
     bytes: &mut [u8; GROUP_BYTES],
 )
     requires white { outer.old.white ≡ randomizer_bytes }
@@ -51,8 +58,7 @@ pub(crate) fn code_packets(
           (coded_from first (map (λ p. p.0) packets.now));
     } }
 {
-    let mut words = [[0; CODEWORD]; GROUP_PACKETS];
-    outer.codewords(PACKET_DATA * first, &heads_of(packets), &mut words);
+    outer.codewords(PACKET_DATA * first, &heads_of(packets), words);
     for i in 0..GROUP_PACKETS {
         bytes[CODEWORD * i..CODEWORD * i + CODEWORD].copy_from_slice(&words[i]);
     }
@@ -82,6 +88,3 @@ fn head_of(packet: &Packet) -> [u8; PACKET_DATA]
     head.copy_from_slice(&packet.0[1..]);
     head
 }
-
-#[cfg(test)]
-mod tests;

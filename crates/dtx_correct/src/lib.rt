@@ -4,7 +4,5 @@
 mod elimination;
 mod linear;
 mod locator;
-#[cfg(test)]
-mod tests;
 
 pub use linear::Linear;

@@ -1,9 +1,7 @@
 -- The blocks of packets, one after another, as the outer coding makes them.
-use Rattle.std.proofs.Common.{◌≡◌, ℕ, ◌+◌, ◌*◌, ◌%◌, ◌<◌, ◌≤◌, List, [], ◌∷◌, ◌++◌, length, get_or, take, drop, sym}
-use Rattle.std.proofs.Common.{ap}
-use Rattle.std.proofs.Common.{ap₂, ◌∙◌, arith}
-use Rattle.std.proofs.lemmas.List.{length-append, length-drop, length-take-le, take_more}
-use borrow.Rule.Slice.PartMut.{put_mid}
+use Rattle.std.proofs.Common.{◌≡◌, ℕ, ◌+◌, ◌*◌, ◌%◌, ◌<◌, List, [], ◌∷◌, ◌++◌, length, get_or, take, sym}
+use Rattle.std.proofs.Common.{ap, ap₂, ◌∙◌, arith}
+use Rattle.std.proofs.lemmas.List.{length-take-le, take_more}
 use Rattle.dtx_laws.specs.Words.{codeword}
 use Rattle.dtx_laws.specs.Whitening.{whitened}
 use Rattle.dtx_outer.specs.Outer.{coded}
@@ -27,18 +25,3 @@ blocks_next first i ps l =
     ∙ ap (λ (n : ℕ). blocks_from first (take i ps) ++ blocks_from (first + n) (get_or ps i [] ∷ []))
     (length-take-le i ps (let m : i < length ps = l in omega (arith, m)))
     ∙ ap (λ xs. blocks_from first (take i ps) ++ xs) (blocks_one (first + i) (get_or ps i []))
-
--- a write to a part keeps a list's length
-pub length-put_mid : {A : Type 0} (a k : ℕ) (xs ys : List A) → a + k ≤ length xs → length ys ≡ k
-    → length (put_mid a k xs ys) ≡ length xs
-length-put_mid a k xs ys l e =
-    length-append (take a xs) (ys ++ drop k (drop a xs))
-    ∙ omega (
-      arith,
-      l,
-      e,
-      length-take-le a xs (omega (arith, l)),
-      length-append ys (drop k (drop a xs)),
-      length-drop k (drop a xs),
-      length-drop a xs,
-    )

@@ -1,18 +1,20 @@
 -- What is read of a stream's bytes.
-use Rattle.std.proofs.Common.{◌≡◌, ℕ, zero, suc, ◌+◌, ◌-◌, ◌*◌, ◌/◌, ◌%◌, ◌<◌, ◌≤◌, List, [], ◌∷◌, length, take}
-use Rattle.std.proofs.Common.{drop, map, get_or, refl, sym, ap, ◌∙◌, subst, arith, lit<, zero-add}
+use Rattle.std.proofs.Common.{◌≡◌, ℕ, zero, suc, ◌+◌, ◌-◌, ◌*◌, ◌/◌, ◌%◌, ◌<◌, ◌≤◌, Some, List, [], ◌∷◌, length}
+use Rattle.std.proofs.Common.{take, drop, map, get_or, refl, sym, ap, ◌∙◌, subst, arith, lit<, zero-add}
 use Rattle.std.specs.List.{range_with_len, sum_by}
 use Rattle.std.proofs.lemmas.List.{get_or-take, length-take-le}
 use Rattle.std.proofs.lemmas.List.Sums.{sum_by-cons}
 use Rattle.std.proofs.lemmas.List.FromFn.{fill_by_all}
 use Rattle.dtx_lists.proofs.Range.{map-range_same}
 use Rattle.dtx_galois.specs.Field.{AreBytes}
-use Rattle.dtx_laws.specs.Codeword.{IsCodeword, IsCorrection, distance}
+use Rattle.dtx_laws.specs.Codeword.{IsCodeword, distance}
 use Rattle.dtx_laws.specs.Whitening.{whitened}
-use Rattle.dtx_laws.specs.ChoiceLaws.{codeword_is, codeword_begins, correction_only}
-use Rattle.dtx_laws.specs.WhiteningLaws.{bytes_whitened, whitened_twice}
+use Rattle.dtx_laws.specs.Words.{codeword}
+use Rattle.dtx_laws.specs.ChoiceLaws.{codeword_begins}
 use Rattle.dtx_laws.specs.WordsLaws.{distance_self}
+use Rattle.dtx_outer.specs.BackLaws.{AreData, coded_is, coded_back, near_corrected}
 use Rattle.dtx_outer.specs.Inner.{word_at}
+use Rattle.dtx_outer.specs.Outer.{coded}
 use Rattle.dtx_outer.specs.WordsLaws.{length-word, word_back}
 use Rattle.dtx_outer.specs.declared.inner.Taken.TheVariants.{Good}
 use Rattle.dtx_dvb.specs.Read.{Read, fixed_of, flag_of, fixed_in, flagged_in}
@@ -26,13 +28,14 @@ use Rattle.dtx_dvb.specs.Damage.{ArePackets, block_in, wrong_in, IsSlight, as_co
 
 -- ---- packets and their blocks
 
-pub bytes_randomized : (k : ℕ) (p : List ℕ) → length p ≡ 188 → AreBytes p → AreBytes (randomized k p)
-bytes_randomized k p l b =
-    subst AreBytes (sym (randomized_whitened k p l))
-    (bytes_whitened randomizer_bytes p (188 * (k % 8)) bytes_randomizer_bytes b)
+pub block_coded : (k : ℕ) (p : List ℕ) → length p ≡ 188
+    → block_of k p ≡ coded 204 188 randomizer_bytes (188 * (k % 8)) p
+block_coded k p l = ap (codeword 204 188) (randomized_whitened k p l)
 
 pub block_is : (k : ℕ) (p : List ℕ) → length p ≡ 188 → AreBytes p → IsCodeword 204 188 (block_of k p)
-block_is k p l b = codeword_is 204 188 (randomized k p) (lit< tt) (length-randomized k p) (bytes_randomized k p l b)
+block_is k p l b =
+    subst (IsCodeword 204 188) (sym (block_coded k p l))
+    (coded_is 204 188 randomizer_bytes (188 * (k % 8)) p (lit< tt) bytes_randomizer_bytes l b)
 
 pub block_begins : (k : ℕ) (p : List ℕ) → take 188 (block_of k p) ≡ randomized k p
 block_begins k p = codeword_begins 204 188 (randomized k p) (length-randomized k p)
@@ -48,48 +51,52 @@ synced : (p : List ℕ) → length p ≡ 188 → get_or p 0 0 ≡ 0x47 → with_
 synced [] l e = absurd (omega (arith, l))
 synced (x ∷ xs) l e = ap (λ (y : ℕ). y ∷ xs) (sym e)
 
--- the block of packet k gives the packet's bytes back
-bytes_back : (ps : List (List ℕ)) (k : ℕ) → length (get_or ps k []) ≡ 188
-    → whitened randomizer_bytes (188 * (k % 8)) (take 188 (block_in ps k)) ≡ get_or ps k []
-unfolding block_in
-bytes_back ps k l =
-    ap (whitened randomizer_bytes (188 * (k % 8))) (block_begins k (get_or ps k [])
-    ∙ randomized_whitened k (get_or ps k []) l)
-    ∙ whitened_twice randomizer_bytes (get_or ps k []) (188 * (k % 8))
-
 pub block_there : (ps : List (List ℕ)) (k : ℕ) → k < length ps
     → take 204 (drop (204 * k) (blocks ps)) ≡ block_in ps k
 unfolding block_in
 block_there ps k l = block_at 0 ps k l ∙ ap (λ i. block_of i (get_or ps k [])) (zero-add k)
-
-own_block : (ps : List (List ℕ)) (k : ℕ) → ArePackets ps → k < length ps → IsCodeword 204 188 (block_in ps k)
-unfolding block_in
-own_block ps k h l =
-    let a : (length (get_or ps k []) ≡ 188) × AreBytes (get_or ps k []) × (get_or (get_or ps k []) 0 0 ≡ 0x47) =
-    packet_at ps k h l in block_is k (get_or ps k []) a.0 a.1
 
 -- ---- one packet
 
 -- a word near the block of packet k gives the packet back
 pub corrected_back : (ps : List (List ℕ)) (y : List ℕ) (k : ℕ) → ArePackets ps → k < length ps
     → wrong_in ps y k ≤ 8 → read_at y k ≡ as_corrected ps y k
-unfolding read_at as_corrected wrong_in
+unfolding read_at as_corrected wrong_in block_in
 corrected_back ps y k h l n =
-    ap (read_by (188 * (k % 8)) word)
-    (correction_only 204 188 word (block_in ps k) (omega arith) (length-word 204 12 17 y k) near)
-    ∙ ap (λ (d : List ℕ). record { taken = Good (distance word (block_in ps k)); packet = d }) same
+    ap (read_by from word)
+    (near_corrected 204 188 randomizer_bytes from packet word sound (length-word 204 12 17 y k)
+    (omega (arith, n, ap (distance word) is)) ∙ ap Some (sym is))
+    ∙ ap (λ (d : List ℕ). record { taken = Good (distance word (block_of k packet)); packet = d }) same
   where
     word : List ℕ
     word = word_at 204 12 17 y k
 
-    near : IsCorrection 204 188 (word_at 204 12 17 y k) (block_in ps k)
-    near = record { codeword = own_block ps k h l; near = omega (arith, n) }
+    packet : List ℕ
+    packet = get_or ps k []
 
-    packet : (length (get_or ps k []) ≡ 188) × AreBytes (get_or ps k []) × (get_or (get_or ps k []) 0 0 ≡ 0x47)
-    packet = packet_at ps k h l
+    from : ℕ
+    from = 188 * (k % 8)
 
-    same : with_sync (whitened randomizer_bytes (188 * (k % 8)) (take 188 (block_in ps k))) ≡ get_or ps k []
-    same = ap with_sync (bytes_back ps k packet.0) ∙ synced (get_or ps k []) packet.0 packet.2
+    own : (length (get_or ps k []) ≡ 188) × AreBytes (get_or ps k []) × (get_or (get_or ps k []) 0 0 ≡ 0x47)
+    own = packet_at ps k h l
+
+    is : block_of k (get_or ps k []) ≡ coded 204 188 randomizer_bytes (188 * (k % 8)) (get_or ps k [])
+    is = block_coded k (get_or ps k []) own.0
+
+    sound : AreData 204 188 randomizer_bytes (get_or ps k [])
+    sound = record {
+      longer = lit< tt;
+      few = omega arith;
+      whitener = bytes_randomizer_bytes;
+      long = own.0;
+      bytes = own.1;
+    }
+
+    same : with_sync (whitened randomizer_bytes (188 * (k % 8)) (take 188 (block_of k (get_or ps k []))))
+        ≡ get_or ps k []
+    same =
+        ap (λ (c : List ℕ). with_sync (whitened randomizer_bytes from (take 188 c))) is
+        ∙ ap with_sync (coded_back 204 188 randomizer_bytes from packet own.0) ∙ synced packet own.0 own.2
 
 -- ---- all packets
 

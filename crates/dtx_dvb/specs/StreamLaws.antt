@@ -1,11 +1,11 @@
 -- Streams that stand behind other packets.
-use Rattle.std.proofs.Common.{◌≡◌, ℕ, zero, suc, ◌+◌, ◌*◌, ◌%◌, ◌<◌, List, [], ◌∷◌, ◌++◌, length, take, drop, map}
-use Rattle.std.proofs.Common.{get_or, bit_xor, refl, sym, ap, ap₂, ◌∙◌, arith, lit<, add-zero, zero-add}
-use Rattle.std.specs.List.{enumerate_from, flat_map, range_with_len}
-use Rattle.std.proofs.lemmas.List.{append-nil, length-append, take_at, drop_at, drop-drop}
+use Rattle.std.proofs.Common.{◌≡◌, ℕ, ◌+◌, ◌*◌, ◌%◌, ◌<◌, List, [], ◌∷◌, ◌++◌, length, take, drop, map}
+use Rattle.std.proofs.Common.{get_or, bit_xor, refl, sym, ap, ap₂, ◌∙◌, arith, lit<, zero-add}
+use Rattle.std.specs.List.{range_with_len}
+use Rattle.std.proofs.lemmas.List.{append-nil, take_at}
 use Rattle.std.proofs.lemmas.List.FromFn.{length-map-range_with_len, get_or-map-range_with_len}
 use Rattle.std.proofs.lemmas.Nat.{mod_below}
-use Rattle.std.proofs.lemmas.Grind.{flat_map-append}
+use Rattle.dtx_lists.proofs.Enumerated.{pieces_append, length-pieces, piece_at}
 use Rattle.dtx_laws.specs.Words.{codeword}
 use Rattle.dtx_laws.specs.Branches.{Branching, leaving_all, after_all}
 use Rattle.dtx_laws.specs.Interleaving.{interleaved, interleaved_at}
@@ -53,16 +53,6 @@ randomized_place j k packet e =
 pub length-block : (k : ℕ) (packet : List ℕ) → length (block_of k packet) ≡ 204
 length-block k packet = codeword_length 204 188 (randomized k packet) ∙ ap (λ n. n + 16) (length-randomized k packet)
 
-enumerate_append : {X : Type 0} (n : ℕ) (xs ys : List X)
-    → enumerate_from n (xs ++ ys) ≡ enumerate_from n xs ++ enumerate_from (n + length xs) ys
-enumerate_append n [] ys = ap (λ k. enumerate_from k ys) (sym (add-zero n))
-enumerate_append n (x ∷ xs) ys =
-    ap (λ zs. (n, x) ∷ zs) (enumerate_append (n + 1) xs ys
-    ∙ ap (λ k. enumerate_from (n + 1) xs ++ enumerate_from k ys) (further n (length xs)))
-  where
-    further : (n m : ℕ) → n + 1 + m ≡ n + suc m
-    further n m = omega arith
-
 -- the block of packet p.0
 abbrev block : ℕ × List ℕ → List ℕ
 block p = block_of p.0 p.1
@@ -70,8 +60,7 @@ block p = block_of p.0 p.1
 pub blocks_append : (k : ℕ) (ps qs : List (List ℕ))
     → blocks_from k (ps ++ qs) ≡ blocks_from k ps ++ blocks_from (k + length ps) qs
 unfolding blocks_from
-blocks_append k ps qs = ap (flat_map block) (enumerate_append k ps qs)
-    ∙ flat_map-append block (enumerate_from k ps) (enumerate_from (k + length ps) qs)
+blocks_append k ps qs = pieces_append block k ps qs
 
 pub blocks_one : (k : ℕ) (packet : List ℕ) → blocks_from k (packet ∷ []) ≡ block_of k packet
 unfolding blocks_from
@@ -79,14 +68,7 @@ blocks_one k packet = append-nil (block_of k packet)
 
 pub length-blocks : (k : ℕ) (ps : List (List ℕ)) → length (blocks_from k ps) ≡ 204 * length ps
 unfolding blocks_from
-length-blocks k [] = refl
-length-blocks k (p ∷ ps) =
-    length-append (block_of k p) (blocks_from (k + 1) ps)
-    ∙ ap₂ (λ (x y : ℕ). x + y) (length-block k p) (length-blocks (k + 1) ps)
-    ∙ more (length ps)
-  where
-    more : (n : ℕ) → 204 + 204 * n ≡ 204 * suc n
-    more n = omega arith
+length-blocks k ps = length-pieces block 204 k ps length-block
 
 -- only the place in a group of eight counts
 pub blocks_place : (j k : ℕ) (ps : List (List ℕ)) → j % 8 ≡ k % 8 → blocks_from j ps ≡ blocks_from k ps
@@ -98,23 +80,7 @@ blocks_place j k (p ∷ ps) e =
 pub block_at : (s : ℕ) (ps : List (List ℕ)) (k : ℕ) → k < length ps
     → take 204 (drop (204 * k) (blocks_from s ps)) ≡ block_of (s + k) (get_or ps k [])
 unfolding blocks_from
-block_at s [] k l = absurd (omega arith)
-block_at s (p ∷ ps) zero l =
-    take_at (block_of s p) (blocks_from (s + 1) ps) 204 (length-block s p)
-    ∙ ap (λ i. block_of i p) (sym (add-zero s))
-block_at s (p ∷ ps) (suc k) l =
-    ap (take 204)
-    (ap (λ i. drop i (block_of s p ++ blocks_from (s + 1) ps)) apart
-    ∙ sym (drop-drop (204 * k) 204 (block_of s p ++ blocks_from (s + 1) ps))
-    ∙ ap (drop (204 * k)) (drop_at (block_of s p) (blocks_from (s + 1) ps) 204 (length-block s p)))
-    ∙ block_at (s + 1) ps k (omega arith)
-    ∙ ap (λ i. block_of i (get_or ps k [])) further
-  where
-    apart : 204 * suc k ≡ 204 + 204 * k
-    apart = omega arith
-
-    further : s + 1 + k ≡ s + suc k
-    further = omega arith
+block_at s ps k l = piece_at block 204 s ps k [] length-block l
 
 -- ---- as they are sent
 

@@ -7,8 +7,6 @@ mod randomizer;
 mod receiving;
 mod sending;
 mod sizes;
-#[cfg(test)]
-mod tests;
 
 pub use randomizer::Dvb;
 pub use receiving::DvbIn;

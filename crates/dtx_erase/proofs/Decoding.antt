@@ -1,15 +1,18 @@
 -- What is kept of both sides of a run, with one segment more, and the packets that it gives.
 use Rattle.std.proofs.Common.{◌≡◌, ◌≢◌, ℕ, ℤ, ◌+◌, ◌-◌, ◌*◌, ◌%◌, ◌<◌, ◌≤◌, ◌⊎◌, List, [], ◌∷◌, ◌++◌, length, map}
-use Rattle.std.proofs.Common.{sym, ap, ap₂, ◌∙◌, subst, inl, inr, arith}
+use Rattle.std.proofs.Common.{refl, sym, ap, ap₂, ◌∙◌, subst, inl, inr, arith}
 use Rattle.std.proofs.lemmas.Bool.{cases_lt}
 use Rattle.std.proofs.lemmas.List.{append-nil, length-map}
 use Rattle.dtx_receiver.specs.Bytes.{groups_of, bytes_in}
-use Rattle.dtx_receiver.specs.SegmentsLaws.{Still, still_data, still_sync, first_groups}
+use Rattle.dtx_receiver.specs.SegmentsLaws.{Still, still_data, still_sync, first_groups, first_bytes}
+use Rattle.dtx_erase.specs.GrowingLaws.{mended_given}
 use Rattle.dtx_erase.specs.Marks.{shown, shown_run, is_set, marks_in}
-use Rattle.dtx_erase.specs.Mended.{mended_early, mended_run_early}
+use Rattle.dtx_receiver.specs.AnswersLaws.{IsDecoder}
+use Rattle.dtx_erase.specs.Mended.{mended_early, mended_run, mended_run_early, all_mended, mended_so_far}
 use Rattle.dtx_erase.specs.Sides.{Holds, Decoding, Decodes}
 use Rattle.dtx_erase.specs.MarksLaws.{shown_groups, marks_are, shown_push}
-use Rattle.dtx_erase.proofs.Stands.{holds_sync, part_now, not_due_now, groups_whole}
+use Rattle.dtx_receiver.specs.LevelsLaws.{part_now, not_due_now}
+use Rattle.dtx_erase.proofs.Stands.{holds_sync, groups_whole}
 
 shown_long : (run : List (List ℤ)) → length (shown_run run) ≡ length run
 shown_long run = length-map run (map shown)
@@ -46,10 +49,10 @@ sync_groups : (x : List ℤ) (run : List (List ℤ)) → 0 < length run → leng
     → groups_of (run ++ x ∷ []) ≡ groups_of run
 sync_groups x run s z = let t : Still run (run ++ x ∷ []) = still_sync run x s z in t.groups
 
-pub decodes_sync : (x : List ℤ) (kept : Decoding) (run : List (List ℤ)) → Decodes kept run → length run % 313 ≡ 0
+decodes_sync : (x : List ℤ) (kept : Decoding) (run : List (List ℤ)) → Decodes kept run → length run % 313 ≡ 0
     → Decodes kept (run ++ x ∷ [])
 decodes_sync x kept run d z =
-    let g : groups_of (run ++ x ∷ []) ≡ groups_of run = sync_groups x run d.bytes.some z in
+    let g : groups_of (run ++ x ∷ []) ≡ groups_of run = sync_groups x run d.bytes.levels.some z in
     record {
       bytes = holds_sync x kept.bytes run d.bytes z;
       marks = both (Holds kept.marks) run x (holds_sync (map shown x) kept.marks (shown_run run) d.marks
@@ -68,13 +71,20 @@ early_still x kept new run d h e f =
     ∙ ap₂ (λ bytes flags. mended_early bytes (map is_set flags)) e (ap bytes_in (shown_push run x) ∙ f)
     ∙ sym (early_is kept run d) ∙ sym (append-nil (mended_run_early run))
 
-pub early_sync : (x : List ℤ) (kept : Decoding) (run : List (List ℤ)) → Decodes kept run → length run % 313 ≡ 0
+early_sync : (x : List ℤ) (kept : Decoding) (run : List (List ℤ)) → Decodes kept run → length run % 313 ≡ 0
     → mended_run_early (run ++ x ∷ []) ≡ mended_run_early run ++ []
 early_sync x kept run d z =
-    let s : Still run (run ++ x ∷ []) = still_sync run x d.bytes.some z in
+    let s : Still run (run ++ x ∷ []) = still_sync run x d.bytes.levels.some z in
     let t : Still (shown_run run) (shown_run run ++ map shown x ∷ []) =
-    still_sync (shown_run run) (map shown x) d.marks.some (ap (λ n. n % 313) (shown_long run) ∙ z) in
+    still_sync (shown_run run) (map shown x) d.marks.levels.some (ap (λ n. n % 313) (shown_long run) ∙ z) in
     early_still x kept kept run d (decodes_sync x kept run d z) s.bytes t.bytes
+
+pub mending : IsDecoder Decodes mended_run mended_run_early mended_so_far all_mended
+mending = record {
+  packets = mended_given;
+  sync_held = decodes_sync;
+  sync_given = early_sync;
+}
 
 -- ---- data segments
 

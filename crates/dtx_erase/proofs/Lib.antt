@@ -11,4 +11,4 @@ pub mod Stands
 pub mod Decoding
 pub mod Packets
 pub mod Mendings
-pub mod Steps
+pub mod Quiet

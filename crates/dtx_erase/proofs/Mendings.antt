@@ -1,32 +1,48 @@
 -- The packet of a word, by what mended it.
-use Rattle.std.proofs.Common.{◌≡◌, ℕ, ℤ, pos, negsuc, Bool, true, false, cond, List, length, map, refl, sym, ap}
-use Rattle.std.proofs.Common.{ap₂, ◌∙◌, arith, ◌<◌, get_or}
+use Rattle.std.proofs.Common.{◌≡◌, ℕ, ℤ, pos, negsuc, suc, ◌+◌, ◌<◌, Bool, true, false, cond, List, [], ◌∷◌, length}
+use Rattle.std.proofs.Common.{map, take, get_or, refl, sym, ap, ap₂, ◌∙◌, arith, lit<}
 use Rattle.std.specs.Prelude.{Result, Ok, Err, MatchResult}
 use Rattle.std.proofs.lemmas.Bool.{ne_eqb}
 use Rattle.std.proofs.lemmas.List.{ext_get_or, get_or-map, length-map}
 use Rattle.dtx_packets.specs.Packet.{with_error}
-use Rattle.dtx_packets.specs.declared.packet.Packet.{Packet}
 use Rattle.dtx_receiver.specs.declared.batch.Received.{Received}
-use Rattle.dtx_receiver.specs.Packets.{packet_bytes, received_by}
-use Rattle.dtx_erase.specs.Marks.{shown}
-use Rattle.dtx_erase.specs.Mending.{IsMended, IsUnmended}
+use Rattle.dtx_receiver.specs.Packets.{received_by}
+use Rattle.dtx_laws.specs.Whitening.{whitened}
+use Rattle.dtx_whiten.specs.Randomizer.{randomizer_bytes}
+use Rattle.dtx_erase.specs.Marks.{shown, is_set}
+use Rattle.dtx_erase.specs.Mending.{lost, IsMended, IsUnmended}
 use Rattle.dtx_erase.specs.Mended.{mending}
 use Rattle.dtx_erase.specs.ChosenLaws.{mending_only, mending_never}
 
-pub received_is : {E : Type 0} (from : ℕ) (marks : List Bool) (word new : List ℕ) (packet : Packet) (r : Result ℕ E)
-    (out : Received) → length word ≡ 207 → length marks ≡ 207 → packet.0 ≡ packet_bytes from new
+pub received_is : {E : Type 0} (from : ℕ) (marks : List Bool) (word new head : List ℕ) (r : Result ℕ E) (out : Received)
+    → length word ≡ 207 → length marks ≡ 207 → head ≡ whitened randomizer_bytes from (take 187 new)
     → MatchResult r (IsMended 207 187 marks word new) (λ _e. IsUnmended 207 187 marks word new)
-    → MatchResult r (λ fixed. out ≡ record { packet = packet; fixed = fixed; good = true })
-    (λ _e. out ≡ record { packet = record { 0 = with_error packet.0 }; fixed = 0; good = false })
+    → MatchResult r (λ fixed. out ≡ record { packet = record { 0 = 0x47 ∷ head }; fixed = fixed; good = true })
+    (λ _e. out ≡ record { packet = record { 0 = with_error (0x47 ∷ head) }; fixed = 0; good = false })
     → out ≡ received_by from word (mending 207 187 marks word)
-received_is from marks word new packet (Ok c) out l m p h o =
-    o ∙ ap₂ (λ (bytes : List ℕ) (fixed : ℕ). record { packet = record { 0 = bytes }; fixed = fixed; good = true }) p
-    h.changed
+received_is from marks word new head (Ok c) out l m p h o =
+    o ∙ ap₂ (λ (head : List ℕ) (c : ℕ). record { packet = record { 0 = 0x47 ∷ head }; fixed = c; good = true })
+    p h.changed
     ∙ ap (received_by from word) (sym (mending_only 207 187 marks word new (omega arith) l m h.mending))
-received_is from marks word new packet (Err e) out l m p h o =
-    o ∙ ap (λ (bytes : List ℕ). record { packet = record { 0 = with_error bytes }; fixed = 0; good = false })
-    (p ∙ ap (packet_bytes from) h.same)
+received_is from marks word new head (Err e) out l m p h o =
+    o ∙ ap (λ (bytes : List ℕ). record { packet = record { 0 = with_error (0x47 ∷ bytes) }; fixed = 0; good = false })
+    (p ∙ ap (λ (w : List ℕ). whitened randomizer_bytes from (take 187 w)) h.same)
     ∙ ap (received_by from word) (sym (mending_never 207 187 marks word h.none))
+
+-- of words without marks no place is lost
+pub none_lost : (flags : List ℕ) → ((i : ℕ) → get_or flags i 0 ≡ 0) → lost (map is_set flags) ≡ 0
+none_lost [] h = refl
+none_lost (f ∷ flags) h =
+    ap₂ (λ (t : Bool) (n : ℕ). cond t 1 0 + n) (ap is_set (h 0)) (none_lost flags (λ i. h (suc i)))
+
+-- four packets
+pub map_four : (f g : ℕ → Received) → ((p : ℕ) → p < 4 → f p ≡ g p)
+    → map f (0 ∷ 1 ∷ 2 ∷ 3 ∷ []) ≡ map g (0 ∷ 1 ∷ 2 ∷ 3 ∷ [])
+map_four f g h =
+    ap₂ (λ (r : Received) (rs : List Received). r ∷ rs) (h 0 (lit< tt))
+    (ap₂ (λ (r : Received) (rs : List Received). r ∷ rs) (h 1 (lit< tt))
+    (ap₂ (λ (r : Received) (rs : List Received). r ∷ rs) (h 2 (lit< tt))
+    (ap (λ (r : Received). r ∷ []) (h 3 (lit< tt)))))
 
 -- ---- a symbol as its mark
 

@@ -13,7 +13,8 @@ use Rattle.dtx_erase.specs.Mended.{mended_early, mended_run_packets, mended_run,
 use Rattle.dtx_erase.specs.Sides.{Side, Decoding, Decodes, mended_word, word_of}
 use Rattle.dtx_erase.specs.MarksLaws.{shown_groups, shown_push}
 use Rattle.dtx_erase.specs.MendedLaws.{early_short, early_four, end_none, end_one}
-use Rattle.dtx_erase.proofs.Stands.{part_now, not_due_now, groups_whole}
+use Rattle.dtx_receiver.specs.LevelsLaws.{part_now, not_due_now}
+use Rattle.dtx_erase.proofs.Stands.{groups_whole}
 use Rattle.dtx_erase.proofs.Decoding.{Both, early_is, marks_of, flags_long, shown_due}
 
 bytes_more : (x : List ℤ) (run : List (List ℤ)) (place : ℕ) → length run % 313 ≡ place + 1 → place % 4 ≡ 3
@@ -41,10 +42,10 @@ early_group x kept new run place brought b n d none some =
     ∙ ap (λ bytes. bytes ++ brought) (sym (early_is kept run b.old))
   where
     here : (more : List ℕ) × (bytes_in (run ++ x ∷ []) ≡ bytes_in run ++ more)
-    here = bytes_more x run place b.due n b.old.bytes.long
+    here = bytes_more x run place b.due n b.old.bytes.levels.long
 
     there : (more : List ℕ) × (bytes_in (shown_run run ++ map shown x ∷ []) ≡ bytes_in (shown_run run) ++ more)
-    there = bytes_more (map shown x) (shown_run run) place (shown_due run place b.due) n b.old.marks.long
+    there = bytes_more (map shown x) (shown_run run) place (shown_due run place b.due) n b.old.marks.levels.long
 
     g : ℕ
     g = groups_of run

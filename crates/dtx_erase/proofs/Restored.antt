@@ -1,20 +1,19 @@
 -- Where a word has a mending, what is patched at the marked places and where a locator of the others vanishes is the
 -- mending.
-use Rattle.std.proofs.Common.{◌≡◌, ◌≢◌, ℕ, zero, suc, ◌+◌, ◌-◌, ◌*◌, ◌<◌, ◌≤◌, ◌==◌, ◌||◌, ◌&&◌, not, cond, Bool, true}
-use Rattle.std.proofs.Common.{false, List, ◌∷◌, length, get_or, take, bit_xor, refl, sym, ap, ap₂, ◌∙◌, subst, arith}
+use Rattle.std.proofs.Common.{◌≡◌, ◌≢◌, ℕ, zero, suc, ◌+◌, ◌-◌, ◌*◌, ◌<◌, ◌≤◌, ◌==◌, ◌||◌, Bool, true}
+use Rattle.std.proofs.Common.{false, List, length, get_or, take, bit_xor, refl, sym, ap, ◌∙◌, subst, arith}
 use Rattle.std.proofs.Common.{add-one}
-use Rattle.std.proofs.lemmas.List.{ext_get_or}
 use Rattle.std.proofs.lemmas.Bool.{eqb-true, eqb-false}
-use Rattle.std.specs.Int.Bits.{xor_zero_r, xor_assoc, xor_self, xor_lt, xor_comm}
+use Rattle.std.specs.Int.Bits.{xor_zero_r, xor_comm}
 use Rattle.dtx_galois.specs.Field.{mul, pow, value, AreBytes}
-use Rattle.dtx_galois.specs.FieldLaws.{mul_comm, mul_assoc, mul_one, mul_zero, zero_mul, mul_inverse}
+use Rattle.dtx_galois.specs.FieldLaws.{mul_comm}
 use Rattle.dtx_galois.specs.ValuesLaws.{value_more}
 use Rattle.dtx_laws.specs.Codeword.{IsCorrection}
 use Rattle.dtx_laws.specs.Locator.{low_value, is_marked, power_at, vanishes_at}
-use Rattle.dtx_laws.specs.ErrorValues.{others, weight, without, error_at, patched_at}
+use Rattle.dtx_laws.specs.ErrorValues.{others, weight, without, patched_at}
 use Rattle.dtx_laws.specs.KernelLaws.{kernel, same_sequence}
-use Rattle.dtx_laws.specs.OthersLaws.{few_others, weight_at_other, weight_small, weight_not_zero}
-use Rattle.dtx_laws.specs.PairsLaws.{pairs, moment_pairs, without_is, only}
+use Rattle.dtx_laws.specs.OthersLaws.{few_others, weight_at_other, weight_not_zero}
+use Rattle.dtx_laws.specs.PatchingLaws.{others_same, patched_other}
 use Rattle.dtx_laws.specs.PartsLaws.{byte_at}
 use Rattle.dtx_fast.specs.ConnectionLaws.{least_of_word}
 use Rattle.dtx_fast.specs.QuotientLaws.{length_turned, bytes_turned, combination_turned}
@@ -23,62 +22,6 @@ use Rattle.dtx_erase.specs.Mending.{lost, IsMending}
 use Rattle.dtx_erase.proofs.Marked.{length_marked, others_either, length_with, others_all}
 use Rattle.dtx_erase.proofs.Weighed.{weighed, bytes_weighed, length_weighed, value_weighed, weighed_differ}
 use Rattle.dtx_erase.proofs.Weighed.{weighed_correction}
-
--- ---- the values of the errors at places of which the others are few
-
-by_mark : (u : Bool) (w e c : ℕ) → (u ≡ true → e ≡ bit_xor w c) → (u ≡ false → w ≡ c) → cond u (bit_xor w e) w ≡ c
-by_mark true w e c h f = ap (bit_xor w) (h refl) ∙ sym (xor_assoc w w c) ∙ ap (λ (z : ℕ). bit_xor z c) (xor_self w)
-    ∙ xor_comm 0 c ∙ xor_zero_r c
-by_mark false w e c h f = f refl
-
-error_from : (d v : ℕ) → d < 256 → v < 256 → v ≢ 0 → mul (mul d v) (pow v 254) ≡ d
-error_from d v ld lv h = mul_assoc d v (pow v 254) ∙ ap (mul d) (mul_inverse v (pos v h) lv) ∙ mul_comm d 1
-    ∙ mul_one d ld
-  where
-    pos : (v : ℕ) → v ≢ 0 → 0 < v
-    pos v h = omega arith
-
-mark_cases : (u : Bool) (d v : ℕ) → (u ≡ true → v ≡ 0) → (u ≡ false → d ≡ 0) → mul d v ≡ 0
-mark_cases true d v h f = ap (mul d) (h refl) ∙ mul_zero d
-mark_cases false d v h f = ap (λ (z : ℕ). mul z v) (f refl) ∙ zero_mul v
-
-error_is : (n p m : ℕ) (mark : ℕ → Bool) (word code : List ℕ) (s : ℕ → ℕ) → n ≤ 255 → p < n → length word ≡ n
-    → length code ≡ n → AreBytes word → AreBytes code
-    → ((j : ℕ) → j < m → s j ≡ bit_xor (value word (pow 2 j)) (value code (pow 2 j))) → length (others n mark p n) < m
-    → ((q : ℕ) → q < n → mark q ≡ false → get_or word q 0 ≡ get_or code q 0)
-    → error_at n mark s p ≡ bit_xor (get_or word p 0) (get_or code p 0)
-unfolding error_at power_at
-error_is n p m mark word code s l a lw lc bw bc h few f =
-    ap (λ (z : ℕ). mul z (pow (weight (pow 2 (n - 1 - p)) (others n mark p n)) 254))
-    (without_is (others n mark p n) s 0 m (pairs word code) (λ j r. h j r
-    ∙ sym (moment_pairs j word code (lw ∙ sym lc))) (omega arith)
-    ∙ only (λ x. weight x (others n mark p n)) word code p (lw ∙ sym lc) (omega arith)
-    (λ q r e. mark_cases (mark q) (bit_xor (get_or word q 0) (get_or code q 0))
-    (weight (pow 2 (length word - 1 - q)) (others n mark p n))
-    (λ t. ap (λ z. weight (pow 2 (z - 1 - q)) (others n mark p n)) lw ∙ weight_at_other n mark p q n (omega arith) t e)
-    (λ t. ap (λ (z : ℕ). bit_xor z (get_or code q 0)) (f q (omega arith) t) ∙ xor_self (get_or code q 0)))
-    ∙ ap (λ z. mul (bit_xor (get_or word p 0) (get_or code p 0)) (weight (pow 2 (z - 1 - p)) (others n mark p n))) lw)
-    ∙ error_from (bit_xor (get_or word p 0) (get_or code p 0)) (weight (pow 2 (n - 1 - p)) (others n mark p n))
-    (xor_lt 8 (get_or word p 0) (get_or code p 0) (byte_at word p bw) (byte_at code p bc))
-    (weight_small (pow 2 (n - 1 - p)) (others n mark p n)) (weight_not_zero n mark p n l a (omega arith))
-
--- where two words differ at marked places alone, what is patched there is the other word
-patched_right : (n m : ℕ) (mark : ℕ → Bool) (word code new : List ℕ) (s : ℕ → ℕ) → n ≤ 255 → length word ≡ n
-    → length code ≡ n → AreBytes word → AreBytes code
-    → ((j : ℕ) → j < m → s j ≡ bit_xor (value word (pow 2 j)) (value code (pow 2 j)))
-    → ((q : ℕ) → q < n → mark q ≡ false → get_or word q 0 ≡ get_or code q 0)
-    → length (others n mark n n) ≤ m
-    → ((p : ℕ) → p < n → get_or new p 0 ≡ patched_at n mark s word p)
-    → length new ≡ n → new ≡ code
-patched_right n m mark word code new s l lw lc bw bc h f few hn ln =
-    ext_get_or 0 new code (ln ∙ sym lc)
-    (λ p q.
-    let lp : p < n = omega (arith, ln) in
-    hn p lp
-    ∙ by_mark (mark p) (get_or word p 0) (error_at n mark s p) (get_or code p 0)
-    (λ t. error_is n p m mark word code s l lp lw lc bw bc h
-    (omega (arith, length_with n p mark lp t)) f)
-    (f p lp))
 
 -- ---- the locator
 
@@ -110,7 +53,7 @@ pub record AreMarked (n k t : ℕ) (marks : List Bool) (word : List ℕ) (s r : 
   pub few : lost marks + 2 * t ≤ n - k
   pub most : n - k ≤ lost marks + 2 * t + 1
   pub syndromes : (i : ℕ) → i < n - k → s i ≡ value word (pow 2 i)
-  pub rest : (i : ℕ) → i + lost marks < n - k → r i ≡ without (others n (is_marked marks) n n) s i
+  pub rest : (i : ℕ) → i < 2 * t → r i ≡ without (others n (is_marked marks) n n) s i
 
 abbrev marked : ℕ → List Bool → List ℕ
 marked n marks = others n (is_marked marks) n n
@@ -140,7 +83,7 @@ correction_of n k t marks word code s r a p =
 values_of : (n k t : ℕ) (marks : List Bool) (word : List ℕ) (s r : ℕ → ℕ) → AreMarked n k t marks word s r
     → (i : ℕ) → i < 2 * t → r i ≡ value (weighed (marked n marks) word) (pow 2 i)
 values_of n k t marks word s r a i l =
-    a.rest i (omega (arith, a.few))
+    a.rest i l
     ∙ value_weighed (marked n marks) word s i (n - k) a.syndromes
     (omega (arith, a.few, length_marked n marks a.marks_long))
 
@@ -219,25 +162,14 @@ right_elsewhere n k t l marks word code cs s r a f p q lq u =
         (weighed_differ n q (marked n marks) word code a.long p.codeword.long a.bytes p.codeword.bytes lq
         (weight_some n q marks a.short lq parts.0) (eqb-false (get_or word q 0) (get_or code q 0) e))))
 
-same_others : (n : ℕ) (a b : ℕ → Bool) (p c : ℕ) → ((q : ℕ) → q < c → a q ≡ b q) → others n a p c ≡ others n b p c
-unfolding others
-same_others n a b p zero h = refl
-same_others n a b p (suc c) h =
-    ap₂ (λ (u : Bool) (ys : List ℕ). cond (u && not (c == p)) (power_at n c ∷ ys) ys) (h c (omega arith))
-    (same_others n a b p c (λ q l. h q (omega arith)))
-
-others_same : (n : ℕ) (a b : ℕ → Bool) (p c : ℕ) → ((q : ℕ) → q < c → a q ≡ b q)
-    → length (others n a p c) ≡ length (others n b p c)
-others_same n a b p c h = ap length (same_others n a b p c h)
-
 -- a recurrence vanishes at no more places than its order says
 pub few_zeros : (n l : ℕ) (cs : List ℕ) → n ≤ 255 → l + 1 ≤ length cs → AreBytes cs → get_or cs 0 0 ≡ 1
     → length (others n (λ q. value (take (l + 1) cs) (power_at n q) == 0) n n) ≤ l
 few_zeros n l cs short room bytes highest =
     omega (
       arith,
-      others_same n (λ q. value (take (l + 1) cs) (power_at n q) == 0)
-          (vanishes_at n (turned (suc l) (λ i. get_or cs i 0))) n n (λ q m. vanishing n l q cs room bytes),
+      ap length (others_same n (λ q. value (take (l + 1) cs) (power_at n q) == 0)
+          (vanishes_at n (turned (suc l) (λ i. get_or cs i 0))) n n (λ q m. vanishing n l q cs room bytes)),
       few_others n n l (turned (suc l) (λ i. get_or cs i 0)) short
           (bytes_turned (suc l) (λ i. get_or cs i 0) (small_at cs bytes))
           (λ z. one_not_zero (sym highest ∙ sym (last_of_turned l (λ i. get_or cs i 0)) ∙ z)),
@@ -267,13 +199,14 @@ pub restored_right : (n k t l : ℕ) (marks : List Bool) (word code new cs : Lis
     → ((p : ℕ) → p < n → get_or new p 0 ≡ patched_at n mark s word p)
     → length new ≡ n → IsMending n k marks word code → new ≡ code
 restored_right n k t l marks word code new cs s r mark a f hm hn ln p =
-    patched_right n (n - k) mark word code new s a.short a.long p.codeword.long a.bytes p.codeword.bytes
+    patched_other n (n - k) mark word code new s a.short a.long p.codeword.long a.bytes p.codeword.bytes
     (λ j m. a.syndromes j m ∙ sym (xor_zero_r (value word (pow 2 j)))
     ∙ ap (bit_xor (value word (pow 2 j))) (sym (p.codeword.vanishes j m)))
     (λ q lq u. right_elsewhere n k t l marks word code cs s r a f p q lq (sym (hm q lq) ∙ u))
-    (omega (
+    (λ q lq u. omega (
       arith,
       few_suspects n k t l marks word cs s r a f,
-      others_same n mark (is_suspect n marks cs l) n n hm,
+      ap length (others_same n mark (is_suspect n marks cs l) n n hm),
+      length_with n q mark lq u,
     ))
     hn ln

@@ -1,28 +1,23 @@
 -- What is kept of one side of a run, with one segment more.
 use Rattle.std.proofs.Common.{◌≡◌, ◌≢◌, ℕ, ℤ, ◌+◌, ◌-◌, ◌*◌, ◌/◌, ◌%◌, ◌<◌, ◌≤◌, List, [], ◌∷◌, ◌++◌, length}
-use Rattle.std.proofs.Common.{take, drop, refl, sym, ap, ap₂, ◌∙◌, subst, arith, lit<}
-use Rattle.std.proofs.lemmas.List.{length_push, length-append, length-take-le, length-drop, take_at, take_all}
+use Rattle.std.proofs.Common.{take, drop, sym, ap, ◌∙◌, subst, arith}
+use Rattle.std.proofs.lemmas.List.{length-append, length-take-le, length-drop}
 use Rattle.std.proofs.lemmas.List.FromFn.{length-map-range_with_len}
 use Rattle.dtx_laws.specs.Branches.{Branching, HasWidths, gathering, leaving_all, after_all}
 use Rattle.dtx_slice.specs.Slicing.{sliced_data, sliced_last}
 use Rattle.dtx_slice.specs.Unrolled.{level_groups, byte_back, bytes_back, precoder_bits_after, precoder_bits_of}
-use Rattle.dtx_trellis.specs.Pairs.{group_place}
-use Rattle.dtx_receiver.specs.Bytes.{data_count, groups_of, levels_from, levels_in}
-use Rattle.dtx_receiver.specs.Bytes.{bytes_in}
-use Rattle.dtx_receiver.specs.SegmentsLaws.{more_data, more_sync, levels_more, levels_stay, Still, still_data}
-use Rattle.dtx_receiver.specs.SegmentsLaws.{still_sync, Grown, grown, first_groups, first_levels}
-use Rattle.dtx_receiver.specs.SegmentsLaws.{first_bytes, formers_first, groups_within}
+use Rattle.dtx_receiver.specs.Bytes.{data_count, groups_of, bytes_in}
+use Rattle.dtx_receiver.specs.LevelsLaws.{levels_first, levels_sync, levels_data, Whole, Added, levels_group}
+use Rattle.dtx_receiver.specs.LevelsLaws.{part_now, not_due_now}
+use Rattle.dtx_receiver.specs.Receiver.{AreLevels}
+use Rattle.dtx_receiver.specs.SegmentsLaws.{more_data, Still, still_data, still_sync, first_groups, first_bytes}
 use Rattle.dtx_erase.specs.Sides.{Side, Gathers, Holds}
 use Rattle.dtx_erase.proofs.Gathered.{gathers_first, gathers_stay, gathers_group}
 
 pub holds_first : (x : List ℤ) (new : Side) → new.precoder_bits ≡ precoder_bits_of (sliced_last x)
     → HasWidths 52 (gathering 52 4) new.branches → new.branches.next ≡ 0 → Holds new (x ∷ [])
-unfolding levels_from groups_of data_count
 holds_first x new f w a = record {
-  some = lit< tt;
-  long = ap length (first_levels x);
-  levels = refl;
-  precoder_bits = f ∙ sym (formers_first x);
+  levels = levels_first x new.levels new.precoder_bits f;
   gathers = gathers_first new.branches new.gathered (bytes_in (x ∷ [])) (groups_of (x ∷ [])) w a (first_bytes x)
       (first_groups x);
 }
@@ -30,28 +25,11 @@ holds_first x new f w a = record {
 pub holds_sync : (x : List ℤ) (kept : Side) (run : List (List ℤ)) → Holds kept run → length run % 313 ≡ 0
     → Holds kept (run ++ x ∷ [])
 holds_sync x kept run d z =
-    let s : Still run (run ++ x ∷ []) = still_sync run x d.some z in
-    let c : data_count (run ++ x ∷ []) ≡ data_count run = more_sync run x z in
+    let s : Still run (run ++ x ∷ []) = still_sync run x d.levels.some z in
     record {
-      some = omega (arith, length_push run x);
-      long = ap length s.levels ∙ d.long ∙ ap (λ g. 3312 * g) (sym s.groups);
-      levels = ap (λ n. take (828 * (n % 4)) kept.levels) c ∙ d.levels
-          ∙ sym (ap₂ (λ g n. levels_from (run ++ x ∷ []) (4 * g) (n % 4)) s.groups c
-          ∙ levels_stay run x (4 * groups_of run) (data_count run % 4) (omega (arith, groups_within run)));
-      precoder_bits = d.precoder_bits ∙ sym s.precoder_bits;
+      levels = levels_sync x kept.levels kept.precoder_bits run d.levels z;
       gathers = gathers_stay kept.branches kept.gathered _ _ _ _ (sym s.groups) (sym s.bytes) d.gathers;
     }
-
--- the levels of a segment are put behind those of the segments of its group
-put : (n : ℕ) (old new more before : List ℕ) → length old ≡ 3312 → n < 4 → length more ≡ 828
-    → new ≡ take (828 * n) old ++ more ++ drop (828 * n + 828) old
-    → take (828 * n) old ≡ before → take (828 * (n + 1)) new ≡ before ++ more
-put n old new more before l small m e f =
-    let fits : 828 * n ≤ length old = omega (arith, l, small) in
-    let long : length (take (828 * n) old ++ more) ≡ 828 * (n + 1) = length-append (take (828 * n) old) more
-    ∙ omega (arith, length-take-le (828 * n) old fits, m) in
-    ap (take (828 * (n + 1))) e ∙ take_at (take (828 * n) old ++ more) (drop (828 * n + 828) old) (828 * (n + 1)) long
-    ∙ ap (λ xs. xs ++ more) f
 
 pub put_long : (n : ℕ) (old more : List ℕ) → length old ≡ 3312 → n < 4 → length more ≡ 828
     → length (take (828 * n) old ++ more ++ drop (828 * n + 828) old) ≡ 3312
@@ -77,17 +55,9 @@ pub holds_data : (x : List ℤ) (kept new : Side) (run : List (List ℤ)) → Ho
     → Holds new (run ++ x ∷ [])
 holds_data x kept new run d n p l m e f i t =
     let s : Still run (run ++ x ∷ []) = still_data run x n p in
-    let c : data_count (run ++ x ∷ []) ≡ data_count run + 1 = more_data run x n in
-    let r : (data_count run + 1) % 4 ≡ data_count run % 4 + 1 = omega (arith, p) in
     record {
-      some = omega (arith, length_push run x);
-      long = ap length s.levels ∙ d.long ∙ ap (λ g. 3312 * g) (sym s.groups);
-      levels = ap (λ n. take (828 * n) new.levels) (ap (λ n. n % 4) c ∙ r)
-          ∙ put (data_count run % 4) kept.levels new.levels (sliced_data x)
-          (levels_from run (4 * groups_of run) (data_count run % 4)) l (omega arith) m e d.levels
-          ∙ sym (ap₂ (λ g n. levels_from (run ++ x ∷ []) (4 * g) n) s.groups (ap (λ n. n % 4) c ∙ r)
-          ∙ levels_more run x (4 * groups_of run) (data_count run % 4) n (groups_within run));
-      precoder_bits = f ∙ d.precoder_bits ∙ sym s.precoder_bits;
+      levels = subst (λ (bits : List ℕ). AreLevels new.levels bits (run ++ x ∷ [])) (sym f)
+          (levels_data x kept.levels new.levels kept.precoder_bits run d.levels n p l m e);
       gathers = subst (λ (v : Branching). Gathers v new.gathered (groups_of (run ++ x ∷ [])) (bytes_in
           (run ++ x ∷ []))) (sym i)
           (subst (λ (xs : List ℕ). Gathers kept.branches xs (groups_of (run ++ x ∷ [])) (bytes_in (run ++ x ∷ [])))
@@ -95,92 +65,32 @@ holds_data x kept new run d n p l m e f i t =
           (gathers_stay kept.branches kept.gathered _ _ _ _ (sym s.groups) (sym s.bytes) d.gathers));
     }
 
--- the segment that makes a group whole
-place_now : (run : List (List ℤ)) (place : ℕ) → length run % 313 ≡ place + 1 → data_count run % 312 ≡ place
-unfolding data_count
-place_now run place e = by_length (length run) e
-  where
-    by_length : (l : ℕ) → l % 313 ≡ place + 1 → (l - (l + 312) / 313) % 312 ≡ place
-    by_length l e = omega (arith, e)
-
-pub part_now : (run : List (List ℤ)) (place : ℕ) → length run % 313 ≡ place + 1 → data_count run % 4 ≡ place % 4
-part_now run place e = by_count (data_count run) (place_now run place e)
-  where
-    by_count : (d : ℕ) → d % 312 ≡ place → d % 4 ≡ place % 4
-    by_count d e = omega (arith, e)
-
-group_now : (run : List (List ℤ)) (place : ℕ) → length run % 313 ≡ place + 1
-    → group_place 0 (groups_of run) ≡ place - place % 4
-unfolding group_place groups_of
-group_now run place e = by_count (data_count run) (place_now run place e)
-  where
-    by_count : (d : ℕ) → d % 312 ≡ place → (0 + 4 * (d / 4)) % 312 ≡ place - place % 4
-    by_count d e = omega (arith, e)
-
-pub not_due_now : (run : List (List ℤ)) (place : ℕ) → length run % 313 ≡ place + 1 → length run % 313 ≢ 0
-not_due_now run place e = λ z. omega (arith, e, z)
-
-pub record Whole (x : List ℤ) (kept : Side) (run : List (List ℤ)) (place : ℕ) (z : List ℕ) : Type 0 where
-  pub due : length run % 313 ≡ place + 1
-  pub last : place % 4 ≡ 3
-  pub long : length kept.levels ≡ 3312
-  pub segment : length (sliced_data x) ≡ 828
-  pub group : length z ≡ 3312
-  pub levels : z ≡ take (828 * (place % 4)) kept.levels ++ sliced_data x ++ drop (828 * (place % 4) + 828) kept.levels
-
-whole_levels : (x : List ℤ) (kept : Side) (run : List (List ℤ)) (place : ℕ) (z : List ℕ) → Whole x kept run place z
-    → Holds kept run
-    → levels_from run (4 * groups_of run) 3 ++ sliced_data x ≡ z
-whole_levels x kept run place z w d =
-    sym (sym (take_all 3312 z (omega (arith, w.group)))
-    ∙ put 3 kept.levels z (sliced_data x) (levels_from run (4 * groups_of run) 3) w.long (lit< tt) w.segment (w.levels
-    ∙ ap (λ n. take (828 * n) kept.levels ++ sliced_data x ++ drop (828 * n + 828) kept.levels) w.last)
-    (ap (λ n. take (828 * n) kept.levels) (sym count) ∙ d.levels ∙ ap (levels_from run (4 * groups_of run)) count))
-  where
-    count : data_count run % 4 ≡ 3
-    count = part_now run place w.due ∙ w.last
-
-levels_none : (run : List (List ℤ)) (a : ℕ) → levels_from run a 0 ≡ []
-unfolding levels_from
-levels_none run a = refl
-
 group_long : (s : ℕ) (f z : List ℕ) → length z ≡ 3312 → length (bytes_back s f z) ≡ 828
 unfolding bytes_back level_groups
 group_long s f z l = length-map-range_with_len (byte_back s f z) 0 (828 * (length z / 3312))
     ∙ ap (λ n. 828 * (n / 3312)) l
 
+-- the segment that makes a group whole
 pub holds_group : (x : List ℤ) (kept new : Side) (run : List (List ℤ)) (place : ℕ) (z : List ℕ)
-    → Whole x kept run place z → Holds kept run → length kept.gathered ≡ 984
+    → Whole x kept.levels run place z → Holds kept run → length kept.gathered ≡ 984
     → new.levels ≡ z → new.precoder_bits ≡ precoder_bits_after (place - place % 4) kept.precoder_bits z
     → new.branches ≡ after_all 52 kept.branches (bytes_back (place - place % 4) kept.precoder_bits z)
     → new.gathered ≡ drop 828 kept.gathered
     ++ leaving_all 52 kept.branches (bytes_back (place - place % 4) kept.precoder_bits z)
     → Holds new (run ++ x ∷ [])
 holds_group x kept new run place z w d m l f t i =
-    let g : Grown run (run ++ x ∷ []) z = grown run x z (not_due_now run place w.due) (part_now run place w.due
-    ∙ w.last) d.long (whole_levels x kept run place z w d) in
-    let n : data_count (run ++ x ∷ []) % 4 ≡ 0 = ap (λ c. c % 4) (more_data run x (not_due_now run place w.due))
-    ∙ next_four (data_count run) (part_now run place w.due ∙ w.last) in
+    let a : Added x kept.precoder_bits run place z =
+    levels_group x kept.levels kept.precoder_bits run place z w d.levels in
     let more : List ℕ = bytes_back (place - place % 4) kept.precoder_bits z in
-    let bytes : bytes_in (run ++ x ∷ []) ≡ bytes_in run ++ more = g.bytes
-    ∙ ap₂ (λ s f. bytes_in run ++ bytes_back s f z) (group_now run place w.due) (sym d.precoder_bits) in
     record {
-      some = omega (arith, length_push run x);
-      long = ap length g.levels ∙ length-append (levels_in run) z ∙ omega (arith, d.long, w.group, g.groups);
-      levels = ap (λ c. take (828 * c) new.levels) n
-          ∙ sym (ap (levels_from (run ++ x ∷ []) (4 * groups_of (run ++ x ∷ []))) n
-          ∙ levels_none (run ++ x ∷ []) (4 * groups_of (run ++ x ∷ [])));
-      precoder_bits = f ∙ ap₂ (λ s y. precoder_bits_after s y z) (sym (group_now run place w.due)) d.precoder_bits
-          ∙ sym g.precoder_bits;
-      gathers = gathers_stay new.branches new.gathered _ _ _ _ (sym g.groups) (sym bytes)
+      levels = subst (λ (ls : List ℕ). AreLevels ls new.precoder_bits (run ++ x ∷ [])) (sym l)
+          (subst (λ (bits : List ℕ). AreLevels z bits (run ++ x ∷ [])) (sym f) a.levels);
+      gathers = gathers_stay new.branches new.gathered _ _ _ _ (sym a.groups) (sym a.bytes)
           (gathers_group kept.branches new.branches kept.gathered new.gathered (groups_of run) (bytes_in run) more
           d.gathers m (group_long (place - place % 4) kept.precoder_bits z w.group) t i);
     }
-  where
-    next_four : (c : ℕ) → c % 4 ≡ 3 → (c + 1) % 4 ≡ 0
-    next_four c e = omega arith
 
--- how many groups there are then, and the bytes of both
+-- how many groups there are then
 pub groups_whole : (run : List (List ℤ)) (x : List ℤ) (place : ℕ) → length run % 313 ≡ place + 1 → place % 4 ≡ 3
     → groups_of (run ++ x ∷ []) ≡ groups_of run + 1
 unfolding groups_of

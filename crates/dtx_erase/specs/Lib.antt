@@ -6,5 +6,5 @@ pub mod Sides
 pub mod ChosenLaws
 pub mod MarksLaws
 pub mod MendedLaws
-pub mod FollowingLaws
 pub mod UnmarkedLaws
+pub mod GrowingLaws

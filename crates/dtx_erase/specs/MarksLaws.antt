@@ -52,7 +52,7 @@ behind n x = ap (map sliced) (drop-map shown n x) ∙ levels_same (drop n x)
 segment_at : (run : List (List ℤ)) (i : ℕ) → get_or (shown_run run) i [] ≡ map shown (get_or run i [])
 segment_at run i = get_or-map (map shown) run i []
 
-shown_data : (run : List (List ℤ)) (d : ℕ) → data_at (shown_run run) d ≡ map shown (data_at run d)
+pub shown_data : (run : List (List ℤ)) (d : ℕ) → data_at (shown_run run) d ≡ map shown (data_at run d)
 unfolding data_at
 shown_data run d = segment_at run (d + d / 312 + 1)
 

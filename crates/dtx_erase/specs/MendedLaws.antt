@@ -76,7 +76,7 @@ none_left s c =
 abbrev pub flagged : List ℕ → List ℕ → ℕ → Received
 flagged bytes flags k = mended_word (187 * (k % 312)) (word_at 207 52 4 bytes k) (word_at 207 52 4 flags k)
 
-at_flags : (bytes flags : List ℕ) (k : ℕ) → mended_at bytes (map is_set flags) k ≡ flagged bytes flags k
+pub at_flags : (bytes flags : List ℕ) (k : ℕ) → mended_at bytes (map is_set flags) k ≡ flagged bytes flags k
 unfolding mended_at
 at_flags bytes flags k =
     ap (λ marks. received_by (187 * (k % 312)) (word_at 207 52 4 bytes k) (mending 207 187 marks
@@ -106,7 +106,7 @@ run_count bytes flags g e =
     same g = omega arith
 
 -- the packets whose words are complete stay as they are, whatever comes
-stays : (bytes more flags fore : List ℕ) (k g : ℕ) → length bytes ≡ 828 * g → length flags ≡ 828 * g
+pub stays : (bytes more flags fore : List ℕ) (k g : ℕ) → length bytes ≡ 828 * g → length flags ≡ 828 * g
     → IsComplete 207 52 4 (207 * (4 * g)) k → flagged (bytes ++ more) (flags ++ fore) k ≡ flagged bytes flags k
 stays bytes more flags fore k g e f c =
     let n : 207 * (4 * g) ≡ 828 * g = omega arith in
@@ -174,7 +174,7 @@ early_four bytes more flags fore g give e f l h is =
 
 -- ---- the end of a run
 
-end_more : (bytes flags : List ℕ) (g : ℕ) → length bytes ≡ 828 * g
+pub end_more : (bytes flags : List ℕ) (g : ℕ) → length bytes ≡ 828 * g
     → mended_run_packets bytes (map is_set flags) ≡ mended_early bytes (map is_set flags)
     ++ map (mended_at bytes (map is_set flags))
     (filter (is_complete (207 * (4 * g))) (range_with_len (4 * g - 52) (4 * g - (4 * g - 52))))

@@ -1,13 +1,13 @@
 -- What a mending receiver keeps, and the segments that it stands for.
-use Rattle.std.specs.Prelude.{ℕ, ℤ, ◌≡◌, ◌+◌, ◌-◌, ◌*◌, ◌<◌, ◌%◌, Option, option_map, IfSome, List, [], ◌∷◌, ◌++◌}
-use Rattle.std.specs.Prelude.{length, take, drop, map}
+use Rattle.std.specs.Prelude.{ℕ, ℤ, ◌≡◌, ◌+◌, ◌-◌, ◌*◌, ◌<◌, ◌%◌, Option, List, []}
+use Rattle.std.specs.Prelude.{Bool, true, length, take, drop, map, replicate, slice_index, slice_index_or}
 use Rattle.dtx_laws.specs.Branches.{Branching, HasWidths, gathering, leaving_all, after_all}
 use Rattle.dtx_outer.specs.Inner.{word_at}
 use Rattle.dtx_receiver.specs.declared.batch.Received.{Received}
 use Rattle.dtx_receiver.specs.declared.tracking.Tracking.{Tracking}
-use Rattle.dtx_receiver.specs.Runs.{tracked, tracking}
 use Rattle.dtx_receiver.specs.Packets.{received_by}
-use Rattle.dtx_receiver.specs.Bytes.{data_count, groups_of, levels_from, levels_in, precoder_bits_in, bytes_in}
+use Rattle.dtx_receiver.specs.Bytes.{groups_of, bytes_in}
+use Rattle.dtx_receiver.specs.Receiver.{AreLevels, HasRun, IsFollowed}
 use Rattle.dtx_erase.specs.Marks.{shown_run, is_set}
 use Rattle.dtx_erase.specs.Mended.{mending, mended_so_far}
 
@@ -36,11 +36,33 @@ pub record Gathers (held : Branching) (gathered : List ℕ) (groups : ℕ) (y : 
 
 -- what is kept is that of a run with these segments
 pub record Holds (kept : Side) (run : List (List ℤ)) : Type 0 where
-  pub some : 0 < length run
-  pub long : length (levels_in run) ≡ 3312 * groups_of run
-  pub levels : take (828 * (data_count run % 4)) kept.levels ≡ levels_from run (4 * groups_of run) (data_count run % 4)
-  pub precoder_bits : kept.precoder_bits ≡ precoder_bits_in run
+  pub levels : AreLevels kept.levels kept.precoder_bits run
   pub gathers : Gathers kept.branches kept.gathered (groups_of run) (bytes_in run)
+
+-- zeros came last to the branches, of so many groups
+pub record HaveCome (groups : ℕ) (branches : Branching) : Type 0 where
+  pub before : Branching
+  pub widths : HasWidths 52 (gathering 52 4) before
+  pub come : branches ≡ after_all 52 before (replicate (828 * groups) 0)
+
+-- the branches hold zeros alone
+abbrev pub AreClear : Branching → Type 0
+AreClear v = (i j : ℕ) → i < 52 → slice_index (slice_index_or v.lists i []) j ≡ 0
+
+-- no mark is anywhere in what is kept
+pub record IsQuiet (side : Side) : Type 0 where
+  pub levels : side.levels ≡ replicate 3312 0
+  pub precoder_bits : side.precoder_bits ≡ replicate 12 0
+  pub below : side.branches.next < 52
+  pub branches : AreClear side.branches
+  pub gathered : side.gathered ≡ replicate 984 0
+
+-- what is known of the marks' side: whether each Z2 is 0, how many groups without a mark came last, and whether no mark
+-- is in it
+pub record AreKnown (side : Side) (lowest : Bool) (groups : ℕ) (quiet : Bool) : Type 0 where
+  pub bits : lowest ≡ true → side.precoder_bits ≡ replicate 12 0
+  pub come : HaveCome groups side.branches
+  pub none : quiet ≡ true → IsQuiet side
 
 -- both sides of a run, how many groups more give no packet, and the next packet's place among 312
 pub record Decoding : Type 0 where
@@ -65,14 +87,10 @@ pub record Kept : Type 0 where
   pub decoding : Decoding
 
 -- what is kept is what these segments leave
-pub record Mends (receiver : Kept) (segments : List (List ℤ)) : Type 0 where
-  pub place : receiver.place ≡ option_map (λ run. length run % 313) (tracked segments).run
-  pub run : IfSome (tracked segments).run (λ run. Decodes receiver.decoding run)
+abbrev pub Mends : Kept → List (List ℤ) → Type 0
+Mends receiver segments = HasRun Decodes receiver.place receiver.decoding segments
 
 -- A segment behind these is told what it is; then the receiver stands for the longer list, and brings what is given
 -- more.
-pub record IsTaken (segments : List (List ℤ)) (x : List ℤ) (new : Kept) (answer : Tracking)
-    (brought : List Received) : Type 0 where
-  pub told : answer ≡ tracking segments x
-  pub stands : Mends new (segments ++ x ∷ [])
-  pub packets : mended_so_far (segments ++ x ∷ []) ≡ mended_so_far segments ++ brought
+abbrev pub IsTaken : List (List ℤ) → List ℤ → Kept → Tracking → List Received → Type 0
+IsTaken segments x new answer brought = IsFollowed (Mends new) mended_so_far segments x answer brought

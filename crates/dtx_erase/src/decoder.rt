@@ -1,13 +1,13 @@
 //! From the segments of a run, some of whose symbols are missing, to packets.
 
-ghost use Rattle.std.specs.Prelude.{◌≡◌, ℕ, ℤ, ◌+◌, ◌*◌, ◌%◌, ◌<◌, ◌++◌, ◌∷◌, [], List, length, map};
-ghost use Rattle.dtx_erase.specs.Marks.{shown};
+ghost use Rattle.std.specs.Prelude.{◌≡◌, ℤ, ◌+◌, ◌*◌, ◌%◌, ◌<◌, ◌++◌, ◌∷◌, [], List, length, map};
 ghost use Rattle.dtx_erase.specs.Mended.{mended_run, mended_run_early};
 ghost use Rattle.dtx_erase.specs.Sides.{Decodes, mended_word, word_of};
 
+use crate::mark_side::MarkSide;
 use crate::side::Side;
 use crate::words::Words;
-use dtx_receiver::{Batch, MOST_RECEIVED};
+use dtx_receiver::Batch;
 use dtx_sizes::{FIELD_PACKETS, PACKET_DATA, SEGMENT};
 use std::alloc::{AllocError, Global};
 use std::marker::Model;
@@ -19,7 +19,7 @@ const WAITING: u8 = 13;
 #[derive(Drop)]
 pub(crate) struct Decoder {
     bytes: Side,
-    marks: Side,
+    marks: MarkSide,
     words: Words,
     waits: u8,
     place: u16,
@@ -41,7 +41,7 @@ impl Decoder {
     pub(crate) fn new(alloc: Global) -> Result<Decoder, AllocError> {
         Ok(Decoder {
             bytes: Side::new(alloc)?,
-            marks: Side::new(alloc)?,
+            marks: MarkSide::new(alloc)?,
             words: Words::new(alloc)?,
             waits: 0,
             place: 0,
@@ -53,7 +53,7 @@ impl Decoder {
         ensures { Decodes self.new (sync.now ∷ []) }
     {
         self.bytes.begin(sync);
-        self.marks.begin(&as_marks(sync));
+        self.marks.begin(sync);
         self.waits = WAITING;
         self.place = 0;
     }
@@ -68,7 +68,7 @@ impl Decoder {
             → mended_run_early (run ++ segment.now ∷ []) ≡ mended_run_early run ++ batch.new.packets.items }
     {
         self.bytes.take(place, segment);
-        self.marks.take(place, &as_marks(segment));
+        self.marks.take(place, segment);
         if place % 4 == 3 {
             self.group(batch);
         }
@@ -87,26 +87,11 @@ impl Decoder {
         if self.waits > 0 {
             self.waits -= 1;
         } else {
-            self.give(0, batch);
-            self.give(1, batch);
-            self.give(2, batch);
-            self.give(3, batch);
+            let words = self.bytes.words();
+            let flags = self.marks.words();
+            self.words.give_four(self.place, &words, &flags, batch);
             self.place = (self.place + 4) % FIELD_PACKETS;
         }
-    }
-
-    /// The packet of word `p` of a group.
-    fn give(&self, p: u16, batch: &mut Batch)
-        requires four { p < 4 }
-        requires room { length batch.old.packets.items < MOST_RECEIVED }
-        ensures { batch.new.packets.items ≡ batch.old.packets.items
-            ++ mended_word (PACKET_DATA * ((self.now.place + p) % 312)) (word_of self.now.bytes.gathered p)
-            (word_of self.now.marks.gathered p) ∷ [] }
-    {
-        let word = self.bytes.word(p as usize);
-        let flags = self.marks.word(p as usize);
-        self.words
-            .give((self.place + p) % FIELD_PACKETS, &word, &flags, batch);
     }
 
     /// The run has ended: what is left of its packets.
@@ -121,22 +106,4 @@ impl Decoder {
             self.words.give(self.place, &word, &flags, batch);
         }
     }
-}
-
-/// The symbols of a segment as marks: 7 where one is missing, and else -7.
-fn as_marks(segment: &[i8; SEGMENT]) -> [i8; SEGMENT]
-    ensures { result ≡ map shown segment.now }
-{
-    let mut marks = [-7; SEGMENT];
-    for i in 0..SEGMENT {
-        marks[i] = as_mark(segment[i]);
-    }
-    marks
-}
-
-/// A symbol as a mark.
-fn as_mark(symbol: i8) -> i8
-    ensures { result ≡ shown symbol }
-{
-    if symbol == -128 { 7 } else { -7 }
 }

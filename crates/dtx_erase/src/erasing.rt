@@ -1,16 +1,17 @@
 //! What mends words of a code.
 
-ghost use Rattle.std.specs.Prelude.{◌≡◌, ◌-◌, ◌≤◌, ℕ, List, MatchResult, length, take};
-ghost use Rattle.dtx_galois.specs.Field.{AreBytes};
+ghost use Rattle.std.specs.Prelude.{◌≡◌, ◌-◌, ◌<◌, ◌≤◌, ℕ, List, [], Ok, MatchResult, length, slice_index};
+ghost use Rattle.std.specs.Prelude.{slice_index_or};
+ghost use Rattle.dtx_galois.specs.Field.{AreBytes, pow, value};
 ghost use Rattle.dtx_laws.specs.Codeword.{IsCode, IsCodeword};
+ghost use Rattle.dtx_laws.specs.Correction.{IsCorrected, IsLeft};
 ghost use Rattle.dtx_erase.specs.Mending.{IsDeclined, IsMended, IsMending, IsUnmended, lost};
 
-use crate::marks::{cancelled, distance, lost, suspects, unmarked_distance};
+use crate::marks::{first_left, lost, suspects, unmarked_distance};
 use crate::mender::Mend;
-use crate::recurrence::find_recurrence;
 use crate::values::patch;
-use dtx_fast::Fast;
-use dtx_laws::correcting::{encoded_again, syndromes_of};
+use dtx_fast::{Fast, find_recurrence};
+use dtx_laws::correcting::{ROOM, distance, encoded_again};
 use dtx_laws::{Correct, TooMany};
 use dtx_rs::Rs;
 
@@ -32,6 +33,15 @@ impl<const N: usize, const K: usize> Erase<N, K> {
             encoder: Rs::new(),
             corrector: Fast::new(),
         }
+    }
+
+    /// Corrects four words, which is to mend them where no place is marked.
+    pub(crate) fn correct_four(&self, words: &mut [[u8; N]; 4]) -> [Result<u8, TooMany>; 4]
+        ensures { (p : ℕ) → p < 4 → MatchResult (slice_index_or result p (Ok 0))
+            (IsCorrected N K (slice_index_or words.old p []) (slice_index_or words.new p []))
+            (λ _e. IsLeft N K (slice_index_or words.old p []) (slice_index_or words.new p [])) }
+    {
+        self.corrector.correct_four(words)
     }
 
     /// Mends a word by its correction, where that is the mending. It isn't tried where more bytes are missing than a
@@ -65,7 +75,8 @@ impl<const N: usize, const K: usize> Erase<N, K> {
             return Ok(0);
         }
         let mut tried = *word;
-        restore(&mut tried[..], &code[..], &marks[..], K);
+        let syndromes = self.corrector.syndromes(word, &code);
+        restore(&mut tried[..], &syndromes, &marks[..], K);
         if encoded_again(&self.encoder, &tried) == tried {
             accept::<N, K>(word, &tried, marks)
         } else {
@@ -114,22 +125,20 @@ fn accept<const N: usize, const K: usize>(
     }
 }
 
-/// Makes a word its mending, where it has one, from the codeword that begins with its `k` bytes of data.
-fn restore(word: &mut [u8], code: &[u8], marks: &[bool], k: usize)
-    requires same { length code.now ≡ length word.old }
+/// Makes a word its mending, where it has one, by its syndromes.
+fn restore(word: &mut [u8], syndromes: &[u8; ROOM], marks: &[bool], k: usize)
     requires marks { length marks.now ≡ length word.old }
     requires code { IsCode (length word.old) k }
     requires bytes { AreBytes word.old }
-    requires codeword { IsCodeword (length word.old) k code.now }
-    requires begins { take k code.now ≡ take k word.old }
+    requires syndromes { (i : ℕ) → i < length word.old - k → slice_index syndromes.now i ≡ value word.old (pow 2 i) }
     requires few { lost marks.now ≤ length word.old - k }
     ensures { (right : List ℕ) → IsMending (length word.old) k marks.now word.old right → word.new ≡ right }
 {
     let parity = word.len() - k;
-    let syndromes = syndromes_of(&word[k..], &code[k..]);
-    let rest = cancelled(&syndromes, marks, parity);
-    if let Some(found) = find_recurrence(&rest, (parity - lost(marks)) / 2) {
+    let most = (parity - lost(marks)) / 2;
+    let rest = first_left(syndromes, marks, parity, 2 * most);
+    if let Some(found) = find_recurrence(&rest, 2 * most) {
         let suspects = suspects(marks, &found.coefficients[..], found.order);
-        patch(word, &suspects, &syndromes);
+        patch(word, &suspects, syndromes);
     }
 }

@@ -1,11 +1,12 @@
 //! The laws of mendings, over the definitions and for every `n` and `k`: so they hold of everything that mends. And the
 //! laws of what is received where symbols are missing.
 
-ghost use Rattle.std.specs.Prelude.{◌≡◌, ℕ, ℤ, Bool, true, List, ◌+◌, ◌-◌, ◌*◌, ◌%◌, ◌≤◌, length, map};
+ghost use Rattle.std.specs.Prelude.{◌≡◌, ℕ, ℤ, Bool, true, List, [], ◌∷◌, ◌++◌, ◌+◌, ◌-◌, ◌*◌, ◌%◌, ◌≤◌, length, map};
 ghost use Rattle.dtx_laws.specs.Codeword.{IsCodeword, IsCorrection, distance};
 ghost use Rattle.dtx_outer.specs.Inner.{word_at};
 ghost use Rattle.dtx_receiver.specs.Bytes.{bytes_in};
 ghost use Rattle.dtx_receiver.specs.Packets.{all_packets, packet_bytes, packets_so_far, received};
+ghost use Rattle.dtx_receiver.specs.declared.batch.Received.{Received};
 ghost use Rattle.dtx_erase.specs.Marks.{AllThere, is_set, marks_in, shown_run};
 ghost use Rattle.dtx_erase.specs.Mended.{all_mended, marks_at, mended, mended_at, mended_so_far};
 ghost use Rattle.dtx_erase.specs.Mending.{IsMended, IsMending, IsUnmended, lost, unmarked_distance};
@@ -76,6 +77,15 @@ pub fn near_packet()
 /// As many packets are given as `Receiver` gives, whatever is missing.
 pub fn as_many()
     ensures { (segments : List (List ℤ)) → length (all_mended segments) ≡ length (all_packets segments) }
+{}
+
+/// What is given with one segment more, and what is left at the end of the list, comes behind what was given before.
+pub fn goes_on()
+    ensures none { mended_so_far [] ≡ [] }
+    ensures segment { (segments : List (List ℤ)) (x : List ℤ)
+        → (brought : List Received) × (mended_so_far (segments ++ x ∷ []) ≡ mended_so_far segments ++ brought) }
+    ensures end { (segments : List (List ℤ)) → (brought : List Received)
+        × (all_mended segments ≡ mended_so_far segments ++ brought) }
 {}
 
 /// The marks of a run are the bytes other than 0 of the run in which each missing symbol is 7 and any other -7, where

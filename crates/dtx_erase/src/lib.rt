@@ -5,13 +5,11 @@
 mod decoder;
 mod erasing;
 pub mod laws;
+mod mark_side;
 mod marks;
 mod mender;
 mod receiver;
-mod recurrence;
 mod side;
-#[cfg(test)]
-mod tests;
 mod values;
 mod words;
 

@@ -2,15 +2,13 @@
 
 ghost use Rattle.std.specs.Prelude.{◌≡◌, ℕ, ◌+◌, ◌-◌, ◌<◌, ◌≤◌, ◌==◌, ◌&&◌, ◌||◌, not, if◌then◌else◌};
 ghost use Rattle.std.specs.Prelude.{IsTrue, length, slice_index, take};
-ghost use Rattle.std.specs.Int.RustNames.{bit_xor};
-ghost use Rattle.dtx_galois.specs.Field.{AreBytes, mul, value};
-ghost use Rattle.dtx_laws.specs.Codeword.{distance};
+ghost use Rattle.dtx_galois.specs.Field.{AreBytes, value};
 ghost use Rattle.dtx_laws.specs.ErrorValues.{others, without};
 ghost use Rattle.dtx_laws.specs.Locator.{is_marked, power_at};
 ghost use Rattle.dtx_erase.specs.Mending.{lost, unmarked_distance};
 
-use dtx_galois::{Gf, eval};
-use dtx_laws::correcting::{ROOM, power_at};
+use dtx_galois::eval;
+use dtx_laws::correcting::{ROOM, cancel, power_at};
 
 /// How many places are marked.
 pub fn lost(marks: &[bool]) -> usize
@@ -50,9 +48,26 @@ fn differ(mark: bool, byte: u8, other: u8) -> bool
     !mark && byte != other
 }
 
+/// The first `wanted` entries of what cancelling the marked places leaves of the first `count` syndromes. Nothing is
+/// done where none are wanted.
+pub fn first_left(syndromes: &[u8; ROOM], marks: &[bool], count: usize, wanted: usize) -> [u8; ROOM]
+    requires few { length marks.now ≤ 255 }
+    requires syndromes { count ≤ 255 }
+    requires known { wanted + lost marks.now ≤ count }
+    ensures long { length result ≡ ROOM }
+    ensures rest { (i : ℕ) → i < wanted → slice_index result i ≡ without
+        (others (length marks.now) (is_marked marks.now) (length marks.now) (length marks.now))
+        (slice_index syndromes.now) i }
+{
+    if wanted == 0 {
+        return *syndromes;
+    }
+    cancelled(syndromes, marks, count)
+}
+
 /// Cancels the marked places from the first `count` syndromes of a word: of the rest the last ones, as many as places
 /// are marked, are then of no use.
-pub fn cancelled(syndromes: &[u8; ROOM], marks: &[bool], count: usize) -> [u8; ROOM]
+fn cancelled(syndromes: &[u8; ROOM], marks: &[bool], count: usize) -> [u8; ROOM]
     requires few { length marks.now ≤ 255 }
     requires syndromes { count ≤ 255 }
     ensures long { length result ≡ ROOM }
@@ -69,19 +84,6 @@ pub fn cancelled(syndromes: &[u8; ROOM], marks: &[bool], count: usize) -> [u8; R
         }
     }
     rest
-}
-
-/// Cancels a power from the first `count` entries of a sequence, of which the last is then of no use.
-fn cancel(sequence: &mut [u8; ROOM], count: usize, power: Gf)
-    requires { count ≤ 255 }
-    ensures long { length sequence.new ≡ ROOM }
-    ensures values { (i : ℕ) → i + 1 < count
-        → slice_index sequence.new i ≡ bit_xor (slice_index sequence.old (i + 1))
-        (mul power.0 (slice_index sequence.old i)) }
-{
-    for i in 1..count {
-        sequence[i - 1] = Gf(sequence[i]).add(power.mul(Gf(sequence[i - 1]))).0;
-    }
 }
 
 /// Marks the places that are marked, and those at which the polynomial with the first `order + 1` coefficients, the
@@ -120,19 +122,4 @@ fn left_after(left: usize, zero: bool) -> usize
     ensures { result ≡ left - (if zero then 1 else 0) }
 {
     if zero { left - 1 } else { left }
-}
-
-/// In how many places two words of one length differ.
-pub fn distance(word: &[u8], other: &[u8]) -> u8
-    requires same { length word.now ≡ length other.now }
-    requires few { length word.now ≤ 255 }
-    ensures { result ≡ distance word.now other.now }
-{
-    let mut count = 0;
-    for i in 0..word.len() {
-        if word[i] != other[i] {
-            count += 1;
-        }
-    }
-    count
 }

@@ -1,8 +1,8 @@
 //! One side of a run: its bytes, or its marks, from levels to gathered words.
 
-ghost use Rattle.std.specs.Prelude.{◌≡◌, ℕ, ℤ, ◌+◌, ◌-◌, ◌*◌, ◌%◌, ◌<◌, ◌≤◌, ◌++◌, ◌∷◌, []};
-ghost use Rattle.std.specs.Prelude.{List, length, drop};
-ghost use Rattle.dtx_laws.specs.Branches.{leaving_all, after_all};
+ghost use Rattle.std.specs.Prelude.{◌≡◌, ◌≢◌, ℕ, ℤ, IsTrue, ◌+◌, ◌-◌, ◌*◌, ◌%◌, ◌<◌, ◌≤◌, ◌++◌, ◌∷◌, []};
+ghost use Rattle.std.specs.Prelude.{List, length, drop, replicate, slice_index_or};
+ghost use Rattle.dtx_laws.specs.Branches.{HasWidths, gathering, leaving_all, after_all};
 ghost use Rattle.dtx_outer.specs.Inner.{word_at};
 ghost use Rattle.dtx_slice.specs.Unrolled.{bytes_back, precoder_bits_after};
 ghost use Rattle.dtx_receiver.specs.Bytes.{groups_of, bytes_in};
@@ -75,8 +75,14 @@ impl Side {
     /// The next data segment of the run, at this place of its field.
     pub(crate) fn take(&mut self, place: u16, segment: &[i8; SEGMENT])
         requires { place < FIELD_PACKETS }
-        ensures { (run : List (List ℤ)) → Holds self.old run → length run % 313 ≡ place + 1
+        ensures stands { (run : List (List ℤ)) → Holds self.old run → length run % 313 ≡ place + 1
             → Holds self.new (run ++ segment.now ∷ []) }
+        ensures within { place % 4 ≢ 3 → (self.new.branches ≡ self.old.branches)
+            × (self.new.precoder_bits ≡ self.old.precoder_bits) }
+        ensures whole { place % 4 ≡ 3 → (self.new.branches ≡ after_all BRANCHES self.old.branches
+            (bytes_back (place - place % 4) self.old.precoder_bits self.new.levels))
+            × (self.new.precoder_bits ≡ precoder_bits_after (place - place % 4) self.old.precoder_bits
+            self.new.levels) }
     {
         let part = place % GROUP_SEGMENTS;
         put_levels(segment, part as usize, &mut self.levels);
@@ -105,13 +111,53 @@ impl Side {
     }
 
     /// Word `p` of the four that the last group completed.
-    pub(crate) fn word(&self, p: usize) -> [u8; CODEWORD]
+    fn word(&self, p: usize) -> [u8; CODEWORD]
         requires { p < 4 }
         ensures { result ≡ word_of self.now.gathered p }
     {
         let mut word = [0; CODEWORD];
         word.copy_from_slice(&self.gathered[CODEWORD * p..CODEWORD * p + CODEWORD]);
         word
+    }
+
+    /// The four words that the last group completed.
+    pub(crate) fn words(&self) -> [[u8; CODEWORD]; 4]
+        ensures words { (p : ℕ) → p < 4 → slice_index_or result p [] ≡ word_of self.now.gathered p }
+        ensures long { (p : ℕ) → p < 4 → length (slice_index_or result p []) ≡ CODEWORD }
+    {
+        let mut words = [[0; CODEWORD]; 4];
+        for p in 0..4 {
+            words[p] = self.word(p);
+        }
+        words
+    }
+
+    /// Each branch of the de-interleaver holds as many bytes as it delays by.
+    pub(crate) fn known(&self)
+        ensures { HasWidths BRANCHES (gathering BRANCHES BRANCH_STEP) self.now.branches }
+    {
+        self.gather.known();
+    }
+
+    /// Whether the levels of the group that is on, or that was whole last, are all 0.
+    pub(crate) fn is_lowest(&self) -> bool
+        ensures { IsTrue result → self.now.levels ≡ replicate GROUP_LEVELS 0 }
+    {
+        are_zero(&self.levels)
+    }
+
+    /// Whether all bytes that were gathered last are 0.
+    pub(crate) fn is_empty(&self) -> bool
+        ensures { IsTrue result → self.now.gathered ≡ replicate GATHERED 0 }
+    {
+        are_zero(&self.gathered)
+    }
+
+    /// Moves the de-interleaver on by 48 zeros, which are what a group is to it where all that is kept is 0.
+    pub(crate) fn move_on(&mut self)
+        ensures { self.new ≡ record self.old { branches = after_all BRANCHES self.old.branches (replicate 48 0) } }
+    {
+        self.gather.gather(&mut [0; 48]);
     }
 
     /// The word that is left at the end of a run whose data segments are a multiple of 52.
@@ -125,6 +171,17 @@ impl Side {
         join(&self.gathered, GROUP_BYTES, &rest, &mut word);
         word
     }
+}
+
+/// Whether all bytes are 0.
+fn are_zero<const N: usize>(bytes: &[u8; N]) -> bool
+    ensures { IsTrue result → bytes.now ≡ replicate N 0 }
+{
+    let mut any = false;
+    for i in 0..N {
+        any |= bytes[i] != 0;
+    }
+    !any
 }
 
 /// The end of the gathered bytes, with those of a group behind them.

@@ -1,19 +1,22 @@
 //! Gathered words to packets.
 
-ghost use Rattle.std.specs.Prelude.{◌≡◌, true, false, ◌+◌, ◌*◌, ◌<◌, ◌≤◌, ◌++◌, [], ◌∷◌, MatchResult, length, map};
+ghost use Rattle.std.specs.Prelude.{◌≡◌, ℕ, Bool, List, true, false, ◌+◌, ◌*◌, ◌%◌, ◌<◌, ◌≤◌, ◌++◌, [], ◌∷◌, Ok};
+ghost use Rattle.std.specs.Prelude.{IsTrue, MatchResult, length, map, slice_index, slice_index_or, take};
 ghost use Rattle.dtx_laws.specs.Whitening.{whitened};
 ghost use Rattle.dtx_packets.specs.Packet.{with_error};
-ghost use Rattle.dtx_receiver.specs.Packets.{packet_bytes};
+ghost use Rattle.dtx_receiver.specs.Packets.{received_by};
 ghost use Rattle.dtx_whiten.specs.Randomizer.{randomizer_bytes};
 ghost use Rattle.dtx_erase.specs.Marks.{is_set};
+ghost use Rattle.dtx_erase.specs.Mended.{mending};
+ghost use Rattle.dtx_erase.specs.Mending.{IsMended, IsUnmended};
 ghost use Rattle.dtx_erase.specs.Sides.{mended_word};
 
 use crate::erasing::Erase;
 use crate::mender::Mend;
 use dtx_laws::{TooMany, Whitener};
-use dtx_packets::Packet;
+use dtx_outer::whiten;
 use dtx_receiver::{Batch, MOST_RECEIVED, Received};
-use dtx_sizes::{CODEWORD, FIELD_PACKETS, PACKET, PACKET_DATA};
+use dtx_sizes::{CODEWORD, FIELD_PACKETS, PACKET_DATA};
 use dtx_whiten::Atsc;
 use std::alloc::{AllocError, Global};
 use std::marker::Model;
@@ -60,22 +63,133 @@ impl Words {
             ++ mended_word (PACKET_DATA * place) word.now flags.now ∷ [] }
     {
         let mut mended = *word;
-        let answer = self.code.mend(&mut mended, &marks_of(flags));
-        let packet = self.packet(place, &mended);
-        batch.packets.push(received(answer, packet));
+        let answer = self.mend(&mut mended, flags);
+        self.push(place, answer, &mended, batch);
     }
 
-    /// The data of a word as a packet.
-    fn packet(&self, place: u16, word: &[u8; CODEWORD]) -> Packet
-        requires { place < FIELD_PACKETS }
-        ensures { result.0 ≡ packet_bytes (PACKET_DATA * place) word.now }
+    /// Gives the packets of four words that follow each other, and of their flags.
+    pub(crate) fn give_four(
+        &self,
+        place: u16,
+        words: &[[u8; CODEWORD]; 4],
+        flags: &[[u8; CODEWORD]; 4],
+        batch: &mut Batch,
+    )
+        requires within { place < FIELD_PACKETS }
+        requires words { (p : ℕ) → p < 4 → length (slice_index_or words.now p []) ≡ CODEWORD }
+        requires flags { (p : ℕ) → p < 4 → length (slice_index_or flags.now p []) ≡ CODEWORD }
+        requires none { batch.old.packets.items ≡ [] }
+        ensures { batch.new.packets.items ≡ map (λ p. mended_word (PACKET_DATA * ((place + p) % 312))
+            (slice_index_or words.now p []) (slice_index_or flags.now p [])) (0 ∷ 1 ∷ 2 ∷ 3 ∷ []) }
     {
-        let from = PACKET_DATA * place as usize;
-        let head: [u8; PACKET_DATA] = unwhitened(&self.white, from, &word[..PACKET_DATA]);
-        let mut packet = Packet([0x47; PACKET]);
-        packet.0[1..].copy_from_slice(&head);
-        packet
+        let mut mended = *words;
+        let answers = self.mend_four(&mut mended, flags);
+        self.push(place, answers[0], &mended[0], batch);
+        self.push((place + 1) % FIELD_PACKETS, answers[1], &mended[1], batch);
+        self.push((place + 2) % FIELD_PACKETS, answers[2], &mended[2], batch);
+        self.push((place + 3) % FIELD_PACKETS, answers[3], &mended[3], batch);
     }
+
+    /// Mends four words: where no byte is marked, they are corrected, all at once.
+    fn mend_four(
+        &self,
+        words: &mut [[u8; CODEWORD]; 4],
+        flags: &[[u8; CODEWORD]; 4],
+    ) -> [Result<u8, TooMany>; 4]
+        requires words { (p : ℕ) → p < 4 → length (slice_index_or words.old p []) ≡ CODEWORD }
+        requires flags { (p : ℕ) → p < 4 → length (slice_index_or flags.now p []) ≡ CODEWORD }
+        ensures { (p : ℕ) → p < 4 → MatchResult (slice_index_or result p (Ok 0))
+            (IsMended CODEWORD PACKET_DATA (map is_set (slice_index_or flags.now p []))
+            (slice_index_or words.old p []) (slice_index_or words.new p []))
+            (λ _e. IsUnmended CODEWORD PACKET_DATA (map is_set (slice_index_or flags.now p []))
+            (slice_index_or words.old p []) (slice_index_or words.new p [])) }
+    {
+        if are_clear(flags) {
+            return self.code.correct_four(words);
+        }
+        self.mend_each(words, flags)
+    }
+
+    /// Mends four words one by one.
+    fn mend_each(
+        &self,
+        words: &mut [[u8; CODEWORD]; 4],
+        flags: &[[u8; CODEWORD]; 4],
+    ) -> [Result<u8, TooMany>; 4]
+        ensures { (p : ℕ) → p < 4 → MatchResult (slice_index_or result p (Ok 0))
+            (IsMended CODEWORD PACKET_DATA (map is_set (slice_index_or flags.now p []))
+            (slice_index_or words.old p []) (slice_index_or words.new p []))
+            (λ _e. IsUnmended CODEWORD PACKET_DATA (map is_set (slice_index_or flags.now p []))
+            (slice_index_or words.old p []) (slice_index_or words.new p [])) }
+    {
+        let mut answers = [Ok(0); 4];
+        for p in 0..4 {
+            answers[p] = self.mend(&mut words[p], &flags[p]);
+        }
+        answers
+    }
+
+    /// Mends a word by its flags.
+    fn mend(&self, word: &mut [u8; CODEWORD], flags: &[u8; CODEWORD]) -> Result<u8, TooMany>
+        ensures answer { MatchResult result
+            (IsMended CODEWORD PACKET_DATA (map is_set flags.now) word.old word.new)
+            (λ _e. IsUnmended CODEWORD PACKET_DATA (map is_set flags.now) word.old word.new) }
+        ensures long { length word.new ≡ CODEWORD }
+    {
+        self.code.mend(word, &marks_of(flags))
+    }
+
+    /// Puts the packet of a word behind the packets of the batch, where its mending answered this, and left this word.
+    fn push(
+        &self,
+        place: u16,
+        answer: Result<u8, TooMany>,
+        word: &[u8; CODEWORD],
+        batch: &mut Batch,
+    )
+        requires within { place < FIELD_PACKETS }
+        requires room { length batch.old.packets.items < MOST_RECEIVED }
+        ensures packets { (gathered : List ℕ) (marks : List Bool) → length gathered ≡ CODEWORD
+            → length marks ≡ CODEWORD
+            → MatchResult answer (IsMended CODEWORD PACKET_DATA marks gathered word.now)
+            (λ _e. IsUnmended CODEWORD PACKET_DATA marks gathered word.now)
+            → batch.new.packets.items ≡ batch.old.packets.items
+            ++ received_by (PACKET_DATA * place) gathered (mending CODEWORD PACKET_DATA marks gathered) ∷ [] }
+        ensures one { length batch.new.packets.items ≡ length batch.old.packets.items + 1 }
+    {
+        let head = self.head(place, word);
+        batch.packets.push(received(answer, &head));
+    }
+
+    /// The data of a word, unwhitened.
+    fn head(&self, place: u16, word: &[u8; CODEWORD]) -> [u8; PACKET_DATA]
+        requires { place < FIELD_PACKETS }
+        ensures { result ≡ whitened randomizer_bytes (PACKET_DATA * place) (take PACKET_DATA word.now) }
+    {
+        whiten(
+            &self.white,
+            PACKET_DATA * place as usize,
+            &word[..PACKET_DATA],
+        )
+    }
+}
+
+/// Whether no flag of four words is set.
+fn are_clear(flags: &[[u8; CODEWORD]; 4]) -> bool
+    ensures { IsTrue result → (p i : ℕ) → p < 4 → slice_index (slice_index_or flags.now p []) i ≡ 0 }
+{
+    is_clear(&flags[0]) & is_clear(&flags[1]) & is_clear(&flags[2]) & is_clear(&flags[3])
+}
+
+/// Whether no flag is set.
+fn is_clear(flags: &[u8; CODEWORD]) -> bool
+    ensures { IsTrue result → (i : ℕ) → slice_index flags.now i ≡ 0 }
+{
+    let mut any = false;
+    for i in 0..CODEWORD {
+        any |= flags[i] != 0;
+    }
+    !any
 }
 
 /// Which flags are set.
@@ -96,43 +210,14 @@ fn is_set(flag: u8) -> bool
     flag != 0
 }
 
-/// The packet of a word, by what its mending answered.
-fn received(answer: Result<u8, TooMany>, packet: Packet) -> Received
-    ensures { MatchResult answer (λ fixed. result ≡ record { packet = packet; fixed = fixed; good = true })
-        (λ _e. result ≡ record { packet = record { 0 = with_error packet.0 }; fixed = 0; good = false }) }
+/// What is received of a word with these data, by what its mending answered.
+fn received(answer: Result<u8, TooMany>, head: &[u8; PACKET_DATA]) -> Received
+    ensures { MatchResult answer
+        (λ fixed. result ≡ record { packet = record { 0 = 0x47 ∷ head.now }; fixed = fixed; good = true })
+        (λ _e. result ≡ record { packet = record { 0 = with_error (0x47 ∷ head.now) }; fixed = 0; good = false }) }
 {
     match answer {
-        Ok(fixed) => Received {
-            packet,
-            fixed,
-            good: true,
-        },
-        Err(TooMany) => with_indicator(packet),
+        Ok(fixed) => Received::corrected(head, fixed),
+        Err(TooMany) => Received::as_gathered(head),
     }
-}
-
-/// The packet of a word that has no mending.
-fn with_indicator(packet: Packet) -> Received
-    ensures { result ≡ record { packet = record { 0 = with_error packet.0 }; fixed = 0; good = false } }
-{
-    let mut packet = packet;
-    packet.flag_error();
-    Received {
-        packet,
-        fixed: 0,
-        good: false,
-    }
-}
-
-/// The data with the whitener's bytes from `from` on added bit by bit.
-fn unwhitened<W: Whitener, const K: usize>(whitener: &W, from: usize, head: &[u8]) -> [u8; K]
-    requires long { length head.now ≡ K }
-    requires within { from + K ≤ W.PERIOD }
-    ensures { result ≡ whitened (W.bytes whitener.now) from head.now }
-{
-    let mut data = [0; K];
-    for i in 0..K {
-        data[i] = head[i] ^ whitener.byte(from + i);
-    }
-    data
 }

@@ -25,6 +25,8 @@ use Rattle.dtx_exciter.specs.Kept.{whole, last_orders, is_served, RunsUnder, Kee
 use Rattle.dtx_exciter.specs.ForceLaws.{force_left, force_first, counted_behind, IsBehind}
 use Rattle.dtx_exciter.specs.UnderLaws.{said_append, length-said}
 use Rattle.dtx_exciter.specs.EndsLaws as Ends
+use Rattle.dtx_exciter.specs.JoinedLaws.{last_same, settled_same, held_more, front_same, group_bytes, settled_more}
+use Rattle.dtx_exciter.specs.JoinedLaws.{partial_full}
 use Rattle.dtx_exciter.specs.AnswerLaws.{told_group_is, sent_is_served}
 use Rattle.dtx_exciter.specs.GroupSentLaws.{IsGiven, HasSync, group_sent, runs_more, none_by}
 
@@ -32,21 +34,6 @@ length-with : (l : List (List ℕ)) (p : List ℕ) → length (readings (l ++ p 
 length-with l p = length-said (l ++ p ∷ []) ∙ length_push l p
 
 -- ---- a packet that ends no group
-
-last_same : (l : List (List ℕ)) (p : List ℕ) → length l % 4 ≢ 3 → last_orders (l ++ p ∷ []) ≡ last_orders l
-unfolding last_orders
-last_same l p h = ap₂ orders (said_append l (p ∷ [])) same ∙ by_place (cases_lt (whole l) 4)
-  where
-    same : whole (l ++ p ∷ []) - 4 ≡ whole l - 4
-    same = omega (arith, h, length_push l p)
-
-    by_place : (whole l < 4) ⊎ (4 ≤ whole l) → orders (readings l ++ readings (p ∷ [])) (whole l - 4)
-        ≡ orders (readings l) (whole l - 4)
-    by_place (inl m) =
-        let z : whole l - 4 ≡ 0 = omega (arith, m) in
-        ap (orders (readings l ++ readings (p ∷ []))) z ∙ force_first (readings l ++ readings (p ∷ []))
-        ∙ sym (ap (orders (readings l)) z ∙ force_first (readings l))
-    by_place (inr m) = force_left (readings l) (readings (p ∷ [])) (whole l - 4) (omega (arith, m, length-said l))
 
 quiet_told : (a d : ℕ) (l : List (List ℕ)) (p : List ℕ) → length l % 4 ≢ 3
     → Quiet ≡ told_under a d (Some (readings (l ++ p ∷ [])))
@@ -61,24 +48,6 @@ quiet_given a d l p h =
 
 none_held : (count : ℕ) (symbols : List ℤ) → count ≡ 0 → Holds [] count symbols
 none_held count symbols e = record { counted = e; begins = ap (λ (n : ℕ). take (832 * n) symbols) e }
-
-settled_same : (n : ℕ) → n % 4 ≢ 3 → (n < 52) ⊎ (52 ≤ n) → nat_le 52 n ≡ nat_le 52 (n + 1)
-settled_same n h (inl m) = lt-leb 52 n m ∙ sym (lt-leb 52 (n + 1) (omega (arith, h, m)))
-settled_same n h (inr m) = le-leb 52 n m ∙ sym (le-leb 52 (n + 1) (omega (arith, m)))
-
--- the packets of the group so far
-held_more : (old : Exciter) (packet : Packet) (k : ℕ) → k < length old.packets
-    → take (k + 1) (bytes_of (set old.packets k packet)) ≡ take k (bytes_of old.packets) ++ packet.0 ∷ []
-held_more old packet k l =
-    ap (take (k + 1)) (map-set (λ p. p.0) old.packets k packet)
-    ∙ take_more_set (bytes_of old.packets) k packet.0 (let n : length (bytes_of old.packets)
-    ≡ length old.packets = length-map old.packets (λ p. p.0) in omega (arith, n, l))
-
-front_same : (l : List (List ℕ)) (p : List ℕ) → length l % 4 ≢ 3
-    → take (whole (l ++ p ∷ [])) (l ++ p ∷ []) ≡ take (whole l) l
-front_same l p h =
-    let e : whole (l ++ p ∷ []) ≡ whole l = omega (arith, h, length_push l p) in
-    ap (λ (n : ℕ). take n (l ++ p ∷ [])) e ∙ take-append-le (whole l) l (p ∷ []) (omega arith)
 
 pub joined_partial : (a d : ℕ) (l : List (List ℕ)) (old : Exciter) (place : ℕ) (packet : Packet) (count : ℕ)
     (symbols : List ℤ) → KeepsUnder a d old l → place ≡ length l % 624 → place % 4 ≢ 3 → length old.packets ≡ 4
@@ -98,7 +67,7 @@ joined_partial a d l old place packet count symbols k e h four z =
             ∙ ap (nat_le 52) (sym (length_push l packet.0));
         partial =
             ap₂ (λ (x y : ℕ). take x (bytes_of (set old.packets y packet))) s m
-            ∙ held_more old packet (length l % 4) (omega (arith, four))
+            ∙ held_more old.packets packet (length l % 4) (omega (arith, four))
             ∙ ap (λ x. x ++ packet.0 ∷ []) k.partial
             ∙ sym (ap (λ (y : ℕ). drop y (l ++ packet.0 ∷ [])) w
             ∙ drop-append-le (whole l) l (packet.0 ∷ []) (omega arith));
@@ -126,14 +95,7 @@ orders_now l i p = cons_option (placed i (counting_order (readings (l ++ p ∷ [
 
 bytes_full : (a d : ℕ) (l : List (List ℕ)) (old : Exciter) (packet : Packet) (i j : ℕ) → Joining a d l old packet i j
     → bytes_of (full old packet).packets ≡ Ends.group l i packet.0
-bytes_full a d l old packet i j c =
-    let m : length l % 4 ≡ 3 = let x = c.ends.long in let y = c.ends.whole in omega (arith, x, y) in
-    sym (take_all 4 (bytes_of (set old.packets 3 packet)) (let x = c.four in
-    omega (arith, x, length-map (set old.packets 3 packet) (λ p. p.0), length-set old.packets 3 packet)))
-    ∙ held_more old packet 3 (let x = c.four in omega (arith, x))
-    ∙ ap (λ x. x ++ packet.0 ∷ [])
-    (ap (λ (n : ℕ). take n (bytes_of old.packets)) (sym m) ∙ c.keeps.partial
-    ∙ ap (λ (n : ℕ). drop n l) (Ends.whole-front l i c.ends))
+bytes_full a d l old packet i j c = group_bytes l old.packets packet i c.ends c.four c.keeps.partial
 
 own_full : (a d : ℕ) (l : List (List ℕ)) (old : Exciter) (packet : Packet) (i j : ℕ) → Joining a d l old packet i j
     → own_of (full old packet) j ≡ counting_order (readings (l ++ packet.0 ∷ [])) i
@@ -263,16 +225,6 @@ segments_full a d l old packet i j answered c h false s =
 
 -- ---- what is kept
 
-settled_more : (n place : ℕ) → place ≡ n % 624 → (n < 52) ⊎ (52 ≤ n)
-    → (nat_le 52 n || (place == 51)) ≡ nat_le 52 (n + 1)
-settled_more n place e (inr m) = ap (λ b. b || (place == 51)) (le-leb 52 n m)
-    ∙ sym (le-leb 52 (n + 1) (omega (arith, m)))
-settled_more n place e (inl m) = ap (λ b. b || (place == 51)) (lt-leb 52 n m) ∙ last (cases_lt (n + 1) 52)
-  where
-    last : (n + 1 < 52) ⊎ (52 ≤ n + 1) → (place == 51) ≡ nat_le 52 (n + 1)
-    last (inl k) = ne_eqb place 51 (λ x. omega (arith, x, e, k)) ∙ sym (lt-leb 52 (n + 1) k)
-    last (inr k) = eq-eqb place 51 (omega (arith, e, k, m)) ∙ sym (le-leb 52 (n + 1) k)
-
 coder_full : (a d : ℕ) (l : List (List ℕ)) (old : Exciter) (packet : Packet) (i j : ℕ) (answered : Told)
     → Joining a d l old packet i j
     → RunsUnder (take (whole (l ++ packet.0 ∷ [])) (l ++ packet.0 ∷ [])) (last_orders (l ++ packet.0 ∷ []))
@@ -286,19 +238,6 @@ coder_full a d l old packet i j answered c =
     (subst (λ x. RunsUnder x (orders_now l i packet.0) coder) (Ends.parts l i packet.0)
     (runs_more (Ends.front l i) (Ends.group l i packet.0) i (counting_order (readings all) i) (last_orders l) old.coder
     (group_of (full old packet) j answered) (given_full a d l old packet i j answered c))))
-
-partial_full : (l : List (List ℕ)) (p : List ℕ) (i : ℕ) (xs : List (List ℕ)) → Ends.Ends l i
-    → take (length (l ++ p ∷ []) % 4) xs ≡ drop (whole (l ++ p ∷ [])) (l ++ p ∷ [])
-partial_full l p i xs e =
-    let w = e.whole in
-    let z : length (l ++ p ∷ []) % 4 ≡ 0 = omega (arith, w, Ends.length-all l i p e) in
-    ap (λ (n : ℕ). take n xs) z
-    ∙ sym (drop_all (whole (l ++ p ∷ [])) (l ++ p ∷ []) (omega (
-      arith,
-      w,
-      Ends.whole-all l i p e,
-      Ends.length-all l i p e,
-    )))
 
 keeps_full : (a d : ℕ) (l : List (List ℕ)) (old made e : Exciter) (packet : Packet) (i j place : ℕ) (answered : Told)
     → Joining a d l old packet i j → place ≡ length l % 624 → answered ≡ told_at a d i (orders_now l i packet.0)

@@ -27,17 +27,10 @@ use Rattle.dtx_exciter.specs.declared.pages.Pages.{Pages}
 use Rattle.dtx_exciter.specs.HeldPages.{HoldsPages}
 use Rattle.dtx_exciter.specs.HeldPagesLaws.{nothing_holds}
 use Rattle.dtx_exciter.specs.ForceLaws.{force_first}
-use Rattle.dtx_exciter.specs.UnderLaws.{Goes, goes, syncs_push}
+use Rattle.dtx_exciter.specs.UnderLaws.{Goes, goes, syncs_push, under_nothing, syncs_nothing}
+use Rattle.dtx_exciter.specs.EndsLaws.{last_single}
 
 -- ---- nothing given
-
-under_nothing : under [] ≡ None
-unfolding under anchor_of syncs cadence.anchor cadence.anchor_to
-under_nothing = refl
-
-syncs_nothing : [] ≡ syncs []
-unfolding syncs
-syncs_nothing = refl
 
 pub stands_nothing : (a d : ℕ) (e : Exciter) → e.address ≡ a → e.delay ≡ d → cadence.StandsFor e.anchor []
     → StandsFor a d e []
@@ -53,10 +46,6 @@ stands_nothing a d e x y h = record {
 pub holds_new : (a : ℕ) (p : Pages) → p ≡ record { count = 0; told = replicate 30 false; held = None }
     → HoldsPages a [] p
 holds_new a p e = subst (HoldsPages a []) (sym e) (nothing_holds a)
-
-last_single : (p : List ℕ) → last_orders (p ∷ []) ≡ []
-unfolding last_orders
-last_single p = force_first (readings (p ∷ []))
 
 pub keeps_single : (a d : ℕ) (e : Exciter) (packets : List Packet) (packet : Packet) (coder : Coding)
     → e.flushed ≡ false → e.sent ≡ false → HoldsPages a [] e.pages → e.packets ≡ set packets 0 packet

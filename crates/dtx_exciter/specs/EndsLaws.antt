@@ -59,7 +59,7 @@ said_at l i m p e k =
     less : (i m : ℕ) → i + m - i ≡ m
     less i m = omega arith
 
-order_is : (l : List (List ℕ)) (i j : ℕ) (p : List ℕ) → Ends l i → j ≡ i % 624
+pub order_is : (l : List (List ℕ)) (i j : ℕ) (p : List ℕ) → Ends l i → j ≡ i % 624
     → order_in j (group l i p) ≡ order_at (readings (l ++ p ∷ [])) i
 unfolding order_in order_at
 order_is l i j p e h =
@@ -84,6 +84,11 @@ own_is l i j p e h = ap₂ (λ b o. cond b o None) (test (length l) (cases_lt (l
         ∙ sym (ap₂ (λ b t. b && t) (le-leb 52 i (let w = e.whole in omega (arith, m, k, w))) (eq-eqb (i % 4) 0 e.whole))
 
 -- ---- the order in force
+
+-- the anchor's packet alone orders nothing
+pub last_single : (p : List ℕ) → last_orders (p ∷ []) ≡ []
+unfolding last_orders
+last_single p = force_first (readings (p ∷ []))
 
 zero_or : (i : ℕ) → i % 4 ≡ 0 → (i ≡ 0) ⊎ (4 ≤ i)
 zero_or i h = grind arith

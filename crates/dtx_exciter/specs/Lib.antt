@@ -27,5 +27,6 @@ pub mod FirstGroupLaws
 pub mod InLifeLaws
 pub mod SinceMarkLaws
 pub mod EndsLaws
+pub mod JoinedLaws
 pub mod GroupSentLaws
 pub mod SentAlikeLaws

@@ -7,12 +7,12 @@ use Rattle.std.proofs.lemmas.Bool.{cond-true, le-leb}
 use Rattle.std.proofs.lemmas.List.{ext_get_or, get_or-drop, get_or-append_right, length-append, length-drop}
 use Rattle.std.proofs.lemmas.List.{length-take-le, take-append-drop, take-take, drop-take}
 use Rattle.dtx_laws.specs.InterleavingLaws.{get_or-interleaved}
-use Rattle.dtx_trellis.specs.Groups.{levels_of}
+use Rattle.dtx_trellis.specs.Groups.{levels_of, states_after}
 use Rattle.dtx_coder.specs.Coded.{coded_from, coded, spread, whole_groups}
 use Rattle.dtx_coder.specs.Stream.{levels, states, four_segments}
-use Rattle.dtx_coder.specs.Along.{levels_since}
+use Rattle.dtx_coder.specs.Along.{levels_since, states_since}
 use Rattle.dtx_coder.specs.BytesLaws.{coded_append, coded_place, length-coded, length-spread, whole_is}
-use Rattle.dtx_coder.specs.LevelsLaws.{length-levels, levels_from}
+use Rattle.dtx_coder.specs.LevelsLaws.{length-levels, levels_from, states_from}
 use Rattle.dtx_coder.specs.SegmentsLaws.{four_behind}
 
 -- ---- bytes
@@ -65,19 +65,38 @@ bytes_since a s n k m l e =
         get_or-drop k (spread (a ++ s)) i 0 ∙ ap (λ j. get_or (spread (a ++ s)) j 0) place
         ∙ byte_at a s (n + i) m (omega (arith, l)) h ∙ sym (get_or-drop n (spread s) i 0)
 
--- ---- levels
+-- ---- levels and states
 
 -- from group g on, whose first packet is packet x behind the mark
+groups_since : (a s : List (List ℕ)) (x g : ℕ) → length a % 624 ≡ 0 → length s % 4 ≡ 0 → 52 ≤ x → x % 4 ≡ 0
+    → 4 * g ≡ length a + x
+    → drop (828 * g) (whole_groups (a ++ s)) ≡ drop (828 * (x / 4)) (whole_groups s)
+groups_since a s x g m w l y e =
+    let u : 828 * (x / 4) ≡ 207 * x = omega (arith, y) in
+    ap (drop (828 * g)) (whole_is (a ++ s) ((length a + length s) / 4) (omega (arith, m, w, length-append a s)))
+    ∙ bytes_since a s (207 * x) (828 * g) m (omega (arith, l)) (omega (arith, e))
+    ∙ ap₂ drop (sym u) (sym (whole_is s (length s / 4) (omega (arith, w))))
+
+place_since : (n x g : ℕ) → n % 624 ≡ 0 → x % 4 ≡ 0 → 4 * g ≡ n + x → 4 * g % 312 ≡ 4 * (x / 4) % 312
+place_since n x g m y e = omega (arith, m, y, e)
+
 pub levels_mark : (a s : List (List ℕ)) (x g : ℕ) (q : List ℕ) → length a % 624 ≡ 0 → length s % 4 ≡ 0 → 52 ≤ x
     → x % 4 ≡ 0 → 4 * g ≡ length a + x → levels_since g q (a ++ s) ≡ levels_since (x / 4) q s
 unfolding levels_since
 levels_mark a s x g q m w l y e =
-    let place : 4 * g % 312 ≡ 4 * (x / 4) % 312 = omega (arith, m, y, e) in
-    let u : 828 * (x / 4) ≡ 207 * x = omega (arith, y) in
-    ap₂ (λ k z. levels_of k q z) place
-    (ap (drop (828 * g)) (whole_is (a ++ s) ((length a + length s) / 4) (omega (arith, m, w, length-append a s)))
-    ∙ bytes_since a s (207 * x) (828 * g) m (omega (arith, l)) (omega (arith, e))
-    ∙ ap₂ drop (sym u) (sym (whole_is s (length s / 4) (omega (arith, w)))))
+    ap₂ (λ k z. levels_of k q z) (place_since (length a) x g m y e) (groups_since a s x g m w l y e)
+
+pub states_mark : (a s : List (List ℕ)) (x g : ℕ) (q : List ℕ) → length a % 624 ≡ 0 → length s % 4 ≡ 0 → 52 ≤ x
+    → x % 4 ≡ 0 → 4 * g ≡ length a + x → states_since g q (a ++ s) ≡ states_since (x / 4) q s
+unfolding states_since
+states_mark a s x g q m w l y e =
+    ap₂ (λ k z. states_after k q z) (place_since (length a) x g m y e) (groups_since a s x g m w l y e)
+
+-- the states of a stream, from those before group g
+pub states_from_group : (f : List (List ℕ)) (g : ℕ) → 4 * g ≤ length f
+    → states f ≡ states_since g (states (take (4 * g) f)) f
+unfolding states_since
+states_from_group f g h = states_from f g h
 
 -- the data segments of a stream's group v, from the states before group g on
 pub data_since : (f : List (List ℕ)) (g v : ℕ) → g ≤ v → 4 * g ≤ length f

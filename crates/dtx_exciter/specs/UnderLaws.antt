@@ -6,13 +6,23 @@ use Rattle.std.proofs.lemmas.List.{take_at}
 use Rattle.dtx_packets.specs.Packet.{sync_of}
 use Rattle.dtx_cadence.specs.declared.anchor.Seen.{Seen}
 use Rattle.dtx_cadence.specs.declared.anchor.Seen.TheVariants.{Free, Start, Lost, At}
-use Rattle.dtx_cadence.specs.Anchor.{anchor, seen_by, seen}
+use Rattle.dtx_cadence.specs.Anchor.{anchor_to, anchor, seen_by, seen}
 use Rattle.dtx_cadence.specs.NextAnchorLaws.{new_anchor, ends_with, anchor_free, anchor_next, anchor_below}
 use Rattle.dtx_exciter.specs.declared.answers.Why.TheVariants.{Cadence}
 use Rattle.dtx_exciter.specs.declared.answers.Told.{Told}
 use Rattle.dtx_exciter.specs.declared.answers.Told.TheVariants.{Quiet, Muted}
 use Rattle.dtx_exciter.specs.Told.{was_lost, told_under, told_from, told_of}
 use Rattle.dtx_exciter.specs.Packets.{syncs, reads, readings, anchor_of, under, last_answer}
+
+-- ---- nothing given
+
+pub under_nothing : under [] ≡ None
+unfolding under anchor_of syncs anchor anchor_to
+under_nothing = refl
+
+pub syncs_nothing : [] ≡ syncs []
+unfolding syncs
+syncs_nothing = refl
 
 -- ---- lists one packet longer
 

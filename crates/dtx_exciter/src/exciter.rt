@@ -10,6 +10,7 @@ use crate::answers::{Told, Why};
 use crate::orders::{Corrector, order_in};
 use crate::pages::Pages;
 use crate::serving::{preset_of, served, told_why};
+use crate::tables::Tables;
 use dtx_cadence::{Anchor, Seen};
 use dtx_coder::{Air, Coder};
 use dtx_ops::Ops;
@@ -17,6 +18,7 @@ use dtx_packets::Packet;
 use dtx_sizes::{FIELD_PACKETS, GROUP_PACKETS, PACKET};
 use dtx_trellis::States;
 use std::alloc::{AllocError, Global};
+use std::rc::Rc;
 
 /// An exciter. It is given the packets of a feed, from any place of it on and whatever else, and sends the segments
 /// that its orders tell it to send (the profile's own, over ATSC A/53 Part 2 and in the manner of ATSC A/110).
@@ -24,7 +26,7 @@ use std::alloc::{AllocError, Global};
 pub struct Exciter {
     address: u16,
     delay: u32,
-    corrector: Corrector,
+    corrector: Rc<Corrector>,
     anchor: Anchor,
     flushed: bool,
     sent: bool,
@@ -39,16 +41,28 @@ impl Exciter {
     pub fn new(alloc: Global, address: u16, delay: u32) -> Result<Exciter, AllocError>
         ensures { IfOk result (λ exciter. StandsFor address delay exciter []) }
     {
+        Exciter::sharing(alloc, &Tables::new(alloc)?, address, delay)
+    }
+
+    /// The same, by tables that others may share.
+    pub fn sharing(
+        alloc: Global,
+        tables: &Tables,
+        address: u16,
+        delay: u32,
+    ) -> Result<Exciter, AllocError>
+        ensures { IfOk result (λ exciter. StandsFor address delay exciter []) }
+    {
         Ok(Exciter {
             address,
             delay,
-            corrector: Corrector::new(),
+            corrector: tables.corrector.clone()?,
             anchor: Anchor::new(),
             flushed: false,
             sent: false,
             pages: Pages::new(0),
             packets: [Packet([0; PACKET]); GROUP_PACKETS],
-            coder: Coder::new(alloc)?,
+            coder: Coder::sharing(alloc, &tables.coding)?,
         })
     }
 
@@ -207,6 +221,3 @@ fn states_of(order: Option<Ops>) -> Option<States>
         None => None,
     }
 }
-
-#[cfg(test)]
-mod tests;

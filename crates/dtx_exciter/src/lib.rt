@@ -7,6 +7,8 @@ pub mod laws;
 mod orders;
 mod pages;
 mod serving;
+mod tables;
 
 pub use answers::{Preset, Told, Why};
 pub use exciter::Exciter;
+pub use tables::Tables;

@@ -1,14 +1,14 @@
 //! The corrector of a code.
 
-ghost use Rattle.std.specs.Prelude.{◌≡◌, ℕ, List, MatchResult, length, take};
+ghost use Rattle.std.specs.Prelude.{◌≡◌, ℕ, ◌-◌, ◌<◌, List, MatchResult, length, slice_index, take};
 ghost use Rattle.dtx_laws.specs.Codeword.{IsCode, IsCodeword, IsCorrection};
 ghost use Rattle.dtx_laws.specs.Correction.{IsCorrected, IsLeft};
-ghost use Rattle.dtx_galois.specs.Field.{AreBytes};
+ghost use Rattle.dtx_galois.specs.Field.{AreBytes, pow, value};
 
 use crate::recurrence::find_recurrence;
 use crate::repair::patch;
 use crate::tables::Tables;
-use dtx_laws::correcting::{accept, encoded_again, encoded_again_four};
+use dtx_laws::correcting::{ROOM, accept, encoded_again, encoded_again_four};
 use dtx_laws::{Correct, TooMany};
 use dtx_rs::Rs;
 
@@ -30,6 +30,17 @@ impl<const N: usize, const K: usize> Fast<N, K> {
             encoder: Rs::new(),
             tables: Tables::new(),
         }
+    }
+
+    /// As many syndromes of a word as the code has parity bytes, from the codeword that begins with the word's data.
+    /// Behind them any bytes may stand.
+    pub fn syndromes(&self, word: &[u8; N], code: &[u8; N]) -> [u8; ROOM]
+        requires codeword { IsCodeword N K code.now }
+        requires begins { take K code.now ≡ take K word.now }
+        ensures long { length result ≡ ROOM }
+        ensures values { (i : ℕ) → i < N - K → slice_index result i ≡ value word.now (pow 2 i) }
+    {
+        syndromes(&self.tables, &word[..], &code[..], K)
     }
 
     /// Corrects a word, from the codeword that begins with its data.
@@ -68,6 +79,18 @@ impl<const N: usize, const K: usize> Correct<N, K> for Fast<N, K> {
     }
 }
 
+/// As many syndromes of a word as stand bytes behind its `k` bytes of data, from the codeword that begins with these.
+fn syndromes(tables: &Tables, word: &[u8], code: &[u8], k: usize) -> [u8; ROOM]
+    requires same { length code.now ≡ length word.now }
+    requires code { IsCode (length word.now) k }
+    requires codeword { IsCodeword (length word.now) k code.now }
+    requires begins { take k code.now ≡ take k word.now }
+    ensures long { length result ≡ ROOM }
+    ensures values { (i : ℕ) → i < length word.now - k → slice_index result i ≡ value word.now (pow 2 i) }
+{
+    tables.syndromes(&word[k..], &code[k..])
+}
+
 /// Makes a word its correction, where it has one, from the codeword that begins with its `k` bytes of data.
 fn repair(tables: &Tables, word: &mut [u8], code: &[u8], k: usize)
     requires same { length code.now ≡ length word.old }
@@ -77,7 +100,7 @@ fn repair(tables: &Tables, word: &mut [u8], code: &[u8], k: usize)
     requires begins { take k code.now ≡ take k word.old }
     ensures { (right : List ℕ) → IsCorrection (length word.old) k word.old right → word.new ≡ right }
 {
-    let syndromes = tables.syndromes(&word[k..], &code[k..]);
+    let syndromes = syndromes(tables, word, code, k);
     if let Some(found) = find_recurrence(&syndromes, word.len() - k) {
         let walk = tables.walk(&found, word.len());
         patch(word, &walk, &found, &syndromes);

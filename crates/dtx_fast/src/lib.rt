@@ -9,7 +9,6 @@ mod recurrence;
 mod repair;
 mod rows;
 mod tables;
-#[cfg(test)]
-mod tests;
 
 pub use fast::Fast;
+pub use recurrence::{Recurrence, find_recurrence};

@@ -1,5 +1,7 @@
 -- What follows from file names of which no two are equal, and from two that are.
-use Rattle.std.proofs.Common.{◌≡◌, ◌≢◌, ℕ, Bool, true, false, ◌||◌, cond, List, [], ◌∷◌, sym, ap}
+use Rattle.std.proofs.Common.{◌≡◌, ◌≢◌, ℕ, ◌<◌, ◌≤◌, Bool, true, false, ◌||◌, cond, List, [], ◌∷◌, length, get_or, refl}
+use Rattle.std.proofs.Common.{sym}
+use Rattle.std.proofs.Common.{ap, ◌∙◌, arith}
 use Rattle.std.specs.Prelude.{Some, None, if◌then◌else◌, is_some}
 use Rattle.std.specs.Str.{bytes_eq}
 use Rattle.std.proofs.lemmas.Slice.Eq.{bytes_eq-Decides}
@@ -35,3 +37,31 @@ same_means names name other is = ap (λ r. if is_some r then refused Same else o
 pub apart_means : (names : List (List ℕ)) (other : Meaning) → None ≡ repeated names
     → (if is_some (repeated names) then refused Same else other) ≡ other
 apart_means names other is = ap (λ r. if is_some r then refused Same else other) (sym is)
+
+-- ---- six words
+
+read_back : (words : List (List ℕ)) (h j k m n : List ℕ) → 6 ≤ length words → length words < 7
+    → words ≡ get_or words 0 [] ∷ get_or words 1 h ∷ get_or words 2 j ∷ get_or words 3 k ∷ get_or words 4 m
+    ∷ get_or words 5 n ∷ []
+read_back [] h j k m n l u = absurd (omega (arith, l))
+read_back (a ∷ []) h j k m n l u = absurd (omega (arith, l))
+read_back (a ∷ (b ∷ [])) h j k m n l u = absurd (omega (arith, l))
+read_back (a ∷ (b ∷ (c ∷ []))) h j k m n l u = absurd (omega (arith, l))
+read_back (a ∷ (b ∷ (c ∷ (d ∷ [])))) h j k m n l u = absurd (omega (arith, l))
+read_back (a ∷ (b ∷ (c ∷ (d ∷ (e ∷ []))))) h j k m n l u = absurd (omega (arith, l))
+read_back (a ∷ (b ∷ (c ∷ (d ∷ (e ∷ (f ∷ [])))))) h j k m n l u = refl
+read_back (a ∷ (b ∷ (c ∷ (d ∷ (e ∷ (f ∷ (g ∷ more))))))) h j k m n l u = absurd (omega (arith, u))
+
+-- words of which five were read
+pub six_words : (words : List (List ℕ)) (h j k m n h' j' k' m' n' : List ℕ) → 6 ≤ length words → length words < 7
+    → h' ≡ get_or words 1 h → j' ≡ get_or words 2 j → k' ≡ get_or words 3 k → m' ≡ get_or words 4 m
+    → n' ≡ get_or words 5 n
+    → words ≡ get_or words 0 [] ∷ h' ∷ j' ∷ k' ∷ m' ∷ n' ∷ []
+six_words words h j k m n h' j' k' m' n' l u p q r s t =
+    read_back words h j k m n l u
+    ∙ sym (ap (λ x. get_or words 0 [] ∷ x ∷ j' ∷ k' ∷ m' ∷ n' ∷ []) p
+    ∙ ap (λ x. get_or words 0 [] ∷ get_or words 1 h ∷ x ∷ k' ∷ m' ∷ n' ∷ []) q
+    ∙ ap (λ x. get_or words 0 [] ∷ get_or words 1 h ∷ get_or words 2 j ∷ x ∷ m' ∷ n' ∷ []) r
+    ∙ ap (λ x. get_or words 0 [] ∷ get_or words 1 h ∷ get_or words 2 j ∷ get_or words 3 k ∷ x ∷ n' ∷ []) s
+    ∙ ap (λ x. get_or words 0 [] ∷ get_or words 1 h ∷ get_or words 2 j ∷ get_or words 3 k ∷ get_or words 4 m ∷ x ∷ [])
+    t)

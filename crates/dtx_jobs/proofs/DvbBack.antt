@@ -17,6 +17,7 @@ use Rattle.dtx_engine.specs.Recipe.{Course, course, course_from, first_refused, 
 use Rattle.dtx_engine.specs.declared.piece.Ending.TheVariants.{Refused}
 use Rattle.dtx_meaning.specs.Meaning.{Meaning}
 use Rattle.dtx_meaning.specs.Status.{ended}
+use Rattle.dtx_meaning.specs.declared.status.Status.{Status}
 use Rattle.dtx_meaning.specs.declared.status.Status.TheVariants.{Done, Packet, TooLong}
 use Rattle.dtx_packets.specs.PacketLaws.{packets_of-piece}
 use Rattle.dtx_packets.specs.Packets.{packet_at, packets_from, packets_of, whole_packets}
@@ -24,9 +25,9 @@ use Rattle.dtx_jobs.specs.DvbBack.{HaveSyncs, back_of, read_of, sent_of, sent_un
 use Rattle.dtx_jobs.specs.DvbCode.{dvb_coding}
 use Rattle.dtx_jobs.specs.DvbRead.{bytes_of_reads, dvb_reading, whole_blocks}
 use Rattle.dtx_jobs.specs.PacketFileLaws.{length-packets_of}
-use Rattle.dtx_jobs.specs.Place.{begins}
-use Rattle.dtx_jobs.specs.ReceivedLaws.{all_read, none_found}
-use Rattle.dtx_jobs.specs.Shapes.{blocks, single_packets}
+use Rattle.dtx_jobs.specs.Place.{has_sync}
+use Rattle.dtx_jobs.specs.GivenLaws.{all_read, none_found}
+use Rattle.dtx_jobs.specs.Shapes.{blocks, dvb_packets}
 use Rattle.dtx_jobs.proofs.DvbChunks.{chunks_flat, packets_are}
 use Rattle.dtx_jobs.proofs.StreamSymbols.{front_of}
 
@@ -40,12 +41,12 @@ none_refused p a (suc n) all =
     cond-false _ _ _ (ap not (all a (omega arith) (omega arith)))
     ∙ none_refused p (a + 1) n (λ k l m. all k (omega (arith, l)) (omega (arith, m)))
 
-all_begin : (stream : List ℕ) → HaveSyncs stream (whole_packets stream)
-    → first_refused single_packets dvb_coding stream ≡ None
+all_begin : (stream : List ℕ) (n : ℕ) → min (whole_packets stream) 624000000 ≤ n → HaveSyncs stream n
+    → first_refused dvb_packets dvb_coding stream ≡ None
 unfolding first_refused
-all_begin stream syncs =
-    none_refused (λ k. begins k (packet_at stream k)) 0 (min (whole_packets stream) single_packets.limit)
-    (λ k l m. syncs k (omega (arith, m)))
+all_begin stream n most syncs =
+    none_refused (λ k. has_sync k (packet_at stream k)) 0 (min (whole_packets stream) dvb_packets.limit)
+    (λ k l m. syncs k (omega (arith, m, most)))
 
 -- the first packets of a stream
 first_packets : (stream : List ℕ) (k : ℕ) → k ≤ whole_packets stream
@@ -54,34 +55,50 @@ first_packets stream k within = packets_of-piece stream 0 k (omega (arith, withi
 
 pub all_sent : (names : List (List ℕ)) (stream : List ℕ) → whole_packets stream ≤ 624000000
     → HaveSyncs stream (whole_packets stream)
-    → meaning_of_file single_packets dvb_coding names stream ≡ sent_of names stream
+    → meaning_of_file dvb_packets dvb_coding names stream ≡ sent_of names stream
 all_sent names stream few syncs =
     let n : ℕ = whole_packets stream in
     let means : ℕ → List ℕ → Meaning = λ packets sent. record {
-      outcome = record { status = Done; numbers = packets ∷ length stream % 188 ∷ 0 ∷ 0 ∷ 0 ∷ 0 ∷ []; shown = 2 };
+      outcome = record { status = Done; numbers = packets ∷ length stream % 188 ∷ 0 ∷ 0 ∷ 0 ∷ 0 ∷ 0 ∷ []; shown = 2 };
       outputs = outputs_of names (only sent);
     } in
     let long : length (take (188 * n) stream) ≡ 188 * n = length-take-le (188 * n) stream (omega arith) in
     let many : whole_packets (take (188 * n) stream) ≡ n = omega (arith, long) in
-    all_read single_packets dvb_coding names stream (all_begin stream syncs) few
+    all_read dvb_packets dvb_coding names stream (all_begin stream n (omega arith) syncs) few
     ∙ ap₂ means many (append-nil (dvb (packets_of (take (188 * n) stream)))
     ∙ ap dvb (first_packets stream n (omega arith)))
 
+-- where the input ends behind the first packets
+cut_sent : (names : List (List ℕ)) (stream : List ℕ) (k : ℕ) (refusal : Status) → k ≤ whole_packets stream
+    → meaning_at dvb_coding names (take (188 * k) stream) (Refused refusal) ≡ sent_until names stream k refusal
+cut_sent names stream k refusal within =
+    ap (λ ps. record { outcome = ended refusal; outputs = outputs_of names (only (dvb ps)) })
+    (first_packets stream k within ∙ sym (front_of stream k within))
+
 pub refused_sent : (names : List (List ℕ)) (stream : List ℕ) (k : ℕ) → k < whole_packets stream → k < 624000000
-    → HaveSyncs stream k → begins k (packet_at stream k) ≡ false
-    → meaning_of_file single_packets dvb_coding names stream ≡ sent_until names stream k
+    → HaveSyncs stream k → has_sync k (packet_at stream k) ≡ false
+    → meaning_of_file dvb_packets dvb_coding names stream ≡ sent_until names stream k (Packet k)
 unfolding first_refused
 refused_sent names stream k within few syncs other =
-    let first : first_refused single_packets dvb_coding stream ≡ Some k =
-    find-range_first (λ i. not (begins i (packet_at stream i))) 0 (min (whole_packets stream) single_packets.limit) k
+    let first : first_refused dvb_packets dvb_coding stream ≡ Some k =
+    find-range_first (λ i. not (has_sync i (packet_at stream i))) 0 (min (whole_packets stream) dvb_packets.limit) k
     (omega arith) (omega (arith, within, few)) (ap not other) (λ i l m. ap not (syncs i m)) in
-    let is : course single_packets dvb_coding stream ≡ record { taken = k / 1 * 1; ending = Refused (Packet k) } =
-    ap (course_from single_packets stream) first in
+    let is : course dvb_packets dvb_coding stream ≡ record { taken = k / 1 * 1; ending = Refused (Packet k) } =
+    ap (course_from dvb_packets stream) first in
     let taken : k / 1 * 1 ≡ k = omega arith in
     ap (λ (c : Course). meaning_at dvb_coding names (take (188 * c.taken) stream) c.ending) is
-    ∙ ap (λ ps. record { outcome = ended (Packet k); outputs = outputs_of names (only (dvb ps)) })
-    (ap (λ (j : ℕ). packets_of (take (188 * j) stream)) taken ∙ first_packets stream k (omega (arith, within))
-    ∙ sym (front_of stream k (omega (arith, within))))
+    ∙ ap (λ (j : ℕ). meaning_at dvb_coding names (take (188 * j) stream) (Refused (Packet k))) taken
+    ∙ cut_sent names stream k (Packet k) (omega (arith, within))
+
+pub too_many_sent : (names : List (List ℕ)) (stream : List ℕ) → 624000000 < whole_packets stream
+    → HaveSyncs stream 624000000
+    → meaning_of_file dvb_packets dvb_coding names stream ≡ sent_until names stream 624000000 TooLong
+too_many_sent names stream many syncs =
+    let is : course dvb_packets dvb_coding stream ≡ record { taken = 624000000; ending = Refused TooLong } =
+    ap (course_from dvb_packets stream) (all_begin stream 624000000 (omega arith) syncs)
+    ∙ cond-true _ _ _ (lt-ltb 624000000 (whole_packets stream) many) in
+    ap (λ (c : Course). meaning_at dvb_coding names (take (188 * c.taken) stream) c.ending) is
+    ∙ cut_sent names stream 624000000 TooLong (omega (arith, many))
 
 -- ---- what is read
 
@@ -108,7 +125,7 @@ blocks_all_read names bytes few =
     let means : ℕ → List Read → Meaning = λ n reads. record {
       outcome = record {
         status = Done;
-        numbers = n ∷ length reads ∷ fixed_in reads ∷ flagged_in reads ∷ length bytes % 204 ∷ 0 ∷ [];
+        numbers = n ∷ length reads ∷ fixed_in reads ∷ flagged_in reads ∷ length bytes % 204 ∷ 0 ∷ 0 ∷ [];
         shown = 5;
       };
       outputs = outputs_of names (only (bytes_of_reads reads));
@@ -163,7 +180,7 @@ comes_back names stream bytes few packets slight =
     ∙ ap (λ (m : ℕ). take (m - 11) ps) many)
     ∙ first_bytes stream (n - 11) (omega arith) in
     let means : ℕ → ℕ → ℕ → ℕ → ℕ → List ℕ → Meaning = λ b p f g l made. record {
-      outcome = record { status = Done; numbers = b ∷ p ∷ f ∷ g ∷ l ∷ 0 ∷ []; shown = 5 };
+      outcome = record { status = Done; numbers = b ∷ p ∷ f ∷ g ∷ l ∷ 0 ∷ 0 ∷ []; shown = 5 };
       outputs = outputs_of names (only made);
     } in
     blocks_all_read names bytes (omega (arith, count, few))

@@ -12,8 +12,14 @@ pub mod PlacedCounts
 pub mod PlacedPackets
 pub mod PlacedTally
 pub mod SmallFile
+pub mod SoftBack
+pub mod SoftFields
+pub mod SoftFiles
+pub mod SoftMoved
+pub mod SoftPlaces
 pub mod SoftRuns
 pub mod SoftStays
 pub mod SoftStream
 pub mod StreamSymbols
 pub mod Tallied
+pub mod LivesOn

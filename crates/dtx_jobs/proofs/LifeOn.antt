@@ -33,13 +33,13 @@ unfolding emission
 emission_few a d l = few_in_all (λ n. last_segments a d (take (n + 1) l)) 0 (length l) (λ n. given_few a d (take
     (n + 1) l))
 
-presets_few : (n m : ℕ) (t : Told) → presets_in (line_of n m t) + mutes_in (line_of n m t) ≤ 1
+pub presets_few : (n m : ℕ) (t : Told) → presets_in (line_of n m t) + mutes_in (line_of n m t) ≤ 1
 presets_few n m Quiet = omega arith
 presets_few n m (Sent None) = omega arith
 presets_few n m (Sent (Some p)) = omega arith
 presets_few n m (Muted why) = omega arith
 
-counted_in_all : (f : ℕ → List Line) (a n : ℕ) → ((i : ℕ) → presets_in (f i) + mutes_in (f i) ≤ 1)
+pub counted_in_all : (f : ℕ → List Line) (a n : ℕ) → ((i : ℕ) → presets_in (f i) + mutes_in (f i) ≤ 1)
     → presets_in (flat_map f (range_with_len a n)) + mutes_in (flat_map f (range_with_len a n)) ≤ n
 counted_in_all f a zero h = omega arith
 counted_in_all f a (suc n) h =

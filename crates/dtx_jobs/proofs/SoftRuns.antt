@@ -97,15 +97,15 @@ told (Some r) (Some q) l k b syncs =
 
 -- ---- all segments
 
-soft_length : (s : List (List ℤ)) → length (soft_symbols s) ≡ length s
+pub soft_length : (s : List (List ℤ)) → length (soft_symbols s) ≡ length s
 unfolding soft_symbols
 soft_length s = length-map-range_with_len (soft_at s) 0 (length s)
 
-soft_entry : (s : List (List ℤ)) (i : ℕ) → i < length s → get_or (soft_symbols s) i [] ≡ soft_at s i
+pub soft_entry : (s : List (List ℤ)) (i : ℕ) → i < length s → get_or (soft_symbols s) i [] ≡ soft_at s i
 unfolding soft_symbols
 soft_entry s i l = get_or-map-range_with_len (soft_at s) 0 (length s) i i [] l (omega arith)
 
-copied : (s : List (List ℤ)) (i : ℕ) → i < length s → place_in (tracked (take i s)).run ≡ None
+pub copied : (s : List (List ℤ)) (i : ℕ) → i < length s → place_in (tracked (take i s)).run ≡ None
     → get_or (soft_symbols s) i [] ≡ get_or s i []
 unfolding soft_at next_place
 copied s i l h = soft_entry s i l ∙ ap (soft_from s i) h

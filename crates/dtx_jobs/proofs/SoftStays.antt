@@ -1,20 +1,22 @@
 -- `soft` leaves the segments of a stream as they are.
-use Rattle.std.proofs.Common.{◌≡◌, ℕ, ℤ, zero, suc, ◌+◌, ◌-◌, ◌*◌, ◌/◌, ◌%◌, ◌<◌, ◌≤◌, ◌⊎◌, inl, inr, Bool, true, cond}
-use Rattle.std.proofs.Common.{Option, Some, None, List, [], ◌∷◌, ◌++◌, length, take, drop, get_or, min, refl, sym, ap}
+use Rattle.std.proofs.Common.{◌≡◌, ℕ, ℤ, zero, suc, ◌+◌, ◌-◌, ◌*◌, ◌/◌, ◌%◌, ◌<◌, ◌≤◌, ◌⊎◌, inl, inr, true}
+use Rattle.std.proofs.Common.{List, [], length, take, drop, get_or, min, refl, sym, ap}
 use Rattle.std.proofs.Common.{◌∙◌, arith}
 use Rattle.std.proofs.lemmas.Bool.{cases_lt}
-use Rattle.std.proofs.lemmas.List.{get_or-drop, get_or-take, get_or_default, get_or_past, length-take, take_more}
+use Rattle.std.proofs.lemmas.List.{get_or-drop, get_or-take, get_or_default, get_or_past, length-take}
 use Rattle.std.proofs.lemmas.List.FromFn.{fill_by_all}
 use Rattle.dtx_frame.specs.AlikeLaws.{looks_alike}
 use Rattle.dtx_frame.specs.Detection.{looks_like}
 use Rattle.dtx_coder.specs.CountsLaws.{a53_segment}
 use Rattle.dtx_coder.specs.Stream.{a53}
 use Rattle.dtx_chain.specs.PlacesLaws.{sync_at_place}
-use Rattle.dtx_soft.specs.Coders.{symbols_of}
+use Rattle.dtx_soft.specs.Coders.{coder_symbols}
 use Rattle.dtx_soft.specs.Softened.{IsOwn, softened, softened_cost}
-use Rattle.dtx_jobs.specs.Soft.{count_from, counted, in_groups, next_place, place_at, soft_at, soft_from, soft_symbols}
+use Rattle.dtx_jobs.specs.Soft.{count_from, counted, in_groups, place_at, soft_at, soft_from, soft_symbols}
+use Rattle.dtx_jobs.specs.SoftFields.{place_behind}
 use Rattle.dtx_jobs.specs.SoftLaws.{none_counts}
-use Rattle.dtx_jobs.specs.SoftPlacesLaws.{place_copied, place_ends, place_first, place_on}
+use Rattle.dtx_jobs.specs.SoftPlacesLaws.{place_first}
+use Rattle.dtx_jobs.proofs.SoftPlaces.{in_run}
 use Rattle.dtx_jobs.proofs.SoftStream.{TakesPaths, count, field_at, field_own, length-field}
 
 -- ---- places
@@ -23,34 +25,13 @@ use Rattle.dtx_jobs.proofs.SoftStream.{TakesPaths, count, field_at, field_own, l
 abbrev IsInStep : List (List ℤ) → Type 0
 IsInStep s = (i : ℕ) → i < length s → i % 313 ≡ 0 → looks_like (get_or s i []) ≡ true
 
-abbrev place_of : ℕ → Option ℕ
-place_of zero = None
-place_of (suc p) = Some p
-
-in_step : (s : List (List ℤ)) → IsInStep s → (i : ℕ) → i ≤ length s → next_place (take i s) ≡ place_of (i % 313)
-in_step s h zero l = place_first
-in_step s h (suc i) l =
-    let next : suc i ≡ i + 1 = omega arith in
-    ap (λ n. next_place (take n s)) next ∙ ap next_place (take_more s i [] (omega arith))
-    ∙ by_place (i % 313) refl (in_step s h i (omega arith))
+in_step : (s : List (List ℤ)) → IsInStep s → (i : ℕ) → i ≤ length s → place_at s i ≡ place_behind (i % 313)
+in_step s h i l =
+    let here : i ≡ 0 + i = omega arith in
+    ap (λ k. place_at s k) here ∙ in_run s 0 (length s) i (omega arith) at place_first l
   where
-    by_end : (p : ℕ) → i % 313 ≡ suc p → next_place (take i s) ≡ Some p → (p + 1 < 312) ⊎ (312 ≤ p + 1)
-        → next_place (take i s ++ get_or s i [] ∷ []) ≡ place_of (suc i % 313)
-    by_end p e before (inl k) =
-        let further : suc i % 313 ≡ suc (p + 1) = omega (arith, e) in
-        place_on (take i s) (get_or s i []) p before k ∙ ap place_of (sym further)
-    by_end p e before (inr k) =
-        let last : p ≡ 311 = omega (arith, e) in
-        let around : suc i % 313 ≡ 0 = omega (arith, e) in
-        place_ends (take i s) (get_or s i []) (before ∙ ap Some last) ∙ ap place_of (sym around)
-
-    by_place : (n : ℕ) → i % 313 ≡ n → next_place (take i s) ≡ place_of (i % 313)
-        → next_place (take i s ++ get_or s i [] ∷ []) ≡ place_of (suc i % 313)
-    by_place zero e before =
-        let first : suc i % 313 ≡ 1 = omega (arith, e) in
-        place_copied (take i s) (get_or s i []) (before ∙ ap place_of e)
-        ∙ ap (λ (b : Bool). cond b (Some 0) None) (h i (omega arith) e) ∙ ap place_of (sym first)
-    by_place (suc p) e before = by_end p e (before ∙ ap place_of e) (cases_lt (p + 1) 312)
+    at : (j : ℕ) → j < length s → j % 313 ≡ 0 → looks_like (get_or s (0 + j) []) ≡ true
+    at j k e = (let same : 0 + j ≡ j = omega arith in ap (λ n. looks_like (get_or s n [])) same ∙ h j k e)
 
 stream_in_step : (ps : List (List ℕ)) → IsInStep (a53 ps)
 stream_in_step ps i l e = (let sync = sync_at_place ps i l e in ap looks_like sync.2 ∙ looks_alike sync.0 sync.1)
@@ -61,7 +42,7 @@ stream_in_step ps i l e = (let sync = sync_at_place ps i l e in ap looks_like sy
 abbrev KeepsOwn : Type 0
 KeepsOwn = (scale : ℕ) (segments : List (List ℤ))
     → ((i : ℕ) → i < length segments → length (get_or segments i []) ≡ 832)
-    → ((e : ℕ) → e < 12 → IsOwn scale (symbols_of segments e))
+    → ((e : ℕ) → e < 12 → IsOwn scale (coder_symbols segments e))
     → (softened scale segments ≡ segments) × (softened_cost scale segments ≡ 0)
 
 field_stays : TakesPaths → KeepsOwn → (ps : List (List ℕ)) (f : ℕ) → 313 * f + 1 ≤ length (a53 ps)
@@ -99,7 +80,7 @@ unfolding soft_at
 stays_at takes keeps ps i l =
     ap (soft_from (a53 ps) i) (in_step (a53 ps) (stream_in_step ps) i (omega arith)) ∙ by_place (i % 313) refl
   where
-    by_place : (n : ℕ) → i % 313 ≡ n → soft_from (a53 ps) i (place_of n) ≡ get_or (a53 ps) i []
+    by_place : (n : ℕ) → i % 313 ≡ n → soft_from (a53 ps) i (place_behind n) ≡ get_or (a53 ps) i []
     by_place zero e = refl
     by_place (suc p) e =
         let first : i - p ≡ 313 * (i / 313) + 1 = omega (arith, e) in
@@ -121,7 +102,7 @@ costs_nothing_at takes keeps ps i l =
     ap (count_from (softened_cost 1) (a53 ps) i) (in_step (a53 ps) (stream_in_step ps) i (omega arith))
     ∙ by_place (i % 313) refl
   where
-    by_place : (n : ℕ) → i % 313 ≡ n → count_from (softened_cost 1) (a53 ps) i (place_of n) ≡ 0
+    by_place : (n : ℕ) → i % 313 ≡ n → count_from (softened_cost 1) (a53 ps) i (place_behind n) ≡ 0
     by_place zero e = refl
     by_place (suc zero) e =
         let first : i ≡ 313 * (i / 313) + 1 = omega (arith, e) in

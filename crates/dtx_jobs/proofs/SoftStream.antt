@@ -8,13 +8,13 @@ use Rattle.std.proofs.lemmas.List.{get_or-append_right, get_or-drop, get_or-map,
 use Rattle.std.proofs.lemmas.List.{length-take-le}
 use Rattle.std.proofs.lemmas.List.FromFn.{fill_by_all, get_or-map-range_with_len, length-map-range_with_len}
 use Rattle.dtx_trellis.specs.Trellis.{AreBits, State, level, state_after, state_of}
-use Rattle.dtx_trellis.specs.Pairs.{coder_at, groups, higher, lower}
+use Rattle.dtx_trellis.specs.Pairs.{groups, higher, lower}
 use Rattle.dtx_trellis.specs.Groups.{level_at, levels_of}
-use Rattle.dtx_trellis.specs.CodersLaws.{coder_is, length_higher, length_lower}
+use Rattle.dtx_trellis.specs.CodersLaws.{length_higher, length_lower}
 use Rattle.dtx_trellis.specs.GoesOnLaws.{after_bits, level_goes_on, same_levels}
 use Rattle.dtx_trellis.specs.JoinsLaws.{groups_whole}
 use Rattle.dtx_trellis.specs.RoundsLaws.{bits_of}
-use Rattle.dtx_slice.specs.InverseLaws.{lower_bit, place_within}
+use Rattle.dtx_slice.specs.InverseLaws.{lower_bit, place_coder, place_round, place_within}
 use Rattle.dtx_slice.specs.Unrolled.{symbol_place}
 use Rattle.dtx_frame.specs.Segments.{data_segment, segment_sync, symbol_of}
 use Rattle.dtx_frame.specs.SymbolsLaws.{length_sync}
@@ -25,7 +25,7 @@ use Rattle.dtx_coder.specs.LevelsLaws.{length-levels}
 use Rattle.dtx_coder.specs.SegmentsLaws.{segment_is}
 use Rattle.dtx_coder.specs.Stream.{a53, levels, segment, zero_states}
 use Rattle.dtx_chain.specs.PlacesLaws.{data_at_place}
-use Rattle.dtx_soft.specs.Coders.{data_symbol, symbols_of}
+use Rattle.dtx_soft.specs.Coders.{coder_symbols, data_symbol}
 use Rattle.dtx_soft.specs.Paths.{IsPath, symbol_at}
 use Rattle.dtx_soft.specs.Softened.{IsOwn}
 use Rattle.dtx_jobs.specs.Soft.{in_groups}
@@ -100,19 +100,6 @@ part_own takes q a b r n symbols h e l small long same = record {
 
 -- ---- the symbols of a field
 
-turn_back : (x e : ℕ) → x < 3 → e < 12 → ((e + 12 - 4 * x) % 12 + 4 * x) % 12 ≡ e
-turn_back x e l m = omega arith
-
-place_coder : (r e : ℕ) → e < 12 → coder_at 0 (symbol_place 0 r e) ≡ e
-unfolding symbol_place
-place_coder r e l =
-    coder_is 0 r ((e + 12 - 4 * ((0 + r / 69) % 3)) % 12) (omega arith)
-    ∙ turn_back ((0 + r / 69) % 3) e (omega arith) l
-
-place_round : (r e : ℕ) → symbol_place 0 r e / 12 ≡ r
-unfolding symbol_place
-place_round r e = omega arith
-
 -- a field's first pairs stand behind 312 segments of each field before it
 place_further : (f t e : ℕ) → symbol_place 0 (21528 * f + t) e ≡ 828 * (312 * f) + symbol_place 0 t e
 unfolding symbol_place
@@ -141,7 +128,7 @@ stream_level ps e r l m =
     (symbol_place 0 r e) (symbol_place 0 r e) 0
     (place_within 0 r e (groups (whole_groups ps)) (omega (arith, m, groups_are ps))) (omega arith)
     ∙ ap₂ (λ (c t : ℕ). level (state_of (get_or zero_states c 0)) (higher 0 (whole_groups ps) c)
-    (lower 0 (whole_groups ps) c) t) (place_coder r e l) (place_round r e)
+    (lower 0 (whole_groups ps) c) t) (place_coder 0 r e l) (place_round 0 r e)
 
 data_in : (zs : List ℕ) (k j : ℕ) → j < 828 → 828 * k + 828 ≤ length zs
     → get_or (segment zs k) (4 + j) (pos 0) ≡ symbol_at 1 (get_or zs (828 * k + j) 0)
@@ -201,11 +188,11 @@ field_symbol ps f d l m =
 
 -- each coder's symbols in whole groups of field f
 pub field_own : TakesPaths → (ps : List (List ℕ)) (f e : ℕ) → 313 * f + 1 ≤ length (a53 ps) → e < 12
-    → IsOwn 1 (symbols_of (in_groups (a53 ps) (313 * f + 1)) e)
-unfolding symbols_of
+    → IsOwn 1 (coder_symbols (in_groups (a53 ps) (313 * f + 1)) e)
+unfolding coder_symbols
 field_own takes ps f e l m =
     part_own takes (state_of (get_or zero_states e 0)) (higher 0 (whole_groups ps) e) (lower 0 (whole_groups ps) e)
-    (21528 * f) (69 * length (in_groups (a53 ps) (313 * f + 1))) (symbols_of (in_groups (a53 ps) (313 * f + 1)) e)
+    (21528 * f) (69 * length (in_groups (a53 ps) (313 * f + 1))) (coder_symbols (in_groups (a53 ps) (313 * f + 1)) e)
     (bits_of (get_or zero_states e 0)) (length_higher 0 e (whole_groups ps) ∙ sym (length_lower 0 e (whole_groups ps)))
     (omega (arith, fit, long, length_higher 0 e (whole_groups ps), groups_are ps))
     (λ t k. lower_bit 0 t e (whole_groups ps) (omega (arith, k, length_higher 0 e (whole_groups ps))))
@@ -220,7 +207,7 @@ field_own takes ps f e l m =
     long = length-field ps f l
 
     by_pair : (t : ℕ) → t < 69 * length (in_groups (a53 ps) (313 * f + 1))
-        → get_or (symbols_of (in_groups (a53 ps) (313 * f + 1)) e) t (pos 0)
+        → get_or (coder_symbols (in_groups (a53 ps) (313 * f + 1)) e) t (pos 0)
         ≡ symbol_at 1 (level (state_of (get_or zero_states e 0)) (higher 0 (whole_groups ps) e)
         (lower 0 (whole_groups ps) e) (21528 * f + t))
     by_pair t k =

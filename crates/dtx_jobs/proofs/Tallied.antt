@@ -3,17 +3,18 @@ use Rattle.std.proofs.Common.{◌≡◌, ℕ, ◌+◌, List, [], ◌∷◌, ◌+
 use Rattle.std.specs.Prelude.{ℤ, if◌then◌else◌}
 use Rattle.std.proofs.lemmas.List.{length-append}
 use Rattle.std.proofs.lemmas.List.Sums.{sum_by-append}
-use Rattle.dtx_receiver.specs.CountingLaws.{nothing_given, no_segments, runs_more}
-use Rattle.dtx_receiver.specs.Packets.{all_packets, packets_so_far}
+use Rattle.dtx_receiver.specs.CountingLaws.{no_segments, runs_more}
 use Rattle.dtx_receiver.specs.Runs.{runs, begun, tracking}
 use Rattle.dtx_receiver.specs.declared.batch.Received.{Received}
+use Rattle.dtx_jobs.specs.Giving.{Giving, IsGiving}
 use Rattle.dtx_jobs.specs.Tally.{fixed_in, flagged_in, tally_of, tally_with}
 use Rattle.dtx_jobs.specs.declared.tally.Tally.{Tally}
 
 -- before the first segment
-pub tally_none : (tally : Tally) → tally ≡ record { segments = 0; runs = 0; packets = 0; fixed = 0; flagged = 0 }
-    → tally ≡ tally_of [] (packets_so_far [])
-tally_none tally is = rw (nothing_given, no_segments) is
+pub tally_none : (giving : Giving) → IsGiving giving → (tally : Tally)
+    → tally ≡ record { segments = 0; runs = 0; packets = 0; fixed = 0; flagged = 0 }
+    → tally ≡ tally_of [] (giving.so_far [])
+tally_none giving given tally is = rw (given.none, no_segments) is
 
 same_tally : (a b c d e a' b' c' d' e' : ℕ) → a ≡ a' → b ≡ b' → c ≡ c' → d ≡ d' → e ≡ e'
     → ◌≡◌ {A = Tally} (record { segments = a; runs = b; packets = c; fixed = d; flagged = e })
@@ -27,27 +28,27 @@ flagged_in-append : (a b : List Received) → flagged_in (a ++ b) ≡ flagged_in
 flagged_in-append a b = sum_by-append (λ (p : Received). if p.good then 0 else 1) a b
 
 -- with one segment more and the packets that it brought
-pub tally_on : (segments : List (List ℤ)) (x : List ℤ) (brought : List Received)
-    → packets_so_far (segments ++ x ∷ []) ≡ packets_so_far segments ++ brought
-    → tally_with (record (tally_of segments (packets_so_far segments)) {
+pub tally_on : (giving : Giving) (segments : List (List ℤ)) (x : List ℤ) (brought : List Received)
+    → giving.so_far (segments ++ x ∷ []) ≡ giving.so_far segments ++ brought
+    → tally_with (record (tally_of segments (giving.so_far segments)) {
       segments = length segments + 1;
       runs = length (runs segments) + begun (tracking segments x);
     }) brought
-    ≡ tally_of (segments ++ x ∷ []) (packets_so_far (segments ++ x ∷ []))
-tally_on segments x brought more = same_tally _ _ _ _ _ _ _ _ _ _
+    ≡ tally_of (segments ++ x ∷ []) (giving.so_far (segments ++ x ∷ []))
+tally_on giving segments x brought more = same_tally _ _ _ _ _ _ _ _ _ _
     (sym (length-append segments (x ∷ [])))
     (sym (runs_more segments x))
-    (sym (ap length more ∙ length-append (packets_so_far segments) brought))
-    (sym (ap fixed_in more ∙ fixed_in-append (packets_so_far segments) brought))
-    (sym (ap flagged_in more ∙ flagged_in-append (packets_so_far segments) brought))
+    (sym (ap length more ∙ length-append (giving.so_far segments) brought))
+    (sym (ap fixed_in more ∙ fixed_in-append (giving.so_far segments) brought))
+    (sym (ap flagged_in more ∙ flagged_in-append (giving.so_far segments) brought))
 
 -- with the packets that the end brought
-pub tally_ended : (segments : List (List ℤ)) (brought : List Received)
-    → all_packets segments ≡ packets_so_far segments ++ brought
-    → tally_with (tally_of segments (packets_so_far segments)) brought ≡ tally_of segments (all_packets segments)
-tally_ended segments brought more = same_tally _ _ _ _ _ _ _ _ _ _
+pub tally_ended : (giving : Giving) (segments : List (List ℤ)) (brought : List Received)
+    → giving.all segments ≡ giving.so_far segments ++ brought
+    → tally_with (tally_of segments (giving.so_far segments)) brought ≡ tally_of segments (giving.all segments)
+tally_ended giving segments brought more = same_tally _ _ _ _ _ _ _ _ _ _
     refl
     refl
-    (sym (ap length more ∙ length-append (packets_so_far segments) brought))
-    (sym (ap fixed_in more ∙ fixed_in-append (packets_so_far segments) brought))
-    (sym (ap flagged_in more ∙ flagged_in-append (packets_so_far segments) brought))
+    (sym (ap length more ∙ length-append (giving.so_far segments) brought))
+    (sym (ap fixed_in more ∙ fixed_in-append (giving.so_far segments) brought))
+    (sym (ap flagged_in more ∙ flagged_in-append (giving.so_far segments) brought))

@@ -20,7 +20,7 @@ use Rattle.dtx_jobs.specs.Shapes.{packets}
 abbrev pub fed_outcome : List ℕ → ℕ → Outcome
 fed_outcome stream loose = record {
   status = Done;
-  numbers = whole_packets stream ∷ placeholders (packets_of stream) ∷ loose ∷ 0 ∷ 0 ∷ 0 ∷ [];
+  numbers = whole_packets stream ∷ placeholders (packets_of stream) ∷ loose ∷ 0 ∷ 0 ∷ 0 ∷ 0 ∷ [];
   shown = 3;
 }
 

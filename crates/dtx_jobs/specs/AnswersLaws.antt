@@ -1,6 +1,7 @@
 -- Which refusals each command knows: of how its making answers, of a plan that is not read, and of faults.
-use Rattle.std.specs.Prelude.{◌≡◌, ◌⊎◌, ℕ, Bool, false, true, List, Option, Some, None, if◌then◌else◌, refl}
-use Rattle.std.proofs.Common.{sym, subst, ◌∙◌, inl, inr}
+use Rattle.std.specs.Prelude.{◌≡◌, ◌⊎◌, ◌==◌, ℕ, Bool, false, true, List, length, Option, Some, None, if◌then◌else◌}
+use Rattle.std.proofs.Common.{inl, inr, sym, subst}
+use Rattle.dtx_acquire.specs.Acquired.{acquired, acquired_cost, acquired_runs}
 use Rattle.dtx_outside.specs.declared.shelf.WriteNo.{WriteNo}
 use Rattle.dtx_outside.specs.declared.shelf.WriteNo.TheVariants as write
 use Rattle.dtx_engine.specs.Recipe.{IsAnswerOf, Recipe}
@@ -12,260 +13,189 @@ use Rattle.dtx_meaning.specs.declared.status.Status.TheVariants.{OutOfFeed, OutO
 use Rattle.dtx_meaning.specs.declared.status.Status.TheVariants.{Memory}
 use Rattle.dtx_plan.specs.declared.damage.Damage.{Damage}
 use Rattle.dtx_plan.specs.declared.plan.Plan as plans
+use Rattle.dtx_receiver.specs.Runs.{runs}
+use Rattle.dtx_repeat.specs.Lives.{lives}
 use Rattle.dtx_words.specs.declared.rows.Command.{Command}
-use Rattle.dtx_words.specs.declared.rows.Command.TheVariants.{Adapt, Code, Excite, Receive, Net, Make, Hurt, Place}
-use Rattle.dtx_words.specs.declared.rows.Command.TheVariants.{Trial, Soft, DvbCode, DvbRead}
+use Rattle.dtx_words.specs.declared.rows.Command.TheVariants.{Adapt, Code, Excite, Receive, Make, Hurt, Place, Soft}
+use Rattle.dtx_words.specs.declared.rows.Command.TheVariants.{Mend, DvbCode, DvbRead, Repeat, Acquire, Watch}
+use Rattle.dtx_jobs.specs.Acquire.{acquired_numbers, acquiring}
 use Rattle.dtx_jobs.specs.Adapt.{feeding}
 use Rattle.dtx_jobs.specs.Answers.{Knows}
 use Rattle.dtx_jobs.specs.Code.{coding}
 use Rattle.dtx_jobs.specs.DvbCode.{dvb_coding}
 use Rattle.dtx_jobs.specs.DvbRead.{dvb_reading}
 use Rattle.dtx_jobs.specs.Excite.{exciting}
+use Rattle.dtx_jobs.specs.Giving.{Giving, given_numbers, receiving_by}
 use Rattle.dtx_jobs.specs.Hurt.{hurting, hurt_end}
+use Rattle.dtx_jobs.specs.Mend.{mending_symbols, with_mendings}
 use Rattle.dtx_jobs.specs.PlanFile.{IsPlanRefusal}
 use Rattle.dtx_jobs.specs.Place.{placing}
-use Rattle.dtx_jobs.specs.Receive.{receiving}
+use Rattle.dtx_jobs.specs.Receive.{receiving, with_corrections}
+use Rattle.dtx_jobs.specs.Lives.{lives_tally}
+use Rattle.dtx_jobs.specs.Repeat.{repeated_numbers, repeating}
 use Rattle.dtx_jobs.specs.Soft.{softening}
+use Rattle.dtx_jobs.specs.SymbolFile.{file_segments, symbols}
+use Rattle.dtx_jobs.specs.Watch.{watching}
 
 -- ---- how a making answers
 
+-- A command that may be answered that its input is too long, that a unit is refused where one can be, and what its
+-- making answers at the end, knows all answers of that making.
+pub knows_by : (recipe : Recipe) (command : Command) → Knows command TooLong
+    → ((k : ℕ) → (unit : List ℕ) × (recipe.allows k unit ≡ false) → Knows command (Packet k))
+    → ((given : List ℕ) (loose : ℕ) → Knows command (recipe.answer given loose).status)
+    → (status : Status) → IsAnswerOf recipe status → Knows command status
+knows_by recipe command long refused ends status is = by_status status is
+  where
+    at_end : (s : Status) → (given : List ℕ) × (loose : ℕ) × (s ≡ (recipe.answer given loose).status)
+        → Knows command s
+    at_end s (given, loose, same) =
+        let P : Status → Type 0 = λ s. Knows command s in subst P (sym same) (ends given loose)
+
+    by_status : (s : Status) → IsAnswerOf recipe s → Knows command s
+    by_status Done is = tt
+    by_status Usage is = tt
+    by_status Same is = tt
+    by_status (Absent input) is = tt
+    by_status (Plan refusal) is = at_end (Plan refusal) is
+    by_status (Packet k) is = elim is [
+      | inl unit ↦ refused k unit
+      | inr end ↦ at_end (Packet k) end
+    ]
+    by_status TooLong is = long
+    by_status (OutOfFeed event) is = at_end (OutOfFeed event) is
+    by_status (OutOfAir entry) is = at_end (OutOfAir entry) is
+    by_status NoSync is = at_end NoSync is
+    by_status ReadFault is = tt
+    by_status WriteFault is = tt
+    by_status Memory is = tt
+
+-- no unit is refused
+pub none_refused : {Known : Type 0} → (unit : List ℕ) × (true ≡ false) → Known
+none_refused (unit, refused) = let e : true ≡ false = refused in cc
+
 -- a stream that is adapted
 pub adapt_knows : (plan : plans.Plan) (status : Status) → IsAnswerOf (feeding plan) status → Knows Adapt status
-adapt_knows plan Done is = tt
-adapt_knows plan Usage is = tt
-adapt_knows plan Same is = tt
-adapt_knows plan (Absent input) is = tt
-adapt_knows plan (Plan refusal) is = tt
-adapt_knows plan (Packet k) is = tt
-adapt_knows plan TooLong is = tt
-adapt_knows plan (OutOfFeed event) (given, loose, is) = let e : OutOfFeed event ≡ Done = is in cc
-adapt_knows plan (OutOfAir entry) (given, loose, is) = let e : OutOfAir entry ≡ Done = is in cc
-adapt_knows plan NoSync (given, loose, is) = let e : NoSync ≡ Done = is in cc
-adapt_knows plan ReadFault is = tt
-adapt_knows plan WriteFault is = tt
-adapt_knows plan Memory is = tt
+adapt_knows plan = knows_by (feeding plan) Adapt tt (λ k unit. tt) (λ given loose. tt)
 
 -- a stream that is coded
 pub code_knows : (status : Status) → IsAnswerOf coding status → Knows Code status
-code_knows Done is = tt
-code_knows Usage is = tt
-code_knows Same is = tt
-code_knows (Absent input) is = tt
-code_knows (Plan refusal) (given, loose, is) = let e : Plan refusal ≡ Done = is in cc
-code_knows (Packet k) is = tt
-code_knows TooLong is = tt
-code_knows (OutOfFeed event) (given, loose, is) = let e : OutOfFeed event ≡ Done = is in cc
-code_knows (OutOfAir entry) (given, loose, is) = let e : OutOfAir entry ≡ Done = is in cc
-code_knows NoSync (given, loose, is) = let e : NoSync ≡ Done = is in cc
-code_knows ReadFault is = tt
-code_knows WriteFault is = tt
-code_knows Memory is = tt
+code_knows = knows_by coding Code tt (λ k unit. tt) (λ given loose. tt)
 
 -- a feed that an exciter is given
 pub excite_knows : (address delay : ℕ) (status : Status) → IsAnswerOf (exciting address delay) status
     → Knows Excite status
-excite_knows address delay Done is = tt
-excite_knows address delay Usage is = tt
-excite_knows address delay Same is = tt
-excite_knows address delay (Absent input) is = tt
-excite_knows address delay (Plan refusal) (given, loose, is) = let e : Plan refusal ≡ Done = is in cc
-excite_knows address delay (Packet k) (inl (unit, refused)) = let e : true ≡ false = refused in cc
-excite_knows address delay (Packet k) (inr (given, loose, is)) = let e : Packet k ≡ Done = is in cc
-excite_knows address delay TooLong is = tt
-excite_knows address delay (OutOfFeed event) (given, loose, is) = let e : OutOfFeed event ≡ Done = is in cc
-excite_knows address delay (OutOfAir entry) (given, loose, is) = let e : OutOfAir entry ≡ Done = is in cc
-excite_knows address delay NoSync (given, loose, is) = let e : NoSync ≡ Done = is in cc
-excite_knows address delay ReadFault is = tt
-excite_knows address delay WriteFault is = tt
-excite_knows address delay Memory is = tt
+excite_knows address delay =
+    knows_by (exciting address delay) Excite tt (λ k unit. none_refused unit) (λ given loose. tt)
 
 -- a stream in which placeholders are placed
 pub place_knows : (status : Status) → IsAnswerOf placing status → Knows Place status
-place_knows Done is = tt
-place_knows Usage is = tt
-place_knows Same is = tt
-place_knows (Absent input) is = tt
-place_knows (Plan refusal) (given, loose, is) = let e : Plan refusal ≡ Done = is in cc
-place_knows (Packet k) is = tt
-place_knows TooLong is = tt
-place_knows (OutOfFeed event) (given, loose, is) = let e : OutOfFeed event ≡ Done = is in cc
-place_knows (OutOfAir entry) (given, loose, is) = let e : OutOfAir entry ≡ Done = is in cc
-place_knows NoSync (given, loose, is) = let e : NoSync ≡ Done = is in cc
-place_knows ReadFault is = tt
-place_knows WriteFault is = tt
-place_knows Memory is = tt
+place_knows = knows_by placing Place tt (λ k unit. tt) (λ given loose. tt)
 
-received_or_not : (b : Bool) (outcome : Outcome) (status : Status) → outcome.status ≡ Done
-    → status ≡ (if b then ended NoSync else outcome).status → (status ≡ NoSync) ⊎ (status ≡ Done)
-received_or_not true outcome status done is = inl is
-received_or_not false outcome status done is = inr (is ∙ done)
+-- symbols of which no field sync is found, or something is given
+pub sync_or_not : (command : Command) (none : Bool) (outcome : Outcome) → Knows command NoSync
+    → Knows command outcome.status → Knows command (if none then ended NoSync else outcome).status
+sync_or_not command true outcome missing given = missing
+sync_or_not command false outcome missing given = given
 
--- symbols that are received
+-- symbols that are received, whichever receiver it is
+pub given_knows : (giving : Giving) (command : Command) → Knows command TooLong → Knows command NoSync
+    → (status : Status) → IsAnswerOf (receiving_by giving) status → Knows command status
+given_knows giving command long missing =
+    knows_by (receiving_by giving) command long (λ k unit. none_refused unit)
+    (λ given loose. sync_or_not command (length (runs (file_segments given)) == 0) (record {
+      status = Done;
+      numbers = given_numbers giving (file_segments given) loose;
+      shown = 6;
+    }) missing tt)
+
 pub receive_knows : (status : Status) → IsAnswerOf receiving status → Knows Receive status
-receive_knows Done is = tt
-receive_knows Usage is = tt
-receive_knows Same is = tt
-receive_knows (Absent input) is = tt
-receive_knows (Plan refusal) (given, loose, is) = elim (received_or_not _ _ (Plan refusal) refl is) [
-  | inl e ↦ cc
-  | inr e ↦ cc
-]
-receive_knows (Packet k) (inl (unit, refused)) = let e : true ≡ false = refused in cc
-receive_knows (Packet k) (inr (given, loose, is)) = elim (received_or_not _ _ (Packet k) refl is) [
-  | inl e ↦ cc
-  | inr e ↦ cc
-]
-receive_knows TooLong is = tt
-receive_knows (OutOfFeed event) (given, loose, is) = elim (received_or_not _ _ (OutOfFeed event) refl is) [
-  | inl e ↦ cc
-  | inr e ↦ cc
-]
-receive_knows (OutOfAir entry) (given, loose, is) = elim (received_or_not _ _ (OutOfAir entry) refl is) [
-  | inl e ↦ cc
-  | inr e ↦ cc
-]
-receive_knows NoSync is = tt
-receive_knows ReadFault is = tt
-receive_knows WriteFault is = tt
-receive_knows Memory is = tt
+receive_knows = given_knows with_corrections Receive tt tt
 
-hurt_or_past : (damage : List Damage) (bytes : ℕ) (past : Option ℕ) (status : Status)
-    → status ≡ (hurt_end damage bytes past).status → ((entry : ℕ) × (status ≡ OutOfAir entry)) ⊎ (status ≡ Done)
-hurt_or_past damage bytes (Some entry) status is = inl (entry, is)
-hurt_or_past damage bytes None status is = inr is
+pub mend_knows : (status : Status) → IsAnswerOf mending_symbols status → Knows Mend status
+mend_knows = given_knows with_mendings Mend tt tt
+
+-- symbols that are sent again
+pub repeat_knows : (address delay : ℕ) (status : Status) → IsAnswerOf (repeating address delay) status
+    → Knows Repeat status
+repeat_knows address delay =
+    knows_by (repeating address delay) Repeat tt (λ k unit. none_refused unit)
+    (λ given loose. sync_or_not Repeat (length (runs (file_segments given)) == 0) (record {
+      status = Done;
+      numbers = repeated_numbers (length (file_segments given)) (length (runs (file_segments given)))
+          (lives_tally address delay (lives (file_segments given))) loose;
+      shown = 7;
+    }) tt tt)
+
+past_or_not : (damage : List Damage) (bytes : ℕ) (past : Option ℕ) → Knows Hurt (hurt_end damage bytes past).status
+past_or_not damage bytes (Some entry) = tt
+past_or_not damage bytes None = tt
 
 -- a file over which damage is laid
 pub hurt_knows : (damage : List Damage) (status : Status) → IsAnswerOf (hurting damage) status → Knows Hurt status
-hurt_knows damage Done is = tt
-hurt_knows damage Usage is = tt
-hurt_knows damage Same is = tt
-hurt_knows damage (Absent input) is = tt
-hurt_knows damage (Plan refusal) is = tt
-hurt_knows damage (Packet k) (inl (unit, refused)) = let e : true ≡ false = refused in cc
-hurt_knows damage (Packet k) (inr (given, loose, is)) = elim (hurt_or_past damage _ _ (Packet k) is) [
-  | inl past ↦ let e = past.1 in cc
-  | inr e ↦ cc
-]
-hurt_knows damage TooLong is = tt
-hurt_knows damage (OutOfFeed event) (given, loose, is) = elim (hurt_or_past damage _ _ (OutOfFeed event) is) [
-  | inl past ↦ let e = past.1 in cc
-  | inr e ↦ cc
-]
-hurt_knows damage (OutOfAir entry) is = tt
-hurt_knows damage NoSync (given, loose, is) = elim (hurt_or_past damage _ _ NoSync is) [
-  | inl past ↦ let e = past.1 in cc
-  | inr e ↦ cc
-]
-hurt_knows damage ReadFault is = tt
-hurt_knows damage WriteFault is = tt
-hurt_knows damage Memory is = tt
+hurt_knows damage =
+    knows_by (hurting damage) Hurt tt (λ k unit. none_refused unit) (λ given loose. past_or_not damage _ _)
 
 -- a stream that the outer coding of DVB sends
 pub dvb_code_knows : (status : Status) → IsAnswerOf dvb_coding status → Knows DvbCode status
-dvb_code_knows Done is = tt
-dvb_code_knows Usage is = tt
-dvb_code_knows Same is = tt
-dvb_code_knows (Absent input) is = tt
-dvb_code_knows (Plan refusal) (given, loose, is) = let e : Plan refusal ≡ Done = is in cc
-dvb_code_knows (Packet k) is = tt
-dvb_code_knows TooLong is = tt
-dvb_code_knows (OutOfFeed event) (given, loose, is) = let e : OutOfFeed event ≡ Done = is in cc
-dvb_code_knows (OutOfAir entry) (given, loose, is) = let e : OutOfAir entry ≡ Done = is in cc
-dvb_code_knows NoSync (given, loose, is) = let e : NoSync ≡ Done = is in cc
-dvb_code_knows ReadFault is = tt
-dvb_code_knows WriteFault is = tt
-dvb_code_knows Memory is = tt
+dvb_code_knows = knows_by dvb_coding DvbCode tt (λ k unit. tt) (λ given loose. tt)
 
 -- blocks that are read back
 pub dvb_read_knows : (status : Status) → IsAnswerOf dvb_reading status → Knows DvbRead status
-dvb_read_knows Done is = tt
-dvb_read_knows Usage is = tt
-dvb_read_knows Same is = tt
-dvb_read_knows (Absent input) is = tt
-dvb_read_knows (Plan refusal) (given, loose, is) = let e : Plan refusal ≡ Done = is in cc
-dvb_read_knows (Packet k) (inl (unit, refused)) = let e : true ≡ false = refused in cc
-dvb_read_knows (Packet k) (inr (given, loose, is)) = let e : Packet k ≡ Done = is in cc
-dvb_read_knows TooLong is = tt
-dvb_read_knows (OutOfFeed event) (given, loose, is) = let e : OutOfFeed event ≡ Done = is in cc
-dvb_read_knows (OutOfAir entry) (given, loose, is) = let e : OutOfAir entry ≡ Done = is in cc
-dvb_read_knows NoSync (given, loose, is) = let e : NoSync ≡ Done = is in cc
-dvb_read_knows ReadFault is = tt
-dvb_read_knows WriteFault is = tt
-dvb_read_knows Memory is = tt
+dvb_read_knows = knows_by dvb_reading DvbRead tt (λ k unit. none_refused unit) (λ given loose. tt)
 
 -- symbols that are softened
 pub soft_knows : (status : Status) → IsAnswerOf softening status → Knows Soft status
-soft_knows Done is = tt
-soft_knows Usage is = tt
-soft_knows Same is = tt
-soft_knows (Absent input) is = tt
-soft_knows (Plan refusal) (given, loose, is) = let e : Plan refusal ≡ Done = is in cc
-soft_knows (Packet k) (inl (unit, refused)) = let e : true ≡ false = refused in cc
-soft_knows (Packet k) (inr (given, loose, is)) = let e : Packet k ≡ Done = is in cc
-soft_knows TooLong is = tt
-soft_knows (OutOfFeed event) (given, loose, is) = let e : OutOfFeed event ≡ Done = is in cc
-soft_knows (OutOfAir entry) (given, loose, is) = let e : OutOfAir entry ≡ Done = is in cc
-soft_knows NoSync (given, loose, is) = let e : NoSync ≡ Done = is in cc
-soft_knows ReadFault is = tt
-soft_knows WriteFault is = tt
-soft_knows Memory is = tt
+soft_knows = knows_by softening Soft tt (λ k unit. none_refused unit) (λ given loose. tt)
+
+-- a feed that is watched
+pub watch_knows : (status : Status) → IsAnswerOf watching status → Knows Watch status
+watch_knows = knows_by watching Watch tt (λ k unit. none_refused unit) (λ given loose. tt)
+
+-- a capture whose fields are found
+pub acquire_knows : (scale : ℕ) (status : Status) → IsAnswerOf (acquiring scale) status → Knows Acquire status
+acquire_knows scale =
+    knows_by (acquiring scale) Acquire tt (λ k unit. none_refused unit)
+    (λ given loose. sync_or_not Acquire (acquired_runs (symbols given) == 0) (record {
+      status = Done;
+      numbers = acquired_numbers (length (symbols given)) (acquired_runs (symbols given))
+          (length (acquired scale (symbols given))) (acquired_cost scale (symbols given));
+      shown = 5;
+    }) tt tt)
 
 -- ---- equal names, plans, faults
-
-same_known : (command : Command) → Knows command Same
-same_known Adapt = tt
-same_known Code = tt
-same_known Excite = tt
-same_known Receive = tt
-same_known Net = tt
-same_known Make = tt
-same_known Hurt = tt
-same_known Place = tt
-same_known Trial = tt
-same_known Soft = tt
-same_known DvbCode = tt
-same_known DvbRead = tt
 
 -- a command of one input and one output, whose names may be equal
 pub transformed_knows : (recipe : Recipe) (command : Command) (status : Status)
     → ((s : Status) → IsAnswerOf recipe s → Knows command s) → (status ≡ Same) ⊎ IsAnswerOf recipe status
     → Knows command status
 transformed_knows recipe command status knows is = elim is [
-  | inl same ↦ let P : Status → Type 0 = λ s. Knows command s in subst P (sym same) (same_known command)
+  | inl same ↦ let P : Status → Type 0 = λ s. Knows command s in subst P (sym same) tt
   | inr answer ↦ knows status answer
 ]
 
--- a plan that is not read
-pub plan_knows : (number : ℕ) (status : Status) → IsPlanRefusal number status → Knows Adapt status
-plan_knows number Done is = elim is [ ]
-plan_knows number Usage is = elim is [ ]
-plan_knows number Same is = elim is [ ]
-plan_knows number (Absent input) is = tt
-plan_knows number (Plan refusal) is = tt
-plan_knows number (Packet k) is = elim is [ ]
-plan_knows number TooLong is = elim is [ ]
-plan_knows number (OutOfFeed event) is = elim is [ ]
-plan_knows number (OutOfAir entry) is = elim is [ ]
-plan_knows number NoSync is = elim is [ ]
-plan_knows number ReadFault is = tt
-plan_knows number WriteFault is = elim is [ ]
-plan_knows number Memory is = tt
+-- a plan, or changes, that are not read
+pub plan_refusal_known : (command : Command) (number : ℕ) → ((refusal : _) → Knows command (Plan refusal))
+    → (status : Status) → IsPlanRefusal number status → Knows command status
+plan_refusal_known command number known (Plan refusal) is = known refusal
+plan_refusal_known command number known (Absent input) is = tt
+plan_refusal_known command number known ReadFault is = tt
+plan_refusal_known command number known Memory is = tt
+plan_refusal_known command number known Done is = elim is [ ]
+plan_refusal_known command number known Usage is = elim is [ ]
+plan_refusal_known command number known Same is = elim is [ ]
+plan_refusal_known command number known (Packet k) is = elim is [ ]
+plan_refusal_known command number known TooLong is = elim is [ ]
+plan_refusal_known command number known (OutOfFeed event) is = elim is [ ]
+plan_refusal_known command number known (OutOfAir entry) is = elim is [ ]
+plan_refusal_known command number known NoSync is = elim is [ ]
+plan_refusal_known command number known WriteFault is = elim is [ ]
 
--- changes that are not read
+pub plan_knows : (number : ℕ) (status : Status) → IsPlanRefusal number status → Knows Adapt status
+plan_knows number = plan_refusal_known Adapt number (λ refusal. tt)
+
 pub changes_know : (number : ℕ) (status : Status) → IsPlanRefusal number status → Knows Hurt status
-changes_know number Done is = elim is [ ]
-changes_know number Usage is = elim is [ ]
-changes_know number Same is = elim is [ ]
-changes_know number (Absent input) is = tt
-changes_know number (Plan refusal) is = tt
-changes_know number (Packet k) is = elim is [ ]
-changes_know number TooLong is = elim is [ ]
-changes_know number (OutOfFeed event) is = elim is [ ]
-changes_know number (OutOfAir entry) is = elim is [ ]
-changes_know number NoSync is = elim is [ ]
-changes_know number ReadFault is = tt
-changes_know number WriteFault is = elim is [ ]
-changes_know number Memory is = tt
+changes_know number = plan_refusal_known Hurt number (λ refusal. tt)
 
 -- a fault of writing
 pub write_known : (cause : WriteNo) → Knows Make (of_write cause)

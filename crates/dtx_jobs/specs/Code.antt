@@ -20,7 +20,7 @@ may_be_coded packet = sync_of packet == 0x47 || sync_of packet == 0xB8
 abbrev pub code_answer : List ℕ → ℕ → Outcome
 code_answer bytes loose = record {
   status = Done;
-  numbers = whole_packets bytes ∷ length (a53 (packets_of bytes)) ∷ loose ∷ 0 ∷ 0 ∷ 0 ∷ [];
+  numbers = whole_packets bytes ∷ length (a53 (packets_of bytes)) ∷ loose ∷ 0 ∷ 0 ∷ 0 ∷ 0 ∷ [];
   shown = 3;
 }
 

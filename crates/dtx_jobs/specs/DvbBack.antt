@@ -7,15 +7,16 @@ use Rattle.dtx_dvb.specs.Stream.{dvb}
 use Rattle.dtx_engine.specs.Made.{only, outputs_of}
 use Rattle.dtx_meaning.specs.Meaning.{Meaning}
 use Rattle.dtx_meaning.specs.Status.{ended}
-use Rattle.dtx_meaning.specs.declared.status.Status.TheVariants.{Done, Packet}
+use Rattle.dtx_meaning.specs.declared.status.Status.{Status}
+use Rattle.dtx_meaning.specs.declared.status.Status.TheVariants.{Done}
 use Rattle.dtx_packets.specs.Packets.{packet_at, packets_of, whole_packets}
 use Rattle.dtx_jobs.specs.DvbCode.{dvb_code_answer}
 use Rattle.dtx_jobs.specs.DvbRead.{bytes_of_reads, dvb_read_answer}
-use Rattle.dtx_jobs.specs.Place.{begins}
+use Rattle.dtx_jobs.specs.Place.{has_sync}
 
 -- the first packets of the stream, so many, begin with 0x47
 abbrev pub HaveSyncs : List ℕ → ℕ → Type 0
-HaveSyncs stream count = (k : ℕ) → k < count → begins k (packet_at stream k) ≡ true
+HaveSyncs stream count = (k : ℕ) → k < count → has_sync k (packet_at stream k) ≡ true
 
 -- what `dvb code` answers and writes of all packets of a stream
 abbrev pub sent_of : List (List ℕ) → List ℕ → Meaning
@@ -24,10 +25,10 @@ sent_of names stream = record {
   outputs = outputs_of names (only (dvb (packets_of stream)));
 }
 
--- and where it refuses packet k: those before it are sent
-abbrev pub sent_until : List (List ℕ) → List ℕ → ℕ → Meaning
-sent_until names stream k = record {
-  outcome = ended (Packet k);
+-- and where it is refused behind the first k packets: those are sent
+abbrev pub sent_until : List (List ℕ) → List ℕ → ℕ → Status → Meaning
+sent_until names stream k refusal = record {
+  outcome = ended refusal;
   outputs = outputs_of names (only (dvb (take k (packets_of stream))));
 }
 
@@ -43,7 +44,7 @@ abbrev pub back_of : List (List ℕ) → List ℕ → ℕ → Meaning
 back_of names stream fixed = record {
   outcome = record {
     status = Done;
-    numbers = whole_packets stream ∷ (whole_packets stream - 11) ∷ fixed ∷ 0 ∷ 0 ∷ 0 ∷ [];
+    numbers = whole_packets stream ∷ (whole_packets stream - 11) ∷ fixed ∷ 0 ∷ 0 ∷ 0 ∷ 0 ∷ [];
     shown = 5;
   };
   outputs = outputs_of names (only (take (188 * (whole_packets stream - 11)) stream));

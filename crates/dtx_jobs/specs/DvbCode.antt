@@ -8,21 +8,21 @@ use Rattle.dtx_meaning.specs.declared.status.Outcome.{Outcome}
 use Rattle.dtx_meaning.specs.declared.status.Status.TheVariants.{Done, Usage}
 use Rattle.dtx_outside.specs.Shelf.{Files}
 use Rattle.dtx_packets.specs.Packets.{packets_of, whole_packets}
-use Rattle.dtx_jobs.specs.Place.{begins}
-use Rattle.dtx_jobs.specs.Shapes.{single_packets}
+use Rattle.dtx_jobs.specs.Place.{has_sync}
+use Rattle.dtx_jobs.specs.Shapes.{dvb_packets}
 
 -- how it ends: the packets, and the loose bytes
 abbrev pub dvb_code_answer : List ℕ → ℕ → Outcome
 dvb_code_answer bytes loose = record {
   status = Done;
-  numbers = whole_packets bytes ∷ loose ∷ 0 ∷ 0 ∷ 0 ∷ 0 ∷ [];
+  numbers = whole_packets bytes ∷ loose ∷ 0 ∷ 0 ∷ 0 ∷ 0 ∷ 0 ∷ [];
   shown = 2;
 }
 
 -- what is made of packets: they are sent as a stream of which each packet begins with 0x47
 abbrev pub dvb_coding : Recipe
 dvb_coding = record {
-  allows = begins;
+  allows = has_sync;
   made = λ bytes. only (dvb (packets_of bytes));
   rest = λ _. only [];
   answer = dvb_code_answer;
@@ -30,5 +30,5 @@ dvb_coding = record {
 
 -- what `dvb code IN OUT` means
 abbrev pub dvb_code_meaning : List (List ℕ) → Files → Meaning
-dvb_code_meaning (verb ∷ second ∷ input ∷ output ∷ []) held = transformed single_packets dvb_coding input output held
+dvb_code_meaning (verb ∷ second ∷ input ∷ output ∷ []) held = transformed dvb_packets dvb_coding input output held
 dvb_code_meaning words held = refused Usage

@@ -26,7 +26,7 @@ dvb_read_answer bytes loose = record {
   status = Done;
   numbers =
       whole_blocks bytes ∷ length (read_dvb bytes) ∷ fixed_in (read_dvb bytes) ∷ flagged_in (read_dvb bytes) ∷ loose
-      ∷ 0 ∷ [];
+      ∷ 0 ∷ 0 ∷ [];
   shown = 5;
 }
 

@@ -8,7 +8,7 @@ use Rattle.dtx_jobs.specs.declared.excitation.Excitation.{Excitation}
 -- these packets were given: the exciter stands for them, and the numbers are theirs
 pub record IsLife (state : Excitation) (packets : List (List ℕ)) : Type 0 where
   pub exciter : StandsFor state.address state.delay state.exciter.value packets
-  pub tally : state.tally ≡ life_tally state.address state.delay packets
+  pub tally : state.sending.tally ≡ life_tally state.address state.delay packets
 
 -- the packets of these bytes were given
 abbrev pub WasExcited : Excitation → List ℕ → Type 0

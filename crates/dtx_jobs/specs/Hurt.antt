@@ -22,7 +22,7 @@ use Rattle.dtx_jobs.specs.declared.laying.Laying.{Laying}
 abbrev pub hurt_end : List Damage → ℕ → Option ℕ → Outcome
 hurt_end damage bytes (Some entry) = ended (OutOfAir entry)
 hurt_end damage bytes None =
-    record { status = Done; numbers = bytes ∷ damaged_places damage bytes ∷ 0 ∷ 0 ∷ 0 ∷ 0 ∷ []; shown = 2 }
+    record { status = Done; numbers = bytes ∷ damaged_places damage bytes ∷ 0 ∷ 0 ∷ 0 ∷ 0 ∷ 0 ∷ []; shown = 2 }
 
 abbrev pub hurt_outcome : List Damage → ℕ → Outcome
 hurt_outcome damage bytes = hurt_end damage bytes (first_past damage bytes)

@@ -51,9 +51,9 @@ tally_with tally segments lines = record {
   mutes = tally.mutes + mutes_in lines;
 }
 
--- the numbers of a line, and then a zero
+-- the numbers of a line, and then zeros
 abbrev pub life_numbers : LifeTally → ℕ → List ℕ
-life_numbers tally loose = tally.packets ∷ tally.segments ∷ tally.presets ∷ tally.mutes ∷ loose ∷ 0 ∷ []
+life_numbers tally loose = tally.packets ∷ tally.segments ∷ tally.presets ∷ tally.mutes ∷ loose ∷ 0 ∷ 0 ∷ []
 
 -- so many segments can be counted besides, and one of each other
 pub record HasRoom (tally : LifeTally) (given : ℕ) : Type 0 where

@@ -10,7 +10,7 @@ use Rattle.dtx_words.specs.Number.{number_in}
 -- the packets 0 to `count - 1` of a seed, in a file of that name
 abbrev pub made_file : ℕ → ℕ → List ℕ → Meaning
 made_file seed count output = record {
-  outcome = record { status = Done; numbers = count ∷ 0 ∷ 0 ∷ 0 ∷ 0 ∷ 0 ∷ []; shown = 1 };
+  outcome = record { status = Done; numbers = count ∷ 0 ∷ 0 ∷ 0 ∷ 0 ∷ 0 ∷ 0 ∷ []; shown = 1 };
   outputs = (output, made_stream seed count) ∷ [];
 }
 

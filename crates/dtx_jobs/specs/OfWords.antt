@@ -7,7 +7,7 @@ use Rattle.dtx_meaning.specs.declared.status.Status.{Status}
 use Rattle.dtx_meaning.specs.declared.status.Status.TheVariants.{Usage}
 use Rattle.dtx_packets.specs.Packets.{most_packets}
 use Rattle.dtx_words.specs.Names.{repeated}
-use Rattle.dtx_words.specs.Number.{number_in}
+use Rattle.dtx_words.specs.Number.{number_in, number_within}
 
 -- ---- whether two of the names are equal, where the words fit
 
@@ -16,10 +16,10 @@ abbrev pub two_same : List (List ℕ) → Option Bool
 two_same (verb ∷ input ∷ output ∷ []) = Some (bytes_eq input output)
 two_same words = None
 
--- of `.. .. IN OUT`, whose command has two words
-abbrev pub two_behind_same : List (List ℕ) → Option Bool
-two_behind_same (verb ∷ second ∷ input ∷ output ∷ []) = Some (bytes_eq input output)
-two_behind_same words = None
+-- of `dvb .. IN OUT`
+abbrev pub dvb_same : List (List ℕ) → Option Bool
+dvb_same (verb ∷ second ∷ input ∷ output ∷ []) = Some (bytes_eq input output)
+dvb_same words = None
 
 -- of `.. A B OUT`
 abbrev pub three_same : List (List ℕ) → Option Bool
@@ -31,6 +31,16 @@ abbrev pub numbers_same : Option ℕ → Option ℕ → Bool → Option Bool
 numbers_same None second same = None
 numbers_same (Some first) None same = None
 numbers_same (Some first) (Some second) same = Some same
+
+-- where one is
+abbrev pub number_same : Option ℕ → Bool → Option Bool
+number_same None same = None
+number_same (Some number) same = Some same
+
+-- of `acquire SCALE IN OUT`
+abbrev pub acquire_same : List (List ℕ) → Option Bool
+acquire_same (verb ∷ scale ∷ input ∷ output ∷ []) = number_same (number_within 1 18 scale) (bytes_eq input output)
+acquire_same words = None
 
 -- of `excite FEED ADDRESS DELAY OUT LOG`
 abbrev pub excite_same : List (List ℕ) → Option Bool

@@ -1,5 +1,5 @@
 -- Laws of answers that the words alone tell.
-use Rattle.std.specs.Prelude.{◌≡◌, ◌<◌, ℕ, false, refl}
+use Rattle.std.specs.Prelude.{ℕ, false, refl}
 use Rattle.dtx_meaning.specs.Status.{IsOfInput, IsOfInputs, of_write}
 use Rattle.dtx_meaning.specs.declared.status.Status.{Status}
 use Rattle.dtx_meaning.specs.declared.status.Status.TheVariants.{Done, Usage, Same, Absent, Plan, Packet, TooLong}

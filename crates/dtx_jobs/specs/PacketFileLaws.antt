@@ -12,7 +12,7 @@ use Rattle.dtx_jobs.specs.Feed.{bytes_of_packets}
 abbrev pub IsLong : List ℕ → Type 0
 IsLong packet = length packet ≡ 188
 
-length-bytes_of_packets : (packets : List (List ℕ)) → All IsLong packets
+pub length-bytes_of_packets : (packets : List (List ℕ)) → All IsLong packets
     → length (bytes_of_packets packets) ≡ 188 * length packets
 length-bytes_of_packets [] long = omega arith
 length-bytes_of_packets (p ∷ ps) long =

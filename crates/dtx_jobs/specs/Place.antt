@@ -68,15 +68,15 @@ bare_fields packets =
 abbrev pub place_answer : List (List ℕ) → ℕ → Outcome
 place_answer packets loose = record {
   status = Done;
-  numbers = length packets ∷ placed_count packets ∷ bare_fields (placed packets) ∷ loose ∷ 0 ∷ 0 ∷ [];
+  numbers = length packets ∷ placed_count packets ∷ bare_fields (placed packets) ∷ loose ∷ 0 ∷ 0 ∷ 0 ∷ [];
   shown = 4;
 }
 
 -- ---- the meaning
 
 -- a packet begins with 0x47 (ISO/IEC 13818-1, 2.4.3.2)
-abbrev pub begins : ℕ → List ℕ → Bool
-begins k packet = sync_of packet == 0x47
+abbrev pub has_sync : ℕ → List ℕ → Bool
+has_sync k packet = sync_of packet == 0x47
 
 -- what becomes of a packet, before which these bytes stand
 abbrev pub placed_behind : List ℕ → List ℕ → List ℕ
@@ -86,7 +86,7 @@ abbrev pub placing_answer : List ℕ → ℕ → Outcome
 placing_answer given loose = place_answer (packets_of given) loose
 
 abbrev pub placing : Recipe
-placing = each_making single_packets begins placed_behind placing_answer
+placing = each_making single_packets has_sync placed_behind placing_answer
 
 -- with these words
 abbrev pub place_meaning : List (List ℕ) → Files → Meaning

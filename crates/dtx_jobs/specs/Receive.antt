@@ -1,56 +1,31 @@
 -- What `receive` makes of a symbol file (ATSC A/53 Part 2, the way back).
-use Rattle.std.specs.Prelude.{◌≡◌, ℕ, ℤ, ◌==◌, true, false, if◌then◌else◌, Some, List, [], ◌∷◌, length, drop}
+use Rattle.std.specs.Prelude.{◌≡◌, ℕ, ℤ, false, Some, List, [], ◌∷◌}
 use Rattle.std.specs.FinMap.{get}
-use Rattle.std.specs.List.{flat_map}
 use Rattle.std.specs.Str.{bytes_eq}
-use Rattle.dtx_engine.specs.Made.{only}
 use Rattle.dtx_engine.specs.Recipe.{Recipe, transformed}
 use Rattle.dtx_meaning.specs.Meaning.{Meaning, refused}
-use Rattle.dtx_meaning.specs.Status.{ended}
 use Rattle.dtx_meaning.specs.declared.status.Outcome.{Outcome}
-use Rattle.dtx_meaning.specs.declared.status.Status.TheVariants.{Done, NoSync, Usage}
+use Rattle.dtx_meaning.specs.declared.status.Status.TheVariants.{Usage}
 use Rattle.dtx_outside.specs.Shelf.{Files}
 use Rattle.dtx_receiver.specs.Packets.{all_packets, packets_so_far, received}
-use Rattle.dtx_receiver.specs.Runs.{runs}
-use Rattle.dtx_receiver.specs.declared.batch.Received.{Received}
+use Rattle.dtx_jobs.specs.Giving.{Giving, all_bytes, answer_of, receiving_by}
 use Rattle.dtx_jobs.specs.Shapes.{segments}
-use Rattle.dtx_jobs.specs.SymbolFile.{file_segments}
-use Rattle.dtx_jobs.specs.Tally.{numbers_in, tally_of}
 
--- the bytes of packets, one behind the other
-abbrev pub bytes_of : List Received → List ℕ
-bytes_of packets = flat_map (λ p. p.packet.0) packets
+-- what is given where each word is corrected
+abbrev pub with_corrections : Giving
+with_corrections = record { so_far = packets_so_far; all = all_packets; packets = received }
 
 -- the packets of a symbol file, one behind the other
 abbrev pub received_bytes : List ℕ → List ℕ
-received_bytes file = flat_map (λ p. p) (received (file_segments file))
+received_bytes file = all_bytes with_corrections file
 
--- those that are given while its segments come
-abbrev pub given_bytes : List ℕ → List ℕ
-given_bytes file = bytes_of (packets_so_far (file_segments file))
-
--- and those that its end brings
-abbrev pub last_bytes : List ℕ → List ℕ
-last_bytes file = drop (length (given_bytes file)) (received_bytes file)
-
--- the numbers of segments, behind which so many bytes are loose
-abbrev pub received_numbers : List (List ℤ) → ℕ → List ℕ
-received_numbers list loose = numbers_in (tally_of list (all_packets list)) loose
-
--- how it ends: where no segment looks like a field sync there is no run
+-- how it ends
 abbrev pub receive_answer : List (List ℤ) → ℕ → Outcome
-receive_answer list loose =
-    if length (runs list) == 0 then ended NoSync
-    else record { status = Done; numbers = received_numbers list loose; shown = 6 }
+receive_answer list loose = answer_of with_corrections list loose
 
 -- what is made of symbols
 abbrev pub receiving : Recipe
-receiving = record {
-  allows = λ _ _. true;
-  made = λ bytes. only (given_bytes bytes);
-  rest = λ bytes. only (last_bytes bytes);
-  answer = λ bytes loose. receive_answer (file_segments bytes) loose;
-}
+receiving = receiving_by with_corrections
 
 -- what `receive IN OUT` means
 abbrev pub receive_meaning : List (List ℕ) → Files → Meaning

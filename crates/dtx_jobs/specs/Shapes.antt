@@ -9,6 +9,10 @@ packets = record { unit = 188; units = 348; group = 4; limit = 624000000 }
 abbrev pub single_packets : Shape
 single_packets = record { unit = 188; units = 348; group = 1; limit = 624000000 }
 
+-- packets of 188 bytes for the outer coding of EN 300 429, each for itself
+abbrev pub dvb_packets : Shape
+dvb_packets = record { unit = 188; units = 696; group = 1; limit = 624000000 }
+
 -- blocks of 204 bytes of the outer coding of EN 300 429
 abbrev pub blocks : Shape
 blocks = record { unit = 204; units = 348; group = 1; limit = 624000000 }

@@ -61,15 +61,15 @@ count_from count segments i (Some (suc place)) = 0
 unfoldable pub counted : (List (List ℤ) → ℕ) → List (List ℤ) → ℕ → ℕ
 counted count segments n = sum (map (λ i. count_from count segments i (place_at segments i)) (range_with_len 0 n))
 
--- 1 where there are some
-abbrev pub is_some : List (List ℤ) → ℕ
-is_some groups = min 1 (length groups)
+-- 1 where there is a whole group, and else 0
+abbrev pub has_group : List (List ℤ) → ℕ
+has_group groups = min 1 (length groups)
 
 -- the segments, the fields with a whole group, what all least paths cost, the bytes behind the last whole segment
 abbrev pub soft_numbers : List (List ℤ) → ℕ → List ℕ
 soft_numbers segments loose =
-    length segments ∷ counted is_some segments (length segments) ∷ counted (softened_cost 1) segments (length segments)
-    ∷ loose ∷ 0 ∷ 0 ∷ []
+    length segments ∷ counted has_group segments (length segments)
+    ∷ counted (softened_cost 1) segments (length segments) ∷ loose ∷ 0 ∷ 0 ∷ 0 ∷ []
 
 -- ---- piece by piece
 

@@ -12,9 +12,9 @@ use Rattle.std.proofs.Math.Seq.{get_or-append_seam}
 use Rattle.dtx_frame.specs.Detection.{looks_like}
 use Rattle.dtx_lists.proofs.Range.{map-range_same, range_with_len-parts}
 use Rattle.dtx_lists.proofs.RangeMoved.{map-range_moved}
-use Rattle.dtx_soft.specs.Coders.{costs, symbols_of}
-use Rattle.dtx_soft.specs.Paths.{distance}
-use Rattle.dtx_soft.specs.Softened.{softened, softened_cost, softened_segment}
+use Rattle.dtx_soft.specs.Coders.{coder_symbols}
+use Rattle.dtx_soft.specs.Paths.{cost, distance}
+use Rattle.dtx_soft.specs.Softened.{least_cost, softened, softened_cost, softened_segment}
 use Rattle.dtx_jobs.specs.Soft.{count_from, counted, flushed, groups_in, in_groups, next_place, pending, place_at}
 use Rattle.dtx_jobs.specs.Soft.{settled, soft_at, soft_from, soft_rest, soft_so_far, soft_symbols}
 use Rattle.dtx_jobs.specs.SoftPlacesLaws.{IsFollowed, before_push, at_push, follows, place_copied, place_on}
@@ -383,5 +383,5 @@ within s p e = (follows_at s (Some p) e).within
 
 -- no segments cost nothing
 pub no_cost : softened_cost 1 [] ≡ 0
-unfolding softened_cost softened costs symbols_of distance
+unfolding softened_cost least_cost cost coder_symbols distance
 no_cost = refl

@@ -5,7 +5,7 @@ use Rattle.dtx_soft.specs.CostLaws.{AreSigned}
 use Rattle.dtx_soft.specs.Softened.{softened_cost}
 use Rattle.dtx_jobs.specs.declared.softening.Softening.{Softening}
 use Rattle.dtx_jobs.specs.declared.softening.TheConstants.{MOST_COST}
-use Rattle.dtx_jobs.specs.Soft.{counted, is_some, next_place, pending, settled}
+use Rattle.dtx_jobs.specs.Soft.{counted, has_group, next_place, pending, settled}
 use Rattle.dtx_jobs.specs.SymbolFile.{file_segments}
 
 -- each symbol of a segment is a signed byte
@@ -22,7 +22,7 @@ pub record IsSoftening (kept : Softening) (segments : List (List ℤ)) : Type 0 
   pub place : kept.place ≡ next_place segments
   pub field : take (pending segments) kept.field.items ≡ drop (settled segments) segments
   pub count : kept.segments ≡ length segments
-  pub fields : kept.fields ≡ counted is_some segments (settled segments)
+  pub fields : kept.fields ≡ counted has_group segments (settled segments)
   pub cost : kept.cost ≡ counted (softened_cost 1) segments (settled segments)
 
 -- there is room for a field, the symbols that are kept are signed bytes, the decoder has the standard's levels, and the

@@ -14,7 +14,7 @@ use Rattle.dtx_frame.specs.Detection.{looks_like}
 use Rattle.dtx_soft.specs.CostLaws.{AreSigned}
 use Rattle.dtx_soft.specs.Softened.{softened_cost}
 use Rattle.dtx_jobs.specs.declared.softening.Softening.{Softening}
-use Rattle.dtx_jobs.specs.Soft.{counted, flushed, groups_in, is_some, next_place, settled, soft_rest}
+use Rattle.dtx_jobs.specs.Soft.{counted, flushed, groups_in, has_group, next_place, settled, soft_rest}
 use Rattle.dtx_jobs.specs.Soft.{soft_so_far, softening}
 use Rattle.dtx_jobs.specs.SymbolFile.{file_segments}
 use Rattle.dtx_jobs.specs.SymbolFileLaws.{file_segments-append}
@@ -40,7 +40,7 @@ stands_copied old new s x h e place count fields cost =
       field = ap (λ n. take n new.field.items) none ∙ sym (ap (λ n. drop n (s ++ x ∷ [])) all
           ∙ drop_all (length (s ++ x ∷ [])) (s ++ x ∷ []) (omega arith));
       count = count ∙ ap (λ n. n + 1) h.count ∙ sym (length_push s x);
-      fields = fields ∙ h.fields ∙ sym (count_copied is_some s x here);
+      fields = fields ∙ h.fields ∙ sym (count_copied has_group s x here);
       cost = cost ∙ h.cost ∙ sym (count_copied (softened_cost 1) s x here);
     }
 
@@ -79,7 +79,7 @@ stands_kept old new s x p h e l m place field count fields cost =
       field = ap₂ take held field ∙ rows_more old s x p h here m
           ∙ sym (ap (λ n. drop n (s ++ x ∷ [])) front ∙ drop-append-le (length s - p) s (x ∷ []) (omega arith));
       count = count ∙ ap (λ n. n + 1) h.count ∙ sym (length_push s x);
-      fields = fields ∙ h.fields ∙ sym (count_kept is_some s x p here l);
+      fields = fields ∙ h.fields ∙ sym (count_kept has_group s x p here l);
       cost = cost ∙ h.cost ∙ sym (count_kept (softened_cost 1) s x p here l);
     }
 
@@ -99,7 +99,7 @@ rows_all old s x h e l =
 
 pub stands_full : (old new : Softening) (s : List (List ℤ)) (x : List ℤ) → IsSoftening old s
     → old.place ≡ Some 311 → 311 < length old.field.items → new.place ≡ None → new.segments ≡ old.segments + 1
-    → new.fields ≡ old.fields + is_some (groups_in (take 312 (slice_set old.field.items 311 x)))
+    → new.fields ≡ old.fields + has_group (groups_in (take 312 (slice_set old.field.items 311 x)))
     → new.cost ≡ old.cost + softened_cost 1 (groups_in (take 312 (slice_set old.field.items 311 x)))
     → IsSoftening new (s ++ x ∷ [])
 stands_full old new s x h e m place count fields cost =
@@ -113,7 +113,8 @@ stands_full old new s x h e m place count fields cost =
       field = ap (λ n. take n new.field.items) none ∙ sym (ap (λ n. drop n (s ++ x ∷ [])) all
           ∙ drop_all (length (s ++ x ∷ [])) (s ++ x ∷ []) (omega arith));
       count = count ∙ ap (λ n. n + 1) h.count ∙ sym (length_push s x);
-      fields = fields ∙ ap₂ (λ a b. a + is_some (groups_in b)) h.fields rows ∙ sym (count_full is_some s x here refl);
+      fields = fields ∙ ap₂ (λ a b. a + has_group (groups_in b)) h.fields rows
+          ∙ sym (count_full has_group s x here refl);
       cost = cost ∙ ap₂ (λ a b. a + softened_cost 1 (groups_in b)) h.cost rows
           ∙ sym (count_full (softened_cost 1) s x here no_cost);
     }
@@ -213,6 +214,6 @@ softening_none new place count fields cost =
       field = ap (λ n. take n new.field.items) (pending_is [] None place_first)
           ∙ sym (drop_all (settled []) [] (omega arith));
       count = count;
-      fields = fields ∙ sym (none_counted is_some);
+      fields = fields ∙ sym (none_counted has_group);
       cost = cost ∙ sym (none_counted (softened_cost 1));
     }

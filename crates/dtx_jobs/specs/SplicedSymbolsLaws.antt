@@ -1,6 +1,6 @@
 -- What `receive` writes of the first bytes of a symbol file, and of two files one behind the other.
 use Rattle.std.proofs.Common.{◌≡◌, ℕ, ◌+◌, ◌*◌, ◌%◌, ◌<◌, ◌≤◌, All, List, [], ◌∷◌, ◌++◌, length, take, drop}
-use Rattle.std.proofs.Common.{refl, sym, ap, ◌∙◌, subst, append_assoc, arith}
+use Rattle.std.proofs.Common.{sym, ap, ◌∙◌, subst, append_assoc, arith}
 use Rattle.std.specs.Prelude.{ℤ, Option}
 use Rattle.std.specs.List.{flat_map}
 use Rattle.std.proofs.lemmas.Bool.{cond-false}
@@ -29,7 +29,7 @@ bytes-append : (a b : List (List ℕ)) → flat_map (λ (p : List ℕ). p) (a ++
 bytes-append a b = flat_map-append (λ (p : List ℕ). p) a b
 
 -- the segments of a file's first bytes are the file's first segments
-segments_cut : (file : List ℕ) (n : ℕ)
+pub segments_cut : (file : List ℕ) (n : ℕ)
     → (rest : List (List ℤ)) × (file_segments file ≡ file_segments (take n file) ++ rest)
 segments_cut file n =
     let front : List ℕ = take n file in

@@ -31,10 +31,10 @@ tally_with tally packets = record tally {
   flagged = tally.flagged + flagged_in packets;
 }
 
--- the numbers of a line
+-- the numbers of a line, and then a zero
 abbrev pub numbers_in : Tally → ℕ → List ℕ
 numbers_in tally loose =
-    tally.segments ∷ tally.runs ∷ tally.packets ∷ tally.fixed ∷ tally.flagged ∷ loose ∷ []
+    tally.segments ∷ tally.runs ∷ tally.packets ∷ tally.fixed ∷ tally.flagged ∷ loose ∷ 0 ∷ []
 
 -- the numbers are those that so many segments give at most
 pub record IsBounded (tally : Tally) (segments : ℕ) : Type 0 where

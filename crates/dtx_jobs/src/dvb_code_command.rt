@@ -8,7 +8,7 @@ ghost use Rattle.dtx_outside.specs.Counts.{HasGone};
 ghost use Rattle.dtx_words.specs.declared.rows.Command.TheVariants as command;
 ghost use Rattle.dtx_jobs.specs.Answers.{Knows};
 ghost use Rattle.dtx_jobs.specs.DvbCode.{dvb_code_meaning, dvb_coding};
-ghost use Rattle.dtx_jobs.specs.OfWords.{IsOfWords, two_behind_same};
+ghost use Rattle.dtx_jobs.specs.OfWords.{IsOfWords, dvb_same};
 ghost use Rattle.dtx_jobs.specs.Shapes as shapes;
 
 use crate::dvb_coding::DvbCoding;
@@ -23,7 +23,7 @@ use std::alloc::Global;
 pub fn dvb_code<S: Shelf>(alloc: Global, words: &[Word], shelf: &mut S) -> Outcome
     ensures carried { IfSome (S.files shelf.old) (λ held.
         IsCarriedOut (dvb_code_meaning words.now held) (Some held) result (S.files shelf.new)) }
-    ensures words { IsOfWords (two_behind_same words.now) 1 result.status }
+    ensures words { IsOfWords (dvb_same words.now) 1 result.status }
     ensures answers { Knows command.DvbCode result.status }
     ensures gone { HasGone (S.counts shelf.old) (S.counts shelf.new) (blame_of result.status) }
 {
@@ -37,7 +37,7 @@ pub fn dvb_code<S: Shelf>(alloc: Global, words: &[Word], shelf: &mut S) -> Outco
 #[inline(never)]
 fn dvb_code_files<S: Shelf>(alloc: Global, input: &str, output: &str, shelf: &mut S) -> Outcome
     ensures carried { IfSome (S.files shelf.old) (λ held. IsCarriedOut
-        (transformed shapes.single_packets dvb_coding input.now output.now held)
+        (transformed shapes.dvb_packets dvb_coding input.now output.now held)
         (Some held) result (S.files shelf.new)) }
     ensures words { IsOfInputs (bytes_eq input.now output.now) 1 result.status }
     ensures answers { Knows command.DvbCode result.status }

@@ -4,16 +4,16 @@ ghost use Rattle.std.specs.List.{flat_map};
 ghost use Rattle.dtx_packets.specs.Packets.{packets_of};
 ghost use Rattle.dtx_jobs.specs.DvbCoding.{IsSending, WasSent};
 
-use crate::shapes::single_packets;
+use crate::shapes::{DVB_PIECE_PACKETS, dvb_packets};
 use dtx_dvb::{BLOCK, DvbOut, FOUR, FOUR_BLOCKS, PERIOD_PACKETS};
 use dtx_engine::{Buffer, Engine, Shape};
 use dtx_meaning::{Outcome, Status};
-use dtx_packets::{PIECE_PACKETS, Packet};
+use dtx_packets::Packet;
 use dtx_sizes::{MOST_PACKETS, PACKET, SYNC};
 use std::alloc::{AllocError, Global};
 
 /// How many bytes are sent of a piece at most.
-const SENT_BYTES: usize = BLOCK * PIECE_PACKETS;
+const SENT_BYTES: usize = BLOCK * DVB_PIECE_PACKETS;
 
 /// Sends a stream, four packets at once where they stand in one group of eight.
 #[derive(Drop)]
@@ -116,7 +116,7 @@ impl Engine for DvbCoding {
     ghost use Rattle.dtx_jobs.specs.DvbCoding.{WasSent};
     ghost use Rattle.dtx_jobs.specs.Shapes as shapes;
 
-    ghost shape = { shapes.single_packets };
+    ghost shape = { shapes.dvb_packets };
 
     ghost recipe = { λ _. dvb_coding };
 
@@ -125,7 +125,7 @@ impl Engine for DvbCoding {
     ghost gives = { λ s _. only s.sent };
 
     fn sizes(&self) -> Shape {
-        single_packets()
+        dvb_packets()
     }
 
     fn allows(&self, _index: u64, unit: &[u8]) -> bool {
@@ -142,7 +142,7 @@ impl Engine for DvbCoding {
         self.sent.clear();
         Outcome {
             status: Status::Done,
-            numbers: [self.packets, loose as u64, 0, 0, 0, 0],
+            numbers: [self.packets, loose as u64, 0, 0, 0, 0, 0],
             shown: 2,
         }
     }

@@ -8,7 +8,7 @@ ghost use Rattle.dtx_outside.specs.Counts.{HasGone};
 ghost use Rattle.dtx_words.specs.declared.rows.Command.TheVariants as command;
 ghost use Rattle.dtx_jobs.specs.Answers.{Knows};
 ghost use Rattle.dtx_jobs.specs.DvbRead.{dvb_read_meaning, dvb_reading};
-ghost use Rattle.dtx_jobs.specs.OfWords.{IsOfWords, two_behind_same};
+ghost use Rattle.dtx_jobs.specs.OfWords.{IsOfWords, dvb_same};
 ghost use Rattle.dtx_jobs.specs.Shapes as shapes;
 
 use crate::dvb_reading::DvbReading;
@@ -25,7 +25,7 @@ use std::alloc::Global;
 pub fn dvb_read<S: Shelf>(alloc: Global, words: &[Word], shelf: &mut S) -> Outcome
     ensures carried { IfSome (S.files shelf.old) (λ held.
         IsCarriedOut (dvb_read_meaning words.now held) (Some held) result (S.files shelf.new)) }
-    ensures words { IsOfWords (two_behind_same words.now) 1 result.status }
+    ensures words { IsOfWords (dvb_same words.now) 1 result.status }
     ensures answers { Knows command.DvbRead result.status }
     ensures gone { HasGone (S.counts shelf.old) (S.counts shelf.new) (blame_of result.status) }
 {

@@ -207,6 +207,7 @@ impl Engine for DvbReading {
                 self.flagged,
                 loose as u64,
                 0,
+                0,
             ],
             shown: 5,
         }

@@ -5,18 +5,16 @@ ghost use Rattle.dtx_packets.specs.Packets.{packets_of};
 ghost use Rattle.dtx_jobs.specs.Excitation.{IsLife, WasExcited};
 ghost use Rattle.dtx_jobs.specs.Life.{sent_bytes, logged_bytes};
 
-use crate::life_tally::LifeTally;
+use crate::sending::Sending;
 use crate::shapes::single_packets;
-use crate::symbol_buffer::SymbolBuffer;
-use arrayvec::ArrayString;
-use dtx_coder::{AIR_SYMBOLS, Air};
-use dtx_engine::{Buffer, Engine, Shape};
+use dtx_coder::AIR_SYMBOLS;
+use dtx_engine::{Engine, Shape};
 use dtx_exciter::Exciter;
 use dtx_exciter::laws::groups_are_spaced;
-use dtx_files::{LOG_LINE, write_line};
+use dtx_files::LOG_LINE;
 use dtx_meaning::{Outcome, Status};
 use dtx_packets::{PIECE_PACKETS, Packet};
-use dtx_sizes::{GROUP_PACKETS, MOST_PACKETS, PACKET, SEGMENT};
+use dtx_sizes::{GROUP_PACKETS, MOST_PACKETS, PACKET};
 use std::alloc::{AllocError, Global};
 
 /// How many symbols an exciter sends for the packets of a piece at most: those of its whole groups, and of one that
@@ -32,14 +30,7 @@ pub(crate) struct Excitation {
     address: u16,
     delay: u32,
     exciter: Box<Exciter>,
-    air: Air,
-    /// The line of the log that the last packet brought, or nothing.
-    line: ArrayString<LOG_LINE>,
-    tally: LifeTally,
-    /// The symbols that the last piece brought.
-    symbols: SymbolBuffer<SENT_BYTES>,
-    /// The lines of the log that it brought.
-    lines: Buffer<LOGGED_BYTES>,
+    sending: Sending<SENT_BYTES, LOGGED_BYTES>,
 }
 
 impl Excitation {
@@ -53,31 +44,27 @@ impl Excitation {
             address,
             delay,
             exciter: Box::new(alloc, Exciter::new(alloc, address, delay)?)?,
-            air: Air::new(),
-            line: ArrayString::new(),
-            tally: LifeTally::new(),
-            symbols: SymbolBuffer::new(alloc)?,
-            lines: Buffer::new(alloc)?,
+            sending: Sending::new(alloc)?,
         })
     }
 
     /// Takes packets, as the bytes of a file, and gathers what they bring.
     fn take_all(&mut self, bytes: &[u8])
         requires some { (before : List (List ℕ)) × IsLife self.old before }
-        requires most { self.old.tally.packets + length bytes.now / PACKET ≤ MOST_PACKETS }
+        requires most { self.old.sending.tally.packets + length bytes.now / PACKET ≤ MOST_PACKETS }
         requires room { length bytes.now ≤ PACKET * PIECE_PACKETS }
-        requires no_symbols { self.old.symbols ≡ [] }
-        requires no_lines { self.old.lines ≡ [] }
+        requires no_symbols { self.old.sending.symbols ≡ [] }
+        requires no_lines { self.old.sending.lines ≡ [] }
         ensures address { self.new.address ≡ self.old.address }
         ensures delay { self.new.delay ≡ self.old.delay }
         ensures life { (before : List (List ℕ)) → IsLife self.old before
             → IsLife self.new (before ++ packets_of bytes.now) }
         ensures sent { (before : List (List ℕ)) → IsLife self.old before
             → sent_bytes self.old.address self.old.delay (before ++ packets_of bytes.now)
-            ≡ sent_bytes self.old.address self.old.delay before ++ self.new.symbols }
+            ≡ sent_bytes self.old.address self.old.delay before ++ self.new.sending.symbols }
         ensures logged { (before : List (List ℕ)) → IsLife self.old before
             → logged_bytes self.old.address self.old.delay (before ++ packets_of bytes.now)
-            ≡ logged_bytes self.old.address self.old.delay before ++ self.new.lines }
+            ≡ logged_bytes self.old.address self.old.delay before ++ self.new.sending.lines }
     {
         groups_are_spaced();
         let (packets, _) = bytes.as_chunks::<PACKET>();
@@ -89,33 +76,30 @@ impl Excitation {
     /// Takes the next packet of the feed, of any bytes, and gathers what it brings.
     fn take(&mut self, packet: &Packet)
         requires some { (before : List (List ℕ)) × IsLife self.old before }
-        requires most { self.old.tally.packets < MOST_PACKETS }
-        requires symbols { length self.old.symbols + AIR_SYMBOLS ≤ SENT_BYTES }
-        requires lines { length self.old.lines + LOG_LINE ≤ LOGGED_BYTES }
+        requires most { self.old.sending.tally.packets < MOST_PACKETS }
+        requires symbols { length self.old.sending.symbols + AIR_SYMBOLS ≤ SENT_BYTES }
+        requires lines { length self.old.sending.lines + LOG_LINE ≤ LOGGED_BYTES }
         ensures address { self.new.address ≡ self.old.address }
         ensures delay { self.new.delay ≡ self.old.delay }
         ensures life { (before : List (List ℕ)) → IsLife self.old before
             → IsLife self.new (before ++ packet.now.0 ∷ []) }
         ensures sent { (before : List (List ℕ)) (bytes : List ℕ) → IsLife self.old before
-            → sent_bytes self.old.address self.old.delay before ≡ bytes ++ self.old.symbols
-            → sent_bytes self.old.address self.old.delay (before ++ packet.now.0 ∷ []) ≡ bytes ++ self.new.symbols }
+            → sent_bytes self.old.address self.old.delay before ≡ bytes ++ self.old.sending.symbols
+            → sent_bytes self.old.address self.old.delay (before ++ packet.now.0 ∷ [])
+            ≡ bytes ++ self.new.sending.symbols }
         ensures logged { (before : List (List ℕ)) (bytes : List ℕ) → IsLife self.old before
-            → logged_bytes self.old.address self.old.delay before ≡ bytes ++ self.old.lines
-            → logged_bytes self.old.address self.old.delay (before ++ packet.now.0 ∷ []) ≡ bytes ++ self.new.lines }
+            → logged_bytes self.old.address self.old.delay before ≡ bytes ++ self.old.sending.lines
+            → logged_bytes self.old.address self.old.delay (before ++ packet.now.0 ∷ [])
+            ≡ bytes ++ self.new.sending.lines }
         ensures spaced { (before : List (List ℕ)) → IsLife self.old before
-            → 4 * length self.new.symbols + AIR_SYMBOLS * group_part (before ++ packet.now.0 ∷ [])
-            ≤ 4 * length self.old.symbols + AIR_SYMBOLS * (group_part before + 1) }
-        ensures more_lines { length self.new.lines ≤ length self.old.lines + LOG_LINE }
-        ensures packets { self.new.tally.packets ≡ self.old.tally.packets + 1 }
+            → 4 * length self.new.sending.symbols + AIR_SYMBOLS * group_part (before ++ packet.now.0 ∷ [])
+            ≤ 4 * length self.old.sending.symbols + AIR_SYMBOLS * (group_part before + 1) }
+        ensures more_lines { length self.new.sending.lines ≤ length self.old.sending.lines + LOG_LINE }
+        ensures packets { self.new.sending.tally.packets ≡ self.old.sending.tally.packets + 1 }
     {
         groups_are_spaced();
-        let told = self.exciter.take(packet, &mut self.air);
-        let segments = self.air.segments;
-        write_line(told, self.tally.segments, segments, &mut self.line);
-        self.tally.add(told, segments);
-        let count = SEGMENT * segments as usize;
-        self.symbols.push(&self.air.symbols[..count]);
-        self.lines.push(self.line.as_str().as_bytes());
+        let told = self.exciter.take(packet, &mut self.sending.air);
+        self.sending.add(told);
     }
 }
 
@@ -132,7 +116,7 @@ impl Engine for Excitation {
 
     ghost stands = { WasExcited };
 
-    ghost gives = { λ s _. record { first = s.symbols; second = s.lines } };
+    ghost gives = { λ s _. record { first = s.sending.symbols; second = s.sending.lines } };
 
     fn sizes(&self) -> Shape {
         single_packets()
@@ -143,27 +127,25 @@ impl Engine for Excitation {
     }
 
     fn feed(&mut self, _first: u64, bytes: &mut [u8]) {
-        self.symbols.clear();
-        self.lines.clear();
+        self.sending.clear();
         self.take_all(bytes);
     }
 
     fn finish(&mut self, loose: usize) -> Outcome {
-        self.symbols.clear();
-        self.lines.clear();
+        self.sending.clear();
         Outcome {
             status: Status::Done,
-            numbers: self.tally.numbers(loose),
+            numbers: self.sending.tally.numbers(loose),
             shown: 5,
         }
     }
 
     fn made<'a>(&'a self, _bytes: &'a [u8]) -> &'a [u8] {
-        self.symbols.bytes()
+        self.sending.symbols.bytes()
     }
 
     fn log(&self) -> &[u8] {
-        self.lines.bytes()
+        self.sending.lines.bytes()
     }
 
     ghost starts = { λ s. excites_none s.address s.delay };

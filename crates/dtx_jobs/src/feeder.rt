@@ -129,7 +129,7 @@ impl Engine for Feeder<'_> {
     fn finish(&mut self, loose: usize) -> Outcome {
         Outcome {
             status: Status::Done,
-            numbers: [self.count, self.filled, loose as u64, 0, 0, 0],
+            numbers: [self.count, self.filled, loose as u64, 0, 0, 0, 0],
             shown: 3,
         }
     }

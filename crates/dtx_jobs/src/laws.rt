@@ -2,6 +2,7 @@
 //! read back, a feed too, and the packets of a file have 188 bytes.
 
 pub mod dvb_streams;
+pub mod mending;
 pub mod placing;
 
 ghost use Rattle.std.specs.Prelude.{◌≡◌, ℕ, List, All, length};

@@ -73,7 +73,7 @@ impl Engine for Laying<'_> {
             Some(entry) => ended(Status::OutOfAir(entry)),
             None => Outcome {
                 status: Status::Done,
-                numbers: [self.count, self.damaged, 0, 0, 0, 0],
+                numbers: [self.count, self.damaged, 0, 0, 0, 0, 0],
                 shown: 2,
             },
         }

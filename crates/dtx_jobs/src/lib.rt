@@ -1,6 +1,8 @@
 //! The commands of one stream or file: each a meaning, an engine that makes it, and one call.
 #![tactic(auto)]
 
+mod acquire_command;
+mod acquisition;
 mod adapt_command;
 mod code_command;
 mod damaged;
@@ -16,6 +18,7 @@ pub mod laws;
 mod laying;
 mod life_tally;
 mod make_command;
+mod mend_command;
 mod packet_bytes;
 mod past_end;
 mod place_command;
@@ -23,6 +26,10 @@ mod placing;
 mod plan_file;
 mod receive_command;
 mod reception;
+mod repeat_command;
+mod repetition;
+mod segment_receiver;
+mod sending;
 mod shapes;
 mod soft_command;
 pub mod soft_laws;
@@ -31,7 +38,11 @@ mod stream_coder;
 mod symbol_buffer;
 pub mod symbol_laws;
 mod tally;
+mod watch_command;
+mod watch_tally;
+mod watching;
 
+pub use acquire_command::acquire;
 pub use adapt_command::adapt;
 pub use code_command::code;
 pub use damaged::Damaged;
@@ -41,10 +52,14 @@ pub use excite_command::excite;
 pub use feeder::Feeder;
 pub use hurt_command::hurt;
 pub use make_command::{make, make_stream};
+pub use mend_command::mend;
 pub use past_end::first_past;
 pub use place_command::place;
 pub use plan_file::plan_in;
 pub use receive_command::receive;
 pub use reception::Reception;
+pub use repeat_command::repeat;
+pub use segment_receiver::SegmentReceiver;
 pub use shapes::{PIECE_SEGMENTS, packets, segments, single_bytes, single_packets};
 pub use soft_command::soft;
+pub use watch_command::watch;

@@ -42,7 +42,7 @@ impl LifeTally {
     }
 
     /// The numbers of the line, in their order, where so many bytes are loose.
-    pub(crate) fn numbers(&self, loose: usize) -> [u64; 6]
+    pub(crate) fn numbers(&self, loose: usize) -> [u64; 7]
         ensures { result ≡ life_numbers self.now loose }
     {
         [
@@ -51,6 +51,7 @@ impl LifeTally {
             self.presets,
             self.mutes,
             loose as u64,
+            0,
             0,
         ]
     }

@@ -115,7 +115,7 @@ fn fill_file<S: Shelf>(
     match write_made(seed, count, output, made, shelf) {
         Ok(()) => Outcome {
             status: Status::Done,
-            numbers: [count, 0, 0, 0, 0, 0],
+            numbers: [count, 0, 0, 0, 0, 0, 0],
             shown: 1,
         },
         Err(no) => ended(Status::from(no)),

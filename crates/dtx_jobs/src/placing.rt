@@ -62,12 +62,12 @@ impl Placing {
 
 impl Change for Placing {
     ghost use Rattle.dtx_packets.specs.Packets.{packets_of};
-    ghost use Rattle.dtx_jobs.specs.Place.{IsCounted, begins, placed_behind, placing_answer};
+    ghost use Rattle.dtx_jobs.specs.Place.{IsCounted, has_sync, placed_behind, placing_answer};
     ghost use Rattle.dtx_jobs.specs.Shapes as shapes;
 
     ghost shape = { shapes.single_packets };
 
-    ghost allowed = { begins };
+    ghost allowed = { has_sync };
 
     ghost changed = { placed_behind };
 
@@ -96,7 +96,7 @@ impl Change for Placing {
     fn finish(&self, units: u64, loose: usize) -> Outcome {
         Outcome {
             status: Status::Done,
-            numbers: [units, self.placed, self.bare, loose as u64, 0, 0],
+            numbers: [units, self.placed, self.bare, loose as u64, 0, 0, 0],
             shown: 4,
         }
     }

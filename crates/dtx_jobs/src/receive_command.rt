@@ -15,6 +15,7 @@ use crate::reception::Reception;
 use dtx_engine::transform;
 use dtx_meaning::{Outcome, Status, ended};
 use dtx_outside::{Shelf, Word};
+use dtx_receiver::Receiver;
 use std::alloc::Global;
 
 /// Writes the packets of the symbols IN to OUT (ATSC A/53 Part 2, the way back): those of every run of segments that
@@ -43,7 +44,7 @@ fn receive_files<S: Shelf>(alloc: Global, input: &str, output: &str, shelf: &mut
     ensures answers { Knows command.Receive result.status }
     ensures gone { HasGone (S.counts shelf.old) (S.counts shelf.new) (blame_of result.status) }
 {
-    match Reception::new(alloc) {
+    match Reception::<Receiver>::new(alloc) {
         Ok(mut reception) => transform(alloc, &mut reception, input, output, shelf),
         Err(_) => ended(Status::Memory),
     }

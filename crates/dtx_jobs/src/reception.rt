@@ -1,17 +1,17 @@
 // Receiving symbols, a piece of their file at a time.
 ghost use Rattle.std.specs.Prelude.{◌≡◌, ◌+◌, ◌*◌, ◌/◌, ◌%◌, ◌<◌, ◌≤◌, ◌++◌, ◌∷◌, [], ℤ, List, IfOk, length, map};
 ghost use Rattle.dtx_receiver.specs.Runs as runs;
-ghost use Rattle.dtx_receiver.specs.Packets.{all_packets, packets_so_far};
-ghost use Rattle.dtx_jobs.specs.Receive.{bytes_of};
+ghost use Rattle.dtx_jobs.specs.Giving.{bytes_of};
 ghost use Rattle.dtx_jobs.specs.Reception.{IsReceiving, WasGiven};
 ghost use Rattle.dtx_jobs.specs.SymbolFile.{file_segments, symbol_of_byte, symbols};
 ghost use Rattle.dtx_jobs.specs.Tally.{IsBounded, tally_of};
 
+use crate::segment_receiver::SegmentReceiver;
 use crate::shapes::{PIECE_SEGMENTS, segments};
 use crate::tally::Tally;
 use dtx_engine::{Buffer, Engine, Shape};
 use dtx_meaning::{Outcome, Status, ended};
-use dtx_receiver::{Batch, MOST_RECEIVED, Received, Receiver, Tracking};
+use dtx_receiver::{Batch, MOST_RECEIVED, Received, Tracking};
 use dtx_sizes::{MOST_SEGMENTS, PACKET, SEGMENT};
 use std::alloc::{AllocError, Global};
 
@@ -20,21 +20,21 @@ const RECEIVED_BYTES: usize = PACKET * MOST_RECEIVED * PIECE_SEGMENTS;
 
 /// A receiver with the packets that the last piece brought, and the numbers of all.
 #[derive(Drop)]
-pub struct Reception {
-    receiver: Box<Receiver>,
+pub struct Reception<R> {
+    receiver: Box<R>,
     batch: Batch,
     segment: [i8; SEGMENT],
     tally: Tally,
     packets: Buffer<RECEIVED_BYTES>,
 }
 
-impl Reception {
+impl<R: SegmentReceiver> Reception<R> {
     /// Nothing was received.
-    pub fn new(alloc: Global) -> Result<Reception, AllocError>
-        ensures { IfOk result (λ r. WasGiven r []) }
+    pub fn new(alloc: Global) -> Result<Reception<R>, AllocError>
+        ensures { IfOk result (λ r. ⟦<Reception<R> as Engine>⟧.stands r []) }
     {
         Ok(Reception {
-            receiver: Box::new(alloc, Receiver::new(alloc)?)?,
+            receiver: Box::new(alloc, R::new(alloc)?)?,
             batch: Batch::new(),
             segment: [0; SEGMENT],
             tally: Tally::new(),
@@ -48,11 +48,14 @@ impl Reception {
         requires bounded { IsBounded self.old.tally self.old.tally.segments }
         requires room { length bytes.now ≤ SEGMENT * PIECE_SEGMENTS }
         requires empty { self.old.packets ≡ [] }
-        ensures receiving { (before : List (List ℤ)) → IsReceiving self.old before
-            → IsReceiving self.new (before ++ file_segments bytes.now) }
-        ensures brought { (before : List (List ℤ)) → IsReceiving self.old before
-            → bytes_of (packets_so_far (before ++ file_segments bytes.now))
-            ≡ bytes_of (packets_so_far before) ++ self.new.packets }
+        ensures receiving { (before : List (List ℤ))
+            → IsReceiving R.giving (R.stands self.old.receiver.value) self.old.tally before
+            → IsReceiving R.giving (R.stands self.new.receiver.value) self.new.tally
+            (before ++ file_segments bytes.now) }
+        ensures brought { (before : List (List ℤ))
+            → IsReceiving R.giving (R.stands self.old.receiver.value) self.old.tally before
+            → bytes_of (R.giving.so_far (before ++ file_segments bytes.now))
+            ≡ bytes_of (R.giving.so_far before) ++ self.new.packets }
         ensures bounded { IsBounded self.new.tally self.new.tally.segments }
     {
         let (segments, _) = bytes.as_chunks::<SEGMENT>();
@@ -66,11 +69,14 @@ impl Reception {
         requires most { self.old.tally.segments < MOST_SEGMENTS }
         requires bounded { IsBounded self.old.tally self.old.tally.segments }
         requires room { length self.old.packets + PACKET * MOST_RECEIVED ≤ RECEIVED_BYTES }
-        ensures receiving { (before : List (List ℤ)) → IsReceiving self.old before
-            → IsReceiving self.new (before ++ symbols bytes.now ∷ []) }
-        ensures brought { (before : List (List ℤ)) → IsReceiving self.old before
-            → packets_so_far (before ++ symbols bytes.now ∷ [])
-            ≡ packets_so_far before ++ self.new.batch.packets.items }
+        ensures receiving { (before : List (List ℤ))
+            → IsReceiving R.giving (R.stands self.old.receiver.value) self.old.tally before
+            → IsReceiving R.giving (R.stands self.new.receiver.value) self.new.tally
+            (before ++ symbols bytes.now ∷ []) }
+        ensures brought { (before : List (List ℤ))
+            → IsReceiving R.giving (R.stands self.old.receiver.value) self.old.tally before
+            → R.giving.so_far (before ++ symbols bytes.now ∷ [])
+            ≡ R.giving.so_far before ++ self.new.batch.packets.items }
         ensures packets { self.new.packets ≡ self.old.packets ++ bytes_of self.new.batch.packets.items }
         ensures long { length self.new.packets ≤ length self.old.packets + PACKET * MOST_RECEIVED }
         ensures bounded { IsBounded self.new.tally self.new.tally.segments }
@@ -89,10 +95,12 @@ impl Reception {
         requires most { self.old.tally.segments ≤ MOST_SEGMENTS }
         requires bounded { IsBounded self.old.tally self.old.tally.segments }
         requires empty { self.old.packets ≡ [] }
-        ensures brought { (before : List (List ℤ)) → IsReceiving self.old before
-            → bytes_of (all_packets before) ≡ bytes_of (packets_so_far before) ++ self.new.packets }
-        ensures tally { (before : List (List ℤ)) → IsReceiving self.old before
-            → self.new.tally ≡ tally_of before (all_packets before) }
+        ensures brought { (before : List (List ℤ))
+            → IsReceiving R.giving (R.stands self.old.receiver.value) self.old.tally before
+            → bytes_of (R.giving.all before) ≡ bytes_of (R.giving.so_far before) ++ self.new.packets }
+        ensures tally { (before : List (List ℤ))
+            → IsReceiving R.giving (R.stands self.old.receiver.value) self.old.tally before
+            → self.new.tally ≡ tally_of before (R.giving.all before) }
     {
         self.receiver.finish(&mut self.batch);
         self.tally.add(self.batch.packets.as_slice());
@@ -100,18 +108,18 @@ impl Reception {
     }
 }
 
-impl Engine for Reception {
+impl<R: SegmentReceiver> Engine for Reception<R> {
     ghost use Rattle.dtx_engine.specs.Made.{only};
-    ghost use Rattle.dtx_jobs.specs.Receive.{receiving};
-    ghost use Rattle.dtx_jobs.specs.ReceiveLaws.{receives_none, receives_more};
+    ghost use Rattle.dtx_jobs.specs.Giving.{receiving_by};
+    ghost use Rattle.dtx_jobs.specs.GivingLaws.{receives_none, receives_more};
     ghost use Rattle.dtx_jobs.specs.Reception.{WasGiven};
     ghost use Rattle.dtx_jobs.specs.Shapes as shapes;
 
     ghost shape = { shapes.segments };
 
-    ghost recipe = { λ _. receiving };
+    ghost recipe = { λ _. receiving_by R.giving };
 
-    ghost stands = { WasGiven };
+    ghost stands = { λ s. WasGiven R.giving (R.stands s.receiver.value) s.tally };
 
     ghost gives = { λ s _. only s.packets };
 
@@ -150,9 +158,9 @@ impl Engine for Reception {
         &[]
     }
 
-    ghost starts = { λ _. receives_none };
+    ghost starts = { λ _. receives_none R.giving R.gives };
 
-    ghost grows = { λ _ a b whole. receives_more a b whole };
+    ghost grows = { λ _ a b whole. receives_more R.giving R.gives a b whole };
 }
 
 /// How many runs begin with a segment that is told to be this.

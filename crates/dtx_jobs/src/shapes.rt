@@ -39,6 +39,23 @@ pub fn single_packets() -> Shape
     }
 }
 
+/// How many packets are read at once where they are sent as blocks of 204 bytes: these fill more than a piece of the
+/// output, so that they go to its file without being gathered.
+pub const DVB_PIECE_PACKETS: usize = 696;
+
+/// Packets of 188 bytes that are sent as blocks of 204 (EN 300 429), each for itself.
+pub fn dvb_packets() -> Shape
+    ensures same { result ≡ shapes.dvb_packets }
+    ensures sound { IsSound result }
+{
+    Shape {
+        unit: PACKET,
+        units: DVB_PIECE_PACKETS,
+        group: 1,
+        limit: MOST_PACKETS,
+    }
+}
+
 /// Blocks of 204 bytes (EN 300 429, 7.2), as many as there may be packets.
 pub fn blocks() -> Shape
     ensures same { result ≡ shapes.blocks }

@@ -7,7 +7,7 @@ ghost use Rattle.dtx_files.specs.Symbols.{segment_bytes};
 ghost use Rattle.dtx_frame.specs.Detection.{looks_like};
 ghost use Rattle.dtx_soft.specs.CostLaws.{AreSigned};
 ghost use Rattle.dtx_soft.specs.Softened.{softened, softened_cost};
-ghost use Rattle.dtx_jobs.specs.Soft.{flushed, groups_in, is_some, soft_rest, soft_so_far};
+ghost use Rattle.dtx_jobs.specs.Soft.{flushed, groups_in, has_group, soft_rest, soft_so_far};
 ghost use Rattle.dtx_jobs.specs.Softening.{IsKept, IsSigned, IsSoftening, WasSoftened, kept_rows};
 ghost use Rattle.dtx_jobs.specs.SymbolFile.{file_segments, symbols};
 
@@ -163,7 +163,7 @@ impl Softening {
         ensures symbols { self.new.symbols
             ≡ self.old.symbols ++ segment_bytes (flushed (take count self.old.field.items)) }
         ensures long { length self.new.symbols ≡ length self.old.symbols + SEGMENT * count }
-        ensures fields { self.new.fields ≡ self.old.fields + is_some (groups_in (take count self.old.field.items)) }
+        ensures fields { self.new.fields ≡ self.old.fields + has_group (groups_in (take count self.old.field.items)) }
         ensures cost { self.new.cost ≡ self.old.cost + softened_cost 1 (groups_in (take count self.old.field.items)) }
         ensures most { self.new.cost ≤ self.old.cost + MOST_COST }
         ensures scale { self.new.soft.scale ≡ 1 }
@@ -209,7 +209,7 @@ impl Engine for Softening {
         self.flush(rows);
         Outcome {
             status: Status::Done,
-            numbers: [self.segments, self.fields, self.cost, loose as u64, 0, 0],
+            numbers: [self.segments, self.fields, self.cost, loose as u64, 0, 0, 0],
             shown: 4,
         }
     }

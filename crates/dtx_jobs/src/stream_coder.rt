@@ -137,6 +137,7 @@ impl Engine for StreamCoder {
                 0,
                 0,
                 0,
+                0,
             ],
             shown: 3,
         }

@@ -54,7 +54,7 @@ impl Tally {
     }
 
     /// The numbers of the line, in their order, where so many bytes are loose.
-    pub(crate) fn numbers(&self, loose: usize) -> [u64; 6]
+    pub(crate) fn numbers(&self, loose: usize) -> [u64; 7]
         ensures { result ≡ numbers_in self.now loose }
     {
         [
@@ -64,6 +64,7 @@ impl Tally {
             self.fixed,
             self.flagged,
             loose as u64,
+            0,
         ]
     }
 }

@@ -1,8 +1,8 @@
 -- The laws of de-interleaving.
-use Rattle.std.proofs.Common.{◌≡◌, ℕ, ◌+◌, ◌-◌, ◌*◌, ◌/◌, ◌%◌, ◌<◌, ◌≤◌, ◌⊎◌, nat_le, cond, inl, inr, List, [], ◌++◌}
-use Rattle.std.proofs.Common.{length, get_or, take, refl, sym, ap, ap₂, subst, ◌∙◌, arith, add-mul, mul-add}
+use Rattle.std.proofs.Common.{◌≡◌, ℕ, ◌+◌, ◌-◌, ◌*◌, ◌/◌, ◌%◌, ◌<◌, ◌≤◌, ◌⊎◌, nat_le, cond, inl, inr, List, ◌++◌}
+use Rattle.std.proofs.Common.{length, get_or, take, refl, sym, ap, subst, ◌∙◌, arith, add-mul, mul-add}
 use Rattle.std.specs.List.{concat}
-use Rattle.std.proofs.Common.{mul-le-mul, div-add-mod'}
+use Rattle.std.proofs.Common.{div-add-mod'}
 use Rattle.std.proofs.lemmas.Bool.{cases_lt, cond-true, cond-false, le-leb, lt-leb}
 use Rattle.std.proofs.lemmas.Nat.{mod-mul-add, mod_below}
 use Rattle.std.proofs.lemmas.List.{length-append, get_or_append_left, ext_get_or, length-take-le, get_or-take}

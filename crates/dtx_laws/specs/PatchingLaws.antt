@@ -61,6 +61,22 @@ error_is n p m mark word code s l a lw lc bw bc h few f =
     (xor_lt 8 (get_or word p 0) (get_or code p 0) (byte_at word p bw) (byte_at code p bc))
     (weight_small (pow 2 (n - 1 - p)) (others n mark p n)) (weight_not_zero n mark p n l a (omega arith))
 
+-- where two words differ at marked places alone, what is patched there is the other word
+pub patched_other : (n m : ℕ) (mark : ℕ → Bool) (word code new : List ℕ) (s : ℕ → ℕ) → n ≤ 255 → length word ≡ n
+    → length code ≡ n → AreBytes word → AreBytes code
+    → ((j : ℕ) → j < m → s j ≡ bit_xor (value word (pow 2 j)) (value code (pow 2 j)))
+    → ((q : ℕ) → q < n → mark q ≡ false → get_or word q 0 ≡ get_or code q 0)
+    → ((p : ℕ) → p < n → mark p ≡ true → length (others n mark p n) < m)
+    → ((p : ℕ) → p < n → get_or new p 0 ≡ patched_at n mark s word p)
+    → length new ≡ n → new ≡ code
+patched_other n m mark word code new s l lw lc bw bc h f few hn ln =
+    ext_get_or 0 new code (ln ∙ sym lc)
+    (λ p q.
+    let lp : p < n = omega (arith, ln) in
+    hn p lp
+    ∙ by_mark (mark p) (get_or word p 0) (error_at n mark s p) (get_or code p 0)
+    (λ t. error_is n p m mark word code s l lp lw lc bw bc h (few p lp t) f) (f p lp))
+
 -- where the word has a correction, what is patched at a place is the correction's byte
 patched_is : (n k t p : ℕ) (word code locator : List ℕ) (s : ℕ → ℕ) → n ≤ 255 → n - k ≡ 2 * t → 0 < t → AreBytes word
     → length word ≡ n → IsCorrection n k word code
@@ -86,7 +102,7 @@ patched_is n k t p word code locator s l e pos b long c loc h lp =
 
 -- ---- the whole word
 
-others_same : (n : ℕ) (a b : ℕ → Bool) (p c : ℕ) → ((q : ℕ) → q < c → a q ≡ b q) → others n a p c ≡ others n b p c
+pub others_same : (n : ℕ) (a b : ℕ → Bool) (p c : ℕ) → ((q : ℕ) → q < c → a q ≡ b q) → others n a p c ≡ others n b p c
 unfolding others
 others_same n a b p zero h = refl
 others_same n a b p (suc c) h =

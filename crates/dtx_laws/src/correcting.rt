@@ -6,10 +6,10 @@ mod places;
 mod syndromes;
 mod values;
 
-pub use outcome::{accept, accept_codeword, encoded_again, encoded_again_four};
+pub use outcome::{accept, accept_codeword, distance, encoded_again, encoded_again_four};
 pub use places::{low_value, marks_of, power_at};
 pub use syndromes::syndromes_of;
-pub use values::patch;
+pub use values::{cancel, patch};
 
 /// How many entries a list of places or of syndromes has room for: more than a word has bytes.
 pub const ROOM: usize = 256;

@@ -7,6 +7,7 @@ mod corrector;
 mod encoder;
 mod gather;
 pub mod laws;
+mod shared;
 mod spread;
 mod whitener;
 

@@ -7,3 +7,5 @@ pub mod Find
 pub mod FirstOf
 pub mod RangeFilter
 pub mod RangeMoved
+pub mod Enumerated
+pub mod Written

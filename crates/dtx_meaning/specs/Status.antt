@@ -102,7 +102,7 @@ IsOfInputs same inputs _ = same ≡ false
 
 -- an end without numbers
 abbrev pub ended : Status → Outcome
-ended status = record { status = status; numbers = 0 ∷ 0 ∷ 0 ∷ 0 ∷ 0 ∷ 0 ∷ []; shown = 0 }
+ended status = record { status = status; numbers = 0 ∷ 0 ∷ 0 ∷ 0 ∷ 0 ∷ 0 ∷ 0 ∷ []; shown = 0 }
 
 -- the outcome of what answers one, or a status
 abbrev pub outcome_of : Result Outcome Status → Outcome

@@ -66,7 +66,7 @@ pub struct Outcome {
     /// How it ended.
     pub status: Status,
     /// Where it is done the numbers of its line in their order, and then zeros.
-    pub numbers: [u64; 6],
+    pub numbers: [u64; 7],
     /// How many of the numbers its line shows.
     pub shown: usize,
 }
@@ -77,7 +77,7 @@ pub fn ended(status: Status) -> Outcome
 {
     Outcome {
         status,
-        numbers: [0; 6],
+        numbers: [0; 7],
         shown: 0,
     }
 }

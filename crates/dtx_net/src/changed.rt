@@ -55,6 +55,3 @@ impl LieWriter {
         changed
     }
 }
-
-#[cfg(test)]
-mod tests;

@@ -2,8 +2,6 @@
 ghost use Rattle.std.specs.Prelude.{◌≡◌, length, vec_len};
 
 mod steps;
-#[cfg(test)]
-mod tests;
 
 use dtx_exciter::Exciter;
 use dtx_plan::Transmitters;

@@ -132,7 +132,7 @@ all_given_back feed k end got packets inside = λ begins alone.
       sync_within k (last_packet end) begins.inside,
     ) in
     record {
-      run = one_run_left feed (segment_place k) (stretch_of feed k end) got r l alone.slight
+      run = one_run_left feed (segment_place k) (stretch_of feed k end) got r l alone.slight.found
           ∙ ap (λ (n : ℕ). drop n got ∷ []) (same_sync k);
       packets = all_back feed (segment_place k) (stretch_of feed k end) got r l alone.slight packets
           ∙ ap₂ (λ (f n : ℕ). map (λ j. as_received (get_or feed (f + j) [])) (numbers_in (drop n got))) (same_packet k)

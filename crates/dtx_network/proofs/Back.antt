@@ -1,50 +1,20 @@
 -- What is given back of the segments that hold a stretch of a feed.
-use Rattle.std.proofs.Common.{◌≡◌, ◌⊎◌, inl, inr, ℕ, ℤ, suc, ◌+◌, ◌*◌, ◌/◌, ◌%◌, ◌<◌, ◌≤◌, Some, List, [], ◌∷◌, ◌++◌}
-use Rattle.std.proofs.Common.{length, map, get_or, refl, sym, ap, ◌∙◌, arith}
+use Rattle.std.proofs.Common.{◌≡◌, ℕ, ℤ, ◌+◌, ◌*◌, ◌/◌, ◌%◌, ◌<◌, ◌≤◌, Some, List, ◌∷◌, ◌++◌, length}
+use Rattle.std.proofs.Common.{ap, ◌∙◌, arith}
 use Rattle.std.specs.Prelude.{option_map, slice_get}
-use Rattle.std.specs.List.{flat_map}
-use Rattle.std.proofs.lemmas.Bool.{cases_lt}
-use Rattle.std.proofs.lemmas.Grind.{flat_map-append}
-use Rattle.std.proofs.lemmas.List.{length-append, get_or_past, get_or_append_left, get_or-append-add}
-use Rattle.std.proofs.lemmas.List.Folds.{flat_map-map}
-use Rattle.std.proofs.lemmas.Option.{slice_get-get_or, slice_get-map}
+use Rattle.std.proofs.lemmas.Option.{slice_get-map}
 use Rattle.dtx_receiver.specs.Bytes.{bytes_in}
 use Rattle.dtx_receiver.specs.Intervals.{AreRuns, segments_in}
 use Rattle.dtx_receiver.specs.Packets.{received_at, run_packets, all_packets, received}
 use Rattle.dtx_receiver.specs.declared.batch.Received.{Received}
-use Rattle.dtx_receiver.specs.IntervalsLaws.{are_runs, only_runs}
-use Rattle.dtx_chain.specs.Undamaged.{ArePackets, as_received}
+use Rattle.dtx_chain.specs.Undamaged.{ArePackets}
 use Rattle.dtx_chain.specs.Damage.{as_corrected}
 use Rattle.dtx_chain.specs.NumbersLaws.{number_at}
-use Rattle.dtx_chain.specs.WordsLaws.{corrected_back}
+use Rattle.dtx_chain.specs.RunsLaws.{by_run, middle_at}
+use Rattle.dtx_chain.specs.WordsLaws.{corrected_back, corrected_packet}
 use Rattle.dtx_network.specs.Headline.{last_packet}
 use Rattle.dtx_network.specs.GivesBack.{BeginsField, to_field, word_of, CanBeGivenBack, packets_of_runs, IsBack}
 use Rattle.dtx_network.specs.GivesBack.{GivesBack}
-
--- ---- lists
-
--- what doesn't depend on the value behind the list's end stands in the list
-within_if_read : (rs : List Received) (j : ℕ) (r : Received) → ((other : Received) → get_or rs j other ≡ r)
-    → j < length rs
-within_if_read rs j r h = by_place (cases_lt j (length rs))
-  where
-    other : Received
-    other = record { packet = r.packet; fixed = suc r.fixed; good = r.good }
-
-    by_place : (j < length rs) ⊎ (length rs ≤ j) → j < length rs
-    by_place (inl l) = l
-    by_place (inr l) =
-        let e : suc r.fixed ≡ r.fixed = ap (λ (x : Received). x.fixed) (sym (get_or_past rs j other l) ∙ h other) in
-        absurd (omega (arith, e))
-
--- an element of the middle one of three lists
-middle_at : (before rs after : List Received) (j : ℕ) (r : Received) → ((other : Received) → get_or rs j other ≡ r)
-    → slice_get (before ++ (rs ++ after)) (length before + j) ≡ Some r
-middle_at before rs after j r h =
-    let l : j < length rs = within_if_read rs j r h in
-    slice_get-get_or (before ++ (rs ++ after)) (length before + j) r
-    (omega (arith, l, length-append before (rs ++ after), length-append rs after))
-    ∙ ap Some (get_or-append-add before (rs ++ after) j r ∙ get_or_append_left rs after r j l ∙ h r)
 
 -- ---- runs
 
@@ -53,12 +23,7 @@ packets_by_run : (got : List (List ℤ)) (earlier later : List (ℕ × ℕ)) (p 
     → all_packets got ≡ packets_of_runs got earlier
     ++ (run_packets (bytes_in (segments_in got p)) ++ packets_of_runs got later)
 unfolding all_packets packets_of_runs
-packets_by_run got earlier later p are =
-    let f : List (List ℤ) → List Received = λ run. run_packets (bytes_in run) in
-    ap (flat_map f) ((are_runs got).2
-    ∙ ap (map (segments_in got)) (only_runs got 0 (are_runs got).0 (earlier ++ p ∷ later) (are_runs got).1 are))
-    ∙ flat_map-map f (segments_in got) (earlier ++ p ∷ later)
-    ∙ flat_map-append (λ q. f (segments_in got q)) earlier (p ∷ later)
+packets_by_run got earlier later p are = by_run (λ run. run_packets (bytes_in run)) got earlier later p are
 
 -- ---- packets
 
@@ -66,11 +31,6 @@ packets_by_run got earlier later p are =
 packet_inside : (end f j : ℕ) → f + 4 * ((207 * j + 0 + 52 * 4 * ((207 * j + 0) % 52)) / 828) + 3 ≤ last_packet end
     → f + j < end
 packet_inside end f j l = omega (arith, l)
-
-corrected_packet : (feed : List (List ℕ)) (n : ℕ) (word : List ℕ)
-    → (as_corrected feed n word).packet.0 ≡ as_received (get_or feed n [])
-unfolding as_corrected
-corrected_packet feed n word = refl
 
 bytes_at : (got : List (List ℤ)) (place : ℕ) (r : Received) → slice_get (all_packets got) place ≡ Some r
     → slice_get (received got) place ≡ Some r.packet.0

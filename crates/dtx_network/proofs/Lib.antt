@@ -7,6 +7,7 @@ pub mod Stretches
 pub mod Segs
 pub mod Emitting
 pub mod Waiting
+pub mod FromMark
 pub mod FromStart
 pub mod FeedPackets
 pub mod Back
@@ -18,3 +19,4 @@ pub mod TooFew
 pub mod OutOfStep
 pub mod OtherMarks
 pub mod Readable
+pub mod Sound

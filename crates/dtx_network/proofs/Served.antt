@@ -54,21 +54,22 @@ own_offset plan stream t who g ops e p listed o h =
     sym (ap (λ (x : Entry). x.offset) (some_picked (is_listed (paging_at plan stream (g / 4)) who) (entry_of t) e
     (sym (entry_is plan stream t who g ops p listed o) ∙ h)))
 
-serves_it : (plan : Plan) (stream : List (List ℕ)) (t : Transmitter) (g : ℕ) (ops : Ops) → IsInTime plan t
-    → IsOrder plan stream g ops → pos t.delay ≤ℤ (pos ops.max_delay +ℤ t.offset)
-serves_it plan stream t g ops time o =
-    subst (λ (most : ℕ). pos t.delay ≤ℤ (pos most +ℤ t.offset)) (sym o.max_delay) time
+serves_it : (plan : Plan) (stream : List (List ℕ)) (t : Transmitter) (delay g : ℕ) (ops : Ops)
+    → pos delay ≤ℤ (pos plan.max_delay +ℤ t.offset) → IsOrder plan stream g ops
+    → pos delay ≤ℤ (pos ops.max_delay +ℤ t.offset)
+serves_it plan stream t delay g ops time o =
+    subst (λ (most : ℕ). pos delay ≤ℤ (pos most +ℤ t.offset)) (sym o.max_delay) time
 
 -- ---- the feed
 
-mark_told : (b : Bool) → (cond b 0xB8 0x47 == 0xB8) ≡ b
+pub mark_told : (b : Bool) → (cond b 0xB8 0x47 == 0xB8) ≡ b
 mark_told true = refl
 mark_told false = refl
 
-locks_at : (plan : Plan) (stream : List (List ℕ)) (t : Transmitter) (who : ℕ) → IsPlan plan → IsStream stream
-    → slice_get plan.transmitters who ≡ Some t → IsInTime plan t
-    → IsFeed t.address t.delay t.offset (feed plan stream)
-locks_at plan stream t who p s listed time = record {
+locks_at : (plan : Plan) (stream : List (List ℕ)) (t : Transmitter) (delay who : ℕ) → IsPlan plan → IsStream stream
+    → slice_get plan.transmitters who ≡ Some t → pos delay ≤ℤ (pos plan.max_delay +ℤ t.offset)
+    → IsFeed t.address delay t.offset (feed plan stream)
+locks_at plan stream t delay who p s listed time = record {
   marks = λ k l. let within : k < length stream = omega (arith, l, length-feed plan stream) in
       ap (λ (b : ℕ). b == 0xB8) (sync_fed plan stream k within (s.long k [] within)) ∙ mark_told (k % 624 == 0);
   states = λ g ops h. (order_says plan stream g ops p s h).states;
@@ -77,7 +78,7 @@ locks_at plan stream t who p s listed time = record {
   same = λ g h ops other e f. same_lists plan stream t who g h ops other p listed (order_says plan stream g ops p s e)
       (order_says plan stream h other p s f);
   entry = λ g ops e h. own_offset plan stream t who g ops e p listed (order_says plan stream g ops p s h);
-  serves = λ g ops h. serves_it plan stream t g ops time (order_says plan stream g ops p s h);
+  serves = λ g ops h. serves_it plan stream t delay g ops time (order_says plan stream g ops p s h);
 }
 
 -- the place of a listed transmitter
@@ -86,7 +87,13 @@ pub place_of : (plan : Plan) (t : Transmitter) → IsListed plan t
 place_of plan t listed =
     (listed.0, slice_get-get_or plan.transmitters listed.0 t listed.1 ∙ ap Some listed.2)
 
+-- whatever delay it has that is in time
+pub locks_with : (plan : Plan) (stream : List (List ℕ)) (t : Transmitter) (delay : ℕ) → IsPlan plan → IsStream stream
+    → IsListed plan t → pos delay ≤ℤ (pos plan.max_delay +ℤ t.offset)
+    → IsFeed t.address delay t.offset (feed plan stream)
+locks_with plan stream t delay p s listed time =
+    let place = place_of plan t listed in locks_at plan stream t delay place.0 p s place.1 time
+
 pub feed_locks : (plan : Plan) (stream : List (List ℕ)) (t : Transmitter) → IsPlan plan → IsStream stream
     → IsListed plan t → IsInTime plan t → IsFeed t.address t.delay t.offset (feed plan stream)
-feed_locks plan stream t p s listed time =
-    let place = place_of plan t listed in locks_at plan stream t place.0 p s place.1 time
+feed_locks plan stream t p s listed time = locks_with plan stream t t.delay p s listed time

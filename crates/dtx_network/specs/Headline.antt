@@ -2,15 +2,19 @@
 -- it was given before decides. From its first listing on that begins 52 or more packets behind that, it emits exactly
 -- the feed's own symbols (ATSC A/53 Part 2), at moments of the plan: what these words mean.
 use Rattle.std.specs.Prelude.{ℕ, ℤ, ◌≡◌, ◌+◌, ◌-◌, ◌*◌, ◌/◌, ◌%◌, ◌<◌, ◌≤◌, true, false, List, ◌++◌, All, length}
-use Rattle.std.specs.Prelude.{slice_range}
+use Rattle.std.specs.Prelude.{slice_range, pos, ◌+ℤ◌, ◌≤ℤ◌}
+use Rattle.dtx_cadence.specs.Anchor.{has_mark}
 use Rattle.dtx_coder.specs.Stream.{a53}
 use Rattle.dtx_plan.specs.declared.plan.Plan.{Plan}
 use Rattle.dtx_plan.specs.declared.transmitter.Transmitter.{Transmitter}
+use Rattle.dtx_adapter.specs.Feed.{feed}
 use Rattle.dtx_exciter.specs.Lockstep.{segment_place}
+use Rattle.dtx_exciter.specs.Packets.{syncs}
 use Rattle.dtx_exciter.specs.Emission.{emission}
 use Rattle.dtx_exciter.specs.Log.{Line, preset, mute, restart, life_lines, restarted_lines, restarting_lines}
 use Rattle.dtx_exciter.specs.Log.{emission_over}
 use Rattle.dtx_exciter.specs.Stretch.{emission_behind, lines_behind, before_stretch}
+use Rattle.dtx_network.specs.Plans.{IsPlan, IsStream, IsListed}
 use Rattle.dtx_network.specs.Orders.{has_listing}
 use Rattle.dtx_network.specs.Presets.{presets}
 
@@ -32,6 +36,28 @@ pub record IsFirstListing (address : ℕ) (feed : List (List ℕ)) (z end k : �
   pub whole : k + 4 ≤ end
   pub listing : has_listing address feed k ≡ true
   pub least : (i : ℕ) → i % 4 ≡ 0 → z + 52 ≤ i → i < k → has_listing address feed i ≡ false
+
+-- No group that begins 52 or more packets behind packet z and ends at packet `end` or earlier lists the address.
+abbrev pub HasNoListing : ℕ → List (List ℕ) → ℕ → ℕ → Type 0
+HasNoListing address feed z end =
+    (g : ℕ) → g % 4 ≡ 0 → z + 52 ≤ g → g + 4 ≤ end → has_listing address feed g ≡ false
+
+-- None of these packets is a mark, as with those of a feed between two of its marks.
+abbrev pub HaveNoMark : List (List ℕ) → Type 0
+HaveNoMark packets = (i : ℕ) → i < length packets → has_mark (syncs packets) i ≡ false
+
+-- An exciter is fed anew: it is given packets without a mark, or none, and then the n packets of a plan's feed from
+-- packet mark on. It is that of a transmitter of the plan, and its delay, which may be another one than the plan's, is
+-- in time.
+pub record IsFedAnew (plan : Plan) (stream : List (List ℕ)) (t : Transmitter) (delay : ℕ) (earlier : List (List ℕ))
+    (mark n : ℕ) : Type 0 where
+  pub is_plan : IsPlan plan
+  pub is_stream : IsStream stream
+  pub listed : IsListed plan t
+  pub in_time : pos delay ≤ℤ (pos plan.max_delay +ℤ t.offset)
+  pub unmarked : HaveNoMark earlier
+  pub at_mark : mark % 624 ≡ 0
+  pub inside : mark + n ≤ length (feed plan stream)
 
 -- the last packet of the last whole group of a feed that ends at or before packet end
 abbrev pub last_packet : ℕ → ℕ

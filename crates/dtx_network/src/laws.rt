@@ -21,6 +21,7 @@ ghost use Rattle.dtx_exciter.specs.SentAlike.{bodies, AreSentAlike};
 ghost use Rattle.dtx_exciter.specs.Emission.{emission, last_segments};
 ghost use Rattle.dtx_exciter.specs.Log.{Line, preset, life_lines, log, emission_over};
 ghost use Rattle.dtx_exciter.specs.Stretch.{stretch_lines, IsApart};
+ghost use Rattle.dtx_watch.specs.Sound.{IsSoundFeed, IsCalmAt};
 ghost use Rattle.dtx_network.specs.Plans.{IsPlan, IsStream, IsListed, IsInTime};
 ghost use Rattle.dtx_network.specs.Orders.{has_order, has_listing, pages_in, order_of, IsOrder};
 ghost use Rattle.dtx_network.specs.Presets.{orders, moment_at, preset_at, presets};
@@ -41,7 +42,7 @@ ghost use Rattle.dtx_network.specs.Network.{AreOfOthers, Joined, Headline, steps
 ghost use Rattle.dtx_net.specs.Sent.{sent_segments};
 ghost use Rattle.dtx_net.specs.Lives.{last_life};
 ghost use Rattle.dtx_network.specs.Headline.{IsFed, IsFirstListing, stretch_of, last_packet, segment_of, line_end};
-ghost use Rattle.dtx_network.specs.Headline.{Around, around, Emits};
+ghost use Rattle.dtx_network.specs.Headline.{HasNoListing, IsFedAnew, Around, around, Emits};
 
 use dtx_exciter::laws::sent_packets_give;
 
@@ -154,6 +155,32 @@ pub fn from_its_start()
         → n ≤ length (feed plan stream) → ((g : ℕ) → g % 4 ≡ 0 → 52 ≤ g → g + 4 ≤ n
         → has_listing t.address (feed plan stream) g ≡ false)
         → life_lines t.address t.delay 0 (take n (feed plan stream)) ≡ [] }
+{}
+
+/// An exciter that is given a feed from one of its marks on, and before that nothing or packets without any mark, sends
+/// the feed's own segments (ATSC A/53 Part 2) from its first listing on that begins 52 or more packets behind the mark,
+/// and nothing before, and its whole log is the presets of the orders from there on. While it is given no whole group
+/// that begins 52 or more packets behind the mark and lists it, it sends and logs nothing. Its delay may be another one
+/// than the plan's, as long as it is in time.
+pub fn from_a_mark()
+    ensures segments { (plan : Plan) (stream : List (List ℕ)) (t : Transmitter) (delay : ℕ) (earlier : List (List ℕ))
+        (mark n k : ℕ) → IsFedAnew plan stream t delay earlier mark n
+        → IsFirstListing t.address (feed plan stream) mark (mark + n) k
+        → emission t.address delay (earlier ++ slice_range (feed plan stream) mark (mark + n))
+        ≡ stretch_of (feed plan stream) k (mark + n) }
+    ensures lines { (plan : Plan) (stream : List (List ℕ)) (t : Transmitter) (delay : ℕ) (earlier : List (List ℕ))
+        (mark n k : ℕ) → IsFedAnew plan stream t delay earlier mark n
+        → IsFirstListing t.address (feed plan stream) mark (mark + n) k
+        → life_lines t.address delay 0 (earlier ++ slice_range (feed plan stream) mark (mark + n))
+        ≡ presets plan t.offset 0 (feed plan stream) k (mark + n) }
+    ensures no_segments { (plan : Plan) (stream : List (List ℕ)) (t : Transmitter) (delay : ℕ) (earlier : List (List ℕ))
+        (mark n : ℕ) → IsFedAnew plan stream t delay earlier mark n
+        → HasNoListing t.address (feed plan stream) mark (mark + n)
+        → emission t.address delay (earlier ++ slice_range (feed plan stream) mark (mark + n)) ≡ [] }
+    ensures no_lines { (plan : Plan) (stream : List (List ℕ)) (t : Transmitter) (delay : ℕ) (earlier : List (List ℕ))
+        (mark n : ℕ) → IsFedAnew plan stream t delay earlier mark n
+        → HasNoListing t.address (feed plan stream) mark (mark + n)
+        → life_lines t.address delay 0 (earlier ++ slice_range (feed plan stream) mark (mark + n)) ≡ [] }
 {}
 
 /// The first preset of a stretch is that of its first group, and speaks of the stretch's first segment. No line of the
@@ -348,4 +375,16 @@ pub fn stray_marks_move_nothing()
         → ((i : ℕ) → mark + i ≤ locked_from earlier mark → has_mark (syncs other) i ≡ (i % 624 == 0))
         → ((i : ℕ) → i < n → i % 624 ≡ 0 → has_mark (syncs other) i ≡ true)
         → AreSentAlike (earlier ++ slice_range feed mark (mark + n)) (earlier ++ other) }
+{}
+
+/// The feed of a plan is sound: each operations packet says its place, the states that the feed's own coders have
+/// before its group, and the stamp and the number of its frame. So, watched from its first packet or from any of its
+/// marks on, it is calm: that packet is an anchor, each operations packet stands at its place, no states slip and no
+/// stamp jumps, and nothing else is told.
+pub fn a_feed_is_sound()
+    ensures sound { (plan : Plan) (stream : List (List ℕ)) → IsPlan plan → IsStream stream
+        → IsSoundFeed plan.start plan.max_delay (feed plan stream) }
+    ensures calm { (plan : Plan) (stream : List (List ℕ)) (mark k : ℕ) → IsPlan plan → IsStream stream
+        → mark % 624 ≡ 0 → mark < length (feed plan stream) → k < length (drop mark (feed plan stream))
+        → IsCalmAt (drop mark (feed plan stream)) k }
 {}

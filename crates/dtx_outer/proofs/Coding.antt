@@ -4,12 +4,8 @@ use Rattle.std.proofs.Common.{ap₂, ◌∙◌, arith}
 use Rattle.std.specs.List.{concat, enumerate_from}
 use Rattle.std.proofs.lemmas.List.{append-nil, append_assoc, length-append, length-map, get_or-map}
 use Rattle.std.proofs.lemmas.List.FromFn.{get_or-enumerate_from, length-enumerate_from}
-use Rattle.dtx_galois.specs.Field.{AreBytes}
 use Rattle.dtx_laws.specs.Branches.{Branching, leaving_all, after_all, leaving_calls, after_calls}
-use Rattle.dtx_laws.specs.Codeword.{IsCodeword}
-use Rattle.dtx_laws.specs.Whitening.{whitened}
-use Rattle.dtx_laws.specs.ChoiceLaws.{codeword_is, codeword_length}
-use Rattle.dtx_laws.specs.WhiteningLaws.{length-whitened, bytes_whitened}
+use Rattle.dtx_outer.specs.BackLaws.{length-coded}
 use Rattle.dtx_outer.specs.Coding.{coded_as, codewords}
 
 -- ---- each packet
@@ -30,16 +26,6 @@ get_or-codewords n k white s heads i l =
     ) [] (omega (arith, l, length-enumerate_from s heads))
     ∙ ap (λ (p : ℕ × List ℕ). coded_as n k white p.0 p.1) (get_or-enumerate_from s heads i (0, []) l)
 
-pub coded_as_is : (n k : ℕ) (white : List ℕ) (p : ℕ) (head : List ℕ) → k < n → AreBytes white → length head ≡ k
-    → AreBytes head → IsCodeword n k (coded_as n k white p head)
-coded_as_is n k white p head s w l b = codeword_is n k (whitened white _ head) s (length-whitened white head _
-    ∙ l) (bytes_whitened white head _ w b)
-
-length-coded_as : (n k : ℕ) (white : List ℕ) (p : ℕ) (head : List ℕ)
-    → length (coded_as n k white p head) ≡ length head + (n - k)
-length-coded_as n k white p head = codeword_length n k (whitened white _ head)
-    ∙ ap (λ l. l + (n - k)) (length-whitened white head _)
-
 pub length-joined : (n k : ℕ) (white : List ℕ) (s : ℕ) (heads : List (List ℕ)) → k ≤ n
     → ((i : ℕ) → i < length heads → length (get_or heads i []) ≡ k)
     → length (concat (codewords n k white s heads)) ≡ n * length heads
@@ -50,7 +36,7 @@ length-joined n k white s (x ∷ xs) m h =
     let rest : length (concat (codewords n k white (s + 1) xs)) ≡ n * length xs =
     length-joined n k white (s + 1) xs m (λ i l. h (suc i) (omega arith)) in
     length-append (coded_as n k white s x) (concat (codewords n k white (s + 1) xs))
-    ∙ ap₂ ◌+◌ (length-coded_as n k white s x ∙ whole first) rest ∙ more (length xs)
+    ∙ ap₂ ◌+◌ (length-coded n k white _ x ∙ whole first) rest ∙ more (length xs)
   where
     whole : length x ≡ k → length x + (n - k) ≡ n
     whole e = omega arith

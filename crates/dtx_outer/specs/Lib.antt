@@ -2,3 +2,6 @@ pub mod Outer
 pub mod Coding
 pub mod Inner
 pub mod WordsLaws
+pub mod Made
+pub mod MadeLaws
+pub mod BackLaws

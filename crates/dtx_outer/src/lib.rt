@@ -8,3 +8,4 @@ mod whitening;
 
 pub use inner::{Inner, Taken};
 pub use outer::Outer;
+pub use whitening::whiten;

@@ -70,7 +70,7 @@ impl<F: Write + Drop> Met<F> {
 pub(crate) struct FilesMet<F> {
     alloc: Global,
     met: Vec<Met<F>>,
-    /// The place of the begun file that was looked for last: most often it is looked for again.
+    /// The place of the begun file that was looked for last: most often it is looked for again, or one beside it.
     last: usize,
 }
 
@@ -190,11 +190,15 @@ impl<F: Write + Drop> FilesMet<F> {
         self.met.get_mut(place)
     }
 
+    /// It is looked for from one before the last on, and then among all.
     fn place_begun(&self, name: &str) -> Option<usize> {
-        match self.met.get(self.last) {
-            Some(met) if met.is_begun(name) => Some(self.last),
-            _ => self.met.iter().position(|met| met.is_begun(name)),
+        let near = self.last.saturating_sub(1);
+        for place in near..self.met.len() {
+            if self.met[place].is_begun(name) {
+                return Some(place);
+            }
         }
+        self.met.iter().position(|met| met.is_begun(name))
     }
 
     fn keep_read(&mut self, name: &str, id: FileId) -> Result<(), AllocError> {

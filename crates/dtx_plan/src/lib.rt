@@ -16,8 +16,6 @@ mod refusal;
 mod root_table;
 mod rows;
 mod rule;
-#[cfg(test)]
-mod tests;
 mod transmitter;
 mod transmitter_table;
 mod transmitters;

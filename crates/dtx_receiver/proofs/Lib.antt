@@ -1,4 +1,2 @@
 pub mod Stands
 pub mod Giving
-pub mod Answered
-pub mod Steps

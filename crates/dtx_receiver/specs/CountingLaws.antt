@@ -1,6 +1,6 @@
 -- Runs and packets with one segment more, and at the end of a list.
-use Rattle.std.proofs.Common.{◌≡◌, ◌≢◌, ℕ, ℤ, ◌+◌, ◌-◌, ◌*◌, ◌/◌, ◌%◌, ◌<◌, ◌≤◌, ◌⊎◌, Bool, true, false, Option, Some}
-use Rattle.std.proofs.Common.{None, List, [], ◌∷◌, ◌++◌, length, map, take, drop, refl, sym, ap, ap₂, ◌∙◌, subst}
+use Rattle.std.proofs.Common.{◌≡◌, ◌≢◌, ℕ, ℤ, ◌+◌, ◌*◌, ◌/◌, ◌%◌, ◌<◌, ◌⊎◌, Bool, true, false, Option, Some}
+use Rattle.std.proofs.Common.{None, List, [], ◌∷◌, ◌++◌, length, map, take, drop, refl, sym, ap, ap₂, ◌∙◌}
 use Rattle.std.proofs.Common.{append_assoc, inl, inr, arith}
 use Rattle.std.specs.Prelude.{option_to_list}
 use Rattle.std.specs.List.{range_with_len}
@@ -19,8 +19,9 @@ use Rattle.dtx_receiver.specs.Bytes.{data_count, first_formers, levels_in, bytes
 use Rattle.dtx_receiver.specs.Packets.{run_packets, early_of, all_packets, packets_so_far}
 use Rattle.dtx_receiver.specs.EarlyLaws.{early_more, end_more, packets_more}
 use Rattle.dtx_receiver.specs.SegmentsLaws.{still_data, still_sync, levels_grown, first_stays, some_before}
-use Rattle.dtx_receiver.specs.FollowingLaws.{searching, began, sync_came, ended_there, data_came, given_on, given_end}
-use Rattle.dtx_receiver.specs.FollowingLaws.{given_none, given_first, all_run, all_none}
+use Rattle.dtx_receiver.specs.FollowingLaws.{searching, began, sync_came, ended_there, data_came}
+use Rattle.dtx_receiver.specs.GivenLaws.{received_given, given_on, given_end, given_none, given_first, all_run}
+use Rattle.dtx_receiver.specs.GivenLaws.{all_none}
 use Rattle.dtx_receiver.specs.IntervalsLaws.{some_segment}
 
 -- ---- how many runs
@@ -96,7 +97,7 @@ none_back s f levels l = ap (λ g. map (byte_back s f levels) (range_with_len 0 
     none n l = omega arith
 
 -- with levels more there may be bytes more
-bytes_front : (f y z : List ℕ) → (more : List ℕ) × (n : ℕ) × (length more ≡ 207 * n)
+pub bytes_front : (f y z : List ℕ) → (more : List ℕ) × (n : ℕ) × (length more ≡ 207 * n)
     × (bytes_back 0 f (y ++ z) ≡ bytes_back 0 f y ++ more)
 bytes_front f y z = (
   bytes_back (group_place 0 u) new (rest ++ z),
@@ -138,7 +139,7 @@ bytes_front f y z = (
         ∙ bytes_append 0 u f front (rest ++ z) long
         ∙ ap (λ xs. xs ++ bytes_back (group_place 0 u) new (rest ++ z)) (sym own)
 
-bytes_count : (run : List (List ℤ)) → length (bytes_in run) ≡ 207 * (4 * level_groups (levels_in run))
+pub bytes_count : (run : List (List ℤ)) → length (bytes_in run) ≡ 207 * (4 * level_groups (levels_in run))
 unfolding bytes_in
 bytes_count run = long_back 0 (first_formers run) (levels_in run)
 
@@ -191,23 +192,23 @@ given_more s x = by_run (tracked s).run refl (looks_like x) refl
   where
     by_run : (o : Option (List (List ℤ))) → (tracked s).run ≡ o → (b : Bool) → looks_like x ≡ b
         → More (packets_so_far (s ++ x ∷ [])) (packets_so_far s)
-    by_run None e false l = ([], given_none s x e (searching s x e l).0)
-    by_run None e true l = ([], given_first s x e (began s x e l).0)
+    by_run None e false l = ([], given_none received_given s x e (searching s x e l).0)
+    by_run None e true l = ([], given_first received_given s x e (began s x e l).0)
     by_run (Some run) e b l = by_due (cases_eq (length run % 313) 0) b l
       where
         by_due : (length run % 313 ≡ 0) ⊎ (length run % 313 ≢ 0) → (b : Bool) → looks_like x ≡ b
             → More (packets_so_far (s ++ x ∷ [])) (packets_so_far s)
         by_due (inr d) b l = let m = early_data run x d in
-            (m.0, given_on s x run (run ++ x ∷ []) m.0 e (data_came s x run e d).0 m.1)
+            (m.0, given_on received_given s x run (run ++ x ∷ []) m.0 e (data_came s x run e d).0 m.1)
         by_due (inl d) true l = (
           [],
-          given_on s x run (run ++ x ∷ []) [] e (sync_came s x run e d l).0
+          given_on received_given s x run (run ++ x ∷ []) [] e (sync_came s x run e d l).0
               (ap early_of (still_sync run x (some_segment s run e) d).bytes
               ∙ sym (append-nil (early_of (bytes_in run)))),
         )
         by_due (inl d) false l = (
           _,
-          given_end s x run _ e (ended_there s x run e d l).0
+          given_end received_given s x run _ e (ended_there s x run e d l).0
               (end_more (bytes_in run) (4 * level_groups (levels_in run)) (bytes_count run)),
         )
 
@@ -215,6 +216,9 @@ pub all_more : (s : List (List ℤ)) → More (all_packets s) (packets_so_far s)
 all_more s = by_run (tracked s).run refl
   where
     by_run : (o : Option (List (List ℤ))) → (tracked s).run ≡ o → More (all_packets s) (packets_so_far s)
-    by_run None e = ([], all_none s e)
-    by_run (Some run) e =
-        (_, all_run s run _ e (end_more (bytes_in run) (4 * level_groups (levels_in run)) (bytes_count run)))
+    by_run None e = ([], all_none received_given s e)
+    by_run (Some run) e = (
+      _,
+      all_run received_given s run _ e
+          (end_more (bytes_in run) (4 * level_groups (levels_in run)) (bytes_count run)),
+    )

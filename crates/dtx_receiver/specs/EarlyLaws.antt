@@ -1,16 +1,18 @@
 -- The packets of a run by how many data segments are in whole groups: those that are given while it is on, and the last
 -- one.
-use Rattle.std.proofs.Common.{◌≡◌, ◌≢◌, ℕ, zero, suc, ◌+◌, ◌-◌, ◌*◌, ◌/◌, ◌%◌, ◌<◌, ◌≤◌, ◌⊎◌, ◌==◌, Bool, true, false}
+use Rattle.std.proofs.Common.{◌≡◌, ◌≢◌, ℕ, suc, ◌+◌, ◌-◌, ◌*◌, ◌/◌, ◌%◌, ◌<◌, ◌≤◌, ◌⊎◌, Bool, true, false}
 use Rattle.std.proofs.Common.{cond, List, [], ◌∷◌, ◌++◌, map, length, take, drop}
-use Rattle.std.proofs.Common.{refl, sym, ap, ap₂, ◌∙◌, subst, inl, inr, arith}
+use Rattle.std.proofs.Common.{refl, sym, ap, ap₂, ◌∙◌, subst, inl, inr, arith, lit<}
 use Rattle.std.specs.List.{filter, range_with_len}
 use Rattle.std.proofs.lemmas.Bool.{cases_eq, cases_lt}
 use Rattle.std.proofs.lemmas.List.{length-append, append-nil, map-append, append_assoc, length-take-le}
 use Rattle.std.proofs.lemmas.List.{take-append-drop, nil_from_length}
 use Rattle.std.proofs.lemmas.List.Elements.{filter-append}
-use Rattle.dtx_lists.proofs.Range.{range_with_len-parts, map-range_same}
-use Rattle.dtx_outer.specs.Inner.{codeword_byte_place, word_at, IsComplete}
-use Rattle.dtx_outer.specs.WordsLaws.{word_stays}
+use Rattle.dtx_lists.proofs.Range.{range_with_len-parts}
+use Rattle.dtx_outer.specs.Inner.{waiting, word_at, IsComplete}
+use Rattle.dtx_outer.specs.Made.{made_in}
+use Rattle.dtx_outer.specs.MadeLaws.{next_in, made_more, made_none, made_next}
+use Rattle.dtx_outer.specs.WordsLaws.{waiting_air, word_stays}
 use Rattle.dtx_laws.specs.Words.{correction}
 use Rattle.dtx_receiver.specs.Packets.{is_complete, received_by, received_at, run_packets, early_of}
 use Rattle.dtx_receiver.specs.declared.batch.Received.{Received}
@@ -85,60 +87,51 @@ early_count bytes s e =
     ap (λ n. map (received_at bytes) (range_with_len 0 (n / 207 - 52))) e
     ∙ ap (λ n. map (received_at bytes) (range_with_len 0 (n - 52))) (numbers s)
 
+-- the packet of a word, as packet k
+abbrev pub received_word : ℕ → List ℕ → Received
+received_word k word = received_by (187 * (k % 312)) word (correction 207 187 word)
+
+pub early_made : (bytes : List ℕ) → made_in 207 52 4 received_word bytes ≡ early_of bytes
+unfolding early_of received_at
+early_made bytes = ap (λ w. map (received_at bytes) (range_with_len 0 (length bytes / 207 - w))) waiting_air
+
 -- the packets whose words are complete stay as they are, whatever bytes come
 stays : (bytes more : List ℕ) (k : ℕ) → IsComplete 207 52 4 (length bytes) k
     → received_at (bytes ++ more) k ≡ received_at bytes k
 unfolding received_at
-stays bytes more k c =
-    ap (λ word. received_by (187 * (k % 312)) word (correction 207 187 word)) (word_stays 207 52 4 bytes more k c)
+stays bytes more k c = ap (received_word k) (word_stays 207 52 4 bytes more k c)
 
 -- with n times 207 bytes more, those packets more that become early
 abbrev pub next_of : List ℕ → ℕ → ℕ → List Received
-next_of bytes s n = map (received_at bytes) (range_with_len (s - 52) (s + n - 52 - (s - 52)))
+next_of bytes s n = next_in 207 52 4 received_word bytes s n
 
 pub early_more : (bytes more : List ℕ) (s n : ℕ) → length bytes ≡ 207 * s → length more ≡ 207 * n
     → early_of (bytes ++ more) ≡ early_of bytes ++ next_of (bytes ++ more) s n
 early_more bytes more s n e f =
-    early_count (bytes ++ more) (s + n) (length-append bytes more ∙ omega (arith, e, f))
-    ∙ ap (λ i. map (received_at (bytes ++ more)) (range_with_len 0 i)) whole
-    ∙ ap (map (received_at (bytes ++ more))) (range_with_len-parts 0 (s - 52) (s + n - 52 - (s - 52)))
-    ∙ map-append (received_at (bytes ++ more)) (range_with_len 0 (s - 52))
-    (range_with_len (0 + (s - 52)) (s + n - 52 - (s - 52)))
-    ∙ ap₂ (λ (xs : List Received) (a : ℕ). xs ++ map (received_at (bytes ++ more))
-    (range_with_len a (s + n - 52 - (s - 52)))) (before ∙ sym (early_count bytes s e)) from
-  where
-    whole : s + n - 52 ≡ s - 52 + (s + n - 52 - (s - 52))
-    whole = omega arith
-
-    from : 0 + (s - 52) ≡ s - 52
-    from = omega arith
-
-    before : map (received_at (bytes ++ more)) (range_with_len 0 (s - 52))
-        ≡ map (received_at bytes) (range_with_len 0 (s - 52))
-    before =
-        map-range_same (received_at (bytes ++ more)) (received_at bytes) 0 (s - 52)
-        (λ k a b. stays bytes more k (subst (λ (n : ℕ). IsComplete 207 52 4 n k) (sym e)
-        (complete_all s k (inl (omega (arith, b))))))
+    sym (early_made (bytes ++ more))
+    ∙ made_more 207 52 4 received_word bytes more s n (lit< tt) (lit< tt) (omega (arith, e))
+    (omega (arith, e, f, length-append bytes more))
+    ∙ ap (λ xs. xs ++ next_of (bytes ++ more) s n) (early_made bytes)
 
 -- with 207 bytes more: no packet, while a run is short, and then packet s - 52
 pub early_short : (bytes more : List ℕ) (s : ℕ) → length bytes ≡ 207 * s → length more ≡ 207 → s < 52
     → early_of (bytes ++ more) ≡ early_of bytes
 early_short bytes more s e f l =
-    early_more bytes more s 1 e f
-    ∙ ap (λ i. early_of bytes ++ map (received_at (bytes ++ more)) (range_with_len (s - 52) i)) (nothing s l)
-    ∙ append-nil (early_of bytes)
-  where
-    nothing : (s : ℕ) → s < 52 → s + 1 - 52 - (s - 52) ≡ 0
-    nothing s l = omega arith
+    sym (early_made (bytes ++ more))
+    ∙ made_none 207 52 4 received_word bytes more s (lit< tt) (lit< tt) e f (omega (arith, l, waiting_air))
+    ∙ early_made bytes
 
 pub early_next : (bytes more : List ℕ) (s : ℕ) → length bytes ≡ 207 * s → length more ≡ 207 → 52 ≤ s
     → early_of (bytes ++ more) ≡ early_of bytes ++ received_at (bytes ++ more) (s - 52) ∷ []
+unfolding received_at
 early_next bytes more s e f l =
-    early_more bytes more s 1 e f
-    ∙ ap (λ i. early_of bytes ++ map (received_at (bytes ++ more)) (range_with_len (s - 52) i)) (one s l)
+    sym (early_made (bytes ++ more))
+    ∙ made_next 207 52 4 received_word bytes more s (lit< tt) (lit< tt) e f (omega (arith, l, waiting_air))
+    ∙ ap (λ xs. xs ++ at (s - waiting 207 52 4) ∷ []) (early_made bytes)
+    ∙ ap (λ w. early_of bytes ++ at (s - w) ∷ []) waiting_air
   where
-    one : (s : ℕ) → 52 ≤ s → s + 1 - 52 - (s - 52) ≡ 1
-    one s l = omega arith
+    at : ℕ → Received
+    at k = received_word k (word_at 207 52 4 (bytes ++ more) k)
 
 -- at the end, whatever is left comes behind those
 abbrev pub left_of : List ℕ → ℕ → List Received

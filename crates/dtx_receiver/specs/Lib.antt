@@ -7,7 +7,10 @@ pub mod Receiver
 pub mod CompleteLaws
 pub mod SegmentsLaws
 pub mod FollowingLaws
-pub mod IntervalsLaws
 pub mod EarlyLaws
+pub mod GivenLaws
+pub mod AnswersLaws
+pub mod LevelsLaws
+pub mod IntervalsLaws
 pub mod CountingLaws
 pub mod SplicingLaws

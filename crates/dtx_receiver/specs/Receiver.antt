@@ -17,12 +17,17 @@ pub record Decoding : Type 0 where
   pub inner : inner.Kept
   pub turn : ℕ
 
--- what is kept is that of a run with these segments
-pub record Decodes (kept : Decoding) (run : List (List ℤ)) : Type 0 where
+-- The levels that are kept begin with those that a run has of the group that is on, and the bits are Z2 of the twelve
+-- coders before it.
+pub record AreLevels (kept bits : List ℕ) (run : List (List ℤ)) : Type 0 where
   pub some : 0 < length run
   pub long : length (levels_in run) ≡ 3312 * groups_of run
-  pub levels : take (828 * (data_count run % 4)) kept.levels ≡ levels_from run (4 * groups_of run) (data_count run % 4)
-  pub precoder_bits : kept.precoder_bits ≡ precoder_bits_in run
+  pub levels : take (828 * (data_count run % 4)) kept ≡ levels_from run (4 * groups_of run) (data_count run % 4)
+  pub precoder_bits : bits ≡ precoder_bits_in run
+
+-- what is kept is that of a run with these segments
+pub record Decodes (kept : Decoding) (run : List (List ℤ)) : Type 0 where
+  pub levels : AreLevels kept.levels kept.precoder_bits run
   pub inner : inner.StandsFor 207 187 52 4 kept.inner (bytes_in run)
   pub turn : kept.turn ≡ 4 * groups_of run % 52
 
@@ -31,10 +36,16 @@ pub record Kept : Type 0 where
   pub place : Option ℕ
   pub decoding : Decoding
 
+-- At this place of a run a decoder that holds what a run leaves has what these segments leave: the place is that behind
+-- the run that is on, and none where none is on.
+pub record HasRun {D : Type 0} (Holds : D → List (List ℤ) → Type 0) (at : Option ℕ) (held : D)
+    (segments : List (List ℤ)) : Type 0 where
+  pub place : at ≡ option_map (λ run. length run % 313) (tracked segments).run
+  pub run : IfSome (tracked segments).run (λ run. Holds held run)
+
 -- what is kept is what these segments leave
-pub record StandsFor (receiver : Kept) (segments : List (List ℤ)) : Type 0 where
-  pub place : receiver.place ≡ option_map (λ run. length run % 313) (tracked segments).run
-  pub run : IfSome (tracked segments).run (λ run. Decodes receiver.decoding run)
+abbrev pub StandsFor : Kept → List (List ℤ) → Type 0
+StandsFor receiver segments = HasRun Decodes receiver.place receiver.decoding segments
 
 -- Whatever the decoder of runs was given: each level is one of eight, the whitener's bytes are the randomizer's, and
 -- the turn is one of 52.
@@ -43,10 +54,12 @@ pub record IsDecoding (levels : List ℕ) (inner : inner.Kept) (turn : ℕ) : Ty
   pub white : inner.white ≡ randomizer_bytes
   pub in_turn : turn < 52
 
--- A segment behind these is told what it is; then the receiver stands for the longer list, and brings what is given
--- more.
-pub record IsTaken (segments : List (List ℤ)) (x : List ℤ) (new : Kept) (answer : Tracking)
-    (brought : List Received) : Type 0 where
+-- A segment behind these is told what it is; then a receiver stands for the longer list, and brings what is given more.
+pub record IsFollowed (Stands : List (List ℤ) → Type 0) (given : List (List ℤ) → List Received)
+    (segments : List (List ℤ)) (x : List ℤ) (answer : Tracking) (brought : List Received) : Type 0 where
   pub told : answer ≡ tracking segments x
-  pub stands : StandsFor new (segments ++ x ∷ [])
-  pub packets : packets_so_far (segments ++ x ∷ []) ≡ packets_so_far segments ++ brought
+  pub stands : Stands (segments ++ x ∷ [])
+  pub packets : given (segments ++ x ∷ []) ≡ given segments ++ brought
+
+abbrev pub IsTaken : List (List ℤ) → List ℤ → Kept → Tracking → List Received → Type 0
+IsTaken segments x new answer brought = IsFollowed (StandsFor new) packets_so_far segments x answer brought

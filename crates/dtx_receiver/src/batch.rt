@@ -1,10 +1,11 @@
 //! What a call of the receiver gives.
 
-ghost use Rattle.std.specs.Prelude.{◌≡◌, false, [], replicate};
+ghost use Rattle.std.specs.Prelude.{◌≡◌, true, false, ◌∷◌, [], replicate};
+ghost use Rattle.dtx_packets.specs.Packet.{with_error};
 
 use arrayvec::ArrayVec;
 use dtx_packets::Packet;
-use dtx_sizes::PACKET;
+use dtx_sizes::{PACKET, PACKET_DATA};
 
 /// How many packets a call gives at most has room here. No call gives more than four.
 pub const MOST_RECEIVED: usize = 8;
@@ -33,6 +34,41 @@ impl Default for Received {
             good: false,
         }
     }
+}
+
+impl Received {
+    /// What is received of a word that became a codeword by so many bytes put right, and has these data.
+    pub fn corrected(head: &[u8; PACKET_DATA], fixed: u8) -> Received
+        ensures { result ≡ record { packet = record { 0 = 0x47 ∷ head.now }; fixed = fixed; good = true } }
+    {
+        Received {
+            packet: packet_of(head),
+            fixed,
+            good: true,
+        }
+    }
+
+    /// What is received of a word that stayed as it was gathered, and has these data.
+    pub fn as_gathered(head: &[u8; PACKET_DATA]) -> Received
+        ensures { result ≡ record { packet = record { 0 = with_error (0x47 ∷ head.now) }; fixed = 0; good = false } }
+    {
+        let mut packet = packet_of(head);
+        packet.flag_error();
+        Received {
+            packet,
+            fixed: 0,
+            good: false,
+        }
+    }
+}
+
+/// The packet of these data, behind its sync byte.
+fn packet_of(head: &[u8; PACKET_DATA]) -> Packet
+    ensures { result.0 ≡ 0x47 ∷ head.now }
+{
+    let mut packet = Packet([0x47; PACKET]);
+    packet.0[1..].copy_from_slice(head);
+    packet
 }
 
 /// The packets that a call gives, in order.

@@ -1,8 +1,7 @@
 //! The outer coding's way back for the packets of a run.
 
-ghost use Rattle.std.specs.Prelude.{◌≡◌, true, false, ℕ, ◌+◌, ◌<◌, ◌≤◌, ◌++◌, [], ◌∷◌, List, IfOk, length};
+ghost use Rattle.std.specs.Prelude.{◌≡◌, ℕ, ◌+◌, ◌<◌, ◌≤◌, ◌++◌, [], List, IfOk, length};
 ghost use Rattle.dtx_outer.specs.Inner.{StandsFor};
-ghost use Rattle.dtx_packets.specs.Packet.{with_error};
 ghost use Rattle.dtx_whiten.specs.Randomizer.{randomizer_bytes};
 ghost use Rattle.dtx_receiver.specs.Handed.{handed};
 ghost use Rattle.dtx_receiver.specs.Packets.{early_of};
@@ -11,8 +10,7 @@ ghost use Rattle.dtx_receiver.specs.declared.batch.Received.{Received};
 use crate::batch::{Batch, MOST_RECEIVED, Received};
 use dtx_fast::Fast;
 use dtx_outer::{Inner, Taken};
-use dtx_packets::Packet;
-use dtx_sizes::{BRANCH_STEP, BRANCHES, CODEWORD, GROUP_BYTES, PACKET, PACKET_DATA};
+use dtx_sizes::{BRANCH_STEP, BRANCHES, CODEWORD, GROUP_BYTES, PACKET_DATA};
 use dtx_spread::Collect;
 use dtx_whiten::Atsc;
 use std::alloc::{AllocError, Global};
@@ -84,40 +82,7 @@ fn hand(taken: Taken, head: &[u8; PACKET_DATA], batch: &mut Batch)
 {
     match taken {
         Taken::None => {}
-        Taken::Good { fixed } => batch.packets.push(corrected(head, fixed)),
-        Taken::Bad => batch.packets.push(as_gathered(head)),
+        Taken::Good { fixed } => batch.packets.push(Received::corrected(head, fixed)),
+        Taken::Bad => batch.packets.push(Received::as_gathered(head)),
     }
-}
-
-/// What is received of a word's correction, which changes so many bytes.
-fn corrected(head: &[u8; PACKET_DATA], fixed: u8) -> Received
-    ensures { result ≡ record { packet = record { 0 = 0x47 ∷ head.now }; fixed = fixed; good = true } }
-{
-    Received {
-        packet: packet_of(head),
-        fixed,
-        good: true,
-    }
-}
-
-/// What is received of a word that has no correction.
-fn as_gathered(head: &[u8; PACKET_DATA]) -> Received
-    ensures { result ≡ record { packet = record { 0 = with_error (0x47 ∷ head.now) }; fixed = 0; good = false } }
-{
-    let mut packet = packet_of(head);
-    packet.flag_error();
-    Received {
-        packet,
-        fixed: 0,
-        good: false,
-    }
-}
-
-/// The packet of these data, behind its sync byte.
-fn packet_of(head: &[u8; PACKET_DATA]) -> Packet
-    ensures { result.0 ≡ 0x47 ∷ head.now }
-{
-    let mut packet = Packet([0x47; PACKET]);
-    packet.0[1..].copy_from_slice(head);
-    packet
 }

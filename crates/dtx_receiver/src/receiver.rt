@@ -121,6 +121,3 @@ fn following(place: u16) -> u16
         place + 1
     }
 }
-
-#[cfg(test)]
-mod tests;

@@ -1,7 +1,7 @@
 -- The data and then the register that was fed with them are the codeword.
-use Rattle.std.proofs.Common.{◌≡◌, ℕ, zero, suc, ◌+◌, ◌-◌, ◌<◌, ◌≤◌, List, [], ◌∷◌, ◌++◌, length, get_or, take}
+use Rattle.std.proofs.Common.{◌≡◌, ℕ, ◌+◌, ◌-◌, ◌*◌, ◌<◌, ◌≤◌, List, ◌++◌, length, take}
 use Rattle.std.proofs.Common.{replicate, sym, ap, ap₂, ◌∙◌, subst, arith}
-use Rattle.std.proofs.lemmas.List.{length-replicate, take_at, take-replicate, replicate-append-replicate}
+use Rattle.std.proofs.lemmas.List.{append_assoc, length-replicate, take_at, take-replicate, replicate-append-replicate}
 use Rattle.std.proofs.Math.Seq.{take-append-add}
 use Rattle.dtx_galois.specs.Field.{AreBytes}
 use Rattle.dtx_laws.specs.Codeword.{IsCode, IsCodeword}
@@ -9,6 +9,7 @@ use Rattle.dtx_laws.specs.Register.{generator, register}
 use Rattle.dtx_laws.specs.Words.{codeword}
 use Rattle.dtx_laws.specs.EncodingLaws.{encoded, encoded_is, length_generator, length_register}
 use Rattle.dtx_laws.specs.ChoiceLaws.{codeword_is, codeword_only}
+use Rattle.dtx_rs.specs.Table.{IsWide}
 use Rattle.dtx_rs.proofs.Linear.{register_padded}
 
 pub encoded_codeword : (n k : ℕ) (head : List ℕ) → n ≤ 255 → k < n → length head ≡ k → AreBytes head
@@ -37,6 +38,26 @@ front_padded m n w divisor l r e =
     let whole : w ≡ length (generator m) + (w - m) = omega (arith, length_generator m) in
     ap₂ take whole e ∙ take-append-add (generator m) (replicate (n - m) 0) (w - m)
     ∙ ap (λ xs. generator m ++ xs) (take-replicate (w - m) (n - m) 0 (omega arith))
+
+-- a table's divisor needs no more words than its generator fills
+pub table_wide : (n k w : ℕ) (divisor table : List ℕ) → n - k ≤ 4 * w → 0 < w → w ≤ 5
+    → divisor ≡ generator (n - k) ++ replicate (256 - (n - k)) 0 → table ≡ take 20 divisor → IsWide w table
+table_wide n k w divisor table few some within d t = record {
+  some = some;
+  within = within;
+  zeros = is
+      ∙ ap (λ (xs : List ℕ). generator (n - k) ++ xs) (ap (λ i. replicate i 0) parts
+      ∙ sym (replicate-append-replicate (4 * w - (n - k)) (20 - 4 * w) 0))
+      ∙ sym (append_assoc (generator (n - k)) (replicate (4 * w - (n - k)) 0) (replicate (20 - 4 * w) 0))
+      ∙ ap (λ (xs : List ℕ). xs ++ replicate (20 - 4 * w) 0)
+      (sym (front_padded (n - k) 20 (4 * w) table few (omega (arith, within)) is));
+}
+  where
+    is : table ≡ generator (n - k) ++ replicate (20 - (n - k)) 0
+    is = t ∙ front_padded (n - k) 256 20 divisor (omega (arith, few, within)) (omega arith) d
+
+    parts : 20 - (n - k) ≡ 4 * w - (n - k) + (20 - 4 * w)
+    parts = omega (arith, few, within)
 
 -- by a table of a divisor of w coefficients
 pub table_codeword : (n k w : ℕ) (divisor table head parity word new : List ℕ) → IsCode n k → n - k ≤ w → w ≤ 256
@@ -67,13 +88,3 @@ register_codeword n k divisor head new code d lh b e =
 pub made_codeword : (n k : ℕ) (head new : List ℕ) → IsCode n k → length head ≡ k → AreBytes head
     → new ≡ codeword n k head → IsCodeword n k new
 made_codeword n k head new code l b e = subst (IsCodeword n k) (sym e) (codeword_is n k head code.longer l b)
-
--- one of four, each made of one of four
-pub one_of_four : (f : List ℕ → List ℕ) (xs ys : List (List ℕ)) (p : ℕ) → p < 4
-    → ys ≡ f (get_or xs 0 []) ∷ f (get_or xs 1 []) ∷ f (get_or xs 2 []) ∷ f (get_or xs 3 []) ∷ []
-    → get_or ys p [] ≡ f (get_or xs p [])
-one_of_four f xs ys zero l e = ap (λ zs. get_or zs 0 []) e
-one_of_four f xs ys (suc zero) l e = ap (λ zs. get_or zs 1 []) e
-one_of_four f xs ys (suc (suc zero)) l e = ap (λ zs. get_or zs 2 []) e
-one_of_four f xs ys (suc (suc (suc zero))) l e = ap (λ zs. get_or zs 3 []) e
-one_of_four f xs ys (suc (suc (suc (suc p)))) l e = absurd (omega (arith, l))

@@ -1,8 +1,7 @@
 -- The bytes of words.
-use Rattle.std.proofs.Common.{◌≡◌, ℕ, suc, ◌+◌, ◌*◌, ◌/◌, ◌%◌, ◌^◌, ◌<◌, ◌≤◌, List, [], ◌∷◌, ◌++◌, length, get_or, take}
-use Rattle.std.proofs.Common.{drop, bit_xor, refl, sym, ap, ap₂, ◌∙◌, arith}
-use borrow.Rule.Slice.PartMut.{post_of, put_mid}
-use Rattle.std.proofs.lemmas.List.{append_assoc, length-append, length-drop, length-take-le, take_more}
+use Rattle.std.proofs.Common.{◌≡◌, ℕ, suc, ◌+◌, ◌*◌, ◌/◌, ◌%◌, ◌^◌, ◌<◌, List, [], ◌∷◌, ◌++◌, length, get_or, take}
+use Rattle.std.proofs.Common.{bit_xor, refl, sym, ap, ap₂, ◌∙◌, arith}
+use Rattle.std.proofs.lemmas.List.{append_assoc, take_more}
 use Rattle.std.proofs.lemmas.Nat.{xor_shr, xor_mod}
 use Rattle.std.specs.Int.{to_be_bytes, w32}
 use Rattle.dtx_galois.specs.Word.{sums}
@@ -66,16 +65,3 @@ take_four xs i l =
     (ap (λ n. take n xs) (sym a1) ∙ take_more xs (i + 1) 0 (omega arith)
     ∙ ap (λ ys. ys ++ get_or xs (i + 1) 0 ∷ []) (take_more xs i 0 (omega arith))))
     ∙ simp append_assoc)
-
--- a write to a part keeps the length
-pub length-put_mid : (a k : ℕ) (xs ys : List ℕ) → a + k ≤ length xs → length ys ≡ k
-    → length (put_mid a k xs ys) ≡ length xs
-length-put_mid a k xs ys l e =
-    length-append (take a xs) (ys ++ post_of a k xs)
-    ∙ omega (
-      arith,
-      length-append ys (post_of a k xs),
-      length-take-le a xs (omega arith),
-      length-drop k (drop a xs),
-      length-drop a xs,
-    )

@@ -10,14 +10,14 @@ ghost use Rattle.dtx_rs.specs.declared.words.TheConstants.{WIDTH};
 use crate::divisor::{ELEMENTS, divisor_of};
 use crate::register::encode_by_register;
 use crate::table::Table;
-use crate::words::WIDTH;
+use crate::words::{SHORT_WORDS, STEP, WIDTH};
 use dtx_galois::{ALPHA, Gf, eval};
 use dtx_laws::Encode;
 
 /// The encoder of words of `N` bytes with `K` bytes of data (ATSC A/53 Part 2, Reed-Solomon encoder).
 ///
 /// It holds a table of 20 KB, so make one and keep it. Up to twenty parity bytes are made by the table, four bytes of
-/// data a step, and more than twenty byte by byte.
+/// data a step, and more than twenty byte by byte. Of four words at once up to sixteen are made in vectors.
 #[derive(Drop)]
 pub struct Rs<const N: usize, const K: usize> {
     divisor: [u8; ELEMENTS],
@@ -46,6 +46,20 @@ impl<const N: usize, const K: usize> Rs<N, K> {
     {
         eval(&word[..], ALPHA.pow(i as u32))
     }
+
+    /// The registers of zeros after all the data of each of four heads.
+    fn parity_of_four(&self, heads: &[[u8; K]; 4]) -> [[u8; WIDTH]; 4]
+        requires { N - K ≤ WIDTH }
+        ensures { (p : ℕ) → p < 4 → slice_index_or result p []
+            ≡ register self.now.table.divisor (replicate WIDTH 0) (slice_index_or heads.now p []) }
+    {
+        let [one, two, three, four] = heads;
+        if N - K <= STEP * SHORT_WORDS {
+            self.table.short_parity_of_four(one, two, three, four)
+        } else {
+            self.table.parity_of_four(one, two, three, four)
+        }
+    }
 }
 
 impl<const N: usize, const K: usize> Encode<N, K> for Rs<N, K> {
@@ -61,13 +75,7 @@ impl<const N: usize, const K: usize> Encode<N, K> for Rs<N, K> {
 
     fn encode_four(&self, heads: &[[u8; K]; 4], words: &mut [[u8; N]; 4]) {
         if N - K <= WIDTH {
-            join_four(
-                heads,
-                &self
-                    .table
-                    .parity_of_four(&heads[0][..], &heads[1][..], &heads[2][..], &heads[3][..]),
-                words,
-            );
+            join_four(heads, &self.parity_of_four(heads), words);
         } else {
             for p in 0..4 {
                 self.encode(&heads[p], &mut words[p]);

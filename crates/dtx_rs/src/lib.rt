@@ -6,8 +6,6 @@ mod divisor;
 mod encoder;
 mod register;
 mod table;
-#[cfg(test)]
-mod tests;
 mod words;
 
 pub use encoder::Rs;

@@ -4,13 +4,14 @@ ghost use Rattle.std.specs.Prelude.{◌≡◌, ℕ, ◌+◌, ◌-◌, ◌*◌, �
 ghost use Rattle.std.specs.Prelude.{slice_index, slice_index_or, take};
 ghost use Rattle.dtx_galois.specs.Word.{sums};
 ghost use Rattle.dtx_laws.specs.Register.{fed, register};
-ghost use Rattle.dtx_rs.specs.Table.{row, word_bytes};
+ghost use Rattle.dtx_rs.specs.Table.{IsWide, row, word_bytes};
 ghost use Rattle.dtx_rs.specs.declared.divisor.TheConstants.{ELEMENTS};
-ghost use Rattle.dtx_rs.specs.declared.words.TheConstants.{STEP, WIDTH};
+ghost use Rattle.dtx_rs.specs.declared.words.TheConstants.{SHORT_WORDS, STEP, WIDTH};
 
 use crate::divisor::ELEMENTS;
 use crate::register::feed;
-use crate::words::{STEP, WIDTH, WORDS, bytes_of, words_of};
+use crate::words::{STEP, WIDTH, WORDS, bytes_of, widened, words_of};
+use std::simd::prelude::*;
 
 /// How many rows there are: one for each byte, at each place of a step.
 const ROWS: usize = STEP * ELEMENTS;
@@ -93,6 +94,86 @@ impl Table {
         ]
     }
 
+    /// The registers of zeros after all the data of each of four heads, as `parity_of_four` gives them, where the
+    /// divisor leaves no more than sixteen of their bytes other than 0: each fits a vector.
+    pub fn short_parity_of_four(
+        &self,
+        one: &[u8],
+        two: &[u8],
+        three: &[u8],
+        four: &[u8],
+    ) -> [[u8; WIDTH]; 4]
+        requires short { IsWide SHORT_WORDS self.now.divisor }
+        requires two { length two.now ≡ length one.now }
+        requires three { length three.now ≡ length one.now }
+        requires four { length four.now ≡ length one.now }
+        ensures { result ≡ map (register self.now.divisor (replicate WIDTH 0))
+            (one.now ∷ two.now ∷ three.now ∷ four.now ∷ []) }
+    {
+        let first = one.len() % STEP;
+        let mut of_one = self.started_short(one);
+        let mut of_two = self.started_short(two);
+        let mut of_three = self.started_short(three);
+        let mut of_four = self.started_short(four);
+        for step in 0..one.len() / STEP {
+            let at = first + STEP * step;
+            of_one = self.fed_short(of_one, &[one[at], one[at + 1], one[at + 2], one[at + 3]]);
+            of_two = self.fed_short(of_two, &[two[at], two[at + 1], two[at + 2], two[at + 3]]);
+            of_three = self.fed_short(
+                of_three,
+                &[three[at], three[at + 1], three[at + 2], three[at + 3]],
+            );
+            of_four = self.fed_short(
+                of_four,
+                &[four[at], four[at + 1], four[at + 2], four[at + 3]],
+            );
+        }
+        [
+            bytes_of(&widened(of_one)),
+            bytes_of(&widened(of_two)),
+            bytes_of(&widened(of_three)),
+            bytes_of(&widened(of_four)),
+        ]
+    }
+
+    /// The register after the bytes before the first whole step.
+    fn started_short(&self, head: &[u8]) -> u32x4
+        requires { IsWide SHORT_WORDS self.now.divisor }
+        ensures { word_bytes result
+            ≡ register (take (STEP * SHORT_WORDS) self.now.divisor) (replicate (STEP * SHORT_WORDS) 0)
+            (take (length head.now % STEP) head.now) }
+    {
+        self.fed_short(u32x4::splat(0), &padded(head))
+    }
+
+    /// The register after four more bytes.
+    #[inline(always)]
+    fn fed_short(&self, state: u32x4, bytes: &[u8; STEP]) -> u32x4
+        requires { IsWide SHORT_WORDS self.now.divisor }
+        ensures { word_bytes result
+            ≡ register (take (STEP * SHORT_WORDS) self.now.divisor) (word_bytes state) bytes.now }
+    {
+        let words = state.to_array();
+        let factors = (u32::from_be_bytes(*bytes) ^ words[0]).to_be_bytes();
+        let row3 = self.short_row(3, factors[0]);
+        let row2 = self.short_row(2, factors[1]);
+        let row1 = self.short_row(1, factors[2]);
+        let row0 = self.short_row(0, factors[3]);
+        next_words(state) ^ (row3 ^ (row2 ^ (row1 ^ row0)))
+    }
+
+    /// What a byte adds to the register, `k` places before the last of a step.
+    #[inline(always)]
+    fn short_row(&self, k: usize, factor: u8) -> u32x4
+        requires short { IsWide SHORT_WORDS self.now.divisor }
+        requires within { k < STEP }
+        ensures bytes { word_bytes result ≡ row (take (STEP * SHORT_WORDS) self.now.divisor) factor k }
+        ensures long { length result ≡ SHORT_WORDS }
+    {
+        let row = self.row(k, factor);
+        u32x4::from_slice(&row[..])
+    }
+
     /// The register after the bytes before the first whole step.
     fn started(&self, head: &[u8]) -> [u32; WORDS]
         ensures { word_bytes result ≡ register self.now.divisor (replicate WIDTH 0)
@@ -149,6 +230,15 @@ fn moved(state: &[u32; WORDS], i: usize) -> u32
     ensures { result ≡ slice_index state.now (i + 1) }
 {
     if i + 1 < WORDS { state[i + 1] } else { 0 }
+}
+
+/// The words one place on.
+#[inline(always)]
+fn next_words(state: u32x4) -> u32x4
+    ensures words { result ≡ drop 1 state ++ 0 ∷ [] }
+    ensures long { length result ≡ SHORT_WORDS }
+{
+    state.shuffle(u32x4::splat(0), [1, 2, 3, 4])
 }
 
 /// The bytes before the first whole step, behind as many zeros as make them one.

@@ -1,13 +1,18 @@
 //! Registers as words of four bytes, the highest byte of each first.
 
-ghost use Rattle.std.specs.Prelude.{◌≡◌};
+ghost use Rattle.std.specs.Prelude.{◌≡◌, [], ◌∷◌, ◌++◌};
 ghost use Rattle.dtx_rs.specs.Table.{word_bytes};
+
+use std::simd::prelude::*;
 
 /// The bytes of a word, which are fed in one step.
 pub const STEP: usize = 4;
 
 /// The words of a register.
 pub const WORDS: usize = 5;
+
+/// The words of a register of which no more than sixteen bytes are used: they fill a vector.
+pub const SHORT_WORDS: usize = 4;
 
 /// The bytes of a register.
 pub const WIDTH: usize = 20;
@@ -21,6 +26,14 @@ pub fn bytes_of(words: &[u32; WORDS]) -> [u8; WIDTH]
         bytes[STEP * i..STEP * i + STEP].copy_from_slice(&words[i].to_be_bytes());
     }
     bytes
+}
+
+/// The words of a whole register, of which these are the first.
+pub fn widened(words: u32x4) -> [u32; WORDS]
+    ensures { result ≡ words ++ 0 ∷ [] }
+{
+    let words = words.to_array();
+    [words[0], words[1], words[2], words[3], 0]
 }
 
 /// The words of these bytes.

@@ -9,7 +9,8 @@ use Rattle.dtx_trellis.specs.Trellis.{AreBits, State, z2, z0, level, state_after
 use Rattle.dtx_trellis.specs.Pairs.{groups, group_place, byte_place, pair_in, pair_at, coder_at, higher, lower}
 use Rattle.dtx_trellis.specs.Groups.{level_at, levels_of, coder_after, states_after}
 use Rattle.dtx_trellis.specs.StepsLaws.{z2_next, z2_first, after_zero}
-use Rattle.dtx_trellis.specs.CodersLaws.{coder_is, higher_at, lower_at, length_higher, pair_0, pair_1, pair_2, pair_3}
+use Rattle.dtx_trellis.specs.CodersLaws.{turn_back, coder_is, higher_at, lower_at, length_higher, pair_0, pair_1}
+use Rattle.dtx_trellis.specs.CodersLaws.{pair_2, pair_3}
 use Rattle.dtx_trellis.specs.RoundsLaws.{coder_bits}
 use Rattle.dtx_trellis.specs.JoinsLaws.{groups_whole}
 use Rattle.dtx_slice.specs.Unrolled.{symbol_place, precoder_bit, pair_back, byte_back, coder_of, level_groups}
@@ -17,16 +18,13 @@ use Rattle.dtx_slice.specs.Unrolled.{bytes_back}
 use Rattle.dtx_slice.specs.Unrolled.{precoder_bits_after, precoder_bits_in}
 use Rattle.dtx_slice.specs.PlacesLaws.{former_zero, former_next}
 
-turn_back : (x e : ℕ) → x < 3 → e < 12 → ((e + 12 - 4 * x) % 12 + 4 * x) % 12 ≡ e
-turn_back x e l m = omega arith
-
 -- whose symbol that is, and in which round
-place_coder : (s r e : ℕ) → e < 12 → coder_at s (symbol_place s r e) ≡ e
+pub place_coder : (s r e : ℕ) → e < 12 → coder_at s (symbol_place s r e) ≡ e
 unfolding symbol_place
 place_coder s r e l = coder_is s r ((e + 12 - 4 * ((s + r / 69) % 3)) % 12) (omega arith)
     ∙ turn_back ((s + r / 69) % 3) e (omega arith) l
 
-place_round : (s r e : ℕ) → symbol_place s r e / 12 ≡ r
+pub place_round : (s r e : ℕ) → symbol_place s r e / 12 ≡ r
 unfolding symbol_place
 place_round s r e = omega arith
 

@@ -12,7 +12,7 @@ use Rattle.dtx_soft.specs.Gaps.{AreGaps, AreTaken, IsBefore, IsBounded, row_of, 
 use Rattle.dtx_soft.specs.Squares.{AreSmall, IsSquares}
 use Rattle.dtx_soft.proofs.SquareGaps.{AreTested, row_tie}
 use Rattle.std.proofs.lemmas.Bool.Decides.{nat_tests}
-use Rattle.dtx_soft.specs.Nearest.{IsTaken, IsTie, cheapest, through}
+use Rattle.dtx_soft.specs.Nearest.{IsTaken, IsTieBreak, cheapest, through}
 use Rattle.dtx_soft.specs.Paths.{next_state}
 use Rattle.dtx_soft.proofs.Paths.{next_small}
 use Rattle.dtx_soft.proofs.Steps.{bit_taken}
@@ -50,7 +50,7 @@ by_units k z c x y a b tie bit h t e f (inr m) = inr (less (cases_order a b), m.
 
 pub units_taken : (k : ℕ) (row : Nearest) (behind : List ℕ) (x y u d e f : ℤ) (r : AreGaps k row.squares x y u)
     (g : AreGaps k behind d e f) (state tie bit : ℕ) → 0 < k → state < 4 → tie ≤ 1
-    → IsTie (get_or row.levels (state / 2) 0) (get_or row.levels (state / 2 + 2) 0) tie
+    → IsTieBreak (get_or row.levels (state / 2) 0) (get_or row.levels (state / 2 + 2) 0) tie
     → ((units_through r.units g.units state (state / 2 + 2) < units_through r.units g.units state (state / 2) + tie)
     × (bit ≡ 1))
     ⊎ ((units_through r.units g.units state (state / 2) + tie ≤ units_through r.units g.units state (state / 2 + 2))

@@ -1,14 +1,15 @@
 -- Segments whose coders' symbols are paths' own.
 use Rattle.std.proofs.Common.{◌≡◌, ℕ, zero, suc, ℤ, ◌+◌, ◌<◌, List, [], drop, get_or, length, map, refl, sym, ap, ap₂}
 use Rattle.std.proofs.Common.{◌∙◌, arith}
-use Rattle.dtx_soft.specs.Coders.{AreLeast, costs, symbols_of}
+use Rattle.dtx_soft.specs.Coders.{AreLeast, IsSoftened, coder_symbols, coders_distance}
 use Rattle.dtx_soft.specs.LeastPath.{least_path}
 use Rattle.dtx_soft.specs.LeastPathLaws.{least_path_found}
+use Rattle.dtx_soft.specs.MovedLaws.{distance_same}
 use Rattle.dtx_soft.specs.Paths.{symbol_at}
 use Rattle.dtx_soft.specs.Softened.{IsOwn, softened, softened_cost}
-use Rattle.dtx_soft.specs.SoftenedLaws.{softened_is}
-use Rattle.dtx_soft.proofs.OwnSymbols.{distance_same, own_symbols}
-use Rattle.dtx_soft.proofs.Softened.{costs_more}
+use Rattle.dtx_soft.specs.SoftenedLaws.{cost_is, softened_is}
+use Rattle.dtx_soft.proofs.OwnSymbols.{own_symbols}
+use Rattle.dtx_soft.proofs.Softened.{coders_distance_more}
 
 own_least : (scale : ℕ) (symbols : List ℤ) → IsOwn scale symbols → AreLeast scale symbols symbols
 own_least scale symbols h =
@@ -23,24 +24,26 @@ own_least scale symbols h =
           ∙ ap (λ xs. map (symbol_at scale) (drop 1 (least_path scale xs))) (sym h.same);
     }
 
-no_costs : (segments : List (List ℤ)) (n : ℕ) → costs segments segments n ≡ 0
-unfolding costs
+no_costs : (segments : List (List ℤ)) (n : ℕ) → coders_distance segments segments n ≡ 0
+unfolding coders_distance
 no_costs segments zero = refl
 no_costs segments (suc n) =
     let next : suc n ≡ n + 1 = omega arith in
-    ap (costs segments segments) next ∙ costs_more segments segments n
-    ∙ ap₂ (λ a b. a + b) (no_costs segments n) (distance_same (symbols_of segments n))
+    ap (coders_distance segments segments) next ∙ coders_distance_more segments segments n
+    ∙ ap₂ (λ a b. a + b) (no_costs segments n) (distance_same (coder_symbols segments n))
 
 pub own_field : (scale : ℕ) (segments : List (List ℤ))
     → ((i : ℕ) → i < length segments → length (get_or segments i []) ≡ 832)
-    → ((e : ℕ) → e < 12 → IsOwn scale (symbols_of segments e))
+    → ((e : ℕ) → e < 12 → IsOwn scale (coder_symbols segments e))
     → (softened scale segments ≡ segments) × (softened_cost scale segments ≡ 0)
-unfolding softened_cost
-own_field scale segments rows own =
-    let same : segments ≡ softened scale segments =
-    softened_is scale segments segments (record {
+own_field scale segments rows own = (
+  sym (softened_is scale segments segments stays rows),
+  sym (cost_is scale segments segments stays) ∙ no_costs segments 12,
+)
+  where
+    stays : IsSoftened scale segments segments
+    stays = record {
       long = refl;
       syncs = λ i k l. refl;
-      coders = λ e l. own_least scale (symbols_of segments e) (own e l);
-    }) rows in
-    (sym same, ap (λ new. costs segments new 12) (sym same) ∙ no_costs segments 12)
+      coders = λ e l. own_least scale (coder_symbols segments e) (own e l);
+    }

@@ -1,23 +1,11 @@
 -- Symbols that are those of a path's levels.
-use Rattle.std.proofs.Common.{◌≡◌, ℕ, zero, suc, ℤ, ◌+◌, ◌*◌, ◌<◌, ◌-ℤ◌, nat_abs, List, [], ◌∷◌, length, map}
+use Rattle.std.proofs.Common.{◌≡◌, ℕ, zero, suc, ℤ, ◌*◌, ◌<◌, ◌-ℤ◌, nat_abs, List, [], ◌∷◌, length, map}
 use Rattle.std.proofs.Common.{refl, sym, ap₂, ◌∙◌, arith}
-use Rattle.std.specs.List.{zip}
 use Rattle.std.proofs.lemmas.Int.{ints}
 use Rattle.std.proofs.lemmas.List.{length-map}
-use Rattle.std.proofs.lemmas.List.Sums.{sum_by-cons}
 use Rattle.dtx_soft.specs.Paths.{IsPath, cost, distance, squared, symbol_at}
 use Rattle.dtx_soft.specs.Least.{IsLeast}
-
-distance-cons : (x y : ℤ) (xs ys : List ℤ) → distance (x ∷ xs) (y ∷ ys) ≡ squared x y + distance xs ys
-unfolding distance
-distance-cons x y xs ys = sum_by-cons (λ pair. squared pair.0 pair.1) (x, y) (zip xs ys)
-
-squared_same : (x : ℤ) → squared x x ≡ 0
-unfolding squared
-squared_same x = ap₂ (λ a b. a * b) (none x) (none x)
-  where
-    none : (x : ℤ) → nat_abs (x -ℤ x) ≡ 0
-    none x = omega (arith, ints)
+use Rattle.dtx_soft.specs.MovedLaws.{distance-cons, distance_same}
 
 same_squared : (x y : ℤ) → squared x y ≡ 0 → x ≡ y
 unfolding squared
@@ -26,11 +14,6 @@ same_squared x y h = close (nat_abs (x -ℤ y)) refl h
     close : (n : ℕ) → nat_abs (x -ℤ y) ≡ n → n * n ≡ 0 → x ≡ y
     close zero e h = omega (arith, ints, e)
     close (suc n) e h = absurd (omega (arith, h))
-
-pub distance_same : (xs : List ℤ) → distance xs xs ≡ 0
-unfolding distance
-distance_same [] = refl
-distance_same (x ∷ xs) = distance-cons x x xs xs ∙ ap₂ (λ a b. a + b) (squared_same x) (distance_same xs)
 
 pub same_distance : (xs ys : List ℤ) → length ys ≡ length xs → distance xs ys ≡ 0 → ys ≡ xs
 same_distance [] [] n h = refl

@@ -4,7 +4,7 @@ use Rattle.std.proofs.Common.{nat_le, get_or, refl, sym, ap, ◌∙◌, subst, a
 use Rattle.std.proofs.lemmas.Bool.{cases_lt}
 use Rattle.std.proofs.lemmas.Bool.Decides.{nat_tests}
 use Rattle.dtx_soft.specs.Gaps.{nearer_level, nearer_square, row_of}
-use Rattle.dtx_soft.specs.Nearest.{AreNearest, IsNearest, IsTie}
+use Rattle.dtx_soft.specs.Nearest.{AreNearest, IsNearest, IsTieBreak}
 use Rattle.dtx_soft.specs.Paths.{squared, symbol_at}
 use Rattle.dtx_soft.proofs.SquareGaps.{AreTested, are_tested, row_tie}
 use Rattle.dtx_soft.proofs.Writes.{four}
@@ -82,14 +82,15 @@ row_is scale v l from to = record {
   each = four (λ z. IsNearest scale v z (get_or (row_of scale v).levels z 0) (get_or (row_of scale v).squares z 0))
       (nearer_is scale v 0 (omega arith) t) (nearer_is scale v 1 (omega arith) t) (nearer_is scale v 2 (omega arith) t)
       (nearer_is scale v 3 (omega arith) t);
-  ties = λ z m. ties z m;
+  tie_breaks = λ z m. tie_breaks z m;
 }
   where
     t : AreTested scale v
     t = are_tested scale v l from to
 
-    ties : (z : ℕ) → z < 2 → IsTie (get_or (row_of scale v).levels z 0) (get_or (row_of scale v).levels (z + 2) 0)
-        (get_or (row_of scale v).ties z 0)
-    ties zero m = row_tie scale v 0 m
-    ties (suc zero) m = row_tie scale v 1 m
-    ties (suc (suc z)) m = absurd (omega arith)
+    tie_breaks : (z : ℕ) → z < 2
+        → IsTieBreak (get_or (row_of scale v).levels z 0) (get_or (row_of scale v).levels (z + 2) 0)
+        (get_or (row_of scale v).tie_breaks z 0)
+    tie_breaks zero m = row_tie scale v 0 m
+    tie_breaks (suc zero) m = row_tie scale v 1 m
+    tie_breaks (suc (suc z)) m = absurd (omega arith)

@@ -7,7 +7,7 @@ use Rattle.std.proofs.lemmas.Int.{ints}
 use Rattle.std.proofs.lemmas.Bool.Decides.{nat_tests, Decides-int_eq, Decides-eqb}
 use Rattle.dtx_lists.proofs.Below.{at_below}
 use Rattle.dtx_soft.specs.Gaps.{AreGaps, nearer_level, nearer_square, row_of, tie_of, unit}
-use Rattle.dtx_soft.specs.Nearest.{IsTie}
+use Rattle.dtx_soft.specs.Nearest.{IsTieBreak}
 use Rattle.dtx_soft.specs.Squares.{across_of, even_of, odd_of, seen}
 use Rattle.dtx_soft.proofs.SquareTests.{all_are_gaps, all_are_nearer, are_gaps, are_nearer, is_nearer, lifted}
 use Rattle.dtx_soft.specs.Paths.{symbol_at}
@@ -122,11 +122,11 @@ row_gaps scale symbol x y u t ex ey eu lx ly lu = record {
         lifted a)
         (sym eu) t.third
 
-tie_is : (m n : ℕ) → IsTie m n (cond (nat_lt n m) 1 0)
+tie_is : (m n : ℕ) → IsTieBreak m n (cond (nat_lt n m) 1 0)
 tie_is m n = record { before = λ l. grind (arith, nat_tests); behind = λ l. grind (arith, nat_tests) }
 
 pub row_tie : (scale : ℕ) (symbol : ℤ) (z : ℕ) → z < 2
-    → IsTie (get_or (row_of scale symbol).levels z 0) (get_or (row_of scale symbol).levels (z + 2) 0) (tie_of scale
+    → IsTieBreak (get_or (row_of scale symbol).levels z 0) (get_or (row_of scale symbol).levels (z + 2) 0) (tie_of scale
     symbol z)
 unfolding row_of
 row_tie scale symbol zero l = tie_is (nearer_level scale symbol 0) (nearer_level scale symbol 2)

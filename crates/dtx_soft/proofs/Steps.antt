@@ -4,7 +4,7 @@ use Rattle.std.proofs.Common.{sym, ap, ap₂, ◌∙◌, subst, arith}
 use Rattle.std.proofs.lemmas.Bool.{cases_eq, cases_lt}
 use Rattle.dtx_soft.specs.Paths.{next_state, squared, symbol_at}
 use Rattle.dtx_soft.specs.declared.nearest.Nearest.{Nearest}
-use Rattle.dtx_soft.specs.Nearest.{AreNearest, ComesFirst, IsNearest, IsTaken, IsTie, cheapest, through}
+use Rattle.dtx_soft.specs.Nearest.{AreNearest, ComesFirst, IsNearest, IsTaken, IsTieBreak, cheapest, through}
 
 -- what level z comes to: its squared distance and the potential of the state behind it
 abbrev pub onto : ℕ → ℤ → List ℕ → ℕ → ℕ → ℕ
@@ -152,7 +152,7 @@ pub next_taken : (scale : ℕ) (symbol : ℤ) (row : Nearest) (state z : ℕ) �
 next_taken scale symbol row state z h l = next_alike state (get_or row.levels z 0) z (h.each z l).alike
 
 -- of two costs the second is taken where it is less, or where it is as much and its level comes first
-pub by_tie : (a b m n tie : ℕ) → IsTie m n tie → ((b < a + tie) × ((b ≤ a) × (b ≡ a → n ≤ m)))
+pub by_tie : (a b m n tie : ℕ) → IsTieBreak m n tie → ((b < a + tie) × ((b ≤ a) × (b ≡ a → n ≤ m)))
     ⊎ ((a + tie ≤ b) × ((a ≤ b) × (a ≡ b → m ≤ n)))
 by_tie a b m n tie h = by_less (cases_lt n m) (cases_lt b (a + tie))
   where
@@ -165,7 +165,7 @@ by_tie a b m n tie h = by_less (cases_lt n m) (cases_lt b (a + tie))
 
 -- a bit that says so
 pub bit_taken : (row : Nearest) (behind : List ℕ) (state tie bit : ℕ)
-    → IsTie (get_or row.levels (state / 2) 0) (get_or row.levels (state / 2 + 2) 0) tie
+    → IsTieBreak (get_or row.levels (state / 2) 0) (get_or row.levels (state / 2 + 2) 0) tie
     → ((through row behind state (state / 2 + 2) < through row behind state (state / 2) + tie) × (bit ≡ 1))
     ⊎ ((through row behind state (state / 2) + tie ≤ through row behind state (state / 2 + 2)) × (bit ≡ 0))
     → IsTaken row behind state bit

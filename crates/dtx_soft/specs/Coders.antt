@@ -9,9 +9,9 @@ use Rattle.dtx_soft.specs.Least.{IsLeast}
 unfoldable pub data_symbol : List (List ℤ) → ℕ → ℤ
 data_symbol segments d = slice_index_or (slice_index_or segments (d / 828) []) (4 + d % 828) (pos 0)
 
--- all symbols of coder e, one in each round
-unfoldable pub symbols_of : List (List ℤ) → ℕ → List ℤ
-symbols_of segments e =
+-- the symbols of coder e in the order in which it sends them, one in each round
+unfoldable pub coder_symbols : List (List ℤ) → ℕ → List ℤ
+coder_symbols segments e =
     map (λ t. data_symbol segments (symbol_place 0 t e)) (range_with_len 0 (69 * length segments))
 
 -- symbols that were replaced by those of their least path
@@ -26,12 +26,17 @@ abbrev pub KeepsSyncs : List (List ℤ) → List (List ℤ) → Type 0
 KeepsSyncs old new = (i k : ℕ) → k < 4
     → slice_index_or (slice_index_or new i []) k (pos 0) ≡ slice_index_or (slice_index_or old i []) k (pos 0)
 
--- what the first n coders' new symbols are off the old ones, which is the cost of their least paths
-unfoldable pub costs : List (List ℤ) → List (List ℤ) → ℕ → ℕ
-costs old new n = sum (map (λ e. distance (symbols_of old e) (symbols_of new e)) (range_with_len 0 n))
+-- how far the first n coders' new symbols are off the old ones, in the sum of the squares
+unfoldable pub coders_distance : List (List ℤ) → List (List ℤ) → ℕ → ℕ
+coders_distance old new n = sum (map (λ e. distance (coder_symbols old e) (coder_symbols new e)) (range_with_len 0 n))
+
+-- and how far all symbols of segments are, segment by segment
+unfoldable pub segments_distance : List (List ℤ) → List (List ℤ) → ℕ
+segments_distance old new =
+    sum (map (λ i. distance (slice_index_or old i []) (slice_index_or new i [])) (range_with_len 0 (length old)))
 
 -- Segments in which each coder's symbols were replaced by those of its least path.
 pub record IsSoftened (scale : ℕ) (old new : List (List ℤ)) : Type 0 where
   pub long : length new ≡ length old
   pub syncs : KeepsSyncs old new
-  pub coders : (e : ℕ) → e < 12 → AreLeast scale (symbols_of old e) (symbols_of new e)
+  pub coders : (e : ℕ) → e < 12 → AreLeast scale (coder_symbols old e) (coder_symbols new e)

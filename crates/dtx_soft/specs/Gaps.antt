@@ -59,7 +59,7 @@ row_of scale symbol = record {
       ∷ nearer_level scale symbol 3 ∷ [];
   squares = nearer_square scale symbol 0 ∷ nearer_square scale symbol 1 ∷ nearer_square scale symbol 2
       ∷ nearer_square scale symbol 3 ∷ [];
-  ties = tie_of scale symbol 0 ∷ tie_of scale symbol 1 ∷ [];
+  tie_breaks = tie_of scale symbol 0 ∷ tie_of scale symbol 1 ∷ [];
   filler = 0;
 }
 

@@ -9,6 +9,8 @@ pub mod Coders
 pub mod Softened
 pub mod SoftenedLaws
 pub mod CostLaws
+pub mod SumsLaws
+pub mod MovedLaws
 pub mod Gaps
 pub mod Squares
 pub mod Trace

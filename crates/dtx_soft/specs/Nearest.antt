@@ -14,8 +14,9 @@ pub record IsNearest (scale : ℕ) (symbol : ℤ) (z level square : ℕ) : Type 
   pub first : (other : ℕ) → other < 8 → other % 4 ≡ z % 4 → squared symbol (symbol_at scale other) ≡ square
       → level ≤ other
 
--- 1 where another level comes before a level in order, and else 0
-pub record IsTie (level other tie : ℕ) : Type 0 where
+-- what is added to what a level costs, so that of equal costs the first level in order is taken: 1 where another level
+-- comes before it, and else 0
+pub record IsTieBreak (level other tie : ℕ) : Type 0 where
   pub before : other < level → tie ≡ 1
   pub behind : level ≤ other → tie ≡ 0
 
@@ -25,8 +26,8 @@ pub record AreNearest (scale : ℕ) (symbol : ℤ) (row : Nearest) : Type 0 wher
   pub squares : length row.squares ≡ 4
   pub each : (z : ℕ) → z < 4
       → IsNearest scale symbol z (slice_index row.levels z) (slice_index row.squares z)
-  pub ties : (z : ℕ) → z < 2
-      → IsTie (slice_index row.levels z) (slice_index row.levels (z + 2)) (slice_index row.ties z)
+  pub tie_breaks : (z : ℕ) → z < 2
+      → IsTieBreak (slice_index row.levels z) (slice_index row.levels (z + 2)) (slice_index row.tie_breaks z)
 
 -- what the first of two levels comes to: the square and the potential of the state behind it
 abbrev pub through : Nearest → List ℕ → ℕ → ℕ → ℕ

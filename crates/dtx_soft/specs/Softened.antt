@@ -1,15 +1,15 @@
 -- The first data segments of a field, softened, as a function (ATSC A/53 Part 2, trellis coding).
 use Rattle.std.specs.Prelude.{◌≡◌, ℕ, ℤ, pos, ◌<◌, ◌+◌, ◌-◌, ◌*◌, ◌/◌, nat_lt, if◌then◌else◌, List, [], length, map}
-use Rattle.std.specs.Prelude.{slice_index_or}
+use Rattle.std.specs.Prelude.{slice_index_or, sum}
 use Rattle.std.specs.List.{range_with_len}
 use Rattle.dtx_trellis.specs.Pairs.{coder_at}
-use Rattle.dtx_soft.specs.Coders.{costs, symbols_of}
+use Rattle.dtx_soft.specs.Coders.{coder_symbols}
 use Rattle.dtx_soft.specs.LeastPath.{least_levels}
-use Rattle.dtx_soft.specs.Paths.{IsPath, symbol_at}
+use Rattle.dtx_soft.specs.Paths.{IsPath, cost, symbol_at}
 
 -- the symbols of coder e's least path, one in each round
 unfoldable pub least_symbols : ℕ → List (List ℤ) → ℕ → List ℤ
-least_symbols scale segments e = map (symbol_at scale) (least_levels scale (symbols_of segments e))
+least_symbols scale segments e = map (symbol_at scale) (least_levels scale (coder_symbols segments e))
 
 -- what stands for data symbol d, which is one of its coder's and of round d div 12
 unfoldable pub softened_symbol : ℕ → List (List ℤ) → ℕ → ℤ
@@ -25,9 +25,14 @@ softened_segment scale segments i =
 unfoldable pub softened : ℕ → List (List ℤ) → List (List ℤ)
 softened scale segments = map (softened_segment scale segments) (range_with_len 0 (length segments))
 
+-- what coder e's least path costs
+unfoldable pub least_cost : ℕ → List (List ℤ) → ℕ → ℕ
+least_cost scale segments e =
+    cost scale (coder_symbols segments e) (least_levels scale (coder_symbols segments e))
+
 -- what the least paths of all twelve coders cost
 unfoldable pub softened_cost : ℕ → List (List ℤ) → ℕ
-softened_cost scale segments = costs segments (softened scale segments) 12
+softened_cost scale segments = sum (map (least_cost scale segments) (range_with_len 0 12))
 
 -- symbols that are those of a path's own levels
 pub record IsOwn (scale : ℕ) (symbols : List ℤ) : Type 0 where

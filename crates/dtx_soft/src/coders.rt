@@ -2,7 +2,7 @@
 
 ghost use Rattle.std.specs.Prelude.{◌≡◌, ℕ, pos, ◌+◌, ◌*◌, ◌%◌, ◌<◌, ◌≤◌, length, slice_index_or};
 ghost use Rattle.dtx_slice.specs.Unrolled.{symbol_place};
-ghost use Rattle.dtx_soft.specs.Coders.{symbols_of};
+ghost use Rattle.dtx_soft.specs.Coders.{coder_symbols};
 
 use dtx_sizes::{CODERS, SEGMENT, SEGMENT_LEVELS, SEGMENT_ROUNDS, SEGMENT_SYNC};
 
@@ -10,7 +10,7 @@ use dtx_sizes::{CODERS, SEGMENT, SEGMENT_LEVELS, SEGMENT_ROUNDS, SEGMENT_SYNC};
 pub(crate) fn gather(segments: &[[i8; SEGMENT]], coder: usize, symbols: &mut [i8])
     requires coder { coder < CODERS }
     requires room { length symbols.old ≡ SEGMENT_ROUNDS * length segments.now }
-    ensures { symbols.new ≡ symbols_of segments.now coder }
+    ensures { symbols.new ≡ coder_symbols segments.now coder }
 {
     for i in 0..segments.len() {
         gather_segment(

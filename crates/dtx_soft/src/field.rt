@@ -3,7 +3,7 @@
 ghost use Rattle.std.specs.Prelude.{◌≡◌, ℕ, ◌+◌, ◌*◌, ◌≤◌, length, map, slice_index, sum, vec_len};
 ghost use Rattle.std.specs.List.{range_with_len};
 ghost use Rattle.dtx_soft.specs.Least.{HoldPotentials};
-ghost use Rattle.dtx_soft.specs.Coders.{IsSoftened, costs, symbols_of};
+ghost use Rattle.dtx_soft.specs.Coders.{IsSoftened, coder_symbols, coders_distance};
 
 use crate::coders::gather;
 use crate::gaps::{LANES, backward};
@@ -28,8 +28,8 @@ pub(crate) fn soften(
     requires rounds { vec_len rounds.old ≡ MAX_SYMBOLS }
     requires marks { vec_len marks.old ≡ MAX_SYMBOLS }
     ensures segments { IsSoftened walker.old.table.scale segments.old segments.new }
-    ensures cost { result ≡ costs segments.old segments.new CODERS }
-    ensures potentials { HoldPotentials walker.old.table.scale (symbols_of segments.old 11)
+    ensures cost { result ≡ coders_distance segments.old segments.new CODERS }
+    ensures potentials { HoldPotentials walker.old.table.scale (coder_symbols segments.old 11)
         walker.new.potentials.items }
     ensures table { walker.new.table ≡ walker.old.table }
     ensures symbols { vec_len symbols.new ≡ MAX_SYMBOLS }
@@ -50,7 +50,7 @@ pub(crate) fn soften(
 fn hold_last(walker: &mut Walker, symbols: &mut [i8], segments: &[[i8; SEGMENT]])
     requires few { length segments.now ≤ FIELD_PACKETS }
     requires symbols { length symbols.old ≡ SEGMENT_ROUNDS * length segments.now }
-    ensures potentials { HoldPotentials walker.old.table.scale (symbols_of segments.now 11)
+    ensures potentials { HoldPotentials walker.old.table.scale (coder_symbols segments.now 11)
         walker.new.potentials.items }
     ensures table { walker.new.table ≡ walker.old.table }
 {
@@ -70,7 +70,7 @@ fn soften_rounds(
     requires rounds { length rounds.old ≡ SEGMENT_ROUNDS * length segments.old }
     requires marks { length marks.old ≡ SEGMENT_ROUNDS * length segments.old }
     ensures segments { IsSoftened scale segments.old segments.new }
-    ensures cost { result ≡ costs segments.old segments.new CODERS }
+    ensures cost { result ≡ coders_distance segments.old segments.new CODERS }
 {
     lay_out(segments, rounds);
     let gaps = backward(scale, rounds, marks);

@@ -7,12 +7,12 @@ ghost use Rattle.dtx_trellis.specs.Trellis.{AreBits, State, level};
 ghost use Rattle.dtx_soft.specs.Paths.{IsPath, cost, symbol_at};
 ghost use Rattle.dtx_soft.specs.Least.{ArePotentials, IsLeast, NoneCostsLess};
 ghost use Rattle.dtx_soft.specs.Certificate.{IsCertificate};
-ghost use Rattle.dtx_soft.specs.Coders.{IsSoftened, costs, symbols_of};
+ghost use Rattle.dtx_soft.specs.Coders.{IsSoftened, coder_symbols, coders_distance, segments_distance};
 ghost use Rattle.dtx_soft.specs.CostLaws.{AreSigned};
 ghost use Rattle.dtx_soft.specs.Softened.{IsOwn, softened, softened_cost};
 ghost use Rattle.dtx_soft.specs.LeastPath.{least_levels, least_path, least_start};
 
-use dtx_sizes::{CODERS, FIELD_PACKETS, SEGMENT};
+use dtx_sizes::{CODERS, SEGMENT, SEGMENT_ROUNDS};
 
 /// A certificate proves its path a least one: no path from any state costs less.
 pub fn certified()
@@ -43,17 +43,30 @@ pub fn one_least_path()
         → least_path scale symbols ≡ start ∷ levels }
 {}
 
-/// Segments of 832 symbols each that were softened are what the function gives.
+/// What the function gives of segments is softened, and it is the one such list of segments of 832 symbols each.
 pub fn one_softening()
-    ensures { (scale : ℕ) (old new : List (List ℤ)) → IsSoftened scale old new
+    ensures found { (scale : ℕ) (segments : List (List ℤ)) → IsSoftened scale segments (softened scale segments) }
+    ensures one { (scale : ℕ) (old new : List (List ℤ)) → IsSoftened scale old new
         → ((i : ℕ) → i < length new → length (slice_index_or new i []) ≡ SEGMENT) → new ≡ softened scale old }
 {}
 
+/// How far the symbols of all twelve coders are moved, in the sum of the squares, is what their least paths cost. In
+/// segments of 832 symbols each that is how far all symbols are moved, segment by segment.
+pub fn cost_of_softening()
+    ensures coders { (scale : ℕ) (old new : List (List ℤ)) → IsSoftened scale old new
+        → coders_distance old new CODERS ≡ softened_cost scale old }
+    ensures segments { (scale : ℕ) (old new : List (List ℤ)) → IsSoftened scale old new
+        → ((i : ℕ) → i < length old → length (slice_index_or old i []) ≡ SEGMENT)
+        → ((i : ℕ) → i < length new → length (slice_index_or new i []) ≡ SEGMENT)
+        → coders_distance old new CODERS ≡ segments_distance old new }
+{}
+
 /// What the least paths of a field cost at most, where its symbols are signed bytes: none is off a level by more than
-/// 135, and each coder has 21,528.
+/// 128 and seven times the scale, and each coder has 69 in a segment.
 pub fn costs_are_small()
-    ensures { (old new : List (List ℤ)) → length old ≤ FIELD_PACKETS → AreSigned old → IsSoftened 1 old new
-        → costs old new CODERS ≤ 12 * (21528 * 18225) }
+    ensures { (scale : ℕ) (old new : List (List ℤ)) → AreSigned old → IsSoftened scale old new
+        → coders_distance old new CODERS
+        ≤ CODERS * ((128 + 7 * scale) * (128 + 7 * scale) * (SEGMENT_ROUNDS * length old)) }
 {}
 
 /// Segments of 832 symbols each in which each coder's symbols are those of a path's own levels stay as they are, and
@@ -61,7 +74,7 @@ pub fn costs_are_small()
 pub fn keeps_own_field()
     ensures { (scale : ℕ) (segments : List (List ℤ))
         → ((i : ℕ) → i < length segments → length (slice_index_or segments i []) ≡ SEGMENT)
-        → ((e : ℕ) → e < CODERS → IsOwn scale (symbols_of segments e))
+        → ((e : ℕ) → e < CODERS → IsOwn scale (coder_symbols segments e))
         → (softened scale segments ≡ segments) × (softened_cost scale segments ≡ 0) }
 {}
 

@@ -18,6 +18,3 @@ pub use certificate::proves;
 pub use nearest::MAX_SCALE;
 pub use soft::Soft;
 pub use walk::{Found, MAX_SYMBOLS};
-
-#[cfg(test)]
-mod tests;

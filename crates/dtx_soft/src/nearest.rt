@@ -2,7 +2,7 @@
 
 ghost use Rattle.std.specs.Prelude.{◌≡◌, ◌<◌, ◌≤◌, pos, ◌+ℤ◌, ◌≤ℤ◌, IfOk, length};
 ghost use Rattle.dtx_soft.specs.Paths.{squared, symbol_at};
-ghost use Rattle.dtx_soft.specs.Nearest.{AreNearest, IsNearest, IsTable, IsTie};
+ghost use Rattle.dtx_soft.specs.Nearest.{AreNearest, IsNearest, IsTable, IsTieBreak};
 
 use std::alloc::{AllocError, Global};
 
@@ -16,13 +16,13 @@ pub const MAX_SCALE: u8 = 18;
 pub(crate) const MAX_SQUARE: u32 = 64_516;
 
 /// Of each two levels z and z + 4, for z below 4, the one nearest to a symbol, and the square of what the symbol is off
-/// it. Where both are as near it is z. For z = 0 and z = 1 a tie is 1 where the level of z + 2 comes before that of z,
-/// and else 0.
+/// it. Where both are as near it is z. For z = 0 and z = 1 a tie break is 1 where the level of z + 2 comes before that
+/// of z, and else 0.
 #[derive(Clone, Copy, Drop)]
 pub(crate) struct Nearest {
     pub(crate) levels: [u8; 4],
     pub(crate) squares: [u32; 4],
-    pub(crate) ties: [u32; 2],
+    pub(crate) tie_breaks: [u32; 2],
     /// Fills the row up to 32 bytes, so that it is found by a shift.
     filler: u32,
 }
@@ -38,7 +38,7 @@ pub(crate) fn rows_of(alloc: Global, scale: u8) -> Result<Vec<Nearest>, AllocErr
     let empty = Nearest {
         levels: [0; 4],
         squares: [0; 4],
-        ties: [0; 2],
+        tie_breaks: [0; 2],
         filler: 0,
     };
     let mut rows = vec![in alloc; empty; SYMBOLS]?;
@@ -69,14 +69,14 @@ fn row(scale: u8, symbol: i8) -> Nearest
     Nearest {
         levels: [first.0, second.0, third.0, fourth.0],
         squares: [first.1, second.1, third.1, fourth.1],
-        ties: [tie(first.0, third.0), tie(second.0, fourth.0)],
+        tie_breaks: [tie_break(first.0, third.0), tie_break(second.0, fourth.0)],
         filler: 0,
     }
 }
 
 /// 1 where another level comes before a level in order.
-fn tie(level: u8, other: u8) -> u32
-    ensures { IsTie level other result }
+fn tie_break(level: u8, other: u8) -> u32
+    ensures { IsTieBreak level other result }
 {
     if other < level { 1 } else { 0 }
 }

@@ -1,7 +1,7 @@
 //! The symbols of a field's segments round by round, those of the twelve coders side by side.
 
 ghost use Rattle.std.specs.Prelude.{◌≡◌, ℕ, pos, ◌+◌, ◌-◌, ◌*◌, ◌%◌, ◌<◌, ◌≤◌, [], length, slice_index_or};
-ghost use Rattle.dtx_soft.specs.Coders.{KeepsSyncs, symbols_of};
+ghost use Rattle.dtx_soft.specs.Coders.{KeepsSyncs, coder_symbols};
 ghost use Rattle.dtx_soft.specs.Gaps.{column};
 
 use crate::gaps::LANES;
@@ -10,7 +10,7 @@ use dtx_sizes::{CODERS, SEGMENT, SEGMENT_ROUNDS, SEGMENT_SYNC};
 /// Reads the rounds of all segments. Lane e is for coder e; those behind the coders are not used.
 pub(crate) fn lay_out(segments: &[[i8; SEGMENT]], rounds: &mut [[i8; LANES]])
     requires room { length rounds.old ≡ SEGMENT_ROUNDS * length segments.now }
-    ensures { (e : ℕ) → e < CODERS → column rounds.new e ≡ symbols_of segments.now e }
+    ensures { (e : ℕ) → e < CODERS → column rounds.new e ≡ coder_symbols segments.now e }
 {
     for i in 0..segments.len() {
         read_segment(&segments[i], i % 3, SEGMENT_ROUNDS * i, rounds);
@@ -65,7 +65,7 @@ fn read_round(segment: &[i8; SEGMENT], r: usize, turn: usize) -> [i8; LANES]
 /// Writes the rounds of all segments.
 pub(crate) fn put_back(rounds: &[[i8; LANES]], segments: &mut [[i8; SEGMENT]])
     requires room { length rounds.now ≡ SEGMENT_ROUNDS * length segments.old }
-    ensures coders { (e : ℕ) → e < CODERS → symbols_of segments.new e ≡ column rounds.now e }
+    ensures coders { (e : ℕ) → e < CODERS → coder_symbols segments.new e ≡ column rounds.now e }
     ensures syncs { KeepsSyncs segments.old segments.new }
 {
     for i in 0..segments.len() {

@@ -3,7 +3,7 @@
 ghost use Rattle.std.specs.Prelude.{◌≡◌, ℕ, ◌+◌, ◌*◌, ◌%◌, ◌<◌, ◌≤◌, EachIndex, IfOk, length, slice_index};
 ghost use Rattle.dtx_soft.specs.Paths.{cost};
 ghost use Rattle.dtx_soft.specs.Least.{ArePotentials, IsLeast};
-ghost use Rattle.dtx_soft.specs.Coders.{IsSoftened, costs, symbols_of};
+ghost use Rattle.dtx_soft.specs.Coders.{IsSoftened, coder_symbols, coders_distance};
 ghost use Rattle.dtx_soft.specs.Decoder.{new_decoder};
 
 use crate::field::soften;
@@ -95,8 +95,8 @@ impl Soft {
         requires whole { length segments.old % 4 ≡ 0 }
         requires few { length segments.old ≤ FIELD_PACKETS }
         ensures segments { IsSoftened self.old.scale segments.old segments.new }
-        ensures cost { result ≡ costs segments.old segments.new CODERS }
-        ensures potentials { ArePotentials self.old.scale (symbols_of segments.old 11) self.new.potentials }
+        ensures cost { result ≡ coders_distance segments.old segments.new CODERS }
+        ensures potentials { ArePotentials self.old.scale (coder_symbols segments.old 11) self.new.potentials }
         ensures scale { self.new.scale ≡ self.old.scale }
     {
         self.entries = SEGMENT_ROUNDS * segments.len() + 1;

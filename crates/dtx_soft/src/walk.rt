@@ -6,7 +6,7 @@ ghost use Rattle.std.specs.Prelude.{EachIndex, [], length, slice_index};
 ghost use Rattle.std.specs.Prelude.{slice_index_or};
 ghost use Rattle.dtx_soft.specs.Paths.{cost, next_state};
 ghost use Rattle.dtx_soft.specs.Least.{HoldPotentials, IsLeast, IsLeastFrom};
-ghost use Rattle.dtx_soft.specs.Nearest.{AreNearest, IsTaken, IsTie, cheapest};
+ghost use Rattle.dtx_soft.specs.Nearest.{AreNearest, IsTaken, IsTieBreak, cheapest};
 
 use crate::nearest::{LEVELS, MAX_SQUARE, Nearest};
 use crate::table::Table;
@@ -121,13 +121,14 @@ fn follow(table: &Table, symbols: &[i8], start: u8, potentials: &[[u32; 4]], lev
 #[inline(always)]
 fn taken(row: &Nearest, behind: &[u32; 4]) -> u8
     requires squares { (z : ℕ) → z < 4 → slice_index row.now.squares z ≤ MAX_SQUARE }
-    requires ties { (z : ℕ) → z < 2
-        → IsTie (slice_index row.now.levels z) (slice_index row.now.levels (z + 2)) (slice_index row.now.ties z) }
+    requires tie_breaks { (z : ℕ) → z < 2
+        → IsTieBreak (slice_index row.now.levels z) (slice_index row.now.levels (z + 2))
+        (slice_index row.now.tie_breaks z) }
     requires behind { (s : ℕ) → s < 4 → slice_index behind.now s ≤ MAX_SQUARE * MAX_SYMBOLS }
     ensures { (s : ℕ) → s < 4 → IsTaken row.now behind.now s (result / 2 ^ (2 * (1 - s % 2) + s / 2) % 2) }
 {
     let [first, second, third, fourth] = row.squares;
-    let [even, odd] = row.ties;
+    let [even, odd] = row.tie_breaks;
     let a = is_less(third + behind[2], first + behind[0] + even);
     let b = is_less(third + behind[0], first + behind[2] + even);
     let c = is_less(fourth + behind[3], second + behind[1] + odd);

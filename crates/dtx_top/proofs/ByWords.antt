@@ -10,16 +10,17 @@ use Rattle.dtx_meaning.specs.Status.{IsOfInputs}
 use Rattle.dtx_meaning.specs.declared.status.Status.{Status}
 use Rattle.dtx_meaning.specs.declared.status.Status.TheVariants.{Usage, WriteFault, Memory}
 use Rattle.dtx_jobs.specs.Answers.{Knows}
-use Rattle.dtx_jobs.specs.OfWords.{IsOfWords, excite_same, make_same, numbers_same, three_same, two_behind_same}
-use Rattle.dtx_jobs.specs.OfWords.{two_same}
+use Rattle.dtx_jobs.specs.OfWords.{IsOfWords, acquire_same, excite_same, make_same, number_same, numbers_same}
+use Rattle.dtx_jobs.specs.OfWords.{dvb_same, three_same, two_same}
 use Rattle.dtx_words.specs.Fitting.{command_of, fit_fields, fits}
 use Rattle.dtx_words.specs.FittingLaws.{command_fits}
 use Rattle.dtx_words.specs.Line.{finished}
 use Rattle.dtx_words.specs.Names.{names_at, repeated}
-use Rattle.dtx_words.specs.Rows.{adapt_row, code_row, excite_row, make_row, net_row, trial_row}
+use Rattle.dtx_words.specs.Rows.{acquire_row, adapt_row, code_row, excite_row, make_row, net_row, trial_row}
 use Rattle.dtx_words.specs.declared.rows.Command.{Command}
 use Rattle.dtx_words.specs.declared.rows.Command.TheVariants.{Adapt, Code, Excite, Receive, Net, Make, Hurt, Place}
-use Rattle.dtx_words.specs.declared.rows.Command.TheVariants.{Trial, Soft, DvbCode, DvbRead}
+use Rattle.dtx_words.specs.declared.rows.Command.TheVariants.{Trial, Soft, Mend, DvbCode, DvbRead, Repeat}
+use Rattle.dtx_words.specs.declared.rows.Command.TheVariants.{Acquire, Watch}
 use Rattle.dtx_words.specs.declared.rows.Field.{Field}
 use Rattle.dtx_words.specs.declared.rows.Field.TheVariants.{Second}
 use Rattle.dtx_words.specs.declared.rows.SecondWord.{SecondWord}
@@ -81,9 +82,9 @@ two_told verb words status fit = with_two (λ ws. IsOfWords (two_same (verb ∷ 
 
 -- `.. .. IN OUT`
 two_behind_told : (word : SecondWord) (verb : List ℕ) (words : List (List ℕ)) (status : Status)
-    → fit_fields (Second word ∷ code_row.fields) words ≡ true → IsOfWords (two_behind_same (verb ∷ words)) 1 status
+    → fit_fields (Second word ∷ code_row.fields) words ≡ true → IsOfWords (dvb_same (verb ∷ words)) 1 status
     → IsOfInputs (is_some (repeated (names_at (Second word ∷ code_row.fields) words))) 1 status
-two_behind_told word verb words status fit = with_three (λ ws. IsOfWords (two_behind_same (verb ∷ ws)) 1 status
+two_behind_told word verb words status fit = with_three (λ ws. IsOfWords (dvb_same (verb ∷ ws)) 1 status
     → IsOfInputs (is_some (repeated (names_at (Second word ∷ code_row.fields) ws))) 1 status) words
     (fit_length (Second word ∷ code_row.fields) words fit)
     (λ a b c is. subst (λ (s : Bool). IsOfInputs s 1 status) (sym (second_repeated c (bytes_eq b c))) is)
@@ -103,6 +104,11 @@ numbers_told None second same inputs status one other is = let e : false ≡ tru
 numbers_told (Some first) None same inputs status one other is = let e : false ≡ true = other in cc
 numbers_told (Some first) (Some second) same inputs status one other is = is
 
+number_told : (number : Option ℕ) (same : Bool) (inputs : ℕ) (status : Status) → is_some number ≡ true
+    → IsOfWords (number_same number same) inputs status → IsOfInputs same inputs status
+number_told None same inputs status one is = let e : false ≡ true = one in cc
+number_told (Some number) same inputs status one is = is
+
 -- `excite FEED ADDRESS DELAY OUT LOG`
 excite_told : (verb : List ℕ) (words : List (List ℕ)) (status : Status) → fit_fields excite_row.fields words ≡ true
     → IsOfWords (excite_same (verb ∷ words)) 1 status
@@ -115,6 +121,17 @@ excite_told verb words status fit = with_five (λ ws. fit_fields excite_row.fiel
     let behind = (and_parts _ _ fit).1 in
     let last = (and_parts _ _ behind).1 in
     numbers_told _ _ _ 1 status (and_parts _ _ behind).0 (and_parts _ _ last).0 is) fit
+
+-- `acquire SCALE IN OUT`
+acquire_told : (verb : List ℕ) (words : List (List ℕ)) (status : Status) → fit_fields acquire_row.fields words ≡ true
+    → IsOfWords (acquire_same (verb ∷ words)) 1 status
+    → IsOfInputs (is_some (repeated (names_at acquire_row.fields words))) 1 status
+acquire_told verb words status fit = with_three (λ ws. fit_fields acquire_row.fields ws ≡ true
+    → IsOfWords (acquire_same (verb ∷ ws)) 1 status
+    → IsOfInputs (is_some (repeated (names_at acquire_row.fields ws))) 1 status) words
+    (fit_length acquire_row.fields words fit)
+    (λ a b c fit is. subst (λ (s : Bool). IsOfInputs s 1 status) (sym (second_repeated c (bytes_eq b c)))
+    (number_told _ _ 1 status (and_parts _ _ fit).0 is)) fit
 
 -- `make SEED COUNT OUT`
 make_told : (verb : List ℕ) (words : List (List ℕ)) (status : Status) → fit_fields make_row.fields words ≡ true
@@ -158,10 +175,14 @@ fitted_told Hurt (verb ∷ words) status fit is = (three_told verb words status 
 fitted_told Place (verb ∷ words) status fit is = (two_told verb words status (and_parts _ _ fit).1 is.0, is.1)
 fitted_told Trial (verb ∷ words) status fit is = (trial_told verb words status (and_parts _ _ fit).1 is.0, is.1)
 fitted_told Soft (verb ∷ words) status fit is = (two_told verb words status (and_parts _ _ fit).1 is.0, is.1)
+fitted_told Mend (verb ∷ words) status fit is = (two_told verb words status (and_parts _ _ fit).1 is.0, is.1)
 fitted_told DvbCode (verb ∷ words) status fit is =
     (two_behind_told second.Code verb words status (and_parts _ _ fit).1 is.0, is.1)
 fitted_told DvbRead (verb ∷ words) status fit is =
     (two_behind_told second.Read verb words status (and_parts _ _ fit).1 is.0, is.1)
+fitted_told Repeat (verb ∷ words) status fit is = (excite_told verb words status (and_parts _ _ fit).1 is.0, is.1)
+fitted_told Acquire (verb ∷ words) status fit is = (acquire_told verb words status (and_parts _ _ fit).1 is.0, is.1)
+fitted_told Watch (verb ∷ words) status fit is = (two_told verb words status (and_parts _ _ fit).1 is.0, is.1)
 
 -- ---- behind the line
 
@@ -188,41 +209,13 @@ network_finished status (Err sink.Failed) is = elim (finished_failed status) [
 ]
 
 -- each command knows want of memory, and that its line could not be printed
-memory_known : (command : Command) → Knows command Memory
-memory_known Adapt = tt
-memory_known Code = tt
-memory_known Excite = tt
-memory_known Receive = tt
-memory_known Net = tt
-memory_known Make = tt
-memory_known Hurt = tt
-memory_known Place = tt
-memory_known Trial = tt
-memory_known Soft = tt
-memory_known DvbCode = tt
-memory_known DvbRead = tt
-
-write_fault_known : (command : Command) → Knows command WriteFault
-write_fault_known Adapt = tt
-write_fault_known Code = tt
-write_fault_known Excite = tt
-write_fault_known Receive = tt
-write_fault_known Net = tt
-write_fault_known Make = tt
-write_fault_known Hurt = tt
-write_fault_known Place = tt
-write_fault_known Trial = tt
-write_fault_known Soft = tt
-write_fault_known DvbCode = tt
-write_fault_known DvbRead = tt
-
 knows_finished : (command : Command) (status : Status) (line : Result (Unit {0}) SinkNo) → Knows command status
     → Knows command (finished status line)
 knows_finished command status (Ok u) is = is
-knows_finished command status (Err sink.Memory) is = memory_known command
+knows_finished command status (Err sink.Memory) is = tt
 knows_finished command status (Err sink.Failed) is = elim (finished_failed status) [
   | inl done ↦ (let P : Status → Type 0 = λ s. Knows command (finished s (Err sink.Failed)) in
-      subst P (sym done) (write_fault_known command))
+      subst P (sym done) tt)
   | inr kept ↦ (let P : Status → Type 0 = λ s. Knows command s in subst P (sym kept) is)
 ]
 
@@ -234,6 +227,7 @@ usage_finished status (Err sink.Failed) is = inl (ap (λ s. finished s (Err sink
 
 by_words_finished : (command : Command) (words : List (List ℕ)) (status : Status) (line : Result (Unit {0}) SinkNo)
     → IsByWords (Some command) words status → IsByWords (Some command) words (finished status line)
+by_words_finished Net words status line is = network_finished status line is
 by_words_finished Adapt words status line is =
     (inputs_finished _ _ status line is.0, knows_finished Adapt status line is.1)
 by_words_finished Code words status line is =
@@ -242,7 +236,6 @@ by_words_finished Excite words status line is =
     (inputs_finished _ _ status line is.0, knows_finished Excite status line is.1)
 by_words_finished Receive words status line is =
     (inputs_finished _ _ status line is.0, knows_finished Receive status line is.1)
-by_words_finished Net words status line is = network_finished status line is
 by_words_finished Make words status line is =
     (inputs_finished _ _ status line is.0, knows_finished Make status line is.1)
 by_words_finished Hurt words status line is =
@@ -253,10 +246,18 @@ by_words_finished Trial words status line is =
     (inputs_finished _ _ status line is.0, knows_finished Trial status line is.1)
 by_words_finished Soft words status line is =
     (inputs_finished _ _ status line is.0, knows_finished Soft status line is.1)
+by_words_finished Mend words status line is =
+    (inputs_finished _ _ status line is.0, knows_finished Mend status line is.1)
 by_words_finished DvbCode words status line is =
     (inputs_finished _ _ status line is.0, knows_finished DvbCode status line is.1)
 by_words_finished DvbRead words status line is =
     (inputs_finished _ _ status line is.0, knows_finished DvbRead status line is.1)
+by_words_finished Repeat words status line is =
+    (inputs_finished _ _ status line is.0, knows_finished Repeat status line is.1)
+by_words_finished Acquire words status line is =
+    (inputs_finished _ _ status line is.0, knows_finished Acquire status line is.1)
+by_words_finished Watch words status line is =
+    (inputs_finished _ _ status line is.0, knows_finished Watch status line is.1)
 
 -- the command that the words fit, behind its line
 pub words_told : (command : Option Command) (words : List (List ℕ)) (status : Status)

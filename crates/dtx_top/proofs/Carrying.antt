@@ -88,7 +88,7 @@ fault_stays fed filled steps outcome fault = at_test (is_done outcome.status) (f
     reported = record {
       status = Done;
       numbers = fed ∷ filled ∷ steps ∷ slice_index outcome.numbers 2 ∷ slice_index outcome.numbers 3 ∷ slice_index
-          outcome.numbers 4 ∷ [];
+          outcome.numbers 4 ∷ 0 ∷ [];
       shown = 6;
     }
 
@@ -102,7 +102,7 @@ status_stays fed filled steps outcome none = ap (λ (o : Outcome). o.status)
     (cond-false (is_done outcome.status) (record {
       status = Done;
       numbers = fed ∷ filled ∷ steps ∷ slice_index outcome.numbers 2 ∷ slice_index outcome.numbers 3 ∷ slice_index
-          outcome.numbers 4 ∷ [];
+          outcome.numbers 4 ∷ 0 ∷ [];
       shown = 6;
     }) outcome none)
 

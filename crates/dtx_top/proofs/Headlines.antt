@@ -94,7 +94,7 @@ done_back fed filled steps outcome done = by_test (is_done outcome.status) refl 
     reported = record {
       status = Done;
       numbers = fed ∷ filled ∷ steps ∷ slice_index outcome.numbers 2 ∷ slice_index outcome.numbers 3 ∷ slice_index
-          outcome.numbers 4 ∷ [];
+          outcome.numbers 4 ∷ 0 ∷ [];
       shown = 6;
     }
 

@@ -19,7 +19,8 @@ use Rattle.dtx_words.specs.Names.{line_name}
 use Rattle.dtx_words.specs.Printed.{printed, IsPut}
 use Rattle.dtx_words.specs.declared.rows.Command.{Command}
 use Rattle.dtx_words.specs.declared.rows.Command.TheVariants.{Adapt, Code, Excite, Receive, Net, Make, Hurt, Place}
-use Rattle.dtx_words.specs.declared.rows.Command.TheVariants.{Trial, Soft, DvbCode, DvbRead}
+use Rattle.dtx_words.specs.declared.rows.Command.TheVariants.{Trial, Soft, Mend, DvbCode, DvbRead, Repeat}
+use Rattle.dtx_words.specs.declared.rows.Command.TheVariants.{Acquire, Watch}
 use Rattle.dtx_top.specs.Lines.{name_kept, names_told, HasLine, HasPartLine, IsSomeCount, IsSomeLine, IsSomeName}
 use Rattle.dtx_top.specs.Lines.{IsToldLine}
 use Rattle.dtx_top.specs.NetAnswers.{ShowsNetwork}
@@ -96,8 +97,12 @@ name_told (Some Hurt) words held status kept is = refl
 name_told (Some Place) words held status kept is = refl
 name_told (Some Trial) words held status kept is = refl
 name_told (Some Soft) words held status kept is = refl
+name_told (Some Mend) words held status kept is = refl
 name_told (Some DvbCode) words held status kept is = refl
 name_told (Some DvbRead) words held status kept is = refl
+name_told (Some Repeat) words held status kept is = refl
+name_told (Some Acquire) words held status kept is = refl
+name_told (Some Watch) words held status kept is = refl
 name_told None words held status kept is = refl
 
 -- the line of an outcome is that of the meaning
@@ -149,8 +154,12 @@ some_name (Some Hurt) words status kept is = refl
 some_name (Some Place) words status kept is = refl
 some_name (Some Trial) words status kept is = refl
 some_name (Some Soft) words status kept is = refl
+some_name (Some Mend) words status kept is = refl
 some_name (Some DvbCode) words status kept is = refl
 some_name (Some DvbRead) words status kept is = refl
+some_name (Some Repeat) words status kept is = refl
+some_name (Some Acquire) words status kept is = refl
+some_name (Some Watch) words status kept is = refl
 some_name None words status kept is = refl
 
 -- how many numbers stand in a line, whatever the files are
@@ -166,8 +175,12 @@ some_count (Some Hurt) outcome none is = tt
 some_count (Some Place) outcome none is = tt
 some_count (Some Trial) outcome none is = tt
 some_count (Some Soft) outcome none is = tt
+some_count (Some Mend) outcome none is = tt
 some_count (Some DvbCode) outcome none is = tt
 some_count (Some DvbRead) outcome none is = tt
+some_count (Some Repeat) outcome none is = tt
+some_count (Some Acquire) outcome none is = tt
+some_count (Some Watch) outcome none is = tt
 some_count None outcome none is = λ done. let e : Usage ≡ Done = sym (none refl) ∙ done in cc
 
 -- the line that is left, whatever the files are

@@ -22,7 +22,7 @@ use Rattle.dtx_exciter.specs.Order.{Order, orders}
 use Rattle.dtx_exciter.specs.Packets.{readings, under}
 use Rattle.dtx_exciter.specs.Told.{served}
 use Rattle.dtx_exciter.specs.ForceLaws.{force_first, force_stands}
-use Rattle.dtx_files.specs.Symbols.{byte_of_symbol}
+use Rattle.dtx_jobs.specs.SymbolsBackLaws.{length-segment_bytes}
 use Rattle.dtx_net.specs.Lives.{lives_of}
 use Rattle.dtx_net.specs.Sent.{sent_segments}
 use Rattle.dtx_net.specs.Steps.{Step}
@@ -159,14 +159,7 @@ sent_long t who steps = flat_long (emission t.address t.delay) (lives_of who ste
 
 -- ---- its symbol file
 
-length-symbols_of : (segments : List (List ℤ)) → AreSegments segments
-    → length (symbols_of segments) ≡ 832 * length segments
-length-symbols_of [] long = refl
-length-symbols_of (s ∷ ss) long = omega (arith, length-append s (symbols_of ss), long.0, length-symbols_of ss long.1)
-
 pub length-symbol_file : (t : Transmitter) (who : ℕ) (steps : List Step)
     → length (symbol_file t who steps) ≡ 832 * length (sent_segments t who steps)
 unfolding symbol_file
-length-symbol_file t who steps =
-    length-map (symbols_of (sent_segments t who steps)) byte_of_symbol
-    ∙ length-symbols_of (sent_segments t who steps) (sent_long t who steps)
+length-symbol_file t who steps = length-segment_bytes (sent_segments t who steps) (sent_long t who steps)

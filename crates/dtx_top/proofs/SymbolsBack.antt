@@ -19,52 +19,15 @@ use Rattle.dtx_exciter.specs.Emission.{emission}
 use Rattle.dtx_exciter.specs.Order.{Order, orders}
 use Rattle.dtx_exciter.specs.Packets.{readings, under}
 use Rattle.dtx_exciter.specs.Told.{served}
-use Rattle.dtx_files.specs.Symbols.{byte_of_symbol}
-use Rattle.dtx_jobs.specs.SymbolFile.{symbol_of_byte}
+use Rattle.dtx_jobs.specs.SymbolsBackLaws.{AreBack, EachBack, IsBack, each_append, each_at, each_drop, each_map}
+use Rattle.dtx_jobs.specs.SymbolsBackLaws.{each_range}
+use Rattle.dtx_jobs.specs.SymbolsBackLaws.{each_take, level_back}
 use Rattle.dtx_net.specs.Lives.{lives_of}
 use Rattle.dtx_net.specs.Sent.{sent_segments}
 use Rattle.dtx_net.specs.Steps.{Step}
 use Rattle.dtx_plan.specs.declared.transmitter.Transmitter.{Transmitter}
 
--- the symbol comes back from its byte
-abbrev pub IsBack : ℤ → Type 0
-IsBack symbol = symbol_of_byte (byte_of_symbol symbol) ≡ symbol
-
--- each of the symbols does
-abbrev pub AreBack : List ℤ → Type 0
-AreBack symbols = AllByRecursion IsBack symbols
-
--- each symbol of each of the segments does
-abbrev pub EachBack : List (List ℤ) → Type 0
-EachBack segments = AllByRecursion AreBack segments
-
 -- ---- what holds of each element of a list
-
-each_append : {X : Type 0} (P : X → Type 0) (xs ys : List X) → AllByRecursion P xs → AllByRecursion P ys
-    → AllByRecursion P (xs ++ ys)
-each_append P [] ys h g = g
-each_append P (x ∷ xs) ys h g = (h.0, each_append P xs ys h.1 g)
-
-each_take : {X : Type 0} (P : X → Type 0) (n : ℕ) (xs : List X) → AllByRecursion P xs → AllByRecursion P (take n xs)
-each_take P zero xs h = tt
-each_take P (suc n) [] h = tt
-each_take P (suc n) (x ∷ xs) h = (h.0, each_take P n xs h.1)
-
-each_drop : {X : Type 0} (P : X → Type 0) (n : ℕ) (xs : List X) → AllByRecursion P xs → AllByRecursion P (drop n xs)
-each_drop P zero xs h = h
-each_drop P (suc n) [] h = tt
-each_drop P (suc n) (x ∷ xs) h = each_drop P n xs h.1
-
-each_map : {X Y : Type 0} (P : X → Type 0) (Q : Y → Type 0) (f : X → Y) (xs : List X) → ((x : X) → P x → Q (f x))
-    → AllByRecursion P xs → AllByRecursion Q (map f xs)
-each_map P Q f [] gives h = tt
-each_map P Q f (x ∷ xs) gives h = (gives x h.0, each_map P Q f xs gives h.1)
-
-each_range : {X : Type 0} (P : X → Type 0) (f : ℕ → X) (a n : ℕ) → ((i : ℕ) → a ≤ i → i < a + n → P (f i))
-    → AllByRecursion P (map f (range_with_len a n))
-each_range P f a zero at = tt
-each_range P f a (suc n) at =
-    (at a (omega arith) (omega arith), each_range P f (a + 1) n (λ i l m. at i (omega (arith, l)) (omega (arith, m))))
 
 each_flat : {X Y : Type 0} (P : Y → Type 0) (f : X → List Y) (xs : List X) → ((x : X) → AllByRecursion P (f x))
     → AllByRecursion P (flat_map f xs)
@@ -88,18 +51,6 @@ bits_back (b ∷ bs) = (bit_back b, bits_back bs)
 front_back : AreBack segment_sync
 unfolding segment_sync
 front_back = bits_back (1 ∷ 0 ∷ 0 ∷ 1 ∷ [])
-
-level_back : (z : ℕ) → z < 8 → IsBack (symbol_of z)
-unfolding symbol_of
-level_back zero l = refl
-level_back (suc zero) l = refl
-level_back (suc (suc zero)) l = refl
-level_back (suc (suc (suc zero))) l = refl
-level_back (suc (suc (suc (suc zero)))) l = refl
-level_back (suc (suc (suc (suc (suc zero))))) l = refl
-level_back (suc (suc (suc (suc (suc (suc zero)))))) l = refl
-level_back (suc (suc (suc (suc (suc (suc (suc zero))))))) l = refl
-level_back (suc (suc (suc (suc (suc (suc (suc (suc z)))))))) l = absurd (omega arith)
 
 -- ---- segments
 
@@ -158,15 +109,11 @@ before_back address delay packets i = by_test (nat_le 4 i)
     by_test true = at_back address delay packets (i - 4)
     by_test false = tt
 
-one_back : (ss : List (List ℤ)) (i : ℕ) → EachBack ss → AreBack (get_or ss i [])
-one_back [] i each = tt
-one_back (s ∷ ss) zero each = each.0
-one_back (s ∷ ss) (suc i) each = one_back ss i each.1
-
 last_back : (b : List ℤ) (bs : List (List ℤ)) → EachBack (b ∷ bs)
     → AreBack (last_of (slice_index_or (b ∷ bs) (length bs) []))
 unfolding last_of
-last_back b bs each = each_drop IsBack 820 (slice_index_or (b ∷ bs) (length bs) []) (one_back (b ∷ bs) (length bs) each)
+last_back b bs each = each_drop IsBack 820 (slice_index_or (b ∷ bs) (length bs) [])
+    (each_at AreBack (b ∷ bs) (length bs) [] each tt)
 
 with_back : (i : ℕ) (before sent : List (List ℤ)) → EachBack before → EachBack sent
     → EachBack (behind_field_sync i before sent)

@@ -6,12 +6,13 @@ use Rattle.dtx_meaning.specs.Status.{IsOfInputs}
 use Rattle.dtx_meaning.specs.declared.status.Status.{Status}
 use Rattle.dtx_meaning.specs.declared.status.Status.TheVariants.{Done, Usage, Absent, ReadFault, WriteFault, Memory}
 use Rattle.dtx_jobs.specs.Answers.{Knows}
-use Rattle.dtx_jobs.specs.OfWords.{IsOfWords, excite_same, make_same, three_same, two_behind_same, two_same}
+use Rattle.dtx_jobs.specs.OfWords.{IsOfWords, acquire_same, dvb_same, excite_same, make_same, three_same, two_same}
 use Rattle.dtx_words.specs.Names.{names_of, repeated}
 use Rattle.dtx_words.specs.Rows.{row_of}
 use Rattle.dtx_words.specs.declared.rows.Command.{Command}
 use Rattle.dtx_words.specs.declared.rows.Command.TheVariants.{Adapt, Code, Excite, Receive, Net, Make, Hurt, Place}
-use Rattle.dtx_words.specs.declared.rows.Command.TheVariants.{Trial, Soft, DvbCode, DvbRead}
+use Rattle.dtx_words.specs.declared.rows.Command.TheVariants.{Trial, Soft, Mend, DvbCode, DvbRead, Repeat}
+use Rattle.dtx_words.specs.declared.rows.Command.TheVariants.{Acquire, Watch}
 use Rattle.dtx_words.specs.declared.rows.Field.{Field}
 use Rattle.dtx_words.specs.declared.rows.Field.TheVariants.{Input}
 use Rattle.dtx_top.specs.HeadlineOfFiles.{HasHeadline}
@@ -95,5 +96,9 @@ IsOfCommand (Some Hurt) words status = IsOfWords (three_same words) 2 status × 
 IsOfCommand (Some Place) words status = IsOfWords (two_same words) 1 status × Knows Place status
 IsOfCommand (Some Trial) words status = IsOfWords (trial_same words) 3 status × Knows Trial status
 IsOfCommand (Some Soft) words status = IsOfWords (two_same words) 1 status × Knows Soft status
-IsOfCommand (Some DvbCode) words status = IsOfWords (two_behind_same words) 1 status × Knows DvbCode status
-IsOfCommand (Some DvbRead) words status = IsOfWords (two_behind_same words) 1 status × Knows DvbRead status
+IsOfCommand (Some Mend) words status = IsOfWords (two_same words) 1 status × Knows Mend status
+IsOfCommand (Some DvbCode) words status = IsOfWords (dvb_same words) 1 status × Knows DvbCode status
+IsOfCommand (Some DvbRead) words status = IsOfWords (dvb_same words) 1 status × Knows DvbRead status
+IsOfCommand (Some Repeat) words status = IsOfWords (excite_same words) 1 status × Knows Repeat status
+IsOfCommand (Some Acquire) words status = IsOfWords (acquire_same words) 1 status × Knows Acquire status
+IsOfCommand (Some Watch) words status = IsOfWords (two_same words) 1 status × Knows Watch status

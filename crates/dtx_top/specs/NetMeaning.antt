@@ -49,7 +49,7 @@ abbrev pub with_received : ℕ → ℕ → ℕ → Outcome → Outcome
 with_received fed filled steps outcome = if is_done outcome.status then record {
   status = Done;
   numbers = fed ∷ filled ∷ steps ∷ slice_index outcome.numbers 2 ∷ slice_index outcome.numbers 3 ∷ slice_index
-      outcome.numbers 4 ∷ [];
+      outcome.numbers 4 ∷ 0 ∷ [];
   shown = 6;
 } else outcome
 
@@ -69,7 +69,11 @@ received_past None damage symbols = meaning_of_file segments (damaged_making dam
 -- the numbers of a network without a receiver: the packets of the feed, the placeholders filled, the packets given to
 -- exciters
 abbrev pub played_outcome : ℕ → ℕ → ℕ → Outcome
-played_outcome fed filled steps = record { status = Done; numbers = fed ∷ filled ∷ steps ∷ 0 ∷ 0 ∷ 0 ∷ []; shown = 3 }
+played_outcome fed filled steps = record {
+  status = Done;
+  numbers = fed ∷ filled ∷ steps ∷ 0 ∷ 0 ∷ 0 ∷ 0 ∷ [];
+  shown = 3;
+}
 
 -- what the events write of a stream, and its numbers
 abbrev pub playing : whole.Plan → NetPlan → List (List ℕ) → Meaning

@@ -11,8 +11,6 @@ mod replaying;
 mod top;
 mod trial_command;
 mod trial_plan;
-#[cfg(test)]
-mod worked_network;
 
 pub use dtx_meaning::Status;
 pub use top::run;

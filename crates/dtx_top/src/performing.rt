@@ -12,7 +12,10 @@ ghost use Rattle.dtx_top.specs.NetAnswers.{ShowsNetwork};
 use crate::net_command::{NetOutcome, net};
 use crate::trial_command::trial;
 use arrayvec::ArrayString;
-use dtx_jobs::{adapt, code, dvb_code, dvb_read, excite, hurt, make, place, receive, soft};
+use dtx_jobs::{
+    acquire, adapt, code, dvb_code, dvb_read, excite, hurt, make, mend, place, receive, repeat,
+    soft, watch,
+};
 use dtx_meaning::{Outcome, Status, ended};
 use dtx_outside::{Shelf, Word};
 use dtx_words::Command;
@@ -52,8 +55,12 @@ pub(crate) fn perform<S: Shelf>(
         Some(Command::Place) => nameless(place(alloc, words, shelf)),
         Some(Command::Trial) => nameless(trial(alloc, words, shelf)),
         Some(Command::Soft) => nameless(soft(alloc, words, shelf)),
+        Some(Command::Mend) => nameless(mend(alloc, words, shelf)),
         Some(Command::DvbCode) => nameless(dvb_code(alloc, words, shelf)),
         Some(Command::DvbRead) => nameless(dvb_read(alloc, words, shelf)),
+        Some(Command::Repeat) => nameless(repeat(alloc, words, shelf)),
+        Some(Command::Acquire) => nameless(acquire(alloc, words, shelf)),
+        Some(Command::Watch) => nameless(watch(alloc, words, shelf)),
         None => nameless(ended(Status::Usage)),
     }
 }

@@ -20,6 +20,7 @@ use dtx_jobs::{Damaged, Reception, first_past};
 use dtx_meaning::{Outcome, Status, ended};
 use dtx_outside::Shelf;
 use dtx_plan::ReceivePlan;
+use dtx_receiver::Receiver;
 use dtx_words::{received_name, symbol_name};
 use std::alloc::Global;
 
@@ -57,7 +58,7 @@ fn receive<S: Shelf>(alloc: Global, shelf: &mut S, receiver: &ReceivePlan) -> Ou
     ensures network { IsOfReplay (Some receiver.now) result.status }
     ensures gone { HasGone (S.counts shelf.old) (S.counts shelf.new) (blame_of result.status) }
 {
-    match Reception::new(alloc) {
+    match Reception::<Receiver>::new(alloc) {
         Ok(reception) => {
             let name = symbol_name(receiver.from);
             let input = Input {

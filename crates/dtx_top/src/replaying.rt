@@ -167,7 +167,7 @@ fn receive_played<S: Shelf>(
         }
         None => Outcome {
             status: Status::Done,
-            numbers: [fed.numbers[0], fed.numbers[1], played.steps(), 0, 0, 0],
+            numbers: [fed.numbers[0], fed.numbers[1], played.steps(), 0, 0, 0, 0],
             shown: 3,
         },
     }
@@ -182,7 +182,7 @@ fn with_received(fed: &Outcome, steps: u64, received: Outcome) -> Outcome
 {
     match received.status {
         Status::Done => {
-            let [_, _, packets, fixed, flagged, _] = received.numbers;
+            let [_, _, packets, fixed, flagged, _, _] = received.numbers;
             Outcome {
                 status: Status::Done,
                 numbers: [
@@ -192,6 +192,7 @@ fn with_received(fed: &Outcome, steps: u64, received: Outcome) -> Outcome
                     packets,
                     fixed,
                     flagged,
+                    0,
                 ],
                 shown: 6,
             }

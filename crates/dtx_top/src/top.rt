@@ -65,10 +65,25 @@ use std::alloc::Global;
 /// whole groups of four segments become those of the least path of each trellis coder, in the sum of the squares (ATSC
 /// A/53 Part 2, trellis coding); all other segments stay.
 ///
+/// `mend IN OUT` writes the packets of the symbols IN to OUT as `receive` does, where a symbol of -128 says that
+/// nothing was received there: of each word up to e wrong bytes and f missing ones are put right, 2e + f being at most
+/// 20.
+///
 /// `dvb code IN OUT` writes the packets of IN, which begin with 0x47, to OUT as EN 300 429 sends them: randomized, as
 /// Reed-Solomon codewords of 204 bytes, interleaved. `dvb read IN OUT` writes the packets of such bytes, of which the
 /// first begins a group of eight packets, to OUT: one for each block of 204 bytes behind the first eleven, each with up
 /// to eight wrong bytes of its word put right, or flagged where its word has no correction.
+///
+/// `repeat IN ADDRESS DELAY OUT LOG` receives the symbols IN, restores the cadence marks of their packets from the
+/// field syncs, and gives them to an exciter with ADDRESS and DELAY, as `excite` does: each run is a life of its own.
+///
+/// `acquire SCALE IN OUT` finds the fields of the capture IN, which has one signed byte a symbol and SCALE steps a
+/// unit, 1 to 18, and writes their segments to OUT, with the syncs restored and the symbols decided (the profile's
+/// own).
+///
+/// `watch FEED OUT` writes a line to OUT for each event of FEED: anchors that are found and lost, and of each
+/// operations packet whether it reads, whether its states are those of the coders, and whether its clock runs (the
+/// profile's own).
 ///
 /// Words that fit no command end in `Usage`.
 pub fn run<S: Shelf, O: Sink>(alloc: Global, words: &[Word], shelf: &mut S, out: &mut O) -> Status
@@ -159,20 +174,3 @@ fn trial_input(status: Status) -> &'static str
 {
     name_among(status, &[trial_name(), feed_name(), "tx-3.sym"])
 }
-
-#[cfg(test)]
-mod dvb_tests;
-#[cfg(test)]
-mod failing_tests;
-#[cfg(test)]
-mod net_tests;
-#[cfg(test)]
-mod page_tests;
-#[cfg(test)]
-mod place_tests;
-#[cfg(test)]
-mod row_tests;
-#[cfg(test)]
-mod tests;
-#[cfg(test)]
-mod trial_tests;

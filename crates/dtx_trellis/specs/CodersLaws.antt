@@ -21,7 +21,7 @@ pub coders_apart : (s r p o : ℕ) → p < 12 → o < 12 → p ≢ o → coder_a
 coders_apart s r p o l m h e =
     h (turn_apart ((s + r / 69) % 3) p o (omega arith) l m (sym (coder_is s r p l) ∙ e ∙ coder_is s r o m))
 
-turn_back : (x e : ℕ) → x < 3 → e < 12 → ((e + 12 - 4 * x) % 12 + 4 * x) % 12 ≡ e
+pub turn_back : (x e : ℕ) → x < 3 → e < 12 → ((e + 12 - 4 * x) % 12 + 4 * x) % 12 ≡ e
 turn_back x e l m = omega arith
 
 -- each coder has a place in a round

@@ -3,7 +3,8 @@ use Rattle.std.specs.Prelude.{ℕ, ◌-◌, ◌^◌, Bool, true, false, not, ◌
 use Rattle.std.specs.List.{list_any}
 use Rattle.dtx_words.specs.declared.rows.Command.{Command}
 use Rattle.dtx_words.specs.declared.rows.Command.TheVariants.{Adapt, Code, Excite, Receive, Net, Make, Hurt, Place}
-use Rattle.dtx_words.specs.declared.rows.Command.TheVariants.{Trial, Soft, DvbCode, DvbRead}
+use Rattle.dtx_words.specs.declared.rows.Command.TheVariants.{Trial, Soft, Mend, DvbCode, DvbRead, Repeat}
+use Rattle.dtx_words.specs.declared.rows.Command.TheVariants.{Acquire, Watch}
 use Rattle.dtx_words.specs.declared.rows.CommandRow.{CommandRow}
 use Rattle.dtx_words.specs.declared.rows.Field.{Field}
 use Rattle.dtx_words.specs.declared.rows.Field.TheVariants.{Input, Output, Number, Within, Second}
@@ -123,6 +124,15 @@ soft_row = record {
   fewest = 4;
 }
 
+-- `mend IN OUT`: the line is that of `receive`
+abbrev pub mend_row : Row
+mend_row = record {
+  verb = codes "mend";
+  fields = Input ∷ Output ∷ [];
+  labels = receive_row.labels;
+  fewest = 6;
+}
+
 -- `dvb code IN OUT`
 abbrev pub dvb_code_row : Row
 dvb_code_row = record {
@@ -141,6 +151,35 @@ dvb_read_row = record {
   fewest = 5;
 }
 
+-- `repeat IN ADDRESS DELAY OUT LOG`: address and delay as for `excite`
+abbrev pub repeat_row : Row
+repeat_row = record {
+  verb = codes "repeat";
+  fields = excite_row.fields;
+  labels = codes "segments " ∷ codes " runs " ∷ codes " packets " ∷ codes " sent " ∷ codes " presets " ∷ codes
+      " mutes " ∷ codes " loose " ∷ [];
+  fewest = 7;
+}
+
+-- `acquire SCALE IN OUT`: 1 to 18 steps a unit of the standard's levels
+abbrev pub acquire_row : Row
+acquire_row = record {
+  verb = codes "acquire";
+  fields = Within 1 18 ∷ Input ∷ Output ∷ [];
+  labels = codes "symbols " ∷ codes " runs " ∷ codes " segments " ∷ codes " cost " ∷ codes " loose " ∷ [];
+  fewest = 5;
+}
+
+-- `watch FEED OUT`
+abbrev pub watch_row : Row
+watch_row = record {
+  verb = codes "watch";
+  fields = Input ∷ Output ∷ [];
+  labels = codes "packets " ∷ codes " ops " ∷ codes " slips " ∷ codes " jumps " ∷ codes " unread " ∷ codes
+      " stray " ∷ codes " loose " ∷ [];
+  fewest = 7;
+}
+
 -- the row of a command
 abbrev pub row_of : Command → Row
 row_of Adapt = adapt_row
@@ -153,8 +192,12 @@ row_of Hurt = hurt_row
 row_of Place = place_row
 row_of Trial = trial_row
 row_of Soft = soft_row
+row_of Mend = mend_row
 row_of DvbCode = dvb_code_row
 row_of DvbRead = dvb_read_row
+row_of Repeat = repeat_row
+row_of Acquire = acquire_row
+row_of Watch = watch_row
 
 -- the row behind the references that the code holds
 abbrev pub row_behind : CommandRow → Row
@@ -173,8 +216,10 @@ are_inputs_first (field ∷ fields) = are_inputs_first fields
 
 -- all commands
 abbrev pub commands : List Command
-commands = Adapt ∷ Code ∷ Excite ∷ Receive ∷ Net ∷ Make ∷ Hurt ∷ Place ∷ Trial ∷ Soft ∷ DvbCode ∷ DvbRead ∷ []
+commands = Adapt ∷ Code ∷ Excite ∷ Receive ∷ Net ∷ Make ∷ Hurt ∷ Place ∷ Trial ∷ Soft ∷ Mend ∷ DvbCode ∷ DvbRead
+    ∷ Repeat ∷ Acquire ∷ Watch ∷ []
 
 -- one command for each first word, in the order of the usage line
 abbrev pub first_words : List Command
-first_words = Adapt ∷ Code ∷ Excite ∷ Receive ∷ Net ∷ Make ∷ Hurt ∷ Place ∷ Trial ∷ Soft ∷ DvbCode ∷ []
+first_words = Adapt ∷ Code ∷ Excite ∷ Receive ∷ Net ∷ Make ∷ Hurt ∷ Place ∷ Trial ∷ Soft ∷ Mend ∷ DvbCode ∷ Repeat
+    ∷ Acquire ∷ Watch ∷ []

@@ -43,7 +43,7 @@ fn put_done<O: Sink>(command: Option<Command>, outcome: &Outcome, out: &mut O) -
 /// The labels of a line that shows so many numbers.
 fn labels(command: Option<Command>, shown: usize) -> &'static [&'static str]
     ensures labels { map (λ label. label.now) result.now ≡ labels_of command shown }
-    ensures few { length result.now ≤ 6 }
+    ensures few { length result.now ≤ 7 }
 {
     match command {
         Some(command) => {

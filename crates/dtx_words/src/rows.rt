@@ -10,6 +10,9 @@ pub const FEWEST_TRIAL: u64 = 624;
 /// How many packets the stream of a trial has at most (the profile's own limit).
 pub const MOST_TRIAL: u64 = 1_000_000;
 
+/// How many steps of a capture a unit of the standard's levels has at most: 7 * 18 fits a signed byte.
+pub const MOST_SCALE: u64 = 18;
+
 /// A command, which the first word names, or the first two.
 #[derive(Clone, Copy, Debug, PartialEq, Eq)]
 pub enum Command {
@@ -33,10 +36,18 @@ pub enum Command {
     Trial,
     /// `soft IN OUT`
     Soft,
+    /// `mend IN OUT`
+    Mend,
     /// `dvb code IN OUT`
     DvbCode,
     /// `dvb read IN OUT`
     DvbRead,
+    /// `repeat IN ADDRESS DELAY OUT LOG`
+    Repeat,
+    /// `acquire SCALE IN OUT`
+    Acquire,
+    /// `watch FEED OUT`
+    Watch,
 }
 
 /// The second word of a command that has two.
@@ -89,7 +100,7 @@ pub(crate) struct CommandRow {
 }
 
 /// All commands.
-pub(crate) const COMMANDS: [Command; 12] = [
+pub(crate) const COMMANDS: [Command; 16] = [
     Command::Adapt,
     Command::Code,
     Command::Excite,
@@ -100,12 +111,16 @@ pub(crate) const COMMANDS: [Command; 12] = [
     Command::Place,
     Command::Trial,
     Command::Soft,
+    Command::Mend,
     Command::DvbCode,
     Command::DvbRead,
+    Command::Repeat,
+    Command::Acquire,
+    Command::Watch,
 ];
 
 /// One command for each first word, in the order of the usage line.
-pub(crate) const FIRST_WORDS: [Command; 11] = [
+pub(crate) const FIRST_WORDS: [Command; 15] = [
     Command::Adapt,
     Command::Code,
     Command::Excite,
@@ -116,7 +131,11 @@ pub(crate) const FIRST_WORDS: [Command; 11] = [
     Command::Place,
     Command::Trial,
     Command::Soft,
+    Command::Mend,
     Command::DvbCode,
+    Command::Repeat,
+    Command::Acquire,
+    Command::Watch,
 ];
 
 /// `adapt PLAN IN OUT`
@@ -135,32 +154,38 @@ const CODE: CommandRow = CommandRow {
     fewest: 3,
 };
 
+/// What an exciter is given: what it reads, its address, the ticks to it, its symbols and its log.
+const EXCITER_FIELDS: &[Field] = &[
+    Field::Input,
+    Field::Number(u16::MAX as u64),
+    Field::Number(u32::MAX as u64),
+    Field::Output,
+    Field::Output,
+];
+
 /// `excite FEED ADDRESS DELAY OUT LOG`
 const EXCITE: CommandRow = CommandRow {
     verb: "excite",
-    fields: &[
-        Field::Input,
-        Field::Number(u16::MAX as u64),
-        Field::Number(u32::MAX as u64),
-        Field::Output,
-        Field::Output,
-    ],
+    fields: EXCITER_FIELDS,
     labels: &["packets ", " segments ", " presets ", " mutes ", " loose "],
     fewest: 5,
 };
+
+/// What stands before the numbers of a receiver's line.
+const RECEIVER_LABELS: &[&str] = &[
+    "segments ",
+    " runs ",
+    " packets ",
+    " fixed ",
+    " flagged ",
+    " loose ",
+];
 
 /// `receive IN OUT`
 const RECEIVE: CommandRow = CommandRow {
     verb: "receive",
     fields: &[Field::Input, Field::Output],
-    labels: &[
-        "segments ",
-        " runs ",
-        " packets ",
-        " fixed ",
-        " flagged ",
-        " loose ",
-    ],
+    labels: RECEIVER_LABELS,
     fewest: 6,
 };
 
@@ -229,6 +254,14 @@ const SOFT: CommandRow = CommandRow {
     fewest: 4,
 };
 
+/// `mend IN OUT`
+const MEND: CommandRow = CommandRow {
+    verb: "mend",
+    fields: &[Field::Input, Field::Output],
+    labels: RECEIVER_LABELS,
+    fewest: 6,
+};
+
 /// `dvb code IN OUT`
 const DVB_CODE: CommandRow = CommandRow {
     verb: "dvb",
@@ -243,6 +276,40 @@ const DVB_READ: CommandRow = CommandRow {
     fields: &[Field::Second(SecondWord::Read), Field::Input, Field::Output],
     labels: &["blocks ", " packets ", " fixed ", " flagged ", " loose "],
     fewest: 5,
+};
+
+/// `repeat IN ADDRESS DELAY OUT LOG`
+const REPEAT: CommandRow = CommandRow {
+    verb: "repeat",
+    fields: EXCITER_FIELDS,
+    labels: &[
+        "segments ",
+        " runs ",
+        " packets ",
+        " sent ",
+        " presets ",
+        " mutes ",
+        " loose ",
+    ],
+    fewest: 7,
+};
+
+/// `acquire SCALE IN OUT`
+const ACQUIRE: CommandRow = CommandRow {
+    verb: "acquire",
+    fields: &[Field::Within(1, MOST_SCALE), Field::Input, Field::Output],
+    labels: &["symbols ", " runs ", " segments ", " cost ", " loose "],
+    fewest: 5,
+};
+
+/// `watch FEED OUT`
+const WATCH: CommandRow = CommandRow {
+    verb: "watch",
+    fields: &[Field::Input, Field::Output],
+    labels: &[
+        "packets ", " ops ", " slips ", " jumps ", " unread ", " stray ", " loose ",
+    ],
+    fewest: 7,
 };
 
 /// The row of a command.
@@ -260,7 +327,11 @@ pub(crate) fn row(command: Command) -> CommandRow
         Command::Place => PLACE,
         Command::Trial => TRIAL,
         Command::Soft => SOFT,
+        Command::Mend => MEND,
         Command::DvbCode => DVB_CODE,
         Command::DvbRead => DVB_READ,
+        Command::Repeat => REPEAT,
+        Command::Acquire => ACQUIRE,
+        Command::Watch => WATCH,
     }
 }

@@ -9,21 +9,26 @@ ghost use Rattle.dtx_packets.specs.Packets.{packet_at, packets_of, whole_packets
 ghost use Rattle.dtx_jobs.specs.DvbBack.{HaveSyncs, back_of, read_of, sent_of, sent_until, wrong_in_all};
 ghost use Rattle.dtx_jobs.specs.DvbCode.{dvb_coding};
 ghost use Rattle.dtx_jobs.specs.DvbRead.{dvb_reading, whole_blocks};
-ghost use Rattle.dtx_jobs.specs.Place.{begins};
+ghost use Rattle.dtx_jobs.specs.Place.{has_sync};
 ghost use Rattle.dtx_jobs.specs.Shapes as shapes;
 
 use dtx_meaning::Status;
 use dtx_sizes::MOST_PACKETS;
 
 /// All whole packets of a stream are sent, where they begin with 0x47 and are no more than may be. Where a packet among
-/// so many doesn't, the first of them is refused, and those before it are sent.
+/// so many doesn't, the first of them is refused, and those before it are sent. Where all of so many do and the stream
+/// has more, it is too long, and so many are sent.
 pub fn all_is_sent()
     ensures whole { (names : List (List ℕ)) (stream : List ℕ) → whole_packets stream ≤ MOST_PACKETS
         → HaveSyncs stream (whole_packets stream)
-        → meaning_of_file shapes.single_packets dvb_coding names stream ≡ sent_of names stream }
+        → meaning_of_file shapes.dvb_packets dvb_coding names stream ≡ sent_of names stream }
     ensures refused { (names : List (List ℕ)) (stream : List ℕ) (k : ℕ) → k < whole_packets stream → k < MOST_PACKETS
-        → HaveSyncs stream k → begins k (packet_at stream k) ≡ false
-        → meaning_of_file shapes.single_packets dvb_coding names stream ≡ sent_until names stream k }
+        → HaveSyncs stream k → has_sync k (packet_at stream k) ≡ false
+        → meaning_of_file shapes.dvb_packets dvb_coding names stream ≡ sent_until names stream k (Status.Packet k) }
+    ensures too_long { (names : List (List ℕ)) (stream : List ℕ) → MOST_PACKETS < whole_packets stream
+        → HaveSyncs stream MOST_PACKETS
+        → meaning_of_file shapes.dvb_packets dvb_coding names stream
+        ≡ sent_until names stream MOST_PACKETS Status.TooLong }
 {}
 
 /// All whole blocks are read, where they are no more than may be; else that is the answer.

@@ -111,7 +111,7 @@ fn is_codeword<E: Encode<N, K>, const N: usize, const K: usize>(encoder: &E, wor
 }
 
 /// In how many places two words of one length differ.
-fn distance(word: &[u8], other: &[u8]) -> u8
+pub fn distance(word: &[u8], other: &[u8]) -> u8
     requires same { length word.now ≡ length other.now }
     requires few { length word.now ≤ 255 }
     ensures { result ≡ distance word.now other.now }

@@ -63,7 +63,7 @@ fn is_other(marks: &[bool; ROOM], other: usize, place: usize) -> bool
 }
 
 /// Cancels a power from the first `count` entries of a sequence, of which the last is then of no use.
-fn cancel(sequence: &mut [u8; ROOM], count: usize, power: Gf)
+pub fn cancel(sequence: &mut [u8; ROOM], count: usize, power: Gf)
     requires { count ≤ 255 }
     ensures long { length sequence.new ≡ ROOM }
     ensures values { (i : ℕ) → i + 1 < count

@@ -7,7 +7,7 @@ ghost use Rattle.dtx_net.specs.Standing.{StandsFor, AreNew, IsGiven, ChangesOnly
 
 use super::Net;
 use dtx_coder::Air;
-use dtx_exciter::{Exciter, Told};
+use dtx_exciter::{Exciter, Tables, Told};
 use dtx_packets::Packet;
 use dtx_plan::{Transmitter, Transmitters};
 use std::alloc::{AllocError, Global};
@@ -58,13 +58,14 @@ impl Net {
     }
 }
 
-/// An exciter for each of the transmitters.
+/// An exciter for each of the transmitters, all by the same tables.
 fn exciters_of(alloc: Global, transmitters: &[Transmitter]) -> Result<Vec<Exciter>, AllocError>
     ensures { IfOk result (λ exciters. AreNew (length transmitters.now) transmitters.now exciters.items) }
 {
+    let tables = Tables::new(alloc)?;
     let mut exciters = Vec::with_capacity(alloc, transmitters.len())?;
     for transmitter in transmitters {
-        exciters.push(Exciter::new(alloc, transmitter.address, transmitter.delay)?)?;
+        exciters.push(Exciter::sharing(alloc, &tables, transmitter.address, transmitter.delay)?)?;
     }
     Ok(exciters)
 }

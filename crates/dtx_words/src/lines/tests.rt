@@ -5,7 +5,7 @@ use dtx_plan::{PlanKey, PlanNo, PlanRule};
 use std::test::Fail;
 
 /// The numbers of each line.
-const NUMBERS: [u64; 6] = [8, 9, 3, 1, 2, 5];
+const NUMBERS: [u64; 7] = [8, 9, 3, 1, 2, 5, 7];
 
 #[test]
 fn each_line_ends_in_a_line_feed_and_has_its_numbers_in_order(rt: HostRuntime) -> Result<(), Fail> {
@@ -37,11 +37,31 @@ fn each_line_ends_in_a_line_feed_and_has_its_numbers_in_order(rt: HostRuntime) -
             "feed 8 filled 9 steps 3 packets 1 fixed 2 flagged 5\n",
         ),
         (Command::Soft, 4, "segments 8 fields 9 cost 3 loose 1\n"),
+        (
+            Command::Mend,
+            6,
+            "segments 8 runs 9 packets 3 fixed 1 flagged 2 loose 5\n",
+        ),
         (Command::DvbCode, 2, "packets 8 loose 9\n"),
         (
             Command::DvbRead,
             5,
             "blocks 8 packets 9 fixed 3 flagged 1 loose 2\n",
+        ),
+        (
+            Command::Repeat,
+            7,
+            "segments 8 runs 9 packets 3 sent 1 presets 2 mutes 5 loose 7\n",
+        ),
+        (
+            Command::Acquire,
+            5,
+            "symbols 8 runs 9 segments 3 cost 1 loose 2\n",
+        ),
+        (
+            Command::Watch,
+            7,
+            "packets 8 ops 9 slips 3 jumps 1 unread 2 stray 5 loose 7\n",
         ),
     ] {
         let outcome = Outcome {
@@ -66,7 +86,7 @@ fn each_refusal_has_its_line(rt: HostRuntime) -> Result<(), Fail> {
     for (status, text) in [
         (
             Status::Usage,
-            "usage: dtx adapt|code|excite|receive|net|make|hurt|place|trial|soft|dvb\n",
+            "usage: dtx adapt|code|excite|receive|net|make|hurt|place|trial|soft|mend|dvb|repeat|acquire|watch\n",
         ),
         (Status::Same, "same x\n"),
         (Status::Absent(1), "absent x\n"),

@@ -3,7 +3,8 @@ use Rattle.dtx_chain.specs.AllBackLaws.{all_back, all_good, none_flagged}
 use Rattle.dtx_chain.proofs.laws.gives_all_back.Goals as goal
 
 pub returns-clause-run : goal.returns-clause-run
-returns-clause-run c = one_run_left
+returns-clause-run c = λ packets first sent got received some slight.
+    one_run_left packets first sent got received some slight.found
 
 pub returns-clause-packets : goal.returns-clause-packets
 returns-clause-packets c = all_back

@@ -3,7 +3,8 @@ use Rattle.std.proofs.Common.{sym, ap, ap₂, ◌∙◌, arith}
 use Rattle.std.proofs.lemmas.Slice.{take-put_mid}
 use Rattle.dtx_outer.specs.Outer.{coded}
 use Rattle.dtx_coder.specs.Coded.{coded_from}
-use Rattle.dtx_coder.proofs.Packets.{codeword_is, codewords_more, length-put_mid}
+use Rattle.dtx_lists.proofs.Written.{length-put_mid}
+use Rattle.dtx_coder.proofs.Packets.{codeword_is, codewords_more}
 use Rattle.dtx_coder.proofs.outer_coding.code_packets.Goals as goal
 
 pub loop-i-init : goal.loop-i-init

@@ -5,7 +5,6 @@ use Rattle.dtx_laws.specs.Codeword.{distance}
 use Rattle.dtx_fast.specs.ConnectionLaws.{least_of_word}
 use Rattle.dtx_fast.specs.Recurrence.{IsRecurrence, inverse_at}
 use Rattle.dtx_fast.specs.RepairLaws.{repaired_right}
-use Rattle.dtx_fast.proofs.Syndromes.{syndromes_are}
 use Rattle.dtx_fast.proofs.fast.repair.Goals as goal
 
 pub patch-requires-clause-walk : goal.patch-requires-clause-walk
@@ -25,9 +24,7 @@ returns-in-Some c right ic =
     let s : ℕ → ℕ = λ i. get_or c.syndromes-syndromes.result i 0 in
     let cs : ℕ → ℕ = λ i. get_or c.in-Some.found.coefficients i 0 in
     let twice : n - k ≡ 2 * t = omega (arith, code.even) in
-    let syndromes : (i : ℕ) → i < n - k → s i ≡ value word (pow 2 i) =
-    syndromes_are k word c.args.code.now s c.requires.codeword c.requires.begins
-    c.syndromes-syndromes.ensures.values in
+    let syndromes : (i : ℕ) → i < n - k → s i ≡ value word (pow 2 i) = c.syndromes-syndromes.ensures.values in
     repaired_right n k t found.order word right c.patch.new.word s cs code.short twice c.requires.bytes refl ic
     is.1 (λ i l. syndromes i (omega (arith, l, twice)))
     (subst (λ m. IsRecurrence m c.in-Some.found.order s cs) twice is.2)
@@ -40,9 +37,7 @@ returns-in_default c right ic =
     let n : ℕ = length word in
     let k : ℕ = c.args.k in
     let s : ℕ → ℕ = λ i. get_or c.syndromes-syndromes.result i 0 in
-    let syndromes : (i : ℕ) → i < n - k → s i ≡ value word (pow 2 i) =
-    syndromes_are k word c.args.code.now s c.requires.codeword c.requires.begins
-    c.syndromes-syndromes.ensures.values in
+    let syndromes : (i : ℕ) → i < n - k → s i ≡ value word (pow 2 i) = c.syndromes-syndromes.ensures.values in
     let many : (n - k) / 2 + 1 ≤ distance word right =
     least_of_word n k (n - k) ((n - k) / 2 + 1) word right s refl ic (omega arith) syndromes
     c.in_default.ensures.none in

@@ -1,5 +1,9 @@
+use Rattle.dtx_jobs.proofs.SoftPlaces.{places_stay}
 use Rattle.dtx_jobs.proofs.SoftRuns.{soft_runs, soft_tracking}
 use Rattle.dtx_jobs.proofs.soft_laws.runs_stay.Goals as goal
+
+pub returns-clause-intervals : goal.returns-clause-intervals
+returns-clause-intervals c = places_stay
 
 pub returns-clause-lengths : goal.returns-clause-lengths
 returns-clause-lengths c = soft_runs

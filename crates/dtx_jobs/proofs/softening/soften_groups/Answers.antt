@@ -1,8 +1,7 @@
-use Rattle.std.proofs.Common.{ℕ, ℤ, ◌≡◌, List, ap, ◌∙◌, subst, arith}
-use Rattle.dtx_soft.specs.Coders.{IsSoftened, costs}
+use Rattle.std.proofs.Common.{ℕ, ℤ, ◌≡◌, List, ◌∙◌, subst, arith}
+use Rattle.dtx_soft.specs.Coders.{IsSoftened}
 use Rattle.dtx_soft.specs.CostLaws.{costs_small}
-use Rattle.dtx_soft.specs.Softened.{softened_cost}
-use Rattle.dtx_soft.specs.SoftenedLaws.{softened_is}
+use Rattle.dtx_soft.specs.SoftenedLaws.{cost_is, softened_is}
 use Rattle.dtx_jobs.proofs.softening.soften_groups.Goals as goal
 
 at_one : (scale : ℕ) (old new : List (List ℤ)) → scale ≡ 1 → IsSoftened scale old new → IsSoftened 1 old new
@@ -14,12 +13,10 @@ returns-clause-rows c =
     (at_one c.args.soft.now.scale _ _ c.requires.scale c.field-cost.ensures.segments) c.known.ensures
 
 pub returns-clause-cost : goal.returns-clause-cost
-unfolding softened_cost
 returns-clause-cost c =
     c.field-cost.ensures.cost
-    ∙ ap (λ new. costs c.args.rows.now new 12)
-    (softened_is 1 c.args.rows.now c.field-cost.new.segments
-    (at_one c.args.soft.now.scale _ _ c.requires.scale c.field-cost.ensures.segments) c.known.ensures)
+    ∙ cost_is 1 c.args.rows.now c.field-cost.new.segments
+    (at_one c.args.soft.now.scale _ _ c.requires.scale c.field-cost.ensures.segments)
 
 pub returns-clause-most : goal.returns-clause-most
 returns-clause-most c =

@@ -1,4 +1,5 @@
-use Rattle.dtx_outer.proofs.Coding.{length-codewords, get_or-codewords, coded_as_is, length-joined}
+use Rattle.dtx_outer.specs.BackLaws.{coded_is}
+use Rattle.dtx_outer.proofs.Coding.{length-codewords, get_or-codewords, length-joined}
 use Rattle.dtx_outer.proofs.laws.each_packet.Goals as goal
 
 pub returns-clause-count : goal.returns-clause-count
@@ -8,7 +9,7 @@ pub returns-clause-at : goal.returns-clause-at
 returns-clause-at c = get_or-codewords
 
 pub returns-clause-is : goal.returns-clause-is
-returns-clause-is c = coded_as_is
+returns-clause-is c = λ n k white p head. coded_is n k white _ head
 
 pub returns-clause-joined : goal.returns-clause-joined
 returns-clause-joined c = length-joined

@@ -1,8 +1,7 @@
-use Rattle.std.proofs.Common.{◌≡◌, ℕ, ◌+◌, ◌*◌, ◌<◌, ◌≤◌, ◌++◌, List, length, take, drop, sym, ap, ◌∙◌, append_assoc}
+use Rattle.std.proofs.Common.{◌≡◌, ℕ, ◌+◌, ◌*◌, ◌<◌, ◌++◌, List, length, take, drop, sym, ap, ◌∙◌, append_assoc}
 use Rattle.std.proofs.Common.{arith}
 use Rattle.std.proofs.Math.Seq.{take-add}
 use Rattle.std.proofs.lemmas.List.{take_all, length-append, length-drop, length-take-le}
-use Rattle.dtx_receiver.specs.Handed.{handed}
 use Rattle.dtx_receiver.specs.Packets.{early_of}
 use Rattle.dtx_receiver.proofs.Giving.{gives, with_more}
 use Rattle.dtx_receiver.proofs.outer_decoding.give_group.Goals as goal

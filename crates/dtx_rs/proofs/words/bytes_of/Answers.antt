@@ -1,7 +1,8 @@
 use Rattle.std.proofs.Common.{◌≡◌, ◌+◌, ◌-◌, ◌*◌, ◌++◌, List, ℕ, length, get_or, ap, ap₂, sym, ◌∙◌, arith}
 use Rattle.std.proofs.lemmas.Slice.{take-put_mid}
 use Rattle.std.specs.Int.{to_be_bytes, w32}
-use Rattle.dtx_rs.proofs.WordBytes.{length-put_mid, word_bytes-more}
+use Rattle.dtx_lists.proofs.Written.{length-put_mid}
+use Rattle.dtx_rs.proofs.WordBytes.{word_bytes-more}
 use Rattle.dtx_rs.proofs.words.bytes_of.Goals as goal
 
 pub loop-i-preserved : goal.loop-i-preserved

@@ -4,7 +4,7 @@ use Rattle.std.proofs.Common.{subst, arith}
 use Rattle.std.proofs.lemmas.Bool.{cases_lt}
 use Rattle.std.proofs.lemmas.List.FromFn.{fill_by_all}
 use Rattle.dtx_slice.specs.Unrolled.{symbol_place}
-use Rattle.dtx_soft.specs.Coders.{data_symbol, symbols_of}
+use Rattle.dtx_soft.specs.Coders.{coder_symbols, data_symbol}
 use Rattle.dtx_soft.proofs.Places.{place_segment, symbol_of_row}
 use Rattle.dtx_soft.proofs.coders.gather.Goals as goal
 
@@ -35,7 +35,7 @@ loop-i-preserved c k l = by_segment (cases_lt k (69 * c.loop-i.i))
         back k m = omega arith
 
 pub returns : goal.returns
-unfolding symbols_of
+unfolding coder_symbols
 returns c =
     fill_by_all (λ t. data_symbol c.args.segments.now (symbol_place 0 t c.args.coder)) c.loop-i.symbols
     (69 * length c.args.segments.now) (pos 0) (omega arith) (λ k l. c.loop-i.invariant k (omega arith))

@@ -1,5 +1,5 @@
-use Rattle.dtx_soft.specs.CostLaws.{costs_small}
+use Rattle.dtx_soft.specs.CostLaws.{scaled_costs_small}
 use Rattle.dtx_soft.proofs.laws.costs_are_small.Goals as goal
 
 pub returns : goal.returns
-returns c = costs_small
+returns c = scaled_costs_small

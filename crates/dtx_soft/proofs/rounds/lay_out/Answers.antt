@@ -3,7 +3,7 @@ use Rattle.std.proofs.Common.{pos, sym, ap, ◌∙◌, subst, arith}
 use Rattle.std.proofs.lemmas.Bool.{cases_lt}
 use Rattle.std.proofs.lemmas.List.FromFn.{fill_by_all}
 use Rattle.dtx_slice.specs.Unrolled.{symbol_place}
-use Rattle.dtx_soft.specs.Coders.{data_symbol, symbols_of}
+use Rattle.dtx_soft.specs.Coders.{coder_symbols, data_symbol}
 use Rattle.dtx_soft.specs.Gaps.{column}
 use Rattle.dtx_soft.proofs.Columns.{length-column, symbol_in_column}
 use Rattle.dtx_soft.proofs.Places.{place_round, place_segment, symbol_of_row}
@@ -43,7 +43,7 @@ loop-i-preserved c t e l m = by_segment (cases_lt t (69 * c.loop-i.i))
         back t k = omega arith
 
 pub returns : goal.returns
-unfolding symbols_of
+unfolding coder_symbols
 returns c e m =
     fill_by_all (λ t. data_symbol c.args.segments.now (symbol_place 0 t e)) (column c.loop-i.rounds e)
     (69 * length c.args.segments.now) (pos 0) (omega (arith, length-column c.loop-i.rounds e))

@@ -3,7 +3,7 @@ use Rattle.std.proofs.Common.{pos, sym, ap, ◌∙◌, subst, arith}
 use Rattle.std.proofs.lemmas.Bool.{cases_lt}
 use Rattle.std.proofs.lemmas.List.FromFn.{fill_by_all}
 use Rattle.dtx_slice.specs.Unrolled.{symbol_place}
-use Rattle.dtx_soft.specs.Coders.{data_symbol, symbols_of}
+use Rattle.dtx_soft.specs.Coders.{coder_symbols, data_symbol}
 use Rattle.dtx_soft.specs.Gaps.{column}
 use Rattle.dtx_soft.proofs.Columns.{length-column, symbol_in_column}
 use Rattle.dtx_soft.proofs.Places.{place_round, place_segment, symbol_elsewhere, symbol_in_row, syncs_written}
@@ -60,7 +60,7 @@ loop-i-preserved c = record {
         back t k = omega arith
 
 pub returns-clause-coders : goal.returns-clause-coders
-unfolding symbols_of
+unfolding coder_symbols
 returns-clause-coders c e m =
     sym (fill_by_all (λ t. data_symbol c.loop-i.segments (symbol_place 0 t e)) (column c.args.rounds.now e)
     (69 * length c.loop-i.segments) (pos 0) (omega (arith, length-column c.args.rounds.now e))

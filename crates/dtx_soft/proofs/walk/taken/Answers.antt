@@ -14,17 +14,17 @@ unfolding next_state
 returns c =
     four (λ s. IsTaken c.args.row.now c.args.behind.now s (bits / 2 ^ (2 * (1 - s % 2) + s / 2) % 2))
     (subst (IsTaken c.args.row.now c.args.behind.now 0) (omega (arith, a, b, d, e))
-    (bit_taken c.args.row.now c.args.behind.now 0 (get_or c.args.row.now.ties 0 0) c.is_less-a.result
-    (c.requires.ties 0 (omega arith)) c.is_less-a.ensures))
+    (bit_taken c.args.row.now c.args.behind.now 0 (get_or c.args.row.now.tie_breaks 0 0) c.is_less-a.result
+    (c.requires.tie_breaks 0 (omega arith)) c.is_less-a.ensures))
     (subst (IsTaken c.args.row.now c.args.behind.now 1) (omega (arith, a, b, d, e))
-    (bit_taken c.args.row.now c.args.behind.now 1 (get_or c.args.row.now.ties 0 0) c.is_less-b.result
-    (c.requires.ties 0 (omega arith)) c.is_less-b.ensures))
+    (bit_taken c.args.row.now c.args.behind.now 1 (get_or c.args.row.now.tie_breaks 0 0) c.is_less-b.result
+    (c.requires.tie_breaks 0 (omega arith)) c.is_less-b.ensures))
     (subst (IsTaken c.args.row.now c.args.behind.now 2) (omega (arith, a, b, d, e))
-    (bit_taken c.args.row.now c.args.behind.now 2 (get_or c.args.row.now.ties 1 0) c.is_less-c.result
-    (c.requires.ties 1 (omega arith)) c.is_less-c.ensures))
+    (bit_taken c.args.row.now c.args.behind.now 2 (get_or c.args.row.now.tie_breaks 1 0) c.is_less-c.result
+    (c.requires.tie_breaks 1 (omega arith)) c.is_less-c.ensures))
     (subst (IsTaken c.args.row.now c.args.behind.now 3) (omega (arith, a, b, d, e))
-    (bit_taken c.args.row.now c.args.behind.now 3 (get_or c.args.row.now.ties 1 0) c.is_less-d.result
-    (c.requires.ties 1 (omega arith)) c.is_less-d.ensures))
+    (bit_taken c.args.row.now c.args.behind.now 3 (get_or c.args.row.now.tie_breaks 1 0) c.is_less-d.result
+    (c.requires.tie_breaks 1 (omega arith)) c.is_less-d.ensures))
   where
     bits : ℕ
     bits = c.is_less-b.result + 2 * c.is_less-d.result + 4 * c.is_less-a.result + 8 * c.is_less-c.result

@@ -1,9 +1,10 @@
 use Rattle.std.proofs.Common.{ℕ, ◌-◌, ◌^◌, List, ap, subst, sym, ◌∙◌}
 use Rattle.std.specs.Prelude.{Some, IfSome}
+use Rattle.dtx_jobs.specs.NumbersLaws.{within_range}
 use Rattle.dtx_meaning.specs.Meaning.{IsCarriedOut}
 use Rattle.dtx_words.specs.Number.{number_in, number_within}
 use Rattle.dtx_top.specs.Trial.{HasNumbersProgress, HasTrialProgress, trial_meaning, trial_of}
-use Rattle.dtx_top.proofs.Trials.{of_words, three_words, within_range}
+use Rattle.dtx_top.proofs.Trials.{of_words, three_words}
 use Rattle.dtx_top.proofs.trial_command.trial.Goals as goal
 
 pub trial_ordered-requires : goal.trial_ordered-requires

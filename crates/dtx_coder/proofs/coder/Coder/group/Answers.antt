@@ -42,7 +42,7 @@ returns c =
     (record {
       bytes_are = c.code_packets.ensures.bytes;
       levels_are = c.group.ensures.levels ∙ ap (λ q. levels_of c.args.first q c.code_packets.new.bytes) from;
-      levels_long = search rules;
+      levels_long = c.add_group.ensures.long;
       states_are = c.group.ensures.states ∙ ap (λ q. states_after c.args.first q c.code_packets.new.bytes) from;
       branches_are = ap (λ (o : Held). o.branches) c.code_packets.ensures.outer;
       counted = c.add_group.ensures.segments ∙ ap (λ (n : ℕ). n + 4) c.begin.ensures.segments;

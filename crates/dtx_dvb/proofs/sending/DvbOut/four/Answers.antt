@@ -7,7 +7,8 @@ use Rattle.dtx_outer.specs.Outer.{Held, coded}
 use Rattle.dtx_dvb.specs.Stream.{block_of, blocks_from, dvb}
 use Rattle.dtx_dvb.specs.Sending.{HasSent}
 use Rattle.dtx_dvb.specs.StreamLaws.{bytes_more, sent_more}
-use Rattle.dtx_dvb.proofs.Blocks.{coded_is, blocks_next, length-put_mid}
+use Rattle.dtx_lists.proofs.Written.{length-put_mid}
+use Rattle.dtx_dvb.proofs.Blocks.{coded_is, blocks_next}
 use Rattle.dtx_dvb.proofs.sending.DvbOut.four.Goals as goal
 
 pub loop-i-init : goal.loop-i-init

@@ -1,5 +1,4 @@
-use Rattle.std.proofs.Common.{ℤ, List, [], ◌∷◌, refl, subst}
-use Rattle.dtx_erase.specs.Sides.{Holds}
+use Rattle.std.proofs.Common.{refl}
 use Rattle.dtx_erase.proofs.Decoding.{decodes_first}
 use Rattle.dtx_erase.proofs.decoder.Decoder.begin.Goals as goal
 
@@ -11,5 +10,4 @@ returns c =
       waits = 13;
       place = 0;
     })
-    c.begin.ensures (subst (λ (x : List ℤ). Holds c.begin-2.new.self (x ∷ [])) c.as_marks.ensures c.begin-2.ensures)
-    refl refl
+    c.begin.ensures c.begin-2.ensures refl refl

@@ -17,13 +17,12 @@ returns-then-place-eq3-clause-stands c = λ run d e.
     let here : Decodes kept run = subst (λ (k : Decoding). Decodes k run) (sym c.self.view_is) d in
     let x : List ℤ = c.args.segment.now in
     let marks : Holds c.take-2.new.self (shown_run run ++ map shown x ∷ []) =
-    subst (λ (xs : List ℤ). Holds c.take-2.new.self (shown_run run ++ xs ∷ [])) c.as_marks.ensures
-    (c.take-2.ensures (shown_run run) here.marks (shown_due run c.args.place e)) in
+    c.take-2.ensures (shown_run run) here.marks (shown_due run c.args.place e) in
     let both : Both x kept c.group.new.self run c.args.place = record {
       due = e;
       old = here;
       bytes = subst (λ (s : Side). Holds s (run ++ x ∷ [])) (sym c.group.ensures.sides.0)
-          (c.take.ensures run here.bytes e);
+          (c.take.ensures.stands run here.bytes e);
       marks = subst (λ (s : Side). Holds s (shown_run run ++ map shown x ∷ [])) (sym c.group.ensures.sides.1) marks;
     } in
     let there : Decodes c.group.new.self (run ++ x ∷ []) =
@@ -42,13 +41,12 @@ returns-then-place-eq3-clause-packets c = λ run d e.
     let here : Decodes kept run = subst (λ (k : Decoding). Decodes k run) (sym c.self.view_is) d in
     let x : List ℤ = c.args.segment.now in
     let marks : Holds c.take-2.new.self (shown_run run ++ map shown x ∷ []) =
-    subst (λ (xs : List ℤ). Holds c.take-2.new.self (shown_run run ++ xs ∷ [])) c.as_marks.ensures
-    (c.take-2.ensures (shown_run run) here.marks (shown_due run c.args.place e)) in
+    c.take-2.ensures (shown_run run) here.marks (shown_due run c.args.place e) in
     let both : Both x kept c.group.new.self run c.args.place = record {
       due = e;
       old = here;
       bytes = subst (λ (s : Side). Holds s (run ++ x ∷ [])) (sym c.group.ensures.sides.0)
-          (c.take.ensures run here.bytes e);
+          (c.take.ensures.stands run here.bytes e);
       marks = subst (λ (s : Side). Holds s (shown_run run ++ map shown x ∷ [])) (sym c.group.ensures.sides.1) marks;
     } in
     let there : Decodes c.group.new.self (run ++ x ∷ []) =
@@ -71,8 +69,7 @@ returns-else-place-eq3-clause-stands c = λ run d e.
     let here : Decodes kept run = subst (λ (k : Decoding). Decodes k run) (sym c.self.view_is) d in
     let x : List ℤ = c.args.segment.now in
     let marks : Holds c.take-2.new.self (shown_run run ++ map shown x ∷ []) =
-    subst (λ (xs : List ℤ). Holds c.take-2.new.self (shown_run run ++ xs ∷ [])) c.as_marks.ensures
-    (c.take-2.ensures (shown_run run) here.marks (shown_due run c.args.place e)) in
+    c.take-2.ensures (shown_run run) here.marks (shown_due run c.args.place e) in
     let new : Decoding = record {
       bytes = c.take.new.self;
       marks = c.take-2.new.self;
@@ -82,7 +79,7 @@ returns-else-place-eq3-clause-stands c = λ run d e.
     let both : Both x kept new run c.args.place = record {
       due = e;
       old = here;
-      bytes = c.take.ensures run here.bytes e;
+      bytes = c.take.ensures.stands run here.bytes e;
       marks = marks;
     } in
     decodes_data x kept new run c.args.place both c.if-place-eq3.false refl refl
@@ -98,8 +95,7 @@ returns-else-place-eq3-clause-packets c = λ run d e.
     let here : Decodes kept run = subst (λ (k : Decoding). Decodes k run) (sym c.self.view_is) d in
     let x : List ℤ = c.args.segment.now in
     let marks : Holds c.take-2.new.self (shown_run run ++ map shown x ∷ []) =
-    subst (λ (xs : List ℤ). Holds c.take-2.new.self (shown_run run ++ xs ∷ [])) c.as_marks.ensures
-    (c.take-2.ensures (shown_run run) here.marks (shown_due run c.args.place e)) in
+    c.take-2.ensures (shown_run run) here.marks (shown_due run c.args.place e) in
     let new : Decoding = record {
       bytes = c.take.new.self;
       marks = c.take-2.new.self;
@@ -109,7 +105,7 @@ returns-else-place-eq3-clause-packets c = λ run d e.
     let both : Both x kept new run c.args.place = record {
       due = e;
       old = here;
-      bytes = c.take.ensures run here.bytes e;
+      bytes = c.take.ensures.stands run here.bytes e;
       marks = marks;
     } in
     early_data x kept new run c.args.place both c.if-place-eq3.false refl refl

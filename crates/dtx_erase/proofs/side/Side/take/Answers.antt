@@ -3,11 +3,12 @@ use Rattle.dtx_slice.specs.Slicing.{sliced_data}
 use Rattle.dtx_receiver.specs.Bytes.{data_count}
 use Rattle.dtx_receiver.specs.SegmentsLaws.{segment_long}
 use Rattle.dtx_erase.specs.Sides.{Side, Holds}
-use Rattle.dtx_erase.proofs.Stands.{Whole, put_long, holds_group, holds_data, part_now, not_due_now}
+use Rattle.dtx_receiver.specs.LevelsLaws.{Whole, part_now, not_due_now}
+use Rattle.dtx_erase.proofs.Stands.{put_long, holds_group, holds_data}
 use Rattle.dtx_erase.proofs.side.Side.take.Goals as goal
 
-pub returns-then-part-eq-GROUP_SEGMENTS : goal.returns-then-part-eq-GROUP_SEGMENTS
-returns-then-part-eq-GROUP_SEGMENTS c = λ run d e.
+pub returns-then-part-eq-GROUP_SEGMENTS-clause-stands : goal.returns-then-part-eq-GROUP_SEGMENTS-clause-stands
+returns-then-part-eq-GROUP_SEGMENTS-clause-stands c = λ run d e.
     let kept : Side = record {
       levels = c.self.inside.levels;
       precoder_bits = c.self.inside.unroll;
@@ -15,7 +16,7 @@ returns-then-part-eq-GROUP_SEGMENTS c = λ run d e.
       gathered = c.self.inside.gathered;
     } in
     let here : Holds kept run = subst (λ (k : Side). Holds k run) (sym c.self.view_is) d in
-    let w : Whole c.args.segment.now kept run c.args.place c.put_levels.new.group =
+    let w : Whole c.args.segment.now kept.levels run c.args.place c.put_levels.new.group =
     record {
       due = e;
       last = omega (arith, c.if-part-eq-GROUP_SEGMENTS.true);
@@ -30,8 +31,8 @@ returns-then-part-eq-GROUP_SEGMENTS c = λ run d e.
     holds_group c.args.segment.now kept c.group.new.self run c.args.place c.put_levels.new.group w here c.self.told.1
     c.group.ensures.levels c.group.ensures.precoder_bits c.group.ensures.branches c.group.ensures.gathered
 
-pub returns-else-part-eq-GROUP_SEGMENTS : goal.returns-else-part-eq-GROUP_SEGMENTS
-returns-else-part-eq-GROUP_SEGMENTS c = λ run d e.
+pub returns-else-part-eq-GROUP_SEGMENTS-clause-stands : goal.returns-else-part-eq-GROUP_SEGMENTS-clause-stands
+returns-else-part-eq-GROUP_SEGMENTS-clause-stands c = λ run d e.
     let kept : Side = record {
       levels = c.self.inside.levels;
       precoder_bits = c.self.inside.unroll;

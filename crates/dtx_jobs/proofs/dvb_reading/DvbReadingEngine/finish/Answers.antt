@@ -10,7 +10,7 @@ use Rattle.dtx_jobs.proofs.dvb_reading.DvbReadingEngine.finish.Goals as goal
 done : ℕ → ℕ → ℕ → ℕ → ℕ → Outcome
 done blocks packets fixed flagged loose = record {
   status = Done;
-  numbers = blocks ∷ packets ∷ fixed ∷ flagged ∷ loose ∷ 0 ∷ [];
+  numbers = blocks ∷ packets ∷ fixed ∷ flagged ∷ loose ∷ 0 ∷ 0 ∷ [];
   shown = 5;
 }
 

@@ -7,6 +7,6 @@ pub returns-clause-life : goal.returns-clause-life
 returns-clause-life c = record {
   exciter = subst (λ e. StandsFor c.args.address c.args.delay e []) (sym c.in_ok-new-2.ensures.ok)
       c.in_ok-new.ensures;
-  tally = c.new-5.ensures
+  tally = c.in_ok-new-3.ensures.tally
       ∙ sym (tally_none c.args.address c.args.delay);
 }

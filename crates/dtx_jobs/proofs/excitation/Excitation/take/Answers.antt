@@ -15,50 +15,22 @@ use Rattle.dtx_jobs.specs.declared.life_tally.LifeTally.{LifeTally}
 use Rattle.dtx_jobs.proofs.LifeOn.{has_room, tally_push}
 use Rattle.dtx_jobs.proofs.excitation.Excitation.take.Goals as goal
 
-pub write_line-requires : goal.write_line-requires
-write_line-requires c =
-    let old = c.args.self.now in
-    let some = c.requires.some in
-    let stands = subst (λ e. StandsFor old.address old.delay e some.0) (sym c.deref_mut.ensures.value)
-    some.1.exciter in
-    let taken = c.take-told.ensures old.address old.delay some.0 stands in
-    (subst (HasRoom old.tally) (sym taken.air.counted)
-    (has_room old.address old.delay some.0 c.args.packet.now.0 old.tally some.1.tally c.requires.most)).segments
-
 pub add-requires : goal.add-requires
 add-requires c =
     let old = c.args.self.now in
+    let p = c.args.packet.now.0 in
     let some = c.requires.some in
     let stands = subst (λ e. StandsFor old.address old.delay e some.0) (sym c.deref_mut.ensures.value)
     some.1.exciter in
-    let taken = c.take-told.ensures old.address old.delay some.0 stands in
-    subst (HasRoom old.tally) (sym taken.air.counted)
-    (has_room old.address old.delay some.0 c.args.packet.now.0 old.tally some.1.tally c.requires.most)
-
-pub shared_ref_as_front-push : goal.shared_ref_as_front-push
-shared_ref_as_front-push c =
-    let old = c.args.self.now in
-    let some = c.requires.some in
-    let stands = subst (λ e. StandsFor old.address old.delay e some.0) (sym c.deref_mut.ensures.value)
-    some.1.exciter in
-    let taken = c.take-told.ensures old.address old.delay some.0 stands in
-    omega (arith, taken.air.counted, given_few old.address old.delay (some.0 ++ c.args.packet.now.0 ∷ []))
-
-pub push-requires : goal.push-requires
-push-requires c =
-    let old = c.args.self.now in
-    let some = c.requires.some in
-    let stands = subst (λ e. StandsFor old.address old.delay e some.0) (sym c.deref_mut.ensures.value)
-    some.1.exciter in
-    let taken = c.take-told.ensures old.address old.delay some.0 stands in
-    let count : ℕ = 832 * c.take-told.new.air.segments in (
+    let taken = c.take-told.ensures old.address old.delay some.0 stands in (
       omega arith,
-      omega (
-        arith,
-        taken.air.counted,
-        given_few old.address old.delay (some.0 ++ c.args.packet.now.0 ∷ []),
-        c.requires.symbols,
-        length-take count c.take-told.new.air.symbols,
+      (
+        subst (HasRoom old.sending.tally) (sym taken.air.counted)
+            (has_room old.address old.delay some.0 p old.sending.tally some.1.tally c.requires.most),
+        (
+          omega (arith, taken.air.counted, given_few old.address old.delay (some.0 ++ p ∷ [])),
+          (omega (arith, c.requires.symbols), omega (arith, c.requires.lines)),
+        ),
       ),
     )
 
@@ -67,16 +39,11 @@ returns-clause-spaced c = λ ps life.
     let old = c.args.self.now in
     let stands = subst (λ e. StandsFor old.address old.delay e ps) (sym c.deref_mut.ensures.value) life.exciter in
     let taken = c.take-told.ensures old.address old.delay ps stands in
-    let count : ℕ = 832 * c.take-told.new.air.segments in
-    let sent : List ℤ = take count c.take-told.new.air.symbols in
     omega (
       arith,
       taken.air.counted,
       c.groups_are_spaced.ensures.spaced old.address old.delay ps c.args.packet.now.0,
-      ap length c.push.ensures,
-      length-append old.symbols (map byte_of_symbol sent),
-      length-map sent byte_of_symbol,
-      length-take count c.take-told.new.air.symbols,
+      c.add.ensures.long,
     )
 
 pub returns-clause-life : goal.returns-clause-life
@@ -91,7 +58,7 @@ returns-clause-life c = λ ps life.
     let last_answer = c.take-told.result in
     record {
       exciter = taken.stands;
-      tally = c.add.ensures n m
+      tally = c.add.ensures.tally n m
           ∙ ap (λ (t : LifeTally). tally_with t c.take-told.new.air.segments (line_of n m last_answer)) life.tally
           ∙ ap (λ k. tally_with (life_tally a d ps) k (line_of n m last_answer)) taken.air.counted
           ∙ ap (λ t. tally_with (life_tally a d ps) m (line_of n m t)) taken.answer
@@ -106,9 +73,10 @@ returns-clause-sent c = λ ps bytes life is.
     let stands = subst (λ e. StandsFor a d e ps) (sym c.deref_mut.ensures.value) life.exciter in
     let taken = c.take-told.ensures a d ps stands in
     let brought : List ℕ = map byte_of_symbol (symbols_of (last_segments a d (ps ++ p ∷ []))) in
-    sent_push a d ps p ∙ ap (λ z. z ++ brought) is ∙ append_assoc bytes c.args.self.now.symbols brought
+    sent_push a d ps p ∙ ap (λ z. z ++ brought) is ∙ append_assoc bytes c.args.self.now.sending.symbols brought
     ∙ ap (λ z. bytes ++ z)
-    (ap (λ z. c.args.self.now.symbols ++ z) (ap (map byte_of_symbol) (sym taken.air.begins)) ∙ sym c.push.ensures)
+    (ap (λ z. c.args.self.now.sending.symbols ++ z) (ap (map byte_of_symbol) (sym taken.air.begins))
+    ∙ sym c.add.ensures.symbols)
 
 pub returns-clause-logged : goal.returns-clause-logged
 returns-clause-logged c = λ ps bytes life is.
@@ -121,10 +89,11 @@ returns-clause-logged c = λ ps bytes life is.
     let m : ℕ = length (last_segments a d (ps ++ p ∷ [])) in
     let before = ap (λ (t : LifeTally). t.segments) life.tally in
     let brought : List ℕ = log_text (line_of n m (last_answer a d (ps ++ p ∷ []))) in
-    let text : c.as_bytes.result.now ≡ brought =
-    c.as_bytes.ensures.value ∙ c.as_str.ensures.value ∙ c.write_line.ensures
-    ∙ ap (λ k. log_text (line_of k c.take-told.new.air.segments c.take-told.result)) before
-    ∙ ap (λ k. log_text (line_of n k c.take-told.result)) taken.air.counted
+    let told = c.take-told.result in
+    let segments = c.take-told.new.air.segments in
+    let text : log_text (line_of c.args.self.now.sending.tally.segments segments told) ≡ brought =
+    ap (λ k. log_text (line_of k segments told)) before
+    ∙ ap (λ k. log_text (line_of n k told)) taken.air.counted
     ∙ ap (λ t. log_text (line_of n m t)) taken.answer in
-    logged_push a d ps p ∙ ap (λ z. z ++ brought) is ∙ append_assoc bytes c.args.self.now.lines brought
-    ∙ ap (λ z. bytes ++ z) (ap (λ z. c.args.self.now.lines ++ z) (sym text) ∙ sym c.push-2.ensures)
+    logged_push a d ps p ∙ ap (λ z. z ++ brought) is ∙ append_assoc bytes c.args.self.now.sending.lines brought
+    ∙ ap (λ z. bytes ++ z) (ap (λ z. c.args.self.now.sending.lines ++ z) (sym text) ∙ sym c.add.ensures.lines)

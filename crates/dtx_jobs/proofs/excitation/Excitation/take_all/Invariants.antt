@@ -12,13 +12,13 @@ invariant-loop-i l = record {
   life : (before : List (List ℕ)) → IsLife l.fn.self before → IsLife l.self (before ++ packets_from l.bytes 0 l.i);
   sent : (before : List (List ℕ)) → IsLife l.fn.self before
       → sent_bytes l.fn.self.address l.fn.self.delay (before ++ packets_from l.bytes 0 l.i)
-      ≡ sent_bytes l.fn.self.address l.fn.self.delay before ++ l.self.symbols;
+      ≡ sent_bytes l.fn.self.address l.fn.self.delay before ++ l.self.sending.symbols;
   logged : (before : List (List ℕ)) → IsLife l.fn.self before
       → logged_bytes l.fn.self.address l.fn.self.delay (before ++ packets_from l.bytes 0 l.i)
-      ≡ logged_bytes l.fn.self.address l.fn.self.delay before ++ l.self.lines;
+      ≡ logged_bytes l.fn.self.address l.fn.self.delay before ++ l.self.sending.lines;
   symbols : (before : List (List ℕ)) → IsLife l.fn.self before
-      → 4 * length l.self.symbols + 4160 * group_part (before ++ packets_from l.bytes 0 l.i)
+      → 4 * length l.self.sending.symbols + 4160 * group_part (before ++ packets_from l.bytes 0 l.i)
       ≤ 4160 * (group_part before + l.i);
-  lines : length l.self.lines ≤ 64 * l.i;
-  packets : l.self.tally.packets ≡ l.fn.self.tally.packets + l.i;
+  lines : length l.self.sending.lines ≤ 64 * l.i;
+  packets : l.self.sending.tally.packets ≡ l.fn.self.sending.tally.packets + l.i;
 }

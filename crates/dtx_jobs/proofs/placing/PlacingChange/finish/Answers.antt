@@ -10,7 +10,7 @@ use Rattle.dtx_jobs.proofs.placing.PlacingChange.finish.Goals as goal
 done : ℕ → ℕ → ℕ → ℕ → Outcome
 done packets placed bare loose = record {
   status = Done;
-  numbers = packets ∷ placed ∷ bare ∷ loose ∷ 0 ∷ 0 ∷ [];
+  numbers = packets ∷ placed ∷ bare ∷ loose ∷ 0 ∷ 0 ∷ 0 ∷ [];
   shown = 4;
 }
 

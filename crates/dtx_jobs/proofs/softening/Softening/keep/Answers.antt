@@ -3,7 +3,7 @@ use Rattle.std.proofs.Common.{slice_set, take, unwrap_or, refl}
 use Rattle.dtx_files.specs.Symbols.{segment_bytes}
 use Rattle.dtx_soft.specs.CostLaws.{AreSigned}
 use Rattle.dtx_soft.specs.Softened.{softened_cost}
-use Rattle.dtx_jobs.specs.Soft.{flushed, groups_in, is_some}
+use Rattle.dtx_jobs.specs.Soft.{flushed, groups_in, has_group}
 use Rattle.dtx_jobs.specs.SofteningLaws.{brought_full, brought_kept, signed_more, stands_full, stands_kept}
 use Rattle.dtx_jobs.proofs.softening.Softening.keep.Goals as goal
 
@@ -50,7 +50,7 @@ returns-clause-softening c = λ before is.
     let within : 311 < length old.field.items = omega (arith, room) in
     stands_full old _ before old.segment is (c.requires.is ∙ ap Some last) within refl c.flush.ensures.count
     (c.flush.ensures.fields
-    ∙ ap (λ q. old.fields + is_some (groups_in (take 312 (slice_set old.field.items q old.segment)))) last)
+    ∙ ap (λ q. old.fields + has_group (groups_in (take 312 (slice_set old.field.items q old.segment)))) last)
     (c.flush.ensures.cost
     ∙ ap (λ q. old.cost + softened_cost 1 (groups_in (take 312 (slice_set old.field.items q old.segment)))) last)
 

@@ -1,4 +1,4 @@
-use Rattle.std.proofs.Common.{rules, ◌≡◌, ◌≤◌, ℕ, ℤ, ◌*◌, ◌%◌, ◌==◌, ◌++◌, nat_le, List, length, map, take, ap, sym}
+use Rattle.std.proofs.Common.{rules, ◌≡◌, ◌≤◌, ℕ, ℤ, ◌*◌, ◌++◌, List, length, map, take, ap, sym}
 use Rattle.std.proofs.Common.{◌∙◌, arith, append_assoc, subst}
 use Rattle.dtx_coder.specs.Groups.{StandsFor}
 use Rattle.std.proofs.lemmas.List.{length-append, length-map, length-take}

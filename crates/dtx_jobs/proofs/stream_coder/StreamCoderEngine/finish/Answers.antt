@@ -9,5 +9,5 @@ pub returns-clause-outcome : goal.returns-clause-outcome
 returns-clause-outcome c = λ given stand.
     let outcome : ℕ → ℕ → Outcome =
     λ packets segments.
-    record { status = Done; numbers = packets ∷ segments ∷ c.args.loose ∷ 0 ∷ 0 ∷ 0 ∷ []; shown = 3 } in
+    record { status = Done; numbers = packets ∷ segments ∷ c.args.loose ∷ 0 ∷ 0 ∷ 0 ∷ 0 ∷ []; shown = 3 } in
     ap₂ outcome stand.packets (c.segments_of.ensures (packets_of given) (length-packets_of given ∙ sym stand.packets))

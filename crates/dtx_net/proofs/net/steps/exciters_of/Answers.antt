@@ -13,5 +13,6 @@ loop-transmitter-preserved c =
     let i = c.loop-transmitter.transmitter-index in
     let within : i < length ts = omega (arith, c.loop-transmitter-test.true) in
     subst (AreNew (i + 1) ts) (sym {A = List Exciter} c.in_ok-push.ensures.items)
-    (new_more i ts c.loop-transmitter.exciters.items (get_or ts i none) c.in_ok-new.field-0 c.loop-transmitter.invariant
-    (slice_get-get_or ts i none within) c.in_ok-new.ensures)
+    (new_more i ts c.loop-transmitter.exciters.items (get_or ts i none) c.in_ok-sharing.field-0
+    c.loop-transmitter.invariant
+    (slice_get-get_or ts i none within) c.in_ok-sharing.ensures)

@@ -1,11 +1,12 @@
-use Rattle.std.proofs.Common.{◌≡◌, ◌≢◌, ℕ, ℤ, ◌+◌, ◌%◌, List, refl, sym, subst, ◌∙◌, ap, length, take, drop, ◌++◌, ◌*◌}
+use Rattle.std.proofs.Common.{◌≡◌, ℤ, ◌+◌, ◌%◌, List, refl, sym, subst, ◌∙◌, ap, take, drop, ◌++◌, ◌*◌}
 use Rattle.std.proofs.Common.{arith}
 use Rattle.dtx_slice.specs.Slicing.{sliced_data}
 use Rattle.dtx_receiver.specs.Bytes.{data_count, bytes_in}
 use Rattle.dtx_receiver.specs.Packets.{early_of}
 use Rattle.dtx_receiver.specs.Receiver.{Decoding, Decodes}
-use Rattle.dtx_receiver.specs.SegmentsLaws.{Still, still_data, segment_long}
-use Rattle.dtx_receiver.proofs.Stands.{Whole, decodes_group, bytes_group, decodes_data, part_now, not_due_now}
+use Rattle.dtx_receiver.specs.SegmentsLaws.{still_data, segment_long}
+use Rattle.dtx_receiver.specs.LevelsLaws.{Whole, part_now, not_due_now}
+use Rattle.dtx_receiver.proofs.Stands.{decodes_group, bytes_group, decodes_data}
 use Rattle.dtx_receiver.proofs.decoder.Decoder.take.Goals as goal
 
 pub returns-then-part-eq-GROUP_SEGMENTS-clause-stands : goal.returns-then-part-eq-GROUP_SEGMENTS-clause-stands
@@ -17,7 +18,7 @@ returns-then-part-eq-GROUP_SEGMENTS-clause-stands c = λ run d e.
       turn = c.self.inside.turn;
     } in
     let here : Decodes kept run = subst (λ (k : Decoding). Decodes k run) (sym c.self.view_is) d in
-    let w : Whole c.args.segment.now kept run c.args.place c.put_levels.new.group =
+    let w : Whole c.args.segment.now kept.levels run c.args.place c.put_levels.new.group =
     record {
       due = e;
       last = omega (arith, c.if-part-eq-GROUP_SEGMENTS.true);
@@ -40,7 +41,7 @@ returns-then-part-eq-GROUP_SEGMENTS-clause-packets c = λ run before d e g.
       turn = c.self.inside.turn;
     } in
     let here : Decodes kept run = subst (λ (k : Decoding). Decodes k run) (sym c.self.view_is) d in
-    let w : Whole c.args.segment.now kept run c.args.place c.put_levels.new.group =
+    let w : Whole c.args.segment.now kept.levels run c.args.place c.put_levels.new.group =
     record {
       due = e;
       last = omega (arith, c.if-part-eq-GROUP_SEGMENTS.true);

@@ -1,7 +1,6 @@
 use Rattle.std.proofs.Common.{◌≡◌, ℕ, ◌-◌, ◌++◌, [], List, length, get_or, replicate, take, sym, ap, ap₂, ◌∙◌, arith}
 use Rattle.std.proofs.lemmas.List.{length-replicate}
-use Rattle.dtx_laws.specs.Register.{register}
-use Rattle.dtx_rs.proofs.Encoded.{one_of_four, table_codeword}
+use Rattle.dtx_rs.proofs.Encoded.{table_codeword}
 use Rattle.dtx_rs.proofs.encoder.RsEncode.encode_four.Goals as goal
 
 pub returns-then-this-le-WIDTH : goal.returns-then-this-le-WIDTH
@@ -14,6 +13,5 @@ returns-then-this-le-WIDTH g c p l =
     table_codeword g.row.N g.row.K 20 s.divisor s.table.divisor head parity (replicate g.row.N 0)
     (get_or c.join_four.new.words p []) s.code c.if-this-le-WIDTH.true (omega arith) s.divides s.tabulated
     lh lw (c.join_four.ensures.bytes p l)
-    (one_of_four (register s.table.divisor (replicate 20 0)) c.args.heads.now c.parity_of_four.result p l
-    c.parity_of_four.ensures)
+    (c.parity_of_four.ensures p l)
     (c.join_four.ensures.words p l ∙ ap (λ j. head ++ take j parity) (sym (ap₂ ◌-◌ lw lh)))

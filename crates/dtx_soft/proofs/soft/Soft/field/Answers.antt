@@ -1,17 +1,17 @@
 use Rattle.std.proofs.Common.{◌+◌, ◌*◌, ◌<◌, length, subst, sym, take, rules}
 use Rattle.dtx_soft.specs.Least.{ArePotentials}
-use Rattle.dtx_soft.specs.Coders.{symbols_of}
+use Rattle.dtx_soft.specs.Coders.{coder_symbols}
 use Rattle.dtx_soft.proofs.Potentials.{front_potentials}
-use Rattle.dtx_soft.proofs.Softened.{length-symbols_of}
+use Rattle.dtx_soft.proofs.Softened.{length-coder_symbols}
 use Rattle.dtx_soft.proofs.soft.Soft.field.Goals as goal
 
 pub returns-clause-potentials : goal.returns-clause-potentials
 returns-clause-potentials c =
-    subst (λ decoder. ArePotentials decoder.scale (symbols_of c.args.segments.now 11)
+    subst (λ decoder. ArePotentials decoder.scale (coder_symbols c.args.segments.now 11)
     (take (69 * length c.args.segments.now + 1) c.soften.new.walker.potentials.items)) c.self.view_is
-    (front_potentials c.self.inside.walker.table.scale (symbols_of c.args.segments.now 11)
+    (front_potentials c.self.inside.walker.table.scale (coder_symbols c.args.segments.now 11)
     c.soften.new.walker.potentials.items (69 * length c.args.segments.now)
-    (sym (length-symbols_of c.args.segments.now 11)) enough c.soften.ensures.potentials)
+    (sym (length-coder_symbols c.args.segments.now 11)) enough c.soften.ensures.potentials)
   where
     enough : 69 * length c.args.segments.now < length c.soften.new.walker.potentials.items
     enough = search rules

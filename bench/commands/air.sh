@@ -1,0 +1,60 @@
+#!/usr/bin/env bash
+# Measures what is made of the symbols of a feed of 100 MB: `dtx mend` beside `dtx receive`, of symbols of which none is missing; `dtx repeat`
+# beside `receive` and `dtx excite` of what was received; `dtx acquire` beside `dtx soft`, of symbols with noise, and of one that has 10,000,000
+# symbols of noise in front, which are searched. All of it in one run, on one processor where `taskset` is there, each the best of three. It
+# needs 3 GB on the disk of temporary files. The status is 0 where `mend` takes at most 1.25 times as long as `receive`, `repeat` at most 1.1
+# times as long as both others, `acquire` at most 1.2 times as long as `soft`, and the search at most 40 ns a symbol.
+
+set -eu
+rounds=3
+packets=531600
+search_symbols=10000000
+search_bar=40
+
+. "$(dirname "${BASH_SOURCE[0]}")/timing.sh"
+plan=$top/examples/two-sites.toml
+"$program" make 1 $packets "$room/in.ts" >"$room/said"
+"$program" adapt "$plan" "$room/in.ts" "$room/feed.ts" >"$room/said"
+"$program" code "$room/feed.ts" "$room/feed.sym" >"$room/said"
+
+# Symbols with a little noise: -1, 0 or 1 beside them, by a made stream's bytes.
+python3 - "$room" <<'end'
+import sys
+room = sys.argv[1]
+with open(f"{room}/feed.sym", "rb") as file:
+    symbols = file.read(100 * 313 * 832)
+with open(f"{room}/in.ts", "rb") as file:
+    random = file.read(len(symbols))
+noisy = bytes((symbol + byte % 3 - 1) & 255 for symbol, byte in zip(symbols, random))
+with open(f"{room}/noisy.sym", "wb") as file:
+    file.write(noisy)
+with open(f"{room}/search.sym", "wb") as file:
+    file.write(bytes(byte & 15 for byte in random[:5000000]) * 2 + noisy)
+end
+
+# timed_into NAME OUT COMMAND..: measures the command, and lets its output go.
+timed_into() {
+    measure "$@"
+    rm -f "$room"/out.*
+}
+
+for ((round = 0; round < rounds; round++)); do
+    measure receive "$room/out.ts" "$program" receive "$room/feed.sym" "$room/out.ts"
+    # What was received has no marks, so an exciter is given as many packets of the feed.
+    head -c "$(stat -c %s "$room/out.ts")" "$room/feed.ts" >"$room/back.ts"
+    timed_into mend "$room/out.ts" "$program" mend "$room/feed.sym" "$room/out.ts"
+    timed_into excite "$room/out.sym" "$program" excite "$room/back.ts" 7 1000 "$room/out.sym" "$room/out.log"
+    timed_into repeat "$room/out.sym" "$program" repeat "$room/feed.sym" 7 1000 "$room/out.sym" "$room/out.log"
+    timed_into soft "$room/out.sym" "$program" soft "$room/noisy.sym" "$room/out.sym"
+    timed_into acquire "$room/out.sym" "$program" acquire 1 "$room/noisy.sym" "$room/out.sym"
+    timed_into search "$room/out.sym" "$program" acquire 1 "$room/search.sym" "$room/out.sym"
+done
+
+printf 'best of %d%s\n' $rounds "${pinned[*]:+, on one processor}"
+status=0
+within mend 1.25 receive || status=1
+within repeat 1.1 receive excite || status=1
+within acquire 1.2 soft || status=1
+awk -v time=$((best[search] - best[acquire])) -v symbols=$search_symbols -v bar=$search_bar \
+    'BEGIN { printf "the search takes %.1f ns a symbol (bar: %d)\n", time * 1e3 / symbols, bar; exit time * 1e3 > bar * symbols }' || status=1
+exit $status

@@ -1,0 +1,74 @@
+#!/usr/bin/env bash
+# Draws both pictures of examples/pictures where matplotlib is installed: what a network of thirty-five transmitters left,
+# one of them late, and how a noisy capture is received. Each transmitter's row and each mute has to be in the drawing.
+# The last line is `pictures: N passed, M failed`.
+
+set -u
+export LC_ALL=C
+top=$(cd "$(dirname "${BASH_SOURCE[0]}")/.." && pwd) || exit 1
+room=$(mktemp -d) || exit 1
+trap 'rm -rf "$room"' EXIT
+cd "$room" || exit 1
+export PATH=$top:$PATH MPLCONFIGDIR=$room/matplotlib
+passed=0
+failed=0
+
+# holds WHAT COMMAND..: it passes where the command does.
+holds() {
+    local what=$1
+    shift
+    if "$@" >said 2>&1; then
+        passed=$((passed + 1))
+    else
+        failed=$((failed + 1))
+        printf 'FAILED: %s: %s\n' "$what" "$(head -n 3 said)"
+    fi
+}
+
+# drawn NAME: both forms are there, of a size that fits a page, and the drawing is not empty.
+drawn() {
+    local wide high
+    [[ -s $1.png && $(wc -c <"$1.svg") -gt 20000 ]] || return
+    read -r wide high < <(sed -nE 's/^<svg .*width="([0-9]+)[.0-9]*pt" height="([0-9]+)[.0-9]*pt".*/\1 \2/p;
+        s/.*width="([0-9]+)[.0-9]*pt" height="([0-9]+)[.0-9]*pt".*/\1 \2/p' "$1.svg" | head -n 1)
+    ((wide > 300 && wide < 850 && high > 100 && high < 1200))
+}
+
+rows() {
+    local address
+    for address in $(sed -n 's/^address = //p' plan.toml); do
+        grep -q ">$address</text>" network.svg || { echo "no row of $address"; return 1; }
+    done
+}
+
+mutes() {
+    local all
+    all=$(cat tx-*.log | grep -c '^mute')
+    ((all > 0 && all == $(grep -c 'id="mute-' network.svg)))
+}
+
+plan() {
+    sed '0,/^delay = 1000$/s//delay = 60000/' "$top/examples/thirty-five.toml"
+    printf '[net]\nstream = "stream.ts"\nreceive = { from = 2, damage = [{ at = 500000, count = 3000, put = 7 }] }\n'
+    for address in {1..35}; do
+        printf '[[net.event]]\ndo = "send"\nto = %d\nfrom = %d\ncount = %d\n' "$address" $((20 * address)) $((1800 - 40 * address))
+    done
+}
+
+# The python3 that the shell finds may be another one than the system's, which has the library from Debian's package.
+for python in python3 /usr/bin/python3; do
+    if "$python" -c 'import matplotlib' 2>/dev/null; then
+        plan >plan.toml
+        dtx make 1 1872 stream.ts >said && dtx net plan.toml >said
+        holds 'the picture of a network' "$python" "$top/examples/pictures/network.py" plan.toml network
+        holds 'its size' drawn network
+        holds 'a row for each transmitter' rows
+        holds 'each mute' mutes
+        dtx code stream.ts clean.sym >said && "$python" "$top/examples/capture.py" 1 26 5 clean.sym noisy.sym
+        holds 'the picture of a reception' "$python" "$top/examples/pictures/reception.py" noisy.sym reception
+        holds 'its size' drawn reception
+        break
+    fi
+done
+printf 'pictures: %d passed, %d failed\n' "$passed" "$failed"
+((failed == 0))

@@ -1,0 +1,17 @@
+-- What is made of each symbol from a place on.
+use Rattle.std.proofs.Common.{◌≡◌, ℕ, ℤ, pos, ◌+◌, ◌-◌, ◌<◌, List, map, drop, length, get_or, sym, ap, ◌∙◌, arith}
+use Rattle.std.proofs.lemmas.List.{ext_get_or, get_or-drop, get_or-map, length-drop, length-map}
+
+pub each_from : {X : Type 0} (f : ℤ → X) (d : X) (a n : ℕ) (segment : List ℤ) (out : List X) → length segment ≡ a + n
+    → length out ≡ n → ((k : ℕ) → k < n → get_or out k d ≡ f (get_or segment (a + k) (pos 0)))
+    → out ≡ map f (drop a segment)
+each_from f d a n segment out h l g =
+    ext_get_or d out (map f (drop a segment)) (l ∙ sym (length-map (drop a segment) f ∙ rest))
+    (λ k m. g k (omega (arith, l, m)) ∙ sym (get_or-map f (drop a segment) k (pos 0) d (omega (arith, rest, l, m))
+    ∙ ap f (get_or-drop a segment k (pos 0))))
+  where
+    left : (a n : ℕ) → a + n - a ≡ n
+    left a n = omega arith
+
+    rest : length (drop a segment) ≡ n
+    rest = length-drop a segment ∙ ap (λ x. x - a) h ∙ left a n

@@ -1,0 +1,331 @@
+-- What an acquirer holds, step by step.
+use Rattle.std.proofs.Common.{◌≡◌, ℕ, ℤ, suc, ◌+◌, ◌*◌, ◌/◌, ◌<◌, ◌≤◌, ◌⊎◌, inl, inr, Bool, true, false, not}
+use Rattle.std.proofs.Common.{List, [], ◌∷◌, ◌++◌, length, map, sum, take, drop, append_assoc, refl, sym, ap}
+use Rattle.std.proofs.Common.{ap₂, ◌∙◌, subst}
+use Rattle.std.proofs.Common.{arith, length-append}
+use Rattle.std.proofs.lemmas.List.{append-nil, length-drop, length-map, length-take-le, map-append}
+use Rattle.std.proofs.lemmas.List.FromFn.{length-map-range_with_len}
+use Rattle.std.proofs.lemmas.List.Sums.{sum_by-append, sum_by-cons}
+use Rattle.dtx_soft.specs.Softened.{softened, softened_segment}
+use Rattle.dtx_acquire.specs.Agreement.{agrees}
+use Rattle.dtx_acquire.specs.Acquired.{Field, acquired, acquired_cost, acquired_rest, acquired_runs}
+use Rattle.dtx_acquire.specs.Acquired.{acquired_so_far, begun}
+use Rattle.dtx_acquire.specs.Acquired.{all_fields, behind_groups, cost_of, fields_where, in_groups, last_fields}
+use Rattle.dtx_acquire.specs.Acquired.{path_cost}
+use Rattle.dtx_acquire.specs.Acquired.{restored, restored_data, restored_field, restored_of, runs_of, segments_from}
+use Rattle.dtx_acquire.specs.Acquired.{settled_fields}
+use Rattle.dtx_acquire.specs.Acquirer.{Holding, IsSought, Leaves, StandsFor, field_of, where_wanted}
+use Rattle.dtx_acquire.specs.AcquiredLaws.{restored_append}
+use Rattle.dtx_acquire.specs.AgreementLaws.{least_none}
+use Rattle.dtx_acquire.specs.FieldsLaws.{fields_last, fields_none, fields_short}
+use Rattle.dtx_acquire.specs.StepsLaws.{sought_fields}
+
+-- ---- sums
+
+runs_append : (xs ys : List Field) → runs_of (xs ++ ys) ≡ runs_of xs + runs_of ys
+unfolding runs_of
+runs_append xs ys = ap sum (map-append begun xs ys) ∙ sum_by-append (λ x. x) (map begun xs) (map begun ys)
+
+cost_append : (scale : ℕ) (xs ys : List Field) → cost_of scale (xs ++ ys) ≡ cost_of scale xs + cost_of scale ys
+unfolding cost_of
+cost_append scale xs ys =
+    ap sum (map-append (λ (field : Field). path_cost scale field.segments) xs ys)
+    ∙ sum_by-append (λ x. x) (map (λ (field : Field). path_cost scale field.segments) xs)
+    (map (λ (field : Field). path_cost scale field.segments) ys)
+
+restored_one : (scale : ℕ) (field : Field) → restored_of scale (field ∷ []) ≡ restored scale field.segments
+unfolding restored_of
+restored_one scale field = append-nil (restored scale field.segments)
+
+runs_one : (field : Field) → runs_of (field ∷ []) ≡ begun field
+unfolding runs_of
+runs_one field = sum_by-cons (λ x. x) (begun field) [] ∙ added (begun field)
+  where
+    added : (n : ℕ) → n + 0 ≡ n
+    added n = omega arith
+
+cost_one : (scale : ℕ) (field : Field) → cost_of scale (field ∷ []) ≡ path_cost scale field.segments
+unfolding cost_of
+cost_one scale field =
+    sum_by-cons (λ x. x) (path_cost scale field.segments) [] ∙ added (path_cost scale field.segments)
+  where
+    added : (n : ℕ) → n + 0 ≡ n
+    added n = omega arith
+
+-- ---- lengths
+
+length-field : (scale : ℕ) (segments : List (List ℤ)) → length (restored_field scale segments) ≡ length segments
+unfolding restored_field in_groups behind_groups softened
+length-field scale segments =
+    let whole : 4 * (length segments / 4) ≤ length segments = omega arith in
+    let groups = length-take-le (4 * (length segments / 4)) segments whole in
+    let others = length-drop (4 * (length segments / 4)) segments in
+    let soft = length-map-range_with_len (softened_segment scale (in_groups segments)) 0
+    (length (in_groups segments)) in
+    let both = length-append (softened scale (in_groups segments)) (behind_groups segments) in
+    length-map (softened scale (in_groups segments) ++ behind_groups segments) (restored_data scale)
+    ∙ omega (arith, both, soft, groups, others, whole)
+
+pub length-restored : (scale : ℕ) (segments : List (List ℤ)) → length (restored scale segments) ≡ length segments
+length-restored scale [] = refl
+length-restored scale (x ∷ segments) = ap (λ n. suc n) (length-field scale segments)
+
+pub length-segments_from : (symbols : List ℤ) (place count : ℕ) → length (segments_from symbols place count) ≡ count
+unfolding segments_from
+length-segments_from symbols place count =
+    length-map-range_with_len (λ i. take 832 (drop (place + 832 * i) symbols)) 0 count
+
+-- ---- fields
+
+wanted_both : (b : Bool) (xs ys : List Field) (zs : List Field)
+    → where_wanted b xs ++ (where_wanted b ys ++ zs) ≡ where_wanted b (xs ++ ys) ++ zs
+wanted_both true xs ys zs = sym (append_assoc xs ys zs)
+wanted_both false xs ys zs = refl
+
+-- more symbols
+pub leaves_more : (old new : Holding) (symbols more : List ℤ) (done : List Field) → Leaves old symbols done
+    → new.held ≡ old.held ++ more → new.begins ≡ old.begins → new.symbols ≡ old.symbols + length more
+    → new.scale ≡ old.scale → new.runs ≡ old.runs → new.segments ≡ old.segments → new.cost ≡ old.cost
+    → Leaves new (symbols ++ more) done
+leaves_more old new symbols more done h held begins count scale runs segments cost = record {
+  fields = λ wanted rest.
+      ap (fields_where wanted true) (append_assoc symbols more rest) ∙ h.fields wanted (more ++ rest)
+      ∙ ap₂ (λ b (xs : List ℤ). where_wanted (wanted true) done ++ fields_where wanted b xs) (sym begins)
+      (sym (append_assoc old.held more rest) ∙ ap (λ xs. xs ++ rest) (sym held));
+  symbols_are = count ∙ ap (λ n. n + length more) h.symbols_are ∙ sym (length-append symbols more);
+  runs_are = runs ∙ h.runs_are;
+  segments_are = segments ∙ h.segments_are ∙ ap (λ s. length (restored_of s done)) (sym scale);
+  cost_is = cost ∙ h.cost_is ∙ ap (λ s. cost_of s done) (sym scale);
+}
+
+-- more fields
+pub leaves_step : (old new : Holding) (symbols : List ℤ) (done fields : List Field) → Leaves old symbols done
+    → ((wanted : Bool → Bool) (more : List ℤ) → fields_where wanted old.begins (old.held ++ more)
+    ≡ where_wanted (wanted true) fields ++ fields_where wanted new.begins (new.held ++ more))
+    → new.symbols ≡ old.symbols → new.scale ≡ old.scale → new.runs ≡ old.runs + runs_of fields
+    → new.segments ≡ old.segments + length (restored_of old.scale fields)
+    → new.cost ≡ old.cost + cost_of old.scale fields → Leaves new symbols (done ++ fields)
+leaves_step old new symbols done fields h step count scale runs segments cost = record {
+  fields = λ wanted more.
+      h.fields wanted more ∙ ap (λ xs. where_wanted (wanted true) done ++ xs) (step wanted more)
+      ∙ wanted_both (wanted true) done fields (fields_where wanted new.begins (new.held ++ more));
+  symbols_are = count ∙ h.symbols_are;
+  runs_are = runs ∙ ap (λ n. n + runs_of fields) h.runs_are ∙ sym (runs_append done fields);
+  segments_are =
+      segments ∙ ap (λ n. n + length (restored_of old.scale fields)) h.segments_are
+      ∙ sym (length-append (restored_of old.scale done) (restored_of old.scale fields))
+      ∙ ap length (sym (restored_append old.scale done fields))
+      ∙ ap (λ s. length (restored_of s (done ++ fields))) (sym scale);
+  cost_is =
+      cost ∙ ap (λ n. n + cost_of old.scale fields) h.cost_is ∙ sym (cost_append old.scale done fields)
+      ∙ ap (λ s. cost_of s (done ++ fields)) (sym scale);
+}
+
+-- no field, where the symbols that were let go are in none
+pub leaves_sought : (old new : Holding) (symbols : List ℤ) (done : List Field) → Leaves old symbols done
+    → IsSought old.held new.held → new.begins ≡ old.begins → new.symbols ≡ old.symbols → new.scale ≡ old.scale
+    → new.runs ≡ old.runs → new.segments ≡ old.segments → new.cost ≡ old.cost → Leaves new symbols done
+leaves_sought old new symbols done h sought begins count scale runs segments cost = record {
+  fields = λ wanted more.
+      h.fields wanted more
+      ∙ ap (λ xs. where_wanted (wanted true) done ++ xs) (sought_fields old.held new.held sought wanted old.begins more
+      ∙ ap (λ b. fields_where wanted b (new.held ++ more)) (sym begins));
+  symbols_are = count ∙ h.symbols_are;
+  runs_are = runs ∙ h.runs_are;
+  segments_are = segments ∙ h.segments_are ∙ ap (λ s. length (restored_of s done)) (sym scale);
+  cost_is = cost ∙ h.cost_is ∙ ap (λ s. cost_of s done) (sym scale);
+}
+
+-- a field whose segments were given
+pub leaves_settled : (old new : Holding) (held again : List ℤ) (count given : ℕ) (symbols : List ℤ) (done : List Field)
+    → Leaves old symbols done → held ≡ old.held → again ≡ old.held
+    → ((wanted : Bool → Bool) (begins : Bool) (more : List ℤ) → fields_where wanted begins (held ++ more)
+    ≡ where_wanted (wanted true) (field_of given begins held ∷ []) ++ fields_where wanted new.begins
+    (drop count held ++ more))
+    → new.held ≡ drop count old.held → new.symbols ≡ old.symbols → new.scale ≡ old.scale
+    → new.runs ≡ old.runs + begun (field_of given old.begins again) → new.segments ≡ old.segments + given
+    → new.cost ≡ old.cost + path_cost old.scale (segments_from again 0 given)
+    → Leaves new symbols (done ++ field_of given old.begins held ∷ [])
+leaves_settled old new held again count given symbols done h e f step left counted scale runs segments cost =
+    let field = field_of given old.begins held in
+    let same : again ≡ held = f ∙ sym e in
+    leaves_step old new symbols done (field ∷ []) h
+    (λ wanted more. ap (λ (xs : List ℤ). fields_where wanted old.begins (xs ++ more)) (sym e)
+    ∙ step wanted old.begins more
+    ∙ ap (λ (xs : List ℤ). where_wanted (wanted true) (field ∷ []) ++ fields_where wanted new.begins (xs ++ more))
+    (ap (drop count) e ∙ sym left))
+    counted scale
+    (runs ∙ ap (λ n. old.runs + n) (ap (λ (xs : List ℤ). begun (field_of given old.begins xs)) same
+    ∙ sym (runs_one field)))
+    (segments ∙ ap (λ n. old.segments + n) (sym (length-segments_from held 0 given)
+    ∙ sym (length-restored old.scale (segments_from held 0 given)) ∙ ap length (sym (restored_one old.scale field))))
+    (cost ∙ ap (λ n. old.cost + n) (ap (λ (xs : List ℤ). path_cost old.scale (segments_from xs 0 given)) same
+    ∙ sym (cost_one old.scale field)))
+
+pub given_settled : (scale given : ℕ) (begins : Bool) (held again : List ℤ) → again ≡ held
+    → restored scale (segments_from again 0 given) ≡ restored_of scale (field_of given begins held ∷ [])
+given_settled scale given begins held again e =
+    ap (λ (xs : List ℤ). restored scale (segments_from xs 0 given)) e
+    ∙ sym (restored_one scale (field_of given begins held))
+
+-- ---- all that it stands for
+
+pub settled_are : (holding : Holding) (symbols : List ℤ) (done : List Field) → Leaves holding symbols done
+    → length holding.held < 261248 → settled_fields symbols ≡ done
+settled_are holding symbols done h few =
+    ap (fields_where (λ met. met) true) (sym (append-nil symbols)) ∙ h.fields (λ met. met) []
+    ∙ ap (λ (xs : List ℤ). done ++ fields_where (λ met. met) holding.begins xs) (append-nil holding.held)
+    ∙ ap (λ xs. done ++ xs) (fields_short holding.begins holding.held few) ∙ append-nil done
+
+pub stands_by : (holding : Holding) (symbols : List ℤ) (done : List Field) → Leaves holding symbols done
+    → length holding.held < 261248 → StandsFor holding symbols
+stands_by holding symbols done h few = record {
+  few = few;
+  leaves = subst (Leaves holding symbols) (sym (settled_are holding symbols done h few)) h;
+}
+
+pub so_far_by : (holding : Holding) (before symbols : List ℤ) (fields : List Field) (scale : ℕ)
+    → Leaves holding symbols (settled_fields before ++ fields) → length holding.held < 261248
+    → acquired_so_far scale symbols ≡ acquired_so_far scale before ++ restored_of scale fields
+unfolding acquired_so_far
+so_far_by holding before symbols fields scale h few =
+    ap (restored_of scale) (settled_are holding symbols (settled_fields before ++ fields) h few)
+    ∙ restored_append scale (settled_fields before) fields
+
+-- nothing was given
+pub stands_first : (holding : Holding) → holding.held ≡ [] → holding.begins ≡ true → holding.symbols ≡ 0
+    → holding.runs ≡ 0 → holding.segments ≡ 0 → holding.cost ≡ 0 → StandsFor holding []
+unfolding runs_of restored_of cost_of
+stands_first holding held begins count runs segments cost =
+    stands_by holding [] [] (record {
+      fields = λ wanted more.
+          ap₂ (λ b (xs : List ℤ). fields_where wanted b (xs ++ more)) (sym begins) (sym held) ∙ none (wanted true) _;
+      symbols_are = count;
+      runs_are = runs;
+      segments_are = segments;
+      cost_is = cost;
+    }) (subst (λ (xs : List ℤ). length xs < 261248) (sym held) (omega arith))
+  where
+    none : (b : Bool) (xs : List Field) → xs ≡ where_wanted b [] ++ xs
+    none true xs = refl
+    none false xs = refl
+
+-- ---- the end
+
+-- the last field
+pub record IsLast (on begins : Bool) (held : List ℤ) (count : ℕ) (last : List Field) : Type 0 where
+  pub fields : (wanted : Bool → Bool) → fields_where wanted begins held ≡ where_wanted (wanted false) last
+  pub gives : (scale : ℕ) → restored_of scale last ≡ restored scale (segments_from held 0 count)
+  pub runs : runs_of last ≡ begun (field_of count begins held)
+  pub costs : (scale : ℕ) → cost_of scale last ≡ path_cost scale (segments_from held 0 count)
+
+pub last_is : (on begins : Bool) (held : List ℤ) (count : ℕ) → length held < 261248
+    → (on ≡ true → agrees held 0 ≡ true) → (on ≡ true) ⊎ (length held < 832)
+    → (on ≡ true → length held < 261248 → count ≡ length held / 832) → (on ≡ false → count ≡ 0)
+    → (last : List Field) × IsLast on begins held count last
+unfolding restored_of runs_of cost_of segments_from
+last_is true begins held count few front short whole none = (
+  field_of count begins held ∷ [],
+  record {
+    fields = λ wanted.
+        fields_last wanted begins held few (front refl)
+        ∙ ap (λ n. where_wanted (wanted false) (field_of n begins held ∷ [])) (sym (whole refl few));
+    gives = λ scale. restored_one scale (field_of count begins held);
+    runs = runs_one (field_of count begins held);
+    costs = λ scale. cost_one scale (field_of count begins held);
+  },
+)
+last_is false begins held count few front short whole none = (
+  [],
+  record {
+    fields = λ wanted. fields_none wanted begins held (least_none held 0 (λ i l m. absurd (by_short short i m)))
+        ∙ empty (wanted false);
+    gives = λ scale. ap (λ n. restored scale (segments_from held 0 n)) (sym (none refl));
+    runs = not_begun begins ∙ ap (λ n. begun (field_of n begins held)) (sym (none refl));
+    costs = λ scale. ap (λ n. path_cost scale (segments_from held 0 n)) (sym (none refl));
+  },
+)
+  where
+    by_short : (false ≡ true) ⊎ (length held < 832) → (i : ℕ) → i + 831 < length held → ⊥
+    by_short (inl e) i m = absurd (unlike_tests e)
+      where
+        unlike_tests : ◌≡◌ {A = Bool} false true → ⊥
+        unlike_tests e = cc
+    by_short (inr l) i m = omega arith
+
+    empty : (b : Bool) → ◌≡◌ {A = List Field} [] (where_wanted b [])
+    empty true = refl
+    empty false = refl
+
+    not_begun : (b : Bool) → 0 ≡ begun (field_of 0 b held)
+    not_begun true = refl
+    not_begun false = refl
+
+-- all fields, and the last ones
+record AreAll (holding : Holding) (symbols : List ℤ) (last : List Field) : Type 0 where
+  all : all_fields symbols ≡ settled_fields symbols ++ last
+  rest : last_fields symbols ≡ last
+
+all_are : (holding : Holding) (symbols sought : List ℤ) (on : Bool) (count : ℕ) (last : List Field)
+    → StandsFor holding symbols → IsSought holding.held sought → IsLast on holding.begins sought count last
+    → AreAll holding symbols last
+all_are holding symbols left on count last h sought is = record {
+  all = each (λ met. true);
+  rest = each not;
+}
+  where
+    each : (wanted : Bool → Bool) → fields_where wanted true symbols
+        ≡ where_wanted (wanted true) (settled_fields symbols) ++ where_wanted (wanted false) last
+    each wanted =
+        ap (fields_where wanted true) (sym (append-nil symbols)) ∙ h.leaves.fields wanted []
+        ∙ ap (λ xs. where_wanted (wanted true) (settled_fields symbols) ++ xs)
+        (sought_fields holding.held left sought wanted holding.begins []
+        ∙ ap (fields_where wanted holding.begins) (append-nil left) ∙ is.fields wanted)
+
+pub record IsEnd (holding : Holding) (symbols : List ℤ) (scale : ℕ) (given : List (List ℤ)) (runs segments cost : ℕ)
+    : Type 0 where
+  pub gives : given ≡ acquired_rest scale symbols
+  pub runs_are : runs ≡ acquired_runs symbols
+  pub segments_are : segments ≡ length (acquired scale symbols)
+  pub cost_is : cost ≡ acquired_cost scale symbols
+
+pub ends : (holding : Holding) (symbols left again : List ℤ) (on : Bool) (count runs segments cost : ℕ)
+    (given : List (List ℤ)) → StandsFor holding symbols → IsSought holding.held left
+    → (on ≡ true → agrees left 0 ≡ true) → (on ≡ true) ⊎ (length left < 832)
+    → (on ≡ true → length left < 261248 → count ≡ length left / 832) → (on ≡ false → count ≡ 0) → again ≡ left
+    → given ≡ restored holding.scale (segments_from again 0 count)
+    → runs ≡ holding.runs + begun (field_of count holding.begins again) → segments ≡ holding.segments + count
+    → cost ≡ holding.cost + path_cost holding.scale (segments_from again 0 count)
+    → IsEnd holding symbols holding.scale given runs segments cost
+unfolding acquired_rest acquired_runs acquired acquired_cost
+ends holding symbols left again on count runs segments cost given h sought front short whole none same gives begun_are
+    counted costs =
+    let few : length left < 261248 = omega
+    (arith, h.few, ap length sought.left, length-drop sought.count holding.held) in
+    let last = last_is on holding.begins left count few front short whole none in
+    let is = last.1 in
+    let are = all_are holding symbols left on count last.0 h sought is in
+    record {
+      gives =
+          gives ∙ ap (λ (xs : List ℤ). restored holding.scale (segments_from xs 0 count)) same
+          ∙ sym (is.gives holding.scale) ∙ ap (restored_of holding.scale) (sym are.rest);
+      runs_are =
+          begun_are
+          ∙ ap₂ (λ a b. a + b) h.leaves.runs_are (ap (λ (xs : List ℤ). begun (field_of count holding.begins xs)) same
+          ∙ sym is.runs)
+          ∙ sym (runs_append (settled_fields symbols) last.0) ∙ ap runs_of (sym are.all);
+      segments_are =
+          counted
+          ∙ ap₂ (λ a b. a + b) h.leaves.segments_are (sym (length-segments_from left 0 count)
+          ∙ sym (length-restored holding.scale (segments_from left 0 count)) ∙ ap length (sym (is.gives holding.scale)))
+          ∙ sym (length-append (restored_of holding.scale (settled_fields symbols)) (restored_of holding.scale last.0))
+          ∙ ap length (sym (restored_append holding.scale (settled_fields symbols) last.0)
+          ∙ ap (restored_of holding.scale) (sym are.all));
+      cost_is =
+          costs
+          ∙ ap₂ (λ a b. a + b) h.leaves.cost_is
+          (ap (λ (xs : List ℤ). path_cost holding.scale (segments_from xs 0 count)) same
+          ∙ sym (is.costs holding.scale))
+          ∙ sym (cost_append holding.scale (settled_fields symbols) last.0)
+          ∙ ap (cost_of holding.scale) (sym are.all);
+    }

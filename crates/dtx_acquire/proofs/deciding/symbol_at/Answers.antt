@@ -1,0 +1,5 @@
+use Rattle.dtx_frame.specs.SymbolsLaws.{level_symbol_is}
+use Rattle.dtx_acquire.proofs.deciding.symbol_at.Goals as goal
+
+pub returns : goal.returns
+returns c = level_symbol_is c.args.level c.requires

@@ -1,0 +1,10 @@
+pub mod Agreement
+pub mod Signs
+pub mod Scaled
+pub mod Acquired
+pub mod Acquirer
+pub mod AgreementLaws
+pub mod SyncsLaws
+pub mod FieldsLaws
+pub mod StepsLaws
+pub mod AcquiredLaws

@@ -1,0 +1,163 @@
+//! The fields that are given, and the numbers of all.
+
+ghost use Rattle.std.specs.Prelude.{◌≡◌, ℕ, ℤ, ◌+◌, ◌*◌, ◌<◌, ◌≤◌, Bool, List, [], IfOk, length, take, vec_len};
+ghost use Rattle.dtx_acquire.specs.Acquired.{begun, path_cost, restored, segments_from};
+
+use crate::deciding::Decisions;
+use crate::restoring::restore;
+use crate::step::FIELD;
+use dtx_sizes::{MOST_SEGMENTS, SEGMENT};
+use dtx_soft::{MAX_SCALE, Soft};
+use std::alloc::{AllocError, Global};
+
+/// What restores fields, the segments of the last field, and of how many runs, how many segments, at what costs of
+/// least paths were given.
+#[derive(Drop)]
+pub(crate) struct Giver {
+    soft: Soft,
+    pub(crate) decisions: Decisions,
+    pub(crate) segments: Vec<[i8; SEGMENT]>,
+    pub(crate) count: usize,
+    pub(crate) runs: u64,
+    pub(crate) total: u64,
+    pub(crate) cost: u64,
+    ghost scale: { soft.scale ≡ decisions.scale },
+    ghost long: { vec_len segments ≡ 313 },
+    ghost few: { count ≤ 313 },
+    ghost runs_small: { runs ≤ total },
+    ghost cost_small: { cost ≤ 53419248 * total },
+}
+
+impl Giver {
+    /// Nothing was given.
+    pub(crate) fn new(alloc: Global, scale: u8) -> Result<Giver, AllocError>
+        requires from { 0 < scale }
+        requires to { scale ≤ MAX_SCALE }
+        ensures scale { IfOk result (λ giver. giver.decisions.scale ≡ scale) }
+        ensures count { IfOk result (λ giver. giver.count ≡ 0) }
+        ensures runs { IfOk result (λ giver. giver.runs ≡ 0) }
+        ensures total { IfOk result (λ giver. giver.total ≡ 0) }
+        ensures cost { IfOk result (λ giver. giver.cost ≡ 0) }
+    {
+        Ok(Giver {
+            soft: Soft::scaled(alloc, scale)?,
+            decisions: Decisions::new(alloc, scale)?,
+            segments: vec![in alloc; [0i8; SEGMENT]; FIELD]?,
+            count: 0,
+            runs: 0,
+            total: 0,
+            cost: 0,
+        })
+    }
+
+    /// Gives the first segments of symbols, so many: a field, or its front part.
+    pub(crate) fn give(&mut self, symbols: &[i8], count: usize, begins: bool)
+        requires few { count ≤ FIELD }
+        requires room { SEGMENT * count ≤ length symbols.now }
+        requires most { self.old.total ≤ MOST_SEGMENTS }
+        ensures given { take self.new.count self.new.segments.items
+            ≡ restored self.old.decisions.scale (segments_from symbols.now 0 count) }
+        ensures count { length (take self.new.count self.new.segments.items) ≡ count }
+        ensures total { self.new.total ≡ self.old.total + count }
+        ensures runs { self.new.runs
+            ≡ self.old.runs + begun (record { begins = begins; segments = segments_from symbols.now 0 count }) }
+        ensures cost { self.new.cost
+            ≡ self.old.cost + path_cost self.old.decisions.scale (segments_from symbols.now 0 count) }
+        ensures scale { self.new.decisions.scale ≡ self.old.decisions.scale }
+    {
+        let cost = restore_front(
+            &mut self.soft,
+            &self.decisions,
+            symbols,
+            count,
+            &mut self.segments,
+        );
+        self.count = count;
+        self.total += count as u64;
+        self.runs += run_of(begins, count);
+        self.cost += cost;
+    }
+}
+
+/// 1 where a run begins with a field of so many segments.
+fn run_of(begins: bool, count: usize) -> u64
+    ensures run { (segments : List (List ℤ)) → length segments ≡ count
+        → result ≡ begun (record { begins = begins; segments = segments }) }
+    ensures few { result ≤ count }
+{
+    if begins && count > 0 { 1 } else { 0 }
+}
+
+/// Copies the first symbols to the first segments, so many, and restores these. Answers what their least paths cost.
+fn restore_front(
+    soft: &mut Soft,
+    decisions: &Decisions,
+    symbols: &[i8],
+    count: usize,
+    segments: &mut Vec<[i8; SEGMENT]>,
+) -> u64
+    requires scale { soft.old.scale ≡ decisions.now.scale }
+    requires few { count ≤ FIELD }
+    requires long { vec_len segments.old ≡ FIELD }
+    requires room { SEGMENT * count ≤ length symbols.now }
+    ensures segments { take count segments.new.items
+        ≡ restored decisions.now.scale (segments_from symbols.now 0 count) }
+    ensures cost { result ≡ path_cost decisions.now.scale (segments_from symbols.now 0 count) }
+    ensures most { result ≤ 53419248 * count }
+    ensures scale { soft.new.scale ≡ soft.old.scale }
+    ensures long { vec_len segments.new ≡ FIELD }
+{
+    restore_first(soft, decisions, symbols, count, &mut segments[..])
+}
+
+/// Does so with a list.
+fn restore_first(
+    soft: &mut Soft,
+    decisions: &Decisions,
+    symbols: &[i8],
+    count: usize,
+    segments: &mut [[i8; SEGMENT]],
+) -> u64
+    requires scale { soft.old.scale ≡ decisions.now.scale }
+    requires few { count ≤ FIELD }
+    requires long { length segments.old ≡ FIELD }
+    requires room { SEGMENT * count ≤ length symbols.now }
+    ensures segments { take count segments.new
+        ≡ restored decisions.now.scale (segments_from symbols.now 0 count) }
+    ensures cost { result ≡ path_cost decisions.now.scale (segments_from symbols.now 0 count) }
+    ensures most { result ≤ 53419248 * count }
+    ensures scale { soft.new.scale ≡ soft.old.scale }
+    ensures long { length segments.new ≡ FIELD }
+{
+    restore_from(soft, decisions, symbols, &mut segments[..count])
+}
+
+/// Copies the first symbols to segments, and restores these. Answers what their least paths cost.
+fn restore_from(
+    soft: &mut Soft,
+    decisions: &Decisions,
+    symbols: &[i8],
+    segments: &mut [[i8; SEGMENT]],
+) -> u64
+    requires scale { soft.old.scale ≡ decisions.now.scale }
+    requires few { length segments.old ≤ FIELD }
+    requires room { SEGMENT * length segments.old ≤ length symbols.now }
+    ensures segments { segments.new
+        ≡ restored decisions.now.scale (segments_from symbols.now 0 (length segments.old)) }
+    ensures cost { result ≡ path_cost decisions.now.scale (segments_from symbols.now 0 (length segments.old)) }
+    ensures most { result ≤ 53419248 * length segments.old }
+    ensures scale { soft.new.scale ≡ soft.old.scale }
+{
+    gather(symbols, segments);
+    restore(soft, decisions, segments)
+}
+
+/// Copies the first symbols to segments.
+fn gather(symbols: &[i8], segments: &mut [[i8; SEGMENT]])
+    requires { SEGMENT * length segments.old ≤ length symbols.now }
+    ensures { segments.new ≡ segments_from symbols.now 0 (length segments.old) }
+{
+    for i in 0..segments.len() {
+        segments[i].copy_from_slice(&symbols[SEGMENT * i..SEGMENT * i + SEGMENT]);
+    }
+}

@@ -1,0 +1,76 @@
+//! The symbols of which it is not yet known what they give.
+
+ghost use Rattle.std.specs.Prelude.{◌≡◌, ◌<◌, ◌≤◌, ◌++◌, [], IfOk, length, take, drop};
+
+use dtx_sizes::{FIELD_SEGMENTS, SEGMENT};
+use std::alloc::{AllocError, Global};
+use std::marker::Model;
+
+/// How many symbols are held at most: those of a field, and of the segment behind it.
+pub(crate) const MOST_HELD: usize = SEGMENT * (FIELD_SEGMENTS as usize + 1);
+
+/// Symbols, in order. It is seen as their list.
+#[derive(Drop)]
+pub(crate) struct Held {
+    symbols: Vec<i8>,
+    filled: usize,
+}
+
+impl Model for Held {
+    ghost use Rattle.std.specs.Prelude.{ℤ, List, ◌≡◌, ◌≤◌, take, vec_len};
+    ghost use Rattle.dtx_acquire.specs.declared.held.TheConstants.{MOST_HELD};
+
+    ghost Value = { List ℤ };
+
+    ghost view = { λ h. take h.filled h.symbols.items };
+
+    ghost invariant = { λ h. (h.filled ≤ MOST_HELD) × (vec_len h.symbols ≡ MOST_HELD) };
+}
+
+impl Held {
+    /// None.
+    pub(crate) fn new(alloc: Global) -> Result<Held, AllocError>
+        ensures { IfOk result (λ held. held ≡ []) }
+    {
+        Ok(Held {
+            symbols: vec![in alloc; 0i8; MOST_HELD]?,
+            filled: 0,
+        })
+    }
+
+    /// How many there are.
+    pub(crate) fn len(&self) -> usize
+        ensures long { result ≡ length self.now }
+        ensures few { result ≤ MOST_HELD }
+    {
+        self.filled
+    }
+
+    /// All of them.
+    pub(crate) fn all(&self) -> &[i8]
+        ensures { result.now ≡ self.now }
+    {
+        &self.symbols[..self.filled]
+    }
+
+    /// Takes the first of these symbols, as many as there is room for, and answers how many.
+    pub(crate) fn take(&mut self, symbols: &[i8]) -> usize
+        ensures within { result ≤ length symbols.now }
+        ensures held { self.new ≡ self.old ++ take result symbols.now }
+        ensures some { 0 < length symbols.now → length self.old < MOST_HELD → 0 < result }
+    {
+        let count = symbols.len().min(MOST_HELD - self.filled);
+        self.symbols[self.filled..self.filled + count].copy_from_slice(&symbols[..count]);
+        self.filled += count;
+        count
+    }
+
+    /// Lets the first of them go, so many.
+    pub(crate) fn leave(&mut self, count: usize)
+        requires { count ≤ length self.old }
+        ensures { self.new ≡ drop count self.old }
+    {
+        self.symbols.copy_within(count..self.filled, 0);
+        self.filled -= count;
+    }
+}

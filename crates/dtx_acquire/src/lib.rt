@@ -1,0 +1,17 @@
+//! Symbols from the air: where fields begin, what was sent, and whole segments of it.
+#![tactic(auto)]
+
+mod acquirer;
+mod deciding;
+mod giver;
+mod held;
+pub mod laws;
+mod restoring;
+mod search;
+mod signs;
+mod step;
+
+pub use acquirer::Acquirer;
+
+#[cfg(test)]
+mod tests;

@@ -1,0 +1,122 @@
+//! What a field gives: its sync restored, and its symbols decided.
+
+ghost use Rattle.std.specs.Prelude.{◌≡◌, ℕ, ◌+◌, ◌*◌, ◌%◌, ◌<◌, ◌≤◌, [], length, map, nat_abs, pos};
+ghost use Rattle.std.specs.Prelude.{slice_index_or};
+ghost use Rattle.dtx_soft.specs.CostLaws.{AreSigned};
+ghost use Rattle.dtx_soft.specs.Softened.{softened, softened_cost};
+ghost use Rattle.dtx_acquire.specs.Acquired.{in_groups, path_cost, restored, restored_data, restored_field};
+ghost use Rattle.dtx_acquire.specs.Acquired.{restored_sync};
+
+use crate::deciding::Decisions;
+use crate::signs::is_second;
+use dtx_frame::{data_segment, field_sync};
+use dtx_sizes::{FIELD_PACKETS, FIELD_SEGMENTS, GROUP_PACKETS, SEGMENT, SEGMENT_LEVELS};
+use dtx_soft::Soft;
+
+/// What the symbols of a data segment cost at most: none is off a level by more than 254, which is 128 and 7 * 18.
+pub(crate) const MOST_COST: u64 = 828 * 64_516;
+
+/// Restores a field, or the first segments of one, and answers what its least paths cost.
+pub(crate) fn restore(soft: &mut Soft, decisions: &Decisions, segments: &mut [[i8; SEGMENT]]) -> u64
+    requires scale { soft.old.scale ≡ decisions.now.scale }
+    requires few { length segments.old ≤ FIELD_SEGMENTS }
+    ensures segments { segments.new ≡ restored decisions.now.scale segments.old }
+    ensures cost { result ≡ path_cost decisions.now.scale segments.old }
+    ensures most { result ≤ MOST_COST * length segments.old }
+    ensures scale { soft.new.scale ≡ soft.old.scale }
+{
+    if segments.len() == 0 {
+        return 0;
+    }
+    restore_sync(decisions, &mut segments[0]);
+    restore_field(soft, decisions, &mut segments[1..])
+}
+
+/// Restores a field sync.
+fn restore_sync(decisions: &Decisions, segment: &mut [i8; SEGMENT])
+    ensures { segment.new ≡ restored_sync decisions.now.scale segment.old }
+{
+    let second = is_second(segment);
+    let last = decisions.last(segment);
+    field_sync(second, &last, segment);
+}
+
+/// Restores the data segments behind a field sync, and answers what their least paths cost.
+fn restore_field(soft: &mut Soft, decisions: &Decisions, segments: &mut [[i8; SEGMENT]]) -> u64
+    requires scale { soft.old.scale ≡ decisions.now.scale }
+    requires few { length segments.old ≤ FIELD_PACKETS }
+    ensures segments { segments.new ≡ restored_field decisions.now.scale segments.old }
+    ensures cost { result ≡ softened_cost decisions.now.scale (in_groups segments.old) }
+    ensures most { result ≤ MOST_COST * length segments.old }
+    ensures scale { soft.new.scale ≡ soft.old.scale }
+{
+    let whole = GROUP_PACKETS * (segments.len() / GROUP_PACKETS);
+    let cost = soften(soft, &mut segments[..whole]);
+    restore_all_data(decisions, segments);
+    cost
+}
+
+/// Takes whole groups to the symbols of their least paths, and answers what these cost.
+fn soften(soft: &mut Soft, segments: &mut [[i8; SEGMENT]]) -> u64
+    requires scale { soft.old.scale ≤ 18 }
+    requires whole { length segments.old % GROUP_PACKETS ≡ 0 }
+    requires few { length segments.old ≤ FIELD_PACKETS }
+    ensures segments { segments.new ≡ softened soft.old.scale segments.old }
+    ensures cost { result ≡ softened_cost soft.old.scale segments.old }
+    ensures most { result ≤ MOST_COST * length segments.old }
+    ensures scale { soft.new.scale ≡ soft.old.scale }
+{
+    signed(segments);
+    let cost = soft.field(segments);
+    known(segments);
+    cost
+}
+
+/// Restores data segments whose symbols are at the scale.
+fn restore_all_data(decisions: &Decisions, segments: &mut [[i8; SEGMENT]])
+    ensures { segments.new ≡ map (restored_data decisions.now.scale) segments.old }
+{
+    for i in 0..segments.len() {
+        restore_data(decisions, &mut segments[i]);
+    }
+}
+
+/// Restores one.
+fn restore_data(decisions: &Decisions, segment: &mut [i8; SEGMENT])
+    ensures { segment.new ≡ restored_data decisions.now.scale segment.old }
+{
+    let mut levels = [0; SEGMENT_LEVELS];
+    decisions.levels(segment, &mut levels);
+    data_segment(&levels, segment);
+}
+
+/// Segments have 832 symbols each.
+fn known(segments: &[[i8; SEGMENT]])
+    ensures { (i : ℕ) → i < length segments.now → length (slice_index_or segments.now i []) ≡ SEGMENT }
+{}
+
+/// Their symbols are signed bytes.
+#[inline(always)]
+fn signed(segments: &[[i8; SEGMENT]])
+    ensures { AreSigned segments.now }
+{
+    for i in 0..segments.len() {
+        signed_segment(&segments[i]);
+    }
+}
+
+/// The symbols of a segment are.
+#[inline(always)]
+fn signed_segment(segment: &[i8; SEGMENT])
+    ensures { (k : ℕ) → nat_abs (slice_index_or segment.now k (pos 0)) ≤ 128 }
+{
+    for k in 0..SEGMENT {
+        signed_symbol(segment[k]);
+    }
+}
+
+/// A symbol is.
+#[inline(always)]
+fn signed_symbol(symbol: i8)
+    ensures { nat_abs symbol ≤ 128 }
+{}

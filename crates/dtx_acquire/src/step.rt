@@ -1,0 +1,89 @@
+//! Where the next sync is, among the symbols that are held.
+
+ghost use Rattle.std.specs.Prelude.{◌≡◌, ℤ, ◌+◌, ◌*◌, ◌<◌, ◌≤◌, ◌⊎◌, ◌++◌, Bool, true, [], ◌∷◌, List, length, drop};
+ghost use Rattle.dtx_acquire.specs.Acquired.{fields_where};
+ghost use Rattle.dtx_acquire.specs.Acquirer.{IsSought, field_of, where_wanted};
+ghost use Rattle.dtx_acquire.specs.Agreement.{agrees};
+
+use crate::held::{Held, MOST_HELD};
+use crate::search::{agrees, search};
+use dtx_sizes::{FIELD_SEGMENTS, SEGMENT};
+
+/// How many segments a field has.
+pub(crate) const FIELD: usize = FIELD_SEGMENTS as usize;
+
+/// How many symbols behind a sync the next one is due.
+const DUE: usize = SEGMENT * FIELD;
+
+/// Looks for a sync among symbols, where none is in front of them, and lets those before it go, or all but the last
+/// ones, at which a sync may begin. Answers whether one is in front then.
+pub(crate) fn seek(on: bool, held: &mut Held) -> bool
+    requires { on ≡ true → agrees held.old 0 ≡ true }
+    ensures front { result ≡ true → agrees held.new 0 ≡ true }
+    ensures sought { IsSought held.old held.new }
+    ensures few { (result ≡ true) ⊎ (length held.new < SEGMENT) }
+{
+    if on {
+        return true;
+    }
+    match search(held.all(), 0) {
+        Some(place) => {
+            held.leave(place);
+            true
+        }
+        None => {
+            let count = held.len();
+            held.leave(count.saturating_sub(SEGMENT - 1));
+            false
+        }
+    }
+}
+
+/// What comes of a field behind which a segment is held: how many symbols are let go with it, how many of its segments
+/// are given, whether a sync is in front of what is behind, and whether a run would begin with that.
+#[derive(Clone, Copy, Drop)]
+pub(crate) struct Step {
+    pub(crate) count: usize,
+    pub(crate) given: usize,
+    pub(crate) on: bool,
+    pub(crate) begins: bool,
+}
+
+/// That of a field in front of the symbols. A run goes on where a sync is due and there. Where another one is before
+/// that, symbols were lost, and the field isn't given.
+pub(crate) fn step_of(symbols: &[i8]) -> Step
+    requires full { length symbols.now ≡ MOST_HELD }
+    requires front { agrees symbols.now 0 ≡ true }
+    ensures fields { (wanted : Bool → Bool) (begins : Bool) (more : List ℤ)
+        → fields_where wanted begins (symbols.now ++ more)
+        ≡ where_wanted (wanted true) (field_of result.given begins symbols.now ∷ [])
+        ++ fields_where wanted result.begins (drop result.count symbols.now ++ more) }
+    ensures front { result.on ≡ true → agrees (drop result.count symbols.now) 0 ≡ true }
+    ensures some { 0 < result.count }
+    ensures most { result.count ≤ MOST_HELD }
+    ensures few { result.given ≤ FIELD }
+    ensures behind { SEGMENT * result.given ≤ result.count }
+{
+    if agrees(symbols, DUE) {
+        return Step {
+            count: DUE,
+            given: FIELD,
+            on: true,
+            begins: false,
+        };
+    }
+    match search(symbols, 1) {
+        Some(count) => Step {
+            count,
+            given: 0,
+            on: true,
+            begins: true,
+        },
+        None => Step {
+            count: DUE + 1,
+            given: FIELD,
+            on: false,
+            begins: true,
+        },
+    }
+}

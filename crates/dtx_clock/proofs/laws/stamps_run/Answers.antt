@@ -1,0 +1,5 @@
+use Rattle.dtx_clock.specs.StampsLaws.{stamps_run}
+use Rattle.dtx_clock.proofs.laws.stamps_run.Goals as goal
+
+pub returns : goal.returns
+returns c = stamps_run

@@ -1,0 +1,25 @@
+//! Tests of the crates of coding. They stand apart, so that no crate is proved once more with its tests.
+#![tactic(auto)]
+
+#[cfg(test)]
+mod chain;
+#[cfg(test)]
+mod coder;
+#[cfg(test)]
+mod correctors;
+#[cfg(test)]
+mod dvb;
+#[cfg(test)]
+mod dvb_randomizer;
+#[cfg(test)]
+mod encoder;
+#[cfg(test)]
+mod erasures;
+#[cfg(test)]
+mod least_paths;
+#[cfg(test)]
+mod mend_receiver;
+#[cfg(test)]
+mod outer_coding;
+#[cfg(test)]
+mod receiver;

@@ -1,0 +1,224 @@
+//! Worked runs: streams of zeros, whose data symbols are all -7, and noise, which no codeword is near.
+
+use dtx_frame::field_sync;
+use dtx_laws::Whitener;
+use dtx_receiver::{Batch, Receiver, Tracking};
+use dtx_sizes::{PACKET, PACKET_DATA, PRECODE, SEGMENT};
+use dtx_whiten::Atsc;
+use std::test::Fail;
+
+/// What the packets of some calls come to: how many there are, how many bytes were put right, how many were flagged,
+/// and their bytes in order as one number.
+#[derive(Clone, Copy, Debug, PartialEq, Eq)]
+struct Totals {
+    packets: u32,
+    fixed: u32,
+    flagged: u32,
+    digest: u32,
+}
+
+impl Totals {
+    fn none() -> Totals {
+        Totals {
+            packets: 0,
+            fixed: 0,
+            flagged: 0,
+            digest: 0,
+        }
+    }
+
+    fn add(&mut self, batch: &Batch) {
+        for received in batch.packets.as_slice() {
+            self.packets = self.packets.wrapping_add(1);
+            self.fixed = self.fixed.wrapping_add(received.fixed as u32);
+            if !received.good {
+                self.flagged = self.flagged.wrapping_add(1);
+            }
+            for byte in &received.packet.0 {
+                self.digest = self.digest.wrapping_mul(31).wrapping_add(*byte as u32);
+            }
+        }
+    }
+}
+
+/// A field sync behind these symbols.
+fn sync(last: &[i8; PRECODE]) -> [i8; SEGMENT] {
+    let mut out = [0; SEGMENT];
+    field_sync(false, last, &mut out);
+    out
+}
+
+/// The data segment whose levels are all 0.
+fn zeros() -> [i8; SEGMENT] {
+    let mut out = [-7; SEGMENT];
+    out[0] = 5;
+    out[1] = -5;
+    out[2] = -5;
+    out[3] = 5;
+    out
+}
+
+/// Data segment n of some noise.
+fn noise(n: u32) -> [i8; SEGMENT] {
+    let mut out = [0; SEGMENT];
+    for i in 0..SEGMENT {
+        let mut x = n
+            .wrapping_add(1)
+            .wrapping_mul(832)
+            .wrapping_add(i as u32)
+            .wrapping_mul(2_654_435_761);
+        x ^= x >> 15;
+        x = x.wrapping_mul(2_246_822_519);
+        x ^= x >> 13;
+        out[i] = ((x % 256) as i16 - 128) as i8;
+    }
+    out
+}
+
+/// What the calls give from a field sync and so many data segments of zeros on, and then the end of the run.
+fn of_zeros(receiver: &mut Receiver, count: u32) -> (Totals, Totals) {
+    let mut batch = Batch::new();
+    let mut totals = Totals::none();
+    receiver.take(&sync(&[-7; PRECODE]), &mut batch);
+    for _ in 0..count {
+        receiver.take(&zeros(), &mut batch);
+        totals.add(&batch);
+    }
+    let early = totals;
+    receiver.finish(&mut batch);
+    totals.add(&batch);
+    (early, totals)
+}
+
+#[test]
+fn a_packet_comes_once_53_segments_stand_and_the_52_packets_of_a_turn_at_the_end(
+    rt: HostRuntime,
+) -> Result<(), Fail> {
+    let mut receiver = Receiver::new(rt.alloc())?;
+    for (count, early, all) in [
+        (0, 0, 0),
+        (48, 0, 0),
+        (52, 0, 1),
+        (55, 0, 1),
+        (56, 4, 4),
+        (104, 52, 53),
+    ] {
+        let totals = of_zeros(&mut receiver, count);
+        assert!(rt; totals.0.packets == early, "{count} segments, as they come");
+        assert!(rt; totals.1.packets == all, "{count} segments, and the end");
+        assert!(rt; (totals.1.fixed, totals.1.flagged) == (0, 0));
+    }
+    Ok(())
+}
+
+#[test]
+fn the_packets_of_zeros_are_the_randomizers_bytes(rt: HostRuntime) -> Result<(), Fail> {
+    let atsc = Atsc::new(rt.alloc())?;
+    let mut receiver = Receiver::new(rt.alloc())?;
+    let mut batch = Batch::new();
+    receiver.take(&sync(&[-7; PRECODE]), &mut batch);
+    for _ in 0..56 {
+        receiver.take(&zeros(), &mut batch);
+    }
+    let packets = batch.packets.as_slice();
+    assert!(rt; packets.len() == 4);
+    for (k, received) in packets.iter().enumerate().take(4) {
+        let mut packet = [0x47; PACKET];
+        for j in 0..PACKET_DATA {
+            packet[1 + j] = atsc.byte(PACKET_DATA * k + j);
+        }
+        assert!(rt; received.packet.0[..] == packet[..], "packet {k}");
+    }
+    Ok(())
+}
+
+#[test]
+fn two_lost_segments_are_put_right(rt: HostRuntime) -> Result<(), Fail> {
+    let mut receiver = Receiver::new(rt.alloc())?;
+    let mut batch = Batch::new();
+    let mut totals = Totals::none();
+    for n in 0..626 {
+        let segment = match n {
+            0 | 313 => sync(&[-7; PRECODE]),
+            201 | 202 => [127; SEGMENT],
+            _ => zeros(),
+        };
+        let want = match n {
+            0 => Tracking::Began,
+            313 => Tracking::Sync,
+            _ => Tracking::Data,
+        };
+        assert!(rt; receiver.take(&segment, &mut batch) == want, "segment {n}");
+        totals.add(&batch);
+    }
+    receiver.finish(&mut batch);
+    totals.add(&batch);
+    assert!(rt; (totals.packets, totals.fixed, totals.flagged) == (573, 420, 0));
+    Ok(())
+}
+
+// The digests are those of a program in Python that follows the definitions over the whole list.
+#[test]
+fn noise_gives_flagged_packets_with_the_bytes_as_gathered(rt: HostRuntime) -> Result<(), Fail> {
+    let last = [7, -5, -3, -1, 1, 3, 5, 7, -7, 5, 3, -1];
+    let mut receiver = Receiver::new(rt.alloc())?;
+    for (count, packets, digest) in [
+        (52, 1, 661802710),
+        (56, 4, 479874379),
+        (104, 53, 325097249),
+        (107, 53, 325097249),
+        (317, 264, 2860921998),
+    ] {
+        let mut batch = Batch::new();
+        let mut totals = Totals::none();
+        receiver.take(&sync(&last), &mut batch);
+        for n in 0..count {
+            if n == 312 {
+                let tracking = receiver.take(&sync(&[7; PRECODE]), &mut batch);
+                assert!(rt; tracking == Tracking::Sync);
+            }
+            receiver.take(&noise(n), &mut batch);
+            totals.add(&batch);
+        }
+        receiver.finish(&mut batch);
+        totals.add(&batch);
+        let want = Totals {
+            packets,
+            fixed: 0,
+            flagged: packets,
+            digest,
+        };
+        assert!(rt; totals == want, "{count} segments");
+    }
+    Ok(())
+}
+
+#[test]
+fn a_run_ends_before_a_segment_that_should_be_a_field_sync(rt: HostRuntime) -> Result<(), Fail> {
+    let mut receiver = Receiver::new(rt.alloc())?;
+    let mut batch = Batch::new();
+    let mut totals = Totals::none();
+    assert!(rt; receiver.take(&noise(0), &mut batch) == Tracking::Searching);
+    assert!(rt; receiver.take(&sync(&[-7; PRECODE]), &mut batch) == Tracking::Began);
+    for _ in 0..312 {
+        assert!(rt; receiver.take(&zeros(), &mut batch) == Tracking::Data);
+        totals.add(&batch);
+    }
+    assert!(rt; totals.packets == 260);
+    assert!(rt; receiver.take(&zeros(), &mut batch) == Tracking::Ended);
+    assert!(rt; batch.packets.len() == 1);
+    assert!(rt; receiver.take(&zeros(), &mut batch) == Tracking::Searching);
+    assert!(rt; receiver.take(&sync(&[-7; PRECODE]), &mut batch) == Tracking::Began);
+    receiver.finish(&mut batch);
+    assert!(rt; batch.packets.len() == 0);
+    Ok(())
+}
+
+#[test]
+fn a_field_sync_within_a_field_is_data(rt: HostRuntime) -> Result<(), Fail> {
+    let mut receiver = Receiver::new(rt.alloc())?;
+    let mut batch = Batch::new();
+    assert!(rt; receiver.take(&sync(&[-7; PRECODE]), &mut batch) == Tracking::Began);
+    assert!(rt; receiver.take(&sync(&[-7; PRECODE]), &mut batch) == Tracking::Data);
+    Ok(())
+}

@@ -1,0 +1,496 @@
+-- Marks that are all clear: zeros pass the branches, and after 13 groups of them these hold nothing else.
+use Rattle.std.proofs.Common.{◌≡◌, ◌≢◌, ℕ, ℤ, zero, suc, ◌+◌, ◌-◌, ◌*◌, ◌/◌, ◌%◌, ◌<◌, ◌≤◌, ◌⊎◌, ◌==◌, nat_lt, Bool}
+use Rattle.std.proofs.Common.{pos, negsuc, ◌&&◌}
+use Rattle.std.proofs.Common.{true, false, not, cond, List, [], ◌∷◌, ◌++◌, map, length, get_or, set, take, drop}
+use Rattle.std.proofs.Common.{replicate}
+use Rattle.std.proofs.Common.{refl, sym, ap, ap₂, ◌∙◌, subst, inl, inr, arith, add-zero}
+use Rattle.std.specs.List.{range_with_len}
+use Rattle.std.proofs.lemmas.Bool.{and_parts, true≢false, cases_lt, cases_eq, eq-eqb, ne_eqb, lt-ltb, le-ltb}
+use Rattle.std.proofs.lemmas.List.{length-replicate, set-get_or, replicate-append-replicate}
+use Rattle.std.proofs.lemmas.List.{take-replicate, drop-replicate, drop-map, get_or-drop, length-drop}
+use Rattle.dtx_laws.specs.Branches.{Branching, HasWidths, gathering, leaving_all, after_all, after_byte}
+use Rattle.dtx_laws.specs.InterleavingLaws.{HasWidths-all}
+use Rattle.dtx_laws.specs.PlacesLaws.{Holds, Holds-step, Holds-turn, after_append}
+use Rattle.dtx_slice.specs.Unrolled.{symbol_place, precoder_bit, pair_from, pair_back, byte_back, bytes_back}
+use Rattle.dtx_slice.specs.Unrolled.{coder_of, level_groups, precoder_bits_after}
+use Rattle.dtx_slice.specs.Slicing.{sliced, sliced_data}
+use Rattle.dtx_receiver.specs.Bytes.{data_count}
+use Rattle.dtx_receiver.specs.LevelsLaws.{part_now, not_due_now}
+use Rattle.dtx_erase.specs.Sides as sides
+use Rattle.dtx_erase.specs.Marks.{shown}
+use Rattle.dtx_erase.specs.Sides.{Side, HaveCome, AreClear, IsQuiet, AreKnown}
+use Rattle.dtx_erase.proofs.Mendings.{shown_other}
+use Rattle.dtx_erase.proofs.Stands.{holds_data, holds_group}
+
+abbrev zeros : ℕ → List ℕ
+zeros n = replicate {A = ℕ} n 0
+
+pub zero_at : (n i : ℕ) → get_or (zeros n) i 0 ≡ 0
+zero_at zero i = refl
+zero_at (suc n) zero = refl
+zero_at (suc n) (suc i) = zero_at n i
+
+pub none_set : (t : Bool) → not t ≡ true → t ≡ false
+none_set true e = sym e
+none_set false e = refl
+
+past_end : (xs : List ℕ) (k : ℕ) → length xs ≤ k → get_or xs k 0 ≡ 0
+past_end [] k l = refl
+past_end (x ∷ xs) zero l = absurd (omega (arith, l))
+past_end (x ∷ xs) (suc k) l = past_end xs k (omega (arith, l))
+
+-- ---- what the branches hold after zeros
+
+-- after m bytes, counted from branch 0 of the turn on in which the first came, branch i holds what e says
+record Come (w : ℕ → ℕ) (e : ℕ → ℕ → ℕ) (m : ℕ) (v : Branching) : Type 0 where
+  q : ℕ
+  below : v.next < 52
+  count : 52 * q + v.next ≡ m
+  holds : Holds 52 w e q v.next v.lists
+
+come_byte : (w : ℕ → ℕ) (e : ℕ → ℕ → ℕ) (m : ℕ) (v : Branching) (c : Come w e m v) → 0 ≡ e v.next (c.q + w v.next)
+    → Come w e (m + 1) (after_byte 52 v 0)
+come_byte w e m v c z = by_end (cases_eq (v.next + 1) 52)
+  where
+    lists : List (List ℕ)
+    lists = set v.lists v.next (drop 1 (get_or v.lists v.next [] ++ 0 ∷ []))
+
+    further : Holds 52 w e c.q (suc v.next) lists
+    further = Holds-step 52 w e c.q v.next v.lists 0 c.holds c.below z
+
+    by_end : (v.next + 1 ≡ 52) ⊎ (v.next + 1 ≡ 52 → ⊥) → Come w e (m + 1) (after_byte 52 v 0)
+    by_end (inl h) =
+        let n : cond (v.next + 1 == 52) 0 (v.next + 1) ≡ 0 =
+        ap (λ (t : Bool). cond t 0 (v.next + 1)) (eq-eqb (v.next + 1) 52 h) in
+        record {
+          q = c.q + 1;
+          below = omega (arith, n);
+          count = omega (arith, n, c.count, h);
+          holds = subst (λ (r : ℕ). Holds 52 w e (c.q + 1) r lists) (sym n)
+              (Holds-turn 52 w e c.q lists (subst (λ (r : ℕ). Holds 52 w e c.q r lists) (next v.next h) further));
+        }
+      where
+        next : (r : ℕ) → r + 1 ≡ 52 → suc r ≡ 52
+        next r h = omega (arith, h)
+    by_end (inr h) =
+        let n : cond (v.next + 1 == 52) 0 (v.next + 1) ≡ v.next + 1 =
+        ap (λ (t : Bool). cond t 0 (v.next + 1)) (ne_eqb (v.next + 1) 52 h) in
+        record {
+          q = c.q;
+          below = omega (arith, n, c.below, h);
+          count = omega (arith, n, c.count);
+          holds = subst (λ (r : ℕ). Holds 52 w e c.q r lists) (next v.next ∙ sym n) further;
+        }
+      where
+        next : (r : ℕ) → suc r ≡ r + 1
+        next r = omega arith
+
+come_all : (w : ℕ → ℕ) (e : ℕ → ℕ → ℕ) (m n : ℕ) (v : Branching) → Come w e m v
+    → ((q r : ℕ) → m ≤ 52 * q + r → r < 52 → 0 ≡ e r (q + w r)) → Come w e (m + n) (after_all 52 v (zeros n))
+unfolding after_all
+come_all w e m zero v c z = subst (λ (k : ℕ). Come w e k v) (sym (add-zero m)) c
+come_all w e m (suc n) v c z =
+    subst (λ (k : ℕ). Come w e k (after_all 52 (after_byte 52 v 0) (zeros n))) (further m n)
+    (come_all w e (m + 1) n (after_byte 52 v 0)
+    (come_byte w e m v c (z c.q v.next (omega (arith, c.count)) c.below))
+    (λ q r l h. z q r (omega (arith, l)) h))
+  where
+    further : (m n : ℕ) → m + 1 + n ≡ m + suc n
+    further m n = omega arith
+
+-- all that ever stands in branch i where zeros come: what it holds, behind one byte where the turn is past it
+held_first : ℕ → List (List ℕ) → ℕ → ℕ → ℕ
+held_first r lists i k = get_or (cond (nat_lt i r) (0 ∷ get_or lists i []) (get_or lists i [])) k 0
+
+nothing_behind : (t : Bool) (xs : List ℕ) (k : ℕ) → length xs + 1 ≤ k → get_or (cond t (0 ∷ xs) xs) k 0 ≡ 0
+nothing_behind true xs k l = past_end (0 ∷ xs) k (omega (arith, l))
+nothing_behind false xs k l = past_end xs k (omega (arith, l))
+
+come_first : (w : ℕ → ℕ) (v : Branching) → HasWidths 52 w v → Come w (held_first v.next v.lists) v.next v
+unfolding held_first
+come_first w v h = record {
+  q = 0;
+  below = h.next;
+  count = omega arith;
+  holds = record {
+    count = h.count;
+    long = h.long;
+    early = λ i j p k. ap (λ (n : ℕ). get_or (0 ∷ get_or v.lists i []) n 0) (next j)
+        ∙ sym (ap (λ (t : Bool). get_or (cond t (0 ∷ get_or v.lists i []) (get_or v.lists i [])) (0 + 1 + j) 0)
+        (lt-ltb i v.next p));
+    late = λ i j p o k. ap (λ (n : ℕ). get_or (get_or v.lists i []) n 0) (same j)
+        ∙ sym (ap (λ (t : Bool). get_or (cond t (0 ∷ get_or v.lists i []) (get_or v.lists i [])) (0 + j) 0)
+        (le-ltb i v.next p));
+  };
+}
+  where
+    next : (j : ℕ) → suc j ≡ 0 + 1 + j
+    next j = omega arith
+
+    same : (j : ℕ) → j ≡ 0 + j
+    same j = omega arith
+
+-- a zero comes where each branch has nothing more
+zero_comes : (w : ℕ → ℕ) (v : Branching) → HasWidths 52 w v → (q r : ℕ) → v.next ≤ 52 * q + r → r < 52
+    → 0 ≡ held_first v.next v.lists r (q + w r)
+unfolding held_first
+zero_comes w v h q r l m = by_place (cases_lt r v.next)
+  where
+    by_place : (r < v.next) ⊎ (v.next ≤ r) → 0 ≡ get_or (cond (nat_lt r v.next) (0 ∷ get_or v.lists r [])
+        (get_or v.lists r [])) (q + w r) 0
+    by_place (inl p) =
+        sym (nothing_behind (nat_lt r v.next) (get_or v.lists r []) (q + w r) (omega (arith, h.long r m, l, p)))
+    by_place (inr p) =
+        sym (ap (λ (t : Bool). get_or (cond t (0 ∷ get_or v.lists r []) (get_or v.lists r [])) (q + w r) 0)
+        (le-ltb r v.next p)
+        ∙ past_end (get_or v.lists r []) (q + w r) (omega (arith, h.long r m)))
+
+-- after 13 groups of zeros the branches hold zeros alone
+pub clear_after : (v : Branching) → HasWidths 52 (gathering 52 4) v
+    → AreClear (after_all 52 v (zeros (828 * 13)))
+unfolding held_first
+clear_after v h i j l = by_length (cases_lt j (gathering 52 4 i))
+  where
+    e : ℕ → ℕ → ℕ
+    e = held_first v.next v.lists
+
+    new : Branching
+    new = after_all 52 v (zeros (828 * 13))
+
+    come : Come (gathering 52 4) (held_first v.next v.lists) (v.next + 828 * 13) (after_all 52 v (zeros (828 * 13)))
+    come = come_all (gathering 52 4) (held_first v.next v.lists) v.next (828 * 13) v
+        (come_first (gathering 52 4) v h) (zero_comes (gathering 52 4) v h)
+
+    turns : come.q ≡ 207
+    turns = omega (arith, come.count, come.below, h.next)
+
+    none : (k : ℕ) → come.q ≤ k → held_first v.next v.lists i k ≡ 0
+    none k m = nothing_behind (nat_lt i v.next) (get_or v.lists i []) k (omega (arith, h.long i l, m, turns))
+
+    by_place : j < gathering 52 4 i → (i < (after_all 52 v (zeros (828 * 13))).next)
+        ⊎ ((after_all 52 v (zeros (828 * 13))).next ≤ i)
+        → get_or (get_or (after_all 52 v (zeros (828 * 13))).lists i []) j 0 ≡ 0
+    by_place m (inl p) = come.holds.early i j p m ∙ none (come.q + 1 + j) (omega arith)
+    by_place m (inr p) = come.holds.late i j p l m ∙ none (come.q + j) (omega arith)
+
+    by_length : (j < gathering 52 4 i) ⊎ (gathering 52 4 i ≤ j)
+        → get_or (get_or (after_all 52 v (zeros (828 * 13))).lists i []) j 0 ≡ 0
+    by_length (inl m) = by_place m (cases_lt i (after_all 52 v (zeros (828 * 13))).next)
+    by_length (inr m) =
+        past_end (get_or (after_all 52 v (zeros (828 * 13))).lists i []) j (omega (arith, come.holds.long i l, m))
+
+-- ---- zeros to branches of zeros
+
+push_zero : (x : ℕ) (xs : List ℕ) → x ≡ 0 → ((j : ℕ) → get_or xs j 0 ≡ 0) → xs ++ 0 ∷ [] ≡ x ∷ xs
+push_zero x [] e h = ap (λ (y : ℕ). y ∷ []) (sym e)
+push_zero x (y ∷ ys) e h =
+    ap₂ (λ (z : ℕ) (zs : List ℕ). z ∷ zs) (h 0 ∙ sym e) (push_zero y ys (h 0) (λ j. h (suc j)))
+
+zeros_moved : (xs : List ℕ) → ((j : ℕ) → get_or xs j 0 ≡ 0) → drop 1 (xs ++ 0 ∷ []) ≡ xs
+zeros_moved [] h = refl
+zeros_moved (x ∷ xs) h = push_zero x xs (h 0) (λ j. h (suc j))
+
+zero_leaves : (xs : List ℕ) → ((j : ℕ) → get_or xs j 0 ≡ 0) → get_or (xs ++ 0 ∷ []) 0 0 ≡ 0
+zero_leaves [] h = refl
+zero_leaves (x ∷ xs) h = h 0
+
+abbrev next_of : ℕ → ℕ
+next_of r = cond (r + 1 == 52) 0 (r + 1)
+
+byte_clear : (v : Branching) → AreClear v → v.next < 52
+    → after_byte 52 v 0 ≡ record { next = next_of v.next; lists = v.lists }
+byte_clear v c l =
+    ap (λ (ls : List (List ℕ)). record { next = next_of v.next; lists = ls })
+    (ap (set v.lists v.next) (zeros_moved (get_or v.lists v.next []) (λ j. c v.next j l))
+    ∙ set-get_or v.lists v.next [])
+
+next_is : (r : ℕ) → r < 52 → next_of r ≡ (r + 1) % 52
+next_is r l = by_end (cases_eq (r + 1) 52)
+  where
+    by_end : (r + 1 ≡ 52) ⊎ (r + 1 ≡ 52 → ⊥) → next_of r ≡ (r + 1) % 52
+    by_end (inl h) = ap (λ (t : Bool). cond t 0 (r + 1)) (eq-eqb (r + 1) 52 h) ∙ omega (arith, h)
+    by_end (inr h) = ap (λ (t : Bool). cond t 0 (r + 1)) (ne_eqb (r + 1) 52 h) ∙ omega (arith, h, l)
+
+pub clear_stays : (n : ℕ) (v : Branching) → AreClear v → v.next < 52
+    → after_all 52 v (zeros n) ≡ record { next = (v.next + n) % 52; lists = v.lists }
+unfolding after_all
+clear_stays zero v c l = ap (λ (r : ℕ). record { next = r; lists = v.lists }) (same v.next l)
+  where
+    same : (r : ℕ) → r < 52 → r ≡ (r + 0) % 52
+    same r l = omega (arith, l)
+clear_stays (suc n) v c l =
+    ap (λ (u : Branching). after_all 52 u (zeros n)) (byte_clear v c l)
+    ∙ clear_stays n (record { next = next_of v.next; lists = v.lists }) c (omega (arith, next_is v.next l))
+    ∙ ap (λ (r : ℕ). record { next = r; lists = v.lists }) (further v.next (next_of v.next) n (next_is v.next l))
+  where
+    further : (r s n : ℕ) → s ≡ (r + 1) % 52 → (s + n) % 52 ≡ (r + suc n) % 52
+    further r s n e = omega (arith, e)
+
+pub clear_leaves : (n : ℕ) (v : Branching) → AreClear v → v.next < 52 → leaving_all 52 v (zeros n) ≡ zeros n
+unfolding leaving_all
+clear_leaves zero v c l = refl
+clear_leaves (suc n) v c l =
+    ap₂ (λ (x : ℕ) (xs : List ℕ). x ∷ xs) (zero_leaves (get_or v.lists v.next []) (λ j. c v.next j l))
+    (ap (λ (u : Branching). leaving_all 52 u (zeros n)) (byte_clear v c l)
+    ∙ clear_leaves n (record { next = next_of v.next; lists = v.lists }) c (omega (arith, next_is v.next l)))
+
+-- a group of zeros leaves such branches as its last 48 bytes do
+pub group_of_zeros : (v : Branching) → AreClear v → v.next < 52
+    → after_all 52 v (zeros 828) ≡ after_all 52 v (zeros 48)
+group_of_zeros v c l =
+    clear_stays 828 v c l
+    ∙ ap (λ (r : ℕ). record { next = r; lists = v.lists }) (turn v.next)
+    ∙ sym (clear_stays 48 v c l)
+  where
+    turn : (r : ℕ) → (r + 828) % 52 ≡ (r + 48) % 52
+    turn r = omega arith
+
+-- ---- groups of zeros that have come
+
+more_zeros : (m n k : ℕ) → m + n ≡ k → zeros m ++ zeros n ≡ zeros k
+more_zeros m n k e = replicate-append-replicate {A = ℕ} m n 0 ∙ ap zeros e
+
+pub none_come : (v : Branching) → HasWidths 52 (gathering 52 4) v → HaveCome 0 v
+unfolding after_all
+none_come v h = record { before = v; widths = h; come = refl }
+
+pub widths_come : (c : ℕ) (v : Branching) → HaveCome c v → HasWidths 52 (gathering 52 4) v
+widths_come c v h =
+    subst (HasWidths 52 (gathering 52 4)) (sym h.come)
+    (HasWidths-all 52 (gathering 52 4) h.before (zeros (828 * c)) h.widths)
+
+pub one_more : (c : ℕ) (v : Branching) → HaveCome c v → HaveCome (c + 1) (after_all 52 v (zeros 828))
+one_more c v h = record {
+  before = h.before;
+  widths = h.widths;
+  come = ap (λ (u : Branching). after_all 52 u (zeros 828)) h.come
+      ∙ sym (after_append 52 h.before (zeros (828 * c)) (zeros 828))
+      ∙ ap (after_all 52 h.before) (more_zeros (828 * c) 828 (828 * (c + 1)) (omega arith));
+}
+
+pub no_more : (c : ℕ) (v : Branching) → HaveCome c v → HaveCome c (after_all 52 v (zeros 828))
+no_more c v h = record {
+  before = after_all 52 h.before (zeros 828);
+  widths = HasWidths-all 52 (gathering 52 4) h.before (zeros 828) h.widths;
+  come = ap (λ (u : Branching). after_all 52 u (zeros 828)) h.come
+      ∙ sym (after_append 52 h.before (zeros (828 * c)) (zeros 828))
+      ∙ ap (after_all 52 h.before) (more_zeros (828 * c) 828 (828 * c + 828) refl
+      ∙ sym (more_zeros 828 (828 * c) (828 * c + 828) (omega arith)))
+      ∙ after_append 52 h.before (zeros 828) (zeros (828 * c));
+}
+
+pub clear_come : (v : Branching) → HaveCome 13 v → AreClear v
+clear_come v h = subst AreClear (sym h.come) (clear_after h.before h.widths)
+
+-- ---- levels of 0
+
+range_zeros : (g : ℕ → ℕ) (a n : ℕ) → ((i : ℕ) → g i ≡ 0) → map g (range_with_len a n) ≡ zeros n
+range_zeros g a zero h = refl
+range_zeros g a (suc n) h = ap₂ (λ (x : ℕ) (xs : List ℕ). x ∷ xs) (h a) (range_zeros g (a + 1) n h)
+
+bit_zero : (s r e : ℕ) → precoder_bit s (zeros 12) (zeros 3312) r e ≡ 0
+unfolding precoder_bit
+bit_zero s r e =
+    ap₂ (cond (r == 0)) (zero_at 12 e) (ap (λ (x : ℕ). x / 4) (zero_at 3312 (symbol_place s (r - 1) e)))
+    ∙ same (r == 0)
+  where
+    same : (t : Bool) → ◌≡◌ {A = ℕ} (cond t 0 0) 0
+    same true = refl
+    same false = refl
+
+pair_zero : (s r e : ℕ) → pair_back s (zeros 12) (zeros 3312) r e ≡ 0
+unfolding pair_back
+pair_zero s r e = ap₂ pair_from (bit_zero s r e) (zero_at 3312 (symbol_place s r e))
+
+byte_zero : (s j : ℕ) → byte_back s (zeros 12) (zeros 3312) j ≡ 0
+unfolding byte_back
+byte_zero s j =
+    let r : ℕ = 4 * (j / 12) in
+    let e : ℕ = coder_of s j in
+    ap₂ (λ (x y : ℕ). x + y)
+    (ap₂ (λ (x y : ℕ). x + y)
+    (ap₂ (λ (x y : ℕ). 64 * x + 16 * y) (pair_zero s r e) (pair_zero s (r + 1) e))
+    (ap (λ (x : ℕ). 4 * x) (pair_zero s (r + 2) e)))
+    (pair_zero s (r + 3) e)
+
+one_group : level_groups (zeros 3312) ≡ 1
+unfolding level_groups
+one_group = ap (λ (n : ℕ). n / 3312) (length-replicate {A = ℕ} 3312 0)
+
+pub bytes_zero : (s : ℕ) → bytes_back s (zeros 12) (zeros 3312) ≡ zeros 828
+unfolding bytes_back
+bytes_zero s =
+    ap (λ (n : ℕ). map (byte_back s (zeros 12) (zeros 3312)) (range_with_len 0 (828 * n))) one_group
+    ∙ range_zeros (byte_back s (zeros 12) (zeros 3312)) 0 828 (byte_zero s)
+
+-- whatever was before it, a group of levels of 0 leaves Z2 of 0
+pub bits_zero : (s : ℕ) (f : List ℕ) → precoder_bits_after s f (zeros 3312) ≡ zeros 12
+unfolding precoder_bits_after precoder_bit
+bits_zero s f =
+    ap (λ (n : ℕ). map (precoder_bit s f (zeros 3312) (276 * n)) (range_with_len 0 12)) one_group
+    ∙ range_zeros (precoder_bit s f (zeros 3312) 276) 0 12
+    (λ e. ap (λ (x : ℕ). x / 4) (zero_at 3312 (symbol_place s 275 e)))
+
+-- ---- what is kept
+
+zeros_put : (n : ℕ) → n < 4 → take (828 * n) (zeros 3312) ++ zeros 828 ++ drop (828 * n + 828) (zeros 3312) ≡ zeros 3312
+zeros_put n l =
+    ap₂ (λ (xs ys : List ℕ). xs ++ zeros 828 ++ ys) (take-replicate (828 * n) 3312 0 (omega (arith, l)))
+    (drop-replicate (828 * n + 828) 3312 0)
+    ∙ ap (λ (xs : List ℕ). xs ++ zeros (3312 - (828 * n + 828))) (more_zeros (828 * n) 828 (828 * n + 828) refl)
+    ∙ more_zeros (828 * n + 828) (3312 - (828 * n + 828)) 3312 (omega (arith, l))
+
+-- a segment without marks, within a group
+pub quiet_data : (x : List ℤ) (kept : Side) (run : List (List ℤ)) (place : ℕ) → IsQuiet kept → sides.Holds kept run
+    → length run % 313 ≡ place + 1 → place % 4 ≢ 3 → sliced_data x ≡ zeros 828 → sides.Holds kept (run ++ x ∷ [])
+quiet_data x kept run place q d e n z =
+    let part : data_count run % 4 ≡ place % 4 = part_now run place e in
+    holds_data x kept kept run d (not_due_now run place e) (λ h. n (sym part ∙ h))
+    (ap length q.levels ∙ length-replicate {A = ℕ} 3312 0) (ap length z ∙ length-replicate {A = ℕ} 828 0)
+    (q.levels
+    ∙ sym (ap₂ (λ (ls more : List ℕ). take (828 * (data_count run % 4)) ls ++ more
+    ++ drop (828 * (data_count run % 4) + 828) ls) q.levels z
+    ∙ zeros_put (data_count run % 4) (omega arith)))
+    refl refl refl
+
+-- and the one that makes a group whole
+pub quiet_group : (x : List ℤ) (kept new : Side) (run : List (List ℤ)) (place : ℕ) → IsQuiet kept
+    → sides.Holds kept run → length run % 313 ≡ place + 1 → place % 4 ≡ 3 → sliced_data x ≡ zeros 828
+    → new ≡ record kept { branches = after_all 52 kept.branches (zeros 48) } → sides.Holds new (run ++ x ∷ [])
+quiet_group x kept new run place q d e n z f =
+    subst (λ (k : Side). sides.Holds k (run ++ x ∷ [])) (sym f)
+    (holds_group x kept (record kept { branches = after_all 52 kept.branches (zeros 48) }) run place (zeros 3312)
+    (record {
+      due = e;
+      last = n;
+      long = ap length q.levels ∙ length-replicate {A = ℕ} 3312 0;
+      segment = ap length z ∙ length-replicate {A = ℕ} 828 0;
+      group = length-replicate {A = ℕ} 3312 0;
+      levels = sym (ap₂ (λ (ls more : List ℕ). take (828 * (place % 4)) ls ++ more
+          ++ drop (828 * (place % 4) + 828) ls) q.levels z
+          ∙ zeros_put (place % 4) (omega (arith, n)));
+    })
+    d (ap length q.gathered ∙ length-replicate {A = ℕ} 984 0) q.levels
+    (q.precoder_bits ∙ sym (bits_zero (place - place % 4) kept.precoder_bits))
+    (sym (group_of_zeros kept.branches q.branches q.below) ∙ ap (after_all 52 kept.branches) (sym bytes))
+    (q.gathered
+    ∙ sym (ap₂ (λ (xs ys : List ℕ). drop 828 xs ++ ys) q.gathered (ap (leaving_all 52 kept.branches) bytes
+    ∙ clear_leaves 828 kept.branches q.branches q.below)
+    ∙ ap (λ (xs : List ℕ). xs ++ zeros 828) (drop-replicate 828 984 0) ∙ more_zeros 156 828 984 refl)))
+  where
+    bytes : bytes_back (place - place % 4) kept.precoder_bits (zeros 3312) ≡ zeros 828
+    bytes = ap (λ (f : List ℕ). bytes_back (place - place % 4) f (zeros 3312)) q.precoder_bits
+        ∙ bytes_zero (place - place % 4)
+
+pub quiet_still : (kept new : Side) → IsQuiet kept
+    → new ≡ record kept { branches = after_all 52 kept.branches (zeros 48) } → IsQuiet new
+quiet_still kept new q f =
+    subst IsQuiet (sym f) (record {
+      levels = q.levels;
+      precoder_bits = q.precoder_bits;
+      below = subst (λ (v : Branching). v.next < 52) (sym (clear_stays 48 kept.branches q.branches q.below))
+          (in_turn (kept.branches.next + 48));
+      branches = λ i j l. ap (λ (v : Branching). get_or (get_or v.lists i []) j 0)
+          (clear_stays 48 kept.branches q.branches q.below) ∙ q.branches i j l;
+      gathered = q.gathered;
+    })
+  where
+    in_turn : (n : ℕ) → n % 52 < 52
+    in_turn n = omega arith
+
+-- ---- what is known
+
+pub known_afresh : (side : Side) → HasWidths 52 (gathering 52 4) side.branches → AreKnown side false 0 false
+known_afresh side w = record {
+  bits = λ e. absurd (true≢false (sym e));
+  come = none_come side.branches w;
+  none = λ e. absurd (true≢false (sym e));
+}
+
+pub known_quiet : (side : Side) (lowest quiet : Bool) → IsQuiet side → HasWidths 52 (gathering 52 4) side.branches
+    → AreKnown side lowest 0 quiet
+known_quiet side lowest quiet q w = record {
+  bits = λ e. q.precoder_bits;
+  come = none_come side.branches w;
+  none = λ e. q;
+}
+
+pub known_within : (old new : Side) (lowest quiet : Bool) (groups : ℕ) → AreKnown old lowest groups quiet
+    → new.branches ≡ old.branches → new.precoder_bits ≡ old.precoder_bits → AreKnown new lowest groups false
+known_within old new lowest quiet groups k e f = record {
+  bits = λ t. f ∙ k.bits t;
+  come = subst (HaveCome groups) (sym e) k.come;
+  none = λ t. absurd (true≢false (sym t));
+}
+
+-- a group has passed
+pub record Passed (s : ℕ) (old new : Side) : Type 0 where
+  pub branches : new.branches ≡ after_all 52 old.branches (bytes_back s old.precoder_bits new.levels)
+  pub precoder_bits : new.precoder_bits ≡ precoder_bits_after s old.precoder_bits new.levels
+
+zeros_passed : (s : ℕ) (old new : Side) → Passed s old new → old.precoder_bits ≡ zeros 12 → new.levels ≡ zeros 3312
+    → new.branches ≡ after_all 52 old.branches (zeros 828)
+zeros_passed s old new p e f =
+    p.branches ∙ ap (after_all 52 old.branches) (ap₂ (bytes_back s) e f ∙ bytes_zero s)
+
+pub known_group : (s : ℕ) (old new : Side) (lowest now both quiet over : Bool) (groups count : ℕ)
+    → AreKnown old lowest groups quiet → Passed s old new → (now ≡ true → new.levels ≡ zeros 3312)
+    → both ≡ (lowest && now) → (both ≡ false → count ≡ 0) → (both ≡ true → groups < 13 → count ≡ groups + 1)
+    → (both ≡ true → 13 ≤ groups → count ≡ groups)
+    → (over ≡ true → (now ≡ true) × (count ≡ 13) × (new.gathered ≡ zeros 984))
+    → AreKnown new now count over
+known_group s old new lowest now both quiet over groups count k p levels b none more all end = record {
+  bits = λ t. bits t;
+  come = come both refl;
+  none = λ t. let h = end t in record {
+    levels = levels h.0;
+    precoder_bits = bits h.0;
+    below = let w : HasWidths 52 (gathering 52 4) new.branches = widths_come count new.branches (come both refl) in
+        w.next;
+    branches = clear_come new.branches (subst (λ (n : ℕ). HaveCome n new.branches) h.1 (come both refl));
+    gathered = h.2;
+  };
+}
+  where
+    bits : now ≡ true → new.precoder_bits ≡ zeros 12
+    bits t = p.precoder_bits ∙ ap (precoder_bits_after s old.precoder_bits) (levels t) ∙ bits_zero s old.precoder_bits
+
+    widths : HasWidths 52 (gathering 52 4) new.branches
+    widths = subst (HasWidths 52 (gathering 52 4)) (sym p.branches)
+        (HasWidths-all 52 (gathering 52 4) old.branches (bytes_back s old.precoder_bits new.levels)
+        (widths_come groups old.branches k.come))
+
+    by_count : both ≡ true → (groups < 13) ⊎ (13 ≤ groups) → HaveCome count new.branches
+    by_count t (inl l) =
+        let h = and_parts lowest now (sym b ∙ t) in
+        subst (λ (n : ℕ). HaveCome n new.branches) (sym (more t l))
+        (subst (HaveCome (groups + 1)) (sym (zeros_passed s old new p (k.bits h.0) (levels h.1)))
+        (one_more groups old.branches k.come))
+    by_count t (inr l) =
+        let h = and_parts lowest now (sym b ∙ t) in
+        subst (λ (n : ℕ). HaveCome n new.branches) (sym (all t l))
+        (subst (HaveCome groups) (sym (zeros_passed s old new p (k.bits h.0) (levels h.1)))
+        (no_more groups old.branches k.come))
+
+    come : (t : Bool) → both ≡ t → HaveCome count new.branches
+    come false t = subst (λ (n : ℕ). HaveCome n new.branches) (sym (none t)) (none_come new.branches widths)
+    come true t = by_count t (cases_lt groups 13)
+
+-- ---- segments of which no symbol is missing
+
+lowest_all : (xs : List ℤ) → ((j : ℕ) → j < length xs → get_or xs j (pos 0) ≡ negsuc 127 → ⊥)
+    → map sliced (map shown xs) ≡ zeros (length xs)
+unfolding sliced
+lowest_all [] h = refl
+lowest_all (x ∷ xs) h =
+    ap₂ (λ (l : ℕ) (ls : List ℕ). l ∷ ls) (ap sliced (shown_other x (λ e. h 0 (omega arith) e)))
+    (lowest_all xs (λ j l e. h (suc j) (omega (arith, l)) e))
+
+pub lowest_data : (x : List ℤ) → length x ≡ 832
+    → ((j : ℕ) → j < 832 → get_or x j (pos 0) ≡ negsuc 127 → ⊥) → sliced_data (map shown x) ≡ zeros 828
+unfolding sliced_data
+lowest_data x l h =
+    ap (map sliced) (drop-map shown 4 x)
+    ∙ lowest_all (drop 4 x) (λ j m e. h (4 + j) (omega (arith, m, length-drop 4 x, l))
+    (sym (get_or-drop 4 x j (pos 0)) ∙ e))
+    ∙ ap zeros (length-drop 4 x ∙ ap (λ (n : ℕ). n - 4) l)

@@ -1,6 +1,0 @@
-use Rattle.dtx_fast.specs.StageLaws.{first_stage}
-use Rattle.dtx_erase.proofs.recurrence.Stage.new.Goals as goal
-
-pub returns-clause-stage : goal.returns-clause-stage
-returns-clause-stage c s =
-    first_stage s _ _ c.one.ensures.first c.one.ensures.others c.one-2.ensures.others

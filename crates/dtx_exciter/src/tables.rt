@@ -1,0 +1,22 @@
+// The tables of exciters.
+use crate::orders::Corrector;
+use std::alloc::{AllocError, Global};
+use std::rc::Rc;
+
+/// The tables that an [`Exciter`](crate::Exciter) needs, which are the same for each: those of its coder and of the
+/// corrector of operations packets, 125 kB. Exciters that are made from one value share them.
+#[derive(Drop)]
+pub struct Tables {
+    pub(crate) coding: dtx_coder::Tables,
+    pub(crate) corrector: Rc<Corrector>,
+}
+
+impl Tables {
+    /// The tables are made here. Only want of memory is refused.
+    pub fn new(alloc: Global) -> Result<Tables, AllocError> {
+        Ok(Tables {
+            coding: dtx_coder::Tables::new(alloc)?,
+            corrector: Rc::new(alloc, Corrector::new())?,
+        })
+    }
+}

@@ -1,0 +1,65 @@
+-- The text of what is told of a feed (the profile's own).
+use Rattle.std.specs.Prelude.{ℕ, List, [], ◌∷◌, ◌++◌, codes, decimal, flat_map}
+use Rattle.dtx_ops.specs.declared.refusal.OpsNo.{OpsNo}
+use Rattle.dtx_ops.specs.declared.refusal.OpsNo.TheVariants.{NotOps, Uncorrectable, Kind, Pad, Stamp, Delay, Index}
+use Rattle.dtx_ops.specs.declared.refusal.OpsNo.TheVariants.{Count, Twice, Fill, Page}
+use Rattle.dtx_watch.specs.declared.notes.Note.{Note}
+use Rattle.dtx_watch.specs.declared.notes.What.{What}
+use Rattle.dtx_watch.specs.declared.notes.What.TheVariants as what
+use Rattle.dtx_watch.specs.declared.notes.StatesNote.{StatesNote}
+use Rattle.dtx_watch.specs.declared.notes.StatesNote.TheVariants as states
+use Rattle.dtx_watch.specs.declared.notes.ClockNote.{ClockNote}
+use Rattle.dtx_watch.specs.declared.notes.ClockNote.TheVariants as clock
+
+-- the number of the rule by which a packet isn't read
+abbrev pub rule_number : OpsNo → ℕ
+rule_number NotOps = 1
+rule_number Uncorrectable = 2
+rule_number Kind = 3
+rule_number Pad = 4
+rule_number Stamp = 5
+rule_number Delay = 6
+rule_number Index = 7
+rule_number Count = 8
+rule_number Twice = 9
+rule_number Fill = 10
+rule_number Page = 11
+
+-- the word for what states are
+abbrev pub states_word : StatesNote → List ℕ
+states_word states.Early = codes "early"
+states_word states.First = codes "first"
+states_word states.Right = codes "right"
+states_word states.Slip = codes "slip"
+
+-- the word for what a stamp is
+abbrev pub clock_word : ClockNote → List ℕ
+clock_word clock.First = codes "first"
+clock_word clock.Right = codes "right"
+clock_word clock.Jump = codes "jump"
+
+-- numbers, each behind a space
+abbrev pub numbers_text : List ℕ → List ℕ
+numbers_text numbers = flat_map (λ n. codes " " ++ decimal n) numbers
+
+-- a line's word and its numbers
+abbrev pub note_head : ℕ → What → List ℕ
+note_head k what.Lock = codes "lock" ++ numbers_text (k ∷ [])
+note_head k what.Lost = codes "lost" ++ numbers_text (k ∷ [])
+note_head k (what.Unread refusal) = codes "unread" ++ numbers_text (k ∷ rule_number refusal ∷ [])
+note_head k (what.Stray frame index) = codes "stray" ++ numbers_text (k ∷ frame ∷ index ∷ [])
+note_head k (what.Ops o) =
+    codes "ops" ++ numbers_text (k ∷ o.frame ∷ o.index ∷ o.stamp ∷ o.max_delay ∷ o.listed ∷ [])
+
+-- its words behind them, and a line feed
+abbrev pub note_end : What → List ℕ
+note_end (what.Ops o) = codes " " ++ (states_word o.states ++ (codes " " ++ (clock_word o.clock ++ codes "\n")))
+note_end other = codes "\n"
+
+-- a line: words and numbers with one space between them, and a line feed
+unfoldable pub note_text : Note → List ℕ
+note_text note = note_head note.packet note.what ++ note_end note.what
+
+-- the lines, one behind the other
+abbrev pub watch_text : List Note → List ℕ
+watch_text notes = flat_map note_text notes

@@ -1,0 +1,4 @@
+pub mod Given
+pub mod Sent
+pub mod Listed
+pub mod AsSent

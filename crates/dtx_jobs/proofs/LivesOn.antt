@@ -1,0 +1,203 @@
+-- Lives that are sent on, and how much they give at most.
+use Rattle.std.proofs.Common.{◌≡◌, ℕ, ℤ, ◌+◌, ◌*◌, ◌<◌, ◌≤◌, List, [], ◌∷◌, ◌++◌, length, take, get_or, refl, sym, ap}
+use Rattle.std.proofs.Common.{ap₂, ◌∙◌}
+use Rattle.std.proofs.Common.{append_assoc, arith, subst}
+use Rattle.std.specs.List.{flat_map}
+use Rattle.std.proofs.lemmas.List.{length-append, take_more}
+use Rattle.std.proofs.lemmas.List.Sums.{sum_by-append}
+use Rattle.dtx_exciter.specs.Emission.{last_segments, emission}
+use Rattle.dtx_exciter.specs.Log.{Line, restart, life_lines, log, emission_over}
+use Rattle.dtx_cadence.specs.Anchor.{anchor, anchor_to}
+use Rattle.dtx_exciter.specs.Packets.{last_answer, group_part, under, anchor_of, syncs}
+use Rattle.dtx_files.specs.GivenFewLaws.{given_few}
+use Rattle.dtx_files.specs.LogText.{log_text}
+use Rattle.dtx_receiver.specs.Runs.{tracking}
+use Rattle.dtx_receiver.specs.declared.batch.Received.{Received}
+use Rattle.dtx_receiver.specs.declared.tracking.Tracking.{Tracking}
+use Rattle.dtx_receiver.specs.declared.tracking.Tracking.TheVariants.{Searching, Began, Sync, Data, Ended}
+use Rattle.dtx_repeat.specs.GoingOn.{last_life, longer, with_begun}
+use Rattle.dtx_repeat.specs.GoingOnLaws.{last_begun}
+use Rattle.dtx_repeat.specs.Lives.{packets_in, lives_so_far}
+use Rattle.dtx_repeat.specs.LivesLaws.{AreGiven, lives_more, as_many_so_far}
+use Rattle.dtx_repeat.specs.Repeater.{StandsFor, given_behind}
+use Rattle.dtx_repeat.specs.Restored.{restored_so_far}
+use Rattle.dtx_repeat.specs.declared.repeater.Repeater.{Repeater}
+use Rattle.dtx_repeat.specs.RestoredLaws.{packets_in-append}
+use Rattle.dtx_jobs.specs.Life.{one_preset, one_mute, presets_in, mutes_in, HasRoom}
+use Rattle.dtx_jobs.specs.Lives.{sent_over, logged_over, lives_tally}
+use Rattle.dtx_jobs.specs.LivesLaws.{brought_by, sent_with, logged_with, tally_with_begun}
+use Rattle.dtx_jobs.specs.Repetition.{IsRepeating, IsSending, IsSentOn}
+use Rattle.dtx_jobs.specs.Restarts.{restart_at}
+use Rattle.dtx_jobs.specs.declared.life_tally.LifeTally.{LifeTally}
+use Rattle.dtx_jobs.specs.declared.repetition.Repetition.{Repetition}
+use Rattle.dtx_jobs.specs.declared.repetition.TheConstants.{SENT_BYTES, LOGGED_BYTES}
+use Rattle.dtx_jobs.specs.declared.sending.Sending.{Sending}
+use Rattle.dtx_jobs.proofs.LifeOn.{emission_few, presets_few, counted_in_all}
+
+-- ---- how much lives give
+
+abbrev packets_of_all : List (List (List ℕ)) → ℕ
+packets_of_all lives = length (flat_map (λ (l : List (List ℕ)). l) lives)
+
+emission_over_few : (a d : ℕ) (lives : List (List (List ℕ)))
+    → length (emission_over a d lives) ≤ 5 * packets_of_all lives
+emission_over_few a d [] = omega arith
+emission_over_few a d (life ∷ more) =
+    omega (
+      arith,
+      length-append (emission a d life) (emission_over a d more),
+      length-append life (flat_map (λ (l : List (List ℕ)). l) more),
+      emission_few a d life,
+      emission_over_few a d more,
+    )
+
+lines_few : (a d n : ℕ) (l : List (List ℕ))
+    → presets_in (life_lines a d n l) + mutes_in (life_lines a d n l) ≤ length l
+unfolding life_lines
+lines_few a d n l = counted_in_all _ 0 (length l) (λ i. presets_few _ _ (last_answer a d (take (i + 1) l)))
+
+log_few : (a d n : ℕ) (lives : List (List (List ℕ)))
+    → presets_in (log a d n lives) + mutes_in (log a d n lives) ≤ packets_of_all lives
+unfolding log
+log_few a d n [] = omega arith
+log_few a d n (life ∷ []) =
+    omega (arith, lines_few a d n life, length-append life (flat_map (λ (l : List (List ℕ)). l) []))
+log_few a d n (life ∷ (next ∷ more)) =
+    let m : ℕ = n + length (emission a d life) in
+    let rest : List Line = restart m ∷ log a d m (next ∷ more) in
+    omega (
+      arith,
+      sum_by-append one_preset (life_lines a d n life) rest,
+      sum_by-append one_mute (life_lines a d n life) rest,
+      lines_few a d n life,
+      log_few a d m (next ∷ more),
+      length-append life (flat_map (λ (l : List (List ℕ)). l) (next ∷ more)),
+    )
+
+-- so there is room for what the next packet brings
+pub lives_room : (a d : ℕ) (lives : List (List (List ℕ))) (p : List ℕ) (tally : LifeTally)
+    → tally ≡ lives_tally a d lives → tally.packets < 8 * 626000001 → HasRoom tally (length (brought_by a d lives p))
+lives_room a d lives p tally is most =
+    let packets = ap (λ (t : LifeTally). t.packets) is in
+    let segments = ap (λ (t : LifeTally). t.segments) is in
+    let presets = ap (λ (t : LifeTally). t.presets) is in
+    let mutes = ap (λ (t : LifeTally). t.mutes) is in
+    record {
+      packets = omega (arith, most);
+      segments = omega (
+        arith,
+        most,
+        packets,
+        segments,
+        emission_over_few a d lives,
+        given_few a d (last_life lives ++ p ∷ []),
+      );
+      presets = omega (arith, most, packets, presets, log_few a d 0 lives);
+      mutes = omega (arith, most, packets, mutes, log_few a d 0 lives);
+    }
+
+-- ---- one state behind another
+
+pub sent_on : (old mid new : Repetition) (s t : List (List ℤ)) (x y z : List (List (List ℕ)))
+    → mid.address ≡ old.address → mid.delay ≡ old.delay → IsSentOn old mid s x y → IsSentOn mid new t y z
+    → IsSentOn old new t x z
+sent_on old mid new s t x y z a d f g = record {
+  sending = g.sending;
+  sent = λ bytes e.
+      sym (ap₂ (λ a d. sent_over a d z) a d)
+      ∙ g.sent bytes (ap₂ (λ a d. sent_over a d y) a d ∙ f.sent bytes e);
+  logged = λ bytes e.
+      sym (ap₂ (λ a d. logged_over a d z) a d)
+      ∙ g.logged bytes (ap₂ (λ a d. logged_over a d y) a d ∙ f.logged bytes e);
+}
+
+-- there is a life, where there are packets for the last one
+pub some_lives : (lives : List (List (List ℕ))) (packets : List Received) (i : ℕ) → i < length packets
+    → (lives ≡ [] → packets ≡ []) → 0 < length lives
+some_lives [] packets i inside none = absurd (omega (arith, inside, ap length (none refl)))
+some_lives (life ∷ more) packets i inside none = omega arith
+
+-- packet i of those
+pub packet_more : (packets : List Received) (i : ℕ) (d : Received) → i < length packets
+    → packets_in (take i packets) ++ (get_or packets i d).packet.0 ∷ [] ≡ packets_in (take (i + 1) packets)
+packet_more packets i d inside =
+    sym (ap packets_in (take_more packets i d inside) ∙ packets_in-append (take i packets) (get_or packets i d ∷ []))
+
+-- ---- one segment more, before its packets are sent
+
+last_with : (t : Tracking) (lives : List (List (List ℕ)))
+    → given_behind t (last_life lives) ≡ last_life (with_begun t lives)
+last_with Searching lives = refl
+last_with Sync lives = refl
+last_with Data lives = refl
+last_with Ended lives = refl
+last_with Began lives = sym (last_begun lives)
+
+no_part : group_part [] ≡ 0
+unfolding group_part under anchor_of syncs anchor anchor_to
+no_part = refl
+
+pub part_with : (t : Tracking) (lives : List (List (List ℕ)))
+    → group_part (last_life (with_begun t lives)) ≤ group_part (last_life lives)
+part_with Searching lives = omega arith
+part_with Sync lives = omega arith
+part_with Data lives = omega arith
+part_with Ended lives = omega arith
+part_with Began lives = omega (arith, ap group_part (last_begun lives), no_part)
+
+-- what the segment leaves
+pub record IsReceivedOn (old mid : Repetition) (s : List (List ℤ)) (x : List ℤ) (t : Tracking) : Type 0 where
+  pub on : IsSentOn old mid (s ++ x ∷ []) (lives_so_far s) (with_begun t (lives_so_far s))
+  pub given : AreGiven (with_begun t (lives_so_far s)) (lives_so_far (s ++ x ∷ [])) mid.batch.packets.items
+
+pub received_on : (old mid : Repetition) (repeater : Repeater) (s : List (List ℤ)) (x : List ℤ) (t : Tracking)
+    (items : List Received) → IsRepeating old s → t ≡ tracking s x
+    → StandsFor old.address old.delay repeater (s ++ x ∷ []) (given_behind t (last_life (lives_so_far s)))
+    → restored_so_far (s ++ x ∷ []) ≡ restored_so_far s ++ items
+    → mid.address ≡ old.address → mid.delay ≡ old.delay → mid.repeater.value ≡ repeater
+    → mid.batch.packets.items ≡ items → mid.sending.tally ≡ old.sending.tally
+    → mid.sending.symbols ≡ old.sending.symbols
+    → mid.sending.lines ≡ old.sending.lines ++ log_text (restart_at t old.runs old.sending.tally.segments)
+    → IsReceivedOn old mid s x t
+received_on old mid repeater s x t items is told stands brought ea ed er ei et es el =
+    let a : ℕ = old.address in
+    let d : ℕ = old.delay in
+    let ls : List (List (List ℕ)) = lives_so_far s in
+    let begun : List (List (List ℕ)) = with_begun t ls in
+    let all : List (List ℤ) = s ++ x ∷ [] in
+    let runs : old.runs ≡ length ls = is.begun ∙ sym (as_many_so_far s) in
+    let count = ap (λ (k : LifeTally). k.segments) is.sending.tally in
+    record {
+      on = record {
+        sending = record {
+          repeater =
+              subst (λ n. StandsFor n mid.delay mid.repeater.value all (last_life begun)) (sym ea)
+              (subst (λ n. StandsFor a n mid.repeater.value all (last_life begun)) (sym ed)
+              (subst (λ r. StandsFor a d r all (last_life begun)) (sym er)
+              (subst (StandsFor a d repeater all) (last_with t ls) stands)));
+          tally = et ∙ is.sending.tally ∙ tally_with_begun a d t ls
+              ∙ sym (ap₂ (λ a d. lives_tally a d begun) ea ed);
+        };
+        sent = λ bytes e. sent_with a d t ls ∙ e ∙ ap (λ z. bytes ++ z) (sym es);
+        logged = λ bytes e.
+            let line : List ℕ = log_text (restart_at t old.runs old.sending.tally.segments) in
+            logged_with a d t old.runs old.sending.tally.segments ls runs count ∙ ap (λ z. z ++ line) e
+            ∙ append_assoc bytes old.sending.lines line ∙ ap (λ z. bytes ++ z) (sym el);
+      };
+      given = subst (AreGiven begun (lives_so_far all)) (sym ei)
+          (subst (λ u. AreGiven (with_begun u ls) (lives_so_far all) items) (sym told) (lives_more s x items brought));
+    }
+
+-- of no lives
+pub no_tally : (a d : ℕ) → lives_tally a d [] ≡ record { packets = 0; segments = 0; presets = 0; mutes = 0 }
+unfolding log
+no_tally a d = refl
+
+-- a state that has let go what the last piece brought
+pub cleared : (old : Repetition) (sending : Sending SENT_BYTES LOGGED_BYTES) (s : List (List ℤ))
+    → sending.tally ≡ old.sending.tally → IsRepeating old s → IsRepeating (record old { sending = sending }) s
+cleared old sending s e is = record {
+  sending = record { repeater = is.sending.repeater; tally = e ∙ is.sending.tally };
+  count = is.count;
+  begun = is.begun;
+}

@@ -1,0 +1,9 @@
+use Rattle.dtx_words.specs.declared.rows.Command.TheVariants.{Acquire}
+use Rattle.dtx_jobs.specs.Acquire.{acquiring}
+use Rattle.dtx_jobs.specs.AnswersLaws.{acquire_knows, transformed_knows}
+use Rattle.dtx_jobs.proofs.acquire_command.acquire_files.Goals as goal
+
+pub returns-in-Ok-clause-answers : goal.returns-in-Ok-clause-answers
+returns-in-Ok-clause-answers g c =
+    let scale = c.in-Ok.acquisition.acquirer.scale in
+    transformed_knows (acquiring scale) Acquire _ (acquire_knows scale) c.transform.ensures.answer

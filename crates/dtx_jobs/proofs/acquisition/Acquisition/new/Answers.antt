@@ -1,0 +1,9 @@
+use Rattle.std.proofs.Common.{sym, subst}
+use Rattle.dtx_acquire.specs.Acquirer.{StandsFor}
+use Rattle.dtx_jobs.proofs.acquisition.Acquisition.new.Goals as goal
+
+pub returns-clause-stands : goal.returns-clause-stands
+returns-clause-stands c = record {
+  room = c.in_ok-vec.ensures.len;
+  stands = c.in_ok-new.ensures.stands;
+}

@@ -1,0 +1,21 @@
+use Rattle.std.proofs.Common.{◌≡◌, List, ℕ, ◌∙◌, ap}
+use Rattle.dtx_meaning.specs.Laws.{carried_told}
+use Rattle.dtx_meaning.specs.Meaning.{Meaning}
+use Rattle.dtx_outside.specs.Shelf.{Files}
+use Rattle.dtx_words.specs.Number.{number_in}
+use Rattle.dtx_jobs.specs.Repeat.{repeat_meaning, repeat_with}
+use Rattle.dtx_jobs.proofs.Apart.{six_words}
+use Rattle.dtx_jobs.proofs.repeat_command.repeat.Goals as goal
+
+pub returns-in-len6-clause-carried : goal.returns-in-len6-clause-carried
+returns-in-len6-clause-carried g c =
+    let words = six_words c.args.words.now _ _ _ _ _ c.as_str.result.now c.as_str-in-len6-3.result.now
+    c.as_str-in-len6-4.result.now c.as_str-in-len6.result.now c.as_str-in-len6-2.result.now c.in-len6.len_at_least
+    c.in-len6.len_below (c.as_str.ensures ∙ c.input-item.is) (c.as_str-in-len6-3.ensures ∙ c.address-item.is)
+    (c.as_str-in-len6-4.ensures ∙ c.delay-item.is) (c.as_str-in-len6.ensures ∙ c.output-item.is)
+    (c.as_str-in-len6-2.ensures ∙ c.log-item.is) in
+    let means : Files → Meaning = λ held.
+    repeat_with (number_in 65535 c.as_str-in-len6-3.result.now) (number_in 4294967295 c.as_str-in-len6-4.result.now)
+    c.as_str.result.now c.as_str-in-len6.result.now c.as_str-in-len6-2.result.now held in
+    carried_told (repeat_meaning c.args.words.now) means (g.S.Shelf.files c.args.shelf.now) _ c.repeat_read.result
+    (λ held told. ap (λ w. repeat_meaning w held) words) c.repeat_read.ensures.carried

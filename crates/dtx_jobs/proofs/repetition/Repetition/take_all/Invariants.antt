@@ -1,0 +1,28 @@
+use Rattle.std.proofs.Common.{◌≡◌, ◌≤◌, ◌+◌, ◌*◌, ◌++◌, ℤ, List, length}
+use Rattle.dtx_exciter.specs.Packets.{group_part}
+use Rattle.dtx_repeat.specs.GoingOn.{last_life}
+use Rattle.dtx_repeat.specs.Lives.{lives_so_far}
+use Rattle.dtx_jobs.specs.Lives.{sent_over, logged_over}
+use Rattle.dtx_jobs.specs.Repetition.{AreFew, IsRepeating}
+use Rattle.dtx_jobs.specs.SymbolFile.{segments_from}
+use Rattle.dtx_jobs.proofs.repetition.Repetition.take_all.Given as goal
+
+abbrev pub invariant-loop-i : goal.invariant-loop-i
+invariant-loop-i l = record {
+  address : l.self.address ≡ l.fn.self.address;
+  delay : l.self.delay ≡ l.fn.self.delay;
+  repeating : (s : List (List ℤ)) → IsRepeating l.fn.self s → IsRepeating l.self (s ++ segments_from l.bytes 0 l.i);
+  sent : (s : List (List ℤ)) → IsRepeating l.fn.self s
+      → sent_over l.fn.self.address l.fn.self.delay (lives_so_far (s ++ segments_from l.bytes 0 l.i))
+      ≡ sent_over l.fn.self.address l.fn.self.delay (lives_so_far s) ++ l.self.sending.symbols;
+  logged : (s : List (List ℤ)) → IsRepeating l.fn.self s
+      → logged_over l.fn.self.address l.fn.self.delay (lives_so_far (s ++ segments_from l.bytes 0 l.i))
+      ≡ logged_over l.fn.self.address l.fn.self.delay (lives_so_far s) ++ l.self.sending.lines;
+  symbols : (s : List (List ℤ)) → IsRepeating l.fn.self s
+      → 4 * length l.self.sending.symbols
+      + 4160 * group_part (last_life (lives_so_far (s ++ segments_from l.bytes 0 l.i)))
+      ≤ 4160 * (group_part (last_life (lives_so_far s)) + 8 * l.i);
+  lines : length l.self.sending.lines ≤ 576 * l.i;
+  few : AreFew l.self;
+  count : l.self.segments ≡ l.fn.self.segments + l.i;
+}

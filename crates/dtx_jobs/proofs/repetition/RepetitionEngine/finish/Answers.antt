@@ -1,0 +1,60 @@
+use Rattle.std.proofs.Common.{ap, sym, ◌∙◌, arith, ◌++◌}
+use Rattle.std.proofs.lemmas.List.{append-nil}
+use Rattle.dtx_repeat.specs.Lives.{lives_so_far}
+use Rattle.dtx_jobs.specs.Lives.{sent_over, logged_over}
+use Rattle.dtx_jobs.specs.RepeatLaws.{repeats_last}
+use Rattle.dtx_jobs.specs.SymbolFile.{file_segments}
+use Rattle.dtx_jobs.specs.SymbolFileLaws.{length-segments_of}
+use Rattle.dtx_jobs.proofs.LivesOn.{cleared}
+use Rattle.dtx_jobs.proofs.repetition.RepetitionEngine.finish.Goals as goal
+
+pub end-requires-clause-some : goal.end-requires-clause-some
+end-requires-clause-some c =
+    let units = c.requires.given in
+    let some = units.2 in (
+      file_segments some.0,
+      cleared c.args.self.now c.clear.new.self (file_segments some.0) c.clear.ensures.tally
+          some.2.repeating,
+    )
+
+pub end-requires-clause-few : goal.end-requires-clause-few
+end-requires-clause-few c =
+    let units = c.requires.given in
+    let some = units.2 in
+    omega (
+      arith,
+      some.2.few.packets,
+      some.2.repeating.count,
+      some.1,
+      units.1,
+      length-segments_of some.0,
+      ap (λ t. t.packets) c.clear.ensures.tally,
+    )
+
+pub returns-then-self-eq0-clause-rest : goal.returns-then-self-eq0-clause-rest
+returns-then-self-eq0-clause-rest c = λ given stand.
+    let a = c.args.self.now.address in
+    let d = c.args.self.now.delay in
+    let s = file_segments given in
+    let is = cleared c.args.self.now c.clear.new.self s c.clear.ensures.tally stand.repeating in
+    let on = c.end.ensures.sent s is in
+    let new = c.end.new.self in
+    repeats_last a d given new.sending.symbols new.sending.lines
+    (on.sent (sent_over a d (lives_so_far s)) (sym (append-nil (sent_over a d (lives_so_far s)))
+    ∙ ap (λ z. sent_over a d (lives_so_far s) ++ z) (sym c.clear.ensures.symbols)))
+    (on.logged (logged_over a d (lives_so_far s)) (sym (append-nil (logged_over a d (lives_so_far s)))
+    ∙ ap (λ z. logged_over a d (lives_so_far s) ++ z) (sym c.clear.ensures.lines)))
+
+pub returns-else-self-eq0-clause-rest : goal.returns-else-self-eq0-clause-rest
+returns-else-self-eq0-clause-rest c = λ given stand.
+    let a = c.args.self.now.address in
+    let d = c.args.self.now.delay in
+    let s = file_segments given in
+    let is = cleared c.args.self.now c.clear.new.self s c.clear.ensures.tally stand.repeating in
+    let on = c.end.ensures.sent s is in
+    let new = c.end.new.self in
+    repeats_last a d given new.sending.symbols new.sending.lines
+    (on.sent (sent_over a d (lives_so_far s)) (sym (append-nil (sent_over a d (lives_so_far s)))
+    ∙ ap (λ z. sent_over a d (lives_so_far s) ++ z) (sym c.clear.ensures.symbols)))
+    (on.logged (logged_over a d (lives_so_far s)) (sym (append-nil (logged_over a d (lives_so_far s)))
+    ∙ ap (λ z. logged_over a d (lives_so_far s) ++ z) (sym c.clear.ensures.lines)))

@@ -1,0 +1,50 @@
+-- What `acquire SCALE IN OUT` means: the segments that are acquired of the symbols of a capture (the profile's own).
+use Rattle.std.specs.Prelude.{ℕ, ℤ, ◌-◌, ◌*◌, ◌==◌, Bool, true, if◌then◌else◌, Option, Some, None, List, []}
+use Rattle.std.specs.Prelude.{◌∷◌, length}
+use Rattle.std.specs.Str.{bytes_eq}
+use Rattle.dtx_acquire.specs.Acquired.{acquired, acquired_cost, acquired_rest, acquired_runs, acquired_so_far}
+use Rattle.dtx_engine.specs.Made.{only}
+use Rattle.dtx_engine.specs.Recipe.{Recipe, transformed}
+use Rattle.dtx_files.specs.Symbols.{segment_bytes}
+use Rattle.dtx_meaning.specs.Meaning.{Meaning, refused}
+use Rattle.dtx_meaning.specs.Status.{ended}
+use Rattle.dtx_meaning.specs.declared.status.Outcome.{Outcome}
+use Rattle.dtx_meaning.specs.declared.status.Status.TheVariants.{Done, NoSync, Usage}
+use Rattle.dtx_outside.specs.Shelf.{Files}
+use Rattle.dtx_words.specs.Number.{number_within}
+use Rattle.dtx_jobs.specs.Shapes as shapes
+use Rattle.dtx_jobs.specs.SymbolFile.{symbols}
+
+-- the bytes, the runs of which something is left, the segments, what all least paths cost, the symbols in no segment
+abbrev pub acquired_numbers : ℕ → ℕ → ℕ → ℕ → List ℕ
+acquired_numbers symbols runs segments cost =
+    symbols ∷ runs ∷ segments ∷ cost ∷ (symbols - 832 * segments) ∷ 0 ∷ 0 ∷ []
+
+-- where there is no run there is no sync
+abbrev pub acquired_answer : ℕ → ℕ → ℕ → ℕ → Outcome
+acquired_answer symbols runs segments cost =
+    if runs == 0 then ended NoSync
+    else record { status = Done; numbers = acquired_numbers symbols runs segments cost; shown = 5 }
+
+abbrev pub acquire_answer : ℕ → List ℤ → Outcome
+acquire_answer scale symbols =
+    acquired_answer (length symbols) (acquired_runs symbols) (length (acquired scale symbols))
+    (acquired_cost scale symbols)
+
+abbrev pub acquiring : ℕ → Recipe
+acquiring scale = record {
+  allows = λ _ _. true;
+  made = λ bytes. only (segment_bytes (acquired_so_far scale (symbols bytes)));
+  rest = λ bytes. only (segment_bytes (acquired_rest scale (symbols bytes)));
+  answer = λ bytes loose. acquire_answer scale (symbols bytes);
+}
+
+-- where the scale fits
+abbrev pub acquire_at : Option ℕ → List ℕ → List ℕ → Files → Meaning
+acquire_at None input output held = refused Usage
+acquire_at (Some scale) input output held = transformed shapes.single_bytes (acquiring scale) input output held
+
+-- what the words mean: the scale is 1 to 18
+abbrev pub acquire_meaning : List (List ℕ) → Files → Meaning
+acquire_meaning (verb ∷ scale ∷ input ∷ output ∷ []) held = acquire_at (number_within 1 18 scale) input output held
+acquire_meaning words held = refused Usage

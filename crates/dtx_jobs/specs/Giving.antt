@@ -1,0 +1,73 @@
+-- What a receiver gives for segments, whichever receiver it is, and what is made of a symbol file by it (ATSC A/53
+-- Part 2, the way back).
+use Rattle.std.specs.Prelude.{◌≡◌, ℕ, ℤ, ◌==◌, true, if◌then◌else◌, List, [], ◌∷◌, ◌++◌, length, map, drop}
+use Rattle.std.specs.List.{flat_map}
+use Rattle.dtx_engine.specs.Made.{only, outputs_of}
+use Rattle.dtx_engine.specs.Recipe.{Recipe}
+use Rattle.dtx_meaning.specs.Meaning.{Meaning}
+use Rattle.dtx_meaning.specs.Status.{ended}
+use Rattle.dtx_meaning.specs.declared.status.Outcome.{Outcome}
+use Rattle.dtx_meaning.specs.declared.status.Status.TheVariants.{Done, NoSync}
+use Rattle.dtx_receiver.specs.Runs.{runs}
+use Rattle.dtx_receiver.specs.declared.batch.Received.{Received}
+use Rattle.dtx_jobs.specs.SymbolFile.{file_segments}
+use Rattle.dtx_jobs.specs.Tally.{numbers_in, tally_of}
+
+-- the packets that a receiver gives while segments come, all packets of theirs, and the bytes of each of all
+pub record Giving : Type 0 where
+  pub so_far : List (List ℤ) → List Received
+  pub all : List (List ℤ) → List Received
+  pub packets : List (List ℤ) → List (List ℕ)
+
+-- What comes with one segment more, or with the end, comes behind what was given before, and without a run there is no
+-- packet.
+pub record IsGiving (giving : Giving) : Type 0 where
+  pub none : giving.so_far [] ≡ []
+  pub segment : (segments : List (List ℤ)) (x : List ℤ)
+      → (brought : List Received) × (giving.so_far (segments ++ x ∷ []) ≡ giving.so_far segments ++ brought)
+  pub end : (segments : List (List ℤ))
+      → (brought : List Received) × (giving.all segments ≡ giving.so_far segments ++ brought)
+  pub packets : (segments : List (List ℤ)) → giving.packets segments ≡ map (λ r. r.packet.0) (giving.all segments)
+  pub no_run : (segments : List (List ℤ)) → length (runs segments) ≡ 0 → giving.all segments ≡ []
+
+-- the bytes of packets, one behind the other
+abbrev pub bytes_of : List Received → List ℕ
+bytes_of packets = flat_map (λ p. p.packet.0) packets
+
+-- the packets of a symbol file, one behind the other
+abbrev pub all_bytes : Giving → List ℕ → List ℕ
+all_bytes giving file = flat_map (λ p. p) (giving.packets (file_segments file))
+
+-- those that are given while its segments come
+abbrev pub early_bytes : Giving → List ℕ → List ℕ
+early_bytes giving file = bytes_of (giving.so_far (file_segments file))
+
+-- and those that its end brings
+abbrev pub end_bytes : Giving → List ℕ → List ℕ
+end_bytes giving file = drop (length (early_bytes giving file)) (all_bytes giving file)
+
+-- the numbers of segments, behind which so many bytes are loose
+abbrev pub given_numbers : Giving → List (List ℤ) → ℕ → List ℕ
+given_numbers giving list loose = numbers_in (tally_of list (giving.all list)) loose
+
+-- how it ends: where no segment looks like a field sync there is no run
+abbrev pub answer_of : Giving → List (List ℤ) → ℕ → Outcome
+answer_of giving list loose =
+    if length (runs list) == 0 then ended NoSync
+    else record { status = Done; numbers = given_numbers giving list loose; shown = 6 }
+
+-- what is made of symbols
+abbrev pub receiving_by : Giving → Recipe
+receiving_by giving = record {
+  allows = λ _ _. true;
+  made = λ bytes. only (early_bytes giving bytes);
+  rest = λ bytes. only (end_bytes giving bytes);
+  answer = λ bytes loose. answer_of giving (file_segments bytes) loose;
+}
+
+-- what is answered and written of all segments of some bytes, behind which so many are loose
+abbrev pub given_of : Giving → List (List ℕ) → List ℕ → ℕ → Meaning
+given_of giving names file loose = record {
+  outcome = answer_of giving (file_segments file) loose;
+  outputs = outputs_of names (only (all_bytes giving file));
+}

@@ -1,0 +1,40 @@
+-- What is kept while symbols are received and sent again.
+use Rattle.std.specs.Prelude.{◌≡◌, ◌*◌, ◌≤◌, ℕ, ℤ, List, ◌++◌, length}
+use Rattle.dtx_receiver.specs.Runs.{runs}
+use Rattle.dtx_repeat.specs.GoingOn.{last_life}
+use Rattle.dtx_repeat.specs.Lives.{lives_so_far}
+use Rattle.dtx_repeat.specs.Repeater.{StandsFor}
+use Rattle.dtx_jobs.specs.Lives.{sent_over, logged_over, lives_tally}
+use Rattle.dtx_jobs.specs.SymbolFile.{file_segments}
+use Rattle.dtx_jobs.specs.declared.repetition.Repetition.{Repetition}
+
+-- These segments were received, and the exciter was given the packets of these lives: the repeater stands for the
+-- segments and for the last life, and the numbers of what was sent are the lives'.
+pub record IsSending (state : Repetition) (segments : List (List ℤ)) (lives : List (List (List ℕ))) : Type 0 where
+  pub repeater : StandsFor state.address state.delay state.repeater.value segments (last_life lives)
+  pub tally : state.sending.tally ≡ lives_tally state.address state.delay lives
+
+-- From the lives that one state was sending another state sends these, and has gathered what they give more.
+pub record IsSentOn (old new : Repetition) (segments : List (List ℤ)) (before after : List (List (List ℕ))) :
+    Type 0 where
+  pub sending : IsSending new segments after
+  pub sent : (bytes : List ℕ) → sent_over old.address old.delay before ≡ bytes ++ old.sending.symbols
+      → sent_over old.address old.delay after ≡ bytes ++ new.sending.symbols
+  pub logged : (bytes : List ℕ) → logged_over old.address old.delay before ≡ bytes ++ old.sending.lines
+      → logged_over old.address old.delay after ≡ bytes ++ new.sending.lines
+
+-- the numbers are none that so many segments can't give
+pub record AreFew (state : Repetition) : Type 0 where
+  pub runs : state.runs ≤ state.segments
+  pub packets : state.sending.tally.packets ≤ 8 * state.segments
+
+-- these segments were received, and what they gave was sent again
+pub record IsRepeating (state : Repetition) (received : List (List ℤ)) : Type 0 where
+  pub sending : IsSending state received (lives_so_far received)
+  pub count : state.segments ≡ length received
+  pub begun : state.runs ≡ length (runs received)
+
+-- the segments of these bytes were given
+pub record WasRepeated (state : Repetition) (bytes : List ℕ) : Type 0 where
+  pub repeating : IsRepeating state (file_segments bytes)
+  pub few : AreFew state

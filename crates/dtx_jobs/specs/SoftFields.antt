@@ -1,0 +1,61 @@
+-- The fields of the runs of a symbol file, and what `soft` makes of whole files.
+use Rattle.std.specs.Prelude.{ℕ, ℤ, ◌+◌, ◌*◌, ◌/◌, ◌%◌, zero, suc, Option, Some, None, List, [], ◌∷◌, length, map}
+use Rattle.std.specs.Prelude.{take, drop}
+use Rattle.std.specs.List.{range_with_len, flat_map}
+use Rattle.dtx_engine.specs.Made.{only, outputs_of}
+use Rattle.dtx_files.specs.Symbols.{segment_bytes}
+use Rattle.dtx_meaning.specs.Meaning.{Meaning}
+use Rattle.dtx_meaning.specs.Status.{ended}
+use Rattle.dtx_meaning.specs.declared.status.Status.TheVariants.{Done, TooLong}
+use Rattle.dtx_receiver.specs.Runs.{runs}
+use Rattle.dtx_sizes.specs.declared.limits.TheConstants.{MOST_SEGMENTS}
+use Rattle.dtx_jobs.specs.Soft.{groups_in, soft_numbers, soft_so_far, soft_symbols}
+use Rattle.dtx_jobs.specs.SymbolFile.{file_segments, whole_segments}
+
+-- ---- fields
+
+-- Which data segment of its field a segment is that stands so many behind its run's last field sync: that one itself,
+-- with 0, is none.
+abbrev pub place_behind : ℕ → Option ℕ
+place_behind zero = None
+place_behind (suc place) = Some place
+
+-- of field f of a run the data segments in whole groups
+abbrev pub field_groups : List (List ℤ) → ℕ → List (List ℤ)
+field_groups run f = groups_in (take 312 (drop (313 * f + 1) run))
+
+-- of each field of a run that has a data segment
+unfoldable pub fields_in : List (List ℤ) → List (List (List ℤ))
+fields_in run = map (field_groups run) (range_with_len 0 ((length run + 311) / 313))
+
+-- and of each run
+unfoldable pub fields_of : List (List ℤ) → List (List (List ℤ))
+fields_of segments = flat_map fields_in (runs segments)
+
+-- ---- files
+
+-- what `soft` answers and writes of all segments of a file
+abbrev pub softened_of : List (List ℕ) → List ℕ → Meaning
+softened_of names file = record {
+  outcome = record { status = Done; numbers = soft_numbers (file_segments file) (length file % 832); shown = 4 };
+  outputs = outputs_of names (only (segment_bytes (soft_symbols (file_segments file))));
+}
+
+-- and of one that has more segments than may be: what the first ones give, as many as may be, but for those of the
+-- field that is on behind them
+abbrev pub softened_until : List (List ℕ) → List ℕ → Meaning
+softened_until names file = record {
+  outcome = ended TooLong;
+  outputs = outputs_of names (only (segment_bytes (soft_so_far (take MOST_SEGMENTS (file_segments file)))));
+}
+
+-- and where its whole segments are copied
+abbrev pub copied_of : List (List ℕ) → List ℕ → Meaning
+copied_of names file = record {
+  outcome = record {
+    status = Done;
+    numbers = whole_segments file ∷ 0 ∷ 0 ∷ (length file % 832) ∷ 0 ∷ 0 ∷ 0 ∷ [];
+    shown = 4;
+  };
+  outputs = outputs_of names (only (take (832 * whole_segments file) file));
+}

@@ -1,0 +1,215 @@
+// Acquiring segments, a piece of a capture's file at a time.
+ghost use Rattle.std.specs.Prelude.{◌≡◌, ◌+◌, ◌*◌, ◌<◌, ◌≤◌, ◌++◌, ℕ, ℤ, List, [], IfOk, length, vec_len};
+ghost use Rattle.dtx_acquire.specs.Acquired.{acquired_so_far};
+ghost use Rattle.dtx_acquire.specs.Acquirer.{StandsFor};
+ghost use Rattle.dtx_files.specs.Symbols.{segment_bytes};
+ghost use Rattle.dtx_meaning.specs.Status.{IsOfBytes, blame_of};
+ghost use Rattle.dtx_outside.specs.Counts.{Nothing};
+ghost use Rattle.dtx_jobs.specs.Acquire.{acquired_answer};
+ghost use Rattle.dtx_jobs.specs.Acquisition.{WasAcquired};
+ghost use Rattle.dtx_jobs.specs.SymbolFile.{symbols};
+
+use crate::shapes::single_bytes;
+use crate::symbol_buffer::SymbolBuffer;
+use dtx_acquire::Acquirer;
+use dtx_engine::{Engine, Shape};
+use dtx_meaning::{Outcome, Status, ended};
+use dtx_sizes::{FIELD_SEGMENTS, MOST_SYMBOLS, SEGMENT};
+use dtx_soft::MAX_SCALE;
+use std::alloc::{AllocError, Global};
+
+/// How many symbols a piece has.
+const PIECE: usize = 262_144;
+
+/// How many symbols a piece brings at most: its own, and those of the field and the segment that were held before it.
+const ACQUIRED_BYTES: usize = PIECE + SEGMENT * (FIELD_SEGMENTS as usize + 1);
+
+/// An acquirer, the symbols of the last piece, and those that it brought.
+#[derive(Drop)]
+pub(crate) struct Acquisition {
+    acquirer: Acquirer,
+    piece: Vec<i8>,
+    symbols: SymbolBuffer<ACQUIRED_BYTES>,
+}
+
+impl Acquisition {
+    /// Nothing was acquired.
+    pub(crate) fn new(alloc: Global, scale: u8) -> Result<Acquisition, AllocError>
+        requires from { 0 < scale }
+        requires to { scale ≤ MAX_SCALE }
+        ensures stands { IfOk result (λ s. WasAcquired s []) }
+        ensures scale { IfOk result (λ s. s.acquirer.scale ≡ scale) }
+    {
+        Ok(Acquisition {
+            acquirer: Acquirer::new(alloc, scale)?,
+            piece: vec![in alloc; 0i8; PIECE]?,
+            symbols: SymbolBuffer::new(alloc)?,
+        })
+    }
+}
+
+impl Engine for Acquisition {
+    ghost use Rattle.dtx_engine.specs.Made.{only};
+    ghost use Rattle.dtx_jobs.specs.Acquire.{acquiring};
+    ghost use Rattle.dtx_jobs.specs.Acquisition.{WasAcquired};
+    ghost use Rattle.dtx_jobs.specs.AcquireLaws.{acquires_more, acquires_none};
+    ghost use Rattle.dtx_jobs.specs.Shapes as shapes;
+
+    ghost shape = { shapes.single_bytes };
+
+    ghost recipe = { λ s. acquiring s.acquirer.scale };
+
+    ghost stands = { WasAcquired };
+
+    ghost gives = { λ s _. only s.symbols };
+
+    fn sizes(&self) -> Shape {
+        single_bytes()
+    }
+
+    fn allows(&self, _index: u64, _unit: &[u8]) -> bool {
+        true
+    }
+
+    fn feed(&mut self, _first: u64, bytes: &mut [u8]) {
+        self.symbols.clear();
+        acquire_piece(
+            &mut self.acquirer,
+            bytes,
+            &mut self.piece,
+            &mut self.symbols,
+        );
+    }
+
+    fn finish(&mut self, _loose: usize) -> Outcome {
+        self.symbols.clear();
+        self.acquirer.finish();
+        gather(self.acquirer.given(), &mut self.symbols);
+        answer(&self.acquirer)
+    }
+
+    fn made<'a>(&'a self, _bytes: &'a [u8]) -> &'a [u8] {
+        self.symbols.bytes()
+    }
+
+    fn log(&self) -> &[u8] {
+        &[]
+    }
+
+    ghost starts = { λ s. acquires_none s.acquirer.scale };
+
+    ghost grows = { λ s a b whole. acquires_more s.acquirer.scale a b };
+}
+
+/// Gives the symbols of bytes to the acquirer, and gathers the segments that they bring.
+fn acquire_piece(
+    acquirer: &mut Acquirer,
+    bytes: &[u8],
+    piece: &mut Vec<i8>,
+    gathered: &mut SymbolBuffer<ACQUIRED_BYTES>,
+)
+    requires stands { (before : List ℤ) × StandsFor acquirer.old before }
+    requires most { acquirer.old.symbols + length bytes.now ≤ MOST_SYMBOLS }
+    requires few { length bytes.now ≤ PIECE }
+    requires room { vec_len piece.old ≡ PIECE }
+    requires empty { gathered.old ≡ [] }
+    ensures stands { (before : List ℤ) → StandsFor acquirer.old before
+        → StandsFor acquirer.new (before ++ symbols bytes.now) }
+    ensures symbols { (before : List ℤ) → StandsFor acquirer.old before
+        → segment_bytes (acquired_so_far acquirer.old.scale (before ++ symbols bytes.now))
+        ≡ segment_bytes (acquired_so_far acquirer.old.scale before) ++ gathered.new }
+    ensures scale { acquirer.new.scale ≡ acquirer.old.scale }
+    ensures room { vec_len piece.new ≡ PIECE }
+{
+    acquire_symbols(acquirer, bytes, &mut piece[..bytes.len()], gathered)
+}
+
+/// Does so with as many symbols as there are bytes.
+fn acquire_symbols(
+    acquirer: &mut Acquirer,
+    bytes: &[u8],
+    piece: &mut [i8],
+    gathered: &mut SymbolBuffer<ACQUIRED_BYTES>,
+)
+    requires stands { (before : List ℤ) × StandsFor acquirer.old before }
+    requires most { acquirer.old.symbols + length bytes.now ≤ MOST_SYMBOLS }
+    requires few { length bytes.now ≤ PIECE }
+    requires room { length piece.old ≡ length bytes.now }
+    requires empty { gathered.old ≡ [] }
+    ensures stands { (before : List ℤ) → StandsFor acquirer.old before
+        → StandsFor acquirer.new (before ++ symbols bytes.now) }
+    ensures symbols { (before : List ℤ) → StandsFor acquirer.old before
+        → segment_bytes (acquired_so_far acquirer.old.scale (before ++ symbols bytes.now))
+        ≡ segment_bytes (acquired_so_far acquirer.old.scale before) ++ gathered.new }
+    ensures scale { acquirer.new.scale ≡ acquirer.old.scale }
+{
+    to_symbols(bytes, piece);
+    acquire_all(acquirer, piece, gathered);
+}
+
+/// Sets symbols to those of the bytes.
+fn to_symbols(bytes: &[u8], piece: &mut [i8])
+    requires { length piece.old ≡ length bytes.now }
+    ensures { piece.new ≡ symbols bytes.now }
+{
+    for i in 0..bytes.len() {
+        piece[i] = bytes[i].cast_signed();
+    }
+}
+
+/// Gives symbols to the acquirer, and gathers the segments that they bring.
+fn acquire_all(acquirer: &mut Acquirer, piece: &[i8], gathered: &mut SymbolBuffer<ACQUIRED_BYTES>)
+    requires stands { (before : List ℤ) × StandsFor acquirer.old before }
+    requires most { acquirer.old.symbols + length piece.now ≤ MOST_SYMBOLS }
+    requires few { length piece.now ≤ PIECE }
+    requires empty { gathered.old ≡ [] }
+    ensures stands { (before : List ℤ) → StandsFor acquirer.old before
+        → StandsFor acquirer.new (before ++ piece.now) }
+    ensures symbols { (before : List ℤ) → StandsFor acquirer.old before
+        → segment_bytes (acquired_so_far acquirer.old.scale (before ++ piece.now))
+        ≡ segment_bytes (acquired_so_far acquirer.old.scale before) ++ gathered.new }
+    ensures scale { acquirer.new.scale ≡ acquirer.old.scale }
+{
+    let mut done = 0;
+    while done < piece.len() {
+        done += acquirer.take(&piece[done..]);
+        gather(acquirer.given(), gathered);
+    }
+}
+
+/// The answer, with the numbers of all that was acquired.
+fn answer(acquirer: &Acquirer) -> Outcome
+    ensures outcome { result
+        ≡ acquired_answer acquirer.now.symbols acquirer.now.runs acquirer.now.segments acquirer.now.cost }
+    ensures verdict { blame_of result.status ≡ Nothing }
+    ensures bytes { IsOfBytes result.status }
+{
+    let runs = acquirer.runs();
+    if runs == 0 {
+        return ended(Status::NoSync);
+    }
+    Outcome {
+        status: Status::Done,
+        numbers: [
+            acquirer.symbols(),
+            runs,
+            acquirer.segments(),
+            acquirer.cost(),
+            acquirer.loose(),
+            0,
+            0,
+        ],
+        shown: 5,
+    }
+}
+
+/// Puts the symbols of segments behind those that are gathered.
+fn gather(segments: &[[i8; SEGMENT]], symbols: &mut SymbolBuffer<ACQUIRED_BYTES>)
+    requires { length symbols.old + SEGMENT * length segments.now ≤ ACQUIRED_BYTES }
+    ensures bytes { symbols.new ≡ symbols.old ++ segment_bytes segments.now }
+    ensures long { length symbols.new ≡ length symbols.old + SEGMENT * length segments.now }
+{
+    for i in 0..segments.len() {
+        symbols.push(&segments[i]);
+    }
+}

@@ -1,0 +1,300 @@
+// Receiving symbols and sending their packets again, a piece of the file at a time.
+ghost use Rattle.std.specs.Prelude.{◌≡◌, ◌+◌, ◌*◌, ◌/◌, ◌<◌, ◌≤◌, ◌++◌, ◌∷◌, [], ℕ, ℤ, List, IfOk, length, map};
+ghost use Rattle.dtx_exciter.specs.Packets.{group_part};
+ghost use Rattle.dtx_files.specs.LogText.{log_text};
+ghost use Rattle.dtx_receiver.specs.Runs as runs;
+ghost use Rattle.dtx_repeat.specs.GoingOn.{last_life, longer};
+ghost use Rattle.dtx_repeat.specs.Lives.{lives, lives_so_far, packets_in};
+ghost use Rattle.dtx_jobs.specs.Lives.{lives_tally, logged_over, sent_over};
+ghost use Rattle.dtx_jobs.specs.Repeat.{repeated_numbers};
+ghost use Rattle.dtx_jobs.specs.Repetition.{AreFew, IsRepeating, IsSending, IsSentOn, WasRepeated};
+ghost use Rattle.dtx_jobs.specs.Restarts.{restart_at};
+ghost use Rattle.dtx_jobs.specs.SymbolFile.{file_segments, symbols};
+
+use crate::reception::to_symbols;
+use crate::sending::Sending;
+use crate::shapes::{PIECE_SEGMENTS, segments};
+use dtx_coder::AIR_SYMBOLS;
+use dtx_engine::{Engine, Shape};
+use dtx_exciter::laws::groups_are_spaced;
+use dtx_files::LOG_LINE;
+use dtx_meaning::{Outcome, Status, ended};
+use dtx_packets::Packet;
+use dtx_receiver::{Batch, MOST_RECEIVED, Tracking};
+use dtx_repeat::Repeater;
+use dtx_sizes::{GROUP_PACKETS, MOST_SEGMENTS, SEGMENT};
+use std::alloc::{AllocError, Global};
+
+/// How many packets the segments of a piece, and the end behind them, bring at most.
+const BROUGHT: usize = MOST_RECEIVED * (PIECE_SEGMENTS + 1);
+
+/// How many symbols are sent for them at most: those of their whole groups, and of one that began before them; and room
+/// for one group more.
+const SENT_BYTES: usize = AIR_SYMBOLS * (BROUGHT / GROUP_PACKETS + 2);
+
+/// How many bytes their lines in the log have at most, with a restart at each segment.
+const LOGGED_BYTES: usize = LOG_LINE * (BROUGHT + PIECE_SEGMENTS);
+
+/// A repeater with what the last piece brought, and the numbers of all.
+#[derive(Drop)]
+pub(crate) struct Repetition {
+    address: u16,
+    delay: u32,
+    repeater: Box<Repeater>,
+    batch: Batch,
+    segment: [i8; SEGMENT],
+    segments: u64,
+    runs: u64,
+    sending: Sending<SENT_BYTES, LOGGED_BYTES>,
+}
+
+impl Repetition {
+    /// The transmitter with this address, to which the feed takes `delay` ticks of 100 ns, received nothing.
+    pub(crate) fn new(alloc: Global, address: u16, delay: u32) -> Result<Repetition, AllocError>
+        ensures given { IfOk result (λ state. WasRepeated state []) }
+        ensures address { IfOk result (λ state. state.address ≡ address) }
+        ensures delay { IfOk result (λ state. state.delay ≡ delay) }
+    {
+        Ok(Repetition {
+            address,
+            delay,
+            repeater: Box::new(alloc, Repeater::new(alloc, address, delay)?)?,
+            batch: Batch::new(),
+            segment: [0; SEGMENT],
+            segments: 0,
+            runs: 0,
+            sending: Sending::new(alloc)?,
+        })
+    }
+
+    /// Receives the segments of a file's bytes, and gathers what they bring.
+    fn take_all(&mut self, bytes: &[u8])
+        requires most { self.old.segments + length bytes.now / SEGMENT ≤ MOST_SEGMENTS }
+        requires some { (s : List (List ℤ)) × IsRepeating self.old s }
+        requires few { AreFew self.old }
+        requires room { length bytes.now ≤ SEGMENT * PIECE_SEGMENTS }
+        requires no_symbols { self.old.sending.symbols ≡ [] }
+        requires no_lines { self.old.sending.lines ≡ [] }
+        ensures address { self.new.address ≡ self.old.address }
+        ensures delay { self.new.delay ≡ self.old.delay }
+        ensures repeating { (s : List (List ℤ)) → IsRepeating self.old s
+            → IsRepeating self.new (s ++ file_segments bytes.now) }
+        ensures sent { (s : List (List ℤ)) → IsRepeating self.old s
+            → sent_over self.old.address self.old.delay (lives_so_far (s ++ file_segments bytes.now))
+            ≡ sent_over self.old.address self.old.delay (lives_so_far s) ++ self.new.sending.symbols }
+        ensures logged { (s : List (List ℤ)) → IsRepeating self.old s
+            → logged_over self.old.address self.old.delay (lives_so_far (s ++ file_segments bytes.now))
+            ≡ logged_over self.old.address self.old.delay (lives_so_far s) ++ self.new.sending.lines }
+        ensures few { AreFew self.new }
+    {
+        groups_are_spaced();
+        let (segments, _) = bytes.as_chunks::<SEGMENT>();
+        for i in 0..segments.len() {
+            self.take(&segments[i]);
+        }
+    }
+
+    /// Receives the next segment, and gathers what it brings.
+    fn take(&mut self, bytes: &[u8; SEGMENT])
+        requires most { self.old.segments < MOST_SEGMENTS }
+        requires some { (s : List (List ℤ)) × IsRepeating self.old s }
+        requires few { AreFew self.old }
+        requires symbols { length self.old.sending.symbols + AIR_SYMBOLS * 4 ≤ SENT_BYTES }
+        requires lines { length self.old.sending.lines + LOG_LINE * (MOST_RECEIVED + 1) ≤ LOGGED_BYTES }
+        ensures address { self.new.address ≡ self.old.address }
+        ensures delay { self.new.delay ≡ self.old.delay }
+        ensures repeating { (s : List (List ℤ)) → IsRepeating self.old s
+            → IsRepeating self.new (s ++ symbols bytes.now ∷ []) }
+        ensures sent { (s : List (List ℤ)) → IsRepeating self.old s
+            → IsSentOn self.old self.new (s ++ symbols bytes.now ∷ []) (lives_so_far s)
+            (lives_so_far (s ++ symbols bytes.now ∷ [])) }
+        ensures spaced { (s : List (List ℤ)) → IsRepeating self.old s
+            → 4 * length self.new.sending.symbols
+            + AIR_SYMBOLS * group_part (last_life (lives_so_far (s ++ symbols bytes.now ∷ [])))
+            ≤ 4 * length self.old.sending.symbols
+            + AIR_SYMBOLS * (group_part (last_life (lives_so_far s)) + MOST_RECEIVED) }
+        ensures short { length self.new.sending.lines ≤ length self.old.sending.lines
+            + LOG_LINE * (MOST_RECEIVED + 1) }
+        ensures few { AreFew self.new }
+        ensures count { self.new.segments ≡ self.old.segments + 1 }
+    {
+        to_symbols(bytes, &mut self.segment);
+        let tracking = self.repeater.take(&self.segment, &mut self.batch);
+        self.begin(tracking);
+        self.send_all();
+    }
+
+    /// Counts a segment that was told to be this, and gathers the line of a restart where it begins a run, but the
+    /// first.
+    fn begin(&mut self, tracking: Tracking)
+        requires most { self.old.segments < MOST_SEGMENTS }
+        requires runs { self.old.runs ≤ self.old.segments }
+        requires lines { length self.old.sending.lines + LOG_LINE ≤ LOGGED_BYTES }
+        ensures address { self.new.address ≡ self.old.address }
+        ensures delay { self.new.delay ≡ self.old.delay }
+        ensures repeater { self.new.repeater ≡ self.old.repeater }
+        ensures batch { self.new.batch ≡ self.old.batch }
+        ensures segments { self.new.segments ≡ self.old.segments + 1 }
+        ensures runs { self.new.runs ≡ self.old.runs + runs.begun tracking }
+        ensures few { self.new.runs ≤ self.new.segments }
+        ensures tally { self.new.sending.tally ≡ self.old.sending.tally }
+        ensures symbols { self.new.sending.symbols ≡ self.old.sending.symbols }
+        ensures lines { self.new.sending.lines ≡ self.old.sending.lines
+            ++ log_text (restart_at tracking self.old.runs self.old.sending.tally.segments) }
+        ensures short { length self.new.sending.lines ≤ length self.old.sending.lines + LOG_LINE }
+    {
+        self.segments += 1;
+        match tracking {
+            Tracking::Began => {
+                if self.runs > 0 {
+                    self.sending.restart();
+                }
+                self.runs += 1;
+            }
+            Tracking::Searching | Tracking::Sync | Tracking::Data | Tracking::Ended => {}
+        }
+    }
+
+    /// Gives the packets of the batch to the exciter, which belong to the last of some lives, and gathers what they
+    /// bring.
+    fn send_all(&mut self)
+        requires some { (s : List (List ℤ)) × (ls : List (List (List ℕ))) × IsSending self.old s ls
+            × (ls ≡ [] → self.old.batch.packets.items ≡ []) }
+        requires few { self.old.sending.tally.packets ≤ MOST_RECEIVED * MOST_SEGMENTS }
+        requires symbols { length self.old.sending.symbols + AIR_SYMBOLS * 4 ≤ SENT_BYTES }
+        requires lines { length self.old.sending.lines + LOG_LINE * MOST_RECEIVED ≤ LOGGED_BYTES }
+        ensures address { self.new.address ≡ self.old.address }
+        ensures delay { self.new.delay ≡ self.old.delay }
+        ensures segments { self.new.segments ≡ self.old.segments }
+        ensures runs { self.new.runs ≡ self.old.runs }
+        ensures sent { (s : List (List ℤ)) (ls : List (List (List ℕ))) → IsSending self.old s ls
+            → (ls ≡ [] → self.old.batch.packets.items ≡ [])
+            → IsSentOn self.old self.new s ls (longer ls (packets_in self.old.batch.packets.items)) }
+        ensures spaced { (s : List (List ℤ)) (ls : List (List (List ℕ))) → IsSending self.old s ls
+            → (ls ≡ [] → self.old.batch.packets.items ≡ [])
+            → 4 * length self.new.sending.symbols
+            + AIR_SYMBOLS * group_part (last_life (longer ls (packets_in self.old.batch.packets.items)))
+            ≤ 4 * length self.old.sending.symbols + AIR_SYMBOLS * (group_part (last_life ls) + MOST_RECEIVED) }
+        ensures short { length self.new.sending.lines ≤ length self.old.sending.lines + LOG_LINE * MOST_RECEIVED }
+        ensures count { self.new.sending.tally.packets ≤ self.old.sending.tally.packets + MOST_RECEIVED }
+    {
+        groups_are_spaced();
+        for i in 0..self.batch.packets.len() {
+            let packet = self.batch.packets[i].packet;
+            self.send(&packet);
+        }
+    }
+
+    /// Gives the exciter one packet more, and gathers what it brings.
+    fn send(&mut self, packet: &Packet)
+        requires some { (s : List (List ℤ)) × (ls : List (List (List ℕ))) × IsSending self.old s ls
+            × (0 < length ls) }
+        requires few { self.old.sending.tally.packets < MOST_RECEIVED * (MOST_SEGMENTS + 1) }
+        requires symbols { length self.old.sending.symbols + AIR_SYMBOLS ≤ SENT_BYTES }
+        requires lines { length self.old.sending.lines + LOG_LINE ≤ LOGGED_BYTES }
+        ensures address { self.new.address ≡ self.old.address }
+        ensures delay { self.new.delay ≡ self.old.delay }
+        ensures segments { self.new.segments ≡ self.old.segments }
+        ensures runs { self.new.runs ≡ self.old.runs }
+        ensures batch { self.new.batch ≡ self.old.batch }
+        ensures sent { (s : List (List ℤ)) (ls : List (List (List ℕ))) → IsSending self.old s ls → 0 < length ls
+            → IsSentOn self.old self.new s ls (longer ls (packet.now.0 ∷ [])) }
+        ensures spaced { (s : List (List ℤ)) (ls : List (List (List ℕ))) → IsSending self.old s ls → 0 < length ls
+            → 4 * length self.new.sending.symbols + AIR_SYMBOLS * group_part (last_life (longer ls (packet.now.0 ∷ [])))
+            ≤ 4 * length self.old.sending.symbols + AIR_SYMBOLS * (group_part (last_life ls) + 1) }
+        ensures short { length self.new.sending.lines ≤ length self.old.sending.lines + LOG_LINE }
+        ensures count { self.new.sending.tally.packets ≡ self.old.sending.tally.packets + 1 }
+    {
+        groups_are_spaced();
+        let told = self.repeater.send(packet, &mut self.sending.air);
+        self.sending.add(told);
+    }
+
+    /// Ends, and gathers what the end brings.
+    fn end(&mut self)
+        requires some { (s : List (List ℤ)) × IsRepeating self.old s }
+        requires few { self.old.sending.tally.packets ≤ MOST_RECEIVED * MOST_SEGMENTS }
+        requires no_symbols { self.old.sending.symbols ≡ [] }
+        requires no_lines { self.old.sending.lines ≡ [] }
+        ensures address { self.new.address ≡ self.old.address }
+        ensures delay { self.new.delay ≡ self.old.delay }
+        ensures segments { self.new.segments ≡ self.old.segments }
+        ensures runs { self.new.runs ≡ self.old.runs }
+        ensures sent { (s : List (List ℤ)) → IsRepeating self.old s
+            → IsSentOn self.old self.new [] (lives_so_far s) (lives s) }
+    {
+        self.repeater.finish(&mut self.batch);
+        self.send_all();
+    }
+
+    /// The numbers of the line, in their order, where so many bytes are loose.
+    fn numbers(&self, loose: usize) -> [u64; 7]
+        ensures { result ≡ repeated_numbers self.now.segments self.now.runs self.now.sending.tally loose }
+    {
+        let tally = &self.sending.tally;
+        [
+            self.segments,
+            self.runs,
+            tally.packets,
+            tally.segments,
+            tally.presets,
+            tally.mutes,
+            loose as u64,
+        ]
+    }
+}
+
+impl Engine for Repetition {
+    ghost use Rattle.dtx_engine.specs.Made.{Made};
+    ghost use Rattle.dtx_jobs.specs.Repeat.{repeating};
+    ghost use Rattle.dtx_jobs.specs.RepeatLaws.{repeats_none, repeats_more};
+    ghost use Rattle.dtx_jobs.specs.Repetition.{WasRepeated};
+    ghost use Rattle.dtx_jobs.specs.Shapes as shapes;
+
+    ghost shape = { shapes.segments };
+
+    ghost recipe = { λ s. repeating s.address s.delay };
+
+    ghost stands = { WasRepeated };
+
+    ghost gives = { λ s _. record { first = s.sending.symbols; second = s.sending.lines } };
+
+    fn sizes(&self) -> Shape {
+        segments()
+    }
+
+    fn allows(&self, _index: u64, _unit: &[u8]) -> bool {
+        true
+    }
+
+    fn feed(&mut self, _first: u64, bytes: &mut [u8]) {
+        self.sending.clear();
+        self.take_all(bytes);
+    }
+
+    fn finish(&mut self, loose: usize) -> Outcome {
+        self.sending.clear();
+        self.end();
+        if self.runs == 0 {
+            ended(Status::NoSync)
+        } else {
+            Outcome {
+                status: Status::Done,
+                numbers: self.numbers(loose),
+                shown: 7,
+            }
+        }
+    }
+
+    fn made<'a>(&'a self, _bytes: &'a [u8]) -> &'a [u8] {
+        self.sending.symbols.bytes()
+    }
+
+    fn log(&self) -> &[u8] {
+        self.sending.lines.bytes()
+    }
+
+    ghost starts = { λ s. repeats_none s.address s.delay };
+
+    ghost grows = { λ s a b whole. repeats_more s.address s.delay a b whole };
+}

@@ -1,0 +1,86 @@
+// The numbers of what is told of a feed.
+ghost use Rattle.std.specs.Prelude.{◌≡◌, ◌≤◌, []};
+ghost use Rattle.dtx_jobs.specs.Watch.{watch_tally, watch_numbers, one_slip, one_jump};
+ghost use Rattle.dtx_jobs.specs.Watching.{HasRoom, tally_of_one};
+
+use dtx_watch::{ClockNote, Note, StatesNote, What};
+
+/// How many packets were watched, and how many notes are of operations packets at their places, of states that slip, of
+/// stamps that jump, of packets that don't read, and of packets that aren't at their places.
+#[derive(Clone, Copy)]
+pub(crate) struct WatchTally {
+    pub(crate) packets: u64,
+    pub(crate) ops: u64,
+    pub(crate) slips: u64,
+    pub(crate) jumps: u64,
+    pub(crate) unread: u64,
+    pub(crate) stray: u64,
+}
+
+impl WatchTally {
+    /// Nothing was watched.
+    pub(crate) fn new() -> WatchTally
+        ensures { result ≡ watch_tally 0 [] }
+    {
+        WatchTally {
+            packets: 0,
+            ops: 0,
+            slips: 0,
+            jumps: 0,
+            unread: 0,
+            stray: 0,
+        }
+    }
+
+    /// Counts one note more.
+    pub(crate) fn add(&mut self, note: &Note)
+        requires { HasRoom self.old 1 }
+        ensures { self.new ≡ tally_of_one self.old note.now.what }
+    {
+        match note.what {
+            What::Lock | What::Lost => {}
+            What::Unread(_) => self.unread += 1,
+            What::Stray { .. } => self.stray += 1,
+            What::Ops(ops) => {
+                self.ops += 1;
+                self.slips += one_slip(ops.states);
+                self.jumps += one_jump(ops.clock);
+            }
+        }
+    }
+
+    /// The numbers of the line, in their order, where so many bytes are loose.
+    pub(crate) fn numbers(&self, loose: usize) -> [u64; 7]
+        ensures { result ≡ watch_numbers self.now loose }
+    {
+        [
+            self.packets,
+            self.ops,
+            self.slips,
+            self.jumps,
+            self.unread,
+            self.stray,
+            loose as u64,
+        ]
+    }
+}
+
+fn one_slip(states: StatesNote) -> u64
+    ensures is { result ≡ one_slip states }
+    ensures few { result ≤ 1 }
+{
+    match states {
+        StatesNote::Slip => 1,
+        _ => 0,
+    }
+}
+
+fn one_jump(clock: ClockNote) -> u64
+    ensures is { result ≡ one_jump clock }
+    ensures few { result ≤ 1 }
+{
+    match clock {
+        ClockNote::Jump => 1,
+        _ => 0,
+    }
+}

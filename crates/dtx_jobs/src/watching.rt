@@ -1,0 +1,165 @@
+// A feed that is watched, a piece of its packets at a time.
+ghost use Rattle.std.specs.Prelude.{◌≡◌, ◌+◌, ◌*◌, ◌/◌, ◌<◌, ◌≤◌, ◌++◌, ◌∷◌, [], ℕ, List, IfOk, length};
+ghost use Rattle.dtx_files.specs.WatchText.{note_text, watch_text};
+ghost use Rattle.dtx_packets.specs.Packets.{packets_of};
+ghost use Rattle.dtx_jobs.specs.Watch.{watched_bytes};
+ghost use Rattle.dtx_jobs.specs.Watching.{HasRoom, IsWatched, WasWatched, tally_of_one, tally_with};
+
+use crate::shapes::single_packets;
+use crate::watch_tally::WatchTally;
+use arrayvec::{ArrayString, ArrayVec};
+use dtx_engine::{Buffer, Engine, Shape};
+use dtx_files::{WATCH_LINE, write_note};
+use dtx_meaning::{Outcome, Status};
+use dtx_packets::{PIECE_PACKETS, Packet};
+use dtx_sizes::{MOST_PACKETS, PACKET};
+use dtx_watch::{MOST_NOTES, Note, Watcher};
+use std::alloc::{AllocError, Global};
+
+/// How many bytes the lines that one packet brings have at most.
+const LINES_BYTES: usize = WATCH_LINE * MOST_NOTES;
+
+/// How many bytes those of a piece's packets have at most.
+const WATCHED_BYTES: usize = LINES_BYTES * PIECE_PACKETS;
+
+/// A watcher with what the last piece brought, and the numbers of all.
+#[derive(Drop)]
+pub(crate) struct Watching {
+    watcher: Box<Watcher>,
+    /// What the last packet brought.
+    notes: ArrayVec<Note, MOST_NOTES>,
+    line: ArrayString<WATCH_LINE>,
+    tally: WatchTally,
+    /// The lines that the last piece brought.
+    lines: Buffer<WATCHED_BYTES>,
+}
+
+impl Watching {
+    /// Nothing was watched.
+    pub(crate) fn new(alloc: Global) -> Result<Watching, AllocError>
+        ensures { IfOk result (λ state. WasWatched state []) }
+    {
+        Ok(Watching {
+            watcher: Box::new(alloc, Watcher::new(alloc)?)?,
+            notes: ArrayVec::new(),
+            line: ArrayString::new(),
+            tally: WatchTally::new(),
+            lines: Buffer::new(alloc)?,
+        })
+    }
+
+    /// Takes packets, as the bytes of a file, and gathers the lines that they bring.
+    fn take_all(&mut self, bytes: &[u8])
+        requires some { (before : List (List ℕ)) × IsWatched self.old before
+            × (length before + length bytes.now / PACKET ≤ MOST_PACKETS) }
+        requires room { length bytes.now ≤ PACKET * PIECE_PACKETS }
+        requires empty { self.old.lines ≡ [] }
+        ensures stands { (before : List (List ℕ)) → IsWatched self.old before
+            → IsWatched self.new (before ++ packets_of bytes.now) }
+        ensures lines { (before : List (List ℕ)) → IsWatched self.old before
+            → watched_bytes (before ++ packets_of bytes.now) ≡ watched_bytes before ++ self.new.lines }
+    {
+        let (packets, _) = bytes.as_chunks::<PACKET>();
+        for i in 0..packets.len() {
+            self.take(&Packet(packets[i]));
+        }
+    }
+
+    /// Takes the next packet of the feed, of any bytes, and gathers the lines that it brings.
+    fn take(&mut self, packet: &Packet)
+        requires some { (before : List (List ℕ)) × IsWatched self.old before × (length before < MOST_PACKETS) }
+        requires room { length self.old.lines + LINES_BYTES ≤ WATCHED_BYTES }
+        ensures stands { (before : List (List ℕ)) → IsWatched self.old before
+            → IsWatched self.new (before ++ packet.now.0 ∷ []) }
+        ensures lines { (before : List (List ℕ)) (bytes : List ℕ) → IsWatched self.old before
+            → watched_bytes before ≡ bytes ++ self.old.lines
+            → watched_bytes (before ++ packet.now.0 ∷ []) ≡ bytes ++ self.new.lines }
+        ensures long { length self.new.lines ≤ length self.old.lines + LINES_BYTES }
+    {
+        self.watcher.take(packet, &mut self.notes);
+        self.tally.packets += 1;
+        self.gather();
+    }
+
+    /// Gathers the lines of the notes, and counts them.
+    fn gather(&mut self)
+        requires room { length self.old.lines + LINES_BYTES ≤ WATCHED_BYTES }
+        requires tally { HasRoom self.old.tally MOST_NOTES }
+        ensures lines { self.new.lines ≡ self.old.lines ++ watch_text self.old.notes.items }
+        ensures tally { self.new.tally ≡ tally_with self.old.tally self.old.notes.items }
+        ensures long { length self.new.lines ≤ length self.old.lines + LINES_BYTES }
+        ensures watcher { self.new.watcher ≡ self.old.watcher }
+    {
+        for i in 0..self.notes.len() {
+            let note = self.notes.as_slice()[i];
+            self.put(&note);
+        }
+    }
+
+    /// Puts the line of a note behind the others, and counts it.
+    fn put(&mut self, note: &Note)
+        requires room { length self.old.lines + WATCH_LINE ≤ WATCHED_BYTES }
+        requires tally { HasRoom self.old.tally 1 }
+        ensures lines { self.new.lines ≡ self.old.lines ++ note_text note.now }
+        ensures tally { self.new.tally ≡ tally_of_one self.old.tally note.now.what }
+        ensures long { length self.new.lines ≤ length self.old.lines + WATCH_LINE }
+        ensures watcher { self.new.watcher ≡ self.old.watcher }
+        ensures notes { self.new.notes ≡ self.old.notes }
+    {
+        write_note(note, &mut self.line);
+        self.lines.push(self.line.as_str().as_bytes());
+        self.tally.add(note);
+    }
+}
+
+impl Engine for Watching {
+    ghost use Rattle.dtx_engine.specs.Made.{only};
+    ghost use Rattle.dtx_jobs.specs.Shapes as shapes;
+    ghost use Rattle.dtx_jobs.specs.Watch.{watching};
+    ghost use Rattle.dtx_jobs.specs.WatchLaws.{watches_none, watches_more};
+    ghost use Rattle.dtx_jobs.specs.Watching.{WasWatched};
+
+    ghost shape = { shapes.single_packets };
+
+    ghost recipe = { λ _. watching };
+
+    ghost stands = { WasWatched };
+
+    ghost gives = { λ s _. only s.lines };
+
+    fn sizes(&self) -> Shape {
+        single_packets()
+    }
+
+    fn allows(&self, _index: u64, _unit: &[u8]) -> bool {
+        true
+    }
+
+    fn feed(&mut self, _first: u64, bytes: &mut [u8]) {
+        self.lines.clear();
+        self.take_all(bytes);
+    }
+
+    fn finish(&mut self, loose: usize) -> Outcome {
+        self.lines.clear();
+        self.watcher.finish(&mut self.notes);
+        self.gather();
+        Outcome {
+            status: Status::Done,
+            numbers: self.tally.numbers(loose),
+            shown: 7,
+        }
+    }
+
+    fn made<'a>(&'a self, _bytes: &'a [u8]) -> &'a [u8] {
+        self.lines.bytes()
+    }
+
+    fn log(&self) -> &[u8] {
+        &[]
+    }
+
+    ghost starts = { λ _. watches_none };
+
+    ghost grows = { λ _ a b whole. watches_more a b whole };
+}

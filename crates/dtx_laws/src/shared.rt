@@ -1,0 +1,37 @@
+//! A table that several owners share does what the table does.
+
+use crate::encoder::Encode;
+use crate::whitener::Whitener;
+use std::rc::Rc;
+
+impl<W: Whitener> Whitener for Rc<W> {
+    const PERIOD: usize = W::PERIOD;
+
+    ghost PERIOD = { W.PERIOD };
+
+    ghost bytes = { λ shared. W.bytes shared.value };
+
+    fn byte(&self, at: usize) -> u8 {
+        (**self).byte(at)
+    }
+
+    ghost long = { λ shared. W.long shared.value };
+
+    ghost are_bytes = { λ shared. W.are_bytes shared.value };
+
+    ghost fits = { W.fits };
+}
+
+impl<C: Encode<N, K>, const N: usize, const K: usize> Encode<N, K> for Rc<C> {
+    fn known(&self) {
+        (**self).known()
+    }
+
+    fn encode(&self, head: &[u8; K], word: &mut [u8; N]) {
+        (**self).encode(head, word)
+    }
+
+    fn encode_four(&self, heads: &[[u8; K]; 4], words: &mut [[u8; N]; 4]) {
+        (**self).encode_four(heads, words)
+    }
+}

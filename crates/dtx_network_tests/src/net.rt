@@ -1,0 +1,153 @@
+//! A network of two transmitters with steps in turn, and the moments that were worked by hand and by an independent
+//! program.
+
+ghost use Rattle.std.specs.Prelude.{◌<◌};
+
+use arrayvec::ArrayVec;
+use dtx_clock::Moment;
+use dtx_coder::Air;
+use dtx_exciter::{Preset, Told};
+use dtx_net::Net;
+use dtx_ops::{Entry, Ops, Paging, write};
+use dtx_packets::Packet;
+use dtx_plan::Transmitter;
+use dtx_rs::Rs;
+use dtx_sizes::PACKET;
+use dtx_trellis::States;
+use std::alloc::{AllocError, Global};
+use std::test::Fail;
+
+const TRANSMITTERS: [Transmitter; 2] = [
+    Transmitter {
+        address: 7,
+        offset: -10,
+        delay: 1000,
+    },
+    Transmitter {
+        address: 9,
+        offset: 25,
+        delay: 2000,
+    },
+];
+
+/// A network, and what it gave last.
+#[derive(Drop)]
+struct Stage {
+    net: Net,
+    air: Air,
+}
+
+impl Stage {
+    fn new(alloc: Global) -> Result<Stage, AllocError> {
+        Ok(Stage {
+            net: Net::new(alloc, &TRANSMITTERS)?,
+            air: Air::new(),
+        })
+    }
+
+    /// Gives a packet to the transmitter of an address, where there is one.
+    fn give(&mut self, address: u16, packet: &Packet) -> Option<Told> {
+        match self.net.find(address) {
+            Some(place) => Some(self.net.step(place, packet, &mut self.air)),
+            None => None,
+        }
+    }
+
+    fn restart(&mut self, address: u16) {
+        match self.net.find(address) {
+            Some(place) => self.net.restart(place),
+            None => {}
+        }
+    }
+}
+
+/// Packet `k` of a feed, with an operations packet at place 100.
+fn fed(k: u64) -> Packet
+    requires { k < 3000 }
+{
+    let mut fed = Packet([(k % 100) as u8; PACKET]);
+    if k == 100 {
+        fed = order();
+    }
+    dtx_cadence::mark(k, &mut fed);
+    fed
+}
+
+/// The operations packet.
+fn order() -> Packet {
+    let mut offsets = ArrayVec::new();
+    offsets.push(Entry {
+        address: 7,
+        offset: -10,
+    });
+    offsets.push(Entry {
+        address: 9,
+        offset: 25,
+    });
+    let ops = Ops {
+        states: States([0; 12]),
+        stamp: 0,
+        max_delay: 5_000_000,
+        frame: 0,
+        index: 100,
+        paging: Paging::One,
+        offsets,
+    };
+    let mut packet = Packet([0x47; PACKET]);
+    write(&Rs::new(), &ops, 0, &mut packet);
+    packet
+}
+
+fn preset(tick: u32, hold: u32) -> Told {
+    Told::Sent {
+        preset: Some(Preset {
+            frame: 0,
+            packet: 100,
+            moment: Moment { tick, grain: 640 },
+            hold,
+        }),
+    }
+}
+
+/// What both answer to packet `k` of the feed, 7 first.
+fn both(stage: &mut Stage, k: u64) -> [Option<Told>; 2]
+    requires { k < 3000 }
+{
+    let packet = fed(k);
+    [stage.give(7, &packet), stage.give(9, &packet)]
+}
+
+#[test]
+fn an_address_has_its_place_in_the_list(rt: HostRuntime) -> Result<(), Fail> {
+    let net = Stage::new(rt.alloc())?.net;
+    let found = [net.find(7), net.find(9), net.find(8)];
+    assert!(rt; found == [Some(0), Some(1), None]);
+    Ok(())
+}
+
+#[test]
+fn each_transmitter_goes_on_with_its_own_life(rt: HostRuntime) -> Result<(), Fail> {
+    let mut stage = Stage::new(rt.alloc())?;
+    for index in 0..3 {
+        assert!(rt; stage.give(9, &dtx_make::packet(2, index)) == Some(Told::Quiet));
+    }
+    for k in 0..103 {
+        assert!(rt; both(&mut stage, k) == [Some(Told::Quiet); 2]);
+    }
+    assert!(rt;
+        both(&mut stage, 103)
+            == [
+                Some(preset(5078070, 4998990)),
+                Some(preset(5078105, 4998025)),
+            ]
+    );
+    assert!(rt; both(&mut stage, 104) == [Some(Told::Quiet); 2]);
+    stage.restart(9);
+    for k in 105..107 {
+        assert!(rt; both(&mut stage, k) == [Some(Told::Quiet); 2]);
+    }
+    let sent = Told::Sent { preset: None };
+    assert!(rt; both(&mut stage, 107) == [Some(sent), Some(Told::Quiet)]);
+    assert!(rt; stage.air.segments == 0);
+    Ok(())
+}

@@ -1,0 +1,25 @@
+-- What is made of the words of a run, packet by packet.
+use Rattle.std.specs.Prelude.{ℕ, ◌≡◌, ◌-◌, ◌*◌, ◌/◌, ◌%◌, Some, None, List, [], ◌∷◌, map, length, take}
+use Rattle.std.specs.List.{range_with_len}
+use Rattle.dtx_laws.specs.Codeword.{distance}
+use Rattle.dtx_laws.specs.Whitening.{whitened}
+use Rattle.dtx_laws.specs.Words.{correction}
+use Rattle.dtx_outer.specs.Inner.{waiting, word_at}
+use Rattle.dtx_outer.specs.declared.inner.Taken.{Taken}
+use Rattle.dtx_outer.specs.declared.inner.Taken.TheVariants.{None as Nothing, Good, Bad}
+
+-- what is made of the words of the bytes y of a run, of each by its number: the last blocks of n bytes, so many as give
+-- no packet, complete no word
+abbrev pub made_in : {X : Type 0} (n b m : ℕ) (make : ℕ → List ℕ → X) (y : List ℕ) → List X
+made_in n b m make y = map (λ k. make k (word_at n b m y k)) (range_with_len 0 (length y / n - waiting n b m))
+
+-- It can be told of what a block gave: of the data of the word's correction and how many places that changes, or of
+-- the word's own data where it has none, as packet j of a stream unwhitened.
+pub record IsTold {X : Type 0} (n k : ℕ) (white : List ℕ) (make : ℕ → List ℕ → X) (told : Taken → List ℕ → List X)
+    : Type 0 where
+  pub nothing : (out : List ℕ) → told Nothing out ≡ []
+  pub good : (j : ℕ) (word code : List ℕ) → correction n k word ≡ Some code
+      → told (Good (distance word code)) (whitened white (k * (j % (length white / k))) (take k code))
+      ≡ make j word ∷ []
+  pub bad : (j : ℕ) (word : List ℕ) → correction n k word ≡ None
+      → told Bad (whitened white (k * (j % (length white / k))) (take k word)) ≡ make j word ∷ []

@@ -1,0 +1,2 @@
+pub mod Refilled
+pub mod Stepping

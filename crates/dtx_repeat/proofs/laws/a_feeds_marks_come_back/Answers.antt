@@ -1,0 +1,5 @@
+use Rattle.dtx_repeat.specs.MarksLaws.{feed_is}
+use Rattle.dtx_repeat.proofs.laws.a_feeds_marks_come_back.Goals as goal
+
+pub returns : goal.returns
+returns c = feed_is

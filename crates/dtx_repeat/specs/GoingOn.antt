@@ -1,0 +1,46 @@
+-- How the lives of an exciter that is fed by a receiver go on with one segment more.
+use Rattle.std.specs.Prelude.{ℕ, ℤ, ◌≡◌, ◌+◌, ◌%◌, IfSome, List, [], ◌∷◌, ◌++◌, length}
+use Rattle.dtx_receiver.specs.Runs.{tracked}
+use Rattle.dtx_receiver.specs.declared.batch.Received.{Received}
+use Rattle.dtx_receiver.specs.declared.tracking.Tracking.{Tracking}
+use Rattle.dtx_receiver.specs.declared.tracking.Tracking.TheVariants.{Began}
+use Rattle.dtx_repeat.specs.Lives.{lives, lives_so_far, packets_in}
+use Rattle.dtx_repeat.specs.Repeater.{next_place}
+use Rattle.dtx_repeat.specs.Restored.{place_behind, restored, all_restored, restored_so_far}
+
+-- the last of some lives; none has no packets
+abbrev pub last_life : List (List (List ℕ)) → List (List ℕ)
+last_life [] = []
+last_life (life ∷ []) = life
+last_life (life ∷ (next ∷ more)) = last_life (next ∷ more)
+
+-- lives the last of which is given these packets besides
+abbrev pub longer : List (List (List ℕ)) → List (List ℕ) → List (List (List ℕ))
+longer [] packets = []
+longer (life ∷ []) packets = (life ++ packets) ∷ []
+longer (life ∷ (next ∷ more)) packets = life ∷ longer (next ∷ more) packets
+
+-- one life more, of no packets, where a segment is told to begin a run
+abbrev pub with_begun : Tracking → List (List (List ℕ)) → List (List (List ℕ))
+with_begun Began lives = lives ++ [] ∷ []
+with_begun tracking lives = lives
+
+-- With one segment more these packets are restored, from a place in the frame on, and given to the last life.
+pub record GoesOn (before next : List (List ℤ)) (from : ℕ) (packets : List Received) : Type 0 where
+  pub behind : restored_so_far next ≡ restored_so_far before ++ restored from packets
+  pub place : IfSome (tracked next).run (λ run. (from + length packets) % 624 ≡ next_place run)
+  pub lives : lives_so_far next ≡ longer (lives_so_far before) (packets_in (restored from packets))
+  pub none : lives_so_far before ≡ [] → packets ≡ []
+
+-- One segment more begins a run, and brings nothing.
+pub record Begins (before next : List (List ℤ)) (x : List ℤ) (packets : List Received) : Type 0 where
+  pub nothing : packets ≡ []
+  pub behind : restored_so_far next ≡ restored_so_far before ++ []
+  pub place : IfSome (tracked next).run (λ run. place_behind x ≡ next_place run)
+  pub lives : lives_so_far next ≡ lives_so_far before ++ [] ∷ []
+
+-- At the end of the list these packets are restored and given to the last life.
+pub record Ends (segments : List (List ℤ)) (from : ℕ) (packets : List Received) : Type 0 where
+  pub behind : all_restored segments ≡ restored_so_far segments ++ restored from packets
+  pub lives : lives segments ≡ longer (lives_so_far segments) (packets_in (restored from packets))
+  pub none : lives_so_far segments ≡ [] → packets ≡ []

@@ -1,0 +1,42 @@
+//! The cadence marks of received packets.
+
+ghost use Rattle.std.specs.Prelude.{◌≡◌, ◌+◌, ◌%◌, ◌<◌, length};
+ghost use Rattle.dtx_repeat.specs.Restored.{place_behind, restored};
+
+use dtx_cadence::mark;
+use dtx_frame::is_second;
+use dtx_receiver::Received;
+use dtx_sizes::{FIELD_PACKETS, FRAME_PACKETS, SEGMENT};
+
+/// The place in its frame of the packet behind a field sync.
+pub(crate) fn place_behind(sync: &[i8; SEGMENT]) -> u16
+    ensures { result ≡ place_behind sync.now }
+{
+    if is_second(sync) { FIELD_PACKETS } else { 0 }
+}
+
+/// Restores the sync bytes of packets in a row, the first of which stands at that place of its frame. Answers the place
+/// behind the last of them, which is one of 624.
+pub(crate) fn restore(place: u16, packets: &mut [Received]) -> u16
+    ensures packets { packets.new ≡ restored place packets.old }
+    ensures place { result ≡ (place + length packets.old) % 624 }
+{
+    let mut next = place % FRAME_PACKETS;
+    for i in 0..packets.len() {
+        mark(next as u64, &mut packets[i].packet);
+        next = following(next);
+    }
+    next
+}
+
+/// The place behind this one.
+fn following(place: u16) -> u16
+    requires { place < FRAME_PACKETS }
+    ensures { result ≡ (place + 1) % FRAME_PACKETS }
+{
+    if place + 1 == FRAME_PACKETS {
+        0
+    } else {
+        place + 1
+    }
+}

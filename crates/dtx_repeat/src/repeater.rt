@@ -1,0 +1,95 @@
+//! Receives a main transmitter's segments, and sends their packets again.
+
+ghost use Rattle.std.specs.Prelude.{◌≡◌, ℕ, ℤ, ◌++◌, ◌∷◌, [], List, IfOk};
+ghost use Rattle.dtx_receiver.specs.Runs.{tracking};
+ghost use Rattle.dtx_repeat.specs.Repeater.{StandsFor, IsSent, given_behind};
+ghost use Rattle.dtx_repeat.specs.Restored.{all_restored, restored_so_far};
+
+use crate::marks::{place_behind, restore};
+use dtx_coder::Air;
+use dtx_exciter::{Exciter, Told};
+use dtx_packets::Packet;
+use dtx_receiver::{Batch, Receiver, Tracking};
+use dtx_sizes::SEGMENT;
+use std::alloc::{AllocError, Global};
+
+/// A repeater: it receives the packets of a main transmitter's segments, restores the cadence marks that aren't sent,
+/// and drives an exciter (the profile's own, over ATSC A/53 Part 2 and in the manner of ATSC A/110). Segments and
+/// packets come one after another, and may hold any bytes. `StandsFor address delay repeater segments given` says that
+/// it holds what these segments leave, and that its exciter was given these packets since it was new or since the last
+/// run began.
+#[derive(Drop)]
+pub struct Repeater {
+    receiver: Receiver,
+    place: u16,
+    exciter: Exciter,
+}
+
+impl Repeater {
+    /// The repeater of the transmitter with this address, to which the feed takes `delay` ticks of 100 ns. It received
+    /// nothing and was given nothing. Only want of memory is refused.
+    pub fn new(alloc: Global, address: u16, delay: u32) -> Result<Repeater, AllocError>
+        ensures { IfOk result (λ repeater. StandsFor address delay repeater [] []) }
+    {
+        Ok(Repeater {
+            receiver: Receiver::new(alloc)?,
+            place: 0,
+            exciter: Exciter::new(alloc, address, delay)?,
+        })
+    }
+
+    /// Receives the next segment: tells what it is, and gives the packets that become whole with it, in place of what
+    /// the batch held, as a `Receiver` gives them, but with 0xB8 as the sync byte of each that begins a first field.
+    /// The first field sync of a run tells whether its first field is a first or a second one, and then the fields take
+    /// turns. Where a run begins, the exciter becomes one that was given nothing. No call takes memory.
+    pub fn take(&mut self, segment: &[i8; SEGMENT], batch: &mut Batch) -> Tracking
+        ensures answer { (address delay : ℕ) (segments : List (List ℤ)) (given : List (List ℕ))
+            → StandsFor address delay self.old segments given → result ≡ tracking segments segment.now }
+        ensures stands { (address delay : ℕ) (segments : List (List ℤ)) (given : List (List ℕ))
+            → StandsFor address delay self.old segments given
+            → StandsFor address delay self.new (segments ++ segment.now ∷ []) (given_behind result given) }
+        ensures packets { (address delay : ℕ) (segments : List (List ℤ)) (given : List (List ℕ))
+            → StandsFor address delay self.old segments given
+            → restored_so_far (segments ++ segment.now ∷ []) ≡ restored_so_far segments ++ batch.new.packets.items }
+    {
+        let tracking = self.receiver.take(segment, batch);
+        match tracking {
+            Tracking::Began => {
+                self.exciter.reset();
+                self.place = place_behind(segment);
+            }
+            Tracking::Searching | Tracking::Sync | Tracking::Data | Tracking::Ended => {
+                self.place = restore(self.place, batch.packets.as_mut_slice());
+            }
+        }
+        tracking
+    }
+
+    /// Ends the run that is on, if one is: gives the packets that are left, in place of what the batch held. The next
+    /// segment is received as the first. What the exciter was given stays.
+    pub fn finish(&mut self, batch: &mut Batch)
+        ensures stands { (address delay : ℕ) (segments : List (List ℤ)) (given : List (List ℕ))
+            → StandsFor address delay self.old segments given → StandsFor address delay self.new [] given }
+        ensures packets { (address delay : ℕ) (segments : List (List ℤ)) (given : List (List ℕ))
+            → StandsFor address delay self.old segments given
+            → all_restored segments ≡ restored_so_far segments ++ batch.new.packets.items }
+    {
+        self.receiver.finish(batch);
+        self.place = restore(self.place, batch.packets.as_mut_slice());
+    }
+
+    /// Gives the exciter one more packet, of any bytes, and answers as an `Exciter` does that was given what this one
+    /// was: `Sent` to the last packet of a group that is sent, and then the air holds its segments. With any other
+    /// answer the air holds none.
+    pub fn send(&mut self, packet: &Packet, air: &mut Air) -> Told
+        ensures { (address delay : ℕ) (segments : List (List ℤ)) (given : List (List ℕ))
+            → StandsFor address delay self.old segments given
+            → IsSent address delay segments (given ++ packet.now.0 ∷ []) self.new result air.new.segments
+            air.new.symbols }
+    {
+        self.exciter.take(packet, air)
+    }
+}
+
+#[cfg(test)]
+mod tests;

@@ -1,0 +1,17 @@
+use Rattle.std.proofs.Common.{◌≡◌, ℕ, ◌+◌, ◌*◌, List, take, replicate}
+use Rattle.dtx_laws.specs.Register.{register}
+use Rattle.dtx_rs.specs.Table.{word_bytes}
+use Rattle.dtx_rs.proofs.table.Table.short_parity_of_four.Given as goal
+
+-- the register of the first bytes of some data
+abbrev IsBehind : List ℕ → ℕ → List ℕ → List ℕ → Type 0
+IsBehind divisor at head state =
+    word_bytes state ≡ register (take 16 divisor) (replicate 16 0) (take at head)
+
+abbrev pub invariant-loop-step : goal.invariant-loop-step
+invariant-loop-step l = record {
+  one : IsBehind l.fn.self.divisor (l.first + 4 * l.step) l.fn.one l.of_one;
+  two : IsBehind l.fn.self.divisor (l.first + 4 * l.step) l.fn.two l.of_two;
+  three : IsBehind l.fn.self.divisor (l.first + 4 * l.step) l.fn.three l.of_three;
+  four : IsBehind l.fn.self.divisor (l.first + 4 * l.step) l.fn.four l.of_four;
+}

@@ -1,0 +1,69 @@
+//! The program over files in memory.
+
+use dtx_outside::{Call, MemoryShelf, MemorySink, Word};
+use dtx_top::{Status, run};
+use std::alloc::Global;
+use std::test::Fail;
+
+/// Files in memory, and what was printed beside them. The tests see what the program does over it, and none of its
+/// clauses.
+#[derive(Drop)]
+pub struct Desk {
+    alloc: Global,
+    shelf: MemoryShelf,
+    out: MemorySink,
+}
+
+impl Desk {
+    /// No file is there, and nothing was printed.
+    pub fn new(rt: &HostRuntime) -> Desk {
+        Desk {
+            alloc: rt.alloc(),
+            shelf: MemoryShelf::new(rt.alloc()),
+            out: MemorySink::new(rt.alloc()),
+        }
+    }
+
+    /// Puts a file there.
+    pub fn put(&mut self, name: &str, bytes: &[u8]) -> Result<(), Fail> {
+        self.shelf.put(name, bytes)?;
+        Ok(())
+    }
+
+    /// Plans that the call of that kind and number fails.
+    pub fn fail(&mut self, call: Call, nth: u64) -> Result<(), Fail> {
+        if nth < 1_000_000 {
+            self.shelf.fail(call, nth)?;
+        }
+        Ok(())
+    }
+
+    /// What `run` answers to those words.
+    pub fn run(&mut self, texts: &[&str]) -> Result<Status, Fail> {
+        let words = words_of(self.alloc, texts)?;
+        Ok(run(self.alloc, &words, &mut self.shelf, &mut self.out))
+    }
+
+    /// A file that is there, or no bytes.
+    pub fn file(&self, name: &str) -> &[u8] {
+        self.shelf.get(name).unwrap_or(&[])
+    }
+
+    /// Whether this was printed.
+    pub fn has_printed(&self, text: &str) -> bool {
+        self.out.bytes() == text.as_bytes()
+    }
+
+    /// How many calls of that kind were made.
+    pub fn calls(&self, call: Call) -> u64 {
+        self.shelf.calls(call)
+    }
+}
+
+fn words_of(alloc: Global, texts: &[&str]) -> Result<Vec<Word>, Fail> {
+    let mut words = Vec::new(alloc);
+    for text in texts {
+        words.push(Word::new(String::from_str(alloc, text)?))?;
+    }
+    Ok(words)
+}

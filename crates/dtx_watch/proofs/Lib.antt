@@ -1,0 +1,5 @@
+pub mod Counting
+pub mod Begun
+pub mod Joined
+pub mod Taken
+pub mod Ended

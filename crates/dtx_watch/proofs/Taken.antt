@@ -1,0 +1,237 @@
+-- What one packet more makes of a watcher.
+use Rattle.std.proofs.Common.{◌≡◌, ℕ, suc, ◌+◌, ◌-◌, ◌%◌, ◌<◌, ◌≤◌, ◌⊎◌, ◌==◌, Option, Some, None, List, [], ◌∷◌, ◌++◌}
+use Rattle.std.proofs.Common.{length, refl, sym, ap, ap₂, subst, ◌∙◌, arith, inl, inr}
+use Rattle.std.proofs.lemmas.Bool.{cases_lt, cond-true, cond-false, eq-eqb, ne_eqb}
+use Rattle.std.proofs.lemmas.List.{length_push}
+use Rattle.dtx_packets.specs.Packet.{sync_of}
+use Rattle.dtx_cadence.specs.declared.anchor.Lock.{Lock}
+use Rattle.dtx_cadence.specs.declared.anchor.Seen.{Seen}
+use Rattle.dtx_cadence.specs.declared.anchor.Seen.TheVariants.{Free, Start, Lost, At}
+use Rattle.dtx_cadence.specs.Anchor as cadence
+use Rattle.dtx_ops.specs.Reading.{reading}
+use Rattle.dtx_exciter.specs.Packets.{syncs, under, part_of, group_part}
+use Rattle.dtx_exciter.specs.UnderLaws.{Goes, goes, syncs_push}
+use Rattle.dtx_watch.specs.declared.notes.Note.{Note}
+use Rattle.dtx_watch.specs.declared.notes.What.TheVariants as what
+use Rattle.dtx_watch.specs.declared.telling.Expected.TheVariants.{Early}
+use Rattle.dtx_watch.specs.declared.watcher.Watcher.{Watcher}
+use Rattle.dtx_watch.specs.Notes.{packet_note, one_or_none}
+use Rattle.dtx_watch.specs.Watch.{group_notes, told, waiting}
+use Rattle.dtx_watch.specs.Step.{group_at_hand, notes_in, lock_notes, IsSame}
+use Rattle.dtx_watch.specs.Kept.{KeepsUnder, Keeps, StandsFor, IsTaken, IsJoined, Joins}
+use Rattle.dtx_watch.specs.ToldLaws.{Stood, stood_before, part_is, part_under, part_free, told_free, told_lost}
+use Rattle.dtx_watch.specs.ToldLaws.{told_start, told_partial, told_group, waiting_none, waiting_some}
+use Rattle.dtx_watch.proofs.Joined.{all_notes, part_at_hand}
+
+pub record Sees (old : Watcher) (before : List (List ℕ)) (p : List ℕ) (sync : ℕ) (s : Seen)
+    (anchor : Option Lock) : Type 0 where
+  pub stood : StandsFor old before
+  pub is_sync : sync ≡ sync_of p
+  pub saw : s ≡ cadence.seen (syncs before) sync
+  pub stands : cadence.StandsFor anchor (syncs before ++ sync ∷ [])
+
+seen_as : (old : Watcher) (before : List (List ℕ)) (p : List ℕ) (sync : ℕ) (s : Seen) (anchor : Option Lock)
+    → Sees old before p sync s anchor → cadence.seen (syncs before) (sync_of p) ≡ s
+seen_as old before p sync s anchor h = sym (h.saw ∙ ap (cadence.seen (syncs before)) h.is_sync)
+
+goes_as : (old : Watcher) (before : List (List ℕ)) (p : List ℕ) (sync : ℕ) (s : Seen) (anchor : Option Lock)
+    → Sees old before p sync s anchor → Goes 0 0 before p s
+goes_as old before p sync s anchor h =
+    subst (Goes 0 0 before p) (seen_as old before p sync s anchor h) (goes 0 0 before p)
+
+stood_as : (old : Watcher) (before : List (List ℕ)) (p : List ℕ) (sync : ℕ) (s : Seen) (anchor : Option Lock)
+    → Sees old before p sync s anchor → Stood s before
+stood_as old before p sync s anchor h =
+    subst (λ x. Stood x before) (seen_as old before p sync s anchor h) (stood_before before p)
+
+anchor_as : (old : Watcher) (before : List (List ℕ)) (p : List ℕ) (sync : ℕ) (s : Seen) (anchor : Option Lock)
+    → Sees old before p sync s anchor → cadence.StandsFor anchor (syncs (before ++ p ∷ []))
+anchor_as old before p sync s anchor h =
+    subst (cadence.StandsFor anchor) (ap (λ x. syncs before ++ x ∷ []) h.is_sync ∙ sym (syncs_push before p)) h.stands
+
+-- by what stands under the anchor with it
+record Makes (before : List (List ℕ)) (now : Option (List (List ℕ))) (w : Watcher) (anchor : Option Lock) : Type 0 where
+  count : w.count ≡ length before + 1
+  anchored : w.anchor ≡ anchor
+  part : w.part ≡ part_of now
+  kept : Keeps w now
+
+taken_as : (old : Watcher) (before : List (List ℕ)) (p : List ℕ) (sync : ℕ) (s : Seen) (anchor : Option Lock)
+    (now : Option (List (List ℕ))) (w : Watcher) (given : List Note) → Sees old before p sync s anchor
+    → under (before ++ p ∷ []) ≡ now → told (before ++ p ∷ []) ≡ told before ++ given → Makes before now w anchor
+    → IsTaken before p w given
+taken_as old before p sync s anchor now w given h u t m = record {
+  notes = t;
+  stands = record {
+    count = m.count ∙ sym (length_push before p);
+    anchor = subst (λ x. cadence.StandsFor x (syncs (before ++ p ∷ []))) (sym m.anchored)
+        (anchor_as old before p sync s anchor h);
+    part = m.part ∙ sym (part_is (before ++ p ∷ []) now u);
+    kept = subst (Keeps w) (sym u) m.kept;
+  };
+}
+
+-- the watcher as it was, but for the count and the anchor
+abbrev pub counted : Watcher → Option Lock → Watcher
+counted old anchor = record old { count = old.count + 1; anchor = anchor }
+
+-- where there is no anchor
+alone : (old now : Watcher) (before : List (List ℕ)) (anchor : Option Lock) → StandsFor old before
+    → group_part before ≡ 0 → now ≡ counted old anchor → Makes before None now anchor
+alone old now before anchor h z e = record {
+  count = ap (λ (w : Watcher). w.count) e ∙ ap (λ (n : ℕ). n + 1) h.count;
+  anchored = ap (λ (w : Watcher). w.anchor) e;
+  part = ap (λ (w : Watcher). w.part) e ∙ h.part ∙ z;
+  kept = tt;
+}
+
+pub taken_free : (old now : Watcher) (before : List (List ℕ)) (p : List ℕ) (sync : ℕ) (anchor : Option Lock)
+    (given : List Note) → Sees old before p sync Free anchor → now ≡ counted old anchor
+    → given ≡ one_or_none (packet_note old.count None Early None (reading p)) → IsTaken before p now given
+taken_free old now before p sync anchor given h e n =
+    let g : Goes 0 0 before p Free = goes_as old before p sync Free anchor h in
+    let was = stood_as old before p sync Free anchor h in
+    taken_as old before p sync Free anchor None now given h g.follows
+    (told_free before p was g.follows
+    ∙ ap (λ ns. told before ++ ns)
+    (ap (λ k. one_or_none (packet_note k None Early None (reading p))) (sym h.stood.count) ∙ sym n))
+    (alone old now before anchor h.stood (part_free before was) e)
+
+pub taken_lost : (old now : Watcher) (before : List (List ℕ)) (p : List ℕ) (sync : ℕ) (anchor : Option Lock)
+    (given : List Note) → Sees old before p sync Lost anchor → now ≡ counted old anchor
+    → given ≡ (record { packet = old.count; what = what.Lost })
+    ∷ one_or_none (packet_note old.count None Early None (reading p)) → IsTaken before p now given
+taken_lost old now before p sync anchor given h e n =
+    let g : Goes 0 0 before p Lost = goes_as old before p sync Lost anchor h in
+    let was = stood_as old before p sync Lost anchor h in
+    taken_as old before p sync Lost anchor None now given h g.follows
+    (told_lost before p was g.follows
+    ∙ ap (λ ns. told before ++ ns)
+    (ap (λ k. (record { packet = k; what = what.Lost }) ∷ one_or_none (packet_note k None Early None (reading p)))
+    (sym h.stood.count) ∙ sym n))
+    (alone old now before anchor h.stood (part_under before was.0 was.1 ∙ was.2) e)
+
+-- where it is the anchor
+pub taken_start : (old mid now : Watcher) (before : List (List ℕ)) (p : List ℕ) (sync : ℕ) (anchor : Option Lock)
+    (given : List Note) → Sees old before p sync Start anchor → mid ≡ counted old anchor → KeepsUnder now (p ∷ [])
+    → now.part ≡ 1 → IsSame mid now → given ≡ [] → IsTaken before p now given
+taken_start old mid now before p sync anchor given h e keeps part same n =
+    let g : Goes 0 0 before p Start = goes_as old before p sync Start anchor h in
+    let was = stood_as old before p sync Start anchor h in
+    taken_as old before p sync Start anchor (Some (p ∷ [])) now given h g.follows
+    (told_start before p was g.follows ∙ ap (λ ns. told before ++ ns) (sym n))
+    (record {
+      count = same.count ∙ ap (λ (w : Watcher). w.count) e ∙ ap (λ (n : ℕ). n + 1) h.stood.count;
+      anchored = same.anchor ∙ ap (λ (w : Watcher). w.anchor) e;
+      part = part;
+      kept = keeps;
+    })
+
+-- where it joins those under the anchor
+with_count : (old mid : Watcher) (anchor : Option Lock) (l : List (List ℕ)) → mid ≡ counted old anchor
+    → KeepsUnder old l → KeepsUnder mid l
+with_count old mid anchor l e k =
+    subst (λ (x : Watcher). KeepsUnder x l) (sym e) (record {
+      first = k.first;
+      flushed = k.flushed;
+      partial = k.partial;
+      ordered = k.ordered;
+      latest = k.latest;
+      coder = k.coder;
+    })
+
+told_joined : (before l : List (List ℕ)) (p : List ℕ) (k : ℕ) (w : Watcher) (given : List Note)
+    → under before ≡ Some l → under (before ++ p ∷ []) ≡ Some (l ++ p ∷ []) → IsJoined (l ++ p ∷ []) k w given
+    → k ≡ length before → told (before ++ p ∷ []) ≡ told before ++ given
+told_joined before l p k w given was now j e = by_place (length l % 4) refl
+  where
+    by_place : (m : ℕ) → length l % 4 ≡ m → told (before ++ p ∷ []) ≡ told before ++ given
+    by_place m h = by_last (cases_lt m 3)
+      where
+        by_last : (m < 3) ⊎ (3 ≤ m) → told (before ++ p ∷ []) ≡ told before ++ given
+        by_last (inl s) =
+            let one = length_push l p in
+            told_partial before p l was now (λ x. omega (arith, x, h, s))
+            ∙ ap (λ ns. told before ++ ns)
+            (sym (j.notes ∙ cond-false (length (l ++ p ∷ []) % 4 == 0) _ _
+            (ne_eqb (length (l ++ p ∷ []) % 4) 0 (λ z. omega (arith, z, one, h, s)))))
+        by_last (inr s) =
+            let one = length_push l p in
+            let end : length (l ++ p ∷ []) % 4 ≡ 0 = omega (arith, one, h, s) in
+            let from : length l - 3 ≡ length (l ++ p ∷ []) - 4 = omega (arith, one) in
+            told_group before p l (length l - 3) was now (omega (arith, h, s)) (omega (arith, h, s))
+            ∙ ap (λ ns. told before ++ ns)
+            (ap₂ (λ x y. group_notes (l ++ p ∷ []) (x - 3) y 4) (sym e) from
+            ∙ sym (j.notes ∙ cond-true (length (l ++ p ∷ []) % 4 == 0) _ _ (eq-eqb (length (l ++ p ∷ []) % 4) 0 end)))
+
+pub taken_at : (old mid now : Watcher) (before : List (List ℕ)) (p : List ℕ) (sync place : ℕ) (anchor : Option Lock)
+    (given : List Note) → Sees old before p sync (At place) anchor → mid ≡ counted old anchor
+    → Joins place p mid now given → IsSame mid now → IsTaken before p now given
+taken_at old mid now before p sync place anchor given h e joins same =
+    by_follow (goes_as old before p sync (At place) anchor h)
+  where
+    by_follow : Goes 0 0 before p (At place) → IsTaken before p now given
+    by_follow g =
+        let l : List (List ℕ) = g.follows.0 in
+        let keeps : KeepsUnder old l = subst (Keeps old) g.follows.1 h.stood.kept in
+        let j : IsJoined (l ++ p ∷ []) (mid.count - 1) now given =
+        joins l (with_count old mid anchor l e keeps) g.follows.3 in
+        let at : mid.count - 1 ≡ length before =
+        omega (arith, ap (λ (w : Watcher). w.count) e, h.stood.count) in
+        taken_as old before p sync (At place) anchor (Some (l ++ p ∷ [])) now given h g.follows.2
+        (told_joined before l p (mid.count - 1) now given g.follows.1 g.follows.2 j at)
+        (record {
+          count = same.count ∙ ap (λ (w : Watcher). w.count) e ∙ ap (λ (n : ℕ). n + 1) h.stood.count;
+          anchored = same.anchor ∙ ap (λ (w : Watcher). w.anchor) e;
+          part = j.part;
+          kept = j.keeps;
+        })
+
+-- ---- the end
+
+pub nothing_waits : (w : Watcher) (d : List (List ℕ)) (given : List Note) → StandsFor w d → w.part ≡ 0 → given ≡ []
+    → given ≡ waiting d
+nothing_waits w d given h z n = n ∙ sym (waiting_none d (sym h.part ∙ z))
+
+pub some_wait : (w : Watcher) (d : List (List ℕ)) (given : List Note) → StandsFor w d → 0 < w.part
+    → given ≡ lock_notes w ++ notes_in (group_at_hand w Early) w.part → given ≡ waiting d
+some_wait w d given h some n = by_under (under d) refl
+  where
+    by_size : (l : List (List ℕ)) → under d ≡ Some l → (m : ℕ) → w.part ≡ suc m → given ≡ waiting d
+    by_size l e m s =
+        let part : length l % 4 ≡ suc m = sym (part_under d l e) ∙ sym h.part ∙ s in
+        let keeps : KeepsUnder w l = subst (Keeps w) e h.kept in
+        let i : ℕ = length l - suc m in
+        let size : length l ≡ i + suc m = omega (arith, part) in
+        let whole : i % 4 ≡ 0 = omega (arith, part) in
+        let number : w.count - suc m ≡ length d - suc m = ap (λ (x : ℕ). x - suc m) h.count in
+        n ∙ ap (λ x. lock_notes w ++ notes_in (group_at_hand w Early) x) s
+        ∙ all_notes w l i (suc m) (w.count - suc m) Early
+        (part_at_hand w l i (suc m) keeps size whole (omega arith) (omega (arith, part)) s)
+        ∙ ap (λ x. group_notes l x i (suc m)) number
+        ∙ sym (waiting_some d l i m e size whole (omega (arith, part)))
+
+    by_under : (o : Option (List (List ℕ))) → under d ≡ o → given ≡ waiting d
+    by_under None e = let z = part_free d e in let q = h.part in absurd (omega (arith, z, q, some))
+    by_under (Some l) e = let s : w.part ≡ suc (w.part - 1) = omega (arith, some) in by_size l e (w.part - 1) s
+
+-- ---- what is known of a watcher's numbers
+
+pub few_in_part : (w : Watcher) (d : List (List ℕ)) → StandsFor w d → w.part < 4
+few_in_part w d h = by_under (under d) refl
+  where
+    by_under : (o : Option (List (List ℕ))) → under d ≡ o → w.part < 4
+    by_under None e = let z = part_free d e in let q = h.part in omega (arith, z, q)
+    by_under (Some l) e = let z = part_under d l e in let q = h.part in omega (arith, z, q)
+
+pub place_of_part : (w : Watcher) (d : List (List ℕ)) → StandsFor w d → 0 < w.part → w.first < 624
+place_of_part w d h some = by_under (under d) refl
+  where
+    by_under : (o : Option (List (List ℕ))) → under d ≡ o → w.first < 624
+    by_under None e = let z = part_free d e in let q = h.part in absurd (omega (arith, z, q, some))
+    by_under (Some l) e =
+        let z = part_under d l e in
+        let q = h.part in
+        let keeps : KeepsUnder w l = subst (Keeps w) e h.kept in
+        let f = keeps.first (omega (arith, z, q, some)) in
+        omega (arith, f)

@@ -1,0 +1,10 @@
+pub mod Clock
+pub mod Notes
+pub mod Watch
+pub mod Step
+pub mod Kept
+pub mod AnchorsLaws
+pub mod GroupsLaws
+pub mod ToldLaws
+pub mod Sound
+pub mod SoundLaws

@@ -1,0 +1,73 @@
+// What is told of the packets of a feed.
+use dtx_ops::OpsNo;
+
+/// How many notes a call gives at most: one of each packet of a group, and that the first of them is an anchor.
+pub const MOST_NOTES: usize = 5;
+
+/// What the states of an operations packet are, beside those that the coders have before its group.
+#[derive(Clone, Copy, Debug, PartialEq, Eq)]
+pub enum StatesNote {
+    /// They don't count: the group begins less than 52 packets behind the anchor, or isn't whole.
+    Early,
+    /// They are the first: no earlier group under this anchor orders states.
+    First,
+    /// They are those that the coders have, from the states of the latest earlier order on.
+    Right,
+    /// They are others.
+    Slip,
+}
+
+/// What the stamp of an operations packet is, beside that of the latest one before it under this anchor.
+#[derive(Clone, Copy, Debug, PartialEq, Eq)]
+pub enum ClockNote {
+    /// It is the first.
+    First,
+    /// It is later by the length of the frames between the two, and the maximum delay is the same.
+    Right,
+    /// It is another, or the maximum delay is.
+    Jump,
+}
+
+/// An operations packet that reads and stands at its place.
+#[derive(Clone, Copy, Debug, PartialEq, Eq)]
+pub struct OpsNote {
+    /// The number of the frame, as the packet says it.
+    pub frame: u32,
+    /// The packet's place in its frame, from 0 to 623.
+    pub index: u16,
+    /// The stamp of its frame, in ticks of 100 ns.
+    pub stamp: u32,
+    /// The maximum delay of the network, in ticks.
+    pub max_delay: u32,
+    /// How many transmitters it lists.
+    pub listed: u8,
+    /// What its states are.
+    pub states: StatesNote,
+    /// What its stamp is.
+    pub clock: ClockNote,
+}
+
+/// What is told of a packet.
+#[derive(Clone, Copy, Debug, Default, PartialEq, Eq)]
+pub enum What {
+    /// It is an anchor, and there was none before it.
+    #[default]
+    Lock,
+    /// There was an anchor before it, and there is none with it.
+    Lost,
+    /// It is an operations packet by its packet identifier, and doesn't read.
+    Unread(OpsNo),
+    /// It reads, and there is no anchor or its index isn't its place.
+    Stray { frame: u32, index: u16 },
+    /// It reads, and its index is its place.
+    Ops(OpsNote),
+}
+
+/// A note on one packet.
+#[derive(Clone, Copy, Debug, Default, PartialEq, Eq)]
+pub struct Note {
+    /// The number of the packet, from 0.
+    pub packet: u64,
+    /// What is told of it.
+    pub what: What,
+}

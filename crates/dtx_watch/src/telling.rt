@@ -1,0 +1,148 @@
+// What is told of one packet.
+ghost use Rattle.std.specs.Prelude.{◌≡◌, ◌<◌, ◌==◌, ◌||◌, ◌++◌, None, IfOk, is_some, length, if◌then◌else◌};
+ghost use Rattle.dtx_ops.specs.Spelling.{IsValid};
+ghost use Rattle.dtx_exciter.specs.Order.{either, ordered};
+ghost use Rattle.dtx_exciter.specs.Packets.{read_fields};
+ghost use Rattle.dtx_watch.specs.Notes.{states_note, ops_note, read_note, packet_note, one_or_none};
+
+use crate::notes::{MOST_NOTES, Note, OpsNote, StatesNote, What};
+use crate::stamped::{Stamped, clock_note};
+use arrayvec::ArrayVec;
+use dtx_ops::{Ops, OpsNo};
+use dtx_trellis::States;
+
+/// What the states of a group's operations packets are compared with.
+#[derive(Clone, Copy)]
+pub(crate) enum Expected {
+    /// With none: the group doesn't count.
+    Early,
+    /// With none: no earlier group under the anchor is an order.
+    First,
+    /// With those that the coders have before the group.
+    These(States),
+}
+
+/// The note on a packet at this place of its frame, or at none where there is no anchor, by what it reads as or why it
+/// doesn't. There is none on a packet that isn't an operations packet.
+pub(crate) fn packet_note(
+    number: u64,
+    place: Option<u16>,
+    expected: &Expected,
+    latest: Option<Stamped>,
+    reading: &Result<Ops, OpsNo>,
+) -> Option<Note>
+    requires { IfOk reading.now IsValid }
+    ensures { result ≡ packet_note number place expected.now latest reading.now }
+{
+    match reading {
+        Ok(ops) => Some(Note {
+            packet: number,
+            what: read_note(place, expected, latest, ops),
+        }),
+        Err(OpsNo::NotOps) => None,
+        Err(refusal) => Some(Note {
+            packet: number,
+            what: What::Unread(*refusal),
+        }),
+    }
+}
+
+/// What is told of a packet that reads.
+fn read_note(place: Option<u16>, expected: &Expected, latest: Option<Stamped>, ops: &Ops) -> What
+    requires { IsValid ops.now }
+    ensures { result ≡ read_note place expected.now latest ops.now }
+{
+    match place {
+        Some(place) if ops.index == place => What::Ops(ops_note(expected, latest, ops)),
+        _ => What::Stray {
+            frame: ops.frame,
+            index: ops.index,
+        },
+    }
+}
+
+/// What is told of a packet that reads and whose index is its place.
+fn ops_note(expected: &Expected, latest: Option<Stamped>, ops: &Ops) -> OpsNote
+    requires { IsValid ops.now }
+    ensures { result ≡ ops_note expected.now latest ops.now }
+{
+    OpsNote {
+        frame: ops.frame,
+        index: ops.index,
+        stamp: ops.stamp,
+        max_delay: ops.max_delay,
+        listed: ops.offsets.len() as u8,
+        states: states_note(expected, ops),
+        clock: clock_note(latest, ops),
+    }
+}
+
+fn states_note(expected: &Expected, ops: &Ops) -> StatesNote
+    ensures { result ≡ states_note expected.now ops.now }
+{
+    match expected {
+        Expected::Early => StatesNote::Early,
+        Expected::First => StatesNote::First,
+        Expected::These(states) => {
+            if ops.states.0 == states.0 {
+                StatesNote::Right
+            } else {
+                StatesNote::Slip
+            }
+        }
+    }
+}
+
+/// Puts a note, if there is one, behind the others.
+pub(crate) fn push_some(note: Option<Note>, notes: &mut ArrayVec<Note, MOST_NOTES>)
+    requires { length notes.old.items < MOST_NOTES }
+    ensures { notes.new.items ≡ notes.old.items ++ one_or_none note }
+{
+    if let Some(note) = note {
+        notes.push(note);
+    }
+}
+
+/// The fields of a packet that reads and whose index is this place.
+pub(crate) fn ordered(place: u16, reading: Result<Ops, OpsNo>) -> Option<Ops>
+    ensures { result ≡ ordered place (read_fields reading) }
+{
+    match reading {
+        Ok(ops) if ops.index == place => Some(ops),
+        _ => None,
+    }
+}
+
+/// The earlier states, or else the later ones.
+pub(crate) fn first_of(earlier: Option<States>, later: Option<States>) -> Option<States>
+    ensures { result ≡ either earlier later }
+{
+    match earlier {
+        Some(states) => Some(states),
+        None => later,
+    }
+}
+
+/// A group's states that count: those of a group that begins 52 or more packets behind the anchor.
+pub(crate) fn preset_of(flushed: bool, states: Option<States>) -> Option<States>
+    ensures { result ≡ (if flushed then states else None) }
+{
+    if flushed { states } else { None }
+}
+
+/// Whether 52 or more packets stand under the anchor, as the packet at this place has joined them.
+pub(crate) fn is_flushed(before: bool, place: u16) -> bool
+    ensures { result ≡ (before || (place == 51)) }
+{
+    before || place == 51
+}
+
+/// Whether a group under the anchor is an order, with one that orders these states, if any.
+pub(crate) fn is_ordered(before: bool, states: &Option<States>) -> bool
+    ensures { result ≡ (before || is_some states.now) }
+{
+    match states {
+        Some(_) => true,
+        None => before,
+    }
+}
