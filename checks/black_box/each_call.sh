@@ -73,6 +73,7 @@ end
     "$dtx" make 1 700 "$inputs/calls.ts" >"$room/said"
     "$dtx" adapt "$inputs/plan.toml" "$inputs/calls.ts" "$inputs/calls.feed" >"$room/said"
     "$dtx" code "$inputs/calls.ts" "$inputs/calls.sym" >"$room/said"
+    "$dtx" code "$inputs/calls.feed" "$inputs/calls.air" >"$room/said"
     "$dtx" dvb code "$inputs/calls.ts" "$inputs/calls.dvb" >"$room/said"
     printf 'damage = [{ at = 1000, count = 100000, put = 1 }]\n' >"$inputs/calls.changes"
     sed '/^\[net\]/,$d' "$inputs/plan.toml" >"$inputs/calls.plan"
@@ -97,7 +98,7 @@ excite ../inputs/calls.feed 7 1000 out.sym out.log
 receive ../inputs/calls.sym out.ts
 soft ../inputs/calls.sym out.sym
 mend ../inputs/calls.sym out.ts
-repeat ../inputs/calls.sym 7 1000 out.sym out.log
+repeat ../inputs/calls.air 7 1000 out.sym out.log
 acquire 1 ../inputs/calls.sym out.sym
 watch ../inputs/calls.feed out.txt
 dvb code ../inputs/calls.ts out.dvb
