@@ -282,8 +282,7 @@ all_are holding symbols left on count last h sought is = record {
         (sought_fields holding.held left sought wanted holding.begins []
         ∙ ap (fields_where wanted holding.begins) (append-nil left) ∙ is.fields wanted)
 
-pub record IsEnd (holding : Holding) (symbols : List ℤ) (scale : ℕ) (given : List (List ℤ)) (runs segments cost : ℕ)
-    : Type 0 where
+pub record IsEnd (symbols : List ℤ) (scale : ℕ) (given : List (List ℤ)) (runs segments cost : ℕ) : Type 0 where
   pub gives : given ≡ acquired_rest scale symbols
   pub runs_are : runs ≡ acquired_runs symbols
   pub segments_are : segments ≡ length (acquired scale symbols)
@@ -296,7 +295,7 @@ pub ends : (holding : Holding) (symbols left again : List ℤ) (on : Bool) (coun
     → given ≡ restored holding.scale (segments_from again 0 count)
     → runs ≡ holding.runs + begun (field_of count holding.begins again) → segments ≡ holding.segments + count
     → cost ≡ holding.cost + path_cost holding.scale (segments_from again 0 count)
-    → IsEnd holding symbols holding.scale given runs segments cost
+    → IsEnd symbols holding.scale given runs segments cost
 unfolding acquired_rest acquired_runs acquired acquired_cost
 ends holding symbols left again on count runs segments cost given h sought front short whole none same gives begun_are
     counted costs =

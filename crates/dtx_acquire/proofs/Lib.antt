@@ -4,3 +4,11 @@ pub mod Moved
 pub mod Levels
 pub mod Each
 pub mod Leaving
+pub mod NearLevels
+pub mod NearPaths
+pub mod NearSyncs
+pub mod NearRows
+pub mod NearGroups
+pub mod NearStream
+pub mod GivenSegments
+pub mod GivenFields

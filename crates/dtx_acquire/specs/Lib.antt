@@ -3,6 +3,7 @@ pub mod Signs
 pub mod Scaled
 pub mod Acquired
 pub mod Acquirer
+pub mod Sent
 pub mod AgreementLaws
 pub mod SyncsLaws
 pub mod FieldsLaws

@@ -1,9 +1,12 @@
 //! Laws of what is acquired.
 
-ghost use Rattle.std.specs.Prelude.{◌≡◌, ◌<◌, ◌++◌, false, ℕ, ℤ, List, length};
-ghost use Rattle.dtx_acquire.specs.Acquired.{acquired, acquired_rest, acquired_so_far};
+ghost use Rattle.std.specs.Prelude.{◌≡◌, ◌<◌, ◌++◌, ◌∷◌, [], ◌⊎◌, ◌↔◌, false, ℕ, ℤ, List, length};
+ghost use Rattle.std.specs.List.{flat_map};
+ghost use Rattle.dtx_acquire.specs.Acquired.{Field, acquired, acquired_rest, acquired_runs, acquired_so_far};
+ghost use Rattle.dtx_acquire.specs.Acquired.{all_fields};
 ghost use Rattle.dtx_acquire.specs.AcquiredLaws.{IsSame};
 ghost use Rattle.dtx_acquire.specs.Agreement.{agrees};
+ghost use Rattle.dtx_acquire.specs.Sent.{AreNear, AreInFields, AreSent};
 
 /// Symbols in front of which no place agrees change nothing of what is acquired.
 pub fn a_capture_begins_anywhere()
@@ -22,4 +25,23 @@ pub fn all_is_acquired()
 pub fn more_is_acquired_of_more()
     ensures { (scale : ℕ) (symbols more : List ℤ) → (others : List (List ℤ))
         × (acquired_so_far scale (symbols ++ more) ≡ acquired_so_far scale symbols ++ others) }
+{}
+
+/// An error below half the distance of two levels moves nothing, at every scale: of segments as they are sent, from a
+/// field's first on, each symbol may be received as any that differs from the scale times it by less than the scale,
+/// and what is acquired is what was sent.
+pub fn a_small_error_moves_nothing()
+    ensures { (scale : ℕ) (sent : List (List ℤ)) (symbols : List ℤ) → 0 < scale → AreSent sent
+        → AreNear scale (flat_map (λ segment. segment) sent) symbols → acquired scale symbols ≡ sent }
+{}
+
+/// What is acquired is whole segments, of which those are field syncs that 313 divides, and the others data segments,
+/// so that each sync looks like one. Each field but the last gives 313 segments or none, so each run but the last gives
+/// a multiple of 313. Where there is no run there is no segment, and only there.
+pub fn whole_fields_are_acquired()
+    ensures segments { (scale : ℕ) (symbols : List ℤ) → 0 < scale → AreInFields (acquired scale symbols) }
+    ensures fields { (symbols : List ℤ) (front : List Field) (field next : Field) (back : List Field)
+        → all_fields symbols ≡ front ++ field ∷ next ∷ back
+        → (length field.segments ≡ 313) ⊎ (length field.segments ≡ 0) }
+    ensures none { (scale : ℕ) (symbols : List ℤ) → (acquired_runs symbols ≡ 0) ↔ (acquired scale symbols ≡ []) }
 {}

@@ -1,49 +1,31 @@
-use Rattle.std.proofs.Common.{◌/◌, length, sym, ap, ◌∙◌, subst, arith}
-use Rattle.dtx_acquire.specs.Acquired.{acquired, acquired_cost, acquired_rest}
+use Rattle.std.proofs.Common.{ℤ, List, ◌/◌, take, sym, ap, ◌∙◌, subst, arith}
 use Rattle.dtx_acquire.specs.Acquirer.{Holding, StandsFor}
-use Rattle.dtx_acquire.proofs.Leaving.{ends}
+use Rattle.dtx_acquire.proofs.Leaving.{IsEnd, ends}
 use Rattle.dtx_acquire.proofs.acquirer.Acquirer.finish.Goals as goal
 
-pub returns-clause-given : goal.returns-clause-given
-returns-clause-given c = λ symbols h.
-    let was = subst (λ (x : Holding). StandsFor x symbols) (sym c.self.view_is) h in
-    let end = ends _ symbols c.seek-on.new.held c.all.result.now c.seek-on.result c.whole_segments-count.result _ _ _ _
-    was c.seek-on.ensures.sought c.seek-on.ensures.front c.seek-on.ensures.few
+-- what all clauses say of the symbols that it stands for
+end : (c : goal.After-self-2-1) (symbols : List ℤ) → StandsFor c.args.self.now symbols
+    → IsEnd symbols c.args.self.now.scale (take c.give.new.self.count c.give.new.self.segments.items)
+    c.give.new.self.runs c.give.new.self.total c.give.new.self.cost
+end c symbols h =
+    subst (λ (x : Holding). IsEnd symbols x.scale (take c.give.new.self.count c.give.new.self.segments.items)
+    c.give.new.self.runs c.give.new.self.total c.give.new.self.cost) c.self.view_is
+    (ends _ symbols c.seek-on.new.held c.all.result.now c.seek-on.result c.whole_segments-count.result _ _ _ _
+    (subst (λ (x : Holding). StandsFor x symbols) (sym c.self.view_is) h) c.seek-on.ensures.sought
+    c.seek-on.ensures.front c.seek-on.ensures.few
     (λ on l. c.whole_segments-count.ensures.last on (omega (arith, l, c.len-left.ensures.long))
     ∙ ap (λ n. n / 832) c.len-left.ensures.long)
     c.whole_segments-count.ensures.none c.all.ensures c.give.ensures.given c.give.ensures.runs c.give.ensures.total
-    c.give.ensures.cost in
-    end.gives ∙ ap (λ (x : Holding). acquired_rest x.scale symbols) c.self.view_is
+    c.give.ensures.cost)
+
+pub returns-clause-given : goal.returns-clause-given
+returns-clause-given c = λ symbols h. (end c symbols h).gives
 
 pub returns-clause-runs : goal.returns-clause-runs
-returns-clause-runs c = λ symbols h.
-    let was = subst (λ (x : Holding). StandsFor x symbols) (sym c.self.view_is) h in
-    let end = ends _ symbols c.seek-on.new.held c.all.result.now c.seek-on.result c.whole_segments-count.result _ _ _ _
-    was c.seek-on.ensures.sought c.seek-on.ensures.front c.seek-on.ensures.few
-    (λ on l. c.whole_segments-count.ensures.last on (omega (arith, l, c.len-left.ensures.long))
-    ∙ ap (λ n. n / 832) c.len-left.ensures.long)
-    c.whole_segments-count.ensures.none c.all.ensures c.give.ensures.given c.give.ensures.runs c.give.ensures.total
-    c.give.ensures.cost in
-    end.runs_are
+returns-clause-runs c = λ symbols h. (end c symbols h).runs_are
 
 pub returns-clause-segments : goal.returns-clause-segments
-returns-clause-segments c = λ symbols h.
-    let was = subst (λ (x : Holding). StandsFor x symbols) (sym c.self.view_is) h in
-    let end = ends _ symbols c.seek-on.new.held c.all.result.now c.seek-on.result c.whole_segments-count.result _ _ _ _
-    was c.seek-on.ensures.sought c.seek-on.ensures.front c.seek-on.ensures.few
-    (λ on l. c.whole_segments-count.ensures.last on (omega (arith, l, c.len-left.ensures.long))
-    ∙ ap (λ n. n / 832) c.len-left.ensures.long)
-    c.whole_segments-count.ensures.none c.all.ensures c.give.ensures.given c.give.ensures.runs c.give.ensures.total
-    c.give.ensures.cost in
-    end.segments_are ∙ ap (λ (x : Holding). length (acquired x.scale symbols)) c.self.view_is
+returns-clause-segments c = λ symbols h. (end c symbols h).segments_are
 
 pub returns-clause-cost : goal.returns-clause-cost
-returns-clause-cost c = λ symbols h.
-    let was = subst (λ (x : Holding). StandsFor x symbols) (sym c.self.view_is) h in
-    let end = ends _ symbols c.seek-on.new.held c.all.result.now c.seek-on.result c.whole_segments-count.result _ _ _ _
-    was c.seek-on.ensures.sought c.seek-on.ensures.front c.seek-on.ensures.few
-    (λ on l. c.whole_segments-count.ensures.last on (omega (arith, l, c.len-left.ensures.long))
-    ∙ ap (λ n. n / 832) c.len-left.ensures.long)
-    c.whole_segments-count.ensures.none c.all.ensures c.give.ensures.given c.give.ensures.runs c.give.ensures.total
-    c.give.ensures.cost in
-    end.cost_is ∙ ap (λ (x : Holding). acquired_cost x.scale symbols) c.self.view_is
+returns-clause-cost c = λ symbols h. (end c symbols h).cost_is

@@ -1,0 +1,284 @@
+-- How many segments fields give: each but the last 313 or none.
+use Rattle.std.proofs.Common.{◌≡◌, ℕ, ℤ, zero, suc, ◌+◌, ◌-◌, ◌*◌, ◌/◌, ◌%◌, ◌<◌, ◌≤◌, ◌⊎◌, inl, inr, Bool, true, false}
+use Rattle.std.proofs.Common.{◌&&◌, cond, nat_lt, ◌↔◌, Option, Some, None, option_map, List, [], ◌∷◌, ◌++◌, length, map}
+use Rattle.std.proofs.Common.{refl, sym, ap, ap₂, ◌∙◌, subst, arith}
+use Rattle.std.proofs.lemmas.Bool.{cond-false, cond-true, leb-false, leb-true, lt-ltb}
+use Rattle.std.proofs.lemmas.List.{append-nil, length-append}
+use Rattle.std.proofs.lemmas.List.Sums.{sum_by-cons}
+use Rattle.dtx_acquire.specs.Agreement.{agrees, least_from}
+use Rattle.dtx_acquire.specs.Acquired.{Field, Sync, acquired, acquired_runs, all_fields, all_syncs, begun, begun_at}
+use Rattle.dtx_acquire.specs.Acquired.{behind, due, field_at, fields_where, given_at, is_met, restored, restored_of}
+use Rattle.dtx_acquire.specs.Acquired.{runs_of, segments_from, syncs_from, unless_lost}
+use Rattle.dtx_acquire.specs.FieldsLaws.{enough_first, fields_of, first_of}
+use Rattle.dtx_acquire.specs.Sent.{AreInFields}
+use Rattle.dtx_acquire.specs.SyncsLaws.{later, sync_of}
+use Rattle.dtx_acquire.proofs.GivenSegments.{from_whole, restored_given, segments_append}
+use Rattle.dtx_acquire.proofs.Leaving.{length-restored, length-segments_from}
+
+-- ---- a field
+
+abbrev IsAll : ℕ → Type 0
+IsAll n = (n ≡ 313) ⊎ (n ≡ 0)
+
+unless_all : (p : ℕ) (o : Option ℕ) → IsAll (unless_lost p o)
+unless_all p None = inl refl
+unless_all p (Some r) = by_test (nat_lt r (due p))
+  where
+    by_test : (b : Bool) → IsAll (cond b 0 313)
+    by_test true = inr refl
+    by_test false = inl refl
+
+-- where another sync is behind it
+given_before : (v : List ℤ) (p : ℕ) → is_met v p ≡ true → IsAll (given_at v p)
+unfolding given_at
+given_before v p m = by_due (agrees v (due p)) refl
+  where
+    by_due : (g : Bool) → agrees v (due p) ≡ g
+        → IsAll (cond (is_met v p) (cond (agrees v (due p)) 313 (unless_lost p (least_from v (p + 1))))
+        ((length v - p) / 832))
+    by_due true e =
+        subst IsAll (sym (cond-true (is_met v p) _ ((length v - p) / 832) m ∙ cond-true (agrees v (due p)) 313 _ e))
+        (inl refl)
+    by_due false e =
+        subst IsAll (sym (cond-true (is_met v p) _ ((length v - p) / 832) m ∙ cond-false (agrees v (due p)) 313 _ e))
+        (unless_all p (least_from v (p + 1)))
+
+given_last : (v : List ℤ) (p : ℕ) → is_met v p ≡ false → given_at v p ≡ (length v - p) / 832
+unfolding given_at
+given_last v p m = cond-false (is_met v p) _ ((length v - p) / 832) m
+
+met_room : (v : List ℤ) (p : ℕ) → is_met v p ≡ true → p + 261248 ≤ length v
+unfolding is_met
+met_room v p m = (let room : p + 260416 + 832 ≤ length v = leb-true (p + 260416 + 832) (length v) m in omega arith)
+
+unmet_room : (v : List ℤ) (p : ℕ) → is_met v p ≡ false → length v < p + 261248
+unfolding is_met
+unmet_room v p m = (let room : length v < p + 260416 + 832 = leb-false (p + 260416 + 832) (length v) m in omega arith)
+
+-- its segments are there, and no more than a field has
+pub given_room : (v : List ℤ) (p : ℕ) → p ≤ length v → (p + 832 * given_at v p ≤ length v) × (given_at v p ≤ 313)
+given_room v p l = by_met (is_met v p) refl
+  where
+    by_all : p + 261248 ≤ length v → IsAll (given_at v p)
+        → (p + 832 * given_at v p ≤ length v) × (given_at v p ≤ 313)
+    by_all room (inl e) = (omega (arith, room, e), omega (arith, e))
+    by_all room (inr e) = (omega (arith, room, e), omega (arith, e))
+
+    by_met : (m : Bool) → is_met v p ≡ m → (p + 832 * given_at v p ≤ length v) × (given_at v p ≤ 313)
+    by_met true e = by_all (met_room v p e) (given_before v p e)
+    by_met false e =
+        let short = unmet_room v p e in
+        let is = given_last v p e in
+        (omega (arith, l, short, is), omega (arith, l, short, is))
+
+behind_met : (v : List ℤ) (p : ℕ) (s : Sync) → behind v p ≡ Some s → is_met v p ≡ true
+unfolding behind
+behind_met v p s e = by_met (is_met v p) refl e
+  where
+    none_some : ◌≡◌ {A = Option Sync} None (Some s) → ⊥
+    none_some e = cc
+
+    by_met : (m : Bool) → is_met v p ≡ m
+        → cond m (cond (agrees v (due p)) (Some (record { place = due p; begins = false }))
+        (begun_at (least_from v (p + 1)))) None ≡ Some s → is_met v p ≡ true
+    by_met true f h = f
+    by_met false f h = absurd (none_some h)
+
+-- ---- all fields
+
+-- where another field is behind one
+abbrev IsWhole : Field → List Field → Type 0
+IsWhole x [] = Unit {0}
+IsWhole x (y ∷ ys) = IsAll (length x.segments)
+
+abbrev AreGiven : ℕ → List Field → Type 0
+AreGiven scale [] = Unit {0}
+AreGiven scale (x ∷ xs) = AreInFields (restored scale x.segments) × IsWhole x xs × AreGiven scale xs
+
+length-at : (v : List ℤ) (s : Sync) → length (field_at v s).segments ≡ given_at v s.place
+unfolding field_at
+length-at v s = length-segments_from v s.place (given_at v s.place)
+
+field_segments : (scale : ℕ) (v : List ℤ) (s : Sync) → 0 < scale → s.place ≤ length v
+    → AreInFields (restored scale (field_at v s).segments)
+unfolding field_at
+field_segments scale v s some l =
+    let room = given_room v s.place l in
+    restored_given scale (segments_from v s.place (given_at v s.place)) some
+    (from_whole v s.place (given_at v s.place) room.0)
+    (omega (arith, room.1, length-segments_from v s.place (given_at v s.place)))
+
+whole_next : (v : List ℤ) (s : Sync) (n : ℕ) (o : Option Sync) → behind v s.place ≡ o
+    → IsWhole (field_at v s) (fields_of (λ met. true) v (syncs_from v n o))
+unfolding syncs_from
+whole_next v s zero o e = tt
+whole_next v s (suc n) None e = tt
+whole_next v s (suc n) (Some t) e =
+    subst IsAll (sym (length-at v s)) (given_before v s.place (behind_met v s.place t e))
+
+given_from : (scale : ℕ) (v : List ℤ) (n : ℕ) (o : Option Sync) → 0 < scale
+    → ((s : Sync) → o ≡ Some s → s.place ≤ length v) → AreGiven scale (fields_of (λ met. true) v (syncs_from v n o))
+unfolding syncs_from
+given_from scale v zero o some h = tt
+given_from scale v (suc n) None some h = tt
+given_from scale v (suc n) (Some s) some h = (
+  field_segments scale v s some (h s refl),
+  whole_next v s n (behind v s.place) refl,
+  given_from scale v n (behind v s.place) some (λ t e. (let w = later v s.place t e in omega (arith, w.1))),
+)
+
+all_given : (scale : ℕ) (v : List ℤ) → 0 < scale → AreGiven scale (all_fields v)
+unfolding fields_where all_syncs
+all_given scale v some =
+    given_from scale v (length v) (first_of true v) some
+    (λ s e. (let w = enough_first true v (length v) (omega arith) s e in omega (arith, w.0)))
+
+restored_segments : (scale : ℕ) (fields : List Field) → AreGiven scale fields → AreInFields (restored_of scale fields)
+unfolding restored_of
+restored_segments scale [] h = record {
+  syncs = λ i l e. absurd (omega arith);
+  others = λ i l e. absurd (omega arith);
+}
+restored_segments scale (x ∷ []) h = subst AreInFields (sym (append-nil (restored scale x.segments))) h.0
+restored_segments scale (x ∷ (y ∷ ys)) h =
+    segments_append (restored scale x.segments) (restored_of scale (y ∷ ys)) (by_all h.1) h.0
+    (restored_segments scale (y ∷ ys) h.2)
+  where
+    by_all : IsAll (length x.segments) → length (restored scale x.segments) % 313 ≡ 0
+    by_all (inl e) = omega (arith, length-restored scale x.segments, e)
+    by_all (inr e) = omega (arith, length-restored scale x.segments, e)
+
+pub acquired_segments : (scale : ℕ) (symbols : List ℤ) → 0 < scale → AreInFields (acquired scale symbols)
+unfolding acquired
+acquired_segments scale symbols some =
+    restored_segments scale (all_fields symbols) (all_given scale symbols some)
+
+field_before : (scale : ℕ) (fields front : List Field) (x y : Field) (back : List Field) → AreGiven scale fields
+    → fields ≡ front ++ x ∷ y ∷ back → IsAll (length x.segments)
+field_before scale fields [] x y back h e = (subst (AreGiven scale) e h).1
+field_before scale fields (z ∷ front) x y back h e =
+    field_before scale (front ++ x ∷ y ∷ back) front x y back (subst (AreGiven scale) e h).2 refl
+
+-- each field but the last
+pub field_gives : (symbols : List ℤ) (front : List Field) (field next : Field) (back : List Field)
+    → all_fields symbols ≡ front ++ field ∷ next ∷ back
+    → (length field.segments ≡ 313) ⊎ (length field.segments ≡ 0)
+field_gives symbols front field next back e =
+    field_before 1 (all_fields symbols) front field next back (all_given 1 symbols (omega arith)) e
+
+-- ---- no run
+
+abbrev GiveNone : List Field → Type 0
+GiveNone [] = Unit {0}
+GiveNone (x ∷ xs) = (length x.segments ≡ 0) × GiveNone xs
+
+-- a run begins behind a field that gives nothing
+behind_none : (v : List ℤ) (p : ℕ) (s : Sync) → behind v p ≡ Some s → given_at v p ≡ 0 → s.begins ≡ true
+unfolding behind given_at
+behind_none v p s e z = by_tests (is_met v p) (agrees v (due p)) e z
+  where
+    none_some : ◌≡◌ {A = Option Sync} None (Some s) → ⊥
+    none_some e = cc
+
+    by_least : (o : Option ℕ) → begun_at o ≡ Some s → s.begins ≡ true
+    by_least None e = absurd (none_some e)
+    by_least (Some r) e = sym (ap (λ (t : Sync). t.begins) (found e))
+      where
+        found : ◌≡◌ {A = Option Sync} (Some (record { place = r; begins = true })) (Some s)
+            → record { place = r; begins = true } ≡ s
+        found e = cc
+
+    by_tests : (m g : Bool)
+        → cond m (cond g (Some (record { place = due p; begins = false })) (begun_at (least_from v (p + 1)))) None
+        ≡ Some s
+        → cond m (cond g 313 (unless_lost p (least_from v (p + 1)))) ((length v - p) / 832) ≡ 0 → s.begins ≡ true
+    by_tests true true e z = absurd (omega (arith, z))
+    by_tests true false e z = by_least (least_from v (p + 1)) e
+    by_tests false g e z = absurd (none_some e)
+
+runs-cons : (x : Field) (xs : List Field) → runs_of (x ∷ xs) ≡ begun x + runs_of xs
+unfolding runs_of
+runs-cons x xs = sum_by-cons (λ n. n) (begun x) (map begun xs)
+
+not_begun : (x : Field) → x.begins ≡ true → begun x ≡ 0 → length x.segments ≡ 0
+not_begun x b z = by_length (length x.segments) refl
+  where
+    by_length : (n : ℕ) → length x.segments ≡ n → n ≡ 0
+    by_length zero e = refl
+    by_length (suc n) e =
+        let some : nat_lt 0 (length x.segments) ≡ true = lt-ltb 0 (length x.segments) (omega (arith, e)) in
+        let one : begun x ≡ 1 = ap₂ (λ c d. cond (c && d) 1 0) b some in
+        absurd (omega (arith, one, z))
+
+none_from : (v : List ℤ) (n : ℕ) (s : Sync) → s.begins ≡ true
+    → runs_of (fields_of (λ met. true) v (syncs_from v n (Some s))) ≡ 0
+    → GiveNone (fields_of (λ met. true) v (syncs_from v n (Some s)))
+unfolding syncs_from field_at
+none_from v zero s b z = tt
+none_from v (suc n) s b z =
+    let all = runs-cons (field_at v s) (fields_of (λ met. true) v (syncs_from v n (behind v s.place))) in
+    let none = not_begun (field_at v s) b (omega (arith, all, z)) in (
+      none,
+      by_next n (behind v s.place) refl (sym (length-at v s) ∙ none) (omega (arith, all, z))
+          (λ t c y. none_from v n t c y),
+    )
+  where
+    by_next : (n : ℕ) (o : Option Sync) → behind v s.place ≡ o → given_at v s.place ≡ 0
+        → runs_of (fields_of (λ met. true) v (syncs_from v n o)) ≡ 0
+        → ((t : Sync) → t.begins ≡ true → runs_of (fields_of (λ met. true) v (syncs_from v n (Some t))) ≡ 0
+        → GiveNone (fields_of (λ met. true) v (syncs_from v n (Some t))))
+        → GiveNone (fields_of (λ met. true) v (syncs_from v n o))
+    by_next zero o e g y on = tt
+    by_next (suc n) None e g y on = tt
+    by_next (suc n) (Some t) e g y on = on t (behind_none v s.place t e g) y
+
+all_none : (v : List ℤ) → runs_of (all_fields v) ≡ 0 → GiveNone (all_fields v)
+unfolding fields_where all_syncs syncs_from
+all_none v z = by_first (length v) (least_from v 0) z
+  where
+    by_first : (n : ℕ) (o : Option ℕ)
+        → runs_of (fields_of (λ met. true) v (syncs_from v n (option_map (sync_of true) o))) ≡ 0
+        → GiveNone (fields_of (λ met. true) v (syncs_from v n (option_map (sync_of true) o)))
+    by_first zero o z = tt
+    by_first (suc n) None z = tt
+    by_first (suc n) (Some r) z = none_from v (suc n) (sync_of true r) refl z
+
+none_restored : (scale : ℕ) (fields : List Field) → GiveNone fields → restored_of scale fields ≡ []
+unfolding restored_of
+none_restored scale [] h = refl
+none_restored scale (x ∷ xs) h =
+    ap (λ ys. ys ++ restored_of scale xs) (empty (restored scale x.segments) (length-restored scale x.segments ∙ h.0))
+    ∙ none_restored scale xs h.1
+  where
+    empty : (ys : List (List ℤ)) → length ys ≡ 0 → ys ≡ []
+    empty [] e = refl
+    empty (y ∷ ys) e = absurd (omega arith)
+
+no_runs : runs_of [] ≡ 0
+unfolding runs_of
+no_runs = refl
+
+restored_none : (scale : ℕ) (fields : List Field) → length (restored_of scale fields) ≡ 0 → runs_of fields ≡ 0
+unfolding restored_of
+restored_none scale [] e = no_runs
+restored_none scale (x ∷ xs) e =
+    let both = length-append (restored scale x.segments) (restored_of scale xs) in
+    let rest = restored_none scale xs (omega (arith, both, e)) in
+    let all = runs-cons x xs in
+    let none = unbegun x (omega (arith, both, e, length-restored scale x.segments)) in
+    omega (arith, rest, all, none)
+  where
+    by_begins : (b : Bool) → ◌≡◌ {A = ℕ} (cond (b && false) 1 0) 0
+    by_begins true = refl
+    by_begins false = refl
+
+    unbegun : (x : Field) → length x.segments ≡ 0 → begun x ≡ 0
+    unbegun x z = ap (λ k. cond (x.begins && nat_lt 0 k) 1 0) z ∙ by_begins x.begins
+
+-- where there is no run there is no segment
+pub none_without_a_run : (scale : ℕ) (symbols : List ℤ) → (acquired_runs symbols ≡ 0) ↔ (acquired scale symbols ≡ [])
+unfolding acquired acquired_runs
+none_without_a_run scale symbols = (
+  λ z. none_restored scale (all_fields symbols) (all_none symbols z),
+  λ e. restored_none scale (all_fields symbols) (ap length e),
+)

@@ -1,0 +1,144 @@
+-- What is restored of a field: a field sync, and data segments behind it.
+use Rattle.std.proofs.Common.{◌≡◌, ◌≢◌, ℕ, ℤ, pos, negsuc, zero, suc, ◌+◌, ◌-◌, ◌*◌, ◌/◌, ◌%◌, ◌<◌, ◌≤◌, ◌⊎◌, inl, inr}
+use Rattle.std.proofs.Common.{min, List, [], ◌∷◌, ◌++◌, length, map, take, drop, get_or, refl, sym, ap, ◌∙◌, subst, arith}
+use Rattle.std.proofs.Math.Nat.{div-lt_iff_lt-mul}
+use Rattle.std.proofs.lemmas.Bool.{cases_lt}
+use Rattle.std.proofs.lemmas.List.{get_or-append_right, get_or-drop, get_or-map, get_or_append_left}
+use Rattle.std.proofs.lemmas.List.{length-append, length-drop, length-map, length-take-le}
+use Rattle.std.proofs.lemmas.List.FromFn.{get_or-map-range_with_len, length-map-range_with_len}
+use Rattle.std.proofs.lemmas.Simd.{map-map}
+use Rattle.dtx_frame.specs.Segments.{data_segment, field_sync, segment_sync, symbol_of}
+use Rattle.dtx_soft.specs.Softened.{softened}
+use Rattle.dtx_soft.specs.SoftenedLaws.{softened_found}
+use Rattle.dtx_acquire.specs.Acquired.{behind_groups, in_groups, restored, restored_data, restored_field, restored_sync}
+use Rattle.dtx_acquire.specs.Acquired.{segments_from}
+use Rattle.dtx_acquire.specs.Agreement.{is_second}
+use Rattle.dtx_acquire.specs.Scaled.{scaled_level}
+use Rattle.dtx_acquire.specs.Sent.{AreLevels, AreInFields, IsData, IsSync}
+use Rattle.dtx_acquire.proofs.Leaving.{length-restored}
+use Rattle.dtx_acquire.proofs.NearGroups.{softened_row}
+
+-- ---- a segment
+
+level_small : (c : ℕ) (x : ℤ) → 0 < c → scaled_level c x < 8
+unfolding scaled_level
+level_small c (pos n) l = least ((8 * c + n) / (2 * c))
+  where
+    least : (y : ℕ) → min 7 y < 8
+    least y = omega arith
+level_small c (negsuc n) l = (div-lt_iff_lt-mul {k = 2 * c} {x = 8 * c - suc n} {y = 8} (omega arith)).1 (omega arith)
+
+levels_from : (c a n : ℕ) (row : List ℤ) → 0 < c → length row ≡ a + n
+    → AreLevels n (map (scaled_level c) (drop a row))
+levels_from c a n row l e = record {
+  long = long;
+  small = λ d m.
+      subst (λ z. z < 8) (sym (get_or-map (scaled_level c) (drop a row) d (pos 0) 0
+      (omega (arith, m, length-drop a row, e))))
+      (level_small c (get_or (drop a row) d (pos 0)) l);
+}
+  where
+    long : length (map (scaled_level c) (drop a row)) ≡ n
+    long = length-map (drop a row) (scaled_level c) ∙ length-drop a row ∙ omega (arith, e)
+
+pub data_given : (scale : ℕ) (row : List ℤ) → 0 < scale → length row ≡ 832 → IsData (restored_data scale row)
+unfolding restored_data data_segment
+data_given scale row l e = record {
+  levels = map (scaled_level scale) (drop 4 row);
+  are = levels_from scale 4 828 row l e;
+  is = ap (λ xs. segment_sync ++ xs) (sym (map-map symbol_of (scaled_level scale) (drop 4 row)));
+}
+
+pub sync_given : (scale : ℕ) (row : List ℤ) → 0 < scale → length row ≡ 832 → IsSync (restored_sync scale row)
+unfolding restored_sync
+sync_given scale row l e = record {
+  second = is_second row;
+  last = map (scaled_level scale) (drop 820 row);
+  are = levels_from scale 820 12 row l e;
+  is = ap (field_sync (is_second row)) (sym (map-map symbol_of (scaled_level scale) (drop 820 row)));
+}
+
+-- ---- a field
+
+abbrev pub AreWhole : List (List ℤ) → Type 0
+AreWhole rows = (i : ℕ) → i < length rows → length (get_or rows i []) ≡ 832
+
+softened_whole : (scale : ℕ) (rows : List (List ℤ)) → AreWhole (softened scale rows)
+softened_whole scale rows = λ i l. softened_row scale rows i (omega (arith, l, (softened_found scale rows).long))
+
+whole_append : (xs ys : List (List ℤ)) → AreWhole xs → AreWhole ys → AreWhole (xs ++ ys)
+whole_append xs ys h k = λ i l. by_place i l (cases_lt i (length xs))
+  where
+    by_place : (i : ℕ) → i < length (xs ++ ys) → (i < length xs) ⊎ (length xs ≤ i)
+        → length (get_or (xs ++ ys) i []) ≡ 832
+    by_place i l (inl m) = ap length (get_or_append_left xs ys [] i m) ∙ h i m
+    by_place i l (inr m) =
+        ap length (get_or-append_right xs ys (length xs) i [] refl m)
+        ∙ k (i - length xs) (omega (arith, l, m, length-append xs ys))
+
+whole_drop : (n : ℕ) (rows : List (List ℤ)) → AreWhole rows → AreWhole (drop n rows)
+whole_drop n rows h = λ i l. ap length (get_or-drop n rows i []) ∙ h (n + i) (omega (arith, l, length-drop n rows))
+
+field_given : (scale : ℕ) (rows : List (List ℤ)) (i : ℕ) → 0 < scale → AreWhole rows
+    → i < length (restored_field scale rows) → IsData (get_or (restored_field scale rows) i [])
+unfolding restored_field behind_groups
+field_given scale rows i some h l =
+    let all = softened scale (in_groups rows) ++ drop (4 * (length rows / 4)) rows in
+    let m : i < length all = omega (arith, l, length-map all (restored_data scale)) in
+    subst IsData (sym (get_or-map (restored_data scale) all i [] [] m))
+    (data_given scale (get_or all i []) some
+    (whole_append (softened scale (in_groups rows)) (drop (4 * (length rows / 4)) rows)
+    (softened_whole scale (in_groups rows)) (whole_drop (4 * (length rows / 4)) rows h) i m))
+
+pub restored_given : (scale : ℕ) (rows : List (List ℤ)) → 0 < scale → AreWhole rows → length rows ≤ 313
+    → AreInFields (restored scale rows)
+restored_given scale [] some h few = record {
+  syncs = λ i l e. absurd (omega arith);
+  others = λ i l e. absurd (omega arith);
+}
+restored_given scale (r ∷ rows) some h few = record {
+  syncs = λ i l e. sync_at i (omega (arith, l, length-restored scale (r ∷ rows))) e;
+  others = data_at;
+}
+  where
+    sync_at : (i : ℕ) → i < suc (length rows) → i % 313 ≡ 0 → IsSync (get_or (restored scale (r ∷ rows)) i [])
+    sync_at zero l e = sync_given scale r some (h 0 (omega arith))
+    sync_at (suc i) l e = absurd (omega (arith, l, e, few))
+
+    data_at : (i : ℕ) → i < length (restored scale (r ∷ rows)) → i % 313 ≢ 0
+        → IsData (get_or (restored scale (r ∷ rows)) i [])
+    data_at zero l e = absurd (e refl)
+    data_at (suc i) l e = field_given scale rows i some (λ j m. h (suc j) (omega arith)) (omega arith)
+
+pub from_whole : (symbols : List ℤ) (place count : ℕ) → place + 832 * count ≤ length symbols
+    → AreWhole (segments_from symbols place count)
+unfolding segments_from
+from_whole symbols place count l = λ i m.
+    let n : i < count = omega
+    (arith, m, length-map-range_with_len (λ i. take 832 (drop (place + 832 * i) symbols)) 0 count) in
+    ap length (get_or-map-range_with_len (λ i. take 832 (drop (place + 832 * i) symbols)) 0 count i i [] n
+    (omega arith))
+    ∙ length-take-le 832 (drop (place + 832 * i) symbols) (omega (arith, l, n, length-drop (place + 832 * i) symbols))
+
+-- ---- one behind the other
+
+pub segments_append : (xs ys : List (List ℤ)) → length xs % 313 ≡ 0 → AreInFields xs → AreInFields ys
+    → AreInFields (xs ++ ys)
+segments_append xs ys e h k = record {
+  syncs = λ i l z. sync_at i l z (cases_lt i (length xs));
+  others = λ i l z. data_at i l z (cases_lt i (length xs));
+}
+  where
+    sync_at : (i : ℕ) → i < length (xs ++ ys) → i % 313 ≡ 0 → (i < length xs) ⊎ (length xs ≤ i)
+        → IsSync (get_or (xs ++ ys) i [])
+    sync_at i l z (inl m) = subst IsSync (sym (get_or_append_left xs ys [] i m)) (h.syncs i m z)
+    sync_at i l z (inr m) =
+        subst IsSync (sym (get_or-append_right xs ys (length xs) i [] refl m))
+        (k.syncs (i - length xs) (omega (arith, l, m, length-append xs ys)) (omega (arith, z, m, e)))
+
+    data_at : (i : ℕ) → i < length (xs ++ ys) → i % 313 ≢ 0 → (i < length xs) ⊎ (length xs ≤ i)
+        → IsData (get_or (xs ++ ys) i [])
+    data_at i l z (inl m) = subst IsData (sym (get_or_append_left xs ys [] i m)) (h.others i m z)
+    data_at i l z (inr m) =
+        subst IsData (sym (get_or-append_right xs ys (length xs) i [] refl m))
+        (k.others (i - length xs) (omega (arith, l, m, length-append xs ys)) (λ y. z (omega (arith, y, m, e))))
