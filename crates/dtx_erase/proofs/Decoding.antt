@@ -1,12 +1,12 @@
 -- What is kept of both sides of a run, with one segment more, and the packets that it gives.
 use Rattle.std.proofs.Common.{◌≡◌, ◌≢◌, ℕ, ℤ, ◌+◌, ◌-◌, ◌*◌, ◌%◌, ◌<◌, ◌≤◌, ◌⊎◌, List, [], ◌∷◌, ◌++◌, length, map}
-use Rattle.std.proofs.Common.{refl, sym, ap, ap₂, ◌∙◌, subst, inl, inr, arith}
+use Rattle.std.proofs.Common.{sym, ap, ap₂, ◌∙◌, subst, inl, inr, arith}
 use Rattle.std.proofs.lemmas.Bool.{cases_lt}
 use Rattle.std.proofs.lemmas.List.{append-nil, length-map}
 use Rattle.dtx_receiver.specs.Bytes.{groups_of, bytes_in}
-use Rattle.dtx_receiver.specs.SegmentsLaws.{Still, still_data, still_sync, first_groups, first_bytes}
+use Rattle.dtx_receiver.specs.SegmentsLaws.{Still, still_data, still_sync, first_groups}
 use Rattle.dtx_erase.specs.GrowingLaws.{mended_given}
-use Rattle.dtx_erase.specs.Marks.{shown, shown_run, is_set, marks_in}
+use Rattle.dtx_erase.specs.Marks.{shown, shown_run, is_set}
 use Rattle.dtx_receiver.specs.AnswersLaws.{IsDecoder}
 use Rattle.dtx_erase.specs.Mended.{mended_early, mended_run, mended_run_early, all_mended, mended_so_far}
 use Rattle.dtx_erase.specs.Sides.{Holds, Decoding, Decodes}
@@ -26,13 +26,9 @@ pub flags_long : (kept : Decoding) (run : List (List ℤ)) → Decodes kept run
     → length (bytes_in (shown_run run)) ≡ 828 * groups_of run
 flags_long kept run d = d.marks.gathers.given ∙ ap (λ g. 828 * g) (shown_groups run)
 
-pub marks_of : (kept : Decoding) (run : List (List ℤ)) → Decodes kept run
-    → marks_in run ≡ map is_set (bytes_in (shown_run run))
-marks_of kept run d = marks_are run (flags_long kept run d ∙ sym d.bytes.gathers.given)
-
 pub early_is : (kept : Decoding) (run : List (List ℤ)) → Decodes kept run
     → mended_run_early run ≡ mended_early (bytes_in run) (map is_set (bytes_in (shown_run run)))
-early_is kept run d = ap (mended_early (bytes_in run)) (marks_of kept run d)
+early_is kept run d = ap (mended_early (bytes_in run)) (marks_are run)
 
 -- ---- the first field sync, and later ones
 

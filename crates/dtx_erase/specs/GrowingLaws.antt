@@ -1,39 +1,28 @@
 -- With one segment more, and at the end of a list, mended packets come behind those that were given before.
 use Rattle.std.proofs.Common.{◌≡◌, ◌≢◌, ℕ, ℤ, ◌+◌, ◌-◌, ◌*◌, ◌/◌, ◌%◌, ◌<◌, ◌≤◌, ◌⊎◌, Bool, true, false, Option, Some}
-use Rattle.std.proofs.Common.{None, List, [], ◌∷◌, ◌++◌, length, map, drop, refl, sym, ap, ap₂, ◌∙◌, inl, inr, arith}
-use Rattle.std.specs.List.{range_with_len, flat_map}
+use Rattle.std.proofs.Common.{None, List, [], ◌∷◌, ◌++◌, length, map, refl, sym, ap, ap₂, ◌∙◌, inl, inr, arith}
+use Rattle.std.specs.List.{range_with_len}
 use Rattle.std.proofs.lemmas.Bool.{cases_eq}
-use Rattle.std.proofs.lemmas.List.{append-nil, length-append, length-drop, length-map, map-append}
+use Rattle.std.proofs.lemmas.List.{append-nil, length-append, length-map, map-append}
 use Rattle.dtx_frame.specs.Detection.{looks_like}
 use Rattle.dtx_lists.proofs.Range.{range_with_len-parts, map-range_same}
-use Rattle.dtx_receiver.specs.Bytes.{data_at, data_count, first_formers, groups_of, levels_from, levels_in, bytes_in}
+use Rattle.dtx_receiver.specs.Bytes.{data_count, first_formers, levels_in, bytes_in}
 use Rattle.dtx_receiver.specs.CompleteLaws.{complete_all}
-use Rattle.dtx_receiver.specs.CountingLaws.{bytes_count, bytes_front}
+use Rattle.dtx_receiver.specs.CountingLaws.{bytes_front}
 use Rattle.dtx_receiver.specs.FollowingLaws.{searching, began, sync_came, ended_there, data_came}
 use Rattle.dtx_receiver.specs.GivenLaws.{AreGiven, all_none, all_run, given_end, given_first, given_none, given_on}
 use Rattle.dtx_receiver.specs.IntervalsLaws.{some_segment}
 use Rattle.dtx_receiver.specs.Runs.{tracked}
 use Rattle.dtx_receiver.specs.SegmentsLaws.{first_bytes, first_stays, levels_grown, still_data, still_sync}
 use Rattle.dtx_receiver.specs.declared.batch.Received.{Received}
-use Rattle.dtx_slice.specs.Slicing.{sliced, sliced_data}
-use Rattle.dtx_slice.specs.Unrolled.{bytes_back, level_groups}
+use Rattle.dtx_slice.specs.Unrolled.{bytes_back}
 use Rattle.dtx_erase.specs.Marks.{is_set, marks_in, shown, shown_run}
-use Rattle.dtx_erase.specs.MarksLaws.{marks_are, shown_data, shown_groups, shown_push}
+use Rattle.dtx_erase.specs.MarksLaws.{bytes_long, flags_long, groups, marks_are, shown_push}
 use Rattle.dtx_erase.specs.Mended.{all_mended, mended_at, mended_early, mended_run, mended_run_early}
 use Rattle.dtx_erase.specs.Mended.{mended_run_packets, mended_so_far}
 use Rattle.dtx_erase.specs.MendedLaws.{at_flags, end_more, flagged, stays}
 
 -- ---- bytes and flags
-
--- how many groups of bytes a run has
-abbrev groups : List (List ℤ) → ℕ
-groups run = level_groups (levels_in run)
-
-long : (run : List (List ℤ)) → length (bytes_in run) ≡ 828 * groups run
-long run = bytes_count run ∙ blocks (groups run)
-  where
-    blocks : (g : ℕ) → 207 * (4 * g) ≡ 828 * g
-    blocks g = omega arith
 
 grown : (run new : List (List ℤ)) (z : List ℕ) → first_formers new ≡ first_formers run
     → levels_in new ≡ levels_in run ++ z → (more : List ℕ) × (bytes_in new ≡ bytes_in run ++ more)
@@ -55,41 +44,6 @@ bytes_on run x some = by_place (cases_eq (length run % 313) 0) (cases_eq (data_c
     by_place (inl d) p = same (still_sync run x some d).bytes
     by_place (inr n) (inl p) = grown run (run ++ x ∷ []) _ (first_stays run x some) (levels_grown run x n p)
     by_place (inr n) (inr p) = same (still_data run x n p).bytes
-
--- a run shown as its marks has as many levels, and so as many bytes
-
-as_long : (f g : ℕ → List ℕ) (xs : List ℕ) → ((i : ℕ) → length (f i) ≡ length (g i))
-    → length (flat_map f xs) ≡ length (flat_map g xs)
-as_long f g [] h = refl
-as_long f g (x ∷ xs) h =
-    length-append (f x) (flat_map f xs) ∙ ap₂ (λ (a b : ℕ). a + b) (h x) (as_long f g xs h)
-    ∙ sym (length-append (g x) (flat_map g xs))
-
-data_long : (x : List ℤ) → length (sliced_data (map shown x)) ≡ length (sliced_data x)
-unfolding sliced_data
-data_long x =
-    length-map (drop 4 (map shown x)) sliced ∙ length-drop 4 (map shown x) ∙ ap (λ n. n - 4) (length-map x shown)
-    ∙ sym (length-map (drop 4 x) sliced ∙ length-drop 4 x)
-
-levels_long : (run : List (List ℤ)) → length (levels_in (shown_run run)) ≡ length (levels_in run)
-unfolding levels_in levels_from
-levels_long run =
-    ap (λ g. length (flat_map (λ i. sliced_data (data_at (shown_run run) i)) (range_with_len 0 (4 * g))))
-    (shown_groups run)
-    ∙ as_long (λ i. sliced_data (data_at (shown_run run) i)) (λ i. sliced_data (data_at run i))
-    (range_with_len 0 (4 * groups_of run))
-    (λ i. ap (λ x. length (sliced_data x)) (shown_data run i) ∙ data_long (data_at run i))
-
-groups_shown : (run : List (List ℤ)) → groups (shown_run run) ≡ groups run
-unfolding level_groups
-groups_shown run = ap (λ n. n / 3312) (levels_long run)
-
-flags_long : (run : List (List ℤ)) → length (bytes_in (shown_run run)) ≡ 828 * groups run
-flags_long run = long (shown_run run) ∙ ap (λ g. 828 * g) (groups_shown run)
-
--- the marks of any run are its flags
-marks_flags : (run : List (List ℤ)) → marks_in run ≡ map is_set (bytes_in (shown_run run))
-marks_flags run = marks_are run (flags_long run ∙ sym (long run))
 
 -- ---- packets
 
@@ -134,11 +88,12 @@ run_on : (run : List (List ℤ)) (x : List ℤ) → 0 < length run
 run_on run x some =
     let b = bytes_on run x some in
     let f = bytes_on (shown_run run) (map shown x) (omega (arith, some, length-map run (map shown))) in
-    let m = early_on (bytes_in run) b.0 (bytes_in (shown_run run)) f.0 (groups run) (long run) (flags_long run) in (
+    let m =
+    early_on (bytes_in run) b.0 (bytes_in (shown_run run)) f.0 (groups run) (bytes_long run) (flags_long run) in (
       m.0,
-      ap₂ mended_early b.1 (marks_flags (run ++ x ∷ [])
+      ap₂ mended_early b.1 (marks_are (run ++ x ∷ [])
           ∙ ap (λ r. map is_set (bytes_in r)) (shown_push run x) ∙ ap (map is_set) f.1)
-          ∙ m.1 ∙ ap (λ marks. mended_early (bytes_in run) marks ++ m.0) (sym (marks_flags run)),
+          ∙ m.1 ∙ ap (λ marks. mended_early (bytes_in run) marks ++ m.0) (sym (marks_are run)),
     )
 
 end_on : (bytes flags : List ℕ) (g : ℕ) → length bytes ≡ 828 * g
@@ -147,10 +102,10 @@ end_on bytes flags g e = (_, end_more bytes flags g e)
 
 run_end : (run : List (List ℤ)) → More (mended_run run) (mended_run_early run)
 run_end run =
-    let m = end_on (bytes_in run) (bytes_in (shown_run run)) (groups run) (long run) in (
+    let m = end_on (bytes_in run) (bytes_in (shown_run run)) (groups run) (bytes_long run) in (
       m.0,
-      ap (mended_run_packets (bytes_in run)) (marks_flags run) ∙ m.1
-          ∙ ap (λ marks. mended_early (bytes_in run) marks ++ m.0) (sym (marks_flags run)),
+      ap (mended_run_packets (bytes_in run)) (marks_are run) ∙ m.1
+          ∙ ap (λ marks. mended_early (bytes_in run) marks ++ m.0) (sym (marks_are run)),
     )
 
 -- ---- lists of segments

@@ -4,7 +4,7 @@ use Rattle.std.proofs.Common.{List, [], ◌∷◌, ◌++◌, map, length, drop, 
 use Rattle.std.specs.List.{range_with_len, flat_map}
 use Rattle.std.proofs.Math.ListN.{get_or-map}
 use Rattle.std.proofs.lemmas.Bool.{cond-false, ne_eqb}
-use Rattle.std.proofs.lemmas.List.{length-map, drop-map, map-append}
+use Rattle.std.proofs.lemmas.List.{length-append, length-drop, length-map, drop-map, map-append}
 use Rattle.std.proofs.lemmas.List.FromFn.{get_or-map-range_with_len, length-map-range_with_len}
 use Rattle.dtx_lists.proofs.Range.{map-range_same}
 use Rattle.dtx_lists.proofs.RangeMoved.{flat_map-range_same}
@@ -13,6 +13,7 @@ use Rattle.dtx_slice.specs.Unrolled.{symbol_place, precoder_bit, precoder_bits_o
 use Rattle.dtx_slice.specs.Unrolled.{coder_of, bytes_back, level_groups}
 use Rattle.dtx_outer.specs.Inner.{codeword_byte_place, word_at}
 use Rattle.dtx_receiver.specs.Bytes.{data_count, data_at, groups_of, levels_from, levels_in, first_formers, bytes_in}
+use Rattle.dtx_receiver.specs.CountingLaws.{bytes_count}
 use Rattle.dtx_erase.specs.Marks.{is_missing, missing_in, was_missing, is_marked, marks_in, shown, shown_run, is_set}
 use Rattle.dtx_erase.specs.Mended.{marks_at}
 
@@ -76,6 +77,49 @@ shown_levels run =
     (λ i. map level_of (map is_missing (drop 4 (data_at run i)))) 0 (4 * groups_of run)
     (λ i l m. ap sliced_data (shown_data run i) ∙ data_levels (data_at run i))
     ∙ sym (map_flat level_of (λ i. map is_missing (drop 4 (data_at run i))) (range_with_len 0 (4 * groups_of run)))
+
+-- ---- how many bytes
+
+-- how many groups of bytes a run has
+abbrev pub groups : List (List ℤ) → ℕ
+groups run = level_groups (levels_in run)
+
+pub bytes_long : (run : List (List ℤ)) → length (bytes_in run) ≡ 828 * groups run
+bytes_long run = bytes_count run ∙ blocks (groups run)
+  where
+    blocks : (g : ℕ) → 207 * (4 * g) ≡ 828 * g
+    blocks g = omega arith
+
+-- a run shown as its marks has as many levels, and so as many bytes
+
+pub as_long : {X Y Z : Type 0} (f : X → List Y) (g : X → List Z) (xs : List X)
+    → ((x : X) → length (f x) ≡ length (g x)) → length (flat_map f xs) ≡ length (flat_map g xs)
+as_long f g [] h = refl
+as_long f g (x ∷ xs) h =
+    length-append (f x) (flat_map f xs) ∙ ap₂ (λ (a b : ℕ). a + b) (h x) (as_long f g xs h)
+    ∙ sym (length-append (g x) (flat_map g xs))
+
+data_long : (x : List ℤ) → length (sliced_data (map shown x)) ≡ length (sliced_data x)
+unfolding sliced_data
+data_long x =
+    length-map (drop 4 (map shown x)) sliced ∙ length-drop 4 (map shown x) ∙ ap (λ n. n - 4) (length-map x shown)
+    ∙ sym (length-map (drop 4 x) sliced ∙ length-drop 4 x)
+
+levels_long : (run : List (List ℤ)) → length (levels_in (shown_run run)) ≡ length (levels_in run)
+unfolding levels_in levels_from
+levels_long run =
+    ap (λ g. length (flat_map (λ i. sliced_data (data_at (shown_run run) i)) (range_with_len 0 (4 * g))))
+    (shown_groups run)
+    ∙ as_long (λ i. sliced_data (data_at (shown_run run) i)) (λ i. sliced_data (data_at run i))
+    (range_with_len 0 (4 * groups_of run))
+    (λ i. ap (λ x. length (sliced_data x)) (shown_data run i) ∙ data_long (data_at run i))
+
+groups_shown : (run : List (List ℤ)) → groups (shown_run run) ≡ groups run
+unfolding level_groups
+groups_shown run = ap (λ n. n / 3312) (levels_long run)
+
+pub flags_long : (run : List (List ℤ)) → length (bytes_in (shown_run run)) ≡ 828 * groups run
+flags_long run = bytes_long (shown_run run) ∙ ap (λ g. 828 * g) (groups_shown run)
 
 -- ---- pairs
 
@@ -200,11 +244,9 @@ byte_set run j =
     ∙ set_by (was_missing run r e) (was_missing run (r + 1) e) (was_missing run (r + 2) e) (was_missing run (r + 3) e)
     (was_missing run (r + 4) e)
 
--- where both have as many bytes
-pub marks_are : (run : List (List ℤ)) → length (bytes_in (shown_run run)) ≡ length (bytes_in run)
-    → marks_in run ≡ map is_set (bytes_in (shown_run run))
+pub marks_are : (run : List (List ℤ)) → marks_in run ≡ map is_set (bytes_in (shown_run run))
 unfolding marks_in bytes_in bytes_back
-marks_are run e = ap (λ n. map (is_marked run) (range_with_len 0 n)) (sym e) ∙ there
+marks_are run = ap (λ n. map (is_marked run) (range_with_len 0 n)) (bytes_long run ∙ sym (flags_long run)) ∙ there
   where
     n : ℕ
     n = 828 * level_groups (levels_in (shown_run run))

@@ -20,6 +20,7 @@ use Rattle.dtx_receiver.specs.Packets.{all_packets, packets_so_far, received}
 use Rattle.dtx_erase.specs.Mending.{lost, unmarked_distance}
 use Rattle.dtx_erase.specs.MendingLaws.{damage_is}
 use Rattle.dtx_erase.specs.Marks.{is_missing, missing_in, was_missing, is_marked, marks_in, AreThere, AllThere}
+use Rattle.dtx_erase.specs.MarksLaws.{as_long}
 use Rattle.dtx_erase.specs.Mended.{marks_at, mended_at, mended_run_packets, mended_early, mended_run, mended_run_early}
 use Rattle.dtx_erase.specs.Mended.{all_mended, mended_so_far, mended}
 use Rattle.dtx_erase.specs.ChosenLaws.{mending_only, unmarked_mending}
@@ -54,17 +55,26 @@ count_run run =
     ∙ sym (length-map (filter (is_complete (length (bytes_in run))) (range_with_len 0 (length (bytes_in run) / 207)))
     (received_at (bytes_in run)))
 
-count_runs : (rs : List (List (List ℤ))) → length (flat_map mended_run rs)
-    ≡ length (flat_map (λ run. run_packets (bytes_in run)) rs)
-count_runs [] = refl
-count_runs (r ∷ rs) =
-    length-append (mended_run r) (flat_map mended_run rs)
-    ∙ ap₂ (λ (a b : ℕ). a + b) (count_run r) (count_runs rs)
-    ∙ sym (length-append (run_packets (bytes_in r)) (flat_map (λ run. run_packets (bytes_in run)) rs))
-
 pub as_many : (segments : List (List ℤ)) → length (all_mended segments) ≡ length (all_packets segments)
 unfolding all_mended all_packets
-as_many segments = count_runs (runs segments)
+as_many segments = as_long mended_run (λ run. run_packets (bytes_in run)) (runs segments) count_run
+
+count_early : (run : List (List ℤ)) → length (mended_run_early run) ≡ length (early_of (bytes_in run))
+unfolding mended_early early_of
+count_early run =
+    length-map (range_with_len 0 (length (bytes_in run) / 207 - 52)) (mended_at (bytes_in run) (marks_in run))
+    ∙ sym (length-map (range_with_len 0 (length (bytes_in run) / 207 - 52)) (received_at (bytes_in run)))
+
+pub as_many_so_far : (segments : List (List ℤ)) → length (mended_so_far segments) ≡ length (packets_so_far segments)
+unfolding mended_so_far packets_so_far
+as_many_so_far segments =
+    let ended : List (List (List ℤ)) = (tracked segments).ended in
+    let on : List (List (List ℤ)) = option_to_list (tracked segments).run in
+    length-append (flat_map mended_run ended) (flat_map mended_run_early on)
+    ∙ ap₂ (λ (a b : ℕ). a + b) (as_long mended_run (λ run. run_packets (bytes_in run)) ended count_run)
+    (as_long mended_run_early (λ run. early_of (bytes_in run)) on count_early)
+    ∙ sym (length-append (flat_map (λ run. run_packets (bytes_in run)) ended)
+    (flat_map (λ run. early_of (bytes_in run)) on))
 
 -- ---- where no symbol is missing
 

@@ -74,9 +74,11 @@ pub fn near_packet()
         } }
 {}
 
-/// As many packets are given as `Receiver` gives, whatever is missing.
+/// As many packets are given as `Receiver` gives, whatever is missing, and as many while the segments come.
 pub fn as_many()
-    ensures { (segments : List (List ℤ)) → length (all_mended segments) ≡ length (all_packets segments) }
+    ensures all { (segments : List (List ℤ)) → length (all_mended segments) ≡ length (all_packets segments) }
+    ensures so_far { (segments : List (List ℤ))
+        → length (mended_so_far segments) ≡ length (packets_so_far segments) }
 {}
 
 /// What is given with one segment more, and what is left at the end of the list, comes behind what was given before.
@@ -88,9 +90,8 @@ pub fn goes_on()
         × (all_mended segments ≡ mended_so_far segments ++ brought) }
 {}
 
-/// The marks of a run are the bytes other than 0 of the run in which each missing symbol is 7 and any other -7, where
-/// both have as many bytes. So whatever is done with bytes does for marks.
+/// The marks of a run are the bytes other than 0 of the run in which each missing symbol is 7 and any other -7. So
+/// whatever is done with bytes does for marks.
 pub fn marks_as_bytes()
-    ensures { (run : List (List ℤ)) → length (bytes_in (shown_run run)) ≡ length (bytes_in run)
-        → marks_in run ≡ map is_set (bytes_in (shown_run run)) }
+    ensures { (run : List (List ℤ)) → marks_in run ≡ map is_set (bytes_in (shown_run run)) }
 {}

@@ -10,31 +10,19 @@ use Rattle.dtx_erase.proofs.decoder.Decoder.end.Goals.{else-self-eq0-via-else-se
 
 pub returns-then-self-eq0-2 : goal.returns-then-self-eq0-2
 returns-then-self-eq0-2 c = λ run d.
-    let kept : Decoding = record {
-      bytes = c.self.inside.bytes;
-      marks = c.self.inside.marks;
-      waits = c.self.inside.waits;
-      place = c.self.inside.place;
-    } in
-    let here : Decodes kept run = subst (λ (k : Decoding). Decodes k run) (sym c.self.view_is) d in
+    let here = subst (λ (k : Decoding). Decodes k run) (sym c.self.view_is) d in
     let packet : Received =
-    mended_word (187 * kept.place) c.last_word-word.result c.last_word-flags.result in
-    ends_one kept run c.last_word-word.result c.last_word-flags.result here c.if-self-eq0.true c.if-self-eq0-2.true
+    mended_word (187 * c.self.inside.place) c.last_word-word.result c.last_word-flags.result in
+    ends_one _ run c.last_word-word.result c.last_word-flags.result here c.if-self-eq0.true c.if-self-eq0-2.true
     (λ k. c.last_word-word.ensures run k here.bytes) (λ k. c.last_word-flags.ensures (shown_run run) k here.marks)
     ∙ ap (λ xs. mended_run_early run ++ xs)
     (sym (c.give.ensures ∙ ap (λ (xs : List Received). xs ++ packet ∷ []) c.requires))
 
 pub returns-else-self-eq0 : goal.returns-else-self-eq0
 returns-else-self-eq0 c = λ run d.
-    let kept : Decoding = record {
-      bytes = c.self.inside.bytes;
-      marks = c.self.inside.marks;
-      waits = c.self.inside.waits;
-      place = c.self.inside.place;
-    } in
-    let here : Decodes kept run = subst (λ (k : Decoding). Decodes k run) (sym c.self.view_is) d in
-    let no : kept.waits ≡ 0 → kept.place % 52 ≡ 0 → ⊥ = elim c.else-self-eq0.branch [
+    let here = subst (λ (k : Decoding). Decodes k run) (sym c.self.view_is) d in
+    let no : c.self.inside.waits ≡ 0 → c.self.inside.place % 52 ≡ 0 → ⊥ = elim c.else-self-eq0.branch [
       | else-self-eq0-via-then-self-eq0+else-self-eq0-2 w ↦ λ a b. w.if-self-eq0-2.false b
       | else-self-eq0-via-else-self-eq0 w ↦ λ a b. w.if-self-eq0.false a
     ] in
-    ends_none kept run here no ∙ ap (λ xs. mended_run_early run ++ xs) (sym c.requires)
+    ends_none _ run here no ∙ ap (λ xs. mended_run_early run ++ xs) (sym c.requires)
