@@ -17,7 +17,8 @@ plan=$top/examples/two-sites.toml
 "$program" adapt "$plan" "$room/in.ts" "$room/feed.ts" >"$room/said"
 "$program" code "$room/feed.ts" "$room/feed.sym" >"$room/said"
 
-# Symbols with a little noise: -1, 0 or 1 beside them, by a made stream's bytes.
+# Symbols with a little noise, by a made stream's bytes: a quarter lie one below, and one of 32 one above, which slices to another level, so
+# that `soft` finds their field syncs too.
 python3 - "$room" <<'end'
 import sys
 room = sys.argv[1]
@@ -25,7 +26,8 @@ with open(f"{room}/feed.sym", "rb") as file:
     symbols = file.read(100 * 313 * 832)
 with open(f"{room}/in.ts", "rb") as file:
     random = file.read(len(symbols))
-noisy = bytes((symbol + byte % 3 - 1) & 255 for symbol, byte in zip(symbols, random))
+noise = [1 if byte % 32 == 0 else -1 if byte % 4 == 1 else 0 for byte in range(256)]
+noisy = bytes((symbol + noise[byte]) & 255 for symbol, byte in zip(symbols, random))
 with open(f"{room}/noisy.sym", "wb") as file:
     file.write(noisy)
 with open(f"{room}/search.sym", "wb") as file:

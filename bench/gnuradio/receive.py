@@ -1,12 +1,14 @@
 #!/usr/bin/env python3
 """Receives symbols by GNU Radio's ATSC blocks and writes their packets: receive.py IN OUT [SCALE], where a symbol lies at so many steps a
-unit."""
+unit. Its equalizer, which takes the field syncs out, is left out, since symbols are measured here and no channel: they are taken out by
+their number."""
 
 import sys
 
 from gnuradio import blocks, dtv, gr
 
 SEGMENT = 832
+FIELD_SEGMENTS = 313
 
 source, sink = sys.argv[1:3]
 scale = float(sys.argv[3]) if len(sys.argv) > 3 else 1.0
@@ -19,8 +21,12 @@ chain.connect(
     blocks.stream_to_vector(gr.sizeof_float, SEGMENT),
     checker,
 )
-# Beside each segment goes its number.
-steps = [checker, dtv.atsc_viterbi_decoder(), dtv.atsc_deinterleaver(), dtv.atsc_rs_decoder(), last]
+# Beside each segment goes its number. The checker begins with a field sync.
+viterbi = dtv.atsc_viterbi_decoder()
+for port in 0, 1:
+    size = checker.output_signature().sizeof_stream_item(port)
+    chain.connect((checker, port), blocks.keep_m_in_n(size, FIELD_SEGMENTS - 1, FIELD_SEGMENTS, 1), (viterbi, port))
+steps = [viterbi, dtv.atsc_deinterleaver(), dtv.atsc_rs_decoder(), last]
 for step, following in zip(steps, steps[1:]):
     chain.connect((step, 0), (following, 0))
     chain.connect((step, 1), (following, 1))
