@@ -4,3 +4,5 @@ pub mod Lines
 pub mod Symbols
 pub mod AppendedLaws
 pub mod GivenFewLaws
+pub mod WatchLines
+pub mod WatchLinesLaws
