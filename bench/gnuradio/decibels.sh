@@ -38,7 +38,7 @@ for each in "${decibels[@]}"; do
     "$program" acquire 8 "$room/air.sym" "$room/made.sym" >"$room/said" || [[ $? == 10 ]]
     line+=$'\t'$(given "$room/made.sym")
     if [[ $theirs ]]; then
-        "$gnuradio_python" "$top/bench/gnuradio/receive.py" "$room/air.sym" "$room/out.ts" 8 2>"$room/said"
+        "$gnuradio_python" "$top/bench/gnuradio/receive.py" "$room/air.sym" "$room/out.ts" 8 >"$room/said" 2>&1
         line+=$'\t'$(back "$room/out.ts" | cut -d ' ' -f 1)
     fi
     printf '%s\n' "$line"
