@@ -13,6 +13,7 @@ pub mod PlacedPackets
 pub mod PlacedTally
 pub mod SmallFile
 pub mod SoftBack
+pub mod SoftCoded
 pub mod SoftFields
 pub mod SoftFiles
 pub mod SoftMoved

@@ -1,8 +1,7 @@
 -- What `soft` writes is read back as its segments.
-use Rattle.std.proofs.Common.{◌≡◌, ℕ, ℤ, suc, pos, ◌+◌, ◌-◌, ◌*◌, ◌/◌, ◌<◌, ◌-ℤ◌, nat_lt, cond, All, Bool, true, false}
+use Rattle.std.proofs.Common.{◌≡◌, ℕ, ℤ, pos, ◌+◌, ◌-◌, ◌*◌, ◌/◌, ◌<◌, ◌-ℤ◌, nat_lt, cond, All, Bool, true, false}
 use Rattle.std.proofs.Common.{Option, Some, None, List, [], ◌∷◌, length, map, take, drop, get_or, min, refl, ap, subst}
 use Rattle.std.proofs.Common.{arith}
-use Rattle.std.specs.List.{AllByRecursion}
 use Rattle.std.proofs.lemmas.List.Elements.{All-get_or}
 use Rattle.dtx_coder.specs.CountsLaws.{AreSegments, segments_map}
 use Rattle.dtx_frame.specs.Segments.{symbol_of}
@@ -15,8 +14,8 @@ use Rattle.dtx_soft.specs.Paths.{IsPath, next_state, symbol_at}
 use Rattle.dtx_soft.specs.Softened.{least_symbols, softened, softened_segment, softened_symbol}
 use Rattle.dtx_jobs.specs.Soft.{in_groups, place_at, soft_at, soft_from, soft_symbols}
 use Rattle.dtx_jobs.specs.SymbolFile.{file_segments, segment_at, symbol_of_byte, whole_segments}
-use Rattle.dtx_jobs.specs.SymbolsBackLaws.{AreBack, EachBack, IsBack, each_at, each_drop, each_map, each_range}
-use Rattle.dtx_jobs.specs.SymbolsBackLaws.{each_take}
+use Rattle.dtx_jobs.specs.SymbolsBackLaws.{AreBack, EachBack, IsBack, each_at, each_drop, each_map, each_of}
+use Rattle.dtx_jobs.specs.SymbolsBackLaws.{each_range, each_take}
 use Rattle.dtx_jobs.specs.SymbolsBackLaws.{level_back, segments_read_back}
 use Rattle.dtx_jobs.proofs.SoftFiles.{byte_back}
 use Rattle.dtx_jobs.proofs.SoftMoved.{HasRows, file_rows, softened_row}
@@ -82,11 +81,8 @@ file_back file h =
     each_map (λ b. b < 256) IsBack symbol_of_byte (take 832 (drop (832 * i) file))
     (λ b l. ap symbol_of_byte (byte_back b l))
     (each_take (λ b. b < 256) 832 (drop (832 * i) file)
-    (each_drop (λ b. b < 256) (832 * i) file (all_each file (λ k l. All-get_or (λ b. b < 256) file k 0 l h)))))
-  where
-    all_each : (bs : List ℕ) → ((k : ℕ) → k < length bs → get_or bs k 0 < 256) → AllByRecursion (λ b. b < 256) bs
-    all_each [] each = tt
-    all_each (b ∷ bs) each = (each 0 (omega arith), all_each bs (λ k l. each (suc k) (omega (arith, l))))
+    (each_drop (λ b. b < 256) (832 * i) file
+    (each_of (λ b. b < 256) file 0 (λ k l. All-get_or (λ b. b < 256) file k 0 l h)))))
 
 pub soft_read_back : (file : List ℕ) → All (λ b. b < 256) file
     → file_segments (segment_bytes (soft_symbols (file_segments file))) ≡ soft_symbols (file_segments file)

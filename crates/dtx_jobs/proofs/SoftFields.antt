@@ -26,7 +26,7 @@ use Rattle.dtx_jobs.proofs.SoftRuns.{soft_entry, soft_length}
 -- ---- sums over a run
 
 -- where what is counted stands one behind each multiple of 313
-each_field : (f g : ℕ → ℕ) (first n : ℕ)
+pub each_field : (f g : ℕ → ℕ) (first n : ℕ)
     → ((j : ℕ) → j < n → j % 313 ≡ 1 → f (first + j) ≡ g (j / 313))
     → ((j : ℕ) → j < n → j % 313 ≢ 1 → f (first + j) ≡ 0) → over f first n ≡ over g 0 ((n + 311) / 313)
 each_field f g first zero one other = refl

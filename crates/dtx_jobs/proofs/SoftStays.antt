@@ -22,10 +22,10 @@ use Rattle.dtx_jobs.proofs.SoftStream.{TakesPaths, count, field_at, field_own, l
 -- ---- places
 
 -- a field sync stands wherever one is due in a run that begins with the first segment
-abbrev IsInStep : List (List ℤ) → Type 0
+abbrev pub IsInStep : List (List ℤ) → Type 0
 IsInStep s = (i : ℕ) → i < length s → i % 313 ≡ 0 → looks_like (get_or s i []) ≡ true
 
-in_step : (s : List (List ℤ)) → IsInStep s → (i : ℕ) → i ≤ length s → place_at s i ≡ place_behind (i % 313)
+pub in_step : (s : List (List ℤ)) → IsInStep s → (i : ℕ) → i ≤ length s → place_at s i ≡ place_behind (i % 313)
 in_step s h i l =
     let here : i ≡ 0 + i = omega arith in
     ap (λ k. place_at s k) here ∙ in_run s 0 (length s) i (omega arith) at place_first l
@@ -33,13 +33,13 @@ in_step s h i l =
     at : (j : ℕ) → j < length s → j % 313 ≡ 0 → looks_like (get_or s (0 + j) []) ≡ true
     at j k e = (let same : 0 + j ≡ j = omega arith in ap (λ n. looks_like (get_or s n [])) same ∙ h j k e)
 
-stream_in_step : (ps : List (List ℕ)) → IsInStep (a53 ps)
+pub stream_in_step : (ps : List (List ℕ)) → IsInStep (a53 ps)
 stream_in_step ps i l e = (let sync = sync_at_place ps i l e in ap looks_like sync.2 ∙ looks_alike sync.0 sync.1)
 
 -- ---- fields
 
 -- that a field whose symbols are paths' own stays
-abbrev KeepsOwn : Type 0
+abbrev pub KeepsOwn : Type 0
 KeepsOwn = (scale : ℕ) (segments : List (List ℤ))
     → ((i : ℕ) → i < length segments → length (get_or segments i []) ≡ 832)
     → ((e : ℕ) → e < 12 → IsOwn scale (coder_symbols segments e))

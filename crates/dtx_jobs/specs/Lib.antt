@@ -59,6 +59,7 @@ pub mod SoftPlacesLaws
 pub mod SoftRowsLaws
 pub mod Softening
 pub mod SofteningLaws
+pub mod StreamBackLaws
 pub mod StreamCoder
 pub mod SymbolFile
 pub mod SymbolFileLaws

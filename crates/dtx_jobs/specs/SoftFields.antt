@@ -2,15 +2,18 @@
 use Rattle.std.specs.Prelude.{ℕ, ℤ, ◌+◌, ◌*◌, ◌/◌, ◌%◌, zero, suc, Option, Some, None, List, [], ◌∷◌, length, map}
 use Rattle.std.specs.Prelude.{take, drop}
 use Rattle.std.specs.List.{range_with_len, flat_map}
+use Rattle.dtx_coder.specs.Stream.{a53}
 use Rattle.dtx_engine.specs.Made.{only, outputs_of}
 use Rattle.dtx_files.specs.Symbols.{segment_bytes}
 use Rattle.dtx_meaning.specs.Meaning.{Meaning}
 use Rattle.dtx_meaning.specs.Status.{ended}
 use Rattle.dtx_meaning.specs.declared.status.Status.TheVariants.{Done, TooLong}
+use Rattle.dtx_packets.specs.Packets.{packets_of, whole_packets}
 use Rattle.dtx_receiver.specs.Runs.{runs}
 use Rattle.dtx_sizes.specs.declared.limits.TheConstants.{MOST_SEGMENTS}
 use Rattle.dtx_jobs.specs.Soft.{groups_in, soft_numbers, soft_so_far, soft_symbols}
 use Rattle.dtx_jobs.specs.SymbolFile.{file_segments, whole_segments}
+use Rattle.dtx_jobs.specs.Symbols.{symbol_bytes}
 
 -- ---- fields
 
@@ -58,4 +61,16 @@ copied_of names file = record {
     shown = 4;
   };
   outputs = outputs_of names (only (take (832 * whole_segments file) file));
+}
+
+-- and of the symbol file of a stream: its own bytes, at cost 0, with a field for each 78 groups of four packets that are
+-- begun
+abbrev pub kept_of : List (List ℕ) → List ℕ → Meaning
+kept_of names stream = record {
+  outcome = record {
+    status = Done;
+    numbers = length (a53 (packets_of stream)) ∷ ((whole_packets stream / 4 + 77) / 78) ∷ 0 ∷ 0 ∷ 0 ∷ 0 ∷ 0 ∷ [];
+    shown = 4;
+  };
+  outputs = outputs_of names (only (symbol_bytes (packets_of stream)));
 }

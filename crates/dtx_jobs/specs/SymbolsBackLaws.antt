@@ -2,7 +2,7 @@
 use Rattle.std.proofs.Common.{◌≡◌, ℕ, zero, suc, ℤ, ◌+◌, ◌*◌, ◌/◌, ◌<◌, ◌≤◌, List, [], ◌∷◌, ◌++◌, length, map}
 use Rattle.std.proofs.Common.{take, drop}
 use Rattle.std.proofs.Common.{get_or, refl, sym, ap, ap₂, ◌∙◌, arith}
-use Rattle.std.specs.List.{AllByRecursion, range_with_len}
+use Rattle.std.specs.List.{AllByRecursion, flat_map, range_with_len}
 use Rattle.std.proofs.lemmas.List.{drop-drop, length-append, length-map, map-append}
 use Rattle.std.proofs.Math.Seq.{take-append_seam, drop-append_seam}
 use Rattle.dtx_coder.specs.Stream.{symbols_of}
@@ -65,6 +65,16 @@ pub each_range : {X : Type 0} (P : X → Type 0) (f : ℕ → X) (a n : ℕ) →
 each_range P f a zero at = tt
 each_range P f a (suc n) at =
     (at a (omega arith) (omega arith), each_range P f (a + 1) n (λ i l m. at i (omega (arith, l)) (omega (arith, m))))
+
+pub each_flat : {X Y : Type 0} (P : Y → Type 0) (f : X → List Y) (xs : List X) → ((x : X) → AllByRecursion P (f x))
+    → AllByRecursion P (flat_map f xs)
+each_flat P f [] each = tt
+each_flat P f (x ∷ xs) each = each_append P (f x) (flat_map f xs) (each x) (each_flat P f xs each)
+
+pub each_of : {X : Type 0} (P : X → Type 0) (xs : List X) (d : X) → ((i : ℕ) → i < length xs → P (get_or xs i d))
+    → AllByRecursion P xs
+each_of P [] d each = tt
+each_of P (x ∷ xs) d each = (each 0 (omega arith), each_of P xs d (λ i l. each (suc i) (omega (arith, l))))
 
 pub each_at : {X : Type 0} (P : X → Type 0) (xs : List X) (i : ℕ) (d : X) → AllByRecursion P xs → P d
     → P (get_or xs i d)

@@ -5,6 +5,7 @@ ghost use Rattle.std.specs.Prelude.{◌-◌, IfSome, slice_index_or, take};
 ghost use Rattle.std.specs.List.{sum_by};
 ghost use Rattle.dtx_coder.specs.Stream.{a53};
 ghost use Rattle.dtx_files.specs.Symbols.{segment_bytes};
+ghost use Rattle.dtx_packets.specs.Packets.{packets_of, whole_packets};
 ghost use Rattle.dtx_receiver.specs.Intervals.{AreRuns, NoneLooks};
 ghost use Rattle.dtx_receiver.specs.Runs.{runs, tracking};
 ghost use Rattle.dtx_soft.specs.Coders.{segments_distance};
@@ -12,10 +13,12 @@ ghost use Rattle.dtx_soft.specs.Softened.{softened, softened_cost};
 ghost use Rattle.dtx_engine.specs.Recipe.{meaning_of_file};
 ghost use Rattle.dtx_jobs.specs.Shapes as shapes;
 ghost use Rattle.dtx_jobs.specs.Soft.{counted, in_groups, place_at, soft_rest, soft_so_far, soft_symbols, softening};
-ghost use Rattle.dtx_jobs.specs.SoftFields.{copied_of, fields_of, place_behind, softened_of, softened_until};
+ghost use Rattle.dtx_jobs.specs.SoftFields.{copied_of, fields_of, kept_of, place_behind};
+ghost use Rattle.dtx_jobs.specs.SoftFields.{softened_of, softened_until};
 ghost use Rattle.dtx_jobs.specs.SymbolFile.{file_segments, whole_segments};
+ghost use Rattle.dtx_jobs.specs.Symbols.{symbol_bytes};
 
-use dtx_sizes::MOST_SEGMENTS;
+use dtx_sizes::{MOST_PACKETS, MOST_SEGMENTS};
 use dtx_soft::laws::{coder_takes_a_path, keeps_own_field};
 
 /// All whole segments of a file are softened, where they are no more than may be. Where there are more, that is the
@@ -90,11 +93,15 @@ pub fn cost_of_all()
         ≡ segments_distance (file_segments file) (soft_symbols (file_segments file)) }
 {}
 
-/// The segments of a stream stay as they are, and all their least paths cost nothing.
+/// The segments of a stream stay as they are, and all their least paths cost nothing. So the file that `code` writes of
+/// a stream is what `soft` writes of it, at cost 0, with as many segments as `code` says, a field for each 78 groups of
+/// four packets that are begun, and nothing loose.
 pub fn a_stream_stays()
     ensures symbols { (packets : List (List ℕ)) → soft_symbols (a53 packets) ≡ a53 packets }
     ensures cost { (packets : List (List ℕ))
         → counted (softened_cost 1) (a53 packets) (length (a53 packets)) ≡ 0 }
+    ensures file { (names : List (List ℕ)) (stream : List ℕ) → whole_packets stream ≤ MOST_PACKETS
+        → meaning_of_file shapes.segments softening names (symbol_bytes (packets_of stream)) ≡ kept_of names stream }
 {
     coder_takes_a_path();
     keeps_own_field();
