@@ -22,4 +22,6 @@ mod mend_receiver;
 #[cfg(test)]
 mod outer_coding;
 #[cfg(test)]
+mod plain_paths;
+#[cfg(test)]
 mod receiver;
