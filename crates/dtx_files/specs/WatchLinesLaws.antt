@@ -50,22 +50,35 @@ spelled : (word : List ℕ) → AllByRecursion (λ b. 33 ≤ b) word → IsWord 
 spelled word h = All-from_recursion (λ b. 33 ≤ b) word h
 
 first_is : (w : What) → IsWord (first_word w)
-first_is what.Lock = spelled (codes "lock") (omega arith, (omega arith, (omega arith, (omega arith, tt))))
-first_is what.Lost = spelled (codes "lost") (omega arith, (omega arith, (omega arith, (omega arith, tt))))
-first_is (what.Unread refusal) = spelled (codes "unread") (omega arith, (omega arith, (omega arith, (omega arith, (omega arith, (omega arith, tt))))))
-first_is (what.Stray frame index) = spelled (codes "stray") (omega arith, (omega arith, (omega arith, (omega arith, (omega arith, tt)))))
-first_is (what.Ops o) = spelled (codes "ops") (omega arith, (omega arith, (omega arith, tt)))
+first_is what.Lock =
+    spelled (codes "lock") (omega arith, (omega arith, (omega arith, (omega arith, tt))))
+first_is what.Lost =
+    spelled (codes "lost") (omega arith, (omega arith, (omega arith, (omega arith, tt))))
+first_is (what.Unread refusal) =
+    spelled (codes "unread")
+    (omega arith, (omega arith, (omega arith, (omega arith, (omega arith, (omega arith, tt))))))
+first_is (what.Stray frame index) =
+    spelled (codes "stray") (omega arith, (omega arith, (omega arith, (omega arith, (omega arith, tt)))))
+first_is (what.Ops o) =
+    spelled (codes "ops") (omega arith, (omega arith, (omega arith, tt)))
 
 states_is : (s : StatesNote) → IsWord (states_word s)
-states_is states.Early = spelled (codes "early") (omega arith, (omega arith, (omega arith, (omega arith, (omega arith, tt)))))
-states_is states.First = spelled (codes "first") (omega arith, (omega arith, (omega arith, (omega arith, (omega arith, tt)))))
-states_is states.Right = spelled (codes "right") (omega arith, (omega arith, (omega arith, (omega arith, (omega arith, tt)))))
-states_is states.Slip = spelled (codes "slip") (omega arith, (omega arith, (omega arith, (omega arith, tt))))
+states_is states.Early =
+    spelled (codes "early") (omega arith, (omega arith, (omega arith, (omega arith, (omega arith, tt)))))
+states_is states.First =
+    spelled (codes "first") (omega arith, (omega arith, (omega arith, (omega arith, (omega arith, tt)))))
+states_is states.Right =
+    spelled (codes "right") (omega arith, (omega arith, (omega arith, (omega arith, (omega arith, tt)))))
+states_is states.Slip =
+    spelled (codes "slip") (omega arith, (omega arith, (omega arith, (omega arith, tt))))
 
 clock_is : (c : ClockNote) → IsWord (clock_word c)
-clock_is clock.First = spelled (codes "first") (omega arith, (omega arith, (omega arith, (omega arith, (omega arith, tt)))))
-clock_is clock.Right = spelled (codes "right") (omega arith, (omega arith, (omega arith, (omega arith, (omega arith, tt)))))
-clock_is clock.Jump = spelled (codes "jump") (omega arith, (omega arith, (omega arith, (omega arith, tt))))
+clock_is clock.First =
+    spelled (codes "first") (omega arith, (omega arith, (omega arith, (omega arith, (omega arith, tt)))))
+clock_is clock.Right =
+    spelled (codes "right") (omega arith, (omega arith, (omega arith, (omega arith, (omega arith, tt)))))
+clock_is clock.Jump =
+    spelled (codes "jump") (omega arith, (omega arith, (omega arith, (omega arith, tt))))
 
 later_are : (k : ℕ) (w : What) → AllByRecursion IsWord (later_words k w)
 later_are k what.Lock = (number k, tt)
