@@ -3,14 +3,14 @@ use Rattle.std.proofs.Common.{◌≡◌, ℕ, zero, suc, ◌+◌, ◌-◌, ◌*�
 use Rattle.std.proofs.Common.{length, map, take, drop, refl, sym, ap, ap₂, ◌∙◌, arith}
 use Rattle.std.specs.Prelude.{true, false, not, min, Some, None}
 use Rattle.std.specs.List.{find, flat_map, range_with_len}
-use Rattle.std.proofs.lemmas.Bool.{cond-false, cond-true, lt-ltb}
-use Rattle.std.proofs.lemmas.List.{append-nil, length-drop, length-take-le, take-append-drop, take_all}
+use Rattle.std.proofs.lemmas.Bool.{cond-false}
+use Rattle.std.proofs.lemmas.List.{append-nil, length-drop, length-take-le, take-append-drop, take_all, take_at}
 use Rattle.dtx_lists.proofs.RangeSearch.{find-range_first}
 use Rattle.dtx_dvb.specs.BackLaws.{all_as_sent, all_fixed, none_flagged, packets_back, undamaged}
 use Rattle.dtx_dvb.specs.Damage.{ArePackets, IsSlight, as_sent}
 use Rattle.dtx_dvb.specs.Read.{Read, fixed_in, flagged_in}
 use Rattle.dtx_dvb.specs.Reading.{read_dvb}
-use Rattle.dtx_dvb.specs.ReadingLaws.{length-read, read_loose}
+use Rattle.dtx_dvb.specs.ReadingLaws.{length-read, next_of, read_loose, read_more}
 use Rattle.dtx_dvb.specs.Stream.{dvb}
 use Rattle.dtx_engine.specs.Made.{only, outputs_of}
 use Rattle.dtx_engine.specs.Recipe.{Course, course, course_from, first_refused, meaning_at, meaning_of_file}
@@ -21,12 +21,12 @@ use Rattle.dtx_meaning.specs.declared.status.Status.{Status}
 use Rattle.dtx_meaning.specs.declared.status.Status.TheVariants.{Done, Packet, TooLong}
 use Rattle.dtx_packets.specs.PacketLaws.{packets_of-piece}
 use Rattle.dtx_packets.specs.Packets.{packet_at, packets_from, packets_of, whole_packets}
-use Rattle.dtx_jobs.specs.DvbBack.{HaveSyncs, back_of, read_of, sent_of, sent_until, wrong_in_all}
+use Rattle.dtx_jobs.specs.DvbBack.{HaveSyncs, back_of, read_of, read_until, sent_of, sent_until, wrong_in_all}
 use Rattle.dtx_jobs.specs.DvbCode.{dvb_coding}
 use Rattle.dtx_jobs.specs.DvbRead.{bytes_of_reads, dvb_reading, whole_blocks}
 use Rattle.dtx_jobs.specs.PacketFileLaws.{length-packets_of}
 use Rattle.dtx_jobs.specs.Place.{has_sync}
-use Rattle.dtx_jobs.specs.GivenLaws.{all_read, none_found}
+use Rattle.dtx_jobs.specs.GivenLaws.{all_read, first_read, none_found}
 use Rattle.dtx_jobs.specs.Shapes.{blocks, dvb_packets}
 use Rattle.dtx_jobs.proofs.DvbChunks.{chunks_flat, packets_are}
 use Rattle.dtx_jobs.proofs.StreamSymbols.{front_of}
@@ -94,10 +94,7 @@ pub too_many_sent : (names : List (List ℕ)) (stream : List ℕ) → 624000000 
     → HaveSyncs stream 624000000
     → meaning_of_file dvb_packets dvb_coding names stream ≡ sent_until names stream 624000000 TooLong
 too_many_sent names stream many syncs =
-    let is : course dvb_packets dvb_coding stream ≡ record { taken = 624000000; ending = Refused TooLong } =
-    ap (course_from dvb_packets stream) (all_begin stream 624000000 (omega arith) syncs)
-    ∙ cond-true _ _ _ (lt-ltb 624000000 (whole_packets stream) many) in
-    ap (λ (c : Course). meaning_at dvb_coding names (take (188 * c.taken) stream) c.ending) is
+    first_read dvb_packets dvb_coding names stream (all_begin stream 624000000 (omega arith) syncs) many
     ∙ cut_sent names stream 624000000 TooLong (omega (arith, many))
 
 -- ---- what is read
@@ -137,12 +134,26 @@ blocks_all_read names bytes few =
     }) (append-nil (bytes_of_reads (read_dvb front)))
     ∙ ap₂ means many (blocks_read bytes)
 
+-- what the first blocks give are the first of all packets
+first_blocks : (bytes : List ℕ) (n : ℕ) → n ≤ whole_blocks bytes
+    → read_dvb (take (204 * n) bytes) ≡ take (n - 11) (read_dvb bytes)
+first_blocks bytes n within =
+    let front : List ℕ = take (204 * n) bytes in
+    let rest : List ℕ = drop (204 * n) bytes in
+    let m : ℕ = whole_blocks bytes - n in
+    let long : length front ≡ 204 * n = length-take-le (204 * n) bytes (omega (arith, within)) in
+    let all : front ++ rest ≡ bytes = take-append-drop (204 * n) bytes in
+    let is : read_dvb (front ++ rest) ≡ read_dvb front ++ next_of (front ++ rest) n m =
+    read_more front rest n m (omega (arith, long)) (omega (arith, within, ap length all)) in
+    sym (ap (λ z. take (n - 11) (read_dvb z)) (sym all) ∙ ap (take (n - 11)) is
+    ∙ take_at (read_dvb front) (next_of (front ++ rest) n m) (n - 11) (omega (arith, long, length-read front)))
+
 pub too_many : (names : List (List ℕ)) (bytes : List ℕ) → 624000000 < whole_blocks bytes
-    → (meaning_of_file blocks dvb_reading names bytes).outcome ≡ ended TooLong
+    → meaning_of_file blocks dvb_reading names bytes ≡ read_until names bytes
 too_many names bytes many =
-    let is : course blocks dvb_reading bytes ≡ record { taken = 624000000; ending = Refused TooLong } =
-    ap (course_from blocks bytes) (all_allowed bytes) ∙ cond-true _ _ _ (lt-ltb 624000000 (whole_blocks bytes) many) in
-    ap (λ (c : Course). (meaning_at dvb_reading names (take (204 * c.taken) bytes) c.ending).outcome) is
+    first_read blocks dvb_reading names bytes (all_allowed bytes) many
+    ∙ ap (λ reads. record { outcome = ended TooLong; outputs = outputs_of names (only (bytes_of_reads reads)) })
+    (first_blocks bytes 624000000 (omega (arith, many)))
 
 -- ---- what comes back
 

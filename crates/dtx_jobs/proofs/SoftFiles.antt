@@ -5,16 +5,13 @@ use Rattle.std.proofs.Common.{arith}
 use Rattle.std.specs.Prelude.{None}
 use Rattle.std.specs.List.{range_with_len}
 use Rattle.std.proofs.Math.Seq.{take-add}
-use Rattle.std.proofs.lemmas.Bool.{cond-true, eqb-true, lt-ltb}
+use Rattle.std.proofs.lemmas.Bool.{eqb-true}
 use Rattle.std.proofs.lemmas.List.{append_assoc, drop-drop, get_or-take, length-take-le, map-append}
-use Rattle.std.proofs.lemmas.List.{take-append-drop, take_at}
+use Rattle.std.proofs.lemmas.List.{take-append-drop}
 use Rattle.std.proofs.lemmas.List.Elements.{All-get_or}
-use Rattle.std.proofs.lemmas.List.FromFn.{length-map-range_with_len}
 use Rattle.dtx_coder.specs.Stream.{symbols_of}
 use Rattle.dtx_engine.specs.Made.{only, outputs_of}
-use Rattle.dtx_engine.specs.Recipe.{Course, course, course_from, first_refused, meaning_at, meaning_of_file}
-use Rattle.dtx_engine.specs.Recipe.{whole_units}
-use Rattle.dtx_engine.specs.declared.piece.Ending.TheVariants.{Refused}
+use Rattle.dtx_engine.specs.Recipe.{first_refused, meaning_of_file, whole_units}
 use Rattle.dtx_files.specs.AppendedLaws.{segment_bytes-append}
 use Rattle.dtx_files.specs.Symbols.{byte_of_symbol, segment_bytes}
 use Rattle.dtx_lists.proofs.Below.{at_below}
@@ -23,14 +20,13 @@ use Rattle.dtx_meaning.specs.Status.{ended}
 use Rattle.dtx_meaning.specs.declared.status.Status.TheVariants.{Done, TooLong}
 use Rattle.dtx_receiver.specs.Intervals.{NoneLooks}
 use Rattle.dtx_soft.specs.Softened.{softened_cost}
-use Rattle.dtx_jobs.specs.GivenLaws.{all_read, none_found}
+use Rattle.dtx_jobs.specs.GivenLaws.{all_read, first_read, none_found}
 use Rattle.dtx_jobs.specs.Shapes.{segments}
 use Rattle.dtx_jobs.specs.Soft.{counted, has_group, soft_numbers, soft_rest, soft_so_far, soft_symbols, softening}
 use Rattle.dtx_jobs.specs.SoftFields.{copied_of, softened_of, softened_until}
 use Rattle.dtx_jobs.specs.SoftLaws.{all_is, so_far_on}
 use Rattle.dtx_jobs.specs.SymbolFile.{file_segments, segment_at, segments_from, symbol_of_byte, symbols, whole_segments}
-use Rattle.dtx_jobs.specs.SymbolFileLaws.{file_segments-whole, length-segments_of, segments_from-append}
-use Rattle.dtx_jobs.specs.SymbolFileLaws.{segments_from-piece}
+use Rattle.dtx_jobs.specs.SymbolFileLaws.{file_segments-whole, first_segments, length-segments_of}
 use Rattle.dtx_jobs.proofs.SoftFields.{none_stay, nothing_counted}
 
 -- ---- the end of the file
@@ -53,26 +49,10 @@ all_softened names file few =
     ∙ ap segment_bytes (all_is (file_segments front)))
     ∙ ap (λ list. means list (segment_bytes (soft_symbols list))) (file_segments-whole file)
 
--- the first segments of a file
-first_segments : (file : List ℕ) (n : ℕ) → n ≤ whole_segments file
-    → file_segments (take (832 * n) file) ≡ take n (file_segments file)
-first_segments file n within =
-    let long : length (take (832 * n) file) ≡ 832 * n = length-take-le (832 * n) file (omega (arith, within)) in
-    let many : whole_segments (take (832 * n) file) ≡ n = omega (arith, long) in
-    let all : whole_segments file ≡ n + (whole_segments file - n) = omega (arith, within) in
-    ap (segments_from (take (832 * n) file) 0) many ∙ segments_from-piece file 0 n
-    ∙ sym (ap (λ m. take n (segments_from file 0 m)) all
-    ∙ ap (take n) (segments_from-append file 0 n (whole_segments file - n))
-    ∙ take_at (segments_from file 0 n) (segments_from file (0 + n) (whole_segments file - n)) n
-    (length-map-range_with_len (segment_at file) 0 n))
-
 pub too_many_segments : (names : List (List ℕ)) (file : List ℕ) → 626000000 < whole_segments file
     → meaning_of_file segments softening names file ≡ softened_until names file
 too_many_segments names file many =
-    let is : course segments softening file ≡ record { taken = 626000000; ending = Refused TooLong } =
-    ap (course_from segments file) (all_allowed file)
-    ∙ cond-true _ _ _ (lt-ltb 626000000 (whole_segments file) many) in
-    ap (λ (c : Course). meaning_at softening names (take (832 * c.taken) file) c.ending) is
+    first_read segments softening names file (all_allowed file) many
     ∙ ap (λ (list : List (List ℤ)). record {
       outcome = ended TooLong;
       outputs = outputs_of names (only (segment_bytes (soft_so_far list)));

@@ -8,8 +8,9 @@ use Rattle.dtx_engine.specs.Made.{only, outputs_of}
 use Rattle.dtx_meaning.specs.Meaning.{Meaning}
 use Rattle.dtx_meaning.specs.Status.{ended}
 use Rattle.dtx_meaning.specs.declared.status.Status.{Status}
-use Rattle.dtx_meaning.specs.declared.status.Status.TheVariants.{Done}
+use Rattle.dtx_meaning.specs.declared.status.Status.TheVariants.{Done, TooLong}
 use Rattle.dtx_packets.specs.Packets.{packet_at, packets_of, whole_packets}
+use Rattle.dtx_sizes.specs.declared.limits.TheConstants.{MOST_PACKETS}
 use Rattle.dtx_jobs.specs.DvbCode.{dvb_code_answer}
 use Rattle.dtx_jobs.specs.DvbRead.{bytes_of_reads, dvb_read_answer}
 use Rattle.dtx_jobs.specs.Place.{has_sync}
@@ -37,6 +38,14 @@ abbrev pub read_of : List (List ℕ) → List ℕ → Meaning
 read_of names bytes = record {
   outcome = dvb_read_answer bytes (length bytes % 204);
   outputs = outputs_of names (only (bytes_of_reads (read_dvb bytes)));
+}
+
+-- and where there are more than may be: the packets that the first ones give, as many as may be, which are the first
+-- of all
+abbrev pub read_until : List (List ℕ) → List ℕ → Meaning
+read_until names bytes = record {
+  outcome = ended TooLong;
+  outputs = outputs_of names (only (bytes_of_reads (take (MOST_PACKETS - 11) (read_dvb bytes))));
 }
 
 -- and where a stream comes back, with so many bytes put right: its packets but the last eleven, none of them flagged

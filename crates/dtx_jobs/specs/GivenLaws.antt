@@ -1,28 +1,32 @@
 -- Laws of what is received of a whole symbol file, whichever receiver it is; its bytes may have damage laid over them.
-use Rattle.std.proofs.Common.{◌≡◌, ℕ, ◌*◌, ◌/◌, ◌%◌, ◌≤◌, List, [], ◌∷◌, length, take, drop, sym, ap, ap₂, ◌∙◌}
-use Rattle.std.proofs.Common.{refl, arith}
+use Rattle.std.proofs.Common.{◌≡◌, ◌≢◌, ◌↔◌, ℕ, ◌*◌, ◌/◌, ◌%◌, ◌<◌, ◌≤◌, List, [], ◌∷◌, length, take, drop, sym, ap}
+use Rattle.std.proofs.Common.{ap₂, ◌∙◌, subst, refl, arith}
 use Rattle.std.specs.Prelude.{ℤ, true, not, min, None}
 use Rattle.std.specs.List.{find, flat_map, range_with_len}
-use Rattle.std.proofs.lemmas.Bool.{cond-false, cond-true, le-ltb, eq-eqb}
+use Rattle.std.proofs.lemmas.Bool.{cond-false, cond-true, le-ltb, lt-ltb, eq-eqb, ne_eqb}
 use Rattle.std.proofs.lemmas.List.{take_at, take-append-drop, length-take-le}
 use Rattle.dtx_engine.specs.Made.{Made, only, outputs_of}
 use Rattle.dtx_engine.specs.Recipe.{Recipe, Course, course, course_from, first_refused, first_units, meaning_at}
 use Rattle.dtx_engine.specs.Recipe.{meaning_of_file, whole_units}
 use Rattle.dtx_engine.specs.declared.engine.Shape.{Shape}
-use Rattle.dtx_engine.specs.declared.piece.Ending.TheVariants.{Whole}
+use Rattle.dtx_engine.specs.declared.piece.Ending.TheVariants.{Whole, Refused}
 use Rattle.dtx_make.specs.Hurt.{hurt, damaged_bytes}
 use Rattle.dtx_make.specs.LaidLaws.{hurt-append, length-hurt}
 use Rattle.dtx_meaning.specs.Meaning.{Meaning}
 use Rattle.dtx_meaning.specs.Status.{ended}
-use Rattle.dtx_meaning.specs.declared.status.Status.TheVariants.{NoSync}
+use Rattle.dtx_meaning.specs.declared.status.Outcome.{Outcome}
+use Rattle.dtx_meaning.specs.declared.status.Status.TheVariants.{Done, NoSync, TooLong}
 use Rattle.dtx_plan.specs.declared.damage.Damage.{Damage}
+use Rattle.dtx_receiver.specs.Intervals.{NoneLooks}
+use Rattle.dtx_receiver.specs.IntervalsLaws.{no_runs}
 use Rattle.dtx_receiver.specs.Runs.{runs}
 use Rattle.dtx_jobs.specs.Damaged.{damaged_making}
-use Rattle.dtx_jobs.specs.Giving.{Giving, IsGiving, all_bytes, answer_of, bytes_of, given_of, receiving_by}
+use Rattle.dtx_jobs.specs.Giving.{Giving, IsGiving, all_bytes, answer_of, bytes_of, given_numbers, given_of}
+use Rattle.dtx_jobs.specs.Giving.{given_until, no_sync_in, receiving_by}
 use Rattle.dtx_jobs.specs.GivingLaws.{bytes_of-all, receives_whole}
 use Rattle.dtx_jobs.specs.Shapes.{segments}
 use Rattle.dtx_jobs.specs.SymbolFile.{file_segments, whole_segments}
-use Rattle.dtx_jobs.specs.SymbolFileLaws.{file_segments-whole}
+use Rattle.dtx_jobs.specs.SymbolFileLaws.{file_segments-whole, first_segments, length-segments_of}
 
 -- ---- the end of a file whose units are all allowed
 
@@ -51,6 +55,16 @@ unfolding first_refused
 all_damaged_allowed giving damage file =
     none_found (range_with_len 0 (min (whole_units segments file) segments.limit))
 
+-- and where it has more, as many as it may have are
+pub first_read : (shape : Shape) (recipe : Recipe) (names : List (List ℕ)) (file : List ℕ)
+    → first_refused shape recipe file ≡ None → shape.limit < whole_units shape file
+    → meaning_of_file shape recipe names file
+    ≡ meaning_at recipe names (first_units shape file shape.limit) (Refused TooLong)
+first_read shape recipe names file none many =
+    let is : course shape recipe file ≡ record { taken = shape.limit; ending = Refused TooLong } =
+    ap (course_from shape file) none ∙ cond-true _ _ _ (lt-ltb shape.limit (whole_units shape file) many) in
+    ap (λ (c : Course). meaning_at recipe names (first_units shape file c.taken) c.ending) is
+
 -- ---- of all segments
 
 -- only the whole segments count
@@ -71,6 +85,16 @@ pub all_given : (giving : Giving) → IsGiving giving → (names : List (List �
 all_given giving is names file few =
     all_read segments (receiving_by giving) names file (all_allowed giving file) few
     ∙ given_front giving is names file (length file % 832)
+
+-- and one with more: what the first ones give while they come
+pub first_given : (giving : Giving) (names : List (List ℕ)) (file : List ℕ) → 626000000 < whole_segments file
+    → meaning_of_file segments (receiving_by giving) names file ≡ given_until giving names file
+first_given giving names file many =
+    first_read segments (receiving_by giving) names file (all_allowed giving file) many
+    ∙ ap (λ (list : List (List ℤ)). record {
+      outcome = ended TooLong;
+      outputs = outputs_of names (only (bytes_of (giving.so_far list)));
+    }) (first_segments file 626000000 (omega (arith, many)))
 
 -- the first bytes of a damaged file are the damaged first bytes
 hurt_front : (damage : List Damage) (file : List ℕ) (n : ℕ) → n ≤ length file
@@ -96,7 +120,18 @@ all_damaged_given giving is names damage file few =
     (hurt_front damage file n (omega arith) ∙ ap (λ m. take m (hurt damage file)) many)
     ∙ given_front giving is names (hurt damage file) (length file % 832)
 
--- ---- where nothing looks like a field sync
+-- ---- where something looks like a field sync, and where nothing does
+
+-- there is no run just where no segment of a file does
+pub no_run_in : (file : List ℕ)
+    → (length (runs (file_segments file)) ≡ 0) ↔ NoneLooks (file_segments file) 0 (whole_segments file)
+no_run_in file =
+    subst (λ (n : ℕ). (length (runs (file_segments file)) ≡ 0) ↔ NoneLooks (file_segments file) 0 n)
+    (length-segments_of file) (no_runs (file_segments file))
+
+pub sync_answered : (giving : Giving) (list : List (List ℤ)) (loose : ℕ) → length (runs list) ≢ 0
+    → answer_of giving list loose ≡ record { status = Done; numbers = given_numbers giving list loose; shown = 6 }
+sync_answered giving list loose some = cond-false _ _ _ (ne_eqb (length (runs list)) 0 some)
 
 -- there is no packet
 pub nothing_given : (giving : Giving) → IsGiving giving → (file : List ℕ) → length (runs (file_segments file)) ≡ 0
@@ -107,3 +142,24 @@ nothing_given giving is file none =
 pub no_sync_answered : (giving : Giving) (list : List (List ℤ)) (loose : ℕ) → length (runs list) ≡ 0
     → answer_of giving list loose ≡ ended NoSync
 no_sync_answered giving list loose none = cond-true _ _ _ (eq-eqb (length (runs list)) 0 none)
+
+-- what is answered and written then, of a file with no more segments than are received
+pub nothing_received : (giving : Giving) → IsGiving giving → (names : List (List ℕ)) (file : List ℕ)
+    → whole_segments file ≤ 626000000 → NoneLooks (file_segments file) 0 (whole_segments file)
+    → meaning_of_file segments (receiving_by giving) names file ≡ no_sync_in names
+nothing_received giving is names file few none =
+    let means : Outcome → List ℕ → Meaning =
+    λ outcome bytes. record { outcome = outcome; outputs = outputs_of names (only bytes) } in
+    let no_run : length (runs (file_segments file)) ≡ 0 = (no_run_in file).1 none in
+    all_given giving is names file few
+    ∙ ap₂ means (no_sync_answered giving (file_segments file) (length file % 832) no_run)
+    (nothing_given giving is file no_run)
+
+-- and where one does
+pub done_received : (giving : Giving) → IsGiving giving → (names : List (List ℕ)) (file : List ℕ)
+    → whole_segments file ≤ 626000000 → (NoneLooks (file_segments file) 0 (whole_segments file) → ⊥)
+    → (meaning_of_file segments (receiving_by giving) names file).outcome.status ≡ Done
+done_received giving is names file few some =
+    ap (λ (m : Meaning). m.outcome.status) (all_given giving is names file few)
+    ∙ ap (λ (o : Outcome). o.status) (sync_answered giving (file_segments file) (length file % 832)
+    (λ e. some ((no_run_in file).0 e)))

@@ -1,15 +1,16 @@
 -- What a receiver gives for segments, whichever receiver it is, and what is made of a symbol file by it (ATSC A/53
 -- Part 2, the way back).
-use Rattle.std.specs.Prelude.{◌≡◌, ℕ, ℤ, ◌==◌, true, if◌then◌else◌, List, [], ◌∷◌, ◌++◌, length, map, drop}
+use Rattle.std.specs.Prelude.{◌≡◌, ℕ, ℤ, ◌==◌, true, if◌then◌else◌, List, [], ◌∷◌, ◌++◌, length, map, take, drop}
 use Rattle.std.specs.List.{flat_map}
 use Rattle.dtx_engine.specs.Made.{only, outputs_of}
 use Rattle.dtx_engine.specs.Recipe.{Recipe}
 use Rattle.dtx_meaning.specs.Meaning.{Meaning}
 use Rattle.dtx_meaning.specs.Status.{ended}
 use Rattle.dtx_meaning.specs.declared.status.Outcome.{Outcome}
-use Rattle.dtx_meaning.specs.declared.status.Status.TheVariants.{Done, NoSync}
+use Rattle.dtx_meaning.specs.declared.status.Status.TheVariants.{Done, NoSync, TooLong}
 use Rattle.dtx_receiver.specs.Runs.{runs}
 use Rattle.dtx_receiver.specs.declared.batch.Received.{Received}
+use Rattle.dtx_sizes.specs.declared.limits.TheConstants.{MOST_SEGMENTS}
 use Rattle.dtx_jobs.specs.SymbolFile.{file_segments}
 use Rattle.dtx_jobs.specs.Tally.{numbers_in, tally_of}
 
@@ -71,3 +72,14 @@ given_of giving names file loose = record {
   outcome = answer_of giving (file_segments file) loose;
   outputs = outputs_of names (only (all_bytes giving file));
 }
+
+-- and of one that has more segments than may be: what the first ones give while they come, as many as may be
+abbrev pub given_until : Giving → List (List ℕ) → List ℕ → Meaning
+given_until giving names file = record {
+  outcome = ended TooLong;
+  outputs = outputs_of names (only (bytes_of (giving.so_far (take MOST_SEGMENTS (file_segments file)))));
+}
+
+-- and where no segment looks like a field sync
+abbrev pub no_sync_in : List (List ℕ) → Meaning
+no_sync_in names = record { outcome = ended NoSync; outputs = outputs_of names (only []) }

@@ -1,10 +1,10 @@
 -- Laws of what is made of symbols, whichever receiver it is: it grows with them, and with what the end brings it is all
 -- packets.
-use Rattle.std.proofs.Common.{◌≡◌, ℕ, ◌%◌, List, [], ◌∷◌, ◌++◌, length, map, drop, refl, sym, ap, ◌∙◌}
+use Rattle.std.proofs.Common.{◌≡◌, ℕ, ◌%◌, List, [], ◌∷◌, ◌++◌, length, map, take, drop, refl, sym, ap, ◌∙◌}
 use Rattle.std.specs.Prelude.{ℤ}
 use Rattle.std.specs.List.{flat_map}
 use Rattle.std.proofs.lemmas.Grind.{flat_map-append}
-use Rattle.std.proofs.lemmas.List.{append_assoc, append-nil, drop_at}
+use Rattle.std.proofs.lemmas.List.{append_assoc, append-nil, drop_at, take-append-drop}
 use Rattle.dtx_engine.specs.Made.{only, joined, AreFrontsOf}
 use Rattle.dtx_receiver.specs.declared.batch.Received.{Received}
 use Rattle.dtx_jobs.specs.Giving.{Giving, IsGiving, all_bytes, bytes_of, early_bytes, end_bytes, receiving_by}
@@ -14,16 +14,16 @@ use Rattle.dtx_jobs.specs.SymbolFileLaws.{file_segments-append}
 pub bytes_of-append : (a b : List Received) → bytes_of (a ++ b) ≡ bytes_of a ++ bytes_of b
 bytes_of-append a b = flat_map-append (λ (p : Received). p.packet.0) a b
 
-flat_map-map : (ps : List Received)
+pub flat_bytes : (ps : List Received)
     → flat_map (λ (p : List ℕ). p) (map (λ (r : Received). r.packet.0) ps) ≡ bytes_of ps
-flat_map-map [] = refl
-flat_map-map (p ∷ ps) = ap (λ z. p.packet.0 ++ z) (flat_map-map ps)
+flat_bytes [] = refl
+flat_bytes (p ∷ ps) = ap (λ z. p.packet.0 ++ z) (flat_bytes ps)
 
 -- the bytes of the packets of segments
 pub bytes_of-all : (giving : Giving) → IsGiving giving → (segments : List (List ℤ))
     → flat_map (λ (p : List ℕ). p) (giving.packets segments) ≡ bytes_of (giving.all segments)
 bytes_of-all giving is segments =
-    ap (flat_map (λ (p : List ℕ). p)) (is.packets segments) ∙ flat_map-map (giving.all segments)
+    ap (flat_map (λ (p : List ℕ). p)) (is.packets segments) ∙ flat_bytes (giving.all segments)
 
 -- with more segments there are more packets behind
 pub given_on : (giving : Giving) → IsGiving giving → (segments more : List (List ℤ))
@@ -36,6 +36,18 @@ given_on giving is segments (x ∷ more) =
       first.0 ++ rest.0,
       ap giving.so_far (sym (append_assoc segments (x ∷ []) more)) ∙ rest.1 ∙ ap (λ z. z ++ rest.0) first.1
           ∙ append_assoc (giving.so_far segments) first.0 rest.0,
+    )
+
+-- what is given while the first segments come is a front part of what all give
+pub front_given : (giving : Giving) → IsGiving giving → (segments : List (List ℤ)) (n : ℕ)
+    → (rest : List Received) × (giving.all segments ≡ giving.so_far (take n segments) ++ rest)
+front_given giving is segments n =
+    let on = given_on giving is (take n segments) (drop n segments) in
+    let end = is.end segments in (
+      on.0 ++ end.0,
+      end.1
+          ∙ ap (λ list. list ++ end.0) (ap giving.so_far (sym (take-append-drop n segments)) ∙ on.1)
+          ∙ append_assoc (giving.so_far (take n segments)) on.0 end.0,
     )
 
 -- ---- what is made

@@ -16,7 +16,7 @@ use Rattle.dtx_outer.specs.Inner.{IsComplete, word_at}
 use Rattle.dtx_packets.specs.Packets.{packets_of}
 use Rattle.dtx_receiver.specs.Bytes.{bytes_in, groups_of}
 use Rattle.dtx_receiver.specs.Intervals.{segments_in}
-use Rattle.dtx_jobs.specs.Giving.{all_bytes, given_of}
+use Rattle.dtx_jobs.specs.Giving.{all_bytes, given_of, given_until}
 use Rattle.dtx_jobs.specs.Mend.{with_mendings}
 use Rattle.dtx_jobs.specs.SymbolFile.{file_segments, whole_segments}
 
@@ -27,6 +27,10 @@ mended_bytes file = all_bytes with_mendings file
 -- what `mend` answers and writes of all segments of a symbol file
 abbrev pub mended_of : List (List ℕ) → List ℕ → Meaning
 mended_of names file = given_of with_mendings names file (length file % 832)
+
+-- and of one that has more segments than may be: what the first ones give while they come, as many as may be
+abbrev pub mended_until : List (List ℕ) → List ℕ → Meaning
+mended_until names file = given_until with_mendings names file
 
 -- no symbol of a file's whole segments is missing: the byte of a symbol of value -128 is 0x80
 abbrev pub NoneMissing : List ℕ → Type 0

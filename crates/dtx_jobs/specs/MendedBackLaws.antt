@@ -1,11 +1,10 @@
 -- Laws of what `mend` gives back of a stream's symbols of which some are missing and some are damaged.
 use Rattle.std.proofs.Common.{◌≡◌, ℕ, ℤ, ◌+◌, ◌*◌, ◌/◌, ◌%◌, ◌<◌, ◌≤◌, Bool, Some, List, [], ◌∷◌, ◌++◌}
-use Rattle.std.proofs.Common.{length, map, get_or, refl, sym, ap, ap₂, ◌∙◌, arith}
-use Rattle.std.specs.Prelude.{if◌then◌else◌, option_map, slice_get, ◌==◌}
+use Rattle.std.proofs.Common.{length, map, take, get_or, refl, sym, ap, ap₂, ◌∙◌, subst, arith}
+use Rattle.std.specs.Prelude.{option_map, slice_get}
 use Rattle.std.specs.List.{All, filter, flat_map, range_with_len, sum_by}
-use Rattle.std.proofs.lemmas.Bool.{cond-false, ne_eqb}
-use Rattle.std.proofs.lemmas.List.{append-nil, length-map}
-use Rattle.std.proofs.lemmas.List.Elements.{All-map}
+use Rattle.std.proofs.lemmas.List.{append-nil, length-map, map-append, take_at}
+use Rattle.std.proofs.lemmas.List.Elements.{All-map, All-take}
 use Rattle.std.proofs.lemmas.List.Folds.{flat_map-map}
 use Rattle.std.proofs.lemmas.List.Sums.{sum_by-cons}
 use Rattle.std.proofs.lemmas.Option.{slice_get-map}
@@ -23,33 +22,34 @@ use Rattle.dtx_engine.specs.Made.{only, outputs_of}
 use Rattle.dtx_engine.specs.Recipe.{meaning_of_file}
 use Rattle.dtx_erase.specs.ChosenLaws.{mending_is}
 use Rattle.dtx_erase.specs.Marks.{marks_in}
-use Rattle.dtx_erase.specs.Mended.{all_mended, marks_at, mended, mended_at, mended_run, mended_run_packets, mending}
-use Rattle.dtx_erase.specs.UnmarkedLaws.{as_many, mended_packet}
+use Rattle.dtx_erase.specs.Mended.{all_mended, marks_at, mended, mended_at, mended_run, mended_run_packets}
+use Rattle.dtx_erase.specs.Mended.{mended_so_far, mending}
+use Rattle.dtx_erase.specs.UnmarkedLaws.{as_many, as_many_so_far, mended_packet}
 use Rattle.dtx_laws.specs.Codeword.{distance}
 use Rattle.dtx_meaning.specs.Meaning.{Meaning}
-use Rattle.dtx_meaning.specs.Status.{ended}
 use Rattle.dtx_meaning.specs.declared.status.Outcome.{Outcome}
-use Rattle.dtx_meaning.specs.declared.status.Status.TheVariants.{Done, NoSync}
 use Rattle.dtx_outer.specs.Inner.{word_at}
 use Rattle.dtx_outer.specs.WordsLaws.{length-word}
 use Rattle.dtx_packets.specs.Packets.{packets_of}
 use Rattle.dtx_receiver.specs.Bytes.{bytes_in}
 use Rattle.dtx_receiver.specs.Intervals.{AreRuns, segments_in}
-use Rattle.dtx_receiver.specs.Packets.{all_packets, is_complete, received}
+use Rattle.dtx_receiver.specs.Packets.{all_packets, is_complete, packets_so_far, received}
 use Rattle.dtx_receiver.specs.Runs.{runs}
 use Rattle.dtx_receiver.specs.declared.batch.Received.{Received}
-use Rattle.dtx_jobs.specs.GivenLaws.{all_given}
-use Rattle.dtx_jobs.specs.Giving.{answer_of}
+use Rattle.dtx_jobs.specs.GivenLaws.{all_given, sync_answered}
+use Rattle.dtx_jobs.specs.Giving.{Giving, IsGiving, answer_of, bytes_of}
+use Rattle.dtx_jobs.specs.GivingLaws.{flat_bytes}
 use Rattle.dtx_jobs.specs.Mend.{mending_symbols, with_mendings}
 use Rattle.dtx_jobs.specs.MendLaws.{mendings_given}
 use Rattle.dtx_jobs.specs.MendedBack.{CanAllBeMended, CanBeMended, IsMendedBack, all_back_of, mended_bytes, mended_of}
 use Rattle.dtx_jobs.specs.MendedBack.{IsMendable, packets_before, word_marks, word_of}
 use Rattle.dtx_jobs.specs.PacketFileLaws.{IsLong, length-bytes_of_packets, packets_of-bytes}
-use Rattle.dtx_jobs.specs.Receive.{received_bytes}
+use Rattle.dtx_jobs.specs.Receive.{received_bytes, with_corrections}
+use Rattle.dtx_jobs.specs.ReceiveLaws.{corrections_given}
 use Rattle.dtx_jobs.specs.Shapes.{segments}
 use Rattle.dtx_jobs.specs.SymbolFile.{file_segments, whole_segments}
 use Rattle.dtx_jobs.specs.SymbolFileLaws.{length-segments_of}
-use Rattle.dtx_jobs.specs.Tally.{fixed_in, flagged_in, numbers_in as line_of, tally_of}
+use Rattle.dtx_jobs.specs.Tally.{fixed_in, flagged_in}
 
 -- ---- the packets that are written
 
@@ -98,6 +98,28 @@ as_long file =
     length-bytes_of_packets (mended list) (all_whole list)
     ∙ ap (λ n. 188 * n) (mended_count list ∙ as_many list ∙ sym (received_count list))
     ∙ sym (length-bytes_of_packets (received list) (all_received_whole list))
+
+-- and as many while segments come
+so_far_count : (giving : Giving) → IsGiving giving → (list : List (List ℤ)) → All IsLong (giving.packets list)
+    → length (bytes_of (giving.so_far list)) ≡ 188 * length (giving.so_far list)
+so_far_count giving is list long =
+    let byte : Received → List ℕ = λ r. r.packet.0 in
+    let early : List Received = giving.so_far list in
+    let end = is.end list in
+    let parts : giving.packets list ≡ map byte early ++ map byte end.0 =
+    is.packets list ∙ ap (map byte) end.1 ∙ map-append byte early end.0 in
+    ap length (sym (flat_bytes early))
+    ∙ length-bytes_of_packets (map byte early) (subst (λ (ps : List (List ℕ)). All IsLong ps)
+    (ap (take (length early)) parts ∙ take_at (map byte early) (map byte end.0) (length early) (length-map early byte))
+    (All-take IsLong (length early) (giving.packets list) long))
+    ∙ ap (λ n. 188 * n) (length-map early byte)
+
+pub as_long_so_far : (list : List (List ℤ))
+    → length (bytes_of (mended_so_far list)) ≡ length (bytes_of (packets_so_far list))
+as_long_so_far list =
+    so_far_count with_mendings mendings_given list (all_whole list)
+    ∙ ap (λ n. 188 * n) (as_many_so_far list)
+    ∙ sym (so_far_count with_corrections corrections_given list (all_received_whole list))
 
 -- ---- a packet of a run
 
@@ -183,14 +205,6 @@ unfolding as_corrected
 none_flagged stream f word [] = refl
 none_flagged stream f word (j ∷ js) = none_flagged stream f word js
 
--- the answer where there is one run
-one_answered : (list : List (List ℤ)) (all : List Received) (loose : ℕ) → length (runs list) ≡ 1
-    → (if length (runs list) == 0 then ended NoSync
-    else record { status = Done; numbers = line_of (tally_of list all) loose; shown = 6 })
-    ≡ record { status = Done; numbers = line_of (tally_of list all) loose; shown = 6 }
-one_answered list all loose one =
-    cond-false (length (runs list) == 0) _ _ (ne_eqb (length (runs list)) 0 (λ e. omega (arith, e, one)))
-
 answered : (stream : List (List ℕ)) (first : ℕ) (sent : List (List ℤ)) (file : List ℕ) → ArePackets stream
     → AreReceived stream first sent (file_segments file) → to_sync first < length sent
     → CanAllBeMended stream first sent (file_segments file) → (names : List (List ℕ))
@@ -203,7 +217,7 @@ answered stream first sent file packets received some can names =
     let one : length (runs got) ≡ 1 = ap length (one_run_left stream first sent got received some can.found) in
     let all : all_mended got ≡ back = all_corrected stream first sent got packets received some can in
     let count : length back ≡ length js = length-map js (λ j. as_corrected stream (f + j) (word_in first got j)) in
-    one_answered got (all_mended got) (length file % 832) one
+    sync_answered with_mendings got (length file % 832) (λ e. omega (arith, e, one))
     ∙ rw (
       all,
       one,

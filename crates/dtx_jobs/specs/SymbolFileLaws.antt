@@ -1,9 +1,9 @@
 -- Laws of the segments of a symbol file that is read piece by piece.
-use Rattle.std.proofs.Common.{◌≡◌, ℕ, ◌+◌, ◌-◌, ◌*◌, ◌%◌, ◌<◌, List, [], ◌∷◌, ◌++◌}
+use Rattle.std.proofs.Common.{◌≡◌, ℕ, ◌+◌, ◌-◌, ◌*◌, ◌%◌, ◌<◌, ◌≤◌, List, [], ◌∷◌, ◌++◌}
 use Rattle.std.proofs.Common.{length, take, drop, map, refl, sym, ap, ◌∙◌, arith}
 use Rattle.std.specs.Prelude.{ℤ}
 use Rattle.std.proofs.lemmas.List.{drop-drop, drop-take, take-take, map-append, append_assoc, length-append}
-use Rattle.std.proofs.lemmas.List.{length-take-le}
+use Rattle.std.proofs.lemmas.List.{length-take-le, take_at}
 use Rattle.std.proofs.lemmas.List.FromFn.{get_or-map-range_with_len, length-map-range_with_len, fill_by_all}
 use Rattle.std.proofs.lemmas.List.FromFn.{map-range_with_len_more}
 use Rattle.std.proofs.Math.Seq.{take-append_seam, drop-append_seam}
@@ -71,6 +71,19 @@ file_segments-whole file =
     length-take-le (832 * whole_segments file) file (omega arith) in
     let many : whole_segments (take (832 * whole_segments file) file) ≡ whole_segments file = omega (arith, all) in
     ap (segments_from (take (832 * whole_segments file) file) 0) many ∙ segments_from-piece file 0 (whole_segments file)
+
+-- the first segments of a file
+pub first_segments : (file : List ℕ) (n : ℕ) → n ≤ whole_segments file
+    → file_segments (take (832 * n) file) ≡ take n (file_segments file)
+first_segments file n within =
+    let long : length (take (832 * n) file) ≡ 832 * n = length-take-le (832 * n) file (omega (arith, within)) in
+    let many : whole_segments (take (832 * n) file) ≡ n = omega (arith, long) in
+    let all : whole_segments file ≡ n + (whole_segments file - n) = omega (arith, within) in
+    ap (segments_from (take (832 * n) file) 0) many ∙ segments_from-piece file 0 n
+    ∙ sym (ap (λ m. take n (segments_from file 0 m)) all
+    ∙ ap (take n) (segments_from-append file 0 n (whole_segments file - n))
+    ∙ take_at (segments_from file 0 n) (segments_from file (0 + n) (whole_segments file - n)) n
+    (length-map-range_with_len (segment_at file) 0 n))
 
 -- one segment more of a piece, behind those before
 pub segment_on : (segments : List (List ℤ)) (bytes : List ℕ) (i : ℕ) (chunk : List ℕ)

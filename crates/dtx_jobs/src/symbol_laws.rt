@@ -9,7 +9,8 @@ ghost use Rattle.dtx_meaning.specs.Status.{ended};
 ghost use Rattle.dtx_plan.specs.declared.damage.Damage.{Damage};
 ghost use Rattle.dtx_receiver.specs.Intervals.{AreRuns, NoneLooks};
 ghost use Rattle.dtx_jobs.specs.Damaged.{damaged_making};
-ghost use Rattle.dtx_jobs.specs.Receive.{IsWritten, receive_answer, received_bytes, receiving};
+ghost use Rattle.dtx_jobs.specs.Giving.{given_until};
+ghost use Rattle.dtx_jobs.specs.Receive.{IsWritten, receive_answer, received_bytes, receiving, with_corrections};
 ghost use Rattle.dtx_jobs.specs.ReceivedLaws.{received_of};
 ghost use Rattle.dtx_jobs.specs.Shapes as shapes;
 ghost use Rattle.dtx_jobs.specs.SymbolFile.{file_segments, whole_segments};
@@ -26,7 +27,8 @@ pub fn segments_in_pieces()
 {}
 
 /// Of a file with no more segments than are received all packets are written; so of the damaged bytes, where damage is
-/// laid over them.
+/// laid over them. Of a file with more that is the answer, and what the first ones give while they come is written, as
+/// many as may be.
 pub fn all_is_received()
     ensures plain { (names : List (List ℕ)) (file : List ℕ) → whole_segments file ≤ MOST_SEGMENTS
         → meaning_of_file shapes.segments receiving names file ≡ received_of names file (length file % 832) }
@@ -34,6 +36,8 @@ pub fn all_is_received()
         → whole_segments file ≤ MOST_SEGMENTS
         → meaning_of_file shapes.segments (damaged_making damage receiving) names file
         ≡ received_of names (hurt damage file) (length file % 832) }
+    ensures too_long { (names : List (List ℕ)) (file : List ℕ) → MOST_SEGMENTS < whole_segments file
+        → meaning_of_file shapes.segments receiving names file ≡ given_until with_corrections names file }
 {}
 
 /// Where no segment looks like a field sync, that is the answer, and no packet is written.

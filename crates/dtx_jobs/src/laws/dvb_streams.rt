@@ -4,9 +4,8 @@ ghost use Rattle.std.specs.Prelude.{◌≡◌, ◌<◌, ◌≤◌, ℕ, List, fa
 ghost use Rattle.dtx_dvb.specs.Damage.{ArePackets, IsSlight};
 ghost use Rattle.dtx_dvb.specs.Stream.{dvb};
 ghost use Rattle.dtx_engine.specs.Recipe.{meaning_of_file};
-ghost use Rattle.dtx_meaning.specs.Status.{ended};
 ghost use Rattle.dtx_packets.specs.Packets.{packet_at, packets_of, whole_packets};
-ghost use Rattle.dtx_jobs.specs.DvbBack.{HaveSyncs, back_of, read_of, sent_of, sent_until, wrong_in_all};
+ghost use Rattle.dtx_jobs.specs.DvbBack.{HaveSyncs, back_of, read_of, read_until, sent_of, sent_until, wrong_in_all};
 ghost use Rattle.dtx_jobs.specs.DvbCode.{dvb_coding};
 ghost use Rattle.dtx_jobs.specs.DvbRead.{dvb_reading, whole_blocks};
 ghost use Rattle.dtx_jobs.specs.Place.{has_sync};
@@ -31,12 +30,13 @@ pub fn all_is_sent()
         ≡ sent_until names stream MOST_PACKETS Status.TooLong }
 {}
 
-/// All whole blocks are read, where they are no more than may be; else that is the answer.
+/// All whole blocks are read, where they are no more than may be. Where there are more, that is the answer, and what
+/// the first ones give is written, as many as may be: the first of all packets.
 pub fn all_is_read()
     ensures whole { (names : List (List ℕ)) (bytes : List ℕ) → whole_blocks bytes ≤ MOST_PACKETS
         → meaning_of_file shapes.blocks dvb_reading names bytes ≡ read_of names bytes }
     ensures too_long { (names : List (List ℕ)) (bytes : List ℕ) → MOST_PACKETS < whole_blocks bytes
-        → (meaning_of_file shapes.blocks dvb_reading names bytes).outcome ≡ ended Status.TooLong }
+        → meaning_of_file shapes.blocks dvb_reading names bytes ≡ read_until names bytes }
 {}
 
 /// What is read of what was sent of a stream whose packets begin with 0x47, with at most eight wrong bytes in each word
