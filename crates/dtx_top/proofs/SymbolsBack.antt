@@ -1,15 +1,9 @@
 -- Every symbol that a transmitter sends, whatever it is given, is the symbol of its byte in the symbol file.
-use Rattle.std.proofs.Common.{◌≡◌, ℕ, zero, suc, ℤ, pos, negsuc, ◌+◌, ◌-◌, ◌*◌, ◌/◌, ◌%◌, ◌<◌, ◌≤◌, ◌==◌, Bool, true}
-use Rattle.std.proofs.Common.{false, cond, Option, Some, None, List, [], ◌∷◌, ◌++◌, length, map, take, drop, get_or}
-use Rattle.std.proofs.Common.{refl, arith}
+use Rattle.std.proofs.Common.{ℕ, ℤ, ◌+◌, ◌-◌, ◌*◌, ◌/◌, ◌%◌, ◌==◌, Bool, true, false, cond, Option, Some, None, List}
+use Rattle.std.proofs.Common.{[], ◌∷◌, ◌++◌, length, take, drop}
 use Rattle.std.specs.Prelude.{nat_le, is_ok, slice_index_or}
-use Rattle.std.specs.List.{flat_map, range_with_len, AllByRecursion}
-use Rattle.dtx_frame.specs.Segments.{bit_symbol, segment_sync, symbol_of, data_segment, inverted, mode_bits}
-use Rattle.dtx_frame.specs.Segments.{reserved_bits, sync_symbols, field_sync}
-use Rattle.dtx_frame.specs.Sequences.{pn511, pn63}
-use Rattle.dtx_frame.specs.RuleLaws.{level_at_small}
-use Rattle.dtx_trellis.specs.Groups.{level_at, levels_of}
-use Rattle.dtx_trellis.specs.Pairs.{groups}
+use Rattle.std.specs.List.{range_with_len}
+use Rattle.dtx_frame.specs.Segments.{field_sync}
 use Rattle.dtx_coder.specs.Along.{levels_since}
 use Rattle.dtx_coder.specs.Coded.{whole_groups}
 use Rattle.dtx_coder.specs.Stream.{segment, four_segments, last_of}
@@ -19,66 +13,12 @@ use Rattle.dtx_exciter.specs.Emission.{emission}
 use Rattle.dtx_exciter.specs.Order.{Order, orders}
 use Rattle.dtx_exciter.specs.Packets.{readings, under}
 use Rattle.dtx_exciter.specs.Told.{served}
-use Rattle.dtx_jobs.specs.SymbolsBackLaws.{AreBack, EachBack, IsBack, each_append, each_at, each_drop, each_map}
-use Rattle.dtx_jobs.specs.SymbolsBackLaws.{each_range}
-use Rattle.dtx_jobs.specs.SymbolsBackLaws.{each_take, level_back}
+use Rattle.dtx_jobs.specs.StreamBackLaws.{levels_small, segment_back, sync_back}
+use Rattle.dtx_jobs.specs.SymbolsBackLaws.{AreBack, EachBack, IsBack, each_at, each_drop, each_flat, each_range}
 use Rattle.dtx_net.specs.Lives.{lives_of}
 use Rattle.dtx_net.specs.Sent.{sent_segments}
 use Rattle.dtx_net.specs.Steps.{Step}
 use Rattle.dtx_plan.specs.declared.transmitter.Transmitter.{Transmitter}
-
--- ---- what holds of each element of a list
-
-each_flat : {X Y : Type 0} (P : Y → Type 0) (f : X → List Y) (xs : List X) → ((x : X) → AllByRecursion P (f x))
-    → AllByRecursion P (flat_map f xs)
-each_flat P f [] each = tt
-each_flat P f (x ∷ xs) each = each_append P (f x) (flat_map f xs) (each x) (each_flat P f xs each)
-
--- ---- symbols
-
-bit_back : (b : ℕ) → IsBack (bit_symbol b)
-unfolding bit_symbol
-bit_back b = by_test (b == 1)
-  where
-    by_test : (t : Bool) → IsBack (cond t (pos 5) (negsuc 4))
-    by_test true = refl
-    by_test false = refl
-
-bits_back : (bits : List ℕ) → AreBack (map bit_symbol bits)
-bits_back [] = tt
-bits_back (b ∷ bs) = (bit_back b, bits_back bs)
-
-front_back : AreBack segment_sync
-unfolding segment_sync
-front_back = bits_back (1 ∷ 0 ∷ 0 ∷ 1 ∷ [])
-
--- ---- segments
-
-levels_small : (s : ℕ) (q bytes : List ℕ) → AllByRecursion (λ z. z < 8) (levels_of s q bytes)
-unfolding levels_of
-levels_small s q bytes =
-    each_range (λ z. z < 8) (level_at s q bytes) 0 (3312 * groups bytes)
-    (λ d l m. level_at_small s d q bytes (omega (arith, m)))
-
-segment_back : (zs : List ℕ) (n : ℕ) → AllByRecursion (λ z. z < 8) zs → AreBack (segment zs n)
-unfolding segment data_segment
-segment_back zs n small =
-    each_append IsBack segment_sync (map symbol_of piece) front_back
-    (each_map (λ z. z < 8) IsBack symbol_of piece level_back
-    (each_take (λ z. z < 8) (828 * n + 828 - 828 * n) (drop (828 * n) zs)
-    (each_drop (λ z. z < 8) (828 * n) zs small)))
-  where
-    piece : List ℕ
-    piece = take (828 * n + 828 - 828 * n) (drop (828 * n) zs)
-
-sync_back : (second : Bool) (last : List ℤ) → AreBack last → AreBack (field_sync second last)
-unfolding field_sync sync_symbols
-sync_back second last back =
-    each_append IsBack (sync_symbols second) last
-    (each_append IsBack segment_sync (map bit_symbol bits) front_back (bits_back bits)) back
-  where
-    bits : List ℕ
-    bits = pn511 ++ pn63 ++ cond second (inverted pn63) pn63 ++ pn63 ++ mode_bits ++ reserved_bits
 
 -- ---- what is sent
 
