@@ -24,3 +24,5 @@ pub mod SoftStream
 pub mod StreamSymbols
 pub mod Tallied
 pub mod LivesOn
+pub mod WatchedFeed
+pub mod WatchedText

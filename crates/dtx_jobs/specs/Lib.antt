@@ -69,3 +69,4 @@ pub mod Tally
 pub mod Watch
 pub mod WatchLaws
 pub mod Watching
+pub mod WatchedFeed

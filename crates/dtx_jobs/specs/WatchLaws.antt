@@ -169,7 +169,7 @@ room_within t xs l h =
 
 -- ---- the numbers
 
-same_numbers : (p o s j u t a b c d e : ℕ) → o ≡ a → s ≡ b → j ≡ c → u ≡ d → t ≡ e
+pub same_numbers : (p o s j u t a b c d e : ℕ) → o ≡ a → s ≡ b → j ≡ c → u ≡ d → t ≡ e
     → ◌≡◌ {A = WatchTally} (record { packets = p; ops = o; slips = s; jumps = j; unread = u; stray = t })
     (record { packets = p; ops = a; slips = b; jumps = c; unread = d; stray = e })
 same_numbers p o s j u t a b c d e h1 h2 h3 h4 h5 =

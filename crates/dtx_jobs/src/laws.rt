@@ -4,6 +4,7 @@
 pub mod dvb_streams;
 pub mod mending;
 pub mod placing;
+pub mod watching;
 
 ghost use Rattle.std.specs.Prelude.{◌≡◌, ℕ, List, All, length};
 ghost use Rattle.dtx_adapter.specs.Feed.{feed};
