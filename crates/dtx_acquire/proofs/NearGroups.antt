@@ -1,7 +1,8 @@
 -- Whole groups whose symbols lie near those of paths: these paths are the least ones, and what is restored is what was
 -- sent.
 use Rattle.std.proofs.Common.{◌≡◌, ℕ, ℤ, pos, zero, suc, ◌+◌, ◌-◌, ◌*◌, ◌/◌, ◌%◌, ◌<◌, ◌≤◌, ◌⊎◌, inl, inr, ◌-ℤ◌}
-use Rattle.std.proofs.Common.{◌*ℤ◌, cond, nat_abs, nat_lt, List, [], ◌∷◌, ◌++◌, length, map, take, drop, get_or, sym, ap, ap₂, ◌∙◌}
+use Rattle.std.proofs.Common.{◌*ℤ◌, cond, nat_abs, nat_lt, List, [], ◌∷◌, ◌++◌, length, map, take, drop, get_or}
+use Rattle.std.proofs.Common.{sym, ap, ap₂, ◌∙◌}
 use Rattle.std.proofs.Common.{subst, arith}
 use Rattle.std.proofs.lemmas.Bool.{cases_lt}
 use Rattle.std.proofs.lemmas.Int.{ints}

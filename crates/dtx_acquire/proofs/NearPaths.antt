@@ -23,7 +23,8 @@ unfolding symbol_at
 nearer c y k x h = omega (arith, ints)
 
 squares_rise : (a b : ℕ) → a < b → a * a < b * b
-squares_rise a b l = (let e : b ≡ a + suc (b - suc a) = omega arith in subst (λ n. a * a < n * n) (sym e) (more (b - suc a)))
+squares_rise a b l =
+    (let e : b ≡ a + suc (b - suc a) = omega arith in subst (λ n. a * a < n * n) (sym e) (more (b - suc a)))
   where
     more : (k : ℕ) → a * a < (a + suc k) * (a + suc k)
     more k = omega arith

@@ -102,7 +102,8 @@ received_behind scale sent symbols h = record {
 received_front : (scale n : ℕ) (sent : List (List ℤ)) (symbols : List ℤ) → n ≤ length sent
     → AreReceived scale sent symbols → AreReceived scale (take n sent) (take (832 * n) symbols)
 received_front scale n sent symbols l h = record {
-  long = length-take-le (832 * n) symbols (omega (arith, h.long, l)) ∙ ap (λ k. 832 * k) (sym (length-take-le n sent l));
+  long = length-take-le (832 * n) symbols (omega (arith, h.long, l))
+      ∙ ap (λ k. 832 * k) (sym (length-take-le n sent l));
   near = λ i k m o.
       let p : i < n = omega (arith, m, length-take-le n sent l) in
       subst (λ (s : List ℤ). IsNear scale (get_or s k (pos 0)) (get_or (take (832 * n) symbols) (832 * i + k) (pos 0)))

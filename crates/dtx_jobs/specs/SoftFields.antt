@@ -63,8 +63,8 @@ copied_of names file = record {
   outputs = outputs_of names (only (take (832 * whole_segments file) file));
 }
 
--- and of the symbol file of a stream: its own bytes, at cost 0, with a field for each 78 groups of four packets that are
--- begun
+-- and of the symbol file of a stream: its own bytes, at cost 0, with a field for each 78 groups of four packets that
+-- are begun
 abbrev pub kept_of : List (List ℕ) → List ℕ → Meaning
 kept_of names stream = record {
   outcome = record {
