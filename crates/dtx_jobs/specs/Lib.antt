@@ -66,6 +66,7 @@ pub mod SymbolFileLaws
 pub mod Symbols
 pub mod SymbolsBackLaws
 pub mod Tally
+pub mod Transmit
 pub mod Watch
 pub mod WatchLaws
 pub mod Watching

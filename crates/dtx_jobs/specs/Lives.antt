@@ -1,5 +1,5 @@
 -- What an exciter makes of several lives, and its numbers.
-use Rattle.std.specs.Prelude.{ℕ, ◌*◌, List, length}
+use Rattle.std.specs.Prelude.{ℕ, List, length}
 use Rattle.std.specs.List.{flat_map}
 use Rattle.dtx_exciter.specs.Log.{log, emission_over}
 use Rattle.dtx_files.specs.LogText.{log_text}

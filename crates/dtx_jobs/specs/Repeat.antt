@@ -1,20 +1,18 @@
 -- What `repeat` makes of a symbol file (the profile's own, over ATSC A/53 Part 2 and in the manner of ATSC A/110).
-use Rattle.std.specs.Prelude.{ℕ, ℤ, ◌==◌, true, if◌then◌else◌, is_some, List, [], ◌∷◌, Option, Some, None, length, drop}
-use Rattle.std.specs.FinMap.{get}
+use Rattle.std.specs.Prelude.{ℕ, ℤ, ◌==◌, true, if◌then◌else◌, List, [], ◌∷◌, length, drop}
 use Rattle.dtx_engine.specs.Made.{Made}
-use Rattle.dtx_engine.specs.Recipe.{Recipe, meaning}
-use Rattle.dtx_meaning.specs.Meaning.{Meaning, refused}
+use Rattle.dtx_engine.specs.Recipe.{Recipe}
+use Rattle.dtx_meaning.specs.Meaning.{Meaning}
 use Rattle.dtx_meaning.specs.Status.{ended}
 use Rattle.dtx_meaning.specs.declared.status.Outcome.{Outcome}
-use Rattle.dtx_meaning.specs.declared.status.Status.TheVariants.{Done, NoSync, Same, Usage}
+use Rattle.dtx_meaning.specs.declared.status.Status.TheVariants.{Done, NoSync}
 use Rattle.dtx_outside.specs.Shelf.{Files}
 use Rattle.dtx_receiver.specs.Runs.{runs}
 use Rattle.dtx_repeat.specs.Lives.{lives, lives_so_far}
-use Rattle.dtx_words.specs.Names.{repeated}
-use Rattle.dtx_words.specs.Number.{number_in}
 use Rattle.dtx_jobs.specs.Lives.{sent_over, logged_over, lives_tally}
 use Rattle.dtx_jobs.specs.Shapes.{segments}
 use Rattle.dtx_jobs.specs.SymbolFile.{file_segments}
+use Rattle.dtx_jobs.specs.Transmit.{transmit_meaning}
 use Rattle.dtx_jobs.specs.declared.life_tally.LifeTally.{LifeTally}
 
 -- the symbols that the transmitter with this address and delay sends in these lives, and its log
@@ -63,20 +61,6 @@ repeating address delay = record {
   answer = λ bytes loose. repeat_answer address delay (file_segments bytes) loose;
 }
 
--- what is meant with these files
-abbrev pub repeat_at : ℕ → ℕ → List ℕ → List ℕ → List ℕ → Files → Meaning
-repeat_at address delay input output log held =
-    if is_some (repeated (input ∷ output ∷ log ∷ [])) then refused Same
-    else meaning segments (repeating address delay) 0 (output ∷ log ∷ []) (get held input)
-
--- what is meant where the words of the address and of the delay were read
-abbrev pub repeat_with : Option ℕ → Option ℕ → List ℕ → List ℕ → List ℕ → Files → Meaning
-repeat_with None delay input output log held = refused Usage
-repeat_with (Some address) None input output log held = refused Usage
-repeat_with (Some address) (Some delay) input output log held = repeat_at address delay input output log held
-
--- what `repeat IN ADDRESS DELAY OUT LOG` means: the address is at most 65,535, the delay at most 2^32 - 1
+-- what `repeat IN ADDRESS DELAY OUT LOG` means
 abbrev pub repeat_meaning : List (List ℕ) → Files → Meaning
-repeat_meaning (verb ∷ input ∷ address ∷ delay ∷ output ∷ log ∷ []) held =
-    repeat_with (number_in 65535 address) (number_in 4294967295 delay) input output log held
-repeat_meaning words held = refused Usage
+repeat_meaning words held = transmit_meaning segments repeating words held

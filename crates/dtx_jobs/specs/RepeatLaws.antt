@@ -15,7 +15,7 @@ use Rattle.dtx_repeat.specs.Lives.{lives, lives_so_far, packets_in}
 use Rattle.dtx_repeat.specs.LivesLaws.{AreGiven, lives_more, lives_end, some_more, some_last, no_lives}
 use Rattle.dtx_jobs.specs.Lives.{sent_over, logged_over}
 use Rattle.dtx_jobs.specs.LivesLaws.{sent_longer, logged_longer, sent_begun, logged_begun}
-use Rattle.dtx_jobs.specs.Repeat.{sent_in, repeating, repeated_files, repeated_so_far}
+use Rattle.dtx_jobs.specs.Repeat.{sent_in, repeating, repeated_files}
 use Rattle.dtx_jobs.specs.SymbolFile.{file_segments}
 use Rattle.dtx_jobs.specs.SymbolFileLaws.{file_segments-append}
 

@@ -1,12 +1,13 @@
 // An exciter that is given a feed, a piece of its packets at a time.
-ghost use Rattle.std.specs.Prelude.{◌≡◌, ◌+◌, ◌*◌, ◌/◌, ◌<◌, ◌≤◌, ◌++◌, ◌∷◌, [], ℕ, List, IfOk, length, map, take};
+ghost use Rattle.std.specs.Prelude.{◌≡◌, ◌+◌, ◌*◌, ◌/◌, ◌<◌, ◌≤◌, ◌++◌, ◌∷◌, [], ℕ, List, length, map, take};
 ghost use Rattle.dtx_exciter.specs.Packets.{group_part};
 ghost use Rattle.dtx_packets.specs.Packets.{packets_of};
-ghost use Rattle.dtx_jobs.specs.Excitation.{IsLife, WasExcited};
+ghost use Rattle.dtx_jobs.specs.Excitation.{IsLife};
 ghost use Rattle.dtx_jobs.specs.Life.{sent_bytes, logged_bytes};
 
 use crate::sending::Sending;
 use crate::shapes::single_packets;
+use crate::transmitting::Transmitting;
 use dtx_coder::AIR_SYMBOLS;
 use dtx_engine::{Engine, Shape};
 use dtx_exciter::Exciter;
@@ -34,20 +35,6 @@ pub(crate) struct Excitation {
 }
 
 impl Excitation {
-    /// The transmitter with this address, to which the feed takes `delay` ticks of 100 ns, was given nothing.
-    pub(crate) fn new(alloc: Global, address: u16, delay: u32) -> Result<Excitation, AllocError>
-        ensures life { IfOk result (λ state. WasExcited state []) }
-        ensures address { IfOk result (λ state. state.address ≡ address) }
-        ensures delay { IfOk result (λ state. state.delay ≡ delay) }
-    {
-        Ok(Excitation {
-            address,
-            delay,
-            exciter: Box::new(alloc, Exciter::new(alloc, address, delay)?)?,
-            sending: Sending::new(alloc)?,
-        })
-    }
-
     /// Takes packets, as the bytes of a file, and gathers what they bring.
     fn take_all(&mut self, bytes: &[u8])
         requires some { (before : List (List ℕ)) × IsLife self.old before }
@@ -151,4 +138,25 @@ impl Engine for Excitation {
     ghost starts = { λ s. excites_none s.address s.delay };
 
     ghost grows = { λ s a b whole. excites_more s.address s.delay a b whole };
+}
+
+impl Transmitting for Excitation {
+    ghost use Rattle.dtx_words.specs.declared.rows.Command.TheVariants as command;
+    ghost use Rattle.dtx_jobs.specs.AnswersLaws.{excite_knows};
+    ghost use Rattle.dtx_jobs.specs.Excite.{exciting};
+
+    ghost command = { command.Excite };
+
+    ghost sends = { exciting };
+
+    fn new(alloc: Global, address: u16, delay: u32) -> Result<Excitation, AllocError> {
+        Ok(Excitation {
+            address,
+            delay,
+            exciter: Box::new(alloc, Exciter::new(alloc, address, delay)?)?,
+            sending: Sending::new(alloc)?,
+        })
+    }
+
+    ghost knows = { excite_knows };
 }

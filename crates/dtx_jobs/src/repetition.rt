@@ -1,5 +1,5 @@
 // Receiving symbols and sending their packets again, a piece of the file at a time.
-ghost use Rattle.std.specs.Prelude.{◌≡◌, ◌+◌, ◌*◌, ◌/◌, ◌<◌, ◌≤◌, ◌++◌, ◌∷◌, [], ℕ, ℤ, List, IfOk, length, map};
+ghost use Rattle.std.specs.Prelude.{◌≡◌, ◌+◌, ◌*◌, ◌/◌, ◌<◌, ◌≤◌, ◌++◌, ◌∷◌, [], ℕ, ℤ, List, length, map};
 ghost use Rattle.dtx_exciter.specs.Packets.{group_part};
 ghost use Rattle.dtx_files.specs.LogText.{log_text};
 ghost use Rattle.dtx_receiver.specs.Runs as runs;
@@ -7,13 +7,14 @@ ghost use Rattle.dtx_repeat.specs.GoingOn.{last_life, longer};
 ghost use Rattle.dtx_repeat.specs.Lives.{lives, lives_so_far, packets_in};
 ghost use Rattle.dtx_jobs.specs.Lives.{lives_tally, logged_over, sent_over};
 ghost use Rattle.dtx_jobs.specs.Repeat.{repeated_numbers};
-ghost use Rattle.dtx_jobs.specs.Repetition.{AreFew, IsRepeating, IsSending, IsSentOn, WasRepeated};
+ghost use Rattle.dtx_jobs.specs.Repetition.{AreFew, IsRepeating, IsSending, IsSentOn};
 ghost use Rattle.dtx_jobs.specs.Restarts.{restart_at};
 ghost use Rattle.dtx_jobs.specs.SymbolFile.{file_segments, symbols};
 
 use crate::reception::to_symbols;
 use crate::sending::Sending;
 use crate::shapes::{PIECE_SEGMENTS, segments};
+use crate::transmitting::Transmitting;
 use dtx_coder::AIR_SYMBOLS;
 use dtx_engine::{Engine, Shape};
 use dtx_exciter::laws::groups_are_spaced;
@@ -49,24 +50,6 @@ pub(crate) struct Repetition {
 }
 
 impl Repetition {
-    /// The transmitter with this address, to which the feed takes `delay` ticks of 100 ns, received nothing.
-    pub(crate) fn new(alloc: Global, address: u16, delay: u32) -> Result<Repetition, AllocError>
-        ensures given { IfOk result (λ state. WasRepeated state []) }
-        ensures address { IfOk result (λ state. state.address ≡ address) }
-        ensures delay { IfOk result (λ state. state.delay ≡ delay) }
-    {
-        Ok(Repetition {
-            address,
-            delay,
-            repeater: Box::new(alloc, Repeater::new(alloc, address, delay)?)?,
-            batch: Batch::new(),
-            segment: [0; SEGMENT],
-            segments: 0,
-            runs: 0,
-            sending: Sending::new(alloc)?,
-        })
-    }
-
     /// Receives the segments of a file's bytes, and gathers what they bring.
     fn take_all(&mut self, bytes: &[u8])
         requires most { self.old.segments + length bytes.now / SEGMENT ≤ MOST_SEGMENTS }
@@ -297,4 +280,29 @@ impl Engine for Repetition {
     ghost starts = { λ s. repeats_none s.address s.delay };
 
     ghost grows = { λ s a b whole. repeats_more s.address s.delay a b whole };
+}
+
+impl Transmitting for Repetition {
+    ghost use Rattle.dtx_words.specs.declared.rows.Command.TheVariants as command;
+    ghost use Rattle.dtx_jobs.specs.AnswersLaws.{repeat_knows};
+    ghost use Rattle.dtx_jobs.specs.Repeat.{repeating};
+
+    ghost command = { command.Repeat };
+
+    ghost sends = { repeating };
+
+    fn new(alloc: Global, address: u16, delay: u32) -> Result<Repetition, AllocError> {
+        Ok(Repetition {
+            address,
+            delay,
+            repeater: Box::new(alloc, Repeater::new(alloc, address, delay)?)?,
+            batch: Batch::new(),
+            segment: [0; SEGMENT],
+            segments: 0,
+            runs: 0,
+            sending: Sending::new(alloc)?,
+        })
+    }
+
+    ghost knows = { repeat_knows };
 }

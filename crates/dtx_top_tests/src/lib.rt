@@ -14,6 +14,8 @@ mod page;
 #[cfg(test)]
 mod place;
 #[cfg(test)]
+mod repeat;
+#[cfg(test)]
 mod rows;
 #[cfg(test)]
 mod soft;

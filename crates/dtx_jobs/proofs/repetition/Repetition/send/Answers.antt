@@ -1,13 +1,13 @@
-use Rattle.std.proofs.Common.{◌≡◌, ◌+◌, ◌*◌, ◌++◌, ◌∷◌, [], ℕ, List, length, map, take, sym, ap, subst, ◌∙◌}
+use Rattle.std.proofs.Common.{◌≡◌, ◌+◌, ◌++◌, ◌∷◌, [], ℕ, List, length, map, sym, ap, subst, ◌∙◌}
 use Rattle.std.proofs.Common.{append_assoc, arith}
 use Rattle.dtx_coder.specs.Stream.{symbols_of}
 use Rattle.dtx_exciter.specs.Log.{line_of}
-use Rattle.dtx_exciter.specs.Packets.{group_part, last_answer}
+use Rattle.dtx_exciter.specs.Packets.{group_part}
 use Rattle.dtx_exciter.specs.Log.{emission_over}
 use Rattle.dtx_files.specs.GivenFewLaws.{given_few}
 use Rattle.dtx_files.specs.LogText.{log_text}
 use Rattle.dtx_files.specs.Symbols.{byte_of_symbol}
-use Rattle.dtx_repeat.specs.GoingOn.{last_life, longer}
+use Rattle.dtx_repeat.specs.GoingOn.{last_life}
 use Rattle.dtx_repeat.specs.GoingOnLaws.{last_longer_one}
 use Rattle.dtx_repeat.specs.Repeater.{StandsFor}
 use Rattle.dtx_jobs.specs.Life.{tally_with, HasRoom}

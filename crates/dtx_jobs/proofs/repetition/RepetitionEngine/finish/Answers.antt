@@ -1,12 +1,15 @@
-use Rattle.std.proofs.Common.{ap, sym, ◌∙◌, arith, ◌++◌}
+use Rattle.std.proofs.Common.{◌≡◌, ℕ, List, ap, sym, ◌∙◌, arith, ◌++◌}
 use Rattle.std.proofs.lemmas.List.{append-nil}
 use Rattle.dtx_repeat.specs.Lives.{lives_so_far}
 use Rattle.dtx_jobs.specs.Lives.{sent_over, logged_over}
+use Rattle.dtx_jobs.specs.Repeat.{repeating}
 use Rattle.dtx_jobs.specs.RepeatLaws.{repeats_last}
+use Rattle.dtx_jobs.specs.Repetition.{WasRepeated}
 use Rattle.dtx_jobs.specs.SymbolFile.{file_segments}
 use Rattle.dtx_jobs.specs.SymbolFileLaws.{length-segments_of}
 use Rattle.dtx_jobs.proofs.LivesOn.{cleared}
 use Rattle.dtx_jobs.proofs.repetition.RepetitionEngine.finish.Goals as goal
+use Rattle.dtx_jobs.proofs.repetition.RepetitionEngine.finish.Goals.{After-end}
 
 pub end-requires-clause-some : goal.end-requires-clause-some
 end-requires-clause-some c =
@@ -31,8 +34,11 @@ end-requires-clause-few c =
       ap (λ t. t.packets) c.clear.ensures.tally,
     )
 
-pub returns-then-self-eq0-clause-rest : goal.returns-then-self-eq0-clause-rest
-returns-then-self-eq0-clause-rest c = λ given stand.
+-- what the end brings is what is left of it
+rest : (c : After-end) (given : List ℕ) → WasRepeated c.args.self.now given
+    → record { first = c.end.new.self.sending.symbols; second = c.end.new.self.sending.lines }
+    ≡ (repeating c.args.self.now.address c.args.self.now.delay).rest given
+rest c given stand =
     let a = c.args.self.now.address in
     let d = c.args.self.now.delay in
     let s = file_segments given in
@@ -45,16 +51,8 @@ returns-then-self-eq0-clause-rest c = λ given stand.
     (on.logged (logged_over a d (lives_so_far s)) (sym (append-nil (logged_over a d (lives_so_far s)))
     ∙ ap (λ z. logged_over a d (lives_so_far s) ++ z) (sym c.clear.ensures.lines)))
 
+pub returns-then-self-eq0-clause-rest : goal.returns-then-self-eq0-clause-rest
+returns-then-self-eq0-clause-rest c = rest (goal.at.returns-then-self-eq0-clause-rest c).After-end
+
 pub returns-else-self-eq0-clause-rest : goal.returns-else-self-eq0-clause-rest
-returns-else-self-eq0-clause-rest c = λ given stand.
-    let a = c.args.self.now.address in
-    let d = c.args.self.now.delay in
-    let s = file_segments given in
-    let is = cleared c.args.self.now c.clear.new.self s c.clear.ensures.tally stand.repeating in
-    let on = c.end.ensures.sent s is in
-    let new = c.end.new.self in
-    repeats_last a d given new.sending.symbols new.sending.lines
-    (on.sent (sent_over a d (lives_so_far s)) (sym (append-nil (sent_over a d (lives_so_far s)))
-    ∙ ap (λ z. sent_over a d (lives_so_far s) ++ z) (sym c.clear.ensures.symbols)))
-    (on.logged (logged_over a d (lives_so_far s)) (sym (append-nil (logged_over a d (lives_so_far s)))
-    ∙ ap (λ z. logged_over a d (lives_so_far s) ++ z) (sym c.clear.ensures.lines)))
+returns-else-self-eq0-clause-rest c = rest (goal.at.returns-else-self-eq0-clause-rest c).After-end

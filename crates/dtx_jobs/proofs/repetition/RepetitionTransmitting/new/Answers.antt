@@ -1,4 +1,4 @@
-use Rattle.std.proofs.Common.{◌≡◌, ℕ, [], length, subst, sym, ap, ◌∙◌, arith}
+use Rattle.std.proofs.Common.{[], length, subst, sym, ap, ◌∙◌, arith}
 use Rattle.dtx_receiver.specs.CountingLaws.{no_segments}
 use Rattle.dtx_repeat.specs.GoingOn.{last_life}
 use Rattle.dtx_repeat.specs.LivesLaws.{no_lives}
@@ -6,7 +6,7 @@ use Rattle.dtx_repeat.specs.Repeater.{StandsFor}
 use Rattle.dtx_jobs.specs.Lives.{lives_tally}
 use Rattle.dtx_jobs.specs.declared.life_tally.LifeTally.{LifeTally}
 use Rattle.dtx_jobs.proofs.LivesOn.{no_tally}
-use Rattle.dtx_jobs.proofs.repetition.Repetition.new.Goals as goal
+use Rattle.dtx_jobs.proofs.repetition.RepetitionTransmitting.new.Goals as goal
 
 pub returns-clause-given : goal.returns-clause-given
 returns-clause-given c =

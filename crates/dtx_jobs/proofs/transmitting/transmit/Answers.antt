@@ -1,11 +1,11 @@
-use Rattle.std.proofs.Common.{◌≡◌, List, ℕ, ◌∙◌, ap}
+use Rattle.std.proofs.Common.{◌∙◌, ap}
 use Rattle.dtx_meaning.specs.Laws.{carried_told}
 use Rattle.dtx_meaning.specs.Meaning.{Meaning}
 use Rattle.dtx_outside.specs.Shelf.{Files}
 use Rattle.dtx_words.specs.Number.{number_in}
-use Rattle.dtx_jobs.specs.Repeat.{repeat_meaning, repeat_with}
+use Rattle.dtx_jobs.specs.Transmit.{transmit_meaning, transmit_with}
 use Rattle.dtx_jobs.proofs.Apart.{six_words}
-use Rattle.dtx_jobs.proofs.repeat_command.repeat.Goals as goal
+use Rattle.dtx_jobs.proofs.transmitting.transmit.Goals as goal
 
 pub returns-in-len6-clause-carried : goal.returns-in-len6-clause-carried
 returns-in-len6-clause-carried g c =
@@ -14,8 +14,12 @@ returns-in-len6-clause-carried g c =
     c.in-len6.len_below (c.as_str.ensures ∙ c.input-item.is) (c.as_str-in-len6-3.ensures ∙ c.address-item.is)
     (c.as_str-in-len6-4.ensures ∙ c.delay-item.is) (c.as_str-in-len6.ensures ∙ c.output-item.is)
     (c.as_str-in-len6-2.ensures ∙ c.log-item.is) in
+    let shape = g.E.Engine.shape in
+    let sends = g.E.Transmitting.sends in
     let means : Files → Meaning = λ held.
-    repeat_with (number_in 65535 c.as_str-in-len6-3.result.now) (number_in 4294967295 c.as_str-in-len6-4.result.now)
+    transmit_with shape sends (number_in 65535 c.as_str-in-len6-3.result.now)
+    (number_in 4294967295 c.as_str-in-len6-4.result.now)
     c.as_str.result.now c.as_str-in-len6.result.now c.as_str-in-len6-2.result.now held in
-    carried_told (repeat_meaning c.args.words.now) means (g.S.Shelf.files c.args.shelf.now) _ c.repeat_read.result
-    (λ held told. ap (λ w. repeat_meaning w held) words) c.repeat_read.ensures.carried
+    carried_told (transmit_meaning shape sends c.args.words.now) means (g.S.Shelf.files c.args.shelf.now) _
+    c.transmit_read.result (λ held told. ap (λ w. transmit_meaning shape sends w held) words)
+    c.transmit_read.ensures.carried

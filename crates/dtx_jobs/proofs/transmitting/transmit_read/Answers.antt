@@ -1,5 +1,5 @@
 use Rattle.std.proofs.Common.{refl, arith}
-use Rattle.dtx_jobs.proofs.repeat_command.repeat_read.Goals as goal
+use Rattle.dtx_jobs.proofs.transmitting.transmit_read.Goals as goal
 
 pub overflow_cast-address : goal.overflow_cast-address
 overflow_cast-address g c = omega (arith, ((c.in-Some.ensures.spelled c.in-Some.address).0 refl).0)
