@@ -1,7 +1,9 @@
 //! Laws of the definitions: the segments of a transmitter's symbol file are those that it sends.
 
-ghost use Rattle.std.specs.Prelude.{◌≡◌, ◌-◌, ◌*◌, ◌^◌, ◌≤◌, ℕ, IsSomeAnd, List, Some, length, true};
+ghost use Rattle.std.specs.Prelude.{◌≡◌, ◌≢◌, ◌-◌, ◌*◌, ◌%◌, ◌^◌, ◌<◌, ◌≤◌, ◌∷◌, [], ℕ, IsSomeAnd, List, Some};
+ghost use Rattle.std.specs.Prelude.{drop, length, true};
 ghost use Rattle.std.specs.FinMap.{get};
+ghost use Rattle.dtx_adapter.specs.Feed.{feed};
 ghost use Rattle.dtx_meaning.specs.declared.status.Status.{Status};
 ghost use Rattle.dtx_outside.specs.Shelf.{Files};
 ghost use Rattle.dtx_packets.specs.Packets.{packets_of};
@@ -11,7 +13,9 @@ ghost use Rattle.dtx_plan.specs.declared.transmitter.Transmitter.{Transmitter};
 ghost use Rattle.dtx_net.specs.Lives.{own_steps};
 ghost use Rattle.dtx_net.specs.Steps.{Step};
 ghost use Rattle.dtx_net.specs.Sent as sent;
+ghost use Rattle.dtx_jobs.specs.Feed.{bytes_of_packets, feed_bytes};
 ghost use Rattle.dtx_jobs.specs.SymbolFile as file;
+ghost use Rattle.dtx_jobs.specs.WatchedFeed.{IsWatchedCalmly};
 ghost use Rattle.dtx_schedule.specs.TransmitterFiles.{log_file, symbol_file};
 ghost use Rattle.dtx_network.specs.Orders.{has_order};
 ghost use Rattle.dtx_network.specs.Network.{steps_under};
@@ -26,10 +30,11 @@ ghost use Rattle.dtx_top.specs.Trial.{trial_made, trial_plan};
 ghost use Rattle.dtx_top.specs.WorkedNetwork.{HasAllBack, IsSimple, WorkedNetwork, made_packets};
 
 use dtx_exciter::laws::groups_are_spaced;
+use dtx_jobs::laws::watching::sound_feeds_are_watched_calmly;
 use dtx_net::laws::interleavings;
 use dtx_network::laws::{
-    headline, joined_is_met, listings_of_a_feed, orders_of_a_feed, packets_of_a_feed,
-    sends_the_stretch_alone,
+    a_feed_is_sound, headline, joined_is_met, listings_of_a_feed, orders_of_a_feed,
+    packets_of_a_feed, sends_the_stretch_alone,
 };
 
 /// The segments of a transmitter's symbol file are those that it sends: segment n of the file is segment n of them.
@@ -108,4 +113,24 @@ pub fn a_trial_is_done()
     listings_of_a_feed();
     headline();
     groups_are_spaced();
+}
+
+/// Every feed is watched calmly by `watch`, in the file of all its packets and in that of its packets from any of its
+/// marks on: what is written is the line `lock 0` and one line `ops` for each operations packet, in their order, and no
+/// other, none of them says `slip` or `jump`, and the line that is printed has the numbers of the packets and of the
+/// operations packets, and 0 for all else.
+pub fn feeds_are_watched_calmly()
+    ensures whole { (plan : Plan) (stream : List (List ℕ)) (verb input output : List ℕ) (held : Files) → IsPlan plan
+        → IsStream stream → 0 < length stream → command_of (verb ∷ input ∷ output ∷ []) ≡ Some command.Watch
+        → input ≢ output → get held input ≡ Some (feed_bytes plan stream)
+        → IsWatchedCalmly (output ∷ []) (feed plan stream) 0 (means (verb ∷ input ∷ output ∷ []) held) }
+    ensures from_a_mark { (plan : Plan) (stream : List (List ℕ)) (mark : ℕ) (verb input output : List ℕ) (held : Files)
+        → IsPlan plan → IsStream stream → mark % 624 ≡ 0 → mark < length stream
+        → command_of (verb ∷ input ∷ output ∷ []) ≡ Some command.Watch → input ≢ output
+        → get held input ≡ Some (bytes_of_packets (drop mark (feed plan stream)))
+        → IsWatchedCalmly (output ∷ []) (drop mark (feed plan stream)) 0 (means (verb ∷ input ∷ output ∷ []) held) }
+{
+    a_feed_is_sound();
+    packets_of_a_feed();
+    sound_feeds_are_watched_calmly();
 }
