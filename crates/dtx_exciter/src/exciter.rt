@@ -1,5 +1,5 @@
 // One exciter.
-ghost use Rattle.std.specs.Prelude.{◌≡◌, ◌<◌, ◌%◌, ◌==◌, ◌&&◌, ◌||◌, ◌++◌, ◌∷◌, [], ℕ, List, IfOk, IfSome};
+ghost use Rattle.std.specs.Prelude.{◌≡◌, ◌<◌, ◌%◌, ◌==◌, ◌&&◌, ◌++◌, ◌∷◌, [], ℕ, List, IfOk, IfSome};
 ghost use Rattle.std.specs.Prelude.{if◌then◌else◌, option_map};
 ghost use Rattle.dtx_ops.specs.Spelling.{IsValid};
 ghost use Rattle.dtx_exciter.specs.Told.{is_sent};
@@ -7,7 +7,7 @@ ghost use Rattle.dtx_exciter.specs.Step.{bytes_of, own_order, told_group, IsSent
 ghost use Rattle.dtx_exciter.specs.Kept.{StandsFor, KeepsUnder, IsTaken, Joins};
 
 use crate::answers::{Told, Why};
-use crate::orders::{Corrector, order_in};
+use crate::orders::{Corrector, is_flushed, order_in};
 use crate::pages::Pages;
 use crate::serving::{preset_of, served, told_why};
 use crate::tables::Tables;
@@ -177,13 +177,6 @@ impl Exciter {
             None => Told::Quiet,
         }
     }
-}
-
-/// Whether 52 or more packets stand under the anchor, as the packet at this place has joined them.
-fn is_flushed(before: bool, place: u16) -> bool
-    ensures { result ≡ (before || (place == 51)) }
-{
-    before || place == 51
 }
 
 fn is_sent(told: Told) -> bool

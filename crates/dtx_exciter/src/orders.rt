@@ -1,12 +1,12 @@
-// What a group of packets orders.
-ghost use Rattle.std.specs.Prelude.{◌≡◌, ◌<◌, Some, IfSome};
+// What packets order, and a group of them.
+ghost use Rattle.std.specs.Prelude.{◌≡◌, ◌<◌, ◌==◌, ◌||◌, IfOk, IfSome};
 ghost use Rattle.dtx_ops.specs.Spelling.{IsValid};
 ghost use Rattle.dtx_exciter.specs.Order.{ordered};
-ghost use Rattle.dtx_exciter.specs.Packets.{reads};
+ghost use Rattle.dtx_exciter.specs.Packets.{read_fields, reads};
 ghost use Rattle.dtx_exciter.specs.Step.{bytes_of, order_in};
 
 use dtx_fast::Fast;
-use dtx_ops::{Ops, read};
+use dtx_ops::{Ops, OpsNo, read};
 use dtx_packets::Packet;
 use dtx_sizes::GROUP_PACKETS;
 
@@ -37,31 +37,31 @@ pub(crate) fn order_in(
 }
 
 /// The fields of a packet that reads and whose index is this place.
+#[tactic(auto, unfolding(crate::specs::Packets::reads))]
 fn order_of(corrector: &Corrector, place: u16, packet: &Packet) -> Option<Ops>
     ensures order { result ≡ ordered place (reads packet.now.0) }
     ensures valid { IfSome result IsValid }
 {
-    match fields_of(corrector, packet) {
-        Some(ops) => at_place(place, ops),
-        None => None,
+    ordered(place, read(corrector, packet))
+}
+
+/// What a packet at this place of its frame orders, by what it reads as or why it doesn't: its fields, where its index
+/// is its place (the profile's own).
+pub fn ordered(place: u16, reading: Result<Ops, OpsNo>) -> Option<Ops>
+    requires { IfOk reading IsValid }
+    ensures order { result ≡ ordered place (read_fields reading) }
+    ensures valid { IfSome result IsValid }
+{
+    match reading {
+        Ok(ops) if ops.index == place => Some(ops),
+        _ => None,
     }
 }
 
-/// The fields of a packet that reads.
-fn fields_of(corrector: &Corrector, packet: &Packet) -> Option<Ops>
-    ensures reads { result ≡ reads packet.now.0 }
-    ensures valid { IfSome result IsValid }
+/// Whether 52 or more packets stand under the anchor, as the packet at this place of its frame has joined them, and
+/// whether they did so before it: only groups behind them count as orders.
+pub fn is_flushed(before: bool, place: u16) -> bool
+    ensures { result ≡ (before || (place == 51)) }
 {
-    match read(corrector, packet) {
-        Ok(ops) => Some(ops),
-        Err(_) => None,
-    }
-}
-
-fn at_place(place: u16, ops: Ops) -> Option<Ops>
-    requires { IsValid ops }
-    ensures order { result ≡ ordered place (Some ops) }
-    ensures valid { IfSome result IsValid }
-{
-    if ops.index == place { Some(ops) } else { None }
+    before || place == 51
 }

@@ -1,8 +1,7 @@
 // What is told of one packet.
-ghost use Rattle.std.specs.Prelude.{◌≡◌, ◌<◌, ◌==◌, ◌||◌, ◌++◌, None, IfOk, is_some, length, if◌then◌else◌};
+ghost use Rattle.std.specs.Prelude.{◌≡◌, ◌<◌, ◌||◌, ◌++◌, None, IfOk, is_some, length, if◌then◌else◌};
 ghost use Rattle.dtx_ops.specs.Spelling.{IsValid};
-ghost use Rattle.dtx_exciter.specs.Order.{either, ordered};
-ghost use Rattle.dtx_exciter.specs.Packets.{read_fields};
+ghost use Rattle.dtx_exciter.specs.Order.{either};
 ghost use Rattle.dtx_watch.specs.Notes.{states_note, ops_note, read_note, packet_note, one_or_none};
 
 use crate::notes::{MOST_NOTES, Note, OpsNote, StatesNote, What};
@@ -103,16 +102,6 @@ pub(crate) fn push_some(note: Option<Note>, notes: &mut ArrayVec<Note, MOST_NOTE
     }
 }
 
-/// The fields of a packet that reads and whose index is this place.
-pub(crate) fn ordered(place: u16, reading: Result<Ops, OpsNo>) -> Option<Ops>
-    ensures { result ≡ ordered place (read_fields reading) }
-{
-    match reading {
-        Ok(ops) if ops.index == place => Some(ops),
-        _ => None,
-    }
-}
-
 /// The earlier states, or else the later ones.
 pub(crate) fn first_of(earlier: Option<States>, later: Option<States>) -> Option<States>
     ensures { result ≡ either earlier later }
@@ -128,13 +117,6 @@ pub(crate) fn preset_of(flushed: bool, states: Option<States>) -> Option<States>
     ensures { result ≡ (if flushed then states else None) }
 {
     if flushed { states } else { None }
-}
-
-/// Whether 52 or more packets stand under the anchor, as the packet at this place has joined them.
-pub(crate) fn is_flushed(before: bool, place: u16) -> bool
-    ensures { result ≡ (before || (place == 51)) }
-{
-    before || place == 51
 }
 
 /// Whether a group under the anchor is an order, with one that orders these states, if any.

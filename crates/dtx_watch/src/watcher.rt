@@ -17,12 +17,11 @@ ghost use Rattle.dtx_watch.specs.Kept.{StandsFor, KeepsUnder, HasRoom, WasGiven,
 
 use crate::notes::{MOST_NOTES, Note, What};
 use crate::stamped::{Stamped, stamp_in};
-use crate::telling::{
-    Expected, first_of, is_flushed, is_ordered, ordered, packet_note, preset_of, push_some,
-};
+use crate::telling::{Expected, first_of, is_ordered, packet_note, preset_of, push_some};
 use arrayvec::ArrayVec;
 use dtx_cadence::{Anchor, Seen};
 use dtx_coder::{Air, Coder};
+use dtx_exciter::{is_flushed, ordered};
 use dtx_fast::Fast;
 use dtx_ops::{Ops, OpsNo, read};
 use dtx_packets::Packet;
