@@ -58,6 +58,7 @@ impl Acquirer {
         requires from { 0 < scale }
         requires to { scale ≤ MAX_SCALE }
         ensures stands { IfOk result (λ acquirer. StandsFor acquirer []) }
+        ensures given { IfOk result (λ acquirer. acquirer.given ≡ []) }
         ensures scale { IfOk result (λ acquirer. acquirer.scale ≡ scale) }
         ensures symbols { IfOk result (λ acquirer. acquirer.symbols ≡ 0) }
     {
@@ -103,9 +104,10 @@ impl Acquirer {
             → self.new.segments ≡ length (acquired self.old.scale symbols) }
         ensures cost { (symbols : List ℤ) → StandsFor self.old symbols
             → self.new.cost ≡ acquired_cost self.old.scale symbols }
-        ensures symbols { (symbols : List ℤ) → StandsFor self.old symbols → self.new.symbols ≡ length symbols }
         ensures room { SEGMENT * length self.new.given ≤ length self.old.held }
+        ensures held { self.new.held ≡ [] }
         ensures scale { self.new.scale ≡ self.old.scale }
+        ensures symbols { self.new.symbols ≡ self.old.symbols }
     {
         self.giver.count = 0;
         let on = seek(self.on, &mut self.held);

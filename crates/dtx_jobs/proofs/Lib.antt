@@ -1,3 +1,5 @@
+pub mod AcquiredRun
+pub mod AcquiredStream
 pub mod Apart
 pub mod BytesOf
 pub mod DvbBack

@@ -2,6 +2,7 @@
 #![tactic(auto)]
 
 mod acquire_command;
+pub mod acquire_laws;
 mod acquisition;
 mod adapt_command;
 mod code_command;

@@ -1,4 +1,5 @@
-use Rattle.std.proofs.Common.{ℤ, List, ◌/◌, take, sym, ap, ◌∙◌, subst, arith}
+use Rattle.std.proofs.Common.{◌≡◌, ℤ, List, [], ◌∷◌, ◌/◌, length, drop, take, refl, sym, ap, ◌∙◌, subst, arith}
+use Rattle.std.proofs.lemmas.List.{length-drop}
 use Rattle.dtx_acquire.specs.Acquirer.{Holding, StandsFor}
 use Rattle.dtx_acquire.proofs.Leaving.{IsEnd, ends}
 use Rattle.dtx_acquire.proofs.acquirer.Acquirer.finish.Goals as goal
@@ -29,3 +30,13 @@ returns-clause-segments c = λ symbols h. (end c symbols h).segments_are
 
 pub returns-clause-cost : goal.returns-clause-cost
 returns-clause-cost c = λ symbols h. (end c symbols h).cost_is
+
+-- a list without elements
+empty : (xs : List ℤ) → length xs ≡ 0 → xs ≡ []
+empty [] e = refl
+empty (x ∷ xs) e = absurd (omega arith)
+
+pub returns-clause-held : goal.returns-clause-held
+returns-clause-held c =
+    c.leave.ensures ∙ empty (drop c.len-left.result c.seek-on.new.held)
+    (omega (arith, length-drop c.len-left.result c.seek-on.new.held, c.len-left.ensures.long))

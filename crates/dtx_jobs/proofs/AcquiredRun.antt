@@ -1,0 +1,148 @@
+-- What is acquired is received as one run, and read back from its file.
+use Rattle.std.proofs.Common.{◌≡◌, ◌≢◌, ℕ, ℤ, suc, ◌+◌, ◌-◌, ◌%◌, ◌<◌, ◌⊎◌, inl, inr, ◌==◌, ◌↔◌, Bool, true}
+use Rattle.std.proofs.Common.{false, List, [], ◌∷◌, length, map, get_or, pos, negsuc, cond, refl, sym, ap}
+use Rattle.std.proofs.Common.{ap₂, ◌∙◌, subst, arith}
+use Rattle.std.proofs.lemmas.Bool.{cases_eq, cond-false, cond-true, eq-eqb, ne_eqb}
+use Rattle.std.proofs.lemmas.List.{length-append, length-map, take_all}
+use Rattle.dtx_frame.specs.AlikeLaws.{looks_alike}
+use Rattle.dtx_frame.specs.Detection.{looks_like}
+use Rattle.dtx_frame.specs.Segments.{bit_symbol, data_segment, field_sync, segment_sync, symbol_of, sync_symbols}
+use Rattle.dtx_frame.specs.SymbolsLaws as lengths
+use Rattle.dtx_coder.specs.CountsLaws.{AreSegments}
+use Rattle.dtx_files.specs.Symbols.{segment_bytes}
+use Rattle.dtx_meaning.specs.Status.{ended}
+use Rattle.dtx_meaning.specs.declared.status.Outcome.{Outcome}
+use Rattle.dtx_meaning.specs.declared.status.Status.{Status}
+use Rattle.dtx_meaning.specs.declared.status.Status.TheVariants.{Done, NoSync}
+use Rattle.dtx_receiver.specs.Intervals.{AreRuns, IsRun, looks_at, segments_in}
+use Rattle.dtx_receiver.specs.IntervalsLaws.{are_runs, only_runs}
+use Rattle.dtx_receiver.specs.Runs.{runs}
+use Rattle.dtx_acquire.specs.Acquired.{acquired, acquired_cost, acquired_runs}
+use Rattle.dtx_acquire.specs.Sent.{AreInFields, AreLevels, IsData, IsSync}
+use Rattle.dtx_jobs.specs.Acquire.{acquire_answer, acquired_answer, acquired_numbers}
+use Rattle.dtx_jobs.specs.SymbolFile.{file_segments}
+use Rattle.dtx_jobs.specs.SymbolsBackLaws.{AreBack, EachBack, IsBack, each_append, level_back}
+use Rattle.dtx_jobs.specs.SymbolsBackLaws.{segments_read_back}
+
+-- ---- the run
+
+pub sync_looks : (s : List (List ℤ)) (i : ℕ) → AreInFields s → i < length s → i % 313 ≡ 0 → looks_at s i ≡ true
+sync_looks s i h l e =
+    (let sync = h.syncs i l e in ap looks_like sync.is ∙ looks_alike sync.second (map symbol_of sync.last))
+
+pub one_run : (s : List (List ℤ)) → AreInFields s → s ≢ [] → runs s ≡ s ∷ []
+one_run s h some =
+    (are_runs s).2
+    ∙ ap (map (segments_in s)) (only_runs s 0 (are_runs s).0 ((0, length s) ∷ []) (are_runs s).1 mine)
+    ∙ ap (λ xs. xs ∷ []) (take_all (0 + length s - 0) s (omega arith))
+  where
+    plus : (n : ℕ) → 0 + n ≡ n
+    plus n = omega arith
+
+    not_empty : (s : List (List ℤ)) → s ≢ [] → 0 < length s
+    not_empty [] e = absurd (e refl)
+    not_empty (x ∷ s) e = omega arith
+
+    run : IsRun s 0 (length s)
+    run = record {
+      some = not_empty s some;
+      within = omega arith;
+      syncs = λ j m z. ap (looks_at s) (plus j) ∙ sync_looks s j h m z;
+      ends = inl (omega arith);
+    }
+
+    mine : AreRuns s 0 ((0, length s) ∷ [])
+    mine = (omega arith, λ i a b. absurd (omega (arith, b)), run, λ i a b. absurd (omega (arith, a, b)))
+
+-- ---- the file
+
+-- the symbols of bits, and of levels
+bits_back : (bits : List ℕ) → AreBack (map bit_symbol bits)
+unfolding bit_symbol
+bits_back [] = tt
+bits_back (b ∷ bits) = (one b, bits_back bits)
+  where
+    one : (b : ℕ) → IsBack (bit_symbol b)
+    one b = by_bit (b == 1)
+      where
+        by_bit : (c : Bool) → IsBack (cond c (pos 5) (negsuc 4))
+        by_bit true = refl
+        by_bit false = refl
+
+levels_back : (levels : List ℕ) → ((d : ℕ) → d < length levels → get_or levels d 0 < 8)
+    → AreBack (map symbol_of levels)
+levels_back [] h = tt
+levels_back (z ∷ levels) h = (level_back z (h 0 (omega arith)), levels_back levels (λ d l. h (suc d) (omega arith)))
+
+small_levels : (n : ℕ) (levels : List ℕ) → AreLevels n levels → (d : ℕ) → d < length levels → get_or levels d 0 < 8
+small_levels n levels h d l = h.small d (omega (arith, h.long))
+
+data_back : (row : List ℤ) → IsData row → (length row ≡ 832) × AreBack row
+unfolding data_segment segment_sync
+data_back row h = (
+  ap length h.is ∙ length-append segment_sync (map symbol_of h.levels)
+      ∙ ap₂ (λ (a b : ℕ). a + b) lengths.length_sync (length-map h.levels symbol_of ∙ h.are.long),
+  subst AreBack (sym h.is) (each_append IsBack segment_sync (map symbol_of h.levels)
+      (bits_back (1 ∷ 0 ∷ 0 ∷ 1 ∷ []))
+      (levels_back h.levels (small_levels 828 h.levels h.are))),
+)
+
+sync_back : (row : List ℤ) → IsSync row → (length row ≡ 832) × AreBack row
+unfolding field_sync sync_symbols segment_sync
+sync_back row h = (
+  ap length h.is ∙ length-append (sync_symbols h.second) (map symbol_of h.last)
+      ∙ ap₂ (λ (a b : ℕ). a + b) (lengths.length_front h.second) (length-map h.last symbol_of ∙ h.are.long),
+  subst AreBack (sym h.is) (each_append IsBack (sync_symbols h.second) (map symbol_of h.last) (front h.second)
+      (levels_back h.last (small_levels 12 h.last h.are))),
+)
+  where
+    front : (second : Bool) → AreBack (sync_symbols second)
+    front second = each_append IsBack segment_sync (map bit_symbol _) (bits_back (1 ∷ 0 ∷ 0 ∷ 1 ∷ [])) (bits_back _)
+
+row_back : (s : List (List ℤ)) → AreInFields s → (i : ℕ) → i < length s
+    → (length (get_or s i []) ≡ 832) × AreBack (get_or s i [])
+row_back s h i l = by_place (cases_eq (i % 313) 0)
+  where
+    by_place : (i % 313 ≡ 0) ⊎ (i % 313 ≢ 0) → (length (get_or s i []) ≡ 832) × AreBack (get_or s i [])
+    by_place (inl e) = sync_back (get_or s i []) (h.syncs i l e)
+    by_place (inr e) = data_back (get_or s i []) (h.others i l e)
+
+all_long : (s : List (List ℤ)) → ((i : ℕ) → i < length s → (length (get_or s i []) ≡ 832) × AreBack (get_or s i []))
+    → AreSegments s
+all_long [] h = tt
+all_long (x ∷ s) h = ((h 0 (omega arith)).0, all_long s (λ i l. h (suc i) (omega arith)))
+
+all_back : (s : List (List ℤ)) → ((i : ℕ) → i < length s → (length (get_or s i []) ≡ 832) × AreBack (get_or s i []))
+    → EachBack s
+all_back [] h = tt
+all_back (x ∷ s) h = ((h 0 (omega arith)).1, all_back s (λ i l. h (suc i) (omega arith)))
+
+pub fields_read_back : (s : List (List ℤ)) → AreInFields s → file_segments (segment_bytes s) ≡ s
+fields_read_back s h = segments_read_back s (all_long s (row_back s h)) (all_back s (row_back s h))
+
+-- ---- the answer
+
+status_is : (n r count cost : ℕ) → ((acquired_answer n r count cost).status ≡ NoSync) ↔ (r ≡ 0)
+status_is n r count cost = (
+  λ e. by_runs e (cases_eq r 0),
+  λ e. ap (λ (o : Outcome). o.status) (cond-true (r == 0) (ended NoSync) some (eq-eqb r 0 e)),
+)
+  where
+    some : Outcome
+    some = record { status = Done; numbers = acquired_numbers n r count cost; shown = 5 }
+
+    done_none : ◌≡◌ {A = Status} Done NoSync → ⊥
+    done_none e = cc
+
+    by_runs : (acquired_answer n r count cost).status ≡ NoSync → (r ≡ 0) ⊎ (r ≢ 0) → r ≡ 0
+    by_runs e (inl z) = z
+    by_runs e (inr z) =
+        absurd (done_none (sym (ap (λ (o : Outcome). o.status) (cond-false (r == 0) (ended NoSync) some
+        (ne_eqb r 0 z))) ∙ e))
+
+pub no_sync : (scale : ℕ) (symbols : List ℤ) → (acquired_runs symbols ≡ 0) ↔ (acquired scale symbols ≡ [])
+    → ((acquire_answer scale symbols).status ≡ NoSync) ↔ (acquired scale symbols ≡ [])
+no_sync scale symbols h =
+    let is = status_is (length symbols) (acquired_runs symbols) (length (acquired scale symbols))
+    (acquired_cost scale symbols) in
+    (λ e. h.0 (is.0 e), λ e. is.1 (h.1 e))
