@@ -8,6 +8,7 @@ pub mod DvbReads
 pub mod Feeding
 pub mod LifeOn
 pub mod Recipe
+pub mod RepeatedFiles
 pub mod PacketBytes
 pub mod PlacedBytes
 pub mod PlacedCounts

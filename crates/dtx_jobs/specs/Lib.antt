@@ -45,6 +45,7 @@ pub mod PlanFileLaws
 pub mod Receive
 pub mod Repeat
 pub mod RepeatLaws
+pub mod RepeatedFiles
 pub mod ReceiveLaws
 pub mod ReceivedLaws
 pub mod SplicedSymbolsLaws

@@ -1,8 +1,8 @@
 -- Laws of what is made of symbols that are sent again: it grows with them.
-use Rattle.std.proofs.Common.{◌≡◌, ℕ, ℤ, ◌%◌, ◌<◌, List, [], ◌∷◌, ◌++◌, length, drop, refl, sym, ap, ap₂, ◌∙◌, subst}
-use Rattle.std.proofs.Common.{arith}
+use Rattle.std.proofs.Common.{◌≡◌, ℕ, ℤ, ◌%◌, ◌<◌, List, [], ◌∷◌, ◌++◌, length, take, drop, refl, sym, ap, ap₂, ◌∙◌}
+use Rattle.std.proofs.Common.{subst, arith}
 use Rattle.std.proofs.Common.{append_assoc}
-use Rattle.std.proofs.lemmas.List.{append-nil, drop_at}
+use Rattle.std.proofs.lemmas.List.{append-nil, drop_at, take-append-drop}
 use Rattle.dtx_engine.specs.Made.{Made, only, joined, AreFrontsOf}
 use Rattle.dtx_exciter.specs.Log.{log}
 use Rattle.dtx_receiver.specs.Runs.{tracking}
@@ -135,3 +135,12 @@ repeats_all a d file =
     let made : List ℕ → List ℕ → Made = λ x y. record { first = x; second = y } in
     ap (joined ((repeating a d).made file)) (sym (repeats_last a d file end.0.0 end.1.0 (sym end.0.1) (sym end.1.1)))
     ∙ ap₂ made end.0.1 end.1.1
+
+-- what the first segments give while they come is in each output a front part of what all give
+pub repeats_front : (a d : ℕ) (list : List (List ℤ)) (n : ℕ)
+    → AreFrontsOf (sent_in a d (lives_so_far (take n list))) (sent_in a d (lives list))
+repeats_front a d list n =
+    fronts_on a d (lives_so_far (take n list)) (lives_so_far list) (lives list)
+    (subst (λ z. Fronts a d (lives_so_far (take n list)) (lives_so_far z)) (take-append-drop n list)
+    (fronts_segments a d (take n list) (drop n list)))
+    (fronts_end a d list)

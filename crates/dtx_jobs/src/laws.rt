@@ -4,6 +4,7 @@
 pub mod dvb_streams;
 pub mod mending;
 pub mod placing;
+pub mod repeating;
 pub mod watching;
 
 ghost use Rattle.std.specs.Prelude.{◌≡◌, ℕ, List, All, length};
