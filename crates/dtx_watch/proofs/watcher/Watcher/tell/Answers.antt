@@ -12,7 +12,8 @@ returns-in-Some-clause-latest c =
     let place = c.args.self.now.first + c.args.m in
     let order : Some c.in-Some.ops
     ≡ ordered place (reads (get_or (bytes_of c.args.self.now.packets) c.args.m [])) =
-    sym c.in-Some.is ∙ c.ordered.ensures.order ∙ ap (λ r. ordered place (read_fields r)) c.reading-reading.ensures.reading in
+    sym c.in-Some.is ∙ c.ordered.ensures.order
+    ∙ ap (λ r. ordered place (read_fields r)) c.reading-reading.ensures.reading in
     ap (λ s. record c.args.self.now { latest = Some s }) c.stamp_in.ensures
     ∙ ap (λ (o : Option Ops). record c.args.self.now { latest = either (option_map stamp_in o) c.args.self.now.latest })
     order
@@ -22,18 +23,21 @@ unfolding reads
 returns-in-Some-clause-order c =
     let place = c.args.self.now.first + c.args.m in
     ap (option_map (λ (o : Ops). o.states))
-    (sym c.in-Some.is ∙ c.ordered.ensures.order ∙ ap (λ r. ordered place (read_fields r)) c.reading-reading.ensures.reading)
+    (sym c.in-Some.is ∙ c.ordered.ensures.order
+    ∙ ap (λ r. ordered place (read_fields r)) c.reading-reading.ensures.reading)
 
 pub returns-in-None-clause-latest : goal.returns-in-None-clause-latest
 unfolding reads
 returns-in-None-clause-latest c =
     let place = c.args.self.now.first + c.args.m in
     ap (λ (o : Option Ops). record c.args.self.now { latest = either (option_map stamp_in o) c.args.self.now.latest })
-    (sym c.in-None.is ∙ c.ordered.ensures.order ∙ ap (λ r. ordered place (read_fields r)) c.reading-reading.ensures.reading)
+    (sym c.in-None.is ∙ c.ordered.ensures.order
+    ∙ ap (λ r. ordered place (read_fields r)) c.reading-reading.ensures.reading)
 
 pub returns-in-None-clause-order : goal.returns-in-None-clause-order
 unfolding reads
 returns-in-None-clause-order c =
     let place = c.args.self.now.first + c.args.m in
     ap (option_map (λ (o : Ops). o.states))
-    (sym c.in-None.is ∙ c.ordered.ensures.order ∙ ap (λ r. ordered place (read_fields r)) c.reading-reading.ensures.reading)
+    (sym c.in-None.is ∙ c.ordered.ensures.order
+    ∙ ap (λ r. ordered place (read_fields r)) c.reading-reading.ensures.reading)
