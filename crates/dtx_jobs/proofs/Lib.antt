@@ -1,3 +1,4 @@
+pub mod AcquiredFile
 pub mod AcquiredRun
 pub mod AcquiredStream
 pub mod Apart

@@ -1,5 +1,6 @@
 pub mod Acquire
 pub mod AcquireLaws
+pub mod AcquiredFile
 pub mod Acquisition
 pub mod Adapt
 pub mod Answers
