@@ -1,3 +1,4 @@
+pub mod DoneWith
 pub mod Ends
 pub mod GivenNames
 pub mod HeadlineOfFiles
