@@ -9,7 +9,6 @@ pub mod NetAnswers
 pub mod NetFiles
 pub mod NetProgresses
 pub mod Played
-pub mod RepeatedFeed
 pub mod SegmentsBack
 pub mod SegmentsSent
 pub mod Streams

@@ -1,4 +1,3 @@
-pub mod DoneWith
 pub mod Ends
 pub mod GivenNames
 pub mod HeadlineOfFiles

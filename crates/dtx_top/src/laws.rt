@@ -1,7 +1,5 @@
 //! Laws of the definitions: the segments of a transmitter's symbol file are those that it sends.
 
-pub mod repeating;
-
 ghost use Rattle.std.specs.Prelude.{◌≡◌, ◌≢◌, ◌-◌, ◌*◌, ◌%◌, ◌^◌, ◌<◌, ◌≤◌, ◌∷◌, [], ℕ, IsSomeAnd, List, Some};
 ghost use Rattle.std.specs.Prelude.{drop, length, true};
 ghost use Rattle.std.specs.FinMap.{get};

@@ -21,7 +21,7 @@ ghost use Rattle.dtx_words.specs.Fitting.{command_of};
 ghost use Rattle.dtx_words.specs.Names.{repeated};
 ghost use Rattle.dtx_words.specs.Number.{number_in};
 ghost use Rattle.dtx_words.specs.declared.rows.Command.TheVariants as command;
-ghost use Rattle.dtx_top.specs.DoneWith.{IsDoneWith};
+ghost use Rattle.dtx_repeated_feed.specs.DoneWith.{IsDoneWith};
 ghost use Rattle.dtx_top.specs.Means.{means};
 
 use dtx_gap_filler::laws::{is_given_the_feed, repeats};

@@ -5,8 +5,8 @@ use Rattle.dtx_gap_filler.specs.Heard.{heard_to}
 use Rattle.dtx_jobs.specs.SymbolFile.{file_segments}
 use Rattle.dtx_network.specs.Headline.{stretch_of}
 use Rattle.dtx_network.specs.Presets.{presets}
-use Rattle.dtx_top.proofs.RepeatedFeed.{by_words, done_with, some_looks}
-use Rattle.dtx_top.proofs.laws.repeating.a_heard_feed_is_repeated.Goals as goal
+use Rattle.dtx_repeated_feed.proofs.RepeatedFeed.{by_words, done_with, some_looks}
+use Rattle.dtx_repeated_feed.proofs.laws.a_heard_feed_is_repeated.Goals as goal
 
 pub returns-clause-listed : goal.returns-clause-listed
 returns-clause-listed c = λ plan stream t delay first k sent names file few hears listing.

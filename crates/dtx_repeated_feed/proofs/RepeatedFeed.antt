@@ -24,7 +24,7 @@ use Rattle.dtx_jobs.specs.RepeatedFiles.{repeated_of}
 use Rattle.dtx_jobs.specs.Shapes.{segments}
 use Rattle.dtx_jobs.specs.SymbolFile.{file_segments, whole_segments}
 use Rattle.dtx_jobs.specs.Transmit.{transmit_with}
-use Rattle.dtx_top.specs.DoneWith.{IsDoneWith}
+use Rattle.dtx_repeated_feed.specs.DoneWith.{IsDoneWith}
 use Rattle.dtx_top.specs.Means.{means, means_of}
 
 -- where there is a life, a segment looks like a field sync

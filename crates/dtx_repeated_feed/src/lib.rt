@@ -1,0 +1,4 @@
+//! What the command `repeat` makes of a feed that it hears.
+#![tactic(auto)]
+
+pub mod laws;
