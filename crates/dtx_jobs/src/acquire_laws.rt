@@ -63,7 +63,7 @@ pub fn one_run_is_acquired()
     whole_fields_are_acquired();
 }
 
-/// The answer is that there is no sync exactly where nothing is acquired.
+/// The answer at the end of a file that isn't too long is that there is no sync exactly where nothing is acquired.
 pub fn no_sync_where_nothing_is_acquired()
     ensures { (scale : ℕ) (symbols : List ℤ)
         → ((acquire_answer scale symbols).status ≡ NoSync) ↔ (acquired scale symbols ≡ []) }

@@ -115,8 +115,8 @@ pub fn a_trial_is_done()
     groups_are_spaced();
 }
 
-/// Every feed is watched calmly by `watch`, in the file of all its packets and in that of its packets from any of its
-/// marks on: what is written is the line `lock 0` and one line `ops` for each operations packet, in their order, and no
+/// Every feed with a packet is watched calmly by `watch`, in the file of all its packets and in that of its packets from
+/// any of its marks on, where the output is another file: what is written is the line `lock 0` and one line `ops` for each operations packet, in their order, and no
 /// other, none of them says `slip` or `jump`, and the line that is printed has the numbers of the packets and of the
 /// operations packets, and 0 for all else.
 pub fn feeds_are_watched_calmly()

@@ -32,7 +32,7 @@ pub fn all_is_mended()
     ensures long { (file : List ℕ) → length (mended_bytes file) ≡ length (received_bytes file) }
 {}
 
-/// The three answers of `mend`, each with its cause. Where the file has more segments than are received, it is too
+/// The three answers of `mend` that a file's content decides, each with its cause. Where the file has more segments than are received, it is too
 /// long, and what the first ones give while they come is written, as many as may be: a front part of what all give, and
 /// as many packets as `receive` writes then. Else, where no segment looks like a field sync, that is the answer, and
 /// OUT is empty; where one does, all is done.
@@ -52,7 +52,7 @@ pub fn mending_answers()
 {}
 
 /// Packet f + j of a stream is given back in whatever is received, where packet f begins a field: by a run whose word j
-/// is all there and differs from the packet's codeword in e unmarked bytes, where f are marked and `2 * e + f` is at
+/// is all there and differs from the packet's codeword in e unmarked bytes, where m are marked and `2 * e + m` is at
 /// most 20. It stands among the packets that are written, with 0x47 as its sync byte, behind those of the runs before,
 /// as number j of its run's. It isn't flagged.
 pub fn a_near_packet_is_mended()
