@@ -115,10 +115,10 @@ pub fn a_trial_is_done()
     groups_are_spaced();
 }
 
-/// Every feed with a packet is watched calmly by `watch`, in the file of all its packets and in that of its packets from
-/// any of its marks on, where the output is another file: what is written is the line `lock 0` and one line `ops` for each operations packet, in their order, and no
-/// other, none of them says `slip` or `jump`, and the line that is printed has the numbers of the packets and of the
-/// operations packets, and 0 for all else.
+/// Every feed with a packet is watched calmly by `watch`, in the file of all its packets and in that of its packets
+/// from any of its marks on, where the output is another file: what is written is the line `lock 0` and one line `ops`
+/// for each operations packet, in their order, and no other, none of them says `slip` or `jump`, and the line that is
+/// printed has the numbers of the packets and of the operations packets, and 0 for all else.
 pub fn feeds_are_watched_calmly()
     ensures whole { (plan : Plan) (stream : List (List ℕ)) (verb input output : List ℕ) (held : Files) → IsPlan plan
         → IsStream stream → 0 < length stream → command_of (verb ∷ input ∷ output ∷ []) ≡ Some command.Watch
