@@ -99,8 +99,9 @@ unfolding turn_after
 turn_after-append b next [] ys = refl
 turn_after-append b next (x ∷ xs) ys = turn_after-append b (following b next) xs ys
 
--- ---- rows
+-- ---- parts of a row
 
+-- the turn while a part of a row is laid
 turn_steps : (b next : ℕ) (xs : List ℕ) → next + length xs < b → turn_after b next xs ≡ next + length xs
 unfolding turn_after
 turn_steps b next [] l = sym (add-zero next)
@@ -111,44 +112,47 @@ turn_steps b next (x ∷ xs) l =
     unlike : (a n b : ℕ) → a + suc n < b → a + 1 ≡ b → ⊥
     unlike a n b l e = omega arith
 
--- the turn while a row is laid
-pub turn_of_row : (b : ℕ) (xs : List ℕ) → length xs < b → turn_after b 0 xs ≡ length xs
-turn_of_row b xs l = turn_steps b 0 xs (omega arith) ∙ omega arith
-
-pub turn_more : (b next : ℕ) (xs : List ℕ) (x : ℕ)
+turn_more : (b next : ℕ) (xs : List ℕ) (x : ℕ)
     → turn_after b next (xs ++ x ∷ []) ≡ following b (turn_after b next xs)
 unfolding turn_after
 turn_more b next xs x = turn_after-append b next xs (x ∷ [])
 
--- and when it is laid
-pub turn_whole : (b : ℕ) (xs : List ℕ) (x : ℕ) → length xs + 1 ≡ b → turn_after b 0 (xs ++ x ∷ []) ≡ 0
-turn_whole b xs x e = turn_more b 0 xs x ∙ ap (following b) (turn_of_row b xs (omega arith))
-    ∙ following_end b (length xs) e
-
-pub laid_more : (b : ℕ) (w : ℕ → ℕ) (place next : ℕ) (xs block : List ℕ) (x : ℕ)
+laid_more : (b : ℕ) (w : ℕ → ℕ) (place next : ℕ) (xs block : List ℕ) (x : ℕ)
     → laid b w place next (xs ++ x ∷ []) block ≡ set (laid b w place next xs block)
     (place + length xs + b * w (turn_after b next xs)) x
 unfolding laid
 laid_more b w place next xs block x = laid-append b w place next xs (x ∷ []) block
 
-pub row_more : (b : ℕ) (w : ℕ → ℕ) (place k n : ℕ) (row block : List ℕ) (x : ℕ) → k < b → k < length row
-    → x ≡ get_or row k 0 → n ≡ place + k + b * w k
-    → set (laid b w place 0 (take k row) block) n x ≡ laid b w place 0 (take (k + 1) row) block
-row_more b w place k n row block x l m e f =
-    let t : length (take k row) ≡ k = length-take-le k row (omega arith) in
-    let u : turn_after b 0 (take k row) ≡ k = turn_of_row b (take k row) (omega arith) ∙ t in
-    let p : n ≡ place + length (take k row) + b * w (turn_after b 0 (take k row)) =
+pub part_more : (b : ℕ) (w : ℕ → ℕ) (place next k n : ℕ) (part block : List ℕ) (x : ℕ) → next + k < b
+    → k < length part → x ≡ get_or part k 0 → n ≡ place + k + b * w (next + k)
+    → set (laid b w place next (take k part) block) n x ≡ laid b w place next (take (k + 1) part) block
+part_more b w place next k n part block x l m e f =
+    let t : length (take k part) ≡ k = length-take-le k part (omega arith) in
+    let u : turn_after b next (take k part) ≡ next + k = turn_steps b next (take k part) (omega (arith, t, l))
+    ∙ ap (λ i. next + i) t in
+    let p : n ≡ place + length (take k part) + b * w (turn_after b next (take k part)) =
     omega (arith, f, t, ap (λ i. b * w i) u) in
-    ap₂ (λ i y. set (laid b w place 0 (take k row) block) i y) p e
-    ∙ sym (laid_more b w place 0 (take k row) block (get_or row k 0))
-    ∙ ap (λ ys. laid b w place 0 ys block) (sym (take_more row k 0 m))
+    ap₂ (λ i y. set (laid b w place next (take k part) block) i y) p e
+    ∙ sym (laid_more b w place next (take k part) block (get_or part k 0))
+    ∙ ap (λ ys. laid b w place next ys block) (sym (take_more part k 0 m))
 
-pub row_turn : (b : ℕ) (row : List ℕ) → 0 < b → length row ≡ b → turn_after b 0 row ≡ 0
-row_turn b row p e =
-    let t : length (take (b - 1) row) ≡ b - 1 = length-take-le (b - 1) row (omega arith) in
-    let f : b - 1 + 1 ≡ length row = omega arith in
-    ap (turn_after b 0) (sym (take_all (b - 1 + 1) row (omega arith)) ∙ take_more row (b - 1) 0 (omega arith))
-    ∙ turn_whole b (take (b - 1) row) (get_or row (b - 1) 0) (omega arith)
+-- the turn behind a part that ends with the last branch
+pub turn_end : (b next : ℕ) (part : List ℕ) → next < b → next + length part ≡ b → turn_after b next part ≡ 0
+turn_end b next part p e =
+    let n : ℕ = length part - 1 in
+    let t : length (take (length part - 1) part) ≡ length part - 1 =
+    length-take-le (length part - 1) part (omega arith) in
+    let f : length part - 1 + 1 ≡ length part = omega (arith, p, e) in
+    ap (turn_after b next) (sym (take_all (length part - 1 + 1) part (omega (arith, f)))
+    ∙ take_more part n 0 (omega (arith, f)))
+    ∙ turn_more b next (take n part) (get_or part n 0)
+    ∙ ap (following b) (turn_steps b next (take n part) (omega (arith, t, e, f)))
+    ∙ following_end b (next + length (take n part)) (omega (arith, t, e, f))
+
+-- and behind one that ends before
+pub turn_within : (b next : ℕ) (part : List ℕ) → next + length part ≤ b → (next + length part ≡ b → ⊥)
+    → turn_after b next part ≡ next + length part
+turn_within b next part l n = turn_steps b next part (omega (arith, l, n))
 
 -- more bytes
 pub lay_more : (b : ℕ) (w : ℕ → ℕ) (place next done count : ℕ) (bytes block now new : List ℕ)
@@ -168,18 +172,6 @@ turn_further b next done count turn new bytes e f =
     f ∙ ap (λ n. turn_after b n (take count (drop done bytes))) e
     ∙ sym (turn_after-append b next (take done bytes) (take count (drop done bytes)))
     ∙ ap (turn_after b next) (sym (take-add done count bytes))
-
--- one byte
-pub laid_one : (b : ℕ) (w : ℕ → ℕ) (place next : ℕ) (bytes block : List ℕ) → 0 < length bytes
-    → set block (place + b * w next) (get_or bytes 0 0) ≡ laid b w place next (take 1 bytes) block
-unfolding laid
-laid_one b w place next [] block l = absurd (omega arith)
-laid_one b w place next (x ∷ xs) block l = refl
-
-pub turn_one : (b next : ℕ) (bytes : List ℕ) → 0 < length bytes → turn_after b next (take 1 bytes) ≡ following b next
-unfolding turn_after
-turn_one b next [] l = absurd (omega arith)
-turn_one b next (x ∷ xs) l = refl
 
 -- a row of those that are held lies within the block
 pub row_within : (b m row place n : ℕ) → row < m * (b - 1) → place + b * m * (b - 1) ≤ n → place + row * b + b ≤ n

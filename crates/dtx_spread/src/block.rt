@@ -62,8 +62,8 @@ fn lay<W: Widths<B, M>, const B: usize, const M: usize>(
     turn
 }
 
-/// Lays a row of one byte for each branch where the turn is at branch 0 and there are as many, and else one byte. Gives
-/// how many it laid, and the next branch.
+/// Lays the bytes up to the last branch, or all where there are fewer. Gives how many it laid, and the next branch. A
+/// row of one byte for each branch has a call of its own, in which its length is known before the program runs.
 fn lay_next<W: Widths<B, M>, const B: usize, const M: usize>(
     block: &mut [u8],
     place: usize,
@@ -80,28 +80,35 @@ fn lay_next<W: Widths<B, M>, const B: usize, const M: usize>(
     ensures turn { result.1 ≡ turn_after B turn (take result.0 bytes.now) }
 {
     if turn == 0 && B <= bytes.len() {
-        lay_row::<W, B, M>(block, place, &bytes[..B]);
-        return (B, 0);
+        return (B, lay_part::<W, B, M>(block, place, 0, &bytes[..B]));
     }
-    block[place + B * W::width(turn)] = bytes[0];
-    (1, if turn + 1 == B { 0 } else { turn + 1 })
+    let count = (B - turn).min(bytes.len());
+    (
+        count,
+        lay_part::<W, B, M>(block, place, turn, &bytes[..count]),
+    )
 }
 
-/// Lays one byte for each branch, from branch 0 on.
-fn lay_row<W: Widths<B, M>, const B: usize, const M: usize>(
+/// Lays one byte for each branch from branch `turn` on, and gives the next branch.
+#[inline(always)]
+fn lay_part<W: Widths<B, M>, const B: usize, const M: usize>(
     block: &mut [u8],
     place: usize,
-    row: &[u8],
-)
+    turn: usize,
+    part: &[u8],
+) -> usize
     requires numbers { IsInterleaver B M }
-    requires whole { length row.now ≡ B }
-    requires room { place + B + B * M * (B - 1) ≤ length block.old }
-    ensures block { block.new ≡ laid B W.widths place 0 row.now block.old }
-    ensures turn { turn_after B 0 row.now ≡ 0 }
+    requires below { turn < B }
+    requires within { turn + length part.now ≤ B }
+    requires room { place + length part.now + B * M * (B - 1) ≤ length block.old }
+    ensures block { block.new ≡ laid B W.widths place turn part.now block.old }
+    ensures turn { result ≡ turn_after B turn part.now }
 {
-    for branch in 0..B {
-        block[place + branch + B * W::width(branch)] = row[branch];
+    for i in 0..part.len() {
+        block[place + i + B * W::width(turn + i)] = part[i];
     }
+    let after = turn + part.len();
+    if after == B { 0 } else { after }
 }
 
 /// Turns each `B` bytes that are held so that branch 0 comes first, where branch `next` did.
