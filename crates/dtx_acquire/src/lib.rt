@@ -12,6 +12,3 @@ mod signs;
 mod step;
 
 pub use acquirer::Acquirer;
-
-#[cfg(test)]
-mod tests;

@@ -2,7 +2,3 @@
 #![tactic(auto)]
 
 pub mod laws;
-#[cfg(test)]
-mod outer_blocks;
-#[cfg(test)]
-mod outer_ways;

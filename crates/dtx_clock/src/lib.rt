@@ -3,8 +3,6 @@
 
 mod answers;
 pub mod laws;
-#[cfg(test)]
-mod tests;
 mod times;
 
 pub use answers::{Late, Moment};

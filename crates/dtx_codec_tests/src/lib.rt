@@ -2,9 +2,13 @@
 #![tactic(auto)]
 
 #[cfg(test)]
+mod acquire;
+#[cfg(test)]
 mod chain;
 #[cfg(test)]
 mod coder;
+#[cfg(test)]
+mod collect;
 #[cfg(test)]
 mod correctors;
 #[cfg(test)]
@@ -16,12 +20,30 @@ mod encoder;
 #[cfg(test)]
 mod erasures;
 #[cfg(test)]
+mod frame;
+#[cfg(test)]
+mod galois;
+#[cfg(test)]
 mod least_paths;
 #[cfg(test)]
 mod mend_receiver;
 #[cfg(test)]
+mod outer_blocks;
+#[cfg(test)]
 mod outer_coding;
+#[cfg(test)]
+mod outer_ways;
 #[cfg(test)]
 mod plain_paths;
 #[cfg(test)]
+mod polynomial;
+#[cfg(test)]
 mod receiver;
+#[cfg(test)]
+mod slice;
+#[cfg(test)]
+mod spread;
+#[cfg(test)]
+mod trellis;
+#[cfg(test)]
+mod whiten;

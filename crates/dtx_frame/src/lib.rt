@@ -10,6 +10,3 @@ mod tables;
 pub use data::data_segment;
 pub use detection::{is_second, looks};
 pub use sync::field_sync;
-
-#[cfg(test)]
-mod tests;

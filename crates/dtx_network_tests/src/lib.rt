@@ -4,12 +4,28 @@
 #[cfg(test)]
 mod adapter;
 #[cfg(test)]
+mod anchor;
+#[cfg(test)]
 mod changed;
 #[cfg(test)]
+mod clock;
+#[cfg(test)]
 mod exciter;
+#[cfg(test)]
+mod laying;
+#[cfg(test)]
+mod made;
+#[cfg(test)]
+mod marks;
 #[cfg(test)]
 mod net;
 #[cfg(test)]
 mod ops;
 #[cfg(test)]
+mod paging;
+#[cfg(test)]
 mod plan;
+#[cfg(test)]
+mod refusals;
+#[cfg(test)]
+mod repeater;

@@ -39,30 +39,3 @@ pub enum OpsNo {
     #[error("Page")]
     Page,
 }
-
-#[cfg(test)]
-mod tests {
-    use super::*;
-    use std::test::Fail;
-
-    #[test]
-    fn the_message_of_a_refusal_is_its_name(rt: HostRuntime) -> Result<(), Fail> {
-        let cases = [
-            (OpsNo::NotOps, "NotOps"),
-            (OpsNo::Uncorrectable, "Uncorrectable"),
-            (OpsNo::Kind, "Kind"),
-            (OpsNo::Pad, "Pad"),
-            (OpsNo::Stamp, "Stamp"),
-            (OpsNo::Delay, "Delay"),
-            (OpsNo::Index, "Index"),
-            (OpsNo::Count, "Count"),
-            (OpsNo::Twice, "Twice"),
-            (OpsNo::Fill, "Fill"),
-            (OpsNo::Page, "Page"),
-        ];
-        for (no, name) in cases {
-            assert!(rt; format!(in rt.alloc(); "{no}")?.as_str() == name);
-        }
-        Ok(())
-    }
-}

@@ -66,16 +66,3 @@ impl<R: Print + Eprint> Sink for HostSink<'_, R> {
         }
     }
 }
-
-#[cfg(test)]
-mod tests {
-    use super::*;
-
-    #[test]
-    fn bytes_are_printed(rt: HostRuntime) {
-        let progress = Progress::new(&rt, false);
-        let mut sink = HostSink::new(&rt, &progress);
-        assert_eq!(rt; sink.write(b"printed\n"), Ok(8));
-        assert_eq!(rt; sink.faults, 0);
-    }
-}

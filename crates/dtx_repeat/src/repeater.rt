@@ -90,6 +90,3 @@ impl Repeater {
         self.exciter.take(packet, air)
     }
 }
-
-#[cfg(test)]
-mod tests;

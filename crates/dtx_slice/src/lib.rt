@@ -8,6 +8,3 @@ mod walk;
 
 pub use slicing::{last_levels, level, levels, put_levels};
 pub use unroll::Unroll;
-
-#[cfg(test)]
-mod tests;

@@ -70,6 +70,3 @@ impl Twelve {
         self.states = states;
     }
 }
-
-#[cfg(test)]
-mod tests;

@@ -143,6 +143,3 @@ pub fn finish(status: Status, printed: Result<(), SinkNo>) -> Status
         Err(SinkNo::Failed) => status,
     }
 }
-
-#[cfg(test)]
-mod tests;

@@ -69,6 +69,3 @@ pub fn names_differ()
     ensures logs_not_received { (address : ℕ) → log_name address ≢ received_name }
     ensures feed_not_received { feed_name ≢ received_name }
 {}
-
-#[cfg(test)]
-mod tests;

@@ -1,7 +1,9 @@
 // The exact text of the lines, over a sink in memory.
-use super::*;
+
+use dtx_meaning::{Outcome, Status};
 use dtx_outside::MemorySink;
 use dtx_plan::{PlanKey, PlanNo, PlanRule};
+use dtx_words::{Command, line};
 use std::test::Fail;
 
 /// The numbers of each line.

@@ -1,9 +1,9 @@
-//! Worked groups of one byte alone.
+// Worked groups of one byte alone.
 
 ghost use Rattle.std.specs.Prelude.{◌≡◌, ◌%◌, ◌<◌};
 
-use super::*;
 use dtx_sizes::{CODERS, FIELD_PACKETS, GROUP_BYTES, GROUP_LEVELS};
+use dtx_trellis::{States, Twelve};
 
 /// The coders, of which one is in a state of its own, and what they give for one byte that isn't 0.
 fn coded(

@@ -1,8 +1,8 @@
-//! The first symbols of the standard's sequences, a segment of every level, and syncs with wrong symbols.
+// The first symbols of the standard's sequences, a segment of every level, and syncs with wrong symbols.
 
 ghost use Rattle.std.specs.Prelude.{◌+◌, ◌≤◌};
 
-use crate::{data_segment, field_sync, is_second, looks};
+use dtx_frame::{data_segment, field_sync, is_second, looks};
 use dtx_sizes::{PRECODE, SEGMENT, SEGMENT_LEVELS};
 
 /// Whether the symbols from place `at` on are these bits.

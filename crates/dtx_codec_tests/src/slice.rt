@@ -1,9 +1,9 @@
-//! Worked symbols, and worked groups of which few levels aren't 0.
+// Worked symbols, and worked groups of which few levels aren't 0.
 
 ghost use Rattle.std.specs.Prelude.{◌≡◌, ◌%◌, ◌<◌, EachIndex, slice_index};
 
-use crate::{Unroll, last_levels, level, levels, put_levels};
 use dtx_sizes::{FIELD_PACKETS, GROUP_BYTES, GROUP_LEVELS, PRECODE, SEGMENT, SEGMENT_LEVELS};
+use dtx_slice::{Unroll, last_levels, level, levels, put_levels};
 
 #[test]
 fn a_symbol_of_any_strength_has_the_level_that_is_nearest(rt: HostRuntime) {

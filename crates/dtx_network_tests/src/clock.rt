@@ -1,6 +1,6 @@
-//! Worked numbers of the clock.
+// Worked numbers of the clock.
 
-use crate::{Late, Moment, hold, moment, runs, stamp};
+use dtx_clock::{Late, Moment, hold, moment, runs, stamp};
 
 #[test]
 fn stamps_of_frames_come_from_one_division(rt: HostRuntime) {

@@ -1,5 +1,6 @@
-// The exact names.
-use super::*;
+// The exact names of a network's files.
+
+use dtx_words::{feed_name, log_name, received_name, symbol_name};
 use std::test::Fail;
 
 #[test]

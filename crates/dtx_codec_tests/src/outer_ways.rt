@@ -1,4 +1,4 @@
-//! The outer coding there and back, at the numbers of the air.
+// The outer coding there and back, at the numbers of the air.
 
 use dtx_correct::Linear;
 use dtx_outer::{Inner, Outer, Taken};

@@ -1,5 +1,5 @@
-//! The outer coding at the numbers of the air, with the encoder, the corrector, the randomizer and the interleaver that
-//! it is used with.
+// The outer coding at the numbers of the air, with the encoder, the corrector, the randomizer and the interleaver that
+// it is used with.
 
 use dtx_outer::Outer;
 use dtx_rs::Rs;

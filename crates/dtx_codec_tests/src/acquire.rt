@@ -1,6 +1,6 @@
-//! Zeros, and a short capture with something in front.
+// Zeros, and a short capture with something in front.
 
-use crate::Acquirer;
+use dtx_acquire::Acquirer;
 use dtx_frame::field_sync;
 use dtx_sizes::{PRECODE, SEGMENT, SEGMENT_SYNC};
 use std::test::Fail;

@@ -1,10 +1,11 @@
-//! Marks of streams of zeros, whose data symbols are all -7.
+// Marks of streams of zeros, whose data symbols are all -7.
 
 ghost use Rattle.std.specs.Prelude.{◌≤◌};
 
-use super::*;
 use dtx_frame::field_sync;
-use dtx_sizes::{FIELD_SEGMENTS, PRECODE};
+use dtx_receiver::Batch;
+use dtx_repeat::Repeater;
+use dtx_sizes::{FIELD_SEGMENTS, PRECODE, SEGMENT};
 use std::test::Fail;
 
 /// The sync of a field, with so many wrong signs in the middle one of its short sequences.
