@@ -120,6 +120,40 @@ equal_names_that_are_missing missing missing 3 same_missing
 end
 }
 
+# refuses_sent_files COMMAND INPUT: what `excite` or `repeat` refuses of its files, and what it leaves where the symbols that it sends for
+# the input fill up their file. The input is that of `$room/from_order.sym`.
+refuses_sent_files() {
+    local command=$1 given=$2 shows input symbols log status line left
+    while read -r shows input symbols log status line left; do
+        start "\`$command\` is refused: $shows"
+        mkdir folder
+        run "$status" "${line//_/ }" "$command" "$input" 7 1000 "$symbols" "$log"
+        leaves folder ${left:+"$left"}
+        [[ ! $left || ! -s $left ]] || wrong "$left is not empty"
+    done <<end
+a_missing_input missing out.sym out.log 4 absent_missing
+an_input_that_is_a_folder folder out.sym out.log 11 read_fault
+symbols_for_a_folder $given folder out.log 12 write_fault
+a_log_for_a_folder $given out.sym folder 12 write_fault out.sym
+end
+    start "\`$command\`: symbols that fill up their output in mid-stream"
+    (
+        ulimit -f 600
+        "$dtx" "$command" "$given" 7 1000 out.sym out.log >"$room/said" 2>"$room/complaint"
+    )
+    ended 12 $?
+    is_begun out.sym "$room/from_order.sym"
+}
+
+# agrees COMMAND INPUT OUT: what the command prints of the input and writes to OUT is what the program of its name prints and writes that
+# shares nothing with dtx. Both files stay, the other one as `wanted` with the same suffix.
+agrees() {
+    local command=$1 input=$2 out=$3 line
+    line=$("$top/checks/independent/$command.py" "$command" "$input" "wanted.${out##*.}")
+    run 0 "$line" "$command" "$input" "$out"
+    cmp -s "wanted.${out##*.}" "$out" || wrong "$(cmp "wanted.${out##*.}" "$out" 2>&1)"
+}
+
 # has_digest FILE DIGEST: the file is the one that a program made which shares nothing with dtx.
 has_digest() {
     [[ $(sha256sum <"$1") == "$2  -" ]] || wrong "$1 is another file"

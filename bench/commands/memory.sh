@@ -13,14 +13,6 @@ packets=31200
 . "$(dirname "${BASH_SOURCE[0]}")/timing.sh"
 cd "$room"
 
-# network STREAM PACKETS TRANSMITTERS: the plan of a network, each transmitter of which is given so many packets of the feed.
-network() {
-    printf 'start = 0\nmax_delay = 5000000\n'
-    printf '[[transmitter]]\naddress = %d\noffset = 0\n' $(seq "$3")
-    printf '[net]\nstream = "%s"\n' "$1"
-    printf '[[net.event]]\ndo = "send"\nto = %d\nfrom = 0\ncount = '"$2"'\n' $(seq "$3")
-}
-
 network in.ts $packets 1 >net.toml
 network frame.ts 624 35 >net-35.toml
 network frame.ts 624 1020 >net-1020.toml
@@ -31,8 +23,8 @@ printf '[[damage]]\nat = 1000\ncount = 1000\nput = 0\n' >damage.toml
 "$program" code in.ts in.sym >said
 
 status=0
-# within BAR WORD..: says how many kB the program held at most with these words, and whether that is within the bar.
-within() {
+# holds BAR WORD..: says how many kB the program held at most with these words, and whether that is within the bar.
+holds() {
     local bar=$1 least='' held round
     shift
     for ((round = 0; round < rounds; round++)); do
@@ -43,21 +35,21 @@ within() {
     ((least <= bar)) || status=1
 }
 
-within 1456
-within 2140 adapt net.toml in.ts out.ts
-within 1824 code in.ts out.sym
-within 2240 excite feed.ts 1 0 out.sym out.log
-within 2188 receive in.sym out.ts
-within 1568 make 1 $packets out.ts
-within 1944 hurt in.ts damage.toml out.ts
-within 2132 net net.toml
-within 10324 net net-35.toml
-within 262144 net net-1020.toml
-within 12288 soft in.sym out.sym
-within 12288 acquire 1 in.sym out.sym
-within 4376 mend in.sym out.ts
-within 4428 repeat in.sym 1 0 out.sym out.log
-within 2240 watch feed.ts out.txt
-within 2140 dvb code in.ts in.dvb
-within 2188 dvb read in.dvb out.ts
+holds 1456
+holds 2140 adapt net.toml in.ts out.ts
+holds 1824 code in.ts out.sym
+holds 2240 excite feed.ts 1 0 out.sym out.log
+holds 2188 receive in.sym out.ts
+holds 1568 make 1 $packets out.ts
+holds 1944 hurt in.ts damage.toml out.ts
+holds 2132 net net.toml
+holds 10324 net net-35.toml
+holds 262144 net net-1020.toml
+holds 12288 soft in.sym out.sym
+holds 12288 acquire 1 in.sym out.sym
+holds 4376 mend in.sym out.ts
+holds 4428 repeat in.sym 1 0 out.sym out.log
+holds 2240 watch feed.ts out.txt
+holds 2140 dvb code in.ts in.dvb
+holds 2188 dvb read in.dvb out.ts
 exit $status

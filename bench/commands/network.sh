@@ -22,19 +22,6 @@ most_entries=100000
 . "$(dirname "${BASH_SOURCE[0]}")/timing.sh"
 cd "$room"
 
-# network STREAM PACKETS TRANSMITTERS: the plan of a network, each transmitter of which is given so many packets of the feed.
-network() {
-    local address
-    printf 'start = 0\nmax_delay = 5000000\n'
-    for ((address = 1; address <= $3; address++)); do
-        printf '[[transmitter]]\naddress = %d\noffset = 0\n' $address
-    done
-    printf '[net]\nstream = "%s"\n' "$1"
-    for ((address = 1; address <= $3; address++)); do
-        printf '[[net.event]]\ndo = "send"\nto = %d\nfrom = 0\ncount = %d\n' $address "$2"
-    done
-}
-
 # paged IN OUT: a stream in which each of the first 45 groups of a frame begins with a placeholder.
 paged() {
     python3 - "$1" "$2" <<'end'

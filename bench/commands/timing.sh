@@ -48,6 +48,14 @@ within() {
         'BEGIN { printf "%s takes %.2f times as long as %s (bar: %s)\n", name, time / than, others, bar; exit time > bar * than }'
 }
 
+# network STREAM PACKETS TRANSMITTERS: the plan of a network, each transmitter of which is given so many packets of the feed.
+network() {
+    printf 'start = 0\nmax_delay = 5000000\n'
+    printf '[[transmitter]]\naddress = %d\noffset = 0\n' $(seq "$3")
+    printf '[net]\nstream = "%s"\n' "$1"
+    printf '[[net.event]]\ndo = "send"\nto = %d\nfrom = 0\ncount = '"$2"'\n' $(seq "$3")
+}
+
 # memory COMMAND..: the most kB that the command held at a time.
 memory() {
     if [[ -x /usr/bin/time ]]; then

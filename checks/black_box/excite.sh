@@ -133,17 +133,24 @@ run 0 'packets 1300 segments 1204 presets 4 mutes 0 loose 0' excite "$room/feed.
 has_digest out.sym d053d41c45f273e3e262b297d5fa7c7df44adbfb998e9210481653691e0f1178
 has_digest out.log 42071eb44f95e818bfcf4eb4a16103cb4638dc713e3a49989c7d8621846571f4
 
-# The first operations packet is changed: up to ten wrong bytes of it are put right; else it doesn't read, or is of another place, or
-# lists another transmitter, and the next order is the first.
-while read -r changes segments presets mutes first; do
-    for change in ${changes//,/ }; do
-        start "an operations packet with another $change"
-        "$top/checks/independent/lies.py" "$room/feed.ts" "$change" in.ts || wrong 'the change is another one'
-        run 0 "packets 1300 segments $segments presets $presets mutes $mutes loose 0" excite in.ts 7 1000 out.sym out.log
-        [[ $(grep -m 1 preset out.log) == "$first" ]] || wrong "the first preset is '$(grep -m 1 preset out.log)'"
-        (($(grep -c mute out.log) == mutes)) || wrong "the log is '$(tr '\n' ';' <out.log)'"
+# excites_changed FEED ADDRESS DELAY: its first operations packet is changed in each way of the rows of the standard input, which tell the
+# changes, how many segments, presets and mutes an exciter of that address and delay has then, and its first preset.
+excites_changed() {
+    local changes segments presets mutes first change
+    while read -r changes segments presets mutes first; do
+        for change in ${changes//,/ }; do
+            start "the first operations packet of ${1##*/} with another $change"
+            "$top/checks/independent/lies.py" "$1" "$change" in.ts || wrong 'the change is another one'
+            run 0 "packets 1300 segments $segments presets $presets mutes $mutes loose 0" excite in.ts "$2" "$3" out.sym out.log
+            [[ $(grep -m 1 preset out.log) == "$first" ]] || wrong "the first preset is '$(grep -m 1 preset out.log)'"
+            (($(grep -c mute out.log) == mutes)) || wrong "the log is '$(tr '\n' ';' <out.log)'"
+        done
     done
-done <<'end'
+}
+
+# Up to ten wrong bytes of it are put right; else it doesn't read, or is of another place, or lists another transmitter, and the next order
+# is the first.
+excites_changed "$room/feed.ts" 7 1000 <<'end'
 ten 1204 4 0 preset 0 0 100 5078070 640
 pid,eleven,kind,third,pad,stamp,delay,index,count,twice,fill,place 891 3 0 preset 0 0 412 5320042 612
 address 891 3 1 preset 0 0 412 5320042 612

@@ -5,14 +5,6 @@ missing() {
     head -c "$2" /dev/zero | tr '\0' '\200' | dd of="$3" bs=65536 oflag=seek_bytes seek="$1" conv=notrunc status=none
 }
 
-# mends SYMBOLS: what `mend` prints and writes of a file is what a program prints and writes that shares nothing with it.
-mends() {
-    local line
-    line=$("$top/checks/independent/mend.py" mend "$1" wanted.ts)
-    run 0 "$line" mend "$1" out.ts
-    cmp -s wanted.ts out.ts || wrong 'out.ts has other packets'
-}
-
 start 'of symbols of which none is missing the packets are those of `receive`'
 run 0 'segments 1305 runs 1 packets 1249 fixed 0 flagged 0 loose 0' mend "$room/feed.sym" out.ts
 cmp -s "$room/received.ts" out.ts || wrong 'out.ts has other packets'
@@ -21,26 +13,21 @@ leaves out.ts
 start 'four segments that are missing come back, which `receive` flags in 51 packets'
 cp "$room/feed.sym" in.sym
 missing 167232 3328 in.sym
-mends in.sym
+agrees mend in.sym out.ts
 [[ $(cat "$room/said") == 'segments 1305 runs 1 packets 1249 fixed '*' flagged 0 loose 0' ]] || wrong "printed $(cat "$room/said")"
 cmp -s "$room/received.ts" out.ts || wrong 'out.ts has other packets'
 "$dtx" receive in.sym out.ts >"$room/said" 2>"$room/complaint"
 [[ $(cat "$room/said") == *' flagged 51 loose 0' ]] || wrong "printed $(cat "$room/said")"
 leaves in.sym wanted.ts out.ts
 
-start 'two lost segments that are not told to be missing are put right as by `receive`'
-"$top/checks/independent/reference.py" zeros 624 in.ts
-run 0 'packets 624 segments 626 loose 0' code in.ts in.sym
-head -c 1664 /dev/zero | tr '\0' '\177' | dd of=in.sym bs=1 seek=167232 conv=notrunc status=none
-run 0 'segments 626 runs 1 packets 573 fixed 420 flagged 0 loose 0' mend in.sym out.ts
-head -c $((573 * 188)) in.ts | cmp -s - out.ts || wrong 'out.ts is not the first 573 packets'
+puts_lost_segments_right mend
 
 # Where segments are missing: at the begin and the end of a run, over a field sync that is due, and more of them than can be put right.
 while read -r shows from count flagged; do
     start "missing symbols: $shows"
     cp "$room/from_order.sym" in.sym
     missing "$from" "$count" in.sym
-    mends in.sym
+    agrees mend in.sym out.ts
     [[ $(cat "$room/said") == 'segments 1204 runs 1 packets 937 '*" flagged $flagged loose 0" ]] || wrong "printed $(cat "$room/said")"
 done <<'end'
 a_symbol 300000 1 0
@@ -51,10 +38,8 @@ end
 start 'missing symbols: a field sync that is due ends its run'
 cp "$room/feed.sym" in.sym
 missing $((313 * 832)) 832 in.sym
-line=$("$top/checks/independent/mend.py" mend in.sym wanted.ts)
-run 0 "$line" mend in.sym out.ts
-cmp -s wanted.ts out.ts || wrong 'out.ts has other packets'
-[[ $line == 'segments 1305 runs 2 packets '* ]] || wrong "the line is $line"
+agrees mend in.sym out.ts
+[[ $(cat "$room/said") == 'segments 1305 runs 2 packets '* ]] || wrong "printed $(cat "$room/said")"
 
 start 'symbols of which all are missing'
 head -c 83200 /dev/zero | tr '\0' '\200' >in.sym

@@ -104,17 +104,9 @@ start 'a page that is lost: its exciter goes on by the entry that it had'
 run 0 'packets 1300 segments 1204 presets 3 mutes 0 loose 0' excite in.ts 100 0 out.sym out.log
 has_log 'preset 0 0 100 5078080 640' 'preset 313 0 412 5320052 612' 'preset 939 1 412 5803995 612'
 
-# The first operations packet is changed: it is put right, or doesn't read, or is of another place, or has no entry of the first address;
-# that one is then unlisted once the other page was told.
-while read -r changes segments presets mutes first; do
-    for change in ${changes//,/ }; do
-        start "an operations packet of a page with another $change"
-        "$top/checks/independent/lies.py" "$room/forty.ts" "$change" in.ts || wrong 'the change is another one'
-        run 0 "packets 1300 segments $segments presets $presets mutes $mutes loose 0" excite in.ts 100 0 out.sym out.log
-        [[ $(grep -m 1 preset out.log) == "$first" ]] || wrong "the first preset is '$(grep -m 1 preset out.log)'"
-        (($(grep -c unlisted out.log) == mutes)) || wrong "the log is '$(tr '\n' ';' <out.log)'"
-    done
-done <<'end'
+# It is put right, or doesn't read, or is of another place, or has no entry of the first address; that one is then unlisted once the other
+# page was told.
+excites_changed "$room/forty.ts" 100 0 <<'end'
 ten 1204 4 0 preset 0 0 100 5078080 640
 pid,eleven,kind,third,pad,stamp,delay,index,page,pages,no-pages,count,no-pages-and-count,twice,fill,place 578 2 0 preset 0 1 100 5562023 640
 address 578 2 1 preset 0 1 100 5562023 640

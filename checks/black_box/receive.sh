@@ -55,12 +55,17 @@ printf '\x7f%.0s' {1..12} | dd of=in.sym bs=1 seek=300000 conv=notrunc status=no
 run 0 'segments 1204 runs 1 packets 937 fixed 9 flagged 0 loose 0' receive in.sym out.ts
 has_digest out.ts 25bcdec4408a72dc0fc771a6f9f4864b5bece438a7f254858a62c49148eb8056
 
-start 'two lost segments are put right'
-"$top/checks/independent/reference.py" zeros 624 in.ts
-run 0 'packets 624 segments 626 loose 0' code in.ts in.sym
-head -c 1664 /dev/zero | tr '\0' '\177' | dd of=in.sym bs=1 seek=167232 conv=notrunc status=none
-run 0 'segments 626 runs 1 packets 573 fixed 420 flagged 0 loose 0' receive in.sym out.ts
-head -c $((573 * 188)) in.ts | cmp -s - out.ts || wrong 'out.ts is not the first 573 packets'
+# puts_lost_segments_right COMMAND: two segments of a stream, all of whose symbols are other ones, cost no packet.
+puts_lost_segments_right() {
+    start "two lost segments are put right by \`$1\`"
+    "$top/checks/independent/reference.py" zeros 624 in.ts
+    run 0 'packets 624 segments 626 loose 0' code in.ts in.sym
+    head -c 1664 /dev/zero | tr '\0' '\177' | dd of=in.sym bs=1 seek=167232 conv=notrunc status=none
+    run 0 'segments 626 runs 1 packets 573 fixed 420 flagged 0 loose 0' "$1" in.sym out.ts
+    head -c $((573 * 188)) in.ts | cmp -s - out.ts || wrong 'out.ts is not the first 573 packets'
+}
+
+puts_lost_segments_right receive
 
 start 'a long stream of feed symbols'
 run 0 'packets 31200' make 1 31200 in.ts

@@ -113,33 +113,7 @@ fills_up 300 "$room/made.ts" make 1 31200 out.ts
 start 'an output that fills up in mid-stream'
 fills_up 300 "$room/long.feed" adapt "$plan" ../inputs/long.ts out.ts
 
-start 'a missing feed of `excite`'
-run 4 'absent missing.ts' excite missing.ts 7 0 out.sym out.log
-leaves_nothing
-
-start 'a feed of `excite` that is a folder'
-mkdir in.ts
-run 11 'read fault' excite in.ts 7 0 out.sym out.log
-leaves in.ts
-
-start 'symbols of an exciter for a folder'
-mkdir out.sym
-run 12 'write fault' excite ../inputs/given.ts 7 0 out.sym out.log
-leaves out.sym
-
-start 'the log of an exciter for a folder'
-mkdir out.log
-run 12 'write fault' excite ../inputs/given.ts 7 0 out.sym out.log
-[[ -f out.sym && ! -s out.sym ]] || wrong 'out.sym is not empty'
-leaves out.log out.sym
-
-start 'symbols of an exciter that fill up their output in mid-stream'
-(
-    ulimit -f 600
-    "$dtx" excite "$room/feed.ts" 7 1000 out.sym out.log >"$room/said" 2>"$room/complaint"
-)
-ended 12 $?
-is_begun out.sym "$room/from_order.sym"
+refuses_sent_files excite "$room/feed.ts"
 
 if [[ -c /dev/full ]]; then
     start 'a full device as the output'

@@ -40,24 +40,4 @@ start 'random symbol files, cut, spliced and damaged'
 
 # ---- Refusals ----
 
-start 'a missing input of `repeat`'
-run 4 'absent missing.sym' repeat missing.sym 7 0 out.sym out.log
-leaves_nothing
-
-start 'an input of `repeat` that is a folder'
-mkdir in.sym
-run 11 'read fault' repeat in.sym 7 0 out.sym out.log
-leaves in.sym
-
-start 'the log of a repeater for a folder'
-mkdir out.log
-run 12 'write fault' repeat "$room/feed.sym" 7 1000 out.sym out.log
-leaves out.log out.sym
-
-start 'symbols of a repeater that fill up their output in mid-stream'
-(
-    ulimit -f 600
-    "$dtx" repeat "$room/feed.sym" 7 1000 out.sym out.log >"$room/said" 2>"$room/complaint"
-)
-ended 12 $?
-is_begun out.sym "$room/from_order.sym"
+refuses_sent_files repeat "$room/feed.sym"

@@ -1,13 +1,5 @@
 # Symbols that become those of the least paths. What OUT must be is written here, or by a program that shares nothing with dtx.
 
-# softens SYMBOLS: what `soft` prints and writes of a file is what a program prints and writes that shares nothing with it.
-softens() {
-    local line
-    line=$("$top/checks/independent/soft.py" soft "$1" wanted.sym)
-    run 0 "$line" soft "$1" out.sym
-    cmp -s wanted.sym out.sym || wrong 'out.sym has other symbols'
-}
-
 start 'undamaged symbols are their own least paths'
 run 0 'segments 1305 fields 5 cost 0 loose 0' soft "$room/feed.sym" out.sym
 cmp -s "$room/feed.sym" out.sym || wrong 'out.sym has other symbols'
@@ -30,7 +22,7 @@ head -c $((626 * 832)) "$room/feed.sym" >in.sym
 ended 0 $?
 [[ $(cat "$room/said") =~ ^segments\ 626\ runs\ 1\ packets\ 573\ fixed\ [0-9]+\ flagged\ [1-9][0-9]{2}\ loose\ 0$ ]] ||
     wrong "printed $(cat "$room/said")"
-softens noisy.sym
+agrees soft noisy.sym out.sym
 run 0 'segments 626 runs 1 packets 573 fixed 0 flagged 0 loose 0' receive out.sym out.ts
 head -c $((573 * 188)) "$room/received.ts" | cmp -s - out.ts || wrong 'out.ts is not the first 573 packets'
 cp noisy.sym "$room"
@@ -44,7 +36,7 @@ cmp -s "$room/softened.sym" out.sym || wrong 'out.sym has other symbols'
 while read -r segments fields rest loose; do
     start "softened symbols of $segments segments and $loose loose bytes"
     head -c $((segments * 832 + loose)) "$room/noisy.sym" >in.sym
-    softens in.sym
+    agrees soft in.sym out.sym
     [[ $(cat "$room/said") == "segments $segments fields $fields cost "*" loose $loose" ]] || wrong "printed $(cat "$room/said")"
     [[ $(stat -c %s out.sym) == $((segments * 832)) ]] || wrong "out.sym has not $segments segments"
     head -c $((segments * 832)) in.sym | tail -c $((rest * 832)) | cmp -s - <(tail -c $((rest * 832)) out.sym) ||
@@ -82,7 +74,7 @@ head -c $((677 * 832)) ../inputs/long.ts | cmp -s - out.sym || wrong 'out.sym is
 start 'what stands before the first field sync is copied'
 tail -c $((832 * 12)) "$room/noisy.sym" >front.sym
 cat front.sym "$room/noisy.sym" >in.sym
-softens in.sym
+agrees soft in.sym out.sym
 cat front.sym "$room/softened.sym" | cmp -s - out.sym || wrong 'out.sym has other symbols'
 
 start 'softened symbols replace an existing longer output'

@@ -1,13 +1,5 @@
 # What is told of a feed. The numbers and lines are those of a program that shares nothing with dtx.
 
-# watches FEED: what `watch` prints and writes of a feed is what a program prints and writes that shares nothing with it.
-watches() {
-    local line
-    line=$("$top/checks/independent/watch.py" watch "$1" wanted.txt)
-    run 0 "$line" watch "$1" out.txt
-    cmp -s wanted.txt out.txt || wrong "out.txt has '$(diff wanted.txt out.txt | head -n 2 | tr '\n' ';')'"
-}
-
 start 'a feed is sound'
 run 0 'packets 1300 ops 4 slips 0 jumps 0 unread 0 stray 0 loose 0' watch "$room/feed.ts" out.txt
 printf '%s\n' 'lock 0' 'ops 100 0 100 0 5000000 2 first first' 'ops 412 0 412 0 5000000 2 right right' \
@@ -42,7 +34,7 @@ end
 start 'a packet is missing'
 head -c $((700 * 188)) "$room/feed.ts" >in.ts
 tail -c +$((701 * 188 + 1)) "$room/feed.ts" >>in.ts
-watches in.ts
+agrees watch in.ts out.txt
 grep -q '^stray 723 1 100$' out.txt || wrong "out.txt has '$(tr '\n' ';' <out.txt)'"
 
 start 'packets that are no feed, and none'
