@@ -57,7 +57,7 @@ not_zero x y e z = no_one (sym (zero_mul y) ∙ ap (λ (u : ℕ). mul u y) (sym 
     no_one : ◌≡◌ {A = ℕ} 0 1 → ⊥
     no_one e = omega arith
 
-powers_not_zero : (x y n : ℕ) → mul x y ≡ 1 → pow x n ≢ 0
+pub powers_not_zero : (x y n : ℕ) → mul x y ≡ 1 → pow x n ≢ 0
 powers_not_zero x y n e =
     not_zero (pow x n) (pow y n) (sym (pow_mul x y n) ∙ ap (λ (z : ℕ). pow z n) e ∙ pow_one n)
 
@@ -77,7 +77,7 @@ walk_of_zero w x y c e b z =
     no_divisors (walked (suc w) c y) (pow x w) (walked_small (suc w) y c) (pow_small x w) (powers_not_zero x y w e)
     (mul_comm (walked (suc w) c y) (pow x w) ∙ sym (walked_is w x y c e b) ∙ z)
 
-two_inverse : mul 2 (pow 2 254) ≡ 1
+pub two_inverse : mul 2 (pow 2 254) ≡ 1
 two_inverse = mul_inverse 2 (omega arith) (omega arith)
 
 inverse_at_is : (n p : ℕ) → mul (power_at n p) (inverse_at n p) ≡ 1

@@ -5,6 +5,8 @@ ghost use Rattle.dtx_laws.specs.Codeword.{IsCode, IsCodeword, IsCorrection};
 ghost use Rattle.dtx_laws.specs.Correction.{IsCorrected, IsLeft};
 ghost use Rattle.dtx_galois.specs.Field.{AreBytes, pow, value};
 
+use crate::few::mend_one;
+use crate::logarithms::Logarithms;
 use crate::recurrence::find_recurrence;
 use crate::repair::patch;
 use crate::tables::Tables;
@@ -18,6 +20,7 @@ use dtx_rs::Rs;
 pub struct Fast<const N: usize, const K: usize> {
     encoder: Rs<N, K>,
     tables: Tables,
+    logarithms: Logarithms,
     ghost code: { IsCode N K },
 }
 
@@ -29,6 +32,7 @@ impl<const N: usize, const K: usize> Fast<N, K> {
         Fast {
             encoder: Rs::new(),
             tables: Tables::new(),
+            logarithms: Logarithms::new(),
         }
     }
 
@@ -54,8 +58,12 @@ impl<const N: usize, const K: usize> Fast<N, K> {
         if *code == *word {
             return Ok(0);
         }
+        let syndromes = self.syndromes(word, code);
+        if mend_one(&self.logarithms, &mut word[..], &syndromes, K) {
+            return Ok(1);
+        }
         let mut tried = *word;
-        repair(&self.tables, &mut tried[..], &code[..], K);
+        repair(&self.tables, &mut tried[..], &syndromes, K);
         accept(&self.encoder, word, &tried)
     }
 }
@@ -91,18 +99,15 @@ fn syndromes(tables: &Tables, word: &[u8], code: &[u8], k: usize) -> [u8; ROOM]
     tables.syndromes(&word[k..], &code[k..])
 }
 
-/// Makes a word its correction, where it has one, from the codeword that begins with its `k` bytes of data.
-fn repair(tables: &Tables, word: &mut [u8], code: &[u8], k: usize)
-    requires same { length code.now ≡ length word.old }
+/// Makes a word of `k` bytes of data its correction, where it has one, from its syndromes.
+fn repair(tables: &Tables, word: &mut [u8], syndromes: &[u8; ROOM], k: usize)
     requires code { IsCode (length word.old) k }
     requires bytes { AreBytes word.old }
-    requires codeword { IsCodeword (length word.old) k code.now }
-    requires begins { take k code.now ≡ take k word.old }
+    requires values { (i : ℕ) → i < length word.old - k → slice_index syndromes.now i ≡ value word.old (pow 2 i) }
     ensures { (right : List ℕ) → IsCorrection (length word.old) k word.old right → word.new ≡ right }
 {
-    let syndromes = syndromes(tables, word, code, k);
-    if let Some(found) = find_recurrence(&syndromes, word.len() - k) {
+    if let Some(found) = find_recurrence(syndromes, word.len() - k) {
         let walk = tables.walk(&found, word.len());
-        patch(word, &walk, &found, &syndromes);
+        patch(word, &walk, &found, syndromes);
     }
 }

@@ -3,7 +3,9 @@
 #![tactic(auto)]
 
 mod fast;
+mod few;
 pub mod laws;
+mod logarithms;
 mod places;
 mod recurrence;
 mod repair;

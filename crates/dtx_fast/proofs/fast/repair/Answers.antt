@@ -21,10 +21,10 @@ returns-in-Some c right ic =
     let code = c.requires.code in
     let found = c.in-Some.found in
     let is = c.in-Some.ensures.some in
-    let s : ℕ → ℕ = λ i. get_or c.syndromes-syndromes.result i 0 in
+    let s : ℕ → ℕ = λ i. get_or c.args.syndromes.now i 0 in
     let cs : ℕ → ℕ = λ i. get_or c.in-Some.found.coefficients i 0 in
     let twice : n - k ≡ 2 * t = omega (arith, code.even) in
-    let syndromes : (i : ℕ) → i < n - k → s i ≡ value word (pow 2 i) = c.syndromes-syndromes.ensures.values in
+    let syndromes : (i : ℕ) → i < n - k → s i ≡ value word (pow 2 i) = c.requires.values in
     repaired_right n k t found.order word right c.patch.new.word s cs code.short twice c.requires.bytes refl ic
     is.1 (λ i l. syndromes i (omega (arith, l, twice)))
     (subst (λ m. IsRecurrence m c.in-Some.found.order s cs) twice is.2)
@@ -36,8 +36,8 @@ returns-in_default c right ic =
     let word : List ℕ = c.args.word.now in
     let n : ℕ = length word in
     let k : ℕ = c.args.k in
-    let s : ℕ → ℕ = λ i. get_or c.syndromes-syndromes.result i 0 in
-    let syndromes : (i : ℕ) → i < n - k → s i ≡ value word (pow 2 i) = c.syndromes-syndromes.ensures.values in
+    let s : ℕ → ℕ = λ i. get_or c.args.syndromes.now i 0 in
+    let syndromes : (i : ℕ) → i < n - k → s i ≡ value word (pow 2 i) = c.requires.values in
     let many : (n - k) / 2 + 1 ≤ distance word right =
     least_of_word n k (n - k) ((n - k) / 2 + 1) word right s refl ic (omega arith) syndromes
     c.in_default.ensures.none in

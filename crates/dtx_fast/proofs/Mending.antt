@@ -1,0 +1,112 @@
+-- A word of which one byte is changed: its values, and in how many places it differs from another word.
+use Rattle.std.proofs.Common.{◌≡◌, ◌≢◌, ℕ, zero, suc, ◌+◌, ◌-◌, ◌*◌, ◌<◌, ◌≤◌, ◌==◌, cond, List, [], ◌∷◌, length}
+use Rattle.std.proofs.Common.{get_or, set, bit_xor, refl, sym, ap, ap₂, ◌∙◌, arith}
+use Rattle.std.proofs.lemmas.List.{length-set}
+use Rattle.std.proofs.lemmas.Bool.{eq-eqb, ne_eqb}
+use Rattle.std.specs.Int.Bits.{xor_assoc, xor_self, xor_comm, xor_zero_r, xor_lt}
+use Rattle.dtx_galois.specs.Field.{mul, pow, value, AreBytes}
+use Rattle.dtx_galois.specs.FieldLaws.{pow_small, xor_zero}
+use Rattle.dtx_galois.specs.LinearLaws.{mul_left}
+use Rattle.dtx_galois.specs.PowersLaws.{pow_add, pow_times}
+use Rattle.dtx_laws.specs.Codeword.{IsCode, distance}
+use Rattle.dtx_laws.specs.Correction.{IsCorrected}
+use Rattle.dtx_laws.specs.PartsLaws.{byte_at}
+use Rattle.dtx_laws.specs.WordsLaws.{distance_self}
+use Rattle.dtx_fast.specs.RepairLaws.{powers_not_zero, two_inverse}
+
+-- the word with an error taken away: α to the error added to the byte whose power has the exponent e
+abbrev pub mended : ℕ → ℕ → List ℕ → List ℕ
+mended x e word = set word (length word - 1 - e) (bit_xor (get_or word (length word - 1 - e) 0) (pow 2 x))
+
+value_set : (word : List ℕ) (p v x : ℕ) → p < length word
+    → value (set word p (bit_xor (get_or word p 0) v)) x
+    ≡ bit_xor (value word x) (mul v (pow x (length word - 1 - p)))
+unfolding value
+value_set [] p v x l = absurd (omega arith)
+value_set (c ∷ cs) zero v x l =
+    ap (λ (u : ℕ). bit_xor u (value cs x)) (mul_left c v (pow x (length cs)))
+    ∙ swapped (mul c (pow x (length cs))) (mul v (pow x (length cs))) (value cs x)
+    ∙ ap (λ n. bit_xor (bit_xor (mul c (pow x (length cs))) (value cs x)) (mul v (pow x n))) (last (length cs))
+  where
+    swapped : (a b w : ℕ) → bit_xor (bit_xor a b) w ≡ bit_xor (bit_xor a w) b
+    swapped a b w = xor_assoc a b w ∙ ap (bit_xor a) (xor_comm b w) ∙ sym (xor_assoc a w b)
+
+    last : (n : ℕ) → n ≡ suc n - 1 - 0
+    last n = omega arith
+value_set (c ∷ cs) (suc p) v x l =
+    ap₂ (λ (n u : ℕ). bit_xor (mul c (pow x n)) u) (length-set cs p (bit_xor (get_or cs p 0) v))
+    (value_set cs p v x (omega arith))
+    ∙ sym (xor_assoc (mul c (pow x (length cs))) (value cs x) (mul v (pow x (length cs - 1 - p))))
+    ∙ ap (λ n. bit_xor (bit_xor (mul c (pow x (length cs))) (value cs x)) (mul v (pow x n))) (inner (length cs) p)
+  where
+    inner : (n p : ℕ) → n - 1 - p ≡ suc n - 1 - suc p
+    inner n p = omega arith
+
+-- what the error adds to a value
+error_term : (x e i : ℕ) → mul (pow 2 x) (pow (pow 2 i) e) ≡ pow 2 (x + e * i)
+error_term x e i =
+    ap (mul (pow 2 x)) (pow_times 2 i e) ∙ sym (pow_add 2 x (i * e)) ∙ ap (λ n. pow 2 (x + n)) (turned i e)
+  where
+    turned : (i e : ℕ) → i * e ≡ e * i
+    turned i e = grind arith
+
+pub value_mended : (x e i : ℕ) (word : List ℕ) → e < length word
+    → value (mended x e word) (pow 2 i) ≡ bit_xor (value word (pow 2 i)) (pow 2 (x + e * i))
+value_mended x e i word l =
+    value_set word (length word - 1 - e) (pow 2 x) (pow 2 i) (omega arith)
+    ∙ ap (bit_xor (value word (pow 2 i))) (ap (λ n. mul (pow 2 x) (pow (pow 2 i) n)) (back (length word) e l)
+    ∙ error_term x e i)
+  where
+    back : (n e : ℕ) → e < n → n - 1 - (n - 1 - e) ≡ e
+    back n e l = omega arith
+
+distance_set : (word now : List ℕ) (p x : ℕ) → length now ≡ length word → p < length word
+    → get_or now p 0 ≡ get_or word p 0 → get_or word p 0 ≢ x → distance word (set now p x) ≡ distance word now + 1
+distance_set [] now p x l m e d = absurd (omega arith)
+distance_set (w ∷ ws) [] p x l m e d = absurd (omega arith)
+distance_set (w ∷ ws) (y ∷ ys) zero x l m e d =
+    let other : ◌≡◌ {A = ℕ} (cond (w == x) 0 1) 1 = ap (λ t. cond t 0 1) (ne_eqb w x d) in
+    let same : ◌≡◌ {A = ℕ} (cond (w == y) 0 1) 0 = ap (λ t. cond t 0 1) (eq-eqb w y (sym e)) in
+    omega (arith, other, same)
+distance_set (w ∷ ws) (y ∷ ys) (suc p) x l m e d =
+    omega (arith, distance_set ws ys p x (omega arith) (omega arith) e d)
+
+bytes_set : (xs : List ℕ) (p x : ℕ) → AreBytes xs → x < 256 → AreBytes (set xs p x)
+bytes_set [] p x b l = tt
+bytes_set (y ∷ ys) zero x b l = (l, b.1)
+bytes_set (y ∷ ys) (suc p) x b l = (b.0, bytes_set ys p x b.1 l)
+
+pub bytes_mended : (x e : ℕ) (word : List ℕ) → AreBytes word → AreBytes (mended x e word)
+bytes_mended x e word b =
+    bytes_set word (length word - 1 - e) (bit_xor (get_or word (length word - 1 - e) 0) (pow 2 x)) b
+    (xor_lt 8 (get_or word (length word - 1 - e) 0) (pow 2 x) (byte_at word (length word - 1 - e) b) (pow_small 2 x))
+
+-- an error isn't 0, so the byte is another
+changed : (a x : ℕ) → a ≢ bit_xor a (pow 2 x)
+changed a x e =
+    powers_not_zero 2 (pow 2 254) x two_inverse
+    (sym (ap (λ (z : ℕ). bit_xor z (pow 2 x)) (xor_self a) ∙ xor_comm 0 (pow 2 x) ∙ xor_zero_r (pow 2 x))
+    ∙ xor_assoc a a (pow 2 x) ∙ ap (bit_xor a) (sym e) ∙ xor_self a)
+
+-- where the syndromes are those of one error, without it the word is right
+pub one_mended : (k x e : ℕ) (word : List ℕ) (s : ℕ → ℕ) → IsCode (length word) k → AreBytes word → e < length word
+    → ((i : ℕ) → i < length word - k → s i ≡ value word (pow 2 i))
+    → ((i : ℕ) → i < length word - k → s i ≡ pow 2 (x + e * i))
+    → IsCorrected (length word) k word (mended x e word) 1
+one_mended k x e word s code b l v h =
+    let one : distance word (mended x e word) ≡ 1 =
+    distance_set word word (length word - 1 - e) (bit_xor (get_or word (length word - 1 - e) 0) (pow 2 x)) refl
+    (omega arith) refl (changed (get_or word (length word - 1 - e) 0) x)
+    ∙ ap (λ n. n + 1) (distance_self word) in
+    record {
+      correction = record {
+        codeword = record {
+          long = length-set word (length word - 1 - e) (bit_xor (get_or word (length word - 1 - e) 0) (pow 2 x));
+          bytes = bytes_mended x e word b;
+          vanishes = λ i m. value_mended x e i word l
+              ∙ ap (λ (z : ℕ). bit_xor z (pow 2 (x + e * i))) (sym (v i m) ∙ h i m) ∙ xor_self (pow 2 (x + e * i));
+        };
+        near = omega (arith, one, code.longer, code.even);
+      };
+      changed = sym one;
+    }
