@@ -1,11 +1,11 @@
 -- A word of which one byte is changed: its values, and in how many places it differs from another word.
 use Rattle.std.proofs.Common.{◌≡◌, ◌≢◌, ℕ, zero, suc, ◌+◌, ◌-◌, ◌*◌, ◌<◌, ◌≤◌, ◌==◌, cond, List, [], ◌∷◌, length}
 use Rattle.std.proofs.Common.{get_or, set, bit_xor, refl, sym, ap, ap₂, ◌∙◌, arith}
-use Rattle.std.proofs.lemmas.List.{length-set}
+use Rattle.std.proofs.lemmas.List.{get_or-set_other, length-set}
 use Rattle.std.proofs.lemmas.Bool.{eq-eqb, ne_eqb}
 use Rattle.std.specs.Int.Bits.{xor_assoc, xor_self, xor_comm, xor_zero_r, xor_lt}
 use Rattle.dtx_galois.specs.Field.{mul, pow, value, AreBytes}
-use Rattle.dtx_galois.specs.FieldLaws.{pow_small, xor_zero}
+use Rattle.dtx_galois.specs.FieldLaws.{pow_small}
 use Rattle.dtx_galois.specs.LinearLaws.{mul_left}
 use Rattle.dtx_galois.specs.PowersLaws.{pow_add, pow_times}
 use Rattle.dtx_laws.specs.Codeword.{IsCode, distance}
@@ -88,25 +88,71 @@ changed a x e =
     (sym (ap (λ (z : ℕ). bit_xor z (pow 2 x)) (xor_self a) ∙ xor_comm 0 (pow 2 x) ∙ xor_zero_r (pow 2 x))
     ∙ xor_assoc a a (pow 2 x) ∙ ap (bit_xor a) (sym e) ∙ xor_self a)
 
+-- where no syndrome is left and so many bytes were changed, the word is right
+corrected : (n k e : ℕ) (word now : List ℕ) → length now ≡ n → AreBytes now
+    → ((i : ℕ) → i < n - k → value now (pow 2 i) ≡ 0) → distance word now ≡ e → 2 * e ≤ n - k
+    → IsCorrected n k word now e
+corrected n k e word now l b v d m = record {
+  correction = record { codeword = record { long = l; bytes = b; vanishes = v }; near = omega arith };
+  changed = sym d;
+}
+
+length_mended : (x e : ℕ) (word : List ℕ) → length (mended x e word) ≡ length word
+length_mended x e word =
+    length-set word (length word - 1 - e) (bit_xor (get_or word (length word - 1 - e) 0) (pow 2 x))
+
+-- one more place at which the words differ
+distance_mended : (x e : ℕ) (word now : List ℕ) → length now ≡ length word → e < length word
+    → get_or now (length now - 1 - e) 0 ≡ get_or word (length now - 1 - e) 0
+    → distance word (mended x e now) ≡ distance word now + 1
+distance_mended x e word now l m same =
+    distance_set word now (length now - 1 - e) (bit_xor (get_or now (length now - 1 - e) 0) (pow 2 x)) l
+    (omega arith) same
+    (λ u. changed (get_or now (length now - 1 - e) 0) x (same ∙ u))
+
+one_apart : (x e : ℕ) (word : List ℕ) → e < length word → distance word (mended x e word) ≡ 1
+one_apart x e word l =
+    distance_mended x e word word refl l refl ∙ ap (λ n. n + 1) (distance_self word)
+
 -- where the syndromes are those of one error, without it the word is right
 pub one_mended : (k x e : ℕ) (word : List ℕ) (s : ℕ → ℕ) → IsCode (length word) k → AreBytes word → e < length word
     → ((i : ℕ) → i < length word - k → s i ≡ value word (pow 2 i))
     → ((i : ℕ) → i < length word - k → s i ≡ pow 2 (x + e * i))
     → IsCorrected (length word) k word (mended x e word) 1
 one_mended k x e word s code b l v h =
-    let one : distance word (mended x e word) ≡ 1 =
-    distance_set word word (length word - 1 - e) (bit_xor (get_or word (length word - 1 - e) 0) (pow 2 x)) refl
-    (omega arith) refl (changed (get_or word (length word - 1 - e) 0) x)
-    ∙ ap (λ n. n + 1) (distance_self word) in
-    record {
-      correction = record {
-        codeword = record {
-          long = length-set word (length word - 1 - e) (bit_xor (get_or word (length word - 1 - e) 0) (pow 2 x));
-          bytes = bytes_mended x e word b;
-          vanishes = λ i m. value_mended x e i word l
-              ∙ ap (λ (z : ℕ). bit_xor z (pow 2 (x + e * i))) (sym (v i m) ∙ h i m) ∙ xor_self (pow 2 (x + e * i));
-        };
-        near = omega (arith, one, code.longer, code.even);
-      };
-      changed = sym one;
-    }
+    corrected (length word) k 1 word (mended x e word) (length_mended x e word) (bytes_mended x e word b)
+    (λ i m. value_mended x e i word l
+    ∙ ap (λ (z : ℕ). bit_xor z (pow 2 (x + e * i))) (sym (v i m) ∙ h i m) ∙ xor_self (pow 2 (x + e * i)))
+    (one_apart x e word l) (omega (arith, code.longer, code.even))
+
+-- where they are those of two, without both
+pub two_mended : (k x e y f : ℕ) (word : List ℕ) (s : ℕ → ℕ) → AreBytes word → e < length word → f < length word
+    → e ≢ f → 4 ≤ length word - k → ((i : ℕ) → i < length word - k → s i ≡ value word (pow 2 i))
+    → ((i : ℕ) → i < length word - k → s i ≡ bit_xor (pow 2 (x + e * i)) (pow 2 (y + f * i)))
+    → IsCorrected (length word) k word (mended y f (mended x e word)) 2
+two_mended k x e y f word s b l m d four v h =
+    let n : ℕ = length word in
+    let long : length (mended x e word) ≡ length word = length_mended x e word in
+    corrected (length word) k 2 word (mended y f (mended x e word))
+    (length_mended y f (mended x e word) ∙ length_mended x e word)
+    (bytes_mended y f (mended x e word) (bytes_mended x e word b))
+    (λ i r. value_mended y f i (mended x e word) (omega arith)
+    ∙ ap (λ (z : ℕ). bit_xor z (pow 2 (y + f * i)))
+    (value_mended x e i word l ∙ ap (λ (z : ℕ). bit_xor z (pow 2 (x + e * i))) (sym (v i r) ∙ h i r))
+    ∙ none_left (pow 2 (x + e * i)) (pow 2 (y + f * i)))
+    (distance_mended y f word (mended x e word) long m
+    (get_or-set_other word (n - 1 - e) (length (mended x e word) - 1 - f)
+    (bit_xor (get_or word (n - 1 - e) 0) (pow 2 x)) 0
+    (λ u. d (same_place (length word) (length (mended x e word)) e f long l m u)))
+    ∙ ap (λ j. j + 1) (one_apart x e word l))
+    (omega arith)
+  where
+    none_left : (a b : ℕ) → bit_xor (bit_xor (bit_xor a b) a) b ≡ 0
+    none_left a b =
+        ap (λ (z : ℕ). bit_xor z b)
+        (xor_comm (bit_xor a b) a ∙ sym (xor_assoc a a b) ∙ ap (λ (z : ℕ). bit_xor z b) (xor_self a)
+        ∙ xor_comm 0 b ∙ xor_zero_r b)
+        ∙ xor_self b
+
+    same_place : (n m e f : ℕ) → m ≡ n → e < n → f < n → m - 1 - f ≡ n - 1 - e → e ≡ f
+    same_place n m e f long l r u = omega arith

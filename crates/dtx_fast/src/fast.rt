@@ -5,8 +5,7 @@ ghost use Rattle.dtx_laws.specs.Codeword.{IsCode, IsCodeword, IsCorrection};
 ghost use Rattle.dtx_laws.specs.Correction.{IsCorrected, IsLeft};
 ghost use Rattle.dtx_galois.specs.Field.{AreBytes, pow, value};
 
-use crate::few::mend_one;
-use crate::logarithms::Logarithms;
+use crate::few::FewWrong;
 use crate::recurrence::find_recurrence;
 use crate::repair::patch;
 use crate::tables::Tables;
@@ -20,7 +19,7 @@ use dtx_rs::Rs;
 pub struct Fast<const N: usize, const K: usize> {
     encoder: Rs<N, K>,
     tables: Tables,
-    logarithms: Logarithms,
+    few: FewWrong,
     ghost code: { IsCode N K },
 }
 
@@ -32,7 +31,7 @@ impl<const N: usize, const K: usize> Fast<N, K> {
         Fast {
             encoder: Rs::new(),
             tables: Tables::new(),
-            logarithms: Logarithms::new(),
+            few: FewWrong::new(),
         }
     }
 
@@ -59,8 +58,8 @@ impl<const N: usize, const K: usize> Fast<N, K> {
             return Ok(0);
         }
         let syndromes = self.syndromes(word, code);
-        if mend_one(&self.logarithms, &mut word[..], &syndromes, K) {
-            return Ok(1);
+        if let Some(count) = self.few.mend(&mut word[..], &syndromes, K) {
+            return Ok(count);
         }
         let mut tried = *word;
         repair(&self.tables, &mut tried[..], &syndromes, K);

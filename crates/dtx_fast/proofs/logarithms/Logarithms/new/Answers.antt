@@ -1,4 +1,4 @@
-use Rattle.std.proofs.Common.{ℕ, ◌<◌, ◌≡◌, ◌⊎◌, inl, inr, ◌∙◌, ◌+◌, get_or, set, ap, sym, subst, arith, List}
+use Rattle.std.proofs.Common.{ℕ, ◌<◌, ◌≡◌, ◌⊎◌, inl, inr, ◌∙◌, ◌+◌, get_or, set, ap, sym, arith, List}
 use Rattle.std.proofs.lemmas.List.{get_or-set_same, get_or-set_other, length-set}
 use Rattle.dtx_galois.specs.Field.{pow}
 use Rattle.dtx_galois.specs.FieldLaws.{pow_small}

@@ -1,0 +1,15 @@
+use Rattle.std.proofs.Common.{◌∙◌, ap, length, subst, sym, get_or}
+use Rattle.dtx_laws.specs.Correction.{IsCorrected}
+use Rattle.dtx_fast.proofs.Mending.{mended, two_mended}
+use Rattle.dtx_fast.proofs.few.FewWrong.mend_two.Goals as goal
+
+pub returns-then-two_give-clause-mended : goal.returns-then-two_give-clause-mended
+returns-then-two_give-clause-mended c t =
+    let one = c.two_wrong.result.0 in
+    let other = c.two_wrong.result.1 in
+    subst (λ xs. IsCorrected (length c.args.word.now) c.args.k c.args.word.now xs 2)
+    (sym (c.mend-then-two_give.ensures ∙ ap (mended other.error other.place) c.mend.ensures))
+    (two_mended c.args.k one.error one.place other.error other.place c.args.word.now
+    (λ i. get_or c.args.syndromes.now i 0) c.requires.bytes (c.if-are_places.ensures.one t)
+    (c.if-are_places.ensures.other t) (c.if-are_places.ensures.apart t) c.if-count-ge4.true c.requires.values
+    (c.if-two_give.ensures t))
