@@ -110,9 +110,33 @@ distance_mended x e word now l m same =
     (omega arith) same
     (λ u. changed (get_or now (length now - 1 - e) 0) x (same ∙ u))
 
-one_apart : (x e : ℕ) (word : List ℕ) → e < length word → distance word (mended x e word) ≡ 1
-one_apart x e word l =
-    distance_mended x e word word refl l refl ∙ ap (λ n. n + 1) (distance_self word)
+-- a word of which d bytes were changed, and one more by which no syndrome is left: it is right
+last_mended : (n k d x e : ℕ) (word now : List ℕ) → length word ≡ n → length now ≡ n → AreBytes now → e < n
+    → get_or now (n - 1 - e) 0 ≡ get_or word (n - 1 - e) 0 → distance word now ≡ d → 2 * (d + 1) ≤ n - k
+    → ((i : ℕ) → i < n - k → value now (pow 2 i) ≡ pow 2 (x + e * i)) → IsCorrected n k word (mended x e now) (d + 1)
+last_mended n k d x e word now long l b m same apart few v =
+    let far : distance word (mended x e now) ≡ distance word now + 1 =
+    distance_mended x e word now (l ∙ sym long) (omega arith)
+    (ap (λ j. get_or now (j - 1 - e) 0) l ∙ same ∙ ap (λ j. get_or word (j - 1 - e) 0) (sym l)) in
+    corrected n k (d + 1) word (mended x e now) (length_mended x e now ∙ l) (bytes_mended x e now b)
+    (λ i r. value_mended x e i now (omega arith) ∙ ap (λ (z : ℕ). bit_xor z (pow 2 (x + e * i))) (v i r)
+    ∙ xor_self (pow 2 (x + e * i)))
+    (omega (arith, far)) few
+
+-- another place is as it was
+other_place : (x e f : ℕ) (word : List ℕ) → e < length word → f < length word → e ≢ f
+    → get_or (mended x e word) (length word - 1 - f) 0 ≡ get_or word (length word - 1 - f) 0
+other_place x e f word l m d =
+    get_or-set_other word (length word - 1 - e) (length word - 1 - f)
+    (bit_xor (get_or word (length word - 1 - e) 0) (pow 2 x)) 0 (λ u. d (same_place (length word) e f l m u))
+  where
+    same_place : (n e f : ℕ) → e < n → f < n → n - 1 - f ≡ n - 1 - e → e ≡ f
+    same_place n e f l m u = omega arith
+
+-- the first of two terms is taken away
+one_left : (a b : ℕ) → bit_xor (bit_xor a b) a ≡ b
+one_left a b = xor_comm (bit_xor a b) a ∙ sym (xor_assoc a a b) ∙ ap (λ (z : ℕ). bit_xor z b) (xor_self a)
+    ∙ xor_comm 0 b ∙ xor_zero_r b
 
 -- where the syndromes are those of one error, without it the word is right
 pub one_mended : (k x e : ℕ) (word : List ℕ) (s : ℕ → ℕ) → IsCode (length word) k → AreBytes word → e < length word
@@ -120,10 +144,8 @@ pub one_mended : (k x e : ℕ) (word : List ℕ) (s : ℕ → ℕ) → IsCode (l
     → ((i : ℕ) → i < length word - k → s i ≡ pow 2 (x + e * i))
     → IsCorrected (length word) k word (mended x e word) 1
 one_mended k x e word s code b l v h =
-    corrected (length word) k 1 word (mended x e word) (length_mended x e word) (bytes_mended x e word b)
-    (λ i m. value_mended x e i word l
-    ∙ ap (λ (z : ℕ). bit_xor z (pow 2 (x + e * i))) (sym (v i m) ∙ h i m) ∙ xor_self (pow 2 (x + e * i)))
-    (one_apart x e word l) (omega (arith, code.longer, code.even))
+    last_mended (length word) k 0 x e word word refl refl b l refl (distance_self word)
+    (omega (arith, code.longer, code.even)) (λ i m. sym (v i m) ∙ h i m)
 
 -- where they are those of two, without both
 pub two_mended : (k x e y f : ℕ) (word : List ℕ) (s : ℕ → ℕ) → AreBytes word → e < length word → f < length word
@@ -131,28 +153,39 @@ pub two_mended : (k x e y f : ℕ) (word : List ℕ) (s : ℕ → ℕ) → AreBy
     → ((i : ℕ) → i < length word - k → s i ≡ bit_xor (pow 2 (x + e * i)) (pow 2 (y + f * i)))
     → IsCorrected (length word) k word (mended y f (mended x e word)) 2
 two_mended k x e y f word s b l m d four v h =
-    let n : ℕ = length word in
-    let long : length (mended x e word) ≡ length word = length_mended x e word in
-    corrected (length word) k 2 word (mended y f (mended x e word))
-    (length_mended y f (mended x e word) ∙ length_mended x e word)
-    (bytes_mended y f (mended x e word) (bytes_mended x e word b))
-    (λ i r. value_mended y f i (mended x e word) (omega arith)
-    ∙ ap (λ (z : ℕ). bit_xor z (pow 2 (y + f * i)))
-    (value_mended x e i word l ∙ ap (λ (z : ℕ). bit_xor z (pow 2 (x + e * i))) (sym (v i r) ∙ h i r))
-    ∙ none_left (pow 2 (x + e * i)) (pow 2 (y + f * i)))
-    (distance_mended y f word (mended x e word) long m
-    (get_or-set_other word (n - 1 - e) (length (mended x e word) - 1 - f)
-    (bit_xor (get_or word (n - 1 - e) 0) (pow 2 x)) 0
-    (λ u. d (same_place (length word) (length (mended x e word)) e f long l m u)))
-    ∙ ap (λ j. j + 1) (one_apart x e word l))
+    last_mended (length word) k 1 y f word (mended x e word) refl (length_mended x e word) (bytes_mended x e word b) m
+    (other_place x e f word l m d)
+    (distance_mended x e word word refl l refl ∙ ap (λ j. j + 1) (distance_self word))
     (omega arith)
-  where
-    none_left : (a b : ℕ) → bit_xor (bit_xor (bit_xor a b) a) b ≡ 0
-    none_left a b =
-        ap (λ (z : ℕ). bit_xor z b)
-        (xor_comm (bit_xor a b) a ∙ sym (xor_assoc a a b) ∙ ap (λ (z : ℕ). bit_xor z b) (xor_self a)
-        ∙ xor_comm 0 b ∙ xor_zero_r b)
-        ∙ xor_self b
+    (λ i r. value_mended x e i word l ∙ ap (λ (z : ℕ). bit_xor z (pow 2 (x + e * i))) (sym (v i r) ∙ h i r)
+    ∙ one_left (pow 2 (x + e * i)) (pow 2 (y + f * i)))
 
-    same_place : (n m e f : ℕ) → m ≡ n → e < n → f < n → m - 1 - f ≡ n - 1 - e → e ≡ f
-    same_place n m e f long l r u = omega arith
+-- where they are those of three, without all
+pub three_mended : (k x e y f z g : ℕ) (word : List ℕ) (s : ℕ → ℕ) → AreBytes word → e < length word → f < length word
+    → g < length word → e ≢ f → e ≢ g → f ≢ g → 6 ≤ length word - k
+    → ((i : ℕ) → i < length word - k → s i ≡ value word (pow 2 i))
+    → ((i : ℕ) → i < length word - k
+    → s i ≡ bit_xor (bit_xor (pow 2 (x + e * i)) (pow 2 (y + f * i))) (pow 2 (z + g * i)))
+    → IsCorrected (length word) k word (mended z g (mended y f (mended x e word))) 3
+three_mended k x e y f z g word s b l m o d p q six v h =
+    let n : ℕ = length word in
+    let one : List ℕ = mended x e word in
+    let long : length (mended x e word) ≡ length word = length_mended x e word in
+    let place : (j : ℕ) → length (mended x e word) - 1 - j ≡ length word - 1 - j = λ j. ap (λ w. w - 1 - j) long in
+    last_mended (length word) k 2 z g word (mended y f (mended x e word)) refl
+    (length_mended y f (mended x e word) ∙ long) (bytes_mended y f (mended x e word) (bytes_mended x e word b)) o
+    (ap (λ j. get_or (mended y f (mended x e word)) j 0) (sym (place g))
+    ∙ other_place y f g (mended x e word) (omega arith) (omega arith) q
+    ∙ ap (λ j. get_or (mended x e word) j 0) (place g) ∙ other_place x e g word l o p)
+    (distance_mended y f word (mended x e word) long m
+    (ap (λ j. get_or (mended x e word) j 0) (place f) ∙ other_place x e f word l m d
+    ∙ ap (λ j. get_or word j 0) (sym (place f)))
+    ∙ ap (λ j. j + 1) (distance_mended x e word word refl l refl ∙ ap (λ j. j + 1) (distance_self word)))
+    (omega arith)
+    (λ i r. value_mended y f i (mended x e word) (omega arith)
+    ∙ ap (λ (w : ℕ). bit_xor w (pow 2 (y + f * i)))
+    (value_mended x e i word l
+    ∙ ap (λ (w : ℕ). bit_xor w (pow 2 (x + e * i)))
+    (sym (v i r) ∙ h i r ∙ xor_assoc (pow 2 (x + e * i)) (pow 2 (y + f * i)) (pow 2 (z + g * i)))
+    ∙ one_left (pow 2 (x + e * i)) (bit_xor (pow 2 (y + f * i)) (pow 2 (z + g * i))))
+    ∙ one_left (pow 2 (y + f * i)) (pow 2 (z + g * i)))

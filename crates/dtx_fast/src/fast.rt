@@ -5,7 +5,8 @@ ghost use Rattle.dtx_laws.specs.Codeword.{IsCode, IsCodeword, IsCorrection};
 ghost use Rattle.dtx_laws.specs.Correction.{IsCorrected, IsLeft};
 ghost use Rattle.dtx_galois.specs.Field.{AreBytes, pow, value};
 
-use crate::few::FewWrong;
+use crate::few::mend_few;
+use crate::guesses::Guesses;
 use crate::recurrence::find_recurrence;
 use crate::repair::patch;
 use crate::tables::Tables;
@@ -19,7 +20,7 @@ use dtx_rs::Rs;
 pub struct Fast<const N: usize, const K: usize> {
     encoder: Rs<N, K>,
     tables: Tables,
-    few: FewWrong,
+    guesses: Guesses,
     ghost code: { IsCode N K },
 }
 
@@ -31,7 +32,7 @@ impl<const N: usize, const K: usize> Fast<N, K> {
         Fast {
             encoder: Rs::new(),
             tables: Tables::new(),
-            few: FewWrong::new(),
+            guesses: Guesses::new(),
         }
     }
 
@@ -58,7 +59,7 @@ impl<const N: usize, const K: usize> Fast<N, K> {
             return Ok(0);
         }
         let syndromes = self.syndromes(word, code);
-        if let Some(count) = self.few.mend(&mut word[..], &syndromes, K) {
+        if let Some(count) = mend_few(&self.guesses, &mut word[..], &syndromes, K) {
             return Ok(count);
         }
         let mut tried = *word;

@@ -4,6 +4,7 @@
 
 mod fast;
 mod few;
+mod guesses;
 pub mod laws;
 mod logarithms;
 mod places;
@@ -11,6 +12,7 @@ mod recurrence;
 mod repair;
 mod rows;
 mod tables;
+mod wrong_byte;
 
 pub use fast::Fast;
 pub use recurrence::{Recurrence, find_recurrence};

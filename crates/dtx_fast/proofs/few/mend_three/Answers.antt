@@ -1,0 +1,18 @@
+use Rattle.std.proofs.Common.{◌∙◌, ap, length, subst, sym, get_or}
+use Rattle.dtx_laws.specs.Correction.{IsCorrected}
+use Rattle.dtx_fast.proofs.Mending.{mended, three_mended}
+use Rattle.dtx_fast.proofs.few.mend_three.Goals as goal
+
+pub returns-then-three_give-clause-mended : goal.returns-then-three_give-clause-mended
+returns-then-three_give-clause-mended c t =
+    let first = c.three.result.0 in
+    let second = c.three.result.1 in
+    let third = c.three.result.2 in
+    let places = c.if-are_three.ensures in
+    subst (λ xs. IsCorrected (length c.args.word.now) c.args.k c.args.word.now xs 3)
+    (sym (c.mend-then-three_give-2.ensures ∙ ap (mended third.error third.place)
+    (c.mend-then-three_give.ensures ∙ ap (mended second.error second.place) c.mend.ensures)))
+    (three_mended c.args.k first.error first.place second.error second.place third.error third.place c.args.word.now
+    (λ i. get_or c.args.syndromes.now i 0) c.requires.bytes (places.first t) (places.second t) (places.third t)
+    (places.apart t) (places.apart_first t) (places.apart_second t) c.if-count-ge6.true c.requires.values
+    (c.if-three_give.ensures t))

@@ -1,0 +1,15 @@
+use Rattle.std.proofs.Common.{◌∙◌, ap, length, subst, sym, get_or}
+use Rattle.dtx_laws.specs.Correction.{IsCorrected}
+use Rattle.dtx_fast.proofs.Mending.{mended, two_mended}
+use Rattle.dtx_fast.proofs.few.mend_two.Goals as goal
+
+pub returns-then-two_give-clause-mended : goal.returns-then-two_give-clause-mended
+returns-then-two_give-clause-mended c t =
+    let first = c.two.result.0 in
+    let second = c.two.result.1 in
+    subst (λ xs. IsCorrected (length c.args.word.now) c.args.k c.args.word.now xs 2)
+    (sym (c.mend-then-two_give.ensures ∙ ap (mended second.error second.place) c.mend.ensures))
+    (two_mended c.args.k first.error first.place second.error second.place c.args.word.now
+    (λ i. get_or c.args.syndromes.now i 0) c.requires.bytes (c.if-are_two.ensures.first t)
+    (c.if-are_two.ensures.second t) (c.if-are_two.ensures.apart t) c.if-count-ge4.true c.requires.values
+    (c.if-two_give.ensures t))

@@ -1,0 +1,147 @@
+//! The errors that the first syndromes may come of, where few bytes are wrong. Nothing is claimed of them: all
+//! syndromes test them.
+
+ghost use Rattle.std.specs.Prelude.{◌≡◌, length};
+
+use crate::logarithms::{Logarithms, ORDER};
+use crate::wrong_byte::WrongByte;
+use dtx_galois::Gf;
+use dtx_laws::correcting::ROOM;
+
+/// The tables by which the errors are found.
+#[derive(Drop)]
+pub struct Guesses {
+    logarithms: Logarithms,
+    /// At y * y + y one of such y.
+    halves: [u8; ORDER + 1],
+    /// At z * z * z + z one of such z.
+    thirds: [u8; ORDER + 1],
+    ghost halves_long: { length halves ≡ 256 },
+    ghost thirds_long: { length thirds ≡ 256 },
+}
+
+impl Guesses {
+    /// The tables, which are the same for each code.
+    pub fn new() -> Self {
+        let mut halves = [0; ORDER + 1];
+        let mut thirds = [0; ORDER + 1];
+        for y in 0..ORDER + 1 {
+            let root = Gf(y as u8);
+            let square = root.mul(root);
+            halves[square.add(root).0 as usize] = y as u8;
+            thirds[square.mul(root).add(root).0 as usize] = y as u8;
+        }
+        Guesses {
+            logarithms: Logarithms::new(),
+            halves,
+            thirds,
+        }
+    }
+
+    /// The error that gives the first two syndromes, where one does.
+    pub fn one(&self, syndromes: &[u8; ROOM]) -> WrongByte {
+        let first = self.logarithms.of(syndromes[0]);
+        let second = self.logarithms.of(syndromes[1]);
+        WrongByte {
+            error: first,
+            place: ((second as usize + ORDER - first as usize) % ORDER) as u8,
+        }
+    }
+
+    /// The two errors that give the first four syndromes, where two do. The powers of their places are the zeros of
+    /// x * x + sum * x + product.
+    pub fn two(&self, syndromes: &[u8; ROOM]) -> (WrongByte, WrongByte) {
+        let [a, b, c, d, _, _] = first_six(syndromes);
+        let over = a.mul(c).add(b.mul(b)).pow(254);
+        let sum = a.mul(d).add(b.mul(c)).mul(over);
+        let product = b.mul(d).add(c.mul(c)).mul(over);
+        let over_sum = sum.pow(254);
+        let half = self.halves[product.mul(over_sum).mul(over_sum).0 as usize];
+        let first = sum.mul(Gf(half));
+        let second = first.add(sum);
+        let error = b.add(a.mul(second)).mul(over_sum);
+        (
+            self.wrong_byte(error, first),
+            self.wrong_byte(a.add(error), second),
+        )
+    }
+
+    /// The three errors that give the first six syndromes, where three do.
+    pub fn three(&self, syndromes: &[u8; ROOM]) -> (WrongByte, WrongByte, WrongByte) {
+        let [a, b, c, ..] = first_six(syndromes);
+        let locator = locator_of_three(syndromes);
+        let [first, second, third] = self.zeros(&locator);
+        let one = error_at(&locator, &[a, b, c], first);
+        let two = error_at(&locator, &[a, b, c], second);
+        (
+            self.wrong_byte(one, first),
+            self.wrong_byte(two, second),
+            self.wrong_byte(a.add(one).add(two), third),
+        )
+    }
+
+    /// The zeros of x * x * x + p * x * x + q * x + r, where there are three: for x = p + scale * z it is a multiple of
+    /// z * z * z + z + rest.
+    fn zeros(&self, locator: &[Gf; 3]) -> [Gf; 3] {
+        let [p, q, r] = *locator;
+        let scale = p.mul(p).add(q).pow(128);
+        let rest = p.mul(q).add(r).mul(scale.pow(252));
+        let root = Gf(self.thirds[rest.0 as usize]);
+        let half = self.halves[root.mul(root).add(Gf(1)).mul(root.pow(253)).0 as usize];
+        let other = root.mul(Gf(half));
+        [
+            scale.mul(root).add(p),
+            scale.mul(other).add(p),
+            scale.mul(root.add(other)).add(p),
+        ]
+    }
+
+    /// An error by the element that is added and the power of its place.
+    fn wrong_byte(&self, error: Gf, power: Gf) -> WrongByte {
+        WrongByte {
+            error: self.logarithms.of(error.0),
+            place: self.logarithms.of(power.0),
+        }
+    }
+}
+
+/// The first six syndromes as elements.
+fn first_six(syndromes: &[u8; ROOM]) -> [Gf; 6] {
+    [
+        Gf(syndromes[0]),
+        Gf(syndromes[1]),
+        Gf(syndromes[2]),
+        Gf(syndromes[3]),
+        Gf(syndromes[4]),
+        Gf(syndromes[5]),
+    ]
+}
+
+/// The coefficients below the highest, 1, of the polynomial that vanishes at the powers of three places: they make each
+/// of three syndromes of the three before it, which Cramer's rule solves.
+fn locator_of_three(syndromes: &[u8; ROOM]) -> [Gf; 3] {
+    let [a, b, c, d, e, f] = first_six(syndromes);
+    let one = c.mul(c).add(b.mul(d));
+    let two = c.mul(e).add(b.mul(f));
+    let three = d.mul(e).add(c.mul(f));
+    let four = d.mul(f).add(e.mul(e));
+    let five = c.mul(d).add(b.mul(e));
+    let six = d.mul(d).add(c.mul(e));
+    let over = c.mul(one).add(b.mul(five)).add(a.mul(six)).pow(254);
+    [
+        d.mul(one).add(b.mul(two)).add(a.mul(three)).mul(over),
+        c.mul(two).add(d.mul(five)).add(a.mul(four)).mul(over),
+        c.mul(three).add(b.mul(four)).add(d.mul(six)).mul(over),
+    ]
+}
+
+/// The error at a zero of the locator, by the quotient x * x + u * x + v of the locator.
+fn error_at(locator: &[Gf; 3], syndromes: &[Gf; 3], power: Gf) -> Gf {
+    let u = locator[0].add(power);
+    let v = locator[1].add(u.mul(power));
+    let sum = syndromes[2]
+        .add(u.mul(syndromes[1]))
+        .add(v.mul(syndromes[0]));
+    let value = power.add(u).mul(power).add(v);
+    sum.mul(value.pow(254))
+}
