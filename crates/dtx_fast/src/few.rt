@@ -9,8 +9,8 @@ use crate::guesses::Guesses;
 use crate::wrong_byte::{WrongByte, one_gives, three_give, two_give};
 use dtx_laws::correcting::ROOM;
 
-/// Puts a word with `k` bytes of data right of which one to three bytes are wrong: how many are. It finds some of the
-/// words with three.
+/// Puts a word with `k` bytes of data right of which one to three bytes are wrong: how many are. Nearly all
+/// such words are found.
 pub fn mend_few(guesses: &Guesses, word: &mut [u8], syndromes: &[u8; ROOM], k: usize) -> Option<u8>
     requires code { IsCode (length word.old) k }
     requires bytes { AreBytes word.old }
@@ -48,7 +48,7 @@ fn mend_one(guesses: &Guesses, word: &mut [u8], syndromes: &[u8; ROOM], k: usize
     }
 }
 
-/// Puts a word right of which just two bytes are wrong: whether that is so.
+/// Puts a word right of which just two bytes are wrong: whether that is so, and they are found.
 fn mend_two(guesses: &Guesses, word: &mut [u8], syndromes: &[u8; ROOM], k: usize) -> bool
     requires code { IsCode (length word.old) k }
     requires bytes { AreBytes word.old }
@@ -58,17 +58,17 @@ fn mend_two(guesses: &Guesses, word: &mut [u8], syndromes: &[u8; ROOM], k: usize
     ensures long { length word.new ≡ length word.old }
 {
     let count = word.len() - k;
-    let (first, second) = guesses.two(syndromes);
-    if count >= 4
-        && are_two(first, second, word.len())
-        && two_give(first, second, syndromes, count)
-    {
-        first.mend(word);
-        second.mend(word);
-        true
-    } else {
-        false
+    if let Some((first, second)) = guesses.two(syndromes) {
+        if count >= 4
+            && are_two(first, second, word.len())
+            && two_give(first, second, syndromes, count)
+        {
+            first.mend(word);
+            second.mend(word);
+            return true;
+        }
     }
+    false
 }
 
 /// Puts a word right of which just three bytes are wrong: whether that is so, and they are found.
@@ -81,18 +81,18 @@ fn mend_three(guesses: &Guesses, word: &mut [u8], syndromes: &[u8; ROOM], k: usi
     ensures long { length word.new ≡ length word.old }
 {
     let count = word.len() - k;
-    let (first, second, third) = guesses.three(syndromes);
-    if count >= 6
-        && are_three(first, second, third, word.len())
-        && three_give(first, second, third, syndromes, count)
-    {
-        first.mend(word);
-        second.mend(word);
-        third.mend(word);
-        true
-    } else {
-        false
+    if let Some((first, second, third)) = guesses.three(syndromes) {
+        if count >= 6
+            && are_three(first, second, third, word.len())
+            && three_give(first, second, third, syndromes, count)
+        {
+            first.mend(word);
+            second.mend(word);
+            third.mend(word);
+            return true;
+        }
     }
+    false
 }
 
 /// Whether they are at two places of a word of so many bytes.

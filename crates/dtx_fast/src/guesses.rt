@@ -48,36 +48,43 @@ impl Guesses {
         }
     }
 
-    /// The two errors that give the first four syndromes, where two do. The powers of their places are the zeros of
-    /// x * x + sum * x + product.
-    pub fn two(&self, syndromes: &[u8; ROOM]) -> (WrongByte, WrongByte) {
-        let [a, b, c, d, _, _] = first_six(syndromes);
+    /// The two errors that give the first four syndromes, where two do and the fifth follows. The powers of their places
+    /// are the zeros of x * x + sum * x + product.
+    pub fn two(&self, syndromes: &[u8; ROOM]) -> Option<(WrongByte, WrongByte)> {
+        let [a, b, c, d, e, _, _] = first_seven(syndromes);
         let over = a.mul(c).add(b.mul(b)).pow(254);
         let sum = a.mul(d).add(b.mul(c)).mul(over);
         let product = b.mul(d).add(c.mul(c)).mul(over);
+        if sum.mul(d).add(product.mul(c)).0 != e.0 {
+            return None;
+        }
         let over_sum = sum.pow(254);
         let half = self.halves[product.mul(over_sum).mul(over_sum).0 as usize];
         let first = sum.mul(Gf(half));
         let second = first.add(sum);
         let error = b.add(a.mul(second)).mul(over_sum);
-        (
+        Some((
             self.wrong_byte(error, first),
             self.wrong_byte(a.add(error), second),
-        )
+        ))
     }
 
-    /// The three errors that give the first six syndromes, where three do.
-    pub fn three(&self, syndromes: &[u8; ROOM]) -> (WrongByte, WrongByte, WrongByte) {
-        let [a, b, c, ..] = first_six(syndromes);
+    /// The three errors that give the first six syndromes, where three do and the seventh follows.
+    pub fn three(&self, syndromes: &[u8; ROOM]) -> Option<(WrongByte, WrongByte, WrongByte)> {
+        let [a, b, c, d, e, f, g] = first_seven(syndromes);
         let locator = locator_of_three(syndromes);
+        let [p, q, r] = locator;
+        if p.mul(f).add(q.mul(e)).add(r.mul(d)).0 != g.0 {
+            return None;
+        }
         let [first, second, third] = self.zeros(&locator);
         let one = error_at(&locator, &[a, b, c], first);
         let two = error_at(&locator, &[a, b, c], second);
-        (
+        Some((
             self.wrong_byte(one, first),
             self.wrong_byte(two, second),
             self.wrong_byte(a.add(one).add(two), third),
-        )
+        ))
     }
 
     /// The zeros of x * x * x + p * x * x + q * x + r, where there are three: for x = p + scale * z it is a multiple of
@@ -105,8 +112,8 @@ impl Guesses {
     }
 }
 
-/// The first six syndromes as elements.
-fn first_six(syndromes: &[u8; ROOM]) -> [Gf; 6] {
+/// The first seven syndromes as elements.
+fn first_seven(syndromes: &[u8; ROOM]) -> [Gf; 7] {
     [
         Gf(syndromes[0]),
         Gf(syndromes[1]),
@@ -114,13 +121,14 @@ fn first_six(syndromes: &[u8; ROOM]) -> [Gf; 6] {
         Gf(syndromes[3]),
         Gf(syndromes[4]),
         Gf(syndromes[5]),
+        Gf(syndromes[6]),
     ]
 }
 
 /// The coefficients below the highest, 1, of the polynomial that vanishes at the powers of three places: they make each
 /// of three syndromes of the three before it, which Cramer's rule solves.
 fn locator_of_three(syndromes: &[u8; ROOM]) -> [Gf; 3] {
-    let [a, b, c, d, e, f] = first_six(syndromes);
+    let [a, b, c, d, e, f, _] = first_seven(syndromes);
     let one = c.mul(c).add(b.mul(d));
     let two = c.mul(e).add(b.mul(f));
     let three = d.mul(e).add(c.mul(f));

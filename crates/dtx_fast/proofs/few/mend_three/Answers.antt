@@ -5,9 +5,9 @@ use Rattle.dtx_fast.proofs.few.mend_three.Goals as goal
 
 pub returns-then-three_give-clause-mended : goal.returns-then-three_give-clause-mended
 returns-then-three_give-clause-mended c t =
-    let first = c.three.result.0 in
-    let second = c.three.result.1 in
-    let third = c.three.result.2 in
+    let first = c.in-Some.first in
+    let second = c.in-Some.second in
+    let third = c.in-Some.third in
     let places = c.if-are_three.ensures in
     subst (λ xs. IsCorrected (length c.args.word.now) c.args.k c.args.word.now xs 3)
     (sym (c.mend-then-three_give-2.ensures ∙ ap (mended third.error third.place)

@@ -5,8 +5,8 @@ use Rattle.dtx_fast.proofs.few.mend_two.Goals as goal
 
 pub returns-then-two_give-clause-mended : goal.returns-then-two_give-clause-mended
 returns-then-two_give-clause-mended c t =
-    let first = c.two.result.0 in
-    let second = c.two.result.1 in
+    let first = c.in-Some.first in
+    let second = c.in-Some.second in
     subst (λ xs. IsCorrected (length c.args.word.now) c.args.k c.args.word.now xs 2)
     (sym (c.mend-then-two_give.ensures ∙ ap (mended second.error second.place) c.mend.ensures))
     (two_mended c.args.k first.error first.place second.error second.place c.args.word.now
