@@ -86,3 +86,17 @@ sum_is n next state r3 r2 r1 r0 p ln ls l3 l2 l1 l0 h =
     (sym (sums_at r3 (sums r2 (sums r1 r0)) k (omega arith) (omega arith)
     ∙ ap (bit_xor (get_or r3 k 0)) (sums_at r2 (sums r1 r0) k (omega arith) (omega arith)
     ∙ ap (bit_xor (get_or r2 k 0)) (sums_at r1 r0 k (omega arith) (omega arith))))))
+
+-- where the first word of each stands apart
+pub split_sum : (rest r3 r2 r1 r0 : List ℕ) (first : ℕ) (words : List ℕ) → 0 < length rest → 0 < length r3
+    → 0 < length r2 → 0 < length r1 → 0 < length r0
+    → first ≡ bit_xor (get_or rest 0 0) (bit_xor (get_or r3 0 0) (bit_xor (get_or r2 0 0)
+    (bit_xor (get_or r1 0 0) (get_or r0 0 0))))
+    → words ≡ sums (drop 1 rest ++ 0 ∷ []) (sums (drop 1 r3) (sums (drop 1 r2) (sums (drop 1 r1) (drop 1 r0))))
+    → first ∷ words ≡ sums (rest ++ 0 ∷ []) (sums r3 (sums r2 (sums r1 r0)))
+split_sum [] r3 r2 r1 r0 first words l l3 l2 l1 l0 e f = absurd (omega arith)
+split_sum (x ∷ xs) [] r2 r1 r0 first words l l3 l2 l1 l0 e f = absurd (omega arith)
+split_sum (x ∷ xs) (c ∷ cs) [] r1 r0 first words l l3 l2 l1 l0 e f = absurd (omega arith)
+split_sum (x ∷ xs) (c ∷ cs) (d ∷ ds) [] r0 first words l l3 l2 l1 l0 e f = absurd (omega arith)
+split_sum (x ∷ xs) (c ∷ cs) (d ∷ ds) (g ∷ gs) [] first words l l3 l2 l1 l0 e f = absurd (omega arith)
+split_sum (x ∷ xs) (c ∷ cs) (d ∷ ds) (g ∷ gs) (h ∷ hs) first words l l3 l2 l1 l0 e f = ap₂ ◌∷◌ e f

@@ -10,7 +10,7 @@ ghost use Rattle.dtx_rs.specs.declared.words.TheConstants.{SHORT_WORDS, STEP, WI
 
 use crate::divisor::ELEMENTS;
 use crate::register::feed;
-use crate::words::{STEP, WIDTH, WORDS, bytes_of, widened, words_of};
+use crate::words::{STEP, Split, WIDTH, WORDS, bytes_of, joined, widened, words_of};
 use std::simd::prelude::*;
 
 /// How many rows there are: one for each byte, at each place of a step.
@@ -69,28 +69,28 @@ impl Table {
             (one.now ∷ two.now ∷ three.now ∷ four.now ∷ []) }
     {
         let first = one.len() % STEP;
-        let mut of_one = self.started(one);
-        let mut of_two = self.started(two);
-        let mut of_three = self.started(three);
-        let mut of_four = self.started(four);
+        let mut of_one = self.started_split(one);
+        let mut of_two = self.started_split(two);
+        let mut of_three = self.started_split(three);
+        let mut of_four = self.started_split(four);
         for step in 0..one.len() / STEP {
             let at = first + STEP * step;
-            of_one = self.fed(&of_one, &[one[at], one[at + 1], one[at + 2], one[at + 3]]);
-            of_two = self.fed(&of_two, &[two[at], two[at + 1], two[at + 2], two[at + 3]]);
-            of_three = self.fed(
-                &of_three,
+            of_one = self.fed_split(of_one, &[one[at], one[at + 1], one[at + 2], one[at + 3]]);
+            of_two = self.fed_split(of_two, &[two[at], two[at + 1], two[at + 2], two[at + 3]]);
+            of_three = self.fed_split(
+                of_three,
                 &[three[at], three[at + 1], three[at + 2], three[at + 3]],
             );
-            of_four = self.fed(
-                &of_four,
+            of_four = self.fed_split(
+                of_four,
                 &[four[at], four[at + 1], four[at + 2], four[at + 3]],
             );
         }
         [
-            bytes_of(&of_one),
-            bytes_of(&of_two),
-            bytes_of(&of_three),
-            bytes_of(&of_four),
+            bytes_of(&joined(of_one)),
+            bytes_of(&joined(of_two)),
+            bytes_of(&joined(of_three)),
+            bytes_of(&joined(of_four)),
         ]
     }
 
@@ -195,6 +195,36 @@ impl Table {
         sum_of(state, &row3, &row2, &row1, &row0)
     }
 
+    /// The register after the bytes before the first whole step.
+    fn started_split(&self, head: &[u8]) -> Split
+        ensures { word_bytes (result.first ∷ result.rest) ≡ register self.now.divisor (replicate WIDTH 0)
+            (take (length head.now % STEP) head.now) }
+    {
+        let zeros = Split {
+            first: 0,
+            rest: u32x4::splat(0),
+        };
+        self.fed_split(zeros, &padded(head))
+    }
+
+    /// The register after four more bytes.
+    #[inline(always)]
+    fn fed_split(&self, state: Split, bytes: &[u8; STEP]) -> Split
+        ensures { word_bytes (result.first ∷ result.rest)
+            ≡ register self.now.divisor (word_bytes (state.first ∷ state.rest)) bytes.now }
+    {
+        let factors = (u32::from_be_bytes(*bytes) ^ state.first).to_be_bytes();
+        let row3 = self.row(3, factors[0]);
+        let row2 = self.row(2, factors[1]);
+        let row1 = self.row(1, factors[2]);
+        let row0 = self.row(0, factors[3]);
+        Split {
+            first: state.rest.to_array()[0] ^ (row3[0] ^ (row2[0] ^ (row1[0] ^ row0[0]))),
+            rest: next_words(state.rest)
+                ^ (behind(&row3) ^ (behind(&row2) ^ (behind(&row1) ^ behind(&row0)))),
+        }
+    }
+
     /// What a byte adds to the register, `k` places before the last of a step.
     #[inline(always)]
     fn row(&self, k: usize, factor: u8) -> [u32; WORDS]
@@ -203,6 +233,16 @@ impl Table {
     {
         self.rows[ELEMENTS * k + factor as usize]
     }
+}
+
+/// The words of a row behind its first.
+#[inline(always)]
+fn behind(row: &[u32; WORDS]) -> u32x4
+    ensures words { result ≡ drop 1 row.now }
+    ensures long { length result ≡ SHORT_WORDS }
+    ensures row { length row.now ≡ WORDS }
+{
+    u32x4::from_slice(&row[1..])
 }
 
 /// The register moved on by a word, and four rows.

@@ -17,6 +17,15 @@ pub const SHORT_WORDS: usize = 4;
 /// The bytes of a register.
 pub const WIDTH: usize = 20;
 
+/// A register whose first word, which is added to the next bytes, stands apart: the others fill a vector.
+#[derive(Clone, Copy, Drop)]
+pub struct Split {
+    /// The first word.
+    pub first: u32,
+    /// The words behind it.
+    pub rest: u32x4,
+}
+
 /// The bytes of the words.
 pub fn bytes_of(words: &[u32; WORDS]) -> [u8; WIDTH]
     ensures { result ≡ word_bytes words.now }
@@ -26,6 +35,14 @@ pub fn bytes_of(words: &[u32; WORDS]) -> [u8; WIDTH]
         bytes[STEP * i..STEP * i + STEP].copy_from_slice(&words[i].to_be_bytes());
     }
     bytes
+}
+
+/// The words of a register whose first stands apart.
+pub fn joined(split: Split) -> [u32; WORDS]
+    ensures { result ≡ split.first ∷ split.rest }
+{
+    let rest = split.rest.to_array();
+    [split.first, rest[0], rest[1], rest[2], rest[3]]
 }
 
 /// The words of a whole register, of which these are the first.

@@ -1,6 +1,5 @@
 use Rattle.std.proofs.Common.{◌≡◌, ℕ, ◌+◌, ◌*◌, ◌%◌, ◌≤◌, List, replicate, length, take, ap, ◌∙◌, arith}
 use Rattle.dtx_laws.specs.Register.{register}
-use Rattle.dtx_rs.specs.Table.{word_bytes}
 use Rattle.dtx_rs.proofs.Rows.{step_along}
 use Rattle.dtx_rs.proofs.table.Table.parity_of_four.Goals as goal
 
@@ -13,16 +12,16 @@ loop-step-preserved c =
     ≡ length c.args.one.now % 4 + 4 * (c.loop-step.step + 1) = omega arith in
     let within : at + 4 ≤ length c.args.one.now = omega (arith, c.loop-step-test.true) in
     record {
-      one = step_along divisor (replicate 20 0) c.args.one.now (word_bytes c.loop-step.of_one)
-          (word_bytes c.fed-of_one.result) at (omega (arith, within)) i.one c.fed-of_one.ensures
+      one = step_along divisor (replicate 20 0) c.args.one.now _ _ at
+          (omega (arith, within)) i.one c.fed_split-of_one.ensures
           ∙ ap (λ j. register divisor (replicate 20 0) (take j c.args.one.now)) further;
-      two = step_along divisor (replicate 20 0) c.args.two.now (word_bytes c.loop-step.of_two)
-          (word_bytes c.fed-of_two.result) at (omega (arith, within, c.requires.two)) i.two c.fed-of_two.ensures
+      two = step_along divisor (replicate 20 0) c.args.two.now _ _ at
+          (omega (arith, within, c.requires.two)) i.two c.fed_split-of_two.ensures
           ∙ ap (λ j. register divisor (replicate 20 0) (take j c.args.two.now)) further;
-      three = step_along divisor (replicate 20 0) c.args.three.now (word_bytes c.loop-step.of_three)
-          (word_bytes c.fed-of_three.result) at (omega (arith, within, c.requires.three)) i.three c.fed-of_three.ensures
+      three = step_along divisor (replicate 20 0) c.args.three.now _ _ at
+          (omega (arith, within, c.requires.three)) i.three c.fed_split-of_three.ensures
           ∙ ap (λ j. register divisor (replicate 20 0) (take j c.args.three.now)) further;
-      four = step_along divisor (replicate 20 0) c.args.four.now (word_bytes c.loop-step.of_four)
-          (word_bytes c.fed-of_four.result) at (omega (arith, within, c.requires.four)) i.four c.fed-of_four.ensures
+      four = step_along divisor (replicate 20 0) c.args.four.now _ _ at
+          (omega (arith, within, c.requires.four)) i.four c.fed_split-of_four.ensures
           ∙ ap (λ j. register divisor (replicate 20 0) (take j c.args.four.now)) further;
     }
