@@ -14,6 +14,7 @@ pub mod SquareTests
 pub mod SquareGaps
 pub mod GapSteps
 pub mod Wraps
+pub mod NearGaps
 pub mod Rows
 pub mod Columns
 pub mod Starts

@@ -12,5 +12,6 @@ pub mod CostLaws
 pub mod SumsLaws
 pub mod MovedLaws
 pub mod Gaps
+pub mod Near
 pub mod Squares
 pub mod Trace

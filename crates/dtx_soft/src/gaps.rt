@@ -76,6 +76,7 @@ fn units_of(scale: u8) -> Units
 }
 
 /// Writes the marks of all rounds, and gives how the potentials differ before the first one.
+#[inline(never)]
 pub(crate) fn backward(scale: u8, rounds: &[[i8; LANES]], marks: &mut [[u8; LANES]]) -> Gaps
     requires scale { scale ≤ MAX_SCALE }
     requires room { length marks.old ≡ length rounds.now }
@@ -130,7 +131,7 @@ pub(crate) fn lane(gaps: &Gaps, n: usize) -> Gap
 
 /// Writes the gap of a lane.
 #[inline(always)]
-fn put_lane(gap: Gap, n: usize, gaps: &mut Gaps)
+pub(crate) fn put_lane(gap: Gap, n: usize, gaps: &mut Gaps)
     requires { n < LANES }
     ensures written { gap_at gaps.new n ≡ gap }
     ensures others { (k : ℕ) → k ≢ n → gap_at gaps.new k ≡ gap_at gaps.old k }

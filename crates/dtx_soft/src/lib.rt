@@ -6,6 +6,7 @@ mod coders;
 mod field;
 mod gaps;
 pub mod laws;
+mod near;
 mod nearest;
 mod rounds;
 mod soft;

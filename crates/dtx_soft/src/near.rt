@@ -1,0 +1,409 @@
+//! The walk from the end of the symbols to their begin in bytes, where all symbols are near 0: twice as many lanes
+//! are worked on at once as in numbers of 16 bits.
+
+ghost use Rattle.std.specs.Prelude.{◌≡◌, ◌≢◌, ◌⊎◌, ℕ, ℤ, pos, neg_ℤ, ◌+◌, ◌*◌, ◌<◌};
+ghost use Rattle.std.specs.Prelude.{◌≤◌, ◌≤ℤ◌, ◌<ℤ◌, ◌+ℤ◌, ◌-ℤ◌, length};
+ghost use Rattle.std.specs.Prelude.{IsTrue, slice_index, slice_index_or, []};
+ghost use Rattle.std.specs.Int.{int_min};
+ghost use Rattle.dtx_soft.specs.Gaps.{AreLeastGaps, AreMarks, AreTaken, IsBefore, IsBounded, IsStep, column, gap_at};
+ghost use Rattle.dtx_soft.specs.Near.{AreNear, IsNear, IsTight};
+ghost use Rattle.dtx_soft.specs.Near.{gap_of, near_gap_at, squares_of};
+ghost use Rattle.dtx_soft.specs.Squares.{IsSquares, even_by, odd_by, within};
+ghost use Rattle.dtx_soft.specs.declared.near.TheConstants.{MAX_NEAR_SCALE};
+
+use crate::gaps::{Gap, Gaps, LANES, put_lane as put_gap};
+
+/// The greatest scale at which the walk is in bytes.
+pub(crate) const MAX_NEAR_SCALE: u8 = 4;
+
+/// How far off 0 symbols may be for it.
+const MAX_NEAR: i8 = 28;
+
+/// How four costs differ, as in a `Gap`.
+#[derive(Clone, Copy, Drop)]
+pub(crate) struct NearGap {
+    even: i8,
+    odd: i8,
+    across: i8,
+}
+
+/// The gaps of each lane.
+#[derive(Clone, Copy, Drop)]
+pub(crate) struct NearGaps {
+    even: [i8; LANES],
+    odd: [i8; LANES],
+    across: [i8; LANES],
+}
+
+/// How the squares of a symbol's four pairs of levels differ, as in `SquareGaps`.
+#[derive(Clone, Copy, Drop)]
+pub(crate) struct NearSquares {
+    even: i8,
+    odd: i8,
+    across: i8,
+    even_tied: i8,
+    odd_tied: i8,
+}
+
+/// The scale, and its multiples.
+#[derive(Clone, Copy, Drop)]
+struct NearUnits {
+    scale: u8,
+    two: i8,
+    four: i8,
+    twelve: i8,
+    four_below: i8,
+    twelve_below: i8,
+    ghost some: { 0 < scale },
+    ghost small: { scale ≤ MAX_NEAR_SCALE },
+    ghost two_is: { two ≡ pos (2 * scale) },
+    ghost four_is: { four ≡ pos (4 * scale) },
+    ghost twelve_is: { twelve ≡ pos (12 * scale) },
+    ghost four_below_is: { four_below ≡ neg_ℤ (pos (4 * scale)) },
+    ghost twelve_below_is: { twelve_below ≡ neg_ℤ (pos (12 * scale)) },
+}
+
+/// The multiples of a scale.
+fn units_of(scale: u8) -> NearUnits
+    requires some { 0 < scale }
+    requires small { scale ≤ MAX_NEAR_SCALE }
+    ensures { result.scale ≡ scale }
+{
+    let number = scale as i8;
+    NearUnits {
+        scale,
+        two: 2 * number,
+        four: 4 * number,
+        twelve: 12 * number,
+        four_below: -4 * number,
+        twelve_below: -12 * number,
+    }
+}
+
+/// Whether bytes do: at this scale, with each symbol near 0.
+pub(crate) fn are_near(scale: u8, rounds: &[[i8; LANES]]) -> bool
+    ensures some { IsTrue result → 0 < scale }
+    ensures small { IsTrue result → scale ≤ MAX_NEAR_SCALE }
+    ensures near { IsTrue result → (t n : ℕ) → t < length rounds.now → n < LANES
+        → IsNear (slice_index_or (slice_index_or rounds.now t []) n (pos 0)) }
+{
+    let far = far_lanes(rounds);
+    sum_of(&far) == 0 && 0 < scale && scale <= MAX_NEAR_SCALE
+}
+
+/// For each lane how many of its symbols are not near 0, or 255 where they are more.
+#[inline(never)]
+fn far_lanes(rounds: &[[i8; LANES]]) -> [u8; LANES]
+    ensures { (t n : ℕ) → t < length rounds.now → n < LANES → slice_index result n ≡ 0
+        → IsNear (slice_index_or (slice_index_or rounds.now t []) n (pos 0)) }
+{
+    let mut far = [0; LANES];
+    for t in 0..rounds.len() {
+        add_far(&rounds[t], &mut far);
+    }
+    far
+}
+
+/// Counts those of one more round.
+#[inline(always)]
+fn add_far(symbols: &[i8; LANES], far: &mut [u8; LANES])
+    ensures near { (n : ℕ) → n < LANES → slice_index far.new n ≡ 0 → IsNear (slice_index_or symbols.now n (pos 0)) }
+    ensures before { (n : ℕ) → n < LANES → slice_index far.new n ≡ 0 → slice_index far.old n ≡ 0 }
+{
+    for n in 0..LANES {
+        far[n] = one_more(far[n], symbols[n]);
+    }
+}
+
+/// A count, with one more where a symbol is not near 0.
+#[inline(always)]
+fn one_more(far: u8, symbol: i8) -> u8
+    ensures near { result ≡ 0 → IsNear symbol }
+    ensures before { result ≡ 0 → far ≡ 0 }
+{
+    far.saturating_add(is_far(symbol))
+}
+
+/// The sum of the lanes' counts.
+fn sum_of(far: &[u8; LANES]) -> u16
+    ensures { result ≡ 0 → (n : ℕ) → n < LANES → slice_index far.now n ≡ 0 }
+{
+    let mut sum = 0;
+    for n in 0..LANES {
+        sum += far[n] as u16;
+    }
+    sum
+}
+
+/// 1 where a symbol is not near 0, and else 0.
+#[inline(always)]
+fn is_far(symbol: i8) -> u8
+    ensures near { result ≡ 0 → IsNear symbol }
+    ensures small { result ≤ 1 }
+{
+    (symbol > MAX_NEAR || symbol < -MAX_NEAR) as u8
+}
+
+/// Writes the marks of all rounds, and gives how the potentials differ before the first one.
+pub(crate) fn backward(scale: u8, rounds: &[[i8; LANES]], marks: &mut [[u8; LANES]]) -> Gaps
+    requires some { 0 < scale }
+    requires scale { scale ≤ MAX_NEAR_SCALE }
+    requires near { (t n : ℕ) → t < length rounds.now → n < LANES
+        → IsNear (slice_index_or (slice_index_or rounds.now t []) n (pos 0)) }
+    requires room { length marks.old ≡ length rounds.now }
+    ensures bounded { (n : ℕ) → n < LANES → IsBounded (gap_at result n) }
+    ensures gaps { (n : ℕ) → n < LANES → AreLeastGaps scale (column rounds.now n) (gap_at result n) }
+    ensures marks { (t n : ℕ) → t < length rounds.now → n < LANES
+        → AreMarks scale (column rounds.now n) t (slice_index (slice_index_or marks.new t []) n) }
+{
+    let gaps = walk(scale, rounds, marks);
+    widened(&gaps)
+}
+
+/// The walk, which gives the gaps in bytes.
+#[inline(never)]
+fn walk(scale: u8, rounds: &[[i8; LANES]], marks: &mut [[u8; LANES]]) -> NearGaps
+    requires some { 0 < scale }
+    requires scale { scale ≤ MAX_NEAR_SCALE }
+    requires near { (t n : ℕ) → t < length rounds.now → n < LANES
+        → IsNear (slice_index_or (slice_index_or rounds.now t []) n (pos 0)) }
+    requires room { length marks.old ≡ length rounds.now }
+    ensures tight { (n : ℕ) → n < LANES → IsTight (near_gap_at result n) }
+    ensures gaps { (n : ℕ) → n < LANES → AreLeastGaps scale (column rounds.now n) (near_gap_at result n) }
+    ensures marks { (t n : ℕ) → t < length rounds.now → n < LANES
+        → AreMarks scale (column rounds.now n) t (slice_index (slice_index_or marks.new t []) n) }
+{
+    let mut gaps = NearGaps {
+        even: [0; LANES],
+        odd: [0; LANES],
+        across: [0; LANES],
+    };
+    let units = units_of(scale);
+    for t in (0..rounds.len()).rev() {
+        marks[t] = step_lanes(&units, &rounds[t], &mut gaps);
+    }
+    gaps
+}
+
+/// The gaps in numbers of 16 bits.
+fn widened(gaps: &NearGaps) -> Gaps
+    ensures { (n : ℕ) → n < LANES → gap_at result n ≡ near_gap_at gaps.now n }
+{
+    let mut wide = Gaps {
+        even: [0; LANES],
+        odd: [0; LANES],
+        across: [0; LANES],
+    };
+    for n in 0..LANES {
+        put_gap(wide_gap(lane(gaps, n)), n, &mut wide);
+    }
+    wide
+}
+
+/// A gap in numbers of 16 bits.
+fn wide_gap(gap: NearGap) -> Gap
+    ensures { result ≡ gap_of gap }
+{
+    Gap {
+        even: gap.even as i16,
+        odd: gap.odd as i16,
+        across: gap.across as i16,
+    }
+}
+
+/// One round more in front. Gives its marks.
+#[inline(always)]
+fn step_lanes(units: &NearUnits, symbols: &[i8; LANES], gaps: &mut NearGaps) -> [u8; LANES]
+    requires near { (n : ℕ) → n < LANES → IsNear (slice_index_or symbols.now n (pos 0)) }
+    requires tight { (n : ℕ) → n < LANES → IsTight (near_gap_at gaps.old n) }
+    ensures tight { (n : ℕ) → n < LANES → IsTight (near_gap_at gaps.new n) }
+    ensures step { (n : ℕ) → n < LANES → IsStep units.now.scale (slice_index_or symbols.now n (pos 0))
+        (near_gap_at gaps.old n) (near_gap_at gaps.new n) (slice_index result n) }
+{
+    let mut marks = [0; LANES];
+    for n in 0..LANES {
+        let gap = lane(gaps, n);
+        let squares = differ(units, symbols[n]);
+        let before = gap_before(units, symbols[n], &squares, gap);
+        marks[n] = marks_of(units, symbols[n], &squares, gap);
+        put_lane(before, n, gaps);
+    }
+    marks
+}
+
+/// The gap of a lane.
+#[inline(always)]
+fn lane(gaps: &NearGaps, n: usize) -> NearGap
+    requires { n < LANES }
+    ensures { gap_of result ≡ near_gap_at gaps.now n }
+{
+    NearGap {
+        even: gaps.even[n],
+        odd: gaps.odd[n],
+        across: gaps.across[n],
+    }
+}
+
+/// Writes the gap of a lane.
+#[inline(always)]
+fn put_lane(gap: NearGap, n: usize, gaps: &mut NearGaps)
+    requires { n < LANES }
+    ensures written { near_gap_at gaps.new n ≡ gap_of gap }
+    ensures others { (k : ℕ) → k ≢ n → near_gap_at gaps.new k ≡ near_gap_at gaps.old k }
+{
+    gaps.even[n] = gap.even;
+    gaps.odd[n] = gap.odd;
+    gaps.across[n] = gap.across;
+}
+
+/// The gaps of the potentials before a symbol, from those behind it.
+#[inline(always)]
+fn gap_before(units: &NearUnits, symbol: i8, squares: &NearSquares, gap: NearGap) -> NearGap
+    requires squares { IsSquares units.now.scale symbol (squares_of squares.now) }
+    requires near { AreNear (squares_of squares.now) }
+    requires tight { IsTight (gap_of gap) }
+    ensures tight { IsTight (gap_of result) }
+    ensures gaps { IsBefore units.now.scale symbol (gap_of gap) (gap_of result) }
+{
+    let step = sum(squares.across, gap.across);
+    let first = capped(squares.even, gap.even);
+    let second = lesser(squares.even, gap.even);
+    let third = capped(squares.odd, gap.odd);
+    let fourth = lesser(squares.odd, gap.odd);
+    let even = difference(first, third);
+    let odd = difference(second, fourth);
+    NearGap {
+        even: sum(step, even),
+        odd: sum(step, odd),
+        across: difference(third, fourth),
+    }
+}
+
+/// The sum of two numbers.
+#[inline(always)]
+fn sum(number: i8, other: i8) -> i8
+    requires from { pos 0 ≤ℤ ((number +ℤ other) +ℤ pos 128) }
+    requires to { (number +ℤ other) ≤ℤ pos 127 }
+    ensures { result ≡ number +ℤ other }
+{
+    number + other
+}
+
+/// How much a number is greater than another one.
+#[inline(always)]
+fn difference(number: i8, other: i8) -> i8
+    requires from { pos 0 ≤ℤ ((number -ℤ other) +ℤ pos 128) }
+    requires to { (number -ℤ other) ≤ℤ pos 127 }
+    ensures { result ≡ number -ℤ other }
+{
+    number - other
+}
+
+/// The sum of two gaps, or 0 where it is more.
+#[inline(always)]
+fn capped(square: i8, gap: i8) -> i8
+    requires square_from { pos 0 ≤ℤ (square +ℤ pos 50) }
+    requires square_to { square ≤ℤ pos 50 }
+    requires gap_from { pos 0 ≤ℤ (gap +ℤ pos 76) }
+    requires gap_to { gap ≤ℤ pos 76 }
+    ensures value { result ≡ int_min (square +ℤ gap) (pos 0) }
+    ensures from { pos 0 ≤ℤ (result +ℤ pos 126) }
+    ensures to { result ≤ℤ pos 0 }
+{
+    (square + gap).min(0)
+}
+
+/// The lesser of two gaps.
+#[inline(always)]
+fn lesser(square: i8, gap: i8) -> i8
+    requires square_from { pos 0 ≤ℤ (square +ℤ pos 50) }
+    requires square_to { square ≤ℤ pos 50 }
+    requires gap_from { pos 0 ≤ℤ (gap +ℤ pos 76) }
+    ensures value { result ≡ int_min square gap }
+    ensures from { pos 0 ≤ℤ (result +ℤ pos 76) }
+    ensures to { result ≤ℤ pos 50 }
+{
+    square.min(gap)
+}
+
+/// For each state which of the two pairs of levels that may follow it is to be taken: bit s is for state s.
+#[inline(always)]
+fn marks_of(units: &NearUnits, symbol: i8, squares: &NearSquares, gap: NearGap) -> u8
+    requires squares { IsSquares units.now.scale symbol (squares_of squares.now) }
+    requires near { AreNear (squares_of squares.now) }
+    requires tight { IsTight (gap_of gap) }
+    ensures { AreTaken units.now.scale symbol (gap_of gap) result }
+{
+    let first = is_above(squares.even_tied + gap.even, 0);
+    let second = is_above(squares.even_tied, gap.even);
+    let third = is_above(squares.odd_tied + gap.odd, 0);
+    let fourth = is_above(squares.odd_tied, gap.odd);
+    first + 2 * second + 4 * third + 8 * fourth
+}
+
+/// 1 where a number is greater than another one, and else 0.
+#[inline(always)]
+fn is_above(number: i8, other: i8) -> u8
+    ensures { ((other <ℤ number) × (result ≡ 1)) ⊎ ((number ≤ℤ other) × (result ≡ 0)) }
+{
+    (number > other) as u8
+}
+
+/// How the squares of a symbol differ.
+#[inline(always)]
+fn differ(units: &NearUnits, symbol: i8) -> NearSquares
+    requires { IsNear symbol }
+    ensures gaps { IsSquares units.now.scale symbol (squares_of result) }
+    ensures near { AreNear (squares_of result) }
+{
+    let twice = sum(symbol, symbol);
+    let four_times = sum(twice, twice);
+    let tied = difference(four_times, 1);
+    let odd = odd_gap(units, twice, four_times);
+    let nearest = within(units.four_below, four_times, units.four);
+    let beside = difference(odd, symbol);
+    NearSquares {
+        even: even_gap(units, twice, four_times),
+        odd,
+        across: sum(beside, nearest),
+        even_tied: even_gap(units, twice, tied),
+        odd_tied: odd_gap(units, twice, tied),
+    }
+}
+
+/// How the squares of levels 0 or 4 and 2 or 6 differ.
+#[inline(always)]
+fn even_gap(units: &NearUnits, twice: i8, four_times: i8) -> i8
+    requires from { pos 0 ≤ℤ (twice +ℤ pos 56) }
+    requires to { twice ≤ℤ pos 56 }
+    requires four_times_from { (twice +ℤ twice) ≤ℤ (four_times +ℤ pos 1) }
+    requires four_times_to { four_times ≤ℤ (twice +ℤ twice) }
+    ensures { result ≡ even_by units.now.scale twice four_times }
+{
+    let near = within(units.twelve_below, four_times, units.four);
+    difference(difference(twice, units.two), near)
+}
+
+/// How the squares of levels 1 or 5 and 3 or 7 differ.
+#[inline(always)]
+fn odd_gap(units: &NearUnits, twice: i8, four_times: i8) -> i8
+    requires from { pos 0 ≤ℤ (twice +ℤ pos 56) }
+    requires to { twice ≤ℤ pos 56 }
+    requires four_times_from { (twice +ℤ twice) ≤ℤ (four_times +ℤ pos 1) }
+    requires four_times_to { four_times ≤ℤ (twice +ℤ twice) }
+    ensures { result ≡ odd_by units.now.scale twice four_times }
+{
+    let near = within(units.four_below, four_times, units.twelve);
+    difference(sum(twice, units.two), near)
+}
+
+/// A number, or the nearer of two bounds.
+#[inline(always)]
+fn within(low: i8, number: i8, high: i8) -> i8
+    requires { low ≤ℤ high }
+    ensures value { result ≡ within low number high }
+    ensures from { low ≤ℤ result }
+    ensures to { result ≤ℤ high }
+{
+    number.max(low).min(high)
+}
