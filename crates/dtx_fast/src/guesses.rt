@@ -48,8 +48,8 @@ impl Guesses {
         }
     }
 
-    /// The two errors that give the first four syndromes, where two do and the fifth follows. The powers of their places
-    /// are the zeros of x * x + sum * x + product.
+    /// The two errors that give the first four syndromes, where two do and the fifth follows. The powers of their
+    /// places are the zeros of x * x + sum * x + product.
     pub fn two(&self, syndromes: &[u8; ROOM]) -> Option<(WrongByte, WrongByte)> {
         let [a, b, c, d, e, _, _] = first_seven(syndromes);
         let over = a.mul(c).add(b.mul(b)).pow(254);
