@@ -87,8 +87,11 @@ pub(crate) fn are_near(scale: u8, rounds: &[[i8; LANES]]) -> bool
     ensures near { IsTrue result → (t n : ℕ) → t < length rounds.now → n < LANES
         → IsNear (slice_index_or (slice_index_or rounds.now t []) n (pos 0)) }
 {
+    if scale == 0 || scale > MAX_NEAR_SCALE {
+        return false;
+    }
     let far = far_lanes(rounds);
-    sum_of(&far) == 0 && 0 < scale && scale <= MAX_NEAR_SCALE
+    sum_of(&far) == 0
 }
 
 /// For each lane how many of its symbols are not near 0, or 255 where they are more.
