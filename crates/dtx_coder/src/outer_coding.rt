@@ -1,7 +1,8 @@
 //! The outer coding of a group's packets.
 
-ghost use Rattle.std.specs.Prelude.{◌≡◌, ℕ, ◌+◌, ◌<◌, ◌≤◌, [], IfOk, drop, length, map, slice_index_or, take};
+ghost use Rattle.std.specs.Prelude.{◌≡◌, ℕ, ◌+◌, ◌*◌, ◌<◌, ◌≤◌, [], IfOk, drop, length, map, slice_index_or, take};
 ghost use Rattle.dtx_laws.specs.Branches.{leaving_all, after_all};
+ghost use Rattle.dtx_laws.specs.Whitening.{whitened};
 ghost use Rattle.dtx_whiten.specs.Randomizer.{randomizer_bytes};
 ghost use Rattle.dtx_coder.specs.Coded.{coded_from};
 ghost use Rattle.dtx_coder.specs.Groups.{zero_branches};
@@ -58,33 +59,36 @@ pub(crate) fn code_packets(
           (coded_from first (map (λ p. p.0) packets.now));
     } }
 {
-    outer.codewords(PACKET_DATA * first, &heads_of(packets), words);
-    for i in 0..GROUP_PACKETS {
-        bytes[CODEWORD * i..CODEWORD * i + CODEWORD].copy_from_slice(&words[i]);
-    }
+    outer.encode_four(&whitened_heads(outer, first, packets), words);
+    bytes.copy_from_slice(words.as_flattened());
     outer.pass(&mut bytes[..]);
 }
 
-/// The packets' data, which stand behind their sync bytes.
-fn heads_of(packets: &[Packet; GROUP_PACKETS]) -> [[u8; PACKET_DATA]; GROUP_PACKETS]
+/// The packets' data, which stand behind their sync bytes, whitened.
+fn whitened_heads(
+    outer: &OuterCoding,
+    first: usize,
+    packets: &[Packet; GROUP_PACKETS],
+) -> [[u8; PACKET_DATA]; GROUP_PACKETS]
+    requires { first + GROUP_PACKETS ≤ FIELD_PACKETS }
     ensures heads { (p : ℕ) → p < GROUP_PACKETS → slice_index_or result p []
-        ≡ take PACKET_DATA (drop 1 (slice_index_or packets.now p (record { 0 = [] })).0) }
+        ≡ whitened outer.now.white (PACKET_DATA * (first + p))
+        (take PACKET_DATA (drop 1 (slice_index_or packets.now p (record { 0 = [] })).0)) }
     ensures long { (p : ℕ) → p < GROUP_PACKETS
         → length (slice_index_or packets.now p (record { 0 = [] })).0 ≡ PACKET }
 {
     let mut heads = [[0; PACKET_DATA]; GROUP_PACKETS];
     for p in 0..GROUP_PACKETS {
-        heads[p] = head_of(&packets[p]);
+        heads[p] = whitened_head(outer, first + p, &packets[p]);
     }
     heads
 }
 
-/// A packet's data.
-fn head_of(packet: &Packet) -> [u8; PACKET_DATA]
-    ensures head { result ≡ take PACKET_DATA (drop 1 packet.now.0) }
+/// The data of a packet, whitened as those of the packet at this place of a field.
+fn whitened_head(outer: &OuterCoding, place: usize, packet: &Packet) -> [u8; PACKET_DATA]
+    requires { place < FIELD_PACKETS }
+    ensures head { result ≡ whitened outer.now.white (PACKET_DATA * place) (take PACKET_DATA (drop 1 packet.now.0)) }
     ensures long { length packet.now.0 ≡ PACKET }
 {
-    let mut head = [0; PACKET_DATA];
-    head.copy_from_slice(&packet.0[1..]);
-    head
+    outer.whitened(PACKET_DATA * place, &packet.0[1..])
 }

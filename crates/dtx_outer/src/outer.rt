@@ -4,6 +4,8 @@ ghost use Rattle.std.specs.Prelude.{◌≡◌, ℕ, ◌+◌, ◌*◌, ◌<◌, �
 ghost use Rattle.dtx_galois.specs.Field.{AreBytes};
 ghost use Rattle.dtx_laws.specs.Branches.{IsInterleaver, HasWidths, spreading, leaving_all, after_all, aligned};
 ghost use Rattle.dtx_laws.specs.Codeword.{IsCode};
+ghost use Rattle.dtx_laws.specs.Whitening.{whitened};
+ghost use Rattle.dtx_laws.specs.Words.{codeword};
 ghost use Rattle.dtx_outer.specs.Outer.{Held, IsPeriod, coded};
 
 use crate::whitening::{whiten, whiten_four};
@@ -103,6 +105,22 @@ impl<
     {
         let white = whiten_four(&self.whitener, from, heads);
         self.code.encode_four(&white, words);
+    }
+
+    /// The data, whitened from byte `from` of the whitener's period on.
+    pub fn whitened(&self, from: usize, head: &[u8]) -> [u8; K]
+        requires long { length head.now ≡ K }
+        requires within { from + K ≤ W.PERIOD }
+        ensures { result ≡ whitened self.now.white from head.now }
+    {
+        whiten(&self.whitener, from, head)
+    }
+
+    /// The codewords of four data that are whitened. Nothing goes to the interleaver.
+    pub fn encode_four(&self, white: &[[u8; K]; 4], words: &mut [[u8; N]; 4])
+        ensures { (p : ℕ) → p < 4 → slice_index_or words.new p [] ≡ codeword N K (slice_index_or white.now p []) }
+    {
+        self.code.encode_four(white, words);
     }
 
     /// The bytes that leave the interleaver as these come.

@@ -1,43 +1,34 @@
-use Rattle.std.proofs.Common.{rules, ◌≡◌, ℕ, ◌+◌, ◌-◌, ◌*◌, ◌<◌, ◌++◌, [], ◌∷◌, List, length, map, get_or, take, refl}
-use Rattle.std.proofs.Common.{sym, ap, ap₂, ◌∙◌, arith}
-use Rattle.std.proofs.lemmas.Slice.{take-put_mid}
-use Rattle.dtx_outer.specs.Outer.{coded}
+use Rattle.std.proofs.Common.{◌≡◌, ℕ, ◌+◌, ◌<◌, [], List, length, map, ap, ◌∙◌, arith}
+use Rattle.std.specs.List.{flat_map}
+use Rattle.dtx_laws.specs.Branches.{leaving_all, after_all}
 use Rattle.dtx_coder.specs.Coded.{coded_from}
-use Rattle.dtx_lists.proofs.Written.{length-put_mid}
-use Rattle.dtx_coder.proofs.Packets.{codeword_is, codewords_more}
+use Rattle.dtx_coder.proofs.Packets.{packets_coded}
 use Rattle.dtx_coder.proofs.outer_coding.code_packets.Goals as goal
 
-pub loop-i-init : goal.loop-i-init
-unfolding coded_from
-loop-i-init c = record { long = c.told-bytes; bytes = refl }
+pub returns-clause-bytes : goal.returns-clause-bytes
+returns-clause-bytes c =
+    let joined : flat_map (λ x. x) c.encode_four.new.words
+    ≡ coded_from c.args.first (map (λ p. p.0) c.args.packets.now) =
+    packets_coded (λ p. p.0) c.args.first c.args.outer.now.white c.whitened_heads.result c.encode_four.new.words
+    c.args.packets.now (record { 0 = [] }) c.requires.white (omega (arith, c.told-packets, c.requires.place))
+    (omega (arith, c.told-packets, c.told-words))
+    (λ p l. c.encode_four.ensures p (omega (arith, c.told-packets, l)))
+    (λ p l. c.whitened_heads.ensures.heads p (omega (arith, c.told-packets, l)))
+    (λ p l. c.whitened_heads.ensures.long p (omega (arith, c.told-packets, l))) in
+    c.pass.ensures.bytes
+    ∙ ap (leaving_all 52 c.args.outer.now.branches)
+    (c.copy_from_slice.ensures.after ∙ c.as_flattened.ensures.value ∙ joined)
 
-pub loop-i-preserved : goal.loop-i-preserved
-loop-i-preserved c =
-    let i : ℕ = c.loop-i.i in
-    let inv = c.loop-i.invariant in
-    let l : i < 4 = c.loop-i-test.true in
-    let inv-long : length c.loop-i.bytes ≡ 828 = inv.long in
-    let place : ℕ = c.args.first + i in
-    let packet : List ℕ = (get_or c.args.packets.now i (record { 0 = [] })).0 in
-    let before : List ℕ = coded_from c.args.first (map (λ p. p.0) (take i c.args.packets.now)) in
-    let word : List ℕ = coded_from place (packet ∷ []) in
-    let more : coded_from c.args.first (map (λ p. p.0) (take (i + 1) c.args.packets.now)) ≡ before ++ word =
-    codewords_more (λ p. p.0) c.args.first i c.args.packets.now (record { 0 = [] })
-    (omega (arith, c.told-packets, c.loop-i-test.true)) in
-    let from : 187 * c.args.first + 187 * i ≡ 187 * place = omega arith in
-    let is : c.copy_from_slice.new.self ≡ word =
-    c.copy_from_slice.ensures.after ∙ c.codewords.ensures i l
-    ∙ ap (λ k. coded 207 187 c.args.outer.now.white k (get_or c.heads_of.result i [])) from
-    ∙ codeword_is place packet c.args.outer.now.white (get_or c.heads_of.result i []) c.requires.white
-    (c.heads_of.ensures.long i l)
-    (omega (arith, l, c.requires.place)) (c.heads_of.ensures.heads i l) in
-    let long : length c.copy_from_slice.new.self ≡ 207 = search rules in
-    record {
-      long = length-put_mid (207 * i) (207 * i + 207 - 207 * i) c.loop-i.bytes c.copy_from_slice.new.self
-          (omega (arith, inv-long, l)) (omega (arith, long)) ∙ inv-long;
-      bytes =
-          take-put_mid (207 * i) (207 * i + 207 - 207 * i) c.loop-i.bytes c.copy_from_slice.new.self (207 * (i + 1))
-          (omega (arith, long)) (search rules)
-          ∙ ap₂ (λ (x y : List ℕ). x ++ y) inv.bytes is
-          ∙ sym more;
-    }
+pub returns-clause-outer : goal.returns-clause-outer
+returns-clause-outer c =
+    let joined : flat_map (λ x. x) c.encode_four.new.words
+    ≡ coded_from c.args.first (map (λ p. p.0) c.args.packets.now) =
+    packets_coded (λ p. p.0) c.args.first c.args.outer.now.white c.whitened_heads.result c.encode_four.new.words
+    c.args.packets.now (record { 0 = [] }) c.requires.white (omega (arith, c.told-packets, c.requires.place))
+    (omega (arith, c.told-packets, c.told-words))
+    (λ p l. c.encode_four.ensures p (omega (arith, c.told-packets, l)))
+    (λ p l. c.whitened_heads.ensures.heads p (omega (arith, c.told-packets, l)))
+    (λ p l. c.whitened_heads.ensures.long p (omega (arith, c.told-packets, l))) in
+    c.pass.ensures.branches
+    ∙ ap (λ x. record c.args.outer.now { branches = after_all 52 c.args.outer.now.branches x })
+    (c.copy_from_slice.ensures.after ∙ c.as_flattened.ensures.value ∙ joined)
