@@ -2,13 +2,14 @@
 # Measures `dtx adapt` of a made stream of 200 MB and `dtx excite` of its feed beside `dtx code` of the same packets,
 # whose coder both of them run; `dtx watch` of the feed beside `excite`; and the memory of `adapt` and `excite` at 200
 # MB and at 2 MB. All of it in one run, on one processor where `taskset` is there, each the best of three. It needs
-# 2.5 GB on the disk of temporary files. The status is 0 where `adapt` takes at most 1.3 times as long as `code` of
-# the stream, `excite` at most 1.3 times as long as `code` of the feed, `watch` at most 1.1 times as long as `excite`,
+# 2.5 GB on the disk of temporary files. The status is 0 where `adapt` takes at most 0.75 times as long as `code` of
+# the stream, `excite` at most 1.1 times as long as `code` of the feed, `watch` at most 1.1 times as long as `excite`,
 # and the memory is the same, but for 256 kB by which it differs from run to run.
 
 set -eu
 rounds=3
-bar=1.3
+adapt_bar=0.75
+excite_bar=1.1
 watch_bar=1.1
 memory_bar=256
 packets=1063830
@@ -43,8 +44,8 @@ steady() {
 }
 
 status=0
-within adapt $bar 'code of the stream' || status=1
-within excite $bar 'code of the feed' || status=1
+within adapt $adapt_bar 'code of the stream' || status=1
+within excite $excite_bar 'code of the feed' || status=1
 within watch $watch_bar excite || status=1
 "$program" adapt "$plan" "$room/few.ts" "$room/few.feed" >"$room/said"
 steady adapt "$(memory "$program" adapt "$plan" "$room/in.ts" "$room/out.ts")" \

@@ -2,12 +2,12 @@
 # Measures `dtx receive` on the undamaged symbols of a made stream of 200 MB beside GNU Radio's receive chain, where Debian's
 # package `gnuradio` is installed. GNU Radio searches the trellis for the likeliest path besides, where `dtx` slices each
 # symbol. All of it in one run, on one processor where `taskset` is there, `dtx` the best of three and the other once. It needs
-# 2 GB on the disk of temporary files. The status is 0 where `dtx` is at least 8 times as fast, and where there is no
+# 2 GB on the disk of temporary files. The status is 0 where `dtx` is at least 65 times as fast, and where there is no
 # GNU Radio.
 
 set -eu
 rounds=3
-bar=8
+bar=65
 packets=1063920
 
 . "$(dirname "${BASH_SOURCE[0]}")/../commands/timing.sh"
