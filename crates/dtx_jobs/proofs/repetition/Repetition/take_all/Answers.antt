@@ -118,3 +118,25 @@ returns-clause-repeating c = λ s is.
     let all : c.loop-i.i ≡ length bytes / 832 =
     omega (arith, c.loop-i-test.false, c.loop-i.auto.i-end, c.as_chunks.ensures.front_len) in
     subst (λ n. IsRepeating c.loop-i.self (s ++ segments_from bytes 0 n)) all (c.loop-i.invariant.repeating s is)
+
+pub returns-clause-sent : goal.returns-clause-sent
+returns-clause-sent c = λ s is.
+    let bytes = c.args.bytes.now in
+    let old = c.args.self.now in
+    let all : c.loop-i.i ≡ length bytes / 832 =
+    omega (arith, c.loop-i-test.false, c.loop-i.auto.i-end, c.as_chunks.ensures.front_len) in
+    subst
+    (λ n. sent_over old.address old.delay (lives_so_far (s ++ segments_from bytes 0 n))
+    ≡ sent_over old.address old.delay (lives_so_far s) ++ c.loop-i.self.sending.symbols) all
+    (c.loop-i.invariant.sent s is)
+
+pub returns-clause-logged : goal.returns-clause-logged
+returns-clause-logged c = λ s is.
+    let bytes = c.args.bytes.now in
+    let old = c.args.self.now in
+    let all : c.loop-i.i ≡ length bytes / 832 =
+    omega (arith, c.loop-i-test.false, c.loop-i.auto.i-end, c.as_chunks.ensures.front_len) in
+    subst
+    (λ n. logged_over old.address old.delay (lives_so_far (s ++ segments_from bytes 0 n))
+    ≡ logged_over old.address old.delay (lives_so_far s) ++ c.loop-i.self.sending.lines) all
+    (c.loop-i.invariant.logged s is)
