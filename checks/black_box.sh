@@ -129,7 +129,7 @@ refuses_sent_files() {
         mkdir folder
         run "$status" "${line//_/ }" "$command" "$input" 7 1000 "$symbols" "$log"
         leaves folder ${left:+"$left"}
-        [[ ! $left || ! -s $left ]] || wrong "$left is not empty"
+        [[ ! $left || (-f $left && ! -s $left) ]] || wrong "$left is not empty"
     done <<end
 a_missing_input missing out.sym out.log 4 absent_missing
 an_input_that_is_a_folder folder out.sym out.log 11 read_fault

@@ -134,7 +134,7 @@ has_digest out.sym d053d41c45f273e3e262b297d5fa7c7df44adbfb998e9210481653691e0f1
 has_digest out.log 42071eb44f95e818bfcf4eb4a16103cb4638dc713e3a49989c7d8621846571f4
 
 # excites_changed FEED ADDRESS DELAY: its first operations packet is changed in each way of the rows of the standard input, which tell the
-# changes, how many segments, presets and mutes an exciter of that address and delay has then, and its first preset.
+# changes, how many segments, presets and mutes an exciter of that address and delay has then, each mute an unlisted one, and its first preset.
 excites_changed() {
     local changes segments presets mutes first change
     while read -r changes segments presets mutes first; do
@@ -143,7 +143,7 @@ excites_changed() {
             "$top/checks/independent/lies.py" "$1" "$change" in.ts || wrong 'the change is another one'
             run 0 "packets 1300 segments $segments presets $presets mutes $mutes loose 0" excite in.ts "$2" "$3" out.sym out.log
             [[ $(grep -m 1 preset out.log) == "$first" ]] || wrong "the first preset is '$(grep -m 1 preset out.log)'"
-            (($(grep -c mute out.log) == mutes)) || wrong "the log is '$(tr '\n' ';' <out.log)'"
+            (($(grep -c mute out.log) == mutes && $(grep -c unlisted out.log) == mutes)) || wrong "the log is '$(tr '\n' ';' <out.log)'"
         done
     done
 }
