@@ -1,6 +1,6 @@
 //! The test of what a corrector tried.
 
-ghost use Rattle.std.specs.Prelude.{◌≡◌, ◌↔◌, ℕ, ◌≤◌, IsTrue, MatchResult, length, take};
+ghost use Rattle.std.specs.Prelude.{◌≡◌, ◌↔◌, ◌≤◌, IsTrue, MatchResult, length, take};
 ghost use Rattle.dtx_galois.specs.Field.{AreBytes};
 ghost use Rattle.dtx_laws.specs.Codeword.{IsCode, IsCodeword, distance};
 ghost use Rattle.dtx_laws.specs.Correction.{IsCorrected, IsRefused};
