@@ -1,7 +1,9 @@
 //! From packets to the bytes that are sent.
 
-ghost use Rattle.std.specs.Prelude.{◌≡◌, ℕ, ◌+◌, ◌%◌, ◌<◌, ◌≤◌, ◌++◌, ◌∷◌, [], List, IfOk, length, slice_index_or};
+ghost use Rattle.std.specs.Prelude.{◌≡◌, ℕ, ◌+◌, ◌*◌, ◌%◌, ◌<◌, ◌≤◌, ◌++◌, ◌∷◌, [], List, IfOk, length};
+ghost use Rattle.std.specs.Prelude.{slice_index_or};
 ghost use Rattle.dtx_laws.specs.Branches.{leaving_all, after_all};
+ghost use Rattle.dtx_laws.specs.Whitening.{whitened};
 ghost use Rattle.dtx_dvb.specs.Randomizer.{randomizer_bytes};
 ghost use Rattle.dtx_dvb.specs.Stream.{block_of, blocks_from, dvb, zero_branches};
 ghost use Rattle.dtx_dvb.specs.Sending.{HasSent};
@@ -82,10 +84,9 @@ impl DvbOut {
         ensures sent { (before : List (List ℕ)) → HasSent before self.old → place ≡ length before % PERIOD_PACKETS
             → HasSent (before ++ packets.now) self.new }
     {
-        are_whole(packets);
+        let white = randomized(&self.outer, place as usize, packets);
         let mut words = [[0; BLOCK]; FOUR];
-        self.outer
-            .codewords(PACKET * place as usize, packets, &mut words);
+        self.outer.encode_four(&white, &mut words);
         for i in 0..FOUR {
             out[BLOCK * i..BLOCK * i + BLOCK].copy_from_slice(&words[i]);
         }
@@ -93,12 +94,20 @@ impl DvbOut {
     }
 }
 
-/// Each of the arrays has all bytes of a packet. That is known of an array where it is read, so each is: nothing of it
-/// is left in the program.
-fn are_whole(packets: &[[u8; PACKET]; FOUR])
-    ensures { (p : ℕ) → p < FOUR → length (slice_index_or packets.now p []) ≡ PACKET }
+/// The packets, randomized, the first of them as that at this place of a group of eight.
+fn randomized(
+    outer: &OuterCoding,
+    place: usize,
+    packets: &[[u8; PACKET]; FOUR],
+) -> [[u8; PACKET]; FOUR]
+    requires { place + FOUR ≤ PERIOD_PACKETS }
+    ensures white { (p : ℕ) → p < FOUR → slice_index_or result p []
+        ≡ whitened outer.now.white (PACKET * (place + p)) (slice_index_or packets.now p []) }
+    ensures long { (p : ℕ) → p < FOUR → length (slice_index_or packets.now p []) ≡ PACKET }
 {
+    let mut white = [[0; PACKET]; FOUR];
     for p in 0..FOUR {
-        let _ = &packets[p][..];
+        white[p] = outer.whitened(PACKET * (place + p), &packets[p][..]);
     }
+    white
 }

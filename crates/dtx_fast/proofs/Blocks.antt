@@ -17,41 +17,41 @@ walked_moved (suc w) z y c d h =
     ∙ ap (mul (c w)) (sym (pow_mul z y w)))
 
 -- before the first block
-pub not_moved : (g k c : ℕ) → c < 256 → c ≡ mul c (pow (pow g (64 * 0)) k)
+pub not_moved : (g k c : ℕ) → c < 256 → c ≡ mul c (pow (pow g (32 * 0)) k)
 unfolding pow
 not_moved g k c l = sym (ap (mul c) (pow_one k) ∙ mul_comm c 1 ∙ mul_one c l)
 
 -- after one block more
-pub moved_more : (g b k c d e : ℕ) → d ≡ mul c (pow (pow g (64 * b)) k) → e ≡ mul d (pow (pow g 64) k)
-    → e ≡ mul c (pow (pow g (64 * (b + 1))) k)
+pub moved_more : (g b k c d e : ℕ) → d ≡ mul c (pow (pow g (32 * b)) k) → e ≡ mul d (pow (pow g 32) k)
+    → e ≡ mul c (pow (pow g (32 * (b + 1))) k)
 moved_more g b k c d e h m =
-    m ∙ ap (λ (v : ℕ). mul v (pow (pow g 64) k)) h ∙ mul_assoc c (pow (pow g (64 * b)) k) (pow (pow g 64) k)
-    ∙ ap (mul c) (sym (pow_mul (pow g (64 * b)) (pow g 64) k) ∙ ap (λ (v : ℕ). pow v k) (sym (pow_add g (64 * b) 64)))
+    m ∙ ap (λ (v : ℕ). mul v (pow (pow g 32) k)) h ∙ mul_assoc c (pow (pow g (32 * b)) k) (pow (pow g 32) k)
+    ∙ ap (mul c) (sym (pow_mul (pow g (32 * b)) (pow g 32) k) ∙ ap (λ (v : ℕ). pow v k) (sym (pow_add g (32 * b) 32)))
     ∙ ap (λ n. mul c (pow (pow g n) k)) (next b)
   where
-    next : (b : ℕ) → 64 * b + 64 ≡ 64 * (b + 1)
+    next : (b : ℕ) → 32 * b + 32 ≡ 32 * (b + 1)
     next b = omega arith
 
 -- a value in a block
-pub block_value : (w g b r : ℕ) (c d : ℕ → ℕ) → ((k : ℕ) → k < w → d k ≡ mul (c k) (pow (pow g (64 * b)) k))
-    → walked w d (pow g r) ≡ walked w c (pow g (64 * b + r))
+pub block_value : (w g b r : ℕ) (c d : ℕ → ℕ) → ((k : ℕ) → k < w → d k ≡ mul (c k) (pow (pow g (32 * b)) k))
+    → walked w d (pow g r) ≡ walked w c (pow g (32 * b + r))
 block_value w g b r c d h =
-    walked_moved w (pow g (64 * b)) (pow g r) c d h ∙ ap (walked w c) (sym (pow_add g (64 * b) r))
+    walked_moved w (pow g (32 * b)) (pow g r) c d h ∙ ap (walked w c) (sym (pow_add g (32 * b) r))
 
 -- what holds in all blocks so far holds in the next
-pub blocks_more : (b : ℕ) (old new block : List ℕ) (f : ℕ → ℕ) → ((q : ℕ) → q < 64 * b → get_or old q 0 ≡ f q)
-    → ((q : ℕ) → q < 64 * b → get_or new q 0 ≡ get_or old q 0)
-    → ((r : ℕ) → r < 64 → get_or new (64 * b + r) 0 ≡ get_or block r 0)
-    → ((r : ℕ) → r < 64 → get_or block r 0 ≡ f (64 * b + r))
-    → (q : ℕ) → q < 64 * (b + 1) → get_or new q 0 ≡ f q
+pub blocks_more : (b : ℕ) (old new block : List ℕ) (f : ℕ → ℕ) → ((q : ℕ) → q < 32 * b → get_or old q 0 ≡ f q)
+    → ((q : ℕ) → q < 32 * b → get_or new q 0 ≡ get_or old q 0)
+    → ((r : ℕ) → r < 32 → get_or new (32 * b + r) 0 ≡ get_or block r 0)
+    → ((r : ℕ) → r < 32 → get_or block r 0 ≡ f (32 * b + r))
+    → (q : ℕ) → q < 32 * (b + 1) → get_or new q 0 ≡ f q
 blocks_more b old new block f done before put value q l = by_place (places b q)
   where
-    places : (b q : ℕ) → (q < 64 * b) ⊎ (64 * b ≤ q)
+    places : (b q : ℕ) → (q < 32 * b) ⊎ (32 * b ≤ q)
     places b q = grind arith
 
-    by_place : (q < 64 * b) ⊎ (64 * b ≤ q) → get_or new q 0 ≡ f q
+    by_place : (q < 32 * b) ⊎ (32 * b ≤ q) → get_or new q 0 ≡ f q
     by_place (inl u) = before q u ∙ done q u
     by_place (inr u) =
-        let r : ℕ = q - 64 * b in
-        let same : 64 * b + r ≡ q = omega arith in
+        let r : ℕ = q - 32 * b in
+        let same : 32 * b + r ≡ q = omega arith in
         sym (ap (λ j. get_or new j 0) same) ∙ put r (omega arith) ∙ value r (omega arith) ∙ ap f same

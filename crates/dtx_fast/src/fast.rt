@@ -1,6 +1,7 @@
 //! The corrector of a code.
 
-ghost use Rattle.std.specs.Prelude.{◌≡◌, ℕ, ◌-◌, ◌<◌, List, MatchResult, length, slice_index, take};
+ghost use Rattle.std.specs.Prelude.{◌≡◌, ℕ, ◌-◌, ◌<◌, List, [], ◌++◌, IsTrue, MatchResult, Ok};
+ghost use Rattle.std.specs.Prelude.{length, slice_index, slice_index_or, take};
 ghost use Rattle.dtx_laws.specs.Codeword.{IsCode, IsCodeword, IsCorrection};
 ghost use Rattle.dtx_laws.specs.Correction.{IsCorrected, IsLeft};
 ghost use Rattle.dtx_galois.specs.Field.{AreBytes, pow, value};
@@ -10,11 +11,11 @@ use crate::guesses::Guesses;
 use crate::recurrence::find_recurrence;
 use crate::repair::patch;
 use crate::tables::Tables;
-use dtx_laws::correcting::{ROOM, accept, encoded_again, encoded_again_four};
-use dtx_laws::{Correct, TooMany};
+use dtx_laws::correcting::{ROOM, accept, encoded_again};
+use dtx_laws::{Correct, Encode, PARITY, TooMany};
 use dtx_rs::Rs;
 
-/// Corrects words of the code of `N` bytes a word with `K` bytes of data. It holds the code's encoder and tables, 57
+/// Corrects words of the code of `N` bytes a word with `K` bytes of data. It holds the code's encoder and tables, 45
 /// KB in all, so make one and keep it.
 #[derive(Drop)]
 pub struct Fast<const N: usize, const K: usize> {
@@ -44,21 +45,47 @@ impl<const N: usize, const K: usize> Fast<N, K> {
         ensures long { length result ≡ ROOM }
         ensures values { (i : ℕ) → i < N - K → slice_index result i ≡ value word.now (pow 2 i) }
     {
-        syndromes(&self.tables, &word[..], &code[..], K)
+        let code = &code[..];
+        syndromes(&self.tables, &word[..], &code[K..], K)
     }
 
-    /// Corrects a word, from the codeword that begins with its data.
-    fn correct_by(&self, code: &[u8; N], word: &mut [u8; N]) -> Result<u8, TooMany>
-        requires bytes { AreBytes word.old }
-        requires codeword { IsCodeword N K code.now }
-        requires begins { take K code.now ≡ take K word.old }
+    /// Corrects four words one by one.
+    fn correct_each(&self, words: &mut [[u8; N]; 4]) -> [Result<u8, TooMany>; 4]
+        ensures { (p : ℕ) → p < 4 → MatchResult (slice_index_or result p (Ok 0))
+            (IsCorrected N K (slice_index_or words.old p []) (slice_index_or words.new p []))
+            (λ _e. IsLeft N K (slice_index_or words.old p []) (slice_index_or words.new p [])) }
+    {
+        let mut answers = [Ok(0); 4];
+        for p in 0..4 {
+            answers[p] = self.correct(&mut words[p]);
+        }
+        answers
+    }
+
+    /// Corrects a word, from the parity bytes of its data.
+    #[inline(always)]
+    fn correct_by(&self, parity: &[u8], word: &mut [u8; N]) -> Result<u8, TooMany>
+        requires code { IsCodeword N K (take K word.old ++ parity.now) }
+        requires long { length parity.now ≡ N - K }
         ensures answer { MatchResult result (IsCorrected N K word.old word.new) (λ _e. IsLeft N K word.old word.new) }
         ensures long { length word.new ≡ N }
     {
-        if *code == *word {
-            return Ok(0);
+        if has_parity(&word[..], parity) {
+            Ok(0)
+        } else {
+            self.correct_wrong(parity, word)
         }
-        let syndromes = self.syndromes(word, code);
+    }
+
+    /// Corrects a word that may have other parity bytes than its data.
+    fn correct_wrong(&self, parity: &[u8], word: &mut [u8; N]) -> Result<u8, TooMany>
+        requires code { IsCodeword N K (take K word.old ++ parity.now) }
+        requires long { length parity.now ≡ N - K }
+        requires bytes { AreBytes word.old }
+        ensures answer { MatchResult result (IsCorrected N K word.old word.new) (λ _e. IsLeft N K word.old word.new) }
+        ensures long { length word.new ≡ N }
+    {
+        let syndromes = syndromes(&self.tables, &word[..], parity, K);
         if let Some(count) = mend_few(&self.guesses, &mut word[..], &syndromes, K) {
             return Ok(count);
         }
@@ -73,30 +100,41 @@ impl<const N: usize, const K: usize> Correct<N, K> for Fast<N, K> {
 
     fn correct(&self, word: &mut [u8; N]) -> Result<u8, TooMany> {
         let code = encoded_again(&self.encoder, word);
-        self.correct_by(&code, word)
+        let code = &code[..];
+        self.correct_by(&code[K..], word)
     }
 
     fn correct_four(&self, words: &mut [[u8; N]; 4]) -> [Result<u8, TooMany>; 4] {
-        let mut codes = [[0; N]; 4];
-        encoded_again_four(&self.encoder, words, &mut codes);
+        if N - K > PARITY {
+            return self.correct_each(words);
+        }
+        let parities = self.encoder.parities(words);
         let mut answers = [Ok(0); 4];
         for p in 0..4 {
-            answers[p] = self.correct_by(&codes[p], &mut words[p]);
+            answers[p] = self.correct_by(&parities[p][..N - K], &mut words[p]);
         }
         answers
     }
 }
 
-/// As many syndromes of a word as stand bytes behind its `k` bytes of data, from the codeword that begins with these.
-fn syndromes(tables: &Tables, word: &[u8], code: &[u8], k: usize) -> [u8; ROOM]
-    requires same { length code.now ≡ length word.now }
+/// Whether a word ends with these parity bytes.
+#[inline(always)]
+fn has_parity(word: &[u8], parity: &[u8]) -> bool
+    ensures same { IsTrue result → word.now ≡ take (length word.now - length parity.now) word.now ++ parity.now }
+    ensures bytes { AreBytes word.now }
+{
+    word.ends_with(parity)
+}
+
+/// As many syndromes of a word as it has parity bytes, from those of its `k` bytes of data.
+fn syndromes(tables: &Tables, word: &[u8], parity: &[u8], k: usize) -> [u8; ROOM]
     requires code { IsCode (length word.now) k }
-    requires codeword { IsCodeword (length word.now) k code.now }
-    requires begins { take k code.now ≡ take k word.now }
+    requires codeword { IsCodeword (length word.now) k (take k word.now ++ parity.now) }
+    requires long { length parity.now ≡ length word.now - k }
     ensures long { length result ≡ ROOM }
     ensures values { (i : ℕ) → i < length word.now - k → slice_index result i ≡ value word.now (pow 2 i) }
 {
-    tables.syndromes(&word[k..], &code[k..])
+    tables.syndromes(&word[k..], parity)
 }
 
 /// Makes a word of `k` bytes of data its correction, where it has one, from its syndromes.

@@ -3,15 +3,13 @@
 
 ghost use Rattle.std.specs.Prelude.{◌≡◌, length};
 
-use crate::logarithms::{Logarithms, ORDER};
 use crate::wrong_byte::WrongByte;
-use dtx_galois::Gf;
+use dtx_galois::{Gf, ORDER};
 use dtx_laws::correcting::ROOM;
 
 /// The tables by which the errors are found.
 #[derive(Drop)]
 pub struct Guesses {
-    logarithms: Logarithms,
     /// At y * y + y one of such y.
     halves: [u8; ORDER + 1],
     /// At z * z * z + z one of such z.
@@ -31,17 +29,13 @@ impl Guesses {
             halves[square.add(root).0 as usize] = y as u8;
             thirds[square.mul(root).add(root).0 as usize] = y as u8;
         }
-        Guesses {
-            logarithms: Logarithms::new(),
-            halves,
-            thirds,
-        }
+        Guesses { halves, thirds }
     }
 
     /// The error that gives the first two syndromes, where one does.
     pub fn one(&self, syndromes: &[u8; ROOM]) -> WrongByte {
-        let first = self.logarithms.of(syndromes[0]);
-        let second = self.logarithms.of(syndromes[1]);
+        let first = Gf(syndromes[0]).log();
+        let second = Gf(syndromes[1]).log();
         WrongByte {
             error: first,
             place: ((second as usize + ORDER - first as usize) % ORDER) as u8,
@@ -63,10 +57,7 @@ impl Guesses {
         let first = sum.mul(Gf(half));
         let second = first.add(sum);
         let error = b.add(a.mul(second)).mul(over_sum);
-        Some((
-            self.wrong_byte(error, first),
-            self.wrong_byte(a.add(error), second),
-        ))
+        Some((wrong_byte(error, first), wrong_byte(a.add(error), second)))
     }
 
     /// The three errors that give the first six syndromes, where three do and the seventh follows.
@@ -81,9 +72,9 @@ impl Guesses {
         let one = error_at(&locator, &[a, b, c], first);
         let two = error_at(&locator, &[a, b, c], second);
         Some((
-            self.wrong_byte(one, first),
-            self.wrong_byte(two, second),
-            self.wrong_byte(a.add(one).add(two), third),
+            wrong_byte(one, first),
+            wrong_byte(two, second),
+            wrong_byte(a.add(one).add(two), third),
         ))
     }
 
@@ -102,13 +93,13 @@ impl Guesses {
             scale.mul(root.add(other)).add(p),
         ]
     }
+}
 
-    /// An error by the element that is added and the power of its place.
-    fn wrong_byte(&self, error: Gf, power: Gf) -> WrongByte {
-        WrongByte {
-            error: self.logarithms.of(error.0),
-            place: self.logarithms.of(power.0),
-        }
+/// An error by the element that is added and the power of its place.
+fn wrong_byte(error: Gf, power: Gf) -> WrongByte {
+    WrongByte {
+        error: error.log(),
+        place: power.log(),
     }
 }
 

@@ -6,7 +6,6 @@ mod fast;
 mod few;
 mod guesses;
 pub mod laws;
-mod logarithms;
 mod places;
 mod recurrence;
 mod repair;

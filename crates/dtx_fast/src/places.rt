@@ -18,13 +18,13 @@ pub const MOST_ORDER: usize = 10;
 const COEFFICIENTS: usize = MOST_ORDER + 1;
 
 /// How many places a block has, for which a row is.
-const BLOCK: usize = 64;
+const BLOCK: usize = 32;
 
 /// How many rows there are.
 const PLACE_ROWS: usize = HALVES * COEFFICIENTS;
 
 /// The rows of the first block's places, and for each coefficient by what it is multiplied so that the same rows are
-/// those of the next block: 23 KB.
+/// those of the next block: 11 KB.
 #[derive(Drop)]
 pub struct Places {
     rows: Rows<BLOCK, PLACE_ROWS>,

@@ -19,7 +19,7 @@ const PARITY: usize = 2 * MOST_ORDER;
 /// How many rows of syndromes there are.
 const SYNDROME_ROWS: usize = HALVES * PARITY;
 
-/// The rows by which syndromes are made of parity bytes, and those by which a recurrence is walked over all places: 36
+/// The rows by which syndromes are made of parity bytes, and those by which a recurrence is walked over all places: 24
 /// KB.
 #[derive(Drop)]
 pub struct Tables {

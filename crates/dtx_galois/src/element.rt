@@ -1,8 +1,9 @@
 //! An element of the field, and its arithmetic.
 
-ghost use Rattle.std.specs.Prelude.{◌≡◌, ◌≢◌};
+ghost use Rattle.std.specs.Prelude.{◌≡◌, ◌≢◌, ◌<◌};
 ghost use Rattle.std.specs.Int.RustNames.{bit_xor};
 ghost use Rattle.dtx_galois.specs.Field.{mul, pow};
+ghost use Rattle.dtx_galois.specs.declared.tables.TheConstants.{ORDER};
 
 use crate::tables::{ORDER, logarithm, power};
 
@@ -41,6 +42,18 @@ impl Gf {
         ensures { mul self.0 result.0 ≡ 1 }
     {
         Gf(power(ORDER - logarithm(self.0)))
+    }
+
+    /// The exponent, below 255, of the power of α that this element is. It is 0 where this is 0, which is no power.
+    pub fn log(self) -> u8
+        ensures small { result < ORDER }
+        ensures power { self.0 ≢ 0 → pow 2 result ≡ self.0 }
+        ensures zero { self.0 ≡ 0 → result ≡ 0 }
+    {
+        if self.0 == 0 {
+            return 0;
+        }
+        logarithm(self.0) as u8
     }
 
     /// The product of `times` factors of this element, which is 1 where there are none.

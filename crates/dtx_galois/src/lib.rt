@@ -9,3 +9,4 @@ mod tables;
 
 pub use element::{ALPHA, FIELD_POLYNOMIAL, Gf};
 pub use polynomial::eval;
+pub use tables::ORDER;

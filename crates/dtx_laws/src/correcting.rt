@@ -6,7 +6,7 @@ mod places;
 mod syndromes;
 mod values;
 
-pub use outcome::{accept, accept_codeword, distance, encoded_again, encoded_again_four};
+pub use outcome::{accept, accept_codeword, distance, encoded_again};
 pub use places::{low_value, marks_of, power_at};
 pub use syndromes::syndromes_of;
 pub use values::{cancel, patch};

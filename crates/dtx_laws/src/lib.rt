@@ -12,7 +12,7 @@ mod spread;
 mod whitener;
 
 pub use corrector::{Correct, TooMany};
-pub use encoder::Encode;
+pub use encoder::{Encode, PARITY};
 pub use gather::Gather;
 pub use spread::Spread;
 pub use whitener::Whitener;

@@ -1,6 +1,6 @@
 //! A table that several owners share does what the table does.
 
-use crate::encoder::Encode;
+use crate::encoder::{Encode, PARITY};
 use crate::whitener::Whitener;
 use std::rc::Rc;
 
@@ -33,5 +33,9 @@ impl<C: Encode<N, K>, const N: usize, const K: usize> Encode<N, K> for Rc<C> {
 
     fn encode_four(&self, heads: &[[u8; K]; 4], words: &mut [[u8; N]; 4]) {
         (**self).encode_four(heads, words)
+    }
+
+    fn parities(&self, words: &[[u8; N]; 4]) -> [[u8; PARITY]; 4] {
+        (**self).parities(words)
     }
 }

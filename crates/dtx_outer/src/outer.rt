@@ -8,7 +8,7 @@ ghost use Rattle.dtx_laws.specs.Whitening.{whitened};
 ghost use Rattle.dtx_laws.specs.Words.{codeword};
 ghost use Rattle.dtx_outer.specs.Outer.{Held, IsPeriod, coded};
 
-use crate::whitening::{whiten, whiten_four};
+use crate::whitening::whiten;
 use dtx_laws::{Encode, Spread, Whitener};
 use std::marker::Model;
 
@@ -94,17 +94,6 @@ impl<
         let white = whiten(&self.whitener, K * place, &head[..]);
         self.code.encode(&white, out);
         self.spread.pass(out);
-    }
-
-    /// The codewords of the data of four packets that follow each other, of which the first is whitened from byte
-    /// `from` of the whitener's period on. Nothing goes to the interleaver.
-    pub fn codewords(&self, from: usize, heads: &[[u8; K]; 4], words: &mut [[u8; N]; 4])
-        requires { from + 4 * K ≤ W.PERIOD }
-        ensures { (p : ℕ) → p < 4 → slice_index_or words.new p []
-            ≡ coded N K self.now.white (from + K * p) (slice_index_or heads.now p []) }
-    {
-        let white = whiten_four(&self.whitener, from, heads);
-        self.code.encode_four(&white, words);
     }
 
     /// The data, whitened from byte `from` of the whitener's period on.

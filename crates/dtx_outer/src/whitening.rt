@@ -1,6 +1,6 @@
 //! Whitening of a packet's data, which is the way back too.
 
-ghost use Rattle.std.specs.Prelude.{◌≡◌, ℕ, ◌+◌, ◌*◌, ◌<◌, ◌≤◌, [], length, slice_index_or};
+ghost use Rattle.std.specs.Prelude.{◌≡◌, ◌+◌, ◌≤◌, length};
 ghost use Rattle.dtx_laws.specs.Whitening.{whitened};
 
 use dtx_laws::Whitener;
@@ -15,23 +15,6 @@ pub fn whiten<W: Whitener, const K: usize>(whitener: &W, from: usize, head: &[u8
     let mut white = [0; K];
     for i in 0..K {
         white[i] = head[i] ^ whitener.byte(from + i);
-    }
-    white
-}
-
-/// The data of four packets that follow each other.
-pub fn whiten_four<W: Whitener, const K: usize>(
-    whitener: &W,
-    from: usize,
-    heads: &[[u8; K]; 4],
-) -> [[u8; K]; 4]
-    requires { from + 4 * K ≤ W.PERIOD }
-    ensures { (p : ℕ) → p < 4 → slice_index_or result p []
-        ≡ whitened (W.bytes whitener.now) (from + K * p) (slice_index_or heads.now p []) }
-{
-    let mut white = *heads;
-    for p in 0..4 {
-        white[p] = whiten(whitener, from + K * p, &heads[p][..]);
     }
     white
 }

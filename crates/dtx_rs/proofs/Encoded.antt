@@ -1,6 +1,6 @@
 -- The data and then the register that was fed with them are the codeword.
-use Rattle.std.proofs.Common.{◌≡◌, ℕ, ◌+◌, ◌-◌, ◌*◌, ◌<◌, ◌≤◌, List, ◌++◌, length, take}
-use Rattle.std.proofs.Common.{replicate, sym, ap, ap₂, ◌∙◌, subst, arith}
+use Rattle.std.proofs.Common.{◌≡◌, ℕ, zero, suc, ◌+◌, ◌-◌, ◌*◌, ◌<◌, ◌≤◌, List, [], ◌∷◌, ◌++◌, get_or, length}
+use Rattle.std.proofs.Common.{map, take, replicate, refl, sym, ap, ap₂, ◌∙◌, subst, arith}
 use Rattle.std.proofs.lemmas.List.{append_assoc, length-replicate, take_at, take-replicate, replicate-append-replicate}
 use Rattle.std.proofs.Math.Seq.{take-append-add}
 use Rattle.dtx_galois.specs.Field.{AreBytes}
@@ -11,6 +11,10 @@ use Rattle.dtx_laws.specs.EncodingLaws.{encoded, encoded_is, length_generator, l
 use Rattle.dtx_laws.specs.ChoiceLaws.{codeword_is, codeword_only}
 use Rattle.dtx_rs.specs.Table.{IsWide}
 use Rattle.dtx_rs.proofs.Linear.{register_padded}
+
+-- the first bytes of a word
+abbrev pub IsFront : ℕ → List ℕ → List ℕ → Type 0
+IsFront k head word = (head ≡ take k word) × (length head ≡ k) × AreBytes head
 
 pub encoded_codeword : (n k : ℕ) (head : List ℕ) → n ≤ 255 → k < n → length head ≡ k → AreBytes head
     → encoded (n - k) head ≡ codeword n k head
@@ -71,6 +75,56 @@ table_codeword n k w divisor table head parity word new code few wide d t lh lw 
     ∙ front_padded (n - k) 256 w divisor few wide d))
     ∙ encoded_codeword n k head code.short code.longer lh b
 
+-- what was made is a codeword
+pub made_codeword : (n k : ℕ) (head new : List ℕ) → IsCode n k → length head ≡ k → AreBytes head
+    → new ≡ codeword n k head → IsCodeword n k new
+made_codeword n k head new code l b e = subst (IsCodeword n k) (sym e) (codeword_is n k head code.longer l b)
+
+pub each_of_four : (f : List ℕ → List ℕ) (words parities : List (List ℕ))
+    → parities ≡ map f (get_or words 0 [] ∷ get_or words 1 [] ∷ get_or words 2 [] ∷ get_or words 3 [] ∷ [])
+    → (p : ℕ) → p < 4 → get_or parities p [] ≡ f (get_or words p [])
+each_of_four f words parities e zero l = ap (λ ps. get_or ps 0 []) e
+each_of_four f words parities e (suc zero) l = ap (λ ps. get_or ps 1 []) e
+each_of_four f words parities e (suc (suc zero)) l = ap (λ ps. get_or ps 2 []) e
+each_of_four f words parities e (suc (suc (suc zero))) l = ap (λ ps. get_or ps 3 []) e
+each_of_four f words parities e (suc (suc (suc (suc p)))) l = absurd (omega arith)
+
+-- the parity bytes of data are a table's register
+pub table_parity : (n k : ℕ) (divisor table head : List ℕ) → IsCode n k → n - k ≤ 20
+    → divisor ≡ generator (n - k) ++ replicate (256 - (n - k)) 0 → table ≡ take 20 divisor
+    → length head ≡ k → AreBytes head
+    → IsCodeword n k (head ++ take (n - k) (register table (replicate 20 0) head))
+table_parity n k divisor table head code few d t l b =
+    let parity : List ℕ = register table (replicate 20 0) head in
+    let long : length (replicate {A = ℕ} n 0) ≡ n = length-replicate {A = ℕ} n 0 in
+    made_codeword n k head (head ++ take (n - k) parity) code l b
+    (table_codeword n k 20 divisor table head parity (replicate n 0) (head ++ take (n - k) parity) code few
+    (omega arith) d t l long b refl (ap (λ j. head ++ take j parity) (sym (ap₂ ◌-◌ long l))))
+
+-- those of four
+pub four_parities : (n k : ℕ) (divisor table : List ℕ) (words parities : List (List ℕ)) (one two three four : List ℕ)
+    → IsCode n k → n - k ≤ 20 → divisor ≡ generator (n - k) ++ replicate (256 - (n - k)) 0 → table ≡ take 20 divisor
+    → parities ≡ map (register table (replicate 20 0)) (one ∷ two ∷ three ∷ four ∷ [])
+    → IsFront k one (get_or words 0 []) → IsFront k two (get_or words 1 [])
+    → IsFront k three (get_or words 2 []) → IsFront k four (get_or words 3 []) → (p : ℕ) → p < 4
+    → IsCodeword n k (take k (get_or words p []) ++ take (n - k) (get_or parities p []))
+four_parities n k divisor table words parities one two three four code few d t e f1 f2 f3 f4 p l =
+    subst (λ ps. IsCodeword n k (take k (get_or words p []) ++ take (n - k) (get_or ps p []))) (sym e) (at p l)
+  where
+    made : (head word : List ℕ) → IsFront k head word
+        → IsCodeword n k (take k word ++ take (n - k) (register table (replicate 20 0) head))
+    made head word f =
+        subst (λ xs. IsCodeword n k (xs ++ take (n - k) (register table (replicate 20 0) head))) f.0
+        (table_parity n k divisor table head code few d t f.1 f.2)
+
+    at : (p : ℕ) → p < 4 → IsCodeword n k (take k (get_or words p [])
+        ++ take (n - k) (get_or (map (register table (replicate 20 0)) (one ∷ two ∷ three ∷ four ∷ [])) p []))
+    at zero l = made one (get_or words 0 []) f1
+    at (suc zero) l = made two (get_or words 1 []) f2
+    at (suc (suc zero)) l = made three (get_or words 2 []) f3
+    at (suc (suc (suc zero))) l = made four (get_or words 3 []) f4
+    at (suc (suc (suc (suc p)))) l = absurd (omega arith)
+
 -- byte by byte
 pub register_codeword : (n k : ℕ) (divisor head new : List ℕ) → IsCode n k
     → divisor ≡ generator (n - k) ++ replicate (256 - (n - k)) 0 → length head ≡ k → AreBytes head
@@ -83,8 +137,3 @@ register_codeword n k divisor head new code d lh b e =
     e ∙ ap (λ g. head ++ register g (replicate (length g) 0) head) front
     ∙ ap (λ j. head ++ register (generator (n - k)) (replicate j 0) head) (length_generator (n - k))
     ∙ encoded_codeword n k head code.short code.longer lh b
-
--- what was made is a codeword
-pub made_codeword : (n k : ℕ) (head new : List ℕ) → IsCode n k → length head ≡ k → AreBytes head
-    → new ≡ codeword n k head → IsCodeword n k new
-made_codeword n k head new code l b e = subst (IsCodeword n k) (sym e) (codeword_is n k head code.longer l b)

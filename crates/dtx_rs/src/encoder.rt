@@ -1,6 +1,7 @@
 //! The encoder of a code, and the syndromes of its words.
 
-ghost use Rattle.std.specs.Prelude.{◌≡◌, ℕ, ◌+◌, ◌-◌, ◌<◌, ◌≤◌, [], ◌++◌, length, replicate, slice_index_or, take};
+ghost use Rattle.std.specs.Prelude.{◌≡◌, ℕ, ◌+◌, ◌-◌, ◌<◌, ◌≤◌, [], ◌∷◌, ◌++◌, length, map, replicate};
+ghost use Rattle.std.specs.Prelude.{slice_index_or, take};
 ghost use Rattle.dtx_galois.specs.Field.{AreBytes, pow, value};
 ghost use Rattle.dtx_laws.specs.Codeword.{IsCode};
 ghost use Rattle.dtx_laws.specs.Register.{generator, register};
@@ -12,7 +13,7 @@ use crate::register::encode_by_register;
 use crate::table::Table;
 use crate::words::{SHORT_WORDS, STEP, WIDTH};
 use dtx_galois::{ALPHA, Gf, eval};
-use dtx_laws::Encode;
+use dtx_laws::{Encode, PARITY};
 
 /// The encoder of words of `N` bytes with `K` bytes of data (ATSC A/53 Part 2, Reed-Solomon encoder).
 ///
@@ -49,12 +50,14 @@ impl<const N: usize, const K: usize> Rs<N, K> {
     }
 
     /// The registers of zeros after all the data of each of four heads.
-    fn parity_of_four(&self, heads: &[[u8; K]; 4]) -> [[u8; WIDTH]; 4]
-        requires { N - K ≤ WIDTH }
-        ensures { (p : ℕ) → p < 4 → slice_index_or result p []
-            ≡ register self.now.table.divisor (replicate WIDTH 0) (slice_index_or heads.now p []) }
+    fn parity_of_four(&self, one: &[u8], two: &[u8], three: &[u8], four: &[u8]) -> [[u8; WIDTH]; 4]
+        requires few { N - K ≤ WIDTH }
+        requires two { length two.now ≡ length one.now }
+        requires three { length three.now ≡ length one.now }
+        requires four { length four.now ≡ length one.now }
+        ensures { result ≡ map (register self.now.table.divisor (replicate WIDTH 0))
+            (one.now ∷ two.now ∷ three.now ∷ four.now ∷ []) }
     {
-        let [one, two, three, four] = heads;
         if N - K <= STEP * SHORT_WORDS {
             self.table.short_parity_of_four(one, two, three, four)
         } else {
@@ -76,13 +79,34 @@ impl<const N: usize, const K: usize> Encode<N, K> for Rs<N, K> {
 
     fn encode_four(&self, heads: &[[u8; K]; 4], words: &mut [[u8; N]; 4]) {
         if N - K <= WIDTH {
-            join_four(heads, &self.parity_of_four(heads), words);
+            let [one, two, three, four] = heads;
+            let parities = self.parity_of_four(one, two, three, four);
+            join_four(heads, &parities, words);
         } else {
             for p in 0..4 {
                 self.encode(&heads[p], &mut words[p]);
             }
         }
     }
+
+    fn parities(&self, words: &[[u8; N]; 4]) -> [[u8; PARITY]; 4] {
+        let one = front_of(&words[0][..], K);
+        let two = front_of(&words[1][..], K);
+        let three = front_of(&words[2][..], K);
+        let four = front_of(&words[3][..], K);
+        self.parity_of_four(one, two, three, four)
+    }
+}
+
+/// The first bytes of a word.
+#[inline(always)]
+fn front_of(word: &[u8], count: usize) -> &[u8]
+    requires { count ≤ length word.now }
+    ensures front { result.now ≡ take count word.now }
+    ensures long { length result.now ≡ count }
+    ensures bytes { AreBytes result.now }
+{
+    &word[..count]
 }
 
 /// The first coefficients, as many as the table's rows are long.

@@ -1,6 +1,6 @@
 //! The test of what a corrector tried.
 
-ghost use Rattle.std.specs.Prelude.{◌≡◌, ◌↔◌, ℕ, ◌<◌, ◌≤◌, [], IsTrue, MatchResult, length, slice_index_or, take};
+ghost use Rattle.std.specs.Prelude.{◌≡◌, ◌↔◌, ◌≤◌, IsTrue, MatchResult, length, take};
 ghost use Rattle.dtx_galois.specs.Field.{AreBytes};
 ghost use Rattle.dtx_laws.specs.Codeword.{IsCode, IsCodeword, distance};
 ghost use Rattle.dtx_laws.specs.Correction.{IsCorrected, IsRefused};
@@ -24,36 +24,6 @@ pub fn encoded_again<E: Encode<N, K>, const N: usize, const K: usize>(
     let mut code = [0; N];
     encoder.encode(&head, &mut code);
     code
-}
-
-/// The codewords that begin with the data of four words.
-pub fn encoded_again_four<E: Encode<N, K>, const N: usize, const K: usize>(
-    encoder: &E,
-    words: &[[u8; N]; 4],
-    codes: &mut [[u8; N]; 4],
-)
-    ensures code { IsCode N K }
-    ensures bytes { (p : ℕ) → p < 4 → AreBytes (slice_index_or words.now p []) }
-    ensures codeword { (p : ℕ) → p < 4 → IsCodeword N K (slice_index_or codes.new p []) }
-    ensures begins { (p : ℕ) → p < 4
-        → take K (slice_index_or codes.new p []) ≡ take K (slice_index_or words.now p []) }
-{
-    encoder.known();
-    let mut heads = [[0; K]; 4];
-    take_data_of_four(words, &mut heads);
-    encoder.encode_four(&heads, codes);
-}
-
-/// Fills the data of four words from their fronts.
-fn take_data_of_four<const N: usize, const K: usize>(words: &[[u8; N]; 4], heads: &mut [[u8; K]; 4])
-    requires { IsCode N K }
-    ensures bytes { (p : ℕ) → p < 4 → AreBytes (slice_index_or words.now p []) }
-    ensures long { (p : ℕ) → p < 4 → length (slice_index_or words.now p []) ≡ N }
-    ensures front { (p : ℕ) → p < 4 → slice_index_or heads.new p [] ≡ take K (slice_index_or words.now p []) }
-{
-    for p in 0..4 {
-        take_data(&words[p][..], &mut heads[p][..]);
-    }
 }
 
 /// Fills the data from the front of a word.

@@ -3,7 +3,8 @@ use Rattle.std.proofs.Common.{sym, ap, ap₂, ◌∙◌, subst, arith}
 use Rattle.std.proofs.lemmas.List.{take_all}
 use Rattle.std.proofs.lemmas.Slice.{take-put_mid}
 use Rattle.dtx_laws.specs.Branches.{leaving_all, after_all}
-use Rattle.dtx_outer.specs.Outer.{Held, coded}
+use Rattle.dtx_laws.specs.Words.{codeword}
+use Rattle.dtx_outer.specs.Outer.{Held}
 use Rattle.dtx_dvb.specs.Stream.{block_of, blocks_from, dvb}
 use Rattle.dtx_dvb.specs.Sending.{HasSent}
 use Rattle.dtx_dvb.specs.StreamLaws.{bytes_more, sent_more}
@@ -23,11 +24,10 @@ loop-i-preserved c =
     let inv-long : length c.loop-i.out ≡ 816 = inv.long in
     let place : ℕ = c.args.place + i in
     let packet : List ℕ = get_or c.args.packets.now i [] in
-    let packet-long : length packet ≡ 188 = c.are_whole.ensures i l in
-    let from : 188 * c.args.place + 188 * i ≡ 188 * place = omega arith in
+    let packet-long : length packet ≡ 188 = c.randomized-white.ensures.long i l in
     let is : c.copy_from_slice.new.self ≡ block_of place packet =
-    c.copy_from_slice.ensures.after ∙ c.codewords.ensures i l
-    ∙ ap (λ k. coded 204 188 c.self.inside.outer.white k packet) from
+    c.copy_from_slice.ensures.after ∙ c.encode_four.ensures i l
+    ∙ ap (codeword 204 188) (c.randomized-white.ensures.white i l)
     ∙ coded_is place c.self.inside.outer.white packet c.self.invariant packet-long (omega (arith, l, c.requires)) in
     let long : length c.copy_from_slice.new.self ≡ 204 = search rules in
     record {

@@ -1,14 +1,14 @@
-use Rattle.std.proofs.Common.{◌≡◌, subst}
-use Rattle.std.proofs.lemmas.Slice.Eq.{slice_eq-Decides}
-use Rattle.std.proofs.lemmas.Bool.Decides.{Decides-eqb}
-use Rattle.std.specs.Bool.{Decides}
+use Rattle.std.proofs.Common.{◌≡◌, ◌-◌, ◌++◌, List, ℕ, length, take, sym, ap, ◌∙◌, subst, arith}
 use Rattle.dtx_laws.specs.Codeword.{IsCodeword}
 use Rattle.dtx_laws.specs.AnswersLaws.{codeword_answer}
 use Rattle.dtx_fast.proofs.fast.Fast.correct_by.Goals as goal
 
-pub returns-then-eq-clause-answer : goal.returns-then-eq-clause-answer
-returns-then-eq-clause-answer g c =
-    let same : Decides c.eq.result (c.args.code.now ≡ c.args.word.now) =
-    slice_eq-Decides Decides-eqb c.args.code.now c.args.word.now c.eq.result c.eq.ensures in
-    codeword_answer g.row.N g.row.K c.args.word.now
-    (subst (IsCodeword g.row.N g.row.K) (same.0 c.if-eq.true) c.requires.codeword)
+pub returns-then-has_parity-clause-answer : goal.returns-then-has_parity-clause-answer
+returns-then-has_parity-clause-answer g c =
+    let word : List ℕ = c.args.word.now in
+    let parity : List ℕ = c.args.parity.now in
+    let front : length word - length parity ≡ g.row.K =
+    omega (arith, c.told-word, c.requires.long, c.args.self.now.code.longer) in
+    codeword_answer g.row.N g.row.K word
+    (subst (IsCodeword g.row.N g.row.K) (sym (c.has_parity.ensures.same c.if-has_parity.true
+    ∙ ap (λ k. take k word ++ parity) front)) c.requires.code)
