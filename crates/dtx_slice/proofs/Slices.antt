@@ -63,7 +63,7 @@ sliced_from a n segment levels h l f =
     rest = length-drop a segment ∙ ap (λ x. x - a) h ∙ left a n
 
 -- all levels of a list are below 8
-abbrev AreSmall : List ℕ → Type 0
+abbrev pub AreSmall : List ℕ → Type 0
 AreSmall xs = (k : ℕ) → k < length xs → get_or xs k 0 < 8
 
 small_append : (xs ys : List ℕ) → AreSmall xs → AreSmall ys → AreSmall (xs ++ ys)
@@ -75,12 +75,12 @@ small_append xs ys f g k l = by_cases (cases_lt k (length xs))
         subst (λ x. x < 8) (sym (get_or-append_right xs ys (length xs) k 0 refl m))
         (g (k - length xs) (omega (arith, length-append xs ys)))
 
-small_take : (a : ℕ) (xs : List ℕ) → a ≤ length xs → AreSmall xs → AreSmall (take a xs)
+pub small_take : (a : ℕ) (xs : List ℕ) → a ≤ length xs → AreSmall xs → AreSmall (take a xs)
 small_take a xs m f k l =
     let n : k < a = omega (arith, length-take-le a xs m) in
     subst (λ x. x < 8) (sym (get_or-take a xs k 0 n)) (f k (omega arith))
 
-small_drop : (a : ℕ) (xs : List ℕ) → AreSmall xs → AreSmall (drop a xs)
+pub small_drop : (a : ℕ) (xs : List ℕ) → AreSmall xs → AreSmall (drop a xs)
 small_drop a xs f k l =
     subst (λ x. x < 8) (sym (get_or-drop a xs k 0)) (f (a + k) (omega (arith, length-drop a xs)))
 
