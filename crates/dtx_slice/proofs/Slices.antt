@@ -1,5 +1,6 @@
 -- Slicing, by a test of all bytes.
-use Rattle.std.proofs.Common.{◌≡◌, ℕ, ◌+◌, ◌-◌, ◌/◌, ◌%◌, ◌<◌, ◌≤◌, ◌==◌, ◌⊎◌, inl, inr, Bool, true, false, cond, nat_le, ℤ}
+use Rattle.std.proofs.Common.{◌≡◌, ℕ, ◌+◌, ◌-◌, ◌/◌, ◌%◌, ◌<◌, ◌≤◌, ◌==◌, ◌⊎◌, inl, inr, Bool, true, false, cond}
+use Rattle.std.proofs.Common.{nat_le, ℤ}
 use Rattle.std.proofs.Common.{pos, negsuc, nat_abs, ◌+ℤ◌, List, ◌++◌, map, take, drop, length, get_or, to_z, of_z, w8}
 use Rattle.std.proofs.Common.{refl, sym, ap, ◌∙◌, subst, arith}
 use mir.Val.{SFits}

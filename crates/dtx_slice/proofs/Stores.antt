@@ -49,7 +49,8 @@ last_loaded p xs h l = at 3296 (take 16 (drop 3296 xs)) refl refl
         ∙ ap (λ i. get_or xs i 0) place
 
 pub last_small : (xs : List ℕ) → length xs ≡ 3312 → AreSmall xs
-    → AreSmall (map (λ k. get_or (chunk 0 16 (take 16 (drop 3296 xs)) ++ chunk 0 16 (take 16 (drop 3296 xs))) k 0) lasts)
+    → AreSmall (map (λ k. get_or (chunk 0 16 (take 16 (drop 3296 xs)) ++ chunk 0 16 (take 16 (drop 3296 xs))) k 0)
+    lasts)
 last_small xs h f =
     let room : 16 ≤ length (drop 3296 xs) = omega (arith, length-drop 3296 xs) in
     let long : length (take 16 (drop 3296 xs)) ≡ 16 = length-take-le 16 (drop 3296 xs) room in

@@ -79,10 +79,12 @@ fn walk_whole(levels: &[u8; GROUP_LEVELS], from: usize, bytes: &mut [u8; GROUP_B
         → slice_index bytes.new (CODERS * h + p) ≡ later_byte levels.now h p }
     ensures before { (j : ℕ) → j < CODERS * from → slice_index bytes.new j ≡ slice_index bytes.old j }
 {
+    let mut before = load_early(levels, 4 * from - 1);
     for byte in from..from + WHOLE_BYTES {
-        let before = load_early(levels, 4 * byte - 1);
-        let lanes = whole_rounds(before, levels, byte);
+        let last = load_early(levels, 4 * byte + 3);
+        let lanes = whole_rounds(before, levels, byte, last);
         store_early(bytes, byte, lanes);
+        before = last;
     }
 }
 
@@ -105,12 +107,15 @@ fn four_rounds(before: u8x16, levels: &[u8; GROUP_LEVELS], byte: usize) -> u8x16
     )
 }
 
-/// The same where no segment ends in the four rounds, nor the group.
+/// The same where no segment ends in the four rounds, nor the group, and the levels of the last round are at hand.
 #[inline(always)]
-fn whole_rounds(before: u8x16, levels: &[u8; GROUP_LEVELS], byte: usize) -> u8x16
+fn whole_rounds(before: u8x16, levels: &[u8; GROUP_LEVELS], byte: usize, last: u8x16) -> u8x16
     requires byte { byte < LAST_BYTE }
     requires whole { 4 * byte % SEGMENT_ROUNDS + 4 ≤ SEGMENT_ROUNDS }
     requires small_before { EachIndex before (λ p. slice_index before p < 8) }
+    requires small_last { EachIndex last (λ p. slice_index last p < 8) }
+    requires last { (p : ℕ) → p < CODERS
+        → slice_index last p ≡ slice_index levels.now (CODERS * (4 * byte + 3) + p) }
     requires small { EachIndex levels.now (λ d. slice_index levels.now d < 8) }
     ensures long { length result ≡ LANES }
     ensures bytes { (p : ℕ) → p < CODERS
@@ -121,7 +126,7 @@ fn whole_rounds(before: u8x16, levels: &[u8; GROUP_LEVELS], byte: usize) -> u8x1
         load_early(levels, 4 * byte),
         load_early(levels, 4 * byte + 1),
         load_early(levels, 4 * byte + 2),
-        load_early(levels, 4 * byte + 3),
+        last,
     )
 }
 

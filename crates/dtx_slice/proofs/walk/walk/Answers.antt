@@ -39,7 +39,8 @@ loop-segment-preserved c =
     bytes_over from 16 (λ j. get_or c.walk_whole.new.bytes j 0 ≡ byte_back s bits levels j)
     (λ j l. c.walk_whole.ensures.before j l ∙ c.loop-segment.invariant.bytes j l)
     (λ h p k l m. c.walk_whole.ensures.bytes h p k l m ∙ is h p (omega arith) (omega arith) m) in
-    let all : (j : ℕ) → j < 12 * (17 * c.loop-segment.segment + 1 + 16 + 1) → get_or c.store-in-loop-segment.new.bytes j 0
+    let all : (j : ℕ) → j < 12 * (17 * c.loop-segment.segment + 1 + 16 + 1)
+    → get_or c.store-in-loop-segment.new.bytes j 0
     ≡ byte_back c.args.first c.args.precoder_bits.now c.args.levels.now j =
     bytes_more (from + 16) (λ j. get_or new j 0 ≡ byte_back s bits levels j)
     (λ j l. c.store-in-loop-segment.ensures.before j l ∙ whole j l)

@@ -16,4 +16,4 @@ returns-clause-bytes c = λ p l.
     (c.load_early.ensures.levels p l ∙ at _ 0 (none ∙ stays 0 (omega arith)))
     (c.load_early-2.ensures.levels p l ∙ at _ 1 (stays 1 (omega arith)))
     (c.load_early-3.ensures.levels p l ∙ at _ 2 (stays 2 (omega arith)))
-    (c.load_early-4.ensures.levels p l ∙ at _ 3 (stays 3 (omega arith)))
+    (c.requires.last p l ∙ at _ 3 (stays 3 (omega arith)))
