@@ -1,24 +1,24 @@
 -- Slicing, by a test of all bytes.
-use Rattle.std.proofs.Common.{◌≡◌, ℕ, ◌+◌, ◌-◌, ◌/◌, ◌<◌, ◌≤◌, ◌==◌, ◌⊎◌, inl, inr, Bool, true, false, cond, nat_le, ℤ}
+use Rattle.std.proofs.Common.{◌≡◌, ℕ, ◌+◌, ◌-◌, ◌/◌, ◌%◌, ◌<◌, ◌≤◌, ◌==◌, ◌⊎◌, inl, inr, Bool, true, false, cond}
+use Rattle.std.proofs.Common.{nat_le, ℤ}
 use Rattle.std.proofs.Common.{pos, negsuc, nat_abs, ◌+ℤ◌, List, ◌++◌, map, take, drop, length, get_or, to_z, of_z, w8}
-use Rattle.std.proofs.Common.{refl, sym, ap, ap₂, ◌∙◌, subst, arith}
+use Rattle.std.proofs.Common.{refl, sym, ap, ◌∙◌, subst, arith}
 use mir.Val.{SFits}
-use Rattle.std.specs.Int.{int_max, int_min}
+use Rattle.std.specs.Int.{int_max, saturate_signed}
 use Rattle.std.proofs.lemmas.Int.{to_z-of_z}
 use Rattle.std.proofs.lemmas.Bool.{cases_lt, eqb-true, leb-true}
 use Rattle.std.proofs.lemmas.List.{ext_get_or, get_or-map, length-map, length-drop, length-append, length-take-le}
 use Rattle.std.proofs.lemmas.List.{get_or-take, get_or-drop, get_or_append_left, get_or-append_right}
 use Rattle.dtx_lists.proofs.Below.{holds_below, at_below}
-use Rattle.dtx_lists.proofs.Parts.{append_from_parts}
 use Rattle.dtx_slice.specs.Slicing.{sliced}
 
+abbrev raised : ℤ → ℤ
+raised v = int_max (to_z w8 (of_z w8 (saturate_signed w8 (v +ℤ pos 120)))) (pos 112)
+
 abbrev halved : ℤ → ℕ
-halved r = nat_abs (to_z w8 (of_z w8 (to_z w8 (of_z w8 r) +ℤ pos 8))) / 2
+halved r = nat_abs (to_z w8 (of_z w8 r)) / 2 % 8
 
-abbrev clamped : ℤ → ℤ
-clamped z = int_max (negsuc 7) (int_min z (pos 7))
-
-level_test : holds_below (λ n. halved (clamped (to_z w8 n)) == sliced (to_z w8 n)) 256 ≡ true
+level_test : holds_below (λ n. halved (raised (to_z w8 n)) == sliced (to_z w8 n)) 256 ≡ true
 unfolding sliced
 level_test = refl
 
@@ -26,11 +26,12 @@ of_z_below : (v : ℤ) → SFits w8 v → of_z w8 v < 256
 of_z_below (pos n) f = let h = f.sfits in omega arith
 of_z_below (negsuc n) f = let h = f.sfits in omega arith
 
-pub level_is : (v r : ℤ) → SFits w8 v → r ≡ clamped (to_z w8 (of_z w8 v)) → halved r ≡ sliced v
-level_is v r f e =
-    ap halved e
-    ∙ eqb-true (halved (clamped (to_z w8 (of_z w8 v)))) (sliced (to_z w8 (of_z w8 v)))
-    (at_below (λ n. halved (clamped (to_z w8 n)) == sliced (to_z w8 n)) 256 (of_z w8 v) level_test (of_z_below v f))
+pub level_is : (v s r : ℤ) → SFits w8 v → s ≡ saturate_signed w8 (to_z w8 (of_z w8 v) +ℤ pos 120)
+    → r ≡ int_max (to_z w8 (of_z w8 s)) (pos 112) → halved r ≡ sliced v
+level_is v s r f e g =
+    ap halved (g ∙ ap (λ s. int_max (to_z w8 (of_z w8 s)) (pos 112)) e)
+    ∙ eqb-true (halved (raised (to_z w8 (of_z w8 v)))) (sliced (to_z w8 (of_z w8 v)))
+    (at_below (λ n. halved (raised (to_z w8 n)) == sliced (to_z w8 n)) 256 (of_z w8 v) level_test (of_z_below v f))
     ∙ ap sliced (to_z-of_z w8 v f)
 
 -- every level is below 8
@@ -62,74 +63,37 @@ sliced_from a n segment levels h l f =
     rest : length (drop a segment) ≡ n
     rest = length-drop a segment ∙ ap (λ x. x - a) h ∙ left a n
 
-length_sliced : (a n : ℕ) (segment : List ℤ) → length segment ≡ a + n → length (map sliced (drop a segment)) ≡ n
-length_sliced a n segment h = length-map (drop a segment) sliced ∙ length-drop a segment ∙ ap (λ x. x - a) h ∙ left a n
+-- all levels of a list are below 8
+abbrev pub AreSmall : List ℕ → Type 0
+AreSmall xs = (k : ℕ) → k < length xs → get_or xs k 0 < 8
+
+small_append : (xs ys : List ℕ) → AreSmall xs → AreSmall ys → AreSmall (xs ++ ys)
+small_append xs ys f g k l = by_cases (cases_lt k (length xs))
   where
-    left : (a n : ℕ) → a + n - a ≡ n
-    left a n = omega arith
+    by_cases : (k < length xs) ⊎ (length xs ≤ k) → get_or (xs ++ ys) k 0 < 8
+    by_cases (inl m) = subst (λ x. x < 8) (sym (get_or_append_left xs ys 0 k m)) (f k m)
+    by_cases (inr m) =
+        subst (λ x. x < 8) (sym (get_or-append_right xs ys (length xs) k 0 refl m))
+        (g (k - length xs) (omega (arith, length-append xs ys)))
 
--- the n levels of a segment's data in the place of those from place a on
-pub record Placed (a n m : ℕ) (segment : List ℤ) (old new : List ℕ) : Type 0 where
-  pub fits : a + n ≤ m
-  pub symbols : length segment ≡ 4 + n
-  pub long : length old ≡ m
-  pub kept : length new ≡ m
-  pub before : (k : ℕ) → k < a → get_or new k 0 ≡ get_or old k 0
-  pub written : (k : ℕ) → k < n → get_or new (a + k) 0 ≡ sliced (get_or segment (4 + k) (pos 0))
-  pub behind : (k : ℕ) → a + n ≤ k → get_or new k 0 ≡ get_or old k 0
+pub small_take : (a : ℕ) (xs : List ℕ) → a ≤ length xs → AreSmall xs → AreSmall (take a xs)
+small_take a xs m f k l =
+    let n : k < a = omega (arith, length-take-le a xs m) in
+    subst (λ x. x < 8) (sym (get_or-take a xs k 0 n)) (f k (omega arith))
 
-pub placed : (a n m : ℕ) (segment : List ℤ) (old new : List ℕ) → Placed a n m segment old new
-    → new ≡ take a old ++ map sliced (drop 4 segment) ++ drop (a + n) old
-placed a n m segment old new h =
-    append_from_parts 0 new (take a old ++ map sliced (drop 4 segment)) (drop (a + n) old) (a + n) (m - (a + n))
-    (h.kept ∙ sym whole) front behind
-    (λ k l. by_cases k l (cases_lt k a))
-    (λ k l. h.behind (a + n + k) (omega arith) ∙ sym (get_or-drop (a + n) old k 0))
-  where
-    whole : a + n + (m - (a + n)) ≡ m
-    whole = let l = h.fits in omega arith
+pub small_drop : (a : ℕ) (xs : List ℕ) → AreSmall xs → AreSmall (drop a xs)
+small_drop a xs f k l =
+    subst (λ x. x < 8) (sym (get_or-drop a xs k 0)) (f (a + k) (omega (arith, length-drop a xs)))
 
-    first : length (take a old) ≡ a
-    first = length-take-le a old (omega (arith, h.long, h.fits))
+pub sliced_all_small : (a : ℕ) (segment : List ℤ) → AreSmall (map sliced (drop a segment))
+sliced_all_small a segment k l =
+    subst (λ x. x < 8)
+    (sym (get_or-map sliced (drop a segment) k (pos 0) 0 (omega (arith, length-map (drop a segment) sliced))))
+    (sliced_small (get_or (drop a segment) k (pos 0)))
 
-    middle : length (map sliced (drop 4 segment)) ≡ n
-    middle = length_sliced 4 n segment h.symbols
-
-    front : length (take a old ++ map sliced (drop 4 segment)) ≡ a + n
-    front = length-append (take a old) (map sliced (drop 4 segment)) ∙ ap₂ (λ (x y : ℕ). x + y) first middle
-
-    behind : length (drop (a + n) old) ≡ m - (a + n)
-    behind = length-drop (a + n) old ∙ ap (λ x. x - (a + n)) h.long
-
-    back : (k : ℕ) → a ≤ k → a + (k - a) ≡ k
-    back k l = omega arith
-
-    by_cases : (k : ℕ) → k < a + n → (k < a) ⊎ (a ≤ k)
-        → get_or new k 0 ≡ get_or (take a old ++ map sliced (drop 4 segment)) k 0
-    by_cases k l (inl below) =
-        h.before k below ∙ sym (get_or_append_left (take a old) (map sliced (drop 4 segment)) 0 k (omega (arith, first))
-        ∙ get_or-take a old k 0 below)
-    by_cases k l (inr above) =
-        ap (λ i. get_or new i 0) (sym (back k above)) ∙ h.written (k - a) (omega arith)
-        ∙ sym (get_or-append_right (take a old) (map sliced (drop 4 segment)) a k 0 first above
-        ∙ get_or-map sliced (drop 4 segment) (k - a) (pos 0) 0 (omega (arith, length-drop 4 segment, h.symbols))
-        ∙ ap sliced (get_or-drop 4 segment (k - a) (pos 0)))
-
-pub placed_small : (a n m : ℕ) (segment : List ℤ) (old new : List ℕ) → Placed a n m segment old new
-    → ((k : ℕ) → k < length old → get_or old k 0 < 8)
-    → (k : ℕ) → k < length new → get_or new k 0 < 8
-placed_small a n m segment old new h f k l = by_cases (cases_lt k a) (cases_lt k (a + n))
-  where
-    back : (k : ℕ) → a ≤ k → a + (k - a) ≡ k
-    back k l = omega arith
-
-    within : k < length old
-    within = omega (arith, h.long, h.kept)
-
-    by_cases : (k < a) ⊎ (a ≤ k) → (k < a + n) ⊎ (a + n ≤ k) → get_or new k 0 < 8
-    by_cases (inl below) c = subst (λ x. x < 8) (sym (h.before k below)) (f k within)
-    by_cases (inr above) (inr behind) = subst (λ x. x < 8) (sym (h.behind k behind)) (f k within)
-    by_cases (inr above) (inl inside) =
-        subst (λ i. get_or new i 0 < 8) (back k above)
-        (subst (λ x. x < 8) (sym (h.written (k - a) (omega arith)))
-        (sliced_small (get_or segment (4 + (k - a)) (pos 0))))
+pub placed_small : (a n : ℕ) (segment : List ℤ) (old mid : List ℕ) → a ≤ length old
+    → mid ≡ map sliced (drop 4 segment) → AreSmall old → AreSmall (take a old ++ (mid ++ drop n (drop a old)))
+placed_small a n segment old mid m e f =
+    small_append (take a old) (mid ++ drop n (drop a old)) (small_take a old m f)
+    (small_append mid (drop n (drop a old)) (subst AreSmall (sym e) (sliced_all_small 4 segment))
+    (small_drop n (drop a old) (small_drop a old f)))

@@ -5,6 +5,8 @@ use Rattle.std.proofs.lemmas.List.{get_or_append_left, get_or-append_right, leng
 use Rattle.std.proofs.lemmas.Simd.{get_or-put_chunk_at, length-put_chunk, get_or-chunk, length-chunk}
 use lib.Lanes.{put_chunk, chunk}
 use Rattle.dtx_trellis.specs.StoresLaws.{lasts, last_at}
+use Rattle.dtx_slice.proofs.LaneSteps.{picked_small}
+use Rattle.dtx_slice.proofs.Slices.{AreSmall, small_take, small_drop}
 
 -- sixteen lanes that are read from place a of n on
 pub loaded : (n a p : ℕ) (xs : List ℕ) → length xs ≡ n → a + 16 ≤ n → p < 16
@@ -18,6 +20,12 @@ loaded n a p xs h k l =
   where
     none : (p : ℕ) → 0 + p ≡ p
     none p = omega arith
+
+pub long_loaded : (n a : ℕ) (xs : List ℕ) → length xs ≡ n → a + 16 ≤ n
+    → length (take 16 (drop 0 (take (n - a) (drop a xs)))) ≡ 16
+long_loaded n a xs h k =
+    let whole : take (n - a) (drop a xs) ≡ drop a xs = take_all (n - a) (drop a xs) (omega (arith, length-drop a xs)) in
+    length-chunk 0 16 (take (n - a) (drop a xs)) (omega (arith, ap length whole, length-drop a xs))
 
 -- the last twelve of the last sixteen
 pub last_loaded : (p : ℕ) (xs : List ℕ) → length xs ≡ 3312 → p < 12
@@ -39,6 +47,16 @@ last_loaded p xs h l = at 3296 (take 16 (drop 3296 xs)) refl refl
         ∙ ap (λ (zs : List ℕ). get_or (chunk 0 16 zs) (p + 4) 0) f
         ∙ loaded 3312 a (p + 4) xs h (omega arith) (omega arith)
         ∙ ap (λ i. get_or xs i 0) place
+
+pub last_small : (xs : List ℕ) → length xs ≡ 3312 → AreSmall xs
+    → AreSmall (map (λ k. get_or (chunk 0 16 (take 16 (drop 3296 xs)) ++ chunk 0 16 (take 16 (drop 3296 xs))) k 0)
+    lasts)
+last_small xs h f =
+    let room : 16 ≤ length (drop 3296 xs) = omega (arith, length-drop 3296 xs) in
+    let long : length (take 16 (drop 3296 xs)) ≡ 16 = length-take-le 16 (drop 3296 xs) room in
+    picked_small (chunk 0 16 (take 16 (drop 3296 xs))) lasts
+    (small_take 16 (take 16 (drop 3296 xs)) (omega arith)
+    (small_take 16 (drop 3296 xs) room (small_drop 3296 xs f)))
 
 -- sixteen lanes that are written from place a of n on
 pub stored : (n a p : ℕ) (xs lanes : List ℕ) → length xs ≡ n → length lanes ≡ 16 → a + 16 ≤ n → p < 16

@@ -5,7 +5,7 @@ use Rattle.std.proofs.lemmas.Bool.{cases_lt, cond-false, ne_eqb}
 use Rattle.dtx_trellis.specs.Lanes.{coder_turned, turn}
 use Rattle.dtx_trellis.specs.LaneRoundsLaws.{first_coder, first_turn}
 use Rattle.dtx_slice.specs.Unrolled.{symbol_place, precoder_bit, pair_from, pair_back, byte_back, coder_of}
-use Rattle.dtx_slice.specs.Lanes.{lane_byte, lane_level, lane_place}
+use Rattle.dtx_slice.specs.Lanes.{joined_byte, lane_byte, lane_level, lane_place, later_byte}
 
 pub former_zero : (s e : ℕ) (precoder_bits levels : List ℕ) → precoder_bit s precoder_bits levels 0 e
     ≡ get_or precoder_bits e 0
@@ -153,6 +153,14 @@ before_later s h p x precoder_bits levels z l m n e =
     bit : (x : ℕ) → x < 8 → x / 4 % 2 ≡ x / 4
     bit x n = omega arith
 
+-- and so the lane's byte is the group's
+pub later_byte_is : (s h p : ℕ) (precoder_bits levels : List ℕ) → 0 < h → h < 69 → p < 12
+    → get_or levels (12 * (4 * h - 1) + p) 0 < 8
+    → later_byte levels h p ≡ byte_back s precoder_bits levels (12 * h + p)
+later_byte_is s h p precoder_bits levels z l m n =
+    lane_byte_is s h p (get_or levels (12 * (4 * h - 1) + p) 0 / 4 % 2) precoder_bits levels m
+    (before_later s h p (get_or levels (12 * (4 * h - 1) + p) 0) precoder_bits levels z l m n refl)
+
 last_symbol : (s e : ℕ) → 3300 + (e + 12 - 4 * (s % 3)) % 12 ≡ symbol_place s 275 e
 unfolding symbol_place
 last_symbol s e = omega arith
@@ -163,26 +171,26 @@ pub former_last : (s e : ℕ) (precoder_bits levels : List ℕ)
 former_last s e precoder_bits levels = ap (λ i. get_or levels i 0 / 4) (last_symbol s e)
     ∙ sym (former_next s 275 e precoder_bits levels)
 
--- the byte of four pairs
-pub lane_joined : (h p b x0 x1 x2 x3 q0 q1 q2 q3 : ℕ) (levels : List ℕ) → x0 < 8 → x1 < 8 → x2 < 8
-    → x0 ≡ lane_level levels h 0 p → x1 ≡ lane_level levels h 1 p → x2 ≡ lane_level levels h 2 p
-    → x3 ≡ lane_level levels h 3 p
-    → q0 ≡ pair_from b x0 → q1 ≡ pair_from (x0 / 4 % 2) x1 → q2 ≡ pair_from (x1 / 4 % 2) x2
-    → q3 ≡ pair_from (x2 / 4 % 2) x3
-    → 64 * q0 + 16 * q1 + 4 * q2 + q3 ≡ lane_byte b levels h p
+-- the byte of four levels
+pub lane_joined : (h p b x0 x1 x2 x3 : ℕ) (levels : List ℕ) → x0 ≡ lane_level levels h 0 p
+    → x1 ≡ lane_level levels h 1 p → x2 ≡ lane_level levels h 2 p → x3 ≡ lane_level levels h 3 p
+    → joined_byte b x0 x1 x2 x3 ≡ lane_byte b levels h p
 unfolding lane_byte
-lane_joined h p b x0 x1 x2 x3 q0 q1 q2 q3 levels l m n e0 e1 e2 e3 f0 f1 f2 f3 =
-    ap₂ (λ x y. 64 * x + 16 * y + 4 * q2 + q3) (f0 ∙ ap (pair_from b) e0) (f1
-    ∙ ap₂ pair_from (bit x0 l ∙ ap (λ x. x / 4) e0) e1)
-    ∙ ap₂ (λ x y. 64 * pair_from b (lane_level levels h 0 p) + 16 * pair_from (lane_level levels h 0 p / 4)
-    (lane_level levels h 1 p) + 4 * x + y)
-    (f2 ∙ ap₂ pair_from (bit x1 m ∙ ap (λ x. x / 4) e1) e2) (f3 ∙ ap₂ pair_from (bit x2 n ∙ ap (λ x. x / 4) e2) e3)
-  where
-    bit : (x : ℕ) → x < 8 → x / 4 % 2 ≡ x / 4
-    bit x n = omega arith
+lane_joined h p b x0 x1 x2 x3 levels e0 e1 e2 e3 =
+    ap₂ (λ x y. joined_byte b x y x2 x3) e0 e1
+    ∙ ap₂ (joined_byte b (lane_level levels h 0 p) (lane_level levels h 1 p)) e2 e3
 
-pub pair_small : (b x : ℕ) → pair_from b x < 4
-pair_small b x = omega arith
+-- bytes from number h on, twelve for each of n numbers
+pub bytes_over : (h n : ℕ) (P : ℕ → Type 0) → ((j : ℕ) → j < 12 * h → P j)
+    → ((i p : ℕ) → h ≤ i → i < h + n → p < 12 → P (12 * i + p)) → (j : ℕ) → j < 12 * (h + n) → P j
+bytes_over h n P f g j l = by_cases (cases_lt j (12 * h))
+  where
+    back : (j : ℕ) → 12 * (j / 12) + j % 12 ≡ j
+    back j = omega arith
+
+    by_cases : (j < 12 * h) ⊎ (12 * h ≤ j) → P j
+    by_cases (inl k) = f j k
+    by_cases (inr k) = subst P (back j) (g (j / 12) (j % 12) (omega arith) (omega arith) (omega arith))
 
 -- twelve bytes more
 pub bytes_more : (h : ℕ) (P : ℕ → Type 0) → ((j : ℕ) → j < 12 * h → P j) → ((p : ℕ) → p < 12 → P (12 * h + p)) → (j : ℕ)

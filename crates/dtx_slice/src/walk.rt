@@ -1,19 +1,42 @@
 //! Walks the levels of a group, with the coders side by side.
 
-ghost use Rattle.std.specs.Prelude.{◌≡◌, ℕ, ◌+◌, ◌*◌, ◌/◌, ◌%◌, ◌<◌, List, EachIndex, length, slice_index};
+ghost use Rattle.std.specs.Prelude.{◌≡◌, ℕ, ◌+◌, ◌*◌, ◌/◌, ◌%◌, ◌<◌, ◌≤◌, List, EachIndex, length};
+ghost use Rattle.std.specs.Prelude.{slice_index};
 ghost use Rattle.dtx_trellis.specs.Lanes.{coder_turned, turn};
-ghost use Rattle.dtx_slice.specs.Unrolled.{byte_back, precoder_bit, pair_from};
-ghost use Rattle.dtx_slice.specs.Lanes.{lane_byte, lane_place};
+ghost use Rattle.dtx_slice.specs.Unrolled.{byte_back, precoder_bit};
+ghost use Rattle.dtx_slice.specs.Lanes.{joined_byte, lane_byte, lane_place, later_byte};
 
-use dtx_sizes::{CODERS, FIELD_PACKETS, GROUP_BYTES, GROUP_LEVELS, ROUNDS, SEGMENT_ROUNDS};
+use dtx_sizes::{
+    CODERS, FIELD_PACKETS, GROUP_BYTES, GROUP_LEVELS, GROUP_PACKETS, ROUNDS, SEGMENT_ROUNDS,
+};
 use std::simd::prelude::*;
 
 /// How many lanes a vector has. In the four rounds of a byte, lane p is of the coder at place p of the first of them;
 /// lanes 12 to 15 are of none.
 const LANES: usize = 16;
 
+/// The share of each level in its byte, where it is the first of the byte's four. Z1 is in its own pair, Z2 in that and
+/// in the next one.
+const FIRST: [u8; LANES] = [0, 0, 64, 64, 160, 160, 224, 224, 0, 0, 0, 0, 0, 0, 0, 0];
+
+/// The same of the second level.
+const SECOND: [u8; LANES] = [0, 0, 16, 16, 40, 40, 56, 56, 0, 0, 0, 0, 0, 0, 0, 0];
+
+/// The same of the third level.
+const THIRD: [u8; LANES] = [0, 0, 4, 4, 10, 10, 14, 14, 0, 0, 0, 0, 0, 0, 0, 0];
+
+/// The same of the fourth level.
+const FOURTH: [u8; LANES] = [0, 0, 1, 1, 2, 2, 3, 3, 0, 0, 0, 0, 0, 0, 0, 0];
+
+/// The same of the level before the four.
+const BEFORE: [u8; LANES] = [0, 0, 0, 0, 128, 128, 128, 128, 0, 0, 0, 0, 0, 0, 0, 0];
+
 /// How many of a group's bytes each coder takes, one in four rounds.
 const CODER_BYTES: usize = 69;
+
+/// How many bytes of each coder stand between two on which it works at a segment's end. In the first segment one more
+/// stands in front.
+const WHOLE_BYTES: usize = 16;
 
 /// The last byte of a coder.
 const LAST_BYTE: usize = CODER_BYTES - 1;
@@ -33,35 +56,35 @@ pub(crate) fn walk(
     requires small_formers { EachIndex precoder_bits.now (λ e. slice_index precoder_bits.now e < 2) }
     ensures { (j : ℕ) → j < GROUP_BYTES → slice_index bytes.new j ≡ byte_back first precoder_bits.now levels.now j }
 {
-    for byte in 0..CODER_BYTES {
-        let before = before(precoder_bits, first, levels, byte);
-        let lanes = four_rounds(before, levels, byte);
-        store(bytes, byte, lanes);
+    let before = laid_out(precoder_bits, first);
+    let lanes = four_rounds(before, levels, 0);
+    store(bytes, 0, lanes);
+    for segment in 0..GROUP_PACKETS {
+        let from = (WHOLE_BYTES + 1) * segment + 1;
+        walk_whole(levels, from, bytes);
+        let before = load(levels, 4 * (from + WHOLE_BYTES) - 1);
+        let lanes = four_rounds(before, levels, from + WHOLE_BYTES);
+        store(bytes, from + WHOLE_BYTES, lanes);
     }
 }
 
-/// What holds each coder's former Z2 as bit 2: its levels of the round before byte `byte`, or what laid the former Z2
-/// out.
-#[inline(always)]
-fn before(
-    precoder_bits: &[u8; CODERS],
-    first: usize,
-    levels: &[u8; GROUP_LEVELS],
-    byte: usize,
-) -> u8x16
-    requires first { first < FIELD_PACKETS }
-    requires byte { byte < CODER_BYTES }
+/// Writes sixteen bytes of each coder, from number `from` on, on each of which it works within a segment.
+#[inline(never)]
+fn walk_whole(levels: &[u8; GROUP_LEVELS], from: usize, bytes: &mut [u8; GROUP_BYTES])
+    requires from { 0 < from }
+    requires last { from + WHOLE_BYTES ≤ LAST_BYTE }
+    requires whole { 4 * from % SEGMENT_ROUNDS + 4 * WHOLE_BYTES ≤ SEGMENT_ROUNDS }
     requires small { EachIndex levels.now (λ d. slice_index levels.now d < 8) }
-    requires small_formers { EachIndex precoder_bits.now (λ e. slice_index precoder_bits.now e < 2) }
-    ensures long { length result ≡ LANES }
-    ensures precoder_bits { (p : ℕ) → p < CODERS
-        → slice_index result p / 4 % 2 ≡ precoder_bit first precoder_bits.now levels.now (4 * byte)
-        (coder_turned (turn first (4 * byte)) p) }
+    ensures bytes { (h p : ℕ) → from ≤ h → h < from + WHOLE_BYTES → p < CODERS
+        → slice_index bytes.new (CODERS * h + p) ≡ later_byte levels.now h p }
+    ensures before { (j : ℕ) → j < CODERS * from → slice_index bytes.new j ≡ slice_index bytes.old j }
 {
-    if byte == 0 {
-        laid_out(precoder_bits, first)
-    } else {
-        load(levels, 4 * byte - 1)
+    let mut before = load_early(levels, 4 * from - 1);
+    for byte in from..from + WHOLE_BYTES {
+        let last = load_early(levels, 4 * byte + 3);
+        let lanes = whole_rounds(before, levels, byte, last);
+        store_early(bytes, byte, lanes);
+        before = last;
     }
 }
 
@@ -69,45 +92,69 @@ fn before(
 #[inline(always)]
 fn four_rounds(before: u8x16, levels: &[u8; GROUP_LEVELS], byte: usize) -> u8x16
     requires byte { byte < CODER_BYTES }
+    requires small_before { EachIndex before (λ p. slice_index before p < 8) }
     requires small { EachIndex levels.now (λ d. slice_index levels.now d < 8) }
     ensures long { length result ≡ LANES }
     ensures bytes { (p : ℕ) → p < CODERS
         → slice_index result p ≡ lane_byte (slice_index before p / 4 % 2) levels.now byte p }
 {
-    let first = load_round(levels, byte, 0);
-    let second = load_round(levels, byte, 1);
-    let third = load_round(levels, byte, 2);
-    let fourth = load_round(levels, byte, 3);
     joined(
-        pairs(before, first),
-        pairs(first, second),
-        pairs(second, third),
-        pairs(third, fourth),
+        before,
+        load_round(levels, byte, 0),
+        load_round(levels, byte, 1),
+        load_round(levels, byte, 2),
+        load_round(levels, byte, 3),
     )
 }
 
-/// The pairs of a round, from its levels and those of the round before.
+/// The same where no segment ends in the four rounds, nor the group, and the levels of the last round are at hand.
 #[inline(always)]
-fn pairs(before: u8x16, levels: u8x16) -> u8x16
+fn whole_rounds(before: u8x16, levels: &[u8; GROUP_LEVELS], byte: usize, last: u8x16) -> u8x16
+    requires byte { byte < LAST_BYTE }
+    requires whole { 4 * byte % SEGMENT_ROUNDS + 4 ≤ SEGMENT_ROUNDS }
+    requires small_before { EachIndex before (λ p. slice_index before p < 8) }
+    requires small_last { EachIndex last (λ p. slice_index last p < 8) }
+    requires last { (p : ℕ) → p < CODERS
+        → slice_index last p ≡ slice_index levels.now (CODERS * (4 * byte + 3) + p) }
+    requires small { EachIndex levels.now (λ d. slice_index levels.now d < 8) }
     ensures long { length result ≡ LANES }
-    ensures pairs { (p : ℕ) → p < CODERS → slice_index levels p < 8
-        → slice_index result p ≡ pair_from (slice_index before p / 4 % 2) (slice_index levels p) }
+    ensures bytes { (p : ℕ) → p < CODERS
+        → slice_index result p ≡ lane_byte (slice_index before p / 4 % 2) levels.now byte p }
 {
-    ((before & u8x16::splat(4)) ^ levels) >> u8x16::splat(1)
+    joined(
+        before,
+        load_early(levels, 4 * byte),
+        load_early(levels, 4 * byte + 1),
+        load_early(levels, 4 * byte + 2),
+        last,
+    )
 }
 
-/// Bytes from their four pairs.
+/// Bytes from the levels of their four rounds and of the round before.
 #[inline(always)]
-fn joined(first: u8x16, second: u8x16, third: u8x16, fourth: u8x16) -> u8x16
+fn joined(before: u8x16, first: u8x16, second: u8x16, third: u8x16, fourth: u8x16) -> u8x16
+    requires before { EachIndex before (λ p. slice_index before p < 8) }
+    requires first { EachIndex first (λ p. slice_index first p < 8) }
+    requires second { EachIndex second (λ p. slice_index second p < 8) }
+    requires third { EachIndex third (λ p. slice_index third p < 8) }
+    requires fourth { EachIndex fourth (λ p. slice_index fourth p < 8) }
     ensures long { length result ≡ LANES }
-    ensures bytes { (p : ℕ) → p < CODERS → slice_index first p < 4 → slice_index second p < 4 → slice_index third p < 4
-        → slice_index fourth p < 4
-        → slice_index result p ≡ 64 * slice_index first p + 16 * slice_index second p + 4 * slice_index third
-        p + slice_index fourth p }
+    ensures bytes { (p : ℕ) → p < CODERS → slice_index result p ≡ joined_byte (slice_index before p / 4 % 2)
+        (slice_index first p) (slice_index second p) (slice_index third p) (slice_index fourth p) }
 {
-    let high = first << u8x16::splat(6) | second << u8x16::splat(4);
-    let low = third << u8x16::splat(2) | fourth;
-    high | low
+    let high = shares(FIRST, first) ^ shares(SECOND, second);
+    let low = shares(THIRD, third) ^ shares(FOURTH, fourth);
+    shares(BEFORE, before) ^ high ^ low
+}
+
+/// The share of each lane's level, by a table.
+#[inline(always)]
+fn shares(table: [u8; LANES], levels: u8x16) -> u8x16
+    requires { EachIndex levels (λ p. slice_index levels p < 8) }
+    ensures long { length result ≡ LANES }
+    ensures shares { (p : ℕ) → p < LANES → slice_index result p ≡ slice_index table (slice_index levels p) }
+{
+    u8x16::from_array(table).swizzle_dyn(levels)
 }
 
 /// The levels of round `round` of the four in which each coder works on its byte number `byte`.
@@ -115,7 +162,9 @@ fn joined(first: u8x16, second: u8x16, third: u8x16, fourth: u8x16) -> u8x16
 fn load_round(levels: &[u8; GROUP_LEVELS], byte: usize, round: usize) -> u8x16
     requires byte { byte < CODER_BYTES }
     requires round { round < 4 }
+    requires small { EachIndex levels.now (λ d. slice_index levels.now d < 8) }
     ensures long { length result ≡ LANES }
+    ensures small { EachIndex result (λ p. slice_index result p < 8) }
     ensures levels { (p : ℕ) → p < CODERS → slice_index result p ≡ slice_index levels.now (lane_place byte round p) }
 {
     let lanes = load(levels, 4 * byte + round);
@@ -129,7 +178,9 @@ fn load_round(levels: &[u8; GROUP_LEVELS], byte: usize, round: usize) -> u8x16
 /// The lanes of the places four back.
 #[inline(always)]
 fn turned(v: u8x16) -> u8x16
+    requires { EachIndex v (λ p. slice_index v p < 8) }
     ensures long { length result ≡ LANES }
+    ensures small { EachIndex result (λ p. slice_index result p < 8) }
     ensures lanes { (p : ℕ) → p < CODERS → slice_index result p ≡ slice_index v ((p + 8) % CODERS) }
 {
     v.swizzle([8, 9, 10, 11, 0, 1, 2, 3, 4, 5, 6, 7, 12, 13, 14, 15])
@@ -138,20 +189,36 @@ fn turned(v: u8x16) -> u8x16
 /// The levels of round `round` of the group, each in the lane of its place.
 #[inline(always)]
 fn load(levels: &[u8; GROUP_LEVELS], round: usize) -> u8x16
-    requires { round < ROUNDS }
+    requires round { round < ROUNDS }
+    requires small { EachIndex levels.now (λ d. slice_index levels.now d < 8) }
     ensures long { length result ≡ LANES }
+    ensures small { EachIndex result (λ p. slice_index result p < 8) }
     ensures levels { (p : ℕ) → p < CODERS → slice_index result p ≡ slice_index levels.now (CODERS * round + p) }
 {
     if round < LAST_ROUND {
-        u8x16::from_slice(&levels[CODERS * round..])
+        load_early(levels, round)
     } else {
         load_last(levels)
     }
 }
 
+/// The levels of a round that isn't the last one.
+#[inline(always)]
+fn load_early(levels: &[u8; GROUP_LEVELS], round: usize) -> u8x16
+    requires round { round < LAST_ROUND }
+    requires small { EachIndex levels.now (λ d. slice_index levels.now d < 8) }
+    ensures long { length result ≡ LANES }
+    ensures small { EachIndex result (λ p. slice_index result p < 8) }
+    ensures levels { (p : ℕ) → p < CODERS → slice_index result p ≡ slice_index levels.now (CODERS * round + p) }
+{
+    u8x16::from_slice(&levels[CODERS * round..])
+}
+
 /// The levels of the last round.
 fn load_last(levels: &[u8; GROUP_LEVELS]) -> u8x16
+    requires { EachIndex levels.now (λ d. slice_index levels.now d < 8) }
     ensures long { length result ≡ LANES }
+    ensures small { EachIndex result (λ p. slice_index result p < 8) }
     ensures levels { (p : ℕ) → p < CODERS → slice_index result p ≡ slice_index levels.now (CODERS * LAST_ROUND + p) }
 {
     let last = u8x16::from_slice(&levels[GROUP_LEVELS - LANES..]);
@@ -166,10 +233,20 @@ fn store(bytes: &mut [u8; GROUP_BYTES], byte: usize, lanes: u8x16)
     ensures before { (j : ℕ) → j < CODERS * byte → slice_index bytes.new j ≡ slice_index bytes.old j }
 {
     if byte < LAST_BYTE {
-        lanes.copy_to_slice(&mut bytes[CODERS * byte..]);
+        store_early(bytes, byte, lanes);
     } else {
         store_last(bytes, lanes);
     }
+}
+
+/// Writes twelve bytes that aren't the last ones.
+#[inline(always)]
+fn store_early(bytes: &mut [u8; GROUP_BYTES], byte: usize, lanes: u8x16)
+    requires { byte < LAST_BYTE }
+    ensures bytes { (p : ℕ) → p < CODERS → slice_index bytes.new (CODERS * byte + p) ≡ slice_index lanes p }
+    ensures before { (j : ℕ) → j < CODERS * byte → slice_index bytes.new j ≡ slice_index bytes.old j }
+{
+    lanes.copy_to_slice(&mut bytes[CODERS * byte..]);
 }
 
 /// Writes the last byte of each coder.
@@ -188,6 +265,7 @@ fn laid_out(precoder_bits: &[u8; CODERS], first: usize) -> u8x16
     requires first { first < FIELD_PACKETS }
     requires small_formers { EachIndex precoder_bits.now (λ e. slice_index precoder_bits.now e < 2) }
     ensures long { length result ≡ LANES }
+    ensures small { EachIndex result (λ p. slice_index result p < 8) }
     ensures precoder_bits { (p : ℕ) → p < CODERS
         → slice_index result p ≡ 4 * slice_index precoder_bits.now ((p + 4 * (first % 3)) % CODERS) }
 {

@@ -1,16 +1,10 @@
-use Rattle.std.proofs.Common.{◌<◌, sym, subst, arith}
+use Rattle.std.proofs.Common.{ℕ, ◌<◌, length, get_or, sym, subst, List}
 use Rattle.dtx_slice.specs.Slicing.{sliced_data}
-use Rattle.dtx_slice.proofs.Slices.{sliced_from, sliced_small}
+use Rattle.dtx_slice.proofs.Slices.{sliced_all_small}
 use Rattle.dtx_slice.proofs.slicing.levels.Goals as goal
 
-pub returns-clause-levels : goal.returns-clause-levels
-unfolding sliced_data
-returns-clause-levels c =
-    sliced_from 4 828 c.args.segment.now c.loop-d.out c.told-segment c.loop-d.invariant.long
-    (λ k l. c.loop-d.invariant.written k (omega (arith, c.loop-d-test.false)))
-
 pub returns-clause-small : goal.returns-clause-small
-returns-clause-small c = λ k l.
-    subst (λ x. x < 8)
-    (sym (c.loop-d.invariant.written k (omega (arith, c.loop-d-test.false, c.loop-d.invariant.long))))
-    (sliced_small _)
+unfolding sliced_data
+returns-clause-small c =
+    subst (λ (xs : List ℕ). (k : ℕ) → k < length xs → get_or xs k 0 < 8) (sym c.slice_data.ensures)
+    (sliced_all_small 4 c.args.segment.now)
