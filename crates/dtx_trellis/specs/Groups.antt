@@ -1,8 +1,9 @@
 -- The twelve coders over the bytes of whole groups, from the state numbers of coders 0 to 11. The first group is at
 -- place s of its field (ATSC A/53 Part 2, trellis coding).
-use Rattle.std.specs.Prelude.{ℕ, ◌*◌, ◌/◌, List, map, slice_index}
+use Rattle.std.specs.Prelude.{ℕ, ◌+◌, ◌*◌, ◌/◌, List, map, slice_index}
 use Rattle.std.specs.List.{range_with_len}
-use Rattle.dtx_sizes.specs.declared.segments.TheConstants.{CODERS, GROUP_LEVELS, ROUNDS}
+use Rattle.dtx_sizes.specs.declared.segments.TheConstants.{CODERS, GROUP_LEVELS, ROUNDS, SEGMENT_LEVELS}
+use Rattle.dtx_sizes.specs.declared.segments.TheConstants.{SEGMENT_SYNC}
 use Rattle.dtx_trellis.specs.Trellis.{State, level, state_after, state_of, number_of}
 use Rattle.dtx_trellis.specs.Pairs.{groups, higher, lower, coder_at}
 
@@ -19,6 +20,10 @@ level_at s states bytes d =
 -- the levels of all data symbols, in the order of emission
 unfoldable pub levels_of : ℕ → List ℕ → List ℕ → List ℕ
 levels_of s states bytes = map (level_at s states bytes) (range_with_len 0 (GROUP_LEVELS * groups bytes))
+
+-- where data symbol d of a group is sent: behind the sync of its own segment and those of the segments before it
+unfoldable pub symbol_place : ℕ → ℕ
+symbol_place d = d + SEGMENT_SYNC * (d / SEGMENT_LEVELS + 1)
 
 -- the state numbers after all pairs
 unfoldable pub states_after : ℕ → List ℕ → List ℕ → List ℕ
