@@ -8,8 +8,8 @@ ghost use Rattle.dtx_trellis.specs.Groups.{symbol_place};
 use crate::states::States;
 use crate::walk::walk;
 use dtx_sizes::{
-    CODERS, FIELD_PACKETS, GROUP_BYTES, GROUP_LEVELS, GROUP_PACKETS, GROUP_SYMBOLS, SEGMENT,
-    SEGMENT_LEVELS, SEGMENT_SYNC,
+    CODERS, FIELD_PACKETS, GROUP_BYTES, GROUP_PACKETS, GROUP_SYMBOLS, SEGMENT, SEGMENT_LEVELS,
+    SEGMENT_SYNC,
 };
 use std::marker::Model;
 
@@ -79,20 +79,7 @@ impl Twelve {
         ensures small_states { EachIndex self.new (λ e. slice_index self.new e < 8) }
     {
         let from = self.states;
-        let mut levels = [0; GROUP_LEVELS];
-        let states = walk(&from, first as usize, bytes, &mut levels);
-        send(&levels, symbols);
+        let states = walk(&from, first as usize, bytes, symbols);
         self.states = states;
-    }
-}
-
-/// Writes each level's symbol, twice the level less 7, at its place.
-fn send(levels: &[u8; GROUP_LEVELS], symbols: &mut [i8; GROUP_SYMBOLS])
-    requires { EachIndex levels.now (λ d. slice_index levels.now d < 8) }
-    ensures { (d : ℕ) → d < GROUP_LEVELS
-        → slice_index_or symbols.new (symbol_place d) (pos 0) ≡ symbol_of (slice_index levels.now d) }
-{
-    for d in 0..GROUP_LEVELS {
-        symbols[d + SEGMENT_SYNC * (d / SEGMENT_LEVELS + 1)] = 2 * levels[d] as i8 - 7;
     }
 }

@@ -1,21 +1,15 @@
-use Rattle.std.proofs.Common.{◌≡◌, ℕ, ◌+◌, ◌*◌, ◌<◌, map, take, drop, get_or, ap, ◌∙◌, subst, arith}
+use Rattle.std.proofs.Common.{◌≡◌, ℕ, ◌+◌, ◌*◌, ◌<◌, map, take, drop, get_or, subst, arith}
 use Rattle.dtx_trellis.specs.Trellis.{symbol_of}
 use Rattle.dtx_trellis.specs.Groups.{levels_of, states_after}
-use Rattle.dtx_trellis.proofs.Ends.{symbols_end, states_end, state_small, level_small}
+use Rattle.dtx_trellis.proofs.Ends.{symbols_end, states_end, state_small}
 use Rattle.dtx_trellis.proofs.twelve.Twelve.group.Goals as goal
-
-pub send-requires : goal.send-requires
-send-requires c = λ d l.
-    let m : d < 3312 = omega (arith, c.walk-states.array_long) in
-    level_small c.args.first d c.self.inside.states c.args.bytes.now
-    (get_or c.walk-states.new.levels d 0) c.told-bytes m (c.walk-states.ensures.levels d m)
 
 pub returns-clause-symbols : goal.returns-clause-symbols
 returns-clause-symbols c =
-    subst (λ q. (k : ℕ) → k < 4 → take 828 (drop (832 * k + 4) c.send.new.symbols)
+    subst (λ q. (k : ℕ) → k < 4 → take 828 (drop (832 * k + 4) c.walk-states.new.symbols)
     ≡ map symbol_of (take 828 (drop (828 * k) (levels_of c.args.first q c.args.bytes.now)))) c.self.view_is
-    (symbols_end c.args.first c.self.inside.states c.args.bytes.now c.send.new.symbols c.told-bytes c.send.array_long
-    (λ d l. c.send.ensures d l ∙ ap symbol_of (c.walk-states.ensures.levels d l)))
+    (symbols_end c.args.first c.self.inside.states c.args.bytes.now c.walk-states.new.symbols c.told-bytes
+    c.walk-states.array_long c.walk-states.ensures.symbols)
 
 pub returns-clause-states : goal.returns-clause-states
 returns-clause-states c =
