@@ -2,9 +2,9 @@
 use Rattle.std.proofs.Common.{◌≡◌, ◌≢◌, Bool, true, false, ◌⊎◌, inl, inr, ℕ, ◌-◌, ◌+◌, ◌*◌, ◌/◌, ◌%◌, ◌<◌, ◌≤◌, ◌==◌}
 use Rattle.std.proofs.Common.{ltb, ℤ, pos, List, length, get_or, sym, ap, ap₂, ◌∙◌, subst, arith}
 use Rattle.std.proofs.lemmas.Bool.{cases_lt, cond-true, cond_both, eq-eqb, eqb-true, false≢true, lt-ltb}
-use Rattle.dtx_trellis.specs.Trellis.{AreBits, level_of, next_of, number_of, state_of}
+use Rattle.dtx_trellis.specs.Trellis.{AreBits, level_of, next_of, number_of, state_of, symbol_of}
 use Rattle.dtx_trellis.specs.Pairs.{byte_place, pair_in, coder_at}
-use Rattle.dtx_trellis.specs.Groups.{coder_after, level_at, symbol_place}
+use Rattle.dtx_trellis.specs.Groups.{AreSent, coder_after, level_at, symbol_place}
 use Rattle.dtx_trellis.specs.Lanes.{coder_turned, turn, AreNibbles, HoldsBytes, HoldsPairs, HoldsRound, HoldsStates}
 use Rattle.dtx_trellis.specs.Lanes.{IsMovedOn, behind_both, came_from, lane_behind, lane_level, pair_taken, turned_place}
 use Rattle.dtx_trellis.specs.CodersLaws.{coder_is, one_group, pair_0, pair_1, pair_2, pair_3}
@@ -251,43 +251,52 @@ number_end s e states bytes lanes l h =
     number_is : (n : ℕ) → n % 8 ≡ number_of (state_of n)
     number_is n = omega arith
 
--- what holds of one more byte group
-pub group_more : (h : ℕ) (P : ℕ → Type 0) → ((d : ℕ) → d < 48 * h → P d) → ((p : ℕ) → p < 48 → P (48 * h + p))
-    → (d : ℕ) → d < 48 * (h + 1) → P d
-group_more h P f g d l = by_cases (cases_lt d (48 * h))
-  where
-    back : (d h : ℕ) → 48 * h ≤ d → 48 * h + (d - 48 * h) ≡ d
-    back d h k = omega arith
-
-    by_cases : (d < 48 * h) ⊎ (48 * h ≤ d) → P d
-    by_cases (inl k) = f d k
-    by_cases (inr k) = subst P (back d h k) (g (d - 48 * h) (omega arith))
-
 -- where a round is sent
 pub round_place : (r : ℕ) → 12 * r + 4 * (r / 69 + 1) ≡ symbol_place (12 * r)
 unfolding symbol_place
 round_place r = omega arith
 
--- data symbols are sent in order
-pub places_rise : (d e : ℕ) → d < e → symbol_place d < symbol_place e
-unfolding symbol_place
-places_rise d e l = omega arith
-
--- n symbols that are written behind m others
-pub written_behind : (d m n : ℕ) (a b : List ℤ) (f : ℕ → ℤ)
-    → ((p : ℕ) → p < m → get_or a (symbol_place (d + p)) (pos 0) ≡ f (d + p))
-    → ((i : ℕ) → i < symbol_place (d + m) → get_or b i (pos 0) ≡ get_or a i (pos 0))
-    → ((p : ℕ) → p < n → get_or b (symbol_place (d + m + p)) (pos 0) ≡ f (d + m + p))
-    → (p : ℕ) → p < m + n → get_or b (symbol_place (d + p)) (pos 0) ≡ f (d + p)
-written_behind d m n a b f first kept second p l = by_cases (cases_lt p m)
+-- the symbols of one more round
+pub sent_more : (s r : ℕ) (states bytes : List ℕ) (before symbols : List ℤ) → AreSent s states bytes (12 * r) before
+    → ((i : ℕ) → i < symbol_place (12 * r) → get_or symbols i (pos 0) ≡ get_or before i (pos 0))
+    → ((p : ℕ) → p < 12
+    → get_or symbols (symbol_place (12 * r) + p) (pos 0) ≡ symbol_of (level_at s states bytes (12 * r + p)))
+    → AreSent s states bytes (12 * (r + 1)) symbols
+unfolding AreSent symbol_place
+sent_more s r states bytes before symbols h kept given d l = by_cases (cases_lt d (12 * r))
   where
-    back : m ≤ p → d + m + (p - m) ≡ d + p
+    earlier : d < 12 * r → d + 4 * (d / 828 + 1) < 12 * r + 4 * (12 * r / 828 + 1)
+    earlier k = omega arith
+
+    back : 12 * r ≤ d → 12 * r + (d - 12 * r) ≡ d
     back k = omega arith
 
-    by_cases : (p < m) ⊎ (m ≤ p) → get_or b (symbol_place (d + p)) (pos 0) ≡ f (d + p)
-    by_cases (inl k) = kept (symbol_place (d + p)) (places_rise (d + p) (d + m) (omega arith)) ∙ first p k
+    place : 12 * r ≤ d → 12 * r + 4 * (12 * r / 828 + 1) + (d - 12 * r) ≡ d + 4 * (d / 828 + 1)
+    place k = omega arith
+
+    by_cases : (d < 12 * r) ⊎ (12 * r ≤ d)
+        → get_or symbols (d + 4 * (d / 828 + 1)) (pos 0) ≡ symbol_of (level_at s states bytes d)
+    by_cases (inl k) = kept (d + 4 * (d / 828 + 1)) (earlier k) ∙ h d k
     by_cases (inr k) =
-        subst (λ i. get_or b (symbol_place i) (pos 0) ≡ f i) (back k) (second (p - m) (omega arith))
+        subst (λ i. get_or symbols i (pos 0) ≡ symbol_of (level_at s states bytes d)) (place k)
+        (subst (λ n. get_or symbols (12 * r + 4 * (12 * r / 828 + 1) + (d - 12 * r)) (pos 0)
+        ≡ symbol_of (level_at s states bytes n)) (back k) (given (d - 12 * r) (omega arith)))
+
+pub none_sent : (s : ℕ) (states bytes : List ℕ) (symbols : List ℤ) → AreSent s states bytes 0 symbols
+unfolding AreSent
+none_sent s states bytes symbols d l = absurd (omega arith)
+
+-- the rounds of byte h of each coder, where it stands within segment g and doesn't begin it
+pub inside : (h g k : ℕ) → g < 4 → 17 * g < h → h < 17 * (g + 1) → k < 4
+    → ((4 * h + k) / 69 ≡ g) × ((4 * h + k) % 69 ≢ 0)
+inside h g k l m n o = (omega arith, λ e. omega arith)
+
+pub inside_turn : (s h g k : ℕ) → g < 4 → 17 * g < h → h < 17 * (g + 1) → k < 4 → turn s (4 * h) ≡ turn s (4 * h + k)
+unfolding turn
+inside_turn s h g k l m n o = ap (λ i. (s + i) % 3) (none ∙ sym (inside h g k l m n o).0)
+  where
+    none : 4 * h / 69 ≡ g
+    none = omega arith
 
 pub not_both : (b : Bool) {P : Type 0} → b ≡ false → (P → b ≡ true) → P → ⊥
 not_both b f g p = false≢true (sym f ∙ g p)

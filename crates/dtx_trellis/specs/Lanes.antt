@@ -1,11 +1,11 @@
 -- Twelve coders side by side: lane p is of the coder at place p of a round, where the segment has moved the coders on
 -- by 4 * x. A lane has four bits: what stands behind a pair.
-use Rattle.std.specs.Prelude.{ℕ, ◌≡◌, ◌<◌, ◌+◌, ◌*◌, ◌/◌, ◌%◌, ◌==◌, if◌then◌else◌, ltb, List, length, slice_index}
+use Rattle.std.specs.Prelude.{ℕ, ℤ, ◌≡◌, ◌<◌, ◌+◌, ◌-◌, ◌*◌, ◌/◌, ◌%◌, ◌==◌, if◌then◌else◌, ltb, List, length, slice_index}
 use Rattle.dtx_sizes.specs.declared.segments.TheConstants.{CODERS, SEGMENT_ROUNDS}
 use Rattle.dtx_trellis.specs.declared.lanes.TheConstants.{LANES}
 use Rattle.dtx_trellis.specs.Trellis.{State, level_of, next_of, number_of, state_of}
 use Rattle.dtx_trellis.specs.Pairs.{byte_place, pair_in}
-use Rattle.dtx_trellis.specs.Groups.{coder_after}
+use Rattle.dtx_trellis.specs.Groups.{AreSent, coder_after}
 
 -- the coder at place p
 unfoldable pub coder_turned : ℕ → ℕ → ℕ
@@ -49,6 +49,11 @@ pub record HoldsRound (s : ℕ) (states bytes : List ℕ) (r x : ℕ) (lanes : L
   pub levels : (p : ℕ) → p < CODERS → lane_level (slice_index lanes p)
       ≡ level_of (coder_after s states bytes r (coder_turned x p)) (pair_taken s bytes r (coder_turned x p) / 2)
       (pair_taken s bytes r (coder_turned x p) % 2)
+
+-- before byte h of each coder: the states, and the symbols that are sent
+pub record StandsAt (s : ℕ) (states bytes : List ℕ) (h : ℕ) (lanes : List ℕ) (symbols : List ℤ) : Type 0 where
+  pub held : HoldsStates s states bytes (4 * h) (turn s (4 * h - 1)) lanes
+  pub sent : AreSent s states bytes (CODERS * (4 * h)) symbols
 
 -- the bytes on which the coders work in round r
 pub record HoldsBytes (s : ℕ) (bytes : List ℕ) (r x : ℕ) (lanes : List ℕ) : Type 0 where

@@ -3,13 +3,13 @@
 ghost use Rattle.std.specs.Prelude.{◌≡◌, ◌↔◌, ℕ, ◌+◌, ◌-◌, ◌*◌, ◌/◌, ◌%◌, ◌<◌, ◌≤◌, IsTrue, length, pos, slice_index};
 ghost use Rattle.std.specs.Prelude.{slice_index_or};
 ghost use Rattle.dtx_trellis.specs.Trellis.{number_of, symbol_of};
-ghost use Rattle.dtx_trellis.specs.Groups.{coder_after, level_at, symbol_place};
-ghost use Rattle.dtx_trellis.specs.Lanes.{AreNibbles, HoldsPairs, HoldsRound, HoldsStates, lane_level, turn};
+ghost use Rattle.dtx_trellis.specs.Groups.{AreSent, coder_after, symbol_place};
+ghost use Rattle.dtx_trellis.specs.Lanes.{AreNibbles, HoldsPairs, HoldsRound, HoldsStates, StandsAt, lane_level, turn};
 
 use crate::lanes::{LANES, doubled, lower, moved_on, two_pairs, upper};
 use dtx_sizes::{
-    CODER_BYTES, CODERS, FIELD_PACKETS, GROUP_BYTES, GROUP_LEVELS, GROUP_SYMBOLS, ROUNDS,
-    SEGMENT_ROUNDS, SEGMENT_SYNC,
+    CODER_BYTES, CODERS, FIELD_PACKETS, GROUP_BYTES, GROUP_LEVELS, GROUP_PACKETS, GROUP_SYMBOLS,
+    ROUNDS, SEGMENT_ROUNDS, SEGMENT_SYNC,
 };
 use std::simd::prelude::*;
 
@@ -19,6 +19,9 @@ const LAST_BYTE: usize = CODER_BYTES - 1;
 /// The last round of a group.
 const LAST_ROUND: usize = ROUNDS - 1;
 
+/// How many bytes of a coder stand from one in which a segment begins to the next. The last byte is one of these too.
+const STRETCH: usize = LAST_BYTE / GROUP_PACKETS;
+
 /// Codes a group from these states: writes its symbols, each at its place, and gives the states behind it.
 pub(crate) fn walk(
     from: &[u8; CODERS],
@@ -27,22 +30,84 @@ pub(crate) fn walk(
     symbols: &mut [i8; GROUP_SYMBOLS],
 ) -> [u8; CODERS]
     requires { first < FIELD_PACKETS }
-    ensures symbols { (d : ℕ) → d < GROUP_LEVELS → slice_index_or symbols.new (symbol_place d) (pos 0)
-        ≡ symbol_of (level_at first from.now bytes.now d) }
+    ensures symbols { AreSent first from.now bytes.now GROUP_LEVELS symbols.new }
     ensures long { length result ≡ CODERS }
     ensures states { (e : ℕ) → e < CODERS
         → slice_index result e ≡ number_of (coder_after first from.now bytes.now ROUNDS e) }
 {
     let mut lanes = laid_out(from, first, bytes);
-    for byte in 0..CODER_BYTES {
-        lanes = byte_group(lanes, byte, first, from, bytes, symbols);
+    for segment in 0..GROUP_PACKETS {
+        lanes = stretch(lanes, segment, first, from, bytes, symbols);
     }
-    numbers(lanes, first, from, bytes)
+    let last = edge_bytes(lanes, LAST_BYTE, first, from, bytes, symbols);
+    numbers(last, first, from, bytes)
 }
 
-/// The four rounds in which each coder works on its byte number `byte`.
+/// The bytes from the one in which segment `segment` begins to the one in which the next begins.
 #[inline(always)]
-fn byte_group(
+fn stretch(
+    start: u8x16,
+    segment: usize,
+    first: usize,
+    from: &[u8; CODERS],
+    bytes: &[u8; GROUP_BYTES],
+    symbols: &mut [i8; GROUP_SYMBOLS],
+) -> u8x16
+    requires first { first < FIELD_PACKETS }
+    requires segment { segment < GROUP_PACKETS }
+    requires stands { StandsAt first from.now bytes.now (STRETCH * segment) start symbols.old }
+    ensures { StandsAt first from.now bytes.now (STRETCH * (segment + 1)) result symbols.new }
+{
+    let mut lanes = edge_bytes(start, STRETCH * segment, first, from, bytes, symbols);
+    for byte in STRETCH * segment + 1..STRETCH * (segment + 1) {
+        lanes = inner_bytes(lanes, byte, segment, first, from, bytes, symbols);
+    }
+    lanes
+}
+
+/// The four rounds in which each coder works on its byte number `byte`, where they all stand in segment `segment` and
+/// don't begin it.
+#[inline(always)]
+fn inner_bytes(
+    start: u8x16,
+    byte: usize,
+    segment: usize,
+    first: usize,
+    from: &[u8; CODERS],
+    bytes: &[u8; GROUP_BYTES],
+    symbols: &mut [i8; GROUP_SYMBOLS],
+) -> u8x16
+    requires first { first < FIELD_PACKETS }
+    requires segment { segment < GROUP_PACKETS }
+    requires behind { STRETCH * segment < byte }
+    requires before { byte < STRETCH * (segment + 1) }
+    requires stands { StandsAt first from.now bytes.now byte start symbols.old }
+    ensures { StandsAt first from.now bytes.now (byte + 1) result symbols.new }
+{
+    let round = 4 * byte;
+    let place = CODERS * round + SEGMENT_SYNC * (segment + 1);
+    let later = place + 2 * CODERS;
+    let loaded = load(bytes, byte);
+    let pairs = upper(loaded);
+    let middle = two_rounds(
+        start, pairs, false, place, first, from, bytes, round, symbols,
+    );
+    let pairs = lower(loaded);
+    two_rounds(
+        middle,
+        pairs,
+        false,
+        later,
+        first,
+        from,
+        bytes,
+        round + 2,
+        symbols,
+    )
+}
+
+/// The four rounds in which each coder works on its byte number `byte`, where a segment may begin.
+fn edge_bytes(
     start: u8x16,
     byte: usize,
     first: usize,
@@ -51,14 +116,9 @@ fn byte_group(
     symbols: &mut [i8; GROUP_SYMBOLS],
 ) -> u8x16
     requires first { first < FIELD_PACKETS }
-    requires group { byte < CODER_BYTES }
-    requires states { HoldsStates first from.now bytes.now (4 * byte) (turn first (4 * byte - 1)) start }
-    ensures states { HoldsStates first from.now bytes.now (4 * byte + 4) (turn first (4 * byte + 3)) result }
-    ensures symbols { (p : ℕ) → p < 4 * CODERS
-        → slice_index_or symbols.new (symbol_place (4 * CODERS * byte + p)) (pos 0)
-        ≡ symbol_of (level_at first from.now bytes.now (4 * CODERS * byte + p)) }
-    ensures before { (i : ℕ) → i < symbol_place (4 * CODERS * byte)
-        → slice_index_or symbols.new i (pos 0) ≡ slice_index_or symbols.old i (pos 0) }
+    requires byte { byte < CODER_BYTES }
+    requires stands { StandsAt first from.now bytes.now byte start symbols.old }
+    ensures { StandsAt first from.now bytes.now (byte + 1) result symbols.new }
 {
     // Of the rounds in which a segment begins, one is the second of its byte, one the third and one the fourth.
     let round = 4 * byte;
@@ -68,22 +128,16 @@ fn byte_group(
     let place = CODERS * round + SEGMENT_SYNC * (round / SEGMENT_ROUNDS + 1);
     let later = next_place(next_place(place, second, round), third, round + 1);
     let loaded = load(bytes, byte);
-    let turned = moved_on(moved_on(loaded, second, round + 1), third, round + 2);
+    let pairs = upper(loaded);
     let middle = two_rounds(
-        start,
-        upper(loaded),
-        second,
-        place,
-        first,
-        from,
-        bytes,
-        round,
-        symbols,
+        start, pairs, second, place, first, from, bytes, round, symbols,
     );
+    let turned = moved_on(moved_on(loaded, second, round + 1), third, round + 2);
+    let pairs = lower(turned);
     let middle = moved_on(middle, third, round + 2);
     two_rounds(
         middle,
-        lower(turned),
+        pairs,
         fourth,
         later,
         first,
@@ -114,12 +168,9 @@ fn two_rounds(
     requires place { place ≡ symbol_place (CODERS * round) }
     requires states { HoldsStates first from.now bytes.now round (turn first round) lanes }
     requires pairs { HoldsPairs first bytes.now round (turn first round) pairs }
+    requires sent { AreSent first from.now bytes.now (CODERS * round) symbols.old }
     ensures states { HoldsStates first from.now bytes.now (round + 2) (turn first (round + 1)) result }
-    ensures symbols { (p : ℕ) → p < 2 * CODERS
-        → slice_index_or symbols.new (symbol_place (CODERS * round + p)) (pos 0)
-        ≡ symbol_of (level_at first from.now bytes.now (CODERS * round + p)) }
-    ensures before { (i : ℕ) → i < place
-        → slice_index_or symbols.new i (pos 0) ≡ slice_index_or symbols.old i (pos 0) }
+    ensures sent { AreSent first from.now bytes.now (CODERS * (round + 2)) symbols.new }
 {
     let both = two_pairs(lanes, pairs);
     emit(upper(both), place, first, from, bytes, round, symbols);
@@ -144,11 +195,8 @@ fn emit(
     requires round { round < ROUNDS }
     requires place { place ≡ symbol_place (CODERS * round) }
     requires held { HoldsRound first from.now bytes.now round (turn first round) lanes }
-    ensures symbols { (p : ℕ) → p < CODERS
-        → slice_index_or symbols.new (symbol_place (CODERS * round + p)) (pos 0)
-        ≡ symbol_of (level_at first from.now bytes.now (CODERS * round + p)) }
-    ensures before { (i : ℕ) → i < place
-        → slice_index_or symbols.new i (pos 0) ≡ slice_index_or symbols.old i (pos 0) }
+    requires sent { AreSent first from.now bytes.now (CODERS * round) symbols.old }
+    ensures { AreSent first from.now bytes.now (CODERS * (round + 1)) symbols.new }
 {
     store(symbols, place, lanes);
 }
