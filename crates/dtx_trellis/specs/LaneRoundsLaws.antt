@@ -6,7 +6,8 @@ use Rattle.dtx_trellis.specs.Trellis.{AreBits, level_of, next_of, number_of, sta
 use Rattle.dtx_trellis.specs.Pairs.{byte_place, pair_in, coder_at}
 use Rattle.dtx_trellis.specs.Groups.{AreSent, coder_after, level_at, symbol_place}
 use Rattle.dtx_trellis.specs.Lanes.{coder_turned, turn, AreNibbles, HoldsBytes, HoldsPairs, HoldsRound, HoldsStates}
-use Rattle.dtx_trellis.specs.Lanes.{IsMovedOn, behind_both, came_from, lane_behind, lane_level, pair_taken, turned_place}
+use Rattle.dtx_trellis.specs.Lanes.{IsMovedOn, StandsAt, behind_both, came_from, lane_behind, lane_level, pair_taken}
+use Rattle.dtx_trellis.specs.Lanes.{turned_place}
 use Rattle.dtx_trellis.specs.CodersLaws.{coder_is, one_group, pair_0, pair_1, pair_2, pair_3}
 use Rattle.dtx_trellis.specs.RoundsLaws.{IsGroup, coder_next, level_next, coder_bits}
 use Rattle.dtx_trellis.specs.LaneStepsLaws.{level_behind, lower_both, state_behind, state_eq, turned_small, upper_both}
@@ -192,7 +193,8 @@ pub upper_pairs : (s h x : ℕ) (bytes v w : List ℕ) → HoldsBytes s bytes (4
     → AreNibbles w → ((p : ℕ) → p < 16 → get_or w p 0 ≡ get_or v p 0 / 16) → HoldsPairs s bytes (4 * h) x w
 upper_pairs s h x bytes v w held n f = record {
   nibbles = n;
-  first = λ p l. ap (λ y. y / 4) (f p (omega arith)) ∙ high (get_or v p 0) (subst (λ y. y < 16) (f p (omega arith)) (n.small p (omega arith)))
+  first = λ p l. ap (λ y. y / 4) (f p (omega arith))
+      ∙ high (get_or v p 0) (subst (λ y. y < 16) (f p (omega arith)) (n.small p (omega arith)))
       ∙ ap (λ y. y / 64 % 4) (held.at p l) ∙ pair_0 (byte p) (4 * h) (omega arith);
   second = λ p l. ap (λ y. y % 4) (f p (omega arith)) ∙ ap (λ y. y / 16 % 4) (held.at p l)
       ∙ pair_1 (byte p) (4 * h + 1) (omega arith)
@@ -285,6 +287,19 @@ sent_more s r states bytes before symbols h kept given d l = by_cases (cases_lt 
 pub none_sent : (s : ℕ) (states bytes : List ℕ) (symbols : List ℤ) → AreSent s states bytes 0 symbols
 unfolding AreSent
 none_sent s states bytes symbols d l = absurd (omega arith)
+
+-- behind the four rounds of byte h
+pub stands_next : (s h : ℕ) (states bytes lanes : List ℕ) (symbols : List ℤ)
+    → HoldsStates s states bytes (4 * h + 2 + 2) (turn s (4 * h + 2 + 1)) lanes
+    → AreSent s states bytes (12 * (4 * h + 2 + 2)) symbols → StandsAt s states bytes (h + 1) lanes symbols
+stands_next s h states bytes lanes symbols held sent =
+    let e : 4 * h + 2 + 2 ≡ 4 * (h + 1) = omega arith in
+    let f : 4 * h + 2 + 1 ≡ 4 * (h + 1) - 1 = omega arith in
+    record {
+      held = subst (λ t. HoldsStates s states bytes t (turn s (4 * (h + 1) - 1)) lanes) e
+          (subst (λ t. HoldsStates s states bytes (4 * h + 2 + 2) (turn s t) lanes) f held);
+      sent = subst (λ t. AreSent s states bytes (12 * t) symbols) e sent;
+    }
 
 -- the rounds of byte h of each coder, where it stands within segment g and doesn't begin it
 pub inside : (h g k : ℕ) → g < 4 → 17 * g < h → h < 17 * (g + 1) → k < 4

@@ -124,7 +124,8 @@ sent_lanes f g doubled = map (to_z w8) (zip2 f (map g doubled) (replicate 16 7))
 pub long_sent : (f : ℕ → ℕ → ℕ) (g : ℕ → ℕ) (doubled : List ℕ) → length doubled ≡ 16
     → length (sent_lanes f g doubled) ≡ 16
 long_sent f g doubled h =
-    length-map (zip2 f (map g doubled) (replicate 16 7)) (to_z w8) ∙ long_splat f (map g doubled) 7 (length-map doubled g ∙ h)
+    length-map (zip2 f (map g doubled) (replicate 16 7)) (to_z w8)
+    ∙ long_splat f (map g doubled) 7 (length-map doubled g ∙ h)
 
 pub sent_at : (f : ℕ → ℕ → ℕ) (g : ℕ → ℕ) (doubled : List ℕ) (p z : ℕ) → length doubled ≡ 16 → p < 16
     → get_or doubled p 0 ≡ 2 * z → z < 8

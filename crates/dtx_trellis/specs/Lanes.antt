@@ -1,6 +1,7 @@
 -- Twelve coders side by side: lane p is of the coder at place p of a round, where the segment has moved the coders on
 -- by 4 * x. A lane has four bits: what stands behind a pair.
-use Rattle.std.specs.Prelude.{ℕ, ℤ, ◌≡◌, ◌<◌, ◌+◌, ◌-◌, ◌*◌, ◌/◌, ◌%◌, ◌==◌, if◌then◌else◌, ltb, List, length, slice_index}
+use Rattle.std.specs.Prelude.{ℕ, ℤ, ◌≡◌, ◌<◌, ◌+◌, ◌-◌, ◌*◌, ◌/◌, ◌%◌, ◌==◌, if◌then◌else◌, ltb, List, length}
+use Rattle.std.specs.Prelude.{slice_index}
 use Rattle.dtx_sizes.specs.declared.segments.TheConstants.{CODERS, SEGMENT_ROUNDS}
 use Rattle.dtx_trellis.specs.declared.lanes.TheConstants.{LANES}
 use Rattle.dtx_trellis.specs.Trellis.{State, level_of, next_of, number_of, state_of}

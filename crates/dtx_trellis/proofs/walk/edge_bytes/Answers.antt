@@ -1,8 +1,7 @@
 use Rattle.std.proofs.Common.{◌≡◌, ℕ, ◌+◌, ◌-◌, ◌*◌, sym, subst, arith}
-use Rattle.dtx_trellis.specs.Groups.{AreSent}
 use Rattle.dtx_trellis.specs.Lanes.{HoldsBytes, HoldsStates, turn}
 use Rattle.dtx_trellis.specs.LaneRoundsLaws.{first_turn, loaded_bytes, lower_pairs, moved_bytes, moved_states}
-use Rattle.dtx_trellis.specs.LaneRoundsLaws.{round_place, upper_pairs}
+use Rattle.dtx_trellis.specs.LaneRoundsLaws.{round_place, stands_next, upper_pairs}
 use Rattle.dtx_trellis.proofs.walk.edge_bytes.Goals as goal
 
 pub next_place-requires-clause-place : goal.next_place-requires-clause-place
@@ -55,15 +54,5 @@ two_rounds-requires-clause-pairs c =
 
 pub returns : goal.returns
 returns c =
-    let h : ℕ = c.args.byte in
-    let s = c.args.first in
-    let from = c.args.from.now in
-    let bytes = c.args.bytes.now in
-    let lanes = c.two_rounds.result in
-    let e : 4 * c.args.byte + 2 + 2 ≡ 4 * (c.args.byte + 1) = omega arith in
-    let f : 4 * c.args.byte + 2 + 1 ≡ 4 * (c.args.byte + 1) - 1 = omega arith in
-    record {
-      held = subst (λ t. HoldsStates s from bytes t (turn s (4 * (h + 1) - 1)) lanes) e
-          (subst (λ t. HoldsStates s from bytes (4 * h + 2 + 2) (turn s t) lanes) f c.two_rounds.ensures.states);
-      sent = subst (λ t. AreSent s from bytes (12 * t) c.two_rounds.new.symbols) e c.two_rounds.ensures.sent;
-    }
+    stands_next c.args.first c.args.byte c.args.from.now c.args.bytes.now c.two_rounds.result c.two_rounds.new.symbols
+    c.two_rounds.ensures.states c.two_rounds.ensures.sent

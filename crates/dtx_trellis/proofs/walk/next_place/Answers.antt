@@ -31,5 +31,6 @@ returns-then-begins_segment c =
 pub returns-else-begins_segment : goal.returns-else-begins_segment
 unfolding symbol_place
 returns-else-begins_segment c =
-    let e : (c.args.round + 1) % 69 ≢ 0 = not_both c.args.begins_segment c.if-begins_segment.false c.requires.begins.1 in
+    let e : (c.args.round + 1) % 69 ≢ 0 =
+    not_both c.args.begins_segment c.if-begins_segment.false c.requires.begins.1 in
     omega (arith, c.requires.place)

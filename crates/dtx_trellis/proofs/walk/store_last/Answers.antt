@@ -33,7 +33,8 @@ loop-p-preserved c =
           ≡ symbol_of (get_or c.args.doubled k 0 / 2)) p
           (λ k m. get_or-set_other c.loop-p.symbols (a + p) (a + k) (level_symbol z) (pos 0) (omega arith)
           ∙ inv.written k m)
-          (get_or-set_same c.loop-p.symbols (a + p) (level_symbol z) (pos 0) (omega (arith, inv.long, c.requires.place, l))
+          (get_or-set_same c.loop-p.symbols (a + p) (level_symbol z) (pos 0)
+          (omega (arith, inv.long, c.requires.place, l))
           ∙ level_symbol_is z (c.requires.levels p l));
       before = λ i m. get_or-set_other c.loop-p.symbols (a + p) i (level_symbol z) (pos 0) (omega arith)
           ∙ inv.before i m;
