@@ -39,9 +39,8 @@ const ROW: usize = (DELAY + 1) * (BRANCHES - 1) + 1;
 const ROOM: usize = 32_768;
 const CODERS: usize = 12;
 const GROUP_BYTES: usize = 828;
-const GROUP_LEVELS: usize = 3_312;
+const GROUP_SYMBOLS: usize = 3_328;
 const SEGMENT: usize = 832;
-const SEGMENT_LEVELS: usize = 828;
 const SYNC_FRONT: usize = 820;
 const LAST: usize = 12;
 const GROUP_PACKETS: usize = 4;
@@ -116,7 +115,7 @@ impl Interleaver {
     }
 }
 
-// Sixteen lanes of a byte, of which bits 2 to 0 are used.
+// Sixteen lanes of a byte.
 #[cfg(target_arch = "x86_64")]
 mod lane {
     use std::arch::x86_64::*;
@@ -125,7 +124,7 @@ mod lane {
     #[derive(Clone, Copy)]
     pub struct Lane(__m128i);
 
-    // Bits of the lane before or behind come in by a shift, but none at bits 2 and 1.
+    // Bits of the lane before or behind come in by a shift.
     #[allow(unused_unsafe)]
     impl Lane {
         #[inline(always)]
@@ -141,10 +140,6 @@ mod lane {
             Lane(unsafe { _mm_and_si128(self.0, _mm_set1_epi8(byte)) })
         }
         #[inline(always)]
-        pub fn or(self, other: Lane) -> Lane {
-            Lane(unsafe { _mm_or_si128(self.0, other.0) })
-        }
-        #[inline(always)]
         pub fn xor(self, other: Lane) -> Lane {
             Lane(unsafe { _mm_xor_si128(self.0, other.0) })
         }
@@ -152,9 +147,14 @@ mod lane {
         pub fn right<const BITS: i32>(self) -> Lane {
             Lane(unsafe { _mm_srli_epi16::<BITS>(self.0) })
         }
+        // What stands in the table at the number in each lane, below 16.
         #[inline(always)]
-        pub fn twice(self) -> Lane {
-            Lane(unsafe { _mm_add_epi8(self.0, self.0) })
+        pub fn looked_up(self, table: [u8; 16]) -> Lane {
+            Lane(unsafe { _mm_shuffle_epi8(Lane::of(table).0, self.0) })
+        }
+        #[inline(always)]
+        pub fn less_seven(self) -> Lane {
+            Lane(unsafe { _mm_sub_epi8(self.0, _mm_set1_epi8(7)) })
         }
         // The first twelve are those of the places four further on.
         #[inline(always)]
@@ -181,17 +181,17 @@ mod lane {
         pub fn and(self, byte: i8) -> Lane {
             Lane(self.0.map(|lane| lane & byte as u8))
         }
-        pub fn or(self, other: Lane) -> Lane {
-            Lane(from_fn(|p| self.0[p] | other.0[p]))
-        }
         pub fn xor(self, other: Lane) -> Lane {
             Lane(from_fn(|p| self.0[p] ^ other.0[p]))
         }
         pub fn right<const BITS: i32>(self) -> Lane {
             Lane(self.0.map(|lane| lane >> BITS))
         }
-        pub fn twice(self) -> Lane {
-            Lane(self.0.map(|lane| lane << 1))
+        pub fn looked_up(self, table: [u8; 16]) -> Lane {
+            Lane(self.0.map(|lane| table[lane as usize]))
+        }
+        pub fn less_seven(self) -> Lane {
+            Lane(self.0.map(|lane| lane.wrapping_sub(7)))
         }
         pub fn turned(self) -> Lane {
             Lane(from_fn(|p| if p < 12 { self.0[(p + 4) % 12] } else { self.0[p] }))
@@ -201,52 +201,37 @@ mod lane {
 
 use lane::Lane;
 
-#[derive(Clone, Copy)]
-struct Lanes {
-    top: Lane,
-    middle: Lane,
-    low: Lane,
-    bytes: Lane,
-}
+// What two pairs lead to from state 0, what two pairs of zeros lead to from each lane, and twice the level that each lane tells. A
+// lane has X1 of the pair as bit 3 and the state behind it as bits 2 to 0.
+const BEHIND_PAIRS: [u8; 16] =
+    [0x00, 0x0a, 0x04, 0x0e, 0xa1, 0xab, 0xa5, 0xaf, 0x44, 0x4e, 0x40, 0x4a, 0xe5, 0xef, 0xe1, 0xeb];
+const BEHIND_LANES: [u8; 16] =
+    [0x00, 0x21, 0x12, 0x33, 0x44, 0x65, 0x56, 0x77, 0x00, 0x21, 0x12, 0x33, 0x44, 0x65, 0x56, 0x77];
+const DOUBLED: [u8; 16] = [0, 2, 0, 2, 8, 10, 8, 10, 4, 6, 4, 6, 12, 14, 12, 14];
 
-impl Lanes {
+impl Lane {
     #[inline(always)]
-    fn turned_if(self, begins_segment: bool) -> Lanes {
-        if begins_segment {
-            Lanes {
-                top: self.top.turned(),
-                middle: self.middle.turned(),
-                low: self.low.turned(),
-                bytes: self.bytes.turned(),
-            }
+    fn turned_if(self, begins_segment: bool) -> Lane {
+        if begins_segment { self.turned() } else { self }
+    }
+
+    #[inline(always)]
+    fn emit(self, place: usize, symbols: &mut [u8; GROUP_SYMBOLS]) {
+        let sent = self.looked_up(DOUBLED).less_seven().bytes();
+        if place <= GROUP_SYMBOLS - 16 {
+            symbols[place..place + 16].copy_from_slice(&sent);
         } else {
-            self
+            symbols[place..].copy_from_slice(&sent[..CODERS]);
         }
     }
 
     #[inline(always)]
-    fn step(self, pairs: Lane) -> (Lanes, Lane) {
-        let pair = pairs.and(6);
-        let level = pair.xor(self.top).or(self.middle);
-        let after = Lanes {
-            top: level.and(4),
-            middle: pair.right::<1>().xor(self.low).and(1),
-            low: self.middle,
-            bytes: self.bytes,
-        };
-        (after, level)
-    }
-
-    #[inline(always)]
-    fn emit(self, pairs: Lane, round: usize, levels: &mut [u8; GROUP_LEVELS]) -> Lanes {
-        let (after, level) = self.step(pairs);
-        let place = CODERS * round;
-        if round < 275 {
-            levels[place..place + 16].copy_from_slice(&level.bytes());
-        } else {
-            levels[place..].copy_from_slice(&level.bytes()[..CODERS]);
-        }
-        after
+    fn two_rounds(self, pairs: Lane, begins_segment: bool, place: usize, symbols: &mut [u8; GROUP_SYMBOLS]) -> Lane {
+        let both = pairs.looked_up(BEHIND_PAIRS).xor(self.looked_up(BEHIND_LANES));
+        both.right::<4>().and(15).emit(place, symbols);
+        let behind = both.and(15).turned_if(begins_segment);
+        behind.emit(place + CODERS + if begins_segment { 4 } else { 0 }, symbols);
+        behind
     }
 }
 
@@ -255,39 +240,36 @@ struct Trellis {
 }
 
 impl Trellis {
-    fn group(&mut self, first: usize, bytes: &[u8; GROUP_BYTES], levels: &mut [u8; GROUP_LEVELS]) {
-        let (mut top, mut middle, mut low) = ([0; 16], [0; 16], [0; 16]);
-        for p in 0..CODERS {
-            let state = self.states[(p + 4 * (first % 3)) % CODERS];
-            top[p] = state & 4;
-            middle[p] = state / 2 % 2;
-            low[p] = state % 2;
-        }
-        let mut lanes = Lanes {
-            top: Lane::of(top),
-            middle: Lane::of(middle),
-            low: Lane::of(low),
-            bytes: Lane::of([0; 16]),
-        };
-        for byte in 0..69 {
-            let round = 4 * byte;
-            let mut loaded = [0; 16];
-            if byte < 68 {
-                loaded.copy_from_slice(&bytes[CODERS * byte..CODERS * byte + 16]);
-            } else {
-                loaded[..CODERS].copy_from_slice(&bytes[CODERS * byte..]);
+    fn group(&mut self, first: usize, bytes: &[u8; GROUP_BYTES], symbols: &mut [u8; GROUP_SYMBOLS]) {
+        let mut lanes = Lane::of(from_fn(|p| if p < CODERS { self.states[(p + 4 * (first % 3)) % CODERS] } else { 0 }));
+        for segment in 0..GROUP_PACKETS {
+            lanes = Trellis::edge_bytes(lanes, 17 * segment, bytes, symbols);
+            for byte in 17 * segment + 1..17 * (segment + 1) {
+                let loaded = Lane::of(*bytes[CODERS * byte..].first_chunk().unwrap());
+                let place = 4 * CODERS * byte + 4 * (segment + 1);
+                lanes = lanes.two_rounds(loaded.right::<4>().and(15), false, place, symbols);
+                lanes = lanes.two_rounds(loaded.and(15), false, place + 2 * CODERS, symbols);
             }
-            lanes.bytes = Lane::of(loaded);
-            lanes = lanes.emit(lanes.bytes.right::<5>(), round, levels).turned_if(round + 1 == 69);
-            lanes = lanes.emit(lanes.bytes.right::<3>(), round + 1, levels).turned_if(round + 2 == 138);
-            lanes = lanes.emit(lanes.bytes.right::<1>(), round + 2, levels).turned_if(round + 3 == 207);
-            lanes = lanes.emit(lanes.bytes.twice(), round + 3, levels);
         }
-        let (top, middle, low) = (lanes.top.bytes(), lanes.middle.bytes(), lanes.low.bytes());
-        for coder in 0..CODERS {
-            let p = (coder + CODERS - 4 * (first % 3)) % CODERS;
-            self.states[coder] = top[p] + 2 * middle[p] + low[p];
+        let last = Trellis::edge_bytes(lanes, 68, bytes, symbols).bytes();
+        self.states = from_fn(|coder| last[(coder + CODERS - 4 * (first % 3)) % CODERS] % 8);
+    }
+
+    // The four rounds of a byte in which a segment may begin.
+    fn edge_bytes(lanes: Lane, byte: usize, bytes: &[u8; GROUP_BYTES], symbols: &mut [u8; GROUP_SYMBOLS]) -> Lane {
+        let round = 4 * byte;
+        let (second, third, fourth) = (round + 1 == 69, round + 2 == 138, round + 3 == 207);
+        let place = CODERS * round + 4 * (round / 69 + 1);
+        let later = place + 2 * CODERS + if second || third { 4 } else { 0 };
+        let mut loaded = [0; 16];
+        if byte < 68 {
+            loaded.copy_from_slice(&bytes[CODERS * byte..CODERS * byte + 16]);
+        } else {
+            loaded[..CODERS].copy_from_slice(&bytes[CODERS * byte..]);
         }
+        let loaded = Lane::of(loaded);
+        let middle = lanes.two_rounds(loaded.right::<4>().and(15), second, place, symbols).turned_if(third);
+        middle.two_rounds(loaded.turned_if(second || third).and(15), fourth, later, symbols)
     }
 }
 
@@ -337,19 +319,17 @@ impl Group {
         let mut bytes = [0; GROUP_BYTES];
         bytes.copy_from_slice(words.as_flattened());
         self.interleaver.pass(&mut bytes);
-        let mut levels = [0; GROUP_LEVELS];
-        self.coders.group(first, &bytes, &mut levels);
+        let mut sent = [0; GROUP_SYMBOLS];
+        self.coders.group(first, &bytes, &mut sent);
         let (segments, _) = self.symbols.as_chunks_mut::<SEGMENT>();
         let begun = sync as usize;
         if sync {
             segments[0][..SYNC_FRONT].copy_from_slice(&self.front);
             segments[0][SYNC_FRONT..].copy_from_slice(&self.last);
         }
-        for (segment, levels) in segments[begun..].iter_mut().zip(levels.chunks_exact(SEGMENT_LEVELS)) {
+        for (segment, sent) in segments[begun..].iter_mut().zip(sent.chunks_exact(SEGMENT)) {
+            *segment = from_fn(|i| sent[i] as i8);
             segment[..4].copy_from_slice(&[5, -5, -5, 5]);
-            for (symbol, level) in segment[4..].iter_mut().zip(levels) {
-                *symbol = 2 * *level as i8 - 7;
-            }
         }
         self.last = *segments[begun + 3].last_chunk().unwrap();
     }
@@ -484,15 +464,16 @@ fn outer() {
 fn trellis() {
     let mut coders = Trellis { states: [0; CODERS] };
     let mut bytes: [u8; GROUP_BYTES] = from_fn(|i| (i % 251) as u8);
-    let mut levels = [0; GROUP_LEVELS];
+    let mut symbols = [0; GROUP_SYMBOLS];
+    let level = |symbol: u8| symbol.wrapping_add(7) / 2;
     print_least("trellis", "group", FIELD / 4, || {
         for group in 0..FIELD / 4 {
-            coders.group(4 * group, &bytes, &mut levels);
-            for (byte, level) in bytes.iter_mut().zip(&levels[GROUP_LEVELS - CODERS..]) {
-                *byte ^= level;
+            coders.group(4 * group, &bytes, &mut symbols);
+            for (byte, symbol) in bytes.iter_mut().zip(&symbols[GROUP_SYMBOLS - CODERS..]) {
+                *byte ^= level(*symbol);
             }
         }
-        levels[0]
+        level(symbols[4])
     });
 }
 

@@ -4,7 +4,7 @@ use Rattle.std.proofs.Common.{min, true, false, sym, ap, ◌∙◌, subst, refl,
 use Rattle.std.proofs.lemmas.Bool.{lt-ltb}
 use Rattle.std.proofs.lemmas.Int.{ints}
 use Rattle.std.proofs.lemmas.Nat.{div-mul-add}
-use Rattle.dtx_frame.specs.Segments.{symbol_of}
+use Rattle.dtx_trellis.specs.Trellis.{symbol_of}
 use Rattle.dtx_soft.specs.Paths.{symbol_at}
 use Rattle.dtx_acquire.specs.Agreement.{is_plus}
 use Rattle.dtx_acquire.specs.Scaled.{decided, scaled_level}

@@ -3,7 +3,8 @@ use Rattle.std.proofs.Common.{◌≡◌, ℕ, ℤ, pos, ◌+◌, ◌-◌, ◌<�
 use Rattle.std.proofs.Common.{map, take, drop, get_or, sym, ap, ap₂, ◌∙◌, subst, arith}
 use Rattle.std.proofs.lemmas.List.{ext_get_or, get_or-append_right, get_or-drop, get_or-map, get_or-take, length-append}
 use Rattle.std.proofs.lemmas.List.{length-drop, length-map, length-take-le}
-use Rattle.dtx_frame.specs.Segments.{data_segment, field_sync, segment_sync, symbol_of}
+use Rattle.dtx_trellis.specs.Trellis.{symbol_of}
+use Rattle.dtx_frame.specs.Segments.{data_segment, field_sync, segment_sync}
 use Rattle.dtx_frame.specs.SymbolsLaws as symbols
 use Rattle.dtx_acquire.specs.Acquired.{restored_data, restored_sync}
 use Rattle.dtx_acquire.specs.Scaled.{decided}

@@ -6,7 +6,8 @@ use Rattle.std.proofs.lemmas.Bool.{le-leb}
 use Rattle.std.proofs.lemmas.List.{get_or-append_right, get_or-drop, get_or-map, get_or-replicate, get_or-take}
 use Rattle.std.proofs.lemmas.List.{get_or_append_left, length-append, length-drop, length-map, length-take-le}
 use Rattle.dtx_frame.specs.CountsLaws.{sum_is, total_ones, total_zeros}
-use Rattle.dtx_frame.specs.Segments.{bit_symbol, field_sync, segment_sync, symbol_of, sync_symbols}
+use Rattle.dtx_trellis.specs.Trellis.{symbol_of}
+use Rattle.dtx_frame.specs.Segments.{bit_symbol, field_sync, segment_sync, sync_symbols}
 use Rattle.dtx_frame.specs.Sequences.{extended, pn511, pn63}
 use Rattle.dtx_frame.specs.SymbolsLaws.{length_front}
 use Rattle.dtx_acquire.specs.Agreement.{agrees, are_unlike, is_plus, is_second, sync_sign, unlike, unlike_at}

@@ -2,7 +2,7 @@
 -- the profile's own).
 use Rattle.std.specs.Prelude.{◌≡◌, ℕ, ℤ, pos, negsuc, ◌+◌, ◌-◌, ◌*◌, ◌/◌, ◌<◌, min}
 use Rattle.std.proofs.Common.{suc}
-use Rattle.dtx_frame.specs.Segments.{symbol_of}
+use Rattle.dtx_trellis.specs.Trellis.{symbol_of}
 
 -- The level of a symbol v is (v + 8 * scale) div (2 * scale), rounded down, or 0 or 7 where that lies outside.
 unfoldable pub scaled_level : ℕ → ℤ → ℕ

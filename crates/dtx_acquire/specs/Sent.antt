@@ -2,7 +2,8 @@
 -- trellis coding).
 use Rattle.std.specs.Prelude.{ℕ, ℤ, pos, ◌≡◌, ◌≢◌, ◌+◌, ◌*◌, ◌%◌, ◌<◌, ◌-ℤ◌, ◌*ℤ◌, nat_abs, Bool, List, [], length, map}
 use Rattle.std.specs.Prelude.{take, drop, slice_index, slice_index_or}
-use Rattle.dtx_frame.specs.Segments.{data_segment, field_sync, symbol_of}
+use Rattle.dtx_trellis.specs.Trellis.{symbol_of}
+use Rattle.dtx_frame.specs.Segments.{data_segment, field_sync}
 use Rattle.dtx_soft.specs.Coders.{coder_symbols}
 use Rattle.dtx_soft.specs.Softened.{IsOwn}
 use Rattle.dtx_acquire.specs.Acquired.{in_groups}

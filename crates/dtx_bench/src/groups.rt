@@ -1,7 +1,7 @@
 //! How long the trellis coders take.
 
 use crate::times::{Work, print_least};
-use dtx_sizes::{CODERS, FIELD_PACKETS, GROUP_BYTES, GROUP_LEVELS};
+use dtx_sizes::{CODERS, FIELD_PACKETS, GROUP_BYTES, GROUP_SYMBOLS, SEGMENT_SYNC};
 use dtx_trellis::Twelve;
 use std::io;
 use std::rt::Clock;
@@ -13,19 +13,24 @@ const GROUPS: u16 = FIELD_PACKETS / 4;
 struct Groups {
     coders: Twelve,
     bytes: [u8; GROUP_BYTES],
-    levels: [u8; GROUP_LEVELS],
+    symbols: [i8; GROUP_SYMBOLS],
 }
 
 impl Work for Groups {
     fn round(&mut self) -> u8 {
         for group in 0..GROUPS {
-            self.coders.group(4 * group, &self.bytes, &mut self.levels);
+            self.coders.group(4 * group, &self.bytes, &mut self.symbols);
             for i in 0..CODERS {
-                self.bytes[i] ^= self.levels[GROUP_LEVELS - CODERS + i];
+                self.bytes[i] ^= level(self.symbols[GROUP_SYMBOLS - CODERS + i]);
             }
         }
-        self.levels[0]
+        level(self.symbols[SEGMENT_SYNC])
     }
+}
+
+/// The level of a symbol.
+fn level(symbol: i8) -> u8 {
+    symbol.cast_unsigned().wrapping_add(7) / 2
 }
 
 pub fn print_trellis_times(rt: &(impl Clock + Print)) -> io::Result<()> {
@@ -36,7 +41,7 @@ pub fn print_trellis_times(rt: &(impl Clock + Print)) -> io::Result<()> {
     let mut work = Groups {
         coders: Twelve::new(),
         bytes,
-        levels: [0; GROUP_LEVELS],
+        symbols: [0; GROUP_SYMBOLS],
     };
     print_least(rt, "trellis", "group", u32::from(GROUPS), &mut work)
 }

@@ -2,10 +2,12 @@
 
 ghost use Rattle.std.specs.Prelude.{◌≡◌, ◌%◌, ◌<◌};
 
-use dtx_sizes::{CODERS, FIELD_PACKETS, GROUP_BYTES, GROUP_LEVELS};
+use dtx_sizes::{
+    CODERS, FIELD_PACKETS, GROUP_BYTES, GROUP_LEVELS, GROUP_SYMBOLS, SEGMENT_LEVELS, SEGMENT_SYNC,
+};
 use dtx_trellis::{States, Twelve};
 
-/// The coders, of which one is in a state of its own, and what they give for one byte that isn't 0.
+/// The coders, of which one is in a state of its own, and the levels that they give for one byte that isn't 0.
 fn coded(
     first: u16,
     coder: usize,
@@ -25,9 +27,19 @@ fn coded(
     coders.set(States(states));
     let mut bytes = [0; GROUP_BYTES];
     bytes[byte] = value;
+    let mut symbols = [0; GROUP_SYMBOLS];
+    coders.group(first, &bytes, &mut symbols);
+    (coders, sent(&symbols))
+}
+
+/// The levels of a group's data symbols.
+fn sent(symbols: &[i8; GROUP_SYMBOLS]) -> [u8; GROUP_LEVELS] {
     let mut levels = [0; GROUP_LEVELS];
-    coders.group(first, &bytes, &mut levels);
-    (coders, levels)
+    for d in 0..GROUP_LEVELS {
+        let place = d + SEGMENT_SYNC * (d / SEGMENT_LEVELS + 1);
+        levels[d] = symbols[place].cast_unsigned().wrapping_add(7) / 2;
+    }
+    levels
 }
 
 /// Where the first symbol of a set lower bit stands.

@@ -4,7 +4,8 @@ use Rattle.dtx_lists.proofs.Range.{map-range_same}
 use Rattle.dtx_lists.proofs.RangeMoved.{map-range_moved}
 use Rattle.dtx_coder.specs.SlicesLaws.{piece-front, piece-back}
 use Rattle.std.proofs.lemmas.List.{length-append, length-drop, length-map, length-take-le}
-use Rattle.dtx_frame.specs.Segments.{data_segment, segment_sync, symbol_of}
+use Rattle.dtx_trellis.specs.Trellis.{symbol_of}
+use Rattle.dtx_frame.specs.Segments.{data_segment, segment_sync}
 use Rattle.dtx_frame.specs.SymbolsLaws.{length_sync}
 use Rattle.dtx_coder.specs.Stream.{segment, four_segments}
 

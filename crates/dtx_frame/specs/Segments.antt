@@ -1,6 +1,6 @@
 -- Segments of 832 symbols (ATSC A/53 Part 2, data segment sync and data field sync).
-use Rattle.std.specs.Prelude.{ℕ, ℤ, pos, negsuc, ◌-ℤ◌, ◌*◌, ◌-◌, ◌==◌, Bool, if◌then◌else◌, List, [], ◌∷◌, ◌++◌, map}
-use Rattle.std.specs.Prelude.{take}
+use Rattle.std.specs.Prelude.{ℕ, ℤ, pos, negsuc, ◌-◌, ◌==◌, Bool, if◌then◌else◌, List, [], ◌∷◌, ◌++◌, map, take}
+use Rattle.dtx_trellis.specs.Trellis.{symbol_of}
 use Rattle.dtx_frame.specs.Sequences.{pn511, pn63}
 
 -- a bit in a sync: 1 is +5 and 0 is -5
@@ -10,10 +10,6 @@ bit_symbol b = if b == 1 then pos 5 else negsuc 4
 -- the four symbols in front of each segment
 unfoldable pub segment_sync : List ℤ
 segment_sync = map bit_symbol (1 ∷ 0 ∷ 0 ∷ 1 ∷ [])
-
--- a level's symbol: twice the level less 7
-unfoldable pub symbol_of : ℕ → ℤ
-symbol_of z = pos (2 * z) -ℤ pos 7
 
 unfoldable pub data_segment : List ℕ → List ℤ
 data_segment levels = segment_sync ++ map symbol_of levels

@@ -6,7 +6,8 @@ use Rattle.std.proofs.lemmas.Bool.{eqb-true}
 use Rattle.std.proofs.lemmas.List.{drop-map, ext_get_or, get_or-map, length-map, get_or-append_right}
 use Rattle.dtx_lists.proofs.Below.{holds_below, at_below}
 use Rattle.dtx_slice.specs.Slicing.{sliced, sliced_data, sliced_last}
-use Rattle.dtx_frame.specs.Segments.{data_segment, field_sync, segment_sync, symbol_of, sync_symbols}
+use Rattle.dtx_trellis.specs.Trellis.{symbol_of}
+use Rattle.dtx_frame.specs.Segments.{data_segment, field_sync, segment_sync, sync_symbols}
 use Rattle.dtx_frame.specs.SymbolsLaws.{length_front, length_sync}
 
 symbols_test : holds_below (λ z. sliced (symbol_of z) == z) 8 ≡ true

@@ -3,7 +3,8 @@ use Rattle.std.proofs.Common.{◌≡◌, ℕ, zero, suc, ◌<◌, ℤ, pos, ◌*
 use Rattle.std.proofs.Common.{arith, to_z, of_z, w8}
 use Rattle.dtx_frame.specs.declared.tables.TheConstants.{FIRST, IN_FRONT, SECOND}
 use Rattle.dtx_frame.specs.Sequences.{extended, pn511, pn63}
-use Rattle.dtx_frame.specs.Segments.{bit_symbol, segment_sync, symbol_of, sync_symbols}
+use Rattle.dtx_trellis.specs.Trellis.{symbol_of}
+use Rattle.dtx_frame.specs.Segments.{bit_symbol, segment_sync, sync_symbols}
 
 pub first_is : FIRST ≡ sync_symbols false
 unfolding sync_symbols segment_sync bit_symbol pn511 pn63 extended

@@ -6,7 +6,8 @@ use Rattle.std.proofs.lemmas.Bool.{cases_eq, cond-false, cond-true, eq-eqb, ne_e
 use Rattle.std.proofs.lemmas.List.{length-append, length-map, take_all}
 use Rattle.dtx_frame.specs.AlikeLaws.{looks_alike}
 use Rattle.dtx_frame.specs.Detection.{looks_like}
-use Rattle.dtx_frame.specs.Segments.{bit_symbol, data_segment, field_sync, segment_sync, symbol_of, sync_symbols}
+use Rattle.dtx_trellis.specs.Trellis.{symbol_of}
+use Rattle.dtx_frame.specs.Segments.{bit_symbol, data_segment, field_sync, segment_sync, sync_symbols}
 use Rattle.dtx_frame.specs.SymbolsLaws as lengths
 use Rattle.dtx_coder.specs.CountsLaws.{AreSegments}
 use Rattle.dtx_files.specs.Symbols.{segment_bytes}

@@ -7,7 +7,8 @@ use Rattle.std.proofs.lemmas.Bool.{cond-false, ltb-true, ne_eqb}
 use Rattle.std.proofs.lemmas.List.{drop-map, get_or-drop, get_or-take, length-drop, length-take, length-take-le}
 use Rattle.std.proofs.lemmas.List.{take-take}
 use Rattle.dtx_lists.proofs.Below.{at_below, holds_below}
-use Rattle.dtx_frame.specs.Segments.{data_segment, field_sync, segment_sync, symbol_of}
+use Rattle.dtx_trellis.specs.Trellis.{symbol_of}
+use Rattle.dtx_frame.specs.Segments.{data_segment, field_sync, segment_sync}
 use Rattle.dtx_frame.specs.SymbolsLaws.{length_sync}
 use Rattle.dtx_coder.specs.CountsLaws.{length-a53}
 use Rattle.dtx_coder.specs.LevelsLaws.{length-levels}

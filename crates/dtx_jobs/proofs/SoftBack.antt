@@ -4,7 +4,7 @@ use Rattle.std.proofs.Common.{Option, Some, None, List, [], ◌∷◌, length, m
 use Rattle.std.proofs.Common.{arith}
 use Rattle.std.proofs.lemmas.List.Elements.{All-get_or}
 use Rattle.dtx_coder.specs.CountsLaws.{AreSegments, segments_map}
-use Rattle.dtx_frame.specs.Segments.{symbol_of}
+use Rattle.dtx_trellis.specs.Trellis.{symbol_of}
 use Rattle.dtx_files.specs.Symbols.{segment_bytes}
 use Rattle.dtx_trellis.specs.Pairs.{coder_at}
 use Rattle.dtx_soft.specs.Coders.{coder_symbols}

@@ -7,7 +7,7 @@ use Rattle.std.proofs.lemmas.Simd.{map-map}
 use Rattle.std.proofs.lemmas.List.{get_or-append_right, get_or-drop, get_or-map, get_or-take, length-drop}
 use Rattle.std.proofs.lemmas.List.{length-take-le}
 use Rattle.std.proofs.lemmas.List.FromFn.{fill_by_all, get_or-map-range_with_len, length-map-range_with_len}
-use Rattle.dtx_trellis.specs.Trellis.{AreBits, State, level, state_after, state_of}
+use Rattle.dtx_trellis.specs.Trellis.{AreBits, State, level, state_after, state_of, symbol_of}
 use Rattle.dtx_trellis.specs.Pairs.{groups, higher, lower}
 use Rattle.dtx_trellis.specs.Groups.{level_at, levels_of}
 use Rattle.dtx_trellis.specs.CodersLaws.{length_higher, length_lower}
@@ -16,7 +16,7 @@ use Rattle.dtx_trellis.specs.JoinsLaws.{groups_whole}
 use Rattle.dtx_trellis.specs.RoundsLaws.{bits_of}
 use Rattle.dtx_slice.specs.InverseLaws.{lower_bit, place_coder, place_round, place_within}
 use Rattle.dtx_slice.specs.Unrolled.{symbol_place}
-use Rattle.dtx_frame.specs.Segments.{data_segment, segment_sync, symbol_of}
+use Rattle.dtx_frame.specs.Segments.{data_segment, segment_sync}
 use Rattle.dtx_frame.specs.SymbolsLaws.{length_sync}
 use Rattle.dtx_coder.specs.BytesLaws.{length-whole}
 use Rattle.dtx_coder.specs.Coded.{whole_groups}

@@ -5,7 +5,8 @@ use Rattle.std.proofs.Common.{cond, List, [], ◌∷◌, ◌++◌, length, map, 
 use Rattle.std.specs.Prelude.{nat_le}
 use Rattle.std.specs.List.{range_with_len, AllByRecursion}
 use Rattle.std.proofs.lemmas.List.{length-map}
-use Rattle.dtx_frame.specs.Segments.{bit_symbol, segment_sync, symbol_of, data_segment, inverted, mode_bits}
+use Rattle.dtx_trellis.specs.Trellis.{symbol_of}
+use Rattle.dtx_frame.specs.Segments.{bit_symbol, segment_sync, data_segment, inverted, mode_bits}
 use Rattle.dtx_frame.specs.Segments.{reserved_bits, sync_symbols, field_sync}
 use Rattle.dtx_frame.specs.Sequences.{pn511, pn63}
 use Rattle.dtx_frame.specs.RuleLaws.{level_at_small}

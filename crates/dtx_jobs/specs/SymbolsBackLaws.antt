@@ -7,7 +7,7 @@ use Rattle.std.proofs.lemmas.List.{drop-drop, length-append, length-map, map-app
 use Rattle.std.proofs.Math.Seq.{take-append_seam, drop-append_seam}
 use Rattle.dtx_coder.specs.Stream.{symbols_of}
 use Rattle.dtx_coder.specs.CountsLaws.{AreSegments}
-use Rattle.dtx_frame.specs.Segments.{symbol_of}
+use Rattle.dtx_trellis.specs.Trellis.{symbol_of}
 use Rattle.dtx_files.specs.Symbols.{byte_of_symbol, segment_bytes}
 use Rattle.dtx_jobs.specs.SymbolFile.{file_segments, segments_from, symbol_of_byte, symbols, whole_segments}
 

@@ -9,8 +9,8 @@ use crate::limits::{
 };
 use crate::packets::{PACKET, PACKET_DATA};
 use crate::segments::{
-    CODER_BYTES, CODERS, GROUP_BYTES, GROUP_LEVELS, PRECODE, ROUNDS, SEGMENT, SEGMENT_LEVELS,
-    SEGMENT_ROUNDS, SEGMENT_SYNC,
+    CODER_BYTES, CODERS, GROUP_BYTES, GROUP_LEVELS, GROUP_SYMBOLS, PRECODE, ROUNDS, SEGMENT,
+    SEGMENT_LEVELS, SEGMENT_ROUNDS, SEGMENT_SYNC,
 };
 
 /// Packets and codewords.
@@ -36,6 +36,7 @@ pub fn symbols()
     ensures bytes { GROUP_BYTES ≡ GROUP_PACKETS * CODEWORD }
     ensures coder_bytes { GROUP_BYTES ≡ CODERS * CODER_BYTES }
     ensures levels { GROUP_LEVELS ≡ GROUP_PACKETS * SEGMENT_LEVELS }
+    ensures group_symbols { GROUP_SYMBOLS ≡ GROUP_PACKETS * SEGMENT }
 {}
 
 /// Fields and frames.

@@ -29,3 +29,6 @@ pub const CODER_BYTES: usize = 69;
 
 /// How many data symbols a group has.
 pub const GROUP_LEVELS: usize = 3312;
+
+/// How many symbols the data segments of a group have, syncs included.
+pub const GROUP_SYMBOLS: usize = 3328;

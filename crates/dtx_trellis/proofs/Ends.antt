@@ -1,19 +1,59 @@
 -- A group's end: from facts at each place to whole lists.
-use Rattle.std.proofs.Common.{◌≡◌, ℕ, ◌*◌, ◌/◌, ◌%◌, ◌<◌, List, map, length, get_or, sym, ap, ◌∙◌, subst, arith}
+use Rattle.std.proofs.Common.{◌≡◌, ℕ, ◌+◌, ◌*◌, ◌/◌, ◌<◌, ℤ, pos, List, map, take, drop, length, length-drop}
+use Rattle.std.proofs.Common.{get_or, sym, ap, ◌∙◌, subst, arith}
 use Rattle.std.specs.List.{range_with_len}
-use Rattle.std.proofs.lemmas.List.FromFn.{fill_by_all}
-use Rattle.dtx_trellis.specs.Trellis.{AreBits, State, level, state_of, number_of, z0, z2}
-use Rattle.dtx_trellis.specs.Pairs.{pair_at, coder_at, higher, lower}
-use Rattle.dtx_trellis.specs.Groups.{level_at, levels_of, coder_after, states_after}
-use Rattle.dtx_trellis.specs.CodersLaws.{one_group, lower_at}
+use Rattle.std.proofs.lemmas.List.{ext_get_or, get_or-drop, get_or-map, get_or-take, length-map, length-take-le}
+use Rattle.std.proofs.lemmas.List.FromFn.{fill_by_all, get_or-map-range_with_len, length-map-range_with_len}
+use Rattle.dtx_trellis.specs.Trellis.{AreBits, State, number_of, symbol_of}
+use Rattle.dtx_trellis.specs.Pairs.{groups}
+use Rattle.dtx_trellis.specs.Groups.{AreSent, level_at, levels_of, coder_after, states_after, symbol_place}
+use Rattle.dtx_trellis.specs.CodersLaws.{one_group}
 use Rattle.dtx_trellis.specs.RoundsLaws.{coder_bits}
 
-pub levels_end : (s : ℕ) (states bytes levels : List ℕ) → length bytes ≡ 828 → length levels ≡ 3312
-    → ((d : ℕ) → d < 3312 → get_or levels d 0 ≡ level_at s states bytes d) → levels ≡ levels_of s states bytes
+level_in : (s d : ℕ) (states bytes : List ℕ) → length bytes ≡ 828 → d < 3312
+    → get_or (levels_of s states bytes) d 0 ≡ level_at s states bytes d
 unfolding levels_of
-levels_end s states bytes levels h l f =
-    fill_by_all (level_at s states bytes) levels 3312 0 l f
-    ∙ ap (λ n. map (level_at s states bytes) (range_with_len 0 (3312 * n))) (sym (one_group bytes h))
+level_in s d states bytes h l =
+    get_or-map-range_with_len (level_at s states bytes) 0 (3312 * groups bytes) d d 0 (omega (arith, one_group bytes h))
+    (omega arith)
+
+long_levels : (s : ℕ) (states bytes : List ℕ) → length bytes ≡ 828 → length (levels_of s states bytes) ≡ 3312
+unfolding levels_of
+long_levels s states bytes h =
+    length-map-range_with_len (level_at s states bytes) 0 (3312 * groups bytes)
+    ∙ ap (λ n. 3312 * n) (one_group bytes h)
+
+-- each symbol at its place: segment by segment
+pub symbols_end : (s : ℕ) (states bytes : List ℕ) (symbols : List ℤ) → length bytes ≡ 828 → length symbols ≡ 3328
+    → AreSent s states bytes 3312 symbols → (k : ℕ) → k < 4
+    → take 828 (drop (832 * k + 4) symbols) ≡ map symbol_of (take 828 (drop (828 * k) (levels_of s states bytes)))
+unfolding AreSent symbol_place
+symbols_end s states bytes symbols h l f k m =
+    segment (levels_of s states bytes) (long_levels s states bytes h)
+    (λ d n. level_in s d states bytes h n)
+  where
+    long : length (take 828 (drop (832 * k + 4) symbols)) ≡ 828
+    long = length-take-le 828 (drop (832 * k + 4) symbols) (omega (arith, length-drop (832 * k + 4) symbols))
+
+    place : (i : ℕ) → i < 828 → 832 * k + 4 + i ≡ 828 * k + i + 4 * ((828 * k + i) / 828 + 1)
+    place i n = omega arith
+
+    segment : (levels : List ℕ) → length levels ≡ 3312
+        → ((d : ℕ) → d < 3312 → get_or levels d 0 ≡ level_at s states bytes d)
+        → take 828 (drop (832 * k + 4) symbols) ≡ map symbol_of (take 828 (drop (828 * k) levels))
+    segment levels e g =
+        let piece : List ℕ = take 828 (drop (828 * k) levels) in
+        let other : length (take 828 (drop (828 * k) levels)) ≡ 828 =
+        length-take-le 828 (drop (828 * k) levels) (omega (arith, length-drop (828 * k) levels)) in
+        ext_get_or (pos 0) (take 828 (drop (832 * k + 4) symbols)) (map symbol_of piece)
+        (long ∙ sym (length-map piece symbol_of ∙ other))
+        (λ i n.
+        let j : i < 828 = omega (arith, long) in
+        get_or-take 828 (drop (832 * k + 4) symbols) i (pos 0) j ∙ get_or-drop (832 * k + 4) symbols i (pos 0)
+        ∙ ap (λ p. get_or symbols p (pos 0)) (place i j) ∙ f (828 * k + i) (omega arith)
+        ∙ ap symbol_of (sym (get_or-take 828 (drop (828 * k) levels) i 0 j ∙ get_or-drop (828 * k) levels i 0
+        ∙ g (828 * k + i) (omega arith)))
+        ∙ sym (get_or-map symbol_of piece i 0 (pos 0) (omega (arith, other))))
 
 pub states_end : (s : ℕ) (states bytes new : List ℕ) → length bytes ≡ 828 → length new ≡ 12
     → ((e : ℕ) → e < 12 → get_or new e 0 ≡ number_of (coder_after s states bytes 276 e))
@@ -32,18 +72,3 @@ pub state_small : (s e : ℕ) (states bytes : List ℕ) (n : ℕ) → length byt
 state_small s e states bytes n h f =
     subst (λ x. x < 8) (sym f) (number_small (coder_after s states bytes 276 e)
     (coder_bits s e 276 states bytes (omega (arith, one_group bytes h))))
-
-level_below : (q : State) (a b : List ℕ) (t : ℕ) → get_or b t 0 < 2 → level q a b t < 8
-unfolding level z2 z0
-level_below q a b t h = omega arith
-
-pub level_small : (s d : ℕ) (states bytes : List ℕ) (n : ℕ) → length bytes ≡ 828 → d < 3312
-    → n ≡ level_at s states bytes d → n < 8
-unfolding level_at
-level_small s d states bytes n h l f = subst (λ x. x < 8) (sym f) (of (coder_at s d))
-  where
-    of : (e : ℕ) → level (state_of (get_or states e 0)) (higher s bytes e) (lower s bytes e) (d / 12) < 8
-    of e =
-        let bit : get_or (lower s bytes e) (d / 12) 0 ≡ pair_at s bytes e (d / 12) % 2 =
-        lower_at s e (d / 12) bytes (omega (arith, one_group bytes h)) in
-        level_below (state_of (get_or states e 0)) (higher s bytes e) (lower s bytes e) (d / 12) (omega arith)

@@ -1,10 +1,12 @@
 -- Twelve coders side by side: lane p is of the coder at place p of a round, where the segment has moved the coders on
--- by 4 * x.
-use Rattle.std.specs.Prelude.{ℕ, ◌≡◌, ◌<◌, ◌+◌, ◌*◌, ◌/◌, ◌%◌, List, length, slice_index}
+-- by 4 * x. A lane has four bits: what stands behind a pair.
+use Rattle.std.specs.Prelude.{ℕ, ℤ, ◌≡◌, ◌<◌, ◌+◌, ◌-◌, ◌*◌, ◌/◌, ◌%◌, ◌==◌, if◌then◌else◌, ltb, List, length}
+use Rattle.std.specs.Prelude.{slice_index}
 use Rattle.dtx_sizes.specs.declared.segments.TheConstants.{CODERS, SEGMENT_ROUNDS}
 use Rattle.dtx_trellis.specs.declared.lanes.TheConstants.{LANES}
+use Rattle.dtx_trellis.specs.Trellis.{State, level_of, next_of, number_of, state_of}
 use Rattle.dtx_trellis.specs.Pairs.{byte_place, pair_in}
-use Rattle.dtx_trellis.specs.Groups.{coder_after}
+use Rattle.dtx_trellis.specs.Groups.{AreSent, coder_after}
 
 -- the coder at place p
 unfoldable pub coder_turned : ℕ → ℕ → ℕ
@@ -14,19 +16,66 @@ coder_turned x p = (p + 4 * x) % CODERS
 unfoldable pub turn : ℕ → ℕ → ℕ
 turn s r = (s + r / SEGMENT_ROUNDS) % 3
 
--- the states after t pairs: q2 as 4 or 0, q1 and q0, in sixteen lanes of which twelve count
-pub record HoldsStates (s : ℕ) (states bytes : List ℕ) (t x : ℕ) (top middle low : List ℕ) : Type 0 where
-  pub lanes : (length top ≡ LANES) × (length middle ≡ LANES) × (length low ≡ LANES)
-  pub q2 : (p : ℕ) → p < CODERS → slice_index top p ≡ 4 * (coder_after s states bytes t (coder_turned x p)).q2
-  pub q1 : (p : ℕ) → p < CODERS → slice_index middle p ≡ (coder_after s states bytes t (coder_turned x p)).q1
-  pub q0 : (p : ℕ) → p < CODERS → slice_index low p ≡ (coder_after s states bytes t (coder_turned x p)).q0
+-- sixteen lanes of four bits
+pub record AreNibbles (lanes : List ℕ) : Type 0 where
+  pub long : length lanes ≡ LANES
+  pub small : (p : ℕ) → p < LANES → slice_index lanes p < 16
+
+-- the lane of a coder behind a pair: bit 3 is the pair's X1, and bits 2 to 0 are the number of the new state
+unfoldable pub lane_behind : State → ℕ → ℕ
+lane_behind q pair = 8 * (pair % 2) + number_of (next_of q (pair / 2) (pair % 2))
+
+-- the level that the coder gave for that pair, 4 Z2 + 2 Z1 + Z0: Z2 is the new q2, Z1 is X1, and Z0 is the new q0
+unfoldable pub lane_level : ℕ → ℕ
+lane_level n = 4 * (n / 4 % 2) + 2 * (n / 8 % 2) + n % 2
+
+-- from lane k behind the first and behind the second of two pairs, the bits of n
+unfoldable pub behind_both : ℕ → ℕ → ℕ
+behind_both k n =
+    let first : ℕ = lane_behind (state_of k) (n / 4) in
+    16 * first + lane_behind (state_of first) (n % 4)
+
+-- the pair that coder e takes in round r
+abbrev pub pair_taken : ℕ → List ℕ → ℕ → ℕ → ℕ
+pair_taken s bytes r e = pair_in (slice_index bytes (byte_place s r e)) r
+
+-- the states after t pairs
+pub record HoldsStates (s : ℕ) (states bytes : List ℕ) (t x : ℕ) (lanes : List ℕ) : Type 0 where
+  pub nibbles : AreNibbles lanes
+  pub at : (p : ℕ) → p < CODERS → state_of (slice_index lanes p) ≡ coder_after s states bytes t (coder_turned x p)
+
+-- the states behind round r, and the levels given in it
+pub record HoldsRound (s : ℕ) (states bytes : List ℕ) (r x : ℕ) (lanes : List ℕ) : Type 0 where
+  pub behind : HoldsStates s states bytes (r + 1) x lanes
+  pub levels : (p : ℕ) → p < CODERS → lane_level (slice_index lanes p)
+      ≡ level_of (coder_after s states bytes r (coder_turned x p)) (pair_taken s bytes r (coder_turned x p) / 2)
+      (pair_taken s bytes r (coder_turned x p) % 2)
+
+-- before byte h of each coder: the states, and the symbols that are sent
+pub record StandsAt (s : ℕ) (states bytes : List ℕ) (h : ℕ) (lanes : List ℕ) (symbols : List ℤ) : Type 0 where
+  pub held : HoldsStates s states bytes (4 * h) (turn s (4 * h - 1)) lanes
+  pub sent : AreSent s states bytes (CODERS * (4 * h)) symbols
 
 -- the bytes on which the coders work in round r
 pub record HoldsBytes (s : ℕ) (bytes : List ℕ) (r x : ℕ) (lanes : List ℕ) : Type 0 where
   pub long : length lanes ≡ LANES
   pub at : (p : ℕ) → p < CODERS → slice_index lanes p ≡ slice_index bytes (byte_place s r (coder_turned x p))
 
--- the pairs of round r, as bits 2 and 1
-unfoldable pub HoldsPairs : ℕ → List ℕ → ℕ → ℕ → List ℕ → Type 0
-HoldsPairs s bytes r x lanes = (p : ℕ) → p < CODERS
-    → slice_index lanes p / 2 % 4 ≡ pair_in (slice_index bytes (byte_place s r (coder_turned x p))) r
+-- the pairs of rounds r and r + 1, as bits 3 and 2 and bits 1 and 0
+pub record HoldsPairs (s : ℕ) (bytes : List ℕ) (r x : ℕ) (lanes : List ℕ) : Type 0 where
+  pub nibbles : AreNibbles lanes
+  pub first : (p : ℕ) → p < CODERS → slice_index lanes p / 4 ≡ pair_taken s bytes r (coder_turned x p)
+  pub second : (p : ℕ) → p < CODERS → slice_index lanes p % 4 ≡ pair_taken s bytes (r + 1) (coder_turned x p)
+
+-- the place four further on
+abbrev pub turned_place : ℕ → ℕ
+turned_place p = if ltb p CODERS then (p + 4) % CODERS else p
+
+-- the place from which place p has its coder: where round r begins a segment, coders move on by four places
+abbrev pub came_from : ℕ → ℕ → ℕ
+came_from r p = if r % SEGMENT_ROUNDS == 0 then turned_place p else p
+
+-- the lanes of round r, from those of the round before it
+pub record IsMovedOn (r : ℕ) (before lanes : List ℕ) : Type 0 where
+  pub long : length lanes ≡ LANES
+  pub at : (p : ℕ) → p < LANES → slice_index lanes p ≡ slice_index before (came_from r p)

@@ -1,5 +1,5 @@
 -- Vectors that are read from a list and written to one.
-use Rattle.std.proofs.Common.{◌≡◌, ℕ, ◌+◌, ◌-◌, ◌*◌, ◌<◌, ◌==◌, true, List, [], ◌∷◌, ◌++◌, map, take, drop, length}
+use Rattle.std.proofs.Common.{◌≡◌, ℕ, ◌+◌, ◌-◌, ◌<◌, ◌≤◌, ◌==◌, true, List, [], ◌∷◌, ◌++◌, map, take, drop, length}
 use Rattle.std.proofs.Common.{length-drop, get_or, refl, ap, ◌∙◌, arith}
 use Rattle.std.proofs.lemmas.Bool.{eqb-true}
 use Rattle.std.proofs.lemmas.List.{get_or-map, get_or_append_left, get_or-append_right, length-take-le, get_or-drop}
@@ -8,24 +8,24 @@ use Rattle.std.proofs.lemmas.Simd.{get_or-put_chunk_at, length-put_chunk, get_or
 use lib.Lanes.{put_chunk, chunk}
 use Rattle.dtx_lists.proofs.Below.{holds_below, at_below}
 
--- the first twelve of sixteen lanes that are written from place 12 * r on
-pub stored : (r p : ℕ) (levels lanes : List ℕ) → length levels ≡ 3312 → length lanes ≡ 16 → r < 275 → p < 12
-    → get_or (take (12 * r) levels ++ (put_chunk 0 (take (3312 - 12 * r) (drop (12 * r) levels)) lanes
-    ++ drop (3312 - 12 * r) (drop (12 * r) levels))) (12 * r + p) 0 ≡ get_or lanes p 0
-stored r p levels lanes h k l m =
-    let rest : List ℕ = take (3312 - 12 * r) (drop (12 * r) levels) in
-    let long : length (drop (12 * r) levels) ≡ length levels - 12 * r = length-drop (12 * r) levels in
-    let whole : take (3312 - 12 * r) (drop (12 * r) levels) ≡ drop (12 * r) levels =
-    take_all (3312 - 12 * r) (drop (12 * r) levels) (omega arith) in
-    let front : length (take (12 * r) levels) ≡ 12 * r = length-take-le (12 * r) levels (omega arith) in
-    let room : length rest ≡ 3312 - 12 * r = ap length whole ∙ long ∙ ap (λ n. n - 12 * r) h in
-    get_or-append_right (take (12 * r) levels) (put_chunk 0 rest lanes ++ drop (3312 - 12 * r) (drop (12 * r) levels))
-    (12 * r) (12 * r + p) 0 front (omega arith)
-    ∙ ap (λ i. get_or (put_chunk 0 rest lanes ++ drop (3312 - 12 * r) (drop (12 * r) levels)) i 0) (back (12 * r) p)
-    ∙ get_or_append_left (put_chunk 0 rest lanes) (drop (3312 - 12 * r) (drop (12 * r) levels)) 0 p
-    (omega (arith, length-put_chunk 0 rest lanes, room))
-    ∙ ap (λ i. get_or (put_chunk 0 rest lanes) i 0) (none p)
-    ∙ get_or-put_chunk_at 0 rest lanes p 0 (omega arith) (omega (arith, room))
+-- the first twelve of sixteen lanes that are written from place a on
+pub stored : {X : Type 0} (z : X) (a p : ℕ) (symbols lanes : List X) → length symbols ≡ 3328 → length lanes ≡ 16
+    → a ≤ 3312 → p < 12
+    → get_or (take a symbols ++ (put_chunk 0 (take (3328 - a) (drop a symbols)) lanes
+    ++ drop (3328 - a) (drop a symbols))) (a + p) z ≡ get_or lanes p z
+stored {X} z a p symbols lanes h k l m =
+    let rest : List X = take (3328 - a) (drop a symbols) in
+    let behind : List X = drop (3328 - a) (drop a symbols) in
+    let long : length (drop a symbols) ≡ length symbols - a = length-drop a symbols in
+    let whole : take (3328 - a) (drop a symbols) ≡ drop a symbols =
+    take_all (3328 - a) (drop a symbols) (omega arith) in
+    let front : length (take a symbols) ≡ a = length-take-le a symbols (omega arith) in
+    let room : length rest ≡ 3328 - a = ap length whole ∙ long ∙ ap (λ n. n - a) h in
+    get_or-append_right (take a symbols) (put_chunk 0 rest lanes ++ behind) a (a + p) z front (omega arith)
+    ∙ ap (λ i. get_or (put_chunk 0 rest lanes ++ behind) i z) (back a p)
+    ∙ get_or_append_left (put_chunk 0 rest lanes) behind z p (omega (arith, length-put_chunk 0 rest lanes, room))
+    ∙ ap (λ i. get_or (put_chunk 0 rest lanes) i z) (none p)
+    ∙ get_or-put_chunk_at 0 rest lanes p z (omega arith) (omega (arith, room))
   where
     back : (a p : ℕ) → a + p - a ≡ p
     back a p = omega arith

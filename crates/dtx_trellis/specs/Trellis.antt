@@ -1,7 +1,8 @@
 -- One trellis coder (ATSC A/53 Part 2, trellis coding): its bits as sums modulo 2 over all of its pairs, counted from
 -- 0.
 -- a has the higher bits of the pairs, X2, and b the lower ones, X1.
-use Rattle.std.specs.Prelude.{ℕ, ◌<◌, ◌+◌, ◌*◌, ◌-◌, ◌/◌, ◌%◌, ◌==◌, if◌then◌else◌, List, map, take, sum, slice_index}
+use Rattle.std.specs.Prelude.{ℕ, ◌<◌, ◌+◌, ◌*◌, ◌-◌, ◌/◌, ◌%◌, ◌==◌, ℤ, pos, ◌-ℤ◌, if◌then◌else◌, List, map, take, sum}
+use Rattle.std.specs.Prelude.{slice_index}
 use Rattle.std.specs.List.{range_with_len}
 
 -- the three delay elements of a coder
@@ -36,6 +37,10 @@ level q a b t = 4 * z2 q a t + 2 * slice_index b t + z0 q b t
 -- the state after t pairs: Z2[t - 1], Z0[t], Z0[t - 1]
 unfoldable pub state_after : State → List ℕ → List ℕ → ℕ → State
 state_after q a b t = if t == 0 then q else record { q2 = z2 q a (t - 1); q1 = z0 q b t; q0 = z0 q b (t - 1) }
+
+-- a level's symbol: twice the level less 7
+unfoldable pub symbol_of : ℕ → ℤ
+symbol_of z = pos (2 * z) -ℤ pos 7
 
 -- one step, for one pair X2, X1: its level, 4 (X2 + q2) + 2 X1 + q1
 abbrev pub level_of : State → ℕ → ℕ → ℕ

@@ -1,4 +1,4 @@
-//! The twelve trellis coders: from the interleaved bytes of a group to the levels of its four segments.
+//! The twelve trellis coders: from the interleaved bytes of a group to the symbols of its four segments.
 #![tactic(auto)]
 
 mod lanes;

@@ -1,10 +1,16 @@
 //! Twelve coders, group after group.
 
-ghost use Rattle.std.specs.Prelude.{◌≡◌, ◌%◌, ◌<◌, EachIndex, length, replicate, slice_index};
+ghost use Rattle.std.specs.Prelude.{◌≡◌, ℕ, ◌+◌, ◌*◌, ◌%◌, ◌<◌, EachIndex, drop, length, map, replicate, slice_index};
+ghost use Rattle.std.specs.Prelude.{pos, slice_index_or, take};
+ghost use Rattle.dtx_trellis.specs.Trellis.{symbol_of};
+ghost use Rattle.dtx_trellis.specs.Groups.{symbol_place};
 
 use crate::states::States;
 use crate::walk::walk;
-use dtx_sizes::{CODERS, FIELD_PACKETS, GROUP_BYTES, GROUP_LEVELS};
+use dtx_sizes::{
+    CODERS, FIELD_PACKETS, GROUP_BYTES, GROUP_PACKETS, GROUP_SYMBOLS, SEGMENT, SEGMENT_LEVELS,
+    SEGMENT_SYNC,
+};
 use std::marker::Model;
 
 /// Twelve coders, each in one of eight states (ATSC A/53 Part 2, trellis coding).
@@ -54,19 +60,26 @@ impl Twelve {
         self.states = given;
     }
 
-    /// The levels, 0 to 7, of the data of the group whose first segment is at place `first` of its field, in the order
-    /// of emission. The next group goes on from the states that this one leaves.
-    pub fn group(&mut self, first: u16, bytes: &[u8; GROUP_BYTES], levels: &mut [u8; GROUP_LEVELS])
+    /// Writes the data symbols of the group whose first segment is at place `first` of its field, each at its place
+    /// behind the syncs; what stands at the syncs' own places isn't specified. The next group goes on from the states
+    /// that this one leaves.
+    pub fn group(
+        &mut self,
+        first: u16,
+        bytes: &[u8; GROUP_BYTES],
+        symbols: &mut [i8; GROUP_SYMBOLS],
+    )
         requires in_field { first < FIELD_PACKETS }
         requires whole { first % 4 ≡ 0 }
-        ensures levels { levels.new ≡ levels_of first self.old bytes.now }
-        ensures small { EachIndex levels.new (λ d. slice_index levels.new d < 8) }
+        ensures symbols { (s : ℕ) → s < GROUP_PACKETS
+            → take SEGMENT_LEVELS (drop (SEGMENT * s + SEGMENT_SYNC) symbols.new)
+            ≡ map symbol_of (take SEGMENT_LEVELS (drop (SEGMENT_LEVELS * s) (levels_of first self.old bytes.now))) }
         ensures states { self.new ≡ states_after first self.old bytes.now }
         ensures long { length self.new ≡ CODERS }
         ensures small_states { EachIndex self.new (λ e. slice_index self.new e < 8) }
     {
         let from = self.states;
-        let states = walk(&from, first as usize, bytes, levels);
+        let states = walk(&from, first as usize, bytes, symbols);
         self.states = states;
     }
 }

@@ -1,13 +1,15 @@
 //! Walks the bytes of a group, with the coders side by side.
 
-ghost use Rattle.std.specs.Prelude.{◌≡◌, ◌↔◌, ℕ, ◌+◌, ◌-◌, ◌*◌, ◌/◌, ◌%◌, ◌<◌, length, slice_index};
-ghost use Rattle.dtx_trellis.specs.Trellis.{number_of};
-ghost use Rattle.dtx_trellis.specs.Groups.{coder_after, level_at};
-ghost use Rattle.dtx_trellis.specs.Lanes.{HoldsBytes, HoldsPairs, HoldsStates, turn};
+ghost use Rattle.std.specs.Prelude.{◌≡◌, ◌↔◌, ℕ, ◌+◌, ◌-◌, ◌*◌, ◌/◌, ◌%◌, ◌<◌, ◌≤◌, IsTrue, length, pos, slice_index};
+ghost use Rattle.std.specs.Prelude.{slice_index_or};
+ghost use Rattle.dtx_trellis.specs.Trellis.{number_of, symbol_of};
+ghost use Rattle.dtx_trellis.specs.Groups.{AreSent, coder_after, symbol_place};
+ghost use Rattle.dtx_trellis.specs.Lanes.{AreNibbles, HoldsPairs, HoldsRound, HoldsStates, StandsAt, lane_level, turn};
 
-use crate::lanes::{LANES, Lanes};
+use crate::lanes::{LANES, doubled, lower, moved_on, two_pairs, upper};
 use dtx_sizes::{
-    CODER_BYTES, CODERS, FIELD_PACKETS, GROUP_BYTES, GROUP_LEVELS, ROUNDS, SEGMENT_ROUNDS,
+    CODER_BYTES, CODERS, FIELD_PACKETS, GROUP_BYTES, GROUP_LEVELS, GROUP_PACKETS, GROUP_SYMBOLS,
+    ROUNDS, SEGMENT_ROUNDS, SEGMENT_SYNC,
 };
 use std::simd::prelude::*;
 
@@ -17,122 +19,201 @@ const LAST_BYTE: usize = CODER_BYTES - 1;
 /// The last round of a group.
 const LAST_ROUND: usize = ROUNDS - 1;
 
-/// Codes a group from these states: writes its levels and gives the states behind it.
+/// How many bytes of a coder stand from one in which a segment begins to the next. The last byte is one of these too.
+const STRETCH: usize = LAST_BYTE / GROUP_PACKETS;
+
+/// Codes a group from these states: writes its symbols, each at its place, and gives the states behind it.
 pub(crate) fn walk(
     from: &[u8; CODERS],
     first: usize,
     bytes: &[u8; GROUP_BYTES],
-    levels: &mut [u8; GROUP_LEVELS],
+    symbols: &mut [i8; GROUP_SYMBOLS],
 ) -> [u8; CODERS]
     requires { first < FIELD_PACKETS }
-    ensures levels { (d : ℕ) → d < GROUP_LEVELS → slice_index levels.new d ≡ level_at first from.now bytes.now d }
+    ensures symbols { AreSent first from.now bytes.now GROUP_LEVELS symbols.new }
     ensures long { length result ≡ CODERS }
     ensures states { (e : ℕ) → e < CODERS
         → slice_index result e ≡ number_of (coder_after first from.now bytes.now ROUNDS e) }
 {
     let mut lanes = laid_out(from, first, bytes);
-    for byte in 0..CODER_BYTES {
-        lanes = byte_group(lanes, byte, first, from, bytes, levels);
+    for segment in 0..GROUP_PACKETS {
+        lanes = stretch(lanes, segment, first, from, bytes, symbols);
     }
-    numbers(lanes, first, from, bytes)
+    let last = edge_bytes(lanes, LAST_BYTE, first, from, bytes, symbols);
+    numbers(last, first, from, bytes)
 }
 
-/// The four rounds in which each coder works on its byte number `byte`.
+/// The bytes from the one in which segment `segment` begins to the one in which the next begins.
 #[inline(always)]
-fn byte_group(
-    start: Lanes,
-    byte: usize,
-    first: usize,
-    from: &[u8; CODERS],
-    bytes: &[u8; GROUP_BYTES],
-    levels: &mut [u8; GROUP_LEVELS],
-) -> Lanes
-    requires first { first < FIELD_PACKETS }
-    requires group { byte < CODER_BYTES }
-    requires states { HoldsStates first from.now bytes.now (4 * byte)
-        (turn first (4 * byte - 1)) start.top start.middle start.low }
-    ensures states { HoldsStates first from.now bytes.now (4 * byte + 4)
-        (turn first (4 * byte + 3)) result.top result.middle result.low }
-    ensures levels { (p : ℕ) → p < 4 * CODERS → slice_index levels.new (4 * CODERS * byte + p)
-        ≡ level_at first from.now bytes.now (4 * CODERS * byte + p) }
-    ensures before { (d : ℕ) → d < 4 * CODERS * byte → slice_index levels.new d ≡ slice_index levels.old d }
-{
-    // Of the rounds in which a segment begins, one is the second of its byte, one the third and one the fourth.
-    let round = 4 * byte;
-    let loaded = Lanes {
-        top: start.top,
-        middle: start.middle,
-        low: start.low,
-        bytes: load(bytes, byte),
-    };
-    let pairs = loaded.bytes >> u8x16::splat(5);
-    let second = advance(loaded, pairs, 1, first, from, bytes, round, levels);
-    let pairs = second.bytes >> u8x16::splat(3);
-    let third = advance(second, pairs, 2, first, from, bytes, round + 1, levels);
-    let pairs = third.bytes >> u8x16::splat(1);
-    let fourth = advance(third, pairs, 3, first, from, bytes, round + 2, levels);
-    let pairs = fourth.bytes << u8x16::splat(1);
-    emit(fourth, pairs, first, from, bytes, round + 3, levels)
-}
-
-/// One round that isn't its byte's last: writes its levels and gives the lanes for the next, which may be the first of
-/// the group's segment `segment`.
-#[inline(always)]
-fn advance(
-    lanes: Lanes,
-    pairs: u8x16,
+fn stretch(
+    start: u8x16,
     segment: usize,
     first: usize,
     from: &[u8; CODERS],
     bytes: &[u8; GROUP_BYTES],
-    round: usize,
-    levels: &mut [u8; GROUP_LEVELS],
-) -> Lanes
+    symbols: &mut [i8; GROUP_SYMBOLS],
+) -> u8x16
     requires first { first < FIELD_PACKETS }
-    requires round { round < ROUNDS }
-    requires same_byte { (round + 1) / 4 ≡ round / 4 }
-    requires segment { segment < 4 }
-    requires begins { (round + 1 ≡ segment * SEGMENT_ROUNDS) ↔ ((round + 1) % SEGMENT_ROUNDS ≡ 0) }
-    requires states { HoldsStates first from.now bytes.now round (turn first round) lanes.top lanes.middle lanes.low }
-    requires bytes { HoldsBytes first bytes.now round (turn first round) lanes.bytes }
-    requires pairs { HoldsPairs first bytes.now round (turn first round) pairs }
-    ensures states { HoldsStates first from.now bytes.now (round + 1)
-        (turn first (round + 1)) result.top result.middle result.low }
-    ensures bytes { HoldsBytes first bytes.now (round + 1) (turn first (round + 1)) result.bytes }
-    ensures levels { (p : ℕ) → p < CODERS → slice_index levels.new (CODERS * round + p)
-        ≡ level_at first from.now bytes.now (CODERS * round + p) }
-    ensures before { (d : ℕ) → d < CODERS * round → slice_index levels.new d ≡ slice_index levels.old d }
+    requires segment { segment < GROUP_PACKETS }
+    requires stands { StandsAt first from.now bytes.now (STRETCH * segment) start symbols.old }
+    ensures { StandsAt first from.now bytes.now (STRETCH * (segment + 1)) result symbols.new }
 {
-    let after = emit(lanes, pairs, first, from, bytes, round, levels);
-    let begins_segment = round + 1 == segment * SEGMENT_ROUNDS;
-    after.moved_on(begins_segment, first, from, bytes, round + 1)
+    let mut lanes = edge_bytes(start, STRETCH * segment, first, from, bytes, symbols);
+    for byte in STRETCH * segment + 1..STRETCH * (segment + 1) {
+        lanes = inner_bytes(lanes, byte, segment, first, from, bytes, symbols);
+    }
+    lanes
 }
 
-/// One round: writes its levels and gives the lanes behind it.
+/// The four rounds in which each coder works on its byte number `byte`, where they all stand in segment `segment` and
+/// don't begin it.
 #[inline(always)]
-fn emit(
-    lanes: Lanes,
+fn inner_bytes(
+    start: u8x16,
+    byte: usize,
+    segment: usize,
+    first: usize,
+    from: &[u8; CODERS],
+    bytes: &[u8; GROUP_BYTES],
+    symbols: &mut [i8; GROUP_SYMBOLS],
+) -> u8x16
+    requires first { first < FIELD_PACKETS }
+    requires segment { segment < GROUP_PACKETS }
+    requires behind { STRETCH * segment < byte }
+    requires before { byte < STRETCH * (segment + 1) }
+    requires stands { StandsAt first from.now bytes.now byte start symbols.old }
+    ensures { StandsAt first from.now bytes.now (byte + 1) result symbols.new }
+{
+    let round = 4 * byte;
+    let place = CODERS * round + SEGMENT_SYNC * (segment + 1);
+    let later = place + 2 * CODERS;
+    let loaded = load(bytes, byte);
+    let pairs = upper(loaded);
+    let middle = two_rounds(
+        start, pairs, false, place, first, from, bytes, round, symbols,
+    );
+    let pairs = lower(loaded);
+    two_rounds(
+        middle,
+        pairs,
+        false,
+        later,
+        first,
+        from,
+        bytes,
+        round + 2,
+        symbols,
+    )
+}
+
+/// The four rounds in which each coder works on its byte number `byte`, where a segment may begin.
+fn edge_bytes(
+    start: u8x16,
+    byte: usize,
+    first: usize,
+    from: &[u8; CODERS],
+    bytes: &[u8; GROUP_BYTES],
+    symbols: &mut [i8; GROUP_SYMBOLS],
+) -> u8x16
+    requires first { first < FIELD_PACKETS }
+    requires byte { byte < CODER_BYTES }
+    requires stands { StandsAt first from.now bytes.now byte start symbols.old }
+    ensures { StandsAt first from.now bytes.now (byte + 1) result symbols.new }
+{
+    // Of the rounds in which a segment begins, one is the second of its byte, one the third and one the fourth.
+    let round = 4 * byte;
+    let second = round + 1 == SEGMENT_ROUNDS;
+    let third = round + 2 == 2 * SEGMENT_ROUNDS;
+    let fourth = round + 3 == 3 * SEGMENT_ROUNDS;
+    let place = CODERS * round + SEGMENT_SYNC * (round / SEGMENT_ROUNDS + 1);
+    let later = next_place(next_place(place, second, round), third, round + 1);
+    let loaded = load(bytes, byte);
+    let pairs = upper(loaded);
+    let middle = two_rounds(
+        start, pairs, second, place, first, from, bytes, round, symbols,
+    );
+    let turned = moved_on(moved_on(loaded, second, round + 1), third, round + 2);
+    let pairs = lower(turned);
+    let middle = moved_on(middle, third, round + 2);
+    two_rounds(
+        middle,
+        pairs,
+        fourth,
+        later,
+        first,
+        from,
+        bytes,
+        round + 2,
+        symbols,
+    )
+}
+
+/// Two rounds: writes their symbols, the first from `place` on, and gives the lanes behind them. A segment may begin
+/// between them.
+#[inline(always)]
+fn two_rounds(
+    lanes: u8x16,
     pairs: u8x16,
+    begins_segment: bool,
+    place: usize,
     first: usize,
     from: &[u8; CODERS],
     bytes: &[u8; GROUP_BYTES],
     round: usize,
-    levels: &mut [u8; GROUP_LEVELS],
-) -> Lanes
+    symbols: &mut [i8; GROUP_SYMBOLS],
+) -> u8x16
+    requires first { first < FIELD_PACKETS }
+    requires round { round + 1 < ROUNDS }
+    requires begins { IsTrue begins_segment ↔ ((round + 1) % SEGMENT_ROUNDS ≡ 0) }
+    requires place { place ≡ symbol_place (CODERS * round) }
+    requires states { HoldsStates first from.now bytes.now round (turn first round) lanes }
+    requires pairs { HoldsPairs first bytes.now round (turn first round) pairs }
+    requires sent { AreSent first from.now bytes.now (CODERS * round) symbols.old }
+    ensures states { HoldsStates first from.now bytes.now (round + 2) (turn first (round + 1)) result }
+    ensures sent { AreSent first from.now bytes.now (CODERS * (round + 2)) symbols.new }
+{
+    let both = two_pairs(lanes, pairs);
+    emit(upper(both), place, first, from, bytes, round, symbols);
+    let behind = moved_on(lower(both), begins_segment, round + 1);
+    let next = next_place(place, begins_segment, round);
+    emit(behind, next, first, from, bytes, round + 1, symbols);
+    behind
+}
+
+/// Writes the symbols of a round.
+#[inline(always)]
+fn emit(
+    lanes: u8x16,
+    place: usize,
+    first: usize,
+    from: &[u8; CODERS],
+    bytes: &[u8; GROUP_BYTES],
+    round: usize,
+    symbols: &mut [i8; GROUP_SYMBOLS],
+)
     requires first { first < FIELD_PACKETS }
     requires round { round < ROUNDS }
-    requires states { HoldsStates first from.now bytes.now round (turn first round) lanes.top lanes.middle lanes.low }
-    requires pairs { HoldsPairs first bytes.now round (turn first round) pairs }
-    ensures states { HoldsStates first from.now bytes.now (round + 1)
-        (turn first round) result.top result.middle result.low }
-    ensures bytes { result.bytes ≡ lanes.bytes }
-    ensures levels { (p : ℕ) → p < CODERS → slice_index levels.new (CODERS * round + p)
-        ≡ level_at first from.now bytes.now (CODERS * round + p) }
-    ensures before { (d : ℕ) → d < CODERS * round → slice_index levels.new d ≡ slice_index levels.old d }
+    requires place { place ≡ symbol_place (CODERS * round) }
+    requires held { HoldsRound first from.now bytes.now round (turn first round) lanes }
+    requires sent { AreSent first from.now bytes.now (CODERS * round) symbols.old }
+    ensures { AreSent first from.now bytes.now (CODERS * (round + 1)) symbols.new }
 {
-    let (after, level) = lanes.step(pairs, first, from, bytes, round);
-    store(levels, round, level);
-    after
+    store(symbols, place, lanes);
+}
+
+/// Where the symbols of the round behind round `round` begin: a sync stands in between where it begins a segment.
+#[inline(always)]
+fn next_place(place: usize, begins_segment: bool, round: usize) -> usize
+    requires round { round < ROUNDS }
+    requires begins { IsTrue begins_segment ↔ ((round + 1) % SEGMENT_ROUNDS ≡ 0) }
+    requires place { place ≡ symbol_place (CODERS * round) }
+    ensures { result ≡ symbol_place (CODERS * (round + 1)) }
+{
+    if begins_segment {
+        place + CODERS + SEGMENT_SYNC
+    } else {
+        place + CODERS
+    }
 }
 
 /// Byte `byte` of each coder, in the lane of the coder's place.
@@ -158,74 +239,72 @@ fn load_last(bytes: &[u8; GROUP_BYTES]) -> u8x16
     last.swizzle([4, 5, 6, 7, 8, 9, 10, 11, 12, 13, 14, 15, 0, 1, 2, 3])
 }
 
-/// Writes the twelve levels of round `round`. Those of later rounds may change.
+/// Writes twelve symbols from `place` on, each twice the level that its lane tells, less 7. Those behind them may
+/// change.
 #[inline(always)]
-fn store(levels: &mut [u8; GROUP_LEVELS], round: usize, level: u8x16)
-    requires { round < ROUNDS }
-    ensures levels { (p : ℕ) → p < CODERS → slice_index levels.new (CODERS * round + p) ≡ slice_index level p }
-    ensures before { (d : ℕ) → d < CODERS * round → slice_index levels.new d ≡ slice_index levels.old d }
+fn store(symbols: &mut [i8; GROUP_SYMBOLS], place: usize, lanes: u8x16)
+    requires place { place + CODERS ≤ GROUP_SYMBOLS }
+    requires lanes { AreNibbles lanes }
+    ensures symbols { (p : ℕ) → p < CODERS
+        → slice_index_or symbols.new (place + p) (pos 0) ≡ symbol_of (lane_level (slice_index lanes p)) }
+    ensures before { (i : ℕ) → i < place
+        → slice_index_or symbols.new i (pos 0) ≡ slice_index_or symbols.old i (pos 0) }
 {
-    if round < LAST_ROUND {
-        level.copy_to_slice(&mut levels[CODERS * round..]);
+    let doubled = doubled(lanes);
+    if place <= GROUP_SYMBOLS - LANES {
+        let sent = doubled.cast::<i8>() - i8x16::splat(7);
+        sent.copy_to_slice(&mut symbols[place..]);
     } else {
-        store_last(levels, level);
+        store_last(symbols, place, doubled);
     }
 }
 
-/// Writes the twelve levels of the last round.
-fn store_last(levels: &mut [u8; GROUP_LEVELS], level: u8x16)
-    ensures levels { (p : ℕ) → p < CODERS → slice_index levels.new (CODERS * LAST_ROUND + p) ≡ slice_index level p }
-    ensures before { (d : ℕ) → d < CODERS * LAST_ROUND → slice_index levels.new d ≡ slice_index levels.old d }
+/// Writes the twelve symbols of the last round.
+fn store_last(symbols: &mut [i8; GROUP_SYMBOLS], place: usize, doubled: u8x16)
+    requires place { place + CODERS ≤ GROUP_SYMBOLS }
+    requires levels { (p : ℕ) → p < CODERS → slice_index doubled p / 2 < 8 }
+    ensures symbols { (p : ℕ) → p < CODERS
+        → slice_index_or symbols.new (place + p) (pos 0) ≡ symbol_of (slice_index doubled p / 2) }
+    ensures before { (i : ℕ) → i < place
+        → slice_index_or symbols.new i (pos 0) ≡ slice_index_or symbols.old i (pos 0) }
 {
-    let last = level.to_array();
+    let last = doubled.to_array();
     for p in 0..CODERS {
-        levels[GROUP_LEVELS - CODERS + p] = last[p];
+        let level = last[p] / 2;
+        symbols[place + p] = 2 * level as i8 - 7;
     }
 }
 
 /// The coders' states, each in the lane of its place in the first round.
-fn laid_out(from: &[u8; CODERS], first: usize, bytes: &[u8; GROUP_BYTES]) -> Lanes
+fn laid_out(from: &[u8; CODERS], first: usize, bytes: &[u8; GROUP_BYTES]) -> u8x16
     requires { first < FIELD_PACKETS }
-    ensures { HoldsStates first from.now bytes.now 0 (turn first 0) result.top result.middle result.low }
+    ensures { HoldsStates first from.now bytes.now 0 (turn first 0) result }
 {
-    let mut top = [0u8; LANES];
-    let mut middle = [0u8; LANES];
-    let mut low = [0u8; LANES];
+    let mut lanes = [0u8; LANES];
     for p in 0..CODERS {
         let state = from[(p + 4 * (first % 3)) % CODERS];
-        top[p] = state / 4 % 2 * 4;
-        middle[p] = state / 2 % 2;
-        low[p] = state % 2;
+        lanes[p] = state % 8;
     }
-    Lanes {
-        top: u8x16::from_array(top),
-        middle: u8x16::from_array(middle),
-        low: u8x16::from_array(low),
-        bytes: u8x16::splat(0),
-    }
+    u8x16::from_array(lanes)
 }
 
 /// The states' numbers by coder, behind the last round.
 fn numbers(
-    lanes: Lanes,
+    lanes: u8x16,
     first: usize,
     from: &[u8; CODERS],
     bytes: &[u8; GROUP_BYTES],
 ) -> [u8; CODERS]
     requires first { first < FIELD_PACKETS }
-    requires states { HoldsStates first from.now bytes.now ROUNDS
-        (turn first LAST_ROUND) lanes.top lanes.middle lanes.low }
+    requires states { HoldsStates first from.now bytes.now ROUNDS (turn first LAST_ROUND) lanes }
     ensures long { length result ≡ CODERS }
     ensures numbers { (e : ℕ) → e < CODERS
         → slice_index result e ≡ number_of (coder_after first from.now bytes.now ROUNDS e) }
 {
-    let top = lanes.top.to_array();
-    let middle = lanes.middle.to_array();
-    let low = lanes.low.to_array();
+    let last = lanes.to_array();
     let mut numbers = [0u8; CODERS];
     for e in 0..CODERS {
-        let p = (e + CODERS - 4 * (first % 3)) % CODERS;
-        numbers[e] = top[p] + 2 * middle[p] + low[p];
+        numbers[e] = last[(e + CODERS - 4 * (first % 3)) % CODERS] % 8;
     }
     numbers
 }

@@ -1,5 +1,6 @@
 use Rattle.std.proofs.Common.{◌≡◌, ℕ, ◌+◌, ◌<◌, pos, get_or, length}
-use Rattle.dtx_frame.specs.Segments.{segment_sync, symbol_of}
+use Rattle.dtx_trellis.specs.Trellis.{symbol_of}
+use Rattle.dtx_frame.specs.Segments.{segment_sync}
 use Rattle.dtx_frame.proofs.data.data_segment.Given as goal
 
 abbrev pub invariant-loop-d : goal.invariant-loop-d

@@ -1,24 +1,11 @@
-use Rattle.std.proofs.Common.{◌≡◌, ℕ, ◌+◌, ◌-◌, ◌*◌, get_or, ◌∙◌, subst, arith}
-use Rattle.dtx_trellis.specs.Groups.{level_at}
-use Rattle.dtx_trellis.specs.Lanes.{HoldsStates, turn}
-use Rattle.dtx_trellis.specs.LaneRoundsLaws.{group_levels}
+use Rattle.dtx_trellis.specs.LaneRoundsLaws.{none_sent}
 use Rattle.dtx_trellis.proofs.walk.walk.Goals as goal
 
-pub loop-byte-preserved : goal.loop-byte-preserved
-loop-byte-preserved c =
-    let h : ℕ = c.loop-byte.byte in
-    let s = c.args.first in
-    let new = c.byte_group-lanes.new.levels in
-    let e : 4 * c.loop-byte.byte + 4 ≡ 4 * (c.loop-byte.byte + 1) = omega arith in
-    let f : 4 * c.loop-byte.byte + 3 ≡ 4 * (c.loop-byte.byte + 1) - 1 = omega arith in
-    let lanes = c.byte_group-lanes.result in
-    record {
-      long = c.byte_group-lanes.array_long;
-      states = subst (λ t. HoldsStates s c.args.from.now c.args.bytes.now t
-          (turn s (4 * (h + 1) - 1)) lanes.top lanes.middle lanes.low) e
-          (subst (λ t. HoldsStates s c.args.from.now c.args.bytes.now (4 * h + 4)
-          (turn s t) lanes.top lanes.middle lanes.low) f c.byte_group-lanes.ensures.states);
-      levels = group_levels h (λ d. get_or new d 0 ≡ level_at s c.args.from.now c.args.bytes.now d)
-          (λ d l. c.byte_group-lanes.ensures.before d l ∙ c.loop-byte.invariant.levels d l)
-          c.byte_group-lanes.ensures.levels;
-    }
+pub loop-segment-init : goal.loop-segment-init
+loop-segment-init c = record {
+  long = c.told-symbols;
+  stands = record {
+    held = c.laid_out-lanes.ensures;
+    sent = none_sent c.args.first c.args.from.now c.args.bytes.now c.args.symbols.now;
+  };
+}
