@@ -1,49 +1,50 @@
 -- What a group is sent as, symbol by symbol.
 use Rattle.std.proofs.Common.{◌≡◌, ℕ, zero, suc, ◌+◌, ◌-◌, ◌*◌, ◌<◌, cond, Bool, true, false, ℤ, List, [], ◌∷◌, ◌++◌}
-use Rattle.std.proofs.Common.{length, map, get_or, take, drop, refl, sym, ap, subst, ◌∙◌, arith}
+use Rattle.std.proofs.Common.{length, map, take, drop, refl, sym, ap, ap₂, ◌∙◌, arith}
 use Rattle.std.specs.List.{range_with_len}
-use Rattle.std.specs.Simd.{first_chunks}
-use Rattle.std.proofs.lemmas.List.{append-nil, append_assoc, drop-drop, drop_at, get_or-drop, get_or-take}
-use Rattle.std.proofs.lemmas.List.{length-append, length-drop, length-take-le}
+use Rattle.std.proofs.Math.Seq.{take-add}
+use Rattle.std.proofs.lemmas.List.{append-nil, append_assoc, drop-drop, drop_at, length-append, length-drop, take_all}
 use Rattle.std.proofs.lemmas.List.FromFn.{length-map-range_with_len, map-range_with_len_more}
 use Rattle.std.proofs.lemmas.Grind.{flat_map-append}
 use Rattle.dtx_laws.specs.Branches.{Branching, after_all}
 use Rattle.dtx_trellis.specs.Groups.{levels_of, states_after}
-use Rattle.dtx_frame.specs.Segments.{field_sync}
+use Rattle.dtx_trellis.specs.Trellis.{symbol_of}
+use Rattle.dtx_frame.specs.Segments.{data_segment, field_sync, segment_sync}
 use Rattle.dtx_coder.specs.Coded.{coded_from}
 use Rattle.dtx_coder.specs.Stream.{segment, four_segments, last_of, symbols_of}
 use Rattle.dtx_coder.specs.Groups.{Coding, Group, IsCoded, bytes_of, group_levels, air_segments, after_group}
-use Rattle.dtx_coder.specs.SegmentsLaws.{length-segment}
+use Rattle.dtx_coder.specs.LevelsLaws.{length-levels_of}
+use Rattle.dtx_coder.specs.SegmentsLaws.{length-segment, segment_is}
 use Rattle.dtx_coder.specs.NextLaws.{same_coding}
 
--- chunk i of a list
-pub get_or-first_chunks : {A : Type 0} (n k : ℕ) (xs : List A) (i : ℕ) (d : List A) → i < k
-    → get_or (first_chunks n k xs) i d ≡ take n (drop (n * i) xs)
-get_or-first_chunks n zero xs i d l = absurd (omega arith)
-get_or-first_chunks n (suc k) xs zero d l = ap (λ a. take n (drop a xs)) (let e : 0 ≡ n * 0 = grind arith in e)
-get_or-first_chunks n (suc k) xs (suc i) d l =
-    get_or-first_chunks n k (drop n xs) i d (omega arith)
-    ∙ ap (take n) (drop-drop (n * i) n xs ∙ ap (λ a. drop a xs) (let e : n + n * i ≡ n * suc i = grind arith in e))
-
--- each level of a segment is one of the group's
-pub part_small : (levels part : List ℕ) (i : ℕ) → length levels ≡ 3312
-    → ((d : ℕ) → d < length levels → get_or levels d 0 < 8) → i < 4 → part ≡ take 828 (drop (828 * i) levels)
-    → (d : ℕ) → d < length part → get_or part d 0 < 8
-part_small levels part i e small l p d m =
-    let long : length (take 828 (drop (828 * i) levels)) ≡ 828 =
-    length-take-le 828 (drop (828 * i) levels) (omega (arith, e, length-drop (828 * i) levels)) in
-    let b : d < 828 = subst (λ (n : ℕ). d < n) (ap length p ∙ long) m in
-    subst (λ (x : ℕ). x < 8) (sym (ap (λ xs. get_or xs d 0) p ∙ get_or-take 828 (drop (828 * i) levels) d 0 b
-    ∙ get_or-drop (828 * i) levels d 0))
-    (small (828 * i + d) (omega (arith, e, b, l)))
-
 -- one segment more
-pub symbols_more : (zs : List ℕ) (n : ℕ) → symbols_of (map (segment zs) (range_with_len 0 (n + 1)))
+symbols_more : (zs : List ℕ) (n : ℕ) → symbols_of (map (segment zs) (range_with_len 0 (n + 1)))
     ≡ symbols_of (map (segment zs) (range_with_len 0 n)) ++ segment zs n
 symbols_more zs n =
     ap symbols_of (map-range_with_len_more (segment zs) 0 n n (let e : 0 + n ≡ n = omega arith in e))
     ∙ flat_map-append (λ (s : List ℤ). s) (map (segment zs) (range_with_len 0 n)) (segment zs n ∷ [])
     ∙ ap (λ s. symbols_of (map (segment zs) (range_with_len 0 n)) ++ s) (append-nil (segment zs n))
+
+-- the first n segments of some levels, where they are the pieces of a list
+segments_joined : (zs : List ℕ) (xs : List ℤ) (n : ℕ)
+    → ((s : ℕ) → s < n → take 832 (drop (832 * s) xs) ≡ segment zs s)
+    → take (832 * n) xs ≡ symbols_of (map (segment zs) (range_with_len 0 n))
+segments_joined zs xs zero h = refl
+segments_joined zs xs (suc n) h =
+    ap (λ k. take k xs) (let e : 832 * suc n ≡ 832 * n + 832 = omega arith in e)
+    ∙ take-add (832 * n) 832 xs
+    ∙ ap₂ (λ x y. x ++ y) (segments_joined zs xs n (λ s l. h s (omega (arith, l)))) (h n (omega arith))
+    ∙ sym (symbols_more zs n)
+    ∙ ap (λ k. symbols_of (map (segment zs) (range_with_len 0 k))) (let e : n + 1 ≡ suc n = omega arith in e)
+
+-- a group's segments, piece by piece
+pub four_written : (zs : List ℕ) (xs : List ℤ) → length xs ≡ 3328
+    → ((s : ℕ) → s < 4 → take 832 (drop (832 * s) xs) ≡ segment_sync ++ map symbol_of (take 828 (drop (828 * s) zs)))
+    → xs ≡ symbols_of (four_segments zs 0)
+unfolding four_segments data_segment
+four_written zs xs long h =
+    sym (take_all (832 * 4) xs (omega (arith, long)))
+    ∙ segments_joined zs xs 4 (λ s l. h s l ∙ sym (segment_is zs s))
 
 -- the last twelve symbols of a list that ends with a segment
 last_twelve : (xs s : List ℤ) (n : ℕ) → length (xs ++ s) ≡ n → length s ≡ 832 → drop (n - 12) (xs ++ s) ≡ last_of s
@@ -74,30 +75,28 @@ unfolding four_segments
 length_four zs = length-map-range_with_len (segment zs) 0 4
 
 -- what the code does with a group
-pub record Does (old : Coding) (g : Group) (bytes levels states : List ℕ) (last : List ℤ) (branches : Branching)
-    (count : ℕ) (sent : List ℤ) : Type 0 where
+pub record Does (old : Coding) (g : Group) (bytes states : List ℕ) (last : List ℤ) (branches : Branching) (count : ℕ)
+    (sent : List ℤ) : Type 0 where
   pub bytes_are : bytes ≡ bytes_of old g
-  pub levels_are : levels ≡ levels_of g.first g.from bytes
-  pub levels_long : length levels ≡ 3312
+  pub bytes_long : length bytes ≡ 828
   pub states_are : states ≡ states_after g.first g.from bytes
   pub branches_are : branches ≡ after_all 52 old.branches (coded_from g.first g.packets)
   pub counted : count ≡ cond g.sync 1 0 + 4
   pub twelve : length last ≡ 12
   pub written : take (832 * count) sent ≡ cond g.sync (field_sync g.second old.last) []
-      ++ symbols_of (four_segments levels 0)
+      ++ symbols_of (four_segments (levels_of g.first g.from bytes) 0)
   pub ends : last ≡ drop (832 * count - 12) (take (832 * count) sent)
 
-levels_group : (old : Coding) (g : Group) (bytes levels states : List ℕ) (last : List ℤ) (branches : Branching)
-    (count : ℕ) (sent : List ℤ)
-    → Does old g bytes levels states last branches count sent → levels ≡ group_levels old g
+levels_group : (old : Coding) (g : Group) (bytes : List ℕ) → bytes ≡ bytes_of old g
+    → levels_of g.first g.from bytes ≡ group_levels old g
 unfolding group_levels
-levels_group old g bytes levels states last branches count sent d =
-    d.levels_are ∙ ap (levels_of g.first g.from) d.bytes_are
+levels_group old g bytes e = ap (levels_of g.first g.from) e
 
-last_group : (old : Coding) (g : Group) (bytes levels states : List ℕ) (last : List ℤ) (branches : Branching)
-    (count : ℕ) (sent : List ℤ)
-    → Does old g bytes levels states last branches count sent → last ≡ last_of (segment (group_levels old g) 3)
-last_group old g bytes levels states last branches count sent d =
+last_group : (old : Coding) (g : Group) (bytes states : List ℕ) (last : List ℤ) (branches : Branching) (count : ℕ)
+    (sent : List ℤ)
+    → Does old g bytes states last branches count sent → last ≡ last_of (segment (group_levels old g) 3)
+last_group old g bytes states last branches count sent d =
+    let levels : List ℕ = levels_of g.first g.from bytes in
     let front : List ℤ = cond g.sync (field_sync g.second old.last) [] in
     let three : List ℤ = symbols_of (map (segment levels) (range_with_len 0 3)) in
     let whole : take (832 * count) sent ≡ front ++ three ++ segment levels 3 =
@@ -107,29 +106,30 @@ last_group old g bytes levels states last branches count sent d =
     let twelve = d.twelve in
     let counted = d.counted in
     let all : length (take (832 * count) sent) ≡ 832 * count = omega (arith, a, twelve, counted) in
+    let long : length levels ≡ 3312 = length-levels_of g.first g.from bytes 1 d.bytes_long in
     d.ends
     ∙ ap (drop (832 * count - 12)) whole
     ∙ last_twelve (front ++ three) (segment levels 3) (832 * count) (sym (ap length whole) ∙ all)
-    (length-segment levels 3 (let e = d.levels_long in omega (arith, e)))
-    ∙ ap (λ zs. last_of (segment zs 3)) (levels_group old g bytes levels states last branches count sent d)
+    (length-segment levels 3 (omega (arith, long)))
+    ∙ ap (λ zs. last_of (segment zs 3)) (levels_group old g bytes d.bytes_are)
 
-pub does_code : (old : Coding) (g : Group) (bytes levels states : List ℕ) (last : List ℤ) (branches : Branching)
-    (count : ℕ) (sent : List ℤ)
-    → Does old g bytes levels states last branches count sent
+pub does_code : (old : Coding) (g : Group) (bytes states : List ℕ) (last : List ℤ) (branches : Branching) (count : ℕ)
+    (sent : List ℤ)
+    → Does old g bytes states last branches count sent
     → IsCoded old g (record { states = states; last = last; branches = branches }) count sent
 unfolding after_group air_segments
-does_code old g bytes levels states last branches count sent d = record {
+does_code old g bytes states last branches count sent d = record {
   coder =
       same_coding states (states_after g.first g.from (bytes_of old g)) last
       (last_of (segment (group_levels old g) 3)) branches
       (after_all 52 old.branches (coded_from g.first g.packets))
       (d.states_are ∙ ap (states_after g.first g.from) d.bytes_are)
-      (last_group old g bytes levels states last branches count sent d) d.branches_are;
+      (last_group old g bytes states last branches count sent d) d.branches_are;
   segments = d.counted ∙ length_sent g.sync (field_sync g.second old.last) (four_segments (group_levels old g) 0)
       (length_four (group_levels old g));
   symbols =
       d.written
       ∙ ap (λ zs. cond g.sync (field_sync g.second old.last) [] ++ symbols_of (four_segments zs 0))
-      (levels_group old g bytes levels states last branches count sent d)
+      (levels_group old g bytes d.bytes_are)
       ∙ symbols_sent g.sync (field_sync g.second old.last) (four_segments (group_levels old g) 0);
 }

@@ -1,11 +1,13 @@
 //! What a group is sent as.
 
-ghost use Rattle.std.specs.Prelude.{◌≡◌, ◌+◌, ◌-◌, ◌*◌, ◌<◌, ◌≤◌, [], ◌++◌, if◌then◌else◌, EachIndex, drop, length};
-ghost use Rattle.std.specs.Prelude.{slice_index, take};
-ghost use Rattle.dtx_frame.specs.Segments.{data_segment, field_sync};
+ghost use Rattle.std.specs.Prelude.{◌≡◌, ◌+◌, ◌-◌, ◌*◌, ◌%◌, ◌<◌, ◌≤◌, [], ◌++◌, if◌then◌else◌, drop, length, take};
+ghost use Rattle.dtx_trellis.specs.Groups.{levels_of, states_after};
+ghost use Rattle.dtx_frame.specs.Segments.{field_sync};
 ghost use Rattle.dtx_coder.specs.Stream.{four_segments, symbols_of};
 
-use dtx_sizes::{GROUP_LEVELS, GROUP_PACKETS, PRECODE, SEGMENT, SEGMENT_LEVELS};
+use dtx_frame::put_segment_syncs;
+use dtx_sizes::{FIELD_PACKETS, GROUP_BYTES, GROUP_PACKETS, GROUP_SYMBOLS, PRECODE, SEGMENT};
+use dtx_trellis::Twelve;
 
 /// How many segments a group has at most: a field sync and four data segments.
 pub const AIR_SEGMENTS: u8 = 5;
@@ -46,19 +48,27 @@ impl Air {
         }
     }
 
-    /// Four data segments more.
-    pub(crate) fn add_group(&mut self, levels: &[u8; GROUP_LEVELS])
+    /// Four data segments more, those of a group's bytes, over which these coders go on. The first of them is at place
+    /// `first` of its field.
+    pub(crate) fn add_group(&mut self, twelve: &mut Twelve, first: u16, bytes: &[u8; GROUP_BYTES])
         requires room { self.old.segments < 2 }
-        requires levels { EachIndex levels.now (λ d. slice_index levels.now d < 8) }
+        requires in_field { first < FIELD_PACKETS }
+        requires whole { first % GROUP_PACKETS ≡ 0 }
         ensures segments { self.new.segments ≡ self.old.segments + GROUP_PACKETS }
         ensures symbols { take (SEGMENT * self.new.segments) self.new.symbols
-            ≡ take (SEGMENT * self.old.segments) self.old.symbols ++ symbols_of (four_segments levels.now 0) }
-        ensures long { length levels.now ≡ GROUP_LEVELS }
+            ≡ take (SEGMENT * self.old.segments) self.old.symbols
+            ++ symbols_of (four_segments (levels_of first twelve.old bytes.now) 0) }
+        ensures states { twelve.new ≡ states_after first twelve.old bytes.now }
+        ensures long { length bytes.now ≡ GROUP_BYTES }
     {
-        let (parts, _) = levels.as_chunks::<SEGMENT_LEVELS>();
-        for part in parts {
-            self.add(part);
-        }
+        let at = SEGMENT * self.segments as usize;
+        write_group(
+            twelve,
+            first,
+            bytes,
+            &mut self.symbols[at..at + GROUP_SYMBOLS],
+        );
+        self.segments += GROUP_PACKETS as u8;
     }
 
     /// The last twelve symbols.
@@ -73,19 +83,6 @@ impl Air {
         last.copy_from_slice(&self.symbols[end - PRECODE..end]);
         last
     }
-
-    /// The data segment of these levels more.
-    fn add(&mut self, levels: &[u8; SEGMENT_LEVELS])
-        requires room { self.old.segments < AIR_SEGMENTS }
-        requires levels { EachIndex levels.now (λ d. slice_index levels.now d < 8) }
-        ensures segments { self.new.segments ≡ self.old.segments + 1 }
-        ensures symbols { take (SEGMENT * self.new.segments) self.new.symbols
-            ≡ take (SEGMENT * self.old.segments) self.old.symbols ++ data_segment levels.now }
-    {
-        let at = SEGMENT * self.segments as usize;
-        write_data(levels, &mut self.symbols[at..at + SEGMENT]);
-        self.segments += 1;
-    }
 }
 
 /// Writes a field sync in place.
@@ -98,13 +95,16 @@ fn write_sync(second: bool, last: &[i8; PRECODE], symbols: &mut [i8])
     }
 }
 
-/// Writes a data segment in place.
-fn write_data(levels: &[u8; SEGMENT_LEVELS], symbols: &mut [i8])
-    requires levels { EachIndex levels.now (λ d. slice_index levels.now d < 8) }
-    requires long { length symbols.old ≡ SEGMENT }
-    ensures { symbols.new ≡ data_segment levels.now }
+/// Writes a group's data segments in place.
+fn write_group(twelve: &mut Twelve, first: u16, bytes: &[u8; GROUP_BYTES], symbols: &mut [i8])
+    requires in_field { first < FIELD_PACKETS }
+    requires whole { first % GROUP_PACKETS ≡ 0 }
+    requires long { length symbols.old ≡ GROUP_SYMBOLS }
+    ensures symbols { symbols.new ≡ symbols_of (four_segments (levels_of first twelve.old bytes.now) 0) }
+    ensures states { twelve.new ≡ states_after first twelve.old bytes.now }
 {
-    if let Some(out) = symbols.as_mut_array::<SEGMENT>() {
-        dtx_frame::data_segment(levels, out);
+    if let Some(out) = symbols.as_mut_array::<GROUP_SYMBOLS>() {
+        twelve.group(first, bytes, out);
+        put_segment_syncs(out);
     }
 }

@@ -11,8 +11,7 @@ use crate::outer_coding::{OuterCoding, code_packets, new_outer_coding};
 use crate::tables::Tables;
 use dtx_packets::Packet;
 use dtx_sizes::{
-    BRANCH_STEP, BRANCHES, CODERS, CODEWORD, FIELD_PACKETS, GROUP_BYTES, GROUP_LEVELS,
-    GROUP_PACKETS, PRECODE,
+    BRANCH_STEP, BRANCHES, CODERS, CODEWORD, FIELD_PACKETS, GROUP_BYTES, GROUP_PACKETS, PRECODE,
 };
 use dtx_trellis::{States, Twelve};
 use std::alloc::{AllocError, Global};
@@ -26,11 +25,10 @@ pub struct Coder {
     outer: OuterCoding,
     twelve: Twelve,
     last: [i8; PRECODE],
-    /// What the last group became on its way: codewords, the bytes behind the interleaver, levels. They stand here
-    /// since each group writes all of them anew, so that none has to clear them before.
+    /// What the last group became on its way: codewords, and the bytes behind the interleaver. They stand here since
+    /// each group writes all of them anew, so that none has to clear them before.
     words: [[u8; CODEWORD]; GROUP_PACKETS],
     bytes: [u8; GROUP_BYTES],
-    levels: [u8; GROUP_LEVELS],
 }
 
 impl Model for Coder {
@@ -61,7 +59,6 @@ impl Coder {
             last: [-7; PRECODE],
             words: [[0; CODEWORD]; GROUP_PACKETS],
             bytes: [0; GROUP_BYTES],
-            levels: [0; GROUP_LEVELS],
         })
     }
 
@@ -125,9 +122,8 @@ impl Coder {
             &mut self.bytes,
         );
         start_from(&mut self.twelve, preset);
-        self.twelve.group(first, &self.bytes, &mut self.levels);
         air.begin(sync, second, &self.last);
-        air.add_group(&self.levels);
+        air.add_group(&mut self.twelve, first, &self.bytes);
         self.last = air.last();
     }
 }

@@ -1,6 +1,7 @@
 //! The outer coding of a group's packets.
 
 ghost use Rattle.std.specs.Prelude.{◌≡◌, ℕ, ◌+◌, ◌*◌, ◌<◌, ◌≤◌, [], IfOk, drop, length, map, slice_index_or, take};
+ghost use Rattle.std.specs.List.{flat_map};
 ghost use Rattle.dtx_laws.specs.Branches.{leaving_all, after_all};
 ghost use Rattle.dtx_laws.specs.Whitening.{whitened};
 ghost use Rattle.dtx_whiten.specs.Randomizer.{randomizer_bytes};
@@ -59,9 +60,23 @@ pub(crate) fn code_packets(
           (coded_from first (map (λ p. p.0) packets.now));
     } }
 {
-    outer.encode_four(&whitened_heads(outer, first, packets), words);
+    write_codewords(outer, first, packets, words);
     bytes.copy_from_slice(words.as_flattened());
     outer.pass(&mut bytes[..]);
+}
+
+/// Writes the codewords of four packets, the first of them packet `first` of its field.
+fn write_codewords(
+    outer: &OuterCoding,
+    first: usize,
+    packets: &[Packet; GROUP_PACKETS],
+    words: &mut [[u8; CODEWORD]; GROUP_PACKETS],
+)
+    requires white { outer.now.white ≡ randomizer_bytes }
+    requires place { first + GROUP_PACKETS ≤ FIELD_PACKETS }
+    ensures { flat_map (λ word. word) words.new ≡ coded_from first (map (λ p. p.0) packets.now) }
+{
+    outer.encode_four(&whitened_heads(outer, first, packets), words);
 }
 
 /// The packets' data, which stand behind their sync bytes, whitened.

@@ -1,8 +1,9 @@
--- A segment that is written in two parts.
-use Rattle.std.proofs.Common.{◌≡◌, ℕ, ◌+◌, ◌-◌, ℤ, List, [], ◌++◌, length, take, drop, length-drop, ap, ◌∙◌, subst}
-use Rattle.std.proofs.Common.{arith}
-use Rattle.std.proofs.Math.Seq.{take-append_seam, drop-append_seam}
-use Rattle.std.proofs.lemmas.List.{append-nil, drop_all}
+-- Segments that are written in two parts.
+use Rattle.std.proofs.Common.{◌≡◌, ℕ, ◌+◌, ◌-◌, ◌≤◌, ℤ, List, [], ◌++◌, length, take, drop, length-drop, sym, ap, ◌∙◌}
+use Rattle.std.proofs.Common.{subst, arith}
+use Rattle.std.proofs.Math.Seq.{take-append_seam, drop-append_seam, take-append-add}
+use Rattle.std.proofs.lemmas.List.{append-nil, drop_all, drop_at, drop-drop, drop-take, length-take-le}
+use Rattle.std.proofs.lemmas.Slice.{take-put_mid_below}
 use borrow.Rule.Slice.PartMut.{put_mid, post_of}
 
 parts : (a k : ℕ) (front rest last : List ℤ) → length front ≡ a → length rest ≡ k
@@ -28,3 +29,23 @@ two_parts a k out front last first second h long at_first at_second =
   where
     left : (a k : ℕ) → a + k - a ≡ k
     left a k = omega arith
+
+-- a part that is copied to place a of a list, and what stands behind it
+pub part_put : (a k n : ℕ) (xs part : List ℤ) → length part ≡ k → a ≤ length xs
+    → take (k + n) (drop a (put_mid a k xs part)) ≡ part ++ take n (drop (a + k) xs)
+part_put a k n xs part long l =
+    ap (take (k + n)) (drop_at (take a xs) (part ++ drop k (drop a xs)) a (length-take-le a xs l))
+    ∙ subst (λ m. take (m + n) (part ++ drop k (drop a xs)) ≡ part ++ take n (drop k (drop a xs))) long
+    (take-append-add part (drop k (drop a xs)) n)
+    ∙ ap (λ ys. part ++ take n ys) (drop-drop k a xs)
+
+-- a piece in front of it
+pub piece_before : (a k b n : ℕ) (xs part : List ℤ) → b + n ≤ a → a ≤ length xs
+    → take n (drop b (put_mid a k xs part)) ≡ take n (drop b xs)
+piece_before a k b n xs part l m =
+    sym (drop-take b n (put_mid a k xs part)) ∙ ap (drop b) (take-put_mid_below a k xs part (b + n) l m)
+    ∙ drop-take b n xs
+
+-- what stands behind place a + n, where two lists are alike from place a on
+pub behind_too : (a n : ℕ) (xs ys : List ℤ) → drop a xs ≡ drop a ys → drop (a + n) xs ≡ drop (a + n) ys
+behind_too a n xs ys e = sym (drop-drop n a xs) ∙ ap (drop n) e ∙ drop-drop n a ys

@@ -7,6 +7,6 @@ pub mod laws;
 mod sync;
 mod tables;
 
-pub use data::data_segment;
+pub use data::{data_segment, put_segment_syncs};
 pub use detection::{is_second, looks};
 pub use sync::field_sync;

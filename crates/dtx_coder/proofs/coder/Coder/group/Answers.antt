@@ -1,4 +1,4 @@
-use Rattle.std.proofs.Common.{rules, ℕ, ◌+◌, ◌++◌, map, sym, ap, subst, ◌∙◌}
+use Rattle.std.proofs.Common.{rules, ℕ, ◌+◌, ◌++◌, map, sym, ap, ap₂, subst, ◌∙◌}
 use Rattle.std.specs.Option.{unwrap_or}
 use Rattle.dtx_trellis.specs.Groups.{levels_of, states_after}
 use Rattle.dtx_outer.specs.Outer.{Held}
@@ -30,24 +30,24 @@ returns c =
       packets = map (λ p. p.0) c.args.packets.now;
     } in
     let new : Coding = record {
-      states = c.group.new.self;
+      states = c.add_group.new.twelve;
       last = c.last-self-inside.result;
       branches = c.code_packets.new.outer.branches;
     } in
     let count : ℕ = c.add_group.new.self.segments in
     let from = c.start_from.ensures in
     subst (λ (v : Coding). IsCoded v (given v) new count c.add_group.new.self.symbols) c.self.view_is
-    (does_code old (given old) c.code_packets.new.bytes c.group.new.levels c.group.new.self c.last-self-inside.result
+    (does_code old (given old) c.code_packets.new.bytes c.add_group.new.twelve c.last-self-inside.result
     c.code_packets.new.outer.branches count c.add_group.new.self.symbols
     (record {
       bytes_are = c.code_packets.ensures.bytes;
-      levels_are = c.group.ensures.levels ∙ ap (λ q. levels_of c.args.first q c.code_packets.new.bytes) from;
-      levels_long = c.add_group.ensures.long;
-      states_are = c.group.ensures.states ∙ ap (λ q. states_after c.args.first q c.code_packets.new.bytes) from;
+      bytes_long = c.add_group.ensures.long;
+      states_are = c.add_group.ensures.states ∙ ap (λ q. states_after c.args.first q c.code_packets.new.bytes) from;
       branches_are = ap (λ (o : Held). o.branches) c.code_packets.ensures.outer;
       counted = c.add_group.ensures.segments ∙ ap (λ (n : ℕ). n + 4) c.begin.ensures.segments;
       twelve = search rules;
       written = c.add_group.ensures.symbols
-          ∙ ap (λ s. s ++ symbols_of (four_segments c.group.new.levels 0)) c.begin.ensures.symbols;
+          ∙ ap₂ (λ s q. s ++ symbols_of (four_segments (levels_of c.args.first q c.code_packets.new.bytes) 0))
+          c.begin.ensures.symbols from;
       ends = c.last-self-inside.ensures;
     }))
