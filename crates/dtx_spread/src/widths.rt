@@ -1,6 +1,6 @@
 //! How many bytes the branches hold, on each of the two ways.
 
-ghost use Rattle.std.specs.Prelude.{◌≡◌, ℕ, ◌<◌};
+ghost use Rattle.std.specs.Prelude.{◌≡◌, ℕ, ◌+◌, ◌*◌, ◌<◌};
 ghost use Rattle.dtx_laws.specs.Branches.{IsInterleaver, spreading, gathering};
 ghost use Rattle.dtx_spread.specs.Laid.{AreWidths};
 ghost use Rattle.dtx_spread.specs.Longest.{spreading_widths, gathering_widths};
@@ -10,11 +10,12 @@ pub(crate) trait Widths<const B: usize, const M: usize> {
     /// How many bytes branch i holds.
     ghost widths: { ℕ → ℕ };
 
-    /// How many bytes a branch holds.
-    fn width(branch: usize) -> usize
+    /// How far behind the place of the byte of branch `turn` the one of the branch `i` further on is put: `i` places,
+    /// and `B` for each byte that its branch holds.
+    fn ahead(turn: usize, i: usize) -> usize
         requires numbers { IsInterleaver B M }
-        requires below { branch < B }
-        ensures { result ≡ widths branch };
+        requires below { turn + i < B }
+        ensures { result ≡ i + B * widths (turn + i) };
 
     /// No branch holds more than the longest one of an interleaver.
     ghost are: { AreWidths B M widths };
@@ -26,8 +27,8 @@ pub(crate) struct Spreading;
 impl<const B: usize, const M: usize> Widths<B, M> for Spreading {
     ghost widths = { spreading M };
 
-    fn width(branch: usize) -> usize {
-        M * branch
+    fn ahead(turn: usize, i: usize) -> usize {
+        i + B * (M * (turn + i))
     }
 
     ghost are = { spreading_widths B M };
@@ -39,8 +40,9 @@ pub(crate) struct Gathering;
 impl<const B: usize, const M: usize> Widths<B, M> for Gathering {
     ghost widths = { gathering B M };
 
-    fn width(branch: usize) -> usize {
-        M * (B - 1 - branch)
+    // (in steps back, since so the compiler unrolls a row)
+    fn ahead(turn: usize, i: usize) -> usize {
+        B * (M * (B - 1 - turn)) - (B * M - 1) * i
     }
 
     ghost are = { gathering_widths B M };
