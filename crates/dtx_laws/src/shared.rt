@@ -1,5 +1,6 @@
 //! A table that several owners share does what the table does.
 
+use crate::corrector::{Correct, TooMany};
 use crate::encoder::{Encode, PARITY};
 use crate::whitener::Whitener;
 use std::rc::Rc;
@@ -37,5 +38,19 @@ impl<C: Encode<N, K>, const N: usize, const K: usize> Encode<N, K> for Rc<C> {
 
     fn parities(&self, words: &[[u8; N]; 4]) -> [[u8; PARITY]; 4] {
         (**self).parities(words)
+    }
+}
+
+impl<C: Correct<N, K>, const N: usize, const K: usize> Correct<N, K> for Rc<C> {
+    fn known(&self) {
+        (**self).known()
+    }
+
+    fn correct(&self, word: &mut [u8; N]) -> Result<u8, TooMany> {
+        (**self).correct(word)
+    }
+
+    fn correct_four(&self, words: &mut [[u8; N]; 4]) -> [Result<u8, TooMany>; 4] {
+        (**self).correct_four(words)
     }
 }

@@ -14,11 +14,13 @@ use dtx_sizes::{BRANCH_STEP, BRANCHES, CODEWORD, GROUP_BYTES, PACKET_DATA};
 use dtx_spread::Collect;
 use dtx_whiten::Atsc;
 use std::alloc::{AllocError, Global};
+use std::rc::Rc;
 
-/// The de-interleaver, the Reed-Solomon corrector and the randomizer of the standard.
+/// The de-interleaver, the Reed-Solomon corrector and the randomizer of the standard. The corrector's tables stand
+/// apart, since what is made moves from call to call.
 pub(crate) type OuterDecoding = Inner<
     Atsc,
-    Fast<CODEWORD, PACKET_DATA>,
+    Rc<Fast<CODEWORD, PACKET_DATA>>,
     Collect<BRANCHES, BRANCH_STEP>,
     CODEWORD,
     PACKET_DATA,
@@ -31,7 +33,11 @@ pub(crate) fn new_outer_decoding(alloc: Global) -> Result<OuterDecoding, AllocEr
     ensures white { IfOk result (λ inner. inner.white ≡ randomizer_bytes) }
     ensures stands { IfOk result (λ inner. StandsFor CODEWORD PACKET_DATA BRANCHES BRANCH_STEP inner []) }
 {
-    Ok(Inner::new(Atsc::new(alloc)?, Fast::new(), Collect::new(alloc)?))
+    Ok(Inner::new(
+        Atsc::new(alloc)?,
+        Rc::new(alloc, Fast::new())?,
+        Collect::new(alloc)?,
+    ))
 }
 
 /// The next block of a run's bytes, and the packet that it completes, if it does.
