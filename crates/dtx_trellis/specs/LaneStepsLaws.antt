@@ -55,11 +55,6 @@ splat_at f xs v p h l =
     at_zip f xs (replicate 16 v) p h (length-replicate {A = ℕ} 16 v) l
     ∙ ap (f (get_or xs p 0)) (get_or-replicate {A = ℕ} 16 p v 0 l)
 
--- the same, of the twelve lanes that count
-pub at_splat : (f : ℕ → ℕ → ℕ) (xs : List ℕ) (v p : ℕ) → length xs ≡ 16 → p < 12
-    → get_or (zip2 f xs (replicate 16 v)) p 0 ≡ f (get_or xs p 0) v
-at_splat f xs v p h l = splat_at f xs v p h (omega arith)
-
 -- the lower four bits of a byte
 low_test : holds_below (λ x. bit_and x 15 == x % 16) 256 ≡ true
 low_test = refl
