@@ -90,7 +90,7 @@ returns-clause-bounded c =
           c.lesser-second.ensures.value;
       third = capped c.args.squares.now.odd c.args.gap.odd (search rules) (search rules) c.capped-third.ensures.value;
       fourth = least c.args.squares.now.odd c.args.gap.odd (search rules) (search rules) c.lesser-fourth.ensures.value;
-    }) even odd across
+    }) (record { even = even; odd = odd; across = across })
   where
     even : to_z w16 (of_z w16 c.sum.result) ≡ (c.args.squares.now.across +ℤ c.args.gap.across +ℤ c.capped-first.result)
         -ℤ c.capped-third.result
@@ -133,7 +133,7 @@ returns-clause-gaps c =
           c.lesser-second.ensures.value;
       third = capped c.args.squares.now.odd c.args.gap.odd (search rules) (search rules) c.capped-third.ensures.value;
       fourth = least c.args.squares.now.odd c.args.gap.odd (search rules) (search rules) c.lesser-fourth.ensures.value;
-    }) even odd across
+    }) (record { even = even; odd = odd; across = across })
   where
     tested : AreTested c.args.units.now.scale c.args.symbol
     tested = are_tested c.args.units.now.scale c.args.symbol (search rules) (omega (arith, ints)) (omega (arith, ints))
