@@ -1,7 +1,8 @@
 -- Gaps of potentials, one more symbol in front.
 use Rattle.std.proofs.Common.{◌≡◌, ℕ, ℤ, pos, ◌+◌, ◌*◌, ◌/◌, ◌%◌, ◌<◌, ◌≤◌, ◌⊎◌, inl, inr, ◌+ℤ◌, ◌-ℤ◌, ◌≤ℤ◌, ◌<ℤ◌, ◌^◌}
 use Rattle.std.proofs.Common.{min}
-use Rattle.std.proofs.Common.{List, [], ◌∷◌, get_or, refl, sym, ap, ◌∙◌, subst, arith}
+use Rattle.std.proofs.Common.{List, [], ◌∷◌, get_or, refl, sym, ap, ◌∙◌, subst, w8, arith}
+use mir.Val.{SFits}
 use Rattle.std.specs.Int.{int_min}
 use Rattle.std.proofs.lemmas.Int.{ints, clamps}
 use Rattle.std.proofs.lemmas.Bool.{cases_order}
@@ -10,7 +11,7 @@ use Rattle.dtx_soft.specs.declared.gaps.Gap.{Gap}
 use Rattle.dtx_soft.specs.declared.gaps.SquareGaps.{SquareGaps}
 use Rattle.dtx_soft.specs.Gaps.{AreGaps, AreLesser, AreTaken, IsBefore, IsBounded, row_of, tie_of, unit}
 use Rattle.dtx_soft.specs.Squares.{AreSmall, IsSquares}
-use Rattle.dtx_soft.proofs.SquareGaps.{AreTested, row_tie}
+use Rattle.dtx_soft.proofs.SquareGaps.{AreTested, are_tested, row_gaps, row_tie}
 use Rattle.std.proofs.lemmas.Bool.Decides.{nat_tests}
 use Rattle.dtx_soft.specs.Nearest.{IsTaken, IsTieBreak, cheapest, through}
 use Rattle.dtx_soft.specs.Paths.{next_state}
@@ -114,6 +115,19 @@ gaps_before k row behind before x y u d e f v w z r g h by = record {
         × (pos (min (m 1 + p 1) (m 3 + p 3)) ≡ pos (min (m 1 + p 3) (m 3 + p 1)) +ℤ z)
     all = by (m 0) (m 1) (m 2) (m 3) (p 0) (p 1) (p 2) (p 3) r.even_is r.odd_is r.across_is g.even_is g.odd_is
         g.across_is
+
+-- the gaps of a symbol's squares, in units
+pub squares_in_units : (scale : ℕ) (symbol : ℤ) (squares : SquareGaps) → scale ≤ 18 → SFits w8 symbol
+    → IsSquares scale symbol squares → AreSmall squares
+    → AreTested scale symbol
+    × AreGaps (unit scale) (row_of scale symbol).squares squares.even squares.odd squares.across
+squares_in_units scale symbol squares l f q s =
+    let t = are_tested scale symbol l (omega (arith, ints)) (omega (arith, ints)) in (
+      t,
+      row_gaps scale symbol squares.even squares.odd squares.across t q.even q.odd q.across
+          (omega (arith, ints, s.across_from, s.even_from)) (omega (arith, ints, s.odd_from))
+          (omega (arith, ints, s.across_from)),
+    )
 
 -- one number above another, or not
 abbrev pub SaysAbove : ℤ → ℤ → ℕ → Type 0

@@ -10,7 +10,7 @@ use Rattle.dtx_soft.specs.declared.gaps.SquareGaps.{SquareGaps}
 use Rattle.dtx_soft.specs.Gaps.{AreLesser, IsBounded}
 use Rattle.dtx_soft.proofs.GapSteps.{AreSums}
 use Rattle.dtx_soft.specs.Near.{AreNear, IsNear, IsTight}
-use Rattle.dtx_soft.specs.Squares.{IsSquares, across_of, even_of, odd_of, seen, within}
+use Rattle.dtx_soft.specs.Squares.{AreSmall, IsSquares, across_of, even_of, odd_of, seen, within}
 
 pub seen_some : (scale : ℕ) (symbol : ℤ) → 0 < scale → seen scale symbol ≡ symbol
 seen_some scale symbol l = grind (arith, nat_tests)
@@ -83,6 +83,20 @@ near_squares c v squares l m n a =
       odd_tied_from = t.0;
       odd_tied_to = t.1;
     }
+
+pub near_small : (squares : SquareGaps) → AreNear squares → AreSmall squares
+near_small squares s = record {
+  even_from = omega (arith, ints, s.even_from);
+  even_to = omega (arith, ints, s.even_to);
+  odd_from = omega (arith, ints, s.odd_from);
+  odd_to = omega (arith, ints, s.odd_to);
+  across_from = omega (arith, ints, s.across_from);
+  across_to = omega (arith, ints, s.across_to);
+  even_tied_from = omega (arith, ints, s.even_from, s.even_tied_from);
+  even_tied_to = omega (arith, ints, s.even_to, s.even_tied_to);
+  odd_tied_from = omega (arith, ints, s.odd_from, s.odd_tied_from);
+  odd_tied_to = omega (arith, ints, s.odd_to, s.odd_tied_to);
+}
 
 -- a number that is read from a byte
 abbrev pub byte : ℤ → ℤ

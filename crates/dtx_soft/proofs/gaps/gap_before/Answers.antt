@@ -3,8 +3,9 @@ use mir.Syntax.{w16}
 use mir.Val.{SFits}
 use Rattle.std.specs.Int.{int_min}
 use Rattle.std.proofs.lemmas.Int.{ints, to_z-of_z}
-use Rattle.dtx_soft.proofs.GapSteps.{bounded_before, right_before}
-use Rattle.dtx_soft.proofs.SquareGaps.{AreTested, are_tested, row_gaps}
+use Rattle.dtx_soft.specs.declared.gaps.Gap.{Gap}
+use Rattle.dtx_soft.specs.Gaps.{AreLesser}
+use Rattle.dtx_soft.proofs.GapSteps.{AreSums, bounded_before, right_before, squares_in_units}
 use Rattle.dtx_soft.proofs.gaps.gap_before.Goals as goal
 
 least : {r : ℤ} (v w : ℤ) → SFits w16 v → SFits w16 w → r ≡ int_min (to_z w16 (of_z w16 v)) (to_z w16 (of_z w16 w))
@@ -77,87 +78,45 @@ sum-requires-2-clause-number_to c =
 pub difference-requires-clause-number_from : goal.difference-requires-clause-number_from
 difference-requires-clause-number_from c = omega (arith, ints)
 
-pub returns-clause-bounded : goal.returns-clause-bounded
-returns-clause-bounded c =
-    bounded_before c.args.squares.now c.args.gap (record {
+pub returns : goal.returns
+returns c = record {
+  bounded = bounded_before c.args.squares.now c.args.gap new _ _ _ _ c.requires.small c.requires.bounded lesser sums;
+  gaps = right_before c.args.units.now.scale c.args.symbol c.args.squares.now c.args.gap new _ _ _ _
+      (squares_in_units c.args.units.now.scale c.args.symbol c.args.squares.now (search rules) c.ranges.symbol
+      c.requires.squares c.requires.small).1 lesser sums;
+}
+  where
+    new : Gap
+    new = record {
       even = to_z w16 (of_z w16 c.sum.result);
       odd = to_z w16 (of_z w16 c.sum-2.result);
       across = to_z w16 (of_z w16 c.difference.result);
-    }) c.capped-first.result c.lesser-second.result c.capped-third.result
-    c.lesser-fourth.result c.requires.small c.requires.bounded (record {
+    }
+
+    lesser : AreLesser c.args.squares.now c.args.gap c.capped-first.result c.lesser-second.result c.capped-third.result
+        c.lesser-fourth.result
+    lesser = record {
       first = capped c.args.squares.now.even c.args.gap.even (search rules) (search rules) c.capped-first.ensures.value;
       second = least c.args.squares.now.even c.args.gap.even (search rules) (search rules)
           c.lesser-second.ensures.value;
       third = capped c.args.squares.now.odd c.args.gap.odd (search rules) (search rules) c.capped-third.ensures.value;
       fourth = least c.args.squares.now.odd c.args.gap.odd (search rules) (search rules) c.lesser-fourth.ensures.value;
-    }) (record { even = even; odd = odd; across = across })
-  where
-    even : to_z w16 (of_z w16 c.sum.result) ≡ (c.args.squares.now.across +ℤ c.args.gap.across +ℤ c.capped-first.result)
-        -ℤ c.capped-third.result
-    even =
-        to_z-of_z w16 c.sum.result (search rules) ∙ both c.sum.result c.sum-step.result c.difference-even.result
-        c.args.squares.now.across c.args.gap.across
-        c.capped-first.result c.capped-third.result (added c.sum-step.result c.difference-even.result (search rules)
-        (search rules) c.sum.ensures)
-        (added c.args.squares.now.across c.args.gap.across (search rules) (search rules) c.sum-step.ensures)
-        (taken c.capped-first.result c.capped-third.result (search rules) (search rules) c.difference-even.ensures)
+    }
 
-    odd : to_z w16 (of_z w16 c.sum-2.result) ≡ (c.args.squares.now.across +ℤ c.args.gap.across +ℤ
-        c.lesser-second.result) -ℤ c.lesser-fourth.result
-    odd =
-        to_z-of_z w16 c.sum-2.result (search rules) ∙ both c.sum-2.result c.sum-step.result c.difference-odd.result
-        c.args.squares.now.across c.args.gap.across
-        c.lesser-second.result c.lesser-fourth.result (added c.sum-step.result c.difference-odd.result (search rules)
-        (search rules) c.sum-2.ensures)
-        (added c.args.squares.now.across c.args.gap.across (search rules) (search rules) c.sum-step.ensures)
-        (taken c.lesser-second.result c.lesser-fourth.result (search rules) (search rules) c.difference-odd.ensures)
+    step : c.sum-step.result ≡ c.args.squares.now.across +ℤ c.args.gap.across
+    step = added c.args.squares.now.across c.args.gap.across (search rules) (search rules) c.sum-step.ensures
 
-    across : to_z w16 (of_z w16 c.difference.result) ≡ c.capped-third.result -ℤ c.lesser-fourth.result
-    across = to_z-of_z w16 c.difference.result (search rules) ∙ taken c.capped-third.result c.lesser-fourth.result
-        (search rules) (search rules) c.difference.ensures
-
-pub returns-clause-gaps : goal.returns-clause-gaps
-returns-clause-gaps c =
-    right_before c.args.units.now.scale c.args.symbol c.args.squares.now c.args.gap (record {
-      even = to_z w16 (of_z w16 c.sum.result);
-      odd = to_z w16 (of_z w16 c.sum-2.result);
-      across = to_z w16 (of_z w16 c.difference.result);
-    }) c.capped-first.result
-    c.lesser-second.result c.capped-third.result c.lesser-fourth.result
-    (row_gaps c.args.units.now.scale c.args.symbol c.args.squares.now.even c.args.squares.now.odd
-    c.args.squares.now.across tested
-    c.requires.squares.even c.requires.squares.odd c.requires.squares.across (omega (arith, ints)) (omega (arith, ints))
-    (omega (arith, ints))) (record {
-      first = capped c.args.squares.now.even c.args.gap.even (search rules) (search rules) c.capped-first.ensures.value;
-      second = least c.args.squares.now.even c.args.gap.even (search rules) (search rules)
-          c.lesser-second.ensures.value;
-      third = capped c.args.squares.now.odd c.args.gap.odd (search rules) (search rules) c.capped-third.ensures.value;
-      fourth = least c.args.squares.now.odd c.args.gap.odd (search rules) (search rules) c.lesser-fourth.ensures.value;
-    }) (record { even = even; odd = odd; across = across })
-  where
-    tested : AreTested c.args.units.now.scale c.args.symbol
-    tested = are_tested c.args.units.now.scale c.args.symbol (search rules) (omega (arith, ints)) (omega (arith, ints))
-
-    even : to_z w16 (of_z w16 c.sum.result) ≡ (c.args.squares.now.across +ℤ c.args.gap.across +ℤ c.capped-first.result)
-        -ℤ c.capped-third.result
-    even =
-        to_z-of_z w16 c.sum.result (search rules) ∙ both c.sum.result c.sum-step.result c.difference-even.result
-        c.args.squares.now.across c.args.gap.across
-        c.capped-first.result c.capped-third.result (added c.sum-step.result c.difference-even.result (search rules)
-        (search rules) c.sum.ensures)
-        (added c.args.squares.now.across c.args.gap.across (search rules) (search rules) c.sum-step.ensures)
-        (taken c.capped-first.result c.capped-third.result (search rules) (search rules) c.difference-even.ensures)
-
-    odd : to_z w16 (of_z w16 c.sum-2.result) ≡ (c.args.squares.now.across +ℤ c.args.gap.across +ℤ
-        c.lesser-second.result) -ℤ c.lesser-fourth.result
-    odd =
-        to_z-of_z w16 c.sum-2.result (search rules) ∙ both c.sum-2.result c.sum-step.result c.difference-odd.result
-        c.args.squares.now.across c.args.gap.across
-        c.lesser-second.result c.lesser-fourth.result (added c.sum-step.result c.difference-odd.result (search rules)
-        (search rules) c.sum-2.ensures)
-        (added c.args.squares.now.across c.args.gap.across (search rules) (search rules) c.sum-step.ensures)
-        (taken c.lesser-second.result c.lesser-fourth.result (search rules) (search rules) c.difference-odd.ensures)
-
-    across : to_z w16 (of_z w16 c.difference.result) ≡ c.capped-third.result -ℤ c.lesser-fourth.result
-    across = to_z-of_z w16 c.difference.result (search rules) ∙ taken c.capped-third.result c.lesser-fourth.result
-        (search rules) (search rules) c.difference.ensures
+    sums : AreSums c.args.squares.now c.args.gap c.capped-first.result c.lesser-second.result c.capped-third.result
+        c.lesser-fourth.result new
+    sums = record {
+      even = to_z-of_z w16 c.sum.result (search rules) ∙ both c.sum.result c.sum-step.result c.difference-even.result
+          c.args.squares.now.across c.args.gap.across c.capped-first.result c.capped-third.result
+          (added c.sum-step.result c.difference-even.result (search rules) (search rules) c.sum.ensures) step
+          (taken c.capped-first.result c.capped-third.result (search rules) (search rules) c.difference-even.ensures);
+      odd = to_z-of_z w16 c.sum-2.result (search rules) ∙ both c.sum-2.result c.sum-step.result c.difference-odd.result
+          c.args.squares.now.across c.args.gap.across c.lesser-second.result c.lesser-fourth.result
+          (added c.sum-step.result c.difference-odd.result (search rules) (search rules) c.sum-2.ensures) step
+          (taken c.lesser-second.result c.lesser-fourth.result (search rules) (search rules) c.difference-odd.ensures);
+      across = to_z-of_z w16 c.difference.result (search rules) ∙ taken c.capped-third.result c.lesser-fourth.result
+          (search rules) (search rules) c.difference.ensures;
+    }
