@@ -4,6 +4,10 @@ use mir.Syntax.{Width, w16}
 use mir.Val.{SFits}
 use Rattle.std.proofs.lemmas.Int.{to_z-of_z}
 
+-- a number that is read from 16 bits
+abbrev pub word : ℤ → ℤ
+word z = to_z w16 (of_z w16 z)
+
 pub unwrapped_at : {A : Type 0} {r : A} (w : Width) (f : ℤ → ℤ → A) (v u : ℤ) → SFits w v → SFits w u
     → r ≡ f (to_z w (of_z w v)) (to_z w (of_z w u)) → r ≡ f v u
 unwrapped_at w f v u g h e = e ∙ ap₂ f (to_z-of_z w v g) (to_z-of_z w u h)
