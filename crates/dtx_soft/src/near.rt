@@ -365,10 +365,11 @@ fn differ(units: &NearUnits, symbol: i8) -> NearSquares
     ensures gaps { IsSquares units.now.scale symbol (squares_of result) }
     ensures near { AreNear (squares_of result) }
 {
+    let odd = odd_gap(units, symbol, 0);
     NearSquares {
         even: even_gap(units, symbol, 0),
-        odd: odd_gap(units, symbol, 0),
-        across: across_gap(units, symbol),
+        odd,
+        across: across_gap(units, symbol, odd),
         even_tied: even_gap(units, symbol, 1),
         odd_tied: odd_gap(units, symbol, 1),
     }
@@ -402,13 +403,14 @@ fn odd_gap(units: &NearUnits, symbol: i8, tie: i8) -> i8
 
 /// How the squares of levels 2 or 6 and 3 or 7 differ.
 #[inline(always)]
-fn across_gap(units: &NearUnits, symbol: i8) -> i8
-    requires { IsNear symbol }
+fn across_gap(units: &NearUnits, symbol: i8, odd: i8) -> i8
+    requires near { IsNear symbol }
+    requires odd { odd ≡ odd_of units.now.scale symbol (pos 0) }
     ensures { result ≡ across_of units.now.scale symbol }
 {
     let twice = symbol + symbol;
     let near = within(units.four_below, twice + twice, units.four);
-    odd_gap(units, symbol, 0) - symbol + near
+    odd - symbol + near
 }
 
 /// A number, or the nearer of two bounds.

@@ -1,9 +1,13 @@
-use Rattle.std.proofs.Common.{ℕ, pos, rules}
+use Rattle.std.proofs.lemmas.Int.{to_z-of_z}
+use Rattle.std.proofs.Common.{◌∙◌, w8, ℕ, pos, rules}
 use Rattle.dtx_soft.specs.declared.gaps.SquareGaps.{SquareGaps}
 use Rattle.dtx_soft.specs.Squares.{across_of, even_of, odd_of}
 use Rattle.dtx_soft.proofs.NearGaps.{AreFormulas, byte, near_squares, seen_squares}
 use Rattle.dtx_soft.proofs.Wraps.{returned_byte}
 use Rattle.dtx_soft.proofs.near.differ.Goals as goal
+
+pub across_gap-requires-clause-odd : goal.across_gap-requires-clause-odd
+across_gap-requires-clause-odd c = to_z-of_z w8 c.odd_gap-odd.result (search rules) ∙ c.odd_gap-odd.ensures
 
 pub returns : goal.returns
 returns c = record {
@@ -17,10 +21,10 @@ returns c = record {
     new : SquareGaps
     new = record {
       even = byte c.even_gap.result;
-      odd = byte c.odd_gap.result;
+      odd = byte c.odd_gap-odd.result;
       across = byte c.across_gap.result;
       even_tied = byte c.even_gap-2.result;
-      odd_tied = byte c.odd_gap-2.result;
+      odd_tied = byte c.odd_gap.result;
     }
 
     formulas : AreFormulas scale c.args.symbol new
@@ -28,11 +32,11 @@ returns c = record {
       even = returned_byte (even_of scale) c.args.symbol (pos 0) (search rules) (search rules) (search rules)
           c.even_gap.ensures;
       odd = returned_byte (odd_of scale) c.args.symbol (pos 0) (search rules) (search rules) (search rules)
-          c.odd_gap.ensures;
+          c.odd_gap-odd.ensures;
       across = returned_byte (λ v _. across_of scale v) c.args.symbol (pos 0) (search rules) (search rules)
           (search rules) c.across_gap.ensures;
       even_tied = returned_byte (even_of scale) c.args.symbol (pos 1) (search rules) (search rules) (search rules)
           c.even_gap-2.ensures;
       odd_tied = returned_byte (odd_of scale) c.args.symbol (pos 1) (search rules) (search rules) (search rules)
-          c.odd_gap-2.ensures;
+          c.odd_gap.ensures;
     }
