@@ -1,16 +1,17 @@
 -- Gaps of potentials, one more symbol in front.
 use Rattle.std.proofs.Common.{◌≡◌, ℕ, ℤ, pos, ◌+◌, ◌*◌, ◌/◌, ◌%◌, ◌<◌, ◌≤◌, ◌⊎◌, inl, inr, ◌+ℤ◌, ◌-ℤ◌, ◌≤ℤ◌, ◌<ℤ◌, ◌^◌}
 use Rattle.std.proofs.Common.{min}
-use Rattle.std.proofs.Common.{List, [], ◌∷◌, get_or, refl, sym, ap, ◌∙◌, subst, arith}
+use Rattle.std.proofs.Common.{List, [], ◌∷◌, get_or, refl, sym, ap, ◌∙◌, subst, w8, arith}
+use mir.Val.{SFits}
 use Rattle.std.specs.Int.{int_min}
 use Rattle.std.proofs.lemmas.Int.{ints, clamps}
 use Rattle.std.proofs.lemmas.Bool.{cases_order}
 use Rattle.dtx_soft.specs.declared.nearest.Nearest.{Nearest}
 use Rattle.dtx_soft.specs.declared.gaps.Gap.{Gap}
 use Rattle.dtx_soft.specs.declared.gaps.SquareGaps.{SquareGaps}
-use Rattle.dtx_soft.specs.Gaps.{AreGaps, AreTaken, IsBefore, IsBounded, row_of, tie_of, unit}
+use Rattle.dtx_soft.specs.Gaps.{AreGaps, AreLesser, AreTaken, IsBefore, IsBounded, row_of, tie_of, unit}
 use Rattle.dtx_soft.specs.Squares.{AreSmall, IsSquares}
-use Rattle.dtx_soft.proofs.SquareGaps.{AreTested, row_tie}
+use Rattle.dtx_soft.proofs.SquareGaps.{AreTested, are_tested, row_gaps, row_tie}
 use Rattle.std.proofs.lemmas.Bool.Decides.{nat_tests}
 use Rattle.dtx_soft.specs.Nearest.{IsTaken, IsTieBreak, cheapest, through}
 use Rattle.dtx_soft.specs.Paths.{next_state}
@@ -115,6 +116,19 @@ gaps_before k row behind before x y u d e f v w z r g h by = record {
     all = by (m 0) (m 1) (m 2) (m 3) (p 0) (p 1) (p 2) (p 3) r.even_is r.odd_is r.across_is g.even_is g.odd_is
         g.across_is
 
+-- the gaps of a symbol's squares, in units
+pub squares_in_units : (scale : ℕ) (symbol : ℤ) (squares : SquareGaps) → scale ≤ 18 → SFits w8 symbol
+    → IsSquares scale symbol squares → AreSmall squares
+    → AreTested scale symbol
+    × AreGaps (unit scale) (row_of scale symbol).squares squares.even squares.odd squares.across
+squares_in_units scale symbol squares l f q s =
+    let t = are_tested scale symbol l (omega (arith, ints)) (omega (arith, ints)) in (
+      t,
+      row_gaps scale symbol squares.even squares.odd squares.across t q.even q.odd q.across
+          (omega (arith, ints, s.across_from, s.even_from)) (omega (arith, ints, s.odd_from))
+          (omega (arith, ints, s.across_from)),
+    )
+
 -- one number above another, or not
 abbrev pub SaysAbove : ℤ → ℤ → ℕ → Type 0
 SaysAbove other number bit = ((other <ℤ number) × (bit ≡ 1)) ⊎ ((number ≤ℤ other) × (bit ≡ 0))
@@ -183,12 +197,11 @@ marks_taken scale symbol squares gap a b c d t q r s behind g =
         gap.across r g state (tie_of scale symbol (state / 2)) bit (omega arith) l (small_tie scale symbol (state / 2))
         (row_tie scale symbol (state / 2) (omega arith))
 
--- the four lesser ones of two
-pub record AreLesser (squares : SquareGaps) (gap : Gap) (a b g h : ℤ) : Type 0 where
-  pub first : a ≡ int_min (squares.even +ℤ gap.even) (pos 0)
-  pub second : b ≡ int_min squares.even gap.even
-  pub third : g ≡ int_min (squares.odd +ℤ gap.odd) (pos 0)
-  pub fourth : h ≡ int_min squares.odd gap.odd
+-- the gaps that come of the four lesser ones
+pub record AreSums (squares : SquareGaps) (gap : Gap) (a b g h : ℤ) (new : Gap) : Type 0 where
+  pub even : new.even ≡ (squares.across +ℤ gap.across +ℤ a) -ℤ g
+  pub odd : new.odd ≡ (squares.across +ℤ gap.across +ℤ b) -ℤ h
+  pub across : new.across ≡ g -ℤ h
 
 bounds : (x y u d e f a b g h : ℤ) → pos 0 ≤ℤ (x +ℤ pos 512) → x ≤ℤ pos 512 → pos 0 ≤ℤ (y +ℤ pos 512) → y ≤ℤ pos 512
     → pos 0 ≤ℤ (u +ℤ pos 712) → u ≤ℤ pos 712 → pos 0 ≤ℤ (f +ℤ pos 512) → f ≤ℤ pos 512
@@ -211,21 +224,20 @@ bounds x y u d e f a b g h l1 l2 l3 l4 l5 l6 l7 l8 l9 l10 e1 e2 e3 e4 = (
 )
 
 pub bounded_before : (squares : SquareGaps) (gap new : Gap) (a b g h : ℤ) → AreSmall squares → IsBounded gap
-    → AreLesser squares gap a b g h → new.even ≡ (squares.across +ℤ gap.across +ℤ a) -ℤ g
-    → new.odd ≡ (squares.across +ℤ gap.across +ℤ b) -ℤ h → new.across ≡ g -ℤ h → IsBounded new
-bounded_before squares gap new a b g h s l m e1 e2 e3 =
+    → AreLesser squares gap a b g h → AreSums squares gap a b g h new → IsBounded new
+bounded_before squares gap new a b g h s l m n =
     let all = bounds squares.even squares.odd squares.across gap.even gap.odd gap.across a b g h s.even_from s.even_to
     s.odd_from s.odd_to s.across_from s.across_to l.across_from l.across_to l.beside_from l.beside_to m.first m.second
     m.third m.fourth in
     record {
-      even_from = omega (arith, ints, all.0);
-      even_to = omega (arith, ints, all.1);
-      odd_from = omega (arith, ints, all.2);
-      odd_to = omega (arith, ints, all.3);
-      across_from = omega (arith, ints, all.4);
-      across_to = omega (arith, ints, all.5);
-      beside_from = omega (arith, ints, all.6);
-      beside_to = omega (arith, ints, all.7);
+      even_from = omega (arith, ints, all.0, n.even);
+      even_to = omega (arith, ints, all.1, n.even);
+      odd_from = omega (arith, ints, all.2, n.odd);
+      odd_to = omega (arith, ints, all.3, n.odd);
+      across_from = omega (arith, ints, all.4, n.across);
+      across_to = omega (arith, ints, all.5, n.across);
+      beside_from = omega (arith, ints, all.6, n.even, n.odd, n.across);
+      beside_to = omega (arith, ints, all.7, n.even, n.odd, n.across);
     }
 
 new_even : (m0 m1 m2 m3 p0 p1 p2 p3 : ℕ) (x y u d e f a g : ℤ) → pos m0 ≡ pos m2 +ℤ x → pos m1 ≡ pos m3 +ℤ y
@@ -247,17 +259,16 @@ new_across m1 m3 p1 p3 y e g h e1 e2 e3 e4 = omega (arith, ints, clamps)
 
 pub right_before : (scale : ℕ) (symbol : ℤ) (squares : SquareGaps) (gap new : Gap) (a b g h : ℤ)
     → AreGaps (unit scale) (row_of scale symbol).squares squares.even squares.odd squares.across
-    → AreLesser squares gap a b g h → new.even ≡ (squares.across +ℤ gap.across +ℤ a) -ℤ g
-    → new.odd ≡ (squares.across +ℤ gap.across +ℤ b) -ℤ h → new.across ≡ g -ℤ h → IsBefore scale symbol gap new
-right_before scale symbol squares gap new a b g h r m e1 e2 e3 behind before p q =
+    → AreLesser squares gap a b g h → AreSums squares gap a b g h new → IsBefore scale symbol gap new
+right_before scale symbol squares gap new a b g h r m n behind before p q =
     gaps_before (unit scale) (row_of scale symbol) behind before squares.even squares.odd squares.across gap.even
     gap.odd
     gap.across new.even new.odd new.across r p q
     (λ m0 m1 m2 m3 p0 p1 p2 p3 i1 i2 i3 i4 i5 i6. (
       new_even m0 m1 m2 m3 p0 p1 p2 p3 squares.even squares.odd squares.across gap.even gap.odd gap.across a g i1 i2 i3
-          i4 i5 i6 m.first m.third ∙ ap (λ z. pos (min (m1 + p1) (m3 + p3)) +ℤ z) (sym e1),
+          i4 i5 i6 m.first m.third ∙ ap (λ z. pos (min (m1 + p1) (m3 + p3)) +ℤ z) (sym n.even),
       new_odd m0 m1 m2 m3 p0 p1 p2 p3 squares.even squares.odd squares.across gap.even gap.odd gap.across b h i1 i2 i3
-          i4 i5 i6 m.second m.fourth ∙ ap (λ z. pos (min (m1 + p3) (m3 + p1)) +ℤ z) (sym e2),
+          i4 i5 i6 m.second m.fourth ∙ ap (λ z. pos (min (m1 + p3) (m3 + p1)) +ℤ z) (sym n.odd),
       new_across m1 m3 p1 p3 squares.odd gap.odd g h i2 i5 m.third m.fourth
-          ∙ ap (λ z. pos (min (m1 + p3) (m3 + p1)) +ℤ z) (sym e3),
+          ∙ ap (λ z. pos (min (m1 + p3) (m3 + p1)) +ℤ z) (sym n.across),
     ))

@@ -1,16 +1,16 @@
 -- Gaps of squares and of potentials at symbols near 0 fit bytes.
-use Rattle.std.proofs.Common.{◌≡◌, ℕ, ℤ, pos, ◌<◌, ◌≤◌, ◌+ℤ◌, ◌-ℤ◌, ◌≤ℤ◌, to_z, of_z, w8, arith}
+use Rattle.std.proofs.Common.{◌≡◌, ℕ, ℤ, pos, neg_ℤ, ◌*◌, ◌<◌, ◌≤◌, ◌+ℤ◌, ◌-ℤ◌, ◌≤ℤ◌, refl, sym, subst, ap, ap₂}
+use Rattle.std.proofs.Common.{◌∙◌, to_z, of_z, w8, arith}
 use mir.Val.{SFits}
 use Rattle.std.specs.Int.{int_min}
 use Rattle.std.proofs.lemmas.Bool.Decides.{nat_tests}
 use Rattle.std.proofs.lemmas.Int.{ints, clamps}
 use Rattle.dtx_soft.specs.declared.gaps.Gap.{Gap}
 use Rattle.dtx_soft.specs.declared.gaps.SquareGaps.{SquareGaps}
-use Rattle.dtx_soft.specs.Gaps.{IsBounded}
+use Rattle.dtx_soft.specs.Gaps.{AreLesser, IsBounded}
+use Rattle.dtx_soft.proofs.GapSteps.{AreSums}
 use Rattle.dtx_soft.specs.Near.{AreNear, IsNear, IsTight}
-use Rattle.dtx_soft.specs.Squares.{across_of, even_of, odd_of, seen}
-use Rattle.dtx_soft.proofs.GapSteps.{AreLesser}
-use Rattle.dtx_soft.proofs.Wraps.{unwrapped_byte}
+use Rattle.dtx_soft.specs.Squares.{AreSmall, IsSquares, across_of, even_of, odd_of, seen, within}
 
 pub seen_some : (scale : ℕ) (symbol : ℤ) → 0 < scale → seen scale symbol ≡ symbol
 seen_some scale symbol l = grind (arith, nat_tests)
@@ -23,13 +23,25 @@ pub record AreFormulas (scale : ℕ) (symbol : ℤ) (squares : SquareGaps) : Typ
   pub even_tied : squares.even_tied ≡ even_of scale symbol (pos 1)
   pub odd_tied : squares.odd_tied ≡ odd_of scale symbol (pos 1)
 
-pub even_near : (c : ℕ) (v x : ℤ) → 0 < c → c ≤ 4 → pos 0 ≤ℤ (v +ℤ pos 28) → v ≤ℤ pos 28 → x ≡ even_of c v (pos 0)
-    → (pos 0 ≤ℤ (x +ℤ pos 50)) × (x ≤ℤ pos 50)
-even_near c v x l m f t e = (omega (arith, ints, clamps), omega (arith, ints, clamps))
+pub seen_squares : (scale : ℕ) (symbol : ℤ) (squares : SquareGaps) → 0 < scale → AreFormulas scale symbol squares
+    → IsSquares scale symbol squares
+seen_squares scale symbol squares l a =
+    let e = sym (seen_some scale symbol l) in record {
+      even = subst (λ v. squares.even ≡ even_of scale v (pos 0)) e a.even;
+      odd = subst (λ v. squares.odd ≡ odd_of scale v (pos 0)) e a.odd;
+      across = subst (λ v. squares.across ≡ across_of scale v) e a.across;
+      even_tied = subst (λ v. squares.even_tied ≡ even_of scale v (pos 1)) e a.even_tied;
+      odd_tied = subst (λ v. squares.odd_tied ≡ odd_of scale v (pos 1)) e a.odd_tied;
+    }
 
-pub odd_near : (c : ℕ) (v y : ℤ) → 0 < c → c ≤ 4 → pos 0 ≤ℤ (v +ℤ pos 28) → v ≤ℤ pos 28 → y ≡ odd_of c v (pos 0)
-    → (pos 0 ≤ℤ (y +ℤ pos 50)) × (y ≤ℤ pos 50)
-odd_near c v y l m f t e = (omega (arith, ints, clamps), omega (arith, ints, clamps))
+-- a gap of squares, with 1 more where the second of equal ones comes first
+pub even_near : (c : ℕ) (v t x : ℤ) → 0 < c → c ≤ 4 → IsNear v → pos 0 ≤ℤ t → t ≤ℤ pos 1 → x ≡ even_of c v t
+    → (pos 0 ≤ℤ (x +ℤ pos 50)) × (x ≤ℤ (t +ℤ pos 50))
+even_near c v t x l m n f g e = (omega (arith, ints, clamps, n.from, n.to), omega (arith, ints, clamps, n.from, n.to))
+
+pub odd_near : (c : ℕ) (v t y : ℤ) → 0 < c → c ≤ 4 → IsNear v → pos 0 ≤ℤ t → t ≤ℤ pos 1 → y ≡ odd_of c v t
+    → (pos 0 ≤ℤ (y +ℤ pos 50)) × (y ≤ℤ (t +ℤ pos 50))
+odd_near c v t y l m n f g e = (omega (arith, ints, clamps, n.from, n.to), omega (arith, ints, clamps, n.from, n.to))
 
 pub across_near : (c : ℕ) (v u : ℤ) → 0 < c → c ≤ 4 → pos 0 ≤ℤ (v +ℤ pos 28) → v ≤ℤ pos 28 → u ≡ across_of c v
     → (pos 0 ≤ℤ (u +ℤ pos 26)) × (u ≤ℤ pos 26)
@@ -51,17 +63,17 @@ odd_tied_near c v y z e g = (omega (arith, ints, clamps), omega (arith, ints, cl
 pub near_squares : (c : ℕ) (v : ℤ) (squares : SquareGaps) → 0 < c → c ≤ 4 → IsNear v → AreFormulas c v squares
     → AreNear squares
 near_squares c v squares l m n a =
-    let x = even_near c v squares.even l m n.from n.to a.even in
-    let y = odd_near c v squares.odd l m n.from n.to a.odd in
+    let x = even_near c v (pos 0) squares.even l m n (omega (arith, ints)) (omega (arith, ints)) a.even in
+    let y = odd_near c v (pos 0) squares.odd l m n (omega (arith, ints)) (omega (arith, ints)) a.odd in
     let u = across_near c v squares.across l m n.from n.to a.across in
     let b = beside_near c v squares.even squares.odd squares.across l m n.from n.to a.even a.odd a.across in
     let s = even_tied_near c v squares.even squares.even_tied a.even a.even_tied in
     let t = odd_tied_near c v squares.odd squares.odd_tied a.odd a.odd_tied in
     record {
       even_from = x.0;
-      even_to = x.1;
+      even_to = omega (arith, ints, x.1);
       odd_from = y.0;
-      odd_to = y.1;
+      odd_to = omega (arith, ints, y.1);
       across_from = u.0;
       across_to = u.1;
       beside_from = b.0;
@@ -72,42 +84,215 @@ near_squares c v squares l m n a =
       odd_tied_to = t.1;
     }
 
+pub near_small : (squares : SquareGaps) → AreNear squares → AreSmall squares
+near_small squares s = record {
+  even_from = omega (arith, ints, s.even_from);
+  even_to = omega (arith, ints, s.even_to);
+  odd_from = omega (arith, ints, s.odd_from);
+  odd_to = omega (arith, ints, s.odd_to);
+  across_from = omega (arith, ints, s.across_from);
+  across_to = omega (arith, ints, s.across_to);
+  even_tied_from = omega (arith, ints, s.even_from, s.even_tied_from);
+  even_tied_to = omega (arith, ints, s.even_to, s.even_tied_to);
+  odd_tied_from = omega (arith, ints, s.odd_from, s.odd_tied_from);
+  odd_tied_to = omega (arith, ints, s.odd_to, s.odd_tied_to);
+}
+
+-- a number that is read from a byte
+abbrev pub byte : ℤ → ℤ
+byte z = to_z w8 (of_z w8 z)
+
+same_within : {r : ℤ} (a b d x y z : ℤ) → r ≡ within a b d → a ≡ x → b ≡ y → d ≡ z → r ≡ within x y z
+same_within a b d x y z e f g h = e ∙ ap₂ (λ s t. within s t d) f g ∙ ap (within x y) h
+
+-- four times a symbol, less 1 or not, as bytes make it
+abbrev pub four_times : ℤ → ℤ → ℤ
+four_times v t = byte (byte (byte (byte v +ℤ byte v) +ℤ byte (byte v +ℤ byte v)) -ℤ byte t)
+
+four_times_is : (v t : ℤ) → IsNear v → pos 0 ≤ℤ t → t ≤ℤ pos 1
+    → four_times v t ≡ ((v +ℤ v) +ℤ (v +ℤ v)) -ℤ t
+four_times_is v t n f g = omega (arith, ints, n.from, n.to)
+
+pub even_in_bytes : (c : ℕ) (v t low high two r : ℤ) → 0 < c → c ≤ 4 → IsNear v → pos 0 ≤ℤ t → t ≤ℤ pos 1
+    → low ≡ neg_ℤ (pos (12 * c)) → high ≡ pos (4 * c) → two ≡ pos (2 * c)
+    → r ≡ within (byte low) (four_times v t) (byte high)
+    → SFits w8 (byte (byte (byte v +ℤ byte v) -ℤ byte two) -ℤ byte r)
+    × (byte (byte (byte (byte v +ℤ byte v) -ℤ byte two) -ℤ byte r) ≡ even_of c v t)
+even_in_bytes c v t low high two r l m n f g e1 e2 e3 e =
+    let near = same_within (byte low) (four_times v t) (byte high) (neg_ℤ (pos (12 * c))) _ (pos (4 * c)) e
+    (omega (arith, ints)) (four_times_is v t n f g) (omega (arith, ints)) in
+    let small = even_near c v t _ l m n f g refl in
+    let exact : ((v +ℤ v) -ℤ pos (2 * c)) -ℤ r ≡ even_of c v t =
+    ap (λ z. ((v +ℤ v) -ℤ pos (2 * c)) -ℤ z) near in
+    (omega (arith, ints, small.0, small.1, n.from, n.to), omega (arith, ints, small.0, small.1, n.from, n.to))
+
+pub odd_in_bytes : (c : ℕ) (v t low high two r : ℤ) → 0 < c → c ≤ 4 → IsNear v → pos 0 ≤ℤ t → t ≤ℤ pos 1
+    → low ≡ neg_ℤ (pos (4 * c)) → high ≡ pos (12 * c) → two ≡ pos (2 * c)
+    → r ≡ within (byte low) (four_times v t) (byte high)
+    → SFits w8 (byte (byte (byte v +ℤ byte v) +ℤ byte two) -ℤ byte r)
+    × (byte (byte (byte (byte v +ℤ byte v) +ℤ byte two) -ℤ byte r) ≡ odd_of c v t)
+odd_in_bytes c v t low high two r l m n f g e1 e2 e3 e =
+    let near = same_within (byte low) (four_times v t) (byte high) (neg_ℤ (pos (4 * c))) _ (pos (12 * c)) e
+    (omega (arith, ints)) (four_times_is v t n f g) (omega (arith, ints)) in
+    let small = odd_near c v t _ l m n f g refl in
+    let exact : ((v +ℤ v) +ℤ pos (2 * c)) -ℤ r ≡ odd_of c v t =
+    ap (λ z. ((v +ℤ v) +ℤ pos (2 * c)) -ℤ z) near in
+    (omega (arith, ints, small.0, small.1, n.from, n.to), omega (arith, ints, small.0, small.1, n.from, n.to))
+
+pub across_in_bytes : (c : ℕ) (v low high o r : ℤ) → 0 < c → c ≤ 4 → IsNear v → low ≡ neg_ℤ (pos (4 * c))
+    → high ≡ pos (4 * c) → o ≡ odd_of c v (pos 0)
+    → r ≡ within (byte low) (byte (byte (byte v +ℤ byte v) +ℤ byte (byte v +ℤ byte v))) (byte high)
+    → SFits w8 (byte o -ℤ byte v) × SFits w8 (byte (byte o -ℤ byte v) +ℤ byte r)
+    × (byte (byte (byte o -ℤ byte v) +ℤ byte r) ≡ across_of c v)
+across_in_bytes c v low high o r l m n e1 e2 d e =
+    let near = same_within (byte low) (byte (byte (byte v +ℤ byte v) +ℤ byte (byte v +ℤ byte v))) (byte high)
+    (neg_ℤ (pos (4 * c))) ((v +ℤ v) +ℤ (v +ℤ v)) (pos (4 * c)) e (omega (arith, ints)) (omega (
+      arith,
+      ints,
+      n.from,
+      n.to,
+    )) (omega (arith, ints)) in
+    let small = odd_near c v (pos 0) o l m n (omega (arith, ints)) (omega (arith, ints)) d in
+    let all = across_near c v _ l m n.from n.to refl in
+    let exact : (o -ℤ v) +ℤ r ≡ across_of c v = ap₂ (λ a b. (a -ℤ v) +ℤ b) d near in (
+      omega (arith, ints, small.0, small.1, n.from, n.to),
+      omega (arith, ints, small.0, small.1, all.0, all.1, n.from, n.to),
+      omega (arith, ints, small.0, small.1, all.0, all.1, n.from, n.to),
+    )
+
+-- the sums that the gaps before a symbol are
+pub record AreTightSums (u f a b g h : ℤ) : Type 0 where
+  pub even_from : pos 0 ≤ℤ (((u +ℤ f +ℤ a) -ℤ g) +ℤ pos 76)
+  pub even_to : ((u +ℤ f +ℤ a) -ℤ g) ≤ℤ pos 76
+  pub odd_from : pos 0 ≤ℤ (((u +ℤ f +ℤ b) -ℤ h) +ℤ pos 76)
+  pub odd_to : ((u +ℤ f +ℤ b) -ℤ h) ≤ℤ pos 76
+  pub across_from : pos 0 ≤ℤ ((g -ℤ h) +ℤ pos 50)
+  pub across_to : (g -ℤ h) ≤ℤ pos 50
+  pub beside_from : ((u +ℤ f +ℤ b) -ℤ h) ≤ℤ (((u +ℤ f +ℤ a) -ℤ g) +ℤ (g -ℤ h) +ℤ pos 50)
+  pub beside_to : (((u +ℤ f +ℤ a) -ℤ g) +ℤ (g -ℤ h)) ≤ℤ (((u +ℤ f +ℤ b) -ℤ h) +ℤ pos 50)
+
 bounds : (x y u d e f a b g h : ℤ) → pos 0 ≤ℤ (x +ℤ pos 50) → x ≤ℤ pos 50 → pos 0 ≤ℤ (y +ℤ pos 50) → y ≤ℤ pos 50
     → pos 0 ≤ℤ (u +ℤ pos 26) → u ≤ℤ pos 26 → y ≤ℤ (u +ℤ x +ℤ pos 26) → (u +ℤ x) ≤ℤ (y +ℤ pos 26)
     → pos 0 ≤ℤ (f +ℤ pos 50) → f ≤ℤ pos 50 → e ≤ℤ (d +ℤ f +ℤ pos 50) → (d +ℤ f) ≤ℤ (e +ℤ pos 50)
     → a ≡ int_min (x +ℤ d) (pos 0) → b ≡ int_min x d → g ≡ int_min (y +ℤ e) (pos 0) → h ≡ int_min y e
-    → (pos 0 ≤ℤ (((u +ℤ f +ℤ a) -ℤ g) +ℤ pos 76)) × (((u +ℤ f +ℤ a) -ℤ g) ≤ℤ pos 76)
-    × (pos 0 ≤ℤ (((u +ℤ f +ℤ b) -ℤ h) +ℤ pos 76)) × (((u +ℤ f +ℤ b) -ℤ h) ≤ℤ pos 76)
-    × (pos 0 ≤ℤ ((g -ℤ h) +ℤ pos 50)) × ((g -ℤ h) ≤ℤ pos 50)
-    × (((u +ℤ f +ℤ b) -ℤ h) ≤ℤ (((u +ℤ f +ℤ a) -ℤ g) +ℤ (g -ℤ h) +ℤ pos 50))
-    × ((((u +ℤ f +ℤ a) -ℤ g) +ℤ (g -ℤ h)) ≤ℤ (((u +ℤ f +ℤ b) -ℤ h) +ℤ pos 50))
-bounds x y u d e f a b g h l1 l2 l3 l4 l5 l6 l7 l8 l9 l10 l11 l12 e1 e2 e3 e4 = (
-  omega (arith, ints, clamps),
-  omega (arith, ints, clamps),
-  omega (arith, ints, clamps),
-  omega (arith, ints, clamps),
-  omega (arith, ints, clamps),
-  omega (arith, ints, clamps),
-  omega (arith, ints, clamps),
-  omega (arith, ints, clamps),
-)
+    → AreTightSums u f a b g h
+bounds x y u d e f a b g h l1 l2 l3 l4 l5 l6 l7 l8 l9 l10 l11 l12 e1 e2 e3 e4 = record {
+  even_from = omega (arith, ints, clamps);
+  even_to = omega (arith, ints, clamps);
+  odd_from = omega (arith, ints, clamps);
+  odd_to = omega (arith, ints, clamps);
+  across_from = omega (arith, ints, clamps);
+  across_to = omega (arith, ints, clamps);
+  beside_from = omega (arith, ints, clamps);
+  beside_to = omega (arith, ints, clamps);
+}
+
+pub sums_tight : (squares : SquareGaps) (gap : Gap) (a b g h : ℤ) → AreNear squares → IsTight gap
+    → AreLesser squares gap a b g h → AreTightSums squares.across gap.across a b g h
+sums_tight squares gap a b g h s l m =
+    bounds squares.even squares.odd squares.across gap.even gap.odd gap.across a b g h s.even_from s.even_to s.odd_from
+    s.odd_to s.across_from s.across_to s.beside_from s.beside_to l.across_from l.across_to l.beside_from l.beside_to
+    m.first m.second m.third m.fourth
 
 pub tight_before : (squares : SquareGaps) (gap new : Gap) (a b g h : ℤ) → AreNear squares → IsTight gap
-    → AreLesser squares gap a b g h → new.even ≡ (squares.across +ℤ gap.across +ℤ a) -ℤ g
-    → new.odd ≡ (squares.across +ℤ gap.across +ℤ b) -ℤ h → new.across ≡ g -ℤ h → IsTight new
-tight_before squares gap new a b g h s l m e1 e2 e3 =
-    let all = bounds squares.even squares.odd squares.across gap.even gap.odd gap.across a b g h s.even_from s.even_to
-    s.odd_from s.odd_to s.across_from s.across_to s.beside_from s.beside_to l.across_from l.across_to l.beside_from
-    l.beside_to m.first m.second m.third m.fourth in
+    → AreLesser squares gap a b g h → AreSums squares gap a b g h new → IsTight new
+tight_before squares gap new a b g h s l m n =
+    let all = sums_tight squares gap a b g h s l m in record {
+      even_from = omega (arith, ints, all.even_from, n.even);
+      even_to = omega (arith, ints, all.even_to, n.even);
+      odd_from = omega (arith, ints, all.odd_from, n.odd);
+      odd_to = omega (arith, ints, all.odd_to, n.odd);
+      across_from = omega (arith, ints, all.across_from, n.across);
+      across_to = omega (arith, ints, all.across_to, n.across);
+      beside_from = omega (arith, ints, all.beside_from, n.even, n.odd, n.across);
+      beside_to = omega (arith, ints, all.beside_to, n.even, n.odd, n.across);
+    }
+
+-- and the terms of which they are sums
+pub record AreTerms (a b g h : ℤ) : Type 0 where
+  pub first_from : pos 0 ≤ℤ (a +ℤ pos 126)
+  pub first_to : a ≤ℤ pos 0
+  pub second_from : pos 0 ≤ℤ (b +ℤ pos 76)
+  pub second_to : b ≤ℤ pos 50
+  pub third_from : pos 0 ≤ℤ (g +ℤ pos 126)
+  pub third_to : g ≤ℤ pos 0
+  pub fourth_from : pos 0 ≤ℤ (h +ℤ pos 76)
+  pub fourth_to : h ≤ℤ pos 50
+
+sum_small : (x d a : ℤ) → pos 0 ≤ℤ (x +ℤ pos 50) → pos 0 ≤ℤ (d +ℤ pos 76) → a ≡ int_min (x +ℤ d) (pos 0)
+    → (pos 0 ≤ℤ (a +ℤ pos 126)) × (a ≤ℤ pos 0)
+sum_small x d a l m e = (omega (arith, ints, clamps), omega (arith, ints, clamps))
+
+lesser_small : (x d b : ℤ) → pos 0 ≤ℤ (x +ℤ pos 50) → x ≤ℤ pos 50 → pos 0 ≤ℤ (d +ℤ pos 76) → b ≡ int_min x d
+    → (pos 0 ≤ℤ (b +ℤ pos 76)) × (b ≤ℤ pos 50)
+lesser_small x d b l m n e = (omega (arith, ints, clamps), omega (arith, ints, clamps))
+
+pub terms_small : (squares : SquareGaps) (gap : Gap) (a b g h : ℤ) → AreNear squares → IsTight gap
+    → AreLesser squares gap a b g h → AreTerms a b g h
+terms_small squares gap a b g h s l m =
+    let first = sum_small squares.even gap.even a s.even_from l.even_from m.first in
+    let second = lesser_small squares.even gap.even b s.even_from s.even_to l.even_from m.second in
+    let third = sum_small squares.odd gap.odd g s.odd_from l.odd_from m.third in
+    let fourth = lesser_small squares.odd gap.odd h s.odd_from s.odd_to l.odd_from m.fourth in
     record {
-      even_from = omega (arith, ints, all.0);
-      even_to = omega (arith, ints, all.1);
-      odd_from = omega (arith, ints, all.2);
-      odd_to = omega (arith, ints, all.3);
-      across_from = omega (arith, ints, all.4);
-      across_to = omega (arith, ints, all.5);
-      beside_from = omega (arith, ints, all.6);
-      beside_to = omega (arith, ints, all.7);
+      first_from = first.0;
+      first_to = first.1;
+      second_from = second.0;
+      second_to = second.1;
+      third_from = third.0;
+      third_to = third.1;
+      fourth_from = fourth.0;
+      fourth_to = fourth.1;
+    }
+
+-- the sums, as bytes make them
+pub record AreByteSums (u f a b g h : ℤ) : Type 0 where
+  pub even_off : SFits w8 (byte a -ℤ byte g)
+  pub odd_off : SFits w8 (byte b -ℤ byte h)
+  pub even_fits : SFits w8 (byte (byte u +ℤ byte f) +ℤ byte (byte a -ℤ byte g))
+  pub odd_fits : SFits w8 (byte (byte u +ℤ byte f) +ℤ byte (byte b -ℤ byte h))
+  pub across_fits : SFits w8 (byte g -ℤ byte h)
+  pub even : byte (byte (byte u +ℤ byte f) +ℤ byte (byte a -ℤ byte g)) ≡ (u +ℤ f +ℤ a) -ℤ g
+  pub odd : byte (byte (byte u +ℤ byte f) +ℤ byte (byte b -ℤ byte h)) ≡ (u +ℤ f +ℤ b) -ℤ h
+  pub across : byte (byte g -ℤ byte h) ≡ g -ℤ h
+
+byte_step : (u f : ℤ) → pos 0 ≤ℤ (u +ℤ pos 26) → u ≤ℤ pos 26 → pos 0 ≤ℤ (f +ℤ pos 50) → f ≤ℤ pos 50
+    → byte (byte u +ℤ byte f) ≡ u +ℤ f
+byte_step u f l m n o = omega (arith, ints)
+
+byte_off : (a g : ℤ) → pos 0 ≤ℤ (a +ℤ pos 126) → a ≤ℤ pos 50 → pos 0 ≤ℤ (g +ℤ pos 126) → g ≤ℤ pos 50
+    → pos 0 ≤ℤ ((a -ℤ g) +ℤ pos 126) → (a -ℤ g) ≤ℤ pos 126
+    → SFits w8 (byte a -ℤ byte g) × (byte (byte a -ℤ byte g) ≡ a -ℤ g)
+byte_off a g l m n o p q = (omega (arith, ints), omega (arith, ints))
+
+byte_sum : (u f a g x y : ℤ) → x ≡ u +ℤ f → y ≡ a -ℤ g → pos 0 ≤ℤ (((u +ℤ f +ℤ a) -ℤ g) +ℤ pos 76)
+    → ((u +ℤ f +ℤ a) -ℤ g) ≤ℤ pos 76 → SFits w8 (x +ℤ y) × (byte (x +ℤ y) ≡ (u +ℤ f +ℤ a) -ℤ g)
+byte_sum u f a g x y d e l m = (omega (arith, ints), omega (arith, ints))
+
+pub byte_sums : (squares : SquareGaps) (gap : Gap) (a b g h : ℤ) → AreNear squares → IsTight gap
+    → AreLesser squares gap a b g h → AreByteSums squares.across gap.across a b g h
+byte_sums squares gap a b g h s l m =
+    let t = terms_small squares gap a b g h s l m in
+    let all = sums_tight squares gap a b g h s l m in
+    let step = byte_step squares.across gap.across s.across_from s.across_to l.across_from l.across_to in
+    let even = byte_off a g t.first_from (omega (arith, ints, t.first_to)) t.third_from
+    (omega (arith, ints, t.third_to)) (omega (arith, ints, t.first_from, t.third_to))
+    (omega (arith, ints, t.first_to, t.third_from)) in
+    let odd = byte_off b h (omega (arith, ints, t.second_from)) t.second_to (omega (arith, ints, t.fourth_from))
+    t.fourth_to (omega (arith, ints, t.second_from, t.fourth_to)) (omega (arith, ints, t.second_to, t.fourth_from)) in
+    let across = byte_off g h t.third_from (omega (arith, ints, t.third_to)) (omega (arith, ints, t.fourth_from))
+    t.fourth_to (omega (arith, ints, all.across_from)) (omega (arith, ints, all.across_to)) in
+    let evens = byte_sum squares.across gap.across a g _ _ step even.1 all.even_from all.even_to in
+    let odds = byte_sum squares.across gap.across b h _ _ step odd.1 all.odd_from all.odd_to in
+    record {
+      even_off = even.0;
+      odd_off = odd.0;
+      even_fits = evens.0;
+      odd_fits = odds.0;
+      across_fits = across.0;
+      even = evens.1;
+      odd = odds.1;
+      across = across.1;
     }
 
 pub tight_bounded : (gap : Gap) → IsTight gap → IsBounded gap
@@ -132,65 +317,4 @@ nothing_tight gap e f g = record {
   across_to = omega (arith, ints);
   beside_from = omega (arith, ints);
   beside_to = omega (arith, ints);
-}
-
--- a sum or a difference of gaps fits a byte
-abbrev pub FitsFrom : ℤ → Type 0
-FitsFrom x = pos 0 ≤ℤ (x +ℤ pos 128)
-
-abbrev pub FitsTo : ℤ → Type 0
-FitsTo x = x ≤ℤ pos 127
-
-pub fits_from : (x y : ℤ) → x ≡ y → pos 0 ≤ℤ (y +ℤ pos 78) → FitsFrom x
-fits_from x y e l = omega (arith, ints)
-
-pub fits_to : (x y : ℤ) → x ≡ y → y ≤ℤ pos 78 → FitsTo x
-fits_to x y e l = omega (arith, ints)
-
-pub difference_from : (a b c d : ℤ) → a ≡ c → b ≡ d → pos 0 ≤ℤ (c +ℤ pos 76) → d ≤ℤ pos 50 → FitsFrom (a -ℤ b)
-difference_from a b c d e f l m = omega (arith, ints)
-
-pub difference_to : (a b c d : ℤ) → a ≡ c → b ≡ d → c ≤ℤ pos 50 → pos 0 ≤ℤ (d +ℤ pos 76) → FitsTo (a -ℤ b)
-difference_to a b c d e f l m = omega (arith, ints)
-
--- twice a symbol near 0, and that twice, with 1 less or not
-pub twice_from : (t v : ℤ) → t ≡ v +ℤ v → IsNear v → pos 0 ≤ℤ (t +ℤ pos 56)
-twice_from t v e n = omega (arith, ints, n.from)
-
-pub twice_to : (t v : ℤ) → t ≡ v +ℤ v → IsNear v → t ≤ℤ pos 56
-twice_to t v e n = omega (arith, ints, n.to)
-
-pub tied_from : (t f v : ℤ) → t ≡ v +ℤ v → f ≡ ((v +ℤ v) +ℤ (v +ℤ v)) -ℤ pos 1 → (t +ℤ t) ≤ℤ (f +ℤ pos 1)
-tied_from t f v e g = omega (arith, ints)
-
-pub tied_to : (t f v : ℤ) → t ≡ v +ℤ v → f ≡ ((v +ℤ v) +ℤ (v +ℤ v)) -ℤ pos 1 → f ≤ℤ (t +ℤ t)
-tied_to t f v e g = omega (arith, ints)
-
--- the square's gap of two, and a symbol off it
-pub beside_from : (o v y : ℤ) → o ≡ y → IsNear v → pos 0 ≤ℤ (y +ℤ pos 50) → FitsFrom (o -ℤ v)
-beside_from o v y e n l = omega (arith, ints, n.to)
-
-pub beside_to : (o v y : ℤ) → o ≡ y → IsNear v → y ≤ℤ pos 50 → FitsTo (o -ℤ v)
-beside_to o v y e n l = omega (arith, ints, n.from)
-
--- the gaps before a symbol, as sums
-abbrev pub sums : SquareGaps → Gap → ℤ → ℤ → ℤ → ℤ → Gap
-sums squares gap a b g h = record {
-  even = (squares.across +ℤ gap.across +ℤ a) -ℤ g;
-  odd = (squares.across +ℤ gap.across +ℤ b) -ℤ h;
-  across = g -ℤ h;
-}
-
--- the four lesser ones of two, of bytes
-pub lesser_bytes : (squares : SquareGaps) (gap : Gap) {a b g h : ℤ} → SFits w8 squares.even → SFits w8 gap.even
-    → SFits w8 squares.odd → SFits w8 gap.odd
-    → a ≡ int_min (to_z w8 (of_z w8 squares.even) +ℤ to_z w8 (of_z w8 gap.even)) (pos 0)
-    → b ≡ int_min (to_z w8 (of_z w8 squares.even)) (to_z w8 (of_z w8 gap.even))
-    → g ≡ int_min (to_z w8 (of_z w8 squares.odd) +ℤ to_z w8 (of_z w8 gap.odd)) (pos 0)
-    → h ≡ int_min (to_z w8 (of_z w8 squares.odd)) (to_z w8 (of_z w8 gap.odd)) → AreLesser squares gap a b g h
-lesser_bytes squares gap x d y e i j k l = record {
-  first = unwrapped_byte (λ a b. int_min (a +ℤ b) (pos 0)) squares.even gap.even x d i;
-  second = unwrapped_byte int_min squares.even gap.even x d j;
-  third = unwrapped_byte (λ a b. int_min (a +ℤ b) (pos 0)) squares.odd gap.odd y e k;
-  fourth = unwrapped_byte int_min squares.odd gap.odd y e l;
 }

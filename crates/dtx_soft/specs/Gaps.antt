@@ -2,9 +2,11 @@
 -- levels are alike but for multiples of four times the scale.
 use Rattle.std.specs.Prelude.{ℕ, ℤ, pos, ◌≡◌, ◌+◌, ◌*◌, ◌/◌, ◌%◌, ◌^◌, ◌<◌, ◌+ℤ◌, ◌≤ℤ◌, max, min, List, [], ◌∷◌}
 use Rattle.std.specs.Prelude.{map, drop, nat_le, nat_lt, if◌then◌else◌, slice_index, slice_index_or}
+use Rattle.std.specs.Int.{int_min}
 use Rattle.dtx_soft.specs.declared.nearest.Nearest.{Nearest}
 use Rattle.dtx_soft.specs.declared.gaps.Gap.{Gap}
 use Rattle.dtx_soft.specs.declared.gaps.Gaps.{Gaps}
+use Rattle.dtx_soft.specs.declared.gaps.SquareGaps.{SquareGaps}
 use Rattle.dtx_soft.specs.Least.{IsPotential}
 use Rattle.dtx_soft.specs.Nearest.{IsTaken, cheapest}
 use Rattle.dtx_soft.specs.Paths.{squared, symbol_at}
@@ -62,6 +64,13 @@ row_of scale symbol = record {
   tie_breaks = tie_of scale symbol 0 ∷ tie_of scale symbol 1 ∷ [];
   filler = 0;
 }
+
+-- of the gaps of a symbol's squares and of the potentials behind it the sums that are at most 0, and the lesser ones
+pub record AreLesser (squares : SquareGaps) (gap : Gap) (a b g h : ℤ) : Type 0 where
+  pub first : a ≡ int_min (squares.even +ℤ gap.even) (pos 0)
+  pub second : b ≡ int_min squares.even gap.even
+  pub third : g ≡ int_min (squares.odd +ℤ gap.odd) (pos 0)
+  pub fourth : h ≡ int_min squares.odd gap.odd
 
 -- the gaps of the potentials before one more symbol in front
 abbrev pub IsBefore : ℕ → ℤ → Gap → Gap → Type 0

@@ -3,12 +3,13 @@
 
 ghost use Rattle.std.specs.Prelude.{◌≡◌, ◌≢◌, ◌⊎◌, ℕ, ℤ, pos, neg_ℤ, ◌+◌, ◌*◌, ◌<◌};
 ghost use Rattle.std.specs.Prelude.{◌≤◌, ◌≤ℤ◌, ◌<ℤ◌, ◌+ℤ◌, ◌-ℤ◌, length};
-ghost use Rattle.std.specs.Prelude.{IsTrue, slice_index, slice_index_or, []};
-ghost use Rattle.std.specs.Int.{int_min};
-ghost use Rattle.dtx_soft.specs.Gaps.{AreLeastGaps, AreMarks, AreTaken, IsBefore, IsBounded, IsStep, column, gap_at};
+ghost use Rattle.std.specs.Prelude.{FitsSigned, IsTrue, slice_index, slice_index_or, []};
+ghost use Rattle.std.specs.Int.{int_min, w8};
+ghost use Rattle.dtx_soft.specs.Gaps.{AreLeastGaps, AreLesser, AreMarks, AreTaken, IsBefore, IsBounded};
+ghost use Rattle.dtx_soft.specs.Gaps.{IsStep, column, gap_at};
 ghost use Rattle.dtx_soft.specs.Near.{AreNear, IsNear, IsTight};
 ghost use Rattle.dtx_soft.specs.Near.{gap_of, near_gap_at, squares_of};
-ghost use Rattle.dtx_soft.specs.Squares.{IsSquares, even_by, odd_by, within};
+ghost use Rattle.dtx_soft.specs.Squares.{IsSquares, across_of, even_of, odd_of, within};
 ghost use Rattle.dtx_soft.specs.declared.near.TheConstants.{MAX_NEAR_SCALE};
 
 use crate::gaps::{Gap, Gaps, LANES, put_lane as put_gap};
@@ -43,6 +44,15 @@ pub(crate) struct NearSquares {
     across: i8,
     even_tied: i8,
     odd_tied: i8,
+}
+
+/// Of the gaps of squares and of potentials the sums that are no more than 0, and the lesser ones: even and odd.
+#[derive(Clone, Copy, Drop)]
+struct NearTerms {
+    first: i8,
+    second: i8,
+    third: i8,
+    fourth: i8,
 }
 
 /// The scale, and its multiples.
@@ -268,50 +278,51 @@ fn gap_before(units: &NearUnits, symbol: i8, squares: &NearSquares, gap: NearGap
     ensures tight { IsTight (gap_of result) }
     ensures gaps { IsBefore units.now.scale symbol (gap_of gap) (gap_of result) }
 {
-    let step = sum(squares.across, gap.across);
-    let first = capped(squares.even, gap.even);
-    let second = lesser(squares.even, gap.even);
-    let third = capped(squares.odd, gap.odd);
-    let fourth = lesser(squares.odd, gap.odd);
-    let even = difference(first, third);
-    let odd = difference(second, fourth);
-    NearGap {
-        even: sum(step, even),
-        odd: sum(step, odd),
-        across: difference(third, fourth),
+    let terms = terms_of(squares, gap);
+    sums_of(squares, gap, terms)
+}
+
+/// The four lesser ones.
+#[inline(always)]
+fn terms_of(squares: &NearSquares, gap: NearGap) -> NearTerms
+    requires near { AreNear (squares_of squares.now) }
+    requires tight { IsTight (gap_of gap) }
+    ensures { AreLesser (squares_of squares.now) (gap_of gap) result.first result.second result.third result.fourth }
+{
+    NearTerms {
+        first: capped(squares.even, gap.even),
+        second: lesser(squares.even, gap.even),
+        third: capped(squares.odd, gap.odd),
+        fourth: lesser(squares.odd, gap.odd),
     }
 }
 
-/// The sum of two numbers.
+/// The gaps that come of them.
 #[inline(always)]
-fn sum(number: i8, other: i8) -> i8
-    requires from { pos 0 ≤ℤ ((number +ℤ other) +ℤ pos 128) }
-    requires to { (number +ℤ other) ≤ℤ pos 127 }
-    ensures { result ≡ number +ℤ other }
+fn sums_of(squares: &NearSquares, gap: NearGap, terms: NearTerms) -> NearGap
+    requires near { AreNear (squares_of squares.now) }
+    requires tight { IsTight (gap_of gap) }
+    requires lesser { AreLesser (squares_of squares.now) (gap_of gap) terms.first terms.second terms.third
+        terms.fourth }
+    ensures even { result.even ≡ (squares.now.across +ℤ gap.across +ℤ terms.first) -ℤ terms.third }
+    ensures odd { result.odd ≡ (squares.now.across +ℤ gap.across +ℤ terms.second) -ℤ terms.fourth }
+    ensures across { result.across ≡ terms.third -ℤ terms.fourth }
 {
-    number + other
-}
-
-/// How much a number is greater than another one.
-#[inline(always)]
-fn difference(number: i8, other: i8) -> i8
-    requires from { pos 0 ≤ℤ ((number -ℤ other) +ℤ pos 128) }
-    requires to { (number -ℤ other) ≤ℤ pos 127 }
-    ensures { result ≡ number -ℤ other }
-{
-    number - other
+    let step = squares.across + gap.across;
+    let even = terms.first - terms.third;
+    let odd = terms.second - terms.fourth;
+    NearGap {
+        even: step + even,
+        odd: step + odd,
+        across: terms.third - terms.fourth,
+    }
 }
 
 /// The sum of two gaps, or 0 where it is more.
 #[inline(always)]
 fn capped(square: i8, gap: i8) -> i8
-    requires square_from { pos 0 ≤ℤ (square +ℤ pos 50) }
-    requires square_to { square ≤ℤ pos 50 }
-    requires gap_from { pos 0 ≤ℤ (gap +ℤ pos 76) }
-    requires gap_to { gap ≤ℤ pos 76 }
-    ensures value { result ≡ int_min (square +ℤ gap) (pos 0) }
-    ensures from { pos 0 ≤ℤ (result +ℤ pos 126) }
-    ensures to { result ≤ℤ pos 0 }
+    requires { FitsSigned w8 (square +ℤ gap) }
+    ensures { result ≡ int_min (square +ℤ gap) (pos 0) }
 {
     (square + gap).min(0)
 }
@@ -319,12 +330,7 @@ fn capped(square: i8, gap: i8) -> i8
 /// The lesser of two gaps.
 #[inline(always)]
 fn lesser(square: i8, gap: i8) -> i8
-    requires square_from { pos 0 ≤ℤ (square +ℤ pos 50) }
-    requires square_to { square ≤ℤ pos 50 }
-    requires gap_from { pos 0 ≤ℤ (gap +ℤ pos 76) }
-    ensures value { result ≡ int_min square gap }
-    ensures from { pos 0 ≤ℤ (result +ℤ pos 76) }
-    ensures to { result ≤ℤ pos 50 }
+    ensures { result ≡ int_min square gap }
 {
     square.min(gap)
 }
@@ -359,54 +365,59 @@ fn differ(units: &NearUnits, symbol: i8) -> NearSquares
     ensures gaps { IsSquares units.now.scale symbol (squares_of result) }
     ensures near { AreNear (squares_of result) }
 {
-    let twice = sum(symbol, symbol);
-    let four_times = sum(twice, twice);
-    let tied = difference(four_times, 1);
-    let odd = odd_gap(units, twice, four_times);
-    let nearest = within(units.four_below, four_times, units.four);
-    let beside = difference(odd, symbol);
+    let odd = odd_gap(units, symbol, 0);
     NearSquares {
-        even: even_gap(units, twice, four_times),
+        even: even_gap(units, symbol, 0),
         odd,
-        across: sum(beside, nearest),
-        even_tied: even_gap(units, twice, tied),
-        odd_tied: odd_gap(units, twice, tied),
+        across: across_gap(units, symbol, odd),
+        even_tied: even_gap(units, symbol, 1),
+        odd_tied: odd_gap(units, symbol, 1),
     }
 }
 
-/// How the squares of levels 0 or 4 and 2 or 6 differ.
+/// How the squares of levels 0 or 4 and 2 or 6 differ, with 1 more where the second of equal ones comes first.
 #[inline(always)]
-fn even_gap(units: &NearUnits, twice: i8, four_times: i8) -> i8
-    requires from { pos 0 ≤ℤ (twice +ℤ pos 56) }
-    requires to { twice ≤ℤ pos 56 }
-    requires four_times_from { (twice +ℤ twice) ≤ℤ (four_times +ℤ pos 1) }
-    requires four_times_to { four_times ≤ℤ (twice +ℤ twice) }
-    ensures { result ≡ even_by units.now.scale twice four_times }
+fn even_gap(units: &NearUnits, symbol: i8, tie: i8) -> i8
+    requires near { IsNear symbol }
+    requires from { pos 0 ≤ℤ tie }
+    requires to { tie ≤ℤ pos 1 }
+    ensures { result ≡ even_of units.now.scale symbol tie }
 {
-    let near = within(units.twelve_below, four_times, units.four);
-    difference(difference(twice, units.two), near)
+    let twice = symbol + symbol;
+    let near = within(units.twelve_below, twice + twice - tie, units.four);
+    twice - units.two - near
 }
 
-/// How the squares of levels 1 or 5 and 3 or 7 differ.
+/// How the squares of levels 1 or 5 and 3 or 7 differ, with 1 more as there.
 #[inline(always)]
-fn odd_gap(units: &NearUnits, twice: i8, four_times: i8) -> i8
-    requires from { pos 0 ≤ℤ (twice +ℤ pos 56) }
-    requires to { twice ≤ℤ pos 56 }
-    requires four_times_from { (twice +ℤ twice) ≤ℤ (four_times +ℤ pos 1) }
-    requires four_times_to { four_times ≤ℤ (twice +ℤ twice) }
-    ensures { result ≡ odd_by units.now.scale twice four_times }
+fn odd_gap(units: &NearUnits, symbol: i8, tie: i8) -> i8
+    requires near { IsNear symbol }
+    requires from { pos 0 ≤ℤ tie }
+    requires to { tie ≤ℤ pos 1 }
+    ensures { result ≡ odd_of units.now.scale symbol tie }
 {
-    let near = within(units.four_below, four_times, units.twelve);
-    difference(sum(twice, units.two), near)
+    let twice = symbol + symbol;
+    let near = within(units.four_below, twice + twice - tie, units.twelve);
+    twice + units.two - near
+}
+
+/// How the squares of levels 2 or 6 and 3 or 7 differ.
+#[inline(always)]
+fn across_gap(units: &NearUnits, symbol: i8, odd: i8) -> i8
+    requires near { IsNear symbol }
+    requires odd { odd ≡ odd_of units.now.scale symbol (pos 0) }
+    ensures { result ≡ across_of units.now.scale symbol }
+{
+    let twice = symbol + symbol;
+    let near = within(units.four_below, twice + twice, units.four);
+    odd - symbol + near
 }
 
 /// A number, or the nearer of two bounds.
 #[inline(always)]
 fn within(low: i8, number: i8, high: i8) -> i8
     requires { low ≤ℤ high }
-    ensures value { result ≡ within low number high }
-    ensures from { low ≤ℤ result }
-    ensures to { result ≤ℤ high }
+    ensures { result ≡ within low number high }
 {
     number.max(low).min(high)
 }

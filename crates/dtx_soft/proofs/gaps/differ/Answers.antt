@@ -1,41 +1,61 @@
-use Rattle.std.proofs.Common.{◌≡◌, ◌≤◌, ◌≤ℤ◌, ℤ, pos, ◌+ℤ◌, ◌-ℤ◌, ◌*◌, neg_ℤ, ap, ap₂, ◌∙◌, to_z, of_z, arith, rules}
+use Rattle.std.proofs.Common.{◌≡◌, ◌≤◌, ◌≤ℤ◌, ℕ, ℤ, pos, ◌+ℤ◌, ◌-ℤ◌, ◌*◌, neg_ℤ, ap, ap₂, ◌∙◌, to_z, of_z, arith, rules}
 use mir.Syntax.{w8, w16}
 use mir.Val.{SFits}
 use Rattle.std.proofs.lemmas.Int.{ints, to_z-of_z}
 use Rattle.dtx_soft.specs.Squares.{even_by, odd_by, seen, within}
-use Rattle.dtx_soft.proofs.Wraps.{unwrapped}
+use Rattle.dtx_soft.proofs.Wraps.{unwrapped, word}
 use Rattle.dtx_soft.proofs.gaps.differ.Goals as goal
 
 nothing_less : (x : ℤ) → x ≡ x -ℤ pos 0
 nothing_less x = omega (arith, ints)
 
+twice_fits : (t s : ℤ) → t ≡ word s +ℤ word s → pos 0 ≤ℤ (s +ℤ pos 128) → s ≤ℤ pos 127
+    → (pos 0 ≤ℤ (word t +ℤ pos 256)) × (word t ≤ℤ pos 254)
+twice_fits t s e f g = (omega (arith, ints), omega (arith, ints))
+
+beside_fits : (d o s : ℤ) → d ≡ word o -ℤ word s → pos 0 ≤ℤ (o +ℤ pos 512) → o ≤ℤ pos 512 → pos 0 ≤ℤ (s +ℤ pos 128)
+    → s ≤ℤ pos 127 → (pos 0 ≤ℤ (d +ℤ pos 640)) × (d ≤ℤ pos 640)
+beside_fits d o s e f g h k = (omega (arith, ints), omega (arith, ints))
+
+nearest_fits : (k : ℕ) (low high w : ℤ) → k ≤ 18 → low ≡ neg_ℤ (pos (4 * k)) → high ≡ pos (4 * k) → word low ≤ℤ w
+    → w ≤ℤ word high → (pos 0 ≤ℤ (w +ℤ pos 72)) × (w ≤ℤ pos 72)
+nearest_fits k low high w l e f g h = (omega (arith, ints), omega (arith, ints))
+
+across_fits : (r d w : ℤ) → r ≡ word d +ℤ word w → (pos 0 ≤ℤ (d +ℤ pos 640)) × (d ≤ℤ pos 640)
+    → (pos 0 ≤ℤ (w +ℤ pos 72)) × (w ≤ℤ pos 72) → (pos 0 ≤ℤ (word r +ℤ pos 712)) × (word r ≤ℤ pos 712)
+across_fits r d w e f g = (omega (arith, ints, f.0, f.1, g.0, g.1), omega (arith, ints, f.0, f.1, g.0, g.1))
+
+large_from : (d : ℤ) → (pos 0 ≤ℤ (d +ℤ pos 640)) × (d ≤ℤ pos 640) → pos 0 ≤ℤ (word d +ℤ pos 6000)
+large_from d f = omega (arith, ints, f.0, f.1)
+
+large_to : (d : ℤ) → (pos 0 ≤ℤ (d +ℤ pos 640)) × (d ≤ℤ pos 640) → word d ≤ℤ pos 6000
+large_to d f = omega (arith, ints, f.0, f.1)
+
+small_fits : (r : ℤ) → pos 0 ≤ℤ (r +ℤ pos 512) → r ≤ℤ pos 512 → (pos 0 ≤ℤ (word r +ℤ pos 512)) × (word r ≤ℤ pos 512)
+small_fits r f g = (omega (arith, ints), omega (arith, ints))
+
+tied_fits : (r : ℤ) → pos 0 ≤ℤ (r +ℤ pos 512) → r ≤ℤ pos 512 → (pos 0 ≤ℤ (word r +ℤ pos 513)) × (word r ≤ℤ pos 513)
+tied_fits r f g = (omega (arith, ints), omega (arith, ints))
+
 pub even_gap-requires-2-clause-from : goal.even_gap-requires-2-clause-from
 even_gap-requires-2-clause-from c =
-    let t : c.sum-twice.result ≡ c.seen-symbol.result +ℤ c.seen-symbol.result =
-    unwrapped (λ a b. a +ℤ b) c.seen-symbol.result c.seen-symbol.result (search rules) (search rules)
-    c.sum-twice.ensures in
-    omega (arith, ints)
+    (twice_fits c.sum-twice.result c.seen-symbol.result c.sum-twice.ensures c.seen-symbol.ensures.from
+    c.seen-symbol.ensures.to).0
 
 pub even_gap-requires-2-clause-to : goal.even_gap-requires-2-clause-to
 even_gap-requires-2-clause-to c =
-    let t : c.sum-twice.result ≡ c.seen-symbol.result +ℤ c.seen-symbol.result =
-    unwrapped (λ a b. a +ℤ b) c.seen-symbol.result c.seen-symbol.result (search rules) (search rules)
-    c.sum-twice.ensures in
-    omega (arith, ints)
+    (twice_fits c.sum-twice.result c.seen-symbol.result c.sum-twice.ensures c.seen-symbol.ensures.from
+    c.seen-symbol.ensures.to).1
 
 pub odd_gap-requires-clause-from : goal.odd_gap-requires-clause-from
 odd_gap-requires-clause-from c =
-    let t : c.sum-twice.result ≡ c.seen-symbol.result +ℤ c.seen-symbol.result =
-    unwrapped (λ a b. a +ℤ b) c.seen-symbol.result c.seen-symbol.result (search rules) (search rules)
-    c.sum-twice.ensures in
-    omega (arith, ints)
+    (twice_fits c.sum-twice.result c.seen-symbol.result c.sum-twice.ensures c.seen-symbol.ensures.from
+    c.seen-symbol.ensures.to).0
 
 pub odd_gap-requires-clause-to : goal.odd_gap-requires-clause-to
 odd_gap-requires-clause-to c =
-    let t : c.sum-twice.result ≡ c.seen-symbol.result +ℤ c.seen-symbol.result =
-    unwrapped (λ a b. a +ℤ b) c.seen-symbol.result c.seen-symbol.result (search rules) (search rules)
-    c.sum-twice.ensures in
-    omega (arith, ints)
+    (twice_fits c.sum-twice.result c.seen-symbol.result c.sum-twice.ensures c.seen-symbol.ensures.from
+    c.seen-symbol.ensures.to).1
 
 pub sum-requires-clause-other_from : goal.sum-requires-clause-other_from
 sum-requires-clause-other_from c =
@@ -45,59 +65,44 @@ sum-requires-clause-other_from c =
 
 pub sum-requires-clause-number_from : goal.sum-requires-clause-number_from
 sum-requires-clause-number_from c =
-    let e : c.difference-beside.result ≡ c.odd_gap-odd.result -ℤ c.seen-symbol.result =
-    unwrapped (λ a b. a -ℤ b) c.odd_gap-odd.result c.seen-symbol.result (search rules) (search rules)
-    c.difference-beside.ensures in
-    omega (arith, ints)
+    large_from c.difference-beside.result (beside_fits c.difference-beside.result c.odd_gap-odd.result
+    c.seen-symbol.result
+    c.difference-beside.ensures c.odd_gap-odd.ensures.least c.odd_gap-odd.ensures.most c.seen-symbol.ensures.from
+    c.seen-symbol.ensures.to)
 
 pub sum-requires-clause-number_to : goal.sum-requires-clause-number_to
 sum-requires-clause-number_to c =
-    let e : c.difference-beside.result ≡ c.odd_gap-odd.result -ℤ c.seen-symbol.result =
-    unwrapped (λ a b. a -ℤ b) c.odd_gap-odd.result c.seen-symbol.result (search rules) (search rules)
-    c.difference-beside.ensures in
-    omega (arith, ints)
-
-beside : (r d w o s : ℤ) → r ≡ d +ℤ w → d ≡ o -ℤ s → pos 0 ≤ℤ (o +ℤ pos 512) → o ≤ℤ pos 512 → pos 0 ≤ℤ (s +ℤ pos 128)
-    → s ≤ℤ pos 127 → pos 0 ≤ℤ (w +ℤ pos 72) → w ≤ℤ pos 72 → (pos 0 ≤ℤ (r +ℤ pos 712)) × (r ≤ℤ pos 712)
-beside r d w o s e g h1 h2 h3 h4 h5 h6 = (omega (arith, ints), omega (arith, ints))
+    large_to c.difference-beside.result (beside_fits c.difference-beside.result c.odd_gap-odd.result
+    c.seen-symbol.result
+    c.difference-beside.ensures c.odd_gap-odd.ensures.least c.odd_gap-odd.ensures.most c.seen-symbol.ensures.from
+    c.seen-symbol.ensures.to)
 
 pub returns-clause-small : goal.returns-clause-small
-returns-clause-small c = record {
-  even_from = omega (arith, ints);
-  even_to = omega (arith, ints);
-  odd_from = omega (arith, ints);
-  odd_to = omega (arith, ints);
-  across_from = (let a : c.args.units.now.four_below ≡ neg_ℤ (pos (4 * c.args.units.now.scale)) = search rules in
-      let f : c.args.units.now.four ≡ pos (4 * c.args.units.now.scale) = search rules in
-      let l : c.args.units.now.scale ≤ 18 = search rules in
-      let e : to_z w16 (of_z w16 c.sum.result) ≡ c.difference-beside.result +ℤ c.within-nearest.result =
-      to_z-of_z w16 c.sum.result (search rules)
-      ∙ unwrapped (λ a b. a +ℤ b) c.difference-beside.result c.within-nearest.result (search rules) (search rules)
-      c.sum.ensures in
-      let d : c.difference-beside.result ≡ c.odd_gap-odd.result -ℤ c.seen-symbol.result =
-      unwrapped (λ a b. a -ℤ b) c.odd_gap-odd.result c.seen-symbol.result (search rules) (search rules)
-      c.difference-beside.ensures in
-      (beside _ c.difference-beside.result c.within-nearest.result c.odd_gap-odd.result c.seen-symbol.result e d
-      (omega (arith, ints)) (omega (arith, ints)) (omega (arith, ints)) (omega (arith, ints)) (omega (arith, ints))
-      (omega (arith, ints))).0);
-  across_to = (let a : c.args.units.now.four_below ≡ neg_ℤ (pos (4 * c.args.units.now.scale)) = search rules in
-      let f : c.args.units.now.four ≡ pos (4 * c.args.units.now.scale) = search rules in
-      let l : c.args.units.now.scale ≤ 18 = search rules in
-      let e : to_z w16 (of_z w16 c.sum.result) ≡ c.difference-beside.result +ℤ c.within-nearest.result =
-      to_z-of_z w16 c.sum.result (search rules)
-      ∙ unwrapped (λ a b. a +ℤ b) c.difference-beside.result c.within-nearest.result (search rules) (search rules)
-      c.sum.ensures in
-      let d : c.difference-beside.result ≡ c.odd_gap-odd.result -ℤ c.seen-symbol.result =
-      unwrapped (λ a b. a -ℤ b) c.odd_gap-odd.result c.seen-symbol.result (search rules) (search rules)
-      c.difference-beside.ensures in
-      (beside _ c.difference-beside.result c.within-nearest.result c.odd_gap-odd.result c.seen-symbol.result e d
-      (omega (arith, ints)) (omega (arith, ints)) (omega (arith, ints)) (omega (arith, ints)) (omega (arith, ints))
-      (omega (arith, ints))).1);
-  even_tied_from = omega (arith, ints);
-  even_tied_to = omega (arith, ints);
-  odd_tied_from = omega (arith, ints);
-  odd_tied_to = omega (arith, ints);
-}
+returns-clause-small c =
+    let even = small_fits c.even_gap.result c.even_gap.ensures.least c.even_gap.ensures.most in
+    let odd = small_fits c.odd_gap-odd.result c.odd_gap-odd.ensures.least c.odd_gap-odd.ensures.most in
+    let even_tied = tied_fits c.even_gap-2.result c.even_gap-2.ensures.least c.even_gap-2.ensures.most in
+    let odd_tied = tied_fits c.odd_gap.result c.odd_gap.ensures.least c.odd_gap.ensures.most in
+    let beside = beside_fits c.difference-beside.result c.odd_gap-odd.result c.seen-symbol.result
+    c.difference-beside.ensures c.odd_gap-odd.ensures.least c.odd_gap-odd.ensures.most c.seen-symbol.ensures.from
+    c.seen-symbol.ensures.to in
+    let nearest = nearest_fits c.args.units.now.scale c.args.units.now.four_below c.args.units.now.four
+    c.within-nearest.result (search rules) (search rules) (search rules) c.within-nearest.ensures.from
+    c.within-nearest.ensures.to in
+    let across = across_fits c.sum.result c.difference-beside.result c.within-nearest.result c.sum.ensures beside
+    nearest in
+    record {
+      even_from = even.0;
+      even_to = even.1;
+      odd_from = odd.0;
+      odd_to = odd.1;
+      across_from = across.0;
+      across_to = across.1;
+      even_tied_from = even_tied.0;
+      even_tied_to = even_tied.1;
+      odd_tied_from = odd_tied.0;
+      odd_tied_to = odd_tied.1;
+    }
 
 pub returns-clause-gaps : goal.returns-clause-gaps
 returns-clause-gaps c = record {

@@ -1,8 +1,8 @@
 use Rattle.std.proofs.Common.{◌≡◌, inl, inr, ℕ, ℤ, ◌<ℤ◌, ◌≤ℤ◌, arith, rules}
 use Rattle.std.proofs.lemmas.Int.{ints}
 use Rattle.dtx_soft.specs.Near.{gap_of, squares_of}
-use Rattle.dtx_soft.proofs.GapSteps.{SaysAbove, marks_taken}
-use Rattle.dtx_soft.proofs.SquareGaps.{AreTested, are_tested, row_gaps}
+use Rattle.dtx_soft.proofs.GapSteps.{SaysAbove, marks_taken, squares_in_units}
+use Rattle.dtx_soft.proofs.NearGaps.{near_small}
 use Rattle.dtx_soft.proofs.near.marks_of.Goals as goal
 
 pub overflow_add-squares : goal.overflow_add-squares
@@ -17,18 +17,13 @@ plain e f (inr h) = inr ((let l : _ ≤ℤ _ = h.0 in omega (arith, ints)), h.1)
 
 pub returns : goal.returns
 returns c =
+    let units = squares_in_units c.args.units.now.scale c.args.symbol (squares_of c.args.squares.now) (search rules)
+    c.ranges.symbol c.requires.squares (near_small _ c.requires.near) in
     marks_taken c.args.units.now.scale c.args.symbol (squares_of c.args.squares.now) (gap_of c.args.gap)
-    c.is_above-first.result
-    c.is_above-second.result c.is_above-third.result c.is_above-fourth.result tested c.requires.squares
-    (row_gaps c.args.units.now.scale c.args.symbol c.args.squares.now.even c.args.squares.now.odd
-    c.args.squares.now.across tested
-    c.requires.squares.even c.requires.squares.odd c.requires.squares.across (omega (arith, ints)) (omega (arith, ints))
-    (omega (arith, ints))) (record {
+    c.is_above-first.result c.is_above-second.result c.is_above-third.result c.is_above-fourth.result units.0
+    c.requires.squares units.1 (record {
       first = plain (omega (arith, ints)) (omega (arith, ints)) c.is_above-first.ensures;
       second = plain (omega (arith, ints)) (omega (arith, ints)) c.is_above-second.ensures;
       third = plain (omega (arith, ints)) (omega (arith, ints)) c.is_above-third.ensures;
       fourth = plain (omega (arith, ints)) (omega (arith, ints)) c.is_above-fourth.ensures;
     })
-  where
-    tested : AreTested c.args.units.now.scale c.args.symbol
-    tested = are_tested c.args.units.now.scale c.args.symbol (search rules) (omega (arith, ints)) (omega (arith, ints))
