@@ -10,7 +10,7 @@ ghost use Rattle.dtx_laws.specs.Correction.{IsCorrected, IsLeft};
 ghost use Rattle.dtx_outer.specs.Outer.{IsPeriod};
 ghost use Rattle.dtx_outer.specs.Inner.{Kept, StandsFor, Gives, IsTaken, IsNext, waiting, completing, block_behind};
 
-use crate::whitening::whiten;
+use crate::whitening::whiten_to;
 use dtx_laws::{Correct, Gather, TooMany, Whitener};
 use std::marker::Model;
 
@@ -243,7 +243,7 @@ fn give<W: Whitener, const N: usize, const K: usize>(
         → MatchResult corrected (IsCorrected N K gathered word.now) (λ _e. IsLeft N K gathered word.now)
         → Gives N K (W.bytes whitener.now) from gathered out.new result }
 {
-    *out = whiten(whitener, from, &word[..K]);
+    whiten_to(whitener, from, &word[..K], out);
     match corrected {
         Ok(fixed) => Taken::Good { fixed },
         Err(TooMany) => Taken::Bad,

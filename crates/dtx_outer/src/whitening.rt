@@ -1,6 +1,7 @@
 //! Whitening of a packet's data, which is the way back too.
 
-ghost use Rattle.std.specs.Prelude.{◌≡◌, ◌+◌, ◌≤◌, length};
+ghost use Rattle.std.specs.Prelude.{◌≡◌, ℕ, ◌+◌, ◌<◌, ◌≤◌, length, slice_index};
+ghost use Rattle.std.specs.Int.RustNames.{bit_xor};
 ghost use Rattle.dtx_laws.specs.Whitening.{whitened};
 
 use dtx_laws::Whitener;
@@ -17,4 +18,43 @@ pub fn whiten<W: Whitener, const K: usize>(whitener: &W, from: usize, head: &[u8
         white[i] = head[i] ^ whitener.byte(from + i);
     }
     white
+}
+
+/// How many bytes are written to a place at once.
+const PIECE: usize = 16;
+
+/// The same, written to a place that others may name too: piece by piece, each by way of a local, the last one up to the
+/// end.
+pub(crate) fn whiten_to<W: Whitener, const K: usize>(
+    whitener: &W,
+    from: usize,
+    head: &[u8],
+    out: &mut [u8; K],
+)
+    requires long { length head.now ≡ K }
+    requires within { from + K ≤ W.PERIOD }
+    ensures { out.new ≡ whitened (W.bytes whitener.now) from head.now }
+{
+    if K < PIECE {
+        *out = whiten(whitener, from, head);
+        return;
+    }
+    for c in 0..K / PIECE {
+        whiten_piece(whitener, from, head, PIECE * c, out);
+    }
+    whiten_piece(whitener, from, head, K - PIECE, out);
+}
+
+/// The piece at a place of the data.
+fn whiten_piece<W: Whitener>(whitener: &W, from: usize, head: &[u8], at: usize, out: &mut [u8])
+    requires long { length out.old ≡ length head.now }
+    requires within { from + length head.now ≤ W.PERIOD }
+    requires at { at + PIECE ≤ length head.now }
+    ensures piece { (j : ℕ) → at ≤ j → j < at + PIECE → slice_index out.new j
+        ≡ bit_xor (slice_index head.now j) (slice_index (W.bytes whitener.now) (from + j)) }
+    ensures before { (j : ℕ) → j < at → slice_index out.new j ≡ slice_index out.old j }
+    ensures same { length out.new ≡ length out.old }
+{
+    let piece: [u8; PIECE] = whiten(whitener, from + at, &head[at..at + PIECE]);
+    out[at..at + PIECE].copy_from_slice(&piece);
 }

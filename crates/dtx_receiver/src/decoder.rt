@@ -28,6 +28,8 @@ pub(crate) struct Decoder {
     unroll: Unroll,
     inner: OuterDecoding,
     turn: u8,
+    /// Room for the bytes of a group. What is left here from one group to the next doesn't matter.
+    bytes: [u8; GROUP_BYTES],
 }
 
 impl Model for Decoder {
@@ -48,6 +50,7 @@ impl Decoder {
             unroll: Unroll::new(),
             inner: new_outer_decoding(alloc)?,
             turn: 0,
+            bytes: [0; GROUP_BYTES],
         })
     }
 
@@ -108,9 +111,8 @@ impl Decoder {
             → early_of (before ++ bytes_back first self.old.precoder_bits self.old.levels) ≡ given
             ++ batch.new.packets.items }
     {
-        let mut bytes = [0; GROUP_BYTES];
-        self.unroll.group(first, &self.levels, &mut bytes);
-        give_group(&mut self.inner, &mut bytes, batch);
+        self.unroll.group(first, &self.levels, &mut self.bytes);
+        give_group(&mut self.inner, &mut self.bytes, batch);
         self.turn = (self.turn + 4) % 52;
     }
 }

@@ -22,9 +22,9 @@ returns-then-part-eq-GROUP_SEGMENTS-clause-stands c = λ run d e.
     record {
       due = e;
       last = omega (arith, c.if-part-eq-GROUP_SEGMENTS.true);
-      long = c.self.told;
+      long = c.self.told.0;
       segment = segment_long c.args.segment.now c.told-segment;
-      group = c.put_levels.array_long;
+      group = c.put_levels.array_long.0;
       levels =
           c.put_levels.ensures.levels;
     } in
@@ -45,9 +45,9 @@ returns-then-part-eq-GROUP_SEGMENTS-clause-packets c = λ run before d e g.
     record {
       due = e;
       last = omega (arith, c.if-part-eq-GROUP_SEGMENTS.true);
-      long = c.self.told;
+      long = c.self.told.0;
       segment = segment_long c.args.segment.now c.told-segment;
-      group = c.put_levels.array_long;
+      group = c.put_levels.array_long.0;
       levels =
           c.put_levels.ensures.levels;
     } in
@@ -73,7 +73,7 @@ returns-else-part-eq-GROUP_SEGMENTS-clause-stands c = λ run d e.
     let x : List ℤ = c.args.segment.now in
     decodes_data c.args.segment.now kept new run here (not_due_now run c.args.place e)
     (λ z. c.if-part-eq-GROUP_SEGMENTS.false (omega (arith, part, z)))
-    c.self.told (segment_long c.args.segment.now c.told-segment)
+    c.self.told.0 (segment_long c.args.segment.now c.told-segment)
     (c.put_levels.ensures.levels
     ∙ ap (λ n. take (828 * n) kept.levels ++ sliced_data x ++ drop (828 * n + 828) kept.levels) (sym part))
     refl refl refl
