@@ -6,8 +6,8 @@ use Rattle.std.specs.Prelude.{nat_le}
 use Rattle.std.specs.List.{cons_option}
 use Rattle.std.specs.Option.{unwrap_or}
 use Rattle.std.proofs.lemmas.Bool.{cases_lt, cond-true, cond-false, eq-eqb, ne_eqb, le-leb, lt-leb}
-use Rattle.std.proofs.lemmas.List.{map-set, take_more_set, length-map, length-set, length_push, drop-append-le}
-use Rattle.std.proofs.lemmas.List.{drop_all, take_all, take-append-le}
+use Rattle.std.proofs.lemmas.List.{length_push, drop-append-le}
+use Rattle.std.proofs.lemmas.List.{take_all}
 use Rattle.dtx_packets.specs.declared.packet.Packet.{Packet}
 use Rattle.dtx_coder.specs.Groups.{Coding, air_segments, after_group}
 use Rattle.dtx_ops.specs.declared.fields.Ops.{Ops}
@@ -22,8 +22,8 @@ use Rattle.dtx_exciter.specs.Packets.{readings}
 use Rattle.dtx_exciter.specs.Emission.{Holds, sent_by, sent_at, sent_before, behind_field_sync, given_under}
 use Rattle.dtx_exciter.specs.Step.{bytes_of, own_order, told_group, own_of, group_of, IsSent}
 use Rattle.dtx_exciter.specs.Kept.{whole, last_orders, is_served, RunsUnder, KeepsUnder, IsJoined}
-use Rattle.dtx_exciter.specs.ForceLaws.{force_left, force_first, counted_behind, IsBehind}
-use Rattle.dtx_exciter.specs.UnderLaws.{said_append, length-said}
+use Rattle.dtx_exciter.specs.ForceLaws.{counted_behind, IsBehind}
+use Rattle.dtx_exciter.specs.UnderLaws.{length-said}
 use Rattle.dtx_exciter.specs.EndsLaws as Ends
 use Rattle.dtx_exciter.specs.JoinedLaws.{last_same, settled_same, held_more, front_same, group_bytes, settled_more}
 use Rattle.dtx_exciter.specs.JoinedLaws.{partial_full}

@@ -18,15 +18,14 @@ use Rattle.dtx_exciter.specs.declared.answers.Why.TheVariants.{Cadence}
 use Rattle.dtx_exciter.specs.declared.answers.Told.{Told}
 use Rattle.dtx_exciter.specs.declared.answers.Told.TheVariants.{Quiet, Muted}
 use Rattle.dtx_exciter.specs.Told.{told_under}
-use Rattle.dtx_exciter.specs.Packets.{syncs, readings, anchor_of, under, last_answer}
+use Rattle.dtx_exciter.specs.Packets.{syncs, readings, under, last_answer}
 use Rattle.dtx_exciter.specs.Emission.{Holds, last_segments, given_under}
 use Rattle.dtx_exciter.specs.Step.{bytes_of, IsSame}
-use Rattle.dtx_exciter.specs.Kept.{last_orders, is_served, RunsUnder, KeepsUnder, Keeps, StandsFor, IsTaken, IsJoined}
+use Rattle.dtx_exciter.specs.Kept.{is_served, RunsUnder, KeepsUnder, Keeps, StandsFor, IsTaken, IsJoined}
 use Rattle.dtx_exciter.specs.Kept.{Joins}
 use Rattle.dtx_exciter.specs.declared.pages.Pages.{Pages}
 use Rattle.dtx_exciter.specs.HeldPages.{HoldsPages}
 use Rattle.dtx_exciter.specs.HeldPagesLaws.{nothing_holds}
-use Rattle.dtx_exciter.specs.ForceLaws.{force_first}
 use Rattle.dtx_exciter.specs.UnderLaws.{Goes, goes, syncs_push, under_nothing, syncs_nothing}
 use Rattle.dtx_exciter.specs.EndsLaws.{last_single}
 

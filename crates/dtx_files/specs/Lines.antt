@@ -1,5 +1,5 @@
 -- Lines whose numbers a program's are (the profile's own).
-use Rattle.std.specs.Prelude.{ℕ, ◌<◌, ◌^◌}
+use Rattle.std.specs.Prelude.{◌<◌, ◌^◌}
 use Rattle.dtx_exciter.specs.Log.{Line}
 
 -- each number of the line is one of 64 bits

@@ -1,7 +1,6 @@
 -- What `acquire SCALE IN OUT` means: the segments that are acquired of the symbols of a capture (the profile's own).
-use Rattle.std.specs.Prelude.{ℕ, ℤ, ◌-◌, ◌*◌, ◌==◌, Bool, true, if◌then◌else◌, Option, Some, None, List, []}
+use Rattle.std.specs.Prelude.{ℕ, ℤ, ◌-◌, ◌*◌, ◌==◌, true, if◌then◌else◌, Option, Some, None, List, []}
 use Rattle.std.specs.Prelude.{◌∷◌, length}
-use Rattle.std.specs.Str.{bytes_eq}
 use Rattle.dtx_acquire.specs.Acquired.{acquired, acquired_cost, acquired_rest, acquired_runs, acquired_so_far}
 use Rattle.dtx_engine.specs.Made.{only}
 use Rattle.dtx_engine.specs.Recipe.{Recipe, transformed}

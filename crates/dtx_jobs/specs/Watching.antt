@@ -1,5 +1,5 @@
 -- What is kept while a feed is watched.
-use Rattle.std.specs.Prelude.{ℕ, ◌≡◌, ◌+◌, ◌^◌, ◌<◌, List, [], ◌∷◌, length}
+use Rattle.std.specs.Prelude.{ℕ, ◌≡◌, ◌+◌, ◌^◌, ◌<◌, List, length}
 use Rattle.dtx_packets.specs.Packets.{packets_of}
 use Rattle.dtx_watch.specs.Kept.{StandsFor}
 use Rattle.dtx_watch.specs.Watch.{told}

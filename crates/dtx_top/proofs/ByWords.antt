@@ -8,7 +8,7 @@ use Rattle.dtx_outside.specs.declared.sink.SinkNo.{SinkNo}
 use Rattle.dtx_outside.specs.declared.sink.SinkNo.TheVariants as sink
 use Rattle.dtx_meaning.specs.Status.{IsOfInputs}
 use Rattle.dtx_meaning.specs.declared.status.Status.{Status}
-use Rattle.dtx_meaning.specs.declared.status.Status.TheVariants.{Usage, WriteFault, Memory}
+use Rattle.dtx_meaning.specs.declared.status.Status.TheVariants.{Usage, Memory}
 use Rattle.dtx_jobs.specs.Answers.{Knows}
 use Rattle.dtx_jobs.specs.OfWords.{IsOfWords, acquire_same, excite_same, make_same, number_same, numbers_same}
 use Rattle.dtx_jobs.specs.OfWords.{dvb_same, three_same, two_same}

@@ -5,12 +5,12 @@ use Rattle.std.proofs.Common.{arith, inl, inr}
 use Rattle.std.specs.Prelude.{nat_le, is_ok, slice_index_or}
 use Rattle.std.specs.List.{flat_map, range_with_len}
 use Rattle.std.proofs.lemmas.Bool.{cases_lt, leb-true}
-use Rattle.std.proofs.lemmas.List.{length-append, length-drop, length-map}
+use Rattle.std.proofs.lemmas.List.{length-append, length-drop}
 use Rattle.dtx_frame.specs.Segments.{field_sync, sync_symbols}
 use Rattle.dtx_frame.specs.SymbolsLaws.{length_front}
 use Rattle.dtx_coder.specs.Along.{levels_since}
 use Rattle.dtx_coder.specs.Coded.{whole_groups}
-use Rattle.dtx_coder.specs.Stream.{segment, four_segments, last_of, symbols_of}
+use Rattle.dtx_coder.specs.Stream.{segment, four_segments, last_of}
 use Rattle.dtx_coder.specs.BytesLaws.{length-whole}
 use Rattle.dtx_coder.specs.CountsLaws.{AreSegments, segments_append, segments_map, segment_at}
 use Rattle.dtx_coder.specs.LevelsLaws.{length-levels_of}
