@@ -35,9 +35,9 @@ fn many_bytes_are_added_at_once_but_for_a_part_of_a_page(rt: HostRuntime) -> Res
     let mut shelf = MemoryShelf::new(rt.alloc());
     let mut output = Output::<PIECE>::new(rt.alloc())?;
     assert!(rt; shelf.begin("out").is_ok());
-    for (pages, appends) in [(44, 1), (88, 3)] {
+    for (length, appends) in [(44 * PAGE, 1), (88 * PAGE, 3)] {
         assert!(rt; output.write(&mut shelf, "out", &bytes).is_ok());
-        assert!(rt; written(&shelf) == pages * PAGE);
+        assert!(rt; written(&shelf) == length);
         assert!(rt; shelf.calls(Call::Append) == appends);
     }
     assert!(rt; output.flush(&mut shelf, "out").is_ok());
