@@ -1,8 +1,8 @@
 #!/usr/bin/env bash
 # Measures `dtx code` on a made stream of 200 MB beside GNU Radio's chain of the same coding, where Debian's package
 # `gnuradio` is installed. All of it in one run, on one processor where `taskset` is there, `dtx` the best of three and
-# the other once. It needs 2 GB on the disk of temporary files. The status is 0 where `dtx` is at least 22 times as fast,
-# and where there is no GNU Radio.
+# the other once. It needs 2 GB on the disk of temporary files. The aim is 25 times; the status is 0 where `dtx` is at
+# least 22 times as fast, and where there is no GNU Radio.
 
 set -eu
 rounds=3

@@ -1,6 +1,6 @@
 // The shapes of the coding's parts in plain Rust, beside which the proved ones are measured: whitening by a local copy, the
 // interleaver in one block, the outer coding of both with the encoder, the trellis coders in sixteen lanes, a group of all of these
-// with the field sync and the data segments, and the certificate of a least path. See codec.sh.
+// with the field sync and the segment syncs, and the certificate of a least path. See codec.sh.
 use std::array::from_fn;
 use std::hint::black_box;
 use std::time::Instant;
@@ -294,9 +294,12 @@ struct Group {
     encoder: Encoder,
     interleaver: Interleaver,
     coders: Trellis,
-    front: [i8; SYNC_FRONT],
-    last: [i8; LAST],
-    symbols: [i8; 5 * SEGMENT],
+    front: [u8; SYNC_FRONT],
+    last: [u8; LAST],
+    words: [[u8; WORD]; GROUP_PACKETS],
+    bytes: [u8; GROUP_BYTES],
+    // (as bytes of a file, in two's complement)
+    symbols: [u8; 5 * SEGMENT],
 }
 
 impl Group {
@@ -306,32 +309,30 @@ impl Group {
             encoder: Encoder::new(),
             interleaver: Interleaver::new(),
             coders: Trellis { states: [0; CODERS] },
-            front: sync_front(),
-            last: [-7; LAST],
+            front: sync_front().map(|symbol| symbol as u8),
+            last: [-7i8 as u8; LAST],
+            words: [[0; WORD]; GROUP_PACKETS],
+            bytes: [0; GROUP_BYTES],
             symbols: [0; 5 * SEGMENT],
         }
     }
 
     fn send(&mut self, first: usize, packets: &[[u8; PACKET]; GROUP_PACKETS], sync: bool) {
         let heads = from_fn(|i| self.whitener.whiten(DATA * (first + i), packets[i].last_chunk().unwrap()));
-        let mut words = [[0; WORD]; GROUP_PACKETS];
-        self.encoder.encode_four(&heads, &mut words);
-        let mut bytes = [0; GROUP_BYTES];
-        bytes.copy_from_slice(words.as_flattened());
-        self.interleaver.pass(&mut bytes);
-        let mut sent = [0; GROUP_SYMBOLS];
-        self.coders.group(first, &bytes, &mut sent);
-        let (segments, _) = self.symbols.as_chunks_mut::<SEGMENT>();
-        let begun = sync as usize;
+        self.encoder.encode_four(&heads, &mut self.words);
+        self.bytes.copy_from_slice(self.words.as_flattened());
+        self.interleaver.pass(&mut self.bytes);
+        let begun = SEGMENT * sync as usize;
         if sync {
-            segments[0][..SYNC_FRONT].copy_from_slice(&self.front);
-            segments[0][SYNC_FRONT..].copy_from_slice(&self.last);
+            self.symbols[..SYNC_FRONT].copy_from_slice(&self.front);
+            self.symbols[SYNC_FRONT..SEGMENT].copy_from_slice(&self.last);
         }
-        for (segment, sent) in segments[begun..].iter_mut().zip(sent.chunks_exact(SEGMENT)) {
-            *segment = from_fn(|i| sent[i] as i8);
-            segment[..4].copy_from_slice(&[5, -5, -5, 5]);
+        let sent = self.symbols[begun..].first_chunk_mut().unwrap();
+        self.coders.group(first, &self.bytes, sent);
+        for segment in sent.chunks_exact_mut(SEGMENT) {
+            segment[..4].copy_from_slice(&[5, -5i8 as u8, -5i8 as u8, 5]);
         }
-        self.last = *segments[begun + 3].last_chunk().unwrap();
+        self.last = *sent.last_chunk().unwrap();
     }
 }
 
@@ -485,10 +486,10 @@ fn group() {
         for group in 0..FIELD / 4 {
             coding.send(4 * group, &packets, group == 0);
             for (byte, symbol) in packets[0][1..].iter_mut().zip(&coding.symbols[4 * SEGMENT - LAST..4 * SEGMENT]) {
-                *byte ^= *symbol as u8;
+                *byte ^= symbol;
             }
         }
-        coding.symbols[SEGMENT] as u8
+        coding.symbols[SEGMENT]
     });
 }
 
