@@ -48,8 +48,8 @@ impl Air {
         }
     }
 
-    /// Four data segments more, those of a group's bytes, over which these coders go on. The first of them is at place
-    /// `first` of its field.
+    /// Adds the four data segments of a group's interleaved bytes, the first at place `first` of its field. The coders
+    /// begin in the states that they have, and keep those behind the group.
     pub(crate) fn add_group(&mut self, twelve: &mut Twelve, first: u16, bytes: &[u8; GROUP_BYTES])
         requires room { self.old.segments < 2 }
         requires in_field { first < FIELD_PACKETS }

@@ -40,7 +40,7 @@ pub fn single_packets() -> Shape
 }
 
 /// How many packets are read at once where they are sent as blocks of 204 bytes: these fill more than a piece of the
-/// output, so that they go to its file without being gathered.
+/// output, so that they go to its file without being gathered, but for parts of a page.
 pub const DVB_PIECE_PACKETS: usize = 696;
 
 /// Packets of 188 bytes that are sent as blocks of 204 (EN 300 429), each for itself.

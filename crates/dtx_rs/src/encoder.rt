@@ -50,6 +50,7 @@ impl<const N: usize, const K: usize> Rs<N, K> {
     }
 
     /// The registers of zeros after all the data of each of four heads.
+    #[inline(always)]
     fn parity_of_four(&self, one: &[u8], two: &[u8], three: &[u8], four: &[u8]) -> [[u8; WIDTH]; 4]
         requires few { N - K ≤ WIDTH }
         requires two { length two.now ≡ length one.now }

@@ -105,7 +105,7 @@ fn lay_part<W: Widths<B, M>, const B: usize, const M: usize>(
     ensures turn { result ≡ turn_after B turn part.now }
 {
     for i in 0..part.len() {
-        block[place + W::ahead(turn, i)] = part[i];
+        block[place + W::offset(turn, i)] = part[i];
     }
     let after = turn + part.len();
     if after == B { 0 } else { after }

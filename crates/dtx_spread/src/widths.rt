@@ -10,9 +10,9 @@ pub(crate) trait Widths<const B: usize, const M: usize> {
     /// How many bytes branch i holds.
     ghost widths: { ℕ → ℕ };
 
-    /// How far behind the place of the byte of branch `turn` the one of the branch `i` further on is put: `i` places,
-    /// and `B` for each byte that its branch holds.
-    fn ahead(turn: usize, i: usize) -> usize
+    /// How far behind the place from which branch `turn` is served next the byte of the branch `i` further on is put:
+    /// `i` places, and `B` for each byte that its branch holds.
+    fn offset(turn: usize, i: usize) -> usize
         requires numbers { IsInterleaver B M }
         requires below { turn + i < B }
         ensures { result ≡ i + B * widths (turn + i) };
@@ -27,7 +27,7 @@ pub(crate) struct Spreading;
 impl<const B: usize, const M: usize> Widths<B, M> for Spreading {
     ghost widths = { spreading M };
 
-    fn ahead(turn: usize, i: usize) -> usize {
+    fn offset(turn: usize, i: usize) -> usize {
         i + B * (M * (turn + i))
     }
 
@@ -40,8 +40,8 @@ pub(crate) struct Gathering;
 impl<const B: usize, const M: usize> Widths<B, M> for Gathering {
     ghost widths = { gathering B M };
 
-    // (in steps back, since so the compiler unrolls a row)
-    fn ahead(turn: usize, i: usize) -> usize {
+    // In steps back, since so the compiler unrolls a row.
+    fn offset(turn: usize, i: usize) -> usize {
         B * (M * (B - 1 - turn)) - (B * M - 1) * i
     }
 

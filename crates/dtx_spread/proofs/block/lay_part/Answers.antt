@@ -11,11 +11,11 @@ pub loop-i-preserved : goal.loop-i-preserved
 loop-i-preserved g c =
     let k = c.loop-i.i in
     let w = g.W.Widths.widths in
-    ap (λ ys. set ys (c.args.place + c.ahead.result) (get_or c.args.part.now k 0)) c.loop-i.invariant
-    ∙ part_more g.row.B w c.args.place c.args.turn k (c.args.place + c.ahead.result) c.args.part.now
+    ap (λ ys. set ys (c.args.place + c.offset.result) (get_or c.args.part.now k 0)) c.loop-i.invariant
+    ∙ part_more g.row.B w c.args.place c.args.turn k (c.args.place + c.offset.result) c.args.part.now
     c.args.block.now (get_or c.args.part.now k 0) (omega (arith, c.loop-i-test.true, c.requires.within))
     c.loop-i-test.true refl
-    (ap (λ n. c.args.place + n) c.ahead.ensures ∙ along c.args.place k (g.row.B * w (c.args.turn + k)))
+    (ap (λ n. c.args.place + n) c.offset.ensures ∙ along c.args.place k (g.row.B * w (c.args.turn + k)))
   where
     along : (x y z : ℕ) → x + (y + z) ≡ x + y + z
     along x y z = omega arith

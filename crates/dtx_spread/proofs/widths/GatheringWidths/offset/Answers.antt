@@ -1,12 +1,16 @@
 use Rattle.std.proofs.Common.{◌≡◌, ℕ, ◌+◌, ◌-◌, ◌*◌, ap, ◌∙◌, arith}
 use Rattle.dtx_spread.proofs.Steps.{steps_back}
-use Rattle.dtx_spread.proofs.widths.GatheringWidths.ahead.Goals as goal
+use Rattle.dtx_spread.proofs.widths.GatheringWidths.offset.Goals as goal
 
 pub overflow_sub-result-4 : goal.overflow_sub-result-4
 overflow_sub-result-4 g c =
     let b = g.row.B in
     let m = g.row.M in
-    omega (arith, steps_back b m (b - 1 - c.args.turn) c.args.i (omega (arith, c.requires.numbers.some)) c.requires.numbers.longer (omega (arith, c.requires.below)))
+    omega (
+      arith,
+      steps_back b m (b - 1 - c.args.turn) c.args.i (omega (arith, c.requires.numbers.some))
+          c.requires.numbers.longer (omega (arith, c.requires.below)),
+    )
 
 pub returns : goal.returns
 returns g c =
