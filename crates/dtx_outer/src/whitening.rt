@@ -23,8 +23,8 @@ pub fn whiten<W: Whitener, const K: usize>(whitener: &W, from: usize, head: &[u8
 /// How many bytes are written to a place at once.
 const PIECE: usize = 16;
 
-/// The same, written to `out` in pieces of sixteen bytes, each made in a local first, since the compiler can't tell that
-/// `out` is apart from the data. The last piece ends with the data, so some bytes may be written twice.
+/// The same, written to `out` in pieces of sixteen bytes, each made in a local first, since the compiler can't tell
+/// that `out` is apart from the data. The last piece ends with the data, so some bytes may be written twice.
 pub(crate) fn whiten_to<W: Whitener, const K: usize>(
     whitener: &W,
     from: usize,
