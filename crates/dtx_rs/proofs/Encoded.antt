@@ -1,7 +1,7 @@
 -- The data and then the register that was fed with them are the codeword.
-use Rattle.std.proofs.Common.{◌≡◌, ℕ, zero, suc, ◌+◌, ◌-◌, ◌*◌, ◌<◌, ◌≤◌, List, [], ◌∷◌, ◌++◌, get_or, length}
+use Rattle.std.proofs.Common.{◌≡◌, ℕ, zero, suc, ◌+◌, ◌-◌, ◌<◌, ◌≤◌, List, [], ◌∷◌, ◌++◌, get_or, length}
 use Rattle.std.proofs.Common.{map, take, replicate, refl, sym, ap, ap₂, ◌∙◌, subst, arith}
-use Rattle.std.proofs.lemmas.List.{append_assoc, length-replicate, take_at, take-replicate, replicate-append-replicate}
+use Rattle.std.proofs.lemmas.List.{length-replicate, take_at, take-replicate, replicate-append-replicate}
 use Rattle.std.proofs.Math.Seq.{take-append-add}
 use Rattle.dtx_galois.specs.Field.{AreBytes}
 use Rattle.dtx_laws.specs.Codeword.{IsCode, IsCodeword}
@@ -9,7 +9,6 @@ use Rattle.dtx_laws.specs.Register.{generator, register}
 use Rattle.dtx_laws.specs.Words.{codeword}
 use Rattle.dtx_laws.specs.EncodingLaws.{encoded, encoded_is, length_generator, length_register}
 use Rattle.dtx_laws.specs.ChoiceLaws.{codeword_is, codeword_only}
-use Rattle.dtx_rs.specs.Table.{IsWide}
 use Rattle.dtx_rs.proofs.Linear.{register_padded}
 
 -- the first bytes of a word
@@ -42,26 +41,6 @@ front_padded m n w divisor l r e =
     let whole : w ≡ length (generator m) + (w - m) = omega (arith, length_generator m) in
     ap₂ take whole e ∙ take-append-add (generator m) (replicate (n - m) 0) (w - m)
     ∙ ap (λ xs. generator m ++ xs) (take-replicate (w - m) (n - m) 0 (omega arith))
-
--- a table's divisor needs no more words than its generator fills
-pub table_wide : (n k w : ℕ) (divisor table : List ℕ) → n - k ≤ 4 * w → 0 < w → w ≤ 5
-    → divisor ≡ generator (n - k) ++ replicate (256 - (n - k)) 0 → table ≡ take 20 divisor → IsWide w table
-table_wide n k w divisor table few some within d t = record {
-  some = some;
-  within = within;
-  zeros = is
-      ∙ ap (λ (xs : List ℕ). generator (n - k) ++ xs) (ap (λ i. replicate i 0) parts
-      ∙ sym (replicate-append-replicate (4 * w - (n - k)) (20 - 4 * w) 0))
-      ∙ sym (append_assoc (generator (n - k)) (replicate (4 * w - (n - k)) 0) (replicate (20 - 4 * w) 0))
-      ∙ ap (λ (xs : List ℕ). xs ++ replicate (20 - 4 * w) 0)
-      (sym (front_padded (n - k) 20 (4 * w) table few (omega (arith, within)) is));
-}
-  where
-    is : table ≡ generator (n - k) ++ replicate (20 - (n - k)) 0
-    is = t ∙ front_padded (n - k) 256 20 divisor (omega (arith, few, within)) (omega arith) d
-
-    parts : 20 - (n - k) ≡ 4 * w - (n - k) + (20 - 4 * w)
-    parts = omega (arith, few, within)
 
 -- by a table of a divisor of w coefficients
 pub table_codeword : (n k w : ℕ) (divisor table head parity word new : List ℕ) → IsCode n k → n - k ≤ w → w ≤ 256

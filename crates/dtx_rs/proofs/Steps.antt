@@ -2,15 +2,15 @@
 use Rattle.std.proofs.Common.{◌≡◌, ℕ, zero, suc, ◌+◌, ◌*◌, ◌<◌, List, [], ◌∷◌, ◌++◌, length, get_or, drop, bit_xor}
 use Rattle.std.proofs.Common.{refl, sym, ap, ap₂, ◌∙◌, arith}
 use Rattle.std.proofs.lemmas.List.{length_push, length-drop, get_or-drop}
-use Rattle.std.proofs.lemmas.Nat.{be_bytes_4}
-use Rattle.std.specs.Int.{to_be_bytes, from_be_bytes, w32}
+use Rattle.std.proofs.lemmas.Nat.{le_bytes_4}
+use Rattle.std.specs.Int.{to_le_bytes, from_le_bytes, w32}
 use Rattle.dtx_galois.specs.Word.{sums}
 use Rattle.dtx_galois.specs.WordsLaws.{length_sums}
 use Rattle.dtx_laws.specs.Register.{register}
 use Rattle.dtx_rs.specs.Table.{row, word_bytes}
 use Rattle.dtx_rs.proofs.Sums.{sums_at, sums_by_places}
 use Rattle.dtx_rs.proofs.Rows.{four_fed, length_row}
-use Rattle.dtx_rs.proofs.WordBytes.{to_be_bytes-xor, length-word_bytes, word_bytes-append, word_bytes-sums}
+use Rattle.dtx_rs.proofs.WordBytes.{to_le_bytes-xor, length-word_bytes, word_bytes-append, word_bytes-sums}
 use Rattle.dtx_rs.proofs.WordBytes.{list_of_four}
 
 -- a row has as many words as the register
@@ -21,7 +21,7 @@ row_words divisor words f k n l e = omega (arith, length-word_bytes words, ap le
 -- where fs are the sums of the bytes and the register's first four
 pub step_is : (divisor state bytes fs r3 r2 r1 r0 : List ℕ) → 0 < length state → length divisor ≡ 4 * length state
     → length bytes ≡ 4 → ((i : ℕ) → get_or bytes i 0 < 256)
-    → fs ≡ to_be_bytes w32 (bit_xor (from_be_bytes w32 bytes) (get_or state 0 0))
+    → fs ≡ to_le_bytes w32 (bit_xor (from_le_bytes w32 bytes) (get_or state 0 0))
     → word_bytes r3 ≡ row divisor (get_or fs 0 0) 3 → word_bytes r2 ≡ row divisor (get_or fs 1 0) 2
     → word_bytes r1 ≡ row divisor (get_or fs 2 0) 1 → word_bytes r0 ≡ row divisor (get_or fs 3 0) 0
     → word_bytes (sums (drop 1 state ++ 0 ∷ []) (sums r3 (sums r2 (sums r1 r0))))
@@ -39,9 +39,9 @@ step_is divisor (w ∷ ws) bytes fs r3 r2 r1 r0 s l b small f e3 e2 e1 e0 =
     let four : bytes ≡ get_or bytes 0 0 ∷ get_or bytes 1 0 ∷ get_or bytes 2 0 ∷ get_or bytes 3 0 ∷ [] =
     list_of_four bytes b in
     let factors : fs ≡ sums (get_or bytes 0 0 ∷ get_or bytes 1 0 ∷ get_or bytes 2 0 ∷ get_or bytes 3 0 ∷ [])
-    (to_be_bytes w32 w) =
-    f ∙ to_be_bytes-xor (from_be_bytes w32 bytes) w
-    ∙ ap (λ xs. sums xs (to_be_bytes w32 w)) (be_bytes_4 bytes (from_be_bytes w32 bytes) b small refl ∙ four) in
+    (to_le_bytes w32 w) =
+    f ∙ to_le_bytes-xor (from_le_bytes w32 bytes) w
+    ∙ ap (λ xs. sums xs (to_le_bytes w32 w)) (le_bytes_4 bytes (from_le_bytes w32 bytes) b small refl ∙ four) in
     word_bytes-sums (ws ++ 0 ∷ []) (sums r3 (sums r2 (sums r1 r0))) (omega (arith, length_push ws 0))
     ∙ ap₂ sums (word_bytes-append ws (0 ∷ []))
     (word_bytes-sums r3 (sums r2 (sums r1 r0)) (l3 ∙ sym m2)

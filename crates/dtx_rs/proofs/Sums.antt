@@ -2,6 +2,7 @@
 use Rattle.std.proofs.Common.{◌≡◌, ℕ, zero, suc, ◌-◌, ◌<◌, List, [], ◌∷◌, ◌++◌, length, get_or, set, take, drop}
 use Rattle.std.proofs.Common.{bit_xor, refl, sym, ap, ap₂, ◌∙◌, arith}
 use Rattle.std.proofs.lemmas.List.{ext_get_or, get_or-map, length-map, set_at}
+use Rattle.std.specs.Simd.Lanes.{zip2}
 use Rattle.dtx_galois.specs.Field.{mul}
 use Rattle.dtx_galois.specs.Word.{sums, scaled}
 use Rattle.dtx_galois.specs.WordsLaws.{length_sums}
@@ -39,3 +40,9 @@ pub fed_is : (divisor old turned_old new : List ℕ) (b f : ℕ) → 0 < length 
 fed_is divisor [] t new b f l e g h = absurd (omega arith)
 fed_is divisor (r ∷ rs) t new b f l e g h = h ∙ ap₂ (λ us c. sums us (scaled c divisor)) (e
     ∙ turned r rs (suc (length rs) - 1) (omega arith)) g
+
+-- lane by lane
+pub zip_sums : (xs ys : List ℕ) → length xs ≡ length ys → zip2 bit_xor xs ys ≡ sums xs ys
+zip_sums [] ys l = refl
+zip_sums (x ∷ xs) [] l = absurd (omega arith)
+zip_sums (x ∷ xs) (y ∷ ys) l = ap (λ zs. bit_xor x y ∷ zs) (zip_sums xs ys (omega arith))

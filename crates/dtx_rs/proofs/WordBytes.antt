@@ -3,17 +3,17 @@ use Rattle.std.proofs.Common.{◌≡◌, ℕ, suc, ◌+◌, ◌*◌, ◌/◌, �
 use Rattle.std.proofs.Common.{bit_xor, refl, sym, ap, ap₂, ◌∙◌, arith}
 use Rattle.std.proofs.lemmas.List.{append_assoc, take_more}
 use Rattle.std.proofs.lemmas.Nat.{xor_shr, xor_mod}
-use Rattle.std.specs.Int.{to_be_bytes, w32}
+use Rattle.std.specs.Int.{to_le_bytes, w32}
 use Rattle.dtx_galois.specs.Word.{sums}
 use Rattle.dtx_rs.specs.Table.{word_bytes}
 
 xor_byte : (u v k : ℕ) → bit_xor u v / 2 ^ k % 256 ≡ bit_xor (u / 2 ^ k % 256) (v / 2 ^ k % 256)
 xor_byte u v k = ap (λ (x : ℕ). x % 256) (xor_shr u v k) ∙ xor_mod (u / 2 ^ k) (v / 2 ^ k) 8
 
-pub to_be_bytes-xor : (u v : ℕ) → to_be_bytes w32 (bit_xor u v) ≡ sums (to_be_bytes w32 u) (to_be_bytes w32 v)
-to_be_bytes-xor u v =
-    ap₂ ◌∷◌ (xor_byte u v 24) (ap₂ ◌∷◌ (xor_byte u v 16)
-    (ap₂ ◌∷◌ (xor_byte u v 8) (ap (λ (x : ℕ). x ∷ []) (xor_mod u v 8))))
+pub to_le_bytes-xor : (u v : ℕ) → to_le_bytes w32 (bit_xor u v) ≡ sums (to_le_bytes w32 u) (to_le_bytes w32 v)
+to_le_bytes-xor u v =
+    ap₂ ◌∷◌ (xor_mod u v 8) (ap₂ ◌∷◌ (xor_byte u v 8)
+    (ap₂ ◌∷◌ (xor_byte u v 16) (ap (λ (x : ℕ). x ∷ []) (xor_byte u v 24))))
 
 pub length-word_bytes : (ws : List ℕ) → length (word_bytes ws) ≡ 4 * length ws
 length-word_bytes [] = refl
@@ -24,19 +24,19 @@ length-word_bytes (w ∷ ws) = ap (λ n. suc (suc (suc (suc n)))) (length-word_b
 
 pub word_bytes-append : (us vs : List ℕ) → word_bytes (us ++ vs) ≡ word_bytes us ++ word_bytes vs
 word_bytes-append [] vs = refl
-word_bytes-append (u ∷ us) vs = ap (λ xs. to_be_bytes w32 u ++ xs) (word_bytes-append us vs)
+word_bytes-append (u ∷ us) vs = ap (λ xs. to_le_bytes w32 u ++ xs) (word_bytes-append us vs)
 
 pub word_bytes-sums : (us vs : List ℕ) → length us ≡ length vs
     → word_bytes (sums us vs) ≡ sums (word_bytes us) (word_bytes vs)
 word_bytes-sums [] vs l = refl
 word_bytes-sums (u ∷ us) [] l = absurd (omega arith)
 word_bytes-sums (u ∷ us) (v ∷ vs) l =
-    ap₂ ◌∷◌ (xor_byte u v 24) (ap₂ ◌∷◌ (xor_byte u v 16)
-    (ap₂ ◌∷◌ (xor_byte u v 8) (ap₂ ◌∷◌ (xor_mod u v 8) (word_bytes-sums us vs (omega arith)))))
+    ap₂ ◌∷◌ (xor_mod u v 8) (ap₂ ◌∷◌ (xor_byte u v 8)
+    (ap₂ ◌∷◌ (xor_byte u v 16) (ap₂ ◌∷◌ (xor_byte u v 24) (word_bytes-sums us vs (omega arith)))))
 
 -- one more word
 pub word_bytes-more : (ws : List ℕ) (i : ℕ) → i < length ws
-    → word_bytes (take (i + 1) ws) ≡ word_bytes (take i ws) ++ to_be_bytes w32 (get_or ws i 0)
+    → word_bytes (take (i + 1) ws) ≡ word_bytes (take i ws) ++ to_le_bytes w32 (get_or ws i 0)
 word_bytes-more ws i l = ap word_bytes (take_more ws i 0 l) ∙ word_bytes-append (take i ws) (get_or ws i 0 ∷ [])
 
 -- four bytes of a list

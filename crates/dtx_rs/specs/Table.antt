@@ -1,19 +1,13 @@
 -- The rows of a table of remainders, and the bytes of its words.
-use Rattle.std.specs.Prelude.{ℕ, ◌≡◌, ◌-◌, ◌*◌, ◌<◌, ◌≤◌, List, [], ◌∷◌, ◌++◌, length, replicate, take}
-use Rattle.std.specs.Int.{to_be_bytes, w32}
+use Rattle.std.specs.Prelude.{ℕ, List, [], ◌∷◌, ◌++◌, length, replicate}
+use Rattle.std.specs.Int.{to_le_bytes, w32}
 use Rattle.dtx_laws.specs.Register.{register}
 
 -- the register of zeros after f and then k zeros, which is the remainder of f * x ^ (m + k) for a divisor of degree m
 abbrev pub row : List ℕ → ℕ → ℕ → List ℕ
 row divisor f k = register divisor (replicate (length divisor) 0) (f ∷ replicate k 0)
 
--- the bytes of words of 32 bits, the highest of each first
+-- the bytes of words of 32 bits, the lowest of each first
 abbrev pub word_bytes : List ℕ → List ℕ
 word_bytes [] = []
-word_bytes (w ∷ ws) = to_be_bytes w32 w ++ word_bytes ws
-
--- A register of twenty bytes needs no more than the first words, so many: behind them the divisor has zeros.
-pub record IsWide (words : ℕ) (divisor : List ℕ) : Type 0 where
-  pub some : 0 < words
-  pub within : words ≤ 5
-  pub zeros : divisor ≡ take (4 * words) divisor ++ replicate (20 - 4 * words) 0
+word_bytes (w ∷ ws) = to_le_bytes w32 w ++ word_bytes ws

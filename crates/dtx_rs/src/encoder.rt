@@ -11,15 +11,14 @@ ghost use Rattle.dtx_rs.specs.declared.words.TheConstants.{WIDTH};
 use crate::divisor::{ELEMENTS, divisor_of};
 use crate::register::encode_by_register;
 use crate::table::Table;
-use crate::words::{SHORT_WORDS, STEP, WIDTH};
+use crate::words::WIDTH;
 use dtx_galois::{ALPHA, Gf, eval};
 use dtx_laws::{Encode, PARITY};
 
 /// The encoder of words of `N` bytes with `K` bytes of data (ATSC A/53 Part 2, Reed-Solomon encoder).
 ///
 /// It holds a table of 20 KB, so make one and keep it. Up to twenty parity bytes are made by the table, four bytes of
-/// data a step, and more than twenty byte by byte. Of four words at once up to sixteen are made in vectors, and more in
-/// vectors with a word before each.
+/// data a step, and more than twenty byte by byte.
 #[derive(Drop)]
 pub struct Rs<const N: usize, const K: usize> {
     divisor: [u8; ELEMENTS],
@@ -59,11 +58,7 @@ impl<const N: usize, const K: usize> Rs<N, K> {
         ensures { result ≡ map (register self.now.table.divisor (replicate WIDTH 0))
             (one.now ∷ two.now ∷ three.now ∷ four.now ∷ []) }
     {
-        if N - K <= STEP * SHORT_WORDS {
-            self.table.short_parity_of_four(one, two, three, four)
-        } else {
-            self.table.parity_of_four(one, two, three, four)
-        }
+        self.table.parity_of_four(one, two, three, four)
     }
 }
 

@@ -4,26 +4,31 @@ ghost use Rattle.std.specs.Prelude.{◌≡◌, ℕ, ◌+◌, ◌-◌, ◌*◌, �
 ghost use Rattle.std.specs.Prelude.{slice_index, slice_index_or, take};
 ghost use Rattle.dtx_galois.specs.Word.{sums};
 ghost use Rattle.dtx_laws.specs.Register.{fed, register};
-ghost use Rattle.dtx_rs.specs.Table.{IsWide, row, word_bytes};
+ghost use Rattle.dtx_rs.specs.Table.{row, word_bytes};
 ghost use Rattle.dtx_rs.specs.declared.divisor.TheConstants.{ELEMENTS};
-ghost use Rattle.dtx_rs.specs.declared.words.TheConstants.{SHORT_WORDS, STEP, WIDTH};
+ghost use Rattle.dtx_rs.specs.declared.table.TheConstants.{ROWS};
+ghost use Rattle.dtx_rs.specs.declared.words.TheConstants.{REST, STEP, WIDTH};
 
 use crate::divisor::ELEMENTS;
 use crate::register::feed;
-use crate::words::{STEP, Split, WIDTH, WORDS, bytes_of, joined, widened, words_of};
+use crate::words::{Rest, STEP, Split, WIDTH, WORDS, bytes_of, joined, words_of};
 use std::simd::prelude::*;
 
 /// How many rows there are: one for each byte, at each place of a step.
 const ROWS: usize = STEP * ELEMENTS;
 
-/// Row `ELEMENTS * k + f` is what the register of zeros holds after the byte f and then k zeros.
+/// Row `ELEMENTS * k + f` is what the register of zeros holds after the byte f and then k zeros. The first words of all
+/// rows stand apart from what is behind them, which fills vectors.
 #[derive(Drop)]
 pub struct Table {
     pub divisor: [u8; WIDTH],
-    rows: [[u32; WORDS]; ROWS],
+    firsts: [u32; ROWS],
+    rests: [Rest; ROWS],
     ghost long: { length divisor ≡ WIDTH },
+    ghost rests_long: { (n : ℕ) → n < ROWS → length (slice_index_or rests n (record { words = [] })).words ≡ REST },
     ghost rows_hold: { (k f : ℕ) → k < STEP → f < ELEMENTS
-        → word_bytes (slice_index_or rows (ELEMENTS * k + f) []) ≡ row divisor f k },
+        → word_bytes (slice_index firsts (ELEMENTS * k + f)
+        ∷ (slice_index_or rests (ELEMENTS * k + f) (record { words = [] })).words) ≡ row divisor f k },
 }
 
 impl Table {
@@ -31,9 +36,11 @@ impl Table {
     pub fn new(divisor: &[u8; WIDTH]) -> Self
         ensures { result.divisor ≡ divisor.now }
     {
+        let rows = all_rows(divisor);
         Table {
             divisor: *divisor,
-            rows: all_rows(divisor),
+            firsts: firsts_of(&rows),
+            rests: rests_of(&rows),
         }
     }
 
@@ -55,6 +62,7 @@ impl Table {
 
     /// The registers of zeros after all the data of each of four heads, by steps in turn, so that none waits for the
     /// others.
+    #[inline(always)]
     pub fn parity_of_four(
         &self,
         one: &[u8],
@@ -94,86 +102,6 @@ impl Table {
         ]
     }
 
-    /// The registers of zeros after all the data of each of four heads, as `parity_of_four` gives them, where the
-    /// divisor leaves no more than sixteen of their bytes other than 0: each fits a vector.
-    pub fn short_parity_of_four(
-        &self,
-        one: &[u8],
-        two: &[u8],
-        three: &[u8],
-        four: &[u8],
-    ) -> [[u8; WIDTH]; 4]
-        requires short { IsWide SHORT_WORDS self.now.divisor }
-        requires two { length two.now ≡ length one.now }
-        requires three { length three.now ≡ length one.now }
-        requires four { length four.now ≡ length one.now }
-        ensures { result ≡ map (register self.now.divisor (replicate WIDTH 0))
-            (one.now ∷ two.now ∷ three.now ∷ four.now ∷ []) }
-    {
-        let first = one.len() % STEP;
-        let mut of_one = self.started_short(one);
-        let mut of_two = self.started_short(two);
-        let mut of_three = self.started_short(three);
-        let mut of_four = self.started_short(four);
-        for step in 0..one.len() / STEP {
-            let at = first + STEP * step;
-            of_one = self.fed_short(of_one, &[one[at], one[at + 1], one[at + 2], one[at + 3]]);
-            of_two = self.fed_short(of_two, &[two[at], two[at + 1], two[at + 2], two[at + 3]]);
-            of_three = self.fed_short(
-                of_three,
-                &[three[at], three[at + 1], three[at + 2], three[at + 3]],
-            );
-            of_four = self.fed_short(
-                of_four,
-                &[four[at], four[at + 1], four[at + 2], four[at + 3]],
-            );
-        }
-        [
-            bytes_of(&widened(of_one)),
-            bytes_of(&widened(of_two)),
-            bytes_of(&widened(of_three)),
-            bytes_of(&widened(of_four)),
-        ]
-    }
-
-    /// The register after the bytes before the first whole step.
-    fn started_short(&self, head: &[u8]) -> u32x4
-        requires { IsWide SHORT_WORDS self.now.divisor }
-        ensures { word_bytes result
-            ≡ register (take (STEP * SHORT_WORDS) self.now.divisor) (replicate (STEP * SHORT_WORDS) 0)
-            (take (length head.now % STEP) head.now) }
-    {
-        self.fed_short(u32x4::splat(0), &padded(head))
-    }
-
-    /// The register after four more bytes.
-    #[inline(always)]
-    fn fed_short(&self, state: u32x4, bytes: &[u8; STEP]) -> u32x4
-        requires { IsWide SHORT_WORDS self.now.divisor }
-        ensures { word_bytes result
-            ≡ register (take (STEP * SHORT_WORDS) self.now.divisor) (word_bytes state) bytes.now }
-    {
-        let words = state.to_array();
-        let factors = (u32::from_be_bytes(*bytes) ^ words[0]).to_be_bytes();
-        let row3 = self.short_row(3, factors[0]);
-        let row2 = self.short_row(2, factors[1]);
-        let row1 = self.short_row(1, factors[2]);
-        let row0 = self.short_row(0, factors[3]);
-        next_words(state) ^ (row3 ^ (row2 ^ (row1 ^ row0)))
-    }
-
-    /// What a byte adds to the register, `k` places before the last of a step.
-    #[inline(always)]
-    fn short_row(&self, k: usize, factor: u8) -> u32x4
-        requires short { IsWide SHORT_WORDS self.now.divisor }
-        requires within { k < STEP }
-        ensures bytes { word_bytes result ≡ row (take (STEP * SHORT_WORDS) self.now.divisor) factor k }
-        ensures long { length result ≡ SHORT_WORDS }
-    {
-        let row = self.row(k, factor);
-        u32x4::from_slice(&row[..])
-    }
-
     /// The register after the bytes before the first whole step.
     fn started(&self, head: &[u8]) -> [u32; WORDS]
         ensures { word_bytes result ≡ register self.now.divisor (replicate WIDTH 0)
@@ -187,11 +115,11 @@ impl Table {
     fn fed(&self, state: &[u32; WORDS], bytes: &[u8; STEP]) -> [u32; WORDS]
         ensures { word_bytes result ≡ register self.now.divisor (word_bytes state.now) bytes.now }
     {
-        let factors = (u32::from_be_bytes(*bytes) ^ state[0]).to_be_bytes();
-        let row3 = self.row(3, factors[0]);
-        let row2 = self.row(2, factors[1]);
-        let row1 = self.row(1, factors[2]);
-        let row0 = self.row(0, factors[3]);
+        let factors = (u32::from_le_bytes(*bytes) ^ state[0]).to_le_bytes();
+        let row3 = joined(self.row(3, factors[0]));
+        let row2 = joined(self.row(2, factors[1]));
+        let row1 = joined(self.row(1, factors[2]));
+        let row0 = joined(self.row(0, factors[3]));
         sum_of(state, &row3, &row2, &row1, &row0)
     }
 
@@ -213,36 +141,58 @@ impl Table {
         ensures { word_bytes (result.first ∷ result.rest)
             ≡ register self.now.divisor (word_bytes (state.first ∷ state.rest)) bytes.now }
     {
-        let factors = (u32::from_be_bytes(*bytes) ^ state.first).to_be_bytes();
+        let factors = (u32::from_le_bytes(*bytes) ^ state.first).to_le_bytes();
         let row3 = self.row(3, factors[0]);
         let row2 = self.row(2, factors[1]);
         let row1 = self.row(1, factors[2]);
         let row0 = self.row(0, factors[3]);
         Split {
-            first: state.rest.to_array()[0] ^ (row3[0] ^ (row2[0] ^ (row1[0] ^ row0[0]))),
-            rest: next_words(state.rest)
-                ^ (behind(&row3) ^ (behind(&row2) ^ (behind(&row1) ^ behind(&row0)))),
+            first: state.rest.to_array()[0]
+                ^ (row3.first ^ (row2.first ^ (row1.first ^ row0.first))),
+            rest: next_words(state.rest) ^ (row3.rest ^ (row2.rest ^ (row1.rest ^ row0.rest))),
         }
     }
 
     /// What a byte adds to the register, `k` places before the last of a step.
     #[inline(always)]
-    fn row(&self, k: usize, factor: u8) -> [u32; WORDS]
+    fn row(&self, k: usize, factor: u8) -> Split
         requires { k < STEP }
-        ensures { word_bytes result ≡ row self.now.divisor factor k }
+        ensures row { word_bytes (result.first ∷ result.rest) ≡ row self.now.divisor factor k }
+        ensures long { length result.rest ≡ REST }
     {
-        self.rows[ELEMENTS * k + factor as usize]
+        let n = ELEMENTS * k + factor as usize;
+        Split {
+            first: self.firsts[n],
+            rest: self.rests[n].words,
+        }
     }
 }
 
-/// The words of a row behind its first.
-#[inline(always)]
-fn behind(row: &[u32; WORDS]) -> u32x4
-    ensures words { result ≡ drop 1 row.now }
-    ensures long { length result ≡ SHORT_WORDS }
-    ensures row { length row.now ≡ WORDS }
+/// The first words of the rows.
+fn firsts_of(rows: &[[u32; WORDS]; ROWS]) -> [u32; ROWS]
+    ensures { (n : ℕ) → n < ROWS → slice_index result n ≡ slice_index (slice_index_or rows.now n []) 0 }
 {
-    u32x4::from_slice(&row[1..])
+    let mut firsts = [0; ROWS];
+    for n in 0..ROWS {
+        firsts[n] = rows[n][0];
+    }
+    firsts
+}
+
+/// The words of the rows behind their first.
+fn rests_of(rows: &[[u32; WORDS]; ROWS]) -> [Rest; ROWS]
+    ensures rests { (n : ℕ) → n < ROWS
+        → (slice_index_or result n (record { words = [] })).words ≡ drop 1 (slice_index_or rows.now n []) }
+    ensures long { (n : ℕ) → n < ROWS → length (slice_index_or result n (record { words = [] })).words ≡ REST }
+{
+    let none = Rest {
+        words: u32x4::splat(0),
+    };
+    let mut rests = [none; ROWS];
+    for n in 0..ROWS {
+        rests[n].words = u32x4::from_slice(&rows[n][1..]);
+    }
+    rests
 }
 
 /// The register moved on by a word, and four rows.
@@ -276,7 +226,7 @@ fn moved(state: &[u32; WORDS], i: usize) -> u32
 #[inline(always)]
 fn next_words(state: u32x4) -> u32x4
     ensures words { result ≡ drop 1 state ++ 0 ∷ [] }
-    ensures long { length result ≡ SHORT_WORDS }
+    ensures long { length result ≡ REST }
 {
     state.shuffle(u32x4::splat(0), [1, 2, 3, 4])
 }

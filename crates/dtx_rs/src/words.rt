@@ -1,4 +1,4 @@
-//! Registers as words of four bytes, the highest byte of each first.
+//! Registers as words of four bytes, the lowest byte of each first, as they stand in the memory of most machines.
 
 ghost use Rattle.std.specs.Prelude.{◌≡◌, [], ◌∷◌, ◌++◌};
 ghost use Rattle.dtx_rs.specs.Table.{word_bytes};
@@ -11,8 +11,8 @@ pub const STEP: usize = 4;
 /// The words of a register.
 pub const WORDS: usize = 5;
 
-/// The words of a register of which no more than sixteen bytes are used: they fill a vector.
-pub const SHORT_WORDS: usize = 4;
+/// The words of a register behind its first: they fill a vector.
+pub const REST: usize = WORDS - 1;
 
 /// The bytes of a register.
 pub const WIDTH: usize = 20;
@@ -26,13 +26,20 @@ pub struct Split {
     pub rest: u32x4,
 }
 
+/// The words of a row of a table behind its first.
+#[derive(Clone, Copy, Drop)]
+pub struct Rest {
+    /// As many as fill a vector.
+    pub words: u32x4,
+}
+
 /// The bytes of the words.
 pub fn bytes_of(words: &[u32; WORDS]) -> [u8; WIDTH]
     ensures { result ≡ word_bytes words.now }
 {
     let mut bytes = [0; WIDTH];
     for i in 0..WORDS {
-        bytes[STEP * i..STEP * i + STEP].copy_from_slice(&words[i].to_be_bytes());
+        bytes[STEP * i..STEP * i + STEP].copy_from_slice(&words[i].to_le_bytes());
     }
     bytes
 }
@@ -45,14 +52,6 @@ pub fn joined(split: Split) -> [u32; WORDS]
     [split.first, rest[0], rest[1], rest[2], rest[3]]
 }
 
-/// The words of a whole register, of which these are the first.
-pub fn widened(words: u32x4) -> [u32; WORDS]
-    ensures { result ≡ words ++ 0 ∷ [] }
-{
-    let words = words.to_array();
-    [words[0], words[1], words[2], words[3], 0]
-}
-
 /// The words of these bytes.
 pub fn words_of(bytes: &[u8; WIDTH]) -> [u32; WORDS]
     ensures { word_bytes result ≡ bytes.now }
@@ -60,7 +59,7 @@ pub fn words_of(bytes: &[u8; WIDTH]) -> [u32; WORDS]
     let mut words = [0; WORDS];
     for i in 0..WORDS {
         let at = STEP * i;
-        words[i] = u32::from_be_bytes([bytes[at], bytes[at + 1], bytes[at + 2], bytes[at + 3]]);
+        words[i] = u32::from_le_bytes([bytes[at], bytes[at + 1], bytes[at + 2], bytes[at + 3]]);
     }
     words
 }

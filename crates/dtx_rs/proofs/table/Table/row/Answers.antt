@@ -1,5 +1,8 @@
-use Rattle.std.proofs.Common.{arith}
+use Rattle.std.proofs.Common.{◌+◌, ◌*◌, arith}
 use Rattle.dtx_rs.proofs.table.Table.row.Goals as goal
 
-pub returns : goal.returns
-returns c = c.args.self.now.rows_hold c.args.k c.args.factor c.requires (omega arith)
+pub returns-clause-row : goal.returns-clause-row
+returns-clause-row c = c.args.self.now.rows_hold c.args.k c.args.factor c.requires (omega arith)
+
+pub returns-clause-long : goal.returns-clause-long
+returns-clause-long c = c.args.self.now.rests_long (256 * c.args.k + c.args.factor) (omega (arith, c.requires))
