@@ -12,7 +12,7 @@ use crate::recurrence::find_recurrence;
 use crate::repair::patch;
 use crate::tables::Tables;
 use dtx_laws::correcting::{ROOM, accept, encoded_again};
-use dtx_laws::{Correct, Encode, PARITY, TooMany};
+use dtx_laws::{Correct, Encode, PARITY, TooMany, correct_each};
 use dtx_rs::Rs;
 
 /// Corrects words of the code of `N` bytes a word with `K` bytes of data. It holds the code's encoder and tables, 45
@@ -49,19 +49,6 @@ impl<const N: usize, const K: usize> Fast<N, K> {
         syndromes(&self.tables, &word[..], &code[K..], K)
     }
 
-    /// Corrects four words one by one.
-    fn correct_each(&self, words: &mut [[u8; N]; 4]) -> [Result<u8, TooMany>; 4]
-        ensures { (p : ℕ) → p < 4 → MatchResult (slice_index_or result p (Ok 0))
-            (IsCorrected N K (slice_index_or words.old p []) (slice_index_or words.new p []))
-            (λ _e. IsLeft N K (slice_index_or words.old p []) (slice_index_or words.new p [])) }
-    {
-        let mut answers = [Ok(0); 4];
-        for p in 0..4 {
-            answers[p] = self.correct(&mut words[p]);
-        }
-        answers
-    }
-
     /// Corrects a word, from the parity bytes of its data.
     #[inline(always)]
     fn correct_by(&self, parity: &[u8], word: &mut [u8; N]) -> Result<u8, TooMany>
@@ -73,12 +60,12 @@ impl<const N: usize, const K: usize> Fast<N, K> {
         if has_parity(&word[..], parity) {
             Ok(0)
         } else {
-            self.correct_wrong(parity, word)
+            self.correct_damaged(parity, word)
         }
     }
 
     /// Corrects a word that may have other parity bytes than its data.
-    fn correct_wrong(&self, parity: &[u8], word: &mut [u8; N]) -> Result<u8, TooMany>
+    fn correct_damaged(&self, parity: &[u8], word: &mut [u8; N]) -> Result<u8, TooMany>
         requires code { IsCodeword N K (take K word.old ++ parity.now) }
         requires long { length parity.now ≡ N - K }
         requires bytes { AreBytes word.old }
@@ -106,7 +93,7 @@ impl<const N: usize, const K: usize> Correct<N, K> for Fast<N, K> {
 
     fn correct_four(&self, words: &mut [[u8; N]; 4]) -> [Result<u8, TooMany>; 4] {
         if N - K > PARITY {
-            return self.correct_each(words);
+            return correct_each(self, words);
         }
         let parities = self.encoder.parities(words);
         let mut answers = [Ok(0); 4];

@@ -27,10 +27,22 @@ pub trait Correct<const N: usize, const K: usize> {
             (IsCorrected N K (slice_index_or words.old p []) (slice_index_or words.new p []))
             (λ _e. IsLeft N K (slice_index_or words.old p []) (slice_index_or words.new p [])) }
     {
-        let mut answers = [Ok(0); 4];
-        for p in 0..4 {
-            answers[p] = self.correct(&mut words[p]);
-        }
-        answers
+        correct_each(self, words)
     }
+}
+
+/// Corrects four words one by one.
+pub fn correct_each<C: Correct<N, K>, const N: usize, const K: usize>(
+    corrector: &C,
+    words: &mut [[u8; N]; 4],
+) -> [Result<u8, TooMany>; 4]
+    ensures { (p : ℕ) → p < 4 → MatchResult (slice_index_or result p (Ok 0))
+        (IsCorrected N K (slice_index_or words.old p []) (slice_index_or words.new p []))
+        (λ _e. IsLeft N K (slice_index_or words.old p []) (slice_index_or words.new p [])) }
+{
+    let mut answers = [Ok(0); 4];
+    for p in 0..4 {
+        answers[p] = corrector.correct(&mut words[p]);
+    }
+    answers
 }

@@ -55,6 +55,7 @@ impl Table {
 
     /// The registers of zeros after all the data of each of four heads, by steps in turn, so that none waits for the
     /// others.
+    #[inline(always)]
     pub fn parity_of_four(
         &self,
         one: &[u8],
@@ -96,6 +97,7 @@ impl Table {
 
     /// The registers of zeros after all the data of each of four heads, as `parity_of_four` gives them, where the
     /// divisor leaves no more than sixteen of their bytes other than 0: each fits a vector.
+    #[inline(always)]
     pub fn short_parity_of_four(
         &self,
         one: &[u8],
