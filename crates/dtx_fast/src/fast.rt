@@ -11,8 +11,8 @@ use crate::guesses::Guesses;
 use crate::recurrence::find_recurrence;
 use crate::repair::patch;
 use crate::tables::Tables;
-use dtx_laws::correcting::{ROOM, accept, encoded_again};
-use dtx_laws::{Correct, Encode, PARITY, TooMany, correct_each};
+use dtx_laws::correcting::{ROOM, accept, correct_each, encoded_again};
+use dtx_laws::{Correct, Encode, PARITY, TooMany};
 use dtx_rs::Rs;
 
 /// Corrects words of the code of `N` bytes a word with `K` bytes of data. It holds the code's encoder and tables, 45

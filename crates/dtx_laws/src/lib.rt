@@ -11,7 +11,7 @@ mod shared;
 mod spread;
 mod whitener;
 
-pub use corrector::{Correct, TooMany, correct_each};
+pub use corrector::{Correct, TooMany};
 pub use encoder::{Encode, PARITY};
 pub use gather::Gather;
 pub use spread::Spread;
