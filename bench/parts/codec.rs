@@ -20,8 +20,8 @@ mod encoder {
             self.0.encode(head, word);
         }
 
-        pub fn encode_four(&self, heads: &[[u8; DATA]; 4], words: &mut [[u8; WORD]; 4]) {
-            self.0.encode_four(heads, words);
+        pub fn complete_four(&self, words: &mut [[u8; WORD]; 4]) {
+            self.0.complete_four(words);
         }
     }
 }
@@ -297,7 +297,6 @@ struct Group {
     front: [u8; SYNC_FRONT],
     last: [u8; LAST],
     words: [[u8; WORD]; GROUP_PACKETS],
-    bytes: [u8; GROUP_BYTES],
     // (as bytes of a file, in two's complement)
     symbols: [u8; 5 * SEGMENT],
 }
@@ -312,23 +311,24 @@ impl Group {
             front: sync_front().map(|symbol| symbol as u8),
             last: [-7i8 as u8; LAST],
             words: [[0; WORD]; GROUP_PACKETS],
-            bytes: [0; GROUP_BYTES],
             symbols: [0; 5 * SEGMENT],
         }
     }
 
     fn send(&mut self, first: usize, packets: &[[u8; PACKET]; GROUP_PACKETS], sync: bool) {
-        let heads = from_fn(|i| self.whitener.whiten(DATA * (first + i), packets[i].last_chunk().unwrap()));
-        self.encoder.encode_four(&heads, &mut self.words);
-        self.bytes.copy_from_slice(self.words.as_flattened());
-        self.interleaver.pass(&mut self.bytes);
+        for (i, (word, packet)) in self.words.iter_mut().zip(packets).enumerate() {
+            word[..DATA].copy_from_slice(&self.whitener.whiten(DATA * (first + i), packet.last_chunk().unwrap()));
+        }
+        self.encoder.complete_four(&mut self.words);
+        let bytes: &mut [u8; GROUP_BYTES] = self.words.as_flattened_mut().try_into().unwrap();
+        self.interleaver.pass(bytes);
         let begun = SEGMENT * sync as usize;
         if sync {
             self.symbols[..SYNC_FRONT].copy_from_slice(&self.front);
             self.symbols[SYNC_FRONT..SEGMENT].copy_from_slice(&self.last);
         }
         let sent = self.symbols[begun..].first_chunk_mut().unwrap();
-        self.coders.group(first, &self.bytes, sent);
+        self.coders.group(first, bytes, sent);
         for segment in sent.chunks_exact_mut(SEGMENT) {
             segment[..4].copy_from_slice(&[5, -5i8 as u8, -5i8 as u8, 5]);
         }

@@ -77,7 +77,7 @@ impl Table {
     }
 
     #[inline(always)]
-    fn started(&self, head: &[u8; DATA]) -> [u32; 5] {
+    fn started(&self, head: &[u8]) -> [u32; 5] {
         self.fed(&[0; 5], &[0, head[0], head[1], head[2]])
     }
 
@@ -89,8 +89,8 @@ impl Table {
         join(head, &state, word);
     }
 
-    fn encode_four(&self, heads: &[[u8; DATA]; 4], words: &mut [[u8; WORD]; 4]) {
-        let [one, two, three, four] = heads;
+    fn complete_four(&self, words: &mut [[u8; WORD]; 4]) {
+        let [one, two, three, four] = &*words;
         let (mut a, mut b, mut c, mut d) = (self.started(one), self.started(two), self.started(three), self.started(four));
         for step in 0..DATA / 4 {
             let at = 3 + 4 * step;
@@ -99,14 +99,18 @@ impl Table {
             c = self.fed(&c, &[three[at], three[at + 1], three[at + 2], three[at + 3]]);
             d = self.fed(&d, &[four[at], four[at + 1], four[at + 2], four[at + 3]]);
         }
-        for ((head, state), word) in heads.iter().zip([a, b, c, d]).zip(words) {
-            join(head, &state, word);
+        for (state, word) in [a, b, c, d].iter().zip(words) {
+            put_behind(state, word);
         }
     }
 }
 
 fn join(head: &[u8; DATA], state: &[u32; 5], word: &mut [u8; WORD]) {
     word[..DATA].copy_from_slice(head);
+    put_behind(state, word);
+}
+
+fn put_behind(state: &[u32; 5], word: &mut [u8; WORD]) {
     for (bytes, part) in word[DATA..].chunks_exact_mut(4).zip(state) {
         bytes.copy_from_slice(&part.to_be_bytes());
     }
@@ -128,13 +132,15 @@ fn encode(table: &Table, words: u32) -> [u8; PARITY] {
     word[DATA..].try_into().unwrap()
 }
 
-fn encode_four(table: &Table, fours: u32) -> [[u8; PARITY]; 4] {
-    let mut heads = [[1; DATA], [2; DATA], [3; DATA], [4; DATA]];
-    let mut words = [[0; WORD]; 4];
+fn complete_four(table: &Table, fours: u32) -> [[u8; PARITY]; 4] {
+    let mut words = [[1; WORD], [2; WORD], [3; WORD], [4; WORD]];
     for _ in 0..fours {
-        table.encode_four(&heads, &mut words);
-        for (head, word) in heads.iter_mut().zip(&words) {
-            add(head, word);
+        table.complete_four(&mut words);
+        for word in &mut words {
+            let (head, parity) = word.split_at_mut(DATA);
+            for (byte, added) in head.iter_mut().zip(parity) {
+                *byte ^= *added;
+            }
         }
     }
     words.map(|word| word[DATA..].try_into().unwrap())
@@ -147,8 +153,8 @@ fn hex(bytes: &[u8]) -> String {
 fn main() {
     let table = Table::new();
     if std::env::args().nth(1).is_none() {
-        let four = encode_four(&table, CHECKED).map(|parity| hex(&parity)).join(" ");
-        println!("encode {} encode_four {four}", hex(&encode(&table, CHECKED)));
+        let four = complete_four(&table, CHECKED).map(|parity| hex(&parity)).join(" ");
+        println!("encode {} complete_four {four}", hex(&encode(&table, CHECKED)));
         return;
     }
     let (mut one, mut four) = (u128::MAX, u128::MAX);
@@ -158,11 +164,11 @@ fn main() {
         sum = sum.wrapping_add(encode(&table, WORDS)[0]);
         one = one.min(start.elapsed().as_nanos());
         let start = Instant::now();
-        let parities = encode_four(&table, WORDS);
+        let parities = complete_four(&table, WORDS);
         sum = sum.wrapping_add(parities[0][0] ^ parities[3][0]);
         four = four.min(start.elapsed().as_nanos());
     }
     println!("encode {} ns a packet", one / u128::from(WORDS));
-    println!("encode_four {} ns a packet", four / u128::from(4 * WORDS));
+    println!("complete_four {} ns a packet", four / u128::from(4 * WORDS));
     println!("sum {sum}");
 }

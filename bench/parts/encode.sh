@@ -23,4 +23,4 @@ done | awk '
         printf "%s: %d ns a packet, in plain Rust %d ns, ratio %.2f\n", work, least["proved", work], least["plain", work],
             least["proved", work] / least["plain", work]
     }
-    END { tell("encode"); tell("encode_four") }'
+    END { tell("encode"); tell("complete_four") }'

@@ -29,7 +29,7 @@ use std::rt::Clock;
 use std::time::Instant;
 use std::{env, io};
 use whitening::print_whiten_times;
-use work::{DATA, WORD, encode, encode_four};
+use work::{DATA, WORD, complete_four, encode};
 
 /// How often the work is measured; the least time counts.
 const ROUNDS: u32 = 200;
@@ -65,8 +65,8 @@ fn main(rt: HostRuntime) -> io::Result<()> {
 fn print_check(rt: &impl Print, code: &Rs<WORD, DATA>) -> io::Result<()> {
     print!(rt; "encode ")?;
     print_hex(rt, &encode(code, CHECKED))?;
-    print!(rt; " encode_four")?;
-    let parities = encode_four(code, CHECKED);
+    print!(rt; " complete_four")?;
+    let parities = complete_four(code, CHECKED);
     for p in 0..4 {
         print!(rt; " ")?;
         print_hex(rt, &parities[p][..])?;
@@ -90,11 +90,11 @@ fn print_times(rt: &(impl Clock + Print), code: &Rs<WORD, DATA>) -> io::Result<(
         sum = sum.wrapping_add(encode(code, WORDS)[0]);
         one = one.min(start.elapsed(rt)?.as_nanos());
         let start = Instant::now(rt)?;
-        let parities = encode_four(code, WORDS);
+        let parities = complete_four(code, WORDS);
         sum = sum.wrapping_add(parities[0][0] ^ parities[3][0]);
         four = four.min(start.elapsed(rt)?.as_nanos());
     }
     println!(rt; "encode {} ns a packet", one / u128::from(WORDS))?;
-    println!(rt; "encode_four {} ns a packet", four / u128::from(4 * WORDS))?;
+    println!(rt; "complete_four {} ns a packet", four / u128::from(4 * WORDS))?;
     println!(rt; "sum {sum}")
 }

@@ -23,25 +23,25 @@ pub fn encode(code: &Rs<WORD, DATA>, words: u32) -> [u8; PARITY] {
     parity(&word)
 }
 
-/// The parity bytes of the last four of so many words, which are encoded four at once.
-pub fn encode_four(code: &Rs<WORD, DATA>, fours: u32) -> [[u8; PARITY]; 4] {
-    let mut heads = [[1; DATA], [2; DATA], [3; DATA], [4; DATA]];
-    let mut words = [[0; WORD]; 4];
-    for _ in 0..fours {
-        code.encode_four(&heads, &mut words);
-        add_four(&mut heads, &words);
+/// The parity bytes of the last four of so many words, which are completed four at once.
+pub fn complete_four(code: &Rs<WORD, DATA>, fours: u32) -> [[u8; PARITY]; 4] {
+    let mut words = [0; 4 * WORD];
+    for p in 0..4 {
+        words[WORD * p..WORD * p + DATA].fill(p as u8 + 1);
     }
-    [
-        parity(&words[0]),
-        parity(&words[1]),
-        parity(&words[2]),
-        parity(&words[3]),
-    ]
+    for _ in 0..fours {
+        code.complete_four(&mut words);
+        add_four(&mut words);
+    }
+    parities(&words)
 }
 
-fn add_four(heads: &mut [[u8; DATA]; 4], words: &[[u8; WORD]; 4]) {
+/// Adds the parity bytes of four words, one behind the other, to the first bytes of their own data.
+fn add_four(words: &mut [u8; 4 * WORD]) {
     for p in 0..4 {
-        add(&mut heads[p], &words[p]);
+        for i in 0..PARITY {
+            words[WORD * p + i] ^= words[WORD * p + DATA + i];
+        }
     }
 }
 
@@ -50,6 +50,14 @@ pub fn add(head: &mut [u8; DATA], word: &[u8; WORD]) {
     for i in 0..PARITY {
         head[i] ^= word[DATA + i];
     }
+}
+
+fn parities(words: &[u8; 4 * WORD]) -> [[u8; PARITY]; 4] {
+    let mut parities = [[0; PARITY]; 4];
+    for p in 0..4 {
+        parities[p].copy_from_slice(&words[WORD * p + DATA..WORD * p + WORD]);
+    }
+    parities
 }
 
 fn parity(word: &[u8; WORD]) -> [u8; PARITY] {

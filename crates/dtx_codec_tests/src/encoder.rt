@@ -16,6 +16,25 @@ fn parity_bytes_are_those_of_another_codec(rt: HostRuntime) {
 }
 
 #[test]
+fn four_words_are_completed_in_place(rt: HostRuntime) {
+    expect_four(&rt, &Rs::<207, 187>::new(), &AIR);
+    expect_four(&rt, &Rs::<184, 164>::new(), &PACKET);
+    expect_four(&rt, &Rs::<204, 188>::new(), &DVB);
+}
+
+#[test]
+fn four_words_of_more_parity_bytes_are_completed_as_each_is_encoded(rt: HostRuntime) {
+    let code = Rs::<255, 223>::new();
+    let mut words = [0x5a; 4 * 255];
+    code.complete_four(&mut words);
+    let mut word = [0; 255];
+    code.encode(&[0x5a; 223], &mut word);
+    for p in 0..4 {
+        assert!(rt; &words[255 * p..255 * p + 255] == &word[..]);
+    }
+}
+
+#[test]
 fn data_that_are_one_give_the_generator(rt: HostRuntime) {
     let mut head = [0; 187];
     head[186] = 1;
@@ -58,17 +77,26 @@ fn expect_codewords<const N: usize, const K: usize, const P: usize>(
         assert!(rt; word.starts_with(&codeword.head));
         assert!(rt; word.ends_with(&codeword.parity));
     }
-    let mut words = [[0; N]; 4];
-    let heads = [
-        codewords[0].head,
-        codewords[1].head,
-        codewords[2].head,
-        codewords[0].head,
-    ];
-    code.encode_four(&heads, &mut words);
-    for p in 0..4 {
-        assert!(rt; words[p].starts_with(&heads[p]));
-        assert!(rt; words[p].ends_with(&codewords[p % 3].parity));
+}
+
+/// Four words are completed where they stand, one behind the other, whatever stands behind their data before.
+fn expect_four<const N: usize, const K: usize, const P: usize>(
+    rt: &impl Abort,
+    code: &Rs<N, K>,
+    codewords: &[Codeword<K, P>; 3],
+) {
+    for behind in [0, 0xa5] {
+        let mut words = [behind; 1020];
+        let words = &mut words[..4 * N];
+        for p in 0..4 {
+            words[N * p..N * p + K].copy_from_slice(&codewords[p % 3].head);
+        }
+        code.complete_four(words);
+        for p in 0..4 {
+            let word = &words[N * p..N * p + N];
+            assert!(rt; word.starts_with(&codewords[p % 3].head));
+            assert!(rt; word.ends_with(&codewords[p % 3].parity));
+        }
     }
 }
 

@@ -10,9 +10,7 @@ use crate::air::Air;
 use crate::outer_coding::{OuterCoding, code_packets, new_outer_coding};
 use crate::tables::Tables;
 use dtx_packets::Packet;
-use dtx_sizes::{
-    BRANCH_STEP, BRANCHES, CODERS, CODEWORD, FIELD_PACKETS, GROUP_BYTES, GROUP_PACKETS, PRECODE,
-};
+use dtx_sizes::{BRANCH_STEP, BRANCHES, CODERS, FIELD_PACKETS, GROUP_BYTES, GROUP_PACKETS, PRECODE};
 use dtx_trellis::{States, Twelve};
 use std::alloc::{AllocError, Global};
 use std::marker::Model;
@@ -25,9 +23,8 @@ pub struct Coder {
     outer: OuterCoding,
     twelve: Twelve,
     last: [i8; PRECODE],
-    /// What the last group became on its way: codewords, and the bytes behind the interleaver. They stand here since
-    /// each group writes all of them anew, so that none has to clear them before.
-    words: [[u8; CODEWORD]; GROUP_PACKETS],
+    /// What the last group became on its way: its codewords, one behind the other, and then the bytes behind the
+    /// interleaver. They stand here since each group writes all of them anew, so that none has to clear them before.
     bytes: [u8; GROUP_BYTES],
 }
 
@@ -57,7 +54,6 @@ impl Coder {
             outer: new_outer_coding(alloc, tables)?,
             twelve: Twelve::new(),
             last: [-7; PRECODE],
-            words: [[0; CODEWORD]; GROUP_PACKETS],
             bytes: [0; GROUP_BYTES],
         })
     }
@@ -114,13 +110,7 @@ impl Coder {
         } in
             IsCoded self.old given self.new air.new.segments air.new.symbols }
     {
-        code_packets(
-            &mut self.outer,
-            first as usize,
-            packets,
-            &mut self.words,
-            &mut self.bytes,
-        );
+        code_packets(&mut self.outer, first as usize, packets, &mut self.bytes);
         start_from(&mut self.twelve, preset);
         air.begin(sync, second, &self.last);
         air.add_group(&mut self.twelve, first, &self.bytes);

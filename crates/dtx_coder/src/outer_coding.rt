@@ -1,7 +1,6 @@
 //! The outer coding of a group's packets.
 
 ghost use Rattle.std.specs.Prelude.{◌≡◌, ℕ, ◌+◌, ◌*◌, ◌<◌, ◌≤◌, [], IfOk, drop, length, map, slice_index_or, take};
-ghost use Rattle.std.specs.List.{flat_map};
 ghost use Rattle.dtx_laws.specs.Branches.{leaving_all, after_all};
 ghost use Rattle.dtx_laws.specs.Whitening.{whitened};
 ghost use Rattle.dtx_whiten.specs.Randomizer.{randomizer_bytes};
@@ -42,13 +41,12 @@ pub(crate) fn new_outer_coding(alloc: Global, tables: &Tables) -> Result<OuterCo
     ))
 }
 
-/// The bytes that leave the interleaver as the codewords of four packets come, the first of them packet `first` of its
-/// field. The codewords are left too.
+/// Sets `bytes` to those that leave the interleaver as the codewords of four packets come, the first of them packet
+/// `first` of its field. All is done where the bytes stand.
 pub(crate) fn code_packets(
     outer: &mut OuterCoding,
     first: usize,
     packets: &[Packet; GROUP_PACKETS],
-    words: &mut [[u8; CODEWORD]; GROUP_PACKETS],
     bytes: &mut [u8; GROUP_BYTES],
 )
     requires white { outer.old.white ≡ randomizer_bytes }
@@ -60,50 +58,37 @@ pub(crate) fn code_packets(
           (coded_from first (map (λ p. p.0) packets.now));
     } }
 {
-    write_codewords(outer, first, packets, words);
-    bytes.copy_from_slice(words.as_flattened());
-    outer.pass(&mut bytes[..]);
+    begin_words(outer, first, packets, bytes);
+    outer.code_four(&mut bytes[..]);
 }
 
-/// Writes the codewords of four packets, the first of them packet `first` of its field.
-fn write_codewords(
+/// Begins four words, one behind the other, with the packets' data, which stand behind their sync bytes, whitened.
+fn begin_words(
     outer: &OuterCoding,
     first: usize,
     packets: &[Packet; GROUP_PACKETS],
-    words: &mut [[u8; CODEWORD]; GROUP_PACKETS],
+    bytes: &mut [u8; GROUP_BYTES],
 )
-    requires white { outer.now.white ≡ randomizer_bytes }
-    requires place { first + GROUP_PACKETS ≤ FIELD_PACKETS }
-    ensures { flat_map (λ word. word) words.new ≡ coded_from first (map (λ p. p.0) packets.now) }
-{
-    outer.encode_four(&whitened_heads(outer, first, packets), words);
-}
-
-/// The packets' data, which stand behind their sync bytes, whitened.
-fn whitened_heads(
-    outer: &OuterCoding,
-    first: usize,
-    packets: &[Packet; GROUP_PACKETS],
-) -> [[u8; PACKET_DATA]; GROUP_PACKETS]
     requires { first + GROUP_PACKETS ≤ FIELD_PACKETS }
-    ensures heads { (p : ℕ) → p < GROUP_PACKETS → slice_index_or result p []
+    ensures heads { (p : ℕ) → p < GROUP_PACKETS → take PACKET_DATA (drop (CODEWORD * p) bytes.new)
         ≡ whitened outer.now.white (PACKET_DATA * (first + p))
         (take PACKET_DATA (drop 1 (slice_index_or packets.now p (record { 0 = [] })).0)) }
     ensures long { (p : ℕ) → p < GROUP_PACKETS
         → length (slice_index_or packets.now p (record { 0 = [] })).0 ≡ PACKET }
 {
-    let mut heads = [[0; PACKET_DATA]; GROUP_PACKETS];
     for p in 0..GROUP_PACKETS {
-        heads[p] = whitened_head(outer, first + p, &packets[p]);
+        let at = CODEWORD * p;
+        begin_word(outer, first + p, &packets[p], &mut bytes[at..at + PACKET_DATA]);
     }
-    heads
 }
 
-/// The data of a packet, whitened as those of the packet at this place of a field.
-fn whitened_head(outer: &OuterCoding, place: usize, packet: &Packet) -> [u8; PACKET_DATA]
-    requires { place < FIELD_PACKETS }
-    ensures head { result ≡ whitened outer.now.white (PACKET_DATA * place) (take PACKET_DATA (drop 1 packet.now.0)) }
+/// Writes the data of a packet, whitened as those of the packet at this place of a field.
+fn begin_word(outer: &OuterCoding, place: usize, packet: &Packet, front: &mut [u8])
+    requires place { place < FIELD_PACKETS }
+    requires room { length front.old ≡ PACKET_DATA }
+    ensures head { front.new ≡ whitened outer.now.white (PACKET_DATA * place)
+        (take PACKET_DATA (drop 1 packet.now.0)) }
     ensures long { length packet.now.0 ≡ PACKET }
 {
-    outer.whitened(PACKET_DATA * place, &packet.0[1..])
+    outer.begin_word(PACKET_DATA * place, &packet.0[1..], front);
 }

@@ -1,7 +1,7 @@
 //! From packets to the bytes that are sent.
 
 ghost use Rattle.std.specs.Prelude.{◌≡◌, ℕ, ◌+◌, ◌*◌, ◌%◌, ◌<◌, ◌≤◌, ◌++◌, ◌∷◌, [], List, IfOk, length};
-ghost use Rattle.std.specs.Prelude.{slice_index_or};
+ghost use Rattle.std.specs.Prelude.{drop, slice_index_or, take};
 ghost use Rattle.dtx_laws.specs.Branches.{leaving_all, after_all};
 ghost use Rattle.dtx_laws.specs.Whitening.{whitened};
 ghost use Rattle.dtx_dvb.specs.Randomizer.{randomizer_bytes};
@@ -84,30 +84,27 @@ impl DvbOut {
         ensures sent { (before : List (List ℕ)) → HasSent before self.old → place ≡ length before % PERIOD_PACKETS
             → HasSent (before ++ packets.now) self.new }
     {
-        let white = randomized(&self.outer, place as usize, packets);
-        let mut words = [[0; BLOCK]; FOUR];
-        self.outer.encode_four(&white, &mut words);
-        for i in 0..FOUR {
-            out[BLOCK * i..BLOCK * i + BLOCK].copy_from_slice(&words[i]);
-        }
-        self.outer.pass(&mut out[..]);
+        begin_blocks(&self.outer, place as usize, packets, out);
+        self.outer.code_four(&mut out[..]);
     }
 }
 
-/// The packets, randomized, the first of them as that at this place of a group of eight.
-fn randomized(
+/// Begins four blocks, one behind the other, with the packets, randomized, the first of them as that at this place of a
+/// group of eight.
+fn begin_blocks(
     outer: &OuterCoding,
     place: usize,
     packets: &[[u8; PACKET]; FOUR],
-) -> [[u8; PACKET]; FOUR]
+    out: &mut [u8; FOUR_BLOCKS],
+)
     requires { place + FOUR ≤ PERIOD_PACKETS }
-    ensures white { (p : ℕ) → p < FOUR → slice_index_or result p []
+    ensures white { (p : ℕ) → p < FOUR → take PACKET (drop (BLOCK * p) out.new)
         ≡ whitened outer.now.white (PACKET * (place + p)) (slice_index_or packets.now p []) }
     ensures long { (p : ℕ) → p < FOUR → length (slice_index_or packets.now p []) ≡ PACKET }
 {
-    let mut white = [[0; PACKET]; FOUR];
     for p in 0..FOUR {
-        white[p] = outer.whitened(PACKET * (place + p), &packets[p][..]);
+        let at = BLOCK * p;
+        let front = &mut out[at..at + PACKET];
+        outer.begin_word(PACKET * (place + p), &packets[p][..], front);
     }
-    white
 }

@@ -1,7 +1,6 @@
 //! The corrector of a code.
 
-ghost use Rattle.std.specs.Prelude.{◌≡◌, ℕ, ◌-◌, ◌<◌, List, [], ◌++◌, IsTrue, MatchResult, Ok};
-ghost use Rattle.std.specs.Prelude.{length, slice_index, slice_index_or, take};
+ghost use Rattle.std.specs.Prelude.{◌≡◌, ℕ, ◌-◌, ◌<◌, List, ◌++◌, IsTrue, MatchResult, length, slice_index, take};
 ghost use Rattle.dtx_laws.specs.Codeword.{IsCode, IsCodeword, IsCorrection};
 ghost use Rattle.dtx_laws.specs.Correction.{IsCorrected, IsLeft};
 ghost use Rattle.dtx_galois.specs.Field.{AreBytes, pow, value};
@@ -11,7 +10,7 @@ use crate::guesses::Guesses;
 use crate::recurrence::find_recurrence;
 use crate::repair::patch;
 use crate::tables::Tables;
-use dtx_laws::correcting::{ROOM, accept, encoded_again};
+use dtx_laws::correcting::{ROOM, accept, correct_each, encoded_again};
 use dtx_laws::{Correct, Encode, PARITY, TooMany};
 use dtx_rs::Rs;
 
@@ -49,19 +48,6 @@ impl<const N: usize, const K: usize> Fast<N, K> {
         syndromes(&self.tables, &word[..], &code[K..], K)
     }
 
-    /// Corrects four words one by one.
-    fn correct_each(&self, words: &mut [[u8; N]; 4]) -> [Result<u8, TooMany>; 4]
-        ensures { (p : ℕ) → p < 4 → MatchResult (slice_index_or result p (Ok 0))
-            (IsCorrected N K (slice_index_or words.old p []) (slice_index_or words.new p []))
-            (λ _e. IsLeft N K (slice_index_or words.old p []) (slice_index_or words.new p [])) }
-    {
-        let mut answers = [Ok(0); 4];
-        for p in 0..4 {
-            answers[p] = self.correct(&mut words[p]);
-        }
-        answers
-    }
-
     /// Corrects a word, from the parity bytes of its data.
     #[inline(always)]
     fn correct_by(&self, parity: &[u8], word: &mut [u8; N]) -> Result<u8, TooMany>
@@ -73,12 +59,12 @@ impl<const N: usize, const K: usize> Fast<N, K> {
         if has_parity(&word[..], parity) {
             Ok(0)
         } else {
-            self.correct_wrong(parity, word)
+            self.correct_damaged(parity, word)
         }
     }
 
     /// Corrects a word that may have other parity bytes than its data.
-    fn correct_wrong(&self, parity: &[u8], word: &mut [u8; N]) -> Result<u8, TooMany>
+    fn correct_damaged(&self, parity: &[u8], word: &mut [u8; N]) -> Result<u8, TooMany>
         requires code { IsCodeword N K (take K word.old ++ parity.now) }
         requires long { length parity.now ≡ N - K }
         requires bytes { AreBytes word.old }
@@ -106,7 +92,7 @@ impl<const N: usize, const K: usize> Correct<N, K> for Fast<N, K> {
 
     fn correct_four(&self, words: &mut [[u8; N]; 4]) -> [Result<u8, TooMany>; 4] {
         if N - K > PARITY {
-            return self.correct_each(words);
+            return correct_each(self, words);
         }
         let parities = self.encoder.parities(words);
         let mut answers = [Ok(0); 4];

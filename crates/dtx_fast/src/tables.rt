@@ -5,18 +5,17 @@ ghost use Rattle.std.specs.Int.RustNames.{bit_xor};
 ghost use Rattle.dtx_galois.specs.Field.{pow, value};
 ghost use Rattle.dtx_galois.specs.Word.{sums};
 ghost use Rattle.dtx_fast.specs.Recurrence.{walked};
+ghost use Rattle.dtx_laws.specs.declared.encoder.TheConstants.{PARITY};
 
 use crate::places::{MOST_ORDER, Places};
 use crate::recurrence::Recurrence;
 use crate::repair::walk;
 use crate::rows::{HALVES, Rows};
 use dtx_galois::ALPHA;
+use dtx_laws::PARITY;
 use dtx_laws::correcting::{ROOM, syndromes_of};
 
-/// For how many parity bytes there are rows of syndromes.
-const PARITY: usize = 2 * MOST_ORDER;
-
-/// How many rows of syndromes there are.
+/// How many rows of syndromes there are: for as many parity bytes as `Encode::parities` gives.
 const SYNDROME_ROWS: usize = HALVES * PARITY;
 
 /// The rows by which syndromes are made of parity bytes, and those by which a recurrence is walked over all places: 24

@@ -17,6 +17,7 @@ pub mod WhiteningLaws
 pub mod MomentsLaws
 pub mod WordsLaws
 pub mod ChoiceLaws
+pub mod CompletedLaws
 pub mod AnswersLaws
 pub mod PatchingLaws
 pub mod KernelLaws

@@ -1,7 +1,7 @@
 -- The codeword of given data and the correction of a word, as functions: the first that fits among all lists of bytes.
 -- Nothing computes them: the laws say what they are.
 use Rattle.std.specs.Prelude.{ℕ, ◌-◌, ◌*◌, ◌==◌, nat_le, Bool, ◌&&◌, Option, List, [], ◌∷◌, ◌++◌, map, unwrap_or}
-use Rattle.std.specs.Prelude.{replicate}
+use Rattle.std.specs.Prelude.{drop, replicate, take}
 use Rattle.std.proofs.Common.{zero, suc}
 use Rattle.std.specs.List.{range_with_len, flat_map, list_all, find}
 use Rattle.dtx_galois.specs.Field.{pow, value}
@@ -19,6 +19,11 @@ vanishes n k word = list_all (λ i. value word (pow 2 i) == 0) (range_with_len 0
 -- the codeword that begins with the data, which are followed by zeros where none does
 unfoldable pub codeword : ℕ → ℕ → List ℕ → List ℕ
 codeword n k head = head ++ unwrap_or (find (λ w. vanishes n k (head ++ w)) (all_words (n - k))) (replicate (n - k) 0)
+
+-- the first words of n bytes, so many of them, one behind the other: each is made the codeword of its first k bytes
+unfoldable pub completed : (n k count : ℕ) (words : List ℕ) → List ℕ
+completed n k zero words = []
+completed n k (suc count) words = codeword n k (take k words) ++ completed n k count (drop n words)
 
 -- the correction of a word, where it has one
 unfoldable pub correction : ℕ → ℕ → List ℕ → Option (List ℕ)

@@ -1,8 +1,8 @@
 //! The trait of the correctors of words.
 
-ghost use Rattle.std.specs.Prelude.{◌≡◌, ℕ, ◌<◌, [], Ok, MatchResult, length, slice_index_or};
+ghost use Rattle.std.specs.Prelude.{◌≡◌, MatchResult, length};
 ghost use Rattle.dtx_laws.specs.Codeword.{IsCode};
-ghost use Rattle.dtx_laws.specs.Correction.{IsCorrected, IsLeft};
+ghost use Rattle.dtx_laws.specs.Correction.{AreCorrected, IsCorrected, IsLeft};
 
 /// No codeword lies within `(N - K) / 2` places of the word.
 #[derive(Clone, Copy, Debug, PartialEq, Eq)]
@@ -23,14 +23,5 @@ pub trait Correct<const N: usize, const K: usize> {
 
     /// Corrects four words, each as `correct` does.
     fn correct_four(&self, words: &mut [[u8; N]; 4]) -> [Result<u8, TooMany>; 4]
-        ensures { (p : ℕ) → p < 4 → MatchResult (slice_index_or result p (Ok 0))
-            (IsCorrected N K (slice_index_or words.old p []) (slice_index_or words.new p []))
-            (λ _e. IsLeft N K (slice_index_or words.old p []) (slice_index_or words.new p [])) }
-    {
-        let mut answers = [Ok(0); 4];
-        for p in 0..4 {
-            answers[p] = self.correct(&mut words[p]);
-        }
-        answers
-    }
+        ensures { AreCorrected N K words.old words.new result };
 }

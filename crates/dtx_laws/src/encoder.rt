@@ -1,8 +1,8 @@
 //! The trait of the encoders of codewords.
 
-ghost use Rattle.std.specs.Prelude.{◌≡◌, ℕ, ◌-◌, ◌<◌, ◌≤◌, [], ◌++◌, length, slice_index_or, take};
+ghost use Rattle.std.specs.Prelude.{◌≡◌, ℕ, ◌-◌, ◌*◌, ◌<◌, ◌≤◌, [], ◌++◌, length, slice_index_or, take};
 ghost use Rattle.dtx_laws.specs.Codeword.{IsCode, IsCodeword};
-ghost use Rattle.dtx_laws.specs.Words.{codeword};
+ghost use Rattle.dtx_laws.specs.Words.{codeword, completed};
 ghost use Rattle.dtx_laws.specs.declared.encoder.TheConstants.{PARITY};
 
 /// How many parity bytes `Encode::parities` has room for.
@@ -20,13 +20,14 @@ pub trait Encode<const N: usize, const K: usize> {
         ensures is { IsCodeword N K word.new }
         ensures long { length word.new ≡ N };
 
-    /// Sets four words at once, each as `encode` does.
-    fn encode_four(&self, heads: &[[u8; K]; 4], words: &mut [[u8; N]; 4])
-        ensures { (p : ℕ) → p < 4
-            → slice_index_or words.new p [] ≡ codeword N K (slice_index_or heads.now p []) };
+    /// Completes four words at once, which stand one behind the other: what stands behind the data of each becomes its
+    /// parity bytes, so that the word is the codeword of its data.
+    fn complete_four(&self, words: &mut [u8])
+        requires { length words.old ≡ N * 4 }
+        ensures { words.new ≡ completed N K 4 words.old };
 
     /// The parity bytes of the data with which each of four words begins: with as many as the code has behind them, the
-    /// data are a codeword.
+    /// data are a codeword. Any bytes may stand behind the first `K` of a word.
     fn parities(&self, words: &[[u8; N]; 4]) -> [[u8; PARITY]; 4]
         requires { N - K ≤ PARITY }
         ensures { (p : ℕ) → p < 4 → IsCodeword N K (take K (slice_index_or words.now p [])

@@ -32,8 +32,8 @@ impl<C: Encode<N, K>, const N: usize, const K: usize> Encode<N, K> for Rc<C> {
         (**self).encode(head, word)
     }
 
-    fn encode_four(&self, heads: &[[u8; K]; 4], words: &mut [[u8; N]; 4]) {
-        (**self).encode_four(heads, words)
+    fn complete_four(&self, words: &mut [u8]) {
+        (**self).complete_four(words)
     }
 
     fn parities(&self, words: &[[u8; N]; 4]) -> [[u8; PARITY]; 4] {

@@ -243,7 +243,7 @@ fn give<W: Whitener, const N: usize, const K: usize>(
         → MatchResult corrected (IsCorrected N K gathered word.now) (λ _e. IsLeft N K gathered word.now)
         → Gives N K (W.bytes whitener.now) from gathered out.new result }
 {
-    whiten_to(whitener, from, &word[..K], out);
+    whiten_to::<W, K>(whitener, from, &word[..K], &mut out[..]);
     match corrected {
         Ok(fixed) => Taken::Good { fixed },
         Err(TooMany) => Taken::Bad,

@@ -1,14 +1,14 @@
 //! Whitens, encodes and interleaves.
 
-ghost use Rattle.std.specs.Prelude.{◌≡◌, ℕ, ◌+◌, ◌*◌, ◌<◌, ◌≤◌, [], length, slice_index_or};
+ghost use Rattle.std.specs.Prelude.{◌≡◌, ◌+◌, ◌*◌, ◌≤◌, length};
 ghost use Rattle.dtx_galois.specs.Field.{AreBytes};
 ghost use Rattle.dtx_laws.specs.Branches.{IsInterleaver, HasWidths, spreading, leaving_all, after_all, aligned};
 ghost use Rattle.dtx_laws.specs.Codeword.{IsCode};
 ghost use Rattle.dtx_laws.specs.Whitening.{whitened};
-ghost use Rattle.dtx_laws.specs.Words.{codeword};
+ghost use Rattle.dtx_laws.specs.Words.{completed};
 ghost use Rattle.dtx_outer.specs.Outer.{Held, IsPeriod, coded};
 
-use crate::whitening::whiten;
+use crate::whitening::{whiten, whiten_to};
 use dtx_laws::{Encode, Spread, Whitener};
 use std::marker::Model;
 
@@ -96,28 +96,27 @@ impl<
         self.spread.pass(out);
     }
 
-    /// The data, whitened from byte `from` of the whitener's period on.
-    pub fn whitened(&self, from: usize, head: &[u8]) -> [u8; K]
+    /// Writes the data, whitened from byte `from` of the whitener's period on, to the front of a word.
+    pub fn begin_word(&self, from: usize, head: &[u8], front: &mut [u8])
         requires long { length head.now ≡ K }
+        requires room { length front.old ≡ K }
         requires within { from + K ≤ W.PERIOD }
-        ensures { result ≡ whitened self.now.white from head.now }
+        ensures { front.new ≡ whitened self.now.white from head.now }
     {
-        whiten(&self.whitener, from, head)
+        whiten_to::<W, K>(&self.whitener, from, head, front);
     }
 
-    /// The codewords of four data that are whitened. Nothing goes to the interleaver.
-    pub fn encode_four(&self, white: &[[u8; K]; 4], words: &mut [[u8; N]; 4])
-        ensures { (p : ℕ) → p < 4 → slice_index_or words.new p [] ≡ codeword N K (slice_index_or white.now p []) }
+    /// The bytes that leave the interleaver as the codewords of four data come, which `begin_word` has whitened: they
+    /// are the first `K` bytes of four words of `N` bytes, one behind the other. Any bytes may stand behind them.
+    pub fn code_four(&mut self, words: &mut [u8])
+        requires { length words.old ≡ N * 4 }
+        ensures bytes { words.new ≡ leaving_all B self.old.branches (completed N K 4 words.old) }
+        ensures branches { self.new ≡ record self.old {
+          branches = after_all B self.old.branches (completed N K 4 words.old);
+        } }
     {
-        self.code.encode_four(white, words);
-    }
-
-    /// The bytes that leave the interleaver as these come.
-    pub fn pass(&mut self, bytes: &mut [u8])
-        ensures bytes { bytes.new ≡ leaving_all B self.old.branches bytes.old }
-        ensures branches { self.new ≡ record self.old { branches = after_all B self.old.branches bytes.old } }
-    {
-        self.spread.pass(bytes);
+        self.code.complete_four(words);
+        self.spread.pass(words);
     }
 
     /// The next byte goes to branch 0. The branches keep what they hold.

@@ -29,14 +29,15 @@ pub(crate) fn whiten_to<W: Whitener, const K: usize>(
     whitener: &W,
     from: usize,
     head: &[u8],
-    out: &mut [u8; K],
+    out: &mut [u8],
 )
     requires long { length head.now ≡ K }
+    requires room { length out.old ≡ K }
     requires within { from + K ≤ W.PERIOD }
     ensures { out.new ≡ whitened (W.bytes whitener.now) from head.now }
 {
     if K < PIECE {
-        *out = whiten(whitener, from, head);
+        out.copy_from_slice(&whiten::<W, K>(whitener, from, head));
         return;
     }
     for c in 0..K / PIECE {

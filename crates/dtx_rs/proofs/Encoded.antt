@@ -1,14 +1,17 @@
 -- The data and then the register that was fed with them are the codeword.
 use Rattle.std.proofs.Common.{◌≡◌, ℕ, zero, suc, ◌+◌, ◌-◌, ◌<◌, ◌≤◌, List, [], ◌∷◌, ◌++◌, get_or, length}
 use Rattle.std.proofs.Common.{map, take, replicate, refl, sym, ap, ap₂, ◌∙◌, subst, arith}
-use Rattle.std.proofs.lemmas.List.{length-replicate, take_at, take-replicate, replicate-append-replicate}
+use Rattle.std.proofs.lemmas.List.{length-replicate, length-take-le, take_at, take-replicate}
+use Rattle.std.proofs.lemmas.List.{replicate-append-replicate}
 use Rattle.std.proofs.Math.Seq.{take-append-add}
 use Rattle.dtx_galois.specs.Field.{AreBytes}
 use Rattle.dtx_laws.specs.Codeword.{IsCode, IsCodeword}
 use Rattle.dtx_laws.specs.Register.{generator, register}
-use Rattle.dtx_laws.specs.Words.{codeword}
+use Rattle.dtx_laws.specs.Words.{codeword, completed}
 use Rattle.dtx_laws.specs.EncodingLaws.{encoded, encoded_is, length_generator, length_register}
 use Rattle.dtx_laws.specs.ChoiceLaws.{codeword_is, codeword_only}
+use Rattle.dtx_laws.specs.CompletedLaws.{completed_four}
+use Rattle.dtx_laws.specs.PartsLaws.{bytes_take}
 use Rattle.dtx_rs.proofs.Linear.{register_padded}
 
 -- the first bytes of a word
@@ -59,15 +62,6 @@ pub made_codeword : (n k : ℕ) (head new : List ℕ) → IsCode n k → length 
     → new ≡ codeword n k head → IsCodeword n k new
 made_codeword n k head new code l b e = subst (IsCodeword n k) (sym e) (codeword_is n k head code.longer l b)
 
-pub each_of_four : (f : List ℕ → List ℕ) (words parities : List (List ℕ))
-    → parities ≡ map f (get_or words 0 [] ∷ get_or words 1 [] ∷ get_or words 2 [] ∷ get_or words 3 [] ∷ [])
-    → (p : ℕ) → p < 4 → get_or parities p [] ≡ f (get_or words p [])
-each_of_four f words parities e zero l = ap (λ ps. get_or ps 0 []) e
-each_of_four f words parities e (suc zero) l = ap (λ ps. get_or ps 1 []) e
-each_of_four f words parities e (suc (suc zero)) l = ap (λ ps. get_or ps 2 []) e
-each_of_four f words parities e (suc (suc (suc zero))) l = ap (λ ps. get_or ps 3 []) e
-each_of_four f words parities e (suc (suc (suc (suc p)))) l = absurd (omega arith)
-
 -- the parity bytes of data are a table's register
 pub table_parity : (n k : ℕ) (divisor table head : List ℕ) → IsCode n k → n - k ≤ 20
     → divisor ≡ generator (n - k) ++ replicate (256 - (n - k)) 0 → table ≡ take 20 divisor
@@ -104,6 +98,54 @@ four_parities n k divisor table words parities one two three four code few d t e
     at (suc (suc (suc zero))) l = made four (get_or words 3 []) f4
     at (suc (suc (suc (suc p)))) l = absurd (omega arith)
 
+-- with its data's parity bytes behind them, a word is a codeword
+put_codeword : (n k : ℕ) (divisor table head parity word new : List ℕ) → IsCode n k → n - k ≤ 20
+    → divisor ≡ generator (n - k) ++ replicate (256 - (n - k)) 0 → table ≡ take 20 divisor
+    → IsFront k head word → length word ≡ n → parity ≡ register table (replicate 20 0) head
+    → new ≡ take k word ++ take (length word - k) parity → new ≡ codeword n k (take k word)
+put_codeword n k divisor table head parity word new code few d t f l r e =
+    table_codeword n k 20 divisor table head parity word new code few (omega arith) d t f.1 l f.2 r
+    (e ∙ ap₂ (λ (x : List ℕ) (i : ℕ). x ++ take (length word - i) parity) (sym f.0) (sym f.1))
+    ∙ ap (codeword n k) f.0
+
+-- four words of n bytes, one behind the other, and what became of each
+pub record AreFour (n : ℕ) (words one two three four : List ℕ) : Type 0 where
+  pub joined : words ≡ one ++ (two ++ (three ++ four))
+  pub first : length one ≡ n
+  pub second : length two ≡ n
+  pub third : length three ≡ n
+  pub fourth : length four ≡ n
+
+four_joined : (n k : ℕ) (words one two three four : List ℕ) → IsCode n k → AreFour n words one two three four
+    → codeword n k (take k one) ++ (codeword n k (take k two) ++ (codeword n k (take k three)
+    ++ codeword n k (take k four)))
+    ≡ completed n k 4 words
+four_joined n k words one two three four code are =
+    sym (ap (completed n k 4) are.joined
+    ∙ completed_four n k one two three four (omega (arith, code.longer)) are.first are.second are.third)
+
+pub put_four : (n k : ℕ) (divisor table : List ℕ) (parities : List (List ℕ))
+    (words one two three four head1 head2 head3 head4 new1 new2 new3 new4 : List ℕ)
+    → IsCode n k → n - k ≤ 20 → divisor ≡ generator (n - k) ++ replicate (256 - (n - k)) 0 → table ≡ take 20 divisor
+    → parities ≡ map (register table (replicate 20 0)) (head1 ∷ head2 ∷ head3 ∷ head4 ∷ [])
+    → AreFour n words one two three four
+    → IsFront k head1 one → IsFront k head2 two → IsFront k head3 three → IsFront k head4 four
+    → new1 ≡ take k one ++ take (length one - k) (get_or parities 0 [])
+    → new2 ≡ take k two ++ take (length two - k) (get_or parities 1 [])
+    → new3 ≡ take k three ++ take (length three - k) (get_or parities 2 [])
+    → new4 ≡ take k four ++ take (length four - k) (get_or parities 3 [])
+    → new1 ++ (new2 ++ (new3 ++ new4)) ≡ completed n k 4 words
+put_four n k divisor table parities words one two three four head1 head2 head3 head4 new1 new2 new3 new4 code few d t e
+    are f1 f2 f3 f4 e1 e2 e3 e4 =
+    ap₂ (λ x y. x ++ y)
+    (put_codeword n k divisor table head1 _ one new1 code few d t f1 are.first (ap (λ ps. get_or ps 0 []) e) e1)
+    (ap₂ (λ x y. x ++ y)
+    (put_codeword n k divisor table head2 _ two new2 code few d t f2 are.second (ap (λ ps. get_or ps 1 []) e) e2)
+    (ap₂ (λ x y. x ++ y)
+    (put_codeword n k divisor table head3 _ three new3 code few d t f3 are.third (ap (λ ps. get_or ps 2 []) e) e3)
+    (put_codeword n k divisor table head4 _ four new4 code few d t f4 are.fourth (ap (λ ps. get_or ps 3 []) e) e4)))
+    ∙ four_joined n k words one two three four code are
+
 -- byte by byte
 pub register_codeword : (n k : ℕ) (divisor head new : List ℕ) → IsCode n k
     → divisor ≡ generator (n - k) ++ replicate (256 - (n - k)) 0 → length head ≡ k → AreBytes head
@@ -116,3 +158,36 @@ register_codeword n k divisor head new code d lh b e =
     e ∙ ap (λ g. head ++ register g (replicate (length g) 0) head) front
     ∙ ap (λ j. head ++ register (generator (n - k)) (replicate j 0) head) (length_generator (n - k))
     ∙ encoded_codeword n k head code.short code.longer lh b
+
+-- what stands behind the data became the register that was fed with them
+abbrev pub IsDivided : List ℕ → List ℕ → List ℕ → Type 0
+IsDivided divisor word new = new ≡ take (length word - length divisor) word
+    ++ register divisor (replicate (length divisor) 0) (take (length word - length divisor) word)
+
+-- of the data of a word
+register_put : (n k : ℕ) (divisor word new : List ℕ) → IsCode n k
+    → divisor ≡ generator (n - k) ++ replicate (256 - (n - k)) 0 → length word ≡ n → AreBytes word
+    → IsDivided (take (n - k) divisor) word new → new ≡ codeword n k (take k word)
+register_put n k divisor word new code d l b e =
+    let long : length (take (n - k) divisor) ≡ n - k =
+    ap (λ xs. length (take (n - k) xs)) d
+    ∙ ap length (take_at (generator (n - k)) (replicate (256 - (n - k)) 0) (n - k) (length_generator (n - k)))
+    ∙ length_generator (n - k) in
+    let count : length word - length (take (n - k) divisor) ≡ k = omega (arith, l, long, code.longer) in
+    register_codeword n k divisor (take k word) new code d (length-take-le k word (omega (arith, l, code.longer)))
+    (bytes_take k word b)
+    (e ∙ ap (λ i. take i word ++ register (take (n - k) divisor) (replicate (length (take (n - k) divisor)) 0)
+    (take i word)) count)
+
+pub register_four : (n k : ℕ) (divisor words one two three four new1 new2 new3 new4 : List ℕ) → IsCode n k
+    → divisor ≡ generator (n - k) ++ replicate (256 - (n - k)) 0 → AreFour n words one two three four
+    → AreBytes one → AreBytes two → AreBytes three → AreBytes four
+    → IsDivided (take (n - k) divisor) one new1 → IsDivided (take (n - k) divisor) two new2
+    → IsDivided (take (n - k) divisor) three new3 → IsDivided (take (n - k) divisor) four new4
+    → new1 ++ (new2 ++ (new3 ++ new4)) ≡ completed n k 4 words
+register_four n k divisor words one two three four new1 new2 new3 new4 code d are b1 b2 b3 b4 e1 e2 e3 e4 =
+    ap₂ (λ x y. x ++ y) (register_put n k divisor one new1 code d are.first b1 e1)
+    (ap₂ (λ x y. x ++ y) (register_put n k divisor two new2 code d are.second b2 e2)
+    (ap₂ (λ x y. x ++ y) (register_put n k divisor three new3 code d are.third b3 e3)
+    (register_put n k divisor four new4 code d are.fourth b4 e4)))
+    ∙ four_joined n k words one two three four code are

@@ -9,7 +9,7 @@ ghost use Rattle.dtx_rs.specs.declared.divisor.TheConstants.{ELEMENTS};
 ghost use Rattle.dtx_rs.specs.declared.words.TheConstants.{WIDTH};
 
 use crate::divisor::{ELEMENTS, divisor_of};
-use crate::register::encode_by_register;
+use crate::register::{complete_by_register, encode_by_register};
 use crate::table::Table;
 use crate::words::WIDTH;
 use dtx_galois::{ALPHA, Gf, eval};
@@ -73,15 +73,27 @@ impl<const N: usize, const K: usize> Encode<N, K> for Rs<N, K> {
         }
     }
 
-    fn encode_four(&self, heads: &[[u8; K]; 4], words: &mut [[u8; N]; 4]) {
+    fn complete_four(&self, words: &mut [u8]) {
+        let (one, rest) = words.split_at_mut(N);
+        let (two, rest) = rest.split_at_mut(N);
+        let (three, four) = rest.split_at_mut(N);
         if N - K <= WIDTH {
-            let [one, two, three, four] = heads;
-            let parities = self.parity_of_four(one, two, three, four);
-            join_four(heads, &parities, words);
+            let parities = self.parity_of_four(
+                front_of(one, K),
+                front_of(two, K),
+                front_of(three, K),
+                front_of(four, K),
+            );
+            put_behind(K, &parities[0], one);
+            put_behind(K, &parities[1], two);
+            put_behind(K, &parities[2], three);
+            put_behind(K, &parities[3], four);
         } else {
-            for p in 0..4 {
-                self.encode(&heads[p], &mut words[p]);
-            }
+            let divisor = &self.divisor[..N - K];
+            complete_by_register(divisor, one);
+            complete_by_register(divisor, two);
+            complete_by_register(divisor, three);
+            complete_by_register(divisor, four);
         }
     }
 
@@ -114,22 +126,16 @@ fn front(divisor: &[u8; ELEMENTS]) -> [u8; WIDTH]
     front
 }
 
-/// Joins each of four data with its parity bytes.
-fn join_four<const N: usize, const K: usize>(
-    heads: &[[u8; K]; 4],
-    parities: &[[u8; WIDTH]; 4],
-    words: &mut [[u8; N]; 4],
-)
-    requires room { K ≤ N }
-    requires few { N ≤ K + WIDTH }
-    ensures long { (p : ℕ) → p < 4 → length (slice_index_or heads.now p []) ≡ K }
-    ensures bytes { (p : ℕ) → p < 4 → AreBytes (slice_index_or heads.now p []) }
-    ensures words { (p : ℕ) → p < 4 → slice_index_or words.new p [] ≡ slice_index_or heads.now p []
-        ++ take (N - K) (slice_index_or parities.now p []) }
+/// Puts as many parity bytes behind the first bytes of a word as there is room for.
+#[inline(always)]
+fn put_behind(count: usize, parity: &[u8; WIDTH], word: &mut [u8])
+    requires room { count ≤ length word.old }
+    requires few { length word.old ≤ count + WIDTH }
+    ensures { word.new ≡ take count word.old ++ take (length word.old - count) parity.now }
 {
-    for p in 0..4 {
-        join(&heads[p][..], &parities[p], &mut words[p][..]);
-    }
+    let rest = &mut word[count..];
+    let room = rest.len();
+    rest.copy_from_slice(&parity[..room]);
 }
 
 /// The data, and then as many parity bytes as there is room for.

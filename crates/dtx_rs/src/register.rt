@@ -1,6 +1,6 @@
 //! Division byte by byte, for every number of parity bytes.
 
-ghost use Rattle.std.specs.Prelude.{◌≡◌, ◌+◌, ◌<◌, ◌++◌, length, replicate};
+ghost use Rattle.std.specs.Prelude.{◌≡◌, ◌+◌, ◌-◌, ◌<◌, ◌≤◌, ◌++◌, length, replicate, take};
 ghost use Rattle.dtx_galois.specs.Field.{AreBytes};
 ghost use Rattle.dtx_galois.specs.Word.{scaled, sums};
 ghost use Rattle.dtx_laws.specs.Register.{fed, register};
@@ -16,6 +16,30 @@ pub fn encode_by_register(divisor: &[u8], head: &[u8], word: &mut [u8])
 {
     let (front, rest) = word.split_at_mut(head.len());
     front.copy_from_slice(head);
+    divide(divisor, head, rest);
+}
+
+/// What stands behind the data of a word becomes the register that was fed with them.
+pub fn complete_by_register(divisor: &[u8], word: &mut [u8])
+    requires some { 0 < length divisor.now }
+    requires room { length divisor.now ≤ length word.old }
+    ensures bytes { AreBytes word.old }
+    ensures word { word.new ≡ take (length word.old - length divisor.now) word.old
+        ++ register divisor.now (replicate (length divisor.now) 0)
+        (take (length word.old - length divisor.now) word.old) }
+{
+    let count = word.len() - divisor.len();
+    let (head, rest) = word.split_at_mut(count);
+    divide(divisor, head, rest);
+}
+
+/// The register of zeros after all the data.
+fn divide(divisor: &[u8], head: &[u8], rest: &mut [u8])
+    requires some { 0 < length divisor.now }
+    requires long { length rest.old ≡ length divisor.now }
+    ensures bytes { AreBytes head.now }
+    ensures rest { rest.new ≡ register divisor.now (replicate (length divisor.now) 0) head.now }
+{
     rest.fill(0);
     for byte in head {
         feed(rest, divisor, *byte);

@@ -3,6 +3,7 @@
 ghost use Rattle.std.specs.Prelude.{◌≡◌, [], ◌∷◌, ◌++◌};
 ghost use Rattle.dtx_rs.specs.Table.{word_bytes};
 
+use dtx_laws::PARITY;
 use std::simd::prelude::*;
 
 /// The bytes of a word, which are fed in one step.
@@ -15,7 +16,7 @@ pub const WORDS: usize = 5;
 pub const REST: usize = WORDS - 1;
 
 /// The bytes of a register.
-pub const WIDTH: usize = 20;
+pub const WIDTH: usize = PARITY;
 
 /// A register whose first word, which is added to the next bytes, stands apart: the others fill a vector.
 #[derive(Clone, Copy, Drop)]

@@ -1,6 +1,6 @@
 use Rattle.std.proofs.Common.{◌≡◌, length, replicate, drop}
 use Rattle.dtx_laws.specs.Register.{register}
-use Rattle.dtx_rs.proofs.register.encode_by_register.Given as goal
+use Rattle.dtx_rs.proofs.register.divide.Given as goal
 
 abbrev pub invariant-loop-byte : goal.invariant-loop-byte
 invariant-loop-byte l = register l.divisor l.rest (drop l.byte-index l.head)

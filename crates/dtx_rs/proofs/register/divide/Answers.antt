@@ -1,6 +1,6 @@
 use Rattle.std.proofs.Common.{arith}
 use Rattle.dtx_galois.specs.BytesLaws.{AreBytes-from_places}
-use Rattle.dtx_rs.proofs.register.encode_by_register.Goals as goal
+use Rattle.dtx_rs.proofs.register.divide.Goals as goal
 
 pub returns-clause-bytes : goal.returns-clause-bytes
 returns-clause-bytes c = AreBytes-from_places c.args.head.now (λ i l. omega (arith, c.type_inv.head i))

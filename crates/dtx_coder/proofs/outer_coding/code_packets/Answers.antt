@@ -1,0 +1,23 @@
+use Rattle.std.proofs.Common.{◌≡◌, [], map, ap, ◌∙◌}
+use Rattle.dtx_laws.specs.Branches.{leaving_all, after_all}
+use Rattle.dtx_laws.specs.Words.{completed}
+use Rattle.dtx_outer.specs.Outer.{Held}
+use Rattle.dtx_coder.specs.Coded.{coded_from}
+use Rattle.dtx_coder.proofs.Packets.{packets_coded}
+use Rattle.dtx_coder.proofs.outer_coding.code_packets.Goals as goal
+
+pub returns-clause-bytes : goal.returns-clause-bytes
+returns-clause-bytes c =
+    c.code_four.ensures.bytes
+    ∙ ap (leaving_all 52 c.args.outer.now.branches)
+    (packets_coded (λ p. p.0) c.args.first c.args.outer.now.white c.begin_words.new.bytes c.args.packets.now
+    (record { 0 = [] }) c.requires.white c.told-packets c.requires.place c.begin_words.ensures.heads
+    c.begin_words.ensures.long)
+
+pub returns-clause-outer : goal.returns-clause-outer
+returns-clause-outer c =
+    c.code_four.ensures.branches
+    ∙ ap (λ x. record c.args.outer.now { branches = after_all 52 c.args.outer.now.branches x })
+    (packets_coded (λ p. p.0) c.args.first c.args.outer.now.white c.begin_words.new.bytes c.args.packets.now
+    (record { 0 = [] }) c.requires.white c.told-packets c.requires.place c.begin_words.ensures.heads
+    c.begin_words.ensures.long)
