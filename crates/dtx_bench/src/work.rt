@@ -1,5 +1,7 @@
 //! The work that is measured: each word's parity bytes are added to the next data, so that no word can be left out.
 
+ghost use Rattle.std.specs.Prelude.{◌≡◌, length};
+
 use dtx_laws::Encode;
 use dtx_rs::Rs;
 
@@ -39,9 +41,16 @@ pub fn complete_four(code: &Rs<WORD, DATA>, fours: u32) -> [[u8; PARITY]; 4] {
 /// Adds the parity bytes of four words, one behind the other, to the first bytes of their own data.
 fn add_four(words: &mut [u8; 4 * WORD]) {
     for p in 0..4 {
-        for i in 0..PARITY {
-            words[WORD * p + i] ^= words[WORD * p + DATA + i];
-        }
+        add_own(&mut words[WORD * p..WORD * p + WORD]);
+    }
+}
+
+fn add_own(word: &mut [u8])
+    requires { length word.old ≡ WORD }
+{
+    let (head, parity) = word.split_at_mut(DATA);
+    for i in 0..PARITY {
+        head[i] ^= parity[i];
     }
 }
 

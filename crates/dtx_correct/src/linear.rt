@@ -5,7 +5,7 @@ ghost use Rattle.dtx_laws.specs.Codeword.{IsCode, IsCodeword, IsCorrection};
 ghost use Rattle.dtx_galois.specs.Field.{AreBytes};
 
 use crate::locator::find_locator;
-use dtx_laws::correcting::{accept, correct_each, encoded_again, marks_of, patch, syndromes_of};
+use dtx_laws::correcting::{accept, encoded_again, marks_of, patch, syndromes_of};
 use dtx_laws::{Correct, TooMany};
 use dtx_rs::Rs;
 
@@ -36,10 +36,6 @@ impl<const N: usize, const K: usize> Correct<N, K> for Linear<N, K> {
         let mut tried = *word;
         repair(&mut tried[..], &code[..], K);
         accept(&self.encoder, word, &tried)
-    }
-
-    fn correct_four(&self, words: &mut [[u8; N]; 4]) -> [Result<u8, TooMany>; 4] {
-        correct_each(self, words)
     }
 }
 

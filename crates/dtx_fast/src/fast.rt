@@ -1,8 +1,10 @@
 //! The corrector of a code.
 
-ghost use Rattle.std.specs.Prelude.{◌≡◌, ℕ, ◌-◌, ◌<◌, List, ◌++◌, IsTrue, MatchResult, length, slice_index, take};
+ghost use Rattle.std.specs.Prelude.{◌≡◌, ℕ, ◌-◌, ◌<◌, ◌≤◌, List, [], ◌++◌, IsTrue, MatchResult, length};
+ghost use Rattle.std.specs.Prelude.{slice_index, slice_index_or, take};
 ghost use Rattle.dtx_laws.specs.Codeword.{IsCode, IsCodeword, IsCorrection};
 ghost use Rattle.dtx_laws.specs.Correction.{IsCorrected, IsLeft};
+ghost use Rattle.dtx_laws.specs.declared.encoder.TheConstants.{PARITY};
 ghost use Rattle.dtx_galois.specs.Field.{AreBytes, pow, value};
 
 use crate::few::mend_few;
@@ -10,7 +12,7 @@ use crate::guesses::Guesses;
 use crate::recurrence::find_recurrence;
 use crate::repair::patch;
 use crate::tables::Tables;
-use dtx_laws::correcting::{ROOM, accept, correct_each, encoded_again};
+use dtx_laws::correcting::{ROOM, accept, encoded_again};
 use dtx_laws::{Correct, Encode, PARITY, TooMany};
 use dtx_rs::Rs;
 
@@ -46,6 +48,33 @@ impl<const N: usize, const K: usize> Fast<N, K> {
     {
         let code = &code[..];
         syndromes(&self.tables, &word[..], &code[K..], K)
+    }
+
+    /// The parity bytes of the data of four words, where there is room for as many as the code has.
+    #[inline(always)]
+    fn parities(&self, words: &[[u8; N]; 4]) -> [[u8; PARITY]; 4]
+        ensures { N - K ≤ PARITY → (p : ℕ) → p < 4 → IsCodeword N K (take K (slice_index_or words.now p [])
+            ++ take (N - K) (slice_index_or result p [])) }
+    {
+        if N - K <= PARITY {
+            self.encoder.parities(words)
+        } else {
+            [[0; PARITY]; 4]
+        }
+    }
+
+    /// Corrects a word, from the parity bytes of its data where there is room for them.
+    #[inline(always)]
+    fn correct_next(&self, parity: &[u8; PARITY], word: &mut [u8; N]) -> Result<u8, TooMany>
+        requires { N - K ≤ PARITY → IsCodeword N K (take K word.old ++ take (N - K) parity.now) }
+        ensures answer { MatchResult result (IsCorrected N K word.old word.new) (λ _e. IsLeft N K word.old word.new) }
+        ensures long { length word.new ≡ N }
+    {
+        if N - K <= PARITY {
+            self.correct_by(&parity[..N - K], word)
+        } else {
+            self.correct(word)
+        }
     }
 
     /// Corrects a word, from the parity bytes of its data.
@@ -91,13 +120,10 @@ impl<const N: usize, const K: usize> Correct<N, K> for Fast<N, K> {
     }
 
     fn correct_four(&self, words: &mut [[u8; N]; 4]) -> [Result<u8, TooMany>; 4] {
-        if N - K > PARITY {
-            return correct_each(self, words);
-        }
-        let parities = self.encoder.parities(words);
+        let parities = self.parities(words);
         let mut answers = [Ok(0); 4];
         for p in 0..4 {
-            answers[p] = self.correct_by(&parities[p][..N - K], &mut words[p]);
+            answers[p] = self.correct_next(&parities[p], &mut words[p]);
         }
         answers
     }

@@ -1,13 +1,11 @@
 //! What correctors share, whatever their way to a locator: syndromes, the places at which the locator vanishes, the
-//! values of the errors there, the test of the outcome, and the correction of four words one by one.
+//! values of the errors there, and the test of the outcome.
 
-mod each;
 mod outcome;
 mod places;
 mod syndromes;
 mod values;
 
-pub use each::correct_each;
 pub use outcome::{accept, accept_codeword, distance, encoded_again};
 pub use places::{low_value, marks_of, power_at};
 pub use syndromes::syndromes_of;

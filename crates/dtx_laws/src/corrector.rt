@@ -23,5 +23,12 @@ pub trait Correct<const N: usize, const K: usize> {
 
     /// Corrects four words, each as `correct` does.
     fn correct_four(&self, words: &mut [[u8; N]; 4]) -> [Result<u8, TooMany>; 4]
-        ensures { AreCorrected N K words.old words.new result };
+        ensures { AreCorrected N K words.old words.new result }
+    {
+        let mut answers = [Ok(0); 4];
+        for p in 0..4 {
+            answers[p] = self.correct(&mut words[p]);
+        }
+        answers
+    }
 }

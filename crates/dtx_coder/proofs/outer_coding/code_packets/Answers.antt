@@ -1,8 +1,5 @@
-use Rattle.std.proofs.Common.{◌≡◌, [], map, ap, ◌∙◌}
+use Rattle.std.proofs.Common.{[], ap, ◌∙◌}
 use Rattle.dtx_laws.specs.Branches.{leaving_all, after_all}
-use Rattle.dtx_laws.specs.Words.{completed}
-use Rattle.dtx_outer.specs.Outer.{Held}
-use Rattle.dtx_coder.specs.Coded.{coded_from}
 use Rattle.dtx_coder.proofs.Packets.{packets_coded}
 use Rattle.dtx_coder.proofs.outer_coding.code_packets.Goals as goal
 
