@@ -95,6 +95,9 @@ fn print_times(rt: &(impl Clock + Print), code: &Rs<WORD, DATA>) -> io::Result<(
         four = four.min(start.elapsed(rt)?.as_nanos());
     }
     println!(rt; "encode {} ns a packet", one / u128::from(WORDS))?;
-    println!(rt; "complete_four {} ns a packet", four / u128::from(4 * WORDS))?;
+    println!(rt;
+        "complete_four {} ns a packet",
+        four / u128::from(4 * WORDS)
+    )?;
     println!(rt; "sum {sum}")
 }

@@ -10,7 +10,9 @@ use crate::air::Air;
 use crate::outer_coding::{OuterCoding, code_packets, new_outer_coding};
 use crate::tables::Tables;
 use dtx_packets::Packet;
-use dtx_sizes::{BRANCH_STEP, BRANCHES, CODERS, FIELD_PACKETS, GROUP_BYTES, GROUP_PACKETS, PRECODE};
+use dtx_sizes::{
+    BRANCH_STEP, BRANCHES, CODERS, FIELD_PACKETS, GROUP_BYTES, GROUP_PACKETS, PRECODE,
+};
 use dtx_trellis::{States, Twelve};
 use std::alloc::{AllocError, Global};
 use std::marker::Model;

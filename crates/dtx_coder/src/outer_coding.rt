@@ -78,7 +78,12 @@ fn begin_words(
 {
     for p in 0..GROUP_PACKETS {
         let at = CODEWORD * p;
-        begin_word(outer, first + p, &packets[p], &mut bytes[at..at + PACKET_DATA]);
+        begin_word(
+            outer,
+            first + p,
+            &packets[p],
+            &mut bytes[at..at + PACKET_DATA],
+        );
     }
 }
 
