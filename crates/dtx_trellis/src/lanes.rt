@@ -6,8 +6,8 @@ ghost use Rattle.dtx_trellis.specs.Lanes.{AreNibbles, IsMovedOn, behind_both, le
 use dtx_sizes::SEGMENT_ROUNDS;
 use std::simd::prelude::*;
 
-/// How many lanes a vector has. Lane p is of the coder at place p of a round, lanes 12 to 15 are of none. Bit 3 of a lane
-/// is the X1 that its coder took last, and bits 2 to 0 are the number of the coder's state behind it.
+/// How many lanes a vector has. Lane p is of the coder at place p of a round, lanes 12 to 15 are of none. Bit 3 of a
+/// lane is the X1 that its coder took last, and bits 2 to 0 are the number of the coder's state behind it.
 pub(crate) const LANES: usize = 16;
 
 /// What two pairs, the four bits of the index, lead to from state 0: what stands behind the first in the upper four
