@@ -1,6 +1,6 @@
-use Rattle.std.proofs.Common.{ℕ, ◌-◌, [], pos, get_or, ◌∙◌, subst, arith}
+use Rattle.std.proofs.Common.{◌≡◌, ℕ, ◌-◌, [], pos, drop, get_or, ◌∙◌, subst, arith}
 use Rattle.std.proofs.lemmas.List.{get_or-replicate, length-set}
-use Rattle.dtx_soft.specs.Gaps.{IsStep, gap_at}
+use Rattle.dtx_soft.specs.Gaps.{AreLeastGaps, IsStep, column, gap_at}
 use Rattle.dtx_soft.proofs.Columns.{none_walked, nothing_bounded, one_walked}
 use Rattle.dtx_soft.proofs.gaps.backward.Goals as goal
 
@@ -27,7 +27,10 @@ loop-t-preserved c = record {
 }
 
 pub returns-clause-gaps : goal.returns-clause-gaps
-returns-clause-gaps c n l = c.loop-t.invariant.walked.gaps_are n l
+returns-clause-gaps c n l =
+    let end : c.loop-t.t ≡ 0 = omega arith in
+    subst (λ t. AreLeastGaps c.args.scale (drop t (column c.args.rounds.now n)) (gap_at c.loop-t.gaps n)) end
+    (c.loop-t.invariant.walked.gaps_are n l)
 
 pub returns-clause-marks : goal.returns-clause-marks
 returns-clause-marks c t n l m = c.loop-t.invariant.walked.marks_are t [] (omega arith) l n m
