@@ -1,4 +1,4 @@
-use Rattle.std.proofs.Common.{◌≡◌, ℕ, ◌-◌, [], pos, drop, get_or, ◌∙◌, subst, arith}
+use Rattle.std.proofs.Common.{◌≡◌, ◌-◌, [], pos, drop, get_or, ◌∙◌, subst, arith}
 use Rattle.std.proofs.lemmas.List.{get_or-replicate, length-set}
 use Rattle.dtx_soft.specs.Gaps.{AreLeastGaps, IsStep, column}
 use Rattle.dtx_soft.specs.Near.{near_gap_at}
