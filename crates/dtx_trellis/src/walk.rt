@@ -19,8 +19,8 @@ const LAST_BYTE: usize = CODER_BYTES - 1;
 /// The last round of a group.
 const LAST_ROUND: usize = ROUNDS - 1;
 
-/// How many bytes of a coder stand from one in which a segment begins to the next one of these. In the last byte of the
-/// group, which stands behind the four stretches, no segment begins.
+/// How many bytes of a coder stand from one in which a segment begins to the next of these. In its last byte, which
+/// stands behind the four stretches, no segment begins.
 const STRETCH: usize = SEGMENT_ROUNDS / 4;
 
 /// Codes a group from these states: writes its symbols, each at its place, and gives the states behind it.
