@@ -12,12 +12,6 @@ pub front_511 : take 9 pn511 ≡ 0 ∷ 0 ∷ 0 ∷ 0 ∷ 0 ∷ 0 ∷ 0 ∷ 1 ∷
 unfolding pn511 extended
 front_511 = refl
 
--- the standard's own first bits
-more_511 : take 24 pn511
-    ≡ 0 ∷ 0 ∷ 0 ∷ 0 ∷ 0 ∷ 0 ∷ 0 ∷ 1 ∷ 0 ∷ 1 ∷ 1 ∷ 1 ∷ 1 ∷ 1 ∷ 1 ∷ 1 ∷ 1 ∷ 1 ∷ 0 ∷ 0 ∷ 1 ∷ 0 ∷ 1 ∷ 0 ∷ []
-unfolding pn511 extended
-more_511 = refl
-
 rule_test_511 : holds_below (λ n. get_or pn511 (n + 9) 0 ==
     (get_or pn511 (n + 7) 0 + get_or pn511 (n + 6) 0 + get_or pn511 (n + 4) 0 + get_or pn511 (n + 3) 0 + get_or pn511
     (n + 1) 0 + get_or pn511 n 0) % 2) 502 ≡ true
@@ -48,11 +42,6 @@ length_63 = refl
 pub front_63 : take 6 pn63 ≡ 1 ∷ 1 ∷ 1 ∷ 0 ∷ 0 ∷ 1 ∷ []
 unfolding pn63 extended
 front_63 = refl
-
--- the standard's own first bits
-more_63 : take 16 pn63 ≡ 1 ∷ 1 ∷ 1 ∷ 0 ∷ 0 ∷ 1 ∷ 0 ∷ 0 ∷ 1 ∷ 0 ∷ 1 ∷ 1 ∷ 0 ∷ 1 ∷ 1 ∷ 1 ∷ []
-unfolding pn63 extended
-more_63 = refl
 
 rule_test_63 : holds_below (λ n. get_or pn63 (n + 6) 0 == (get_or pn63 (n + 1) 0 + get_or pn63 n 0) % 2) 57 ≡ true
 unfolding pn63 extended

@@ -2,6 +2,7 @@ pub mod Below
 pub mod Range
 pub mod RangeSearch
 pub mod RangeParts
+pub mod RangeSums
 pub mod Parts
 pub mod Find
 pub mod FirstOf

@@ -30,5 +30,5 @@ pub const CODER_BYTES: usize = 69;
 /// How many data symbols a group has.
 pub const GROUP_LEVELS: usize = 3312;
 
-/// How many symbols the data segments of a group have, syncs included.
+/// How many symbols the data segments of a group have: their data symbols, and the segment syncs in front of these.
 pub const GROUP_SYMBOLS: usize = 3328;

@@ -5,10 +5,11 @@ use Rattle.std.proofs.Common.{length, get_or, w8, refl, sym, ap, ap₂, ◌∙�
 use Rattle.std.specs.Int.RustNames.{bit_xor}
 use Rattle.std.proofs.lemmas.Bool.{cases_lt, eqb-true}
 use Rattle.std.proofs.lemmas.List.{get_or-map, get_or_append_left, get_or-append_right, get_or_past, length-map}
-use Rattle.std.proofs.lemmas.Simd.{get_or-zip2, length-zip2, swz_l, SwzOk, SwzOk-from_below, length-swz_l}
-use Rattle.std.proofs.lemmas.Simd.{get_or-swz_l_below, Each1-from_get_or}
+use Rattle.std.proofs.lemmas.Simd.{swz_l, length-swz_l}
 use lib.Lanes.{zip2}
 use Rattle.dtx_lists.proofs.Below.{holds_below, at_below}
+use Rattle.dtx_trellis.specs.Lanes.{AreNibbles}
+use Rattle.dtx_trellis.specs.LaneStepsLaws.{at_zip, long_zip}
 use Rattle.dtx_slice.specs.Lanes.{joined_byte}
 use Rattle.dtx_slice.proofs.Slices.{AreSmall}
 use Rattle.dtx_slice.specs.declared.walk.TheConstants.{FIRST, SECOND, THIRD, FOURTH, BEFORE}
@@ -47,27 +48,11 @@ picked_small v places f p l =
         (once (k - length v) (cases_lt (k - length v) (length v)))
 
 -- levels as places of a table
-pub shares_asked : (v : List ℕ) → length v ≡ 16 → AreSmall v → SwzOk w8 16 16 0 v
-shares_asked v h f =
-    SwzOk-from_below w8 16 1 16 0 v refl (omega arith)
-    (Each1-from_get_or (λ j. j < 16) v 0 (λ p l. let m = f p l in omega arith))
+pub levels_asked : (v : List ℕ) → length v ≡ 16 → AreSmall v → AreNibbles v
+levels_asked v h f = record { long = h; small = λ p l. let m = f p (omega arith) in omega arith }
 
 pub long_shares : (table v : List ℕ) → length v ≡ 16 → length (swz_l w8 16 table 0 v) ≡ 16
 long_shares table v h = length-swz_l w8 16 table 0 v ∙ h
-
-pub shares_at : (table v : List ℕ) (p : ℕ) → length v ≡ 16 → AreSmall v → p < 16
-    → get_or (swz_l w8 16 table 0 v) p 0 ≡ get_or table (get_or v p 0) 0
-shares_at table v p h f l =
-    let m : get_or v p 0 < 8 = f p (omega arith) in
-    let e : 16 * ((0 + p) / 16) + get_or v p 0 ≡ get_or v p 0 = omega arith in
-    get_or-swz_l_below w8 16 table 0 v p (omega arith) (omega arith) ∙ ap (λ k. get_or table k 0) e
-
-long_zip : (f : ℕ → ℕ → ℕ) (xs ys : List ℕ) → length xs ≡ 16 → length ys ≡ 16 → length (zip2 f xs ys) ≡ 16
-long_zip f xs ys h k = length-zip2 f xs ys (h ∙ sym k) ∙ h
-
-at_zip : (f : ℕ → ℕ → ℕ) (xs ys : List ℕ) (p : ℕ) → length xs ≡ 16 → length ys ≡ 16 → p < 12
-    → get_or (zip2 f xs ys) p 0 ≡ f (get_or xs p 0) (get_or ys p 0)
-at_zip f xs ys p h k l = get_or-zip2 f xs ys p 0 0 0 (omega arith) (omega arith)
 
 -- the byte of one lane, from the shares of five levels
 abbrev byte_of : ℕ → ℕ → ℕ → ℕ → ℕ → ℕ
@@ -123,13 +108,14 @@ joined_shares : (e a b c d : List ℕ) (p : ℕ) → AreShares e a b c d → p <
     → get_or (joined_lanes e a b c d) p 0
     ≡ byte_of (get_or e p 0) (get_or a p 0) (get_or b p 0) (get_or c p 0) (get_or d p 0)
 joined_shares e a b c d p h l =
+    let m : p < 16 = omega arith in
     at_zip bit_xor (zip2 bit_xor e (zip2 bit_xor a b)) (zip2 bit_xor c d) p
     (long_zip bit_xor e (zip2 bit_xor a b) h.before (long_zip bit_xor a b h.first h.second))
-    (long_zip bit_xor c d h.third h.fourth) l
+    (long_zip bit_xor c d h.third h.fourth) m
     ∙ ap₂ bit_xor
-    (at_zip bit_xor e (zip2 bit_xor a b) p h.before (long_zip bit_xor a b h.first h.second) l
-    ∙ ap (bit_xor (get_or e p 0)) (at_zip bit_xor a b p h.first h.second l))
-    (at_zip bit_xor c d p h.third h.fourth l)
+    (at_zip bit_xor e (zip2 bit_xor a b) p h.before (long_zip bit_xor a b h.first h.second) m
+    ∙ ap (bit_xor (get_or e p 0)) (at_zip bit_xor a b p h.first h.second m))
+    (at_zip bit_xor c d p h.third h.fourth m)
 
 -- the shares of one lane
 pub record HasShares (p y0 x0 x1 x2 x3 : ℕ) (e a b c d : List ℕ) : Type 0 where

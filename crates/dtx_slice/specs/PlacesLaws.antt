@@ -104,10 +104,6 @@ own_place s r p l = ap (λ x. 12 * r + x) (back ((s + r / 69) % 3) (omega arith)
     back : (x : ℕ) → x < 3 → ((p + 4 * x) % 12 + 12 - 4 * x) % 12 ≡ p
     back x m = omega arith
 
-pub lane_within : (h i p : ℕ) → h < 69 → i < 4 → lane_place h i p < 3312
-unfolding lane_place
-lane_within h i p l m = omega arith
-
 -- a lane stands still within a segment, and four places back behind its end
 pub lane_stays : (h i p : ℕ) → i < 4 → p < 12 → 4 * h % 69 + i < 69 → 12 * (4 * h + i) + p ≡ lane_place h i p
 unfolding lane_place

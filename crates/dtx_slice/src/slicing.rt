@@ -4,7 +4,7 @@ ghost use Rattle.std.specs.Prelude.{◌≡◌, ℕ, pos, ◌+◌, ◌*◌, ◌<�
 ghost use Rattle.std.specs.Prelude.{slice_index, slice_index_or};
 ghost use Rattle.dtx_slice.specs.Slicing.{AreSliced, sliced, sliced_data, sliced_last};
 
-use dtx_sizes::{GROUP_LEVELS, PRECODE, SEGMENT, SEGMENT_LEVELS, SEGMENT_SYNC};
+use dtx_sizes::{GROUP_LEVELS, GROUP_PACKETS, PRECODE, SEGMENT, SEGMENT_LEVELS, SEGMENT_SYNC};
 use std::simd::prelude::*;
 
 /// How many lanes a vector has.
@@ -34,7 +34,7 @@ pub fn levels(segment: &[i8; SEGMENT], out: &mut [u8; SEGMENT_LEVELS])
 /// Writes the levels of the data symbols of segment number `at` of a group to their places among the levels of the
 /// group.
 pub fn put_levels(segment: &[i8; SEGMENT], at: usize, group: &mut [u8; GROUP_LEVELS])
-    requires { at < 4 }
+    requires { at < GROUP_PACKETS }
     ensures levels { group.new ≡ take (SEGMENT_LEVELS * at) group.old ++ sliced_data segment.now
         ++ drop (SEGMENT_LEVELS * at + SEGMENT_LEVELS) group.old }
     ensures small { EachIndex group.old (λ d. slice_index group.old d < 8)

@@ -4,7 +4,7 @@ ghost use Rattle.std.specs.Prelude.{◌≡◌, ◌%◌, ◌<◌, EachIndex, leng
 ghost use Rattle.dtx_slice.specs.Unrolled.{bytes_back, precoder_bits_after, precoder_bits_of};
 
 use crate::walk::{last_precoder_bits, walk};
-use dtx_sizes::{CODERS, FIELD_PACKETS, GROUP_BYTES, GROUP_LEVELS, PRECODE};
+use dtx_sizes::{CODERS, FIELD_PACKETS, GROUP_BYTES, GROUP_LEVELS, GROUP_PACKETS, PRECODE};
 use std::marker::Model;
 
 /// The former Z2 of the twelve trellis coders: of each the higher bit of its last symbol (ATSC A/53 Part 2, trellis
@@ -49,7 +49,7 @@ impl Unroll {
     /// goes on from the former Z2 that this one leaves.
     pub fn group(&mut self, first: u16, levels: &[u8; GROUP_LEVELS], bytes: &mut [u8; GROUP_BYTES])
         requires in_field { first < FIELD_PACKETS }
-        requires whole { first % 4 ≡ 0 }
+        requires whole { first % GROUP_PACKETS ≡ 0 }
         requires small { EachIndex levels.now (λ d. slice_index levels.now d < 8) }
         ensures bytes { bytes.new ≡ bytes_back first self.old levels.now }
         ensures precoder_bits { self.new ≡ precoder_bits_after first self.old levels.now }

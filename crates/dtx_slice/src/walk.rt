@@ -2,12 +2,12 @@
 
 ghost use Rattle.std.specs.Prelude.{◌≡◌, ℕ, ◌+◌, ◌*◌, ◌/◌, ◌%◌, ◌<◌, ◌≤◌, List, EachIndex, length};
 ghost use Rattle.std.specs.Prelude.{slice_index};
-ghost use Rattle.dtx_trellis.specs.Lanes.{coder_turned, turn};
 ghost use Rattle.dtx_slice.specs.Unrolled.{byte_back, precoder_bit};
 ghost use Rattle.dtx_slice.specs.Lanes.{joined_byte, lane_byte, lane_place, later_byte};
 
 use dtx_sizes::{
-    CODERS, FIELD_PACKETS, GROUP_BYTES, GROUP_LEVELS, GROUP_PACKETS, ROUNDS, SEGMENT_ROUNDS,
+    CODER_BYTES, CODERS, FIELD_PACKETS, GROUP_BYTES, GROUP_LEVELS, GROUP_PACKETS, ROUNDS,
+    SEGMENT_ROUNDS,
 };
 use std::simd::prelude::*;
 
@@ -31,12 +31,9 @@ const FOURTH: [u8; LANES] = [0, 0, 1, 1, 2, 2, 3, 3, 0, 0, 0, 0, 0, 0, 0, 0];
 /// The same of the level before the four.
 const BEFORE: [u8; LANES] = [0, 0, 0, 0, 128, 128, 128, 128, 0, 0, 0, 0, 0, 0, 0, 0];
 
-/// How many of a group's bytes each coder takes, one in four rounds.
-const CODER_BYTES: usize = 69;
-
 /// How many bytes of each coder stand between two on which it works at a segment's end. In the first segment one more
 /// stands in front.
-const WHOLE_BYTES: usize = 16;
+const WHOLE_BYTES: usize = SEGMENT_ROUNDS / 4 - 1;
 
 /// The last byte of a coder.
 const LAST_BYTE: usize = CODER_BYTES - 1;

@@ -16,10 +16,6 @@ pub unwrapped : {A : Type 0} {r : A} (f : ℤ → ℤ → A) (v w : ℤ) → SFi
     → r ≡ f (to_z w16 (of_z w16 v)) (to_z w16 (of_z w16 w)) → r ≡ f v w
 unwrapped = unwrapped_at w16
 
-pub unwrapped_byte : {A : Type 0} {r : A} (f : ℤ → ℤ → A) (v w : ℤ) → SFits w8 v → SFits w8 w
-    → r ≡ f (to_z w8 (of_z w8 v)) (to_z w8 (of_z w8 w)) → r ≡ f v w
-unwrapped_byte = unwrapped_at w8
-
 -- what a call gives for two bytes, as it is put into a field
 pub returned_byte : {r : ℤ} (f : ℤ → ℤ → ℤ) (v w : ℤ) → SFits w8 v → SFits w8 w → SFits w8 r
     → r ≡ f (to_z w8 (of_z w8 v)) (to_z w8 (of_z w8 w)) → to_z w8 (of_z w8 r) ≡ f v w

@@ -65,7 +65,8 @@ row_of scale symbol = record {
   filler = 0;
 }
 
--- of the gaps of a symbol's squares and of the potentials behind it the sums that are at most 0, and the lesser ones
+-- of the gaps of a symbol's squares and of the potentials behind it: the sum of the even ones, or 0 where it is more,
+-- the lesser of the even ones, and the same of the odd ones
 pub record AreLesser (squares : SquareGaps) (gap : Gap) (a b g h : ℤ) : Type 0 where
   pub first : a ≡ int_min (squares.even +ℤ gap.even) (pos 0)
   pub second : b ≡ int_min squares.even gap.even

@@ -1,24 +1,14 @@
--- Laws of sums over a range: in parts, of sums, in another order, and in blocks.
+-- Laws of sums over a range: one number more, of sums, in another order, and in blocks.
 use Rattle.std.proofs.Common.{◌≡◌, ℕ, zero, suc, ◌+◌, ◌*◌, ◌<◌, ◌≤◌, map, sum, refl, sym, ap, ap₂, ◌∙◌, arith}
 use Rattle.std.specs.List.{range_with_len}
-use Rattle.std.proofs.lemmas.List.{map-append}
 use Rattle.std.proofs.lemmas.List.FromFn.{sum_by-map-range_with_len_more}
-use Rattle.std.proofs.lemmas.List.Sums.{sum_by-append, sum_by-cons}
-use Rattle.dtx_lists.proofs.Range.{map-range_same, range_with_len-parts}
+use Rattle.std.proofs.lemmas.List.Sums.{sum_by-cons}
+use Rattle.dtx_lists.proofs.Range.{map-range_same}
 use Rattle.dtx_lists.proofs.RangeMoved.{map-range_moved}
-
--- the sum over n numbers, from a on
-abbrev pub over : (ℕ → ℕ) → ℕ → ℕ → ℕ
-over f a n = sum (map f (range_with_len a n))
+pub use Rattle.dtx_lists.proofs.RangeSums.{over, over_parts}
 
 pub none_first : (n : ℕ) → 0 + n ≡ n
 none_first n = omega arith
-
-pub over_parts : (f : ℕ → ℕ) (a m n : ℕ) → over f a (m + n) ≡ over f a m + over f (a + m) n
-over_parts f a m n =
-    ap (λ xs. sum (map f xs)) (range_with_len-parts a m n)
-    ∙ ap sum (map-append f (range_with_len a m) (range_with_len (a + m) n))
-    ∙ sum_by-append (λ x. x) (map f (range_with_len a m)) (map f (range_with_len (a + m) n))
 
 pub over_more : (f : ℕ → ℕ) (a n : ℕ) → over f a (n + 1) ≡ over f a n + f (a + n)
 over_more f a n = sum_by-map-range_with_len_more (λ x. x) f a n (a + n) refl

@@ -1,7 +1,6 @@
 //! The proof that a path is a least one: potentials that no step goes below.
 
-ghost use Rattle.std.specs.Prelude.{◌≡◌, ◌↔◌, ℕ, ℤ, pos, ◌+◌, ◌/◌, ◌%◌, ◌<◌, ◌≤◌, IsTrue, List, [], length};
-ghost use Rattle.std.specs.Prelude.{slice_index, slice_index_or};
+ghost use Rattle.std.specs.Prelude.{◌≡◌, ◌↔◌, ℕ, ◌+◌, ◌<◌, ◌≤◌, IsTrue, length, slice_index};
 ghost use Rattle.dtx_soft.specs.Paths.{IsPath, cost, next_state, squared, symbol_at};
 ghost use Rattle.dtx_soft.specs.Certificate.{AllowAllSteps, AllowsSteps, HasLeast, IsCertificate};
 

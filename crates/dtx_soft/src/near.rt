@@ -46,13 +46,14 @@ pub(crate) struct NearSquares {
     odd_tied: i8,
 }
 
-/// Of the gaps of squares and of potentials the sums that are no more than 0, and the lesser ones: even and odd.
+/// Of the gaps of a symbol's squares and of the potentials behind it: the sum of the even ones, or 0 where it is more,
+/// the lesser of the even ones, and the same of the odd ones.
 #[derive(Clone, Copy, Drop)]
 struct NearTerms {
-    first: i8,
-    second: i8,
-    third: i8,
-    fourth: i8,
+    even_sum: i8,
+    even_minimum: i8,
+    odd_sum: i8,
+    odd_minimum: i8,
 }
 
 /// The scale, and its multiples.
@@ -282,18 +283,19 @@ fn gap_before(units: &NearUnits, symbol: i8, squares: &NearSquares, gap: NearGap
     sums_of(squares, gap, terms)
 }
 
-/// The four lesser ones.
+/// The four terms of which the gaps before a symbol come.
 #[inline(always)]
 fn terms_of(squares: &NearSquares, gap: NearGap) -> NearTerms
     requires near { AreNear (squares_of squares.now) }
     requires tight { IsTight (gap_of gap) }
-    ensures { AreLesser (squares_of squares.now) (gap_of gap) result.first result.second result.third result.fourth }
+    ensures { AreLesser (squares_of squares.now) (gap_of gap) result.even_sum result.even_minimum result.odd_sum
+        result.odd_minimum }
 {
     NearTerms {
-        first: capped(squares.even, gap.even),
-        second: lesser(squares.even, gap.even),
-        third: capped(squares.odd, gap.odd),
-        fourth: lesser(squares.odd, gap.odd),
+        even_sum: capped(squares.even, gap.even),
+        even_minimum: lesser(squares.even, gap.even),
+        odd_sum: capped(squares.odd, gap.odd),
+        odd_minimum: lesser(squares.odd, gap.odd),
     }
 }
 
@@ -302,19 +304,19 @@ fn terms_of(squares: &NearSquares, gap: NearGap) -> NearTerms
 fn sums_of(squares: &NearSquares, gap: NearGap, terms: NearTerms) -> NearGap
     requires near { AreNear (squares_of squares.now) }
     requires tight { IsTight (gap_of gap) }
-    requires lesser { AreLesser (squares_of squares.now) (gap_of gap) terms.first terms.second terms.third
-        terms.fourth }
-    ensures even { result.even ≡ (squares.now.across +ℤ gap.across +ℤ terms.first) -ℤ terms.third }
-    ensures odd { result.odd ≡ (squares.now.across +ℤ gap.across +ℤ terms.second) -ℤ terms.fourth }
-    ensures across { result.across ≡ terms.third -ℤ terms.fourth }
+    requires lesser { AreLesser (squares_of squares.now) (gap_of gap) terms.even_sum terms.even_minimum terms.odd_sum
+        terms.odd_minimum }
+    ensures even { result.even ≡ (squares.now.across +ℤ gap.across +ℤ terms.even_sum) -ℤ terms.odd_sum }
+    ensures odd { result.odd ≡ (squares.now.across +ℤ gap.across +ℤ terms.even_minimum) -ℤ terms.odd_minimum }
+    ensures across { result.across ≡ terms.odd_sum -ℤ terms.odd_minimum }
 {
     let step = squares.across + gap.across;
-    let even = terms.first - terms.third;
-    let odd = terms.second - terms.fourth;
+    let even = terms.even_sum - terms.odd_sum;
+    let odd = terms.even_minimum - terms.odd_minimum;
     NearGap {
         even: step + even,
         odd: step + odd,
-        across: terms.third - terms.fourth,
+        across: terms.odd_sum - terms.odd_minimum,
     }
 }
 

@@ -6,7 +6,7 @@ ghost use Rattle.std.specs.Prelude.{EachIndex, [], length, slice_index};
 ghost use Rattle.std.specs.Prelude.{slice_index_or};
 ghost use Rattle.dtx_soft.specs.Paths.{cost, next_state};
 ghost use Rattle.dtx_soft.specs.Least.{HoldPotentials, IsLeast, IsLeastFrom};
-ghost use Rattle.dtx_soft.specs.Nearest.{AreNearest, IsTaken, IsTieBreak, cheapest};
+ghost use Rattle.dtx_soft.specs.Nearest.{IsTaken, IsTieBreak, cheapest};
 
 use crate::nearest::{LEVELS, MAX_SQUARE, Nearest};
 use crate::table::Table;

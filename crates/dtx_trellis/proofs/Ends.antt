@@ -6,7 +6,7 @@ use Rattle.std.proofs.lemmas.List.{ext_get_or, get_or-drop, get_or-map, get_or-t
 use Rattle.std.proofs.lemmas.List.FromFn.{fill_by_all, get_or-map-range_with_len, length-map-range_with_len}
 use Rattle.dtx_trellis.specs.Trellis.{AreBits, State, number_of, symbol_of}
 use Rattle.dtx_trellis.specs.Pairs.{groups}
-use Rattle.dtx_trellis.specs.Groups.{AreSent, level_at, levels_of, coder_after, states_after, symbol_place}
+use Rattle.dtx_trellis.specs.Groups.{AreSent, level_at, levels_of, coder_after, states_after, sent_place}
 use Rattle.dtx_trellis.specs.CodersLaws.{one_group}
 use Rattle.dtx_trellis.specs.RoundsLaws.{coder_bits}
 
@@ -27,7 +27,7 @@ long_levels s states bytes h =
 pub symbols_end : (s : ℕ) (states bytes : List ℕ) (symbols : List ℤ) → length bytes ≡ 828 → length symbols ≡ 3328
     → AreSent s states bytes 3312 symbols → (k : ℕ) → k < 4
     → take 828 (drop (832 * k + 4) symbols) ≡ map symbol_of (take 828 (drop (828 * k) (levels_of s states bytes)))
-unfolding AreSent symbol_place
+unfolding AreSent sent_place
 symbols_end s states bytes symbols h l f k m =
     segment (levels_of s states bytes) (long_levels s states bytes h)
     (λ d n. level_in s d states bytes h n)

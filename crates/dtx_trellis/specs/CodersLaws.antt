@@ -1,5 +1,5 @@
 -- Which coder stands where.
-use Rattle.std.proofs.Common.{◌≡◌, ◌≢◌, ℕ, ◌+◌, ◌-◌, ◌*◌, ◌/◌, ◌%◌, ◌^◌, ◌<◌, List, length, get_or, sym, ap, ◌∙◌, arith}
+use Rattle.std.proofs.Common.{◌≡◌, ℕ, ◌+◌, ◌-◌, ◌*◌, ◌/◌, ◌%◌, ◌^◌, ◌<◌, List, length, get_or, sym, ap, ◌∙◌, arith}
 use Rattle.std.proofs.lemmas.List.FromFn.{get_or-map-range_with_len, length-map-range_with_len}
 use Rattle.dtx_trellis.specs.Pairs.{groups, group_place, byte_place, pair_in, pair_at, coder_at, higher, lower}
 
@@ -14,25 +14,8 @@ pub coder_small : (s d : ℕ) → coder_at s d < 12
 unfolding coder_at
 coder_small s d = omega arith
 
-turn_apart : (x p o : ℕ) → x < 3 → p < 12 → o < 12 → (p + 4 * x) % 12 ≡ (o + 4 * x) % 12 → p ≡ o
-turn_apart x p o l m n e = omega arith
-
-pub coders_apart : (s r p o : ℕ) → p < 12 → o < 12 → p ≢ o → coder_at s (12 * r + p) ≢ coder_at s (12 * r + o)
-coders_apart s r p o l m h e =
-    h (turn_apart ((s + r / 69) % 3) p o (omega arith) l m (sym (coder_is s r p l) ∙ e ∙ coder_is s r o m))
-
 pub turn_back : (x e : ℕ) → x < 3 → e < 12 → ((e + 12 - 4 * x) % 12 + 4 * x) % 12 ≡ e
 turn_back x e l m = omega arith
-
--- each coder has a place in a round
-pub place_of : (s r e : ℕ) → e < 12 → (p : ℕ) × (p < 12) × (coder_at s (12 * r + p) ≡ e)
-place_of s r e l =
-    let x : ℕ = (s + r / 69) % 3 in (
-      (e + 12 - 4 * ((s + r / 69) % 3)) % 12,
-      omega arith,
-      coder_is s r ((e + 12 - 4 * ((s + r / 69) % 3)) % 12) (omega arith)
-          ∙ turn_back ((s + r / 69) % 3) e (omega arith) l,
-    )
 
 -- a pair by its number in the byte
 pub pair_0 : (b r : ℕ) → r % 4 ≡ 0 → b / 64 % 4 ≡ pair_in b r

@@ -22,13 +22,13 @@ unfoldable pub levels_of : ℕ → List ℕ → List ℕ → List ℕ
 levels_of s states bytes = map (level_at s states bytes) (range_with_len 0 (GROUP_LEVELS * groups bytes))
 
 -- where data symbol d of a group is sent: behind the sync of its own segment and those of the segments before it
-unfoldable pub symbol_place : ℕ → ℕ
-symbol_place d = d + SEGMENT_SYNC * (d / SEGMENT_LEVELS + 1)
+unfoldable pub sent_place : ℕ → ℕ
+sent_place d = d + SEGMENT_SYNC * (d / SEGMENT_LEVELS + 1)
 
 -- the first n data symbols stand where they are sent
 unfoldable pub AreSent : ℕ → List ℕ → List ℕ → ℕ → List ℤ → Type 0
 AreSent s states bytes n symbols =
-    (d : ℕ) → d < n → slice_index_or symbols (symbol_place d) (pos 0) ≡ symbol_of (level_at s states bytes d)
+    (d : ℕ) → d < n → slice_index_or symbols (sent_place d) (pos 0) ≡ symbol_of (level_at s states bytes d)
 
 -- the state numbers after all pairs
 unfoldable pub states_after : ℕ → List ℕ → List ℕ → List ℕ

@@ -4,9 +4,9 @@ use Rattle.std.proofs.Common.{ltb, ℤ, pos, List, length, get_or, sym, ap, ap�
 use Rattle.std.proofs.lemmas.Bool.{cases_lt, cond-true, cond_both, eq-eqb, eqb-true, false≢true, lt-ltb}
 use Rattle.dtx_trellis.specs.Trellis.{AreBits, level_of, next_of, number_of, state_of, symbol_of}
 use Rattle.dtx_trellis.specs.Pairs.{byte_place, pair_in, coder_at}
-use Rattle.dtx_trellis.specs.Groups.{AreSent, coder_after, level_at, symbol_place}
+use Rattle.dtx_trellis.specs.Groups.{AreSent, coder_after, level_at, sent_place}
 use Rattle.dtx_trellis.specs.Lanes.{coder_turned, turn, AreNibbles, HoldsBytes, HoldsPairs, HoldsRound, HoldsStates}
-use Rattle.dtx_trellis.specs.Lanes.{IsMovedOn, StandsAt, behind_both, came_from, lane_behind, lane_level, pair_taken}
+use Rattle.dtx_trellis.specs.Lanes.{IsMovedOn, StandsAt, behind_both, came_from, lane_behind, level_told, pair_taken}
 use Rattle.dtx_trellis.specs.Lanes.{turned_place}
 use Rattle.dtx_trellis.specs.CodersLaws.{coder_is, one_group, pair_0, pair_1, pair_2, pair_3}
 use Rattle.dtx_trellis.specs.RoundsLaws.{IsGroup, coder_next, level_next, coder_bits}
@@ -31,7 +31,7 @@ behind_round s r x states bytes lanes g l n f = record {
         (pair_taken s bytes r (coder_turned x p)) (bits p)
         ∙ sym (coder_next s r (coder_turned x p) states bytes g l);
   };
-  levels = λ p m. ap lane_level (f p m) ∙ level_behind (coder_after s states bytes r (coder_turned x p))
+  levels = λ p m. ap level_told (f p m) ∙ level_behind (coder_after s states bytes r (coder_turned x p))
       (pair_taken s bytes r (coder_turned x p)) (bits p);
 }
   where
@@ -68,7 +68,7 @@ second_round s r x states bytes lanes pairs both lower h n f =
 -- the level of each lane is that of its data symbol
 pub round_level : (s r p : ℕ) (states bytes lanes : List ℕ) → IsGroup s bytes → r < 276 → p < 12
     → HoldsRound s states bytes r (turn s r) lanes
-    → lane_level (get_or lanes p 0) ≡ level_at s states bytes (12 * r + p)
+    → level_told (get_or lanes p 0) ≡ level_at s states bytes (12 * r + p)
 round_level s r p states bytes lanes g l m h =
     h.levels p m
     ∙ ap (λ e. level_of (coder_after s states bytes r e) (pair_taken s bytes r e / 2) (pair_taken s bytes r e % 2))
@@ -155,7 +155,7 @@ moved_round s t r states bytes v w z m h = record {
   behind = moved_states s t (r + 1) states bytes v w z m h.behind;
   levels = λ p l.
       let c = came_coder s t p z l in
-      ap lane_level (m.at p (omega arith)) ∙ h.levels (came_from t p) c.0
+      ap level_told (m.at p (omega arith)) ∙ h.levels (came_from t p) c.0
       ∙ ap (λ e. level_of (coder_after s states bytes r e) (pair_taken s bytes r e / 2) (pair_taken s bytes r e % 2))
       (sym c.1);
 }
@@ -254,17 +254,17 @@ number_end s e states bytes lanes l h =
     number_is n = omega arith
 
 -- where a round is sent
-pub round_place : (r : ℕ) → 12 * r + 4 * (r / 69 + 1) ≡ symbol_place (12 * r)
-unfolding symbol_place
+pub round_place : (r : ℕ) → 12 * r + 4 * (r / 69 + 1) ≡ sent_place (12 * r)
+unfolding sent_place
 round_place r = omega arith
 
 -- the symbols of one more round
 pub sent_more : (s r : ℕ) (states bytes : List ℕ) (before symbols : List ℤ) → AreSent s states bytes (12 * r) before
-    → ((i : ℕ) → i < symbol_place (12 * r) → get_or symbols i (pos 0) ≡ get_or before i (pos 0))
+    → ((i : ℕ) → i < sent_place (12 * r) → get_or symbols i (pos 0) ≡ get_or before i (pos 0))
     → ((p : ℕ) → p < 12
-    → get_or symbols (symbol_place (12 * r) + p) (pos 0) ≡ symbol_of (level_at s states bytes (12 * r + p)))
+    → get_or symbols (sent_place (12 * r) + p) (pos 0) ≡ symbol_of (level_at s states bytes (12 * r + p)))
     → AreSent s states bytes (12 * (r + 1)) symbols
-unfolding AreSent symbol_place
+unfolding AreSent sent_place
 sent_more s r states bytes before symbols h kept given d l = by_cases (cases_lt d (12 * r))
   where
     earlier : d < 12 * r → d + 4 * (d / 828 + 1) < 12 * r + 4 * (12 * r / 828 + 1)

@@ -12,7 +12,7 @@ use lib.Lanes.{zip2}
 use Rattle.dtx_lists.proofs.Below.{holds_below, at_below}
 use Rattle.dtx_trellis.specs.declared.lanes.TheConstants.{BEHIND_PAIRS, BEHIND_LANES, DOUBLED}
 use Rattle.dtx_trellis.specs.Trellis.{State, AreBits, level_of, next_of, number_of, state_of, symbol_of}
-use Rattle.dtx_trellis.specs.Lanes.{AreNibbles, behind_both, lane_behind, lane_level, turned_place}
+use Rattle.dtx_trellis.specs.Lanes.{AreNibbles, behind_both, lane_behind, level_told, turned_place}
 use Rattle.dtx_trellis.specs.RoundsLaws.{bits_of}
 
 -- the lanes of the places four further on
@@ -99,17 +99,17 @@ both_at k n l m =
     lower : (16 * n + k) % 16 ≡ k
     lower = omega arith
 
-doubled_test : holds_below (λ n. get_or DOUBLED n 0 == 2 * lane_level n) 16 ≡ true
-unfolding lane_level
+doubled_test : holds_below (λ n. get_or DOUBLED n 0 == 2 * level_told n) 16 ≡ true
+unfolding level_told
 doubled_test = refl
 
-pub doubled_at : (n : ℕ) → n < 16 → get_or DOUBLED n 0 ≡ 2 * lane_level n
+pub doubled_at : (n : ℕ) → n < 16 → get_or DOUBLED n 0 ≡ 2 * level_told n
 doubled_at n l =
-    eqb-true (get_or DOUBLED n 0) (2 * lane_level n)
-    (at_below (λ n. get_or DOUBLED n 0 == 2 * lane_level n) 16 n doubled_test l)
+    eqb-true (get_or DOUBLED n 0) (2 * level_told n)
+    (at_below (λ n. get_or DOUBLED n 0 == 2 * level_told n) 16 n doubled_test l)
 
-pub level_small : (n : ℕ) → lane_level n < 8
-unfolding lane_level
+pub level_small : (n : ℕ) → level_told n < 8
+unfolding level_told
 level_small n = omega arith
 
 -- the symbols of sixteen lanes that hold twice a level, where g makes a byte signed and f subtracts
@@ -157,8 +157,8 @@ pub state_behind : (q : State) (pair : ℕ) → AreBits q → state_of (lane_beh
 unfolding lane_behind
 state_behind q pair h = number_back (next_of q (pair / 2) (pair % 2)) (pair % 2) (next_bits q (pair / 2) (pair % 2) h)
 
-level_back : (q : State) (b : ℕ) → b < 2 → AreBits q → lane_level (8 * b + number_of q) ≡ 4 * q.q2 + 2 * b + q.q0
-unfolding lane_level
+level_back : (q : State) (b : ℕ) → b < 2 → AreBits q → level_told (8 * b + number_of q) ≡ 4 * q.q2 + 2 * b + q.q0
+unfolding level_told
 level_back q b l h =
     let two : (8 * b + number_of q) / 4 % 2 ≡ q.q2 = omega (arith, h.q2, h.q1, h.q0) in
     let one : (8 * b + number_of q) / 8 % 2 ≡ b = omega (arith, h.q2, h.q1, h.q0) in
@@ -166,7 +166,7 @@ level_back q b l h =
     omega arith
 
 pub level_behind : (q : State) (pair : ℕ) → AreBits q
-    → lane_level (lane_behind q pair) ≡ level_of q (pair / 2) (pair % 2)
+    → level_told (lane_behind q pair) ≡ level_of q (pair / 2) (pair % 2)
 unfolding lane_behind
 level_behind q pair h =
     level_back (next_of q (pair / 2) (pair % 2)) (pair % 2) (omega arith) (next_bits q (pair / 2) (pair % 2) h)

@@ -26,8 +26,8 @@ unfoldable pub lane_behind : State → ℕ → ℕ
 lane_behind q pair = 8 * (pair % 2) + number_of (next_of q (pair / 2) (pair % 2))
 
 -- the level that the coder gave for that pair, 4 Z2 + 2 Z1 + Z0: Z2 is the new q2, Z1 is X1, and Z0 is the new q0
-unfoldable pub lane_level : ℕ → ℕ
-lane_level n = 4 * (n / 4 % 2) + 2 * (n / 8 % 2) + n % 2
+unfoldable pub level_told : ℕ → ℕ
+level_told n = 4 * (n / 4 % 2) + 2 * (n / 8 % 2) + n % 2
 
 -- from lane k behind the first and behind the second of two pairs, the bits of n
 unfoldable pub behind_both : ℕ → ℕ → ℕ
@@ -47,7 +47,7 @@ pub record HoldsStates (s : ℕ) (states bytes : List ℕ) (t x : ℕ) (lanes : 
 -- the states behind round r, and the levels given in it
 pub record HoldsRound (s : ℕ) (states bytes : List ℕ) (r x : ℕ) (lanes : List ℕ) : Type 0 where
   pub behind : HoldsStates s states bytes (r + 1) x lanes
-  pub levels : (p : ℕ) → p < CODERS → lane_level (slice_index lanes p)
+  pub levels : (p : ℕ) → p < CODERS → level_told (slice_index lanes p)
       ≡ level_of (coder_after s states bytes r (coder_turned x p)) (pair_taken s bytes r (coder_turned x p) / 2)
       (pair_taken s bytes r (coder_turned x p) % 2)
 

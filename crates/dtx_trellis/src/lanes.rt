@@ -1,12 +1,13 @@
 //! The twelve coders side by side, each at its place in the round, two pairs at a time.
 
 ghost use Rattle.std.specs.Prelude.{◌≡◌, ◌↔◌, ℕ, ◌*◌, ◌/◌, ◌%◌, ◌<◌, IsTrue, length, slice_index};
-ghost use Rattle.dtx_trellis.specs.Lanes.{AreNibbles, IsMovedOn, behind_both, lane_level, turned_place};
+ghost use Rattle.dtx_trellis.specs.Lanes.{AreNibbles, IsMovedOn, behind_both, level_told, turned_place};
 
 use dtx_sizes::SEGMENT_ROUNDS;
 use std::simd::prelude::*;
 
-/// How many lanes a vector has. Lane p is of the coder at place p of a round, lanes 12 to 15 are of none.
+/// How many lanes a vector has. Lane p is of the coder at place p of a round, lanes 12 to 15 are of none. Bit 3 of a
+/// lane is the X1 that its coder took last, and bits 2 to 0 are the number of the coder's state behind it.
 pub(crate) const LANES: usize = 16;
 
 /// What two pairs, the four bits of the index, lead to from state 0: what stands behind the first in the upper four
@@ -40,7 +41,7 @@ pub(crate) fn two_pairs(lanes: u8x16, pairs: u8x16) -> u8x16
 pub(crate) fn doubled(lanes: u8x16) -> u8x16
     requires { AreNibbles lanes }
     ensures long { length result ≡ LANES }
-    ensures levels { (p : ℕ) → p < LANES → slice_index result p ≡ 2 * lane_level (slice_index lanes p) }
+    ensures levels { (p : ℕ) → p < LANES → slice_index result p ≡ 2 * level_told (slice_index lanes p) }
 {
     looked_up(DOUBLED, lanes)
 }
@@ -64,7 +65,7 @@ pub(crate) fn lower(v: u8x16) -> u8x16
 }
 
 /// The lanes for round `round`, from those of the round before it: where it begins a segment, each place has the coder
-/// of the place four further on.
+/// of the place four further on. `round` serves the clauses alone.
 #[inline(always)]
 pub(crate) fn moved_on(v: u8x16, begins_segment: bool, round: usize) -> u8x16
     requires begins { IsTrue begins_segment ↔ (round % SEGMENT_ROUNDS ≡ 0) }

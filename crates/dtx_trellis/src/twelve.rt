@@ -1,9 +1,8 @@
 //! Twelve coders, group after group.
 
 ghost use Rattle.std.specs.Prelude.{◌≡◌, ℕ, ◌+◌, ◌*◌, ◌%◌, ◌<◌, EachIndex, drop, length, map, replicate, slice_index};
-ghost use Rattle.std.specs.Prelude.{pos, slice_index_or, take};
+ghost use Rattle.std.specs.Prelude.{take};
 ghost use Rattle.dtx_trellis.specs.Trellis.{symbol_of};
-ghost use Rattle.dtx_trellis.specs.Groups.{symbol_place};
 
 use crate::states::States;
 use crate::walk::walk;
@@ -61,8 +60,8 @@ impl Twelve {
     }
 
     /// Writes the data symbols of the group whose first segment is at place `first` of its field, each at its place
-    /// behind the syncs; what stands at the syncs' own places isn't specified. The next group goes on from the states
-    /// that this one leaves.
+    /// behind the syncs. What the first four symbols of each segment are, where the syncs stand, isn't specified: they
+    /// may change. The next group goes on from the states that this one leaves.
     pub fn group(
         &mut self,
         first: u16,
@@ -70,7 +69,7 @@ impl Twelve {
         symbols: &mut [i8; GROUP_SYMBOLS],
     )
         requires in_field { first < FIELD_PACKETS }
-        requires whole { first % 4 ≡ 0 }
+        requires whole { first % GROUP_PACKETS ≡ 0 }
         ensures symbols { (s : ℕ) → s < GROUP_PACKETS
             → take SEGMENT_LEVELS (drop (SEGMENT * s + SEGMENT_SYNC) symbols.new)
             ≡ map symbol_of (take SEGMENT_LEVELS (drop (SEGMENT_LEVELS * s) (levels_of first self.old bytes.now))) }

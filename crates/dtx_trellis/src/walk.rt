@@ -3,8 +3,8 @@
 ghost use Rattle.std.specs.Prelude.{◌≡◌, ◌↔◌, ℕ, ◌+◌, ◌-◌, ◌*◌, ◌/◌, ◌%◌, ◌<◌, ◌≤◌, IsTrue, length, pos, slice_index};
 ghost use Rattle.std.specs.Prelude.{slice_index_or};
 ghost use Rattle.dtx_trellis.specs.Trellis.{number_of, symbol_of};
-ghost use Rattle.dtx_trellis.specs.Groups.{AreSent, coder_after, symbol_place};
-ghost use Rattle.dtx_trellis.specs.Lanes.{AreNibbles, HoldsPairs, HoldsRound, HoldsStates, StandsAt, lane_level, turn};
+ghost use Rattle.dtx_trellis.specs.Groups.{AreSent, coder_after, sent_place};
+ghost use Rattle.dtx_trellis.specs.Lanes.{AreNibbles, HoldsPairs, HoldsRound, HoldsStates, StandsAt, level_told, turn};
 
 use crate::lanes::{LANES, doubled, lower, moved_on, two_pairs, upper};
 use dtx_sizes::{
@@ -19,8 +19,9 @@ const LAST_BYTE: usize = CODER_BYTES - 1;
 /// The last round of a group.
 const LAST_ROUND: usize = ROUNDS - 1;
 
-/// How many bytes of a coder stand from one in which a segment begins to the next. The last byte is one of these too.
-const STRETCH: usize = LAST_BYTE / GROUP_PACKETS;
+/// How many bytes of a coder stand from one in which a segment begins to the next of these. In its last byte, which
+/// stands behind the four stretches, no segment begins.
+const STRETCH: usize = SEGMENT_ROUNDS / 4;
 
 /// Codes a group from these states: writes its symbols, each at its place, and gives the states behind it.
 pub(crate) fn walk(
@@ -149,7 +150,7 @@ fn edge_bytes(
 }
 
 /// Two rounds: writes their symbols, the first from `place` on, and gives the lanes behind them. A segment may begin
-/// between them.
+/// between them. `first`, `from`, `bytes` and `round` serve the clauses alone.
 #[inline(always)]
 fn two_rounds(
     lanes: u8x16,
@@ -165,7 +166,7 @@ fn two_rounds(
     requires first { first < FIELD_PACKETS }
     requires round { round + 1 < ROUNDS }
     requires begins { IsTrue begins_segment ↔ ((round + 1) % SEGMENT_ROUNDS ≡ 0) }
-    requires place { place ≡ symbol_place (CODERS * round) }
+    requires place { place ≡ sent_place (CODERS * round) }
     requires states { HoldsStates first from.now bytes.now round (turn first round) lanes }
     requires pairs { HoldsPairs first bytes.now round (turn first round) pairs }
     requires sent { AreSent first from.now bytes.now (CODERS * round) symbols.old }
@@ -180,7 +181,7 @@ fn two_rounds(
     behind
 }
 
-/// Writes the symbols of a round.
+/// Writes the symbols of a round. `first`, `from`, `bytes` and `round` serve the clauses alone.
 #[inline(always)]
 fn emit(
     lanes: u8x16,
@@ -193,7 +194,7 @@ fn emit(
 )
     requires first { first < FIELD_PACKETS }
     requires round { round < ROUNDS }
-    requires place { place ≡ symbol_place (CODERS * round) }
+    requires place { place ≡ sent_place (CODERS * round) }
     requires held { HoldsRound first from.now bytes.now round (turn first round) lanes }
     requires sent { AreSent first from.now bytes.now (CODERS * round) symbols.old }
     ensures { AreSent first from.now bytes.now (CODERS * (round + 1)) symbols.new }
@@ -202,12 +203,13 @@ fn emit(
 }
 
 /// Where the symbols of the round behind round `round` begin: a sync stands in between where it begins a segment.
+/// `round` serves the clauses alone.
 #[inline(always)]
 fn next_place(place: usize, begins_segment: bool, round: usize) -> usize
     requires round { round < ROUNDS }
     requires begins { IsTrue begins_segment ↔ ((round + 1) % SEGMENT_ROUNDS ≡ 0) }
-    requires place { place ≡ symbol_place (CODERS * round) }
-    ensures { result ≡ symbol_place (CODERS * (round + 1)) }
+    requires place { place ≡ sent_place (CODERS * round) }
+    ensures { result ≡ sent_place (CODERS * (round + 1)) }
 {
     if begins_segment {
         place + CODERS + SEGMENT_SYNC
@@ -246,7 +248,7 @@ fn store(symbols: &mut [i8; GROUP_SYMBOLS], place: usize, lanes: u8x16)
     requires place { place + CODERS ≤ GROUP_SYMBOLS }
     requires lanes { AreNibbles lanes }
     ensures symbols { (p : ℕ) → p < CODERS
-        → slice_index_or symbols.new (place + p) (pos 0) ≡ symbol_of (lane_level (slice_index lanes p)) }
+        → slice_index_or symbols.new (place + p) (pos 0) ≡ symbol_of (level_told (slice_index lanes p)) }
     ensures before { (i : ℕ) → i < place
         → slice_index_or symbols.new i (pos 0) ≡ slice_index_or symbols.old i (pos 0) }
 {

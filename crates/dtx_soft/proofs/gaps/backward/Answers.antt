@@ -1,8 +1,7 @@
-use Rattle.std.proofs.Common.{◌≡◌, ℕ, ◌-◌, ◌<◌, [], pos, get_or, length, sym, ◌∙◌, subst, arith}
+use Rattle.std.proofs.Common.{◌≡◌, ◌-◌, [], pos, drop, get_or, ◌∙◌, subst, arith}
 use Rattle.std.proofs.lemmas.List.{get_or-replicate, length-set}
-use Rattle.dtx_soft.specs.Gaps.{AreMarks, IsStep, column, gap_at}
-use Rattle.dtx_soft.proofs.Columns.{gaps_more, length-column, marks_more, no_gaps, nothing_bounded, symbol_in_column}
-use Rattle.dtx_soft.proofs.Writes.{written_above}
+use Rattle.dtx_soft.specs.Gaps.{AreLeastGaps, IsStep, column, gap_at}
+use Rattle.dtx_soft.proofs.Columns.{none_walked, nothing_bounded, one_walked}
 use Rattle.dtx_soft.proofs.gaps.backward.Goals as goal
 
 pub loop-t-init : goal.loop-t-init
@@ -10,47 +9,28 @@ loop-t-init c = record {
   room = c.requires.room;
   bounded = λ n l. nothing_bounded _ (get_or-replicate 16 n (pos 0) (pos 0) l)
       (get_or-replicate 16 n (pos 0) (pos 0) l) (get_or-replicate 16 n (pos 0) (pos 0) l);
-  gaps = λ n l. no_gaps c.args.scale (column c.args.rounds.now n) (length c.args.rounds.now) _
-      (omega (arith, length-column c.args.rounds.now n)) (get_or-replicate 16 n (pos 0) (pos 0) l)
-      (get_or-replicate 16 n (pos 0) (pos 0) l) (get_or-replicate 16 n (pos 0) (pos 0) l);
-  done = λ k d l m. absurd (omega arith);
+  walked = none_walked c.args.scale c.args.rounds.now _ c.args.marks.now
+      (λ n. get_or-replicate 16 n (pos 0) (pos 0)) (λ n. get_or-replicate 16 n (pos 0) (pos 0))
+      (λ n. get_or-replicate 16 n (pos 0) (pos 0));
 }
 
 pub loop-t-preserved : goal.loop-t-preserved
 loop-t-preserved c = record {
   room = length-set c.loop-t.marks (c.loop-t.t - 1) c.step_lanes.result ∙ c.loop-t.invariant.room;
   bounded = c.step_lanes.ensures.bounded;
-  gaps = λ n l. gaps_more c.args.scale (column c.args.rounds.now n) (c.loop-t.t - 1) c.loop-t.t
-      (gap_at c.loop-t.gaps n) (gap_at c.step_lanes.new.gaps n) (get_or c.step_lanes.result n 0) c.requires.scale
-      (within n) (omega arith) (step n l) (c.loop-t.invariant.gaps n l);
-  done = λ k d l m n o. written_above (λ k row. k < length c.args.rounds.now → (n : ℕ) → n < 16
-      → AreMarks c.args.scale (column c.args.rounds.now n) k (get_or row n 0)) c.loop-t.marks (c.loop-t.t - 1)
-      c.step_lanes.result (omega (arith, c.loop-t.invariant.room))
-      (λ k d l m. c.loop-t.invariant.done k d (omega arith) m) (λ _. here) k d l m n o;
+  walked = one_walked c.args.scale (c.loop-t.t - 1) c.loop-t.t c.args.rounds.now (gap_at c.loop-t.gaps)
+      (gap_at c.step_lanes.new.gaps) c.loop-t.marks c.step_lanes.result c.requires.scale (omega arith) (omega arith)
+      c.loop-t.invariant.room
+      (λ n l. subst (λ scale. IsStep scale (get_or (get_or c.args.rounds.now (c.loop-t.t - 1) []) n (pos 0))
+      (gap_at c.loop-t.gaps n) (gap_at c.step_lanes.new.gaps n) (get_or c.step_lanes.result n 0))
+      c.units_of-units.ensures (c.step_lanes.ensures.step n l)) c.loop-t.invariant.walked;
 }
-  where
-    symbol : (n : ℕ) → get_or (column c.args.rounds.now n) (c.loop-t.t - 1) (pos 0)
-        ≡ get_or (get_or c.args.rounds.now (c.loop-t.t - 1) []) n (pos 0)
-    symbol n = symbol_in_column c.args.rounds.now n (c.loop-t.t - 1) (omega arith)
 
-    within : (n : ℕ) → c.loop-t.t - 1 < length (column c.args.rounds.now n)
-    within n = omega (arith, length-column c.args.rounds.now n)
-
-    step : (n : ℕ) → n < 16 → IsStep c.args.scale (get_or (column c.args.rounds.now n) (c.loop-t.t - 1) (pos 0))
-        (gap_at c.loop-t.gaps n) (gap_at c.step_lanes.new.gaps n) (get_or c.step_lanes.result n 0)
-    step n l =
-        subst (λ v. IsStep c.args.scale v (gap_at c.loop-t.gaps n) (gap_at c.step_lanes.new.gaps n)
-        (get_or c.step_lanes.result n 0)) (sym (symbol n))
-        (subst (λ scale. IsStep scale (get_or (get_or c.args.rounds.now (c.loop-t.t - 1) []) n (pos 0))
-        (gap_at c.loop-t.gaps n) (gap_at c.step_lanes.new.gaps n) (get_or c.step_lanes.result n 0))
-        c.units_of-units.ensures (c.step_lanes.ensures.step n l))
-
-    here : (n : ℕ) → n < 16 → AreMarks c.args.scale (column c.args.rounds.now n) (c.loop-t.t - 1)
-        (get_or c.step_lanes.result n 0)
-    here n l =
-        marks_more c.args.scale (column c.args.rounds.now n) (c.loop-t.t - 1) c.loop-t.t (gap_at c.loop-t.gaps n)
-        (gap_at c.step_lanes.new.gaps n) (get_or c.step_lanes.result n 0) (omega arith) (step n l)
-        (c.loop-t.invariant.gaps n l)
+pub returns-clause-gaps : goal.returns-clause-gaps
+returns-clause-gaps c n l =
+    let end : c.loop-t.t ≡ 0 = omega arith in
+    subst (λ t. AreLeastGaps c.args.scale (drop t (column c.args.rounds.now n)) (gap_at c.loop-t.gaps n)) end
+    (c.loop-t.invariant.walked.gaps_are n l)
 
 pub returns-clause-marks : goal.returns-clause-marks
-returns-clause-marks c t n l m = c.loop-t.invariant.done t [] (omega arith) l n m
+returns-clause-marks c t n l m = c.loop-t.invariant.walked.marks_are t [] (omega arith) l n m

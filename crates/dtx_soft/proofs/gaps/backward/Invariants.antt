@@ -1,12 +1,11 @@
-use Rattle.std.proofs.Common.{◌≡◌, ℕ, ◌<◌, ◌≤◌, List, drop, get_or, length}
-use Rattle.dtx_soft.specs.Gaps.{AreLeastGaps, AreMarks, IsBounded, column, gap_at}
+use Rattle.std.proofs.Common.{◌≡◌, ℕ, ◌<◌, length}
+use Rattle.dtx_soft.specs.Gaps.{IsBounded, gap_at}
+use Rattle.dtx_soft.proofs.Columns.{AreWalked}
 use Rattle.dtx_soft.proofs.gaps.backward.Given as goal
 
 abbrev pub invariant-loop-t : goal.invariant-loop-t
 invariant-loop-t l = record {
   room : length l.marks ≡ length l.rounds;
   bounded : (n : ℕ) → n < 16 → IsBounded (gap_at l.gaps n);
-  gaps : (n : ℕ) → n < 16 → AreLeastGaps l.fn.scale (drop l.t (column l.rounds n)) (gap_at l.gaps n);
-  done : (k : ℕ) (default : List ℕ) → l.t ≤ k → k < length l.rounds → (n : ℕ) → n < 16
-      → AreMarks l.fn.scale (column l.rounds n) k (get_or (get_or l.marks k default) n 0);
+  walked : AreWalked l.fn.scale l.t l.rounds (gap_at l.gaps) l.marks;
 }

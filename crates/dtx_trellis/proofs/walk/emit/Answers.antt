@@ -1,11 +1,11 @@
 use Rattle.std.proofs.Common.{ℕ, ◌+◌, ◌*◌, ◌<◌, pos, get_or, sym, ap, ◌∙◌, subst, arith}
 use Rattle.dtx_trellis.specs.Trellis.{symbol_of}
-use Rattle.dtx_trellis.specs.Groups.{symbol_place}
+use Rattle.dtx_trellis.specs.Groups.{sent_place}
 use Rattle.dtx_trellis.specs.LaneRoundsLaws.{round_level, sent_more}
 use Rattle.dtx_trellis.proofs.walk.emit.Goals as goal
 
-place_small : (r : ℕ) → r < 276 → symbol_place (12 * r) + 12 < 3329
-unfolding symbol_place
+place_small : (r : ℕ) → r < 276 → sent_place (12 * r) + 12 < 3329
+unfolding sent_place
 place_small r l = omega arith
 
 pub store-requires-clause-place : goal.store-requires-clause-place

@@ -1,7 +1,7 @@
 use Rattle.std.proofs.Common.{◌≡◌, ℕ, ◌*◌, ◌/◌, ◌<◌, get_or, refl, ap, sym, pos, ◌∙◌, subst, arith}
 use Rattle.std.proofs.lemmas.Simd.{Each1-from_get_or}
 use Rattle.dtx_trellis.specs.Trellis.{symbol_of}
-use Rattle.dtx_trellis.specs.Lanes.{lane_level}
+use Rattle.dtx_trellis.specs.Lanes.{level_told}
 use Rattle.dtx_trellis.specs.LaneStepsLaws.{level_small, long_sent, sent_at}
 use Rattle.dtx_trellis.specs.StoresLaws.{stored}
 use Rattle.dtx_trellis.proofs.walk.store.Goals as goal
@@ -21,17 +21,17 @@ returns-then-place-clause-symbols c = λ p l.
     let n : ℕ = get_or c.args.lanes p 0 in
     stored (pos 0) c.args.place p c.args.symbols.now _ c.told-symbols
     (long_sent _ _ c.doubled-doubled.result c.doubled-doubled.ensures.long) c.if-place.true l
-    ∙ sent_at _ _ c.doubled-doubled.result p (lane_level n) c.doubled-doubled.ensures.long (omega arith)
+    ∙ sent_at _ _ c.doubled-doubled.result p (level_told n) c.doubled-doubled.ensures.long (omega arith)
     (c.doubled-doubled.ensures.levels p (omega arith)) (level_small n) refl
 
 pub store_last-requires-clause-levels : goal.store_last-requires-clause-levels
 store_last-requires-clause-levels c = λ p l.
     let n : ℕ = get_or c.args.lanes p 0 in
-    subst (λ z. z < 8) (sym (halved (get_or c.doubled-doubled.result p 0) (lane_level n)
+    subst (λ z. z < 8) (sym (halved (get_or c.doubled-doubled.result p 0) (level_told n)
     (c.doubled-doubled.ensures.levels p (omega arith)))) (level_small n)
 
 pub returns-else-place-clause-symbols : goal.returns-else-place-clause-symbols
 returns-else-place-clause-symbols c = λ p l.
     c.store_last.ensures.symbols p l
-    ∙ ap symbol_of (halved (get_or c.doubled-doubled.result p 0) (lane_level (get_or c.args.lanes p 0))
+    ∙ ap symbol_of (halved (get_or c.doubled-doubled.result p 0) (level_told (get_or c.args.lanes p 0))
     (c.doubled-doubled.ensures.levels p (omega arith)))
