@@ -1,14 +1,13 @@
 -- A step by four bytes, as the code takes it over words.
-use Rattle.std.proofs.Common.{◌≡◌, ℕ, zero, suc, ◌+◌, ◌*◌, ◌<◌, List, [], ◌∷◌, ◌++◌, length, get_or, drop, bit_xor}
+use Rattle.std.proofs.Common.{◌≡◌, ℕ, suc, ◌*◌, ◌<◌, List, [], ◌∷◌, ◌++◌, length, get_or, drop, bit_xor}
 use Rattle.std.proofs.Common.{refl, sym, ap, ap₂, ◌∙◌, arith}
-use Rattle.std.proofs.lemmas.List.{length_push, length-drop, get_or-drop}
+use Rattle.std.proofs.lemmas.List.{length_push}
 use Rattle.std.proofs.lemmas.Nat.{le_bytes_4}
 use Rattle.std.specs.Int.{to_le_bytes, from_le_bytes, w32}
 use Rattle.dtx_galois.specs.Word.{sums}
 use Rattle.dtx_galois.specs.WordsLaws.{length_sums}
 use Rattle.dtx_laws.specs.Register.{register}
 use Rattle.dtx_rs.specs.Table.{row, word_bytes}
-use Rattle.dtx_rs.proofs.Sums.{sums_at, sums_by_places}
 use Rattle.dtx_rs.proofs.Rows.{four_fed, length_row}
 use Rattle.dtx_rs.proofs.WordBytes.{to_le_bytes-xor, length-word_bytes, word_bytes-append, word_bytes-sums}
 use Rattle.dtx_rs.proofs.WordBytes.{list_of_four}
@@ -53,39 +52,6 @@ step_is divisor (w ∷ ws) bytes fs r3 r2 r1 r0 s l b small f e3 e2 e1 e0 =
     ∙ sym (four_fed divisor (word_bytes ws) _ _ _ _ (get_or bytes 0 0) (get_or bytes 1 0) (get_or bytes 2 0)
     (get_or bytes 3 0) (omega (arith, length-word_bytes ws)))
     ∙ ap (register divisor (word_bytes (w ∷ ws))) (sym four)
-
--- ---- the words of the next register
-
-after_nothing : (ys : List ℕ) (i : ℕ) → get_or (ys ++ 0 ∷ []) i 0 ≡ get_or ys i 0
-after_nothing [] zero = refl
-after_nothing [] (suc i) = refl
-after_nothing (y ∷ ys) zero = refl
-after_nothing (y ∷ ys) (suc i) = after_nothing ys i
-
-moved_at : (state : List ℕ) (k : ℕ) → get_or (drop 1 state ++ 0 ∷ []) k 0 ≡ get_or state (k + 1) 0
-moved_at state k = after_nothing (drop 1 state) k ∙ get_or-drop 1 state k 0 ∙ ap (λ j. get_or state j 0) (one_on k)
-  where
-    one_on : (k : ℕ) → 1 + k ≡ k + 1
-    one_on k = omega arith
-
-pub sum_is : (n : ℕ) (next state r3 r2 r1 r0 : List ℕ) → 0 < n → length next ≡ n → length state ≡ n → length r3 ≡ n
-    → length r2 ≡ n → length r1 ≡ n → length r0 ≡ n
-    → ((k : ℕ) → k < n
-    → get_or next k 0 ≡ bit_xor (get_or state (k + 1) 0)
-    (bit_xor (get_or r3 k 0) (bit_xor (get_or r2 k 0) (bit_xor (get_or r1 k 0) (get_or r0 k 0)))))
-    → next ≡ sums (drop 1 state ++ 0 ∷ []) (sums r3 (sums r2 (sums r1 r0)))
-sum_is n next state r3 r2 r1 r0 p ln ls l3 l2 l1 l0 h =
-    let m1 : length (sums r1 r0) ≡ n = length_sums r1 r0 ∙ l1 in
-    let m2 : length (sums r2 (sums r1 r0)) ≡ n = length_sums r2 (sums r1 r0) ∙ l2 in
-    let m3 : length (sums r3 (sums r2 (sums r1 r0))) ≡ n = length_sums r3 (sums r2 (sums r1 r0)) ∙ l3 in
-    let long : length (drop 1 state ++ 0 ∷ []) ≡ n =
-    length_push (drop 1 state) 0 ∙ omega (arith, length-drop 1 state) in
-    sums_by_places next (drop 1 state ++ 0 ∷ []) (sums r3 (sums r2 (sums r1 r0))) (ln ∙ sym long) (long ∙ sym m3)
-    (λ k i. h k (omega arith)
-    ∙ ap₂ bit_xor (sym (moved_at state k))
-    (sym (sums_at r3 (sums r2 (sums r1 r0)) k (omega arith) (omega arith)
-    ∙ ap (bit_xor (get_or r3 k 0)) (sums_at r2 (sums r1 r0) k (omega arith) (omega arith)
-    ∙ ap (bit_xor (get_or r2 k 0)) (sums_at r1 r0 k (omega arith) (omega arith))))))
 
 -- where the first word of each stands apart
 pub split_sum : (rest r3 r2 r1 r0 : List ℕ) (first : ℕ) (words : List ℕ) → 0 < length rest → 0 < length r3

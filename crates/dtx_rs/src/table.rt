@@ -6,7 +6,6 @@ ghost use Rattle.dtx_galois.specs.Word.{sums};
 ghost use Rattle.dtx_laws.specs.Register.{fed, register};
 ghost use Rattle.dtx_rs.specs.Table.{row, word_bytes};
 ghost use Rattle.dtx_rs.specs.declared.divisor.TheConstants.{ELEMENTS};
-ghost use Rattle.dtx_rs.specs.declared.table.TheConstants.{ROWS};
 ghost use Rattle.dtx_rs.specs.declared.words.TheConstants.{REST, STEP, WIDTH};
 
 use crate::divisor::ELEMENTS;
@@ -17,18 +16,27 @@ use std::simd::prelude::*;
 /// How many rows there are: one for each byte, at each place of a step.
 const ROWS: usize = STEP * ELEMENTS;
 
-/// Row `ELEMENTS * k + f` is what the register of zeros holds after the byte f and then k zeros. The first words of all
-/// rows stand apart from what is behind them, which fills vectors.
+/// The rows of one place of a step, one for each byte. Their first words stand apart from those behind, which fill
+/// vectors.
+#[derive(Drop)]
+struct Place {
+    firsts: [u32; ELEMENTS],
+    rests: [Rest; ELEMENTS],
+}
+
+/// Row f of place k is what the register of zeros holds after the byte f and then k zeros.
 #[derive(Drop)]
 pub struct Table {
     pub divisor: [u8; WIDTH],
-    firsts: [u32; ROWS],
-    rests: [Rest; ROWS],
+    places: [Place; STEP],
     ghost long: { length divisor ≡ WIDTH },
-    ghost rests_long: { (n : ℕ) → n < ROWS → length (slice_index_or rests n (record { words = [] })).words ≡ REST },
     ghost rows_hold: { (k f : ℕ) → k < STEP → f < ELEMENTS
-        → word_bytes (slice_index firsts (ELEMENTS * k + f)
-        ∷ (slice_index_or rests (ELEMENTS * k + f) (record { words = [] })).words) ≡ row divisor f k },
+        → word_bytes (slice_index (slice_index_or places k (record { firsts = []; rests = [] })).firsts f
+        ∷ (slice_index_or (slice_index_or places k (record { firsts = []; rests = [] })).rests f
+        (record { words = [] })).words) ≡ row divisor f k },
+    ghost rests_long: { (k f : ℕ) → k < STEP → f < ELEMENTS
+        → length (slice_index_or (slice_index_or places k (record { firsts = []; rests = [] })).rests f
+        (record { words = [] })).words ≡ REST },
 }
 
 impl Table {
@@ -39,8 +47,12 @@ impl Table {
         let rows = all_rows(divisor);
         Table {
             divisor: *divisor,
-            firsts: firsts_of(&rows),
-            rests: rests_of(&rows),
+            places: [
+                place_of(&rows, 0),
+                place_of(&rows, 1),
+                place_of(&rows, 2),
+                place_of(&rows, 3),
+            ],
         }
     }
 
@@ -52,12 +64,9 @@ impl Table {
         let mut state = self.started(head);
         for step in 0..head.len() / STEP {
             let at = first + STEP * step;
-            state = self.fed(
-                &state,
-                &[head[at], head[at + 1], head[at + 2], head[at + 3]],
-            );
+            state = self.fed(state, &[head[at], head[at + 1], head[at + 2], head[at + 3]]);
         }
-        bytes_of(&state)
+        bytes_of(&joined(state))
     }
 
     /// The registers of zeros after all the data of each of four heads, by steps in turn, so that none waits for the
@@ -77,19 +86,19 @@ impl Table {
             (one.now ∷ two.now ∷ three.now ∷ four.now ∷ []) }
     {
         let first = one.len() % STEP;
-        let mut of_one = self.started_split(one);
-        let mut of_two = self.started_split(two);
-        let mut of_three = self.started_split(three);
-        let mut of_four = self.started_split(four);
+        let mut of_one = self.started(one);
+        let mut of_two = self.started(two);
+        let mut of_three = self.started(three);
+        let mut of_four = self.started(four);
         for step in 0..one.len() / STEP {
             let at = first + STEP * step;
-            of_one = self.fed_split(of_one, &[one[at], one[at + 1], one[at + 2], one[at + 3]]);
-            of_two = self.fed_split(of_two, &[two[at], two[at + 1], two[at + 2], two[at + 3]]);
-            of_three = self.fed_split(
+            of_one = self.fed(of_one, &[one[at], one[at + 1], one[at + 2], one[at + 3]]);
+            of_two = self.fed(of_two, &[two[at], two[at + 1], two[at + 2], two[at + 3]]);
+            of_three = self.fed(
                 of_three,
                 &[three[at], three[at + 1], three[at + 2], three[at + 3]],
             );
-            of_four = self.fed_split(
+            of_four = self.fed(
                 of_four,
                 &[four[at], four[at + 1], four[at + 2], four[at + 3]],
             );
@@ -103,28 +112,7 @@ impl Table {
     }
 
     /// The register after the bytes before the first whole step.
-    fn started(&self, head: &[u8]) -> [u32; WORDS]
-        ensures { word_bytes result ≡ register self.now.divisor (replicate WIDTH 0)
-            (take (length head.now % STEP) head.now) }
-    {
-        self.fed(&[0; WORDS], &padded(head))
-    }
-
-    /// The register after four more bytes.
-    #[inline(always)]
-    fn fed(&self, state: &[u32; WORDS], bytes: &[u8; STEP]) -> [u32; WORDS]
-        ensures { word_bytes result ≡ register self.now.divisor (word_bytes state.now) bytes.now }
-    {
-        let factors = (u32::from_le_bytes(*bytes) ^ state[0]).to_le_bytes();
-        let row3 = joined(self.row(3, factors[0]));
-        let row2 = joined(self.row(2, factors[1]));
-        let row1 = joined(self.row(1, factors[2]));
-        let row0 = joined(self.row(0, factors[3]));
-        sum_of(state, &row3, &row2, &row1, &row0)
-    }
-
-    /// The register after the bytes before the first whole step.
-    fn started_split(&self, head: &[u8]) -> Split
+    fn started(&self, head: &[u8]) -> Split
         ensures { word_bytes (result.first ∷ result.rest) ≡ register self.now.divisor (replicate WIDTH 0)
             (take (length head.now % STEP) head.now) }
     {
@@ -132,12 +120,12 @@ impl Table {
             first: 0,
             rest: u32x4::splat(0),
         };
-        self.fed_split(zeros, &padded(head))
+        self.fed(zeros, &padded(head))
     }
 
     /// The register after four more bytes.
     #[inline(always)]
-    fn fed_split(&self, state: Split, bytes: &[u8; STEP]) -> Split
+    fn fed(&self, state: Split, bytes: &[u8; STEP]) -> Split
         ensures { word_bytes (result.first ∷ result.rest)
             ≡ register self.now.divisor (word_bytes (state.first ∷ state.rest)) bytes.now }
     {
@@ -160,66 +148,36 @@ impl Table {
         ensures row { word_bytes (result.first ∷ result.rest) ≡ row self.now.divisor factor k }
         ensures long { length result.rest ≡ REST }
     {
-        let n = ELEMENTS * k + factor as usize;
+        let place = &self.places[k];
         Split {
-            first: self.firsts[n],
-            rest: self.rests[n].words,
+            first: place.firsts[factor as usize],
+            rest: place.rests[factor as usize].words,
         }
     }
 }
 
-/// The first words of the rows.
-fn firsts_of(rows: &[[u32; WORDS]; ROWS]) -> [u32; ROWS]
-    ensures { (n : ℕ) → n < ROWS → slice_index result n ≡ slice_index (slice_index_or rows.now n []) 0 }
-{
-    let mut firsts = [0; ROWS];
-    for n in 0..ROWS {
-        firsts[n] = rows[n][0];
-    }
-    firsts
-}
-
-/// The words of the rows behind their first.
-fn rests_of(rows: &[[u32; WORDS]; ROWS]) -> [Rest; ROWS]
-    ensures rests { (n : ℕ) → n < ROWS
-        → (slice_index_or result n (record { words = [] })).words ≡ drop 1 (slice_index_or rows.now n []) }
-    ensures long { (n : ℕ) → n < ROWS → length (slice_index_or result n (record { words = [] })).words ≡ REST }
+/// The rows of a place of a step.
+fn place_of(rows: &[[u32; WORDS]; ROWS], k: usize) -> Place
+    requires { k < STEP }
+    ensures rows { (f : ℕ) → f < ELEMENTS
+        → slice_index result.firsts f ∷ (slice_index_or result.rests f (record { words = [] })).words
+        ≡ slice_index_or rows.now (ELEMENTS * k + f) [] }
+    ensures long { (f : ℕ) → f < ELEMENTS
+        → length (slice_index_or result.rests f (record { words = [] })).words ≡ REST }
 {
     let none = Rest {
         words: u32x4::splat(0),
     };
-    let mut rests = [none; ROWS];
-    for n in 0..ROWS {
-        rests[n].words = u32x4::from_slice(&rows[n][1..]);
+    let mut place = Place {
+        firsts: [0; ELEMENTS],
+        rests: [none; ELEMENTS],
+    };
+    for f in 0..ELEMENTS {
+        let row = &rows[ELEMENTS * k + f];
+        place.firsts[f] = row[0];
+        place.rests[f].words = u32x4::from_slice(&row[1..]);
     }
-    rests
-}
-
-/// The register moved on by a word, and four rows.
-#[inline(always)]
-fn sum_of(
-    state: &[u32; WORDS],
-    row3: &[u32; WORDS],
-    row2: &[u32; WORDS],
-    row1: &[u32; WORDS],
-    row0: &[u32; WORDS],
-) -> [u32; WORDS]
-    ensures { result ≡ sums (drop 1 state.now ++ 0 ∷ []) (sums row3.now (sums row2.now (sums row1.now row0.now))) }
-{
-    let mut next = [0; WORDS];
-    for i in 0..WORDS {
-        next[i] = moved(state, i) ^ (row3[i] ^ (row2[i] ^ (row1[i] ^ row0[i])));
-    }
-    next
-}
-
-/// The word one place on.
-#[inline(always)]
-fn moved(state: &[u32; WORDS], i: usize) -> u32
-    requires { i < WORDS }
-    ensures { result ≡ slice_index state.now (i + 1) }
-{
-    if i + 1 < WORDS { state[i + 1] } else { 0 }
+    place
 }
 
 /// The words one place on.

@@ -1,6 +1,5 @@
 use Rattle.std.proofs.Common.{◌≡◌, ℕ, ◌+◌, ◌*◌, ◌%◌, List, replicate, length, take, ap, ◌∙◌, arith}
 use Rattle.dtx_laws.specs.Register.{register}
-use Rattle.dtx_rs.specs.Table.{word_bytes}
 use Rattle.dtx_rs.proofs.Rows.{step_along}
 use Rattle.dtx_rs.proofs.table.Table.parity.Goals as goal
 
@@ -11,6 +10,6 @@ loop-step-preserved c =
     let at : ℕ = length c.args.head.now % 4 + 4 * c.loop-step.step in
     let further : length c.args.head.now % 4 + 4 * c.loop-step.step + 4
     ≡ length c.args.head.now % 4 + 4 * (c.loop-step.step + 1) = omega arith in
-    step_along divisor (replicate 20 0) head (word_bytes c.loop-step.state) (word_bytes c.fed-state.result) at
+    step_along divisor (replicate 20 0) head _ _ at
     (omega (arith, c.loop-step-test.true)) c.loop-step.invariant c.fed-state.ensures
     ∙ ap (λ j. register divisor (replicate 20 0) (take j head)) further

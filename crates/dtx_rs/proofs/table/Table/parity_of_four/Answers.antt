@@ -13,15 +13,15 @@ loop-step-preserved c =
     let within : at + 4 ≤ length c.args.one.now = omega (arith, c.loop-step-test.true) in
     record {
       one = step_along divisor (replicate 20 0) c.args.one.now _ _ at
-          (omega (arith, within)) i.one c.fed_split-of_one.ensures
+          (omega (arith, within)) i.one c.fed-of_one.ensures
           ∙ ap (λ j. register divisor (replicate 20 0) (take j c.args.one.now)) further;
       two = step_along divisor (replicate 20 0) c.args.two.now _ _ at
-          (omega (arith, within, c.requires.two)) i.two c.fed_split-of_two.ensures
+          (omega (arith, within, c.requires.two)) i.two c.fed-of_two.ensures
           ∙ ap (λ j. register divisor (replicate 20 0) (take j c.args.two.now)) further;
       three = step_along divisor (replicate 20 0) c.args.three.now _ _ at
-          (omega (arith, within, c.requires.three)) i.three c.fed_split-of_three.ensures
+          (omega (arith, within, c.requires.three)) i.three c.fed-of_three.ensures
           ∙ ap (λ j. register divisor (replicate 20 0) (take j c.args.three.now)) further;
       four = step_along divisor (replicate 20 0) c.args.four.now _ _ at
-          (omega (arith, within, c.requires.four)) i.four c.fed_split-of_four.ensures
+          (omega (arith, within, c.requires.four)) i.four c.fed-of_four.ensures
           ∙ ap (λ j. register divisor (replicate 20 0) (take j c.args.four.now)) further;
     }

@@ -1,0 +1,11 @@
+use Rattle.std.proofs.Common.{◌≡◌, ℕ, ◌+◌, ◌*◌, ◌<◌, ◌∷◌, get_or, length, []}
+use Rattle.dtx_rs.proofs.table.place_of.Given as goal
+
+abbrev pub invariant-loop-f : goal.invariant-loop-f
+invariant-loop-f l = record {
+  rows : (j : ℕ) → j < l.f → get_or l.place.firsts j 0 ∷ (get_or l.place.rests j (record { words = [] })).words
+      ≡ get_or l.fn.rows (256 * l.fn.k + j) [];
+  each : (j : ℕ) → j < l.f → length (get_or l.place.rests j (record { words = [] })).words ≡ 4;
+  firsts : length l.place.firsts ≡ 256;
+  rests : length l.place.rests ≡ 256;
+}
