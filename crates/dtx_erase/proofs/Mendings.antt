@@ -46,9 +46,6 @@ map_four f g h =
 
 -- ---- a symbol as its mark
 
-pub shown_missing : (symbol : ℤ) → symbol ≡ negsuc 127 → shown symbol ≡ pos 7
-shown_missing symbol e = ap shown e
-
 pub shown_other : (symbol : ℤ) → (symbol ≡ negsuc 127 → ⊥) → shown symbol ≡ negsuc 6
 shown_other (pos n) h = refl
 shown_other (negsuc n) h =

@@ -96,14 +96,6 @@ own_answer n k marks word c l = record {
   changed = sym (distance_self word);
 }
 
--- more places marked than there are correction bytes
-pub too_many_marks : (n k : ℕ) (marks : List Bool) (word code : List ℕ) → n - k < lost marks
-    → IsMending n k marks word code → ⊥
-too_many_marks n k marks word code l p = more (n - k) (lost marks) (unmarked_distance marks word code) l p.near
-  where
-    more : (m f e : ℕ) → m < f → 2 * e + f ≤ m → ⊥
-    more m f e l h = omega arith
-
 -- ---- damage
 
 pub damage_is : (n k : ℕ) (marks : List Bool) (code word : List ℕ) → IsCodeword n k code

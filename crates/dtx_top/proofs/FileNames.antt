@@ -295,18 +295,3 @@ none_later earlier (first ∷ names) name is has c =
     at_test true e later is place = cc
     at_test false e later is (inl here) = first_is e (Contains-push_cases [] first name here)
     at_test false e later is (inr c) = later is c
-
--- where no name comes twice the stream isn't the feed
-pub stream_apart : (name : List ℕ) (plan : Plan) (network : NetPlan) → repeated (network_names name plan network) ≡ None
-    → network.stream ≢ feed_name
-stream_apart name plan network none same =
-    none_later (name ∷ network.stream ∷ []) (written_names plan network) network.stream
-    (behind (bytes_eq name network.stream) none) (1, omega arith, refl)
-    (0, omega arith, sym same)
-  where
-    behind : (b : Bool)
-        → cond (b || false) (Some network.stream)
-        (repeated_after (name ∷ network.stream ∷ []) (written_names plan network)) ≡ None
-        → repeated_after (name ∷ network.stream ∷ []) (written_names plan network) ≡ None
-    behind true is = cc
-    behind false is = is
