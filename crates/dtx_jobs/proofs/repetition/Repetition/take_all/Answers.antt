@@ -112,18 +112,20 @@ loop-i-preserved c =
     }
 
 -- what holds as far as the units were taken holds of all
-of_all : {i units long : ℕ} (P : ℕ → Type 0) → units ≤ i → i ≤ units → units ≡ long / 832 → P i → P (long / 832)
-of_all {i} {units} {long} P past within is = subst P (omega (arith, past, within, is))
+of_all : {i units : ℕ} (long : ℕ) (P : ℕ → Type 0) → units ≤ i → i ≤ units → units ≡ long / 832 → P i
+    → P (long / 832)
+of_all {i} {units} long P past within is = subst P (omega (arith, past, within, is))
 
 pub returns-clause-repeating : goal.returns-clause-repeating
 returns-clause-repeating c = λ s is.
-    of_all (λ n. IsRepeating c.loop-i.self (s ++ segments_from c.args.bytes.now 0 n)) c.loop-i-test.false
+    let bytes = c.args.bytes.now in
+    of_all (length bytes) (λ n. IsRepeating c.loop-i.self (s ++ segments_from bytes 0 n)) c.loop-i-test.false
     c.loop-i.auto.i-end c.as_chunks.ensures.front_len (c.loop-i.invariant.repeating s is)
 
 pub returns-clause-sent : goal.returns-clause-sent
 returns-clause-sent c = λ s is.
     let old = c.args.self.now in
-    of_all
+    of_all (length c.args.bytes.now)
     (λ n. sent_over old.address old.delay (lives_so_far (s ++ segments_from c.args.bytes.now 0 n))
     ≡ sent_over old.address old.delay (lives_so_far s) ++ c.loop-i.self.sending.symbols) c.loop-i-test.false
     c.loop-i.auto.i-end c.as_chunks.ensures.front_len (c.loop-i.invariant.sent s is)
@@ -131,7 +133,7 @@ returns-clause-sent c = λ s is.
 pub returns-clause-logged : goal.returns-clause-logged
 returns-clause-logged c = λ s is.
     let old = c.args.self.now in
-    of_all
+    of_all (length c.args.bytes.now)
     (λ n. logged_over old.address old.delay (lives_so_far (s ++ segments_from c.args.bytes.now 0 n))
     ≡ logged_over old.address old.delay (lives_so_far s) ++ c.loop-i.self.sending.lines) c.loop-i-test.false
     c.loop-i.auto.i-end c.as_chunks.ensures.front_len (c.loop-i.invariant.logged s is)
