@@ -68,6 +68,13 @@ run_long ps first sent got r i l =
     ap length (get_or-drop (to_sync first) got i [])
     ∙ r.long (to_sync first + i) (omega (arith, l, length-drop (to_sync first) got))
 
+-- the data segments of whole fields and of what follows them, and of all segments of u groups
+pub data_before : (q l n : ℕ) → 313 * q + n ≤ l → 312 * q + (n - (n + 312) / 313) ≤ l - (l + 312) / 313
+data_before q l n a = omega arith
+
+pub data_all : (l u : ℕ) → l ≡ 4 * u + (u + 77) / 78 → l - (l + 312) / 313 ≡ 4 * u
+data_all l u e = omega arith
+
 -- the packets of the run are packets of the stream
 count_within : (q l n g j : ℕ) → 313 * q + n ≤ l → l ≡ 4 * (g / 4) + (g / 4 + 77) / 78
     → j < 4 * ((n - (n + 312) / 313) / 4) → 312 * q + j < g
@@ -75,12 +82,6 @@ count_within q l n g j a e h =
     let b : 312 * q + (n - (n + 312) / 313) ≤ l - (l + 312) / 313 = data_before q l n a in
     let c : l - (l + 312) / 313 ≡ 4 * (g / 4) = data_all l (g / 4) e in
     omega (arith, b, c, h)
-  where
-    data_before : (q l n : ℕ) → 313 * q + n ≤ l → 312 * q + (n - (n + 312) / 313) ≤ l - (l + 312) / 313
-    data_before q l n a = omega arith
-
-    data_all : (l u : ℕ) → l ≡ 4 * u + (u + 77) / 78 → l - (l + 312) / 313 ≡ 4 * u
-    data_all l u e = omega arith
 
 number_within : (ps : List (List ℕ)) (first : ℕ) (sent got : List (List ℤ)) → AreReceived ps first sent got
     → to_sync first < length sent → (j : ℕ) → j < 4 * groups_of (from_sync first got)

@@ -30,7 +30,7 @@ use Rattle.dtx_chain.specs.Damage.{codeword_at, IsNear}
 use Rattle.dtx_chain.specs.PlacesLaws.{sync_at, data_at_place}
 use Rattle.dtx_chain.specs.LevelsLaws.{slices_front, level_small, segment_back, zero_formers, nothing_before}
 use Rattle.dtx_chain.specs.WordsLaws.{whole_small, word_is}
-use Rattle.dtx_chain.specs.AllBackLaws.{data_within}
+use Rattle.dtx_chain.specs.AllBackLaws.{data_within, data_before, data_all}
 
 -- The run stands in the stream, from its field sync before field q on.
 pub record IsThere (ps : List (List ℕ)) (q : ℕ) (run : List (List ℤ)) : Type 0 where
@@ -46,12 +46,6 @@ group_within q n l u g a e h =
     let b : 312 * q + (n - (n + 312) / 313) ≤ l - (l + 312) / 313 = data_before q l n a in
     let c : l - (l + 312) / 313 ≡ 4 * u = data_all l u e in
     omega (arith, b, c, h)
-  where
-    data_before : (q l n : ℕ) → 313 * q + n ≤ l → 312 * q + (n - (n + 312) / 313) ≤ l - (l + 312) / 313
-    data_before q l n a = omega arith
-
-    data_all : (l u : ℕ) → l ≡ 4 * u + (u + 77) / 78 → l - (l + 312) / 313 ≡ 4 * u
-    data_all l u e = omega arith
 
 groups_within : (ps : List (List ℕ)) (q : ℕ) (run : List (List ℤ)) → IsThere ps q run
     → 78 * q + groups_of run ≤ length ps / 4

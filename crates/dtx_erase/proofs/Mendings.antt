@@ -10,13 +10,13 @@ use Rattle.dtx_receiver.specs.Packets.{received_by}
 use Rattle.dtx_laws.specs.Whitening.{whitened}
 use Rattle.dtx_whiten.specs.Randomizer.{randomizer_bytes}
 use Rattle.dtx_erase.specs.Marks.{shown, is_set}
-use Rattle.dtx_erase.specs.Mending.{lost, IsMended, IsUnmended}
+use Rattle.dtx_erase.specs.Mending.{lost, IsAnswered}
 use Rattle.dtx_erase.specs.Mended.{mending}
 use Rattle.dtx_erase.specs.ChosenLaws.{mending_only, mending_never}
 
 pub received_is : {E : Type 0} (from : ℕ) (marks : List Bool) (word new head : List ℕ) (r : Result ℕ E) (out : Received)
     → length word ≡ 207 → length marks ≡ 207 → head ≡ whitened randomizer_bytes from (take 187 new)
-    → MatchResult r (IsMended 207 187 marks word new) (λ _e. IsUnmended 207 187 marks word new)
+    → IsAnswered 207 187 marks word new r
     → MatchResult r (λ fixed. out ≡ record { packet = record { 0 = 0x47 ∷ head }; fixed = fixed; good = true })
     (λ _e. out ≡ record { packet = record { 0 = with_error (0x47 ∷ head) }; fixed = 0; good = false })
     → out ≡ received_by from word (mending 207 187 marks word)
@@ -45,9 +45,6 @@ map_four f g h =
     (ap (λ (r : Received). r ∷ []) (h 3 (lit< tt)))))
 
 -- ---- a symbol as its mark
-
-pub shown_missing : (symbol : ℤ) → symbol ≡ negsuc 127 → shown symbol ≡ pos 7
-shown_missing symbol e = ap shown e
 
 pub shown_other : (symbol : ℤ) → (symbol ≡ negsuc 127 → ⊥) → shown symbol ≡ negsuc 6
 shown_other (pos n) h = refl

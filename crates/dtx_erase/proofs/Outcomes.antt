@@ -4,13 +4,13 @@ use Rattle.std.specs.Prelude.{Result, Ok, Err, MatchResult}
 use Rattle.dtx_laws.specs.Codeword.{IsCodeword}
 use Rattle.dtx_laws.specs.Correction.{IsCorrected, IsLeft}
 use Rattle.dtx_laws.specs.WordsLaws.{one_codeword}
-use Rattle.dtx_erase.specs.Mending.{lost, IsMending, IsMended, IsUnmended}
+use Rattle.dtx_erase.specs.Mending.{lost, IsMending, IsAnswered, IsUnmended}
 use Rattle.dtx_erase.specs.MendingLaws.{correction_mends, mending_corrects}
 
 -- without marks the corrector's answer is the mender's
 pub corrected_answer : {E : Type 0} (n k : ℕ) (marks : List Bool) (old new : List ℕ) (r : Result ℕ E) → length old ≡ n
     → length marks ≡ n → lost marks ≡ 0 → MatchResult r (IsCorrected n k old new) (λ _e. IsLeft n k old new)
-    → MatchResult r (IsMended n k marks old new) (λ _e. IsUnmended n k marks old new)
+    → IsAnswered n k marks old new r
 corrected_answer n k marks old new (Ok c) lo lm z h = record {
   mending = correction_mends n k marks old new lo lm z h.correction;
   changed = h.changed;

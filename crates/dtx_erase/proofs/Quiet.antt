@@ -415,14 +415,6 @@ known_quiet side lowest quiet q w = record {
   none = λ e. q;
 }
 
-pub known_within : (old new : Side) (lowest quiet : Bool) (groups : ℕ) → AreKnown old lowest groups quiet
-    → new.branches ≡ old.branches → new.precoder_bits ≡ old.precoder_bits → AreKnown new lowest groups false
-known_within old new lowest quiet groups k e f = record {
-  bits = λ t. f ∙ k.bits t;
-  come = subst (HaveCome groups) (sym e) k.come;
-  none = λ t. absurd (true≢false (sym t));
-}
-
 -- a group has passed
 pub record Passed (s : ℕ) (old new : Side) : Type 0 where
   pub branches : new.branches ≡ after_all 52 old.branches (bytes_back s old.precoder_bits new.levels)

@@ -55,9 +55,6 @@ product_more y l ys old new e h f g b (suc k) =
 
 -- ---- the order of the factors is free
 
-other_order : (u v w : ℕ) → bit_xor (bit_xor u v) w ≡ bit_xor (bit_xor u w) v
-other_order u v w = xor_assoc u v w ∙ ap (bit_xor u) (xor_comm v w) ∙ sym (xor_assoc u w v)
-
 product_swapped : (a b : ℕ) (zs : List ℕ) (k : ℕ) → connection (a ∷ b ∷ zs) k ≡ connection (b ∷ a ∷ zs) k
 unfolding connection moved
 product_swapped a b zs zero =

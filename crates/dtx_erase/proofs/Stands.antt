@@ -1,7 +1,6 @@
 -- What is kept of one side of a run, with one segment more.
-use Rattle.std.proofs.Common.{◌≡◌, ◌≢◌, ℕ, ℤ, ◌+◌, ◌-◌, ◌*◌, ◌/◌, ◌%◌, ◌<◌, ◌≤◌, List, [], ◌∷◌, ◌++◌, length}
+use Rattle.std.proofs.Common.{◌≡◌, ◌≢◌, ℕ, ℤ, ◌+◌, ◌-◌, ◌*◌, ◌/◌, ◌%◌, List, [], ◌∷◌, ◌++◌, length}
 use Rattle.std.proofs.Common.{take, drop, sym, ap, ◌∙◌, subst, arith}
-use Rattle.std.proofs.lemmas.List.{length-append, length-take-le, length-drop}
 use Rattle.std.proofs.lemmas.List.FromFn.{length-map-range_with_len}
 use Rattle.dtx_laws.specs.Branches.{Branching, HasWidths, gathering, leaving_all, after_all}
 use Rattle.dtx_slice.specs.Slicing.{sliced_data, sliced_last}
@@ -13,6 +12,11 @@ use Rattle.dtx_receiver.specs.Receiver.{AreLevels}
 use Rattle.dtx_receiver.specs.SegmentsLaws.{more_data, Still, still_data, still_sync, first_groups, first_bytes}
 use Rattle.dtx_erase.specs.Sides.{Side, Gathers, Holds}
 use Rattle.dtx_erase.proofs.Gathered.{gathers_first, gathers_stay, gathers_group}
+
+-- what is kept of one side, of its parts
+abbrev pub side : List ℕ → List ℕ → Branching → List ℕ → Side
+side levels precoder_bits branches gathered =
+    record { levels = levels; precoder_bits = precoder_bits; branches = branches; gathered = gathered }
 
 pub holds_first : (x : List ℤ) (new : Side) → new.precoder_bits ≡ precoder_bits_of (sliced_last x)
     → HasWidths 52 (gathering 52 4) new.branches → new.branches.next ≡ 0 → Holds new (x ∷ [])
@@ -30,21 +34,6 @@ holds_sync x kept run d z =
       levels = levels_sync x kept.levels kept.precoder_bits run d.levels z;
       gathers = gathers_stay kept.branches kept.gathered _ _ _ _ (sym s.groups) (sym s.bytes) d.gathers;
     }
-
-pub put_long : (n : ℕ) (old more : List ℕ) → length old ≡ 3312 → n < 4 → length more ≡ 828
-    → length (take (828 * n) old ++ more ++ drop (828 * n + 828) old) ≡ 3312
-put_long n old more l small m =
-    let fits : 828 * n ≤ length old = omega (arith, l, small) in
-    length-append (take (828 * n) old ++ more) (drop (828 * n + 828) old)
-    ∙ omega (
-      arith,
-      length-append (take (828 * n) old) more,
-      length-take-le (828 * n) old fits,
-      length-drop (828 * n + 828) old,
-      l,
-      m,
-      small,
-    )
 
 pub holds_data : (x : List ℤ) (kept new : Side) (run : List (List ℤ)) → Holds kept run → length run % 313 ≢ 0
     → data_count run % 4 ≢ 3

@@ -1,74 +1,19 @@
 -- The packets of a run by how many groups it has: those that are given while it is on, and the last one.
-use Rattle.std.proofs.Common.{◌≡◌, ◌≢◌, ℕ, suc, ◌+◌, ◌-◌, ◌*◌, ◌/◌, ◌%◌, ◌<◌, ◌≤◌, ◌⊎◌, Bool, true, false, cond}
-use Rattle.std.proofs.Common.{List, [], ◌∷◌, ◌++◌, map, length, refl, sym, ap, ap₂, ◌∙◌, subst, inl, inr, arith}
+use Rattle.std.proofs.Common.{◌≡◌, ◌≢◌, ℕ, ◌+◌, ◌-◌, ◌*◌, ◌/◌, ◌%◌, ◌<◌, ◌≤◌, ◌⊎◌}
+use Rattle.std.proofs.Common.{List, [], ◌∷◌, ◌++◌, map, length, sym, ap, ap₂, ◌∙◌, subst, inl, arith}
 use Rattle.std.specs.List.{filter, range_with_len}
 use Rattle.std.proofs.lemmas.List.{length-append, map-append}
-use Rattle.std.proofs.lemmas.List.Elements.{filter-append}
 use Rattle.dtx_lists.proofs.Range.{range_with_len-parts, map-range_same}
 use Rattle.dtx_lists.proofs.RangeMoved.{map-range_moved}
-use Rattle.dtx_lists.proofs.RangeFilter.{filter-range_all, filter-range_none}
 use Rattle.dtx_outer.specs.Inner.{word_at, IsComplete}
 use Rattle.dtx_outer.specs.WordsLaws.{word_stays}
-use Rattle.dtx_receiver.specs.CompleteLaws.{complete_told, complete_all, complete_only}
+use Rattle.dtx_receiver.specs.CompleteLaws.{complete_all, complete_parts, complete_last, complete_none}
 use Rattle.dtx_receiver.specs.Packets.{is_complete, received_by}
 use Rattle.dtx_receiver.specs.declared.batch.Received.{Received}
 use Rattle.dtx_erase.specs.Marks.{is_set}
 use Rattle.dtx_erase.specs.Mended.{mending, mended_at, mended_early, mended_run_packets}
 use Rattle.dtx_erase.specs.Sides.{mended_word}
 use Rattle.dtx_erase.specs.MarksLaws.{marks_word}
-
--- ---- which packets
-
-is_true : (s k : ℕ) → (k + 53 ≤ s) ⊎ ((k + 52 ≡ s) × (k % 52 ≡ 0)) → is_complete (207 * s) k ≡ true
-is_true s k h = (complete_told (207 * s) k).1 (complete_all s k h)
-
-is_false : (s k : ℕ) → ((k + 53 ≤ s) ⊎ ((k + 52 ≡ s) × (k % 52 ≡ 0)) → ⊥) → is_complete (207 * s) k ≡ false
-is_false s k h = by_cases (is_complete (207 * s) k) (λ e. h (complete_only s k ((complete_told (207 * s) k).0 e)))
-  where
-    by_cases : (t : Bool) → (t ≡ true → ⊥) → t ≡ false
-    by_cases true n = absurd (n refl)
-    by_cases false n = refl
-
-all_early : (s : ℕ) → filter (is_complete (207 * s)) (range_with_len 0 (s - 52)) ≡ range_with_len 0 (s - 52)
-all_early s = filter-range_all (is_complete (207 * s)) 0 (s - 52) (λ k l m. is_true s k (inl (omega arith)))
-
-parts : (s : ℕ) → filter (is_complete (207 * s)) (range_with_len 0 s) ≡ range_with_len 0 (s - 52)
-    ++ filter (is_complete (207 * s)) (range_with_len (s - 52) (s - (s - 52)))
-parts s =
-    let e : s - 52 + (s - (s - 52)) ≡ s = omega arith in
-    let z : 0 + (s - 52) ≡ s - 52 = omega arith in
-    ap (λ n. filter (is_complete (207 * s)) (range_with_len 0 n)) (sym e)
-    ∙ ap (filter (is_complete (207 * s))) (range_with_len-parts 0 (s - 52) (s - (s - 52)))
-    ∙ filter-append (is_complete (207 * s)) (range_with_len 0 (s - 52)) (range_with_len (0 + (s - 52)) (s - (s - 52)))
-    ∙ ap₂ (λ xs a. xs ++ filter (is_complete (207 * s)) (range_with_len a (s - (s - 52)))) (all_early s) z
-
--- where a packet is given at the end, and where none is
-last_one : (s : ℕ) → 52 ≤ s → s % 52 ≡ 0 → filter (is_complete (207 * s)) (range_with_len (s - 52) (s - (s - 52)))
-    ≡ (s - 52) ∷ []
-last_one s l e =
-    let n : s - (s - 52) ≡ suc 51 = omega arith in
-    ap (λ i. filter (is_complete (207 * s)) (range_with_len (s - 52) i)) n
-    ∙ ap (λ b. cond b ((s - 52) ∷ rest) rest) (is_true s (s - 52) (inr (omega arith, omega arith)))
-    ∙ ap (λ xs. (s - 52) ∷ xs) (filter-range_none (is_complete (207 * s)) (s - 52 + 1) 51
-    (λ k a b. is_false s k (λ h. no k a h)))
-  where
-    rest : List ℕ
-    rest = filter (is_complete (207 * s)) (range_with_len (s - 52 + 1) 51)
-
-    no : (k : ℕ) → s - 52 + 1 ≤ k → (k + 53 ≤ s) ⊎ ((k + 52 ≡ s) × (k % 52 ≡ 0)) → ⊥
-    no k a (inl h) = omega arith
-    no k a (inr h) = omega (arith, h.0)
-
-none_left : (s : ℕ) → (s < 52) ⊎ (s % 52 ≢ 0) → filter (is_complete (207 * s)) (range_with_len (s - 52) (s - (s - 52)))
-    ≡ []
-none_left s c =
-    filter-range_none (is_complete (207 * s)) (s - 52) (s - (s - 52)) (λ k a b. is_false s k (λ h. no c k a h))
-  where
-    no : (s < 52) ⊎ (s % 52 ≢ 0) → (k : ℕ) → s - 52 ≤ k → (k + 53 ≤ s) ⊎ ((k + 52 ≡ s) × (k % 52 ≡ 0)) → ⊥
-    no (inl l) k a (inl h) = omega arith
-    no (inl l) k a (inr h) = omega (arith, h.0)
-    no (inr n) k a (inl h) = omega arith
-    no (inr n) k a (inr h) = n (omega (arith, h.0, h.1))
 
 -- ---- the packets of groups of bytes and of flags
 
@@ -179,7 +124,7 @@ pub end_more : (bytes flags : List ℕ) (g : ℕ) → length bytes ≡ 828 * g
     ++ map (mended_at bytes (map is_set flags))
     (filter (is_complete (207 * (4 * g))) (range_with_len (4 * g - 52) (4 * g - (4 * g - 52))))
 end_more bytes flags g e =
-    run_count bytes flags g e ∙ ap (map (mended_at bytes (map is_set flags))) (parts (4 * g))
+    run_count bytes flags g e ∙ ap (map (mended_at bytes (map is_set flags))) (complete_parts (4 * g))
     ∙ map-append (mended_at bytes (map is_set flags)) (range_with_len 0 (4 * g - 52))
     (filter (is_complete (207 * (4 * g))) (range_with_len (4 * g - 52) (4 * g - (4 * g - 52))))
     ∙ ap (λ xs. xs ++ map (mended_at bytes (map is_set flags))
@@ -192,7 +137,7 @@ pub end_none : (bytes flags : List ℕ) (g : ℕ) → length bytes ≡ 828 * g �
 end_none bytes flags g e c =
     end_more bytes flags g e
     ∙ ap (λ xs. mended_early bytes (map is_set flags) ++ map (mended_at bytes (map is_set flags)) xs)
-    (none_left (4 * g) c)
+    (complete_none (4 * g) c)
 
 pub end_one : (bytes flags : List ℕ) (g : ℕ) → length bytes ≡ 828 * g → 52 ≤ 4 * g → 4 * g % 52 ≡ 0
     → mended_run_packets bytes (map is_set flags) ≡ mended_early bytes (map is_set flags)
@@ -200,5 +145,5 @@ pub end_one : (bytes flags : List ℕ) (g : ℕ) → length bytes ≡ 828 * g �
 end_one bytes flags g e l z =
     end_more bytes flags g e
     ∙ ap (λ xs. mended_early bytes (map is_set flags) ++ map (mended_at bytes (map is_set flags)) xs)
-    (last_one (4 * g) l z)
+    (complete_last (4 * g) l z)
     ∙ ap (λ (r : Received). mended_early bytes (map is_set flags) ++ r ∷ []) (at_flags bytes flags (4 * g - 52))

@@ -1,5 +1,6 @@
 -- Codewords near a word of which some places are marked: nothing was received there (the profile's own).
 use Rattle.std.specs.Prelude.{ℕ, ◌≡◌, ◌+◌, ◌-◌, ◌*◌, ◌≤◌, ◌==◌, ◌||◌, Bool, if◌then◌else◌, List, [], ◌∷◌}
+use Rattle.std.specs.Prelude.{Result, MatchResult}
 use Rattle.dtx_laws.specs.Codeword.{IsCodeword, distance}
 
 -- how many places are marked
@@ -30,6 +31,11 @@ pub record IsMended (n k : ℕ) (marks : List Bool) (old new : List ℕ) (c : �
 pub record IsUnmended (n k : ℕ) (marks : List Bool) (old new : List ℕ) : Type 0 where
   pub none : (code : List ℕ) → IsMending n k marks old code → ⊥
   pub same : new ≡ old
+
+-- what is answered of a word, and what is left of it: its mending, or the word where it has none
+abbrev pub IsAnswered : {E : Type 0} → ℕ → ℕ → List Bool → List ℕ → List ℕ → Result ℕ E → Type 0
+IsAnswered n k marks old new answer =
+    MatchResult answer (IsMended n k marks old new) (λ _e. IsUnmended n k marks old new)
 
 -- what was tried is no mending of the word, which is unchanged
 pub record IsDeclined (n k : ℕ) (marks : List Bool) (tried old new : List ℕ) : Type 0 where

@@ -1,5 +1,5 @@
 -- Mendings: there is at most one, and without marks it is the correction.
-use Rattle.std.proofs.Common.{◌≡◌, ℕ, ◌+◌, ◌-◌, ◌*◌, ◌<◌, ◌≤◌, ◌==◌, ◌||◌, cond, Bool, true, false, List, []}
+use Rattle.std.proofs.Common.{◌≡◌, ℕ, ◌+◌, ◌-◌, ◌*◌, ◌≤◌, ◌==◌, ◌||◌, cond, Bool, true, false, List, []}
 use Rattle.std.proofs.Common.{◌∷◌, length, refl, sym, ap, ap₂, ◌∙◌, arith}
 use Rattle.std.proofs.lemmas.Bool.Decides.{nat_tests}
 use Rattle.dtx_laws.specs.Codeword.{IsCodeword, IsCorrection, distance}
@@ -95,14 +95,6 @@ own_answer n k marks word c l = record {
   mending = own_mending n k marks word c l;
   changed = sym (distance_self word);
 }
-
--- more places marked than there are correction bytes
-pub too_many_marks : (n k : ℕ) (marks : List Bool) (word code : List ℕ) → n - k < lost marks
-    → IsMending n k marks word code → ⊥
-too_many_marks n k marks word code l p = more (n - k) (lost marks) (unmarked_distance marks word code) l p.near
-  where
-    more : (m f e : ℕ) → m < f → 2 * e + f ≤ m → ⊥
-    more m f e l h = omega arith
 
 -- ---- damage
 

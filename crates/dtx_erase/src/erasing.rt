@@ -5,7 +5,7 @@ ghost use Rattle.std.specs.Prelude.{slice_index_or};
 ghost use Rattle.dtx_galois.specs.Field.{AreBytes, pow, value};
 ghost use Rattle.dtx_laws.specs.Codeword.{IsCode, IsCodeword};
 ghost use Rattle.dtx_laws.specs.Correction.{IsCorrected, IsLeft};
-ghost use Rattle.dtx_erase.specs.Mending.{IsDeclined, IsMended, IsMending, IsUnmended, lost};
+ghost use Rattle.dtx_erase.specs.Mending.{IsAnswered, IsDeclined, IsMended, IsMending, lost};
 
 use crate::marks::{first_left, lost, suspects, unmarked_distance};
 use crate::mender::Mend;
@@ -15,7 +15,7 @@ use dtx_laws::correcting::{ROOM, distance, encoded_again};
 use dtx_laws::{Correct, TooMany};
 use dtx_rs::Rs;
 
-/// Mends words of the code of `N` bytes a word with `K` bytes of data. It holds the code's encoder and corrector, 66 KB
+/// Mends words of the code of `N` bytes a word with `K` bytes of data. It holds the code's encoder and corrector, 66 kB
 /// in all, so make one and keep it.
 #[derive(Drop)]
 pub struct Erase<const N: usize, const K: usize> {
@@ -66,8 +66,7 @@ impl<const N: usize, const K: usize> Erase<N, K> {
     /// Mends a word of which no more places are marked than there are correction bytes.
     fn mend_marked(&self, word: &mut [u8; N], marks: &[bool; N]) -> Result<u8, TooMany>
         requires { lost marks.now ≤ N - K }
-        ensures answer { MatchResult result (IsMended N K marks.now word.old word.new)
-            (λ _e. IsUnmended N K marks.now word.old word.new) }
+        ensures answer { IsAnswered N K marks.now word.old word.new result }
         ensures long { length word.new ≡ N }
     {
         let code = encoded_again(&self.encoder, word);

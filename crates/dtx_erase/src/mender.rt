@@ -1,8 +1,8 @@
 //! The trait of what mends words.
 
-ghost use Rattle.std.specs.Prelude.{◌≡◌, MatchResult, length};
+ghost use Rattle.std.specs.Prelude.{◌≡◌, length};
 ghost use Rattle.dtx_laws.specs.Codeword.{IsCode};
-ghost use Rattle.dtx_erase.specs.Mending.{IsMended, IsUnmended};
+ghost use Rattle.dtx_erase.specs.Mending.{IsAnswered};
 
 use dtx_laws::TooMany;
 
@@ -17,7 +17,6 @@ pub trait Mend<const N: usize, const K: usize> {
     /// places where nothing was received, whatever byte stands there. Where there is no mending, the answer is
     /// `TooMany`, and the word stays. `laws::one_answer` says that there is just one such answer.
     fn mend(&self, word: &mut [u8; N], marks: &[bool; N]) -> Result<u8, TooMany>
-        ensures answer { MatchResult result (IsMended N K marks.now word.old word.new)
-            (λ _e. IsUnmended N K marks.now word.old word.new) }
+        ensures answer { IsAnswered N K marks.now word.old word.new result }
         ensures long { length word.new ≡ N };
 }

@@ -8,7 +8,7 @@ ghost use Rattle.dtx_receiver.specs.Packets.{received_by};
 ghost use Rattle.dtx_whiten.specs.Randomizer.{randomizer_bytes};
 ghost use Rattle.dtx_erase.specs.Marks.{is_set};
 ghost use Rattle.dtx_erase.specs.Mended.{mending};
-ghost use Rattle.dtx_erase.specs.Mending.{IsMended, IsUnmended};
+ghost use Rattle.dtx_erase.specs.Mending.{IsAnswered};
 ghost use Rattle.dtx_erase.specs.Sides.{mended_word};
 
 use crate::erasing::Erase;
@@ -98,11 +98,8 @@ impl Words {
     ) -> [Result<u8, TooMany>; 4]
         requires words { (p : ℕ) → p < 4 → length (slice_index_or words.old p []) ≡ CODEWORD }
         requires flags { (p : ℕ) → p < 4 → length (slice_index_or flags.now p []) ≡ CODEWORD }
-        ensures { (p : ℕ) → p < 4 → MatchResult (slice_index_or result p (Ok 0))
-            (IsMended CODEWORD PACKET_DATA (map is_set (slice_index_or flags.now p []))
-            (slice_index_or words.old p []) (slice_index_or words.new p []))
-            (λ _e. IsUnmended CODEWORD PACKET_DATA (map is_set (slice_index_or flags.now p []))
-            (slice_index_or words.old p []) (slice_index_or words.new p [])) }
+        ensures { (p : ℕ) → p < 4 → IsAnswered CODEWORD PACKET_DATA (map is_set (slice_index_or flags.now p []))
+            (slice_index_or words.old p []) (slice_index_or words.new p []) (slice_index_or result p (Ok 0)) }
     {
         if are_clear(flags) {
             return self.code.correct_four(words);
@@ -116,11 +113,8 @@ impl Words {
         words: &mut [[u8; CODEWORD]; 4],
         flags: &[[u8; CODEWORD]; 4],
     ) -> [Result<u8, TooMany>; 4]
-        ensures { (p : ℕ) → p < 4 → MatchResult (slice_index_or result p (Ok 0))
-            (IsMended CODEWORD PACKET_DATA (map is_set (slice_index_or flags.now p []))
-            (slice_index_or words.old p []) (slice_index_or words.new p []))
-            (λ _e. IsUnmended CODEWORD PACKET_DATA (map is_set (slice_index_or flags.now p []))
-            (slice_index_or words.old p []) (slice_index_or words.new p [])) }
+        ensures { (p : ℕ) → p < 4 → IsAnswered CODEWORD PACKET_DATA (map is_set (slice_index_or flags.now p []))
+            (slice_index_or words.old p []) (slice_index_or words.new p []) (slice_index_or result p (Ok 0)) }
     {
         let mut answers = [Ok(0); 4];
         for p in 0..4 {
@@ -131,9 +125,7 @@ impl Words {
 
     /// Mends a word by its flags.
     fn mend(&self, word: &mut [u8; CODEWORD], flags: &[u8; CODEWORD]) -> Result<u8, TooMany>
-        ensures answer { MatchResult result
-            (IsMended CODEWORD PACKET_DATA (map is_set flags.now) word.old word.new)
-            (λ _e. IsUnmended CODEWORD PACKET_DATA (map is_set flags.now) word.old word.new) }
+        ensures answer { IsAnswered CODEWORD PACKET_DATA (map is_set flags.now) word.old word.new result }
         ensures long { length word.new ≡ CODEWORD }
     {
         self.code.mend(word, &marks_of(flags))
@@ -151,8 +143,7 @@ impl Words {
         requires room { length batch.old.packets.items < MOST_RECEIVED }
         ensures packets { (gathered : List ℕ) (marks : List Bool) → length gathered ≡ CODEWORD
             → length marks ≡ CODEWORD
-            → MatchResult answer (IsMended CODEWORD PACKET_DATA marks gathered word.now)
-            (λ _e. IsUnmended CODEWORD PACKET_DATA marks gathered word.now)
+            → IsAnswered CODEWORD PACKET_DATA marks gathered word.now answer
             → batch.new.packets.items ≡ batch.old.packets.items
             ++ received_by (PACKET_DATA * place) gathered (mending CODEWORD PACKET_DATA marks gathered) ∷ [] }
         ensures one { length batch.new.packets.items ≡ length batch.old.packets.items + 1 }

@@ -121,11 +121,6 @@ pub is_null-as_placeholder : (packet : List ℕ) → is_null packet ≡ true →
 is_null-as_placeholder packet null =
     ne_eqb (pid_of (as_placeholder packet)) 0x1FFF (λ e. absurd (omega (arith, e, pid-as_placeholder packet null)))
 
-pub not_null_placeholder : (packet : List ℕ) → is_placeholder packet ≡ true → is_null packet ≡ false
-unfolding is_placeholder
-not_null_placeholder packet is =
-    ne_eqb (pid_of packet) 0x1FFF (λ e. absurd (omega (arith, e, eqb-true (pid_of packet) 0x1FFA is)))
-
 -- where a field's later part has a packet that may become one or is one, what is placed has a placeholder there
 one_same : (found null held : Bool) (before : List (List ℕ)) (packet : List ℕ) → is_null packet ≡ null
     → is_placeholder packet ≡ held → becomes before packet ≡ (null && not found)

@@ -41,14 +41,3 @@ tally_on giving segments x brought more = same_tally _ _ _ _ _ _ _ _ _ _
     (sym (ap length more ∙ length-append (giving.so_far segments) brought))
     (sym (ap fixed_in more ∙ fixed_in-append (giving.so_far segments) brought))
     (sym (ap flagged_in more ∙ flagged_in-append (giving.so_far segments) brought))
-
--- with the packets that the end brought
-pub tally_ended : (giving : Giving) (segments : List (List ℤ)) (brought : List Received)
-    → giving.all segments ≡ giving.so_far segments ++ brought
-    → tally_with (tally_of segments (giving.so_far segments)) brought ≡ tally_of segments (giving.all segments)
-tally_ended giving segments brought more = same_tally _ _ _ _ _ _ _ _ _ _
-    refl
-    refl
-    (sym (ap length more ∙ length-append (giving.so_far segments) brought))
-    (sym (ap fixed_in more ∙ fixed_in-append (giving.so_far segments) brought))
-    (sym (ap flagged_in more ∙ flagged_in-append (giving.so_far segments) brought))

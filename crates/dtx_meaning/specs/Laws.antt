@@ -11,7 +11,7 @@ use Rattle.dtx_outside.specs.WrittenLaws.{IsSameAt-written}
 use Rattle.dtx_outside.specs.declared.shelf.WriteNo.{WriteNo}
 use Rattle.dtx_outside.specs.declared.shelf.WriteNo.TheVariants as write
 use Rattle.dtx_meaning.specs.Meaning.{Outputs, Meaning, refused, and_then, with_outputs, ArePartWritten, IsNoOutput}
-use Rattle.dtx_meaning.specs.Meaning.{IsWhole, IsBroken, IsCarriedOut, IsAnswered, IsDone}
+use Rattle.dtx_meaning.specs.Meaning.{IsWhole, IsBroken, IsCarriedOut, IsDone}
 use Rattle.dtx_meaning.specs.Status.{IsFault, IsOfBytes, IsOfInput, IsOfInputs, blame_of, ended, of_write}
 use Rattle.dtx_meaning.specs.declared.status.Outcome.{Outcome}
 use Rattle.dtx_meaning.specs.declared.status.Status.{Status}
@@ -92,11 +92,6 @@ carried_fault m start now outcome same fault other = inr (record {
   writing = λ writing. absurd (other writing);
   files = part_of_none m.outputs start now same;
 })
-
--- all was written
-pub carried_whole : (m : Meaning) (start now : Option Files) (outcome : Outcome) → outcome ≡ m.outcome
-    → now ≡ with_outputs m.outputs start → IsCarriedOut m start outcome now
-carried_whole m start now outcome is files = inl (record { answer = is; files = files })
 
 -- a fault, and front parts of some outputs
 pub carried_part : (m : Meaning) (start now : Option Files) (outcome : Outcome) → IsFault outcome.status
@@ -240,17 +235,6 @@ part_of_done m start now status unprinted is = elim is [
   | inr other ↦ elim other [
     | inl faulted ↦ faulted.files
     | inr unprinted ↦ part_of_files m.outputs start now unprinted.files
-  ]
-]
-
--- an answer that is no fault is the meaning's, and its outputs are whole
-pub answer_of_done : (m : Meaning) (start now : Option Files) (status : Status) (unprinted : Type 0)
-    → IsDone m start status unprinted now → (IsFault status → ⊥) → IsAnswered m start status now
-answer_of_done m start now status unprinted is sound = elim is [
-  | inl answered ↦ answered
-  | inr other ↦ elim other [
-    | inl faulted ↦ absurd (sound faulted.fault)
-    | inr alone ↦ absurd (sound (let P : Status → Type 0 = λ s. IsFault s in subst P (sym alone.answer) tt))
   ]
 ]
 

@@ -6,7 +6,7 @@ use std::marker::Model;
 
 /// One entry of damage: `put` stands in place of each of the `count` bytes from `at` on, which of a symbol file are
 /// symbols.
-#[derive(Clone, Copy, Debug, PartialEq, Eq)]
+#[derive(Clone, Copy, PartialEq, Eq)]
 pub struct Damage {
     pub at: u64,
     pub count: u64,
@@ -14,7 +14,7 @@ pub struct Damage {
 }
 
 /// The entries of damage, seen as the list of them.
-#[derive(Debug, Drop)]
+#[derive(Drop)]
 pub struct Damages {
     pub(crate) all: Vec<Damage>,
 }

@@ -2,9 +2,10 @@
 ghost use Rattle.std.specs.Prelude.{◌≡◌, IfOk, IfSome};
 ghost use Rattle.toml.specs.View.{view, table_view};
 ghost use Rattle.dtx_plan.specs.Rows.{IsAnswer};
-ghost use Rattle.dtx_plan.specs.Sound.{IsReceived};
+ghost use Rattle.dtx_plan.specs.Sound.{IsReceived, AreDamages};
 ghost use Rattle.dtx_plan.specs.ReceiveTable as spec;
 
+use crate::damage::Damages;
 use crate::damage_table::damages;
 use crate::event_table::no_stranger;
 use crate::key::PlanKey;
@@ -44,9 +45,15 @@ fn receive_of(
     known(entry, &["from", "damage"], PlanKey::Receive, 0)?;
     let from = Row::new(entry, "from", PlanKey::ReceiveFrom, 0).whole(0, 65535)? as u16;
     no_stranger(from, transmitters, PlanKey::ReceiveFrom, 0)?;
-    let damage = damages(
-        alloc,
-        Row::new(entry, "damage", PlanKey::Damage, 0).array_or_none(MOST_DAMAGES)?,
-    )?;
+    let damage = damage_of(alloc, entry)?;
     Ok(ReceivePlan { from, damage })
+}
+
+/// The damage of what is received, none where it is absent.
+fn damage_of(alloc: Global, entry: &Table) -> Result<Damages, PlanFault>
+    ensures walk { IsAnswer (spec.damage_of (table_view entry.now)) result }
+    ensures sound { IfOk result AreDamages }
+{
+    let items = Row::new(entry, "damage", PlanKey::Damage, 0).array_or_none(MOST_DAMAGES)?;
+    damages(alloc, items)
 }

@@ -16,6 +16,11 @@ use Rattle.dtx_receiver.specs.LevelsLaws.{levels_first, levels_sync, levels_data
 use Rattle.dtx_receiver.specs.Receiver.{AreLevels, Decoding, Decodes}
 use Rattle.dtx_receiver.specs.SegmentsLaws.{Still, still_data, still_sync, first_groups, first_bytes}
 
+-- what is kept, of its parts
+abbrev pub decoding : List ℕ → List ℕ → inner.Kept → ℕ → Decoding
+decoding levels precoder_bits kept turn =
+    record { levels = levels; precoder_bits = precoder_bits; inner = kept; turn = turn }
+
 pub decodes_first : (x : List ℤ) (new : Decoding) → new.precoder_bits ≡ precoder_bits_of (sliced_last x)
     → inner.StandsFor 207 187 52 4 new.inner [] → new.turn ≡ 0 → Decodes new (x ∷ [])
 decodes_first x new f s t = record {

@@ -1,8 +1,12 @@
 -- Which words of a run are complete: those from whose first byte on 53 data segments stand, or 52 where 52 divides its
 -- number.
-use Rattle.std.proofs.Common.{◌≡◌, ◌≢◌, ℕ, ◌+◌, ◌-◌, ◌*◌, ◌%◌, ◌<◌, ◌≤◌, ◌⊎◌, ◌↔◌, nat_lt, true, inl, inr, arith}
+use Rattle.std.proofs.Common.{◌≡◌, ◌≢◌, ℕ, suc, ◌+◌, ◌-◌, ◌*◌, ◌%◌, ◌<◌, ◌≤◌, ◌⊎◌, ◌↔◌, nat_lt, Bool, true, false}
+use Rattle.std.proofs.Common.{cond, List, [], ◌∷◌, ◌++◌, refl, sym, ap, ap₂, ◌∙◌, inl, inr, arith}
+use Rattle.std.specs.List.{filter, range_with_len}
 use Rattle.std.proofs.lemmas.Bool.{cases_lt, cases_eq, lt-ltb, ltb-true}
-use Rattle.dtx_lists.proofs.Range.{list_all-range_at, list_all-range_from}
+use Rattle.std.proofs.lemmas.List.Elements.{filter-append}
+use Rattle.dtx_lists.proofs.Range.{list_all-range_at, list_all-range_from, range_with_len-parts}
+use Rattle.dtx_lists.proofs.RangeFilter.{filter-range_all, filter-range_none}
 use Rattle.dtx_outer.specs.Inner.{codeword_byte_place, IsComplete}
 use Rattle.dtx_receiver.specs.Packets.{is_complete}
 
@@ -56,3 +60,56 @@ complete_only s k c = by_least (cases_eq (k % 52) 0) (cases_lt s (k + 53))
     by_least e (inr h) = inl h
     by_least (inl z) (inl h) = inr (omega (arith, least), z)
     by_least (inr z) (inl h) = inl (omega (arith, more z))
+
+-- ---- which of a run's words are complete, in order
+
+told_complete : (s k : ℕ) → (k + 53 ≤ s) ⊎ ((k + 52 ≡ s) × (k % 52 ≡ 0)) → is_complete (207 * s) k ≡ true
+told_complete s k h = (complete_told (207 * s) k).1 (complete_all s k h)
+
+told_other : (s k : ℕ) → ((k + 53 ≤ s) ⊎ ((k + 52 ≡ s) × (k % 52 ≡ 0)) → ⊥) → is_complete (207 * s) k ≡ false
+told_other s k h = by_cases (is_complete (207 * s) k) (λ e. h (complete_only s k ((complete_told (207 * s) k).0 e)))
+  where
+    by_cases : (t : Bool) → (t ≡ true → ⊥) → t ≡ false
+    by_cases true n = absurd (n refl)
+    by_cases false n = refl
+
+all_early : (s : ℕ) → filter (is_complete (207 * s)) (range_with_len 0 (s - 52)) ≡ range_with_len 0 (s - 52)
+all_early s = filter-range_all (is_complete (207 * s)) 0 (s - 52) (λ k l m. told_complete s k (inl (omega arith)))
+
+pub complete_parts : (s : ℕ) → filter (is_complete (207 * s)) (range_with_len 0 s) ≡ range_with_len 0 (s - 52)
+    ++ filter (is_complete (207 * s)) (range_with_len (s - 52) (s - (s - 52)))
+complete_parts s =
+    let e : s - 52 + (s - (s - 52)) ≡ s = omega arith in
+    let z : 0 + (s - 52) ≡ s - 52 = omega arith in
+    ap (λ n. filter (is_complete (207 * s)) (range_with_len 0 n)) (sym e)
+    ∙ ap (filter (is_complete (207 * s))) (range_with_len-parts 0 (s - 52) (s - (s - 52)))
+    ∙ filter-append (is_complete (207 * s)) (range_with_len 0 (s - 52)) (range_with_len (0 + (s - 52)) (s - (s - 52)))
+    ∙ ap₂ (λ xs a. xs ++ filter (is_complete (207 * s)) (range_with_len a (s - (s - 52)))) (all_early s) z
+
+-- where a word becomes complete at the end, and where none does
+pub complete_last : (s : ℕ) → 52 ≤ s → s % 52 ≡ 0
+    → filter (is_complete (207 * s)) (range_with_len (s - 52) (s - (s - 52))) ≡ (s - 52) ∷ []
+complete_last s l e =
+    let n : s - (s - 52) ≡ suc 51 = omega arith in
+    ap (λ i. filter (is_complete (207 * s)) (range_with_len (s - 52) i)) n
+    ∙ ap (λ b. cond b ((s - 52) ∷ rest) rest) (told_complete s (s - 52) (inr (omega arith, omega arith)))
+    ∙ ap (λ xs. (s - 52) ∷ xs) (filter-range_none (is_complete (207 * s)) (s - 52 + 1) 51
+    (λ k a b. told_other s k (λ h. no k a h)))
+  where
+    rest : List ℕ
+    rest = filter (is_complete (207 * s)) (range_with_len (s - 52 + 1) 51)
+
+    no : (k : ℕ) → s - 52 + 1 ≤ k → (k + 53 ≤ s) ⊎ ((k + 52 ≡ s) × (k % 52 ≡ 0)) → ⊥
+    no k a (inl h) = omega arith
+    no k a (inr h) = omega (arith, h.0)
+
+pub complete_none : (s : ℕ) → (s < 52) ⊎ (s % 52 ≢ 0)
+    → filter (is_complete (207 * s)) (range_with_len (s - 52) (s - (s - 52))) ≡ []
+complete_none s c =
+    filter-range_none (is_complete (207 * s)) (s - 52) (s - (s - 52)) (λ k a b. told_other s k (λ h. no c k a h))
+  where
+    no : (s < 52) ⊎ (s % 52 ≢ 0) → (k : ℕ) → s - 52 ≤ k → (k + 53 ≤ s) ⊎ ((k + 52 ≡ s) × (k % 52 ≡ 0)) → ⊥
+    no (inl l) k a (inl h) = omega arith
+    no (inl l) k a (inr h) = omega (arith, h.0)
+    no (inr n) k a (inl h) = omega arith
+    no (inr n) k a (inr h) = n (omega (arith, h.0, h.1))

@@ -1,14 +1,12 @@
 -- The packets of a run by how many data segments are in whole groups: those that are given while it is on, and the last
 -- one.
-use Rattle.std.proofs.Common.{◌≡◌, ◌≢◌, ℕ, suc, ◌+◌, ◌-◌, ◌*◌, ◌/◌, ◌%◌, ◌<◌, ◌≤◌, ◌⊎◌, Bool, true, false}
-use Rattle.std.proofs.Common.{cond, List, [], ◌∷◌, ◌++◌, map, length, take, drop}
-use Rattle.std.proofs.Common.{refl, sym, ap, ap₂, ◌∙◌, subst, inl, inr, arith, lit<}
+use Rattle.std.proofs.Common.{◌≡◌, ◌≢◌, ℕ, ◌+◌, ◌-◌, ◌*◌, ◌/◌, ◌%◌, ◌<◌, ◌≤◌, ◌⊎◌}
+use Rattle.std.proofs.Common.{List, [], ◌∷◌, ◌++◌, map, length, take, drop}
+use Rattle.std.proofs.Common.{refl, sym, ap, ◌∙◌, subst, inl, inr, arith, lit<}
 use Rattle.std.specs.List.{filter, range_with_len}
 use Rattle.std.proofs.lemmas.Bool.{cases_eq, cases_lt}
 use Rattle.std.proofs.lemmas.List.{length-append, append-nil, map-append, append_assoc, length-take-le}
 use Rattle.std.proofs.lemmas.List.{take-append-drop, nil_from_length}
-use Rattle.std.proofs.lemmas.List.Elements.{filter-append}
-use Rattle.dtx_lists.proofs.Range.{range_with_len-parts}
 use Rattle.dtx_outer.specs.Inner.{waiting, word_at, IsComplete}
 use Rattle.dtx_outer.specs.Made.{made_in}
 use Rattle.dtx_outer.specs.MadeLaws.{next_in, made_more, made_none, made_next}
@@ -16,59 +14,7 @@ use Rattle.dtx_outer.specs.WordsLaws.{waiting_air, word_stays}
 use Rattle.dtx_laws.specs.Words.{correction}
 use Rattle.dtx_receiver.specs.Packets.{is_complete, received_by, received_at, run_packets, early_of}
 use Rattle.dtx_receiver.specs.declared.batch.Received.{Received}
-use Rattle.dtx_receiver.specs.CompleteLaws.{complete_told, complete_all, complete_only}
-use Rattle.dtx_lists.proofs.RangeFilter.{filter-range_all, filter-range_none}
-
-is_true : (s k : ℕ) → (k + 53 ≤ s) ⊎ ((k + 52 ≡ s) × (k % 52 ≡ 0)) → is_complete (207 * s) k ≡ true
-is_true s k h = (complete_told (207 * s) k).1 (complete_all s k h)
-
-is_false : (s k : ℕ) → ((k + 53 ≤ s) ⊎ ((k + 52 ≡ s) × (k % 52 ≡ 0)) → ⊥) → is_complete (207 * s) k ≡ false
-is_false s k h = by_cases (is_complete (207 * s) k) (λ e. h (complete_only s k ((complete_told (207 * s) k).0 e)))
-  where
-    by_cases : (t : Bool) → (t ≡ true → ⊥) → t ≡ false
-    by_cases true n = absurd (n refl)
-    by_cases false n = refl
-
-all_early : (s : ℕ) → filter (is_complete (207 * s)) (range_with_len 0 (s - 52)) ≡ range_with_len 0 (s - 52)
-all_early s = filter-range_all (is_complete (207 * s)) 0 (s - 52) (λ k l m. is_true s k (inl (omega arith)))
-
-parts : (s : ℕ) → filter (is_complete (207 * s)) (range_with_len 0 s) ≡ range_with_len 0 (s - 52)
-    ++ filter (is_complete (207 * s)) (range_with_len (s - 52) (s - (s - 52)))
-parts s =
-    let e : s - 52 + (s - (s - 52)) ≡ s = omega arith in
-    let z : 0 + (s - 52) ≡ s - 52 = omega arith in
-    ap (λ n. filter (is_complete (207 * s)) (range_with_len 0 n)) (sym e)
-    ∙ ap (filter (is_complete (207 * s))) (range_with_len-parts 0 (s - 52) (s - (s - 52)))
-    ∙ filter-append (is_complete (207 * s)) (range_with_len 0 (s - 52)) (range_with_len (0 + (s - 52)) (s - (s - 52)))
-    ∙ ap₂ (λ xs a. xs ++ filter (is_complete (207 * s)) (range_with_len a (s - (s - 52)))) (all_early s) z
-
--- where a packet is given at the end, and where none is
-last_one : (s : ℕ) → 52 ≤ s → s % 52 ≡ 0 → filter (is_complete (207 * s)) (range_with_len (s - 52) (s - (s - 52)))
-    ≡ (s - 52) ∷ []
-last_one s l e =
-    let n : s - (s - 52) ≡ suc 51 = omega arith in
-    ap (λ i. filter (is_complete (207 * s)) (range_with_len (s - 52) i)) n
-    ∙ ap (λ b. cond b ((s - 52) ∷ rest) rest) (is_true s (s - 52) (inr (omega arith, omega arith)))
-    ∙ ap (λ xs. (s - 52) ∷ xs) (filter-range_none (is_complete (207 * s)) (s - 52 + 1) 51
-    (λ k a b. is_false s k (λ h. no k a h)))
-  where
-    rest : List ℕ
-    rest = filter (is_complete (207 * s)) (range_with_len (s - 52 + 1) 51)
-
-    no : (k : ℕ) → s - 52 + 1 ≤ k → (k + 53 ≤ s) ⊎ ((k + 52 ≡ s) × (k % 52 ≡ 0)) → ⊥
-    no k a (inl h) = omega arith
-    no k a (inr h) = omega (arith, h.0)
-
-none_left : (s : ℕ) → (s < 52) ⊎ (s % 52 ≢ 0) → filter (is_complete (207 * s)) (range_with_len (s - 52) (s - (s - 52)))
-    ≡ []
-none_left s c =
-    filter-range_none (is_complete (207 * s)) (s - 52) (s - (s - 52)) (λ k a b. is_false s k (λ h. no c k a h))
-  where
-    no : (s < 52) ⊎ (s % 52 ≢ 0) → (k : ℕ) → s - 52 ≤ k → (k + 53 ≤ s) ⊎ ((k + 52 ≡ s) × (k % 52 ≡ 0)) → ⊥
-    no (inl l) k a (inl h) = omega arith
-    no (inl l) k a (inr h) = omega (arith, h.0)
-    no (inr n) k a (inl h) = omega arith
-    no (inr n) k a (inr h) = n (omega (arith, h.0, h.1))
+use Rattle.dtx_receiver.specs.CompleteLaws.{complete_all, complete_parts, complete_last, complete_none}
 
 numbers : (s : ℕ) → 207 * s / 207 ≡ s
 numbers s = omega arith
@@ -139,7 +85,7 @@ left_of bytes s = map (received_at bytes) (filter (is_complete (207 * s)) (range
 
 pub end_more : (bytes : List ℕ) (s : ℕ) → length bytes ≡ 207 * s → run_packets bytes ≡ early_of bytes ++ left_of bytes s
 end_more bytes s e =
-    by_count bytes s e ∙ ap (map (received_at bytes)) (parts s)
+    by_count bytes s e ∙ ap (map (received_at bytes)) (complete_parts s)
     ∙ map-append (received_at bytes) (range_with_len 0 (s - 52))
     (filter (is_complete (207 * s)) (range_with_len (s - 52) (s - (s - 52))))
     ∙ ap (λ xs. xs ++ left_of bytes s) (sym (early_count bytes s e))
@@ -148,14 +94,14 @@ end_more bytes s e =
 pub end_none : (bytes : List ℕ) (s : ℕ) → length bytes ≡ 207 * s → (s < 52) ⊎ (s % 52 ≢ 0)
     → run_packets bytes ≡ early_of bytes
 end_none bytes s e c =
-    end_more bytes s e ∙ ap (λ xs. early_of bytes ++ map (received_at bytes) xs) (none_left s c)
+    end_more bytes s e ∙ ap (λ xs. early_of bytes ++ map (received_at bytes) xs) (complete_none s c)
     ∙ append-nil (early_of bytes)
 
 pub end_one : (bytes more : List ℕ) (s : ℕ) → length bytes ≡ 207 * s → length more ≡ 207 → 52 ≤ s → s % 52 ≡ 0
     → run_packets bytes ≡ early_of (bytes ++ more)
 end_one bytes more s e f l z =
     end_more bytes s e
-    ∙ ap (λ xs. early_of bytes ++ map (received_at bytes) xs) (last_one s l z)
+    ∙ ap (λ xs. early_of bytes ++ map (received_at bytes) xs) (complete_last s l z)
     ∙ ap (λ (r : Received). early_of bytes ++ r ∷ []) (sym (stays bytes more (s - 52) there))
     ∙ sym (early_next bytes more s e f l)
   where

@@ -1,7 +1,7 @@
 -- The levels that are kept of a run, with one segment more.
 use Rattle.std.proofs.Common.{◌≡◌, ◌≢◌, ℕ, ℤ, ◌+◌, ◌-◌, ◌*◌, ◌/◌, ◌%◌, ◌<◌, ◌≤◌, List, [], ◌∷◌, ◌++◌, length}
 use Rattle.std.proofs.Common.{take, drop, refl, sym, ap, ap₂, ◌∙◌, arith, lit<}
-use Rattle.std.proofs.lemmas.List.{length_push, length-append, length-take-le, take_at, take_all}
+use Rattle.std.proofs.lemmas.List.{length_push, length-append, length-take-le, length-drop, take_at, take_all}
 use Rattle.dtx_slice.specs.Slicing.{sliced_data, sliced_last}
 use Rattle.dtx_slice.specs.Unrolled.{bytes_back, precoder_bits_after, precoder_bits_of}
 use Rattle.dtx_trellis.specs.Pairs.{group_place}
@@ -100,6 +100,35 @@ pub record Whole (x : List ℤ) (kept : List ℕ) (run : List (List ℤ)) (place
   pub segment : length (sliced_data x) ≡ 828
   pub group : length z ≡ 3312
   pub levels : z ≡ take (828 * (place % 4)) kept ++ sliced_data x ++ drop (828 * (place % 4) + 828) kept
+
+-- how many levels there are, those of a segment put among them
+put_long : (n : ℕ) (old more : List ℕ) → length old ≡ 3312 → n < 4 → length more ≡ 828
+    → length (take (828 * n) old ++ more ++ drop (828 * n + 828) old) ≡ 3312
+put_long n old more l small m =
+    let fits : 828 * n ≤ length old = omega (arith, l, small) in
+    length-append (take (828 * n) old ++ more) (drop (828 * n + 828) old)
+    ∙ omega (
+      arith,
+      length-append (take (828 * n) old) more,
+      length-take-le (828 * n) old fits,
+      length-drop (828 * n + 828) old,
+      l,
+      m,
+      small,
+    )
+
+pub whole_now : (x : List ℤ) (kept : List ℕ) (run : List (List ℤ)) (place : ℕ) (z : List ℕ)
+    → length run % 313 ≡ place + 1 → place % 4 + 1 ≡ 4 → length kept ≡ 3312 → length (sliced_data x) ≡ 828
+    → z ≡ take (828 * (place % 4)) kept ++ sliced_data x ++ drop (828 * (place % 4) + 828) kept
+    → Whole x kept run place z
+whole_now x kept run place z due last long segment levels = record {
+  due = due;
+  last = omega (arith, last);
+  long = long;
+  segment = segment;
+  group = ap length levels ∙ put_long (place % 4) kept (sliced_data x) long (omega arith) segment;
+  levels = levels;
+}
 
 whole_levels : (x : List ℤ) (levels precoder_bits : List ℕ) (run : List (List ℤ)) (place : ℕ) (z : List ℕ)
     → Whole x levels run place z → AreLevels levels precoder_bits run

@@ -31,9 +31,6 @@ place_data l n = omega arith
 place_before : (l d : ℕ) → d < l - (l + 312) / 313 → d + d / 312 + 1 < l
 place_before l d h = omega arith
 
-pub place_in_field : (l : ℕ) → l % 313 ≢ 0 → (l - (l + 312) / 313) % 312 + 1 ≡ l % 313
-place_in_field l n = omega arith
-
 -- ---- with one segment more
 
 pub more_data : (run : List (List ℤ)) (x : List ℤ) → length run % 313 ≢ 0

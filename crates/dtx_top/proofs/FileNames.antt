@@ -11,7 +11,7 @@ use Rattle.std.proofs.lemmas.Bool.{cond-false, or_from}
 use Rattle.std.proofs.lemmas.Grind.{flat_map-append}
 use Rattle.std.proofs.lemmas.List.{append-nil, append_assoc}
 use Rattle.std.proofs.lemmas.List.Elements.{All-get_or, All-push, Contains-append_cases}
-use Rattle.std.proofs.lemmas.List.Elements.{Contains-append_left, Contains-push_cases}
+use Rattle.std.proofs.lemmas.List.Elements.{Contains-push_cases}
 use Rattle.std.proofs.lemmas.List.Folds.{find-append, list_any-append}
 use Rattle.std.proofs.lemmas.Option.{get_or_from_slice_get, slice_get_within}
 use Rattle.std.proofs.lemmas.Slice.Eq.{bytes_eq-Decides}
@@ -250,7 +250,7 @@ repeated_past f sent received now name plan network sound small own fed is of_se
     (cond (given feed_name) (Some feed_name) others) own
     ∙ cond-false (given feed_name) (Some feed_name) others fed)
 
--- ---- where none comes twice
+-- ---- a name among others is found there
 
 pub any_of : (earlier : List (List ℕ)) (name : List ℕ) → Contains earlier name
     → list_any (λ first. bytes_eq first name) earlier ≡ true
@@ -273,40 +273,3 @@ any_of (first ∷ earlier) name c = by_place (any_of earlier name) (Contains-app
         → (bytes_eq first name || list_any (λ other. bytes_eq other name) earlier) ≡ true
     by_place later (inl here) = first_is (Contains-push_cases [] first name here)
     by_place later (inr c) = by_test (bytes_eq first name) (later c)
-
--- a name among the earlier ones isn't among the later ones
-none_later : (earlier names : List (List ℕ)) (name : List ℕ) → repeated_after earlier names ≡ None
-    → Contains earlier name → Contains names name → ⊥
-none_later earlier [] name is has c = absurd (omega (arith, c.1))
-none_later earlier (first ∷ names) name is has c =
-    at_test (list_any (λ other. bytes_eq other first) earlier) refl
-    (λ none. none_later (earlier ++ first ∷ []) names name none
-    (Contains-append_left earlier (first ∷ []) name has)) is
-    (Contains-append_cases (first ∷ []) names name c)
-  where
-    first_is : list_any (λ other. bytes_eq other first) earlier ≡ false → Contains [] name ⊎ (first ≡ name) → ⊥
-    first_is no_one (inl c) = absurd (omega (arith, c.1))
-    first_is no_one (inr same) = let some = any_of earlier first (subst (Contains earlier) (sym same) has) in cc
-
-    at_test : (b : Bool) → list_any (λ other. bytes_eq other first) earlier ≡ b
-        → (repeated_after (earlier ++ first ∷ []) names ≡ None → Contains names name → ⊥)
-        → cond b (Some first) (repeated_after (earlier ++ first ∷ []) names) ≡ None
-        → Contains (first ∷ []) name ⊎ Contains names name → ⊥
-    at_test true e later is place = cc
-    at_test false e later is (inl here) = first_is e (Contains-push_cases [] first name here)
-    at_test false e later is (inr c) = later is c
-
--- where no name comes twice the stream isn't the feed
-pub stream_apart : (name : List ℕ) (plan : Plan) (network : NetPlan) → repeated (network_names name plan network) ≡ None
-    → network.stream ≢ feed_name
-stream_apart name plan network none same =
-    none_later (name ∷ network.stream ∷ []) (written_names plan network) network.stream
-    (behind (bytes_eq name network.stream) none) (1, omega arith, refl)
-    (0, omega arith, sym same)
-  where
-    behind : (b : Bool)
-        → cond (b || false) (Some network.stream)
-        (repeated_after (name ∷ network.stream ∷ []) (written_names plan network)) ≡ None
-        → repeated_after (name ∷ network.stream ∷ []) (written_names plan network) ≡ None
-    behind true is = cc
-    behind false is = is

@@ -5,7 +5,6 @@ use Rattle.std.specs.Prelude.{Option, Some, None, IfSome, IfOk, Result, Ok, Err}
 use Rattle.std.specs.Option.{option_map}
 use Rattle.std.specs.FinMap.{get}
 use Rattle.std.proofs.lemmas.List.{append-nil}
-use Rattle.dtx_jobs.specs.PlanFile.{IsPlanRead}
 use Rattle.dtx_make.specs.Made.{made_stream}
 use Rattle.dtx_meaning.specs.Laws.{part_of_none, with_outputs-append}
 use Rattle.dtx_meaning.specs.Meaning.{ArePartWritten, Outputs, with_outputs}
@@ -172,23 +171,6 @@ file_untouched name status (Some held) now same = by_file (get held name)
         → IfSome found (λ bytes. IfOk (plan_of bytes) (λ plan. HasPlanProgress plan plan.net status held now))
     by_file None = tt
     by_file (Some bytes) = by_plan (plan_of bytes)
-
--- the plan was read
-pub file_read : (name : List ℕ) (plan : whole.Plan) (status : Status) (told mid now : Option Files) → mid ≡ told
-    → IfSome told (λ held. IsPlanRead (get held name) 0 (Ok plan))
-    → IfSome mid (λ held. HasPlanProgress plan plan.net status held now)
-    → IfSome told (λ held. HasFileProgress name status held now)
-file_read name plan status None mid now same is progress = tt
-file_read name plan status (Some held) mid now same is progress = by_file (get held name) is
-  where
-    here : HasPlanProgress plan plan.net status held now
-    here = subst (λ f. IfSome f (λ held. HasPlanProgress plan plan.net status held now)) same progress
-
-    by_file : (found : Option (List ℕ)) → IsPlanRead found 0 (Ok plan)
-        → IfSome found (λ bytes. IfOk (plan_of bytes) (λ plan. HasPlanProgress plan plan.net status held now))
-    by_file None is = absurd is
-    by_file (Some bytes) is =
-        subst (λ said. IfOk said (λ plan. HasPlanProgress plan plan.net status held now)) (sym is) here
 
 -- ---- behind the line
 

@@ -3,16 +3,13 @@ use Rattle.std.proofs.lemmas.List.{length-replicate}
 use Rattle.dtx_receiver.specs.Bytes.{groups_of, bytes_in}
 use Rattle.dtx_erase.specs.Sides.{Side, Holds}
 use Rattle.dtx_erase.proofs.Gathered.{gathers_last}
+use Rattle.dtx_erase.proofs.Stands.{side}
 use Rattle.dtx_erase.proofs.side.Side.last_word.Goals as goal
 
 pub returns : goal.returns
 returns c = λ run k d e z.
-    let kept : Side = record {
-      levels = c.self.inside.levels;
-      precoder_bits = c.self.inside.unroll;
-      branches = c.self.inside.gather;
-      gathered = c.self.inside.gathered;
-    } in
+    let old = c.self.inside in
+    let kept = side old.levels old.unroll old.gather old.gathered in
     let here : Holds kept run = subst (λ (k : Side). Holds k run) (sym c.self.view_is) d in
     gathers_last kept.branches kept.gathered (groups_of run) k (bytes_in run) (replicate {A = ℕ} 51 0) c.join.new.out
     here.gathers c.self.told.1 (length-replicate {A = ℕ} 51 0) e z

@@ -1,50 +1,28 @@
-use Rattle.std.proofs.Common.{◌≡◌, ℤ, ◌+◌, ◌%◌, ◌*◌, ◌++◌, List, refl, sym, subst, ◌∙◌, ap, take, drop, length, arith}
+use Rattle.std.proofs.Common.{◌≡◌, ℤ, ◌+◌, ◌%◌, ◌*◌, ◌++◌, List, refl, sym, subst, ◌∙◌, ap, take, drop, arith}
 use Rattle.dtx_slice.specs.Slicing.{sliced_data}
 use Rattle.dtx_receiver.specs.Bytes.{data_count}
 use Rattle.dtx_receiver.specs.SegmentsLaws.{segment_long}
 use Rattle.dtx_erase.specs.Sides.{Side, Holds}
-use Rattle.dtx_receiver.specs.LevelsLaws.{Whole, part_now, not_due_now}
-use Rattle.dtx_erase.proofs.Stands.{put_long, holds_group, holds_data}
+use Rattle.dtx_receiver.specs.LevelsLaws.{whole_now, part_now, not_due_now}
+use Rattle.dtx_erase.proofs.Stands.{side, holds_group, holds_data}
 use Rattle.dtx_erase.proofs.side.Side.take.Goals as goal
 
 pub returns-then-part-eq-GROUP_SEGMENTS-clause-stands : goal.returns-then-part-eq-GROUP_SEGMENTS-clause-stands
 returns-then-part-eq-GROUP_SEGMENTS-clause-stands c = λ run d e.
-    let kept : Side = record {
-      levels = c.self.inside.levels;
-      precoder_bits = c.self.inside.unroll;
-      branches = c.self.inside.gather;
-      gathered = c.self.inside.gathered;
-    } in
+    let old = c.self.inside in
+    let kept = side old.levels old.unroll old.gather old.gathered in
     let here : Holds kept run = subst (λ (k : Side). Holds k run) (sym c.self.view_is) d in
-    let w : Whole c.args.segment.now kept.levels run c.args.place c.put_levels.new.group =
-    record {
-      due = e;
-      last = omega (arith, c.if-part-eq-GROUP_SEGMENTS.true);
-      long = c.self.told.0;
-      segment = segment_long c.args.segment.now c.told-segment;
-      group = ap length c.put_levels.ensures.levels
-          ∙ put_long (c.args.place % 4) c.self.inside.levels (sliced_data c.args.segment.now)
-          c.self.told.0 (omega arith) (segment_long c.args.segment.now c.told-segment);
-      levels =
-          c.put_levels.ensures.levels;
-    } in
+    let w = whole_now c.args.segment.now old.levels run c.args.place c.put_levels.new.group e
+    c.if-part-eq-GROUP_SEGMENTS.true c.self.told.0 (segment_long c.args.segment.now c.told-segment)
+    c.put_levels.ensures.levels in
     holds_group c.args.segment.now kept c.group.new.self run c.args.place c.put_levels.new.group w here c.self.told.1
     c.group.ensures.levels c.group.ensures.precoder_bits c.group.ensures.branches c.group.ensures.gathered
 
 pub returns-else-part-eq-GROUP_SEGMENTS-clause-stands : goal.returns-else-part-eq-GROUP_SEGMENTS-clause-stands
 returns-else-part-eq-GROUP_SEGMENTS-clause-stands c = λ run d e.
-    let kept : Side = record {
-      levels = c.self.inside.levels;
-      precoder_bits = c.self.inside.unroll;
-      branches = c.self.inside.gather;
-      gathered = c.self.inside.gathered;
-    } in
-    let new : Side = record {
-      levels = c.put_levels.new.group;
-      precoder_bits = c.self.inside.unroll;
-      branches = c.self.inside.gather;
-      gathered = c.self.inside.gathered;
-    } in
+    let old = c.self.inside in
+    let kept = side old.levels old.unroll old.gather old.gathered in
+    let new = side c.put_levels.new.group old.unroll old.gather old.gathered in
     let here : Holds kept run = subst (λ (k : Side). Holds k run) (sym c.self.view_is) d in
     let part : data_count run % 4 ≡ c.args.place % 4 = part_now run c.args.place e in
     let x : List ℤ = c.args.segment.now in

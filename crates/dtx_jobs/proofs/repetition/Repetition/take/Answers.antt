@@ -1,4 +1,4 @@
-use Rattle.std.proofs.Common.{◌≡◌, ◌+◌, ◌++◌, ◌∷◌, [], ℤ, List, length, sym, ap, subst, arith}
+use Rattle.std.proofs.Common.{◌≡◌, ◌++◌, ◌∷◌, [], ℤ, List, length, sym, ap, subst, arith}
 use Rattle.std.proofs.lemmas.List.{length_push}
 use Rattle.dtx_exciter.specs.Packets.{group_part}
 use Rattle.dtx_receiver.specs.CountingLaws.{runs_more}

@@ -1,6 +1,5 @@
 use Rattle.std.proofs.Common.{◌≡◌, ◌+◌, ◌*◌, ◌/◌, ◌<◌, ◌++◌, ◌∷◌, ℕ, ℤ, List, [], length, take, drop, get_or, refl, ap}
-use Rattle.std.proofs.Common.{ap₂}
-use Rattle.std.proofs.Common.{sym, subst, ◌∙◌, arith}
+use Rattle.std.proofs.Common.{◌≤◌, ap₂, sym, subst, ◌∙◌, arith}
 use Rattle.std.proofs.lemmas.List.{append-nil}
 use Rattle.dtx_exciter.specs.Packets.{group_part}
 use Rattle.dtx_packets.specs.Chunks.{get_or-first_chunks}
@@ -112,31 +111,29 @@ loop-i-preserved c =
       count = omega (arith, c.take.ensures.count, so_far.count);
     }
 
+-- what holds as far as the units were taken holds of all
+of_all : {i units : ℕ} (long : ℕ) (P : ℕ → Type 0) → units ≤ i → i ≤ units → units ≡ long / 832 → P i
+    → P (long / 832)
+of_all {i} {units} long P past within is = subst P (omega (arith, past, within, is))
+
 pub returns-clause-repeating : goal.returns-clause-repeating
 returns-clause-repeating c = λ s is.
     let bytes = c.args.bytes.now in
-    let all : c.loop-i.i ≡ length bytes / 832 =
-    omega (arith, c.loop-i-test.false, c.loop-i.auto.i-end, c.as_chunks.ensures.front_len) in
-    subst (λ n. IsRepeating c.loop-i.self (s ++ segments_from bytes 0 n)) all (c.loop-i.invariant.repeating s is)
+    of_all (length bytes) (λ n. IsRepeating c.loop-i.self (s ++ segments_from bytes 0 n)) c.loop-i-test.false
+    c.loop-i.auto.i-end c.as_chunks.ensures.front_len (c.loop-i.invariant.repeating s is)
 
 pub returns-clause-sent : goal.returns-clause-sent
 returns-clause-sent c = λ s is.
-    let bytes = c.args.bytes.now in
     let old = c.args.self.now in
-    let all : c.loop-i.i ≡ length bytes / 832 =
-    omega (arith, c.loop-i-test.false, c.loop-i.auto.i-end, c.as_chunks.ensures.front_len) in
-    subst
-    (λ n. sent_over old.address old.delay (lives_so_far (s ++ segments_from bytes 0 n))
-    ≡ sent_over old.address old.delay (lives_so_far s) ++ c.loop-i.self.sending.symbols) all
-    (c.loop-i.invariant.sent s is)
+    of_all (length c.args.bytes.now)
+    (λ n. sent_over old.address old.delay (lives_so_far (s ++ segments_from c.args.bytes.now 0 n))
+    ≡ sent_over old.address old.delay (lives_so_far s) ++ c.loop-i.self.sending.symbols) c.loop-i-test.false
+    c.loop-i.auto.i-end c.as_chunks.ensures.front_len (c.loop-i.invariant.sent s is)
 
 pub returns-clause-logged : goal.returns-clause-logged
 returns-clause-logged c = λ s is.
-    let bytes = c.args.bytes.now in
     let old = c.args.self.now in
-    let all : c.loop-i.i ≡ length bytes / 832 =
-    omega (arith, c.loop-i-test.false, c.loop-i.auto.i-end, c.as_chunks.ensures.front_len) in
-    subst
-    (λ n. logged_over old.address old.delay (lives_so_far (s ++ segments_from bytes 0 n))
-    ≡ logged_over old.address old.delay (lives_so_far s) ++ c.loop-i.self.sending.lines) all
-    (c.loop-i.invariant.logged s is)
+    of_all (length c.args.bytes.now)
+    (λ n. logged_over old.address old.delay (lives_so_far (s ++ segments_from c.args.bytes.now 0 n))
+    ≡ logged_over old.address old.delay (lives_so_far s) ++ c.loop-i.self.sending.lines) c.loop-i-test.false
+    c.loop-i.auto.i-end c.as_chunks.ensures.front_len (c.loop-i.invariant.logged s is)
