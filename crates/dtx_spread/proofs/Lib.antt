@@ -1,5 +1,6 @@
 pub mod Ahead
 pub mod Lying
 mod Steps
-pub mod Laid
+pub mod Left
+pub mod Rows
 pub mod Lent

@@ -1,10 +1,9 @@
 -- A block seen by branches: after one byte, and where its bytes have moved or turned.
-use Rattle.std.proofs.Common.{◌≡◌, ◌≢◌, ℕ, ◌+◌, ◌-◌, ◌*◌, ◌%◌, ◌<◌, ◌≤◌, ◌⊎◌, inl, inr, List, [], ◌∷◌, ◌++◌, length}
+use Rattle.std.proofs.Common.{◌≡◌, ◌≢◌, ℕ, ◌+◌, ◌-◌, ◌*◌, ◌<◌, ◌≤◌, ◌⊎◌, inl, inr, List, [], ◌∷◌, ◌++◌, length}
 use Rattle.std.proofs.Common.{get_or, set, drop, take, map, replicate, sym, ap, subst, ◌∙◌, arith}
 use Rattle.std.specs.List.{range_with_len}
 use Rattle.std.proofs.Common.{mul-le-mul_right}
 use Rattle.std.proofs.lemmas.Bool.{cases_lt, cases_eq}
-use Rattle.std.proofs.lemmas.Nat.{mod-mul-add}
 use Rattle.std.proofs.lemmas.List.{length-set, length-drop, length_push, get_or-set_same, get_or-set_other}
 use Rattle.std.proofs.lemmas.List.{get_or_append_left, get_or_push, get_or-drop, get_or-take, get_or-replicate}
 use Rattle.std.proofs.lemmas.List.{length-replicate, ext_get_or, length-take-le, drop_at}
@@ -12,24 +11,11 @@ use borrow.Rule.Slice.PartMut.{put_mid}
 use Rattle.std.proofs.lemmas.List.FromFn.{get_or-map-range_with_len, length-map-range_with_len}
 use Rattle.dtx_laws.specs.Branches.{Branching, HasWidths, zeroed, aligned, leaving, after_byte}
 use Rattle.dtx_spread.specs.Laid.{ahead, held, lying, following, AreWidths}
-use Rattle.dtx_spread.proofs.Ahead.{ahead_from, ahead_below, ahead_here, ahead_zero, ahead_less, ahead_some}
+use Rattle.dtx_spread.proofs.Ahead.{ahead_from, ahead_below, ahead_here, ahead_zero, ahead_less}
 use Rattle.dtx_spread.proofs.Ahead.{ahead_other, ahead_own}
 
 abbrev view_of : ℕ → List (List ℕ) → Branching
 view_of n ps = record { next = n; lists = ps }
-
--- places of different branches differ
-apart : (b q r k : ℕ) → 0 < r → r < b → r + q * b ≡ k * b → ⊥
-apart b q r k p l e =
-    let s : q * b + r ≡ k * b + 0 = omega (arith, e) in
-    let z : (q * b + r) % b ≡ (k * b + 0) % b = ap (λ n. n % b) s in
-    let y : (q * b + r) % b ≡ r = mod-mul-add q b r l in
-    let x : (k * b + 0) % b ≡ 0 = mod-mul-add k b 0 (omega arith) in
-    omega arith
-
-turns_differ : (b i k : ℕ) → 0 < b → i < k → i * b ≡ k * b → ⊥
-turns_differ b i k p l e = let g : (i + 1) * b ≤ k * b = mul-le-mul_right b (omega arith) in
-    let f : (i + 1) * b ≡ i * b + b = grind arith in omega arith
 
 pub in_turns : (b n : ℕ) → b * n ≡ n * b
 in_turns b n = grind arith
@@ -37,215 +23,205 @@ in_turns b n = grind arith
 pub whole_turns : (b m r : ℕ) → b * m * r ≡ m * r * b
 whole_turns b m r = grind arith
 
-get_or-held : (b : ℕ) (w : ℕ → ℕ) (place next : ℕ) (block : List ℕ) (i j : ℕ) → j < w i
-    → get_or (held b w place next block i) j 0 ≡ get_or block (place + ahead b next i + j * b) 0
-get_or-held b w place next block i j l =
-    get_or-map-range_with_len (λ j. get_or block (place + ahead b next i + j * b) 0) 0 (w i) j j 0 l (omega arith)
+get_or-held : (b : ℕ) (lead w : ℕ → ℕ) (place next : ℕ) (block : List ℕ) (i j : ℕ) → j < w i
+    → get_or (held b lead w place next block i) j 0 ≡ get_or block (place + ahead b next i + (lead i + j) * b) 0
+get_or-held b lead w place next block i j l =
+    get_or-map-range_with_len (λ j. get_or block (place + ahead b next i + (lead i + j) * b) 0) 0 (w i) j j 0 l (omega arith)
 
-length-held : (b : ℕ) (w : ℕ → ℕ) (place next : ℕ) (block : List ℕ) (i : ℕ) → length (held b w place next block i) ≡ w i
-length-held b w place next block i =
-    length-map-range_with_len (λ j. get_or block (place + ahead b next i + j * b) 0) 0 (w i)
+length-held : (b : ℕ) (lead w : ℕ → ℕ) (place next : ℕ) (block : List ℕ) (i : ℕ) → length (held b lead w place next block i) ≡ w i
+length-held b lead w place next block i =
+    length-map-range_with_len (λ j. get_or block (place + ahead b next i + (lead i + j) * b) 0) 0 (w i)
 
-list_at : (b : ℕ) (w : ℕ → ℕ) (place next : ℕ) (block : List ℕ) (i : ℕ) → i < b
-    → get_or (lying b w place next block).lists i [] ≡ held b w place next block i
-list_at b w place next block i l = get_or-map-range_with_len (held b w place next block) 0 b i i [] l (omega arith)
+list_at : (b : ℕ) (lead w : ℕ → ℕ) (place next : ℕ) (block : List ℕ) (i : ℕ) → i < b
+    → get_or (lying b lead w place next block).lists i [] ≡ held b lead w place next block i
+list_at b lead w place next block i l = get_or-map-range_with_len (held b lead w place next block) 0 b i i [] l (omega arith)
 
-length-lists : (b : ℕ) (w : ℕ → ℕ) (place next : ℕ) (block : List ℕ) → length (lying b w place next block).lists ≡ b
-length-lists b w place next block = length-map-range_with_len (held b w place next block) 0 b
+length-lists : (b : ℕ) (lead w : ℕ → ℕ) (place next : ℕ) (block : List ℕ) → length (lying b lead w place next block).lists ≡ b
+length-lists b lead w place next block = length-map-range_with_len (held b lead w place next block) 0 b
 
-pub lying_widths : (b : ℕ) (w : ℕ → ℕ) (place next : ℕ) (block : List ℕ) → next < b
-    → HasWidths b w (lying b w place next block)
-lying_widths b w place next block l = record {
+pub lying_widths : (b : ℕ) (lead w : ℕ → ℕ) (place next : ℕ) (block : List ℕ) → next < b
+    → HasWidths b w (lying b lead w place next block)
+lying_widths b lead w place next block l = record {
   next = l;
-  count = length-lists b w place next block;
-  long = λ i k. ap length (list_at b w place next block i k) ∙ length-held b w place next block i;
+  count = length-lists b lead w place next block;
+  long = λ i k. ap length (list_at b lead w place next block i k) ∙ length-held b lead w place next block i;
 }
 
 -- branches are alike where all their bytes are
-same_held : (b : ℕ) (w : ℕ → ℕ) (place next place' next' : ℕ) (block block' : List ℕ) (i : ℕ)
-    → ((j : ℕ) → j < w i → get_or block (place + ahead b next i + j * b) 0
-    ≡ get_or block' (place' + ahead b next' i + j * b) 0)
-    → held b w place next block i ≡ held b w place' next' block' i
-same_held b w place next place' next' block block' i h =
-    ext_get_or 0 (held b w place next block i) (held b w place' next' block' i) (length-held b w place next block i
-    ∙ sym (length-held b w place' next' block' i))
-    (λ j l. let k : j < w i = omega (arith, l, length-held b w place next block i) in
-    get_or-held b w place next block i j k ∙ h j k ∙ sym (get_or-held b w place' next' block' i j k))
+same_held : (b : ℕ) (lead w : ℕ → ℕ) (place next place' next' : ℕ) (block block' : List ℕ) (i : ℕ)
+    → ((j : ℕ) → j < w i → get_or block (place + ahead b next i + (lead i + j) * b) 0
+    ≡ get_or block' (place' + ahead b next' i + (lead i + j) * b) 0)
+    → held b lead w place next block i ≡ held b lead w place' next' block' i
+same_held b lead w place next place' next' block block' i h =
+    ext_get_or 0 (held b lead w place next block i) (held b lead w place' next' block' i) (length-held b lead w place next block i
+    ∙ sym (length-held b lead w place' next' block' i))
+    (λ j l. let k : j < w i = omega (arith, l, length-held b lead w place next block i) in
+    get_or-held b lead w place next block i j k ∙ h j k ∙ sym (get_or-held b lead w place' next' block' i j k))
 
-same_lists_of : (b : ℕ) (w : ℕ → ℕ) (place next place' next' : ℕ) (block block' : List ℕ)
-    → ((i j : ℕ) → i < b → j < w i → get_or block (place + ahead b next i + j * b) 0
-    ≡ get_or block' (place' + ahead b next' i + j * b) 0)
-    → (lying b w place next block).lists ≡ (lying b w place' next' block').lists
-same_lists_of b w place next place' next' block block' h =
-    ext_get_or [] (lying b w place next block).lists (lying b w place' next' block').lists
-    (length-lists b w place next block ∙ sym (length-lists b w place' next' block'))
-    (λ i l. let k : i < b = omega (arith, l, length-lists b w place next block) in
-    list_at b w place next block i k ∙ same_held b w place next place' next' block block' i (λ j n. h i j k n)
-    ∙ sym (list_at b w place' next' block' i k))
+same_lists_of : (b : ℕ) (lead w : ℕ → ℕ) (place next place' next' : ℕ) (block block' : List ℕ)
+    → ((i j : ℕ) → i < b → j < w i → get_or block (place + ahead b next i + (lead i + j) * b) 0
+    ≡ get_or block' (place' + ahead b next' i + (lead i + j) * b) 0)
+    → (lying b lead w place next block).lists ≡ (lying b lead w place' next' block').lists
+same_lists_of b lead w place next place' next' block block' h =
+    ext_get_or [] (lying b lead w place next block).lists (lying b lead w place' next' block').lists
+    (length-lists b lead w place next block ∙ sym (length-lists b lead w place' next' block'))
+    (λ i l. let k : i < b = omega (arith, l, length-lists b lead w place next block) in
+    list_at b lead w place next block i k ∙ same_held b lead w place next place' next' block block' i (λ j n. h i j k n)
+    ∙ sym (list_at b lead w place' next' block' i k))
 
--- another branch's bytes are not where the next byte is put
-elsewhere : (b : ℕ) (w : ℕ → ℕ) (place next i j : ℕ) → next < b → i < b → i ≢ next
-    → place + ahead b next i + j * b ≢ place + b * w next
-elsewhere b w place next i j p l n e =
-    apart b j (ahead b next i) (w next) (ahead_some b next i p n) (ahead_less b next i p l)
-    (omega (arith, e, in_turns b (w next)))
+-- ---- the next byte, behind those that are held
 
-put_other : (b : ℕ) (w : ℕ → ℕ) (place next : ℕ) (block : List ℕ) (x i j : ℕ) → next < b → i < b → i ≢ next
-    → get_or (set block (place + b * w next) x) (place + 1 + ahead b (following b next) i + j * b) 0
-    ≡ get_or block (place + ahead b next i + j * b) 0
-put_other b w place next block x i j p l n =
-    ap (λ k. get_or (set block (place + b * w next) x) k 0) (omega (arith, ahead_other b next i p l n))
-    ∙ get_or-set_other block (place + b * w next) (place + ahead b next i + j * b) x 0
-    (elsewhere b w place next i j p l n)
-
-next_place : (b place next j : ℕ) → next < b → place + 1 + ahead b (following b next) next + j * b ≡ place + (j + 1) * b
-next_place b place next j p = let f : (j + 1) * b ≡ j * b + b = grind arith in omega (arith, ahead_own b next p)
-
+-- where byte j of the next branch lies
 here : (b place next j : ℕ) → place + ahead b next next + j * b ≡ place + j * b
 here b place next j = omega (arith, ahead_here b next)
 
+next_place : (b place next k j : ℕ) → next < b
+    → place + 1 + ahead b (following b next) next + (k + j) * b ≡ place + (k + (j + 1)) * b
+next_place b place next k j p =
+    let f : (k + (j + 1)) * b ≡ (k + j) * b + b = grind arith in omega (arith, ahead_own b next p)
+
+-- the byte behind all rows
+behind_rows : (b m place k : ℕ) → k ≡ m * (b - 1) → place + k * b ≡ place + b * m * (b - 1)
+behind_rows b m place k e = omega (arith, whole_turns b m (b - 1), ap (λ n. n * b) e)
+
 -- byte j of the branch that has moved on
-put_own : (b : ℕ) (w : ℕ → ℕ) (place next : ℕ) (block : List ℕ) (x j : ℕ) → next < b → place + b * w next < length block
-    → j < w next
-    → get_or (set block (place + b * w next) x) (place + 1 + ahead b (following b next) next + j * b) 0
-    ≡ get_or (drop 1 (held b w place next block next ++ x ∷ [])) j 0
-put_own b w place next block x j p q l =
-    ap (λ k. get_or (set block (place + b * w next) x) k 0) (next_place b place next j p)
-    ∙ by_cases (cases_lt (j + 1) (w next))
-    ∙ sym (get_or-drop 1 (held b w place next block next ++ x ∷ []) j 0
-    ∙ ap (λ k. get_or (held b w place next block next ++ x ∷ []) k 0) (one j))
+own : (b m : ℕ) (lead w : ℕ → ℕ) (place next : ℕ) (block : List ℕ) (x j : ℕ) → AreWidths b m lead w → next < b
+    → x ≡ get_or block (place + b * m * (b - 1)) 0 → j < w next
+    → get_or block (place + 1 + ahead b (following b next) next + (lead next + j) * b) 0
+    ≡ get_or (drop 1 (held b lead w place next block next ++ x ∷ [])) j 0
+own b m lead w place next block x j a p e l =
+    ap (λ k. get_or block k 0) (next_place b place next (lead next) j p) ∙ by_cases (cases_lt (j + 1) (w next))
+    ∙ sym (get_or-drop 1 (held b lead w place next block next ++ x ∷ []) j 0
+    ∙ ap (λ k. get_or (held b lead w place next block next ++ x ∷ []) k 0) (one j))
   where
     one : (j : ℕ) → 1 + j ≡ j + 1
     one j = omega arith
 
     by_cases : (j + 1 < w next) ⊎ (w next ≤ j + 1)
-        → get_or (set block (place + b * w next) x) (place + (j + 1) * b) 0
-        ≡ get_or (held b w place next block next ++ x ∷ []) (j + 1) 0
+        → get_or block (place + (lead next + (j + 1)) * b) 0
+        ≡ get_or (held b lead w place next block next ++ x ∷ []) (j + 1) 0
     by_cases (inl k) =
-        get_or-set_other block (place + b * w next) (place + (j + 1) * b) x 0
-        (λ e. turns_differ b (j + 1) (w next) (omega arith) k (omega (arith, e, in_turns b (w next))))
-        ∙ ap (λ n. get_or block n 0) (sym (here b place next (j + 1)))
-        ∙ sym (get_or_append_left (held b w place next block next) (x ∷ []) 0 (j + 1)
-        (omega (arith, k, length-held b w place next block next)) ∙ get_or-held b w place next block next (j + 1) k)
+        ap (λ n. get_or block n 0) (sym (here b place next (lead next + (j + 1))))
+        ∙ sym (get_or_append_left (held b lead w place next block next) (x ∷ []) 0 (j + 1)
+        (omega (arith, k, length-held b lead w place next block next))
+        ∙ get_or-held b lead w place next block next (j + 1) k)
     by_cases (inr k) =
-        let e : j + 1 ≡ w next = omega arith in
-        ap (λ n. get_or (set block (place + b * w next) x) n 0) (ap (λ n. place + n * b) e
-        ∙ ap (λ n. place + n) (sym (in_turns b (w next))))
-        ∙ get_or-set_same block (place + b * w next) x 0 q
-        ∙ sym (get_or_push (held b w place next block next) x 0 (j + 1) (length-held b w place next block next ∙ sym e))
+        let f : j + 1 ≡ w next = omega arith in
+        ap (λ n. get_or block n 0) (behind_rows b m place (lead next + (j + 1)) (omega (arith, f, a next p)))
+        ∙ sym e
+        ∙ sym (get_or_push (held b lead w place next block next) x 0 (j + 1)
+        (length-held b lead w place next block next ∙ sym f))
 
-moved_on : (b : ℕ) (w : ℕ → ℕ) (place next : ℕ) (block : List ℕ) (x : ℕ) → next < b → place + b * w next < length block
-    → held b w (place + 1) (following b next) (set block (place + b * w next) x) next
-    ≡ drop 1 (held b w place next block next ++ x ∷ [])
-moved_on b w place next block x p q =
-    ext_get_or 0 (held b w (place + 1) (following b next) (set block (place + b * w next) x) next)
-    (drop 1 (held b w place next block next ++ x ∷ []))
-    (length-held b w (place + 1) (following b next) (set block (place + b * w next) x) next ∙ sym long)
-    (λ j l. let k : j < w next = omega (
-      arith,
-      l,
-      length-held b w (place + 1) (following b next) (set block (place + b * w next) x) next,
-    ) in
-    get_or-held b w (place + 1) (following b next) (set block (place + b * w next) x) next j k
-    ∙ put_own b w place next block x j p q k)
+moved_on : (b m : ℕ) (lead w : ℕ → ℕ) (place next : ℕ) (block : List ℕ) (x : ℕ) → AreWidths b m lead w → next < b
+    → x ≡ get_or block (place + b * m * (b - 1)) 0
+    → held b lead w (place + 1) (following b next) block next ≡ drop 1 (held b lead w place next block next ++ x ∷ [])
+moved_on b m lead w place next block x a p e =
+    ext_get_or 0 (held b lead w (place + 1) (following b next) block next)
+    (drop 1 (held b lead w place next block next ++ x ∷ []))
+    (length-held b lead w (place + 1) (following b next) block next ∙ sym long)
+    (λ j l. let k : j < w next =
+    omega (arith, l, length-held b lead w (place + 1) (following b next) block next) in
+    get_or-held b lead w (place + 1) (following b next) block next j k
+    ∙ own b m lead w place next block x j a p e k)
   where
-    long : length (drop 1 (held b w place next block next ++ x ∷ [])) ≡ w next
-    long = length-drop 1 (held b w place next block next ++ x ∷ [])
-        ∙ omega (arith, length_push (held b w place next block next) x, length-held b w place next block next)
+    long : length (drop 1 (held b lead w place next block next ++ x ∷ [])) ≡ w next
+    long = length-drop 1 (held b lead w place next block next ++ x ∷ [])
+        ∙ omega (arith, length_push (held b lead w place next block next) x, length-held b lead w place next block next)
 
--- the branches after one byte
-pub lying_byte : (b : ℕ) (w : ℕ → ℕ) (place next : ℕ) (block : List ℕ) (x : ℕ) → next < b
-    → place + b * w next < length block
-    → lying b w (place + 1) (following b next) (set block (place + b * w next) x)
-    ≡ after_byte b (lying b w place next block) x
-lying_byte b w place next block x p q = ap (view_of (following b next)) lists
+-- the branches after one byte: the same block, seen from one place on
+pub lying_byte : (b m : ℕ) (lead w : ℕ → ℕ) (place next : ℕ) (block : List ℕ) (x : ℕ) → AreWidths b m lead w → next < b
+    → x ≡ get_or block (place + b * m * (b - 1)) 0
+    → lying b lead w (place + 1) (following b next) block ≡ after_byte b (lying b lead w place next block) x
+lying_byte b m lead w place next block x a p e = ap (view_of (following b next)) lists
   where
+    nearer : (i c : ℕ) → i < b → i ≢ next
+        → get_or block (place + 1 + ahead b (following b next) i + c) 0 ≡ get_or block (place + ahead b next i + c) 0
+    nearer i c l n = ap (λ k. get_or block (k + c) 0) (omega (arith, ahead_other b next i p l n))
+
     by_cases : (i : ℕ) → i < b → (i ≡ next) ⊎ (i ≡ next → ⊥)
-        → held b w (place + 1) (following b next) (set block (place + b * w next) x) i
-        ≡ get_or (set (lying b w place next block).lists next
-        (drop 1 (get_or (lying b w place next block).lists next [] ++ x ∷ []))) i []
-    by_cases i l (inl e) =
-        subst (λ (k : ℕ). held b w (place + 1) (following b next) (set block (place + b * w next) x) k
-        ≡ get_or (set (lying b w place next block).lists next
-        (drop 1 (get_or (lying b w place next block).lists next [] ++ x ∷ []))) k []) (sym e)
-        (moved_on b w place next block x p q
-        ∙ ap (λ ys. drop 1 (ys ++ x ∷ [])) (sym (list_at b w place next block next p))
-        ∙ sym (get_or-set_same (lying b w place next block).lists next
-        (drop 1 (get_or (lying b w place next block).lists next [] ++ x ∷ [])) []
-        (omega (arith, p, length-lists b w place next block))))
+        → held b lead w (place + 1) (following b next) block i
+        ≡ get_or (set (lying b lead w place next block).lists next
+        (drop 1 (get_or (lying b lead w place next block).lists next [] ++ x ∷ []))) i []
+    by_cases i l (inl f) =
+        subst (λ (k : ℕ). held b lead w (place + 1) (following b next) block k
+        ≡ get_or (set (lying b lead w place next block).lists next
+        (drop 1 (get_or (lying b lead w place next block).lists next [] ++ x ∷ []))) k []) (sym f)
+        (moved_on b m lead w place next block x a p e
+        ∙ ap (λ ys. drop 1 (ys ++ x ∷ [])) (sym (list_at b lead w place next block next p))
+        ∙ sym (get_or-set_same (lying b lead w place next block).lists next
+        (drop 1 (get_or (lying b lead w place next block).lists next [] ++ x ∷ [])) []
+        (omega (arith, p, length-lists b lead w place next block))))
     by_cases i l (inr n) =
-        same_held b w (place + 1) (following b next) place next (set block (place + b * w next) x) block i
-        (λ j k. put_other b w place next block x i j p l n)
-        ∙ sym (list_at b w place next block i l)
-        ∙ sym (get_or-set_other (lying b w place next block).lists next i
-        (drop 1 (get_or (lying b w place next block).lists next [] ++ x ∷ [])) [] n)
+        same_held b lead w (place + 1) (following b next) place next block block i
+        (λ j k. nearer i ((lead i + j) * b) l n)
+        ∙ sym (list_at b lead w place next block i l)
+        ∙ sym (get_or-set_other (lying b lead w place next block).lists next i
+        (drop 1 (get_or (lying b lead w place next block).lists next [] ++ x ∷ [])) [] n)
 
-    lists : (lying b w (place + 1) (following b next) (set block (place + b * w next) x)).lists
-        ≡ set (lying b w place next block).lists next
-        (drop 1 (get_or (lying b w place next block).lists next [] ++ x ∷ []))
+    lists : (lying b lead w (place + 1) (following b next) block).lists
+        ≡ set (lying b lead w place next block).lists next
+        (drop 1 (get_or (lying b lead w place next block).lists next [] ++ x ∷ []))
     lists =
-        ext_get_or [] (lying b w (place + 1) (following b next) (set block (place + b * w next) x)).lists
-        (set (lying b w place next block).lists next
-        (drop 1 (get_or (lying b w place next block).lists next [] ++ x ∷ [])))
-        (length-lists b w (place + 1) (following b next) (set block (place + b * w next) x)
-        ∙ sym (length-set (lying b w place next block).lists next
-        (drop 1 (get_or (lying b w place next block).lists next [] ++ x ∷ [])) ∙ length-lists b w place next block))
-        (λ i l. let k : i < b = omega (
-          arith,
-          l,
-          length-lists b w (place + 1) (following b next)
-              (set block (place + b * w next) x),
-        ) in
-        list_at b w (place + 1) (following b next) (set block (place + b * w next) x) i k
-        ∙ by_cases i k (cases_eq i next))
+        ext_get_or [] (lying b lead w (place + 1) (following b next) block).lists
+        (set (lying b lead w place next block).lists next
+        (drop 1 (get_or (lying b lead w place next block).lists next [] ++ x ∷ [])))
+        (length-lists b lead w (place + 1) (following b next) block
+        ∙ sym (length-set (lying b lead w place next block).lists next
+        (drop 1 (get_or (lying b lead w place next block).lists next [] ++ x ∷ []))
+        ∙ length-lists b lead w place next block))
+        (λ i l. let k : i < b =
+        omega (arith, l, length-lists b lead w (place + 1) (following b next) block) in
+        list_at b lead w (place + 1) (following b next) block i k ∙ by_cases i k (cases_eq i next))
 
 -- the byte that leaves
-pub leaves : (b : ℕ) (w : ℕ → ℕ) (place next : ℕ) (block : List ℕ) (x : ℕ) → next < b
-    → place + b * w next < length block
-    → get_or (set block (place + b * w next) x) place 0 ≡ leaving (lying b w place next block) x
-leaves b w place next block x p q =
-    by_cases (cases_zero (w next)) ∙ ap (λ ys. get_or (ys ++ x ∷ []) 0 0) (sym (list_at b w place next block next p))
+pub leaves : (b m : ℕ) (lead w : ℕ → ℕ) (place next : ℕ) (block : List ℕ) (x : ℕ) → AreWidths b m lead w → next < b
+    → x ≡ get_or block (place + b * m * (b - 1)) 0
+    → get_or block (place + b * lead next) 0 ≡ leaving (lying b lead w place next block) x
+leaves b m lead w place next block x a p e =
+    ap (λ n. get_or block (place + n) 0) (in_turns b (lead next)) ∙ by_cases (cases_zero (w next))
+    ∙ ap (λ ys. get_or (ys ++ x ∷ []) 0 0) (sym (list_at b lead w place next block next p))
   where
     cases_zero : (n : ℕ) → (n ≡ 0) ⊎ (0 < n)
     cases_zero n = grind arith
 
-    by_cases : (w next ≡ 0) ⊎ (0 < w next) → get_or (set block (place + b * w next) x) place 0
-        ≡ get_or (held b w place next block next ++ x ∷ []) 0 0
+    first : (k : ℕ) → k ≡ k + 0
+    first k = omega arith
+
+    by_cases : (w next ≡ 0) ⊎ (0 < w next) → get_or block (place + lead next * b) 0
+        ≡ get_or (held b lead w place next block next ++ x ∷ []) 0 0
     by_cases (inl z) =
-        let y : b * w next ≡ 0 * b = in_turns b (w next) ∙ ap (λ n. n * b) z in
-        let e : place ≡ place + b * w next = omega (arith, y) in
-        ap (λ n. get_or (set block (place + b * w next) x) n 0) e
-        ∙ get_or-set_same block (place + b * w next) x 0 q
-        ∙ sym (get_or_push (held b w place next block next) x 0 0 (length-held b w place next block next ∙ z))
+        ap (λ n. get_or block n 0) (behind_rows b m place (lead next) (omega (arith, z, a next p)))
+        ∙ sym e
+        ∙ sym (get_or_push (held b lead w place next block next) x 0 0
+        (length-held b lead w place next block next ∙ z))
     by_cases (inr k) =
-        get_or-set_other block (place + b * w next) place x 0
-        (λ e. turns_differ b 0 (w next) (omega arith) k (omega (arith, e, in_turns b (w next))))
-        ∙ ap (λ n. get_or block n 0) (omega (arith, here b place next 0))
-        ∙ sym (get_or_append_left (held b w place next block next) (x ∷ []) 0 0
-        (omega (arith, k, length-held b w place next block next)) ∙ get_or-held b w place next block next 0 k)
+        ap (λ n. get_or block n 0) (ap (λ n. place + n * b) (first (lead next))
+        ∙ sym (here b place next (lead next + 0)))
+        ∙ sym (get_or_append_left (held b lead w place next block next) (x ∷ []) 0 0
+        (omega (arith, k, length-held b lead w place next block next))
+        ∙ get_or-held b lead w place next block next 0 k)
 
 -- ---- the block moved, and turned
 
 -- each byte that a branch holds lies within the first b * m * (b - 1) from the place on
-pub within_held : (b m : ℕ) (w : ℕ → ℕ) (next i j : ℕ) → AreWidths b m w → next < b → i < b → j < w i
-    → ahead b next i + j * b < b * m * (b - 1)
-within_held b m w next i j a p l k =
-    let h : w i ≤ m * (b - 1) = a i l in
-    let g : (j + 1) * b ≤ m * (b - 1) * b = mul-le-mul_right b (omega arith) in
-    let f : (j + 1) * b ≡ j * b + b = grind arith in
+pub within_held : (b m : ℕ) (lead w : ℕ → ℕ) (next i j : ℕ) → AreWidths b m lead w → next < b → i < b → j < w i
+    → ahead b next i + (lead i + j) * b < b * m * (b - 1)
+within_held b m lead w next i j a p l k =
+    let h : lead i + w i ≡ m * (b - 1) = a i l in
+    let g : (lead i + j + 1) * b ≤ m * (b - 1) * b = mul-le-mul_right b (omega arith) in
+    let f : (lead i + j + 1) * b ≡ (lead i + j) * b + b = grind arith in
     let e : b * m * (b - 1) ≡ m * (b - 1) * b = whole_turns b m (b - 1) in
     omega (arith, ahead_less b next i p l)
 
 -- the branches where their bytes have moved
-pub lying_moved : (b m : ℕ) (w : ℕ → ℕ) (place next place' : ℕ) (block block' : List ℕ) → AreWidths b m w → next < b
-    → place + b * m * (b - 1) ≤ length block
-    → take (b * m * (b - 1)) (drop place' block') ≡ take (b * m * (b - 1)) (drop place block)
-    → lying b w place' next block' ≡ lying b w place next block
-lying_moved b m w place next place' block block' a p h e =
-    ap (view_of next) (same_lists_of b w place' next place next block' block
-    (λ i j l k. read place' block' (ahead b next i) (j * b) (within_held b m w next i j a p l k)
-    ∙ ap (λ ys. get_or ys (ahead b next i + j * b) 0) e
-    ∙ sym (read place block (ahead b next i) (j * b) (within_held b m w next i j a p l k))))
+pub lying_moved : (b m : ℕ) (lead w : ℕ → ℕ) (place next place' : ℕ) (block block' : List ℕ) → AreWidths b m lead w
+    → next < b → take (b * m * (b - 1)) (drop place' block') ≡ take (b * m * (b - 1)) (drop place block)
+    → lying b lead w place' next block' ≡ lying b lead w place next block
+lying_moved b m lead w place next place' block block' a p e =
+    ap (view_of next) (same_lists_of b lead w place' next place next block' block
+    (λ i j l k. read place' block' (ahead b next i) ((lead i + j) * b) (within_held b m lead w next i j a p l k)
+    ∙ ap (λ ys. get_or ys (ahead b next i + (lead i + j) * b) 0) e
+    ∙ sym (read place block (ahead b next i) ((lead i + j) * b) (within_held b m lead w next i j a p l k))))
   where
     read : (at : ℕ) (xs : List ℕ) (r s : ℕ) → r + s < b * m * (b - 1)
         → get_or xs (at + r + s) 0 ≡ get_or (take (b * m * (b - 1)) (drop at xs)) (r + s) 0
@@ -256,35 +232,34 @@ lying_moved b m w place next place' block block' a p h e =
         plus a r s = omega arith
 
 -- the branches where each b bytes have turned by `next`
-pub lying_turned : (b m : ℕ) (w : ℕ → ℕ) (place next : ℕ) (block block' : List ℕ) → AreWidths b m w → next < b
+pub lying_turned : (b m : ℕ) (lead w : ℕ → ℕ) (place next : ℕ) (block block' : List ℕ) → AreWidths b m lead w
     → ((i j : ℕ) → i < b → j < m * (b - 1)
     → get_or block' (place + i + j * b) 0 ≡ get_or block (place + ahead b next i + j * b) 0)
-    → lying b w place 0 block' ≡ aligned (lying b w place next block)
-lying_turned b m w place next block block' a p h =
-    ap (view_of 0) (same_lists_of b w place 0 place next block' block
-    (λ i j l k. ap (λ n. get_or block' (place + n + j * b) 0) (ahead_zero b i) ∙ h i j l (rows i j l k)))
-  where
-    rows : (i j : ℕ) → i < b → j < w i → j < m * (b - 1)
-    rows i j l k = let t : w i ≤ m * (b - 1) = a i l in omega arith
+    → lying b lead w place 0 block' ≡ aligned (lying b lead w place next block)
+lying_turned b m lead w place next block block' a h =
+    ap (view_of 0) (same_lists_of b lead w place 0 place next block' block
+    (λ i j l k. ap (λ n. get_or block' (place + n + (lead i + j) * b) 0) (ahead_zero b i)
+    ∙ h i (lead i + j) l (omega (arith, k, a i l))))
 
 -- zeros in every branch
-pub lying_of_zeros : (b m : ℕ) (w : ℕ → ℕ) (n : ℕ) (block : List ℕ) → AreWidths b m w → 0 < b → b * m * (b - 1) ≤ n
-    → block ≡ replicate n 0 → lying b w 0 0 block ≡ zeroed b w
+pub lying_of_zeros : (b m : ℕ) (lead w : ℕ → ℕ) (n : ℕ) (block : List ℕ) → AreWidths b m lead w → 0 < b
+    → b * m * (b - 1) ≤ n → block ≡ replicate n 0 → lying b lead w 0 0 block ≡ zeroed b w
 unfolding zeroed
-lying_of_zeros b m w n block a p h e = ap (view_of 0)
-    (ext_get_or [] (lying b w 0 0 block).lists (map (λ i. replicate (w i) 0) (range_with_len 0 b))
-    (length-lists b w 0 0 block ∙ sym (length-map-range_with_len (λ i. replicate (w i) 0) 0 b))
-    (λ i l. let k : i < b = omega (arith, l, length-lists b w 0 0 block) in
-    list_at b w 0 0 block i k ∙ zeros i k
+lying_of_zeros b m lead w n block a p h e = ap (view_of 0)
+    (ext_get_or [] (lying b lead w 0 0 block).lists (map (λ i. replicate (w i) 0) (range_with_len 0 b))
+    (length-lists b lead w 0 0 block ∙ sym (length-map-range_with_len (λ i. replicate (w i) 0) 0 b))
+    (λ i l. let k : i < b = omega (arith, l, length-lists b lead w 0 0 block) in
+    list_at b lead w 0 0 block i k ∙ zeros i k
     ∙ sym (get_or-map-range_with_len (λ i. replicate (w i) 0) 0 b i i [] k (omega arith))))
   where
-    zeros : (i : ℕ) → i < b → held b w 0 0 block i ≡ replicate (w i) 0
+    zeros : (i : ℕ) → i < b → held b lead w 0 0 block i ≡ replicate (w i) 0
     zeros i l =
-        ext_get_or 0 (held b w 0 0 block i) (replicate (w i) 0) (length-held b w 0 0 block i
+        ext_get_or 0 (held b lead w 0 0 block i) (replicate (w i) 0) (length-held b lead w 0 0 block i
         ∙ sym (length-replicate {A = ℕ} (w i) 0))
-        (λ j q. let k : j < w i = omega (arith, q, length-held b w 0 0 block i) in
-        get_or-held b w 0 0 block i j k ∙ ap (λ ys. get_or ys (0 + ahead b 0 i + j * b) 0) e
-        ∙ get_or-replicate {A = ℕ} n (0 + ahead b 0 i + j * b) 0 0 (omega (arith, h, within_held b m w 0 i j a p l k))
+        (λ j q. let k : j < w i = omega (arith, q, length-held b lead w 0 0 block i) in
+        get_or-held b lead w 0 0 block i j k ∙ ap (λ ys. get_or ys (0 + ahead b 0 i + (lead i + j) * b) 0) e
+        ∙ get_or-replicate {A = ℕ} n (0 + ahead b 0 i + (lead i + j) * b) 0 0
+        (omega (arith, h, within_held b m lead w 0 i j a p l k))
         ∙ sym (get_or-replicate {A = ℕ} (w i) j 0 0 k))
 
 -- ---- rows turned, one after another
@@ -314,6 +289,13 @@ turn_more_rows b place next row old cur new done others turned before i j l k = 
       where
         last : (row j : ℕ) → row ≤ j → j < row + 1 → row ≡ j
         last row j h k = omega arith
+
+-- a row of those that are held lies within the block
+pub row_within : (b m row place n : ℕ) → row < m * (b - 1) → place + b * m * (b - 1) ≤ n → place + row * b + b ≤ n
+row_within b m row place n l h =
+    let g : (row + 1) * b ≤ m * (b - 1) * b = mul-le-mul_right b (omega arith) in
+    let f : (row + 1) * b ≡ row * b + b = grind arith in
+    omega (arith, whole_turns b m (b - 1))
 
 pub row_next : (b row : ℕ) → (row + 1) * b ≡ row * b + b
 row_next b row = grind arith

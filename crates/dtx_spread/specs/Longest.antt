@@ -1,12 +1,14 @@
--- No branch holds more than the longest one. It stands here since the ghost members of an impl, a trait's laws, cite
--- lemmas of specs/ alone.
-use Rattle.std.proofs.Common.{ℕ, ◌-◌, ◌≤◌, arith}
-use Rattle.std.proofs.Common.{mul-le-mul_left}
+-- What one way holds of each branch is what the other way lacks of the longest. It stands here since the ghost members
+-- of an impl, a trait's laws, cite lemmas of specs/ alone.
+use Rattle.std.proofs.Common.{◌≡◌, ℕ, ◌+◌, ◌-◌, ◌*◌, ap, ◌∙◌, arith}
 use Rattle.dtx_laws.specs.Branches.{spreading, gathering}
 use Rattle.dtx_spread.specs.Laid.{AreWidths}
 
-pub spreading_widths : (b m : ℕ) → AreWidths b m (spreading m)
-spreading_widths b m = λ i l. let h : i ≤ b - 1 = omega arith in mul-le-mul_left m h
+both : (m i k : ℕ) → m * i + m * k ≡ m * (i + k)
+both m i k = grind arith
 
-pub gathering_widths : (b m : ℕ) → AreWidths b m (gathering b m)
-gathering_widths b m = λ i l. let h : b - 1 - i ≤ b - 1 = omega arith in mul-le-mul_left m h
+pub spreading_widths : (b m : ℕ) → AreWidths b m (gathering b m) (spreading m)
+spreading_widths b m = λ i l. both m (b - 1 - i) i ∙ ap (λ n. m * n) (omega arith)
+
+pub gathering_widths : (b m : ℕ) → AreWidths b m (spreading m) (gathering b m)
+gathering_widths b m = λ i l. both m i (b - 1 - i) ∙ ap (λ n. m * n) (omega arith)

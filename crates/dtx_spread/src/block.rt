@@ -1,8 +1,8 @@
-//! The block in which the bytes of branches lie, in the order in which they leave.
+//! The block in which the bytes of branches lie, in the order in which they came.
 
-ghost use Rattle.std.specs.Prelude.{◌≡◌, ℕ, ◌+◌, ◌-◌, ◌*◌, ◌<◌, ◌≤◌, IsTrue, length, take, drop, slice_index};
+ghost use Rattle.std.specs.Prelude.{◌≡◌, ℕ, ◌+◌, ◌-◌, ◌*◌, ◌%◌, ◌<◌, ◌≤◌, length, take, drop, slice_index};
 ghost use Rattle.dtx_laws.specs.Branches.{IsInterleaver};
-ghost use Rattle.dtx_spread.specs.Laid.{ahead, laid, turn_after};
+ghost use Rattle.dtx_spread.specs.Laid.{ahead, AreOfRow, AreLeft};
 
 use crate::widths::Widths;
 
@@ -20,7 +20,7 @@ pub(crate) fn make_room(block: &mut [u8], place: usize, held: usize, len: usize)
     0
 }
 
-/// Lays the bytes into the block, replaces them by those that leave, and gives the next branch.
+/// Puts the bytes behind those that are held, replaces them by those that leave, and gives the next branch.
 pub(crate) fn through<W: Widths<B, M>, const B: usize, const M: usize>(
     block: &mut [u8],
     place: usize,
@@ -30,85 +30,122 @@ pub(crate) fn through<W: Widths<B, M>, const B: usize, const M: usize>(
     requires numbers { IsInterleaver B M }
     requires below { next < B }
     requires room { place + length bytes.old + B * M * (B - 1) ≤ length block.old }
-    ensures block { block.new ≡ laid B W.widths place next bytes.old block.old }
-    ensures bytes { bytes.new ≡ take (length bytes.old) (drop place (laid B W.widths place next bytes.old block.old)) }
-    ensures turn { result ≡ turn_after B next bytes.old }
+    ensures held { take (B * M * (B - 1)) (drop place block.new) ≡ take (B * M * (B - 1)) (drop place block.old) }
+    ensures put { take (length bytes.old) (drop (place + B * M * (B - 1)) block.new) ≡ bytes.old }
+    ensures left { AreLeft B W.lead block.new place next (length bytes.old) bytes.new }
+    ensures turn { result ≡ (next + length bytes.old) % B }
 {
-    let turn = lay::<W, B, M>(block, place, next, bytes);
-    bytes.copy_from_slice(&block[place..place + bytes.len()]);
-    turn
+    let end = place + B * M * (B - 1);
+    block[end..end + bytes.len()].copy_from_slice(bytes);
+    leave::<W, B, M>(block, place, next, bytes)
 }
 
-/// Lays the bytes into the block, and gives the next branch.
-fn lay<W: Widths<B, M>, const B: usize, const M: usize>(
-    block: &mut [u8],
+/// Replaces the bytes by those that leave, and gives the next branch.
+fn leave<W: Widths<B, M>, const B: usize, const M: usize>(
+    block: &[u8],
     place: usize,
     next: usize,
-    bytes: &[u8],
+    bytes: &mut [u8],
 ) -> usize
     requires numbers { IsInterleaver B M }
     requires below { next < B }
-    requires room { place + length bytes.now + B * M * (B - 1) ≤ length block.old }
-    ensures block { block.new ≡ laid B W.widths place next bytes.now block.old }
-    ensures turn { result ≡ turn_after B next bytes.now }
+    requires room { place + length bytes.old + B * M * (B - 1) ≤ length block.now }
+    ensures left { AreLeft B W.lead block.now place next (length bytes.old) bytes.new }
+    ensures turn { result ≡ (next + length bytes.old) % B }
 {
     let mut turn = next;
     let mut done = 0;
     while done < bytes.len() {
-        let (count, after) = lay_next::<W, B, M>(block, place + done, turn, &bytes[done..]);
+        let (count, after) =
+            leave_next::<W, B, M>(block, place + done, turn, &mut bytes[done..]);
         done += count;
         turn = after;
     }
     turn
 }
 
-/// Lays the bytes up to the last branch, or all where there are fewer. Gives how many it laid, and the next branch. A
-/// row of one byte for each branch has a call of its own, in which its length is known before the program runs.
-fn lay_next<W: Widths<B, M>, const B: usize, const M: usize>(
-    block: &mut [u8],
+/// Replaces the bytes up to the last branch, or all where there are fewer. Gives how many it replaced, and the next
+/// branch. A row of one byte for each branch has a call of its own, in which its length is known before the program
+/// runs.
+fn leave_next<W: Widths<B, M>, const B: usize, const M: usize>(
+    block: &[u8],
     place: usize,
     turn: usize,
-    bytes: &[u8],
+    bytes: &mut [u8],
 ) -> (usize, usize)
     requires numbers { IsInterleaver B M }
     requires below { turn < B }
-    requires some { 0 < length bytes.now }
-    requires room { place + length bytes.now + B * M * (B - 1) ≤ length block.old }
+    requires some { 0 < length bytes.old }
+    requires room { place + length bytes.old + B * M * (B - 1) ≤ length block.now }
     ensures some { 0 < result.0 }
-    ensures within { result.0 ≤ length bytes.now }
-    ensures block { block.new ≡ laid B W.widths place turn (take result.0 bytes.now) block.old }
-    ensures turn { result.1 ≡ turn_after B turn (take result.0 bytes.now) }
+    ensures within { result.0 ≤ length bytes.old }
+    ensures row { turn + result.0 ≤ B }
+    ensures left { AreOfRow B W.lead block.now place turn result.0 bytes.new }
+    ensures turn { result.1 ≡ (turn + result.0) % B }
 {
     if turn == 0 && B <= bytes.len() {
-        return (B, lay_part::<W, B, M>(block, place, 0, &bytes[..B]));
+        leave_row::<W, B, M>(block, place, &mut bytes[..B]);
+        return (B, 0);
     }
     let count = (B - turn).min(bytes.len());
-    (
-        count,
-        lay_part::<W, B, M>(block, place, turn, &bytes[..count]),
-    )
+    leave_part::<W, B, M>(block, place, turn, &mut bytes[..count]);
+    let after = turn + count;
+    (count, if after == B { 0 } else { after })
 }
 
-/// Lays one byte for each branch from branch `turn` on, and gives the next branch.
+/// Replaces a row by the bytes that leave, eight at a time.
 #[inline(always)]
-fn lay_part<W: Widths<B, M>, const B: usize, const M: usize>(
-    block: &mut [u8],
+fn leave_row<W: Widths<B, M>, const B: usize, const M: usize>(
+    block: &[u8],
+    place: usize,
+    row: &mut [u8],
+)
+    requires numbers { IsInterleaver B M }
+    requires long { length row.old ≡ B }
+    requires room { place + B + B * M * (B - 1) ≤ length block.now }
+    ensures { AreOfRow B W.lead block.now place 0 B row.new }
+{
+    let mut done = 0;
+    while done + 8 <= B {
+        row[done..done + 8].copy_from_slice(&eight::<W, B, M>(block, place + done, done));
+        done += 8;
+    }
+    leave_part::<W, B, M>(block, place + done, done, &mut row[done..]);
+}
+
+/// The eight bytes that leave from branch `turn` on, made one number, so that they are stored at once.
+#[inline(always)]
+fn eight<W: Widths<B, M>, const B: usize, const M: usize>(
+    block: &[u8],
     place: usize,
     turn: usize,
-    part: &[u8],
-) -> usize
+) -> [u8; 8]
     requires numbers { IsInterleaver B M }
-    requires below { turn < B }
-    requires within { turn + length part.now ≤ B }
-    requires room { place + length part.now + B * M * (B - 1) ≤ length block.old }
-    ensures block { block.new ≡ laid B W.widths place turn part.now block.old }
-    ensures turn { result ≡ turn_after B turn part.now }
+    requires within { turn + 8 ≤ B }
+    requires room { place + 8 + B * M * (B - 1) ≤ length block.now }
+    ensures { AreOfRow B W.lead block.now place turn 8 result }
+{
+    let mut bytes = [0u8; 8];
+    leave_part::<W, B, M>(block, place, turn, &mut bytes);
+    u64::from_le_bytes(bytes).to_le_bytes()
+}
+
+/// Replaces the bytes of a part of a row by those that leave from branch `turn` on.
+#[inline(always)]
+fn leave_part<W: Widths<B, M>, const B: usize, const M: usize>(
+    block: &[u8],
+    place: usize,
+    turn: usize,
+    part: &mut [u8],
+)
+    requires numbers { IsInterleaver B M }
+    requires within { turn + length part.old ≤ B }
+    requires room { place + length part.old + B * M * (B - 1) ≤ length block.now }
+    ensures { AreOfRow B W.lead block.now place turn (length part.old) part.new }
 {
     for i in 0..part.len() {
-        block[place + W::offset(turn, i)] = part[i];
+        part[i] = block[place + W::offset(turn, i)];
     }
-    let after = turn + part.len();
-    if after == B { 0 } else { after }
 }
 
 /// Turns each `B` bytes that are held so that branch 0 comes first, where branch `next` did.

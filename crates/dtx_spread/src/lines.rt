@@ -1,4 +1,4 @@
-//! Branches that lie in one block, in the order in which their bytes leave. Both ways share them, over the branches'
+//! Branches that lie in one block, in the order in which their bytes came. Both ways share them, over the branches'
 //! widths.
 
 ghost use Rattle.std.specs.Prelude.{◌≡◌, ◌≤◌, length, IfOk};
@@ -14,7 +14,8 @@ const ROOM: usize = 32_768;
 
 /// `B` branches, of which each holds as many bytes as `W` says.
 ///
-/// A byte is put `B` places behind the place from which the next byte leaves for each byte that its branch holds.
+/// From the place on the block keeps as many rows of `B` bytes as the longest branch holds bytes, and behind them comes
+/// the next byte. What leaves then lies `B` places behind the place for each byte that its branch holds fewer.
 #[derive(Drop)]
 pub(crate) struct Lines<W: Widths<B, M>, const B: usize, const M: usize> {
     widths: PhantomData<W>,
@@ -30,7 +31,7 @@ impl<W: Widths<B, M>, const B: usize, const M: usize> Model for Lines<W, B, M> {
 
     ghost Value = { Branching };
 
-    ghost view = { λ s. lying B W.widths s.place s.next s.block.items };
+    ghost view = { λ s. lying B W.lead W.widths s.place s.next s.block.items };
 
     ghost invariant = { λ s. IsBlock B M ROOM s.next s.place s.block.items };
 }

@@ -10,15 +10,18 @@ pub(crate) trait Widths<const B: usize, const M: usize> {
     /// How many bytes branch i holds.
     ghost widths: { ℕ → ℕ };
 
-    /// How far behind the place from which branch `turn` is served next the byte of the branch `i` further on is put:
-    /// `i` places, and `B` for each byte that its branch holds.
+    /// How many bytes fewer than the longest one branch i holds.
+    ghost lead: { ℕ → ℕ };
+
+    /// How far behind the place of branch `turn` in its row the byte lies that leaves the branch `i` further on: `i`
+    /// places, and `B` for each byte that its branch holds fewer than the longest one.
     fn offset(turn: usize, i: usize) -> usize
         requires numbers { IsInterleaver B M }
         requires below { turn + i < B }
-        ensures { result ≡ i + B * widths (turn + i) };
+        ensures { result ≡ i + B * lead (turn + i) };
 
-    /// No branch holds more than the longest one of an interleaver.
-    ghost are: { AreWidths B M widths };
+    /// The two add up to what the longest branch holds.
+    ghost are: { AreWidths B M lead widths };
 }
 
 /// The way out: each branch holds `M` bytes more than the one before it.
@@ -27,8 +30,11 @@ pub(crate) struct Spreading;
 impl<const B: usize, const M: usize> Widths<B, M> for Spreading {
     ghost widths = { spreading M };
 
+    ghost lead = { gathering B M };
+
+    // In steps back, since so the compiler unrolls a row.
     fn offset(turn: usize, i: usize) -> usize {
-        i + B * (M * (turn + i))
+        B * (M * (B - 1 - turn)) - (B * M - 1) * i
     }
 
     ghost are = { spreading_widths B M };
@@ -40,9 +46,10 @@ pub(crate) struct Gathering;
 impl<const B: usize, const M: usize> Widths<B, M> for Gathering {
     ghost widths = { gathering B M };
 
-    // In steps back, since so the compiler unrolls a row.
+    ghost lead = { spreading M };
+
     fn offset(turn: usize, i: usize) -> usize {
-        B * (M * (B - 1 - turn)) - (B * M - 1) * i
+        i + B * (M * (turn + i))
     }
 
     ghost are = { gathering_widths B M };

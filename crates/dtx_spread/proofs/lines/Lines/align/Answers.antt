@@ -12,8 +12,8 @@ returns g c =
     let w : take s.block.len (new ++ drop (length new) s.block.items) ≡ new =
     lent_whole s.block.len s.block.items new s.block.ok.0 (c.turn_back.auto.block
     ∙ ap length c.deref_mut.ensures.value) in
-    lying_turned g.row.B g.row.M g.W.Widths.widths s.place s.next s.block.items
-    (take s.block.len (new ++ drop (length new) s.block.items)) g.met.W.Widths.are c.self.invariant.below
+    lying_turned g.row.B g.row.M g.W.Widths.lead g.W.Widths.widths s.place s.next s.block.items
+    (take s.block.len (new ++ drop (length new) s.block.items)) g.met.W.Widths.are
     (λ i j l k. ap (λ ys. get_or ys (s.place + i + j * g.row.B) 0) w ∙ c.turn_back.ensures i j l k
     ∙ ap (λ ys. get_or ys (s.place + ahead g.row.B s.next i + j * g.row.B) 0) c.deref_mut.ensures.value)
     ∙ ap aligned c.self.view_is

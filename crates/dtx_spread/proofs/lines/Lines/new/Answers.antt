@@ -5,6 +5,6 @@ use Rattle.dtx_spread.proofs.lines.Lines.new.Goals as goal
 
 pub returns : goal.returns
 returns g c =
-    lying_of_zeros g.row.B g.row.M g.W.Widths.widths
+    lying_of_zeros g.row.B g.row.M g.W.Widths.lead g.W.Widths.widths
     (g.row.B * g.row.M * (g.row.B - 1) + ROOM) c.in_ok-vec.field-0.items g.met.W.Widths.are
     (omega (arith, c.requires.some)) (omega arith) (c.in_ok-vec.ensures.items_if_clones_equal (λ y e. e))

@@ -1,7 +1,7 @@
 use Rattle.std.proofs.Common.{◌+◌, ◌*◌, ◌-◌, ◌<◌, ℕ, length, take, drop, sym, subst, ap, ◌∙◌, arith}
 use Rattle.dtx_laws.specs.Branches.{leaving_all, after_all}
-use Rattle.dtx_spread.specs.Laid.{laid, lying}
-use Rattle.dtx_spread.proofs.Laid.{pass_branches, pass_bytes, turn_less}
+use Rattle.dtx_spread.specs.Laid.{lying}
+use Rattle.dtx_spread.proofs.Left.{pass_branches, pass_bytes, turn_less}
 use Rattle.dtx_spread.proofs.Lent.{lent_twice}
 use Rattle.dtx_spread.proofs.lines.Lines.pass_some.Goals as goal
 
@@ -16,7 +16,7 @@ invariant_of-self g c =
     record {
       numbers = h.numbers;
       below = subst (λ (n : ℕ). n < g.row.B) (sym c.through-self-inside.ensures.turn)
-          (turn_less g.row.B s.next c.args.bytes.now h.below);
+          (turn_less g.row.B (s.next + length c.args.bytes.now) (omega (arith, h.below)));
       within = omega (
         arith,
         long,
@@ -37,12 +37,10 @@ returns-clause-bytes g c =
     let n = g.row.B * g.row.M * (g.row.B - 1) in
     let r = lent_twice s.block.len s.block.items c.deref_mut.result.now m.new.block c.deref_mut-2.result.now t.new.block
     s.block.ok.0 c.deref_mut.ensures.value m.auto.block c.deref_mut-2.ensures.value t.auto.block in
-    pass_bytes g.row.B g.row.M g.W.Widths.widths s.place s.next m.result c.args.bytes.now s.block.items m.new.block
-    t.new.bytes g.met.W.Widths.are h.below h.within (m.ensures.held
-    ∙ ap (λ ys. take n (drop s.place ys)) c.deref_mut.ensures.value) m.ensures.room
-    (t.ensures.bytes
-    ∙ ap (λ ys. take (length c.args.bytes.now)
-    (drop m.result (laid g.row.B g.W.Widths.widths m.result s.next c.args.bytes.now ys))) r.0)
+    pass_bytes g.row.B g.row.M g.W.Widths.lead g.W.Widths.widths s.place s.next m.result c.args.bytes.now s.block.items
+    t.new.block t.new.bytes g.met.W.Widths.are h.below
+    (t.ensures.held ∙ ap (λ ys. take n (drop m.result ys)) r.0 ∙ m.ensures.held
+    ∙ ap (λ ys. take n (drop s.place ys)) c.deref_mut.ensures.value) t.ensures.put t.auto.bytes t.ensures.left
     ∙ ap (λ v. leaving_all g.row.B v c.args.bytes.now) c.self.view_is
 
 pub returns-clause-branches : goal.returns-clause-branches
@@ -54,10 +52,10 @@ returns-clause-branches g c =
     let n = g.row.B * g.row.M * (g.row.B - 1) in
     let r = lent_twice s.block.len s.block.items c.deref_mut.result.now m.new.block c.deref_mut-2.result.now t.new.block
     s.block.ok.0 c.deref_mut.ensures.value m.auto.block c.deref_mut-2.ensures.value t.auto.block in
-    ap (λ ys. lying g.row.B g.W.Widths.widths (m.result + length t.new.bytes) t.result ys) r.1
-    ∙ ap (λ k. lying g.row.B g.W.Widths.widths (m.result + k) t.result t.new.block) t.auto.bytes
-    ∙ pass_branches g.row.B g.row.M g.W.Widths.widths s.place s.next m.result t.result c.args.bytes.now s.block.items
-    m.new.block t.new.block g.met.W.Widths.are h.below h.within (m.ensures.held
-    ∙ ap (λ ys. take n (drop s.place ys)) c.deref_mut.ensures.value) m.ensures.room
-    (t.ensures.block ∙ ap (λ ys. laid g.row.B g.W.Widths.widths m.result s.next c.args.bytes.now ys) r.0) t.ensures.turn
+    ap (λ ys. lying g.row.B g.W.Widths.lead g.W.Widths.widths (m.result + length t.new.bytes) t.result ys) r.1
+    ∙ ap (λ k. lying g.row.B g.W.Widths.lead g.W.Widths.widths (m.result + k) t.result t.new.block) t.auto.bytes
+    ∙ pass_branches g.row.B g.row.M g.W.Widths.lead g.W.Widths.widths s.place s.next m.result t.result c.args.bytes.now
+    s.block.items t.new.block g.met.W.Widths.are h.below
+    (t.ensures.held ∙ ap (λ ys. take n (drop m.result ys)) r.0 ∙ m.ensures.held
+    ∙ ap (λ ys. take n (drop s.place ys)) c.deref_mut.ensures.value) t.ensures.put t.ensures.turn
     ∙ ap (λ v. after_all g.row.B v c.args.bytes.now) c.self.view_is

@@ -1,6 +1,6 @@
 use Rattle.std.proofs.Common.{◌≡◌, ℕ, ◌+◌, ◌-◌, ◌*◌, ap, ◌∙◌, arith}
 use Rattle.dtx_spread.proofs.Steps.{steps_back}
-use Rattle.dtx_spread.proofs.widths.GatheringWidths.offset.Goals as goal
+use Rattle.dtx_spread.proofs.widths.SpreadingWidths.offset.Goals as goal
 
 pub overflow_sub-result-4 : goal.overflow_sub-result-4
 overflow_sub-result-4 g c =
