@@ -1,5 +1,5 @@
 -- How many signs of the symbols behind a place are unlike those of a field sync, word by word.
-use Rattle.std.proofs.Common.{◌≡◌, ℕ, zero, suc, ℤ, pos, ◌+◌, ◌*◌, ◌-◌, ◌/◌, ◌%◌, ◌^◌, ◌<◌, ◌≤◌, Bool, true}
+use Rattle.std.proofs.Common.{◌≡◌, ℕ, zero, suc, ℤ, pos, ◌+◌, ◌*◌, ◌-◌, ◌/◌, ◌%◌, ◌^◌, ◌<◌, ◌≤◌}
 use Rattle.std.proofs.Common.{false, cond, List}
 use Rattle.std.proofs.Common.{length, map, sum, take, drop, get_or, bit_xor, count_ones, refl, sym, ap, ap₂, ◌∙◌}
 use Rattle.std.proofs.Common.{subst, arith, drop-cons, length-drop}
@@ -13,7 +13,7 @@ use Rattle.dtx_frame.specs.SymbolsLaws.{length_front}
 use Rattle.std.proofs.lemmas.Nat.{ones-le, xor_lt}
 use lib.Pow.{pow_mono}
 use Rattle.dtx_lists.proofs.Range.{range_with_len-parts}
-use Rattle.dtx_acquire.specs.Agreement.{are_unlike, is_plus, sync_sign, unlike, unlike_at}
+use Rattle.dtx_acquire.specs.Agreement.{is_plus, sync_sign, unlike, unlike_at}
 use Rattle.dtx_acquire.specs.Signs.{ArePacked, packed}
 use Rattle.dtx_acquire.specs.declared.signs.TheConstants.{MIDDLE, SIGNS}
 use Rattle.dtx_acquire.proofs.Packing.{ones_unlike, packed_drop, packed_small, packed_take, packed_two}
@@ -194,26 +194,6 @@ packed_room symbols place n word l m e =
     let bound : 2 ^ length (part symbols (place + (n + 1)) (64 - (n + 1))) ≤ 2 ^ 63 =
     pow_mono {j = 63} (omega (arith, long)) in
     omega (arith, small, bound, e)
-
-one_most : (symbols : List ℤ) (place i : ℕ) → unlike_at symbols place i ≤ 1
-unfolding unlike_at
-one_most symbols place i = by_test (are_unlike (is_plus (get_or symbols (place + i) (pos 0))) (sync_sign i))
-  where
-    by_test : (b : Bool) → cond b 1 0 ≤ 1
-    by_test true = omega arith
-    by_test false = omega arith
-
-unlike_none : (symbols : List ℤ) (place i : ℕ) → unlike symbols place i 0 ≡ 0
-unfolding unlike
-unlike_none symbols place i = refl
-
-pub unlike_most : (symbols : List ℤ) (place i n : ℕ) → unlike symbols place i n ≤ n
-unlike_most symbols place i zero = omega (arith, unlike_none symbols place i)
-unlike_most symbols place i (suc n) =
-    let more = unlike_more symbols place i n in
-    let rest = unlike_most symbols place (i + 1) n in
-    let one = one_most symbols place i in
-    omega (arith, more, rest, one)
 
 pub word_ones : (word k : ℕ) → word < 2 ^ 64 → k < 8 → count_ones (bit_xor word (get_or SIGNS k 0)) ≤ 64
 word_ones word k l m = ones-le 64 (bit_xor word (get_or SIGNS k 0)) (xor_lt 64 word (get_or SIGNS k 0) l small)

@@ -1,9 +1,8 @@
 -- The next packets of a feed, given to a coder.
-use Rattle.std.proofs.Common.{◌≡◌, ℕ, ◌+◌, ◌*◌, ◌/◌, ◌%◌, ◌<◌, ◌≤◌, ◌==◌, nat_le, Bool, ℤ, List, ◌++◌, length, take}
-use Rattle.std.proofs.Common.{sym, ap, subst, ◌∙◌, arith}
+use Rattle.std.proofs.Common.{◌≡◌, ℕ, ◌+◌, ◌%◌, ◌≤◌, ◌==◌, nat_le, Bool, ℤ, List, ◌++◌, length}
+use Rattle.std.proofs.Common.{sym, subst, ◌∙◌}
 use Rattle.std.specs.Prelude.{◌↔◌, IsTrue}
 use Rattle.std.proofs.lemmas.Bool.{leb-true, le-leb, eqb-true, eq-eqb}
-use Rattle.std.proofs.lemmas.List.{length-append, take-append-le, take_all}
 use Rattle.dtx_coder.specs.Groups.{Coding, Group, StandsFor, IsCoded}
 use Rattle.dtx_coder.specs.NextLaws.{next_stands}
 
@@ -30,16 +29,3 @@ group_stands coder new fed group count sent coded stands whole four place second
       );
       states = from;
     })
-
--- the packets of whole groups
-pub with_group : (fed four : List (List ℕ)) → length fed % 4 ≡ 0 → length four ≡ 4
-    → take (4 * ((length fed + length four) / 4)) (fed ++ four) ≡ fed ++ four
-with_group fed four whole long =
-    take_all (4 * ((length fed + length four) / 4)) (fed ++ four) (omega (arith, whole, long, length-append fed four))
-
-pub without_group : (fed few : List (List ℕ)) → length fed % 4 ≡ 0 → length few < 4
-    → take (4 * ((length fed + length few) / 4)) (fed ++ few) ≡ fed
-without_group fed few whole long =
-    let same : 4 * ((length fed + length few) / 4) ≡ length fed = omega (arith, whole, long) in
-    ap (λ n. take n (fed ++ few)) same ∙ take-append-le (length fed) fed few (omega arith)
-    ∙ take_all (length fed) fed (omega arith)

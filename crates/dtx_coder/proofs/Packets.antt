@@ -6,7 +6,7 @@ use Rattle.dtx_laws.specs.CompletedLaws.{completed_each}
 use Rattle.dtx_laws.specs.Words.{completed}
 use Rattle.dtx_laws.specs.Branches.{spreading, after_all}
 use Rattle.dtx_laws.specs.Whitening.{whitened}
-use Rattle.dtx_laws.specs.InterleavingLaws.{HasWidths-all, HasWidths-aligned, HasWidths-zeroed}
+use Rattle.dtx_laws.specs.InterleavingLaws.{HasWidths-all, HasWidths-zeroed}
 use Rattle.dtx_outer.specs.Outer.{Held}
 use Rattle.dtx_whiten.specs.Randomizer.{randomizer_bytes}
 use Rattle.dtx_whiten.specs.Randomized.{randomized}
@@ -41,10 +41,6 @@ packets_coded f first white words ps d w four fits begun whole =
 -- the outer coding behind some codewords
 pub atsc_new : IsAtsc (record { white = randomizer_bytes; branches = zero_branches })
 atsc_new = record { white = refl; widths = HasWidths-zeroed 52 (spreading 4) (lit< tt) }
-
-pub atsc_aligned : (outer : Held) → IsAtsc outer
-    → IsAtsc (record outer { branches = record { next = 0; lists = outer.branches.lists } })
-atsc_aligned outer a = record { white = a.white; widths = HasWidths-aligned 52 (spreading 4) outer.branches a.widths }
 
 pub atsc_after : (outer : Held) (x : List ℕ) → IsAtsc outer
     → IsAtsc (record outer { branches = after_all 52 outer.branches x })

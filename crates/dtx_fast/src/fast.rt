@@ -17,7 +17,7 @@ use dtx_laws::{Correct, Encode, PARITY, TooMany};
 use dtx_rs::Rs;
 
 /// Corrects words of the code of `N` bytes a word with `K` bytes of data. It holds the code's encoder and tables, 45
-/// KB in all, so make one and keep it.
+/// kB in all, so make one and keep it.
 #[derive(Drop)]
 pub struct Fast<const N: usize, const K: usize> {
     encoder: Rs<N, K>,

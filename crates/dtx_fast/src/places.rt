@@ -24,7 +24,7 @@ const BLOCK: usize = 32;
 const PLACE_ROWS: usize = HALVES * COEFFICIENTS;
 
 /// The rows of the first block's places, and for each coefficient by what it is multiplied so that the same rows are
-/// those of the next block: 11 KB.
+/// those of the next block: 11 kB.
 #[derive(Drop)]
 pub struct Places {
     rows: Rows<BLOCK, PLACE_ROWS>,

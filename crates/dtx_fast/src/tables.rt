@@ -19,7 +19,7 @@ use dtx_laws::correcting::{ROOM, syndromes_of};
 const SYNDROME_ROWS: usize = HALVES * PARITY;
 
 /// The rows by which syndromes are made of parity bytes, and those by which a recurrence is walked over all places: 24
-/// KB.
+/// kB.
 #[derive(Drop)]
 pub struct Tables {
     syndromes: Rows<PARITY, SYNDROME_ROWS>,

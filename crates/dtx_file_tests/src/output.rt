@@ -1,6 +1,6 @@
 // When gathered bytes are added to a file.
 
-use dtx_outside::{Call, MemoryShelf, Output, PAGE, PIECE, Shelf};
+use dtx_outside::{Call, FILE_PAGE, MemoryShelf, Output, PIECE, Shelf};
 use std::test::Fail;
 
 // Three pieces of this length don't fit where two do.
@@ -17,7 +17,7 @@ fn whole_pages_are_added_when_the_next_bytes_do_not_fit(rt: HostRuntime) -> Resu
     let mut shelf = MemoryShelf::new(rt.alloc());
     let mut output = Output::<PIECE>::new(rt.alloc())?;
     assert!(rt; shelf.begin("out").is_ok());
-    for length in [0, 0, 25 * PAGE] {
+    for length in [0, 0, 25 * FILE_PAGE] {
         assert!(rt; output.write(&mut shelf, "out", &bytes).is_ok());
         assert!(rt; written(&shelf) == length);
     }
@@ -35,7 +35,7 @@ fn many_bytes_are_added_at_once_but_for_a_part_of_a_page(rt: HostRuntime) -> Res
     let mut shelf = MemoryShelf::new(rt.alloc());
     let mut output = Output::<PIECE>::new(rt.alloc())?;
     assert!(rt; shelf.begin("out").is_ok());
-    for (length, appends) in [(44 * PAGE, 1), (88 * PAGE, 3)] {
+    for (length, appends) in [(44 * FILE_PAGE, 1), (88 * FILE_PAGE, 3)] {
         assert!(rt; output.write(&mut shelf, "out", &bytes).is_ok());
         assert!(rt; written(&shelf) == length);
         assert!(rt; shelf.calls(Call::Append) == appends);
@@ -55,7 +55,7 @@ fn a_failing_append_leaves_a_front_part_and_nothing_gathered(rt: HostRuntime) ->
     for works in [true, true, false] {
         assert!(rt; output.write(&mut shelf, "out", &bytes).is_ok() == works);
     }
-    assert!(rt; written(&shelf) == 25 * PAGE / 2);
+    assert!(rt; written(&shelf) == 25 * FILE_PAGE / 2);
     assert!(rt; output.flush(&mut shelf, "out").is_ok());
     assert!(rt; shelf.calls(Call::Append) == 1);
     Ok(())

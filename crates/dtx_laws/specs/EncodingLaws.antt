@@ -6,7 +6,7 @@ use Rattle.std.specs.Int.Bits.{xor_comm, xor_assoc, xor_self}
 use Rattle.dtx_galois.specs.Field.{mul, pow, value, AreBytes}
 use Rattle.dtx_galois.specs.Word.{scaled}
 use Rattle.dtx_galois.specs.LinearLaws.{mul_left, mul_right}
-use Rattle.dtx_galois.specs.FieldLaws.{mul_comm, mul_assoc, mul_zero, zero_mul, pow_small, xor_zero}
+use Rattle.dtx_galois.specs.FieldLaws.{mul_comm, mul_assoc, mul_zero, zero_mul, xor_zero}
 use Rattle.dtx_galois.specs.ValuesLaws.{value_push, value_append, value_sums, value_scaled, value_shifted, value_zeros}
 use Rattle.dtx_galois.specs.ValuesLaws.{times_power}
 use Rattle.dtx_galois.specs.WordsLaws.{length_sums, bytes_sums, length_scaled, bytes_scaled}
@@ -20,12 +20,6 @@ pub length_generator : (m : ℕ) → length (generator m) ≡ m
 length_generator zero = refl
 length_generator (suc m) = length_sums (generator m ++ 0 ∷ []) (pow 2 m ∷ scaled (pow 2 m) (generator m))
     ∙ length_push (generator m) 0 ∙ ap (λ n. n + 1) (length_generator m) ∙ add-one m
-
-pub bytes_generator : (m : ℕ) → AreBytes (generator m)
-bytes_generator zero = tt
-bytes_generator (suc m) =
-    bytes_sums (generator m ++ 0 ∷ []) (pow 2 m ∷ scaled (pow 2 m) (generator m))
-    (bytes_push (generator m) 0 (bytes_generator m) (omega arith)) (pow_small 2 m, bytes_scaled (pow 2 m) (generator m))
 
 -- its value is the earlier one's times x - 2 ^ m
 pub value_generator : (m x : ℕ) → bit_xor (pow x (suc m)) (value (generator (suc m)) x)

@@ -17,10 +17,6 @@ pub record Holds (b : ℕ) (w : ℕ → ℕ) (e : ℕ → ℕ → ℕ) (q r : �
   pub early : (i j : ℕ) → i < r → j < w i → get_or (get_or lists i []) j 0 ≡ e i (q + 1 + j)
   pub late : (i j : ℕ) → r ≤ i → i < b → j < w i → get_or (get_or lists i []) j 0 ≡ e i (q + j)
 
-first_of_joined : (xs : List ℕ) (y : ℕ) → (length xs ≡ 0) ⊎ (0 < length xs)
-    → (length xs ≡ 0 → get_or (xs ++ y ∷ []) 0 0 ≡ y) × (0 < length xs → get_or (xs ++ y ∷ []) 0 0 ≡ get_or xs 0 0)
-first_of_joined xs y h = (λ e. get_or_push xs y 0 0 e, λ l. get_or_append_left xs (y ∷ []) 0 0 l)
-
 cases_zero : (n : ℕ) → (n ≡ 0) ⊎ (0 < n)
 cases_zero n = grind arith
 
@@ -101,13 +97,6 @@ Holds-turn b w e q lists h = record {
   early = λ i j p k. absurd (omega arith);
   late = λ i j p o k. h.early i j o k;
 }
-
--- the place after n, in turns and bytes
-abbrev turn_after : ℕ → ℕ → ℕ → ℕ
-turn_after b q r = cond (r + 1 == b) (q + 1) q
-
-abbrev next_after : ℕ → ℕ → ℕ
-next_after b r = cond (r + 1 == b) 0 (r + 1)
 
 Holds-next : (b : ℕ) (w : ℕ → ℕ) (e : ℕ → ℕ → ℕ) (q r : ℕ) (lists : List (List ℕ)) → (t : Bool) → (t ≡ true → r + 1 ≡ b)
     → Holds b w e q (suc r) lists → Holds b w e (cond t (q + 1) q) (cond t 0 (r + 1)) lists

@@ -1,5 +1,5 @@
 -- Lists over a range: parts, maps, and a test at each number.
-use Rattle.std.proofs.Common.{◌≡◌, ℕ, zero, suc, ◌+◌, ◌<◌, ◌≤◌, ◌⊎◌, Bool, true, false, ◌&&◌, ◌∷◌, ◌++◌, map, refl, sym}
+use Rattle.std.proofs.Common.{◌≡◌, ℕ, zero, suc, ◌+◌, ◌<◌, ◌≤◌, ◌⊎◌, Bool, true, ◌∷◌, ◌++◌, map, refl, sym}
 use Rattle.std.proofs.Common.{ap, ap₂, ◌∙◌, arith, inl, inr, add-zero}
 use Rattle.std.specs.List.{range_with_len, list_all}
 use Rattle.std.proofs.lemmas.Bool.{and_parts, and_from}
@@ -25,30 +25,6 @@ pub map-range_same : {X : Type 0} (f g : ℕ → X) (a n : ℕ) → ((i : ℕ) �
 map-range_same f g a zero h = refl
 map-range_same f g a (suc n) h =
     ap₂ ◌∷◌ (h a (omega arith) (omega arith)) (map-range_same f g (a + 1) n (λ i l m. h i (omega arith) (omega arith)))
-
-pub list_all-range_same : (f g : ℕ → Bool) (a n : ℕ) → ((i : ℕ) → a ≤ i → i < a + n → f i ≡ g i)
-    → list_all f (range_with_len a n) ≡ list_all g (range_with_len a n)
-list_all-range_same f g a zero h = refl
-list_all-range_same f g a (suc n) h =
-    ap₂ (λ x y. x && y) (h a (omega arith) (omega arith))
-    (list_all-range_same f g (a + 1) n (λ i l m. h i (omega arith) (omega arith)))
-
--- one number further
-pub list_all-range_more : (f : ℕ → Bool) (a n : ℕ)
-    → list_all f (range_with_len a (suc n)) ≡ (list_all f (range_with_len a n) && f (a + n))
-list_all-range_more f a zero = and_true (f a) ∙ ap f (sym (add-zero a))
-  where
-    and_true : (b : Bool) → (b && true) ≡ b
-    and_true true = refl
-    and_true false = refl
-list_all-range_more f a (suc n) =
-    ap (λ b. f a && b) (list_all-range_more f (a + 1) n
-    ∙ ap (λ x. list_all f (range_with_len (a + 1) n) && f x) (next a n))
-    ∙ and_assoc (f a) (list_all f (range_with_len (a + 1) n)) (f (a + suc n))
-  where
-    and_assoc : (x y z : Bool) → (x && (y && z)) ≡ ((x && y) && z)
-    and_assoc true y z = refl
-    and_assoc false y z = refl
 
 -- what a test that passes over a range says at a number of it
 pub list_all-range_at : (f : ℕ → Bool) (a n : ℕ) → list_all f (range_with_len a n) ≡ true → (i : ℕ) → a ≤ i → i < a + n

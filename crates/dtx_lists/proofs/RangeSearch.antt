@@ -1,6 +1,6 @@
 -- The first number of a range that passes a test.
 use Rattle.std.proofs.Common.{◌≡◌, ℕ, zero, suc, ◌+◌, ◌<◌, ◌≤◌, ◌⊎◌, Bool, true, false, cond, Option, Some, None, refl}
-use Rattle.std.proofs.Common.{sym, ap, ◌∙◌, arith, inl, inr, add-zero}
+use Rattle.std.proofs.Common.{sym, ap, ◌∙◌, arith, inl, inr}
 use Rattle.std.specs.List.{range_with_len, find}
 use Rattle.std.proofs.lemmas.Bool.{cond-true, cond-false}
 use Rattle.dtx_lists.proofs.Range.{range_cases}
@@ -24,18 +24,6 @@ find-range_first p a (suc n) j l m t f =
         → (a + 1 ≤ j → p a ≡ false) → (a + 1 ≤ j → rest ≡ Some j) → cond (p a) (Some a) rest ≡ Some j
     by_place p a j rest (inl e) t f r = cond-true (p a) (Some a) rest (ap p e ∙ t) ∙ ap Some e
     by_place p a j rest (inr k) t f r = cond-false (p a) (Some a) rest (f k) ∙ r k
-
--- where none but the last number may pass
-pub find-range_last : (p : ℕ → Bool) (a n : ℕ) → ((i : ℕ) → a ≤ i → i < a + n → p i ≡ false)
-    → find p (range_with_len a (suc n)) ≡ cond (p (a + n)) (Some (a + n)) None
-find-range_last p a zero f = ap (λ (x : ℕ). cond (p x) (Some x) None) (sym (add-zero a))
-find-range_last p a (suc n) f =
-    cond-false (p a) (Some a) (find p (range_with_len (a + 1) (suc n))) (f a (omega arith) (omega arith))
-    ∙ find-range_last p (a + 1) n (λ i l m. f i (omega arith) (omega arith))
-    ∙ ap (λ (x : ℕ). cond (p x) (Some x) None) (next a n)
-  where
-    next : (a n : ℕ) → a + 1 + n ≡ a + suc n
-    next a n = omega arith
 
 gives_by_test : (p : ℕ → Bool) (a n j : ℕ) (t : Bool) → p a ≡ t
     → cond t (Some a) (find p (range_with_len (a + 1) n)) ≡ Some j

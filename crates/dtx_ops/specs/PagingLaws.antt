@@ -15,10 +15,6 @@ pub room : (p : Paging) → 4 * most_of p + length (paging_bytes p) ≤ 145
 room One = omega arith
 room (Of page pages) = omega arith
 
--- the only page has its place
-pub only_page : (n : ℕ) → n ≤ 35 → IsPaged One n
-only_page n few = record { page = omega arith; pages = omega arith; fits = few }
-
 -- a page has no more entries than a list of them holds
 pub most_few : (p : Paging) → most_of p ≤ 35
 most_few One = omega arith

@@ -2,7 +2,7 @@
 use Rattle.std.proofs.Common.{◌≡◌, ℕ, ◌+◌, ◌-◌, ◌*◌, ◌/◌, ◌%◌, ◌<◌, ◌≤◌, ◌⊎◌, ◌==◌, inl, inr, cond, Bool, true, false}
 use Rattle.std.proofs.Common.{List, [], ◌∷◌, ◌++◌, length, get_or, take, drop, refl, sym, ap, ap₂, ◌∙◌, arith}
 use Rattle.std.proofs.Common.{zero, suc, subst}
-use Rattle.std.proofs.Common.{mul-le-mul_left, mul-le-mul_right, div-add-mod'}
+use Rattle.std.proofs.Common.{mul-le-mul_left, div-add-mod'}
 use Rattle.std.proofs.lemmas.Bool.{cases_lt, eqb-true, eqb-false}
 use Rattle.std.proofs.lemmas.Nat.{div-mul-add, mod-mul-add, mod_below}
 use Rattle.std.proofs.lemmas.List.{get_or_append_left, get_or-append_right, get_or-take, get_or-drop, drop_at}
@@ -175,16 +175,6 @@ place_given n k b m j d y p s e = s.place ∙ ap (λ i. i % (length d.white / k)
   where
     c : s.blocks - waiting n b m ≡ j
     c = omega (arith, blocks_are n s.blocks (waiting n b m + j) p (sym s.given ∙ e))
-
--- a packet's bytes of the whitener's period are within it
-pub within_period : (k period place : ℕ) → place < period / k → k * place + k ≤ period
-within_period k period place l =
-    let h : (place + 1) * k ≤ period / k * k = mul-le-mul_right k g in
-    let f : (place + 1) * k ≡ k * place + k = grind arith in
-    omega (arith, h, f, div-add-mod' period k)
-  where
-    g : place + 1 ≤ period / k
-    g = omega arith
 
 -- ---- what is kept, one block further
 

@@ -22,7 +22,7 @@ pub use host_shelf::HostShelf;
 pub use host_sink::HostSink;
 pub use memory_shelf::{Call, MemoryShelf};
 pub use memory_sink::MemorySink;
-pub use output::{Output, PAGE, PIECE};
+pub use output::{FILE_PAGE, Output, PIECE};
 pub use progress::Progress;
 pub use shelf::{ReadNo, Shelf, WriteNo};
 pub use sink::{Sink, SinkNo};

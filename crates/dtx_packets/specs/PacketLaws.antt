@@ -1,12 +1,11 @@
 -- Laws of the packets of a file, for those who read it piece by piece.
 use Rattle.std.proofs.Common.{◌≡◌, ℕ, zero, suc, ◌+◌, ◌-◌, ◌*◌, ◌%◌, ◌<◌, ◌≤◌, List, [], ◌∷◌, ◌++◌, length}
-use Rattle.std.proofs.Common.{get_or, take, drop, map, refl, ap, sym, ◌∙◌, arith}
+use Rattle.std.proofs.Common.{take, drop, map, refl, ap, sym, ◌∙◌, arith}
 use Rattle.std.proofs.lemmas.List.{drop-drop, drop-take, take-take, length-append, length-take-le, length-drop}
-use Rattle.std.proofs.lemmas.List.{map-append, get_or-map, get_or-take}
+use Rattle.std.proofs.lemmas.List.{map-append}
 use Rattle.std.proofs.Math.Seq.{take-append_seam, drop-append_seam}
 use Rattle.std.proofs.lemmas.List.FromFn.{get_or-map-range_with_len, length-map-range_with_len, fill_by_all}
 use Rattle.std.specs.List.{range_with_len}
-use Rattle.dtx_packets.specs.declared.packet.Packet.{Packet}
 use Rattle.dtx_sizes.specs.declared.limits.TheConstants.{MOST_PACKETS}
 use Rattle.dtx_packets.specs.Packets.{most_packets, packet_at, whole_packets, packets_from, packets_of}
 
@@ -86,14 +85,3 @@ packets_of-append a b whole =
     ap (packets_from (a ++ b) 0) both ∙ packets_from-append (a ++ b) 0 m n
     ∙ ap (λ k. packets_from (a ++ b) 0 m ++ packets_from (a ++ b) k n) place
     ∙ ap (λ z. z ++ packets_from (a ++ b) m n) (sym first) ∙ ap (λ z. packets_of a ++ z) (sym second)
-
--- the packets that a reader gave, one by one
-pub packet_given : (file : List ℕ) (first n : ℕ) (into : List Packet) → n ≤ length into
-    → map (λ p. p.0) (take n into) ≡ packets_from file first n
-    → (k : ℕ) → k < n → (d : Packet) → (get_or into k d).0 ≡ packet_at file (first + k)
-packet_given file first n into fits given k less d =
-    let long : length (take n into) ≡ n = length-take-le n into fits in
-    ap (λ (p : Packet). p.0) (sym (get_or-take n into k d less))
-    ∙ sym (get_or-map (λ (p : Packet). p.0) (take n into) k d [] (omega (arith, long)))
-    ∙ ap (λ xs. get_or xs k []) given
-    ∙ get_or-map-range_with_len (packet_at file) first n k (first + k) [] less refl

@@ -78,14 +78,6 @@ lives_is : (s : List (List ℤ)) (t : Tracked) → tracked s ≡ t → lives_so_
 unfolding lives_so_far
 lives_is s t e = ap (λ (u : Tracked). lives_with u.ended u.run) e
 
-restored_now : (s : List (List ℤ)) (o : Option (List (List ℤ))) → (tracked s).run ≡ o
-    → restored_so_far s ≡ restored_with (tracked s).ended o
-restored_now s o e = restored_is s (tracked s) refl ∙ ap (restored_with (tracked s).ended) e
-
-lives_now : (s : List (List ℤ)) (o : Option (List (List ℤ))) → (tracked s).run ≡ o
-    → lives_so_far s ≡ lives_with (tracked s).ended o
-lives_now s o e = lives_is s (tracked s) refl ∙ ap (lives_with (tracked s).ended) e
-
 -- a run more, whose packets are these
 with_last : (ended : List (List (List ℤ))) (run : List (List ℤ)) (early brought : List Received)
     → run_restored run ≡ early ++ brought

@@ -17,7 +17,7 @@ use dtx_laws::{Encode, PARITY};
 
 /// The encoder of words of `N` bytes with `K` bytes of data (ATSC A/53 Part 2, Reed-Solomon encoder).
 ///
-/// It holds a table of 20 KB, so make one and keep it. Up to twenty parity bytes are made by the table, four bytes of
+/// It holds a table of 20 kB, so make one and keep it. Up to twenty parity bytes are made by the table, four bytes of
 /// data a step, and more than twenty byte by byte.
 #[derive(Drop)]
 pub struct Rs<const N: usize, const K: usize> {

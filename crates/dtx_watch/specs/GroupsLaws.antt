@@ -18,10 +18,6 @@ use Rattle.dtx_watch.specs.Step.{Group, order_of, stamped_in, earliest, note_in,
 
 -- ---- a first and a second value
 
-pub either_none : {A : Type 0} (x : Option A) → either x None ≡ x
-either_none None = refl
-either_none (Some x) = refl
-
 pub either_either : {A : Type 0} (x y z : Option A) → either (either x y) z ≡ either x (either y z)
 either_either None y z = refl
 either_either (Some x) y z = refl

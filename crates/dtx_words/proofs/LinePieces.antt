@@ -1,5 +1,5 @@
 -- The pieces of a line, as far as a loop has come.
-use Rattle.std.proofs.Common.{◌≡◌, ℕ, ◌+◌, ◌≤◌, ◌<◌, suc, List, [], ◌++◌, length, map, take, drop, get_or}
+use Rattle.std.proofs.Common.{◌≡◌, ℕ, ◌+◌, ◌≤◌, ◌<◌, suc, List, ◌++◌, length, map, take, drop, get_or}
 use Rattle.std.proofs.Common.{refl, sym, ap, ◌∙◌, add-one, append_assoc}
 use Rattle.std.specs.Prelude.{codes, decimal, min}
 use Rattle.std.specs.Borrow.{Bor}
@@ -26,11 +26,6 @@ pub numbered_next : (labels : List (Bor (List ℕ))) (numbers : List ℕ) (i : �
 numbered_next labels numbers i d first second =
     rw (add-one, drop-cons labels i d first, drop-cons numbers i 0 second)
     (sym (append_assoc (get_or labels i d).now (decimal (get_or numbers i 0)) (numbered_from labels numbers (suc i))))
-
--- behind the last label
-pub numbered_end : (labels : List (Bor (List ℕ))) (numbers : List ℕ) (i : ℕ) → length labels ≤ i
-    → numbered_from labels numbers i ≡ []
-numbered_end labels numbers i past = rw (drop_of_length-le labels {i = i} past) refl
 
 -- the words from a place on
 abbrev pub verbs_from : List ℕ → List Command → ℕ → List ℕ
