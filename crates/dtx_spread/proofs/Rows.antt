@@ -6,9 +6,10 @@ use Rattle.std.proofs.lemmas.List.{get_or_append_left, get_or-append_right}
 use Rattle.std.proofs.lemmas.List.{get_or-take, length-take-le, take_at, drop_at}
 use Rattle.std.proofs.lemmas.Slice.{take-put_mid_below}
 use Rattle.std.proofs.lemmas.List.{drop-take}
+use Rattle.std.proofs.Math.Nat.{mod-eq_of_lt}
 use borrow.Rule.Slice.PartMut.{put_mid, post_of}
 use Rattle.dtx_spread.specs.Laid.{AreOfRow, AreLeft}
-use Rattle.dtx_spread.proofs.Left.{turn_further, turn_within}
+use Rattle.dtx_spread.proofs.Left.{turn_further}
 
 -- a part of a list that is written over: what is before it, and the part
 before_part : (done k i : ℕ) (cur part : List ℕ) → done ≤ length cur → i < done
@@ -26,8 +27,8 @@ of_part done k i cur part l m h =
 -- a part of a row is what leaves from its branch on
 row_left : (b : ℕ) (lead : ℕ → ℕ) (block part : List ℕ) (place turn n : ℕ) → turn + n ≤ b
     → AreOfRow b lead block place turn n part → AreLeft b lead block place turn n part
-row_left b lead block part place turn n s h = λ i l.
-    h i l ∙ ap (λ x. get_or block (place + i + b * lead x) 0) (sym (turn_within b (turn + i) (omega (arith, l, s))))
+row_left b lead block part place turn n s h = λ i l. let k : turn + i < b = omega (arith, l, s) in
+    h i l ∙ ap (λ x. get_or block (place + i + b * lead x) 0) (sym (mod-eq_of_lt k))
 
 -- and so are the bytes of which it is the front
 pub front_left : (b : ℕ) (lead : ℕ → ℕ) (block part rest : List ℕ) (place turn n : ℕ) → turn + n ≤ b → n ≤ length part

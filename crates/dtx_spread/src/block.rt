@@ -56,8 +56,7 @@ fn leave<W: Widths<B, M>, const B: usize, const M: usize>(
     let mut turn = next;
     let mut done = 0;
     while done < bytes.len() {
-        let (count, after) =
-            leave_next::<W, B, M>(block, place + done, turn, &mut bytes[done..]);
+        let (count, after) = leave_next::<W, B, M>(block, place + done, turn, &mut bytes[done..]);
         done += count;
         turn = after;
     }
@@ -65,7 +64,8 @@ fn leave<W: Widths<B, M>, const B: usize, const M: usize>(
 }
 
 /// Replaces whole rows, or else the bytes up to the last branch, or all where there are fewer. Gives how many it
-/// replaced, and the next branch. Rows have a call of their own, in which their length is known before the program runs.
+/// replaced, and the next branch. Rows have a call of their own, in which their length is known before the program
+/// runs.
 fn leave_next<W: Widths<B, M>, const B: usize, const M: usize>(
     block: &[u8],
     place: usize,
