@@ -4,7 +4,7 @@ use Rattle.std.proofs.Common.{get_or, take, drop, sym, ap, ap₂, ◌∙◌, ari
 use Rattle.std.proofs.Common.{add-zero}
 use Rattle.std.proofs.lemmas.Bool.{cases_eq}
 use Rattle.std.proofs.lemmas.List.{get_or-drop, get_or-take, ext_get_or}
-use Rattle.std.proofs.Math.Nat.{add-mod_left, mod-add-mod, mod-eq_of_lt, mod-lt}
+use Rattle.std.proofs.Math.Nat.{add-mod_left, mod-add-mod, mod-eq_of_lt}
 use Rattle.dtx_laws.specs.Branches.{leaving_all, after_all}
 use Rattle.dtx_laws.specs.PlacesLaws.{length_leaving}
 use Rattle.dtx_spread.specs.Laid.{lying, following, AreLeft, AreWidths}
@@ -18,16 +18,6 @@ turn_further b next n k = ap (λ x. x % b) (parts next n k) ∙ sym (mod-add-mod
     parts : (a n k : ℕ) → a + (n + k) ≡ a + n + k
     parts a n k = omega arith
 
-pub turn_within : (b turn : ℕ) → turn < b → turn % b ≡ turn
-turn_within b turn l = mod-eq_of_lt l
-
-pub turn_less : (b n : ℕ) → 0 < b → n % b < b
-turn_less b n p = mod-lt n p
-
--- behind the last branch comes branch 0
-pub turn_end : (b turn : ℕ) → 0 < b → turn ≡ b → turn % b ≡ 0
-turn_end b turn l e = ap (λ x. x % b) (e ∙ sym (add-zero b)) ∙ add-mod_left b 0 ∙ turn_within b 0 l
-
 -- the branch of a byte is counted from the one behind this as well
 turn_next : (b next k : ℕ) → next < b → (following b next + k) % b ≡ (next + suc k) % b
 turn_next b next k l = by_cases (cases_eq (next + 1) b)
@@ -38,7 +28,6 @@ turn_next b next k l = by_cases (cases_eq (next + 1) b)
       where
         none : (k : ℕ) → 0 + k ≡ k
         none k = omega arith
-
     by_cases (inr n) = ap (λ x. (x + k) % b) (following_on b next n) ∙ ap (λ x. x % b) (further next k)
       where
         further : (a k : ℕ) → a + 1 + k ≡ a + suc k
@@ -62,7 +51,7 @@ pub lying_all : (b m : ℕ) (lead w : ℕ → ℕ) (place next : ℕ) (xs block 
     ≡ after_all b (lying b lead w place next block) xs
 unfolding after_all
 lying_all b m lead w place next [] block a p h =
-    ap₂ (λ n k. lying b lead w n k block) (add-zero place) (ap (λ n. n % b) (add-zero next) ∙ turn_within b next p)
+    ap₂ (λ n k. lying b lead w n k block) (add-zero place) (ap (λ n. n % b) (add-zero next) ∙ mod-eq_of_lt p)
 lying_all b m lead w place next (x ∷ xs) block a p h =
     ap₂ (λ n k. lying b lead w n k block) (further place (length xs)) (sym (turn_next b next (length xs) p))
     ∙ lying_all b m lead w (place + 1) (following b next) xs block a (following_less b next p)
@@ -84,7 +73,7 @@ leaves_at b m lead w place next (x ∷ xs) block zero a p h l =
     sym (leaves b m lead w place next block x a p
     (h 0 (omega arith) ∙ ap (λ n. get_or block n 0) (add-zero (place + b * m * (b - 1)))))
     ∙ ap₂ (λ n k. get_or block (n + b * lead k) 0) (sym (add-zero place))
-    (sym (ap (λ n. n % b) (add-zero next) ∙ turn_within b next p))
+    (sym (ap (λ n. n % b) (add-zero next) ∙ mod-eq_of_lt p))
 leaves_at b m lead w place next (x ∷ xs) block (suc i) a p h l =
     ap (λ v. get_or (leaving_all b v xs) i 0) (sym (lying_byte b m lead w place next block x a p
     (h 0 (omega arith) ∙ ap (λ n. get_or block n 0) (add-zero (place + b * m * (b - 1))))))

@@ -26,17 +26,21 @@ whole_turns b m r = grind arith
 get_or-held : (b : ℕ) (lead w : ℕ → ℕ) (place next : ℕ) (block : List ℕ) (i j : ℕ) → j < w i
     → get_or (held b lead w place next block i) j 0 ≡ get_or block (place + ahead b next i + (lead i + j) * b) 0
 get_or-held b lead w place next block i j l =
-    get_or-map-range_with_len (λ j. get_or block (place + ahead b next i + (lead i + j) * b) 0) 0 (w i) j j 0 l (omega arith)
+    get_or-map-range_with_len (λ j. get_or block (place + ahead b next i + (lead i + j) * b) 0) 0 (w i) j j 0 l
+    (omega arith)
 
-length-held : (b : ℕ) (lead w : ℕ → ℕ) (place next : ℕ) (block : List ℕ) (i : ℕ) → length (held b lead w place next block i) ≡ w i
+length-held : (b : ℕ) (lead w : ℕ → ℕ) (place next : ℕ) (block : List ℕ) (i : ℕ)
+    → length (held b lead w place next block i) ≡ w i
 length-held b lead w place next block i =
     length-map-range_with_len (λ j. get_or block (place + ahead b next i + (lead i + j) * b) 0) 0 (w i)
 
 list_at : (b : ℕ) (lead w : ℕ → ℕ) (place next : ℕ) (block : List ℕ) (i : ℕ) → i < b
     → get_or (lying b lead w place next block).lists i [] ≡ held b lead w place next block i
-list_at b lead w place next block i l = get_or-map-range_with_len (held b lead w place next block) 0 b i i [] l (omega arith)
+list_at b lead w place next block i l =
+    get_or-map-range_with_len (held b lead w place next block) 0 b i i [] l (omega arith)
 
-length-lists : (b : ℕ) (lead w : ℕ → ℕ) (place next : ℕ) (block : List ℕ) → length (lying b lead w place next block).lists ≡ b
+length-lists : (b : ℕ) (lead w : ℕ → ℕ) (place next : ℕ) (block : List ℕ)
+    → length (lying b lead w place next block).lists ≡ b
 length-lists b lead w place next block = length-map-range_with_len (held b lead w place next block) 0 b
 
 pub lying_widths : (b : ℕ) (lead w : ℕ → ℕ) (place next : ℕ) (block : List ℕ) → next < b
@@ -53,8 +57,8 @@ same_held : (b : ℕ) (lead w : ℕ → ℕ) (place next place' next' : ℕ) (bl
     ≡ get_or block' (place' + ahead b next' i + (lead i + j) * b) 0)
     → held b lead w place next block i ≡ held b lead w place' next' block' i
 same_held b lead w place next place' next' block block' i h =
-    ext_get_or 0 (held b lead w place next block i) (held b lead w place' next' block' i) (length-held b lead w place next block i
-    ∙ sym (length-held b lead w place' next' block' i))
+    ext_get_or 0 (held b lead w place next block i) (held b lead w place' next' block' i)
+    (length-held b lead w place next block i ∙ sym (length-held b lead w place' next' block' i))
     (λ j l. let k : j < w i = omega (arith, l, length-held b lead w place next block i) in
     get_or-held b lead w place next block i j k ∙ h j k ∙ sym (get_or-held b lead w place' next' block' i j k))
 

@@ -8,22 +8,25 @@ use Rattle.dtx_laws.specs.Branches.{Branching, IsInterleaver}
 abbrev pub ahead : ℕ → ℕ → ℕ → ℕ
 ahead b next i = if nat_le next i then i - next else i + b - next
 
--- What branch i holds. The block keeps as many rows of b bytes as the longest branch holds bytes, from the place on, and
--- each row has one byte of each branch: the first `lead i` of them have left.
+-- What branch i holds. From the place on the block keeps as many rows of b bytes as the longest branch holds bytes.
+-- Each row has one byte of each branch, and the first `lead i` of branch i have left.
 abbrev pub held : ℕ → (ℕ → ℕ) → (ℕ → ℕ) → ℕ → ℕ → List ℕ → ℕ → List ℕ
 held b lead w place next block i =
     map (λ j. slice_index block (place + ahead b next i + (lead i + j) * b)) (range_with_len 0 (w i))
 
 -- the branches, of which branch i holds w i bytes
 abbrev pub lying : ℕ → (ℕ → ℕ) → (ℕ → ℕ) → ℕ → ℕ → List ℕ → Branching
-lying b lead w place next block = record { next = next; lists = map (held b lead w place next block) (range_with_len 0 b) }
+lying b lead w place next block = record {
+  next = next;
+  lists = map (held b lead w place next block) (range_with_len 0 b);
+}
 
 -- the branch behind this one
 abbrev pub following : ℕ → ℕ → ℕ
 following b next = if next + 1 == b then 0 else next + 1
 
--- These bytes are those of branch `turn` and the n - 1 behind it that leave as the next byte of each comes: a branch's
--- byte lies in its row behind those that have left.
+-- These bytes are those that leave as one byte comes to branch `turn` and to each of the n - 1 behind it: each from the
+-- first row whose byte of its branch has not left, or from behind all rows the one that comes.
 abbrev pub AreOfRow : ℕ → (ℕ → ℕ) → List ℕ → ℕ → ℕ → ℕ → List ℕ → Type 0
 AreOfRow b lead block place turn n bytes =
     (i : ℕ) → i < n → slice_index bytes i ≡ slice_index block (place + i + b * lead (turn + i))

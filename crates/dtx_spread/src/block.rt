@@ -56,16 +56,15 @@ fn leave<W: Widths<B, M>, const B: usize, const M: usize>(
     let mut turn = next;
     let mut done = 0;
     while done < bytes.len() {
-        let (count, after) =
-            leave_next::<W, B, M>(block, place + done, turn, &mut bytes[done..]);
+        let (count, after) = leave_next::<W, B, M>(block, place + done, turn, &mut bytes[done..]);
         done += count;
         turn = after;
     }
     turn
 }
 
-/// Replaces the bytes up to the last branch, or all where there are fewer. Gives how many it replaced, and the next
-/// branch. A row of one byte for each branch has a call of its own, in which its length is known before the program
+/// Replaces whole rows, or else the bytes up to the last branch, or all where there are fewer. Gives how many it
+/// replaced, and the next branch. Rows have a call of their own, in which their length is known before the program
 /// runs.
 fn leave_next<W: Widths<B, M>, const B: usize, const M: usize>(
     block: &[u8],
@@ -79,18 +78,37 @@ fn leave_next<W: Widths<B, M>, const B: usize, const M: usize>(
     requires room { place + length bytes.old + B * M * (B - 1) ≤ length block.now }
     ensures some { 0 < result.0 }
     ensures within { result.0 ≤ length bytes.old }
-    ensures row { turn + result.0 ≤ B }
-    ensures left { AreOfRow B W.lead block.now place turn result.0 bytes.new }
+    ensures left { AreLeft B W.lead block.now place turn result.0 bytes.new }
     ensures turn { result.1 ≡ (turn + result.0) % B }
 {
     if turn == 0 && B <= bytes.len() {
-        leave_row::<W, B, M>(block, place, &mut bytes[..B]);
-        return (B, 0);
+        return (leave_rows::<W, B, M>(block, place, bytes), 0);
     }
     let count = (B - turn).min(bytes.len());
     leave_part::<W, B, M>(block, place, turn, &mut bytes[..count]);
     let after = turn + count;
     (count, if after == B { 0 } else { after })
+}
+
+/// Replaces rows of one byte for each branch, as many as are whole. Gives how many bytes these are.
+fn leave_rows<W: Widths<B, M>, const B: usize, const M: usize>(
+    block: &[u8],
+    place: usize,
+    bytes: &mut [u8],
+) -> usize
+    requires numbers { IsInterleaver B M }
+    requires room { place + length bytes.old + B * M * (B - 1) ≤ length block.now }
+    ensures whole { result % B ≡ 0 }
+    ensures within { result ≤ length bytes.old }
+    ensures all { length bytes.old < result + B }
+    ensures left { AreLeft B W.lead block.now place 0 result bytes.new }
+{
+    let mut done = 0;
+    while done + B <= bytes.len() {
+        leave_row::<W, B, M>(block, place + done, &mut bytes[done..done + B]);
+        done += B;
+    }
+    done
 }
 
 /// Replaces a row by the bytes that leave, eight at a time.

@@ -32,9 +32,8 @@ impl<const B: usize, const M: usize> Widths<B, M> for Spreading {
 
     ghost lead = { gathering B M };
 
-    // In steps back, since so the compiler unrolls a row.
     fn offset(turn: usize, i: usize) -> usize {
-        B * (M * (B - 1 - turn)) - (B * M - 1) * i
+        i + B * (M * (B - 1 - (turn + i)))
     }
 
     ghost are = { spreading_widths B M };

@@ -15,6 +15,6 @@ loop-done-preserved g c =
       left = left_more g.row.B g.W.Widths.lead c.args.block.now c.loop-done.bytes c.leave_next-count.new.bytes
           c.args.place c.args.next c.loop-done.turn done (length c.loop-done.bytes - done) count
           (omega (arith, h.within, c.loop-done.auto.bytes))
-          (omega (arith, e.within, c.leave_next-count.auto.bytes)) e.row h.turn h.left e.left;
+          (omega (arith, e.within, c.leave_next-count.auto.bytes)) h.turn h.left e.left;
       turn = e.turn ∙ ap (λ n. (n + count) % g.row.B) h.turn ∙ sym (turn_further g.row.B c.args.next done count);
     }

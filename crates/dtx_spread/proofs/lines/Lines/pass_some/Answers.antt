@@ -1,7 +1,8 @@
 use Rattle.std.proofs.Common.{◌+◌, ◌*◌, ◌-◌, ◌<◌, ℕ, length, take, drop, sym, subst, ap, ◌∙◌, arith}
+use Rattle.std.proofs.Math.Nat.{mod-lt}
 use Rattle.dtx_laws.specs.Branches.{leaving_all, after_all}
 use Rattle.dtx_spread.specs.Laid.{lying}
-use Rattle.dtx_spread.proofs.Left.{pass_branches, pass_bytes, turn_less}
+use Rattle.dtx_spread.proofs.Left.{pass_branches, pass_bytes}
 use Rattle.dtx_spread.proofs.Lent.{lent_twice}
 use Rattle.dtx_spread.proofs.lines.Lines.pass_some.Goals as goal
 
@@ -13,10 +14,11 @@ invariant_of-self g c =
     c.deref_mut-2.result.now c.through-self-inside.new.block s.block.ok.0 c.deref_mut.ensures.value
     c.make_room-self-inside.auto.block c.deref_mut-2.ensures.value c.through-self-inside.auto.block in
     let long = ap length r.1 ∙ r.2 in
+    let some : 0 < g.row.B = omega (arith, h.below) in
     record {
       numbers = h.numbers;
       below = subst (λ (n : ℕ). n < g.row.B) (sym c.through-self-inside.ensures.turn)
-          (turn_less g.row.B (s.next + length c.args.bytes.now) (omega (arith, h.below)));
+          (mod-lt (s.next + length c.args.bytes.now) some);
       within = omega (
         arith,
         long,
