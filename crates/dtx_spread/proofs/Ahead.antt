@@ -28,13 +28,6 @@ ahead_less b next i p l = by_cases (cases_lt i next)
     by_cases (inl k) = omega (arith, ahead_below b next i k)
     by_cases (inr k) = omega (arith, ahead_from b next i k)
 
-pub ahead_some : (b next i : ℕ) → next < b → i ≢ next → 0 < ahead b next i
-ahead_some b next i p n = by_cases (cases_lt i next)
-  where
-    by_cases : (i < next) ⊎ (next ≤ i) → 0 < ahead b next i
-    by_cases (inl k) = omega (arith, ahead_below b next i k)
-    by_cases (inr k) = omega (arith, ahead_from b next i k, n)
-
 -- a byte later, each other branch is nearer by one
 pub ahead_other : (b next i : ℕ) → next < b → i < b → i ≢ next → 1 + ahead b (following b next) i ≡ ahead b next i
 ahead_other b next i p l n = by_cases (cases_eq (next + 1) b)

@@ -1,9 +1,9 @@
 -- A block behind whose held bytes others are put, and bytes that leave part after part of a row.
 use Rattle.std.proofs.Common.{◌≡◌, ℕ, ◌+◌, ◌-◌, ◌*◌, ◌%◌, ◌<◌, ◌≤◌, ◌⊎◌, inl, inr, List, ◌++◌, length, get_or}
-use Rattle.std.proofs.Common.{take, drop, refl, sym, ap, ap₂, ◌∙◌, arith}
+use Rattle.std.proofs.Common.{take, drop, sym, ap, ap₂, ◌∙◌, arith}
 use Rattle.std.proofs.lemmas.Bool.{cases_lt}
 use Rattle.std.proofs.lemmas.List.{get_or_append_left, get_or-append_right}
-use Rattle.std.proofs.lemmas.List.{get_or-take, length-take-le, take_at, drop_at}
+use Rattle.std.proofs.lemmas.List.{get_or-take, length-take-le}
 use Rattle.std.proofs.lemmas.Slice.{take-put_mid_below}
 use Rattle.std.proofs.lemmas.List.{drop-take}
 use Rattle.std.proofs.Math.Nat.{mod-eq_of_lt}
@@ -72,9 +72,3 @@ pub held_stays : (place n end k : ℕ) (block bytes : List ℕ) → place + n �
 held_stays place n end k block bytes l m =
     sym (drop-take place n (put_mid end k block bytes))
     ∙ ap (drop place) (take-put_mid_below end k block bytes (place + n) l m) ∙ drop-take place n block
-
-pub put_there : (end k : ℕ) (block bytes : List ℕ) → end ≤ length block
-    → take (length bytes) (drop end (put_mid end k block bytes)) ≡ bytes
-put_there end k block bytes l =
-    ap (take (length bytes)) (drop_at (take end block) (bytes ++ post_of end k block) end (length-take-le end block l))
-    ∙ take_at bytes (post_of end k block) (length bytes) refl
