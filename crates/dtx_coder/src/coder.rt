@@ -25,8 +25,9 @@ pub struct Coder {
     outer: OuterCoding,
     twelve: Twelve,
     last: [i8; PRECODE],
-    /// What the last group became on its way: its codewords, one behind the other, and then the bytes behind the
-    /// interleaver. They stand here since each group writes all of them anew, so that none has to clear them before.
+    /// What the last group became on its way: its codewords, one behind the other, in whose place the bytes that left
+    /// the interleaver have come. They stand here since each group writes all of them anew, so that none has to clear
+    /// them before.
     bytes: [u8; GROUP_BYTES],
 }
 

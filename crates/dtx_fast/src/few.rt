@@ -9,8 +9,8 @@ use crate::guesses::Guesses;
 use crate::wrong_byte::{WrongByte, one_gives, three_give, two_give};
 use dtx_laws::correcting::ROOM;
 
-/// Puts a word with `k` bytes of data right of which one to three bytes are wrong: how many are. Nearly all
-/// such words are found.
+/// Puts a word with `k` bytes of data right of which one to three bytes are wrong: how many are. Where the code has at
+/// least eight parity bytes nearly all such words are found, where it has fewer only some.
 pub fn mend_few(guesses: &Guesses, word: &mut [u8], syndromes: &[u8; ROOM], k: usize) -> Option<u8>
     requires code { IsCode (length word.old) k }
     requires bytes { AreBytes word.old }

@@ -1,7 +1,7 @@
--- What is fed to zeros is a sum of rows, and rows follow from rows.
-use Rattle.std.proofs.Common.{◌≡◌, ℕ, zero, suc, ◌+◌, ◌<◌, ◌⊎◌, inl, inr, List, [], ◌∷◌, ◌++◌, length, get_or, set}
-use Rattle.std.proofs.Common.{take, replicate, bit_xor, refl, sym, ap, ap₂, ◌∙◌, subst, arith}
-use Rattle.std.proofs.lemmas.List.{length-replicate, take_more, get_or-set_same, get_or-set_other}
+-- What is fed to zeros is a sum of rows.
+use Rattle.std.proofs.Common.{◌≡◌, ℕ, zero, suc, ◌+◌, ◌<◌, List, [], ◌∷◌, ◌++◌, length, get_or}
+use Rattle.std.proofs.Common.{take, replicate, bit_xor, refl, sym, ap, ap₂, ◌∙◌, arith}
+use Rattle.std.proofs.lemmas.List.{length-replicate, take_more}
 use Rattle.std.specs.Int.Bits.{xor_zero_r}
 use Rattle.dtx_galois.specs.Word.{sums}
 use Rattle.dtx_laws.specs.Register.{fed, register}
@@ -31,12 +31,6 @@ rows_sum divisor bs b =
 zeros_end : (k : ℕ) → ◌≡◌ {A = List ℕ} (0 ∷ replicate k 0) (replicate k 0 ++ 0 ∷ [])
 zeros_end zero = refl
 zeros_end (suc k) = ap (◌∷◌ 0) (zeros_end k)
-
--- the row at one place earlier: one more zero is fed
-pub row_more : (divisor : List ℕ) (f k : ℕ) → row divisor f (suc k) ≡ fed divisor (row divisor f k) 0
-row_more divisor f k =
-    ap (λ xs. register divisor (fed divisor (replicate (length divisor) 0) f) xs) (zeros_end k)
-    ∙ register_append divisor (fed divisor (replicate (length divisor) 0) f) (replicate k 0) (0 ∷ [])
 
 four_rows : (divisor : List ℕ) (a b c d : ℕ) → register divisor (replicate (length divisor) 0) (a ∷ b ∷ c ∷ d ∷ [])
     ≡ sums (row divisor a 3) (sums (row divisor b 2) (sums (row divisor c 1) (row divisor d 0)))
@@ -89,21 +83,3 @@ pub step_along : (divisor rs head state next : List ℕ) (at : ℕ) → at + 3 <
 step_along divisor rs head state next at l e f =
     f ∙ ap (λ xs. register divisor xs (get_or head at 0 ∷ get_or head (at + 1) 0 ∷ get_or head (at + 2) 0 ∷ get_or head
     (at + 3) 0 ∷ [])) e ∙ register_four divisor rs head at l
-
--- ---- along the table
-
--- what holds of each row below i, after row i is written
-pub rows_more : (P : ℕ → List ℕ → Type 0) (xs : List (List ℕ)) (i : ℕ) (x : List ℕ) → i < length xs
-    → ((k : ℕ) → k < i → P k (get_or xs k [])) → P i x → (k : ℕ) → k < i + 1 → P k (get_or (set xs i x) k [])
-rows_more P xs i x l h q k m = by_place (last_or_below i k m)
-  where
-    last_or_below : (i k : ℕ) → k < i + 1 → (k ≡ i) ⊎ (k < i)
-    last_or_below i k m = grind arith
-
-    below_not : (i k : ℕ) → k < i → k ≡ i → ⊥
-    below_not i k r s = omega arith
-
-    by_place : (k ≡ i) ⊎ (k < i) → P k (get_or (set xs i x) k [])
-    by_place (inl e) =
-        subst (λ (j : ℕ). P j (get_or (set xs i x) j [])) (sym e) (subst (P i) (sym (get_or-set_same xs i x [] l)) q)
-    by_place (inr r) = subst (P k) (sym (get_or-set_other xs i k x [] (λ s. below_not i k r s))) (h k r)

@@ -10,11 +10,8 @@ ghost use Rattle.dtx_rs.specs.declared.words.TheConstants.{REST, STEP, WIDTH};
 
 use crate::divisor::ELEMENTS;
 use crate::register::feed;
-use crate::words::{Rest, STEP, Split, WIDTH, WORDS, bytes_of, joined, words_of};
+use crate::words::{Rest, STEP, Split, WIDTH, WORDS, bytes_of, joined, parted, words_of};
 use std::simd::prelude::*;
-
-/// How many rows there are: one for each byte, at each place of a step.
-const ROWS: usize = STEP * ELEMENTS;
 
 /// The rows of one place of a step, one for each byte. Their first words stand apart from those behind, which fill
 /// vectors.
@@ -44,15 +41,13 @@ impl Table {
     pub fn new(divisor: &[u8; WIDTH]) -> Self
         ensures { result.divisor ≡ divisor.now }
     {
-        let rows = all_rows(divisor);
+        let last = last_place(divisor);
+        let third = place_before(divisor, &last);
+        let second = place_before(divisor, &third);
+        let first = place_before(divisor, &second);
         Table {
             divisor: *divisor,
-            places: [
-                place_of(&rows, 0),
-                place_of(&rows, 1),
-                place_of(&rows, 2),
-                place_of(&rows, 3),
-            ],
+            places: [last, third, second, first],
         }
     }
 
@@ -156,30 +151,6 @@ impl Table {
     }
 }
 
-/// The rows of a place of a step.
-fn place_of(rows: &[[u32; WORDS]; ROWS], k: usize) -> Place
-    requires { k < STEP }
-    ensures rows { (f : ℕ) → f < ELEMENTS
-        → slice_index result.firsts f ∷ (slice_index_or result.rests f (record { words = [] })).words
-        ≡ slice_index_or rows.now (ELEMENTS * k + f) [] }
-    ensures long { (f : ℕ) → f < ELEMENTS
-        → length (slice_index_or result.rests f (record { words = [] })).words ≡ REST }
-{
-    let none = Rest {
-        words: u32x4::splat(0),
-    };
-    let mut place = Place {
-        firsts: [0; ELEMENTS],
-        rests: [none; ELEMENTS],
-    };
-    for f in 0..ELEMENTS {
-        let row = &rows[ELEMENTS * k + f];
-        place.firsts[f] = row[0];
-        place.rests[f].words = u32x4::from_slice(&row[1..]);
-    }
-    place
-}
-
 /// The words one place on.
 #[inline(always)]
 fn next_words(state: u32x4) -> u32x4
@@ -199,29 +170,55 @@ fn padded(head: &[u8]) -> [u8; STEP]
     bytes
 }
 
-/// The rows of each byte at each place of a step.
-fn all_rows(divisor: &[u8; WIDTH]) -> [[u32; WORDS]; ROWS]
-    ensures { (k f : ℕ) → k < STEP → f < ELEMENTS
-        → word_bytes (slice_index_or result (ELEMENTS * k + f) []) ≡ row divisor.now f k }
+/// The rows of a step's last place: the register of zeros after each byte.
+fn last_place(divisor: &[u8; WIDTH]) -> Place
+    ensures rows { (f : ℕ) → f < ELEMENTS → word_bytes (slice_index result.firsts f
+        ∷ (slice_index_or result.rests f (record { words = [] })).words) ≡ row divisor.now f 0 }
+    ensures long { (f : ℕ) → f < ELEMENTS
+        → length (slice_index_or result.rests f (record { words = [] })).words ≡ REST }
 {
-    let mut rows = [[0; WORDS]; ROWS];
-    for n in 0..ROWS {
-        rows[n] = nth_row(divisor, &rows, n);
+    let mut place = no_rows();
+    for f in 0..ELEMENTS {
+        let row = parted(&next_row(divisor, &[0; WORDS], f as u8));
+        place.firsts[f] = row.first;
+        place.rests[f].words = row.rest;
     }
-    rows
+    place
 }
 
-/// Row n, from the rows before it.
-fn nth_row(divisor: &[u8; WIDTH], rows: &[[u32; WORDS]; ROWS], n: usize) -> [u32; WORDS]
-    requires some { n < ROWS }
-    requires before { (j : ℕ) → j < n → word_bytes (slice_index_or rows.now j [])
-        ≡ row divisor.now (j % ELEMENTS) (j / ELEMENTS) }
-    ensures { word_bytes result ≡ row divisor.now (n % ELEMENTS) (n / ELEMENTS) }
+/// The rows of the place before that of these rows: a zero is fed to each register.
+fn place_before(divisor: &[u8; WIDTH], behind: &Place) -> Place
+    ensures rows { (f : ℕ) → f < ELEMENTS → word_bytes (slice_index result.firsts f
+        ∷ (slice_index_or result.rests f (record { words = [] })).words)
+        ≡ fed divisor.now (word_bytes (slice_index behind.now.firsts f
+        ∷ (slice_index_or behind.now.rests f (record { words = [] })).words)) 0 }
+    ensures long { (f : ℕ) → f < ELEMENTS
+        → length (slice_index_or result.rests f (record { words = [] })).words ≡ REST }
 {
-    if n < ELEMENTS {
-        next_row(divisor, &[0; WORDS], n as u8)
-    } else {
-        next_row(divisor, &rows[n - ELEMENTS], 0)
+    let mut place = no_rows();
+    for f in 0..ELEMENTS {
+        let before = joined(Split {
+            first: behind.firsts[f],
+            rest: behind.rests[f].words,
+        });
+        let row = parted(&next_row(divisor, &before, 0));
+        place.firsts[f] = row.first;
+        place.rests[f].words = row.rest;
+    }
+    place
+}
+
+/// Rows of zeros.
+fn no_rows() -> Place
+    ensures firsts { length result.firsts ≡ ELEMENTS }
+    ensures rests { length result.rests ≡ ELEMENTS }
+{
+    let rest = Rest {
+        words: u32x4::splat(0),
+    };
+    Place {
+        firsts: [0; ELEMENTS],
+        rests: [rest; ELEMENTS],
     }
 }
 

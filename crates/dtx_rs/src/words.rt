@@ -1,6 +1,7 @@
 //! Registers as words of four bytes, the lowest byte of each first, as they stand in the memory of most machines.
 
-ghost use Rattle.std.specs.Prelude.{◌≡◌, [], ◌∷◌, ◌++◌};
+ghost use Rattle.std.specs.Prelude.{◌≡◌, ◌∷◌, length};
+ghost use Rattle.dtx_rs.specs.declared.words.TheConstants.{REST};
 ghost use Rattle.dtx_rs.specs.Table.{word_bytes};
 
 use dtx_laws::PARITY;
@@ -51,6 +52,17 @@ pub fn joined(split: Split) -> [u32; WORDS]
 {
     let rest = split.rest.to_array();
     [split.first, rest[0], rest[1], rest[2], rest[3]]
+}
+
+/// The words of a register, the first apart.
+pub fn parted(words: &[u32; WORDS]) -> Split
+    ensures words { result.first ∷ result.rest ≡ words.now }
+    ensures long { length result.rest ≡ REST }
+{
+    Split {
+        first: words[0],
+        rest: u32x4::from_slice(&words[1..]),
+    }
 }
 
 /// The words of these bytes.
