@@ -34,8 +34,8 @@ const FIELD: usize = 312;
 const BRANCHES: usize = 52;
 const DELAY: usize = 4 * BRANCHES;
 const HELD: usize = DELAY * (BRANCHES - 1);
-// From the first byte of a row of one byte for each branch to the last.
-const ROW: usize = (DELAY + 1) * (BRANCHES - 1) + 1;
+// From the first byte that a row may take to the last.
+const ROW: usize = HELD + BRANCHES;
 const ROOM: usize = 32_768;
 const CODERS: usize = 12;
 const GROUP_BYTES: usize = 828;
@@ -94,24 +94,35 @@ impl Interleaver {
             self.block.copy_within(self.place..self.place + HELD, 0);
             self.place = 0;
         }
+        let end = self.place + HELD;
+        self.block[end..end + LEN].copy_from_slice(bytes);
         let mut done = 0;
         while done < LEN {
             let place = self.place + done;
             if self.next == 0 && LEN - done >= BRANCHES {
-                let row: &[u8; BRANCHES] = bytes[done..done + BRANCHES].try_into().unwrap();
-                let there: &mut [u8; ROW] = (&mut self.block[place..place + ROW]).try_into().unwrap();
-                for branch in 0..BRANCHES {
-                    there[(DELAY + 1) * branch] = row[branch];
-                }
+                let there: &[u8; ROW] = (&self.block[place..place + ROW]).try_into().unwrap();
+                leave_row(there, (&mut bytes[done..done + BRANCHES]).try_into().unwrap());
                 done += BRANCHES;
             } else {
-                self.block[place + DELAY * self.next] = bytes[done];
+                bytes[done] = self.block[end + done - DELAY * self.next];
                 done += 1;
                 self.next = if self.next + 1 == BRANCHES { 0 } else { self.next + 1 };
             }
         }
-        bytes.copy_from_slice(&self.block[self.place..self.place + LEN]);
         self.place += LEN;
+    }
+}
+
+// The bytes of a row that leave, eight of them in one number.
+#[inline(always)]
+fn leave_row(there: &[u8; ROW], row: &mut [u8; BRANCHES]) {
+    let leaves = |branch: usize| there[HELD + branch - DELAY * branch];
+    for eight in 0..BRANCHES / 8 {
+        let bytes: [u8; 8] = std::array::from_fn(|i| leaves(8 * eight + i));
+        row[8 * eight..8 * eight + 8].copy_from_slice(&u64::from_le_bytes(bytes).to_le_bytes());
+    }
+    for branch in BRANCHES / 8 * 8..BRANCHES {
+        row[branch] = leaves(branch);
     }
 }
 
