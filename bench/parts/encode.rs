@@ -134,9 +134,9 @@ fn put_behind(state: &Register, word: &mut [u8; WORD]) {
     }
 }
 
-fn add(head: &mut [u8; DATA], word: &[u8; WORD]) {
-    for i in 0..PARITY {
-        head[i] ^= word[DATA + i];
+fn add(head: &mut [u8], parity: &[u8]) {
+    for (byte, added) in head.iter_mut().zip(parity) {
+        *byte ^= *added;
     }
 }
 
@@ -145,7 +145,7 @@ fn encode(table: &Table, words: u32) -> [u8; PARITY] {
     let mut word = [0; WORD];
     for _ in 0..words {
         table.encode(&head, &mut word);
-        add(&mut head, &word);
+        add(&mut head, &word[DATA..]);
     }
     word[DATA..].try_into().unwrap()
 }
@@ -156,9 +156,7 @@ fn complete_four(table: &Table, fours: u32) -> [[u8; PARITY]; 4] {
         table.complete_four(&mut words);
         for word in &mut words {
             let (head, parity) = word.split_at_mut(DATA);
-            for (byte, added) in head.iter_mut().zip(parity) {
-                *byte ^= *added;
-            }
+            add(head, parity);
         }
     }
     words.map(|word| word[DATA..].try_into().unwrap())
