@@ -77,6 +77,20 @@ written by another:echo more >>tx-7.log
 replaced by another file:cp tx-7.log other.log; mv other.log tx-7.log
 end
 
+while IFS=: read -r shows do; do
+    start "symbols of a network that are $shows between two events of their transmitter"
+    stream 1300 s.ts
+    { network s.ts && send 7 0 700 && send 9 0 1300 && send 7 700 600; } >plan.toml
+    meanwhile "$do" tx-9.sym net plan.toml
+    is_said 12 'write fault' $?
+    is_begun "$room/piped" "$room/from_order.sym"
+done <<'end'
+lost:rm tx-7.sym
+cut:truncate -s 100000 tx-7.sym
+written by another:echo more >>tx-7.sym
+replaced by another file:cp tx-7.sym other.sym; mv other.sym tx-7.sym
+end
+
 start 'a network of more files than may be open'
 stream 1300 s.ts
 {

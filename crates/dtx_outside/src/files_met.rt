@@ -9,6 +9,10 @@ use std::os::unix::fs::{FileTypeExt, MetadataExt};
 /// How many files are held open at a time, but for the pipes.
 const MOST_HELD: usize = 64;
 
+/// A file that is held open is looked at by its name before each piece as long as it has fewer bytes. From then on that
+/// is done once in so many bytes, and where another file was added to meanwhile.
+const LOOK_BYTES: u64 = 65_536;
+
 /// A file of the host, by its device and its number there: what two names of one file, and its links, have in common.
 #[derive(Clone, Copy, Debug, PartialEq, Eq)]
 pub(crate) struct FileId {
@@ -24,29 +28,41 @@ pub(crate) struct Met<F> {
     is_pipe: bool,
     /// Of a file that was begun, the bytes that were added to it since.
     added: Option<u64>,
+    /// How many these were when it was last looked at by its name.
+    seen: u64,
     /// The open file, where it is held.
     file: Option<F>,
 }
 
 impl<F: Write + Drop> Met<F> {
-    /// Adds bytes to the file, where it is held open and is the one that is found under its name.
-    pub(crate) fn append(&mut self, found: &Metadata, bytes: &[u8]) -> Result<(), WriteNo> {
-        self.note_added(found, bytes.len() as u64)?;
-        match &mut self.file {
-            Some(file) => add(file, bytes),
-            None => Err(WriteNo::Failed),
+    /// Whether the file is to be looked at by its name before more is added.
+    pub(crate) fn is_due(&self) -> bool {
+        match self.added {
+            Some(added) => added < LOOK_BYTES || added.saturating_sub(self.seen) >= LOOK_BYTES,
+            None => true,
         }
     }
 
-    fn note_added(&mut self, found: &Metadata, bytes: u64) -> Result<(), WriteNo> {
+    /// Notes what was found where it was looked for. It fails where the file was not begun, or is another one, or not
+    /// as long as what was added to it: then another file has come under its name, or someone else writes to it.
+    pub(crate) fn note_seen(&mut self, found: &Metadata) -> Result<(), WriteNo> {
         let Some(added) = self.added else {
             return Err(WriteNo::Failed);
         };
         if self.id != id_of(found) || found.is_file() && found.len() != added {
             return Err(WriteNo::Failed);
         }
-        self.added = Some(added.saturating_add(bytes));
+        self.seen = added;
         Ok(())
+    }
+
+    /// Adds bytes to the file, where it was begun and is held open.
+    pub(crate) fn append(&mut self, bytes: &[u8]) -> Result<(), WriteNo> {
+        let (Some(added), Some(file)) = (self.added, &mut self.file) else {
+            return Err(WriteNo::Failed);
+        };
+        self.added = Some(added.saturating_add(bytes.len() as u64));
+        add(file, bytes)
     }
 
     fn has_name(&self, name: &str) -> bool {
@@ -135,23 +151,10 @@ impl<F: Write + Drop> FilesMet<F> {
             id: id_of(found),
             is_pipe,
             added: Some(0),
+            seen: 0,
             file: if is_pipe { Some(file) } else { None },
         })?;
         Ok(())
-    }
-
-    /// Counts bytes that are to be added to a file. It fails where the file was not begun under that name, or is not as
-    /// long as what was added to it: then another file has come under its name, or someone else writes to it.
-    pub(crate) fn note_added(
-        &mut self,
-        name: &str,
-        found: &Metadata,
-        bytes: u64,
-    ) -> Result<(), WriteNo> {
-        match self.begun(name) {
-            Some(met) => met.note_added(found, bytes),
-            None => Err(WriteNo::Failed),
-        }
     }
 
     /// The file that was begun under that name, where it is held open.
@@ -160,16 +163,24 @@ impl<F: Write + Drop> FilesMet<F> {
         if met.file.is_some() { Some(met) } else { None }
     }
 
-    /// Holds the file that was begun under that name open. Where too many are held, those are closed first: files are
-    /// mostly added to one after another, so it is this one that is looked for again.
-    pub(crate) fn hold(&mut self, name: &str, file: F) {
+    /// Holds an open file as that which was begun under the name, as which it was found. Where too many are held, those
+    /// are closed first: files are mostly added to one after another, so it is this one that is looked for again.
+    pub(crate) fn hold(
+        &mut self,
+        name: &str,
+        found: &Metadata,
+        file: F,
+    ) -> Result<&mut Met<F>, WriteNo> {
         let held = self.met.iter().filter(|met| met.may_be_closed()).count();
         if held >= MOST_HELD {
             self.let_go();
         }
-        if let Some(met) = self.begun(name) {
-            met.file = Some(file);
-        }
+        let Some(met) = self.begun(name) else {
+            return Err(WriteNo::Failed);
+        };
+        met.note_seen(found)?;
+        met.file = Some(file);
+        Ok(met)
     }
 
     /// Closes all files that are held open but for the pipes, and answers whether there were any.
@@ -184,10 +195,15 @@ impl<F: Write + Drop> FilesMet<F> {
         any
     }
 
+    /// The file that was begun under that name. It is to be looked at where another one was looked for meanwhile.
     fn begun(&mut self, name: &str) -> Option<&mut Met<F>> {
         let place = self.place_begun(name)?;
-        self.last = place;
-        self.met.get_mut(place)
+        let met = self.met.get_mut(place)?;
+        if place != self.last {
+            self.last = place;
+            met.seen = 0;
+        }
+        Some(met)
     }
 
     /// It is looked for from one before the last on, and then among all.
@@ -208,6 +224,7 @@ impl<F: Write + Drop> FilesMet<F> {
             id,
             is_pipe: false,
             added: None,
+            seen: 0,
             file: None,
         })?;
         Ok(())
@@ -228,7 +245,7 @@ pub(crate) fn id_of(found: &Metadata) -> FileId {
 }
 
 /// A part may have been written when this fails: it never counts as want of memory, which leaves all as it was.
-pub(crate) fn add<F: Write>(file: &mut F, bytes: &[u8]) -> Result<(), WriteNo> {
+fn add<F: Write>(file: &mut F, bytes: &[u8]) -> Result<(), WriteNo> {
     match file.write_all(bytes) {
         Ok(()) => Ok(()),
         Err(_) => Err(WriteNo::Failed),

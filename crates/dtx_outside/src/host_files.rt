@@ -1,7 +1,7 @@
 // The file system, through the runtime that `main` is given: what each call of the shelf does there.
 ghost use Rattle.std.specs.Prelude.{◌≤◌, IfOk, length};
 
-use crate::files_met::{FilesMet, add, id_of};
+use crate::files_met::{FilesMet, id_of};
 use crate::{Progress, ReadNo, WriteNo};
 use std::fs::{Metadata, OpenFile, OpenOptions};
 use std::io::{ErrorKind, Read, Seek, SeekFrom};
@@ -99,25 +99,25 @@ impl<'a, R: Files + AllocGlobal + Clock + Eprint> HostFiles<'a, R> {
     }
 
     /// Adds the bytes to a file that was begun, and to no other. It is held open from its first bytes on, and then only
-    /// its name is looked at.
+    /// its name is looked at, where that is due.
     pub(crate) fn append(&mut self, name: &str, bytes: &[u8]) -> Result<(), WriteNo> {
         if let Some(file) = self.met.held(name) {
-            return match fs::metadata(self.rt, name) {
-                Ok(found) => file.append(&found, bytes),
-                Err(e) => Err(write_refusal(&e)),
-            };
+            if file.is_due() {
+                match fs::metadata(self.rt, name) {
+                    Ok(found) => file.note_seen(&found)?,
+                    Err(e) => return Err(write_refusal(&e)),
+                }
+            }
+            return file.append(bytes);
         }
-        let mut file = match self.open(OpenOptions::new().append(true), name) {
+        let file = match self.open(OpenOptions::new().append(true), name) {
             Ok(file) => file,
             Err(e) => return Err(write_refusal(&e)),
         };
         let Ok(found) = file.metadata() else {
             return Err(WriteNo::Failed);
         };
-        self.met.note_added(name, &found, bytes.len() as u64)?;
-        add(&mut file, bytes)?;
-        self.met.hold(name, file);
-        Ok(())
+        self.met.hold(name, &found, file)?.append(bytes)
     }
 
     /// Opens a file. Where that fails, the host may allow no more open files: then those that are held are closed,

@@ -17,8 +17,9 @@ use std::time::Clock;
 ///
 /// No file is begun that was read or begun before, under whatever name, or that standard output goes to: `begin` fails
 /// then and touches nothing, so an input is not lost where another path or a link leads to it. Nothing is added to a
-/// file that was not begun under its name, or that isn't as long as what was added; and nothing is read where another
-/// file has come under a name, or the file was lost or cut to less than what was read.
+/// file that was not begun under its name, or that isn't as long as what was added, which is asked of a file of 64 KiB
+/// or more once in so many bytes, and once another was added to; and nothing is read where another file has come under
+/// a name, or the file was lost or cut to less than what was read.
 #[derive(Drop)]
 pub struct HostShelf<'a, R: Files> {
     files: HostFiles<'a, R>,
