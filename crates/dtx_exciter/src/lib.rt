@@ -11,5 +11,5 @@ mod tables;
 
 pub use answers::{Preset, Told, Why};
 pub use exciter::Exciter;
-pub use orders::{is_flushed, ordered};
+pub use orders::{Corrector, is_flushed, ordered};
 pub use tables::Tables;

@@ -11,7 +11,7 @@ use dtx_packets::Packet;
 use dtx_sizes::GROUP_PACKETS;
 
 /// The corrector of operations packets.
-pub(crate) type Corrector = Fast<184, 164>;
+pub type Corrector = Fast<184, 164>;
 
 /// The fields of the first packet of a group that reads and whose index is its place in the frame, where the group's
 /// first one stands at `first`.

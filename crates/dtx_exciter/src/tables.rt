@@ -19,4 +19,9 @@ impl Tables {
             corrector: Rc::new(alloc, Corrector::new())?,
         })
     }
+
+    /// The corrector of operations packets, shared.
+    pub fn corrector(&self) -> Result<Rc<Corrector>, AllocError> {
+        self.corrector.clone()
+    }
 }

@@ -38,6 +38,11 @@ impl<const N: usize, const K: usize> Fast<N, K> {
         }
     }
 
+    /// The encoder of the code, by which the corrector encodes again.
+    pub fn encoder(&self) -> &Rs<N, K> {
+        &self.encoder
+    }
+
     /// As many syndromes of a word as the code has parity bytes, from the codeword that begins with the word's data.
     /// Behind them any bytes may stand.
     pub fn syndromes(&self, word: &[u8; N], code: &[u8; N]) -> [u8; ROOM]

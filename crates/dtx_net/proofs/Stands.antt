@@ -36,8 +36,7 @@ new_more n ts es t made a at_n stands = record {
 
 -- another exciter at a place
 abbrev pub replaced : (net : Net) → ℕ → Exciter → length net.transmitters ≡ vec_len net.exciters → Net
-replaced net who e same = record {
-  transmitters = net.transmitters;
+replaced net who e same = record net {
   exciters = with_item net.exciters who e;
   same = same;
 }

@@ -2,7 +2,7 @@
 
 use dtx_fast::Fast;
 use dtx_laws::Encode;
-use dtx_net::{LieWriter, flipped, lied};
+use dtx_net::{flipped, lied};
 use dtx_ops::read;
 use dtx_packets::Packet;
 use dtx_rs::Rs;
@@ -47,7 +47,7 @@ fn a_damaged_packet_lies_undamaged(rt: HostRuntime) {
 }
 
 fn lied_with_ones(packet: &Packet) -> Packet {
-    LieWriter::new().lied(packet, &States([1; 12]))
+    lied(packet, &States([1; 12]))
 }
 
 #[test]

@@ -96,7 +96,7 @@ fn play_at<S: Shelf>(
         }
         Event::Lie { from, states, .. } => {
             let packet = read_one(shelf, number, from)?;
-            let lied = playout.liar.lied(&packet, &states);
+            let lied = playout.net.lied(&packet, &states);
             playout.give(shelf, who, &lied)
         }
         Event::Restart { .. } => playout.restart(shelf, who),

@@ -18,7 +18,7 @@ use arrayvec::ArrayString;
 use dtx_coder::{AIR_SYMBOLS, Air};
 use dtx_files::{LOG_LINE, bring, write_line, write_restart};
 use dtx_meaning::Status;
-use dtx_net::{LieWriter, Net};
+use dtx_net::Net;
 use dtx_outside::{Shelf, WriteNo};
 use dtx_packets::Packet;
 use dtx_plan::Transmitter;
@@ -27,9 +27,8 @@ use std::alloc::{AllocError, Global};
 /// The exciters of a network, with what the last step brought, and the numbers of all steps.
 #[derive(Drop)]
 pub(crate) struct Playout {
-    net: Net,
+    pub(crate) net: Net,
     air: Air,
-    pub(crate) liar: Box<LieWriter>,
     /// The names of the files of each transmitter, in the plan's order.
     pub(crate) names: Vec<FileNames>,
     /// The symbols that the last step brought stand at the front of these, one byte each in two's complement.
@@ -51,7 +50,6 @@ impl Playout {
         Ok(Playout {
             net: Net::new(alloc, transmitters)?,
             air: Air::new(),
-            liar: Box::new(alloc, LieWriter::new())?,
             names: names_of_all(alloc, transmitters)?,
             bytes: [0; AIR_SYMBOLS],
             line: ArrayString::new(),

@@ -2,14 +2,17 @@
 ghost use Rattle.std.specs.Prelude.{◌≡◌, ◌<◌, ◌++◌, ◌∷◌, [], ℕ, List, Some, IfOk, IfSome, length, slice_get, vec_len};
 ghost use Rattle.dtx_plan.specs.declared.transmitter.Transmitter.{Transmitter};
 ghost use Rattle.dtx_plan.specs.Sound.{AreTransmitters};
+ghost use Rattle.dtx_net.specs.Changed.{lied_packet};
 ghost use Rattle.dtx_net.specs.Steps.{Step, restart_step, transmitter_place};
 ghost use Rattle.dtx_net.specs.Standing.{StandsFor, AreNew, IsGiven, ChangesOnly};
 
 use super::Net;
+use crate::changed::lied_by;
 use dtx_coder::Air;
 use dtx_exciter::{Exciter, Tables, Told};
 use dtx_packets::Packet;
 use dtx_plan::{Transmitter, Transmitters};
+use dtx_trellis::States;
 use std::alloc::{AllocError, Global};
 
 impl Net {
@@ -19,10 +22,19 @@ impl Net {
         requires { AreTransmitters transmitters.now }
         ensures { IfOk result (λ net. StandsFor transmitters.now net []) }
     {
+        let tables = Tables::new(alloc)?;
         Ok(Net {
             transmitters: Transmitters::from_slice(alloc, transmitters)?,
-            exciters: exciters_of(alloc, transmitters)?,
+            exciters: exciters_of(alloc, &tables, transmitters)?,
+            corrector: tables.corrector()?,
         })
+    }
+
+    /// The packet as one that lies of the states, as `lied` makes it, by the exciters' tables.
+    pub fn lied(&self, packet: &Packet, states: &States) -> Packet
+        ensures { result.0 ≡ lied_packet packet.now.0 states.now }
+    {
+        lied_by(&self.corrector, packet, states)
     }
 
     /// The place in the list of the transmitter with this address, or `None` exactly where there is none.
@@ -58,14 +70,17 @@ impl Net {
     }
 }
 
-/// An exciter for each of the transmitters, all by the same tables.
-fn exciters_of(alloc: Global, transmitters: &[Transmitter]) -> Result<Vec<Exciter>, AllocError>
+/// An exciter for each of the transmitters, all by these tables.
+fn exciters_of(
+    alloc: Global,
+    tables: &Tables,
+    transmitters: &[Transmitter],
+) -> Result<Vec<Exciter>, AllocError>
     ensures { IfOk result (λ exciters. AreNew (length transmitters.now) transmitters.now exciters.items) }
 {
-    let tables = Tables::new(alloc)?;
     let mut exciters = Vec::with_capacity(alloc, transmitters.len())?;
     for transmitter in transmitters {
-        exciters.push(Exciter::sharing(alloc, &tables, transmitter.address, transmitter.delay)?)?;
+        exciters.push(Exciter::sharing(alloc, tables, transmitter.address, transmitter.delay)?)?;
     }
     Ok(exciters)
 }
