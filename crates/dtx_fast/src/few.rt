@@ -31,8 +31,7 @@ pub fn mend_few(guesses: &Guesses, word: &mut [u8], syndromes: &[u8; ROOM], k: u
     }
 }
 
-/// Puts a word right where one wrong byte, that which the first two syndromes give, gives all of them. Then it answers
-/// true.
+/// If it answers true, one byte of the word was wrong and is put right; else the word stays.
 fn mend_one(guesses: &Guesses, word: &mut [u8], syndromes: &[u8; ROOM], k: usize) -> bool
     requires code { IsCode (length word.old) k }
     requires bytes { AreBytes word.old }
@@ -50,7 +49,7 @@ fn mend_one(guesses: &Guesses, word: &mut [u8], syndromes: &[u8; ROOM], k: usize
     }
 }
 
-/// Puts a word right where two wrong bytes that are guessed give all syndromes. Then it answers true.
+/// If it answers true, two bytes of the word were wrong and are put right; else the word stays.
 fn mend_two(guesses: &Guesses, word: &mut [u8], syndromes: &[u8; ROOM], k: usize) -> bool
     requires code { IsCode (length word.old) k }
     requires bytes { AreBytes word.old }
@@ -73,7 +72,7 @@ fn mend_two(guesses: &Guesses, word: &mut [u8], syndromes: &[u8; ROOM], k: usize
     false
 }
 
-/// Puts a word right where three wrong bytes that are guessed give all syndromes. Then it answers true.
+/// If it answers true, three bytes of the word were wrong and are put right; else the word stays.
 fn mend_three(guesses: &Guesses, word: &mut [u8], syndromes: &[u8; ROOM], k: usize) -> bool
     requires code { IsCode (length word.old) k }
     requires bytes { AreBytes word.old }
