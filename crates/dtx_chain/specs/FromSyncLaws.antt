@@ -12,7 +12,7 @@ use Rattle.dtx_slice.specs.Slicing.{sliced, sliced_data, sliced_last}
 use Rattle.dtx_slice.specs.Unrolled.{bytes_back, byte_back, precoder_bit, level_groups, precoder_bits_of}
 use Rattle.dtx_slice.specs.Unrolled.{precoder_bits_in, precoder_bits_after}
 use Rattle.dtx_slice.specs.InverseLaws.{bytes_come_back}
-use Rattle.dtx_slice.specs.JoinsLaws.{bytes_append, formers_repeated}
+use Rattle.dtx_slice.specs.JoinsLaws.{bytes_append, precoder_bits_repeated}
 use Rattle.dtx_frame.specs.SlicesLaws.{end_back, last_back}
 use Rattle.dtx_outer.specs.Inner.{codeword_byte_place, word_at, IsComplete}
 use Rattle.dtx_outer.specs.WordsLaws.{length-word, get_or-word, word_by, word_stays}
@@ -148,7 +148,7 @@ last_there ps (suc q) l =
     let some : 0 < u = omega arith in
     ap (λ x. precoder_bits_of (map sliced x)) (last_is ps u some)
     ∙ ap precoder_bits_of (sliced_end (segment (levels ps) (4 * u - 1)) ∙ last_levels ps u some l)
-    ∙ formers_repeated 0 u (precoder_bits_in zero_states) (levels_to ps u) (length-levels_to ps u l) some
+    ∙ precoder_bits_repeated 0 u (precoder_bits_in zero_states) (levels_to ps u) (length-levels_to ps u l) some
     (field_turns (suc q))
 
 group_starts : (q n l u : ℕ) → 0 < n → 313 * q + n ≤ l → l ≡ 4 * u + (u + 77) / 78 → 78 * q < u

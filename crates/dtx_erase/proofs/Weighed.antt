@@ -1,5 +1,5 @@
 -- Weighed words: each byte times the weight of its place, which is 0 where the place is marked. Those of codewords are
--- codewords of a code with as many correction bytes less as places are marked, so a mending becomes a correction.
+-- codewords of a code with as many parity bytes less as places are marked, so a mending becomes a correction.
 use Rattle.std.proofs.Common.{◌≡◌, ◌≢◌, ℕ, zero, suc, ◌+◌, ◌-◌, ◌*◌, ◌<◌, ◌≤◌, ◌⊎◌, inl, inr, ◌==◌, ◌||◌, cond, Bool}
 use Rattle.std.proofs.Common.{true, false, List, [], ◌∷◌, map, length, get_or, bit_xor, refl, sym, ap, ap₂, ◌∙◌, subst}
 use Rattle.std.proofs.Common.{arith}

@@ -1,10 +1,10 @@
 //! What mends words of a code.
 
-ghost use Rattle.std.specs.Prelude.{◌≡◌, ◌-◌, ◌<◌, ◌≤◌, ℕ, List, [], Ok, MatchResult, length, slice_index};
-ghost use Rattle.std.specs.Prelude.{slice_index_or};
-ghost use Rattle.dtx_galois.specs.Field.{AreBytes, pow, value};
+ghost use Rattle.std.specs.Prelude.{◌≡◌, ◌-◌, ◌≤◌, ℕ, List, MatchResult, length};
+ghost use Rattle.dtx_galois.specs.Field.{AreBytes};
 ghost use Rattle.dtx_laws.specs.Codeword.{IsCode, IsCodeword};
-ghost use Rattle.dtx_laws.specs.Correction.{IsCorrected, IsLeft};
+ghost use Rattle.dtx_laws.specs.Correction.{AreCorrected};
+ghost use Rattle.dtx_laws.specs.Syndromes.{AreSyndromes};
 ghost use Rattle.dtx_erase.specs.Mending.{IsAnswered, IsDeclined, IsMended, IsMending, lost};
 
 use crate::marks::{first_left, lost, suspects, unmarked_distance};
@@ -13,13 +13,11 @@ use crate::values::patch;
 use dtx_fast::{Fast, find_recurrence};
 use dtx_laws::correcting::{ROOM, distance, encoded_again};
 use dtx_laws::{Correct, TooMany};
-use dtx_rs::Rs;
 
-/// Mends words of the code of `N` bytes a word with `K` bytes of data. It holds the code's encoder and corrector, 66 kB
-/// in all, so make one and keep it.
+/// Mends words of the code of `N` bytes a word with `K` bytes of data. It holds the code's corrector, 45 kB, so make
+/// one and keep it.
 #[derive(Drop)]
 pub struct Erase<const N: usize, const K: usize> {
-    encoder: Rs<N, K>,
     corrector: Fast<N, K>,
     ghost code: { IsCode N K },
 }
@@ -30,16 +28,13 @@ impl<const N: usize, const K: usize> Erase<N, K> {
         requires { IsCode N K }
     {
         Erase {
-            encoder: Rs::new(),
             corrector: Fast::new(),
         }
     }
 
     /// Corrects four words, which is to mend them where no place is marked.
     pub(crate) fn correct_four(&self, words: &mut [[u8; N]; 4]) -> [Result<u8, TooMany>; 4]
-        ensures { (p : ℕ) → p < 4 → MatchResult (slice_index_or result p (Ok 0))
-            (IsCorrected N K (slice_index_or words.old p []) (slice_index_or words.new p []))
-            (λ _e. IsLeft N K (slice_index_or words.old p []) (slice_index_or words.new p [])) }
+        ensures { AreCorrected N K words.old words.new result }
     {
         self.corrector.correct_four(words)
     }
@@ -63,20 +58,20 @@ impl<const N: usize, const K: usize> Erase<N, K> {
         accept::<N, K>(word, &tried, marks)
     }
 
-    /// Mends a word of which no more places are marked than there are correction bytes.
+    /// Mends a word of which no more places are marked than there are parity bytes.
     fn mend_marked(&self, word: &mut [u8; N], marks: &[bool; N]) -> Result<u8, TooMany>
         requires { lost marks.now ≤ N - K }
         ensures answer { IsAnswered N K marks.now word.old word.new result }
         ensures long { length word.new ≡ N }
     {
-        let code = encoded_again(&self.encoder, word);
+        let code = encoded_again(self.corrector.encoder(), word);
         if code == *word {
             return Ok(0);
         }
         let mut tried = *word;
         let syndromes = self.corrector.syndromes(word, &code);
         restore(&mut tried[..], &syndromes, &marks[..], K);
-        if encoded_again(&self.encoder, &tried) == tried {
+        if encoded_again(self.corrector.encoder(), &tried) == tried {
             accept::<N, K>(word, &tried, marks)
         } else {
             Err(TooMany)
@@ -129,7 +124,7 @@ fn restore(word: &mut [u8], syndromes: &[u8; ROOM], marks: &[bool], k: usize)
     requires marks { length marks.now ≡ length word.old }
     requires code { IsCode (length word.old) k }
     requires bytes { AreBytes word.old }
-    requires syndromes { (i : ℕ) → i < length word.old - k → slice_index syndromes.now i ≡ value word.old (pow 2 i) }
+    requires syndromes { AreSyndromes (length word.old - k) word.old syndromes.now }
     requires few { lost marks.now ≤ length word.old - k }
     ensures { (right : List ℕ) → IsMending (length word.old) k marks.now word.old right → word.new ≡ right }
 {

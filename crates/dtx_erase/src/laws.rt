@@ -35,7 +35,7 @@ pub fn without_marks()
         → lost marks ≡ 0 → IsCorrection n k word code → IsMending n k marks word code }
 {}
 
-/// A codeword of which no more places are marked than there are correction bytes is its own mending, which changes no
+/// A codeword of which no more places are marked than there are parity bytes is its own mending, which changes no
 /// place.
 pub fn codeword_mended()
     ensures { (n k : ℕ) (marks : List Bool) (word : List ℕ) → IsCodeword n k word → lost marks ≤ n - k

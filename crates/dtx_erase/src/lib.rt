@@ -1,4 +1,4 @@
-//! Mends words of which some bytes are missing: a missing byte costs one correction byte, a wrong one costs two. And a
+//! Mends words of which some bytes are missing: a missing byte costs one parity byte, a wrong one costs two. And a
 //! receiver that knows which symbols are missing.
 #![tactic(auto)]
 

@@ -1,7 +1,7 @@
 //! The side of a run's marks, in which mostly no mark is.
 
-ghost use Rattle.std.specs.Prelude.{◌≡◌, ℕ, ℤ, true, IsFalse, IsTrue, ◌&&◌, ◌+◌, ◌*◌, ◌%◌, ◌<◌, ◌≤◌, ◌++◌, ◌∷◌, []};
-ghost use Rattle.std.specs.Prelude.{List, length, map, replicate, slice_index_or};
+ghost use Rattle.std.specs.Prelude.{◌≡◌, ℕ, ℤ, true, IsFalse, IsTrue, ◌↔◌, ◌&&◌, ◌+◌, ◌*◌, ◌%◌, ◌<◌, ◌≤◌, ◌++◌, ◌∷◌};
+ghost use Rattle.std.specs.Prelude.{[], List, length, map, replicate, slice_index_or};
 ghost use Rattle.dtx_outer.specs.Inner.{word_at};
 ghost use Rattle.dtx_receiver.specs.Bytes.{bytes_in, groups_of};
 ghost use Rattle.dtx_slice.specs.Slicing.{sliced_data};
@@ -77,7 +77,7 @@ impl MarkSide {
         }
     }
 
-    /// Whether all that is kept is 0, and no symbol of the segment is missing.
+    /// If it answers true, all that is kept is 0, and so are the levels of the segment's marks.
     fn stays_quiet(&self, segment: &[i8; SEGMENT]) -> bool
         ensures quiet { IsTrue result → IsQuiet self.now }
         ensures none { IsTrue result → sliced_data (map shown segment.now) ≡ replicate SEGMENT_LEVELS 0 }
@@ -147,12 +147,10 @@ fn both(first: bool, second: bool) -> bool
     first && second
 }
 
-/// Whether all that is kept is 0: the levels that came last, what so many groups of zeros leave, and the bytes that
-/// were gathered last.
+/// Whether it is known that all that is kept is 0: the levels that came last, what so many groups of zeros leave, and
+/// the bytes that were gathered last.
 fn is_over(levels: bool, zeros: u8, gathered: bool) -> bool
-    ensures levels { IsTrue result → levels ≡ true }
-    ensures zeros { IsTrue result → zeros ≡ CLEARED }
-    ensures gathered { IsTrue result → gathered ≡ true }
+    ensures { IsTrue result ↔ ((levels ≡ true) × (zeros ≡ CLEARED) × (gathered ≡ true)) }
 {
     levels && zeros == CLEARED && gathered
 }
@@ -172,7 +170,7 @@ fn counted(before: u8, zeros: bool) -> u8
     }
 }
 
-/// Whether a symbol of a segment is missing.
+/// If it answers false, no symbol of a segment's data is missing: the levels of its marks are 0.
 fn any_missing(segment: &[i8; SEGMENT]) -> bool
     ensures { IsFalse result → sliced_data (map shown segment.now) ≡ replicate SEGMENT_LEVELS 0 }
 {

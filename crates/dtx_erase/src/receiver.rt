@@ -13,7 +13,7 @@ use std::alloc::{AllocError, Global};
 use std::marker::Model;
 
 /// Receives the transport packets of segments, which come one after another. A symbol of value -128 says that nothing
-/// was received there: a byte that rests on such a symbol costs its word one correction byte, a wrong byte costs two.
+/// was received there: a byte that rests on such a symbol costs its word one parity byte, a wrong byte costs two.
 /// `Mends receiver segments` says that the receiver holds what these segments leave. Segments may hold any signed
 /// bytes, and there may be any number of them.
 #[derive(Drop)]
@@ -78,7 +78,7 @@ impl MendReceiver {
             Some(place) => {
                 if place > 0 {
                     self.decoder.take(place - 1, segment, batch);
-                    self.place = Some(following(place));
+                    self.place = Some((place + 1) % FIELD_SEGMENTS);
                     return Tracking::Data;
                 }
                 if looks(segment) {
@@ -107,17 +107,5 @@ impl MendReceiver {
                 self.place = None;
             }
         }
-    }
-}
-
-/// The place after this one.
-fn following(place: u16) -> u16
-    requires { place < FIELD_SEGMENTS }
-    ensures { result ≡ (place + 1) % FIELD_SEGMENTS }
-{
-    if place + 1 == FIELD_SEGMENTS {
-        0
-    } else {
-        place + 1
     }
 }

@@ -1,6 +1,6 @@
 //! One side of a run: its bytes, or its marks, from levels to gathered words.
 
-ghost use Rattle.std.specs.Prelude.{◌≡◌, ◌≢◌, ℕ, ℤ, IsTrue, ◌+◌, ◌-◌, ◌*◌, ◌%◌, ◌<◌, ◌≤◌, ◌++◌, ◌∷◌, []};
+ghost use Rattle.std.specs.Prelude.{◌≡◌, ◌≢◌, ℕ, ℤ, IsTrue, ◌↔◌, ◌+◌, ◌-◌, ◌*◌, ◌%◌, ◌<◌, ◌≤◌, ◌++◌, ◌∷◌, []};
 ghost use Rattle.std.specs.Prelude.{List, length, drop, replicate, slice_index_or};
 ghost use Rattle.dtx_laws.specs.Branches.{HasWidths, gathering, leaving_all, after_all};
 ghost use Rattle.dtx_outer.specs.Inner.{word_at};
@@ -141,14 +141,14 @@ impl Side {
 
     /// Whether the levels of the group that is on, or that was whole last, are all 0.
     pub(crate) fn is_lowest(&self) -> bool
-        ensures { IsTrue result → self.now.levels ≡ replicate GROUP_LEVELS 0 }
+        ensures { IsTrue result ↔ (self.now.levels ≡ replicate GROUP_LEVELS 0) }
     {
         are_zero(&self.levels)
     }
 
     /// Whether all bytes that were gathered last are 0.
     pub(crate) fn is_empty(&self) -> bool
-        ensures { IsTrue result → self.now.gathered ≡ replicate GATHERED 0 }
+        ensures { IsTrue result ↔ (self.now.gathered ≡ replicate GATHERED 0) }
     {
         are_zero(&self.gathered)
     }
@@ -175,7 +175,7 @@ impl Side {
 
 /// Whether all bytes are 0.
 fn are_zero<const N: usize>(bytes: &[u8; N]) -> bool
-    ensures { IsTrue result → bytes.now ≡ replicate N 0 }
+    ensures { IsTrue result ↔ (bytes.now ≡ replicate N 0) }
 {
     let mut any = false;
     for i in 0..N {

@@ -7,8 +7,9 @@ ghost use Rattle.dtx_galois.specs.Field.{mul};
 ghost use Rattle.dtx_laws.specs.ErrorValues.{error_at, others, patched_at};
 ghost use Rattle.dtx_laws.specs.Locator.{is_marked};
 ghost use Rattle.dtx_laws.specs.declared.correcting.TheConstants.{ROOM};
-ghost use Rattle.dtx_fast.specs.Recurrence.{connection, error_value};
+ghost use Rattle.dtx_fast.specs.Recurrence.{connection};
 
+use dtx_fast::error_value;
 use dtx_galois::Gf;
 use dtx_laws::correcting::{ROOM, power_at};
 
@@ -23,7 +24,7 @@ pub fn patch(word: &mut [u8], suspects: &[bool; ROOM], syndromes: &[u8; ROOM])
     let product = product_of(suspects, len);
     for place in 0..len {
         if suspects[place] {
-            word[place] ^= error_at(&product, suspects, &syndromes[..], len, place).0;
+            word[place] ^= error_at(&product, suspects, syndromes, len, place).0;
         }
     }
 }
@@ -87,36 +88,18 @@ fn multiply(coefficients: &mut [u8; ROOM], degree: usize, power: Gf)
 fn error_at(
     product: &Product,
     suspects: &[bool; ROOM],
-    syndromes: &[u8],
+    syndromes: &[u8; ROOM],
     len: usize,
     place: usize,
 ) -> Gf
     requires few { len ≤ 255 }
     requires some { place < len }
     requires suspect { is_marked suspects.now place ≡ true }
-    requires syndromes { length syndromes.now ≡ ROOM }
     requires degree { product.now.degree ≡ length (others len (is_marked suspects.now) len len) }
     requires product { (k : ℕ)
         → slice_index product.now.coefficients k ≡ connection (others len (is_marked suspects.now) len len) k }
     ensures { result.0 ≡ error_at len (is_marked suspects.now) (slice_index syndromes.now) place }
 {
-    error_value(product, syndromes, power_at(len, place))
-}
-
-/// The value of the error at the place of a power, by the quotient of the product by `X - x`: the combination of the
-/// syndromes by it, over its own value at x. The power 254 of an element is its inverse.
-fn error_value(product: &Product, syndromes: &[u8], at: Gf) -> Gf
-    requires { length syndromes.now ≡ ROOM }
-    ensures { result.0 ≡ error_value product.now.degree (slice_index product.now.coefficients)
-        (slice_index syndromes.now) at.0 }
-{
-    let mut sum = Gf(0);
-    let mut value = Gf(0);
-    let mut quotient = Gf(product.coefficients[0]);
-    for k in 0..product.degree {
-        sum = sum.add(quotient.mul(Gf(syndromes[product.degree - 1 - k])));
-        value = quotient.add(at.mul(value));
-        quotient = quotient.mul(at).add(Gf(product.coefficients[k + 1]));
-    }
-    sum.mul(value.pow(254))
+    let power = power_at(len, place);
+    error_value(&product.coefficients[..], product.degree, syndromes, power)
 }

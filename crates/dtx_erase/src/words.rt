@@ -1,6 +1,6 @@
 //! Gathered words to packets.
 
-ghost use Rattle.std.specs.Prelude.{◌≡◌, ℕ, Bool, List, true, false, ◌+◌, ◌*◌, ◌%◌, ◌<◌, ◌≤◌, ◌++◌, [], ◌∷◌, Ok};
+ghost use Rattle.std.specs.Prelude.{◌≡◌, ℕ, Bool, List, true, false, ◌+◌, ◌*◌, ◌%◌, ◌<◌, ◌↔◌, ◌++◌, [], ◌∷◌, Ok};
 ghost use Rattle.std.specs.Prelude.{IsTrue, MatchResult, length, map, slice_index, slice_index_or, take};
 ghost use Rattle.dtx_laws.specs.Whitening.{whitened};
 ghost use Rattle.dtx_packets.specs.Packet.{with_error};
@@ -167,14 +167,14 @@ impl Words {
 
 /// Whether no flag of four words is set.
 fn are_clear(flags: &[[u8; CODEWORD]; 4]) -> bool
-    ensures { IsTrue result → (p i : ℕ) → p < 4 → slice_index (slice_index_or flags.now p []) i ≡ 0 }
+    ensures { IsTrue result ↔ ((p i : ℕ) → p < 4 → slice_index (slice_index_or flags.now p []) i ≡ 0) }
 {
     is_clear(&flags[0]) & is_clear(&flags[1]) & is_clear(&flags[2]) & is_clear(&flags[3])
 }
 
 /// Whether no flag is set.
 fn is_clear(flags: &[u8; CODEWORD]) -> bool
-    ensures { IsTrue result → (i : ℕ) → slice_index flags.now i ≡ 0 }
+    ensures { IsTrue result ↔ ((i : ℕ) → slice_index flags.now i ≡ 0) }
 {
     let mut any = false;
     for i in 0..CODEWORD {

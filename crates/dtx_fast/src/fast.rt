@@ -1,11 +1,12 @@
 //! The corrector of a code.
 
-ghost use Rattle.std.specs.Prelude.{◌≡◌, ℕ, ◌-◌, ◌<◌, ◌≤◌, List, [], ◌++◌, IsTrue, MatchResult, length};
-ghost use Rattle.std.specs.Prelude.{slice_index, slice_index_or, take};
+ghost use Rattle.std.specs.Prelude.{◌≡◌, ℕ, ◌-◌, ◌<◌, ◌≤◌, ◌↔◌, List, [], ◌++◌, IsTrue, MatchResult, length};
+ghost use Rattle.std.specs.Prelude.{slice_index_or, take};
 ghost use Rattle.dtx_laws.specs.Codeword.{IsCode, IsCodeword, IsCorrection};
-ghost use Rattle.dtx_laws.specs.Correction.{IsCorrected, IsLeft};
+ghost use Rattle.dtx_laws.specs.Correction.{AreCorrected, IsCorrected, IsLeft};
+ghost use Rattle.dtx_laws.specs.Syndromes.{AreSyndromes};
 ghost use Rattle.dtx_laws.specs.declared.encoder.TheConstants.{PARITY};
-ghost use Rattle.dtx_galois.specs.Field.{AreBytes, pow, value};
+ghost use Rattle.dtx_galois.specs.Field.{AreBytes};
 
 use crate::few::mend_few;
 use crate::guesses::Guesses;
@@ -49,37 +50,40 @@ impl<const N: usize, const K: usize> Fast<N, K> {
         requires codeword { IsCodeword N K code.now }
         requires begins { take K code.now ≡ take K word.now }
         ensures long { length result ≡ ROOM }
-        ensures values { (i : ℕ) → i < N - K → slice_index result i ≡ value word.now (pow 2 i) }
+        ensures values { AreSyndromes (N - K) word.now result }
     {
         let code = &code[..];
         syndromes(&self.tables, &word[..], &code[K..], K)
     }
 
-    /// The parity bytes of the data of four words, where there is room for as many as the code has.
+    /// Corrects four words, each from the parity bytes of its data.
     #[inline(always)]
-    fn parities(&self, words: &[[u8; N]; 4]) -> [[u8; PARITY]; 4]
-        ensures { N - K ≤ PARITY → (p : ℕ) → p < 4 → IsCodeword N K (take K (slice_index_or words.now p [])
-            ++ take (N - K) (slice_index_or result p [])) }
+    fn correct_four_by(
+        &self,
+        parities: &[[u8; PARITY]; 4],
+        words: &mut [[u8; N]; 4],
+    ) -> [Result<u8, TooMany>; 4]
+        requires room { N - K ≤ PARITY }
+        requires codes { (p : ℕ) → p < 4 → IsCodeword N K (take K (slice_index_or words.old p [])
+            ++ take (N - K) (slice_index_or parities.now p [])) }
+        ensures { AreCorrected N K words.old words.new result }
     {
-        if N - K <= PARITY {
-            self.encoder.parities(words)
-        } else {
-            [[0; PARITY]; 4]
+        let mut answers = [Ok(0); 4];
+        for p in 0..4 {
+            answers[p] = self.correct_by(&parities[p][..N - K], &mut words[p]);
         }
+        answers
     }
 
-    /// Corrects a word, from the parity bytes of its data where there is room for them.
-    #[inline(always)]
-    fn correct_next(&self, parity: &[u8; PARITY], word: &mut [u8; N]) -> Result<u8, TooMany>
-        requires { N - K ≤ PARITY → IsCodeword N K (take K word.old ++ take (N - K) parity.now) }
-        ensures answer { MatchResult result (IsCorrected N K word.old word.new) (λ _e. IsLeft N K word.old word.new) }
-        ensures long { length word.new ≡ N }
+    /// Corrects four words, each by itself: of a code with more parity bytes than `Encode::parities` has room for.
+    fn correct_each(&self, words: &mut [[u8; N]; 4]) -> [Result<u8, TooMany>; 4]
+        ensures { AreCorrected N K words.old words.new result }
     {
-        if N - K <= PARITY {
-            self.correct_by(&parity[..N - K], word)
-        } else {
-            self.correct(word)
+        let mut answers = [Ok(0); 4];
+        for p in 0..4 {
+            answers[p] = self.correct(&mut words[p]);
         }
+        answers
     }
 
     /// Corrects a word, from the parity bytes of its data.
@@ -125,19 +129,19 @@ impl<const N: usize, const K: usize> Correct<N, K> for Fast<N, K> {
     }
 
     fn correct_four(&self, words: &mut [[u8; N]; 4]) -> [Result<u8, TooMany>; 4] {
-        let parities = self.parities(words);
-        let mut answers = [Ok(0); 4];
-        for p in 0..4 {
-            answers[p] = self.correct_next(&parities[p], &mut words[p]);
+        if N - K <= PARITY {
+            self.correct_four_by(&self.encoder.parities(words), words)
+        } else {
+            self.correct_each(words)
         }
-        answers
     }
 }
 
 /// Whether a word ends with these parity bytes.
 #[inline(always)]
 fn has_parity(word: &[u8], parity: &[u8]) -> bool
-    ensures same { IsTrue result → word.now ≡ take (length word.now - length parity.now) word.now ++ parity.now }
+    ensures same { IsTrue result
+        ↔ (word.now ≡ take (length word.now - length parity.now) word.now ++ parity.now) }
     ensures bytes { AreBytes word.now }
 {
     word.ends_with(parity)
@@ -149,7 +153,7 @@ fn syndromes(tables: &Tables, word: &[u8], parity: &[u8], k: usize) -> [u8; ROOM
     requires codeword { IsCodeword (length word.now) k (take k word.now ++ parity.now) }
     requires long { length parity.now ≡ length word.now - k }
     ensures long { length result ≡ ROOM }
-    ensures values { (i : ℕ) → i < length word.now - k → slice_index result i ≡ value word.now (pow 2 i) }
+    ensures values { AreSyndromes (length word.now - k) word.now result }
 {
     tables.syndromes(&word[k..], parity)
 }
@@ -158,7 +162,7 @@ fn syndromes(tables: &Tables, word: &[u8], parity: &[u8], k: usize) -> [u8; ROOM
 fn repair(tables: &Tables, word: &mut [u8], syndromes: &[u8; ROOM], k: usize)
     requires code { IsCode (length word.old) k }
     requires bytes { AreBytes word.old }
-    requires values { (i : ℕ) → i < length word.old - k → slice_index syndromes.now i ≡ value word.old (pow 2 i) }
+    requires values { AreSyndromes (length word.old - k) word.old syndromes.now }
     ensures { (right : List ℕ) → IsCorrection (length word.old) k word.old right → word.new ≡ right }
 {
     if let Some(found) = find_recurrence(syndromes, word.len() - k) {

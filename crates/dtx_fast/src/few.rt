@@ -1,9 +1,10 @@
 //! Words with one, two or three wrong bytes, which are put right without a recurrence.
 
-ghost use Rattle.std.specs.Prelude.{◌≡◌, ◌≢◌, ℕ, ◌-◌, ◌<◌, IfNone, IfSome, IsFalse, IsTrue, length, slice_index};
-ghost use Rattle.dtx_galois.specs.Field.{AreBytes, pow, value};
+ghost use Rattle.std.specs.Prelude.{◌≡◌, ◌≢◌, ◌-◌, ◌<◌, ◌↔◌, IfNone, IfSome, IsFalse, IsTrue, length};
+ghost use Rattle.dtx_galois.specs.Field.{AreBytes};
 ghost use Rattle.dtx_laws.specs.Codeword.{IsCode};
 ghost use Rattle.dtx_laws.specs.Correction.{IsCorrected};
+ghost use Rattle.dtx_laws.specs.Syndromes.{AreSyndromes};
 
 use crate::guesses::Guesses;
 use crate::wrong_byte::{WrongByte, one_gives, three_give, two_give};
@@ -14,7 +15,7 @@ use dtx_laws::correcting::ROOM;
 pub fn mend_few(guesses: &Guesses, word: &mut [u8], syndromes: &[u8; ROOM], k: usize) -> Option<u8>
     requires code { IsCode (length word.old) k }
     requires bytes { AreBytes word.old }
-    requires values { (i : ℕ) → i < length word.old - k → slice_index syndromes.now i ≡ value word.old (pow 2 i) }
+    requires values { AreSyndromes (length word.old - k) word.old syndromes.now }
     ensures mended { IfSome result (λ count. IsCorrected (length word.old) k word.old word.new count) }
     ensures left { IfNone result (word.new ≡ word.old) }
     ensures long { length word.new ≡ length word.old }
@@ -30,11 +31,11 @@ pub fn mend_few(guesses: &Guesses, word: &mut [u8], syndromes: &[u8; ROOM], k: u
     }
 }
 
-/// Puts a word right of which just one byte is wrong: whether that is so.
+/// If it answers true, one byte of the word was wrong and is put right; else the word stays.
 fn mend_one(guesses: &Guesses, word: &mut [u8], syndromes: &[u8; ROOM], k: usize) -> bool
     requires code { IsCode (length word.old) k }
     requires bytes { AreBytes word.old }
-    requires values { (i : ℕ) → i < length word.old - k → slice_index syndromes.now i ≡ value word.old (pow 2 i) }
+    requires values { AreSyndromes (length word.old - k) word.old syndromes.now }
     ensures mended { IsTrue result → IsCorrected (length word.old) k word.old word.new 1 }
     ensures left { IsFalse result → word.new ≡ word.old }
     ensures long { length word.new ≡ length word.old }
@@ -48,11 +49,11 @@ fn mend_one(guesses: &Guesses, word: &mut [u8], syndromes: &[u8; ROOM], k: usize
     }
 }
 
-/// Puts a word right of which just two bytes are wrong: whether that is so, and they are found.
+/// If it answers true, two bytes of the word were wrong and are put right; else the word stays.
 fn mend_two(guesses: &Guesses, word: &mut [u8], syndromes: &[u8; ROOM], k: usize) -> bool
     requires code { IsCode (length word.old) k }
     requires bytes { AreBytes word.old }
-    requires values { (i : ℕ) → i < length word.old - k → slice_index syndromes.now i ≡ value word.old (pow 2 i) }
+    requires values { AreSyndromes (length word.old - k) word.old syndromes.now }
     ensures mended { IsTrue result → IsCorrected (length word.old) k word.old word.new 2 }
     ensures left { IsFalse result → word.new ≡ word.old }
     ensures long { length word.new ≡ length word.old }
@@ -71,11 +72,11 @@ fn mend_two(guesses: &Guesses, word: &mut [u8], syndromes: &[u8; ROOM], k: usize
     false
 }
 
-/// Puts a word right of which just three bytes are wrong: whether that is so, and they are found.
+/// If it answers true, three bytes of the word were wrong and are put right; else the word stays.
 fn mend_three(guesses: &Guesses, word: &mut [u8], syndromes: &[u8; ROOM], k: usize) -> bool
     requires code { IsCode (length word.old) k }
     requires bytes { AreBytes word.old }
-    requires values { (i : ℕ) → i < length word.old - k → slice_index syndromes.now i ≡ value word.old (pow 2 i) }
+    requires values { AreSyndromes (length word.old - k) word.old syndromes.now }
     ensures mended { IsTrue result → IsCorrected (length word.old) k word.old word.new 3 }
     ensures left { IsFalse result → word.new ≡ word.old }
     ensures long { length word.new ≡ length word.old }
@@ -97,21 +98,15 @@ fn mend_three(guesses: &Guesses, word: &mut [u8], syndromes: &[u8; ROOM], k: usi
 
 /// Whether they are at two places of a word of so many bytes.
 fn are_two(first: WrongByte, second: WrongByte, len: usize) -> bool
-    ensures first { IsTrue result → first.place < len }
-    ensures second { IsTrue result → second.place < len }
-    ensures apart { IsTrue result → first.place ≢ second.place }
+    ensures { IsTrue result ↔ ((first.place < len) × (second.place < len) × (first.place ≢ second.place)) }
 {
     first.place != second.place && (first.place as usize) < len && (second.place as usize) < len
 }
 
 /// Whether they are at three places of a word of so many bytes.
 fn are_three(first: WrongByte, second: WrongByte, third: WrongByte, len: usize) -> bool
-    ensures first { IsTrue result → first.place < len }
-    ensures second { IsTrue result → second.place < len }
-    ensures third { IsTrue result → third.place < len }
-    ensures apart { IsTrue result → first.place ≢ second.place }
-    ensures apart_first { IsTrue result → first.place ≢ third.place }
-    ensures apart_second { IsTrue result → second.place ≢ third.place }
+    ensures { IsTrue result ↔ ((first.place < len) × (second.place < len) × (third.place < len)
+        × (first.place ≢ second.place) × (first.place ≢ third.place) × (second.place ≢ third.place)) }
 {
     are_two(first, second, len) && are_two(first, third, len) && second.place != third.place
 }

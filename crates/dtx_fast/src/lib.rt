@@ -15,3 +15,4 @@ mod wrong_byte;
 
 pub use fast::Fast;
 pub use recurrence::{Recurrence, find_recurrence};
+pub use repair::error_value;

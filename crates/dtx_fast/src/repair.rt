@@ -55,7 +55,8 @@ pub fn patch(word: &mut [u8], walk: &[u8; ROOM], found: &Recurrence, syndromes: 
     let mut exponent = next_zero(walk, 0, len);
     while exponent < len {
         let place = len - 1 - exponent;
-        word[place] ^= error_value(found, syndromes, power_at(len, place)).0;
+        let coefficients = &found.coefficients[..];
+        word[place] ^= error_value(coefficients, found.order, syndromes, power_at(len, place)).0;
         exponent = next_zero(walk, exponent + 1, len);
     }
 }
@@ -79,7 +80,7 @@ fn next_zero(walk: &[u8; ROOM], from: usize, len: usize) -> usize
     at
 }
 
-/// Whether the walk came to 0 in a block.
+/// If it answers false, the walk came to 0 at no place of a block.
 #[inline(always)]
 fn has_zero(walk: &[u8; ROOM], start: usize) -> bool
     requires { start + BLOCK ≤ ROOM }
@@ -92,20 +93,22 @@ fn has_zero(walk: &[u8; ROOM], start: usize) -> bool
     any
 }
 
-/// The error at the place of a power, by the quotient of the recurrence's polynomial: a combination of the syndromes,
-/// over the quotient's value, of which the power 254 is the inverse.
+/// The value of the error at the place of the power `at`, by the polynomial of that order, the highest coefficient
+/// first, that vanishes at the powers of all wrong places: a combination of the syndromes by its quotient by `X - at`,
+/// over the quotient's own value at `at`, of which the power 254 is the inverse.
 #[inline(never)]
-fn error_value(found: &Recurrence, syndromes: &[u8; ROOM], at: Gf) -> Gf
-    ensures { result.0 ≡ error_value found.now.order (slice_index found.now.coefficients) (slice_index syndromes.now)
-        at.0 }
+pub fn error_value(coefficients: &[u8], order: usize, syndromes: &[u8; ROOM], at: Gf) -> Gf
+    requires coefficients { order < length coefficients.now }
+    requires syndromes { order ≤ ROOM }
+    ensures { result.0 ≡ error_value order (slice_index coefficients.now) (slice_index syndromes.now) at.0 }
 {
     let mut sum = Gf(0);
     let mut value = Gf(0);
-    let mut quotient = Gf(found.coefficients[0]);
-    for k in 0..found.order {
-        sum = sum.add(quotient.mul(Gf(syndromes[found.order - 1 - k])));
+    let mut quotient = Gf(coefficients[0]);
+    for k in 0..order {
+        sum = sum.add(quotient.mul(Gf(syndromes[order - 1 - k])));
         value = quotient.add(at.mul(value));
-        quotient = quotient.mul(at).add(Gf(found.coefficients[k + 1]));
+        quotient = quotient.mul(at).add(Gf(coefficients[k + 1]));
     }
     sum.mul(value.pow(254))
 }

@@ -2,8 +2,9 @@
 
 ghost use Rattle.std.specs.Prelude.{◌≡◌, ℕ, ◌+◌, ◌-◌, ◌<◌, ◌≤◌, length, slice_index};
 ghost use Rattle.std.specs.Int.RustNames.{bit_xor};
-ghost use Rattle.dtx_galois.specs.Field.{pow, value};
+ghost use Rattle.dtx_galois.specs.Field.{pow};
 ghost use Rattle.dtx_galois.specs.Word.{sums};
+ghost use Rattle.dtx_laws.specs.Syndromes.{AreSyndromes};
 ghost use Rattle.dtx_fast.specs.Recurrence.{walked};
 ghost use Rattle.dtx_laws.specs.declared.encoder.TheConstants.{PARITY};
 
@@ -41,8 +42,7 @@ impl Tables {
         requires same { length parity.now ≡ length right.now }
         requires few { length parity.now ≤ 255 }
         ensures long { length result ≡ ROOM }
-        ensures values { (i : ℕ) → i < length parity.now
-            → slice_index result i ≡ value (sums parity.now right.now) (pow 2 i) }
+        ensures values { AreSyndromes (length parity.now) (sums parity.now right.now) result }
     {
         if parity.len() <= PARITY {
             let differences = differences(parity, right);

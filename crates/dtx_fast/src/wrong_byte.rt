@@ -1,6 +1,6 @@
 //! Errors of words, and whether one, two or three of them give all syndromes.
 
-ghost use Rattle.std.specs.Prelude.{◌≡◌, ℕ, ◌+◌, ◌-◌, ◌*◌, ◌<◌, IsTrue, length, slice_index, slice_set};
+ghost use Rattle.std.specs.Prelude.{◌≡◌, ℕ, ◌+◌, ◌-◌, ◌*◌, ◌<◌, ◌↔◌, IsTrue, length, slice_index, slice_set};
 ghost use Rattle.std.specs.Int.RustNames.{bit_xor};
 ghost use Rattle.dtx_galois.specs.Field.{pow};
 
@@ -41,8 +41,8 @@ impl WrongByte {
 /// Whether an error alone gives the syndromes.
 pub fn one_gives(wrong: WrongByte, syndromes: &[u8; ROOM], count: usize) -> bool
     requires { count < ROOM }
-    ensures { IsTrue result → (i : ℕ) → i < count
-        → slice_index syndromes.now i ≡ pow 2 (wrong.error + wrong.place * i) }
+    ensures { IsTrue result ↔ ((i : ℕ) → i < count
+        → slice_index syndromes.now i ≡ pow 2 (wrong.error + wrong.place * i)) }
 {
     for i in 0..count {
         if syndromes[i] != wrong.syndrome(i) {
@@ -55,8 +55,8 @@ pub fn one_gives(wrong: WrongByte, syndromes: &[u8; ROOM], count: usize) -> bool
 /// Whether two errors alone give the syndromes.
 pub fn two_give(first: WrongByte, second: WrongByte, syndromes: &[u8; ROOM], count: usize) -> bool
     requires { count < ROOM }
-    ensures { IsTrue result → (i : ℕ) → i < count → slice_index syndromes.now i
-        ≡ bit_xor (pow 2 (first.error + first.place * i)) (pow 2 (second.error + second.place * i)) }
+    ensures { IsTrue result ↔ ((i : ℕ) → i < count → slice_index syndromes.now i
+        ≡ bit_xor (pow 2 (first.error + first.place * i)) (pow 2 (second.error + second.place * i))) }
 {
     for i in 0..count {
         if syndromes[i] != first.syndrome(i) ^ second.syndrome(i) {
@@ -75,9 +75,9 @@ pub fn three_give(
     count: usize,
 ) -> bool
     requires { count < ROOM }
-    ensures { IsTrue result → (i : ℕ) → i < count → slice_index syndromes.now i
+    ensures { IsTrue result ↔ ((i : ℕ) → i < count → slice_index syndromes.now i
         ≡ bit_xor (bit_xor (pow 2 (first.error + first.place * i)) (pow 2 (second.error + second.place * i)))
-        (pow 2 (third.error + third.place * i)) }
+        (pow 2 (third.error + third.place * i))) }
 {
     for i in 0..count {
         if syndromes[i] != first.syndrome(i) ^ second.syndrome(i) ^ third.syndrome(i) {

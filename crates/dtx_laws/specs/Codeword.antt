@@ -2,7 +2,7 @@
 use Rattle.std.specs.Prelude.{ℕ, ◌≡◌, ◌+◌, ◌-◌, ◌*◌, ◌%◌, ◌<◌, ◌≤◌, ◌==◌, if◌then◌else◌, List, [], ◌∷◌, length}
 use Rattle.dtx_galois.specs.Field.{pow, value, AreBytes}
 
--- The numbers of a code: some bytes of data; correction bytes, two for each wrong byte that can be put right; and no
+-- The numbers of a code: some bytes of data; parity bytes, two for each wrong byte that can be put right; and no
 -- more places than the field has elements but 0.
 pub record IsCode (n k : ℕ) : Type 0 where
   pub some : 1 ≤ k
@@ -23,7 +23,7 @@ distance [] ys = 0
 distance (x ∷ xs) [] = 0
 distance (x ∷ xs) (y ∷ ys) = (if x == y then 0 else 1) + distance xs ys
 
--- a codeword that differs from the word in at most half as many places as there are correction bytes
+-- a codeword that differs from the word in at most half as many places as there are parity bytes
 pub record IsCorrection (n k : ℕ) (word code : List ℕ) : Type 0 where
   pub codeword : IsCodeword n k code
   pub near : 2 * distance word code ≤ n - k

@@ -1,5 +1,6 @@
 pub mod Codeword
 pub mod Words
+pub mod Syndromes
 pub mod Register
 pub mod Whitening
 pub mod Branches

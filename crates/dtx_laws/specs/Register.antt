@@ -1,4 +1,5 @@
--- Division by the generator as a register does it: what an encoder's loops are proved by. No law speaks of it.
+-- The generator of a code, and the register that divides by it: data and then what the register holds after them are a
+-- codeword (`EncodingLaws`). An encoder's loops are proved by it; the laws of codewords don't name it.
 use Rattle.std.specs.Prelude.{ℕ, List, [], ◌∷◌, ◌++◌}
 use Rattle.std.proofs.Common.{zero, suc}
 use Rattle.std.specs.Int.RustNames.{bit_xor}

@@ -1,13 +1,13 @@
-//! What correctors share, whatever their way to a locator: syndromes, the places at which the locator vanishes, the
-//! values of the errors there, and the test of the outcome.
+//! Parts of which correctors are made: the syndromes of a word, the places at which a locator vanishes, the values of
+//! the errors at marked places, and the test of the word that was tried.
 
 mod outcome;
 mod places;
 mod syndromes;
 mod values;
 
-pub use outcome::{accept, accept_codeword, distance, encoded_again};
-pub use places::{low_value, marks_of, power_at};
+pub use outcome::{accept, distance, encoded_again};
+pub use places::{marks_of, power_at};
 pub use syndromes::syndromes_of;
 pub use values::{cancel, patch};
 

@@ -26,8 +26,8 @@ pub trait Encode<const N: usize, const K: usize> {
         requires { length words.old ≡ N * 4 }
         ensures { words.new ≡ completed N K 4 words.old };
 
-    /// The parity bytes of the data with which each of four words begins: with as many as the code has behind them, the
-    /// data are a codeword. Any bytes may stand behind the first `K` of a word.
+    /// The parity bytes of four words' data: the first `K` bytes of a word, and then the first `N - K` of its answer,
+    /// are a codeword. What else stands in the word, and behind these in the answer, doesn't matter.
     fn parities(&self, words: &[[u8; N]; 4]) -> [[u8; PARITY]; 4]
         requires { N - K ≤ PARITY }
         ensures { (p : ℕ) → p < 4 → IsCodeword N K (take K (slice_index_or words.now p [])

@@ -10,8 +10,8 @@ use Rattle.dtx_lists.proofs.Range.{range_with_len-parts, map-range_same}
 use Rattle.dtx_trellis.specs.Pairs.{group_place}
 use Rattle.dtx_slice.specs.Slicing.{sliced, sliced_data, sliced_last}
 use Rattle.dtx_slice.specs.Unrolled.{level_groups, precoder_bit, bytes_back, precoder_bits_after, precoder_bits_of}
-use Rattle.dtx_slice.specs.JoinsLaws.{bytes_append, formers_append}
-use Rattle.dtx_slice.specs.PlacesLaws.{former_zero}
+use Rattle.dtx_slice.specs.JoinsLaws.{bytes_append, precoder_bits_append}
+use Rattle.dtx_slice.specs.PlacesLaws.{precoder_bit_zero}
 use Rattle.dtx_receiver.specs.Bytes.{data_count, data_at, groups_of, levels_from, levels_in, first_formers}
 use Rattle.dtx_receiver.specs.Bytes.{precoder_bits_in}
 use Rattle.dtx_receiver.specs.Bytes.{bytes_in}
@@ -184,7 +184,7 @@ grown run x z n p long e =
       last = last_grown run x n p ∙ e;
       levels = levels;
       precoder_bits = ap₂ (λ f y. precoder_bits_after 0 f y) first levels
-          ∙ formers_append 0 (groups_of run) (first_formers run) (levels_in run) z long;
+          ∙ precoder_bits_append 0 (groups_of run) (first_formers run) (levels_in run) z long;
       bytes = ap₂ (λ f y. bytes_back 0 f y) first levels
           ∙ bytes_append 0 (groups_of run) (first_formers run) (levels_in run) z long;
     }
@@ -213,7 +213,7 @@ formers_first x =
     ap (precoder_bits_after 0 (precoder_bits_of (sliced_last x))) (first_levels x)
     ∙ map-range_same (precoder_bit 0 (precoder_bits_of (sliced_last x)) [] 0)
     (λ e. get_or (sliced_last x) ((e + 4) % 12) 0 / 4) 0 12
-    (λ e _ l. former_zero 0 e (precoder_bits_of (sliced_last x)) []
+    (λ e _ l. precoder_bit_zero 0 e (precoder_bits_of (sliced_last x)) []
     ∙ get_or-map-range_with_len (λ e. get_or (sliced_last x) ((e + 4) % 12) 0 / 4) 0 12 e e 0 l (omega arith))
 
 -- ---- the levels of a segment

@@ -78,7 +78,7 @@ impl Receiver {
             Some(place) => {
                 if place > 0 {
                     self.decoder.take(place - 1, segment, batch);
-                    self.place = Some(following(place));
+                    self.place = Some((place + 1) % FIELD_SEGMENTS);
                     return Tracking::Data;
                 }
                 if looks(segment) {
@@ -107,17 +107,5 @@ impl Receiver {
                 self.place = None;
             }
         }
-    }
-}
-
-/// The place after this one.
-fn following(place: u16) -> u16
-    requires { place < FIELD_SEGMENTS }
-    ensures { result ≡ (place + 1) % FIELD_SEGMENTS }
-{
-    if place + 1 == FIELD_SEGMENTS {
-        0
-    } else {
-        place + 1
     }
 }

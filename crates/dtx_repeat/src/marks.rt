@@ -1,6 +1,6 @@
 //! The cadence marks of received packets.
 
-ghost use Rattle.std.specs.Prelude.{◌≡◌, ◌+◌, ◌%◌, ◌<◌, length};
+ghost use Rattle.std.specs.Prelude.{◌≡◌, ◌+◌, ◌%◌, length};
 ghost use Rattle.dtx_repeat.specs.Restored.{place_behind, restored};
 
 use dtx_cadence::mark;
@@ -24,19 +24,7 @@ pub(crate) fn restore(place: u16, packets: &mut [Received]) -> u16
     let mut next = place % FRAME_PACKETS;
     for i in 0..packets.len() {
         mark(next as u64, &mut packets[i].packet);
-        next = following(next);
+        next = (next + 1) % FRAME_PACKETS;
     }
     next
-}
-
-/// The place behind this one.
-fn following(place: u16) -> u16
-    requires { place < FRAME_PACKETS }
-    ensures { result ≡ (place + 1) % FRAME_PACKETS }
-{
-    if place + 1 == FRAME_PACKETS {
-        0
-    } else {
-        place + 1
-    }
 }

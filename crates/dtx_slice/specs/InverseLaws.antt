@@ -16,7 +16,7 @@ use Rattle.dtx_trellis.specs.JoinsLaws.{groups_whole}
 use Rattle.dtx_slice.specs.Unrolled.{symbol_place, precoder_bit, pair_back, byte_back, coder_of, level_groups}
 use Rattle.dtx_slice.specs.Unrolled.{bytes_back}
 use Rattle.dtx_slice.specs.Unrolled.{precoder_bits_after, precoder_bits_in}
-use Rattle.dtx_slice.specs.PlacesLaws.{former_zero, former_next}
+use Rattle.dtx_slice.specs.PlacesLaws.{precoder_bit_zero, precoder_bit_next}
 
 -- whose symbol that is, and in which round
 pub place_coder : (s r e : ℕ) → e < 12 → coder_at s (symbol_place s r e) ≡ e
@@ -62,7 +62,7 @@ higher_bit s r e bytes l =
     let p : pair_at s bytes e r < 4 = pair_small s e r bytes in
     omega arith
 
--- the levels are those of the coders, from states in which the former Z2 are these
+-- the levels are those of the coders, from states in which the precoder bits are these
 pub record Coded (s : ℕ) (states bytes precoder_bits levels : List ℕ) : Type 0 where
   pub at : (d : ℕ) → d < 3312 * groups bytes → get_or levels d 0 ≡ level_at s states bytes d
   pub from : (e : ℕ) → e < 12 → get_or precoder_bits e 0 ≡ (state_of (get_or states e 0)).q2
@@ -103,16 +103,16 @@ after_q2 q a b t =
     back : (t : ℕ) → suc t - 1 ≡ t
     back t = omega arith
 
--- the former Z2 is the coder's q2
-pub coded_former : (s r e : ℕ) (states bytes precoder_bits levels : List ℕ) → Coded s states bytes precoder_bits levels
+-- the precoder bit is the coder's q2
+pub coded_bit : (s r e : ℕ) (states bytes precoder_bits levels : List ℕ) → Coded s states bytes precoder_bits levels
     → r ≤ 276 * groups bytes → e < 12
     → precoder_bit s precoder_bits levels r e ≡ (coder_after s states bytes r e).q2
 unfolding coder_after
-coded_former s zero e states bytes precoder_bits levels h l m =
-    former_zero s e precoder_bits levels ∙ h.from e m
+coded_bit s zero e states bytes precoder_bits levels h l m =
+    precoder_bit_zero s e precoder_bits levels ∙ h.from e m
     ∙ ap (λ (p : State). p.q2) (sym (after_zero (state_of (get_or states e 0)) (higher s bytes e) (lower s bytes e)))
-coded_former s (suc r) e states bytes precoder_bits levels h l m =
-    ap (λ t. precoder_bit s precoder_bits levels t e) (next r) ∙ former_next s r e precoder_bits levels
+coded_bit s (suc r) e states bytes precoder_bits levels h l m =
+    ap (λ t. precoder_bit s precoder_bits levels t e) (next r) ∙ precoder_bit_next s r e precoder_bits levels
     ∙ coded_z2 s r e states bytes precoder_bits levels h (omega arith) m
     ∙ sym (after_q2 (state_of (get_or states e 0)) (higher s bytes e) (lower s bytes e) r)
   where
@@ -122,7 +122,7 @@ coded_former s (suc r) e states bytes precoder_bits levels h l m =
 parts : (a b p : ℕ) → p < 4 → a ≡ p / 2 → b ≡ p % 2 → 2 * a + b ≡ p
 parts a b p l e f = omega arith
 
--- Z2 less the former Z2 is X2
+-- Z2 less the precoder bit is X2
 z2_back : (s r e : ℕ) (states bytes : List ℕ) → r < 276 * groups bytes
     → (z2 (state_of (get_or states e 0)) (higher s bytes e) r + (coder_after s states bytes r e).q2) % 2
     ≡ get_or (higher s bytes e) r 0
@@ -160,7 +160,7 @@ coded_pair s r e states bytes precoder_bits levels h l m =
     parts ((get_or levels (symbol_place s r e) 0 / 4 + precoder_bit s precoder_bits levels r e) % 2)
     (get_or levels (symbol_place s r e) 0 / 2 % 2) (pair_at s bytes e r) (pair_small s e r bytes)
     (ap₂ (λ x y. (x + y) % 2) (coded_z2 s r e states bytes precoder_bits levels h l m)
-    (coded_former s r e states bytes precoder_bits levels h (omega arith) m)
+    (coded_bit s r e states bytes precoder_bits levels h (omega arith) m)
     ∙ z2_back s r e states bytes l ∙ higher_at s e r bytes l)
     (coded_z1 s r e states bytes precoder_bits levels h l m ∙ lower_at s e r bytes l)
 
@@ -282,17 +282,17 @@ bytes_come_back s u states bytes h f =
 number_q2 : (q : State) → AreBits q → number_of q / 4 % 2 ≡ q.q2
 number_q2 q h = omega (arith, h.q2, h.q1, h.q0)
 
-pub formers_go_on : (s : ℕ) (states bytes : List ℕ)
+pub precoder_bits_go_on : (s : ℕ) (states bytes : List ℕ)
     → precoder_bits_after s (precoder_bits_in states) (levels_of s states bytes)
     ≡ precoder_bits_in (states_after s states bytes)
 unfolding precoder_bits_after precoder_bits_in states_after
-formers_go_on s states bytes =
+precoder_bits_go_on s states bytes =
     ap (λ g. map (precoder_bit s (precoder_bits_in states) (levels_of s states bytes) (276 * g)) (range_with_len 0 12))
     (level_groups_of s states bytes)
     ∙ map-range_same (precoder_bit s (precoder_bits_in states) (levels_of s states bytes) (276 * groups bytes))
     (λ e. get_or (map (λ e. number_of (coder_after s states bytes (276 * groups bytes) e)) (range_with_len 0 12)) e
     0 / 4 % 2) 0 12
-    (λ e _ l. coded_former s (276 * groups bytes) e states bytes (precoder_bits_in states) (levels_of s states bytes)
+    (λ e _ l. coded_bit s (276 * groups bytes) e states bytes (precoder_bits_in states) (levels_of s states bytes)
     (coded s states bytes) (omega arith) l
     ∙ sym (ap (λ x. x / 4 % 2) (get_or-map-range_with_len
     (λ e. number_of (coder_after s states bytes (276 * groups bytes) e)) 0 12 e e 0 l (omega arith))

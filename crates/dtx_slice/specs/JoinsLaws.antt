@@ -1,4 +1,4 @@
--- The groups of a longer list: the bytes and the former Z2 go on from those of the first groups.
+-- The groups of a longer list: the bytes and the precoder bits go on from those of the first groups.
 use Rattle.std.proofs.Common.{◌≡◌, ℕ, zero, suc, ◌+◌, ◌-◌, ◌*◌, ◌/◌, ◌%◌, ◌<◌, ◌≤◌, List, ◌++◌, map, drop, length}
 use Rattle.std.proofs.Common.{get_or, sym, ap, ap₂, ◌∙◌, arith}
 use Rattle.std.specs.List.{range_with_len}
@@ -10,7 +10,7 @@ use Rattle.dtx_trellis.specs.Pairs.{group_place}
 use Rattle.dtx_slice.specs.Unrolled.{symbol_place, precoder_bit, pair_from, pair_back, byte_back, coder_of}
 use Rattle.dtx_slice.specs.Unrolled.{level_groups}
 use Rattle.dtx_slice.specs.Unrolled.{bytes_back, precoder_bits_after, precoder_bits_of}
-use Rattle.dtx_slice.specs.PlacesLaws.{former_zero, former_next}
+use Rattle.dtx_slice.specs.PlacesLaws.{precoder_bit_zero, precoder_bit_next}
 use Rattle.dtx_slice.specs.InverseLaws.{place_within, coder_of_small}
 
 pub groups_whole : (u : ℕ) (y : List ℕ) → length y ≡ 3312 * u → level_groups y ≡ u
@@ -30,14 +30,14 @@ symbol_before : (s u r e : ℕ) (y z : List ℕ) → length y ≡ 3312 * u → r
     → get_or (y ++ z) (symbol_place s r e) 0 ≡ get_or y (symbol_place s r e) 0
 symbol_before s u r e y z h l = get_or_append_left y z 0 (symbol_place s r e) (omega (arith, place_within s r e u l))
 
-former_before : (s u r e : ℕ) (precoder_bits y z : List ℕ) → length y ≡ 3312 * u → r ≤ 276 * u
+precoder_bit_before : (s u r e : ℕ) (precoder_bits y z : List ℕ) → length y ≡ 3312 * u → r ≤ 276 * u
     → precoder_bit s precoder_bits (y ++ z) r e ≡ precoder_bit s precoder_bits y r e
-former_before s u zero e precoder_bits y z h l = former_zero s e precoder_bits (y ++ z)
-    ∙ sym (former_zero s e precoder_bits y)
-former_before s u (suc r) e precoder_bits y z h l =
-    ap (λ t. precoder_bit s precoder_bits (y ++ z) t e) (next r) ∙ former_next s r e precoder_bits (y ++ z)
+precoder_bit_before s u zero e precoder_bits y z h l = precoder_bit_zero s e precoder_bits (y ++ z)
+    ∙ sym (precoder_bit_zero s e precoder_bits y)
+precoder_bit_before s u (suc r) e precoder_bits y z h l =
+    ap (λ t. precoder_bit s precoder_bits (y ++ z) t e) (next r) ∙ precoder_bit_next s r e precoder_bits (y ++ z)
     ∙ ap (λ x. x / 4) (symbol_before s u r e y z h (omega arith))
-    ∙ sym (ap (λ t. precoder_bit s precoder_bits y t e) (next r) ∙ former_next s r e precoder_bits y)
+    ∙ sym (ap (λ t. precoder_bit s precoder_bits y t e) (next r) ∙ precoder_bit_next s r e precoder_bits y)
   where
     next : (r : ℕ) → suc r ≡ r + 1
     next r = omega arith
@@ -46,7 +46,7 @@ pair_before : (s u r e : ℕ) (precoder_bits y z : List ℕ) → length y ≡ 33
     → pair_back s precoder_bits (y ++ z) r e ≡ pair_back s precoder_bits y r e
 unfolding pair_back
 pair_before s u r e precoder_bits y z h l =
-    ap₂ pair_from (former_before s u r e precoder_bits y z h (omega arith)) (symbol_before s u r e y z h l)
+    ap₂ pair_from (precoder_bit_before s u r e precoder_bits y z h (omega arith)) (symbol_before s u r e y z h l)
 
 -- four pairs as a byte
 abbrev of_pairs : (ℕ → ℕ) → ℕ → ℕ
@@ -97,26 +97,26 @@ symbol_behind s u r e y z h =
     back : (a p : ℕ) → a + p - a ≡ p
     back a p = omega arith
 
-former_behind : (s u r e : ℕ) (precoder_bits y z : List ℕ) → length y ≡ 3312 * u → e < 12
+precoder_bit_behind : (s u r e : ℕ) (precoder_bits y z : List ℕ) → length y ≡ 3312 * u → e < 12
     → precoder_bit s precoder_bits (y ++ z) (276 * u + r) e ≡ precoder_bit (group_place s u)
     (precoder_bits_after s precoder_bits y) z r e
 unfolding precoder_bits_after
-former_behind s u zero e precoder_bits y z h l =
+precoder_bit_behind s u zero e precoder_bits y z h l =
     ap (λ t. precoder_bit s precoder_bits (y ++ z) t e) (none u)
-    ∙ former_before s u (276 * u) e precoder_bits y z h (omega arith)
-    ∙ sym (former_zero (group_place s u) e (map (precoder_bit s precoder_bits y (276 * level_groups y))
+    ∙ precoder_bit_before s u (276 * u) e precoder_bits y z h (omega arith)
+    ∙ sym (precoder_bit_zero (group_place s u) e (map (precoder_bit s precoder_bits y (276 * level_groups y))
     (range_with_len 0 12)) z
     ∙ get_or-map-range_with_len (precoder_bit s precoder_bits y (276 * level_groups y)) 0 12 e e 0 l (omega arith)
     ∙ ap (λ g. precoder_bit s precoder_bits y (276 * g) e) (groups_whole u y h))
   where
     none : (u : ℕ) → 276 * u + 0 ≡ 276 * u
     none u = omega arith
-former_behind s u (suc r) e precoder_bits y z h l =
+precoder_bit_behind s u (suc r) e precoder_bits y z h l =
     ap (λ t. precoder_bit s precoder_bits (y ++ z) t e) (next u r)
-    ∙ former_next s (276 * u + r) e precoder_bits (y ++ z)
+    ∙ precoder_bit_next s (276 * u + r) e precoder_bits (y ++ z)
     ∙ ap (λ x. x / 4) (symbol_behind s u r e y z h)
     ∙ sym (ap (λ t. precoder_bit (group_place s u) (precoder_bits_after s precoder_bits y) z t e) (one r)
-    ∙ former_next (group_place s u) r e (precoder_bits_after s precoder_bits y) z)
+    ∙ precoder_bit_next (group_place s u) r e (precoder_bits_after s precoder_bits y) z)
   where
     next : (u r : ℕ) → 276 * u + suc r ≡ 276 * u + r + 1
     next u r = omega arith
@@ -129,7 +129,7 @@ pair_behind : (s u r e : ℕ) (precoder_bits y z : List ℕ) → length y ≡ 33
     (precoder_bits_after s precoder_bits y) z r e
 unfolding pair_back
 pair_behind s u r e precoder_bits y z h l =
-    ap₂ pair_from (former_behind s u r e precoder_bits y z h l) (symbol_behind s u r e y z h)
+    ap₂ pair_from (precoder_bit_behind s u r e precoder_bits y z h l) (symbol_behind s u r e y z h)
 
 coder_on : (s u j : ℕ) → coder_of s (828 * u + j) ≡ coder_of (group_place s u) j
 unfolding coder_of group_place
@@ -186,17 +186,17 @@ bytes_append s u precoder_bits y z h =
     sum : (u n : ℕ) → 828 * (u + n) ≡ 828 * u + 828 * n
     sum u n = omega arith
 
-pub formers_append : (s u : ℕ) (precoder_bits y z : List ℕ) → length y ≡ 3312 * u
+pub precoder_bits_append : (s u : ℕ) (precoder_bits y z : List ℕ) → length y ≡ 3312 * u
     → precoder_bits_after s precoder_bits (y ++ z) ≡ precoder_bits_after (group_place s u)
     (precoder_bits_after s precoder_bits y) z
 unfolding precoder_bits_after
-formers_append s u precoder_bits y z h =
+precoder_bits_append s u precoder_bits y z h =
     ap (λ n. map (precoder_bit s precoder_bits (y ++ z) n) (range_with_len 0 12)) (ap (λ n. 276 * n)
     (groups_append u y z h)
     ∙ sum u (level_groups z))
     ∙ map-range_same (precoder_bit s precoder_bits (y ++ z) (276 * u + 276 * level_groups z))
     (precoder_bit (group_place s u) (precoder_bits_after s precoder_bits y) z (276 * level_groups z)) 0 12
-    (λ e _ l. former_behind s u (276 * level_groups z) e precoder_bits y z h l)
+    (λ e _ l. precoder_bit_behind s u (276 * level_groups z) e precoder_bits y z h l)
   where
     sum : (u n : ℕ) → 276 * (u + n) ≡ 276 * u + 276 * n
     sum u n = omega arith
@@ -214,17 +214,17 @@ end_place s u e l h =
     back : (e : ℕ) → (e + 12 - 4 * 2) % 12 ≡ (e + 4) % 12
     back e = omega arith
 
-pub formers_repeated : (s u : ℕ) (precoder_bits levels : List ℕ) → length levels ≡ 3312 * u → 0 < u
+pub precoder_bits_repeated : (s u : ℕ) (precoder_bits levels : List ℕ) → length levels ≡ 3312 * u → 0 < u
     → group_place s u ≡ 0
     → precoder_bits_of (drop (3312 * u - 12) levels) ≡ precoder_bits_after s precoder_bits levels
 unfolding precoder_bits_of precoder_bits_after
-formers_repeated s u precoder_bits levels h l m =
+precoder_bits_repeated s u precoder_bits levels h l m =
     map-range_same (λ e. get_or (drop (3312 * u - 12) levels) ((e + 4) % 12) 0 / 4)
     (precoder_bit s precoder_bits levels (276 * u)) 0 12
     (λ e _ _. ap (λ x. x / 4) (get_or-drop (3312 * u - 12) levels ((e + 4) % 12) 0
     ∙ ap (λ i. get_or levels i 0) (sym (end_place s u e l m)))
     ∙ sym (ap (λ t. precoder_bit s precoder_bits levels t e) (last u l)
-    ∙ former_next s (276 * u - 1) e precoder_bits levels))
+    ∙ precoder_bit_next s (276 * u - 1) e precoder_bits levels))
     ∙ ap (λ g. map (precoder_bit s precoder_bits levels (276 * g)) (range_with_len 0 12)) (sym
     (groups_whole u levels h))
   where

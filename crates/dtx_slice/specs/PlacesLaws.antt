@@ -1,4 +1,4 @@
--- Where the symbols of a coder stand, and its former Z2.
+-- Where the symbols of a coder stand, and its precoder bit.
 use Rattle.std.proofs.Common.{◌≡◌, ℕ, ◌+◌, ◌-◌, ◌*◌, ◌/◌, ◌%◌, ◌<◌, ◌≤◌, ◌==◌, ◌⊎◌, inl, inr, List, get_or, refl, sym}
 use Rattle.std.proofs.Common.{ap, ap₂, ◌∙◌, subst, arith}
 use Rattle.std.proofs.lemmas.Bool.{cases_lt, cond-false, ne_eqb}
@@ -7,15 +7,15 @@ use Rattle.dtx_trellis.specs.LaneRoundsLaws.{first_coder, first_turn}
 use Rattle.dtx_slice.specs.Unrolled.{symbol_place, precoder_bit, pair_from, pair_back, byte_back, coder_of}
 use Rattle.dtx_slice.specs.Lanes.{joined_byte, lane_byte, lane_level, lane_place, later_byte}
 
-pub former_zero : (s e : ℕ) (precoder_bits levels : List ℕ) → precoder_bit s precoder_bits levels 0 e
+pub precoder_bit_zero : (s e : ℕ) (precoder_bits levels : List ℕ) → precoder_bit s precoder_bits levels 0 e
     ≡ get_or precoder_bits e 0
 unfolding precoder_bit
-former_zero s e precoder_bits levels = refl
+precoder_bit_zero s e precoder_bits levels = refl
 
-pub former_next : (s r e : ℕ) (precoder_bits levels : List ℕ)
+pub precoder_bit_next : (s r e : ℕ) (precoder_bits levels : List ℕ)
     → precoder_bit s precoder_bits levels (r + 1) e ≡ get_or levels (symbol_place s r e) 0 / 4
 unfolding precoder_bit
-former_next s r e precoder_bits levels =
+precoder_bit_next s r e precoder_bits levels =
     cond-false (r + 1 == 0) (get_or precoder_bits e 0) (get_or levels (symbol_place s (r + 1 - 1) e) 0 / 4)
     (ne_eqb (r + 1) 0 (no r)) ∙ ap (λ u. get_or levels (symbol_place s u e) 0 / 4) (back r)
   where
@@ -59,7 +59,7 @@ unfolding pair_back
 lane_pair s h i p precoder_bits levels l m =
     ap₂ (λ x y. pair_from x (get_or levels y 0))
     (ap (λ r. precoder_bit s precoder_bits levels r (lane_coder s h p)) (sum h i)
-    ∙ former_next s (4 * h + i) (lane_coder s h p) precoder_bits levels
+    ∙ precoder_bit_next s (4 * h + i) (lane_coder s h p) precoder_bits levels
     ∙ ap (λ x. get_or levels x 0 / 4) (lane_symbol s h i p (omega arith) m))
     (lane_symbol s h (i + 1) p (omega arith) m)
   where
@@ -130,7 +130,7 @@ pub before_first : (s p x : ℕ) (precoder_bits levels : List ℕ) → get_or pr
 before_first s p x precoder_bits levels l e =
     bit (get_or precoder_bits ((p + 4 * (s % 3)) % 12) 0) l e
     ∙ ap (λ k. get_or precoder_bits k 0) (sym (first_coder s p))
-    ∙ sym (former_zero s (coder_turned (turn s 0) p) precoder_bits levels)
+    ∙ sym (precoder_bit_zero s (coder_turned (turn s 0) p) precoder_bits levels)
   where
     bit : (f : ℕ) → f < 2 → x ≡ 4 * f → x / 4 % 2 ≡ f
     bit f l e = omega arith
@@ -143,7 +143,7 @@ before_later s h p x precoder_bits levels z l m n e =
     let f : 4 * h - 1 + 1 ≡ 4 * h = omega arith in
     bit x n ∙ ap (λ y. y / 4) (e ∙ ap (λ i. get_or levels i 0) (sym (own_place s (4 * h - 1) p m))
     ∙ ap (λ t. get_or levels (symbol_place s (4 * h - 1) (coder_turned t p)) 0) (sym (first_turn s h l)))
-    ∙ sym (former_next s (4 * h - 1) (lane_coder s h p) precoder_bits levels)
+    ∙ sym (precoder_bit_next s (4 * h - 1) (lane_coder s h p) precoder_bits levels)
     ∙ ap (λ r. precoder_bit s precoder_bits levels r (lane_coder s h p)) f
   where
     bit : (x : ℕ) → x < 8 → x / 4 % 2 ≡ x / 4
@@ -162,10 +162,10 @@ unfolding symbol_place
 last_symbol s e = omega arith
 
 -- Z2 behind the last round
-pub former_last : (s e : ℕ) (precoder_bits levels : List ℕ)
+pub precoder_bit_last : (s e : ℕ) (precoder_bits levels : List ℕ)
     → get_or levels (3300 + (e + 12 - 4 * (s % 3)) % 12) 0 / 4 ≡ precoder_bit s precoder_bits levels 276 e
-former_last s e precoder_bits levels = ap (λ i. get_or levels i 0 / 4) (last_symbol s e)
-    ∙ sym (former_next s 275 e precoder_bits levels)
+precoder_bit_last s e precoder_bits levels = ap (λ i. get_or levels i 0 / 4) (last_symbol s e)
+    ∙ sym (precoder_bit_next s 275 e precoder_bits levels)
 
 -- the byte of four levels
 pub lane_joined : (h p b x0 x1 x2 x3 : ℕ) (levels : List ℕ) → x0 ≡ lane_level levels h 0 p

@@ -1,7 +1,8 @@
 -- From the levels of whole groups, 3312 each, back to their bytes: the inverse of the twelve trellis coders (ATSC A/53
 -- Part 2, trellis coding). The first group is at place s of its field, each further one four places on. Z2 is a level's
--- highest bit and Z1 the one below. A coder's former Z2 is that of its symbol before, and before its first symbol a
--- number of formers. Rounds are counted from 0, 276 in a group; in each every coder has one symbol.
+-- highest bit and Z1 the one below. A coder's precoder bit is Z2 of its symbol before; that before its first symbol is
+-- given, coder e's as number e of a list. Rounds are counted from 0, 276 in a group; in each every coder has one
+-- symbol.
 use Rattle.std.specs.Prelude.{ℕ, ◌+◌, ◌-◌, ◌*◌, ◌/◌, ◌%◌, ◌==◌, if◌then◌else◌, List, length, map, slice_index}
 use Rattle.std.specs.List.{range_with_len}
 
@@ -9,12 +10,12 @@ use Rattle.std.specs.List.{range_with_len}
 unfoldable pub symbol_place : ℕ → ℕ → ℕ → ℕ
 symbol_place s r e = 12 * r + (e + 12 - 4 * ((s + r / 69) % 3)) % 12
 
--- Z2 of coder e before round r
+-- the precoder bit of coder e before round r
 unfoldable pub precoder_bit : ℕ → List ℕ → List ℕ → ℕ → ℕ → ℕ
 precoder_bit s precoder_bits levels r e =
     if r == 0 then slice_index precoder_bits e else slice_index levels (symbol_place s (r - 1) e) / 4
 
--- the pair of a level: X2 = Z2 + the former Z2, X1 = Z1
+-- the pair of a level: X2 = Z2 + the precoder bit, X1 = Z1
 abbrev pub pair_from : ℕ → ℕ → ℕ
 pair_from before level = 2 * ((level / 4 + before) % 2) + level / 2 % 2
 
@@ -45,16 +46,16 @@ unfoldable pub bytes_back : ℕ → List ℕ → List ℕ → List ℕ
 bytes_back s precoder_bits levels = map (byte_back s precoder_bits levels) (range_with_len 0
     (828 * level_groups levels))
 
--- Z2 of coders 0 to 11 behind all groups
+-- the precoder bits of coders 0 to 11 behind all groups
 unfoldable pub precoder_bits_after : ℕ → List ℕ → List ℕ → List ℕ
 precoder_bits_after s precoder_bits levels = map (precoder_bit s precoder_bits levels (276 * level_groups levels))
     (range_with_len 0 12)
 
--- Z2 of coders 0 to 11, from the levels of the last twelve symbols of a field sync. These repeat the last symbols of a
--- field, and so number q is of coder (q + 8) mod 12.
+-- the precoder bits of coders 0 to 11, from the levels of the last twelve symbols of a field sync. These repeat the
+-- last symbols of a field, and so number q is of coder (q + 8) mod 12.
 unfoldable pub precoder_bits_of : List ℕ → List ℕ
 precoder_bits_of last = map (λ e. slice_index last ((e + 4) % 12) / 4) (range_with_len 0 12)
 
--- Z2 of coders 0 to 11 in these states
+-- the precoder bits of coders 0 to 11 in these states
 unfoldable pub precoder_bits_in : List ℕ → List ℕ
 precoder_bits_in states = map (λ e. slice_index states e / 4 % 2) (range_with_len 0 12)

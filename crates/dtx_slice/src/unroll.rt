@@ -7,8 +7,8 @@ use crate::walk::{last_precoder_bits, walk};
 use dtx_sizes::{CODERS, FIELD_PACKETS, GROUP_BYTES, GROUP_LEVELS, GROUP_PACKETS, PRECODE};
 use std::marker::Model;
 
-/// The former Z2 of the twelve trellis coders: of each the higher bit of its last symbol (ATSC A/53 Part 2, trellis
-/// coding).
+/// The precoder bits of the twelve trellis coders: of each Z2 of its last symbol, to which its precoder adds the next
+/// X2 (ATSC A/53 Part 2, trellis coding).
 #[derive(Drop)]
 pub struct Unroll {
     precoder_bits: [u8; CODERS],
@@ -25,7 +25,7 @@ impl Model for Unroll {
 }
 
 impl Unroll {
-    /// Each coder's former Z2 is 0.
+    /// Each coder's precoder bit is 0.
     pub fn new() -> Unroll
         ensures { result ≡ replicate CODERS 0 }
     {
@@ -34,7 +34,7 @@ impl Unroll {
         }
     }
 
-    /// Takes each coder's former Z2 from the levels of the last twelve symbols of a field sync.
+    /// Takes each coder's precoder bit from the levels of the last twelve symbols of a field sync.
     pub fn start(&mut self, last: &[u8; PRECODE])
         requires { EachIndex last.now (λ q. slice_index last.now q < 8) }
         ensures precoder_bits { self.new ≡ precoder_bits_of last.now }
@@ -46,7 +46,7 @@ impl Unroll {
     }
 
     /// The bytes of the group whose first segment is at place `first` of its field, from its levels. The next group
-    /// goes on from the former Z2 that this one leaves.
+    /// goes on from the precoder bits that this one leaves.
     pub fn group(&mut self, first: u16, levels: &[u8; GROUP_LEVELS], bytes: &mut [u8; GROUP_BYTES])
         requires in_field { first < FIELD_PACKETS }
         requires whole { first % GROUP_PACKETS ≡ 0 }
@@ -54,7 +54,7 @@ impl Unroll {
         ensures bytes { bytes.new ≡ bytes_back first self.old levels.now }
         ensures precoder_bits { self.new ≡ precoder_bits_after first self.old levels.now }
         ensures long { length self.new ≡ CODERS }
-        ensures small_formers { EachIndex self.new (λ e. slice_index self.new e < 2) }
+        ensures small { EachIndex self.new (λ e. slice_index self.new e < 2) }
     {
         let from = self.precoder_bits;
         walk(&from, first as usize, levels, bytes);

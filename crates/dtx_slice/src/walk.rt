@@ -41,7 +41,7 @@ const LAST_BYTE: usize = CODER_BYTES - 1;
 /// The last round of a group.
 const LAST_ROUND: usize = ROUNDS - 1;
 
-/// Writes the bytes of a group, from these former Z2 and its levels.
+/// Writes the bytes of a group, from these precoder bits and its levels.
 pub(crate) fn walk(
     precoder_bits: &[u8; CODERS],
     first: usize,
@@ -50,7 +50,7 @@ pub(crate) fn walk(
 )
     requires first { first < FIELD_PACKETS }
     requires small { EachIndex levels.now (λ d. slice_index levels.now d < 8) }
-    requires small_formers { EachIndex precoder_bits.now (λ e. slice_index precoder_bits.now e < 2) }
+    requires small_bits { EachIndex precoder_bits.now (λ e. slice_index precoder_bits.now e < 2) }
     ensures { (j : ℕ) → j < GROUP_BYTES → slice_index bytes.new j ≡ byte_back first precoder_bits.now levels.now j }
 {
     let before = laid_out(precoder_bits, first);
@@ -257,10 +257,10 @@ fn store_last(bytes: &mut [u8; GROUP_BYTES], lanes: u8x16)
     }
 }
 
-/// The former Z2 as bit 2, each in the lane of its coder's place in the first round.
+/// The precoder bits as bit 2, each in the lane of its coder's place in the first round.
 fn laid_out(precoder_bits: &[u8; CODERS], first: usize) -> u8x16
     requires first { first < FIELD_PACKETS }
-    requires small_formers { EachIndex precoder_bits.now (λ e. slice_index precoder_bits.now e < 2) }
+    requires small_bits { EachIndex precoder_bits.now (λ e. slice_index precoder_bits.now e < 2) }
     ensures long { length result ≡ LANES }
     ensures small { EachIndex result (λ p. slice_index result p < 8) }
     ensures precoder_bits { (p : ℕ) → p < CODERS

@@ -1,7 +1,7 @@
 -- The next branch, and how far ahead of a branch the next byte's is.
 use Rattle.std.proofs.Common.{◌≡◌, ◌≢◌, ℕ, ◌+◌, ◌-◌, ◌<◌, ◌≤◌, ◌⊎◌, ◌==◌, nat_le, inl, inr, ap, ◌∙◌, arith}
 use Rattle.std.proofs.lemmas.Bool.{cases_lt, cases_eq, cond-true, cond-false, le-leb, lt-leb, eq-eqb, ne_eqb}
-use Rattle.dtx_spread.specs.Laid.{ahead, following}
+use Rattle.dtx_spread.specs.Block.{ahead, following}
 
 pub following_end : (b next : ℕ) → next + 1 ≡ b → following b next ≡ 0
 following_end b next e = cond-true (next + 1 == b) 0 (next + 1) (eq-eqb (next + 1) b e)

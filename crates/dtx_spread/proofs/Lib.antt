@@ -1,5 +1,5 @@
 pub mod Ahead
-pub mod Lying
+pub mod InBlock
 pub mod Left
 pub mod Rows
 pub mod Lent

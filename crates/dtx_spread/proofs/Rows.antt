@@ -8,7 +8,7 @@ use Rattle.std.proofs.lemmas.Slice.{take-put_mid_below}
 use Rattle.std.proofs.lemmas.List.{drop-take}
 use Rattle.std.proofs.Math.Nat.{mod-eq_of_lt}
 use borrow.Rule.Slice.PartMut.{put_mid, post_of}
-use Rattle.dtx_spread.specs.Laid.{AreOfRow, AreLeft}
+use Rattle.dtx_spread.specs.Block.{AreOfRow, AreLeft}
 use Rattle.dtx_spread.proofs.Left.{turn_further}
 
 -- a part of a list that is written over: what is before it, and the part

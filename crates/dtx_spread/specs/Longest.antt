@@ -2,7 +2,7 @@
 -- of an impl, a trait's laws, cite lemmas of specs/ alone.
 use Rattle.std.proofs.Common.{◌≡◌, ℕ, ◌+◌, ◌-◌, ◌*◌, ap, ◌∙◌, arith}
 use Rattle.dtx_laws.specs.Branches.{spreading, gathering}
-use Rattle.dtx_spread.specs.Laid.{AreWidths}
+use Rattle.dtx_spread.specs.Block.{AreWidths}
 
 both : (m i k : ℕ) → m * i + m * k ≡ m * (i + k)
 both m i k = grind arith

@@ -1,8 +1,8 @@
-//! The block in which the bytes of branches lie, in the order in which they came.
+//! The block that holds the bytes of branches in the order in which they came.
 
 ghost use Rattle.std.specs.Prelude.{◌≡◌, ℕ, ◌+◌, ◌-◌, ◌*◌, ◌%◌, ◌<◌, ◌≤◌, length, take, drop, slice_index};
 ghost use Rattle.dtx_laws.specs.Branches.{IsInterleaver};
-ghost use Rattle.dtx_spread.specs.Laid.{ahead, AreOfRow, AreLeft};
+ghost use Rattle.dtx_spread.specs.Block.{ahead, AreOfRow, AreLeft};
 
 use crate::widths::Widths;
 

@@ -1,5 +1,5 @@
-//! Branches that lie in one block, in the order in which their bytes came. Both ways share them, over the branches'
-//! widths.
+//! Branches in one block, which holds their bytes in the order in which they came. Both ways share them, over the
+//! branches' widths.
 
 ghost use Rattle.std.specs.Prelude.{◌≡◌, ◌≤◌, length, IfOk};
 ghost use Rattle.dtx_laws.specs.Branches.{IsInterleaver, HasWidths, zeroed, aligned, leaving_all, after_all};
@@ -15,7 +15,7 @@ const ROOM: usize = 32_768;
 /// `B` branches, of which each holds as many bytes as `W` says.
 ///
 /// From the place on the block keeps as many rows of `B` bytes as the longest branch holds bytes, and behind them comes
-/// the next byte. What leaves then lies `B` places behind the place for each byte that its branch holds fewer.
+/// the next byte. What leaves then stands `B` places behind the place for each byte that its branch holds fewer.
 #[derive(Drop)]
 pub(crate) struct Lines<W: Widths<B, M>, const B: usize, const M: usize> {
     widths: PhantomData<W>,
@@ -26,12 +26,12 @@ pub(crate) struct Lines<W: Widths<B, M>, const B: usize, const M: usize> {
 
 impl<W: Widths<B, M>, const B: usize, const M: usize> Model for Lines<W, B, M> {
     ghost use Rattle.dtx_laws.specs.Branches.{Branching};
-    ghost use Rattle.dtx_spread.specs.Laid.{lying, IsBlock};
+    ghost use Rattle.dtx_spread.specs.Block.{branches_in, IsBlock};
     ghost use Rattle.dtx_spread.specs.declared.lines.TheConstants.{ROOM};
 
     ghost Value = { Branching };
 
-    ghost view = { λ s. lying B W.lead W.widths s.place s.next s.block.items };
+    ghost view = { λ s. branches_in B W.lead W.widths s.place s.next s.block.items };
 
     ghost invariant = { λ s. IsBlock B M ROOM s.next s.place s.block.items };
 }

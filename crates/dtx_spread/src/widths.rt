@@ -2,7 +2,7 @@
 
 ghost use Rattle.std.specs.Prelude.{◌≡◌, ℕ, ◌+◌, ◌*◌, ◌<◌};
 ghost use Rattle.dtx_laws.specs.Branches.{IsInterleaver, spreading, gathering};
-ghost use Rattle.dtx_spread.specs.Laid.{AreWidths};
+ghost use Rattle.dtx_spread.specs.Block.{AreWidths};
 ghost use Rattle.dtx_spread.specs.Longest.{spreading_widths, gathering_widths};
 
 /// The widths of `B` branches.
@@ -13,7 +13,7 @@ pub(crate) trait Widths<const B: usize, const M: usize> {
     /// How many bytes fewer than the longest one branch i holds.
     ghost lead: { ℕ → ℕ };
 
-    /// How far behind the place of branch `turn` in its row the byte lies that leaves the branch `i` further on: `i`
+    /// How far behind the place of branch `turn` in its row the byte stands that leaves the branch `i` further on: `i`
     /// places, and `B` for each byte that its branch holds fewer than the longest one.
     fn offset(turn: usize, i: usize) -> usize
         requires numbers { IsInterleaver B M }

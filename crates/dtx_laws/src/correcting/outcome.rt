@@ -54,7 +54,7 @@ pub fn accept<E: Encode<N, K>, const N: usize, const K: usize>(
 }
 
 /// Takes a codeword in place of the word, where it is the word's correction.
-pub fn accept_codeword<const N: usize, const K: usize>(
+fn accept_codeword<const N: usize, const K: usize>(
     word: &mut [u8; N],
     code: &[u8; N],
 ) -> Result<u8, TooMany>

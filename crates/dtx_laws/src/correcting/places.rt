@@ -17,7 +17,7 @@ pub fn power_at(len: usize, place: usize) -> Gf
 }
 
 /// The value at `at` of the polynomial with these coefficients, the lowest first.
-pub fn low_value(locator: &[u8], at: Gf) -> Gf
+fn low_value(locator: &[u8], at: Gf) -> Gf
     ensures { result.0 ≡ low_value locator.now at.0 }
 {
     let mut sum = Gf(0);

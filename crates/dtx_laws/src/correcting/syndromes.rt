@@ -1,21 +1,20 @@
 //! The syndromes of a word that is no codeword.
 
-ghost use Rattle.std.specs.Prelude.{◌≡◌, ℕ, ◌<◌, ◌≤◌, length, slice_index};
-ghost use Rattle.dtx_galois.specs.Field.{pow, value};
+ghost use Rattle.std.specs.Prelude.{◌≡◌, ◌≤◌, length};
+ghost use Rattle.dtx_galois.specs.Field.{value};
 ghost use Rattle.dtx_galois.specs.Word.{sums};
+ghost use Rattle.dtx_laws.specs.Syndromes.{AreSyndromes};
 
 use crate::correcting::ROOM;
 use dtx_galois::{ALPHA, Gf};
 
-/// As many syndromes as there are parity bytes, from these bytes of the word and of the codeword that begins with its
-/// data:
-/// the syndromes of a sum are the sums of the syndromes, and those of a codeword are 0.
+/// As many syndromes of a word as it has parity bytes, from these and those of its data, `right`. The sums of the two
+/// have the word's syndromes, since those of a codeword are 0.
 pub fn syndromes_of(parity: &[u8], right: &[u8]) -> [u8; ROOM]
     requires same { length parity.now ≡ length right.now }
     requires few { length parity.now ≤ 255 }
     ensures long { length result ≡ ROOM }
-    ensures values { (i : ℕ) → i < length parity.now
-        → slice_index result i ≡ value (sums parity.now right.now) (pow 2 i) }
+    ensures values { AreSyndromes (length parity.now) (sums parity.now right.now) result }
 {
     let mut syndromes = [0; ROOM];
     for i in 0..parity.len() {

@@ -7,10 +7,9 @@ ghost use Rattle.dtx_laws.specs.Correction.{IsCorrected, IsLeft};
 ghost use Rattle.dtx_laws.specs.Locator.{Annuls, low_value};
 ghost use Rattle.dtx_laws.specs.Words.{codeword};
 
-/// Where at most `t` places of a word are wrong, every solution of the `t` equations of its syndromes vanishes at each
-/// of them:
-/// from `locator[0] * S i + locator[1] * S (i + 1) + .. = 0` for `i` below `t`, where `S j` is the word's value at the
-/// power `j` of α.
+/// A locator vanishes wherever a word differs from its correction. `n - k` is `2 * t`, and syndrome `S j` the word's
+/// value at the power `j` of α: if at most `t + 1` coefficients give `locator[0] * S i + locator[1] * S (i + 1) + .. =
+/// 0` for each `i` below `t`, their polynomial, the lowest first, is 0 at the power of α of each such place.
 pub fn kernel()
     ensures { (n k t : ℕ) (word code locator : List ℕ) → n ≤ 255 → n - k ≡ 2 * t → AreBytes word → length word ≡ n
         → IsCorrection n k word code → AreBytes locator → length locator ≤ t + 1

@@ -1,4 +1,4 @@
-use Rattle.std.proofs.Common.{◌∙◌, ℕ, ap, arith, get_or}
+use Rattle.std.proofs.Common.{◌∙◌, ℕ, ap, get_or}
 use Rattle.dtx_laws.specs.Locator.{is_marked}
 use Rattle.dtx_fast.specs.Recurrence.{error_value}
 use Rattle.dtx_erase.proofs.Quotients.{error_by_quotient}
@@ -9,7 +9,6 @@ returns c =
     let cs : ℕ → ℕ = λ i. get_or c.args.product.now.coefficients i 0 in
     let s : ℕ → ℕ = λ i. get_or c.args.syndromes.now i 0 in
     c.error_value.ensures
-    ∙ ap (error_value c.args.product.now.degree cs s) c.power_at.ensures
+    ∙ ap (error_value c.args.product.now.degree cs s) c.power_at-power.ensures
     ∙ error_by_quotient c.args.len c.args.place c.args.product.now.degree (is_marked c.args.suspects.now) cs s
-    c.requires.some c.requires.suspect c.requires.degree c.requires.product
-    (λ j. omega (arith, c.type_inv.syndromes j))
+    c.requires.some c.requires.suspect c.requires.degree c.requires.product c.fits-syndromes

@@ -8,4 +8,4 @@ returns-then-wrong-word-clause-mended c t =
     subst (λ xs. IsCorrected (length c.args.word.now) c.args.k c.args.word.now xs 1) (sym c.mend.ensures)
     (one_mended c.args.k c.one-wrong.result.error c.one-wrong.result.place c.args.word.now
     (λ i. get_or c.args.syndromes.now i 0) c.requires.code c.requires.bytes c.if-wrong-word.true c.requires.values
-    (c.if-one_gives.ensures t))
+    (c.if-one_gives.ensures.0 t))

@@ -7,9 +7,9 @@ pub returns-then-two_give-clause-mended : goal.returns-then-two_give-clause-mend
 returns-then-two_give-clause-mended c t =
     let first = c.in-Some.first in
     let second = c.in-Some.second in
+    let places = c.if-are_two.ensures.0 t in
     subst (λ xs. IsCorrected (length c.args.word.now) c.args.k c.args.word.now xs 2)
     (sym (c.mend-then-two_give.ensures ∙ ap (mended second.error second.place) c.mend.ensures))
     (two_mended c.args.k first.error first.place second.error second.place c.args.word.now
-    (λ i. get_or c.args.syndromes.now i 0) c.requires.bytes (c.if-are_two.ensures.first t)
-    (c.if-are_two.ensures.second t) (c.if-are_two.ensures.apart t) c.if-count-ge4.true c.requires.values
-    (c.if-two_give.ensures t))
+    (λ i. get_or c.args.syndromes.now i 0) c.requires.bytes places.0 places.1 places.2 c.if-count-ge4.true
+    c.requires.values (c.if-two_give.ensures.0 t))

@@ -15,7 +15,7 @@ unfolding quotient turned
 loop-k-preserved c =
     let k : ℕ = c.loop-k.k in
     let x : ℕ = c.args.at.0 in
-    let cs : ℕ → ℕ = λ i. get_or c.args.found.now.coefficients i 0 in
+    let cs : ℕ → ℕ = λ i. get_or c.args.coefficients.now i 0 in
     let s : ℕ → ℕ = λ i. get_or c.args.syndromes.now i 0 in
     record {
       next = c.add-quotient.ensures
@@ -24,8 +24,8 @@ loop-k-preserved c =
           ∙ sym (ap (quotient x cs) (add-one k));
       sum = c.add-sum.ensures
           ∙ ap₂ bit_xor c.loop-k.invariant.sum
-          (c.mul.ensures ∙ ap (λ (q : ℕ). mul q (s (c.args.found.now.order - 1 - k))) c.loop-k.invariant.next)
-          ∙ sym (discrepancy_next k (quotient x cs) s (c.args.found.now.order - 1));
+          (c.mul.ensures ∙ ap (λ (q : ℕ). mul q (s (c.args.order - 1 - k))) c.loop-k.invariant.next)
+          ∙ sym (discrepancy_next k (quotient x cs) s (c.args.order - 1));
       value = c.add-value.ensures
           ∙ ap₂ bit_xor c.loop-k.invariant.next (c.mul-in-loop-k.ensures ∙ ap (mul x) c.loop-k.invariant.value)
           ∙ sym (ap (λ w. low_value (turned w (quotient x cs)) x) (add-one k));
@@ -34,11 +34,11 @@ loop-k-preserved c =
 pub returns : goal.returns
 unfolding error_value
 returns c =
-    let l : ℕ = c.args.found.now.order in
+    let l : ℕ = c.args.order in
     let x : ℕ = c.args.at.0 in
-    let cs : ℕ → ℕ = λ i. get_or c.args.found.now.coefficients i 0 in
+    let cs : ℕ → ℕ = λ i. get_or c.args.coefficients.now i 0 in
     let s : ℕ → ℕ = λ i. get_or c.args.syndromes.now i 0 in
-    let e : c.loop-k.k ≡ c.args.found.now.order = omega arith in
+    let e : c.loop-k.k ≡ c.args.order = omega arith in
     c.mul-2.ensures
     ∙ ap₂ mul (c.loop-k.invariant.sum ∙ ap (λ w. discrepancy w (quotient x cs) s (l - 1)) e)
     (c.pow.ensures

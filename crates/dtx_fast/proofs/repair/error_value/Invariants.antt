@@ -5,8 +5,8 @@ use Rattle.dtx_fast.proofs.repair.error_value.Given as goal
 
 abbrev pub invariant-loop-k : goal.invariant-loop-k
 invariant-loop-k l = record {
-  next : l.quotient.0 ≡ quotient l.fn.at.0 (λ i. get_or l.fn.found.coefficients i 0) l.k;
-  sum : l.sum.0 ≡ discrepancy l.k (quotient l.fn.at.0 (λ i. get_or l.fn.found.coefficients i 0))
-      (λ i. get_or l.fn.syndromes i 0) (l.fn.found.order - 1);
-  value : l.value.0 ≡ low_value (turned l.k (quotient l.fn.at.0 (λ i. get_or l.fn.found.coefficients i 0))) l.fn.at.0;
+  next : l.quotient.0 ≡ quotient l.fn.at.0 (λ i. get_or l.fn.coefficients i 0) l.k;
+  sum : l.sum.0 ≡ discrepancy l.k (quotient l.fn.at.0 (λ i. get_or l.fn.coefficients i 0))
+      (λ i. get_or l.fn.syndromes i 0) (l.fn.order - 1);
+  value : l.value.0 ≡ low_value (turned l.k (quotient l.fn.at.0 (λ i. get_or l.fn.coefficients i 0))) l.fn.at.0;
 }

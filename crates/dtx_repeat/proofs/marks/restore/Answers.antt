@@ -11,7 +11,7 @@ loop-i-init c = record {
 
 pub loop-i-preserved : goal.loop-i-preserved
 loop-i-preserved c = record {
-  next = omega (arith, c.following-next.ensures, c.loop-i.invariant.next);
+  next = omega (arith, c.loop-i.invariant.next);
   packets = one_on c.args.place c.loop-i.i c.loop-i.next c.args.packets.now c.loop-i.packets _ c.mark.new.packet
       c.loop-i-test.true c.loop-i.invariant.packets c.loop-i.invariant.next c.mark.ensures;
 }

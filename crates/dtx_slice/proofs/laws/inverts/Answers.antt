@@ -1,8 +1,8 @@
-use Rattle.dtx_slice.specs.InverseLaws.{bytes_come_back, formers_go_on}
+use Rattle.dtx_slice.specs.InverseLaws.{bytes_come_back, precoder_bits_go_on}
 use Rattle.dtx_slice.proofs.laws.inverts.Goals as goal
 
 pub returns-clause-bytes : goal.returns-clause-bytes
 returns-clause-bytes c = bytes_come_back
 
 pub returns-clause-precoder_bits : goal.returns-clause-precoder_bits
-returns-clause-precoder_bits c = λ s u states bytes h. formers_go_on s states bytes
+returns-clause-precoder_bits c = λ s u states bytes h. precoder_bits_go_on s states bytes

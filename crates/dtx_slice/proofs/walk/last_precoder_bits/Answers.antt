@@ -1,8 +1,8 @@
 use Rattle.std.proofs.Common.{◌∙◌, arith}
-use Rattle.dtx_slice.specs.PlacesLaws.{former_last}
+use Rattle.dtx_slice.specs.PlacesLaws.{precoder_bit_last}
 use Rattle.dtx_slice.proofs.walk.last_precoder_bits.Goals as goal
 
 pub returns-clause-precoder_bits : goal.returns-clause-precoder_bits
 returns-clause-precoder_bits c = λ precoder_bits e l.
     c.loop-e.invariant.written e (omega (arith, c.loop-e-test.false))
-    ∙ former_last c.args.first e precoder_bits c.args.levels.now
+    ∙ precoder_bit_last c.args.first e precoder_bits c.args.levels.now

@@ -11,7 +11,7 @@ loop-segment-init c =
     let levels = c.args.levels.now in
     let new = c.store.new.bytes in
     let small : (k : ℕ) → k < 12 → get_or c.args.precoder_bits.now k 0 < 2 =
-    λ k l. c.requires.small_formers k (omega (arith, c.told-precoder_bits)) in
+    λ k l. c.requires.small_bits k (omega (arith, c.told-precoder_bits)) in
     record {
       long = c.store.array_long;
       bytes = bytes_more 0 (λ j. get_or new j 0 ≡ byte_back s bits levels j) (λ j l. absurd (omega arith))

@@ -1,5 +1,5 @@
 use Rattle.std.proofs.Common.{◌≡◌, ◌≤◌, ◌-◌, ◌+◌, ◌%◌, length}
-use Rattle.dtx_spread.specs.Laid.{AreLeft}
+use Rattle.dtx_spread.specs.Block.{AreLeft}
 use Rattle.dtx_spread.proofs.block.leave.Given as goal
 
 abbrev pub invariant-loop-done : goal.invariant-loop-done

@@ -1,4 +1,4 @@
-use Rattle.dtx_spread.specs.Laid.{AreOfRow}
+use Rattle.dtx_spread.specs.Block.{AreOfRow}
 use Rattle.dtx_spread.proofs.block.leave_part.Given as goal
 
 abbrev pub invariant-loop-i : goal.invariant-loop-i

@@ -1,5 +1,5 @@
 use Rattle.std.proofs.Common.{◌≤◌, ◌-◌}
-use Rattle.dtx_spread.specs.Laid.{AreOfRow}
+use Rattle.dtx_spread.specs.Block.{AreOfRow}
 use Rattle.dtx_spread.proofs.block.leave_row.Given as goal
 
 abbrev pub invariant-loop-done : goal.invariant-loop-done

@@ -1,5 +1,5 @@
 use Rattle.std.proofs.Common.{length, arith, ◌∙◌}
-use Rattle.dtx_spread.proofs.Lying.{turn_more_rows, row_next, row_within}
+use Rattle.dtx_spread.proofs.InBlock.{turn_more_rows, row_next, row_within}
 use Rattle.dtx_spread.proofs.block.turn_back.Goals as goal
 
 pub turn_row-requires-clause-within : goal.turn_row-requires-clause-within

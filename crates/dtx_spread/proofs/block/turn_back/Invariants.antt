@@ -1,5 +1,5 @@
 use Rattle.std.proofs.Common.{◌≡◌, ℕ, ◌+◌, ◌*◌, ◌<◌, ◌≤◌, get_or}
-use Rattle.dtx_spread.specs.Laid.{ahead}
+use Rattle.dtx_spread.specs.Block.{ahead}
 use Rattle.dtx_spread.proofs.block.turn_back.Given as goal
 
 abbrev pub invariant-loop-row : goal.invariant-loop-row

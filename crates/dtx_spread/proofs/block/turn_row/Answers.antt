@@ -1,6 +1,6 @@
 use Rattle.std.proofs.Common.{◌≡◌, ◌+◌, ◌-◌, get_or, take, drop, ap, ◌∙◌, arith}
 use Rattle.std.proofs.lemmas.List.{length-take-le, length-drop}
-use Rattle.dtx_spread.proofs.Lying.{turned_at}
+use Rattle.dtx_spread.proofs.InBlock.{turned_at}
 use Rattle.dtx_spread.proofs.block.turn_row.Goals as goal
 use borrow.Rule.Slice.PartMut.{put_mid}
 

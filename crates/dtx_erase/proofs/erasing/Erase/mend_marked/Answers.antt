@@ -23,7 +23,7 @@ returns-else-eq-2-clause-answer g c =
     let same : Decides c.eq-2.result (c.encoded_again.result ≡ c.restore.new.word) =
     slice_eq-Decides Decides-eqb c.encoded_again.result c.restore.new.word c.eq-2.result c.eq-2.ensures in
     not_restored g.row.N g.row.K c.args.marks.now c.args.word.now c.restore.new.word again.result
-    again.ensures.code.short
+    c.args.self.now.code.short
     (λ right p. c.restore.ensures right
     (subst (λ m. IsMending m g.row.K c.args.marks.now c.args.word.now right) (sym c.told-word) p))
     again.ensures.codeword again.ensures.begins (λ e. true≢false (sym (same.1 e) ∙ c.if-eq-2.false))

@@ -10,10 +10,10 @@ invariant_of-self c =
       branches = (c.take.ensures.whole c.if-place-eq-LAST.true).0;
       precoder_bits = (c.take.ensures.whole c.if-place-eq-LAST.true).1;
     })
-    c.is_lowest-now.ensures c.both-both.ensures c.counted-zeros.ensures.none c.counted-zeros.ensures.more
+    c.is_lowest-now.ensures.0 c.both-both.ensures c.counted-zeros.ensures.none c.counted-zeros.ensures.more
     c.counted-zeros.ensures.all
     (λ t. (
-      c.is_over-self-inside.ensures.levels t,
-      c.is_over-self-inside.ensures.zeros t,
-      c.is_empty-empty.ensures (c.is_over-self-inside.ensures.gathered t),
+      (c.is_over-self-inside.ensures.0 t).0,
+      (c.is_over-self-inside.ensures.0 t).1,
+      c.is_empty-empty.ensures.0 ((c.is_over-self-inside.ensures.0 t).2),
     ))

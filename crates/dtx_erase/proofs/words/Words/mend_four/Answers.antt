@@ -10,5 +10,5 @@ returns-then-are_clear c p l =
     corrected_answer 207 187 (map is_set (slice_index_or c.args.flags.now p [])) (slice_index_or c.args.words.now p [])
     (slice_index_or c.correct_four.new.words p []) (slice_index_or c.correct_four.result p (Ok 0))
     (c.requires.words p l) (length-map (slice_index_or c.args.flags.now p []) is_set ∙ c.requires.flags p l)
-    (none_lost (slice_index_or c.args.flags.now p []) (λ i. c.are_clear.ensures c.if-are_clear.true p i l))
+    (none_lost (slice_index_or c.args.flags.now p []) (λ i. c.are_clear.ensures.0 c.if-are_clear.true p i l))
     (c.correct_four.ensures p l)

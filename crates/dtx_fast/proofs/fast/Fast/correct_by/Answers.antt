@@ -10,5 +10,5 @@ returns-then-has_parity-clause-answer g c =
     let front : length word - length parity ≡ g.row.K =
     omega (arith, c.told-word, c.requires.long, c.args.self.now.code.longer) in
     codeword_answer g.row.N g.row.K word
-    (subst (IsCodeword g.row.N g.row.K) (sym (c.has_parity.ensures.same c.if-has_parity.true
+    (subst (IsCodeword g.row.N g.row.K) (sym (c.has_parity.ensures.same.0 c.if-has_parity.true
     ∙ ap (λ k. take k word ++ parity) front)) c.requires.code)

@@ -1,4 +1,4 @@
-use Rattle.std.proofs.Common.{◌≡◌, ◌+◌, ◌-◌, ◌++◌, Some, None, refl, sym, subst, ◌∙◌, ap, arith}
+use Rattle.std.proofs.Common.{◌≡◌, ◌+◌, ◌-◌, ◌%◌, ◌++◌, Some, None, refl, sym, subst, ◌∙◌, ap, arith}
 use Rattle.std.proofs.lemmas.List.{append-nil}
 use Rattle.dtx_receiver.specs.AnswersLaws.{step_searching, step_began, step_sync, step_ended, step_data}
 use Rattle.dtx_receiver.specs.Bytes.{bytes_in}
@@ -22,10 +22,10 @@ returns-else-looks c = λ s h.
 pub returns-then-place-gt0 : goal.returns-then-place-gt0
 returns-then-place-gt0 c = λ s h.
     let back : c.in-Some.place - 1 + 1 ≡ c.in-Some.place = omega (arith, c.if-place-gt0.true) in
-    step_data receiving s c.args.segment.now c.self.inside.place (Some c.following.result) c.self.inside.decoder
-    c.take.new.self c.in-Some.place c.take.new.batch.packets.items
+    step_data receiving s c.args.segment.now c.self.inside.place (Some ((c.in-Some.place + 1) % 313))
+    c.self.inside.decoder c.take.new.self c.in-Some.place c.take.new.batch.packets.items
     (subst (λ (k : Kept). StandsFor k s) (sym c.self.view_is) h) c.in-Some.is
-    (λ z. omega (arith, z, c.if-place-gt0.true)) (ap Some c.following.ensures)
+    (λ z. omega (arith, z, c.if-place-gt0.true)) refl
     (λ run d e. record {
       holds = c.take.ensures.stands run d (e ∙ sym back);
       packets = c.take.ensures.packets run (early_of (bytes_in run)) d (e

@@ -1,6 +1,6 @@
 use Rattle.std.proofs.Common.{◌≡◌, subst}
 use Rattle.dtx_slice.specs.Unrolled.{bytes_back, precoder_bits_after}
-use Rattle.dtx_slice.proofs.Ends.{bytes_end, formers_end}
+use Rattle.dtx_slice.proofs.Ends.{bytes_end, precoder_bits_end}
 use Rattle.dtx_slice.proofs.unroll.Unroll.group.Goals as goal
 
 pub returns-clause-bytes : goal.returns-clause-bytes
@@ -14,7 +14,7 @@ pub returns-clause-precoder_bits : goal.returns-clause-precoder_bits
 returns-clause-precoder_bits c =
     subst (λ q. c.last_precoder_bits-behind.result ≡ precoder_bits_after c.args.first q c.args.levels.now)
     c.self.view_is
-    (formers_end c.args.first c.self.inside.precoder_bits c.args.levels.now c.last_precoder_bits-behind.result
+    (precoder_bits_end c.args.first c.self.inside.precoder_bits c.args.levels.now c.last_precoder_bits-behind.result
     c.told-levels
     c.last_precoder_bits-behind.ensures.long (c.last_precoder_bits-behind.ensures.precoder_bits
     c.self.inside.precoder_bits))

@@ -1,7 +1,7 @@
 use Rattle.std.proofs.Common.{◌+◌, ◌*◌, ◌-◌, ◌<◌, ℕ, length, take, drop, sym, subst, ap, ◌∙◌, arith}
 use Rattle.std.proofs.Math.Nat.{mod-lt}
 use Rattle.dtx_laws.specs.Branches.{leaving_all, after_all}
-use Rattle.dtx_spread.specs.Laid.{lying}
+use Rattle.dtx_spread.specs.Block.{branches_in}
 use Rattle.dtx_spread.proofs.Left.{pass_branches, pass_bytes}
 use Rattle.dtx_spread.proofs.Lent.{lent_twice}
 use Rattle.dtx_spread.proofs.lines.Lines.pass_some.Goals as goal
@@ -54,8 +54,8 @@ returns-clause-branches g c =
     let n = g.row.B * g.row.M * (g.row.B - 1) in
     let r = lent_twice s.block.len s.block.items c.deref_mut.result.now m.new.block c.deref_mut-2.result.now t.new.block
     s.block.ok.0 c.deref_mut.ensures.value m.auto.block c.deref_mut-2.ensures.value t.auto.block in
-    ap (λ ys. lying g.row.B g.W.Widths.lead g.W.Widths.widths (m.result + length t.new.bytes) t.result ys) r.1
-    ∙ ap (λ k. lying g.row.B g.W.Widths.lead g.W.Widths.widths (m.result + k) t.result t.new.block) t.auto.bytes
+    ap (λ ys. branches_in g.row.B g.W.Widths.lead g.W.Widths.widths (m.result + length t.new.bytes) t.result ys) r.1
+    ∙ ap (λ k. branches_in g.row.B g.W.Widths.lead g.W.Widths.widths (m.result + k) t.result t.new.block) t.auto.bytes
     ∙ pass_branches g.row.B g.row.M g.W.Widths.lead g.W.Widths.widths s.place s.next m.result t.result c.args.bytes.now
     s.block.items t.new.block g.met.W.Widths.are h.below
     (t.ensures.held ∙ ap (λ ys. take n (drop m.result ys)) r.0 ∙ m.ensures.held

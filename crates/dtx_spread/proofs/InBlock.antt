@@ -10,7 +10,7 @@ use Rattle.std.proofs.lemmas.List.{length-replicate, ext_get_or, length-take-le,
 use borrow.Rule.Slice.PartMut.{put_mid}
 use Rattle.std.proofs.lemmas.List.FromFn.{get_or-map-range_with_len, length-map-range_with_len}
 use Rattle.dtx_laws.specs.Branches.{Branching, HasWidths, zeroed, aligned, leaving, after_byte}
-use Rattle.dtx_spread.specs.Laid.{ahead, held, lying, following, AreWidths}
+use Rattle.dtx_spread.specs.Block.{ahead, held, branches_in, following, AreWidths}
 use Rattle.dtx_spread.proofs.Ahead.{ahead_from, ahead_below, ahead_here, ahead_zero, ahead_less}
 use Rattle.dtx_spread.proofs.Ahead.{ahead_other, ahead_own}
 
@@ -35,17 +35,17 @@ length-held b lead w place next block i =
     length-map-range_with_len (λ j. get_or block (place + ahead b next i + (lead i + j) * b) 0) 0 (w i)
 
 list_at : (b : ℕ) (lead w : ℕ → ℕ) (place next : ℕ) (block : List ℕ) (i : ℕ) → i < b
-    → get_or (lying b lead w place next block).lists i [] ≡ held b lead w place next block i
+    → get_or (branches_in b lead w place next block).lists i [] ≡ held b lead w place next block i
 list_at b lead w place next block i l =
     get_or-map-range_with_len (held b lead w place next block) 0 b i i [] l (omega arith)
 
 length-lists : (b : ℕ) (lead w : ℕ → ℕ) (place next : ℕ) (block : List ℕ)
-    → length (lying b lead w place next block).lists ≡ b
+    → length (branches_in b lead w place next block).lists ≡ b
 length-lists b lead w place next block = length-map-range_with_len (held b lead w place next block) 0 b
 
-pub lying_widths : (b : ℕ) (lead w : ℕ → ℕ) (place next : ℕ) (block : List ℕ) → next < b
-    → HasWidths b w (lying b lead w place next block)
-lying_widths b lead w place next block l = record {
+pub branches_widths : (b : ℕ) (lead w : ℕ → ℕ) (place next : ℕ) (block : List ℕ) → next < b
+    → HasWidths b w (branches_in b lead w place next block)
+branches_widths b lead w place next block l = record {
   next = l;
   count = length-lists b lead w place next block;
   long = λ i k. ap length (list_at b lead w place next block i k) ∙ length-held b lead w place next block i;
@@ -65,9 +65,9 @@ same_held b lead w place next place' next' block block' i h =
 same_lists_of : (b : ℕ) (lead w : ℕ → ℕ) (place next place' next' : ℕ) (block block' : List ℕ)
     → ((i j : ℕ) → i < b → j < w i → get_or block (place + ahead b next i + (lead i + j) * b) 0
     ≡ get_or block' (place' + ahead b next' i + (lead i + j) * b) 0)
-    → (lying b lead w place next block).lists ≡ (lying b lead w place' next' block').lists
+    → (branches_in b lead w place next block).lists ≡ (branches_in b lead w place' next' block').lists
 same_lists_of b lead w place next place' next' block block' h =
-    ext_get_or [] (lying b lead w place next block).lists (lying b lead w place' next' block').lists
+    ext_get_or [] (branches_in b lead w place next block).lists (branches_in b lead w place' next' block').lists
     (length-lists b lead w place next block ∙ sym (length-lists b lead w place' next' block'))
     (λ i l. let k : i < b = omega (arith, l, length-lists b lead w place next block) in
     list_at b lead w place next block i k ∙ same_held b lead w place next place' next' block block' i (λ j n. h i j k n)
@@ -75,7 +75,7 @@ same_lists_of b lead w place next place' next' block block' h =
 
 -- ---- the next byte, behind those that are held
 
--- where byte j of the next branch lies
+-- where byte j of the next branch stands
 here : (b place next j : ℕ) → place + ahead b next next + j * b ≡ place + j * b
 here b place next j = omega (arith, ahead_here b next)
 
@@ -133,10 +133,11 @@ moved_on b m lead w place next block x a p e =
         ∙ omega (arith, length_push (held b lead w place next block next) x, length-held b lead w place next block next)
 
 -- the branches after one byte: the same block, seen from one place on
-pub lying_byte : (b m : ℕ) (lead w : ℕ → ℕ) (place next : ℕ) (block : List ℕ) (x : ℕ) → AreWidths b m lead w → next < b
+pub branches_byte : (b m : ℕ) (lead w : ℕ → ℕ) (place next : ℕ) (block : List ℕ) (x : ℕ) → AreWidths b m lead w
+    → next < b
     → x ≡ get_or block (place + b * m * (b - 1)) 0
-    → lying b lead w (place + 1) (following b next) block ≡ after_byte b (lying b lead w place next block) x
-lying_byte b m lead w place next block x a p e = ap (view_of (following b next)) lists
+    → branches_in b lead w (place + 1) (following b next) block ≡ after_byte b (branches_in b lead w place next block) x
+branches_byte b m lead w place next block x a p e = ap (view_of (following b next)) lists
   where
     nearer : (i c : ℕ) → i < b → i ≢ next
         → get_or block (place + 1 + ahead b (following b next) i + c) 0 ≡ get_or block (place + ahead b next i + c) 0
@@ -144,34 +145,34 @@ lying_byte b m lead w place next block x a p e = ap (view_of (following b next))
 
     by_cases : (i : ℕ) → i < b → (i ≡ next) ⊎ (i ≡ next → ⊥)
         → held b lead w (place + 1) (following b next) block i
-        ≡ get_or (set (lying b lead w place next block).lists next
-        (drop 1 (get_or (lying b lead w place next block).lists next [] ++ x ∷ []))) i []
+        ≡ get_or (set (branches_in b lead w place next block).lists next
+        (drop 1 (get_or (branches_in b lead w place next block).lists next [] ++ x ∷ []))) i []
     by_cases i l (inl f) =
         subst (λ (k : ℕ). held b lead w (place + 1) (following b next) block k
-        ≡ get_or (set (lying b lead w place next block).lists next
-        (drop 1 (get_or (lying b lead w place next block).lists next [] ++ x ∷ []))) k []) (sym f)
+        ≡ get_or (set (branches_in b lead w place next block).lists next
+        (drop 1 (get_or (branches_in b lead w place next block).lists next [] ++ x ∷ []))) k []) (sym f)
         (moved_on b m lead w place next block x a p e
         ∙ ap (λ ys. drop 1 (ys ++ x ∷ [])) (sym (list_at b lead w place next block next p))
-        ∙ sym (get_or-set_same (lying b lead w place next block).lists next
-        (drop 1 (get_or (lying b lead w place next block).lists next [] ++ x ∷ [])) []
+        ∙ sym (get_or-set_same (branches_in b lead w place next block).lists next
+        (drop 1 (get_or (branches_in b lead w place next block).lists next [] ++ x ∷ [])) []
         (omega (arith, p, length-lists b lead w place next block))))
     by_cases i l (inr n) =
         same_held b lead w (place + 1) (following b next) place next block block i
         (λ j k. nearer i ((lead i + j) * b) l n)
         ∙ sym (list_at b lead w place next block i l)
-        ∙ sym (get_or-set_other (lying b lead w place next block).lists next i
-        (drop 1 (get_or (lying b lead w place next block).lists next [] ++ x ∷ [])) [] n)
+        ∙ sym (get_or-set_other (branches_in b lead w place next block).lists next i
+        (drop 1 (get_or (branches_in b lead w place next block).lists next [] ++ x ∷ [])) [] n)
 
-    lists : (lying b lead w (place + 1) (following b next) block).lists
-        ≡ set (lying b lead w place next block).lists next
-        (drop 1 (get_or (lying b lead w place next block).lists next [] ++ x ∷ []))
+    lists : (branches_in b lead w (place + 1) (following b next) block).lists
+        ≡ set (branches_in b lead w place next block).lists next
+        (drop 1 (get_or (branches_in b lead w place next block).lists next [] ++ x ∷ []))
     lists =
-        ext_get_or [] (lying b lead w (place + 1) (following b next) block).lists
-        (set (lying b lead w place next block).lists next
-        (drop 1 (get_or (lying b lead w place next block).lists next [] ++ x ∷ [])))
+        ext_get_or [] (branches_in b lead w (place + 1) (following b next) block).lists
+        (set (branches_in b lead w place next block).lists next
+        (drop 1 (get_or (branches_in b lead w place next block).lists next [] ++ x ∷ [])))
         (length-lists b lead w (place + 1) (following b next) block
-        ∙ sym (length-set (lying b lead w place next block).lists next
-        (drop 1 (get_or (lying b lead w place next block).lists next [] ++ x ∷ []))
+        ∙ sym (length-set (branches_in b lead w place next block).lists next
+        (drop 1 (get_or (branches_in b lead w place next block).lists next [] ++ x ∷ []))
         ∙ length-lists b lead w place next block))
         (λ i l. let k : i < b =
         omega (arith, l, length-lists b lead w (place + 1) (following b next) block) in
@@ -180,7 +181,7 @@ lying_byte b m lead w place next block x a p e = ap (view_of (following b next))
 -- the byte that leaves
 pub leaves : (b m : ℕ) (lead w : ℕ → ℕ) (place next : ℕ) (block : List ℕ) (x : ℕ) → AreWidths b m lead w → next < b
     → x ≡ get_or block (place + b * m * (b - 1)) 0
-    → get_or block (place + b * lead next) 0 ≡ leaving (lying b lead w place next block) x
+    → get_or block (place + b * lead next) 0 ≡ leaving (branches_in b lead w place next block) x
 leaves b m lead w place next block x a p e =
     ap (λ n. get_or block (place + n) 0) (in_turns b (lead next)) ∙ by_cases (cases_zero (w next))
     ∙ ap (λ ys. get_or (ys ++ x ∷ []) 0 0) (sym (list_at b lead w place next block next p))
@@ -207,7 +208,7 @@ leaves b m lead w place next block x a p e =
 
 -- ---- the block moved, and turned
 
--- each byte that a branch holds lies within the first b * m * (b - 1) from the place on
+-- each byte that a branch holds stands within the first b * m * (b - 1) from the place on
 pub within_held : (b m : ℕ) (lead w : ℕ → ℕ) (next i j : ℕ) → AreWidths b m lead w → next < b → i < b → j < w i
     → ahead b next i + (lead i + j) * b < b * m * (b - 1)
 within_held b m lead w next i j a p l k =
@@ -218,10 +219,10 @@ within_held b m lead w next i j a p l k =
     omega (arith, ahead_less b next i p l)
 
 -- the branches where their bytes have moved
-pub lying_moved : (b m : ℕ) (lead w : ℕ → ℕ) (place next place' : ℕ) (block block' : List ℕ) → AreWidths b m lead w
+pub branches_moved : (b m : ℕ) (lead w : ℕ → ℕ) (place next place' : ℕ) (block block' : List ℕ) → AreWidths b m lead w
     → next < b → take (b * m * (b - 1)) (drop place' block') ≡ take (b * m * (b - 1)) (drop place block)
-    → lying b lead w place' next block' ≡ lying b lead w place next block
-lying_moved b m lead w place next place' block block' a p e =
+    → branches_in b lead w place' next block' ≡ branches_in b lead w place next block
+branches_moved b m lead w place next place' block block' a p e =
     ap (view_of next) (same_lists_of b lead w place' next place next block' block
     (λ i j l k. read place' block' (ahead b next i) ((lead i + j) * b) (within_held b m lead w next i j a p l k)
     ∙ ap (λ ys. get_or ys (ahead b next i + (lead i + j) * b) 0) e
@@ -236,21 +237,21 @@ lying_moved b m lead w place next place' block block' a p e =
         plus a r s = omega arith
 
 -- the branches where each b bytes have turned by `next`
-pub lying_turned : (b m : ℕ) (lead w : ℕ → ℕ) (place next : ℕ) (block block' : List ℕ) → AreWidths b m lead w
+pub branches_turned : (b m : ℕ) (lead w : ℕ → ℕ) (place next : ℕ) (block block' : List ℕ) → AreWidths b m lead w
     → ((i j : ℕ) → i < b → j < m * (b - 1)
     → get_or block' (place + i + j * b) 0 ≡ get_or block (place + ahead b next i + j * b) 0)
-    → lying b lead w place 0 block' ≡ aligned (lying b lead w place next block)
-lying_turned b m lead w place next block block' a h =
+    → branches_in b lead w place 0 block' ≡ aligned (branches_in b lead w place next block)
+branches_turned b m lead w place next block block' a h =
     ap (view_of 0) (same_lists_of b lead w place 0 place next block' block
     (λ i j l k. ap (λ n. get_or block' (place + n + (lead i + j) * b) 0) (ahead_zero b i)
     ∙ h i (lead i + j) l (omega (arith, k, a i l))))
 
 -- zeros in every branch
-pub lying_of_zeros : (b m : ℕ) (lead w : ℕ → ℕ) (n : ℕ) (block : List ℕ) → AreWidths b m lead w → 0 < b
-    → b * m * (b - 1) ≤ n → block ≡ replicate n 0 → lying b lead w 0 0 block ≡ zeroed b w
+pub branches_of_zeros : (b m : ℕ) (lead w : ℕ → ℕ) (n : ℕ) (block : List ℕ) → AreWidths b m lead w → 0 < b
+    → b * m * (b - 1) ≤ n → block ≡ replicate n 0 → branches_in b lead w 0 0 block ≡ zeroed b w
 unfolding zeroed
-lying_of_zeros b m lead w n block a p h e = ap (view_of 0)
-    (ext_get_or [] (lying b lead w 0 0 block).lists (map (λ i. replicate (w i) 0) (range_with_len 0 b))
+branches_of_zeros b m lead w n block a p h e = ap (view_of 0)
+    (ext_get_or [] (branches_in b lead w 0 0 block).lists (map (λ i. replicate (w i) 0) (range_with_len 0 b))
     (length-lists b lead w 0 0 block ∙ sym (length-map-range_with_len (λ i. replicate (w i) 0) 0 b))
     (λ i l. let k : i < b = omega (arith, l, length-lists b lead w 0 0 block) in
     list_at b lead w 0 0 block i k ∙ zeros i k
@@ -294,7 +295,7 @@ turn_more_rows b place next row old cur new done others turned before i j l k = 
         last : (row j : ℕ) → row ≤ j → j < row + 1 → row ≡ j
         last row j h k = omega arith
 
--- a row of those that are held lies within the block
+-- a row of those that are held stands within the block
 pub row_within : (b m row place n : ℕ) → row < m * (b - 1) → place + b * m * (b - 1) ≤ n → place + row * b + b ≤ n
 row_within b m row place n l h =
     let g : (row + 1) * b ≤ m * (b - 1) * b = mul-le-mul_right b (omega arith) in

@@ -1,4 +1,4 @@
--- Branches in one block, whose bytes lie in the order in which they came.
+-- Branches in one block, which holds their bytes in the order in which they came.
 use Rattle.std.specs.Prelude.{ℕ, ◌≡◌, ◌+◌, ◌-◌, ◌*◌, ◌%◌, ◌<◌, ◌≤◌, ◌==◌, nat_le, if◌then◌else◌, List, map, length}
 use Rattle.std.specs.Prelude.{slice_index}
 use Rattle.std.specs.List.{range_with_len}
@@ -14,9 +14,9 @@ abbrev pub held : ℕ → (ℕ → ℕ) → (ℕ → ℕ) → ℕ → ℕ → Li
 held b lead w place next block i =
     map (λ j. slice_index block (place + ahead b next i + (lead i + j) * b)) (range_with_len 0 (w i))
 
--- the branches, of which branch i holds w i bytes
-abbrev pub lying : ℕ → (ℕ → ℕ) → (ℕ → ℕ) → ℕ → ℕ → List ℕ → Branching
-lying b lead w place next block = record {
+-- the branches that a block holds, of which branch i holds w i bytes
+abbrev pub branches_in : ℕ → (ℕ → ℕ) → (ℕ → ℕ) → ℕ → ℕ → List ℕ → Branching
+branches_in b lead w place next block = record {
   next = next;
   lists = map (held b lead w place next block) (range_with_len 0 b);
 }
