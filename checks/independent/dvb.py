@@ -12,7 +12,7 @@ import sys
 import tempfile
 
 from network import differences
-from reference import PACKET, corrected, correction_bytes, packets_of, try_each
+from reference import PACKET, corrected, parity_bytes, packets_of, try_each
 
 BLOCK, PARITY, GROUP = 204, 16, 8
 BRANCHES, STEP = 12, 17
@@ -43,7 +43,7 @@ def randomized(packet, k):
 
 def block_of(packet, k):
     data = randomized(packet, k)
-    return data + correction_bytes(data, PARITY)
+    return data + parity_bytes(data, PARITY)
 
 
 def coded(packets):

@@ -1,12 +1,12 @@
 #!/usr/bin/env python3
 """Changes packet 100 of a feed, which is its first operations packet; it shares nothing with dtx.
 
-lies.py FEED CHANGE OUT    CHANGE is a word of CHANGES; the correction bytes are right, but where the change is of those
+lies.py FEED CHANGE OUT    CHANGE is a word of CHANGES; the parity bytes are right, but where the change is of those
 """
 
 import sys
 
-from reference import MOST, PACKET, correction_bytes, entries_at, misread
+from reference import MOST, PACKET, parity_bytes, entries_at, misread
 
 PLACE = 100 * PACKET
 # Where the fields of the data stand: kind, states and four bits of 0, stamp, maximum delay, frame, index; in kind 2 also page and number of
@@ -83,7 +83,7 @@ def changed(packet, word):
     change(data)
     if misread(bytes(data)) != broken:
         sys.exit(f"{word}: breaks the rule {misread(bytes(data))}, not {broken}")
-    return packet[:4] + bytes(data) + correction_bytes(bytes(data))
+    return packet[:4] + bytes(data) + parity_bytes(bytes(data))
 
 
 def main(feed, word, out):

@@ -10,7 +10,7 @@ import sys
 import tempfile
 
 from exciter import spoiled, tried, with_sync
-from reference import FRAME, MOST, correction_bytes, entries_at, misread, read, refusal, spelled, try_each
+from reference import FRAME, MOST, parity_bytes, entries_at, misread, read, refusal, spelled, try_each
 
 # How many transmitters the networks have: kind 1, then kind 2 with 2, 3, 4 and 30 pages.
 SIZES = (2, 35, 36, 40, 68, 69, 130, 1020)
@@ -69,7 +69,7 @@ class Network:
 
 
 def broken(chance, packet):
-    """An operations packet that breaks a rule or two, with the right correction bytes: most often one of pages and of the count."""
+    """An operations packet that breaks a rule or two, with the right parity bytes: most often one of pages and of the count."""
     data = bytearray(packet[4:168])
     at = entries_at(data[0])
     for _ in range(chance.choice((1, 1, 2))):
@@ -91,7 +91,7 @@ def broken(chance, packet):
             data[16:18] = chance.choice((FRAME, 65535)).to_bytes(2, "big")
         else:
             data[163] = 1
-    return packet[:4] + bytes(data) + correction_bytes(bytes(data))
+    return packet[:4] + bytes(data) + parity_bytes(bytes(data))
 
 
 def told(chance, packet):

@@ -33,7 +33,7 @@ for _ in range(254):
 LOGS = {power: log for log, power in enumerate(POWERS)}
 
 
-# How many correction bytes a codeword of the air has, and of the operations packet.
+# How many parity bytes a codeword of the air has, and of the operations packet.
 PARITY = 20
 
 
@@ -52,7 +52,7 @@ def rows(parity):
     return [int.from_bytes(bytes(multiplied(factor, c) for c in factors), "big") for factor in range(256)]
 
 
-def correction_bytes(data, parity=PARITY):
+def parity_bytes(data, parity=PARITY):
     """The bytes behind the data of a codeword: the remainder of a division."""
     rest, multiples, most = 0, rows(parity), 2 ** (8 * parity)
     for byte in data:
@@ -96,11 +96,11 @@ def locator(syndromes):
 
 
 def is_codeword(word, parity=PARITY):
-    return correction_bytes(word[:-parity], parity) == word[-parity:]
+    return parity_bytes(word[:-parity], parity) == word[-parity:]
 
 
 def corrected(word, parity=PARITY):
-    """The codeword that differs from a word in at most half as many places as it has correction bytes, or nothing. What is found is
+    """The codeword that differs from a word in at most half as many places as it has parity bytes, or nothing. What is found is
     tested, so it is one; and where there is one, the recurrence of the syndromes finds its places."""
     if is_codeword(word, parity):
         return word
@@ -150,7 +150,7 @@ def whitened(data, place):
 def coded(packet, place):
     """The codeword of a packet at a place of its field."""
     data = whitened(packet[1:], place)
-    return data + correction_bytes(data)
+    return data + parity_bytes(data)
 
 
 # For a state 4 * q2 + 2 * q1 + q0 and a byte: the state after the byte's four pairs.
@@ -197,7 +197,7 @@ def spelled(head, counter, fields):
     for address, offset in fields["offsets"].items():
         data += address.to_bytes(2, "big") + offset.to_bytes(2, "big", signed=True)
     data = data.ljust(164, b"\0")
-    return bytes([head, 0x1F, 0xFA, 0x10 + counter % 16]) + data + correction_bytes(data)
+    return bytes([head, 0x1F, 0xFA, 0x10 + counter % 16]) + data + parity_bytes(data)
 
 
 def entries_at(kind):

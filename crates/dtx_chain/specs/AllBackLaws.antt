@@ -10,7 +10,7 @@ use Rattle.dtx_slice.specs.Slicing.{sliced_data}
 use Rattle.dtx_slice.specs.Unrolled.{level_groups, byte_back, bytes_back}
 use Rattle.dtx_coder.specs.Stream.{a53}
 use Rattle.dtx_coder.specs.CountsLaws.{length-a53}
-use Rattle.dtx_receiver.specs.Bytes.{data_count, data_at, groups_of, levels_from, levels_in, first_formers, bytes_in}
+use Rattle.dtx_receiver.specs.Bytes.{data_count, data_at, groups_of, levels_from, levels_in, first_bits, bytes_in}
 use Rattle.dtx_receiver.specs.Packets.{is_complete, received_at, run_packets, all_packets, received}
 use Rattle.dtx_receiver.specs.declared.batch.Received.{Received}
 use Rattle.dtx_receiver.specs.CompleteLaws.{complete_told}
@@ -52,7 +52,7 @@ run_bytes : (run : List (List ℤ)) → ((i : ℕ) → i < length run → length
     → length (bytes_in run) ≡ 828 * groups_of run
 unfolding bytes_in bytes_back level_groups
 run_bytes run h =
-    length-map-range_with_len (byte_back 0 (first_formers run) (levels_in run)) 0
+    length-map-range_with_len (byte_back 0 (first_bits run) (levels_in run)) 0
     (828 * (length (levels_in run) / 3312))
     ∙ ap (λ (n : ℕ). 828 * n) (whole (length (levels_in run)) (groups_of run) (run_levels run h))
   where

@@ -22,13 +22,13 @@ use Rattle.dtx_coder.specs.BytesLaws.{length-whole}
 use Rattle.dtx_coder.specs.LevelsLaws.{length-levels}
 use Rattle.dtx_coder.specs.SegmentsLaws.{segment_is}
 use Rattle.dtx_coder.specs.CountsLaws.{length-a53}
-use Rattle.dtx_receiver.specs.Bytes.{data_count, data_at, groups_of, levels_from, levels_in, first_formers, bytes_in}
+use Rattle.dtx_receiver.specs.Bytes.{data_count, data_at, groups_of, levels_from, levels_in, first_bits, bytes_in}
 use Rattle.dtx_receiver.specs.SegmentsLaws.{levels_parts}
 use Rattle.dtx_lists.proofs.RangeMoved.{flat_map-range_same}
 use Rattle.dtx_chain.specs.Undamaged.{ArePackets}
 use Rattle.dtx_chain.specs.Damage.{codeword_at, IsNear}
 use Rattle.dtx_chain.specs.PlacesLaws.{sync_at, data_at_place}
-use Rattle.dtx_chain.specs.LevelsLaws.{slices_front, level_small, segment_back, zero_formers, nothing_before}
+use Rattle.dtx_chain.specs.LevelsLaws.{slices_front, level_small, segment_back, zero_bits, nothing_before}
 use Rattle.dtx_chain.specs.WordsLaws.{whole_small, word_is}
 use Rattle.dtx_chain.specs.AllBackLaws.{data_within, data_before, data_all}
 
@@ -86,7 +86,7 @@ levels_there ps q run h =
         let e : 828 * (312 * q + d) ≡ 828 * (312 * q) + 828 * d = omega arith in
         ap (λ n. drop n (levels ps)) e ∙ sym (drop-drop (828 * d) (828 * (312 * q)) (levels ps))
 
--- ---- the former Z2 before it
+-- ---- the precoder bits before it
 
 -- the levels before group u
 levels_to : List (List ℕ) → ℕ → List ℕ
@@ -142,7 +142,7 @@ last_there : (ps : List (List ℕ)) (q : ℕ) → 78 * q ≤ length ps / 4
     → precoder_bits_of (map sliced (last_before ps (78 * q)))
     ≡ precoder_bits_after 0 (precoder_bits_in zero_states) (levels_to ps (78 * q))
 unfolding levels_to
-last_there ps zero l = ap (λ x. precoder_bits_of (map sliced x)) (nothing_before ps) ∙ zero_formers ∙ sym none_yet
+last_there ps zero l = ap (λ x. precoder_bits_of (map sliced x)) (nothing_before ps) ∙ zero_bits ∙ sym none_yet
 last_there ps (suc q) l =
     let u : ℕ = 78 * suc q in
     let some : 0 < u = omega arith in
@@ -155,8 +155,8 @@ group_starts : (q n l u : ℕ) → 0 < n → 313 * q + n ≤ l → l ≡ 4 * u +
 group_starts q n l u s a e = omega (arith, s, a, e)
 
 first_there : (ps : List (List ℕ)) (q : ℕ) (run : List (List ℤ)) → IsThere ps q run
-    → first_formers run ≡ precoder_bits_after 0 (precoder_bits_in zero_states) (levels_to ps (78 * q))
-unfolding first_formers
+    → first_bits run ≡ precoder_bits_after 0 (precoder_bits_in zero_states) (levels_to ps (78 * q))
+unfolding first_bits
 first_there ps q run h =
     let there : 313 * q + 0 ≡ 4 * (78 * q) + (78 * q + 77) / 78 = omega arith in
     let some : 78 * q < length ps / 4 =
@@ -202,7 +202,7 @@ bytes_there ps q run p h = record {
       (precoder_bits_after 0 precoder_bits own) rest)
       (sym (first_there ps q run h)) (sym own_is));
   long = length-back 0 u none front (length-levels_to ps u begun);
-  own = length-back 0 (groups_of run) (first_formers run) (levels_in run) (ap length own_is ∙ own_long);
+  own = length-back 0 (groups_of run) (first_bits run) (levels_in run) (ap length own_is ∙ own_long);
 }
   where
     u : ℕ
@@ -349,7 +349,7 @@ levels_front run m =
 -- and so do its bytes
 bytes_front : (ps : List (List ℕ)) (q m : ℕ) (run : List (List ℤ)) → IsThere ps q (take m run)
     → (more : List ℕ) × (bytes_in run ≡ bytes_in (take m run) ++ more)
-unfolding bytes_in first_formers
+unfolding bytes_in first_bits
 bytes_front ps q m run h =
     let g : ℕ = groups_of (take m run) in
     let first : get_or (take m run) 0 [] ≡ get_or run 0 [] =
@@ -381,7 +381,7 @@ no_levels = refl
 
 no_bytes : bytes_in [] ≡ []
 unfolding bytes_in bytes_back level_groups
-no_bytes = ap (bytes_back 0 (first_formers [])) no_levels
+no_bytes = ap (bytes_back 0 (first_bits [])) no_levels
 
 -- a run that has a word has a segment
 pub some_segments : (run : List (List ℤ)) (j : ℕ) → IsComplete 207 52 4 (length (bytes_in run)) j → 0 < length run

@@ -20,7 +20,7 @@ use Rattle.dtx_coder.specs.BytesLaws.{length-whole}
 use Rattle.dtx_coder.specs.LevelsLaws.{length-levels}
 use Rattle.dtx_coder.specs.SegmentsLaws.{segment_is}
 use Rattle.dtx_coder.specs.CountsLaws.{length-a53}
-use Rattle.dtx_receiver.specs.Bytes.{data_count, data_at, groups_of, levels_from, levels_in, first_formers, bytes_in}
+use Rattle.dtx_receiver.specs.Bytes.{data_count, data_at, groups_of, levels_from, levels_in, first_bits, bytes_in}
 use Rattle.dtx_lists.proofs.RangeMoved.{flat_map-range_same}
 use Rattle.dtx_chain.specs.PlacesLaws.{sync_at, data_at_place}
 
@@ -102,21 +102,21 @@ pub nothing_before : (ps : List (List ℕ)) → last_before ps 0 ≡ no_last
 unfolding last_before
 nothing_before ps = refl
 
-pub zero_formers : precoder_bits_of (map sliced no_last) ≡ precoder_bits_in zero_states
+pub zero_bits : precoder_bits_of (map sliced no_last) ≡ precoder_bits_in zero_states
 unfolding precoder_bits_of sliced no_last precoder_bits_in zero_states
-zero_formers = refl
+zero_bits = refl
 
-formers_are : (ps : List (List ℕ)) → 4 ≤ length ps → first_formers (a53 ps) ≡ precoder_bits_in zero_states
-unfolding first_formers
-formers_are ps l =
+first_bits_are : (ps : List (List ℕ)) → 4 ≤ length ps → first_bits (a53 ps) ≡ precoder_bits_in zero_states
+unfolding first_bits
+first_bits_are ps l =
     ap (λ s. precoder_bits_of (sliced_last s)) (sync_at ps 0 (omega arith) refl)
     ∙ ap precoder_bits_of (last_back (nat_le 312 0) (last_before ps 0) ∙ ap (map sliced) (nothing_before ps))
-    ∙ zero_formers
+    ∙ zero_bits
 
 pub bytes_are : (ps : List (List ℕ)) → 4 ≤ length ps
     → ((j : ℕ) → j < length (whole_groups ps) → get_or (whole_groups ps) j 0 < 256)
     → bytes_in (a53 ps) ≡ whole_groups ps
 unfolding bytes_in levels
 bytes_are ps l h =
-    ap₂ (λ f y. bytes_back 0 f y) (formers_are ps l) (levels_are ps)
+    ap₂ (λ f y. bytes_back 0 f y) (first_bits_are ps l) (levels_are ps)
     ∙ bytes_come_back 0 (length ps / 4) zero_states (whole_groups ps) (length-whole ps) h

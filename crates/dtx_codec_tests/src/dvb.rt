@@ -62,7 +62,7 @@ fn spoil(blocks: &mut Blocks, from: usize) {
 }
 
 // The numbers are those of a program in Python that follows the standard's equations: the randomizer's bits by their
-// rule, the sixteen correction bytes by solving the equations that the word vanishes at the first sixteen powers of α,
+// rule, the sixteen parity bytes by solving the equations that the word vanishes at the first sixteen powers of α,
 // and byte n of what is sent as byte n - 204 * (n mod 12) of the blocks.
 #[test]
 fn the_blocks_are_those_of_an_independent_program(rt: HostRuntime) -> Result<(), Fail> {

@@ -37,29 +37,29 @@ fn worked_words_are_mended_or_left(rt: HostRuntime) {
     }
 }
 
-/// The correction bytes of the data bytes 7 * i + 3, modulo 256, by long division.
-const CORRECTION_BYTES: [u8; 20] = [
+/// The parity bytes of the data bytes 7 * i + 3, modulo 256, by long division.
+const PARITY_BYTES: [u8; 20] = [
     0xa4, 0x0b, 0x39, 0x0e, 0x17, 0x4d, 0x44, 0xfc, 0x42, 0x08, 0xdc, 0x73, 0xe5, 0x46, 0x72, 0x20,
     0xf2, 0x7c, 0x52, 0x92,
 ];
 
-/// Those data with their correction bytes.
+/// Those data with their parity bytes.
 fn word_of_data() -> [u8; 207] {
     let mut sent = [0; 207];
     for i in 0..187 {
         sent[i] = ((7 * i + 3) % 256) as u8;
     }
     for i in 0..20 {
-        sent[187 + i] = CORRECTION_BYTES[i];
+        sent[187 + i] = PARITY_BYTES[i];
     }
     sent
 }
 
-/// A missing byte costs one of the twenty correction bytes, a wrong one two. Where they suffice, the word comes back;
+/// A missing byte costs one of the twenty parity bytes, a wrong one two. Where they suffice, the word comes back;
 /// where they don't, there is mostly no mending. But a codeword that is near enough is one, whichever it is: by a plain
 /// solver of linear equations there is another one in four of the cases.
 #[test]
-fn damage_is_mended_while_the_correction_bytes_suffice(rt: HostRuntime) {
+fn damage_is_mended_while_the_parity_bytes_suffice(rt: HostRuntime) {
     let air = Erase::<207, 187>::new();
     let sent = word_of_data();
     for missing in 0..25 {

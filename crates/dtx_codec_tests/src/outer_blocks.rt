@@ -22,7 +22,7 @@ fn sum_of(bytes: &[u8]) -> u32 {
 }
 
 // The numbers are those of a program in Python that follows the standard's equations: the randomizer's bytes as
-// remainders modulo its generator polynomial, the twenty correction bytes by solving the equations that the word
+// remainders modulo its generator polynomial, the twenty parity bytes by solving the equations that the word
 // vanishes at the first twenty powers of α, and byte n of what leaves as byte n - 208 * (n mod 52) of what comes. From
 // packet 60 on n is counted from the align, and where that place is before the first, the byte is the next of those
 // that came to branch n mod 52 before the align and hadn't left.

@@ -6,7 +6,7 @@ use Rattle.std.proofs.lemmas.Bool.{cases_eq}
 use Rattle.std.proofs.lemmas.List.{append-nil, length-append, length-map, map-append}
 use Rattle.dtx_frame.specs.Detection.{looks_like}
 use Rattle.dtx_lists.proofs.Range.{range_with_len-parts, map-range_same}
-use Rattle.dtx_receiver.specs.Bytes.{data_count, first_formers, levels_in, bytes_in}
+use Rattle.dtx_receiver.specs.Bytes.{data_count, first_bits, levels_in, bytes_in}
 use Rattle.dtx_receiver.specs.CompleteLaws.{complete_all}
 use Rattle.dtx_receiver.specs.CountingLaws.{bytes_front}
 use Rattle.dtx_receiver.specs.FollowingLaws.{searching, began, sync_came, ended_there, data_came}
@@ -24,11 +24,11 @@ use Rattle.dtx_erase.specs.MendedLaws.{at_flags, end_more, flagged, stays}
 
 -- ---- bytes and flags
 
-grown : (run new : List (List ℤ)) (z : List ℕ) → first_formers new ≡ first_formers run
+grown : (run new : List (List ℤ)) (z : List ℕ) → first_bits new ≡ first_bits run
     → levels_in new ≡ levels_in run ++ z → (more : List ℕ) × (bytes_in new ≡ bytes_in run ++ more)
 unfolding bytes_in
 grown run new z e f =
-    let b = bytes_front (first_formers run) (levels_in run) z in
+    let b = bytes_front (first_bits run) (levels_in run) z in
     (b.0, ap₂ (λ g y. bytes_back 0 g y) e f ∙ b.3)
 
 -- with a segment more there may be bytes more

@@ -12,7 +12,7 @@ use Rattle.dtx_slice.specs.Slicing.{sliced, sliced_data, sliced_last}
 use Rattle.dtx_slice.specs.Unrolled.{symbol_place, precoder_bit, precoder_bits_of, pair_from, pair_back, byte_back}
 use Rattle.dtx_slice.specs.Unrolled.{coder_of, bytes_back, level_groups}
 use Rattle.dtx_outer.specs.Inner.{codeword_byte_place, word_at}
-use Rattle.dtx_receiver.specs.Bytes.{data_count, data_at, groups_of, levels_from, levels_in, first_formers, bytes_in}
+use Rattle.dtx_receiver.specs.Bytes.{data_count, data_at, groups_of, levels_from, levels_in, first_bits, bytes_in}
 use Rattle.dtx_receiver.specs.CountingLaws.{bytes_count}
 use Rattle.dtx_erase.specs.Marks.{is_missing, missing_in, was_missing, is_marked, marks_in, shown, shown_run, is_set}
 use Rattle.dtx_erase.specs.Mended.{marks_at}
@@ -132,9 +132,9 @@ first_level : (x : List ℤ) (i : ℕ) → get_or (sliced_last (map shown x)) i 
 unfolding sliced_last
 first_level x i = ap (λ ls. get_or ls i 0) (behind 820 x) ∙ get_or-map level_of (map is_missing (drop 820 x)) i false
 
-first_bit : (run : List (List ℤ)) (e : ℕ) → e < 12 → get_or (first_formers (shown_run run)) e 0
+first_bit : (run : List (List ℤ)) (e : ℕ) → e < 12 → get_or (first_bits (shown_run run)) e 0
     ≡ bit_of (get_or (map is_missing (drop 820 (get_or run 0 []))) ((e + 4) % 12) false)
-unfolding first_formers precoder_bits_of
+unfolding first_bits precoder_bits_of
 first_bit run e l =
     get_or-map-range_with_len (λ e. get_or (sliced_last (get_or (shown_run run) 0 [])) ((e + 4) % 12) 0 / 4) 0 12 e e 0
     l (omega arith)
@@ -151,7 +151,7 @@ either true a b m n e f = e
 either false a b m n e f = f
 
 bit_before : (run : List (List ℤ)) (r e : ℕ) → e < 12
-    → precoder_bit 0 (first_formers (shown_run run)) (levels_in (shown_run run)) r e ≡ bit_of (was_missing run r e)
+    → precoder_bit 0 (first_bits (shown_run run)) (levels_in (shown_run run)) r e ≡ bit_of (was_missing run r e)
 unfolding precoder_bit was_missing
 bit_before run r e l =
     either (r == 0) (get_or (map is_missing (drop 820 (get_or run 0 []))) ((e + 4) % 12) false)
@@ -177,7 +177,7 @@ abbrev pair_of : Bool → Bool → ℕ
 pair_of a b = pair_from (bit_of a) (level_of b)
 
 pair_is : (run : List (List ℤ)) (r u e : ℕ) → e < 12 → r + 1 ≡ u
-    → pair_back 0 (first_formers (shown_run run)) (levels_in (shown_run run)) r e
+    → pair_back 0 (first_bits (shown_run run)) (levels_in (shown_run run)) r e
     ≡ pair_of (was_missing run r e) (was_missing run u e)
 unfolding pair_back
 pair_is run r u e l h =
@@ -226,7 +226,7 @@ unfolding coder_of
 coder_small j = omega arith
 
 byte_set : (run : List (List ℤ)) (j : ℕ)
-    → is_set (byte_back 0 (first_formers (shown_run run)) (levels_in (shown_run run)) j) ≡ is_marked run j
+    → is_set (byte_back 0 (first_bits (shown_run run)) (levels_in (shown_run run)) j) ≡ is_marked run j
 unfolding byte_back is_marked
 byte_set run j =
     let r : ℕ = 4 * (j / 12) in
@@ -255,11 +255,11 @@ marks_are run = ap (λ n. map (is_marked run) (range_with_len 0 n)) (bytes_long 
         ≡ map is_set (bytes_in (shown_run run))
     there =
         ap (λ m. map (is_marked run) (range_with_len 0 m)) (length-map-range_with_len (byte_back 0
-        (first_formers (shown_run run)) (levels_in (shown_run run))) 0 n)
+        (first_bits (shown_run run)) (levels_in (shown_run run))) 0 n)
         ∙ map-range_same (is_marked run)
-        (λ j. is_set (byte_back 0 (first_formers (shown_run run)) (levels_in (shown_run run)) j)) 0 n
+        (λ j. is_set (byte_back 0 (first_bits (shown_run run)) (levels_in (shown_run run)) j)) 0 n
         (λ j a b. sym (byte_set run j))
-        ∙ sym (map_over is_set (byte_back 0 (first_formers (shown_run run)) (levels_in (shown_run run)))
+        ∙ sym (map_over is_set (byte_back 0 (first_bits (shown_run run)) (levels_in (shown_run run)))
         (range_with_len 0 n))
 
 -- ---- words

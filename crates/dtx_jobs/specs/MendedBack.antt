@@ -39,7 +39,7 @@ NoneMissing file = All (λ byte. byte ≢ 0x80) (take (832 * whole_segments file
 -- ---- words
 
 -- The word differs from the codeword of packet k of a stream in e unmarked bytes, where f are marked, and 2 * e + f is
--- at most 20: a wrong byte costs two of the twenty correction bytes, a missing one costs one.
+-- at most 20: a wrong byte costs two of the twenty parity bytes, a missing one costs one.
 abbrev pub IsMendable : List (List ℕ) → ℕ → List Bool → List ℕ → Type 0
 IsMendable stream k marks word = 2 * unmarked_distance marks word (codeword_at stream k) + lost marks ≤ 20
 

@@ -82,7 +82,7 @@ fn data_with(worked: [u8; 164], at: u8, bytes: [u8; 4]) -> [u8; 164] {
     data
 }
 
-/// An operations packet of these data, with right correction bytes.
+/// An operations packet of these data, with right parity bytes.
 fn packet_of(data: &[u8; 164]) -> Packet {
     let mut payload = [0; 184];
     Rs::new().encode(data, &mut payload);

@@ -7,7 +7,7 @@ use Rattle.dtx_slice.specs.Slicing.{sliced_data, sliced_last}
 use Rattle.dtx_slice.specs.Unrolled.{level_groups, byte_back, bytes_back, precoder_bits_after, precoder_bits_of}
 use Rattle.dtx_slice.specs.JoinsLaws.{groups_whole}
 use Rattle.dtx_outer.specs.Inner as inner
-use Rattle.dtx_receiver.specs.Bytes.{data_count, groups_of, levels_in, first_formers, bytes_in}
+use Rattle.dtx_receiver.specs.Bytes.{data_count, groups_of, levels_in, first_bits, bytes_in}
 use Rattle.dtx_receiver.specs.Packets.{run_packets, early_of, all_packets, packets_so_far}
 use Rattle.dtx_receiver.specs.AnswersLaws.{IsDecoder}
 use Rattle.dtx_receiver.specs.EarlyLaws.{end_none, end_turn}
@@ -99,7 +99,7 @@ bytes_long : (kept : Decoding) (run : List (List ℤ)) → Decodes kept run
     → length (bytes_in run) ≡ 207 * (4 * groups_of run)
 unfolding bytes_in bytes_back
 bytes_long kept run d =
-    length-map-range_with_len (byte_back 0 (first_formers run) (levels_in run)) 0 (828 * level_groups (levels_in run))
+    length-map-range_with_len (byte_back 0 (first_bits run) (levels_in run)) 0 (828 * level_groups (levels_in run))
     ∙ ap (λ g. 828 * g) (groups_whole (groups_of run) (levels_in run) d.levels.long) ∙ blocks (groups_of run)
   where
     blocks : (g : ℕ) → 828 * g ≡ 207 * (4 * g)

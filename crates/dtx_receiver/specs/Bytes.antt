@@ -26,13 +26,13 @@ levels_in run = levels_from run 0 (4 * groups_of run)
 
 -- Z2 of the twelve coders before a run's first data segment: what the run's first field sync repeats. Later ones aren't
 -- used.
-unfoldable pub first_formers : List (List ℤ) → List ℕ
-first_formers run = precoder_bits_of (sliced_last (slice_index_or run 0 []))
+unfoldable pub first_bits : List (List ℤ) → List ℕ
+first_bits run = precoder_bits_of (sliced_last (slice_index_or run 0 []))
 
 -- Z2 of the twelve coders behind the whole groups
 unfoldable pub precoder_bits_in : List (List ℤ) → List ℕ
-precoder_bits_in run = precoder_bits_after 0 (first_formers run) (levels_in run)
+precoder_bits_in run = precoder_bits_after 0 (first_bits run) (levels_in run)
 
 -- the bytes of all whole groups: the run's first data segment is at place 0 of a field
 unfoldable pub bytes_in : List (List ℤ) → List ℕ
-bytes_in run = bytes_back 0 (first_formers run) (levels_in run)
+bytes_in run = bytes_back 0 (first_bits run) (levels_in run)

@@ -15,7 +15,7 @@ use Rattle.dtx_receiver.specs.declared.batch.Received.{Received}
 use Rattle.dtx_receiver.specs.declared.tracking.Tracking.{Tracking}
 use Rattle.dtx_receiver.specs.declared.tracking.Tracking.TheVariants.{Searching, Began, Sync, Data, Ended}
 use Rattle.dtx_receiver.specs.Runs.{Tracked, tracked, runs, tracking, begun}
-use Rattle.dtx_receiver.specs.Bytes.{data_count, first_formers, levels_in, bytes_in}
+use Rattle.dtx_receiver.specs.Bytes.{data_count, first_bits, levels_in, bytes_in}
 use Rattle.dtx_receiver.specs.Packets.{run_packets, early_of, all_packets, packets_so_far}
 use Rattle.dtx_receiver.specs.EarlyLaws.{early_more, end_more, packets_more}
 use Rattle.dtx_receiver.specs.SegmentsLaws.{still_data, still_sync, levels_grown, first_stays, some_before}
@@ -141,16 +141,16 @@ bytes_front f y z = (
 
 pub bytes_count : (run : List (List ℤ)) → length (bytes_in run) ≡ 207 * (4 * level_groups (levels_in run))
 unfolding bytes_in
-bytes_count run = long_back 0 (first_formers run) (levels_in run)
+bytes_count run = long_back 0 (first_bits run) (levels_in run)
 
 abbrev More : List Received → List Received → Type 0
 More after before = (brought : List Received) × (after ≡ before ++ brought)
 
-early_front : (run new : List (List ℤ)) (z : List ℕ) → first_formers new ≡ first_formers run
+early_front : (run new : List (List ℤ)) (z : List ℕ) → first_bits new ≡ first_bits run
     → levels_in new ≡ levels_in run ++ z → More (early_of (bytes_in new)) (early_of (bytes_in run))
 unfolding bytes_in
 early_front run new z e f =
-    let b = bytes_front (first_formers run) (levels_in run) z in
+    let b = bytes_front (first_bits run) (levels_in run) z in
     let m = early_more (bytes_in run) b.0 (4 * level_groups (levels_in run)) b.1 (bytes_count run) b.2 in
     (_, ap early_of (ap₂ (λ g y. bytes_back 0 g y) e f ∙ b.3) ∙ m)
 
@@ -163,11 +163,11 @@ early_data run x n = by_part (cases_eq (data_count run % 4) 3)
     by_part (inl p) = early_front run (run ++ x ∷ []) _ (first_stays run x (some_before run n)) (levels_grown run x n p)
     by_part (inr p) = ([], ap early_of (still_data run x n p).bytes ∙ sym (append-nil (early_of (bytes_in run))))
 
-whole_front : (run new : List (List ℤ)) (z : List ℕ) → first_formers new ≡ first_formers run
+whole_front : (run new : List (List ℤ)) (z : List ℕ) → first_bits new ≡ first_bits run
     → levels_in new ≡ levels_in run ++ z → More (run_packets (bytes_in new)) (run_packets (bytes_in run))
 unfolding bytes_in
 whole_front run new z e f =
-    let b = bytes_front (first_formers run) (levels_in run) z in
+    let b = bytes_front (first_bits run) (levels_in run) z in
     let m = packets_more (bytes_in run) b.0 (4 * level_groups (levels_in run)) b.1 (bytes_count run) b.2 in
     (m.0, ap run_packets (ap₂ (λ g y. bytes_back 0 g y) e f ∙ b.3) ∙ m.1)
 

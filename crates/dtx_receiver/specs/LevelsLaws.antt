@@ -8,7 +8,7 @@ use Rattle.dtx_trellis.specs.Pairs.{group_place}
 use Rattle.dtx_receiver.specs.Bytes.{data_count, groups_of, levels_from, levels_in, bytes_in}
 use Rattle.dtx_receiver.specs.Receiver.{AreLevels}
 use Rattle.dtx_receiver.specs.SegmentsLaws.{more_data, more_sync, levels_more, levels_stay, Still, still_data}
-use Rattle.dtx_receiver.specs.SegmentsLaws.{still_sync, Grown, grown, first_levels, formers_first, groups_within}
+use Rattle.dtx_receiver.specs.SegmentsLaws.{still_sync, Grown, grown, first_levels, bits_first, groups_within}
 
 pub levels_first : (x : List ℤ) (levels precoder_bits : List ℕ) → precoder_bits ≡ precoder_bits_of (sliced_last x)
     → AreLevels levels precoder_bits (x ∷ [])
@@ -17,7 +17,7 @@ levels_first x levels precoder_bits f = record {
   some = lit< tt;
   long = ap length (first_levels x);
   levels = refl;
-  precoder_bits = f ∙ sym (formers_first x);
+  precoder_bits = f ∙ sym (bits_first x);
 }
 
 pub levels_sync : (x : List ℤ) (levels precoder_bits : List ℕ) (run : List (List ℤ))

@@ -12,7 +12,7 @@ use Rattle.dtx_slice.specs.Slicing.{sliced, sliced_data, sliced_last}
 use Rattle.dtx_slice.specs.Unrolled.{level_groups, precoder_bit, bytes_back, precoder_bits_after, precoder_bits_of}
 use Rattle.dtx_slice.specs.JoinsLaws.{bytes_append, precoder_bits_append}
 use Rattle.dtx_slice.specs.PlacesLaws.{precoder_bit_zero}
-use Rattle.dtx_receiver.specs.Bytes.{data_count, data_at, groups_of, levels_from, levels_in, first_formers}
+use Rattle.dtx_receiver.specs.Bytes.{data_count, data_at, groups_of, levels_from, levels_in, first_bits}
 use Rattle.dtx_receiver.specs.Bytes.{precoder_bits_in}
 use Rattle.dtx_receiver.specs.Bytes.{bytes_in}
 use Rattle.dtx_lists.proofs.RangeMoved.{flat_map-range_same}
@@ -79,8 +79,8 @@ levels_more run x a n h e =
     ∙ ap sliced_data (data_last run x h))
 
 pub first_stays : (run : List (List ℤ)) (x : List ℤ) → 0 < length run
-    → first_formers (run ++ x ∷ []) ≡ first_formers run
-unfolding first_formers
+    → first_bits (run ++ x ∷ []) ≡ first_bits run
+unfolding first_bits
 first_stays run x l = ap (λ s. precoder_bits_of (sliced_last s)) (get_or_append_left run (x ∷ []) [] 0 l)
 
 -- ---- where no group becomes whole
@@ -103,7 +103,7 @@ unfolding levels_in precoder_bits_in bytes_in
 still_from run x l e m =
     let same : levels_in (run ++ x ∷ []) ≡ levels_in run = ap (λ g. levels_from (run ++ x ∷ []) 0 (4 * g)) e
     ∙ levels_stay run x 0 (4 * groups_of run) (omega (arith, m)) in
-    let first : first_formers (run ++ x ∷ []) ≡ first_formers run = first_stays run x l in
+    let first : first_bits (run ++ x ∷ []) ≡ first_bits run = first_stays run x l in
     record {
       groups = e;
       levels = same;
@@ -178,15 +178,15 @@ unfolding precoder_bits_in bytes_in
 grown run x z n p long e =
     let levels : levels_in (run ++ x ∷ []) ≡ levels_in run ++ z =
     levels_grown run x n p ∙ ap (λ ys. levels_in run ++ ys) e in
-    let first : first_formers (run ++ x ∷ []) ≡ first_formers run = first_stays run x (some_before run n) in
+    let first : first_bits (run ++ x ∷ []) ≡ first_bits run = first_stays run x (some_before run n) in
     record {
       groups = more_groups run x n p;
       last = last_grown run x n p ∙ e;
       levels = levels;
       precoder_bits = ap₂ (λ f y. precoder_bits_after 0 f y) first levels
-          ∙ precoder_bits_append 0 (groups_of run) (first_formers run) (levels_in run) z long;
+          ∙ precoder_bits_append 0 (groups_of run) (first_bits run) (levels_in run) z long;
       bytes = ap₂ (λ f y. bytes_back 0 f y) first levels
-          ∙ bytes_append 0 (groups_of run) (first_formers run) (levels_in run) z long;
+          ∙ bytes_append 0 (groups_of run) (first_bits run) (levels_in run) z long;
     }
 
 -- ---- the first field sync of a run
@@ -205,11 +205,11 @@ first_levels x = refl
 
 pub first_bytes : (x : List ℤ) → bytes_in (x ∷ []) ≡ []
 unfolding bytes_in bytes_back level_groups
-first_bytes x = ap (bytes_back 0 (first_formers (x ∷ []))) (first_levels x)
+first_bytes x = ap (bytes_back 0 (first_bits (x ∷ []))) (first_levels x)
 
-pub formers_first : (x : List ℤ) → precoder_bits_in (x ∷ []) ≡ precoder_bits_of (sliced_last x)
-unfolding precoder_bits_in first_formers precoder_bits_after precoder_bits_of level_groups
-formers_first x =
+pub bits_first : (x : List ℤ) → precoder_bits_in (x ∷ []) ≡ precoder_bits_of (sliced_last x)
+unfolding precoder_bits_in first_bits precoder_bits_after precoder_bits_of level_groups
+bits_first x =
     ap (precoder_bits_after 0 (precoder_bits_of (sliced_last x))) (first_levels x)
     ∙ map-range_same (precoder_bit 0 (precoder_bits_of (sliced_last x)) [] 0)
     (λ e. get_or (sliced_last x) ((e + 4) % 12) 0 / 4) 0 12

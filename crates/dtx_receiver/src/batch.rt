@@ -15,7 +15,7 @@ pub const MOST_RECEIVED: usize = 8;
 pub struct Received {
     /// The packet. Its sync byte is 0x47. Where its word had no correction, its error indicator is set.
     pub packet: Packet,
-    /// How many bytes of its word were wrong and put right, correction bytes included; 0 where it had no correction.
+    /// How many bytes of its word were wrong and put right, parity bytes included; 0 where it had no correction.
     pub fixed: u8,
     /// Whether its word had a correction.
     pub good: bool,
