@@ -1,6 +1,6 @@
 //! From the segments of a run to packets.
 
-ghost use Rattle.std.specs.Prelude.{◌≡◌, ℕ, ℤ, ◌+◌, ◌%◌, ◌≤◌, ◌<◌, ◌++◌, ◌∷◌, [], List, IfOk, length};
+ghost use Rattle.std.specs.Prelude.{◌≡◌, ℕ, ℤ, ◌+◌, ◌%◌, ◌≤◌, ◌<◌, ◌++◌, ◌∷◌, [], List, length};
 ghost use Rattle.dtx_outer.specs.Inner.{StandsFor};
 ghost use Rattle.dtx_slice.specs.Unrolled.{bytes_back, precoder_bits_after};
 ghost use Rattle.dtx_receiver.specs.Bytes.{bytes_in};
