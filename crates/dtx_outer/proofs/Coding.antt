@@ -1,6 +1,6 @@
 -- The outer coding of packets that follow each other.
 use Rattle.std.proofs.Common.{◌≡◌, ℕ, suc, ◌+◌, ◌-◌, ◌*◌, ◌/◌, ◌%◌, ◌<◌, ◌≤◌, List, [], ◌∷◌, ◌++◌, drop, length, get_or}
-use Rattle.std.proofs.Common.{refl, sym, take, ap, ap₂, ◌∙◌, arith, mul-le-mul_left}
+use Rattle.std.proofs.Common.{map, refl, sym, take, ap, ap₂, ◌∙◌, arith, mul-le-mul_left}
 use Rattle.std.specs.List.{concat, enumerate_from}
 use Rattle.std.proofs.Math.Nat.{mod-eq_of_lt}
 use Rattle.std.proofs.lemmas.List.{append-nil, append_assoc, length-append, length-map, get_or-map}
@@ -9,6 +9,7 @@ use Rattle.std.proofs.lemmas.List.Folds.{flat_map-map}
 use Rattle.std.proofs.lemmas.List.FromFn.{get_or-enumerate_from, length-enumerate_from}
 use Rattle.std.proofs.lemmas.Nat.{le-div, mul-le}
 use Rattle.dtx_laws.specs.Branches.{Branching, leaving_all, after_all, leaving_calls, after_calls}
+use Rattle.dtx_laws.specs.Codeword.{IsCode}
 use Rattle.dtx_laws.specs.CompletedLaws.{completed_each}
 use Rattle.dtx_laws.specs.Whitening.{whitened}
 use Rattle.dtx_laws.specs.Words.{completed}
@@ -115,16 +116,19 @@ place_within k place period p some h l =
     sym (mod-eq_of_lt r)
 
 -- words that begin with the data of four packets, whitened, become their codewords
-pub begun_completed : (n k : ℕ) (white : List ℕ) (place : ℕ) (heads : List (List ℕ)) (words : List ℕ) → 0 < k
-    → length heads ≡ 4 → k * (place + 4) ≤ length white
-    → ((p : ℕ) → p < 4 → take k (drop (n * p) words) ≡ whitened white (k * (place + p)) (get_or heads p []))
-    → completed n k 4 words ≡ concat (codewords n k white place heads)
+pub begun_completed : {A : Type 0} (n k : ℕ) (white : List ℕ) (place period : ℕ) (f : A → List ℕ) (xs : List A)
+    (words : List ℕ) → IsCode n k → length white ≡ period → length xs ≡ 4 → k * (place + 4) ≤ period
+    → ((p : ℕ) → p < 4 → take k (drop (n * p) words) ≡ whitened white (k * (place + p)) (get_or (map f xs) p []))
+    → completed n k 4 words ≡ concat (codewords n k white place (map f xs))
 unfolding codewords
-begun_completed n k white place heads words some four within begun =
-    ap (λ count. completed n k count words) (sym four)
+begun_completed n k white place period f xs words code long four within begun =
+    let heads : List (List ℕ) = map f xs in
+    let count : length heads ≡ 4 = length-map xs f ∙ four in
+    ap (λ i. completed n k i words) (sym count)
     ∙ completed_each n k (λ p head. whitened white (k * (p % (length white / k))) head) place heads words
-    (λ p l. let q : p < 4 = omega (arith, l, four) in
+    (λ p l. let q : p < 4 = omega (arith, l, count) in
     begun p q
-    ∙ ap (λ i. whitened white (k * i) (get_or heads p [])) (place_within k place (length white) p some within q))
+    ∙ ap (λ i. whitened white (k * i) (get_or heads p []))
+    (place_within k place (length white) p (omega (arith, code.some)) (omega (arith, within, long)) q))
     ∙ sym (concat_is (codewords n k white place heads) ∙ flat_map-map (λ x. x) (λ p. coded_as n k white p.0 p.1)
     (enumerate_from place heads))
