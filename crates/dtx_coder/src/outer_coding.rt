@@ -1,8 +1,7 @@
 //! The outer coding of a group's packets.
 
-ghost use Rattle.std.specs.Prelude.{◌≡◌, ℕ, ◌+◌, ◌*◌, ◌<◌, ◌≤◌, [], IfOk, drop, length, map, slice_index_or, take};
+ghost use Rattle.std.specs.Prelude.{◌≡◌, ◌+◌, ◌≤◌, IfOk, drop, length, map};
 ghost use Rattle.dtx_laws.specs.Branches.{leaving_all, after_all};
-ghost use Rattle.dtx_laws.specs.Whitening.{whitened};
 ghost use Rattle.dtx_whiten.specs.Randomizer.{randomizer_bytes};
 ghost use Rattle.dtx_coder.specs.Coded.{coded_from};
 ghost use Rattle.dtx_coder.specs.Groups.{zero_branches};
@@ -58,42 +57,20 @@ pub(crate) fn code_packets(
           (coded_from first (map (λ p. p.0) packets.now));
     } }
 {
-    begin_words(outer, first, packets, bytes);
-    outer.code_four(&mut bytes[..]);
+    let heads = [
+        data_of(&packets[0]),
+        data_of(&packets[1]),
+        data_of(&packets[2]),
+        data_of(&packets[3]),
+    ];
+    outer.code_four(first, &heads, &mut bytes[..]);
 }
 
-/// Begins four words, one behind the other, with the packets' data, which stand behind their sync bytes, whitened.
-fn begin_words(
-    outer: &OuterCoding,
-    first: usize,
-    packets: &[Packet; GROUP_PACKETS],
-    bytes: &mut [u8; GROUP_BYTES],
-)
-    requires { first + GROUP_PACKETS ≤ FIELD_PACKETS }
-    ensures heads { (p : ℕ) → p < GROUP_PACKETS → take PACKET_DATA (drop (CODEWORD * p) bytes.new)
-        ≡ whitened outer.now.white (PACKET_DATA * (first + p))
-        (take PACKET_DATA (drop 1 (slice_index_or packets.now p (record { 0 = [] })).0)) }
-    ensures long { (p : ℕ) → p < GROUP_PACKETS
-        → length (slice_index_or packets.now p (record { 0 = [] })).0 ≡ PACKET }
+/// The data of a packet, which stand behind its sync byte.
+#[inline(always)]
+fn data_of(packet: &Packet) -> &[u8]
+    ensures behind { result.now ≡ drop 1 packet.now.0 }
+    ensures whole { length packet.now.0 ≡ PACKET }
 {
-    for p in 0..GROUP_PACKETS {
-        let at = CODEWORD * p;
-        begin_word(
-            outer,
-            first + p,
-            &packets[p],
-            &mut bytes[at..at + PACKET_DATA],
-        );
-    }
-}
-
-/// Writes the data of a packet, whitened as those of the packet at this place of a field.
-fn begin_word(outer: &OuterCoding, place: usize, packet: &Packet, front: &mut [u8])
-    requires place { place < FIELD_PACKETS }
-    requires room { length front.old ≡ PACKET_DATA }
-    ensures head { front.new ≡ whitened outer.now.white (PACKET_DATA * place)
-        (take PACKET_DATA (drop 1 packet.now.0)) }
-    ensures long { length packet.now.0 ≡ PACKET }
-{
-    outer.begin_word(PACKET_DATA * place, &packet.0[1..], front);
+    &packet.0[1..]
 }

@@ -1,9 +1,7 @@
 //! From packets to the bytes that are sent.
 
-ghost use Rattle.std.specs.Prelude.{◌≡◌, ℕ, ◌+◌, ◌*◌, ◌%◌, ◌<◌, ◌≤◌, ◌++◌, ◌∷◌, [], List, IfOk, length};
-ghost use Rattle.std.specs.Prelude.{drop, slice_index_or, take};
+ghost use Rattle.std.specs.Prelude.{◌≡◌, ℕ, ◌+◌, ◌%◌, ◌<◌, ◌≤◌, ◌++◌, ◌∷◌, [], List, IfOk, length};
 ghost use Rattle.dtx_laws.specs.Branches.{leaving_all, after_all};
-ghost use Rattle.dtx_laws.specs.Whitening.{whitened};
 ghost use Rattle.dtx_dvb.specs.Randomizer.{randomizer_bytes};
 ghost use Rattle.dtx_dvb.specs.Stream.{block_of, blocks_from, dvb, zero_branches};
 ghost use Rattle.dtx_dvb.specs.Sending.{HasSent};
@@ -84,27 +82,12 @@ impl DvbOut {
         ensures sent { (before : List (List ℕ)) → HasSent before self.old → place ≡ length before % PERIOD_PACKETS
             → HasSent (before ++ packets.now) self.new }
     {
-        begin_blocks(&self.outer, place as usize, packets, out);
-        self.outer.code_four(&mut out[..]);
-    }
-}
-
-/// Begins four blocks, one behind the other, with the packets, randomized, the first of them as that at this place of a
-/// group of eight.
-fn begin_blocks(
-    outer: &OuterCoding,
-    place: usize,
-    packets: &[[u8; PACKET]; FOUR],
-    out: &mut [u8; FOUR_BLOCKS],
-)
-    requires { place + FOUR ≤ PERIOD_PACKETS }
-    ensures white { (p : ℕ) → p < FOUR → take PACKET (drop (BLOCK * p) out.new)
-        ≡ whitened outer.now.white (PACKET * (place + p)) (slice_index_or packets.now p []) }
-    ensures long { (p : ℕ) → p < FOUR → length (slice_index_or packets.now p []) ≡ PACKET }
-{
-    for p in 0..FOUR {
-        let at = BLOCK * p;
-        let front = &mut out[at..at + PACKET];
-        outer.begin_word(PACKET * (place + p), &packets[p][..], front);
+        let heads = [
+            &packets[0][..],
+            &packets[1][..],
+            &packets[2][..],
+            &packets[3][..],
+        ];
+        self.outer.code_four(place as usize, &heads, &mut out[..]);
     }
 }

@@ -2,7 +2,7 @@
 
 use dtx_sizes::PACKET;
 
-/// A packet with its correction bytes, in bytes (EN 300 429, 7.2).
+/// A packet with its parity bytes, in bytes (EN 300 429, 7.2).
 pub const BLOCK: usize = 204;
 
 /// How many branches the interleaver has (EN 300 429, 7.3).

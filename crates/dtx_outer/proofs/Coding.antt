@@ -1,10 +1,18 @@
 -- The outer coding of packets that follow each other.
-use Rattle.std.proofs.Common.{◌≡◌, ℕ, suc, ◌+◌, ◌-◌, ◌*◌, ◌<◌, ◌≤◌, List, [], ◌∷◌, ◌++◌, length, get_or, refl, sym, ap}
-use Rattle.std.proofs.Common.{ap₂, ◌∙◌, arith}
+use Rattle.std.proofs.Common.{◌≡◌, ℕ, suc, ◌+◌, ◌-◌, ◌*◌, ◌/◌, ◌%◌, ◌<◌, ◌≤◌, List, [], ◌∷◌, ◌++◌, drop, length, get_or}
+use Rattle.std.proofs.Common.{map, refl, sym, take, ap, ap₂, ◌∙◌, arith, mul-le-mul_left}
 use Rattle.std.specs.List.{concat, enumerate_from}
+use Rattle.std.proofs.Math.Nat.{mod-eq_of_lt}
 use Rattle.std.proofs.lemmas.List.{append-nil, append_assoc, length-append, length-map, get_or-map}
+use Rattle.std.proofs.lemmas.List.Concat.{concat_is}
+use Rattle.std.proofs.lemmas.List.Folds.{flat_map-map}
 use Rattle.std.proofs.lemmas.List.FromFn.{get_or-enumerate_from, length-enumerate_from}
+use Rattle.std.proofs.lemmas.Nat.{le-div, mul-le}
 use Rattle.dtx_laws.specs.Branches.{Branching, leaving_all, after_all, leaving_calls, after_calls}
+use Rattle.dtx_laws.specs.Codeword.{IsCode}
+use Rattle.dtx_laws.specs.CompletedLaws.{completed_each}
+use Rattle.dtx_laws.specs.Whitening.{whitened}
+use Rattle.dtx_laws.specs.Words.{completed}
 use Rattle.dtx_outer.specs.BackLaws.{length-coded}
 use Rattle.dtx_outer.specs.Coding.{coded_as, codewords}
 
@@ -71,3 +79,56 @@ pub after_more : (b : ℕ) (v : Branching) (calls : List (List ℕ)) (call : Lis
 unfolding after_calls
 after_more b v [] call = refl
 after_more b v (x ∷ xs) call = after_more b (after_all b v x) xs call
+
+-- ---- four packets at once
+
+-- word p of four, and its front
+pub front_within : (n k p long : ℕ) → k ≤ n → p < 4 → long ≡ n * 4 → n * p + k ≤ long
+front_within n k p long few l e =
+    let m : n * (p + 1) ≤ n * 4 = mul-le-mul_left n (upto l) in
+    let f : n * (p + 1) ≡ n * p + n = grind arith in
+    omega (arith, e, f, m, few)
+  where
+    upto : p < 4 → p + 1 ≤ 4
+    upto l = omega arith
+
+-- the bytes by which packet p of them is whitened are those of one packet of the period
+pub white_within : (k place period p : ℕ) → k * (place + 4) ≤ period → p < 4 → k * (place + p) + k ≤ period
+white_within k place period p h l =
+    let m : k * (place + p + 1) ≤ k * (place + 4) = mul-le-mul_left k (upto l) in
+    let f : k * (place + p + 1) ≡ k * (place + p) + k = grind arith in
+    omega (arith, f, m, h)
+  where
+    upto : p < 4 → place + p + 1 ≤ place + 4
+    upto l = omega arith
+
+pub place_small : (k place period p : ℕ) → 0 < k → k * (place + 4) ≤ period → p < 4 → place + p ≤ period
+place_small k place period p some h l =
+    let m : 1 * (place + 4) ≤ k * (place + 4) = mul-le 1 (place + 4) k (place + 4) (omega arith) (omega arith) in
+    omega (arith, m, h, l)
+
+place_within : (k place period p : ℕ) → 0 < k → k * (place + 4) ≤ period → p < 4
+    → place + p ≡ (place + p) % (period / k)
+place_within k place period p some h l =
+    let f : k * (place + 4) ≡ (place + 4) * k = grind arith in
+    let q : place + 4 ≤ period / k = le-div (place + 4) period k some (omega (arith, f, h)) in
+    let r : place + p < period / k = omega (arith, q, l) in
+    sym (mod-eq_of_lt r)
+
+-- words that begin with the data of four packets, whitened, become their codewords
+pub begun_completed : {A : Type 0} (n k : ℕ) (white : List ℕ) (place period : ℕ) (f : A → List ℕ) (xs : List A)
+    (words : List ℕ) → IsCode n k → length white ≡ period → length xs ≡ 4 → k * (place + 4) ≤ period
+    → ((p : ℕ) → p < 4 → take k (drop (n * p) words) ≡ whitened white (k * (place + p)) (get_or (map f xs) p []))
+    → completed n k 4 words ≡ concat (codewords n k white place (map f xs))
+unfolding codewords
+begun_completed n k white place period f xs words code long four within begun =
+    let heads : List (List ℕ) = map f xs in
+    let count : length heads ≡ 4 = length-map xs f ∙ four in
+    ap (λ i. completed n k i words) (sym count)
+    ∙ completed_each n k (λ p head. whitened white (k * (p % (length white / k))) head) place heads words
+    (λ p l. let q : p < 4 = omega (arith, l, count) in
+    begun p q
+    ∙ ap (λ i. whitened white (k * i) (get_or heads p []))
+    (place_within k place (length white) p (omega (arith, code.some)) (omega (arith, within, long)) q))
+    ∙ sym (concat_is (codewords n k white place heads) ∙ flat_map-map (λ x. x) (λ p. coded_as n k white p.0 p.1)
+    (enumerate_from place heads))

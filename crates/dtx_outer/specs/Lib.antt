@@ -1,5 +1,6 @@
 pub mod Outer
 pub mod Coding
+pub mod CodingLaws
 pub mod Inner
 pub mod WordsLaws
 pub mod Made

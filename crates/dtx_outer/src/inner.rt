@@ -148,13 +148,14 @@ impl<
         self.give_next(corrected, &word, out)
     }
 
-    /// The next four blocks of a run, each as `take` takes it. The bytes are replaced by those that were gathered.
+    /// The next four blocks of a run, each as `take` takes it. The bytes that leave the gatherer replace them.
     pub fn take_four(&mut self, bytes: &mut [u8], outs: &mut [[u8; K]; 4]) -> [Taken; 4]
         requires { length bytes.old ≡ N * 4 }
         ensures taken { (y : List ℕ) (p : ℕ) → StandsFor N K B M self.old y → p < 4
             → IsTaken N K B M self.old.white (y ++ take (N * p) bytes.old) (take N (drop (N * p) bytes.old))
             (slice_index_or outs.old p []) (slice_index_or outs.new p []) (slice_index_or result p Taken.None) }
         ensures stands { (y : List ℕ) → StandsFor N K B M self.old y → StandsFor N K B M self.new (y ++ bytes.old) }
+        ensures bytes { bytes.new ≡ leaving_all B self.old.branches bytes.old }
         ensures white { self.new.white ≡ self.old.white }
     {
         self.known();
@@ -214,6 +215,7 @@ impl<
         requires code { IsCode N K }
         requires numbers { IsInterleaver B M }
         requires four { length bytes.old ≡ N * 4 }
+        ensures bytes { bytes.new ≡ leaving_all B self.old.branches bytes.old }
         ensures words { (p : ℕ) → p < 4 → slice_index_or words.new p []
             ≡ drop (completing N B M) (block_behind N self.old.before (leaving_all B self.old.branches bytes.old) p)
             ++ take (completing N B M)

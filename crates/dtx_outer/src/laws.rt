@@ -12,7 +12,7 @@ ghost use Rattle.dtx_laws.specs.Codeword.{IsCodeword};
 ghost use Rattle.dtx_laws.specs.Interleaving.{interleaved, IsInterleavedBehind};
 ghost use Rattle.dtx_outer.specs.Coding.{coded_as, codewords};
 
-/// There is one codeword for each packet, in order, and each is as long as its data with the correction bytes.
+/// There is one codeword for each packet, in order, and each is as long as its data with the parity bytes.
 pub fn each_packet()
     ensures count { (n k : ℕ) (white : List ℕ) (s : ℕ) (heads : List (List ℕ))
         → length (codewords n k white s heads) ≡ length heads }

@@ -1,11 +1,12 @@
 //! Whitens, encodes and interleaves.
 
-ghost use Rattle.std.specs.Prelude.{◌≡◌, ◌+◌, ◌*◌, ◌≤◌, length};
+ghost use Rattle.std.specs.Prelude.{◌≡◌, ℕ, ◌+◌, ◌*◌, ◌<◌, ◌≤◌, [], drop, length, map, slice_index_or, take};
+ghost use Rattle.std.specs.List.{concat};
 ghost use Rattle.dtx_galois.specs.Field.{AreBytes};
 ghost use Rattle.dtx_laws.specs.Branches.{IsInterleaver, HasWidths, spreading, leaving_all, after_all, aligned};
 ghost use Rattle.dtx_laws.specs.Codeword.{IsCode};
 ghost use Rattle.dtx_laws.specs.Whitening.{whitened};
-ghost use Rattle.dtx_laws.specs.Words.{completed};
+ghost use Rattle.dtx_outer.specs.Coding.{codewords};
 ghost use Rattle.dtx_outer.specs.Outer.{Held, IsPeriod, coded};
 
 use crate::whitening::{whiten, whiten_to};
@@ -82,7 +83,7 @@ impl<
     }
 
     /// The bytes that leave the interleaver as the codeword of `head` comes, where `head` is first whitened as packet
-    /// `place` of the whitener's period. The correction bytes aren't whitened.
+    /// `place` of the whitener's period. The parity bytes aren't whitened.
     pub fn code(&mut self, place: usize, head: &[u8; K], out: &mut [u8; N])
         requires { K * place + K ≤ W.PERIOD }
         ensures bytes { out.new ≡ leaving_all B self.old.branches (coded N K self.old.white (K * place) head.now) }
@@ -96,27 +97,41 @@ impl<
         self.spread.pass(out);
     }
 
-    /// Writes the data, whitened from byte `from` of the whitener's period on, to the front of a word.
-    pub fn begin_word(&self, from: usize, head: &[u8], front: &mut [u8])
-        requires long { length head.now ≡ K }
-        requires room { length front.old ≡ K }
-        requires within { from + K ≤ W.PERIOD }
-        ensures { front.new ≡ whitened self.now.white from head.now }
-    {
-        whiten_to::<W, K>(&self.whitener, from, head, front);
-    }
-
-    /// The bytes that leave the interleaver as the codewords of four data come, which `begin_word` has whitened: they
-    /// are the first `K` bytes of four words of `N` bytes, one behind the other. Any bytes may stand behind them.
-    pub fn code_four(&mut self, words: &mut [u8])
-        requires { length words.old ≡ N * 4 }
-        ensures bytes { words.new ≡ leaving_all B self.old.branches (completed N K 4 words.old) }
+    /// The bytes that leave the interleaver as the codewords of four data of `K` bytes come, one behind the other: what
+    /// `code` gives for packets `place` to `place` + 3 of the whitener's period. The words, of `N` bytes each, are made
+    /// where `words` is, whatever stands there before, so none is copied.
+    pub fn code_four(&mut self, place: usize, heads: &[&[u8]; 4], words: &mut [u8])
+        requires long { (p : ℕ) → p < 4 → length (slice_index_or (map (λ head. head.now) heads.now) p []) ≡ K }
+        requires room { length words.old ≡ N * 4 }
+        requires within { K * (place + 4) ≤ W.PERIOD }
+        ensures bytes { words.new ≡ leaving_all B self.old.branches
+            (concat (codewords N K self.old.white place (map (λ head. head.now) heads.now))) }
         ensures branches { self.new ≡ record self.old {
-          branches = after_all B self.old.branches (completed N K 4 words.old);
+          branches = after_all B self.old.branches
+              (concat (codewords N K self.old.white place (map (λ head. head.now) heads.now)));
         } }
     {
+        self.known();
+        self.begin_four(place, heads, words);
         self.code.complete_four(words);
         self.spread.pass(words);
+    }
+
+    /// Writes the data where their words begin, whitened as packets `place` to `place` + 3 of the whitener's period.
+    #[inline(always)]
+    fn begin_four(&self, place: usize, heads: &[&[u8]; 4], words: &mut [u8])
+        requires code { IsCode N K }
+        requires long { (p : ℕ) → p < 4 → length (slice_index_or (map (λ head. head.now) heads.now) p []) ≡ K }
+        requires room { length words.old ≡ N * 4 }
+        requires within { K * (place + 4) ≤ W.PERIOD }
+        ensures { (p : ℕ) → p < 4 → take K (drop (N * p) words.new)
+            ≡ whitened self.now.white (K * (place + p)) (slice_index_or (map (λ head. head.now) heads.now) p []) }
+    {
+        for p in 0..4 {
+            let at = N * p;
+            let from = K * (place + p);
+            whiten_to::<W, K>(&self.whitener, from, heads[p], &mut words[at..at + K]);
+        }
     }
 
     /// The next byte goes to branch 0. The branches keep what they hold.

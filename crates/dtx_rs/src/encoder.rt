@@ -1,10 +1,9 @@
 //! The encoder of a code, and the syndromes of its words.
 
-ghost use Rattle.std.specs.Prelude.{◌≡◌, ℕ, ◌+◌, ◌-◌, ◌<◌, ◌≤◌, [], ◌∷◌, ◌++◌, length, map, replicate};
-ghost use Rattle.std.specs.Prelude.{slice_index_or, take};
+ghost use Rattle.std.specs.Prelude.{◌≡◌, ℕ, ◌+◌, ◌-◌, ◌<◌, ◌≤◌, [], ◌++◌, length, replicate, slice_index_or, take};
 ghost use Rattle.dtx_galois.specs.Field.{AreBytes, pow, value};
 ghost use Rattle.dtx_laws.specs.Codeword.{IsCode};
-ghost use Rattle.dtx_laws.specs.Register.{generator, register};
+ghost use Rattle.dtx_laws.specs.Register.{generator};
 ghost use Rattle.dtx_rs.specs.declared.divisor.TheConstants.{ELEMENTS};
 ghost use Rattle.dtx_rs.specs.declared.words.TheConstants.{WIDTH};
 
@@ -47,19 +46,6 @@ impl<const N: usize, const K: usize> Rs<N, K> {
     {
         eval(&word[..], ALPHA.pow(i as u32))
     }
-
-    /// The registers of zeros after all the data of each of four heads.
-    #[inline(always)]
-    fn parity_of_four(&self, one: &[u8], two: &[u8], three: &[u8], four: &[u8]) -> [[u8; WIDTH]; 4]
-        requires few { N - K ≤ WIDTH }
-        requires two { length two.now ≡ length one.now }
-        requires three { length three.now ≡ length one.now }
-        requires four { length four.now ≡ length one.now }
-        ensures { result ≡ map (register self.now.table.divisor (replicate WIDTH 0))
-            (one.now ∷ two.now ∷ three.now ∷ four.now ∷ []) }
-    {
-        self.table.parity_of_four(one, two, three, four)
-    }
 }
 
 impl<const N: usize, const K: usize> Encode<N, K> for Rs<N, K> {
@@ -78,7 +64,7 @@ impl<const N: usize, const K: usize> Encode<N, K> for Rs<N, K> {
         let (two, rest) = rest.split_at_mut(N);
         let (three, four) = rest.split_at_mut(N);
         if N - K <= WIDTH {
-            let parities = self.parity_of_four(
+            let parities = self.table.parity_of_four(
                 front_of(one, K),
                 front_of(two, K),
                 front_of(three, K),
@@ -102,7 +88,7 @@ impl<const N: usize, const K: usize> Encode<N, K> for Rs<N, K> {
         let two = front_of(&words[1][..], K);
         let three = front_of(&words[2][..], K);
         let four = front_of(&words[3][..], K);
-        self.parity_of_four(one, two, three, four)
+        self.table.parity_of_four(one, two, three, four)
     }
 }
 
@@ -145,8 +131,7 @@ fn join(head: &[u8], parity: &[u8; WIDTH], word: &mut [u8])
     ensures bytes { AreBytes head.now }
     ensures word { word.new ≡ head.now ++ take (length word.old - length head.now) parity.now }
 {
-    let (front, rest) = word.split_at_mut(head.len());
-    front.copy_from_slice(head);
-    let count = rest.len();
-    rest.copy_from_slice(&parity[..count]);
+    let count = head.len();
+    word[..count].copy_from_slice(head);
+    put_behind(count, parity, word);
 }

@@ -1,7 +1,7 @@
 //! The table by which four bytes of data are divided in one step.
 
 ghost use Rattle.std.specs.Prelude.{◌≡◌, ℕ, ◌+◌, ◌-◌, ◌*◌, ◌/◌, ◌%◌, ◌<◌, [], ◌∷◌, ◌++◌, drop, length, map, replicate};
-ghost use Rattle.std.specs.Prelude.{slice_index, slice_index_or, take};
+ghost use Rattle.std.specs.Prelude.{slice_index, slice_index_or, slice_set, take};
 ghost use Rattle.dtx_galois.specs.Word.{sums};
 ghost use Rattle.dtx_laws.specs.Register.{fed, register};
 ghost use Rattle.dtx_rs.specs.Table.{row, word_bytes};
@@ -151,6 +151,32 @@ impl Table {
     }
 }
 
+impl Place {
+    /// Rows of zeros.
+    fn of_zeros() -> Self
+        ensures firsts { length result.firsts ≡ ELEMENTS }
+        ensures rests { length result.rests ≡ ELEMENTS }
+    {
+        let rest = Rest {
+            words: u32x4::splat(0),
+        };
+        Place {
+            firsts: [0; ELEMENTS],
+            rests: [rest; ELEMENTS],
+        }
+    }
+
+    /// This becomes the row of the byte `f`.
+    fn set(&mut self, f: usize, row: Split)
+        requires { f < ELEMENTS }
+        ensures firsts { self.new.firsts ≡ slice_set self.old.firsts f row.first }
+        ensures rests { self.new.rests ≡ slice_set self.old.rests f (record { words = row.rest }) }
+    {
+        self.firsts[f] = row.first;
+        self.rests[f].words = row.rest;
+    }
+}
+
 /// The words one place on.
 #[inline(always)]
 fn next_words(state: u32x4) -> u32x4
@@ -177,11 +203,9 @@ fn last_place(divisor: &[u8; WIDTH]) -> Place
     ensures long { (f : ℕ) → f < ELEMENTS
         → length (slice_index_or result.rests f (record { words = [] })).words ≡ REST }
 {
-    let mut place = no_rows();
+    let mut place = Place::of_zeros();
     for f in 0..ELEMENTS {
-        let row = parted(&next_row(divisor, &[0; WORDS], f as u8));
-        place.firsts[f] = row.first;
-        place.rests[f].words = row.rest;
+        place.set(f, parted(&next_row(divisor, &[0; WORDS], f as u8)));
     }
     place
 }
@@ -195,31 +219,15 @@ fn place_before(divisor: &[u8; WIDTH], behind: &Place) -> Place
     ensures long { (f : ℕ) → f < ELEMENTS
         → length (slice_index_or result.rests f (record { words = [] })).words ≡ REST }
 {
-    let mut place = no_rows();
+    let mut place = Place::of_zeros();
     for f in 0..ELEMENTS {
         let before = joined(Split {
             first: behind.firsts[f],
             rest: behind.rests[f].words,
         });
-        let row = parted(&next_row(divisor, &before, 0));
-        place.firsts[f] = row.first;
-        place.rests[f].words = row.rest;
+        place.set(f, parted(&next_row(divisor, &before, 0)));
     }
     place
-}
-
-/// Rows of zeros.
-fn no_rows() -> Place
-    ensures firsts { length result.firsts ≡ ELEMENTS }
-    ensures rests { length result.rests ≡ ELEMENTS }
-{
-    let rest = Rest {
-        words: u32x4::splat(0),
-    };
-    Place {
-        firsts: [0; ELEMENTS],
-        rests: [rest; ELEMENTS],
-    }
 }
 
 /// The row after one more byte.

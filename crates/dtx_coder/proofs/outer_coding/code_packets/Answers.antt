@@ -7,14 +7,12 @@ pub returns-clause-bytes : goal.returns-clause-bytes
 returns-clause-bytes c =
     c.code_four.ensures.bytes
     ∙ ap (leaving_all 52 c.args.outer.now.branches)
-    (packets_coded (λ p. p.0) c.args.first c.args.outer.now.white c.begin_words.new.bytes c.args.packets.now
-    (record { 0 = [] }) c.requires.white c.told-packets c.requires.place c.begin_words.ensures.heads
-    c.begin_words.ensures.long)
+    (packets_coded (λ p. p.0) c.args.first c.args.outer.now.white c.args.packets.now (record { 0 = [] }) _ _ _ _
+    c.requires.white c.told-packets c.data_of.ensures c.data_of-2.ensures c.data_of-3.ensures c.data_of-4.ensures)
 
 pub returns-clause-outer : goal.returns-clause-outer
 returns-clause-outer c =
     c.code_four.ensures.branches
     ∙ ap (λ x. record c.args.outer.now { branches = after_all 52 c.args.outer.now.branches x })
-    (packets_coded (λ p. p.0) c.args.first c.args.outer.now.white c.begin_words.new.bytes c.args.packets.now
-    (record { 0 = [] }) c.requires.white c.told-packets c.requires.place c.begin_words.ensures.heads
-    c.begin_words.ensures.long)
+    (packets_coded (λ p. p.0) c.args.first c.args.outer.now.white c.args.packets.now (record { 0 = [] }) _ _ _ _
+    c.requires.white c.told-packets c.data_of.ensures c.data_of-2.ensures c.data_of-3.ensures c.data_of-4.ensures)

@@ -1,4 +1,4 @@
-use Rattle.std.proofs.Common.{◌++◌, sym, ap, ap₂, ◌∙◌, subst}
+use Rattle.std.proofs.Common.{rules, ◌++◌, sym, ap, ap₂, ◌∙◌, subst}
 use Rattle.dtx_laws.specs.Branches.{leaving_all, after_all}
 use Rattle.dtx_outer.specs.Outer.{Held}
 use Rattle.dtx_dvb.specs.Stream.{dvb}
@@ -11,15 +11,15 @@ pub returns-clause-bytes : goal.returns-clause-bytes
 returns-clause-bytes c =
     c.code_four.ensures.bytes
     ∙ ap₂ (leaving_all 12) c.self.view_is
-    (blocks_coded c.args.place c.self.inside.outer.white c.begin_blocks.new.out c.args.packets.now c.self.invariant
-    c.told-packets c.requires c.begin_blocks.ensures.white c.begin_blocks.ensures.long)
+    (blocks_coded c.args.place c.self.inside.outer.white c.args.packets.now c.self.invariant c.told-packets
+    (λ p l. search rules))
 
 pub returns-clause-branches : goal.returns-clause-branches
 returns-clause-branches c =
     ap (λ (outer : Held). outer.branches) c.code_four.ensures.branches
     ∙ ap₂ (after_all 12) c.self.view_is
-    (blocks_coded c.args.place c.self.inside.outer.white c.begin_blocks.new.out c.args.packets.now c.self.invariant
-    c.told-packets c.requires c.begin_blocks.ensures.white c.begin_blocks.ensures.long)
+    (blocks_coded c.args.place c.self.inside.outer.white c.args.packets.now c.self.invariant c.told-packets
+    (λ p l. search rules))
 
 pub returns-clause-stream : goal.returns-clause-stream
 returns-clause-stream c = λ before h e.
