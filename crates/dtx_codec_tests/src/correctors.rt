@@ -5,6 +5,7 @@ mod vectors;
 use dtx_correct::Linear;
 use dtx_fast::Fast;
 use dtx_laws::{Correct, TooMany};
+use crate::outer_ways::ELEVEN;
 use std::process::Abort;
 use vectors::{AIR, AIR_LEFT, Corrected, DVB, DVB_LEFT, PACKET, PACKET_LEFT};
 
@@ -29,6 +30,23 @@ fn words_are_corrected_or_given_up_as_by_another_codec(rt: HostRuntime) {
     expect_verdicts(&rt, &Fast::<207, 187>::new(), &AIR, &AIR_LEFT);
     expect_verdicts(&rt, &Fast::<184, 164>::new(), &PACKET, &PACKET_LEFT);
     expect_verdicts(&rt, &Fast::<204, 188>::new(), &DVB, &DVB_LEFT);
+}
+
+#[test]
+fn ten_wrong_bytes_are_put_right_and_eleven_are_left(rt: HostRuntime) {
+    expect_ten_and_eleven(&rt, &Linear::new());
+    expect_ten_and_eleven(&rt, &Fast::new());
+}
+
+/// The word of zeros with ten bytes FF in front, and the one with eleven wrong bytes that no ten can be.
+fn expect_ten_and_eleven<C: Correct<207, 187>>(rt: &impl Abort, code: &C) {
+    let mut ten = [0; 207];
+    ten[..10].fill(0xff);
+    assert!(rt; code.correct(&mut ten) == Ok(10));
+    assert!(rt; ten == [0; 207]);
+    let mut eleven = [0; 207];
+    eleven[196..].copy_from_slice(&ELEVEN);
+    expect_left(rt, code, &eleven);
 }
 
 /// The word of zeros, damaged in the front, at the end, and in both and between.

@@ -14,7 +14,7 @@ type Back = Inner<Atsc, Linear<207, 187>, Collect<52, 4>, 207, 187, 52, 4>;
 
 /// A word of zeros whose last bytes are the coefficients of the product of x + α^i for i from 0 to 9: its first ten
 /// syndromes are 0 and the eleventh isn't, as no ten errors make it.
-const ELEVEN: [u8; 11] = [
+pub(crate) const ELEVEN: [u8; 11] = [
     0x01, 0xd8, 0xc2, 0x9f, 0x6f, 0xc7, 0x5e, 0x5f, 0x71, 0x9d, 0xc1,
 ];
 

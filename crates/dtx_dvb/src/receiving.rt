@@ -72,7 +72,8 @@ impl DvbIn {
         taken
     }
 
-    /// The next four blocks, and the packets that they complete, each as `block` gives it. The bytes are used up.
+    /// The next four blocks, and the packets that they complete, each as `block` gives it. Other bytes stand
+    /// in the place of these then.
     pub fn four(
         &mut self,
         bytes: &mut [u8; FOUR_BLOCKS],

@@ -3,7 +3,7 @@
 ghost use Rattle.std.specs.Prelude.{◌<◌};
 
 use arrayvec::ArrayVec;
-use dtx_correct::Linear;
+use dtx_fast::Fast;
 use dtx_laws::Encode;
 use dtx_ops::{Entry, Ops, OpsNo, Paging, read, write};
 use dtx_packets::Packet;
@@ -104,7 +104,7 @@ fn written_again(packet: &Packet, sync: u8, counter: u8) -> Result<Packet, Fail>
     let mut written = Packet([sync; PACKET]);
     write(
         &Rs::new(),
-        &read(&Linear::new(), packet)?,
+        &read(&Fast::new(), packet)?,
         counter,
         &mut written,
     );
@@ -114,7 +114,7 @@ fn written_again(packet: &Packet, sync: u8, counter: u8) -> Result<Packet, Fail>
 #[test]
 fn worked_fields_are_read_and_written(rt: HostRuntime) -> Result<(), Fail> {
     let packet = packet_of(&worked_data());
-    assert!(rt; read(&Linear::new(), &packet)? == worked());
+    assert!(rt; read(&Fast::new(), &packet)? == worked());
     let written = written_again(&packet, 0xB8, 13)?;
     assert!(rt; &written.0[..4] == [0xB8, 0x1F, 0xFA, 0x1D].as_slice());
     assert!(rt; &written.0[4..] == &packet.0[4..]);
@@ -127,7 +127,7 @@ fn ten_changed_bytes_of_the_payload_are_put_right(rt: HostRuntime) -> Result<(),
     for k in 0..10 {
         packet.0[5 + 18 * k] ^= 0xA5;
     }
-    assert!(rt; read(&Linear::new(), &packet)? == worked());
+    assert!(rt; read(&Fast::new(), &packet)? == worked());
     Ok(())
 }
 
@@ -137,7 +137,7 @@ fn other_bits_of_the_header_are_ignored(rt: HostRuntime) -> Result<(), Fail> {
     packet.0[0] = 0xB8;
     packet.0[1] = 0xFF;
     packet.0[3] = 0xE7;
-    assert!(rt; read(&Linear::new(), &packet)? == worked());
+    assert!(rt; read(&Fast::new(), &packet)? == worked());
     Ok(())
 }
 
@@ -155,7 +155,7 @@ fn greatest_numbers_are_read_and_written(rt: HostRuntime) -> Result<(), Fail> {
     data[19] = 0xFF;
     data[20] = 0xFF;
     let packet = packet_of(&data);
-    let ops = read(&Linear::new(), &packet)?;
+    let ops = read(&Fast::new(), &packet)?;
     assert!(rt; ops.states == States([7; 12]));
     assert!(rt; (ops.stamp, ops.max_delay) == (9_999_999, 9_999_999));
     assert!(rt; (ops.frame, ops.index) == (0xFFFF_FFFF, 623));
@@ -198,7 +198,7 @@ fn each_refusal_comes_by_its_rule_and_the_first_one_first(rt: HostRuntime) {
 #[test]
 fn a_page_is_read_and_written(rt: HostRuntime) -> Result<(), Fail> {
     let packet = packet_of(&page_data());
-    assert!(rt; read(&Linear::new(), &packet)? == worked_page());
+    assert!(rt; read(&Fast::new(), &packet)? == worked_page());
     let written = written_again(&packet, 0x47, 9)?;
     assert!(rt; &written.0[..4] == [0x47, 0x1F, 0xFA, 0x19].as_slice());
     assert!(rt; &written.0[4..168] == page_data().as_slice());
@@ -215,7 +215,7 @@ fn the_last_page_of_the_most_is_read_and_written(rt: HostRuntime) -> Result<(), 
         data[23 + 4 * k] = 0x80;
     }
     let packet = packet_of(&data);
-    let ops = read(&Linear::new(), &packet)?;
+    let ops = read(&Fast::new(), &packet)?;
     assert!(rt;
         ops.paging
             == Paging::Of {
@@ -264,5 +264,5 @@ fn a_word_far_from_every_codeword_is_refused(rt: HostRuntime) {
 }
 
 fn expect_refusal(rt: &impl Abort, packet: &Packet, refusal: OpsNo) {
-    assert!(rt; read(&Linear::new(), packet) == Err(refusal));
+    assert!(rt; read(&Fast::new(), packet) == Err(refusal));
 }

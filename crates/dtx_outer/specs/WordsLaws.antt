@@ -1,9 +1,9 @@
 -- The words of a run.
 use Rattle.std.proofs.Common.{◌≡◌, ℕ, zero, suc, ◌+◌, ◌-◌, ◌*◌, ◌/◌, ◌%◌, ◌<◌, ◌≤◌, ◌⊎◌, inl, inr, Option, Some, None}
-use Rattle.std.proofs.Common.{List, ◌++◌, length, get_or, take, drop, refl, sym, ap, ◌∙◌, arith, nat_le}
+use Rattle.std.proofs.Common.{List, ◌++◌, length, get_or, take, drop, refl, sym, ap, subst, ◌∙◌, arith, nat_le}
 use Rattle.std.proofs.Common.{mul-le-mul, mul-le-mul_left, div-add-mod'}
 use Rattle.std.proofs.lemmas.Bool.{cases_lt, cond-true, le-leb}
-use Rattle.std.proofs.lemmas.Nat.{mod_below}
+use Rattle.std.proofs.lemmas.Nat.{mod_below, mod-mul-add}
 use Rattle.std.proofs.lemmas.List.{get_or_append_left, ext_get_or, get_or-take, get_or-drop, length-drop}
 use Rattle.std.proofs.lemmas.List.{length-take-le}
 use Rattle.std.proofs.lemmas.List.FromFn.{length-map-range_with_len, get_or-map-range_with_len}
@@ -50,6 +50,39 @@ waiting_least n b m q p h = by_cases (cases_lt q (waiting n b m))
     by_cases (inl l) = let k : q + 1 ≤ waiting n b m = omega arith in let g : n * (q + 1) ≤ n * waiting n b m =
         mul-le-mul_left n k in absurd (omega (arith, g, more, h, p, waiting_within n b m))
     by_cases (inr l) = l
+
+-- the next place of the last branch, from any place on
+last_branch : (x b : ℕ) → 0 < b → (x + (b - 1 - x % b)) % b ≡ b - 1
+last_branch x b p =
+    let e : x / b * b + x % b ≡ x = div-add-mod' x b in
+    let r : x % b < b = mod_below x b p in
+    let turns : x + (b - 1 - x % b) ≡ x / b * b + (b - 1) = omega (arith, e, r) in
+    ap (λ n. n % b) turns ∙ mod-mul-add (x / b) b (b - 1) (omega (arith, p))
+
+-- where a word is complete behind so many blocks, one more brings its call, if each has a byte of every branch
+pub one_more_brings : (n b m s k : ℕ) → 0 < b → b ≤ n → IsComplete n b m (n * s) k
+    → n * (waiting n b m + k + 1) ≤ n * s + n
+one_more_brings n b m s k p l c = by_cases (cases_lt s k)
+  where
+    j : ℕ
+    j = b - 1 - n * k % b
+
+    place : n * k + j + b * m * (b - 1) < n * s
+    place = subst (λ r. n * k + j + b * m * r < n * s) (last_branch (n * k) b p) (c j (omega (arith, p, l)))
+
+    by_cases : (s < k) ⊎ (k ≤ s) → n * (waiting n b m + k + 1) ≤ n * s + n
+    by_cases (inl h) =
+        let before : n * s ≤ n * k = mul-le-mul_left n (omega (arith, h)) in
+        absurd (omega (arith, before, place))
+    by_cases (inr h) =
+        let split : n * s ≡ n * k + n * (s - k) = ap (λ x. n * x) (omega (arith, h)) ∙ apart (s - k) in
+        let q : waiting n b m ≤ s - k = waiting_least n b m (s - k) (omega (arith, p, l)) (omega (arith, split, place)) in
+        let more : n * (waiting n b m + k + 1) ≤ n * (s + 1) = mul-le-mul_left n (omega (arith, q, h)) in
+        let own : n * (s + 1) ≡ n * s + n = grind arith in
+        omega (arith, more, own)
+      where
+        apart : (d : ℕ) → n * (k + d) ≡ n * k + n * d
+        apart d = grind arith
 
 pub waiting_air : waiting 207 52 4 ≡ 52
 unfolding waiting

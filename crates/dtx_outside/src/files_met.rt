@@ -78,7 +78,8 @@ impl<F: Write + Drop> Met<F> {
     }
 }
 
-/// All files that were met, in that order. Devices and pipes may be met again, since beginning one takes nothing away.
+/// All files that were met, in that order, but for devices that were only read. Devices and pipes may be met again,
+/// since beginning one takes nothing away.
 ///
 /// A pipe that was begun stays open, since who reads it takes each closing for the end, and opening one that nobody
 /// reads any more would wait.

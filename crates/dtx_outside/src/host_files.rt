@@ -34,8 +34,8 @@ impl<'a, R: Files + AllocGlobal + Clock + Eprint> HostFiles<'a, R> {
         self.overlap
     }
 
-    /// Reads by one call of the system. A pipe is refused by its name, since opening it may wait, and what else has no
-    /// places by the first `seek`.
+    /// Opens the file and reads once. Before the first byte a pipe is refused by its name, since opening it may wait,
+    /// and what else has no places by the first `seek`.
     pub(crate) fn read(&mut self, name: &str, place: u64, into: &mut [u8]) -> Result<usize, ReadNo>
         ensures { IfOk result (λ n. n ≤ length into.new) }
     {

@@ -42,7 +42,7 @@ impl Played {
         self.playout.steps
     }
 
-    /// How many segments the transmitter of that address has sent.
+    /// How many segments the transmitter of that address has sent, where there is one.
     pub fn sent(&self, address: u16) -> u64
         ensures { (ts : List Transmitter) (steps : List Step) → IsPlayout ts self.now.playout steps
             → SentBy address ts steps result }
