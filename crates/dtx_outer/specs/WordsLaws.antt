@@ -76,7 +76,8 @@ one_more_brings n b m s k p l c = by_cases (cases_lt s k)
         absurd (omega (arith, before, place))
     by_cases (inr h) =
         let split : n * s ≡ n * k + n * (s - k) = ap (λ x. n * x) (omega (arith, h)) ∙ apart (s - k) in
-        let q : waiting n b m ≤ s - k = waiting_least n b m (s - k) (omega (arith, p, l)) (omega (arith, split, place)) in
+        let some : 0 < n = omega (arith, p, l) in
+        let q : waiting n b m ≤ s - k = waiting_least n b m (s - k) some (omega (arith, split, place)) in
         let more : n * (waiting n b m + k + 1) ≤ n * (s + 1) = mul-le-mul_left n (omega (arith, q, h)) in
         let own : n * (s + 1) ≡ n * s + n = grind arith in
         omega (arith, more, own)

@@ -32,9 +32,9 @@ pub fn the_word()
         → slice_index (word_at n b m y k) j ≡ slice_index y (codeword_byte_place b m (n * k + j)) }
 {}
 
-/// A word whose bytes have all come stays as it is when more bytes come. So where each block has a byte of every branch,
-/// one block more, of any content, brings the call that gives it. And each word's bytes have come when the block that
-/// gives it has.
+/// A word whose bytes have all come stays as it is when more bytes come. So where each block has a byte of every
+/// branch, one block more, of any content, brings the call that gives it. And each word's bytes have come when the
+/// block that gives it has.
 pub fn complete()
     ensures stays { (n b m : ℕ) (y z : List ℕ) (k : ℕ) → IsComplete n b m (length y) k
         → word_at n b m (y ++ z) k ≡ word_at n b m y k }
