@@ -1,15 +1,14 @@
 -- The lanes of the rounds, and their gaps and marks one round further to the front.
 use Rattle.std.proofs.Common.{◌≡◌, ℕ, ℤ, pos, ◌+◌, ◌<◌, ◌≤◌, ◌+ℤ◌, List, [], ◌∷◌, length, drop, get_or, refl, sym, ap}
 use Rattle.std.proofs.Common.{slice_set, subst, arith}
-use Rattle.std.proofs.lemmas.Int.{ints}
 use Rattle.std.proofs.lemmas.List.{get_or-map, length-map}
 use Rattle.dtx_soft.specs.declared.gaps.Gap.{Gap}
-use Rattle.dtx_soft.specs.Gaps.{AreLeastGaps, AreMarks, IsBounded, IsStep, column, row_of}
+use Rattle.dtx_soft.specs.Gaps.{AreLeastGaps, AreMarks, AreWalked, IsStep, column, row_of}
 use Rattle.dtx_soft.specs.Least.{IsPotential}
 use Rattle.dtx_soft.specs.Nearest.{cheapest}
 use Rattle.dtx_soft.proofs.Potentials.{no_potentials, potentials_more}
 use Rattle.dtx_soft.proofs.Rows.{row_is}
-use Rattle.dtx_soft.proofs.Writes.{four, written_above}
+use Rattle.dtx_soft.proofs.Writes.{by_entry, four}
 
 pub length-column : (rounds : List (List ℤ)) (n : ℕ) → length (column rounds n) ≡ length rounds
 unfolding column
@@ -35,18 +34,6 @@ no_gaps scale symbols k gap l e f g = record {
     odd_is = ap (λ z. pos 0 +ℤ z) (sym f);
     across_is = ap (λ z. pos 0 +ℤ z) (sym g);
   };
-}
-
-pub nothing_bounded : (gap : Gap) → gap.even ≡ pos 0 → gap.odd ≡ pos 0 → gap.across ≡ pos 0 → IsBounded gap
-nothing_bounded gap e f g = record {
-  even_from = omega (arith, ints);
-  even_to = omega (arith, ints);
-  odd_from = omega (arith, ints);
-  odd_to = omega (arith, ints);
-  across_from = omega (arith, ints);
-  across_to = omega (arith, ints);
-  beside_from = omega (arith, ints);
-  beside_to = omega (arith, ints);
 }
 
 pub gaps_more : (scale : ℕ) (symbols : List ℤ) (t u : ℕ) (old new : Gap) (marks : ℕ) → scale ≤ 18
@@ -77,19 +64,13 @@ marks_more scale symbols t u old new marks e step h = record {
   taken = step.taken h.potentials h.gaps;
 }
 
--- the gaps of each lane and the marks of all rounds from t on, whatever the width of the gaps
-pub record AreWalked (scale t : ℕ) (rounds : List (List ℤ)) (gaps : ℕ → Gap) (marks : List (List ℕ)) : Type 0 where
-  pub gaps_are : (n : ℕ) → n < 16 → AreLeastGaps scale (drop t (column rounds n)) (gaps n)
-  pub marks_are : (k : ℕ) (default : List ℕ) → t ≤ k → k < length rounds → (n : ℕ) → n < 16
-      → AreMarks scale (column rounds n) k (get_or (get_or marks k default) n 0)
-
 pub none_walked : (scale : ℕ) (rounds : List (List ℤ)) (gaps : ℕ → Gap) (marks : List (List ℕ))
     → ((n : ℕ) → n < 16 → (gaps n).even ≡ pos 0) → ((n : ℕ) → n < 16 → (gaps n).odd ≡ pos 0)
     → ((n : ℕ) → n < 16 → (gaps n).across ≡ pos 0) → AreWalked scale (length rounds) rounds gaps marks
 none_walked scale rounds gaps marks e f g = record {
   gaps_are = λ n l. no_gaps scale (column rounds n) (length rounds) (gaps n) (omega (arith, length-column rounds n))
       (e n l) (f n l) (g n l);
-  marks_are = λ k d l m. absurd (omega arith);
+  marks_are = λ k n l m o. absurd (omega arith);
 }
 
 pub one_walked : (scale t u : ℕ) (rounds : List (List ℤ)) (old new : ℕ → Gap) (marks : List (List ℕ)) (row : List ℕ)
@@ -100,10 +81,9 @@ pub one_walked : (scale t u : ℕ) (rounds : List (List ℤ)) (old new : ℕ →
 one_walked scale t u rounds old new marks row small e l long step h = record {
   gaps_are = λ n m. gaps_more scale (column rounds n) t u (old n) (new n) (get_or row n 0) small
       (omega (arith, length-column rounds n)) e (in_column n m) (h.gaps_are n m);
-  marks_are = λ k d m o n p. written_above (λ k row. k < length rounds → (n : ℕ) → n < 16
-      → AreMarks scale (column rounds n) k (get_or row n 0)) marks t row (omega arith)
-      (λ k d m. h.marks_are k d (omega arith)) (λ _ n m. marks_more scale (column rounds n) t u (old n) (new n)
-      (get_or row n 0) e (in_column n m) (h.gaps_are n m)) k d m o n p;
+  marks_are = λ k n m o p. by_entry (λ k row. AreMarks scale (column rounds n) k (get_or row n 0)) marks t row
+      (omega arith) (marks_more scale (column rounds n) t u (old n) (new n) (get_or row n 0) e (in_column n p)
+      (h.gaps_are n p)) k [] (λ d. h.marks_are k n (omega arith) o p);
 }
   where
     in_column : (n : ℕ) → n < 16
@@ -111,3 +91,11 @@ one_walked scale t u rounds old new marks row small e l long step h = record {
     in_column n m =
         subst (λ v. IsStep scale v (old n) (new n) (get_or row n 0))
         (sym (symbol_in_column rounds n t (omega arith))) (step n m)
+
+pub walked_alike : (scale t : ℕ) (rounds : List (List ℤ)) (gaps others : ℕ → Gap) (marks : List (List ℕ))
+    → ((n : ℕ) → n < 16 → others n ≡ gaps n) → AreWalked scale t rounds gaps marks
+    → AreWalked scale t rounds others marks
+walked_alike scale t rounds gaps others marks e h = record {
+  gaps_are = λ n l. subst (AreLeastGaps scale (drop t (column rounds n))) (sym (e n l)) (h.gaps_are n l);
+  marks_are = h.marks_are;
+}

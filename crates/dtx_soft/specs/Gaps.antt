@@ -1,7 +1,7 @@
 -- Differences of costs in units, by which the coders are decoded side by side: at one symbol the squares of all
 -- levels are alike but for multiples of four times the scale.
-use Rattle.std.specs.Prelude.{ℕ, ℤ, pos, ◌≡◌, ◌+◌, ◌*◌, ◌/◌, ◌%◌, ◌^◌, ◌<◌, ◌+ℤ◌, ◌≤ℤ◌, max, min, List, [], ◌∷◌}
-use Rattle.std.specs.Prelude.{map, drop, nat_le, nat_lt, if◌then◌else◌, slice_index, slice_index_or}
+use Rattle.std.specs.Prelude.{ℕ, ℤ, pos, ◌≡◌, ◌+◌, ◌*◌, ◌/◌, ◌%◌, ◌^◌, ◌<◌, ◌≤◌, ◌+ℤ◌, ◌≤ℤ◌, max, min, List, []}
+use Rattle.std.specs.Prelude.{◌∷◌, length, map, drop, nat_le, nat_lt, if◌then◌else◌, slice_index, slice_index_or}
 use Rattle.std.specs.Int.{int_min}
 use Rattle.dtx_soft.specs.declared.nearest.Nearest.{Nearest}
 use Rattle.dtx_soft.specs.declared.gaps.Gap.{Gap}
@@ -114,3 +114,9 @@ pub record AreMarks (scale : ℕ) (symbols : List ℤ) (t marks : ℕ) : Type 0 
   pub least : (s : ℕ) → s < 4 → IsPotential scale (drop (t + 1) symbols) s (slice_index behind s)
   pub taken : (s : ℕ) → s < 4
       → IsTaken (row_of scale (slice_index_or symbols t (pos 0))) behind s (marks / 2 ^ s % 2)
+
+-- what a walk back to symbol t gives: the gaps there of each lane, whatever their width, and the marks from there on
+pub record AreWalked (scale t : ℕ) (rounds : List (List ℤ)) (gaps : ℕ → Gap) (marks : List (List ℕ)) : Type 0 where
+  pub gaps_are : (n : ℕ) → n < 16 → AreLeastGaps scale (drop t (column rounds n)) (gaps n)
+  pub marks_are : (k n : ℕ) → t ≤ k → k < length rounds → n < 16
+      → AreMarks scale (column rounds n) k (slice_index (slice_index_or marks k []) n)

@@ -1,5 +1,5 @@
 -- Differences of costs that fit bytes: those at symbols near 0.
-use Rattle.std.specs.Prelude.{ℕ, ℤ, pos, ◌+ℤ◌, ◌≤ℤ◌, slice_index_or}
+use Rattle.std.specs.Prelude.{ℕ, ℤ, pos, ◌<◌, ◌≤◌, ◌+ℤ◌, ◌≤ℤ◌, List, [], length, slice_index_or}
 use Rattle.dtx_soft.specs.declared.gaps.Gap.{Gap}
 use Rattle.dtx_soft.specs.declared.gaps.SquareGaps.{SquareGaps}
 use Rattle.dtx_soft.specs.declared.near.NearGap.{NearGap}
@@ -10,6 +10,12 @@ use Rattle.dtx_soft.specs.declared.near.NearSquares.{NearSquares}
 pub record IsNear (symbol : ℤ) : Type 0 where
   pub from : pos 0 ≤ℤ (symbol +ℤ pos 28)
   pub to : symbol ≤ℤ pos 28
+
+-- at this scale and these symbols of the lanes all differences fit bytes
+pub record FitBytes (scale : ℕ) (rounds : List (List ℤ)) : Type 0 where
+  pub some : 0 < scale
+  pub small : scale ≤ 4
+  pub near : (t n : ℕ) → t < length rounds → n < 16 → IsNear (slice_index_or (slice_index_or rounds t []) n (pos 0))
 
 -- the numbers of bytes as they are
 abbrev pub gap_of : NearGap → Gap

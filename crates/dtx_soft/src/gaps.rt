@@ -3,9 +3,9 @@
 
 ghost use Rattle.std.specs.Prelude.{◌≡◌, ◌≢◌, ◌⊎◌, ℕ, ℤ, pos, neg_ℤ, ◌+◌, ◌*◌, ◌<◌};
 ghost use Rattle.std.specs.Prelude.{◌≤◌, ◌≤ℤ◌, ◌<ℤ◌, ◌+ℤ◌, ◌-ℤ◌, length};
-ghost use Rattle.std.specs.Prelude.{slice_index, slice_index_or, []};
+ghost use Rattle.std.specs.Prelude.{slice_index, slice_index_or};
 ghost use Rattle.std.specs.Int.{int_min};
-ghost use Rattle.dtx_soft.specs.Gaps.{AreLeastGaps, AreMarks, AreTaken, IsBefore, IsBounded, IsStep, column, gap_at};
+ghost use Rattle.dtx_soft.specs.Gaps.{AreTaken, AreWalked, IsBefore, IsBounded, IsStep, gap_at};
 ghost use Rattle.dtx_soft.specs.Squares.{AreSmall, IsSquares, even_by, odd_by, seen, within};
 ghost use Rattle.dtx_soft.specs.declared.nearest.TheConstants.{MAX_SCALE};
 
@@ -81,9 +81,7 @@ pub(crate) fn backward(scale: u8, rounds: &[[i8; LANES]], marks: &mut [[u8; LANE
     requires scale { scale ≤ MAX_SCALE }
     requires room { length marks.old ≡ length rounds.now }
     ensures bounded { (n : ℕ) → n < LANES → IsBounded (gap_at result n) }
-    ensures gaps { (n : ℕ) → n < LANES → AreLeastGaps scale (column rounds.now n) (gap_at result n) }
-    ensures marks { (t n : ℕ) → t < length rounds.now → n < LANES
-        → AreMarks scale (column rounds.now n) t (slice_index (slice_index_or marks.new t []) n) }
+    ensures walked { AreWalked scale 0 rounds.now (gap_at result) marks.new }
 {
     let mut gaps = Gaps {
         even: [0; LANES],

@@ -1,13 +1,12 @@
 //! The walk from the end of the symbols to their begin in bytes, where all symbols are near 0: twice as many lanes
 //! are worked on at once as in numbers of 16 bits.
 
-ghost use Rattle.std.specs.Prelude.{◌≡◌, ◌≢◌, ◌⊎◌, ℕ, ℤ, pos, neg_ℤ, ◌+◌, ◌*◌, ◌<◌};
+ghost use Rattle.std.specs.Prelude.{◌≡◌, ◌≢◌, ◌↔◌, ◌⊎◌, ℕ, ℤ, pos, neg_ℤ, ◌+◌, ◌*◌, ◌<◌};
 ghost use Rattle.std.specs.Prelude.{◌≤◌, ◌≤ℤ◌, ◌<ℤ◌, ◌+ℤ◌, ◌-ℤ◌, length};
 ghost use Rattle.std.specs.Prelude.{FitsSigned, IsTrue, slice_index, slice_index_or, []};
 ghost use Rattle.std.specs.Int.{int_min, w8};
-ghost use Rattle.dtx_soft.specs.Gaps.{AreLeastGaps, AreLesser, AreMarks, AreTaken, IsBefore, IsBounded};
-ghost use Rattle.dtx_soft.specs.Gaps.{IsStep, column, gap_at};
-ghost use Rattle.dtx_soft.specs.Near.{AreNear, IsNear, IsTight};
+ghost use Rattle.dtx_soft.specs.Gaps.{AreLesser, AreTaken, AreWalked, IsBefore, IsStep, gap_at};
+ghost use Rattle.dtx_soft.specs.Near.{AreNear, FitBytes, IsNear, IsTight};
 ghost use Rattle.dtx_soft.specs.Near.{gap_of, near_gap_at, squares_of};
 ghost use Rattle.dtx_soft.specs.Squares.{IsSquares, across_of, even_of, odd_of, within};
 ghost use Rattle.dtx_soft.specs.declared.near.TheConstants.{MAX_NEAR_SCALE};
@@ -93,10 +92,7 @@ fn units_of(scale: u8) -> NearUnits
 
 /// Whether bytes do: at this scale, with each symbol near 0.
 pub(crate) fn are_near(scale: u8, rounds: &[[i8; LANES]]) -> bool
-    ensures some { IsTrue result → 0 < scale }
-    ensures small { IsTrue result → scale ≤ MAX_NEAR_SCALE }
-    ensures near { IsTrue result → (t n : ℕ) → t < length rounds.now → n < LANES
-        → IsNear (slice_index_or (slice_index_or rounds.now t []) n (pos 0)) }
+    ensures { IsTrue result ↔ FitBytes scale rounds.now }
 {
     if scale == 0 || scale > MAX_NEAR_SCALE {
         return false;
@@ -105,11 +101,11 @@ pub(crate) fn are_near(scale: u8, rounds: &[[i8; LANES]]) -> bool
     sum_of(&far) == 0
 }
 
-/// For each lane how many of its symbols are not near 0, or 255 where they are more.
+/// A count for each lane: 0 exactly where each of its symbols is near 0.
 #[inline(never)]
 fn far_lanes(rounds: &[[i8; LANES]]) -> [u8; LANES]
-    ensures { (t n : ℕ) → t < length rounds.now → n < LANES → slice_index result n ≡ 0
-        → IsNear (slice_index_or (slice_index_or rounds.now t []) n (pos 0)) }
+    ensures { (n : ℕ) → n < LANES → (slice_index result n ≡ 0) ↔ ((t : ℕ) → t < length rounds.now
+        → IsNear (slice_index_or (slice_index_or rounds.now t []) n (pos 0))) }
 {
     let mut far = [0; LANES];
     for t in 0..rounds.len() {
@@ -118,11 +114,11 @@ fn far_lanes(rounds: &[[i8; LANES]]) -> [u8; LANES]
     far
 }
 
-/// Counts those of one more round.
+/// Counts the symbols of one more round that are not.
 #[inline(always)]
 fn add_far(symbols: &[i8; LANES], far: &mut [u8; LANES])
-    ensures near { (n : ℕ) → n < LANES → slice_index far.new n ≡ 0 → IsNear (slice_index_or symbols.now n (pos 0)) }
-    ensures before { (n : ℕ) → n < LANES → slice_index far.new n ≡ 0 → slice_index far.old n ≡ 0 }
+    ensures { (n : ℕ) → n < LANES → (slice_index far.new n ≡ 0)
+        ↔ ((slice_index far.old n ≡ 0) × IsNear (slice_index_or symbols.now n (pos 0))) }
 {
     for n in 0..LANES {
         far[n] = one_more(far[n], symbols[n]);
@@ -132,15 +128,14 @@ fn add_far(symbols: &[i8; LANES], far: &mut [u8; LANES])
 /// A count, with one more where a symbol is not near 0.
 #[inline(always)]
 fn one_more(far: u8, symbol: i8) -> u8
-    ensures near { result ≡ 0 → IsNear symbol }
-    ensures before { result ≡ 0 → far ≡ 0 }
+    ensures { (result ≡ 0) ↔ ((far ≡ 0) × IsNear symbol) }
 {
     far.saturating_add(is_far(symbol))
 }
 
-/// The sum of the lanes' counts.
+/// The sum of the lanes' counts: 0 exactly where each of them is.
 fn sum_of(far: &[u8; LANES]) -> u16
-    ensures { result ≡ 0 → (n : ℕ) → n < LANES → slice_index far.now n ≡ 0 }
+    ensures { (result ≡ 0) ↔ ((n : ℕ) → n < LANES → slice_index far.now n ≡ 0) }
 {
     let mut sum = 0;
     for n in 0..LANES {
@@ -152,40 +147,19 @@ fn sum_of(far: &[u8; LANES]) -> u16
 /// 1 where a symbol is not near 0, and else 0.
 #[inline(always)]
 fn is_far(symbol: i8) -> u8
-    ensures near { result ≡ 0 → IsNear symbol }
+    ensures near { (result ≡ 0) ↔ IsNear symbol }
     ensures small { result ≤ 1 }
 {
     (symbol > MAX_NEAR || symbol < -MAX_NEAR) as u8
 }
 
 /// Writes the marks of all rounds, and gives how the potentials differ before the first one.
-pub(crate) fn backward(scale: u8, rounds: &[[i8; LANES]], marks: &mut [[u8; LANES]]) -> Gaps
-    requires some { 0 < scale }
-    requires scale { scale ≤ MAX_NEAR_SCALE }
-    requires near { (t n : ℕ) → t < length rounds.now → n < LANES
-        → IsNear (slice_index_or (slice_index_or rounds.now t []) n (pos 0)) }
-    requires room { length marks.old ≡ length rounds.now }
-    ensures bounded { (n : ℕ) → n < LANES → IsBounded (gap_at result n) }
-    ensures gaps { (n : ℕ) → n < LANES → AreLeastGaps scale (column rounds.now n) (gap_at result n) }
-    ensures marks { (t n : ℕ) → t < length rounds.now → n < LANES
-        → AreMarks scale (column rounds.now n) t (slice_index (slice_index_or marks.new t []) n) }
-{
-    let gaps = walk(scale, rounds, marks);
-    widened(&gaps)
-}
-
-/// The walk, which gives the gaps in bytes.
 #[inline(never)]
-fn walk(scale: u8, rounds: &[[i8; LANES]], marks: &mut [[u8; LANES]]) -> NearGaps
-    requires some { 0 < scale }
-    requires scale { scale ≤ MAX_NEAR_SCALE }
-    requires near { (t n : ℕ) → t < length rounds.now → n < LANES
-        → IsNear (slice_index_or (slice_index_or rounds.now t []) n (pos 0)) }
+pub(crate) fn backward(scale: u8, rounds: &[[i8; LANES]], marks: &mut [[u8; LANES]]) -> NearGaps
+    requires near { FitBytes scale rounds.now }
     requires room { length marks.old ≡ length rounds.now }
     ensures tight { (n : ℕ) → n < LANES → IsTight (near_gap_at result n) }
-    ensures gaps { (n : ℕ) → n < LANES → AreLeastGaps scale (column rounds.now n) (near_gap_at result n) }
-    ensures marks { (t n : ℕ) → t < length rounds.now → n < LANES
-        → AreMarks scale (column rounds.now n) t (slice_index (slice_index_or marks.new t []) n) }
+    ensures walked { AreWalked scale 0 rounds.now (near_gap_at result) marks.new }
 {
     let mut gaps = NearGaps {
         even: [0; LANES],
@@ -200,7 +174,7 @@ fn walk(scale: u8, rounds: &[[i8; LANES]], marks: &mut [[u8; LANES]]) -> NearGap
 }
 
 /// The gaps in numbers of 16 bits.
-fn widened(gaps: &NearGaps) -> Gaps
+pub(crate) fn widened(gaps: &NearGaps) -> Gaps
     ensures { (n : ℕ) → n < LANES → gap_at result n ≡ near_gap_at gaps.now n }
 {
     let mut wide = Gaps {

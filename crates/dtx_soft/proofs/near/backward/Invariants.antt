@@ -1,7 +1,7 @@
 use Rattle.std.proofs.Common.{◌≡◌, ℕ, ◌<◌, length}
+use Rattle.dtx_soft.specs.Gaps.{AreWalked}
 use Rattle.dtx_soft.specs.Near.{IsTight, near_gap_at}
-use Rattle.dtx_soft.proofs.Columns.{AreWalked}
-use Rattle.dtx_soft.proofs.near.walk.Given as goal
+use Rattle.dtx_soft.proofs.near.backward.Given as goal
 
 abbrev pub invariant-loop-t : goal.invariant-loop-t
 invariant-loop-t l = record {
