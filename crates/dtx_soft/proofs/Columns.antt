@@ -73,12 +73,12 @@ none_walked scale rounds gaps marks e f g = record {
   marks_are = λ k n l m o. absurd (omega arith);
 }
 
-pub one_walked : (scale t u : ℕ) (rounds : List (List ℤ)) (old new : ℕ → Gap) (marks : List (List ℕ)) (row : List ℕ)
-    → scale ≤ 18 → u ≡ t + 1 → u ≤ length rounds → length marks ≡ length rounds
+pub one_walked : (scale units t u : ℕ) (rounds : List (List ℤ)) (old new : ℕ → Gap) (marks : List (List ℕ)) (row : List ℕ)
+    → units ≡ scale → scale ≤ 18 → u ≡ t + 1 → u ≤ length rounds → length marks ≡ length rounds
     → ((n : ℕ) → n < 16
-    → IsStep scale (get_or (get_or rounds t []) n (pos 0)) (old n) (new n) (get_or row n 0))
+    → IsStep units (get_or (get_or rounds t []) n (pos 0)) (old n) (new n) (get_or row n 0))
     → AreWalked scale u rounds old marks → AreWalked scale t rounds new (slice_set marks t row)
-one_walked scale t u rounds old new marks row small e l long step h = record {
+one_walked scale units t u rounds old new marks row same small e l long step h = record {
   gaps_are = λ n m. gaps_more scale (column rounds n) t u (old n) (new n) (get_or row n 0) small
       (omega (arith, length-column rounds n)) e (in_column n m) (h.gaps_are n m);
   marks_are = λ k n m o p. by_entry (λ k row. AreMarks scale (column rounds n) k (get_or row n 0)) marks t row
@@ -90,7 +90,9 @@ one_walked scale t u rounds old new marks row small e l long step h = record {
         → IsStep scale (get_or (column rounds n) t (pos 0)) (old n) (new n) (get_or row n 0)
     in_column n m =
         subst (λ v. IsStep scale v (old n) (new n) (get_or row n 0))
-        (sym (symbol_in_column rounds n t (omega arith))) (step n m)
+        (sym (symbol_in_column rounds n t (omega arith)))
+        (subst (λ scale. IsStep scale (get_or (get_or rounds t []) n (pos 0)) (old n) (new n) (get_or row n 0)) same
+        (step n m))
 
 pub walked_alike : (scale t : ℕ) (rounds : List (List ℤ)) (gaps others : ℕ → Gap) (marks : List (List ℕ))
     → ((n : ℕ) → n < 16 → others n ≡ gaps n) → AreWalked scale t rounds gaps marks

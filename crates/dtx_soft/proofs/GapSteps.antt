@@ -133,6 +133,10 @@ squares_in_units scale symbol squares l f q s =
 abbrev pub SaysAbove : ℤ → ℤ → ℕ → Type 0
 SaysAbove other number bit = ((other <ℤ number) × (bit ≡ 1)) ⊎ ((number ≤ℤ other) × (bit ≡ 0))
 
+pub above_alike : {o n p m : ℤ} {bit : ℕ} → o ≡ p → n ≡ m → SaysAbove o n bit → SaysAbove p m bit
+above_alike e f (inl h) = inl ((let l : _ <ℤ _ = h.0 in omega (arith, ints)), h.1)
+above_alike e f (inr h) = inr ((let l : _ ≤ℤ _ = h.0 in omega (arith, ints)), h.1)
+
 signs : (a b tie bit : ℕ) (o n : ℤ) → pos (a + tie) +ℤ o ≡ pos b +ℤ n → SaysAbove o n bit
     → ((b < a + tie) × (bit ≡ 1)) ⊎ ((a + tie ≤ b) × (bit ≡ 0))
 signs a b tie bit o n e (inl h) = inl ((let l : o <ℤ n = h.0 in omega (arith, ints)), h.1)

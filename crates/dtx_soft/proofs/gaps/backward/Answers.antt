@@ -1,6 +1,6 @@
-use Rattle.std.proofs.Common.{◌≡◌, ◌-◌, [], pos, get_or, ◌∙◌, subst, arith}
+use Rattle.std.proofs.Common.{◌≡◌, ◌-◌, pos, ◌∙◌, subst, arith}
 use Rattle.std.proofs.lemmas.List.{get_or-replicate, length-set}
-use Rattle.dtx_soft.specs.Gaps.{AreWalked, IsStep, gap_at}
+use Rattle.dtx_soft.specs.Gaps.{AreWalked, gap_at}
 use Rattle.dtx_soft.proofs.Columns.{none_walked, one_walked}
 use Rattle.dtx_soft.proofs.NearGaps.{nothing_tight, tight_bounded}
 use Rattle.dtx_soft.proofs.gaps.backward.Goals as goal
@@ -19,12 +19,10 @@ pub loop-t-preserved : goal.loop-t-preserved
 loop-t-preserved c = record {
   room = length-set c.loop-t.marks (c.loop-t.t - 1) c.step_lanes.result ∙ c.loop-t.invariant.room;
   bounded = c.step_lanes.ensures.bounded;
-  walked = one_walked c.args.scale (c.loop-t.t - 1) c.loop-t.t c.args.rounds.now (gap_at c.loop-t.gaps)
-      (gap_at c.step_lanes.new.gaps) c.loop-t.marks c.step_lanes.result c.requires.scale (omega arith) (omega arith)
-      c.loop-t.invariant.room
-      (λ n l. subst (λ scale. IsStep scale (get_or (get_or c.args.rounds.now (c.loop-t.t - 1) []) n (pos 0))
-      (gap_at c.loop-t.gaps n) (gap_at c.step_lanes.new.gaps n) (get_or c.step_lanes.result n 0))
-      c.units_of-units.ensures (c.step_lanes.ensures.step n l)) c.loop-t.invariant.walked;
+  walked = one_walked c.args.scale c.units_of-units.result.scale (c.loop-t.t - 1) c.loop-t.t c.args.rounds.now
+      (gap_at c.loop-t.gaps) (gap_at c.step_lanes.new.gaps) c.loop-t.marks c.step_lanes.result
+      c.units_of-units.ensures c.requires.scale (omega arith) (omega arith) c.loop-t.invariant.room
+      c.step_lanes.ensures.step c.loop-t.invariant.walked;
 }
 
 pub returns-clause-walked : goal.returns-clause-walked

@@ -1,11 +1,12 @@
-use Rattle.std.proofs.Common.{◌≡◌, ◌≢◌, ℕ, ℤ, pos, ◌+◌, ◌<◌, ◌⊎◌, inl, inr, get_or, slice_set, sym, ◌∙◌, subst, w8}
+use Rattle.std.proofs.Common.{◌≡◌, ◌≢◌, ℕ, ℤ, pos, ◌+◌, ◌<◌, ◌⊎◌, inl, inr, get_or, sym, ◌∙◌, subst, w8}
 use Rattle.std.proofs.Common.{to_z, of_z, arith, rules}
 use mir.Val.{SFits}
 use Rattle.std.proofs.lemmas.Bool.{cases_eq}
 use Rattle.std.proofs.lemmas.Int.{ints, to_z-of_z}
-use Rattle.std.proofs.lemmas.List.{get_or-set_same, get_or-set_other, length-set}
+use Rattle.std.proofs.lemmas.List.{length-set}
 use Rattle.dtx_soft.specs.Gaps.{AreTaken, IsBefore, IsStep}
 use Rattle.dtx_soft.specs.Near.{IsTight, gap_of, near_gap_at}
+use Rattle.dtx_soft.proofs.Writes.{by_entry}
 use Rattle.dtx_soft.proofs.near.step_lanes.Goals as goal
 
 pub gap_before-before-requires-clause-tight : goal.gap_before-before-requires-clause-tight
@@ -22,7 +23,12 @@ pub loop-n-preserved : goal.loop-n-preserved
 loop-n-preserved c = record {
   long = length-set c.loop-n.marks c.loop-n.n c.marks_of.result ∙ c.loop-n.invariant.long;
   tight = λ k l. tight k l (cases_eq k c.loop-n.n);
-  done = λ k l. done k l (cases_eq k c.loop-n.n);
+  done = λ k l. by_entry (λ k marks. IsStep c.args.units.now.scale (get_or c.args.symbols.now k (pos 0))
+      (near_gap_at c.args.gaps.now k) (near_gap_at c.put_lane.new.gaps k) marks) c.loop-n.marks c.loop-n.n c.marks_of.result
+      (omega (arith, c.loop-n.invariant.long)) step k 0
+      (λ n. subst (λ g. IsStep c.args.units.now.scale (get_or c.args.symbols.now k (pos 0))
+      (near_gap_at c.args.gaps.now k) g (get_or c.loop-n.marks k 0)) (sym (c.put_lane.ensures.others k n))
+      (c.loop-n.invariant.done k (omega arith)));
   left = λ k l. c.put_lane.ensures.others k (λ e. absurd (omega arith)) ∙ c.loop-n.invariant.left k (omega arith);
 }
   where
@@ -60,22 +66,3 @@ loop-n-preserved c = record {
           (subst (λ g. AreTaken c.args.units.now.scale (to_z w8 (of_z w8 symbol)) g c.marks_of.result) gap
           c.marks_of.ensures);
     }
-
-    done : (k : ℕ) → k < c.loop-n.n + 1 → (k ≡ c.loop-n.n) ⊎ (k ≢ c.loop-n.n)
-        → IsStep c.args.units.now.scale (get_or c.args.symbols.now k (pos 0)) (near_gap_at c.args.gaps.now k)
-        (near_gap_at c.put_lane.new.gaps k) (get_or (slice_set c.loop-n.marks c.loop-n.n c.marks_of.result) k 0)
-    done k l (inl e) =
-        subst (λ k. IsStep c.args.units.now.scale (get_or c.args.symbols.now k (pos 0)) (near_gap_at c.args.gaps.now k)
-        (near_gap_at c.put_lane.new.gaps k)
-        (get_or (slice_set c.loop-n.marks c.loop-n.n c.marks_of.result) k 0)) (sym e)
-        (subst (IsStep c.args.units.now.scale symbol (near_gap_at c.args.gaps.now c.loop-n.n)
-        (near_gap_at c.put_lane.new.gaps c.loop-n.n))
-        (sym (get_or-set_same c.loop-n.marks c.loop-n.n c.marks_of.result 0 (omega (arith, c.loop-n.invariant.long))))
-        step)
-    done k l (inr n) =
-        subst (IsStep c.args.units.now.scale (get_or c.args.symbols.now k (pos 0)) (near_gap_at c.args.gaps.now k)
-        (near_gap_at c.put_lane.new.gaps k))
-        (sym (get_or-set_other c.loop-n.marks c.loop-n.n k c.marks_of.result 0 n))
-        (subst (λ g. IsStep c.args.units.now.scale (get_or c.args.symbols.now k (pos 0))
-        (near_gap_at c.args.gaps.now k) g
-        (get_or c.loop-n.marks k 0)) (sym (c.put_lane.ensures.others k n)) (c.loop-n.invariant.done k (omega arith)))
