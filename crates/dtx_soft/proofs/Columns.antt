@@ -19,7 +19,7 @@ pub symbol_in_column : (rounds : List (List ℤ)) (n t : ℕ) → t < length rou
 unfolding column
 symbol_in_column rounds n t l = get_or-map (λ round. get_or round n (pos 0)) rounds t [] (pos 0) l
 
-pub no_gaps : (scale : ℕ) (symbols : List ℤ) (k : ℕ) (gap : Gap) → length symbols ≤ k → gap.even ≡ pos 0
+pub no_gaps : (scale : ℕ) (symbols : List ℤ) (k : ℕ) (gap : Gap ℤ) → length symbols ≤ k → gap.even ≡ pos 0
     → gap.odd ≡ pos 0 → gap.across ≡ pos 0 → AreLeastGaps scale (drop k symbols) gap
 no_gaps scale symbols k gap l e f g = record {
   potentials = 0 ∷ 0 ∷ 0 ∷ 0 ∷ [];
@@ -36,7 +36,7 @@ no_gaps scale symbols k gap l e f g = record {
   };
 }
 
-pub gaps_more : (scale : ℕ) (symbols : List ℤ) (t u : ℕ) (old new : Gap) (marks : ℕ) → scale ≤ 18
+pub gaps_more : (scale : ℕ) (symbols : List ℤ) (t u : ℕ) (old new : Gap ℤ) (marks : ℕ) → scale ≤ 18
     → t < length symbols → u ≡ t + 1 → IsStep scale (get_or symbols t (pos 0)) old new marks
     → AreLeastGaps scale (drop u symbols) old → AreLeastGaps scale (drop t symbols) new
 gaps_more scale symbols t u old new marks small l e step h = record {
@@ -55,7 +55,7 @@ gaps_more scale symbols t u old new marks small l e step h = record {
     written : (s : ℕ) → s < 4 → get_or before s 0 ≡ cheapest (row_of scale (get_or symbols t (pos 0))) h.potentials s
     written = four (λ s. get_or before s 0 ≡ each s) refl refl refl refl
 
-pub marks_more : (scale : ℕ) (symbols : List ℤ) (t u : ℕ) (old new : Gap) (marks : ℕ) → u ≡ t + 1
+pub marks_more : (scale : ℕ) (symbols : List ℤ) (t u : ℕ) (old new : Gap ℤ) (marks : ℕ) → u ≡ t + 1
     → IsStep scale (get_or symbols t (pos 0)) old new marks → AreLeastGaps scale (drop u symbols) old
     → AreMarks scale symbols t marks
 marks_more scale symbols t u old new marks e step h = record {
@@ -64,7 +64,7 @@ marks_more scale symbols t u old new marks e step h = record {
   taken = step.taken h.potentials h.gaps;
 }
 
-pub none_walked : (scale : ℕ) (rounds : List (List ℤ)) (gaps : ℕ → Gap) (marks : List (List ℕ))
+pub none_walked : (scale : ℕ) (rounds : List (List ℤ)) (gaps : ℕ → Gap ℤ) (marks : List (List ℕ))
     → ((n : ℕ) → n < 16 → (gaps n).even ≡ pos 0) → ((n : ℕ) → n < 16 → (gaps n).odd ≡ pos 0)
     → ((n : ℕ) → n < 16 → (gaps n).across ≡ pos 0) → AreWalked scale (length rounds) rounds gaps marks
 none_walked scale rounds gaps marks e f g = record {
@@ -73,8 +73,8 @@ none_walked scale rounds gaps marks e f g = record {
   marks_are = λ k n l m o. absurd (omega arith);
 }
 
-pub one_walked : (scale units t u : ℕ) (rounds : List (List ℤ)) (old new : ℕ → Gap) (marks : List (List ℕ)) (row : List ℕ)
-    → units ≡ scale → scale ≤ 18 → u ≡ t + 1 → u ≤ length rounds → length marks ≡ length rounds
+pub one_walked : (scale units t u : ℕ) (rounds : List (List ℤ)) (old new : ℕ → Gap ℤ) (marks : List (List ℕ))
+    (row : List ℕ) → units ≡ scale → scale ≤ 18 → u ≡ t + 1 → u ≤ length rounds → length marks ≡ length rounds
     → ((n : ℕ) → n < 16
     → IsStep units (get_or (get_or rounds t []) n (pos 0)) (old n) (new n) (get_or row n 0))
     → AreWalked scale u rounds old marks → AreWalked scale t rounds new (slice_set marks t row)
@@ -94,7 +94,7 @@ one_walked scale units t u rounds old new marks row same small e l long step h =
         (subst (λ scale. IsStep scale (get_or (get_or rounds t []) n (pos 0)) (old n) (new n) (get_or row n 0)) same
         (step n m))
 
-pub walked_alike : (scale t : ℕ) (rounds : List (List ℤ)) (gaps others : ℕ → Gap) (marks : List (List ℕ))
+pub walked_alike : (scale t : ℕ) (rounds : List (List ℤ)) (gaps others : ℕ → Gap ℤ) (marks : List (List ℕ))
     → ((n : ℕ) → n < 16 → others n ≡ gaps n) → AreWalked scale t rounds gaps marks
     → AreWalked scale t rounds others marks
 walked_alike scale t rounds gaps others marks e h = record {

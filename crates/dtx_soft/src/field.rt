@@ -83,7 +83,7 @@ fn soften_rounds(
 }
 
 /// Writes the marks of all rounds, in bytes where they do, and gives how the potentials differ before the first one.
-fn walk_back(scale: u8, rounds: &[[i8; LANES]], marks: &mut [[u8; LANES]]) -> Gaps
+fn walk_back(scale: u8, rounds: &[[i8; LANES]], marks: &mut [[u8; LANES]]) -> Gaps<i16>
     requires scale { scale ≤ MAX_SCALE }
     requires room { length marks.old ≡ length rounds.now }
     ensures bounded { (n : ℕ) → n < LANES → IsBounded (gap_at result n) }

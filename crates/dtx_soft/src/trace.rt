@@ -34,7 +34,7 @@ pub(crate) struct Stands {
 pub(crate) fn forward(
     scale: u8,
     marks: &[[u8; LANES]],
-    gaps: &Gaps,
+    gaps: &Gaps<i16>,
     rounds: &mut [[i8; LANES]],
 ) -> [u32; LANES]
     requires scale { scale ≤ MAX_SCALE }
@@ -55,7 +55,7 @@ pub(crate) fn forward(
 }
 
 /// Where the least path of each lane begins.
-fn starts(gaps: &Gaps) -> Stands
+fn starts(gaps: &Gaps<i16>) -> Stands
     requires { (n : ℕ) → n < LANES → IsBounded (gap_at gaps.now n) }
     ensures { (n : ℕ) → n < LANES → IsStart (gap_at gaps.now n) (stand_at result n) }
 {
@@ -71,7 +71,7 @@ fn starts(gaps: &Gaps) -> Stands
 }
 
 /// The state with the least potential, the first of several.
-fn start_of(gap: Gap) -> Stand
+fn start_of(gap: Gap<i16>) -> Stand
     requires { IsBounded gap }
     ensures { IsStart gap result }
 {

@@ -1,7 +1,6 @@
 use Rattle.std.proofs.Common.{◌≡◌, ◌-◌, pos, ◌∙◌, subst, arith}
 use Rattle.std.proofs.lemmas.List.{get_or-replicate, length-set}
-use Rattle.dtx_soft.specs.Gaps.{AreWalked}
-use Rattle.dtx_soft.specs.Near.{near_gap_at}
+use Rattle.dtx_soft.specs.Gaps.{AreWalked, gap_at}
 use Rattle.dtx_soft.proofs.Columns.{none_walked, one_walked}
 use Rattle.dtx_soft.proofs.NearGaps.{nothing_tight}
 use Rattle.dtx_soft.proofs.near.backward.Goals as goal
@@ -24,13 +23,13 @@ loop-t-preserved c = record {
   room = length-set c.loop-t.marks (c.loop-t.t - 1) c.step_lanes.result ∙ c.loop-t.invariant.room;
   tight = c.step_lanes.ensures.tight;
   walked = one_walked c.args.scale c.units_of-units.result.scale (c.loop-t.t - 1) c.loop-t.t c.args.rounds.now
-      (near_gap_at c.loop-t.gaps) (near_gap_at c.step_lanes.new.gaps) c.loop-t.marks c.step_lanes.result
-      c.units_of-units.ensures (omega (arith, c.requires.near.small)) (omega arith) (omega arith) c.loop-t.invariant.room
-      c.step_lanes.ensures.step c.loop-t.invariant.walked;
+      (gap_at c.loop-t.gaps) (gap_at c.step_lanes.new.gaps) c.loop-t.marks c.step_lanes.result
+      c.units_of-units.ensures (omega (arith, c.requires.near.small)) (omega arith) (omega arith)
+      c.loop-t.invariant.room c.step_lanes.ensures.step c.loop-t.invariant.walked;
 }
 
 pub returns-clause-walked : goal.returns-clause-walked
 returns-clause-walked c =
     let end : c.loop-t.t ≡ 0 = omega arith in
-    subst (λ t. AreWalked c.args.scale t c.args.rounds.now (near_gap_at c.loop-t.gaps) c.loop-t.marks) end
+    subst (λ t. AreWalked c.args.scale t c.args.rounds.now (gap_at c.loop-t.gaps) c.loop-t.marks) end
     c.loop-t.invariant.walked

@@ -1,6 +1,5 @@
 use Rattle.std.proofs.Common.{arith, rules}
 use Rattle.std.proofs.lemmas.Int.{ints}
-use Rattle.dtx_soft.specs.Near.{gap_of, squares_of}
 use Rattle.dtx_soft.proofs.GapSteps.{above_alike, marks_taken, squares_in_units}
 use Rattle.dtx_soft.proofs.NearGaps.{near_small}
 use Rattle.dtx_soft.proofs.near.marks_of.Goals as goal
@@ -13,9 +12,9 @@ overflow_add-squares-2 c = omega (arith, ints)
 
 pub returns : goal.returns
 returns c =
-    let units = squares_in_units c.args.units.now.scale c.args.symbol (squares_of c.args.squares.now) (search rules)
+    let units = squares_in_units c.args.units.now.scale c.args.symbol c.args.squares.now (search rules)
     c.ranges.symbol c.requires.squares (near_small _ c.requires.near) in
-    marks_taken c.args.units.now.scale c.args.symbol (squares_of c.args.squares.now) (gap_of c.args.gap)
+    marks_taken c.args.units.now.scale c.args.symbol c.args.squares.now c.args.gap
     c.is_above-first.result c.is_above-second.result c.is_above-third.result c.is_above-fourth.result units.0
     c.requires.squares units.1 (record {
       first = above_alike (omega (arith, ints)) (omega (arith, ints)) c.is_above-first.ensures;
