@@ -1,7 +1,8 @@
 -- The lanes of the rounds, and their gaps and marks one round further to the front.
 use Rattle.std.proofs.Common.{◌≡◌, ℕ, ℤ, pos, ◌+◌, ◌<◌, ◌≤◌, ◌+ℤ◌, List, [], ◌∷◌, length, drop, get_or, refl, sym, ap}
-use Rattle.std.proofs.Common.{slice_set, subst, arith}
-use Rattle.std.proofs.lemmas.List.{get_or-map, length-map}
+use Rattle.std.proofs.Common.{◌≢◌, ◌⊎◌, inl, inr, ◌∙◌, slice_set, subst, arith}
+use Rattle.std.proofs.lemmas.Bool.{cases_eq}
+use Rattle.std.proofs.lemmas.List.{get_or-map, length-map, length-set}
 use Rattle.dtx_soft.specs.declared.gaps.Gap.{Gap}
 use Rattle.dtx_soft.specs.Gaps.{AreLeastGaps, AreMarks, AreWalked, IsStep, column, row_of}
 use Rattle.dtx_soft.specs.Least.{IsPotential}
@@ -101,3 +102,29 @@ walked_alike scale t rounds gaps others marks e h = record {
   gaps_are = λ n l. subst (AreLeastGaps scale (drop t (column rounds n))) (sym (e n l)) (h.gaps_are n l);
   marks_are = h.marks_are;
 }
+
+-- the gaps and the marks of a round's first n lanes; P says how small the gaps are
+pub record AreStepped (P : Gap ℤ → Type 0) (scale : ℕ) (symbols : List ℤ) (n : ℕ) (old new : ℕ → Gap ℤ)
+    (marks : List ℕ) : Type 0 where
+  pub long : length marks ≡ 16
+  pub small : (k : ℕ) → k < n → P (new k)
+  pub done : (k : ℕ) → k < n → IsStep scale (get_or symbols k (pos 0)) (old k) (new k) (get_or marks k 0)
+  pub left : (k : ℕ) → n ≤ k → new k ≡ old k
+
+pub lane_stepped : (P : Gap ℤ → Type 0) (scale : ℕ) (symbols : List ℤ) (n : ℕ) (old now new : ℕ → Gap ℤ)
+    (marks : List ℕ) (mark : ℕ) → n < 16 → ((k : ℕ) → k ≢ n → new k ≡ now k) → P (new n)
+    → IsStep scale (get_or symbols n (pos 0)) (old n) (new n) mark → AreStepped P scale symbols n old now marks
+    → AreStepped P scale symbols (n + 1) old new (slice_set marks n mark)
+lane_stepped P scale symbols n old now new marks mark l others p step h = record {
+  long = length-set marks n mark ∙ h.long;
+  small = λ k m. small k m (cases_eq k n);
+  done = λ k m. by_entry (λ k mark. IsStep scale (get_or symbols k (pos 0)) (old k) (new k) mark) marks n mark
+      (omega (arith, h.long)) step k 0
+      (λ d. subst (λ g. IsStep scale (get_or symbols k (pos 0)) (old k) g (get_or marks k 0)) (sym (others k d))
+      (h.done k (omega arith)));
+  left = λ k m. others k (λ e. absurd (omega arith)) ∙ h.left k (omega arith);
+}
+  where
+    small : (k : ℕ) → k < n + 1 → (k ≡ n) ⊎ (k ≢ n) → P (new k)
+    small k m (inl e) = subst (λ k. P (new k)) (sym e) p
+    small k m (inr d) = subst P (sym (others k d)) (h.small k (omega arith))
