@@ -8,7 +8,7 @@ pub record IsNear (symbol : ℤ) : Type 0 where
   pub from : pos 0 ≤ℤ (symbol +ℤ pos 28)
   pub to : symbol ≤ℤ pos 28
 
--- at this scale and these symbols of the lanes all differences fit bytes
+-- a scale and the lanes' symbols, so small that all differences fit bytes
 pub record FitBytes (scale : ℕ) (rounds : List (List ℤ)) : Type 0 where
   pub some : 0 < scale
   pub small : scale ≤ 4

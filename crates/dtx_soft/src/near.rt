@@ -98,7 +98,7 @@ fn add_far(symbols: &[i8; LANES], far: &mut [u8; LANES])
     }
 }
 
-/// A count, with one more where a symbol is not near 0.
+/// A count, with one more where a symbol is not near 0, but at most 255: 0 exactly where it was and the symbol is near.
 #[inline(always)]
 fn one_more(far: u8, symbol: i8) -> u8
     ensures { (result ≡ 0) ↔ ((far ≡ 0) × IsNear symbol) }

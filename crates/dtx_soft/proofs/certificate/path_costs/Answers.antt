@@ -1,5 +1,5 @@
-use Rattle.std.proofs.Common.{◌≡◌, ℕ, ℤ, ◌+◌, ◌-◌, IsTrue, nat_eq, get_or, drop, pos, rules, sym, subst, arith, w8, to_z}
-use Rattle.std.proofs.Common.{of_z}
+use Rattle.std.proofs.Common.{◌≡◌, ℕ, ℤ, ◌+◌, ◌-◌, IsTrue, nat_eq, get_or, drop, pos, rules, sym, subst, arith, w8}
+use Rattle.std.proofs.Common.{to_z, of_z}
 use mir.Val.{SFits}
 use Rattle.std.proofs.lemmas.Int.{to_z-of_z}
 use Rattle.dtx_soft.specs.Paths.{squared, symbol_at, next_state}
