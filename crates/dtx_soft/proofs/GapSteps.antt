@@ -1,15 +1,15 @@
 -- Gaps of potentials, one more symbol in front.
 use Rattle.std.proofs.Common.{◌≡◌, ℕ, ℤ, pos, ◌+◌, ◌*◌, ◌/◌, ◌%◌, ◌<◌, ◌≤◌, ◌⊎◌, inl, inr, ◌+ℤ◌, ◌-ℤ◌, ◌≤ℤ◌, ◌<ℤ◌, ◌^◌}
 use Rattle.std.proofs.Common.{min}
-use Rattle.std.proofs.Common.{List, [], ◌∷◌, get_or, refl, sym, ap, ◌∙◌, subst, w8, arith}
+use Rattle.std.proofs.Common.{List, [], ◌∷◌, get_or, refl, sym, ap, ◌∙◌, subst, w8, to_z, of_z, arith}
 use mir.Val.{SFits}
 use Rattle.std.specs.Int.{int_min}
-use Rattle.std.proofs.lemmas.Int.{ints, clamps}
+use Rattle.std.proofs.lemmas.Int.{ints, clamps, to_z-of_z}
 use Rattle.std.proofs.lemmas.Bool.{cases_order}
 use Rattle.dtx_soft.specs.declared.nearest.Nearest.{Nearest}
 use Rattle.dtx_soft.specs.declared.gaps.Gap.{Gap}
 use Rattle.dtx_soft.specs.declared.gaps.SquareGaps.{SquareGaps}
-use Rattle.dtx_soft.specs.Gaps.{AreGaps, AreLesser, AreTaken, IsBefore, IsBounded, row_of, tie_of, unit}
+use Rattle.dtx_soft.specs.Gaps.{AreGaps, AreLesser, AreTaken, IsBefore, IsBounded, IsStep, row_of, tie_of, unit}
 use Rattle.dtx_soft.specs.Squares.{AreSmall, IsSquares}
 use Rattle.dtx_soft.proofs.SquareGaps.{AreTested, are_tested, row_gaps, row_tie}
 use Rattle.std.proofs.lemmas.Bool.Decides.{nat_tests}
@@ -117,7 +117,7 @@ gaps_before k row behind before x y u d e f v w z r g h by = record {
         g.across_is
 
 -- the gaps of a symbol's squares, in units
-pub squares_in_units : (scale : ℕ) (symbol : ℤ) (squares : SquareGaps) → scale ≤ 18 → SFits w8 symbol
+pub squares_in_units : (scale : ℕ) (symbol : ℤ) (squares : SquareGaps ℤ) → scale ≤ 18 → SFits w8 symbol
     → IsSquares scale symbol squares → AreSmall squares
     → AreTested scale symbol
     × AreGaps (unit scale) (row_of scale symbol).squares squares.even squares.odd squares.across
@@ -133,6 +133,10 @@ squares_in_units scale symbol squares l f q s =
 abbrev pub SaysAbove : ℤ → ℤ → ℕ → Type 0
 SaysAbove other number bit = ((other <ℤ number) × (bit ≡ 1)) ⊎ ((number ≤ℤ other) × (bit ≡ 0))
 
+pub above_alike : {o n p m : ℤ} {bit : ℕ} → o ≡ p → n ≡ m → SaysAbove o n bit → SaysAbove p m bit
+above_alike e f (inl h) = inl ((let l : _ <ℤ _ = h.0 in omega (arith, ints)), h.1)
+above_alike e f (inr h) = inr ((let l : _ ≤ℤ _ = h.0 in omega (arith, ints)), h.1)
+
 signs : (a b tie bit : ℕ) (o n : ℤ) → pos (a + tie) +ℤ o ≡ pos b +ℤ n → SaysAbove o n bit
     → ((b < a + tie) × (bit ≡ 1)) ⊎ ((a + tie ≤ b) × (bit ≡ 0))
 signs a b tie bit o n e (inl h) = inl ((let l : o <ℤ n = h.0 in omega (arith, ints)), h.1)
@@ -145,13 +149,13 @@ is_bit (inr h) = omega (arith, h.1)
 small_tie : (scale : ℕ) (symbol : ℤ) (z : ℕ) → tie_of scale symbol z ≤ 1
 small_tie scale symbol z = grind (arith, nat_tests)
 
-pub record HaveSigns (squares : SquareGaps) (gap : Gap) (a b c d : ℕ) : Type 0 where
+pub record HaveSigns (squares : SquareGaps ℤ) (gap : Gap ℤ) (a b c d : ℕ) : Type 0 where
   pub first : SaysAbove (pos 0) (squares.even_tied +ℤ gap.even) a
   pub second : SaysAbove gap.even squares.even_tied b
   pub third : SaysAbove (pos 0) (squares.odd_tied +ℤ gap.odd) c
   pub fourth : SaysAbove gap.odd squares.odd_tied d
 
-pub marks_taken : (scale : ℕ) (symbol : ℤ) (squares : SquareGaps) (gap : Gap) (a b c d : ℕ)
+pub marks_taken : (scale : ℕ) (symbol : ℤ) (squares : SquareGaps ℤ) (gap : Gap ℤ) (a b c d : ℕ)
     → AreTested scale symbol → IsSquares scale symbol squares
     → AreGaps (unit scale) (row_of scale symbol).squares squares.even squares.odd squares.across
     → HaveSigns squares gap a b c d
@@ -197,8 +201,22 @@ marks_taken scale symbol squares gap a b c d t q r s behind g =
         gap.across r g state (tie_of scale symbol (state / 2)) bit (omega arith) l (small_tie scale symbol (state / 2))
         (row_tie scale symbol (state / 2) (omega arith))
 
+-- a step at a symbol that is read from a byte
+pub one_step : (scale : ℕ) (symbol : ℤ) (gap old before new : Gap ℤ) (marks : ℕ) → SFits w8 symbol → gap ≡ old
+    → new ≡ before → IsBefore scale (to_z w8 (of_z w8 symbol)) gap before
+    → AreTaken scale (to_z w8 (of_z w8 symbol)) gap marks → IsStep scale symbol old new marks
+one_step scale symbol gap old before new marks fits e f b t = record {
+  from = omega (arith, ints);
+  to = omega (arith, ints);
+  gaps = subst (λ v. IsBefore scale v old new) (to_z-of_z w8 symbol fits)
+      (subst (λ g. IsBefore scale (to_z w8 (of_z w8 symbol)) g new) e
+      (subst (IsBefore scale (to_z w8 (of_z w8 symbol)) gap) (sym f) b));
+  taken = subst (λ v. AreTaken scale v old marks) (to_z-of_z w8 symbol fits)
+      (subst (λ g. AreTaken scale (to_z w8 (of_z w8 symbol)) g marks) e t);
+}
+
 -- the gaps that come of the four lesser ones
-pub record AreSums (squares : SquareGaps) (gap : Gap) (a b g h : ℤ) (new : Gap) : Type 0 where
+pub record AreSums (squares : SquareGaps ℤ) (gap : Gap ℤ) (a b g h : ℤ) (new : Gap ℤ) : Type 0 where
   pub even : new.even ≡ (squares.across +ℤ gap.across +ℤ a) -ℤ g
   pub odd : new.odd ≡ (squares.across +ℤ gap.across +ℤ b) -ℤ h
   pub across : new.across ≡ g -ℤ h
@@ -223,7 +241,7 @@ bounds x y u d e f a b g h l1 l2 l3 l4 l5 l6 l7 l8 l9 l10 e1 e2 e3 e4 = (
   omega (arith, ints, clamps),
 )
 
-pub bounded_before : (squares : SquareGaps) (gap new : Gap) (a b g h : ℤ) → AreSmall squares → IsBounded gap
+pub bounded_before : (squares : SquareGaps ℤ) (gap new : Gap ℤ) (a b g h : ℤ) → AreSmall squares → IsBounded gap
     → AreLesser squares gap a b g h → AreSums squares gap a b g h new → IsBounded new
 bounded_before squares gap new a b g h s l m n =
     let all = bounds squares.even squares.odd squares.across gap.even gap.odd gap.across a b g h s.even_from s.even_to
@@ -257,7 +275,7 @@ new_across : (m1 m3 p1 p3 : ℕ) (y e g h : ℤ) → pos m1 ≡ pos m3 +ℤ y �
     → pos (min (m1 + p1) (m3 + p3)) ≡ pos (min (m1 + p3) (m3 + p1)) +ℤ (g -ℤ h)
 new_across m1 m3 p1 p3 y e g h e1 e2 e3 e4 = omega (arith, ints, clamps)
 
-pub right_before : (scale : ℕ) (symbol : ℤ) (squares : SquareGaps) (gap new : Gap) (a b g h : ℤ)
+pub right_before : (scale : ℕ) (symbol : ℤ) (squares : SquareGaps ℤ) (gap new : Gap ℤ) (a b g h : ℤ)
     → AreGaps (unit scale) (row_of scale symbol).squares squares.even squares.odd squares.across
     → AreLesser squares gap a b g h → AreSums squares gap a b g h new → IsBefore scale symbol gap new
 right_before scale symbol squares gap new a b g h r m n behind before p q =

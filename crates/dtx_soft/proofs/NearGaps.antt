@@ -16,14 +16,14 @@ pub seen_some : (scale : ℕ) (symbol : ℤ) → 0 < scale → seen scale symbol
 seen_some scale symbol l = grind (arith, nat_tests)
 
 -- the formulas at one symbol
-pub record AreFormulas (scale : ℕ) (symbol : ℤ) (squares : SquareGaps) : Type 0 where
+pub record AreFormulas (scale : ℕ) (symbol : ℤ) (squares : SquareGaps ℤ) : Type 0 where
   pub even : squares.even ≡ even_of scale symbol (pos 0)
   pub odd : squares.odd ≡ odd_of scale symbol (pos 0)
   pub across : squares.across ≡ across_of scale symbol
   pub even_tied : squares.even_tied ≡ even_of scale symbol (pos 1)
   pub odd_tied : squares.odd_tied ≡ odd_of scale symbol (pos 1)
 
-pub seen_squares : (scale : ℕ) (symbol : ℤ) (squares : SquareGaps) → 0 < scale → AreFormulas scale symbol squares
+pub seen_squares : (scale : ℕ) (symbol : ℤ) (squares : SquareGaps ℤ) → 0 < scale → AreFormulas scale symbol squares
     → IsSquares scale symbol squares
 seen_squares scale symbol squares l a =
     let e = sym (seen_some scale symbol l) in record {
@@ -60,7 +60,7 @@ odd_tied_near : (c : ℕ) (v y z : ℤ) → y ≡ odd_of c v (pos 0) → z ≡ o
     → (y ≤ℤ z) × (z ≤ℤ (y +ℤ pos 1))
 odd_tied_near c v y z e g = (omega (arith, ints, clamps), omega (arith, ints, clamps))
 
-pub near_squares : (c : ℕ) (v : ℤ) (squares : SquareGaps) → 0 < c → c ≤ 4 → IsNear v → AreFormulas c v squares
+pub near_squares : (c : ℕ) (v : ℤ) (squares : SquareGaps ℤ) → 0 < c → c ≤ 4 → IsNear v → AreFormulas c v squares
     → AreNear squares
 near_squares c v squares l m n a =
     let x = even_near c v (pos 0) squares.even l m n (omega (arith, ints)) (omega (arith, ints)) a.even in
@@ -84,7 +84,7 @@ near_squares c v squares l m n a =
       odd_tied_to = t.1;
     }
 
-pub near_small : (squares : SquareGaps) → AreNear squares → AreSmall squares
+pub near_small : (squares : SquareGaps ℤ) → AreNear squares → AreSmall squares
 near_small squares s = record {
   even_from = omega (arith, ints, s.even_from);
   even_to = omega (arith, ints, s.even_to);
@@ -187,14 +187,14 @@ bounds x y u d e f a b g h l1 l2 l3 l4 l5 l6 l7 l8 l9 l10 l11 l12 e1 e2 e3 e4 = 
   beside_to = omega (arith, ints, clamps);
 }
 
-pub sums_tight : (squares : SquareGaps) (gap : Gap) (a b g h : ℤ) → AreNear squares → IsTight gap
+pub sums_tight : (squares : SquareGaps ℤ) (gap : Gap ℤ) (a b g h : ℤ) → AreNear squares → IsTight gap
     → AreLesser squares gap a b g h → AreTightSums squares.across gap.across a b g h
 sums_tight squares gap a b g h s l m =
     bounds squares.even squares.odd squares.across gap.even gap.odd gap.across a b g h s.even_from s.even_to s.odd_from
     s.odd_to s.across_from s.across_to s.beside_from s.beside_to l.across_from l.across_to l.beside_from l.beside_to
     m.first m.second m.third m.fourth
 
-pub tight_before : (squares : SquareGaps) (gap new : Gap) (a b g h : ℤ) → AreNear squares → IsTight gap
+pub tight_before : (squares : SquareGaps ℤ) (gap new : Gap ℤ) (a b g h : ℤ) → AreNear squares → IsTight gap
     → AreLesser squares gap a b g h → AreSums squares gap a b g h new → IsTight new
 tight_before squares gap new a b g h s l m n =
     let all = sums_tight squares gap a b g h s l m in record {
@@ -227,7 +227,7 @@ lesser_small : (x d b : ℤ) → pos 0 ≤ℤ (x +ℤ pos 50) → x ≤ℤ pos 5
     → (pos 0 ≤ℤ (b +ℤ pos 76)) × (b ≤ℤ pos 50)
 lesser_small x d b l m n e = (omega (arith, ints, clamps), omega (arith, ints, clamps))
 
-pub terms_small : (squares : SquareGaps) (gap : Gap) (a b g h : ℤ) → AreNear squares → IsTight gap
+pub terms_small : (squares : SquareGaps ℤ) (gap : Gap ℤ) (a b g h : ℤ) → AreNear squares → IsTight gap
     → AreLesser squares gap a b g h → AreTerms a b g h
 terms_small squares gap a b g h s l m =
     let first = sum_small squares.even gap.even a s.even_from l.even_from m.first in
@@ -269,7 +269,7 @@ byte_sum : (u f a g x y : ℤ) → x ≡ u +ℤ f → y ≡ a -ℤ g → pos 0 �
     → ((u +ℤ f +ℤ a) -ℤ g) ≤ℤ pos 76 → SFits w8 (x +ℤ y) × (byte (x +ℤ y) ≡ (u +ℤ f +ℤ a) -ℤ g)
 byte_sum u f a g x y d e l m = (omega (arith, ints), omega (arith, ints))
 
-pub byte_sums : (squares : SquareGaps) (gap : Gap) (a b g h : ℤ) → AreNear squares → IsTight gap
+pub byte_sums : (squares : SquareGaps ℤ) (gap : Gap ℤ) (a b g h : ℤ) → AreNear squares → IsTight gap
     → AreLesser squares gap a b g h → AreByteSums squares.across gap.across a b g h
 byte_sums squares gap a b g h s l m =
     let t = terms_small squares gap a b g h s l m in
@@ -295,7 +295,7 @@ byte_sums squares gap a b g h s l m =
       across = across.1;
     }
 
-pub tight_bounded : (gap : Gap) → IsTight gap → IsBounded gap
+pub tight_bounded : (gap : Gap ℤ) → IsTight gap → IsBounded gap
 tight_bounded gap l = record {
   even_from = omega (arith, ints, l.even_from);
   even_to = omega (arith, ints, l.even_to);
@@ -307,7 +307,7 @@ tight_bounded gap l = record {
   beside_to = omega (arith, ints, l.beside_to);
 }
 
-pub nothing_tight : (gap : Gap) → gap.even ≡ pos 0 → gap.odd ≡ pos 0 → gap.across ≡ pos 0 → IsTight gap
+pub nothing_tight : (gap : Gap ℤ) → gap.even ≡ pos 0 → gap.odd ≡ pos 0 → gap.across ≡ pos 0 → IsTight gap
 nothing_tight gap e f g = record {
   even_from = omega (arith, ints);
   even_to = omega (arith, ints);

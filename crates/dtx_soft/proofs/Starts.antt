@@ -20,7 +20,7 @@ use Rattle.dtx_soft.proofs.Writes.{four}
 abbrev Comes : ℕ → List ℕ → ℕ → Type 0
 Comes n p s = (get_or p n 0 ≤ get_or p s 0) × (s < n → get_or p n 0 < get_or p s 0)
 
-start_at : (gap : Gap) (stand : Stand) (n : ℕ) → n < 4 → stand.cost ≡ 0 → stand.q1 < 2 → stand.q0 < 2
+start_at : (gap : Gap ℤ) (stand : Stand) (n : ℕ) → n < 4 → stand.cost ≡ 0 → stand.q1 < 2 → stand.q0 < 2
     → 2 * stand.q1 + stand.q0 ≡ n
     → ((p : List ℕ) → pos (get_or p 0 0) ≡ pos (get_or p 2 0) +ℤ gap.even
     → pos (get_or p 1 0) ≡ pos (get_or p 3 0) +ℤ gap.odd → pos (get_or p 2 0) ≡ pos (get_or p 3 0) +ℤ gap.across
@@ -70,7 +70,7 @@ start_at gap stand n small c l m e by = record {
         by_order (inl o) = let a = less scale costs h s k ((comes scale costs h s k).1 o) in absurd (omega arith)
         by_order (inr o) = o
 
-pub start_is : (gap : Gap) (stand : Stand) (first low_cost high_cost : ℤ) (low high : ℕ)
+pub start_is : (gap : Gap ℤ) (stand : Stand) (first low_cost high_cost : ℤ) (low high : ℕ)
     → first ≡ gap.even +ℤ gap.across → low_cost ≡ int_min first gap.odd → high_cost ≡ int_min gap.across (pos 0)
     → SaysAbove gap.odd first low → SaysAbove (pos 0) gap.across high → SaysAbove high_cost low_cost stand.q1
     → stand.q0 ≡ cond (stand.q1 == 0) low high → stand.cost ≡ 0 → IsStart gap stand
@@ -112,7 +112,7 @@ start_is gap stand first low_cost high_cost low high e f g (inr a) b (inr q) h c
     ((omega (arith, ints, clamps)), λ l. absurd (omega arith)))
 
 -- a least path from that state is a least one of all
-pub least_from_start : (scale : ℕ) (symbols : List ℤ) (gap : Gap) (stand : Stand) (levels : List ℕ)
+pub least_from_start : (scale : ℕ) (symbols : List ℤ) (gap : Gap ℤ) (stand : Stand) (levels : List ℕ)
     → IsStart gap stand → AreLeastGaps scale symbols gap
     → IsLeastFrom scale symbols (2 * stand.q1 + stand.q0) levels
     → IsLeast scale symbols (2 * stand.q1 + stand.q0) levels

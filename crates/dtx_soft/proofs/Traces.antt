@@ -45,7 +45,7 @@ pub record IsUnderWay (scale : ℕ) (symbols now : List ℤ) (t : ℕ) (stand : 
   pub cost : stand.cost ≡ distance (take t symbols) (take t now)
   pub whole : (levels : List ℕ) → IsLeastFrom scale symbols start levels → IsLeast scale symbols start levels
 
-pub sets_out : (scale : ℕ) (symbols : List ℤ) (gap : Gap) (stand : Stand) → IsStart gap stand
+pub sets_out : (scale : ℕ) (symbols : List ℤ) (gap : Gap ℤ) (stand : Stand) → IsStart gap stand
     → AreLeastGaps scale symbols gap → IsUnderWay scale symbols symbols 0 stand
 unfolding distance
 sets_out scale symbols gap stand s p = record {

@@ -5,7 +5,8 @@ use Rattle.std.proofs.Common.{subst, arith}
 use Rattle.std.proofs.lemmas.Bool.{cases_eq}
 use Rattle.std.proofs.lemmas.List.{get_or-set_same, get_or-set_other}
 
-by_entry : {A : Type 0} (P : ℕ → A → Type 0) (xs : List A) (n : ℕ) (x : A) → n < length xs → P n x
+-- at one entry
+pub by_entry : {A : Type 0} (P : ℕ → A → Type 0) (xs : List A) (n : ℕ) (x : A) → n < length xs → P n x
     → (k : ℕ) (d : A) → (k ≢ n → P k (get_or xs k d)) → P k (get_or (slice_set xs n x) k d)
 by_entry P xs n x l p k d f = go (cases_eq k n)
   where

@@ -1,7 +1,7 @@
 -- Differences of costs in units, by which the coders are decoded side by side: at one symbol the squares of all
 -- levels are alike but for multiples of four times the scale.
-use Rattle.std.specs.Prelude.{ℕ, ℤ, pos, ◌≡◌, ◌+◌, ◌*◌, ◌/◌, ◌%◌, ◌^◌, ◌<◌, ◌+ℤ◌, ◌≤ℤ◌, max, min, List, [], ◌∷◌}
-use Rattle.std.specs.Prelude.{map, drop, nat_le, nat_lt, if◌then◌else◌, slice_index, slice_index_or}
+use Rattle.std.specs.Prelude.{ℕ, ℤ, pos, ◌≡◌, ◌+◌, ◌*◌, ◌/◌, ◌%◌, ◌^◌, ◌<◌, ◌≤◌, ◌+ℤ◌, ◌≤ℤ◌, max, min, List, []}
+use Rattle.std.specs.Prelude.{◌∷◌, length, map, drop, nat_le, nat_lt, if◌then◌else◌, slice_index, slice_index_or}
 use Rattle.std.specs.Int.{int_min}
 use Rattle.dtx_soft.specs.declared.nearest.Nearest.{Nearest}
 use Rattle.dtx_soft.specs.declared.gaps.Gap.{Gap}
@@ -26,11 +26,11 @@ pub record AreGaps (unit : ℕ) (costs : List ℕ) (even odd across : ℤ) : Typ
   pub odd_is : pos (slice_index units 1) ≡ pos (slice_index units 3) +ℤ odd
   pub across_is : pos (slice_index units 2) ≡ pos (slice_index units 3) +ℤ across
 
-abbrev pub HasGaps : ℕ → List ℕ → Gap → Type 0
+abbrev pub HasGaps : ℕ → List ℕ → Gap ℤ → Type 0
 HasGaps scale costs gap = AreGaps (unit scale) costs gap.even gap.odd gap.across
 
 -- so small are they always: a walk of two steps leads from each state to each
-pub record IsBounded (gap : Gap) : Type 0 where
+pub record IsBounded (gap : Gap ℤ) : Type 0 where
   pub even_from : pos 0 ≤ℤ (gap.even +ℤ pos 2400)
   pub even_to : gap.even ≤ℤ pos 2400
   pub odd_from : pos 0 ≤ℤ (gap.odd +ℤ pos 2400)
@@ -67,43 +67,46 @@ row_of scale symbol = record {
 
 -- of the gaps of a symbol's squares and of the potentials behind it: the sum of the even ones, or 0 where it is more,
 -- the lesser of the even ones, and the same of the odd ones
-pub record AreLesser (squares : SquareGaps) (gap : Gap) (a b g h : ℤ) : Type 0 where
+pub record AreLesser (squares : SquareGaps ℤ) (gap : Gap ℤ) (a b g h : ℤ) : Type 0 where
   pub first : a ≡ int_min (squares.even +ℤ gap.even) (pos 0)
   pub second : b ≡ int_min squares.even gap.even
   pub third : g ≡ int_min (squares.odd +ℤ gap.odd) (pos 0)
   pub fourth : h ≡ int_min squares.odd gap.odd
 
 -- the gaps of the potentials before one more symbol in front
-abbrev pub IsBefore : ℕ → ℤ → Gap → Gap → Type 0
+abbrev pub IsBefore : ℕ → ℤ → Gap ℤ → Gap ℤ → Type 0
 IsBefore scale symbol old new = (behind before : List ℕ) → HasGaps scale behind old
     → ((s : ℕ) → s < 4 → slice_index before s ≡ cheapest (row_of scale symbol) behind s) → HasGaps scale before new
 
 -- bit s of the marks is 1 where of the two pairs of levels that may follow state s the second is to be taken
-abbrev pub AreTaken : ℕ → ℤ → Gap → ℕ → Type 0
+abbrev pub AreTaken : ℕ → ℤ → Gap ℤ → ℕ → Type 0
 AreTaken scale symbol gap marks = (behind : List ℕ) → HasGaps scale behind gap → (s : ℕ) → s < 4
     → IsTaken (row_of scale symbol) behind s (marks / 2 ^ s % 2)
 
 -- both, at a symbol that is a signed byte
-pub record IsStep (scale : ℕ) (symbol : ℤ) (old new : Gap) (marks : ℕ) : Type 0 where
+pub record IsStep (scale : ℕ) (symbol : ℤ) (old new : Gap ℤ) (marks : ℕ) : Type 0 where
   pub from : pos 0 ≤ℤ (symbol +ℤ pos 128)
   pub to : symbol ≤ℤ pos 127
   pub gaps : IsBefore scale symbol old new
   pub taken : AreTaken scale symbol old marks
 
--- those of one lane
-abbrev pub gap_at : Gaps → ℕ → Gap
-gap_at gaps n = record {
-  even = slice_index_or gaps.even n (pos 0);
-  odd = slice_index_or gaps.odd n (pos 0);
-  across = slice_index_or gaps.across n (pos 0);
+-- those of one lane, or else others
+abbrev pub gap_or : {A : Type 0} → Gaps A → ℕ → A → Gap A
+gap_or gaps n other = record {
+  even = slice_index_or gaps.even n other;
+  odd = slice_index_or gaps.odd n other;
+  across = slice_index_or gaps.across n other;
 }
+
+abbrev pub gap_at : Gaps ℤ → ℕ → Gap ℤ
+gap_at gaps n = gap_or gaps n (pos 0)
 
 -- the symbols of one lane, one in each round
 unfoldable pub column : List (List ℤ) → ℕ → List ℤ
 column rounds n = map (λ round. slice_index_or round n (pos 0)) rounds
 
 -- gaps of the least costs over symbols from each state
-pub record AreLeastGaps (scale : ℕ) (symbols : List ℤ) (gap : Gap) : Type 0 where
+pub record AreLeastGaps (scale : ℕ) (symbols : List ℤ) (gap : Gap ℤ) : Type 0 where
   pub potentials : List ℕ
   pub least : (s : ℕ) → s < 4 → IsPotential scale symbols s (slice_index potentials s)
   pub gaps : HasGaps scale potentials gap
@@ -114,3 +117,9 @@ pub record AreMarks (scale : ℕ) (symbols : List ℤ) (t marks : ℕ) : Type 0 
   pub least : (s : ℕ) → s < 4 → IsPotential scale (drop (t + 1) symbols) s (slice_index behind s)
   pub taken : (s : ℕ) → s < 4
       → IsTaken (row_of scale (slice_index_or symbols t (pos 0))) behind s (marks / 2 ^ s % 2)
+
+-- what a walk back to symbol t gives: the gaps there of each lane, whatever their width, and the marks from there on
+pub record AreWalked (scale t : ℕ) (rounds : List (List ℤ)) (gaps : ℕ → Gap ℤ) (marks : List (List ℕ)) : Type 0 where
+  pub gaps_are : (n : ℕ) → n < 16 → AreLeastGaps scale (drop t (column rounds n)) (gaps n)
+  pub marks_are : (k n : ℕ) → t ≤ k → k < length rounds → n < 16
+      → AreMarks scale (column rounds n) k (slice_index (slice_index_or marks k []) n)

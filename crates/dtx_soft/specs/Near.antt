@@ -1,39 +1,21 @@
 -- Differences of costs that fit bytes: those at symbols near 0.
-use Rattle.std.specs.Prelude.{ℕ, ℤ, pos, ◌+ℤ◌, ◌≤ℤ◌, slice_index_or}
+use Rattle.std.specs.Prelude.{ℕ, ℤ, pos, ◌<◌, ◌≤◌, ◌+ℤ◌, ◌≤ℤ◌, List, [], length, slice_index_or}
 use Rattle.dtx_soft.specs.declared.gaps.Gap.{Gap}
 use Rattle.dtx_soft.specs.declared.gaps.SquareGaps.{SquareGaps}
-use Rattle.dtx_soft.specs.declared.near.NearGap.{NearGap}
-use Rattle.dtx_soft.specs.declared.near.NearGaps.{NearGaps}
-use Rattle.dtx_soft.specs.declared.near.NearSquares.{NearSquares}
 
 -- a symbol that is at most 28 off 0
 pub record IsNear (symbol : ℤ) : Type 0 where
   pub from : pos 0 ≤ℤ (symbol +ℤ pos 28)
   pub to : symbol ≤ℤ pos 28
 
--- the numbers of bytes as they are
-abbrev pub gap_of : NearGap → Gap
-gap_of gap = record { even = gap.even; odd = gap.odd; across = gap.across }
-
-abbrev pub squares_of : NearSquares → SquareGaps
-squares_of squares = record {
-  even = squares.even;
-  odd = squares.odd;
-  across = squares.across;
-  even_tied = squares.even_tied;
-  odd_tied = squares.odd_tied;
-}
-
--- those of one lane
-abbrev pub near_gap_at : NearGaps → ℕ → Gap
-near_gap_at gaps n = record {
-  even = slice_index_or gaps.even n (pos 0);
-  odd = slice_index_or gaps.odd n (pos 0);
-  across = slice_index_or gaps.across n (pos 0);
-}
+-- a scale and the lanes' symbols, so small that all differences fit bytes
+pub record FitBytes (scale : ℕ) (rounds : List (List ℤ)) : Type 0 where
+  pub some : 0 < scale
+  pub small : scale ≤ 4
+  pub near : (t n : ℕ) → t < length rounds → n < 16 → IsNear (slice_index_or (slice_index_or rounds t []) n (pos 0))
 
 -- so small are the gaps of squares at symbols near 0 and scales 1 to 4
-pub record AreNear (squares : SquareGaps) : Type 0 where
+pub record AreNear (squares : SquareGaps ℤ) : Type 0 where
   pub even_from : pos 0 ≤ℤ (squares.even +ℤ pos 50)
   pub even_to : squares.even ≤ℤ pos 50
   pub odd_from : pos 0 ≤ℤ (squares.odd +ℤ pos 50)
@@ -48,7 +30,7 @@ pub record AreNear (squares : SquareGaps) : Type 0 where
   pub odd_tied_to : squares.odd_tied ≤ℤ (squares.odd +ℤ pos 1)
 
 -- and so small those of the potentials
-pub record IsTight (gap : Gap) : Type 0 where
+pub record IsTight (gap : Gap ℤ) : Type 0 where
   pub even_from : pos 0 ≤ℤ (gap.even +ℤ pos 76)
   pub even_to : gap.even ≤ℤ pos 76
   pub odd_from : pos 0 ≤ℤ (gap.odd +ℤ pos 76)

@@ -33,7 +33,7 @@ across_of scale symbol =
     (odd_of scale symbol (pos 0) -ℤ symbol)
     +ℤ within (neg_ℤ (pos (4 * scale))) ((symbol +ℤ symbol) +ℤ (symbol +ℤ symbol)) (pos (4 * scale))
 
-pub record IsSquares (scale : ℕ) (symbol : ℤ) (squares : SquareGaps) : Type 0 where
+pub record IsSquares (scale : ℕ) (symbol : ℤ) (squares : SquareGaps ℤ) : Type 0 where
   pub even : squares.even ≡ even_of scale (seen scale symbol) (pos 0)
   pub odd : squares.odd ≡ odd_of scale (seen scale symbol) (pos 0)
   pub across : squares.across ≡ across_of scale (seen scale symbol)
@@ -41,7 +41,7 @@ pub record IsSquares (scale : ℕ) (symbol : ℤ) (squares : SquareGaps) : Type 
   pub odd_tied : squares.odd_tied ≡ odd_of scale (seen scale symbol) (pos 1)
 
 -- no two squares differ by more than so many units, but those of levels that differ by an odd number
-pub record AreSmall (squares : SquareGaps) : Type 0 where
+pub record AreSmall (squares : SquareGaps ℤ) : Type 0 where
   pub even_from : pos 0 ≤ℤ (squares.even +ℤ pos 512)
   pub even_to : squares.even ≤ℤ pos 512
   pub odd_from : pos 0 ≤ℤ (squares.odd +ℤ pos 512)

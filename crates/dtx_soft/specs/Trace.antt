@@ -52,7 +52,7 @@ pub record IsMoved (scale : ℕ) (symbol : ℤ) (marks : ℕ) (old new : Stand) 
   pub cost : new.cost ≡ old.cost
 
 -- the state of least cost, the first of several
-pub record IsStart (gap : Gap) (stand : Stand) : Type 0 where
+pub record IsStart (gap : Gap ℤ) (stand : Stand) : Type 0 where
   pub q1 : stand.q1 < 2
   pub q0 : stand.q0 < 2
   pub cost : stand.cost ≡ 0

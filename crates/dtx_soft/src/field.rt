@@ -1,15 +1,15 @@
 //! All twelve coders of a field.
 
-ghost use Rattle.std.specs.Prelude.{◌≡◌, ℕ, ◌+◌, ◌*◌, ◌<◌, ◌≤◌, [], length, map, slice_index, slice_index_or, sum};
+ghost use Rattle.std.specs.Prelude.{◌≡◌, ℕ, ◌+◌, ◌*◌, ◌<◌, ◌≤◌, length, map, slice_index, sum};
 ghost use Rattle.std.specs.Prelude.{vec_len};
 ghost use Rattle.std.specs.List.{range_with_len};
-ghost use Rattle.dtx_soft.specs.Gaps.{AreLeastGaps, AreMarks, IsBounded, column, gap_at};
+ghost use Rattle.dtx_soft.specs.Gaps.{AreWalked, IsBounded, gap_at};
 ghost use Rattle.dtx_soft.specs.Least.{HoldPotentials};
 ghost use Rattle.dtx_soft.specs.Coders.{IsSoftened, coder_symbols, coders_distance};
 
 use crate::coders::gather;
 use crate::gaps::{self, Gaps, LANES};
-use crate::near::{self, are_near};
+use crate::near::{self, are_near, widened};
 use crate::nearest::MAX_SCALE;
 use crate::rounds::{lay_out, put_back};
 use crate::trace::forward;
@@ -83,16 +83,14 @@ fn soften_rounds(
 }
 
 /// Writes the marks of all rounds, in bytes where they do, and gives how the potentials differ before the first one.
-fn walk_back(scale: u8, rounds: &[[i8; LANES]], marks: &mut [[u8; LANES]]) -> Gaps
+fn walk_back(scale: u8, rounds: &[[i8; LANES]], marks: &mut [[u8; LANES]]) -> Gaps<i16>
     requires scale { scale ≤ MAX_SCALE }
     requires room { length marks.old ≡ length rounds.now }
     ensures bounded { (n : ℕ) → n < LANES → IsBounded (gap_at result n) }
-    ensures gaps { (n : ℕ) → n < LANES → AreLeastGaps scale (column rounds.now n) (gap_at result n) }
-    ensures marks { (t n : ℕ) → t < length rounds.now → n < LANES
-        → AreMarks scale (column rounds.now n) t (slice_index (slice_index_or marks.new t []) n) }
+    ensures walked { AreWalked scale 0 rounds.now (gap_at result) marks.new }
 {
     if are_near(scale, rounds) {
-        near::backward(scale, rounds, marks)
+        widened(&near::backward(scale, rounds, marks))
     } else {
         gaps::backward(scale, rounds, marks)
     }

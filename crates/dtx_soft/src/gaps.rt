@@ -3,9 +3,9 @@
 
 ghost use Rattle.std.specs.Prelude.{◌≡◌, ◌≢◌, ◌⊎◌, ℕ, ℤ, pos, neg_ℤ, ◌+◌, ◌*◌, ◌<◌};
 ghost use Rattle.std.specs.Prelude.{◌≤◌, ◌≤ℤ◌, ◌<ℤ◌, ◌+ℤ◌, ◌-ℤ◌, length};
-ghost use Rattle.std.specs.Prelude.{slice_index, slice_index_or, []};
+ghost use Rattle.std.specs.Prelude.{slice_index, slice_index_or};
 ghost use Rattle.std.specs.Int.{int_min};
-ghost use Rattle.dtx_soft.specs.Gaps.{AreLeastGaps, AreMarks, AreTaken, IsBefore, IsBounded, IsStep, column, gap_at};
+ghost use Rattle.dtx_soft.specs.Gaps.{AreTaken, AreWalked, IsBefore, IsBounded, IsStep, gap_at, gap_or};
 ghost use Rattle.dtx_soft.specs.Squares.{AreSmall, IsSquares, even_by, odd_by, seen, within};
 ghost use Rattle.dtx_soft.specs.declared.nearest.TheConstants.{MAX_SCALE};
 
@@ -15,31 +15,31 @@ use crate::nearest::MAX_SCALE;
 pub(crate) const LANES: usize = 16;
 
 /// How four costs differ, in units of four times the scale: the first and the third, the second and the fourth, and the
-/// third and the fourth.
+/// third and the fourth. They are numbers of 16 bits, or bytes where those do.
 #[derive(Clone, Copy, Drop)]
-pub(crate) struct Gap {
-    pub(crate) even: i16,
-    pub(crate) odd: i16,
-    pub(crate) across: i16,
+pub(crate) struct Gap<T> {
+    pub(crate) even: T,
+    pub(crate) odd: T,
+    pub(crate) across: T,
 }
 
 /// The gaps of each lane.
 #[derive(Clone, Copy, Drop)]
-pub(crate) struct Gaps {
-    pub(crate) even: [i16; LANES],
-    pub(crate) odd: [i16; LANES],
-    pub(crate) across: [i16; LANES],
+pub(crate) struct Gaps<T> {
+    pub(crate) even: [T; LANES],
+    pub(crate) odd: [T; LANES],
+    pub(crate) across: [T; LANES],
 }
 
 /// How the squares of a symbol's four pairs of levels differ, and the first two with 1 more where the second of equal
 /// ones comes first.
 #[derive(Clone, Copy, Drop)]
-pub(crate) struct SquareGaps {
-    even: i16,
-    odd: i16,
-    across: i16,
-    even_tied: i16,
-    odd_tied: i16,
+pub(crate) struct SquareGaps<T> {
+    pub(crate) even: T,
+    pub(crate) odd: T,
+    pub(crate) across: T,
+    pub(crate) even_tied: T,
+    pub(crate) odd_tied: T,
 }
 
 /// The scale, and its multiples.
@@ -77,13 +77,11 @@ fn units_of(scale: u8) -> Units
 
 /// Writes the marks of all rounds, and gives how the potentials differ before the first one.
 #[inline(never)]
-pub(crate) fn backward(scale: u8, rounds: &[[i8; LANES]], marks: &mut [[u8; LANES]]) -> Gaps
+pub(crate) fn backward(scale: u8, rounds: &[[i8; LANES]], marks: &mut [[u8; LANES]]) -> Gaps<i16>
     requires scale { scale ≤ MAX_SCALE }
     requires room { length marks.old ≡ length rounds.now }
     ensures bounded { (n : ℕ) → n < LANES → IsBounded (gap_at result n) }
-    ensures gaps { (n : ℕ) → n < LANES → AreLeastGaps scale (column rounds.now n) (gap_at result n) }
-    ensures marks { (t n : ℕ) → t < length rounds.now → n < LANES
-        → AreMarks scale (column rounds.now n) t (slice_index (slice_index_or marks.new t []) n) }
+    ensures walked { AreWalked scale 0 rounds.now (gap_at result) marks.new }
 {
     let mut gaps = Gaps {
         even: [0; LANES],
@@ -99,7 +97,7 @@ pub(crate) fn backward(scale: u8, rounds: &[[i8; LANES]], marks: &mut [[u8; LANE
 
 /// One round more in front. Gives its marks.
 #[inline(always)]
-fn step_lanes(units: &Units, symbols: &[i8; LANES], gaps: &mut Gaps) -> [u8; LANES]
+fn step_lanes(units: &Units, symbols: &[i8; LANES], gaps: &mut Gaps<i16>) -> [u8; LANES]
     requires bounded { (n : ℕ) → n < LANES → IsBounded (gap_at gaps.old n) }
     ensures bounded { (n : ℕ) → n < LANES → IsBounded (gap_at gaps.new n) }
     ensures step { (n : ℕ) → n < LANES → IsStep units.now.scale (slice_index_or symbols.now n (pos 0))
@@ -118,9 +116,9 @@ fn step_lanes(units: &Units, symbols: &[i8; LANES], gaps: &mut Gaps) -> [u8; LAN
 
 /// The gap of a lane.
 #[inline(always)]
-pub(crate) fn lane(gaps: &Gaps, n: usize) -> Gap
+pub(crate) fn lane<T: Copy>(gaps: &Gaps<T>, n: usize) -> Gap<T>
     requires { n < LANES }
-    ensures { result ≡ gap_at gaps.now n }
+    ensures { (other : T) → result ≡ gap_or gaps.now n other }
 {
     Gap {
         even: gaps.even[n],
@@ -131,10 +129,10 @@ pub(crate) fn lane(gaps: &Gaps, n: usize) -> Gap
 
 /// Writes the gap of a lane.
 #[inline(always)]
-pub(crate) fn put_lane(gap: Gap, n: usize, gaps: &mut Gaps)
+pub(crate) fn put_lane<T: Drop>(gap: Gap<T>, n: usize, gaps: &mut Gaps<T>)
     requires { n < LANES }
-    ensures written { gap_at gaps.new n ≡ gap }
-    ensures others { (k : ℕ) → k ≢ n → gap_at gaps.new k ≡ gap_at gaps.old k }
+    ensures written { (other : T) → gap_or gaps.new n other ≡ gap }
+    ensures others { (k : ℕ) (other : T) → k ≢ n → gap_or gaps.new k other ≡ gap_or gaps.old k other }
 {
     gaps.even[n] = gap.even;
     gaps.odd[n] = gap.odd;
@@ -143,7 +141,7 @@ pub(crate) fn put_lane(gap: Gap, n: usize, gaps: &mut Gaps)
 
 /// The gaps of the potentials before a symbol, from those behind it.
 #[inline(always)]
-fn gap_before(units: &Units, symbol: i8, squares: &SquareGaps, gap: Gap) -> Gap
+fn gap_before(units: &Units, symbol: i8, squares: &SquareGaps<i16>, gap: Gap<i16>) -> Gap<i16>
     requires squares { IsSquares units.now.scale symbol squares.now }
     requires small { AreSmall squares.now }
     requires bounded { IsBounded gap }
@@ -217,7 +215,7 @@ fn lesser(square: i16, gap: i16) -> i16
 
 /// For each state which of the two pairs of levels that may follow it is to be taken: bit s is for state s.
 #[inline(always)]
-fn marks_of(units: &Units, symbol: i8, squares: &SquareGaps, gap: Gap) -> u8
+fn marks_of(units: &Units, symbol: i8, squares: &SquareGaps<i16>, gap: Gap<i16>) -> u8
     requires squares { IsSquares units.now.scale symbol squares.now }
     requires small { AreSmall squares.now }
     requires bounded { IsBounded gap }
@@ -240,7 +238,7 @@ pub(crate) fn is_above(number: i16, other: i16) -> u8
 
 /// How the squares of a symbol differ.
 #[inline(always)]
-fn differ(units: &Units, symbol: i8) -> SquareGaps
+fn differ(units: &Units, symbol: i8) -> SquareGaps<i16>
     ensures gaps { IsSquares units.now.scale symbol result }
     ensures small { AreSmall result }
 {

@@ -1,50 +1,22 @@
 //! The walk from the end of the symbols to their begin in bytes, where all symbols are near 0: twice as many lanes
 //! are worked on at once as in numbers of 16 bits.
 
-ghost use Rattle.std.specs.Prelude.{◌≡◌, ◌≢◌, ◌⊎◌, ℕ, ℤ, pos, neg_ℤ, ◌+◌, ◌*◌, ◌<◌};
+ghost use Rattle.std.specs.Prelude.{◌≡◌, ◌↔◌, ◌⊎◌, ℕ, ℤ, pos, neg_ℤ, ◌+◌, ◌*◌, ◌<◌};
 ghost use Rattle.std.specs.Prelude.{◌≤◌, ◌≤ℤ◌, ◌<ℤ◌, ◌+ℤ◌, ◌-ℤ◌, length};
 ghost use Rattle.std.specs.Prelude.{FitsSigned, IsTrue, slice_index, slice_index_or, []};
 ghost use Rattle.std.specs.Int.{int_min, w8};
-ghost use Rattle.dtx_soft.specs.Gaps.{AreLeastGaps, AreLesser, AreMarks, AreTaken, IsBefore, IsBounded};
-ghost use Rattle.dtx_soft.specs.Gaps.{IsStep, column, gap_at};
-ghost use Rattle.dtx_soft.specs.Near.{AreNear, IsNear, IsTight};
-ghost use Rattle.dtx_soft.specs.Near.{gap_of, near_gap_at, squares_of};
+ghost use Rattle.dtx_soft.specs.Gaps.{AreLesser, AreTaken, AreWalked, IsBefore, IsStep, gap_at};
+ghost use Rattle.dtx_soft.specs.Near.{AreNear, FitBytes, IsNear, IsTight};
 ghost use Rattle.dtx_soft.specs.Squares.{IsSquares, across_of, even_of, odd_of, within};
 ghost use Rattle.dtx_soft.specs.declared.near.TheConstants.{MAX_NEAR_SCALE};
 
-use crate::gaps::{Gap, Gaps, LANES, put_lane as put_gap};
+use crate::gaps::{Gap, Gaps, LANES, SquareGaps, lane, put_lane};
 
 /// The greatest scale at which the walk is in bytes.
 pub(crate) const MAX_NEAR_SCALE: u8 = 4;
 
 /// How far off 0 symbols may be for it.
 const MAX_NEAR: i8 = 28;
-
-/// How four costs differ, as in a `Gap`.
-#[derive(Clone, Copy, Drop)]
-pub(crate) struct NearGap {
-    even: i8,
-    odd: i8,
-    across: i8,
-}
-
-/// The gaps of each lane.
-#[derive(Clone, Copy, Drop)]
-pub(crate) struct NearGaps {
-    even: [i8; LANES],
-    odd: [i8; LANES],
-    across: [i8; LANES],
-}
-
-/// How the squares of a symbol's four pairs of levels differ, as in `SquareGaps`.
-#[derive(Clone, Copy, Drop)]
-pub(crate) struct NearSquares {
-    even: i8,
-    odd: i8,
-    across: i8,
-    even_tied: i8,
-    odd_tied: i8,
-}
 
 /// Of the gaps of a symbol's squares and of the potentials behind it: the sum of the even ones, or 0 where it is more,
 /// the lesser of the even ones, and the same of the odd ones.
@@ -93,10 +65,7 @@ fn units_of(scale: u8) -> NearUnits
 
 /// Whether bytes do: at this scale, with each symbol near 0.
 pub(crate) fn are_near(scale: u8, rounds: &[[i8; LANES]]) -> bool
-    ensures some { IsTrue result → 0 < scale }
-    ensures small { IsTrue result → scale ≤ MAX_NEAR_SCALE }
-    ensures near { IsTrue result → (t n : ℕ) → t < length rounds.now → n < LANES
-        → IsNear (slice_index_or (slice_index_or rounds.now t []) n (pos 0)) }
+    ensures { IsTrue result ↔ FitBytes scale rounds.now }
 {
     if scale == 0 || scale > MAX_NEAR_SCALE {
         return false;
@@ -105,11 +74,11 @@ pub(crate) fn are_near(scale: u8, rounds: &[[i8; LANES]]) -> bool
     sum_of(&far) == 0
 }
 
-/// For each lane how many of its symbols are not near 0, or 255 where they are more.
+/// A count for each lane: 0 exactly where each of its symbols is near 0.
 #[inline(never)]
 fn far_lanes(rounds: &[[i8; LANES]]) -> [u8; LANES]
-    ensures { (t n : ℕ) → t < length rounds.now → n < LANES → slice_index result n ≡ 0
-        → IsNear (slice_index_or (slice_index_or rounds.now t []) n (pos 0)) }
+    ensures { (n : ℕ) → n < LANES → (slice_index result n ≡ 0) ↔ ((t : ℕ) → t < length rounds.now
+        → IsNear (slice_index_or (slice_index_or rounds.now t []) n (pos 0))) }
 {
     let mut far = [0; LANES];
     for t in 0..rounds.len() {
@@ -118,29 +87,28 @@ fn far_lanes(rounds: &[[i8; LANES]]) -> [u8; LANES]
     far
 }
 
-/// Counts those of one more round.
+/// Counts the symbols of one more round that are not.
 #[inline(always)]
 fn add_far(symbols: &[i8; LANES], far: &mut [u8; LANES])
-    ensures near { (n : ℕ) → n < LANES → slice_index far.new n ≡ 0 → IsNear (slice_index_or symbols.now n (pos 0)) }
-    ensures before { (n : ℕ) → n < LANES → slice_index far.new n ≡ 0 → slice_index far.old n ≡ 0 }
+    ensures { (n : ℕ) → n < LANES → (slice_index far.new n ≡ 0)
+        ↔ ((slice_index far.old n ≡ 0) × IsNear (slice_index_or symbols.now n (pos 0))) }
 {
     for n in 0..LANES {
         far[n] = one_more(far[n], symbols[n]);
     }
 }
 
-/// A count, with one more where a symbol is not near 0.
+/// A count, with one more where a symbol is not near 0, but at most 255: 0 exactly where it was and the symbol is near.
 #[inline(always)]
 fn one_more(far: u8, symbol: i8) -> u8
-    ensures near { result ≡ 0 → IsNear symbol }
-    ensures before { result ≡ 0 → far ≡ 0 }
+    ensures { (result ≡ 0) ↔ ((far ≡ 0) × IsNear symbol) }
 {
     far.saturating_add(is_far(symbol))
 }
 
-/// The sum of the lanes' counts.
+/// The sum of the lanes' counts: 0 exactly where each of them is.
 fn sum_of(far: &[u8; LANES]) -> u16
-    ensures { result ≡ 0 → (n : ℕ) → n < LANES → slice_index far.now n ≡ 0 }
+    ensures { (result ≡ 0) ↔ ((n : ℕ) → n < LANES → slice_index far.now n ≡ 0) }
 {
     let mut sum = 0;
     for n in 0..LANES {
@@ -152,42 +120,21 @@ fn sum_of(far: &[u8; LANES]) -> u16
 /// 1 where a symbol is not near 0, and else 0.
 #[inline(always)]
 fn is_far(symbol: i8) -> u8
-    ensures near { result ≡ 0 → IsNear symbol }
+    ensures near { (result ≡ 0) ↔ IsNear symbol }
     ensures small { result ≤ 1 }
 {
     (symbol > MAX_NEAR || symbol < -MAX_NEAR) as u8
 }
 
 /// Writes the marks of all rounds, and gives how the potentials differ before the first one.
-pub(crate) fn backward(scale: u8, rounds: &[[i8; LANES]], marks: &mut [[u8; LANES]]) -> Gaps
-    requires some { 0 < scale }
-    requires scale { scale ≤ MAX_NEAR_SCALE }
-    requires near { (t n : ℕ) → t < length rounds.now → n < LANES
-        → IsNear (slice_index_or (slice_index_or rounds.now t []) n (pos 0)) }
-    requires room { length marks.old ≡ length rounds.now }
-    ensures bounded { (n : ℕ) → n < LANES → IsBounded (gap_at result n) }
-    ensures gaps { (n : ℕ) → n < LANES → AreLeastGaps scale (column rounds.now n) (gap_at result n) }
-    ensures marks { (t n : ℕ) → t < length rounds.now → n < LANES
-        → AreMarks scale (column rounds.now n) t (slice_index (slice_index_or marks.new t []) n) }
-{
-    let gaps = walk(scale, rounds, marks);
-    widened(&gaps)
-}
-
-/// The walk, which gives the gaps in bytes.
 #[inline(never)]
-fn walk(scale: u8, rounds: &[[i8; LANES]], marks: &mut [[u8; LANES]]) -> NearGaps
-    requires some { 0 < scale }
-    requires scale { scale ≤ MAX_NEAR_SCALE }
-    requires near { (t n : ℕ) → t < length rounds.now → n < LANES
-        → IsNear (slice_index_or (slice_index_or rounds.now t []) n (pos 0)) }
+pub(crate) fn backward(scale: u8, rounds: &[[i8; LANES]], marks: &mut [[u8; LANES]]) -> Gaps<i8>
+    requires near { FitBytes scale rounds.now }
     requires room { length marks.old ≡ length rounds.now }
-    ensures tight { (n : ℕ) → n < LANES → IsTight (near_gap_at result n) }
-    ensures gaps { (n : ℕ) → n < LANES → AreLeastGaps scale (column rounds.now n) (near_gap_at result n) }
-    ensures marks { (t n : ℕ) → t < length rounds.now → n < LANES
-        → AreMarks scale (column rounds.now n) t (slice_index (slice_index_or marks.new t []) n) }
+    ensures tight { (n : ℕ) → n < LANES → IsTight (gap_at result n) }
+    ensures walked { AreWalked scale 0 rounds.now (gap_at result) marks.new }
 {
-    let mut gaps = NearGaps {
+    let mut gaps = Gaps {
         even: [0; LANES],
         odd: [0; LANES],
         across: [0; LANES],
@@ -200,8 +147,8 @@ fn walk(scale: u8, rounds: &[[i8; LANES]], marks: &mut [[u8; LANES]]) -> NearGap
 }
 
 /// The gaps in numbers of 16 bits.
-fn widened(gaps: &NearGaps) -> Gaps
-    ensures { (n : ℕ) → n < LANES → gap_at result n ≡ near_gap_at gaps.now n }
+pub(crate) fn widened(gaps: &Gaps<i8>) -> Gaps<i16>
+    ensures { (n : ℕ) → n < LANES → gap_at result n ≡ gap_at gaps.now n }
 {
     let mut wide = Gaps {
         even: [0; LANES],
@@ -209,14 +156,14 @@ fn widened(gaps: &NearGaps) -> Gaps
         across: [0; LANES],
     };
     for n in 0..LANES {
-        put_gap(wide_gap(lane(gaps, n)), n, &mut wide);
+        put_lane(wide_gap(lane(gaps, n)), n, &mut wide);
     }
     wide
 }
 
 /// A gap in numbers of 16 bits.
-fn wide_gap(gap: NearGap) -> Gap
-    ensures { result ≡ gap_of gap }
+fn wide_gap(gap: Gap<i8>) -> Gap<i16>
+    ensures { result ≡ gap }
 {
     Gap {
         even: gap.even as i16,
@@ -227,12 +174,12 @@ fn wide_gap(gap: NearGap) -> Gap
 
 /// One round more in front. Gives its marks.
 #[inline(always)]
-fn step_lanes(units: &NearUnits, symbols: &[i8; LANES], gaps: &mut NearGaps) -> [u8; LANES]
+fn step_lanes(units: &NearUnits, symbols: &[i8; LANES], gaps: &mut Gaps<i8>) -> [u8; LANES]
     requires near { (n : ℕ) → n < LANES → IsNear (slice_index_or symbols.now n (pos 0)) }
-    requires tight { (n : ℕ) → n < LANES → IsTight (near_gap_at gaps.old n) }
-    ensures tight { (n : ℕ) → n < LANES → IsTight (near_gap_at gaps.new n) }
+    requires tight { (n : ℕ) → n < LANES → IsTight (gap_at gaps.old n) }
+    ensures tight { (n : ℕ) → n < LANES → IsTight (gap_at gaps.new n) }
     ensures step { (n : ℕ) → n < LANES → IsStep units.now.scale (slice_index_or symbols.now n (pos 0))
-        (near_gap_at gaps.old n) (near_gap_at gaps.new n) (slice_index result n) }
+        (gap_at gaps.old n) (gap_at gaps.new n) (slice_index result n) }
 {
     let mut marks = [0; LANES];
     for n in 0..LANES {
@@ -245,39 +192,14 @@ fn step_lanes(units: &NearUnits, symbols: &[i8; LANES], gaps: &mut NearGaps) -> 
     marks
 }
 
-/// The gap of a lane.
-#[inline(always)]
-fn lane(gaps: &NearGaps, n: usize) -> NearGap
-    requires { n < LANES }
-    ensures { gap_of result ≡ near_gap_at gaps.now n }
-{
-    NearGap {
-        even: gaps.even[n],
-        odd: gaps.odd[n],
-        across: gaps.across[n],
-    }
-}
-
-/// Writes the gap of a lane.
-#[inline(always)]
-fn put_lane(gap: NearGap, n: usize, gaps: &mut NearGaps)
-    requires { n < LANES }
-    ensures written { near_gap_at gaps.new n ≡ gap_of gap }
-    ensures others { (k : ℕ) → k ≢ n → near_gap_at gaps.new k ≡ near_gap_at gaps.old k }
-{
-    gaps.even[n] = gap.even;
-    gaps.odd[n] = gap.odd;
-    gaps.across[n] = gap.across;
-}
-
 /// The gaps of the potentials before a symbol, from those behind it.
 #[inline(always)]
-fn gap_before(units: &NearUnits, symbol: i8, squares: &NearSquares, gap: NearGap) -> NearGap
-    requires squares { IsSquares units.now.scale symbol (squares_of squares.now) }
-    requires near { AreNear (squares_of squares.now) }
-    requires tight { IsTight (gap_of gap) }
-    ensures tight { IsTight (gap_of result) }
-    ensures gaps { IsBefore units.now.scale symbol (gap_of gap) (gap_of result) }
+fn gap_before(units: &NearUnits, symbol: i8, squares: &SquareGaps<i8>, gap: Gap<i8>) -> Gap<i8>
+    requires squares { IsSquares units.now.scale symbol squares.now }
+    requires near { AreNear squares.now }
+    requires tight { IsTight gap }
+    ensures tight { IsTight result }
+    ensures gaps { IsBefore units.now.scale symbol gap result }
 {
     let terms = terms_of(squares, gap);
     sums_of(squares, gap, terms)
@@ -285,11 +207,10 @@ fn gap_before(units: &NearUnits, symbol: i8, squares: &NearSquares, gap: NearGap
 
 /// The four terms of which the gaps before a symbol come.
 #[inline(always)]
-fn terms_of(squares: &NearSquares, gap: NearGap) -> NearTerms
-    requires near { AreNear (squares_of squares.now) }
-    requires tight { IsTight (gap_of gap) }
-    ensures { AreLesser (squares_of squares.now) (gap_of gap) result.even_sum result.even_minimum result.odd_sum
-        result.odd_minimum }
+fn terms_of(squares: &SquareGaps<i8>, gap: Gap<i8>) -> NearTerms
+    requires near { AreNear squares.now }
+    requires tight { IsTight gap }
+    ensures { AreLesser squares.now gap result.even_sum result.even_minimum result.odd_sum result.odd_minimum }
 {
     NearTerms {
         even_sum: capped(squares.even, gap.even),
@@ -301,11 +222,10 @@ fn terms_of(squares: &NearSquares, gap: NearGap) -> NearTerms
 
 /// The gaps that come of them.
 #[inline(always)]
-fn sums_of(squares: &NearSquares, gap: NearGap, terms: NearTerms) -> NearGap
-    requires near { AreNear (squares_of squares.now) }
-    requires tight { IsTight (gap_of gap) }
-    requires lesser { AreLesser (squares_of squares.now) (gap_of gap) terms.even_sum terms.even_minimum terms.odd_sum
-        terms.odd_minimum }
+fn sums_of(squares: &SquareGaps<i8>, gap: Gap<i8>, terms: NearTerms) -> Gap<i8>
+    requires near { AreNear squares.now }
+    requires tight { IsTight gap }
+    requires lesser { AreLesser squares.now gap terms.even_sum terms.even_minimum terms.odd_sum terms.odd_minimum }
     ensures even { result.even ≡ (squares.now.across +ℤ gap.across +ℤ terms.even_sum) -ℤ terms.odd_sum }
     ensures odd { result.odd ≡ (squares.now.across +ℤ gap.across +ℤ terms.even_minimum) -ℤ terms.odd_minimum }
     ensures across { result.across ≡ terms.odd_sum -ℤ terms.odd_minimum }
@@ -313,7 +233,7 @@ fn sums_of(squares: &NearSquares, gap: NearGap, terms: NearTerms) -> NearGap
     let step = squares.across + gap.across;
     let even = terms.even_sum - terms.odd_sum;
     let odd = terms.even_minimum - terms.odd_minimum;
-    NearGap {
+    Gap {
         even: step + even,
         odd: step + odd,
         across: terms.odd_sum - terms.odd_minimum,
@@ -339,11 +259,11 @@ fn lesser(square: i8, gap: i8) -> i8
 
 /// For each state which of the two pairs of levels that may follow it is to be taken: bit s is for state s.
 #[inline(always)]
-fn marks_of(units: &NearUnits, symbol: i8, squares: &NearSquares, gap: NearGap) -> u8
-    requires squares { IsSquares units.now.scale symbol (squares_of squares.now) }
-    requires near { AreNear (squares_of squares.now) }
-    requires tight { IsTight (gap_of gap) }
-    ensures { AreTaken units.now.scale symbol (gap_of gap) result }
+fn marks_of(units: &NearUnits, symbol: i8, squares: &SquareGaps<i8>, gap: Gap<i8>) -> u8
+    requires squares { IsSquares units.now.scale symbol squares.now }
+    requires near { AreNear squares.now }
+    requires tight { IsTight gap }
+    ensures { AreTaken units.now.scale symbol gap result }
 {
     let first = is_above(squares.even_tied + gap.even, 0);
     let second = is_above(squares.even_tied, gap.even);
@@ -362,13 +282,13 @@ fn is_above(number: i8, other: i8) -> u8
 
 /// How the squares of a symbol differ.
 #[inline(always)]
-fn differ(units: &NearUnits, symbol: i8) -> NearSquares
+fn differ(units: &NearUnits, symbol: i8) -> SquareGaps<i8>
     requires { IsNear symbol }
-    ensures gaps { IsSquares units.now.scale symbol (squares_of result) }
-    ensures near { AreNear (squares_of result) }
+    ensures gaps { IsSquares units.now.scale symbol result }
+    ensures near { AreNear result }
 {
     let odd = odd_gap(units, symbol, 0);
-    NearSquares {
+    SquareGaps {
         even: even_gap(units, symbol, 0),
         odd,
         across: across_gap(units, symbol, odd),

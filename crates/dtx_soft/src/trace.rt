@@ -2,10 +2,10 @@
 //! of the least paths.
 
 ghost use Rattle.std.specs.Prelude.{◌≡◌, ◌≢◌, ℕ, ℤ, pos, ◌+◌, ◌*◌, ◌^◌, ◌<◌, ◌≤◌};
-ghost use Rattle.std.specs.Prelude.{◌+ℤ◌, ◌≤ℤ◌, [], length, ◌==◌, if◌then◌else◌};
+ghost use Rattle.std.specs.Prelude.{◌+ℤ◌, ◌≤ℤ◌, length, ◌==◌, if◌then◌else◌};
 ghost use Rattle.std.specs.Prelude.{slice_index, slice_index_or};
 ghost use Rattle.dtx_soft.specs.Paths.{distance, squared};
-ghost use Rattle.dtx_soft.specs.Gaps.{AreLeastGaps, AreMarks, IsBounded, column, gap_at};
+ghost use Rattle.dtx_soft.specs.Gaps.{AreWalked, IsBounded, column, gap_at};
 ghost use Rattle.dtx_soft.specs.Coders.{AreLeast};
 ghost use Rattle.dtx_soft.specs.Trace.{IsMoved, IsNext, IsStand, IsStart, limit_of, low_limit};
 ghost use Rattle.dtx_soft.specs.Trace.{nearer_symbol, pair_of, shift_of, stand_at};
@@ -34,16 +34,14 @@ pub(crate) struct Stands {
 pub(crate) fn forward(
     scale: u8,
     marks: &[[u8; LANES]],
-    gaps: &Gaps,
+    gaps: &Gaps<i16>,
     rounds: &mut [[i8; LANES]],
 ) -> [u32; LANES]
     requires scale { scale ≤ MAX_SCALE }
     requires few { length rounds.old ≤ MAX_SYMBOLS }
     requires room { length marks.now ≡ length rounds.old }
     requires bounded { (n : ℕ) → n < LANES → IsBounded (gap_at gaps.now n) }
-    requires gaps { (n : ℕ) → n < LANES → AreLeastGaps scale (column rounds.old n) (gap_at gaps.now n) }
-    requires marks { (t n : ℕ) → t < length rounds.old → n < LANES
-        → AreMarks scale (column rounds.old n) t (slice_index (slice_index_or marks.now t []) n) }
+    requires walked { AreWalked scale 0 rounds.old (gap_at gaps.now) marks.now }
     ensures lanes { (n : ℕ) → n < LANES → AreLeast scale (column rounds.old n) (column rounds.new n) }
     ensures costs { (n : ℕ) → n < LANES
         → slice_index result n ≡ distance (column rounds.old n) (column rounds.new n) }
@@ -57,7 +55,7 @@ pub(crate) fn forward(
 }
 
 /// Where the least path of each lane begins.
-fn starts(gaps: &Gaps) -> Stands
+fn starts(gaps: &Gaps<i16>) -> Stands
     requires { (n : ℕ) → n < LANES → IsBounded (gap_at gaps.now n) }
     ensures { (n : ℕ) → n < LANES → IsStart (gap_at gaps.now n) (stand_at result n) }
 {
@@ -73,7 +71,7 @@ fn starts(gaps: &Gaps) -> Stands
 }
 
 /// The state with the least potential, the first of several.
-fn start_of(gap: Gap) -> Stand
+fn start_of(gap: Gap<i16>) -> Stand
     requires { IsBounded gap }
     ensures { IsStart gap result }
 {

@@ -1,9 +1,15 @@
-use Rattle.std.proofs.Common.{◌≡◌, ◌+◌, ◌-◌, IsTrue, nat_eq, get_or, drop, pos, rules, sym, subst, arith, w8}
+use Rattle.std.proofs.Common.{◌≡◌, ℕ, ℤ, ◌+◌, ◌-◌, IsTrue, nat_eq, get_or, drop, pos, rules, sym, subst, arith, w8}
+use Rattle.std.proofs.Common.{to_z, of_z}
 use mir.Val.{SFits}
 use Rattle.std.proofs.lemmas.Int.{to_z-of_z}
 use Rattle.dtx_soft.specs.Paths.{squared, symbol_at, next_state}
 use Rattle.dtx_soft.proofs.Certificates.{Costs, all_left, joined_at, nothing_left, stepped_at}
 use Rattle.dtx_soft.proofs.certificate.path_costs.Goals as goal
+
+plain_square : {square : ℕ} (symbol : ℤ) (level : ℕ) → SFits w8 symbol
+    → square ≡ squared (to_z w8 (of_z w8 symbol)) (symbol_at 1 level) → square ≡ squared symbol (symbol_at 1 level)
+plain_square {square} symbol level fits e =
+    subst (λ v. square ≡ squared v (symbol_at 1 level)) (to_z-of_z w8 symbol fits) e
 
 pub returns-then-costs-left : goal.returns-then-costs-left
 returns-then-costs-left c = (
@@ -13,14 +19,11 @@ returns-then-costs-left c = (
       absurd (omega (arith, s.enough, square))),
 )
   where
-    fits : SFits w8 (get_or c.args.symbols.now c.loop-t.t (pos 0))
-    fits = search rules
-
     square : c.squared_distance-costs.result
         ≡ squared (get_or c.args.symbols.now c.loop-t.t (pos 0)) (symbol_at 1 (get_or c.args.levels.now c.loop-t.t 0))
     square =
-        subst (λ v. c.squared_distance-costs.result ≡ squared v (symbol_at 1 (get_or c.args.levels.now c.loop-t.t 0)))
-        (to_z-of_z w8 (get_or c.args.symbols.now c.loop-t.t (pos 0)) fits) c.squared_distance-costs.ensures.square
+        plain_square (get_or c.args.symbols.now c.loop-t.t (pos 0)) (get_or c.args.levels.now c.loop-t.t 0)
+        (search rules) c.squared_distance-costs.ensures.square
 
 pub loop-t-preserved : goal.loop-t-preserved
 loop-t-preserved c = record {
@@ -28,14 +31,11 @@ loop-t-preserved c = record {
   rest = (λ h. forth h, λ h. back h);
 }
   where
-    fits : SFits w8 (get_or c.args.symbols.now c.loop-t.t (pos 0))
-    fits = search rules
-
     square : c.squared_distance-costs.result
         ≡ squared (get_or c.args.symbols.now c.loop-t.t (pos 0)) (symbol_at 1 (get_or c.args.levels.now c.loop-t.t 0))
     square =
-        subst (λ v. c.squared_distance-costs.result ≡ squared v (symbol_at 1 (get_or c.args.levels.now c.loop-t.t 0)))
-        (to_z-of_z w8 (get_or c.args.symbols.now c.loop-t.t (pos 0)) fits) c.squared_distance-costs.ensures.square
+        plain_square (get_or c.args.symbols.now c.loop-t.t (pos 0)) (get_or c.args.levels.now c.loop-t.t 0)
+        (search rules) c.squared_distance-costs.ensures.square
 
     here : Costs c.loop-t.state (drop c.loop-t.t c.args.symbols.now) (drop c.loop-t.t c.args.levels.now) c.loop-t.left
         → Costs c.next_state-state.result (drop (c.loop-t.t + 1) c.args.symbols.now)

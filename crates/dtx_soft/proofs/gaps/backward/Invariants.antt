@@ -1,6 +1,5 @@
 use Rattle.std.proofs.Common.{◌≡◌, ℕ, ◌<◌, length}
-use Rattle.dtx_soft.specs.Gaps.{IsBounded, gap_at}
-use Rattle.dtx_soft.proofs.Columns.{AreWalked}
+use Rattle.dtx_soft.specs.Gaps.{AreWalked, IsBounded, gap_at}
 use Rattle.dtx_soft.proofs.gaps.backward.Given as goal
 
 abbrev pub invariant-loop-t : goal.invariant-loop-t

@@ -78,7 +78,7 @@ returns c = record {
       c.requires.squares c.requires.small).1 lesser sums;
 }
   where
-    new : Gap
+    new : Gap ℤ
     new = record {
       even = to_z w16 (of_z w16 c.sum.result);
       odd = to_z w16 (of_z w16 c.sum-2.result);

@@ -1,78 +1,26 @@
-use Rattle.std.proofs.Common.{◌≡◌, ◌≢◌, ℕ, ℤ, pos, ◌+◌, ◌<◌, ◌⊎◌, inl, inr, get_or, slice_set, sym, ◌∙◌, subst, w8}
-use Rattle.std.proofs.Common.{to_z, of_z, arith, rules}
-use mir.Val.{SFits}
-use Rattle.std.proofs.lemmas.Bool.{cases_eq}
-use Rattle.std.proofs.lemmas.Int.{ints, to_z-of_z}
-use Rattle.std.proofs.lemmas.List.{get_or-set_same, get_or-set_other, length-set}
-use Rattle.dtx_soft.specs.Gaps.{AreTaken, IsBefore, IsBounded, IsStep, gap_at}
+use Rattle.std.proofs.Common.{pos, get_or, sym, ◌∙◌, subst, arith, rules}
+use Rattle.dtx_soft.specs.Gaps.{IsBounded, gap_at}
+use Rattle.dtx_soft.proofs.Columns.{lane_stepped}
+use Rattle.dtx_soft.proofs.GapSteps.{one_step}
 use Rattle.dtx_soft.proofs.gaps.step_lanes.Goals as goal
 
 pub gap_before-before-requires-clause-bounded : goal.gap_before-before-requires-clause-bounded
 gap_before-before-requires-clause-bounded c =
-    subst IsBounded (sym (c.lane-gap.ensures ∙ c.loop-n.invariant.left c.loop-n.n (omega arith)))
+    subst IsBounded (sym (c.lane-gap.ensures (pos 0) ∙ c.loop-n.invariant.left c.loop-n.n (omega arith)))
     (c.requires.bounded c.loop-n.n (omega arith))
 
 pub marks_of-requires-clause-bounded : goal.marks_of-requires-clause-bounded
 marks_of-requires-clause-bounded c =
-    subst IsBounded (sym (c.lane-gap.ensures ∙ c.loop-n.invariant.left c.loop-n.n (omega arith)))
+    subst IsBounded (sym (c.lane-gap.ensures (pos 0) ∙ c.loop-n.invariant.left c.loop-n.n (omega arith)))
     (c.requires.bounded c.loop-n.n (omega arith))
 
 pub loop-n-preserved : goal.loop-n-preserved
-loop-n-preserved c = record {
-  long = length-set c.loop-n.marks c.loop-n.n c.marks_of.result ∙ c.loop-n.invariant.long;
-  bounded = λ k l. bounded k l (cases_eq k c.loop-n.n);
-  done = λ k l. done k l (cases_eq k c.loop-n.n);
-  left = λ k l. c.put_lane.ensures.others k (λ e. absurd (omega arith)) ∙ c.loop-n.invariant.left k (omega arith);
-}
-  where
-    symbol : ℤ
-    symbol = get_or c.args.symbols.now c.loop-n.n (pos 0)
-
-    fits : SFits w8 (get_or c.args.symbols.now c.loop-n.n (pos 0))
-    fits = search rules
-
-    gap : c.lane-gap.result ≡ gap_at c.args.gaps.now c.loop-n.n
-    gap = c.lane-gap.ensures ∙ c.loop-n.invariant.left c.loop-n.n (omega arith)
-
-    bounded : (k : ℕ) → k < c.loop-n.n + 1 → (k ≡ c.loop-n.n) ⊎ (k ≢ c.loop-n.n)
-        → IsBounded (gap_at c.put_lane.new.gaps k)
-    bounded k l (inl e) =
-        subst (λ k. IsBounded (gap_at c.put_lane.new.gaps k)) (sym e)
-        (subst IsBounded (sym c.put_lane.ensures.written) c.gap_before-before.ensures.bounded)
-    bounded k l (inr n) =
-        subst IsBounded (sym (c.put_lane.ensures.others k n)) (c.loop-n.invariant.bounded k (omega arith))
-
-    step : IsStep c.args.units.now.scale symbol (gap_at c.args.gaps.now c.loop-n.n)
-        (gap_at c.put_lane.new.gaps c.loop-n.n) c.marks_of.result
-    step = record {
-      from = omega (arith, ints);
-      to = omega (arith, ints);
-      gaps = subst (λ v. IsBefore c.args.units.now.scale v (gap_at c.args.gaps.now c.loop-n.n)
-          (gap_at c.put_lane.new.gaps c.loop-n.n)) (to_z-of_z w8 symbol fits)
-          (subst (λ g. IsBefore c.args.units.now.scale (to_z w8 (of_z w8 symbol)) g (gap_at c.put_lane.new.gaps
-          c.loop-n.n)) gap
-          (subst (λ g. IsBefore c.args.units.now.scale (to_z w8 (of_z w8 symbol)) c.lane-gap.result g) (sym
-          c.put_lane.ensures.written)
-          c.gap_before-before.ensures.gaps));
-      taken = subst (λ v. AreTaken c.args.units.now.scale v (gap_at c.args.gaps.now c.loop-n.n) c.marks_of.result)
-          (to_z-of_z w8 symbol fits)
-          (subst (λ g. AreTaken c.args.units.now.scale (to_z w8 (of_z w8 symbol)) g c.marks_of.result) gap
-          c.marks_of.ensures);
-    }
-
-    done : (k : ℕ) → k < c.loop-n.n + 1 → (k ≡ c.loop-n.n) ⊎ (k ≢ c.loop-n.n)
-        → IsStep c.args.units.now.scale (get_or c.args.symbols.now k (pos 0)) (gap_at c.args.gaps.now k)
-        (gap_at c.put_lane.new.gaps k) (get_or (slice_set c.loop-n.marks c.loop-n.n c.marks_of.result) k 0)
-    done k l (inl e) =
-        subst (λ k. IsStep c.args.units.now.scale (get_or c.args.symbols.now k (pos 0)) (gap_at c.args.gaps.now k)
-        (gap_at c.put_lane.new.gaps k) (get_or (slice_set c.loop-n.marks c.loop-n.n c.marks_of.result) k 0)) (sym e)
-        (subst (IsStep c.args.units.now.scale symbol (gap_at c.args.gaps.now c.loop-n.n)
-        (gap_at c.put_lane.new.gaps c.loop-n.n))
-        (sym (get_or-set_same c.loop-n.marks c.loop-n.n c.marks_of.result 0 (omega (arith, c.loop-n.invariant.long))))
-        step)
-    done k l (inr n) =
-        subst (IsStep c.args.units.now.scale (get_or c.args.symbols.now k (pos 0)) (gap_at c.args.gaps.now k)
-        (gap_at c.put_lane.new.gaps k))
-        (sym (get_or-set_other c.loop-n.marks c.loop-n.n k c.marks_of.result 0 n))
-        (subst (λ g. IsStep c.args.units.now.scale (get_or c.args.symbols.now k (pos 0)) (gap_at c.args.gaps.now k) g
-        (get_or c.loop-n.marks k 0)) (sym (c.put_lane.ensures.others k n)) (c.loop-n.invariant.done k (omega arith)))
+loop-n-preserved c =
+    lane_stepped IsBounded c.args.units.now.scale c.args.symbols.now c.loop-n.n (gap_at c.args.gaps.now)
+    (gap_at c.loop-n.gaps) (gap_at c.put_lane.new.gaps) c.loop-n.marks c.marks_of.result (omega arith)
+    (λ k d. c.put_lane.ensures.others k (pos 0) d)
+    (subst IsBounded (sym (c.put_lane.ensures.written (pos 0))) c.gap_before-before.ensures.bounded)
+    (one_step c.args.units.now.scale (get_or c.args.symbols.now c.loop-n.n (pos 0)) c.lane-gap.result _
+    c.gap_before-before.result _ c.marks_of.result (search rules)
+    (c.lane-gap.ensures (pos 0) ∙ c.loop-n.invariant.left c.loop-n.n (omega arith))
+    (c.put_lane.ensures.written (pos 0)) c.gap_before-before.ensures.gaps c.marks_of.ensures) c.loop-n.invariant

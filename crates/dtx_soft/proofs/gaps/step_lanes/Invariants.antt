@@ -1,12 +1,7 @@
-use Rattle.std.proofs.Common.{◌≡◌, ℕ, ◌<◌, ◌≤◌, get_or, length, pos}
-use Rattle.dtx_soft.specs.Gaps.{IsBounded, IsStep, gap_at}
+use Rattle.dtx_soft.specs.Gaps.{IsBounded, gap_at}
+use Rattle.dtx_soft.proofs.Columns.{AreStepped}
 use Rattle.dtx_soft.proofs.gaps.step_lanes.Given as goal
 
 abbrev pub invariant-loop-n : goal.invariant-loop-n
-invariant-loop-n l = record {
-  long : length l.marks ≡ 16;
-  bounded : (k : ℕ) → k < l.n → IsBounded (gap_at l.gaps k);
-  done : (k : ℕ) → k < l.n → IsStep l.units.scale (get_or l.symbols k (pos 0)) (gap_at l.fn.gaps k) (gap_at l.gaps k)
-      (get_or l.marks k 0);
-  left : (k : ℕ) → l.n ≤ k → gap_at l.gaps k ≡ gap_at l.fn.gaps k;
-}
+invariant-loop-n l =
+    AreStepped IsBounded l.units.scale l.symbols l.n (gap_at l.fn.gaps) (gap_at l.gaps) l.marks

@@ -1,13 +1,35 @@
-use Rattle.std.proofs.Common.{sym, subst}
-use Rattle.dtx_soft.specs.Gaps.{AreLeastGaps, IsBounded, column}
-use Rattle.dtx_soft.proofs.NearGaps.{tight_bounded}
+use Rattle.std.proofs.Common.{◌≡◌, ◌-◌, pos, ◌∙◌, subst, arith}
+use Rattle.std.proofs.lemmas.List.{get_or-replicate, length-set}
+use Rattle.dtx_soft.specs.Gaps.{AreWalked, gap_at}
+use Rattle.dtx_soft.proofs.Columns.{none_walked, one_walked}
+use Rattle.dtx_soft.proofs.NearGaps.{nothing_tight}
 use Rattle.dtx_soft.proofs.near.backward.Goals as goal
 
-pub returns-clause-bounded : goal.returns-clause-bounded
-returns-clause-bounded c n l =
-    subst IsBounded (sym (c.widened.ensures n l)) (tight_bounded _ (c.walk-gaps.ensures.tight n l))
+pub loop-t-init : goal.loop-t-init
+loop-t-init c = record {
+  room = c.requires.room;
+  tight = λ n l. nothing_tight _ (get_or-replicate 16 n (pos 0) (pos 0) l)
+      (get_or-replicate 16 n (pos 0) (pos 0) l) (get_or-replicate 16 n (pos 0) (pos 0) l);
+  walked = none_walked c.args.scale c.args.rounds.now _ c.args.marks.now
+      (λ n. get_or-replicate 16 n (pos 0) (pos 0)) (λ n. get_or-replicate 16 n (pos 0) (pos 0))
+      (λ n. get_or-replicate 16 n (pos 0) (pos 0));
+}
 
-pub returns-clause-gaps : goal.returns-clause-gaps
-returns-clause-gaps c n l =
-    subst (AreLeastGaps c.args.scale (column c.args.rounds.now n)) (sym (c.widened.ensures n l))
-    (c.walk-gaps.ensures.gaps n l)
+pub step_lanes-requires-clause-near : goal.step_lanes-requires-clause-near
+step_lanes-requires-clause-near c n l = c.requires.near.near (c.loop-t.t - 1) n (omega arith) l
+
+pub loop-t-preserved : goal.loop-t-preserved
+loop-t-preserved c = record {
+  room = length-set c.loop-t.marks (c.loop-t.t - 1) c.step_lanes.result ∙ c.loop-t.invariant.room;
+  tight = c.step_lanes.ensures.tight;
+  walked = one_walked c.args.scale c.units_of-units.result.scale (c.loop-t.t - 1) c.loop-t.t c.args.rounds.now
+      (gap_at c.loop-t.gaps) (gap_at c.step_lanes.new.gaps) c.loop-t.marks c.step_lanes.result
+      c.units_of-units.ensures (omega (arith, c.requires.near.small)) (omega arith) (omega arith)
+      c.loop-t.invariant.room c.step_lanes.ensures.step c.loop-t.invariant.walked;
+}
+
+pub returns-clause-walked : goal.returns-clause-walked
+returns-clause-walked c =
+    let end : c.loop-t.t ≡ 0 = omega arith in
+    subst (λ t. AreWalked c.args.scale t c.args.rounds.now (gap_at c.loop-t.gaps) c.loop-t.marks) end
+    c.loop-t.invariant.walked

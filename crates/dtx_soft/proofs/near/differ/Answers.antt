@@ -1,5 +1,5 @@
 use Rattle.std.proofs.lemmas.Int.{to_z-of_z}
-use Rattle.std.proofs.Common.{◌∙◌, w8, ℕ, pos, rules}
+use Rattle.std.proofs.Common.{◌∙◌, w8, ℕ, ℤ, pos, rules}
 use Rattle.dtx_soft.specs.declared.gaps.SquareGaps.{SquareGaps}
 use Rattle.dtx_soft.specs.Squares.{across_of, even_of, odd_of}
 use Rattle.dtx_soft.proofs.NearGaps.{AreFormulas, byte, near_squares, seen_squares}
@@ -18,7 +18,7 @@ returns c = record {
     scale : ℕ
     scale = c.args.units.now.scale
 
-    new : SquareGaps
+    new : SquareGaps ℤ
     new = record {
       even = byte c.even_gap.result;
       odd = byte c.odd_gap-odd.result;

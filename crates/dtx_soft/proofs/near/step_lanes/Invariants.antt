@@ -1,13 +1,8 @@
-use Rattle.std.proofs.Common.{◌≡◌, ℕ, ◌<◌, ◌≤◌, get_or, length, pos}
-use Rattle.dtx_soft.specs.Gaps.{IsStep}
-use Rattle.dtx_soft.specs.Near.{IsTight, near_gap_at}
+use Rattle.dtx_soft.specs.Gaps.{gap_at}
+use Rattle.dtx_soft.specs.Near.{IsTight}
+use Rattle.dtx_soft.proofs.Columns.{AreStepped}
 use Rattle.dtx_soft.proofs.near.step_lanes.Given as goal
 
 abbrev pub invariant-loop-n : goal.invariant-loop-n
-invariant-loop-n l = record {
-  long : length l.marks ≡ 16;
-  tight : (k : ℕ) → k < l.n → IsTight (near_gap_at l.gaps k);
-  done : (k : ℕ) → k < l.n → IsStep l.units.scale (get_or l.symbols k (pos 0)) (near_gap_at l.fn.gaps k)
-      (near_gap_at l.gaps k) (get_or l.marks k 0);
-  left : (k : ℕ) → l.n ≤ k → near_gap_at l.gaps k ≡ near_gap_at l.fn.gaps k;
-}
+invariant-loop-n l =
+    AreStepped IsTight l.units.scale l.symbols l.n (gap_at l.fn.gaps) (gap_at l.gaps) l.marks

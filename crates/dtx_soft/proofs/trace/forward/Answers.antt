@@ -11,7 +11,7 @@ loop-t-init c = record {
   long = refl;
   left = λ k l. refl;
   under_way = λ n l. sets_out c.args.scale (column c.args.rounds.now n) _ _ (c.starts-stands.ensures n l)
-      (c.requires.gaps n l);
+      (c.requires.walked.gaps_are n l);
 }
 
 pub trace_lanes-requires-clause-stands : goal.trace_lanes-requires-clause-stands
@@ -31,8 +31,8 @@ loop-t-preserved c = record {
       (goes_further c.args.scale (column c.args.rounds.now n) (column c.loop-t.rounds n) c.loop-t.t
       (get_or (get_or c.args.marks.now c.loop-t.t []) n 0) (stand_at c.loop-t.stands n)
       (stand_at c.trace_lanes.new.stands n) (get_or c.trace_lanes.result n (pos 0)) c.requires.scale (within n)
-      (long n) (c.requires.marks c.loop-t.t n (omega (arith, c.loop-t.invariant.long)) l) (next n l)
-      (c.loop-t.invariant.under_way n l));
+      (long n) (c.requires.walked.marks_are c.loop-t.t n (omega arith) (omega (arith, c.loop-t.invariant.long)) l)
+      (next n l) (c.loop-t.invariant.under_way n l));
 }
   where
     within : (n : ℕ) → c.loop-t.t < length (column c.args.rounds.now n)

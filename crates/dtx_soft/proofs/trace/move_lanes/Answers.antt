@@ -1,16 +1,21 @@
-use Rattle.std.proofs.Common.{◌≡◌, ◌≢◌, ℕ, ℤ, pos, ◌+◌, ◌%◌, ◌<◌, ◌+ℤ◌, ◌≤ℤ◌, ◌⊎◌, inl, inr, get_or, slice_set, sym, ap}
+use Rattle.std.proofs.Common.{◌≡◌, ℕ, ℤ, pos, ◌+◌, ◌%◌, ◌+ℤ◌, ◌≤ℤ◌, get_or, sym, ap}
 use Rattle.std.proofs.Common.{◌∙◌, subst, w8, to_z, of_z, arith, rules}
 use mir.Val.{SFits}
-use Rattle.std.proofs.lemmas.Bool.{cases_eq}
 use Rattle.std.proofs.lemmas.Int.{to_z-of_z}
-use Rattle.std.proofs.lemmas.List.{get_or-set_same, get_or-set_other, length-set}
+use Rattle.std.proofs.lemmas.List.{length-set}
 use Rattle.dtx_soft.specs.Trace.{IsMoved, nearer_symbol, stand_at}
+use Rattle.dtx_soft.proofs.Writes.{by_entry}
 use Rattle.dtx_soft.proofs.trace.move_lanes.Goals as goal
 
 pub loop-n-preserved : goal.loop-n-preserved
 loop-n-preserved c = record {
   long = length-set c.loop-n.written c.loop-n.n _ ∙ c.loop-n.invariant.long;
-  done = λ k l. done k l (cases_eq k c.loop-n.n);
+  done = λ k l. by_entry (λ k written. IsMoved c.args.scale (get_or c.args.symbols.now k (pos 0))
+      (get_or c.args.marks.now k 0) (stand_at c.args.stands.now k) (stand_at c.put_state.new.stands k) written)
+      c.loop-n.written c.loop-n.n written (omega (arith, c.loop-n.invariant.long)) next k (pos 0)
+      (λ n. subst (λ s. IsMoved c.args.scale (get_or c.args.symbols.now k (pos 0)) (get_or c.args.marks.now k 0)
+      (stand_at c.args.stands.now k) s (get_or c.loop-n.written k (pos 0))) (sym (c.put_state.ensures.others k n))
+      (c.loop-n.invariant.done k (omega arith)));
   left = λ k l. c.put_state.ensures.others k (λ e. absurd (omega arith)) ∙ c.loop-n.invariant.left k (omega arith);
 }
   where
@@ -49,23 +54,3 @@ loop-n-preserved c = record {
         (stand_at c.put_state.new.stands c.loop-n.n) written
     next = subst (λ s. IsMoved c.args.scale symbol marks s (stand_at c.put_state.new.stands c.loop-n.n) written) stand
         plain
-
-    done : (k : ℕ) → k < c.loop-n.n + 1 → (k ≡ c.loop-n.n) ⊎ (k ≢ c.loop-n.n)
-        → IsMoved c.args.scale (get_or c.args.symbols.now k (pos 0)) (get_or c.args.marks.now k 0)
-        (stand_at c.args.stands.now k) (stand_at c.put_state.new.stands k)
-        (get_or (slice_set c.loop-n.written c.loop-n.n written) k (pos 0))
-    done k l (inl e) =
-        subst (λ k. IsMoved c.args.scale (get_or c.args.symbols.now k (pos 0)) (get_or c.args.marks.now k 0)
-        (stand_at c.args.stands.now k) (stand_at c.put_state.new.stands k)
-        (get_or (slice_set c.loop-n.written c.loop-n.n written) k (pos 0))) (sym e)
-        (subst (IsMoved c.args.scale symbol marks (stand_at c.args.stands.now c.loop-n.n)
-        (stand_at c.put_state.new.stands c.loop-n.n))
-        (sym (get_or-set_same c.loop-n.written c.loop-n.n written (pos 0)
-        (omega (arith, c.loop-n.invariant.long)))) next)
-    done k l (inr n) =
-        subst (IsMoved c.args.scale (get_or c.args.symbols.now k (pos 0)) (get_or c.args.marks.now k 0)
-        (stand_at c.args.stands.now k) (stand_at c.put_state.new.stands k))
-        (sym (get_or-set_other c.loop-n.written c.loop-n.n k written (pos 0) n))
-        (subst (λ s. IsMoved c.args.scale (get_or c.args.symbols.now k (pos 0)) (get_or c.args.marks.now k 0)
-        (stand_at c.args.stands.now k) s (get_or c.loop-n.written k (pos 0)))
-        (sym (c.put_state.ensures.others k n)) (c.loop-n.invariant.done k (omega arith)))
