@@ -14,7 +14,7 @@ use Rattle.dtx_trellis.specs.Pairs.{coder_at}
 use Rattle.dtx_soft.specs.Coders.{IsSoftened, coder_symbols, data_symbol}
 use Rattle.dtx_soft.specs.Paths.{IsPath, next_state, symbol_at}
 use Rattle.dtx_soft.specs.Softened.{IsOwn, softened, softened_segment, softened_symbol}
-use Rattle.dtx_soft.specs.SoftenedLaws.{softened_found}
+use Rattle.dtx_soft.specs.SoftenedLaws.{coder_small, length-coder, own_place, softened_found}
 use Rattle.dtx_acquire.specs.Acquired.{behind_groups, in_groups, restored_data, restored_field}
 use Rattle.dtx_acquire.specs.Sent.{IsNear}
 use Rattle.dtx_acquire.proofs.NearLevels.{times_symbol}
@@ -23,18 +23,6 @@ use Rattle.dtx_acquire.proofs.NearRows.{AreData, AreNearRows, data_drop, data_ta
 use Rattle.dtx_acquire.proofs.NearRows.{rows_restored}
 
 -- ---- places
-
-own_place : (d : ℕ) → symbol_place 0 (d / 12) (coder_at 0 d) ≡ d
-unfolding symbol_place coder_at
-own_place d = place (d / 828 % 3) (omega arith) (omega arith) (omega arith)
-  where
-    place : (x : ℕ) → x < 3 → (0 + d / 12 / 69) % 3 ≡ x → (0 + d / 828) % 3 ≡ x
-        → 12 * (d / 12) + ((d % 12 + 4 * ((0 + d / 828) % 3)) % 12 + 12 - 4 * ((0 + d / 12 / 69) % 3)) % 12 ≡ d
-    place x l e f = omega arith
-
-coder_small : (d : ℕ) → coder_at 0 d < 12
-unfolding coder_at
-coder_small d = omega arith
 
 place_small : (t e n : ℕ) → t < 69 * n → symbol_place 0 t e < 828 * n
 unfolding symbol_place
@@ -54,11 +42,6 @@ all_nearest scale [] levels e h = tt
 all_nearest scale (x ∷ symbols) [] e h = absurd (omega arith)
 all_nearest scale (x ∷ symbols) (z ∷ levels) e h =
     (h 0 (omega arith), all_nearest scale symbols levels (omega arith) (λ t l. h (suc t) (omega arith)))
-
-length-coder : (segments : List (List ℤ)) (e : ℕ) → length (coder_symbols segments e) ≡ 69 * length segments
-unfolding coder_symbols
-length-coder segments e =
-    length-map-range_with_len (λ t. data_symbol segments (symbol_place 0 t e)) 0 (69 * length segments)
 
 coder_at_turn : (segments : List (List ℤ)) (e t : ℕ) → t < 69 * length segments
     → get_or (coder_symbols segments e) t (pos 0) ≡ data_symbol segments (symbol_place 0 t e)

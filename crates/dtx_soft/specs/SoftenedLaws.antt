@@ -15,7 +15,7 @@ use Rattle.dtx_soft.specs.Softened.{least_cost, least_symbols, softened, softene
 use Rattle.dtx_soft.specs.Softened.{softened_symbol}
 
 -- where a data symbol is its coder's
-own_place : (d : ℕ) → symbol_place 0 (d / 12) (coder_at 0 d) ≡ d
+pub own_place : (d : ℕ) → symbol_place 0 (d / 12) (coder_at 0 d) ≡ d
 unfolding symbol_place coder_at
 own_place d = place (d / 828 % 3) (omega arith) (omega arith) (omega arith)
   where
@@ -23,7 +23,7 @@ own_place d = place (d / 828 % 3) (omega arith) (omega arith) (omega arith)
         → 12 * (d / 12) + ((d % 12 + 4 * ((0 + d / 828) % 3)) % 12 + 12 - 4 * ((0 + d / 12 / 69) % 3)) % 12 ≡ d
     place x l e f = omega arith
 
-coder_small : (d : ℕ) → coder_at 0 d < 12
+pub coder_small : (d : ℕ) → coder_at 0 d < 12
 unfolding coder_at
 coder_small d = omega arith
 
@@ -140,7 +140,7 @@ softened_data scale segments d l =
     (softened_symbol scale segments (828 * (d / 828) + (4 + d % 828 - 4))) (le-ltb (4 + d % 828) 4 (omega arith))
     ∙ ap (softened_symbol scale segments) same
 
-length-coder : (segments : List (List ℤ)) (e : ℕ) → length (coder_symbols segments e) ≡ 69 * length segments
+pub length-coder : (segments : List (List ℤ)) (e : ℕ) → length (coder_symbols segments e) ≡ 69 * length segments
 unfolding coder_symbols
 length-coder segments e =
     length-map-range_with_len (λ t. data_symbol segments (symbol_place 0 t e)) 0 (69 * length segments)
