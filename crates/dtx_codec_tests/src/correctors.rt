@@ -2,10 +2,10 @@
 
 mod vectors;
 
+use crate::outer_ways::ELEVEN;
 use dtx_correct::Linear;
 use dtx_fast::Fast;
 use dtx_laws::{Correct, TooMany};
-use crate::outer_ways::ELEVEN;
 use std::process::Abort;
 use vectors::{AIR, AIR_LEFT, Corrected, DVB, DVB_LEFT, PACKET, PACKET_LEFT};
 
