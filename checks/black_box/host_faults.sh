@@ -51,40 +51,49 @@ replaced by another file:cp in.ts other.ts; mv other.ts in.ts
 replaced by a folder:rm in.ts; mkdir in.ts
 end
 
-while IFS=: read -r shows do; do
-    start "an output that is $shows while it is written"
-    meanwhile "$do" out.sym excite "$room/feed.ts" 7 1000 out.sym out.log
-    is_said 12 'write fault' $?
-    is_begun "$room/piped" "$room/from_order.sym"
-done <<'end'
+# changes_are_faults TITLE PREPARE OUT WORD..: for each line SHOWS:DO of standard input, in a folder that PREPARE fills, the
+# program, given the words, answers a write fault where DO is done meanwhile. OUT, a pipe, has symbols from the order on.
+# SHOWS stands in the title in the place of %s.
+changes_are_faults() {
+    local title=$1 prepare=$2 out=$3 shows do
+    shift 3
+    while IFS=: read -r shows do; do
+        start "${title/\%s/$shows}"
+        "$prepare"
+        meanwhile "$do" "$out" "$@"
+        is_said 12 'write fault' $?
+        is_begun "$room/piped" "$room/from_order.sym"
+    done
+}
+
+changes_are_faults 'an output that is %s while it is written' : out.sym \
+    excite "$room/feed.ts" 7 1000 out.sym out.log <<'end'
 lost:rm out.log
 cut or written by another:echo more >>out.log
 replaced by another file:cp out.log other.log; mv other.log out.log
 replaced by a link to an input:ln -sf ../inputs/given.ts out.log
 end
 
-while IFS=: read -r shows do; do
-    start "a log of a network that is $shows between two of its lines"
+one_event() {
     stream 1300 s.ts
     { network s.ts && send 7 0 1300; } >plan.toml
-    meanwhile "$do" tx-7.sym net plan.toml
-    is_said 12 'write fault' $?
-    is_begun "$room/piped" "$room/from_order.sym"
-done <<'end'
+}
+
+changes_are_faults 'a log of a network that is %s between two of its lines' one_event tx-7.sym net plan.toml <<'end'
 lost:rm tx-7.log
 cut:truncate -s 5 tx-7.log
 written by another:echo more >>tx-7.log
 replaced by another file:cp tx-7.log other.log; mv other.log tx-7.log
 end
 
-while IFS=: read -r shows do; do
-    start "symbols of a network that are $shows between two events of their transmitter"
+# Those of another transmitter stand between the two.
+two_events() {
     stream 1300 s.ts
     { network s.ts && send 7 0 700 && send 9 0 1300 && send 7 700 600; } >plan.toml
-    meanwhile "$do" tx-9.sym net plan.toml
-    is_said 12 'write fault' $?
-    is_begun "$room/piped" "$room/from_order.sym"
-done <<'end'
+}
+
+changes_are_faults 'symbols of a network that are %s between two events of their transmitter' \
+    two_events tx-9.sym net plan.toml <<'end'
 lost:rm tx-7.sym
 cut:truncate -s 100000 tx-7.sym
 written by another:echo more >>tx-7.sym
