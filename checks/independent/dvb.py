@@ -12,7 +12,7 @@ import sys
 import tempfile
 
 from network import differences
-from reference import PACKET, corrected, parity_bytes, packets_of, try_each
+from reference import PACKET, corrected, packets_of, parity_bytes, try_each
 
 BLOCK, PARITY, GROUP = 204, 16, 8
 BRANCHES, STEP = 12, 17

@@ -6,7 +6,7 @@ lies.py FEED CHANGE OUT    CHANGE is a word of CHANGES; the parity bytes are rig
 
 import sys
 
-from reference import MOST, PACKET, parity_bytes, entries_at, misread
+from reference import MOST, PACKET, entries_at, misread, parity_bytes
 
 PLACE = 100 * PACKET
 # Where the fields of the data stand: kind, states and four bits of 0, stamp, maximum delay, frame, index; in kind 2 also page and number of

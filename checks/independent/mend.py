@@ -13,7 +13,7 @@ import tempfile
 
 from network import differences
 from receiver import LEVELS, SEGMENT, bytes_of, given_of, packet_of, pairs_of, places_of_runs, received, segments_of, told, words_of
-from reference import FIELD, LOGS, PACKET, PARITY, POWERS, answer_file, parity_bytes, is_codeword, kinds_missing, locator, product_of
+from reference import FIELD, LOGS, PACKET, PARITY, POWERS, answer_file, is_codeword, kinds_missing, locator, parity_bytes, product_of
 from reference import try_each, value
 from splices import coded_segments, cut_place, made_list
 

@@ -10,7 +10,7 @@ import sys
 import tempfile
 
 from exciter import spoiled, tried, with_sync
-from reference import FRAME, MOST, parity_bytes, entries_at, misread, read, refusal, spelled, try_each
+from reference import FRAME, MOST, entries_at, misread, parity_bytes, read, refusal, spelled, try_each
 
 # How many transmitters the networks have: kind 1, then kind 2 with 2, 3, 4 and 30 pages.
 SIZES = (2, 35, 36, 40, 68, 69, 130, 1020)
