@@ -1,12 +1,10 @@
--- The files of more segments, of more lines and of more notes.
+-- The files of more segments and of more lines.
 use Rattle.std.proofs.Common.{◌≡◌, ℤ, List, ◌++◌, map, ap, ◌∙◌}
 use Rattle.std.proofs.lemmas.Grind.{flat_map-append}
 use Rattle.std.proofs.lemmas.List.{map-append}
 use Rattle.dtx_coder.specs.Stream.{symbols_of}
 use Rattle.dtx_exciter.specs.Log.{Line}
 use Rattle.dtx_files.specs.LogText.{line_text, log_text}
-use Rattle.dtx_watch.specs.declared.notes.Note.{Note}
-use Rattle.dtx_files.specs.WatchText.{note_text, watch_text}
 use Rattle.dtx_files.specs.Symbols.{byte_of_symbol, segment_bytes}
 
 pub segment_bytes-append : (xs ys : List (List ℤ)) → segment_bytes (xs ++ ys) ≡ segment_bytes xs ++ segment_bytes ys
@@ -15,6 +13,3 @@ segment_bytes-append xs ys = ap (map byte_of_symbol) (flat_map-append (λ (s : L
 
 pub log_text-append : (xs ys : List Line) → log_text (xs ++ ys) ≡ log_text xs ++ log_text ys
 log_text-append xs ys = flat_map-append line_text xs ys
-
-pub watch_text-append : (xs ys : List Note) → watch_text (xs ++ ys) ≡ watch_text xs ++ watch_text ys
-watch_text-append xs ys = flat_map-append note_text xs ys

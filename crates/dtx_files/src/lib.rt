@@ -4,8 +4,6 @@
 pub mod laws;
 mod log_text;
 mod symbols;
-mod watch_text;
 
 pub use log_text::{LOG_LINE, write_line, write_restart};
 pub use symbols::{bring, to_bytes};
-pub use watch_text::{WATCH_LINE, write_note};

@@ -15,7 +15,6 @@ use Rattle.std.proofs.lemmas.List.Sums.{sum_by-cons}
 use Rattle.dtx_lists.proofs.RangeMoved.{flat_map-range_same}
 use Rattle.dtx_engine.specs.Made.{only, outputs_of}
 use Rattle.dtx_engine.specs.Recipe.{meaning_of_file}
-use Rattle.dtx_files.specs.WatchText.{note_text, watch_text}
 use Rattle.dtx_meaning.specs.Meaning.{Meaning}
 use Rattle.dtx_meaning.specs.declared.status.Status.TheVariants.{Done}
 use Rattle.dtx_ops.specs.Reading.{reading, unless}
@@ -29,6 +28,7 @@ use Rattle.dtx_packets.specs.Packets.{packets_of, whole_packets}
 use Rattle.dtx_watch.specs.Sound.{IsSoundAt, IsSoundFeed, IsCalmOps, IsCalm, IsCalmAt}
 use Rattle.dtx_watch.specs.SoundLaws.{calm}
 use Rattle.dtx_watch.specs.Watch.{notes_at, notes_to, watch}
+use Rattle.dtx_watch.specs.WatchText.{note_text, watch_text}
 use Rattle.dtx_watch.specs.declared.notes.ClockNote.{ClockNote}
 use Rattle.dtx_watch.specs.declared.notes.ClockNote.TheVariants as clock
 use Rattle.dtx_watch.specs.declared.notes.Note.{Note}

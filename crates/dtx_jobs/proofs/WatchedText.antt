@@ -7,16 +7,15 @@ use Rattle.std.specs.Str.{bytes_eq}
 use Rattle.std.proofs.lemmas.List.Sums.{sum_by-append, sum_by-cons}
 use Rattle.dtx_engine.specs.Made.{only, outputs_of}
 use Rattle.dtx_engine.specs.Recipe.{first_refused, meaning_of_file}
-use Rattle.dtx_files.specs.AppendedLaws.{watch_text-append}
-use Rattle.dtx_files.specs.WatchLines.{first_word, later_words, lines_with, note_words}
-use Rattle.dtx_files.specs.WatchLinesLaws.{words_of-watch_text}
-use Rattle.dtx_files.specs.WatchText.{states_word, clock_word, watch_text}
 use Rattle.dtx_meaning.specs.Meaning.{Meaning}
 use Rattle.dtx_meaning.specs.declared.status.Status.TheVariants.{Done}
 use Rattle.dtx_packets.specs.PacketLaws.{packets_of-piece}
 use Rattle.dtx_packets.specs.Packets.{packets_of, whole_packets}
 use Rattle.dtx_watch.specs.ToldLaws.{all_told}
 use Rattle.dtx_watch.specs.Watch.{watch, told, waiting}
+use Rattle.dtx_watch.specs.WatchLines.{first_word, later_words, lines_with, note_words}
+use Rattle.dtx_watch.specs.WatchLinesLaws.{watch_text-append, words_of-watch_text}
+use Rattle.dtx_watch.specs.WatchText.{states_word, clock_word, watch_text}
 use Rattle.dtx_watch.specs.declared.notes.ClockNote.{ClockNote}
 use Rattle.dtx_watch.specs.declared.notes.ClockNote.TheVariants as clock
 use Rattle.dtx_watch.specs.declared.notes.Note.{Note}

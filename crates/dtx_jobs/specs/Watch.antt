@@ -3,13 +3,13 @@ use Rattle.std.specs.Prelude.{ℕ, true, List, [], ◌∷◌, length}
 use Rattle.std.specs.List.{sum_by}
 use Rattle.dtx_engine.specs.Made.{only}
 use Rattle.dtx_engine.specs.Recipe.{Recipe, transformed}
-use Rattle.dtx_files.specs.WatchText.{watch_text}
 use Rattle.dtx_meaning.specs.Meaning.{Meaning, refused}
 use Rattle.dtx_meaning.specs.declared.status.Outcome.{Outcome}
 use Rattle.dtx_meaning.specs.declared.status.Status.TheVariants.{Done, Usage}
 use Rattle.dtx_outside.specs.Shelf.{Files}
 use Rattle.dtx_packets.specs.Packets.{packets_of}
 use Rattle.dtx_watch.specs.Watch.{watch, told, waiting}
+use Rattle.dtx_watch.specs.WatchText.{watch_text}
 use Rattle.dtx_watch.specs.declared.notes.Note.{Note}
 use Rattle.dtx_watch.specs.declared.notes.What.{What}
 use Rattle.dtx_watch.specs.declared.notes.What.TheVariants.{Unread, Stray, Ops}

@@ -7,13 +7,13 @@ use Rattle.std.proofs.lemmas.List.{length-append, append-nil, append_assoc}
 use Rattle.std.proofs.lemmas.List.Sums.{sum_by-append, sum_by-cons}
 use Rattle.dtx_engine.specs.Made.{only, AreFrontsOf}
 use Rattle.dtx_exciter.specs.Packets.{anchor_of, group_part}
-use Rattle.dtx_files.specs.AppendedLaws.{watch_text-append}
-use Rattle.dtx_files.specs.WatchText.{note_text, watch_text}
 use Rattle.dtx_packets.specs.PacketLaws.{packets_of-append}
 use Rattle.dtx_packets.specs.Packets.{packets_of}
 use Rattle.dtx_watch.specs.Notes.{lock_note, one_or_none}
 use Rattle.dtx_watch.specs.ToldLaws.{nothing_told, told_further, to_parts}
 use Rattle.dtx_watch.specs.Watch.{reading_note, notes_at, notes_to, told, waiting}
+use Rattle.dtx_watch.specs.WatchLinesLaws.{watch_text-append}
+use Rattle.dtx_watch.specs.WatchText.{note_text, watch_text}
 use Rattle.dtx_watch.specs.declared.notes.Note.{Note}
 use Rattle.dtx_watch.specs.declared.notes.What.{What}
 use Rattle.dtx_watch.specs.declared.notes.What.TheVariants.{Lock, Lost, Unread, Stray, Ops}

@@ -2,8 +2,6 @@
 use Rattle.std.specs.Prelude.{◌≡◌, ℕ, ◌%◌, ◌==◌, Ok, List, [], ◌∷◌, ◌++◌, codes, length, slice_index_or}
 use Rattle.std.specs.List.{Contains, filter, flat_map, range_with_len}
 use Rattle.dtx_engine.specs.Made.{only, outputs_of}
-use Rattle.dtx_files.specs.WatchLines.{lines_with}
-use Rattle.dtx_files.specs.WatchText.{note_text, watch_text}
 use Rattle.dtx_meaning.specs.Meaning.{Meaning}
 use Rattle.dtx_meaning.specs.declared.status.Status.TheVariants.{Done}
 use Rattle.dtx_ops.specs.Reading.{reading}
@@ -12,6 +10,8 @@ use Rattle.dtx_packets.specs.Packet.{pid_of}
 use Rattle.dtx_packets.specs.Packets.{packets_of, whole_packets}
 use Rattle.dtx_watch.specs.Sound.{IsCalmOps}
 use Rattle.dtx_watch.specs.Watch.{watch}
+use Rattle.dtx_watch.specs.WatchLines.{lines_with}
+use Rattle.dtx_watch.specs.WatchText.{note_text, watch_text}
 use Rattle.dtx_watch.specs.declared.notes.Note.{Note}
 use Rattle.dtx_watch.specs.declared.notes.OpsNote.{OpsNote}
 use Rattle.dtx_watch.specs.declared.notes.What.TheVariants.{Ops as OpsAt}

@@ -1,7 +1,7 @@
 // A feed that is watched, a piece of its packets at a time.
 ghost use Rattle.std.specs.Prelude.{◌≡◌, ◌+◌, ◌*◌, ◌/◌, ◌<◌, ◌≤◌, ◌++◌, ◌∷◌, [], ℕ, List, IfOk, length};
-ghost use Rattle.dtx_files.specs.WatchText.{note_text, watch_text};
 ghost use Rattle.dtx_packets.specs.Packets.{packets_of};
+ghost use Rattle.dtx_watch.specs.WatchText.{note_text, watch_text};
 ghost use Rattle.dtx_jobs.specs.Watch.{watched_bytes};
 ghost use Rattle.dtx_jobs.specs.Watching.{HasRoom, IsWatched, WasWatched, tally_of_one, tally_with};
 
@@ -9,11 +9,10 @@ use crate::shapes::single_packets;
 use crate::watch_tally::WatchTally;
 use arrayvec::{ArrayString, ArrayVec};
 use dtx_engine::{Buffer, Engine, Shape};
-use dtx_files::{WATCH_LINE, write_note};
 use dtx_meaning::{Outcome, Status};
 use dtx_packets::{PIECE_PACKETS, Packet};
 use dtx_sizes::{MOST_PACKETS, PACKET};
-use dtx_watch::{MOST_NOTES, Note, Watcher};
+use dtx_watch::{MOST_NOTES, Note, WATCH_LINE, Watcher, write_note};
 use std::alloc::{AllocError, Global};
 
 /// How many bytes the lines that one packet brings have at most.

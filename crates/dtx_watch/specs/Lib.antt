@@ -8,3 +8,6 @@ pub mod GroupsLaws
 pub mod ToldLaws
 pub mod Sound
 pub mod SoundLaws
+pub mod WatchText
+pub mod WatchLines
+pub mod WatchLinesLaws

@@ -1,11 +1,13 @@
-//! Laws of what is told of a feed.
+//! Laws of what is told of a feed, and of its text.
 
-ghost use Rattle.std.specs.Prelude.{◌≡◌, ℕ, ◌*◌, ◌+◌, ◌-◌, ◌/◌, ◌%◌, ◌<◌, ◌≤◌, ◌++◌, [], Some, List, length, take};
-ghost use Rattle.std.specs.Prelude.{drop};
+ghost use Rattle.std.specs.Prelude.{◌≡◌, ℕ, ◌*◌, ◌+◌, ◌-◌, ◌/◌, ◌%◌, ◌<◌, ◌≤◌, ◌++◌, ◌∷◌, [], Some, List, length};
+ghost use Rattle.std.specs.Prelude.{drop, map, take};
 ghost use Rattle.dtx_exciter.specs.Packets.{anchor_of, group_part};
 ghost use Rattle.dtx_watch.specs.declared.notes.Note.{Note};
 ghost use Rattle.dtx_watch.specs.Sound.{IsSoundFeed, IsCalmAt};
 ghost use Rattle.dtx_watch.specs.Watch.{notes_at, told, waiting, watch};
+ghost use Rattle.dtx_watch.specs.WatchLines.{note_words, words_of_lines};
+ghost use Rattle.dtx_watch.specs.WatchText.{watch_text};
 
 /// Of no packets nothing is told. What is told of some packets before their end stays with any more of them, and behind
 /// it comes what is told of these; and with what waits for the end of the group at hand it is all that is told.
@@ -30,4 +32,10 @@ pub fn notes_stay()
 pub fn sound_feeds_are_calm()
     ensures { (start most mark k : ℕ) (feed : List (List ℕ)) → IsSoundFeed start most feed → mark % 624 ≡ 0
         → mark < length feed → k < length (drop mark feed) → IsCalmAt (drop mark feed) k }
+{}
+
+/// Cut at its line feeds, and each line at its spaces, the text of notes has the words of each note, in the notes'
+/// order, and nothing behind the last line feed.
+pub fn watch_text_has_the_words_of_its_notes()
+    ensures { (notes : List Note) → words_of_lines (watch_text notes) ≡ map note_words notes ++ ([] ∷ []) ∷ [] }
 {}

@@ -2,9 +2,9 @@
 
 ghost use Rattle.std.specs.Prelude.{◌≡◌, ◌%◌, ◌<◌, ◌≤◌, ℕ, List, drop, length};
 ghost use Rattle.dtx_engine.specs.Recipe.{meaning_of_file};
-ghost use Rattle.dtx_files.specs.WatchText.{watch_text};
 ghost use Rattle.dtx_packets.specs.Packets.{packets_of, whole_packets};
 ghost use Rattle.dtx_watch.specs.Sound.{IsSoundFeed};
+ghost use Rattle.dtx_watch.specs.WatchText.{watch_text};
 ghost use Rattle.dtx_watch.specs.declared.notes.Note.{Note};
 ghost use Rattle.dtx_jobs.specs.Shapes as shapes;
 ghost use Rattle.dtx_jobs.specs.Watch.{watch_tally, watching};

@@ -1,6 +1,6 @@
 use Rattle.std.proofs.Common.{◌≡◌, ◌<◌, ◌≤◌, ◌+◌, ◌++◌, [], List, length, take, get_or, sym, ap, ◌∙◌, arith, subst}
 use Rattle.std.proofs.lemmas.List.{append-nil, length-take-le, take_all}
-use Rattle.dtx_files.specs.WatchText.{watch_text}
+use Rattle.dtx_watch.specs.WatchText.{watch_text}
 use Rattle.dtx_watch.specs.declared.notes.Note.{Note}
 use Rattle.dtx_watch.specs.declared.notes.What.TheVariants.{Lock}
 use Rattle.dtx_jobs.specs.Watching.{HasRoom, tally_with}

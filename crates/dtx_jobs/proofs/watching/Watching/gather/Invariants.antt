@@ -1,5 +1,5 @@
 use Rattle.std.proofs.Common.{◌≡◌, ◌≤◌, ◌+◌, ◌*◌, ◌++◌, length, take}
-use Rattle.dtx_files.specs.WatchText.{watch_text}
+use Rattle.dtx_watch.specs.WatchText.{watch_text}
 use Rattle.dtx_jobs.specs.Watching.{tally_with}
 use Rattle.dtx_jobs.proofs.watching.Watching.gather.Given as goal
 

@@ -1,8 +1,8 @@
 use Rattle.std.proofs.Common.{◌≡◌, ◌+◌, ◌∷◌, ◌++◌, [], ℕ, List, length, sym, ap, ap₂, subst, ◌∙◌, arith, append_assoc}
 use Rattle.std.proofs.lemmas.List.{length_push}
-use Rattle.dtx_files.specs.WatchText.{watch_text}
 use Rattle.dtx_watch.specs.Kept.{StandsFor}
 use Rattle.dtx_watch.specs.Watch.{told}
+use Rattle.dtx_watch.specs.WatchText.{watch_text}
 use Rattle.dtx_watch.specs.declared.notes.Note.{Note}
 use Rattle.dtx_jobs.specs.Watch.{watch_tally}
 use Rattle.dtx_jobs.specs.Watching.{tally_with}

@@ -5,7 +5,7 @@ use Rattle.std.specs.Str.{bytes_eq}
 use Rattle.dtx_watch.specs.declared.notes.Note.{Note}
 use Rattle.dtx_watch.specs.declared.notes.What.{What}
 use Rattle.dtx_watch.specs.declared.notes.What.TheVariants as what
-use Rattle.dtx_files.specs.WatchText.{rule_number, states_word, clock_word}
+use Rattle.dtx_watch.specs.WatchText.{rule_number, states_word, clock_word}
 
 -- the words of each line of a text: it is cut at its line feeds, and each line at its spaces; what stands behind the
 -- last line feed counts as a line too

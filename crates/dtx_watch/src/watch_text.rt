@@ -1,17 +1,16 @@
 // The text of what is told of a feed.
 ghost use Rattle.std.specs.Prelude.{◌≡◌, ◌+◌, ◌*◌, ◌≤◌, ◌++◌, length, codes, decimal};
-ghost use Rattle.dtx_files.specs.WatchText.{rule_number, states_word, clock_word, numbers_text};
-ghost use Rattle.dtx_files.specs.WatchText.{note_head, note_end, note_text};
+ghost use Rattle.dtx_watch.specs.WatchText.{rule_number, states_word, clock_word, numbers_text};
+ghost use Rattle.dtx_watch.specs.WatchText.{note_head, note_end, note_text};
 ghost use Rattle.dtx_watch.specs.declared.notes.What.TheVariants.{Ops};
 
+use crate::notes::{ClockNote, Note, OpsNote, StatesNote, What};
 use arrayvec::ArrayString;
 use dtx_ops::OpsNo;
-use dtx_watch::{ClockNote, Note, OpsNote, StatesNote, What};
 use itoa::Buffer;
 
 /// How many bytes a line has room for: a word of 8 letters at most, six numbers of 64 bits with a space before each,
-/// two
-/// words of 5 letters with a space before each, and a line feed.
+/// two words of 5 letters with a space before each, and a line feed.
 pub const WATCH_LINE: usize = 148;
 
 /// Sets the text to the line of a note (the profile's own).

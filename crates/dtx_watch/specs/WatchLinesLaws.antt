@@ -1,4 +1,4 @@
--- The words of a watcher's text are those of its notes.
+-- Laws of a watcher's text: that of more notes goes on behind, and its words are those of its notes.
 use Rattle.std.proofs.Common.{◌≡◌, ℕ, zero, suc, ◌+◌, ◌/◌, ◌%◌, ◌≤◌, ◌==◌, Bool, true, false, cond, List, [], ◌∷◌}
 use Rattle.std.proofs.Common.{◌++◌, map, refl, sym, ap, ap₂, ◌∙◌, arith}
 use Rattle.std.specs.Prelude.{codes, decimal, nat_lt}
@@ -16,8 +16,13 @@ use Rattle.dtx_watch.specs.declared.notes.StatesNote.{StatesNote}
 use Rattle.dtx_watch.specs.declared.notes.StatesNote.TheVariants as states
 use Rattle.dtx_watch.specs.declared.notes.What.{What}
 use Rattle.dtx_watch.specs.declared.notes.What.TheVariants as what
-use Rattle.dtx_files.specs.WatchLines.{words_of_lines, first_word, later_words, note_words}
-use Rattle.dtx_files.specs.WatchText.{states_word, clock_word, note_head, note_end, note_text, watch_text}
+use Rattle.dtx_watch.specs.WatchLines.{words_of_lines, first_word, later_words, note_words}
+use Rattle.dtx_watch.specs.WatchText.{states_word, clock_word, note_head, note_end, note_text, watch_text}
+
+-- ---- more notes
+
+pub watch_text-append : (xs ys : List Note) → watch_text (xs ++ ys) ≡ watch_text xs ++ watch_text ys
+watch_text-append xs ys = flat_map-append note_text xs ys
 
 -- ---- words
 

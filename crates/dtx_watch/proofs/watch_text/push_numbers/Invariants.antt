@@ -1,6 +1,6 @@
 use Rattle.std.proofs.Common.{◌≡◌, ◌+◌, ◌*◌, ◌≤◌, ◌++◌, length, take}
-use Rattle.dtx_files.specs.WatchText.{numbers_text}
-use Rattle.dtx_files.proofs.watch_text.push_numbers.Given as goal
+use Rattle.dtx_watch.specs.WatchText.{numbers_text}
+use Rattle.dtx_watch.proofs.watch_text.push_numbers.Given as goal
 
 abbrev pub invariant-loop-number : goal.invariant-loop-number
 invariant-loop-number l = record {

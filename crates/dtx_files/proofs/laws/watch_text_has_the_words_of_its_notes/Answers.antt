@@ -1,5 +1,0 @@
-use Rattle.dtx_files.specs.WatchLinesLaws.{words_of-watch_text}
-use Rattle.dtx_files.proofs.laws.watch_text_has_the_words_of_its_notes.Goals as goal
-
-pub returns : goal.returns
-returns c = words_of-watch_text
