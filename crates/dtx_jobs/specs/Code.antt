@@ -9,7 +9,7 @@ use Rattle.dtx_meaning.specs.declared.status.Status.TheVariants.{Done, Usage}
 use Rattle.dtx_outside.specs.Shelf.{Files}
 use Rattle.dtx_packets.specs.Packet.{sync_of}
 use Rattle.dtx_packets.specs.Packets.{packets_of, whole_packets}
-use Rattle.dtx_jobs.specs.Shapes.{packets}
+use Rattle.dtx_jobs.specs.Shapes.{coded_packets}
 use Rattle.dtx_jobs.specs.Symbols.{symbol_bytes}
 
 -- a packet that may be coded: its byte 0, which isn't sent, is 0x47 or the mark 0xB8
@@ -35,5 +35,5 @@ coding = record {
 
 -- what `code IN OUT` means
 abbrev pub code_meaning : List (List ℕ) → Files → Meaning
-code_meaning (verb ∷ input ∷ output ∷ []) held = transformed packets coding input output held
+code_meaning (verb ∷ input ∷ output ∷ []) held = transformed coded_packets coding input output held
 code_meaning words held = refused Usage

@@ -8,7 +8,7 @@ use Rattle.dtx_meaning.specs.declared.status.Status.TheVariants.{Done}
 use Rattle.dtx_outside.specs.Shelf.{Files}
 use Rattle.dtx_packets.specs.Packets.{packets_of}
 use Rattle.dtx_jobs.specs.Life.{life_numbers, life_tally, logged_bytes, sent_bytes}
-use Rattle.dtx_jobs.specs.Shapes.{single_packets}
+use Rattle.dtx_jobs.specs.Shapes.{coded_packets}
 use Rattle.dtx_jobs.specs.Transmit.{transmit_meaning}
 
 -- the symbols that the transmitter with this address and delay sends, and its log
@@ -34,4 +34,4 @@ exciting address delay = record {
 
 -- what `excite FEED ADDRESS DELAY OUT LOG` means
 abbrev pub excite_meaning : List (List ℕ) → Files → Meaning
-excite_meaning words held = transmit_meaning single_packets exciting words held
+excite_meaning words held = transmit_meaning coded_packets exciting words held

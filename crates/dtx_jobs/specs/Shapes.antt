@@ -5,6 +5,10 @@ use Rattle.dtx_engine.specs.declared.engine.Shape.{Shape}
 abbrev pub packets : Shape
 packets = record { unit = 188; units = 348; group = 4; limit = 624000000 }
 
+-- packets of 188 bytes that are coded, in groups of four
+abbrev pub coded_packets : Shape
+coded_packets = record { unit = 188; units = 176; group = 4; limit = 624000000 }
+
 -- packets of 188 bytes, each for itself
 abbrev pub single_packets : Shape
 single_packets = record { unit = 188; units = 348; group = 1; limit = 624000000 }

@@ -38,7 +38,7 @@ pub fn code<S: Shelf>(alloc: Global, words: &[Word], shelf: &mut S) -> Outcome
 #[inline(never)]
 fn code_files<S: Shelf>(alloc: Global, input: &str, output: &str, shelf: &mut S) -> Outcome
     ensures carried { IfSome (S.files shelf.old) (λ held. IsCarriedOut
-        (transformed shapes.packets coding input.now output.now held) (Some held) result (S.files shelf.new)) }
+        (transformed shapes.coded_packets coding input.now output.now held) (Some held) result (S.files shelf.new)) }
     ensures words { IsOfInputs (bytes_eq input.now output.now) 1 result.status }
     ensures answers { Knows command.Code result.status }
     ensures gone { HasGone (S.counts shelf.old) (S.counts shelf.new) (blame_of result.status) }

@@ -6,7 +6,7 @@ ghost use Rattle.dtx_jobs.specs.Excitation.{IsLife};
 ghost use Rattle.dtx_jobs.specs.Life.{sent_bytes, logged_bytes};
 
 use crate::sending::Sending;
-use crate::shapes::single_packets;
+use crate::shapes::{CODED_PACKETS, coded_packets};
 use crate::transmitting::Transmitting;
 use dtx_coder::AIR_SYMBOLS;
 use dtx_engine::{Engine, Shape};
@@ -14,16 +14,16 @@ use dtx_exciter::Exciter;
 use dtx_exciter::laws::groups_are_spaced;
 use dtx_files::LOG_LINE;
 use dtx_meaning::{Outcome, Status};
-use dtx_packets::{PIECE_PACKETS, Packet};
+use dtx_packets::Packet;
 use dtx_sizes::{GROUP_PACKETS, MOST_PACKETS, PACKET};
 use std::alloc::{AllocError, Global};
 
 /// How many symbols an exciter sends for the packets of a piece at most: those of its whole groups, and of one that
 /// began before it; and room for one group more.
-const SENT_BYTES: usize = AIR_SYMBOLS * (PIECE_PACKETS / GROUP_PACKETS + 2);
+const SENT_BYTES: usize = AIR_SYMBOLS * (CODED_PACKETS / GROUP_PACKETS + 2);
 
 /// How many bytes their lines in the log have at most.
-const LOGGED_BYTES: usize = LOG_LINE * PIECE_PACKETS;
+const LOGGED_BYTES: usize = LOG_LINE * CODED_PACKETS;
 
 /// An exciter with what the last piece brought, and the numbers of all.
 #[derive(Drop)]
@@ -39,7 +39,7 @@ impl Excitation {
     fn take_all(&mut self, bytes: &[u8])
         requires some { (before : List (List ℕ)) × IsLife self.old before }
         requires most { self.old.sending.tally.packets + length bytes.now / PACKET ≤ MOST_PACKETS }
-        requires room { length bytes.now ≤ PACKET * PIECE_PACKETS }
+        requires room { length bytes.now ≤ PACKET * CODED_PACKETS }
         requires no_symbols { self.old.sending.symbols ≡ [] }
         requires no_lines { self.old.sending.lines ≡ [] }
         ensures address { self.new.address ≡ self.old.address }
@@ -97,7 +97,7 @@ impl Engine for Excitation {
     ghost use Rattle.dtx_jobs.specs.ExciteLaws.{excites_none, excites_more};
     ghost use Rattle.dtx_jobs.specs.Shapes as shapes;
 
-    ghost shape = { shapes.single_packets };
+    ghost shape = { shapes.coded_packets };
 
     ghost recipe = { λ s. exciting s.address s.delay };
 
@@ -106,7 +106,7 @@ impl Engine for Excitation {
     ghost gives = { λ s _. record { first = s.sending.symbols; second = s.sending.lines } };
 
     fn sizes(&self) -> Shape {
-        single_packets()
+        coded_packets()
     }
 
     fn allows(&self, _index: u64, _unit: &[u8]) -> bool {

@@ -26,6 +26,24 @@ pub fn packets() -> Shape
     }
 }
 
+/// How many packets are read at once where symbols are made of them: the 146,432 of their groups are more than a piece
+/// of the output, so that they go to its file without being gathered, but for parts of a page. More packets would save
+/// few calls of the system, and hold more memory.
+pub const CODED_PACKETS: usize = 176;
+
+/// Packets of 188 bytes that are coded, in groups of four.
+pub fn coded_packets() -> Shape
+    ensures same { result ≡ shapes.coded_packets }
+    ensures sound { IsSound result }
+{
+    Shape {
+        unit: PACKET,
+        units: CODED_PACKETS,
+        group: GROUP_PACKETS as u64,
+        limit: MOST_PACKETS,
+    }
+}
+
 /// Packets of 188 bytes, each for itself.
 pub fn single_packets() -> Shape
     ensures same { result ≡ shapes.single_packets }

@@ -6,12 +6,12 @@ ghost use Rattle.dtx_packets.specs.Packets.{packets_of, packets_from};
 ghost use Rattle.dtx_jobs.specs.StreamCoder.{WasCoded};
 ghost use Rattle.dtx_jobs.specs.Symbols.{symbol_bytes};
 
-use crate::shapes::packets;
+use crate::shapes::{CODED_PACKETS, coded_packets};
 use crate::symbol_buffer::SymbolBuffer;
 use dtx_coder::{AIR_SYMBOLS, Air, Coder};
 use dtx_engine::{Engine, Shape};
 use dtx_meaning::{Outcome, Status};
-use dtx_packets::{PIECE_PACKETS, Packet};
+use dtx_packets::Packet;
 use dtx_sizes::{
     FIELD_PACKETS, FieldPlace, GROUP_PACKETS, MARK, MOST_PACKETS, PACKET, SEGMENT, SYNC,
     field_place,
@@ -25,7 +25,7 @@ const FIELD_GROUPS: u64 = (FIELD_PACKETS as usize / GROUP_PACKETS) as u64;
 const GROUP_BYTES: usize = PACKET * GROUP_PACKETS;
 
 /// How many symbols the groups of a piece have at most.
-const CODED_BYTES: usize = AIR_SYMBOLS * (PIECE_PACKETS / GROUP_PACKETS);
+const CODED_BYTES: usize = AIR_SYMBOLS * (CODED_PACKETS / GROUP_PACKETS);
 
 /// Codes a stream. Each piece begins with a group, and the packets behind the last whole group of the stream are not
 /// sent.
@@ -57,7 +57,7 @@ impl StreamCoder {
     /// Codes the whole groups of a piece, whose first packet has that number.
     fn code_groups(&mut self, first: u64, bytes: &[u8])
         requires grouped { first % GROUP_PACKETS ≡ 0 }
-        requires room { length bytes.now ≤ PACKET * PIECE_PACKETS }
+        requires room { length bytes.now ≤ PACKET * CODED_PACKETS }
         requires most { first + length bytes.now / PACKET ≤ MOST_PACKETS }
         requires empty { self.old.symbols ≡ [] }
         ensures coder { (before : List (List ℕ)) → length before ≡ first → StandsFor self.old.coder.value before
@@ -104,7 +104,7 @@ impl Engine for StreamCoder {
     ghost use Rattle.dtx_jobs.specs.Shapes as shapes;
     ghost use Rattle.dtx_jobs.specs.StreamCoder.{WasCoded};
 
-    ghost shape = { shapes.packets };
+    ghost shape = { shapes.coded_packets };
 
     ghost recipe = { λ _. coding };
 
@@ -113,7 +113,7 @@ impl Engine for StreamCoder {
     ghost gives = { λ s _. only s.symbols };
 
     fn sizes(&self) -> Shape {
-        packets()
+        coded_packets()
     }
 
     fn allows(&self, _index: u64, unit: &[u8]) -> bool {
