@@ -4,8 +4,6 @@
 #[cfg(test)]
 mod acquire;
 #[cfg(test)]
-mod chain;
-#[cfg(test)]
 mod coder;
 #[cfg(test)]
 mod collect;
@@ -26,15 +24,13 @@ mod galois;
 #[cfg(test)]
 mod least_paths;
 #[cfg(test)]
+mod made;
+#[cfg(test)]
 mod mend_receiver;
 #[cfg(test)]
+mod outer_back;
+#[cfg(test)]
 mod outer_blocks;
-#[cfg(test)]
-mod outer_coding;
-#[cfg(test)]
-mod outer_ways;
-#[cfg(test)]
-mod plain_paths;
 #[cfg(test)]
 mod polynomial;
 #[cfg(test)]
