@@ -1,5 +1,6 @@
 // Zeros, and a short capture with something in front.
 
+use crate::made::segment_of;
 use dtx_acquire::Acquirer;
 use dtx_frame::field_sync;
 use dtx_sizes::{PRECODE, SEGMENT};
@@ -17,19 +18,12 @@ fn sync() -> [i8; SEGMENT] {
     sync
 }
 
-/// A data segment whose data symbols are all 1.
-fn ones() -> [i8; SEGMENT] {
-    let mut segment = [1; SEGMENT];
-    segment[..4].copy_from_slice(&[5, -5, -5, 5]);
-    segment
-}
-
 /// Zeros, the field sync, and the data segments.
 fn capture() -> [i8; FRONT + SEGMENT * (DATA + 1)] {
     let mut all = [0; FRONT + SEGMENT * (DATA + 1)];
     let (segments, _) = all[FRONT..].as_chunks_mut::<SEGMENT>();
     for segment in segments.iter_mut() {
-        *segment = ones();
+        *segment = segment_of(1);
     }
     if let Some(first) = segments.first_mut() {
         *first = sync();
@@ -37,11 +31,14 @@ fn capture() -> [i8; FRONT + SEGMENT * (DATA + 1)] {
     all
 }
 
+fn zeros() -> [i8; 2000] {
+    [0; 2000]
+}
+
 #[test]
 fn of_zeros_nothing_is_acquired(rt: HostRuntime) -> Result<(), Fail> {
     let mut acquirer = Acquirer::new(rt.alloc(), 1)?;
-    let zeros = vec![in rt.alloc(); 0i8; 2000]?;
-    assert!(rt; acquirer.take(&zeros) == 2000);
+    assert!(rt; acquirer.take(&zeros()) == 2000);
     assert!(rt; acquirer.given().is_empty());
     acquirer.finish();
     assert!(rt; acquirer.runs() == 0);
@@ -60,6 +57,6 @@ fn a_short_capture_gives_its_segments(rt: HostRuntime) -> Result<(), Fail> {
     assert!(rt; acquirer.cost() == 0);
     assert!(rt; acquirer.loose() == 100);
     assert!(rt; acquirer.given().first() == Some(&sync()));
-    assert!(rt; acquirer.given().last() == Some(&ones()));
+    assert!(rt; acquirer.given().last() == Some(&segment_of(1)));
     Ok(())
 }

@@ -14,7 +14,7 @@ const ELEVEN: [u8; 11] = [
 ];
 
 /// The word of zeros with ten bytes FF in front.
-pub(crate) fn ten_wrong() -> [u8; 207] {
+fn ten_wrong() -> [u8; 207] {
     let mut word = [0; 207];
     word[..10].fill(0xff);
     word
@@ -22,7 +22,7 @@ pub(crate) fn ten_wrong() -> [u8; 207] {
 
 /// The word of zeros with eleven wrong bytes at its end: its first ten syndromes are 0 and the eleventh isn't, as no
 /// ten errors make it.
-pub(crate) fn eleven_wrong() -> [u8; 207] {
+fn eleven_wrong() -> [u8; 207] {
     let mut word = [0; 207];
     word[196..].copy_from_slice(&ELEVEN);
     word

@@ -1,5 +1,7 @@
 //! Streams as they are sent and read back.
 
+ghost use Rattle.std.specs.Prelude.{◌≤◌};
+
 use crate::made::{packet, sum_of};
 use dtx_dvb::{BLOCK, DvbIn, DvbOut, WAITING};
 use dtx_outer::Taken;
@@ -26,8 +28,8 @@ fn sent(out: &mut DvbOut) -> Blocks {
 fn first_read(reader: &mut DvbIn, blocks: &Blocks) -> (Taken, Packet) {
     let mut packet = Packet([0xA5; PACKET]);
     let mut taken = Taken::None;
-    for block in blocks.iter().take(WAITING + 1) {
-        taken = reader.block(block, &mut packet);
+    for k in 0..WAITING + 1 {
+        taken = reader.block(&blocks[k], &mut packet);
     }
     (taken, packet)
 }
@@ -53,12 +55,12 @@ fn the_blocks_are_those_of_an_independent_program(rt: HostRuntime) -> Result<(),
 }
 
 /// The stream's blocks with so many wrong bytes of the first word, byte j of which stands at j + 204 * (j mod 12).
-fn with_wrong(out: &mut DvbOut, wrong: usize) -> Blocks {
+fn with_wrong(out: &mut DvbOut, wrong: usize) -> Blocks
+    requires { wrong ≤ WAITING }
+{
     let mut blocks = sent(out);
-    for (j, block) in blocks.iter_mut().enumerate().take(wrong) {
-        if let Some(byte) = block.get_mut(j) {
-            *byte ^= 0x55;
-        }
+    for j in 0..wrong {
+        blocks[j][j] ^= 0x55;
     }
     blocks
 }
@@ -77,8 +79,8 @@ fn a_word_with_nine_wrong_bytes_is_flagged(rt: HostRuntime) -> Result<(), Fail> 
     let blocks = with_wrong(&mut DvbOut::new(rt.alloc())?, 9);
     let (taken, read) = first_read(&mut DvbIn::new(rt.alloc())?, &blocks);
     let mut as_gathered = packet(0);
-    for byte in as_gathered.0.iter_mut().take(9).skip(1) {
-        *byte ^= 0x55;
+    for j in 1..9 {
+        as_gathered.0[j] ^= 0x55;
     }
     as_gathered.flag_error();
     assert!(rt; taken == Taken::Bad);

@@ -1,5 +1,6 @@
 //! Five symbols at a time, whose least paths were found by trying all; and a field with one wrong symbol.
 
+use crate::made::segment_of;
 use dtx_sizes::SEGMENT;
 use dtx_soft::{Soft, proves};
 use std::test::Fail;
@@ -69,9 +70,7 @@ fn potentials_prove_least_paths_alone(rt: HostRuntime) {
 
 /// Four data segments whose data symbols are all -7.
 fn lowest() -> [[i8; SEGMENT]; 4] {
-    let mut segment = [-7; SEGMENT];
-    segment[..4].copy_from_slice(&[5, -5, -5, 5]);
-    [segment; 4]
+    [segment_of(-7); 4]
 }
 
 // At -4 slicing gives -3.

@@ -28,8 +28,6 @@ mod made;
 #[cfg(test)]
 mod mend_receiver;
 #[cfg(test)]
-mod outer_back;
-#[cfg(test)]
 mod outer_blocks;
 #[cfg(test)]
 mod polynomial;

@@ -1,7 +1,7 @@
 //! What several tests send, and what they ask of bytes.
 
 use dtx_packets::Packet;
-use dtx_sizes::PACKET;
+use dtx_sizes::{PACKET, SEGMENT};
 
 /// Packet `k` of a stream: byte i is i * i + 13 * k, modulo 256, behind the sync byte.
 pub(crate) fn packet(k: u8) -> Packet {
@@ -10,6 +10,13 @@ pub(crate) fn packet(k: u8) -> Packet {
         packet.0[i as usize] = i.wrapping_mul(i).wrapping_add(k.wrapping_mul(13));
     }
     packet
+}
+
+/// The data segment whose data symbols are all this one.
+pub(crate) fn segment_of(symbol: i8) -> [i8; SEGMENT] {
+    let mut segment = [symbol; SEGMENT];
+    segment[..4].copy_from_slice(&[5, -5, -5, 5]);
+    segment
 }
 
 /// Where alone a byte isn't 0, and that byte.

@@ -1,6 +1,7 @@
 //! Worked runs: streams of zeros, whose data symbols are all -7, and noise, which no codeword is near.
 
 use crate::coder::randomized_zeros;
+use crate::made::segment_of;
 use dtx_frame::field_sync;
 use dtx_receiver::{Batch, Receiver, Tracking};
 use dtx_sizes::{PRECODE, SEGMENT};
@@ -55,9 +56,7 @@ fn sync(last: &[i8; PRECODE]) -> [i8; SEGMENT] {
 
 /// The data segment whose levels are all 0.
 fn zeros() -> [i8; SEGMENT] {
-    let mut out = [-7; SEGMENT];
-    out[..4].copy_from_slice(&[5, -5, -5, 5]);
-    out
+    segment_of(-7)
 }
 
 /// Symbol n of some noise.
