@@ -1,6 +1,6 @@
 // Zeros, and a short capture with something in front.
 
-use crate::made::segment_of;
+use crate::samples::segment_of;
 use dtx_acquire::Acquirer;
 use dtx_frame::field_sync;
 use dtx_sizes::{PRECODE, SEGMENT};

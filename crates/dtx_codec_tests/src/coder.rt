@@ -2,7 +2,7 @@
 
 ghost use Rattle.std.specs.Prelude.{◌<◌};
 
-use crate::made::packet;
+use crate::samples::packet;
 use dtx_coder::{Air, Coder};
 use dtx_laws::Whitener;
 use dtx_packets::Packet;

@@ -1,6 +1,6 @@
 // The way back of the interleaver.
 
-use crate::made::only;
+use crate::samples::only;
 use dtx_laws::Gather;
 use dtx_spread::Collect;
 use std::test::Fail;

@@ -2,7 +2,7 @@
 
 ghost use Rattle.std.specs.Prelude.{◌≤◌};
 
-use crate::made::{packet, sum_of};
+use crate::samples::{packet, sum_of};
 use dtx_dvb::{BLOCK, DvbIn, DvbOut, WAITING};
 use dtx_outer::Taken;
 use dtx_packets::Packet;

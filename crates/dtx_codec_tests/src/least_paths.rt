@@ -1,6 +1,6 @@
 //! Five symbols at a time, whose least paths were found by trying all; and a field with one wrong symbol.
 
-use crate::made::segment_of;
+use crate::samples::segment_of;
 use dtx_sizes::SEGMENT;
 use dtx_soft::{Soft, proves};
 use std::test::Fail;

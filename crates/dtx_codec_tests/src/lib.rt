@@ -24,8 +24,6 @@ mod galois;
 #[cfg(test)]
 mod least_paths;
 #[cfg(test)]
-mod made;
-#[cfg(test)]
 mod mend_receiver;
 #[cfg(test)]
 mod outer_blocks;
@@ -33,6 +31,8 @@ mod outer_blocks;
 mod polynomial;
 #[cfg(test)]
 mod receiver;
+#[cfg(test)]
+mod samples;
 #[cfg(test)]
 mod slice;
 #[cfg(test)]

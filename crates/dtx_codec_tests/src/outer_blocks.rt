@@ -1,7 +1,7 @@
 // The outer coding at the numbers of the air, with the encoder, the corrector, the randomizer and the interleaver that
 // it is used with.
 
-use crate::made::sum_of;
+use crate::samples::sum_of;
 use dtx_outer::Outer;
 use dtx_rs::Rs;
 use dtx_spread::Branches;

@@ -1,7 +1,7 @@
 //! Worked runs: streams of zeros, whose data symbols are all -7, and noise, which no codeword is near.
 
 use crate::coder::randomized_zeros;
-use crate::made::segment_of;
+use crate::samples::segment_of;
 use dtx_frame::field_sync;
 use dtx_receiver::{Batch, Receiver, Tracking};
 use dtx_sizes::{PRECODE, SEGMENT};

@@ -1,6 +1,6 @@
 // The interleaver alone.
 
-use crate::made::only;
+use crate::samples::only;
 use dtx_laws::Spread;
 use dtx_spread::Branches;
 use std::test::Fail;
