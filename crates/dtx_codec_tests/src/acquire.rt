@@ -1,4 +1,4 @@
-// Zeros, and a short capture with something in front.
+// A segment alone, and a short capture with something in front.
 
 use crate::samples::segment_of;
 use dtx_acquire::Acquirer;
@@ -31,19 +31,15 @@ fn capture() -> [i8; FRONT + SEGMENT * (DATA + 1)] {
     all
 }
 
-fn zeros() -> [i8; 2000] {
-    [0; 2000]
-}
-
 #[test]
-fn of_zeros_nothing_is_acquired(rt: HostRuntime) -> Result<(), Fail> {
+fn without_a_field_sync_nothing_is_acquired(rt: HostRuntime) -> Result<(), Fail> {
     let mut acquirer = Acquirer::new(rt.alloc(), 1)?;
-    assert!(rt; acquirer.take(&zeros()) == 2000);
+    assert!(rt; acquirer.take(&segment_of(1)) == SEGMENT);
     assert!(rt; acquirer.given().is_empty());
     acquirer.finish();
     assert!(rt; acquirer.runs() == 0);
     assert!(rt; acquirer.segments() == 0);
-    assert!(rt; acquirer.loose() == 2000);
+    assert!(rt; acquirer.loose() == 832);
     Ok(())
 }
 

@@ -50,7 +50,7 @@ fn packets(k: u8) -> [Packet; GROUP_PACKETS]
 }
 
 /// The randomizer's own bytes, so that each coded byte is 0.
-pub(crate) fn randomized_zeros(atsc: &Atsc) -> [Packet; GROUP_PACKETS] {
+fn randomized_zeros(atsc: &Atsc) -> [Packet; GROUP_PACKETS] {
     let mut packets = [Packet([0x47; PACKET]); GROUP_PACKETS];
     for p in 0..GROUP_PACKETS {
         for j in 0..PACKET_DATA {

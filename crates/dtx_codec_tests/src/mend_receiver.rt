@@ -31,8 +31,8 @@ fn of_two_fields(receiver: &mut MendReceiver, missing: (u32, u32), wrong: (u32, 
     totals
 }
 
-// How many packets there are, how many bytes were put right, and how many packets were flagged. The numbers are those of
-// a program in Python that follows the definitions over the whole list.
+// How many packets there are, how many bytes were put right, and how many packets were flagged. The numbers are those
+// of a program in Python that follows the definitions over the whole list.
 #[test]
 fn missing_segments_cost_half_as_much_as_wrong_ones(rt: HostRuntime) -> Result<(), Fail> {
     let mut receiver = MendReceiver::new(rt.alloc())?;

@@ -6,7 +6,14 @@ use dtx_outer::Outer;
 use dtx_rs::Rs;
 use dtx_spread::Branches;
 use dtx_whiten::Atsc;
+use std::alloc::{AllocError, Global};
 use std::test::Fail;
+
+type OuterCoding = Outer<Atsc, Rs<207, 187>, Branches<52, 4>, 207, 187, 52, 4>;
+
+fn new_outer(alloc: Global) -> Result<OuterCoding, AllocError> {
+    Ok(Outer::new(Atsc::new(alloc)?, Rs::new(), Branches::new(alloc)?))
+}
 
 fn data(k: usize) -> [u8; 187] {
     let mut data = [0; 187];
@@ -46,11 +53,7 @@ fn is_block(k: usize, block: &[u8; 207]) -> bool {
 // that came to branch n mod 52 before the align and hadn't left.
 #[test]
 fn the_blocks_are_those_of_an_independent_program(rt: HostRuntime) -> Result<(), Fail> {
-    let mut outer = Outer::<Atsc, Rs<207, 187>, Branches<52, 4>, 207, 187, 52, 4>::new(
-        Atsc::new(rt.alloc())?,
-        Rs::new(),
-        Branches::new(rt.alloc())?,
-    );
+    let mut outer = new_outer(rt.alloc())?;
     let mut block = [0; 207];
     for k in 0..120usize {
         if k == 60 {

@@ -1,11 +1,9 @@
 //! Worked runs: streams of zeros, whose data symbols are all -7, and noise, which no codeword is near.
 
-use crate::coder::randomized_zeros;
 use crate::samples::segment_of;
 use dtx_frame::field_sync;
 use dtx_receiver::{Batch, Receiver, Tracking};
 use dtx_sizes::{PRECODE, SEGMENT};
-use dtx_whiten::Atsc;
 use std::test::Fail;
 
 /// What the packets of some calls come to: how many there are, how many bytes were put right, how many were flagged,
@@ -116,19 +114,13 @@ fn a_packet_comes_once_53_segments_stand_and_the_52_packets_of_a_turn_at_the_end
     Ok(())
 }
 
+// The digest is that of a program in Python that follows the standard's randomizer.
 #[test]
 fn the_packets_of_zeros_are_the_randomizers_bytes(rt: HostRuntime) -> Result<(), Fail> {
-    let packets = randomized_zeros(&Atsc::new(rt.alloc())?);
     let mut receiver = Receiver::new(rt.alloc())?;
-    let mut batch = Batch::new();
-    receiver.take(&sync(&[-7; PRECODE]), &mut batch);
-    for _ in 0..56 {
-        receiver.take(&zeros(), &mut batch);
-    }
-    assert!(rt; batch.packets.len() == 4);
-    for (received, packet) in batch.packets.as_slice().iter().zip(&packets) {
-        assert!(rt; received.packet == *packet);
-    }
+    let (early, _) = of_zeros(&mut receiver, 56);
+    assert!(rt; early.packets == 4);
+    assert!(rt; early.digest == 3678594777);
     Ok(())
 }
 
