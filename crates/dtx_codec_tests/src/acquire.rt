@@ -1,8 +1,9 @@
-// Zeros, and a short capture with something in front.
+// A segment alone, and a short capture with something in front.
 
+use crate::samples::segment_of;
 use dtx_acquire::Acquirer;
 use dtx_frame::field_sync;
-use dtx_sizes::{PRECODE, SEGMENT, SEGMENT_SYNC};
+use dtx_sizes::{PRECODE, SEGMENT};
 use std::test::Fail;
 
 /// The symbols in front of the sync, and how many data segments stand behind it.
@@ -10,40 +11,48 @@ const FRONT: usize = 100;
 
 const DATA: usize = 5;
 
+/// A field sync, behind data symbols that are all -7.
+fn sync() -> [i8; SEGMENT] {
+    let mut sync = [0; SEGMENT];
+    field_sync(true, &[-7; PRECODE], &mut sync);
+    sync
+}
+
+/// Zeros, the field sync, and the data segments.
+fn capture() -> [i8; FRONT + SEGMENT * (DATA + 1)] {
+    let mut all = [0; FRONT + SEGMENT * (DATA + 1)];
+    let (segments, _) = all[FRONT..].as_chunks_mut::<SEGMENT>();
+    for segment in segments.iter_mut() {
+        *segment = segment_of(1);
+    }
+    if let Some(first) = segments.first_mut() {
+        *first = sync();
+    }
+    all
+}
+
 #[test]
-fn of_zeros_nothing_is_acquired(rt: HostRuntime) -> Result<(), Fail> {
+fn without_a_field_sync_nothing_is_acquired(rt: HostRuntime) -> Result<(), Fail> {
     let mut acquirer = Acquirer::new(rt.alloc(), 1)?;
-    assert_eq!(rt; acquirer.take(&[0; 2000]), 2000);
-    assert_eq!(rt; acquirer.given().len(), 0);
+    assert!(rt; acquirer.take(&segment_of(1)) == SEGMENT);
+    assert!(rt; acquirer.given().is_empty());
     acquirer.finish();
-    assert_eq!(rt; acquirer.given().len(), 0);
-    assert_eq!(rt;
-        (acquirer.runs(), acquirer.segments(), acquirer.loose()),
-        (0, 0, 2000)
-    );
+    assert!(rt; acquirer.runs() == 0);
+    assert!(rt; acquirer.segments() == 0);
+    assert!(rt; acquirer.loose() == 832);
     Ok(())
 }
 
 #[test]
 fn a_short_capture_gives_its_segments(rt: HostRuntime) -> Result<(), Fail> {
-    let mut sync = [0; SEGMENT];
-    field_sync(true, &[-7; PRECODE], &mut sync);
-    let mut data = [1; SEGMENT];
-    data[..SEGMENT_SYNC].copy_from_slice(&sync[..SEGMENT_SYNC]);
-    let mut all = [0i8; FRONT + SEGMENT * (DATA + 1)];
-    all[FRONT..FRONT + SEGMENT].copy_from_slice(&sync);
-    for i in 1..DATA + 1 {
-        let at = FRONT + SEGMENT * i;
-        all[at..at + SEGMENT].copy_from_slice(&data);
-    }
     let mut acquirer = Acquirer::new(rt.alloc(), 1)?;
-    assert_eq!(rt; acquirer.take(&all), all.len());
+    assert!(rt; acquirer.take(&capture()) == 5092);
     acquirer.finish();
-    assert_eq!(rt; (acquirer.runs(), acquirer.segments()), (1, 6));
-    assert_eq!(rt; (acquirer.cost(), acquirer.loose()), (0, 100));
-    let given = acquirer.given();
-    assert_eq!(rt; given.len(), DATA + 1);
-    assert_eq!(rt; given[0][..], sync[..]);
-    assert_eq!(rt; given[DATA][..], data[..]);
+    assert!(rt; acquirer.runs() == 1);
+    assert!(rt; acquirer.segments() == 6);
+    assert!(rt; acquirer.cost() == 0);
+    assert!(rt; acquirer.loose() == 100);
+    assert!(rt; acquirer.given().first() == Some(&sync()));
+    assert!(rt; acquirer.given().last() == Some(&segment_of(1)));
     Ok(())
 }

@@ -1,12 +1,29 @@
-//! Worked words, and words damaged at marked and unmarked places in every spread.
+//! Worked words, and words damaged at marked and unmarked places.
 
 use dtx_erase::{Erase, Mend};
-use dtx_laws::{Encode, TooMany};
-use dtx_rs::Rs;
+use dtx_laws::TooMany;
 use std::process::Abort;
 
 /// The code of the air.
 type Air = Erase<207, 187>;
+
+/// The word of zeros of which so many bytes from the front on are FF.
+fn spoilt_word(spoilt: usize) -> [u8; 207] {
+    let mut word = [0; 207];
+    for i in 0..207 {
+        word[i] = if i < spoilt { 0xff } else { 0 };
+    }
+    word
+}
+
+/// Of which bytes so many from the front on are marked.
+fn marked_front(marked: usize) -> [bool; 207] {
+    let mut marks = [false; 207];
+    for i in 0..207 {
+        marks[i] = i < marked;
+    }
+    marks
+}
 
 /// In a word of zeros so many bytes from the front on are marked, and so many are FF.
 #[test]
@@ -22,18 +39,13 @@ fn worked_words_are_mended_or_left(rt: HostRuntime) {
         (0, 10, Ok(10)),
         (0, 11, Err(TooMany)),
     ] {
-        let mut word = [0; 207];
-        let mut marks = [false; 207];
-        for i in 0..207 {
-            word[i] = if i < spoilt { 0xff } else { 0 };
-            marks[i] = i < marked;
-        }
-        let right = if answer.is_ok() { [0; 207] } else { word };
+        let mut word = spoilt_word(spoilt);
+        let right = if answer.is_ok() { 0 } else { spoilt };
         assert!(rt;
-            air.mend(&mut word, &marks) == answer,
-            "{marked} marked, {spoilt} FF"
+            air.mend(&mut word, &marked_front(marked)) == answer,
+            "{marked} marked"
         );
-        assert!(rt; word == right);
+        assert!(rt; word == spoilt_word(right));
     }
 }
 
@@ -46,12 +58,10 @@ const PARITY_BYTES: [u8; 20] = [
 /// Those data with their parity bytes.
 fn word_of_data() -> [u8; 207] {
     let mut sent = [0; 207];
-    for i in 0..187 {
-        sent[i] = ((7 * i + 3) % 256) as u8;
+    for i in 0..187u8 {
+        sent[i as usize] = i.wrapping_mul(7).wrapping_add(3);
     }
-    for i in 0..20 {
-        sent[187 + i] = PARITY_BYTES[i];
-    }
+    sent[187..].copy_from_slice(&PARITY_BYTES);
     sent
 }
 
@@ -67,9 +77,10 @@ fn damage_is_mended_while_the_parity_bytes_suffice(rt: HostRuntime) {
             let cost = 2 * wrong + missing;
             if cost <= 20 {
                 let (mut word, marks) = damaged(&sent, missing, wrong);
+                let changed = (missing + wrong) as u8;
                 assert!(rt;
-                    air.mend(&mut word, &marks) == Ok((missing + wrong) as u8),
-                    "{missing} missing, {wrong} wrong"
+                    air.mend(&mut word, &marks) == Ok(changed),
+                    "{missing} missing"
                 );
                 assert!(rt; word == sent);
             } else if cost <= 24 {
@@ -82,32 +93,19 @@ fn damage_is_mended_while_the_parity_bytes_suffice(rt: HostRuntime) {
 /// The word is left as it is, or becomes another codeword.
 fn expect_beyond(rt: &impl Abort, air: &Air, sent: &[u8; 207], missing: usize, wrong: usize) {
     let (mut word, marks) = damaged(sent, missing, wrong);
-    let before = word;
-    let answer = match (missing, wrong) {
+    let answer = air.mend(&mut word, &marks);
+    assert!(rt; answer == beyond(missing, wrong), "{missing} missing");
+    assert!(rt; word != *sent);
+}
+
+/// What is answered there.
+fn beyond(missing: usize, wrong: usize) -> Result<u8, TooMany> {
+    match (missing, wrong) {
         (16, 3) => Ok(18),
         (18, 3) => Ok(19),
         (20, 1) | (20, 2) => Ok(20),
         _ => Err(TooMany),
-    };
-    assert!(rt;
-        air.mend(&mut word, &marks) == answer,
-        "{missing} missing, {wrong} wrong"
-    );
-    if answer.is_ok() {
-        assert!(rt; word != *sent);
-        assert!(rt; word == encoded_again(&word));
-    } else {
-        assert!(rt; word == before);
     }
-}
-
-/// The codeword of a word's data.
-fn encoded_again(word: &[u8; 207]) -> [u8; 207] {
-    let mut head = [0; 187];
-    head.copy_from_slice(&word[..187]);
-    let mut again = [0; 207];
-    Rs::<207, 187>::new().encode(&head, &mut again);
-    again
 }
 
 /// The word with so many bytes missing and so many others wrong, at most 24 each, and its marks.
@@ -120,45 +118,4 @@ fn damaged(sent: &[u8; 207], missing: usize, wrong: usize) -> ([u8; 207], [bool;
         word[8 * i + 4] ^= if i < wrong { 0x5a } else { 0 };
     }
     (word, marks)
-}
-
-#[test]
-fn each_number_of_missing_and_wrong_bytes_is_mended(rt: HostRuntime) {
-    expect_each_number(&rt, &Erase::<207, 187>::new());
-    // The shortest code, and one of the longest, which has more parity bytes than there are rows for.
-    expect_each_number(&rt, &Erase::<3, 1>::new());
-    expect_each_number(&rt, &Erase::<255, 223>::new());
-}
-
-/// The word of zeros, with as many wrong bytes as may be beside so many missing ones, in turn from the front on, from
-/// the end on, and across.
-fn expect_each_number<const N: usize, const K: usize>(rt: &impl Abort, code: &impl Mend<N, K>) {
-    code.known();
-    for missing in 0..N - K + 1 {
-        let wrong = (N - K - missing) / 2;
-        let all = missing + wrong;
-        let mut front = [0; N];
-        let mut end = [0; N];
-        let mut across = [0; N];
-        let mut front_marks = [false; N];
-        let mut end_marks = [false; N];
-        let mut across_marks = [false; N];
-        for i in 0..all {
-            front[i] = i as u8 ^ 0xa5;
-            front_marks[i] = i < missing;
-            end[N - 1 - i] = 0xff;
-            end_marks[N - 1 - i] = i >= wrong;
-            across[i * N / all] = 1;
-            across_marks[i * N / all] = i < missing;
-        }
-        for (word, marks) in [
-            (front, front_marks),
-            (end, end_marks),
-            (across, across_marks),
-        ] {
-            let mut word = word;
-            assert!(rt; code.mend(&mut word, &marks) == Ok(all as u8));
-            assert!(rt; word == [0; N]);
-        }
-    }
 }

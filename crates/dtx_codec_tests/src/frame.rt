@@ -5,10 +5,14 @@ ghost use Rattle.std.specs.Prelude.{◌+◌, ◌≤◌};
 use dtx_frame::{data_segment, field_sync, is_second, looks};
 use dtx_sizes::{PRECODE, SEGMENT, SEGMENT_LEVELS};
 
-/// Whether the symbols from place `at` on are these bits.
-fn has_bits(symbols: &[i8; SEGMENT], at: usize, bits: &[u8]) -> bool {
-    symbols.iter().skip(at).zip(bits).all(|(symbol, bit)| *symbol
-        == if *bit == b'1' { 5 } else { -5 })
+/// Whether the symbols begin with these bits.
+fn has_bits(symbols: &[i8], bits: &[u8]) -> bool {
+    for (symbol, bit) in symbols.iter().zip(bits) {
+        if *symbol != if *bit == b'1' { 5 } else { -5 } {
+            return false;
+        }
+    }
+    true
 }
 
 #[test]
@@ -16,22 +20,22 @@ fn a_field_sync_has_the_standards_sequences(rt: HostRuntime) {
     let last = [-7, -5, -3, -1, 1, 3, 5, 7, -7, -5, -3, -1];
     let mut out = [0; SEGMENT];
     field_sync(false, &last, &mut out);
-    assert!(rt; has_bits(&out, 0, b"1001000000010111111111001010"));
-    assert!(rt; has_bits(&out, 515, b"1110010010110111"));
-    assert!(rt; has_bits(&out, 578, b"1110010010110111"));
-    assert!(rt; has_bits(&out, 641, b"1110010010110111"));
-    assert!(rt; has_bits(&out, 704, b"0000111100001111010110101110010010110111"));
-    assert!(rt; has_bits(&out, 791, b"1110010010110111"));
-    assert_eq!(rt; out[820..], last[..]);
+    assert!(rt; has_bits(&out[0..], b"1001000000010111111111001010"));
+    assert!(rt; has_bits(&out[515..], b"1110010010110111"));
+    assert!(rt; has_bits(&out[578..], b"1110010010110111"));
+    assert!(rt; has_bits(&out[641..], b"1110010010110111"));
+    assert!(rt; has_bits(&out[704..], b"0000111100001111010110101110010010110111"));
+    assert!(rt; has_bits(&out[791..], b"1110010010110111"));
+    assert!(rt; out.ends_with(&last));
 }
 
 #[test]
 fn a_second_fields_middle_sequence_is_inverted(rt: HostRuntime) {
     let mut out = [0; SEGMENT];
     field_sync(true, &[-7; PRECODE], &mut out);
-    assert!(rt; has_bits(&out, 515, b"1110010010110111"));
-    assert!(rt; has_bits(&out, 578, b"0001101101001000"));
-    assert!(rt; has_bits(&out, 641, b"1110010010110111"));
+    assert!(rt; has_bits(&out[515..], b"1110010010110111"));
+    assert!(rt; has_bits(&out[578..], b"0001101101001000"));
+    assert!(rt; has_bits(&out[641..], b"1110010010110111"));
 }
 
 #[test]
@@ -40,8 +44,8 @@ fn each_level_has_its_symbol(rt: HostRuntime) {
     for level in 0..8usize {
         let mut out = [0; SEGMENT];
         data_segment(&[level as u8; SEGMENT_LEVELS], &mut out);
-        assert_eq!(rt; out[..4], [5, -5, -5, 5][..]);
-        assert_eq!(rt; (out[4], out[831]), (symbols[level], symbols[level]));
+        assert!(rt; out.starts_with(&[5, -5, -5, 5, symbols[level]]));
+        assert!(rt; out[831] == symbols[level]);
     }
 }
 

@@ -12,8 +12,8 @@ fn products_are_those_worked_by_long_division(rt: HostRuntime) {
         (1, 0xB8, 0xB8),
     ];
     for (a, b, product) in rows {
-        assert_eq!(rt; Gf(a).mul(Gf(b)), Gf(product), "{a} times {b}");
-        assert_eq!(rt; Gf(b) * Gf(a), Gf(product), "{b} times {a}");
+        assert!(rt; Gf(a).mul(Gf(b)).0 == product, "{a} times");
+        assert!(rt; (Gf(b) * Gf(a)).0 == product, "times {a}");
     }
 }
 
@@ -27,7 +27,7 @@ fn inverses_are_those_found_by_trying_all(rt: HostRuntime) {
         (0x80, 0x1B),
         (0xFF, 0xFD),
     ] {
-        assert_eq!(rt; Gf(a).inv(), Gf(inverse), "the inverse of {a}");
+        assert!(rt; Gf(a).inv().0 == inverse, "the inverse of {a}");
     }
 }
 
@@ -41,9 +41,9 @@ fn powers_of_alpha_come_round_after_their_order(rt: HostRuntime) {
         (255, 1),
         (u32::MAX, 1),
     ] {
-        assert_eq!(rt; ALPHA.pow(times), Gf(power), "power {times}");
+        assert!(rt; ALPHA.pow(times).0 == power, "power {times}");
     }
-    assert_eq!(rt; Gf(0).pow(0), Gf(1));
-    assert_eq!(rt; Gf(0).pow(3), Gf(0));
-    assert_eq!(rt; Gf(0xFF).pow(1000), Gf(0x5E));
+    assert!(rt; Gf(0).pow(0).0 == 1);
+    assert!(rt; Gf(0).pow(3).0 == 0);
+    assert!(rt; Gf(0xFF).pow(1000).0 == 0x5E);
 }

@@ -1,55 +1,51 @@
 //! Five symbols at a time, whose least paths were found by trying all; and a field with one wrong symbol.
 
-ghost use Rattle.std.specs.Prelude.{◌≤◌};
-
+use crate::samples::segment_of;
 use dtx_sizes::SEGMENT;
-use dtx_soft::{Found, MAX_SCALE, Soft, proves};
-use std::alloc::{AllocError, Global};
+use dtx_soft::{Soft, proves};
 use std::test::Fail;
 
 /// The least path over five symbols: its cost, its start and its levels, and the least cost from each state.
-fn least(
-    alloc: Global,
-    scale: u8,
-    symbols: &[i8; 5],
-) -> Result<(u32, u8, [u8; 5], [u32; 4]), AllocError>
-    requires { scale ≤ MAX_SCALE }
-{
-    let mut soft = Soft::scaled(alloc, scale)?;
+type Least = (u32, u8, [u8; 5], [u32; 4]);
+
+/// Whether that is the least path over these symbols.
+fn is_least(soft: &mut Soft, symbols: &[i8; 5], path: &Least) -> bool {
     let mut levels = [0; 5];
     let found = soft.best(&symbols[..], &mut levels[..]);
-    Ok((found.cost, found.start, levels, soft.potentials()[0]))
+    found.cost == path.0
+        && found.start == path.1
+        && levels == path.2
+        && soft.potentials().first() == Some(&path.3)
 }
 
 #[test]
 fn of_equal_paths_the_first_in_order_is_taken(rt: HostRuntime) -> Result<(), Fail> {
-    assert_eq!(rt; least(rt.alloc(), 1, &[0; 5])?, (5, 0, [4; 5], [5; 4]));
-    assert_eq!(rt;
-        least(rt.alloc(), 1, &[-4; 5])?,
-        (5, 0, [2, 1, 2, 2, 1], [5; 4])
-    );
-    assert_eq!(rt;
-        least(rt.alloc(), 1, &[-3; 5])?,
-        (4, 1, [2, 2, 1, 2, 2], [8, 4, 8, 8])
-    );
+    let mut soft = Soft::new(rt.alloc())?;
+    assert!(rt; is_least(&mut soft, &[0; 5], &(5, 0, [4; 5], [5; 4])));
+    assert!(rt; is_least(&mut soft, &[-4; 5], &(5, 0, [2, 1, 2, 2, 1], [5; 4])));
+    let path = (4, 1, [2, 2, 1, 2, 2], [8, 4, 8, 8]);
+    assert!(rt; is_least(&mut soft, &[-3; 5], &path));
     Ok(())
 }
 
 #[test]
 fn symbols_may_be_any_bytes(rt: HostRuntime) -> Result<(), Fail> {
+    let mut soft = Soft::new(rt.alloc())?;
     let strong = (72_970, 2, [7, 1, 7, 0, 7], [74_422, 74_422, 72_970, 72_970]);
-    assert_eq!(rt; least(rt.alloc(), 1, &[127, -128, 127, -128, 127])?, strong);
+    assert!(rt; is_least(&mut soft, &[127, -128, 127, -128, 127], &strong));
     let mixed = (4, 3, [5, 3, 0, 5, 4], [12, 12, 8, 4]);
-    assert_eq!(rt; least(rt.alloc(), 1, &[3, -1, -7, 5, 1])?, mixed);
+    assert!(rt; is_least(&mut soft, &[3, -1, -7, 5, 1], &mixed));
     Ok(())
 }
 
 #[test]
 fn levels_may_stand_at_any_scale(rt: HostRuntime) -> Result<(), Fail> {
     let third = (47, 0, [4, 2, 5, 0, 5], [47, 59, 47, 83]);
-    assert_eq!(rt; least(rt.alloc(), 3, &[1, -5, 14, -20, 8])?, third);
+    let mut soft = Soft::scaled(rt.alloc(), 3)?;
+    assert!(rt; is_least(&mut soft, &[1, -5, 14, -20, 8], &third));
     let greatest = (977, 3, [7, 0, 3, 5, 3], [3785, 2345, 2417, 977]);
-    assert_eq!(rt; least(rt.alloc(), 18, &[127, -128, 0, 36, -36])?, greatest);
+    let mut soft = Soft::scaled(rt.alloc(), 18)?;
+    assert!(rt; is_least(&mut soft, &[127, -128, 0, 36, -36], &greatest));
     Ok(())
 }
 
@@ -72,20 +68,18 @@ fn potentials_prove_least_paths_alone(rt: HostRuntime) {
     );
 }
 
+/// Four data segments whose data symbols are all -7.
+fn lowest() -> [[i8; SEGMENT]; 4] {
+    [segment_of(-7); 4]
+}
+
 // At -4 slicing gives -3.
 #[test]
 fn a_wrong_symbol_of_a_field_is_corrected(rt: HostRuntime) -> Result<(), Fail> {
-    let mut segment = [-7; SEGMENT];
-    segment[0] = 5;
-    segment[3] = 5;
-    let mut segments = [segment; 4];
+    let mut segments = lowest();
     segments[1][124] = -4;
     let mut soft = Soft::new(rt.alloc())?;
-    assert_eq!(rt; soft.field(&mut segments[..]), 9);
-    assert_eq!(rt;
-        (segments[1][0], segments[1][124], segments[3][831]),
-        (5, -7, -7)
-    );
-    assert_eq!(rt; soft.potentials().len(), 277);
+    assert!(rt; soft.field(&mut segments[..]) == 9);
+    assert!(rt; segments == lowest());
     Ok(())
 }

@@ -4,8 +4,6 @@
 #[cfg(test)]
 mod acquire;
 #[cfg(test)]
-mod chain;
-#[cfg(test)]
 mod coder;
 #[cfg(test)]
 mod collect;
@@ -30,15 +28,11 @@ mod mend_receiver;
 #[cfg(test)]
 mod outer_blocks;
 #[cfg(test)]
-mod outer_coding;
-#[cfg(test)]
-mod outer_ways;
-#[cfg(test)]
-mod plain_paths;
-#[cfg(test)]
 mod polynomial;
 #[cfg(test)]
 mod receiver;
+#[cfg(test)]
+mod samples;
 #[cfg(test)]
 mod slice;
 #[cfg(test)]

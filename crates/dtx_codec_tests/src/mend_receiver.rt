@@ -1,20 +1,17 @@
 //! Worked runs of zeros, whose data symbols are all -7, of which some segments are missing and some are wrong.
 
+use crate::receiver::Totals;
 use dtx_erase::MendReceiver;
 use dtx_frame::field_sync;
 use dtx_receiver::Batch;
 use dtx_sizes::{PRECODE, SEGMENT};
 use std::test::Fail;
 
-/// How many packets a run of two fields gives, how many bytes were put right, and how many packets were flagged, where
-/// these of its segments are missing and those wrong. Its second field sync has missing symbols at its end.
-fn of_two_fields(
-    receiver: &mut MendReceiver,
-    missing: (u32, u32),
-    wrong: (u32, u32),
-) -> (u32, u32, u32) {
+/// What a run of two fields gives, where these of its segments are missing and those wrong. Its second field sync has
+/// missing symbols at its end.
+fn of_two_fields(receiver: &mut MendReceiver, missing: (u32, u32), wrong: (u32, u32)) -> Totals {
     let mut batch = Batch::new();
-    let mut totals = (0, 0, 0);
+    let mut totals = Totals::none();
     for n in 0..626 {
         let mut segment = [-7; SEGMENT];
         if n == 0 {
@@ -27,28 +24,15 @@ fn of_two_fields(
             segment = [127; SEGMENT];
         }
         receiver.take(&segment, &mut batch);
-        totals = with_batch(totals, &batch);
+        totals.add(&batch);
     }
     receiver.finish(&mut batch);
-    with_batch(totals, &batch)
+    totals.add(&batch);
+    totals
 }
 
-/// These totals with a batch more.
-fn with_batch(totals: (u32, u32, u32), batch: &Batch) -> (u32, u32, u32) {
-    let mut packets: u32 = totals.0;
-    let mut fixed: u32 = totals.1;
-    let mut flagged: u32 = totals.2;
-    for received in batch.packets.as_slice() {
-        packets = packets.wrapping_add(1);
-        fixed = fixed.wrapping_add(received.fixed as u32);
-        if !received.good {
-            flagged = flagged.wrapping_add(1);
-        }
-    }
-    (packets, fixed, flagged)
-}
-
-// The numbers are those of a program in Python that follows the definitions over the whole list.
+// How many packets there are, how many bytes were put right, and how many packets were flagged. The numbers are those
+// of a program in Python that follows the definitions over the whole list.
 #[test]
 fn missing_segments_cost_half_as_much_as_wrong_ones(rt: HostRuntime) -> Result<(), Fail> {
     let mut receiver = MendReceiver::new(rt.alloc())?;
@@ -63,7 +47,7 @@ fn missing_segments_cost_half_as_much_as_wrong_ones(rt: HostRuntime) -> Result<(
         ((0, 0), (311, 313), (573, 432, 0)),
     ] {
         let totals = of_two_fields(&mut receiver, missing, wrong);
-        assert!(rt; totals == want, "{missing:?} missing and {wrong:?} wrong");
+        assert!(rt; totals.counts() == want);
     }
     Ok(())
 }

@@ -1,16 +1,15 @@
 //! Worked runs: streams of zeros, whose data symbols are all -7, and noise, which no codeword is near.
 
+use crate::samples::segment_of;
 use dtx_frame::field_sync;
-use dtx_laws::Whitener;
 use dtx_receiver::{Batch, Receiver, Tracking};
-use dtx_sizes::{PACKET, PACKET_DATA, PRECODE, SEGMENT};
-use dtx_whiten::Atsc;
+use dtx_sizes::{PRECODE, SEGMENT};
 use std::test::Fail;
 
 /// What the packets of some calls come to: how many there are, how many bytes were put right, how many were flagged,
 /// and their bytes in order as one number.
-#[derive(Clone, Copy, Debug, PartialEq, Eq)]
-struct Totals {
+#[derive(Clone, Copy)]
+pub(crate) struct Totals {
     packets: u32,
     fixed: u32,
     flagged: u32,
@@ -18,7 +17,7 @@ struct Totals {
 }
 
 impl Totals {
-    fn none() -> Totals {
+    pub(crate) fn none() -> Totals {
         Totals {
             packets: 0,
             fixed: 0,
@@ -27,7 +26,12 @@ impl Totals {
         }
     }
 
-    fn add(&mut self, batch: &Batch) {
+    /// How many packets there are, how many bytes were put right, and how many packets were flagged.
+    pub(crate) fn counts(&self) -> (u32, u32, u32) {
+        (self.packets, self.fixed, self.flagged)
+    }
+
+    pub(crate) fn add(&mut self, batch: &Batch) {
         for received in batch.packets.as_slice() {
             self.packets = self.packets.wrapping_add(1);
             self.fixed = self.fixed.wrapping_add(received.fixed as u32);
@@ -50,27 +54,24 @@ fn sync(last: &[i8; PRECODE]) -> [i8; SEGMENT] {
 
 /// The data segment whose levels are all 0.
 fn zeros() -> [i8; SEGMENT] {
-    let mut out = [-7; SEGMENT];
-    out[0] = 5;
-    out[1] = -5;
-    out[2] = -5;
-    out[3] = 5;
-    out
+    segment_of(-7)
 }
 
-/// Data segment n of some noise.
+/// Symbol n of some noise.
+fn noise_symbol(n: u32) -> i8 {
+    let mut x = n.wrapping_mul(2_654_435_761);
+    x ^= x >> 15;
+    x = x.wrapping_mul(2_246_822_519);
+    x ^= x >> 13;
+    ((x % 256) as i16 - 128) as i8
+}
+
+/// Data segment n of it.
 fn noise(n: u32) -> [i8; SEGMENT] {
+    let first = n.wrapping_add(1).wrapping_mul(832);
     let mut out = [0; SEGMENT];
     for i in 0..SEGMENT {
-        let mut x = n
-            .wrapping_add(1)
-            .wrapping_mul(832)
-            .wrapping_add(i as u32)
-            .wrapping_mul(2_654_435_761);
-        x ^= x >> 15;
-        x = x.wrapping_mul(2_246_822_519);
-        x ^= x >> 13;
-        out[i] = ((x % 256) as i16 - 128) as i8;
+        out[i] = noise_symbol(first.wrapping_add(i as u32));
     }
     out
 }
@@ -105,31 +106,31 @@ fn a_packet_comes_once_53_segments_stand_and_the_52_packets_of_a_turn_at_the_end
     ] {
         let totals = of_zeros(&mut receiver, count);
         assert!(rt; totals.0.packets == early, "{count} segments, as they come");
-        assert!(rt; totals.1.packets == all, "{count} segments, and the end");
-        assert!(rt; (totals.1.fixed, totals.1.flagged) == (0, 0));
+        assert!(rt;
+            totals.1.counts() == (all, 0, 0),
+            "{count} segments, and the end"
+        );
     }
     Ok(())
 }
 
+// The digest is that of a program in Python that follows the standard's randomizer.
 #[test]
 fn the_packets_of_zeros_are_the_randomizers_bytes(rt: HostRuntime) -> Result<(), Fail> {
-    let atsc = Atsc::new(rt.alloc())?;
     let mut receiver = Receiver::new(rt.alloc())?;
-    let mut batch = Batch::new();
-    receiver.take(&sync(&[-7; PRECODE]), &mut batch);
-    for _ in 0..56 {
-        receiver.take(&zeros(), &mut batch);
-    }
-    let packets = batch.packets.as_slice();
-    assert!(rt; packets.len() == 4);
-    for (k, received) in packets.iter().enumerate().take(4) {
-        let mut packet = [0x47; PACKET];
-        for j in 0..PACKET_DATA {
-            packet[1 + j] = atsc.byte(PACKET_DATA * k + j);
-        }
-        assert!(rt; received.packet.0[..] == packet[..], "packet {k}");
-    }
+    let (early, _) = of_zeros(&mut receiver, 56);
+    assert!(rt; early.packets == 4);
+    assert!(rt; early.digest == 3678594777);
     Ok(())
+}
+
+/// Segment n of two fields of zeros, of which two segments are lost.
+fn of_two_fields(n: u32) -> [i8; SEGMENT] {
+    match n {
+        0 | 313 => sync(&[-7; PRECODE]),
+        201 | 202 => [127; SEGMENT],
+        _ => zeros(),
+    }
 }
 
 #[test]
@@ -138,29 +139,38 @@ fn two_lost_segments_are_put_right(rt: HostRuntime) -> Result<(), Fail> {
     let mut batch = Batch::new();
     let mut totals = Totals::none();
     for n in 0..626 {
-        let segment = match n {
-            0 | 313 => sync(&[-7; PRECODE]),
-            201 | 202 => [127; SEGMENT],
-            _ => zeros(),
-        };
-        let want = match n {
-            0 => Tracking::Began,
-            313 => Tracking::Sync,
-            _ => Tracking::Data,
-        };
-        assert!(rt; receiver.take(&segment, &mut batch) == want, "segment {n}");
+        receiver.take(&of_two_fields(n), &mut batch);
         totals.add(&batch);
     }
     receiver.finish(&mut batch);
     totals.add(&batch);
-    assert!(rt; (totals.packets, totals.fixed, totals.flagged) == (573, 420, 0));
+    assert!(rt; totals.counts() == (573, 420, 0));
     Ok(())
+}
+
+/// What a run of noise gives, of so many data segments.
+fn of_noise(receiver: &mut Receiver, count: u32) -> Totals {
+    let mut batch = Batch::new();
+    let mut totals = Totals::none();
+    receiver.take(
+        &sync(&[7, -5, -3, -1, 1, 3, 5, 7, -7, 5, 3, -1]),
+        &mut batch,
+    );
+    for n in 0..count {
+        if n == 312 {
+            receiver.take(&sync(&[7; PRECODE]), &mut batch);
+        }
+        receiver.take(&noise(n), &mut batch);
+        totals.add(&batch);
+    }
+    receiver.finish(&mut batch);
+    totals.add(&batch);
+    totals
 }
 
 // The digests are those of a program in Python that follows the definitions over the whole list.
 #[test]
 fn noise_gives_flagged_packets_with_the_bytes_as_gathered(rt: HostRuntime) -> Result<(), Fail> {
-    let last = [7, -5, -3, -1, 1, 3, 5, 7, -7, 5, 3, -1];
     let mut receiver = Receiver::new(rt.alloc())?;
     for (count, packets, digest) in [
         (52, 1, 661802710),
@@ -169,26 +179,12 @@ fn noise_gives_flagged_packets_with_the_bytes_as_gathered(rt: HostRuntime) -> Re
         (107, 53, 325097249),
         (317, 264, 2860921998),
     ] {
-        let mut batch = Batch::new();
-        let mut totals = Totals::none();
-        receiver.take(&sync(&last), &mut batch);
-        for n in 0..count {
-            if n == 312 {
-                let tracking = receiver.take(&sync(&[7; PRECODE]), &mut batch);
-                assert!(rt; tracking == Tracking::Sync);
-            }
-            receiver.take(&noise(n), &mut batch);
-            totals.add(&batch);
-        }
-        receiver.finish(&mut batch);
-        totals.add(&batch);
-        let want = Totals {
-            packets,
-            fixed: 0,
-            flagged: packets,
-            digest,
-        };
-        assert!(rt; totals == want, "{count} segments");
+        let totals = of_noise(&mut receiver, count);
+        assert!(rt;
+            totals.counts() == (packets, 0, packets),
+            "{count} segments"
+        );
+        assert!(rt; totals.digest == digest, "{count} segments");
     }
     Ok(())
 }

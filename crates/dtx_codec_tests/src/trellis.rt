@@ -44,22 +44,27 @@ fn sent(symbols: &[i8; GROUP_SYMBOLS]) -> [u8; GROUP_LEVELS] {
 
 /// Where the first symbol of a set lower bit stands.
 fn first_set(levels: &[u8; GROUP_LEVELS]) -> Option<usize> {
-    levels.iter().position(|level| *level % 4 >= 2)
+    for (symbol, level) in levels.iter().enumerate() {
+        if *level % 4 >= 2 {
+            return Some(symbol);
+        }
+    }
+    None
 }
 
 // The coder of each is in state 4, so that its symbol is 6 and not 2.
 #[test]
 fn a_segment_begins_with_its_coder_byte_and_bits(rt: HostRuntime) {
     let (_, levels) = coded(0, 0, 4, 0, 0x40);
-    assert_eq!(rt; (first_set(&levels), levels[0]), (Some(0), 6));
+    assert!(rt; first_set(&levels) == Some(0) && levels[0] == 6);
     let (_, levels) = coded(0, 4, 4, 208, 0x10);
-    assert_eq!(rt; (first_set(&levels), levels[828]), (Some(828), 6));
+    assert!(rt; first_set(&levels) == Some(828) && levels[828] == 6);
     let (_, levels) = coded(0, 8, 4, 412, 0x04);
-    assert_eq!(rt; (first_set(&levels), levels[1656]), (Some(1656), 6));
+    assert!(rt; first_set(&levels) == Some(1656) && levels[1656] == 6);
     let (_, levels) = coded(0, 0, 4, 616, 0x01);
-    assert_eq!(rt; (first_set(&levels), levels[2484]), (Some(2484), 6));
+    assert!(rt; first_set(&levels) == Some(2484) && levels[2484] == 6);
     let (_, levels) = coded(4, 4, 4, 0, 0x40);
-    assert_eq!(rt; (first_set(&levels), levels[0]), (Some(0), 6));
+    assert!(rt; first_set(&levels) == Some(0) && levels[0] == 6);
 }
 
 // Coder 4 is at places 4, 0, 8 and 4 of the four segments; the byte's first pair comes in round 68, the last of a
@@ -78,7 +83,7 @@ fn a_byte_goes_on_across_a_segments_edge(rt: HostRuntime) {
         } else {
             0
         };
-        assert_eq!(rt; *level, want, "at {symbol}");
+        assert!(rt; *level == want, "at {symbol}");
     }
 }
 
@@ -96,14 +101,8 @@ fn a_lower_bit_comes_back_in_every_other_round(rt: HostRuntime) {
             0 => 2,
             round => round % 2,
         };
-        assert_eq!(rt;
-            usize::from(*level),
-            if symbol % 12 == place { want } else { 0 },
-            "at {symbol}"
-        );
+        let want = if symbol % 12 == place { want } else { 0 };
+        assert!(rt; *level as usize == want, "at {symbol}");
     }
-    assert_eq!(rt;
-        coders.states(),
-        States([1, 0, 0, 0, 0, 0, 0, 0, 0, 0, 0, 0])
-    );
+    assert!(rt; coders.states().0 == [1, 0, 0, 0, 0, 0, 0, 0, 0, 0, 0, 0]);
 }

@@ -28,7 +28,7 @@ fn the_bytes_are_those_of_a_register_drawn_from_the_standard(rt: HostRuntime) ->
     ];
     let randomizer = Atsc::new(rt.alloc())?;
     for (at, byte) in cases {
-        assert_eq!(rt; drawn(&randomizer, at), byte, "byte {at}");
+        assert!(rt; drawn(&randomizer, at) == byte, "byte {at}");
     }
     Ok(())
 }
