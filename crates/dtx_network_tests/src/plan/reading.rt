@@ -3,7 +3,7 @@ use dtx_plan::{Damage, Damages, Event, Events, Transmitter, read_changes, read_p
 use dtx_trellis::States;
 use std::test::Fail;
 
-const PLAN: &str = "start = 0
+const PLAN: &[u8] = b"start = 0
 max_delay = 5000000
 [[transmitter]]
 address = 7
@@ -88,9 +88,7 @@ const EVENTS: [Event; 5] = [
 
 #[test]
 fn a_plan_reads_whole(rt: HostRuntime) -> Result<(), Fail> {
-    let plan = read_plan(rt.alloc(), PLAN.as_bytes())
-        .ok()
-        .ok_or("no plan")?;
+    let plan = read_plan(rt.alloc(), PLAN).ok().ok_or("no plan")?;
     assert!(rt; plan.start == 0);
     assert!(rt; plan.max_delay == 5000000);
     assert!(rt; plan.transmitters.as_slice() == TRANSMITTERS.as_slice());
@@ -129,13 +127,11 @@ fn has(damage: &Damages, i: usize, entry: Damage) -> bool {
     i < damage.len() && damage.get(i) == entry
 }
 
-const CHANGES: &str = "damage = [{ at = 1, put = -128 }, { at = 2, put = 0 }]";
+const CHANGES: &[u8] = b"damage = [{ at = 1, put = -128 }, { at = 2, put = 0 }]";
 
 #[test]
 fn changes_read_whole(rt: HostRuntime) -> Result<(), Fail> {
-    let changes = read_changes(rt.alloc(), CHANGES.as_bytes())
-        .ok()
-        .ok_or("no changes")?;
+    let changes = read_changes(rt.alloc(), CHANGES).ok().ok_or("no changes")?;
     assert!(rt; changes.len() == 2);
     assert!(rt;
         has(
