@@ -32,10 +32,10 @@ fn reads(
     wanted: Result<&[u8], ReadNo>,
 ) -> bool {
     let mut into = [0u8; 8];
-    match (shelf.read(name, place as u64, &mut into), wanted) {
-        (Ok(n), Ok(bytes)) => into.get(..n) == Some(bytes),
-        (Err(no), Err(other)) => no == other,
-        _ => false,
+    let read = shelf.read(name, place as u64, &mut into);
+    match wanted {
+        Ok(bytes) => read == Ok(bytes.len()) && into.starts_with(bytes),
+        Err(no) => read == Err(no),
     }
 }
 

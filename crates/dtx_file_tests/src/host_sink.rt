@@ -6,5 +6,5 @@ use dtx_outside::{HostSink, Progress, Sink};
 fn bytes_are_printed(rt: HostRuntime) {
     let progress = Progress::new(&rt, false);
     let mut sink = HostSink::new(&rt, &progress);
-    assert_eq!(rt; sink.write(b"printed\n"), Ok(8));
+    assert!(rt; sink.write(b"printed\n") == Ok(8));
 }

@@ -8,12 +8,6 @@ mod host_sink;
 #[cfg(test)]
 mod lines;
 #[cfg(test)]
-mod memory_shelf;
-#[cfg(test)]
-mod memory_sink;
-#[cfg(test)]
-mod network_names;
-#[cfg(test)]
 mod output;
 #[cfg(test)]
 mod packet;

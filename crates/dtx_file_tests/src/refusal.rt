@@ -3,15 +3,16 @@
 use dtx_packets::NextNo;
 use std::test::Fail;
 
+const MESSAGES: [(NextNo, &str); 4] = [
+    (NextNo::Absent, "Absent"),
+    (NextNo::Failed, "Failed"),
+    (NextNo::Memory, "Memory"),
+    (NextNo::TooLong, "TooLong"),
+];
+
 #[test]
 fn the_message_of_a_refusal_is_its_name(rt: HostRuntime) -> Result<(), Fail> {
-    let cases = [
-        (NextNo::Absent, "Absent"),
-        (NextNo::Failed, "Failed"),
-        (NextNo::Memory, "Memory"),
-        (NextNo::TooLong, "TooLong"),
-    ];
-    for (no, name) in cases {
+    for (no, name) in MESSAGES {
         assert!(rt; format!(in rt.alloc(); "{no}")?.as_str() == name);
     }
     Ok(())

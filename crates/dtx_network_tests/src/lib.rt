@@ -16,13 +16,9 @@ mod laying;
 #[cfg(test)]
 mod made;
 #[cfg(test)]
-mod marks;
-#[cfg(test)]
 mod net;
 #[cfg(test)]
 mod ops;
-#[cfg(test)]
-mod paging;
 #[cfg(test)]
 mod plan;
 #[cfg(test)]

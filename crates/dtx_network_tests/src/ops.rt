@@ -1,6 +1,6 @@
 //! Worked operations packets, read, damaged, and written again.
 
-ghost use Rattle.std.specs.Prelude.{◌<◌};
+ghost use Rattle.std.specs.Prelude.{◌<◌, ◌≤◌, ◌+◌, ◌*◌, length};
 
 use arrayvec::ArrayVec;
 use dtx_fast::Fast;
@@ -14,7 +14,7 @@ use std::process::Abort;
 use std::test::Fail;
 
 /// The data of a worked packet, up to the end of its only entry.
-const BEGINS: [u8; 23] = [
+pub(crate) const BEGINS: [u8; 23] = [
     0x01, 0x80, 0x00, 0x00, 0x00, 0x10, 0x02, 0x7C, 0x07, 0x4C, 0x4B, 0x40, 0x00, 0x00, 0x00, 0x15,
     0x00, 0x64, 0x01, 0x00, 0x07, 0xFF, 0xF6,
 ];
@@ -61,15 +61,12 @@ fn worked_page() -> Ops {
     }
 }
 
-fn worked_data() -> [u8; 164] {
+/// Data that begin so, with zeros behind.
+pub(crate) fn data_of(begins: &[u8]) -> [u8; 164]
+    requires { length begins.now ≤ 164 }
+{
     let mut data = [0; 164];
-    data[..23].copy_from_slice(&BEGINS);
-    data
-}
-
-fn page_data() -> [u8; 164] {
-    let mut data = [0; 164];
-    data[..29].copy_from_slice(&PAGE_BEGINS);
+    data[..begins.len()].copy_from_slice(begins);
     data
 }
 
@@ -83,7 +80,7 @@ fn data_with(worked: [u8; 164], at: u8, bytes: [u8; 4]) -> [u8; 164] {
 }
 
 /// An operations packet of these data, with right parity bytes.
-fn packet_of(data: &[u8; 164]) -> Packet {
+pub(crate) fn packet_of(data: &[u8; 164]) -> Packet {
     let mut payload = [0; 184];
     Rs::new().encode(data, &mut payload);
     packet_with(&payload)
@@ -111,61 +108,76 @@ fn written_again(packet: &Packet, sync: u8, counter: u8) -> Result<Packet, Fail>
     Ok(written)
 }
 
+/// The packet with that byte 0 and that counter.
+fn with_header(packet: &Packet, sync: u8, counter: u8) -> Packet
+    requires { counter < 16 }
+{
+    let mut changed = *packet;
+    changed.0[0] = sync;
+    changed.0[3] = 0x10 + counter;
+    changed
+}
+
+/// What the packet reads as, written again, is the packet but for its header.
+fn comes_back(packet: &Packet, sync: u8, counter: u8) -> Result<bool, Fail>
+    requires { counter < 16 }
+{
+    Ok(written_again(packet, sync, counter)? == with_header(packet, sync, counter))
+}
+
 #[test]
 fn worked_fields_are_read_and_written(rt: HostRuntime) -> Result<(), Fail> {
-    let packet = packet_of(&worked_data());
+    let packet = packet_of(&data_of(&BEGINS));
     assert!(rt; read(&Fast::new(), &packet)? == worked());
-    let written = written_again(&packet, 0xB8, 13)?;
-    assert!(rt; &written.0[..4] == [0xB8, 0x1F, 0xFA, 0x1D].as_slice());
-    assert!(rt; &written.0[4..] == &packet.0[4..]);
+    assert!(rt; comes_back(&packet, 0xB8, 13)?);
     Ok(())
 }
 
-#[test]
-fn ten_changed_bytes_of_the_payload_are_put_right(rt: HostRuntime) -> Result<(), Fail> {
-    let mut packet = packet_of(&worked_data());
-    for k in 0..10 {
-        packet.0[5 + 18 * k] ^= 0xA5;
+/// What stands up to the first entry of a packet with the greatest numbers.
+const GREATEST: [u8; 23] = [
+    0x01, 0xFF, 0xFF, 0xFF, 0xFF, 0xF0, 0x98, 0x96, 0x7F, 0x98, 0x96, 0x7F, 0xFF, 0xFF, 0xFF, 0xFF,
+    0x02, 0x6F, 35, 0xFF, 0xFF, 0x80, 0x00,
+];
+
+/// Data that begin so, behind which so many entries stand: the addresses 0 and so on, and the least offset.
+fn full_data(begins: &[u8], count: usize) -> [u8; 164]
+    requires { length begins.now + 4 * count ≤ 164 }
+{
+    let mut data = data_of(begins);
+    for k in 0..count {
+        data[begins.len() + 4 * k + 1] = k as u8;
+        data[begins.len() + 4 * k + 2] = 0x80;
     }
-    assert!(rt; read(&Fast::new(), &packet)? == worked());
-    Ok(())
+    data
 }
 
-#[test]
-fn other_bits_of_the_header_are_ignored(rt: HostRuntime) -> Result<(), Fail> {
-    let mut packet = packet_of(&worked_data());
-    packet.0[0] = 0xB8;
-    packet.0[1] = 0xFF;
-    packet.0[3] = 0xE7;
-    assert!(rt; read(&Fast::new(), &packet)? == worked());
-    Ok(())
+/// The entry of that address with the least offset.
+fn least(address: u16) -> Entry {
+    Entry {
+        address,
+        offset: -32768,
+    }
+}
+
+/// It has so many entries, of which the first and the last one have these addresses and the least offset.
+fn has_entries(ops: &Ops, count: usize, first: u16, last: u16) -> bool {
+    let entries = ops.offsets.as_slice();
+    entries.len() == count
+        && entries.first() == Some(&least(first))
+        && entries.last() == Some(&least(last))
 }
 
 #[test]
 fn greatest_numbers_are_read_and_written(rt: HostRuntime) -> Result<(), Fail> {
-    let mut data = [0; 164];
-    data[..19].copy_from_slice(&[
-        0x01, 0xFF, 0xFF, 0xFF, 0xFF, 0xF0, 0x98, 0x96, 0x7F, 0x98, 0x96, 0x7F, 0xFF, 0xFF, 0xFF,
-        0xFF, 0x02, 0x6F, 35,
-    ]);
-    for k in 0..35 {
-        data[20 + 4 * k] = k as u8;
-        data[21 + 4 * k] = 0x80;
-    }
-    data[19] = 0xFF;
-    data[20] = 0xFF;
-    let packet = packet_of(&data);
+    let packet = packet_of(&full_data(&GREATEST, 34));
     let ops = read(&Fast::new(), &packet)?;
     assert!(rt; ops.states == States([7; 12]));
-    assert!(rt; (ops.stamp, ops.max_delay) == (9_999_999, 9_999_999));
-    assert!(rt; (ops.frame, ops.index) == (0xFFFF_FFFF, 623));
-    let first = Entry {
-        address: 65535,
-        offset: -32768,
-    };
-    assert!(rt; ops.offsets.len() == 35);
-    assert!(rt; ops.offsets.as_slice().first() == Some(&first));
-    assert!(rt; &written_again(&packet, 0x47, 15)?.0[4..] == &packet.0[4..]);
+    assert!(rt; ops.stamp == 9_999_999);
+    assert!(rt; ops.max_delay == 9_999_999);
+    assert!(rt; ops.frame == 0xFFFF_FFFF);
+    assert!(rt; ops.index == 623);
+    assert!(rt; has_entries(&ops, 35, 65535, 33));
+    assert!(rt; comes_back(&packet, 0x47, 15)?);
     Ok(())
 }
 
@@ -188,7 +200,7 @@ fn each_refusal_comes_by_its_rule_and_the_first_one_first(rt: HostRuntime) {
     for (at, bytes, refusal) in cases {
         expect_refusal(
             &rt,
-            &packet_of(&data_with(worked_data(), at, bytes)),
+            &packet_of(&data_with(data_of(&BEGINS), at, bytes)),
             refusal,
         );
     }
@@ -197,39 +209,24 @@ fn each_refusal_comes_by_its_rule_and_the_first_one_first(rt: HostRuntime) {
 
 #[test]
 fn a_page_is_read_and_written(rt: HostRuntime) -> Result<(), Fail> {
-    let packet = packet_of(&page_data());
+    let packet = packet_of(&data_of(&PAGE_BEGINS));
     assert!(rt; read(&Fast::new(), &packet)? == worked_page());
-    let written = written_again(&packet, 0x47, 9)?;
-    assert!(rt; &written.0[..4] == [0x47, 0x1F, 0xFA, 0x19].as_slice());
-    assert!(rt; &written.0[4..168] == page_data().as_slice());
-    assert!(rt; &written.0[168..] == &packet.0[168..]);
+    assert!(rt; comes_back(&packet, 0x47, 9)?);
     Ok(())
 }
 
+/// What stands before the entries of a packet with the last of thirty pages.
+const LAST_PAGE: [u8; 21] = [
+    0x02, 0, 0, 0, 0, 0, 0, 0, 0, 0, 0, 0, 0, 0, 0, 0, 0, 0, 29, 30, 34,
+];
+
 #[test]
 fn the_last_page_of_the_most_is_read_and_written(rt: HostRuntime) -> Result<(), Fail> {
-    let mut data = data_with([0; 164], 0, [0x02, 0x00, 0x00, 0x00]);
-    data[18..21].copy_from_slice(&[29, 30, 34]);
-    for k in 0..34 {
-        data[22 + 4 * k] = k as u8;
-        data[23 + 4 * k] = 0x80;
-    }
-    let packet = packet_of(&data);
+    let packet = packet_of(&full_data(&LAST_PAGE, 34));
     let ops = read(&Fast::new(), &packet)?;
-    assert!(rt;
-        ops.paging
-            == Paging::Of {
-                page: 29,
-                pages: 30
-            }
-    );
-    let last = Entry {
-        address: 33,
-        offset: -32768,
-    };
-    assert!(rt; ops.offsets.len() == 34);
-    assert!(rt; ops.offsets.as_slice().last() == Some(&last));
-    assert!(rt; &written_again(&packet, 0x47, 15)?.0[4..] == &packet.0[4..]);
+    assert!(rt; (ops.paging.page(), ops.paging.pages()) == (29, 30));
+    assert!(rt; has_entries(&ops, 34, 0, 33));
+    assert!(rt; comes_back(&packet, 0x47, 15)?);
     Ok(())
 }
 
@@ -247,7 +244,11 @@ fn each_refusal_of_a_page_comes_by_its_rule_and_the_first_one_first(rt: HostRunt
         (160, [0x00, 0x00, 0x00, 0x80], OpsNo::Fill),
     ];
     for (at, bytes, refusal) in cases {
-        expect_refusal(&rt, &packet_of(&data_with(page_data(), at, bytes)), refusal);
+        expect_refusal(
+            &rt,
+            &packet_of(&data_with(data_of(&PAGE_BEGINS), at, bytes)),
+            refusal,
+        );
     }
 }
 

@@ -3,22 +3,23 @@
 use dtx_ops::OpsNo;
 use std::test::Fail;
 
+const MESSAGES: [(OpsNo, &str); 11] = [
+    (OpsNo::NotOps, "NotOps"),
+    (OpsNo::Uncorrectable, "Uncorrectable"),
+    (OpsNo::Kind, "Kind"),
+    (OpsNo::Pad, "Pad"),
+    (OpsNo::Stamp, "Stamp"),
+    (OpsNo::Delay, "Delay"),
+    (OpsNo::Index, "Index"),
+    (OpsNo::Count, "Count"),
+    (OpsNo::Twice, "Twice"),
+    (OpsNo::Fill, "Fill"),
+    (OpsNo::Page, "Page"),
+];
+
 #[test]
 fn the_message_of_a_refusal_is_its_name(rt: HostRuntime) -> Result<(), Fail> {
-    let cases = [
-        (OpsNo::NotOps, "NotOps"),
-        (OpsNo::Uncorrectable, "Uncorrectable"),
-        (OpsNo::Kind, "Kind"),
-        (OpsNo::Pad, "Pad"),
-        (OpsNo::Stamp, "Stamp"),
-        (OpsNo::Delay, "Delay"),
-        (OpsNo::Index, "Index"),
-        (OpsNo::Count, "Count"),
-        (OpsNo::Twice, "Twice"),
-        (OpsNo::Fill, "Fill"),
-        (OpsNo::Page, "Page"),
-    ];
-    for (no, name) in cases {
+    for (no, name) in MESSAGES {
         assert!(rt; format!(in rt.alloc(); "{no}")?.as_str() == name);
     }
     Ok(())

@@ -1,21 +1,28 @@
 // How many transmitters a plan has at most.
-use dtx_plan::{PlanFault, PlanKey, PlanNo, PlanRule, read_plan};
+use super::refusals::plan_refusal;
+use dtx_plan::read_plan;
 use std::alloc::{AllocError, Global};
 use std::test::Fail;
 
 /// A plan of the transmitters 0 to `count - 1`, and behind them one with the address `last`.
-fn plan_of(alloc: Global, count: u16, last: u16) -> Result<String, AllocError> {
+fn plan_of(alloc: Global, count: u32, last: u32) -> Result<String, AllocError> {
     let mut plan = String::from_str(alloc, "start = 0\nmax_delay = 0\ntransmitter = [")?;
     for address in 0..count {
-        plan.push_str(entry(alloc, address)?.as_str())?;
+        add(&mut plan, alloc, address)?;
     }
-    plan.push_str(entry(alloc, last)?.as_str())?;
+    add(&mut plan, alloc, last)?;
     plan.push_str("]")?;
     Ok(plan)
 }
 
-fn entry(alloc: Global, address: u16) -> Result<String, AllocError> {
-    format!(in alloc; "{{ address = {address}, offset = 0 }},")
+// What stands around the address of an entry.
+const BEFORE: &str = "{ address = ";
+
+const BEHIND: &str = ", offset = 0 },";
+
+fn add(plan: &mut String, alloc: Global, address: u32) -> Result<(), AllocError> {
+    let entry = format!(in alloc; "{BEFORE}{address}{BEHIND}")?;
+    plan.push_str(entry.as_str())
 }
 
 #[test]
@@ -25,19 +32,27 @@ fn a_plan_has_up_to_1020_transmitters(rt: HostRuntime) -> Result<(), Fail> {
         .ok()
         .ok_or("no plan")?
         .transmitters;
-    let found = [
-        most.place(0),
-        most.place(1018),
-        most.place(65535),
-        most.place(1019),
-    ];
-    assert!(rt; (most.len(), found) == (1020, [Some(0), Some(1018), Some(1019), None]));
-    for (count, last, key, item, rule) in [
-        (1019, 0, PlanKey::Address, 1019, PlanRule::Twice),
-        (1020, 65535, PlanKey::Transmitter, 0, PlanRule::Range),
+    assert!(rt; most.len() == 1020);
+    for (address, place) in [
+        (0, Some(0)),
+        (1018, Some(1018)),
+        (65535, Some(1019)),
+        (1019, None),
     ] {
-        let no = PlanFault::No(PlanNo { key, item, rule });
-        assert!(rt; read_plan(alloc, plan_of(alloc, count, last)?.as_bytes()).err() == Some(no));
+        assert!(rt; most.place(address) == place);
+    }
+    Ok(())
+}
+
+#[test]
+fn a_plan_with_more_or_with_one_twice_is_refused(rt: HostRuntime) -> Result<(), Fail> {
+    let alloc = rt.alloc();
+    for (count, last, refusal) in [
+        (1019, 0, ("address", 1019, "twice")),
+        (1020, 65535, ("transmitter", 0, "range")),
+    ] {
+        let plan = plan_of(alloc, count, last)?;
+        assert!(rt; plan_refusal(alloc, plan.as_bytes()) == Some(refusal));
     }
     Ok(())
 }

@@ -1,6 +1,7 @@
 // What refuses a plan and a file of changes. In each table a text with two faults is refused for the one that the walk
 // meets first.
 use dtx_plan::{PlanFault, PlanNo, read_changes, read_plan};
+use std::alloc::{AllocError, Global};
 use std::process::Abort;
 use std::test::Fail;
 
@@ -22,11 +23,29 @@ const EVENTS: &str =
 const RECEIVE: &str =
     "start = 0\nmax_delay = 0\ntransmitter = [{ address = 7, offset = 0 }]\nnet.stream = 's'\nnet.receive = ";
 
-/// The words of a refusal. A plan that is read, and want of memory, have none.
-fn words<T: Drop>(read: Result<T, PlanFault>) -> Option<(&'static str, u32, &'static str)> {
-    match read {
-        Err(PlanFault::No(PlanNo { key, item, rule })) => Some((key.word(), item, rule.word())),
-        _ => None,
+/// The words of a refusal: its key, its entry and its rule.
+type Words = (&'static str, u32, &'static str);
+
+fn words(fault: PlanFault) -> Option<Words> {
+    match fault {
+        PlanFault::No(PlanNo { key, item, rule }) => Some((key.word(), item, rule.word())),
+        PlanFault::Memory => None,
+    }
+}
+
+/// What refuses the plan.
+pub(super) fn plan_refusal(alloc: Global, plan: &[u8]) -> Option<Words> {
+    match read_plan(alloc, plan) {
+        Ok(_) => None,
+        Err(fault) => words(fault),
+    }
+}
+
+/// What refuses the changes.
+fn changes_refusal(alloc: Global, changes: &[u8]) -> Option<Words> {
+    match read_changes(alloc, changes) {
+        Ok(_) => None,
+        Err(fault) => words(fault),
     }
 }
 
@@ -38,23 +57,18 @@ fn plans_are_refused(
 ) -> Result<(), Fail> {
     for (text, key, item, rule) in rows {
         let plan = format!(in rt.alloc(); "{before}{text}")?;
-        assert!(rt;
-            words(read_plan(rt.alloc(), plan.as_bytes())) == Some((*key, *item, *rule)),
-            "{plan}"
-        );
+        let refusal = plan_refusal(rt.alloc(), plan.as_bytes());
+        assert!(rt; refusal == Some((*key, *item, *rule)), "{text}");
     }
     Ok(())
 }
 
 /// Each row's changes are refused so.
-fn changes_are_refused(rt: &(impl AllocGlobal + Abort), rows: &[Row]) -> Result<(), Fail> {
+fn changes_are_refused(rt: &(impl AllocGlobal + Abort), rows: &[Row]) {
     for (text, key, item, rule) in rows {
-        assert!(rt;
-            words(read_changes(rt.alloc(), text.as_bytes())) == Some((*key, *item, *rule)),
-            "{text}"
-        );
+        let refusal = changes_refusal(rt.alloc(), text.as_bytes());
+        assert!(rt; refusal == Some((*key, *item, *rule)), "{text}");
     }
-    Ok(())
 }
 
 #[test]
@@ -365,7 +379,7 @@ fn a_plan_is_refused_at_its_network(rt: HostRuntime) -> Result<(), Fail> {
 }
 
 #[test]
-fn changes_are_refused_by_the_rows_of_damage(rt: HostRuntime) -> Result<(), Fail> {
+fn changes_are_refused_by_the_rows_of_damage(rt: HostRuntime) {
     changes_are_refused(
         &rt,
         &[
@@ -427,73 +441,112 @@ fn changes_are_refused_by_the_rows_of_damage(rt: HostRuntime) -> Result<(), Fail
                 "order",
             ),
         ],
-    )
+    );
 }
 
 #[test]
-fn long_files_arrays_and_names_are_refused_by_their_bytes_and_entries(
-    rt: HostRuntime,
-) -> Result<(), Fail> {
+fn a_file_is_read_up_to_its_most_bytes(rt: HostRuntime) -> Result<(), Fail> {
     let alloc = rt.alloc();
     let mut bytes = vec![in alloc; b' '; 16777216]?;
-    assert!(rt; words(read_plan(alloc, &bytes)) == Some(("start", 0, "missing")));
+    assert!(rt; plan_refusal(alloc, &bytes) == Some(("start", 0, "missing")));
     bytes.push(b' ')?;
-    assert!(rt; words(read_plan(alloc, &bytes)) == Some(("whole", 0, "size")));
-    assert!(rt; words(read_changes(alloc, &bytes)) == Some(("whole", 0, "size")));
-    assert!(rt; words(read_plan(alloc, &[b'#', 0xFF])) == Some(("whole", 0, "text")));
-    for (before, first, one, count, last, want) in [
-        (EVENTS, "[", "1,", 10000, "]", ("event", 0, "kind")),
-        (EVENTS, "[", "1,", 10001, "]", ("event", 0, "range")),
-        (
-            RECEIVE,
-            "{ from = 7, damage = [",
-            "1,",
-            100000,
-            "] }",
-            ("damage", 0, "kind"),
-        ),
-        (
-            RECEIVE,
-            "{ from = 7, damage = [",
-            "1,",
-            100001,
-            "] }",
-            ("damage", 0, "range"),
-        ),
-        (
-            NET,
-            "{ event = 1, stream = '",
-            "a",
-            255,
-            "' }",
-            ("event", 0, "kind"),
-        ),
-        (
-            NET,
-            "{ event = 1, stream = '",
-            "a",
-            256,
-            "' }",
-            ("stream", 0, "range"),
-        ),
-        (
-            NET,
-            "{ event = 1, stream = '",
-            "é",
-            128,
-            "' }",
-            ("stream", 0, "range"),
-        ),
-    ] {
-        let mut text = format!(in alloc; "{before}{first}")?;
-        for _ in 0..count {
-            text.push_str(one)?;
-        }
-        text.push_str(last)?;
-        assert!(rt;
-            words(read_plan(alloc, text.as_bytes())) == Some(want),
-            "{one}"
-        );
+    assert!(rt; plan_refusal(alloc, &bytes) == Some(("whole", 0, "size")));
+    assert!(rt; changes_refusal(alloc, &bytes) == Some(("whole", 0, "size")));
+    Ok(())
+}
+
+#[test]
+fn bytes_that_are_no_text_are_refused(rt: HostRuntime) {
+    assert!(rt; plan_refusal(rt.alloc(), &[b'#', 0xFF]) == Some(("whole", 0, "text")));
+}
+
+// What stands before a part that is there so many times, and behind it; and the key and the rule of the refusal.
+type LongRow = (
+    &'static str,
+    &'static str,
+    &'static str,
+    u32,
+    &'static str,
+    &'static str,
+    &'static str,
+);
+
+const LONG: [LongRow; 7] = [
+    (EVENTS, "[", "1,", 10000, "]", "event", "kind"),
+    (EVENTS, "[", "1,", 10001, "]", "event", "range"),
+    (
+        RECEIVE,
+        "{ from = 7, damage = [",
+        "1,",
+        100000,
+        "] }",
+        "damage",
+        "kind",
+    ),
+    (
+        RECEIVE,
+        "{ from = 7, damage = [",
+        "1,",
+        100001,
+        "] }",
+        "damage",
+        "range",
+    ),
+    (
+        NET,
+        "{ event = 1, stream = '",
+        "a",
+        255,
+        "' }",
+        "event",
+        "kind",
+    ),
+    (
+        NET,
+        "{ event = 1, stream = '",
+        "a",
+        256,
+        "' }",
+        "stream",
+        "range",
+    ),
+    (
+        NET,
+        "{ event = 1, stream = '",
+        "é",
+        128,
+        "' }",
+        "stream",
+        "range",
+    ),
+];
+
+/// A text, and a part behind it so many times.
+fn repeated(alloc: Global, text: &str, part: &str, count: u32) -> Result<String, AllocError> {
+    let mut repeated = String::from_str(alloc, text)?;
+    for _ in 0..count {
+        repeated.push_str(part)?;
+    }
+    Ok(repeated)
+}
+
+/// The text of a row.
+fn long_text(alloc: Global, row: &LongRow) -> Result<String, AllocError> {
+    let (before, first, part, count, last, _, _) = row;
+    let begins = format!(in alloc; "{before}{first}")?;
+    let mut text = repeated(alloc, begins.as_str(), part, *count)?;
+    text.push_str(last)?;
+    Ok(text)
+}
+
+#[test]
+fn long_arrays_and_names_are_refused_by_their_entries_and_bytes(
+    rt: HostRuntime,
+) -> Result<(), Fail> {
+    for row in &LONG {
+        let text = long_text(rt.alloc(), row)?;
+        let (_, _, _, _, _, key, rule) = row;
+        assert!(rt; plan_refusal(rt.alloc(), text.as_bytes()) == Some((*key, 0, *rule)));
     }
     Ok(())
 }
