@@ -21,7 +21,7 @@ const CHANGES: &[u8] = b"damage = [{ at = 940, put = 72 }]";
 
 const WALKS: [Walk; 8] = [
     Walk {
-        commands: &["make 1 9 s", "hurt s c t", "adapt p s f", "adapt p t o"],
+        commands: &["make 1 9 s", "hurt s d t", "adapt p s f", "adapt p t o"],
         lines: "packets 9\nbytes 1692 damaged 1\npackets 9 filled 0 loose 0\npacket 5\n",
         given: "f",
         back: "o",
@@ -85,7 +85,7 @@ const WALKS: [Walk; 8] = [
 fn walked(rt: &HostRuntime, walk: &Walk) -> Result<Desk, Fail> {
     let mut desk = Desk::new(rt);
     desk.put("p", PLAN)?;
-    desk.put("c", CHANGES)?;
+    desk.put("d", CHANGES)?;
     desk.run_each(walk.commands)?;
     Ok(desk)
 }
