@@ -4,12 +4,22 @@ use dtx_outside::Call;
 use dtx_top::Status;
 use std::test::Fail;
 
-/// A network of two transmitters, the first of which is received with a little damage.
-const PLAN: &[u8] = b"start = 0\nmax_delay = 5000000\n\
-transmitter = [{ address = 7, offset = -10 }, { address = 9, offset = 25 }]\n\
-[net]\nstream = \"s.ts\"\n\
-event = [{ do = \"send\", to = 7, from = 0, count = 1300 }, { do = \"send\", to = 9, from = 100, count = 20 }]\n\
-receive = { from = 7, damage = [{ at = 400000, count = 20, put = 3 }] }\n";
+/// The head of a plan of two transmitters.
+const HEAD: &[u8] = b"start = 0\nmax_delay = 5000000\n\
+transmitter = [{ address = 7, offset = -10 }, { address = 9, offset = 25 }]\nnet.stream = \"s.ts\"\n";
+
+/// The first one is received with a little damage.
+const RECEIVED: &[u8] = b"net.event = [{ do = \"send\", to = 7, from = 0, count = 1300 },\
+{ do = \"send\", to = 9, from = 100, count = 20 }]\n\
+net.receive = { from = 7, damage = [{ at = 400000, count = 20, put = 3 }] }\n";
+
+/// The plan that ends so.
+fn plan_of(rt: &HostRuntime, end: &[u8]) -> Result<Vec<u8>, Fail> {
+    let mut text = Vec::new(rt.alloc());
+    text.extend_from_slice(HEAD)?;
+    text.extend_from_slice(end)?;
+    Ok(text)
+}
 
 /// Changes to 400,000 symbols.
 const CHANGES: &[u8] = b"damage = [{ at = 300000, count = 400000, put = 1 }]";
@@ -95,22 +105,31 @@ const CASES: [Case; 16] = [
     },
 ];
 
-/// The plan, changes, a made stream of 1,300 packets, its feed and the feed's symbols.
+/// What makes the others of a plan: a stream of 1,300 packets, its feed and the feed's symbols.
+const MAKING: [&str; 3] = ["make 1 1300 s.ts", "adapt p s.ts f.ts", "code f.ts c.sym"];
+
+/// A desk with all of them.
 fn inputs(rt: &HostRuntime) -> Result<Desk, Fail> {
+    let mut desk = planned(rt)?;
+    desk.run_each(&MAKING)?;
+    Ok(desk)
+}
+
+/// A desk with the plan and the changes.
+fn planned(rt: &HostRuntime) -> Result<Desk, Fail> {
     let mut desk = Desk::new(rt);
-    desk.put("p", PLAN)?;
+    desk.put("p", &plan_of(rt, RECEIVED)?)?;
     desk.put("c", CHANGES)?;
-    desk.run_each(&["make 1 1300 s.ts", "adapt p s.ts f.ts", "code f.ts c.sym"])?;
     Ok(desk)
 }
 
 /// What stands under the names of the outputs before a command.
 const BEFORE: &[u8] = b"as before";
 
-/// The same files, with which nothing was done.
-fn copied(rt: &HostRuntime, inputs: &Desk) -> Result<Desk, Fail> {
+/// A desk with the same files of those names, with which nothing was done.
+fn copied(rt: &HostRuntime, inputs: &Desk, names: &[&str]) -> Result<Desk, Fail> {
     let mut desk = Desk::new(rt);
-    for name in INPUTS {
+    for name in names {
         desk.put(name, inputs.file(name))?;
     }
     Ok(desk)
@@ -129,7 +148,7 @@ const NEVER: u64 = u64::MAX;
 
 /// What the command leaves over these inputs, where the call of that kind and number fails.
 fn done(rt: &HostRuntime, case: &Case, inputs: &Desk, call: Call, nth: u64) -> Result<Desk, Fail> {
-    let mut desk = copied(rt, inputs)?;
+    let mut desk = copied(rt, inputs, &INPUTS)?;
     put_before(&mut desk, case.outputs)?;
     desk.fail(call, nth)?;
     desk.run(case.words)?;
@@ -218,12 +237,17 @@ fn a_failing_call_has_its_status_and_leaves_front_parts(rt: HostRuntime) -> Resu
     Ok(())
 }
 
+/// Whether at least half of the output stands behind a fault of reading.
+fn has_half(desk: &Desk, whole: &Desk) -> bool {
+    desk.answer() == Status::ReadFault && desk.file("o").len() >= whole.file("o").len() / 2
+}
+
 /// Whether at least half of the output stands where the last read fails.
 fn half_stands(rt: &HostRuntime, case: &Case, inputs: &Desk) -> Result<bool, Fail> {
     let whole = done(rt, case, inputs, Call::Read, NEVER)?;
     let last = whole.calls(Call::Read).saturating_sub(1);
     let desk = done(rt, case, inputs, Call::Read, last)?;
-    Ok(desk.answer() == Status::ReadFault && desk.file("o").len() >= whole.file("o").len() / 2)
+    Ok(has_half(&desk, &whole))
 }
 
 /// A stream is never held whole.
@@ -237,18 +261,14 @@ fn half_of_the_output_stands_before_the_last_read(rt: HostRuntime) -> Result<(),
     Ok(())
 }
 
-/// Of two transmitters the first one is given the feed in two parts, and the other one whole between them.
-const IN_TURN: &[u8] = b"start = 0\nmax_delay = 5000000\n\
-transmitter = [{ address = 7, offset = -10 }, { address = 9, offset = 25 }]\n\
-[net]\nstream = \"s.ts\"\n\
-[[net.event]]\ndo = \"send\"\nto = 7\nfrom = 0\ncount = 300\n\
-[[net.event]]\ndo = \"send\"\nto = 9\nfrom = 0\ncount = 1300\n\
-[[net.event]]\ndo = \"send\"\nto = 7\nfrom = 300\ncount = 1000\n";
+/// The first transmitter is given the feed in two parts, and the other one whole between them.
+const IN_TURN: &[u8] = b"net.event = [{ do = \"send\", to = 7, from = 0, count = 300 },\
+{ do = \"send\", to = 9, from = 0, count = 1300 }, { do = \"send\", to = 7, from = 300, count = 1000 }]\n";
 
 /// What `net` leaves of that plan over 1,300 made packets, where the append of that number fails.
 fn played(rt: &HostRuntime, failing: u64) -> Result<Desk, Fail> {
     let mut desk = Desk::new(rt);
-    desk.put("p", IN_TURN)?;
+    desk.put("p", &plan_of(rt, IN_TURN)?)?;
     desk.fail(Call::Append, failing)?;
     desk.run_each(&["make 1 1300 s.ts", "net p"])?;
     Ok(desk)
