@@ -5,13 +5,14 @@ use dtx_top::{Status, run};
 use std::alloc::Global;
 use std::test::Fail;
 
-/// Files in memory, and what was printed beside them. The tests see what the program does over it, and none of its
-/// clauses.
+/// Files in memory, what was printed beside them, and the last answer. The tests see what the program does over it, and
+/// none of its clauses.
 #[derive(Drop)]
 pub struct Desk {
     alloc: Global,
     shelf: MemoryShelf,
     out: MemorySink,
+    answer: Status,
 }
 
 impl Desk {
@@ -21,6 +22,7 @@ impl Desk {
             alloc: rt.alloc(),
             shelf: MemoryShelf::new(rt.alloc()),
             out: MemorySink::new(rt.alloc()),
+            answer: Status::Done,
         }
     }
 
@@ -38,10 +40,24 @@ impl Desk {
         Ok(())
     }
 
-    /// What `run` answers to those words.
-    pub fn run(&mut self, texts: &[&str]) -> Result<Status, Fail> {
-        let words = words_of(self.alloc, texts)?;
-        Ok(run(self.alloc, &words, &mut self.shelf, &mut self.out))
+    /// Runs the program with the words of the text.
+    pub fn run(&mut self, text: &str) -> Result<(), Fail> {
+        let words = words_of(self.alloc, text)?;
+        self.answer = run(self.alloc, &words, &mut self.shelf, &mut self.out);
+        Ok(())
+    }
+
+    /// Runs the program with the words of each text.
+    pub fn run_each(&mut self, texts: &[&str]) -> Result<(), Fail> {
+        for text in texts {
+            self.run(text)?;
+        }
+        Ok(())
+    }
+
+    /// What the program answered last.
+    pub fn answer(&self) -> Status {
+        self.answer
     }
 
     /// A file that is there, or no bytes.
@@ -60,10 +76,10 @@ impl Desk {
     }
 }
 
-fn words_of(alloc: Global, texts: &[&str]) -> Result<Vec<Word>, Fail> {
+fn words_of(alloc: Global, text: &str) -> Result<Vec<Word>, Fail> {
     let mut words = Vec::new(alloc);
-    for text in texts {
-        words.push(Word::new(String::from_str(alloc, text)?))?;
+    for word in text.split_ascii_whitespace() {
+        words.push(Word::new(String::from_str(alloc, word)?))?;
     }
     Ok(words)
 }

@@ -1,26 +1,16 @@
-//! Tests of the program and of the one loop, over files in memory. They stand apart, so that no crate is proved once
-//! more with its tests.
+//! Tests of the program, over files in memory. They stand apart, so that no crate is proved once more with its tests.
 #![tactic(auto)]
 
-pub mod desk;
 #[cfg(test)]
-mod dvb;
+mod desk;
 #[cfg(test)]
-mod engine;
+mod faults;
 #[cfg(test)]
 mod net;
 #[cfg(test)]
-mod page;
+mod texts;
 #[cfg(test)]
-mod place;
-#[cfg(test)]
-mod repeat;
-#[cfg(test)]
-mod rows;
-#[cfg(test)]
-mod soft;
-#[cfg(test)]
-mod trial;
+mod walks;
 #[cfg(test)]
 mod words;
 #[cfg(test)]

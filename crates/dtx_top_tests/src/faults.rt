@@ -1,0 +1,302 @@
+// What every command answers and leaves where a call to its files fails, over files in memory.
+use crate::desk::Desk;
+use dtx_outside::Call;
+use dtx_top::Status;
+use std::test::Fail;
+
+/// The head of a plan of two transmitters.
+const HEAD: &[u8] = b"start = 0\nmax_delay = 5000000\n\
+transmitter = [{ address = 7, offset = -10 }, { address = 9, offset = 25 }]\nnet.stream = \"s.ts\"\n";
+
+/// The first one is received with a little damage.
+const RECEIVED: &[u8] = b"net.event = [{ do = \"send\", to = 7, from = 0, count = 1300 },\
+{ do = \"send\", to = 9, from = 100, count = 20 }]\n\
+net.receive = { from = 7, damage = [{ at = 400000, count = 20, put = 3 }] }\n";
+
+/// The plan that ends so.
+fn plan_of(rt: &HostRuntime, end: &[u8]) -> Result<Vec<u8>, Fail> {
+    let mut text = Vec::new(rt.alloc());
+    text.extend_from_slice(HEAD)?;
+    text.extend_from_slice(end)?;
+    Ok(text)
+}
+
+/// Changes to 400,000 symbols.
+const CHANGES: &[u8] = b"damage = [{ at = 300000, count = 400000, put = 1 }]";
+
+/// The files that the commands read.
+const INPUTS: [&str; 5] = ["p", "c", "s.ts", "f.ts", "c.sym"];
+
+/// A command: its words, and its outputs in the order in which they are begun.
+struct Case {
+    words: &'static str,
+    outputs: &'static [&'static str],
+}
+
+const CASES: [Case; 16] = [
+    Case {
+        words: "adapt p s.ts o",
+        outputs: &["o"],
+    },
+    Case {
+        words: "code f.ts o",
+        outputs: &["o"],
+    },
+    Case {
+        words: "excite f.ts 7 1000 o l",
+        outputs: &["o", "l"],
+    },
+    Case {
+        words: "receive c.sym o",
+        outputs: &["o"],
+    },
+    Case {
+        words: "net p",
+        outputs: &[
+            "net.feed", "tx-7.sym", "tx-7.log", "tx-9.sym", "tx-9.log", "net.ts",
+        ],
+    },
+    Case {
+        words: "make 1 1300 o",
+        outputs: &["o"],
+    },
+    Case {
+        words: "hurt c.sym c o",
+        outputs: &["o"],
+    },
+    Case {
+        words: "place s.ts o",
+        outputs: &["o"],
+    },
+    Case {
+        words: "trial 1 624",
+        outputs: &[
+            "trial.ts", "net.feed", "tx-1.sym", "tx-1.log", "tx-2.sym", "tx-2.log", "tx-3.sym",
+            "tx-3.log", "net.ts",
+        ],
+    },
+    Case {
+        words: "soft c.sym o",
+        outputs: &["o"],
+    },
+    Case {
+        words: "mend c.sym o",
+        outputs: &["o"],
+    },
+    Case {
+        words: "dvb code s.ts o",
+        outputs: &["o"],
+    },
+    Case {
+        words: "dvb read c.sym o",
+        outputs: &["o"],
+    },
+    Case {
+        words: "repeat c.sym 7 1000 o l",
+        outputs: &["o", "l"],
+    },
+    Case {
+        words: "acquire 1 c.sym o",
+        outputs: &["o"],
+    },
+    Case {
+        words: "watch f.ts o",
+        outputs: &["o"],
+    },
+];
+
+/// What makes the others of a plan: a stream of 1,300 packets, its feed and the feed's symbols.
+const MAKING: [&str; 3] = ["make 1 1300 s.ts", "adapt p s.ts f.ts", "code f.ts c.sym"];
+
+/// A desk with all of them.
+fn inputs(rt: &HostRuntime) -> Result<Desk, Fail> {
+    let mut desk = planned(rt)?;
+    desk.run_each(&MAKING)?;
+    Ok(desk)
+}
+
+/// A desk with the plan and the changes.
+fn planned(rt: &HostRuntime) -> Result<Desk, Fail> {
+    let mut desk = Desk::new(rt);
+    desk.put("p", &plan_of(rt, RECEIVED)?)?;
+    desk.put("c", CHANGES)?;
+    Ok(desk)
+}
+
+/// What stands under the names of the outputs before a command.
+const BEFORE: &[u8] = b"as before";
+
+/// A desk with the same files of those names, with which nothing was done.
+fn copied(rt: &HostRuntime, inputs: &Desk, names: &[&str]) -> Result<Desk, Fail> {
+    let mut desk = Desk::new(rt);
+    for name in names {
+        desk.put(name, inputs.file(name))?;
+    }
+    Ok(desk)
+}
+
+/// Puts files under the names of the outputs.
+fn put_before(desk: &mut Desk, outputs: &[&str]) -> Result<(), Fail> {
+    for name in outputs {
+        desk.put(name, BEFORE)?;
+    }
+    Ok(())
+}
+
+/// The number of no call.
+const NEVER: u64 = u64::MAX;
+
+/// What the command leaves over these inputs, where the call of that kind and number fails.
+fn done(rt: &HostRuntime, case: &Case, inputs: &Desk, call: Call, nth: u64) -> Result<Desk, Fail> {
+    let mut desk = copied(rt, inputs, &INPUTS)?;
+    put_before(&mut desk, case.outputs)?;
+    desk.fail(call, nth)?;
+    desk.run(case.words)?;
+    Ok(desk)
+}
+
+/// Whether each of these files is the same on both desks.
+fn are_alike(desk: &Desk, other: &Desk, names: &[&str]) -> bool {
+    for name in names {
+        if desk.file(name) != other.file(name) {
+            return false;
+        }
+    }
+    true
+}
+
+/// Whether the outputs that were begun are the first ones, and each is a front part of the whole one.
+fn are_fronts(desk: &Desk, whole: &Desk, outputs: &[&str]) -> bool {
+    let mut all_begun = true;
+    for name in outputs {
+        let left = desk.file(name);
+        if left == BEFORE {
+            all_begun = false;
+        } else if !all_begun || !whole.file(name).starts_with(left) {
+            return false;
+        }
+    }
+    true
+}
+
+/// Whether the answer and the line are those to a call of that kind that fails.
+fn is_faulty(desk: &Desk, call: Call) -> bool {
+    match call {
+        Call::Read => desk.answer() == Status::ReadFault && desk.has_printed("read fault\n"),
+        Call::Begin | Call::Append => {
+            desk.answer() == Status::WriteFault && desk.has_printed("write fault\n")
+        }
+    }
+}
+
+/// Whether the command ended as it should where the call of that kind and number fails: where it makes that call, with
+/// the fault and front parts, and else as though nothing were planned.
+fn has_ended_well(desk: &Desk, whole: &Desk, case: &Case, call: Call, nth: u64) -> bool {
+    if nth < whole.calls(call) {
+        is_faulty(desk, call) && are_fronts(desk, whole, case.outputs)
+    } else {
+        desk.answer() == Status::Done && are_alike(desk, whole, case.outputs)
+    }
+}
+
+/// Whether it does so for the first three calls of that kind, and for the last, and all inputs stand.
+fn ends_well(
+    rt: &HostRuntime,
+    case: &Case,
+    inputs: &Desk,
+    whole: &Desk,
+    call: Call,
+) -> Result<bool, Fail> {
+    for nth in [0, 1, 2, whole.calls(call).saturating_sub(1)] {
+        let desk = done(rt, case, inputs, call, nth)?;
+        if !has_ended_well(&desk, whole, case, call, nth) || !are_alike(&desk, inputs, &INPUTS) {
+            return Ok(false);
+        }
+    }
+    Ok(true)
+}
+
+/// Whether the command is done, and ends as it should where a call of any kind fails.
+fn always_ends_well(rt: &HostRuntime, case: &Case, inputs: &Desk) -> Result<bool, Fail> {
+    let whole = done(rt, case, inputs, Call::Read, NEVER)?;
+    for call in [Call::Read, Call::Begin, Call::Append] {
+        if !ends_well(rt, case, inputs, &whole, call)? {
+            return Ok(false);
+        }
+    }
+    Ok(whole.answer() == Status::Done)
+}
+
+#[test]
+fn a_failing_call_has_its_status_and_leaves_front_parts(rt: HostRuntime) -> Result<(), Fail> {
+    let inputs = inputs(&rt)?;
+    for case in &CASES {
+        let words = case.words;
+        assert!(rt; always_ends_well(&rt, case, &inputs)?, "{words}");
+    }
+    Ok(())
+}
+
+/// Whether at least half of the output stands behind a fault of reading.
+fn has_half(desk: &Desk, whole: &Desk) -> bool {
+    desk.answer() == Status::ReadFault && desk.file("o").len() >= whole.file("o").len() / 2
+}
+
+/// Whether at least half of the output stands where the last read fails.
+fn half_stands(rt: &HostRuntime, case: &Case, inputs: &Desk) -> Result<bool, Fail> {
+    let whole = done(rt, case, inputs, Call::Read, NEVER)?;
+    let last = whole.calls(Call::Read).saturating_sub(1);
+    let desk = done(rt, case, inputs, Call::Read, last)?;
+    Ok(has_half(&desk, &whole))
+}
+
+/// A stream is never held whole.
+#[test]
+fn half_of_the_output_stands_before_the_last_read(rt: HostRuntime) -> Result<(), Fail> {
+    let inputs = inputs(&rt)?;
+    for case in &CASES[..4] {
+        let words = case.words;
+        assert!(rt; half_stands(&rt, case, &inputs)?, "{words}");
+    }
+    Ok(())
+}
+
+/// The first transmitter is given the feed in two parts, and the other one whole between them.
+const IN_TURN: &[u8] = b"net.event = [{ do = \"send\", to = 7, from = 0, count = 300 },\
+{ do = \"send\", to = 9, from = 0, count = 1300 }, { do = \"send\", to = 7, from = 300, count = 1000 }]\n";
+
+/// What `net` leaves of that plan over 1,300 made packets, where the append of that number fails.
+fn played(rt: &HostRuntime, failing: u64) -> Result<Desk, Fail> {
+    let mut desk = Desk::new(rt);
+    desk.put("p", &plan_of(rt, IN_TURN)?)?;
+    desk.fail(Call::Append, failing)?;
+    desk.run_each(&["make 1 1300 s.ts", "net p"])?;
+    Ok(desk)
+}
+
+/// Whether both transmitters have sent all symbols of the feed.
+fn all_is_sent(whole: &Desk) -> bool {
+    whole.has_printed("packets 1300\nfeed 1300 filled 4 steps 2600\n")
+        && whole.file("tx-7.sym").len() == 1_001_728
+        && whole.file("tx-9.sym") == whole.file("tx-7.sym")
+}
+
+/// Whether the symbols of the first transmitter stand but for some of the last.
+fn symbols_are_cut(desk: &Desk, whole: &Desk) -> bool {
+    let left = desk.file("tx-7.sym");
+    let sent = whole.file("tx-7.sym");
+    sent.starts_with(left) && 998_400 <= left.len() && left.len() < sent.len()
+}
+
+/// All transmitters come as far in their schedule: where the last append fails, which is one of the first one's, the
+/// files of the other one are whole, and its symbols stand but for some of the last.
+#[test]
+fn a_network_breaks_off_at_one_step_for_all(rt: HostRuntime) -> Result<(), Fail> {
+    let whole = played(&rt, NEVER)?;
+    assert!(rt; all_is_sent(&whole));
+    let desk = played(&rt, whole.calls(Call::Append).saturating_sub(1))?;
+    assert!(rt; desk.answer() == Status::WriteFault);
+    assert!(rt; are_alike(&desk, &whole, &["tx-9.sym", "tx-9.log"]));
+    assert!(rt; symbols_are_cut(&desk, &whole));
+    Ok(())
+}
