@@ -4,6 +4,7 @@ pub mod Carrying
 pub mod Ending
 pub mod FileNames
 pub mod Headlines
+pub mod LateOrders
 pub mod LineLeft
 pub mod NetAnswers
 pub mod NetFiles

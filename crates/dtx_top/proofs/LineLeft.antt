@@ -188,14 +188,16 @@ pub line_untold : (command : Option Command) (words : List (List ℕ)) (outcome 
     (line : Result (Unit {0}) SinkNo) (first last : ℕ) (old new : Option (List ℕ))
     → (command ≡ Some Net → IsSomeName command words outcome.status (name_kept command words outcome.status kept))
     → (command ≡ None → outcome.status ≡ Usage) → (command ≡ Some Net → ShowsNetwork outcome.status outcome)
+    → length outcome.numbers ≡ 7
     → IsPut (line_of command outcome (name_kept command words outcome.status kept)) old line new
     → IsCounted first line last
     → HasLine (IsSomeLine command words) (finished outcome.status line) (Rose first last) old new
-line_untold command words outcome kept line first last old new named usage shown put counted =
+line_untold command words outcome kept line first last old new named usage shown seven put counted =
     line_left (IsSomeLine command words) outcome.status _ line first last old new (record {
       outcome = outcome;
       name = name_kept command words outcome.status kept;
       named = some_name command words outcome.status kept named;
       count = some_count command outcome usage shown;
+      seven = seven;
       line = refl;
     }) put counted

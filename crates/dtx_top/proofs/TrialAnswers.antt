@@ -1,10 +1,7 @@
--- What is answered of a trial over files that are told: it is done, or a fault or want of memory was met.
-use Rattle.std.proofs.Common.{◌≡◌, ℕ, ◌-◌, ◌^◌, ◌≤◌, true, false, List, [], ◌∷◌, refl, sym, subst, ◌∙◌, inl, inr}
-use Rattle.std.specs.Prelude.{◌⊎◌, Option, Some, None, IfSome, is_some}
+-- What the words of a trial mean is done.
+use Rattle.std.proofs.Common.{◌≡◌, ℕ, ◌-◌, ◌^◌, ◌≤◌, true, false, List, [], ◌∷◌, refl, sym, subst}
+use Rattle.std.specs.Prelude.{Option, Some, None, IfSome, is_some}
 use Rattle.std.proofs.lemmas.Bool.{and_parts}
-use Rattle.dtx_meaning.specs.Meaning.{IsDone}
-use Rattle.dtx_meaning.specs.Status.{IsFault}
-use Rattle.dtx_meaning.specs.declared.status.Status.{Status}
 use Rattle.dtx_meaning.specs.declared.status.Status.TheVariants.{Done}
 use Rattle.dtx_outside.specs.Shelf.{Files}
 use Rattle.dtx_words.specs.Fitting.{command_of, fit_fields, fits}
@@ -55,18 +52,3 @@ pub words_done : TrialLaw → (words : List (List ℕ)) (held : Files) → comma
 words_done law words held is =
     subst (λ (command : Option Command). (means_of command words held).outcome.status ≡ Done) (sym is)
     (fitted_done law words held (command_fits words Trial is))
-
--- ---- what is answered
-
-pub trial_ended : ((words : List (List ℕ)) (held : Files) → command_of words ≡ Some Trial
-    → (means words held).outcome.status ≡ Done) → (command : Option Command) (words : List (List ℕ))
-    (told now : Option Files) (status : Status) (unprinted : Type 0) → command_of words ≡ command
-    → IfSome told (λ held. IsDone (means_of command words held) (Some held) status unprinted now)
-    → IfSome told (λ held. command ≡ Some Trial → (status ≡ Done) ⊎ IsFault status)
-trial_ended done command words None now status unprinted fit carried = tt
-trial_ended done command words (Some held) now status unprinted fit carried = λ is. elim carried [
-  | inl answered ↦ inl (answered.answer ∙ subst (λ (c : Option Command). (means_of c words held).outcome.status ≡ Done)
-      fit (done words held (fit ∙ is)))
-  | inr (inl faulted) ↦ inr faulted.fault
-  | inr (inr printed) ↦ inr (subst IsFault (sym printed.answer) tt)
-]

@@ -49,13 +49,14 @@ IsSomeCount None status outcome = status ≢ Done
 IsSomeCount (Some Net) status outcome = ShowsNetwork status outcome
 IsSomeCount (Some command) status outcome = Unit {0}
 
--- the text is a line of an answer to these words, whatever the files are: with some numbers
+-- the text is a line of an answer to these words, whatever the files are: with some numbers, of which there are seven
 pub record IsSomeLine (command : Option Command) (words : List (List ℕ)) (status : Status)
     (text : List ℕ) : Type 0 where
   pub outcome : Outcome
   pub name : List ℕ
   pub named : IsSomeName command words status name
   pub count : IsSomeCount command status outcome
+  pub seven : length outcome.numbers ≡ 7
   pub line : text ≡ line_at command status outcome name
 
 -- ---- how much of it

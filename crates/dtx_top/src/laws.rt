@@ -1,7 +1,10 @@
 //! Laws of the definitions: the segments of a transmitter's symbol file are those that it sends.
 
-ghost use Rattle.std.specs.Prelude.{◌≡◌, ◌≢◌, ◌-◌, ◌*◌, ◌%◌, ◌^◌, ◌<◌, ◌≤◌, ◌∷◌, [], ℕ, IsSomeAnd, List, Some};
-ghost use Rattle.std.specs.Prelude.{drop, length, true};
+ghost use Rattle.std.specs.Prelude.{◌≡◌, ◌≢◌, ◌-◌, ◌*◌, ◌/◌, ◌%◌, ◌^◌, ◌<◌, ◌≤◌, ◌∷◌, [], ℕ, IsSomeAnd, List, Some};
+ghost use Rattle.std.specs.Prelude.{drop, is_some, length, slice_index_or, true};
+ghost use Rattle.dtx_exciter.specs.Order.{counting_order};
+ghost use Rattle.dtx_exciter.specs.Packets.{readings};
+ghost use Rattle.dtx_packets.specs.Packet.{pid_of};
 ghost use Rattle.std.specs.FinMap.{get};
 ghost use Rattle.dtx_adapter.specs.Feed.{feed};
 ghost use Rattle.dtx_meaning.specs.declared.status.Status.{Status};
@@ -30,6 +33,7 @@ ghost use Rattle.dtx_top.specs.Trial.{trial_made, trial_plan};
 ghost use Rattle.dtx_top.specs.WorkedNetwork.{HasAllBack, IsSimple, WorkedNetwork, made_packets};
 
 use dtx_exciter::laws::groups_are_spaced;
+use dtx_jobs::laws::placing::groups_begin_late;
 use dtx_jobs::laws::watching::sound_feeds_are_watched_calmly;
 use dtx_net::laws::interleavings;
 use dtx_network::laws::{
@@ -88,6 +92,20 @@ pub fn simple_networks_work()
     listings_of_a_feed();
     packets_of_a_feed();
     headline();
+}
+
+/// Where packet k of a stream, at place 52 of its field or behind, is a placeholder, its group of four is an order in
+/// the adapter's feed: it begins 52 packets or more behind the mark of its frame, so it counts for every exciter that
+/// is locked to that mark or to an earlier one. Of a stream in which placeholders were put such a packet stands in each
+/// field that had a null packet or a placeholder there (`fields_with_one` of `dtx_jobs`).
+pub fn late_placeholders_are_orders()
+    ensures late { (k : ℕ) → 52 ≤ k % 312 → 52 ≤ 4 * (k / 4) % 624 }
+    ensures order { (plan : Plan) (stream : List (List ℕ)) (k : ℕ) → IsPlan plan → IsStream stream → 52 ≤ k % 312
+        → pid_of (slice_index_or stream k []) ≡ 0x1FFA
+        → is_some (counting_order (readings (feed plan stream)) (4 * (k / 4))) ≡ true }
+{
+    groups_begin_late();
+    orders_of_a_feed();
 }
 
 /// Made packets are a stream, and the group from packet 100 on holds a placeholder.

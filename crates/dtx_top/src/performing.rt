@@ -1,5 +1,5 @@
 // The command that the words fit, but for its line.
-ghost use Rattle.std.specs.Prelude.{◌≡◌, None, Some, IfSome};
+ghost use Rattle.std.specs.Prelude.{◌≡◌, None, Some, IfSome, length};
 ghost use Rattle.dtx_outside.specs.Counts.{HasGone};
 ghost use Rattle.dtx_meaning.specs.Meaning.{IsCarriedOut};
 ghost use Rattle.dtx_meaning.specs.Status.{blame_of};
@@ -37,6 +37,7 @@ pub(crate) fn perform<S: Shelf>(
     ensures untold_name { command ≡ Some Command.Net → IsSomeName command words.now result.outcome.status
         (name_kept command words.now result.outcome.status result.name.bytes) }
     ensures shown { command ≡ Some Command.Net → ShowsNetwork result.outcome.status result.outcome }
+    ensures seven { length result.outcome.numbers ≡ 7 }
     ensures words { IsOfCommand command words.now result.outcome.status }
     ensures usage { command ≡ None → (result.outcome.status ≡ Status.Usage) × (S.files shelf.new ≡ S.files shelf.old) }
     ensures progress { IfSome (S.files shelf.old) (λ held.

@@ -3,7 +3,6 @@ ghost use Rattle.std.specs.Prelude.{◌≡◌, ◌⊎◌, ℕ, List, None, Some,
 ghost use Rattle.dtx_outside.specs.Counts.{Rose};
 ghost use Rattle.dtx_outside.specs.Shelf.{IsSameAt};
 ghost use Rattle.dtx_meaning.specs.Meaning.{IsDone, IsNoOutput, IsUnprinted};
-ghost use Rattle.dtx_meaning.specs.Status.{IsFault};
 ghost use Rattle.dtx_words.specs.Fitting.{command_of};
 ghost use Rattle.dtx_words.specs.Names.{line_name};
 ghost use Rattle.dtx_top.specs.Ends.{HasEnded, HasHeadlineOf, HasProgressOf, IsByWords, IsFaultless, IsUsage};
@@ -11,7 +10,6 @@ ghost use Rattle.dtx_top.specs.Lines.{name_kept, HasLine, IsSomeLine, IsToldLine
 ghost use Rattle.dtx_top.specs.Means.{means};
 ghost use Rattle.dtx_top.specs.Trial.{trial_names};
 
-use crate::laws::a_trial_is_done;
 use crate::net_command::NetOutcome;
 use crate::performing::perform;
 use dtx_meaning::Status;
@@ -100,8 +98,7 @@ pub fn run<S: Shelf, O: Sink>(alloc: Global, words: &[Word], shelf: &mut S, out:
         → IsUnprinted (means words.now held) (Some held) result (Rose (O.faults out.old) (O.faults out.new))
         (S.files shelf.new)) }
 
-    // The line is that of the answer, with the names and the numbers of the meaning, and the last thing that is
-    // written.
+    // The line is that of the answer, with the names and the numbers of the meaning.
     ensures line { IfSome (S.files shelf.old) (λ held. HasLine (IsToldLine (command_of words.now) words.now held) result
         (Rose (O.faults out.old) (O.faults out.new)) (O.written out.old) (O.written out.new)) }
 
@@ -143,12 +140,7 @@ pub fn run<S: Shelf, O: Sink>(alloc: Global, words: &[Word], shelf: &mut S, out:
     // signalled offsets; and symbols with at most ten wrong bytes per codeword give its packets back.
     ensures headline { IfSome (S.files shelf.old) (λ held. result ≡ Status.Done
         → HasHeadlineOf (command_of words.now) words.now held (S.files shelf.new)) }
-
-    // A trial is done, unless a fault was met or memory is wanted.
-    ensures trial { IfSome (S.files shelf.old) (λ held. command_of words.now ≡ Some Command.Trial
-        → (result ≡ Status.Done) ⊎ IsFault result) }
 {
-    a_trial_is_done();
     let command = command(words);
     let performed = perform(alloc, command, words, shelf);
     let name = name_of(command, words, &performed);

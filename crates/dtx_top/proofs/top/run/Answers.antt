@@ -5,7 +5,6 @@ use Rattle.dtx_top.proofs.ByWords.{words_told}
 use Rattle.dtx_top.proofs.Ending.{complete_told, done_then, done_told, ended_of, others_told, unprinted_told, usage_of}
 use Rattle.dtx_top.proofs.LineLeft.{line_told, line_untold}
 use Rattle.dtx_top.proofs.NetProgresses.{progress_told}
-use Rattle.dtx_top.proofs.TrialAnswers.{trial_ended}
 use Rattle.dtx_top.proofs.top.run.Goals as goal
 
 pub returns-clause-carried : goal.returns-clause-carried
@@ -38,6 +37,7 @@ returns-clause-untold_line g c = rw (c.finish.ensures, ← c.command-command.ens
     (line_untold c.command-command.result c.args.words.now c.perform-performed.result.outcome
     c.perform-performed.result.name.bytes _ _ _ _ _ c.perform-performed.ensures.untold_name
     (λ none. (c.perform-performed.ensures.usage none).0) c.perform-performed.ensures.shown
+    c.perform-performed.ensures.seven
     (rw (← c.name_of-name.ensures) c.line-printed.ensures.written) c.line-printed.ensures.gone)
 
 pub returns-clause-headline : goal.returns-clause-headline
@@ -68,10 +68,3 @@ returns-clause-words g c = rw (c.finish.ensures, ← c.command-command.ensures)
 pub returns-clause-progress : goal.returns-clause-progress
 returns-clause-progress g c = rw (c.finish.ensures, ← c.command-command.ensures)
     (progress_told c.command-command.result c.args.words.now _ _ _ _ c.perform-performed.ensures.progress)
-
-pub returns-clause-trial : goal.returns-clause-trial
-returns-clause-trial g c = rw (c.finish.ensures, ← c.command-command.ensures)
-    (trial_ended c.a_trial_is_done.ensures.words c.command-command.result c.args.words.now _ _ _ _
-    (sym c.command-command.ensures)
-    (done_told (means_of c.command-command.result c.args.words.now) _ _ _ _ _ _ c.perform-performed.ensures.carried
-    c.line-printed.ensures.gone))
