@@ -63,19 +63,20 @@ end
 start 'four packets without a mark are not sent'
 headed 2 00 00 00 00 >in
 run 0 'packets 4 segments 0 presets 0 mutes 0 loose 2' excite in 7 0 out.sym out.log
-[[ ! -s out.sym && ! -s out.log ]] || wrong 'something was sent'
+are_empty out.sym out.log
 
-start 'a whole group is coded behind a field sync'
-headed 2 b8 47 47 47 47 >in
-run 0 'packets 5 segments 5 loose 2' code in out.sym
-has_sync out.sym 4160 0
-has_sync out.sym 4160 832
-
-start 'the whole group before a refused packet is coded'
-headed 2 47 47 47 47 46 >in
-run 6 'packet 4' code in out.sym
-has_sync out.sym 4160 0
-has_sync out.sym 4160 832
+# A whole group is coded behind a field sync, also before a refused packet.
+while IFS='|' read -r status line loose heads; do
+    start "packets $heads that are coded: $line"
+    # shellcheck disable=SC2086
+    headed "$loose" $heads >in
+    run "$status" "$line" code in out.sym
+    has_sync out.sym 4160 0
+    has_sync out.sym 4160 832
+done <<'end'
+0|packets 5 segments 5 loose 2|2|b8 47 47 47 47
+6|packet 4|2|47 47 47 47 46
+end
 
 start 'the packets before a refused one are sent as blocks'
 headed 0 47 47 47 47 47 48 47 >in
@@ -105,11 +106,12 @@ while IFS='|' read -r address line log; do
     headed 0 $(many 52 470000)471ffa $(many 3 470000)471ffa $(many 3 470000)471ffa $(many 3 470000) >in
     run 0 'packets 64 filled 3 loose 0' adapt plan.toml in feed
     run 0 "packets 64 segments $line loose 0" excite feed "$address" 0 out.sym out.log
-    [[ $(tr '\n' ';' <out.log) == "$log" ]] || wrong "the log is $(tr '\n' ';' <out.log)"
+    IFS=';' read -ra lines <<<"$log"
+    has_log "${lines[@]}"
 done <<'end'
-100|12 presets 3 mutes 0|preset 0 0 52 5040972 1372;preset 4 0 56 5044065 285;preset 8 0 60 5047157 737;
-134|8 presets 2 mutes 0|preset 0 0 56 5044065 285;preset 4 0 60 5047157 737;
-8|0 presets 0 mutes 2|mute 0 unlisted;mute 0 unlisted;
+100|12 presets 3 mutes 0|preset 0 0 52 5040972 1372;preset 4 0 56 5044065 285;preset 8 0 60 5047157 737
+134|8 presets 2 mutes 0|preset 0 0 56 5044065 285;preset 4 0 60 5047157 737
+8|0 presets 0 mutes 2|mute 0 unlisted;mute 0 unlisted
 end
 
 start 'a transmitter that was given a part of a group is restarted'
@@ -117,4 +119,4 @@ printf '%b[net]\nstream = "s.ts"\n' "$small" >plan.toml
 printf '[[net.event]]\ndo = "send"\nto = 9\nfrom = 0\ncount = 3\n[[net.event]]\ndo = "restart"\nto = 9\n' >>plan.toml
 zeros 752 | tr '\0' '\107' >s.ts
 run 0 'feed 4 filled 0 steps 3' net plan.toml
-[[ $(<tx-9.log) == 'restart 0' ]] || wrong "the log is $(<tx-9.log)"
+log_is tx-9.log 'restart 0'
