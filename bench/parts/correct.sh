@@ -19,8 +19,9 @@ done | awk '
     $1 == "encode" && (!encode || $2 < encode) { encode = $2 }
     $3 == "wrong:" {
         if (!(($1, $2) in least) || $4 < least[$1, $2]) least[$1, $2] = $4
-        sum[$1, $2] = $9
+        here = $1 SUBSEP $2
     }
+    $1 == "sum" { sum[here] = $2 }
     function ratio(wrong) { return least["fast", wrong] / least["plain", wrong] }
     function tell(wrong, bar) {
         printf "%d wrong: %d ns, in plain Rust %d ns, ratio %.2f\n", wrong, least["fast", wrong], least["plain", wrong],

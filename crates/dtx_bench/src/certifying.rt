@@ -9,9 +9,9 @@ use std::rt::Clock;
 #[derive(Drop)]
 struct Certificate {
     symbols: Vec<i8>,
-    start: u8,
     levels: Vec<u8>,
-    potentials: Vec<[u32; 4]>,
+    soft: Soft,
+    start: u8,
 }
 
 impl Work for Certificate {
@@ -20,25 +20,21 @@ impl Work for Certificate {
             &self.symbols[..],
             self.start,
             &self.levels[..],
-            &self.potentials[..],
+            self.soft.potentials(),
         ) as u8
     }
 }
 
 pub fn print_proves_times(rt: &(impl Clock + Print), alloc: Global) -> io::Result<()> {
-    let mut symbols = vec![in alloc; 0i8; MAX_SYMBOLS]?;
-    fill(&mut symbols[..]);
-    let mut levels = vec![in alloc; 0u8; MAX_SYMBOLS]?;
-    let mut soft = Soft::new(alloc)?;
-    let found = soft.best(&symbols[..], &mut levels[..]);
-    let mut potentials = Vec::new(alloc);
-    potentials.extend_from_slice(soft.potentials())?;
     let mut work = Certificate {
-        symbols,
-        start: found.start,
-        levels,
-        potentials,
+        symbols: vec![in alloc; 0i8; MAX_SYMBOLS]?,
+        levels: vec![in alloc; 0u8; MAX_SYMBOLS]?,
+        soft: Soft::new(alloc)?,
+        start: 0,
     };
+    fill(&mut work.symbols[..]);
+    let found = work.soft.best(&work.symbols[..], &mut work.levels[..]);
+    work.start = found.start;
     print_least(rt, "proves", "symbol", MAX_SYMBOLS as u32, &mut work)
 }
 

@@ -1,78 +1,84 @@
 //! How long the correctors take for words in which so many bytes are wrong, beside the encoder.
 
-use crate::work::{DATA, WORD, encode};
-use crate::{ROUNDS, WORDS};
+use crate::encoding::print_one_times;
+use crate::times::{Work, print_least};
+use crate::work::{DATA, WORD};
 use dtx_correct::Linear;
 use dtx_fast::Fast;
 use dtx_laws::{Correct, Encode};
 use dtx_rs::Rs;
 use std::io;
 use std::rt::Clock;
-use std::time::Instant;
 
 /// How many codewords are corrected in turn.
-const CODEWORDS: usize = 8;
+pub const CODEWORDS: usize = 8;
 
-/// How many words a round gives to the faster corrector, and how many with wrong bytes to the linear one.
-const FEW: u32 = 200;
+/// How many words a round has.
+pub const WORDS: u32 = 200;
 
-const FEWER: u32 = 20;
+/// The faster corrector's lines, each with how many bytes of a word are wrong: the last is more than can be put right.
+const FAST: [(&str, usize); 6] = [
+    ("fast 0 wrong:", 0),
+    ("fast 1 wrong:", 1),
+    ("fast 4 wrong:", 4),
+    ("fast 7 wrong:", 7),
+    ("fast 10 wrong:", 10),
+    ("fast 11 wrong:", 11),
+];
 
-/// Numbers of wrong bytes: the last is more than can be put right.
-const WRONG: [usize; 5] = [1, 4, 7, 10, 11];
+#[derive(Drop)]
+pub struct Correction<C> {
+    pub code: C,
+    pub codewords: [[u8; WORD]; CODEWORDS],
+    pub wrong: usize,
+}
 
-pub fn print_correct_times(rt: &(impl Clock + Print), code: &Rs<WORD, DATA>) -> io::Result<()> {
-    let codewords = codewords_of(code);
-    print_encode_time(rt, code)?;
-    let linear = Linear::<WORD, DATA>::new();
-    print_time(rt, "linear", &linear, &codewords, WORDS, 0)?;
-    print_time(rt, "linear", &linear, &codewords, FEWER, 10)?;
-    let fast = Fast::<WORD, DATA>::new();
-    print_time(rt, "fast", &fast, &codewords, WORDS, 0)?;
-    for wrong in WRONG {
-        print_time(rt, "fast", &fast, &codewords, FEW, wrong)?;
+impl<C: Correct<WORD, DATA>> Work for Correction<C> {
+    /// How many places are changed, modulo 256.
+    fn round(&mut self) -> u8 {
+        let mut changed = 0u8;
+        for i in 0..WORDS {
+            let mut word = self.codewords[i as usize % CODEWORDS];
+            damage(&mut word, i as usize, self.wrong);
+            if let Ok(places) = self.code.correct(&mut word) {
+                changed = changed.wrapping_add(places);
+            }
+            changed = changed.wrapping_add(word[0]);
+        }
+        changed
+    }
+}
+
+pub fn print_correct_times(rt: &(impl Clock + Print)) -> io::Result<()> {
+    print_one_times(rt)?;
+    print_linear_time(rt, "linear 0 wrong:", 0)?;
+    print_linear_time(rt, "linear 10 wrong:", 10)?;
+    for (name, wrong) in FAST {
+        print_fast_time(rt, name, wrong)?;
     }
     Ok(())
 }
 
-fn print_encode_time(rt: &(impl Clock + Print), code: &Rs<WORD, DATA>) -> io::Result<()> {
-    let mut least = u128::MAX;
-    let mut sum = 0u8;
-    for _ in 0..ROUNDS {
-        let start = Instant::now(rt)?;
-        sum = sum.wrapping_add(encode(code, WORDS)[0]);
-        least = least.min(start.elapsed(rt)?.as_nanos());
-    }
-    println!(rt;
-        "encode {} ns a packet, sum {sum}",
-        least / u128::from(WORDS)
-    )
+fn print_linear_time(rt: &(impl Clock + Print), name: &str, wrong: usize) -> io::Result<()> {
+    let mut work = Correction {
+        code: Linear::new(),
+        codewords: codewords(),
+        wrong,
+    };
+    print_least(rt, name, "word", WORDS, &mut work)
 }
 
-/// Prints the least time of a word in which so many bytes are wrong, of so many words a round.
-fn print_time(
-    rt: &(impl Clock + Print),
-    name: &str,
-    corrector: &impl Correct<WORD, DATA>,
-    codewords: &[[u8; WORD]; CODEWORDS],
-    words: u32,
-    wrong: usize,
-) -> io::Result<()> {
-    let mut least = u128::MAX;
-    let mut sum = 0u8;
-    for _ in 0..ROUNDS {
-        let start = Instant::now(rt)?;
-        sum = sum.wrapping_add(correct(corrector, codewords, words, wrong));
-        least = least.min(start.elapsed(rt)?.as_nanos());
-    }
-    if words > 0 {
-        let time = least / u128::from(words);
-        println!(rt; "{name} {wrong} wrong: {time} ns a word, sum {sum}")?;
-    }
-    Ok(())
+pub fn print_fast_time(rt: &(impl Clock + Print), name: &str, wrong: usize) -> io::Result<()> {
+    let mut work = Correction {
+        code: Fast::new(),
+        codewords: codewords(),
+        wrong,
+    };
+    print_least(rt, name, "word", WORDS, &mut work)
 }
 
-pub fn codewords_of(code: &Rs<WORD, DATA>) -> [[u8; WORD]; CODEWORDS] {
+pub fn codewords() -> [[u8; WORD]; CODEWORDS] {
+    let code = Rs::<WORD, DATA>::new();
     let mut codewords = [[0; WORD]; CODEWORDS];
     for i in 0..CODEWORDS {
         code.encode(&[i as u8; DATA], &mut codewords[i]);
@@ -80,27 +86,8 @@ pub fn codewords_of(code: &Rs<WORD, DATA>) -> [[u8; WORD]; CODEWORDS] {
     codewords
 }
 
-/// How many places are changed, modulo 256, in so many codewords of which each has so many wrong bytes.
-fn correct(
-    corrector: &impl Correct<WORD, DATA>,
-    codewords: &[[u8; WORD]; CODEWORDS],
-    words: u32,
-    wrong: usize,
-) -> u8 {
-    let mut changed = 0u8;
-    for i in 0..words {
-        let mut word = codewords[i as usize % CODEWORDS];
-        damage(&mut word, i as usize, wrong);
-        if let Ok(places) = corrector.correct(&mut word) {
-            changed = changed.wrapping_add(places);
-        }
-        changed = changed.wrapping_add(word[0]);
-    }
-    changed
-}
-
 /// Makes so many bytes wrong, at most twelve, at places and by values that go with the word's number.
-pub fn damage(word: &mut [u8; WORD], number: usize, wrong: usize) {
+fn damage(word: &mut [u8; WORD], number: usize, wrong: usize) {
     let start = number % 16;
     for i in 0..wrong.min(12) {
         word[start + 17 * i] ^= (16 * i + start) as u8 | 1;

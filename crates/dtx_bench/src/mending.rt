@@ -1,20 +1,11 @@
 //! How long a word takes of which twenty bytes are missing, beside one of which ten are wrong.
 
-use crate::correcting::{codewords_of, damage};
+use crate::correcting::{CODEWORDS, WORDS, codewords, print_fast_time};
 use crate::times::{Work, print_least};
 use crate::work::{DATA, WORD};
 use dtx_erase::{Erase, Mend};
-use dtx_fast::Fast;
-use dtx_laws::Correct;
-use dtx_rs::Rs;
 use std::io;
 use std::rt::Clock;
-
-/// How many codewords are corrected and mended in turn.
-const CODEWORDS: usize = 8;
-
-/// How many words a round has.
-const WORDS: u32 = 200;
 
 /// How many bytes are wrong, or missing and wrong: as many as can be put right.
 const WRONG: usize = 10;
@@ -22,29 +13,9 @@ const WRONG: usize = 10;
 const MISSING: usize = 20;
 
 #[derive(Drop)]
-struct Correcting {
-    code: Fast<WORD, DATA>,
-    codewords: [[u8; WORD]; CODEWORDS],
-}
-
-#[derive(Drop)]
 struct Mending {
     code: Erase<WORD, DATA>,
     codewords: [[u8; WORD]; CODEWORDS],
-}
-
-impl Work for Correcting {
-    fn round(&mut self) -> u8 {
-        let mut changed = 0u8;
-        for i in 0..WORDS {
-            let mut word = self.codewords[i as usize % CODEWORDS];
-            damage(&mut word, i as usize, WRONG);
-            if let Ok(places) = self.code.correct(&mut word) {
-                changed = changed.wrapping_add(places ^ word[0]);
-            }
-        }
-        changed
-    }
 }
 
 impl Work for Mending {
@@ -72,15 +43,11 @@ fn lose(word: &mut [u8; WORD], number: usize) -> [bool; WORD] {
     marks
 }
 
-pub fn print_mend_times(rt: &(impl Clock + Print), code: &Rs<WORD, DATA>) -> io::Result<()> {
-    let mut correcting = Correcting {
-        code: Fast::new(),
-        codewords: codewords_of(code),
-    };
-    print_least(rt, "correct", "word", WORDS, &mut correcting)?;
+pub fn print_mend_times(rt: &(impl Clock + Print)) -> io::Result<()> {
+    print_fast_time(rt, "correct", WRONG)?;
     let mut mending = Mending {
         code: Erase::new(),
-        codewords: codewords_of(code),
+        codewords: codewords(),
     };
     print_least(rt, "mend", "word", WORDS, &mut mending)
 }

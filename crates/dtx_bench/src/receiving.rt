@@ -68,18 +68,26 @@ fn sum_of(batch: &Batch) -> u8 {
 }
 
 pub fn print_receive_times(rt: &(impl Clock + Print), alloc: Global) -> io::Result<()> {
-    let mut received = Received {
+    print_received_times(rt, alloc)?;
+    print_mended_times(rt, alloc)
+}
+
+fn print_received_times(rt: &(impl Clock + Print), alloc: Global) -> io::Result<()> {
+    let mut work = Received {
         receiver: Receiver::new(alloc)?,
         field: zeros(),
         batch: Batch::new(),
     };
-    print_least(rt, "receive", "group", u32::from(GROUPS), &mut received)?;
-    let mut mended = Mended {
+    print_least(rt, "receive", "group", u32::from(GROUPS), &mut work)
+}
+
+fn print_mended_times(rt: &(impl Clock + Print), alloc: Global) -> io::Result<()> {
+    let mut work = Mended {
         receiver: MendReceiver::new(alloc)?,
         field: zeros(),
         batch: Batch::new(),
     };
-    print_least(rt, "mend", "group", u32::from(GROUPS), &mut mended)
+    print_least(rt, "mend", "group", u32::from(GROUPS), &mut work)
 }
 
 fn zeros() -> Field {
