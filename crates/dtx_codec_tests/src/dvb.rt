@@ -39,18 +39,31 @@ fn is_block(block: &[u8; BLOCK], first: &[u8; 3], sum: u32) -> bool {
     block.starts_with(first) && sum_of(block) == sum
 }
 
-// The numbers are those of a program in Python that follows the standard's equations: the randomizer's bits by their
-// rule, the sixteen parity bytes by solving the equations that the word vanishes at the first sixteen powers of α,
-// and byte n of what is sent as byte n - 204 * (n mod 12) of the blocks.
+/// A block's number, its first bytes and the sum of all: the numbers are those of a program in Python that follows the
+/// standard's equations: the randomizer's bits by their rule, the sixteen parity bytes by solving the equations that
+/// the word vanishes at the first sixteen powers of α, and byte n of what is sent as byte n - 204 * (n mod 12) of the
+/// blocks.
+const BLOCKS: [(usize, [u8; 3], u32); 6] = [
+    (0, [184, 0, 0], 2_714),
+    (1, [71, 2, 0], 4_498),
+    (8, [184, 116, 17], 18_406),
+    (11, [71, 158, 52], 25_344),
+    (12, [71, 188, 168], 26_199),
+    (19, [71, 246, 172], 26_842),
+];
+
+fn are_blocks(blocks: &Blocks) -> bool {
+    for (k, first, sum) in &BLOCKS {
+        if !is_block(&blocks[*k % COUNT], first, *sum) {
+            return false;
+        }
+    }
+    true
+}
+
 #[test]
 fn the_blocks_are_those_of_an_independent_program(rt: HostRuntime) -> Result<(), Fail> {
-    let blocks = sent(&mut DvbOut::new(rt.alloc())?);
-    assert!(rt; is_block(&blocks[0], &[184, 0, 0], 2_714));
-    assert!(rt; is_block(&blocks[1], &[71, 2, 0], 4_498));
-    assert!(rt; is_block(&blocks[8], &[184, 116, 17], 18_406));
-    assert!(rt; is_block(&blocks[11], &[71, 158, 52], 25_344));
-    assert!(rt; is_block(&blocks[12], &[71, 188, 168], 26_199));
-    assert!(rt; is_block(&blocks[19], &[71, 246, 172], 26_842));
+    assert!(rt; are_blocks(&sent(&mut DvbOut::new(rt.alloc())?)));
     Ok(())
 }
 
@@ -69,21 +82,24 @@ fn with_wrong(out: &mut DvbOut, wrong: usize) -> Blocks
 fn a_word_with_eight_wrong_bytes_is_put_right(rt: HostRuntime) -> Result<(), Fail> {
     let blocks = with_wrong(&mut DvbOut::new(rt.alloc())?, 8);
     let (taken, read) = first_read(&mut DvbIn::new(rt.alloc())?, &blocks);
-    assert!(rt; taken == Taken::Good { fixed: 8 });
-    assert!(rt; read == packet(0));
+    assert!(rt; taken == Taken::Good { fixed: 8 } && read == packet(0));
     Ok(())
+}
+
+/// The first packet with eight wrong bytes, flagged.
+fn as_gathered() -> Packet {
+    let mut packet = packet(0);
+    for j in 1..9 {
+        packet.0[j] ^= 0x55;
+    }
+    packet.flag_error();
+    packet
 }
 
 #[test]
 fn a_word_with_nine_wrong_bytes_is_flagged(rt: HostRuntime) -> Result<(), Fail> {
     let blocks = with_wrong(&mut DvbOut::new(rt.alloc())?, 9);
     let (taken, read) = first_read(&mut DvbIn::new(rt.alloc())?, &blocks);
-    let mut as_gathered = packet(0);
-    for j in 1..9 {
-        as_gathered.0[j] ^= 0x55;
-    }
-    as_gathered.flag_error();
-    assert!(rt; taken == Taken::Bad);
-    assert!(rt; read == as_gathered);
+    assert!(rt; taken == Taken::Bad && read == as_gathered());
     Ok(())
 }

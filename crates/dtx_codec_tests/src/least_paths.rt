@@ -18,34 +18,56 @@ fn is_least(soft: &mut Soft, symbols: &[i8; 5], path: &Least) -> bool {
         && soft.potentials().first() == Some(&path.3)
 }
 
-#[test]
-fn of_equal_paths_the_first_in_order_is_taken(rt: HostRuntime) -> Result<(), Fail> {
-    let mut soft = Soft::new(rt.alloc())?;
-    assert!(rt; is_least(&mut soft, &[0; 5], &(5, 0, [4; 5], [5; 4])));
-    assert!(rt; is_least(&mut soft, &[-4; 5], &(5, 0, [2, 1, 2, 2, 1], [5; 4])));
-    let path = (4, 1, [2, 2, 1, 2, 2], [8, 4, 8, 8]);
-    assert!(rt; is_least(&mut soft, &[-3; 5], &path));
-    Ok(())
+/// Symbols and their least path: of equal paths the first in order is taken.
+const EQUAL: [([i8; 5], Least); 3] = [
+    ([0; 5], (5, 0, [4; 5], [5; 4])),
+    ([-4; 5], (5, 0, [2, 1, 2, 2, 1], [5; 4])),
+    ([-3; 5], (4, 1, [2, 2, 1, 2, 2], [8, 4, 8, 8])),
+];
+
+/// Symbols of any bytes.
+const BYTES: [([i8; 5], Least); 2] = [
+    (
+        [127, -128, 127, -128, 127],
+        (72_970, 2, [7, 1, 7, 0, 7], [74_422, 74_422, 72_970, 72_970]),
+    ),
+    ([3, -1, -7, 5, 1], (4, 3, [5, 3, 0, 5, 4], [12, 12, 8, 4])),
+];
+
+/// Symbols of three steps a unit, and of eighteen.
+const THREE: [([i8; 5], Least); 1] = [(
+    [1, -5, 14, -20, 8],
+    (47, 0, [4, 2, 5, 0, 5], [47, 59, 47, 83]),
+)];
+
+const EIGHTEEN: [([i8; 5], Least); 1] = [(
+    [127, -128, 0, 36, -36],
+    (977, 3, [7, 0, 3, 5, 3], [3785, 2345, 2417, 977]),
+)];
+
+fn are_least(soft: &mut Soft, rows: &[([i8; 5], Least)]) -> bool {
+    for (symbols, path) in rows {
+        if !is_least(soft, symbols, path) {
+            return false;
+        }
+    }
+    true
 }
 
 #[test]
-fn symbols_may_be_any_bytes(rt: HostRuntime) -> Result<(), Fail> {
+fn least_paths_are_found_over_any_bytes_and_the_first_of_equal_ones(
+    rt: HostRuntime,
+) -> Result<(), Fail> {
     let mut soft = Soft::new(rt.alloc())?;
-    let strong = (72_970, 2, [7, 1, 7, 0, 7], [74_422, 74_422, 72_970, 72_970]);
-    assert!(rt; is_least(&mut soft, &[127, -128, 127, -128, 127], &strong));
-    let mixed = (4, 3, [5, 3, 0, 5, 4], [12, 12, 8, 4]);
-    assert!(rt; is_least(&mut soft, &[3, -1, -7, 5, 1], &mixed));
+    assert!(rt; are_least(&mut soft, &EQUAL));
+    assert!(rt; are_least(&mut soft, &BYTES));
     Ok(())
 }
 
 #[test]
 fn levels_may_stand_at_any_scale(rt: HostRuntime) -> Result<(), Fail> {
-    let third = (47, 0, [4, 2, 5, 0, 5], [47, 59, 47, 83]);
-    let mut soft = Soft::scaled(rt.alloc(), 3)?;
-    assert!(rt; is_least(&mut soft, &[1, -5, 14, -20, 8], &third));
-    let greatest = (977, 3, [7, 0, 3, 5, 3], [3785, 2345, 2417, 977]);
-    let mut soft = Soft::scaled(rt.alloc(), 18)?;
-    assert!(rt; is_least(&mut soft, &[127, -128, 0, 36, -36], &greatest));
+    assert!(rt; are_least(&mut Soft::scaled(rt.alloc(), 3)?, &THREE));
+    assert!(rt; are_least(&mut Soft::scaled(rt.alloc(), 18)?, &EIGHTEEN));
     Ok(())
 }
 

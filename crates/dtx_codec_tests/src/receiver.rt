@@ -91,25 +91,30 @@ fn of_zeros(receiver: &mut Receiver, count: u32) -> (Totals, Totals) {
     (early, totals)
 }
 
+/// How many segments of zeros, and how many packets they give as they come, and with the end.
+const TURNS: [(u32, u32, u32); 6] = [
+    (0, 0, 0),
+    (48, 0, 0),
+    (52, 0, 1),
+    (55, 0, 1),
+    (56, 4, 4),
+    (104, 52, 53),
+];
+
+/// Whether a run of zeros gives so many.
+fn gives(receiver: &mut Receiver, turn: &(u32, u32, u32)) -> bool {
+    let (count, early, all) = turn;
+    let totals = of_zeros(receiver, *count);
+    totals.0.packets == *early && totals.1.counts() == (*all, 0, 0)
+}
+
 #[test]
 fn a_packet_comes_once_53_segments_stand_and_the_52_packets_of_a_turn_at_the_end(
     rt: HostRuntime,
 ) -> Result<(), Fail> {
     let mut receiver = Receiver::new(rt.alloc())?;
-    for (count, early, all) in [
-        (0, 0, 0),
-        (48, 0, 0),
-        (52, 0, 1),
-        (55, 0, 1),
-        (56, 4, 4),
-        (104, 52, 53),
-    ] {
-        let totals = of_zeros(&mut receiver, count);
-        assert!(rt; totals.0.packets == early, "{count} segments, as they come");
-        assert!(rt;
-            totals.1.counts() == (all, 0, 0),
-            "{count} segments, and the end"
-        );
+    for turn in &TURNS {
+        assert!(rt; gives(&mut receiver, turn));
     }
     Ok(())
 }
@@ -117,10 +122,8 @@ fn a_packet_comes_once_53_segments_stand_and_the_52_packets_of_a_turn_at_the_end
 // The digest is that of a program in Python that follows the standard's randomizer.
 #[test]
 fn the_packets_of_zeros_are_the_randomizers_bytes(rt: HostRuntime) -> Result<(), Fail> {
-    let mut receiver = Receiver::new(rt.alloc())?;
-    let (early, _) = of_zeros(&mut receiver, 56);
-    assert!(rt; early.packets == 4);
-    assert!(rt; early.digest == 3678594777);
+    let (early, _) = of_zeros(&mut Receiver::new(rt.alloc())?, 56);
+    assert!(rt; early.packets == 4 && early.digest == 3678594777);
     Ok(())
 }
 
@@ -133,9 +136,8 @@ fn of_two_fields(n: u32) -> [i8; SEGMENT] {
     }
 }
 
-#[test]
-fn two_lost_segments_are_put_right(rt: HostRuntime) -> Result<(), Fail> {
-    let mut receiver = Receiver::new(rt.alloc())?;
+/// What they come to.
+fn of_both(receiver: &mut Receiver) -> Totals {
     let mut batch = Batch::new();
     let mut totals = Totals::none();
     for n in 0..626 {
@@ -144,6 +146,12 @@ fn two_lost_segments_are_put_right(rt: HostRuntime) -> Result<(), Fail> {
     }
     receiver.finish(&mut batch);
     totals.add(&batch);
+    totals
+}
+
+#[test]
+fn two_lost_segments_are_put_right(rt: HostRuntime) -> Result<(), Fail> {
+    let totals = of_both(&mut Receiver::new(rt.alloc())?);
     assert!(rt; totals.counts() == (573, 420, 0));
     Ok(())
 }
@@ -168,53 +176,75 @@ fn of_noise(receiver: &mut Receiver, count: u32) -> Totals {
     totals
 }
 
-// The digests are those of a program in Python that follows the definitions over the whole list.
+/// How many segments of noise, and how many packets they give, with the digest of their bytes: that of a program in
+/// Python that follows the definitions over the whole list.
+const NOISES: [(u32, u32, u32); 5] = [
+    (52, 1, 661802710),
+    (56, 4, 479874379),
+    (104, 53, 325097249),
+    (107, 53, 325097249),
+    (317, 264, 2860921998),
+];
+
+fn is_flagged(receiver: &mut Receiver, noise: &(u32, u32, u32)) -> bool {
+    let (count, packets, digest) = noise;
+    let totals = of_noise(receiver, *count);
+    totals.counts() == (*packets, 0, *packets) && totals.digest == *digest
+}
+
 #[test]
 fn noise_gives_flagged_packets_with_the_bytes_as_gathered(rt: HostRuntime) -> Result<(), Fail> {
     let mut receiver = Receiver::new(rt.alloc())?;
-    for (count, packets, digest) in [
-        (52, 1, 661802710),
-        (56, 4, 479874379),
-        (104, 53, 325097249),
-        (107, 53, 325097249),
-        (317, 264, 2860921998),
-    ] {
-        let totals = of_noise(&mut receiver, count);
-        assert!(rt;
-            totals.counts() == (packets, 0, packets),
-            "{count} segments"
-        );
-        assert!(rt; totals.digest == digest, "{count} segments");
+    for noise in &NOISES {
+        assert!(rt; is_flagged(&mut receiver, noise));
     }
     Ok(())
+}
+
+/// Whether a field's data segments are that, and give so many packets as they come.
+fn is_field(receiver: &mut Receiver, batch: &mut Batch, packets: u32) -> bool {
+    let mut totals = Totals::none();
+    for _ in 0..312 {
+        if receiver.take(&zeros(), batch) != Tracking::Data {
+            return false;
+        }
+        totals.add(batch);
+    }
+    totals.packets == packets
+}
+
+/// Whether a field sync begins a run.
+fn begins(receiver: &mut Receiver, batch: &mut Batch) -> bool {
+    receiver.take(&sync(&[-7; PRECODE]), batch) == Tracking::Began
+}
+
+/// Whether a run of one field ends before a data segment in place of the next field sync, and another one begins.
+fn ends(receiver: &mut Receiver, batch: &mut Batch) -> bool {
+    is_field(receiver, batch, 260)
+        && receiver.take(&zeros(), batch) == Tracking::Ended
+        && batch.packets.len() == 1
+        && receiver.take(&zeros(), batch) == Tracking::Searching
+        && begins(receiver, batch)
 }
 
 #[test]
 fn a_run_ends_before_a_segment_that_should_be_a_field_sync(rt: HostRuntime) -> Result<(), Fail> {
     let mut receiver = Receiver::new(rt.alloc())?;
     let mut batch = Batch::new();
-    let mut totals = Totals::none();
     assert!(rt; receiver.take(&noise(0), &mut batch) == Tracking::Searching);
-    assert!(rt; receiver.take(&sync(&[-7; PRECODE]), &mut batch) == Tracking::Began);
-    for _ in 0..312 {
-        assert!(rt; receiver.take(&zeros(), &mut batch) == Tracking::Data);
-        totals.add(&batch);
-    }
-    assert!(rt; totals.packets == 260);
-    assert!(rt; receiver.take(&zeros(), &mut batch) == Tracking::Ended);
-    assert!(rt; batch.packets.len() == 1);
-    assert!(rt; receiver.take(&zeros(), &mut batch) == Tracking::Searching);
-    assert!(rt; receiver.take(&sync(&[-7; PRECODE]), &mut batch) == Tracking::Began);
+    assert!(rt; begins(&mut receiver, &mut batch) && ends(&mut receiver, &mut batch));
     receiver.finish(&mut batch);
     assert!(rt; batch.packets.len() == 0);
     Ok(())
 }
 
+/// Whether a field sync behind another one is data.
+fn is_data(receiver: &mut Receiver, batch: &mut Batch) -> bool {
+    begins(receiver, batch) && receiver.take(&sync(&[-7; PRECODE]), batch) == Tracking::Data
+}
+
 #[test]
 fn a_field_sync_within_a_field_is_data(rt: HostRuntime) -> Result<(), Fail> {
-    let mut receiver = Receiver::new(rt.alloc())?;
-    let mut batch = Batch::new();
-    assert!(rt; receiver.take(&sync(&[-7; PRECODE]), &mut batch) == Tracking::Began);
-    assert!(rt; receiver.take(&sync(&[-7; PRECODE]), &mut batch) == Tracking::Data);
+    assert!(rt; is_data(&mut Receiver::new(rt.alloc())?, &mut Batch::new()));
     Ok(())
 }

@@ -1,8 +1,8 @@
 // Files of the host, and what others do with them meanwhile.
 
 use dtx_outside::{HostShelf, Progress, ReadNo, Shelf, WriteNo};
-use std::fs;
 use std::test::Fail;
+use std::{fs, io};
 
 /// What the shelf is asked of a file, with its answer, and what others do with the file.
 #[derive(Clone, Copy)]
@@ -40,7 +40,7 @@ fn reads(
 }
 
 /// What others do.
-fn does(rt: &HostRuntime, name: &str, step: &Step) -> Result<(), Fail> {
+fn does(rt: &HostRuntime, name: &str, step: &Step) -> io::Result<()> {
     match *step {
         Step::Written(bytes) => fs::write(rt, name, bytes)?,
         Step::Renamed(other) => fs::rename(rt, name, other)?,
@@ -55,7 +55,7 @@ fn are_answered(
     rt: &HostRuntime,
     shelf: &mut HostShelf<HostRuntime>,
     steps: &[(&str, Step)],
-) -> Result<bool, Fail> {
+) -> io::Result<bool> {
     for (name, step) in steps {
         does(rt, name, step)?;
         if !is_answered(shelf, name, step) {
@@ -66,7 +66,7 @@ fn are_answered(
 }
 
 /// Whether they are by a new shelf, and whether a file was not begun then because it was met before.
-fn answered(rt: &HostRuntime, steps: &[(&str, Step)]) -> Result<(bool, bool), Fail> {
+fn answered(rt: &HostRuntime, steps: &[(&str, Step)]) -> io::Result<(bool, bool)> {
     let progress = Progress::new(rt, false);
     let mut shelf = HostShelf::new(rt, &progress);
     let are = are_answered(rt, &mut shelf, steps)?;
@@ -186,14 +186,21 @@ const WAYS: [&[(&str, Step)]; 4] = [
 
 const REFUSED: [(&str, Step); 1] = [(HELD, Step::Append(b"e", Err(WriteNo::Failed)))];
 
+/// Whether the file that was written is refused once others have changed it so.
+fn is_refused(rt: &HostRuntime, way: &[(&str, Step)]) -> io::Result<bool> {
+    let progress = Progress::new(rt, false);
+    let mut shelf = HostShelf::new(rt, &progress);
+    Ok(
+        are_answered(rt, &mut shelf, &WRITTEN)?
+            && are_answered(rt, &mut shelf, way)?
+            && are_answered(rt, &mut shelf, &REFUSED)?,
+    )
+}
+
 #[test]
 fn a_file_that_others_change_between_two_appends_is_a_fault(rt: HostRuntime) -> Result<(), Fail> {
-    for way in WAYS {
-        let progress = Progress::new(&rt, false);
-        let mut shelf = HostShelf::new(&rt, &progress);
-        assert!(rt; are_answered(&rt, &mut shelf, &WRITTEN)?);
-        assert!(rt; are_answered(&rt, &mut shelf, way)?);
-        assert!(rt; are_answered(&rt, &mut shelf, &REFUSED)?);
+    for way in &WAYS {
+        assert!(rt; is_refused(&rt, way)?);
         let _ = fs::remove_file(&rt, HELD);
     }
     Ok(())

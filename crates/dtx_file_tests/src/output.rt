@@ -14,62 +14,84 @@ fn written(shelf: &MemoryShelf) -> usize {
     }
 }
 
-// So many bytes.
-fn sevens(alloc: Global, count: usize) -> Result<Vec<u8>, AllocError> {
-    vec![in alloc; 7u8; count]
+// A gathering of bytes over a new file, and so many bytes to write.
+#[derive(Drop)]
+struct Gathering {
+    output: Output<PIECE>,
+    shelf: MemoryShelf,
+    bytes: Vec<u8>,
 }
 
-// Writes the bytes, and answers how many the file has then, where they are taken.
-fn length_with(output: &mut Output<PIECE>, shelf: &mut MemoryShelf, bytes: &[u8]) -> Option<usize> {
-    match output.write(shelf, "out", bytes) {
-        Ok(()) => Some(written(shelf)),
-        Err(_) => None,
+impl Gathering {
+    fn new(alloc: Global, count: usize) -> Result<Gathering, AllocError> {
+        Ok(Gathering {
+            output: Output::new(alloc)?,
+            shelf: MemoryShelf::new(alloc),
+            bytes: vec![in alloc; 7u8; count]?,
+        })
     }
-}
 
-// Writes what is left, and answers how many bytes the file has then, where they are taken.
-fn length_flushed(output: &mut Output<PIECE>, shelf: &mut MemoryShelf) -> Option<usize> {
-    match output.flush(shelf, "out") {
-        Ok(()) => Some(written(shelf)),
-        Err(_) => None,
+    // Writes the bytes, and answers how many the file has then, where they are taken.
+    fn write(&mut self) -> Option<usize> {
+        match self.output.write(&mut self.shelf, "out", &self.bytes) {
+            Ok(()) => Some(written(&self.shelf)),
+            Err(_) => None,
+        }
+    }
+
+    // Writes what is left, and answers how many bytes the file has then, where they are taken.
+    fn flush(&mut self) -> Option<usize> {
+        match self.output.flush(&mut self.shelf, "out") {
+            Ok(()) => Some(written(&self.shelf)),
+            Err(_) => None,
+        }
+    }
+
+    // Whether the file has these lengths as the bytes are written time after time, if it is begun.
+    fn has_lengths(&mut self, lengths: &[Option<usize>]) -> bool {
+        if self.shelf.begin("out").is_err() {
+            return false;
+        }
+        for length in lengths {
+            if self.write() != *length {
+                return false;
+            }
+        }
+        true
+    }
+
+    fn appends(&self) -> u64 {
+        self.shelf.calls(Call::Append)
     }
 }
 
 // The third of three pieces goes to the file as far as it makes whole pages of the first two.
-const THREE: [usize; 3] = [0, 0, 25 * FILE_PAGE];
+const THREE: [Option<usize>; 3] = [Some(0), Some(0), Some(25 * FILE_PAGE)];
 
-const ALL_THREE: usize = 3 * LENGTH;
+fn adds_pages(gathering: &mut Gathering) -> bool {
+    gathering.has_lengths(&THREE)
+        && gathering.flush() == Some(3 * LENGTH)
+        && gathering.appends() == 2
+}
 
 #[test]
 fn whole_pages_are_added_when_the_next_bytes_do_not_fit(rt: HostRuntime) -> Result<(), Fail> {
-    let bytes = sevens(rt.alloc(), LENGTH)?;
-    let mut shelf = MemoryShelf::new(rt.alloc());
-    let mut output = Output::<PIECE>::new(rt.alloc())?;
-    assert!(rt; shelf.begin("out").is_ok());
-    for length in THREE {
-        assert!(rt; length_with(&mut output, &mut shelf, &bytes) == Some(length));
-    }
-    assert!(rt; length_flushed(&mut output, &mut shelf) == Some(ALL_THREE));
-    assert!(rt; shelf.calls(Call::Append) == 2);
+    assert!(rt; adds_pages(&mut Gathering::new(rt.alloc(), LENGTH)?));
     Ok(())
 }
 
-// More bytes than are gathered: the end of a page, and then all whole pages. The file's length, and how many appends.
-const MANY: [(usize, u64); 2] = [(44 * FILE_PAGE, 1), (88 * FILE_PAGE, 3)];
+// More bytes than are gathered: the end of a page, and then all whole pages.
+const MANY: [Option<usize>; 2] = [Some(44 * FILE_PAGE), Some(88 * FILE_PAGE)];
 
-const ALL_MANY: usize = 2 * (PIECE + LENGTH);
+fn adds_many(gathering: &mut Gathering) -> bool {
+    gathering.has_lengths(&MANY)
+        && gathering.appends() == 3
+        && gathering.flush() == Some(2 * (PIECE + LENGTH))
+}
 
 #[test]
 fn many_bytes_are_added_at_once_but_for_a_part_of_a_page(rt: HostRuntime) -> Result<(), Fail> {
-    let bytes = sevens(rt.alloc(), PIECE + LENGTH)?;
-    let mut shelf = MemoryShelf::new(rt.alloc());
-    let mut output = Output::<PIECE>::new(rt.alloc())?;
-    assert!(rt; shelf.begin("out").is_ok());
-    for (length, appends) in MANY {
-        assert!(rt; length_with(&mut output, &mut shelf, &bytes) == Some(length));
-        assert!(rt; shelf.calls(Call::Append) == appends);
-    }
-    assert!(rt; length_flushed(&mut output, &mut shelf) == Some(ALL_MANY));
+    assert!(rt; adds_many(&mut Gathering::new(rt.alloc(), PIECE + LENGTH)?));
     Ok(())
 }
 
@@ -78,19 +100,17 @@ const FAILING: [Option<usize>; 3] = [Some(0), Some(0), None];
 
 const HALF: usize = 25 * FILE_PAGE / 2;
 
+fn leaves_front(gathering: &mut Gathering) -> bool {
+    gathering.has_lengths(&FAILING)
+        && written(&gathering.shelf) == HALF
+        && gathering.flush() == Some(HALF)
+        && gathering.appends() == 1
+}
+
 #[test]
 fn a_failing_append_leaves_a_front_part_and_nothing_gathered(rt: HostRuntime) -> Result<(), Fail> {
-    let bytes = sevens(rt.alloc(), LENGTH)?;
-    let mut shelf = MemoryShelf::new(rt.alloc());
-    let mut output = Output::<PIECE>::new(rt.alloc())?;
-    shelf.fail(Call::Append, 0)?;
-    assert!(rt; shelf.begin("out").is_ok());
-    for length in FAILING {
-        assert!(rt; length_with(&mut output, &mut shelf, &bytes) == length);
-    }
-    let left = written(&shelf);
-    assert!(rt; left == HALF);
-    assert!(rt; length_flushed(&mut output, &mut shelf) == Some(left));
-    assert!(rt; shelf.calls(Call::Append) == 1);
+    let mut gathering = Gathering::new(rt.alloc(), LENGTH)?;
+    gathering.shelf.fail(Call::Append, 0)?;
+    assert!(rt; leaves_front(&mut gathering));
     Ok(())
 }

@@ -1,6 +1,7 @@
 // The messages of what a reader refuses.
 
 use dtx_packets::NextNo;
+use std::alloc::{AllocError, Global};
 use std::test::Fail;
 
 const MESSAGES: [(NextNo, &str); 4] = [
@@ -10,10 +11,15 @@ const MESSAGES: [(NextNo, &str); 4] = [
     (NextNo::TooLong, "TooLong"),
 ];
 
+/// Whether the message of a refusal is this.
+fn is_named(alloc: Global, no: &NextNo, name: &str) -> Result<bool, AllocError> {
+    Ok(format!(in alloc; "{no}")?.as_str() == name)
+}
+
 #[test]
 fn the_message_of_a_refusal_is_its_name(rt: HostRuntime) -> Result<(), Fail> {
-    for (no, name) in MESSAGES {
-        assert!(rt; format!(in rt.alloc(); "{no}")?.as_str() == name);
+    for (no, name) in &MESSAGES {
+        assert!(rt; is_named(rt.alloc(), no, name)?);
     }
     Ok(())
 }

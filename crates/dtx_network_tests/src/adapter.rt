@@ -11,8 +11,8 @@ use dtx_whiten::Atsc;
 use std::alloc::Global;
 use std::test::Fail;
 
-/// A plan with two transmitters, behind its start.
-const REST: &str = "
+/// A plan with two transmitters, and the same one with a later start.
+const PLAN: &[u8] = b"start = 0
 max_delay = 5000000
 [[transmitter]]
 address = 7
@@ -24,13 +24,17 @@ offset = 25
 delay = 2000
 ";
 
-/// The adapter of that plan with this start.
-fn adapter_of(alloc: Global, start: u32) -> Result<Adapter, Fail>
-    ensures { IfOk result (λ adapter. adapter.given ≡ 0) }
-{
-    let text = format!(in alloc; "start = {start}{REST}")?;
-    adapter_under(alloc, text.as_bytes())
-}
+const LATER: &[u8] = b"start = 1234567
+max_delay = 5000000
+[[transmitter]]
+address = 7
+offset = -10
+delay = 1000
+[[transmitter]]
+address = 9
+offset = 25
+delay = 2000
+";
 
 /// The adapter of the plan of this text.
 fn adapter_under(alloc: Global, text: &[u8]) -> Result<Adapter, Fail>
@@ -115,18 +119,25 @@ const SECOND: [u8; 31] = [
     0x00, 0x00, 0x00, 0x00, 0x00, 0x02, 0x02, 0x00, 0x07, 0xFF, 0xF6, 0x00, 0x09, 0x00, 0x19,
 ];
 
+/// Whether a new adapter makes the placeholders of a group operations packets, marks its first packet and keeps the others.
+fn makes_orders(adapter: &mut Adapter) -> bool
+    requires { adapter.old.given ≡ 0 }
+{
+    let mut packets = [packet(1), placeholder(), placeholder(), packet(4)];
+    adapter.group(&mut packets) == 2
+        && adapter.open()
+        && packets[0] == marked(1)
+        && has_data(&packets[1], &FIRST)
+        && has_data(&packets[2], &SECOND)
+        && packets[3] == packet(4)
+}
+
 #[test]
 fn placeholders_become_operations_packets_and_others_keep_all_but_byte_0(
     rt: HostRuntime,
 ) -> Result<(), Fail> {
-    let mut adapter = adapter_of(rt.alloc(), 0)?;
-    let mut packets = [packet(1), placeholder(), placeholder(), packet(4)];
-    assert!(rt; adapter.group(&mut packets) == 2);
-    assert!(rt; adapter.open());
-    assert!(rt; packets[0] == marked(1));
-    assert!(rt; has_data(&packets[1], &FIRST));
-    assert!(rt; has_data(&packets[2], &SECOND));
-    assert!(rt; packets[3] == packet(4));
+    let mut adapter = adapter_under(rt.alloc(), PLAN)?;
+    assert!(rt; makes_orders(&mut adapter));
     Ok(())
 }
 
@@ -136,27 +147,41 @@ const BEHIND: [u8; 23] = [
     0x00, 0x00, 0x00, 0x00, 0x00, 0x05, 0x02,
 ];
 
-/// One bit of byte 0 behind the sync byte, its second highest, puts coder 0 in state 2, and from then on its states
-/// take turns: 1 behind an even number of pairs. The other bytes of the group and the other coders stay 0.
+/// Gives a new adapter a group whose coded bytes are all 0, but for one bit of the first one behind the sync byte, its
+/// second highest. That puts coder 0 in state 2, and from then on its states take turns: 1 behind an even number of
+/// pairs. The other bytes of the group and the other coders stay 0.
+fn give_bit(adapter: &mut Adapter, whitener: &Atsc)
+    requires { adapter.old.given ≡ 0 }
+    ensures { adapter.new.given ≡ 4 }
+{
+    let mut group = [
+        zero_packet(whitener, 0),
+        zero_packet(whitener, 1),
+        zero_packet(whitener, 2),
+        zero_packet(whitener, 3),
+    ];
+    group[0].0[1] ^= 0x40;
+    adapter.group(&mut group);
+}
+
+/// Whether the last part of a stream's second group says the states behind the first one.
+fn says_behind(adapter: &mut Adapter) -> bool
+    requires { adapter.old.given ≡ 4 }
+{
+    let mut rest = [packet(5), placeholder()];
+    adapter.group(&mut rest) == 1
+        && !adapter.open()
+        && rest[0] == packet(5)
+        && rest[1].0.starts_with(&BEHIND)
+}
+
 #[test]
 fn a_placeholder_in_a_last_part_of_a_group_says_the_states_behind_the_groups(
     rt: HostRuntime,
 ) -> Result<(), Fail> {
-    let whitener = Atsc::new(rt.alloc())?;
-    let mut adapter = adapter_of(rt.alloc(), 1234567)?;
-    let mut group = [
-        zero_packet(&whitener, 0),
-        zero_packet(&whitener, 1),
-        zero_packet(&whitener, 2),
-        zero_packet(&whitener, 3),
-    ];
-    group[0].0[1] ^= 0x40;
-    assert!(rt; adapter.group(&mut group) == 0);
-    let mut rest = [packet(5), placeholder()];
-    assert!(rt; adapter.group(&mut rest) == 1);
-    assert!(rt; !adapter.open());
-    assert!(rt; rest[0] == packet(5));
-    assert!(rt; rest[1].0.starts_with(&BEHIND));
+    let mut adapter = adapter_under(rt.alloc(), LATER)?;
+    give_bit(&mut adapter, &Atsc::new(rt.alloc())?);
+    assert!(rt; says_behind(&mut adapter));
     Ok(())
 }
 
@@ -167,13 +192,20 @@ const TIMES: [u8; 13] = [
     0x07, 0x62, 0x67, 0x4C, 0x4B, 0x40, 0x00, 0x00, 0x00, 0x01, 0x00, 0x00, 0x02,
 ];
 
+/// Whether a second frame's only packet, a placeholder, gets its mark and stamp.
+fn begins_frame(adapter: &mut Adapter) -> bool
+    requires { adapter.old.given ≡ 624 }
+{
+    let mut rest = [placeholder()];
+    adapter.group(&mut rest) == 1
+        && rest[0].0.starts_with(&SECOND_FRAME)
+        && times(&rest[0]) == TIMES
+}
+
 #[test]
 fn the_second_frame_begins_with_a_mark_and_has_its_own_stamp(rt: HostRuntime) -> Result<(), Fail> {
-    let mut adapter = adapter_of(rt.alloc(), 0)?;
+    let mut adapter = adapter_under(rt.alloc(), PLAN)?;
     give(&mut adapter, 156, &packet(1));
-    let mut rest = [placeholder()];
-    assert!(rt; adapter.group(&mut rest) == 1);
-    assert!(rt; rest[0].0.starts_with(&SECOND_FRAME));
-    assert!(rt; times(&rest[0]) == TIMES);
+    assert!(rt; begins_frame(&mut adapter));
     Ok(())
 }

@@ -12,7 +12,7 @@ use dtx_packets::Packet;
 use dtx_rs::Rs;
 use dtx_sizes::PACKET;
 use dtx_trellis::States;
-use std::alloc::Global;
+use std::alloc::{AllocError, Global};
 use std::test::Fail;
 
 /// A packet of one value behind its sync byte.
@@ -115,25 +115,6 @@ fn line(told: Told, segments: u64) -> Option<Line> {
     }
 }
 
-/// The lines of an exciter and how many segments it gives in all, of at most 2,000 packets.
-fn log(alloc: Global, mut exciter: Exciter, given: Given) -> Result<(Vec<Line>, u64), Fail> {
-    let (count, orders, (from, to), turned) = given;
-    let mut air = Air::new();
-    let mut segments = 0u64;
-    let mut lines = Vec::new(alloc);
-    for k in 0..count.min(2000) {
-        if from <= k && k < to {
-            continue;
-        }
-        let told = exciter.take(&fed(k, orders, turned), &mut air);
-        segments = segments.wrapping_add(air.segments as u64);
-        if let Some(line) = line(told, segments) {
-            lines.push(line)?;
-        }
-    }
-    Ok((lines, segments))
-}
-
 /// The places of the operations packets of a made stream.
 const ORDERS: [u64; 7] = [100, 412, 724, 1036, 1348, 1660, 1972];
 
@@ -218,13 +199,37 @@ const ROWS: [Row; 15] = [
     ),
 ];
 
+/// Whether a new exciter has the lines and segments of a row, whose packets are at most 2,000.
+fn logs(exciter: &mut Exciter, row: &Row) -> bool {
+    let (_, (count, orders, (from, to), turned), lines, all) = row;
+    let mut air = Air::new();
+    let mut segments = 0u64;
+    let mut logged = 0;
+    for k in 0..(*count).min(2000) {
+        if *from <= k && k < *to {
+            continue;
+        }
+        let told = exciter.take(&fed(k, orders, turned), &mut air);
+        segments = segments.wrapping_add(air.segments as u64);
+        if let Some(line) = line(told, segments) {
+            if lines.get(logged) != Some(&line) {
+                return false;
+            }
+            logged += 1;
+        }
+    }
+    logged == lines.len() && segments == *all
+}
+
+fn is_logged(alloc: Global, row: &Row) -> Result<bool, AllocError> {
+    let ((address, delay), ..) = row;
+    Ok(logs(&mut Exciter::new(alloc, *address, *delay)?, row))
+}
+
 #[test]
 fn an_exciter_has_the_lines_and_segments_of_what_it_is_given(rt: HostRuntime) -> Result<(), Fail> {
-    for ((address, delay), given, lines, segments) in ROWS {
-        let exciter = Exciter::new(rt.alloc(), address, delay)?;
-        let (log, all) = log(rt.alloc(), exciter, given)?;
-        assert!(rt; log.as_slice() == lines);
-        assert!(rt; all == segments);
+    for row in &ROWS {
+        assert!(rt; is_logged(rt.alloc(), row)?);
     }
     Ok(())
 }
@@ -232,14 +237,12 @@ fn an_exciter_has_the_lines_and_segments_of_what_it_is_given(rt: HostRuntime) ->
 /// The answer at an order: for how long is held what is sent, or why nothing is sent, where that is told.
 type Answer = Result<u32, Option<Why>>;
 
-/// An exciter of transmitter 7, with a delay of 1000 ticks, behind 52 packets of a feed.
-fn begun(alloc: Global) -> Result<Exciter, Fail> {
-    let mut exciter = Exciter::new(alloc, 7, 1000)?;
+/// Gives an exciter 52 packets of a feed.
+fn begin(exciter: &mut Exciter) {
     let mut air = Air::new();
     for k in 0..52u64 {
         exciter.take(&fed(k, &[], &[]), &mut air);
     }
-    Ok(exciter)
 }
 
 /// The answer to a group that begins with this packet.
@@ -299,10 +302,17 @@ const PAGES: [([Page; 4], [Answer; 4]); 5] = [
     ),
 ];
 
+/// Whether an exciter of transmitter 7, with a delay of 1000 ticks, has the answers of a row.
+fn is_in_force(alloc: Global, row: &([Page; 4], [Answer; 4])) -> Result<bool, AllocError> {
+    let mut exciter = Exciter::new(alloc, 7, 1000)?;
+    begin(&mut exciter);
+    Ok(are_answered(&mut exciter, &row.0, &row.1))
+}
+
 #[test]
 fn an_entry_is_in_force_until_its_page_is_told_without_it(rt: HostRuntime) -> Result<(), Fail> {
-    for (pages, answers) in &PAGES {
-        assert!(rt; are_answered(&mut begun(rt.alloc())?, pages, answers));
+    for row in &PAGES {
+        assert!(rt; is_in_force(rt.alloc(), row)?);
     }
     Ok(())
 }

@@ -32,25 +32,39 @@ const PIECES: [(u32, [u8; 4], u64); 8] = [
     (12, [0x40, 0x40, 0x40, 0x40], 0),
 ];
 
+/// Whether a piece of four bytes of the file 0x40 has these bytes behind the damage, and so many of them damaged.
+fn is_laid(damage: &Damages, piece: &(u32, [u8; 4], u64)) -> bool
+    requires { AreDamages damage.now }
+{
+    let (place, expected, damaged) = piece;
+    let mut bytes = [0x40; 4];
+    lay(damage, *place as u64, &mut bytes);
+    bytes == *expected && damaged_in(damage, *place as u64, 4) == *damaged
+}
+
 #[test]
 fn a_piece_has_the_damage_of_its_places(rt: HostRuntime) -> Result<(), Fail> {
     let damage = damage(rt.alloc(), CHANGES)?;
-    for (place, expected, damaged) in PIECES {
-        let mut bytes = [0x40; 4];
-        lay(&damage, place as u64, &mut bytes);
-        assert!(rt; bytes == expected);
-        assert!(rt; damaged_in(&damage, place as u64, 4) == damaged);
+    for piece in &PIECES {
+        assert!(rt; is_laid(&damage, piece));
     }
     Ok(())
 }
 
+const PAST: &str = "damage = [{ at = 520831999998, count = 520832000000, put = 3 }]";
+
+/// Whether the damage stands from the second of three bytes on, which are the last of the longest file.
+fn reaches_past(damage: &Damages) -> bool
+    requires { AreDamages damage.now }
+{
+    let mut bytes = [0x40; 3];
+    lay(damage, 520_831_999_997, &mut bytes);
+    bytes == [0x40, 0x03, 0x03] && damaged_in(damage, 520_831_999_997, 3) == 2
+}
+
 #[test]
 fn damage_reaches_past_the_end_of_the_longest_file(rt: HostRuntime) -> Result<(), Fail> {
-    let changes = "damage = [{ at = 520831999998, count = 520832000000, put = 3 }]";
-    let damage = damage(rt.alloc(), changes)?;
-    let mut bytes = [0x40; 3];
-    lay(&damage, 520_831_999_997, &mut bytes);
-    assert!(rt; bytes == [0x40, 0x03, 0x03]);
-    assert!(rt; damaged_in(&damage, 520_831_999_997, 3) == 2);
+    let damage = damage(rt.alloc(), PAST)?;
+    assert!(rt; reaches_past(&damage));
     Ok(())
 }

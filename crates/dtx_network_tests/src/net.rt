@@ -1,7 +1,7 @@
 //! A network of two transmitters with steps in turn, and the moments that were worked by hand and by an independent
 //! program.
 
-ghost use Rattle.std.specs.Prelude.{◌<◌};
+ghost use Rattle.std.specs.Prelude.{◌<◌, ◌≤◌};
 
 use arrayvec::ArrayVec;
 use dtx_clock::Moment;
@@ -132,23 +132,49 @@ fn both(stage: &mut Stage, k: u64) -> [Option<Told>; 2]
     [stage.give(7, &packet), stage.give(9, &packet)]
 }
 
+/// Whether both are quiet from one packet of the feed to another.
+fn are_quiet(stage: &mut Stage, from: u64, to: u64) -> bool
+    requires { to ≤ 3000 }
+{
+    for k in from..to {
+        if both(stage, k) != [Some(Told::Quiet); 2] {
+            return false;
+        }
+    }
+    true
+}
+
+/// Whether 9 takes three made packets before the feed, and is quiet.
+fn is_ahead(stage: &mut Stage) -> bool {
+    for index in 0..3 {
+        if stage.give(9, &dtx_make::packet(2, index)) != Some(Told::Quiet) {
+            return false;
+        }
+    }
+    true
+}
+
+/// Whether each begins to send at its moment.
+fn both_begin(stage: &mut Stage) -> bool {
+    is_ahead(stage) && are_quiet(stage, 0, 103) && both(stage, 103) == FIRST
+}
+
+/// Whether 7 goes on to send, and 9, which starts anew, doesn't.
+fn one_goes_on(stage: &mut Stage) -> bool {
+    stage.restart(9);
+    let sent = Told::Sent { preset: None };
+    are_quiet(stage, 105, 107)
+        && both(stage, 107) == [Some(sent), Some(Told::Quiet)]
+        && stage.air.segments == 0
+}
+
+fn goes_on(stage: &mut Stage) -> bool {
+    both_begin(stage) && are_quiet(stage, 104, 105) && one_goes_on(stage)
+}
+
 #[test]
 fn each_transmitter_goes_on_with_its_own_life(rt: HostRuntime) -> Result<(), Fail> {
     let mut stage = Stage::new(rt.alloc())?;
-    for index in 0..3 {
-        assert!(rt; stage.give(9, &dtx_make::packet(2, index)) == Some(Told::Quiet));
-    }
-    for k in 0..103 {
-        assert!(rt; both(&mut stage, k) == [Some(Told::Quiet); 2]);
-    }
-    assert!(rt; both(&mut stage, 103) == FIRST);
-    assert!(rt; both(&mut stage, 104) == [Some(Told::Quiet); 2]);
-    stage.restart(9);
-    for k in 105..107 {
-        assert!(rt; both(&mut stage, k) == [Some(Told::Quiet); 2]);
-    }
-    let sent = Told::Sent { preset: None };
-    assert!(rt; both(&mut stage, 107) == [Some(sent), Some(Told::Quiet)]);
-    assert!(rt; stage.air.segments == 0);
+    assert!(rt; goes_on(&mut stage));
     Ok(())
 }

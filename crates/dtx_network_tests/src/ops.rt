@@ -167,16 +167,20 @@ fn has_entries(ops: &Ops, count: usize, first: u16, last: u16) -> bool {
         && entries.last() == Some(&least(last))
 }
 
+/// Whether these are the greatest numbers.
+fn is_greatest(ops: &Ops) -> bool {
+    ops.states == States([7; 12])
+        && ops.stamp == 9_999_999
+        && ops.max_delay == 9_999_999
+        && ops.frame == 0xFFFF_FFFF
+        && ops.index == 623
+        && has_entries(ops, 35, 65535, 33)
+}
+
 #[test]
 fn greatest_numbers_are_read_and_written(rt: HostRuntime) -> Result<(), Fail> {
     let packet = packet_of(&full_data(&GREATEST, 34));
-    let ops = read(&Fast::new(), &packet)?;
-    assert!(rt; ops.states == States([7; 12]));
-    assert!(rt; ops.stamp == 9_999_999);
-    assert!(rt; ops.max_delay == 9_999_999);
-    assert!(rt; ops.frame == 0xFFFF_FFFF);
-    assert!(rt; ops.index == 623);
-    assert!(rt; has_entries(&ops, 35, 65535, 33));
+    assert!(rt; is_greatest(&read(&Fast::new(), &packet)?));
     assert!(rt; comes_back(&packet, 0x47, 15)?);
     Ok(())
 }
@@ -220,12 +224,15 @@ const LAST_PAGE: [u8; 21] = [
     0x02, 0, 0, 0, 0, 0, 0, 0, 0, 0, 0, 0, 0, 0, 0, 0, 0, 0, 29, 30, 34,
 ];
 
+/// Whether this is the last page of the most, full of entries.
+fn is_last_page(ops: &Ops) -> bool {
+    ops.paging.page() == 29 && ops.paging.pages() == 30 && has_entries(ops, 34, 0, 33)
+}
+
 #[test]
 fn the_last_page_of_the_most_is_read_and_written(rt: HostRuntime) -> Result<(), Fail> {
     let packet = packet_of(&full_data(&LAST_PAGE, 34));
-    let ops = read(&Fast::new(), &packet)?;
-    assert!(rt; (ops.paging.page(), ops.paging.pages()) == (29, 30));
-    assert!(rt; has_entries(&ops, 34, 0, 33));
+    assert!(rt; is_last_page(&read(&Fast::new(), &packet)?));
     assert!(rt; comes_back(&packet, 0x47, 15)?);
     Ok(())
 }

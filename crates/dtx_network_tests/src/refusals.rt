@@ -1,6 +1,7 @@
 // The messages of what an operations packet is refused for.
 
 use dtx_ops::OpsNo;
+use std::alloc::{AllocError, Global};
 use std::test::Fail;
 
 const MESSAGES: [(OpsNo, &str); 11] = [
@@ -17,10 +18,15 @@ const MESSAGES: [(OpsNo, &str); 11] = [
     (OpsNo::Page, "Page"),
 ];
 
+/// Whether the message of a refusal is this.
+fn is_named(alloc: Global, no: &OpsNo, name: &str) -> Result<bool, AllocError> {
+    Ok(format!(in alloc; "{no}")?.as_str() == name)
+}
+
 #[test]
 fn the_message_of_a_refusal_is_its_name(rt: HostRuntime) -> Result<(), Fail> {
-    for (no, name) in MESSAGES {
-        assert!(rt; format!(in rt.alloc(); "{no}")?.as_str() == name);
+    for (no, name) in &MESSAGES {
+        assert!(rt; is_named(rt.alloc(), no, name)?);
     }
     Ok(())
 }

@@ -73,14 +73,17 @@ fn of_fields(repeater: &mut Repeater, first: &[i8; SEGMENT]) -> Marks {
 /// Whether the first field is a second one, and where the marks are.
 const CASES: [(bool, [u32; 4]); 2] = [(false, [0, 624, 0, 0]), (true, [312, 936, 0, 0])];
 
+/// Whether a repeater gives back four fields, of which the first is this one, with two marks at these places.
+fn has_marks(repeater: &mut Repeater, second: bool, places: &[u32; 4]) -> bool {
+    let marks = of_fields(repeater, &sync(second));
+    marks.given == 1197 && marks.count == 2 && marks.places == *places
+}
+
 #[test]
 fn the_first_field_sync_tells_where_the_marks_are(rt: HostRuntime) -> Result<(), Fail> {
     let mut repeater = Repeater::new(rt.alloc(), 7, 1000)?;
-    for (second, places) in CASES {
-        let marks = of_fields(&mut repeater, &sync(second));
-        assert!(rt; marks.given == 1197);
-        assert!(rt; marks.count == 2);
-        assert!(rt; marks.places == places);
+    for (second, places) in &CASES {
+        assert!(rt; has_marks(&mut repeater, *second, places));
     }
     Ok(())
 }

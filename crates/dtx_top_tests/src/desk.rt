@@ -2,8 +2,7 @@
 
 use dtx_outside::{Call, MemoryShelf, MemorySink, Word};
 use dtx_top::{Status, run};
-use std::alloc::Global;
-use std::test::Fail;
+use std::alloc::{AllocError, Global};
 
 /// Files in memory, what was printed beside them, and the last answer. The tests see what the program does over it, and
 /// none of its clauses.
@@ -27,28 +26,27 @@ impl Desk {
     }
 
     /// Puts a file there.
-    pub fn put(&mut self, name: &str, bytes: &[u8]) -> Result<(), Fail> {
-        self.shelf.put(name, bytes)?;
-        Ok(())
-    }
-
-    /// Plans that the call of that kind and number fails.
-    pub fn fail(&mut self, call: Call, nth: u64) -> Result<(), Fail> {
-        if nth < 1_000_000 {
-            self.shelf.fail(call, nth)?;
-        }
-        Ok(())
+    pub fn put(&mut self, name: &str, bytes: &[u8]) -> Result<(), AllocError> {
+        self.shelf.put(name, bytes)
     }
 
     /// Runs the program with the words of the text.
-    pub fn run(&mut self, text: &str) -> Result<(), Fail> {
+    pub fn run(&mut self, text: &str) -> Result<(), AllocError> {
         let words = words_of(self.alloc, text)?;
         self.answer = run(self.alloc, &words, &mut self.shelf, &mut self.out);
         Ok(())
     }
 
+    /// Does so where the call of that kind and number fails.
+    pub fn run_failing(&mut self, text: &str, call: Call, nth: u64) -> Result<(), AllocError> {
+        if nth < 1_000_000 {
+            self.shelf.fail(call, nth)?;
+        }
+        self.run(text)
+    }
+
     /// Runs the program with the words of each text.
-    pub fn run_each(&mut self, texts: &[&str]) -> Result<(), Fail> {
+    pub fn run_each(&mut self, texts: &[&str]) -> Result<(), AllocError> {
         for text in texts {
             self.run(text)?;
         }
@@ -76,7 +74,7 @@ impl Desk {
     }
 }
 
-fn words_of(alloc: Global, text: &str) -> Result<Vec<Word>, Fail> {
+fn words_of(alloc: Global, text: &str) -> Result<Vec<Word>, AllocError> {
     let mut words = Vec::new(alloc);
     for word in text.split_ascii_whitespace() {
         words.push(Word::new(String::from_str(alloc, word)?))?;

@@ -2,6 +2,7 @@
 use crate::desk::Desk;
 use dtx_outside::Call;
 use dtx_top::Status;
+use std::alloc::{AllocError, Global};
 use std::test::Fail;
 
 /// The head of a plan of two transmitters.
@@ -13,12 +14,12 @@ const RECEIVED: &[u8] = b"net.event = [{ do = \"send\", to = 7, from = 0, count 
 { do = \"send\", to = 9, from = 100, count = 20 }]\n\
 net.receive = { from = 7, damage = [{ at = 400000, count = 20, put = 3 }] }\n";
 
-/// The plan that ends so.
-fn plan_of(rt: &HostRuntime, end: &[u8]) -> Result<Vec<u8>, Fail> {
-    let mut text = Vec::new(rt.alloc());
+/// Puts the plan that ends so.
+fn put_plan(desk: &mut Desk, alloc: Global, end: &[u8]) -> Result<(), AllocError> {
+    let mut text = Vec::new(alloc);
     text.extend_from_slice(HEAD)?;
     text.extend_from_slice(end)?;
-    Ok(text)
+    desk.put("p", &text)
 }
 
 /// Changes to 400,000 symbols.
@@ -108,35 +109,28 @@ const CASES: [Case; 16] = [
 /// What makes the others of a plan: a stream of 1,300 packets, its feed and the feed's symbols.
 const MAKING: [&str; 3] = ["make 1 1300 s.ts", "adapt p s.ts f.ts", "code f.ts c.sym"];
 
-/// A desk with all of them.
-fn inputs(rt: &HostRuntime) -> Result<Desk, Fail> {
-    let mut desk = planned(rt)?;
-    desk.run_each(&MAKING)?;
-    Ok(desk)
+/// Makes all of them, from the plan and the changes.
+fn make_inputs(desk: &mut Desk, alloc: Global) -> Result<(), AllocError> {
+    put_plan(desk, alloc, RECEIVED)?;
+    desk.put("c", CHANGES)?;
+    desk.run_each(&MAKING)
 }
 
-/// A desk with the plan and the changes.
-fn planned(rt: &HostRuntime) -> Result<Desk, Fail> {
+/// A desk with all of them.
+fn inputs(rt: &HostRuntime) -> Result<Desk, AllocError> {
     let mut desk = Desk::new(rt);
-    desk.put("p", &plan_of(rt, RECEIVED)?)?;
-    desk.put("c", CHANGES)?;
+    make_inputs(&mut desk, rt.alloc())?;
     Ok(desk)
 }
 
 /// What stands under the names of the outputs before a command.
 const BEFORE: &[u8] = b"as before";
 
-/// A desk with the same files of those names, with which nothing was done.
-fn copied(rt: &HostRuntime, inputs: &Desk, names: &[&str]) -> Result<Desk, Fail> {
-    let mut desk = Desk::new(rt);
-    for name in names {
+/// Puts the inputs, with which nothing was done, and files under the names of the outputs.
+fn put_all(desk: &mut Desk, inputs: &Desk, outputs: &[&str]) -> Result<(), AllocError> {
+    for name in &INPUTS {
         desk.put(name, inputs.file(name))?;
     }
-    Ok(desk)
-}
-
-/// Puts files under the names of the outputs.
-fn put_before(desk: &mut Desk, outputs: &[&str]) -> Result<(), Fail> {
     for name in outputs {
         desk.put(name, BEFORE)?;
     }
@@ -147,11 +141,16 @@ fn put_before(desk: &mut Desk, outputs: &[&str]) -> Result<(), Fail> {
 const NEVER: u64 = u64::MAX;
 
 /// What the command leaves over these inputs, where the call of that kind and number fails.
-fn done(rt: &HostRuntime, case: &Case, inputs: &Desk, call: Call, nth: u64) -> Result<Desk, Fail> {
-    let mut desk = copied(rt, inputs, &INPUTS)?;
-    put_before(&mut desk, case.outputs)?;
-    desk.fail(call, nth)?;
-    desk.run(case.words)?;
+fn done(
+    rt: &HostRuntime,
+    case: &Case,
+    inputs: &Desk,
+    call: Call,
+    nth: u64,
+) -> Result<Desk, AllocError> {
+    let mut desk = Desk::new(rt);
+    put_all(&mut desk, inputs, case.outputs)?;
+    desk.run_failing(case.words, call, nth)?;
     Ok(desk)
 }
 
@@ -206,7 +205,7 @@ fn ends_well(
     inputs: &Desk,
     whole: &Desk,
     call: Call,
-) -> Result<bool, Fail> {
+) -> Result<bool, AllocError> {
     for nth in [0, 1, 2, whole.calls(call).saturating_sub(1)] {
         let desk = done(rt, case, inputs, call, nth)?;
         if !has_ended_well(&desk, whole, case, call, nth) || !are_alike(&desk, inputs, &INPUTS) {
@@ -217,7 +216,7 @@ fn ends_well(
 }
 
 /// Whether the command is done, and ends as it should where a call of any kind fails.
-fn always_ends_well(rt: &HostRuntime, case: &Case, inputs: &Desk) -> Result<bool, Fail> {
+fn always_ends_well(rt: &HostRuntime, case: &Case, inputs: &Desk) -> Result<bool, AllocError> {
     let whole = done(rt, case, inputs, Call::Read, NEVER)?;
     for call in [Call::Read, Call::Begin, Call::Append] {
         if !ends_well(rt, case, inputs, &whole, call)? {
@@ -243,7 +242,7 @@ fn has_half(desk: &Desk, whole: &Desk) -> bool {
 }
 
 /// Whether at least half of the output stands where the last read fails.
-fn half_stands(rt: &HostRuntime, case: &Case, inputs: &Desk) -> Result<bool, Fail> {
+fn half_stands(rt: &HostRuntime, case: &Case, inputs: &Desk) -> Result<bool, AllocError> {
     let whole = done(rt, case, inputs, Call::Read, NEVER)?;
     let last = whole.calls(Call::Read).saturating_sub(1);
     let desk = done(rt, case, inputs, Call::Read, last)?;
@@ -266,11 +265,11 @@ const IN_TURN: &[u8] = b"net.event = [{ do = \"send\", to = 7, from = 0, count =
 { do = \"send\", to = 9, from = 0, count = 1300 }, { do = \"send\", to = 7, from = 300, count = 1000 }]\n";
 
 /// What `net` leaves of that plan over 1,300 made packets, where the append of that number fails.
-fn played(rt: &HostRuntime, failing: u64) -> Result<Desk, Fail> {
+fn played(rt: &HostRuntime, failing: u64) -> Result<Desk, AllocError> {
     let mut desk = Desk::new(rt);
-    desk.put("p", &plan_of(rt, IN_TURN)?)?;
-    desk.fail(Call::Append, failing)?;
-    desk.run_each(&["make 1 1300 s.ts", "net p"])?;
+    put_plan(&mut desk, rt.alloc(), IN_TURN)?;
+    desk.run("make 1 1300 s.ts")?;
+    desk.run_failing("net p", Call::Append, failing)?;
     Ok(desk)
 }
 
@@ -288,15 +287,24 @@ fn symbols_are_cut(desk: &Desk, whole: &Desk) -> bool {
     sent.starts_with(left) && 998_400 <= left.len() && left.len() < sent.len()
 }
 
-/// All transmitters come as far in their schedule: where the last append fails, which is one of the first one's, the
-/// files of the other one are whole, and its symbols stand but for some of the last.
+/// Whether the files of the second transmitter are whole behind a fault, and the symbols of the first stand but for some
+/// of the last.
+fn breaks_off(desk: &Desk, whole: &Desk) -> bool {
+    desk.answer() == Status::WriteFault
+        && are_alike(desk, whole, &["tx-9.sym", "tx-9.log"])
+        && symbols_are_cut(desk, whole)
+}
+
+/// Whether the network does so at its last append, which is one of the first transmitter's.
+fn last_append_breaks(rt: &HostRuntime, whole: &Desk) -> Result<bool, AllocError> {
+    let last = whole.calls(Call::Append).saturating_sub(1);
+    Ok(breaks_off(&played(rt, last)?, whole))
+}
+
+/// All transmitters come as far in their schedule.
 #[test]
 fn a_network_breaks_off_at_one_step_for_all(rt: HostRuntime) -> Result<(), Fail> {
     let whole = played(&rt, NEVER)?;
-    assert!(rt; all_is_sent(&whole));
-    let desk = played(&rt, whole.calls(Call::Append).saturating_sub(1))?;
-    assert!(rt; desk.answer() == Status::WriteFault);
-    assert!(rt; are_alike(&desk, &whole, &["tx-9.sym", "tx-9.log"]));
-    assert!(rt; symbols_are_cut(&desk, &whole));
+    assert!(rt; all_is_sent(&whole) && last_append_breaks(&rt, &whole)?);
     Ok(())
 }

@@ -1,5 +1,6 @@
 // The texts that are told of a feed, over files in memory.
 use crate::desk::Desk;
+use std::alloc::AllocError;
 use std::test::Fail;
 
 /// A plan of two transmitters.
@@ -30,17 +31,20 @@ const NOTES: &[u8] = b"lock 0\nops 100 0 100 0 5000000 2 first first\n\
 ops 412 0 412 0 5000000 2 right right\nops 724 1 100 483943 5000000 2 right right\n\
 ops 1036 1 412 483943 5000000 2 right right\n";
 
-/// Whether both logs and the notes are there.
-fn are_told(desk: &Desk) -> bool {
-    desk.file("e") == LOG && desk.file("l") == LOG && desk.file("w") == NOTES
+/// Whether the commands print their lines, and both logs and the notes are there.
+fn tell(desk: &mut Desk) -> Result<bool, AllocError> {
+    desk.put("p", PLAN)?;
+    desk.run_each(&COMMANDS)?;
+    Ok(
+        desk.has_printed(LINES)
+            && desk.file("e") == LOG
+            && desk.file("l") == LOG
+            && desk.file("w") == NOTES,
+    )
 }
 
 #[test]
 fn exciters_and_a_watcher_tell_of_a_feed(rt: HostRuntime) -> Result<(), Fail> {
-    let mut desk = Desk::new(&rt);
-    desk.put("p", PLAN)?;
-    desk.run_each(&COMMANDS)?;
-    assert!(rt; desk.has_printed(LINES));
-    assert!(rt; are_told(&desk));
+    assert!(rt; tell(&mut Desk::new(&rt))?);
     Ok(())
 }

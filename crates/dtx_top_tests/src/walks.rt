@@ -1,5 +1,6 @@
 // What comes back where commands undo one another, over files in memory.
 use crate::desk::Desk;
+use std::alloc::AllocError;
 use std::test::Fail;
 
 /// Commands one behind the other, and what they print. The file `back` is then the front of the file `given`, of so
@@ -19,6 +20,10 @@ const PLAN: &[u8] =
 /// Another byte 0 of packet 5.
 const CHANGES: &[u8] = b"damage = [{ at = 940, put = 72 }]";
 
+/// What `receive` and `mend` print behind `make` and `code`.
+const RECEIVED: &str = "packets 624\npackets 624 segments 626 loose 0\n\
+    segments 626 runs 1 packets 573 fixed 0 flagged 0 loose 0\n";
+
 const WALKS: [Walk; 8] = [
     Walk {
         commands: &["make 1 9 s", "hurt s d t", "adapt p s f", "adapt p t o"],
@@ -29,16 +34,14 @@ const WALKS: [Walk; 8] = [
     },
     Walk {
         commands: &["make 1 624 s", "code s c", "receive c o"],
-        lines: "packets 624\npackets 624 segments 626 loose 0\n\
-            segments 626 runs 1 packets 573 fixed 0 flagged 0 loose 0\n",
+        lines: RECEIVED,
         given: "s",
         back: "o",
         length: 107_724,
     },
     Walk {
         commands: &["make 1 624 s", "code s c", "mend c o"],
-        lines: "packets 624\npackets 624 segments 626 loose 0\n\
-            segments 626 runs 1 packets 573 fixed 0 flagged 0 loose 0\n",
+        lines: RECEIVED,
         given: "s",
         back: "o",
         length: 107_724,
@@ -81,13 +84,12 @@ const WALKS: [Walk; 8] = [
     },
 ];
 
-/// The files that the commands leave, and what they print.
-fn walked(rt: &HostRuntime, walk: &Walk) -> Result<Desk, Fail> {
-    let mut desk = Desk::new(rt);
+/// Whether the commands print their lines, and the front of what was given comes back.
+fn comes_back(desk: &mut Desk, walk: &Walk) -> Result<bool, AllocError> {
     desk.put("p", PLAN)?;
     desk.put("d", CHANGES)?;
     desk.run_each(walk.commands)?;
-    Ok(desk)
+    Ok(desk.has_printed(walk.lines) && is_back(desk, walk))
 }
 
 /// Whether the front of what was given came back.
@@ -99,10 +101,8 @@ fn is_back(desk: &Desk, walk: &Walk) -> bool {
 #[test]
 fn what_is_given_comes_back(rt: HostRuntime) -> Result<(), Fail> {
     for walk in &WALKS {
-        let desk = walked(&rt, walk)?;
         let lines = walk.lines;
-        assert!(rt; desk.has_printed(lines), "{lines}");
-        assert!(rt; is_back(&desk, walk), "{lines}");
+        assert!(rt; comes_back(&mut Desk::new(&rt), walk)?, "{lines}");
     }
     Ok(())
 }

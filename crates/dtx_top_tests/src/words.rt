@@ -1,6 +1,7 @@
 // Which words are refused.
 use crate::desk::Desk;
 use dtx_outside::Call;
+use std::alloc::AllocError;
 use std::test::Fail;
 
 /// What the program prints where it is not told what to do.
@@ -16,17 +17,21 @@ const REFUSALS: [(&str, i32, &str); 5] = [
     ("adapt p1 s.ts f.ts", 4, "absent p1\n"),
 ];
 
-/// Whether the words were refused with that code and line before a file was begun.
-fn is_refused(desk: &Desk, code: i32, line: &str) -> bool {
-    desk.answer().code() as i32 == code && desk.has_printed(line) && desk.calls(Call::Begin) == 0
+/// Whether the words are refused with that code and line before a file is begun.
+fn is_refused(desk: &mut Desk, row: &(&str, i32, &str)) -> Result<bool, AllocError> {
+    let (text, code, line) = row;
+    desk.run(text)?;
+    Ok(
+        desk.answer().code() as i32 == *code
+            && desk.has_printed(line)
+            && desk.calls(Call::Begin) == 0,
+    )
 }
 
 #[test]
 fn words_and_names_have_their_status_and_line(rt: HostRuntime) -> Result<(), Fail> {
-    for (text, code, line) in REFUSALS {
-        let mut desk = Desk::new(&rt);
-        desk.run(text)?;
-        assert!(rt; is_refused(&desk, code, line), "{text}");
+    for row in &REFUSALS {
+        assert!(rt; is_refused(&mut Desk::new(&rt), row)?);
     }
     Ok(())
 }

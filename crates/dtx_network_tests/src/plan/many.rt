@@ -1,6 +1,6 @@
 // How many transmitters a plan has at most.
-use super::refusals::plan_refusal;
-use dtx_plan::read_plan;
+use super::refusals::{Words, plan_refusal};
+use dtx_plan::{Transmitters, read_plan};
 use std::alloc::{AllocError, Global};
 use std::test::Fail;
 
@@ -25,34 +25,41 @@ fn add(plan: &mut String, alloc: Global, address: u32) -> Result<(), AllocError>
     plan.push_str(entry.as_str())
 }
 
-#[test]
-fn a_plan_has_up_to_1020_transmitters(rt: HostRuntime) -> Result<(), Fail> {
-    let alloc = rt.alloc();
-    let most = read_plan(alloc, plan_of(alloc, 1019, 65535)?.as_bytes())
-        .ok()
-        .ok_or("no plan")?
-        .transmitters;
-    assert!(rt; most.len() == 1020);
-    for (address, place) in [
-        (0, Some(0)),
-        (1018, Some(1018)),
-        (65535, Some(1019)),
-        (1019, None),
-    ] {
-        assert!(rt; most.place(address) == place);
+/// Whether there are 1,020, of which these stand at these places.
+fn are_placed(most: &Transmitters) -> bool {
+    most.len() == 1020
+        && most.place(0) == Some(0)
+        && most.place(1018) == Some(1018)
+        && most.place(65535) == Some(1019)
+        && most.place(1019) == None
+}
+
+/// Whether this plan has them.
+fn has_most(alloc: Global, plan: &[u8]) -> bool {
+    match read_plan(alloc, plan) {
+        Ok(plan) => are_placed(&plan.transmitters),
+        Err(_) => false,
     }
-    Ok(())
 }
 
 #[test]
+fn a_plan_has_up_to_1020_transmitters(rt: HostRuntime) -> Result<(), Fail> {
+    let plan = plan_of(rt.alloc(), 1019, 65535)?;
+    assert!(rt; has_most(rt.alloc(), plan.as_bytes()));
+    Ok(())
+}
+
+/// A number of transmitters, the last one's address, and why the plan is refused.
+const REFUSALS: [(u32, u32, Words); 2] = [
+    (1019, 0, ("address", 1019, "twice")),
+    (1020, 65535, ("transmitter", 0, "range")),
+];
+
+#[test]
 fn a_plan_with_more_or_with_one_twice_is_refused(rt: HostRuntime) -> Result<(), Fail> {
-    let alloc = rt.alloc();
-    for (count, last, refusal) in [
-        (1019, 0, ("address", 1019, "twice")),
-        (1020, 65535, ("transmitter", 0, "range")),
-    ] {
-        let plan = plan_of(alloc, count, last)?;
-        assert!(rt; plan_refusal(alloc, plan.as_bytes()) == Some(refusal));
+    for (count, last, refusal) in &REFUSALS {
+        let plan = plan_of(rt.alloc(), *count, *last)?;
+        assert!(rt; plan_refusal(rt.alloc(), plan.as_bytes()) == Some(*refusal));
     }
     Ok(())
 }

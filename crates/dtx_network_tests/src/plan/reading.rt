@@ -1,7 +1,10 @@
 // What a plan and a file of changes say.
-use dtx_plan::{Damage, Damages, Event, Events, Transmitter, read_changes, read_plan};
+use dtx_plan::{
+    Damage, Damages, Event, Events, NetPlan, Plan, ReceivePlan, Transmitter, read_changes,
+    read_plan,
+};
 use dtx_trellis::States;
-use std::test::Fail;
+use std::alloc::Global;
 
 const PLAN: &[u8] = b"start = 0
 max_delay = 5000000
@@ -86,30 +89,39 @@ const EVENTS: [Event; 5] = [
     Event::Restart { to: 9 },
 ];
 
+fn is_plan(plan: &Plan) -> bool {
+    plan.start == 0
+        && plan.max_delay == 5000000
+        && plan.transmitters.as_slice() == TRANSMITTERS.as_slice()
+        && plan.net.as_ref().is_some_and(is_network)
+}
+
+fn is_network(net: &NetPlan) -> bool {
+    net.stream.as_str() == "s.ts"
+        && are(&net.events, &EVENTS)
+        && net.receive.as_ref().is_some_and(is_receive)
+}
+
+const PUT: Damage = Damage {
+    at: 300000,
+    count: 12,
+    put: 127,
+};
+
+fn is_receive(receive: &ReceivePlan) -> bool {
+    receive.from == 7 && receive.damage.len() == 1 && has(&receive.damage, 0, PUT)
+}
+
+fn reads_whole(alloc: Global) -> bool {
+    match read_plan(alloc, PLAN) {
+        Ok(plan) => is_plan(&plan),
+        Err(_) => false,
+    }
+}
+
 #[test]
-fn a_plan_reads_whole(rt: HostRuntime) -> Result<(), Fail> {
-    let plan = read_plan(rt.alloc(), PLAN).ok().ok_or("no plan")?;
-    assert!(rt; plan.start == 0);
-    assert!(rt; plan.max_delay == 5000000);
-    assert!(rt; plan.transmitters.as_slice() == TRANSMITTERS.as_slice());
-    let net = plan.net.ok_or("no net")?;
-    assert!(rt; net.stream.as_str() == "s.ts");
-    assert!(rt; are(&net.events, &EVENTS));
-    let receive = net.receive.ok_or("no receive")?;
-    assert!(rt; receive.from == 7);
-    assert!(rt; receive.damage.len() == 1);
-    assert!(rt;
-        has(
-            &receive.damage,
-            0,
-            Damage {
-                at: 300000,
-                count: 12,
-                put: 127
-            }
-        )
-    );
-    Ok(())
+fn a_plan_reads_whole(rt: HostRuntime) {
+    assert!(rt; reads_whole(rt.alloc()));
 }
 
 /// The events are these.
@@ -129,31 +141,26 @@ fn has(damage: &Damages, i: usize, entry: Damage) -> bool {
 
 const CHANGES: &[u8] = b"damage = [{ at = 1, put = -128 }, { at = 2, put = 0 }]";
 
+const FIRST: Damage = Damage {
+    at: 1,
+    count: 1,
+    put: -128,
+};
+
+const SECOND: Damage = Damage {
+    at: 2,
+    count: 1,
+    put: 0,
+};
+
+fn changes_read(alloc: Global) -> bool {
+    match read_changes(alloc, CHANGES) {
+        Ok(changes) => changes.len() == 2 && has(&changes, 0, FIRST) && has(&changes, 1, SECOND),
+        Err(_) => false,
+    }
+}
+
 #[test]
-fn changes_read_whole(rt: HostRuntime) -> Result<(), Fail> {
-    let changes = read_changes(rt.alloc(), CHANGES).ok().ok_or("no changes")?;
-    assert!(rt; changes.len() == 2);
-    assert!(rt;
-        has(
-            &changes,
-            0,
-            Damage {
-                at: 1,
-                count: 1,
-                put: -128
-            }
-        )
-    );
-    assert!(rt;
-        has(
-            &changes,
-            1,
-            Damage {
-                at: 2,
-                count: 1,
-                put: 0
-            }
-        )
-    );
-    Ok(())
+fn changes_read_whole(rt: HostRuntime) {
+    assert!(rt; changes_read(rt.alloc()));
 }
