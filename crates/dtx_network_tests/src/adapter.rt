@@ -119,7 +119,8 @@ const SECOND: [u8; 31] = [
     0x00, 0x00, 0x00, 0x00, 0x00, 0x02, 0x02, 0x00, 0x07, 0xFF, 0xF6, 0x00, 0x09, 0x00, 0x19,
 ];
 
-/// Whether a new adapter makes the placeholders of a group operations packets, marks its first packet and keeps the others.
+/// Whether a new adapter makes the placeholders of a group operations packets, marks its first packet and keeps the
+/// others.
 fn makes_orders(adapter: &mut Adapter) -> bool
     requires { adapter.old.given ≡ 0 }
 {

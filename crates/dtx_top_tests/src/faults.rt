@@ -287,8 +287,8 @@ fn symbols_are_cut(desk: &Desk, whole: &Desk) -> bool {
     sent.starts_with(left) && 998_400 <= left.len() && left.len() < sent.len()
 }
 
-/// Whether the files of the second transmitter are whole behind a fault, and the symbols of the first stand but for some
-/// of the last.
+/// Whether the files of the second transmitter are whole behind a fault, and the symbols of the first stand but for
+/// some of the last.
 fn breaks_off(desk: &Desk, whole: &Desk) -> bool {
     desk.answer() == Status::WriteFault
         && are_alike(desk, whole, &["tx-9.sym", "tx-9.log"])
