@@ -47,11 +47,12 @@ impl Gathering {
         }
     }
 
-    // Whether the file has these lengths as the bytes are written time after time, if it is begun.
+    fn begin(&mut self) -> bool {
+        self.shelf.begin("out").is_ok()
+    }
+
+    // Whether the file has these lengths as the bytes are written time after time.
     fn has_lengths(&mut self, lengths: &[Option<usize>]) -> bool {
-        if self.shelf.begin("out").is_err() {
-            return false;
-        }
         for length in lengths {
             if self.write() != *length {
                 return false;
@@ -69,7 +70,8 @@ impl Gathering {
 const THREE: [Option<usize>; 3] = [Some(0), Some(0), Some(25 * FILE_PAGE)];
 
 fn adds_pages(gathering: &mut Gathering) -> bool {
-    gathering.has_lengths(&THREE)
+    gathering.begin()
+        && gathering.has_lengths(&THREE)
         && gathering.flush() == Some(3 * LENGTH)
         && gathering.appends() == 2
 }
@@ -81,10 +83,11 @@ fn whole_pages_are_added_when_the_next_bytes_do_not_fit(rt: HostRuntime) -> Resu
 }
 
 // More bytes than are gathered: the end of a page, and then all whole pages.
-const MANY: [Option<usize>; 2] = [Some(44 * FILE_PAGE), Some(88 * FILE_PAGE)];
-
 fn adds_many(gathering: &mut Gathering) -> bool {
-    gathering.has_lengths(&MANY)
+    gathering.begin()
+        && gathering.write() == Some(44 * FILE_PAGE)
+        && gathering.appends() == 1
+        && gathering.write() == Some(88 * FILE_PAGE)
         && gathering.appends() == 3
         && gathering.flush() == Some(2 * (PIECE + LENGTH))
 }
@@ -101,7 +104,8 @@ const FAILING: [Option<usize>; 3] = [Some(0), Some(0), None];
 const HALF: usize = 25 * FILE_PAGE / 2;
 
 fn leaves_front(gathering: &mut Gathering) -> bool {
-    gathering.has_lengths(&FAILING)
+    gathering.begin()
+        && gathering.has_lengths(&FAILING)
         && written(&gathering.shelf) == HALF
         && gathering.flush() == Some(HALF)
         && gathering.appends() == 1

@@ -150,8 +150,8 @@ const BEHIND: [u8; 23] = [
 
 /// Gives a new adapter a group whose coded bytes are all 0, but for one bit of the first one behind the sync byte, its
 /// second highest. That puts coder 0 in state 2, and from then on its states take turns: 1 behind an even number of
-/// pairs. The other bytes of the group and the other coders stay 0.
-fn give_bit(adapter: &mut Adapter, whitener: &Atsc)
+/// pairs. The other bytes of the group and the other coders stay 0. Whether the adapter fills nothing of it.
+fn give_bit(adapter: &mut Adapter, whitener: &Atsc) -> bool
     requires { adapter.old.given ≡ 0 }
     ensures { adapter.new.given ≡ 4 }
 {
@@ -162,7 +162,7 @@ fn give_bit(adapter: &mut Adapter, whitener: &Atsc)
         zero_packet(whitener, 3),
     ];
     group[0].0[1] ^= 0x40;
-    adapter.group(&mut group);
+    adapter.group(&mut group) == 0
 }
 
 /// Whether the last part of a stream's second group says the states behind the first one.
@@ -181,7 +181,7 @@ fn a_placeholder_in_a_last_part_of_a_group_says_the_states_behind_the_groups(
     rt: HostRuntime,
 ) -> Result<(), Fail> {
     let mut adapter = adapter_under(rt.alloc(), LATER)?;
-    give_bit(&mut adapter, &Atsc::new(rt.alloc())?);
+    assert!(rt; give_bit(&mut adapter, &Atsc::new(rt.alloc())?));
     assert!(rt; says_behind(&mut adapter));
     Ok(())
 }
