@@ -7,10 +7,6 @@ use Rattle.std.proofs.lemmas.Bool.{eq-eqb}
 use Rattle.dtx_network.specs.Orders.{has_order, is_operations}
 use Rattle.dtx_packets.specs.Packet.{pid_of}
 
--- what is far behind a field's first packet is as far behind its frame's
-pub behind_mark : (g : ℕ) → 52 ≤ g % 312 → 52 ≤ g % 624
-behind_mark g far = omega (arith, far)
-
 or_right : (a b : Bool) → b ≡ true → (a || b) ≡ true
 or_right true b e = refl
 or_right false b e = e

@@ -2,31 +2,31 @@
 
 ghost use Rattle.std.specs.Prelude.{◌≡◌, ◌≢◌, ◌-◌, ◌*◌, ◌/◌, ◌%◌, ◌^◌, ◌<◌, ◌≤◌, ◌∷◌, [], ℕ, IsSomeAnd, List, Some};
 ghost use Rattle.std.specs.Prelude.{drop, is_some, length, slice_index_or, true};
+ghost use Rattle.std.specs.FinMap.{get};
+ghost use Rattle.dtx_outside.specs.Shelf.{Files};
+ghost use Rattle.dtx_packets.specs.Packet.{pid_of};
+ghost use Rattle.dtx_packets.specs.Packets.{packets_of};
+ghost use Rattle.dtx_plan.specs.declared.plan.NetPlan.{NetPlan};
+ghost use Rattle.dtx_plan.specs.declared.plan.Plan.{Plan};
+ghost use Rattle.dtx_plan.specs.declared.transmitter.Transmitter.{Transmitter};
 ghost use Rattle.dtx_exciter.specs.Order.{counting_order};
 ghost use Rattle.dtx_exciter.specs.Packets.{readings};
-ghost use Rattle.dtx_packets.specs.Packet.{pid_of};
-ghost use Rattle.std.specs.FinMap.{get};
-ghost use Rattle.dtx_adapter.specs.Feed.{feed};
-ghost use Rattle.dtx_meaning.specs.declared.status.Status.{Status};
-ghost use Rattle.dtx_outside.specs.Shelf.{Files};
-ghost use Rattle.dtx_packets.specs.Packets.{packets_of};
-ghost use Rattle.dtx_words.specs.NetworkNames.{received_name};
-ghost use Rattle.dtx_top.specs.HeadlineOfFiles.{HeadlineOfFiles};
-ghost use Rattle.dtx_plan.specs.declared.transmitter.Transmitter.{Transmitter};
 ghost use Rattle.dtx_net.specs.Lives.{own_steps};
-ghost use Rattle.dtx_net.specs.Steps.{Step};
 ghost use Rattle.dtx_net.specs.Sent as sent;
+ghost use Rattle.dtx_net.specs.Steps.{Step};
+ghost use Rattle.dtx_adapter.specs.Feed.{feed};
+ghost use Rattle.dtx_network.specs.Network.{steps_under};
+ghost use Rattle.dtx_network.specs.Orders.{has_order};
+ghost use Rattle.dtx_network.specs.Plans.{IsPlan, IsStream};
+ghost use Rattle.dtx_meaning.specs.declared.status.Status.{Status};
 ghost use Rattle.dtx_jobs.specs.Feed.{bytes_of_packets, feed_bytes};
 ghost use Rattle.dtx_jobs.specs.SymbolFile as file;
 ghost use Rattle.dtx_jobs.specs.WatchedFeed.{IsWatchedCalmly};
 ghost use Rattle.dtx_schedule.specs.TransmitterFiles.{log_file, symbol_file};
-ghost use Rattle.dtx_network.specs.Orders.{has_order};
-ghost use Rattle.dtx_network.specs.Network.{steps_under};
-ghost use Rattle.dtx_network.specs.Plans.{IsPlan, IsStream};
-ghost use Rattle.dtx_plan.specs.declared.plan.NetPlan.{NetPlan};
-ghost use Rattle.dtx_plan.specs.declared.plan.Plan.{Plan};
 ghost use Rattle.dtx_words.specs.Fitting.{command_of};
+ghost use Rattle.dtx_words.specs.NetworkNames.{received_name};
 ghost use Rattle.dtx_words.specs.declared.rows.Command.TheVariants as command;
+ghost use Rattle.dtx_top.specs.HeadlineOfFiles.{HeadlineOfFiles};
 ghost use Rattle.dtx_top.specs.Means.{means};
 ghost use Rattle.dtx_top.specs.NetProgress.{AreUnderWay, HasNetProgress};
 ghost use Rattle.dtx_top.specs.Trial.{trial_made, trial_plan};
@@ -94,10 +94,9 @@ pub fn simple_networks_work()
     headline();
 }
 
-/// Where packet k of a stream, at place 52 of its field or behind, is a placeholder, its group of four is an order in
-/// the adapter's feed: it begins 52 packets or more behind the mark of its frame, so it counts for every exciter that
-/// is locked to that mark or to an earlier one. Of a stream in which placeholders were put such a packet stands in each
-/// field that had a null packet or a placeholder there (`fields_with_one` of `dtx_jobs`).
+/// Where packet k of a stream, at place 52 of its field or behind, is a placeholder, its group of four begins 52 packets
+/// or more behind the mark of its frame, and has an order that counts in the adapter's feed. (In which fields such a
+/// packet stands once placeholders were put, `fields_with_one` of `dtx_jobs` says.)
 pub fn late_placeholders_are_orders()
     ensures late { (k : ℕ) → 52 ≤ k % 312 → 52 ≤ 4 * (k / 4) % 624 }
     ensures order { (plan : Plan) (stream : List (List ℕ)) (k : ℕ) → IsPlan plan → IsStream stream → 52 ≤ k % 312

@@ -1,10 +1,11 @@
 use Rattle.std.proofs.Common.{◌*◌, ◌/◌, ap, ◌∙◌, arith}
 use Rattle.std.specs.Prelude.{is_some}
-use Rattle.dtx_top.proofs.LateOrders.{behind_mark, held_order}
+use Rattle.dtx_top.proofs.LateOrders.{held_order}
 use Rattle.dtx_top.proofs.laws.late_placeholders_are_orders.Goals as goal
 
 pub returns-clause-late : goal.returns-clause-late
-returns-clause-late c = λ k far. behind_mark (4 * (k / 4)) (c.groups_begin_late.ensures.late k far)
+returns-clause-late c = λ k far.
+    let behind = c.groups_begin_late.ensures.late k far in omega (arith, behind)
 
 pub returns-clause-order : goal.returns-clause-order
 returns-clause-order c = λ plan stream k p s far placeholder.
