@@ -7,7 +7,7 @@ use dtx_sizes::{FRAME_PACKETS, MARK};
 use std::marker::Model;
 
 /// What an anchor says of one more packet.
-#[derive(Clone, Copy, Debug, PartialEq, Eq)]
+#[derive(Clone, Copy, PartialEq, Eq)]
 pub enum Seen {
     /// There was no anchor, and there is none.
     Free,

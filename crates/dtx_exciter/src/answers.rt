@@ -2,7 +2,7 @@
 use dtx_clock::Moment;
 
 /// Why a group isn't sent, where that is told.
-#[derive(Clone, Copy, Debug, PartialEq, Eq)]
+#[derive(Clone, Copy, PartialEq, Eq)]
 pub enum Why {
     /// The anchor is lost: two marks that were due in a row are missing.
     Cadence,
@@ -13,7 +13,7 @@ pub enum Why {
 }
 
 /// What an order sets at the group that carries it.
-#[derive(Clone, Copy, Debug, PartialEq, Eq)]
+#[derive(Clone, Copy, PartialEq, Eq)]
 pub struct Preset {
     /// The number of the frame, as the order says it.
     pub frame: u32,
@@ -26,7 +26,7 @@ pub struct Preset {
 }
 
 /// An exciter's answer to one packet.
-#[derive(Clone, Copy, Debug, PartialEq, Eq)]
+#[derive(Clone, Copy, PartialEq, Eq)]
 pub enum Told {
     /// Nothing is sent.
     Quiet,

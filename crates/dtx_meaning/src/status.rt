@@ -7,7 +7,7 @@ use dtx_plan::{PlanFault, PlanNo};
 use std::alloc::AllocError;
 
 /// How a call ends. Inputs are numbered from 0, in the order of the words that name them.
-#[derive(Clone, Copy, Debug, PartialEq, Eq)]
+#[derive(Clone, Copy, PartialEq, Eq)]
 pub enum Status {
     /// The command was done, and its inputs were read to their ends.
     Done,
@@ -61,7 +61,7 @@ impl Status {
 }
 
 /// How a command ended, and the numbers of its line.
-#[derive(Clone, Copy, Debug, PartialEq, Eq)]
+#[derive(Clone, Copy, PartialEq, Eq)]
 pub struct Outcome {
     /// How it ended.
     pub status: Status,

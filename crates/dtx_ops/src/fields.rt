@@ -5,14 +5,14 @@ use dtx_sizes::MOST_ENTRIES;
 use dtx_trellis::States;
 
 /// A transmitter's address, and its offset in ticks of 100 ns.
-#[derive(Clone, Copy, Debug, Default, PartialEq, Eq)]
+#[derive(Clone, Copy, Default, PartialEq, Eq)]
 pub struct Entry {
     pub address: u16,
     pub offset: i16,
 }
 
 /// The fields of an operations packet.
-#[derive(Debug, PartialEq, Eq, Drop)]
+#[derive(PartialEq, Eq, Drop)]
 pub struct Ops {
     /// The states of the twelve trellis coders before the packet's group of four.
     pub states: States,

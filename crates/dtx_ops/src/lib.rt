@@ -3,6 +3,7 @@
 
 mod fields;
 pub mod laws;
+mod numbers;
 mod packing;
 mod paging;
 mod reading;

@@ -5,7 +5,7 @@ ghost use Rattle.dtx_ops.specs.Paging.{page_of, pages_of, kind_of, count_place, 
 use dtx_sizes::{MOST_ENTRIES, PAGE_ENTRIES};
 
 /// The page of transmitters that an operations packet carries.
-#[derive(Clone, Copy, Debug, Default, PartialEq, Eq)]
+#[derive(Clone, Copy, Default, PartialEq, Eq)]
 pub enum Paging {
     /// The only page, in a packet of kind 1.
     #[default]

@@ -7,6 +7,7 @@ ghost use Rattle.dtx_ops.specs.Reading as spec;
 ghost use Rattle.dtx_ops.specs.Spelling.{IsValid};
 
 use crate::fields::{Entry, Ops};
+use crate::numbers::{bits_at, frame_at, index_at, ticks_at};
 use crate::packing::unpacked;
 use crate::paging::Paging;
 use crate::refusal::OpsNo;
@@ -137,11 +138,11 @@ fn fields_of(bytes: &[u8], paging: Paging, offsets: ArrayVec<Entry, MOST_ENTRIES
     ensures { result ≡ fields bytes.now }
 {
     Ops {
-        states: unpacked(BigEndian::read_uint(&bytes[1..], 5)),
-        stamp: BigEndian::read_u24(&bytes[6..]),
-        max_delay: BigEndian::read_u24(&bytes[9..]),
-        frame: BigEndian::read_u32(&bytes[12..]),
-        index: BigEndian::read_u16(&bytes[16..]),
+        states: unpacked(bits_at(bytes, 1)),
+        stamp: ticks_at(bytes, 6),
+        max_delay: ticks_at(bytes, 9),
+        frame: frame_at(bytes, 12),
+        index: index_at(bytes, 16),
         paging,
         offsets,
     }

@@ -1,13 +1,13 @@
 // The rules on the data of an operations packet, in their order.
-ghost use Rattle.std.specs.Prelude.{◌≡◌, ◌==◌, None, length};
+ghost use Rattle.std.specs.Prelude.{◌≡◌, ◌==◌, ◌&&◌, None, length, not};
 ghost use Rattle.std.specs.List.{list_all};
 ghost use Rattle.dtx_ops.specs.Paging.{IsPaged};
 ghost use Rattle.dtx_ops.specs.Rules as spec;
 
 use crate::fields::Entry;
+use crate::numbers::{index_at, ticks_at};
 use crate::paging::Paging;
 use crate::refusal::OpsNo;
-use byteorder::{BigEndian, ByteOrder};
 use dtx_sizes::{FRAME_PACKETS, MOST_PAGES, SECOND_TICKS};
 
 /// The first rule on the data before the page that holds.
@@ -16,19 +16,26 @@ pub(crate) fn head_refusal(bytes: &[u8]) -> Option<OpsNo>
     requires { length bytes.now ≡ 164 }
     ensures { result ≡ spec.first (spec.head_rules bytes.now) }
 {
-    if bytes[0] != 1 && bytes[0] != 2 {
+    if is_unknown(bytes[0]) {
         Some(OpsNo::Kind)
     } else if bytes[5] % 16 != 0 {
         Some(OpsNo::Pad)
-    } else if BigEndian::read_u24(&bytes[6..]) >= SECOND_TICKS {
+    } else if ticks_at(bytes, 6) >= SECOND_TICKS {
         Some(OpsNo::Stamp)
-    } else if BigEndian::read_u24(&bytes[9..]) >= SECOND_TICKS {
+    } else if ticks_at(bytes, 9) >= SECOND_TICKS {
         Some(OpsNo::Delay)
-    } else if BigEndian::read_u16(&bytes[16..]) >= FRAME_PACKETS {
+    } else if index_at(bytes, 16) >= FRAME_PACKETS {
         Some(OpsNo::Index)
     } else {
         None
     }
+}
+
+/// The kind is neither 1 nor 2.
+fn is_unknown(kind: u8) -> bool
+    ensures { result ≡ (not (kind == 1) && not (kind == 2)) }
+{
+    kind != 1 && kind != 2
 }
 
 /// The first rule on the page and its count of entries that holds.

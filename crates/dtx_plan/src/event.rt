@@ -6,7 +6,7 @@ use std::alloc::{AllocError, Global};
 use std::marker::Model;
 
 /// One step of the schedule of a network: what the transmitter of the address `to` is given.
-#[derive(Clone, Copy, Debug, PartialEq, Eq)]
+#[derive(Clone, Copy, PartialEq, Eq)]
 pub enum Event {
     /// `count` packets of the feed, from `from` on.
     Send {
@@ -51,7 +51,7 @@ pub(crate) enum EventKind {
 }
 
 /// The events of a plan, seen as the list of them.
-#[derive(Debug, Drop)]
+#[derive(Drop)]
 pub struct Events {
     pub(crate) all: Vec<Event>,
 }

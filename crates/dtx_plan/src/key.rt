@@ -3,7 +3,7 @@ ghost use Rattle.std.specs.Prelude.{◌≡◌};
 ghost use Rattle.dtx_plan.specs.Words.{key_word};
 
 /// The key of the row whose rule is broken (the profile's own plan file).
-#[derive(Clone, Copy, Debug, PartialEq, Eq)]
+#[derive(Clone, Copy, PartialEq, Eq)]
 pub enum PlanKey {
     /// The file, or the keys of its root.
     Whole,

@@ -8,7 +8,7 @@ use std::alloc::{AllocError, AllocFailed};
 
 /// The first refusal of the walk over a plan: the key of its row, the number of the entry, from 0 and 0 where there is
 /// no entry, and the rule that is broken.
-#[derive(Clone, Copy, Debug, PartialEq, Eq)]
+#[derive(Clone, Copy, PartialEq, Eq)]
 pub struct PlanNo {
     pub key: PlanKey,
     pub item: u32,
@@ -25,7 +25,7 @@ impl PlanNo {
 }
 
 /// Why no plan was read.
-#[derive(Clone, Copy, Debug, PartialEq, Eq)]
+#[derive(Clone, Copy, PartialEq, Eq)]
 pub enum PlanFault {
     /// A rule of the walk is broken.
     No(PlanNo),

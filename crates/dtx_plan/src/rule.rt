@@ -3,7 +3,7 @@ ghost use Rattle.std.specs.Prelude.{◌≡◌};
 ghost use Rattle.dtx_plan.specs.Words.{rule_word};
 
 /// The rule that is broken (the profile's own plan file).
-#[derive(Clone, Copy, Debug, PartialEq, Eq)]
+#[derive(Clone, Copy, PartialEq, Eq)]
 pub enum PlanRule {
     /// The file has more than 16,777,216 bytes.
     Size,

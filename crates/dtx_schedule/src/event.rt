@@ -90,15 +90,17 @@ fn play_at<S: Shelf>(
             count,
             ..
         } => give_made(shelf, who, &MadePart { seed, from, count }, playout),
-        Event::Flip { from, at, with, .. } => {
-            let packet = read_one(shelf, number, from)?;
-            playout.give(shelf, who, &flipped(&packet, at, with))
-        }
-        Event::Lie { from, states, .. } => {
-            let packet = read_one(shelf, number, from)?;
-            let lied = playout.net.lied(&packet, &states);
-            playout.give(shelf, who, &lied)
-        }
+        Event::Flip { from, at, with, .. } => match read_one(shelf, number, from) {
+            Ok(packet) => playout.give(shelf, who, &flipped(&packet, at, with)),
+            Err(status) => Err(status),
+        },
+        Event::Lie { from, states, .. } => match read_one(shelf, number, from) {
+            Ok(packet) => {
+                let lied = playout.net.lied(&packet, &states);
+                playout.give(shelf, who, &lied)
+            }
+            Err(status) => Err(status),
+        },
         Event::Restart { .. } => playout.restart(shelf, who),
     }
 }
@@ -174,7 +176,11 @@ fn send_piece<S: Shelf>(
     ensures refusal { IfErr result IsOfFeed }
     ensures gone { HasGone (S.counts shelf.old) (S.counts shelf.new) (blame_of_answer result) }
 {
-    let count = read_piece(shelf, part, packets)?;
-    give_all(shelf, who, &packets[..count], playout)?;
-    Ok(count as u64)
+    match read_piece(shelf, part, packets) {
+        Ok(count) => match give_all(shelf, who, &packets[..count], playout) {
+            Ok(()) => Ok(count as u64),
+            Err(status) => Err(status),
+        },
+        Err(status) => Err(status),
+    }
 }

@@ -57,12 +57,8 @@ pub(crate) fn read_piece<S: Shelf>(
     ensures gone { HasGone (S.counts shelf.old) (S.counts shelf.new) (blame_of_answer result) }
 {
     match PacketReader::at(part.from, part.count).next_many(shelf, feed_name(), packets) {
-        Ok(count) => {
-            if count == 0 {
-                return Err(Status::OutOfFeed(part.event));
-            }
-            Ok(count)
-        }
+        Ok(0) => Err(Status::OutOfFeed(part.event)),
+        Ok(count) => Ok(count),
         Err(cause) => Err(of_next(cause)),
     }
 }

@@ -1,5 +1,5 @@
 // What is told of one packet.
-ghost use Rattle.std.specs.Prelude.{◌≡◌, ◌<◌, ◌||◌, ◌++◌, None, IfOk, is_some, length, if◌then◌else◌};
+ghost use Rattle.std.specs.Prelude.{◌≡◌, ◌<◌, ◌==◌, ◌&&◌, ◌||◌, ◌++◌, None, IfOk, is_some, length, not, if◌then◌else◌};
 ghost use Rattle.dtx_ops.specs.Spelling.{IsValid};
 ghost use Rattle.dtx_exciter.specs.Order.{either};
 ghost use Rattle.dtx_watch.specs.Notes.{states_note, ops_note, read_note, packet_note, one_or_none};
@@ -100,6 +100,13 @@ pub(crate) fn push_some(note: Option<Note>, notes: &mut ArrayVec<Note, MOST_NOTE
     if let Some(note) = note {
         notes.push(note);
     }
+}
+
+/// Whether the group that begins at this place of its frame is the first under an anchor.
+pub(crate) fn is_first_group(first: u16, flushed: bool) -> bool
+    ensures { result ≡ ((first == 0) && not flushed) }
+{
+    first == 0 && !flushed
 }
 
 /// The earlier states, or else the later ones.

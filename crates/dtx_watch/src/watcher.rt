@@ -17,7 +17,9 @@ ghost use Rattle.dtx_watch.specs.Kept.{StandsFor, KeepsUnder, HasRoom, WasGiven,
 
 use crate::notes::{MOST_NOTES, Note, What};
 use crate::stamped::{Stamped, stamp_in};
-use crate::telling::{Expected, first_of, is_ordered, packet_note, preset_of, push_some};
+use crate::telling::{
+    Expected, first_of, is_first_group, is_ordered, packet_note, preset_of, push_some,
+};
 use arrayvec::ArrayVec;
 use dtx_cadence::{Anchor, Seen};
 use dtx_coder::{Air, Coder};
@@ -226,7 +228,7 @@ impl Watcher {
         requires { length notes.old.items < MOST_NOTES }
         ensures { notes.new.items ≡ notes.old.items ++ lock_notes self.now }
     {
-        if self.first == 0 && !self.flushed {
+        if is_first_group(self.first, self.flushed) {
             notes.push(Note {
                 packet: self.count.saturating_sub(self.part as u64),
                 what: What::Lock,

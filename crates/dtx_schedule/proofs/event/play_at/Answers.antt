@@ -1,50 +1,44 @@
-use Rattle.std.proofs.Common.{◌≡◌, ◌<◌, ◌++◌, ◌∷◌, [], List, map, refl, sym, ap, subst, ◌∙◌}
+use Rattle.std.proofs.Common.{◌≡◌, ◌<◌, ◌∷◌, [], List, map, refl, ap, ◌∙◌}
 use Rattle.std.specs.Prelude.{Ok, Err}
 use Rattle.std.specs.List.{range_with_len}
-use Rattle.std.proofs.lemmas.Result.{err_from_is_err_and}
 use Rattle.dtx_make.specs.Made.{made_packet}
 use Rattle.dtx_packets.specs.Packets.{packets_from, packets_of, whole_packets}
 use Rattle.dtx_plan.specs.declared.event.Event.TheVariants.{Send, Foreign, Flip, Lie, Restart}
 use Rattle.dtx_net.specs.Steps.{Step, packet_step, restart_step, steps_of}
-use Rattle.dtx_schedule.specs.PlayedSoFar.{IsDoneOf, IsPacketOf, packet_steps}
+use Rattle.dtx_schedule.specs.PlayedSoFar.{IsPacketOf, packet_steps}
 use Rattle.dtx_schedule.proofs.EventSteps.{event_done, flipped, lied, made, one_within, part_within, restarted, sent}
 use Rattle.dtx_schedule.proofs.FeedKept.{feed_read, kept_on, unread}
 use Rattle.dtx_schedule.proofs.event.play_at.Goals as goal
 
-pub returns-in_err-packet-in-Flip-clause-done : goal.returns-in_err-packet-in-Flip-clause-done
-returns-in_err-packet-in-Flip-clause-done g c = λ ts held before feed there place past is.
+pub returns-in-Err-clause-done : goal.returns-in-Err-clause-done
+returns-in-Err-clause-done g c = λ ts held before feed there place past is.
     let from = c.in-Flip.from in
     let event : c.args.event.now ≡ Flip c.in-Flip.to from c.in-Flip.at c.in-Flip.with = cc in
     let within = one_within (whole_packets feed) from c.args.event.now
     (Flip c.in-Flip.to from c.in-Flip.at c.in-Flip.with) event refl past in
     let was = g.S.Shelf.files c.args.shelf.now in
     let mid = g.S.Shelf.files c.read_one.new.shelf in
-    let status = c.in_err-packet-in-Flip.field-0.0 in
-    let p = err_from_is_err_and c.from_residual.result c.from_residual.ensures.1 in
+    let status = c.in-Err.status in
     let fault = feed_read (λ feed. from < whole_packets feed
     → IsPacketOf feed from (Err status)) ts before held c.args.playout.now was feed there is
-    c.in_err-packet-in-Flip.ensures.told within in
+    c.in-Err.ensures.told within in
     let own : List Step = steps_of ts (packets_of feed) c.args.event.now in
-    subst (λ r. IsDoneOf ts (before ++ own) held r c.args.playout.now mid) (sym (p.1 ∙ ap Err p.2))
-    (unread ts before own held c.args.playout.now was mid status c.read_one.ensures.kept is fault)
+    unread ts before own held c.args.playout.now was mid status c.read_one.ensures.kept is fault
 
-pub returns-in_err-packet-in-Lie-clause-done : goal.returns-in_err-packet-in-Lie-clause-done
-returns-in_err-packet-in-Lie-clause-done g c = λ ts held before feed there place past is.
+pub returns-in-Err-read_one-clause-done : goal.returns-in-Err-read_one-clause-done
+returns-in-Err-read_one-clause-done g c = λ ts held before feed there place past is.
     let from = c.in-Lie.from in
     let event : c.args.event.now ≡ Lie c.in-Lie.to from c.in-Lie.states = cc in
     let within = one_within (whole_packets feed) from c.args.event.now
     (Lie c.in-Lie.to from c.in-Lie.states) event refl past in
     let was = g.S.Shelf.files c.args.shelf.now in
     let mid = g.S.Shelf.files c.read_one-in-Lie.new.shelf in
-    let status = c.in_err-packet-in-Lie.field-0.0 in
-    let p = err_from_is_err_and c.from_residual-in_err-packet-in-Lie.result
-    c.from_residual-in_err-packet-in-Lie.ensures.1 in
+    let status = c.in-Err-read_one.status in
     let fault = feed_read (λ feed. from < whole_packets feed
     → IsPacketOf feed from (Err status)) ts before held c.args.playout.now was feed there is
-    c.in_err-packet-in-Lie.ensures.told within in
+    c.in-Err-read_one.ensures.told within in
     let own : List Step = steps_of ts (packets_of feed) c.args.event.now in
-    subst (λ r. IsDoneOf ts (before ++ own) held r c.args.playout.now mid) (sym (p.1 ∙ ap Err p.2))
-    (unread ts before own held c.args.playout.now was mid status c.read_one-in-Lie.ensures.kept is fault)
+    unread ts before own held c.args.playout.now was mid status c.read_one-in-Lie.ensures.kept is fault
 
 pub returns-in-Send-clause-done : goal.returns-in-Send-clause-done
 returns-in-Send-clause-done g c = λ ts held before feed there place past is.
@@ -75,20 +69,20 @@ returns-in-Foreign-clause-done g c = λ ts held before feed there place past is.
     (λ its. made ts who to seed from count (packets_of feed) its)
     (c.give_made.ensures.done ts held before is)
 
-pub returns-in_ok-packet-in-Flip-clause-done : goal.returns-in_ok-packet-in-Flip-clause-done
-returns-in_ok-packet-in-Flip-clause-done g c = λ ts held before feed there place past is.
+pub returns-in-Ok-clause-done : goal.returns-in-Ok-clause-done
+returns-in-Ok-clause-done g c = λ ts held before feed there place past is.
     let who = c.args.who in
     let to = c.in-Flip.to in
     let from = c.in-Flip.from in
-    let packet = c.in_ok-packet-in-Flip.packet.0 in
+    let packet = c.in-Ok.packet.0 in
     let event : c.args.event.now ≡ Flip to from c.in-Flip.at c.in-Flip.with = cc in
     let within = one_within (whole_packets feed) from c.args.event.now
     (Flip to from c.in-Flip.at c.in-Flip.with) event refl past in
     let was = g.S.Shelf.files c.args.shelf.now in
     let mid = g.S.Shelf.files c.read_one.new.shelf in
     let read = feed_read (λ feed. from < whole_packets feed
-    → IsPacketOf feed from (Ok c.in_ok-packet-in-Flip.packet)) ts before held
-    c.args.playout.now was feed there is c.in_ok-packet-in-Flip.ensures.told within in
+    → IsPacketOf feed from (Ok c.in-Ok.packet)) ts before held
+    c.args.playout.now was feed there is c.in-Ok.ensures.told within in
     let step : List Step = packet_step who c.flipped.result.0 ∷ [] in
     event_done ts before step held c.give.result c.give.new.self (g.S.Shelf.files c.give.new.shelf) who
     (packets_of feed) c.args.event.now
@@ -97,26 +91,26 @@ returns-in_ok-packet-in-Flip-clause-done g c = λ ts held before feed there plac
     ∙ flipped ts who to from c.in-Flip.at c.in-Flip.with feed packet its within read)
     (c.give.ensures.done ts held before (kept_on ts before held c.args.playout.now was mid c.read_one.ensures.kept is))
 
-pub returns-in_ok-packet-in-Lie-clause-done : goal.returns-in_ok-packet-in-Lie-clause-done
-returns-in_ok-packet-in-Lie-clause-done g c = λ ts held before feed there place past is.
+pub returns-in-Ok-read_one-clause-done : goal.returns-in-Ok-read_one-clause-done
+returns-in-Ok-read_one-clause-done g c = λ ts held before feed there place past is.
     let who = c.args.who in
     let to = c.in-Lie.to in
     let from = c.in-Lie.from in
-    let packet = c.in_ok-packet-in-Lie.packet.0 in
+    let packet = c.in-Ok-read_one.packet.0 in
     let event : c.args.event.now ≡ Lie to from c.in-Lie.states = cc in
     let within = one_within (whole_packets feed) from c.args.event.now (Lie to from c.in-Lie.states) event refl past in
     let was = g.S.Shelf.files c.args.shelf.now in
     let mid = g.S.Shelf.files c.read_one-in-Lie.new.shelf in
     let read = feed_read (λ feed. from < whole_packets feed
-    → IsPacketOf feed from (Ok c.in_ok-packet-in-Lie.packet)) ts before held
-    c.args.playout.now was feed there is c.in_ok-packet-in-Lie.ensures.told within in
+    → IsPacketOf feed from (Ok c.in-Ok-read_one.packet)) ts before held
+    c.args.playout.now was feed there is c.in-Ok-read_one.ensures.told within in
     let step : List Step = packet_step who c.lied-lied.result.0 ∷ [] in
-    event_done ts before step held c.give-in-Lie.result c.give-in-Lie.new.self
-    (g.S.Shelf.files c.give-in-Lie.new.shelf) who (packets_of feed)
+    event_done ts before step held c.give-in-Ok-read_one.result c.give-in-Ok-read_one.new.self
+    (g.S.Shelf.files c.give-in-Ok-read_one.new.shelf) who (packets_of feed)
     c.args.event.now (Lie to from c.in-Lie.states) event place
     (λ its. ap (λ p. packet_step who p ∷ []) c.lied-lied.ensures
     ∙ lied ts who to from c.in-Lie.states feed packet its within read)
-    (c.give-in-Lie.ensures.done ts held before (kept_on ts before held c.args.playout.now was mid
+    (c.give-in-Ok-read_one.ensures.done ts held before (kept_on ts before held c.args.playout.now was mid
     c.read_one-in-Lie.ensures.kept is))
 
 pub returns-in-Restart-clause-done : goal.returns-in-Restart-clause-done

@@ -1,64 +1,57 @@
-use Rattle.std.proofs.Common.{◌≡◌, ◌+◌, ◌-◌, ◌<◌, ◌++◌, sym, ap, subst, ◌∙◌, arith}
+use Rattle.std.proofs.Common.{◌≡◌, ◌+◌, ◌-◌, ◌<◌, ◌++◌, ap, subst, ◌∙◌, arith}
 use Rattle.std.specs.Prelude.{Ok, Err}
-use Rattle.std.proofs.lemmas.Result.{err_from_is_err_and}
 use Rattle.dtx_meaning.specs.Status.{IsFault}
 use Rattle.dtx_packets.specs.Packets.{packets_from, whole_packets}
-use Rattle.dtx_schedule.specs.PlayedSoFar.{IsGivenOf, IsPieceOf, IsPlayedSoFar, IsUnderWay, packet_steps}
+use Rattle.dtx_schedule.specs.PlayedSoFar.{IsPieceOf, IsPlayedSoFar, IsUnderWay, packet_steps}
 use Rattle.dtx_schedule.proofs.EventSteps.{piece_on}
 use Rattle.dtx_schedule.proofs.FeedKept.{feed_read, kept_on, unread}
 use Rattle.dtx_schedule.proofs.SoFar.{fault_more}
 use Rattle.dtx_schedule.proofs.event.send_piece.Goals as goal
 
-pub returns-in_err-count-clause-done : goal.returns-in_err-count-clause-done
-returns-in_err-count-clause-done g c = λ ts held before feed there within is.
+pub returns-in-Err-clause-done : goal.returns-in-Err-clause-done
+returns-in-Err-clause-done g c = λ ts held before feed there within is.
     let part = c.args.part.now in
     let was = g.S.Shelf.files c.args.shelf.now in
     let mid = g.S.Shelf.files c.read_piece.new.shelf in
-    let status = c.in_err-count.field-0.0 in
-    let p = err_from_is_err_and c.from_residual.result c.from_residual.ensures.1 in
+    let status = c.in-Err.status in
     let fault = feed_read (λ feed. part.from < whole_packets feed
     → IsPieceOf feed part.from (Err status) c.read_piece.new.packets) ts before held
-    c.args.playout.now was feed there is c.in_err-count.ensures.told within in
-    subst (λ r. IsGivenOf ts before c.args.who feed part.from part.count held r c.args.playout.now mid) (sym (p.1
-    ∙ ap Err p.2))
-    (unread ts before (packet_steps c.args.who (packets_from feed part.from part.count)) held c.args.playout.now was mid
-    status c.read_piece.ensures.kept is fault)
+    c.args.playout.now was feed there is c.in-Err.ensures.told within in
+    unread ts before (packet_steps c.args.who (packets_from feed part.from part.count)) held c.args.playout.now was mid
+    status c.read_piece.ensures.kept is fault
 
-pub returns-in_err-give_all-clause-done : goal.returns-in_err-give_all-clause-done
-returns-in_err-give_all-clause-done g c = λ ts held before feed there within is.
+pub returns-in-Err-give_all-clause-done : goal.returns-in-Err-give_all-clause-done
+returns-in-Err-give_all-clause-done g c = λ ts held before feed there within is.
     let part = c.args.part.now in
     let who = c.args.who in
     let was = g.S.Shelf.files c.args.shelf.now in
     let mid = g.S.Shelf.files c.read_piece.new.shelf in
     let now = g.S.Shelf.files c.give_all.new.shelf in
-    let count = c.in_ok-count.count in
-    let status = c.in_err-give_all.field-0.0 in
-    let p = err_from_is_err_and c.from_residual-in_err-give_all.result c.from_residual-in_err-give_all.ensures.1 in
+    let count = c.in-Ok.count in
+    let status = c.in-Err-give_all.status in
     let packets = feed_read (λ feed. part.from < whole_packets feed
     → IsPieceOf feed part.from (Ok count) c.read_piece.new.packets) ts before held
-    c.args.playout.now was feed there is c.in_ok-count.ensures.told within in
-    let all : count + (part.count - count) ≡ part.count = omega (arith, c.in_ok-count.ensures.count.within) in
-    subst (λ r. IsGivenOf ts before who feed part.from part.count held r c.give_all.new.playout now) (sym (p.1
-    ∙ ap Err p.2))
-    (fault_more ts (before ++ packet_steps who (packets_from feed part.from count))
+    c.args.playout.now was feed there is c.in-Ok.ensures.told within in
+    let all : count + (part.count - count) ≡ part.count = omega (arith, c.in-Ok.ensures.count.within) in
+    fault_more ts (before ++ packet_steps who (packets_from feed part.from count))
     (packet_steps who (packets_from feed (part.from + count) (part.count - count)))
     (before ++ packet_steps who (packets_from feed part.from part.count)) held status now
     (piece_on before who feed part.from count (part.count - count)
     ∙ ap (λ n. before ++ packet_steps who (packets_from feed part.from n)) all)
     (subst (λ ps. IsFault status × IsUnderWay ts (before ++ packet_steps who ps) held now) packets
-    (c.in_err-give_all.ensures.done ts held before
-    (kept_on ts before held c.args.playout.now was mid c.read_piece.ensures.kept is))))
+    (c.in-Err-give_all.ensures.done ts held before
+    (kept_on ts before held c.args.playout.now was mid c.read_piece.ensures.kept is)))
 
-pub returns-clause-done : goal.returns-clause-done
-returns-clause-done g c = λ ts held before feed there within is.
+pub returns-in-Ok-give_all-clause-done : goal.returns-in-Ok-give_all-clause-done
+returns-in-Ok-give_all-clause-done g c = λ ts held before feed there within is.
     let from = c.args.part.now.from in
     let was = g.S.Shelf.files c.args.shelf.now in
     let mid = g.S.Shelf.files c.read_piece.new.shelf in
-    let count = c.in_ok-count.count in
+    let count = c.in-Ok.count in
     let packets = feed_read (λ feed. from < whole_packets feed
     → IsPieceOf feed from (Ok count) c.read_piece.new.packets) ts before held
-    c.args.playout.now was feed there is c.in_ok-count.ensures.told within in
+    c.args.playout.now was feed there is c.in-Ok.ensures.told within in
     subst (λ ps. IsPlayedSoFar ts (before ++ packet_steps c.args.who ps) held c.give_all.new.playout
     (g.S.Shelf.files c.give_all.new.shelf)) packets
-    (c.in_ok-give_all.ensures.done ts held before
+    (c.in-Ok-give_all.ensures.done ts held before
     (kept_on ts before held c.args.playout.now was mid c.read_piece.ensures.kept is))
