@@ -1,14 +1,15 @@
 //! An adapter on worked streams. Its operations packets are those that were worked by hand.
 
-ghost use Rattle.std.specs.Prelude.{◌≡◌, ◌<◌, ◌≤◌, ◌*◌, IfOk};
+ghost use Rattle.std.specs.Prelude.{◌≡◌, ◌<◌, ◌≤◌, ◌*◌, IfOk, IsOk};
+ghost use Rattle.dtx_plan.specs.Sound.{IsSound};
 
 use dtx_adapter::Adapter;
 use dtx_laws::Whitener;
 use dtx_packets::Packet;
-use dtx_plan::read_plan;
+use dtx_plan::{Plan, read_plan};
 use dtx_sizes::PACKET;
 use dtx_whiten::Atsc;
-use std::alloc::Global;
+use std::alloc::{AllocError, Global};
 use std::test::Fail;
 
 /// A plan with two transmitters, and the same one with a later start.
@@ -41,9 +42,17 @@ fn adapter_under(alloc: Global, text: &[u8]) -> Result<Adapter, Fail>
     ensures { IfOk result (λ adapter. adapter.given ≡ 0) }
 {
     match read_plan(alloc, text) {
-        Ok(plan) => Ok(Adapter::new(alloc, &plan)?),
+        Ok(plan) => adapter_of(alloc, &plan),
         Err(_) => Err("no plan")?,
     }
+}
+
+/// A new adapter under that plan.
+fn adapter_of(alloc: Global, plan: &Plan) -> Result<Adapter, Fail>
+    requires { IsSound plan.now }
+    ensures { IfOk result (λ adapter. adapter.given ≡ 0) }
+{
+    Ok(Adapter::new(alloc, plan)?)
 }
 
 /// A packet that is no placeholder.
@@ -165,6 +174,15 @@ fn give_bit(adapter: &mut Adapter, whitener: &Atsc) -> bool
     adapter.group(&mut group) == 0
 }
 
+/// Gives a new adapter that group. Whether it fills nothing of it.
+fn is_given_bit(alloc: Global, adapter: &mut Adapter) -> Result<bool, AllocError>
+    requires { adapter.old.given ≡ 0 }
+    ensures { IsOk result → adapter.new.given ≡ 4 }
+{
+    let whitener = Atsc::new(alloc)?;
+    Ok(give_bit(adapter, &whitener))
+}
+
 /// Whether the last part of a stream's second group says the states behind the first one.
 fn says_behind(adapter: &mut Adapter) -> bool
     requires { adapter.old.given ≡ 4 }
@@ -181,7 +199,7 @@ fn a_placeholder_in_a_last_part_of_a_group_says_the_states_behind_the_groups(
     rt: HostRuntime,
 ) -> Result<(), Fail> {
     let mut adapter = adapter_under(rt.alloc(), LATER)?;
-    assert!(rt; give_bit(&mut adapter, &Atsc::new(rt.alloc())?));
+    assert!(rt; is_given_bit(rt.alloc(), &mut adapter)?);
     assert!(rt; says_behind(&mut adapter));
     Ok(())
 }

@@ -45,7 +45,7 @@ const CASES: [(u64, &[u64], Seen); 20] = [
 
 #[test]
 fn a_first_mark_is_the_anchor_until_two_due_marks_in_a_row_are_missing(rt: HostRuntime) {
-    for (count, marks, seen) in CASES {
-        assert!(rt; last_seen(count, marks) == seen, "{count}");
+    for (count, marks, seen) in &CASES {
+        assert!(rt; last_seen(*count, marks) == *seen, "{count}");
     }
 }
