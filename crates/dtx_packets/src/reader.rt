@@ -99,11 +99,11 @@ impl PacketReader {
         ensures kept { S.files shelf.new ≡ S.files shelf.old }
     {
         let mut bytes = [0u8; PACKET];
-        let count = self.advance(shelf, name, &mut bytes)?;
-        if count == 0 {
-            return Ok(None);
+        match self.advance(shelf, name, &mut bytes) {
+            Ok(0) => Ok(None),
+            Ok(_) => Ok(Some(Packet(bytes))),
+            Err(no) => Err(no),
         }
-        Ok(Some(Packet(bytes)))
     }
 
     /// Puts the next whole packets at the front of the places, read at once, and answers how many they are: as many as
@@ -139,9 +139,13 @@ impl PacketReader {
     {
         let mut bytes = [0u8; PIECE];
         let room = into.len() * PACKET;
-        let count = self.advance(shelf, name, &mut bytes[..room])?;
-        cut(&bytes[..count * PACKET], into);
-        Ok(count)
+        match self.advance(shelf, name, &mut bytes[..room]) {
+            Ok(count) => {
+                cut(&bytes[..count * PACKET], into);
+                Ok(count)
+            }
+            Err(no) => Err(no),
+        }
     }
 
     /// Reads the bytes of the next whole packets to the front of the buffer, and answers how many packets they are.
@@ -170,7 +174,10 @@ impl PacketReader {
         // Where the limit is reached, one packet more shows whether the file is longer.
         let wanted = (bytes.len() / PACKET).min(left.max(1) as usize);
         let place = (self.first + self.given) * PACKET as u64;
-        let filled = fill(shelf, name, place, &mut bytes[..wanted * PACKET])?;
+        let filled = match fill(shelf, name, place, &mut bytes[..wanted * PACKET]) {
+            Ok(filled) => filled,
+            Err(no) => return Err(NextNo::from(no)),
+        };
         let count = filled / PACKET;
         if count == 0 {
             self.loose = filled as u8;
