@@ -1,10 +1,9 @@
 // Which files of the host were met, under which names: how long those have to be that were begun, and which of them are
 // held open.
+use crate::found::{FileId, Found, add};
 use crate::{ReadNo, WriteNo};
 use std::alloc::{AllocError, Global};
-use std::fs::Metadata;
 use std::io::Write;
-use std::os::unix::fs::{FileTypeExt, MetadataExt};
 
 /// How many files are held open at a time, but for the pipes.
 const MOST_HELD: usize = 64;
@@ -12,13 +11,6 @@ const MOST_HELD: usize = 64;
 /// A file that is held open is looked at by its name before each piece as long as it has fewer bytes. From then on that
 /// is done once in so many bytes, and where another file was added to meanwhile.
 const LOOK_BYTES: u64 = 65_536;
-
-/// A file of the host, by its device and its number there: what two names of one file, and its links, have in common.
-#[derive(Clone, Copy, Debug, PartialEq, Eq)]
-pub(crate) struct FileId {
-    device: u64,
-    number: u64,
-}
 
 /// A file that was met under a name.
 #[derive(Drop)]
@@ -45,24 +37,36 @@ impl<F: Write + Drop> Met<F> {
 
     /// Notes what was found where it was looked for. It fails where the file was not begun, or is another one, or not
     /// as long as what was added to it: then another file has come under its name, or someone else writes to it.
-    pub(crate) fn note_seen(&mut self, found: &Metadata) -> Result<(), WriteNo> {
-        let Some(added) = self.added else {
-            return Err(WriteNo::Failed);
-        };
-        if self.id != id_of(found) || found.is_file() && found.len() != added {
-            return Err(WriteNo::Failed);
+    pub(crate) fn note_seen(&mut self, found: &Found) -> Result<(), WriteNo> {
+        match self.added {
+            Some(added) if self.is_as_found(found, added) => {
+                self.seen = added;
+                Ok(())
+            }
+            _ => Err(WriteNo::Failed),
         }
-        self.seen = added;
-        Ok(())
+    }
+
+    fn is_as_found(&self, found: &Found, len: u64) -> bool {
+        self.id == found.id && (!found.is_file || found.len == len)
     }
 
     /// Adds bytes to the file, where it was begun and is held open.
     pub(crate) fn append(&mut self, bytes: &[u8]) -> Result<(), WriteNo> {
-        let (Some(added), Some(file)) = (self.added, &mut self.file) else {
-            return Err(WriteNo::Failed);
-        };
-        self.added = Some(added.saturating_add(bytes.len() as u64));
-        add(file, bytes)
+        match (self.added, &mut self.file) {
+            (Some(added), Some(file)) => {
+                self.added = Some(added.saturating_add(bytes.len() as u64));
+                add(file, bytes)
+            }
+            _ => Err(WriteNo::Failed),
+        }
+    }
+
+    /// Holds an open file in place of what was held, and answers whether one more is held that may be closed.
+    fn hold(&mut self, file: F) -> bool {
+        let is_more = self.file.is_none() && !self.is_pipe;
+        self.file = Some(file);
+        is_more
     }
 
     fn has_name(&self, name: &str) -> bool {
@@ -71,10 +75,6 @@ impl<F: Write + Drop> Met<F> {
 
     fn is_begun(&self, name: &str) -> bool {
         self.added.is_some() && self.has_name(name)
-    }
-
-    fn may_be_closed(&self) -> bool {
-        self.file.is_some() && !self.is_pipe
     }
 }
 
@@ -89,6 +89,8 @@ pub(crate) struct FilesMet<F> {
     met: Vec<Met<F>>,
     /// The place of the begun file that was looked for last: most often it is looked for again, or one beside it.
     last: usize,
+    /// How many files are held open, but for the pipes.
+    held: usize,
 }
 
 impl<F: Write + Drop> FilesMet<F> {
@@ -97,6 +99,7 @@ impl<F: Write + Drop> FilesMet<F> {
             alloc,
             met: Vec::new(alloc),
             last: 0,
+            held: 0,
         }
     }
 
@@ -106,19 +109,14 @@ impl<F: Write + Drop> FilesMet<F> {
     pub(crate) fn note_read(
         &mut self,
         name: &str,
-        found: &Metadata,
+        found: &Found,
         place: u64,
     ) -> Result<(), ReadNo> {
-        let id = id_of(found);
-        let is_lost = found.is_file() && place > found.len();
         match self.id_under(name) {
-            Some(met) if met == id && !is_lost => Ok(()),
-            None if !found.is_file() => Ok(()),
-            None if place == 0 => match self.keep_read(name, id) {
-                Ok(()) => Ok(()),
-                Err(_) => Err(ReadNo::Memory),
-            },
-            _ => Err(ReadNo::Failed),
+            Some(id) => is_still_there(id, found, place),
+            None if !found.is_file => Ok(()),
+            None if place == 0 => self.keep_read(name, found.id),
+            None => Err(ReadNo::Failed),
         }
     }
 
@@ -134,28 +132,38 @@ impl<F: Write + Drop> FilesMet<F> {
     }
 
     /// Whether the file would be lost if it were begun: it was read or begun before.
-    pub(crate) fn would_lose(&self, found: &Metadata) -> bool {
-        let id = id_of(found);
-        found.is_file() && self.met.iter().any(|met| met.id == id)
+    pub(crate) fn would_lose(&self, found: &Found) -> bool {
+        found.is_file && self.was_met(found.id)
+    }
+
+    fn was_met(&self, id: FileId) -> bool {
+        for met in self.met.iter() {
+            if met.id == id {
+                return true;
+            }
+        }
+        false
     }
 
     /// Keeps a file in mind that is begun, and empty. A pipe is held open.
     pub(crate) fn note_begun(
         &mut self,
         name: String,
-        found: &Metadata,
+        found: &Found,
         file: F,
-    ) -> Result<(), AllocError> {
-        let is_pipe = found.file_type().is_fifo();
-        self.met.push(Met {
+    ) -> Result<(), WriteNo> {
+        let begun = Met {
             name,
-            id: id_of(found),
-            is_pipe,
+            id: found.id,
+            is_pipe: found.is_pipe,
             added: Some(0),
             seen: 0,
-            file: if is_pipe { Some(file) } else { None },
-        })?;
-        Ok(())
+            file: if found.is_pipe { Some(file) } else { None },
+        };
+        match self.met.push(begun) {
+            Ok(_) => Ok(()),
+            Err(_) => Err(WriteNo::Failed),
+        }
     }
 
     /// The file that was begun under that name, where it is held open.
@@ -164,36 +172,49 @@ impl<F: Write + Drop> FilesMet<F> {
         if met.file.is_some() { Some(met) } else { None }
     }
 
-    /// Holds an open file as that which was begun under the name, as which it was found. Where too many are held, those
-    /// are closed first: files are mostly added to one after another, so it is this one that is looked for again.
+    /// Holds an open file as that which was begun under the name, as which it was found, and adds bytes to it. Where
+    /// too many are held, those are closed first: files are mostly added to one after another, so it is this one that
+    /// is looked for again.
     pub(crate) fn hold(
         &mut self,
         name: &str,
-        found: &Metadata,
+        found: &Found,
         file: F,
-    ) -> Result<&mut Met<F>, WriteNo> {
-        let held = self.met.iter().filter(|met| met.may_be_closed()).count();
-        if held >= MOST_HELD {
-            self.let_go();
+        bytes: &[u8],
+    ) -> Result<(), WriteNo> {
+        let met = self.begun_as(name, found)?;
+        let is_more = met.hold(file);
+        let added = met.append(bytes);
+        if is_more {
+            self.held = self.held.saturating_add(1);
         }
-        let Some(met) = self.begun(name) else {
-            return Err(WriteNo::Failed);
-        };
-        met.note_seen(found)?;
-        met.file = Some(file);
-        Ok(met)
+        added
     }
 
     /// Closes all files that are held open but for the pipes, and answers whether there were any.
     pub(crate) fn let_go(&mut self) -> bool {
-        let mut any = false;
+        let any = self.held > 0;
         for met in self.met.iter_mut() {
-            if met.may_be_closed() {
+            if !met.is_pipe {
                 met.file = None;
-                any = true;
             }
         }
+        self.held = 0;
         any
+    }
+
+    /// The file that was begun under that name, as which this one was found, with room to hold it open.
+    fn begun_as(&mut self, name: &str, found: &Found) -> Result<&mut Met<F>, WriteNo> {
+        if self.held >= MOST_HELD {
+            self.let_go();
+        }
+        match self.begun(name) {
+            Some(met) => {
+                met.note_seen(found)?;
+                Ok(met)
+            }
+            None => Err(WriteNo::Failed),
+        }
     }
 
     /// The file that was begun under that name. It is to be looked at where another one was looked for meanwhile.
@@ -209,16 +230,30 @@ impl<F: Write + Drop> FilesMet<F> {
 
     /// It is looked for from one before the last on, and then among all.
     fn place_begun(&self, name: &str) -> Option<usize> {
-        let near = self.last.saturating_sub(1);
-        for place in near..self.met.len() {
+        match self.place_from(self.last.saturating_sub(1), name) {
+            Some(place) => Some(place),
+            None => self.place_from(0, name),
+        }
+    }
+
+    /// The first place from there on of a file that was begun under that name.
+    fn place_from(&self, first: usize, name: &str) -> Option<usize> {
+        for place in first..self.met.len() {
             if self.met[place].is_begun(name) {
                 return Some(place);
             }
         }
-        self.met.iter().position(|met| met.is_begun(name))
+        None
     }
 
-    fn keep_read(&mut self, name: &str, id: FileId) -> Result<(), AllocError> {
+    fn keep_read(&mut self, name: &str, id: FileId) -> Result<(), ReadNo> {
+        match self.add_read(name, id) {
+            Ok(()) => Ok(()),
+            Err(_) => Err(ReadNo::Memory),
+        }
+    }
+
+    fn add_read(&mut self, name: &str, id: FileId) -> Result<(), AllocError> {
         let name = String::from_str(self.alloc, name)?;
         self.met.push(Met {
             name,
@@ -233,22 +268,19 @@ impl<F: Write + Drop> FilesMet<F> {
 
     /// The file that was met under that name.
     fn id_under(&self, name: &str) -> Option<FileId> {
-        let met = self.met.iter().find(|met| met.has_name(name))?;
-        Some(met.id)
+        for met in self.met.iter() {
+            if met.has_name(name) {
+                return Some(met.id);
+            }
+        }
+        None
     }
 }
 
-pub(crate) fn id_of(found: &Metadata) -> FileId {
-    FileId {
-        device: found.dev(),
-        number: found.ino(),
-    }
-}
-
-/// A part may have been written when this fails: it never counts as want of memory, which leaves all as it was.
-fn add<F: Write>(file: &mut F, bytes: &[u8]) -> Result<(), WriteNo> {
-    match file.write_all(bytes) {
-        Ok(()) => Ok(()),
-        Err(_) => Err(WriteNo::Failed),
+fn is_still_there(id: FileId, found: &Found, place: u64) -> Result<(), ReadNo> {
+    if id != found.id || (found.is_file && place > found.len) {
+        Err(ReadNo::Failed)
+    } else {
+        Ok(())
     }
 }

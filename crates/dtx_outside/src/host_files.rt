@@ -1,14 +1,12 @@
 // The file system, through the runtime that `main` is given: what each call of the shelf does there.
 ghost use Rattle.std.specs.Prelude.{◌≤◌, IfOk, length};
 
-use crate::files_met::{FilesMet, id_of};
+use crate::files_met::{FilesMet, Met};
+use crate::found::{Found, empty, found_open, found_under, open, read_at};
 use crate::{Progress, ReadNo, WriteNo};
-use std::fs::{Metadata, OpenFile, OpenOptions};
-use std::io::{ErrorKind, Read, Seek, SeekFrom};
-use std::os::unix::fs::FileTypeExt;
+use std::fs::OpenOptions;
 use std::rt::Files;
 use std::time::Clock;
-use std::{fs, io};
 
 /// The files that the runtime reaches, and those of them that were met.
 #[derive(Drop)]
@@ -42,18 +40,28 @@ impl<'a, R: Files + AllocGlobal + Clock + Eprint> HostFiles<'a, R> {
         if place == 0 && is_pipe(self.rt, name) {
             return Err(ReadNo::Failed);
         }
-        let mut file = match self.open(OpenOptions::new().read(true), name) {
-            Ok(file) => file,
-            Err(e) => return Err(open_refusal(&e, self.met.knows(name))),
-        };
-        let found = match file.metadata() {
-            Ok(found) => found,
-            Err(e) => return Err(read_refusal(&e)),
-        };
+        match self.open(OpenOptions::new().read(true), name) {
+            Ok(mut file) => self.read_open(&mut file, name, place, into),
+            // Where a file was met under its name, one that is not there is one that was lost meanwhile.
+            Err(ReadNo::Absent) if self.met.knows(name) => Err(ReadNo::Failed),
+            Err(no) => Err(no),
+        }
+    }
+
+    fn read_open(
+        &mut self,
+        file: &mut R::File,
+        name: &str,
+        place: u64,
+        into: &mut [u8],
+    ) -> Result<usize, ReadNo>
+        ensures { IfOk result (λ n. n ≤ length into.new) }
+    {
+        let found = found_open(file)?;
         self.met.note_read(name, &found, place)?;
-        let n = read_at(&mut file, place, into)?;
+        let n = read_at(file, place, into)?;
         let read_to = place.saturating_add(n as u64);
-        self.progress.note(self.rt, n as u64, read_to, found.len());
+        self.progress.note(self.rt, n as u64, read_to, found.len);
         Ok(n)
     }
 
@@ -63,121 +71,121 @@ impl<'a, R: Files + AllocGlobal + Clock + Eprint> HostFiles<'a, R> {
     /// file may have been made.
     pub(crate) fn begin(&mut self, name: &str) -> Result<(), WriteNo> {
         let kept = self.met.make_room(name)?;
-        if let Ok(found) = fs::metadata(self.rt, name)
-            && self.overlaps(&found)
-        {
+        match self.open_anew(name) {
+            Ok(file) => self.take(kept, file),
+            Err(no) => Err(no),
+        }
+    }
+
+    fn open_anew(&mut self, name: &str) -> Result<R::File, WriteNo> {
+        if self.overlaps_under(name) {
             return Err(WriteNo::Failed);
         }
-        let file = match self.open(OpenOptions::new().write(true).create(true), name) {
-            Ok(file) => file,
-            Err(e) => return Err(write_refusal(&e)),
-        };
-        match self.take(kept, file) {
-            Ok(()) => Ok(()),
-            Err(_) => Err(WriteNo::Failed),
+        match self.open(OpenOptions::new().write(true).create(true), name) {
+            Ok(file) => Ok(file),
+            Err(no) => Err(in_writing(no)),
+        }
+    }
+
+    fn overlaps_under(&mut self, name: &str) -> bool {
+        match found_under(self.rt, name) {
+            Ok(found) => self.overlaps(&found),
+            Err(_) => false,
         }
     }
 
     /// Whether the file is one that may not be begun, which is kept in mind.
-    fn overlaps(&mut self, found: &Metadata) -> bool {
+    fn overlaps(&mut self, found: &Found) -> bool {
         let overlaps = self.met.would_lose(found) || is_printed_to(self.rt, found);
         self.overlap |= overlaps;
         overlaps
     }
 
-    /// Takes an open file as one that is begun. A disk is none: what is added would stand over what was added before.
-    fn take(&mut self, name: String, file: R::File) -> io::Result<()> {
-        let found = file.metadata()?;
-        if self.overlaps(&found) || found.file_type().is_block_device() {
-            return Err(io::Error::from(ErrorKind::AlreadyExists));
+    /// Takes an open file as one that is begun.
+    fn take(&mut self, name: String, file: R::File) -> Result<(), WriteNo> {
+        match self.emptied(&file) {
+            Ok(found) => self.met.note_begun(name, &found, file),
+            Err(no) => Err(no),
         }
-        if found.is_file() {
-            file.set_len(0)?;
+    }
+
+    /// Takes away what the open file holds. A disk may not be begun: what is added would stand over what was added
+    /// before.
+    fn emptied(&mut self, file: &R::File) -> Result<Found, WriteNo> {
+        let Ok(found) = found_open(file) else {
+            return Err(WriteNo::Failed);
+        };
+        if self.overlaps(&found) || found.is_disk {
+            return Err(WriteNo::Failed);
         }
-        self.met.note_begun(name, &found, file)?;
-        Ok(())
+        if found.is_file {
+            empty(file)?;
+        }
+        Ok(found)
     }
 
     /// Adds the bytes to a file that was begun, and to no other. It is held open from its first bytes on, and then only
     /// its name is looked at, where that is due.
     pub(crate) fn append(&mut self, name: &str, bytes: &[u8]) -> Result<(), WriteNo> {
         if let Some(file) = self.met.held(name) {
-            if file.is_due() {
-                match fs::metadata(self.rt, name) {
-                    Ok(found) => file.note_seen(&found)?,
-                    Err(e) => return Err(write_refusal(&e)),
-                }
-            }
-            return file.append(bytes);
+            return append_held(self.rt, name, file, bytes);
         }
+        self.append_unheld(name, bytes)
+    }
+
+    fn append_unheld(&mut self, name: &str, bytes: &[u8]) -> Result<(), WriteNo> {
         let file = match self.open(OpenOptions::new().append(true), name) {
             Ok(file) => file,
-            Err(e) => return Err(write_refusal(&e)),
+            Err(no) => return Err(in_writing(no)),
         };
-        let Ok(found) = file.metadata() else {
-            return Err(WriteNo::Failed);
-        };
-        self.met.hold(name, &found, file)?.append(bytes)
+        match found_open(&file) {
+            Ok(found) => self.met.hold(name, &found, file, bytes),
+            Err(_) => Err(WriteNo::Failed),
+        }
     }
 
     /// Opens a file. Where that fails, the host may allow no more open files: then those that are held are closed,
     /// and it is tried once more.
-    fn open(&mut self, how: &OpenOptions, name: &str) -> io::Result<R::File> {
-        match how.open(self.rt, name) {
-            Err(_) if self.met.let_go() => how.open(self.rt, name),
+    fn open(&mut self, how: &OpenOptions, name: &str) -> Result<R::File, ReadNo> {
+        match open(self.rt, how, name) {
+            Err(_) if self.met.let_go() => open(self.rt, how, name),
             opened => opened,
         }
     }
 }
 
+fn append_held<R: Files>(
+    rt: &R,
+    name: &str,
+    file: &mut Met<R::File>,
+    bytes: &[u8],
+) -> Result<(), WriteNo> {
+    if file.is_due() {
+        let found = found_under(rt, name)?;
+        file.note_seen(&found)?;
+    }
+    file.append(bytes)
+}
+
 fn is_pipe<R: Files>(rt: &R, name: &str) -> bool {
-    match fs::metadata(rt, name) {
-        Ok(found) => found.file_type().is_fifo(),
+    match found_under(rt, name) {
+        Ok(found) => found.is_pipe,
         Err(_) => false,
     }
 }
 
 /// Whether standard output goes to that file: the line of the answer would stand over what is written there.
-fn is_printed_to<R: Files>(rt: &R, found: &Metadata) -> bool {
-    match fs::metadata(rt, "/dev/stdout") {
-        Ok(printed) => found.is_file() && id_of(&printed) == id_of(found),
+fn is_printed_to<R: Files>(rt: &R, found: &Found) -> bool {
+    match found_under(rt, "/dev/stdout") {
+        Ok(printed) => found.is_file && printed.id == found.id,
         Err(_) => false,
     }
 }
 
-fn read_at<F: Read + Seek>(file: &mut F, place: u64, into: &mut [u8]) -> Result<usize, ReadNo>
-    ensures { IfOk result (λ n. n ≤ length into.new) }
-{
-    if let Err(e) = file.seek(SeekFrom::Start(place)) {
-        return Err(read_refusal(&e));
-    }
-    match file.read(into) {
-        Ok(n) => Ok(n),
-        Err(e) => Err(read_refusal(&e)),
-    }
-}
-
-/// A file that is not there is absent, but where one was met under its name it is one that was lost meanwhile.
-fn open_refusal(e: &io::Error, is_known: bool) -> ReadNo {
-    if e.kind() == ErrorKind::NotFound && !is_known {
-        ReadNo::Absent
-    } else {
-        read_refusal(e)
-    }
-}
-
-fn read_refusal(e: &io::Error) -> ReadNo {
-    if e.kind() == ErrorKind::OutOfMemory {
-        ReadNo::Memory
-    } else {
-        ReadNo::Failed
-    }
-}
-
-fn write_refusal(e: &io::Error) -> WriteNo {
-    if e.kind() == ErrorKind::OutOfMemory {
-        WriteNo::Memory
-    } else {
-        WriteNo::Failed
+/// What refuses to open a file that is to be written.
+fn in_writing(no: ReadNo) -> WriteNo {
+    match no {
+        ReadNo::Memory => WriteNo::Memory,
+        ReadNo::Absent | ReadNo::Failed => WriteNo::Failed,
     }
 }

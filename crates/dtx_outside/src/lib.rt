@@ -4,6 +4,7 @@
 mod calls;
 mod files_met;
 mod filling;
+mod found;
 mod held;
 mod host_files;
 mod host_shelf;

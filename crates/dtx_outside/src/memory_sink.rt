@@ -86,7 +86,9 @@ impl Sink for MemorySink {
             self.faults = self.faults.saturating_add(1);
             return Err(SinkNo::Failed);
         }
-        self.text.extend_from_slice(bytes)?;
-        Ok(bytes.len())
+        match self.text.extend_from_slice(bytes) {
+            Ok(()) => Ok(bytes.len()),
+            Err(_) => Err(SinkNo::Memory),
+        }
     }
 }

@@ -1,6 +1,5 @@
 -- What a reader gives where the bytes that it read are cut into packets.
-use Rattle.std.proofs.Common.{◌≡◌, ℕ, ◌-◌, ◌*◌, ◌/◌, ◌≤◌, List, ◌++◌, length, take, map, ap, sym, subst, ◌∙◌, arith}
-use Rattle.std.proofs.lemmas.List.{take-append-le}
+use Rattle.std.proofs.Common.{◌≡◌, ℕ, ◌-◌, ◌*◌, ◌/◌, ◌≤◌, List, length, take, map, ap, sym, subst, ◌∙◌, arith}
 use Rattle.std.specs.Prelude.{Option, Some, None, Ok, IfSome}
 use Rattle.std.specs.FinMap.{get}
 use Rattle.dtx_outside.specs.Shelf.{Files}
@@ -23,13 +22,11 @@ cut_of_file (Some file) old new n bytes part into room is_part advance cut =
           ∙ packets_of-piece file (next_of old) n left,
     )
 
-pub are_next : (told : Option Files) (name : List ℕ) (old new : Reading) (n m : ℕ) (bytes rest : List ℕ)
-    (into : List Packet)
-    → whole_packets bytes ≡ length into → n ≤ length bytes / 188 → m ≡ 188 * n
+pub are_next : (told : Option Files) (name : List ℕ) (old new : Reading) (n m : ℕ) (bytes : List ℕ) (into : List Packet)
+    → whole_packets bytes ≡ length into → m ≡ 188 * n
     → IfSome told (λ held. IsAdvance (get held name) old (Ok n) bytes new)
-    → map (λ p. p.0) (take (whole_packets (take m (bytes ++ rest))) into) ≡ packets_of (take m (bytes ++ rest))
+    → map (λ p. p.0) (take (whole_packets (take m bytes)) into) ≡ packets_of (take m bytes)
     → IfSome told (λ held. AreNext (get held name) old (Ok n) into new)
-are_next None name old new n m bytes rest into room fits size advance cut = tt
-are_next (Some held) name old new n m bytes rest into room fits size advance cut =
-    cut_of_file (get held name) old new n bytes (take m (bytes ++ rest)) into room
-    (ap (λ k. take k (bytes ++ rest)) size ∙ take-append-le (188 * n) bytes rest (omega arith)) advance cut
+are_next None name old new n m bytes into room size advance cut = tt
+are_next (Some held) name old new n m bytes into room size advance cut =
+    cut_of_file (get held name) old new n bytes (take m bytes) into room (ap (λ k. take k bytes) size) advance cut

@@ -1,5 +1,5 @@
 // The packets of a file, one after another or many at a time.
-ghost use Rattle.std.specs.Prelude.{◌≡◌, ◌≤◌, ◌<◌, ◌+◌, ◌/◌, length, drop, IfOk, IfSome, IsErrOf, OnErr, Ok, None};
+ghost use Rattle.std.specs.Prelude.{◌≡◌, ◌≤◌, ◌<◌, ◌+◌, ◌*◌, ◌/◌, length, drop, IfOk, IfSome, IsErrOf, OnErr, Ok, None};
 ghost use Rattle.std.specs.FinMap as map;
 ghost use Rattle.dtx_outside.specs.Counts.{HasGone};
 ghost use Rattle.dtx_packets.specs.Packets.{most_packets};
@@ -99,11 +99,11 @@ impl PacketReader {
         ensures kept { S.files shelf.new ≡ S.files shelf.old }
     {
         let mut bytes = [0u8; PACKET];
-        let count = self.advance(shelf, name, &mut bytes)?;
-        if count == 0 {
-            return Ok(None);
+        match self.advance(shelf, name, &mut bytes) {
+            Ok(0) => Ok(None),
+            Ok(_) => Ok(Some(Packet(bytes))),
+            Err(no) => Err(no),
         }
-        Ok(Some(Packet(bytes)))
     }
 
     /// Puts the next whole packets at the front of the places, read at once, and answers how many they are: as many as
@@ -139,9 +139,42 @@ impl PacketReader {
     {
         let mut bytes = [0u8; PIECE];
         let room = into.len() * PACKET;
-        let count = self.advance(shelf, name, &mut bytes[..room])?;
-        cut(&bytes[..count * PACKET], into);
-        Ok(count)
+        self.next_through(shelf, name, &mut bytes[..room], into)
+    }
+
+    /// Does what `next_many` does, through a buffer for as many packets as there are places.
+    fn next_through<S: Shelf>(
+        &mut self,
+        shelf: &mut S,
+        name: &str,
+        bytes: &mut [u8],
+        into: &mut [Packet],
+    ) -> Result<usize, NextNo>
+        requires some { 0 < length into.old }
+        requires fits { length into.old ≤ PIECE_PACKETS }
+        requires room { length bytes.old ≡ length into.old * PACKET }
+        ensures told { IfSome (S.files shelf.old) (λ held.
+            AreNext (map.get held name.now) self.old result into.new self.new) }
+        ensures count { IfOk result (λ n. n ≤ length into.new) }
+        ensures rest { IfOk result (λ n. drop n into.new ≡ drop n into.old) }
+        ensures packets { IfOk result (λ n. 0 < n →
+            (self.old.given + n ≤ self.old.limit)
+            × (self.new ≡ record self.old { given = self.old.given + n; loose = 0 })) }
+        ensures end { result ≡ Ok 0 → (self.new.loose < PACKET)
+            × (self.new ≡ record self.old { loose = self.new.loose }) }
+        ensures err { OnErr result (self.new ≡ self.old) }
+        ensures err_rest { OnErr result (into.new ≡ into.old) }
+        ensures too_long { IsErrOf result NextNo.TooLong → self.old.given ≡ self.old.limit }
+        ensures gone { HasGone (S.counts shelf.old) (S.counts shelf.new) (blame_of_next result) }
+        ensures kept { S.files shelf.new ≡ S.files shelf.old }
+    {
+        match self.advance(shelf, name, bytes) {
+            Ok(count) => {
+                cut(&bytes[..count * PACKET], into);
+                Ok(count)
+            }
+            Err(no) => Err(no),
+        }
     }
 
     /// Reads the bytes of the next whole packets to the front of the buffer, and answers how many packets they are.
@@ -170,7 +203,10 @@ impl PacketReader {
         // Where the limit is reached, one packet more shows whether the file is longer.
         let wanted = (bytes.len() / PACKET).min(left.max(1) as usize);
         let place = (self.first + self.given) * PACKET as u64;
-        let filled = fill(shelf, name, place, &mut bytes[..wanted * PACKET])?;
+        let filled = match fill(shelf, name, place, &mut bytes[..wanted * PACKET]) {
+            Ok(filled) => filled,
+            Err(no) => return Err(NextNo::from(no)),
+        };
         let count = filled / PACKET;
         if count == 0 {
             self.loose = filled as u8;

@@ -1,15 +1,17 @@
 // The line that a command prints at its end.
-ghost use Rattle.std.specs.Prelude.{◌≡◌, ◌≢◌, ◌≤◌, ◌++◌, length, map, codes, decimal};
+ghost use Rattle.std.specs.Prelude.{◌≡◌, ◌≢◌, ◌≤◌, ◌++◌, [], length, map, codes, decimal};
 ghost use Rattle.dtx_outside.specs.Sink.{IsCounted};
 ghost use Rattle.dtx_words.specs.Line.{done_line, finished, labels_of, line_of, numbered, refusal_line, usage_line};
 ghost use Rattle.dtx_words.specs.Printed.{IsPut};
 ghost use Rattle.dtx_words.specs.Rows.{row_of};
+ghost use Rattle.dtx_meaning.specs.declared.status.Status.TheVariants.{Plan};
 
 use crate::Command;
 use crate::put::put_all;
 use crate::rows::{FIRST_WORDS, row};
 use dtx_meaning::{Outcome, Status};
 use dtx_outside::{Sink, SinkNo};
+use dtx_plan::PlanNo;
 use itoa::Buffer;
 
 /// Prints the line of an outcome: for `Done` the labels of the command's row with their numbers, as many as it shows;
@@ -104,32 +106,66 @@ fn put_refusal<O: Sink>(status: Status, name: &str, out: &mut O) -> Result<(), S
     ensures written { IsPut (refusal_line status name.now) (O.written out.old) result (O.written out.new) }
     ensures gone { IsCounted (O.faults out.old) result (O.faults out.new) }
 {
-    let mut number = Buffer::new();
     match status {
         Status::Done | Status::Usage => unreachable!(),
-        Status::Same => put_all(out, &["same ", name, "\n"]),
-        Status::Absent(_) => put_all(out, &["absent ", name, "\n"]),
-        Status::Plan(no) => put_all(
-            out,
-            &[
-                "plan ",
-                no.key.word(),
-                " ",
-                number.format(no.item),
-                " ",
-                no.rule.word(),
-                "\n",
-            ],
-        ),
-        Status::Packet(k) => put_all(out, &["packet ", number.format(k), "\n"]),
-        Status::TooLong => put_all(out, &["too long\n"]),
-        Status::OutOfFeed(event) => put_all(out, &["out of feed ", number.format(event), "\n"]),
-        Status::OutOfAir(entry) => put_all(out, &["out of air ", number.format(entry), "\n"]),
-        Status::NoSync => put_all(out, &["no sync\n"]),
-        Status::ReadFault => put_all(out, &["read fault\n"]),
-        Status::WriteFault => put_all(out, &["write fault\n"]),
-        Status::Memory => put_all(out, &["no memory\n"]),
+        Status::Same => put_name("same ", name, out),
+        Status::Absent(_) => put_name("absent ", name, out),
+        Status::Plan(no) => put_plan(no, out),
+        Status::Packet(k) => put_count("packet ", k, out),
+        Status::TooLong => put_line("too long\n", out),
+        Status::OutOfFeed(event) => put_count("out of feed ", event as u64, out),
+        Status::OutOfAir(entry) => put_count("out of air ", entry as u64, out),
+        Status::NoSync => put_line("no sync\n", out),
+        Status::ReadFault => put_line("read fault\n", out),
+        Status::WriteFault => put_line("write fault\n", out),
+        Status::Memory => put_line("no memory\n", out),
     }
+}
+
+/// Prints a line of some words.
+fn put_line<O: Sink>(line: &str, out: &mut O) -> Result<(), SinkNo>
+    ensures written { IsPut line.now (O.written out.old) result (O.written out.new) }
+    ensures gone { IsCounted (O.faults out.old) result (O.faults out.new) }
+{
+    put_all(out, &[line])
+}
+
+/// Prints a line of some words and a name.
+fn put_name<O: Sink>(words: &str, name: &str, out: &mut O) -> Result<(), SinkNo>
+    ensures written { IsPut (words.now ++ name.now ++ codes "\n") (O.written out.old) result (O.written out.new) }
+    ensures gone { IsCounted (O.faults out.old) result (O.faults out.new) }
+{
+    put_all(out, &[words, name, "\n"])
+}
+
+/// Prints a line of some words and a number.
+fn put_count<O: Sink>(words: &str, number: u64, out: &mut O) -> Result<(), SinkNo>
+    ensures written { IsPut (words.now ++ decimal number ++ codes "\n") (O.written out.old) result
+        (O.written out.new) }
+    ensures gone { IsCounted (O.faults out.old) result (O.faults out.new) }
+{
+    let mut digits = Buffer::new();
+    put_all(out, &[words, digits.format(number), "\n"])
+}
+
+/// Prints the line of a plan that is refused.
+fn put_plan<O: Sink>(no: PlanNo, out: &mut O) -> Result<(), SinkNo>
+    ensures written { IsPut (refusal_line (Plan no) []) (O.written out.old) result (O.written out.new) }
+    ensures gone { IsCounted (O.faults out.old) result (O.faults out.new) }
+{
+    let mut digits = Buffer::new();
+    put_all(
+        out,
+        &[
+            "plan ",
+            no.key.word(),
+            " ",
+            digits.format(no.item),
+            " ",
+            no.rule.word(),
+            "\n",
+        ],
+    )
 }
 
 /// The status with which a command ends whose line was printed so.
