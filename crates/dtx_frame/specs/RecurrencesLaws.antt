@@ -1,7 +1,7 @@
 -- The fixed sequences, by a test of each of their places. They are computed once: then they are read from the table of a
 -- field sync.
-use Rattle.std.proofs.Common.{◌≡◌, ℕ, ℤ, pos, negsuc, ◌+◌, ◌%◌, ◌<◌, ◌≤◌, ◌==◌, leb, Bool, true, List, [], ◌∷◌, take, drop}
-use Rattle.std.proofs.Common.{map, length, get_or, refl, sym, ap, ◌∙◌, subst, arith}
+use Rattle.std.proofs.Common.{◌≡◌, ℕ, ℤ, pos, negsuc, ◌+◌, ◌%◌, ◌<◌, ◌≤◌, ◌==◌, leb, Bool, true, List, [], ◌∷◌}
+use Rattle.std.proofs.Common.{take, drop, map, length, get_or, refl, sym, ap, ◌∙◌, subst, arith}
 use Rattle.std.proofs.lemmas.Bool.{eqb-true, leb-true}
 use Rattle.dtx_lists.proofs.Below.{holds_below, at_below}
 use Rattle.dtx_frame.specs.declared.tables.TheConstants.{FIRST}

@@ -1,6 +1,6 @@
 -- The tables are the definition's symbols.
-use Rattle.std.proofs.Common.{◌≡◌, ℕ, zero, suc, ◌<◌, ℤ, pos, ◌*ℤ◌, ◌-ℤ◌, Bool, true, false, cond, List, ◌++◌, map, take}
-use Rattle.std.proofs.Common.{length, refl, sym, ap, ap₂, ◌∙◌, arith, to_z, of_z, w8}
+use Rattle.std.proofs.Common.{◌≡◌, ℕ, zero, suc, ◌<◌, ℤ, pos, ◌*ℤ◌, ◌-ℤ◌, Bool, true, false, cond, List, ◌++◌}
+use Rattle.std.proofs.Common.{map, take, length, refl, sym, ap, ap₂, ◌∙◌, arith, to_z, of_z, w8}
 use Rattle.dtx_frame.specs.declared.tables.TheConstants.{FIRST, IN_FRONT, SECOND}
 use Rattle.dtx_frame.specs.RecurrencesLaws.{table_511, table_63, table_bits}
 use Rattle.dtx_trellis.specs.Trellis.{symbol_of}

@@ -1,5 +1,5 @@
 -- Gaps of squares and of potentials fit numbers of 16 bits.
-use Rattle.std.proofs.Common.{◌≡◌, ℕ, ℤ, pos, neg_ℤ, ◌+◌, ◌*◌, ◌≤◌, ◌+ℤ◌, ◌-ℤ◌, ◌≤ℤ◌, refl, subst, sym, arith}
+use Rattle.std.proofs.Common.{◌≡◌, ℕ, ℤ, pos, neg_ℤ, ◌+◌, ◌*◌, ◌≤◌, ◌+ℤ◌, ◌-ℤ◌, ◌≤ℤ◌, subst, sym, arith}
 use mir.Syntax.{w16}
 use mir.Val.{SFits}
 use Rattle.std.specs.Int.{int_min}

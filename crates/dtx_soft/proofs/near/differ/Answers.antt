@@ -1,7 +1,7 @@
 use Rattle.std.proofs.lemmas.Int.{to_z-of_z}
-use Rattle.std.proofs.Common.{◌∙◌, sym, w8, ℕ, ℤ, pos, rules}
+use Rattle.std.proofs.Common.{◌≡◌, ◌∙◌, sym, w8, ℕ, ℤ, pos, rules}
 use Rattle.dtx_soft.specs.declared.gaps.SquareGaps.{SquareGaps}
-use Rattle.dtx_soft.specs.Squares.{across_of, even_of, odd_of}
+use Rattle.dtx_soft.specs.Squares.{across_of, even_of, odd_of, seen}
 use Rattle.dtx_soft.proofs.BitGaps.{AreFormulas, seen_squares}
 use Rattle.dtx_soft.proofs.NearGaps.{near_squares, seen_some}
 use Rattle.dtx_soft.proofs.Wraps.{read, returned}
@@ -12,12 +12,15 @@ across_gap-requires-clause-odd c = to_z-of_z w8 c.odd_gap-odd.result (search rul
 
 pub returns : goal.returns
 returns c = record {
-  gaps = seen_squares scale c.args.symbol c.args.symbol new (sym (seen_some scale c.args.symbol (search rules))) formulas;
+  gaps = seen_squares scale c.args.symbol c.args.symbol new seen_is formulas;
   near = near_squares scale c.args.symbol new (search rules) (search rules) c.requires formulas;
 }
   where
     scale : ℕ
     scale = c.args.units.now.scale
+
+    seen_is : c.args.symbol ≡ seen scale c.args.symbol
+    seen_is = sym (seen_some scale c.args.symbol (search rules))
 
     new : SquareGaps ℤ
     new = record {

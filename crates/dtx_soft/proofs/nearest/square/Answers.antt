@@ -1,20 +1,28 @@
-use Rattle.std.proofs.Common.{◌≡◌, ℤ, ◌*◌, ◌-ℤ◌, ap, ◌∙◌, nat_abs, w8, arith, rules}
-use mir.Syntax.{w16}
-use Rattle.std.proofs.lemmas.Int.{ints, to_z-of_z}
+use Rattle.std.proofs.Common.{◌*◌, ap, arith}
+use Rattle.std.proofs.lemmas.Int.{ints}
 use Rattle.dtx_soft.specs.Paths.{squared}
-use Rattle.dtx_soft.proofs.Wraps.{difference_read, read}
+use Rattle.dtx_soft.proofs.SmallSquares.{off_read, off_small, square_small}
 use Rattle.dtx_soft.proofs.nearest.square.Goals as goal
+
+pub overflow_mul-result : goal.overflow_mul-result
+overflow_mul-result c =
+    let off = off_read c.unsigned_abs-off.result c.args.symbol c.args.other c.unsigned_abs-off.ensures.value
+    (omega (arith, ints, c.ranges.symbol)) (omega (arith, ints, c.ranges.symbol)) c.requires.from c.requires.to in
+    omega (
+      arith,
+      square_small c.unsigned_abs-off.result (off_small c.unsigned_abs-off.result c.args.symbol c.args.other
+          off (omega (arith, ints, c.ranges.symbol)) (omega (arith, ints, c.ranges.symbol)) c.requires.from c.requires.to),
+    )
 
 pub returns-clause-square : goal.returns-clause-square
 unfolding squared
-returns-clause-square c = ap (λ n. n * n) (c.unsigned_abs-off.ensures.value ∙ ap nat_abs off)
-  where
-    symbol : read w8 c.args.symbol ≡ c.args.symbol
-    symbol = to_z-of_z w8 c.args.symbol (search rules)
+returns-clause-square c =
+    ap (λ n. n * n) (off_read c.unsigned_abs-off.result c.args.symbol c.args.other c.unsigned_abs-off.ensures.value
+    (omega (arith, ints, c.ranges.symbol)) (omega (arith, ints, c.ranges.symbol)) c.requires.from c.requires.to)
 
-    off : read w16 (read w16 (read w8 c.args.symbol) -ℤ read w16 c.args.other) ≡ c.args.symbol -ℤ c.args.other
-    off =
-        difference_read w16 _ _ c.args.symbol c.args.other (ap (read w16) symbol
-        ∙ to_z-of_z w16 c.args.symbol (omega (arith, ints, c.ranges.symbol)))
-        (to_z-of_z w16 c.args.other (omega (arith, ints, c.requires.from, c.requires.to)))
-        (omega (arith, ints, c.ranges.symbol, c.requires.from, c.requires.to))
+pub returns-clause-small : goal.returns-clause-small
+returns-clause-small c =
+    let off = off_read c.unsigned_abs-off.result c.args.symbol c.args.other c.unsigned_abs-off.ensures.value
+    (omega (arith, ints, c.ranges.symbol)) (omega (arith, ints, c.ranges.symbol)) c.requires.from c.requires.to in
+    square_small c.unsigned_abs-off.result (off_small c.unsigned_abs-off.result c.args.symbol c.args.other off
+    (omega (arith, ints, c.ranges.symbol)) (omega (arith, ints, c.ranges.symbol)) c.requires.from c.requires.to)

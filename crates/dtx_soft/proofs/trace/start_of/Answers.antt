@@ -1,4 +1,4 @@
-use Rattle.std.proofs.Common.{◌≡◌, ℤ, pos, ◌+ℤ◌, refl, ap₂, ◌∙◌, arith, rules}
+use Rattle.std.proofs.Common.{◌≡◌, pos, ◌+ℤ◌, refl, ap₂, ◌∙◌, arith, rules}
 use mir.Syntax.{w16}
 use mir.Val.{SFits}
 use Rattle.std.specs.Int.{int_min}
