@@ -1,5 +1,5 @@
--- The fixed sequences, by a test of each of their places. They are computed once: then they are read from the table of a
--- field sync.
+-- The fixed sequences, by a test of each of their places. They are computed once: then they are read from the table of
+-- a field sync.
 use Rattle.std.proofs.Common.{◌≡◌, ℕ, ℤ, pos, negsuc, ◌+◌, ◌%◌, ◌<◌, ◌≤◌, ◌==◌, leb, Bool, true, List, [], ◌∷◌}
 use Rattle.std.proofs.Common.{take, drop, map, length, get_or, refl, sym, ap, ◌∙◌, subst, arith}
 use Rattle.std.proofs.lemmas.Bool.{eqb-true, leb-true}
