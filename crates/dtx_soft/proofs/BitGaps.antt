@@ -13,9 +13,6 @@ pub record IsWithin (n : ℕ) (z : ℤ) : Type 0 where
   pub from : pos 0 ≤ℤ (z +ℤ pos n)
   pub to : z ≤ℤ pos n
 
-pub wider : (m n : ℕ) (z : ℤ) → m ≤ n → IsWithin m z → IsWithin n z
-wider m n z l i = record { from = omega (arith, ints, i.from); to = omega (arith, ints, i.to) }
-
 fits : (w : Width) (b : ℕ) (z : ℤ) → Holds w b → IsWithin b z → SFits w z
 fits w b z h i = h z i.from i.to
 

@@ -8,15 +8,16 @@ use Rattle.std.proofs.lemmas.Int.{ints, to_z-of_z}
 abbrev pub read : Width → ℤ → ℤ
 read w z = to_z w (of_z w z)
 
+-- and from 16 of them
+abbrev pub word : ℤ → ℤ
+word = read w16
+
 -- each number that is at most so far off 0 fits so many bits
 abbrev pub Holds : Width → ℕ → Type 0
 Holds w b = (z : ℤ) → pos 0 ≤ℤ (z +ℤ pos b) → z ≤ℤ pos b → SFits w z
 
 pub bytes_hold : Holds w8 127
 bytes_hold z l m = omega (arith, ints)
-
-pub words_hold : Holds w16 32767
-words_hold z l m = omega (arith, ints)
 
 -- sums and differences of numbers that were read
 pub sum_read : (w : Width) (a b x y : ℤ) → a ≡ x → b ≡ y → SFits w (x +ℤ y) → read w (a +ℤ b) ≡ x +ℤ y

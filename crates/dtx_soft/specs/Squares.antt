@@ -7,11 +7,6 @@ use Rattle.dtx_soft.specs.declared.gaps.SquareGaps.{SquareGaps}
 abbrev pub seen : ℕ → ℤ → ℤ
 seen scale symbol = if scale == 0 then pos 0 else symbol
 
--- a number that a signed byte holds
-pub record IsByte (symbol : ℤ) : Type 0 where
-  pub from : pos 0 ≤ℤ (symbol +ℤ pos 128)
-  pub to : symbol ≤ℤ pos 127
-
 -- a number where it lies within bounds, else the nearer one of them
 abbrev pub within : ℤ → ℤ → ℤ → ℤ
 within low x high = int_min (int_max x low) high

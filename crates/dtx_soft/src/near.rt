@@ -10,13 +10,23 @@ ghost use Rattle.dtx_soft.specs.Near.{AreNear, FitBytes, IsNear, IsTight};
 ghost use Rattle.dtx_soft.specs.Squares.{IsSquares, across_of, even_of, odd_of, within};
 ghost use Rattle.dtx_soft.specs.declared.near.TheConstants.{MAX_NEAR_SCALE};
 
-use crate::gaps::{Gap, Gaps, LANES, SquareGaps, Terms, lane, put_lane};
+use crate::gaps::{Gap, Gaps, LANES, SquareGaps, lane, put_lane};
 
 /// The greatest scale at which the walk is in bytes.
 pub(crate) const MAX_NEAR_SCALE: u8 = 4;
 
 /// How far off 0 symbols may be for it.
 const MAX_NEAR: i8 = 28;
+
+/// Of the gaps of a symbol's squares and of the potentials behind it: the sum of the even ones, or 0 where it is more,
+/// the lesser of the even ones, and the same of the odd ones.
+#[derive(Drop)]
+struct NearTerms {
+    even_sum: i8,
+    even_minimum: i8,
+    odd_sum: i8,
+    odd_minimum: i8,
+}
 
 /// The scale, and its multiples.
 #[derive(Drop)]
@@ -197,12 +207,12 @@ fn gap_before(units: &NearUnits, symbol: i8, squares: &SquareGaps<i8>, gap: Gap<
 
 /// The four terms of which the gaps before a symbol come.
 #[inline(always)]
-fn terms_of(squares: &SquareGaps<i8>, gap: Gap<i8>) -> Terms<i8>
+fn terms_of(squares: &SquareGaps<i8>, gap: Gap<i8>) -> NearTerms
     requires near { AreNear squares.now }
     requires tight { IsTight gap }
     ensures { AreLesser squares.now gap result.even_sum result.even_minimum result.odd_sum result.odd_minimum }
 {
-    Terms {
+    NearTerms {
         even_sum: capped(squares.even, gap.even),
         even_minimum: lesser(squares.even, gap.even),
         odd_sum: capped(squares.odd, gap.odd),
@@ -212,7 +222,7 @@ fn terms_of(squares: &SquareGaps<i8>, gap: Gap<i8>) -> Terms<i8>
 
 /// The gaps that come of them.
 #[inline(always)]
-fn sums_of(squares: &SquareGaps<i8>, gap: Gap<i8>, terms: Terms<i8>) -> Gap<i8>
+fn sums_of(squares: &SquareGaps<i8>, gap: Gap<i8>, terms: NearTerms) -> Gap<i8>
     requires near { AreNear squares.now }
     requires tight { IsTight gap }
     requires lesser { AreLesser squares.now gap terms.even_sum terms.even_minimum terms.odd_sum terms.odd_minimum }
