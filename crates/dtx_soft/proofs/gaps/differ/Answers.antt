@@ -121,8 +121,8 @@ returns-clause-gaps c = record {
       ∙ ap₂ (λ a b. a -ℤ b) (odd ∙ ap₂ (odd_by c.args.units.now.scale) twice (four ∙ nothing_less _)) value)
       near;
   even_tied = to_z-of_z w16 c.even_gap-2.result (search rules)
-      ∙ unwrapped w16 (even_by c.args.units.now.scale) c.sum-twice.result c.difference-tied.result (search rules) (search
-      rules) c.even_gap-2.ensures.value
+      ∙ unwrapped w16 (even_by c.args.units.now.scale) c.sum-twice.result c.difference-tied.result (search rules)
+      (search rules) c.even_gap-2.ensures.value
       ∙ ap₂ (even_by c.args.units.now.scale) twice tied;
   odd_tied = to_z-of_z w16 c.odd_gap.result (search rules)
       ∙ unwrapped w16 (odd_by c.args.units.now.scale) c.sum-twice.result c.difference-tied.result (search rules) (search
