@@ -7,19 +7,18 @@ use Rattle.std.proofs.lemmas.List.{get_or-append_right, get_or-drop, get_or-map,
 use Rattle.std.proofs.lemmas.List.{get_or_append_left, length-append, length-drop, length-map, length-take-le}
 use Rattle.dtx_frame.specs.CountsLaws.{sum_is, total_ones, total_zeros}
 use Rattle.dtx_trellis.specs.Trellis.{symbol_of}
-use Rattle.dtx_frame.specs.Segments.{bit_symbol, field_sync, segment_sync, sync_symbols}
-use Rattle.dtx_frame.specs.Sequences.{extended, pn511, pn63}
-use Rattle.dtx_frame.specs.SymbolsLaws.{length_front}
+use Rattle.dtx_frame.specs.Segments.{field_sync, sync_symbols}
+use Rattle.dtx_frame.specs.SymbolsLaws.{first_is, length_front, second_is}
 use Rattle.dtx_acquire.specs.Agreement.{agrees, are_unlike, is_plus, is_second, sync_sign, unlike, unlike_at}
 use Rattle.dtx_acquire.specs.Sent.{AreLevels, IsNear, IsSync}
 use Rattle.dtx_acquire.proofs.NearLevels.{sign_near}
 
 -- ---- a field sync's symbols
 
+-- read from the tables of their symbols
 fives_are : (second : Bool) → map nat_abs (sync_symbols second) ≡ replicate 820 5
-unfolding sync_symbols segment_sync bit_symbol pn511 pn63 extended
-fives_are false = refl
-fives_are true = refl
+fives_are false = sym (ap (map nat_abs) first_is) ∙ refl
+fives_are true = sym (ap (map nat_abs) second_is) ∙ refl
 
 -- each is +5 or -5
 fives : (second : Bool) (i : ℕ) → i < 820 → nat_abs (get_or (sync_symbols second) i (pos 0)) ≡ 5
@@ -28,13 +27,12 @@ fives second i l =
     ∙ ap (λ xs. get_or xs i 0) (fives_are second) ∙ get_or-replicate 820 i 5 0 l
 
 front_signs : map is_plus (take 515 (sync_symbols true)) ≡ map is_plus (take 515 (sync_symbols false))
-unfolding sync_symbols segment_sync bit_symbol pn511 pn63 extended
-front_signs = refl
+front_signs = sym (ap (λ xs. map is_plus (take 515 xs)) second_is) ∙ ap (λ xs. map is_plus (take 515 xs)) first_is
 
 middle_signs : map (λ x. not (is_plus x)) (take 63 (drop 578 (sync_symbols true)))
     ≡ map is_plus (take 63 (drop 578 (sync_symbols false)))
-unfolding sync_symbols segment_sync bit_symbol pn511 pn63 extended
-middle_signs = refl
+middle_signs = sym (ap (λ xs. map (λ x. not (is_plus x)) (take 63 (drop 578 xs))) second_is)
+    ∙ ap (λ xs. map is_plus (take 63 (drop 578 xs))) first_is
 
 -- 1 where a symbol has another sign than that of a first field
 abbrev unlike_sign : Bool → ℕ → ℕ

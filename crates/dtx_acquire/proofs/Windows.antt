@@ -7,9 +7,8 @@ use Rattle.std.specs.List.{range_with_len}
 use Rattle.std.proofs.lemmas.List.{length-take-le, map-append, take-take, drop-take}
 use Rattle.std.proofs.lemmas.List.{drop-drop}
 use Rattle.std.proofs.lemmas.List.Sums.{sum_by-append, sum_by-cons}
-use Rattle.dtx_frame.specs.Segments.{bit_symbol, segment_sync, sync_symbols}
-use Rattle.dtx_frame.specs.Sequences.{extended, pn511, pn63}
-use Rattle.dtx_frame.specs.SymbolsLaws.{length_front}
+use Rattle.dtx_frame.specs.Segments.{sync_symbols}
+use Rattle.dtx_frame.specs.SymbolsLaws.{first_is, length_front}
 use Rattle.std.proofs.lemmas.Nat.{ones-le, xor_lt}
 use lib.Pow.{pow_mono}
 use Rattle.dtx_lists.proofs.Range.{range_with_len-parts}
@@ -25,25 +24,23 @@ use Rattle.dtx_acquire.proofs.Packing.{unlike_signs}
 abbrev pub sync_part : ℕ → ℕ → List ℤ
 sync_part i n = take n (drop i (sync_symbols false))
 
+-- each is read from the table of its symbols
 whole_words : (k : ℕ) → k < 8 → get_or SIGNS k 0 ≡ packed (sync_part (64 * k) 64)
-unfolding sync_symbols segment_sync bit_symbol pn511 pn63 extended
-whole_words zero l = refl
-whole_words (suc zero) l = refl
-whole_words (suc (suc zero)) l = refl
-whole_words (suc (suc (suc zero))) l = refl
-whole_words (suc (suc (suc (suc zero)))) l = refl
-whole_words (suc (suc (suc (suc (suc zero))))) l = refl
-whole_words (suc (suc (suc (suc (suc (suc zero)))))) l = refl
-whole_words (suc (suc (suc (suc (suc (suc (suc zero))))))) l = refl
+whole_words zero l = refl ∙ ap (λ xs. packed (take 64 (drop 0 xs))) first_is
+whole_words (suc zero) l = refl ∙ ap (λ xs. packed (take 64 (drop 64 xs))) first_is
+whole_words (suc (suc zero)) l = refl ∙ ap (λ xs. packed (take 64 (drop 128 xs))) first_is
+whole_words (suc (suc (suc zero))) l = refl ∙ ap (λ xs. packed (take 64 (drop 192 xs))) first_is
+whole_words (suc (suc (suc (suc zero)))) l = refl ∙ ap (λ xs. packed (take 64 (drop 256 xs))) first_is
+whole_words (suc (suc (suc (suc (suc zero))))) l = refl ∙ ap (λ xs. packed (take 64 (drop 320 xs))) first_is
+whole_words (suc (suc (suc (suc (suc (suc zero)))))) l = refl ∙ ap (λ xs. packed (take 64 (drop 384 xs))) first_is
+whole_words (suc (suc (suc (suc (suc (suc (suc zero))))))) l = refl ∙ ap (λ xs. packed (take 64 (drop 448 xs))) first_is
 whole_words (suc (suc (suc (suc (suc (suc (suc (suc k)))))))) l = absurd (omega arith)
 
 last_word : get_or SIGNS 8 0 ≡ packed (sync_part 512 3)
-unfolding sync_symbols segment_sync bit_symbol pn511 pn63 extended
-last_word = refl
+last_word = refl ∙ ap (λ xs. packed (take 3 (drop 512 xs))) first_is
 
 middle_word : MIDDLE ≡ packed (sync_part 578 63)
-unfolding sync_symbols segment_sync bit_symbol pn511 pn63 extended
-middle_word = refl
+middle_word = refl ∙ ap (λ xs. packed (take 63 (drop 578 xs))) first_is
 
 length_sync : (i n : ℕ) → i + n ≤ 820 → length (sync_part i n) ≡ n
 length_sync i n l = length-take-le n (drop i (sync_symbols false)) (omega (

@@ -6,7 +6,8 @@ use Rattle.std.proofs.lemmas.List.{get_or_append_left}
 use Rattle.dtx_lists.proofs.Below.{holds_below, at_below}
 use Rattle.dtx_slice.specs.Slicing.{sliced}
 use Rattle.dtx_frame.specs.declared.tables.TheConstants.{FIRST, SECOND}
-use Rattle.dtx_frame.specs.Sequences.{extended, pn63}
+use Rattle.dtx_frame.specs.RecurrencesLaws.{short_at, table_bits}
+use Rattle.dtx_frame.specs.Sequences.{pn63}
 use Rattle.dtx_frame.specs.Segments.{field_sync, sync_symbols}
 use Rattle.dtx_frame.specs.Detection.{differs, differing, looks_like, looks_second, opposite, opposites}
 use Rattle.dtx_frame.specs.SymbolsLaws.{first_is, second_is, length_front}
@@ -26,25 +27,30 @@ second_same i l =
     ∙ ap (λ (xs : List ℤ). sliced (get_or xs i (pos 0))) first_is
 
 -- in the middle one of the short sequences
-first_test : holds_below (λ i. sliced (get_or FIRST (578 + i) (pos 0)) / 4 == get_or pn63 i 0) 63 ≡ true
-unfolding sliced pn63 extended
+abbrev has_sign : List ℕ → ℕ → Bool
+has_sign s i = sliced (get_or FIRST (578 + i) (pos 0)) / 4 == get_or s i 0
+
+first_test : holds_below (has_sign (table_bits 515 63)) 63 ≡ true
+unfolding sliced
 first_test = refl
 
-second_test : holds_below (λ i. sliced (get_or SECOND (578 + i) (pos 0)) / 4 + get_or pn63 i 0 == 1) 63 ≡ true
-unfolding sliced pn63 extended
+abbrev has_other_sign : List ℕ → ℕ → Bool
+has_other_sign s i = sliced (get_or SECOND (578 + i) (pos 0)) / 4 + get_or s i 0 == 1
+
+second_test : holds_below (has_other_sign (table_bits 515 63)) 63 ≡ true
+unfolding sliced
 second_test = refl
 
 first_sign : (i : ℕ) → i < 63 → sliced (get_or (sync_symbols false) (578 + i) (pos 0)) / 4 ≡ get_or pn63 i 0
 first_sign i l =
     ap (λ (xs : List ℤ). sliced (get_or xs (578 + i) (pos 0)) / 4) (sym first_is)
-    ∙ eqb-true (sliced (get_or FIRST (578 + i) (pos 0)) / 4) (get_or pn63 i 0)
-    (at_below (λ i. sliced (get_or FIRST (578 + i) (pos 0)) / 4 == get_or pn63 i 0) 63 i first_test l)
+    ∙ eqb-true (sliced (get_or FIRST (578 + i) (pos 0)) / 4) (get_or pn63 i 0) (short_at has_sign 63 i first_test l)
 
 second_sign : (i : ℕ) → i < 63 → sliced (get_or (sync_symbols true) (578 + i) (pos 0)) / 4 + get_or pn63 i 0 ≡ 1
 second_sign i l =
     ap (λ (xs : List ℤ). sliced (get_or xs (578 + i) (pos 0)) / 4 + get_or pn63 i 0) (sym second_is)
     ∙ eqb-true (sliced (get_or SECOND (578 + i) (pos 0)) / 4 + get_or pn63 i 0) 1
-    (at_below (λ i. sliced (get_or SECOND (578 + i) (pos 0)) / 4 + get_or pn63 i 0 == 1) 63 i second_test l)
+    (short_at has_other_sign 63 i second_test l)
 
 -- a field sync's first 820 symbols
 sync_at : (second : Bool) (last : List ℤ) (i : ℕ) → i < 820

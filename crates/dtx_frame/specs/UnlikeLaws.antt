@@ -6,40 +6,49 @@ use Rattle.std.specs.List.{range_with_len}
 use Rattle.std.proofs.lemmas.Bool.{eqb-true, eq-eqb, lt-leb, leb-true}
 use Rattle.std.proofs.lemmas.List.{get_or-take, get_or-drop, length-take-le}
 use Rattle.std.proofs.lemmas.List.FromFn.{get_or-map-range_with_len, length-map-range_with_len}
-use Rattle.dtx_lists.proofs.Below.{holds_below, at_below}
+use Rattle.dtx_lists.proofs.Below.{holds_below}
 use Rattle.dtx_trellis.specs.Pairs.{groups}
 use Rattle.dtx_trellis.specs.Groups.{level_at, levels_of}
 use Rattle.dtx_trellis.specs.JoinsLaws.{groups_whole}
 use Rattle.dtx_slice.specs.Slicing.{sliced}
 use Rattle.dtx_frame.specs.declared.tables.TheConstants.{FIRST}
-use Rattle.dtx_frame.specs.Sequences.{extended, pn511}
+use Rattle.dtx_frame.specs.Sequences.{pn511}
 use Rattle.dtx_frame.specs.Segments.{data_segment, sync_symbols}
 use Rattle.dtx_frame.specs.Detection.{differs, differing, looks_like}
 use Rattle.dtx_frame.specs.SymbolsLaws.{first_is}
-use Rattle.dtx_frame.specs.RecurrencesLaws.{bit_511}
+use Rattle.dtx_frame.specs.RecurrencesLaws.{bit_511, long_at, table_511, table_bits}
 use Rattle.dtx_frame.specs.CountsLaws.{total, sum_is, part, total_shift}
 use Rattle.dtx_frame.specs.SlicesLaws.{data_at}
 use Rattle.dtx_frame.specs.WindowsLaws.{a_third, window}
 use Rattle.dtx_frame.specs.RuleLaws.{rule, level_at_small}
 
 -- a bit's level in a field sync
-levels_test : holds_below (λ p. sliced (get_or FIRST (4 + p) (pos 0)) == 5 * get_or pn511 p 0 + 1) 511 ≡ true
-unfolding sliced pn511 extended
+abbrev is_level : List ℕ → ℕ → Bool
+is_level s p = sliced (get_or FIRST (4 + p) (pos 0)) == 5 * get_or s p 0 + 1
+
+levels_test : holds_below (is_level (table_bits 4 511)) 511 ≡ true
+unfolding sliced
 levels_test = refl
 
 sync_at : (p : ℕ) → p < 511 → sliced (get_or (sync_symbols false) (4 + p) (pos 0)) ≡ 5 * get_or pn511 p 0 + 1
 sync_at p l =
     ap (λ (xs : List ℤ). sliced (get_or xs (4 + p) (pos 0))) (sym first_is)
-    ∙ eqb-true (sliced (get_or FIRST (4 + p) (pos 0))) (5 * get_or pn511 p 0 + 1)
-    (at_below (λ p. sliced (get_or FIRST (4 + p) (pos 0)) == 5 * get_or pn511 p 0 + 1) 511 p levels_test l)
+    ∙ eqb-true (sliced (get_or FIRST (4 + p) (pos 0))) (5 * get_or pn511 p 0 + 1) (long_at is_level 511 p levels_test l)
 
--- 1 where the long sequence breaks the rule of the coders
+-- 1 where a sequence breaks the rule of the coders
+abbrev breaks_in : List ℕ → ℕ → ℕ
+breaks_in s p = cond (get_or s p 0 == (get_or s (p - 12) 0 + get_or s (p - 24) 0) % 2) 0 1
+
+-- where the long one does
 breaks : ℕ → ℕ
-breaks p = cond (get_or pn511 p 0 == (get_or pn511 (p - 12) 0 + get_or pn511 (p - 24) 0) % 2) 0 1
+breaks = breaks_in pn511
+
+table_broken : leb 192 (total (breaks_in (table_bits 4 511)) 24 487) ≡ true
+table_broken = refl
 
 many_broken : leb 192 (total breaks 24 487) ≡ true
-unfolding breaks pn511 extended
-many_broken = refl
+unfolding breaks
+many_broken = ap (λ s. leb 192 (total (breaks_in s) 24 487)) (sym table_511) ∙ table_broken
 
 breaks_at_most : (p : ℕ) → breaks p ≤ 1
 unfolding breaks

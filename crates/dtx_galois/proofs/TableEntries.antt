@@ -2,18 +2,10 @@
 use Rattle.std.proofs.Common.{◌≡◌, ℕ, zero, suc, ◌+◌, ◌-◌, ◌*◌, ◌%◌, ◌<◌, ◌≤◌, ◌==◌, ◌&&◌, true, nat_lt, get_or, refl}
 use Rattle.std.proofs.Common.{sym, ap, ap₂, ◌∙◌, arith}
 use Rattle.std.proofs.lemmas.Bool.{eqb-true, and_parts, ltb-true}
-use Rattle.dtx_galois.specs.BitPolynomial.{product, remainder}
 use Rattle.dtx_galois.specs.Field.{mul, pow}
 use Rattle.dtx_lists.proofs.Below.{holds_below, at_below}
-use Rattle.dtx_galois.specs.PowersLaws.{pow_add, pow_times, pow_mod, cycle}
+use Rattle.dtx_galois.specs.PowersLaws.{pow_add, pow_times, pow_mod, power_at, cycle}
 use Rattle.dtx_galois.specs.declared.tables.TheConstants.{POWERS, LOGARITHMS}
-
-powers_test : holds_below (λ i. get_or POWERS i 0 == pow 2 i) 255 ≡ true
-unfolding pow mul product remainder
-powers_test = refl
-
-pub power_at : (i : ℕ) → i < 255 → get_or POWERS i 0 ≡ pow 2 i
-power_at i l = eqb-true _ _ (at_below (λ i. get_or POWERS i 0 == pow 2 i) 255 i powers_test l)
 
 logarithms_test : holds_below (λ a. get_or POWERS (get_or LOGARITHMS (suc a) 0) 0 == suc a && nat_lt
     (get_or LOGARITHMS (suc a) 0) 255) 255 ≡ true

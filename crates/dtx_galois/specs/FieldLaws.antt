@@ -1,6 +1,6 @@
 -- The laws of the field of 256 elements.
 use Rattle.std.proofs.Common.{◌≡◌, ◌≢◌, ℕ, zero, suc, ◌%◌, ◌^◌, ◌<◌, ◌==◌, ◌⊎◌, Bool, true, nat_lt, bit_xor, refl, sym}
-use Rattle.std.proofs.Common.{ap, ◌∙◌, subst, arith, inl, inr}
+use Rattle.std.proofs.Common.{◌+◌, ap, ap₂, ◌∙◌, subst, arith, inl, inr}
 use Rattle.std.proofs.lemmas.Bool.{eqb-true, ltb-true}
 use Rattle.std.specs.Int.Bits.{xor_assoc, xor_self, xor_zero_r}
 use Rattle.std.proofs.lemmas.Nat.{mod_below}
@@ -119,20 +119,57 @@ mul_zero a = at_zero (λ b. mul a b) (right_of a)
 pub zero_mul : (a : ℕ) → mul 0 a ≡ 0
 zero_mul a = at_zero (λ b. mul b a) (left_of a)
 
--- each element but 0 has an inverse, its power 254
-inverse_test : holds_below (λ a. mul (suc a) (pow (suc a) 254) == 1) 255 ≡ true
-unfolding mul pow product remainder
-inverse_test = refl
-
-pub mul_inverse : (a : ℕ) → 0 < a → a < 256 → mul a (pow a 254) ≡ 1
-mul_inverse (suc a) p q =
-    eqb-true _ _ (at_below (λ a. mul (suc a) (pow (suc a) 254) == 1) 255 a inverse_test (omega arith))
-mul_inverse zero p q = absurd (omega arith)
-
 pub pow_small : (a n : ℕ) → pow a n < 256
 unfolding pow
 pow_small a zero = omega arith
 pow_small a (suc n) = mul_small a (pow a n)
+
+-- the product of two powers has the sum of their numbers of factors
+pub pow_add : (a i j : ℕ) → pow a (i + j) ≡ mul (pow a i) (pow a j)
+unfolding pow
+pow_add a zero j = ap (pow a) (zero_add j) ∙ sym (mul_one (pow a j) (pow_small a j))
+  where
+    zero_add : (j : ℕ) → 0 + j ≡ j
+    zero_add j = omega arith
+pow_add a (suc i) j = ap (pow a) (suc_add i j) ∙ ap (mul a) (pow_add a i j) ∙ sym (mul_assoc a (pow a i) (pow a j))
+  where
+    suc_add : (i j : ℕ) → suc i + j ≡ suc (i + j)
+    suc_add i j = omega arith
+
+-- from a power to that with twice as many factors and one
+doubled : ℕ → ℕ → ℕ
+doubled a p = mul a (mul p p)
+
+doubled_is : (a n p : ℕ) → p ≡ pow a n → doubled a p ≡ pow a (suc (n + n))
+unfolding doubled pow
+doubled_is a n p e = ap (mul a) (ap₂ mul e e ∙ sym (pow_add a n n))
+
+-- the power 254 by seven squarings
+power_254 : ℕ → ℕ
+power_254 a =
+    let p = doubled a (doubled a (doubled a (doubled a (doubled a (doubled a a))))) in
+    mul p p
+
+power_254_is : (a : ℕ) → a < 256 → power_254 a ≡ pow a 254
+unfolding power_254
+power_254_is a l =
+    let p = doubled_is a 63 _ (doubled_is a 31 _ (doubled_is a 15 _ (doubled_is a 7 _ (doubled_is a 3 _
+    (doubled_is a 1 a (one a l)))))) in
+    ap₂ mul p p ∙ sym (pow_add a 127 127)
+  where
+    one : (a : ℕ) → a < 256 → a ≡ pow a 1
+    one a l = unfold pow in sym (mul_comm a 1 ∙ mul_one a l)
+
+-- each element but 0 has an inverse, its power 254
+inverse_test : holds_below (λ a. mul (suc a) (power_254 (suc a)) == 1) 255 ≡ true
+unfolding power_254 doubled mul product remainder
+inverse_test = refl
+
+pub mul_inverse : (a : ℕ) → 0 < a → a < 256 → mul a (pow a 254) ≡ 1
+mul_inverse (suc a) p q =
+    ap (mul (suc a)) (sym (power_254_is (suc a) q))
+    ∙ eqb-true _ _ (at_below (λ a. mul (suc a) (power_254 (suc a)) == 1) 255 a inverse_test (omega arith))
+mul_inverse zero p q = absurd (omega arith)
 
 pub xor_zero : (a b : ℕ) → bit_xor a b ≡ 0 → a ≡ b
 xor_zero a b e = sym (xor_zero_r a) ∙ ap (bit_xor a) (sym (xor_self b)) ∙ sym (xor_assoc a b b)

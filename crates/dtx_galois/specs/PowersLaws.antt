@@ -1,11 +1,13 @@
 -- Powers, and that those of 2 below 255 differ.
 use Rattle.std.proofs.Common.{◌≡◌, ◌≢◌, ℕ, zero, suc, ◌+◌, ◌-◌, ◌*◌, ◌<◌, ◌==◌, not, true, refl, sym, ap, ◌∙◌, arith}
-use Rattle.std.proofs.Common.{◌/◌, ◌%◌, mul-zero}
-use Rattle.std.proofs.lemmas.Bool.{eq-eqb, not-true, false≢true}
+use Rattle.std.proofs.Common.{◌/◌, ◌%◌, get_or, mul-zero}
+use Rattle.std.proofs.lemmas.Bool.{eq-eqb, eqb-true, not-true, false≢true}
 use Rattle.dtx_lists.proofs.Below.{holds_below, at_below}
 use Rattle.dtx_galois.specs.BitPolynomial.{product, remainder}
 use Rattle.dtx_galois.specs.Field.{mul, pow}
-use Rattle.dtx_galois.specs.FieldLaws.{mul_comm, mul_assoc, mul_one, zero_mul, pow_small}
+use Rattle.dtx_galois.specs.FieldLaws.{mul_comm, mul_assoc, mul_inverse, mul_one, zero_mul, pow_small}
+pub use Rattle.dtx_galois.specs.FieldLaws.{pow_add}
+use Rattle.dtx_galois.specs.declared.tables.TheConstants.{POWERS}
 
 pub pow_one : (n : ℕ) → pow 1 n ≡ 1
 unfolding pow
@@ -13,8 +15,8 @@ pow_one zero = refl
 pow_one (suc n) = mul_one (pow 1 n) (pow_small 1 n) ∙ pow_one n
 
 pub pow_mul : (a b n : ℕ) → pow (mul a b) n ≡ mul (pow a n) (pow b n)
-unfolding pow mul product remainder
-pow_mul a b zero = refl
+unfolding pow
+pow_mul a b zero = sym (mul_one 1 (omega arith))
 pow_mul a b (suc n) =
     ap (mul (mul a b)) (pow_mul a b n) ∙ mul_assoc a b (mul (pow a n) (pow b n))
     ∙ ap (mul a) (sym (mul_assoc b (pow a n) (pow b n)) ∙ ap (λ (x : ℕ). mul x (pow b n)) (mul_comm b (pow a n))
@@ -27,36 +29,37 @@ unfolding pow
 pow_swap a zero j = pow_one j
 pow_swap a (suc i) j = pow_mul a (pow a i) j ∙ ap (mul (pow a j)) (pow_swap a i j)
 
-pub pow_add : (a i j : ℕ) → pow a (i + j) ≡ mul (pow a i) (pow a j)
+-- the table has the powers of 2: each is twice the one before
+powers_step : holds_below (λ i. get_or POWERS (suc i) 0 == mul 2 (get_or POWERS i 0)) 254 ≡ true
+unfolding mul product remainder
+powers_step = refl
+
+pub power_at : (i : ℕ) → i < 255 → get_or POWERS i 0 ≡ pow 2 i
 unfolding pow
-pow_add a zero j = ap (pow a) (zero_add j) ∙ sym (mul_one (pow a j) (pow_small a j))
-  where
-    zero_add : (j : ℕ) → 0 + j ≡ j
-    zero_add j = omega arith
-pow_add a (suc i) j = ap (pow a) (suc_add i j) ∙ ap (mul a) (pow_add a i j) ∙ sym (mul_assoc a (pow a i) (pow a j))
-  where
-    suc_add : (i j : ℕ) → suc i + j ≡ suc (i + j)
-    suc_add i j = omega arith
+power_at zero l = refl
+power_at (suc i) l =
+    eqb-true _ _ (at_below (λ i. get_or POWERS (suc i) 0 == mul 2 (get_or POWERS i 0)) 254 i powers_step (omega arith))
+    ∙ ap (mul 2) (power_at i (omega arith))
 
 -- no power of 2 from 1 to 254 is 1
-order_test : holds_below (λ k. not (pow 2 (suc k) == 1)) 254 ≡ true
-unfolding pow mul product remainder
+order_test : holds_below (λ k. not (get_or POWERS (suc k) 0 == 1)) 254 ≡ true
 order_test = refl
 
 not_one : (k : ℕ) → k < 254 → pow 2 (suc k) ≢ 1
 not_one k l e =
-    false≢true (sym (not-true (pow 2 (suc k) == 1) (at_below (λ k. not (pow 2 (suc k) == 1)) 254 k order_test l))
-    ∙ eq-eqb (pow 2 (suc k)) 1 e)
+    false≢true (sym (not-true (get_or POWERS (suc k) 0 == 1)
+    (at_below (λ k. not (get_or POWERS (suc k) 0 == 1)) 254 k order_test l))
+    ∙ eq-eqb (get_or POWERS (suc k) 0) 1 (power_at (suc k) (omega arith) ∙ e))
 
 -- and power 255 is
 pub cycle : pow 2 255 ≡ 1
-unfolding pow mul product remainder
-cycle = refl
+unfolding pow
+cycle = mul_inverse 2 (omega arith) (omega arith)
 
 -- 2 ^ i has an inverse
 two_inverse : (i : ℕ) → mul (pow 2 i) (pow (pow 2 254) i) ≡ 1
-unfolding pow mul product remainder
-two_inverse i = sym (pow_mul 2 (pow 2 254) i) ∙ pow_one i
+two_inverse i =
+    sym (pow_mul 2 (pow 2 254) i) ∙ ap (λ (x : ℕ). pow x i) (mul_inverse 2 (omega arith) (omega arith)) ∙ pow_one i
 
 later_differs : (i k : ℕ) → k < 254 → pow 2 i ≢ pow 2 (i + suc k)
 later_differs i k l e =

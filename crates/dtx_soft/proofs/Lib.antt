@@ -14,6 +14,9 @@ pub mod SquareTests
 pub mod SquareGaps
 pub mod GapSteps
 pub mod Wraps
+pub mod SmallSquares
+pub mod BitGaps
+pub mod WordGaps
 pub mod NearGaps
 pub mod Rows
 pub mod Columns

@@ -1,6 +1,6 @@
 -- Gaps of squares and of potentials at symbols near 0 fit bytes.
-use Rattle.std.proofs.Common.{◌≡◌, ℕ, ℤ, pos, neg_ℤ, ◌*◌, ◌<◌, ◌≤◌, ◌+ℤ◌, ◌-ℤ◌, ◌≤ℤ◌, refl, sym, subst, ap, ap₂}
-use Rattle.std.proofs.Common.{◌∙◌, to_z, of_z, w8, arith}
+use Rattle.std.proofs.Common.{◌≡◌, ℕ, ℤ, pos, neg_ℤ, ◌*◌, ◌<◌, ◌≤◌, ◌+ℤ◌, ◌-ℤ◌, ◌≤ℤ◌, refl}
+use Rattle.std.proofs.Common.{w8, arith}
 use mir.Val.{SFits}
 use Rattle.std.specs.Int.{int_min}
 use Rattle.std.proofs.lemmas.Bool.Decides.{nat_tests}
@@ -8,31 +8,15 @@ use Rattle.std.proofs.lemmas.Int.{ints, clamps}
 use Rattle.dtx_soft.specs.declared.gaps.Gap.{Gap}
 use Rattle.dtx_soft.specs.declared.gaps.SquareGaps.{SquareGaps}
 use Rattle.dtx_soft.specs.Gaps.{AreLesser, IsBounded}
+use Rattle.dtx_soft.proofs.BitGaps.{AreFormulas, AreSized, AreSumsRead, across_in_bits, even_in_bits, four_read}
+use Rattle.dtx_soft.proofs.BitGaps.{odd_in_bits, sums_in_bits, twice_read}
 use Rattle.dtx_soft.proofs.GapSteps.{AreSums}
+use Rattle.dtx_soft.proofs.Wraps.{bytes_hold, read}
 use Rattle.dtx_soft.specs.Near.{AreNear, IsNear, IsTight}
-use Rattle.dtx_soft.specs.Squares.{AreSmall, IsSquares, across_of, even_of, odd_of, seen, within}
+use Rattle.dtx_soft.specs.Squares.{AreSmall, across_of, even_of, odd_of, seen, within}
 
 pub seen_some : (scale : ℕ) (symbol : ℤ) → 0 < scale → seen scale symbol ≡ symbol
 seen_some scale symbol l = grind (arith, nat_tests)
-
--- the formulas at one symbol
-pub record AreFormulas (scale : ℕ) (symbol : ℤ) (squares : SquareGaps ℤ) : Type 0 where
-  pub even : squares.even ≡ even_of scale symbol (pos 0)
-  pub odd : squares.odd ≡ odd_of scale symbol (pos 0)
-  pub across : squares.across ≡ across_of scale symbol
-  pub even_tied : squares.even_tied ≡ even_of scale symbol (pos 1)
-  pub odd_tied : squares.odd_tied ≡ odd_of scale symbol (pos 1)
-
-pub seen_squares : (scale : ℕ) (symbol : ℤ) (squares : SquareGaps ℤ) → 0 < scale → AreFormulas scale symbol squares
-    → IsSquares scale symbol squares
-seen_squares scale symbol squares l a =
-    let e = sym (seen_some scale symbol l) in record {
-      even = subst (λ v. squares.even ≡ even_of scale v (pos 0)) e a.even;
-      odd = subst (λ v. squares.odd ≡ odd_of scale v (pos 0)) e a.odd;
-      across = subst (λ v. squares.across ≡ across_of scale v) e a.across;
-      even_tied = subst (λ v. squares.even_tied ≡ even_of scale v (pos 1)) e a.even_tied;
-      odd_tied = subst (λ v. squares.odd_tied ≡ odd_of scale v (pos 1)) e a.odd_tied;
-    }
 
 -- a gap of squares, with 1 more where the second of equal ones comes first
 pub even_near : (c : ℕ) (v t x : ℤ) → 0 < c → c ≤ 4 → IsNear v → pos 0 ≤ℤ t → t ≤ℤ pos 1 → x ≡ even_of c v t
@@ -98,67 +82,46 @@ near_small squares s = record {
   odd_tied_to = omega (arith, ints, s.odd_to, s.odd_tied_to);
 }
 
--- a number that is read from a byte
-abbrev pub byte : ℤ → ℤ
-byte z = to_z w8 (of_z w8 z)
-
-same_within : {r : ℤ} (a b d x y z : ℤ) → r ≡ within a b d → a ≡ x → b ≡ y → d ≡ z → r ≡ within x y z
-same_within a b d x y z e f g h = e ∙ ap₂ (λ s t. within s t d) f g ∙ ap (within x y) h
-
--- four times a symbol, less 1 or not, as bytes make it
-abbrev pub four_times : ℤ → ℤ → ℤ
-four_times v t = byte (byte (byte (byte v +ℤ byte v) +ℤ byte (byte v +ℤ byte v)) -ℤ byte t)
-
-four_times_is : (v t : ℤ) → IsNear v → pos 0 ≤ℤ t → t ≤ℤ pos 1
-    → four_times v t ≡ ((v +ℤ v) +ℤ (v +ℤ v)) -ℤ t
-four_times_is v t n f g = omega (arith, ints, n.from, n.to)
+-- a symbol near 0, at a scale so small
+near_sized : (c : ℕ) (v : ℤ) → c ≤ 4 → IsNear v → AreSized 127 28 c v
+near_sized c v l n = record {
+  symbol = record { from = n.from; to = n.to };
+  four = omega arith;
+  two = omega arith;
+  twelve = omega arith;
+}
 
 pub even_in_bytes : (c : ℕ) (v t low high two r : ℤ) → 0 < c → c ≤ 4 → IsNear v → pos 0 ≤ℤ t → t ≤ℤ pos 1
     → low ≡ neg_ℤ (pos (12 * c)) → high ≡ pos (4 * c) → two ≡ pos (2 * c)
-    → r ≡ within (byte low) (four_times v t) (byte high)
-    → SFits w8 (byte (byte (byte v +ℤ byte v) -ℤ byte two) -ℤ byte r)
-    × (byte (byte (byte (byte v +ℤ byte v) -ℤ byte two) -ℤ byte r) ≡ even_of c v t)
+    → r ≡ within (read w8 low) (read w8 (four_read w8 v -ℤ read w8 t)) (read w8 high)
+    → SFits w8 (read w8 (twice_read w8 v -ℤ read w8 two) -ℤ read w8 r)
+    × (read w8 (read w8 (twice_read w8 v -ℤ read w8 two) -ℤ read w8 r) ≡ even_of c v t)
 even_in_bytes c v t low high two r l m n f g e1 e2 e3 e =
-    let near = same_within (byte low) (four_times v t) (byte high) (neg_ℤ (pos (12 * c))) _ (pos (4 * c)) e
-    (omega (arith, ints)) (four_times_is v t n f g) (omega (arith, ints)) in
     let small = even_near c v t _ l m n f g refl in
-    let exact : ((v +ℤ v) -ℤ pos (2 * c)) -ℤ r ≡ even_of c v t =
-    ap (λ z. ((v +ℤ v) -ℤ pos (2 * c)) -ℤ z) near in
-    (omega (arith, ints, small.0, small.1, n.from, n.to), omega (arith, ints, small.0, small.1, n.from, n.to))
+    even_in_bits w8 127 28 c v t low high two r bytes_hold (near_sized c v m n) f g
+    (record { from = omega (arith, ints, small.0); to = omega (arith, ints, small.1, g) }) e1 e2 e3 e
 
 pub odd_in_bytes : (c : ℕ) (v t low high two r : ℤ) → 0 < c → c ≤ 4 → IsNear v → pos 0 ≤ℤ t → t ≤ℤ pos 1
     → low ≡ neg_ℤ (pos (4 * c)) → high ≡ pos (12 * c) → two ≡ pos (2 * c)
-    → r ≡ within (byte low) (four_times v t) (byte high)
-    → SFits w8 (byte (byte (byte v +ℤ byte v) +ℤ byte two) -ℤ byte r)
-    × (byte (byte (byte (byte v +ℤ byte v) +ℤ byte two) -ℤ byte r) ≡ odd_of c v t)
+    → r ≡ within (read w8 low) (read w8 (four_read w8 v -ℤ read w8 t)) (read w8 high)
+    → SFits w8 (read w8 (twice_read w8 v +ℤ read w8 two) -ℤ read w8 r)
+    × (read w8 (read w8 (twice_read w8 v +ℤ read w8 two) -ℤ read w8 r) ≡ odd_of c v t)
 odd_in_bytes c v t low high two r l m n f g e1 e2 e3 e =
-    let near = same_within (byte low) (four_times v t) (byte high) (neg_ℤ (pos (4 * c))) _ (pos (12 * c)) e
-    (omega (arith, ints)) (four_times_is v t n f g) (omega (arith, ints)) in
     let small = odd_near c v t _ l m n f g refl in
-    let exact : ((v +ℤ v) +ℤ pos (2 * c)) -ℤ r ≡ odd_of c v t =
-    ap (λ z. ((v +ℤ v) +ℤ pos (2 * c)) -ℤ z) near in
-    (omega (arith, ints, small.0, small.1, n.from, n.to), omega (arith, ints, small.0, small.1, n.from, n.to))
+    odd_in_bits w8 127 28 c v t low high two r bytes_hold (near_sized c v m n) f g
+    (record { from = omega (arith, ints, small.0); to = omega (arith, ints, small.1, g) }) e1 e2 e3 e
 
 pub across_in_bytes : (c : ℕ) (v low high o r : ℤ) → 0 < c → c ≤ 4 → IsNear v → low ≡ neg_ℤ (pos (4 * c))
-    → high ≡ pos (4 * c) → o ≡ odd_of c v (pos 0)
-    → r ≡ within (byte low) (byte (byte (byte v +ℤ byte v) +ℤ byte (byte v +ℤ byte v))) (byte high)
-    → SFits w8 (byte o -ℤ byte v) × SFits w8 (byte (byte o -ℤ byte v) +ℤ byte r)
-    × (byte (byte (byte o -ℤ byte v) +ℤ byte r) ≡ across_of c v)
+    → high ≡ pos (4 * c) → o ≡ odd_of c v (pos 0) → r ≡ within (read w8 low) (four_read w8 v) (read w8 high)
+    → SFits w8 (read w8 o -ℤ read w8 v) × SFits w8 (read w8 (read w8 o -ℤ read w8 v) +ℤ read w8 r)
+    × (read w8 (read w8 (read w8 o -ℤ read w8 v) +ℤ read w8 r) ≡ across_of c v)
 across_in_bytes c v low high o r l m n e1 e2 d e =
-    let near = same_within (byte low) (byte (byte (byte v +ℤ byte v) +ℤ byte (byte v +ℤ byte v))) (byte high)
-    (neg_ℤ (pos (4 * c))) ((v +ℤ v) +ℤ (v +ℤ v)) (pos (4 * c)) e (omega (arith, ints)) (omega (
-      arith,
-      ints,
-      n.from,
-      n.to,
-    )) (omega (arith, ints)) in
     let small = odd_near c v (pos 0) o l m n (omega (arith, ints)) (omega (arith, ints)) d in
     let all = across_near c v _ l m n.from n.to refl in
-    let exact : (o -ℤ v) +ℤ r ≡ across_of c v = ap₂ (λ a b. (a -ℤ v) +ℤ b) d near in (
-      omega (arith, ints, small.0, small.1, n.from, n.to),
-      omega (arith, ints, small.0, small.1, all.0, all.1, n.from, n.to),
-      omega (arith, ints, small.0, small.1, all.0, all.1, n.from, n.to),
-    )
+    across_in_bits w8 127 28 c v low high o r bytes_hold (near_sized c v m n)
+    (record { from = omega (arith, ints, small.0); to = omega (arith, ints, small.1) })
+    (record { from = omega (arith, ints, small.0, n.to); to = omega (arith, ints, small.1, n.from) })
+    (record { from = omega (arith, ints, all.0); to = omega (arith, ints, all.1) }) e1 e2 d e
 
 -- the sums that the gaps before a symbol are
 pub record AreTightSums (u f a b g h : ℤ) : Type 0 where
@@ -245,55 +208,34 @@ terms_small squares gap a b g h s l m =
       fourth_to = fourth.1;
     }
 
--- the sums, as bytes make them
-pub record AreByteSums (u f a b g h : ℤ) : Type 0 where
-  pub even_off : SFits w8 (byte a -ℤ byte g)
-  pub odd_off : SFits w8 (byte b -ℤ byte h)
-  pub even_fits : SFits w8 (byte (byte u +ℤ byte f) +ℤ byte (byte a -ℤ byte g))
-  pub odd_fits : SFits w8 (byte (byte u +ℤ byte f) +ℤ byte (byte b -ℤ byte h))
-  pub across_fits : SFits w8 (byte g -ℤ byte h)
-  pub even : byte (byte (byte u +ℤ byte f) +ℤ byte (byte a -ℤ byte g)) ≡ (u +ℤ f +ℤ a) -ℤ g
-  pub odd : byte (byte (byte u +ℤ byte f) +ℤ byte (byte b -ℤ byte h)) ≡ (u +ℤ f +ℤ b) -ℤ h
-  pub across : byte (byte g -ℤ byte h) ≡ g -ℤ h
-
-byte_step : (u f : ℤ) → pos 0 ≤ℤ (u +ℤ pos 26) → u ≤ℤ pos 26 → pos 0 ≤ℤ (f +ℤ pos 50) → f ≤ℤ pos 50
-    → byte (byte u +ℤ byte f) ≡ u +ℤ f
-byte_step u f l m n o = omega (arith, ints)
-
-byte_off : (a g : ℤ) → pos 0 ≤ℤ (a +ℤ pos 126) → a ≤ℤ pos 50 → pos 0 ≤ℤ (g +ℤ pos 126) → g ≤ℤ pos 50
-    → pos 0 ≤ℤ ((a -ℤ g) +ℤ pos 126) → (a -ℤ g) ≤ℤ pos 126
-    → SFits w8 (byte a -ℤ byte g) × (byte (byte a -ℤ byte g) ≡ a -ℤ g)
-byte_off a g l m n o p q = (omega (arith, ints), omega (arith, ints))
-
-byte_sum : (u f a g x y : ℤ) → x ≡ u +ℤ f → y ≡ a -ℤ g → pos 0 ≤ℤ (((u +ℤ f +ℤ a) -ℤ g) +ℤ pos 76)
-    → ((u +ℤ f +ℤ a) -ℤ g) ≤ℤ pos 76 → SFits w8 (x +ℤ y) × (byte (x +ℤ y) ≡ (u +ℤ f +ℤ a) -ℤ g)
-byte_sum u f a g x y d e l m = (omega (arith, ints), omega (arith, ints))
-
 pub byte_sums : (squares : SquareGaps ℤ) (gap : Gap ℤ) (a b g h : ℤ) → AreNear squares → IsTight gap
-    → AreLesser squares gap a b g h → AreByteSums squares.across gap.across a b g h
+    → AreLesser squares gap a b g h → AreSumsRead w8 squares.across gap.across a b g h
 byte_sums squares gap a b g h s l m =
     let t = terms_small squares gap a b g h s l m in
     let all = sums_tight squares gap a b g h s l m in
-    let step = byte_step squares.across gap.across s.across_from s.across_to l.across_from l.across_to in
-    let even = byte_off a g t.first_from (omega (arith, ints, t.first_to)) t.third_from
-    (omega (arith, ints, t.third_to)) (omega (arith, ints, t.first_from, t.third_to))
-    (omega (arith, ints, t.first_to, t.third_from)) in
-    let odd = byte_off b h (omega (arith, ints, t.second_from)) t.second_to (omega (arith, ints, t.fourth_from))
-    t.fourth_to (omega (arith, ints, t.second_from, t.fourth_to)) (omega (arith, ints, t.second_to, t.fourth_from)) in
-    let across = byte_off g h t.third_from (omega (arith, ints, t.third_to)) (omega (arith, ints, t.fourth_from))
-    t.fourth_to (omega (arith, ints, all.across_from)) (omega (arith, ints, all.across_to)) in
-    let evens = byte_sum squares.across gap.across a g _ _ step even.1 all.even_from all.even_to in
-    let odds = byte_sum squares.across gap.across b h _ _ step odd.1 all.odd_from all.odd_to in
-    record {
-      even_off = even.0;
-      odd_off = odd.0;
-      even_fits = evens.0;
-      odd_fits = odds.0;
-      across_fits = across.0;
-      even = evens.1;
-      odd = odds.1;
-      across = across.1;
-    }
+    sums_in_bits w8 127 squares.across gap.across a b g h bytes_hold (record {
+      square = record { from = omega (arith, ints, s.across_from); to = omega (arith, ints, s.across_to) };
+      gap = record { from = omega (arith, ints, l.across_from); to = omega (arith, ints, l.across_to) };
+      first = record { from = omega (arith, ints, t.first_from); to = omega (arith, ints, t.first_to) };
+      second = record { from = omega (arith, ints, t.second_from); to = omega (arith, ints, t.second_to) };
+      third = record { from = omega (arith, ints, t.third_from); to = omega (arith, ints, t.third_to) };
+      fourth = record { from = omega (arith, ints, t.fourth_from); to = omega (arith, ints, t.fourth_to) };
+      step = record {
+        from = omega (arith, ints, s.across_from, l.across_from);
+        to = omega (arith, ints, s.across_to, l.across_to);
+      };
+      even_off = record {
+        from = omega (arith, ints, t.first_from, t.third_to);
+        to = omega (arith, ints, t.first_to, t.third_from);
+      };
+      odd_off = record {
+        from = omega (arith, ints, t.second_from, t.fourth_to);
+        to = omega (arith, ints, t.second_to, t.fourth_from);
+      };
+      even = record { from = omega (arith, ints, all.even_from); to = omega (arith, ints, all.even_to) };
+      odd = record { from = omega (arith, ints, all.odd_from); to = omega (arith, ints, all.odd_to) };
+      across = record { from = omega (arith, ints, all.across_from); to = omega (arith, ints, all.across_to) };
+    })
 
 pub tight_bounded : (gap : Gap ℤ) → IsTight gap → IsBounded gap
 tight_bounded gap l = record {
@@ -318,3 +260,18 @@ nothing_tight gap e f g = record {
   beside_from = omega (arith, ints);
   beside_to = omega (arith, ints);
 }
+
+-- what tells which pair of levels is to be taken
+pub tied_sums_fit : (squares : SquareGaps ℤ) (gap : Gap ℤ) → AreNear squares → IsTight gap
+    → SFits w8 (squares.even_tied +ℤ gap.even) × SFits w8 (squares.odd_tied +ℤ gap.odd)
+tied_sums_fit squares gap s l = (
+  omega (arith, ints, s.even_from, s.even_to, s.even_tied_from, s.even_tied_to, l.even_from, l.even_to),
+  omega (arith, ints, s.odd_from, s.odd_to, s.odd_tied_from, s.odd_tied_to, l.odd_from, l.odd_to),
+)
+
+pub capped_sums_fit : (squares : SquareGaps ℤ) (gap : Gap ℤ) → AreNear squares → IsTight gap
+    → SFits w8 (squares.even +ℤ gap.even) × SFits w8 (squares.odd +ℤ gap.odd)
+capped_sums_fit squares gap s l = (
+  omega (arith, ints, s.even_from, s.even_to, l.even_from, l.even_to),
+  omega (arith, ints, s.odd_from, s.odd_to, l.odd_from, l.odd_to),
+)

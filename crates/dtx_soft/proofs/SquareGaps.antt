@@ -9,7 +9,8 @@ use Rattle.dtx_lists.proofs.Below.{at_below}
 use Rattle.dtx_soft.specs.Gaps.{AreGaps, nearer_level, nearer_square, row_of, tie_of, unit}
 use Rattle.dtx_soft.specs.Nearest.{IsTieBreak}
 use Rattle.dtx_soft.specs.Squares.{across_of, even_of, odd_of, seen}
-use Rattle.dtx_soft.proofs.SquareTests.{all_are_gaps, all_are_nearer, are_gaps, are_nearer, is_nearer, lifted}
+use Rattle.dtx_soft.proofs.SquareTests.{all_pass, formulas_pass, have_gaps, have_symbols, is_tied}
+use Rattle.dtx_soft.proofs.SquareTests.{level_by, levels_pass, lifted, passes, squares_pass}
 use Rattle.dtx_soft.specs.Paths.{symbol_at}
 use Rattle.dtx_soft.specs.Trace.{nearer_symbol}
 use Rattle.dtx_soft.proofs.Writes.{four}
@@ -34,11 +35,11 @@ quotient s n m = omega arith
 rest : (s n : ℕ) → n < 256 → (256 * s + n) % 256 ≡ n
 rest s n m = omega arith
 
-tested : (scale n : ℕ) → scale < 19 → n < 256 → are_gaps scale (pos n -ℤ pos 128) ≡ true
+tested : (scale n : ℕ) → scale < 19 → n < 256 → passes scale (pos n -ℤ pos 128) ≡ true
 tested scale n l m =
-    subst (λ s. are_gaps s (pos n -ℤ pos 128) ≡ true) (quotient scale n m)
-    (subst (λ k. are_gaps ((256 * scale + n) / 256) (pos k -ℤ pos 128) ≡ true) (rest scale n m)
-    (at_below (λ k. are_gaps (k / 256) (pos (k % 256) -ℤ pos 128)) 4864 (256 * scale + n) all_are_gaps (omega arith)))
+    subst (λ s. passes s (pos n -ℤ pos 128) ≡ true) (quotient scale n m)
+    (subst (λ k. passes ((256 * scale + n) / 256) (pos k -ℤ pos 128) ≡ true) (rest scale n m)
+    (at_below (λ k. passes (k / 256) (pos (k % 256) -ℤ pos 128)) 4864 (256 * scale + n) all_pass (omega arith)))
 
 -- what the test says
 pub record AreTested (scale : ℕ) (symbol : ℤ) : Type 0 where
@@ -53,30 +54,43 @@ pub record AreTested (scale : ℕ) (symbol : ℤ) : Type 0 where
   pub odd_tied : odd_of scale (seen scale symbol) (pos 1)
       ≡ odd_of scale (seen scale symbol) (pos 0) +ℤ pos (tie_of scale symbol 1)
   pub small : (z : ℕ) → z < 4 → nearer_square scale symbol z ≤ 64516
+  pub first_nearer : nearer_symbol scale symbol 0 0 ≡ symbol_at scale (nearer_level scale symbol 0)
+  pub second_nearer : nearer_symbol scale symbol 1 0 ≡ symbol_at scale (nearer_level scale symbol 1)
+  pub third_nearer : nearer_symbol scale symbol 0 1 ≡ symbol_at scale (nearer_level scale symbol 2)
+  pub fourth_nearer : nearer_symbol scale symbol 1 1 ≡ symbol_at scale (nearer_level scale symbol 3)
 
-opened : (scale : ℕ) (symbol : ℤ) → are_gaps scale symbol ≡ true → AreTested scale symbol
+opened : (scale : ℕ) (symbol : ℤ) → passes scale symbol ≡ true → AreTested scale symbol
+unfolding passes formulas_pass squares_pass levels_pass level_by have_gaps is_tied have_symbols
 opened scale symbol t =
-    let a = both _ _ t in
+    let gaps = both _ _ t in
+    let a = both _ _ gaps.0 in
     let b = both _ _ a.1 in
     let c = both _ _ b.1 in
     let d = both _ _ c.1 in
     let e = both _ _ d.1 in
     let f = both _ _ e.1 in
-    let g = both _ _ f.1 in
-    let h = both _ _ g.1 in
+    let even = both _ _ gaps.1 in
+    let odd = both _ _ even.1 in
+    let first = both _ _ odd.1 in
+    let third = both _ _ first.1 in
+    let second = both _ _ third.1 in
     record {
       first = same_numbers _ _ a.0;
       second = same_numbers _ _ b.0;
       third = same_numbers _ _ c.0;
-      even_tied = same_integers _ _ d.0;
-      odd_tied = same_integers _ _ e.0;
-      small = four _ (at_most _ _ f.0) (at_most _ _ g.0) (at_most _ _ h.0) (at_most _ _ h.1);
+      even_tied = same_integers _ _ even.0;
+      odd_tied = same_integers _ _ odd.0;
+      small = four _ (at_most _ _ d.0) (at_most _ _ e.0) (at_most _ _ f.0) (at_most _ _ f.1);
+      first_nearer = same_integers _ _ first.0;
+      second_nearer = same_integers _ _ second.0;
+      third_nearer = same_integers _ _ third.0;
+      fourth_nearer = same_integers _ _ second.1;
     }
 
 pub are_tested : (scale : ℕ) (symbol : ℤ) → scale ≤ 18 → pos 0 ≤ℤ (symbol +ℤ pos 128) → symbol ≤ℤ pos 127
     → AreTested scale symbol
 are_tested scale symbol l from to =
-    opened scale symbol (subst (λ v. are_gaps scale v ≡ true) back
+    opened scale symbol (subst (λ v. passes scale v ≡ true) back
     (tested scale (nat_abs (symbol +ℤ pos 128)) (omega arith) (omega (arith, ints))))
   where
     back : pos (nat_abs (symbol +ℤ pos 128)) -ℤ pos 128 ≡ symbol
@@ -133,24 +147,13 @@ row_tie scale symbol zero l = tie_is (nearer_level scale symbol 0) (nearer_level
 row_tie scale symbol (suc zero) l = tie_is (nearer_level scale symbol 1) (nearer_level scale symbol 3)
 row_tie scale symbol (suc (suc z)) l = absurd (omega arith)
 
-nearer_tested : (scale n : ℕ) → scale < 19 → n < 256 → are_nearer scale (pos n -ℤ pos 128) ≡ true
-nearer_tested scale n l m =
-    subst (λ s. are_nearer s (pos n -ℤ pos 128) ≡ true) (quotient scale n m)
-    (subst (λ k. are_nearer ((256 * scale + n) / 256) (pos k -ℤ pos 128) ≡ true) (rest scale n m)
-    (at_below (λ k. are_nearer (k / 256) (pos (k % 256) -ℤ pos 128)) 4864 (256 * scale + n) all_are_nearer
-    (omega arith)))
-
-nearer_by_bits : (scale : ℕ) (symbol : ℤ) (q1 pair : ℕ) → are_nearer scale symbol ≡ true → q1 < 2 → pair < 2
+nearer_by_bits : (scale : ℕ) (symbol : ℤ) (q1 pair : ℕ) → AreTested scale symbol → q1 < 2 → pair < 2
     → nearer_symbol scale symbol q1 pair ≡ symbol_at scale (get_or (row_of scale symbol).levels (q1 + 2 * pair) 0)
 unfolding row_of
-nearer_by_bits scale symbol zero zero t k m = same_integers _ _ (both _ _ t).0
-nearer_by_bits scale symbol zero (suc zero) t k m = same_integers _ _ (both _ _ (both _ _ t).1).0
-nearer_by_bits scale symbol (suc zero) zero t k m = same_integers _ _ (both (is_nearer scale symbol 1 0) (is_nearer
-    scale symbol 1 1)
-    (both (is_nearer scale symbol 0 1) _ (both (is_nearer scale symbol 0 0) _ t).1).1).0
-nearer_by_bits scale symbol (suc zero) (suc zero) t k m =
-    same_integers _ _ (both (is_nearer scale symbol 1 0) _ (both (is_nearer scale symbol 0 1) _
-    (both (is_nearer scale symbol 0 0) _ t).1).1).1
+nearer_by_bits scale symbol zero zero t k m = t.first_nearer
+nearer_by_bits scale symbol zero (suc zero) t k m = t.third_nearer
+nearer_by_bits scale symbol (suc zero) zero t k m = t.second_nearer
+nearer_by_bits scale symbol (suc zero) (suc zero) t k m = t.fourth_nearer
 nearer_by_bits scale symbol zero (suc (suc pair)) t k m = absurd (omega arith)
 nearer_by_bits scale symbol (suc zero) (suc (suc pair)) t k m = absurd (omega arith)
 nearer_by_bits scale symbol (suc (suc q1)) pair t k m = absurd (omega arith)
@@ -159,11 +162,5 @@ nearer_by_bits scale symbol (suc (suc q1)) pair t k m = absurd (omega arith)
 pub nearer_is_symbol : (scale : ℕ) (symbol : ℤ) (q1 pair : ℕ) → scale ≤ 18 → pos 0 ≤ℤ (symbol +ℤ pos 128)
     → symbol ≤ℤ pos 127 → q1 < 2 → pair < 2
     → nearer_symbol scale symbol q1 pair ≡ symbol_at scale (get_or (row_of scale symbol).levels (q1 + 2 * pair) 0)
-nearer_is_symbol scale symbol q1 pair l from to k m = nearer_by_bits scale symbol q1 pair t k m
-  where
-    back : pos (nat_abs (symbol +ℤ pos 128)) -ℤ pos 128 ≡ symbol
-    back = omega (arith, ints)
-
-    t : are_nearer scale symbol ≡ true
-    t = subst (λ v. are_nearer scale v ≡ true) back
-        (nearer_tested scale (nat_abs (symbol +ℤ pos 128)) (omega arith) (omega (arith, ints)))
+nearer_is_symbol scale symbol q1 pair l from to k m =
+    nearer_by_bits scale symbol q1 pair (are_tested scale symbol l from to) k m

@@ -24,7 +24,7 @@ pub(crate) struct Gap<T> {
 }
 
 /// The gaps of each lane.
-#[derive(Clone, Copy, Drop)]
+#[derive(Drop)]
 pub(crate) struct Gaps<T> {
     pub(crate) even: [T; LANES],
     pub(crate) odd: [T; LANES],
@@ -33,7 +33,7 @@ pub(crate) struct Gaps<T> {
 
 /// How the squares of a symbol's four pairs of levels differ, and the first two with 1 more where the second of equal
 /// ones comes first.
-#[derive(Clone, Copy, Drop)]
+#[derive(Drop)]
 pub(crate) struct SquareGaps<T> {
     pub(crate) even: T,
     pub(crate) odd: T,
@@ -43,7 +43,7 @@ pub(crate) struct SquareGaps<T> {
 }
 
 /// The scale, and its multiples.
-#[derive(Clone, Copy, Drop)]
+#[derive(Drop)]
 struct Units {
     scale: u8,
     two: i16,
@@ -164,7 +164,7 @@ fn gap_before(units: &Units, symbol: i8, squares: &SquareGaps<i16>, gap: Gap<i16
 
 /// The sum of two numbers.
 #[inline(always)]
-pub(crate) fn sum(number: i16, other: i16) -> i16
+fn sum(number: i16, other: i16) -> i16
     requires number_from { pos 0 ≤ℤ (number +ℤ pos 6000) }
     requires number_to { number ≤ℤ pos 6000 }
     requires other_from { pos 0 ≤ℤ (other +ℤ pos 6000) }

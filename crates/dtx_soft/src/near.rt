@@ -20,7 +20,7 @@ const MAX_NEAR: i8 = 28;
 
 /// Of the gaps of a symbol's squares and of the potentials behind it: the sum of the even ones, or 0 where it is more,
 /// the lesser of the even ones, and the same of the odd ones.
-#[derive(Clone, Copy, Drop)]
+#[derive(Drop)]
 struct NearTerms {
     even_sum: i8,
     even_minimum: i8,
@@ -29,7 +29,7 @@ struct NearTerms {
 }
 
 /// The scale, and its multiples.
-#[derive(Clone, Copy, Drop)]
+#[derive(Drop)]
 struct NearUnits {
     scale: u8,
     two: i8,

@@ -93,15 +93,25 @@ fn nearer(scale: u8, symbol: i8, z: u8) -> (u8, u32)
 }
 
 /// The square of what a symbol is off level z.
-#[tactic(auto, unfolding(crate::specs::Paths::squared))]
 pub(crate) fn squared_distance(scale: u8, symbol: i8, z: u8) -> u32
     requires scale { scale ≤ MAX_SCALE }
     requires level { z < LEVELS }
     ensures square { result ≡ squared symbol (symbol_at scale z) }
     ensures small { result ≤ MAX_SQUARE }
 {
-    let off = (symbol as i16 - symbol_at(scale, z)).unsigned_abs() as u32;
-    off * off
+    square(symbol, symbol_at(scale, z))
+}
+
+/// The square of what a symbol is off another one.
+#[inline(always)]
+pub(crate) fn square(symbol: i8, other: i16) -> u32
+    requires from { pos 0 ≤ℤ (other +ℤ pos 126) }
+    requires to { other ≤ℤ pos 126 }
+    ensures square { result ≡ squared symbol other }
+    ensures small { result ≤ MAX_SQUARE }
+{
+    let off = (symbol as i16 - other).unsigned_abs();
+    (off * off) as u32
 }
 
 /// The symbol of level z, which is 2 * z - 7 at scale 1.

@@ -4,18 +4,18 @@
 ghost use Rattle.std.specs.Prelude.{◌≡◌, ◌≢◌, ℕ, ℤ, pos, ◌+◌, ◌*◌, ◌^◌, ◌<◌, ◌≤◌};
 ghost use Rattle.std.specs.Prelude.{◌+ℤ◌, ◌≤ℤ◌, length, ◌==◌, if◌then◌else◌};
 ghost use Rattle.std.specs.Prelude.{slice_index, slice_index_or};
-ghost use Rattle.dtx_soft.specs.Paths.{distance, squared};
+ghost use Rattle.dtx_soft.specs.Paths.{distance};
 ghost use Rattle.dtx_soft.specs.Gaps.{AreWalked, IsBounded, column, gap_at};
 ghost use Rattle.dtx_soft.specs.Coders.{AreLeast};
 ghost use Rattle.dtx_soft.specs.Trace.{IsMoved, IsNext, IsStand, IsStart, limit_of, low_limit};
 ghost use Rattle.dtx_soft.specs.Trace.{nearer_symbol, pair_of, shift_of, stand_at};
 
-use crate::gaps::{Gap, Gaps, LANES, is_above, lane, sum};
-use crate::nearest::{MAX_SCALE, MAX_SQUARE};
+use crate::gaps::{Gap, Gaps, LANES, is_above, lane};
+use crate::nearest::{MAX_SCALE, square};
 use crate::walk::MAX_SYMBOLS;
 
 /// Where a path stands: its state 2 * q1 + q0, and what it has cost.
-#[derive(Clone, Copy, Drop)]
+#[derive(Drop)]
 pub(crate) struct Stand {
     pub(crate) q1: u8,
     pub(crate) q0: u8,
@@ -23,7 +23,7 @@ pub(crate) struct Stand {
 }
 
 /// Where the path of each lane stands.
-#[derive(Clone, Copy, Drop)]
+#[derive(Drop)]
 pub(crate) struct Stands {
     pub(crate) q1: [u8; LANES],
     pub(crate) q0: [u8; LANES],
@@ -75,7 +75,7 @@ fn start_of(gap: Gap<i16>) -> Stand
     requires { IsBounded gap }
     ensures { IsStart gap result }
 {
-    let first = sum(gap.even, gap.across);
+    let first = gap.even + gap.across;
     let low = is_above(first, gap.odd);
     let high = is_above(gap.across, 0);
     let q1 = is_above(first.min(gap.odd), gap.across.min(0));
@@ -108,7 +108,7 @@ fn trace_lanes(
 {
     let written = move_lanes(scale, symbols, marks, stands);
     for n in 0..LANES {
-        stands.cost[n] = stands.cost[n] + square(symbols[n], written[n]);
+        stands.cost[n] = stands.cost[n] + square(symbols[n], written[n] as i16);
     }
     written
 }
@@ -188,19 +188,6 @@ fn nearer(scale: u8, symbol: i8, q1: u8, pair: u8) -> i8
     } else {
         limit - far
     }
-}
-
-/// The square of what a symbol is off another one.
-#[inline(always)]
-#[tactic(auto, unfolding(crate::specs::Paths::squared))]
-fn square(symbol: i8, written: i8) -> u32
-    requires from { pos 0 ≤ℤ (written +ℤ pos 126) }
-    requires to { written ≤ℤ pos 126 }
-    ensures square { result ≡ squared symbol written }
-    ensures small { result ≤ MAX_SQUARE }
-{
-    let off = (symbol as i16 - written as i16).unsigned_abs();
-    (off * off) as u32
 }
 
 /// Which pair of levels the marks say for a state.

@@ -107,25 +107,25 @@ returns-clause-small c =
 pub returns-clause-gaps : goal.returns-clause-gaps
 returns-clause-gaps c = record {
   even = to_z-of_z w16 c.even_gap.result (search rules)
-      ∙ unwrapped (even_by c.args.units.now.scale) c.sum-twice.result c.sum-four_times.result (search rules) (search
+      ∙ unwrapped w16 (even_by c.args.units.now.scale) c.sum-twice.result c.sum-four_times.result (search rules) (search
       rules) c.even_gap.ensures.value
       ∙ ap₂ (even_by c.args.units.now.scale) twice (four ∙ nothing_less _);
   odd = to_z-of_z w16 c.odd_gap-odd.result (search rules) ∙ odd ∙ ap₂ (odd_by c.args.units.now.scale) twice (four ∙
       nothing_less _);
   across = to_z-of_z w16 c.sum.result (search rules)
-      ∙ unwrapped (λ a b. a +ℤ b) c.difference-beside.result c.within-nearest.result (search rules) (search rules)
+      ∙ unwrapped w16 (λ a b. a +ℤ b) c.difference-beside.result c.within-nearest.result (search rules) (search rules)
       c.sum.ensures
       ∙ ap₂ (λ a b. a +ℤ b)
-      (unwrapped (λ a b. a -ℤ b) c.odd_gap-odd.result c.seen-symbol.result (search rules) (search rules)
+      (unwrapped w16 (λ a b. a -ℤ b) c.odd_gap-odd.result c.seen-symbol.result (search rules) (search rules)
       c.difference-beside.ensures
       ∙ ap₂ (λ a b. a -ℤ b) (odd ∙ ap₂ (odd_by c.args.units.now.scale) twice (four ∙ nothing_less _)) value)
       near;
   even_tied = to_z-of_z w16 c.even_gap-2.result (search rules)
-      ∙ unwrapped (even_by c.args.units.now.scale) c.sum-twice.result c.difference-tied.result (search rules) (search
-      rules) c.even_gap-2.ensures.value
+      ∙ unwrapped w16 (even_by c.args.units.now.scale) c.sum-twice.result c.difference-tied.result (search rules)
+      (search rules) c.even_gap-2.ensures.value
       ∙ ap₂ (even_by c.args.units.now.scale) twice tied;
   odd_tied = to_z-of_z w16 c.odd_gap.result (search rules)
-      ∙ unwrapped (odd_by c.args.units.now.scale) c.sum-twice.result c.difference-tied.result (search rules) (search
+      ∙ unwrapped w16 (odd_by c.args.units.now.scale) c.sum-twice.result c.difference-tied.result (search rules) (search
       rules) c.odd_gap.ensures.value
       ∙ ap₂ (odd_by c.args.units.now.scale) twice tied;
 }
@@ -147,22 +147,22 @@ returns-clause-gaps c = record {
 
     twice : c.sum-twice.result ≡ symbol +ℤ symbol
     twice =
-        unwrapped (λ a b. a +ℤ b) c.seen-symbol.result c.seen-symbol.result (search rules) (search rules)
+        unwrapped w16 (λ a b. a +ℤ b) c.seen-symbol.result c.seen-symbol.result (search rules) (search rules)
         c.sum-twice.ensures ∙ ap (λ a. a +ℤ a) value
 
     four : c.sum-four_times.result ≡ (symbol +ℤ symbol) +ℤ (symbol +ℤ symbol)
     four =
-        unwrapped (λ a b. a +ℤ b) c.sum-twice.result c.sum-twice.result (search rules) (search rules)
+        unwrapped w16 (λ a b. a +ℤ b) c.sum-twice.result c.sum-twice.result (search rules) (search rules)
         c.sum-four_times.ensures ∙ ap (λ a. a +ℤ a) twice
 
     tied : c.difference-tied.result ≡ ((symbol +ℤ symbol) +ℤ (symbol +ℤ symbol)) -ℤ pos 1
     tied =
-        unwrapped (λ a b. a -ℤ b) c.sum-four_times.result (pos 1) (search rules) (search rules)
+        unwrapped w16 (λ a b. a -ℤ b) c.sum-four_times.result (pos 1) (search rules) (search rules)
         c.difference-tied.ensures ∙ ap (λ a. a -ℤ pos 1) four
 
     odd : c.odd_gap-odd.result ≡ odd_by c.args.units.now.scale c.sum-twice.result c.sum-four_times.result
     odd =
-        unwrapped (odd_by c.args.units.now.scale) c.sum-twice.result c.sum-four_times.result (search rules)
+        unwrapped w16 (odd_by c.args.units.now.scale) c.sum-twice.result c.sum-four_times.result (search rules)
         (search rules) c.odd_gap-odd.ensures.value
 
     near : c.within-nearest.result ≡ within (neg_ℤ (pos (4 * c.args.units.now.scale)))

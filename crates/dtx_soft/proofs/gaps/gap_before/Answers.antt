@@ -88,18 +88,18 @@ returns c = record {
     lesser : AreLesser c.args.squares.now c.args.gap c.capped-first.result c.lesser-second.result c.capped-third.result
         c.lesser-fourth.result
     lesser = record {
-      first = unwrapped (λ a b. int_min (a +ℤ b) (pos 0)) c.args.squares.now.even c.args.gap.even (search rules)
+      first = unwrapped w16 (λ a b. int_min (a +ℤ b) (pos 0)) c.args.squares.now.even c.args.gap.even (search rules)
           (search rules) c.capped-first.ensures.value;
-      second = unwrapped int_min c.args.squares.now.even c.args.gap.even (search rules) (search rules)
+      second = unwrapped w16 int_min c.args.squares.now.even c.args.gap.even (search rules) (search rules)
           c.lesser-second.ensures.value;
-      third = unwrapped (λ a b. int_min (a +ℤ b) (pos 0)) c.args.squares.now.odd c.args.gap.odd (search rules)
+      third = unwrapped w16 (λ a b. int_min (a +ℤ b) (pos 0)) c.args.squares.now.odd c.args.gap.odd (search rules)
           (search rules) c.capped-third.ensures.value;
-      fourth = unwrapped int_min c.args.squares.now.odd c.args.gap.odd (search rules) (search rules)
+      fourth = unwrapped w16 int_min c.args.squares.now.odd c.args.gap.odd (search rules) (search rules)
           c.lesser-fourth.ensures.value;
     }
 
     step : c.sum-step.result ≡ c.args.squares.now.across +ℤ c.args.gap.across
-    step = unwrapped (λ a b. a +ℤ b) c.args.squares.now.across c.args.gap.across (search rules) (search rules)
+    step = unwrapped w16 (λ a b. a +ℤ b) c.args.squares.now.across c.args.gap.across (search rules) (search rules)
         c.sum-step.ensures
 
     sums : AreSums c.args.squares.now c.args.gap c.capped-first.result c.lesser-second.result c.capped-third.result
@@ -107,17 +107,17 @@ returns c = record {
     sums = record {
       even = to_z-of_z w16 c.sum.result (search rules) ∙ both c.sum.result c.sum-step.result c.difference-even.result
           c.args.squares.now.across c.args.gap.across c.capped-first.result c.capped-third.result
-          (unwrapped (λ a b. a +ℤ b) c.sum-step.result c.difference-even.result (search rules) (search rules)
+          (unwrapped w16 (λ a b. a +ℤ b) c.sum-step.result c.difference-even.result (search rules) (search rules)
           c.sum.ensures) step
-          (unwrapped (λ a b. a -ℤ b) c.capped-first.result c.capped-third.result (search rules) (search rules)
+          (unwrapped w16 (λ a b. a -ℤ b) c.capped-first.result c.capped-third.result (search rules) (search rules)
           c.difference-even.ensures);
       odd = to_z-of_z w16 c.sum-2.result (search rules) ∙ both c.sum-2.result c.sum-step.result c.difference-odd.result
           c.args.squares.now.across c.args.gap.across c.lesser-second.result c.lesser-fourth.result
-          (unwrapped (λ a b. a +ℤ b) c.sum-step.result c.difference-odd.result (search rules) (search rules)
+          (unwrapped w16 (λ a b. a +ℤ b) c.sum-step.result c.difference-odd.result (search rules) (search rules)
           c.sum-2.ensures) step
-          (unwrapped (λ a b. a -ℤ b) c.lesser-second.result c.lesser-fourth.result (search rules) (search rules)
+          (unwrapped w16 (λ a b. a -ℤ b) c.lesser-second.result c.lesser-fourth.result (search rules) (search rules)
           c.difference-odd.ensures);
-      across = to_z-of_z w16 c.difference.result (search rules) ∙ unwrapped (λ a b. a -ℤ b) c.capped-third.result
+      across = to_z-of_z w16 c.difference.result (search rules) ∙ unwrapped w16 (λ a b. a -ℤ b) c.capped-third.result
           c.lesser-fourth.result
           (search rules) (search rules) c.difference.ensures;
     }

@@ -1,5 +1,6 @@
 use Rattle.std.proofs.Common.{◌≡◌, ◌≢◌, ℕ, ℤ, pos, ◌+◌, ◌<◌, ◌≤◌, ◌⊎◌, inl, inr, List, get_or, length, slice_set, sym}
-use Rattle.std.proofs.Common.{ap₂, ◌∙◌, subst, w8, arith, rules}
+use Rattle.std.proofs.Common.{ap, ap₂, ◌∙◌, subst, to_z, of_z, w8, arith, rules}
+use mir.Syntax.{w16}
 use mir.Val.{SFits}
 use Rattle.std.proofs.lemmas.Bool.{cases_eq}
 use Rattle.std.proofs.lemmas.Int.{ints, to_z-of_z}
@@ -34,6 +35,12 @@ loop-n-preserved c = record {
     written_fits : SFits w8 (get_or c.move_lanes-written.result c.loop-n.n (pos 0))
     written_fits = search rules
 
+    square : c.square.result ≡ squared symbol written
+    square =
+        c.square.ensures.square ∙ ap₂ squared (to_z-of_z w8 symbol symbol_fits)
+        (ap (λ v. to_z w16 (of_z w16 v)) (to_z-of_z w8 written written_fits)
+        ∙ to_z-of_z w16 written (omega (arith, ints, written_fits)))
+
     long : length c.loop-n.stands.cost ≡ 16
     long = search rules
 
@@ -53,11 +60,8 @@ loop-n-preserved c = record {
           q0 = h.q0;
           written_is = h.written_is;
           cost = get_or-set_same c.loop-n.stands.cost c.loop-n.n _ 0 (omega (arith, long))
-              ∙ ap₂ (λ cost square. cost + square) h.cost (c.square.ensures.square ∙ ap₂ squared
-              (to_z-of_z w8 symbol symbol_fits) (to_z-of_z w8 written written_fits));
-          small = subst (λ square. square ≤ 64516) (ap₂ squared (to_z-of_z w8 symbol symbol_fits)
-              (to_z-of_z w8 written written_fits))
-              (subst (λ square. square ≤ 64516) c.square.ensures.square c.square.ensures.small);
+              ∙ ap₂ (λ cost square. cost + square) h.cost square;
+          small = subst (λ square. square ≤ 64516) square c.square.ensures.small;
         }
 
     done : (k : ℕ) → k < c.loop-n.n + 1 → (k ≡ c.loop-n.n) ⊎ (k ≢ c.loop-n.n)
