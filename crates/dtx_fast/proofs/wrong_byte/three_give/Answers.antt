@@ -8,8 +8,11 @@ returns c = (λ _ i l. c.loop-i.invariant i (omega (arith, l, c.loop-i-test.fals
 
 pub loop-i-preserved : goal.loop-i-preserved
 loop-i-preserved c =
+    let first = c.args.first in
+    let second = c.args.second in
+    let third = c.args.third in
     below_more (λ q. get_or c.args.syndromes.now q 0 ≡ bit_xor
-    (bit_xor (pow 2 (c.args.first.error + c.args.first.place * q)) (pow 2 (c.args.second.error + c.args.second.place * q)))
-    (pow 2 (c.args.third.error + c.args.third.place * q))) c.loop-i.i c.loop-i.invariant
+    (bit_xor (pow 2 (first.error + first.place * q)) (pow 2 (second.error + second.place * q)))
+    (pow 2 (third.error + third.place * q))) c.loop-i.i c.loop-i.invariant
     (c.if-syndromes-i.false
     ∙ ap₂ bit_xor (ap₂ bit_xor c.syndrome.ensures c.syndrome-in-loop-i.ensures) c.syndrome-in-loop-i-2.ensures)
