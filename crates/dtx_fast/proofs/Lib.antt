@@ -1,3 +1,4 @@
 pub mod Blocks
 pub mod Mending
+pub mod Parity
 pub mod Syndromes

@@ -7,7 +7,8 @@ use Rattle.dtx_galois.specs.Word.{sums}
 use Rattle.dtx_laws.specs.Codeword.{IsCodeword}
 use Rattle.dtx_laws.specs.PartsLaws.{syndrome_is}
 
-rest : (k : ℕ) (xs : List ℕ) → take (length xs - k) (drop k xs) ≡ drop k xs
+-- all that stands behind the data
+pub rest : (k : ℕ) (xs : List ℕ) → take (length xs - k) (drop k xs) ≡ drop k xs
 rest k xs = take_all (length xs - k) (drop k xs) (omega (arith, length-drop k xs))
 
 pub syndromes_are : (k : ℕ) (word parity : List ℕ) (s : ℕ → ℕ) → k < length word

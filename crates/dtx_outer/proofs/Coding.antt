@@ -80,6 +80,16 @@ unfolding after_calls
 after_more b v [] call = refl
 after_more b v (x ∷ xs) call = after_more b (after_all b v x) xs call
 
+-- a packet of the whitener's period
+pub packet_within : (k place period : ℕ) → 0 < k → place < period / k → k * place + k ≤ period
+packet_within k place period some l =
+    let m : k * (place + 1) ≤ k * (period / k) = mul-le-mul_left k (upto l) in
+    let f : k * (place + 1) ≡ k * place + k = grind arith in
+    omega (arith, m, f, some)
+  where
+    upto : place < period / k → place + 1 ≤ period / k
+    upto l = omega arith
+
 -- ---- four packets at once
 
 -- word p of four, and its front

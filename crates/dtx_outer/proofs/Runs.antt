@@ -269,6 +269,31 @@ start_stands n k b m d e h ev ew ep = record {
   place = ep ∙ place_zero (waiting n b m) (length e.white / k);
 }
 
+-- ---- what a gathered block leaves
+
+-- one that gives no packet
+pub next_waiting : (k : ℕ) (d old : Kept) → d ≡ old → 0 < d.waits → IsNext k old (record d { waits = d.waits - 1 })
+next_waiting k d old e h = subst (λ (o : Kept). IsNext k o (record d { waits = d.waits - 1 })) e (record {
+  white = refl;
+  branches = refl;
+  before = refl;
+  waits = refl;
+  waiting = λ _. refl;
+  given = λ z. absurd (omega (arith, z, h));
+})
+
+-- and one that gives a packet
+pub next_given : (k count place : ℕ) (d old : Kept) → d ≡ old → d.waits ≤ 0 → count ≡ length d.white / k
+    → place ≡ cond (d.place + 1 == count) 0 (d.place + 1) → IsNext k old (record d { place = place })
+next_given k count place d old e h c p = subst (λ (o : Kept). IsNext k o (record d { place = place })) e (record {
+  white = refl;
+  branches = refl;
+  before = refl;
+  waits = omega (arith, h);
+  waiting = λ w. absurd (omega (arith, w, h));
+  given = λ _. p ∙ ap (λ i. cond (d.place + 1 == i) 0 (d.place + 1)) c;
+})
+
 -- ---- a block, whether it gives a packet or not
 
 -- what is given
@@ -297,7 +322,7 @@ taken_next n k b m d y bs gathered old new taken p i lb s w f g = record {
         (w ∙ word_given n k b m j d y bs p i lb s e) (g (omega (arith, h))))
 
 -- a period has packets
-whole_packets : (n k b period : ℕ) → 0 < k → IsPeriod n k b period → 0 < period / k
+pub whole_packets : (n k b period : ℕ) → 0 < k → IsPeriod n k b period → 0 < period / k
 whole_packets n k b period p h = by_cases (cases_lt 0 (period / k))
   where
     by_cases : (0 < period / k) ⊎ (period / k ≤ 0) → 0 < period / k
@@ -481,3 +506,20 @@ set_further xs ys i x d y e P lx ly before here j h = by_cases (cases_lt j i)
         subst (λ r. P r (get_or (set xs i x) r d) (get_or (set ys i y) r e)) q
         (subst (λ a. P i a (get_or (set ys i y) i e)) (sym (get_or-set_same xs i x d lx))
         (subst (P i x) (sym (get_or-set_same ys i y e ly)) here))
+
+-- four elements that are set one after the other
+pub four_set : {A : Type 0} (xs : List (List A)) (a b c d : List A) (f : ℕ → List A) → length xs ≡ 4 → a ≡ f 0 → b ≡ f 1
+    → c ≡ f 2 → d ≡ f 3 → (p : ℕ) → p < 4 → get_or (set (set (set (set xs 0 a) 1 b) 2 c) 3 d) p [] ≡ f p
+four_set (w ∷ x ∷ y ∷ z ∷ []) a b c d f e h i j k p l = by_place p l
+  where
+    by_place : (p : ℕ) → p < 4 → get_or (a ∷ b ∷ c ∷ d ∷ []) p [] ≡ f p
+    by_place zero l = h
+    by_place (suc zero) l = i
+    by_place (suc (suc zero)) l = j
+    by_place (suc (suc (suc zero))) l = k
+    by_place (suc (suc (suc (suc p)))) l = absurd (omega (arith, l))
+four_set [] a b c d f e h i j k p l = absurd (omega (arith, e))
+four_set (w ∷ []) a b c d f e h i j k p l = absurd (omega (arith, e))
+four_set (w ∷ x ∷ []) a b c d f e h i j k p l = absurd (omega (arith, e))
+four_set (w ∷ x ∷ y ∷ []) a b c d f e h i j k p l = absurd (omega (arith, e))
+four_set (w ∷ x ∷ y ∷ z ∷ v ∷ vs) a b c d f e h i j k p l = absurd (omega (arith, e))

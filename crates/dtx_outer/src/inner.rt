@@ -227,7 +227,7 @@ impl<
     {
         self.gather.gather(bytes);
         windows(&self.before, bytes, completed::<N, B, M>(), words);
-        self.before.copy_from_slice(&bytes[3 * N..]);
+        self.before.copy_from_slice(block::<N>(bytes, 3));
     }
 }
 
@@ -293,10 +293,21 @@ fn windows<const N: usize>(before: &[u8; N], now: &[u8], skip: usize, words: &mu
     ensures { (p : ℕ) → p < 4 → slice_index_or words.new p []
         ≡ drop skip (block_behind N before.now now.now p) ++ take skip (block_behind N before.now now.now (suc p)) }
 {
-    window(before, &now[..N], skip, &mut words[0]);
-    window(&now[..N], &now[N..2 * N], skip, &mut words[1]);
-    window(&now[N..2 * N], &now[2 * N..3 * N], skip, &mut words[2]);
-    window(&now[2 * N..3 * N], &now[3 * N..], skip, &mut words[3]);
+    window(before, block::<N>(now, 0), skip, &mut words[0]);
+    window(block::<N>(now, 0), block::<N>(now, 1), skip, &mut words[1]);
+    window(block::<N>(now, 1), block::<N>(now, 2), skip, &mut words[2]);
+    window(block::<N>(now, 2), block::<N>(now, 3), skip, &mut words[3]);
+}
+
+/// One of four blocks.
+fn block<const N: usize>(bytes: &[u8], p: usize) -> &[u8]
+    requires few { N ≤ 255 }
+    requires four { length bytes.now ≡ N * 4 }
+    requires one { p < 4 }
+    ensures block { result.now ≡ take N (drop (N * p) bytes.now) }
+    ensures long { length result.now ≡ N }
+{
+    &bytes[N * p..N * p + N]
 }
 
 /// The place after this one, of so many in a turn.

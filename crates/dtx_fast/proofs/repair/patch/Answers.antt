@@ -29,3 +29,6 @@ loop-exponent-preserved c =
   where
     before : (n e f p : ℕ) → p + f < n → e + 1 ≤ f → p ≡ n - 1 - e → ⊥
     before n e f p l g same = omega arith
+
+pub returns-clause-repaired : goal.returns-clause-repaired
+returns-clause-repaired c = λ p l. c.loop-exponent.invariant.done p l (omega (arith, c.loop-exponent-test.false))

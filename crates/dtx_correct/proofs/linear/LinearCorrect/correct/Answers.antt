@@ -1,4 +1,4 @@
-use Rattle.std.proofs.Common.{◌≡◌, subst}
+use Rattle.std.proofs.Common.{rules, ◌≡◌, subst}
 use Rattle.std.proofs.lemmas.Slice.Eq.{slice_eq-Decides}
 use Rattle.std.proofs.lemmas.Bool.Decides.{Decides-eqb}
 use Rattle.std.specs.Bool.{Decides}
@@ -13,3 +13,6 @@ returns-then-eq-clause-answer g c =
     slice_eq-Decides Decides-eqb code.result c.args.word.now c.eq.result c.eq.ensures in
     codeword_answer g.row.N g.row.K c.args.word.now
     (subst (IsCodeword g.row.N g.row.K) (same.0 c.if-eq.true) code.ensures.codeword)
+
+pub returns-clause-answer : goal.returns-clause-answer
+returns-clause-answer g c = search rules

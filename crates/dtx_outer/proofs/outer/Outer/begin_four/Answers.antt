@@ -16,6 +16,49 @@ overflow_add-from g c =
     c.requires.within c.loop-p-test.true in
     search rules
 
+-- the word begins within the words
+pub overflow_mul-at : goal.overflow_mul-at
+overflow_mul-at g c =
+    let whole : g.row.N * c.loop-p.p + g.row.K ≤ length c.loop-p.words =
+    front_within g.row.N g.row.K c.loop-p.p (length c.loop-p.words) (omega (arith, c.requires.code.longer))
+    c.loop-p-test.true c.loop-p.invariant.long in
+    search rules
+
+pub overflow_add-at : goal.overflow_add-at
+overflow_add-at g c =
+    let whole : g.row.N * c.loop-p.p + g.row.K ≤ length c.loop-p.words =
+    front_within g.row.N g.row.K c.loop-p.p (length c.loop-p.words) (omega (arith, c.requires.code.longer))
+    c.loop-p-test.true c.loop-p.invariant.long in
+    search rules
+
+pub slice_bounds-whiten_to-end : goal.slice_bounds-whiten_to-end
+slice_bounds-whiten_to-end g c =
+    let whole : g.row.N * c.loop-p.p + g.row.K ≤ length c.loop-p.words =
+    front_within g.row.N g.row.K c.loop-p.p (length c.loop-p.words) (omega (arith, c.requires.code.longer))
+    c.loop-p-test.true c.loop-p.invariant.long in
+    search rules
+
+pub whiten_to-requires-clause-room : goal.whiten_to-requires-clause-room
+whiten_to-requires-clause-room g c =
+    let whole : g.row.N * c.loop-p.p + g.row.K ≤ length c.loop-p.words =
+    front_within g.row.N g.row.K c.loop-p.p (length c.loop-p.words) (omega (arith, c.requires.code.longer))
+    c.loop-p-test.true c.loop-p.invariant.long in
+    search rules
+
+pub overflow_mul-from : goal.overflow_mul-from
+overflow_mul-from g c =
+    let within : g.row.K * (c.args.place + c.loop-p.p) + g.row.K ≤ g.W.Whitener.PERIOD =
+    white_within g.row.K c.args.place g.W.Whitener.PERIOD c.loop-p.p c.requires.within c.loop-p-test.true in
+    omega (arith, within, g.met.W.Whitener.fits)
+
+pub loop-p-init : goal.loop-p-init
+loop-p-init g c =
+    record { done = λ p l. absurd (omega (arith, l)); long = c.requires.room }
+
+pub returns : goal.returns
+returns g c =
+    λ p l. c.loop-p.invariant.done p (omega (arith, l, c.loop-p-test.false))
+
 -- the data of packet p
 head_at : (heads : List (Bor (List ℕ))) (p : ℕ) → length heads ≡ 4 → p < 4
     → get_or (map (λ head. head.now) heads) p [] ≡ (get_or heads p (record { ref_ptr = (0, 0); now = [] })).now
