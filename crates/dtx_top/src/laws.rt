@@ -94,9 +94,9 @@ pub fn simple_networks_work()
     headline();
 }
 
-/// Where packet k of a stream, at place 52 of its field or behind, is a placeholder, its group of four begins 52 packets
-/// or more behind the mark of its frame, and has an order that counts in the adapter's feed. (In which fields such a
-/// packet stands once placeholders were put, `fields_with_one` of `dtx_jobs` says.)
+/// Where packet k of a stream, at place 52 of its field or behind, is a placeholder, its group of four begins 52
+/// packets or more behind the mark of its frame, and has an order that counts in the adapter's feed. (In which fields
+/// such a packet stands once placeholders were put, `fields_with_one` of `dtx_jobs` says.)
 pub fn late_placeholders_are_orders()
     ensures late { (k : ℕ) → 52 ≤ k % 312 → 52 ≤ 4 * (k / 4) % 624 }
     ensures order { (plan : Plan) (stream : List (List ℕ)) (k : ℕ) → IsPlan plan → IsStream stream → 52 ≤ k % 312
