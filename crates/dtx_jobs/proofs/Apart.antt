@@ -65,3 +65,24 @@ six_words words h j k m n h' j' k' m' n' l u p q r s t =
     ∙ ap (λ x. get_or words 0 [] ∷ get_or words 1 h ∷ get_or words 2 j ∷ get_or words 3 k ∷ x ∷ n' ∷ []) s
     ∙ ap (λ x. get_or words 0 [] ∷ get_or words 1 h ∷ get_or words 2 j ∷ get_or words 3 k ∷ get_or words 4 m ∷ x ∷ [])
     t)
+
+-- ---- four words
+
+four_back : (words : List (List ℕ)) (h j k : List ℕ) → 4 ≤ length words → length words < 5
+    → words ≡ get_or words 0 [] ∷ get_or words 1 h ∷ get_or words 2 j ∷ get_or words 3 k ∷ []
+four_back [] h j k l u = absurd (omega (arith, l))
+four_back (a ∷ []) h j k l u = absurd (omega (arith, l))
+four_back (a ∷ (b ∷ [])) h j k l u = absurd (omega (arith, l))
+four_back (a ∷ (b ∷ (c ∷ []))) h j k l u = absurd (omega (arith, l))
+four_back (a ∷ (b ∷ (c ∷ (d ∷ [])))) h j k l u = refl
+four_back (a ∷ (b ∷ (c ∷ (d ∷ (e ∷ more))))) h j k l u = absurd (omega (arith, u))
+
+-- words of which three were read
+pub four_words : (words : List (List ℕ)) (h j k h' j' k' : List ℕ) → 4 ≤ length words → length words < 5
+    → h' ≡ get_or words 1 h → j' ≡ get_or words 2 j → k' ≡ get_or words 3 k
+    → words ≡ get_or words 0 [] ∷ h' ∷ j' ∷ k' ∷ []
+four_words words h j k h' j' k' l u p q r =
+    four_back words h j k l u
+    ∙ sym (ap (λ x. get_or words 0 [] ∷ x ∷ j' ∷ k' ∷ []) p
+    ∙ ap (λ x. get_or words 0 [] ∷ get_or words 1 h ∷ x ∷ k' ∷ []) q
+    ∙ ap (λ x. get_or words 0 [] ∷ get_or words 1 h ∷ get_or words 2 j ∷ x ∷ []) r)

@@ -2,15 +2,16 @@
 use Rattle.std.specs.Prelude.{ℕ, ◌==◌, ◌||◌, Bool, List, [], ◌∷◌, length}
 use Rattle.dtx_coder.specs.Stream.{a53}
 use Rattle.dtx_engine.specs.Made.{only}
-use Rattle.dtx_engine.specs.Recipe.{Recipe, transformed}
-use Rattle.dtx_meaning.specs.Meaning.{Meaning, refused}
+use Rattle.dtx_engine.specs.Recipe.{Recipe}
+use Rattle.dtx_meaning.specs.Meaning.{Meaning}
 use Rattle.dtx_meaning.specs.declared.status.Outcome.{Outcome}
-use Rattle.dtx_meaning.specs.declared.status.Status.TheVariants.{Done, Usage}
+use Rattle.dtx_meaning.specs.declared.status.Status.TheVariants.{Done}
 use Rattle.dtx_outside.specs.Shelf.{Files}
 use Rattle.dtx_packets.specs.Packet.{sync_of}
 use Rattle.dtx_packets.specs.Packets.{packets_of, whole_packets}
 use Rattle.dtx_jobs.specs.Shapes.{coded_packets}
 use Rattle.dtx_jobs.specs.Symbols.{symbol_bytes}
+use Rattle.dtx_jobs.specs.Transform.{transform_meaning}
 
 -- a packet that may be coded: its byte 0, which isn't sent, is 0x47 or the mark 0xB8
 abbrev pub may_be_coded : List ℕ → Bool
@@ -35,5 +36,4 @@ coding = record {
 
 -- what `code IN OUT` means
 abbrev pub code_meaning : List (List ℕ) → Files → Meaning
-code_meaning (verb ∷ input ∷ output ∷ []) held = transformed coded_packets coding input output held
-code_meaning words held = refused Usage
+code_meaning words held = transform_meaning coded_packets coding words held

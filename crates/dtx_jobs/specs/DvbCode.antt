@@ -2,14 +2,15 @@
 use Rattle.std.specs.Prelude.{ℕ, List, [], ◌∷◌}
 use Rattle.dtx_dvb.specs.Stream.{dvb}
 use Rattle.dtx_engine.specs.Made.{only}
-use Rattle.dtx_engine.specs.Recipe.{Recipe, transformed}
-use Rattle.dtx_meaning.specs.Meaning.{Meaning, refused}
+use Rattle.dtx_engine.specs.Recipe.{Recipe}
+use Rattle.dtx_meaning.specs.Meaning.{Meaning}
 use Rattle.dtx_meaning.specs.declared.status.Outcome.{Outcome}
-use Rattle.dtx_meaning.specs.declared.status.Status.TheVariants.{Done, Usage}
+use Rattle.dtx_meaning.specs.declared.status.Status.TheVariants.{Done}
 use Rattle.dtx_outside.specs.Shelf.{Files}
 use Rattle.dtx_packets.specs.Packets.{packets_of, whole_packets}
 use Rattle.dtx_jobs.specs.Place.{has_sync}
 use Rattle.dtx_jobs.specs.Shapes.{dvb_packets}
+use Rattle.dtx_jobs.specs.Transform.{dvb_meaning}
 
 -- how it ends: the packets, and the loose bytes
 abbrev pub dvb_code_answer : List ℕ → ℕ → Outcome
@@ -30,5 +31,4 @@ dvb_coding = record {
 
 -- what `dvb code IN OUT` means
 abbrev pub dvb_code_meaning : List (List ℕ) → Files → Meaning
-dvb_code_meaning (verb ∷ second ∷ input ∷ output ∷ []) held = transformed dvb_packets dvb_coding input output held
-dvb_code_meaning words held = refused Usage
+dvb_code_meaning words held = dvb_meaning dvb_packets dvb_coding words held

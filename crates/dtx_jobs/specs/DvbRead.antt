@@ -4,12 +4,13 @@ use Rattle.std.specs.Prelude.{ℕ, ◌/◌, true, List, [], ◌∷◌, length, f
 use Rattle.dtx_dvb.specs.Read.{Read, fixed_in, flagged_in}
 use Rattle.dtx_dvb.specs.Reading.{read_dvb}
 use Rattle.dtx_engine.specs.Made.{only}
-use Rattle.dtx_engine.specs.Recipe.{Recipe, transformed}
-use Rattle.dtx_meaning.specs.Meaning.{Meaning, refused}
+use Rattle.dtx_engine.specs.Recipe.{Recipe}
+use Rattle.dtx_meaning.specs.Meaning.{Meaning}
 use Rattle.dtx_meaning.specs.declared.status.Outcome.{Outcome}
-use Rattle.dtx_meaning.specs.declared.status.Status.TheVariants.{Done, Usage}
+use Rattle.dtx_meaning.specs.declared.status.Status.TheVariants.{Done}
 use Rattle.dtx_outside.specs.Shelf.{Files}
 use Rattle.dtx_jobs.specs.Shapes.{blocks}
+use Rattle.dtx_jobs.specs.Transform.{dvb_meaning}
 
 -- the bytes of packets that were read, one behind the other
 abbrev pub bytes_of_reads : List Read → List ℕ
@@ -41,5 +42,4 @@ dvb_reading = record {
 
 -- what `dvb read IN OUT` means
 abbrev pub dvb_read_meaning : List (List ℕ) → Files → Meaning
-dvb_read_meaning (verb ∷ second ∷ input ∷ output ∷ []) held = transformed blocks dvb_reading input output held
-dvb_read_meaning words held = refused Usage
+dvb_read_meaning words held = dvb_meaning blocks dvb_reading words held

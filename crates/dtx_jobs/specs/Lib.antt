@@ -68,6 +68,7 @@ pub mod SymbolFileLaws
 pub mod Symbols
 pub mod SymbolsBackLaws
 pub mod Tally
+pub mod Transform
 pub mod Transmit
 pub mod Watch
 pub mod WatchLaws

@@ -1,13 +1,13 @@
 -- What `mend` makes of a symbol file, of which some symbols are missing (the profile's own; ATSC A/53 Part 2, the way
 -- back). A symbol of value -128, which is a byte 0x80 of the file, says that nothing was received there.
-use Rattle.std.specs.Prelude.{ℕ, List, [], ◌∷◌}
-use Rattle.dtx_engine.specs.Recipe.{Recipe, transformed}
+use Rattle.std.specs.Prelude.{ℕ, List}
+use Rattle.dtx_engine.specs.Recipe.{Recipe}
 use Rattle.dtx_erase.specs.Mended.{all_mended, mended, mended_so_far}
-use Rattle.dtx_meaning.specs.Meaning.{Meaning, refused}
-use Rattle.dtx_meaning.specs.declared.status.Status.TheVariants.{Usage}
+use Rattle.dtx_meaning.specs.Meaning.{Meaning}
 use Rattle.dtx_outside.specs.Shelf.{Files}
 use Rattle.dtx_jobs.specs.Giving.{Giving, receiving_by}
 use Rattle.dtx_jobs.specs.Shapes.{segments}
+use Rattle.dtx_jobs.specs.Transform.{transform_meaning}
 
 -- what is given where each word is mended
 abbrev pub with_mendings : Giving
@@ -19,5 +19,4 @@ mending_symbols = receiving_by with_mendings
 
 -- what `mend IN OUT` means
 abbrev pub mend_meaning : List (List ℕ) → Files → Meaning
-mend_meaning (verb ∷ input ∷ output ∷ []) held = transformed segments mending_symbols input output held
-mend_meaning words held = refused Usage
+mend_meaning words held = transform_meaning segments mending_symbols words held

@@ -2,14 +2,14 @@
 use Rattle.std.specs.Prelude.{◌≡◌, ℕ, ℤ, false, Some, List, [], ◌∷◌}
 use Rattle.std.specs.FinMap.{get}
 use Rattle.std.specs.Str.{bytes_eq}
-use Rattle.dtx_engine.specs.Recipe.{Recipe, transformed}
-use Rattle.dtx_meaning.specs.Meaning.{Meaning, refused}
+use Rattle.dtx_engine.specs.Recipe.{Recipe}
+use Rattle.dtx_meaning.specs.Meaning.{Meaning}
 use Rattle.dtx_meaning.specs.declared.status.Outcome.{Outcome}
-use Rattle.dtx_meaning.specs.declared.status.Status.TheVariants.{Usage}
 use Rattle.dtx_outside.specs.Shelf.{Files}
 use Rattle.dtx_receiver.specs.Packets.{all_packets, packets_so_far, received}
 use Rattle.dtx_jobs.specs.Giving.{Giving, all_bytes, answer_of, receiving_by}
 use Rattle.dtx_jobs.specs.Shapes.{segments}
+use Rattle.dtx_jobs.specs.Transform.{transform_meaning}
 
 -- what is given where each word is corrected
 abbrev pub with_corrections : Giving
@@ -29,8 +29,7 @@ receiving = receiving_by with_corrections
 
 -- what `receive IN OUT` means
 abbrev pub receive_meaning : List (List ℕ) → Files → Meaning
-receive_meaning (verb ∷ input ∷ output ∷ []) held = transformed segments receiving input output held
-receive_meaning words held = refused Usage
+receive_meaning words held = transform_meaning segments receiving words held
 
 -- `receive` writes these bytes of that symbol file, whatever the names of its files are
 abbrev pub IsWritten : List ℕ → List ℕ → Type 0

@@ -5,15 +5,16 @@ use Rattle.std.specs.Prelude.{◌∷◌, ◌++◌, length, map, sum, take, drop,
 use Rattle.std.proofs.Common.{zero, suc}
 use Rattle.std.specs.List.{range_with_len}
 use Rattle.dtx_engine.specs.Made.{only}
-use Rattle.dtx_engine.specs.Recipe.{Recipe, transformed}
+use Rattle.dtx_engine.specs.Recipe.{Recipe}
 use Rattle.dtx_files.specs.Symbols.{segment_bytes}
-use Rattle.dtx_meaning.specs.Meaning.{Meaning, refused}
-use Rattle.dtx_meaning.specs.declared.status.Status.TheVariants.{Done, Usage}
+use Rattle.dtx_meaning.specs.Meaning.{Meaning}
+use Rattle.dtx_meaning.specs.declared.status.Status.TheVariants.{Done}
 use Rattle.dtx_outside.specs.Shelf.{Files}
 use Rattle.dtx_receiver.specs.Runs.{sync_due, tracked}
 use Rattle.dtx_soft.specs.Softened.{softened, softened_cost}
 use Rattle.dtx_jobs.specs.Shapes as shapes
 use Rattle.dtx_jobs.specs.SymbolFile.{file_segments}
+use Rattle.dtx_jobs.specs.Transform.{transform_meaning}
 
 -- ---- places
 
@@ -97,8 +98,7 @@ softening = record {
 
 -- what `soft IN OUT` means
 abbrev pub soft_meaning : List (List ℕ) → Files → Meaning
-soft_meaning (verb ∷ input ∷ output ∷ []) held = transformed shapes.segments softening input output held
-soft_meaning words held = refused Usage
+soft_meaning words held = transform_meaning shapes.segments softening words held
 
 -- ---- a field
 

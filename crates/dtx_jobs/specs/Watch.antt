@@ -2,10 +2,10 @@
 use Rattle.std.specs.Prelude.{ℕ, true, List, [], ◌∷◌, length}
 use Rattle.std.specs.List.{sum_by}
 use Rattle.dtx_engine.specs.Made.{only}
-use Rattle.dtx_engine.specs.Recipe.{Recipe, transformed}
-use Rattle.dtx_meaning.specs.Meaning.{Meaning, refused}
+use Rattle.dtx_engine.specs.Recipe.{Recipe}
+use Rattle.dtx_meaning.specs.Meaning.{Meaning}
 use Rattle.dtx_meaning.specs.declared.status.Outcome.{Outcome}
-use Rattle.dtx_meaning.specs.declared.status.Status.TheVariants.{Done, Usage}
+use Rattle.dtx_meaning.specs.declared.status.Status.TheVariants.{Done}
 use Rattle.dtx_outside.specs.Shelf.{Files}
 use Rattle.dtx_packets.specs.Packets.{packets_of}
 use Rattle.dtx_watch.specs.Watch.{watch, told, waiting}
@@ -18,6 +18,7 @@ use Rattle.dtx_watch.specs.declared.notes.StatesNote.TheVariants as states
 use Rattle.dtx_watch.specs.declared.notes.ClockNote.{ClockNote}
 use Rattle.dtx_watch.specs.declared.notes.ClockNote.TheVariants as clock
 use Rattle.dtx_jobs.specs.Shapes.{single_packets}
+use Rattle.dtx_jobs.specs.Transform.{transform_meaning}
 use Rattle.dtx_jobs.specs.declared.watch_tally.WatchTally.{WatchTally}
 
 -- ---- the text
@@ -100,5 +101,4 @@ watching = record {
 
 -- what `watch FEED OUT` means
 abbrev pub watch_meaning : List (List ℕ) → Files → Meaning
-watch_meaning (verb ∷ feed ∷ output ∷ []) held = transformed single_packets watching feed output held
-watch_meaning words held = refused Usage
+watch_meaning words held = transform_meaning single_packets watching words held

@@ -84,7 +84,7 @@ impl Engine for Acquisition {
     fn finish(&mut self, _loose: usize) -> Outcome {
         self.symbols.clear();
         self.acquirer.finish();
-        gather(self.acquirer.given(), &mut self.symbols);
+        self.symbols.push_all(self.acquirer.given());
         answer(&self.acquirer)
     }
 
@@ -173,7 +173,7 @@ fn acquire_all(acquirer: &mut Acquirer, piece: &[i8], gathered: &mut SymbolBuffe
     let mut done = 0;
     while done < piece.len() {
         done += acquirer.take(&piece[done..]);
-        gather(acquirer.given(), gathered);
+        gathered.push_all(acquirer.given());
     }
 }
 
@@ -200,16 +200,5 @@ fn answer(acquirer: &Acquirer) -> Outcome
             0,
         ],
         shown: 5,
-    }
-}
-
-/// Puts the symbols of segments behind those that are gathered.
-fn gather(segments: &[[i8; SEGMENT]], symbols: &mut SymbolBuffer<ACQUIRED_BYTES>)
-    requires { length symbols.old + SEGMENT * length segments.now ≤ ACQUIRED_BYTES }
-    ensures bytes { symbols.new ≡ symbols.old ++ segment_bytes segments.now }
-    ensures long { length symbols.new ≡ length symbols.old + SEGMENT * length segments.now }
-{
-    for i in 0..segments.len() {
-        symbols.push(&segments[i]);
     }
 }

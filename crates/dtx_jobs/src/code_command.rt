@@ -1,19 +1,16 @@
 // `code IN OUT`: the symbols of a stream.
 ghost use Rattle.std.specs.Prelude.{Some, IfSome};
-ghost use Rattle.std.specs.Str.{bytes_eq};
-ghost use Rattle.dtx_engine.specs.Recipe.{transformed};
 ghost use Rattle.dtx_meaning.specs.Meaning.{IsCarriedOut};
-ghost use Rattle.dtx_meaning.specs.Status.{IsOfInputs, blame_of};
+ghost use Rattle.dtx_meaning.specs.Status.{blame_of};
 ghost use Rattle.dtx_outside.specs.Counts.{HasGone};
 ghost use Rattle.dtx_words.specs.declared.rows.Command.TheVariants as command;
 ghost use Rattle.dtx_jobs.specs.Answers.{Knows};
-ghost use Rattle.dtx_jobs.specs.Code.{code_meaning, coding};
+ghost use Rattle.dtx_jobs.specs.Code.{code_meaning};
 ghost use Rattle.dtx_jobs.specs.OfWords.{IsOfWords, two_same};
-ghost use Rattle.dtx_jobs.specs.Shapes as shapes;
 
 use crate::stream_coder::StreamCoder;
-use dtx_engine::transform;
-use dtx_meaning::{Outcome, Status, ended};
+use crate::transforming::transform;
+use dtx_meaning::Outcome;
 use dtx_outside::{Shelf, Word};
 use std::alloc::Global;
 
@@ -28,23 +25,5 @@ pub fn code<S: Shelf>(alloc: Global, words: &[Word], shelf: &mut S) -> Outcome
     ensures answers { Knows command.Code result.status }
     ensures gone { HasGone (S.counts shelf.old) (S.counts shelf.new) (blame_of result.status) }
 {
-    match words {
-        [_, input, output] => code_files(alloc, input.as_str(), output.as_str(), shelf),
-        _ => ended(Status::Usage),
-    }
-}
-
-/// Does so with files of these names.
-#[inline(never)]
-fn code_files<S: Shelf>(alloc: Global, input: &str, output: &str, shelf: &mut S) -> Outcome
-    ensures carried { IfSome (S.files shelf.old) (λ held. IsCarriedOut
-        (transformed shapes.coded_packets coding input.now output.now held) (Some held) result (S.files shelf.new)) }
-    ensures words { IsOfInputs (bytes_eq input.now output.now) 1 result.status }
-    ensures answers { Knows command.Code result.status }
-    ensures gone { HasGone (S.counts shelf.old) (S.counts shelf.new) (blame_of result.status) }
-{
-    match StreamCoder::new(alloc) {
-        Ok(mut coder) => transform(alloc, &mut coder, input, output, shelf),
-        Err(_) => ended(Status::Memory),
-    }
+    transform::<StreamCoder, S>(alloc, words, shelf)
 }

@@ -1,19 +1,16 @@
 // `dvb code IN OUT`: a stream by the outer coding of DVB.
 ghost use Rattle.std.specs.Prelude.{Some, IfSome};
-ghost use Rattle.std.specs.Str.{bytes_eq};
-ghost use Rattle.dtx_engine.specs.Recipe.{transformed};
 ghost use Rattle.dtx_meaning.specs.Meaning.{IsCarriedOut};
-ghost use Rattle.dtx_meaning.specs.Status.{IsOfInputs, blame_of};
+ghost use Rattle.dtx_meaning.specs.Status.{blame_of};
 ghost use Rattle.dtx_outside.specs.Counts.{HasGone};
 ghost use Rattle.dtx_words.specs.declared.rows.Command.TheVariants as command;
 ghost use Rattle.dtx_jobs.specs.Answers.{Knows};
-ghost use Rattle.dtx_jobs.specs.DvbCode.{dvb_code_meaning, dvb_coding};
+ghost use Rattle.dtx_jobs.specs.DvbCode.{dvb_code_meaning};
 ghost use Rattle.dtx_jobs.specs.OfWords.{IsOfWords, dvb_same};
-ghost use Rattle.dtx_jobs.specs.Shapes as shapes;
 
 use crate::dvb_coding::DvbCoding;
-use dtx_engine::transform;
-use dtx_meaning::{Outcome, Status, ended};
+use crate::transforming::transform_dvb;
+use dtx_meaning::Outcome;
 use dtx_outside::{Shelf, Word};
 use std::alloc::Global;
 
@@ -27,24 +24,5 @@ pub fn dvb_code<S: Shelf>(alloc: Global, words: &[Word], shelf: &mut S) -> Outco
     ensures answers { Knows command.DvbCode result.status }
     ensures gone { HasGone (S.counts shelf.old) (S.counts shelf.new) (blame_of result.status) }
 {
-    match words {
-        [_, _, input, output] => dvb_code_files(alloc, input.as_str(), output.as_str(), shelf),
-        _ => ended(Status::Usage),
-    }
-}
-
-/// Does so with files of these names.
-#[inline(never)]
-fn dvb_code_files<S: Shelf>(alloc: Global, input: &str, output: &str, shelf: &mut S) -> Outcome
-    ensures carried { IfSome (S.files shelf.old) (λ held. IsCarriedOut
-        (transformed shapes.dvb_packets dvb_coding input.now output.now held)
-        (Some held) result (S.files shelf.new)) }
-    ensures words { IsOfInputs (bytes_eq input.now output.now) 1 result.status }
-    ensures answers { Knows command.DvbCode result.status }
-    ensures gone { HasGone (S.counts shelf.old) (S.counts shelf.new) (blame_of result.status) }
-{
-    match DvbCoding::new(alloc) {
-        Ok(mut coding) => transform(alloc, &mut coding, input, output, shelf),
-        Err(_) => ended(Status::Memory),
-    }
+    transform_dvb::<DvbCoding, S>(alloc, words, shelf)
 }

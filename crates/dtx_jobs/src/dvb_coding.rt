@@ -1,10 +1,11 @@
 // Coding a stream by the outer coding of DVB, a piece of its packets at a time.
-ghost use Rattle.std.specs.Prelude.{◌≡◌, ◌+◌, ◌*◌, ◌/◌, ◌%◌, ◌≤◌, ◌++◌, ◌∷◌, [], ℕ, List, IfOk, length};
+ghost use Rattle.std.specs.Prelude.{◌≡◌, ◌+◌, ◌*◌, ◌/◌, ◌%◌, ◌≤◌, ◌++◌, ◌∷◌, [], ℕ, List, length};
 ghost use Rattle.std.specs.List.{flat_map};
 ghost use Rattle.dtx_packets.specs.Packets.{packets_of};
-ghost use Rattle.dtx_jobs.specs.DvbCoding.{IsSending, WasSent};
+ghost use Rattle.dtx_jobs.specs.DvbCoding.{IsSending};
 
 use crate::shapes::{DVB_PIECE_PACKETS, dvb_packets};
+use crate::transforming::Transforming;
 use dtx_dvb::{BLOCK, DvbOut, FOUR, FOUR_BLOCKS, PERIOD_PACKETS};
 use dtx_engine::{Buffer, Engine, Shape};
 use dtx_meaning::{Outcome, Status};
@@ -26,17 +27,6 @@ pub(crate) struct DvbCoding {
 }
 
 impl DvbCoding {
-    /// Nothing was sent.
-    pub(crate) fn new(alloc: Global) -> Result<DvbCoding, AllocError>
-        ensures { IfOk result (λ coding. WasSent coding []) }
-    {
-        Ok(DvbCoding {
-            coder: Box::new(alloc, DvbOut::new(alloc)?)?,
-            sent: Buffer::new(alloc)?,
-            packets: 0,
-        })
-    }
-
     /// Sends the packets of a piece, the first of which has that number.
     fn send(&mut self, first: u64, bytes: &[u8])
         requires room { length self.old.sent + BLOCK * (length bytes.now / PACKET) ≤ SENT_BYTES }
@@ -158,4 +148,24 @@ impl Engine for DvbCoding {
     ghost starts = { λ _. sends_none };
 
     ghost grows = { λ _ a b whole. sends_more a b whole };
+}
+
+impl Transforming for DvbCoding {
+    ghost use Rattle.dtx_words.specs.declared.rows.Command.TheVariants as command;
+    ghost use Rattle.dtx_jobs.specs.AnswersLaws.{dvb_code_knows};
+    ghost use Rattle.dtx_jobs.specs.DvbCode.{dvb_coding};
+
+    ghost command = { command.DvbCode };
+
+    ghost makes = { dvb_coding };
+
+    fn new(alloc: Global) -> Result<DvbCoding, AllocError> {
+        Ok(DvbCoding {
+            coder: Box::new(alloc, DvbOut::new(alloc)?)?,
+            sent: Buffer::new(alloc)?,
+            packets: 0,
+        })
+    }
+
+    ghost knows = { dvb_code_knows };
 }

@@ -1,19 +1,16 @@
 // `dvb read IN OUT`: the packets of a stream that the outer coding of DVB has sent.
 ghost use Rattle.std.specs.Prelude.{Some, IfSome};
-ghost use Rattle.std.specs.Str.{bytes_eq};
-ghost use Rattle.dtx_engine.specs.Recipe.{transformed};
 ghost use Rattle.dtx_meaning.specs.Meaning.{IsCarriedOut};
-ghost use Rattle.dtx_meaning.specs.Status.{IsOfInputs, blame_of};
+ghost use Rattle.dtx_meaning.specs.Status.{blame_of};
 ghost use Rattle.dtx_outside.specs.Counts.{HasGone};
 ghost use Rattle.dtx_words.specs.declared.rows.Command.TheVariants as command;
 ghost use Rattle.dtx_jobs.specs.Answers.{Knows};
-ghost use Rattle.dtx_jobs.specs.DvbRead.{dvb_read_meaning, dvb_reading};
+ghost use Rattle.dtx_jobs.specs.DvbRead.{dvb_read_meaning};
 ghost use Rattle.dtx_jobs.specs.OfWords.{IsOfWords, dvb_same};
-ghost use Rattle.dtx_jobs.specs.Shapes as shapes;
 
 use crate::dvb_reading::DvbReading;
-use dtx_engine::transform;
-use dtx_meaning::{Outcome, Status, ended};
+use crate::transforming::transform_dvb;
+use dtx_meaning::Outcome;
 use dtx_outside::{Shelf, Word};
 use std::alloc::Global;
 
@@ -29,23 +26,5 @@ pub fn dvb_read<S: Shelf>(alloc: Global, words: &[Word], shelf: &mut S) -> Outco
     ensures answers { Knows command.DvbRead result.status }
     ensures gone { HasGone (S.counts shelf.old) (S.counts shelf.new) (blame_of result.status) }
 {
-    match words {
-        [_, _, input, output] => dvb_read_files(alloc, input.as_str(), output.as_str(), shelf),
-        _ => ended(Status::Usage),
-    }
-}
-
-/// Does so with files of these names.
-#[inline(never)]
-fn dvb_read_files<S: Shelf>(alloc: Global, input: &str, output: &str, shelf: &mut S) -> Outcome
-    ensures carried { IfSome (S.files shelf.old) (λ held. IsCarriedOut
-        (transformed shapes.blocks dvb_reading input.now output.now held) (Some held) result (S.files shelf.new)) }
-    ensures words { IsOfInputs (bytes_eq input.now output.now) 1 result.status }
-    ensures answers { Knows command.DvbRead result.status }
-    ensures gone { HasGone (S.counts shelf.old) (S.counts shelf.new) (blame_of result.status) }
-{
-    match DvbReading::new(alloc) {
-        Ok(mut reading) => transform(alloc, &mut reading, input, output, shelf),
-        Err(_) => ended(Status::Memory),
-    }
+    transform_dvb::<DvbReading, S>(alloc, words, shelf)
 }

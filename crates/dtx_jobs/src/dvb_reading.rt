@@ -1,14 +1,15 @@
 // Reading a stream of the outer coding of DVB back, a piece of its blocks at a time.
-ghost use Rattle.std.specs.Prelude.{◌≡◌, ◌+◌, ◌*◌, ◌/◌, ◌%◌, ◌<◌, ◌≤◌, ◌++◌, ◌∷◌, [], ℕ, List, IfOk, length};
+ghost use Rattle.std.specs.Prelude.{◌≡◌, ◌+◌, ◌*◌, ◌/◌, ◌%◌, ◌<◌, ◌≤◌, ◌++◌, ◌∷◌, [], ℕ, List, length};
 ghost use Rattle.std.specs.Prelude.{slice_index_or};
 ghost use Rattle.std.specs.List.{flat_map, range_with_len};
 ghost use Rattle.dtx_dvb.specs.Given.{given};
 ghost use Rattle.dtx_dvb.specs.Read.{Read, fixed_of, flag_of};
 ghost use Rattle.dtx_dvb.specs.Reading.{read_dvb};
 ghost use Rattle.dtx_jobs.specs.DvbRead.{bytes_of_reads};
-ghost use Rattle.dtx_jobs.specs.DvbReading.{IsBounded, HasGathered, IsReading, WasRead};
+ghost use Rattle.dtx_jobs.specs.DvbReading.{IsBounded, HasGathered, IsReading};
 
 use crate::shapes::blocks;
+use crate::transforming::Transforming;
 use dtx_dvb::{BLOCK, DvbIn, FOUR, FOUR_BLOCKS, WAITING};
 use dtx_engine::{Buffer, Engine, Shape};
 use dtx_meaning::{Outcome, Status};
@@ -35,19 +36,6 @@ pub(crate) struct DvbReading {
 }
 
 impl DvbReading {
-    /// Nothing was read.
-    pub(crate) fn new(alloc: Global) -> Result<DvbReading, AllocError>
-        ensures { IfOk result (λ reading. WasRead reading []) }
-    {
-        Ok(DvbReading {
-            reader: Box::new(alloc, DvbIn::new(alloc)?)?,
-            packets: Buffer::new(alloc)?,
-            blocks: 0,
-            fixed: 0,
-            flagged: 0,
-        })
-    }
-
     /// Reads the blocks of a piece.
     fn read(&mut self, bytes: &[u8])
         requires whole { length bytes.now % BLOCK ≡ 0 }
@@ -224,6 +212,28 @@ impl Engine for DvbReading {
     ghost starts = { λ _. reads_none };
 
     ghost grows = { λ _ a b whole. reads_more a b whole };
+}
+
+impl Transforming for DvbReading {
+    ghost use Rattle.dtx_words.specs.declared.rows.Command.TheVariants as command;
+    ghost use Rattle.dtx_jobs.specs.AnswersLaws.{dvb_read_knows};
+    ghost use Rattle.dtx_jobs.specs.DvbRead.{dvb_reading};
+
+    ghost command = { command.DvbRead };
+
+    ghost makes = { dvb_reading };
+
+    fn new(alloc: Global) -> Result<DvbReading, AllocError> {
+        Ok(DvbReading {
+            reader: Box::new(alloc, DvbIn::new(alloc)?)?,
+            packets: Buffer::new(alloc)?,
+            blocks: 0,
+            fixed: 0,
+            flagged: 0,
+        })
+    }
+
+    ghost knows = { dvb_read_knows };
 }
 
 /// How many bytes were put right of a word that was taken so.

@@ -39,6 +39,7 @@ mod stream_coder;
 mod symbol_buffer;
 pub mod symbol_laws;
 mod tally;
+mod transforming;
 mod transmitting;
 mod watch_command;
 mod watch_tally;

@@ -1,20 +1,17 @@
 // `mend IN OUT`: the packets of a symbol file of which some symbols are missing.
 ghost use Rattle.std.specs.Prelude.{Some, IfSome};
-ghost use Rattle.std.specs.Str.{bytes_eq};
-ghost use Rattle.dtx_engine.specs.Recipe.{transformed};
 ghost use Rattle.dtx_meaning.specs.Meaning.{IsCarriedOut};
-ghost use Rattle.dtx_meaning.specs.Status.{IsOfInputs, blame_of};
+ghost use Rattle.dtx_meaning.specs.Status.{blame_of};
 ghost use Rattle.dtx_outside.specs.Counts.{HasGone};
 ghost use Rattle.dtx_words.specs.declared.rows.Command.TheVariants as command;
 ghost use Rattle.dtx_jobs.specs.Answers.{Knows};
-ghost use Rattle.dtx_jobs.specs.Mend.{mend_meaning, mending_symbols};
+ghost use Rattle.dtx_jobs.specs.Mend.{mend_meaning};
 ghost use Rattle.dtx_jobs.specs.OfWords.{IsOfWords, two_same};
-ghost use Rattle.dtx_jobs.specs.Shapes as shapes;
 
 use crate::reception::Reception;
-use dtx_engine::transform;
+use crate::transforming::transform;
 use dtx_erase::MendReceiver;
-use dtx_meaning::{Outcome, Status, ended};
+use dtx_meaning::Outcome;
 use dtx_outside::{Shelf, Word};
 use std::alloc::Global;
 
@@ -30,24 +27,5 @@ pub fn mend<S: Shelf>(alloc: Global, words: &[Word], shelf: &mut S) -> Outcome
     ensures answers { Knows command.Mend result.status }
     ensures gone { HasGone (S.counts shelf.old) (S.counts shelf.new) (blame_of result.status) }
 {
-    match words {
-        [_, input, output] => mend_files(alloc, input.as_str(), output.as_str(), shelf),
-        _ => ended(Status::Usage),
-    }
-}
-
-/// Does so with files of these names.
-#[inline(never)]
-fn mend_files<S: Shelf>(alloc: Global, input: &str, output: &str, shelf: &mut S) -> Outcome
-    ensures carried { IfSome (S.files shelf.old) (λ held. IsCarriedOut
-        (transformed shapes.segments mending_symbols input.now output.now held) (Some held) result
-        (S.files shelf.new)) }
-    ensures words { IsOfInputs (bytes_eq input.now output.now) 1 result.status }
-    ensures answers { Knows command.Mend result.status }
-    ensures gone { HasGone (S.counts shelf.old) (S.counts shelf.new) (blame_of result.status) }
-{
-    match Reception::<MendReceiver>::new(alloc) {
-        Ok(mut reception) => transform(alloc, &mut reception, input, output, shelf),
-        Err(_) => ended(Status::Memory),
-    }
+    transform::<Reception<MendReceiver>, S>(alloc, words, shelf)
 }

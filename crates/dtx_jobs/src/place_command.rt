@@ -9,8 +9,9 @@ ghost use Rattle.dtx_jobs.specs.OfWords.{IsOfWords, two_same};
 ghost use Rattle.dtx_jobs.specs.Place.{place_meaning};
 
 use crate::placing::Placing;
-use dtx_engine::{Each, transform};
-use dtx_meaning::{Outcome, Status, ended};
+use crate::transforming::transform;
+use dtx_engine::Each;
+use dtx_meaning::Outcome;
 use dtx_outside::{Shelf, Word};
 use std::alloc::Global;
 
@@ -25,11 +26,5 @@ pub fn place<S: Shelf>(alloc: Global, words: &[Word], shelf: &mut S) -> Outcome
     ensures answers { Knows command.Place result.status }
     ensures gone { HasGone (S.counts shelf.old) (S.counts shelf.new) (blame_of result.status) }
 {
-    match words {
-        [_, input, output] => {
-            let mut placing = Each::new(Placing::new());
-            transform(alloc, &mut placing, input.as_str(), output.as_str(), shelf)
-        }
-        _ => ended(Status::Usage),
-    }
+    transform::<Each<Placing>, S>(alloc, words, shelf)
 }

@@ -3,12 +3,15 @@ ghost use Rattle.std.specs.Prelude.{◌≡◌, ◌≢◌, ◌+◌, ◌-◌, ◌<
 ghost use Rattle.std.specs.Prelude.{false, if◌then◌else◌, length, []};
 ghost use Rattle.dtx_adapter.specs.Feed.{is_placeholder};
 ghost use Rattle.dtx_packets.specs.Packet.{pid_of};
+ghost use Rattle.dtx_jobs.specs.Place as place;
 ghost use Rattle.dtx_jobs.specs.Place.{IsCounted, as_placeholder};
 
 use crate::shapes::single_packets;
-use dtx_engine::{Change, Shape};
+use crate::transforming::Transforming;
+use dtx_engine::{Change, Each, Shape};
 use dtx_meaning::{Outcome, Status};
 use dtx_sizes::{FIELD_PACKETS, FLUSHING_PACKETS, NULL_PID, OPERATIONS_PID, SYNC};
+use std::alloc::{AllocError, Global};
 
 /// The first place of a field at which a placeholder is put: so many packets behind its first packet.
 const FIRST_PLACE: u64 = FLUSHING_PACKETS as u64;
@@ -84,10 +87,10 @@ impl Change for Placing {
     }
 
     fn change(&mut self, index: u64, unit: &mut [u8]) {
-        let pid = pid(unit);
-        let null = pid == NULL_PID;
-        let first = self.meets(index % FIELD_PACKETS as u64, null || pid == OPERATIONS_PID);
-        if first && null {
+        let null = is_null(unit);
+        let first = self.meets(index % FIELD_PACKETS as u64, is_open(unit));
+        let becomes = first & null;
+        if becomes {
             become_placeholder(unit);
             self.placed += 1;
         }
@@ -100,6 +103,38 @@ impl Change for Placing {
             shown: 4,
         }
     }
+}
+
+impl Transforming for Each<Placing> {
+    ghost use Rattle.dtx_words.specs.declared.rows.Command.TheVariants as command;
+    ghost use Rattle.dtx_jobs.specs.AnswersLaws.{place_knows};
+    ghost use Rattle.dtx_jobs.specs.Place.{placing};
+
+    ghost command = { command.Place };
+
+    ghost makes = { placing };
+
+    fn new(_alloc: Global) -> Result<Each<Placing>, AllocError> {
+        Ok(Each::new(Placing::new()))
+    }
+
+    ghost knows = { place_knows };
+}
+
+/// Whether a placeholder may stand in the place of a packet: it is a null packet, or a placeholder already.
+fn is_open(packet: &[u8]) -> bool
+    requires { 2 < length packet.now }
+    ensures { result ≡ place.is_open packet.now }
+{
+    is_null(packet) | (pid(packet) == OPERATIONS_PID)
+}
+
+/// Whether it is a null packet.
+fn is_null(packet: &[u8]) -> bool
+    requires { 2 < length packet.now }
+    ensures { result ≡ place.is_null packet.now }
+{
+    pid(packet) == NULL_PID
 }
 
 /// The packet identifier of a packet.

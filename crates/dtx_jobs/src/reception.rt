@@ -6,9 +6,10 @@ ghost use Rattle.dtx_jobs.specs.Reception.{IsReceiving, WasGiven};
 ghost use Rattle.dtx_jobs.specs.SymbolFile.{file_segments, symbol_of_byte, symbols};
 ghost use Rattle.dtx_jobs.specs.Tally.{IsBounded, tally_of};
 
-use crate::segment_receiver::SegmentReceiver;
+use crate::segment_receiver::{Receiving, SegmentReceiver};
 use crate::shapes::{PIECE_SEGMENTS, segments};
 use crate::tally::Tally;
+use crate::transforming::Transforming;
 use dtx_engine::{Buffer, Engine, Shape};
 use dtx_meaning::{Outcome, Status, ended};
 use dtx_receiver::{Batch, MOST_RECEIVED, Received, Tracking};
@@ -161,6 +162,20 @@ impl<R: SegmentReceiver> Engine for Reception<R> {
     ghost starts = { λ _. receives_none R.giving R.gives };
 
     ghost grows = { λ _ a b whole. receives_more R.giving R.gives a b whole };
+}
+
+impl<R: Receiving> Transforming for Reception<R> {
+    ghost use Rattle.dtx_jobs.specs.Giving.{receiving_by};
+
+    ghost command = { R.command };
+
+    ghost makes = { receiving_by R.giving };
+
+    fn new(alloc: Global) -> Result<Reception<R>, AllocError> {
+        Reception::new(alloc)
+    }
+
+    ghost knows = { R.knows };
 }
 
 /// How many runs begin with a segment that is told to be this.

@@ -39,6 +39,21 @@ pub trait SegmentReceiver: Drop {
     ghost gives: { IsGiving giving };
 }
 
+/// A receiver whose packets are what a command writes.
+pub(crate) trait Receiving: SegmentReceiver {
+    ghost use Rattle.dtx_engine.specs.Recipe.{IsAnswerOf};
+    ghost use Rattle.dtx_meaning.specs.declared.status.Status.{Status};
+    ghost use Rattle.dtx_words.specs.declared.rows.Command.{Command};
+    ghost use Rattle.dtx_jobs.specs.Answers.{Knows};
+    ghost use Rattle.dtx_jobs.specs.Giving.{receiving_by};
+
+    /// The command.
+    ghost command: { Command };
+
+    /// The command knows how it may be answered.
+    ghost knows: { (status : Status) → IsAnswerOf (receiving_by Self.giving) status → Knows command status };
+}
+
 impl SegmentReceiver for Receiver {
     ghost use Rattle.dtx_receiver.specs.Receiver.{StandsFor};
     ghost use Rattle.dtx_jobs.specs.ReceiveLaws.{corrections_given};
@@ -85,4 +100,22 @@ impl SegmentReceiver for MendReceiver {
     }
 
     ghost gives = { mendings_given };
+}
+
+impl Receiving for Receiver {
+    ghost use Rattle.dtx_words.specs.declared.rows.Command.TheVariants as command;
+    ghost use Rattle.dtx_jobs.specs.AnswersLaws.{receive_knows};
+
+    ghost command = { command.Receive };
+
+    ghost knows = { receive_knows };
+}
+
+impl Receiving for MendReceiver {
+    ghost use Rattle.dtx_words.specs.declared.rows.Command.TheVariants as command;
+    ghost use Rattle.dtx_jobs.specs.AnswersLaws.{mend_knows};
+
+    ghost command = { command.Mend };
+
+    ghost knows = { mend_knows };
 }

@@ -1,5 +1,5 @@
 // Softening symbols, a piece of their file at a time.
-ghost use Rattle.std.specs.Prelude.{◌≡◌, ◌+◌, ◌*◌, ◌/◌, ◌%◌, ◌<◌, ◌≤◌, ◌++◌, ◌∷◌, [], ℕ, ℤ, List, IfOk};
+ghost use Rattle.std.specs.Prelude.{◌≡◌, ◌+◌, ◌*◌, ◌/◌, ◌%◌, ◌<◌, ◌≤◌, ◌++◌, ◌∷◌, [], ℕ, ℤ, List};
 ghost use Rattle.std.specs.Prelude.{Some, None, length, take};
 ghost use Rattle.std.specs.Prelude.{vec_len};
 ghost use Rattle.std.specs.Prelude.{slice_index_or, IfSome, unwrap_or, if◌then◌else◌};
@@ -8,12 +8,13 @@ ghost use Rattle.dtx_frame.specs.Detection.{looks_like};
 ghost use Rattle.dtx_soft.specs.CostLaws.{AreSigned};
 ghost use Rattle.dtx_soft.specs.Softened.{softened, softened_cost};
 ghost use Rattle.dtx_jobs.specs.Soft.{flushed, groups_in, has_group, soft_rest, soft_so_far};
-ghost use Rattle.dtx_jobs.specs.Softening.{IsKept, IsSigned, IsSoftening, WasSoftened, kept_rows};
+ghost use Rattle.dtx_jobs.specs.Softening.{IsKept, IsSigned, IsSoftening, kept_rows};
 ghost use Rattle.dtx_jobs.specs.SymbolFile.{file_segments, symbols};
 
 use crate::reception::to_symbols;
 use crate::shapes::{PIECE_SEGMENTS, segments};
 use crate::symbol_buffer::SymbolBuffer;
+use crate::transforming::Transforming;
 use dtx_engine::{Engine, Shape};
 use dtx_frame::looks;
 use dtx_meaning::{Outcome, Status};
@@ -45,22 +46,6 @@ pub(crate) struct Softening {
 }
 
 impl Softening {
-    /// Nothing was softened.
-    pub(crate) fn new(alloc: Global) -> Result<Softening, AllocError>
-        ensures { IfOk result (λ s. WasSoftened s []) }
-    {
-        Ok(Softening {
-            soft: Soft::new(alloc)?,
-            field: vec![in alloc; [0; SEGMENT]; FIELD_ROWS]?,
-            place: None,
-            segment: [0; SEGMENT],
-            symbols: SymbolBuffer::new(alloc)?,
-            segments: 0,
-            fields: 0,
-            cost: 0,
-        })
-    }
-
     /// Takes segments, as the bytes of a file, and gathers the symbols that they bring.
     fn take_all(&mut self, bytes: &[u8])
         requires most { self.old.segments + length bytes.now / SEGMENT ≤ MOST_SEGMENTS }
@@ -227,6 +212,31 @@ impl Engine for Softening {
     ghost grows = { λ _ a b whole. softens_more a b whole };
 }
 
+impl Transforming for Softening {
+    ghost use Rattle.dtx_words.specs.declared.rows.Command.TheVariants as command;
+    ghost use Rattle.dtx_jobs.specs.AnswersLaws.{soft_knows};
+    ghost use Rattle.dtx_jobs.specs.Soft.{softening};
+
+    ghost command = { command.Soft };
+
+    ghost makes = { softening };
+
+    fn new(alloc: Global) -> Result<Softening, AllocError> {
+        Ok(Softening {
+            soft: Soft::new(alloc)?,
+            field: vec![in alloc; [0; SEGMENT]; FIELD_ROWS]?,
+            place: None,
+            segment: [0; SEGMENT],
+            symbols: SymbolBuffer::new(alloc)?,
+            segments: 0,
+            fields: 0,
+            cost: 0,
+        })
+    }
+
+    ghost knows = { soft_knows };
+}
+
 /// How many data segments of a field are before that place.
 fn rows_of(place: Option<u16>) -> usize
     requires { IfSome place (λ place. place < FIELD_ROWS) }
@@ -279,7 +289,7 @@ fn flush_rows(
     ensures scale { soft.new.scale ≡ 1 }
 {
     let cost = soften(soft, rows);
-    gather(rows, symbols);
+    symbols.push_all(rows);
     cost
 }
 
@@ -331,14 +341,3 @@ fn soften_groups(soft: &mut Soft, rows: &mut [[i8; SEGMENT]]) -> u64
 fn known(rows: &[[i8; SEGMENT]])
     ensures { (i : ℕ) → i < length rows.now → length (slice_index_or rows.now i []) ≡ SEGMENT }
 {}
-
-/// Puts the symbols of segments behind those that are gathered.
-fn gather(rows: &[[i8; SEGMENT]], symbols: &mut SymbolBuffer<SOFT_BYTES>)
-    requires { length symbols.old + SEGMENT * length rows.now ≤ SOFT_BYTES }
-    ensures bytes { symbols.new ≡ symbols.old ++ segment_bytes rows.now }
-    ensures long { length symbols.new ≡ length symbols.old + SEGMENT * length rows.now }
-{
-    for i in 0..rows.len() {
-        symbols.push(&rows[i]);
-    }
-}

@@ -1,13 +1,13 @@
 // Coding a stream, a piece of its packets at a time.
-ghost use Rattle.std.specs.Prelude.{◌≡◌, ◌+◌, ◌*◌, ◌/◌, ◌%◌, ◌<◌, ◌≤◌, ◌++◌, [], ℕ, List, IfOk, length, map, take};
+ghost use Rattle.std.specs.Prelude.{◌≡◌, ◌+◌, ◌*◌, ◌/◌, ◌%◌, ◌<◌, ◌≤◌, ◌++◌, [], ℕ, List, length, map, take};
 ghost use Rattle.dtx_coder.specs.Groups.{StandsFor};
 ghost use Rattle.dtx_coder.specs.Stream.{a53};
 ghost use Rattle.dtx_packets.specs.Packets.{packets_of, packets_from};
-ghost use Rattle.dtx_jobs.specs.StreamCoder.{WasCoded};
 ghost use Rattle.dtx_jobs.specs.Symbols.{symbol_bytes};
 
 use crate::shapes::{CODED_PACKETS, coded_packets};
 use crate::symbol_buffer::SymbolBuffer;
+use crate::transforming::Transforming;
 use dtx_coder::{AIR_SYMBOLS, Air, Coder};
 use dtx_engine::{Engine, Shape};
 use dtx_meaning::{Outcome, Status};
@@ -41,19 +41,6 @@ pub(crate) struct StreamCoder {
 }
 
 impl StreamCoder {
-    /// A coder to which no packet was given.
-    pub(crate) fn new(alloc: Global) -> Result<StreamCoder, AllocError>
-        ensures { IfOk result (λ coder. WasCoded coder []) }
-    {
-        Ok(StreamCoder {
-            coder: Box::new(alloc, Coder::new(alloc)?)?,
-            air: Air::new(),
-            group: [Packet([0; PACKET]); GROUP_PACKETS],
-            symbols: SymbolBuffer::new(alloc)?,
-            packets: 0,
-        })
-    }
-
     /// Codes the whole groups of a piece, whose first packet has that number.
     fn code_groups(&mut self, first: u64, bytes: &[u8])
         requires grouped { first % GROUP_PACKETS ≡ 0 }
@@ -154,6 +141,28 @@ impl Engine for StreamCoder {
     ghost starts = { λ _. codes_none };
 
     ghost grows = { λ _ a b whole. codes_more a b whole };
+}
+
+impl Transforming for StreamCoder {
+    ghost use Rattle.dtx_words.specs.declared.rows.Command.TheVariants as command;
+    ghost use Rattle.dtx_jobs.specs.AnswersLaws.{code_knows};
+    ghost use Rattle.dtx_jobs.specs.Code.{coding};
+
+    ghost command = { command.Code };
+
+    ghost makes = { coding };
+
+    fn new(alloc: Global) -> Result<StreamCoder, AllocError> {
+        Ok(StreamCoder {
+            coder: Box::new(alloc, Coder::new(alloc)?)?,
+            air: Air::new(),
+            group: [Packet([0; PACKET]); GROUP_PACKETS],
+            symbols: SymbolBuffer::new(alloc)?,
+            packets: 0,
+        })
+    }
+
+    ghost knows = { code_knows };
 }
 
 /// Sets the packets to those of a group's bytes.

@@ -1,19 +1,16 @@
 // `watch FEED OUT`: whether a feed is sound.
 ghost use Rattle.std.specs.Prelude.{Some, IfSome};
-ghost use Rattle.std.specs.Str.{bytes_eq};
-ghost use Rattle.dtx_engine.specs.Recipe.{transformed};
 ghost use Rattle.dtx_meaning.specs.Meaning.{IsCarriedOut};
-ghost use Rattle.dtx_meaning.specs.Status.{IsOfInputs, blame_of};
+ghost use Rattle.dtx_meaning.specs.Status.{blame_of};
 ghost use Rattle.dtx_outside.specs.Counts.{HasGone};
 ghost use Rattle.dtx_words.specs.declared.rows.Command.TheVariants as command;
 ghost use Rattle.dtx_jobs.specs.Answers.{Knows};
 ghost use Rattle.dtx_jobs.specs.OfWords.{IsOfWords, two_same};
-ghost use Rattle.dtx_jobs.specs.Shapes as shapes;
-ghost use Rattle.dtx_jobs.specs.Watch.{watch_meaning, watching};
+ghost use Rattle.dtx_jobs.specs.Watch.{watch_meaning};
 
+use crate::transforming::transform;
 use crate::watching::Watching;
-use dtx_engine::transform;
-use dtx_meaning::{Outcome, Status, ended};
+use dtx_meaning::Outcome;
 use dtx_outside::{Shelf, Word};
 use std::alloc::Global;
 
@@ -29,23 +26,5 @@ pub fn watch<S: Shelf>(alloc: Global, words: &[Word], shelf: &mut S) -> Outcome
     ensures answers { Knows command.Watch result.status }
     ensures gone { HasGone (S.counts shelf.old) (S.counts shelf.new) (blame_of result.status) }
 {
-    match words {
-        [_, feed, output] => watch_files(alloc, feed.as_str(), output.as_str(), shelf),
-        _ => ended(Status::Usage),
-    }
-}
-
-/// Does so with files of these names.
-#[inline(never)]
-fn watch_files<S: Shelf>(alloc: Global, feed: &str, output: &str, shelf: &mut S) -> Outcome
-    ensures carried { IfSome (S.files shelf.old) (λ held. IsCarriedOut
-        (transformed shapes.single_packets watching feed.now output.now held) (Some held) result (S.files shelf.new)) }
-    ensures words { IsOfInputs (bytes_eq feed.now output.now) 1 result.status }
-    ensures answers { Knows command.Watch result.status }
-    ensures gone { HasGone (S.counts shelf.old) (S.counts shelf.new) (blame_of result.status) }
-{
-    match Watching::new(alloc) {
-        Ok(mut watching) => transform(alloc, &mut watching, feed, output, shelf),
-        Err(_) => ended(Status::Memory),
-    }
+    transform::<Watching, S>(alloc, words, shelf)
 }

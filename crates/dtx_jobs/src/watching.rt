@@ -1,11 +1,12 @@
 // A feed that is watched, a piece of its packets at a time.
-ghost use Rattle.std.specs.Prelude.{◌≡◌, ◌+◌, ◌*◌, ◌/◌, ◌<◌, ◌≤◌, ◌++◌, ◌∷◌, [], ℕ, List, IfOk, length};
+ghost use Rattle.std.specs.Prelude.{◌≡◌, ◌+◌, ◌*◌, ◌/◌, ◌<◌, ◌≤◌, ◌++◌, ◌∷◌, [], ℕ, List, length};
 ghost use Rattle.dtx_packets.specs.Packets.{packets_of};
 ghost use Rattle.dtx_watch.specs.WatchText.{note_text, watch_text};
 ghost use Rattle.dtx_jobs.specs.Watch.{watched_bytes};
-ghost use Rattle.dtx_jobs.specs.Watching.{HasRoom, IsWatched, WasWatched, tally_of_one, tally_with};
+ghost use Rattle.dtx_jobs.specs.Watching.{HasRoom, IsWatched, tally_of_one, tally_with};
 
 use crate::shapes::single_packets;
+use crate::transforming::Transforming;
 use crate::watch_tally::WatchTally;
 use arrayvec::{ArrayString, ArrayVec};
 use dtx_engine::{Buffer, Engine, Shape};
@@ -34,19 +35,6 @@ pub(crate) struct Watching {
 }
 
 impl Watching {
-    /// Nothing was watched.
-    pub(crate) fn new(alloc: Global) -> Result<Watching, AllocError>
-        ensures { IfOk result (λ state. WasWatched state []) }
-    {
-        Ok(Watching {
-            watcher: Box::new(alloc, Watcher::new(alloc)?)?,
-            notes: ArrayVec::new(),
-            line: ArrayString::new(),
-            tally: WatchTally::new(),
-            lines: Buffer::new(alloc)?,
-        })
-    }
-
     /// Takes packets, as the bytes of a file, and gathers the lines that they bring.
     fn take_all(&mut self, bytes: &[u8])
         requires some { (before : List (List ℕ)) × IsWatched self.old before
@@ -161,4 +149,26 @@ impl Engine for Watching {
     ghost starts = { λ _. watches_none };
 
     ghost grows = { λ _ a b whole. watches_more a b whole };
+}
+
+impl Transforming for Watching {
+    ghost use Rattle.dtx_words.specs.declared.rows.Command.TheVariants as command;
+    ghost use Rattle.dtx_jobs.specs.AnswersLaws.{watch_knows};
+    ghost use Rattle.dtx_jobs.specs.Watch.{watching};
+
+    ghost command = { command.Watch };
+
+    ghost makes = { watching };
+
+    fn new(alloc: Global) -> Result<Watching, AllocError> {
+        Ok(Watching {
+            watcher: Box::new(alloc, Watcher::new(alloc)?)?,
+            notes: ArrayVec::new(),
+            line: ArrayString::new(),
+            tally: WatchTally::new(),
+            lines: Buffer::new(alloc)?,
+        })
+    }
+
+    ghost knows = { watch_knows };
 }

@@ -10,3 +10,9 @@ overflow_cast-scale g c =
 pub acquire_files-requires-clause-to : goal.acquire_files-requires-clause-to
 acquire_files-requires-clause-to g c =
     omega (arith, (within_range 1 18 c.args.scale.now (Some c.in-Some.scale) c.in-Some.ensures).1)
+
+pub returns-in-Some-clause-carried : goal.returns-in-Some-clause-carried
+returns-in-Some-clause-carried g c = rw (← c.in-Some.ensures) c.acquire_files.ensures.carried
+
+pub returns-in-Some-clause-words : goal.returns-in-Some-clause-words
+returns-in-Some-clause-words g c = rw (← c.in-Some.ensures) c.acquire_files.ensures.words

@@ -1,4 +1,4 @@
-use Rattle.std.proofs.Common.{◌≡◌, ◌+◌, ◌-◌, ◌<◌, ◌≤◌, ◌++◌, ℕ, ℤ, List, append_assoc, drop, length, length-drop}
+use Rattle.std.proofs.Common.{◌≡◌, ◌+◌, ◌-◌, ◌<◌, ◌++◌, ℕ, ℤ, List, append_assoc, drop, length, length-drop}
 use Rattle.std.proofs.Common.{take, sym, ap, ◌∙◌, subst}
 use Rattle.std.proofs.Common.{arith}
 use Rattle.std.proofs.Math.Seq.{take-add}
@@ -63,10 +63,10 @@ loop-done-preserved c =
           ∙ append_assoc (segment_bytes (acquired_so_far c.args.acquirer.now.scale before)) c.loop-done.gathered
           (segment_bytes c.take-done.new.self.given)
           ∙ ap (λ z. segment_bytes (acquired_so_far c.args.acquirer.now.scale before) ++ z)
-          (sym (c.gather.ensures.bytes ∙ ap (λ s. c.loop-done.gathered ++ segment_bytes s) c.given.ensures));
+          (sym (c.push_all.ensures.bytes ∙ ap (λ s. c.loop-done.gathered ++ segment_bytes s) c.given.ensures));
       scale = c.take-done.ensures.scale ∙ inv.scale;
       count = c.take-done.ensures.symbols ∙ ap (λ k. k + n) inv.count ∙ next;
-      room = omega (arith, c.gather.ensures.long, c.take-done.ensures.room, inv.room, brought);
+      room = omega (arith, c.push_all.ensures.long, c.take-done.ensures.room, inv.room, brought);
     }
 
 pub returns-clause-stands : goal.returns-clause-stands

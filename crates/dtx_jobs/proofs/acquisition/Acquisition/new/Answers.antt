@@ -1,5 +1,3 @@
-use Rattle.std.proofs.Common.{sym, subst}
-use Rattle.dtx_acquire.specs.Acquirer.{StandsFor}
 use Rattle.dtx_jobs.proofs.acquisition.Acquisition.new.Goals as goal
 
 pub returns-clause-stands : goal.returns-clause-stands

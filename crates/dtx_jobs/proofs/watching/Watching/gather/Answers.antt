@@ -1,10 +1,9 @@
-use Rattle.std.proofs.Common.{◌≡◌, ◌<◌, ◌≤◌, ◌+◌, ◌++◌, [], List, length, take, get_or, sym, ap, ◌∙◌, arith, subst}
-use Rattle.std.proofs.lemmas.List.{append-nil, length-take-le, take_all}
-use Rattle.dtx_watch.specs.WatchText.{watch_text}
+use Rattle.std.proofs.Common.{◌<◌, List, length, take, get_or, sym, ap, ◌∙◌, arith, subst}
+use Rattle.std.proofs.lemmas.List.{length-take-le}
 use Rattle.dtx_watch.specs.declared.notes.Note.{Note}
 use Rattle.dtx_watch.specs.declared.notes.What.TheVariants.{Lock}
-use Rattle.dtx_jobs.specs.Watching.{HasRoom, tally_with}
-use Rattle.dtx_jobs.specs.WatchLaws.{room_within, lines_next, tally_next, tally_nothing}
+use Rattle.dtx_jobs.specs.Watching.{HasRoom}
+use Rattle.dtx_jobs.specs.WatchLaws.{room_within, lines_next, tally_next}
 use Rattle.dtx_jobs.proofs.watching.Watching.gather.Goals as goal
 
 pub put-requires-clause-tally : goal.put-requires-clause-tally

@@ -1,4 +1,4 @@
-use Rattle.std.proofs.Common.{◌≡◌, ◌≤◌, ◌+◌, ◌*◌, ◌++◌, ℕ, List, length}
+use Rattle.std.proofs.Common.{◌≡◌, ◌≤◌, ◌*◌, ◌++◌, ℕ, List, length}
 use Rattle.dtx_packets.specs.Packets.{packets_from}
 use Rattle.dtx_jobs.specs.Watch.{watched_bytes}
 use Rattle.dtx_jobs.specs.Watching.{IsWatched}

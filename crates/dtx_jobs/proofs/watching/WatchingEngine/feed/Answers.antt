@@ -1,4 +1,4 @@
-use Rattle.std.proofs.Common.{ℕ, List, ap, sym, subst, ◌∙◌, arith}
+use Rattle.std.proofs.Common.{ap, sym, subst, ◌∙◌, arith}
 use Rattle.dtx_engine.specs.Made.{only}
 use Rattle.dtx_packets.specs.PacketLaws.{packets_of-append}
 use Rattle.dtx_packets.specs.Packets.{packets_of}

@@ -1,0 +1,17 @@
+use Rattle.std.proofs.Common.{ap, arith, refl}
+use Rattle.dtx_soft.specs.Decoder.{Decoder}
+use Rattle.dtx_jobs.specs.SofteningLaws.{softening_none}
+use Rattle.dtx_jobs.proofs.softening.SofteningTransforming.new.Goals as goal
+
+pub returns-clause-given : goal.returns-clause-given
+returns-clause-given c = record {
+  softening = softening_none _ refl refl refl refl;
+  is_kept = record {
+    room = c.in_ok-vec.ensures.len;
+    small = tt;
+    signed = λ i k. omega arith;
+    scale = ap (λ (d : Decoder). d.scale) c.in_ok-new.ensures;
+    fields = omega arith;
+    cost = omega arith;
+  };
+}

@@ -1,6 +1,0 @@
-use Rattle.std.proofs.Common.{refl, ◌∙◌}
-use Rattle.dtx_coder.specs.NextLaws.{new_stands}
-use Rattle.dtx_jobs.proofs.stream_coder.StreamCoder.new.Goals as goal
-
-pub returns : goal.returns
-returns c = record { coder = c.in_ok-new-2.ensures.ok ∙ c.in_ok-new.ensures ∙ new_stands; packets = refl }

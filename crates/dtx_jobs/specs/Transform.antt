@@ -1,0 +1,18 @@
+-- What a command means that makes OUT of IN alone, where the input has units of a shape, and a recipe says what is made
+-- of them.
+use Rattle.std.specs.Prelude.{ℕ, List, [], ◌∷◌}
+use Rattle.dtx_engine.specs.Recipe.{Recipe, transformed}
+use Rattle.dtx_engine.specs.declared.engine.Shape.{Shape}
+use Rattle.dtx_meaning.specs.Meaning.{Meaning, refused}
+use Rattle.dtx_meaning.specs.declared.status.Status.TheVariants.{Usage}
+use Rattle.dtx_outside.specs.Shelf.{Files}
+
+-- the words are `.. IN OUT`
+abbrev pub transform_meaning : Shape → Recipe → List (List ℕ) → Files → Meaning
+transform_meaning shape recipe (verb ∷ input ∷ output ∷ []) held = transformed shape recipe input output held
+transform_meaning shape recipe words held = refused Usage
+
+-- the words are `dvb .. IN OUT`
+abbrev pub dvb_meaning : Shape → Recipe → List (List ℕ) → Files → Meaning
+dvb_meaning shape recipe (verb ∷ second ∷ input ∷ output ∷ []) held = transformed shape recipe input output held
+dvb_meaning shape recipe words held = refused Usage
