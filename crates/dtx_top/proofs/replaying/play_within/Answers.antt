@@ -1,4 +1,5 @@
 use Rattle.std.specs.Prelude.{[]}
+use Rattle.std.proofs.Common.{rules}
 use Rattle.dtx_network.specs.Network.{steps_under}
 use Rattle.dtx_top.specs.NetProgress.{reception_outputs}
 use Rattle.dtx_top.proofs.NetProgresses.{nothing_fed}
@@ -11,3 +12,12 @@ returns-in-Some-clause-progress g c = λ held stream is written.
     nothing_fed [] plan.transmitters (steps_under plan stream network.events)
     (reception_outputs plan network stream network.receive) c.ended.result.status held
     (g.S.Shelf.files c.args.shelf.now) is
+
+pub returns-in-Some-clause-carried : goal.returns-in-Some-clause-carried
+returns-in-Some-clause-carried g c = search rules
+
+pub returns-in-None-clause-carried : goal.returns-in-None-clause-carried
+returns-in-None-clause-carried g c = search rules
+
+pub returns-in-None-clause-progress : goal.returns-in-None-clause-progress
+returns-in-None-clause-progress g c = search rules
