@@ -1,5 +1,5 @@
 -- What an answer is blamed on behind a read.
-use Rattle.std.proofs.Common.{◌≡◌, ℕ, sym, subst}
+use Rattle.std.proofs.Common.{ℕ, sym, subst}
 use Rattle.std.specs.Prelude.{Err}
 use Rattle.dtx_outside.specs.Counts.{Blame, Counts, HasGone, Nothing, blame_of_read}
 use Rattle.dtx_outside.specs.declared.shelf.ReadNo.{ReadNo}
@@ -23,3 +23,8 @@ gone_of_read number read.Memory before now gone = record {
 pub gone_before : (blame : Blame) (before between now : Counts) → HasGone before between blame
     → HasGone between now Nothing → HasGone before now blame
 gone_before blame before between now gone last = subst (λ (k : Counts). HasGone before k blame) (sym last.risen) gone
+
+-- what was done before it met no refusal
+pub gone_behind : (blame : Blame) (before between now : Counts) → HasGone before between Nothing
+    → HasGone between now blame → HasGone before now blame
+gone_behind blame before between now first gone = subst (λ (k : Counts). HasGone k now blame) first.risen gone
