@@ -33,7 +33,7 @@ cost_append scale xs ys =
     ∙ sum_by-append (λ x. x) (map (λ (field : Field). path_cost scale field.segments) xs)
     (map (λ (field : Field). path_cost scale field.segments) ys)
 
-restored_one : (scale : ℕ) (field : Field) → restored_of scale (field ∷ []) ≡ restored scale field.segments
+pub restored_one : (scale : ℕ) (field : Field) → restored_of scale (field ∷ []) ≡ restored scale field.segments
 unfolding restored_of
 restored_one scale field = append-nil (restored scale field.segments)
 
@@ -137,36 +137,30 @@ leaves_sought old new symbols done h sought begins count scale runs segments cos
 }
 
 -- a field whose segments were given
-pub leaves_settled : (old new : Holding) (held again : List ℤ) (count given : ℕ) (symbols : List ℤ) (done : List Field)
-    → Leaves old symbols done → held ≡ old.held → again ≡ old.held
+pub leaves_settled : (old new : Holding) (held : List ℤ) (count given : ℕ) (symbols : List ℤ) (done : List Field)
+    → Leaves old symbols done → held ≡ old.held
     → ((wanted : Bool → Bool) (begins : Bool) (more : List ℤ) → fields_where wanted begins (held ++ more)
     ≡ where_wanted (wanted true) (field_of given begins held ∷ []) ++ fields_where wanted new.begins
     (drop count held ++ more))
     → new.held ≡ drop count old.held → new.symbols ≡ old.symbols → new.scale ≡ old.scale
-    → new.runs ≡ old.runs + begun (field_of given old.begins again) → new.segments ≡ old.segments + given
-    → new.cost ≡ old.cost + path_cost old.scale (segments_from again 0 given)
-    → Leaves new symbols (done ++ field_of given old.begins held ∷ [])
-leaves_settled old new held again count given symbols done h e f step left counted scale runs segments cost =
-    let field = field_of given old.begins held in
-    let same : again ≡ held = f ∙ sym e in
+    → new.runs ≡ old.runs + begun (field_of given old.begins old.held) → new.segments ≡ old.segments + given
+    → new.cost ≡ old.cost + path_cost old.scale (segments_from old.held 0 given)
+    → Leaves new symbols (done ++ field_of given old.begins old.held ∷ [])
+leaves_settled old new held count given symbols done h same step left counted scale runs segments cost =
+    let field = field_of given old.begins old.held in
     leaves_step old new symbols done (field ∷ []) h
-    (λ wanted more. ap (λ (xs : List ℤ). fields_where wanted old.begins (xs ++ more)) (sym e)
+    (λ wanted more. ap (λ (xs : List ℤ). fields_where wanted old.begins (xs ++ more)) (sym same)
     ∙ step wanted old.begins more
+    ∙ ap (λ (xs : List ℤ). where_wanted (wanted true) (field_of given old.begins xs ∷ [])
+    ++ fields_where wanted new.begins (drop count xs ++ more)) same
     ∙ ap (λ (xs : List ℤ). where_wanted (wanted true) (field ∷ []) ++ fields_where wanted new.begins (xs ++ more))
-    (ap (drop count) e ∙ sym left))
+    (sym left))
     counted scale
-    (runs ∙ ap (λ n. old.runs + n) (ap (λ (xs : List ℤ). begun (field_of given old.begins xs)) same
-    ∙ sym (runs_one field)))
-    (segments ∙ ap (λ n. old.segments + n) (sym (length-segments_from held 0 given)
-    ∙ sym (length-restored old.scale (segments_from held 0 given)) ∙ ap length (sym (restored_one old.scale field))))
-    (cost ∙ ap (λ n. old.cost + n) (ap (λ (xs : List ℤ). path_cost old.scale (segments_from xs 0 given)) same
-    ∙ sym (cost_one old.scale field)))
-
-pub given_settled : (scale given : ℕ) (begins : Bool) (held again : List ℤ) → again ≡ held
-    → restored scale (segments_from again 0 given) ≡ restored_of scale (field_of given begins held ∷ [])
-given_settled scale given begins held again e =
-    ap (λ (xs : List ℤ). restored scale (segments_from xs 0 given)) e
-    ∙ sym (restored_one scale (field_of given begins held))
+    (runs ∙ ap (λ n. old.runs + n) (sym (runs_one field)))
+    (segments ∙ ap (λ n. old.segments + n) (sym (length-segments_from old.held 0 given)
+    ∙ sym (length-restored old.scale (segments_from old.held 0 given))
+    ∙ ap length (sym (restored_one old.scale field))))
+    (cost ∙ ap (λ n. old.cost + n) (sym (cost_one old.scale field)))
 
 -- ---- all that it stands for
 
@@ -288,17 +282,17 @@ pub record IsEnd (symbols : List ℤ) (scale : ℕ) (given : List (List ℤ)) (r
   pub segments_are : segments ≡ length (acquired scale symbols)
   pub cost_is : cost ≡ acquired_cost scale symbols
 
-pub ends : (holding : Holding) (symbols left again : List ℤ) (on : Bool) (count runs segments cost : ℕ)
+pub ends : (holding : Holding) (symbols left : List ℤ) (on : Bool) (count runs segments cost : ℕ)
     (given : List (List ℤ)) → StandsFor holding symbols → IsSought holding.held left
     → (on ≡ true → agrees left 0 ≡ true) → (on ≡ true) ⊎ (length left < 832)
-    → (on ≡ true → length left < 261248 → count ≡ length left / 832) → (on ≡ false → count ≡ 0) → again ≡ left
-    → given ≡ restored holding.scale (segments_from again 0 count)
-    → runs ≡ holding.runs + begun (field_of count holding.begins again) → segments ≡ holding.segments + count
-    → cost ≡ holding.cost + path_cost holding.scale (segments_from again 0 count)
+    → (on ≡ true → length left < 261248 → count ≡ length left / 832) → (on ≡ false → count ≡ 0)
+    → given ≡ restored holding.scale (segments_from left 0 count)
+    → runs ≡ holding.runs + begun (field_of count holding.begins left) → segments ≡ holding.segments + count
+    → cost ≡ holding.cost + path_cost holding.scale (segments_from left 0 count)
     → IsEnd symbols holding.scale given runs segments cost
 unfolding acquired_rest acquired_runs acquired acquired_cost
-ends holding symbols left again on count runs segments cost given h sought front short whole none same gives begun_are
-    counted costs =
+ends holding symbols left on count runs segments cost given h sought front short whole none gives begun_are counted
+    costs =
     let few : length left < 261248 = omega
     (arith, h.few, ap length sought.left, length-drop sought.count holding.held) in
     let last = last_is on holding.begins left count few front short whole none in
@@ -306,12 +300,10 @@ ends holding symbols left again on count runs segments cost given h sought front
     let are = all_are holding symbols left on count last.0 h sought is in
     record {
       gives =
-          gives ∙ ap (λ (xs : List ℤ). restored holding.scale (segments_from xs 0 count)) same
-          ∙ sym (is.gives holding.scale) ∙ ap (restored_of holding.scale) (sym are.rest);
+          gives ∙ sym (is.gives holding.scale) ∙ ap (restored_of holding.scale) (sym are.rest);
       runs_are =
           begun_are
-          ∙ ap₂ (λ a b. a + b) h.leaves.runs_are (ap (λ (xs : List ℤ). begun (field_of count holding.begins xs)) same
-          ∙ sym is.runs)
+          ∙ ap₂ (λ a b. a + b) h.leaves.runs_are (sym is.runs)
           ∙ sym (runs_append (settled_fields symbols) last.0) ∙ ap runs_of (sym are.all);
       segments_are =
           counted
@@ -322,9 +314,7 @@ ends holding symbols left again on count runs segments cost given h sought front
           ∙ ap (restored_of holding.scale) (sym are.all));
       cost_is =
           costs
-          ∙ ap₂ (λ a b. a + b) h.leaves.cost_is
-          (ap (λ (xs : List ℤ). path_cost holding.scale (segments_from xs 0 count)) same
-          ∙ sym (is.costs holding.scale))
+          ∙ ap₂ (λ a b. a + b) h.leaves.cost_is (sym (is.costs holding.scale))
           ∙ sym (cost_append holding.scale (settled_fields symbols) last.0)
           ∙ ap (cost_of holding.scale) (sym are.all);
     }

@@ -113,8 +113,7 @@ impl Acquirer {
         let on = seek(self.on, &mut self.held);
         let left = self.held.len();
         let count = whole_segments(on, left);
-        self.giver.give(self.held.all(), count, self.begins);
-        self.held.leave(left);
+        self.giver.give(&mut self.held, count, left, self.begins);
         self.on = false;
     }
 
@@ -192,8 +191,8 @@ impl Acquirer {
         ensures symbols { self.new.symbols ≡ self.old.symbols }
     {
         let step = step_of(self.held.all());
-        self.giver.give(self.held.all(), step.given, self.begins);
-        self.held.leave(step.count);
+        self.giver
+            .give(&mut self.held, step.given, step.count, self.begins);
         self.on = step.on;
         self.begins = step.begins;
     }

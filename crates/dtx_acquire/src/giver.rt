@@ -1,9 +1,11 @@
 //! The fields that are given, and the numbers of all.
 
-ghost use Rattle.std.specs.Prelude.{◌≡◌, ℕ, ℤ, ◌+◌, ◌*◌, ◌<◌, ◌≤◌, Bool, List, [], IfOk, length, take, vec_len};
+ghost use Rattle.std.specs.Prelude.{◌≡◌, ℕ, ℤ, ◌+◌, ◌*◌, ◌<◌, ◌≤◌, Bool, List, [], IfOk};
+ghost use Rattle.std.specs.Prelude.{drop, length, take, vec_len};
 ghost use Rattle.dtx_acquire.specs.Acquired.{begun, path_cost, restored, segments_from};
 
 use crate::deciding::Decisions;
+use crate::held::Held;
 use crate::restoring::restore;
 use crate::step::FIELD;
 use dtx_sizes::{MOST_SEGMENTS, SEGMENT};
@@ -40,9 +42,9 @@ impl Giver {
         ensures cost { IfOk result (λ giver. giver.cost ≡ 0) }
     {
         Ok(Giver {
-            soft: Soft::scaled(alloc, scale)?,
+            segments: empty_field(alloc)?,
             decisions: Decisions::new(alloc, scale)?,
-            segments: vec![in alloc; [0i8; SEGMENT]; FIELD]?,
+            soft: Soft::scaled(alloc, scale)?,
             count: 0,
             runs: 0,
             total: 0,
@@ -50,25 +52,27 @@ impl Giver {
         })
     }
 
-    /// Gives the first segments of symbols, so many: a field, or its front part.
-    pub(crate) fn give(&mut self, symbols: &[i8], count: usize, begins: bool)
+    /// Gives the first segments of those that are held, so many: a field, or its front part. Lets so many symbols go.
+    pub(crate) fn give(&mut self, held: &mut Held, count: usize, gone: usize, begins: bool)
         requires few { count ≤ FIELD }
-        requires room { SEGMENT * count ≤ length symbols.now }
+        requires room { SEGMENT * count ≤ length held.old }
+        requires gone { gone ≤ length held.old }
         requires most { self.old.total ≤ MOST_SEGMENTS }
         ensures given { take self.new.count self.new.segments.items
-            ≡ restored self.old.decisions.scale (segments_from symbols.now 0 count) }
+            ≡ restored self.old.decisions.scale (segments_from held.old 0 count) }
         ensures count { length (take self.new.count self.new.segments.items) ≡ count }
         ensures total { self.new.total ≡ self.old.total + count }
         ensures runs { self.new.runs
-            ≡ self.old.runs + begun (record { begins = begins; segments = segments_from symbols.now 0 count }) }
+            ≡ self.old.runs + begun (record { begins = begins; segments = segments_from held.old 0 count }) }
         ensures cost { self.new.cost
-            ≡ self.old.cost + path_cost self.old.decisions.scale (segments_from symbols.now 0 count) }
+            ≡ self.old.cost + path_cost self.old.decisions.scale (segments_from held.old 0 count) }
         ensures scale { self.new.decisions.scale ≡ self.old.decisions.scale }
+        ensures held { held.new ≡ drop gone held.old }
     {
         let cost = restore_front(
             &mut self.soft,
             &self.decisions,
-            symbols,
+            held.all(),
             count,
             &mut self.segments,
         );
@@ -76,7 +80,15 @@ impl Giver {
         self.total += count as u64;
         self.runs += run_of(begins, count);
         self.cost += cost;
+        held.leave(gone);
     }
+}
+
+/// Room for the segments of a field.
+fn empty_field(alloc: Global) -> Result<Vec<[i8; SEGMENT]>, AllocError>
+    ensures { IfOk result (λ segments. vec_len segments ≡ FIELD) }
+{
+    vec![in alloc; [0i8; SEGMENT]; FIELD]
 }
 
 /// 1 where a run begins with a field of so many segments.

@@ -1,6 +1,6 @@
 //! The symbols of which it is not yet known what they give.
 
-ghost use Rattle.std.specs.Prelude.{◌≡◌, ◌<◌, ◌≤◌, ◌++◌, [], IfOk, length, take, drop};
+ghost use Rattle.std.specs.Prelude.{◌≡◌, ◌+◌, ◌<◌, ◌≤◌, ◌++◌, [], IfOk, length, take, drop};
 
 use dtx_sizes::{FIELD_SEGMENTS, SEGMENT};
 use std::alloc::{AllocError, Global};
@@ -59,8 +59,7 @@ impl Held {
         ensures held { self.new ≡ self.old ++ take result symbols.now }
         ensures some { 0 < length symbols.now → length self.old < MOST_HELD → 0 < result }
     {
-        let count = symbols.len().min(MOST_HELD - self.filled);
-        self.symbols[self.filled..self.filled + count].copy_from_slice(&symbols[..count]);
+        let count = append(&mut self.symbols[..], self.filled, symbols);
         self.filled += count;
         count
     }
@@ -73,4 +72,18 @@ impl Held {
         self.symbols.copy_within(count..self.filled, 0);
         self.filled -= count;
     }
+}
+
+/// Copies the first of these symbols behind the filled ones, as many as there is room for, and answers how many.
+fn append(held: &mut [i8], filled: usize, symbols: &[i8]) -> usize
+    requires { filled ≤ length held.old }
+    ensures within { result ≤ length symbols.now }
+    ensures room { filled + result ≤ length held.old }
+    ensures long { length held.new ≡ length held.old }
+    ensures held { take (filled + result) held.new ≡ take filled held.old ++ take result symbols.now }
+    ensures some { 0 < length symbols.now → filled < length held.old → 0 < result }
+{
+    let count = symbols.len().min(held.len() - filled);
+    held[filled..filled + count].copy_from_slice(&symbols[..count]);
+    count
 }

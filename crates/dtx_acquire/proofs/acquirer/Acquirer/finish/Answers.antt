@@ -11,12 +11,12 @@ end : (c : goal.After-self-2-1) (symbols : List ℤ) → StandsFor c.args.self.n
 end c symbols h =
     subst (λ (x : Holding). IsEnd symbols x.scale (take c.give.new.self.count c.give.new.self.segments.items)
     c.give.new.self.runs c.give.new.self.total c.give.new.self.cost) c.self.view_is
-    (ends _ symbols c.seek-on.new.held c.all.result.now c.seek-on.result c.whole_segments-count.result _ _ _ _
+    (ends _ symbols c.seek-on.new.held c.seek-on.result c.whole_segments-count.result _ _ _ _
     (subst (λ (x : Holding). StandsFor x symbols) (sym c.self.view_is) h) c.seek-on.ensures.sought
     c.seek-on.ensures.front c.seek-on.ensures.few
     (λ on l. c.whole_segments-count.ensures.last on (omega (arith, l, c.len-left.ensures.long))
     ∙ ap (λ n. n / 832) c.len-left.ensures.long)
-    c.whole_segments-count.ensures.none c.all.ensures c.give.ensures.given c.give.ensures.runs c.give.ensures.total
+    c.whole_segments-count.ensures.none c.give.ensures.given c.give.ensures.runs c.give.ensures.total
     c.give.ensures.cost)
 
 pub returns-clause-given : goal.returns-clause-given
@@ -38,5 +38,5 @@ empty (x ∷ xs) e = absurd (omega arith)
 
 pub returns-clause-held : goal.returns-clause-held
 returns-clause-held c =
-    c.leave.ensures ∙ empty (drop c.len-left.result c.seek-on.new.held)
+    c.give.ensures.held ∙ empty (drop c.len-left.result c.seek-on.new.held)
     (omega (arith, length-drop c.len-left.result c.seek-on.new.held, c.len-left.ensures.long))

@@ -5,5 +5,5 @@ use Rattle.dtx_acquire.proofs.giver.Giver.give.Goals as goal
 
 pub returns-clause-runs : goal.returns-clause-runs
 returns-clause-runs c =
-    ap (λ n. c.args.self.now.runs + n) (c.run_of.ensures.run (segments_from c.args.symbols.now 0 c.args.count)
-    (length-segments_from c.args.symbols.now 0 c.args.count))
+    ap (λ n. c.args.self.now.runs + n) (c.run_of.ensures.run (segments_from c.args.held.now 0 c.args.count)
+    (length-segments_from c.args.held.now 0 c.args.count))
