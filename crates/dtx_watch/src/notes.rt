@@ -5,7 +5,7 @@ use dtx_ops::OpsNo;
 pub const MOST_NOTES: usize = 5;
 
 /// What the states of an operations packet are, beside those that the coders have before its group.
-#[derive(Clone, Copy, PartialEq, Eq)]
+#[derive(Clone, Copy)]
 pub enum StatesNote {
     /// They don't count: the group begins less than 52 packets behind the anchor, or isn't whole.
     Early,
@@ -18,7 +18,7 @@ pub enum StatesNote {
 }
 
 /// What the stamp of an operations packet is, beside that of the latest one before it under this anchor.
-#[derive(Clone, Copy, PartialEq, Eq)]
+#[derive(Clone, Copy)]
 pub enum ClockNote {
     /// It is the first.
     First,
@@ -29,7 +29,7 @@ pub enum ClockNote {
 }
 
 /// An operations packet that reads and stands at its place.
-#[derive(Clone, Copy, PartialEq, Eq)]
+#[derive(Clone, Copy)]
 pub struct OpsNote {
     /// The number of the frame, as the packet says it.
     pub frame: u32,
@@ -48,7 +48,7 @@ pub struct OpsNote {
 }
 
 /// What is told of a packet.
-#[derive(Clone, Copy, Default, PartialEq, Eq)]
+#[derive(Clone, Copy, Default)]
 pub enum What {
     /// It is an anchor, and there was none before it.
     #[default]
@@ -64,7 +64,7 @@ pub enum What {
 }
 
 /// A note on one packet.
-#[derive(Clone, Copy, Default, PartialEq, Eq)]
+#[derive(Clone, Copy, Default)]
 pub struct Note {
     /// The number of the packet, from 0.
     pub packet: u64,

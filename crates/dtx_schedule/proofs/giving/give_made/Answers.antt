@@ -45,3 +45,20 @@ loop-i-preserved g c = record {
   count = c.in_ok-give.ensures.steps refl ∙ omega (arith, c.loop-i.invariant.count);
   gone = grind (arith, common_steps);
 }
+
+pub overflow_add-part : goal.overflow_add-part
+overflow_add-part g c = omega (arith, c.requires.part.most, c.loop-i-test.true)
+
+pub give-requires-clause-most : goal.give-requires-clause-most
+give-requires-clause-most g c = omega (arith, c.requires.most, c.loop-i.invariant.count, c.loop-i-test.true)
+
+pub returns-clause-steps : goal.returns-clause-steps
+returns-clause-steps g c = omega (arith, c.loop-i.invariant.count, c.loop-i-test.false, c.loop-i.auto.i-end)
+
+pub returns-clause-done : goal.returns-clause-done
+returns-clause-done g c = λ ts held before is.
+    let part = c.args.part.now in
+    let all : c.loop-i.i ≡ part.count = omega (arith, c.loop-i-test.false, c.loop-i.auto.i-end) in
+    subst (λ n. IsPlayedSoFar ts (before ++ packet_steps c.args.who
+    (map (made_packet part.seed) (range_with_len part.from n))) held c.loop-i.playout
+    (g.S.Shelf.files c.loop-i.shelf)) all (c.loop-i.invariant.done ts held before is)

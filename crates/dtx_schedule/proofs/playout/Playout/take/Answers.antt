@@ -1,16 +1,16 @@
 use Rattle.std.proofs.Common.{◌≡◌, ◌+◌, ◌*◌, ◌<◌, ◌≤◌, ◌++◌, ◌∷◌, [], ℕ, List, pos, length, map, take, get_or, set}
-use Rattle.std.proofs.Common.{sym, ap}
-use Rattle.std.proofs.Common.{subst, ◌∙◌, arith}
+use Rattle.std.proofs.Common.{refl, sym, ap, subst, ◌∙◌, arith}
 use Rattle.std.specs.Prelude.{Some, slice_get}
 use Rattle.std.proofs.lemmas.List.{get_or_default}
-use Rattle.std.proofs.lemmas.Option.{slice_get-get_or}
+use Rattle.std.proofs.lemmas.Option.{slice_get-get_or, slice_get_read}
 use Rattle.dtx_exciter.specs.Log.{line_of}
 use Rattle.dtx_files.specs.LogText.{log_text}
 use Rattle.dtx_files.specs.Symbols.{byte_of_symbol}
 use Rattle.dtx_net.specs.Standing.{IsGiven}
 use Rattle.dtx_net.specs.Steps.{packet_step}
 use Rattle.dtx_plan.specs.declared.transmitter.Transmitter.{Transmitter}
-use Rattle.dtx_schedule.specs.Playout.{AreSent}
+use Rattle.dtx_schedule.specs.Playout.{AreSent, HasTransmitter}
+use Rattle.dtx_schedule.specs.declared.playout.Playout.{Playout}
 use Rattle.dtx_schedule.proofs.PlayoutOn.{given_packet, brings_few, few_more, given_brings, given_sends}
 use Rattle.dtx_schedule.proofs.PlayoutOn.{sent_more}
 use Rattle.dtx_schedule.proofs.playout.Playout.take.Goals as goal
@@ -20,6 +20,26 @@ step-told-requires c =
     let there = c.requires.there in
     let long = there.playing.net.long in
     omega (arith, long, there.within)
+
+sent_within : (playout : Playout) (who : ℕ) → HasTransmitter who playout → who < length playout.sent.items
+sent_within playout who there = let long = there.playing.sent.long in omega (arith, there.within, long)
+
+-- what is read as the count of a transmitter is at most five segments a step
+few_sent : (playout : Playout) (who n : ℕ) → HasTransmitter who playout → n ≡ get_or playout.sent.items who n
+    → n ≤ 5 * playout.steps
+few_sent playout who n there is =
+    there.playing.few who n (slice_get_read playout.sent.items (length playout.sent.items) who n refl
+    (sent_within playout who there) is)
+
+pub write_line-requires : goal.write_line-requires
+write_line-requires c =
+    let few = few_sent c.args.self.now c.args.who c.index.result.now c.requires.there c.index.ensures in
+    omega (arith, few, c.requires.most)
+
+pub overflow_add-index_mut : goal.overflow_add-index_mut
+overflow_add-index_mut c =
+    let few = few_sent c.args.self.now c.args.who c.index_mut.result.now c.requires.there c.index_mut.ensures.value in
+    omega (arith, few, c.requires.most)
 
 pub bring-requires : goal.bring-requires
 bring-requires c =
@@ -67,7 +87,7 @@ returns-clause-brings c = λ ts steps s.
     let symbols = c.step-told.new.air.symbols in
     let sent = c.args.self.now.sent.items in
     let there = c.requires.there in
-    let within : who < length sent = let long = there.playing.sent.long in omega (arith, there.within, long) in
+    let within = sent_within c.args.self.now who there in
     given_brings ts steps who c.args.packet.now.0 sent c.step-told.result count symbols
     c.step-told.new.self (take c.bring.result c.bring.new.bytes) c.write_line.new.text.bytes s.sent
     (λ t at_t. c.step-told.ensures.given ts steps t s.net at_t)
