@@ -86,3 +86,22 @@ four_words words h j k h' j' k' l u p q r =
     ∙ sym (ap (λ x. get_or words 0 [] ∷ x ∷ j' ∷ k' ∷ []) p
     ∙ ap (λ x. get_or words 0 [] ∷ get_or words 1 h ∷ x ∷ k' ∷ []) q
     ∙ ap (λ x. get_or words 0 [] ∷ get_or words 1 h ∷ get_or words 2 j ∷ x ∷ []) r)
+
+-- ---- three words
+
+three_back : (words : List (List ℕ)) (h j : List ℕ) → 3 ≤ length words → length words < 4
+    → words ≡ get_or words 0 [] ∷ get_or words 1 h ∷ get_or words 2 j ∷ []
+three_back [] h j l u = absurd (omega (arith, l))
+three_back (a ∷ []) h j l u = absurd (omega (arith, l))
+three_back (a ∷ (b ∷ [])) h j l u = absurd (omega (arith, l))
+three_back (a ∷ (b ∷ (c ∷ []))) h j l u = refl
+three_back (a ∷ (b ∷ (c ∷ (d ∷ more)))) h j l u = absurd (omega (arith, u))
+
+-- words of which two were read
+pub three_words : (words : List (List ℕ)) (h j h' j' : List ℕ) → 3 ≤ length words → length words < 4
+    → h' ≡ get_or words 1 h → j' ≡ get_or words 2 j
+    → words ≡ get_or words 0 [] ∷ h' ∷ j' ∷ []
+three_words words h j h' j' l u p q =
+    three_back words h j l u
+    ∙ sym (ap (λ x. get_or words 0 [] ∷ x ∷ j' ∷ []) p
+    ∙ ap (λ x. get_or words 0 [] ∷ get_or words 1 h ∷ x ∷ []) q)

@@ -41,9 +41,9 @@ impl Acquisition {
         ensures scale { IfOk result (λ s. s.acquirer.scale ≡ scale) }
     {
         Ok(Acquisition {
-            acquirer: Acquirer::new(alloc, scale)?,
             piece: vec![in alloc; 0i8; PIECE]?,
             symbols: SymbolBuffer::new(alloc)?,
+            acquirer: Acquirer::new(alloc, scale)?,
         })
     }
 }

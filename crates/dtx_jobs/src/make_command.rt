@@ -2,7 +2,7 @@
 ghost use Rattle.std.specs.Prelude.{◌≡◌, false, [], Some, Option, IfSome};
 ghost use Rattle.dtx_make.specs.Made.{made_stream};
 ghost use Rattle.dtx_meaning.specs.Meaning.{IsCarriedOut};
-ghost use Rattle.dtx_meaning.specs.Status.{IsOfInputs, blame_of, outcome_of};
+ghost use Rattle.dtx_meaning.specs.Status.{IsOfInputs, blame_of};
 ghost use Rattle.dtx_outside.specs.Counts.{HasGone, blame_of_write};
 ghost use Rattle.dtx_outside.specs.Shelf.{Files};
 ghost use Rattle.dtx_outside.specs.Written.{IsWritten, IsFlushOf};
@@ -57,7 +57,8 @@ fn make_ordered<S: Shelf>(
     }
 }
 
-/// Writes that many packets of that seed to the output: those that `make` writes. The number is how many they are.
+/// Writes that many packets of that seed to the output: those that `make` writes. The number is how many they are. The
+/// memory for them is taken before the file is begun.
 pub fn make_stream<S: Shelf>(
     alloc: Global,
     seed: u64,
@@ -70,30 +71,31 @@ pub fn make_stream<S: Shelf>(
     ensures answers { Knows command.Make result.status }
     ensures gone { HasGone (S.counts shelf.old) (S.counts shelf.new) (blame_of result.status) }
 {
-    match make_file(alloc, seed, count, output, shelf) {
-        Ok(outcome) => outcome,
-        Err(status) => ended(status),
+    match Output::new(alloc) {
+        Ok(mut made) => make_file(seed, count, output, &mut made, shelf),
+        Err(_) => ended(Status::Memory),
     }
 }
 
-/// Makes that many packets of that seed. The memory for them is taken before the file is begun.
+/// Begins the file, and makes them in it.
 #[tactic(auto, using(crate::specs::AnswersLaws::write_known, crate::specs::OfWordsLaws::write_of_inputs))]
 fn make_file<S: Shelf>(
-    alloc: Global,
     seed: u64,
     count: u64,
     output: &str,
+    made: &mut Output<PIECE>,
     shelf: &mut S,
-) -> Result<Outcome, Status>
-    ensures carried { IsCarriedOut (made_file seed count output.now) (S.files shelf.old) (outcome_of result)
-        (S.files shelf.new) }
-    ensures words { IsOfInputs false 0 (outcome_of result).status }
-    ensures answers { Knows command.Make (outcome_of result).status }
-    ensures gone { HasGone (S.counts shelf.old) (S.counts shelf.new) (blame_of (outcome_of result).status) }
+) -> Outcome
+    requires { made.old ≡ [] }
+    ensures carried { IsCarriedOut (made_file seed count output.now) (S.files shelf.old) result (S.files shelf.new) }
+    ensures words { IsOfInputs false 0 result.status }
+    ensures answers { Knows command.Make result.status }
+    ensures gone { HasGone (S.counts shelf.old) (S.counts shelf.new) (blame_of result.status) }
 {
-    let mut made = Output::new(alloc)?;
-    shelf.begin(output)?;
-    Ok(fill_file(seed, count, output, &mut made, shelf))
+    match shelf.begin(output) {
+        Ok(()) => fill_file(seed, count, output, made, shelf),
+        Err(no) => ended(Status::from(no)),
+    }
 }
 
 /// Makes them in a file that was begun, and answers.

@@ -141,10 +141,10 @@ fn read_on<S: Shelf>(
     ensures gone { HasGone (S.counts shelf.old) (S.counts shelf.new) (blame_of_answer result) }
 {
     match fill(shelf, name, bytes.len() as u64, piece) {
-        Ok(count) => {
-            bytes.extend_from_slice(&piece[..count])?;
-            Ok(count < PIECE)
-        }
+        Ok(count) => match bytes.extend_from_slice(&piece[..count]) {
+            Ok(()) => Ok(count < PIECE),
+            Err(_) => Err(Status::Memory),
+        },
         Err(cause) => Err(of_read(number, cause)),
     }
 }

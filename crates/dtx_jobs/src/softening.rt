@@ -223,11 +223,11 @@ impl Transforming for Softening {
 
     fn new(alloc: Global) -> Result<Softening, AllocError> {
         Ok(Softening {
-            soft: Soft::new(alloc)?,
             field: vec![in alloc; [0; SEGMENT]; FIELD_ROWS]?,
             place: None,
             segment: [0; SEGMENT],
             symbols: SymbolBuffer::new(alloc)?,
+            soft: Soft::new(alloc)?,
             segments: 0,
             fields: 0,
             cost: 0,

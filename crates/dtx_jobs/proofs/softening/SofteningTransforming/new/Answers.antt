@@ -10,7 +10,7 @@ returns-clause-given c = record {
     room = c.in_ok-vec.ensures.len;
     small = tt;
     signed = λ i k. omega arith;
-    scale = ap (λ (d : Decoder). d.scale) c.in_ok-new.ensures;
+    scale = ap (λ (d : Decoder). d.scale) c.in_ok-new-2.ensures;
     fields = omega arith;
     cost = omega arith;
   };
