@@ -1,4 +1,4 @@
-use Rattle.std.proofs.Common.{◌≡◌, ◌∙◌, sym, subst}
+use Rattle.std.proofs.Common.{rules, ◌≡◌, ◌∙◌, sym, subst}
 use Rattle.std.proofs.lemmas.Slice.Eq.{slice_eq-Decides}
 use Rattle.std.proofs.lemmas.Bool.{true≢false}
 use Rattle.std.proofs.lemmas.Bool.Decides.{Decides-eqb}
@@ -27,3 +27,15 @@ returns-else-eq-2-clause-answer g c =
     (λ right p. c.restore.ensures right
     (subst (λ m. IsMending m g.row.K c.args.marks.now c.args.word.now right) (sym c.told-word) p))
     again.ensures.codeword again.ensures.begins (λ e. true≢false (sym (same.1 e) ∙ c.if-eq-2.false))
+
+pub accept-requires : goal.accept-requires
+accept-requires g c =
+    let again = c.encoded_again in
+    let same : Decides c.eq-2.result (again.result ≡ c.restore.new.word) =
+    slice_eq-Decides Decides-eqb again.result c.restore.new.word c.eq-2.result c.eq-2.ensures in (
+      search rules,
+      (
+        search rules,
+        (c.args.self.now.code, subst (IsCodeword g.row.N g.row.K) (same.0 c.if-eq-2.true) again.ensures.codeword),
+      ),
+    )
