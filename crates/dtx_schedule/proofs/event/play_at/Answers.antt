@@ -1,39 +1,14 @@
-use Rattle.std.proofs.Common.{◌≡◌, ◌<◌, ◌∷◌, [], List, map, refl, ap, subst, ◌∙◌, arith}
+use Rattle.std.proofs.Common.{◌≡◌, ◌<◌, ◌∷◌, [], List, map, refl, ap, ◌∙◌}
 use Rattle.std.specs.Prelude.{Ok, Err}
 use Rattle.std.specs.List.{range_with_len}
 use Rattle.dtx_make.specs.Made.{made_packet}
 use Rattle.dtx_packets.specs.Packets.{packets_from, packets_of, whole_packets}
-use Rattle.dtx_plan.specs.Sound.{IsInRange, IsPart}
 use Rattle.dtx_plan.specs.declared.event.Event.TheVariants.{Send, Foreign, Flip, Lie, Restart}
 use Rattle.dtx_net.specs.Steps.{Step, packet_step, restart_step, steps_of}
 use Rattle.dtx_schedule.specs.PlayedSoFar.{IsPacketOf, packet_steps}
 use Rattle.dtx_schedule.proofs.EventSteps.{event_done, flipped, lied, made, one_within, part_within, restarted, sent}
 use Rattle.dtx_schedule.proofs.FeedKept.{feed_read, kept_on, unread}
 use Rattle.dtx_schedule.proofs.event.play_at.Goals as goal
-
-pub send-requires-clause-part : goal.send-requires-clause-part
-send-requires-clause-part g c =
-    let event : c.args.event.now ≡ Send c.in-Send.to c.in-Send.from c.in-Send.count = cc in
-    subst IsInRange event c.requires.event
-
-pub send-requires-clause-most : goal.send-requires-clause-most
-send-requires-clause-most g c =
-    let event : c.args.event.now ≡ Send c.in-Send.to c.in-Send.from c.in-Send.count = cc in
-    let part : IsPart c.in-Send.from c.in-Send.count = subst IsInRange event c.requires.event in
-    omega (arith, part.most, c.requires.most)
-
-pub give_made-requires-clause-part : goal.give_made-requires-clause-part
-give_made-requires-clause-part g c =
-    let made = c.in-Foreign in
-    let event : c.args.event.now ≡ Foreign made.to made.seed made.from made.count = cc in
-    (subst IsInRange event c.requires.event).0
-
-pub give_made-requires-clause-most : goal.give_made-requires-clause-most
-give_made-requires-clause-most g c =
-    let made = c.in-Foreign in
-    let event : c.args.event.now ≡ Foreign made.to made.seed made.from made.count = cc in
-    let part : IsPart made.from made.count = (subst IsInRange event c.requires.event).0 in
-    omega (arith, part.most, c.requires.most)
 
 pub returns-in-Err-clause-done : goal.returns-in-Err-clause-done
 returns-in-Err-clause-done g c = λ ts held before feed there place past is.
