@@ -129,7 +129,8 @@ impl Repetition {
         self.segments += 1;
         match tracking {
             Tracking::Began => {
-                if self.runs > 0 {
+                let again = self.runs > 0;
+                if again {
                     self.sending.restart();
                 }
                 self.runs += 1;
