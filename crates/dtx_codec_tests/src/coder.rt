@@ -9,6 +9,7 @@ use dtx_packets::Packet;
 use dtx_sizes::{GROUP_PACKETS, PACKET, PACKET_DATA, SEGMENT};
 use dtx_trellis::States;
 use dtx_whiten::Atsc;
+use std::process::Abort;
 use std::test::Fail;
 
 /// The symbols of all segments as one number, which tells their order too.
@@ -60,21 +61,22 @@ fn randomized_zeros(atsc: &Atsc) -> [Packet; GROUP_PACKETS] {
     packets
 }
 
-#[test]
-fn zeros_give_a_field_sync_and_then_the_lowest_symbol(rt: HostRuntime) -> Result<(), Fail> {
-    let mut coder = Coder::new(rt.alloc())?;
-    let zeros = randomized_zeros(&Atsc::new(rt.alloc())?);
+fn expect_lowest(rt: &impl Abort, coder: &mut Coder, zeros: &[Packet; GROUP_PACKETS]) {
     let mut air = Air::new();
-    coder.group(0, false, &zeros, None, true, &mut air);
+    coder.group(0, false, zeros, None, true, &mut air);
     assert!(rt; air.segments == 5);
     assert!(rt; lowest(&air) == 12 + 4 * 828);
     assert!(rt; digest(&air) == -4736745350597717142);
-    Ok(())
 }
 
 #[test]
-fn groups_are_those_of_an_independent_program(rt: HostRuntime) -> Result<(), Fail> {
-    let mut coder = Coder::new(rt.alloc())?;
+fn zeros_give_a_field_sync_and_then_the_lowest_symbol(rt: HostRuntime) -> Result<(), Fail> {
+    let zeros = randomized_zeros(&Atsc::new(rt.alloc())?);
+    expect_lowest(&rt, &mut Coder::new(rt.alloc())?, &zeros);
+    Ok(())
+}
+
+fn expect_groups(rt: &impl Abort, coder: &mut Coder) {
     let mut air = Air::new();
     coder.group(304, false, &packets(0), None, false, &mut air);
     assert!(rt; digest(&air) == 6290378049446142936);
@@ -92,5 +94,10 @@ fn groups_are_those_of_an_independent_program(rt: HostRuntime) -> Result<(), Fai
     coder.group(0, false, &packets(20), preset, true, &mut air);
     assert!(rt; digest(&air) == 2451126217495075316);
     assert!(rt; coder.states().0 == [5, 3, 5, 3, 3, 6, 4, 2, 3, 7, 2, 5]);
+}
+
+#[test]
+fn groups_are_those_of_an_independent_program(rt: HostRuntime) -> Result<(), Fail> {
+    expect_groups(&rt, &mut Coder::new(rt.alloc())?);
     Ok(())
 }

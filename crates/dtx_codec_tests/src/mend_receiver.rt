@@ -5,6 +5,7 @@ use dtx_erase::MendReceiver;
 use dtx_frame::field_sync;
 use dtx_receiver::Batch;
 use dtx_sizes::{PRECODE, SEGMENT};
+use std::process::Abort;
 use std::test::Fail;
 
 /// What a run of two fields gives, where these of its segments are missing and those wrong. Its second field sync has
@@ -31,23 +32,31 @@ fn of_two_fields(receiver: &mut MendReceiver, missing: (u32, u32), wrong: (u32, 
     totals
 }
 
-// How many packets there are, how many bytes were put right, and how many packets were flagged. The numbers are those
-// of a program in Python that follows the definitions over the whole list.
+/// The segments that are missing and those that are wrong, from one to another, and what such a run gives: how many
+/// packets there are, how many bytes were put right, and how many packets were flagged.
+type Row = ((u32, u32), (u32, u32), (u32, u32, u32));
+
+// The numbers are those of a program in Python that follows the definitions over the whole list.
+const ROWS: [Row; 8] = [
+    ((306, 311), (0, 0), (573, 0, 0)),
+    ((201, 206), (0, 0), (573, 0, 0)),
+    ((201, 207), (0, 0), (573, 0, 48)),
+    ((201, 203), (210, 211), (573, 216, 0)),
+    ((201, 204), (210, 212), (573, 69, 44)),
+    ((1, 6), (0, 0), (573, 0, 0)),
+    ((620, 626), (0, 0), (573, 0, 2)),
+    ((0, 0), (311, 313), (573, 432, 0)),
+];
+
+fn expect_counts(rt: &impl Abort, receiver: &mut MendReceiver) {
+    for (missing, wrong, want) in &ROWS {
+        let totals = of_two_fields(receiver, *missing, *wrong);
+        assert!(rt; totals.counts() == *want);
+    }
+}
+
 #[test]
 fn missing_segments_cost_half_as_much_as_wrong_ones(rt: HostRuntime) -> Result<(), Fail> {
-    let mut receiver = MendReceiver::new(rt.alloc())?;
-    for (missing, wrong, want) in [
-        ((306, 311), (0, 0), (573, 0, 0)),
-        ((201, 206), (0, 0), (573, 0, 0)),
-        ((201, 207), (0, 0), (573, 0, 48)),
-        ((201, 203), (210, 211), (573, 216, 0)),
-        ((201, 204), (210, 212), (573, 69, 44)),
-        ((1, 6), (0, 0), (573, 0, 0)),
-        ((620, 626), (0, 0), (573, 0, 2)),
-        ((0, 0), (311, 313), (573, 432, 0)),
-    ] {
-        let totals = of_two_fields(&mut receiver, missing, wrong);
-        assert!(rt; totals.counts() == want);
-    }
+    expect_counts(&rt, &mut MendReceiver::new(rt.alloc())?);
     Ok(())
 }

@@ -4,6 +4,7 @@ use crate::samples::segment_of;
 use dtx_frame::field_sync;
 use dtx_receiver::{Batch, Receiver, Tracking};
 use dtx_sizes::{PRECODE, SEGMENT};
+use std::process::Abort;
 use std::test::Fail;
 
 /// What the packets of some calls come to: how many there are, how many bytes were put right, how many were flagged,
@@ -227,14 +228,16 @@ fn ends(receiver: &mut Receiver, batch: &mut Batch) -> bool {
         && begins(receiver, batch)
 }
 
+fn expect_end(rt: &impl Abort, receiver: &mut Receiver, batch: &mut Batch) {
+    assert!(rt; receiver.take(&noise(0), batch) == Tracking::Searching);
+    assert!(rt; begins(receiver, batch) && ends(receiver, batch));
+    receiver.finish(batch);
+    assert!(rt; batch.packets.len() == 0);
+}
+
 #[test]
 fn a_run_ends_before_a_segment_that_should_be_a_field_sync(rt: HostRuntime) -> Result<(), Fail> {
-    let mut receiver = Receiver::new(rt.alloc())?;
-    let mut batch = Batch::new();
-    assert!(rt; receiver.take(&noise(0), &mut batch) == Tracking::Searching);
-    assert!(rt; begins(&mut receiver, &mut batch) && ends(&mut receiver, &mut batch));
-    receiver.finish(&mut batch);
-    assert!(rt; batch.packets.len() == 0);
+    expect_end(&rt, &mut Receiver::new(rt.alloc())?, &mut Batch::new());
     Ok(())
 }
 
