@@ -40,14 +40,18 @@ fn reads(
 }
 
 /// What others do.
-fn does(rt: &HostRuntime, name: &str, step: &Step) -> io::Result<()> {
+fn does(rt: &HostRuntime, name: &str, step: &Step) -> Result<(), Fail> {
     match *step {
-        Step::Written(bytes) => fs::write(rt, name, bytes)?,
-        Step::Renamed(other) => fs::rename(rt, name, other)?,
-        Step::Removed => fs::remove_file(rt, name)?,
-        _ => {}
+        Step::Written(bytes) => told(fs::write(rt, name, bytes)),
+        Step::Renamed(other) => told(fs::rename(rt, name, other)),
+        Step::Removed => told(fs::remove_file(rt, name)),
+        _ => Ok(()),
     }
-    Ok(())
+}
+
+/// What the host did, or why the test failed.
+fn told(done: io::Result<()>) -> Result<(), Fail> {
+    Ok(done?)
 }
 
 /// Whether the steps are answered as they say.
@@ -55,7 +59,7 @@ fn are_answered(
     rt: &HostRuntime,
     shelf: &mut HostShelf<HostRuntime>,
     steps: &[(&str, Step)],
-) -> io::Result<bool> {
+) -> Result<bool, Fail> {
     for (name, step) in steps {
         does(rt, name, step)?;
         if !is_answered(shelf, name, step) {
@@ -65,17 +69,25 @@ fn are_answered(
     Ok(true)
 }
 
-/// Whether they are by a new shelf, and whether a file was not begun then because it was met before.
-fn answered(rt: &HostRuntime, steps: &[(&str, Step)]) -> io::Result<(bool, bool)> {
-    let progress = Progress::new(rt, false);
-    let mut shelf = HostShelf::new(rt, &progress);
-    let are = are_answered(rt, &mut shelf, steps)?;
+/// Whether they are, and whether a file was not begun then because it was met before.
+fn answers(
+    rt: &HostRuntime,
+    shelf: &mut HostShelf<HostRuntime>,
+    steps: &[(&str, Step)],
+) -> Result<(bool, bool), Fail> {
+    let are = are_answered(rt, shelf, steps)?;
     Ok((are, shelf.overlap()))
+}
+
+/// The same by a new shelf.
+fn answered(rt: &HostRuntime, steps: &[(&str, Step)]) -> Result<(bool, bool), Fail> {
+    let progress = Progress::new(rt, false);
+    answers(rt, &mut HostShelf::new(rt, &progress), steps)
 }
 
 const OUT: &str = "dtx_outside_host_test";
 
-const FILES: [(&str, Step); 16] = [
+const FILES: &[(&str, Step)] = &[
     (OUT, Step::Written(b"old")),
     (OUT, Step::Removed),
     (OUT, Step::Read(0, Err(ReadNo::Absent))),
@@ -96,7 +108,7 @@ const FILES: [(&str, Step); 16] = [
 
 #[test]
 fn files_are_written_and_read(rt: HostRuntime) -> Result<(), Fail> {
-    assert!(rt; answered(&rt, &FILES)? == (true, false));
+    assert!(rt; answered(&rt, FILES)? == (true, false));
     Ok(())
 }
 
@@ -104,7 +116,7 @@ const READ: &str = "dtx_outside_host_read";
 
 const BEGUN: &str = "dtx_outside_host_begun";
 
-const MET: [(&str, Step); 8] = [
+const MET: &[(&str, Step)] = &[
     (READ, Step::Written(b"abc")),
     (READ, Step::Read(0, Ok(b"abc"))),
     (BEGUN, Step::Begin(Ok(()))),
@@ -120,7 +132,7 @@ const MET: [(&str, Step); 8] = [
 
 #[test]
 fn a_file_that_was_read_or_begun_is_not_begun_again(rt: HostRuntime) -> Result<(), Fail> {
-    assert!(rt; answered(&rt, &MET)? == (true, true));
+    assert!(rt; answered(&rt, MET)? == (true, true));
     Ok(())
 }
 
@@ -130,7 +142,7 @@ const OTHER: &str = "dtx_outside_host_other";
 
 const KEPT: &str = "dtx_outside_host_kept";
 
-const CHANGES: [(&str, Step); 15] = [
+const CHANGES: &[(&str, Step)] = &[
     (CHANGED, Step::Written(b"abc")),
     (CHANGED, Step::Append(b"d", Err(WriteNo::Failed))),
     (CHANGED, Step::Read(3, Err(ReadNo::Failed))),
@@ -148,7 +160,7 @@ const CHANGES: [(&str, Step); 15] = [
     (CHANGED, Step::Read(0, Err(ReadNo::Failed))),
 ];
 
-const CUT: [(&str, Step); 6] = [
+const CUT: &[(&str, Step)] = &[
     (CHANGED, Step::Begin(Ok(()))),
     (CHANGED, Step::Append(b"abc", Ok(()))),
     (CHANGED, Step::Written(b"ab")),
@@ -159,15 +171,15 @@ const CUT: [(&str, Step); 6] = [
 
 #[test]
 fn a_file_that_others_change_meanwhile_is_a_fault(rt: HostRuntime) -> Result<(), Fail> {
-    assert!(rt; answered(&rt, &CHANGES)? == (true, false));
-    assert!(rt; answered(&rt, &CUT)? == (true, false));
+    assert!(rt; answered(&rt, CHANGES)? == (true, false));
+    assert!(rt; answered(&rt, CUT)? == (true, false));
     Ok(())
 }
 
 const HELD: &str = "dtx_outside_host_held";
 
 /// A file that was written twice.
-const WRITTEN: [(&str, Step); 3] = [
+const WRITTEN: &[(&str, Step)] = &[
     (HELD, Step::Begin(Ok(()))),
     (HELD, Step::Append(b"ab", Ok(()))),
     (HELD, Step::Append(b"cd", Ok(()))),
@@ -184,17 +196,26 @@ const WAYS: [&[(&str, Step)]; 4] = [
     &[(HELD, Step::Written(b"abcde"))],
 ];
 
-const REFUSED: [(&str, Step); 1] = [(HELD, Step::Append(b"e", Err(WriteNo::Failed)))];
+const REFUSED: &[(&str, Step)] = &[(HELD, Step::Append(b"e", Err(WriteNo::Failed)))];
 
-/// Whether the file that was written is refused once others have changed it so.
-fn is_refused(rt: &HostRuntime, way: &[(&str, Step)]) -> io::Result<bool> {
+/// Whether the file is written, and refused once others have changed it so.
+fn refuses(
+    rt: &HostRuntime,
+    shelf: &mut HostShelf<HostRuntime>,
+    way: &[(&str, Step)],
+) -> Result<bool, Fail> {
+    for steps in [WRITTEN, way, REFUSED] {
+        if !are_answered(rt, shelf, steps)? {
+            return Ok(false);
+        }
+    }
+    Ok(true)
+}
+
+/// The same by a new shelf.
+fn is_refused(rt: &HostRuntime, way: &[(&str, Step)]) -> Result<bool, Fail> {
     let progress = Progress::new(rt, false);
-    let mut shelf = HostShelf::new(rt, &progress);
-    Ok(
-        are_answered(rt, &mut shelf, &WRITTEN)?
-            && are_answered(rt, &mut shelf, way)?
-            && are_answered(rt, &mut shelf, &REFUSED)?,
-    )
+    refuses(rt, &mut HostShelf::new(rt, &progress), way)
 }
 
 #[test]

@@ -98,20 +98,20 @@ fn is_line(alloc: Global, command: Command, outcome: &Outcome, text: &str) -> bo
 
 #[test]
 fn each_line_ends_in_a_line_feed_and_has_its_numbers_in_order(rt: HostRuntime) {
-    for (command, shown, text) in LINES {
+    for (command, shown, text) in &LINES {
         let outcome = Outcome {
             status: Status::Done,
             numbers: NUMBERS,
-            shown,
+            shown: *shown,
         };
-        assert!(rt; is_line(rt.alloc(), command, &outcome, text), "{text}");
+        assert!(rt; is_line(rt.alloc(), *command, &outcome, text), "{text}");
     }
 }
 
 #[test]
 fn each_refusal_has_its_line(rt: HostRuntime) {
-    for (status, text) in REFUSALS {
-        let outcome = dtx_meaning::ended(status);
+    for (status, text) in &REFUSALS {
+        let outcome = dtx_meaning::ended(*status);
         assert!(rt;
             is_line(rt.alloc(), Command::Code, &outcome, text),
             "{text}"

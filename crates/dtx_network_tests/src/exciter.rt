@@ -154,7 +154,7 @@ const WHOLE: (u64, u64) = (0, 0);
 
 const CUT: (u64, u64) = (202, 624);
 
-const ROWS: [Row; 15] = [
+const ROWS: &[Row] = &[
     // each order has its moment
     (SEVEN, (1300, &ORDERS, WHOLE, &[]), &MADE, 1204),
     // one mark may be missing, and stray ones may stand anywhere: that changes nothing
@@ -238,7 +238,7 @@ fn first_unlogged(alloc: Global, rows: &[Row]) -> Result<Option<usize>, AllocErr
 
 #[test]
 fn an_exciter_has_the_lines_and_segments_of_what_it_is_given(rt: HostRuntime) -> Result<(), Fail> {
-    assert_eq!(rt; first_unlogged(rt.alloc(), &ROWS)?, None);
+    assert_eq!(rt; first_unlogged(rt.alloc(), ROWS)?, None);
     Ok(())
 }
 

@@ -39,9 +39,9 @@ const PACKETS: [(u64, u64, [u8; 8], u8); 6] = [
 
 #[test]
 fn the_packets_are_those_of_another_program(rt: HostRuntime) {
-    for (seed, index, begins, ends) in PACKETS {
-        let made = packet(seed, index);
-        assert!(rt; made.0.starts_with(&begins), "packet {index}");
-        assert!(rt; made.0[187] == ends);
+    for (seed, index, begins, ends) in &PACKETS {
+        let made = packet(*seed, *index);
+        assert!(rt; made.0.starts_with(begins), "packet {index}");
+        assert!(rt; made.0[187] == *ends);
     }
 }
