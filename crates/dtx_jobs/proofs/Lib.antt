@@ -3,6 +3,7 @@ pub mod AcquiredRun
 pub mod AcquiredStream
 pub mod Apart
 pub mod BytesOf
+pub mod Performed
 pub mod DvbBack
 pub mod DvbChunks
 pub mod DvbReads
@@ -30,3 +31,4 @@ pub mod Tallied
 pub mod LivesOn
 pub mod WatchedFeed
 pub mod WatchedText
+pub mod Words

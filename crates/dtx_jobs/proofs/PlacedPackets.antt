@@ -1,7 +1,7 @@
 -- Placeholders that are put, as the packets come.
 use Rattle.std.proofs.Common.{◌≡◌, ◌≢◌, ℕ, ◌+◌, ◌-◌, ◌*◌, ◌/◌, ◌%◌, ◌<◌, ◌≤◌, Bool, true, false, not, ◌&&◌}
 use Rattle.std.proofs.Common.{◌||◌, List, [], ◌∷◌, ◌++◌, length, take, drop, map, get_or, refl, sym, ap, subst, ◌∙◌}
-use Rattle.std.proofs.Common.{arith}
+use Rattle.std.proofs.Common.{arith, cond}
 use Rattle.std.proofs.Common.{append_assoc, nat_le, inl, inr}
 use Rattle.std.specs.Prelude.{◌⊎◌, slice_set}
 use Rattle.std.specs.List.{list_any, range_with_len}
@@ -9,7 +9,7 @@ use Rattle.std.proofs.lemmas.List.{append-nil, length-append, length-drop, lengt
 use Rattle.std.proofs.lemmas.List.{drop-append-le}
 use Rattle.std.proofs.lemmas.Bool.{eqb-true, eq-eqb, ne_eqb, le-leb, lt-leb, and_left, and_right, or_left, cases_lt}
 use Rattle.std.proofs.lemmas.Bool.{cond-true, cond-false, and_parts, not-false, not_from_true, or_cases, or_right}
-use Rattle.std.proofs.lemmas.Bool.{false≢true, cases_Bool}
+use Rattle.std.proofs.lemmas.Bool.{false≢true, cases_Bool, cases_eq}
 use Rattle.std.proofs.lemmas.List.{get_or-set_other, get_or-set_same}
 use Rattle.std.proofs.lemmas.List.Folds.{list_any-append}
 use Rattle.std.proofs.lemmas.List.FromFn.{length-map-range_with_len, map-range_with_len_more}
@@ -94,6 +94,13 @@ behind_none packets f before = ap (take 260) (drop_of_length-le packets before)
 null_pid : (packet : List ℕ) → is_null packet ≡ true → pid_of packet ≡ 0x1FFF
 null_pid packet null = eqb-true (pid_of packet) 0x1FFF null
 
+-- it has its byte 2
+null_long : (packet : List ℕ) → pid_of packet ≡ 0x1FFF → 2 < length packet
+null_long [] e = absurd (omega (arith, e))
+null_long (a ∷ []) e = absurd (omega (arith, e))
+null_long (a ∷ (b ∷ [])) e = absurd (omega (arith, e))
+null_long (a ∷ (b ∷ (c ∷ rest))) e = omega arith
+
 -- its packet identifier
 pub pid-as_placeholder : (packet : List ℕ) → is_null packet ≡ true → pid_of (as_placeholder packet) ≡ 0x1FFA
 unfolding as_placeholder
@@ -104,12 +111,6 @@ pid-as_placeholder packet null =
     let second : get_or (slice_set packet 2 (get_or packet 2 0 - 5)) 2 0 ≡ get_or packet 2 0 - 5 =
     get_or-set_same packet 2 (get_or packet 2 0 - 5) 0 two in
     omega (arith, first, second, null_pid packet null)
-  where
-    null_long : (packet : List ℕ) → pid_of packet ≡ 0x1FFF → 2 < length packet
-    null_long [] e = absurd (omega (arith, e))
-    null_long (a ∷ []) e = absurd (omega (arith, e))
-    null_long (a ∷ (b ∷ [])) e = absurd (omega (arith, e))
-    null_long (a ∷ (b ∷ (c ∷ rest))) e = omega arith
 
 pub is_placeholder-as_placeholder : (packet : List ℕ) → is_null packet ≡ true
     → is_placeholder (as_placeholder packet) ≡ true
@@ -325,6 +326,29 @@ bytes_stay packets k j within other =
           ap (λ (p : List ℕ). get_or p j 0)
           (cond-false (becomes (take k packets) packet) (as_placeholder packet) packet isnt)
     ]
+
+-- no byte grows: byte 2 of a packet that is changed is less by five
+lower_one : (before : List (List ℕ)) (packet : List ℕ) (changed : Bool) → becomes before packet ≡ changed
+    → get_or (cond changed (as_placeholder packet) packet) 2 0 ≤ get_or packet 2 0
+unfolding as_placeholder
+lower_one before packet true is =
+    let two : 2 < length packet = null_long packet (null_pid packet (was_null before packet is)) in
+    let less : get_or (slice_set packet 2 (get_or packet 2 0 - 5)) 2 0 ≡ get_or packet 2 0 - 5 =
+    get_or-set_same packet 2 (get_or packet 2 0 - 5) 0 two in
+    omega (arith, less)
+lower_one before packet false is = omega arith
+
+pub bytes_lower : (packets : List (List ℕ)) (k j : ℕ) → k < length packets
+    → get_or (get_or (placed packets) k []) j 0 ≤ get_or (get_or packets k []) j 0
+bytes_lower packets k j within = elim (cases_eq j 2) [
+  | inl second ↦
+      (let packet = get_or packets k [] in
+      let two : get_or (get_or (placed packets) k []) 2 0 ≤ get_or packet 2 0 =
+      subst (λ (p : List ℕ). get_or p 2 0 ≤ get_or packet 2 0) (sym (placed_at packets k within))
+      (lower_one (take k packets) packet (becomes (take k packets) packet) refl) in
+      subst (λ (i : ℕ). get_or (get_or (placed packets) k []) i 0 ≤ get_or packet i 0) (sym second) two)
+  | inr other ↦ omega (arith, bytes_stay packets k j within other)
+]
 
 pub lengths_stay : (packets : List (List ℕ)) (k : ℕ) → k < length packets
     → length (get_or (placed packets) k []) ≡ length (get_or packets k [])

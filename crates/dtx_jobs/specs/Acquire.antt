@@ -11,6 +11,9 @@ use Rattle.dtx_meaning.specs.declared.status.Outcome.{Outcome}
 use Rattle.dtx_meaning.specs.declared.status.Status.TheVariants.{Done, NoSync, Usage}
 use Rattle.dtx_outside.specs.Shelf.{Files}
 use Rattle.dtx_words.specs.Number.{number_within}
+use Rattle.dtx_words.specs.declared.rows.Command.TheVariants.{Acquire}
+use Rattle.dtx_jobs.specs.Job.{Job}
+use Rattle.dtx_jobs.specs.OfWords.{acquire_same}
 use Rattle.dtx_jobs.specs.Shapes as shapes
 use Rattle.dtx_jobs.specs.SymbolFile.{symbols}
 
@@ -47,3 +50,7 @@ acquire_at (Some scale) input output held = transformed shapes.single_bytes (acq
 abbrev pub acquire_meaning : List (List ℕ) → Files → Meaning
 acquire_meaning (verb ∷ scale ∷ input ∷ output ∷ []) held = acquire_at (number_within 1 18 scale) input output held
 acquire_meaning words held = refused Usage
+
+-- the command `acquire SCALE IN OUT`
+abbrev pub acquire_job : Job
+acquire_job = record { command = Acquire; means = acquire_meaning; same = acquire_same; inputs = 1 }

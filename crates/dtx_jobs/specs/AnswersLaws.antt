@@ -191,12 +191,6 @@ plan_refusal_known command number known (OutOfAir entry) is = elim is [ ]
 plan_refusal_known command number known NoSync is = elim is [ ]
 plan_refusal_known command number known WriteFault is = elim is [ ]
 
-pub plan_knows : (number : ℕ) (status : Status) → IsPlanRefusal number status → Knows Adapt status
-plan_knows number = plan_refusal_known Adapt number (λ refusal. tt)
-
-pub changes_know : (number : ℕ) (status : Status) → IsPlanRefusal number status → Knows Hurt status
-changes_know number = plan_refusal_known Hurt number (λ refusal. tt)
-
 -- a fault of writing
 pub write_known : (cause : WriteNo) → Knows Make (of_write cause)
 write_known write.Failed = tt

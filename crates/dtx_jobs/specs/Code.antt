@@ -3,15 +3,15 @@ use Rattle.std.specs.Prelude.{ℕ, ◌==◌, ◌||◌, Bool, List, [], ◌∷◌
 use Rattle.dtx_coder.specs.Stream.{a53}
 use Rattle.dtx_engine.specs.Made.{only}
 use Rattle.dtx_engine.specs.Recipe.{Recipe}
-use Rattle.dtx_meaning.specs.Meaning.{Meaning}
 use Rattle.dtx_meaning.specs.declared.status.Outcome.{Outcome}
 use Rattle.dtx_meaning.specs.declared.status.Status.TheVariants.{Done}
-use Rattle.dtx_outside.specs.Shelf.{Files}
 use Rattle.dtx_packets.specs.Packet.{sync_of}
 use Rattle.dtx_packets.specs.Packets.{packets_of, whole_packets}
+use Rattle.dtx_words.specs.declared.rows.Command.TheVariants.{Code}
+use Rattle.dtx_jobs.specs.Job.{Job}
 use Rattle.dtx_jobs.specs.Shapes.{coded_packets}
 use Rattle.dtx_jobs.specs.Symbols.{symbol_bytes}
-use Rattle.dtx_jobs.specs.Transform.{transform_meaning}
+use Rattle.dtx_jobs.specs.Transform.{transform_job}
 
 -- a packet that may be coded: its byte 0, which isn't sent, is 0x47 or the mark 0xB8
 abbrev pub may_be_coded : List ℕ → Bool
@@ -34,6 +34,6 @@ coding = record {
   answer = code_answer;
 }
 
--- what `code IN OUT` means
-abbrev pub code_meaning : List (List ℕ) → Files → Meaning
-code_meaning words held = transform_meaning coded_packets coding words held
+-- the command `code IN OUT`
+abbrev pub code_job : Job
+code_job = transform_job Code coded_packets coding

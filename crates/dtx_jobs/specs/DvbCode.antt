@@ -3,14 +3,14 @@ use Rattle.std.specs.Prelude.{ℕ, List, [], ◌∷◌}
 use Rattle.dtx_dvb.specs.Stream.{dvb}
 use Rattle.dtx_engine.specs.Made.{only}
 use Rattle.dtx_engine.specs.Recipe.{Recipe}
-use Rattle.dtx_meaning.specs.Meaning.{Meaning}
 use Rattle.dtx_meaning.specs.declared.status.Outcome.{Outcome}
 use Rattle.dtx_meaning.specs.declared.status.Status.TheVariants.{Done}
-use Rattle.dtx_outside.specs.Shelf.{Files}
 use Rattle.dtx_packets.specs.Packets.{packets_of, whole_packets}
 use Rattle.dtx_jobs.specs.Place.{has_sync}
+use Rattle.dtx_words.specs.declared.rows.Command.TheVariants.{DvbCode}
+use Rattle.dtx_jobs.specs.Job.{Job}
 use Rattle.dtx_jobs.specs.Shapes.{dvb_packets}
-use Rattle.dtx_jobs.specs.Transform.{dvb_meaning}
+use Rattle.dtx_jobs.specs.Transform.{dvb_job}
 
 -- how it ends: the packets, and the loose bytes
 abbrev pub dvb_code_answer : List ℕ → ℕ → Outcome
@@ -29,6 +29,6 @@ dvb_coding = record {
   answer = dvb_code_answer;
 }
 
--- what `dvb code IN OUT` means
-abbrev pub dvb_code_meaning : List (List ℕ) → Files → Meaning
-dvb_code_meaning words held = dvb_meaning dvb_packets dvb_coding words held
+-- the command `dvb code IN OUT`
+abbrev pub dvb_code_job : Job
+dvb_code_job = dvb_job DvbCode dvb_packets dvb_coding

@@ -5,12 +5,12 @@ use Rattle.dtx_dvb.specs.Read.{Read, fixed_in, flagged_in}
 use Rattle.dtx_dvb.specs.Reading.{read_dvb}
 use Rattle.dtx_engine.specs.Made.{only}
 use Rattle.dtx_engine.specs.Recipe.{Recipe}
-use Rattle.dtx_meaning.specs.Meaning.{Meaning}
 use Rattle.dtx_meaning.specs.declared.status.Outcome.{Outcome}
 use Rattle.dtx_meaning.specs.declared.status.Status.TheVariants.{Done}
-use Rattle.dtx_outside.specs.Shelf.{Files}
+use Rattle.dtx_words.specs.declared.rows.Command.TheVariants.{DvbRead}
+use Rattle.dtx_jobs.specs.Job.{Job}
 use Rattle.dtx_jobs.specs.Shapes.{blocks}
-use Rattle.dtx_jobs.specs.Transform.{dvb_meaning}
+use Rattle.dtx_jobs.specs.Transform.{dvb_job}
 
 -- the bytes of packets that were read, one behind the other
 abbrev pub bytes_of_reads : List Read → List ℕ
@@ -40,6 +40,6 @@ dvb_reading = record {
   answer = dvb_read_answer;
 }
 
--- what `dvb read IN OUT` means
-abbrev pub dvb_read_meaning : List (List ℕ) → Files → Meaning
-dvb_read_meaning words held = dvb_meaning blocks dvb_reading words held
+-- the command `dvb read IN OUT`
+abbrev pub dvb_read_job : Job
+dvb_read_job = dvb_job DvbRead blocks dvb_reading

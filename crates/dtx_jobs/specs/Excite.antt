@@ -2,14 +2,14 @@
 use Rattle.std.specs.Prelude.{ℕ, true, List, []}
 use Rattle.dtx_engine.specs.Made.{Made, only}
 use Rattle.dtx_engine.specs.Recipe.{Recipe}
-use Rattle.dtx_meaning.specs.Meaning.{Meaning}
 use Rattle.dtx_meaning.specs.declared.status.Outcome.{Outcome}
 use Rattle.dtx_meaning.specs.declared.status.Status.TheVariants.{Done}
-use Rattle.dtx_outside.specs.Shelf.{Files}
 use Rattle.dtx_packets.specs.Packets.{packets_of}
 use Rattle.dtx_jobs.specs.Life.{life_numbers, life_tally, logged_bytes, sent_bytes}
+use Rattle.dtx_words.specs.declared.rows.Command.TheVariants.{Excite}
+use Rattle.dtx_jobs.specs.Job.{Job}
 use Rattle.dtx_jobs.specs.Shapes.{coded_packets}
-use Rattle.dtx_jobs.specs.Transmit.{transmit_meaning}
+use Rattle.dtx_jobs.specs.Transmit.{transmit_job}
 
 -- the symbols that the transmitter with this address and delay sends, and its log
 abbrev pub excited : ℕ → ℕ → List (List ℕ) → Made
@@ -32,6 +32,6 @@ exciting address delay = record {
   answer = λ bytes loose. excite_answer address delay (packets_of bytes) loose;
 }
 
--- what `excite FEED ADDRESS DELAY OUT LOG` means
-abbrev pub excite_meaning : List (List ℕ) → Files → Meaning
-excite_meaning words held = transmit_meaning coded_packets exciting words held
+-- the command `excite FEED ADDRESS DELAY OUT LOG`
+abbrev pub excite_job : Job
+excite_job = transmit_job Excite coded_packets exciting

@@ -1,20 +1,22 @@
 -- What `hurt IN CHANGES OUT` means: a file with damage laid over its bytes (the profile's own).
-use Rattle.std.specs.Prelude.{◌≡◌, ℕ, true, if◌then◌else◌, List, [], ◌∷◌, length, Option, Some, None, is_some}
+use Rattle.std.specs.Prelude.{◌≡◌, ℕ, true, List, [], ◌∷◌, length, Option, Some, None}
 use Rattle.std.specs.FinMap.{get}
 use Rattle.dtx_outside.specs.Shelf.{Files}
-use Rattle.dtx_meaning.specs.Meaning.{Meaning, refused}
+use Rattle.dtx_meaning.specs.Meaning.{Meaning}
 use Rattle.dtx_meaning.specs.Status.{ended}
 use Rattle.dtx_meaning.specs.declared.status.Outcome.{Outcome}
-use Rattle.dtx_meaning.specs.declared.status.Status.TheVariants.{Done, OutOfAir, Same, Usage}
+use Rattle.dtx_meaning.specs.declared.status.Status.TheVariants.{Done, OutOfAir}
 use Rattle.dtx_make.specs.Hurt.{hurt, damaged_places}
 use Rattle.dtx_plan.specs.Sound.{AreDamages}
 use Rattle.dtx_plan.specs.declared.damage.Damage.{Damage}
 use Rattle.dtx_engine.specs.Made.{only}
 use Rattle.dtx_engine.specs.Recipe.{Recipe, meaning}
-use Rattle.dtx_words.specs.Names.{repeated}
 use Rattle.dtx_jobs.specs.PastEnd.{first_past}
 use Rattle.dtx_jobs.specs.PlanFile.{under_changes}
+use Rattle.dtx_words.specs.declared.rows.Command.TheVariants.{Hurt}
+use Rattle.dtx_jobs.specs.Job.{Job}
 use Rattle.dtx_jobs.specs.Shapes.{single_bytes}
+use Rattle.dtx_jobs.specs.Combine.{combine_job}
 use Rattle.dtx_jobs.specs.declared.laying.Laying.{Laying}
 
 -- The end of a file of so many bytes: the first entry that ends behind it; or where none does its bytes, and how many
@@ -42,14 +44,12 @@ pub record HasLaid (state : Laying) (given : List ℕ) : Type 0 where
   pub count : state.count ≡ length given
   pub damaged : state.damaged ≡ damaged_places state.damage.now (length given)
 
--- with files of these names
+-- with files of these names, of which the last is neither of the others
 abbrev pub hurt_file : List ℕ → List ℕ → List ℕ → Files → Meaning
 hurt_file input changes output held =
-    if is_some (repeated (input ∷ changes ∷ output ∷ [])) then refused Same
-    else under_changes 1 (get held changes) (λ damage.
+    under_changes 1 (get held changes) (λ damage.
     meaning single_bytes (hurting damage) 0 (output ∷ []) (get held input))
 
--- with these words
-abbrev pub hurt_meaning : List (List ℕ) → Files → Meaning
-hurt_meaning (verb ∷ input ∷ changes ∷ output ∷ []) held = hurt_file input changes output held
-hurt_meaning words held = refused Usage
+-- the command `hurt IN CHANGES OUT`
+abbrev pub hurt_job : Job
+hurt_job = combine_job Hurt hurt_file

@@ -7,6 +7,7 @@ pub mod Answers
 pub mod AnswersLaws
 pub mod Code
 pub mod CodeLaws
+pub mod Combine
 pub mod Damaged
 pub mod DamagedLaws
 pub mod DvbBack
@@ -30,6 +31,7 @@ pub mod HurtLaws
 pub mod Life
 pub mod Lives
 pub mod LivesLaws
+pub mod Job
 pub mod Make
 pub mod Mend
 pub mod MendLaws

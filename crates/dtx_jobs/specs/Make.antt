@@ -6,6 +6,9 @@ use Rattle.dtx_meaning.specs.Meaning.{Meaning, refused}
 use Rattle.dtx_meaning.specs.declared.status.Status.TheVariants.{Done, Usage}
 use Rattle.dtx_packets.specs.Packets.{most_packets}
 use Rattle.dtx_words.specs.Number.{number_in}
+use Rattle.dtx_words.specs.declared.rows.Command.TheVariants.{Make}
+use Rattle.dtx_jobs.specs.Job.{Job}
+use Rattle.dtx_jobs.specs.OfWords.{make_same}
 
 -- the packets 0 to `count - 1` of a seed, in a file of that name
 abbrev pub made_file : ℕ → ℕ → List ℕ → Meaning
@@ -25,3 +28,7 @@ abbrev pub make_meaning : List (List ℕ) → Files → Meaning
 make_meaning (verb ∷ seed ∷ count ∷ output ∷ []) held =
     made_of (number_in (2 ^ 64 - 1) seed) (number_in most_packets count) output
 make_meaning words held = refused Usage
+
+-- the command `make SEED COUNT OUT`
+abbrev pub make_job : Job
+make_job = record { command = Make; means = make_meaning; same = make_same; inputs = 0 }

@@ -1,13 +1,12 @@
 -- What `mend` makes of a symbol file, of which some symbols are missing (the profile's own; ATSC A/53 Part 2, the way
 -- back). A symbol of value -128, which is a byte 0x80 of the file, says that nothing was received there.
-use Rattle.std.specs.Prelude.{ℕ, List}
 use Rattle.dtx_engine.specs.Recipe.{Recipe}
 use Rattle.dtx_erase.specs.Mended.{all_mended, mended, mended_so_far}
-use Rattle.dtx_meaning.specs.Meaning.{Meaning}
-use Rattle.dtx_outside.specs.Shelf.{Files}
 use Rattle.dtx_jobs.specs.Giving.{Giving, receiving_by}
+use Rattle.dtx_words.specs.declared.rows.Command.TheVariants.{Mend}
+use Rattle.dtx_jobs.specs.Job.{Job}
 use Rattle.dtx_jobs.specs.Shapes.{segments}
-use Rattle.dtx_jobs.specs.Transform.{transform_meaning}
+use Rattle.dtx_jobs.specs.Transform.{transform_job}
 
 -- what is given where each word is mended
 abbrev pub with_mendings : Giving
@@ -17,6 +16,6 @@ with_mendings = record { so_far = mended_so_far; all = all_mended; packets = men
 abbrev pub mending_symbols : Recipe
 mending_symbols = receiving_by with_mendings
 
--- what `mend IN OUT` means
-abbrev pub mend_meaning : List (List ℕ) → Files → Meaning
-mend_meaning words held = transform_meaning segments mending_symbols words held
+-- the command `mend IN OUT`
+abbrev pub mend_job : Job
+mend_job = transform_job Mend segments mending_symbols

@@ -22,9 +22,9 @@ use Rattle.dtx_outside.specs.Shelf.{Files}
 use Rattle.dtx_receiver.specs.Runs.{runs}
 use Rattle.dtx_jobs.specs.GivenLaws.{all_allowed}
 use Rattle.dtx_jobs.specs.Giving.{IsGiving}
-use Rattle.dtx_jobs.specs.Mend.{mend_meaning, mending_symbols, with_mendings}
+use Rattle.dtx_jobs.specs.Mend.{mend_job, mending_symbols, with_mendings}
 use Rattle.dtx_jobs.specs.MendedBack.{NoneMissing}
-use Rattle.dtx_jobs.specs.Receive.{receive_meaning, receiving, with_corrections}
+use Rattle.dtx_jobs.specs.Receive.{receive_job, receiving, with_corrections}
 use Rattle.dtx_jobs.specs.Shapes.{segments}
 use Rattle.dtx_jobs.specs.SplicedSymbolsLaws.{segments_cut}
 use Rattle.dtx_jobs.specs.SymbolFile.{file_segments, segments_from, symbol_of_byte, symbols, whole_segments}
@@ -115,7 +115,7 @@ same_found input output held (Some file) h = same_file (output ∷ []) file (h f
 
 pub same_words : (verb input output : List ℕ) (held : Files)
     → ((file : List ℕ) → get held input ≡ Some file → NoneMissing file)
-    → mend_meaning (verb ∷ input ∷ output ∷ []) held ≡ receive_meaning (verb ∷ input ∷ output ∷ []) held
+    → mend_job.means (verb ∷ input ∷ output ∷ []) held ≡ receive_job.means (verb ∷ input ∷ output ∷ []) held
 same_words verb input output held h =
     ap (λ (means : Meaning). if bytes_eq input output then refused Same else means)
     (same_found input output held (get held input) h)

@@ -43,10 +43,10 @@ acquire_same (verb ∷ scale ∷ input ∷ output ∷ []) = number_same (number_
 acquire_same words = None
 
 -- of `excite FEED ADDRESS DELAY OUT LOG`
-abbrev pub excite_same : List (List ℕ) → Option Bool
-excite_same (verb ∷ feed ∷ address ∷ delay ∷ output ∷ log ∷ []) =
+abbrev pub transmit_same : List (List ℕ) → Option Bool
+transmit_same (verb ∷ feed ∷ address ∷ delay ∷ output ∷ log ∷ []) =
     numbers_same (number_in 65535 address) (number_in 4294967295 delay) (is_some (repeated (feed ∷ output ∷ log ∷ [])))
-excite_same words = None
+transmit_same words = None
 
 -- of `make SEED COUNT OUT`, which has one name
 abbrev pub make_same : List (List ℕ) → Option Bool

@@ -6,14 +6,14 @@ use Rattle.std.specs.List.{list_any, range_with_len}
 use Rattle.dtx_adapter.specs.Feed.{is_placeholder}
 use Rattle.dtx_engine.specs.Each.{each_making}
 use Rattle.dtx_engine.specs.Recipe.{Recipe}
-use Rattle.dtx_meaning.specs.Meaning.{Meaning}
 use Rattle.dtx_meaning.specs.declared.status.Outcome.{Outcome}
 use Rattle.dtx_meaning.specs.declared.status.Status.TheVariants.{Done}
-use Rattle.dtx_outside.specs.Shelf.{Files}
 use Rattle.dtx_packets.specs.Packet.{pid_of, sync_of}
 use Rattle.dtx_packets.specs.Packets.{packets_of}
+use Rattle.dtx_words.specs.declared.rows.Command.TheVariants.{Place}
+use Rattle.dtx_jobs.specs.Job.{Job}
 use Rattle.dtx_jobs.specs.Shapes.{single_packets}
-use Rattle.dtx_jobs.specs.Transform.{transform_meaning}
+use Rattle.dtx_jobs.specs.Transform.{transform_job}
 use Rattle.dtx_jobs.specs.declared.placing.Placing.{Placing}
 
 -- a null packet has the packet identifier 0x1FFF (ISO/IEC 13818-1, 2.4.1)
@@ -89,9 +89,9 @@ placing_answer given loose = place_answer (packets_of given) loose
 abbrev pub placing : Recipe
 placing = each_making single_packets has_sync placed_behind placing_answer
 
--- with these words
-abbrev pub place_meaning : List (List ℕ) → Files → Meaning
-place_meaning words held = transform_meaning single_packets placing words held
+-- the command `place IN OUT`
+abbrev pub place_job : Job
+place_job = transform_job Place single_packets placing
 
 -- ---- what is counted on the way
 

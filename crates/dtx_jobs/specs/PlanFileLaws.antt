@@ -1,20 +1,15 @@
--- What a command means that reads a plan or a file of changes first, once that was read or was not; and file names that
--- differ.
-use Rattle.std.specs.Prelude.{◌≡◌, ◌≢◌, ℕ, Bool, true, false, ◌||◌, List, [], ◌∷◌, Option, Some, None, Result, Ok, Err}
-use Rattle.std.specs.Prelude.{IfSome, if◌then◌else◌, is_some}
+-- What a command means that reads a plan or a file of changes first, once that was read or was not.
+use Rattle.std.specs.Prelude.{◌≡◌, ℕ, List, Option, Some, None, Result, Ok, Err, IfSome}
 use Rattle.std.specs.FinMap.{get}
-use Rattle.std.specs.Str.{bytes_eq}
-use Rattle.std.proofs.Common.{cond, sym, ap, subst, ◌∙◌}
-use Rattle.std.proofs.lemmas.Slice.Eq.{bytes_eq-Decides}
+use Rattle.std.proofs.Common.{sym, ap, subst, ◌∙◌}
 use Rattle.dtx_meaning.specs.Laws.{carried_as, carried_fault, carried_refused}
 use Rattle.dtx_meaning.specs.Meaning.{Meaning, IsCarriedOut, refused}
 use Rattle.dtx_meaning.specs.Status.{IsFault, ended}
 use Rattle.dtx_meaning.specs.declared.status.Outcome.{Outcome}
 use Rattle.dtx_meaning.specs.declared.status.Status.{Status}
-use Rattle.dtx_meaning.specs.declared.status.Status.TheVariants.{Absent, Plan, ReadFault, WriteFault, Memory, Same}
+use Rattle.dtx_meaning.specs.declared.status.Status.TheVariants.{Absent, Plan, ReadFault, WriteFault, Memory}
 use Rattle.dtx_outside.specs.Shelf.{Files}
 use Rattle.dtx_plan.specs.declared.refusal.PlanNo.{PlanNo}
-use Rattle.dtx_words.specs.Names.{repeated}
 use Rattle.dtx_jobs.specs.PlanFile.{under_said, under_file, IsReadAs}
 
 -- ---- it was read
@@ -76,32 +71,3 @@ pub unread_told : {T : Type 0} (said : List ℕ → Result T PlanNo) (number : �
 unread_told said number name status means None now outcome is same ends = tt
 unread_told said number name status means (Some held) now outcome is same ends =
     unread_carried said number (get held name) status (means held) (Some held) now outcome is same ends
-
--- ---- names
-
-not_last : (second third : List ℕ) (a b c : Bool)
-    → cond (a || false) (Some second) (cond (b || (c || false)) (Some third) None) ≡ None
-    → (b ≡ true → ⊥) × (c ≡ true → ⊥)
-not_last second third true b c none = cc
-not_last second third false true c none = cc
-not_last second third false false true none = cc
-not_last second third false false false none = (λ e. cc, λ e. cc)
-
--- of three names that differ the last is neither of the others
-pub last_differs : (first second third : List ℕ) → repeated (first ∷ second ∷ third ∷ []) ≡ None
-    → (first ≢ third) × (second ≢ third)
-last_differs first second third differ =
-    let none = not_last second third (bytes_eq first second) (bytes_eq first third) (bytes_eq second third) differ in (
-      λ same. none.0 ((bytes_eq-Decides first third).1 same),
-      λ same. none.1 ((bytes_eq-Decides second third).1 same),
-    )
-
--- a name comes twice
-pub same_means : (names : List (List ℕ)) (name : List ℕ) (other : Meaning) → Some name ≡ repeated names
-    → (if is_some (repeated names) then refused Same else other) ≡ refused Same
-same_means names name other is = ap (λ r. if is_some r then refused Same else other) (sym is)
-
--- none does
-pub apart_means : (names : List (List ℕ)) (other : Meaning) → None ≡ repeated names
-    → (if is_some (repeated names) then refused Same else other) ≡ other
-apart_means names other is = ap (λ r. if is_some r then refused Same else other) (sym is)

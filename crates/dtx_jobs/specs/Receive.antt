@@ -3,13 +3,14 @@ use Rattle.std.specs.Prelude.{◌≡◌, ℕ, ℤ, false, Some, List, [], ◌∷
 use Rattle.std.specs.FinMap.{get}
 use Rattle.std.specs.Str.{bytes_eq}
 use Rattle.dtx_engine.specs.Recipe.{Recipe}
-use Rattle.dtx_meaning.specs.Meaning.{Meaning}
 use Rattle.dtx_meaning.specs.declared.status.Outcome.{Outcome}
 use Rattle.dtx_outside.specs.Shelf.{Files}
 use Rattle.dtx_receiver.specs.Packets.{all_packets, packets_so_far, received}
 use Rattle.dtx_jobs.specs.Giving.{Giving, all_bytes, answer_of, receiving_by}
+use Rattle.dtx_words.specs.declared.rows.Command.TheVariants.{Receive}
+use Rattle.dtx_jobs.specs.Job.{Job}
 use Rattle.dtx_jobs.specs.Shapes.{segments}
-use Rattle.dtx_jobs.specs.Transform.{transform_meaning}
+use Rattle.dtx_jobs.specs.Transform.{transform_job}
 
 -- what is given where each word is corrected
 abbrev pub with_corrections : Giving
@@ -27,12 +28,12 @@ receive_answer list loose = answer_of with_corrections list loose
 abbrev pub receiving : Recipe
 receiving = receiving_by with_corrections
 
--- what `receive IN OUT` means
-abbrev pub receive_meaning : List (List ℕ) → Files → Meaning
-receive_meaning words held = transform_meaning segments receiving words held
+-- the command `receive IN OUT`
+abbrev pub receive_job : Job
+receive_job = transform_job Receive segments receiving
 
 -- `receive` writes these bytes of that symbol file, whatever the names of its files are
 abbrev pub IsWritten : List ℕ → List ℕ → Type 0
 IsWritten file bytes = (verb input output : List ℕ) (held : Files) → bytes_eq input output ≡ false
     → get held input ≡ Some file
-    → (receive_meaning (verb ∷ input ∷ output ∷ []) held).outputs ≡ (output, bytes) ∷ []
+    → (receive_job.means (verb ∷ input ∷ output ∷ []) held).outputs ≡ (output, bytes) ∷ []

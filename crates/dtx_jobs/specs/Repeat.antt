@@ -2,17 +2,17 @@
 use Rattle.std.specs.Prelude.{ℕ, ℤ, ◌==◌, true, if◌then◌else◌, List, [], ◌∷◌, length, drop}
 use Rattle.dtx_engine.specs.Made.{Made}
 use Rattle.dtx_engine.specs.Recipe.{Recipe}
-use Rattle.dtx_meaning.specs.Meaning.{Meaning}
 use Rattle.dtx_meaning.specs.Status.{ended}
 use Rattle.dtx_meaning.specs.declared.status.Outcome.{Outcome}
 use Rattle.dtx_meaning.specs.declared.status.Status.TheVariants.{Done, NoSync}
-use Rattle.dtx_outside.specs.Shelf.{Files}
 use Rattle.dtx_receiver.specs.Runs.{runs}
 use Rattle.dtx_repeat.specs.Lives.{lives, lives_so_far}
 use Rattle.dtx_jobs.specs.Lives.{sent_over, logged_over, lives_tally}
+use Rattle.dtx_words.specs.declared.rows.Command.TheVariants.{Repeat}
+use Rattle.dtx_jobs.specs.Job.{Job}
 use Rattle.dtx_jobs.specs.Shapes.{segments}
 use Rattle.dtx_jobs.specs.SymbolFile.{file_segments}
-use Rattle.dtx_jobs.specs.Transmit.{transmit_meaning}
+use Rattle.dtx_jobs.specs.Transmit.{transmit_job}
 use Rattle.dtx_jobs.specs.declared.life_tally.LifeTally.{LifeTally}
 
 -- the symbols that the transmitter with this address and delay sends in these lives, and its log
@@ -61,6 +61,6 @@ repeating address delay = record {
   answer = λ bytes loose. repeat_answer address delay (file_segments bytes) loose;
 }
 
--- what `repeat IN ADDRESS DELAY OUT LOG` means
-abbrev pub repeat_meaning : List (List ℕ) → Files → Meaning
-repeat_meaning words held = transmit_meaning segments repeating words held
+-- the command `repeat IN ADDRESS DELAY OUT LOG`
+abbrev pub repeat_job : Job
+repeat_job = transmit_job Repeat segments repeating

@@ -7,14 +7,14 @@ use Rattle.std.specs.List.{range_with_len}
 use Rattle.dtx_engine.specs.Made.{only}
 use Rattle.dtx_engine.specs.Recipe.{Recipe}
 use Rattle.dtx_files.specs.Symbols.{segment_bytes}
-use Rattle.dtx_meaning.specs.Meaning.{Meaning}
 use Rattle.dtx_meaning.specs.declared.status.Status.TheVariants.{Done}
-use Rattle.dtx_outside.specs.Shelf.{Files}
 use Rattle.dtx_receiver.specs.Runs.{sync_due, tracked}
 use Rattle.dtx_soft.specs.Softened.{softened, softened_cost}
+use Rattle.dtx_words.specs.declared.rows.Command.TheVariants.{Soft}
+use Rattle.dtx_jobs.specs.Job.{Job}
 use Rattle.dtx_jobs.specs.Shapes as shapes
 use Rattle.dtx_jobs.specs.SymbolFile.{file_segments}
-use Rattle.dtx_jobs.specs.Transform.{transform_meaning}
+use Rattle.dtx_jobs.specs.Transform.{transform_job}
 
 -- ---- places
 
@@ -96,9 +96,9 @@ softening = record {
   answer = λ bytes loose. record { status = Done; numbers = soft_numbers (file_segments bytes) loose; shown = 4 };
 }
 
--- what `soft IN OUT` means
-abbrev pub soft_meaning : List (List ℕ) → Files → Meaning
-soft_meaning words held = transform_meaning shapes.segments softening words held
+-- the command `soft IN OUT`
+abbrev pub soft_job : Job
+soft_job = transform_job Soft shapes.segments softening
 
 -- ---- a field
 

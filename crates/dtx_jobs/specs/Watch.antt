@@ -3,10 +3,8 @@ use Rattle.std.specs.Prelude.{ℕ, true, List, [], ◌∷◌, length}
 use Rattle.std.specs.List.{sum_by}
 use Rattle.dtx_engine.specs.Made.{only}
 use Rattle.dtx_engine.specs.Recipe.{Recipe}
-use Rattle.dtx_meaning.specs.Meaning.{Meaning}
 use Rattle.dtx_meaning.specs.declared.status.Outcome.{Outcome}
 use Rattle.dtx_meaning.specs.declared.status.Status.TheVariants.{Done}
-use Rattle.dtx_outside.specs.Shelf.{Files}
 use Rattle.dtx_packets.specs.Packets.{packets_of}
 use Rattle.dtx_watch.specs.Watch.{watch, told, waiting}
 use Rattle.dtx_watch.specs.WatchText.{watch_text}
@@ -17,8 +15,10 @@ use Rattle.dtx_watch.specs.declared.notes.StatesNote.{StatesNote}
 use Rattle.dtx_watch.specs.declared.notes.StatesNote.TheVariants as states
 use Rattle.dtx_watch.specs.declared.notes.ClockNote.{ClockNote}
 use Rattle.dtx_watch.specs.declared.notes.ClockNote.TheVariants as clock
+use Rattle.dtx_words.specs.declared.rows.Command.TheVariants.{Watch}
+use Rattle.dtx_jobs.specs.Job.{Job}
 use Rattle.dtx_jobs.specs.Shapes.{single_packets}
-use Rattle.dtx_jobs.specs.Transform.{transform_meaning}
+use Rattle.dtx_jobs.specs.Transform.{transform_job}
 use Rattle.dtx_jobs.specs.declared.watch_tally.WatchTally.{WatchTally}
 
 -- ---- the text
@@ -99,6 +99,6 @@ watching = record {
   answer = λ bytes loose. watch_answer (packets_of bytes) loose;
 }
 
--- what `watch FEED OUT` means
-abbrev pub watch_meaning : List (List ℕ) → Files → Meaning
-watch_meaning words held = transform_meaning single_packets watching words held
+-- the command `watch FEED OUT`
+abbrev pub watch_job : Job
+watch_job = transform_job Watch single_packets watching

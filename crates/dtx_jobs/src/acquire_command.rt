@@ -1,15 +1,12 @@
 // `acquire SCALE IN OUT`: the segments of a capture of symbols that begins anywhere.
-ghost use Rattle.std.specs.Prelude.{◌≡◌, ◌<◌, ◌≤◌, Some, IfSome};
+ghost use Rattle.std.specs.Prelude.{◌<◌, ◌≤◌, Some};
 ghost use Rattle.std.specs.Str.{bytes_eq};
 ghost use Rattle.dtx_engine.specs.Recipe.{transformed};
-ghost use Rattle.dtx_meaning.specs.Meaning.{IsCarriedOut};
-ghost use Rattle.dtx_meaning.specs.Status.{IsOfInputs, blame_of};
-ghost use Rattle.dtx_outside.specs.Counts.{HasGone};
 ghost use Rattle.dtx_words.specs.Number.{number_within};
 ghost use Rattle.dtx_words.specs.declared.rows.Command.TheVariants as command;
-ghost use Rattle.dtx_jobs.specs.Acquire.{acquire_at, acquire_meaning, acquiring};
-ghost use Rattle.dtx_jobs.specs.Answers.{Knows};
-ghost use Rattle.dtx_jobs.specs.OfWords.{IsOfWords, acquire_same, number_same};
+ghost use Rattle.dtx_jobs.specs.Acquire.{acquire_at, acquire_job, acquiring};
+ghost use Rattle.dtx_jobs.specs.Job.{IsPerformed, IsJobPerformed};
+ghost use Rattle.dtx_jobs.specs.OfWords.{number_same};
 ghost use Rattle.dtx_jobs.specs.Shapes as shapes;
 
 use crate::acquisition::Acquisition;
@@ -26,11 +23,8 @@ use std::alloc::Global;
 /// are the bytes of IN, the runs of which something is left, the segments, what all least paths cost, and the bytes
 /// in no segment. Of its refusals it knows those that `receive` knows.
 pub fn acquire<S: Shelf>(alloc: Global, words: &[Word], shelf: &mut S) -> Outcome
-    ensures carried { IfSome (S.files shelf.old) (λ held.
-        IsCarriedOut (acquire_meaning words.now held) (Some held) result (S.files shelf.new)) }
-    ensures words { IsOfWords (acquire_same words.now) 1 result.status }
-    ensures answers { Knows command.Acquire result.status }
-    ensures gone { HasGone (S.counts shelf.old) (S.counts shelf.new) (blame_of result.status) }
+    ensures { IsJobPerformed acquire_job words.now result (S.files shelf.old) (S.files shelf.new)
+        (S.counts shelf.old) (S.counts shelf.new) }
 {
     match words {
         [_, scale, input, output] => {
@@ -46,7 +40,7 @@ pub fn acquire<S: Shelf>(alloc: Global, words: &[Word], shelf: &mut S) -> Outcom
     }
 }
 
-/// Reads the scale, and does so with files of these names.
+/// Reads the scale, and acquires the segments of the input of that name.
 fn acquire_read<S: Shelf>(
     alloc: Global,
     scale: &str,
@@ -54,12 +48,10 @@ fn acquire_read<S: Shelf>(
     output: &str,
     shelf: &mut S,
 ) -> Outcome
-    ensures carried { IfSome (S.files shelf.old) (λ held. IsCarriedOut
-        (acquire_at (number_within 1 18 scale.now) input.now output.now held) (Some held) result (S.files shelf.new)) }
-    ensures words { IsOfWords (number_same (number_within 1 18 scale.now) (bytes_eq input.now output.now)) 1
-        result.status }
-    ensures answers { Knows command.Acquire result.status }
-    ensures gone { HasGone (S.counts shelf.old) (S.counts shelf.new) (blame_of result.status) }
+    ensures { IsPerformed command.Acquire (acquire_at (number_within 1 18 scale.now) input.now output.now)
+        (number_same (number_within 1 18 scale.now) (bytes_eq input.now output.now)) 1 result
+        (S.files shelf.old) (S.files shelf.new)
+        (S.counts shelf.old) (S.counts shelf.new) }
 {
     match number_within(1, MAX_SCALE as u64, scale) {
         Some(scale) => acquire_files(alloc, scale as u8, input, output, shelf),
@@ -67,7 +59,7 @@ fn acquire_read<S: Shelf>(
     }
 }
 
-/// Does so at a scale.
+/// Acquires the segments of the input of that name at a scale.
 #[inline(never)]
 fn acquire_files<S: Shelf>(
     alloc: Global,
@@ -78,12 +70,9 @@ fn acquire_files<S: Shelf>(
 ) -> Outcome
     requires from { 0 < scale }
     requires to { scale ≤ MAX_SCALE }
-    ensures carried { IfSome (S.files shelf.old) (λ held. IsCarriedOut
-        (transformed shapes.single_bytes (acquiring scale) input.now output.now held)
-        (Some held) result (S.files shelf.new)) }
-    ensures words { IsOfInputs (bytes_eq input.now output.now) 1 result.status }
-    ensures answers { Knows command.Acquire result.status }
-    ensures gone { HasGone (S.counts shelf.old) (S.counts shelf.new) (blame_of result.status) }
+    ensures { IsPerformed command.Acquire (transformed shapes.single_bytes (acquiring scale) input.now output.now)
+        (Some (bytes_eq input.now output.now)) 1 result (S.files shelf.old) (S.files shelf.new)
+        (S.counts shelf.old) (S.counts shelf.new) }
 {
     match Acquisition::new(alloc, scale) {
         Ok(mut acquisition) => transform(alloc, &mut acquisition, input, output, shelf),

@@ -1,12 +1,6 @@
 // `dvb read IN OUT`: the packets of a stream that the outer coding of DVB has sent.
-ghost use Rattle.std.specs.Prelude.{Some, IfSome};
-ghost use Rattle.dtx_meaning.specs.Meaning.{IsCarriedOut};
-ghost use Rattle.dtx_meaning.specs.Status.{blame_of};
-ghost use Rattle.dtx_outside.specs.Counts.{HasGone};
-ghost use Rattle.dtx_words.specs.declared.rows.Command.TheVariants as command;
-ghost use Rattle.dtx_jobs.specs.Answers.{Knows};
-ghost use Rattle.dtx_jobs.specs.DvbRead.{dvb_read_meaning};
-ghost use Rattle.dtx_jobs.specs.OfWords.{IsOfWords, dvb_same};
+ghost use Rattle.dtx_jobs.specs.Job.{IsJobPerformed};
+ghost use Rattle.dtx_jobs.specs.DvbRead.{dvb_read_job};
 
 use crate::dvb_reading::DvbReading;
 use crate::transforming::transform_dvb;
@@ -20,11 +14,8 @@ use std::alloc::Global;
 /// set. The numbers are the blocks, the packets, the bytes put right, the packets flagged, and the bytes behind the
 /// last whole block.
 pub fn dvb_read<S: Shelf>(alloc: Global, words: &[Word], shelf: &mut S) -> Outcome
-    ensures carried { IfSome (S.files shelf.old) (λ held.
-        IsCarriedOut (dvb_read_meaning words.now held) (Some held) result (S.files shelf.new)) }
-    ensures words { IsOfWords (dvb_same words.now) 1 result.status }
-    ensures answers { Knows command.DvbRead result.status }
-    ensures gone { HasGone (S.counts shelf.old) (S.counts shelf.new) (blame_of result.status) }
+    ensures { IsJobPerformed dvb_read_job words.now result (S.files shelf.old) (S.files shelf.new)
+        (S.counts shelf.old) (S.counts shelf.new) }
 {
     transform_dvb::<DvbReading, S>(alloc, words, shelf)
 }

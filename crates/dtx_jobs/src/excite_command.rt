@@ -1,12 +1,6 @@
 // `excite FEED ADDRESS DELAY OUT LOG`: what an exciter sends for a feed, and its log.
-ghost use Rattle.std.specs.Prelude.{Some, IfSome};
-ghost use Rattle.dtx_meaning.specs.Meaning.{IsCarriedOut};
-ghost use Rattle.dtx_meaning.specs.Status.{blame_of};
-ghost use Rattle.dtx_outside.specs.Counts.{HasGone};
-ghost use Rattle.dtx_words.specs.declared.rows.Command.TheVariants as command;
-ghost use Rattle.dtx_jobs.specs.Answers.{Knows};
-ghost use Rattle.dtx_jobs.specs.Excite.{excite_meaning};
-ghost use Rattle.dtx_jobs.specs.OfWords.{IsOfWords, excite_same};
+ghost use Rattle.dtx_jobs.specs.Job.{IsJobPerformed};
+ghost use Rattle.dtx_jobs.specs.Excite.{excite_job};
 
 use crate::excitation::Excitation;
 use crate::transmitting::transmit;
@@ -21,11 +15,8 @@ use std::alloc::Global;
 /// The numbers are the packets, the segments, the presets and the mutes of the log, and the bytes behind the last whole
 /// packet.
 pub fn excite<S: Shelf>(alloc: Global, words: &[Word], shelf: &mut S) -> Outcome
-    ensures carried { IfSome (S.files shelf.old) (λ held.
-        IsCarriedOut (excite_meaning words.now held) (Some held) result (S.files shelf.new)) }
-    ensures words { IsOfWords (excite_same words.now) 1 result.status }
-    ensures answers { Knows command.Excite result.status }
-    ensures gone { HasGone (S.counts shelf.old) (S.counts shelf.new) (blame_of result.status) }
+    ensures { IsJobPerformed excite_job words.now result (S.files shelf.old) (S.files shelf.new)
+        (S.counts shelf.old) (S.counts shelf.new) }
 {
     transmit::<Excitation, S>(alloc, words, shelf)
 }

@@ -1,4 +1,5 @@
-//! The commands of one stream or file: each a meaning, an engine that makes it, and one call.
+//! The commands of one stream or file: each a job, whose meaning is a function of words and files, an engine that makes
+//! it, and one call.
 #![tactic(auto)]
 
 mod acquire_command;
@@ -6,6 +7,7 @@ pub mod acquire_laws;
 mod acquisition;
 mod adapt_command;
 mod code_command;
+mod combining;
 mod damaged;
 mod dvb_code_command;
 mod dvb_coding;

@@ -1,5 +1,5 @@
 // `make SEED COUNT OUT`: a made stream.
-ghost use Rattle.std.specs.Prelude.{◌≡◌, false, [], Some, Option, IfSome};
+ghost use Rattle.std.specs.Prelude.{◌≡◌, false, [], Some, Option};
 ghost use Rattle.dtx_make.specs.Made.{made_stream};
 ghost use Rattle.dtx_meaning.specs.Meaning.{IsCarriedOut};
 ghost use Rattle.dtx_meaning.specs.Status.{IsOfInputs, blame_of};
@@ -8,8 +8,9 @@ ghost use Rattle.dtx_outside.specs.Shelf.{Files};
 ghost use Rattle.dtx_outside.specs.Written.{IsWritten, IsFlushOf};
 ghost use Rattle.dtx_words.specs.declared.rows.Command.TheVariants as command;
 ghost use Rattle.dtx_jobs.specs.Answers.{Knows};
-ghost use Rattle.dtx_jobs.specs.Make.{made_file, made_of, make_meaning};
-ghost use Rattle.dtx_jobs.specs.OfWords.{IsOfWords, make_same, numbers_same};
+ghost use Rattle.dtx_jobs.specs.Job.{IsPerformed, IsJobPerformed};
+ghost use Rattle.dtx_jobs.specs.Make.{made_file, made_of, make_job};
+ghost use Rattle.dtx_jobs.specs.OfWords.{numbers_same};
 
 use dtx_make::packet;
 use dtx_meaning::{Outcome, Status, ended};
@@ -21,11 +22,8 @@ use std::alloc::Global;
 /// Writes the packets 0 to COUNT - 1 that `dtx_make::packet` gives for SEED to OUT. SEED is 0 to 2^64 - 1 and COUNT 0
 /// to 624,000,000, in decimal digits without sign and without a leading zero unless it is `0`. The number is COUNT.
 pub fn make<S: Shelf>(alloc: Global, words: &[Word], shelf: &mut S) -> Outcome
-    ensures carried { IfSome (S.files shelf.old) (λ held.
-        IsCarriedOut (make_meaning words.now held) (Some held) result (S.files shelf.new)) }
-    ensures words { IsOfWords (make_same words.now) 0 result.status }
-    ensures answers { Knows command.Make result.status }
-    ensures gone { HasGone (S.counts shelf.old) (S.counts shelf.new) (blame_of result.status) }
+    ensures { IsJobPerformed make_job words.now result (S.files shelf.old) (S.files shelf.new)
+        (S.counts shelf.old) (S.counts shelf.new) }
 {
     match words {
         [_, seed, count, output] => {
@@ -45,11 +43,8 @@ fn make_ordered<S: Shelf>(
     output: &str,
     shelf: &mut S,
 ) -> Outcome
-    ensures carried { IfSome (S.files shelf.old) (λ held.
-        IsCarriedOut (made_of seed count output.now) (Some held) result (S.files shelf.new)) }
-    ensures words { IsOfWords (numbers_same seed count false) 0 result.status }
-    ensures answers { Knows command.Make result.status }
-    ensures gone { HasGone (S.counts shelf.old) (S.counts shelf.new) (blame_of result.status) }
+    ensures { IsPerformed command.Make (λ held. made_of seed count output.now) (numbers_same seed count false) 0 result
+        (S.files shelf.old) (S.files shelf.new) (S.counts shelf.old) (S.counts shelf.new) }
 {
     match (seed, count) {
         (Some(seed), Some(count)) => make_stream(alloc, seed, count, output, shelf),
@@ -77,7 +72,7 @@ pub fn make_stream<S: Shelf>(
     }
 }
 
-/// Begins the file, and makes them in it.
+/// Begins the file, and makes the packets in it.
 #[tactic(auto, using(crate::specs::AnswersLaws::write_known, crate::specs::OfWordsLaws::write_of_inputs))]
 fn make_file<S: Shelf>(
     seed: u64,
@@ -98,7 +93,7 @@ fn make_file<S: Shelf>(
     }
 }
 
-/// Makes them in a file that was begun, and answers.
+/// Makes the packets in a file that was begun, and answers.
 #[tactic(auto, using(crate::specs::AnswersLaws::write_known, crate::specs::OfWordsLaws::write_of_inputs))]
 fn fill_file<S: Shelf>(
     seed: u64,

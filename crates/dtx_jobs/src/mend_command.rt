@@ -1,12 +1,6 @@
 // `mend IN OUT`: the packets of a symbol file of which some symbols are missing.
-ghost use Rattle.std.specs.Prelude.{Some, IfSome};
-ghost use Rattle.dtx_meaning.specs.Meaning.{IsCarriedOut};
-ghost use Rattle.dtx_meaning.specs.Status.{blame_of};
-ghost use Rattle.dtx_outside.specs.Counts.{HasGone};
-ghost use Rattle.dtx_words.specs.declared.rows.Command.TheVariants as command;
-ghost use Rattle.dtx_jobs.specs.Answers.{Knows};
-ghost use Rattle.dtx_jobs.specs.Mend.{mend_meaning};
-ghost use Rattle.dtx_jobs.specs.OfWords.{IsOfWords, two_same};
+ghost use Rattle.dtx_jobs.specs.Job.{IsJobPerformed};
+ghost use Rattle.dtx_jobs.specs.Mend.{mend_job};
 
 use crate::reception::Reception;
 use crate::transforming::transform;
@@ -21,11 +15,8 @@ use std::alloc::Global;
 /// segments read, the runs, the packets written, the bytes put right, missing ones among them, the packets flagged, and
 /// the bytes behind the last whole segment. It is refused as `receive` is.
 pub fn mend<S: Shelf>(alloc: Global, words: &[Word], shelf: &mut S) -> Outcome
-    ensures carried { IfSome (S.files shelf.old) (λ held.
-        IsCarriedOut (mend_meaning words.now held) (Some held) result (S.files shelf.new)) }
-    ensures words { IsOfWords (two_same words.now) 1 result.status }
-    ensures answers { Knows command.Mend result.status }
-    ensures gone { HasGone (S.counts shelf.old) (S.counts shelf.new) (blame_of result.status) }
+    ensures { IsJobPerformed mend_job words.now result (S.files shelf.old) (S.files shelf.new)
+        (S.counts shelf.old) (S.counts shelf.new) }
 {
     transform::<Reception<MendReceiver>, S>(alloc, words, shelf)
 }

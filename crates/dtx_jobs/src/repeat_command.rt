@@ -1,12 +1,6 @@
 // `repeat IN ADDRESS DELAY OUT LOG`: what a transmitter sends again that is fed from the air, and its log.
-ghost use Rattle.std.specs.Prelude.{Some, IfSome};
-ghost use Rattle.dtx_meaning.specs.Meaning.{IsCarriedOut};
-ghost use Rattle.dtx_meaning.specs.Status.{blame_of};
-ghost use Rattle.dtx_outside.specs.Counts.{HasGone};
-ghost use Rattle.dtx_words.specs.declared.rows.Command.TheVariants as command;
-ghost use Rattle.dtx_jobs.specs.Answers.{Knows};
-ghost use Rattle.dtx_jobs.specs.OfWords.{IsOfWords, excite_same};
-ghost use Rattle.dtx_jobs.specs.Repeat.{repeat_meaning};
+ghost use Rattle.dtx_jobs.specs.Job.{IsJobPerformed};
+ghost use Rattle.dtx_jobs.specs.Repeat.{repeat_job};
 
 use crate::repetition::Repetition;
 use crate::transmitting::transmit;
@@ -23,11 +17,8 @@ use std::alloc::Global;
 /// segments read, the runs, the packets received, the segments written, the presets and the mutes of the log, and the
 /// bytes behind the last whole segment.
 pub fn repeat<S: Shelf>(alloc: Global, words: &[Word], shelf: &mut S) -> Outcome
-    ensures carried { IfSome (S.files shelf.old) (λ held.
-        IsCarriedOut (repeat_meaning words.now held) (Some held) result (S.files shelf.new)) }
-    ensures words { IsOfWords (excite_same words.now) 1 result.status }
-    ensures answers { Knows command.Repeat result.status }
-    ensures gone { HasGone (S.counts shelf.old) (S.counts shelf.new) (blame_of result.status) }
+    ensures { IsJobPerformed repeat_job words.now result (S.files shelf.old) (S.files shelf.new)
+        (S.counts shelf.old) (S.counts shelf.new) }
 {
     transmit::<Repetition, S>(alloc, words, shelf)
 }

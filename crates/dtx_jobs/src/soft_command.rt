@@ -1,12 +1,6 @@
 // `soft IN OUT`: symbols with each coder's replaced by those of its least path.
-ghost use Rattle.std.specs.Prelude.{Some, IfSome};
-ghost use Rattle.dtx_meaning.specs.Meaning.{IsCarriedOut};
-ghost use Rattle.dtx_meaning.specs.Status.{blame_of};
-ghost use Rattle.dtx_outside.specs.Counts.{HasGone};
-ghost use Rattle.dtx_words.specs.declared.rows.Command.TheVariants as command;
-ghost use Rattle.dtx_jobs.specs.Answers.{Knows};
-ghost use Rattle.dtx_jobs.specs.OfWords.{IsOfWords, two_same};
-ghost use Rattle.dtx_jobs.specs.Soft.{soft_meaning};
+ghost use Rattle.dtx_jobs.specs.Job.{IsJobPerformed};
+ghost use Rattle.dtx_jobs.specs.Soft.{soft_job};
 
 use crate::softening::Softening;
 use crate::transforming::transform;
@@ -19,11 +13,8 @@ use std::alloc::Global;
 /// bytes behind the last whole segment are left out. The numbers are the segments, the fields with a whole group, what
 /// all least paths cost, and the bytes left out.
 pub fn soft<S: Shelf>(alloc: Global, words: &[Word], shelf: &mut S) -> Outcome
-    ensures carried { IfSome (S.files shelf.old) (λ held.
-        IsCarriedOut (soft_meaning words.now held) (Some held) result (S.files shelf.new)) }
-    ensures words { IsOfWords (two_same words.now) 1 result.status }
-    ensures answers { Knows command.Soft result.status }
-    ensures gone { HasGone (S.counts shelf.old) (S.counts shelf.new) (blame_of result.status) }
+    ensures { IsJobPerformed soft_job words.now result (S.files shelf.old) (S.files shelf.new)
+        (S.counts shelf.old) (S.counts shelf.new) }
 {
     transform::<Softening, S>(alloc, words, shelf)
 }

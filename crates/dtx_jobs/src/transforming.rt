@@ -1,14 +1,11 @@
 // `.. IN OUT` and `dvb .. IN OUT`: what an engine makes of an input alone.
-ghost use Rattle.std.specs.Prelude.{◌≡◌, [], Some, IfOk, IfSome};
+ghost use Rattle.std.specs.Prelude.{◌≡◌, [], Some, IfOk};
 ghost use Rattle.std.specs.Str.{bytes_eq};
 ghost use Rattle.dtx_engine.specs.Recipe.{IsAnswerOf, Recipe, transformed};
-ghost use Rattle.dtx_meaning.specs.Meaning.{IsCarriedOut};
-ghost use Rattle.dtx_meaning.specs.Status.{IsOfInputs, blame_of};
-ghost use Rattle.dtx_outside.specs.Counts.{HasGone};
 ghost use Rattle.dtx_words.specs.declared.rows.Command.{Command};
 ghost use Rattle.dtx_jobs.specs.Answers.{Knows};
-ghost use Rattle.dtx_jobs.specs.OfWords.{IsOfWords, dvb_same, two_same};
-ghost use Rattle.dtx_jobs.specs.Transform.{dvb_meaning, transform_meaning};
+ghost use Rattle.dtx_jobs.specs.Job.{IsPerformed, IsJobPerformed};
+ghost use Rattle.dtx_jobs.specs.Transform.{dvb_job, transform_job};
 
 use dtx_engine::Engine;
 use dtx_meaning::{Outcome, Status, ended};
@@ -40,11 +37,9 @@ pub(crate) fn transform<E: Transforming, S: Shelf>(
     words: &[Word],
     shelf: &mut S,
 ) -> Outcome
-    ensures carried { IfSome (S.files shelf.old) (λ held.
-        IsCarriedOut (transform_meaning E.shape E.makes words.now held) (Some held) result (S.files shelf.new)) }
-    ensures words { IsOfWords (two_same words.now) 1 result.status }
-    ensures answers { Knows E.command result.status }
-    ensures gone { HasGone (S.counts shelf.old) (S.counts shelf.new) (blame_of result.status) }
+    ensures { IsJobPerformed (transform_job E.command E.shape E.makes) words.now result
+        (S.files shelf.old) (S.files shelf.new)
+        (S.counts shelf.old) (S.counts shelf.new) }
 {
     match words {
         [_, input, output] => {
@@ -54,17 +49,15 @@ pub(crate) fn transform<E: Transforming, S: Shelf>(
     }
 }
 
-/// Does so where the command's own word is the second one.
+/// Gives the units of IN to an engine, which makes OUT of them, where the command's own word is the second one.
 pub(crate) fn transform_dvb<E: Transforming, S: Shelf>(
     alloc: Global,
     words: &[Word],
     shelf: &mut S,
 ) -> Outcome
-    ensures carried { IfSome (S.files shelf.old) (λ held.
-        IsCarriedOut (dvb_meaning E.shape E.makes words.now held) (Some held) result (S.files shelf.new)) }
-    ensures words { IsOfWords (dvb_same words.now) 1 result.status }
-    ensures answers { Knows E.command result.status }
-    ensures gone { HasGone (S.counts shelf.old) (S.counts shelf.new) (blame_of result.status) }
+    ensures { IsJobPerformed (dvb_job E.command E.shape E.makes) words.now result
+        (S.files shelf.old) (S.files shelf.new)
+        (S.counts shelf.old) (S.counts shelf.new) }
 {
     match words {
         [_, _, input, output] => {
@@ -74,7 +67,7 @@ pub(crate) fn transform_dvb<E: Transforming, S: Shelf>(
     }
 }
 
-/// Does so with files of these names.
+/// Gives the units of the input of that name to an engine, which makes the output of that name of them.
 #[inline(never)]
 fn transform_files<E: Transforming, S: Shelf>(
     alloc: Global,
@@ -82,11 +75,9 @@ fn transform_files<E: Transforming, S: Shelf>(
     output: &str,
     shelf: &mut S,
 ) -> Outcome
-    ensures carried { IfSome (S.files shelf.old) (λ held. IsCarriedOut
-        (transformed E.shape E.makes input.now output.now held) (Some held) result (S.files shelf.new)) }
-    ensures words { IsOfInputs (bytes_eq input.now output.now) 1 result.status }
-    ensures answers { Knows E.command result.status }
-    ensures gone { HasGone (S.counts shelf.old) (S.counts shelf.new) (blame_of result.status) }
+    ensures { IsPerformed E.command (transformed E.shape E.makes input.now output.now)
+        (Some (bytes_eq input.now output.now)) 1 result (S.files shelf.old) (S.files shelf.new)
+        (S.counts shelf.old) (S.counts shelf.new) }
 {
     match E::new(alloc) {
         Ok(mut engine) => dtx_engine::transform(alloc, &mut engine, input, output, shelf),

@@ -1,16 +1,17 @@
 // `.. IN ADDRESS DELAY OUT LOG`: what a transmitter sends for an input, and its log.
-ghost use Rattle.std.specs.Prelude.{◌≡◌, ◌≢◌, is_some, ℕ, [], ◌∷◌, Some, IfOk, IfSome};
+ghost use Rattle.std.specs.Prelude.{◌≡◌, ◌≢◌, false, is_some, ℕ, [], ◌∷◌, Some, IfOk, IfSome};
 ghost use Rattle.std.specs.FinMap as held_at;
 ghost use Rattle.dtx_engine.specs.Recipe.{IsAnswerOf, Recipe, meaning};
 ghost use Rattle.dtx_meaning.specs.Meaning.{IsCarriedOut};
-ghost use Rattle.dtx_meaning.specs.Status.{IsOfInput, IsOfInputs, blame_of};
+ghost use Rattle.dtx_meaning.specs.Status.{IsOfInput, blame_of};
 ghost use Rattle.dtx_outside.specs.Counts.{HasGone};
 ghost use Rattle.dtx_words.specs.Names.{repeated};
 ghost use Rattle.dtx_words.specs.Number.{number_in};
 ghost use Rattle.dtx_words.specs.declared.rows.Command.{Command};
 ghost use Rattle.dtx_jobs.specs.Answers.{Knows};
-ghost use Rattle.dtx_jobs.specs.OfWords.{IsOfWords, excite_same, numbers_same};
-ghost use Rattle.dtx_jobs.specs.Transmit.{transmit_at, transmit_meaning, transmit_with};
+ghost use Rattle.dtx_jobs.specs.Job.{IsPerformed, IsJobPerformed};
+ghost use Rattle.dtx_jobs.specs.OfWords.{numbers_same};
+ghost use Rattle.dtx_jobs.specs.Transmit.{transmit_at, transmit_job, transmit_with};
 
 use dtx_engine::{Engine, Input, Two, carry_out};
 use dtx_meaning::{Outcome, Status, ended};
@@ -54,11 +55,9 @@ pub(crate) fn transmit<E: Transmitting, S: Shelf>(
     words: &[Word],
     shelf: &mut S,
 ) -> Outcome
-    ensures carried { IfSome (S.files shelf.old) (λ held.
-        IsCarriedOut (transmit_meaning E.shape E.sends words.now held) (Some held) result (S.files shelf.new)) }
-    ensures words { IsOfWords (excite_same words.now) 1 result.status }
-    ensures answers { Knows E.command result.status }
-    ensures gone { HasGone (S.counts shelf.old) (S.counts shelf.new) (blame_of result.status) }
+    ensures { IsJobPerformed (transmit_job E.command E.shape E.sends) words.now result
+        (S.files shelf.old) (S.files shelf.new)
+        (S.counts shelf.old) (S.counts shelf.new) }
 {
     match words {
         [_, input, address, delay, output, log] => {
@@ -73,7 +72,7 @@ pub(crate) fn transmit<E: Transmitting, S: Shelf>(
     }
 }
 
-/// Reads the address and the delay, and does so with these files.
+/// Reads the address and the delay, and gives the units of these files' input to the engine of that transmitter.
 fn transmit_read<E: Transmitting, S: Shelf>(
     alloc: Global,
     address: &str,
@@ -81,15 +80,13 @@ fn transmit_read<E: Transmitting, S: Shelf>(
     files: TransmitterFiles<'_>,
     shelf: &mut S,
 ) -> Outcome
-    ensures carried { IfSome (S.files shelf.old) (λ held. IsCarriedOut
+    ensures { IsPerformed E.command
         (transmit_with E.shape E.sends (number_in 65535 address.now) (number_in 4294967295 delay.now)
-        files.entry.input.now files.entry.output.now files.entry.log.now held)
-        (Some held) result (S.files shelf.new)) }
-    ensures words { IsOfWords (numbers_same (number_in 65535 address.now) (number_in 4294967295 delay.now)
+        files.entry.input.now files.entry.output.now files.entry.log.now)
+        (numbers_same (number_in 65535 address.now) (number_in 4294967295 delay.now)
         (is_some (repeated (files.entry.input.now ∷ files.entry.output.now ∷ files.entry.log.now ∷ []))))
-        1 result.status }
-    ensures answers { Knows E.command result.status }
-    ensures gone { HasGone (S.counts shelf.old) (S.counts shelf.new) (blame_of result.status) }
+        1 result (S.files shelf.old) (S.files shelf.new)
+        (S.counts shelf.old) (S.counts shelf.new) }
 {
     match number_up_to(u16::MAX as u64, address) {
         Some(address) => match number_up_to(u32::MAX as u64, delay) {
@@ -102,7 +99,7 @@ fn transmit_read<E: Transmitting, S: Shelf>(
     }
 }
 
-/// Does so with files of these names.
+/// Gives the units of the input to the engine of that transmitter, where no two of the names are equal.
 fn transmit_files<E: Transmitting, S: Shelf>(
     alloc: Global,
     address: u16,
@@ -110,15 +107,11 @@ fn transmit_files<E: Transmitting, S: Shelf>(
     files: TransmitterFiles<'_>,
     shelf: &mut S,
 ) -> Outcome
-    ensures carried { IfSome (S.files shelf.old) (λ held. IsCarriedOut
-        (transmit_at E.shape E.sends address delay files.entry.input.now files.entry.output.now files.entry.log.now
-        held)
-        (Some held) result (S.files shelf.new)) }
-    ensures words { IsOfInputs
-        (is_some (repeated (files.entry.input.now ∷ files.entry.output.now ∷ files.entry.log.now ∷ []))) 1
-        result.status }
-    ensures answers { Knows E.command result.status }
-    ensures gone { HasGone (S.counts shelf.old) (S.counts shelf.new) (blame_of result.status) }
+    ensures { IsPerformed E.command
+        (transmit_at E.shape E.sends address delay files.entry.input.now files.entry.output.now files.entry.log.now)
+        (Some (is_some (repeated (files.entry.input.now ∷ files.entry.output.now ∷ files.entry.log.now ∷ []))))
+        1 result (S.files shelf.old) (S.files shelf.new)
+        (S.counts shelf.old) (S.counts shelf.new) }
 {
     match repeated_name(&[files.input, files.output, files.log]) {
         Some(_) => ended(Status::Same),
@@ -126,7 +119,7 @@ fn transmit_files<E: Transmitting, S: Shelf>(
     }
 }
 
-/// Does so with files whose names differ.
+/// Gives the units of the input to the engine of that transmitter, where the names differ.
 #[inline(never)]
 fn transmit_apart<E: Transmitting, S: Shelf>(
     alloc: Global,
@@ -138,13 +131,11 @@ fn transmit_apart<E: Transmitting, S: Shelf>(
     requires output { files.input.now ≢ files.output.now }
     requires log { files.input.now ≢ files.log.now }
     requires both { files.output.now ≢ files.log.now }
-    ensures carried { IfSome (S.files shelf.old) (λ held. IsCarriedOut
-        (meaning E.shape (E.sends address delay) 0 (files.entry.output.now ∷ files.entry.log.now ∷ [])
+    ensures { IsPerformed E.command
+        (λ held. meaning E.shape (E.sends address delay) 0 (files.entry.output.now ∷ files.entry.log.now ∷ [])
         (held_at.get held files.entry.input.now))
-        (Some held) result (S.files shelf.new)) }
-    ensures input { IsOfInput 0 result.status }
-    ensures answers { Knows E.command result.status }
-    ensures gone { HasGone (S.counts shelf.old) (S.counts shelf.new) (blame_of result.status) }
+        (Some false) 1 result (S.files shelf.old) (S.files shelf.new)
+        (S.counts shelf.old) (S.counts shelf.new) }
 {
     match E::new(alloc, address, delay) {
         Ok(mut engine) => transmit_both(alloc, &mut engine, files, shelf),

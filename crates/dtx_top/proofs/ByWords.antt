@@ -10,7 +10,7 @@ use Rattle.dtx_meaning.specs.Status.{IsOfInputs}
 use Rattle.dtx_meaning.specs.declared.status.Status.{Status}
 use Rattle.dtx_meaning.specs.declared.status.Status.TheVariants.{Usage, Memory}
 use Rattle.dtx_jobs.specs.Answers.{Knows}
-use Rattle.dtx_jobs.specs.OfWords.{IsOfWords, acquire_same, excite_same, make_same, number_same, numbers_same}
+use Rattle.dtx_jobs.specs.OfWords.{IsOfWords, acquire_same, transmit_same, make_same, number_same, numbers_same}
 use Rattle.dtx_jobs.specs.OfWords.{dvb_same, three_same, two_same}
 use Rattle.dtx_words.specs.Fitting.{command_of, fit_fields, fits}
 use Rattle.dtx_words.specs.FittingLaws.{command_fits}
@@ -111,10 +111,10 @@ number_told (Some number) same inputs status one is = is
 
 -- `excite FEED ADDRESS DELAY OUT LOG`
 excite_told : (verb : List ℕ) (words : List (List ℕ)) (status : Status) → fit_fields excite_row.fields words ≡ true
-    → IsOfWords (excite_same (verb ∷ words)) 1 status
+    → IsOfWords (transmit_same (verb ∷ words)) 1 status
     → IsOfInputs (is_some (repeated (names_at excite_row.fields words))) 1 status
 excite_told verb words status fit = with_five (λ ws. fit_fields excite_row.fields ws ≡ true
-    → IsOfWords (excite_same (verb ∷ ws)) 1 status
+    → IsOfWords (transmit_same (verb ∷ ws)) 1 status
     → IsOfInputs (is_some (repeated (names_at excite_row.fields ws))) 1 status) words
     (fit_length excite_row.fields words fit)
     (λ a b c d e fit is.

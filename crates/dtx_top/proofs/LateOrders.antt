@@ -1,10 +1,13 @@
--- A group with a placeholder orders something.
+-- A group with a placeholder orders something, also for an exciter that locks to a later mark.
 use Rattle.std.proofs.Common.{◌≡◌, ℕ, zero, suc, ◌+◌, ◌*◌, ◌/◌, ◌%◌, ◌<◌, ◌≤◌, Bool, true, false, List, [], get_or}
-use Rattle.std.proofs.Common.{refl, sym, ap, subst, ◌∙◌, arith}
-use Rattle.std.specs.Prelude.{◌||◌}
+use Rattle.std.proofs.Common.{refl, sym, ap, ap₂, subst, ◌∙◌, arith}
+use Rattle.std.specs.Prelude.{◌||◌, ◌&&◌, ◌==◌, nat_le, Option, None, drop}
 use Rattle.std.specs.List.{range_with_len, list_any}
-use Rattle.std.proofs.lemmas.Bool.{eq-eqb}
+use Rattle.std.proofs.lemmas.Bool.{cond-true, eq-eqb, le-leb}
+use Rattle.std.proofs.lemmas.List.{get_or-drop}
+use Rattle.dtx_exciter.specs.Order.{counting_order, either, order_at, ordered, ordered_at}
 use Rattle.dtx_network.specs.Orders.{has_order, is_operations}
+use Rattle.dtx_ops.specs.declared.fields.Ops.{Ops}
 use Rattle.dtx_packets.specs.Packet.{pid_of}
 
 or_right : (a b : Bool) → b ≡ true → (a || b) ≡ true
@@ -30,3 +33,32 @@ held_order stream k placeholder =
     let place : k ≡ 4 * (k / 4) + k % 4 = omega arith in
     any_at (is_operations stream) (4 * (k / 4)) 4 (k % 4) (omega arith)
     (subst (λ (x : ℕ). is_operations stream x ≡ true) place passes)
+
+-- ---- from a later mark on
+
+-- what a packet orders is the same, counted from a mark
+at_mark : (said : List (Option Ops)) (m k j : ℕ) → m % 624 ≡ 0 → j ≡ m + k
+    → ordered_at (drop m said) k ≡ ordered_at said j
+at_mark said m k j mark same =
+    ap₂ ordered (omega (arith, mark, same)) (get_or-drop m said k None ∙ ap (λ i. get_or said i None) (sym same))
+
+orders_same : (said : List (Option Ops)) (m g : ℕ) → m % 624 ≡ 0 → order_at (drop m said) g ≡ order_at said (m + g)
+unfolding order_at
+orders_same said m g mark =
+    ap₂ either (at_mark said m g (m + g) mark refl)
+    (ap₂ either (at_mark said m (g + 1) (m + g + 1) mark (omega arith))
+    (ap₂ either (at_mark said m (g + 2) (m + g + 2) mark (omega arith))
+    (at_mark said m (g + 3) (m + g + 3) mark (omega arith))))
+
+counts : (said : List (Option Ops)) (g : ℕ) → 52 ≤ g → g % 4 ≡ 0 → counting_order said g ≡ order_at said g
+unfolding counting_order
+counts said g far whole = cond-true (nat_le 52 g && (g % 4 == 0)) (order_at said g) None
+    (ap₂ (λ (x y : Bool). x && y) (le-leb 52 g far) (eq-eqb (g % 4) 0 whole))
+
+-- a group that begins 52 packets or more behind the mark orders what it orders from the first packet on
+pub order_from : (said : List (Option Ops)) (m g j : ℕ) → m % 624 ≡ 0 → 52 ≤ g → g % 4 ≡ 0 → j ≡ m + g
+    → counting_order (drop m said) g ≡ counting_order said j
+order_from said m g j mark far whole same =
+    counts (drop m said) g far whole ∙ orders_same said m g mark
+    ∙ sym (counts said (m + g) (omega (arith, far)) (omega (arith, mark, whole)))
+    ∙ ap (counting_order said) (sym same)

@@ -5,8 +5,23 @@ use Rattle.dtx_outside.specs.Shelf.{Files}
 use Rattle.dtx_meaning.specs.Status.{IsOfInputs}
 use Rattle.dtx_meaning.specs.declared.status.Status.{Status}
 use Rattle.dtx_meaning.specs.declared.status.Status.TheVariants.{Done, Usage, Absent, ReadFault, WriteFault, Memory}
+use Rattle.dtx_jobs.specs.Acquire.{acquire_job}
+use Rattle.dtx_jobs.specs.Adapt.{adapt_job}
 use Rattle.dtx_jobs.specs.Answers.{Knows}
-use Rattle.dtx_jobs.specs.OfWords.{IsOfWords, acquire_same, dvb_same, excite_same, make_same, three_same, two_same}
+use Rattle.dtx_jobs.specs.Code.{code_job}
+use Rattle.dtx_jobs.specs.DvbCode.{dvb_code_job}
+use Rattle.dtx_jobs.specs.DvbRead.{dvb_read_job}
+use Rattle.dtx_jobs.specs.Excite.{excite_job}
+use Rattle.dtx_jobs.specs.Hurt.{hurt_job}
+use Rattle.dtx_jobs.specs.Job.{Job}
+use Rattle.dtx_jobs.specs.Make.{make_job}
+use Rattle.dtx_jobs.specs.Mend.{mend_job}
+use Rattle.dtx_jobs.specs.OfWords.{IsOfWords}
+use Rattle.dtx_jobs.specs.Place.{place_job}
+use Rattle.dtx_jobs.specs.Receive.{receive_job}
+use Rattle.dtx_jobs.specs.Repeat.{repeat_job}
+use Rattle.dtx_jobs.specs.Soft.{soft_job}
+use Rattle.dtx_jobs.specs.Watch.{watch_job}
 use Rattle.dtx_words.specs.Names.{names_of, repeated}
 use Rattle.dtx_words.specs.Rows.{row_of}
 use Rattle.dtx_words.specs.declared.rows.Command.{Command}
@@ -83,22 +98,26 @@ IsByWords (Some command) words status =
     IsOfInputs (is_some (repeated (names_of (Some command) words))) (inputs_among (row_of command).fields) status
     × Knows command status
 
+-- what the words alone say of the answer of a job
+abbrev pub IsOfJob : Job → List (List ℕ) → Status → Type 0
+IsOfJob job words status = IsOfWords (job.same words) job.inputs status × Knows job.command status
+
 -- the same of a command, before its line is printed
 abbrev pub IsOfCommand : Option Command → List (List ℕ) → Status → Type 0
 IsOfCommand None words status = status ≡ Usage
-IsOfCommand (Some Adapt) words status = IsOfWords (three_same words) 2 status × Knows Adapt status
-IsOfCommand (Some Code) words status = IsOfWords (two_same words) 1 status × Knows Code status
-IsOfCommand (Some Excite) words status = IsOfWords (excite_same words) 1 status × Knows Excite status
-IsOfCommand (Some Receive) words status = IsOfWords (two_same words) 1 status × Knows Receive status
+IsOfCommand (Some Adapt) words status = IsOfJob adapt_job words status
+IsOfCommand (Some Code) words status = IsOfJob code_job words status
+IsOfCommand (Some Excite) words status = IsOfJob excite_job words status
+IsOfCommand (Some Receive) words status = IsOfJob receive_job words status
 IsOfCommand (Some Net) words status = IsOfNetWords words status
-IsOfCommand (Some Make) words status = IsOfWords (make_same words) 0 status × Knows Make status
-IsOfCommand (Some Hurt) words status = IsOfWords (three_same words) 2 status × Knows Hurt status
-IsOfCommand (Some Place) words status = IsOfWords (two_same words) 1 status × Knows Place status
+IsOfCommand (Some Make) words status = IsOfJob make_job words status
+IsOfCommand (Some Hurt) words status = IsOfJob hurt_job words status
+IsOfCommand (Some Place) words status = IsOfJob place_job words status
 IsOfCommand (Some Trial) words status = IsOfWords (trial_same words) 3 status × Knows Trial status
-IsOfCommand (Some Soft) words status = IsOfWords (two_same words) 1 status × Knows Soft status
-IsOfCommand (Some Mend) words status = IsOfWords (two_same words) 1 status × Knows Mend status
-IsOfCommand (Some DvbCode) words status = IsOfWords (dvb_same words) 1 status × Knows DvbCode status
-IsOfCommand (Some DvbRead) words status = IsOfWords (dvb_same words) 1 status × Knows DvbRead status
-IsOfCommand (Some Repeat) words status = IsOfWords (excite_same words) 1 status × Knows Repeat status
-IsOfCommand (Some Acquire) words status = IsOfWords (acquire_same words) 1 status × Knows Acquire status
-IsOfCommand (Some Watch) words status = IsOfWords (two_same words) 1 status × Knows Watch status
+IsOfCommand (Some Soft) words status = IsOfJob soft_job words status
+IsOfCommand (Some Mend) words status = IsOfJob mend_job words status
+IsOfCommand (Some DvbCode) words status = IsOfJob dvb_code_job words status
+IsOfCommand (Some DvbRead) words status = IsOfJob dvb_read_job words status
+IsOfCommand (Some Repeat) words status = IsOfJob repeat_job words status
+IsOfCommand (Some Acquire) words status = IsOfJob acquire_job words status
+IsOfCommand (Some Watch) words status = IsOfJob watch_job words status

@@ -33,6 +33,6 @@ abbrev pub IsOfNetWords : List (List ℕ) → Status → Type 0
 IsOfNetWords (verb ∷ plan ∷ []) status = IsOfNetwork status
 IsOfNetWords words status = status ≡ Usage
 
--- the line of a network that is done shows three numbers, or six where symbols were received
+-- the line of a network that is done shows three numbers or six; over files that are told its meaning says which
 abbrev pub ShowsNetwork : Status → Outcome → Type 0
 ShowsNetwork status outcome = status ≡ Done → (outcome.shown ≡ 3) ⊎ (outcome.shown ≡ 6)

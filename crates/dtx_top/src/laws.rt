@@ -3,6 +3,7 @@
 ghost use Rattle.std.specs.Prelude.{◌≡◌, ◌≢◌, ◌-◌, ◌*◌, ◌/◌, ◌%◌, ◌^◌, ◌<◌, ◌≤◌, ◌∷◌, [], ℕ, IsSomeAnd, List, Some};
 ghost use Rattle.std.specs.Prelude.{drop, is_some, length, slice_index_or, true};
 ghost use Rattle.std.specs.FinMap.{get};
+ghost use Rattle.std.specs.List.{list_any};
 ghost use Rattle.dtx_outside.specs.Shelf.{Files};
 ghost use Rattle.dtx_packets.specs.Packet.{pid_of};
 ghost use Rattle.dtx_packets.specs.Packets.{packets_of};
@@ -20,6 +21,7 @@ ghost use Rattle.dtx_network.specs.Orders.{has_order};
 ghost use Rattle.dtx_network.specs.Plans.{IsPlan, IsStream};
 ghost use Rattle.dtx_meaning.specs.declared.status.Status.{Status};
 ghost use Rattle.dtx_jobs.specs.Feed.{bytes_of_packets, feed_bytes};
+ghost use Rattle.dtx_jobs.specs.Place.{behind, is_open, placed};
 ghost use Rattle.dtx_jobs.specs.SymbolFile as file;
 ghost use Rattle.dtx_jobs.specs.WatchedFeed.{IsWatchedCalmly};
 ghost use Rattle.dtx_schedule.specs.TransmitterFiles.{log_file, symbol_file};
@@ -33,7 +35,7 @@ ghost use Rattle.dtx_top.specs.Trial.{trial_made, trial_plan};
 ghost use Rattle.dtx_top.specs.WorkedNetwork.{HasAllBack, IsSimple, WorkedNetwork, made_packets};
 
 use dtx_exciter::laws::groups_are_spaced;
-use dtx_jobs::laws::placing::groups_begin_late;
+use dtx_jobs::laws::placing::{fields_with_one, groups_begin_late, what_stays};
 use dtx_jobs::laws::watching::sound_feeds_are_watched_calmly;
 use dtx_net::laws::interleavings;
 use dtx_network::laws::{
@@ -95,16 +97,36 @@ pub fn simple_networks_work()
 }
 
 /// Where packet k of a stream, at place 52 of its field or behind, is a placeholder, its group of four begins 52
-/// packets or more behind the mark of its frame, and has an order that counts in the adapter's feed. (In which fields
-/// such a packet stands once placeholders were put, `fields_with_one` of `dtx_jobs` says.)
+/// packets or more behind the mark of its frame, and has an order that counts in the adapter's feed, from its first
+/// packet on and from each mark up to packet k. (In which fields such a packet stands once placeholders were put,
+/// `placed_streams_have_orders` says.)
 pub fn late_placeholders_are_orders()
     ensures late { (k : ℕ) → 52 ≤ k % 312 → 52 ≤ 4 * (k / 4) % 624 }
     ensures order { (plan : Plan) (stream : List (List ℕ)) (k : ℕ) → IsPlan plan → IsStream stream → 52 ≤ k % 312
         → pid_of (slice_index_or stream k []) ≡ 0x1FFA
         → is_some (counting_order (readings (feed plan stream)) (4 * (k / 4))) ≡ true }
+    ensures later { (plan : Plan) (stream : List (List ℕ)) (k mark : ℕ) → IsPlan plan → IsStream stream
+        → 52 ≤ k % 312 → pid_of (slice_index_or stream k []) ≡ 0x1FFA → mark % 624 ≡ 0 → mark ≤ k
+        → is_some (counting_order (readings (drop mark (feed plan stream))) (4 * (k / 4) - mark)) ≡ true }
 {
     groups_begin_late();
     orders_of_a_feed();
+}
+
+/// A stream in which placeholders were put is a stream, so that an adapter's feed of it has all that is proved of
+/// feeds. In each field that holds a null packet or a placeholder at place 52 or behind, a placeholder stands there
+/// then, whose group has an order that counts in that feed, from each mark up to it.
+pub fn placed_streams_have_orders()
+    ensures stream { (stream : List (List ℕ)) → IsStream stream → IsStream (placed stream) }
+    ensures orders { (plan : Plan) (stream : List (List ℕ)) (field : ℕ) → IsPlan plan → IsStream stream
+        → list_any is_open (behind stream field) ≡ true
+        → (k : ℕ) × (k / 312 ≡ field) × (52 ≤ k % 312) × (pid_of (slice_index_or (placed stream) k []) ≡ 0x1FFA)
+        × ((mark : ℕ) → mark % 624 ≡ 0 → mark ≤ k
+        → is_some (counting_order (readings (drop mark (feed plan (placed stream)))) (4 * (k / 4) - mark)) ≡ true) }
+{
+    what_stays();
+    fields_with_one();
+    late_placeholders_are_orders();
 }
 
 /// Made packets are a stream, and the group from packet 100 on holds a placeholder.

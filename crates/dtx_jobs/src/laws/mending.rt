@@ -13,10 +13,10 @@ ghost use Rattle.dtx_receiver.specs.Intervals.{AreRuns, NoneLooks, segments_in};
 ghost use Rattle.dtx_receiver.specs.Packets.{packets_so_far};
 ghost use Rattle.dtx_receiver.specs.declared.batch.Received.{Received};
 ghost use Rattle.dtx_jobs.specs.Giving.{bytes_of, no_sync_in};
-ghost use Rattle.dtx_jobs.specs.Mend.{mend_meaning, mending_symbols};
+ghost use Rattle.dtx_jobs.specs.Mend.{mend_job, mending_symbols};
 ghost use Rattle.dtx_jobs.specs.MendedBack.{CanAllBeMended, CanBeMended, IsMendedBack, NoneMissing, all_back_of};
 ghost use Rattle.dtx_jobs.specs.MendedBack.{mended_bytes, mended_of, mended_until, packets_before, word_of};
-ghost use Rattle.dtx_jobs.specs.Receive.{receive_meaning, received_bytes, receiving};
+ghost use Rattle.dtx_jobs.specs.Receive.{receive_job, received_bytes, receiving};
 ghost use Rattle.dtx_jobs.specs.Shapes as shapes;
 ghost use Rattle.dtx_jobs.specs.SymbolFile.{file_segments, whole_segments};
 
@@ -82,5 +82,5 @@ pub fn nothing_to_mend()
         ≡ meaning_of_file shapes.segments receiving names file }
     ensures words { (verb input output : List ℕ) (held : Files)
         → ((file : List ℕ) → files.get held input ≡ Some file → NoneMissing file)
-        → mend_meaning (verb ∷ input ∷ output ∷ []) held ≡ receive_meaning (verb ∷ input ∷ output ∷ []) held }
+        → mend_job.means (verb ∷ input ∷ output ∷ []) held ≡ receive_job.means (verb ∷ input ∷ output ∷ []) held }
 {}

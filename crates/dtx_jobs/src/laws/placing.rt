@@ -25,7 +25,7 @@ pub fn fields_with_one()
 {}
 
 /// There are as many packets as before, those with another packet identifier than a null packet's stay, and of each
-/// packet all bytes but byte 2; a packet that is changed becomes a placeholder.
+/// packet all bytes but byte 2, which doesn't grow; a packet that is changed becomes a placeholder.
 pub fn what_stays()
     ensures count { (packets : List (List ℕ)) → length (placed packets) ≡ length packets }
     ensures lengths { (packets : List (List ℕ)) (k : ℕ) → k < length packets
@@ -35,6 +35,8 @@ pub fn what_stays()
         → slice_index_or (placed packets) k [] ≡ slice_index_or packets k [] }
     ensures bytes { (packets : List (List ℕ)) (k place : ℕ) → k < length packets → place ≢ 2
         → slice_index (slice_index_or (placed packets) k []) place ≡ slice_index (slice_index_or packets k []) place }
+    ensures lower { (packets : List (List ℕ)) (k place : ℕ) → k < length packets
+        → slice_index (slice_index_or (placed packets) k []) place ≤ slice_index (slice_index_or packets k []) place }
     ensures changed { (packets : List (List ℕ)) (k : ℕ) → k < length packets
         → becomes (take k packets) (slice_index_or packets k []) ≡ true
         → pid_of (slice_index_or (placed packets) k []) ≡ 0x1FFA }

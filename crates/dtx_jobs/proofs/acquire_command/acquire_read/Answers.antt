@@ -11,8 +11,5 @@ pub acquire_files-requires-clause-to : goal.acquire_files-requires-clause-to
 acquire_files-requires-clause-to g c =
     omega (arith, (within_range 1 18 c.args.scale.now (Some c.in-Some.scale) c.in-Some.ensures).1)
 
-pub returns-in-Some-clause-carried : goal.returns-in-Some-clause-carried
-returns-in-Some-clause-carried g c = rw (← c.in-Some.ensures) c.acquire_files.ensures.carried
-
-pub returns-in-Some-clause-words : goal.returns-in-Some-clause-words
-returns-in-Some-clause-words g c = rw (← c.in-Some.ensures) c.acquire_files.ensures.words
+pub returns-in-Some : goal.returns-in-Some
+returns-in-Some g c = rw (← c.in-Some.ensures) c.acquire_files.ensures

@@ -1,9 +1,12 @@
+use Rattle.std.proofs.Common.{false, refl, arith}
+use Rattle.dtx_meaning.specs.Laws.{of_inputs}
 use Rattle.dtx_jobs.specs.AnswersLaws.{adapt_knows}
 use Rattle.dtx_jobs.proofs.adapt_command.adapt_under.Goals as goal
 
-pub returns-in-Ok-clause-carried : goal.returns-in-Ok-clause-carried
-returns-in-Ok-clause-carried g c = rw (← c.in-Ok.ensures.recipe) c.carry_to_one.ensures.carried
-
-pub returns-in-Ok-clause-answers : goal.returns-in-Ok-clause-answers
-returns-in-Ok-clause-answers g c =
-    adapt_knows c.args.plan.now _ (rw (← c.in-Ok.ensures.recipe) c.carry_to_one.ensures.answer)
+pub returns-in-Ok : goal.returns-in-Ok
+returns-in-Ok g c = record {
+  carried = rw (← c.in-Ok.ensures.recipe) c.carry_to_one.ensures.carried;
+  words = of_inputs false 1 2 _ refl (omega arith) c.carry_to_one.ensures.input;
+  answers = adapt_knows c.args.plan.now _ (rw (← c.in-Ok.ensures.recipe) c.carry_to_one.ensures.answer);
+  gone = c.carry_to_one.ensures.gone;
+}

@@ -1,10 +1,12 @@
+use Rattle.std.proofs.Common.{false, refl, arith}
+use Rattle.dtx_meaning.specs.Laws.{of_inputs}
 use Rattle.dtx_jobs.proofs.transmitting.transmit_apart.Goals as goal
 
-pub returns-in-Ok-clause-carried : goal.returns-in-Ok-clause-carried
-returns-in-Ok-clause-carried g c =
-    rw (← c.in-Ok.ensures.sends) c.transmit_both.ensures.carried
-
-pub returns-in-Ok-clause-answers : goal.returns-in-Ok-clause-answers
-returns-in-Ok-clause-answers g c =
-    g.met.E.Transmitting.knows c.args.address c.args.delay _
-    (rw (← c.in-Ok.ensures.sends) c.transmit_both.ensures.answer)
+pub returns-in-Ok : goal.returns-in-Ok
+returns-in-Ok g c = record {
+  carried = rw (← c.in-Ok.ensures.sends) c.transmit_both.ensures.carried;
+  words = of_inputs false 0 1 _ refl (omega arith) c.transmit_both.ensures.input;
+  answers = g.met.E.Transmitting.knows c.args.address c.args.delay _
+      (rw (← c.in-Ok.ensures.sends) c.transmit_both.ensures.answer);
+  gone = c.transmit_both.ensures.gone;
+}

@@ -8,11 +8,6 @@ pub overflow_cast-delay : goal.overflow_cast-delay
 overflow_cast-delay g c =
     omega (arith, ((c.in-Some-number_up_to.ensures.spelled c.in-Some-number_up_to.delay).0 refl).0)
 
-pub returns-in-Some-number_up_to-clause-carried : goal.returns-in-Some-number_up_to-clause-carried
-returns-in-Some-number_up_to-clause-carried g c =
-    rw (← c.in-Some.ensures.number)
-    (rw (← c.in-Some-number_up_to.ensures.number) c.transmit_files.ensures.carried)
-
-pub returns-in-Some-number_up_to-clause-words : goal.returns-in-Some-number_up_to-clause-words
-returns-in-Some-number_up_to-clause-words g c =
-    rw (← c.in-Some.ensures.number) (rw (← c.in-Some-number_up_to.ensures.number) c.transmit_files.ensures.words)
+pub returns-in-Some-number_up_to : goal.returns-in-Some-number_up_to
+returns-in-Some-number_up_to g c =
+    rw (← c.in-Some.ensures.number) (rw (← c.in-Some-number_up_to.ensures.number) c.transmit_files.ensures)

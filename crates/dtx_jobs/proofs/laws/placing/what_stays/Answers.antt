@@ -1,4 +1,5 @@
-use Rattle.dtx_jobs.proofs.PlacedPackets.{bytes_stay, changed_pid, length-placed, lengths_stay, other_stays}
+use Rattle.dtx_jobs.proofs.PlacedPackets.{bytes_lower, bytes_stay, changed_pid, length-placed, lengths_stay}
+use Rattle.dtx_jobs.proofs.PlacedPackets.{other_stays}
 use Rattle.dtx_jobs.proofs.laws.placing.what_stays.Goals as goal
 
 pub returns : goal.returns
@@ -7,5 +8,6 @@ returns c = record {
   lengths = lengths_stay;
   others = other_stays;
   bytes = bytes_stay;
+  lower = bytes_lower;
   changed = changed_pid;
 }
