@@ -1,5 +1,5 @@
 -- The symbols of a stream that is coded group by group.
-use Rattle.std.proofs.Common.{◌≡◌, ℕ, ℤ, ◌==◌, nat_le, ◌+◌, ◌-◌, ◌*◌, ◌/◌, ◌%◌, ◌≤◌, Bool, List, [], ◌∷◌, ◌++◌}
+use Rattle.std.proofs.Common.{◌≡◌, ℕ, ℤ, ◌==◌, nat_le, ◌+◌, ◌*◌, ◌/◌, ◌%◌, ◌≤◌, Bool, List, [], ◌∷◌, ◌++◌}
 use Rattle.std.proofs.Common.{length, map, take, refl, sym, ap, ap₂, subst, ◌∙◌, arith}
 use Rattle.std.specs.Prelude.{◌↔◌, IsTrue, if◌then◌else◌, true, false}
 use Rattle.std.specs.List.{range_with_len}
@@ -15,8 +15,9 @@ use Rattle.dtx_files.specs.Symbols.{byte_of_symbol}
 use Rattle.dtx_frame.specs.Segments.{field_sync}
 use Rattle.dtx_sizes.specs.Fields.{field_place}
 use Rattle.dtx_sizes.specs.declared.fields.FieldPlace.{FieldPlace}
-use Rattle.dtx_packets.specs.PacketLaws.{packets_of-append, packets_from-append}
-use Rattle.dtx_packets.specs.Packets.{packet_at, packets_from, packets_of, whole_packets}
+use Rattle.dtx_packets.specs.PacketLaws.{packets_of-append}
+use Rattle.dtx_packets.specs.Packets.{packets_from, packets_of}
+use Rattle.dtx_packet_jobs.specs.PacketFileLaws.{front_of, length-packets_of}
 use Rattle.dtx_jobs.specs.Symbols.{symbol_bytes, in_groups}
 
 -- ---- a group
@@ -77,20 +78,9 @@ few_coded coder new group count sent is = omega (arith, is.segments, few_segment
 
 -- ---- a piece
 
-pub length-packets_of : (file : List ℕ) → length (packets_of file) ≡ whole_packets file
-length-packets_of file = length-map-range_with_len (packet_at file) 0 (whole_packets file)
-
 -- the packets of whole groups are all in groups
 pub all_in_groups : (packets : List (List ℕ)) → length packets % 4 ≡ 0 → take (in_groups packets) packets ≡ packets
 all_in_groups packets whole = take_all (in_groups packets) packets (omega (arith, whole))
-
--- the first packets of a file
-pub front_of : (file : List ℕ) (m : ℕ) → m ≤ whole_packets file → take m (packets_of file) ≡ packets_from file 0 m
-front_of file m within =
-    let rest : m + (whole_packets file - m) ≡ whole_packets file = omega (arith, within) in
-    ap (take m) (ap (packets_from file 0) (sym rest) ∙ packets_from-append file 0 m (whole_packets file - m))
-    ∙ take_at (packets_from file 0 m) (packets_from file (0 + m) (whole_packets file - m)) m
-    (length-map-range_with_len (packet_at file) 0 m)
 
 -- those in groups of a piece behind whole groups
 groups_behind : (ps qs : List (List ℕ)) (m : ℕ) → length ps % 4 ≡ 0 → m ≡ in_groups qs

@@ -37,7 +37,7 @@ use Rattle.dtx_watch.specs.declared.notes.StatesNote.{StatesNote}
 use Rattle.dtx_watch.specs.declared.notes.StatesNote.TheVariants as states
 use Rattle.dtx_watch.specs.declared.notes.What.{What}
 use Rattle.dtx_watch.specs.declared.notes.What.TheVariants as what
-use Rattle.dtx_jobs.specs.Shapes.{single_packets}
+use Rattle.dtx_forms.specs.Shapes.{single_packets}
 use Rattle.dtx_jobs.specs.Watch.{count_of, watch_numbers, watch_tally, watching, one_ops, one_slip, one_jump}
 use Rattle.dtx_jobs.specs.Watch.{slips_of, jumps_of, one_unread, one_stray}
 use Rattle.dtx_jobs.specs.WatchLaws.{same_numbers}

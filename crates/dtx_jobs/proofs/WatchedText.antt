@@ -23,9 +23,9 @@ use Rattle.dtx_watch.specs.declared.notes.StatesNote.{StatesNote}
 use Rattle.dtx_watch.specs.declared.notes.StatesNote.TheVariants as states
 use Rattle.dtx_watch.specs.declared.notes.What.{What}
 use Rattle.dtx_watch.specs.declared.notes.What.TheVariants as what
-use Rattle.dtx_jobs.specs.GivenLaws.{all_read, none_found}
-use Rattle.dtx_jobs.specs.PacketFileLaws.{length-packets_of}
-use Rattle.dtx_jobs.specs.Shapes.{single_packets}
+use Rattle.dtx_forms.specs.WholeFileLaws.{all_read, none_found}
+use Rattle.dtx_packet_jobs.specs.PacketFileLaws.{length-packets_of}
+use Rattle.dtx_forms.specs.Shapes.{single_packets}
 use Rattle.dtx_jobs.specs.Watch.{watched_bytes, waiting_bytes, count_of, watch_tally, watch_numbers, watch_answer}
 use Rattle.dtx_jobs.specs.Watch.{watching, one_ops, one_slip, one_jump, slips_of, jumps_of, one_unread, one_stray}
 use Rattle.dtx_jobs.specs.WatchLaws.{same_numbers}

@@ -12,9 +12,9 @@ use Rattle.dtx_meaning.specs.declared.status.Status.TheVariants.{Done, NoSync, U
 use Rattle.dtx_outside.specs.Shelf.{Files}
 use Rattle.dtx_words.specs.Number.{number_within}
 use Rattle.dtx_words.specs.declared.rows.Command.TheVariants.{Acquire}
-use Rattle.dtx_jobs.specs.Job.{Job}
-use Rattle.dtx_jobs.specs.OfWords.{acquire_same}
-use Rattle.dtx_jobs.specs.Shapes as shapes
+use Rattle.dtx_forms.specs.Job.{Job}
+use Rattle.dtx_forms.specs.OfWords.{acquire_same}
+use Rattle.dtx_forms.specs.Shapes as shapes
 use Rattle.dtx_jobs.specs.SymbolFile.{symbols}
 
 -- the bytes, the runs of which something is left, the segments, what all least paths cost, the symbols in no segment

@@ -7,9 +7,9 @@ use Rattle.dtx_meaning.specs.declared.status.Status.TheVariants.{Done}
 use Rattle.dtx_packets.specs.Packets.{packets_of}
 use Rattle.dtx_jobs.specs.Life.{life_numbers, life_tally, logged_bytes, sent_bytes}
 use Rattle.dtx_words.specs.declared.rows.Command.TheVariants.{Excite}
-use Rattle.dtx_jobs.specs.Job.{Job}
-use Rattle.dtx_jobs.specs.Shapes.{coded_packets}
-use Rattle.dtx_jobs.specs.Transmit.{transmit_job}
+use Rattle.dtx_forms.specs.Job.{Job}
+use Rattle.dtx_forms.specs.Shapes.{coded_packets}
+use Rattle.dtx_forms.specs.Transmit.{transmit_job}
 
 -- the symbols that the transmitter with this address and delay sends, and its log
 abbrev pub excited : ℕ → ℕ → List (List ℕ) → Made

@@ -1,15 +1,14 @@
 -- Laws of what is received of a whole symbol file, whichever receiver it is; its bytes may have damage laid over them.
-use Rattle.std.proofs.Common.{◌≡◌, ◌≢◌, ◌↔◌, ℕ, ◌*◌, ◌/◌, ◌%◌, ◌<◌, ◌≤◌, List, [], ◌∷◌, length, take, drop, sym, ap}
-use Rattle.std.proofs.Common.{ap₂, ◌∙◌, subst, refl, arith}
-use Rattle.std.specs.Prelude.{ℤ, true, not, min, None}
-use Rattle.std.specs.List.{find, flat_map, range_with_len}
-use Rattle.std.proofs.lemmas.Bool.{cond-false, cond-true, le-ltb, lt-ltb, eq-eqb, ne_eqb}
+use Rattle.std.proofs.Common.{◌≡◌, ◌≢◌, ◌↔◌, ℕ, ◌*◌, ◌/◌, ◌%◌, ◌<◌, ◌≤◌, List, [], length, take, drop, sym, ap}
+use Rattle.std.proofs.Common.{ap₂, ◌∙◌, subst, arith}
+use Rattle.std.specs.Prelude.{ℤ, min, None}
+use Rattle.std.specs.List.{flat_map, range_with_len}
+use Rattle.std.proofs.lemmas.Bool.{cond-false, cond-true, eq-eqb, ne_eqb}
 use Rattle.std.proofs.lemmas.List.{take_at, take-append-drop, length-take-le}
 use Rattle.dtx_engine.specs.Made.{Made, only, outputs_of}
-use Rattle.dtx_engine.specs.Recipe.{Recipe, Course, course, course_from, first_refused, first_units, meaning_at}
+use Rattle.dtx_engine.specs.Recipe.{first_refused, meaning_at}
 use Rattle.dtx_engine.specs.Recipe.{meaning_of_file, whole_units}
-use Rattle.dtx_engine.specs.declared.engine.Shape.{Shape}
-use Rattle.dtx_engine.specs.declared.piece.Ending.TheVariants.{Whole, Refused}
+use Rattle.dtx_engine.specs.declared.piece.Ending.TheVariants.{Whole}
 use Rattle.dtx_make.specs.Hurt.{hurt, damaged_bytes}
 use Rattle.dtx_make.specs.LaidLaws.{hurt-append, length-hurt}
 use Rattle.dtx_meaning.specs.Meaning.{Meaning}
@@ -20,30 +19,16 @@ use Rattle.dtx_plan.specs.declared.damage.Damage.{Damage}
 use Rattle.dtx_receiver.specs.Intervals.{NoneLooks}
 use Rattle.dtx_receiver.specs.IntervalsLaws.{no_runs}
 use Rattle.dtx_receiver.specs.Runs.{runs}
-use Rattle.dtx_jobs.specs.Damaged.{damaged_making}
+use Rattle.dtx_packet_jobs.specs.Damaged.{damaged_making}
+use Rattle.dtx_forms.specs.WholeFileLaws.{all_read, first_read, none_found}
 use Rattle.dtx_jobs.specs.Giving.{Giving, IsGiving, all_bytes, answer_of, bytes_of, given_numbers, given_of}
 use Rattle.dtx_jobs.specs.Giving.{given_until, no_sync_in, receiving_by}
 use Rattle.dtx_jobs.specs.GivingLaws.{bytes_of-all, receives_whole}
-use Rattle.dtx_jobs.specs.Shapes.{segments}
+use Rattle.dtx_forms.specs.Shapes.{segments}
 use Rattle.dtx_jobs.specs.SymbolFile.{file_segments, whole_segments}
 use Rattle.dtx_jobs.specs.SymbolFileLaws.{file_segments-whole, first_segments, length-segments_of}
 
--- ---- the end of a file whose units are all allowed
-
-pub none_found : (xs : List ℕ) → find (λ _. not true) xs ≡ None
-none_found [] = refl
-none_found (x ∷ xs) = none_found xs
-
--- where it has no more units than it may have, it is read to its end
-pub all_read : (shape : Shape) (recipe : Recipe) (names : List (List ℕ)) (file : List ℕ)
-    → first_refused shape recipe file ≡ None → whole_units shape file ≤ shape.limit
-    → meaning_of_file shape recipe names file
-    ≡ meaning_at recipe names (first_units shape file (whole_units shape file)) (Whole (length file % shape.unit))
-all_read shape recipe names file none few =
-    let is : course shape recipe file
-    ≡ record { taken = whole_units shape file; ending = Whole (length file % shape.unit) } =
-    ap (course_from shape file) none ∙ cond-false _ _ _ (le-ltb shape.limit (whole_units shape file) few) in
-    ap (λ (c : Course). meaning_at recipe names (first_units shape file c.taken) c.ending) is
+-- ---- all units are allowed
 
 pub all_allowed : (giving : Giving) (file : List ℕ) → first_refused segments (receiving_by giving) file ≡ None
 unfolding first_refused
@@ -54,16 +39,6 @@ all_damaged_allowed : (giving : Giving) (damage : List Damage) (file : List ℕ)
 unfolding first_refused
 all_damaged_allowed giving damage file =
     none_found (range_with_len 0 (min (whole_units segments file) segments.limit))
-
--- and where it has more, as many as it may have are
-pub first_read : (shape : Shape) (recipe : Recipe) (names : List (List ℕ)) (file : List ℕ)
-    → first_refused shape recipe file ≡ None → shape.limit < whole_units shape file
-    → meaning_of_file shape recipe names file
-    ≡ meaning_at recipe names (first_units shape file shape.limit) (Refused TooLong)
-first_read shape recipe names file none many =
-    let is : course shape recipe file ≡ record { taken = shape.limit; ending = Refused TooLong } =
-    ap (course_from shape file) none ∙ cond-true _ _ _ (lt-ltb shape.limit (whole_units shape file) many) in
-    ap (λ (c : Course). meaning_at recipe names (first_units shape file c.taken) c.ending) is
 
 -- ---- of all segments
 

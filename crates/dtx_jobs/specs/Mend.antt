@@ -4,9 +4,9 @@ use Rattle.dtx_engine.specs.Recipe.{Recipe}
 use Rattle.dtx_erase.specs.Mended.{all_mended, mended, mended_so_far}
 use Rattle.dtx_jobs.specs.Giving.{Giving, receiving_by}
 use Rattle.dtx_words.specs.declared.rows.Command.TheVariants.{Mend}
-use Rattle.dtx_jobs.specs.Job.{Job}
-use Rattle.dtx_jobs.specs.Shapes.{segments}
-use Rattle.dtx_jobs.specs.Transform.{transform_job}
+use Rattle.dtx_forms.specs.Job.{Job}
+use Rattle.dtx_forms.specs.Shapes.{segments}
+use Rattle.dtx_forms.specs.Transform.{transform_job}
 
 -- what is given where each word is mended
 abbrev pub with_mendings : Giving

@@ -25,7 +25,7 @@ use Rattle.dtx_jobs.specs.Giving.{IsGiving}
 use Rattle.dtx_jobs.specs.Mend.{mend_job, mending_symbols, with_mendings}
 use Rattle.dtx_jobs.specs.MendedBack.{NoneMissing}
 use Rattle.dtx_jobs.specs.Receive.{receive_job, receiving, with_corrections}
-use Rattle.dtx_jobs.specs.Shapes.{segments}
+use Rattle.dtx_forms.specs.Shapes.{segments}
 use Rattle.dtx_jobs.specs.SplicedSymbolsLaws.{segments_cut}
 use Rattle.dtx_jobs.specs.SymbolFile.{file_segments, segments_from, symbol_of_byte, symbols, whole_segments}
 use Rattle.dtx_jobs.specs.SymbolFileLaws.{file_segments-whole}

@@ -8,9 +8,9 @@ use Rattle.dtx_outside.specs.Shelf.{Files}
 use Rattle.dtx_receiver.specs.Packets.{all_packets, packets_so_far, received}
 use Rattle.dtx_jobs.specs.Giving.{Giving, all_bytes, answer_of, receiving_by}
 use Rattle.dtx_words.specs.declared.rows.Command.TheVariants.{Receive}
-use Rattle.dtx_jobs.specs.Job.{Job}
-use Rattle.dtx_jobs.specs.Shapes.{segments}
-use Rattle.dtx_jobs.specs.Transform.{transform_job}
+use Rattle.dtx_forms.specs.Job.{Job}
+use Rattle.dtx_forms.specs.Shapes.{segments}
+use Rattle.dtx_forms.specs.Transform.{transform_job}
 
 -- what is given where each word is corrected
 abbrev pub with_corrections : Giving

@@ -9,10 +9,10 @@ use Rattle.dtx_receiver.specs.Runs.{runs}
 use Rattle.dtx_repeat.specs.Lives.{lives, lives_so_far}
 use Rattle.dtx_jobs.specs.Lives.{sent_over, logged_over, lives_tally}
 use Rattle.dtx_words.specs.declared.rows.Command.TheVariants.{Repeat}
-use Rattle.dtx_jobs.specs.Job.{Job}
-use Rattle.dtx_jobs.specs.Shapes.{segments}
+use Rattle.dtx_forms.specs.Job.{Job}
+use Rattle.dtx_forms.specs.Shapes.{segments}
 use Rattle.dtx_jobs.specs.SymbolFile.{file_segments}
-use Rattle.dtx_jobs.specs.Transmit.{transmit_job}
+use Rattle.dtx_forms.specs.Transmit.{transmit_job}
 use Rattle.dtx_jobs.specs.declared.life_tally.LifeTally.{LifeTally}
 
 -- the symbols that the transmitter with this address and delay sends in these lives, and its log

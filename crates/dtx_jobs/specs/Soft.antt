@@ -11,10 +11,10 @@ use Rattle.dtx_meaning.specs.declared.status.Status.TheVariants.{Done}
 use Rattle.dtx_receiver.specs.Runs.{sync_due, tracked}
 use Rattle.dtx_soft.specs.Softened.{softened, softened_cost}
 use Rattle.dtx_words.specs.declared.rows.Command.TheVariants.{Soft}
-use Rattle.dtx_jobs.specs.Job.{Job}
-use Rattle.dtx_jobs.specs.Shapes as shapes
+use Rattle.dtx_forms.specs.Job.{Job}
+use Rattle.dtx_forms.specs.Shapes as shapes
 use Rattle.dtx_jobs.specs.SymbolFile.{file_segments}
-use Rattle.dtx_jobs.specs.Transform.{transform_job}
+use Rattle.dtx_forms.specs.Transform.{transform_job}
 
 -- ---- places
 

@@ -13,7 +13,7 @@ use Rattle.dtx_receiver.specs.Packets.{received}
 use Rattle.dtx_receiver.specs.SplicingLaws.{more_received, spliced_received}
 use Rattle.dtx_jobs.specs.Receive.{IsWritten, received_bytes, receiving}
 use Rattle.dtx_jobs.specs.ReceivedLaws.{all_received}
-use Rattle.dtx_jobs.specs.Shapes.{segments}
+use Rattle.dtx_forms.specs.Shapes.{segments}
 use Rattle.dtx_jobs.specs.SymbolFile.{file_segments, whole_segments}
 use Rattle.dtx_jobs.specs.SymbolFileLaws.{length-segments_of, file_segments-append, file_segments-whole}
 

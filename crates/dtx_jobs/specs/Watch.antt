@@ -16,9 +16,9 @@ use Rattle.dtx_watch.specs.declared.notes.StatesNote.TheVariants as states
 use Rattle.dtx_watch.specs.declared.notes.ClockNote.{ClockNote}
 use Rattle.dtx_watch.specs.declared.notes.ClockNote.TheVariants as clock
 use Rattle.dtx_words.specs.declared.rows.Command.TheVariants.{Watch}
-use Rattle.dtx_jobs.specs.Job.{Job}
-use Rattle.dtx_jobs.specs.Shapes.{single_packets}
-use Rattle.dtx_jobs.specs.Transform.{transform_job}
+use Rattle.dtx_forms.specs.Job.{Job}
+use Rattle.dtx_forms.specs.Shapes.{single_packets}
+use Rattle.dtx_forms.specs.Transform.{transform_job}
 use Rattle.dtx_jobs.specs.declared.watch_tally.WatchTally.{WatchTally}
 
 -- ---- the text

@@ -5,9 +5,9 @@ ghost use Rattle.dtx_engine.specs.Recipe.{transformed};
 ghost use Rattle.dtx_words.specs.Number.{number_within};
 ghost use Rattle.dtx_words.specs.declared.rows.Command.TheVariants as command;
 ghost use Rattle.dtx_jobs.specs.Acquire.{acquire_at, acquire_job, acquiring};
-ghost use Rattle.dtx_jobs.specs.Job.{IsPerformed, IsJobPerformed};
-ghost use Rattle.dtx_jobs.specs.OfWords.{number_same};
-ghost use Rattle.dtx_jobs.specs.Shapes as shapes;
+ghost use Rattle.dtx_forms.specs.Job.{IsPerformed, IsJobPerformed};
+ghost use Rattle.dtx_forms.specs.OfWords.{number_same};
+ghost use Rattle.dtx_forms.specs.Shapes as shapes;
 
 use crate::acquisition::Acquisition;
 use dtx_engine::transform;

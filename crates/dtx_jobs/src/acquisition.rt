@@ -9,10 +9,10 @@ ghost use Rattle.dtx_jobs.specs.Acquire.{acquired_answer};
 ghost use Rattle.dtx_jobs.specs.Acquisition.{WasAcquired};
 ghost use Rattle.dtx_jobs.specs.SymbolFile.{symbols};
 
-use crate::shapes::single_bytes;
 use crate::symbol_buffer::SymbolBuffer;
 use dtx_acquire::Acquirer;
 use dtx_engine::{Engine, Shape};
+use dtx_forms::single_bytes;
 use dtx_meaning::{Outcome, Status, ended};
 use dtx_sizes::{FIELD_SEGMENTS, MOST_SYMBOLS, SEGMENT};
 use dtx_soft::MAX_SCALE;
@@ -53,7 +53,7 @@ impl Engine for Acquisition {
     ghost use Rattle.dtx_jobs.specs.Acquire.{acquiring};
     ghost use Rattle.dtx_jobs.specs.Acquisition.{WasAcquired};
     ghost use Rattle.dtx_jobs.specs.AcquireLaws.{acquires_more, acquires_none};
-    ghost use Rattle.dtx_jobs.specs.Shapes as shapes;
+    ghost use Rattle.dtx_forms.specs.Shapes as shapes;
 
     ghost shape = { shapes.single_bytes };
 

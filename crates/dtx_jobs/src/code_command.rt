@@ -1,9 +1,9 @@
 // `code IN OUT`: the symbols of a stream.
-ghost use Rattle.dtx_jobs.specs.Job.{IsJobPerformed};
+ghost use Rattle.dtx_forms.specs.Job.{IsJobPerformed};
 ghost use Rattle.dtx_jobs.specs.Code.{code_job};
 
 use crate::stream_coder::StreamCoder;
-use crate::transforming::transform;
+use dtx_forms::transform;
 use dtx_meaning::Outcome;
 use dtx_outside::{Shelf, Word};
 use std::alloc::Global;

@@ -6,13 +6,12 @@ ghost use Rattle.dtx_jobs.specs.Excitation.{IsLife};
 ghost use Rattle.dtx_jobs.specs.Life.{sent_bytes, logged_bytes};
 
 use crate::sending::Sending;
-use crate::shapes::{CODED_PACKETS, coded_packets};
-use crate::transmitting::Transmitting;
 use dtx_coder::AIR_SYMBOLS;
 use dtx_engine::{Engine, Shape};
 use dtx_exciter::Exciter;
 use dtx_exciter::laws::groups_are_spaced;
 use dtx_files::LOG_LINE;
+use dtx_forms::{CODED_PACKETS, Transmitting, coded_packets};
 use dtx_meaning::{Outcome, Status};
 use dtx_packets::Packet;
 use dtx_sizes::{GROUP_PACKETS, MOST_PACKETS, PACKET};
@@ -95,7 +94,7 @@ impl Engine for Excitation {
     ghost use Rattle.dtx_jobs.specs.Excitation.{WasExcited};
     ghost use Rattle.dtx_jobs.specs.Excite.{exciting};
     ghost use Rattle.dtx_jobs.specs.ExciteLaws.{excites_none, excites_more};
-    ghost use Rattle.dtx_jobs.specs.Shapes as shapes;
+    ghost use Rattle.dtx_forms.specs.Shapes as shapes;
 
     ghost shape = { shapes.coded_packets };
 

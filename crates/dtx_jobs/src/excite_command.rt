@@ -1,9 +1,9 @@
 // `excite FEED ADDRESS DELAY OUT LOG`: what an exciter sends for a feed, and its log.
-ghost use Rattle.dtx_jobs.specs.Job.{IsJobPerformed};
+ghost use Rattle.dtx_forms.specs.Job.{IsJobPerformed};
 ghost use Rattle.dtx_jobs.specs.Excite.{excite_job};
 
 use crate::excitation::Excitation;
-use crate::transmitting::transmit;
+use dtx_forms::transmit;
 use dtx_meaning::Outcome;
 use dtx_outside::{Shelf, Word};
 use std::alloc::Global;

@@ -1,10 +1,10 @@
 // `mend IN OUT`: the packets of a symbol file of which some symbols are missing.
-ghost use Rattle.dtx_jobs.specs.Job.{IsJobPerformed};
+ghost use Rattle.dtx_forms.specs.Job.{IsJobPerformed};
 ghost use Rattle.dtx_jobs.specs.Mend.{mend_job};
 
 use crate::reception::Reception;
-use crate::transforming::transform;
 use dtx_erase::MendReceiver;
+use dtx_forms::transform;
 use dtx_meaning::Outcome;
 use dtx_outside::{Shelf, Word};
 use std::alloc::Global;

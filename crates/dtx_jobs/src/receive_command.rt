@@ -1,9 +1,9 @@
 // `receive IN OUT`: the packets of a symbol file.
-ghost use Rattle.dtx_jobs.specs.Job.{IsJobPerformed};
+ghost use Rattle.dtx_forms.specs.Job.{IsJobPerformed};
 ghost use Rattle.dtx_jobs.specs.Receive.{receive_job};
 
 use crate::reception::Reception;
-use crate::transforming::transform;
+use dtx_forms::transform;
 use dtx_meaning::Outcome;
 use dtx_outside::{Shelf, Word};
 use dtx_receiver::Receiver;

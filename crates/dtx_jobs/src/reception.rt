@@ -7,10 +7,9 @@ ghost use Rattle.dtx_jobs.specs.SymbolFile.{file_segments, symbol_of_byte, symbo
 ghost use Rattle.dtx_jobs.specs.Tally.{IsBounded, tally_of};
 
 use crate::segment_receiver::{Receiving, SegmentReceiver};
-use crate::shapes::{PIECE_SEGMENTS, segments};
 use crate::tally::Tally;
-use crate::transforming::Transforming;
 use dtx_engine::{Buffer, Engine, Shape};
+use dtx_forms::{PIECE_SEGMENTS, Transforming, segments};
 use dtx_meaning::{Outcome, Status, ended};
 use dtx_receiver::{Batch, MOST_RECEIVED, Received, Tracking};
 use dtx_sizes::{MOST_SEGMENTS, PACKET, SEGMENT};
@@ -114,7 +113,7 @@ impl<R: SegmentReceiver> Engine for Reception<R> {
     ghost use Rattle.dtx_jobs.specs.Giving.{receiving_by};
     ghost use Rattle.dtx_jobs.specs.GivingLaws.{receives_none, receives_more};
     ghost use Rattle.dtx_jobs.specs.Reception.{WasGiven};
-    ghost use Rattle.dtx_jobs.specs.Shapes as shapes;
+    ghost use Rattle.dtx_forms.specs.Shapes as shapes;
 
     ghost shape = { shapes.segments };
 

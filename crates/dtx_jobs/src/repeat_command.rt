@@ -1,9 +1,9 @@
 // `repeat IN ADDRESS DELAY OUT LOG`: what a transmitter sends again that is fed from the air, and its log.
-ghost use Rattle.dtx_jobs.specs.Job.{IsJobPerformed};
+ghost use Rattle.dtx_forms.specs.Job.{IsJobPerformed};
 ghost use Rattle.dtx_jobs.specs.Repeat.{repeat_job};
 
 use crate::repetition::Repetition;
-use crate::transmitting::transmit;
+use dtx_forms::transmit;
 use dtx_meaning::Outcome;
 use dtx_outside::{Shelf, Word};
 use std::alloc::Global;

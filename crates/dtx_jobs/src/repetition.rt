@@ -13,12 +13,11 @@ ghost use Rattle.dtx_jobs.specs.SymbolFile.{file_segments, symbols};
 
 use crate::reception::to_symbols;
 use crate::sending::Sending;
-use crate::shapes::{PIECE_SEGMENTS, segments};
-use crate::transmitting::Transmitting;
 use dtx_coder::AIR_SYMBOLS;
 use dtx_engine::{Engine, Shape};
 use dtx_exciter::laws::groups_are_spaced;
 use dtx_files::LOG_LINE;
+use dtx_forms::{PIECE_SEGMENTS, Transmitting, segments};
 use dtx_meaning::{Outcome, Status, ended};
 use dtx_packets::Packet;
 use dtx_receiver::{Batch, MOST_RECEIVED, Tracking};
@@ -233,7 +232,7 @@ impl Engine for Repetition {
     ghost use Rattle.dtx_jobs.specs.Repeat.{repeating};
     ghost use Rattle.dtx_jobs.specs.RepeatLaws.{repeats_none, repeats_more};
     ghost use Rattle.dtx_jobs.specs.Repetition.{WasRepeated};
-    ghost use Rattle.dtx_jobs.specs.Shapes as shapes;
+    ghost use Rattle.dtx_forms.specs.Shapes as shapes;
 
     ghost shape = { shapes.segments };
 

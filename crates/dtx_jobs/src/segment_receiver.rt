@@ -44,7 +44,7 @@ pub(crate) trait Receiving: SegmentReceiver {
     ghost use Rattle.dtx_engine.specs.Recipe.{IsAnswerOf};
     ghost use Rattle.dtx_meaning.specs.declared.status.Status.{Status};
     ghost use Rattle.dtx_words.specs.declared.rows.Command.{Command};
-    ghost use Rattle.dtx_jobs.specs.Answers.{Knows};
+    ghost use Rattle.dtx_forms.specs.Answers.{Knows};
     ghost use Rattle.dtx_jobs.specs.Giving.{receiving_by};
 
     /// The command.

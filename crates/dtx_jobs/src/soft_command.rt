@@ -1,9 +1,9 @@
 // `soft IN OUT`: symbols with each coder's replaced by those of its least path.
-ghost use Rattle.dtx_jobs.specs.Job.{IsJobPerformed};
+ghost use Rattle.dtx_forms.specs.Job.{IsJobPerformed};
 ghost use Rattle.dtx_jobs.specs.Soft.{soft_job};
 
 use crate::softening::Softening;
-use crate::transforming::transform;
+use dtx_forms::transform;
 use dtx_meaning::Outcome;
 use dtx_outside::{Shelf, Word};
 use std::alloc::Global;

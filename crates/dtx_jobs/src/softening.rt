@@ -12,10 +12,9 @@ ghost use Rattle.dtx_jobs.specs.Softening.{IsKept, IsSigned, IsSoftening, kept_r
 ghost use Rattle.dtx_jobs.specs.SymbolFile.{file_segments, symbols};
 
 use crate::reception::to_symbols;
-use crate::shapes::{PIECE_SEGMENTS, segments};
 use crate::symbol_buffer::SymbolBuffer;
-use crate::transforming::Transforming;
 use dtx_engine::{Engine, Shape};
+use dtx_forms::{PIECE_SEGMENTS, Transforming, segments};
 use dtx_frame::looks;
 use dtx_meaning::{Outcome, Status};
 use dtx_sizes::{FIELD_PACKETS, GROUP_PACKETS, MOST_SEGMENTS, SEGMENT};
@@ -162,7 +161,7 @@ impl Softening {
 
 impl Engine for Softening {
     ghost use Rattle.dtx_engine.specs.Made.{only};
-    ghost use Rattle.dtx_jobs.specs.Shapes as shapes;
+    ghost use Rattle.dtx_forms.specs.Shapes as shapes;
     ghost use Rattle.dtx_jobs.specs.Soft.{softening};
     ghost use Rattle.dtx_jobs.specs.Softening.{WasSoftened};
     ghost use Rattle.dtx_jobs.specs.SofteningLaws.{softens_more, softens_none};

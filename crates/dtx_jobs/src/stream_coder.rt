@@ -5,11 +5,10 @@ ghost use Rattle.dtx_coder.specs.Stream.{a53};
 ghost use Rattle.dtx_packets.specs.Packets.{packets_of, packets_from};
 ghost use Rattle.dtx_jobs.specs.Symbols.{symbol_bytes};
 
-use crate::shapes::{CODED_PACKETS, coded_packets};
 use crate::symbol_buffer::SymbolBuffer;
-use crate::transforming::Transforming;
 use dtx_coder::{AIR_SYMBOLS, Air, Coder};
 use dtx_engine::{Engine, Shape};
+use dtx_forms::{CODED_PACKETS, Transforming, coded_packets};
 use dtx_meaning::{Outcome, Status};
 use dtx_packets::Packet;
 use dtx_sizes::{
@@ -88,7 +87,7 @@ impl Engine for StreamCoder {
     ghost use Rattle.dtx_engine.specs.Made.{only};
     ghost use Rattle.dtx_jobs.specs.Code.{coding};
     ghost use Rattle.dtx_jobs.specs.CodeLaws.{codes_none, codes_more};
-    ghost use Rattle.dtx_jobs.specs.Shapes as shapes;
+    ghost use Rattle.dtx_forms.specs.Shapes as shapes;
     ghost use Rattle.dtx_jobs.specs.StreamCoder.{WasCoded};
 
     ghost shape = { shapes.coded_packets };

@@ -1,9 +1,9 @@
 // `watch FEED OUT`: whether a feed is sound.
-ghost use Rattle.dtx_jobs.specs.Job.{IsJobPerformed};
+ghost use Rattle.dtx_forms.specs.Job.{IsJobPerformed};
 ghost use Rattle.dtx_jobs.specs.Watch.{watch_job};
 
-use crate::transforming::transform;
 use crate::watching::Watching;
+use dtx_forms::transform;
 use dtx_meaning::Outcome;
 use dtx_outside::{Shelf, Word};
 use std::alloc::Global;

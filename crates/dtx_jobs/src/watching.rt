@@ -5,11 +5,10 @@ ghost use Rattle.dtx_watch.specs.WatchText.{note_text, watch_text};
 ghost use Rattle.dtx_jobs.specs.Watch.{watched_bytes};
 ghost use Rattle.dtx_jobs.specs.Watching.{HasRoom, IsWatched, tally_of_one, tally_with};
 
-use crate::shapes::single_packets;
-use crate::transforming::Transforming;
 use crate::watch_tally::WatchTally;
 use arrayvec::{ArrayString, ArrayVec};
 use dtx_engine::{Buffer, Engine, Shape};
+use dtx_forms::{Transforming, single_packets};
 use dtx_meaning::{Outcome, Status};
 use dtx_packets::{PIECE_PACKETS, Packet};
 use dtx_sizes::{MOST_PACKETS, PACKET};
@@ -101,7 +100,7 @@ impl Watching {
 
 impl Engine for Watching {
     ghost use Rattle.dtx_engine.specs.Made.{only};
-    ghost use Rattle.dtx_jobs.specs.Shapes as shapes;
+    ghost use Rattle.dtx_forms.specs.Shapes as shapes;
     ghost use Rattle.dtx_jobs.specs.Watch.{watching};
     ghost use Rattle.dtx_jobs.specs.WatchLaws.{watches_none, watches_more};
     ghost use Rattle.dtx_jobs.specs.Watching.{WasWatched};

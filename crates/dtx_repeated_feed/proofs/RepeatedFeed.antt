@@ -20,10 +20,10 @@ use Rattle.dtx_words.specs.declared.rows.Command.{Command}
 use Rattle.dtx_words.specs.declared.rows.Command.TheVariants.{Repeat}
 use Rattle.dtx_jobs.specs.GivenLaws.{no_run_in}
 use Rattle.dtx_jobs.specs.Repeat.{repeating}
-use Rattle.dtx_jobs.specs.RepeatedFiles.{repeated_of}
-use Rattle.dtx_jobs.specs.Shapes.{segments}
+use Rattle.dtx_symbol_laws.specs.RepeatedFiles.{repeated_of}
+use Rattle.dtx_forms.specs.Shapes.{segments}
 use Rattle.dtx_jobs.specs.SymbolFile.{file_segments, whole_segments}
-use Rattle.dtx_jobs.specs.Transmit.{transmit_with}
+use Rattle.dtx_forms.specs.Transmit.{transmit_with}
 use Rattle.dtx_repeated_feed.specs.DoneWith.{IsDoneWith}
 use Rattle.dtx_top.specs.Means.{means, means_of}
 

@@ -10,7 +10,7 @@ ghost use Rattle.dtx_files.specs.LogText.{log_text};
 ghost use Rattle.dtx_files.specs.Symbols.{segment_bytes};
 ghost use Rattle.dtx_gap_filler.specs.Heard.{Hears, heard_mark, heard_to};
 ghost use Rattle.dtx_jobs.specs.Repeat.{repeating};
-ghost use Rattle.dtx_jobs.specs.Shapes as shapes;
+ghost use Rattle.dtx_forms.specs.Shapes as shapes;
 ghost use Rattle.dtx_jobs.specs.SymbolFile.{file_segments, whole_segments};
 ghost use Rattle.dtx_network.specs.Headline.{HasNoListing, IsFirstListing, stretch_of};
 ghost use Rattle.dtx_network.specs.Presets.{presets};
@@ -25,8 +25,8 @@ ghost use Rattle.dtx_repeated_feed.specs.DoneWith.{IsDoneWith};
 ghost use Rattle.dtx_top.specs.Means.{means};
 
 use dtx_gap_filler::laws::{is_given_the_feed, repeats};
-use dtx_jobs::laws::repeating::all_is_repeated;
 use dtx_sizes::MOST_SEGMENTS;
+use dtx_symbol_laws::laws::repeating::all_is_repeated;
 
 /// Of a symbol file whose segments are a feed's, heard with slight damage, `repeat` writes the main transmitter's own
 /// symbols (ATSC A/53 Part 2) and their presets, where the plan lists its address and its delay is in time (`Hears`),

@@ -9,9 +9,9 @@ use Rattle.dtx_outside.specs.declared.sink.SinkNo.TheVariants as sink
 use Rattle.dtx_meaning.specs.Status.{IsOfInputs}
 use Rattle.dtx_meaning.specs.declared.status.Status.{Status}
 use Rattle.dtx_meaning.specs.declared.status.Status.TheVariants.{Usage, Memory}
-use Rattle.dtx_jobs.specs.Answers.{Knows}
-use Rattle.dtx_jobs.specs.OfWords.{IsOfWords, acquire_same, transmit_same, make_same, number_same, numbers_same}
-use Rattle.dtx_jobs.specs.OfWords.{dvb_same, three_same, two_same}
+use Rattle.dtx_forms.specs.Answers.{Knows}
+use Rattle.dtx_forms.specs.OfWords.{IsOfWords, acquire_same, transmit_same, make_same, number_same, numbers_same}
+use Rattle.dtx_forms.specs.OfWords.{dvb_same, three_same, two_same}
 use Rattle.dtx_words.specs.Fitting.{command_of, fit_fields, fits}
 use Rattle.dtx_words.specs.FittingLaws.{command_fits}
 use Rattle.dtx_words.specs.Line.{finished}

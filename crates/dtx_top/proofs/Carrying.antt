@@ -6,10 +6,10 @@ use Rattle.std.specs.FinMap.{get}
 use Rattle.std.proofs.lemmas.Bool.{cond-false}
 use Rattle.dtx_engine.specs.Recipe.{Recipe, meaning}
 use Rattle.dtx_engine.specs.declared.engine.Shape.{Shape}
-use Rattle.dtx_jobs.specs.Damaged.{damaged_making}
-use Rattle.dtx_jobs.specs.PastEnd.{first_past}
+use Rattle.dtx_packet_jobs.specs.Damaged.{damaged_making}
+use Rattle.dtx_packet_jobs.specs.PastEnd.{first_past}
 use Rattle.dtx_jobs.specs.Receive.{receiving}
-use Rattle.dtx_jobs.specs.Shapes.{segments}
+use Rattle.dtx_forms.specs.Shapes.{segments}
 use Rattle.dtx_meaning.specs.Laws.{carried_refused}
 use Rattle.dtx_meaning.specs.Meaning.{Meaning, IsCarriedOut}
 use Rattle.dtx_meaning.specs.Status.{IsFault, ended}

@@ -12,14 +12,14 @@ use Rattle.std.proofs.lemmas.Option.{slice_get_within, get_or_from_slice_get}
 use Rattle.dtx_chain.specs.ReceivedLaws.{all_whole}
 use Rattle.dtx_engine.specs.Made.{Made, outputs_of}
 use Rattle.dtx_engine.specs.Recipe.{Recipe, first_units, meaning_of_file, whole_units}
-use Rattle.dtx_jobs.specs.Damaged.{damaged_making}
-use Rattle.dtx_jobs.specs.Feed.{feed_bytes}
-use Rattle.dtx_jobs.specs.PacketFileLaws.{packets_of-bytes}
-use Rattle.dtx_jobs.specs.PastEnd.{first_past}
-use Rattle.dtx_jobs.specs.PlanFile.{under_plan, under_said}
+use Rattle.dtx_packet_jobs.specs.Damaged.{damaged_making}
+use Rattle.dtx_packet_jobs.specs.Feed.{feed_bytes}
+use Rattle.dtx_packet_jobs.specs.PacketFileLaws.{packets_of-bytes}
+use Rattle.dtx_packet_jobs.specs.PastEnd.{first_past}
+use Rattle.dtx_forms.specs.PlanFile.{under_plan, under_said}
 use Rattle.dtx_jobs.specs.Receive.{received_bytes, receiving}
 use Rattle.dtx_jobs.specs.ReceiveLaws.{receives_all}
-use Rattle.dtx_jobs.specs.Shapes.{packets, segments}
+use Rattle.dtx_forms.specs.Shapes.{packets, segments}
 use Rattle.dtx_jobs.specs.SymbolFile as symbols
 use Rattle.dtx_schedule.specs.Inside.{first_past_feed}
 use Rattle.dtx_make.specs.Hurt.{hurt}

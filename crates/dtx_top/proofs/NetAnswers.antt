@@ -2,12 +2,12 @@
 use Rattle.std.specs.Prelude.{◌≡◌, ◌≢◌, ℕ, ◌<◌, List, [], Option, Some, None, position}
 use Rattle.std.proofs.Common.{arith, subst, sym, ap, ◌∙◌}
 use Rattle.dtx_engine.specs.Recipe.{IsAnswerOf}
-use Rattle.dtx_jobs.specs.Answers.{Knows}
+use Rattle.dtx_forms.specs.Answers.{Knows}
 use Rattle.dtx_jobs.specs.AnswersLaws.{receive_knows}
-use Rattle.dtx_jobs.specs.Damaged.{damaged_making}
-use Rattle.dtx_jobs.specs.OfWordsLaws.{refusal_of_input}
-use Rattle.dtx_jobs.specs.PastEnd.{ends_past, first_past}
-use Rattle.dtx_jobs.specs.PlanFile.{IsPlanRefusal}
+use Rattle.dtx_packet_jobs.specs.Damaged.{damaged_making}
+use Rattle.dtx_forms.specs.OfWordsLaws.{refusal_of_input}
+use Rattle.dtx_packet_jobs.specs.PastEnd.{ends_past, first_past}
+use Rattle.dtx_forms.specs.PlanFile.{IsPlanRefusal}
 use Rattle.dtx_jobs.specs.Receive.{receiving}
 use Rattle.dtx_make.specs.Hurt.{hurt}
 use Rattle.dtx_meaning.specs.Status.{IsOfInput}

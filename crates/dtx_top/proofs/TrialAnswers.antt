@@ -13,7 +13,7 @@ use Rattle.dtx_words.specs.declared.rows.Command.TheVariants.{Trial}
 use Rattle.dtx_top.specs.Means.{means, means_of}
 use Rattle.dtx_top.specs.Trial.{trial_made, trial_meaning, trial_of}
 use Rattle.dtx_top.proofs.ByWords.{fit_length, with_two}
-use Rattle.dtx_jobs.specs.NumbersLaws.{number_most, within_range}
+use Rattle.dtx_forms.specs.NumbersLaws.{number_most, within_range}
 
 -- trials of numbers in their ranges are done
 abbrev pub TrialLaw : Type 0

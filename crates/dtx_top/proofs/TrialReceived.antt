@@ -22,7 +22,7 @@ use Rattle.dtx_exciter.specs.Lockstep.{segment_place}
 use Rattle.dtx_exciter.specs.Log.{emission_over}
 use Rattle.dtx_exciter.specs.Packets.{anchor_of, group_part, part_of, under}
 use Rattle.dtx_frame.specs.Detection.{looks_like}
-use Rattle.dtx_jobs.specs.PastEnd.{first_past}
+use Rattle.dtx_packet_jobs.specs.PastEnd.{first_past}
 use Rattle.dtx_jobs.specs.Receive.{receive_answer}
 use Rattle.dtx_jobs.specs.ReceivedLaws.{all_damaged_received}
 use Rattle.dtx_jobs.specs.SymbolFile.{file_segments, whole_segments}

@@ -9,8 +9,8 @@ use Rattle.std.specs.List.{Contains, IsDistinct}
 use Rattle.std.proofs.lemmas.Int.{fits_signed_from_abs}
 use Rattle.std.proofs.lemmas.List.Elements.{All-cons, All-nil}
 use Rattle.std.proofs.lemmas.Option.{same_Some}
-use Rattle.dtx_jobs.specs.Answers.{Knows}
-use Rattle.dtx_jobs.specs.Make.{made_file}
+use Rattle.dtx_forms.specs.Answers.{Knows}
+use Rattle.dtx_packet_jobs.specs.Make.{made_file}
 use Rattle.dtx_make.specs.Made.{made_stream}
 use Rattle.dtx_meaning.specs.Laws.{carried_before, carried_then, part_of_carried, part_of_none}
 use Rattle.dtx_meaning.specs.Laws.{whole_of_carried}

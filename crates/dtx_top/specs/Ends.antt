@@ -6,18 +6,18 @@ use Rattle.dtx_meaning.specs.Status.{IsOfInputs}
 use Rattle.dtx_meaning.specs.declared.status.Status.{Status}
 use Rattle.dtx_meaning.specs.declared.status.Status.TheVariants.{Done, Usage, Absent, ReadFault, WriteFault, Memory}
 use Rattle.dtx_jobs.specs.Acquire.{acquire_job}
-use Rattle.dtx_jobs.specs.Adapt.{adapt_job}
-use Rattle.dtx_jobs.specs.Answers.{Knows}
+use Rattle.dtx_packet_jobs.specs.Adapt.{adapt_job}
+use Rattle.dtx_forms.specs.Answers.{Knows}
 use Rattle.dtx_jobs.specs.Code.{code_job}
-use Rattle.dtx_jobs.specs.DvbCode.{dvb_code_job}
-use Rattle.dtx_jobs.specs.DvbRead.{dvb_read_job}
+use Rattle.dtx_packet_jobs.specs.DvbCode.{dvb_code_job}
+use Rattle.dtx_packet_jobs.specs.DvbRead.{dvb_read_job}
 use Rattle.dtx_jobs.specs.Excite.{excite_job}
-use Rattle.dtx_jobs.specs.Hurt.{hurt_job}
-use Rattle.dtx_jobs.specs.Job.{Job}
-use Rattle.dtx_jobs.specs.Make.{make_job}
+use Rattle.dtx_packet_jobs.specs.Hurt.{hurt_job}
+use Rattle.dtx_forms.specs.Job.{Job}
+use Rattle.dtx_packet_jobs.specs.Make.{make_job}
 use Rattle.dtx_jobs.specs.Mend.{mend_job}
-use Rattle.dtx_jobs.specs.OfWords.{IsOfWords}
-use Rattle.dtx_jobs.specs.Place.{place_job}
+use Rattle.dtx_forms.specs.OfWords.{IsOfWords}
+use Rattle.dtx_packet_jobs.specs.Place.{place_job}
 use Rattle.dtx_jobs.specs.Receive.{receive_job}
 use Rattle.dtx_jobs.specs.Repeat.{repeat_job}
 use Rattle.dtx_jobs.specs.Soft.{soft_job}

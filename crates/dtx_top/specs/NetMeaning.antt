@@ -4,12 +4,12 @@ use Rattle.std.specs.Prelude.{None, is_some}
 use Rattle.std.specs.FinMap.{get}
 use Rattle.dtx_adapter.specs.Feed.{placeholders}
 use Rattle.dtx_engine.specs.Recipe.{Recipe, meaning_of_file}
-use Rattle.dtx_jobs.specs.Adapt.{feeding}
-use Rattle.dtx_jobs.specs.Damaged.{damaged_making}
-use Rattle.dtx_jobs.specs.PastEnd.{first_past}
-use Rattle.dtx_jobs.specs.PlanFile.{under_plan}
+use Rattle.dtx_packet_jobs.specs.Adapt.{feeding}
+use Rattle.dtx_packet_jobs.specs.Damaged.{damaged_making}
+use Rattle.dtx_packet_jobs.specs.PastEnd.{first_past}
+use Rattle.dtx_forms.specs.PlanFile.{under_plan}
 use Rattle.dtx_jobs.specs.Receive.{receiving}
-use Rattle.dtx_jobs.specs.Shapes.{packets, segments}
+use Rattle.dtx_forms.specs.Shapes.{packets, segments}
 use Rattle.dtx_meaning.specs.Meaning.{Meaning, and_then, refused}
 use Rattle.dtx_meaning.specs.declared.status.Outcome.{Outcome}
 use Rattle.dtx_meaning.specs.declared.status.Status.{Status}

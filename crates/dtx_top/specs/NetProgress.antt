@@ -3,7 +3,7 @@ use Rattle.std.specs.Prelude.{◌≡◌, ◌≢◌, ◌⊎◌, ℕ, ◌+◌, ◌
 use Rattle.std.specs.Prelude.{◌∷◌, ◌++◌, slice_get, take}
 use Rattle.std.specs.FinMap.{get}
 use Rattle.dtx_engine.specs.Recipe.{meaning_of_file}
-use Rattle.dtx_jobs.specs.Shapes.{packets}
+use Rattle.dtx_forms.specs.Shapes.{packets}
 use Rattle.dtx_meaning.specs.Meaning.{IsFrontOf, Outputs, with_outputs}
 use Rattle.dtx_meaning.specs.Status.{IsFault}
 use Rattle.dtx_meaning.specs.declared.status.Status.{Status}

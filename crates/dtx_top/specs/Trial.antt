@@ -2,8 +2,8 @@
 use Rattle.std.specs.Prelude.{◌≡◌, ◌⊎◌, ℕ, ◌-◌, ◌^◌, ◌≤◌, ℤ, pos, negsuc, Bool, false, Option, Some, None, IsSomeAnd}
 use Rattle.std.specs.Prelude.{List, [], ◌∷◌}
 use Rattle.std.specs.FinMap.{get}
-use Rattle.dtx_jobs.specs.Make.{made_file}
-use Rattle.dtx_jobs.specs.OfWords.{numbers_same}
+use Rattle.dtx_packet_jobs.specs.Make.{made_file}
+use Rattle.dtx_forms.specs.OfWords.{numbers_same}
 use Rattle.dtx_make.specs.Made.{made_stream}
 use Rattle.dtx_meaning.specs.Meaning.{ArePartWritten, Meaning, and_then, refused}
 use Rattle.dtx_meaning.specs.Status.{IsFault}

@@ -20,8 +20,8 @@ ghost use Rattle.dtx_network.specs.Network.{steps_under};
 ghost use Rattle.dtx_network.specs.Orders.{has_order};
 ghost use Rattle.dtx_network.specs.Plans.{IsPlan, IsStream};
 ghost use Rattle.dtx_meaning.specs.declared.status.Status.{Status};
-ghost use Rattle.dtx_jobs.specs.Feed.{bytes_of_packets, feed_bytes};
-ghost use Rattle.dtx_jobs.specs.Place.{behind, is_open, placed};
+ghost use Rattle.dtx_packet_jobs.specs.Feed.{bytes_of_packets, feed_bytes};
+ghost use Rattle.dtx_packet_jobs.specs.Place.{behind, is_open, placed};
 ghost use Rattle.dtx_jobs.specs.SymbolFile as file;
 ghost use Rattle.dtx_jobs.specs.WatchedFeed.{IsWatchedCalmly};
 ghost use Rattle.dtx_schedule.specs.TransmitterFiles.{log_file, symbol_file};
@@ -35,13 +35,13 @@ ghost use Rattle.dtx_top.specs.Trial.{trial_made, trial_plan};
 ghost use Rattle.dtx_top.specs.WorkedNetwork.{HasAllBack, IsSimple, WorkedNetwork, made_packets};
 
 use dtx_exciter::laws::groups_are_spaced;
-use dtx_jobs::laws::placing::{fields_with_one, groups_begin_late, what_stays};
 use dtx_jobs::laws::watching::sound_feeds_are_watched_calmly;
 use dtx_net::laws::interleavings;
 use dtx_network::laws::{
     a_feed_is_sound, headline, joined_is_met, listings_of_a_feed, orders_of_a_feed,
     packets_of_a_feed, sends_the_stretch_alone,
 };
+use dtx_packet_jobs::laws::placing::{fields_with_one, groups_begin_late, what_stays};
 
 /// The segments of a transmitter's symbol file are those that it sends: segment n of the file is segment n of them.
 pub fn segments_read_back()

@@ -1,7 +1,7 @@
 // `net PLAN`: a network adapted, played and received.
 ghost use Rattle.std.specs.Prelude.{◌≡◌, ◌≢◌, ◌≤◌, [], IfSome, Some, length};
 ghost use Rattle.std.specs.FinMap as files;
-ghost use Rattle.dtx_jobs.specs.PlanFile.{IsPlanRead, under_plan};
+ghost use Rattle.dtx_forms.specs.PlanFile.{IsPlanRead, under_plan};
 ghost use Rattle.dtx_meaning.specs.Meaning.{IsCarriedOut};
 ghost use Rattle.dtx_meaning.specs.Status.{blame_of};
 ghost use Rattle.dtx_outside.specs.Counts.{HasGone};
@@ -19,7 +19,7 @@ ghost use Rattle.dtx_top.specs.Networks.{network_names};
 use crate::network_names::repeated_file;
 use crate::replaying::replay;
 use arrayvec::ArrayString;
-use dtx_jobs::plan_in;
+use dtx_forms::plan_in;
 use dtx_meaning::{Outcome, Status, ended};
 use dtx_network::laws::headline;
 use dtx_outside::{Shelf, Word};

@@ -2,10 +2,10 @@
 ghost use Rattle.std.specs.Prelude.{◌≡◌, [], ◌∷◌, ℕ, List, Some, IfSome, length, slice_index};
 ghost use Rattle.std.specs.FinMap as files;
 ghost use Rattle.dtx_engine.specs.Recipe.{meaning};
-ghost use Rattle.dtx_jobs.specs.Damaged.{damaged_making};
-ghost use Rattle.dtx_jobs.specs.PastEnd as past;
+ghost use Rattle.dtx_packet_jobs.specs.Damaged.{damaged_making};
+ghost use Rattle.dtx_packet_jobs.specs.PastEnd as past;
 ghost use Rattle.dtx_jobs.specs.Receive.{receiving};
-ghost use Rattle.dtx_jobs.specs.Shapes as shapes;
+ghost use Rattle.dtx_forms.specs.Shapes as shapes;
 ghost use Rattle.dtx_meaning.specs.Meaning.{IsCarriedOut};
 ghost use Rattle.dtx_meaning.specs.Status.{blame_of};
 ghost use Rattle.dtx_outside.specs.Counts.{HasGone};
@@ -16,9 +16,10 @@ ghost use Rattle.dtx_top.specs.NetAnswers.{IsOfReplay};
 ghost use Rattle.dtx_top.specs.NetMeaning.{received_past};
 
 use dtx_engine::{Input, carry_to_one};
-use dtx_jobs::{Damaged, Reception, first_past};
+use dtx_jobs::Reception;
 use dtx_meaning::{Outcome, Status, ended};
 use dtx_outside::Shelf;
+use dtx_packet_jobs::{Damaged, first_past};
 use dtx_plan::ReceivePlan;
 use dtx_receiver::Receiver;
 use dtx_words::{received_name, symbol_name};

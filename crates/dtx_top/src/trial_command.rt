@@ -1,8 +1,8 @@
 // `trial SEED COUNT`: a made stream, and the network of the trial plan over it.
 ghost use Rattle.std.specs.Prelude.{◌≡◌, ◌≤◌, ℕ, IfSome, Some, false};
 ghost use Rattle.std.specs.FinMap as files;
-ghost use Rattle.dtx_jobs.specs.Answers.{Knows};
-ghost use Rattle.dtx_jobs.specs.OfWords.{IsOfWords, numbers_same};
+ghost use Rattle.dtx_forms.specs.Answers.{Knows};
+ghost use Rattle.dtx_forms.specs.OfWords.{IsOfWords, numbers_same};
 ghost use Rattle.dtx_make.specs.Made.{made_stream};
 ghost use Rattle.dtx_meaning.specs.Meaning.{IsCarriedOut};
 ghost use Rattle.dtx_meaning.specs.Status.{IsOfInputs, blame_of};
@@ -17,10 +17,10 @@ ghost use Rattle.dtx_top.specs.Trial.{HasTrialProgress, IsTrialPlan, trial_meani
 
 use crate::replaying::replay;
 use crate::trial_plan::trial_plan;
-use dtx_jobs::make_stream;
 use dtx_meaning::{Outcome, Status, ended};
 use dtx_network::laws::headline;
 use dtx_outside::{Shelf, Word};
+use dtx_packet_jobs::make_stream;
 use dtx_plan::Plan;
 use dtx_words::{FEWEST_TRIAL, MOST_TRIAL, number_up_to, number_within, trial_name};
 use std::alloc::Global;

@@ -1,6 +1,6 @@
 use Rattle.std.proofs.Common.{arith}
 use Rattle.std.specs.Prelude.{Some}
-use Rattle.dtx_jobs.specs.NumbersLaws.{within_range}
+use Rattle.dtx_forms.specs.NumbersLaws.{within_range}
 use Rattle.dtx_jobs.proofs.acquire_command.acquire_read.Goals as goal
 
 pub overflow_cast-scale : goal.overflow_cast-scale

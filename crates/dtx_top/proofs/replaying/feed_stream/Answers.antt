@@ -1,6 +1,6 @@
 use Rattle.std.proofs.Common.{ap, subst, ◌∙◌}
 use Rattle.dtx_engine.specs.Recipe.{IsAnswerOf, Recipe}
-use Rattle.dtx_jobs.specs.Shapes.{packets}
+use Rattle.dtx_forms.specs.Shapes.{packets}
 use Rattle.dtx_words.specs.NetworkNames.{feed_name}
 use Rattle.dtx_top.specs.NetMeaning.{adapting}
 use Rattle.dtx_top.specs.OfBytes.{of_bytes}

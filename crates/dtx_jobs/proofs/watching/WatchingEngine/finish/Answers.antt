@@ -12,7 +12,7 @@ use Rattle.dtx_jobs.specs.Watch.{watch_tally, watch_numbers}
 use Rattle.dtx_jobs.specs.Watching.{tally_with}
 use Rattle.dtx_jobs.specs.WatchLaws.{has_room, tally_parts, waiting_is}
 use Rattle.dtx_jobs.specs.declared.watch_tally.WatchTally.{WatchTally}
-use Rattle.dtx_jobs.proofs.StreamSymbols.{length-packets_of}
+use Rattle.dtx_packet_jobs.specs.PacketFileLaws.{length-packets_of}
 use Rattle.dtx_jobs.proofs.watching.WatchingEngine.finish.Goals as goal
 
 pub finish-requires : goal.finish-requires

@@ -1,0 +1,38 @@
+-- What a command of one stream or file is, and what it is that it was done: one statement for all.
+use Rattle.std.specs.Prelude.{ℕ, Bool, if◌then◌else◌, is_some, List, Option, Some, IfSome}
+use Rattle.dtx_meaning.specs.Meaning.{IsCarriedOut, Meaning, refused}
+use Rattle.dtx_meaning.specs.Status.{blame_of}
+use Rattle.dtx_meaning.specs.declared.status.Outcome.{Outcome}
+use Rattle.dtx_meaning.specs.declared.status.Status.TheVariants.{Same}
+use Rattle.dtx_outside.specs.Counts.{Counts, HasGone}
+use Rattle.dtx_outside.specs.Shelf.{Files}
+use Rattle.dtx_words.specs.declared.rows.Command.{Command}
+use Rattle.dtx_forms.specs.Answers.{Knows}
+use Rattle.dtx_forms.specs.OfWords.{IsOfWords}
+
+-- which command it is, what words mean, whether two of its file names are equal, where the words fit, and nothing where
+-- they don't, and how many inputs they name
+pub record Job : Type 0 where
+  pub command : Command
+  pub means : List (List ℕ) → Files → Meaning
+  pub same : List (List ℕ) → Option Bool
+  pub inputs : ℕ
+
+-- What is meant was done. Where the files are told, all of it, or a fault or want of memory was met and the first of
+-- its outputs, none perhaps, hold front parts; every other file is as before. Whether they are told or not, the answer
+-- is one that the words allow and that the command knows, and no count fell: the one that the answer is blamed on rose,
+-- and where it is blamed on nothing, want of memory neither, all stand.
+pub record IsPerformed (command : Command) (means : Files → Meaning) (same : Option Bool) (inputs : ℕ)
+    (outcome : Outcome) (told now : Option Files) (before after : Counts) : Type 0 where
+  pub carried : IfSome told (λ held. IsCarriedOut (means held) (Some held) outcome now)
+  pub words : IsOfWords same inputs outcome.status
+  pub answers : Knows command outcome.status
+  pub gone : HasGone before after (blame_of outcome.status)
+
+-- what these words mean was done
+abbrev pub IsJobPerformed : Job → List (List ℕ) → Outcome → Option Files → Option Files → Counts → Counts → Type 0
+IsJobPerformed job words = IsPerformed job.command (job.means words) (job.same words) job.inputs
+
+-- what is meant where one of the names was found to come twice, or none
+abbrev pub unless_same : Option (List ℕ) → Meaning → Meaning
+unless_same twice means = if is_some twice then refused Same else means

@@ -1,0 +1,38 @@
+// `.. IN OUT` where each unit of the input is changed in its place.
+ghost use Rattle.std.specs.Prelude.{[]};
+ghost use Rattle.dtx_engine.specs.Each.{each_making};
+ghost use Rattle.dtx_engine.specs.Recipe.{IsAnswerOf};
+ghost use Rattle.dtx_words.specs.declared.rows.Command.{Command};
+ghost use Rattle.dtx_forms.specs.Answers.{Knows};
+
+use crate::transforming::Transforming;
+use dtx_engine::{Change, Each};
+use std::alloc::{AllocError, Global};
+
+/// A change of each unit that a command makes of its one input alone.
+pub trait Changing: Change + Drop {
+    ghost use Rattle.dtx_meaning.specs.declared.status.Status.{Status};
+
+    /// The command that it carries out.
+    ghost command: { Command };
+
+    /// One that has counted nothing.
+    fn new() -> Self
+        ensures { Self.tallies result [] };
+
+    /// Its command knows how it may be answered.
+    ghost knows: { (status : Status)
+        → IsAnswerOf (each_making Self.shape Self.allowed Self.changed Self.answer) status → Knows command status };
+}
+
+impl<C: Changing> Transforming for Each<C> {
+    ghost command = { C.command };
+
+    ghost makes = { each_making C.shape C.allowed C.changed C.answer };
+
+    fn new(_alloc: Global) -> Result<Each<C>, AllocError> {
+        Ok(Each::new(C::new()))
+    }
+
+    ghost knows = { C.knows };
+}

@@ -1,0 +1,72 @@
+// `.. A B OUT`: what a command makes of two inputs.
+ghost use Rattle.std.specs.Prelude.{◌≢◌, false, is_some, ℕ, List, [], ◌∷◌, Some};
+ghost use Rattle.dtx_meaning.specs.Meaning.{Meaning};
+ghost use Rattle.dtx_outside.specs.Shelf.{Files};
+ghost use Rattle.dtx_words.specs.Names.{repeated};
+ghost use Rattle.dtx_words.specs.declared.rows.Command.{Command};
+ghost use Rattle.dtx_forms.specs.Job.{IsPerformed, IsJobPerformed};
+ghost use Rattle.dtx_forms.specs.Combine.{combine_job, combined};
+
+use dtx_meaning::{Outcome, Status, ended};
+use dtx_outside::{Shelf, Word};
+use dtx_words::repeated_name;
+use std::alloc::Global;
+
+/// A command that makes one output of two inputs.
+pub trait Combining {
+    /// The command that it is.
+    ghost command: { Command };
+
+    /// What it means with files of these names, of which the last is neither of the others.
+    ghost means: { List ℕ → List ℕ → List ℕ → Files → Meaning };
+
+    /// Makes the output of the inputs.
+    fn combine_apart<S: Shelf>(
+        alloc: Global,
+        first: &str,
+        second: &str,
+        output: &str,
+        shelf: &mut S,
+    ) -> Outcome
+        requires first { first.now ≢ output.now }
+        requires second { second.now ≢ output.now }
+        ensures { IsPerformed command (means first.now second.now output.now) (Some false) 2 result
+            (S.files shelf.old) (S.files shelf.new) (S.counts shelf.old) (S.counts shelf.new) };
+}
+
+/// Makes OUT of A and B, where no two of the three names are equal.
+pub fn combine<C: Combining, S: Shelf>(alloc: Global, words: &[Word], shelf: &mut S) -> Outcome
+    ensures { IsJobPerformed (combine_job C.command C.means) words.now result
+        (S.files shelf.old) (S.files shelf.new) (S.counts shelf.old) (S.counts shelf.new) }
+{
+    match words {
+        [_, first, second, output] => {
+            combine_files::<C, S>(
+                alloc,
+                first.as_str(),
+                second.as_str(),
+                output.as_str(),
+                shelf,
+            )
+        }
+        _ => ended(Status::Usage),
+    }
+}
+
+/// Makes the output of the inputs of these names, where no two of them are equal.
+fn combine_files<C: Combining, S: Shelf>(
+    alloc: Global,
+    first: &str,
+    second: &str,
+    output: &str,
+    shelf: &mut S,
+) -> Outcome
+    ensures { IsPerformed C.command (combined C.means first.now second.now output.now)
+        (Some (is_some (repeated (first.now ∷ second.now ∷ output.now ∷ [])))) 2 result
+        (S.files shelf.old) (S.files shelf.new) (S.counts shelf.old) (S.counts shelf.new) }
+{
+    match repeated_name(&[first, second, output]) {
+        Some(_) => ended(Status::Same),
+        None => C::combine_apart(alloc, first, second, output, shelf),
+    }
+}

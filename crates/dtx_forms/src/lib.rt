@@ -1,0 +1,19 @@
+//! What a job is, and the forms that jobs have: one output of one input, what a transmitter sends and logs, one output
+//! of two inputs; the plan and the changes that some of them read, and in which units they read their inputs.
+#![tactic(auto)]
+
+mod changing;
+mod combining;
+mod plan_file;
+mod shapes;
+mod transforming;
+mod transmitting;
+
+pub use changing::Changing;
+pub use combining::{Combining, combine};
+pub use plan_file::{changes_in, plan_in};
+pub use shapes::{
+    CODED_PACKETS, PIECE_SEGMENTS, coded_packets, packets, segments, single_bytes, single_packets,
+};
+pub use transforming::{Transforming, transform, transform_dvb};
+pub use transmitting::{Transmitting, transmit};

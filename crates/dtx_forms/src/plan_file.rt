@@ -1,0 +1,157 @@
+// The plan of a file, and the damage of a file of changes.
+ghost use Rattle.std.specs.Prelude.{◌≡◌, ◌<◌, [], length, false, Ok, IfSome, IfOk, IfErr};
+ghost use Rattle.std.specs.FinMap as files;
+ghost use Rattle.dtx_outside.specs.Counts.{HasGone};
+ghost use Rattle.dtx_meaning.specs.Status.{blame_of_answer};
+ghost use Rattle.dtx_plan.specs.Sound.{IsSound, HasSoundNet, AreDamages};
+ghost use Rattle.dtx_forms.specs.PlanFile.{IsChangesRead, IsPlanRead, IsPlanRefusal, IsReadAll, IsReadOn};
+ghost use Rattle.dtx_forms.specs.PlanFile.{IsReadRefusal};
+ghost use Rattle.dtx_forms.specs.PlanFile.{IsSmallFile};
+
+use dtx_meaning::{Status, of_plan, of_read};
+use dtx_outside::{Shelf, fill};
+use dtx_plan::{Damages, Plan, read_changes, read_plan};
+use std::alloc::{AllocError, Global};
+
+/// How many bytes of a plan or a file of changes are read: one more than such a file may have, so that a file that is
+/// too long is told from one that isn't.
+const SMALL: usize = 16_777_217;
+
+/// How many bytes of it are read at once.
+const PIECE: usize = 65_536;
+
+/// Reads the plan of the input of that number. Its text is that of `dtx_plan::read_plan` (the profile's own).
+pub fn plan_in<S: Shelf>(
+    alloc: Global,
+    shelf: &mut S,
+    number: u8,
+    name: &str,
+) -> Result<Plan, Status>
+    ensures told { IfSome (S.files shelf.old) (λ held. IsPlanRead (files.get held name.now) number result) }
+
+    // Also where the shelf doesn't tell its files.
+    ensures sound { IfOk result IsSound }
+    ensures net { IfOk result HasSoundNet }
+    ensures refusal { IfErr result (IsPlanRefusal number) }
+    ensures kept { S.files shelf.new ≡ S.files shelf.old }
+    ensures gone { HasGone (S.counts shelf.old) (S.counts shelf.new) (blame_of_answer result) }
+{
+    match small_file(alloc, shelf, number, name) {
+        Ok(bytes) => match read_plan(alloc, &bytes) {
+            Ok(plan) => Ok(plan),
+            Err(fault) => Err(of_plan(fault)),
+        },
+        Err(status) => Err(status),
+    }
+}
+
+/// Reads the damage of the file of changes of that number. Its text is that of `dtx_plan::read_changes` (the profile's
+/// own).
+pub fn changes_in<S: Shelf>(
+    alloc: Global,
+    shelf: &mut S,
+    number: u8,
+    name: &str,
+) -> Result<Damages, Status>
+    ensures told { IfSome (S.files shelf.old) (λ held. IsChangesRead (files.get held name.now) number result) }
+
+    // Also where the shelf doesn't tell its files.
+    ensures sound { IfOk result AreDamages }
+    ensures refusal { IfErr result (IsPlanRefusal number) }
+    ensures kept { S.files shelf.new ≡ S.files shelf.old }
+    ensures gone { HasGone (S.counts shelf.old) (S.counts shelf.new) (blame_of_answer result) }
+{
+    match small_file(alloc, shelf, number, name) {
+        Ok(bytes) => match read_changes(alloc, &bytes) {
+            Ok(damage) => Ok(damage),
+            Err(fault) => Err(of_plan(fault)),
+        },
+        Err(status) => Err(status),
+    }
+}
+
+/// The bytes of the file of that number, or the first of them where it has more than a plan or a file of changes may
+/// have.
+fn small_file<S: Shelf>(
+    alloc: Global,
+    shelf: &mut S,
+    number: u8,
+    name: &str,
+) -> Result<Vec<u8>, Status>
+    ensures told { IfSome (S.files shelf.old) (λ held. IsSmallFile (files.get held name.now) number result) }
+    ensures refusal { IfErr result (IsReadRefusal number) }
+    ensures kept { S.files shelf.new ≡ S.files shelf.old }
+    ensures gone { HasGone (S.counts shelf.old) (S.counts shelf.new) (blame_of_answer result) }
+{
+    let mut piece = zeroed(alloc, PIECE)?;
+    let mut bytes = Vec::new(alloc);
+    match read_all(shelf, number, name, &mut piece, &mut bytes) {
+        Ok(()) => {
+            bytes.truncate(SMALL);
+            Ok(bytes)
+        }
+        Err(status) => Err(status),
+    }
+}
+
+/// Reads the file of that number piece by piece, until it ends or more bytes came than a plan or a file of changes may
+/// have.
+fn read_all<S: Shelf>(
+    shelf: &mut S,
+    number: u8,
+    name: &str,
+    piece: &mut [u8],
+    bytes: &mut Vec<u8>,
+) -> Result<(), Status>
+    requires room { length piece.old ≡ PIECE }
+    requires none { bytes.old.items ≡ [] }
+    ensures told { IfSome (S.files shelf.old) (λ held.
+        IsReadAll (files.get held name.now) number result bytes.new.items) }
+    ensures refusal { IfErr result (IsReadRefusal number) }
+    ensures kept { S.files shelf.new ≡ S.files shelf.old }
+    ensures gone { HasGone (S.counts shelf.old) (S.counts shelf.new) (blame_of_answer result) }
+{
+    loop {
+        match read_on(shelf, number, name, piece, bytes) {
+            Ok(ended) => {
+                if ended || bytes.len() >= SMALL {
+                    return Ok(());
+                }
+            }
+            Err(status) => return Err(status),
+        }
+    }
+}
+
+/// Reads the next piece of the file of that number behind its first bytes, and answers whether the file ends there.
+fn read_on<S: Shelf>(
+    shelf: &mut S,
+    number: u8,
+    name: &str,
+    piece: &mut [u8],
+    bytes: &mut Vec<u8>,
+) -> Result<bool, Status>
+    requires room { length piece.old ≡ PIECE }
+    requires short { length bytes.old.items < SMALL }
+    ensures told { IfSome (S.files shelf.old) (λ held.
+        IsReadOn (files.get held name.now) number bytes.old.items result bytes.new.items) }
+    ensures on { result ≡ Ok false → length bytes.old.items < length bytes.new.items }
+    ensures refusal { IfErr result (IsReadRefusal number) }
+    ensures kept { S.files shelf.new ≡ S.files shelf.old }
+    ensures gone { HasGone (S.counts shelf.old) (S.counts shelf.new) (blame_of_answer result) }
+{
+    match fill(shelf, name, bytes.len() as u64, piece) {
+        Ok(count) => match bytes.extend_from_slice(&piece[..count]) {
+            Ok(()) => Ok(count < PIECE),
+            Err(_) => Err(Status::Memory),
+        },
+        Err(cause) => Err(of_read(number, cause)),
+    }
+}
+
+/// That many bytes, each 0.
+fn zeroed(alloc: Global, room: usize) -> Result<Vec<u8>, AllocError>
+    ensures { IfOk result (λ bytes. length bytes.items ≡ room) }
+{
+    vec![in alloc; 0u8; room]
+}

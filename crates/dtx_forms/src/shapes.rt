@@ -1,0 +1,83 @@
+// In which units the commands read their inputs.
+ghost use Rattle.std.specs.Prelude.{◌≡◌};
+ghost use Rattle.dtx_engine.specs.Recipe.{IsSound};
+ghost use Rattle.dtx_forms.specs.Shapes as shapes;
+
+use dtx_engine::Shape;
+use dtx_packets::PIECE_PACKETS;
+use dtx_sizes::{
+    FIELD_SEGMENTS, GROUP_PACKETS, MOST_PACKETS, MOST_SEGMENTS, MOST_SYMBOLS, PACKET, SEGMENT,
+};
+
+/// How many segments are read at once: those of a field.
+pub const PIECE_SEGMENTS: usize = FIELD_SEGMENTS as usize;
+
+/// Packets of 188 bytes (ISO/IEC 13818-1, 2.4.3.2), in groups of four.
+pub fn packets() -> Shape
+    ensures same { result ≡ shapes.packets }
+    ensures sound { IsSound result }
+{
+    Shape {
+        unit: PACKET,
+        units: PIECE_PACKETS,
+        group: GROUP_PACKETS as u64,
+        limit: MOST_PACKETS,
+    }
+}
+
+/// How many packets are read at once where symbols are made of them: the 146,432 of their groups are more than a piece
+/// of the output, so that they go to its file without being gathered, but for parts of a page. More packets would save
+/// few calls of the system, and hold more memory.
+pub const CODED_PACKETS: usize = 176;
+
+/// Packets of 188 bytes that are coded, in groups of four.
+pub fn coded_packets() -> Shape
+    ensures same { result ≡ shapes.coded_packets }
+    ensures sound { IsSound result }
+{
+    Shape {
+        unit: PACKET,
+        units: CODED_PACKETS,
+        group: GROUP_PACKETS as u64,
+        limit: MOST_PACKETS,
+    }
+}
+
+/// Packets of 188 bytes, each for itself.
+pub fn single_packets() -> Shape
+    ensures same { result ≡ shapes.single_packets }
+    ensures sound { IsSound result }
+{
+    Shape {
+        unit: PACKET,
+        units: PIECE_PACKETS,
+        group: 1,
+        limit: MOST_PACKETS,
+    }
+}
+
+/// Segments of 832 symbols, one byte each (ATSC A/53 Part 2).
+pub fn segments() -> Shape
+    ensures same { result ≡ shapes.segments }
+    ensures sound { IsSound result }
+{
+    Shape {
+        unit: SEGMENT,
+        units: PIECE_SEGMENTS,
+        group: 1,
+        limit: MOST_SEGMENTS,
+    }
+}
+
+/// Bytes, each for itself.
+pub fn single_bytes() -> Shape
+    ensures same { result ≡ shapes.single_bytes }
+    ensures sound { IsSound result }
+{
+    Shape {
+        unit: 1,
+        units: 262_144,
+        group: 1,
+        limit: MOST_SYMBOLS,
+    }
+}

@@ -1,0 +1,82 @@
+// `.. IN OUT` and `dvb .. IN OUT`: what an engine makes of an input alone.
+ghost use Rattle.std.specs.Prelude.{◌≡◌, [], Some, IfOk};
+ghost use Rattle.std.specs.Str.{bytes_eq};
+ghost use Rattle.dtx_engine.specs.Recipe.{IsAnswerOf, Recipe, transformed};
+ghost use Rattle.dtx_words.specs.declared.rows.Command.{Command};
+ghost use Rattle.dtx_forms.specs.Answers.{Knows};
+ghost use Rattle.dtx_forms.specs.Job.{IsPerformed, IsJobPerformed};
+ghost use Rattle.dtx_forms.specs.Transform.{dvb_job, transform_job};
+
+use dtx_engine::Engine;
+use dtx_meaning::{Outcome, Status, ended};
+use dtx_outside::{Shelf, Word};
+use std::alloc::{AllocError, Global};
+
+/// An engine that makes the one output of a command of its one input alone.
+pub trait Transforming: Engine + Drop {
+    ghost use Rattle.dtx_meaning.specs.declared.status.Status.{Status};
+
+    /// The command that it carries out.
+    ghost command: { Command };
+
+    /// What it makes.
+    ghost makes: { Recipe };
+
+    /// One that was given nothing.
+    fn new(alloc: Global) -> Result<Self, AllocError>
+        ensures given { IfOk result (λ engine. Self.stands engine []) }
+        ensures makes { IfOk result (λ engine. Self.recipe engine ≡ makes) };
+
+    /// Its command knows how it may be answered.
+    ghost knows: { (status : Status) → IsAnswerOf makes status → Knows command status };
+}
+
+/// Gives the units of IN to an engine, which makes OUT of them.
+pub fn transform<E: Transforming, S: Shelf>(alloc: Global, words: &[Word], shelf: &mut S) -> Outcome
+    ensures { IsJobPerformed (transform_job E.command E.shape E.makes) words.now result
+        (S.files shelf.old) (S.files shelf.new)
+        (S.counts shelf.old) (S.counts shelf.new) }
+{
+    match words {
+        [_, input, output] => {
+            transform_files::<E, S>(alloc, input.as_str(), output.as_str(), shelf)
+        }
+        _ => ended(Status::Usage),
+    }
+}
+
+/// Gives the units of IN to an engine, which makes OUT of them, where the command's own word is the second one.
+pub fn transform_dvb<E: Transforming, S: Shelf>(
+    alloc: Global,
+    words: &[Word],
+    shelf: &mut S,
+) -> Outcome
+    ensures { IsJobPerformed (dvb_job E.command E.shape E.makes) words.now result
+        (S.files shelf.old) (S.files shelf.new)
+        (S.counts shelf.old) (S.counts shelf.new) }
+{
+    match words {
+        [_, _, input, output] => {
+            transform_files::<E, S>(alloc, input.as_str(), output.as_str(), shelf)
+        }
+        _ => ended(Status::Usage),
+    }
+}
+
+/// Gives the units of the input of that name to an engine, which makes the output of that name of them.
+#[inline(never)]
+fn transform_files<E: Transforming, S: Shelf>(
+    alloc: Global,
+    input: &str,
+    output: &str,
+    shelf: &mut S,
+) -> Outcome
+    ensures { IsPerformed E.command (transformed E.shape E.makes input.now output.now)
+        (Some (bytes_eq input.now output.now)) 1 result (S.files shelf.old) (S.files shelf.new)
+        (S.counts shelf.old) (S.counts shelf.new) }
+{
+    match E::new(alloc) {
+        Ok(mut engine) => dtx_engine::transform(alloc, &mut engine, input, output, shelf),
+        Err(_) => ended(Status::Memory),
+    }
+}

@@ -1,0 +1,169 @@
+// `.. IN ADDRESS DELAY OUT LOG`: what a transmitter sends for an input, and its log.
+ghost use Rattle.std.specs.Prelude.{◌≡◌, ◌≢◌, false, is_some, ℕ, [], ◌∷◌, Some, IfOk, IfSome};
+ghost use Rattle.std.specs.FinMap as held_at;
+ghost use Rattle.dtx_engine.specs.Recipe.{IsAnswerOf, Recipe, meaning};
+ghost use Rattle.dtx_meaning.specs.Meaning.{IsCarriedOut};
+ghost use Rattle.dtx_meaning.specs.Status.{IsOfInput, blame_of};
+ghost use Rattle.dtx_outside.specs.Counts.{HasGone};
+ghost use Rattle.dtx_words.specs.Names.{repeated};
+ghost use Rattle.dtx_words.specs.Number.{number_in};
+ghost use Rattle.dtx_words.specs.declared.rows.Command.{Command};
+ghost use Rattle.dtx_forms.specs.Answers.{Knows};
+ghost use Rattle.dtx_forms.specs.Job.{IsPerformed, IsJobPerformed};
+ghost use Rattle.dtx_forms.specs.OfWords.{numbers_same};
+ghost use Rattle.dtx_forms.specs.Transmit.{transmit_at, transmit_job, transmit_with};
+
+use dtx_engine::{Engine, Input, Two, carry_out};
+use dtx_meaning::{Outcome, Status, ended};
+use dtx_outside::{Shelf, Word};
+use dtx_words::{number_up_to, repeated_name};
+use std::alloc::{AllocError, Global};
+
+/// An engine that makes the symbols that a transmitter sends, and its log.
+pub trait Transmitting: Engine + Drop {
+    ghost use Rattle.dtx_meaning.specs.declared.status.Status.{Status};
+
+    /// The command that it carries out.
+    ghost command: { Command };
+
+    /// What it makes for an address and a delay.
+    ghost sends: { ℕ → ℕ → Recipe };
+
+    /// The transmitter with this address, to which the feed takes `delay` ticks of 100 ns, was given nothing.
+    fn new(alloc: Global, address: u16, delay: u32) -> Result<Self, AllocError>
+        ensures given { IfOk result (λ engine. Self.stands engine []) }
+        ensures sends { IfOk result (λ engine. Self.recipe engine ≡ sends address delay) };
+
+    /// Its command knows how it may be answered.
+    ghost knows: { (address delay : ℕ) (status : Status) → IsAnswerOf (sends address delay) status
+        → Knows command status };
+}
+
+/// The files of a transmitter: its input, the symbols that it sends and its log.
+#[derive(Clone, Copy)]
+struct TransmitterFiles<'a> {
+    input: &'a str,
+    output: &'a str,
+    log: &'a str,
+}
+
+/// Reads ADDRESS, 0 to 65,535, and DELAY, for how many ticks of 100 ns the feed is on its way, 0 to 4,294,967,295, in
+/// decimal digits without sign and without a leading zero unless it is `0`, and gives the units of IN to an engine of
+/// that transmitter, whose symbols go to OUT and whose log goes to LOG.
+pub fn transmit<E: Transmitting, S: Shelf>(alloc: Global, words: &[Word], shelf: &mut S) -> Outcome
+    ensures { IsJobPerformed (transmit_job E.command E.shape E.sends) words.now result
+        (S.files shelf.old) (S.files shelf.new)
+        (S.counts shelf.old) (S.counts shelf.new) }
+{
+    match words {
+        [_, input, address, delay, output, log] => {
+            let files = TransmitterFiles {
+                input: input.as_str(),
+                output: output.as_str(),
+                log: log.as_str(),
+            };
+            transmit_read::<E, S>(alloc, address.as_str(), delay.as_str(), files, shelf)
+        }
+        _ => ended(Status::Usage),
+    }
+}
+
+/// Reads the address and the delay, and gives the units of these files' input to the engine of that transmitter.
+fn transmit_read<E: Transmitting, S: Shelf>(
+    alloc: Global,
+    address: &str,
+    delay: &str,
+    files: TransmitterFiles<'_>,
+    shelf: &mut S,
+) -> Outcome
+    ensures { IsPerformed E.command
+        (transmit_with E.shape E.sends (number_in 65535 address.now) (number_in 4294967295 delay.now)
+        files.entry.input.now files.entry.output.now files.entry.log.now)
+        (numbers_same (number_in 65535 address.now) (number_in 4294967295 delay.now)
+        (is_some (repeated (files.entry.input.now ∷ files.entry.output.now ∷ files.entry.log.now ∷ []))))
+        1 result (S.files shelf.old) (S.files shelf.new)
+        (S.counts shelf.old) (S.counts shelf.new) }
+{
+    match number_up_to(u16::MAX as u64, address) {
+        Some(address) => match number_up_to(u32::MAX as u64, delay) {
+            Some(delay) => {
+                transmit_files::<E, S>(alloc, address as u16, delay as u32, files, shelf)
+            }
+            None => ended(Status::Usage),
+        },
+        None => ended(Status::Usage),
+    }
+}
+
+/// Gives the units of the input to the engine of that transmitter, where no two of the names are equal.
+fn transmit_files<E: Transmitting, S: Shelf>(
+    alloc: Global,
+    address: u16,
+    delay: u32,
+    files: TransmitterFiles<'_>,
+    shelf: &mut S,
+) -> Outcome
+    ensures { IsPerformed E.command
+        (transmit_at E.shape E.sends address delay files.entry.input.now files.entry.output.now files.entry.log.now)
+        (Some (is_some (repeated (files.entry.input.now ∷ files.entry.output.now ∷ files.entry.log.now ∷ []))))
+        1 result (S.files shelf.old) (S.files shelf.new)
+        (S.counts shelf.old) (S.counts shelf.new) }
+{
+    match repeated_name(&[files.input, files.output, files.log]) {
+        Some(_) => ended(Status::Same),
+        None => transmit_apart::<E, S>(alloc, address, delay, files, shelf),
+    }
+}
+
+/// Gives the units of the input to the engine of that transmitter, where the names differ.
+#[inline(never)]
+fn transmit_apart<E: Transmitting, S: Shelf>(
+    alloc: Global,
+    address: u16,
+    delay: u32,
+    files: TransmitterFiles<'_>,
+    shelf: &mut S,
+) -> Outcome
+    requires output { files.input.now ≢ files.output.now }
+    requires log { files.input.now ≢ files.log.now }
+    requires both { files.output.now ≢ files.log.now }
+    ensures { IsPerformed E.command
+        (λ held. meaning E.shape (E.sends address delay) 0 (files.entry.output.now ∷ files.entry.log.now ∷ [])
+        (held_at.get held files.entry.input.now))
+        (Some false) 1 result (S.files shelf.old) (S.files shelf.new)
+        (S.counts shelf.old) (S.counts shelf.new) }
+{
+    match E::new(alloc, address, delay) {
+        Ok(mut engine) => transmit_both(alloc, &mut engine, files, shelf),
+        Err(cause) => ended(Status::from(cause)),
+    }
+}
+
+/// Gives the input to an engine that was given nothing, and writes both files.
+fn transmit_both<E: Transmitting, S: Shelf>(
+    alloc: Global,
+    engine: &mut E,
+    files: TransmitterFiles<'_>,
+    shelf: &mut S,
+) -> Outcome
+    requires fresh { E.stands engine.old [] }
+    requires output { files.input.now ≢ files.output.now }
+    requires log { files.input.now ≢ files.log.now }
+    requires both { files.output.now ≢ files.log.now }
+    ensures carried { IfSome (S.files shelf.old) (λ held. IsCarriedOut
+        (meaning E.shape (E.recipe engine.old) 0 (files.entry.output.now ∷ files.entry.log.now ∷ [])
+        (held_at.get held files.entry.input.now))
+        (Some held) result (S.files shelf.new)) }
+    ensures input { IsOfInput 0 result.status }
+    ensures answer { IsAnswerOf (E.recipe engine.old) result.status }
+    ensures gone { HasGone (S.counts shelf.old) (S.counts shelf.new) (blame_of result.status) }
+{
+    let input = Input {
+        name: files.input,
+        number: 0,
+    };
+    match Two::new(alloc, files.output, files.log) {
+        Ok(mut outlet) => carry_out(alloc, engine, input, &mut outlet, shelf),
+        Err(cause) => ended(Status::from(cause)),
+    }
+}

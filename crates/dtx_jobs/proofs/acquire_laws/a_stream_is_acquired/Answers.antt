@@ -1,5 +1,0 @@
-use Rattle.dtx_jobs.proofs.AcquiredStream.{stream_acquired}
-use Rattle.dtx_jobs.proofs.acquire_laws.a_stream_is_acquired.Goals as goal
-
-pub returns : goal.returns
-returns c = stream_acquired c.coder_takes_a_path.ensures c.a_small_error_moves_nothing.ensures

@@ -1,5 +1,0 @@
-use Rattle.dtx_jobs.proofs.AcquiredRun.{no_sync}
-use Rattle.dtx_jobs.proofs.acquire_laws.no_sync_where_nothing_is_acquired.Goals as goal
-
-pub returns : goal.returns
-returns c = λ scale symbols. no_sync scale symbols (c.whole_fields_are_acquired.ensures.none scale symbols)

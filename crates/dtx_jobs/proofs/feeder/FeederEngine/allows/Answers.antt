@@ -1,5 +1,0 @@
-use Rattle.std.proofs.Common.{rules}
-use Rattle.dtx_jobs.proofs.feeder.FeederEngine.allows.Goals as goal
-
-pub returns : goal.returns
-returns c = search rules

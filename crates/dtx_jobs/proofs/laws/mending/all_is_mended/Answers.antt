@@ -1,5 +1,0 @@
-use Rattle.dtx_jobs.specs.MendedBackLaws.{all_mended_of, as_long, packets_read}
-use Rattle.dtx_jobs.proofs.laws.mending.all_is_mended.Goals as goal
-
-pub returns : goal.returns
-returns c = record { written = all_mended_of; packets = packets_read; long = as_long }

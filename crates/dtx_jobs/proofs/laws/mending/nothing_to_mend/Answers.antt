@@ -1,5 +1,0 @@
-use Rattle.dtx_jobs.specs.MendLaws.{same_file, same_words}
-use Rattle.dtx_jobs.proofs.laws.mending.nothing_to_mend.Goals as goal
-
-pub returns : goal.returns
-returns c = record { file = same_file; words = same_words }

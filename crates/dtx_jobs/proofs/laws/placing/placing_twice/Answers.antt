@@ -1,5 +1,0 @@
-use Rattle.dtx_jobs.proofs.PlacedPackets.{placed_twice}
-use Rattle.dtx_jobs.proofs.laws.placing.placing_twice.Goals as goal
-
-pub returns : goal.returns
-returns c = placed_twice

@@ -1,7 +1,0 @@
-use Rattle.std.proofs.Common.{refl}
-use Rattle.dtx_jobs.specs.Place.{bare_fields, placed, placed_count}
-use Rattle.dtx_jobs.proofs.placing.Placing.new.Goals as goal
-
-pub returns : goal.returns
-unfolding placed placed_count bare_fields
-returns c = record { changed = refl; without = refl; field = λ some. absurd (some refl) }

@@ -1,5 +1,0 @@
-use Rattle.dtx_jobs.specs.SoftLaws.{all_is}
-use Rattle.dtx_jobs.proofs.soft_laws.all_is_made.Goals as goal
-
-pub returns : goal.returns
-returns c = all_is

@@ -1,5 +1,0 @@
-use Rattle.dtx_jobs.proofs.SoftMoved.{file_moved}
-use Rattle.dtx_jobs.proofs.soft_laws.cost_of_all.Goals as goal
-
-pub returns : goal.returns
-returns c = file_moved

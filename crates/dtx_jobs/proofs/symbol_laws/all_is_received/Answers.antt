@@ -1,7 +1,0 @@
-use Rattle.dtx_jobs.specs.GivenLaws.{first_given}
-use Rattle.dtx_jobs.specs.Receive.{with_corrections}
-use Rattle.dtx_jobs.specs.ReceivedLaws.{all_damaged_received, all_received}
-use Rattle.dtx_jobs.proofs.symbol_laws.all_is_received.Goals as goal
-
-pub returns : goal.returns
-returns c = record { plain = all_received; damaged = all_damaged_received; too_long = first_given with_corrections }

@@ -1,5 +1,0 @@
-use Rattle.dtx_jobs.specs.SplicedSymbolsLaws.{cut_written}
-use Rattle.dtx_jobs.proofs.symbol_laws.cut_symbols.Goals as goal
-
-pub returns : goal.returns
-returns c = cut_written

@@ -1,5 +1,0 @@
-use Rattle.dtx_jobs.specs.SymbolFileLaws.{length-segments_of, file_segments-append, file_segments-whole}
-use Rattle.dtx_jobs.proofs.symbol_laws.segments_in_pieces.Goals as goal
-
-pub returns : goal.returns
-returns c = record { pieces = file_segments-append; whole = file_segments-whole; count = length-segments_of }

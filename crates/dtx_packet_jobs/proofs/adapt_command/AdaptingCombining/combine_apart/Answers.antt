@@ -1,0 +1,24 @@
+use Rattle.std.proofs.Common.{[], ◌∷◌, arith}
+use Rattle.std.specs.FinMap.{get}
+use Rattle.dtx_engine.specs.Recipe.{meaning}
+use Rattle.dtx_plan.specs.Plan.{plan_of}
+use Rattle.dtx_words.specs.declared.rows.Command.TheVariants.{Adapt}
+use Rattle.dtx_packet_jobs.specs.Adapt.{feeding}
+use Rattle.dtx_forms.specs.Shapes.{packets}
+use Rattle.dtx_forms.specs.PerformedLaws.{read_performed, unread_performed}
+use Rattle.dtx_packet_jobs.proofs.adapt_command.AdaptingCombining.combine_apart.Goals as goal
+
+pub returns-in-Ok : goal.returns-in-Ok
+returns-in-Ok g c =
+    read_performed Adapt plan_of 0 c.args.plan.now c.in-Ok.said
+    (λ held said. meaning packets (feeding said) 1 (c.args.output.now ∷ []) (get held c.args.input.now)) 2
+    c.adapt_under.result (g.S.Shelf.files c.args.shelf.now) _ _ (g.S.Shelf.counts c.args.shelf.now) _ _
+    c.plan_in.ensures.kept c.in-Ok.ensures.told c.in-Ok.ensures.gone c.adapt_under.ensures
+
+pub returns-in-Err : goal.returns-in-Err
+returns-in-Err g c =
+    unread_performed Adapt plan_of 0 c.args.plan.now c.in-Err.status
+    (λ held said. meaning packets (feeding said) 1 (c.args.output.now ∷ []) (get held c.args.input.now)) 2
+    c.ended.result (g.S.Shelf.files c.args.shelf.now) _ (g.S.Shelf.counts c.args.shelf.now) _
+    c.plan_in.ensures.kept c.in-Err.ensures.told
+    c.in-Err.ensures.refusal (omega arith) (λ refusal. tt) c.in-Err.ensures.gone c.ended.ensures

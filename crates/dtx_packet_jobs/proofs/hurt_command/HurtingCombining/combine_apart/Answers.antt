@@ -1,0 +1,32 @@
+use Rattle.std.proofs.Common.{[], ◌∷◌, false, refl, arith}
+use Rattle.std.specs.FinMap.{get}
+use Rattle.dtx_engine.specs.Recipe.{meaning}
+use Rattle.dtx_meaning.specs.Laws.{of_inputs}
+use Rattle.dtx_plan.specs.Plan.{changes_of}
+use Rattle.dtx_words.specs.declared.rows.Command.TheVariants.{Hurt}
+use Rattle.dtx_packet_jobs.specs.AnswersLaws.{hurt_knows}
+use Rattle.dtx_packet_jobs.specs.Hurt.{hurting}
+use Rattle.dtx_forms.specs.Shapes.{single_bytes}
+use Rattle.dtx_forms.specs.PerformedLaws.{read_performed, unread_performed}
+use Rattle.dtx_packet_jobs.proofs.hurt_command.HurtingCombining.combine_apart.Goals as goal
+
+pub returns-in-Ok : goal.returns-in-Ok
+returns-in-Ok g c =
+    read_performed Hurt changes_of 1 c.args.changes.now c.in-Ok.damage
+    (λ held damage. meaning single_bytes (hurting damage) 0 (c.args.output.now ∷ []) (get held c.args.input.now)) 2
+    c.carry_to_one.result (g.S.Shelf.files c.args.shelf.now) _ _ (g.S.Shelf.counts c.args.shelf.now) _ _
+    c.changes_in.ensures.kept c.in-Ok.ensures.told c.in-Ok.ensures.gone
+    (record {
+      carried = rw (← c.new-laying.ensures.recipe) c.carry_to_one.ensures.carried;
+      words = of_inputs false 0 2 _ refl (omega arith) c.carry_to_one.ensures.input;
+      answers = hurt_knows c.in-Ok.damage _ (rw (← c.new-laying.ensures.recipe) c.carry_to_one.ensures.answer);
+      gone = c.carry_to_one.ensures.gone;
+    })
+
+pub returns-in-Err : goal.returns-in-Err
+returns-in-Err g c =
+    unread_performed Hurt changes_of 1 c.args.changes.now c.in-Err.status
+    (λ held damage. meaning single_bytes (hurting damage) 0 (c.args.output.now ∷ []) (get held c.args.input.now)) 2
+    c.ended.result (g.S.Shelf.files c.args.shelf.now) _ (g.S.Shelf.counts c.args.shelf.now) _
+    c.changes_in.ensures.kept c.in-Err.ensures.told
+    c.in-Err.ensures.refusal (omega arith) (λ refusal. tt) c.in-Err.ensures.gone c.ended.ensures

@@ -1,0 +1,23 @@
+use Rattle.std.proofs.Common.{◌≡◌, ℕ, [], ◌∷◌, length, ap, ◌∙◌, arith}
+use Rattle.dtx_meaning.specs.declared.status.Outcome.{Outcome}
+use Rattle.dtx_meaning.specs.declared.status.Status.TheVariants.{Done}
+use Rattle.dtx_packets.specs.Packets.{packets_of}
+use Rattle.dtx_packet_jobs.specs.Place.{placed_count}
+use Rattle.dtx_packet_jobs.proofs.PlacedBytes.{length-packets_of}
+use Rattle.dtx_packet_jobs.proofs.placing.PlacingChange.finish.Goals as goal
+
+-- the answer with these numbers
+done : ℕ → ℕ → ℕ → ℕ → Outcome
+done packets placed bare loose = record {
+  status = Done;
+  numbers = packets ∷ placed ∷ bare ∷ loose ∷ 0 ∷ 0 ∷ 0 ∷ [];
+  shown = 4;
+}
+
+pub returns-clause-answer : goal.returns-clause-answer
+unfolding done
+returns-clause-answer c = λ given long counted.
+    let units : c.args.units ≡ length (packets_of given) = omega (arith, length-packets_of given, long) in
+    ap (λ (n : ℕ). done n c.args.self.now.placed c.args.self.now.bare c.args.loose) units
+    ∙ ap (λ (n : ℕ). done (length (packets_of given)) n c.args.self.now.bare c.args.loose) counted.changed
+    ∙ ap (λ (n : ℕ). done (length (packets_of given)) (placed_count (packets_of given)) n c.args.loose) counted.without

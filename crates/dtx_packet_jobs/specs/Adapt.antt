@@ -1,0 +1,45 @@
+-- What `adapt PLAN IN OUT` means: the feed of a stream, under a plan (the profile's own).
+use Rattle.std.specs.Prelude.{ℕ, ◌==◌, List, [], ◌∷◌}
+use Rattle.std.specs.FinMap.{get}
+use Rattle.dtx_outside.specs.Shelf.{Files}
+use Rattle.dtx_meaning.specs.Meaning.{Meaning}
+use Rattle.dtx_meaning.specs.declared.status.Outcome.{Outcome}
+use Rattle.dtx_meaning.specs.declared.status.Status.TheVariants.{Done}
+use Rattle.dtx_adapter.specs.Feed.{placeholders}
+use Rattle.dtx_engine.specs.Made.{only}
+use Rattle.dtx_engine.specs.Recipe.{Recipe, meaning}
+use Rattle.dtx_packets.specs.Packet.{sync_of}
+use Rattle.dtx_packets.specs.Packets.{packets_of, whole_packets}
+use Rattle.dtx_plan.specs.declared.plan.Plan.{Plan}
+use Rattle.dtx_packet_jobs.specs.Feed.{feed_bytes}
+use Rattle.dtx_forms.specs.PlanFile.{under_plan}
+use Rattle.dtx_words.specs.declared.rows.Command.TheVariants.{Adapt}
+use Rattle.dtx_forms.specs.Job.{Job}
+use Rattle.dtx_forms.specs.Shapes.{packets}
+use Rattle.dtx_forms.specs.Combine.{combine_job}
+
+-- the numbers of a stream that was adapted: its packets, the placeholders filled, and the bytes behind the last packet
+abbrev pub fed_outcome : List ℕ → ℕ → Outcome
+fed_outcome stream loose = record {
+  status = Done;
+  numbers = whole_packets stream ∷ placeholders (packets_of stream) ∷ loose ∷ 0 ∷ 0 ∷ 0 ∷ 0 ∷ [];
+  shown = 3;
+}
+
+-- Packets that begin with the sync byte 0x47 (ISO/IEC 13818-1, 2.4.3.2) are made those of the feed under a plan.
+abbrev pub feeding : Plan → Recipe
+feeding plan = record {
+  allows = λ k packet. sync_of packet == 0x47;
+  made = λ stream. only (feed_bytes plan (packets_of stream));
+  rest = λ stream. only [];
+  answer = fed_outcome;
+}
+
+-- with files of these names, of which the last is neither of the others
+abbrev pub adapted : List ℕ → List ℕ → List ℕ → Files → Meaning
+adapted plan input output held =
+    under_plan 0 (get held plan) (λ said. meaning packets (feeding said) 1 (output ∷ []) (get held input))
+
+-- the command `adapt PLAN IN OUT`
+abbrev pub adapt_job : Job
+adapt_job = combine_job Adapt adapted

@@ -1,0 +1,34 @@
+-- What `make SEED COUNT OUT` means: a made stream (the profile's own).
+use Rattle.std.specs.Prelude.{ℕ, ◌-◌, ◌^◌, List, [], ◌∷◌, Option, Some, None}
+use Rattle.dtx_outside.specs.Shelf.{Files}
+use Rattle.dtx_make.specs.Made.{made_stream}
+use Rattle.dtx_meaning.specs.Meaning.{Meaning, refused}
+use Rattle.dtx_meaning.specs.declared.status.Status.TheVariants.{Done, Usage}
+use Rattle.dtx_packets.specs.Packets.{most_packets}
+use Rattle.dtx_words.specs.Number.{number_in}
+use Rattle.dtx_words.specs.declared.rows.Command.TheVariants.{Make}
+use Rattle.dtx_forms.specs.Job.{Job}
+use Rattle.dtx_forms.specs.OfWords.{make_same}
+
+-- the packets 0 to `count - 1` of a seed, in a file of that name
+abbrev pub made_file : ℕ → ℕ → List ℕ → Meaning
+made_file seed count output = record {
+  outcome = record { status = Done; numbers = count ∷ 0 ∷ 0 ∷ 0 ∷ 0 ∷ 0 ∷ 0 ∷ []; shown = 1 };
+  outputs = (output, made_stream seed count) ∷ [];
+}
+
+-- where both are numbers in their ranges
+abbrev pub made_of : Option ℕ → Option ℕ → List ℕ → Meaning
+made_of (Some seed) (Some count) output = made_file seed count output
+made_of (Some seed) None output = refused Usage
+made_of None count output = refused Usage
+
+-- with these words
+abbrev pub make_meaning : List (List ℕ) → Files → Meaning
+make_meaning (verb ∷ seed ∷ count ∷ output ∷ []) held =
+    made_of (number_in (2 ^ 64 - 1) seed) (number_in most_packets count) output
+make_meaning words held = refused Usage
+
+-- the command `make SEED COUNT OUT`
+abbrev pub make_job : Job
+make_job = record { command = Make; means = make_meaning; same = make_same; inputs = 0 }

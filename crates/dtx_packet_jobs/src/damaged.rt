@@ -1,0 +1,72 @@
+// Damage that is laid over an input as it is read.
+ghost use Rattle.std.specs.Prelude.{◌≡◌, []};
+ghost use Rattle.dtx_make.specs.Hurt.{AreInOrder};
+ghost use Rattle.dtx_packet_jobs.specs.Damaged.{damaged_making};
+
+use dtx_engine::{Engine, Shape};
+use dtx_make::lay;
+use dtx_meaning::Outcome;
+use dtx_plan::Damages;
+
+/// An engine, and the damage that is laid over the bytes before it takes them.
+#[derive(Drop)]
+pub struct Damaged<'a, E> {
+    damage: &'a Damages,
+    engine: E,
+}
+
+impl<'a, E: Engine> Damaged<'a, E> {
+    /// The engine, which was given nothing, under this damage.
+    pub fn new(damage: &'a Damages, engine: E) -> Damaged<'a, E>
+        requires in_order { AreInOrder damage.now }
+        requires fresh { E.stands engine [] }
+        ensures fresh { ⟦<Damaged<'a, E> as Engine>⟧.stands result [] }
+        ensures recipe { ⟦<Damaged<'a, E> as Engine>⟧.recipe result ≡ damaged_making damage.now (E.recipe engine) }
+    {
+        Damaged { damage, engine }
+    }
+}
+
+impl<E: Engine> Engine for Damaged<'_, E> {
+    ghost use Rattle.std.specs.Prelude.{List, ℕ};
+    ghost use Rattle.dtx_make.specs.Hurt.{AreInOrder, hurt};
+    ghost use Rattle.dtx_packet_jobs.specs.DamagedLaws.{hurt_starts, hurt_grows};
+
+    ghost shape = { E.shape };
+
+    ghost recipe = { λ s. damaged_making s.damage.now (E.recipe s.engine) };
+
+    ghost stands = { λ s given. AreInOrder s.damage.now × E.stands s.engine (hurt s.damage.now given) };
+
+    ghost gives = { λ s bytes. E.gives s.engine bytes };
+
+    fn sizes(&self) -> Shape {
+        self.engine.sizes()
+    }
+
+    fn allows(&self, _index: u64, _unit: &[u8]) -> bool {
+        true
+    }
+
+    fn feed(&mut self, first: u64, bytes: &mut [u8]) {
+        let shape = self.engine.sizes();
+        lay(self.damage, shape.unit as u64 * first, bytes);
+        self.engine.feed(first, bytes);
+    }
+
+    fn finish(&mut self, loose: usize) -> Outcome {
+        self.engine.finish(loose)
+    }
+
+    fn made<'a>(&'a self, bytes: &'a [u8]) -> &'a [u8] {
+        self.engine.made(bytes)
+    }
+
+    fn log(&self) -> &[u8] {
+        self.engine.log()
+    }
+
+    ghost starts = { λ s. hurt_starts s.damage.now (E.recipe s.engine) (E.starts s.engine) };
+
+    ghost grows = { λ s. hurt_grows s.damage.now (E.recipe s.engine) E.shape.unit (E.grows s.engine) };
+}

@@ -1,0 +1,171 @@
+// Coding a stream by the outer coding of DVB, a piece of its packets at a time.
+ghost use Rattle.std.specs.Prelude.{◌≡◌, ◌+◌, ◌*◌, ◌/◌, ◌%◌, ◌≤◌, ◌++◌, ◌∷◌, [], ℕ, List, length};
+ghost use Rattle.std.specs.List.{flat_map};
+ghost use Rattle.dtx_packets.specs.Packets.{packets_of};
+ghost use Rattle.dtx_packet_jobs.specs.DvbCoding.{IsSending};
+
+use crate::dvb_shapes::{DVB_PIECE_PACKETS, dvb_packets};
+use dtx_dvb::{BLOCK, DvbOut, FOUR, FOUR_BLOCKS, PERIOD_PACKETS};
+use dtx_engine::{Buffer, Engine, Shape};
+use dtx_forms::Transforming;
+use dtx_meaning::{Outcome, Status};
+use dtx_packets::Packet;
+use dtx_sizes::{MOST_PACKETS, PACKET, SYNC};
+use std::alloc::{AllocError, Global};
+
+/// How many bytes are sent of a piece at most.
+const SENT_BYTES: usize = BLOCK * DVB_PIECE_PACKETS;
+
+/// Sends a stream, four packets at once where they stand in one group of eight.
+#[derive(Drop)]
+pub(crate) struct DvbCoding {
+    coder: Box<DvbOut>,
+    /// What was sent of the last piece.
+    sent: Buffer<SENT_BYTES>,
+    /// How many packets were given.
+    packets: u64,
+}
+
+impl DvbCoding {
+    /// Sends the packets of a piece, the first of which has that number.
+    fn send(&mut self, first: u64, bytes: &[u8])
+        requires room { length self.old.sent + BLOCK * (length bytes.now / PACKET) ≤ SENT_BYTES }
+        requires most { first + length bytes.now / PACKET ≤ MOST_PACKETS }
+        ensures sent { (packets : List (List ℕ)) (before : List ℕ) → length packets ≡ first
+            → IsSending self.old packets before → IsSending self.new (packets ++ packets_of bytes.now) before }
+    {
+        let (packets, _) = bytes.as_chunks::<PACKET>();
+        let (fours, rest) = packets.as_chunks::<FOUR>();
+        self.send_fours(first, fours);
+        self.send_each(first + (FOUR * fours.len()) as u64, rest);
+    }
+
+    /// Sends packets in fours, the first of which has that number.
+    fn send_fours(&mut self, first: u64, fours: &[[[u8; PACKET]; FOUR]])
+        requires room { length self.old.sent + FOUR_BLOCKS * length fours.now ≤ SENT_BYTES }
+        requires most { first + FOUR * length fours.now ≤ MOST_PACKETS }
+        ensures sent { (packets : List (List ℕ)) (before : List ℕ) → length packets ≡ first
+            → IsSending self.old packets before
+            → IsSending self.new (packets ++ flat_map (λ four. four) fours.now) before }
+        ensures long { length self.new.sent ≡ length self.old.sent + FOUR_BLOCKS * length fours.now }
+    {
+        for i in 0..fours.len() {
+            self.send_four(first + (FOUR * i) as u64, &fours[i]);
+        }
+    }
+
+    /// Sends four packets, the first of which has that number: together, where they stand in one group of eight.
+    fn send_four(&mut self, first: u64, four: &[[u8; PACKET]; FOUR])
+        requires room { length self.old.sent + FOUR_BLOCKS ≤ SENT_BYTES }
+        requires most { first + FOUR ≤ MOST_PACKETS }
+        ensures sent { (packets : List (List ℕ)) (before : List ℕ) → length packets ≡ first
+            → IsSending self.old packets before → IsSending self.new (packets ++ four.now) before }
+        ensures long { length self.new.sent ≡ length self.old.sent + FOUR_BLOCKS }
+    {
+        let place = first % PERIOD_PACKETS as u64;
+        if place > (PERIOD_PACKETS - FOUR) as u64 {
+            self.send_each(first, four);
+            return;
+        }
+        let mut out = [0; FOUR_BLOCKS];
+        self.coder.four(place as u8, four, &mut out);
+        self.sent.push(&out);
+    }
+
+    /// Sends packets one by one, the first of which has that number.
+    fn send_each(&mut self, first: u64, each: &[[u8; PACKET]])
+        requires room { length self.old.sent + BLOCK * length each.now ≤ SENT_BYTES }
+        requires most { first + length each.now ≤ MOST_PACKETS }
+        ensures sent { (packets : List (List ℕ)) (before : List ℕ) → length packets ≡ first
+            → IsSending self.old packets before → IsSending self.new (packets ++ each.now) before }
+        ensures long { length self.new.sent ≡ length self.old.sent + BLOCK * length each.now }
+    {
+        for i in 0..each.len() {
+            self.send_one(first + i as u64, &each[i]);
+        }
+    }
+
+    /// Sends the packet of that number.
+    fn send_one(&mut self, number: u64, packet: &[u8; PACKET])
+        requires room { length self.old.sent + BLOCK ≤ SENT_BYTES }
+        ensures sent { (packets : List (List ℕ)) (before : List ℕ) → length packets ≡ number
+            → IsSending self.old packets before → IsSending self.new (packets ++ packet.now ∷ []) before }
+        ensures long { length self.new.sent ≡ length self.old.sent + BLOCK }
+    {
+        let place = (number % PERIOD_PACKETS as u64) as u8;
+        let mut out = [0; BLOCK];
+        self.coder.packet(place, &Packet(*packet), &mut out);
+        self.sent.push(&out);
+    }
+}
+
+impl Engine for DvbCoding {
+    ghost use Rattle.dtx_engine.specs.Made.{only};
+    ghost use Rattle.dtx_packet_jobs.specs.DvbCode.{dvb_coding};
+    ghost use Rattle.dtx_packet_jobs.specs.DvbCodeLaws.{sends_none, sends_more};
+    ghost use Rattle.dtx_packet_jobs.specs.DvbCoding.{WasSent};
+    ghost use Rattle.dtx_packet_jobs.specs.DvbShapes as shapes;
+
+    ghost shape = { shapes.dvb_packets };
+
+    ghost recipe = { λ _. dvb_coding };
+
+    ghost stands = { WasSent };
+
+    ghost gives = { λ s _. only s.sent };
+
+    fn sizes(&self) -> Shape {
+        dvb_packets()
+    }
+
+    fn allows(&self, _index: u64, unit: &[u8]) -> bool {
+        unit[0] == SYNC
+    }
+
+    fn feed(&mut self, first: u64, bytes: &mut [u8]) {
+        self.sent.clear();
+        self.send(first, bytes);
+        self.packets = first + (bytes.len() / PACKET) as u64;
+    }
+
+    fn finish(&mut self, loose: usize) -> Outcome {
+        self.sent.clear();
+        Outcome {
+            status: Status::Done,
+            numbers: [self.packets, loose as u64, 0, 0, 0, 0, 0],
+            shown: 2,
+        }
+    }
+
+    fn made<'a>(&'a self, _bytes: &'a [u8]) -> &'a [u8] {
+        self.sent.bytes()
+    }
+
+    fn log(&self) -> &[u8] {
+        &[]
+    }
+
+    ghost starts = { λ _. sends_none };
+
+    ghost grows = { λ _ a b whole. sends_more a b whole };
+}
+
+impl Transforming for DvbCoding {
+    ghost use Rattle.dtx_words.specs.declared.rows.Command.TheVariants as command;
+    ghost use Rattle.dtx_packet_jobs.specs.AnswersLaws.{dvb_code_knows};
+    ghost use Rattle.dtx_packet_jobs.specs.DvbCode.{dvb_coding};
+
+    ghost command = { command.DvbCode };
+
+    ghost makes = { dvb_coding };
+
+    fn new(alloc: Global) -> Result<DvbCoding, AllocError> {
+        Ok(DvbCoding {
+            coder: Box::new(alloc, DvbOut::new(alloc)?)?,
+            sent: Buffer::new(alloc)?,
+            packets: 0,
+        })
+    }
+
+    ghost knows = { dvb_code_knows };
+}

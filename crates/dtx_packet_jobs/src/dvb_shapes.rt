@@ -1,0 +1,39 @@
+// In which units the commands of the outer coding read their inputs.
+ghost use Rattle.std.specs.Prelude.{◌≡◌};
+ghost use Rattle.dtx_engine.specs.Recipe.{IsSound};
+ghost use Rattle.dtx_packet_jobs.specs.DvbShapes as shapes;
+
+use dtx_dvb::BLOCK;
+use dtx_engine::Shape;
+use dtx_packets::PIECE_PACKETS;
+use dtx_sizes::{MOST_PACKETS, PACKET};
+
+/// How many packets are read at once where they are sent as blocks of 204 bytes: these fill more than a piece of the
+/// output, so that they go to its file without being gathered, but for parts of a page.
+pub const DVB_PIECE_PACKETS: usize = 696;
+
+/// Packets of 188 bytes that are sent as blocks of 204 (EN 300 429), each for itself.
+pub fn dvb_packets() -> Shape
+    ensures same { result ≡ shapes.dvb_packets }
+    ensures sound { IsSound result }
+{
+    Shape {
+        unit: PACKET,
+        units: DVB_PIECE_PACKETS,
+        group: 1,
+        limit: MOST_PACKETS,
+    }
+}
+
+/// Blocks of 204 bytes (EN 300 429, 7.2), as many as there may be packets.
+pub fn blocks() -> Shape
+    ensures same { result ≡ shapes.blocks }
+    ensures sound { IsSound result }
+{
+    Shape {
+        unit: BLOCK,
+        units: PIECE_PACKETS,
+        group: 1,
+        limit: MOST_PACKETS,
+    }
+}

@@ -1,0 +1,148 @@
+// Adapting a stream a piece at a time.
+ghost use Rattle.std.specs.Prelude.{◌≡◌, ◌+◌, ◌*◌, ◌/◌, ◌%◌, ◌<◌, ◌≤◌, ◌++◌, [], ℕ, List, IfOk, length};
+ghost use Rattle.dtx_adapter.specs.Adapting.{StandsFor};
+ghost use Rattle.dtx_adapter.specs.Feed.{feed, placeholders};
+ghost use Rattle.dtx_engine.specs.Made.{only};
+ghost use Rattle.dtx_engine.specs.Recipe.{IsFed};
+ghost use Rattle.dtx_packets.specs.Packets.{packets_of, whole_packets};
+ghost use Rattle.dtx_plan.specs.Sound.{IsSound};
+ghost use Rattle.dtx_plan.specs.declared.plan.Plan.{Plan};
+ghost use Rattle.dtx_packet_jobs.specs.Adapt.{feeding};
+ghost use Rattle.dtx_packet_jobs.specs.Feed.{feed_bytes, HasFed, IsCounted};
+
+use crate::packet_bytes::{join, unjoin};
+use dtx_adapter::Adapter;
+use dtx_adapter::laws::goes_on;
+use dtx_engine::{Engine, Shape};
+use dtx_forms::packets;
+use dtx_meaning::{Outcome, Status};
+use dtx_packets::Packet;
+use dtx_plan::Plan;
+use dtx_sizes::{GROUP_PACKETS, MOST_PACKETS, PACKET, SYNC};
+use std::alloc::{AllocError, Global};
+
+/// How many bytes a group of packets has.
+const GROUP: usize = GROUP_PACKETS * PACKET;
+
+/// Makes the packets of a stream those of its feed under a plan, in their place.
+#[derive(Drop)]
+pub struct Feeder<'a> {
+    plan: &'a Plan,
+    adapter: Adapter,
+    /// How many packets were given.
+    count: u64,
+    /// How many placeholders were filled.
+    filled: u64,
+}
+
+impl<'a> Feeder<'a> {
+    /// A feeder under a plan, to which nothing was given.
+    pub fn new(alloc: Global, plan: &'a Plan) -> Result<Feeder<'a>, AllocError>
+        requires { IsSound plan.now }
+        ensures fresh { IfOk result (λ feeder. ⟦<Feeder<'a> as Engine>⟧.stands feeder []) }
+        ensures recipe { IfOk result (λ feeder. ⟦<Feeder<'a> as Engine>⟧.recipe feeder ≡ feeding plan.now) }
+    {
+        Ok(Feeder {
+            plan,
+            adapter: Adapter::new(alloc, plan)?,
+            count: 0,
+            filled: 0,
+        })
+    }
+
+    /// Makes the packets of the next group, or at the end of the stream fewer, those of the feed.
+    fn group(&mut self, bytes: &mut [u8])
+        requires whole { length bytes.old % PACKET ≡ 0 }
+        requires some { 0 < length bytes.old }
+        requires few { length bytes.old ≤ GROUP }
+        requires counted { IsCounted self.old }
+        requires open { self.old.count % GROUP_PACKETS ≡ 0 }
+        requires most { self.old.count + whole_packets bytes.old ≤ MOST_PACKETS }
+        ensures plan { self.new.plan ≡ self.old.plan }
+        ensures counted { IsCounted self.new }
+        ensures count { self.new.count ≡ self.old.count + whole_packets bytes.old }
+        ensures fed { (given : List ℕ) → length given ≡ PACKET * self.old.count → HasFed self.old given
+            → IsFed (feeding self.old.plan.now) given bytes.old (HasFed self.new) (only bytes.new) }
+    {
+        goes_on();
+        let count = bytes.len() / PACKET;
+        let mut packets = [Packet([0; PACKET]); GROUP_PACKETS];
+        let filled = adapt_group(&mut self.adapter, &mut packets[..count], bytes);
+        self.count += count as u64;
+        self.filled += filled as u64;
+    }
+}
+
+/// Gives the packets of these bytes to the adapter, and answers how many placeholders it filled.
+fn adapt_group(adapter: &mut Adapter, packets: &mut [Packet], bytes: &mut [u8]) -> u8
+    requires long { length bytes.old ≡ PACKET * length packets.old }
+    requires some { 0 < length packets.old }
+    requires few { length packets.old ≤ GROUP_PACKETS }
+    requires open { adapter.old.given % GROUP_PACKETS ≡ 0 }
+    requires most { adapter.old.given + length packets.old ≤ MOST_PACKETS }
+    ensures fed { (plan : Plan) (stream : List (List ℕ)) → StandsFor plan adapter.old stream
+        → feed_bytes plan (stream ++ packets_of bytes.old) ≡ feed_bytes plan stream ++ bytes.new }
+    ensures stands { (plan : Plan) (stream : List (List ℕ)) → StandsFor plan adapter.old stream
+        → StandsFor plan adapter.new (stream ++ packets_of bytes.old) }
+    ensures filled { result ≡ placeholders (packets_of bytes.old) }
+    ensures given { adapter.new.given ≡ adapter.old.given + length packets.old }
+{
+    goes_on();
+    unjoin(bytes, packets);
+    let filled = adapter.group(packets);
+    join(packets, bytes);
+    filled
+}
+
+impl Engine for Feeder<'_> {
+    ghost use Rattle.dtx_engine.specs.Made.{only};
+    ghost use Rattle.dtx_packet_jobs.specs.Adapt.{feeding};
+    ghost use Rattle.dtx_packet_jobs.specs.Feed.{HasFed};
+    ghost use Rattle.dtx_packet_jobs.specs.FeedLaws.{feeding_starts, feeding_grows};
+    ghost use Rattle.dtx_forms.specs.Shapes as shapes;
+
+    ghost shape = { shapes.packets };
+
+    ghost recipe = { λ s. feeding s.plan.now };
+
+    ghost stands = { HasFed };
+
+    ghost gives = { λ _ bytes. only bytes };
+
+    fn sizes(&self) -> Shape {
+        packets()
+    }
+
+    fn allows(&self, _index: u64, unit: &[u8]) -> bool {
+        unit[0] == SYNC
+    }
+
+    fn feed(&mut self, _first: u64, bytes: &mut [u8]) {
+        let mut done = 0;
+        while done < bytes.len() {
+            let end = (done + GROUP).min(bytes.len());
+            self.group(&mut bytes[done..end]);
+            done = end;
+        }
+    }
+
+    fn finish(&mut self, loose: usize) -> Outcome {
+        Outcome {
+            status: Status::Done,
+            numbers: [self.count, self.filled, loose as u64, 0, 0, 0, 0],
+            shown: 3,
+        }
+    }
+
+    fn made<'a>(&'a self, bytes: &'a [u8]) -> &'a [u8] {
+        bytes
+    }
+
+    fn log(&self) -> &[u8] {
+        &[]
+    }
+
+    ghost starts = { λ s. feeding_starts s.plan.now };
+
+    ghost grows = { λ s a b whole. feeding_grows s.plan.now a b whole };
+}

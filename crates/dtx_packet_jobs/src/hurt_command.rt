@@ -1,0 +1,52 @@
+// `hurt IN CHANGES OUT`: a file with damage laid over its bytes.
+ghost use Rattle.dtx_packet_jobs.specs.Hurt.{hurt_job};
+ghost use Rattle.dtx_forms.specs.Job.{IsJobPerformed};
+
+use crate::laying::Laying;
+use dtx_engine::{Input, carry_to_one};
+use dtx_forms::{Combining, changes_in, combine};
+use dtx_meaning::{Outcome, ended};
+use dtx_outside::{Shelf, Word};
+use std::alloc::Global;
+
+/// Writes the bytes of IN to OUT with the damage of CHANGES laid over them: each byte that an entry covers becomes that
+/// entry's `put`, in two's complement (the profile's own). Where an entry ends behind the file, OUT is written all the
+/// same. The numbers are the bytes, and those of them that some entry covers.
+pub fn hurt<S: Shelf>(alloc: Global, words: &[Word], shelf: &mut S) -> Outcome
+    ensures { IsJobPerformed hurt_job words.now result (S.files shelf.old) (S.files shelf.new)
+        (S.counts shelf.old) (S.counts shelf.new) }
+{
+    combine::<Hurting, S>(alloc, words, shelf)
+}
+
+/// `hurt` of a file and changes.
+struct Hurting;
+
+impl Combining for Hurting {
+    ghost use Rattle.dtx_words.specs.declared.rows.Command.TheVariants as command;
+    ghost use Rattle.dtx_packet_jobs.specs.Hurt.{hurt_file};
+
+    ghost command = { command.Hurt };
+
+    ghost means = { hurt_file };
+
+    fn combine_apart<S: Shelf>(
+        alloc: Global,
+        input: &str,
+        changes: &str,
+        output: &str,
+        shelf: &mut S,
+    ) -> Outcome {
+        match changes_in(alloc, shelf, 1, changes) {
+            Ok(damage) => {
+                let file = Input {
+                    name: input,
+                    number: 0,
+                };
+                let mut laying = Laying::new(&damage);
+                carry_to_one(alloc, &mut laying, file, output, shelf)
+            }
+            Err(status) => ended(status),
+        }
+    }
+}

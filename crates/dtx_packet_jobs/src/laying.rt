@@ -1,0 +1,93 @@
+// Laying damage over the bytes of a file a piece at a time.
+ghost use Rattle.std.specs.Prelude.{◌≡◌, []};
+ghost use Rattle.dtx_plan.specs.Sound.{AreDamages};
+ghost use Rattle.dtx_packet_jobs.specs.Hurt.{hurting};
+
+use crate::past_end::first_past;
+use dtx_engine::{Engine, Shape};
+use dtx_forms::single_bytes;
+use dtx_make::laws::{counted_in_pieces, laid_in_pieces};
+use dtx_make::{damaged_in, lay};
+use dtx_meaning::{Outcome, Status, ended};
+use dtx_plan::Damages;
+
+/// Lays damage over the bytes of a file, in their place.
+#[derive(Drop)]
+pub struct Laying<'a> {
+    damage: &'a Damages,
+    /// How many bytes were given.
+    count: u64,
+    /// How many of them some entry covers.
+    damaged: u64,
+}
+
+impl<'a> Laying<'a> {
+    /// One to which nothing was given.
+    pub fn new(damage: &'a Damages) -> Laying<'a>
+        requires { AreDamages damage.now }
+        ensures fresh { ⟦<Laying<'a> as Engine>⟧.stands result [] }
+        ensures recipe { ⟦<Laying<'a> as Engine>⟧.recipe result ≡ hurting damage.now }
+    {
+        counted_in_pieces();
+        Laying {
+            damage,
+            count: 0,
+            damaged: 0,
+        }
+    }
+}
+
+impl Engine for Laying<'_> {
+    ghost use Rattle.dtx_engine.specs.Made.{only};
+    ghost use Rattle.dtx_packet_jobs.specs.Hurt.{hurting, HasLaid};
+    ghost use Rattle.dtx_packet_jobs.specs.HurtLaws.{hurting_starts, hurting_grows};
+    ghost use Rattle.dtx_forms.specs.Shapes as shapes;
+
+    ghost shape = { shapes.single_bytes };
+
+    ghost recipe = { λ s. hurting s.damage.now };
+
+    ghost stands = { HasLaid };
+
+    ghost gives = { λ _ bytes. only bytes };
+
+    fn sizes(&self) -> Shape {
+        single_bytes()
+    }
+
+    fn allows(&self, _index: u64, _unit: &[u8]) -> bool {
+        true
+    }
+
+    fn feed(&mut self, first: u64, bytes: &mut [u8]) {
+        laid_in_pieces();
+        counted_in_pieces();
+        let more = bytes.len() as u64;
+        lay(self.damage, first, bytes);
+        self.damaged += damaged_in(self.damage, first, more);
+        self.count = first + more;
+    }
+
+    fn finish(&mut self, _loose: usize) -> Outcome {
+        match first_past(self.damage, self.count) {
+            Some(entry) => ended(Status::OutOfAir(entry)),
+            None => Outcome {
+                status: Status::Done,
+                numbers: [self.count, self.damaged, 0, 0, 0, 0, 0],
+                shown: 2,
+            },
+        }
+    }
+
+    fn made<'a>(&'a self, bytes: &'a [u8]) -> &'a [u8] {
+        bytes
+    }
+
+    fn log(&self) -> &[u8] {
+        &[]
+    }
+
+    ghost starts = { λ s. hurting_starts s.damage.now };
+
+    ghost grows = { λ s a b whole. hurting_grows s.damage.now a b };
+}

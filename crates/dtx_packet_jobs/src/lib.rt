@@ -1,0 +1,31 @@
+//! The jobs of packets and of plain bytes: each a job, whose meaning is a function of words and files, an engine that
+//! makes it, and one call. A stream is made, damaged, gets places for operations packets, is adapted, and is sent and
+//! read back by the outer coding of DVB.
+#![tactic(auto)]
+
+mod adapt_command;
+mod damaged;
+mod dvb_code_command;
+mod dvb_coding;
+mod dvb_read_command;
+mod dvb_reading;
+mod dvb_shapes;
+mod feeder;
+mod hurt_command;
+pub mod laws;
+mod laying;
+mod make_command;
+mod packet_bytes;
+mod past_end;
+mod place_command;
+mod placing;
+
+pub use adapt_command::adapt;
+pub use damaged::Damaged;
+pub use dvb_code_command::dvb_code;
+pub use dvb_read_command::dvb_read;
+pub use feeder::Feeder;
+pub use hurt_command::hurt;
+pub use make_command::{make, make_stream};
+pub use past_end::first_past;
+pub use place_command::place;

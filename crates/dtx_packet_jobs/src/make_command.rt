@@ -1,0 +1,140 @@
+// `make SEED COUNT OUT`: a made stream.
+ghost use Rattle.std.specs.Prelude.{◌≡◌, false, [], Some, Option};
+ghost use Rattle.dtx_make.specs.Made.{made_stream};
+ghost use Rattle.dtx_meaning.specs.Meaning.{IsCarriedOut};
+ghost use Rattle.dtx_meaning.specs.Status.{IsOfInputs, blame_of};
+ghost use Rattle.dtx_outside.specs.Counts.{HasGone, blame_of_write};
+ghost use Rattle.dtx_outside.specs.Shelf.{Files};
+ghost use Rattle.dtx_outside.specs.Written.{IsWritten, IsFlushOf};
+ghost use Rattle.dtx_words.specs.declared.rows.Command.TheVariants as command;
+ghost use Rattle.dtx_forms.specs.Answers.{Knows};
+ghost use Rattle.dtx_forms.specs.Job.{IsPerformed, IsJobPerformed};
+ghost use Rattle.dtx_packet_jobs.specs.Make.{made_file, made_of, make_job};
+ghost use Rattle.dtx_forms.specs.OfWords.{numbers_same};
+
+use dtx_make::packet;
+use dtx_meaning::{Outcome, Status, ended};
+use dtx_outside::{Output, PIECE, Shelf, Word, WriteNo};
+use dtx_sizes::MOST_PACKETS;
+use dtx_words::number_up_to;
+use std::alloc::Global;
+
+/// Writes the packets 0 to COUNT - 1 that `dtx_make::packet` gives for SEED to OUT. SEED is 0 to 2^64 - 1 and COUNT 0
+/// to 624,000,000, in decimal digits without sign and without a leading zero unless it is `0`. The number is COUNT.
+pub fn make<S: Shelf>(alloc: Global, words: &[Word], shelf: &mut S) -> Outcome
+    ensures { IsJobPerformed make_job words.now result (S.files shelf.old) (S.files shelf.new)
+        (S.counts shelf.old) (S.counts shelf.new) }
+{
+    match words {
+        [_, seed, count, output] => {
+            let seed = number_up_to(u64::MAX, seed.as_str());
+            let count = number_up_to(MOST_PACKETS, count.as_str());
+            make_ordered(alloc, seed, count, output.as_str(), shelf)
+        }
+        _ => ended(Status::Usage),
+    }
+}
+
+/// Makes that many packets of that seed, where both are numbers in their ranges.
+fn make_ordered<S: Shelf>(
+    alloc: Global,
+    seed: Option<u64>,
+    count: Option<u64>,
+    output: &str,
+    shelf: &mut S,
+) -> Outcome
+    ensures { IsPerformed command.Make (λ held. made_of seed count output.now) (numbers_same seed count false) 0 result
+        (S.files shelf.old) (S.files shelf.new) (S.counts shelf.old) (S.counts shelf.new) }
+{
+    match (seed, count) {
+        (Some(seed), Some(count)) => make_stream(alloc, seed, count, output, shelf),
+        _ => ended(Status::Usage),
+    }
+}
+
+/// Writes that many packets of that seed to the output: those that `make` writes. The number is how many they are. The
+/// memory for them is taken before the file is begun.
+pub fn make_stream<S: Shelf>(
+    alloc: Global,
+    seed: u64,
+    count: u64,
+    output: &str,
+    shelf: &mut S,
+) -> Outcome
+    ensures carried { IsCarriedOut (made_file seed count output.now) (S.files shelf.old) result (S.files shelf.new) }
+    ensures words { IsOfInputs false 0 result.status }
+    ensures answers { Knows command.Make result.status }
+    ensures gone { HasGone (S.counts shelf.old) (S.counts shelf.new) (blame_of result.status) }
+{
+    match Output::new(alloc) {
+        Ok(mut made) => make_file(seed, count, output, &mut made, shelf),
+        Err(_) => ended(Status::Memory),
+    }
+}
+
+/// Begins the file, and makes the packets in it.
+#[tactic(auto, using(crate::specs::AnswersLaws::write_known, dtx_forms::specs::OfWordsLaws::write_of_inputs))]
+fn make_file<S: Shelf>(
+    seed: u64,
+    count: u64,
+    output: &str,
+    made: &mut Output<PIECE>,
+    shelf: &mut S,
+) -> Outcome
+    requires { made.old ≡ [] }
+    ensures carried { IsCarriedOut (made_file seed count output.now) (S.files shelf.old) result (S.files shelf.new) }
+    ensures words { IsOfInputs false 0 result.status }
+    ensures answers { Knows command.Make result.status }
+    ensures gone { HasGone (S.counts shelf.old) (S.counts shelf.new) (blame_of result.status) }
+{
+    match shelf.begin(output) {
+        Ok(()) => fill_file(seed, count, output, made, shelf),
+        Err(no) => ended(Status::from(no)),
+    }
+}
+
+/// Makes the packets in a file that was begun, and answers.
+#[tactic(auto, using(crate::specs::AnswersLaws::write_known, dtx_forms::specs::OfWordsLaws::write_of_inputs))]
+fn fill_file<S: Shelf>(
+    seed: u64,
+    count: u64,
+    output: &str,
+    made: &mut Output<PIECE>,
+    shelf: &mut S,
+) -> Outcome
+    requires { made.old ≡ [] }
+    ensures carried { (start : Option Files) → IsWritten start output.now [] (S.files shelf.old)
+        → IsCarriedOut (made_file seed count output.now) start result (S.files shelf.new) }
+    ensures words { IsOfInputs false 0 result.status }
+    ensures answers { Knows command.Make result.status }
+    ensures gone { HasGone (S.counts shelf.old) (S.counts shelf.new) (blame_of result.status) }
+{
+    match write_made(seed, count, output, made, shelf) {
+        Ok(()) => Outcome {
+            status: Status::Done,
+            numbers: [count, 0, 0, 0, 0, 0, 0],
+            shown: 1,
+        },
+        Err(no) => ended(Status::from(no)),
+    }
+}
+
+/// Writes them to a file that was begun.
+fn write_made<S: Shelf>(
+    seed: u64,
+    count: u64,
+    output: &str,
+    made: &mut Output<PIECE>,
+    shelf: &mut S,
+) -> Result<(), WriteNo>
+    requires { made.old ≡ [] }
+    ensures written { (start : Option Files) → IsWritten start output.now [] (S.files shelf.old)
+        → IsFlushOf start output.now (made_stream seed count) result (S.files shelf.new) }
+    ensures gone { HasGone (S.counts shelf.old) (S.counts shelf.new) (blame_of_write result) }
+{
+    for index in 0..count {
+        let next = packet(seed, index);
+        made.write(shelf, output, &next.0)?;
+    }
+    made.flush(shelf, output)
+}

@@ -1,0 +1,13 @@
+pub mod AcquiredFile
+pub mod AcquiredRun
+pub mod AcquiredStream
+pub mod RepeatedFiles
+pub mod SoftBack
+pub mod SoftCoded
+pub mod SoftFields
+pub mod SoftFiles
+pub mod SoftMoved
+pub mod SoftPlaces
+pub mod SoftRuns
+pub mod SoftStays
+pub mod SoftStream

@@ -1,0 +1,5 @@
+use Rattle.dtx_jobs.specs.SplicedSymbolsLaws.{spliced_written}
+use Rattle.dtx_symbol_laws.proofs.symbol_laws.spliced_symbols.Goals as goal
+
+pub returns : goal.returns
+returns c = spliced_written

@@ -1,0 +1,4 @@
+pub mod AcquiredFile
+pub mod MendedBackLaws
+pub mod RepeatedFiles
+pub mod SoftFields

@@ -1,0 +1,36 @@
+//! Laws of symbol files that are sent again by a repeater (the profile's own, over ATSC A/53 Part 2 and in the manner
+//! of ATSC A/110).
+
+ghost use Rattle.std.specs.Prelude.{◌≡◌, ◌<◌, ◌≤◌, ℕ, ℤ, List, take};
+ghost use Rattle.dtx_engine.specs.Made.{AreFrontsOf};
+ghost use Rattle.dtx_engine.specs.Recipe.{meaning_of_file};
+ghost use Rattle.dtx_receiver.specs.Intervals.{NoneLooks};
+ghost use Rattle.dtx_jobs.specs.Giving.{no_sync_in};
+ghost use Rattle.dtx_jobs.specs.Repeat.{repeating};
+ghost use Rattle.dtx_symbol_laws.specs.RepeatedFiles.{outputs_so_far, repeated_of, repeated_outputs, repeated_until};
+ghost use Rattle.dtx_forms.specs.Shapes as shapes;
+ghost use Rattle.dtx_jobs.specs.SymbolFile.{file_segments, whole_segments};
+
+use dtx_sizes::MOST_SEGMENTS;
+
+/// What `repeat` answers and writes of any file, for any address and delay. Where the file has no more segments than
+/// may be and one of them looks like a field sync, all is done: OUT has the symbols of the segments that are repeated
+/// of them and LOG the lines of their log, all and no other, and the numbers are those of the segments, of their runs
+/// and of the lives of the exciter. Where none does, that is the answer, and both outputs are empty. Where the file has
+/// more segments than may be, it is too long, and what the first ones give while they come is written, as many as may
+/// be: of each output a front part of what all give.
+pub fn all_is_repeated()
+    ensures done { (address delay : ℕ) (names : List (List ℕ)) (file : List ℕ) → whole_segments file ≤ MOST_SEGMENTS
+        → (NoneLooks (file_segments file) 0 (whole_segments file) → ⊥)
+        → meaning_of_file shapes.segments (repeating address delay) names file
+        ≡ repeated_of address delay names file }
+    ensures no_sync { (address delay : ℕ) (names : List (List ℕ)) (file : List ℕ)
+        → whole_segments file ≤ MOST_SEGMENTS → NoneLooks (file_segments file) 0 (whole_segments file)
+        → meaning_of_file shapes.segments (repeating address delay) names file ≡ no_sync_in names }
+    ensures too_long { (address delay : ℕ) (names : List (List ℕ)) (file : List ℕ)
+        → MOST_SEGMENTS < whole_segments file
+        → meaning_of_file shapes.segments (repeating address delay) names file
+        ≡ repeated_until address delay names file }
+    ensures front { (address delay : ℕ) (segments : List (List ℤ)) (n : ℕ)
+        → AreFrontsOf (outputs_so_far address delay (take n segments)) (repeated_outputs address delay segments) }
+{}

@@ -1,0 +1,108 @@
+//! Laws of what `soft` makes.
+
+ghost use Rattle.std.specs.Prelude.{◌≡◌, ◌+◌, ◌%◌, ◌<◌, ◌≤◌, ◌⊎◌, ◌++◌, ℕ, ℤ, All, None, List, [], length, map};
+ghost use Rattle.std.specs.Prelude.{◌-◌, IfSome, slice_index_or, take};
+ghost use Rattle.std.specs.List.{sum_by};
+ghost use Rattle.dtx_coder.specs.Stream.{a53};
+ghost use Rattle.dtx_files.specs.Symbols.{segment_bytes};
+ghost use Rattle.dtx_packets.specs.Packets.{packets_of, whole_packets};
+ghost use Rattle.dtx_receiver.specs.Intervals.{AreRuns, NoneLooks};
+ghost use Rattle.dtx_receiver.specs.Runs.{runs, tracking};
+ghost use Rattle.dtx_soft.specs.Coders.{segments_distance};
+ghost use Rattle.dtx_soft.specs.Softened.{softened, softened_cost};
+ghost use Rattle.dtx_engine.specs.Recipe.{meaning_of_file};
+ghost use Rattle.dtx_forms.specs.Shapes as shapes;
+ghost use Rattle.dtx_jobs.specs.Soft.{counted, in_groups, place_at, soft_rest, soft_so_far, soft_symbols, softening};
+ghost use Rattle.dtx_symbol_laws.specs.SoftFields.{copied_of, fields_of, kept_of, place_behind};
+ghost use Rattle.dtx_symbol_laws.specs.SoftFields.{softened_of, softened_until};
+ghost use Rattle.dtx_jobs.specs.SymbolFile.{file_segments, whole_segments};
+ghost use Rattle.dtx_jobs.specs.Symbols.{symbol_bytes};
+
+use dtx_sizes::{MOST_PACKETS, MOST_SEGMENTS};
+use dtx_soft::laws::{coder_takes_a_path, keeps_own_field};
+
+/// All whole segments of a file are softened, where they are no more than may be. Where there are more, that is the
+/// answer, and what the first ones give is written, as many as may be, but for the field that is on behind them: a
+/// front part of what all give.
+pub fn all_is_softened()
+    ensures whole { (names : List (List ℕ)) (file : List ℕ) → whole_segments file ≤ MOST_SEGMENTS
+        → meaning_of_file shapes.segments softening names file ≡ softened_of names file }
+    ensures too_long { (names : List (List ℕ)) (file : List ℕ) → MOST_SEGMENTS < whole_segments file
+        → meaning_of_file shapes.segments softening names file ≡ softened_until names file }
+    ensures front { (segments : List (List ℤ)) (n : ℕ)
+        → (rest : List (List ℤ)) × (soft_symbols segments ≡ soft_so_far (take n segments) ++ rest) }
+{}
+
+/// The segments of what is written of a file of bytes are those that are made: so what is said of them, as that their
+/// runs are those of the file, is said of the file that is written.
+pub fn written_segments()
+    ensures { (file : List ℕ) → All (λ b. b < 256) file
+        → file_segments (segment_bytes (soft_symbols (file_segments file))) ≡ soft_symbols (file_segments file) }
+{}
+
+/// Where no segment looks like a field sync, the whole segments of a file of bytes are copied, and there is no field.
+pub fn copied_without_a_sync()
+    ensures { (names : List (List ℕ)) (file : List ℕ) → All (λ b. b < 256) file
+        → whole_segments file ≤ MOST_SEGMENTS → NoneLooks (file_segments file) 0 (whole_segments file)
+        → meaning_of_file shapes.segments softening names file ≡ copied_of names file }
+{}
+
+/// What is made of segments so far, with what their end adds, is all.
+pub fn all_is_made()
+    ensures { (segments : List (List ℤ)) → soft_so_far segments ++ soft_rest segments ≡ soft_symbols segments }
+{}
+
+/// The runs of what is made are those of the segments: as many, each as long, and each segment of the output is told to
+/// be what it was in the input, so that runs begin, go on and end at the same segments. Their intervals are the same.
+pub fn runs_stay()
+    ensures intervals { (segments : List (List ℤ)) (places : List (ℕ × ℕ)) → AreRuns segments 0 places
+        → AreRuns (soft_symbols segments) 0 places }
+    ensures lengths { (segments : List (List ℤ)) → map length (runs (soft_symbols segments))
+        ≡ map length (runs segments) }
+    ensures tracking { (segments : List (List ℤ)) (i : ℕ) → i < length segments
+        → tracking (take i (soft_symbols segments)) (slice_index_or (soft_symbols segments) i [])
+        ≡ tracking (take i segments) (slice_index_or segments i []) }
+{}
+
+/// Of a run's segments those are data that stand 1 to 312 segments behind the run's last field sync, the first at place
+/// 0 of its field. In no run no segment is data.
+pub fn places_of_data()
+    ensures runs { (segments : List (List ℤ)) (places : List (ℕ × ℕ)) → AreRuns segments 0 places
+        → All (λ p. (j : ℕ) → j < p.1 → place_at segments (p.0 + j) ≡ place_behind (j % 313)) places }
+    ensures elsewhere { (segments : List (List ℤ)) (places : List (ℕ × ℕ)) (i : ℕ) → AreRuns segments 0 places
+        → i < length segments → All (λ p. (i < p.0) ⊎ (p.0 + p.1 ≤ i)) places → place_at segments i ≡ None }
+{}
+
+/// What is counted of the fields is counted of those of the runs: of each field with a data segment the data segments
+/// in whole groups. In what is made these are softened, and all other segments stay: those that are no data, and data
+/// behind the whole groups of their field.
+pub fn fields_are_softened()
+    ensures count { (count : List (List ℤ) → ℕ) (segments : List (List ℤ))
+        → counted count segments (length segments) ≡ sum_by count (fields_of segments) }
+    ensures fields { (segments : List (List ℤ))
+        → fields_of (soft_symbols segments) ≡ map (softened 1) (fields_of segments) }
+    ensures others { (segments : List (List ℤ)) (i : ℕ) → i < length segments
+        → IfSome (place_at segments i) (λ place. length (in_groups segments (i - place)) ≤ place)
+        → slice_index_or (soft_symbols segments) i [] ≡ slice_index_or segments i [] }
+{}
+
+/// What all least paths of a file cost is how far its symbols are moved: the sum of the squares, over all symbols of
+/// its whole segments.
+pub fn cost_of_all()
+    ensures { (file : List ℕ) → counted (softened_cost 1) (file_segments file) (whole_segments file)
+        ≡ segments_distance (file_segments file) (soft_symbols (file_segments file)) }
+{}
+
+/// The segments of a stream stay as they are, and all their least paths cost nothing. So the file that `code` writes of
+/// a stream is what `soft` writes of it, at cost 0, with as many segments as `code` says, a field for each 78 groups of
+/// four packets that are begun, and nothing loose.
+pub fn a_stream_stays()
+    ensures symbols { (packets : List (List ℕ)) → soft_symbols (a53 packets) ≡ a53 packets }
+    ensures cost { (packets : List (List ℕ))
+        → counted (softened_cost 1) (a53 packets) (length (a53 packets)) ≡ 0 }
+    ensures file { (names : List (List ℕ)) (stream : List ℕ) → whole_packets stream ≤ MOST_PACKETS
+        → meaning_of_file shapes.segments softening names (symbol_bytes (packets_of stream)) ≡ kept_of names stream }
+{
+    coder_takes_a_path();
+    keeps_own_field();
+}
