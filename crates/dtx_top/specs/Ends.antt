@@ -1,39 +1,29 @@
 -- How a call ends, whose line was printed or not: which counts have risen, and that nothing is refused without cause.
 use Rattle.std.specs.Prelude.{◌≡◌, ◌⊎◌, ℕ, zero, suc, ◌≤◌, false, is_some, List, [], ◌∷◌, Option, Some, None}
-use Rattle.dtx_outside.specs.Counts.{Counts, Rose}
+use Rattle.std.specs.Prelude.{IfSome}
+use Rattle.dtx_outside.specs.Counts.{Counts, HasGone, Rose}
 use Rattle.dtx_outside.specs.Shelf.{Files}
-use Rattle.dtx_meaning.specs.Status.{IsOfInputs}
+use Rattle.dtx_meaning.specs.Meaning.{IsCarriedOut}
+use Rattle.dtx_meaning.specs.Status.{IsOfInputs, blame_of}
+use Rattle.dtx_meaning.specs.declared.status.Outcome.{Outcome}
 use Rattle.dtx_meaning.specs.declared.status.Status.{Status}
 use Rattle.dtx_meaning.specs.declared.status.Status.TheVariants.{Done, Usage, Absent, ReadFault, WriteFault, Memory}
-use Rattle.dtx_jobs.specs.Acquire.{acquire_job}
-use Rattle.dtx_packet_jobs.specs.Adapt.{adapt_job}
 use Rattle.dtx_forms.specs.Answers.{Knows}
-use Rattle.dtx_jobs.specs.Code.{code_job}
-use Rattle.dtx_packet_jobs.specs.DvbCode.{dvb_code_job}
-use Rattle.dtx_packet_jobs.specs.DvbRead.{dvb_read_job}
-use Rattle.dtx_jobs.specs.Excite.{excite_job}
-use Rattle.dtx_packet_jobs.specs.Hurt.{hurt_job}
 use Rattle.dtx_forms.specs.Job.{Job}
-use Rattle.dtx_packet_jobs.specs.Make.{make_job}
-use Rattle.dtx_jobs.specs.Mend.{mend_job}
 use Rattle.dtx_forms.specs.OfWords.{IsOfWords}
-use Rattle.dtx_packet_jobs.specs.Place.{place_job}
-use Rattle.dtx_jobs.specs.Receive.{receive_job}
-use Rattle.dtx_jobs.specs.Repeat.{repeat_job}
-use Rattle.dtx_jobs.specs.Soft.{soft_job}
-use Rattle.dtx_jobs.specs.Watch.{watch_job}
-use Rattle.dtx_words.specs.Names.{names_of, repeated}
+use Rattle.dtx_words.specs.Names.{line_name, names_of, repeated}
 use Rattle.dtx_words.specs.Rows.{row_of}
 use Rattle.dtx_words.specs.declared.rows.Command.{Command}
-use Rattle.dtx_words.specs.declared.rows.Command.TheVariants.{Adapt, Code, Excite, Receive, Net, Make, Hurt, Place}
-use Rattle.dtx_words.specs.declared.rows.Command.TheVariants.{Trial, Soft, Mend, DvbCode, DvbRead, Repeat}
-use Rattle.dtx_words.specs.declared.rows.Command.TheVariants.{Acquire, Watch}
+use Rattle.dtx_words.specs.declared.rows.Command.TheVariants.{Net, Trial}
 use Rattle.dtx_words.specs.declared.rows.Field.{Field}
 use Rattle.dtx_words.specs.declared.rows.Field.TheVariants.{Input}
 use Rattle.dtx_top.specs.HeadlineOfFiles.{HasHeadline}
-use Rattle.dtx_top.specs.NetAnswers.{IsOfNetWords, IsOfNetwork}
+use Rattle.dtx_top.specs.Jobs.{job_of}
+use Rattle.dtx_top.specs.Lines.{IsSomeName, name_kept, names_told}
+use Rattle.dtx_top.specs.Means.{means_of}
+use Rattle.dtx_top.specs.NetAnswers.{IsOfNetWords, IsOfNetwork, ShowsNetwork}
 use Rattle.dtx_top.specs.NetProgress.{HasProgress}
-use Rattle.dtx_top.specs.Trial.{HasTrialHeadline, HasTrialProgress, trial_same}
+use Rattle.dtx_top.specs.Trial.{HasTrialHeadline, HasTrialProgress}
 
 -- The cause of an answer, of the counts of the shelf and of that of the sink. On `Done` all stand, so no fault was met.
 -- `WriteFault` is also answered where the line of `Done` could not be printed; want of memory may be met behind a
@@ -98,26 +88,31 @@ IsByWords (Some command) words status =
     IsOfInputs (is_some (repeated (names_of (Some command) words))) (inputs_among (row_of command).fields) status
     × Knows command status
 
--- what the words alone say of the answer of a job
-abbrev pub IsOfJob : Job → List (List ℕ) → Status → Type 0
-IsOfJob job words status = IsOfWords (job.same words) job.inputs status × Knows job.command status
+-- what the words alone say of the answer of a job, and of `net`, which is none
+abbrev pub IsOfJob : Option Job → List (List ℕ) → Status → Type 0
+IsOfJob (Some job) words status = IsOfWords (job.same words) job.inputs status × Knows job.command status
+IsOfJob None words status = IsOfNetWords words status
 
 -- the same of a command, before its line is printed
 abbrev pub IsOfCommand : Option Command → List (List ℕ) → Status → Type 0
 IsOfCommand None words status = status ≡ Usage
-IsOfCommand (Some Adapt) words status = IsOfJob adapt_job words status
-IsOfCommand (Some Code) words status = IsOfJob code_job words status
-IsOfCommand (Some Excite) words status = IsOfJob excite_job words status
-IsOfCommand (Some Receive) words status = IsOfJob receive_job words status
-IsOfCommand (Some Net) words status = IsOfNetWords words status
-IsOfCommand (Some Make) words status = IsOfJob make_job words status
-IsOfCommand (Some Hurt) words status = IsOfJob hurt_job words status
-IsOfCommand (Some Place) words status = IsOfJob place_job words status
-IsOfCommand (Some Trial) words status = IsOfWords (trial_same words) 3 status × Knows Trial status
-IsOfCommand (Some Soft) words status = IsOfJob soft_job words status
-IsOfCommand (Some Mend) words status = IsOfJob mend_job words status
-IsOfCommand (Some DvbCode) words status = IsOfJob dvb_code_job words status
-IsOfCommand (Some DvbRead) words status = IsOfJob dvb_read_job words status
-IsOfCommand (Some Repeat) words status = IsOfJob repeat_job words status
-IsOfCommand (Some Acquire) words status = IsOfJob acquire_job words status
-IsOfCommand (Some Watch) words status = IsOfJob watch_job words status
+IsOfCommand (Some command) words status = IsOfJob (job_of command) words status
+
+-- ---- a command, but for its line
+
+-- A command was done, but for its line, in which this name stands where the words don't say which. Where the files are
+-- told, what the words mean was carried out, a network came so far, and the headline holds where it is done; whether
+-- they are told or not, the answer is one that the words allow, and the counts have gone with it.
+pub record IsCommandDone (command : Option Command) (words : List (List ℕ)) (outcome : Outcome) (kept : List ℕ)
+    (told now : Option Files) (before after : Counts) : Type 0 where
+  pub carried : IfSome told (λ held. IsCarriedOut (means_of command words held) (Some held) outcome now)
+  pub gone : HasGone before after (blame_of outcome.status)
+  pub answer : IsOfCommand command words outcome.status
+  pub usage : command ≡ None → (outcome.status ≡ Usage) × (now ≡ told)
+  pub name : command ≡ Some Net → IfSome told (λ held. name_kept command words outcome.status kept
+      ≡ line_name outcome.status (names_told command words held))
+  pub untold_name : command ≡ Some Net → IsSomeName command words outcome.status
+      (name_kept command words outcome.status kept)
+  pub shown : command ≡ Some Net → ShowsNetwork outcome.status outcome
+  pub progress : IfSome told (λ held. HasProgressOf command words held outcome.status now)
+  pub headline : IfSome told (λ held. outcome.status ≡ Done → HasHeadlineOf command words held now)

@@ -1,6 +1,7 @@
 pub mod Ends
 pub mod GivenNames
 pub mod HeadlineOfFiles
+pub mod Jobs
 pub mod Lines
 pub mod Means
 pub mod NetAnswers

@@ -3,6 +3,7 @@ use Rattle.std.specs.Prelude.{◌≡◌, ◌⊎◌, ℕ, ◌-◌, ◌^◌, ◌�
 use Rattle.std.specs.Prelude.{List, [], ◌∷◌}
 use Rattle.std.specs.FinMap.{get}
 use Rattle.dtx_packet_jobs.specs.Make.{made_file}
+use Rattle.dtx_forms.specs.Job.{Job}
 use Rattle.dtx_forms.specs.OfWords.{numbers_same}
 use Rattle.dtx_make.specs.Made.{made_stream}
 use Rattle.dtx_meaning.specs.Meaning.{ArePartWritten, Meaning, and_then, refused}
@@ -19,6 +20,7 @@ use Rattle.dtx_plan.specs.declared.plan.Plan as whole
 use Rattle.dtx_plan.specs.declared.transmitter.Transmitter.{Transmitter}
 use Rattle.dtx_words.specs.NetworkNames.{feed_name, symbol_name, trial_name}
 use Rattle.dtx_words.specs.Number.{number_in, number_within}
+use Rattle.dtx_words.specs.declared.rows.Command.TheVariants.{Trial}
 use Rattle.dtx_top.specs.HeadlineOfFiles.{HeadlineOfFiles}
 use Rattle.dtx_top.specs.NetMeaning.{answered, network_meaning}
 use Rattle.dtx_top.specs.NetProgress.{HasNetProgress}
@@ -108,6 +110,10 @@ abbrev pub trial_same : List (List ℕ) → Option Bool
 trial_same (verb ∷ seed ∷ count ∷ []) =
     numbers_same (number_in (2 ^ 64 - 1) seed) (number_within 624 1000000 count) false
 trial_same words = None
+
+-- the command `trial SEED COUNT`, but for its headline and how far it came
+abbrev pub trial_job : Job
+trial_job = record { command = Trial; means = trial_meaning; same = trial_same; inputs = 3 }
 
 -- ---- how far it came
 

@@ -1,13 +1,6 @@
 // The command that the words fit, but for its line.
-ghost use Rattle.std.specs.Prelude.{◌≡◌, None, Some, IfSome, length};
-ghost use Rattle.dtx_outside.specs.Counts.{HasGone};
-ghost use Rattle.dtx_meaning.specs.Meaning.{IsCarriedOut};
-ghost use Rattle.dtx_meaning.specs.Status.{blame_of};
-ghost use Rattle.dtx_words.specs.Names.{line_name};
-ghost use Rattle.dtx_top.specs.Ends.{HasHeadlineOf, HasProgressOf, IsOfCommand};
-ghost use Rattle.dtx_top.specs.Lines.{name_kept, names_told, IsSomeName};
-ghost use Rattle.dtx_top.specs.Means.{means_of};
-ghost use Rattle.dtx_top.specs.NetAnswers.{ShowsNetwork};
+ghost use Rattle.std.specs.Prelude.{◌≡◌, length};
+ghost use Rattle.dtx_top.specs.Ends.{IsCommandDone};
 
 use crate::net_command::{NetOutcome, net};
 use crate::trial_command::trial;
@@ -28,22 +21,9 @@ pub(crate) fn perform<S: Shelf>(
     words: &[Word],
     shelf: &mut S,
 ) -> NetOutcome
-    ensures carried { IfSome (S.files shelf.old) (λ held. IsCarriedOut (means_of command words.now held)
-        (Some held) result.outcome (S.files shelf.new)) }
-    ensures gone { HasGone (S.counts shelf.old) (S.counts shelf.new) (blame_of result.outcome.status) }
-    ensures name { command ≡ Some Command.Net → IfSome (S.files shelf.old) (λ held.
-        name_kept command words.now result.outcome.status result.name.bytes
-        ≡ line_name result.outcome.status (names_told command words.now held)) }
-    ensures untold_name { command ≡ Some Command.Net → IsSomeName command words.now result.outcome.status
-        (name_kept command words.now result.outcome.status result.name.bytes) }
-    ensures shown { command ≡ Some Command.Net → ShowsNetwork result.outcome.status result.outcome }
+    ensures done { IsCommandDone command words.now result.outcome result.name.bytes (S.files shelf.old)
+        (S.files shelf.new) (S.counts shelf.old) (S.counts shelf.new) }
     ensures seven { length result.outcome.numbers ≡ 7 }
-    ensures words { IsOfCommand command words.now result.outcome.status }
-    ensures usage { command ≡ None → (result.outcome.status ≡ Status.Usage) × (S.files shelf.new ≡ S.files shelf.old) }
-    ensures progress { IfSome (S.files shelf.old) (λ held.
-        HasProgressOf command words.now held result.outcome.status (S.files shelf.new)) }
-    ensures headline { IfSome (S.files shelf.old) (λ held. result.outcome.status ≡ Status.Done
-        → HasHeadlineOf command words.now held (S.files shelf.new)) }
 {
     match command {
         Some(Command::Adapt) => nameless(adapt(alloc, words, shelf)),

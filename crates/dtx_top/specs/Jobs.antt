@@ -1,0 +1,41 @@
+-- The job of each command.
+use Rattle.std.specs.Prelude.{Option, Some, None}
+use Rattle.dtx_jobs.specs.Acquire.{acquire_job}
+use Rattle.dtx_packet_jobs.specs.Adapt.{adapt_job}
+use Rattle.dtx_jobs.specs.Code.{code_job}
+use Rattle.dtx_packet_jobs.specs.DvbCode.{dvb_code_job}
+use Rattle.dtx_packet_jobs.specs.DvbRead.{dvb_read_job}
+use Rattle.dtx_jobs.specs.Excite.{excite_job}
+use Rattle.dtx_packet_jobs.specs.Hurt.{hurt_job}
+use Rattle.dtx_packet_jobs.specs.Make.{make_job}
+use Rattle.dtx_jobs.specs.Mend.{mend_job}
+use Rattle.dtx_packet_jobs.specs.Place.{place_job}
+use Rattle.dtx_jobs.specs.Receive.{receive_job}
+use Rattle.dtx_jobs.specs.Repeat.{repeat_job}
+use Rattle.dtx_jobs.specs.Soft.{soft_job}
+use Rattle.dtx_jobs.specs.Watch.{watch_job}
+use Rattle.dtx_forms.specs.Job.{Job}
+use Rattle.dtx_words.specs.declared.rows.Command.{Command}
+use Rattle.dtx_words.specs.declared.rows.Command.TheVariants.{Adapt, Code, Excite, Receive, Net, Make, Hurt, Place}
+use Rattle.dtx_words.specs.declared.rows.Command.TheVariants.{Trial, Soft, Mend, DvbCode, DvbRead, Repeat}
+use Rattle.dtx_words.specs.declared.rows.Command.TheVariants.{Acquire, Watch}
+use Rattle.dtx_top.specs.Trial.{trial_job}
+
+-- `net` has none: which files it reads and writes its plan says, and not its words.
+abbrev pub job_of : Command → Option Job
+job_of Adapt = Some adapt_job
+job_of Code = Some code_job
+job_of Excite = Some excite_job
+job_of Receive = Some receive_job
+job_of Net = None
+job_of Make = Some make_job
+job_of Hurt = Some hurt_job
+job_of Place = Some place_job
+job_of Trial = Some trial_job
+job_of Soft = Some soft_job
+job_of Mend = Some mend_job
+job_of DvbCode = Some dvb_code_job
+job_of DvbRead = Some dvb_read_job
+job_of Repeat = Some repeat_job
+job_of Acquire = Some acquire_job
+job_of Watch = Some watch_job
