@@ -25,6 +25,21 @@ impl Desk {
         }
     }
 
+    /// Takes away the files and what was printed.
+    pub fn clear(&mut self) {
+        self.shelf = MemoryShelf::new(self.alloc);
+        self.out = MemorySink::new(self.alloc);
+        self.answer = Status::Done;
+    }
+
+    /// Puts a file of two parts there.
+    pub fn put_both(&mut self, name: &str, first: &[u8], second: &[u8]) -> Result<(), AllocError> {
+        let mut bytes = Vec::new(self.alloc);
+        bytes.extend_from_slice(first)?;
+        bytes.extend_from_slice(second)?;
+        self.put(name, &bytes)
+    }
+
     /// Puts a file there.
     pub fn put(&mut self, name: &str, bytes: &[u8]) -> Result<(), AllocError> {
         self.shelf.put(name, bytes)

@@ -2,7 +2,7 @@
 use crate::desk::Desk;
 use dtx_outside::Call;
 use dtx_top::Status;
-use std::alloc::{AllocError, Global};
+use std::alloc::AllocError;
 use std::test::Fail;
 
 /// The head of a plan of two transmitters.
@@ -13,14 +13,6 @@ transmitter = [{ address = 7, offset = -10 }, { address = 9, offset = 25 }]\nnet
 const RECEIVED: &[u8] = b"net.event = [{ do = \"send\", to = 7, from = 0, count = 1300 },\
 { do = \"send\", to = 9, from = 100, count = 20 }]\n\
 net.receive = { from = 7, damage = [{ at = 400000, count = 20, put = 3 }] }\n";
-
-/// Puts the plan that ends so.
-fn put_plan(desk: &mut Desk, alloc: Global, end: &[u8]) -> Result<(), AllocError> {
-    let mut text = Vec::new(alloc);
-    text.extend_from_slice(HEAD)?;
-    text.extend_from_slice(end)?;
-    desk.put("p", &text)
-}
 
 /// Changes to 400,000 symbols.
 const CHANGES: &[u8] = b"damage = [{ at = 300000, count = 400000, put = 1 }]";
@@ -110,17 +102,10 @@ const CASES: [Case; 16] = [
 const MAKING: [&str; 3] = ["make 1 1300 s.ts", "adapt p s.ts f.ts", "code f.ts c.sym"];
 
 /// Makes all of them, from the plan and the changes.
-fn make_inputs(desk: &mut Desk, alloc: Global) -> Result<(), AllocError> {
-    put_plan(desk, alloc, RECEIVED)?;
+fn make_inputs(desk: &mut Desk) -> Result<(), AllocError> {
+    desk.put_both("p", HEAD, RECEIVED)?;
     desk.put("c", CHANGES)?;
     desk.run_each(&MAKING)
-}
-
-/// A desk with all of them.
-fn inputs(rt: &HostRuntime) -> Result<Desk, AllocError> {
-    let mut desk = Desk::new(rt);
-    make_inputs(&mut desk, rt.alloc())?;
-    Ok(desk)
 }
 
 /// What stands under the names of the outputs before a command.
@@ -140,18 +125,17 @@ fn put_all(desk: &mut Desk, inputs: &Desk, outputs: &[&str]) -> Result<(), Alloc
 /// The number of no call.
 const NEVER: u64 = u64::MAX;
 
-/// What the command leaves over these inputs, where the call of that kind and number fails.
-fn done(
-    rt: &HostRuntime,
-    case: &Case,
+/// Does the command over these inputs and nothing else, where the call of that kind and number fails.
+fn play(
+    desk: &mut Desk,
     inputs: &Desk,
+    case: &Case,
     call: Call,
     nth: u64,
-) -> Result<Desk, AllocError> {
-    let mut desk = Desk::new(rt);
-    put_all(&mut desk, inputs, case.outputs)?;
-    desk.run_failing(case.words, call, nth)?;
-    Ok(desk)
+) -> Result<(), AllocError> {
+    desk.clear();
+    put_all(desk, inputs, case.outputs)?;
+    desk.run_failing(case.words, call, nth)
 }
 
 /// Whether each of these files is the same on both desks.
@@ -198,41 +182,94 @@ fn has_ended_well(desk: &Desk, whole: &Desk, case: &Case, call: Call, nth: u64) 
     }
 }
 
-/// Whether it does so for the first three calls of that kind, and for the last, and all inputs stand.
-fn ends_well(
-    rt: &HostRuntime,
-    case: &Case,
-    inputs: &Desk,
-    whole: &Desk,
-    call: Call,
-) -> Result<bool, AllocError> {
-    for nth in [0, 1, 2, whole.calls(call).saturating_sub(1)] {
-        let desk = done(rt, case, inputs, call, nth)?;
-        if !has_ended_well(&desk, whole, case, call, nth) || !are_alike(&desk, inputs, &INPUTS) {
-            return Ok(false);
-        }
-    }
-    Ok(true)
+/// The inputs, what a command leaves of them where no call fails, and where one does.
+#[derive(Drop)]
+struct Desks {
+    inputs: Desk,
+    whole: Desk,
+    broken: Desk,
 }
 
-/// Whether the command is done, and ends as it should where a call of any kind fails.
-fn always_ends_well(rt: &HostRuntime, case: &Case, inputs: &Desk) -> Result<bool, AllocError> {
-    let whole = done(rt, case, inputs, Call::Read, NEVER)?;
-    for call in [Call::Read, Call::Begin, Call::Append] {
-        if !ends_well(rt, case, inputs, &whole, call)? {
-            return Ok(false);
+impl Desks {
+    /// Nothing is there yet.
+    fn new(rt: &HostRuntime) -> Desks {
+        Desks {
+            inputs: Desk::new(rt),
+            whole: Desk::new(rt),
+            broken: Desk::new(rt),
         }
     }
-    Ok(whole.answer() == Status::Done)
+
+    /// Whether a command ends as it should where one of the first three calls of that kind fails, or the last, and all
+    /// inputs stand.
+    fn ends_well(&mut self, case: &Case, call: Call) -> Result<bool, AllocError> {
+        for nth in [0, 1, 2, self.whole.calls(call).saturating_sub(1)] {
+            play(&mut self.broken, &self.inputs, case, call, nth)?;
+            if !self.has_ended_well(case, call, nth) {
+                return Ok(false);
+            }
+        }
+        Ok(true)
+    }
+
+    /// Whether it has ended so where the call of that kind and number failed.
+    fn has_ended_well(&self, case: &Case, call: Call, nth: u64) -> bool {
+        has_ended_well(&self.broken, &self.whole, case, call, nth)
+            && are_alike(&self.broken, &self.inputs, &INPUTS)
+    }
+
+    /// Whether the command is done, and ends as it should where a call of any kind fails.
+    fn always_ends_well(&mut self, case: &Case) -> Result<bool, AllocError> {
+        play(&mut self.whole, &self.inputs, case, Call::Read, NEVER)?;
+        for call in [Call::Read, Call::Begin, Call::Append] {
+            if !self.ends_well(case, call)? {
+                return Ok(false);
+            }
+        }
+        Ok(self.whole.answer() == Status::Done)
+    }
+
+    /// The words of the first command that doesn't, or nothing.
+    fn first_that_ends_badly(&mut self) -> Result<&'static str, AllocError> {
+        make_inputs(&mut self.inputs)?;
+        for case in &CASES {
+            if !self.always_ends_well(case)? {
+                return Ok(case.words);
+            }
+        }
+        Ok("")
+    }
+
+    /// Whether at least half of the output stands where the last read fails.
+    fn half_stands(&mut self, case: &Case) -> Result<bool, AllocError> {
+        play(&mut self.whole, &self.inputs, case, Call::Read, NEVER)?;
+        let last = self.whole.calls(Call::Read).saturating_sub(1);
+        play(&mut self.broken, &self.inputs, case, Call::Read, last)?;
+        Ok(has_half(&self.broken, &self.whole))
+    }
+
+    /// The words of the first of four commands of which less stands, or nothing.
+    fn first_that_holds_back(&mut self) -> Result<&'static str, AllocError> {
+        make_inputs(&mut self.inputs)?;
+        for case in &CASES[..4] {
+            if !self.half_stands(case)? {
+                return Ok(case.words);
+            }
+        }
+        Ok("")
+    }
+}
+
+/// The words of the first command that doesn't end as it should, or nothing.
+fn first_that_ends_badly(rt: &HostRuntime) -> Result<&'static str, AllocError> {
+    let mut desks = Desks::new(rt);
+    desks.first_that_ends_badly()
 }
 
 #[test]
 fn a_failing_call_has_its_status_and_leaves_front_parts(rt: HostRuntime) -> Result<(), Fail> {
-    let inputs = inputs(&rt)?;
-    for case in &CASES {
-        let words = case.words;
-        assert!(rt; always_ends_well(&rt, case, &inputs)?, "{words}");
-    }
+    let words = first_that_ends_badly(&rt)?;
+    assert!(rt; words.is_empty(), "{words}");
     Ok(())
 }
 
@@ -241,22 +278,17 @@ fn has_half(desk: &Desk, whole: &Desk) -> bool {
     desk.answer() == Status::ReadFault && desk.file("o").len() >= whole.file("o").len() / 2
 }
 
-/// Whether at least half of the output stands where the last read fails.
-fn half_stands(rt: &HostRuntime, case: &Case, inputs: &Desk) -> Result<bool, AllocError> {
-    let whole = done(rt, case, inputs, Call::Read, NEVER)?;
-    let last = whole.calls(Call::Read).saturating_sub(1);
-    let desk = done(rt, case, inputs, Call::Read, last)?;
-    Ok(has_half(&desk, &whole))
+/// The words of the first of four commands of which less than half stands, or nothing.
+fn first_that_holds_back(rt: &HostRuntime) -> Result<&'static str, AllocError> {
+    let mut desks = Desks::new(rt);
+    desks.first_that_holds_back()
 }
 
 /// A stream is never held whole.
 #[test]
 fn half_of_the_output_stands_before_the_last_read(rt: HostRuntime) -> Result<(), Fail> {
-    let inputs = inputs(&rt)?;
-    for case in &CASES[..4] {
-        let words = case.words;
-        assert!(rt; half_stands(&rt, case, &inputs)?, "{words}");
-    }
+    let words = first_that_holds_back(&rt)?;
+    assert!(rt; words.is_empty(), "{words}");
     Ok(())
 }
 
@@ -264,13 +296,11 @@ fn half_of_the_output_stands_before_the_last_read(rt: HostRuntime) -> Result<(),
 const IN_TURN: &[u8] = b"net.event = [{ do = \"send\", to = 7, from = 0, count = 300 },\
 { do = \"send\", to = 9, from = 0, count = 1300 }, { do = \"send\", to = 7, from = 300, count = 1000 }]\n";
 
-/// What `net` leaves of that plan over 1,300 made packets, where the append of that number fails.
-fn played(rt: &HostRuntime, failing: u64) -> Result<Desk, AllocError> {
-    let mut desk = Desk::new(rt);
-    put_plan(&mut desk, rt.alloc(), IN_TURN)?;
+/// Plays that plan over 1,300 made packets, where the append of that number fails.
+fn play_in_turn(desk: &mut Desk, failing: u64) -> Result<(), AllocError> {
+    desk.put_both("p", HEAD, IN_TURN)?;
     desk.run("make 1 1300 s.ts")?;
-    desk.run_failing("net p", Call::Append, failing)?;
-    Ok(desk)
+    desk.run_failing("net p", Call::Append, failing)
 }
 
 /// Whether both transmitters have sent all symbols of the feed.
@@ -295,16 +325,23 @@ fn breaks_off(desk: &Desk, whole: &Desk) -> bool {
         && symbols_are_cut(desk, whole)
 }
 
-/// Whether the network does so at its last append, which is one of the first transmitter's.
-fn last_append_breaks(rt: &HostRuntime, whole: &Desk) -> Result<bool, AllocError> {
-    let last = whole.calls(Call::Append).saturating_sub(1);
-    Ok(breaks_off(&played(rt, last)?, whole))
+/// Whether the network sends all, and breaks off so at its last append, which is one of the first transmitter's.
+fn last_append_breaks(whole: &mut Desk, broken: &mut Desk) -> Result<bool, AllocError> {
+    play_in_turn(whole, NEVER)?;
+    play_in_turn(broken, whole.calls(Call::Append).saturating_sub(1))?;
+    Ok(all_is_sent(whole) && breaks_off(broken, whole))
+}
+
+/// Whether a network breaks off so.
+fn breaks(rt: &HostRuntime) -> Result<bool, AllocError> {
+    let mut whole = Desk::new(rt);
+    let mut broken = Desk::new(rt);
+    last_append_breaks(&mut whole, &mut broken)
 }
 
 /// All transmitters come as far in their schedule.
 #[test]
 fn a_network_breaks_off_at_one_step_for_all(rt: HostRuntime) -> Result<(), Fail> {
-    let whole = played(&rt, NEVER)?;
-    assert!(rt; all_is_sent(&whole) && last_append_breaks(&rt, &whole)?);
+    assert!(rt; breaks(&rt)?);
     Ok(())
 }
