@@ -14,9 +14,9 @@ if [[ ! $(git ls-files crates.txt) ]]; then
 fi
 
 # Crates that may have fewer than three must-fail edits: `dtx` and `dtx_bench` are programs, whose `main` has no contract
-# that an edit could break, `dtx_lists`, `dtx_gap_filler` and `dtx_repeated_feed` have lemmas and laws alone, and the crates of tests, whose
-# names end so, have nothing that another crate stands on.
-few_edits=' dtx dtx_bench dtx_lists dtx_gap_filler dtx_repeated_feed '
+# that an edit could break, `dtx_lists`, `dtx_gap_filler`, `dtx_repeated_feed` and `dtx_symbol_laws` have lemmas and laws
+# alone, and the crates of tests, whose names end so, have nothing that another crate stands on.
+few_edits=' dtx dtx_bench dtx_lists dtx_gap_filler dtx_repeated_feed dtx_symbol_laws '
 
 passed=0
 failed=0

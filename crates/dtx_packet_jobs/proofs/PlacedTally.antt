@@ -8,9 +8,11 @@ use Rattle.std.proofs.lemmas.List.{length-append}
 use Rattle.dtx_adapter.specs.Feed.{is_placeholder}
 use Rattle.dtx_packet_jobs.specs.Place.{IsCounted, bare_fields, becomes, behind, is_null, is_open, placed, placed_one}
 use Rattle.dtx_packet_jobs.specs.declared.placing.Placing.{Placing}
-use Rattle.dtx_packet_jobs.proofs.PlacedPackets.{any_more, any_same, becomes_early, becomes_late, behind_none, length-placed}
+use Rattle.dtx_packet_jobs.proofs.PlacedPackets.{any_more, any_same, becomes_early, becomes_late, behind_none}
+use Rattle.dtx_packet_jobs.proofs.PlacedPackets.{length-placed}
 use Rattle.dtx_packet_jobs.proofs.PlacedPackets.{placed-next}
-use Rattle.dtx_packet_jobs.proofs.PlacedCounts.{bare_fields-most, bare_fields-next, bare_fields_between, bare_fields_going}
+use Rattle.dtx_packet_jobs.proofs.PlacedCounts.{bare_fields-most, bare_fields-next, bare_fields_between}
+use Rattle.dtx_packet_jobs.proofs.PlacedCounts.{bare_fields_going}
 use Rattle.dtx_packet_jobs.proofs.PlacedCounts.{bare_first}
 use Rattle.dtx_packet_jobs.proofs.PlacedCounts.{one_if, one_unless, placed_count-most, placed_count-next}
 

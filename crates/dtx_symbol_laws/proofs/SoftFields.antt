@@ -19,7 +19,8 @@ use Rattle.dtx_soft.specs.SumsLaws.{none_first, over, over_more, over_none, over
 use Rattle.dtx_soft.specs.SumsLaws.{over_same}
 use Rattle.dtx_jobs.specs.Soft.{count_from, counted, groups_in, in_groups, place_at, soft_at, soft_from, soft_symbols}
 use Rattle.dtx_symbol_laws.specs.SoftFields.{field_groups, fields_in, fields_of, place_behind}
-use Rattle.dtx_symbol_laws.proofs.SoftPlaces.{Begins, begins_first, none_from, places_stay, run_begins, run_behind, run_ends}
+use Rattle.dtx_symbol_laws.proofs.SoftPlaces.{Begins, begins_first, none_from, places_stay, run_begins, run_behind}
+use Rattle.dtx_symbol_laws.proofs.SoftPlaces.{run_ends}
 use Rattle.dtx_symbol_laws.proofs.SoftPlaces.{run_place}
 use Rattle.dtx_symbol_laws.proofs.SoftRuns.{soft_entry, soft_length}
 

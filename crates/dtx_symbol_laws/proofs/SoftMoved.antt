@@ -18,7 +18,8 @@ use Rattle.dtx_jobs.specs.Soft.{count_from, counted, in_groups, place_at, soft_s
 use Rattle.dtx_symbol_laws.specs.SoftFields.{place_behind}
 use Rattle.dtx_jobs.specs.SymbolFile.{file_segments, segment_at, symbol_of_byte, whole_segments}
 use Rattle.dtx_jobs.specs.SymbolFileLaws.{length-segments_of}
-use Rattle.dtx_symbol_laws.proofs.SoftFields.{IsField, all_sum, count_at, count_is, field_of, groups_become, others_stay}
+use Rattle.dtx_symbol_laws.proofs.SoftFields.{IsField, all_sum, count_at, count_is, field_of, groups_become}
+use Rattle.dtx_symbol_laws.proofs.SoftFields.{others_stay}
 use Rattle.dtx_symbol_laws.proofs.SoftFields.{run_fields}
 use Rattle.dtx_symbol_laws.proofs.SoftPlaces.{run_place}
 use Rattle.dtx_symbol_laws.proofs.SoftRuns.{soft_length}
