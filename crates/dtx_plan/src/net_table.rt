@@ -18,6 +18,9 @@ use dtx_outside::Word;
 use std::alloc::Global;
 use toml::{Table, Value};
 
+/// The keys of the table.
+const KEYS: &[&str] = &["stream", "event", "receive"];
+
 /// What is done with the transmitters, where it is said.
 pub(crate) fn net(
     alloc: Global,
@@ -38,12 +41,30 @@ fn net_of(alloc: Global, transmitters: &Transmitters, value: &Value) -> Result<N
     ensures walk { IsAnswer (spec.net_of transmitters.now (view value.now)) result }
     ensures sound { IfOk result (IsNet transmitters.now) }
 {
-    let entry = table(value, PlanKey::Net, 0)?;
-    known(entry, &["stream", "event", "receive"], PlanKey::Net, 0)?;
-    let stream = stream(alloc, entry)?;
-    let items = Row::new(entry, "event", PlanKey::Event, 0).array_or_none(MOST_EVENTS)?;
-    let events = events(alloc, transmitters, items)?;
-    let receive = receive(alloc, transmitters, entry)?;
+    let entry = match table(value, PlanKey::Net, 0) {
+        Ok(entry) => entry,
+        Err(refusal) => return Err(PlanFault::No(refusal)),
+    };
+    match known(entry, KEYS, PlanKey::Net, 0) {
+        Ok(()) => {}
+        Err(refusal) => return Err(PlanFault::No(refusal)),
+    }
+    let stream = match stream(alloc, entry) {
+        Ok(stream) => stream,
+        Err(fault) => return Err(fault),
+    };
+    let items = match Row::new(entry, "event", PlanKey::Event, 0).array_or_none(MOST_EVENTS) {
+        Ok(items) => items,
+        Err(refusal) => return Err(PlanFault::No(refusal)),
+    };
+    let events = match events(alloc, transmitters, items) {
+        Ok(events) => events,
+        Err(fault) => return Err(fault),
+    };
+    let receive = match receive(alloc, transmitters, entry) {
+        Ok(receive) => receive,
+        Err(fault) => return Err(fault),
+    };
     Ok(NetPlan {
         stream,
         events,

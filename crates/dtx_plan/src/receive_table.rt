@@ -17,6 +17,9 @@ use crate::transmitters::Transmitters;
 use std::alloc::Global;
 use toml::{Table, Value};
 
+/// The keys of the table.
+const KEYS: &[&str] = &["from", "damage"];
+
 /// What is received, where it is said.
 pub(crate) fn receive(
     alloc: Global,
@@ -41,11 +44,26 @@ fn receive_of(
     ensures walk { IsAnswer (spec.receive_of transmitters.now (view value.now)) result }
     ensures sound { IfOk result (IsReceived transmitters.now) }
 {
-    let entry = table(value, PlanKey::Receive, 0)?;
-    known(entry, &["from", "damage"], PlanKey::Receive, 0)?;
-    let from = Row::new(entry, "from", PlanKey::ReceiveFrom, 0).whole(0, 65535)? as u16;
-    no_stranger(from, transmitters, PlanKey::ReceiveFrom, 0)?;
-    let damage = damage_of(alloc, entry)?;
+    let entry = match table(value, PlanKey::Receive, 0) {
+        Ok(entry) => entry,
+        Err(refusal) => return Err(PlanFault::No(refusal)),
+    };
+    match known(entry, KEYS, PlanKey::Receive, 0) {
+        Ok(()) => {}
+        Err(refusal) => return Err(PlanFault::No(refusal)),
+    }
+    let from = match Row::new(entry, "from", PlanKey::ReceiveFrom, 0).whole(0, 65535) {
+        Ok(from) => from as u16,
+        Err(refusal) => return Err(PlanFault::No(refusal)),
+    };
+    match no_stranger(from, transmitters, PlanKey::ReceiveFrom, 0) {
+        Ok(()) => {}
+        Err(refusal) => return Err(PlanFault::No(refusal)),
+    }
+    let damage = match damage_of(alloc, entry) {
+        Ok(damage) => damage,
+        Err(fault) => return Err(fault),
+    };
     Ok(ReceivePlan { from, damage })
 }
 
