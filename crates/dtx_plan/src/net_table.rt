@@ -1,10 +1,11 @@
 // The walk over the table `net`.
-ghost use Rattle.std.specs.Prelude.{◌≡◌, ◌≤◌, length, IfOk, IfSome};
+ghost use Rattle.std.specs.Prelude.{◌≡◌, ◌≤◌, length, All, IfOk, IfSome};
 ghost use Rattle.toml.specs.View.{view, table_view};
 ghost use Rattle.dtx_plan.specs.Rows.{IsAnswer};
-ghost use Rattle.dtx_plan.specs.Sound.{IsNet};
+ghost use Rattle.dtx_plan.specs.Sound.{IsEvent, IsNet};
 ghost use Rattle.dtx_plan.specs.NetTable as spec;
 
+use crate::event::Events;
 use crate::event_table::events;
 use crate::key::PlanKey;
 use crate::limits::MOST_EVENTS;
@@ -31,7 +32,10 @@ pub(crate) fn net(
     ensures sound { IfOk result (λ n. IfSome n (IsNet transmitters.now)) }
 {
     match member(root, "net") {
-        Some(value) => Ok(Some(net_of(alloc, transmitters, value)?)),
+        Some(value) => match net_of(alloc, transmitters, value) {
+            Ok(net) => Ok(Some(net)),
+            Err(fault) => Err(fault),
+        },
         None => Ok(None),
     }
 }
@@ -53,11 +57,7 @@ fn net_of(alloc: Global, transmitters: &Transmitters, value: &Value) -> Result<N
         Ok(stream) => stream,
         Err(fault) => return Err(fault),
     };
-    let items = match Row::new(entry, "event", PlanKey::Event, 0).array_or_none(MOST_EVENTS) {
-        Ok(items) => items,
-        Err(refusal) => return Err(PlanFault::No(refusal)),
-    };
-    let events = match events(alloc, transmitters, items) {
+    let events = match events_of(alloc, transmitters, entry) {
         Ok(events) => events,
         Err(fault) => return Err(fault),
     };
@@ -70,6 +70,18 @@ fn net_of(alloc: Global, transmitters: &Transmitters, value: &Value) -> Result<N
         events,
         receive,
     })
+}
+
+/// The events, none where they are absent.
+fn events_of(alloc: Global, transmitters: &Transmitters, entry: &Table) -> Result<Events, PlanFault>
+    ensures walk { IsAnswer (spec.events_of transmitters.now (table_view entry.now)) result }
+    ensures count { IfOk result (λ e. length e ≤ MOST_EVENTS) }
+    ensures sound { IfOk result (All (IsEvent transmitters.now)) }
+{
+    match Row::new(entry, "event", PlanKey::Event, 0).array_or_none(MOST_EVENTS) {
+        Ok(items) => events(alloc, transmitters, items),
+        Err(refusal) => Err(PlanFault::No(refusal)),
+    }
 }
 
 /// The name of the file of the stream.
@@ -90,5 +102,8 @@ fn stream_of(alloc: Global, name: &str) -> Result<Word, PlanFault>
     if name.is_empty() || name.len() > 255 {
         return Err(PlanFault::No(PlanNo::new(PlanKey::Stream, 0, PlanRule::Range)));
     }
-    Ok(Word::new(String::from_str(alloc, name)?))
+    match String::from_str(alloc, name) {
+        Ok(text) => Ok(Word::new(text)),
+        Err(_) => Err(PlanFault::Memory),
+    }
 }

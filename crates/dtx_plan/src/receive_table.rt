@@ -30,7 +30,10 @@ pub(crate) fn receive(
     ensures sound { IfOk result (λ r. IfSome r (IsReceived transmitters.now)) }
 {
     match member(net, "receive") {
-        Some(value) => Ok(Some(receive_of(alloc, transmitters, value)?)),
+        Some(value) => match receive_of(alloc, transmitters, value) {
+            Ok(receive) => Ok(Some(receive)),
+            Err(fault) => Err(fault),
+        },
         None => Ok(None),
     }
 }
@@ -72,6 +75,8 @@ fn damage_of(alloc: Global, entry: &Table) -> Result<Damages, PlanFault>
     ensures walk { IsAnswer (spec.damage_of (table_view entry.now)) result }
     ensures sound { IfOk result AreDamages }
 {
-    let items = Row::new(entry, "damage", PlanKey::Damage, 0).array_or_none(MOST_DAMAGES)?;
-    damages(alloc, items)
+    match Row::new(entry, "damage", PlanKey::Damage, 0).array_or_none(MOST_DAMAGES) {
+        Ok(items) => damages(alloc, items),
+        Err(refusal) => Err(PlanFault::No(refusal)),
+    }
 }

@@ -67,9 +67,12 @@ pub(crate) fn changes(alloc: Global, root: &Table) -> Result<Damages, PlanFault>
     ensures walk { IsAnswer (spec.changes (table_view root.now)) result }
     ensures sound { IfOk result AreDamages }
 {
-    known(root, &["damage"], PlanKey::Whole, 0)?;
-    damages(
-        alloc,
-        Row::new(root, "damage", PlanKey::Damage, 0).array_or_none(MOST_DAMAGES)?,
-    )
+    match known(root, &["damage"], PlanKey::Whole, 0) {
+        Ok(()) => {}
+        Err(refusal) => return Err(PlanFault::No(refusal)),
+    }
+    match Row::new(root, "damage", PlanKey::Damage, 0).array_or_none(MOST_DAMAGES) {
+        Ok(items) => damages(alloc, items),
+        Err(refusal) => Err(PlanFault::No(refusal)),
+    }
 }
