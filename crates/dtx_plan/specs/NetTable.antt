@@ -5,6 +5,7 @@ use Rattle.dtx_plan.specs.declared.key.PlanKey.TheVariants as key
 use Rattle.dtx_plan.specs.declared.rule.PlanRule.TheVariants.{Range}
 use Rattle.dtx_plan.specs.declared.refusal.PlanNo.{PlanNo}
 use Rattle.dtx_plan.specs.declared.transmitter.Transmitter.{Transmitter}
+use Rattle.dtx_plan.specs.declared.event.Event.{Event}
 use Rattle.dtx_plan.specs.declared.plan.NetPlan.{NetPlan}
 use Rattle.dtx_plan.specs.Rows.{◌>>=◌, refused, table, known, text, array_or_none, optional, entries}
 use Rattle.dtx_plan.specs.EventTable.{event_after}
@@ -18,14 +19,19 @@ stream_of name = if nat_le 1 (length name) && nat_le (length name) 255 then Ok n
 abbrev pub stream : Members → Result (List ℕ) PlanNo
 stream entry = text (get_member (codes "stream") entry) key.Stream 0 >>= stream_of
 
+-- may be absent: the events, entry by entry
+abbrev pub events_of : List Transmitter → Members → Result (List Event) PlanNo
+events_of ts entry = do
+  items ← array_or_none (get_member (codes "event") entry) key.Event 0 10000
+  entries (event_after ts) [] items
+
 -- what is done with the transmitters
 unfoldable pub net_of : List Transmitter → Data → Result NetPlan PlanNo
 net_of ts d = do
   entry ← table d key.Net 0
   _ ← known (codes "stream" ∷ codes "event" ∷ codes "receive" ∷ []) entry key.Net 0
   name ← stream entry
-  items ← array_or_none (get_member (codes "event") entry) key.Event 0 10000
-  schedule ← entries (event_after ts) [] items
+  schedule ← events_of ts entry
   receiving ← receive ts entry
   Ok (record { stream = name; events = schedule; receive = receiving })
 

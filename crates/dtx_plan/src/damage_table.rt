@@ -7,13 +7,16 @@ ghost use Rattle.dtx_plan.specs.DamageTable as spec;
 
 use crate::damage::{Damage, Damages};
 use crate::key::PlanKey;
-use crate::limits::MOST_DAMAGES;
+use crate::limits::{LAST_SYMBOL, MOST_DAMAGES};
 use crate::refusal::{PlanFault, PlanNo};
 use crate::rows::{Row, known, table};
 use crate::rule::PlanRule;
 use dtx_sizes::MOST_SYMBOLS;
 use std::alloc::Global;
 use toml::Value;
+
+/// The keys of an entry.
+const KEYS: &[&str] = &["at", "count", "put"];
 
 /// The damage, entry by entry.
 pub(crate) fn damages(alloc: Global, values: &[Value]) -> Result<Damages, PlanFault>
@@ -24,7 +27,10 @@ pub(crate) fn damages(alloc: Global, values: &[Value]) -> Result<Damages, PlanFa
     let mut all = Vec::new(alloc);
     let mut end = 0;
     for value in values {
-        let next = damage(end, all.len() as u32, value)?;
+        let next = match damage(end, all.len() as u32, value) {
+            Ok(next) => next,
+            Err(refusal) => return Err(PlanFault::No(refusal)),
+        };
         end = next.at + next.count;
         all.push(next)?;
     }
@@ -38,12 +44,31 @@ fn damage(end: u64, item: u32, value: &Value) -> Result<Damage, PlanNo>
     ensures sound { IfOk result IsDamage }
     ensures behind { IfOk result (λ d. end ≤ d.at) }
 {
-    let entry = table(value, PlanKey::Damage, item)?;
-    known(entry, &["at", "count", "put"], PlanKey::Damage, item)?;
-    let at = Row::new(entry, "at", PlanKey::DamageAt, item).whole(0, MOST_SYMBOLS - 1)?;
-    behind(at, end, item)?;
-    let count = Row::new(entry, "count", PlanKey::DamageCount, item).whole_or(1, 1, MOST_SYMBOLS)?;
-    let put = Row::new(entry, "put", PlanKey::DamagePut, item).signed(-128, 127)? as i8;
+    let entry = match table(value, PlanKey::Damage, item) {
+        Ok(entry) => entry,
+        Err(refusal) => return Err(refusal),
+    };
+    match known(entry, KEYS, PlanKey::Damage, item) {
+        Ok(()) => {}
+        Err(refusal) => return Err(refusal),
+    }
+    let at = match Row::new(entry, "at", PlanKey::DamageAt, item).whole(0, LAST_SYMBOL) {
+        Ok(at) => at,
+        Err(refusal) => return Err(refusal),
+    };
+    match behind(at, end, item) {
+        Ok(()) => {}
+        Err(refusal) => return Err(refusal),
+    }
+    let row = Row::new(entry, "count", PlanKey::DamageCount, item);
+    let count = match row.whole_or(1, 1, MOST_SYMBOLS) {
+        Ok(count) => count,
+        Err(refusal) => return Err(refusal),
+    };
+    let put = match Row::new(entry, "put", PlanKey::DamagePut, item).signed(-128, 127) {
+        Ok(put) => put as i8,
+        Err(refusal) => return Err(refusal),
+    };
     Ok(Damage { at, count, put })
 }
 

@@ -8,7 +8,7 @@ ghost use Rattle.dtx_plan.specs.EventTable as spec;
 
 use crate::event::{Event, EventKind, Events};
 use crate::key::PlanKey;
-use crate::limits::MOST_EVENTS;
+use crate::limits::{LAST_PACKET, LAST_SEED, MOST_EVENTS};
 use crate::refusal::{PlanFault, PlanNo};
 use crate::rows::{Row, known, table};
 use crate::rule::PlanRule;
@@ -31,7 +31,10 @@ pub(crate) fn events(
 {
     let mut all = Vec::new(alloc);
     for value in values {
-        let next = event(transmitters, all.len() as u32, value)?;
+        let next = match event(transmitters, all.len() as u32, value) {
+            Ok(next) => next,
+            Err(refusal) => return Err(PlanFault::No(refusal)),
+        };
         all.push(next)?;
     }
     Ok(Events { all })
@@ -43,11 +46,26 @@ fn event(transmitters: &Transmitters, item: u32, value: &Value) -> Result<Event,
     ensures walk { result ≡ spec.event_at transmitters.now item (view value.now) }
     ensures sound { IfOk result (IsEvent transmitters.now) }
 {
-    let entry = table(value, PlanKey::Event, item)?;
-    let kind = kind(entry, item)?;
-    known_keys(kind, entry, item)?;
-    let to = Row::new(entry, "to", PlanKey::To, item).whole(0, 65535)? as u16;
-    no_stranger(to, transmitters, PlanKey::To, item)?;
+    let entry = match table(value, PlanKey::Event, item) {
+        Ok(entry) => entry,
+        Err(refusal) => return Err(refusal),
+    };
+    let kind = match kind(entry, item) {
+        Ok(kind) => kind,
+        Err(refusal) => return Err(refusal),
+    };
+    match known_keys(kind, entry, item) {
+        Ok(()) => {}
+        Err(refusal) => return Err(refusal),
+    }
+    let to = match Row::new(entry, "to", PlanKey::To, item).whole(0, 65535) {
+        Ok(to) => to as u16,
+        Err(refusal) => return Err(refusal),
+    };
+    match no_stranger(to, transmitters, PlanKey::To, item) {
+        Ok(()) => {}
+        Err(refusal) => return Err(refusal),
+    }
     event_of(kind, to, entry, item)
 }
 
@@ -64,18 +82,13 @@ fn kind(entry: &Table, item: u32) -> Result<EventKind, PlanNo>
 fn kind_of(word: &str, item: u32) -> Result<EventKind, PlanNo>
     ensures { result ≡ spec.kind_of word.now item }
 {
-    if word == "send" {
-        Ok(EventKind::Send)
-    } else if word == "foreign" {
-        Ok(EventKind::Foreign)
-    } else if word == "flip" {
-        Ok(EventKind::Flip)
-    } else if word == "lie" {
-        Ok(EventKind::Lie)
-    } else if word == "restart" {
-        Ok(EventKind::Restart)
-    } else {
-        Err(PlanNo::new(PlanKey::Do, item, PlanRule::Range))
+    match word {
+        "send" => Ok(EventKind::Send),
+        "foreign" => Ok(EventKind::Foreign),
+        "flip" => Ok(EventKind::Flip),
+        "lie" => Ok(EventKind::Lie),
+        "restart" => Ok(EventKind::Restart),
+        _ => Err(PlanNo::new(PlanKey::Do, item, PlanRule::Range)),
     }
 }
 
@@ -142,7 +155,7 @@ fn send(to: u16, entry: &Table, item: u32) -> Result<Event, PlanNo>
     ensures to { IfOk result (λ e. to_of e ≡ to) }
     ensures in_range { IfOk result IsInRange }
 {
-    let from = Row::new(entry, "from", PlanKey::From, item).whole(0, MOST_PACKETS - 1)?;
+    let from = Row::new(entry, "from", PlanKey::From, item).whole(0, LAST_PACKET)?;
     let count = Row::new(entry, "count", PlanKey::Count, item).whole(1, MOST_PACKETS - from)?;
     Ok(Event::Send { to, from, count })
 }
@@ -154,9 +167,18 @@ fn foreign(to: u16, entry: &Table, item: u32) -> Result<Event, PlanNo>
     ensures to { IfOk result (λ e. to_of e ≡ to) }
     ensures in_range { IfOk result IsInRange }
 {
-    let seed = Row::new(entry, "seed", PlanKey::Seed, item).whole(0, 9_223_372_036_854_775_807)?;
-    let from = Row::new(entry, "from", PlanKey::From, item).whole(0, MOST_PACKETS - 1)?;
-    let count = Row::new(entry, "count", PlanKey::Count, item).whole(1, MOST_PACKETS - from)?;
+    let seed = match Row::new(entry, "seed", PlanKey::Seed, item).whole(0, LAST_SEED) {
+        Ok(seed) => seed,
+        Err(refusal) => return Err(refusal),
+    };
+    let from = match Row::new(entry, "from", PlanKey::From, item).whole(0, LAST_PACKET) {
+        Ok(from) => from,
+        Err(refusal) => return Err(refusal),
+    };
+    let count = match Row::new(entry, "count", PlanKey::Count, item).whole(1, MOST_PACKETS - from) {
+        Ok(count) => count,
+        Err(refusal) => return Err(refusal),
+    };
     Ok(Event::Foreign {
         to,
         seed,
@@ -172,9 +194,18 @@ fn flip(to: u16, entry: &Table, item: u32) -> Result<Event, PlanNo>
     ensures to { IfOk result (λ e. to_of e ≡ to) }
     ensures in_range { IfOk result IsInRange }
 {
-    let from = Row::new(entry, "from", PlanKey::From, item).whole(0, MOST_PACKETS - 1)?;
-    let at = Row::new(entry, "at", PlanKey::At, item).whole(0, 187)? as u8;
-    let with = Row::new(entry, "with", PlanKey::With, item).whole(1, 255)? as u8;
+    let from = match Row::new(entry, "from", PlanKey::From, item).whole(0, LAST_PACKET) {
+        Ok(from) => from,
+        Err(refusal) => return Err(refusal),
+    };
+    let at = match Row::new(entry, "at", PlanKey::At, item).whole(0, 187) {
+        Ok(at) => at as u8,
+        Err(refusal) => return Err(refusal),
+    };
+    let with = match Row::new(entry, "with", PlanKey::With, item).whole(1, 255) {
+        Ok(with) => with as u8,
+        Err(refusal) => return Err(refusal),
+    };
     Ok(Event::Flip { to, from, at, with })
 }
 
@@ -185,7 +216,7 @@ fn lie(to: u16, entry: &Table, item: u32) -> Result<Event, PlanNo>
     ensures to { IfOk result (λ e. to_of e ≡ to) }
     ensures in_range { IfOk result IsInRange }
 {
-    let from = Row::new(entry, "from", PlanKey::From, item).whole(0, MOST_PACKETS - 1)?;
+    let from = Row::new(entry, "from", PlanKey::From, item).whole(0, LAST_PACKET)?;
     let states = states(entry, item)?;
     Ok(Event::Lie { to, from, states })
 }

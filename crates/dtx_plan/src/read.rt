@@ -24,8 +24,10 @@ pub fn read_plan(alloc: Global, bytes: &[u8]) -> Result<Plan, PlanFault>
     ensures sound { IfOk result IsSound }
     ensures net { IfOk result HasSoundNet }
 {
-    let root = root(alloc, bytes)?;
-    plan(alloc, &root)
+    match root(alloc, bytes) {
+        Ok(root) => plan(alloc, &root),
+        Err(fault) => Err(fault),
+    }
 }
 
 /// The damage that the bytes of a file of changes say, or the first refusal of the walk over it (the profile's own file
@@ -34,8 +36,10 @@ pub fn read_changes(alloc: Global, bytes: &[u8]) -> Result<Damages, PlanFault>
     ensures walk { IsAnswer (spec.changes_of bytes.now) result }
     ensures sound { IfOk result AreDamages }
 {
-    let root = root(alloc, bytes)?;
-    changes(alloc, &root)
+    match root(alloc, bytes) {
+        Ok(root) => changes(alloc, &root),
+        Err(fault) => Err(fault),
+    }
 }
 
 /// The table that the bytes read as.

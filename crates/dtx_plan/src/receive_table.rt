@@ -17,6 +17,9 @@ use crate::transmitters::Transmitters;
 use std::alloc::Global;
 use toml::{Table, Value};
 
+/// The keys of the table.
+const KEYS: &[&str] = &["from", "damage"];
+
 /// What is received, where it is said.
 pub(crate) fn receive(
     alloc: Global,
@@ -27,7 +30,10 @@ pub(crate) fn receive(
     ensures sound { IfOk result (λ r. IfSome r (IsReceived transmitters.now)) }
 {
     match member(net, "receive") {
-        Some(value) => Ok(Some(receive_of(alloc, transmitters, value)?)),
+        Some(value) => match receive_of(alloc, transmitters, value) {
+            Ok(receive) => Ok(Some(receive)),
+            Err(fault) => Err(fault),
+        },
         None => Ok(None),
     }
 }
@@ -41,11 +47,26 @@ fn receive_of(
     ensures walk { IsAnswer (spec.receive_of transmitters.now (view value.now)) result }
     ensures sound { IfOk result (IsReceived transmitters.now) }
 {
-    let entry = table(value, PlanKey::Receive, 0)?;
-    known(entry, &["from", "damage"], PlanKey::Receive, 0)?;
-    let from = Row::new(entry, "from", PlanKey::ReceiveFrom, 0).whole(0, 65535)? as u16;
-    no_stranger(from, transmitters, PlanKey::ReceiveFrom, 0)?;
-    let damage = damage_of(alloc, entry)?;
+    let entry = match table(value, PlanKey::Receive, 0) {
+        Ok(entry) => entry,
+        Err(refusal) => return Err(PlanFault::No(refusal)),
+    };
+    match known(entry, KEYS, PlanKey::Receive, 0) {
+        Ok(()) => {}
+        Err(refusal) => return Err(PlanFault::No(refusal)),
+    }
+    let from = match Row::new(entry, "from", PlanKey::ReceiveFrom, 0).whole(0, 65535) {
+        Ok(from) => from as u16,
+        Err(refusal) => return Err(PlanFault::No(refusal)),
+    };
+    match no_stranger(from, transmitters, PlanKey::ReceiveFrom, 0) {
+        Ok(()) => {}
+        Err(refusal) => return Err(PlanFault::No(refusal)),
+    }
+    let damage = match damage_of(alloc, entry) {
+        Ok(damage) => damage,
+        Err(fault) => return Err(fault),
+    };
     Ok(ReceivePlan { from, damage })
 }
 
@@ -54,6 +75,8 @@ fn damage_of(alloc: Global, entry: &Table) -> Result<Damages, PlanFault>
     ensures walk { IsAnswer (spec.damage_of (table_view entry.now)) result }
     ensures sound { IfOk result AreDamages }
 {
-    let items = Row::new(entry, "damage", PlanKey::Damage, 0).array_or_none(MOST_DAMAGES)?;
-    damages(alloc, items)
+    match Row::new(entry, "damage", PlanKey::Damage, 0).array_or_none(MOST_DAMAGES) {
+        Ok(items) => damages(alloc, items),
+        Err(refusal) => Err(PlanFault::No(refusal)),
+    }
 }

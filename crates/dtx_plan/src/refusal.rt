@@ -25,7 +25,7 @@ impl PlanNo {
 }
 
 /// Why no plan was read.
-#[derive(Clone, Copy, PartialEq, Eq)]
+#[derive(Clone, Copy)]
 pub enum PlanFault {
     /// A rule of the walk is broken.
     No(PlanNo),

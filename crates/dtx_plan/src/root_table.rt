@@ -8,7 +8,7 @@ ghost use Rattle.dtx_plan.specs.RootTable as spec;
 use crate::damage::Damages;
 use crate::damage_table::damages;
 use crate::key::PlanKey;
-use crate::limits::{MOST_DAMAGES, SECOND};
+use crate::limits::{LAST_TICK, MOST_DAMAGES};
 use crate::net_table::net;
 use crate::plan::Plan;
 use crate::refusal::PlanFault;
@@ -18,6 +18,9 @@ use dtx_sizes::MOST_TRANSMITTERS;
 use std::alloc::Global;
 use toml::Table;
 
+/// The keys of a plan.
+const KEYS: &[&str] = &["start", "max_delay", "transmitter", "net"];
+
 /// The plan that a table says.
 #[tactic(auto, unfolding(crate::specs::RootTable::plan))]
 pub(crate) fn plan(alloc: Global, root: &Table) -> Result<Plan, PlanFault>
@@ -25,17 +28,31 @@ pub(crate) fn plan(alloc: Global, root: &Table) -> Result<Plan, PlanFault>
     ensures sound { IfOk result IsSound }
     ensures net { IfOk result HasSoundNet }
 {
-    known(
-        root,
-        &["start", "max_delay", "transmitter", "net"],
-        PlanKey::Whole,
-        0,
-    )?;
-    let start = Row::new(root, "start", PlanKey::Start, 0).whole(0, SECOND - 1)? as u32;
-    let max_delay = Row::new(root, "max_delay", PlanKey::MaxDelay, 0).whole(0, SECOND - 1)? as u32;
-    let items = Row::new(root, "transmitter", PlanKey::Transmitter, 0).array(1, MOST_TRANSMITTERS)?;
-    let transmitters = transmitters(alloc, items)?;
-    let net = net(alloc, &transmitters, root)?;
+    match known(root, KEYS, PlanKey::Whole, 0) {
+        Ok(()) => {}
+        Err(refusal) => return Err(PlanFault::No(refusal)),
+    }
+    let start = match Row::new(root, "start", PlanKey::Start, 0).whole(0, LAST_TICK) {
+        Ok(start) => start as u32,
+        Err(refusal) => return Err(PlanFault::No(refusal)),
+    };
+    let max_delay = match Row::new(root, "max_delay", PlanKey::MaxDelay, 0).whole(0, LAST_TICK) {
+        Ok(max_delay) => max_delay as u32,
+        Err(refusal) => return Err(PlanFault::No(refusal)),
+    };
+    let row = Row::new(root, "transmitter", PlanKey::Transmitter, 0);
+    let items = match row.array(1, MOST_TRANSMITTERS) {
+        Ok(items) => items,
+        Err(refusal) => return Err(PlanFault::No(refusal)),
+    };
+    let transmitters = match transmitters(alloc, items) {
+        Ok(transmitters) => transmitters,
+        Err(fault) => return Err(fault),
+    };
+    let net = match net(alloc, &transmitters, root) {
+        Ok(net) => net,
+        Err(fault) => return Err(fault),
+    };
     Ok(Plan {
         start,
         max_delay,
@@ -50,9 +67,12 @@ pub(crate) fn changes(alloc: Global, root: &Table) -> Result<Damages, PlanFault>
     ensures walk { IsAnswer (spec.changes (table_view root.now)) result }
     ensures sound { IfOk result AreDamages }
 {
-    known(root, &["damage"], PlanKey::Whole, 0)?;
-    damages(
-        alloc,
-        Row::new(root, "damage", PlanKey::Damage, 0).array_or_none(MOST_DAMAGES)?,
-    )
+    match known(root, &["damage"], PlanKey::Whole, 0) {
+        Ok(()) => {}
+        Err(refusal) => return Err(PlanFault::No(refusal)),
+    }
+    match Row::new(root, "damage", PlanKey::Damage, 0).array_or_none(MOST_DAMAGES) {
+        Ok(items) => damages(alloc, items),
+        Err(refusal) => Err(PlanFault::No(refusal)),
+    }
 }

@@ -15,6 +15,9 @@ use dtx_sizes::MOST_TRANSMITTERS;
 use std::alloc::Global;
 use toml::Value;
 
+/// The keys of an entry.
+const KEYS: &[&str] = &["address", "offset", "delay"];
+
 /// The transmitters, entry by entry.
 pub(crate) fn transmitters(alloc: Global, values: &[Value]) -> Result<Transmitters, PlanFault>
     requires some { 1 ≤ length values.now }
@@ -24,7 +27,10 @@ pub(crate) fn transmitters(alloc: Global, values: &[Value]) -> Result<Transmitte
 {
     let mut found = Transmitters::none(alloc);
     for value in values {
-        let next = transmitter(&found, value)?;
+        let next = match transmitter(&found, value) {
+            Ok(next) => next,
+            Err(refusal) => return Err(PlanFault::No(refusal)),
+        };
         found.push(next)?;
     }
     Ok(found)
@@ -38,17 +44,30 @@ fn transmitter(earlier: &Transmitters, value: &Value) -> Result<Transmitter, Pla
     ensures once { IfOk result (λ t. spec.has_address t.address earlier.now ≡ false) }
 {
     let item = earlier.len() as u32;
-    let entry = table(value, PlanKey::Transmitter, item)?;
-    known(
-        entry,
-        &["address", "offset", "delay"],
-        PlanKey::Transmitter,
-        item,
-    )?;
-    let address = Row::new(entry, "address", PlanKey::Address, item).whole(0, 65535)? as u16;
-    once(address, earlier, item)?;
-    let offset = Row::new(entry, "offset", PlanKey::Offset, item).signed(-32768, 32767)? as i16;
-    let delay = Row::new(entry, "delay", PlanKey::Delay, item).whole_or(0, 0, 4294967295)? as u32;
+    let entry = match table(value, PlanKey::Transmitter, item) {
+        Ok(entry) => entry,
+        Err(refusal) => return Err(refusal),
+    };
+    match known(entry, KEYS, PlanKey::Transmitter, item) {
+        Ok(()) => {}
+        Err(refusal) => return Err(refusal),
+    }
+    let address = match Row::new(entry, "address", PlanKey::Address, item).whole(0, 65535) {
+        Ok(address) => address as u16,
+        Err(refusal) => return Err(refusal),
+    };
+    match once(address, earlier, item) {
+        Ok(()) => {}
+        Err(refusal) => return Err(refusal),
+    }
+    let offset = match Row::new(entry, "offset", PlanKey::Offset, item).signed(-32768, 32767) {
+        Ok(offset) => offset as i16,
+        Err(refusal) => return Err(refusal),
+    };
+    let delay = match Row::new(entry, "delay", PlanKey::Delay, item).whole_or(0, 0, 4294967295) {
+        Ok(delay) => delay as u32,
+        Err(refusal) => return Err(refusal),
+    };
     Ok(Transmitter {
         address,
         offset,

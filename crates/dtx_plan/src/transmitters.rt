@@ -47,7 +47,10 @@ impl Transmitters {
     {
         let mut all = Transmitters::none(alloc);
         for transmitter in transmitters {
-            all.push(*transmitter)?;
+            match all.push(*transmitter) {
+                Ok(()) => {}
+                Err(no) => return Err(no),
+            }
         }
         Ok(all)
     }

@@ -5,13 +5,15 @@ use Rattle.std.specs.Prelude.{Option, Some, Result, Ok, Err}
 use Rattle.std.specs.Option.{option_map}
 use Rattle.std.proofs.Math.Seq.{take-append-add, take-append_seam}
 use Rattle.std.proofs.lemmas.List.{append-nil, length-append, take_all}
+use Rattle.dtx_meaning.specs.Laws.{part_of_none}
 use Rattle.dtx_meaning.specs.Meaning.{ArePartWritten, IsFrontOf, with_outputs}
 use Rattle.dtx_meaning.specs.declared.status.Status.{Status}
+use Rattle.dtx_meaning.specs.declared.status.Status.TheVariants.{Memory}
 use Rattle.dtx_net.specs.Steps.{Step}
 use Rattle.dtx_outside.specs.Shelf.{Files, with_file}
 use Rattle.dtx_plan.specs.declared.transmitter.Transmitter.{Transmitter}
 use Rattle.dtx_words.specs.NetworkNames.{symbol_name, log_name}
-use Rattle.dtx_schedule.specs.Played.{IsBrokenOff, IsPlayOf}
+use Rattle.dtx_schedule.specs.Played.{IsBrokenOff, IsPlayFault, IsPlayOf}
 use Rattle.dtx_schedule.specs.PlayedSoFar.{IsUnderWay}
 use Rattle.dtx_schedule.specs.FilesLaws.{contents_same}
 use Rattle.dtx_schedule.specs.Progress.{IsProgressOf, IsComplete, Progress, begun_files}
@@ -131,3 +133,12 @@ pub progress_of : (ts : List Transmitter) (steps : List Step) (held : Files) (re
     (now : Option Files) → IsPlayOf ts steps held result now → IsProgressOf ts steps held result now
 progress_of ts steps held (Ok done) now is = progress_played ts steps held now is.files
 progress_of ts steps held (Err status) now is = broken_off ts steps held now is.off
+
+-- want of memory, before a file was begun
+pub wanting : (ts : List Transmitter) (steps : List Step) (held : Files) (now : Option Files) → now ≡ Some held
+    → IsPlayFault ts steps held Memory now
+wanting ts steps held now same = record {
+  fault = tt;
+  part = part_of_none (played_outputs ts steps) (Some held) now same;
+  off = inl (part_of_none (files_of nothing ts) (Some held) now same);
+}

@@ -1,15 +1,17 @@
 // One event of a schedule, done step by step.
-ghost use Rattle.std.specs.Prelude.{◌≡◌, ◌+◌, ◌<◌, ◌≤◌, ◌^◌, ◌++◌, ℕ, List, Some, false, IfErr, IfOk, IsOk, length};
+ghost use Rattle.std.specs.Prelude.{◌≡◌, ◌+◌, ◌<◌, ◌≤◌, ◌^◌, ◌++◌, ◌∷◌, [], ℕ, List, Some, false};
+ghost use Rattle.std.specs.Prelude.{IfErr, IfOk, IsOk, length};
 ghost use Rattle.std.specs.FinMap as files;
 ghost use Rattle.dtx_outside.specs.Counts.{HasGone};
 ghost use Rattle.dtx_outside.specs.Shelf.{Files};
 ghost use Rattle.dtx_meaning.specs.Status.{blame_of_answer};
-ghost use Rattle.dtx_packets.specs.Packets.{most_packets, packets_from, packets_of, whole_packets};
-ghost use Rattle.dtx_net.specs.Steps.{Step, transmitter_place, steps_of};
+ghost use Rattle.dtx_packets.specs.Packets.{most_packets, packet_at, packets_from, packets_of, whole_packets};
+ghost use Rattle.dtx_net.specs.Steps.{Step, packet_step, transmitter_place, steps_of};
 ghost use Rattle.dtx_plan.specs.Sound.{IsInRange, IsPart, to_of};
 ghost use Rattle.dtx_plan.specs.declared.transmitter.Transmitter.{Transmitter};
 ghost use Rattle.dtx_words.specs.NetworkNames.{feed_name};
 ghost use Rattle.dtx_schedule.specs.Inside.{reads_past};
+ghost use Rattle.dtx_schedule.specs.Changes.{changed_packet};
 ghost use Rattle.dtx_schedule.specs.PlayedSoFar.{IsDoneOf, IsGivenOf, IsOfFeed, IsPlayedSoFar, packet_steps};
 ghost use Rattle.dtx_schedule.specs.Playout.{HasTransmitter, IsSomePlayout};
 
@@ -90,17 +92,22 @@ fn play_at<S: Shelf>(
             count,
             ..
         } => give_made(shelf, who, &MadePart { seed, from, count }, playout),
-        Event::Flip { from, at, with, .. } => match read_one(shelf, number, from) {
-            Ok(packet) => playout.give(shelf, who, &flipped(&packet, at, with)),
-            Err(status) => Err(status),
-        },
-        Event::Lie { from, states, .. } => match read_one(shelf, number, from) {
-            Ok(packet) => {
-                let lied = playout.net.lied(&packet, &states);
-                playout.give(shelf, who, &lied)
-            }
-            Err(status) => Err(status),
-        },
+        Event::Flip { from, .. } => {
+            let part = Part {
+                event: number,
+                from,
+                count: 1,
+            };
+            give_changed(shelf, who, &part, event, playout)
+        }
+        Event::Lie { from, .. } => {
+            let part = Part {
+                event: number,
+                from,
+                count: 1,
+            };
+            give_changed(shelf, who, &part, event, playout)
+        }
         Event::Restart { .. } => playout.restart(shelf, who),
     }
 }
@@ -115,6 +122,50 @@ fn to_of(event: &Event) -> u16
         | Event::Flip { to, .. }
         | Event::Lie { to, .. }
         | Event::Restart { to } => to,
+    }
+}
+
+/// Gives the transmitter at a place the first packet of a part, as the event changes it.
+fn give_changed<S: Shelf>(
+    shelf: &mut S,
+    who: usize,
+    part: &Part,
+    event: &Event,
+    playout: &mut Playout,
+) -> Result<(), Status>
+    requires part { part.now.from < most_packets }
+    requires event { IsInRange event.now }
+    requires there { HasTransmitter who playout.old }
+    requires most { playout.old.steps < 2 ^ 60 }
+    ensures done { (ts : List Transmitter) (held : Files) (before : List Step) (feed : List ℕ)
+        → files.get held feed_name ≡ Some feed
+        → part.now.from < whole_packets feed
+        → IsPlayedSoFar ts before held playout.old (S.files shelf.old)
+        → IsDoneOf ts (before ++ packet_step who (changed_packet event.now (packet_at feed part.now.from)) ∷ []) held
+        result playout.new (S.files shelf.new) }
+    ensures there { IsOk result → HasTransmitter who playout.new }
+    ensures steps { IsOk result → playout.new.steps ≡ playout.old.steps + 1 }
+    ensures refusal { IfErr result IsOfFeed }
+    ensures gone { HasGone (S.counts shelf.old) (S.counts shelf.new) (blame_of_answer result) }
+{
+    match read_one(shelf, part.event, part.from) {
+        Ok(packet) => {
+            let changed = changed_by(event, &packet, playout);
+            playout.give(shelf, who, &changed)
+        }
+        Err(status) => Err(status),
+    }
+}
+
+/// What the event makes of a packet that it reads.
+fn changed_by(event: &Event, packet: &Packet, playout: &Playout) -> Packet
+    requires { IsInRange event.now }
+    ensures { result.0 ≡ changed_packet event.now packet.now.0 }
+{
+    match *event {
+        Event::Flip { at, with, .. } => flipped(packet, at, with),
+        Event::Lie { states, .. } => playout.net.lied(packet, &states),
+        _ => *packet,
     }
 }
 
@@ -148,7 +199,10 @@ fn send<S: Shelf>(
             from: part.from + given,
             count: part.count - given,
         };
-        let count = send_piece(shelf, who, &rest, packets, playout)?;
+        let count = match send_piece(shelf, who, &rest, packets, playout) {
+            Ok(count) => count,
+            Err(status) => return Err(status),
+        };
         given += count;
     }
     Ok(())

@@ -44,7 +44,10 @@ pub(crate) fn give_all<S: Shelf>(
     ensures gone { HasGone (S.counts shelf.old) (S.counts shelf.new) (blame_of_answer result) }
 {
     for i in 0..packets.len() {
-        playout.give(shelf, who, &packets[i])?;
+        match playout.give(shelf, who, &packets[i]) {
+            Ok(()) => {}
+            Err(status) => return Err(status),
+        }
     }
     Ok(())
 }
@@ -70,7 +73,10 @@ pub(crate) fn give_made<S: Shelf>(
     ensures gone { HasGone (S.counts shelf.old) (S.counts shelf.new) (blame_of_answer result) }
 {
     for i in 0..part.count {
-        playout.give(shelf, who, &packet(part.seed, part.from + i))?;
+        match playout.give(shelf, who, &packet(part.seed, part.from + i)) {
+            Ok(()) => {}
+            Err(status) => return Err(status),
+        }
     }
     Ok(())
 }

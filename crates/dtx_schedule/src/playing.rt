@@ -92,10 +92,36 @@ pub fn play<S: Shelf>(
     ensures refusal { IfErr result IsOfFeed }
     ensures gone { HasGone (S.counts shelf.old) (S.counts shelf.new) (blame_of_answer result) }
 {
-    let mut playout = Playout::new(alloc, transmitters)?;
-    let mut packets = vec![in alloc; Packet([0; PACKET]); PIECE_PACKETS]?;
-    run(shelf, events, &mut packets, &mut playout)?;
-    Ok(Played { playout })
+    let mut playout = match Playout::new(alloc, transmitters) {
+        Ok(playout) => playout,
+        Err(_) => return Err(Status::Memory),
+    };
+    match play_with(alloc, shelf, events, &mut playout) {
+        Ok(()) => Ok(Played { playout }),
+        Err(status) => Err(status),
+    }
+}
+
+/// Plays the events with a playout with which nothing was done, in the memory of one piece, which is taken first.
+fn play_with<S: Shelf>(
+    alloc: Global,
+    shelf: &mut S,
+    events: &Events,
+    playout: &mut Playout,
+) -> Result<(), Status>
+    requires events { AreInRange events.now }
+    requires playing { (ts : List Transmitter) × IsPlayout ts playout.old [] }
+    ensures run { (ts : List Transmitter) (held : Files) (feed : List ℕ) → IsPlayout ts playout.old []
+        → S.files shelf.old ≡ Some held
+        → files.get held feed_name ≡ Some feed → first_past_feed events.now (whole_packets feed) ≡ None
+        → IsRunOf ts (schedule ts (packets_of feed) events.now) held result playout.new (S.files shelf.new) }
+    ensures refusal { IfErr result IsOfFeed }
+    ensures gone { HasGone (S.counts shelf.old) (S.counts shelf.new) (blame_of_answer result) }
+{
+    match vec![in alloc; Packet([0; PACKET]); PIECE_PACKETS] {
+        Ok(mut packets) => run(shelf, events, &mut packets, playout),
+        Err(_) => Err(Status::Memory),
+    }
 }
 
 /// Begins the files of the transmitters, and plays the events into them.
@@ -138,7 +164,10 @@ fn play_events<S: Shelf>(
     ensures gone { HasGone (S.counts shelf.old) (S.counts shelf.new) (blame_of_answer result) }
 {
     for i in 0..events.len() {
-        play_event(shelf, i as u32, &events.get(i), packets, playout)?;
+        match play_event(shelf, i as u32, &events.get(i), packets, playout) {
+            Ok(()) => {}
+            Err(status) => return Err(status),
+        }
     }
     Ok(())
 }

@@ -1,9 +1,7 @@
-use Rattle.std.proofs.Common.{◌≡◌, ◌+◌, [], Ok, Err, length, ap, sym, subst, ◌∙◌, arith}
+use Rattle.std.proofs.Common.{◌≡◌, ◌+◌, Ok, Err, length, ap, sym, ◌∙◌, arith}
 use Rattle.std.proofs.lemmas.List.{length_push}
 use Rattle.std.proofs.lemmas.List.Elements.{All-push}
-use Rattle.std.proofs.lemmas.Result.{err_from_is_err_and}
-use Rattle.toml.specs.View.{view, items_view}
-use Rattle.dtx_plan.specs.Rows.{IsAnswer, entries}
+use Rattle.toml.specs.View.{view}
 use Rattle.dtx_plan.specs.EventTable.{event_after, event_at}
 use Rattle.dtx_plan.specs.Sound.{IsEvent}
 use Rattle.dtx_plan.proofs.Entries.{entries_next, entries_refused, entries_end}
@@ -14,31 +12,29 @@ loop-value-preserved c =
     let ts = c.args.transmitters.now in
     let all = c.loop-value.all.items in
     let value = c.value-item.result in
-    let next = c.in_ok-next.next in
+    let next = c.in-Ok.next in
     let old = c.loop-value.invariant in
     let number : length all ≡ c.len.result = omega arith in
     let read : event_after ts all (view value) ≡ Ok next =
-    ap (λ n. event_at ts n (view value)) number ∙ sym c.in_ok-next.ensures.walk in
+    ap (λ n. event_at ts n (view value)) number ∙ sym c.in-Ok.ensures.walk in
     record {
       count = rw c.in_ok-push.ensures.items (length_push all next ∙ ap (λ n. n + 1) old.count);
       same = rw c.in_ok-push.ensures.items (entries_next (event_after ts) all c.args.values.now c.loop-value.value-index
           value next c.loop-value-test.true c.value-item.is read ∙ old.same);
-      each = rw c.in_ok-push.ensures.items (All-push (IsEvent ts) all next old.each c.in_ok-next.ensures.sound);
+      each = rw c.in_ok-push.ensures.items (All-push (IsEvent ts) all next old.each c.in-Ok.ensures.sound);
     }
 
-pub returns-in_err-next-clause-walk : goal.returns-in_err-next-clause-walk
-returns-in_err-next-clause-walk c =
+pub returns-in-Err-clause-walk : goal.returns-in-Err-clause-walk
+returns-in-Err-clause-walk c =
     let ts = c.args.transmitters.now in
     let all = c.loop-value.all.items in
     let value = c.value-item.result in
-    let refusal = c.in_err-next.field-0.0 in
-    let p = err_from_is_err_and c.from_residual.result c.from_residual.ensures.1 in
+    let refusal = c.in-Err.refusal in
     let number : length all ≡ c.len.result = omega arith in
     let refused : event_after ts all (view value) ≡ Err refusal =
-    ap (λ n. event_at ts n (view value)) number ∙ sym c.in_err-next.ensures.walk in
-    subst (IsAnswer (entries (event_after ts) [] (items_view c.args.values.now))) (sym (p.1 ∙ ap Err p.2))
-    (sym c.loop-value.invariant.same ∙ entries_refused (event_after ts) all c.args.values.now c.loop-value.value-index
-    value refusal c.loop-value-test.true c.value-item.is refused)
+    ap (λ n. event_at ts n (view value)) number ∙ sym c.in-Err.ensures.walk in
+    sym c.loop-value.invariant.same ∙ entries_refused (event_after ts) all c.args.values.now c.loop-value.value-index
+    value refusal c.loop-value-test.true c.value-item.is refused
 
 pub returns-clause-walk : goal.returns-clause-walk
 returns-clause-walk c =

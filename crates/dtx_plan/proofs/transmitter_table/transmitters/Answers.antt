@@ -13,9 +13,9 @@ loop-value-init c = record {
 
 pub loop-value-preserved : goal.loop-value-preserved
 loop-value-preserved c = record {
-  count = rw c.in_ok-push.ensures.ok (length_push c.loop-value.found c.in_ok-next.next
+  count = rw c.in_ok-push.ensures.ok (length_push c.loop-value.found c.in-Ok.next
       ∙ ap (λ n. n + 1) c.loop-value.invariant.count);
   same = grind (arith, common_steps);
-  distinct = rw c.in_ok-push.ensures.ok (distinct_more c.loop-value.found c.in_ok-next.next
+  distinct = rw c.in_ok-push.ensures.ok (distinct_more c.loop-value.found c.in-Ok.next
       c.loop-value.invariant.distinct (search rules));
 }

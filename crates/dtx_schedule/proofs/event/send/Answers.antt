@@ -1,37 +1,32 @@
-use Rattle.std.proofs.Common.{◌≡◌, ◌+◌, ◌-◌, ◌++◌, List, refl, sym, ap, subst, ◌∙◌, arith}
-use Rattle.std.specs.Prelude.{Err}
+use Rattle.std.proofs.Common.{◌≡◌, ◌+◌, ◌-◌, ◌++◌, List, refl, ap, subst, ◌∙◌, arith}
 use Rattle.std.proofs.lemmas.Grind.{common_steps}
-use Rattle.std.proofs.lemmas.Result.{err_from_is_err_and}
 use Rattle.dtx_meaning.specs.Status.{IsFault}
 use Rattle.dtx_packets.specs.Packets.{packets_from}
 use Rattle.dtx_net.specs.Steps.{Step}
-use Rattle.dtx_schedule.specs.PlayedSoFar.{IsDoneOf, IsPlayedSoFar, IsUnderWay, packet_steps}
+use Rattle.dtx_schedule.specs.PlayedSoFar.{IsPlayedSoFar, IsUnderWay, packet_steps}
 use Rattle.dtx_schedule.proofs.EventSteps.{piece_on}
 use Rattle.dtx_schedule.proofs.event.send.Goals as goal
 
-pub returns-in_err-count-clause-done : goal.returns-in_err-count-clause-done
-returns-in_err-count-clause-done g c = λ ts held before feed there within is.
+pub returns-in-Err-clause-done : goal.returns-in-Err-clause-done
+returns-in-Err-clause-done g c = λ ts held before feed there within is.
     let part = c.args.part.now in
     let given = c.loop-given.given in
     let so_far : List Step = before ++ packet_steps c.args.who (packets_from feed part.from given) in
     let less = c.loop-given-test.true in
     let now = g.S.Shelf.files c.send_piece.new.shelf in
-    let status = c.in_err-count.field-0.0 in
-    let p = err_from_is_err_and c.from_residual.result c.from_residual.ensures.1 in
+    let status = c.in-Err.status in
     let all : given + (part.count - given) ≡ part.count = omega (arith, less) in
-    subst (λ r. IsDoneOf ts (before ++ packet_steps c.args.who (packets_from feed part.from part.count)) held r
-    c.send_piece.new.playout now) (sym (p.1 ∙ ap Err p.2))
-    (subst (λ (steps : List Step). IsFault status × IsUnderWay ts steps held now)
+    subst (λ (steps : List Step). IsFault status × IsUnderWay ts steps held now)
     (piece_on before c.args.who feed part.from given (part.count - given)
     ∙ ap (λ n. before ++ packet_steps c.args.who (packets_from feed part.from n)) all)
-    (c.in_err-count.ensures.done ts held so_far feed there (omega (arith, within, less))
-    (c.loop-given.invariant.done ts held before feed there within is)))
+    (c.in-Err.ensures.done ts held so_far feed there (omega (arith, within, less))
+    (c.loop-given.invariant.done ts held before feed there within is))
 
 pub loop-given-preserved : goal.loop-given-preserved
 loop-given-preserved g c =
     let old = c.loop-given.invariant in
     let given = c.loop-given.given in
-    let counted = c.in_ok-count.ensures.count in
+    let counted = c.in-Ok.ensures.count in
     record {
       in_range = omega (arith, old.in_range, counted.1);
       room = omega (arith, old.room, c.send_piece.auto.packets);
@@ -40,10 +35,10 @@ loop-given-preserved g c =
           let so_far : List Step = before ++ packet_steps c.args.who (packets_from feed part.from given) in
           let less = c.loop-given-test.true in
           subst (λ steps. IsPlayedSoFar ts steps held c.send_piece.new.playout (g.S.Shelf.files c.send_piece.new.shelf))
-          (piece_on before c.args.who feed part.from given c.in_ok-count.count)
-          (c.in_ok-count.ensures.done ts held so_far feed there (omega (arith, within, less))
+          (piece_on before c.args.who feed part.from given c.in-Ok.count)
+          (c.in-Ok.ensures.done ts held so_far feed there (omega (arith, within, less))
           (old.done ts held before feed there within is));
-      there = c.in_ok-count.ensures.there refl;
+      there = c.in-Ok.ensures.there refl;
       count = omega (arith, old.count, counted.2);
       gone = grind (arith, common_steps);
     }

@@ -1,34 +1,30 @@
-use Rattle.std.proofs.Common.{◌≡◌, [], ◌∷◌, ◌+◌, ◌-◌, ◌++◌, List, map, refl, sym, ap, subst, ◌∙◌, arith}
-use Rattle.std.specs.Prelude.{Err}
+use Rattle.std.proofs.Common.{◌≡◌, [], ◌∷◌, ◌+◌, ◌-◌, ◌++◌, List, map, refl, ap, subst, ◌∙◌, arith}
 use Rattle.std.specs.List.{range_with_len}
 use Rattle.std.proofs.lemmas.Grind.{common_steps}
-use Rattle.std.proofs.lemmas.Result.{err_from_is_err_and}
 use Rattle.dtx_make.specs.Made.{made_packet}
 use Rattle.dtx_net.specs.Steps.{Step, packet_step}
-use Rattle.dtx_schedule.specs.PlayedSoFar.{IsDoneOf, IsPlayedSoFar, packet_steps}
+use Rattle.dtx_schedule.specs.PlayedSoFar.{IsPlayedSoFar, packet_steps}
 use Rattle.dtx_schedule.proofs.SoFar.{fault_more, numbered_on, numbered_rest}
 use Rattle.dtx_schedule.proofs.giving.give_made.Goals as goal
 
-pub returns-in_err-give-clause-done : goal.returns-in_err-give-clause-done
-returns-in_err-give-clause-done g c = λ ts held before is.
+pub returns-in-Err-clause-done : goal.returns-in-Err-clause-done
+returns-in-Err-clause-done g c = λ ts held before is.
     let who = c.args.who in
     let part = c.args.part.now in
     let i = c.loop-i.i in
-    let status = c.in_err-give.field-0.0 in
+    let status = c.in-Err.status in
     let now = g.S.Shelf.files c.give.new.shelf in
-    let p = err_from_is_err_and c.from_residual.result c.from_residual.ensures.1 in
     let so_far : List Step = before ++ packet_steps who (map (made_packet part.seed) (range_with_len part.from i)) in
     let more = part.count - (i + 1) in
     let rest : List Step = packet_steps who (map (made_packet part.seed) (range_with_len (part.from + (i + 1)) more)) in
     let all : List Step =
     before ++ packet_steps who (map (made_packet part.seed) (range_with_len part.from part.count)) in
     let whole : (i + 1) + more ≡ part.count = omega (arith, c.loop-i-test.true) in
-    subst (λ r. IsDoneOf ts all held r c.give.new.self now) (sym (p.1 ∙ ap Err p.2))
-    (fault_more ts (so_far ++ packet_step who c.packet.result.0 ∷ []) rest all held status now
+    fault_more ts (so_far ++ packet_step who c.packet.result.0 ∷ []) rest all held status now
     (ap (λ steps. steps ++ rest) (ap (λ p. so_far ++ packet_step who p ∷ []) c.packet.ensures
     ∙ numbered_on before who (made_packet part.seed) part.from i)
     ∙ numbered_rest before who (made_packet part.seed) part.from (i + 1) more part.count whole)
-    (c.in_err-give.ensures.done ts held so_far (c.loop-i.invariant.done ts held before is)))
+    (c.in-Err.ensures.done ts held so_far (c.loop-i.invariant.done ts held before is))
 
 pub loop-i-preserved : goal.loop-i-preserved
 loop-i-preserved g c = record {
@@ -40,9 +36,9 @@ loop-i-preserved g c = record {
       subst (λ steps. IsPlayedSoFar ts steps held c.give.new.self (g.S.Shelf.files c.give.new.shelf))
       (ap (λ p. so_far ++ packet_step who p ∷ []) c.packet.ensures
       ∙ numbered_on before who (made_packet part.seed) part.from c.loop-i.i)
-      (c.in_ok-give.ensures.done ts held so_far (c.loop-i.invariant.done ts held before is));
-  there = c.in_ok-give.ensures.there refl;
-  count = c.in_ok-give.ensures.steps refl ∙ omega (arith, c.loop-i.invariant.count);
+      (c.in-Ok.ensures.done ts held so_far (c.loop-i.invariant.done ts held before is));
+  there = c.in-Ok.ensures.there refl;
+  count = c.in-Ok.ensures.steps refl ∙ omega (arith, c.loop-i.invariant.count);
   gone = grind (arith, common_steps);
 }
 

@@ -1,11 +1,9 @@
 use Rattle.std.proofs.Common.{◌≡◌, [], ◌+◌, ◌++◌, List, length, take, drop, refl, sym, ap, subst, ◌∙◌, arith}
-use Rattle.std.specs.Prelude.{Err}
 use Rattle.std.proofs.Math.Seq.{take-length}
 use Rattle.std.proofs.lemmas.Grind.{common_steps}
-use Rattle.std.proofs.lemmas.Result.{err_from_is_err_and}
 use Rattle.dtx_packets.specs.Packets.{packets_of, whole_packets}
 use Rattle.dtx_net.specs.Steps.{Step, schedule, steps_of}
-use Rattle.dtx_schedule.specs.PlayedSoFar.{IsDoneOf, IsPlayedSoFar}
+use Rattle.dtx_schedule.specs.PlayedSoFar.{IsPlayedSoFar}
 use Rattle.dtx_schedule.proofs.ScheduleOn.{event_at, nothing_yet, schedule_on, schedule_rest, stays_within}
 use Rattle.dtx_schedule.proofs.SoFar.{fault_more}
 use Rattle.dtx_schedule.proofs.PlayoutOn.{none_given}
@@ -26,23 +24,21 @@ pub play_event-requires-clause-event : goal.play_event-requires-clause-event
 play_event-requires-clause-event g c =
     event_at c.args.events.now c.loop-i.i c.get.result c.requires.events.each c.get.ensures
 
-pub returns-in_err-play_event-clause-done : goal.returns-in_err-play_event-clause-done
-returns-in_err-play_event-clause-done g c = λ ts held feed there inside is.
+pub returns-in-Err-clause-done : goal.returns-in-Err-clause-done
+returns-in-Err-clause-done g c = λ ts held feed there inside is.
     let events = c.args.events.now in
     let i = c.loop-i.i in
     let stream = packets_of feed in
-    let status = c.in_err-play_event.field-0.0 in
+    let status = c.in-Err.status in
     let now = g.S.Shelf.files c.play_event.new.shelf in
-    let p = err_from_is_err_and c.from_residual.result c.from_residual.ensures.1 in
     let rest : List Step = schedule ts stream (drop (i + 1) events) in
-    subst (λ r. IsDoneOf ts (schedule ts stream events) held r c.play_event.new.playout now) (sym (p.1 ∙ ap Err p.2))
-    (fault_more ts (schedule ts stream (take i events) ++ steps_of ts stream c.get.result) rest
+    fault_more ts (schedule ts stream (take i events) ++ steps_of ts stream c.get.result) rest
     (schedule ts stream events) held status now
     (ap (λ steps. steps ++ rest) (schedule_on ts stream events i c.get.result c.get.ensures)
     ∙ schedule_rest ts stream events (i + 1))
-    (c.in_err-play_event.ensures.done ts held (schedule ts stream (take i events)) feed there
+    (c.in-Err.ensures.done ts held (schedule ts stream (take i events)) feed there
     (stays_within events (whole_packets feed) i c.get.result inside c.get.ensures)
-    (c.loop-i.invariant.done ts held feed there inside is)))
+    (c.loop-i.invariant.done ts held feed there inside is))
 
 pub loop-i-preserved : goal.loop-i-preserved
 loop-i-preserved g c =
@@ -54,11 +50,11 @@ loop-i-preserved g c =
           let i = c.loop-i.i in
           subst (λ steps. IsPlayedSoFar ts steps held c.play_event.new.playout (g.S.Shelf.files c.play_event.new.shelf))
           (schedule_on ts (packets_of feed) events i c.get.result c.get.ensures)
-          (c.in_ok-play_event.ensures.done ts held (schedule ts (packets_of feed) (take i events)) feed there
+          (c.in-Ok.ensures.done ts held (schedule ts (packets_of feed) (take i events)) feed there
           (stays_within events (whole_packets feed) i c.get.result inside c.get.ensures)
           (old.done ts held feed there inside is));
-      some = c.in_ok-play_event.ensures.some refl;
-      count = omega (arith, c.in_ok-play_event.ensures.steps refl, old.count);
+      some = c.in-Ok.ensures.some refl;
+      count = omega (arith, c.in-Ok.ensures.steps refl, old.count);
       gone = grind (arith, common_steps);
     }
 
