@@ -14,7 +14,7 @@ pub const MOST_TRIAL: u64 = 1_000_000;
 pub const MOST_SCALE: u64 = 18;
 
 /// A command, which the first word names, or the first two.
-#[derive(Clone, Copy, Debug, PartialEq, Eq)]
+#[derive(Clone, Copy, PartialEq, Eq)]
 pub enum Command {
     /// `adapt PLAN IN OUT`
     Adapt,
