@@ -8,7 +8,7 @@ ghost use Rattle.dtx_engine.specs.Recipe.{AreSomeGiven, AreUnitsGiven, Recipe, I
 use dtx_meaning::Outcome;
 
 /// In which units an input is read.
-#[derive(Clone, Copy, Debug, PartialEq, Eq)]
+#[derive(Clone, Copy)]
 pub struct Shape {
     /// How many bytes a unit has.
     pub unit: usize,

@@ -6,7 +6,7 @@ ghost use Rattle.dtx_outside.specs.declared.sink.SinkNo.TheVariants.{Memory};
 use std::alloc::AllocError;
 
 /// Why bytes were not printed.
-#[derive(Clone, Copy, Debug, PartialEq, Eq)]
+#[derive(Clone, Copy, PartialEq, Eq)]
 pub enum SinkNo {
     /// Writing failed.
     Failed,

@@ -1,6 +1,7 @@
 -- Where a reader of packets stands, and what it answers next.
-use Rattle.std.specs.Prelude.{◌≡◌, ℕ, ◌+◌, ◌-◌, ◌*◌, ◌<◌, ◌≤◌, min, List, length, take, drop, map, Option, Some, None}
-use Rattle.std.specs.Prelude.{Result, Ok, Err, IsSomeAnd}
+use Rattle.std.specs.Prelude.{◌≡◌, ℕ, ◌+◌, ◌-◌, ◌*◌, ◌/◌, ◌<◌, ◌≤◌, min, List, length, take, drop, map}
+use Rattle.std.specs.Prelude.{Option, Some, None, Result, Ok, Err, IsSomeAnd, IfOk, OnErr, IsErrOf}
+use Rattle.dtx_sizes.specs.declared.packets.TheConstants.{PACKET}
 use Rattle.dtx_packets.specs.declared.packet.Packet.{Packet}
 use Rattle.dtx_packets.specs.declared.refusal.NextNo.{NextNo}
 use Rattle.dtx_packets.specs.declared.refusal.NextNo.TheVariants.{Absent, Failed, Memory, TooLong}
@@ -58,3 +59,25 @@ IsAdvance found old (Ok n) bytes new = IsSomeAnd found (λ file.
     IsCount file old (whole_packets bytes) n new
     × (take (188 * n) bytes ≡ take (188 * n) (drop (188 * next_of old) file)))
 IsAdvance found old (Err refusal) bytes new = IsRefused found old refusal
+
+-- what a reader that had room for so many packets answers and keeps, whatever the file
+pub record IsLeft (old : Reading) (room : ℕ) (result : Result ℕ NextNo) (new : Reading) : Type 0 where
+  pub count : IfOk result (λ n. n ≤ room)
+  pub packets : IfOk result (λ n. 0 < n →
+      (old.given + n ≤ old.limit) × (new ≡ record old { given = old.given + n; loose = 0 }))
+  pub end : result ≡ Ok 0 → (new.loose < PACKET) × (new ≡ record old { loose = new.loose })
+  pub err : OnErr result (new ≡ old)
+  pub too_long : IsErrOf result TooLong → old.given ≡ old.limit
+
+-- places behind the packets that were put there are as they were, and all of them after a refusal
+pub record IsPlaced (result : Result ℕ NextNo) (old new : List Packet) : Type 0 where
+  pub rest : IfOk result (λ n. drop n new ≡ drop n old)
+  pub err_rest : OnErr result (new ≡ old)
+
+-- what is answered of so many bytes that were read, and where the reader stands then
+abbrev pub IsStep : Reading → ℕ → Result ℕ NextNo → Reading → Type 0
+IsStep old filled (Ok n) new = (n ≡ filled / 188)
+    × (n ≡ 0 → new ≡ record old { loose = filled })
+    × (0 < n → (old.given < old.limit) × (new ≡ record old { given = old.given + n; loose = 0 }))
+IsStep old filled (Err refusal) new =
+    (refusal ≡ TooLong) × (188 ≤ filled) × (old.given ≡ old.limit) × (new ≡ old)

@@ -1,5 +1,6 @@
 // The packets of a file, one after another or many at a time.
-ghost use Rattle.std.specs.Prelude.{◌≡◌, ◌≤◌, ◌<◌, ◌+◌, ◌*◌, ◌/◌, length, drop, IfOk, IfSome, IsErrOf, OnErr, Ok, None};
+ghost use Rattle.std.specs.Prelude.{◌≡◌, ◌≤◌, ◌<◌, ◌+◌, ◌-◌, ◌*◌, ◌/◌, length, drop, max};
+ghost use Rattle.std.specs.Prelude.{IfOk, IfSome, IsErrOf, OnErr, Ok, None};
 ghost use Rattle.std.specs.FinMap as map;
 ghost use Rattle.dtx_outside.specs.Counts.{HasGone};
 ghost use Rattle.dtx_packets.specs.Packets.{most_packets};
@@ -46,7 +47,7 @@ impl Model for PacketReader {
 }
 
 impl PacketReader {
-    ghost use Rattle.dtx_packets.specs.Reading.{Reading, IsNext, AreNext, IsAdvance};
+    ghost use Rattle.dtx_packets.specs.Reading.{IsNext, AreNext, IsAdvance, IsLeft, IsPlaced, IsStep};
 
     /// A reader from the first packet on.
     pub fn new(limit: u64) -> PacketReader
@@ -155,16 +156,8 @@ impl PacketReader {
         requires room { length bytes.old ≡ length into.old * PACKET }
         ensures told { IfSome (S.files shelf.old) (λ held.
             AreNext (map.get held name.now) self.old result into.new self.new) }
-        ensures count { IfOk result (λ n. n ≤ length into.new) }
-        ensures rest { IfOk result (λ n. drop n into.new ≡ drop n into.old) }
-        ensures packets { IfOk result (λ n. 0 < n →
-            (self.old.given + n ≤ self.old.limit)
-            × (self.new ≡ record self.old { given = self.old.given + n; loose = 0 })) }
-        ensures end { result ≡ Ok 0 → (self.new.loose < PACKET)
-            × (self.new ≡ record self.old { loose = self.new.loose }) }
-        ensures err { OnErr result (self.new ≡ self.old) }
-        ensures err_rest { OnErr result (into.new ≡ into.old) }
-        ensures too_long { IsErrOf result NextNo.TooLong → self.old.given ≡ self.old.limit }
+        ensures left { IsLeft self.old (length into.new) result self.new }
+        ensures places { IsPlaced result into.old into.new }
         ensures gone { HasGone (S.counts shelf.old) (S.counts shelf.new) (blame_of_next result) }
         ensures kept { S.files shelf.new ≡ S.files shelf.old }
     {
@@ -188,31 +181,37 @@ impl PacketReader {
         requires fits { length bytes.old ≤ PIECE }
         ensures told { IfSome (S.files shelf.old) (λ held.
             IsAdvance (map.get held name.now) self.old result bytes.new self.new) }
-        ensures count { IfOk result (λ n. n ≤ length bytes.new / PACKET) }
-        ensures packets { IfOk result (λ n. 0 < n →
-            (self.old.given + n ≤ self.old.limit)
-            × (self.new ≡ record self.old { given = self.old.given + n; loose = 0 })) }
-        ensures end { result ≡ Ok 0 → (self.new.loose < PACKET)
-            × (self.new ≡ record self.old { loose = self.new.loose }) }
-        ensures err { OnErr result (self.new ≡ self.old) }
-        ensures too_long { IsErrOf result NextNo.TooLong → self.old.given ≡ self.old.limit }
+        ensures left { IsLeft self.old (length bytes.new / PACKET) result self.new }
         ensures gone { HasGone (S.counts shelf.old) (S.counts shelf.new) (blame_of_next result) }
         ensures kept { S.files shelf.new ≡ S.files shelf.old }
     {
-        let left = self.limit - self.given;
         // Where the limit is reached, one packet more shows whether the file is longer.
-        let wanted = (bytes.len() / PACKET).min(left.max(1) as usize);
+        let wanted = (bytes.len() / PACKET).min(self.left().max(1) as usize);
         let place = (self.first + self.given) * PACKET as u64;
-        let filled = match fill(shelf, name, place, &mut bytes[..wanted * PACKET]) {
-            Ok(filled) => filled,
-            Err(no) => return Err(NextNo::from(no)),
-        };
+        match fill(shelf, name, place, &mut bytes[..wanted * PACKET]) {
+            Ok(filled) => self.step_over(filled),
+            Err(no) => Err(NextNo::from(no)),
+        }
+    }
+
+    /// How many packets the limit still allows.
+    fn left(&self) -> u64
+        ensures { result ≡ self.now.limit - self.now.given }
+    {
+        self.limit - self.given
+    }
+
+    /// Steps over the whole packets of so many bytes that were read, and answers how many they are.
+    fn step_over(&mut self, filled: usize) -> Result<usize, NextNo>
+        requires { filled / PACKET ≤ max 1 (self.old.limit - self.old.given) }
+        ensures { IsStep self.old filled result self.new }
+    {
         let count = filled / PACKET;
         if count == 0 {
             self.loose = filled as u8;
             return Ok(0);
         }
-        if left == 0 {
+        if self.left() == 0 {
             return Err(NextNo::TooLong);
         }
         self.given += count as u64;

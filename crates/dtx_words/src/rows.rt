@@ -14,7 +14,7 @@ pub const MOST_TRIAL: u64 = 1_000_000;
 pub const MOST_SCALE: u64 = 18;
 
 /// A command, which the first word names, or the first two.
-#[derive(Clone, Copy, Debug, PartialEq, Eq)]
+#[derive(Clone, Copy, PartialEq, Eq)]
 pub enum Command {
     /// `adapt PLAN IN OUT`
     Adapt,
@@ -87,7 +87,6 @@ pub enum Field {
 }
 
 /// All that is to be said of a command's words and of its line.
-#[derive(Clone, Copy)]
 pub(crate) struct CommandRow {
     /// Its word.
     pub verb: &'static str,
@@ -313,25 +312,25 @@ const WATCH: CommandRow = CommandRow {
 };
 
 /// The row of a command.
-pub(crate) fn row(command: Command) -> CommandRow
-    ensures { row_behind result ≡ row_of command }
+pub(crate) fn row(command: Command) -> &'static CommandRow
+    ensures { row_behind result.now ≡ row_of command }
 {
     match command {
-        Command::Adapt => ADAPT,
-        Command::Code => CODE,
-        Command::Excite => EXCITE,
-        Command::Receive => RECEIVE,
-        Command::Net => NET,
-        Command::Make => MAKE,
-        Command::Hurt => HURT,
-        Command::Place => PLACE,
-        Command::Trial => TRIAL,
-        Command::Soft => SOFT,
-        Command::Mend => MEND,
-        Command::DvbCode => DVB_CODE,
-        Command::DvbRead => DVB_READ,
-        Command::Repeat => REPEAT,
-        Command::Acquire => ACQUIRE,
-        Command::Watch => WATCH,
+        Command::Adapt => &ADAPT,
+        Command::Code => &CODE,
+        Command::Excite => &EXCITE,
+        Command::Receive => &RECEIVE,
+        Command::Net => &NET,
+        Command::Make => &MAKE,
+        Command::Hurt => &HURT,
+        Command::Place => &PLACE,
+        Command::Trial => &TRIAL,
+        Command::Soft => &SOFT,
+        Command::Mend => &MEND,
+        Command::DvbCode => &DVB_CODE,
+        Command::DvbRead => &DVB_READ,
+        Command::Repeat => &REPEAT,
+        Command::Acquire => &ACQUIRE,
+        Command::Watch => &WATCH,
     }
 }
