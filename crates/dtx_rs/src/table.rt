@@ -1,7 +1,7 @@
 //! The table by which four bytes of data are divided in one step.
 
-ghost use Rattle.std.specs.Prelude.{◌≡◌, ℕ, ◌+◌, ◌-◌, ◌*◌, ◌/◌, ◌%◌, ◌<◌, ◌≤◌, [], ◌∷◌, ◌++◌, drop, length, map, replicate};
-ghost use Rattle.std.specs.Prelude.{slice_index, slice_index_or, slice_set, take};
+ghost use Rattle.std.specs.Prelude.{◌≡◌, ℕ, ◌+◌, ◌-◌, ◌*◌, ◌/◌, ◌%◌, ◌<◌, ◌≤◌, [], ◌∷◌, ◌++◌, drop, length, map};
+ghost use Rattle.std.specs.Prelude.{replicate, slice_index, slice_index_or, slice_set, take};
 ghost use Rattle.dtx_galois.specs.Word.{sums};
 ghost use Rattle.dtx_laws.specs.Register.{fed, register};
 ghost use Rattle.dtx_rs.specs.Table.{row, word_bytes};
