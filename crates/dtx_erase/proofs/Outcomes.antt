@@ -1,9 +1,9 @@
 -- The answers of what mends, from those of a corrector and of the final test.
-use Rattle.std.proofs.Common.{◌≡◌, ℕ, ◌≤◌, List, Bool, length, take, refl, sym, subst}
+use Rattle.std.proofs.Common.{◌≡◌, ◌↔◌, ℕ, ◌+◌, ◌*◌, ◌≤◌, List, Bool, IsTrue, length, nat_le, refl, sym, subst, arith}
+use Rattle.std.proofs.lemmas.Bool.Decides.{nat_tests}
 use Rattle.std.specs.Prelude.{Result, Ok, Err, MatchResult}
 use Rattle.dtx_laws.specs.Codeword.{IsCodeword}
 use Rattle.dtx_laws.specs.Correction.{IsCorrected, IsLeft}
-use Rattle.dtx_laws.specs.WordsLaws.{one_codeword}
 use Rattle.dtx_erase.specs.Mending.{lost, IsMending, IsAnswered, IsUnmended}
 use Rattle.dtx_erase.specs.MendingLaws.{correction_mends, mending_corrects}
 
@@ -21,10 +21,15 @@ corrected_answer n k marks old new (Err e) lo lm z h = record {
 }
 
 -- what was restored is no codeword, so there was no mending
-pub not_restored : (n k : ℕ) (marks : List Bool) (word tried again : List ℕ) → n ≤ 255
-    → ((right : List ℕ) → IsMending n k marks word right → tried ≡ right) → IsCodeword n k again
-    → take k again ≡ take k tried → (again ≡ tried → ⊥) → IsUnmended n k marks word word
-not_restored n k marks word tried again l h c b d = record {
-  none = λ right p. d (one_codeword n k again tried l c (subst (IsCodeword n k) (sym (h right p)) p.codeword) b);
+pub not_restored : (n k : ℕ) (marks : List Bool) (word tried : List ℕ)
+    → ((right : List ℕ) → IsMending n k marks word right → tried ≡ right) → (IsCodeword n k tried → ⊥)
+    → IsUnmended n k marks word word
+not_restored n k marks word tried h d = record {
+  none = λ right p. d (subst (IsCodeword n k) (sym (h right p)) p.codeword);
   same = refl;
 }
+
+-- what counts as near, by counts that were taken
+pub near_is : (wrong missing distance count room : ℕ) → wrong ≡ distance → missing ≡ count
+    → IsTrue (nat_le (2 * wrong + missing) room) ↔ (2 * distance + count ≤ room)
+near_is wrong missing distance count room e f = (λ h. grind (arith, nat_tests), λ h. grind (arith, nat_tests))

@@ -1,11 +1,11 @@
 //! What mends words of a code.
 
-ghost use Rattle.std.specs.Prelude.{◌≡◌, ◌-◌, ◌≤◌, ℕ, List, MatchResult, length};
+ghost use Rattle.std.specs.Prelude.{◌≡◌, ◌↔◌, ◌+◌, ◌-◌, ◌*◌, ◌≤◌, ℕ, List, IsTrue, MatchResult, length};
 ghost use Rattle.dtx_galois.specs.Field.{AreBytes};
 ghost use Rattle.dtx_laws.specs.Codeword.{IsCode, IsCodeword};
 ghost use Rattle.dtx_laws.specs.Correction.{AreCorrected};
 ghost use Rattle.dtx_laws.specs.Syndromes.{AreSyndromes};
-ghost use Rattle.dtx_erase.specs.Mending.{IsAnswered, IsDeclined, IsMended, IsMending, lost};
+ghost use Rattle.dtx_erase.specs.Mending.{IsAnswered, IsDeclined, IsMended, IsMending, lost, unmarked_distance};
 
 use crate::marks::{first_left, lost, suspects, unmarked_distance};
 use crate::mender::Mend;
@@ -71,11 +71,18 @@ impl<const N: usize, const K: usize> Erase<N, K> {
         let mut tried = *word;
         let syndromes = self.corrector.syndromes(word, &code);
         restore(&mut tried[..], &syndromes, &marks[..], K);
-        if encoded_again(self.corrector.encoder(), &tried) == tried {
+        if self.is_codeword(&tried) {
             accept::<N, K>(word, &tried, marks)
         } else {
             Err(TooMany)
         }
+    }
+
+    /// Whether a word is the codeword of its data.
+    fn is_codeword(&self, word: &[u8; N]) -> bool
+        ensures { IsTrue result ↔ IsCodeword N K word.now }
+    {
+        encoded_again(self.corrector.encoder(), word) == *word
     }
 }
 
@@ -109,14 +116,23 @@ fn accept<const N: usize, const K: usize>(
         (λ _e. IsDeclined N K marks.now code.now word.old word.new) }
     ensures long { length word.new ≡ N }
 {
-    let wrong = unmarked_distance(&marks[..], &word[..], &code[..]) as usize;
-    if 2 * wrong + lost(&marks[..]) <= N - K {
+    if is_near(word, code, marks, N - K) {
         let changed = distance(&word[..], &code[..]);
         *word = *code;
         Ok(changed)
     } else {
         Err(TooMany)
     }
+}
+
+/// Whether a codeword is so near to a word that so many parity bytes are enough.
+fn is_near<const N: usize>(word: &[u8; N], code: &[u8; N], marks: &[bool; N], room: usize) -> bool
+    requires few { N ≤ 255 }
+    requires room { room ≤ N }
+    ensures { IsTrue result ↔ (2 * unmarked_distance marks.now word.now code.now + lost marks.now ≤ room) }
+{
+    let wrong = unmarked_distance(&marks[..], &word[..], &code[..]) as usize;
+    2 * wrong + lost(&marks[..]) <= room
 }
 
 /// Makes a word its mending, where it has one, by its syndromes.

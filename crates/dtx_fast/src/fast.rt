@@ -113,8 +113,22 @@ impl<const N: usize, const K: usize> Fast<N, K> {
         if let Some(count) = mend_few(&self.guesses, &mut word[..], &syndromes, K) {
             return Ok(count);
         }
+        self.correct_by_recurrence(&syndromes, word)
+    }
+
+    /// Corrects a word by the shortest recurrence of its syndromes.
+    fn correct_by_recurrence(
+        &self,
+        syndromes: &[u8; ROOM],
+        word: &mut [u8; N],
+    ) -> Result<u8, TooMany>
+        requires bytes { AreBytes word.old }
+        requires values { AreSyndromes (N - K) word.old syndromes.now }
+        ensures answer { MatchResult result (IsCorrected N K word.old word.new) (λ _e. IsLeft N K word.old word.new) }
+        ensures long { length word.new ≡ N }
+    {
         let mut tried = *word;
-        repair(&self.tables, &mut tried[..], &syndromes, K);
+        repair(&self.tables, &mut tried[..], syndromes, K);
         accept(&self.encoder, word, &tried)
     }
 }

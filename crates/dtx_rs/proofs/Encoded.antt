@@ -99,7 +99,7 @@ four_parities n k divisor table words parities one two three four code few d t e
     at (suc (suc (suc (suc p)))) l = absurd (omega arith)
 
 -- with its data's parity bytes behind them, a word is a codeword
-put_codeword : (n k : ℕ) (divisor table head parity word new : List ℕ) → IsCode n k → n - k ≤ 20
+pub put_codeword : (n k : ℕ) (divisor table head parity word new : List ℕ) → IsCode n k → n - k ≤ 20
     → divisor ≡ generator (n - k) ++ replicate (256 - (n - k)) 0 → table ≡ take 20 divisor
     → IsFront k head word → length word ≡ n → parity ≡ register table (replicate 20 0) head
     → new ≡ take k word ++ take (length word - k) parity → new ≡ codeword n k (take k word)
@@ -124,26 +124,12 @@ four_joined n k words one two three four code are =
     sym (ap (completed n k 4) are.joined
     ∙ completed_four n k one two three four (omega (arith, code.longer)) are.first are.second are.third)
 
-pub put_four : (n k : ℕ) (divisor table : List ℕ) (parities : List (List ℕ))
-    (words one two three four head1 head2 head3 head4 new1 new2 new3 new4 : List ℕ)
-    → IsCode n k → n - k ≤ 20 → divisor ≡ generator (n - k) ++ replicate (256 - (n - k)) 0 → table ≡ take 20 divisor
-    → parities ≡ map (register table (replicate 20 0)) (head1 ∷ head2 ∷ head3 ∷ head4 ∷ [])
+pub four_completed : (n k : ℕ) (words one two three four new1 new2 new3 new4 : List ℕ) → IsCode n k
     → AreFour n words one two three four
-    → IsFront k head1 one → IsFront k head2 two → IsFront k head3 three → IsFront k head4 four
-    → new1 ≡ take k one ++ take (length one - k) (get_or parities 0 [])
-    → new2 ≡ take k two ++ take (length two - k) (get_or parities 1 [])
-    → new3 ≡ take k three ++ take (length three - k) (get_or parities 2 [])
-    → new4 ≡ take k four ++ take (length four - k) (get_or parities 3 [])
-    → new1 ++ (new2 ++ (new3 ++ new4)) ≡ completed n k 4 words
-put_four n k divisor table parities words one two three four head1 head2 head3 head4 new1 new2 new3 new4 code few d t e
-    are f1 f2 f3 f4 e1 e2 e3 e4 =
-    ap₂ (λ x y. x ++ y)
-    (put_codeword n k divisor table head1 _ one new1 code few d t f1 are.first (ap (λ ps. get_or ps 0 []) e) e1)
-    (ap₂ (λ x y. x ++ y)
-    (put_codeword n k divisor table head2 _ two new2 code few d t f2 are.second (ap (λ ps. get_or ps 1 []) e) e2)
-    (ap₂ (λ x y. x ++ y)
-    (put_codeword n k divisor table head3 _ three new3 code few d t f3 are.third (ap (λ ps. get_or ps 2 []) e) e3)
-    (put_codeword n k divisor table head4 _ four new4 code few d t f4 are.fourth (ap (λ ps. get_or ps 3 []) e) e4)))
+    → new1 ≡ codeword n k (take k one) → new2 ≡ codeword n k (take k two) → new3 ≡ codeword n k (take k three)
+    → new4 ≡ codeword n k (take k four) → new1 ++ (new2 ++ (new3 ++ new4)) ≡ completed n k 4 words
+four_completed n k words one two three four new1 new2 new3 new4 code are e1 e2 e3 e4 =
+    ap₂ (λ x y. x ++ y) e1 (ap₂ (λ x y. x ++ y) e2 (ap₂ (λ x y. x ++ y) e3 e4))
     ∙ four_joined n k words one two three four code are
 
 -- byte by byte
@@ -165,7 +151,7 @@ IsDivided divisor word new = new ≡ take (length word - length divisor) word
     ++ register divisor (replicate (length divisor) 0) (take (length word - length divisor) word)
 
 -- of the data of a word
-register_put : (n k : ℕ) (divisor word new : List ℕ) → IsCode n k
+pub register_put : (n k : ℕ) (divisor word new : List ℕ) → IsCode n k
     → divisor ≡ generator (n - k) ++ replicate (256 - (n - k)) 0 → length word ≡ n → AreBytes word
     → IsDivided (take (n - k) divisor) word new → new ≡ codeword n k (take k word)
 register_put n k divisor word new code d l b e =
@@ -178,16 +164,3 @@ register_put n k divisor word new code d l b e =
     (bytes_take k word b)
     (e ∙ ap (λ i. take i word ++ register (take (n - k) divisor) (replicate (length (take (n - k) divisor)) 0)
     (take i word)) count)
-
-pub register_four : (n k : ℕ) (divisor words one two three four new1 new2 new3 new4 : List ℕ) → IsCode n k
-    → divisor ≡ generator (n - k) ++ replicate (256 - (n - k)) 0 → AreFour n words one two three four
-    → AreBytes one → AreBytes two → AreBytes three → AreBytes four
-    → IsDivided (take (n - k) divisor) one new1 → IsDivided (take (n - k) divisor) two new2
-    → IsDivided (take (n - k) divisor) three new3 → IsDivided (take (n - k) divisor) four new4
-    → new1 ++ (new2 ++ (new3 ++ new4)) ≡ completed n k 4 words
-register_four n k divisor words one two three four new1 new2 new3 new4 code d are b1 b2 b3 b4 e1 e2 e3 e4 =
-    ap₂ (λ x y. x ++ y) (register_put n k divisor one new1 code d are.first b1 e1)
-    (ap₂ (λ x y. x ++ y) (register_put n k divisor two new2 code d are.second b2 e2)
-    (ap₂ (λ x y. x ++ y) (register_put n k divisor three new3 code d are.third b3 e3)
-    (register_put n k divisor four new4 code d are.fourth b4 e4)))
-    ∙ four_joined n k words one two three four code are

@@ -4,6 +4,7 @@ ghost use Rattle.std.specs.Prelude.{◌≡◌, ℕ, ◌+◌, ◌-◌, ◌<◌, �
 ghost use Rattle.dtx_galois.specs.Field.{AreBytes, pow, value};
 ghost use Rattle.dtx_laws.specs.Codeword.{IsCode};
 ghost use Rattle.dtx_laws.specs.Register.{generator};
+ghost use Rattle.dtx_laws.specs.Words.{codeword};
 ghost use Rattle.dtx_rs.specs.declared.divisor.TheConstants.{ELEMENTS};
 ghost use Rattle.dtx_rs.specs.declared.words.TheConstants.{WIDTH};
 
@@ -46,6 +47,53 @@ impl<const N: usize, const K: usize> Rs<N, K> {
     {
         eval(&word[..], ALPHA.pow(i as u32))
     }
+
+    /// Completes four words by the table.
+    #[inline(always)]
+    fn complete_by_table(&self, one: &mut [u8], two: &mut [u8], three: &mut [u8], four: &mut [u8])
+        requires few { N - K ≤ WIDTH }
+        requires one { length one.old ≡ N }
+        requires two { length two.old ≡ N }
+        requires three { length three.old ≡ N }
+        requires four { length four.old ≡ N }
+        ensures one { one.new ≡ codeword N K (take K one.old) }
+        ensures two { two.new ≡ codeword N K (take K two.old) }
+        ensures three { three.new ≡ codeword N K (take K three.old) }
+        ensures four { four.new ≡ codeword N K (take K four.old) }
+    {
+        let parities = self.table.parity_of_four(
+            front_of(one, K),
+            front_of(two, K),
+            front_of(three, K),
+            front_of(four, K),
+        );
+        put_behind_two(K, &parities[0], &parities[1], one, two);
+        put_behind_two(K, &parities[2], &parities[3], three, four);
+    }
+
+    /// Completes four words byte by byte.
+    fn complete_by_register(
+        &self,
+        one: &mut [u8],
+        two: &mut [u8],
+        three: &mut [u8],
+        four: &mut [u8],
+    )
+        requires one { length one.old ≡ N }
+        requires two { length two.old ≡ N }
+        requires three { length three.old ≡ N }
+        requires four { length four.old ≡ N }
+        ensures one { one.new ≡ codeword N K (take K one.old) }
+        ensures two { two.new ≡ codeword N K (take K two.old) }
+        ensures three { three.new ≡ codeword N K (take K three.old) }
+        ensures four { four.new ≡ codeword N K (take K four.old) }
+    {
+        let divisor = &self.divisor[..N - K];
+        complete_by_register(divisor, one);
+        complete_by_register(divisor, two);
+        complete_by_register(divisor, three);
+        complete_by_register(divisor, four);
+    }
 }
 
 impl<const N: usize, const K: usize> Encode<N, K> for Rs<N, K> {
@@ -64,22 +112,9 @@ impl<const N: usize, const K: usize> Encode<N, K> for Rs<N, K> {
         let (two, rest) = rest.split_at_mut(N);
         let (three, four) = rest.split_at_mut(N);
         if N - K <= WIDTH {
-            let parities = self.table.parity_of_four(
-                front_of(one, K),
-                front_of(two, K),
-                front_of(three, K),
-                front_of(four, K),
-            );
-            put_behind(K, &parities[0], one);
-            put_behind(K, &parities[1], two);
-            put_behind(K, &parities[2], three);
-            put_behind(K, &parities[3], four);
+            self.complete_by_table(one, two, three, four);
         } else {
-            let divisor = &self.divisor[..N - K];
-            complete_by_register(divisor, one);
-            complete_by_register(divisor, two);
-            complete_by_register(divisor, three);
-            complete_by_register(divisor, four);
+            self.complete_by_register(one, two, three, four);
         }
     }
 
@@ -122,6 +157,26 @@ fn put_behind(count: usize, parity: &[u8; WIDTH], word: &mut [u8])
     let rest = &mut word[count..];
     let room = rest.len();
     rest.copy_from_slice(&parity[..room]);
+}
+
+/// The same with two words, each with parity bytes of its own.
+#[inline(always)]
+fn put_behind_two(
+    count: usize,
+    parity: &[u8; WIDTH],
+    second: &[u8; WIDTH],
+    word: &mut [u8],
+    other: &mut [u8],
+)
+    requires word_room { count ≤ length word.old }
+    requires word_few { length word.old ≤ count + WIDTH }
+    requires other_room { count ≤ length other.old }
+    requires other_few { length other.old ≤ count + WIDTH }
+    ensures word { word.new ≡ take count word.old ++ take (length word.old - count) parity.now }
+    ensures other { other.new ≡ take count other.old ++ take (length other.old - count) second.now }
+{
+    put_behind(count, parity, word);
+    put_behind(count, second, other);
 }
 
 /// The data, and then as many parity bytes as there is room for.

@@ -1,7 +1,7 @@
 //! The table by which four bytes of data are divided in one step.
 
-ghost use Rattle.std.specs.Prelude.{◌≡◌, ℕ, ◌+◌, ◌-◌, ◌*◌, ◌/◌, ◌%◌, ◌<◌, [], ◌∷◌, ◌++◌, drop, length, map, replicate};
-ghost use Rattle.std.specs.Prelude.{slice_index, slice_index_or, slice_set, take};
+ghost use Rattle.std.specs.Prelude.{◌≡◌, ℕ, ◌+◌, ◌-◌, ◌*◌, ◌/◌, ◌%◌, ◌<◌, ◌≤◌, [], ◌∷◌, ◌++◌, drop, length, map};
+ghost use Rattle.std.specs.Prelude.{replicate, slice_index, slice_index_or, slice_set, take};
 ghost use Rattle.dtx_galois.specs.Word.{sums};
 ghost use Rattle.dtx_laws.specs.Register.{fed, register};
 ghost use Rattle.dtx_rs.specs.Table.{row, word_bytes};
@@ -58,8 +58,7 @@ impl Table {
         let first = head.len() % STEP;
         let mut state = self.started(head);
         for step in 0..head.len() / STEP {
-            let at = first + STEP * step;
-            state = self.fed(state, &[head[at], head[at + 1], head[at + 2], head[at + 3]]);
+            state = self.fed_at(state, head, first + STEP * step);
         }
         bytes_of(&joined(state))
     }
@@ -87,16 +86,10 @@ impl Table {
         let mut of_four = self.started(four);
         for step in 0..one.len() / STEP {
             let at = first + STEP * step;
-            of_one = self.fed(of_one, &[one[at], one[at + 1], one[at + 2], one[at + 3]]);
-            of_two = self.fed(of_two, &[two[at], two[at + 1], two[at + 2], two[at + 3]]);
-            of_three = self.fed(
-                of_three,
-                &[three[at], three[at + 1], three[at + 2], three[at + 3]],
-            );
-            of_four = self.fed(
-                of_four,
-                &[four[at], four[at + 1], four[at + 2], four[at + 3]],
-            );
+            of_one = self.fed_at(of_one, one, at);
+            of_two = self.fed_at(of_two, two, at);
+            of_three = self.fed_at(of_three, three, at);
+            of_four = self.fed_at(of_four, four, at);
         }
         [
             bytes_of(&joined(of_one)),
@@ -116,6 +109,18 @@ impl Table {
             rest: u32x4::splat(0),
         };
         self.fed(zeros, &padded(head))
+    }
+
+    /// The register of zeros after the data before a place, with the four bytes from that place on.
+    #[inline(always)]
+    fn fed_at(&self, state: Split, head: &[u8], at: usize) -> Split
+        requires bytes { at + STEP ≤ length head.now }
+        requires before { word_bytes (state.first ∷ state.rest)
+            ≡ register self.now.divisor (replicate WIDTH 0) (take at head.now) }
+        ensures { word_bytes (result.first ∷ result.rest)
+            ≡ register self.now.divisor (replicate WIDTH 0) (take (at + STEP) head.now) }
+    {
+        self.fed(state, &[head[at], head[at + 1], head[at + 2], head[at + 3]])
     }
 
     /// The register after four more bytes.

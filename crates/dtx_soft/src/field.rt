@@ -1,7 +1,6 @@
 //! All twelve coders of a field.
 
 ghost use Rattle.std.specs.Prelude.{◌≡◌, ℕ, ◌+◌, ◌*◌, ◌<◌, ◌≤◌, length, map, slice_index, sum};
-ghost use Rattle.std.specs.Prelude.{vec_len};
 ghost use Rattle.std.specs.List.{range_with_len};
 ghost use Rattle.dtx_soft.specs.Gaps.{AreWalked, IsBounded, gap_at};
 ghost use Rattle.dtx_soft.specs.Least.{HoldPotentials};
@@ -21,23 +20,20 @@ use dtx_sizes::{CODERS, FIELD_PACKETS, SEGMENT, SEGMENT_ROUNDS};
 /// for those of one coder, `rounds` for those of all, and `marks` for a mark of each.
 pub(crate) fn soften(
     walker: &mut Walker,
-    symbols: &mut Vec<i8>,
-    rounds: &mut Vec<[i8; LANES]>,
-    marks: &mut Vec<[u8; LANES]>,
+    symbols: &mut [i8],
+    rounds: &mut [[i8; LANES]],
+    marks: &mut [[u8; LANES]],
     segments: &mut [[i8; SEGMENT]],
 ) -> u64
     requires few { length segments.old ≤ FIELD_PACKETS }
-    requires symbols { vec_len symbols.old ≡ MAX_SYMBOLS }
-    requires rounds { vec_len rounds.old ≡ MAX_SYMBOLS }
-    requires marks { vec_len marks.old ≡ MAX_SYMBOLS }
+    requires symbols { length symbols.old ≡ MAX_SYMBOLS }
+    requires rounds { length rounds.old ≡ MAX_SYMBOLS }
+    requires marks { length marks.old ≡ MAX_SYMBOLS }
     ensures segments { IsSoftened walker.old.table.scale segments.old segments.new }
     ensures cost { result ≡ coders_distance segments.old segments.new CODERS }
     ensures potentials { HoldPotentials walker.old.table.scale (coder_symbols segments.old 11)
         walker.new.potentials.items }
     ensures table { walker.new.table ≡ walker.old.table }
-    ensures symbols { vec_len symbols.new ≡ MAX_SYMBOLS }
-    ensures rounds { vec_len rounds.new ≡ MAX_SYMBOLS }
-    ensures marks { vec_len marks.new ≡ MAX_SYMBOLS }
 {
     let count = SEGMENT_ROUNDS * segments.len();
     hold_last(walker, &mut symbols[..count], segments);

@@ -3,10 +3,10 @@
 
 ghost use Rattle.std.specs.Prelude.{◌≡◌, ◌≢◌, ◌⊎◌, ℕ, ℤ, pos, neg_ℤ, ◌+◌, ◌*◌, ◌<◌};
 ghost use Rattle.std.specs.Prelude.{◌≤◌, ◌≤ℤ◌, ◌<ℤ◌, ◌+ℤ◌, ◌-ℤ◌, length};
-ghost use Rattle.std.specs.Prelude.{slice_index, slice_index_or};
-ghost use Rattle.std.specs.Int.{int_min};
-ghost use Rattle.dtx_soft.specs.Gaps.{AreTaken, AreWalked, IsBefore, IsBounded, IsStep, gap_at, gap_or};
-ghost use Rattle.dtx_soft.specs.Squares.{AreSmall, IsSquares, even_by, odd_by, seen, within};
+ghost use Rattle.std.specs.Prelude.{FitsSigned, slice_index, slice_index_or};
+ghost use Rattle.std.specs.Int.{int_min, w16};
+ghost use Rattle.dtx_soft.specs.Gaps.{AreLesser, AreTaken, AreWalked, IsBefore, IsBounded, IsStep, gap_at, gap_or};
+ghost use Rattle.dtx_soft.specs.Squares.{AreSmall, IsSquares, across_of, even_of, odd_of, seen, within};
 ghost use Rattle.dtx_soft.specs.declared.nearest.TheConstants.{MAX_SCALE};
 
 use crate::nearest::MAX_SCALE;
@@ -40,6 +40,16 @@ pub(crate) struct SquareGaps<T> {
     pub(crate) across: T,
     pub(crate) even_tied: T,
     pub(crate) odd_tied: T,
+}
+
+/// Of the gaps of a symbol's squares and of the potentials behind it: the sum of the even ones, or 0 where it is more,
+/// the lesser of the even ones, and the same of the odd ones.
+#[derive(Drop)]
+struct Terms {
+    even_sum: i16,
+    even_minimum: i16,
+    odd_sum: i16,
+    odd_minimum: i16,
 }
 
 /// The scale, and its multiples.
@@ -148,54 +158,50 @@ fn gap_before(units: &Units, symbol: i8, squares: &SquareGaps<i16>, gap: Gap<i16
     ensures bounded { IsBounded result }
     ensures gaps { IsBefore units.now.scale symbol gap result }
 {
-    let step = sum(squares.across, gap.across);
-    let first = capped(squares.even, gap.even);
-    let second = lesser(squares.even, gap.even);
-    let third = capped(squares.odd, gap.odd);
-    let fourth = lesser(squares.odd, gap.odd);
-    let even = difference(first, third);
-    let odd = difference(second, fourth);
-    Gap {
-        even: sum(step, even),
-        odd: sum(step, odd),
-        across: difference(third, fourth),
+    let terms = terms_of(squares, gap);
+    sums_of(squares, gap, terms)
+}
+
+/// The four terms of which the gaps before a symbol come.
+#[inline(always)]
+fn terms_of(squares: &SquareGaps<i16>, gap: Gap<i16>) -> Terms
+    requires small { AreSmall squares.now }
+    requires bounded { IsBounded gap }
+    ensures { AreLesser squares.now gap result.even_sum result.even_minimum result.odd_sum result.odd_minimum }
+{
+    Terms {
+        even_sum: capped(squares.even, gap.even),
+        even_minimum: lesser(squares.even, gap.even),
+        odd_sum: capped(squares.odd, gap.odd),
+        odd_minimum: lesser(squares.odd, gap.odd),
     }
 }
 
-/// The sum of two numbers.
+/// The gaps that come of them.
 #[inline(always)]
-fn sum(number: i16, other: i16) -> i16
-    requires number_from { pos 0 ≤ℤ (number +ℤ pos 6000) }
-    requires number_to { number ≤ℤ pos 6000 }
-    requires other_from { pos 0 ≤ℤ (other +ℤ pos 6000) }
-    requires other_to { other ≤ℤ pos 6000 }
-    ensures { result ≡ number +ℤ other }
+fn sums_of(squares: &SquareGaps<i16>, gap: Gap<i16>, terms: Terms) -> Gap<i16>
+    requires small { AreSmall squares.now }
+    requires bounded { IsBounded gap }
+    requires lesser { AreLesser squares.now gap terms.even_sum terms.even_minimum terms.odd_sum terms.odd_minimum }
+    ensures even { result.even ≡ (squares.now.across +ℤ gap.across +ℤ terms.even_sum) -ℤ terms.odd_sum }
+    ensures odd { result.odd ≡ (squares.now.across +ℤ gap.across +ℤ terms.even_minimum) -ℤ terms.odd_minimum }
+    ensures across { result.across ≡ terms.odd_sum -ℤ terms.odd_minimum }
 {
-    number + other
-}
-
-/// How much a number is greater than another one.
-#[inline(always)]
-fn difference(number: i16, other: i16) -> i16
-    requires number_from { pos 0 ≤ℤ (number +ℤ pos 6000) }
-    requires number_to { number ≤ℤ pos 6000 }
-    requires other_from { pos 0 ≤ℤ (other +ℤ pos 6000) }
-    requires other_to { other ≤ℤ pos 6000 }
-    ensures { result ≡ number -ℤ other }
-{
-    number - other
+    let step = squares.across + gap.across;
+    let even = terms.even_sum - terms.odd_sum;
+    let odd = terms.even_minimum - terms.odd_minimum;
+    Gap {
+        even: step + even,
+        odd: step + odd,
+        across: terms.odd_sum - terms.odd_minimum,
+    }
 }
 
 /// The sum of two gaps, or 0 where it is more.
 #[inline(always)]
 fn capped(square: i16, gap: i16) -> i16
-    requires square_from { pos 0 ≤ℤ (square +ℤ pos 512) }
-    requires square_to { square ≤ℤ pos 512 }
-    requires gap_from { pos 0 ≤ℤ (gap +ℤ pos 2400) }
-    requires gap_to { gap ≤ℤ pos 2400 }
-    ensures value { result ≡ int_min (square +ℤ gap) (pos 0) }
-    ensures from { pos 0 ≤ℤ (result +ℤ pos 2912) }
-    ensures to { result ≤ℤ pos 0 }
+    requires { FitsSigned w16 (square +ℤ gap) }
+    ensures { result ≡ int_min (square +ℤ gap) (pos 0) }
 {
     (square + gap).min(0)
 }
@@ -203,12 +209,7 @@ fn capped(square: i16, gap: i16) -> i16
 /// The lesser of two gaps.
 #[inline(always)]
 fn lesser(square: i16, gap: i16) -> i16
-    requires square_from { pos 0 ≤ℤ (square +ℤ pos 512) }
-    requires square_to { square ≤ℤ pos 512 }
-    requires gap_from { pos 0 ≤ℤ (gap +ℤ pos 2400) }
-    ensures value { result ≡ int_min square gap }
-    ensures from { pos 0 ≤ℤ (result +ℤ pos 2400) }
-    ensures to { result ≤ℤ pos 512 }
+    ensures { result ≡ int_min square gap }
 {
     square.min(gap)
 }
@@ -243,18 +244,13 @@ fn differ(units: &Units, symbol: i8) -> SquareGaps<i16>
     ensures small { AreSmall result }
 {
     let symbol = seen(units.scale, symbol);
-    let twice = sum(symbol, symbol);
-    let four_times = sum(twice, twice);
-    let tied = difference(four_times, 1);
-    let odd = odd_gap(units, twice, four_times);
-    let nearest = within(units.four_below, four_times, units.four);
-    let beside = difference(odd, symbol);
+    let odd = odd_gap(units, symbol, 0);
     SquareGaps {
-        even: even_gap(units, twice, four_times),
+        even: even_gap(units, symbol, 0),
         odd,
-        across: sum(beside, nearest),
-        even_tied: even_gap(units, twice, tied),
-        odd_tied: odd_gap(units, twice, tied),
+        across: across_gap(units, symbol, odd),
+        even_tied: even_gap(units, symbol, 1),
+        odd_tied: odd_gap(units, symbol, 1),
     }
 }
 
@@ -268,39 +264,52 @@ fn seen(scale: u8, symbol: i8) -> i16
     if scale == 0 { 0 } else { symbol as i16 }
 }
 
-/// How the squares of levels 0 or 4 and 2 or 6 differ.
+/// How the squares of levels 0 or 4 and 2 or 6 differ, with 1 more where the second of equal ones comes first.
 #[inline(always)]
-fn even_gap(units: &Units, twice: i16, four_times: i16) -> i16
-    requires from { pos 0 ≤ℤ (twice +ℤ pos 256) }
-    requires to { twice ≤ℤ pos 254 }
-    ensures value { result ≡ even_by units.now.scale twice four_times }
-    ensures least { pos 0 ≤ℤ (result +ℤ pos 512) }
-    ensures most { result ≤ℤ pos 512 }
+fn even_gap(units: &Units, symbol: i16, tie: i16) -> i16
+    requires symbol_from { pos 0 ≤ℤ (symbol +ℤ pos 128) }
+    requires symbol_to { symbol ≤ℤ pos 127 }
+    requires from { pos 0 ≤ℤ tie }
+    requires to { tie ≤ℤ pos 1 }
+    ensures { result ≡ even_of units.now.scale symbol tie }
 {
-    let near = within(units.twelve_below, four_times, units.four);
-    difference(difference(twice, units.two), near)
+    let twice = symbol + symbol;
+    let near = within(units.twelve_below, twice + twice - tie, units.four);
+    twice - units.two - near
 }
 
-/// How the squares of levels 1 or 5 and 3 or 7 differ.
+/// How the squares of levels 1 or 5 and 3 or 7 differ, with 1 more as there.
 #[inline(always)]
-fn odd_gap(units: &Units, twice: i16, four_times: i16) -> i16
-    requires from { pos 0 ≤ℤ (twice +ℤ pos 256) }
-    requires to { twice ≤ℤ pos 254 }
-    ensures value { result ≡ odd_by units.now.scale twice four_times }
-    ensures least { pos 0 ≤ℤ (result +ℤ pos 512) }
-    ensures most { result ≤ℤ pos 512 }
+fn odd_gap(units: &Units, symbol: i16, tie: i16) -> i16
+    requires symbol_from { pos 0 ≤ℤ (symbol +ℤ pos 128) }
+    requires symbol_to { symbol ≤ℤ pos 127 }
+    requires from { pos 0 ≤ℤ tie }
+    requires to { tie ≤ℤ pos 1 }
+    ensures { result ≡ odd_of units.now.scale symbol tie }
 {
-    let near = within(units.four_below, four_times, units.twelve);
-    difference(sum(twice, units.two), near)
+    let twice = symbol + symbol;
+    let near = within(units.four_below, twice + twice - tie, units.twelve);
+    twice + units.two - near
+}
+
+/// How the squares of levels 2 or 6 and 3 or 7 differ.
+#[inline(always)]
+fn across_gap(units: &Units, symbol: i16, odd: i16) -> i16
+    requires symbol_from { pos 0 ≤ℤ (symbol +ℤ pos 128) }
+    requires symbol_to { symbol ≤ℤ pos 127 }
+    requires odd { odd ≡ odd_of units.now.scale symbol (pos 0) }
+    ensures { result ≡ across_of units.now.scale symbol }
+{
+    let twice = symbol + symbol;
+    let near = within(units.four_below, twice + twice, units.four);
+    odd - symbol + near
 }
 
 /// A number, or the nearer of two bounds.
 #[inline(always)]
 fn within(low: i16, number: i16, high: i16) -> i16
     requires { low ≤ℤ high }
-    ensures value { result ≡ within low number high }
-    ensures from { low ≤ℤ result }
-    ensures to { result ≤ℤ high }
+    ensures { result ≡ within low number high }
 {
     number.max(low).min(high)
 }

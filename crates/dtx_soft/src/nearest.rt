@@ -1,6 +1,6 @@
 //! For each symbol and each two levels with one next state, the nearer one.
 
-ghost use Rattle.std.specs.Prelude.{◌≡◌, ◌<◌, ◌≤◌, pos, ◌+ℤ◌, ◌≤ℤ◌, IfOk, length};
+ghost use Rattle.std.specs.Prelude.{◌≡◌, ◌<◌, ◌≤◌, pos, ◌+ℤ◌, ◌≤ℤ◌, IfOk, length, vec_len};
 ghost use Rattle.dtx_soft.specs.Paths.{squared, symbol_at};
 ghost use Rattle.dtx_soft.specs.Nearest.{AreNearest, IsNearest, IsTable, IsTieBreak};
 
@@ -35,15 +35,22 @@ pub(crate) fn rows_of(alloc: Global, scale: u8) -> Result<Vec<Nearest>, AllocErr
     requires { scale ≤ MAX_SCALE }
     ensures { IfOk result (λ rows. IsTable scale rows.items) }
 {
+    let mut rows = empty_rows(alloc)?;
+    fill(&mut rows[..], scale);
+    Ok(rows)
+}
+
+/// As many rows of zeros as there are symbols.
+fn empty_rows(alloc: Global) -> Result<Vec<Nearest>, AllocError>
+    ensures { IfOk result (λ rows. vec_len rows ≡ SYMBOLS) }
+{
     let empty = Nearest {
         levels: [0; 4],
         squares: [0; 4],
         tie_breaks: [0; 2],
         filler: 0,
     };
-    let mut rows = vec![in alloc; empty; SYMBOLS]?;
-    fill(&mut rows[..], scale);
-    Ok(rows)
+    vec![in alloc; empty; SYMBOLS]
 }
 
 /// Writes the rows of all symbols.

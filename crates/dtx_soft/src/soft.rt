@@ -102,9 +102,9 @@ impl Soft {
         self.entries = SEGMENT_ROUNDS * segments.len() + 1;
         soften(
             &mut self.walker,
-            &mut self.symbols,
-            &mut self.rounds,
-            &mut self.marks,
+            &mut self.symbols[..],
+            &mut self.rounds[..],
+            &mut self.marks[..],
             segments,
         )
     }

@@ -17,25 +17,15 @@ returns-then-eq-clause-answer g c =
     own_answer g.row.N g.row.K c.args.marks.now c.args.word.now
     (subst (IsCodeword g.row.N g.row.K) (same.0 c.if-eq.true) code.ensures.codeword) c.requires
 
-pub returns-else-eq-2-clause-answer : goal.returns-else-eq-2-clause-answer
-returns-else-eq-2-clause-answer g c =
-    let again = c.encoded_again in
-    let same : Decides c.eq-2.result (c.encoded_again.result ≡ c.restore.new.word) =
-    slice_eq-Decides Decides-eqb c.encoded_again.result c.restore.new.word c.eq-2.result c.eq-2.ensures in
-    not_restored g.row.N g.row.K c.args.marks.now c.args.word.now c.restore.new.word again.result
-    c.args.self.now.code.short
+pub returns-else-is_codeword-clause-answer : goal.returns-else-is_codeword-clause-answer
+returns-else-is_codeword-clause-answer g c =
+    not_restored g.row.N g.row.K c.args.marks.now c.args.word.now c.restore.new.word
     (λ right p. c.restore.ensures right
     (subst (λ m. IsMending m g.row.K c.args.marks.now c.args.word.now right) (sym c.told-word) p))
-    again.ensures.codeword again.ensures.begins (λ e. true≢false (sym (same.1 e) ∙ c.if-eq-2.false))
+    (λ h. true≢false (sym (c.is_codeword.ensures.1 h) ∙ c.if-is_codeword.false))
 
 pub accept-requires : goal.accept-requires
-accept-requires g c =
-    let again = c.encoded_again in
-    let same : Decides c.eq-2.result (again.result ≡ c.restore.new.word) =
-    slice_eq-Decides Decides-eqb again.result c.restore.new.word c.eq-2.result c.eq-2.ensures in (
-      search rules,
-      (
-        search rules,
-        (c.args.self.now.code, subst (IsCodeword g.row.N g.row.K) (same.0 c.if-eq-2.true) again.ensures.codeword),
-      ),
-    )
+accept-requires g c = (
+  search rules,
+  (search rules, (c.args.self.now.code, c.is_codeword.ensures.0 c.if-is_codeword.true)),
+)
