@@ -1,4 +1,4 @@
--- What a command of one stream or file is, and what it is that it was done: one statement for all.
+-- What a command is whose words alone tell its files, and what it is that it was performed: one statement for all.
 use Rattle.std.specs.Prelude.{ℕ, Bool, if◌then◌else◌, is_some, List, Option, Some, IfSome}
 use Rattle.dtx_meaning.specs.Meaning.{IsCarriedOut, Meaning, refused}
 use Rattle.dtx_meaning.specs.Status.{blame_of}

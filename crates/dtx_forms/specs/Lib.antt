@@ -1,3 +1,4 @@
+pub mod AllowedFileLaws
 pub mod Answers
 pub mod AnswersLaws
 pub mod Combine
@@ -11,5 +12,4 @@ pub mod PlanFileLaws
 pub mod Shapes
 pub mod Transform
 pub mod Transmit
-pub mod WholeFileLaws
 pub mod WordsLaws

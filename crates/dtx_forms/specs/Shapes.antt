@@ -1,4 +1,5 @@
--- In which units the commands read their inputs, and how many units an input has at most (the profile's own limits).
+-- In which units the commands read their inputs, but for those of the outer coding of DVB, and how many units an input
+-- has at most (the profile's own limits).
 use Rattle.dtx_engine.specs.declared.engine.Shape.{Shape}
 
 -- packets of 188 bytes, in groups of four: where one isn't allowed, something is made of the groups before it

@@ -1,4 +1,4 @@
-// In which units the commands read their inputs.
+// In which units the commands read their inputs, but for those of the outer coding of DVB.
 ghost use Rattle.std.specs.Prelude.{◌≡◌};
 ghost use Rattle.dtx_engine.specs.Recipe.{IsSound};
 ghost use Rattle.dtx_forms.specs.Shapes as shapes;

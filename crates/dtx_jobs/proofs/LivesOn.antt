@@ -5,16 +5,14 @@ use Rattle.std.proofs.Common.{append_assoc, arith, subst}
 use Rattle.std.specs.List.{flat_map}
 use Rattle.std.proofs.lemmas.List.{length-append, take_more}
 use Rattle.std.proofs.lemmas.List.Sums.{sum_by-append}
-use Rattle.dtx_exciter.specs.Emission.{emission}
-use Rattle.dtx_exciter.specs.Log.{Line, restart, life_lines, log, emission_over}
 use Rattle.dtx_cadence.specs.Anchor.{anchor, anchor_to}
-use Rattle.dtx_exciter.specs.Packets.{last_answer, group_part, under, anchor_of, syncs}
-use Rattle.dtx_files.specs.GivenFewLaws.{given_few}
-use Rattle.dtx_files.specs.LogText.{log_text}
 use Rattle.dtx_receiver.specs.Runs.{tracking}
 use Rattle.dtx_receiver.specs.declared.batch.Received.{Received}
 use Rattle.dtx_receiver.specs.declared.tracking.Tracking.{Tracking}
 use Rattle.dtx_receiver.specs.declared.tracking.Tracking.TheVariants.{Searching, Began, Sync, Data, Ended}
+use Rattle.dtx_exciter.specs.Emission.{emission}
+use Rattle.dtx_exciter.specs.Log.{Line, restart, life_lines, log, emission_over}
+use Rattle.dtx_exciter.specs.Packets.{last_answer, group_part, under, anchor_of, syncs}
 use Rattle.dtx_repeat.specs.GoingOn.{last_life, with_begun}
 use Rattle.dtx_repeat.specs.GoingOnLaws.{last_begun}
 use Rattle.dtx_repeat.specs.Lives.{packets_in, lives_so_far}
@@ -23,6 +21,8 @@ use Rattle.dtx_repeat.specs.Repeater.{StandsFor, given_behind}
 use Rattle.dtx_repeat.specs.Restored.{restored_so_far}
 use Rattle.dtx_repeat.specs.declared.repeater.Repeater.{Repeater}
 use Rattle.dtx_repeat.specs.RestoredLaws.{packets_in-append}
+use Rattle.dtx_files.specs.GivenFewLaws.{given_few}
+use Rattle.dtx_files.specs.LogText.{log_text}
 use Rattle.dtx_jobs.specs.Life.{one_preset, one_mute, presets_in, mutes_in, HasRoom}
 use Rattle.dtx_jobs.specs.Lives.{sent_over, logged_over, lives_tally}
 use Rattle.dtx_jobs.specs.LivesLaws.{brought_by, sent_with, logged_with, tally_with_begun}

@@ -1,21 +1,20 @@
--- Which refusals the commands of symbols know: of how their making answers.
+-- Which refusals the commands of symbols and feeds know: of how their making answers.
 use Rattle.std.specs.Prelude.{◌==◌, ℕ, Bool, false, true, length, if◌then◌else◌}
+use Rattle.dtx_receiver.specs.Runs.{runs}
+use Rattle.dtx_repeat.specs.Lives.{lives}
 use Rattle.dtx_acquire.specs.Acquired.{acquired, acquired_cost, acquired_runs}
-use Rattle.dtx_outside.specs.declared.shelf.WriteNo.TheVariants as write
-use Rattle.dtx_engine.specs.Recipe.{IsAnswerOf}
 use Rattle.dtx_meaning.specs.Status.{ended}
 use Rattle.dtx_meaning.specs.declared.status.Outcome.{Outcome}
 use Rattle.dtx_meaning.specs.declared.status.Status.{Status}
 use Rattle.dtx_meaning.specs.declared.status.Status.TheVariants.{Done, TooLong}
 use Rattle.dtx_meaning.specs.declared.status.Status.TheVariants.{NoSync}
-use Rattle.dtx_plan.specs.declared.plan.Plan as plans
-use Rattle.dtx_receiver.specs.Runs.{runs}
-use Rattle.dtx_repeat.specs.Lives.{lives}
+use Rattle.dtx_engine.specs.Recipe.{IsAnswerOf}
 use Rattle.dtx_words.specs.declared.rows.Command.{Command}
 use Rattle.dtx_words.specs.declared.rows.Command.TheVariants.{Code, Excite, Receive, Soft}
 use Rattle.dtx_words.specs.declared.rows.Command.TheVariants.{Mend, Repeat, Acquire, Watch}
-use Rattle.dtx_jobs.specs.Acquire.{acquired_numbers, acquiring}
 use Rattle.dtx_forms.specs.Answers.{Knows}
+use Rattle.dtx_forms.specs.AnswersLaws.{knows_by, none_refused}
+use Rattle.dtx_jobs.specs.Acquire.{acquired_numbers, acquiring}
 use Rattle.dtx_jobs.specs.Code.{coding}
 use Rattle.dtx_jobs.specs.Excite.{exciting}
 use Rattle.dtx_jobs.specs.Giving.{Giving, given_numbers, receiving_by}
@@ -26,7 +25,6 @@ use Rattle.dtx_jobs.specs.Repeat.{repeated_numbers, repeating}
 use Rattle.dtx_jobs.specs.Soft.{softening}
 use Rattle.dtx_jobs.specs.SymbolFile.{file_segments, symbols}
 use Rattle.dtx_jobs.specs.Watch.{watching}
-use Rattle.dtx_forms.specs.AnswersLaws.{knows_by, none_refused}
 
 -- a stream that is coded
 pub code_knows : (status : Status) → IsAnswerOf coding status → Knows Code status

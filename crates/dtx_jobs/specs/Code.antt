@@ -1,17 +1,17 @@
 -- What `code` makes of a stream (ATSC A/53 Part 2).
 use Rattle.std.specs.Prelude.{ℕ, ◌==◌, ◌||◌, Bool, List, [], ◌∷◌, length}
-use Rattle.dtx_coder.specs.Stream.{a53}
-use Rattle.dtx_engine.specs.Made.{only}
-use Rattle.dtx_engine.specs.Recipe.{Recipe}
-use Rattle.dtx_meaning.specs.declared.status.Outcome.{Outcome}
-use Rattle.dtx_meaning.specs.declared.status.Status.TheVariants.{Done}
 use Rattle.dtx_packets.specs.Packet.{sync_of}
 use Rattle.dtx_packets.specs.Packets.{packets_of, whole_packets}
+use Rattle.dtx_coder.specs.Stream.{a53}
+use Rattle.dtx_meaning.specs.declared.status.Outcome.{Outcome}
+use Rattle.dtx_meaning.specs.declared.status.Status.TheVariants.{Done}
+use Rattle.dtx_engine.specs.Made.{only}
+use Rattle.dtx_engine.specs.Recipe.{Recipe}
 use Rattle.dtx_words.specs.declared.rows.Command.TheVariants.{Code}
 use Rattle.dtx_forms.specs.Job.{Job}
 use Rattle.dtx_forms.specs.Shapes.{coded_packets}
-use Rattle.dtx_jobs.specs.Symbols.{symbol_bytes}
 use Rattle.dtx_forms.specs.Transform.{transform_job}
+use Rattle.dtx_jobs.specs.Symbols.{symbol_bytes}
 
 -- a packet that may be coded: its byte 0, which isn't sent, is 0x47 or the mark 0xB8
 abbrev pub may_be_coded : List ℕ → Bool

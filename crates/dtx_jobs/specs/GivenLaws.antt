@@ -5,26 +5,26 @@ use Rattle.std.specs.Prelude.{ℤ, min, None}
 use Rattle.std.specs.List.{flat_map, range_with_len}
 use Rattle.std.proofs.lemmas.Bool.{cond-false, cond-true, eq-eqb, ne_eqb}
 use Rattle.std.proofs.lemmas.List.{take_at, take-append-drop, length-take-le}
-use Rattle.dtx_engine.specs.Made.{Made, only, outputs_of}
-use Rattle.dtx_engine.specs.Recipe.{first_refused, meaning_at}
-use Rattle.dtx_engine.specs.Recipe.{meaning_of_file, whole_units}
-use Rattle.dtx_engine.specs.declared.piece.Ending.TheVariants.{Whole}
+use Rattle.dtx_plan.specs.declared.damage.Damage.{Damage}
 use Rattle.dtx_make.specs.Hurt.{hurt, damaged_bytes}
 use Rattle.dtx_make.specs.LaidLaws.{hurt-append, length-hurt}
+use Rattle.dtx_receiver.specs.Intervals.{NoneLooks}
+use Rattle.dtx_receiver.specs.IntervalsLaws.{no_runs}
+use Rattle.dtx_receiver.specs.Runs.{runs}
 use Rattle.dtx_meaning.specs.Meaning.{Meaning}
 use Rattle.dtx_meaning.specs.Status.{ended}
 use Rattle.dtx_meaning.specs.declared.status.Outcome.{Outcome}
 use Rattle.dtx_meaning.specs.declared.status.Status.TheVariants.{Done, NoSync, TooLong}
-use Rattle.dtx_plan.specs.declared.damage.Damage.{Damage}
-use Rattle.dtx_receiver.specs.Intervals.{NoneLooks}
-use Rattle.dtx_receiver.specs.IntervalsLaws.{no_runs}
-use Rattle.dtx_receiver.specs.Runs.{runs}
+use Rattle.dtx_engine.specs.Made.{Made, only, outputs_of}
+use Rattle.dtx_engine.specs.Recipe.{first_refused, meaning_at}
+use Rattle.dtx_engine.specs.Recipe.{meaning_of_file, whole_units}
+use Rattle.dtx_engine.specs.declared.piece.Ending.TheVariants.{Whole}
+use Rattle.dtx_forms.specs.AllowedFileLaws.{all_read, first_read, none_found}
+use Rattle.dtx_forms.specs.Shapes.{segments}
 use Rattle.dtx_packet_jobs.specs.Damaged.{damaged_making}
-use Rattle.dtx_forms.specs.WholeFileLaws.{all_read, first_read, none_found}
 use Rattle.dtx_jobs.specs.Giving.{Giving, IsGiving, all_bytes, answer_of, bytes_of, given_numbers, given_of}
 use Rattle.dtx_jobs.specs.Giving.{given_until, no_sync_in, receiving_by}
 use Rattle.dtx_jobs.specs.GivingLaws.{bytes_of-all, receives_whole}
-use Rattle.dtx_forms.specs.Shapes.{segments}
 use Rattle.dtx_jobs.specs.SymbolFile.{file_segments, whole_segments}
 use Rattle.dtx_jobs.specs.SymbolFileLaws.{file_segments-whole, first_segments, length-segments_of}
 

@@ -9,23 +9,23 @@ use Rattle.std.specs.Str.{bytes_eq}
 use Rattle.std.proofs.lemmas.Bool.{ne_eqb}
 use Rattle.std.proofs.lemmas.List.{nil_from_length}
 use Rattle.std.proofs.lemmas.List.Elements.{All-drop, All-head, All-tail, All-take}
-use Rattle.dtx_engine.specs.Recipe.{Course, course_from, first_units, meaning, meaning_at, meaning_of_file}
-use Rattle.dtx_engine.specs.declared.piece.Ending.{Ending}
-use Rattle.dtx_engine.specs.declared.piece.Ending.TheVariants.{Whole, Refused}
 use Rattle.dtx_erase.specs.GrowingLaws.{nothing_mended, mended_more, mended_end}
 use Rattle.dtx_erase.specs.Marks.{AllThere, AreThere, is_missing}
 use Rattle.dtx_erase.specs.Mended.{all_mended, mended, mended_run}
 use Rattle.dtx_erase.specs.UnmarkedLaws.{all_same, bytes_same, so_far_same}
-use Rattle.dtx_meaning.specs.Meaning.{Meaning, refused}
-use Rattle.dtx_meaning.specs.declared.status.Status.TheVariants.{Same}
 use Rattle.dtx_outside.specs.Shelf.{Files}
 use Rattle.dtx_receiver.specs.Runs.{runs}
+use Rattle.dtx_meaning.specs.Meaning.{Meaning, refused}
+use Rattle.dtx_meaning.specs.declared.status.Status.TheVariants.{Same}
+use Rattle.dtx_engine.specs.Recipe.{Course, course_from, first_units, meaning, meaning_at, meaning_of_file}
+use Rattle.dtx_engine.specs.declared.piece.Ending.{Ending}
+use Rattle.dtx_engine.specs.declared.piece.Ending.TheVariants.{Whole, Refused}
+use Rattle.dtx_forms.specs.Shapes.{segments}
 use Rattle.dtx_jobs.specs.GivenLaws.{all_allowed}
 use Rattle.dtx_jobs.specs.Giving.{IsGiving}
 use Rattle.dtx_jobs.specs.Mend.{mend_job, mending_symbols, with_mendings}
 use Rattle.dtx_jobs.specs.MendedBack.{NoneMissing}
 use Rattle.dtx_jobs.specs.Receive.{receive_job, receiving, with_corrections}
-use Rattle.dtx_forms.specs.Shapes.{segments}
 use Rattle.dtx_jobs.specs.SplicedSymbolsLaws.{segments_cut}
 use Rattle.dtx_jobs.specs.SymbolFile.{file_segments, segments_from, symbol_of_byte, symbols, whole_segments}
 use Rattle.dtx_jobs.specs.SymbolFileLaws.{file_segments-whole}

@@ -1,15 +1,15 @@
 -- Laws of what `receive` means over a file, whose bytes may have damage laid over them.
 use Rattle.std.proofs.Common.{◌≡◌, ℕ, ◌%◌, ◌≤◌, List, length}
-use Rattle.dtx_engine.specs.Recipe.{meaning_of_file}
+use Rattle.dtx_plan.specs.declared.damage.Damage.{Damage}
 use Rattle.dtx_make.specs.Hurt.{hurt}
 use Rattle.dtx_meaning.specs.Meaning.{Meaning}
-use Rattle.dtx_plan.specs.declared.damage.Damage.{Damage}
+use Rattle.dtx_engine.specs.Recipe.{meaning_of_file}
+use Rattle.dtx_forms.specs.Shapes.{segments}
 use Rattle.dtx_packet_jobs.specs.Damaged.{damaged_making}
 use Rattle.dtx_jobs.specs.GivenLaws.{all_damaged_given, all_given}
 use Rattle.dtx_jobs.specs.Giving.{given_of}
 use Rattle.dtx_jobs.specs.Receive.{receiving, with_corrections}
 use Rattle.dtx_jobs.specs.ReceiveLaws.{corrections_given}
-use Rattle.dtx_forms.specs.Shapes.{segments}
 use Rattle.dtx_jobs.specs.SymbolFile.{whole_segments}
 
 -- what `receive` answers and writes of all segments of some bytes, behind which so many are loose

@@ -1,18 +1,18 @@
 -- What `repeat` makes of a symbol file (the profile's own, over ATSC A/53 Part 2 and in the manner of ATSC A/110).
 use Rattle.std.specs.Prelude.{ℕ, ℤ, ◌==◌, true, if◌then◌else◌, List, [], ◌∷◌, length, drop}
-use Rattle.dtx_engine.specs.Made.{Made}
-use Rattle.dtx_engine.specs.Recipe.{Recipe}
+use Rattle.dtx_receiver.specs.Runs.{runs}
+use Rattle.dtx_repeat.specs.Lives.{lives, lives_so_far}
 use Rattle.dtx_meaning.specs.Status.{ended}
 use Rattle.dtx_meaning.specs.declared.status.Outcome.{Outcome}
 use Rattle.dtx_meaning.specs.declared.status.Status.TheVariants.{Done, NoSync}
-use Rattle.dtx_receiver.specs.Runs.{runs}
-use Rattle.dtx_repeat.specs.Lives.{lives, lives_so_far}
-use Rattle.dtx_jobs.specs.Lives.{sent_over, logged_over, lives_tally}
+use Rattle.dtx_engine.specs.Made.{Made}
+use Rattle.dtx_engine.specs.Recipe.{Recipe}
 use Rattle.dtx_words.specs.declared.rows.Command.TheVariants.{Repeat}
 use Rattle.dtx_forms.specs.Job.{Job}
 use Rattle.dtx_forms.specs.Shapes.{segments}
-use Rattle.dtx_jobs.specs.SymbolFile.{file_segments}
 use Rattle.dtx_forms.specs.Transmit.{transmit_job}
+use Rattle.dtx_jobs.specs.Lives.{sent_over, logged_over, lives_tally}
+use Rattle.dtx_jobs.specs.SymbolFile.{file_segments}
 use Rattle.dtx_jobs.specs.declared.life_tally.LifeTally.{LifeTally}
 
 -- the symbols that the transmitter with this address and delay sends in these lives, and its log

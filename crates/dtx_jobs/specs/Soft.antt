@@ -4,17 +4,17 @@ use Rattle.std.specs.Prelude.{ℕ, ℤ, ◌-◌, ◌*◌, ◌/◌, ◌%◌, min,
 use Rattle.std.specs.Prelude.{◌∷◌, ◌++◌, length, map, sum, take, drop, slice_index_or, unwrap_or}
 use Rattle.std.proofs.Common.{zero, suc}
 use Rattle.std.specs.List.{range_with_len}
-use Rattle.dtx_engine.specs.Made.{only}
-use Rattle.dtx_engine.specs.Recipe.{Recipe}
-use Rattle.dtx_files.specs.Symbols.{segment_bytes}
-use Rattle.dtx_meaning.specs.declared.status.Status.TheVariants.{Done}
 use Rattle.dtx_receiver.specs.Runs.{sync_due, tracked}
 use Rattle.dtx_soft.specs.Softened.{softened, softened_cost}
+use Rattle.dtx_meaning.specs.declared.status.Status.TheVariants.{Done}
+use Rattle.dtx_engine.specs.Made.{only}
+use Rattle.dtx_engine.specs.Recipe.{Recipe}
 use Rattle.dtx_words.specs.declared.rows.Command.TheVariants.{Soft}
+use Rattle.dtx_files.specs.Symbols.{segment_bytes}
 use Rattle.dtx_forms.specs.Job.{Job}
 use Rattle.dtx_forms.specs.Shapes as shapes
-use Rattle.dtx_jobs.specs.SymbolFile.{file_segments}
 use Rattle.dtx_forms.specs.Transform.{transform_job}
+use Rattle.dtx_jobs.specs.SymbolFile.{file_segments}
 
 -- ---- places
 

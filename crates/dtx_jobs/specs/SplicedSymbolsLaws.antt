@@ -6,14 +6,14 @@ use Rattle.std.specs.List.{flat_map}
 use Rattle.std.proofs.lemmas.Bool.{cond-false}
 use Rattle.std.proofs.lemmas.Grind.{flat_map-append}
 use Rattle.std.proofs.lemmas.List.{length-append, length-take-le, take-append-drop}
-use Rattle.dtx_engine.specs.Recipe.{meaning}
-use Rattle.dtx_meaning.specs.Meaning.{Meaning}
 use Rattle.dtx_receiver.specs.Intervals.{AreRuns}
 use Rattle.dtx_receiver.specs.Packets.{received}
 use Rattle.dtx_receiver.specs.SplicingLaws.{more_received, spliced_received}
+use Rattle.dtx_meaning.specs.Meaning.{Meaning}
+use Rattle.dtx_engine.specs.Recipe.{meaning}
+use Rattle.dtx_forms.specs.Shapes.{segments}
 use Rattle.dtx_jobs.specs.Receive.{IsWritten, received_bytes, receiving}
 use Rattle.dtx_jobs.specs.ReceivedLaws.{all_received}
-use Rattle.dtx_forms.specs.Shapes.{segments}
 use Rattle.dtx_jobs.specs.SymbolFile.{file_segments, whole_segments}
 use Rattle.dtx_jobs.specs.SymbolFileLaws.{length-segments_of, file_segments-append, file_segments-whole}
 

@@ -6,12 +6,12 @@ use Rattle.std.specs.Prelude.{nat_le}
 use Rattle.std.specs.List.{range_with_len, AllByRecursion}
 use Rattle.std.proofs.lemmas.List.{length-map}
 use Rattle.dtx_trellis.specs.Trellis.{symbol_of}
+use Rattle.dtx_trellis.specs.Groups.{level_at, levels_of}
+use Rattle.dtx_trellis.specs.Pairs.{groups}
 use Rattle.dtx_frame.specs.Segments.{bit_symbol, segment_sync, data_segment, inverted, mode_bits}
 use Rattle.dtx_frame.specs.Segments.{reserved_bits, sync_symbols, field_sync}
 use Rattle.dtx_frame.specs.Sequences.{pn511, pn63}
 use Rattle.dtx_frame.specs.RuleLaws.{level_at_small}
-use Rattle.dtx_trellis.specs.Groups.{level_at, levels_of}
-use Rattle.dtx_trellis.specs.Pairs.{groups}
 use Rattle.dtx_coder.specs.Coded.{whole_groups}
 use Rattle.dtx_coder.specs.CountsLaws.{a53_segment, length-a53_symbols}
 use Rattle.dtx_coder.specs.Stream.{a53, a53_symbols, four_segments, group_segments, last_before, last_of, levels}

@@ -1,2 +1,2 @@
-//! Laws of what the commands make.
+//! Laws of what `watch` makes of a feed.
 pub mod watching;

@@ -85,9 +85,9 @@ impl StreamCoder {
 
 impl Engine for StreamCoder {
     ghost use Rattle.dtx_engine.specs.Made.{only};
+    ghost use Rattle.dtx_forms.specs.Shapes as shapes;
     ghost use Rattle.dtx_jobs.specs.Code.{coding};
     ghost use Rattle.dtx_jobs.specs.CodeLaws.{codes_none, codes_more};
-    ghost use Rattle.dtx_forms.specs.Shapes as shapes;
     ghost use Rattle.dtx_jobs.specs.StreamCoder.{WasCoded};
 
     ghost shape = { shapes.coded_packets };

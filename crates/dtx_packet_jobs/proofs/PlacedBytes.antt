@@ -4,16 +4,13 @@ use Rattle.std.proofs.Common.{refl, sym, ap, ◌∙◌, arith}
 use Rattle.std.specs.Prelude.{flat_map}
 use Rattle.std.proofs.lemmas.Grind.{flat_map-append}
 use Rattle.std.proofs.lemmas.List.{append-nil, take_all}
-use Rattle.std.proofs.lemmas.List.FromFn.{length-map-range_with_len, map-range_with_len_more}
+use Rattle.std.proofs.lemmas.List.FromFn.{map-range_with_len_more}
 use Rattle.dtx_engine.specs.Each.{each}
 use Rattle.dtx_engine.specs.EachLaws.{each-next}
 use Rattle.dtx_packets.specs.Packets.{packet_at, packets_from, packets_of, whole_packets}
 use Rattle.dtx_packets.specs.PacketLaws.{packets_of-append, packets_of-piece}
 use Rattle.dtx_packet_jobs.specs.Place.{placed, placed_behind, placed_one, placing}
 use Rattle.dtx_packet_jobs.proofs.PlacedPackets.{placed-next}
-
-pub length-packets_of : (file : List ℕ) → length (packets_of file) ≡ whole_packets file
-length-packets_of file = length-map-range_with_len (packet_at file) 0 (whole_packets file)
 
 -- one packet more
 pub packets_of-next : (given packet : List ℕ) → length given % 188 ≡ 0 → length packet ≡ 188

@@ -2,21 +2,21 @@
 use Rattle.std.specs.Prelude.{ℕ, ◌==◌, List, [], ◌∷◌}
 use Rattle.std.specs.FinMap.{get}
 use Rattle.dtx_outside.specs.Shelf.{Files}
-use Rattle.dtx_meaning.specs.Meaning.{Meaning}
-use Rattle.dtx_meaning.specs.declared.status.Outcome.{Outcome}
-use Rattle.dtx_meaning.specs.declared.status.Status.TheVariants.{Done}
-use Rattle.dtx_adapter.specs.Feed.{placeholders}
-use Rattle.dtx_engine.specs.Made.{only}
-use Rattle.dtx_engine.specs.Recipe.{Recipe, meaning}
 use Rattle.dtx_packets.specs.Packet.{sync_of}
 use Rattle.dtx_packets.specs.Packets.{packets_of, whole_packets}
 use Rattle.dtx_plan.specs.declared.plan.Plan.{Plan}
-use Rattle.dtx_packet_jobs.specs.Feed.{feed_bytes}
-use Rattle.dtx_forms.specs.PlanFile.{under_plan}
+use Rattle.dtx_adapter.specs.Feed.{placeholders}
+use Rattle.dtx_meaning.specs.Meaning.{Meaning}
+use Rattle.dtx_meaning.specs.declared.status.Outcome.{Outcome}
+use Rattle.dtx_meaning.specs.declared.status.Status.TheVariants.{Done}
+use Rattle.dtx_engine.specs.Made.{only}
+use Rattle.dtx_engine.specs.Recipe.{Recipe, meaning}
 use Rattle.dtx_words.specs.declared.rows.Command.TheVariants.{Adapt}
+use Rattle.dtx_forms.specs.PlanFile.{under_plan}
 use Rattle.dtx_forms.specs.Job.{Job}
 use Rattle.dtx_forms.specs.Shapes.{packets}
 use Rattle.dtx_forms.specs.Combine.{combine_job}
+use Rattle.dtx_packet_jobs.specs.Feed.{feed_bytes}
 
 -- the numbers of a stream that was adapted: its packets, the placeholders filled, and the bytes behind the last packet
 abbrev pub fed_outcome : List ℕ → ℕ → Outcome

@@ -1,21 +1,22 @@
--- Which refusals the commands of packets know: of how their making answers, and of faults of writing.
+-- Which refusals the commands of packets and of plain bytes know: of how their making answers, and of faults of
+-- writing.
 use Rattle.std.specs.Prelude.{ℕ, List, Option, Some, None}
 use Rattle.dtx_outside.specs.declared.shelf.WriteNo.{WriteNo}
 use Rattle.dtx_outside.specs.declared.shelf.WriteNo.TheVariants as write
-use Rattle.dtx_engine.specs.Recipe.{IsAnswerOf}
-use Rattle.dtx_meaning.specs.Status.{of_write}
-use Rattle.dtx_meaning.specs.declared.status.Status.{Status}
 use Rattle.dtx_plan.specs.declared.damage.Damage.{Damage}
 use Rattle.dtx_plan.specs.declared.plan.Plan as plans
+use Rattle.dtx_meaning.specs.Status.{of_write}
+use Rattle.dtx_meaning.specs.declared.status.Status.{Status}
+use Rattle.dtx_engine.specs.Recipe.{IsAnswerOf}
 use Rattle.dtx_words.specs.declared.rows.Command.TheVariants.{Adapt, Make, Hurt, Place}
 use Rattle.dtx_words.specs.declared.rows.Command.TheVariants.{DvbCode, DvbRead}
-use Rattle.dtx_packet_jobs.specs.Adapt.{feeding}
 use Rattle.dtx_forms.specs.Answers.{Knows}
+use Rattle.dtx_forms.specs.AnswersLaws.{knows_by, none_refused}
+use Rattle.dtx_packet_jobs.specs.Adapt.{feeding}
 use Rattle.dtx_packet_jobs.specs.DvbCode.{dvb_coding}
 use Rattle.dtx_packet_jobs.specs.DvbRead.{dvb_reading}
 use Rattle.dtx_packet_jobs.specs.Hurt.{hurting, hurt_end}
 use Rattle.dtx_packet_jobs.specs.Place.{placing}
-use Rattle.dtx_forms.specs.AnswersLaws.{knows_by, none_refused}
 
 -- a stream that is adapted
 pub adapt_knows : (plan : plans.Plan) (status : Status) → IsAnswerOf (feeding plan) status → Knows Adapt status

@@ -1,16 +1,16 @@
 -- What `dvb code` makes of a stream (EN 300 429).
 use Rattle.std.specs.Prelude.{ℕ, List, [], ◌∷◌}
+use Rattle.dtx_packets.specs.Packets.{packets_of, whole_packets}
 use Rattle.dtx_dvb.specs.Stream.{dvb}
-use Rattle.dtx_engine.specs.Made.{only}
-use Rattle.dtx_engine.specs.Recipe.{Recipe}
 use Rattle.dtx_meaning.specs.declared.status.Outcome.{Outcome}
 use Rattle.dtx_meaning.specs.declared.status.Status.TheVariants.{Done}
-use Rattle.dtx_packets.specs.Packets.{packets_of, whole_packets}
-use Rattle.dtx_packet_jobs.specs.Place.{has_sync}
+use Rattle.dtx_engine.specs.Made.{only}
+use Rattle.dtx_engine.specs.Recipe.{Recipe}
 use Rattle.dtx_words.specs.declared.rows.Command.TheVariants.{DvbCode}
 use Rattle.dtx_forms.specs.Job.{Job}
-use Rattle.dtx_packet_jobs.specs.DvbShapes.{dvb_packets}
 use Rattle.dtx_forms.specs.Transform.{dvb_job}
+use Rattle.dtx_packet_jobs.specs.Place.{has_sync}
+use Rattle.dtx_packet_jobs.specs.DvbShapes.{dvb_packets}
 
 -- how it ends: the packets, and the loose bytes
 abbrev pub dvb_code_answer : List ℕ → ℕ → Outcome

@@ -3,14 +3,14 @@
 use Rattle.std.specs.Prelude.{ℕ, ◌/◌, true, List, [], ◌∷◌, length, flat_map}
 use Rattle.dtx_dvb.specs.Read.{Read, fixed_in, flagged_in}
 use Rattle.dtx_dvb.specs.Reading.{read_dvb}
-use Rattle.dtx_engine.specs.Made.{only}
-use Rattle.dtx_engine.specs.Recipe.{Recipe}
 use Rattle.dtx_meaning.specs.declared.status.Outcome.{Outcome}
 use Rattle.dtx_meaning.specs.declared.status.Status.TheVariants.{Done}
+use Rattle.dtx_engine.specs.Made.{only}
+use Rattle.dtx_engine.specs.Recipe.{Recipe}
 use Rattle.dtx_words.specs.declared.rows.Command.TheVariants.{DvbRead}
 use Rattle.dtx_forms.specs.Job.{Job}
-use Rattle.dtx_packet_jobs.specs.DvbShapes.{blocks}
 use Rattle.dtx_forms.specs.Transform.{dvb_job}
+use Rattle.dtx_packet_jobs.specs.DvbShapes.{blocks}
 
 -- the bytes of packets that were read, one behind the other
 abbrev pub bytes_of_reads : List Read → List ℕ

@@ -2,21 +2,21 @@
 use Rattle.std.specs.Prelude.{◌≡◌, ℕ, true, List, [], ◌∷◌, length, Option, Some, None}
 use Rattle.std.specs.FinMap.{get}
 use Rattle.dtx_outside.specs.Shelf.{Files}
+use Rattle.dtx_plan.specs.Sound.{AreDamages}
+use Rattle.dtx_plan.specs.declared.damage.Damage.{Damage}
+use Rattle.dtx_make.specs.Hurt.{hurt, damaged_places}
 use Rattle.dtx_meaning.specs.Meaning.{Meaning}
 use Rattle.dtx_meaning.specs.Status.{ended}
 use Rattle.dtx_meaning.specs.declared.status.Outcome.{Outcome}
 use Rattle.dtx_meaning.specs.declared.status.Status.TheVariants.{Done, OutOfAir}
-use Rattle.dtx_make.specs.Hurt.{hurt, damaged_places}
-use Rattle.dtx_plan.specs.Sound.{AreDamages}
-use Rattle.dtx_plan.specs.declared.damage.Damage.{Damage}
 use Rattle.dtx_engine.specs.Made.{only}
 use Rattle.dtx_engine.specs.Recipe.{Recipe, meaning}
-use Rattle.dtx_packet_jobs.specs.PastEnd.{first_past}
-use Rattle.dtx_forms.specs.PlanFile.{under_changes}
 use Rattle.dtx_words.specs.declared.rows.Command.TheVariants.{Hurt}
+use Rattle.dtx_forms.specs.PlanFile.{under_changes}
 use Rattle.dtx_forms.specs.Job.{Job}
 use Rattle.dtx_forms.specs.Shapes.{single_bytes}
 use Rattle.dtx_forms.specs.Combine.{combine_job}
+use Rattle.dtx_packet_jobs.specs.PastEnd.{first_past}
 use Rattle.dtx_packet_jobs.specs.declared.laying.Laying.{Laying}
 
 -- The end of a file of so many bytes: the first entry that ends behind it; or where none does its bytes, and how many

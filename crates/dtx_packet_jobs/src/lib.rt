@@ -1,6 +1,6 @@
-//! The jobs of packets and of plain bytes: each a job, whose meaning is a function of words and files, an engine that
-//! makes it, and one call. A stream is made, damaged, gets places for operations packets, is adapted, and is sent and
-//! read back by the outer coding of DVB.
+//! The commands of packets and of plain bytes: each a job, whose meaning is a function of words and files, an engine
+//! that makes it, and one call. A stream is made, damaged, gets places for operations packets, is adapted, and is sent
+//! and read back by the outer coding of DVB.
 #![tactic(auto)]
 
 mod adapt_command;

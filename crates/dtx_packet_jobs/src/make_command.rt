@@ -1,16 +1,16 @@
 // `make SEED COUNT OUT`: a made stream.
 ghost use Rattle.std.specs.Prelude.{◌≡◌, false, [], Some, Option};
-ghost use Rattle.dtx_make.specs.Made.{made_stream};
-ghost use Rattle.dtx_meaning.specs.Meaning.{IsCarriedOut};
-ghost use Rattle.dtx_meaning.specs.Status.{IsOfInputs, blame_of};
 ghost use Rattle.dtx_outside.specs.Counts.{HasGone, blame_of_write};
 ghost use Rattle.dtx_outside.specs.Shelf.{Files};
 ghost use Rattle.dtx_outside.specs.Written.{IsWritten, IsFlushOf};
+ghost use Rattle.dtx_make.specs.Made.{made_stream};
+ghost use Rattle.dtx_meaning.specs.Meaning.{IsCarriedOut};
+ghost use Rattle.dtx_meaning.specs.Status.{IsOfInputs, blame_of};
 ghost use Rattle.dtx_words.specs.declared.rows.Command.TheVariants as command;
 ghost use Rattle.dtx_forms.specs.Answers.{Knows};
 ghost use Rattle.dtx_forms.specs.Job.{IsPerformed, IsJobPerformed};
-ghost use Rattle.dtx_packet_jobs.specs.Make.{made_file, made_of, make_job};
 ghost use Rattle.dtx_forms.specs.OfWords.{numbers_same};
+ghost use Rattle.dtx_packet_jobs.specs.Make.{made_file, made_of, make_job};
 
 use dtx_make::packet;
 use dtx_meaning::{Outcome, Status, ended};

@@ -1,6 +1,6 @@
+pub mod Changes
 pub mod FilesLaws
 pub mod Inside
-pub mod Changes
 pub mod Pair
 pub mod Played
 pub mod PlayedSoFar

@@ -1,16 +1,12 @@
 -- Signed numbers that fit their bits are as they were when they come back from them.
 use Rattle.std.proofs.Common.{◌≡◌, ℕ, ℤ, pos, ◌+ℤ◌, ◌-ℤ◌, ◌≤ℤ◌, sym, subst, ap₂, ◌∙◌, to_z, of_z, w8, arith}
-use mir.Syntax.{Width, w16}
+use mir.Syntax.{Width}
 use mir.Val.{SFits}
 use Rattle.std.proofs.lemmas.Int.{ints, to_z-of_z}
 
 -- a number that is read from so many bits
 abbrev pub read : Width → ℤ → ℤ
 read w z = to_z w (of_z w z)
-
--- and from 16 of them
-abbrev pub word : ℤ → ℤ
-word = read w16
 
 -- each number that is at most so far off 0 fits so many bits
 abbrev pub Holds : Width → ℕ → Type 0

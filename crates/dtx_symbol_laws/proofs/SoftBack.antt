@@ -3,15 +3,15 @@ use Rattle.std.proofs.Common.{◌≡◌, ℕ, ℤ, pos, ◌+◌, ◌-◌, ◌*�
 use Rattle.std.proofs.Common.{Option, Some, None, List, [], ◌∷◌, length, map, take, drop, get_or, min, refl, ap, subst}
 use Rattle.std.proofs.Common.{arith}
 use Rattle.std.proofs.lemmas.List.Elements.{All-get_or}
-use Rattle.dtx_coder.specs.CountsLaws.{AreSegments, segments_map}
 use Rattle.dtx_trellis.specs.Trellis.{symbol_of}
-use Rattle.dtx_files.specs.Symbols.{segment_bytes}
 use Rattle.dtx_trellis.specs.Pairs.{coder_at}
+use Rattle.dtx_coder.specs.CountsLaws.{AreSegments, segments_map}
 use Rattle.dtx_soft.specs.Coders.{coder_symbols}
 use Rattle.dtx_soft.specs.LeastPath.{least_levels, least_start}
 use Rattle.dtx_soft.specs.LeastPathLaws.{least_path_found}
 use Rattle.dtx_soft.specs.Paths.{IsPath, next_state, symbol_at}
 use Rattle.dtx_soft.specs.Softened.{least_symbols, softened, softened_segment, softened_symbol}
+use Rattle.dtx_files.specs.Symbols.{segment_bytes}
 use Rattle.dtx_jobs.specs.Soft.{in_groups, place_at, soft_at, soft_from, soft_symbols}
 use Rattle.dtx_jobs.specs.SymbolFile.{file_segments, segment_at, symbol_of_byte, whole_segments}
 use Rattle.dtx_jobs.specs.SymbolsBackLaws.{AreBack, EachBack, IsBack, each_at, each_drop, each_map, each_of}

@@ -9,24 +9,24 @@ use Rattle.std.proofs.lemmas.Bool.{eqb-true}
 use Rattle.std.proofs.lemmas.List.{append_assoc, drop-drop, get_or-take, length-take-le, map-append}
 use Rattle.std.proofs.lemmas.List.{take-append-drop}
 use Rattle.std.proofs.lemmas.List.Elements.{All-get_or}
+use Rattle.dtx_lists.proofs.Below.{at_below}
 use Rattle.dtx_coder.specs.Stream.{symbols_of}
+use Rattle.dtx_receiver.specs.Intervals.{NoneLooks}
+use Rattle.dtx_soft.specs.Softened.{softened_cost}
+use Rattle.dtx_meaning.specs.Meaning.{Meaning}
+use Rattle.dtx_meaning.specs.Status.{ended}
+use Rattle.dtx_meaning.specs.declared.status.Status.TheVariants.{Done, TooLong}
 use Rattle.dtx_engine.specs.Made.{only, outputs_of}
 use Rattle.dtx_engine.specs.Recipe.{first_refused, meaning_of_file, whole_units}
 use Rattle.dtx_files.specs.AppendedLaws.{segment_bytes-append}
 use Rattle.dtx_files.specs.Symbols.{byte_of_symbol, segment_bytes}
-use Rattle.dtx_lists.proofs.Below.{at_below}
-use Rattle.dtx_meaning.specs.Meaning.{Meaning}
-use Rattle.dtx_meaning.specs.Status.{ended}
-use Rattle.dtx_meaning.specs.declared.status.Status.TheVariants.{Done, TooLong}
-use Rattle.dtx_receiver.specs.Intervals.{NoneLooks}
-use Rattle.dtx_soft.specs.Softened.{softened_cost}
-use Rattle.dtx_forms.specs.WholeFileLaws.{all_read, first_read, none_found}
+use Rattle.dtx_forms.specs.AllowedFileLaws.{all_read, first_read, none_found}
 use Rattle.dtx_forms.specs.Shapes.{segments}
 use Rattle.dtx_jobs.specs.Soft.{counted, has_group, soft_numbers, soft_rest, soft_so_far, soft_symbols, softening}
-use Rattle.dtx_symbol_laws.specs.SoftFields.{copied_of, softened_of, softened_until}
 use Rattle.dtx_jobs.specs.SoftLaws.{all_is, so_far_on}
 use Rattle.dtx_jobs.specs.SymbolFile.{file_segments, segment_at, segments_from, symbol_of_byte, symbols, whole_segments}
 use Rattle.dtx_jobs.specs.SymbolFileLaws.{file_segments-whole, first_segments, length-segments_of}
+use Rattle.dtx_symbol_laws.specs.SoftFields.{copied_of, softened_of, softened_until}
 use Rattle.dtx_symbol_laws.proofs.SoftFields.{none_stay, nothing_counted}
 
 -- ---- the end of the file

@@ -15,9 +15,9 @@ use Rattle.dtx_soft.specs.Softened.{softened, softened_cost, softened_segment, s
 use Rattle.dtx_soft.specs.SoftenedLaws.{cost_is, softened_found}
 use Rattle.dtx_soft.specs.SumsLaws.{none_first, over, over_more, over_moved, over_none, over_one, over_parts}
 use Rattle.dtx_jobs.specs.Soft.{count_from, counted, in_groups, place_at, soft_symbols}
-use Rattle.dtx_symbol_laws.specs.SoftFields.{place_behind}
 use Rattle.dtx_jobs.specs.SymbolFile.{file_segments, segment_at, symbol_of_byte, whole_segments}
 use Rattle.dtx_jobs.specs.SymbolFileLaws.{length-segments_of}
+use Rattle.dtx_symbol_laws.specs.SoftFields.{place_behind}
 use Rattle.dtx_symbol_laws.proofs.SoftFields.{IsField, all_sum, count_at, count_is, field_of, groups_become}
 use Rattle.dtx_symbol_laws.proofs.SoftFields.{others_stay}
 use Rattle.dtx_symbol_laws.proofs.SoftFields.{run_fields}

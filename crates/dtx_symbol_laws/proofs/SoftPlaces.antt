@@ -9,8 +9,8 @@ use Rattle.std.specs.List.{Contains}
 use Rattle.dtx_frame.specs.Detection.{looks_like}
 use Rattle.dtx_receiver.specs.Intervals.{AreRuns, IsRun, NoneLooks, looks_at}
 use Rattle.dtx_jobs.specs.Soft.{next_place, place_at, soft_symbols}
-use Rattle.dtx_symbol_laws.specs.SoftFields.{place_behind}
 use Rattle.dtx_jobs.specs.SoftPlacesLaws.{place_copied, place_ends, place_first, place_on}
+use Rattle.dtx_symbol_laws.specs.SoftFields.{place_behind}
 use Rattle.dtx_symbol_laws.proofs.SoftRuns.{copied, soft_length}
 
 -- ---- one segment further

@@ -9,13 +9,13 @@ use Rattle.dtx_frame.specs.AlikeLaws.{looks_alike}
 use Rattle.dtx_frame.specs.Detection.{looks_like}
 use Rattle.dtx_coder.specs.CountsLaws.{a53_segment}
 use Rattle.dtx_coder.specs.Stream.{a53}
-use Rattle.dtx_chain.specs.PlacesLaws.{sync_at_place}
 use Rattle.dtx_soft.specs.Coders.{coder_symbols}
 use Rattle.dtx_soft.specs.Softened.{IsOwn, softened, softened_cost}
+use Rattle.dtx_chain.specs.PlacesLaws.{sync_at_place}
 use Rattle.dtx_jobs.specs.Soft.{count_from, counted, in_groups, place_at, soft_at, soft_from, soft_symbols}
-use Rattle.dtx_symbol_laws.specs.SoftFields.{place_behind}
 use Rattle.dtx_jobs.specs.SoftLaws.{none_counts}
 use Rattle.dtx_jobs.specs.SoftPlacesLaws.{place_first}
+use Rattle.dtx_symbol_laws.specs.SoftFields.{place_behind}
 use Rattle.dtx_symbol_laws.proofs.SoftPlaces.{in_run}
 use Rattle.dtx_symbol_laws.proofs.SoftStream.{TakesPaths, count, field_at, field_own, length-field}
 

@@ -8,6 +8,20 @@ use Rattle.std.proofs.lemmas.List.Elements.{All-map, All-take}
 use Rattle.std.proofs.lemmas.List.Folds.{flat_map-map}
 use Rattle.std.proofs.lemmas.List.Sums.{sum_by-cons}
 use Rattle.std.proofs.lemmas.Option.{slice_get-map}
+use Rattle.dtx_laws.specs.Codeword.{distance}
+use Rattle.dtx_erase.specs.ChosenLaws.{mending_is}
+use Rattle.dtx_erase.specs.Marks.{marks_in}
+use Rattle.dtx_erase.specs.Mended.{all_mended, marks_at, mended, mended_at, mended_run, mended_run_packets}
+use Rattle.dtx_erase.specs.Mended.{mended_so_far, mending}
+use Rattle.dtx_erase.specs.UnmarkedLaws.{as_many, as_many_so_far, mended_packet}
+use Rattle.dtx_outer.specs.Inner.{word_at}
+use Rattle.dtx_outer.specs.WordsLaws.{length-word}
+use Rattle.dtx_packets.specs.Packets.{packets_of}
+use Rattle.dtx_receiver.specs.Bytes.{bytes_in}
+use Rattle.dtx_receiver.specs.Intervals.{AreRuns, segments_in}
+use Rattle.dtx_receiver.specs.Packets.{all_packets, is_complete, packets_so_far, received}
+use Rattle.dtx_receiver.specs.Runs.{runs}
+use Rattle.dtx_receiver.specs.declared.batch.Received.{Received}
 use Rattle.dtx_chain.specs.AllBackLaws.{corrected_bytes, run_back}
 use Rattle.dtx_chain.specs.Damage.{AreReceived, as_corrected, codeword_at, from_sync, numbers_in, packet_behind}
 use Rattle.dtx_chain.specs.Damage.{to_sync, word_in}
@@ -18,24 +32,12 @@ use Rattle.dtx_chain.specs.RunsLaws.{by_run, middle_at}
 use Rattle.dtx_chain.specs.SlightLaws.{field_begins, one_run_left}
 use Rattle.dtx_chain.specs.Undamaged.{ArePackets, as_received}
 use Rattle.dtx_chain.specs.WordsLaws.{codeword_back, corrected_packet, own_codeword}
-use Rattle.dtx_engine.specs.Made.{only, outputs_of}
-use Rattle.dtx_engine.specs.Recipe.{meaning_of_file}
-use Rattle.dtx_erase.specs.ChosenLaws.{mending_is}
-use Rattle.dtx_erase.specs.Marks.{marks_in}
-use Rattle.dtx_erase.specs.Mended.{all_mended, marks_at, mended, mended_at, mended_run, mended_run_packets}
-use Rattle.dtx_erase.specs.Mended.{mended_so_far, mending}
-use Rattle.dtx_erase.specs.UnmarkedLaws.{as_many, as_many_so_far, mended_packet}
-use Rattle.dtx_laws.specs.Codeword.{distance}
 use Rattle.dtx_meaning.specs.Meaning.{Meaning}
 use Rattle.dtx_meaning.specs.declared.status.Outcome.{Outcome}
-use Rattle.dtx_outer.specs.Inner.{word_at}
-use Rattle.dtx_outer.specs.WordsLaws.{length-word}
-use Rattle.dtx_packets.specs.Packets.{packets_of}
-use Rattle.dtx_receiver.specs.Bytes.{bytes_in}
-use Rattle.dtx_receiver.specs.Intervals.{AreRuns, segments_in}
-use Rattle.dtx_receiver.specs.Packets.{all_packets, is_complete, packets_so_far, received}
-use Rattle.dtx_receiver.specs.Runs.{runs}
-use Rattle.dtx_receiver.specs.declared.batch.Received.{Received}
+use Rattle.dtx_engine.specs.Made.{only, outputs_of}
+use Rattle.dtx_engine.specs.Recipe.{meaning_of_file}
+use Rattle.dtx_forms.specs.Shapes.{segments}
+use Rattle.dtx_packet_jobs.specs.PacketFileLaws.{IsLong, length-bytes_of_packets, packets_of-bytes}
 use Rattle.dtx_jobs.specs.GivenLaws.{all_given, sync_answered}
 use Rattle.dtx_jobs.specs.Giving.{Giving, IsGiving, answer_of, bytes_of}
 use Rattle.dtx_jobs.specs.GivingLaws.{flat_bytes}
@@ -43,10 +45,8 @@ use Rattle.dtx_jobs.specs.Mend.{mending_symbols, with_mendings}
 use Rattle.dtx_jobs.specs.MendLaws.{mendings_given}
 use Rattle.dtx_jobs.specs.MendedBack.{CanAllBeMended, CanBeMended, IsMendedBack, all_back_of, mended_bytes, mended_of}
 use Rattle.dtx_jobs.specs.MendedBack.{IsMendable, packets_before, word_marks, word_of}
-use Rattle.dtx_packet_jobs.specs.PacketFileLaws.{IsLong, length-bytes_of_packets, packets_of-bytes}
 use Rattle.dtx_jobs.specs.Receive.{received_bytes, with_corrections}
 use Rattle.dtx_jobs.specs.ReceiveLaws.{corrections_given}
-use Rattle.dtx_forms.specs.Shapes.{segments}
 use Rattle.dtx_jobs.specs.SymbolFile.{file_segments, whole_segments}
 use Rattle.dtx_jobs.specs.SymbolFileLaws.{length-segments_of}
 use Rattle.dtx_jobs.specs.Tally.{fixed_in, flagged_in}

@@ -1,19 +1,19 @@
 //! Laws of what `acquire` makes.
 
 ghost use Rattle.std.specs.Prelude.{◌≡◌, ◌≢◌, ◌↔◌, ◌%◌, ◌<◌, ◌≤◌, ◌++◌, ℕ, ℤ, true, List, [], ◌∷◌, length, take};
-ghost use Rattle.dtx_acquire.specs.Acquired.{acquired, acquired_so_far};
-ghost use Rattle.dtx_acquire.specs.Sent.{AreNear};
 ghost use Rattle.dtx_coder.specs.Stream.{a53, a53_symbols};
-ghost use Rattle.dtx_engine.specs.Recipe.{meaning_of_file};
-ghost use Rattle.dtx_files.specs.Symbols.{segment_bytes};
-ghost use Rattle.dtx_meaning.specs.declared.status.Status.TheVariants.{NoSync};
 ghost use Rattle.dtx_receiver.specs.Intervals.{looks_at};
 ghost use Rattle.dtx_receiver.specs.Runs.{runs};
-ghost use Rattle.dtx_jobs.specs.Acquire.{acquire_answer, acquiring};
-ghost use Rattle.dtx_symbol_laws.specs.AcquiredFile.{acquired_of, acquired_until, file_acquired};
-ghost use Rattle.dtx_jobs.specs.Giving.{no_sync_in};
+ghost use Rattle.dtx_acquire.specs.Acquired.{acquired, acquired_so_far};
+ghost use Rattle.dtx_acquire.specs.Sent.{AreNear};
+ghost use Rattle.dtx_meaning.specs.declared.status.Status.TheVariants.{NoSync};
+ghost use Rattle.dtx_engine.specs.Recipe.{meaning_of_file};
+ghost use Rattle.dtx_files.specs.Symbols.{segment_bytes};
 ghost use Rattle.dtx_forms.specs.Shapes as shapes;
+ghost use Rattle.dtx_jobs.specs.Acquire.{acquire_answer, acquiring};
+ghost use Rattle.dtx_jobs.specs.Giving.{no_sync_in};
 ghost use Rattle.dtx_jobs.specs.SymbolFile.{file_segments};
+ghost use Rattle.dtx_symbol_laws.specs.AcquiredFile.{acquired_of, acquired_until, file_acquired};
 
 use dtx_acquire::laws::{a_small_error_moves_nothing, whole_fields_are_acquired};
 use dtx_sizes::{FIELD_SEGMENTS, MOST_SYMBOLS};

@@ -3,20 +3,20 @@
 ghost use Rattle.std.specs.Prelude.{◌≡◌, ◌+◌, ◌%◌, ◌<◌, ◌≤◌, ◌⊎◌, ◌++◌, ℕ, ℤ, All, None, List, [], length, map};
 ghost use Rattle.std.specs.Prelude.{◌-◌, IfSome, slice_index_or, take};
 ghost use Rattle.std.specs.List.{sum_by};
-ghost use Rattle.dtx_coder.specs.Stream.{a53};
-ghost use Rattle.dtx_files.specs.Symbols.{segment_bytes};
 ghost use Rattle.dtx_packets.specs.Packets.{packets_of, whole_packets};
+ghost use Rattle.dtx_coder.specs.Stream.{a53};
 ghost use Rattle.dtx_receiver.specs.Intervals.{AreRuns, NoneLooks};
 ghost use Rattle.dtx_receiver.specs.Runs.{runs, tracking};
 ghost use Rattle.dtx_soft.specs.Coders.{segments_distance};
 ghost use Rattle.dtx_soft.specs.Softened.{softened, softened_cost};
 ghost use Rattle.dtx_engine.specs.Recipe.{meaning_of_file};
+ghost use Rattle.dtx_files.specs.Symbols.{segment_bytes};
 ghost use Rattle.dtx_forms.specs.Shapes as shapes;
 ghost use Rattle.dtx_jobs.specs.Soft.{counted, in_groups, place_at, soft_rest, soft_so_far, soft_symbols, softening};
-ghost use Rattle.dtx_symbol_laws.specs.SoftFields.{copied_of, fields_of, kept_of, place_behind};
-ghost use Rattle.dtx_symbol_laws.specs.SoftFields.{softened_of, softened_until};
 ghost use Rattle.dtx_jobs.specs.SymbolFile.{file_segments, whole_segments};
 ghost use Rattle.dtx_jobs.specs.Symbols.{symbol_bytes};
+ghost use Rattle.dtx_symbol_laws.specs.SoftFields.{copied_of, fields_of, kept_of, place_behind};
+ghost use Rattle.dtx_symbol_laws.specs.SoftFields.{softened_of, softened_until};
 
 use dtx_sizes::{MOST_PACKETS, MOST_SEGMENTS};
 use dtx_soft::laws::{coder_takes_a_path, keeps_own_field};

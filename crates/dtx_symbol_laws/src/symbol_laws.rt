@@ -3,16 +3,16 @@
 //! cut, or of two one behind the other, what is written of the whole, or of each.
 
 ghost use Rattle.std.specs.Prelude.{◌≡◌, ◌+◌, ◌*◌, ◌<◌, ◌≤◌, ◌%◌, ◌++◌, ℕ, All, List, [], length, take};
-ghost use Rattle.dtx_engine.specs.Recipe.{meaning_of_file};
-ghost use Rattle.dtx_make.specs.Hurt.{hurt};
-ghost use Rattle.dtx_meaning.specs.Status.{ended};
 ghost use Rattle.dtx_plan.specs.declared.damage.Damage.{Damage};
+ghost use Rattle.dtx_make.specs.Hurt.{hurt};
 ghost use Rattle.dtx_receiver.specs.Intervals.{AreRuns, NoneLooks};
+ghost use Rattle.dtx_meaning.specs.Status.{ended};
+ghost use Rattle.dtx_engine.specs.Recipe.{meaning_of_file};
+ghost use Rattle.dtx_forms.specs.Shapes as shapes;
 ghost use Rattle.dtx_packet_jobs.specs.Damaged.{damaged_making};
 ghost use Rattle.dtx_jobs.specs.Giving.{given_until};
 ghost use Rattle.dtx_jobs.specs.Receive.{IsWritten, receive_answer, received_bytes, receiving, with_corrections};
 ghost use Rattle.dtx_jobs.specs.ReceivedLaws.{received_of};
-ghost use Rattle.dtx_forms.specs.Shapes as shapes;
 ghost use Rattle.dtx_jobs.specs.SymbolFile.{file_segments, whole_segments};
 
 use dtx_meaning::Status;

@@ -9,31 +9,8 @@ use Rattle.std.specs.Result.{IsOkAnd}
 use Rattle.std.proofs.lemmas.List.{append-nil, take_all}
 use Rattle.std.proofs.lemmas.List.Elements.{All-get_or}
 use Rattle.std.proofs.lemmas.Option.{slice_get_within, get_or_from_slice_get}
-use Rattle.dtx_chain.specs.ReceivedLaws.{all_whole}
-use Rattle.dtx_engine.specs.Made.{Made, outputs_of}
-use Rattle.dtx_engine.specs.Recipe.{Recipe, first_units, meaning_of_file, whole_units}
-use Rattle.dtx_packet_jobs.specs.Damaged.{damaged_making}
-use Rattle.dtx_packet_jobs.specs.Feed.{feed_bytes}
-use Rattle.dtx_packet_jobs.specs.PacketFileLaws.{packets_of-bytes}
-use Rattle.dtx_packet_jobs.specs.PastEnd.{first_past}
-use Rattle.dtx_forms.specs.PlanFile.{under_plan, under_said}
-use Rattle.dtx_jobs.specs.Receive.{received_bytes, receiving}
-use Rattle.dtx_jobs.specs.ReceiveLaws.{receives_all}
-use Rattle.dtx_forms.specs.Shapes.{packets, segments}
-use Rattle.dtx_jobs.specs.SymbolFile as symbols
-use Rattle.dtx_schedule.specs.Inside.{first_past_feed}
-use Rattle.dtx_make.specs.Hurt.{hurt}
-use Rattle.dtx_meaning.specs.Laws.{whole_of_carried}
-use Rattle.dtx_meaning.specs.Meaning.{Meaning, Outputs, IsCarriedOut, and_then, refused, with_outputs}
-use Rattle.dtx_meaning.specs.Status.{IsFault}
-use Rattle.dtx_meaning.specs.declared.status.Outcome.{Outcome}
-use Rattle.dtx_meaning.specs.declared.status.Status.TheVariants.{Done, Same}
-use Rattle.dtx_network.specs.Network.{steps_under}
-use Rattle.dtx_network.specs.Plans.{IsPlan, IsStream}
 use Rattle.dtx_outside.specs.Shelf.{Files}
 use Rattle.dtx_packets.specs.Packets.{packets_of}
-use Rattle.dtx_net.specs.Sent.{sent_segments}
-use Rattle.dtx_net.specs.Steps.{transmitter_place}
 use Rattle.dtx_plan.specs.WalksLaws.{plan_sound, plan_transmitters}
 use Rattle.dtx_plan.specs.Plan.{plan_of}
 use Rattle.dtx_plan.specs.Sound.{IsTransmitter}
@@ -42,11 +19,34 @@ use Rattle.dtx_plan.specs.declared.plan.Plan.{Plan}
 use Rattle.dtx_plan.specs.declared.plan.ReceivePlan.{ReceivePlan}
 use Rattle.dtx_plan.specs.declared.refusal.PlanNo.{PlanNo}
 use Rattle.dtx_plan.specs.declared.transmitter.Transmitter.{Transmitter}
+use Rattle.dtx_make.specs.Hurt.{hurt}
 use Rattle.dtx_receiver.specs.Packets.{received}
-use Rattle.dtx_schedule.specs.FilesLaws.{AreApart, apart_of, files_with, with_outputs-told}
-use Rattle.dtx_schedule.specs.TransmitterFiles.{played_outputs, symbol_file}
+use Rattle.dtx_net.specs.Sent.{sent_segments}
+use Rattle.dtx_net.specs.Steps.{transmitter_place}
+use Rattle.dtx_chain.specs.ReceivedLaws.{all_whole}
+use Rattle.dtx_network.specs.Network.{steps_under}
+use Rattle.dtx_network.specs.Plans.{IsPlan, IsStream}
+use Rattle.dtx_meaning.specs.Laws.{whole_of_carried}
+use Rattle.dtx_meaning.specs.Meaning.{Meaning, Outputs, IsCarriedOut, and_then, refused, with_outputs}
+use Rattle.dtx_meaning.specs.Status.{IsFault}
+use Rattle.dtx_meaning.specs.declared.status.Outcome.{Outcome}
+use Rattle.dtx_meaning.specs.declared.status.Status.TheVariants.{Done, Same}
+use Rattle.dtx_engine.specs.Made.{Made, outputs_of}
+use Rattle.dtx_engine.specs.Recipe.{Recipe, first_units, meaning_of_file, whole_units}
 use Rattle.dtx_words.specs.Names.{repeated}
 use Rattle.dtx_words.specs.NetworkNames.{feed_name, received_name}
+use Rattle.dtx_forms.specs.PlanFile.{under_plan, under_said}
+use Rattle.dtx_forms.specs.Shapes.{packets, segments}
+use Rattle.dtx_packet_jobs.specs.Damaged.{damaged_making}
+use Rattle.dtx_packet_jobs.specs.Feed.{feed_bytes}
+use Rattle.dtx_packet_jobs.specs.PacketFileLaws.{packets_of-bytes}
+use Rattle.dtx_packet_jobs.specs.PastEnd.{first_past}
+use Rattle.dtx_jobs.specs.Receive.{received_bytes, receiving}
+use Rattle.dtx_jobs.specs.ReceiveLaws.{receives_all}
+use Rattle.dtx_jobs.specs.SymbolFile as symbols
+use Rattle.dtx_schedule.specs.Inside.{first_past_feed}
+use Rattle.dtx_schedule.specs.FilesLaws.{AreApart, apart_of, files_with, with_outputs-told}
+use Rattle.dtx_schedule.specs.TransmitterFiles.{played_outputs, symbol_file}
 use Rattle.dtx_top.specs.HeadlineOfFiles.{HeadlineLaw, HeadlineOfFiles}
 use Rattle.dtx_top.specs.NetMeaning.{adapting, events_past, fed_meaning, is_done, network_meaning, planned_meaning}
 use Rattle.dtx_top.specs.NetMeaning.{played_and_received, received_of, received_past, with_received}

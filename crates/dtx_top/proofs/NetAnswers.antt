@@ -1,25 +1,25 @@
 -- What an answer of one input says of a network.
 use Rattle.std.specs.Prelude.{◌≡◌, ◌≢◌, ℕ, ◌<◌, List, [], Option, Some, None, position}
 use Rattle.std.proofs.Common.{arith, subst, sym, ap, ◌∙◌}
-use Rattle.dtx_engine.specs.Recipe.{IsAnswerOf}
-use Rattle.dtx_forms.specs.Answers.{Knows}
-use Rattle.dtx_jobs.specs.AnswersLaws.{receive_knows}
-use Rattle.dtx_packet_jobs.specs.Damaged.{damaged_making}
-use Rattle.dtx_forms.specs.OfWordsLaws.{refusal_of_input}
-use Rattle.dtx_packet_jobs.specs.PastEnd.{ends_past, first_past}
-use Rattle.dtx_forms.specs.PlanFile.{IsPlanRefusal}
-use Rattle.dtx_jobs.specs.Receive.{receiving}
+use Rattle.dtx_plan.specs.declared.damage.Damage.{Damage}
+use Rattle.dtx_plan.specs.declared.plan.Plan as plans
+use Rattle.dtx_plan.specs.declared.plan.ReceivePlan.{ReceivePlan}
 use Rattle.dtx_make.specs.Hurt.{hurt}
 use Rattle.dtx_meaning.specs.Status.{IsOfInput}
 use Rattle.dtx_meaning.specs.declared.status.Status.{Status}
 use Rattle.dtx_meaning.specs.declared.status.Status.TheVariants.{Done, Usage, Same, Absent, Plan, Packet, TooLong}
 use Rattle.dtx_meaning.specs.declared.status.Status.TheVariants.{OutOfFeed, OutOfAir, NoSync, ReadFault, WriteFault}
 use Rattle.dtx_meaning.specs.declared.status.Status.TheVariants.{Memory}
-use Rattle.dtx_schedule.specs.PlayedSoFar.{IsOfFeed}
-use Rattle.dtx_plan.specs.declared.damage.Damage.{Damage}
-use Rattle.dtx_plan.specs.declared.plan.Plan as plans
-use Rattle.dtx_plan.specs.declared.plan.ReceivePlan.{ReceivePlan}
+use Rattle.dtx_engine.specs.Recipe.{IsAnswerOf}
 use Rattle.dtx_words.specs.declared.rows.Command.TheVariants.{Receive}
+use Rattle.dtx_forms.specs.Answers.{Knows}
+use Rattle.dtx_forms.specs.OfWordsLaws.{refusal_of_input}
+use Rattle.dtx_forms.specs.PlanFile.{IsPlanRefusal}
+use Rattle.dtx_packet_jobs.specs.Damaged.{damaged_making}
+use Rattle.dtx_packet_jobs.specs.PastEnd.{ends_past, first_past}
+use Rattle.dtx_jobs.specs.AnswersLaws.{receive_knows}
+use Rattle.dtx_jobs.specs.Receive.{receiving}
+use Rattle.dtx_schedule.specs.PlayedSoFar.{IsOfFeed}
 use Rattle.dtx_top.specs.NetAnswers.{IsOfNetwork, IsOfReplay}
 use Rattle.dtx_top.specs.NetMeaning.{adapting}
 

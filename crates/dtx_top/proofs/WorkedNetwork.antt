@@ -9,23 +9,8 @@ use Rattle.std.specs.Option.{option_map_or}
 use Rattle.std.proofs.lemmas.Bool.{and_from, eq-eqb}
 use Rattle.std.proofs.lemmas.List.Elements.{Contains-append_right}
 use Rattle.std.proofs.lemmas.Option.{get_or_from_slice_get, slice_get_within}
-use Rattle.dtx_adapter.specs.Feed.{feed}
-use Rattle.dtx_chain.specs.Undamaged.{ArePackets}
-use Rattle.dtx_exciter.specs.Lockstep.{locked_by, locked_from}
-use Rattle.dtx_exciter.specs.Packets.{anchor_of}
-use Rattle.dtx_jobs.specs.SymbolFile as file
 use Rattle.dtx_lists.proofs.Range.{range_cases}
-use Rattle.dtx_make.specs.Hurt.{hurt}
-use Rattle.dtx_net.specs.Lives.{last_life}
-use Rattle.dtx_net.specs.PlaceOfLaws.{place_only}
-use Rattle.dtx_net.specs.Sent.{sent_segments}
-use Rattle.dtx_net.specs.Steps.{Step, transmitter_place}
-use Rattle.dtx_network.specs.GivesBack.{BeginsField, IsReceivedAlone, next_field}
-use Rattle.dtx_network.specs.Headline.{IsFirstListing, stretch_of}
-use Rattle.dtx_network.specs.Network.{AreOfOthers, Joined, steps_under}
-use Rattle.dtx_network.specs.Orders.{has_listing, has_order}
-use Rattle.dtx_network.specs.Plans.{IsInTime, IsListed, IsPlan, IsStream}
-use Rattle.dtx_network.specs.Presets.{orders}
+use Rattle.dtx_lists.proofs.RangeFilter.{filter-kept, filter-lost}
 use Rattle.dtx_outside.specs.Shelf.{Files}
 use Rattle.dtx_packets.specs.Packets.{packets_of}
 use Rattle.dtx_plan.specs.declared.event.Event.{Event}
@@ -34,10 +19,25 @@ use Rattle.dtx_plan.specs.declared.plan.NetPlan.{NetPlan}
 use Rattle.dtx_plan.specs.declared.plan.Plan.{Plan}
 use Rattle.dtx_plan.specs.declared.plan.ReceivePlan.{ReceivePlan}
 use Rattle.dtx_plan.specs.declared.transmitter.Transmitter.{Transmitter}
+use Rattle.dtx_make.specs.Hurt.{hurt}
 use Rattle.dtx_receiver.specs.Packets.{received}
-use Rattle.dtx_lists.proofs.RangeFilter.{filter-kept, filter-lost}
-use Rattle.dtx_schedule.specs.TransmitterFiles.{symbol_file}
+use Rattle.dtx_adapter.specs.Feed.{feed}
+use Rattle.dtx_exciter.specs.Lockstep.{locked_by, locked_from}
+use Rattle.dtx_exciter.specs.Packets.{anchor_of}
+use Rattle.dtx_net.specs.Lives.{last_life}
+use Rattle.dtx_net.specs.PlaceOfLaws.{place_only}
+use Rattle.dtx_net.specs.Sent.{sent_segments}
+use Rattle.dtx_net.specs.Steps.{Step, transmitter_place}
+use Rattle.dtx_chain.specs.Undamaged.{ArePackets}
+use Rattle.dtx_network.specs.GivesBack.{BeginsField, IsReceivedAlone, next_field}
+use Rattle.dtx_network.specs.Headline.{IsFirstListing, stretch_of}
+use Rattle.dtx_network.specs.Network.{AreOfOthers, Joined, steps_under}
+use Rattle.dtx_network.specs.Orders.{has_listing, has_order}
+use Rattle.dtx_network.specs.Plans.{IsInTime, IsListed, IsPlan, IsStream}
+use Rattle.dtx_network.specs.Presets.{orders}
 use Rattle.dtx_words.specs.NetworkNames.{received_name}
+use Rattle.dtx_jobs.specs.SymbolFile as file
+use Rattle.dtx_schedule.specs.TransmitterFiles.{symbol_file}
 use Rattle.dtx_top.specs.HeadlineOfFiles.{HeadlineLaw, HeadlineOfFiles}
 use Rattle.dtx_top.specs.Networks.{damaged_file, sent_file}
 use Rattle.dtx_top.specs.WorkedNetwork.{HasAllBack, IsGivenBack, IsLittle, IsSimple, WorkedNetwork}

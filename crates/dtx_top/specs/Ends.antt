@@ -100,10 +100,10 @@ IsOfCommand (Some command) words status = IsOfJob (job_of command) words status
 
 -- ---- a command, but for its line
 
--- A command was done, but for its line, in which this name stands where the words don't say which. Where the files are
--- told, what the words mean was carried out, a network came so far, and the headline holds where it is done; whether
--- they are told or not, the answer is one that the words allow, and the counts have gone with it.
-pub record IsCommandDone (command : Option Command) (words : List (List ℕ)) (outcome : Outcome) (kept : List ℕ)
+-- A command was performed, but for its line, in which this name stands where the words don't say which. Where the
+-- files are told, what the words mean was carried out, a network came so far, and the headline holds where it is done;
+-- whether they are told or not, the answer is one that the words allow, and the counts have gone with it.
+pub record IsCommandPerformed (command : Option Command) (words : List (List ℕ)) (outcome : Outcome) (kept : List ℕ)
     (told now : Option Files) (before after : Counts) : Type 0 where
   pub carried : IfSome told (λ held. IsCarriedOut (means_of command words held) (Some held) outcome now)
   pub gone : HasGone before after (blame_of outcome.status)

@@ -2,12 +2,6 @@
 -- symbols are those of ATSC A/53 Part 2).
 use Rattle.std.specs.Prelude.{◌≡◌, ℕ, ◌+◌, Option, Some, IsSomeAnd, List, [], ◌∷◌, length, slice_get}
 use Rattle.std.specs.FinMap.{get}
-use Rattle.dtx_adapter.specs.Feed.{feed}
-use Rattle.dtx_jobs.specs.SymbolFile.{file_segments}
-use Rattle.dtx_network.specs.GivesBack.{GivesBack, GivesAllBack}
-use Rattle.dtx_net.specs.Sent as sent
-use Rattle.dtx_network.specs.Network.{steps_under, Headline, Joined}
-use Rattle.dtx_network.specs.Plans.{IsPlan, IsStream}
 use Rattle.dtx_outside.specs.Shelf.{Files}
 use Rattle.dtx_packets.specs.Packets.{packets_of}
 use Rattle.dtx_plan.specs.declared.event.Event.{Event}
@@ -16,8 +10,14 @@ use Rattle.dtx_plan.specs.declared.plan.Plan.{Plan}
 use Rattle.dtx_plan.specs.declared.plan.ReceivePlan.{ReceivePlan}
 use Rattle.dtx_plan.specs.declared.transmitter.Transmitter.{Transmitter}
 use Rattle.dtx_receiver.specs.Packets.{received}
-use Rattle.dtx_schedule.specs.TransmitterFiles.{symbol_file}
+use Rattle.dtx_adapter.specs.Feed.{feed}
+use Rattle.dtx_net.specs.Sent as sent
+use Rattle.dtx_network.specs.GivesBack.{GivesBack, GivesAllBack}
+use Rattle.dtx_network.specs.Network.{steps_under, Headline, Joined}
+use Rattle.dtx_network.specs.Plans.{IsPlan, IsStream}
 use Rattle.dtx_words.specs.NetworkNames.{received_name}
+use Rattle.dtx_jobs.specs.SymbolFile.{file_segments}
+use Rattle.dtx_schedule.specs.TransmitterFiles.{symbol_file}
 use Rattle.dtx_top.specs.Networks.{damaged_file, AreWholeFiles, OfNetwork}
 
 -- the headline of every plan and stream, as the network's law says it

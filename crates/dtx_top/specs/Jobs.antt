@@ -1,24 +1,24 @@
 -- The job of each command.
 use Rattle.std.specs.Prelude.{Option, Some, None}
-use Rattle.dtx_jobs.specs.Acquire.{acquire_job}
-use Rattle.dtx_packet_jobs.specs.Adapt.{adapt_job}
-use Rattle.dtx_jobs.specs.Code.{code_job}
-use Rattle.dtx_packet_jobs.specs.DvbCode.{dvb_code_job}
-use Rattle.dtx_packet_jobs.specs.DvbRead.{dvb_read_job}
-use Rattle.dtx_jobs.specs.Excite.{excite_job}
-use Rattle.dtx_packet_jobs.specs.Hurt.{hurt_job}
-use Rattle.dtx_packet_jobs.specs.Make.{make_job}
-use Rattle.dtx_jobs.specs.Mend.{mend_job}
-use Rattle.dtx_packet_jobs.specs.Place.{place_job}
-use Rattle.dtx_jobs.specs.Receive.{receive_job}
-use Rattle.dtx_jobs.specs.Repeat.{repeat_job}
-use Rattle.dtx_jobs.specs.Soft.{soft_job}
-use Rattle.dtx_jobs.specs.Watch.{watch_job}
-use Rattle.dtx_forms.specs.Job.{Job}
 use Rattle.dtx_words.specs.declared.rows.Command.{Command}
 use Rattle.dtx_words.specs.declared.rows.Command.TheVariants.{Adapt, Code, Excite, Receive, Net, Make, Hurt, Place}
 use Rattle.dtx_words.specs.declared.rows.Command.TheVariants.{Trial, Soft, Mend, DvbCode, DvbRead, Repeat}
 use Rattle.dtx_words.specs.declared.rows.Command.TheVariants.{Acquire, Watch}
+use Rattle.dtx_forms.specs.Job.{Job}
+use Rattle.dtx_packet_jobs.specs.Adapt.{adapt_job}
+use Rattle.dtx_packet_jobs.specs.DvbCode.{dvb_code_job}
+use Rattle.dtx_packet_jobs.specs.DvbRead.{dvb_read_job}
+use Rattle.dtx_packet_jobs.specs.Hurt.{hurt_job}
+use Rattle.dtx_packet_jobs.specs.Make.{make_job}
+use Rattle.dtx_packet_jobs.specs.Place.{place_job}
+use Rattle.dtx_jobs.specs.Acquire.{acquire_job}
+use Rattle.dtx_jobs.specs.Code.{code_job}
+use Rattle.dtx_jobs.specs.Excite.{excite_job}
+use Rattle.dtx_jobs.specs.Mend.{mend_job}
+use Rattle.dtx_jobs.specs.Receive.{receive_job}
+use Rattle.dtx_jobs.specs.Repeat.{repeat_job}
+use Rattle.dtx_jobs.specs.Soft.{soft_job}
+use Rattle.dtx_jobs.specs.Watch.{watch_job}
 use Rattle.dtx_top.specs.Trial.{trial_job}
 
 -- `net` has none: which files it reads and writes its plan says, and not its words.

@@ -10,14 +10,14 @@ use Rattle.dtx_top.specs.Jobs.{job_of}
 use Rattle.dtx_top.specs.NetMeaning.{net_meaning}
 
 -- what words mean to a job, and to `net`, which is none
-abbrev pub means_to : Option Job → List (List ℕ) → Files → Meaning
-means_to (Some job) words held = job.means words held
-means_to None words held = net_meaning words held
+abbrev pub means_of_job : Option Job → List (List ℕ) → Files → Meaning
+means_of_job (Some job) words held = job.means words held
+means_of_job None words held = net_meaning words held
 
 -- what the words mean where they fit that command, and where they fit none
 abbrev pub means_of : Option Command → List (List ℕ) → Files → Meaning
 means_of None words held = refused Usage
-means_of (Some command) words held = means_to (job_of command) words held
+means_of (Some command) words held = means_of_job (job_of command) words held
 
 -- how the words are answered and what they write where nothing fails: a function of the words and of the files
 abbrev pub means : List (List ℕ) → Files → Meaning

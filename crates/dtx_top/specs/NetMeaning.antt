@@ -2,19 +2,6 @@
 use Rattle.std.specs.Prelude.{ℕ, Bool, true, false, if◌then◌else◌, List, [], ◌∷◌, length, slice_index, Option, Some}
 use Rattle.std.specs.Prelude.{None, is_some}
 use Rattle.std.specs.FinMap.{get}
-use Rattle.dtx_adapter.specs.Feed.{placeholders}
-use Rattle.dtx_engine.specs.Recipe.{Recipe, meaning_of_file}
-use Rattle.dtx_packet_jobs.specs.Adapt.{feeding}
-use Rattle.dtx_packet_jobs.specs.Damaged.{damaged_making}
-use Rattle.dtx_packet_jobs.specs.PastEnd.{first_past}
-use Rattle.dtx_forms.specs.PlanFile.{under_plan}
-use Rattle.dtx_jobs.specs.Receive.{receiving}
-use Rattle.dtx_forms.specs.Shapes.{packets, segments}
-use Rattle.dtx_meaning.specs.Meaning.{Meaning, and_then, refused}
-use Rattle.dtx_meaning.specs.declared.status.Outcome.{Outcome}
-use Rattle.dtx_meaning.specs.declared.status.Status.{Status}
-use Rattle.dtx_meaning.specs.declared.status.Status.TheVariants.{Done, Usage, Same, Absent, Plan, OutOfFeed, OutOfAir}
-use Rattle.dtx_network.specs.Network.{steps_under}
 use Rattle.dtx_outside.specs.Shelf.{Files}
 use Rattle.dtx_packets.specs.Packets.{packets_of}
 use Rattle.dtx_plan.specs.declared.damage.Damage.{Damage}
@@ -23,11 +10,24 @@ use Rattle.dtx_plan.specs.declared.plan.NetPlan.{NetPlan}
 use Rattle.dtx_plan.specs.declared.plan.Plan as whole
 use Rattle.dtx_plan.specs.declared.plan.ReceivePlan.{ReceivePlan}
 use Rattle.dtx_plan.specs.declared.rule.PlanRule.TheVariants.{Missing}
+use Rattle.dtx_adapter.specs.Feed.{placeholders}
+use Rattle.dtx_network.specs.Network.{steps_under}
+use Rattle.dtx_meaning.specs.Meaning.{Meaning, and_then, refused}
+use Rattle.dtx_meaning.specs.declared.status.Outcome.{Outcome}
+use Rattle.dtx_meaning.specs.declared.status.Status.{Status}
+use Rattle.dtx_meaning.specs.declared.status.Status.TheVariants.{Done, Usage, Same, Absent, Plan, OutOfFeed, OutOfAir}
+use Rattle.dtx_engine.specs.Recipe.{Recipe, meaning_of_file}
+use Rattle.dtx_words.specs.Names.{repeated}
+use Rattle.dtx_words.specs.NetworkNames.{feed_name, received_name}
+use Rattle.dtx_forms.specs.PlanFile.{under_plan}
+use Rattle.dtx_forms.specs.Shapes.{packets, segments}
+use Rattle.dtx_packet_jobs.specs.Adapt.{feeding}
+use Rattle.dtx_packet_jobs.specs.Damaged.{damaged_making}
+use Rattle.dtx_packet_jobs.specs.PastEnd.{first_past}
+use Rattle.dtx_jobs.specs.Receive.{receiving}
 use Rattle.dtx_schedule.specs.Inside.{first_past_feed}
 use Rattle.dtx_schedule.specs.Playout.{packets_given}
 use Rattle.dtx_schedule.specs.TransmitterFiles.{played_outputs}
-use Rattle.dtx_words.specs.Names.{repeated}
-use Rattle.dtx_words.specs.NetworkNames.{feed_name, received_name}
 use Rattle.dtx_top.specs.Networks.{network_names, sent_file}
 use Rattle.dtx_top.specs.OfBytes.{of_bytes}
 

@@ -1,6 +1,6 @@
 // The command that the words fit, but for its line.
 ghost use Rattle.std.specs.Prelude.{◌≡◌, length};
-ghost use Rattle.dtx_top.specs.Ends.{IsCommandDone};
+ghost use Rattle.dtx_top.specs.Ends.{IsCommandPerformed};
 
 use crate::net_command::{NetOutcome, net};
 use crate::trial_command::trial;
@@ -21,7 +21,7 @@ pub(crate) fn perform<S: Shelf>(
     words: &[Word],
     shelf: &mut S,
 ) -> NetOutcome
-    ensures done { IsCommandDone command words.now result.outcome result.name.bytes (S.files shelf.old)
+    ensures performed { IsCommandPerformed command words.now result.outcome result.name.bytes (S.files shelf.old)
         (S.files shelf.new) (S.counts shelf.old) (S.counts shelf.new) }
     ensures seven { length result.outcome.numbers ≡ 7 }
 {

@@ -25,7 +25,7 @@ impl Desk {
         }
     }
 
-    /// Takes away the files and what was printed.
+    /// Makes it as it was at first: no file is there, and nothing was printed.
     pub fn clear(&mut self) {
         self.shelf = MemoryShelf::new(self.alloc);
         self.out = MemorySink::new(self.alloc);
@@ -33,7 +33,12 @@ impl Desk {
     }
 
     /// Puts a file of two parts there.
-    pub fn put_both(&mut self, name: &str, first: &[u8], second: &[u8]) -> Result<(), AllocError> {
+    pub fn put_joined(
+        &mut self,
+        name: &str,
+        first: &[u8],
+        second: &[u8],
+    ) -> Result<(), AllocError> {
         let mut bytes = Vec::new(self.alloc);
         bytes.extend_from_slice(first)?;
         bytes.extend_from_slice(second)?;

@@ -103,7 +103,7 @@ const MAKING: [&str; 3] = ["make 1 1300 s.ts", "adapt p s.ts f.ts", "code f.ts c
 
 /// Makes all of them, from the plan and the changes.
 fn make_inputs(desk: &mut Desk) -> Result<(), AllocError> {
-    desk.put_both("p", HEAD, RECEIVED)?;
+    desk.put_joined("p", HEAD, RECEIVED)?;
     desk.put("c", CHANGES)?;
     desk.run_each(&MAKING)
 }
@@ -125,8 +125,8 @@ fn put_all(desk: &mut Desk, inputs: &Desk, outputs: &[&str]) -> Result<(), Alloc
 /// The number of no call.
 const NEVER: u64 = u64::MAX;
 
-/// Does the command over these inputs and nothing else, where the call of that kind and number fails.
-fn play(
+/// Runs the command over these inputs and nothing else, where the call of that kind and number fails.
+fn run_over(
     desk: &mut Desk,
     inputs: &Desk,
     case: &Case,
@@ -204,8 +204,8 @@ impl Desks {
     /// inputs stand.
     fn ends_well(&mut self, case: &Case, call: Call) -> Result<bool, AllocError> {
         for nth in [0, 1, 2, self.whole.calls(call).saturating_sub(1)] {
-            play(&mut self.broken, &self.inputs, case, call, nth)?;
-            if !self.has_ended_well(case, call, nth) {
+            run_over(&mut self.broken, &self.inputs, case, call, nth)?;
+            if !self.broken_has_ended_well(case, call, nth) {
                 return Ok(false);
             }
         }
@@ -213,14 +213,14 @@ impl Desks {
     }
 
     /// Whether it has ended so where the call of that kind and number failed.
-    fn has_ended_well(&self, case: &Case, call: Call, nth: u64) -> bool {
+    fn broken_has_ended_well(&self, case: &Case, call: Call, nth: u64) -> bool {
         has_ended_well(&self.broken, &self.whole, case, call, nth)
             && are_alike(&self.broken, &self.inputs, &INPUTS)
     }
 
     /// Whether the command is done, and ends as it should where a call of any kind fails.
     fn always_ends_well(&mut self, case: &Case) -> Result<bool, AllocError> {
-        play(&mut self.whole, &self.inputs, case, Call::Read, NEVER)?;
+        run_over(&mut self.whole, &self.inputs, case, Call::Read, NEVER)?;
         for call in [Call::Read, Call::Begin, Call::Append] {
             if !self.ends_well(case, call)? {
                 return Ok(false);
@@ -242,9 +242,9 @@ impl Desks {
 
     /// Whether at least half of the output stands where the last read fails.
     fn half_stands(&mut self, case: &Case) -> Result<bool, AllocError> {
-        play(&mut self.whole, &self.inputs, case, Call::Read, NEVER)?;
+        run_over(&mut self.whole, &self.inputs, case, Call::Read, NEVER)?;
         let last = self.whole.calls(Call::Read).saturating_sub(1);
-        play(&mut self.broken, &self.inputs, case, Call::Read, last)?;
+        run_over(&mut self.broken, &self.inputs, case, Call::Read, last)?;
         Ok(has_half(&self.broken, &self.whole))
     }
 
@@ -298,7 +298,7 @@ const IN_TURN: &[u8] = b"net.event = [{ do = \"send\", to = 7, from = 0, count =
 
 /// Plays that plan over 1,300 made packets, where the append of that number fails.
 fn play_in_turn(desk: &mut Desk, failing: u64) -> Result<(), AllocError> {
-    desk.put_both("p", HEAD, IN_TURN)?;
+    desk.put_joined("p", HEAD, IN_TURN)?;
     desk.run("make 1 1300 s.ts")?;
     desk.run_failing("net p", Call::Append, failing)
 }
@@ -332,8 +332,8 @@ fn last_append_breaks(whole: &mut Desk, broken: &mut Desk) -> Result<bool, Alloc
     Ok(all_is_sent(whole) && breaks_off(broken, whole))
 }
 
-/// Whether a network breaks off so.
-fn breaks(rt: &HostRuntime) -> Result<bool, AllocError> {
+/// Whether a network over new desks does so.
+fn a_new_network_breaks(rt: &HostRuntime) -> Result<bool, AllocError> {
     let mut whole = Desk::new(rt);
     let mut broken = Desk::new(rt);
     last_append_breaks(&mut whole, &mut broken)
@@ -342,6 +342,6 @@ fn breaks(rt: &HostRuntime) -> Result<bool, AllocError> {
 /// All transmitters come as far in their schedule.
 #[test]
 fn a_network_breaks_off_at_one_step_for_all(rt: HostRuntime) -> Result<(), Fail> {
-    assert!(rt; breaks(&rt)?);
+    assert!(rt; a_new_network_breaks(&rt)?);
     Ok(())
 }

@@ -43,14 +43,14 @@ fn tell(desk: &mut Desk) -> Result<bool, AllocError> {
     )
 }
 
-/// Whether they do.
-fn told(rt: &HostRuntime) -> Result<bool, AllocError> {
+/// Whether they do so over a new desk.
+fn tell_anew(rt: &HostRuntime) -> Result<bool, AllocError> {
     let mut desk = Desk::new(rt);
     tell(&mut desk)
 }
 
 #[test]
 fn exciters_and_a_watcher_tell_of_a_feed(rt: HostRuntime) -> Result<(), Fail> {
-    assert!(rt; told(&rt)?);
+    assert!(rt; tell_anew(&rt)?);
     Ok(())
 }

@@ -109,15 +109,15 @@ fn first_astray(desk: &mut Desk) -> Result<&'static str, AllocError> {
     Ok("")
 }
 
-/// The lines of that walk.
-fn lines_astray(rt: &HostRuntime) -> Result<&'static str, AllocError> {
+/// The same over a new desk.
+fn first_astray_anew(rt: &HostRuntime) -> Result<&'static str, AllocError> {
     let mut desk = Desk::new(rt);
     first_astray(&mut desk)
 }
 
 #[test]
 fn what_is_given_comes_back(rt: HostRuntime) -> Result<(), Fail> {
-    let lines = lines_astray(&rt)?;
+    let lines = first_astray_anew(&rt)?;
     assert!(rt; lines.is_empty(), "{lines}");
     Ok(())
 }

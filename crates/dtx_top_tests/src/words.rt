@@ -39,15 +39,16 @@ fn first_otherwise(desk: &mut Desk) -> Result<Option<&'static str>, AllocError> 
     Ok(None)
 }
 
-/// Those words, over no files.
-fn words_otherwise(rt: &HostRuntime) -> Result<Option<&'static str>, AllocError> {
+/// The same over a new desk.
+fn first_otherwise_anew(rt: &HostRuntime) -> Result<Option<&'static str>, AllocError> {
     let mut desk = Desk::new(rt);
     first_otherwise(&mut desk)
 }
 
 #[test]
 fn words_and_names_have_their_status_and_line(rt: HostRuntime) -> Result<(), Fail> {
-    let words = words_otherwise(&rt)?;
-    assert!(rt; words.is_none());
+    let words = first_otherwise_anew(&rt)?;
+    let text = words.unwrap_or("");
+    assert!(rt; words.is_none(), "{text}");
     Ok(())
 }

@@ -3,21 +3,21 @@
 
 ghost use Rattle.std.specs.Prelude.{◌≡◌, ◌+◌, ◌%◌, ◌<◌, ◌≤◌, ◌++◌, ◌∷◌, ℕ, ℤ, List, Some, [], length, take};
 ghost use Rattle.std.specs.FinMap as files;
-ghost use Rattle.dtx_chain.specs.Damage.{AreReceived, to_sync};
-ghost use Rattle.dtx_chain.specs.Undamaged.{ArePackets};
-ghost use Rattle.dtx_engine.specs.Recipe.{meaning_of_file};
 ghost use Rattle.dtx_erase.specs.Mended.{all_mended, mended, mended_so_far};
 ghost use Rattle.dtx_outside.specs.Shelf.{Files};
 ghost use Rattle.dtx_packets.specs.Packets.{packets_of};
 ghost use Rattle.dtx_receiver.specs.Intervals.{AreRuns, NoneLooks, segments_in};
 ghost use Rattle.dtx_receiver.specs.Packets.{packets_so_far};
 ghost use Rattle.dtx_receiver.specs.declared.batch.Received.{Received};
+ghost use Rattle.dtx_chain.specs.Damage.{AreReceived, to_sync};
+ghost use Rattle.dtx_chain.specs.Undamaged.{ArePackets};
+ghost use Rattle.dtx_engine.specs.Recipe.{meaning_of_file};
+ghost use Rattle.dtx_forms.specs.Shapes as shapes;
 ghost use Rattle.dtx_jobs.specs.Giving.{bytes_of, no_sync_in};
 ghost use Rattle.dtx_jobs.specs.Mend.{mend_job, mending_symbols};
 ghost use Rattle.dtx_jobs.specs.MendedBack.{CanAllBeMended, CanBeMended, IsMendedBack, NoneMissing, all_back_of};
 ghost use Rattle.dtx_jobs.specs.MendedBack.{mended_bytes, mended_of, mended_until, packets_before, word_of};
 ghost use Rattle.dtx_jobs.specs.Receive.{receive_job, received_bytes, receiving};
-ghost use Rattle.dtx_forms.specs.Shapes as shapes;
 ghost use Rattle.dtx_jobs.specs.SymbolFile.{file_segments, whole_segments};
 
 use dtx_meaning::Status;

@@ -1,7 +1,7 @@
 use Rattle.std.proofs.Common.{◌∙◌}
 use Rattle.dtx_forms.specs.Job.{IsJobPerformed}
-use Rattle.dtx_jobs.specs.Acquire.{acquire_job}
 use Rattle.dtx_forms.specs.WordsLaws.{by_four}
+use Rattle.dtx_jobs.specs.Acquire.{acquire_job}
 use Rattle.dtx_jobs.proofs.acquire_command.acquire.Goals as goal
 
 pub returns-in-len4 : goal.returns-in-len4

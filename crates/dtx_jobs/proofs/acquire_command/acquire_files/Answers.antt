@@ -1,6 +1,6 @@
 use Rattle.dtx_words.specs.declared.rows.Command.TheVariants.{Acquire}
-use Rattle.dtx_jobs.specs.Acquire.{acquiring}
 use Rattle.dtx_forms.specs.AnswersLaws.{transformed_knows}
+use Rattle.dtx_jobs.specs.Acquire.{acquiring}
 use Rattle.dtx_jobs.specs.AnswersLaws.{acquire_knows}
 use Rattle.dtx_jobs.proofs.acquire_command.acquire_files.Goals as goal
 

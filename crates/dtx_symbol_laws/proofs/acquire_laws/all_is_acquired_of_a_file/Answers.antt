@@ -1,5 +1,5 @@
-use Rattle.dtx_symbol_laws.proofs.AcquiredFile.{first_acquired, none_acquired, some_acquired, until_acquired}
 use Rattle.dtx_jobs.specs.SymbolFile.{symbols}
+use Rattle.dtx_symbol_laws.proofs.AcquiredFile.{first_acquired, none_acquired, some_acquired, until_acquired}
 use Rattle.dtx_symbol_laws.proofs.acquire_laws.all_is_acquired_of_a_file.Goals as goal
 
 pub returns-clause-done : goal.returns-clause-done
