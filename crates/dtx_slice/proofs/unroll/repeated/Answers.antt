@@ -1,7 +1,10 @@
-use Rattle.std.proofs.Common.{◌+◌, ◌/◌, ◌%◌, get_or, arith}
+use Rattle.std.proofs.Common.{◌+◌, ◌/◌, ◌%◌, get_or, arith, rules}
 use Rattle.std.proofs.lemmas.List.FromFn.{fill_by_all}
 use Rattle.dtx_slice.specs.Unrolled.{precoder_bits_of}
 use Rattle.dtx_slice.proofs.unroll.repeated.Goals as goal
+
+pub loop-e-preserved : goal.loop-e-preserved
+loop-e-preserved c = search rules
 
 pub returns-clause-precoder_bits : goal.returns-clause-precoder_bits
 unfolding precoder_bits_of
