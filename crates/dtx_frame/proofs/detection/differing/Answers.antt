@@ -1,8 +1,11 @@
-use Rattle.std.proofs.Common.{◌≡◌, ◌+◌, map, sum, sym, ap, ap₂, ◌∙◌, arith}
+use Rattle.std.proofs.Common.{◌≡◌, ◌+◌, map, sum, sym, ap, ap₂, ◌∙◌, arith, rules}
 use Rattle.std.specs.List.{range_with_len}
 use Rattle.std.proofs.lemmas.List.FromFn.{sum_by-map-range_with_len_more}
 use Rattle.dtx_frame.specs.Detection.{differs, differing}
 use Rattle.dtx_frame.proofs.detection.differing.Goals as goal
+
+pub loop-i-init : goal.loop-i-init
+loop-i-init c = search rules
 
 pub loop-i-preserved : goal.loop-i-preserved
 loop-i-preserved c = record {
