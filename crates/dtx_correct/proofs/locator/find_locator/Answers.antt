@@ -17,6 +17,9 @@ loop-equation-init c = record {
   long = (c.units-vectors.ensures.long, length-replicate 128 true);
 }
 
+pub first_kept-requires-clause-some : goal.first_kept-requires-clause-some
+first_kept-requires-clause-some c = omega (arith, c.loop-equation.invariant.count)
+
 pub returns-clause-locator : goal.returns-clause-locator
 returns-clause-locator c =
     let t : ℕ = c.args.equations in
