@@ -1,0 +1,5 @@
+use Rattle.std.proofs.Common.{rules}
+use Rattle.dtx_clock.proofs.times.segment.Goals as goal
+
+pub returns-else-packet-lt-FIELD_PACKETS-clause-segment : goal.returns-else-packet-lt-FIELD_PACKETS-clause-segment
+returns-else-packet-lt-FIELD_PACKETS-clause-segment c = search rules
