@@ -155,7 +155,8 @@ impl Softening {
         ensures kept { vec_len self.new.field ≡ FIELD_ROWS }
     {
         self.fields += (count / GROUP_PACKETS).min(1) as u64;
-        self.cost += flush_field(&mut self.soft, &mut self.field, count, &mut self.symbols);
+        let cost = flush_field(&mut self.soft, &mut self.field, count, &mut self.symbols);
+        self.cost += cost;
     }
 }
 

@@ -1,4 +1,4 @@
-use Rattle.std.proofs.Common.{ap, arith}
+use Rattle.std.proofs.Common.{ap, arith, rules}
 use Rattle.dtx_engine.specs.Made.{only}
 use Rattle.dtx_jobs.specs.GivingLaws.{receives_last}
 use Rattle.dtx_jobs.specs.SymbolFile.{file_segments}
@@ -27,3 +27,6 @@ returns-else-self-eq0-clause-rest g c = λ given stand.
     let was = stand.receiving in
     ap only (receives_last g.R.SegmentReceiver.giving g.met.R.SegmentReceiver.gives given c.end.new.self.packets
     (c.end.ensures.brought (file_segments given) (record { receiver = was.receiver; tally = was.tally })))
+
+pub returns-else-self-eq0-clause-outcome : goal.returns-else-self-eq0-clause-outcome
+returns-else-self-eq0-clause-outcome g c = search rules

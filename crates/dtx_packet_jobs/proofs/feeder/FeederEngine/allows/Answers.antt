@@ -1,5 +1,5 @@
-use Rattle.std.proofs.Common.{rules}
+use Rattle.std.proofs.Common.{refl}
 use Rattle.dtx_packet_jobs.proofs.feeder.FeederEngine.allows.Goals as goal
 
 pub returns : goal.returns
-returns c = search rules
+returns c = refl
