@@ -1,7 +1,11 @@
-use Rattle.std.proofs.Common.{◌≡◌, map, sym, ap, ◌∙◌, arith}
+use Rattle.std.proofs.Common.{◌≡◌, map, sym, ap, ◌∙◌, arith, rules}
+use Rattle.std.proofs.lemmas.Grind.{common_steps}
 use Rattle.std.proofs.lemmas.List.{take_all}
 use Rattle.dtx_files.specs.Symbols.{byte_of_symbol}
 use Rattle.dtx_files.proofs.symbols.to_bytes.Goals as goal
+
+pub loop-i-preserved : goal.loop-i-preserved
+loop-i-preserved c = record { long = search rules; done = grind (arith, common_steps) }
 
 pub returns : goal.returns
 returns c =
