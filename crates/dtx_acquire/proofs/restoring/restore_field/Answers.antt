@@ -1,7 +1,10 @@
-use Rattle.std.proofs.Common.{◌++◌, ◌*◌, ◌/◌, ap, drop, length, map, take, ◌∙◌}
+use Rattle.std.proofs.Common.{◌++◌, ◌*◌, ◌/◌, ap, drop, length, map, rules, take, ◌∙◌}
 use Rattle.dtx_soft.specs.Softened.{softened, softened_cost}
 use Rattle.dtx_acquire.specs.Acquired.{behind_groups, in_groups, restored_data, restored_field}
 use Rattle.dtx_acquire.proofs.restoring.restore_field.Goals as goal
+
+pub soften-cost-requires-clause-whole : goal.soften-cost-requires-clause-whole
+soften-cost-requires-clause-whole c = search rules
 
 pub returns-clause-segments : goal.returns-clause-segments
 unfolding restored_field in_groups behind_groups

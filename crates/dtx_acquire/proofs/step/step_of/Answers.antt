@@ -1,4 +1,4 @@
-use Rattle.std.proofs.Common.{◌≡◌, ◌+◌, sym, ap, ◌∙◌, arith}
+use Rattle.std.proofs.Common.{◌≡◌, ℕ, ◌+◌, ◌≤◌, sym, ap, ◌∙◌, arith}
 use Rattle.dtx_acquire.specs.Agreement.{agrees}
 use Rattle.dtx_acquire.specs.AgreementLaws.{least_gives}
 use Rattle.dtx_acquire.specs.StepsLaws.{agrees_dropped, step_due, step_kept, step_lost}
@@ -35,6 +35,12 @@ pub returns-in-Some-clause-most : goal.returns-in-Some-clause-most
 returns-in-Some-clause-most c =
     let is = least_gives c.args.symbols.now 1 c.in-Some.count (sym c.search.ensures ∙ c.in-Some.is) in
     omega (arith, is.within, c.requires.full)
+
+zero_least : (n : ℕ) → 0 ≤ n
+zero_least n = omega arith
+
+pub returns-in-Some-clause-behind : goal.returns-in-Some-clause-behind
+returns-in-Some-clause-behind c = zero_least c.in-Some.count
 
 pub returns-in-None-clause-fields : goal.returns-in-None-clause-fields
 returns-in-None-clause-fields c = λ wanted begins more.
