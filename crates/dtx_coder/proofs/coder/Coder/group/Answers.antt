@@ -1,5 +1,6 @@
-use Rattle.std.proofs.Common.{rules, ℕ, ◌+◌, ◌++◌, map, sym, ap, ap₂, subst, ◌∙◌}
+use Rattle.std.proofs.Common.{rules, ◌≡◌, ℕ, ◌+◌, ◌*◌, cond, [], ◌++◌, map, take, sym, ap, ap₂, subst, ◌∙◌}
 use Rattle.std.specs.Option.{unwrap_or}
+use Rattle.dtx_frame.specs.Segments.{field_sync}
 use Rattle.dtx_trellis.specs.Groups.{levels_of, states_after}
 use Rattle.dtx_outer.specs.Outer.{Held}
 use Rattle.dtx_coder.specs.Coded.{coded_from}
@@ -35,7 +36,9 @@ returns c =
       branches = c.code_packets.new.outer.branches;
     } in
     let count : ℕ = c.add_group.new.self.segments in
-    let from = c.start_from.ensures in
+    let from : c.start_from.new.twelve ≡ unwrap_or c.args.preset c.self.inside.twelve = c.start_from.ensures in
+    let begun : take (832 * c.begin.new.self.segments) c.begin.new.self.symbols
+    ≡ cond c.args.sync (field_sync c.args.second c.self.inside.last) [] = c.begin.ensures.symbols in
     subst (λ (v : Coding). IsCoded v (given v) new count c.add_group.new.self.symbols) c.self.view_is
     (does_code old (given old) c.code_packets.new.bytes c.add_group.new.twelve c.last-self-inside.result
     c.code_packets.new.outer.branches count c.add_group.new.self.symbols
@@ -48,6 +51,6 @@ returns c =
       twelve = search rules;
       written = c.add_group.ensures.symbols
           ∙ ap₂ (λ s q. s ++ symbols_of (four_segments (levels_of c.args.first q c.code_packets.new.bytes) 0))
-          c.begin.ensures.symbols from;
+          begun from;
       ends = c.last-self-inside.ensures;
     }))
