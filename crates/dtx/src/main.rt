@@ -1,7 +1,8 @@
 // The program `dtx`: it collects its words, and hands the host's files and standard output to `run`.
 #![tactic(auto)]
 
-use dtx_outside::{HostShelf, HostSink, Progress, Word};
+use dtx_host::{HostShelf, HostSink, Progress};
+use dtx_outside::Word;
 use dtx_top::{Status, run};
 use std::fs::File;
 use std::io::{ErrorKind, IsTerminal};

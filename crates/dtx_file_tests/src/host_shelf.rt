@@ -1,6 +1,7 @@
 // Files of the host, and what others do with them meanwhile.
 
-use dtx_outside::{HostShelf, Progress, ReadNo, Shelf, WriteNo};
+use dtx_host::{HostShelf, Progress};
+use dtx_outside::{ReadNo, Shelf, WriteNo};
 use std::test::Fail;
 use std::{fs, io};
 

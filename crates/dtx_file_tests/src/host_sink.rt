@@ -1,6 +1,7 @@
 // The host's standard output.
 
-use dtx_outside::{HostSink, Progress, Sink};
+use dtx_host::{HostSink, Progress};
+use dtx_outside::Sink;
 
 #[test]
 fn bytes_are_printed(rt: HostRuntime) {

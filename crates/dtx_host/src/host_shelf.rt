@@ -6,8 +6,8 @@ ghost use Rattle.dtx_outside.specs.Refusals.{no_counts, counts_read, counts_writ
 ghost use Rattle.dtx_outside.specs.Shelf.{untold, Gives, IsBegun, IsAppended};
 
 use crate::host_files::HostFiles;
-use crate::refusals::Refusals;
-use crate::{Progress, ReadNo, Shelf, WriteNo};
+use crate::progress::Progress;
+use dtx_outside::{ReadNo, Refusals, Shelf, WriteNo};
 use std::marker::Model;
 use std::rt::Files;
 use std::time::Clock;

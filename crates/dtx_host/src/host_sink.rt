@@ -2,7 +2,8 @@
 ghost use Rattle.std.specs.Prelude.{◌≡◌, ◌<◌, ◌≤◌, None, Ok, IfOk, length};
 ghost use Rattle.dtx_outside.specs.Sink.{faults_printed, IsCounted, IsPrinted};
 
-use crate::{Progress, Sink, SinkNo};
+use crate::progress::Progress;
+use dtx_outside::{Sink, SinkNo};
 use std::io::ErrorKind;
 use std::marker::Model;
 

@@ -1,7 +1,7 @@
 // The calls of the host, whose answers are turned at once into what the shelf needs to know of them.
 ghost use Rattle.std.specs.Prelude.{◌≤◌, IfOk, length};
 
-use crate::{ReadNo, WriteNo};
+use dtx_outside::{ReadNo, WriteNo};
 use std::fs::{Metadata, OpenFile, OpenOptions};
 use std::io::{ErrorKind, Read, Seek, SeekFrom, Write};
 use std::os::unix::fs::{FileTypeExt, MetadataExt};

@@ -1,7 +1,7 @@
 // Which files of the host were met, under which names: how long those have to be that were begun, and which of them are
 // held open.
 use crate::found::{FileId, Found, add};
-use crate::{ReadNo, WriteNo};
+use dtx_outside::{ReadNo, WriteNo};
 use std::alloc::{AllocError, Global};
 use std::io::Write;
 

@@ -3,7 +3,8 @@ ghost use Rattle.std.specs.Prelude.{◌≤◌, IfOk, length};
 
 use crate::files_met::{FilesMet, Met};
 use crate::found::{Found, empty, found_open, found_under, open, read_at};
-use crate::{Progress, ReadNo, WriteNo};
+use crate::progress::Progress;
+use dtx_outside::{ReadNo, WriteNo};
 use std::fs::OpenOptions;
 use std::rt::Files;
 use std::time::Clock;
