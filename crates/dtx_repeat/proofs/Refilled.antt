@@ -59,3 +59,7 @@ one_on k i n xs now d packet inside is place marks =
         ∙ ap (λ z. z ++ drop (i + 1) xs)
         (restored_behind k n (take i xs) (x ∷ []) (omega (arith, place, taken))
         ∙ ap (λ z. front ++ z) (one_alone n x))
+
+-- the place of the next packet
+pub next_on : (k i n : ℕ) → n ≡ (k + i) % 624 → (n + 1) % 624 ≡ (k + (i + 1)) % 624
+next_on k i n place = omega (arith, place)
