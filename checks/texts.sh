@@ -15,8 +15,8 @@ fi
 
 # Crates that may have fewer than three must-fail edits: `dtx` and `dtx_bench` are programs, whose `main` has no contract
 # that an edit could break, `dtx_lists`, `dtx_gap_filler`, `dtx_repeated_feed` and `dtx_symbol_laws` have lemmas and laws
-# alone, `dtx_host` has the clauses of the traits alone, of files that tell nothing, and the crates of tests, whose names
-# end so, have nothing that another crate stands on.
+# alone, `dtx_host` promises what the traits ask of files that tell nothing, and that answers are counted, and the crates
+# of tests, whose names end so, have nothing that another crate stands on.
 few_edits=' dtx dtx_bench dtx_host dtx_lists dtx_gap_filler dtx_repeated_feed dtx_symbol_laws '
 
 passed=0

@@ -1,5 +1,4 @@
-use Rattle.std.proofs.Common.{rules}
 use Rattle.dtx_jobs.proofs.mend_command.mend.Goals as goal
 
 pub returns : goal.returns
-returns g c = search rules
+returns g c = c.transform.ensures
