@@ -8,7 +8,7 @@ use crate::mark_side::MarkSide;
 use crate::side::Side;
 use crate::words::Words;
 use dtx_receiver::Batch;
-use dtx_sizes::{FIELD_PACKETS, PACKET_DATA, SEGMENT};
+use dtx_sizes::{BRANCHES, FIELD_PACKETS, PACKET_DATA, SEGMENT};
 use std::alloc::{AllocError, Global};
 use std::marker::Model;
 
@@ -100,7 +100,7 @@ impl Decoder {
         ensures { (run : List (List ℤ)) → Decodes self.old run
             → mended_run run ≡ mended_run_early run ++ batch.new.packets.items }
     {
-        if self.waits == 0 && self.place % 52 == 0 {
+        if self.waits == 0 && self.place % BRANCHES as u16 == 0 {
             let word = self.bytes.last_word();
             let flags = self.marks.last_word();
             self.words.give(self.place, &word, &flags, batch);

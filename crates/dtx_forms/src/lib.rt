@@ -13,7 +13,8 @@ pub use changing::Changing;
 pub use combining::{Combining, combine};
 pub use plan_file::{changes_in, plan_in};
 pub use shapes::{
-    CODED_PACKETS, PIECE_SEGMENTS, coded_packets, packets, segments, single_bytes, single_packets,
+    CODED_PACKETS, PIECE_BYTES, PIECE_SEGMENTS, coded_packets, packets, segments, single_bytes,
+    single_packets,
 };
 pub use transforming::{Transforming, transform, transform_dvb};
 pub use transmitting::{Transmitting, transmit};

@@ -12,6 +12,9 @@ use dtx_sizes::{
 /// How many segments are read at once: those of a field.
 pub const PIECE_SEGMENTS: usize = FIELD_SEGMENTS as usize;
 
+/// How many bytes that stand each for itself are read at once.
+pub const PIECE_BYTES: usize = 262_144;
+
 /// Packets of 188 bytes (ISO/IEC 13818-1, 2.4.3.2), in groups of four.
 pub fn packets() -> Shape
     ensures same { result ≡ shapes.packets }
@@ -76,7 +79,7 @@ pub fn single_bytes() -> Shape
 {
     Shape {
         unit: 1,
-        units: 262_144,
+        units: PIECE_BYTES,
         group: 1,
         limit: MOST_SYMBOLS,
     }

@@ -59,8 +59,8 @@ count_from count segments i (Some zero) = count (in_groups segments i)
 count_from count segments i (Some (suc place)) = 0
 
 -- those of all fields that begin among the first n segments
-unfoldable pub counted : (List (List ℤ) → ℕ) → List (List ℤ) → ℕ → ℕ
-counted count segments n = sum (map (λ i. count_from count segments i (place_at segments i)) (range_with_len 0 n))
+unfoldable pub field_sum : (List (List ℤ) → ℕ) → List (List ℤ) → ℕ → ℕ
+field_sum count segments n = sum (map (λ i. count_from count segments i (place_at segments i)) (range_with_len 0 n))
 
 -- 1 where there is a whole group, and else 0
 abbrev pub has_group : List (List ℤ) → ℕ
@@ -69,8 +69,8 @@ has_group groups = min 1 (length groups)
 -- the segments, the fields with a whole group, what all least paths cost, the bytes behind the last whole segment
 abbrev pub soft_numbers : List (List ℤ) → ℕ → List ℕ
 soft_numbers segments loose =
-    length segments ∷ counted has_group segments (length segments)
-    ∷ counted (softened_cost 1) segments (length segments) ∷ loose ∷ 0 ∷ 0 ∷ 0 ∷ []
+    length segments ∷ field_sum has_group segments (length segments)
+    ∷ field_sum (softened_cost 1) segments (length segments) ∷ loose ∷ 0 ∷ 0 ∷ 0 ∷ []
 
 -- ---- piece by piece
 
@@ -78,15 +78,15 @@ soft_numbers segments loose =
 abbrev pub pending : List (List ℤ) → ℕ
 pending segments = unwrap_or (next_place segments) 0
 
-abbrev pub settled : List (List ℤ) → ℕ
-settled segments = length segments - pending segments
+abbrev pub ahead : List (List ℤ) → ℕ
+ahead segments = length segments - pending segments
 
 -- what is made of these so far, and what the end adds
 unfoldable pub soft_so_far : List (List ℤ) → List (List ℤ)
-soft_so_far segments = map (soft_at segments) (range_with_len 0 (settled segments))
+soft_so_far segments = map (soft_at segments) (range_with_len 0 (ahead segments))
 
 unfoldable pub soft_rest : List (List ℤ) → List (List ℤ)
-soft_rest segments = map (soft_at segments) (range_with_len (settled segments) (pending segments))
+soft_rest segments = map (soft_at segments) (range_with_len (ahead segments) (pending segments))
 
 abbrev pub softening : Recipe
 softening = record {

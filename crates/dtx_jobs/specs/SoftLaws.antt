@@ -15,8 +15,8 @@ use Rattle.dtx_lists.proofs.RangeMoved.{map-range_moved}
 use Rattle.dtx_soft.specs.Coders.{coder_symbols}
 use Rattle.dtx_soft.specs.Paths.{cost, distance}
 use Rattle.dtx_soft.specs.Softened.{least_cost, softened, softened_cost, softened_segment}
-use Rattle.dtx_jobs.specs.Soft.{count_from, counted, flushed, groups_in, in_groups, next_place, pending, place_at}
-use Rattle.dtx_jobs.specs.Soft.{settled, soft_at, soft_from, soft_rest, soft_so_far, soft_symbols}
+use Rattle.dtx_jobs.specs.Soft.{count_from, field_sum, flushed, groups_in, in_groups, next_place, pending, place_at}
+use Rattle.dtx_jobs.specs.Soft.{ahead, soft_at, soft_from, soft_rest, soft_so_far, soft_symbols}
 use Rattle.dtx_jobs.specs.SoftPlacesLaws.{IsFollowed, before_push, at_push, follows, place_copied, place_on}
 use Rattle.dtx_jobs.specs.SoftPlacesLaws.{place_ends}
 use Rattle.dtx_jobs.specs.SoftPlacesLaws.{follows_on, place_small}
@@ -61,10 +61,10 @@ count_stays count s t n i h l =
     by_place (Some zero) e = (let c = h.closed i 0 l e in ap count (part_stays s t i (omega (arith, c.1))))
     by_place (Some (suc p)) e = refl
 
-counted_stays : (count : List (List ℤ) → ℕ) (s t : List (List ℤ)) (n : ℕ) → IsFollowed s n
-    → counted count (s ++ t) (length s - n) ≡ counted count s (length s - n)
-unfolding counted
-counted_stays count s t n h =
+field_sum_stays : (count : List (List ℤ) → ℕ) (s t : List (List ℤ)) (n : ℕ) → IsFollowed s n
+    → field_sum count (s ++ t) (length s - n) ≡ field_sum count s (length s - n)
+unfolding field_sum
+field_sum_stays count s t n h =
     ap sum (map-range_same (count_at count (s ++ t)) (count_at count s) 0 (length s - n)
     (λ i a b. count_stays count s t n i h (omega arith)))
 
@@ -195,8 +195,8 @@ pub so_far_copied : (s : List (List ℤ)) (x : List ℤ) → next_place s ≡ No
     → soft_so_far (s ++ x ∷ []) ≡ soft_so_far s ++ x ∷ []
 unfolding soft_so_far soft_at
 so_far_copied s x e =
-    let all : settled (s ++ x ∷ []) ≡ (length s - 0) + 1 = omega (arith, pending_copied s x e, length_push s x) in
-    let own : length s - 0 ≡ settled s = omega (arith, pending_is s None e) in
+    let all : ahead (s ++ x ∷ []) ≡ (length s - 0) + 1 = omega (arith, pending_copied s x e, length_push s x) in
+    let own : length s - 0 ≡ ahead s = omega (arith, pending_is s None e) in
     let zero_on : 0 + (length s - 0) ≡ length s = omega arith in
     ap (λ n. map (soft_at (s ++ x ∷ [])) (range_with_len 0 n)) all
     ∙ ap (map (soft_at (s ++ x ∷ []))) (range_with_len-parts 0 (length s - 0) 1)
@@ -212,13 +212,13 @@ unfolding soft_so_far
 so_far_kept s x p e l =
     let f = follows_at s (Some p) e in
     let on = pending_is (s ++ x ∷ []) (Some (p + 1)) (place_on s x p e l) in
-    let all : settled (s ++ x ∷ []) ≡ length s - p = omega (arith, on, length_push s x) in
-    let own : length s - p ≡ settled s = omega (arith, pending_is s (Some p) e) in
+    let all : ahead (s ++ x ∷ []) ≡ length s - p = omega (arith, on, length_push s x) in
+    let own : length s - p ≡ ahead s = omega (arith, pending_is s (Some p) e) in
     ap (λ n. map (soft_at (s ++ x ∷ [])) (range_with_len 0 n)) all
     ∙ so_far_stays s (x ∷ []) p f ∙ ap (λ n. map (soft_at s) (range_with_len 0 n)) own
 
 pub so_far_full : (s : List (List ℤ)) (x : List ℤ) → next_place s ≡ Some 311
-    → soft_so_far (s ++ x ∷ []) ≡ soft_so_far s ++ flushed (drop (settled s) s ++ x ∷ [])
+    → soft_so_far (s ++ x ∷ []) ≡ soft_so_far s ++ flushed (drop (ahead s) s ++ x ∷ [])
 unfolding soft_so_far
 so_far_full s x e =
     let f = follows_at s (Some 311) e in
@@ -227,8 +227,8 @@ so_far_full s x e =
     let field : IsField (s ++ x ∷ []) (length s - 311) 312 =
     field_of (length (s ++ x ∷ []) - 312) (omega (arith, length_push s x))
     (followed_field (s ++ x ∷ []) 312 (follows_on s x 311 f e) (omega arith)) in
-    let all : settled (s ++ x ∷ []) ≡ (length s - 311) + 312 = omega (arith, on, length_push s x) in
-    let own : length s - 311 ≡ settled s = omega (arith, pending_is s (Some 311) e) in
+    let all : ahead (s ++ x ∷ []) ≡ (length s - 311) + 312 = omega (arith, on, length_push s x) in
+    let own : length s - 311 ≡ ahead s = omega (arith, pending_is s (Some 311) e) in
     let zero_on : 0 + (length s - 311) ≡ length s - 311 = omega arith in
     ap (λ n. map (soft_at (s ++ x ∷ [])) (range_with_len 0 n)) all
     ∙ ap (map (soft_at (s ++ x ∷ []))) (range_with_len-parts 0 (length s - 311) 312)
@@ -249,20 +249,20 @@ pending_few s = by_place (next_place s) refl
     by_place None e = omega arith
     by_place (Some p) e = (let l = place_small s p e in omega (arith, l))
 
-pub rest_is : (s : List (List ℤ)) → soft_rest s ≡ flushed (drop (settled s) s)
+pub rest_is : (s : List (List ℤ)) → soft_rest s ≡ flushed (drop (ahead s) s)
 unfolding soft_rest
-rest_is s = field_soft s (settled s) (pending s) (followed_field s (pending s) (follows s) (pending_few s))
+rest_is s = field_soft s (ahead s) (pending s) (followed_field s (pending s) (follows s) (pending_few s))
 
 pub all_is : (s : List (List ℤ)) → soft_so_far s ++ soft_rest s ≡ soft_symbols s
 unfolding soft_so_far soft_rest soft_symbols
 all_is s =
     let f = follows s in
-    let parts : settled s + pending s ≡ length s = omega (arith, f.within) in
-    let zero_on : 0 + settled s ≡ settled s = omega arith in
+    let parts : ahead s + pending s ≡ length s = omega (arith, f.within) in
+    let zero_on : 0 + ahead s ≡ ahead s = omega arith in
     sym (ap (λ n. map (soft_at s) (range_with_len 0 n)) (sym parts)
-    ∙ ap (map (soft_at s)) (range_with_len-parts 0 (settled s) (pending s))
-    ∙ map-append (soft_at s) (range_with_len 0 (settled s)) (range_with_len (0 + settled s) (pending s))
-    ∙ ap (λ n. map (soft_at s) (range_with_len 0 (settled s))
+    ∙ ap (map (soft_at s)) (range_with_len-parts 0 (ahead s) (pending s))
+    ∙ map-append (soft_at s) (range_with_len 0 (ahead s)) (range_with_len (0 + ahead s) (pending s))
+    ∙ ap (λ n. map (soft_at s) (range_with_len 0 (ahead s))
     ++ map (soft_at s) (range_with_len n (pending s))) zero_on)
 
 -- ---- with more segments more is made
@@ -277,7 +277,7 @@ one_on s x = by_place (next_place s) refl
     by_end p e (inr l) =
         let small = place_small s p e in
         let same : p ≡ 311 = omega arith in
-        (flushed (drop (settled s) s ++ x ∷ []), so_far_full s x (e ∙ ap Some same))
+        (flushed (drop (ahead s) s ++ x ∷ []), so_far_full s x (e ∙ ap Some same))
 
     by_place : (o : Option ℕ) → next_place s ≡ o
         → (brought : List (List ℤ)) × (soft_so_far (s ++ x ∷ []) ≡ soft_so_far s ++ brought)
@@ -298,15 +298,15 @@ so_far_on s (x ∷ more) =
 pub none_so_far : soft_so_far [] ≡ []
 unfolding soft_so_far
 none_so_far =
-    let none : settled [] ≡ 0 = omega arith in
+    let none : ahead [] ≡ 0 = omega arith in
     ap (λ n. map (soft_at []) (range_with_len 0 n)) none
 
 -- ---- numbers
 
-counted_more : (count : List (List ℤ) → ℕ) (s : List (List ℤ)) (m n : ℕ)
-    → counted count s (m + n) ≡ counted count s m + sum (map (count_at count s) (range_with_len m n))
-unfolding counted
-counted_more count s m n =
+field_sum_more : (count : List (List ℤ) → ℕ) (s : List (List ℤ)) (m n : ℕ)
+    → field_sum count s (m + n) ≡ field_sum count s m + sum (map (count_at count s) (range_with_len m n))
+unfolding field_sum
+field_sum_more count s m n =
     let on : 0 + m ≡ m = omega arith in
     ap (λ r. sum (map (count_at count s) r)) (range_with_len-parts 0 m n)
     ∙ ap sum (map-append (count_at count s) (range_with_len 0 m) (range_with_len (0 + m) n))
@@ -316,35 +316,35 @@ counted_more count s m n =
     + sum (map (count_at count s) (range_with_len k n))) on
 
 pub count_copied : (count : List (List ℤ) → ℕ) (s : List (List ℤ)) (x : List ℤ) → next_place s ≡ None
-    → counted count (s ++ x ∷ []) (settled (s ++ x ∷ [])) ≡ counted count s (settled s)
+    → field_sum count (s ++ x ∷ []) (ahead (s ++ x ∷ [])) ≡ field_sum count s (ahead s)
 count_copied count s x e =
-    let all : settled (s ++ x ∷ []) ≡ (length s - 0) + 1 = omega (arith, pending_copied s x e, length_push s x) in
-    let own : length s - 0 ≡ settled s = omega (arith, pending_is s None e) in
+    let all : ahead (s ++ x ∷ []) ≡ (length s - 0) + 1 = omega (arith, pending_copied s x e, length_push s x) in
+    let own : length s - 0 ≡ ahead s = omega (arith, pending_is s None e) in
     let here : count_at count (s ++ x ∷ []) (length s - 0) ≡ 0 =
     ap (count_from count (s ++ x ∷ []) (length s - 0)) (at_push s x (length s - 0) (omega arith) ∙ e) in
-    ap (counted count (s ++ x ∷ [])) all ∙ counted_more count (s ++ x ∷ []) (length s - 0) 1
+    ap (field_sum count (s ++ x ∷ [])) all ∙ field_sum_more count (s ++ x ∷ []) (length s - 0) 1
     ∙ ap₂ (λ a b. a + b)
-    (counted_stays count s (x ∷ []) 0 (follows_at s None e) ∙ ap (counted count s) own)
+    (field_sum_stays count s (x ∷ []) 0 (follows_at s None e) ∙ ap (field_sum count s) own)
     (none_counts (count_at count (s ++ x ∷ [])) (length s - 0) 1
     (λ i a b. (let same : length s - 0 ≡ i = omega arith in ap (count_at count (s ++ x ∷ [])) (sym same) ∙ here)))
-    ∙ nothing_more (counted count s (settled s))
+    ∙ nothing_more (field_sum count s (ahead s))
   where
     nothing_more : (n : ℕ) → n + 0 ≡ n
     nothing_more n = omega arith
 
 pub count_kept : (count : List (List ℤ) → ℕ) (s : List (List ℤ)) (x : List ℤ) (p : ℕ) → next_place s ≡ Some p
-    → p + 1 < 312 → counted count (s ++ x ∷ []) (settled (s ++ x ∷ [])) ≡ counted count s (settled s)
+    → p + 1 < 312 → field_sum count (s ++ x ∷ []) (ahead (s ++ x ∷ [])) ≡ field_sum count s (ahead s)
 count_kept count s x p e l =
     let f = follows_at s (Some p) e in
     let on = pending_is (s ++ x ∷ []) (Some (p + 1)) (place_on s x p e l) in
-    let all : settled (s ++ x ∷ []) ≡ length s - p = omega (arith, on, length_push s x) in
-    let own : length s - p ≡ settled s = omega (arith, pending_is s (Some p) e) in
-    ap (counted count (s ++ x ∷ [])) all ∙ counted_stays count s (x ∷ []) p f ∙ ap (counted count s) own
+    let all : ahead (s ++ x ∷ []) ≡ length s - p = omega (arith, on, length_push s x) in
+    let own : length s - p ≡ ahead s = omega (arith, pending_is s (Some p) e) in
+    ap (field_sum count (s ++ x ∷ [])) all ∙ field_sum_stays count s (x ∷ []) p f ∙ ap (field_sum count s) own
 
 pub count_full : (count : List (List ℤ) → ℕ) (s : List (List ℤ)) (x : List ℤ) → next_place s ≡ Some 311
     → count [] ≡ 0
-    → counted count (s ++ x ∷ []) (settled (s ++ x ∷ []))
-    ≡ counted count s (settled s) + count (groups_in (drop (settled s) s ++ x ∷ []))
+    → field_sum count (s ++ x ∷ []) (ahead (s ++ x ∷ []))
+    ≡ field_sum count s (ahead s) + count (groups_in (drop (ahead s) s ++ x ∷ []))
 count_full count s x e none =
     let f = follows_at s (Some 311) e in
     let within = f.within in
@@ -352,10 +352,10 @@ count_full count s x e none =
     let field : IsField (s ++ x ∷ []) (length s - 311) 312 =
     field_of (length (s ++ x ∷ []) - 312) (omega (arith, length_push s x))
     (followed_field (s ++ x ∷ []) 312 (follows_on s x 311 f e) (omega arith)) in
-    let all : settled (s ++ x ∷ []) ≡ (length s - 311) + 312 = omega (arith, on, length_push s x) in
-    let own : length s - 311 ≡ settled s = omega (arith, pending_is s (Some 311) e) in
-    ap (counted count (s ++ x ∷ [])) all ∙ counted_more count (s ++ x ∷ []) (length s - 311) 312
-    ∙ ap₂ (λ a b. a + b) (counted_stays count s (x ∷ []) 311 f ∙ ap (counted count s) own)
+    let all : ahead (s ++ x ∷ []) ≡ (length s - 311) + 312 = omega (arith, on, length_push s x) in
+    let own : length s - 311 ≡ ahead s = omega (arith, pending_is s (Some 311) e) in
+    ap (field_sum count (s ++ x ∷ [])) all ∙ field_sum_more count (s ++ x ∷ []) (length s - 311) 312
+    ∙ ap₂ (λ a b. a + b) (field_sum_stays count s (x ∷ []) 311 f ∙ ap (field_sum count s) own)
     (field_counts count (s ++ x ∷ []) (length s - 311) 312 field none
     ∙ ap (λ rows. count (groups_in rows)) (drop-append-le (length s - 311) s (x ∷ []) (omega arith)
     ∙ ap (λ n. drop n s ++ x ∷ []) own))
@@ -364,18 +364,18 @@ count_full count s x e none =
     field_of n e h = subst (λ n. IsField (s ++ x ∷ []) n 312) e h
 
 pub count_rest : (count : List (List ℤ) → ℕ) (s : List (List ℤ)) → count [] ≡ 0
-    → counted count s (length s) ≡ counted count s (settled s) + count (groups_in (drop (settled s) s))
+    → field_sum count s (length s) ≡ field_sum count s (ahead s) + count (groups_in (drop (ahead s) s))
 count_rest count s none =
     let f = follows s in
-    let parts : settled s + pending s ≡ length s = omega (arith, f.within) in
-    ap (counted count s) (sym parts) ∙ counted_more count s (settled s) (pending s)
-    ∙ ap (λ n. counted count s (settled s) + n)
-    (field_counts count s (settled s) (pending s) (followed_field s (pending s) f (pending_few s)) none)
+    let parts : ahead s + pending s ≡ length s = omega (arith, f.within) in
+    ap (field_sum count s) (sym parts) ∙ field_sum_more count s (ahead s) (pending s)
+    ∙ ap (λ n. field_sum count s (ahead s) + n)
+    (field_counts count s (ahead s) (pending s) (followed_field s (pending s) f (pending_few s)) none)
 
-pub none_counted : (count : List (List ℤ) → ℕ) → counted count [] (settled []) ≡ 0
-unfolding counted
-none_counted count =
-    let none : settled [] ≡ 0 = omega arith in
+pub field_sum_none : (count : List (List ℤ) → ℕ) → field_sum count [] (ahead []) ≡ 0
+unfolding field_sum
+field_sum_none count =
+    let none : ahead [] ≡ 0 = omega arith in
     ap (λ n. sum (map (count_at count []) (range_with_len 0 n))) none
 
 pub within : (s : List (List ℤ)) (p : ℕ) → next_place s ≡ Some p → p ≤ length s

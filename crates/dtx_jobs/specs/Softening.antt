@@ -5,7 +5,7 @@ use Rattle.dtx_soft.specs.CostLaws.{AreSigned}
 use Rattle.dtx_soft.specs.Softened.{softened_cost}
 use Rattle.dtx_jobs.specs.declared.softening.Softening.{Softening}
 use Rattle.dtx_jobs.specs.declared.softening.TheConstants.{MOST_COST}
-use Rattle.dtx_jobs.specs.Soft.{counted, has_group, next_place, pending, settled}
+use Rattle.dtx_jobs.specs.Soft.{field_sum, has_group, next_place, pending, ahead}
 use Rattle.dtx_jobs.specs.SymbolFile.{file_segments}
 
 -- each symbol of a segment is a signed byte
@@ -20,10 +20,10 @@ kept_rows kept = unwrap_or kept.place 0
 -- and the numbers are those of the fields before it
 pub record IsSoftening (kept : Softening) (segments : List (List ℤ)) : Type 0 where
   pub place : kept.place ≡ next_place segments
-  pub field : take (pending segments) kept.field.items ≡ drop (settled segments) segments
+  pub field : take (pending segments) kept.field.items ≡ drop (ahead segments) segments
   pub count : kept.segments ≡ length segments
-  pub fields : kept.fields ≡ counted has_group segments (settled segments)
-  pub cost : kept.cost ≡ counted (softened_cost 1) segments (settled segments)
+  pub fields : kept.fields ≡ field_sum has_group segments (ahead segments)
+  pub cost : kept.cost ≡ field_sum (softened_cost 1) segments (ahead segments)
 
 -- there is room for a field, the symbols that are kept are signed bytes, the decoder has the standard's levels, and the
 -- numbers are none that so many segments can't give

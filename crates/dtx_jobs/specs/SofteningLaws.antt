@@ -14,11 +14,11 @@ use Rattle.dtx_frame.specs.Detection.{looks_like}
 use Rattle.dtx_soft.specs.CostLaws.{AreSigned}
 use Rattle.dtx_soft.specs.Softened.{softened_cost}
 use Rattle.dtx_jobs.specs.declared.softening.Softening.{Softening}
-use Rattle.dtx_jobs.specs.Soft.{counted, flushed, groups_in, has_group, next_place, settled, soft_rest}
+use Rattle.dtx_jobs.specs.Soft.{field_sum, flushed, groups_in, has_group, next_place, ahead, soft_rest}
 use Rattle.dtx_jobs.specs.Soft.{soft_so_far, softening}
 use Rattle.dtx_jobs.specs.SymbolFile.{file_segments}
 use Rattle.dtx_jobs.specs.SymbolFileLaws.{file_segments-append}
-use Rattle.dtx_jobs.specs.SoftLaws.{count_copied, count_full, count_kept, count_rest, no_cost, none_counted}
+use Rattle.dtx_jobs.specs.SoftLaws.{count_copied, count_full, count_kept, count_rest, no_cost, field_sum_none}
 use Rattle.dtx_jobs.specs.SoftLaws.{none_so_far, pending_copied, pending_is, rest_is, so_far_on}
 use Rattle.dtx_jobs.specs.SoftLaws.{so_far_copied, so_far_full, so_far_kept}
 use Rattle.dtx_jobs.specs.SoftPlacesLaws.{place_copied, place_ends, place_first, place_on}
@@ -34,7 +34,7 @@ pub stands_copied : (old new : Softening) (s : List (List ℤ)) (x : List ℤ) �
 stands_copied old new s x h e place count fields cost =
     let here = place_of old s None h e in
     let none = pending_copied s x here in
-    let all : settled (s ++ x ∷ []) ≡ length (s ++ x ∷ []) = omega (arith, none) in
+    let all : ahead (s ++ x ∷ []) ≡ length (s ++ x ∷ []) = omega (arith, none) in
     record {
       place = place ∙ sym (place_copied s x here);
       field = ap (λ n. take n new.field.items) none ∙ sym (ap (λ n. drop n (s ++ x ∷ [])) all
@@ -60,7 +60,7 @@ rows_more : (old : Softening) (s : List (List ℤ)) (x : List ℤ) (p : ℕ) →
 rows_more old s x p h e l =
     let next : p + 1 ≡ suc p = omega arith in
     let held = pending_is s (Some p) e in
-    let front : settled s ≡ length s - p = omega (arith, held) in
+    let front : ahead s ≡ length s - p = omega (arith, held) in
     ap (λ n. take n (slice_set old.field.items p x)) next ∙ take-suc-set old.field.items p x l
     ∙ ap (λ rows. rows ++ x ∷ []) (ap (λ n. take n old.field.items) (sym held) ∙ h.field ∙ ap (λ n. drop n s) front)
 
@@ -73,7 +73,7 @@ stands_kept old new s x p h e l m place field count fields cost =
     let here = place_of old s (Some p) h e in
     let on = place_on s x p here l in
     let held = pending_is (s ++ x ∷ []) (Some (p + 1)) on in
-    let front : settled (s ++ x ∷ []) ≡ length s - p = omega (arith, held, length_push s x) in
+    let front : ahead (s ++ x ∷ []) ≡ length s - p = omega (arith, held, length_push s x) in
     record {
       place = place ∙ sym on;
       field = ap₂ take held field ∙ rows_more old s x p h here m
@@ -92,9 +92,9 @@ brought_kept old s x p front symbols more h e l is new =
 -- the last one of a field
 rows_all : (old : Softening) (s : List (List ℤ)) (x : List ℤ) → IsSoftening old s → next_place s ≡ Some 311
     → 311 < length old.field.items
-    → take 312 (slice_set old.field.items 311 x) ≡ drop (settled s) s ++ x ∷ []
+    → take 312 (slice_set old.field.items 311 x) ≡ drop (ahead s) s ++ x ∷ []
 rows_all old s x h e l =
-    let front : length s - 311 ≡ settled s = omega (arith, pending_is s (Some 311) e) in
+    let front : length s - 311 ≡ ahead s = omega (arith, pending_is s (Some 311) e) in
     rows_more old s x 311 h e l ∙ ap (λ n. drop n s ++ x ∷ []) front
 
 pub stands_full : (old new : Softening) (s : List (List ℤ)) (x : List ℤ) → IsSoftening old s
@@ -106,7 +106,7 @@ stands_full old new s x h e m place count fields cost =
     let here = place_of old s (Some 311) h e in
     let on = place_ends s x here in
     let none = pending_is (s ++ x ∷ []) None on in
-    let all : settled (s ++ x ∷ []) ≡ length (s ++ x ∷ []) = omega (arith, none) in
+    let all : ahead (s ++ x ∷ []) ≡ length (s ++ x ∷ []) = omega (arith, none) in
     let rows = rows_all old s x h here m in
     record {
       place = place ∙ sym on;
@@ -128,7 +128,7 @@ brought_full old s x front symbols more h e m is new =
     let here = place_of old s (Some 311) h e in
     let rows = rows_all old s x h here m in
     ap segment_bytes (so_far_full s x here)
-    ∙ segment_bytes-append (soft_so_far s) (flushed (drop (settled s) s ++ x ∷ []))
+    ∙ segment_bytes-append (soft_so_far s) (flushed (drop (ahead s) s ++ x ∷ []))
     ∙ ap₂ (λ a b. a ++ segment_bytes (flushed b)) is (sym rows)
     ∙ append_assoc front symbols (segment_bytes (flushed (take 312 (slice_set old.field.items 311 x))))
     ∙ ap (λ z. front ++ z) (sym new)
@@ -174,7 +174,7 @@ signed_more rows x p l h k i n = by_place (cases_lt i p)
 -- ---- the end
 
 kept_field : (old : Softening) (s : List (List ℤ)) (rows : ℕ) → IsSoftening old s → rows ≡ unwrap_or old.place 0
-    → take rows old.field.items ≡ drop (settled s) s
+    → take rows old.field.items ≡ drop (ahead s) s
 kept_field old s rows h e =
     ap (λ n. take n old.field.items) (e ∙ ap (λ (o : Option ℕ). unwrap_or o 0) h.place) ∙ h.field
 
@@ -183,10 +183,10 @@ pub rest_of : (old : Softening) (s : List (List ℤ)) (rows : ℕ) → IsSofteni
 rest_of old s rows h e =
     ap (λ part. segment_bytes (flushed part)) (kept_field old s rows h e) ∙ ap segment_bytes (sym (rest_is s))
 
-pub all_counted : (count : List (List ℤ) → ℕ) (old : Softening) (s : List (List ℤ)) (rows n all : ℕ)
-    → count [] ≡ 0 → IsSoftening old s → rows ≡ unwrap_or old.place 0 → n ≡ counted count s (settled s)
-    → all ≡ n + count (groups_in (take rows old.field.items)) → all ≡ counted count s (length s)
-all_counted count old s rows n all none h e is sum =
+pub field_sum_all : (count : List (List ℤ) → ℕ) (old : Softening) (s : List (List ℤ)) (rows n all : ℕ)
+    → count [] ≡ 0 → IsSoftening old s → rows ≡ unwrap_or old.place 0 → n ≡ field_sum count s (ahead s)
+    → all ≡ n + count (groups_in (take rows old.field.items)) → all ≡ field_sum count s (length s)
+field_sum_all count old s rows n all none h e is sum =
     sum ∙ ap₂ (λ a b. a + count (groups_in b)) is (kept_field old s rows h e) ∙ sym (count_rest count s none)
 
 -- ---- what is made
@@ -212,8 +212,8 @@ softening_none new place count fields cost =
     record {
       place = place ∙ sym place_first;
       field = ap (λ n. take n new.field.items) (pending_is [] None place_first)
-          ∙ sym (drop_all (settled []) [] (omega arith));
+          ∙ sym (drop_all (ahead []) [] (omega arith));
       count = count;
-      fields = fields ∙ sym (none_counted has_group);
-      cost = cost ∙ sym (none_counted (softened_cost 1));
+      fields = fields ∙ sym (field_sum_none has_group);
+      cost = cost ∙ sym (field_sum_none (softened_cost 1));
     }

@@ -12,17 +12,14 @@ ghost use Rattle.dtx_jobs.specs.SymbolFile.{symbols};
 use crate::symbol_buffer::SymbolBuffer;
 use dtx_acquire::Acquirer;
 use dtx_engine::{Engine, Shape};
-use dtx_forms::single_bytes;
+use dtx_forms::{PIECE_BYTES, single_bytes};
 use dtx_meaning::{Outcome, Status, ended};
 use dtx_sizes::{FIELD_SEGMENTS, MOST_SYMBOLS, SEGMENT};
 use dtx_soft::MAX_SCALE;
 use std::alloc::{AllocError, Global};
 
-/// How many symbols a piece has.
-const PIECE: usize = 262_144;
-
 /// How many symbols a piece brings at most: its own, and those of the field and the segment that were held before it.
-const ACQUIRED_BYTES: usize = PIECE + SEGMENT * (FIELD_SEGMENTS as usize + 1);
+const ACQUIRED_BYTES: usize = PIECE_BYTES + SEGMENT * (FIELD_SEGMENTS as usize + 1);
 
 /// An acquirer, the symbols of the last piece, and those that it brought.
 #[derive(Drop)]
@@ -41,7 +38,7 @@ impl Acquisition {
         ensures scale { IfOk result (λ s. s.acquirer.scale ≡ scale) }
     {
         Ok(Acquisition {
-            piece: vec![in alloc; 0i8; PIECE]?,
+            piece: vec![in alloc; 0i8; PIECE_BYTES]?,
             symbols: SymbolBuffer::new(alloc)?,
             acquirer: Acquirer::new(alloc, scale)?,
         })
@@ -110,8 +107,8 @@ fn acquire_piece(
 )
     requires stands { (before : List ℤ) × StandsFor acquirer.old before }
     requires most { acquirer.old.symbols + length bytes.now ≤ MOST_SYMBOLS }
-    requires few { length bytes.now ≤ PIECE }
-    requires room { vec_len piece.old ≡ PIECE }
+    requires few { length bytes.now ≤ PIECE_BYTES }
+    requires room { vec_len piece.old ≡ PIECE_BYTES }
     requires empty { gathered.old ≡ [] }
     ensures stands { (before : List ℤ) → StandsFor acquirer.old before
         → StandsFor acquirer.new (before ++ symbols bytes.now) }
@@ -119,7 +116,7 @@ fn acquire_piece(
         → segment_bytes (acquired_so_far acquirer.old.scale (before ++ symbols bytes.now))
         ≡ segment_bytes (acquired_so_far acquirer.old.scale before) ++ gathered.new }
     ensures scale { acquirer.new.scale ≡ acquirer.old.scale }
-    ensures room { vec_len piece.new ≡ PIECE }
+    ensures room { vec_len piece.new ≡ PIECE_BYTES }
 {
     acquire_symbols(acquirer, bytes, &mut piece[..bytes.len()], gathered)
 }
@@ -133,7 +130,7 @@ fn acquire_symbols(
 )
     requires stands { (before : List ℤ) × StandsFor acquirer.old before }
     requires most { acquirer.old.symbols + length bytes.now ≤ MOST_SYMBOLS }
-    requires few { length bytes.now ≤ PIECE }
+    requires few { length bytes.now ≤ PIECE_BYTES }
     requires room { length piece.old ≡ length bytes.now }
     requires empty { gathered.old ≡ [] }
     ensures stands { (before : List ℤ) → StandsFor acquirer.old before
@@ -161,7 +158,7 @@ fn to_symbols(bytes: &[u8], piece: &mut [i8])
 fn acquire_all(acquirer: &mut Acquirer, piece: &[i8], gathered: &mut SymbolBuffer<ACQUIRED_BYTES>)
     requires stands { (before : List ℤ) × StandsFor acquirer.old before }
     requires most { acquirer.old.symbols + length piece.now ≤ MOST_SYMBOLS }
-    requires few { length piece.now ≤ PIECE }
+    requires few { length piece.now ≤ PIECE_BYTES }
     requires empty { gathered.old ≡ [] }
     ensures stands { (before : List ℤ) → StandsFor acquirer.old before
         → StandsFor acquirer.new (before ++ piece.now) }

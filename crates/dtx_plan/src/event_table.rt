@@ -8,7 +8,7 @@ ghost use Rattle.dtx_plan.specs.EventTable as spec;
 
 use crate::event::{Event, EventKind, Events};
 use crate::key::PlanKey;
-use crate::limits::{LAST_PACKET, LAST_SEED, MOST_EVENTS};
+use crate::limits::{LAST_BYTE, LAST_PACKET, LAST_SEED, MOST_EVENTS};
 use crate::refusal::{PlanFault, PlanNo};
 use crate::rows::{Row, known, table};
 use crate::rule::PlanRule;
@@ -198,7 +198,7 @@ fn flip(to: u16, entry: &Table, item: u32) -> Result<Event, PlanNo>
         Ok(from) => from,
         Err(refusal) => return Err(refusal),
     };
-    let at = match Row::new(entry, "at", PlanKey::At, item).whole(0, 187) {
+    let at = match Row::new(entry, "at", PlanKey::At, item).whole(0, LAST_BYTE) {
         Ok(at) => at as u8,
         Err(refusal) => return Err(refusal),
     };

@@ -113,6 +113,6 @@ impl Decoder {
     {
         self.unroll.group(first, &self.levels, &mut self.bytes);
         give_group(&mut self.inner, &mut self.bytes, batch);
-        self.turn = (self.turn + 4) % 52;
+        self.turn = (self.turn + GROUP_PACKETS as u8) % BRANCHES as u8;
     }
 }

@@ -13,7 +13,7 @@ use Rattle.dtx_engine.specs.Recipe.{meaning_of_file}
 use Rattle.dtx_files.specs.Symbols.{segment_bytes}
 use Rattle.dtx_forms.specs.Shapes.{segments}
 use Rattle.dtx_packet_jobs.specs.PacketFileLaws.{length-packets_of}
-use Rattle.dtx_jobs.specs.Soft.{count_from, counted, has_group, in_groups, place_at, soft_symbols, softening}
+use Rattle.dtx_jobs.specs.Soft.{count_from, field_sum, has_group, in_groups, place_at, soft_symbols, softening}
 use Rattle.dtx_jobs.specs.StreamBackLaws.{length-symbol_bytes, stream_read_back}
 use Rattle.dtx_jobs.specs.SymbolFile.{whole_segments}
 use Rattle.dtx_jobs.specs.Symbols.{symbol_bytes}
@@ -65,8 +65,8 @@ begun g n e = omega arith
 
 -- there is one for each 78 groups that are begun
 pub stream_fields : (ps : List (List ℕ))
-    → counted has_group (a53 ps) (length (a53 ps)) ≡ (length ps / 4 + 77) / 78
-unfolding counted
+    → field_sum has_group (a53 ps) (length (a53 ps)) ≡ (length ps / 4 + 77) / 78
+unfolding field_sum
 stream_fields ps =
     each_field (count_at has_group (a53 ps)) (λ _. 1) 0 (length (a53 ps)) (λ i l e. one_field ps i l e)
     (λ i l e. no_field ps i l e)
@@ -101,8 +101,8 @@ stream_file_stays takes keeps names stream most =
       outputs = outputs_of names (only (segment_bytes written));
     } in
     all_softened names file (few_segments ps (omega (arith, count, most)))
-    ∙ ap (λ s. means s (counted has_group s (length s)) (counted (softened_cost 1) s (length s)) (length file % 832)
-    (soft_symbols s)) (stream_read_back ps)
+    ∙ ap (λ s. means s (field_sum has_group s (length s)) (field_sum (softened_cost 1) s (length s))
+    (length file % 832) (soft_symbols s)) (stream_read_back ps)
     ∙ ap₂ (λ fields cost. means (a53 ps) fields cost (length file % 832) (soft_symbols (a53 ps)))
     (stream_fields ps ∙ ap (λ n. (n / 4 + 77) / 78) count) (stream_costs_nothing takes keeps ps)
     ∙ ap₂ (λ loose written. means (a53 ps) ((whole_packets stream / 4 + 77) / 78) 0 loose written) (none_loose ps)

@@ -1,4 +1,4 @@
--- The fields of the runs: what is counted in them, and what they become.
+-- The fields of the runs: what is field_sum in them, and what they become.
 use Rattle.std.proofs.Common.{◌≡◌, ℕ, ℤ, zero, suc, ◌+◌, ◌-◌, ◌*◌, ◌/◌, ◌%◌, ◌<◌, ◌≤◌, ◌≢◌, ◌⊎◌, inl, inr, Option}
 use Rattle.std.proofs.Common.{Some, None, List, [], ◌∷◌, ◌++◌, length, map, take, drop, get_or, min, refl, sym, ap, ap₂}
 use Rattle.std.proofs.Common.{◌∙◌, arith}
@@ -17,7 +17,7 @@ use Rattle.dtx_receiver.specs.IntervalsLaws.{are_runs, only_runs}
 use Rattle.dtx_soft.specs.Softened.{softened, softened_segment}
 use Rattle.dtx_soft.specs.SumsLaws.{none_first, over, over_more, over_none, over_one, over_parts}
 use Rattle.dtx_soft.specs.SumsLaws.{over_same}
-use Rattle.dtx_jobs.specs.Soft.{count_from, counted, groups_in, in_groups, place_at, soft_at, soft_from, soft_symbols}
+use Rattle.dtx_jobs.specs.Soft.{count_from, field_sum, groups_in, in_groups, place_at, soft_at, soft_from, soft_symbols}
 use Rattle.dtx_symbol_laws.specs.SoftFields.{field_groups, fields_in, fields_of, place_behind}
 use Rattle.dtx_symbol_laws.proofs.SoftPlaces.{Begins, begins_first, none_from, places_stay, run_begins, run_behind}
 use Rattle.dtx_symbol_laws.proofs.SoftPlaces.{run_ends}
@@ -26,7 +26,7 @@ use Rattle.dtx_symbol_laws.proofs.SoftRuns.{soft_entry, soft_length}
 
 -- ---- sums over a run
 
--- where what is counted stands one behind each multiple of 313
+-- where what is field_sum stands one behind each multiple of 313
 pub each_field : (f g : ℕ → ℕ) (first n : ℕ)
     → ((j : ℕ) → j < n → j % 313 ≡ 1 → f (first + j) ≡ g (j / 313))
     → ((j : ℕ) → j < n → j % 313 ≢ 1 → f (first + j) ≡ 0) → over f first n ≡ over g 0 ((n + 311) / 313)
@@ -130,7 +130,7 @@ groups_same s p f h =
             let least : min m n ≡ n = omega arith in
             take_all m (take n xs) (omega (arith, length-take n xs)) ∙ ap (λ k. take k xs) (sym least)
 
--- ---- what is counted
+-- ---- what is field_sum
 
 abbrev pub count_at : (List (List ℤ) → ℕ) → List (List ℤ) → ℕ → ℕ
 count_at count s i = count_from count s i (place_at s i)
@@ -241,10 +241,10 @@ flat_counts count fields (p ∷ ps) =
     ∙ ap (λ n. sum_by count (fields p) + n) (flat_counts count fields ps)
     ∙ sym (sum_by-append count (fields p) (flat_map fields ps))
 
--- what is counted of all segments is that of the fields
+-- what is field_sum of all segments is that of the fields
 pub fields_count : (count : List (List ℤ) → ℕ) (s : List (List ℤ))
-    → counted count s (length s) ≡ sum_by count (fields_of s)
-unfolding counted fields_of
+    → field_sum count s (length s) ≡ sum_by count (fields_of s)
+unfolding field_sum fields_of
 fields_count count s =
     all_sum (count_at count s) (λ p. sum_by count (fields_in (segments_in s p))) s
     (λ i l none. ap (count_from count s i) none) (run_counts count s)
@@ -368,7 +368,7 @@ others_stay s i l h = soft_entry s i l ∙ by_place (place_at s i) h
               (length (in_groups s (i - place))),
         ))
 
--- where no segment looks like a field sync all stay, and nothing is counted
+-- where no segment looks like a field sync all stay, and nothing is field_sum
 pub none_stay : (s : List (List ℤ)) → NoneLooks s 0 (length s) → soft_symbols s ≡ s
 unfolding soft_symbols soft_at
 none_stay s h =
@@ -378,8 +378,8 @@ none_stay s h =
     ∙ none_from s 0 (length s) i h (omega arith) (begins_first s (omega arith)) (omega arith)))))
 
 pub nothing_counted : (count : List (List ℤ) → ℕ) (s : List (List ℤ)) → NoneLooks s 0 (length s)
-    → counted count s (length s) ≡ 0
-unfolding counted
+    → field_sum count s (length s) ≡ 0
+unfolding field_sum
 nothing_counted count s h =
     let whole : length s ≡ length s - 0 = omega arith in
     ap (over (count_at count s) 0) whole

@@ -22,7 +22,7 @@ use Rattle.dtx_files.specs.AppendedLaws.{segment_bytes-append}
 use Rattle.dtx_files.specs.Symbols.{byte_of_symbol, segment_bytes}
 use Rattle.dtx_forms.specs.AllowedFileLaws.{all_read, first_read, none_found}
 use Rattle.dtx_forms.specs.Shapes.{segments}
-use Rattle.dtx_jobs.specs.Soft.{counted, has_group, soft_numbers, soft_rest, soft_so_far, soft_symbols, softening}
+use Rattle.dtx_jobs.specs.Soft.{field_sum, has_group, soft_numbers, soft_rest, soft_so_far, soft_symbols, softening}
 use Rattle.dtx_jobs.specs.SoftLaws.{all_is, so_far_on}
 use Rattle.dtx_jobs.specs.SymbolFile.{file_segments, segment_at, segments_from, symbol_of_byte, symbols, whole_segments}
 use Rattle.dtx_jobs.specs.SymbolFileLaws.{file_segments-whole, first_segments, length-segments_of}
@@ -125,7 +125,7 @@ copied_whole names file bytes few none =
       outputs = outputs_of names (only written);
     } in
     all_softened names file few
-    ∙ ap₂ (λ n written. means n (counted has_group s (length s)) (counted (softened_cost 1) s (length s)) written) count
-    (ap segment_bytes (none_stay s nothing) ∙ segments_back file bytes)
+    ∙ ap₂ (λ n written. means n (field_sum has_group s (length s)) (field_sum (softened_cost 1) s (length s)) written)
+    count (ap segment_bytes (none_stay s nothing) ∙ segments_back file bytes)
     ∙ ap₂ (λ fields cost. means (whole_segments file) fields cost (take (832 * whole_segments file) file))
     (nothing_counted has_group s nothing) (nothing_counted (softened_cost 1) s nothing)

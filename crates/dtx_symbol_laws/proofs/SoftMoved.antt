@@ -14,7 +14,7 @@ use Rattle.dtx_soft.specs.Paths.{distance}
 use Rattle.dtx_soft.specs.Softened.{softened, softened_cost, softened_segment, softened_symbol}
 use Rattle.dtx_soft.specs.SoftenedLaws.{cost_is, softened_found}
 use Rattle.dtx_soft.specs.SumsLaws.{none_first, over, over_more, over_moved, over_none, over_one, over_parts}
-use Rattle.dtx_jobs.specs.Soft.{count_from, counted, in_groups, place_at, soft_symbols}
+use Rattle.dtx_jobs.specs.Soft.{count_from, field_sum, in_groups, place_at, soft_symbols}
 use Rattle.dtx_jobs.specs.SymbolFile.{file_segments, segment_at, symbol_of_byte, whole_segments}
 use Rattle.dtx_jobs.specs.SymbolFileLaws.{length-segments_of}
 use Rattle.dtx_symbol_laws.specs.SoftFields.{place_behind}
@@ -189,8 +189,8 @@ run_off s p rows r here =
 -- ---- all segments
 
 pub moved_is : (s : List (List ℤ)) → HasRows s
-    → counted (softened_cost 1) s (length s) ≡ segments_distance s (soft_symbols s)
-unfolding counted segments_distance
+    → field_sum (softened_cost 1) s (length s) ≡ segments_distance s (soft_symbols s)
+unfolding field_sum segments_distance
 moved_is s rows =
     all_sum (count_at (softened_cost 1) s) (λ p. over (count_at (softened_cost 1) s) p.0 p.1) s
     (λ i l none. ap (count_from (softened_cost 1) s i) none) (λ p r here. refl)
@@ -207,8 +207,8 @@ file_rows file i l =
     ∙ length-map (take 832 (drop (832 * i) file)) symbol_of_byte
     ∙ length-take-le 832 (drop (832 * i) file) (omega (arith, l, count, long))
 
-pub file_moved : (file : List ℕ) → counted (softened_cost 1) (file_segments file) (whole_segments file)
+pub file_moved : (file : List ℕ) → field_sum (softened_cost 1) (file_segments file) (whole_segments file)
     ≡ segments_distance (file_segments file) (soft_symbols (file_segments file))
 file_moved file =
-    ap (counted (softened_cost 1) (file_segments file)) (sym (length-segments_of file))
+    ap (field_sum (softened_cost 1) (file_segments file)) (sym (length-segments_of file))
     ∙ moved_is (file_segments file) (file_rows file)

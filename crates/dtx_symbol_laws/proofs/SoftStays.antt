@@ -12,7 +12,7 @@ use Rattle.dtx_coder.specs.Stream.{a53}
 use Rattle.dtx_soft.specs.Coders.{coder_symbols}
 use Rattle.dtx_soft.specs.Softened.{IsOwn, softened, softened_cost}
 use Rattle.dtx_chain.specs.PlacesLaws.{sync_at_place}
-use Rattle.dtx_jobs.specs.Soft.{count_from, counted, in_groups, place_at, soft_at, soft_from, soft_symbols}
+use Rattle.dtx_jobs.specs.Soft.{count_from, field_sum, in_groups, place_at, soft_at, soft_from, soft_symbols}
 use Rattle.dtx_jobs.specs.SoftLaws.{none_counts}
 use Rattle.dtx_jobs.specs.SoftPlacesLaws.{place_first}
 use Rattle.dtx_symbol_laws.specs.SoftFields.{place_behind}
@@ -111,8 +111,8 @@ costs_nothing_at takes keeps ps i l =
     by_place (suc (suc p)) e = refl
 
 pub stream_costs_nothing : TakesPaths → KeepsOwn → (ps : List (List ℕ))
-    → counted (softened_cost 1) (a53 ps) (length (a53 ps)) ≡ 0
-unfolding counted
+    → field_sum (softened_cost 1) (a53 ps) (length (a53 ps)) ≡ 0
+unfolding field_sum
 stream_costs_nothing takes keeps ps =
     none_counts (λ i. count_from (softened_cost 1) (a53 ps) i (place_at (a53 ps) i)) 0 (length (a53 ps))
     (λ i l m. costs_nothing_at takes keeps ps i (omega (arith, m)))

@@ -12,7 +12,7 @@ ghost use Rattle.dtx_soft.specs.Softened.{softened, softened_cost};
 ghost use Rattle.dtx_engine.specs.Recipe.{meaning_of_file};
 ghost use Rattle.dtx_files.specs.Symbols.{segment_bytes};
 ghost use Rattle.dtx_forms.specs.Shapes as shapes;
-ghost use Rattle.dtx_jobs.specs.Soft.{counted, in_groups, place_at, soft_rest, soft_so_far, soft_symbols, softening};
+ghost use Rattle.dtx_jobs.specs.Soft.{field_sum, in_groups, place_at, soft_rest, soft_so_far, soft_symbols, softening};
 ghost use Rattle.dtx_jobs.specs.SymbolFile.{file_segments, whole_segments};
 ghost use Rattle.dtx_jobs.specs.Symbols.{symbol_bytes};
 ghost use Rattle.dtx_symbol_laws.specs.SoftFields.{copied_of, fields_of, kept_of, place_behind};
@@ -78,7 +78,7 @@ pub fn places_of_data()
 /// behind the whole groups of their field.
 pub fn fields_are_softened()
     ensures count { (count : List (List ℤ) → ℕ) (segments : List (List ℤ))
-        → counted count segments (length segments) ≡ sum_by count (fields_of segments) }
+        → field_sum count segments (length segments) ≡ sum_by count (fields_of segments) }
     ensures fields { (segments : List (List ℤ))
         → fields_of (soft_symbols segments) ≡ map (softened 1) (fields_of segments) }
     ensures others { (segments : List (List ℤ)) (i : ℕ) → i < length segments
@@ -89,7 +89,7 @@ pub fn fields_are_softened()
 /// What all least paths of a file cost is how far its symbols are moved: the sum of the squares, over all symbols of
 /// its whole segments.
 pub fn cost_of_all()
-    ensures { (file : List ℕ) → counted (softened_cost 1) (file_segments file) (whole_segments file)
+    ensures { (file : List ℕ) → field_sum (softened_cost 1) (file_segments file) (whole_segments file)
         ≡ segments_distance (file_segments file) (soft_symbols (file_segments file)) }
 {}
 
@@ -99,7 +99,7 @@ pub fn cost_of_all()
 pub fn a_stream_stays()
     ensures symbols { (packets : List (List ℕ)) → soft_symbols (a53 packets) ≡ a53 packets }
     ensures cost { (packets : List (List ℕ))
-        → counted (softened_cost 1) (a53 packets) (length (a53 packets)) ≡ 0 }
+        → field_sum (softened_cost 1) (a53 packets) (length (a53 packets)) ≡ 0 }
     ensures file { (names : List (List ℕ)) (stream : List ℕ) → whole_packets stream ≤ MOST_PACKETS
         → meaning_of_file shapes.segments softening names (symbol_bytes (packets_of stream)) ≡ kept_of names stream }
 {

@@ -2,10 +2,10 @@
 ghost use Rattle.std.specs.Prelude.{◌≡◌};
 ghost use Rattle.dtx_words.specs.Rows.{row_behind, row_of, second_text};
 
-use dtx_sizes::MOST_PACKETS;
+use dtx_sizes::{FRAME_PACKETS, MOST_PACKETS};
 
 /// How many packets the stream of a trial has at least: those of one frame.
-pub const FEWEST_TRIAL: u64 = 624;
+pub const FEWEST_TRIAL: u64 = FRAME_PACKETS as u64;
 
 /// How many packets the stream of a trial has at most (the profile's own limit).
 pub const MOST_TRIAL: u64 = 1_000_000;

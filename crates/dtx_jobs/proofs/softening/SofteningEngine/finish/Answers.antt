@@ -4,9 +4,9 @@ use Rattle.dtx_engine.specs.Made.{only}
 use Rattle.dtx_meaning.specs.declared.status.Outcome.{Outcome}
 use Rattle.dtx_meaning.specs.declared.status.Status.TheVariants.{Done}
 use Rattle.dtx_soft.specs.Softened.{softened_cost}
-use Rattle.dtx_jobs.specs.Soft.{counted, flushed, has_group}
+use Rattle.dtx_jobs.specs.Soft.{field_sum, flushed, has_group}
 use Rattle.dtx_jobs.specs.SoftLaws.{no_cost}
-use Rattle.dtx_jobs.specs.SofteningLaws.{all_counted, rest_of}
+use Rattle.dtx_jobs.specs.SofteningLaws.{field_sum_all, rest_of}
 use Rattle.dtx_jobs.specs.SymbolFile.{file_segments}
 use Rattle.dtx_jobs.specs.SymbolFileLaws.{length-segments_of}
 use Rattle.dtx_jobs.proofs.softening.SofteningEngine.finish.Goals as goal
@@ -33,12 +33,12 @@ returns-clause-outcome c = λ given stand.
     λ segments fields cost.
     record { status = Done; numbers = segments ∷ fields ∷ cost ∷ c.args.loose ∷ 0 ∷ 0 ∷ 0 ∷ []; shown = 4 } in
     let rows = c.rows_of-rows.ensures.rows in
-    let fields = all_counted has_group old s c.rows_of-rows.result old.fields c.flush.new.self.fields refl
+    let fields = field_sum_all has_group old s c.rows_of-rows.result old.fields c.flush.new.self.fields refl
     stand.softening rows stand.softening.fields c.flush.ensures.fields in
-    let cost = all_counted (softened_cost 1) old s c.rows_of-rows.result old.cost c.flush.new.self.cost no_cost
+    let cost = field_sum_all (softened_cost 1) old s c.rows_of-rows.result old.cost c.flush.new.self.cost no_cost
     stand.softening rows stand.softening.cost c.flush.ensures.cost in
     ap₂ (λ n m. outcome n m c.flush.new.self.cost) (c.flush.ensures.count ∙ stand.softening.count) fields
-    ∙ ap (λ n. outcome (length s) (counted has_group s (length s)) n) cost
+    ∙ ap (λ n. outcome (length s) (field_sum has_group s (length s)) n) cost
 
 pub returns-clause-rest : goal.returns-clause-rest
 returns-clause-rest c = λ given stand.
