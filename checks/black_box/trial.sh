@@ -27,6 +27,10 @@ done
 cmp -s trial.ts "$room/stream-of-trial.ts" || wrong 'trial.ts is another stream'
 leaves plan.toml trial.ts net.feed net.ts tx-{1,2,3}.{sym,log}
 
+start 'a trial of one frame'
+run 0 'feed 624 filled 2 steps 1922 packets 261 fixed 0 flagged 0' trial 1 624
+leaves trial.ts net.feed net.ts tx-{1,2,3}.{sym,log}
+
 start 'a trial of less than a frame'
 run 2 "$usage" trial 1 623
 leaves_nothing

@@ -182,6 +182,11 @@ fn has_ended_well(desk: &Desk, whole: &Desk, case: &Case, call: Call, nth: u64) 
     }
 }
 
+/// Whether at least half of the output stands.
+fn has_half(desk: &Desk, whole: &Desk) -> bool {
+    desk.file("o").len() >= whole.file("o").len() / 2
+}
+
 /// The inputs, what a command leaves of them where no call fails, and where one does.
 #[derive(Drop)]
 struct Desks {
@@ -218,15 +223,16 @@ impl Desks {
             && are_alike(&self.broken, &self.inputs, &INPUTS)
     }
 
-    /// Whether the command is done, and ends as it should where a call of any kind fails.
+    /// Whether the command is done, and ends as it should where a call of any kind fails. A stream is never held whole:
+    /// where its last read fails, half of the output stands.
     fn always_ends_well(&mut self, case: &Case) -> Result<bool, AllocError> {
         run_over(&mut self.whole, &self.inputs, case, Call::Read, NEVER)?;
-        for call in [Call::Read, Call::Begin, Call::Append] {
+        for call in [Call::Begin, Call::Append, Call::Read] {
             if !self.ends_well(case, call)? {
                 return Ok(false);
             }
         }
-        Ok(self.whole.answer() == Status::Done)
+        Ok(self.whole.answer() == Status::Done && has_half(&self.broken, &self.whole))
     }
 
     /// The words of the first command that doesn't, or nothing.
@@ -239,55 +245,19 @@ impl Desks {
         }
         Ok("")
     }
-
-    /// Whether at least half of the output stands where the last read fails.
-    fn half_stands(&mut self, case: &Case) -> Result<bool, AllocError> {
-        run_over(&mut self.whole, &self.inputs, case, Call::Read, NEVER)?;
-        let last = self.whole.calls(Call::Read).saturating_sub(1);
-        run_over(&mut self.broken, &self.inputs, case, Call::Read, last)?;
-        Ok(has_half(&self.broken, &self.whole))
-    }
-
-    /// The words of the first of four commands of which less stands, or nothing.
-    fn first_that_holds_back(&mut self) -> Result<&'static str, AllocError> {
-        make_inputs(&mut self.inputs)?;
-        for case in &CASES[..4] {
-            if !self.half_stands(case)? {
-                return Ok(case.words);
-            }
-        }
-        Ok("")
-    }
 }
 
-/// The words of the first command that doesn't end as it should, or nothing.
+/// The same over new desks.
 fn first_that_ends_badly(rt: &HostRuntime) -> Result<&'static str, AllocError> {
     let mut desks = Desks::new(rt);
     desks.first_that_ends_badly()
 }
 
 #[test]
-fn a_failing_call_has_its_status_and_leaves_front_parts(rt: HostRuntime) -> Result<(), Fail> {
+fn a_failing_call_has_its_status_and_leaves_front_parts_and_the_last_read_half(
+    rt: HostRuntime,
+) -> Result<(), Fail> {
     let words = first_that_ends_badly(&rt)?;
-    assert!(rt; words.is_empty(), "{words}");
-    Ok(())
-}
-
-/// Whether at least half of the output stands behind a fault of reading.
-fn has_half(desk: &Desk, whole: &Desk) -> bool {
-    desk.answer() == Status::ReadFault && desk.file("o").len() >= whole.file("o").len() / 2
-}
-
-/// The words of the first of four commands of which less than half stands, or nothing.
-fn first_that_holds_back(rt: &HostRuntime) -> Result<&'static str, AllocError> {
-    let mut desks = Desks::new(rt);
-    desks.first_that_holds_back()
-}
-
-/// A stream is never held whole.
-#[test]
-fn half_of_the_output_stands_before_the_last_read(rt: HostRuntime) -> Result<(), Fail> {
-    let words = first_that_holds_back(&rt)?;
     assert!(rt; words.is_empty(), "{words}");
     Ok(())
 }

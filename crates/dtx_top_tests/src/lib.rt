@@ -8,10 +8,4 @@ mod faults;
 #[cfg(test)]
 mod net;
 #[cfg(test)]
-mod texts;
-#[cfg(test)]
-mod walks;
-#[cfg(test)]
-mod words;
-#[cfg(test)]
 mod worked_network;

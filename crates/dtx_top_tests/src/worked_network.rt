@@ -146,17 +146,23 @@ fn given_all(plan: &Plan, who: usize, event: &Event, count: usize) -> Option<Tra
         return None;
     }
     let t = plan.transmitters.as_slice()[who];
-    if t.delay as i64 > plan.max_delay as i64 + t.offset as i64 {
-        return None;
+    let whole = Event::Send {
+        to: t.address,
+        from: 0,
+        count: count as u64,
+    };
+    if is_in_time(plan, &t) && *event == whole {
+        Some(t)
+    } else {
+        None
     }
-    match *event {
-        Event::Send {
-            to,
-            from: 0,
-            count: given,
-        } if to == t.address && given == count as u64 => Some(t),
-        _ => None,
-    }
+}
+
+/// Whether the transmitter is in time.
+fn is_in_time(plan: &Plan, t: &Transmitter) -> bool
+    ensures { result ≡ true → IsInTime plan.now t.now }
+{
+    t.delay as i64 <= plan.max_delay as i64 + t.offset as i64
 }
 
 /// Whether the transmitter of this address is received, with little damage of that many entries.
