@@ -9,6 +9,7 @@ pub mod LineLeft
 pub mod NetAnswers
 pub mod NetFiles
 pub mod NetProgresses
+pub mod Performed
 pub mod PlacedStream
 pub mod Played
 pub mod SegmentsBack

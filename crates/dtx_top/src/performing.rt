@@ -1,5 +1,5 @@
 // The command that the words fit, but for its line.
-ghost use Rattle.std.specs.Prelude.{◌≡◌, length};
+ghost use Rattle.std.specs.Prelude.{◌≡◌, Some};
 ghost use Rattle.dtx_top.specs.Ends.{IsCommandPerformed};
 
 use crate::net_command::{NetOutcome, net};
@@ -14,35 +14,49 @@ use dtx_outside::{Shelf, Word};
 use dtx_words::Command;
 use std::alloc::Global;
 
-/// Does that command, whose words these are, but for its line.
+/// Does the command that the words fit, if any, but for its line.
 pub(crate) fn perform<S: Shelf>(
     alloc: Global,
     command: Option<Command>,
     words: &[Word],
     shelf: &mut S,
 ) -> NetOutcome
-    ensures performed { IsCommandPerformed command words.now result.outcome result.name.bytes (S.files shelf.old)
+    ensures { IsCommandPerformed command words.now result.outcome result.name.bytes (S.files shelf.old)
         (S.files shelf.new) (S.counts shelf.old) (S.counts shelf.new) }
-    ensures seven { length result.outcome.numbers ≡ 7 }
 {
     match command {
-        Some(Command::Adapt) => nameless(adapt(alloc, words, shelf)),
-        Some(Command::Code) => nameless(code(alloc, words, shelf)),
-        Some(Command::Excite) => nameless(excite(alloc, words, shelf)),
-        Some(Command::Receive) => nameless(receive(alloc, words, shelf)),
-        Some(Command::Net) => net(alloc, words, shelf),
-        Some(Command::Make) => nameless(make(alloc, words, shelf)),
-        Some(Command::Hurt) => nameless(hurt(alloc, words, shelf)),
-        Some(Command::Place) => nameless(place(alloc, words, shelf)),
-        Some(Command::Trial) => nameless(trial(alloc, words, shelf)),
-        Some(Command::Soft) => nameless(soft(alloc, words, shelf)),
-        Some(Command::Mend) => nameless(mend(alloc, words, shelf)),
-        Some(Command::DvbCode) => nameless(dvb_code(alloc, words, shelf)),
-        Some(Command::DvbRead) => nameless(dvb_read(alloc, words, shelf)),
-        Some(Command::Repeat) => nameless(repeat(alloc, words, shelf)),
-        Some(Command::Acquire) => nameless(acquire(alloc, words, shelf)),
-        Some(Command::Watch) => nameless(watch(alloc, words, shelf)),
+        Some(command) => perform_one(alloc, command, words, shelf),
         None => nameless(ended(Status::Usage)),
+    }
+}
+
+/// Does that command, whose words these are, but for its line.
+fn perform_one<S: Shelf>(
+    alloc: Global,
+    command: Command,
+    words: &[Word],
+    shelf: &mut S,
+) -> NetOutcome
+    ensures { IsCommandPerformed (Some command) words.now result.outcome result.name.bytes (S.files shelf.old)
+        (S.files shelf.new) (S.counts shelf.old) (S.counts shelf.new) }
+{
+    match command {
+        Command::Adapt => nameless(adapt(alloc, words, shelf)),
+        Command::Code => nameless(code(alloc, words, shelf)),
+        Command::Excite => nameless(excite(alloc, words, shelf)),
+        Command::Receive => nameless(receive(alloc, words, shelf)),
+        Command::Net => net(alloc, words, shelf),
+        Command::Make => nameless(make(alloc, words, shelf)),
+        Command::Hurt => nameless(hurt(alloc, words, shelf)),
+        Command::Place => nameless(place(alloc, words, shelf)),
+        Command::Trial => nameless(trial(alloc, words, shelf)),
+        Command::Soft => nameless(soft(alloc, words, shelf)),
+        Command::Mend => nameless(mend(alloc, words, shelf)),
+        Command::DvbCode => nameless(dvb_code(alloc, words, shelf)),
+        Command::DvbRead => nameless(dvb_read(alloc, words, shelf)),
+        Command::Repeat => nameless(repeat(alloc, words, shelf)),
+        Command::Acquire => nameless(acquire(alloc, words, shelf)),
+        Command::Watch => nameless(watch(alloc, words, shelf)),
     }
 }
 

@@ -1,4 +1,4 @@
-use Rattle.std.proofs.Common.{sym, ◌∙◌}
+use Rattle.std.proofs.Common.{sym, ◌∙◌, rules}
 use Rattle.dtx_top.specs.Ends.{HasHeadlineOf}
 use Rattle.dtx_top.specs.Means.{means_of}
 use Rattle.dtx_top.proofs.ByWords.{words_told}
@@ -11,64 +11,64 @@ pub returns-clause-carried : goal.returns-clause-carried
 returns-clause-carried g c =
     rw (c.finish.ensures, ← c.command-command.ensures)
     (done_told (means_of c.command-command.result c.args.words.now) _ _ _ _ _ _
-    c.perform-performed.ensures.performed.carried
+    c.perform-performed.ensures.carried
     c.line-printed.ensures.gone)
 
 pub returns-clause-others : goal.returns-clause-others
 returns-clause-others g c = rw (← c.command-command.ensures)
     (others_told (means_of c.command-command.result c.args.words.now) _ _ _ _
     (done_told (means_of c.command-command.result c.args.words.now) _ _ _ _ _ _
-    c.perform-performed.ensures.performed.carried
+    c.perform-performed.ensures.carried
     c.line-printed.ensures.gone))
 
 pub returns-clause-complete : goal.returns-clause-complete
 returns-clause-complete g c = rw (c.finish.ensures, ← c.command-command.ensures)
     (complete_told (means_of c.command-command.result c.args.words.now) _ _ _ _ _ _ _
     (done_told (means_of c.command-command.result c.args.words.now) _ _ _ _ _ _
-    c.perform-performed.ensures.performed.carried
+    c.perform-performed.ensures.carried
     c.line-printed.ensures.gone)
-    (ended_of _ _ _ _ _ _ c.perform-performed.ensures.performed.gone c.line-printed.ensures.gone))
+    (ended_of _ _ _ _ _ _ c.perform-performed.ensures.gone c.line-printed.ensures.gone))
 
 pub returns-clause-line : goal.returns-clause-line
 returns-clause-line g c = rw (c.finish.ensures, ← c.command-command.ensures)
-    (line_told c.command-command.result c.args.words.now _ _ _ _ _ _ _ _ _ c.perform-performed.ensures.performed.carried
-    c.perform-performed.ensures.performed.name
+    (line_told c.command-command.result c.args.words.now _ _ _ _ _ _ _ _ _ c.perform-performed.ensures.carried
+    c.perform-performed.ensures.name
     (rw (← c.name_of-name.ensures) c.line-printed.ensures.written) c.line-printed.ensures.gone)
 
 pub returns-clause-untold_line : goal.returns-clause-untold_line
 returns-clause-untold_line g c = rw (c.finish.ensures, ← c.command-command.ensures)
     (line_untold c.command-command.result c.args.words.now c.perform-performed.result.outcome
-    c.perform-performed.result.name.bytes _ _ _ _ _ c.perform-performed.ensures.performed.untold_name
-    (λ none. (c.perform-performed.ensures.performed.usage none).0) c.perform-performed.ensures.performed.shown
-    c.perform-performed.ensures.seven
+    c.perform-performed.result.name.bytes _ _ _ _ _ c.perform-performed.ensures.untold_name
+    (λ none. (c.perform-performed.ensures.usage none).0) c.perform-performed.ensures.shown
+    (search rules)
     (rw (← c.name_of-name.ensures) c.line-printed.ensures.written) c.line-printed.ensures.gone)
 
 pub returns-clause-headline : goal.returns-clause-headline
 returns-clause-headline g c = rw (c.finish.ensures, ← c.command-command.ensures)
     (done_then (λ held. HasHeadlineOf c.command-command.result c.args.words.now held _) _ _ _
-    c.perform-performed.ensures.performed.headline)
+    c.perform-performed.ensures.headline)
 
 pub returns-clause-usage : goal.returns-clause-usage
 returns-clause-usage g c = λ none.
     let no_command = c.command-command.ensures ∙ none in
-    let usage = c.perform-performed.ensures.performed.usage no_command in
+    let usage = c.perform-performed.ensures.usage no_command in
     rw c.finish.ensures (usage_of _ _ _ _ usage.0 usage.1)
 
 pub returns-clause-gone : goal.returns-clause-gone
 returns-clause-gone g c = rw c.finish.ensures
-    (ended_of _ _ _ _ _ _ c.perform-performed.ensures.performed.gone c.line-printed.ensures.gone)
+    (ended_of _ _ _ _ _ _ c.perform-performed.ensures.gone c.line-printed.ensures.gone)
 
 pub returns-clause-unprinted : goal.returns-clause-unprinted
 returns-clause-unprinted g c = rw (c.finish.ensures, ← c.command-command.ensures)
     (unprinted_told (means_of c.command-command.result c.args.words.now) _ _ _ _ _ _ _ _
-    c.perform-performed.ensures.performed.carried c.perform-performed.ensures.performed.gone
+    c.perform-performed.ensures.carried c.perform-performed.ensures.gone
     c.line-printed.ensures.gone)
 
 pub returns-clause-words : goal.returns-clause-words
 returns-clause-words g c = rw (c.finish.ensures, ← c.command-command.ensures)
     (words_told c.command-command.result c.args.words.now _ _ (sym c.command-command.ensures)
-    c.perform-performed.ensures.performed.answer)
+    c.perform-performed.ensures.answer)
 
 pub returns-clause-progress : goal.returns-clause-progress
 returns-clause-progress g c = rw (c.finish.ensures, ← c.command-command.ensures)
-    (progress_told c.command-command.result c.args.words.now _ _ _ _ c.perform-performed.ensures.performed.progress)
+    (progress_told c.command-command.result c.args.words.now _ _ _ _ c.perform-performed.ensures.progress)

@@ -1,0 +1,37 @@
+-- A command was performed, since its job was.
+use Rattle.std.specs.Prelude.{◌≡◌, ◌≢◌, ℕ, List, Option, Some, None, IfSome}
+use Rattle.dtx_meaning.specs.declared.status.Outcome.{Outcome}
+use Rattle.dtx_meaning.specs.declared.status.Status.TheVariants.{Done}
+use Rattle.dtx_outside.specs.Counts.{Counts}
+use Rattle.dtx_outside.specs.Shelf.{Files}
+use Rattle.dtx_forms.specs.Job.{Job, IsJobPerformed}
+use Rattle.dtx_words.specs.declared.rows.Command.{Command}
+use Rattle.dtx_words.specs.declared.rows.Command.TheVariants.{Net}
+use Rattle.dtx_top.specs.Ends.{HasHeadlineOf, HasProgressOf, IsCommandPerformed}
+use Rattle.dtx_top.specs.Jobs.{job_of}
+
+-- what holds of all files holds of those that are told
+of_all : (P : Files → Type 0) (told : Option Files) → ((held : Files) → P held) → IfSome told P
+of_all P None is = tt
+of_all P (Some held) is = is held
+
+-- a job of a command that is no network
+pub of_job : (command : Command) (job : Job) (words : List (List ℕ)) (outcome : Outcome) (kept : List ℕ)
+    (told now : Option Files) (before after : Counts)
+    → job_of command ≡ Some job
+    → Some command ≢ Some Net
+    → ((held : Files) → HasProgressOf (Some command) words held outcome.status now)
+    → ((held : Files) → outcome.status ≡ Done → HasHeadlineOf (Some command) words held now)
+    → IsJobPerformed job words outcome told now before after
+    → IsCommandPerformed (Some command) words outcome kept told now before after
+of_job command job words outcome kept told now before after is other progress headline done = record {
+  carried = rw is done.carried;
+  gone = done.gone;
+  answer = rw is (done.words, done.answers);
+  usage = λ none. cc;
+  name = λ net. elim (other net) [ ];
+  untold_name = λ net. elim (other net) [ ];
+  shown = λ net. elim (other net) [ ];
+  progress = of_all (λ held. HasProgressOf (Some command) words held outcome.status now) told progress;
+  headline = of_all (λ held. outcome.status ≡ Done → HasHeadlineOf (Some command) words held now) told headline;
+}
