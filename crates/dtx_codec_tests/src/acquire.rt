@@ -1,13 +1,10 @@
 // A segment alone, and a short capture with something in front.
 
-ghost use Rattle.std.specs.Prelude.{◌≡◌};
-
+use crate::expect::expect;
 use crate::samples::segment_of;
 use dtx_acquire::Acquirer;
 use dtx_frame::field_sync;
 use dtx_sizes::{PRECODE, SEGMENT};
-use std::process::Abort;
-use std::test::Fail;
 
 /// The symbols in front of the sync, and how many data segments stand behind it.
 const FRONT: usize = 100;
@@ -23,57 +20,57 @@ fn sync() -> [i8; SEGMENT] {
 
 /// Zeros, the field sync, and the data segments.
 fn capture() -> [i8; FRONT + SEGMENT * (DATA + 1)] {
+    let first = sync();
+    let data = segment_of(1);
     let mut all = [0; FRONT + SEGMENT * (DATA + 1)];
-    let (segments, _) = all[FRONT..].as_chunks_mut::<SEGMENT>();
-    for segment in segments.iter_mut() {
-        *segment = segment_of(1);
-    }
-    if let Some(first) = segments.first_mut() {
-        *first = sync();
+    for i in 0..SEGMENT * (DATA + 1) {
+        all[FRONT + i] = if i < SEGMENT {
+            first[i]
+        } else {
+            data[i % SEGMENT]
+        };
     }
     all
 }
 
-/// Nothing is acquired of a data segment alone.
-fn expect_nothing(rt: &impl Abort, acquirer: &mut Acquirer)
-    requires { acquirer.old.symbols ≡ 0 }
-{
-    assert!(rt; acquirer.take(&segment_of(1)) == SEGMENT);
-    assert!(rt; acquirer.given().is_empty());
+/// How many runs there are, how many segments, and how many symbols outside these.
+fn counts(acquirer: &Acquirer) -> (u64, u64, u64) {
+    (acquirer.runs(), acquirer.segments(), acquirer.loose())
+}
+
+/// Whether nothing is acquired of a data segment alone.
+fn gives_nothing(acquirer: &mut Acquirer) -> bool {
+    if acquirer.symbols() != 0 || acquirer.take(&segment_of(1)) != SEGMENT {
+        return false;
+    }
+    let none = acquirer.given().is_empty();
     acquirer.finish();
-    assert!(rt; acquirer.runs() == 0);
-    assert!(rt; acquirer.segments() == 0);
-    assert!(rt; acquirer.loose() == 832);
+    none && counts(acquirer) == (0, 0, 832)
 }
 
 #[test]
-fn without_a_field_sync_nothing_is_acquired(rt: HostRuntime) -> Result<(), Fail> {
-    expect_nothing(&rt, &mut Acquirer::new(rt.alloc(), 1)?);
-    Ok(())
+fn without_a_field_sync_nothing_is_acquired(rt: HostRuntime) {
+    expect(&rt, Acquirer::new(rt.alloc(), 1), gives_nothing);
 }
 
-/// The numbers of the short capture.
-fn expect_numbers(rt: &impl Abort, acquirer: &mut Acquirer)
-    requires { acquirer.old.symbols ≡ 0 }
-{
-    assert!(rt; acquirer.take(&capture()) == 5092);
+/// Whether the first of the short capture's segments and the last are these.
+fn are_segments(given: &[[i8; SEGMENT]]) -> bool {
+    match given {
+        [first, .., last] => *first == sync() && *last == segment_of(1),
+        _ => false,
+    }
+}
+
+/// Whether the short capture has these numbers, and those segments.
+fn gives_segments(acquirer: &mut Acquirer) -> bool {
+    if acquirer.symbols() != 0 || acquirer.take(&capture()) != 5092 {
+        return false;
+    }
     acquirer.finish();
-    assert!(rt; acquirer.runs() == 1);
-    assert!(rt; acquirer.segments() == 6);
-    assert!(rt; acquirer.cost() == 0);
-    assert!(rt; acquirer.loose() == 100);
-}
-
-/// The first of its segments, and the last.
-fn expect_segments(rt: &impl Abort, given: &[[i8; SEGMENT]]) {
-    assert!(rt; given.first() == Some(&sync()));
-    assert!(rt; given.last() == Some(&segment_of(1)));
+    counts(acquirer) == (1, 6, 100) && acquirer.cost() == 0 && are_segments(acquirer.given())
 }
 
 #[test]
-fn a_short_capture_gives_its_segments(rt: HostRuntime) -> Result<(), Fail> {
-    let mut acquirer = Acquirer::new(rt.alloc(), 1)?;
-    expect_numbers(&rt, &mut acquirer);
-    expect_segments(&rt, acquirer.given());
-    Ok(())
+fn a_short_capture_gives_its_segments(rt: HostRuntime) {
+    expect(&rt, Acquirer::new(rt.alloc(), 1), gives_segments);
 }

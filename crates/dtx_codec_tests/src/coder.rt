@@ -1,25 +1,24 @@
 //! Groups as an independent program codes them.
 
-ghost use Rattle.std.specs.Prelude.{◌<◌};
-
+use crate::expect::{expect, expect_rows};
 use crate::samples::packet;
 use dtx_coder::{Air, Coder};
 use dtx_laws::Whitener;
 use dtx_packets::Packet;
-use dtx_sizes::{GROUP_PACKETS, PACKET, PACKET_DATA, SEGMENT};
+use dtx_sizes::{FIELD_PACKETS, GROUP_PACKETS, PACKET, PACKET_DATA, SEGMENT};
 use dtx_trellis::States;
 use dtx_whiten::Atsc;
-use std::process::Abort;
-use std::test::Fail;
 
 /// The symbols of all segments as one number, which tells their order too.
 fn digest(air: &Air) -> i64 {
-    air.symbols
-        .iter()
-        .take(SEGMENT * air.segments as usize)
-        .fold(0i64, |sum, &symbol| {
-            sum.wrapping_mul(31).wrapping_add(symbol as i64)
-        })
+    let end = SEGMENT * air.segments as usize;
+    let mut sum = 0i64;
+    for (place, symbol) in air.symbols.iter().enumerate() {
+        if place < end {
+            sum = sum.wrapping_mul(31).wrapping_add(*symbol as i64);
+        }
+    }
+    sum
 }
 
 /// How many of the symbols are the lowest.
@@ -44,10 +43,12 @@ fn highest_states() -> States {
 }
 
 /// Four packets, of which the first has the number `k`.
-fn packets(k: u8) -> [Packet; GROUP_PACKETS]
-    requires { k < 100 }
-{
-    [packet(k), packet(k + 1), packet(k + 2), packet(k + 3)]
+fn packets(k: u8) -> [Packet; GROUP_PACKETS] {
+    let mut packets = [packet(k); GROUP_PACKETS];
+    for p in 1..GROUP_PACKETS {
+        packets[p] = packet(k.wrapping_add(p as u8));
+    }
+    packets
 }
 
 /// The randomizer's own bytes, so that each coded byte is 0.
@@ -61,43 +62,96 @@ fn randomized_zeros(atsc: &Atsc) -> [Packet; GROUP_PACKETS] {
     packets
 }
 
-fn expect_lowest(rt: &impl Abort, coder: &mut Coder, zeros: &[Packet; GROUP_PACKETS]) {
+/// Whether these become a field sync, and then the lowest symbol alone.
+fn are_lowest(coder: &mut Coder, zeros: &[Packet; GROUP_PACKETS]) -> bool {
     let mut air = Air::new();
     coder.group(0, false, zeros, None, true, &mut air);
-    assert!(rt; air.segments == 5);
-    assert!(rt; lowest(&air) == 12 + 4 * 828);
-    assert!(rt; digest(&air) == -4736745350597717142);
+    air.segments == 5 && lowest(&air) == 12 + 4 * 828 && digest(&air) == -4736745350597717142
 }
 
 #[test]
-fn zeros_give_a_field_sync_and_then_the_lowest_symbol(rt: HostRuntime) -> Result<(), Fail> {
-    let zeros = randomized_zeros(&Atsc::new(rt.alloc())?);
-    expect_lowest(&rt, &mut Coder::new(rt.alloc())?, &zeros);
-    Ok(())
+fn zeros_give_a_field_sync_and_then_the_lowest_symbol(rt: HostRuntime) {
+    let zeros = randomized_zeros(&Atsc::new(rt.alloc()).expect(&rt, "a randomizer"));
+    expect(
+        &rt,
+        Coder::new(rt.alloc()),
+        |coder| are_lowest(coder, &zeros),
+    );
 }
 
-fn expect_groups(rt: &impl Abort, coder: &mut Coder) {
+/// The states that a group is coded from: those that the last group left, without an align or with one, or others.
+#[derive(Clone, Copy)]
+enum From {
+    Left,
+    Aligned,
+    Mixed,
+    Highest,
+}
+
+/// What a group is given for them.
+fn preset(coder: &mut Coder, from: From) -> Option<States> {
+    match from {
+        From::Left => None,
+        From::Aligned => {
+            coder.align();
+            None
+        }
+        From::Mixed => Some(mixed_states()),
+        From::Highest => Some(highest_states()),
+    }
+}
+
+/// A group's first place, whether that is of a second field, the states, whether a field sync stands in front, and the
+/// digest of its symbols.
+type Group = (u16, bool, From, bool, i64);
+
+/// Groups that follow one another. Group g has the packets from 4 * g on.
+const GROUPS: [Group; 6] = [
+    (304, false, From::Left, false, 6290378049446142936),
+    (308, false, From::Left, false, -8559873865951430036),
+    (0, true, From::Left, true, 3748125840280834370),
+    (4, true, From::Mixed, false, 2928617120466534032),
+    (8, true, From::Aligned, false, 9067681087772147592),
+    (0, false, From::Highest, true, 2451126217495075316),
+];
+
+/// The states that they leave.
+const LAST: [u8; 12] = [5, 3, 5, 3, 3, 6, 4, 2, 3, 7, 2, 5];
+
+/// Whether that is what group `g` becomes.
+fn is_coded(coder: &mut Coder, air: &mut Air, g: usize, group: &Group) -> bool {
+    let (first, second, from, sync, sum) = *group;
+    if first >= FIELD_PACKETS || first % 4 != 0 || sync && first != 0 {
+        return false;
+    }
+    let preset = preset(coder, from);
+    coder.group(
+        first,
+        second,
+        &packets((g % 64 * 4) as u8),
+        preset,
+        sync,
+        air,
+    );
+    digest(air) == sum
+}
+
+/// The first group that becomes something else, or else the row behind, where other states are left.
+fn first_wrong(coder: &mut Coder) -> Option<usize> {
     let mut air = Air::new();
-    coder.group(304, false, &packets(0), None, false, &mut air);
-    assert!(rt; digest(&air) == 6290378049446142936);
-    coder.group(308, false, &packets(4), None, false, &mut air);
-    assert!(rt; digest(&air) == -8559873865951430036);
-    coder.group(0, true, &packets(8), None, true, &mut air);
-    assert!(rt; digest(&air) == 3748125840280834370);
-    let preset = Some(mixed_states());
-    coder.group(4, true, &packets(12), preset, false, &mut air);
-    assert!(rt; digest(&air) == 2928617120466534032);
-    coder.align();
-    coder.group(8, true, &packets(16), None, false, &mut air);
-    assert!(rt; digest(&air) == 9067681087772147592);
-    let preset = Some(highest_states());
-    coder.group(0, false, &packets(20), preset, true, &mut air);
-    assert!(rt; digest(&air) == 2451126217495075316);
-    assert!(rt; coder.states().0 == [5, 3, 5, 3, 3, 6, 4, 2, 3, 7, 2, 5]);
+    for (g, group) in GROUPS.iter().enumerate() {
+        if !is_coded(coder, &mut air, g, group) {
+            return Some(g);
+        }
+    }
+    if coder.states().0 == LAST {
+        None
+    } else {
+        Some(GROUPS.len())
+    }
 }
 
 #[test]
-fn groups_are_those_of_an_independent_program(rt: HostRuntime) -> Result<(), Fail> {
-    expect_groups(&rt, &mut Coder::new(rt.alloc())?);
-    Ok(())
+fn groups_are_those_of_an_independent_program(rt: HostRuntime) {
+    expect_rows(&rt, Coder::new(rt.alloc()), first_wrong);
 }

@@ -2,6 +2,9 @@
 
 mod vectors;
 
+ghost use Rattle.dtx_laws.specs.Codeword.{IsCode};
+
+use crate::expect::expect_none;
 use dtx_correct::Linear;
 use dtx_fast::Fast;
 use dtx_laws::{Correct, TooMany};
@@ -28,60 +31,73 @@ fn eleven_wrong() -> [u8; 207] {
     word
 }
 
+/// Whether the word becomes that, with this answer.
+fn is_answered<const N: usize, const K: usize, C: Correct<N, K>>(
+    code: &C,
+    word: &[u8; N],
+    right: &[u8; N],
+    answer: Result<u8, TooMany>,
+) -> bool {
+    let mut tried = *word;
+    code.correct(&mut tried) == answer && tried == *right
+}
+
+/// The first of these words that the codec corrects otherwise.
+fn first_wrong<const N: usize, const K: usize, C: Correct<N, K>>(
+    code: &C,
+    rows: &[Corrected<N>],
+) -> Option<usize> {
+    for (number, row) in rows.iter().enumerate() {
+        if !is_answered(code, &row.word, &row.right, Ok(row.changed)) {
+            return Some(number);
+        }
+    }
+    None
+}
+
+/// The first of these words that isn't given up.
+fn first_not_left<const N: usize, const K: usize, C: Correct<N, K>>(
+    code: &C,
+    left: &[[u8; N]],
+) -> Option<usize> {
+    for (number, word) in left.iter().enumerate() {
+        if !is_answered(code, word, word, Err(TooMany)) {
+            return Some(number);
+        }
+    }
+    None
+}
+
+/// The codec's verdicts on words that it corrects and on words that it gives up.
+fn expect_verdicts<const N: usize, const K: usize>(
+    rt: &impl Abort,
+    rows: &[Corrected<N>],
+    left: &[[u8; N]],
+)
+    requires { IsCode N K }
+{
+    let linear = Linear::<N, K>::new();
+    expect_none(rt, first_wrong(&linear, rows));
+    expect_none(rt, first_not_left(&linear, left));
+    let fast = Fast::<N, K>::new();
+    expect_none(rt, first_wrong(&fast, rows));
+    expect_none(rt, first_not_left(&fast, left));
+}
+
 #[test]
 fn words_are_corrected_or_given_up_as_by_another_codec(rt: HostRuntime) {
-    expect_verdicts(&rt, &Linear::<207, 187>::new(), &AIR, &AIR_LEFT);
-    expect_verdicts(&rt, &Linear::<184, 164>::new(), &PACKET, &PACKET_LEFT);
-    expect_verdicts(&rt, &Linear::<204, 188>::new(), &DVB, &DVB_LEFT);
-    expect_verdicts(&rt, &Fast::<207, 187>::new(), &AIR, &AIR_LEFT);
-    expect_verdicts(&rt, &Fast::<184, 164>::new(), &PACKET, &PACKET_LEFT);
-    expect_verdicts(&rt, &Fast::<204, 188>::new(), &DVB, &DVB_LEFT);
+    expect_verdicts::<207, 187>(&rt, &AIR, &AIR_LEFT);
+    expect_verdicts::<184, 164>(&rt, &PACKET, &PACKET_LEFT);
+    expect_verdicts::<204, 188>(&rt, &DVB, &DVB_LEFT);
+}
+
+fn are_ten_and_eleven<C: Correct<207, 187>>(code: &C) -> bool {
+    let eleven = eleven_wrong();
+    is_answered(code, &ten_wrong(), &[0; 207], Ok(10))
+        && is_answered(code, &eleven, &eleven, Err(TooMany))
 }
 
 #[test]
 fn ten_wrong_bytes_are_put_right_and_eleven_are_left(rt: HostRuntime) {
-    expect_ten_and_eleven(&rt, &Linear::new());
-    expect_ten_and_eleven(&rt, &Fast::new());
-}
-
-fn expect_ten_and_eleven<C: Correct<207, 187>>(rt: &impl Abort, code: &C) {
-    let mut ten = ten_wrong();
-    assert!(rt; code.correct(&mut ten) == Ok(10));
-    assert!(rt; ten == [0; 207]);
-    expect_left(rt, code, &eleven_wrong());
-}
-
-/// The codec's verdicts on words that it corrects and on words that it gives up.
-fn expect_verdicts<const N: usize, const K: usize, C: Correct<N, K>>(
-    rt: &impl Abort,
-    code: &C,
-    rows: &[Corrected<N>],
-    left: &[[u8; N]],
-) {
-    for row in rows {
-        expect_corrected(rt, code, row);
-    }
-    for word in left {
-        expect_left(rt, code, word);
-    }
-}
-
-fn expect_corrected<const N: usize, const K: usize, C: Correct<N, K>>(
-    rt: &impl Abort,
-    code: &C,
-    row: &Corrected<N>,
-) {
-    let mut word = row.word;
-    assert!(rt; code.correct(&mut word) == Ok(row.changed));
-    assert!(rt; word == row.right);
-}
-
-fn expect_left<const N: usize, const K: usize, C: Correct<N, K>>(
-    rt: &impl Abort,
-    code: &C,
-    word: &[u8; N],
-) {
-    let mut tried = *word;
-    assert!(rt; code.correct(&mut tried) == Err(TooMany));
-    assert!(rt; tried == *word);
+    assert!(rt; are_ten_and_eleven(&Linear::new()) && are_ten_and_eleven(&Fast::new()));
 }

@@ -1,13 +1,11 @@
 //! Streams as they are sent and read back.
 
-ghost use Rattle.std.specs.Prelude.{◌≤◌};
-
+use crate::expect::expect;
 use crate::samples::{packet, sum_of};
 use dtx_dvb::{BLOCK, DvbIn, DvbOut, WAITING};
 use dtx_outer::Taken;
 use dtx_packets::Packet;
 use dtx_sizes::PACKET;
-use std::test::Fail;
 
 /// How many packets the streams have.
 const COUNT: usize = 20;
@@ -52,7 +50,9 @@ const BLOCKS: [(usize, [u8; 3], u32); 6] = [
     (19, [71, 246, 172], 26_842),
 ];
 
-fn are_blocks(blocks: &Blocks) -> bool {
+/// Whether these blocks are sent.
+fn are_sent(out: &mut DvbOut) -> bool {
+    let blocks = sent(out);
     for (k, first, sum) in &BLOCKS {
         if !is_block(&blocks[*k % COUNT], first, *sum) {
             return false;
@@ -62,28 +62,17 @@ fn are_blocks(blocks: &Blocks) -> bool {
 }
 
 #[test]
-fn the_blocks_are_those_of_an_independent_program(rt: HostRuntime) -> Result<(), Fail> {
-    assert!(rt; are_blocks(&sent(&mut DvbOut::new(rt.alloc())?)));
-    Ok(())
+fn the_blocks_are_those_of_an_independent_program(rt: HostRuntime) {
+    expect(&rt, DvbOut::new(rt.alloc()), are_sent);
 }
 
 /// The stream's blocks with so many wrong bytes of the first word, byte j of which stands at j + 204 * (j mod 12).
-fn with_wrong(out: &mut DvbOut, wrong: usize) -> Blocks
-    requires { wrong ≤ WAITING }
-{
+fn with_wrong(out: &mut DvbOut, wrong: usize) -> Blocks {
     let mut blocks = sent(out);
-    for j in 0..wrong {
-        blocks[j][j] ^= 0x55;
+    for j in 0..WAITING {
+        blocks[j][j] ^= if j < wrong { 0x55 } else { 0 };
     }
     blocks
-}
-
-#[test]
-fn a_word_with_eight_wrong_bytes_is_put_right(rt: HostRuntime) -> Result<(), Fail> {
-    let blocks = with_wrong(&mut DvbOut::new(rt.alloc())?, 8);
-    let (taken, read) = first_read(&mut DvbIn::new(rt.alloc())?, &blocks);
-    assert!(rt; taken == Taken::Good { fixed: 8 } && read == packet(0));
-    Ok(())
 }
 
 /// The first packet with eight wrong bytes, flagged.
@@ -96,10 +85,23 @@ fn as_gathered() -> Packet {
     packet
 }
 
+/// What a word with so many wrong bytes is read as.
+fn read(mut out: DvbOut, mut reader: DvbIn, wrong: usize) -> (Taken, Packet) {
+    first_read(&mut reader, &with_wrong(&mut out, wrong))
+}
+
 #[test]
-fn a_word_with_nine_wrong_bytes_is_flagged(rt: HostRuntime) -> Result<(), Fail> {
-    let blocks = with_wrong(&mut DvbOut::new(rt.alloc())?, 9);
-    let (taken, read) = first_read(&mut DvbIn::new(rt.alloc())?, &blocks);
-    assert!(rt; taken == Taken::Bad && read == as_gathered());
-    Ok(())
+fn a_word_with_eight_wrong_bytes_is_put_right_and_one_with_nine_is_flagged(rt: HostRuntime) {
+    let rows = [
+        (8, Taken::Good { fixed: 8 }, packet(0)),
+        (9, Taken::Bad, as_gathered()),
+    ];
+    for (wrong, taken, packet) in rows {
+        let out = DvbOut::new(rt.alloc()).expect(&rt, "a sender");
+        let reader = DvbIn::new(rt.alloc()).expect(&rt, "a reader");
+        assert!(rt;
+            read(out, reader, wrong) == (taken, packet),
+            "{wrong} wrong"
+        );
+    }
 }

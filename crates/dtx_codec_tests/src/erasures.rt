@@ -1,8 +1,8 @@
 //! Worked words, and words damaged at marked and unmarked places.
 
+use crate::expect::expect_none;
 use dtx_erase::{Erase, Mend};
 use dtx_laws::TooMany;
-use std::process::Abort;
 
 /// The code of the air.
 type Air = Erase<207, 187>;
@@ -25,28 +25,33 @@ fn marked_front(marked: usize) -> [bool; 207] {
     marks
 }
 
-/// In a word of zeros so many bytes from the front on are marked, and so many are FF.
+/// How many bytes of a word of zeros are marked, and how many are FF, from the front on, and the answer.
+const WORKED: [(usize, usize, Result<u8, TooMany>); 8] = [
+    (20, 20, Ok(20)),
+    (18, 19, Ok(19)),
+    (19, 20, Err(TooMany)),
+    (21, 21, Err(TooMany)),
+    (21, 0, Err(TooMany)),
+    (20, 0, Ok(0)),
+    (0, 10, Ok(10)),
+    (0, 11, Err(TooMany)),
+];
+
+/// The first of these words that is mended or left otherwise.
+fn first_wrong(air: &Air) -> Option<usize> {
+    for (row, (marked, spoilt, answer)) in WORKED.iter().enumerate() {
+        let mut word = spoilt_word(*spoilt);
+        let right = if answer.is_ok() { 0 } else { *spoilt };
+        if air.mend(&mut word, &marked_front(*marked)) != *answer || word != spoilt_word(right) {
+            return Some(row);
+        }
+    }
+    None
+}
+
 #[test]
 fn worked_words_are_mended_or_left(rt: HostRuntime) {
-    let air = Erase::<207, 187>::new();
-    for (marked, spoilt, answer) in [
-        (20, 20, Ok(20)),
-        (18, 19, Ok(19)),
-        (19, 20, Err(TooMany)),
-        (21, 21, Err(TooMany)),
-        (21, 0, Err(TooMany)),
-        (20, 0, Ok(0)),
-        (0, 10, Ok(10)),
-        (0, 11, Err(TooMany)),
-    ] {
-        let mut word = spoilt_word(spoilt);
-        let right = if answer.is_ok() { 0 } else { spoilt };
-        assert!(rt;
-            air.mend(&mut word, &marked_front(marked)) == answer,
-            "{marked} marked"
-        );
-        assert!(rt; word == spoilt_word(right));
-    }
+    expect_none(&rt, first_wrong(&Erase::new()));
 }
 
 /// The parity bytes of the data bytes 7 * i + 3, modulo 256, by long division.
@@ -65,49 +70,6 @@ fn word_of_data() -> [u8; 207] {
     sent
 }
 
-/// A missing byte costs one of the twenty parity bytes, a wrong one two. Where they suffice, the word comes back;
-/// where they don't, there is mostly no mending. But a codeword that is near enough is one, whichever it is: by a plain
-/// solver of linear equations there is another one in four of the cases.
-#[test]
-fn damage_is_mended_while_the_parity_bytes_suffice(rt: HostRuntime) {
-    let air = Erase::<207, 187>::new();
-    let sent = word_of_data();
-    for missing in 0..25 {
-        for wrong in 0..13 {
-            let cost = 2 * wrong + missing;
-            if cost <= 20 {
-                let (mut word, marks) = damaged(&sent, missing, wrong);
-                let changed = (missing + wrong) as u8;
-                assert!(rt;
-                    air.mend(&mut word, &marks) == Ok(changed),
-                    "{missing} missing"
-                );
-                assert!(rt; word == sent);
-            } else if cost <= 24 {
-                expect_beyond(&rt, &air, &sent, missing, wrong);
-            }
-        }
-    }
-}
-
-/// The word is left as it is, or becomes another codeword.
-fn expect_beyond(rt: &impl Abort, air: &Air, sent: &[u8; 207], missing: usize, wrong: usize) {
-    let (mut word, marks) = damaged(sent, missing, wrong);
-    let answer = air.mend(&mut word, &marks);
-    assert!(rt; answer == beyond(missing, wrong), "{missing} missing");
-    assert!(rt; word != *sent);
-}
-
-/// What is answered there.
-fn beyond(missing: usize, wrong: usize) -> Result<u8, TooMany> {
-    match (missing, wrong) {
-        (16, 3) => Ok(18),
-        (18, 3) => Ok(19),
-        (20, 1) | (20, 2) => Ok(20),
-        _ => Err(TooMany),
-    }
-}
-
 /// The word with so many bytes missing and so many others wrong, at most 24 each, and its marks.
 fn damaged(sent: &[u8; 207], missing: usize, wrong: usize) -> ([u8; 207], [bool; 207]) {
     let mut word = *sent;
@@ -118,4 +80,55 @@ fn damaged(sent: &[u8; 207], missing: usize, wrong: usize) -> ([u8; 207], [bool;
         word[8 * i + 4] ^= if i < wrong { 0x5a } else { 0 };
     }
     (word, marks)
+}
+
+/// A missing byte costs one of the twenty parity bytes, a wrong one two.
+fn cost(missing: usize, wrong: usize) -> usize {
+    wrong.wrapping_mul(2).wrapping_add(missing)
+}
+
+/// What is answered there. Where the parity bytes suffice, the word comes back; where they don't, there is mostly no
+/// mending. But a codeword that is near enough is one,
+/// whichever it is: by a plain solver of linear equations there is another one in four of the cases.
+fn answer(missing: usize, wrong: usize) -> Result<u8, TooMany> {
+    match (missing, wrong) {
+        (16, 3) => Ok(18),
+        (18, 3) => Ok(19),
+        (20, 1) | (20, 2) => Ok(20),
+        _ if cost(missing, wrong) <= 20 => Ok((missing.wrapping_add(wrong) % 256) as u8),
+        _ => Err(TooMany),
+    }
+}
+
+/// Whether it is answered so, and whether the word comes back just where the parity bytes suffice.
+fn is_answered(air: &Air, sent: &[u8; 207], missing: usize, wrong: usize) -> bool {
+    let (mut word, marks) = damaged(sent, missing, wrong);
+    let answered = air.mend(&mut word, &marks);
+    answered == answer(missing, wrong) && (word == *sent) == (cost(missing, wrong) <= 20)
+}
+
+/// Whether that is so of each number of wrong bytes that costs at most 24 with so many missing ones.
+fn are_answered(air: &Air, sent: &[u8; 207], missing: usize) -> bool {
+    for wrong in 0..13 {
+        if cost(missing, wrong) <= 24 && !is_answered(air, sent, missing, wrong) {
+            return false;
+        }
+    }
+    true
+}
+
+/// The first number of missing bytes of which it isn't so.
+fn first_wrong_damage(air: &Air) -> Option<usize> {
+    let sent = word_of_data();
+    for missing in 0..25 {
+        if !are_answered(air, &sent, missing) {
+            return Some(missing);
+        }
+    }
+    None
+}
+
+#[test]
+fn damage_is_mended_while_the_parity_bytes_suffice(rt: HostRuntime) {
+    expect_none(&rt, first_wrong_damage(&Erase::new()));
 }

@@ -18,6 +18,8 @@ mod encoder;
 #[cfg(test)]
 mod erasures;
 #[cfg(test)]
+mod expect;
+#[cfg(test)]
 mod frame;
 #[cfg(test)]
 mod galois;

@@ -1,13 +1,13 @@
 // The outer coding at the numbers of the air, with the encoder, the corrector, the randomizer and the interleaver that
 // it is used with.
 
+use crate::expect::expect_rows;
 use crate::samples::sum_of;
 use dtx_outer::Outer;
 use dtx_rs::Rs;
 use dtx_spread::Branches;
 use dtx_whiten::Atsc;
 use std::alloc::{AllocError, Global};
-use std::test::Fail;
 
 type OuterCoding = Outer<Atsc, Rs<207, 187>, Branches<52, 4>, 207, 187, 52, 4>;
 
@@ -46,14 +46,8 @@ fn is_block(k: usize, block: &[u8; 207]) -> bool {
     true
 }
 
-// The numbers are those of a program in Python that follows the standard's equations: the randomizer's bytes as
-// remainders modulo its generator polynomial, the twenty parity bytes by solving the equations that the word
-// vanishes at the first twenty powers of α, and byte n of what leaves as byte n - 208 * (n mod 52) of what comes. From
-// packet 60 on n is counted from the align, and where that place is before the first, the byte is the next of those
-// that came to branch n mod 52 before the align and hadn't left.
-#[test]
-fn the_blocks_are_those_of_an_independent_program(rt: HostRuntime) -> Result<(), Fail> {
-    let mut outer = new_outer(rt.alloc())?;
+/// The first block that isn't so.
+fn first_wrong(outer: &mut OuterCoding) -> Option<usize> {
     let mut block = [0; 207];
     for k in 0..120usize {
         if k == 60 {
@@ -61,7 +55,19 @@ fn the_blocks_are_those_of_an_independent_program(rt: HostRuntime) -> Result<(),
         }
         let place = if k < 60 { (280 + k) % 312 } else { k - 60 };
         outer.code(place, &data(k), &mut block);
-        assert!(rt; is_block(k, &block), "block {k}");
+        if !is_block(k, &block) {
+            return Some(k);
+        }
     }
-    Ok(())
+    None
+}
+
+// The numbers are those of a program in Python that follows the standard's equations: the randomizer's bytes as
+// remainders modulo its generator polynomial, the twenty parity bytes by solving the equations that the word
+// vanishes at the first twenty powers of α, and byte n of what leaves as byte n - 208 * (n mod 52) of what comes. From
+// packet 60 on n is counted from the align, and where that place is before the first, the byte is the next of those
+// that came to branch n mod 52 before the align and hadn't left.
+#[test]
+fn the_blocks_are_those_of_an_independent_program(rt: HostRuntime) {
+    expect_rows(&rt, new_outer(rt.alloc()), first_wrong);
 }

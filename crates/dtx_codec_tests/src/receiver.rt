@@ -1,11 +1,10 @@
 //! Worked runs: streams of zeros, whose data symbols are all -7, and noise, which no codeword is near.
 
+use crate::expect::{expect, expect_rows};
 use crate::samples::segment_of;
 use dtx_frame::field_sync;
 use dtx_receiver::{Batch, Receiver, Tracking};
 use dtx_sizes::{PRECODE, SEGMENT};
-use std::process::Abort;
-use std::test::Fail;
 
 /// What the packets of some calls come to: how many there are, how many bytes were put right, how many were flagged,
 /// and their bytes in order as one number.
@@ -77,13 +76,42 @@ fn noise(n: u32) -> [i8; SEGMENT] {
     out
 }
 
-/// What the calls give from a field sync and so many data segments of zeros on, and then the end of the run.
-fn of_zeros(receiver: &mut Receiver, count: u32) -> (Totals, Totals) {
+/// What a run has: zeros, zeros of which two segments are lost, or noise.
+#[derive(Clone, Copy)]
+enum Kind {
+    Zeros,
+    Lost,
+    Noise,
+}
+
+/// The symbols in front of a run's first field sync, or of its second.
+fn last(kind: Kind, second: bool) -> [i8; PRECODE] {
+    match (kind, second) {
+        (Kind::Noise, false) => [7, -5, -3, -1, 1, 3, 5, 7, -7, 5, 3, -1],
+        (Kind::Noise, true) => [7; PRECODE],
+        _ => [-7; PRECODE],
+    }
+}
+
+/// Data segment n of a run.
+fn data(kind: Kind, n: u32) -> [i8; SEGMENT] {
+    match (kind, n) {
+        (Kind::Noise, _) => noise(n),
+        (Kind::Lost, 200 | 201) => [127; SEGMENT],
+        _ => zeros(),
+    }
+}
+
+/// What the calls give for so many data segments of a run, and then with its end.
+fn received(receiver: &mut Receiver, kind: Kind, count: u32) -> (Totals, Totals) {
     let mut batch = Batch::new();
     let mut totals = Totals::none();
-    receiver.take(&sync(&[-7; PRECODE]), &mut batch);
-    for _ in 0..count {
-        receiver.take(&zeros(), &mut batch);
+    receiver.take(&sync(&last(kind, false)), &mut batch);
+    for n in 0..count {
+        if n == 312 {
+            receiver.take(&sync(&last(kind, true)), &mut batch);
+        }
+        receiver.take(&data(kind, n), &mut batch);
         totals.add(&batch);
     }
     let early = totals;
@@ -92,114 +120,51 @@ fn of_zeros(receiver: &mut Receiver, count: u32) -> (Totals, Totals) {
     (early, totals)
 }
 
-/// How many segments of zeros, and how many packets they give as they come, and with the end.
-const TURNS: [(u32, u32, u32); 6] = [
-    (0, 0, 0),
-    (48, 0, 0),
-    (52, 0, 1),
-    (55, 0, 1),
-    (56, 4, 4),
-    (104, 52, 53),
+/// What a run has, how many data segments, how many packets it gives as they come, what it comes to with the end, and
+/// the digest of all bytes: of these what is told.
+type Row = (Kind, u32, Option<u32>, (u32, u32, u32), Option<u32>);
+
+// The digest of zeros is that of a program in Python that follows the standard's randomizer, and those of noise are of
+// one that follows the definitions over the whole list.
+const ROWS: [Row; 12] = [
+    (Kind::Zeros, 0, Some(0), (0, 0, 0), None),
+    (Kind::Zeros, 48, Some(0), (0, 0, 0), None),
+    (Kind::Zeros, 52, Some(0), (1, 0, 0), None),
+    (Kind::Zeros, 55, Some(0), (1, 0, 0), None),
+    (Kind::Zeros, 56, Some(4), (4, 0, 0), Some(3678594777)),
+    (Kind::Zeros, 104, Some(52), (53, 0, 0), None),
+    (Kind::Lost, 624, None, (573, 420, 0), None),
+    (Kind::Noise, 52, None, (1, 0, 1), Some(661802710)),
+    (Kind::Noise, 56, None, (4, 0, 4), Some(479874379)),
+    (Kind::Noise, 104, None, (53, 0, 53), Some(325097249)),
+    (Kind::Noise, 107, None, (53, 0, 53), Some(325097249)),
+    (Kind::Noise, 317, None, (264, 0, 264), Some(2860921998)),
 ];
 
-/// Whether a run of zeros gives so many.
-fn gives(receiver: &mut Receiver, turn: &(u32, u32, u32)) -> bool {
-    let (count, early, all) = turn;
-    let totals = of_zeros(receiver, *count);
-    totals.0.packets == *early && totals.1.counts() == (*all, 0, 0)
+/// Whether a run gives that.
+fn gives(receiver: &mut Receiver, row: &Row) -> bool {
+    let (kind, count, packets, counts, digest) = *row;
+    let (early, all) = received(receiver, kind, count);
+    early.packets == packets.unwrap_or(early.packets)
+        && all.counts() == counts
+        && all.digest == digest.unwrap_or(all.digest)
 }
 
-#[test]
-fn a_packet_comes_once_53_segments_stand_and_the_52_packets_of_a_turn_at_the_end(
-    rt: HostRuntime,
-) -> Result<(), Fail> {
-    let mut receiver = Receiver::new(rt.alloc())?;
-    for turn in &TURNS {
-        assert!(rt; gives(&mut receiver, turn));
-    }
-    Ok(())
-}
-
-// The digest is that of a program in Python that follows the standard's randomizer.
-#[test]
-fn the_packets_of_zeros_are_the_randomizers_bytes(rt: HostRuntime) -> Result<(), Fail> {
-    let (early, _) = of_zeros(&mut Receiver::new(rt.alloc())?, 56);
-    assert!(rt; early.packets == 4 && early.digest == 3678594777);
-    Ok(())
-}
-
-/// Segment n of two fields of zeros, of which two segments are lost.
-fn of_two_fields(n: u32) -> [i8; SEGMENT] {
-    match n {
-        0 | 313 => sync(&[-7; PRECODE]),
-        201 | 202 => [127; SEGMENT],
-        _ => zeros(),
-    }
-}
-
-/// What they come to.
-fn of_both(receiver: &mut Receiver) -> Totals {
-    let mut batch = Batch::new();
-    let mut totals = Totals::none();
-    for n in 0..626 {
-        receiver.take(&of_two_fields(n), &mut batch);
-        totals.add(&batch);
-    }
-    receiver.finish(&mut batch);
-    totals.add(&batch);
-    totals
-}
-
-#[test]
-fn two_lost_segments_are_put_right(rt: HostRuntime) -> Result<(), Fail> {
-    let totals = of_both(&mut Receiver::new(rt.alloc())?);
-    assert!(rt; totals.counts() == (573, 420, 0));
-    Ok(())
-}
-
-/// What a run of noise gives, of so many data segments.
-fn of_noise(receiver: &mut Receiver, count: u32) -> Totals {
-    let mut batch = Batch::new();
-    let mut totals = Totals::none();
-    receiver.take(
-        &sync(&[7, -5, -3, -1, 1, 3, 5, 7, -7, 5, 3, -1]),
-        &mut batch,
-    );
-    for n in 0..count {
-        if n == 312 {
-            receiver.take(&sync(&[7; PRECODE]), &mut batch);
+/// The first run that gives something else.
+fn first_wrong(receiver: &mut Receiver) -> Option<usize> {
+    for (number, row) in ROWS.iter().enumerate() {
+        if !gives(receiver, row) {
+            return Some(number);
         }
-        receiver.take(&noise(n), &mut batch);
-        totals.add(&batch);
     }
-    receiver.finish(&mut batch);
-    totals.add(&batch);
-    totals
-}
-
-/// How many segments of noise, and how many packets they give, with the digest of their bytes: that of a program in
-/// Python that follows the definitions over the whole list.
-const NOISES: [(u32, u32, u32); 5] = [
-    (52, 1, 661802710),
-    (56, 4, 479874379),
-    (104, 53, 325097249),
-    (107, 53, 325097249),
-    (317, 264, 2860921998),
-];
-
-fn is_flagged(receiver: &mut Receiver, noise: &(u32, u32, u32)) -> bool {
-    let (count, packets, digest) = noise;
-    let totals = of_noise(receiver, *count);
-    totals.counts() == (*packets, 0, *packets) && totals.digest == *digest
+    None
 }
 
 #[test]
-fn noise_gives_flagged_packets_with_the_bytes_as_gathered(rt: HostRuntime) -> Result<(), Fail> {
-    let mut receiver = Receiver::new(rt.alloc())?;
-    for noise in &NOISES {
-        assert!(rt; is_flagged(&mut receiver, noise));
-    }
-    Ok(())
+fn zeros_give_the_randomizers_bytes_once_53_segments_stand_or_at_the_end_two_lost_are_put_right_and_noise_is_flagged(
+    rt: HostRuntime,
+) {
+    expect_rows(&rt, Receiver::new(rt.alloc()), first_wrong);
 }
 
 /// Whether a field's data segments are that, and give so many packets as they come.
@@ -228,26 +193,22 @@ fn ends(receiver: &mut Receiver, batch: &mut Batch) -> bool {
         && begins(receiver, batch)
 }
 
-fn expect_end(rt: &impl Abort, receiver: &mut Receiver, batch: &mut Batch) {
-    assert!(rt; receiver.take(&noise(0), batch) == Tracking::Searching);
-    assert!(rt; begins(receiver, batch) && ends(receiver, batch));
-    receiver.finish(batch);
-    assert!(rt; batch.packets.len() == 0);
+/// Whether a run begins at its field sync, and ends so, and a field sync behind the next one's is data, of which nothing
+/// is given.
+fn runs(receiver: &mut Receiver) -> bool {
+    let mut batch = Batch::new();
+    let searching = receiver.take(&noise(0), &mut batch) == Tracking::Searching;
+    let run = searching
+        && begins(receiver, &mut batch)
+        && ends(receiver, &mut batch)
+        && receiver.take(&sync(&[-7; PRECODE]), &mut batch) == Tracking::Data;
+    receiver.finish(&mut batch);
+    run && batch.packets.len() == 0
 }
 
 #[test]
-fn a_run_ends_before_a_segment_that_should_be_a_field_sync(rt: HostRuntime) -> Result<(), Fail> {
-    expect_end(&rt, &mut Receiver::new(rt.alloc())?, &mut Batch::new());
-    Ok(())
-}
-
-/// Whether a field sync behind another one is data.
-fn is_data(receiver: &mut Receiver, batch: &mut Batch) -> bool {
-    begins(receiver, batch) && receiver.take(&sync(&[-7; PRECODE]), batch) == Tracking::Data
-}
-
-#[test]
-fn a_field_sync_within_a_field_is_data(rt: HostRuntime) -> Result<(), Fail> {
-    assert!(rt; is_data(&mut Receiver::new(rt.alloc())?, &mut Batch::new()));
-    Ok(())
+fn a_run_ends_before_a_segment_that_should_be_a_field_sync_and_a_field_sync_within_a_field_is_data(
+    rt: HostRuntime,
+) {
+    expect(&rt, Receiver::new(rt.alloc()), runs);
 }

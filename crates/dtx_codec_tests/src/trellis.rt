@@ -2,6 +2,7 @@
 
 ghost use Rattle.std.specs.Prelude.{◌≡◌, ◌%◌, ◌<◌};
 
+use crate::expect::expect_none;
 use dtx_sizes::{
     CODERS, FIELD_PACKETS, GROUP_BYTES, GROUP_LEVELS, GROUP_SYMBOLS, SEGMENT_LEVELS, SEGMENT_SYNC,
 };
@@ -52,57 +53,91 @@ fn first_set(levels: &[u8; GROUP_LEVELS]) -> Option<usize> {
     None
 }
 
+/// Where a group begins, a coder, the byte and its value, and the first symbol of the coder's.
+type Row = (u16, usize, usize, u8, usize);
+
 // The coder of each is in state 4, so that its symbol is 6 and not 2.
-#[test]
-fn a_segment_begins_with_its_coder_byte_and_bits(rt: HostRuntime) {
-    let (_, levels) = coded(0, 0, 4, 0, 0x40);
-    assert!(rt; first_set(&levels) == Some(0) && levels[0] == 6);
-    let (_, levels) = coded(0, 4, 4, 208, 0x10);
-    assert!(rt; first_set(&levels) == Some(828) && levels[828] == 6);
-    let (_, levels) = coded(0, 8, 4, 412, 0x04);
-    assert!(rt; first_set(&levels) == Some(1656) && levels[1656] == 6);
-    let (_, levels) = coded(0, 0, 4, 616, 0x01);
-    assert!(rt; first_set(&levels) == Some(2484) && levels[2484] == 6);
-    let (_, levels) = coded(4, 4, 4, 0, 0x40);
-    assert!(rt; first_set(&levels) == Some(0) && levels[0] == 6);
+const BEGINNINGS: [Row; 5] = [
+    (0, 0, 0, 0x40, 0),
+    (0, 4, 208, 0x10, 828),
+    (0, 8, 412, 0x04, 1656),
+    (0, 0, 616, 0x01, 2484),
+    (4, 4, 0, 0x40, 0),
+];
+
+/// Whether that coder's symbol for the byte stands there.
+fn begins(row: &Row) -> bool {
+    let (first, coder, byte, value, place) = *row;
+    if first >= FIELD_PACKETS || first % 4 != 0 || coder >= CODERS || byte >= GROUP_BYTES {
+        return false;
+    }
+    let (_, levels) = coded(first, coder, 4, byte, value);
+    first_set(&levels) == Some(place) && levels[place % GROUP_LEVELS] == 6
 }
 
-// Coder 4 is at places 4, 0, 8 and 4 of the four segments; the byte's first pair comes in round 68, the last of a
-// segment.
+#[test]
+fn a_segment_begins_with_its_coder_byte_and_bits(rt: HostRuntime) {
+    for row in &BEGINNINGS {
+        assert!(rt; begins(row), "at {}", row.4);
+    }
+}
+
+/// What a coder gives: its place among twelve in each of the four segments, the round from which on it has other
+/// levels than 0, the level in this round, and those in even and in odd rounds behind it.
+struct Given {
+    places: [usize; 4],
+    from: usize,
+    first: u8,
+    behind: [u8; 2],
+}
+
+/// The level at a place.
+fn level(given: &Given, symbol: usize) -> u8 {
+    let round = symbol / 12;
+    if symbol % 12 != given.places[symbol / 828 % 4] || round < given.from {
+        0
+    } else if round == given.from {
+        given.first
+    } else {
+        given.behind[round % 2]
+    }
+}
+
+/// The first symbol that isn't given.
+fn first_wrong(levels: &[u8; GROUP_LEVELS], given: &Given) -> Option<usize> {
+    for (symbol, found) in levels.iter().enumerate() {
+        if *found != level(given, symbol) {
+            return Some(symbol);
+        }
+    }
+    None
+}
+
+/// Coder 4, whose byte has its first pair in round 68, the last of a segment.
+const ACROSS: Given = Given {
+    places: [4, 0, 8, 4],
+    from: 68,
+    first: 4,
+    behind: [4, 4],
+};
+
 #[test]
 fn a_byte_goes_on_across_a_segments_edge(rt: HostRuntime) {
     let (_, levels) = coded(0, 0, 0, 208, 0x80);
-    for (symbol, level) in levels.iter().enumerate() {
-        let place = match symbol / 828 {
-            1 => 0,
-            2 => 8,
-            _ => 4,
-        };
-        let want = if symbol % 12 == place && symbol >= 816 {
-            4
-        } else {
-            0
-        };
-        assert!(rt; *level == want, "at {symbol}");
-    }
+    expect_none(&rt, first_wrong(&levels, &ACROSS));
 }
 
-// Coder 0 is at places 0, 8, 4 and 0 of the four segments.
+/// Coder 0.
+const EVERY_OTHER: Given = Given {
+    places: [0, 8, 4, 0],
+    from: 0,
+    first: 2,
+    behind: [0, 1],
+};
+
 #[test]
 fn a_lower_bit_comes_back_in_every_other_round(rt: HostRuntime) {
     let (coders, levels) = coded(0, 0, 0, 0, 0x40);
-    for (symbol, level) in levels.iter().enumerate() {
-        let place = match symbol / 828 {
-            1 => 8,
-            2 => 4,
-            _ => 0,
-        };
-        let want = match symbol / 12 {
-            0 => 2,
-            round => round % 2,
-        };
-        let want = if symbol % 12 == place { want } else { 0 };
-        assert!(rt; *level as usize == want, "at {symbol}");
-    }
+    expect_none(&rt, first_wrong(&levels, &EVERY_OTHER));
     assert!(rt; coders.states().0 == [1, 0, 0, 0, 0, 0, 0, 0, 0, 0, 0, 0]);
 }
