@@ -1,6 +1,6 @@
 //! An adapter on worked streams. Its operations packets are those that were worked by hand.
 
-ghost use Rattle.std.specs.Prelude.{◌≡◌, ◌<◌, ◌≤◌, ◌*◌, IfOk, IsOk};
+ghost use Rattle.std.specs.Prelude.{◌≡◌, ◌<◌, ◌≤◌, ◌*◌, IsTrue};
 ghost use Rattle.dtx_plan.specs.Sound.{IsSound};
 
 use dtx_adapter::Adapter;
@@ -9,11 +9,10 @@ use dtx_packets::Packet;
 use dtx_plan::{Plan, read_plan};
 use dtx_sizes::PACKET;
 use dtx_whiten::Atsc;
-use std::alloc::{AllocError, Global};
-use std::test::Fail;
+use std::alloc::Global;
 
 /// A plan with two transmitters, and the same one with a later start.
-const PLAN: &[u8] = b"start = 0
+static PLAN: &[u8] = b"start = 0
 max_delay = 5000000
 [[transmitter]]
 address = 7
@@ -25,7 +24,7 @@ offset = 25
 delay = 2000
 ";
 
-const LATER: &[u8] = b"start = 1234567
+static LATER: &[u8] = b"start = 1234567
 max_delay = 5000000
 [[transmitter]]
 address = 7
@@ -37,26 +36,46 @@ offset = 25
 delay = 2000
 ";
 
-/// The adapter of the plan of this text.
-fn adapter_under(alloc: Global, text: &[u8]) -> Result<Adapter, Fail>
-    ensures { IfOk result (λ adapter. adapter.given ≡ 0) }
-{
+/// What a new adapter is tried on: placeholders of a first group, one behind a group, and one that begins a frame.
+#[derive(Clone, Copy)]
+enum Trial {
+    Orders,
+    Behind,
+    Frame,
+}
+
+/// Whether a new adapter of the plan of this text passes.
+fn passes(alloc: Global, text: &[u8], trial: Trial) -> bool {
     match read_plan(alloc, text) {
-        Ok(plan) => adapter_of(alloc, &plan),
-        Err(_) => Err("no plan")?,
+        Ok(plan) => passes_under(alloc, &plan, trial),
+        Err(_) => false,
     }
 }
 
-/// A new adapter under that plan.
-fn adapter_of(alloc: Global, plan: &Plan) -> Result<Adapter, Fail>
+fn passes_under(alloc: Global, plan: &Plan, trial: Trial) -> bool
     requires { IsSound plan.now }
-    ensures { IfOk result (λ adapter. adapter.given ≡ 0) }
 {
-    Ok(Adapter::new(alloc, plan)?)
+    match Adapter::new(alloc, plan) {
+        Ok(mut adapter) => is_passed(alloc, &mut adapter, trial),
+        Err(_) => false,
+    }
 }
 
-/// A packet that is no placeholder.
-fn packet(value: u8) -> Packet {
+fn is_passed(alloc: Global, adapter: &mut Adapter, trial: Trial) -> bool
+    requires { adapter.old.given ≡ 0 }
+{
+    match trial {
+        Trial::Orders => makes_orders(adapter),
+        Trial::Behind => is_given_bit(alloc, adapter) && says_behind(adapter),
+        Trial::Frame => {
+            give(adapter, 156, &packet(1));
+            begins_frame(adapter)
+        }
+    }
+}
+
+/// A packet of one value behind its sync byte, and no placeholder.
+pub(crate) fn packet(value: u8) -> Packet {
     let mut packet = Packet([value; PACKET]);
     packet.0[0] = 0x47;
     packet
@@ -89,20 +108,7 @@ fn zero_packet(whitener: &Atsc, place: usize) -> Packet
 
 /// The packet begins with these bytes, and behind them zeros stand up to its parity bytes.
 fn has_data(packet: &Packet, begins: &[u8; 31]) -> bool {
-    let mut wanted = [0; 168];
-    for i in 0..31 {
-        wanted[i] = begins[i];
-    }
-    packet.0.starts_with(&wanted)
-}
-
-/// The bytes of an operations packet that hold its stamp, the maximum delay, the frame, its place, and the count.
-fn times(packet: &Packet) -> [u8; 13] {
-    let mut times = [0; 13];
-    for i in 0..13 {
-        times[i] = packet.0[10 + i];
-    }
-    times
+    packet.0.starts_with(begins) && packet.0[31..].starts_with(&[0; 137])
 }
 
 /// Gives so many groups of four times this packet, the first of the stream.
@@ -143,12 +149,8 @@ fn makes_orders(adapter: &mut Adapter) -> bool
 }
 
 #[test]
-fn placeholders_become_operations_packets_and_others_keep_all_but_byte_0(
-    rt: HostRuntime,
-) -> Result<(), Fail> {
-    let mut adapter = adapter_under(rt.alloc(), PLAN)?;
-    assert!(rt; makes_orders(&mut adapter));
-    Ok(())
+fn placeholders_become_operations_packets_and_others_keep_all_but_byte_0(rt: HostRuntime) {
+    assert!(rt; passes(rt.alloc(), PLAN, Trial::Orders));
 }
 
 /// What the adapter says behind a group that begins a field, of zeros but for a bit.
@@ -175,12 +177,14 @@ fn give_bit(adapter: &mut Adapter, whitener: &Atsc) -> bool
 }
 
 /// Gives a new adapter that group. Whether it fills nothing of it.
-fn is_given_bit(alloc: Global, adapter: &mut Adapter) -> Result<bool, AllocError>
+fn is_given_bit(alloc: Global, adapter: &mut Adapter) -> bool
     requires { adapter.old.given ≡ 0 }
-    ensures { IsOk result → adapter.new.given ≡ 4 }
+    ensures { IsTrue result → adapter.new.given ≡ 4 }
 {
-    let whitener = Atsc::new(alloc)?;
-    Ok(give_bit(adapter, &whitener))
+    match Atsc::new(alloc) {
+        Ok(whitener) => give_bit(adapter, &whitener),
+        Err(_) => false,
+    }
 }
 
 /// Whether the last part of a stream's second group says the states behind the first one.
@@ -195,18 +199,14 @@ fn says_behind(adapter: &mut Adapter) -> bool
 }
 
 #[test]
-fn a_placeholder_in_a_last_part_of_a_group_says_the_states_behind_the_groups(
-    rt: HostRuntime,
-) -> Result<(), Fail> {
-    let mut adapter = adapter_under(rt.alloc(), LATER)?;
-    assert!(rt; is_given_bit(rt.alloc(), &mut adapter)?);
-    assert!(rt; says_behind(&mut adapter));
-    Ok(())
+fn a_placeholder_in_a_last_part_of_a_group_says_the_states_behind_the_groups(rt: HostRuntime) {
+    assert!(rt; passes(rt.alloc(), LATER, Trial::Behind));
 }
 
-/// The header and the kind of the first packet of the second frame, and its times.
+/// The header and the kind of the first packet of the second frame.
 const SECOND_FRAME: [u8; 5] = [0xB8, 0x1F, 0xFA, 0x10, 0x01];
 
+/// Its bytes that hold its stamp, the maximum delay, the frame, its place, and the count.
 const TIMES: [u8; 13] = [
     0x07, 0x62, 0x67, 0x4C, 0x4B, 0x40, 0x00, 0x00, 0x00, 0x01, 0x00, 0x00, 0x02,
 ];
@@ -216,15 +216,14 @@ fn begins_frame(adapter: &mut Adapter) -> bool
     requires { adapter.old.given ≡ 624 }
 {
     let mut rest = [placeholder()];
-    adapter.group(&mut rest) == 1
-        && rest[0].0.starts_with(&SECOND_FRAME)
-        && times(&rest[0]) == TIMES
+    adapter.group(&mut rest) == 1 && is_stamped(&rest[0])
+}
+
+fn is_stamped(packet: &Packet) -> bool {
+    packet.0.starts_with(&SECOND_FRAME) && packet.0[10..].starts_with(&TIMES)
 }
 
 #[test]
-fn the_second_frame_begins_with_a_mark_and_has_its_own_stamp(rt: HostRuntime) -> Result<(), Fail> {
-    let mut adapter = adapter_under(rt.alloc(), PLAN)?;
-    give(&mut adapter, 156, &packet(1));
-    assert!(rt; begins_frame(&mut adapter));
-    Ok(())
+fn the_second_frame_begins_with_a_mark_and_has_its_own_stamp(rt: HostRuntime) {
+    assert!(rt; passes(rt.alloc(), PLAN, Trial::Frame));
 }

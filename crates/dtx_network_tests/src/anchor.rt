@@ -1,5 +1,6 @@
 // What an anchor sees of packets, mark by mark.
 
+use crate::rows::expect;
 use dtx_cadence::{Anchor, Seen};
 use dtx_sizes::MARK;
 
@@ -13,8 +14,10 @@ fn last_seen(count: u64, marks: &[u64]) -> Seen {
     last
 }
 
+type Row = (u64, &'static [u64], Seen);
+
 /// How many packets, the places of the marks among them, and what is seen of the last.
-const CASES: [(u64, &[u64], Seen); 20] = [
+static CASES: [Row; 20] = [
     (5, &[], Seen::Free),
     (1, &[0], Seen::Start),
     (8, &[7], Seen::Start),
@@ -43,9 +46,14 @@ const CASES: [(u64, &[u64], Seen); 20] = [
     (1349, &[7, 100, 724, 1348], Seen::Start),
 ];
 
+fn is_seen(row: &Row) -> bool {
+    let (count, marks, seen) = row;
+    last_seen(*count, marks) == *seen
+}
+
 #[test]
 fn a_first_mark_is_the_anchor_until_two_due_marks_in_a_row_are_missing(rt: HostRuntime) {
-    for (count, marks, seen) in &CASES {
-        assert!(rt; last_seen(*count, marks) == *seen, "{count}");
+    for i in 0..CASES.len() {
+        expect(&rt, is_seen(&CASES[i]), i);
     }
 }

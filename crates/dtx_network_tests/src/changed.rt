@@ -1,6 +1,7 @@
 //! A worked operations packet, lied.
 
 use crate::ops::{BEGINS, data_of, packet_of};
+use crate::rows::expect;
 use dtx_net::lied;
 use dtx_packets::Packet;
 use dtx_trellis::States;
@@ -14,30 +15,63 @@ fn worked(states: [u8; 5], header: [u8; 4]) -> Packet {
     packet
 }
 
-#[test]
-fn a_lie_changes_the_states_and_keeps_the_counter(rt: HostRuntime) {
-    let packet = worked([0x80, 0x00, 0x00, 0x00, 0x10], [0xB8, 0xDF, 0xFA, 0xED]);
-    let zero = worked([0; 5], [0xB8, 0x1F, 0xFA, 0x1D]);
-    assert!(rt; lied(&packet, &States([0; 12])) == zero);
-}
+/// States in five bytes, and a header.
+type Worked = ([u8; 5], [u8; 4]);
 
-#[test]
-fn a_damaged_packet_lies_undamaged(rt: HostRuntime) {
-    let mut packet = worked([0x80, 0x00, 0x00, 0x00, 0x10], [0x47, 0x1F, 0xFA, 0x1F]);
+/// A packet, what damages ten of its bytes, whether the states of its lie are ones or zeros, and the packet that lies.
+type Row = (Worked, u8, bool, Worked);
+
+static ROWS: [Row; 3] = [
+    (
+        ([0x80, 0x00, 0x00, 0x00, 0x10], [0xB8, 0xDF, 0xFA, 0xED]),
+        0,
+        false,
+        ([0; 5], [0xB8, 0x1F, 0xFA, 0x1D]),
+    ),
+    // damaged
+    (
+        ([0x80, 0x00, 0x00, 0x00, 0x10], [0x47, 0x1F, 0xFA, 0x1F]),
+        0xA5,
+        true,
+        ([0x24, 0x92, 0x49, 0x24, 0x90], [0x47, 0x1F, 0xFA, 0x1F]),
+    ),
+    // no operations packet
+    (
+        ([0; 5], [0x47, 0x1F, 0xFB, 0x10]),
+        0,
+        true,
+        ([0; 5], [0x47, 0x1F, 0xFB, 0x10]),
+    ),
+];
+
+/// Changes ten bytes of the packet.
+fn damage(packet: &mut Packet, with: u8) {
     for k in 0..10 {
-        packet.0[5 + 18 * k] ^= 0xA5;
+        packet.0[5 + 18 * k] ^= with;
     }
-    let ones = worked([0x24, 0x92, 0x49, 0x24, 0x90], [0x47, 0x1F, 0xFA, 0x1F]);
-    assert!(rt; lied_with_ones(&packet) == ones);
 }
 
-fn lied_with_ones(packet: &Packet) -> Packet {
-    lied(packet, &States([1; 12]))
+fn lied_with(packet: &Packet, ones: bool) -> Packet {
+    if ones {
+        lied(packet, &States([1; 12]))
+    } else {
+        lied(packet, &States([0; 12]))
+    }
+}
+
+/// Whether the packet of a row lies so.
+fn is_lied(row: &Row) -> bool {
+    let ((states, header), with, ones, (told, kept)) = row;
+    let mut packet = worked(*states, *header);
+    damage(&mut packet, *with);
+    lied_with(&packet, *ones) == worked(*told, *kept)
 }
 
 #[test]
-fn what_is_no_operations_packet_does_not_lie(rt: HostRuntime) {
-    let mut packet = worked([0; 5], [0x47, 0x1F, 0xFA, 0x10]);
-    packet.0[2] = 0xFB;
-    assert!(rt; lied_with_ones(&packet) == packet);
+fn a_lie_changes_the_states_and_keeps_the_counter_undamaged_and_what_is_no_operations_packet_does_not_lie(
+    rt: HostRuntime,
+) {
+    for i in 0..ROWS.len() {
+        expect(&rt, is_lied(&ROWS[i]), i);
+    }
 }

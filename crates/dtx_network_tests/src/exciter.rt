@@ -3,6 +3,8 @@
 ghost use Rattle.std.specs.Prelude.{◌<◌};
 ghost use Rattle.dtx_ops.specs.Paging.{IsPaged};
 
+use crate::adapter::packet;
+use crate::rows::expect;
 use arrayvec::ArrayVec;
 use dtx_clock::stamp;
 use dtx_coder::Air;
@@ -12,15 +14,7 @@ use dtx_packets::Packet;
 use dtx_rs::Rs;
 use dtx_sizes::PACKET;
 use dtx_trellis::States;
-use std::alloc::{AllocError, Global};
-use std::test::Fail;
-
-/// A packet of one value behind its sync byte.
-fn packet(value: u8) -> Packet {
-    let mut packet = Packet([value; PACKET]);
-    packet.0[0] = 0x47;
-    packet
-}
+use std::alloc::Global;
 
 /// A page of transmitters, which lists one: its number, how many pages there are, and the transmitter's address and
 /// offset.
@@ -154,7 +148,7 @@ const WHOLE: (u64, u64) = (0, 0);
 
 const CUT: (u64, u64) = (202, 624);
 
-const ROWS: &[Row] = &[
+static ROWS: [Row; 15] = [
     // each order has its moment
     (SEVEN, (1300, &ORDERS, WHOLE, &[]), &MADE, 1204),
     // one mark may be missing, and stray ones may stand anywhere: that changes nothing
@@ -221,25 +215,19 @@ fn logs(exciter: &mut Exciter, row: &Row) -> bool {
     logged == lines.len() && segments == *all
 }
 
-fn is_logged(alloc: Global, row: &Row) -> Result<bool, AllocError> {
+fn is_logged(alloc: Global, row: &Row) -> bool {
     let ((address, delay), ..) = row;
-    Ok(logs(&mut Exciter::new(alloc, *address, *delay)?, row))
-}
-
-/// The number of the first row whose exciter logs something else, if there is one.
-fn first_unlogged(alloc: Global, rows: &[Row]) -> Result<Option<usize>, AllocError> {
-    for i in 0..rows.len() {
-        if !is_logged(alloc, &rows[i])? {
-            return Ok(Some(i));
-        }
+    match Exciter::new(alloc, *address, *delay) {
+        Ok(mut exciter) => logs(&mut exciter, row),
+        Err(_) => false,
     }
-    Ok(None)
 }
 
 #[test]
-fn an_exciter_has_the_lines_and_segments_of_what_it_is_given(rt: HostRuntime) -> Result<(), Fail> {
-    assert_eq!(rt; first_unlogged(rt.alloc(), ROWS)?, None);
-    Ok(())
+fn an_exciter_has_the_lines_and_segments_of_what_it_is_given(rt: HostRuntime) {
+    for i in 0..ROWS.len() {
+        expect(&rt, is_logged(rt.alloc(), &ROWS[i]), i);
+    }
 }
 
 /// The answer at an order: for how long is held what is sent, or why nothing is sent, where that is told.
@@ -256,10 +244,11 @@ fn begin(exciter: &mut Exciter) {
 /// The answer to a group that begins with this packet.
 fn answer(exciter: &mut Exciter, first: &Packet) -> Answer {
     let mut air = Air::new();
-    exciter.take(first, &mut air);
-    exciter.take(&packet(1), &mut air);
-    exciter.take(&packet(2), &mut air);
-    match exciter.take(&packet(3), &mut air) {
+    let mut told = exciter.take(first, &mut air);
+    for value in 1..4 {
+        told = exciter.take(&packet(value), &mut air);
+    }
+    match told {
         Told::Sent {
             preset: Some(preset),
         } => Ok(preset.hold),
@@ -268,8 +257,13 @@ fn answer(exciter: &mut Exciter, first: &Packet) -> Answer {
     }
 }
 
-/// Whether these are the answers at four groups in a row that each begin with the order of one of these pages.
-fn are_answered(exciter: &mut Exciter, pages: &[Page; 4], answers: &[Answer; 4]) -> bool {
+/// Four pages, and the answers at four groups in a row that each begin with the order of one of them.
+type FourPages = (&'static [Page; 4], &'static [Answer; 4]);
+
+/// Whether an exciter has these answers behind 52 packets.
+fn are_answered(exciter: &mut Exciter, row: &FourPages) -> bool {
+    let (pages, answers) = row;
+    begin(exciter);
     for i in 0..4usize {
         let first = order(52 + 4 * i as u64, pages[i]);
         if answer(exciter, &first) != answers[i] {
@@ -287,51 +281,40 @@ const MUTED: Answer = Err(Some(Why::Unlisted));
 
 const WAITS: Answer = Err(None);
 
-const PAGES: [([Page; 4], [Answer; 4]); 5] = [
+static PAGES: [FourPages; 5] = [
     (
-        [(0, 2, 8, 0), (1, 2, 9, 0), (1, 2, 7, -10), (0, 2, 8, 0)],
-        [WAITS, MUTED, SENT, SENT],
+        &[(0, 2, 8, 0), (1, 2, 9, 0), (1, 2, 7, -10), (0, 2, 8, 0)],
+        &[WAITS, MUTED, SENT, SENT],
     ),
     (
-        [(1, 2, 7, -10), (0, 2, 8, 0), (1, 2, 9, 0), (0, 2, 8, 0)],
-        [SENT, SENT, MUTED, MUTED],
+        &[(1, 2, 7, -10), (0, 2, 8, 0), (1, 2, 9, 0), (0, 2, 8, 0)],
+        &[SENT, SENT, MUTED, MUTED],
     ),
     (
-        [(0, 2, 7, -10), (1, 3, 8, 0), (0, 3, 8, 0), (2, 3, 8, 0)],
-        [SENT, WAITS, WAITS, MUTED],
+        &[(0, 2, 7, -10), (1, 3, 8, 0), (0, 3, 8, 0), (2, 3, 8, 0)],
+        &[SENT, WAITS, WAITS, MUTED],
     ),
     (
-        [(0, 2, 7, -10), (1, 2, 7, 20), (0, 2, 8, 0), (1, 2, 8, 0)],
-        [SENT, LATER, LATER, MUTED],
+        &[(0, 2, 7, -10), (1, 2, 7, 20), (0, 2, 8, 0), (1, 2, 8, 0)],
+        &[SENT, LATER, LATER, MUTED],
     ),
     (
-        [(0, 1, 8, 0), (0, 2, 7, -10), (0, 1, 8, 0), (1, 2, 8, 0)],
-        [MUTED, SENT, MUTED, WAITS],
+        &[(0, 1, 8, 0), (0, 2, 7, -10), (0, 1, 8, 0), (1, 2, 8, 0)],
+        &[MUTED, SENT, MUTED, WAITS],
     ),
 ];
 
 /// Whether an exciter of transmitter 7, with a delay of 1000 ticks, has the answers of a row.
-fn is_in_force(alloc: Global, row: &([Page; 4], [Answer; 4])) -> Result<bool, AllocError> {
-    let mut exciter = Exciter::new(alloc, 7, 1000)?;
-    begin(&mut exciter);
-    Ok(are_answered(&mut exciter, &row.0, &row.1))
-}
-
-/// The number of the first row whose exciter answers something else, if there is one.
-fn first_out_of_force(
-    alloc: Global,
-    rows: &[([Page; 4], [Answer; 4])],
-) -> Result<Option<usize>, AllocError> {
-    for i in 0..rows.len() {
-        if !is_in_force(alloc, &rows[i])? {
-            return Ok(Some(i));
-        }
+fn is_in_force(alloc: Global, row: &FourPages) -> bool {
+    match Exciter::new(alloc, 7, 1000) {
+        Ok(mut exciter) => are_answered(&mut exciter, row),
+        Err(_) => false,
     }
-    Ok(None)
 }
 
 #[test]
-fn an_entry_is_in_force_until_its_page_is_told_without_it(rt: HostRuntime) -> Result<(), Fail> {
-    assert_eq!(rt; first_out_of_force(rt.alloc(), &PAGES)?, None);
-    Ok(())
+fn an_entry_is_in_force_until_its_page_is_told_without_it(rt: HostRuntime) {
+    for i in 0..PAGES.len() {
+        expect(&rt, is_in_force(rt.alloc(), &PAGES[i]), i);
+    }
 }

@@ -25,3 +25,5 @@ mod plan;
 mod refusals;
 #[cfg(test)]
 mod repeater;
+#[cfg(test)]
+mod rows;

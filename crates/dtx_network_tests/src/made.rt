@@ -1,9 +1,12 @@
 // Packets of a made stream, as another program makes them.
 
+use crate::rows::expect;
 use dtx_make::packet;
 
+type Row = (u64, u64, [u8; 8], u8);
+
 /// A seed, an index, the first eight bytes of its packet, and the last one.
-const PACKETS: [(u64, u64, [u8; 8], u8); 6] = [
+static PACKETS: [Row; 6] = [
     (0, 0, [0x47, 0x00, 0x31, 0x10, 0x7C, 0x25, 0x96, 0xD0], 0x00),
     (
         1,
@@ -37,11 +40,15 @@ const PACKETS: [(u64, u64, [u8; 8], u8); 6] = [
     ),
 ];
 
+fn is_made(row: &Row) -> bool {
+    let (seed, index, begins, ends) = row;
+    let made = packet(*seed, *index);
+    made.0.starts_with(begins) && made.0[187] == *ends
+}
+
 #[test]
 fn the_packets_are_those_of_another_program(rt: HostRuntime) {
-    for (seed, index, begins, ends) in &PACKETS {
-        let made = packet(*seed, *index);
-        assert!(rt; made.0.starts_with(begins), "packet {index}");
-        assert!(rt; made.0[187] == *ends);
+    for i in 0..PACKETS.len() {
+        expect(&rt, is_made(&PACKETS[i]), i);
     }
 }

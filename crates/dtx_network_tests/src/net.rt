@@ -14,8 +14,7 @@ use dtx_plan::Transmitter;
 use dtx_rs::Rs;
 use dtx_sizes::PACKET;
 use dtx_trellis::States;
-use std::alloc::{AllocError, Global};
-use std::test::Fail;
+use std::alloc::Global;
 
 const TRANSMITTERS: [Transmitter; 2] = [
     Transmitter {
@@ -38,25 +37,11 @@ struct Stage {
 }
 
 impl Stage {
-    fn new(alloc: Global) -> Result<Stage, AllocError> {
-        Ok(Stage {
-            net: Net::new(alloc, &TRANSMITTERS)?,
-            air: Air::new(),
-        })
-    }
-
     /// Gives a packet to the transmitter of an address, where there is one.
     fn give(&mut self, address: u16, packet: &Packet) -> Option<Told> {
         match self.net.find(address) {
             Some(place) => Some(self.net.step(place, packet, &mut self.air)),
             None => None,
-        }
-    }
-
-    fn restart(&mut self, address: u16) {
-        match self.net.find(address) {
-            Some(place) => self.net.restart(place),
-            None => {}
         }
     }
 }
@@ -154,27 +139,37 @@ fn is_ahead(stage: &mut Stage) -> bool {
     true
 }
 
-/// Whether each begins to send at its moment.
-fn both_begin(stage: &mut Stage) -> bool {
-    is_ahead(stage) && are_quiet(stage, 0, 103) && both(stage, 103) == FIRST
-}
-
 /// Whether 7 goes on to send, and 9, which starts anew, doesn't.
 fn one_goes_on(stage: &mut Stage) -> bool {
-    stage.restart(9);
+    if let Some(place) = stage.net.find(9) {
+        stage.net.restart(place);
+    }
     let sent = Told::Sent { preset: None };
     are_quiet(stage, 105, 107)
         && both(stage, 107) == [Some(sent), Some(Told::Quiet)]
         && stage.air.segments == 0
 }
 
+/// Whether each begins to send at its moment, and goes on so.
 fn goes_on(stage: &mut Stage) -> bool {
-    both_begin(stage) && are_quiet(stage, 104, 105) && one_goes_on(stage)
+    is_ahead(stage)
+        && are_quiet(stage, 0, 103)
+        && both(stage, 103) == FIRST
+        && are_quiet(stage, 104, 105)
+        && one_goes_on(stage)
+}
+
+fn each_goes_on(alloc: Global) -> bool {
+    match Net::new(alloc, &TRANSMITTERS) {
+        Ok(net) => goes_on(&mut Stage {
+            net,
+            air: Air::new(),
+        }),
+        Err(_) => false,
+    }
 }
 
 #[test]
-fn each_transmitter_goes_on_with_its_own_life(rt: HostRuntime) -> Result<(), Fail> {
-    let mut stage = Stage::new(rt.alloc())?;
-    assert!(rt; goes_on(&mut stage));
-    Ok(())
+fn each_transmitter_goes_on_with_its_own_life(rt: HostRuntime) {
+    assert!(rt; each_goes_on(rt.alloc()));
 }

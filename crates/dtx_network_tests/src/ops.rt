@@ -1,17 +1,18 @@
 //! Worked operations packets, read, damaged, and written again.
 
 ghost use Rattle.std.specs.Prelude.{◌<◌, ◌≤◌, ◌+◌, ◌*◌, length};
+ghost use Rattle.dtx_ops.specs.Spelling.{IsValid};
 
+use crate::rows::expect;
 use arrayvec::ArrayVec;
 use dtx_fast::Fast;
 use dtx_laws::Encode;
 use dtx_ops::{Entry, Ops, OpsNo, Paging, read, write};
 use dtx_packets::Packet;
 use dtx_rs::Rs;
-use dtx_sizes::PACKET;
+use dtx_sizes::{MOST_ENTRIES, PACKET};
 use dtx_trellis::States;
 use std::process::Abort;
-use std::test::Fail;
 
 /// The data of a worked packet, up to the end of its only entry.
 pub(crate) const BEGINS: [u8; 23] = [
@@ -83,29 +84,10 @@ fn data_with(worked: [u8; 164], at: u8, bytes: [u8; 4]) -> [u8; 164] {
 pub(crate) fn packet_of(data: &[u8; 164]) -> Packet {
     let mut payload = [0; 184];
     Rs::new().encode(data, &mut payload);
-    packet_with(&payload)
-}
-
-/// An operations packet of this payload.
-fn packet_with(payload: &[u8; 184]) -> Packet {
     let mut packet = Packet([0; PACKET]);
     packet.0[..4].copy_from_slice(&[0x47, 0x1F, 0xFA, 0x10]);
-    packet.0[4..].copy_from_slice(payload);
+    packet.0[4..].copy_from_slice(&payload);
     packet
-}
-
-/// What a packet reads as, written into another one of that byte 0.
-fn written_again(packet: &Packet, sync: u8, counter: u8) -> Result<Packet, Fail>
-    requires { counter < 16 }
-{
-    let mut written = Packet([sync; PACKET]);
-    write(
-        &Rs::new(),
-        &read(&Fast::new(), packet)?,
-        counter,
-        &mut written,
-    );
-    Ok(written)
 }
 
 /// The packet with that byte 0 and that counter.
@@ -118,19 +100,14 @@ fn with_header(packet: &Packet, sync: u8, counter: u8) -> Packet
     changed
 }
 
-/// What the packet reads as, written again, is the packet but for its header.
-fn comes_back(packet: &Packet, sync: u8, counter: u8) -> Result<bool, Fail>
-    requires { counter < 16 }
+/// The fields, written into a packet of that byte 0 with that counter, are the packet but for its header.
+fn comes_back(packet: &Packet, ops: &Ops, sync: u8, counter: u8) -> bool
+    requires valid { IsValid ops.now }
+    requires counter { counter < 16 }
 {
-    Ok(written_again(packet, sync, counter)? == with_header(packet, sync, counter))
-}
-
-#[test]
-fn worked_fields_are_read_and_written(rt: HostRuntime) -> Result<(), Fail> {
-    let packet = packet_of(&data_of(&BEGINS));
-    assert!(rt; read(&Fast::new(), &packet)? == worked());
-    assert!(rt; comes_back(&packet, 0xB8, 13)?);
-    Ok(())
+    let mut written = Packet([sync; PACKET]);
+    write(&Rs::new(), ops, counter, &mut written);
+    written == with_header(packet, sync, counter)
 }
 
 /// What stands up to the first entry of a packet with the greatest numbers.
@@ -151,126 +128,191 @@ fn full_data(begins: &[u8], count: usize) -> [u8; 164]
     data
 }
 
-/// The entry of that address with the least offset.
-fn least(address: u16) -> Entry {
-    Entry {
-        address,
-        offset: -32768,
-    }
-}
-
-/// It has so many entries, of which the first and the last one have these addresses and the least offset.
-fn has_entries(ops: &Ops, count: usize, first: u16, last: u16) -> bool {
-    let entries = ops.offsets.as_slice();
-    entries.len() == count
-        && entries.first() == Some(&least(first))
-        && entries.last() == Some(&least(last))
-}
-
-/// Whether these are the greatest numbers.
-fn is_greatest(ops: &Ops) -> bool {
-    ops.states == States([7; 12])
-        && ops.stamp == 9_999_999
-        && ops.max_delay == 9_999_999
-        && ops.frame == 0xFFFF_FFFF
-        && ops.index == 623
-        && has_entries(ops, 35, 65535, 33)
-}
-
-#[test]
-fn greatest_numbers_are_read_and_written(rt: HostRuntime) -> Result<(), Fail> {
-    let packet = packet_of(&full_data(&GREATEST, 34));
-    assert!(rt; is_greatest(&read(&Fast::new(), &packet)?));
-    assert!(rt; comes_back(&packet, 0x47, 15)?);
-    Ok(())
-}
-
-#[test]
-fn each_refusal_comes_by_its_rule_and_the_first_one_first(rt: HostRuntime) {
-    let cases = [
-        (0, [0x00, 0x80, 0x00, 0x00], OpsNo::Kind),
-        (4, [0x00, 0x11, 0x02, 0x7C], OpsNo::Pad),
-        (4, [0x00, 0x11, 0x98, 0x96], OpsNo::Pad),
-        (6, [0x98, 0x96, 0x80, 0x4C], OpsNo::Stamp),
-        (6, [0x98, 0x96, 0x80, 0xFF], OpsNo::Stamp),
-        (8, [0x07, 0x98, 0x96, 0x80], OpsNo::Delay),
-        (15, [0x15, 0x02, 0x70, 0x01], OpsNo::Index),
-        (15, [0x15, 0x02, 0x70, 0x24], OpsNo::Index),
-        (15, [0x15, 0x00, 0x64, 0x24], OpsNo::Count),
-        (18, [0x03, 0x00, 0x07, 0xFF], OpsNo::Twice),
-        (23, [0x01, 0x00, 0x00, 0x00], OpsNo::Fill),
-        (160, [0x00, 0x00, 0x00, 0x80], OpsNo::Fill),
-    ];
-    for (at, bytes, refusal) in cases {
-        expect_refusal(
-            &rt,
-            &packet_of(&data_with(data_of(&BEGINS), at, bytes)),
-            refusal,
-        );
-    }
-    expect_refusal(&rt, &packet_with(&[0; 184]), OpsNo::Kind);
-}
-
-#[test]
-fn a_page_is_read_and_written(rt: HostRuntime) -> Result<(), Fail> {
-    let packet = packet_of(&data_of(&PAGE_BEGINS));
-    assert!(rt; read(&Fast::new(), &packet)? == worked_page());
-    assert!(rt; comes_back(&packet, 0x47, 9)?);
-    Ok(())
-}
-
 /// What stands before the entries of a packet with the last of thirty pages.
 const LAST_PAGE: [u8; 21] = [
     0x02, 0, 0, 0, 0, 0, 0, 0, 0, 0, 0, 0, 0, 0, 0, 0, 0, 0, 29, 30, 34,
 ];
 
-/// Whether this is the last page of the most, full of entries.
-fn is_last_page(ops: &Ops) -> bool {
-    ops.paging.page() == 29 && ops.paging.pages() == 30 && has_entries(ops, 34, 0, 33)
-}
-
-#[test]
-fn the_last_page_of_the_most_is_read_and_written(rt: HostRuntime) -> Result<(), Fail> {
-    let packet = packet_of(&full_data(&LAST_PAGE, 34));
-    assert!(rt; is_last_page(&read(&Fast::new(), &packet)?));
-    assert!(rt; comes_back(&packet, 0x47, 15)?);
-    Ok(())
-}
-
-#[test]
-fn each_refusal_of_a_page_comes_by_its_rule_and_the_first_one_first(rt: HostRuntime) {
-    let cases = [
-        (0, [0x03, 0x80, 0x00, 0x00], OpsNo::Kind),
-        (16, [0x02, 0x70, 0x02, 0x02], OpsNo::Index),
-        (18, [0x02, 0x02, 0x02, 0x00], OpsNo::Page),
-        (18, [0x00, 0x00, 0x23, 0x00], OpsNo::Page),
-        (18, [0x1E, 0x1F, 0x02, 0x00], OpsNo::Page),
-        (18, [0x01, 0x02, 0x23, 0x00], OpsNo::Count),
-        (25, [0x00, 0x22, 0x7F, 0xFF], OpsNo::Twice),
-        (29, [0x01, 0x00, 0x00, 0x00], OpsNo::Fill),
-        (160, [0x00, 0x00, 0x00, 0x80], OpsNo::Fill),
-    ];
-    for (at, bytes, refusal) in cases {
-        expect_refusal(
-            &rt,
-            &packet_of(&data_with(data_of(&PAGE_BEGINS), at, bytes)),
-            refusal,
-        );
+/// Adds so many entries with the least offset: the addresses 0 and so on.
+fn fill(offsets: &mut ArrayVec<Entry, MOST_ENTRIES>, count: u16) {
+    for address in 0..count {
+        let _ = offsets.try_push(Entry {
+            address,
+            offset: -32768,
+        });
     }
 }
 
-#[test]
-fn a_word_far_from_every_codeword_is_refused(rt: HostRuntime) {
-    let mut payload = [0; 184];
-    payload[173..].copy_from_slice(&[
-        0x01, 0xD8, 0xC2, 0x9F, 0x6F, 0xC7, 0x5E, 0x5F, 0x71, 0x9D, 0xC1,
-    ]);
-    let mut packet = packet_with(&payload);
-    expect_refusal(&rt, &packet, OpsNo::Uncorrectable);
-    packet.0[2] = 0xFB;
-    expect_refusal(&rt, &packet, OpsNo::NotOps);
+/// The greatest numbers.
+fn greatest() -> Ops {
+    let mut offsets = ArrayVec::new();
+    offsets.push(Entry {
+        address: 65535,
+        offset: -32768,
+    });
+    fill(&mut offsets, 34);
+    Ops {
+        states: States([7; 12]),
+        stamp: 9_999_999,
+        max_delay: 9_999_999,
+        frame: 0xFFFF_FFFF,
+        index: 623,
+        paging: Paging::One,
+        offsets,
+    }
 }
 
-fn expect_refusal(rt: &impl Abort, packet: &Packet, refusal: OpsNo) {
-    assert!(rt; read(&Fast::new(), packet) == Err(refusal));
+/// The last page of the most, full of entries.
+fn last_page() -> Ops {
+    let mut offsets = ArrayVec::new();
+    fill(&mut offsets, 34);
+    Ops {
+        states: States([0; 12]),
+        stamp: 0,
+        max_delay: 0,
+        frame: 0,
+        index: 0,
+        paging: Paging::Of {
+            page: 29,
+            pages: 30,
+        },
+        offsets,
+    }
+}
+
+/// Which data a packet has.
+#[derive(Clone, Copy)]
+enum Kept {
+    Worked,
+    Page,
+    Greatest,
+    LastPage,
+}
+
+fn data(kept: Kept) -> [u8; 164] {
+    match kept {
+        Kept::Worked => data_of(&BEGINS),
+        Kept::Page => data_of(&PAGE_BEGINS),
+        Kept::Greatest => full_data(&GREATEST, 34),
+        Kept::LastPage => full_data(&LAST_PAGE, 34),
+    }
+}
+
+/// The fields that they say.
+fn fields(kept: Kept) -> Ops {
+    match kept {
+        Kept::Worked => worked(),
+        Kept::Page => worked_page(),
+        Kept::Greatest => greatest(),
+        Kept::LastPage => last_page(),
+    }
+}
+
+/// A packet of the data reads as the fields, and they are written as the packet.
+fn is_kept(kept: Kept, sync: u8, counter: u8) -> bool
+    requires { counter < 16 }
+{
+    let packet = packet_of(&data(kept));
+    match read(&Fast::new(), &packet) {
+        Ok(ops) => ops == fields(kept) && comes_back(&packet, &ops, sync, counter),
+        Err(_) => false,
+    }
+}
+
+/// Data, and the byte 0 and the counter with which their fields are written.
+static KEPT: [(Kept, u8, u8); 4] = [
+    (Kept::Worked, 0xB8, 13),
+    (Kept::Page, 0x47, 9),
+    (Kept::Greatest, 0x47, 15),
+    (Kept::LastPage, 0x47, 15),
+];
+
+#[test]
+fn worked_fields_a_page_greatest_numbers_and_the_last_page_of_the_most_are_read_and_written(
+    rt: HostRuntime,
+) {
+    for i in 0..KEPT.len() {
+        let (kept, sync, counter) = KEPT[i];
+        expect(&rt, is_kept(kept, sync, counter), i);
+    }
+}
+
+/// Four bytes from a place of the data on, and why a packet with them is refused.
+type Row = (u8, [u8; 4], OpsNo);
+
+static ROWS: [Row; 12] = [
+    (0, [0x00, 0x80, 0x00, 0x00], OpsNo::Kind),
+    (4, [0x00, 0x11, 0x02, 0x7C], OpsNo::Pad),
+    (4, [0x00, 0x11, 0x98, 0x96], OpsNo::Pad),
+    (6, [0x98, 0x96, 0x80, 0x4C], OpsNo::Stamp),
+    (6, [0x98, 0x96, 0x80, 0xFF], OpsNo::Stamp),
+    (8, [0x07, 0x98, 0x96, 0x80], OpsNo::Delay),
+    (15, [0x15, 0x02, 0x70, 0x01], OpsNo::Index),
+    (15, [0x15, 0x02, 0x70, 0x24], OpsNo::Index),
+    (15, [0x15, 0x00, 0x64, 0x24], OpsNo::Count),
+    (18, [0x03, 0x00, 0x07, 0xFF], OpsNo::Twice),
+    (23, [0x01, 0x00, 0x00, 0x00], OpsNo::Fill),
+    (160, [0x00, 0x00, 0x00, 0x80], OpsNo::Fill),
+];
+
+/// Ends the test at the first row whose bytes, in a packet that begins so, are refused otherwise.
+fn expect_refusals(rt: &impl Abort, data: &[u8; 164], rows: &[Row]) {
+    for i in 0..rows.len() {
+        let (at, bytes, refusal) = rows[i];
+        let packet = packet_of(&data_with(*data, at, bytes));
+        expect(rt, is_refused(&packet, refusal), i);
+    }
+}
+
+fn is_refused(packet: &Packet, refusal: OpsNo) -> bool {
+    read(&Fast::new(), packet) == Err(refusal)
+}
+
+#[test]
+fn each_refusal_comes_by_its_rule_and_the_first_one_first(rt: HostRuntime) {
+    expect_refusals(&rt, &data_of(&BEGINS), &ROWS);
+}
+
+static PAGE_ROWS: [Row; 9] = [
+    (0, [0x03, 0x80, 0x00, 0x00], OpsNo::Kind),
+    (16, [0x02, 0x70, 0x02, 0x02], OpsNo::Index),
+    (18, [0x02, 0x02, 0x02, 0x00], OpsNo::Page),
+    (18, [0x00, 0x00, 0x23, 0x00], OpsNo::Page),
+    (18, [0x1E, 0x1F, 0x02, 0x00], OpsNo::Page),
+    (18, [0x01, 0x02, 0x23, 0x00], OpsNo::Count),
+    (25, [0x00, 0x22, 0x7F, 0xFF], OpsNo::Twice),
+    (29, [0x01, 0x00, 0x00, 0x00], OpsNo::Fill),
+    (160, [0x00, 0x00, 0x00, 0x80], OpsNo::Fill),
+];
+
+#[test]
+fn each_refusal_of_a_page_comes_by_its_rule_and_the_first_one_first(rt: HostRuntime) {
+    expect_refusals(&rt, &data_of(&PAGE_BEGINS), &PAGE_ROWS);
+}
+
+const FAR: [u8; 11] = [
+    0x01, 0xD8, 0xC2, 0x9F, 0x6F, 0xC7, 0x5E, 0x5F, 0x71, 0x9D, 0xC1,
+];
+
+/// The third byte of a header, the last bytes of a payload of zeros, and why the packet is refused.
+static WORDS: [(u8, [u8; 11], OpsNo); 3] = [
+    (0xFA, [0; 11], OpsNo::Kind),
+    (0xFA, FAR, OpsNo::Uncorrectable),
+    (0xFB, FAR, OpsNo::NotOps),
+];
+
+/// An operations packet but for that byte, with zeros up to these bytes.
+fn word(byte: u8, last: &[u8; 11]) -> Packet {
+    let mut packet = Packet([0; PACKET]);
+    packet.0[..4].copy_from_slice(&[0x47, 0x1F, byte, 0x10]);
+    packet.0[177..].copy_from_slice(last);
+    packet
+}
+
+#[test]
+fn a_word_of_zeros_and_one_far_from_every_codeword_are_refused(rt: HostRuntime) {
+    for i in 0..WORDS.len() {
+        let (byte, last, refusal) = WORDS[i];
+        expect(&rt, is_refused(&word(byte, &last), refusal), i);
+    }
 }

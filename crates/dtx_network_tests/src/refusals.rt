@@ -1,10 +1,10 @@
 // The messages of what an operations packet is refused for.
 
+use crate::rows::expect;
 use dtx_ops::OpsNo;
-use std::alloc::{AllocError, Global};
-use std::test::Fail;
+use std::alloc::Global;
 
-const MESSAGES: [(OpsNo, &str); 11] = [
+static MESSAGES: [(OpsNo, &str); 11] = [
     (OpsNo::NotOps, "NotOps"),
     (OpsNo::Uncorrectable, "Uncorrectable"),
     (OpsNo::Kind, "Kind"),
@@ -18,15 +18,16 @@ const MESSAGES: [(OpsNo, &str); 11] = [
     (OpsNo::Page, "Page"),
 ];
 
-/// Whether the message of a refusal is this.
-fn is_named(alloc: Global, no: &OpsNo, name: &str) -> Result<bool, AllocError> {
-    Ok(format!(in alloc; "{no}")?.as_str() == name)
+/// Whether the message of a refusal is its name.
+fn is_named(alloc: Global, row: &(OpsNo, &str)) -> bool {
+    let (no, name) = row;
+    let mut message = String::new(alloc);
+    write!(message, "{no}") == Ok(()) && message.as_str() == *name
 }
 
 #[test]
-fn the_message_of_a_refusal_is_its_name(rt: HostRuntime) -> Result<(), Fail> {
-    for (no, name) in &MESSAGES {
-        assert!(rt; is_named(rt.alloc(), no, name)?);
+fn the_message_of_a_refusal_is_its_name(rt: HostRuntime) {
+    for i in 0..MESSAGES.len() {
+        expect(&rt, is_named(rt.alloc(), &MESSAGES[i]), i);
     }
-    Ok(())
 }

@@ -4,7 +4,7 @@ use dtx_frame::field_sync;
 use dtx_receiver::Batch;
 use dtx_repeat::Repeater;
 use dtx_sizes::{FIELD_SEGMENTS, PRECODE, SEGMENT};
-use std::test::Fail;
+use std::alloc::Global;
 
 /// The sync of a field.
 fn sync(second: bool) -> [i8; SEGMENT] {
@@ -51,18 +51,21 @@ impl Marks {
     }
 }
 
-/// The marks of four fields of zeros behind this field sync, each with a field sync of a first field.
-fn of_fields(repeater: &mut Repeater, first: &[i8; SEGMENT]) -> Marks {
+/// Segment `i` of fields of zeros, each with the field sync of a first field but the first one, where it is a second.
+fn segment(i: u16, second: bool) -> [i8; SEGMENT] {
+    if i % FIELD_SEGMENTS == 0 {
+        sync(i == 0 && second)
+    } else {
+        zeros()
+    }
+}
+
+/// The marks of four such fields.
+fn of_fields(repeater: &mut Repeater, second: bool) -> Marks {
     let mut marks = Marks::none();
     let mut batch = Batch::new();
-    repeater.take(first, &mut batch);
-    marks.add(&batch);
-    for i in 1..4 * FIELD_SEGMENTS {
-        if i % FIELD_SEGMENTS == 0 {
-            repeater.take(&sync(false), &mut batch);
-        } else {
-            repeater.take(&zeros(), &mut batch);
-        }
+    for i in 0..4 * FIELD_SEGMENTS {
+        repeater.take(&segment(i, second), &mut batch);
         marks.add(&batch);
     }
     repeater.finish(&mut batch);
@@ -71,19 +74,32 @@ fn of_fields(repeater: &mut Repeater, first: &[i8; SEGMENT]) -> Marks {
 }
 
 /// Whether the first field is a second one, and where the marks are.
-const CASES: [(bool, [u32; 4]); 2] = [(false, [0, 624, 0, 0]), (true, [312, 936, 0, 0])];
+static CASES: [(bool, [u32; 4]); 2] = [(false, [0, 624, 0, 0]), (true, [312, 936, 0, 0])];
 
 /// Whether a repeater gives back four fields, of which the first is this one, with two marks at these places.
 fn has_marks(repeater: &mut Repeater, second: bool, places: &[u32; 4]) -> bool {
-    let marks = of_fields(repeater, &sync(second));
+    let marks = of_fields(repeater, second);
     marks.given == 1197 && marks.count == 2 && marks.places == *places
 }
 
-#[test]
-fn the_first_field_sync_tells_where_the_marks_are(rt: HostRuntime) -> Result<(), Fail> {
-    let mut repeater = Repeater::new(rt.alloc(), 7, 1000)?;
+/// Whether a repeater has the marks of each case, one after the other.
+fn are_marked(repeater: &mut Repeater) -> bool {
     for (second, places) in &CASES {
-        assert!(rt; has_marks(&mut repeater, *second, places));
+        if !has_marks(repeater, *second, places) {
+            return false;
+        }
     }
-    Ok(())
+    true
+}
+
+fn repeats(alloc: Global) -> bool {
+    match Repeater::new(alloc, 7, 1000) {
+        Ok(mut repeater) => are_marked(&mut repeater),
+        Err(_) => false,
+    }
+}
+
+#[test]
+fn the_first_field_sync_tells_where_the_marks_are(rt: HostRuntime) {
+    assert!(rt; repeats(rt.alloc()));
 }

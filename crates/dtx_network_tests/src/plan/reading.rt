@@ -1,12 +1,12 @@
 // What a plan and a file of changes say.
+use super::refusals::plan_is;
 use dtx_plan::{
     Damage, Damages, Event, Events, NetPlan, Plan, ReceivePlan, Transmitter, read_changes,
-    read_plan,
 };
 use dtx_trellis::States;
 use std::alloc::Global;
 
-const PLAN: &[u8] = b"start = 0
+static PLAN: &[u8] = b"start = 0
 max_delay = 5000000
 [[transmitter]]
 address = 7
@@ -93,13 +93,16 @@ fn is_plan(plan: &Plan) -> bool {
     plan.start == 0
         && plan.max_delay == 5000000
         && plan.transmitters.as_slice() == TRANSMITTERS.as_slice()
-        && plan.net.as_ref().is_some_and(is_network)
+        && is_network(&plan.net)
 }
 
-fn is_network(net: &NetPlan) -> bool {
-    net.stream.as_str() == "s.ts"
-        && are(&net.events, &EVENTS)
-        && net.receive.as_ref().is_some_and(is_receive)
+fn is_network(net: &Option<NetPlan>) -> bool {
+    match net {
+        Some(net) => {
+            net.stream.as_str() == "s.ts" && are(&net.events, &EVENTS) && is_received(&net.receive)
+        }
+        None => false,
+    }
 }
 
 const PUT: Damage = Damage {
@@ -108,20 +111,18 @@ const PUT: Damage = Damage {
     put: 127,
 };
 
-fn is_receive(receive: &ReceivePlan) -> bool {
-    receive.from == 7 && receive.damage.len() == 1 && has(&receive.damage, 0, PUT)
-}
-
-fn reads_whole(alloc: Global) -> bool {
-    match read_plan(alloc, PLAN) {
-        Ok(plan) => is_plan(&plan),
-        Err(_) => false,
+fn is_received(receive: &Option<ReceivePlan>) -> bool {
+    match receive {
+        Some(receive) => {
+            receive.from == 7 && receive.damage.len() == 1 && has(&receive.damage, 0, PUT)
+        }
+        None => false,
     }
 }
 
 #[test]
 fn a_plan_reads_whole(rt: HostRuntime) {
-    assert!(rt; reads_whole(rt.alloc()));
+    assert!(rt; plan_is(rt.alloc(), PLAN, is_plan) == Ok(true));
 }
 
 /// The events are these.

@@ -1,6 +1,6 @@
 use Rattle.std.proofs.Common.{refl, arith}
 use Rattle.std.specs.List.{IsDistinct}
-use Rattle.dtx_network_tests.proofs.net.Stage.new.Goals as goal
+use Rattle.dtx_network_tests.proofs.net.each_goes_on.Goals as goal
 
 -- there are two, with different addresses
 pub new-requires : goal.new-requires
