@@ -1,15 +1,21 @@
 //! How long it takes to test the certificate of a least path over the symbols that a trellis coder has in a field.
 
-use crate::times::{Work, print_least};
+use crate::times::{Line, Work, print_least};
 use dtx_soft::{MAX_SYMBOLS, Soft, proves};
 use std::alloc::Global;
 use std::io;
 use std::rt::Clock;
 
+static PROVES: Line = Line {
+    name: "proves",
+    piece: "symbol",
+    pieces: MAX_SYMBOLS as u32,
+};
+
 #[derive(Drop)]
 struct Certificate {
-    symbols: Vec<i8>,
-    levels: Vec<u8>,
+    symbols: [i8; MAX_SYMBOLS],
+    levels: [u8; MAX_SYMBOLS],
     soft: Soft,
     start: u8,
 }
@@ -17,9 +23,9 @@ struct Certificate {
 impl Work for Certificate {
     fn round(&mut self) -> u8 {
         proves(
-            &self.symbols[..],
+            &self.symbols,
             self.start,
-            &self.levels[..],
+            &self.levels,
             self.soft.potentials(),
         ) as u8
     }
@@ -27,20 +33,25 @@ impl Work for Certificate {
 
 pub fn print_proves_times(rt: &(impl Clock + Print), alloc: Global) -> io::Result<()> {
     let mut work = Certificate {
-        symbols: vec![in alloc; 0i8; MAX_SYMBOLS]?,
-        levels: vec![in alloc; 0u8; MAX_SYMBOLS]?,
-        soft: Soft::new(alloc)?,
+        symbols: symbols(),
+        levels: [0; MAX_SYMBOLS],
         start: 0,
+        soft: Soft::new(alloc)?,
     };
-    fill(&mut work.symbols[..]);
-    let found = work.soft.best(&work.symbols[..], &mut work.levels[..]);
-    work.start = found.start;
-    print_least(rt, "proves", "symbol", MAX_SYMBOLS as u32, &mut work)
+    work.start = start_of(&mut work.soft, &work.symbols, &mut work.levels);
+    print_least(rt, &PROVES, &mut work)
+}
+
+/// Writes the levels of the least path, and answers its start.
+fn start_of(soft: &mut Soft, symbols: &[i8; MAX_SYMBOLS], levels: &mut [u8; MAX_SYMBOLS]) -> u8 {
+    soft.best(symbols, levels).start
 }
 
 /// Symbols that take turns, from -8 to 7.
-fn fill(symbols: &mut [i8]) {
-    for t in 0..symbols.len() {
+fn symbols() -> [i8; MAX_SYMBOLS] {
+    let mut symbols = [0; MAX_SYMBOLS];
+    for t in 0..MAX_SYMBOLS {
         symbols[t] = (t % 251 % 16) as i8 - 8;
     }
+    symbols
 }

@@ -1,6 +1,6 @@
 //! How long the whole outer coding takes.
 
-use crate::times::{Work, print_least};
+use crate::times::{Line, Work, print_least};
 use crate::work::{DATA, WORD, add};
 use dtx_outer::Outer;
 use dtx_rs::Rs;
@@ -10,6 +10,12 @@ use dtx_whiten::Atsc;
 use std::alloc::Global;
 use std::io;
 use std::rt::Clock;
+
+static OUTER: Line = Line {
+    name: "outer",
+    piece: "packet",
+    pieces: FIELD_PACKETS as u32,
+};
 
 #[derive(Drop)]
 struct Coding {
@@ -33,5 +39,5 @@ pub fn print_outer_times(rt: &(impl Clock + Print), alloc: Global) -> io::Result
         outer: Outer::new(Atsc::new(alloc)?, Rs::new(), Branches::new(alloc)?),
         head: [1; DATA],
     };
-    print_least(rt, "outer", "packet", FIELD_PACKETS as u32, &mut work)
+    print_least(rt, &OUTER, &mut work)
 }

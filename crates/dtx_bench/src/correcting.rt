@@ -1,7 +1,7 @@
 //! How long the correctors take for words in which so many bytes are wrong, beside the encoder.
 
 use crate::encoding::print_one_times;
-use crate::times::{Work, print_least};
+use crate::times::{Line, Work, print_least};
 use crate::work::{DATA, WORD};
 use dtx_correct::Linear;
 use dtx_fast::Fast;
@@ -16,7 +16,10 @@ pub const CODEWORDS: usize = 8;
 /// How many words a round has.
 pub const WORDS: u32 = 200;
 
-/// The faster corrector's lines, each with how many bytes of a word are wrong: the last is more than can be put right.
+/// The linear corrector's lines, each with how many bytes of a word are wrong.
+const LINEAR: [(&str, usize); 2] = [("linear 0 wrong:", 0), ("linear 10 wrong:", 10)];
+
+/// The faster corrector's: the last is more than can be put right.
 const FAST: [(&str, usize); 6] = [
     ("fast 0 wrong:", 0),
     ("fast 1 wrong:", 1),
@@ -27,13 +30,13 @@ const FAST: [(&str, usize); 6] = [
 ];
 
 #[derive(Drop)]
-pub struct Correction<C> {
-    pub code: C,
-    pub codewords: [[u8; WORD]; CODEWORDS],
-    pub wrong: usize,
+struct Correction<'a, C> {
+    code: &'a C,
+    codewords: [[u8; WORD]; CODEWORDS],
+    wrong: usize,
 }
 
-impl<C: Correct<WORD, DATA>> Work for Correction<C> {
+impl<C: Correct<WORD, DATA>> Work for Correction<'_, C> {
     /// How many places are changed, modulo 256.
     fn round(&mut self) -> u8 {
         let mut changed = 0u8;
@@ -51,30 +54,31 @@ impl<C: Correct<WORD, DATA>> Work for Correction<C> {
 
 pub fn print_correct_times(rt: &(impl Clock + Print)) -> io::Result<()> {
     print_one_times(rt)?;
-    print_linear_time(rt, "linear 0 wrong:", 0)?;
-    print_linear_time(rt, "linear 10 wrong:", 10)?;
-    for (name, wrong) in FAST {
-        print_fast_time(rt, name, wrong)?;
+    print_corrected(rt, &LINEAR, &Linear::new())?;
+    print_corrected(rt, &FAST, &Fast::new())
+}
+
+/// Prints how long a corrector takes, a line for each number of wrong bytes.
+pub fn print_corrected<C: Correct<WORD, DATA>>(
+    rt: &(impl Clock + Print),
+    lines: &[(&'static str, usize)],
+    code: &C,
+) -> io::Result<()> {
+    let mut work = Correction {
+        code,
+        codewords: codewords(),
+        wrong: 0,
+    };
+    for (name, wrong) in lines {
+        work.wrong = *wrong;
+        let line = Line {
+            name,
+            piece: "word",
+            pieces: WORDS,
+        };
+        print_least(rt, &line, &mut work)?;
     }
     Ok(())
-}
-
-fn print_linear_time(rt: &(impl Clock + Print), name: &str, wrong: usize) -> io::Result<()> {
-    let mut work = Correction {
-        code: Linear::new(),
-        codewords: codewords(),
-        wrong,
-    };
-    print_least(rt, name, "word", WORDS, &mut work)
-}
-
-pub fn print_fast_time(rt: &(impl Clock + Print), name: &str, wrong: usize) -> io::Result<()> {
-    let mut work = Correction {
-        code: Fast::new(),
-        codewords: codewords(),
-        wrong,
-    };
-    print_least(rt, name, "word", WORDS, &mut work)
 }
 
 pub fn codewords() -> [[u8; WORD]; CODEWORDS] {

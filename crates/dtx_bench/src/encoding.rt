@@ -1,7 +1,7 @@
 //! How long the encoder takes, for one word and for four at once, and what its work gives.
 
-use crate::times::{Work, print_least};
-use crate::work::{DATA, WORD, complete_four, encode};
+use crate::times::{Line, Work, print_least};
+use crate::work::{DATA, PARITY, WORD, complete_four, encode};
 use dtx_rs::Rs;
 use std::io;
 use std::rt::Clock;
@@ -11,6 +11,18 @@ const WORDS: u32 = 2_000;
 
 /// After how many words, and after how many times four words, the parity bytes are printed.
 const CHECKED: u32 = 1_000;
+
+static ONE: Line = Line {
+    name: "encode",
+    piece: "packet",
+    pieces: WORDS,
+};
+
+static FOUR: Line = Line {
+    name: "complete_four",
+    piece: "packet",
+    pieces: 4 * WORDS,
+};
 
 #[derive(Drop)]
 struct One {
@@ -36,7 +48,7 @@ impl Work for Four {
 }
 
 pub fn print_one_times(rt: &(impl Clock + Print)) -> io::Result<()> {
-    print_least(rt, "encode", "packet", WORDS, &mut One { code: Rs::new() })
+    print_least(rt, &ONE, &mut One { code: Rs::new() })
 }
 
 pub fn print_encode_times(rt: &(impl Clock + Print)) -> io::Result<()> {
@@ -45,21 +57,27 @@ pub fn print_encode_times(rt: &(impl Clock + Print)) -> io::Result<()> {
 }
 
 fn print_four_times(rt: &(impl Clock + Print)) -> io::Result<()> {
-    let mut work = Four { code: Rs::new() };
-    print_least(rt, "complete_four", "packet", 4 * WORDS, &mut work)
+    print_least(rt, &FOUR, &mut Four { code: Rs::new() })
 }
 
-/// Prints the parity bytes of the last of so many words, and of the last four.
+/// What is printed before the parity bytes of each word.
+static BEFORE: [&str; 5] = ["encode ", " complete_four ", " ", " ", " "];
+
+/// Prints what the encoder's work gives, in hexadecimal digits.
 pub fn print_check(rt: &impl Print) -> io::Result<()> {
-    let code = Rs::new();
-    print!(rt; "encode ")?;
-    print_hex(rt, &encode(&code, CHECKED))?;
-    print!(rt; " complete_four")?;
-    for parity in &complete_four(&code, CHECKED) {
-        print!(rt; " ")?;
-        print_hex(rt, parity)?;
+    let parities = checked();
+    for i in 0..5 {
+        rt.print(BEFORE[i])?;
+        print_hex(rt, &parities[i])?;
     }
-    println!(rt; "")
+    rt.println("")
+}
+
+/// The parity bytes of the last of so many words, and of the last four.
+fn checked() -> [[u8; PARITY]; 5] {
+    let code = Rs::new();
+    let [first, second, third, fourth] = complete_four(&code, CHECKED);
+    [encode(&code, CHECKED), first, second, third, fourth]
 }
 
 fn print_hex(rt: &impl Print, bytes: &[u8]) -> io::Result<()> {

@@ -1,6 +1,6 @@
 //! How long the trellis coders take.
 
-use crate::times::{Work, print_least};
+use crate::times::{Line, Work, print_least};
 use dtx_sizes::{CODERS, FIELD_PACKETS, GROUP_BYTES, GROUP_SYMBOLS, SEGMENT_SYNC};
 use dtx_trellis::Twelve;
 use std::io;
@@ -8,6 +8,12 @@ use std::rt::Clock;
 
 /// How many groups a round codes: those of a field.
 const GROUPS: u16 = FIELD_PACKETS / 4;
+
+static TRELLIS: Line = Line {
+    name: "trellis",
+    piece: "group",
+    pieces: GROUPS as u32,
+};
 
 #[derive(Drop)]
 struct Groups {
@@ -43,5 +49,5 @@ pub fn print_trellis_times(rt: &(impl Clock + Print)) -> io::Result<()> {
         bytes,
         symbols: [0; GROUP_SYMBOLS],
     };
-    print_least(rt, "trellis", "group", u32::from(GROUPS), &mut work)
+    print_least(rt, &TRELLIS, &mut work)
 }

@@ -1,15 +1,23 @@
 //! How long a word takes of which twenty bytes are missing, beside one of which ten are wrong.
 
-use crate::correcting::{CODEWORDS, WORDS, codewords, print_fast_time};
-use crate::times::{Work, print_least};
+use crate::correcting::{CODEWORDS, WORDS, codewords, print_corrected};
+use crate::times::{Line, Work, print_least};
 use crate::work::{DATA, WORD};
 use dtx_erase::{Erase, Mend};
+use dtx_fast::Fast;
 use std::io;
 use std::rt::Clock;
 
-/// How many bytes are wrong, or missing and wrong: as many as can be put right.
-const WRONG: usize = 10;
+/// The line beside which it is measured, and how many bytes are wrong there: as many as can be put right.
+const CORRECT: [(&str, usize); 1] = [("correct", 10)];
 
+static MEND: Line = Line {
+    name: "mend",
+    piece: "word",
+    pieces: WORDS,
+};
+
+/// How many bytes are missing and wrong: as many as can be put right.
 const MISSING: usize = 20;
 
 #[derive(Drop)]
@@ -44,10 +52,10 @@ fn lose(word: &mut [u8; WORD], number: usize) -> [bool; WORD] {
 }
 
 pub fn print_mend_times(rt: &(impl Clock + Print)) -> io::Result<()> {
-    print_fast_time(rt, "correct", WRONG)?;
+    print_corrected(rt, &CORRECT, &Fast::new())?;
     let mut mending = Mending {
         code: Erase::new(),
         codewords: codewords(),
     };
-    print_least(rt, "mend", "word", WORDS, &mut mending)
+    print_least(rt, &MEND, &mut mending)
 }

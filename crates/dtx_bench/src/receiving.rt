@@ -1,7 +1,9 @@
 //! How long a group of four segments takes to receive, where no symbol is missing: by the receiver, and by the one that
 //! mends.
 
-use crate::times::{Work, print_least};
+ghost use Rattle.std.specs.Prelude.{◌<◌};
+
+use crate::times::{Line, Work, print_least};
 use dtx_erase::MendReceiver;
 use dtx_frame::field_sync;
 use dtx_receiver::{Batch, Receiver};
@@ -13,6 +15,18 @@ use std::rt::Clock;
 /// How many groups a round receives: those of a field, whose bytes are all 0.
 const GROUPS: u16 = FIELD_PACKETS / 4;
 
+static RECEIVE: Line = Line {
+    name: "receive",
+    piece: "group",
+    pieces: GROUPS as u32,
+};
+
+static MEND: Line = Line {
+    name: "mend",
+    piece: "group",
+    pieces: GROUPS as u32,
+};
+
 /// A field's sync, and each of its data segments.
 #[derive(Drop)]
 struct Field {
@@ -20,38 +34,37 @@ struct Field {
     data: [i8; SEGMENT],
 }
 
-#[derive(Drop)]
-struct Received {
-    receiver: Receiver,
-    field: Field,
-    batch: Batch,
+/// Either receiver.
+trait Receive {
+    /// Receives the next segment. The packets that it completes stand in the batch then.
+    fn follow(&mut self, segment: &[i8; SEGMENT], batch: &mut Batch);
 }
 
-#[derive(Drop)]
-struct Mended {
-    receiver: MendReceiver,
-    field: Field,
-    batch: Batch,
-}
-
-impl Work for Received {
-    fn round(&mut self) -> u8 {
-        let mut sum = 0u8;
-        self.receiver.take(&self.field.sync, &mut self.batch);
-        for _ in 0..FIELD_PACKETS {
-            self.receiver.take(&self.field.data, &mut self.batch);
-            sum = sum.wrapping_add(sum_of(&self.batch));
-        }
-        sum
+impl Receive for Receiver {
+    fn follow(&mut self, segment: &[i8; SEGMENT], batch: &mut Batch) {
+        self.take(segment, batch);
     }
 }
 
-impl Work for Mended {
+impl Receive for MendReceiver {
+    fn follow(&mut self, segment: &[i8; SEGMENT], batch: &mut Batch) {
+        self.take(segment, batch);
+    }
+}
+
+#[derive(Drop)]
+struct Receiving<'a, R> {
+    receiver: &'a mut R,
+    field: Field,
+    batch: Batch,
+}
+
+impl<R: Receive> Work for Receiving<'_, R> {
     fn round(&mut self) -> u8 {
         let mut sum = 0u8;
-        self.receiver.take(&self.field.sync, &mut self.batch);
+        self.receiver.follow(&self.field.sync, &mut self.batch);
         for _ in 0..FIELD_PACKETS {
-            self.receiver.take(&self.field.data, &mut self.batch);
+            self.receiver.follow(&self.field.data, &mut self.batch);
             sum = sum.wrapping_add(sum_of(&self.batch));
         }
         sum
@@ -68,26 +81,33 @@ fn sum_of(batch: &Batch) -> u8 {
 }
 
 pub fn print_receive_times(rt: &(impl Clock + Print), alloc: Global) -> io::Result<()> {
-    print_received_times(rt, alloc)?;
-    print_mended_times(rt, alloc)
+    print_receiver_times(rt, alloc)?;
+    print_mend_receiver_times(rt, alloc)
 }
 
-fn print_received_times(rt: &(impl Clock + Print), alloc: Global) -> io::Result<()> {
-    let mut work = Received {
-        receiver: Receiver::new(alloc)?,
+fn print_receiver_times(rt: &(impl Clock + Print), alloc: Global) -> io::Result<()> {
+    let mut receiver = Receiver::new(alloc)?;
+    print_received(rt, &RECEIVE, &mut receiver)
+}
+
+fn print_mend_receiver_times(rt: &(impl Clock + Print), alloc: Global) -> io::Result<()> {
+    let mut receiver = MendReceiver::new(alloc)?;
+    print_received(rt, &MEND, &mut receiver)
+}
+
+fn print_received(
+    rt: &(impl Clock + Print),
+    line: &Line,
+    receiver: &mut impl Receive,
+) -> io::Result<()>
+    requires { 0 < line.now.pieces }
+{
+    let mut work = Receiving {
+        receiver,
         field: zeros(),
         batch: Batch::new(),
     };
-    print_least(rt, "receive", "group", u32::from(GROUPS), &mut work)
-}
-
-fn print_mended_times(rt: &(impl Clock + Print), alloc: Global) -> io::Result<()> {
-    let mut work = Mended {
-        receiver: MendReceiver::new(alloc)?,
-        field: zeros(),
-        batch: Batch::new(),
-    };
-    print_least(rt, "mend", "group", u32::from(GROUPS), &mut work)
+    print_least(rt, line, &mut work)
 }
 
 fn zeros() -> Field {

@@ -1,6 +1,6 @@
 //! How long a group takes as a whole, from four packets to the symbols of their segments.
 
-use crate::times::{Work, print_least};
+use crate::times::{Line, Work, print_least};
 use dtx_coder::{Air, Coder};
 use dtx_packets::Packet;
 use dtx_sizes::{FIELD_PACKETS, GROUP_PACKETS, PACKET, PRECODE, SEGMENT};
@@ -10,6 +10,12 @@ use std::rt::Clock;
 
 /// How many groups a round codes: those of a field.
 const GROUPS: u16 = FIELD_PACKETS / 4;
+
+static GROUP: Line = Line {
+    name: "group",
+    piece: "group",
+    pieces: GROUPS as u32,
+};
 
 #[derive(Drop)]
 struct Sending {
@@ -34,17 +40,22 @@ impl Work for Sending {
     }
 }
 
-pub fn print_group_times(rt: &(impl Clock + Print), alloc: Global) -> io::Result<()> {
+/// Four packets, whose bytes go with their places.
+fn packets() -> [Packet; GROUP_PACKETS] {
     let mut packets = [Packet([0x47; PACKET]); GROUP_PACKETS];
     for p in 0..GROUP_PACKETS {
         for i in 1..PACKET {
             packets[p].0[i] = ((i + 50 * p) % 251) as u8;
         }
     }
+    packets
+}
+
+pub fn print_group_times(rt: &(impl Clock + Print), alloc: Global) -> io::Result<()> {
     let mut work = Sending {
-        coder: Coder::new(alloc)?,
+        packets: packets(),
         air: Air::new(),
-        packets,
+        coder: Coder::new(alloc)?,
     };
-    print_least(rt, "group", "group", u32::from(GROUPS), &mut work)
+    print_least(rt, &GROUP, &mut work)
 }

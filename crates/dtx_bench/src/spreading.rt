@@ -1,6 +1,6 @@
 //! How long interleaving takes.
 
-use crate::times::{Work, print_least};
+use crate::times::{Line, Work, print_least};
 use crate::work::WORD;
 use dtx_laws::Spread;
 use dtx_spread::Branches;
@@ -10,6 +10,12 @@ use std::rt::Clock;
 
 /// How many codewords a round passes.
 const PASSED: u32 = 1_000;
+
+static SPREAD: Line = Line {
+    name: "spread",
+    piece: "packet",
+    pieces: PASSED,
+};
 
 #[derive(Drop)]
 struct Spreading {
@@ -27,11 +33,18 @@ impl Work for Spreading {
 }
 
 pub fn print_spread_times(rt: &(impl Clock + Print), alloc: Global) -> io::Result<()> {
+    let mut work = Spreading {
+        word: numbered(),
+        branches: Branches::new(alloc)?,
+    };
+    print_least(rt, &SPREAD, &mut work)
+}
+
+/// A word in which each byte is the number of its place.
+fn numbered() -> [u8; WORD] {
     let mut word = [0; WORD];
     for i in 0..WORD {
         word[i] = i as u8;
     }
-    let branches = Branches::new(alloc)?;
-    let mut work = Spreading { branches, word };
-    print_least(rt, "spread", "packet", PASSED, &mut work)
+    word
 }

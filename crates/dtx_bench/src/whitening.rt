@@ -2,7 +2,7 @@
 
 ghost use Rattle.std.specs.Prelude.{◌+◌, ◌≤◌};
 
-use crate::times::{Work, print_least};
+use crate::times::{Line, Work, print_least};
 use crate::work::DATA;
 use dtx_laws::Whitener;
 use dtx_sizes::FIELD_PACKETS;
@@ -16,6 +16,12 @@ const FIELDS: u32 = 4;
 
 /// How many packets a round whitens.
 const PACKETS: u32 = FIELDS * FIELD_PACKETS as u32;
+
+static WHITEN: Line = Line {
+    name: "whiten",
+    piece: "packet",
+    pieces: PACKETS,
+};
 
 #[derive(Drop)]
 struct Whitening {
@@ -50,5 +56,5 @@ pub fn print_whiten_times(rt: &(impl Clock + Print), alloc: Global) -> io::Resul
         whitener: Atsc::new(alloc)?,
         head: [1; DATA],
     };
-    print_least(rt, "whiten", "packet", PACKETS, &mut work)
+    print_least(rt, &WHITEN, &mut work)
 }

@@ -12,7 +12,7 @@ pub const DATA: usize = 187;
 pub const WORD: usize = 207;
 
 /// What is left of a codeword behind its data.
-const PARITY: usize = WORD - DATA;
+pub const PARITY: usize = WORD - DATA;
 
 /// The parity bytes of the last of so many words, one after the other.
 pub fn encode(code: &Rs<WORD, DATA>, words: u32) -> [u8; PARITY] {
