@@ -2,7 +2,8 @@
 
 use dtx_host::{HostShelf, Progress};
 use dtx_outside::{ReadNo, Shelf, WriteNo};
-use std::test::Fail;
+use std::process::Abort;
+use std::rt::Files;
 use std::{fs, io};
 
 /// What the shelf is asked of a file, with its answer, and what others do with the file.
@@ -17,7 +18,7 @@ enum Step {
 }
 
 /// Whether the shelf answers so. What it reads is at most eight bytes.
-fn is_answered(shelf: &mut HostShelf<HostRuntime>, name: &str, step: &Step) -> bool {
+fn is_answered(shelf: &mut impl Shelf, name: &str, step: &Step) -> bool {
     match *step {
         Step::Read(place, wanted) => reads(shelf, name, place, wanted),
         Step::Begin(wanted) => shelf.begin(name) == wanted,
@@ -26,12 +27,7 @@ fn is_answered(shelf: &mut HostShelf<HostRuntime>, name: &str, step: &Step) -> b
     }
 }
 
-fn reads(
-    shelf: &mut HostShelf<HostRuntime>,
-    name: &str,
-    place: u8,
-    wanted: Result<&[u8], ReadNo>,
-) -> bool {
+fn reads(shelf: &mut impl Shelf, name: &str, place: u8, wanted: Result<&[u8], ReadNo>) -> bool {
     let mut into = [0u8; 8];
     let read = shelf.read(name, place as u64, &mut into);
     match wanted {
@@ -41,28 +37,23 @@ fn reads(
 }
 
 /// What others do.
-fn does(rt: &HostRuntime, name: &str, step: &Step) -> Result<(), Fail> {
+fn does(files: &impl Files, name: &str, step: &Step) -> io::Result<()> {
     match *step {
-        Step::Written(bytes) => told(fs::write(rt, name, bytes)),
-        Step::Renamed(other) => told(fs::rename(rt, name, other)),
-        Step::Removed => told(fs::remove_file(rt, name)),
+        Step::Written(bytes) => fs::write(files, name, bytes),
+        Step::Renamed(other) => fs::rename(files, name, other),
+        Step::Removed => fs::remove_file(files, name),
         _ => Ok(()),
     }
 }
 
-/// What the host did, or why the test failed.
-fn told(done: io::Result<()>) -> Result<(), Fail> {
-    Ok(done?)
-}
-
 /// Whether the steps are answered as they say.
 fn are_answered(
-    rt: &HostRuntime,
-    shelf: &mut HostShelf<HostRuntime>,
+    files: &impl Files,
+    shelf: &mut impl Shelf,
     steps: &[(&str, Step)],
-) -> Result<bool, Fail> {
+) -> io::Result<bool> {
     for (name, step) in steps {
-        does(rt, name, step)?;
+        does(files, name, step)?;
         if !is_answered(shelf, name, step) {
             return Ok(false);
         }
@@ -75,15 +66,23 @@ fn answers(
     rt: &HostRuntime,
     shelf: &mut HostShelf<HostRuntime>,
     steps: &[(&str, Step)],
-) -> Result<(bool, bool), Fail> {
-    let are = are_answered(rt, shelf, steps)?;
-    Ok((are, shelf.overlap()))
+    overlap: bool,
+) -> io::Result<bool> {
+    Ok(are_answered(rt, shelf, steps)? && shelf.overlap() == overlap)
 }
 
 /// The same by a new shelf.
-fn answered(rt: &HostRuntime, steps: &[(&str, Step)]) -> Result<(bool, bool), Fail> {
+fn answered(rt: &HostRuntime, steps: &[(&str, Step)], overlap: bool) -> io::Result<bool> {
     let progress = Progress::new(rt, false);
-    answers(rt, &mut HostShelf::new(rt, &progress), steps)
+    answers(rt, &mut HostShelf::new(rt, &progress), steps, overlap)
+}
+
+/// Asserts that they are; a failure tells the name of the steps.
+fn check(rt: &impl Abort, name: &str, answered: io::Result<bool>) {
+    match answered {
+        Ok(are) => assert!(rt; are, "{name}"),
+        Err(no) => panic!(rt; "{name}: {no}"),
+    }
 }
 
 const OUT: &str = "dtx_outside_host_test";
@@ -108,9 +107,8 @@ const FILES: &[(&str, Step)] = &[
 ];
 
 #[test]
-fn files_are_written_and_read(rt: HostRuntime) -> Result<(), Fail> {
-    assert!(rt; answered(&rt, FILES)? == (true, false));
-    Ok(())
+fn files_are_written_and_read(rt: HostRuntime) {
+    check(&rt, "files", answered(&rt, FILES, false));
 }
 
 const READ: &str = "dtx_outside_host_read";
@@ -132,9 +130,8 @@ const MET: &[(&str, Step)] = &[
 ];
 
 #[test]
-fn a_file_that_was_read_or_begun_is_not_begun_again(rt: HostRuntime) -> Result<(), Fail> {
-    assert!(rt; answered(&rt, MET)? == (true, true));
-    Ok(())
+fn a_file_that_was_read_or_begun_is_not_begun_again(rt: HostRuntime) {
+    check(&rt, "met", answered(&rt, MET, true));
 }
 
 const CHANGED: &str = "dtx_outside_host_changed";
@@ -171,59 +168,60 @@ const CUT: &[(&str, Step)] = &[
 ];
 
 #[test]
-fn a_file_that_others_change_meanwhile_is_a_fault(rt: HostRuntime) -> Result<(), Fail> {
-    assert!(rt; answered(&rt, CHANGES)? == (true, false));
-    assert!(rt; answered(&rt, CUT)? == (true, false));
-    Ok(())
+fn a_file_that_others_change_meanwhile_is_a_fault(rt: HostRuntime) {
+    check(&rt, "changes", answered(&rt, CHANGES, false));
+    check(&rt, "cut", answered(&rt, CUT, false));
 }
 
 const HELD: &str = "dtx_outside_host_held";
 
-/// A file that was written twice.
-const WRITTEN: &[(&str, Step)] = &[
+/// A file that was written twice, and what others do with it then.
+static WAYS: [(&str, &[(&str, Step)]); 4] = [
+    ("lost", LOST),
+    ("replaced", REPLACED),
+    ("cut", SHORTER),
+    ("longer", LONGER),
+];
+
+const LOST: &[(&str, Step)] = &[
     (HELD, Step::Begin(Ok(()))),
     (HELD, Step::Append(b"ab", Ok(()))),
     (HELD, Step::Append(b"cd", Ok(()))),
+    (HELD, Step::Removed),
+    (HELD, Step::Append(b"e", Err(WriteNo::Failed))),
 ];
 
-/// What others do with it then: it is lost, replaced, cut, or longer.
-const WAYS: [&[(&str, Step)]; 4] = [
-    &[(HELD, Step::Removed)],
-    &[
-        (OTHER, Step::Written(b"abcd")),
-        (OTHER, Step::Renamed(HELD)),
-    ],
-    &[(HELD, Step::Written(b"abc"))],
-    &[(HELD, Step::Written(b"abcde"))],
+const REPLACED: &[(&str, Step)] = &[
+    (HELD, Step::Begin(Ok(()))),
+    (HELD, Step::Append(b"ab", Ok(()))),
+    (HELD, Step::Append(b"cd", Ok(()))),
+    (OTHER, Step::Written(b"abcd")),
+    (OTHER, Step::Renamed(HELD)),
+    (HELD, Step::Append(b"e", Err(WriteNo::Failed))),
+    (HELD, Step::Removed),
 ];
 
-const REFUSED: &[(&str, Step)] = &[(HELD, Step::Append(b"e", Err(WriteNo::Failed)))];
+const SHORTER: &[(&str, Step)] = &[
+    (HELD, Step::Begin(Ok(()))),
+    (HELD, Step::Append(b"ab", Ok(()))),
+    (HELD, Step::Append(b"cd", Ok(()))),
+    (HELD, Step::Written(b"abc")),
+    (HELD, Step::Append(b"e", Err(WriteNo::Failed))),
+    (HELD, Step::Removed),
+];
 
-/// Whether the file is written, and refused once others have changed it so.
-fn refuses(
-    rt: &HostRuntime,
-    shelf: &mut HostShelf<HostRuntime>,
-    way: &[(&str, Step)],
-) -> Result<bool, Fail> {
-    for steps in [WRITTEN, way, REFUSED] {
-        if !are_answered(rt, shelf, steps)? {
-            return Ok(false);
-        }
-    }
-    Ok(true)
-}
-
-/// The same by a new shelf.
-fn is_refused(rt: &HostRuntime, way: &[(&str, Step)]) -> Result<bool, Fail> {
-    let progress = Progress::new(rt, false);
-    refuses(rt, &mut HostShelf::new(rt, &progress), way)
-}
+const LONGER: &[(&str, Step)] = &[
+    (HELD, Step::Begin(Ok(()))),
+    (HELD, Step::Append(b"ab", Ok(()))),
+    (HELD, Step::Append(b"cd", Ok(()))),
+    (HELD, Step::Written(b"abcde")),
+    (HELD, Step::Append(b"e", Err(WriteNo::Failed))),
+    (HELD, Step::Removed),
+];
 
 #[test]
-fn a_file_that_others_change_between_two_appends_is_a_fault(rt: HostRuntime) -> Result<(), Fail> {
-    for way in &WAYS {
-        assert!(rt; is_refused(&rt, way)?);
-        let _ = fs::remove_file(&rt, HELD);
+fn a_file_that_others_change_between_two_appends_is_a_fault(rt: HostRuntime) {
+    for (way, steps) in &WAYS {
+        check(&rt, way, answered(&rt, steps, false));
     }
-    Ok(())
 }

@@ -2,119 +2,138 @@
 
 use dtx_outside::{Call, FILE_PAGE, MemoryShelf, Output, PIECE, Shelf};
 use std::alloc::{AllocError, Global};
-use std::test::Fail;
 
 // Three pieces of this length don't fit where two do.
 const LENGTH: usize = 50_000;
 
-fn written(shelf: &MemoryShelf) -> usize {
-    match shelf.get("out") {
-        Some(bytes) => bytes.len(),
-        None => 0,
-    }
+static NAME: &str = "out";
+
+// What is done over a file, and what is seen of it.
+#[derive(Clone, Copy)]
+enum Step {
+    // The first append fails in its midst.
+    Fail,
+    Begin,
+    // A piece is written, or more bytes than are gathered, and the file has so many bytes then, where they are taken.
+    Write(Option<usize>),
+    WriteMany(Option<usize>),
+    // What is left is written, and the file has so many bytes then.
+    Flush(Option<usize>),
+    Has(usize),
+    Appends(u64),
 }
 
-// A gathering of bytes over a new file, and so many bytes to write.
+// A gathering of bytes over a new file.
 #[derive(Drop)]
 struct Gathering {
     output: Output<PIECE>,
     shelf: MemoryShelf,
-    bytes: Vec<u8>,
 }
 
 impl Gathering {
-    fn new(alloc: Global, count: usize) -> Result<Gathering, AllocError> {
+    fn new(alloc: Global) -> Result<Gathering, AllocError> {
         Ok(Gathering {
             output: Output::new(alloc)?,
             shelf: MemoryShelf::new(alloc),
-            bytes: vec![in alloc; 7u8; count]?,
         })
     }
 
-    // Writes the bytes, and answers how many the file has then, where they are taken.
-    fn write(&mut self) -> Option<usize> {
-        match self.output.write(&mut self.shelf, "out", &self.bytes) {
-            Ok(()) => Some(written(&self.shelf)),
-            Err(_) => None,
-        }
-    }
-
-    // Writes what is left, and answers how many bytes the file has then, where they are taken.
-    fn flush(&mut self) -> Option<usize> {
-        match self.output.flush(&mut self.shelf, "out") {
-            Ok(()) => Some(written(&self.shelf)),
-            Err(_) => None,
-        }
-    }
-
-    fn begin(&mut self) -> bool {
-        self.shelf.begin("out").is_ok()
-    }
-
-    // Whether the file has these lengths as the bytes are written time after time.
-    fn has_lengths(&mut self, lengths: &[Option<usize>]) -> bool {
-        for length in lengths {
-            if self.write() != *length {
+    fn do_all(&mut self, steps: &[Step]) -> bool {
+        for step in steps {
+            if !self.does(step) {
                 return false;
             }
         }
         true
     }
 
-    fn appends(&self) -> u64 {
-        self.shelf.calls(Call::Append)
+    // Whether a step goes as it says.
+    fn does(&mut self, step: &Step) -> bool {
+        match *step {
+            Step::Fail => self.shelf.fail(Call::Append, 0).is_ok(),
+            Step::Begin => self.shelf.begin(NAME).is_ok(),
+            Step::Write(length) => self.write(&[7; LENGTH]) == length,
+            Step::WriteMany(length) => self.write(&[7; PIECE + LENGTH]) == length,
+            Step::Flush(length) => self.flush() == length,
+            Step::Has(length) => self.length() == length,
+            Step::Appends(count) => self.shelf.calls(Call::Append) == count,
+        }
+    }
+
+    fn write(&mut self, bytes: &[u8]) -> Option<usize> {
+        match self.output.write(&mut self.shelf, NAME, bytes) {
+            Ok(()) => Some(self.length()),
+            Err(_) => None,
+        }
+    }
+
+    fn flush(&mut self) -> Option<usize> {
+        match self.output.flush(&mut self.shelf, NAME) {
+            Ok(()) => Some(self.length()),
+            Err(_) => None,
+        }
+    }
+
+    fn length(&self) -> usize {
+        match self.shelf.get(NAME) {
+            Some(bytes) => bytes.len(),
+            None => 0,
+        }
+    }
+}
+
+// Whether memory is there and the steps go as they say, one after the other.
+fn go(alloc: Global, steps: &[Step]) -> bool {
+    match Gathering::new(alloc) {
+        Ok(mut gathering) => gathering.do_all(steps),
+        Err(_) => false,
     }
 }
 
 // The third of three pieces goes to the file as far as it makes whole pages of the first two.
-const THREE: [Option<usize>; 3] = [Some(0), Some(0), Some(25 * FILE_PAGE)];
-
-fn adds_pages(gathering: &mut Gathering) -> bool {
-    gathering.begin()
-        && gathering.has_lengths(&THREE)
-        && gathering.flush() == Some(3 * LENGTH)
-        && gathering.appends() == 2
-}
+const THREE: [Step; 6] = [
+    Step::Begin,
+    Step::Write(Some(0)),
+    Step::Write(Some(0)),
+    Step::Write(Some(25 * FILE_PAGE)),
+    Step::Flush(Some(3 * LENGTH)),
+    Step::Appends(2),
+];
 
 #[test]
-fn whole_pages_are_added_when_the_next_bytes_do_not_fit(rt: HostRuntime) -> Result<(), Fail> {
-    assert!(rt; adds_pages(&mut Gathering::new(rt.alloc(), LENGTH)?));
-    Ok(())
+fn whole_pages_are_added_when_the_next_bytes_do_not_fit(rt: HostRuntime) {
+    assert!(rt; go(rt.alloc(), &THREE));
 }
 
 // More bytes than are gathered: the end of a page, and then all whole pages.
-fn adds_many(gathering: &mut Gathering) -> bool {
-    gathering.begin()
-        && gathering.write() == Some(44 * FILE_PAGE)
-        && gathering.appends() == 1
-        && gathering.write() == Some(88 * FILE_PAGE)
-        && gathering.appends() == 3
-        && gathering.flush() == Some(2 * (PIECE + LENGTH))
-}
+const MANY: [Step; 6] = [
+    Step::Begin,
+    Step::WriteMany(Some(44 * FILE_PAGE)),
+    Step::Appends(1),
+    Step::WriteMany(Some(88 * FILE_PAGE)),
+    Step::Appends(3),
+    Step::Flush(Some(2 * (PIECE + LENGTH))),
+];
 
 #[test]
-fn many_bytes_are_added_at_once_but_for_a_part_of_a_page(rt: HostRuntime) -> Result<(), Fail> {
-    assert!(rt; adds_many(&mut Gathering::new(rt.alloc(), PIECE + LENGTH)?));
-    Ok(())
+fn many_bytes_are_added_at_once_but_for_a_part_of_a_page(rt: HostRuntime) {
+    assert!(rt; go(rt.alloc(), &MANY));
 }
-
-// The file's lengths where the first append fails in its midst.
-const FAILING: [Option<usize>; 3] = [Some(0), Some(0), None];
 
 const HALF: usize = 25 * FILE_PAGE / 2;
 
-fn leaves_front(gathering: &mut Gathering) -> bool {
-    gathering.begin()
-        && gathering.has_lengths(&FAILING)
-        && written(&gathering.shelf) == HALF
-        && gathering.flush() == Some(HALF)
-        && gathering.appends() == 1
-}
+const FAILING: [Step; 8] = [
+    Step::Fail,
+    Step::Begin,
+    Step::Write(Some(0)),
+    Step::Write(Some(0)),
+    Step::Write(None),
+    Step::Has(HALF),
+    Step::Flush(Some(HALF)),
+    Step::Appends(1),
+];
 
 #[test]
-fn a_failing_append_leaves_a_front_part_and_nothing_gathered(rt: HostRuntime) -> Result<(), Fail> {
-    let mut gathering = Gathering::new(rt.alloc(), LENGTH)?;
-    gathering.shelf.fail(Call::Append, 0)?;
-    assert!(rt; leaves_front(&mut gathering));
-    Ok(())
+fn a_failing_append_leaves_a_front_part_and_nothing_gathered(rt: HostRuntime) {
+    assert!(rt; go(rt.alloc(), &FAILING));
 }

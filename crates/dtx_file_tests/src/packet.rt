@@ -21,7 +21,11 @@ fn with_header(header: &[u8; 4]) -> Packet {
 fn the_fields_of_a_header_are_read(rt: HostRuntime) {
     for (header, sync, pid, error, counter) in &HEADERS {
         let packet = with_header(header);
-        assert!(rt; packet.sync() == *sync && packet.pid() == *pid);
-        assert!(rt; packet.error() == *error && packet.counter() == *counter);
+        assert!(rt;
+            packet.sync() == *sync
+                && packet.pid() == *pid
+                && packet.error() == *error
+                && packet.counter() == *counter
+        );
     }
 }

@@ -1,8 +1,7 @@
 // The messages of what a reader refuses.
 
 use dtx_packets::NextNo;
-use std::alloc::{AllocError, Global};
-use std::test::Fail;
+use std::alloc::Global;
 
 const MESSAGES: [(NextNo, &str); 4] = [
     (NextNo::Absent, "Absent"),
@@ -12,14 +11,16 @@ const MESSAGES: [(NextNo, &str); 4] = [
 ];
 
 /// Whether the message of a refusal is this.
-fn is_named(alloc: Global, no: &NextNo, name: &str) -> Result<bool, AllocError> {
-    Ok(format!(in alloc; "{no}")?.as_str() == name)
+fn is_named(alloc: Global, no: &NextNo, name: &str) -> bool {
+    match format!(in alloc; "{no}") {
+        Ok(message) => message.as_str() == name,
+        Err(_) => false,
+    }
 }
 
 #[test]
-fn the_message_of_a_refusal_is_its_name(rt: HostRuntime) -> Result<(), Fail> {
+fn the_message_of_a_refusal_is_its_name(rt: HostRuntime) {
     for (no, name) in &MESSAGES {
-        assert!(rt; is_named(rt.alloc(), no, name)?);
+        assert!(rt; is_named(rt.alloc(), no, name));
     }
-    Ok(())
 }
