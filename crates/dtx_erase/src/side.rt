@@ -106,7 +106,8 @@ impl Side {
         let mut bytes = [0; GROUP_BYTES];
         self.unroll.group(first, &self.levels, &mut bytes);
         self.gather.gather(&mut bytes);
-        let gathered = followed(&self.gathered, &bytes);
+        let mut gathered = [0; GATHERED];
+        join(&self.gathered, GROUP_BYTES, &bytes, &mut gathered);
         self.gathered = gathered;
     }
 
@@ -182,15 +183,6 @@ fn are_zero<const N: usize>(bytes: &[u8; N]) -> bool
         any |= bytes[i] != 0;
     }
     !any
-}
-
-/// The end of the gathered bytes, with those of a group behind them.
-fn followed(gathered: &[u8; GATHERED], bytes: &[u8; GROUP_BYTES]) -> [u8; GATHERED]
-    ensures { result ≡ drop GROUP_BYTES gathered.now ++ bytes.now }
-{
-    let mut all = [0; GATHERED];
-    join(gathered, GROUP_BYTES, bytes, &mut all);
-    all
 }
 
 /// Writes bytes from a place on, and others behind them.

@@ -46,10 +46,10 @@ impl Guesses {
     /// places are the zeros of x * x + sum * x + product.
     pub fn two(&self, syndromes: &[u8; ROOM]) -> Option<(WrongByte, WrongByte)> {
         let [a, b, c, d, e, _, _] = first_seven(syndromes);
-        let over = a.mul(c).add(b.mul(b)).pow(254);
-        let sum = a.mul(d).add(b.mul(c)).mul(over);
-        let product = b.mul(d).add(c.mul(c)).mul(over);
-        if sum.mul(d).add(product.mul(c)).0 != e.0 {
+        let over = products(a, c, b, b).pow(254);
+        let sum = products(a, d, b, c).mul(over);
+        let product = products(b, d, c, c).mul(over);
+        if products(sum, d, product, c).0 != e.0 {
             return None;
         }
         let over_sum = sum.pow(254);
@@ -65,7 +65,7 @@ impl Guesses {
         let [a, b, c, d, e, f, g] = first_seven(syndromes);
         let locator = locator_of_three(syndromes);
         let [p, q, r] = locator;
-        if p.mul(f).add(q.mul(e)).add(r.mul(d)).0 != g.0 {
+        if products(p, f, q, e).add(r.mul(d)).0 != g.0 {
             return None;
         }
         let [first, second, third] = self.zeros(&locator);
@@ -103,6 +103,12 @@ fn wrong_byte(error: Gf, power: Gf) -> WrongByte {
     }
 }
 
+/// The sum of the product of two elements and that of two others.
+#[inline(always)]
+fn products(first: Gf, by: Gf, second: Gf, times: Gf) -> Gf {
+    first.mul(by).add(second.mul(times))
+}
+
 /// The first seven syndromes as elements.
 fn first_seven(syndromes: &[u8; ROOM]) -> [Gf; 7] {
     [
@@ -120,17 +126,17 @@ fn first_seven(syndromes: &[u8; ROOM]) -> [Gf; 7] {
 /// of three syndromes of the three before it, which Cramer's rule solves.
 fn locator_of_three(syndromes: &[u8; ROOM]) -> [Gf; 3] {
     let [a, b, c, d, e, f, _] = first_seven(syndromes);
-    let one = c.mul(c).add(b.mul(d));
-    let two = c.mul(e).add(b.mul(f));
-    let three = d.mul(e).add(c.mul(f));
-    let four = d.mul(f).add(e.mul(e));
-    let five = c.mul(d).add(b.mul(e));
-    let six = d.mul(d).add(c.mul(e));
-    let over = c.mul(one).add(b.mul(five)).add(a.mul(six)).pow(254);
+    let one = products(c, c, b, d);
+    let two = products(c, e, b, f);
+    let three = products(d, e, c, f);
+    let four = products(d, f, e, e);
+    let five = products(c, d, b, e);
+    let six = products(d, d, c, e);
+    let over = products(c, one, b, five).add(a.mul(six)).pow(254);
     [
-        d.mul(one).add(b.mul(two)).add(a.mul(three)).mul(over),
-        c.mul(two).add(d.mul(five)).add(a.mul(four)).mul(over),
-        c.mul(three).add(b.mul(four)).add(d.mul(six)).mul(over),
+        products(d, one, b, two).add(a.mul(three)).mul(over),
+        products(c, two, d, five).add(a.mul(four)).mul(over),
+        products(c, three, b, four).add(d.mul(six)).mul(over),
     ]
 }
 

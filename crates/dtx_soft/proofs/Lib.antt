@@ -12,6 +12,7 @@ pub mod Lanes
 pub mod Units
 pub mod SquareTests
 pub mod SquareGaps
+pub mod NearerSymbols
 pub mod GapSteps
 pub mod Wraps
 pub mod SmallSquares

@@ -9,10 +9,8 @@ use Rattle.dtx_lists.proofs.Below.{at_below}
 use Rattle.dtx_soft.specs.Gaps.{AreGaps, nearer_level, nearer_square, row_of, tie_of, unit}
 use Rattle.dtx_soft.specs.Nearest.{IsTieBreak}
 use Rattle.dtx_soft.specs.Squares.{across_of, even_of, odd_of, seen}
-use Rattle.dtx_soft.proofs.SquareTests.{all_pass, formulas_pass, have_gaps, have_symbols, is_tied}
+use Rattle.dtx_soft.proofs.SquareTests.{all_pass, formulas_pass, have_gaps, is_tied}
 use Rattle.dtx_soft.proofs.SquareTests.{level_by, levels_pass, lifted, passes, squares_pass}
-use Rattle.dtx_soft.specs.Paths.{symbol_at}
-use Rattle.dtx_soft.specs.Trace.{nearer_symbol}
 use Rattle.dtx_soft.proofs.Writes.{four}
 
 both : (a b : Bool) → (a && b) ≡ true → (a ≡ true) × (b ≡ true)
@@ -54,13 +52,9 @@ pub record AreTested (scale : ℕ) (symbol : ℤ) : Type 0 where
   pub odd_tied : odd_of scale (seen scale symbol) (pos 1)
       ≡ odd_of scale (seen scale symbol) (pos 0) +ℤ pos (tie_of scale symbol 1)
   pub small : (z : ℕ) → z < 4 → nearer_square scale symbol z ≤ 64516
-  pub first_nearer : nearer_symbol scale symbol 0 0 ≡ symbol_at scale (nearer_level scale symbol 0)
-  pub second_nearer : nearer_symbol scale symbol 1 0 ≡ symbol_at scale (nearer_level scale symbol 1)
-  pub third_nearer : nearer_symbol scale symbol 0 1 ≡ symbol_at scale (nearer_level scale symbol 2)
-  pub fourth_nearer : nearer_symbol scale symbol 1 1 ≡ symbol_at scale (nearer_level scale symbol 3)
 
 opened : (scale : ℕ) (symbol : ℤ) → passes scale symbol ≡ true → AreTested scale symbol
-unfolding passes formulas_pass squares_pass levels_pass level_by have_gaps is_tied have_symbols
+unfolding passes formulas_pass squares_pass levels_pass level_by have_gaps is_tied
 opened scale symbol t =
     let gaps = both _ _ t in
     let a = both _ _ gaps.0 in
@@ -70,21 +64,13 @@ opened scale symbol t =
     let e = both _ _ d.1 in
     let f = both _ _ e.1 in
     let even = both _ _ gaps.1 in
-    let odd = both _ _ even.1 in
-    let first = both _ _ odd.1 in
-    let third = both _ _ first.1 in
-    let second = both _ _ third.1 in
     record {
       first = same_numbers _ _ a.0;
       second = same_numbers _ _ b.0;
       third = same_numbers _ _ c.0;
       even_tied = same_integers _ _ even.0;
-      odd_tied = same_integers _ _ odd.0;
+      odd_tied = same_integers _ _ even.1;
       small = four _ (at_most _ _ d.0) (at_most _ _ e.0) (at_most _ _ f.0) (at_most _ _ f.1);
-      first_nearer = same_integers _ _ first.0;
-      second_nearer = same_integers _ _ second.0;
-      third_nearer = same_integers _ _ third.0;
-      fourth_nearer = same_integers _ _ second.1;
     }
 
 pub are_tested : (scale : ℕ) (symbol : ℤ) → scale ≤ 18 → pos 0 ≤ℤ (symbol +ℤ pos 128) → symbol ≤ℤ pos 127
@@ -146,21 +132,3 @@ unfolding row_of
 row_tie scale symbol zero l = tie_is (nearer_level scale symbol 0) (nearer_level scale symbol 2)
 row_tie scale symbol (suc zero) l = tie_is (nearer_level scale symbol 1) (nearer_level scale symbol 3)
 row_tie scale symbol (suc (suc z)) l = absurd (omega arith)
-
-nearer_by_bits : (scale : ℕ) (symbol : ℤ) (q1 pair : ℕ) → AreTested scale symbol → q1 < 2 → pair < 2
-    → nearer_symbol scale symbol q1 pair ≡ symbol_at scale (get_or (row_of scale symbol).levels (q1 + 2 * pair) 0)
-unfolding row_of
-nearer_by_bits scale symbol zero zero t k m = t.first_nearer
-nearer_by_bits scale symbol zero (suc zero) t k m = t.third_nearer
-nearer_by_bits scale symbol (suc zero) zero t k m = t.second_nearer
-nearer_by_bits scale symbol (suc zero) (suc zero) t k m = t.fourth_nearer
-nearer_by_bits scale symbol zero (suc (suc pair)) t k m = absurd (omega arith)
-nearer_by_bits scale symbol (suc zero) (suc (suc pair)) t k m = absurd (omega arith)
-nearer_by_bits scale symbol (suc (suc q1)) pair t k m = absurd (omega arith)
-
--- the nearer symbol is that of the row's level
-pub nearer_is_symbol : (scale : ℕ) (symbol : ℤ) (q1 pair : ℕ) → scale ≤ 18 → pos 0 ≤ℤ (symbol +ℤ pos 128)
-    → symbol ≤ℤ pos 127 → q1 < 2 → pair < 2
-    → nearer_symbol scale symbol q1 pair ≡ symbol_at scale (get_or (row_of scale symbol).levels (q1 + 2 * pair) 0)
-nearer_is_symbol scale symbol q1 pair l from to k m =
-    nearer_by_bits scale symbol q1 pair (are_tested scale symbol l from to) k m

@@ -7,7 +7,6 @@ use Rattle.dtx_lists.proofs.Below.{holds_below}
 use Rattle.dtx_soft.specs.Gaps.{unit}
 use Rattle.dtx_soft.specs.Paths.{squared, symbol_at}
 use Rattle.dtx_soft.specs.Squares.{across_of, even_of, odd_of, seen}
-use Rattle.dtx_soft.specs.Trace.{nearer_symbol}
 
 abbrev pub lifted : ℤ → ℕ
 lifted x = nat_abs (pos 2048 +ℤ x)
@@ -24,33 +23,23 @@ have_gaps unit a b c d even odd across =
 unfoldable pub is_tied : (gap tied : ℤ) (first second : ℕ) → Bool
 is_tied gap tied first second = int_eq tied (gap +ℤ pos (cond (nat_lt second first) 1 0))
 
--- whether the nearer symbols are those of the nearer levels
-unfoldable pub have_symbols : (scale : ℕ) (symbol : ℤ) (a b c d : ℕ) → Bool
-have_symbols scale symbol a b c d =
-    int_eq (nearer_symbol scale symbol 0 0) (symbol_at scale a)
-    && (int_eq (nearer_symbol scale symbol 0 1) (symbol_at scale c)
-    && (int_eq (nearer_symbol scale symbol 1 0) (symbol_at scale b)
-    && int_eq (nearer_symbol scale symbol 1 1) (symbol_at scale d)))
-
 -- the nearer of two levels, from their squares
 unfoldable pub level_by : (square other z : ℕ) → ℕ
 level_by square other z = cond (nat_le square other) z (z + 4)
 
 -- all of it, from the levels and the formulas
-unfoldable pub levels_pass : (scale : ℕ) (symbol even odd even_tied odd_tied : ℤ) (a b c d : ℕ) → Bool
-levels_pass scale symbol even odd even_tied odd_tied a b c d =
-    is_tied even even_tied a c && (is_tied odd odd_tied b d && have_symbols scale symbol a b c d)
+unfoldable pub levels_pass : (even odd even_tied odd_tied : ℤ) (a b c d : ℕ) → Bool
+levels_pass even odd even_tied odd_tied a b c d = is_tied even even_tied a c && is_tied odd odd_tied b d
 
 -- and from the squares
-unfoldable pub squares_pass : (scale : ℕ) (symbol even odd across even_tied odd_tied : ℤ) (a b c d e f g h : ℕ) → Bool
-squares_pass scale symbol even odd across even_tied odd_tied a b c d e f g h =
+unfoldable pub squares_pass : (scale : ℕ) (even odd across even_tied odd_tied : ℤ) (a b c d e f g h : ℕ) → Bool
+squares_pass scale even odd across even_tied odd_tied a b c d e f g h =
     have_gaps (unit scale) (min a e) (min b f) (min c g) (min d h) even odd across
-    && levels_pass scale symbol even odd even_tied odd_tied (level_by a e 0) (level_by b f 1) (level_by c g 2)
-    (level_by d h 3)
+    && levels_pass even odd even_tied odd_tied (level_by a e 0) (level_by b f 1) (level_by c g 2) (level_by d h 3)
 
 unfoldable pub formulas_pass : (scale : ℕ) (symbol seen : ℤ) → Bool
 formulas_pass scale symbol seen =
-    squares_pass scale symbol (even_of scale seen (pos 0)) (odd_of scale seen (pos 0)) (across_of scale seen)
+    squares_pass scale (even_of scale seen (pos 0)) (odd_of scale seen (pos 0)) (across_of scale seen)
     (even_of scale seen (pos 1)) (odd_of scale seen (pos 1)) (squared symbol (symbol_at scale 0))
     (squared symbol (symbol_at scale 1)) (squared symbol (symbol_at scale 2)) (squared symbol (symbol_at scale 3))
     (squared symbol (symbol_at scale 4)) (squared symbol (symbol_at scale 5)) (squared symbol (symbol_at scale 6))
@@ -60,5 +49,5 @@ unfoldable pub passes : ℕ → ℤ → Bool
 passes scale symbol = formulas_pass scale symbol (seen scale symbol)
 
 pub all_pass : holds_below (λ k. passes (k / 256) (pos (k % 256) -ℤ pos 128)) 4864 ≡ true
-unfolding squared symbol_at passes formulas_pass squares_pass levels_pass level_by have_gaps is_tied have_symbols
+unfolding squared symbol_at passes formulas_pass squares_pass levels_pass level_by have_gaps is_tied
 all_pass = refl

@@ -15,7 +15,7 @@ use Rattle.dtx_soft.specs.Paths.{distance, next_state, squared, symbol_at}
 use Rattle.dtx_soft.specs.Trace.{IsNext, IsStart, pair_of}
 use Rattle.dtx_soft.proofs.Paths.{nothing_least, one_more}
 use Rattle.dtx_soft.proofs.Rows.{row_is}
-use Rattle.dtx_soft.proofs.SquareGaps.{nearer_is_symbol}
+use Rattle.dtx_soft.proofs.NearerSymbols.{nearer_is_symbol}
 use Rattle.dtx_soft.proofs.Starts.{least_from_start}
 use Rattle.dtx_soft.proofs.Steps.{IsFirstLeast, next_pair, next_taken, taken_first_least}
 
@@ -76,7 +76,7 @@ goes_further scale symbols now t marks old new written small l n m next u = reco
       (u.goes_on (level ∷ rest) (longer rest
       (subst (λ s. IsLeastFrom scale (drop (t + 1) symbols) s rest) state_is h)));
   written = take_more_set now t written (omega (arith, n)) ∙ ap₂ (λ (xs ys : List ℤ). xs ++ ys) u.written
-      (ap (λ x. x ∷ []) (next.written_is ∙ nearer_is_symbol scale v old.q1 pair small next.from next.to u.q1
+      (ap (λ x. x ∷ []) (next.written_is ∙ nearer_is_symbol scale v old.q1 pair u.q1
       (omega arith))) ∙ sym (map-append (symbol_at scale) u.levels (level ∷ []));
   cost = next.cost ∙ ap (λ n. n + squared v written) u.cost
       ∙ sym (distance-more (take t symbols) (take t now) v written (omega (arith, front t symbols, front t now)))

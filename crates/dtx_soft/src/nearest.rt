@@ -1,10 +1,8 @@
 //! For each symbol and each two levels with one next state, the nearer one.
 
-ghost use Rattle.std.specs.Prelude.{◌≡◌, ◌<◌, ◌≤◌, pos, ◌+ℤ◌, ◌≤ℤ◌, IfOk, length, vec_len};
+ghost use Rattle.std.specs.Prelude.{◌≡◌, ◌<◌, ◌≤◌, pos, ◌+ℤ◌, ◌≤ℤ◌, length};
 ghost use Rattle.dtx_soft.specs.Paths.{squared, symbol_at};
 ghost use Rattle.dtx_soft.specs.Nearest.{AreNearest, IsNearest, IsTable, IsTieBreak};
-
-use std::alloc::{AllocError, Global};
 
 /// How many levels there are.
 pub(crate) const LEVELS: u8 = 8;
@@ -28,33 +26,18 @@ pub(crate) struct Nearest {
 }
 
 /// How many symbols there are, from -128 to 127.
-const SYMBOLS: usize = 256;
+pub(crate) const SYMBOLS: usize = 256;
 
-/// The rows of all symbols; that of symbol v is number v + 128.
-pub(crate) fn rows_of(alloc: Global, scale: u8) -> Result<Vec<Nearest>, AllocError>
-    requires { scale ≤ MAX_SCALE }
-    ensures { IfOk result (λ rows. IsTable scale rows.items) }
-{
-    let mut rows = empty_rows(alloc)?;
-    fill(&mut rows[..], scale);
-    Ok(rows)
-}
+/// A row of zeros.
+pub(crate) const EMPTY: Nearest = Nearest {
+    levels: [0; 4],
+    squares: [0; 4],
+    tie_breaks: [0; 2],
+    filler: 0,
+};
 
-/// As many rows of zeros as there are symbols.
-fn empty_rows(alloc: Global) -> Result<Vec<Nearest>, AllocError>
-    ensures { IfOk result (λ rows. vec_len rows ≡ SYMBOLS) }
-{
-    let empty = Nearest {
-        levels: [0; 4],
-        squares: [0; 4],
-        tie_breaks: [0; 2],
-        filler: 0,
-    };
-    vec![in alloc; empty; SYMBOLS]
-}
-
-/// Writes the rows of all symbols.
-fn fill(rows: &mut [Nearest], scale: u8)
+/// Writes the rows of all symbols; that of symbol v is number v + 128.
+pub(crate) fn fill(rows: &mut [Nearest], scale: u8)
     requires scale { scale ≤ MAX_SCALE }
     requires long { length rows.old ≡ SYMBOLS }
     ensures { IsTable scale rows.new }

@@ -4,7 +4,7 @@ ghost use Rattle.std.specs.Prelude.{◌≡◌, ◌≤◌, IfOk};
 ghost use Rattle.dtx_soft.specs.Nearest.{AreNearest, IsTable};
 ghost use Rattle.dtx_soft.specs.declared.nearest.TheConstants.{MAX_SCALE};
 
-use crate::nearest::{MAX_SCALE, Nearest, rows_of};
+use crate::nearest::{EMPTY, MAX_SCALE, Nearest, SYMBOLS, fill};
 use std::alloc::{AllocError, Global};
 
 /// For each symbol the nearer of each two levels with one next state.
@@ -22,10 +22,9 @@ impl Table {
         requires { scale ≤ MAX_SCALE }
         ensures { IfOk result (λ table. table.scale ≡ scale) }
     {
-        Ok(Table {
-            scale,
-            rows: rows_of(alloc, scale)?,
-        })
+        let mut rows = vec![in alloc; EMPTY; SYMBOLS]?;
+        fill(&mut rows[..], scale);
+        Ok(Table { scale, rows })
     }
 
     /// The row of a symbol.

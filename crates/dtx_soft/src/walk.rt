@@ -13,7 +13,7 @@ use crate::table::Table;
 use std::simd::prelude::*;
 
 /// A least path's cost and the state that it starts from.
-#[derive(Clone, Copy, Debug, PartialEq, Eq)]
+#[derive(Clone, Copy)]
 pub struct Found {
     /// The sum of the squares of what each symbol is off its level.
     pub cost: u32,

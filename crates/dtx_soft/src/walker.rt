@@ -43,7 +43,7 @@ impl Walker {
         ensures potentials { HoldPotentials self.old.table.scale symbols.now self.new.potentials.items }
         ensures table { self.new.table ≡ self.old.table }
     {
-        find_into(&self.table, symbols, &mut self.potentials, levels)
+        find(&self.table, symbols, &mut self.potentials[..], levels)
     }
 
     /// Writes the potentials of symbols to the front of their table.
@@ -52,35 +52,6 @@ impl Walker {
         ensures potentials { HoldPotentials self.old.table.scale symbols.now self.new.potentials.items }
         ensures table { self.new.table ≡ self.old.table }
     {
-        hold_in(&self.table, symbols, &mut self.potentials);
+        fill_potentials(&self.table, symbols, &mut self.potentials[..]);
     }
-}
-
-/// Writes the potentials to a list, and nothing else.
-fn hold_in(table: &Table, symbols: &[i8], potentials: &mut Vec<[u32; 4]>)
-    requires few { length symbols.now ≤ MAX_SYMBOLS }
-    requires entries { vec_len potentials.old ≡ ENTRIES }
-    ensures potentials { HoldPotentials table.now.scale symbols.now potentials.new.items }
-    ensures entries { vec_len potentials.new ≡ ENTRIES }
-{
-    fill_potentials(table, symbols, &mut potentials[..]);
-}
-
-/// Writes the potentials to a list.
-fn find_into(
-    table: &Table,
-    symbols: &[i8],
-    potentials: &mut Vec<[u32; 4]>,
-    levels: &mut [u8],
-) -> Found
-    requires few { length symbols.now ≤ MAX_SYMBOLS }
-    requires entries { vec_len potentials.old ≡ ENTRIES }
-    requires room { length levels.old ≡ length symbols.now }
-    ensures least { IsLeast table.now.scale symbols.now result.start levels.new }
-    ensures cost { result.cost ≡ cost table.now.scale symbols.now levels.new }
-    ensures small { EachIndex levels.new (λ t. slice_index levels.new t < LEVELS) }
-    ensures potentials { HoldPotentials table.now.scale symbols.now potentials.new.items }
-    ensures entries { vec_len potentials.new ≡ ENTRIES }
-{
-    find(table, symbols, &mut potentials[..], levels)
 }
