@@ -193,8 +193,8 @@ fn ends(receiver: &mut Receiver, batch: &mut Batch) -> bool {
         && begins(receiver, batch)
 }
 
-/// Whether a run begins at its field sync, and ends so, and a field sync behind the next one's is data, of which nothing
-/// is given.
+/// Whether a run begins at its field sync, and ends so, and a field sync behind the next one's is data, of which
+/// nothing is given.
 fn runs(receiver: &mut Receiver) -> bool {
     let mut batch = Batch::new();
     let searching = receiver.take(&noise(0), &mut batch) == Tracking::Searching;
