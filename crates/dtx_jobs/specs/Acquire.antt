@@ -1,6 +1,7 @@
 -- What `acquire SCALE IN OUT` means: the segments that are acquired of the symbols of a capture (the profile's own).
 use Rattle.std.specs.Prelude.{ℕ, ℤ, ◌-◌, ◌*◌, ◌==◌, true, if◌then◌else◌, Option, Some, None, List, []}
 use Rattle.std.specs.Prelude.{◌∷◌, length}
+use Rattle.std.specs.Str.{bytes_eq}
 use Rattle.dtx_acquire.specs.Acquired.{acquired, acquired_cost, acquired_rest, acquired_runs, acquired_so_far}
 use Rattle.dtx_engine.specs.Made.{only}
 use Rattle.dtx_engine.specs.Recipe.{Recipe, transformed}
@@ -9,11 +10,12 @@ use Rattle.dtx_meaning.specs.Meaning.{Meaning, refused}
 use Rattle.dtx_meaning.specs.Status.{ended}
 use Rattle.dtx_meaning.specs.declared.status.Outcome.{Outcome}
 use Rattle.dtx_meaning.specs.declared.status.Status.TheVariants.{Done, NoSync, Usage}
+use Rattle.dtx_outside.specs.Counts.{Counts}
 use Rattle.dtx_outside.specs.Shelf.{Files}
 use Rattle.dtx_words.specs.Number.{number_within}
 use Rattle.dtx_words.specs.declared.rows.Command.TheVariants.{Acquire}
-use Rattle.dtx_forms.specs.Job.{Job}
-use Rattle.dtx_forms.specs.OfWords.{acquire_same}
+use Rattle.dtx_forms.specs.Job.{IsPerformed, Job}
+use Rattle.dtx_forms.specs.OfWords.{acquire_same, number_same}
 use Rattle.dtx_forms.specs.Shapes as shapes
 use Rattle.dtx_jobs.specs.SymbolFile.{symbols}
 
@@ -54,3 +56,9 @@ acquire_meaning words held = refused Usage
 -- the command `acquire SCALE IN OUT`
 abbrev pub acquire_job : Job
 acquire_job = record { command = Acquire; means = acquire_meaning; same = acquire_same; inputs = 1 }
+
+-- it was done, whatever the first word is, where the scale fits or there is none
+pub record IsAcquired (scale : Option ℕ) (input output : List ℕ) (outcome : Outcome) (told now : Option Files)
+    (before after : Counts) : Type 0 where
+  pub performed : IsPerformed Acquire (acquire_at scale input output) (number_same scale (bytes_eq input output)) 1
+      outcome told now before after

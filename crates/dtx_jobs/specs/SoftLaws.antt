@@ -191,17 +191,64 @@ follows_at s o e = subst (IsFollowed s) (pending_is s o e) (follows s)
 nothing_before : (s : List (List ℤ)) → length s - 0 ≡ length s
 nothing_before s = omega arith
 
+-- what is ahead with one segment more: all that was, and behind it so many of the n segments that were not, and that
+-- one
+record IsAhead (s : List (List ℤ)) (x : List ℤ) (n more : ℕ) : Type 0 where
+  followed : IsFollowed s n
+  all : ahead (s ++ x ∷ []) ≡ (length s - n) + more
+  own : length s - n ≡ ahead s
+
+ahead_copied : (s : List (List ℤ)) (x : List ℤ) → next_place s ≡ None → IsAhead s x 0 1
+ahead_copied s x e = record {
+  followed = follows_at s None e;
+  all = omega (arith, pending_copied s x e, length_push s x);
+  own = omega (arith, pending_is s None e);
+}
+
+ahead_kept : (s : List (List ℤ)) (x : List ℤ) (p : ℕ) → next_place s ≡ Some p → p + 1 < 312 → IsAhead s x p 0
+ahead_kept s x p e l =
+    let on = pending_is (s ++ x ∷ []) (Some (p + 1)) (place_on s x p e l) in
+    record {
+      followed = follows_at s (Some p) e;
+      all = omega (arith, on, length_push s x);
+      own = omega (arith, pending_is s (Some p) e);
+    }
+
+ahead_full : (s : List (List ℤ)) (x : List ℤ) → next_place s ≡ Some 311 → IsAhead s x 311 312
+ahead_full s x e =
+    let f = follows_at s (Some 311) e in
+    let within = f.within in
+    let on = pending_is (s ++ x ∷ []) None (place_ends s x e) in
+    record {
+      followed = f;
+      all = omega (arith, on, within, length_push s x);
+      own = omega (arith, pending_is s (Some 311) e);
+    }
+
+-- the field that is full with the segment
+full_field : (s : List (List ℤ)) (x : List ℤ) → next_place s ≡ Some 311 → IsFollowed s 311
+    → IsField (s ++ x ∷ []) (length s - 311) 312
+full_field s x e f = field_of (length (s ++ x ∷ []) - 312) (omega (arith, length_push s x))
+    (followed_field (s ++ x ∷ []) 312 (follows_on s x 311 f e) (omega arith))
+  where
+    field_of : (n : ℕ) → n ≡ length s - 311 → IsField (s ++ x ∷ []) n 312 → IsField (s ++ x ∷ []) (length s - 311) 312
+    field_of n e h = subst (λ n. IsField (s ++ x ∷ []) n 312) e h
+
+-- and its segments
+full_rows : (s : List (List ℤ)) (x : List ℤ) → IsAhead s x 311 312
+    → drop (length s - 311) (s ++ x ∷ []) ≡ drop (ahead s) s ++ x ∷ []
+full_rows s x h = drop-append-le (length s - 311) s (x ∷ []) (omega arith) ∙ ap (λ n. drop n s ++ x ∷ []) h.own
+
 pub so_far_copied : (s : List (List ℤ)) (x : List ℤ) → next_place s ≡ None
     → soft_so_far (s ++ x ∷ []) ≡ soft_so_far s ++ x ∷ []
 unfolding soft_so_far soft_at
 so_far_copied s x e =
-    let all : ahead (s ++ x ∷ []) ≡ (length s - 0) + 1 = omega (arith, pending_copied s x e, length_push s x) in
-    let own : length s - 0 ≡ ahead s = omega (arith, pending_is s None e) in
+    let h = ahead_copied s x e in
     let zero_on : 0 + (length s - 0) ≡ length s = omega arith in
-    ap (λ n. map (soft_at (s ++ x ∷ [])) (range_with_len 0 n)) all
+    ap (λ n. map (soft_at (s ++ x ∷ [])) (range_with_len 0 n)) h.all
     ∙ ap (map (soft_at (s ++ x ∷ []))) (range_with_len-parts 0 (length s - 0) 1)
     ∙ map-append (soft_at (s ++ x ∷ [])) (range_with_len 0 (length s - 0)) (range_with_len (0 + (length s - 0)) 1)
-    ∙ ap₂ ◌++◌ (so_far_stays s (x ∷ []) 0 (follows_at s None e) ∙ ap (λ n. map (soft_at s) (range_with_len 0 n)) own)
+    ∙ ap₂ ◌++◌ (so_far_stays s (x ∷ []) 0 h.followed ∙ ap (λ n. map (soft_at s) (range_with_len 0 n)) h.own)
     (ap (λ n. map (soft_at (s ++ x ∷ [])) (range_with_len n 1)) zero_on
     ∙ ap (λ (y : List ℤ). y ∷ []) (ap (soft_from (s ++ x ∷ []) (length s)) (at_push s x (length s) refl ∙ e)
     ∙ get_or-append_seam s x [] []))
@@ -210,37 +257,23 @@ pub so_far_kept : (s : List (List ℤ)) (x : List ℤ) (p : ℕ) → next_place 
     → soft_so_far (s ++ x ∷ []) ≡ soft_so_far s
 unfolding soft_so_far
 so_far_kept s x p e l =
-    let f = follows_at s (Some p) e in
-    let on = pending_is (s ++ x ∷ []) (Some (p + 1)) (place_on s x p e l) in
-    let all : ahead (s ++ x ∷ []) ≡ length s - p = omega (arith, on, length_push s x) in
-    let own : length s - p ≡ ahead s = omega (arith, pending_is s (Some p) e) in
+    let h = ahead_kept s x p e l in
+    let all : ahead (s ++ x ∷ []) ≡ length s - p = omega (arith, h.all) in
     ap (λ n. map (soft_at (s ++ x ∷ [])) (range_with_len 0 n)) all
-    ∙ so_far_stays s (x ∷ []) p f ∙ ap (λ n. map (soft_at s) (range_with_len 0 n)) own
+    ∙ so_far_stays s (x ∷ []) p h.followed ∙ ap (λ n. map (soft_at s) (range_with_len 0 n)) h.own
 
 pub so_far_full : (s : List (List ℤ)) (x : List ℤ) → next_place s ≡ Some 311
     → soft_so_far (s ++ x ∷ []) ≡ soft_so_far s ++ flushed (drop (ahead s) s ++ x ∷ [])
 unfolding soft_so_far
 so_far_full s x e =
-    let f = follows_at s (Some 311) e in
-    let within = f.within in
-    let on = pending_is (s ++ x ∷ []) None (place_ends s x e) in
-    let field : IsField (s ++ x ∷ []) (length s - 311) 312 =
-    field_of (length (s ++ x ∷ []) - 312) (omega (arith, length_push s x))
-    (followed_field (s ++ x ∷ []) 312 (follows_on s x 311 f e) (omega arith)) in
-    let all : ahead (s ++ x ∷ []) ≡ (length s - 311) + 312 = omega (arith, on, length_push s x) in
-    let own : length s - 311 ≡ ahead s = omega (arith, pending_is s (Some 311) e) in
+    let h = ahead_full s x e in
     let zero_on : 0 + (length s - 311) ≡ length s - 311 = omega arith in
-    ap (λ n. map (soft_at (s ++ x ∷ [])) (range_with_len 0 n)) all
+    ap (λ n. map (soft_at (s ++ x ∷ [])) (range_with_len 0 n)) h.all
     ∙ ap (map (soft_at (s ++ x ∷ []))) (range_with_len-parts 0 (length s - 311) 312)
     ∙ map-append (soft_at (s ++ x ∷ [])) (range_with_len 0 (length s - 311)) (range_with_len (0 + (length s - 311)) 312)
-    ∙ ap₂ ◌++◌ (so_far_stays s (x ∷ []) 311 f ∙ ap (λ n. map (soft_at s) (range_with_len 0 n)) own)
+    ∙ ap₂ ◌++◌ (so_far_stays s (x ∷ []) 311 h.followed ∙ ap (λ n. map (soft_at s) (range_with_len 0 n)) h.own)
     (ap (λ n. map (soft_at (s ++ x ∷ [])) (range_with_len n 312)) zero_on
-    ∙ field_soft (s ++ x ∷ []) (length s - 311) 312 field
-    ∙ ap flushed (drop-append-le (length s - 311) s (x ∷ []) (omega arith)
-    ∙ ap (λ n. drop n s ++ x ∷ []) own))
-  where
-    field_of : (n : ℕ) → n ≡ length s - 311 → IsField (s ++ x ∷ []) n 312 → IsField (s ++ x ∷ []) (length s - 311) 312
-    field_of n e h = subst (λ n. IsField (s ++ x ∷ []) n 312) e h
+    ∙ field_soft (s ++ x ∷ []) (length s - 311) 312 (full_field s x e h.followed) ∙ ap flushed (full_rows s x h))
 
 pending_few : (s : List (List ℤ)) → pending s ≤ 312
 pending_few s = by_place (next_place s) refl
@@ -318,13 +351,11 @@ field_sum_more count s m n =
 pub count_copied : (count : List (List ℤ) → ℕ) (s : List (List ℤ)) (x : List ℤ) → next_place s ≡ None
     → field_sum count (s ++ x ∷ []) (ahead (s ++ x ∷ [])) ≡ field_sum count s (ahead s)
 count_copied count s x e =
-    let all : ahead (s ++ x ∷ []) ≡ (length s - 0) + 1 = omega (arith, pending_copied s x e, length_push s x) in
-    let own : length s - 0 ≡ ahead s = omega (arith, pending_is s None e) in
+    let h = ahead_copied s x e in
     let here : count_at count (s ++ x ∷ []) (length s - 0) ≡ 0 =
     ap (count_from count (s ++ x ∷ []) (length s - 0)) (at_push s x (length s - 0) (omega arith) ∙ e) in
-    ap (field_sum count (s ++ x ∷ [])) all ∙ field_sum_more count (s ++ x ∷ []) (length s - 0) 1
-    ∙ ap₂ (λ a b. a + b)
-    (field_sum_stays count s (x ∷ []) 0 (follows_at s None e) ∙ ap (field_sum count s) own)
+    ap (field_sum count (s ++ x ∷ [])) h.all ∙ field_sum_more count (s ++ x ∷ []) (length s - 0) 1
+    ∙ ap₂ (λ a b. a + b) (field_sum_stays count s (x ∷ []) 0 h.followed ∙ ap (field_sum count s) h.own)
     (none_counts (count_at count (s ++ x ∷ [])) (length s - 0) 1
     (λ i a b. (let same : length s - 0 ≡ i = omega arith in ap (count_at count (s ++ x ∷ [])) (sym same) ∙ here)))
     ∙ nothing_more (field_sum count s (ahead s))
@@ -335,33 +366,21 @@ count_copied count s x e =
 pub count_kept : (count : List (List ℤ) → ℕ) (s : List (List ℤ)) (x : List ℤ) (p : ℕ) → next_place s ≡ Some p
     → p + 1 < 312 → field_sum count (s ++ x ∷ []) (ahead (s ++ x ∷ [])) ≡ field_sum count s (ahead s)
 count_kept count s x p e l =
-    let f = follows_at s (Some p) e in
-    let on = pending_is (s ++ x ∷ []) (Some (p + 1)) (place_on s x p e l) in
-    let all : ahead (s ++ x ∷ []) ≡ length s - p = omega (arith, on, length_push s x) in
-    let own : length s - p ≡ ahead s = omega (arith, pending_is s (Some p) e) in
-    ap (field_sum count (s ++ x ∷ [])) all ∙ field_sum_stays count s (x ∷ []) p f ∙ ap (field_sum count s) own
+    let h = ahead_kept s x p e l in
+    let all : ahead (s ++ x ∷ []) ≡ length s - p = omega (arith, h.all) in
+    ap (field_sum count (s ++ x ∷ [])) all ∙ field_sum_stays count s (x ∷ []) p h.followed
+    ∙ ap (field_sum count s) h.own
 
 pub count_full : (count : List (List ℤ) → ℕ) (s : List (List ℤ)) (x : List ℤ) → next_place s ≡ Some 311
     → count [] ≡ 0
     → field_sum count (s ++ x ∷ []) (ahead (s ++ x ∷ []))
     ≡ field_sum count s (ahead s) + count (groups_in (drop (ahead s) s ++ x ∷ []))
 count_full count s x e none =
-    let f = follows_at s (Some 311) e in
-    let within = f.within in
-    let on = pending_is (s ++ x ∷ []) None (place_ends s x e) in
-    let field : IsField (s ++ x ∷ []) (length s - 311) 312 =
-    field_of (length (s ++ x ∷ []) - 312) (omega (arith, length_push s x))
-    (followed_field (s ++ x ∷ []) 312 (follows_on s x 311 f e) (omega arith)) in
-    let all : ahead (s ++ x ∷ []) ≡ (length s - 311) + 312 = omega (arith, on, length_push s x) in
-    let own : length s - 311 ≡ ahead s = omega (arith, pending_is s (Some 311) e) in
-    ap (field_sum count (s ++ x ∷ [])) all ∙ field_sum_more count (s ++ x ∷ []) (length s - 311) 312
-    ∙ ap₂ (λ a b. a + b) (field_sum_stays count s (x ∷ []) 311 f ∙ ap (field_sum count s) own)
-    (field_counts count (s ++ x ∷ []) (length s - 311) 312 field none
-    ∙ ap (λ rows. count (groups_in rows)) (drop-append-le (length s - 311) s (x ∷ []) (omega arith)
-    ∙ ap (λ n. drop n s ++ x ∷ []) own))
-  where
-    field_of : (n : ℕ) → n ≡ length s - 311 → IsField (s ++ x ∷ []) n 312 → IsField (s ++ x ∷ []) (length s - 311) 312
-    field_of n e h = subst (λ n. IsField (s ++ x ∷ []) n 312) e h
+    let h = ahead_full s x e in
+    ap (field_sum count (s ++ x ∷ [])) h.all ∙ field_sum_more count (s ++ x ∷ []) (length s - 311) 312
+    ∙ ap₂ (λ a b. a + b) (field_sum_stays count s (x ∷ []) 311 h.followed ∙ ap (field_sum count s) h.own)
+    (field_counts count (s ++ x ∷ []) (length s - 311) 312 (full_field s x e h.followed) none
+    ∙ ap (λ rows. count (groups_in rows)) (full_rows s x h))
 
 pub count_rest : (count : List (List ℤ) → ℕ) (s : List (List ℤ)) → count [] ≡ 0
     → field_sum count s (length s) ≡ field_sum count s (ahead s) + count (groups_in (drop (ahead s) s))

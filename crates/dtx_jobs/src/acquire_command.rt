@@ -1,13 +1,7 @@
 // `acquire SCALE IN OUT`: the segments of a capture of symbols that begins anywhere.
 ghost use Rattle.std.specs.Prelude.{◌<◌, ◌≤◌, Some};
-ghost use Rattle.std.specs.Str.{bytes_eq};
-ghost use Rattle.dtx_engine.specs.Recipe.{transformed};
-ghost use Rattle.dtx_words.specs.Number.{number_within};
-ghost use Rattle.dtx_words.specs.declared.rows.Command.TheVariants as command;
-ghost use Rattle.dtx_jobs.specs.Acquire.{acquire_at, acquire_job, acquiring};
-ghost use Rattle.dtx_forms.specs.Job.{IsPerformed, IsJobPerformed};
-ghost use Rattle.dtx_forms.specs.OfWords.{number_same};
-ghost use Rattle.dtx_forms.specs.Shapes as shapes;
+ghost use Rattle.dtx_forms.specs.Job.{IsJobPerformed};
+ghost use Rattle.dtx_jobs.specs.Acquire.{IsAcquired, acquire_job};
 
 use crate::acquisition::Acquisition;
 use dtx_engine::transform;
@@ -27,35 +21,13 @@ pub fn acquire<S: Shelf>(alloc: Global, words: &[Word], shelf: &mut S) -> Outcom
         (S.counts shelf.old) (S.counts shelf.new) }
 {
     match words {
-        [_, scale, input, output] => {
-            acquire_read(
-                alloc,
-                scale.as_str(),
-                input.as_str(),
-                output.as_str(),
-                shelf,
-            )
-        }
+        [_, scale, input, output] => match number_within(1, MAX_SCALE as u64, scale.as_str()) {
+            Some(scale) => {
+                acquire_files(alloc, scale as u8, input.as_str(), output.as_str(), shelf)
+            }
+            None => ended(Status::Usage),
+        },
         _ => ended(Status::Usage),
-    }
-}
-
-/// Reads the scale, and acquires the segments of the input of that name.
-fn acquire_read<S: Shelf>(
-    alloc: Global,
-    scale: &str,
-    input: &str,
-    output: &str,
-    shelf: &mut S,
-) -> Outcome
-    ensures { IsPerformed command.Acquire (acquire_at (number_within 1 18 scale.now) input.now output.now)
-        (number_same (number_within 1 18 scale.now) (bytes_eq input.now output.now)) 1 result
-        (S.files shelf.old) (S.files shelf.new)
-        (S.counts shelf.old) (S.counts shelf.new) }
-{
-    match number_within(1, MAX_SCALE as u64, scale) {
-        Some(scale) => acquire_files(alloc, scale as u8, input, output, shelf),
-        None => ended(Status::Usage),
     }
 }
 
@@ -70,8 +42,7 @@ fn acquire_files<S: Shelf>(
 ) -> Outcome
     requires from { 0 < scale }
     requires to { scale ≤ MAX_SCALE }
-    ensures { IsPerformed command.Acquire (transformed shapes.single_bytes (acquiring scale) input.now output.now)
-        (Some (bytes_eq input.now output.now)) 1 result (S.files shelf.old) (S.files shelf.new)
+    ensures { IsAcquired (Some scale) input.now output.now result (S.files shelf.old) (S.files shelf.new)
         (S.counts shelf.old) (S.counts shelf.new) }
 {
     match Acquisition::new(alloc, scale) {

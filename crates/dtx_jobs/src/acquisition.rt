@@ -1,14 +1,13 @@
 // Acquiring segments, a piece of a capture's file at a time.
-ghost use Rattle.std.specs.Prelude.{◌≡◌, ◌+◌, ◌*◌, ◌<◌, ◌≤◌, ◌++◌, ℕ, ℤ, List, [], IfOk, length, vec_len};
-ghost use Rattle.dtx_acquire.specs.Acquired.{acquired_so_far};
+ghost use Rattle.std.specs.Prelude.{◌≡◌, ◌+◌, ◌*◌, ◌<◌, ◌≤◌, ℤ, List, [], IfOk, length, vec_len};
 ghost use Rattle.dtx_acquire.specs.Acquirer.{StandsFor};
-ghost use Rattle.dtx_files.specs.Symbols.{segment_bytes};
 ghost use Rattle.dtx_meaning.specs.Status.{IsOfBytes, blame_of};
 ghost use Rattle.dtx_outside.specs.Counts.{Nothing};
 ghost use Rattle.dtx_jobs.specs.Acquire.{acquired_answer};
-ghost use Rattle.dtx_jobs.specs.Acquisition.{WasAcquired};
+ghost use Rattle.dtx_jobs.specs.Acquisition.{WasAcquired, WereAcquired};
 ghost use Rattle.dtx_jobs.specs.SymbolFile.{symbols};
 
+use crate::reception::to_symbols;
 use crate::symbol_buffer::SymbolBuffer;
 use dtx_acquire::Acquirer;
 use dtx_engine::{Engine, Shape};
@@ -110,48 +109,12 @@ fn acquire_piece(
     requires few { length bytes.now ≤ PIECE_BYTES }
     requires room { vec_len piece.old ≡ PIECE_BYTES }
     requires empty { gathered.old ≡ [] }
-    ensures stands { (before : List ℤ) → StandsFor acquirer.old before
-        → StandsFor acquirer.new (before ++ symbols bytes.now) }
-    ensures symbols { (before : List ℤ) → StandsFor acquirer.old before
-        → segment_bytes (acquired_so_far acquirer.old.scale (before ++ symbols bytes.now))
-        ≡ segment_bytes (acquired_so_far acquirer.old.scale before) ++ gathered.new }
-    ensures scale { acquirer.new.scale ≡ acquirer.old.scale }
+    ensures acquired { WereAcquired acquirer.old acquirer.new (symbols bytes.now) gathered.new }
     ensures room { vec_len piece.new ≡ PIECE_BYTES }
 {
-    acquire_symbols(acquirer, bytes, &mut piece[..bytes.len()], gathered)
-}
-
-/// Does so with as many symbols as there are bytes.
-fn acquire_symbols(
-    acquirer: &mut Acquirer,
-    bytes: &[u8],
-    piece: &mut [i8],
-    gathered: &mut SymbolBuffer<ACQUIRED_BYTES>,
-)
-    requires stands { (before : List ℤ) × StandsFor acquirer.old before }
-    requires most { acquirer.old.symbols + length bytes.now ≤ MOST_SYMBOLS }
-    requires few { length bytes.now ≤ PIECE_BYTES }
-    requires room { length piece.old ≡ length bytes.now }
-    requires empty { gathered.old ≡ [] }
-    ensures stands { (before : List ℤ) → StandsFor acquirer.old before
-        → StandsFor acquirer.new (before ++ symbols bytes.now) }
-    ensures symbols { (before : List ℤ) → StandsFor acquirer.old before
-        → segment_bytes (acquired_so_far acquirer.old.scale (before ++ symbols bytes.now))
-        ≡ segment_bytes (acquired_so_far acquirer.old.scale before) ++ gathered.new }
-    ensures scale { acquirer.new.scale ≡ acquirer.old.scale }
-{
+    let piece = &mut piece[..bytes.len()];
     to_symbols(bytes, piece);
     acquire_all(acquirer, piece, gathered);
-}
-
-/// Sets symbols to those of the bytes.
-fn to_symbols(bytes: &[u8], piece: &mut [i8])
-    requires { length piece.old ≡ length bytes.now }
-    ensures { piece.new ≡ symbols bytes.now }
-{
-    for i in 0..bytes.len() {
-        piece[i] = bytes[i].cast_signed();
-    }
 }
 
 /// Gives symbols to the acquirer, and gathers the segments that they bring.
@@ -160,12 +123,7 @@ fn acquire_all(acquirer: &mut Acquirer, piece: &[i8], gathered: &mut SymbolBuffe
     requires most { acquirer.old.symbols + length piece.now ≤ MOST_SYMBOLS }
     requires few { length piece.now ≤ PIECE_BYTES }
     requires empty { gathered.old ≡ [] }
-    ensures stands { (before : List ℤ) → StandsFor acquirer.old before
-        → StandsFor acquirer.new (before ++ piece.now) }
-    ensures symbols { (before : List ℤ) → StandsFor acquirer.old before
-        → segment_bytes (acquired_so_far acquirer.old.scale (before ++ piece.now))
-        ≡ segment_bytes (acquired_so_far acquirer.old.scale before) ++ gathered.new }
-    ensures scale { acquirer.new.scale ≡ acquirer.old.scale }
+    ensures { WereAcquired acquirer.old acquirer.new piece.now gathered.new }
 {
     let mut done = 0;
     while done < piece.len() {

@@ -1,9 +1,10 @@
 // Receiving symbols, a piece of their file at a time.
-ghost use Rattle.std.specs.Prelude.{◌≡◌, ◌+◌, ◌*◌, ◌/◌, ◌%◌, ◌<◌, ◌≤◌, ◌++◌, ◌∷◌, [], ℤ, List, IfOk, length, map};
+ghost use Rattle.std.specs.Prelude.{◌≡◌, ◌+◌, ◌*◌, ◌/◌, ◌<◌, ◌≤◌, ◌++◌, ◌∷◌, [], ℤ, List, IfOk, length};
 ghost use Rattle.dtx_receiver.specs.Runs as runs;
 ghost use Rattle.dtx_jobs.specs.Giving.{bytes_of};
 ghost use Rattle.dtx_jobs.specs.Reception.{IsReceiving, WasGiven};
-ghost use Rattle.dtx_jobs.specs.SymbolFile.{file_segments, symbol_of_byte, symbols};
+ghost use Rattle.dtx_jobs.specs.Softening.{IsSigned};
+ghost use Rattle.dtx_jobs.specs.SymbolFile.{file_segments, symbols};
 ghost use Rattle.dtx_jobs.specs.Tally.{IsBounded, tally_of};
 
 use crate::segment_receiver::{Receiving, SegmentReceiver};
@@ -188,12 +189,14 @@ fn begun(tracking: Tracking) -> u64
     }
 }
 
-/// Sets the symbols to those of the bytes.
-pub(crate) fn to_symbols(bytes: &[u8; SEGMENT], segment: &mut [i8; SEGMENT])
-    ensures { segment.new ≡ symbols bytes.now }
+/// Sets symbols to those of as many bytes.
+pub(crate) fn to_symbols(bytes: &[u8], brought: &mut [i8])
+    requires { length brought.old ≡ length bytes.now }
+    ensures symbols { brought.new ≡ symbols bytes.now }
+    ensures signed { IsSigned brought.new }
 {
-    for i in 0..SEGMENT {
-        segment[i] = bytes[i].cast_signed();
+    for i in 0..bytes.len() {
+        brought[i] = bytes[i].cast_signed();
     }
 }
 

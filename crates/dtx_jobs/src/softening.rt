@@ -1,12 +1,12 @@
 // Softening symbols, a piece of their file at a time.
-ghost use Rattle.std.specs.Prelude.{◌≡◌, ◌+◌, ◌*◌, ◌/◌, ◌%◌, ◌<◌, ◌≤◌, ◌++◌, ◌∷◌, [], ℕ, ℤ, List};
+ghost use Rattle.std.specs.Prelude.{◌≡◌, ◌+◌, ◌*◌, ◌/◌, ◌<◌, ◌≤◌, ◌++◌, ◌∷◌, [], ℕ, ℤ, List};
 ghost use Rattle.std.specs.Prelude.{Some, None, length, take};
 ghost use Rattle.std.specs.Prelude.{vec_len};
 ghost use Rattle.std.specs.Prelude.{slice_index_or, IfSome, unwrap_or, if◌then◌else◌};
 ghost use Rattle.dtx_files.specs.Symbols.{segment_bytes};
 ghost use Rattle.dtx_frame.specs.Detection.{looks_like};
 ghost use Rattle.dtx_soft.specs.CostLaws.{AreSigned};
-ghost use Rattle.dtx_soft.specs.Softened.{softened, softened_cost};
+ghost use Rattle.dtx_soft.specs.Softened.{softened_cost};
 ghost use Rattle.dtx_jobs.specs.Soft.{flushed, groups_in, has_group, soft_rest, soft_so_far};
 ghost use Rattle.dtx_jobs.specs.Softening.{IsKept, IsSigned, IsSoftening, kept_rows};
 ghost use Rattle.dtx_jobs.specs.SymbolFile.{file_segments, symbols};
@@ -79,7 +79,6 @@ impl Softening {
         ensures long { length self.new.symbols + SEGMENT * kept_rows self.new
             ≡ length self.old.symbols + SEGMENT * (1 + kept_rows self.old) }
     {
-        signed(&bytes[..]);
         to_symbols(bytes, &mut self.segment);
         match self.place {
             None => self.copy(),
@@ -249,7 +248,8 @@ fn rows_of(place: Option<u16>) -> usize
     }
 }
 
-/// Gathers the symbols of a field's first segments, so many.
+/// Gathers the symbols of a field's first data segments, so many, with those in whole groups softened, and answers what
+/// their least paths cost.
 fn flush_field(
     soft: &mut Soft,
     field: &mut Vec<[i8; SEGMENT]>,
@@ -268,26 +268,7 @@ fn flush_field(
     ensures scale { soft.new.scale ≡ 1 }
     ensures kept { vec_len field.new ≡ FIELD_ROWS }
 {
-    flush_rows(soft, &mut field[..count], symbols)
-}
-
-/// Gathers the symbols of the first data segments of a field, with those in whole groups softened, and answers what
-/// their least paths cost.
-fn flush_rows(
-    soft: &mut Soft,
-    rows: &mut [[i8; SEGMENT]],
-    symbols: &mut SymbolBuffer<SOFT_BYTES>,
-) -> u64
-    requires scale { soft.old.scale ≡ 1 }
-    requires few { length rows.old ≤ FIELD_PACKETS }
-    requires signed { AreSigned rows.old }
-    requires fits { length symbols.old + SEGMENT * length rows.old ≤ SOFT_BYTES }
-    ensures symbols { symbols.new ≡ symbols.old ++ segment_bytes (flushed rows.old) }
-    ensures long { length symbols.new ≡ length symbols.old + SEGMENT * length rows.old }
-    ensures cost { result ≡ softened_cost 1 (groups_in rows.old) }
-    ensures most { result ≤ MOST_COST }
-    ensures scale { soft.new.scale ≡ 1 }
-{
+    let rows = &mut field[..count];
     let cost = soften(soft, rows);
     symbols.push_all(rows);
     cost
@@ -298,13 +279,6 @@ fn place_behind(segment: &[i8; SEGMENT]) -> Option<u16>
     ensures { result ≡ (if looks_like segment.now then Some 0 else None) }
 {
     if looks(segment) { Some(0) } else { None }
-}
-
-/// The symbols of bytes are signed bytes.
-fn signed(bytes: &[u8])
-    ensures { IsSigned (symbols bytes.now) }
-{
-    let _count = bytes.len();
 }
 
 /// Softens the first data segments of a field, and answers what their least paths cost.
@@ -318,22 +292,9 @@ fn soften(soft: &mut Soft, rows: &mut [[i8; SEGMENT]]) -> u64
     ensures scale { soft.new.scale ≡ 1 }
 {
     let whole = GROUP_PACKETS * (rows.len() / GROUP_PACKETS);
-    soften_groups(soft, &mut rows[..whole])
-}
-
-/// Softens whole groups.
-fn soften_groups(soft: &mut Soft, rows: &mut [[i8; SEGMENT]]) -> u64
-    requires scale { soft.old.scale ≡ 1 }
-    requires whole { length rows.old % GROUP_PACKETS ≡ 0 }
-    requires few { length rows.old ≤ FIELD_PACKETS }
-    requires signed { AreSigned rows.old }
-    ensures rows { rows.new ≡ softened 1 rows.old }
-    ensures cost { result ≡ softened_cost 1 rows.old }
-    ensures most { result ≤ MOST_COST }
-    ensures scale { soft.new.scale ≡ 1 }
-{
-    let cost = soft.field(rows);
-    known(rows);
+    let groups = &mut rows[..whole];
+    let cost = soft.field(groups);
+    known(groups);
     cost
 }
 

@@ -18,7 +18,7 @@ use Rattle.dtx_plan.specs.declared.transmitter.Transmitter.{Transmitter}
 use Rattle.dtx_plan.specs.declared.plan.NetPlan.{NetPlan}
 use Rattle.dtx_plan.specs.declared.plan.Plan.{Plan}
 use Rattle.dtx_plan.specs.Rows.{◌>>=◌, refused, whole_of, whole_value, whole, whole_or, signed_of, signed_value, signed}
-use Rattle.dtx_plan.specs.Rows.{of_kind, table, known, count_of, numbered, array, entries}
+use Rattle.dtx_plan.specs.Rows.{of_kind, table, known, count_of, numbered, array, array_or_none, entries}
 use Rattle.dtx_plan.specs.TransmitterTable.{addresses_of, has_address, once, transmitter}
 use Rattle.dtx_plan.specs.NetTable.{net}
 use Rattle.dtx_plan.specs.RootTable.{plan}
@@ -29,16 +29,37 @@ use Rattle.dtx_plan.specs.AddressesLaws.{distinct_none, distinct_more}
 -- ---- steps of the walk
 
 -- a walk that gives something has given something at its first step
-bind_ok : {A B : Type 0} (r : Result A PlanNo) (f : A → Result B PlanNo) (y : B) → (r >>= f) ≡ Ok y
+pub bind_ok : {A B : Type 0} (r : Result A PlanNo) (f : A → Result B PlanNo) (y : B) → (r >>= f) ≡ Ok y
     → (x : A) × (r ≡ Ok x) × (f x ≡ Ok y)
 bind_ok (Ok x) f y e = (x, refl, e)
 bind_ok (Err refusal) f y e = cc
 
+-- equal answers give equal values
+pub ok_same : {A : Type 0} (x y : A) → ◌≡◌ {A = Result A PlanNo} (Ok x) (Ok y) → x ≡ y
+ok_same x y e = cc
+
 -- a test that leaves a value
-test_ok : {A : Type 0} (b : Bool) (x y : A) (k : PlanKey) (item : ℕ) (rule : PlanRule)
+pub test_ok : {A : Type 0} (b : Bool) (x y : A) (k : PlanKey) (item : ℕ) (rule : PlanRule)
     → cond b (Ok x) (refused k item rule) ≡ Ok y → (b ≡ true) × (x ≡ y)
 test_ok true x y k item rule e = (refl, cc)
 test_ok false x y k item rule e = cc
+
+-- what each entry keeps holds of all of them
+pub entries_keep : {A : Type 0} (Kept : List A → Type 0) (entry : List A → Data → Result A PlanNo)
+    → ((done : List A) (d : Data) (x : A) → Kept done → entry done d ≡ Ok x → Kept (done ++ x ∷ []))
+    → (items : Items) (done xs : List A) → entries entry done items ≡ Ok xs → Kept done → Kept xs
+entries_keep Kept entry step no_items done xs e kept = subst Kept (ok_same done xs e) kept
+entries_keep Kept entry step (item_of d ds) done xs e kept =
+    let next = bind_ok (entry done d) (λ x. entries entry (done ++ x ∷ []) ds) xs e in
+    entries_keep Kept entry step ds (done ++ next.0 ∷ []) xs next.2 (step done d next.0 kept next.1)
+
+-- there are as many entries as items
+pub entries_count : {A : Type 0} (entry : List A → Data → Result A PlanNo) (items : Items) (done xs : List A)
+    → entries entry done items ≡ Ok xs → length xs ≡ length done + count_of items
+entries_count {A} entry no_items done xs e = omega (arith, ap (λ (x : List A). length x) (ok_same done xs e))
+entries_count entry (item_of d ds) done xs e =
+    let next = bind_ok (entry done d) (λ x. entries entry (done ++ x ∷ []) ds) xs e in
+    omega (arith, entries_count entry ds (done ++ next.0 ∷ []) xs next.2, length-append done (next.0 ∷ []))
 
 -- ---- numbers
 
@@ -134,9 +155,6 @@ record IsNext (earlier : List Transmitter) (t : Transmitter) : Type 0 where
   numbers : IsTransmitter t
   once : has_address t.address earlier ≡ false
 
-ok_same : {A : Type 0} (x y : A) → ◌≡◌ {A = Result A PlanNo} (Ok x) (Ok y) → x ≡ y
-ok_same x y e = cc
-
 transmitter_is : (earlier : List Transmitter) (d : Data) (t : Transmitter) → transmitter earlier d ≡ Ok t
     → IsNext earlier t
 unfolding transmitter
@@ -178,18 +196,12 @@ read_more done t a n = record {
   each = All-push IsTransmitter done t a.each n.numbers;
 }
 
-all_read : (items : Items) (done ts : List Transmitter) → entries transmitter done items ≡ Ok ts → AreRead done
-    → AreRead ts × (length ts ≡ length done + count_of items)
-all_read no_items done ts e a = let same : done ≡ ts = ok_same done ts e in
-    (subst AreRead same a, omega (arith, ap (λ (x : List Transmitter). length x) same))
-all_read (item_of d ds) done ts e a =
-    let next = bind_ok (transmitter done d) (λ t. entries transmitter (done ++ t ∷ []) ds) ts e in
-    let rest = all_read ds (done ++ next.0 ∷ []) ts next.2
-    (read_more done next.0 a (transmitter_is done d next.0 next.1)) in
-    let more = rest.1 in
-    (rest.0, omega (arith, more, length-append done (next.0 ∷ [])))
+all_read : (items : Items) (ts : List Transmitter) → entries transmitter [] items ≡ Ok ts → AreRead ts
+all_read items ts e =
+    entries_keep AreRead transmitter (λ done d t kept read. read_more done t kept (transmitter_is done d t read)) items
+    [] ts e (record { distinct = distinct_none [] refl; each = All-nil IsTransmitter })
 
-array_range : (found : Option Data) (k : PlanKey) (item least most : ℕ) (ds : Items)
+pub array_range : (found : Option Data) (k : PlanKey) (item least most : ℕ) (ds : Items)
     → array found k item least most ≡ Ok ds → (least ≤ count_of ds) × (count_of ds ≤ most)
 array_range None k item least most ds e = cc
 array_range (Some d) k item least most ds e =
@@ -200,6 +212,11 @@ array_range (Some d) k item least most ds e =
     let l = leb-true least (count_of a.0) s.0 in
     let m = leb-true (count_of a.0) most s.1 in
     (omega (arith, same, l), omega (arith, same, m))
+
+pub array_or_none_range : (found : Option Data) (k : PlanKey) (item most : ℕ) (ds : Items)
+    → array_or_none found k item most ≡ Ok ds → count_of ds ≤ most
+array_or_none_range None k item most ds e = let same : no_items ≡ ds = cc in omega (arith, ap count_of same)
+array_or_none_range (Some d) k item most ds e = (array_range (Some d) k item 0 most ds e).1
 
 -- ---- a plan
 
@@ -250,8 +267,8 @@ root_read root p e =
     let a = whole_range (get_member (codes "start") root) key.Start 0 0 9999999 start.0 start.1 in
     let b = whole_range (get_member (codes "max_delay") root) key.MaxDelay 0 0 9999999 most.0 most.1 in
     let c = array_range (get_member (codes "transmitter") root) key.Transmitter 0 1 1020 items.0 items.1 in
-    let r = all_read items.0 [] ts.0 ts.1 (record { distinct = distinct_none [] refl; each = All-nil IsTransmitter }) in
-    let count = r.1 in
+    let r = all_read items.0 ts.0 ts.1 in
+    let count = entries_count transmitter items.0 [] ts.0 ts.1 in
     let read : Plan = made start.0 most.0 ts.0 network.0 in
     subst IsRead {x = read} (ok_same read p network.2)
     (record {
@@ -261,10 +278,10 @@ root_read root p e =
         transmitters = record {
           some = omega (arith, count, c.0);
           most = omega (arith, count, c.1);
-          distinct = r.0.distinct;
+          distinct = r.distinct;
         };
       };
-      each = r.0.each;
+      each = r.each;
     })
 
 plan_read : (bytes : List ℕ) (p : Plan) → plan_of bytes ≡ Ok p → IsRead p

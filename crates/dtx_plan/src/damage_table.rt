@@ -1,8 +1,8 @@
 // The walk over the array `damage`.
-ghost use Rattle.std.specs.Prelude.{◌≡◌, ◌≤◌, [], length, IfOk};
-ghost use Rattle.toml.specs.View.{view, items_view};
-ghost use Rattle.dtx_plan.specs.Rows.{IsAnswer, entries};
-ghost use Rattle.dtx_plan.specs.Sound.{IsDamage, AreDamages};
+ghost use Rattle.std.specs.Prelude.{◌≡◌};
+ghost use Rattle.toml.specs.View.{view, table_view};
+ghost use Rattle.dtx_plan.specs.Rows.{IsAnswer};
+ghost use Rattle.dtx_plan.specs.ReceiveTable.{damage_of};
 ghost use Rattle.dtx_plan.specs.DamageTable as spec;
 
 use crate::damage::{Damage, Damages};
@@ -13,17 +13,19 @@ use crate::rows::{Row, known, table};
 use crate::rule::PlanRule;
 use dtx_sizes::MOST_SYMBOLS;
 use std::alloc::Global;
-use toml::Value;
+use toml::{Table, Value};
 
 /// The keys of an entry.
 const KEYS: &[&str] = &["at", "count", "put"];
 
-/// The damage, entry by entry.
-pub(crate) fn damages(alloc: Global, values: &[Value]) -> Result<Damages, PlanFault>
-    requires { length values.now ≤ MOST_DAMAGES }
-    ensures walk { IsAnswer (entries spec.damage [] (items_view values.now)) result }
-    ensures sound { IfOk result AreDamages }
+/// The damage that stands in a table, entry by entry, and none where it is absent.
+pub(crate) fn damages(alloc: Global, entry: &Table) -> Result<Damages, PlanFault>
+    ensures { IsAnswer (damage_of (table_view entry.now)) result }
 {
+    let values = match Row::new(entry, "damage", PlanKey::Damage, 0).array_or_none(MOST_DAMAGES) {
+        Ok(values) => values,
+        Err(refusal) => return Err(PlanFault::No(refusal)),
+    };
     let mut all = Vec::new(alloc);
     let mut end = 0;
     for value in values {
@@ -40,9 +42,7 @@ pub(crate) fn damages(alloc: Global, values: &[Value]) -> Result<Damages, PlanFa
 /// One entry, where the entry before it ends at `end`.
 #[tactic(auto, unfolding(crate::specs::DamageTable::damage_from))]
 fn damage(end: u64, item: u32, value: &Value) -> Result<Damage, PlanNo>
-    ensures walk { result ≡ spec.damage_from end item (view value.now) }
-    ensures sound { IfOk result IsDamage }
-    ensures behind { IfOk result (λ d. end ≤ d.at) }
+    ensures { result ≡ spec.damage_from end item (view value.now) }
 {
     let entry = match table(value, PlanKey::Damage, item) {
         Ok(entry) => entry,
@@ -56,9 +56,8 @@ fn damage(end: u64, item: u32, value: &Value) -> Result<Damage, PlanNo>
         Ok(at) => at,
         Err(refusal) => return Err(refusal),
     };
-    match behind(at, end, item) {
-        Ok(()) => {}
-        Err(refusal) => return Err(refusal),
+    if at < end {
+        return Err(PlanNo::new(PlanKey::DamageAt, item, PlanRule::Order));
     }
     let row = Row::new(entry, "count", PlanKey::DamageCount, item);
     let count = match row.whole_or(1, 1, MOST_SYMBOLS) {
@@ -70,16 +69,4 @@ fn damage(end: u64, item: u32, value: &Value) -> Result<Damage, PlanNo>
         Err(refusal) => return Err(refusal),
     };
     Ok(Damage { at, count, put })
-}
-
-/// The place isn't before the end of the entry before it.
-fn behind(at: u64, end: u64, item: u32) -> Result<(), PlanNo>
-    ensures walk { result ≡ spec.behind at end item }
-    ensures behind { IfOk result (λ _. end ≤ at) }
-{
-    if at < end {
-        Err(PlanNo::new(PlanKey::DamageAt, item, PlanRule::Order))
-    } else {
-        Ok(())
-    }
 }

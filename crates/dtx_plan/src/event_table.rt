@@ -1,9 +1,8 @@
 // The walk over the array `event`.
-ghost use Rattle.std.specs.Prelude.{◌≡◌, ◌<◌, ◌≤◌, true, [], length, All, IfOk};
-ghost use Rattle.toml.specs.View.{view, table_view, items_view};
-ghost use Rattle.dtx_plan.specs.Rows.{IsAnswer, entries};
-ghost use Rattle.dtx_plan.specs.Sound.{IsEvent, IsInRange, to_of};
-ghost use Rattle.dtx_plan.specs.TransmitterTable.{has_address};
+ghost use Rattle.std.specs.Prelude.{◌≡◌};
+ghost use Rattle.toml.specs.View.{view, table_view};
+ghost use Rattle.dtx_plan.specs.Rows.{IsAnswer};
+ghost use Rattle.dtx_plan.specs.NetTable.{events_of};
 ghost use Rattle.dtx_plan.specs.EventTable as spec;
 
 use crate::event::{Event, EventKind, Events};
@@ -18,17 +17,18 @@ use dtx_trellis::States;
 use std::alloc::Global;
 use toml::{Table, Value};
 
-/// The events, entry by entry.
+/// The events that stand in a table, entry by entry, and none where they are absent.
 pub(crate) fn events(
     alloc: Global,
     transmitters: &Transmitters,
-    values: &[Value],
+    net: &Table,
 ) -> Result<Events, PlanFault>
-    requires { length values.now ≤ MOST_EVENTS }
-    ensures walk { IsAnswer (entries (spec.event_after transmitters.now) [] (items_view values.now)) result }
-    ensures count { IfOk result (λ e. length e ≤ MOST_EVENTS) }
-    ensures sound { IfOk result (All (IsEvent transmitters.now)) }
+    ensures { IsAnswer (events_of transmitters.now (table_view net.now)) result }
 {
+    let values = match Row::new(net, "event", PlanKey::Event, 0).array_or_none(MOST_EVENTS) {
+        Ok(values) => values,
+        Err(refusal) => return Err(PlanFault::No(refusal)),
+    };
     let mut all = Vec::new(alloc);
     for value in values {
         let next = match event(transmitters, all.len() as u32, value) {
@@ -43,8 +43,7 @@ pub(crate) fn events(
 /// One entry.
 #[tactic(auto, unfolding(crate::specs::EventTable::event_at))]
 fn event(transmitters: &Transmitters, item: u32, value: &Value) -> Result<Event, PlanNo>
-    ensures walk { result ≡ spec.event_at transmitters.now item (view value.now) }
-    ensures sound { IfOk result (IsEvent transmitters.now) }
+    ensures { result ≡ spec.event_at transmitters.now item (view value.now) }
 {
     let entry = match table(value, PlanKey::Event, item) {
         Ok(entry) => entry,
@@ -62,9 +61,8 @@ fn event(transmitters: &Transmitters, item: u32, value: &Value) -> Result<Event,
         Ok(to) => to as u16,
         Err(refusal) => return Err(refusal),
     };
-    match no_stranger(to, transmitters, PlanKey::To, item) {
-        Ok(()) => {}
-        Err(refusal) => return Err(refusal),
+    if !transmitters.has(to) {
+        return Err(PlanNo::new(PlanKey::To, item, PlanRule::Stranger));
     }
     event_of(kind, to, entry, item)
 }
@@ -73,15 +71,10 @@ fn event(transmitters: &Transmitters, item: u32, value: &Value) -> Result<Event,
 fn kind(entry: &Table, item: u32) -> Result<EventKind, PlanNo>
     ensures { result ≡ spec.kind (table_view entry.now) item }
 {
-    match Row::new(entry, "do", PlanKey::Do, item).text() {
-        Ok(word) => kind_of(word, item),
-        Err(refusal) => Err(refusal),
-    }
-}
-
-fn kind_of(word: &str, item: u32) -> Result<EventKind, PlanNo>
-    ensures { result ≡ spec.kind_of word.now item }
-{
+    let word = match Row::new(entry, "do", PlanKey::Do, item).text() {
+        Ok(word) => word,
+        Err(refusal) => return Err(refusal),
+    };
     match word {
         "send" => Ok(EventKind::Send),
         "foreign" => Ok(EventKind::Foreign),
@@ -115,29 +108,10 @@ fn known_keys(kind: EventKind, entry: &Table, item: u32) -> Result<(), PlanNo>
     }
 }
 
-/// Some transmitter has the address.
-pub(crate) fn no_stranger(
-    address: u16,
-    transmitters: &Transmitters,
-    key: PlanKey,
-    item: u32,
-) -> Result<(), PlanNo>
-    ensures walk { result ≡ spec.no_stranger address transmitters.now key item }
-    ensures listed { IfOk result (λ _. has_address address transmitters.now ≡ true) }
-{
-    if transmitters.has(address) {
-        Ok(())
-    } else {
-        Err(PlanNo::new(key, item, PlanRule::Stranger))
-    }
-}
-
 /// The rows that depend on the kind.
 #[tactic(auto, unfolding(crate::specs::EventTable::event_of))]
 fn event_of(kind: EventKind, to: u16, entry: &Table, item: u32) -> Result<Event, PlanNo>
-    ensures walk { result ≡ spec.event_of kind to (table_view entry.now) item }
-    ensures to { IfOk result (λ e. to_of e ≡ to) }
-    ensures in_range { IfOk result IsInRange }
+    ensures { result ≡ spec.event_of kind to (table_view entry.now) item }
 {
     match kind {
         EventKind::Send => send(to, entry, item),
@@ -151,21 +125,22 @@ fn event_of(kind: EventKind, to: u16, entry: &Table, item: u32) -> Result<Event,
 /// A part of the feed.
 #[tactic(auto, unfolding(crate::specs::EventTable::send))]
 fn send(to: u16, entry: &Table, item: u32) -> Result<Event, PlanNo>
-    ensures walk { result ≡ spec.send to (table_view entry.now) item }
-    ensures to { IfOk result (λ e. to_of e ≡ to) }
-    ensures in_range { IfOk result IsInRange }
+    ensures { result ≡ spec.send to (table_view entry.now) item }
 {
-    let from = Row::new(entry, "from", PlanKey::From, item).whole(0, LAST_PACKET)?;
-    let count = Row::new(entry, "count", PlanKey::Count, item).whole(1, MOST_PACKETS - from)?;
-    Ok(Event::Send { to, from, count })
+    let from = match Row::new(entry, "from", PlanKey::From, item).whole(0, LAST_PACKET) {
+        Ok(from) => from,
+        Err(refusal) => return Err(refusal),
+    };
+    match Row::new(entry, "count", PlanKey::Count, item).whole(1, MOST_PACKETS - from) {
+        Ok(count) => Ok(Event::Send { to, from, count }),
+        Err(refusal) => Err(refusal),
+    }
 }
 
 /// Packets that are not of the feed.
 #[tactic(auto, unfolding(crate::specs::EventTable::foreign))]
 fn foreign(to: u16, entry: &Table, item: u32) -> Result<Event, PlanNo>
-    ensures walk { result ≡ spec.foreign to (table_view entry.now) item }
-    ensures to { IfOk result (λ e. to_of e ≡ to) }
-    ensures in_range { IfOk result IsInRange }
+    ensures { result ≡ spec.foreign to (table_view entry.now) item }
 {
     let seed = match Row::new(entry, "seed", PlanKey::Seed, item).whole(0, LAST_SEED) {
         Ok(seed) => seed,
@@ -190,9 +165,7 @@ fn foreign(to: u16, entry: &Table, item: u32) -> Result<Event, PlanNo>
 /// A packet with a wrong byte.
 #[tactic(auto, unfolding(crate::specs::EventTable::flip))]
 fn flip(to: u16, entry: &Table, item: u32) -> Result<Event, PlanNo>
-    ensures walk { result ≡ spec.flip to (table_view entry.now) item }
-    ensures to { IfOk result (λ e. to_of e ≡ to) }
-    ensures in_range { IfOk result IsInRange }
+    ensures { result ≡ spec.flip to (table_view entry.now) item }
 {
     let from = match Row::new(entry, "from", PlanKey::From, item).whole(0, LAST_PACKET) {
         Ok(from) => from,
@@ -212,20 +185,21 @@ fn flip(to: u16, entry: &Table, item: u32) -> Result<Event, PlanNo>
 /// An operations packet of false states.
 #[tactic(auto, unfolding(crate::specs::EventTable::lie))]
 fn lie(to: u16, entry: &Table, item: u32) -> Result<Event, PlanNo>
-    ensures walk { result ≡ spec.lie to (table_view entry.now) item }
-    ensures to { IfOk result (λ e. to_of e ≡ to) }
-    ensures in_range { IfOk result IsInRange }
+    ensures { result ≡ spec.lie to (table_view entry.now) item }
 {
-    let from = Row::new(entry, "from", PlanKey::From, item).whole(0, LAST_PACKET)?;
-    let states = states(entry, item)?;
-    Ok(Event::Lie { to, from, states })
+    let from = match Row::new(entry, "from", PlanKey::From, item).whole(0, LAST_PACKET) {
+        Ok(from) => from,
+        Err(refusal) => return Err(refusal),
+    };
+    match states(entry, item) {
+        Ok(states) => Ok(Event::Lie { to, from, states }),
+        Err(refusal) => Err(refusal),
+    }
 }
 
 /// The states that a packet lies about.
 fn states(entry: &Table, item: u32) -> Result<States, PlanNo>
-    ensures walk { result ≡ spec.states (table_view entry.now) item }
-    ensures count { IfOk result (λ s. length s ≡ 12) }
-    ensures each { IfOk result (All (λ state. state < 8)) }
+    ensures { result ≡ spec.states (table_view entry.now) item }
 {
     match Row::new(entry, "states", PlanKey::States, item).text() {
         Ok(digits) => states_of(digits.as_bytes(), item),
@@ -235,9 +209,7 @@ fn states(entry: &Table, item: u32) -> Result<States, PlanNo>
 
 /// The states that twelve digits from 0 to 7 spell.
 fn states_of(digits: &[u8], item: u32) -> Result<States, PlanNo>
-    ensures walk { result ≡ spec.states_of digits.now item }
-    ensures count { IfOk result (λ s. length s ≡ 12) }
-    ensures each { IfOk result (All (λ state. state < 8)) }
+    ensures { result ≡ spec.states_of digits.now item }
 {
     if digits.len() != 12 {
         return Err(PlanNo::new(PlanKey::States, item, PlanRule::Range));

@@ -2,6 +2,34 @@
 ghost use Rattle.std.specs.Prelude.{◌≡◌};
 ghost use Rattle.dtx_plan.specs.Words.{key_word};
 
+/// The words of the keys, in their order.
+static WORDS: [&str; 24] = [
+    "whole",
+    "start",
+    "max_delay",
+    "transmitter",
+    "address",
+    "offset",
+    "delay",
+    "net",
+    "stream",
+    "event",
+    "do",
+    "to",
+    "seed",
+    "from",
+    "count",
+    "at",
+    "with",
+    "states",
+    "receive",
+    "receive.from",
+    "damage",
+    "damage.at",
+    "damage.count",
+    "damage.put",
+];
+
 /// The key of the row whose rule is broken (the profile's own plan file).
 #[derive(Clone, Copy, PartialEq, Eq)]
 pub enum PlanKey {
@@ -60,31 +88,6 @@ impl PlanKey {
     pub fn word(&self) -> &'static str
         ensures { result.now ≡ key_word self.now }
     {
-        match self {
-            PlanKey::Whole => "whole",
-            PlanKey::Start => "start",
-            PlanKey::MaxDelay => "max_delay",
-            PlanKey::Transmitter => "transmitter",
-            PlanKey::Address => "address",
-            PlanKey::Offset => "offset",
-            PlanKey::Delay => "delay",
-            PlanKey::Net => "net",
-            PlanKey::Stream => "stream",
-            PlanKey::Event => "event",
-            PlanKey::Do => "do",
-            PlanKey::To => "to",
-            PlanKey::Seed => "seed",
-            PlanKey::From => "from",
-            PlanKey::Count => "count",
-            PlanKey::At => "at",
-            PlanKey::With => "with",
-            PlanKey::States => "states",
-            PlanKey::Receive => "receive",
-            PlanKey::ReceiveFrom => "receive.from",
-            PlanKey::Damage => "damage",
-            PlanKey::DamageAt => "damage.at",
-            PlanKey::DamageCount => "damage.count",
-            PlanKey::DamagePut => "damage.put",
-        }
+        WORDS[*self as usize]
     }
 }

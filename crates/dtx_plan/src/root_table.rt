@@ -1,14 +1,12 @@
 // The walk over the root of a plan, and of a file of changes.
-ghost use Rattle.std.specs.Prelude.{IfOk};
 ghost use Rattle.toml.specs.View.{table_view};
 ghost use Rattle.dtx_plan.specs.Rows.{IsAnswer};
-ghost use Rattle.dtx_plan.specs.Sound.{IsSound, HasSoundNet, AreDamages};
 ghost use Rattle.dtx_plan.specs.RootTable as spec;
 
 use crate::damage::Damages;
 use crate::damage_table::damages;
 use crate::key::PlanKey;
-use crate::limits::{LAST_TICK, MOST_DAMAGES};
+use crate::limits::LAST_TICK;
 use crate::net_table::net;
 use crate::plan::Plan;
 use crate::refusal::PlanFault;
@@ -24,9 +22,7 @@ const KEYS: &[&str] = &["start", "max_delay", "transmitter", "net"];
 /// The plan that a table says.
 #[tactic(auto, unfolding(crate::specs::RootTable::plan))]
 pub(crate) fn plan(alloc: Global, root: &Table) -> Result<Plan, PlanFault>
-    ensures walk { IsAnswer (spec.plan (table_view root.now)) result }
-    ensures sound { IfOk result IsSound }
-    ensures net { IfOk result HasSoundNet }
+    ensures { IsAnswer (spec.plan (table_view root.now)) result }
 {
     match known(root, KEYS, PlanKey::Whole, 0) {
         Ok(()) => {}
@@ -64,15 +60,11 @@ pub(crate) fn plan(alloc: Global, root: &Table) -> Result<Plan, PlanFault>
 /// The damage that the table of a file of changes says.
 #[tactic(auto, unfolding(crate::specs::RootTable::changes))]
 pub(crate) fn changes(alloc: Global, root: &Table) -> Result<Damages, PlanFault>
-    ensures walk { IsAnswer (spec.changes (table_view root.now)) result }
-    ensures sound { IfOk result AreDamages }
+    ensures { IsAnswer (spec.changes (table_view root.now)) result }
 {
     match known(root, &["damage"], PlanKey::Whole, 0) {
         Ok(()) => {}
         Err(refusal) => return Err(PlanFault::No(refusal)),
     }
-    match Row::new(root, "damage", PlanKey::Damage, 0).array_or_none(MOST_DAMAGES) {
-        Ok(items) => damages(alloc, items),
-        Err(refusal) => Err(PlanFault::No(refusal)),
-    }
+    damages(alloc, root)
 }

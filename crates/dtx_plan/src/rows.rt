@@ -68,22 +68,13 @@ impl<'a> Row<'a> {
         ensures row { result ≡ spec.whole_value (view value.now) self.entry.key self.entry.item least most }
         ensures within { IfOk result (λ n. (least ≤ n) × (n ≤ most)) }
     {
-        match value.as_integer() {
-            Some(number) => self.whole_of(number, least, most),
-            None => Err(self.refusal(PlanRule::Kind)),
-        }
-    }
-
-    fn whole_of(self, number: i64, least: u64, most: u64) -> Result<u64, PlanNo>
-        ensures row { result ≡ spec.whole_of number self.entry.key self.entry.item least most }
-        ensures within { IfOk result (λ n. (least ≤ n) × (n ≤ most)) }
-    {
-        if number < 0 {
-            return Err(self.refusal(PlanRule::Range));
-        }
-        let found = number as u64;
-        if least <= found && found <= most {
-            Ok(found)
+        let number = match value.as_integer() {
+            Some(number) if 0 <= number => number as u64,
+            Some(_) => return Err(self.refusal(PlanRule::Range)),
+            None => return Err(self.refusal(PlanRule::Kind)),
+        };
+        if least <= number && number <= most {
+            Ok(number)
         } else {
             Err(self.refusal(PlanRule::Range))
         }
@@ -96,24 +87,12 @@ impl<'a> Row<'a> {
         ensures within { IfOk result (λ n. (least ≤ℤ n) × (n ≤ℤ most)) }
     {
         match self.value {
-            Some(value) => self.signed_value(value, least, most),
+            Some(value) => match value.as_integer() {
+                Some(number) if least <= number && number <= most => Ok(number),
+                Some(_) => Err(self.refusal(PlanRule::Range)),
+                None => Err(self.refusal(PlanRule::Kind)),
+            },
             None => Err(self.refusal(PlanRule::Missing)),
-        }
-    }
-
-    fn signed_value(self, value: &Value, least: i64, most: i64) -> Result<i64, PlanNo>
-        ensures row { result ≡ spec.signed_value (view value.now) self.entry.key self.entry.item least most }
-        ensures within { IfOk result (λ n. (least ≤ℤ n) × (n ≤ℤ most)) }
-    {
-        match value.as_integer() {
-            Some(number) => {
-                if least <= number && number <= most {
-                    Ok(number)
-                } else {
-                    Err(self.refusal(PlanRule::Range))
-                }
-            }
-            None => Err(self.refusal(PlanRule::Kind)),
         }
     }
 
@@ -123,17 +102,11 @@ impl<'a> Row<'a> {
             ≡ spec.text (option_map (λ v. view v.now) self.entry.value) self.entry.key self.entry.item }
     {
         match self.value {
-            Some(value) => self.text_value(value),
+            Some(value) => match value.as_str() {
+                Some(found) => Ok(found),
+                None => Err(self.refusal(PlanRule::Kind)),
+            },
             None => Err(self.refusal(PlanRule::Missing)),
-        }
-    }
-
-    fn text_value<'b>(self, value: &'b Value) -> Result<&'b str, PlanNo>
-        ensures { seen_by (λ s. s.now) result ≡ spec.text_value (view value.now) self.entry.key self.entry.item }
-    {
-        match value.as_str() {
-            Some(found) => Ok(found),
-            None => Err(self.refusal(PlanRule::Kind)),
         }
     }
 
@@ -162,6 +135,7 @@ impl<'a> Row<'a> {
         }
     }
 
+    #[tactic(auto, using(crate::proofs::Items::count_of_view))]
     fn array_value<'b>(
         self,
         value: &'b Value,
@@ -172,25 +146,12 @@ impl<'a> Row<'a> {
             ≡ spec.array_value (view value.now) self.entry.key self.entry.item least most }
         ensures within { IfOk result (λ v. (least ≤ length v.now) × (length v.now ≤ most)) }
     {
-        match value.as_array() {
-            Some(found) => self.numbered(found.as_slice(), least, most),
-            None => Err(self.refusal(PlanRule::Kind)),
-        }
-    }
-
-    #[tactic(auto, using(crate::proofs::Items::count_of_view))]
-    fn numbered<'b>(
-        self,
-        values: &'b [Value],
-        least: usize,
-        most: usize,
-    ) -> Result<&'b [Value], PlanNo>
-        ensures row { seen_by (λ v. items_view v.now) result
-            ≡ spec.numbered (items_view values.now) self.entry.key self.entry.item least most }
-        ensures within { IfOk result (λ v. (least ≤ length v.now) × (length v.now ≤ most)) }
-    {
-        if least <= values.len() && values.len() <= most {
-            Ok(values)
+        let found = match value.as_array() {
+            Some(found) => found.as_slice(),
+            None => return Err(self.refusal(PlanRule::Kind)),
+        };
+        if least <= found.len() && found.len() <= most {
+            Ok(found)
         } else {
             Err(self.refusal(PlanRule::Range))
         }

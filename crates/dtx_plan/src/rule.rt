@@ -2,6 +2,11 @@
 ghost use Rattle.std.specs.Prelude.{◌≡◌};
 ghost use Rattle.dtx_plan.specs.Words.{rule_word};
 
+/// The words of the rules, in their order.
+static WORDS: [&str; 9] = [
+    "size", "text", "unknown", "missing", "kind", "range", "twice", "stranger", "order",
+];
+
 /// The rule that is broken (the profile's own plan file).
 #[derive(Clone, Copy, PartialEq, Eq)]
 pub enum PlanRule {
@@ -30,16 +35,6 @@ impl PlanRule {
     pub fn word(&self) -> &'static str
         ensures { result.now ≡ rule_word self.now }
     {
-        match self {
-            PlanRule::Size => "size",
-            PlanRule::Text => "text",
-            PlanRule::Unknown => "unknown",
-            PlanRule::Missing => "missing",
-            PlanRule::Kind => "kind",
-            PlanRule::Range => "range",
-            PlanRule::Twice => "twice",
-            PlanRule::Stranger => "stranger",
-            PlanRule::Order => "order",
-        }
+        WORDS[*self as usize]
     }
 }

@@ -1,8 +1,7 @@
 // The walk over the array `transmitter`.
-ghost use Rattle.std.specs.Prelude.{◌≡◌, ◌^◌, ◌<◌, ◌≤◌, [], length, IfOk, false};
+ghost use Rattle.std.specs.Prelude.{◌≡◌, ◌^◌, ◌<◌, ◌≤◌, [], length};
 ghost use Rattle.toml.specs.View.{view, items_view};
 ghost use Rattle.dtx_plan.specs.Rows.{IsAnswer, entries};
-ghost use Rattle.dtx_plan.specs.Sound.{AreTransmitters};
 ghost use Rattle.dtx_plan.specs.TransmitterTable as spec;
 
 use crate::key::PlanKey;
@@ -20,10 +19,8 @@ const KEYS: &[&str] = &["address", "offset", "delay"];
 
 /// The transmitters, entry by entry.
 pub(crate) fn transmitters(alloc: Global, values: &[Value]) -> Result<Transmitters, PlanFault>
-    requires some { 1 ≤ length values.now }
-    requires fits { length values.now ≤ MOST_TRANSMITTERS }
-    ensures walk { IsAnswer (entries spec.transmitter [] (items_view values.now)) result }
-    ensures sound { IfOk result AreTransmitters }
+    requires { length values.now ≤ MOST_TRANSMITTERS }
+    ensures { IsAnswer (entries spec.transmitter [] (items_view values.now)) result }
 {
     let mut found = Transmitters::none(alloc);
     for value in values {
@@ -40,8 +37,7 @@ pub(crate) fn transmitters(alloc: Global, values: &[Value]) -> Result<Transmitte
 #[tactic(auto, unfolding(crate::specs::TransmitterTable::transmitter))]
 fn transmitter(earlier: &Transmitters, value: &Value) -> Result<Transmitter, PlanNo>
     requires { length earlier.now < 2 ^ 32 }
-    ensures walk { result ≡ spec.transmitter earlier.now (view value.now) }
-    ensures once { IfOk result (λ t. spec.has_address t.address earlier.now ≡ false) }
+    ensures { result ≡ spec.transmitter earlier.now (view value.now) }
 {
     let item = earlier.len() as u32;
     let entry = match table(value, PlanKey::Transmitter, item) {
@@ -56,9 +52,8 @@ fn transmitter(earlier: &Transmitters, value: &Value) -> Result<Transmitter, Pla
         Ok(address) => address as u16,
         Err(refusal) => return Err(refusal),
     };
-    match once(address, earlier, item) {
-        Ok(()) => {}
-        Err(refusal) => return Err(refusal),
+    if earlier.has(address) {
+        return Err(PlanNo::new(PlanKey::Address, item, PlanRule::Twice));
     }
     let offset = match Row::new(entry, "offset", PlanKey::Offset, item).signed(-32768, 32767) {
         Ok(offset) => offset as i16,
@@ -73,16 +68,4 @@ fn transmitter(earlier: &Transmitters, value: &Value) -> Result<Transmitter, Pla
         offset,
         delay,
     })
-}
-
-/// No earlier entry has the address.
-fn once(address: u16, earlier: &Transmitters, item: u32) -> Result<(), PlanNo>
-    ensures walk { result ≡ spec.once address earlier.now item }
-    ensures once { IfOk result (λ _. spec.has_address address earlier.now ≡ false) }
-{
-    if earlier.has(address) {
-        Err(PlanNo::new(PlanKey::Address, item, PlanRule::Twice))
-    } else {
-        Ok(())
-    }
 }

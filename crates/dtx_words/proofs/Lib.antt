@@ -1,4 +1,5 @@
 pub mod FileNames
+pub mod FittedRow
 pub mod LinePieces
 pub mod Numbers
 pub mod Printed

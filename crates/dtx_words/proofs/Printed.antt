@@ -9,6 +9,7 @@ use Rattle.std.proofs.lemmas.Grind.{flat_map-append}
 use Rattle.std.proofs.lemmas.List.Concat.{flat_map-cons}
 use Rattle.std.proofs.Common.{[], append-nil}
 use Rattle.std.proofs.lemmas.List.{length-drop, length-append, take-append-le, take-append-drop}
+use Rattle.std.proofs.lemmas.List.{take_more}
 use Rattle.dtx_outside.specs.declared.sink.SinkNo.{SinkNo}
 use Rattle.dtx_outside.specs.declared.sink.SinkNo.TheVariants.{Failed, Memory}
 use Rattle.dtx_outside.specs.Sink.{IsPrinted}
@@ -54,6 +55,20 @@ put_all_refused all before piece after cause w0 w1 w2 whole first left = (
       ∙ ap (take (length before + left.0)) (sym whole)),
 )
 
+-- a loop over pieces
+pub put_all_more : (pieces : List (Bor (List ℕ))) (i : ℕ) (d : Bor (List ℕ)) (piece : List ℕ)
+    (w0 w1 w2 : Option (List ℕ)) → i < length pieces → piece ≡ (get_or pieces i d).now
+    → w1 ≡ printed (text_of (take i pieces)) w0
+    → w2 ≡ printed piece w1 → w2 ≡ printed (text_of (take (i + 1) pieces)) w0
+put_all_more pieces i d piece w0 w1 w2 within is first next =
+    let before = text_of (take i pieces) in
+    let all : text_of (take (i + 1) pieces) ≡ before ++ (get_or pieces i d).now =
+    ap text_of (take_more pieces i d within)
+    ∙ flat_map-append (λ piece. piece.now) (take i pieces) (get_or pieces i d ∷ [])
+    ∙ ap (λ z. before ++ z) (append-nil (get_or pieces i d).now) in
+    next ∙ ap (printed piece) first ∙ printed-printed w0 before piece
+    ∙ ap (λ t. printed t w0) (ap (λ z. before ++ z) is ∙ sym all)
+
 -- the rest of a slice
 pub rest_is : (bytes : List ℕ) (done : ℕ) → take (length bytes - done) (drop done bytes) ≡ drop done bytes
 rest_is bytes done = between_to_end bytes done (length bytes) (omega arith)
@@ -69,7 +84,8 @@ text_of-split pieces i d within =
 
 -- ---- pieces of a text
 
-printed-none : (o : Option (List ℕ)) → printed [] o ≡ o
+-- nothing behind it
+pub printed-none : (o : Option (List ℕ)) → printed [] o ≡ o
 printed-none None = refl
 printed-none (Some before) = ap Some (append-nil before)
 

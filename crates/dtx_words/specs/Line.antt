@@ -53,6 +53,15 @@ refusal_line ReadFault name = codes "read fault\n"
 refusal_line WriteFault name = codes "write fault\n"
 refusal_line Memory name = codes "no memory\n"
 
+-- the line of a refusal that has neither a name nor a number
+abbrev pub bare_line : Status → List ℕ
+bare_line TooLong = codes "too long\n"
+bare_line NoSync = codes "no sync\n"
+bare_line ReadFault = codes "read fault\n"
+bare_line WriteFault = codes "write fault\n"
+bare_line Memory = codes "no memory\n"
+bare_line _ = []
+
 -- the line of a status, with the numbers of that outcome, and that name
 abbrev pub line_at : Option Command → Status → Outcome → List ℕ → List ℕ
 line_at command Done outcome name = done_line command outcome

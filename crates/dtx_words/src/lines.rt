@@ -1,7 +1,8 @@
 // The line that a command prints at its end.
-ghost use Rattle.std.specs.Prelude.{◌≡◌, ◌≢◌, ◌≤◌, ◌++◌, [], length, map, codes, decimal};
+ghost use Rattle.std.specs.Prelude.{◌≡◌, ◌≤◌, ◌++◌, [], length, map, codes, decimal};
 ghost use Rattle.dtx_outside.specs.Sink.{IsCounted};
-ghost use Rattle.dtx_words.specs.Line.{done_line, finished, labels_of, line_of, numbered, refusal_line, usage_line};
+ghost use Rattle.dtx_words.specs.Line.{bare_line, done_line, finished, labels_of, line_of, numbered, refusal_line};
+ghost use Rattle.dtx_words.specs.Line.{usage_line};
 ghost use Rattle.dtx_words.specs.Printed.{IsPut};
 ghost use Rattle.dtx_words.specs.Rows.{row_of};
 ghost use Rattle.dtx_meaning.specs.declared.status.Status.TheVariants.{Plan};
@@ -28,7 +29,6 @@ pub fn line<O: Sink>(
 {
     match outcome.status {
         Status::Done => put_done(command, outcome, out),
-        Status::Usage => put_usage(out),
         status => put_refusal(status, name, out),
     }
 }
@@ -101,24 +101,32 @@ fn put_verb<O: Sink>(before: &'static str, command: Command, out: &mut O) -> Res
 
 /// Prints the line of a refusal, with a name where it has one.
 fn put_refusal<O: Sink>(status: Status, name: &str, out: &mut O) -> Result<(), SinkNo>
-    requires done { status ≢ Status.Done }
-    requires usage { status ≢ Status.Usage }
     ensures written { IsPut (refusal_line status name.now) (O.written out.old) result (O.written out.new) }
     ensures gone { IsCounted (O.faults out.old) result (O.faults out.new) }
 {
     match status {
-        Status::Done | Status::Usage => unreachable!(),
+        Status::Usage => put_usage(out),
         Status::Same => put_name("same ", name, out),
         Status::Absent(_) => put_name("absent ", name, out),
         Status::Plan(no) => put_plan(no, out),
         Status::Packet(k) => put_count("packet ", k, out),
-        Status::TooLong => put_line("too long\n", out),
         Status::OutOfFeed(event) => put_count("out of feed ", event as u64, out),
         Status::OutOfAir(entry) => put_count("out of air ", entry as u64, out),
-        Status::NoSync => put_line("no sync\n", out),
-        Status::ReadFault => put_line("read fault\n", out),
-        Status::WriteFault => put_line("write fault\n", out),
-        Status::Memory => put_line("no memory\n", out),
+        _ => put_line(bare_line(status), out),
+    }
+}
+
+/// The line of a refusal that has neither a name nor a number.
+fn bare_line(status: Status) -> &'static str
+    ensures { result.now ≡ bare_line status }
+{
+    match status {
+        Status::TooLong => "too long\n",
+        Status::NoSync => "no sync\n",
+        Status::ReadFault => "read fault\n",
+        Status::WriteFault => "write fault\n",
+        Status::Memory => "no memory\n",
+        _ => "",
     }
 }
 

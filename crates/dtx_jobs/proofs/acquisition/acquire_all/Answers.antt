@@ -69,7 +69,15 @@ loop-done-preserved c =
       room = omega (arith, c.push_all.ensures.long, c.take-done.ensures.room, inv.room, brought);
     }
 
-pub returns-clause-stands : goal.returns-clause-stands
-returns-clause-stands c = λ before h.
-    subst (λ (xs : List ℤ). StandsFor c.loop-done.acquirer (before ++ xs))
-    (take_all c.loop-done.done c.args.piece.now c.loop-done-test.false) (c.loop-done.invariant.stands before h)
+pub returns : goal.returns
+returns c =
+    let all = take_all c.loop-done.done c.args.piece.now c.loop-done-test.false in
+    record {
+      stands = λ before h.
+          subst (λ (xs : List ℤ). StandsFor c.loop-done.acquirer (before ++ xs)) all
+          (c.loop-done.invariant.stands before h);
+      symbols = λ before h.
+          ap (λ (xs : List ℤ). segment_bytes (acquired_so_far c.args.acquirer.now.scale (before ++ xs))) (sym all)
+          ∙ c.loop-done.invariant.made before h;
+      scale = c.loop-done.invariant.scale;
+    }

@@ -1,21 +1,34 @@
-use Rattle.std.proofs.Common.{ℤ, ◌≡◌, ◌*◌, ◌/◌, List, ◌++◌, length, take, drop, ap, arith}
+use Rattle.std.proofs.Common.{ℕ, ℤ, ◌≡◌, ◌*◌, ◌/◌, List, ◌++◌, length, take, drop, ap, ◌∙◌, arith, subst}
 use Rattle.std.proofs.lemmas.List.{length-take}
+use Rattle.dtx_soft.specs.Coders.{IsSoftened}
+use Rattle.dtx_soft.specs.CostLaws.{costs_small}
+use Rattle.dtx_soft.specs.SoftenedLaws.{cost_is, softened_is}
 use Rattle.dtx_jobs.specs.Soft.{flushed, groups_in}
 use Rattle.dtx_jobs.specs.SoftRowsLaws.{signed_take}
 use Rattle.dtx_jobs.proofs.softening.soften.Goals as goal
 
-length_groups : (rows : List (List ℤ)) → length (take (4 * (length rows / 4)) rows) ≡ 4 * (length rows / 4)
-length_groups rows = (let e = length-take (4 * (length rows / 4)) rows in omega (arith, e))
-
-pub soften_groups-requires-clause-signed : goal.soften_groups-requires-clause-signed
-soften_groups-requires-clause-signed c =
-    signed_take (4 * (length c.args.rows.now / 4)) c.args.rows.now c.requires.signed
+at_one : (scale : ℕ) (old new : List (List ℤ)) → scale ≡ 1 → IsSoftened scale old new → IsSoftened 1 old new
+at_one scale old new e h = subst (λ s. IsSoftened s old new) e h
 
 pub returns-clause-rows : goal.returns-clause-rows
 unfolding flushed groups_in
 returns-clause-rows c =
-    ap (λ z. z ++ drop (4 * (length c.args.rows.now / 4)) c.args.rows.now) c.soften_groups.ensures.rows
+    let whole = 4 * (length c.args.rows.now / 4) in
+    ap (λ z. z ++ drop whole c.args.rows.now) (softened_is 1 (take whole c.args.rows.now) c.field-cost.new.segments
+    (at_one c.args.soft.now.scale _ _ c.requires.scale c.field-cost.ensures.segments) c.known.ensures)
 
 pub returns-clause-cost : goal.returns-clause-cost
 unfolding groups_in
-returns-clause-cost c = c.soften_groups.ensures.cost
+returns-clause-cost c =
+    c.field-cost.ensures.cost
+    ∙ cost_is 1 (take (4 * (length c.args.rows.now / 4)) c.args.rows.now) c.field-cost.new.segments
+    (at_one c.args.soft.now.scale _ _ c.requires.scale c.field-cost.ensures.segments)
+
+pub returns-clause-most : goal.returns-clause-most
+returns-clause-most c =
+    let whole = 4 * (length c.args.rows.now / 4) in
+    let most = costs_small (take whole c.args.rows.now) c.field-cost.new.segments
+    (omega (arith, length-take whole c.args.rows.now, c.requires.few))
+    (signed_take whole c.args.rows.now c.requires.signed)
+    (at_one c.args.soft.now.scale _ _ c.requires.scale c.field-cost.ensures.segments) in
+    omega (arith, most, c.field-cost.ensures.cost)

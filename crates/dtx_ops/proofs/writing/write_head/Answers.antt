@@ -1,6 +1,7 @@
 use Rattle.std.proofs.Common.{◌≡◌, ℕ, ◌+◌, ◌-◌, List, [], ◌∷◌, ◌++◌, ◌∙◌, take, drop, length, set, ap, sym, refl, arith}
 use Rattle.std.proofs.Common.{append_assoc}
-use Rattle.std.proofs.lemmas.List.{drop-drop}
+use Rattle.std.proofs.lemmas.List.{drop-drop, length-drop, length-take}
+use Rattle.std.proofs.Math.ListN.{length-set}
 use Rattle.byteorder.specs.Endian.{big_bytes}
 use Rattle.dtx_ops.specs.Paging.{kind_of, paging_bytes, count_place}
 use Rattle.dtx_ops.specs.Spelling.{states_bits, times_bytes, head_bytes}
@@ -39,3 +40,25 @@ returns-clause-head c =
     ∙ ap (λ (k : ℕ). (k ∷ states ++ times ++ count) ++ drop (count_place f.paging + 1) out) c.kind.ensures
     ∙ ap (λ (n : ℕ). (kind_of f.paging ∷ states ++ times ++ (name ++ n ∷ [])) ++ drop (count_place f.paging + 1) out)
     c.len.ensures.value
+
+pub write_uint-requires-clause-room : goal.write_uint-requires-clause-room
+write_uint-requires-clause-room c =
+    simp (length-take, length-drop, length-set) (omega (arith, c.requires.room))
+
+pub write_uint-requires-clause-fits : goal.write_uint-requires-clause-fits
+write_uint-requires-clause-fits c = c.packed.ensures.within
+
+pub write_times-requires-clause-stamp : goal.write_times-requires-clause-stamp
+write_times-requires-clause-stamp c = c.requires.stamp
+
+pub write_times-requires-clause-max_delay : goal.write_times-requires-clause-max_delay
+write_times-requires-clause-max_delay c = c.requires.max_delay
+
+pub returns-clause-twelve : goal.returns-clause-twelve
+returns-clause-twelve c = c.packed.ensures.twelve
+
+pub returns-clause-states : goal.returns-clause-states
+returns-clause-states c = c.packed.ensures.small
+
+pub returns-clause-frame : goal.returns-clause-frame
+returns-clause-frame c = c.write_times.ensures.frame

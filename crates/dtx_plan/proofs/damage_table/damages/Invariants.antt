@@ -1,9 +1,7 @@
-use Rattle.std.proofs.Common.{◌≡◌, ◌≤◌, ◌+◌, drop, length, []}
-use Rattle.std.specs.List.{All, AllAdjacentBelow}
+use Rattle.std.proofs.Common.{◌≡◌, drop, length, []}
 use Rattle.toml.specs.View.{items_view}
 use Rattle.dtx_plan.specs.Rows.{entries}
 use Rattle.dtx_plan.specs.DamageTable.{damage, last_end}
-use Rattle.dtx_plan.specs.Sound.{IsDamage}
 use Rattle.dtx_plan.proofs.damage_table.damages.Given as goal
 
 abbrev pub invariant-loop-value : goal.invariant-loop-value
@@ -12,6 +10,4 @@ invariant-loop-value l = record {
   end : last_end l.all.items ≡ l.end;
   same : entries damage l.all.items (items_view (drop l.value-index l.values))
       ≡ entries damage [] (items_view l.values);
-  each : All IsDamage l.all.items;
-  in_order : AllAdjacentBelow (λ before after. before.at + before.count ≤ after.at) l.all.items (length l.all.items);
 }

@@ -1,21 +1,11 @@
-use Rattle.std.proofs.Common.{rules, arith, ap, ◌+◌, ◌∙◌}
+use Rattle.std.proofs.Common.{arith, ap, ◌+◌, ◌∙◌}
 use Rattle.std.proofs.lemmas.Grind.{common_steps}
 use Rattle.std.proofs.lemmas.List.{length_push}
-use Rattle.dtx_plan.specs.AddressesLaws.{distinct_none, distinct_more}
 use Rattle.dtx_plan.proofs.transmitter_table.transmitters.Goals as goal
-
-pub loop-value-init : goal.loop-value-init
-loop-value-init c = record {
-  count = search rules;
-  same = search rules;
-  distinct = distinct_none c.none-found.result (search rules);
-}
 
 pub loop-value-preserved : goal.loop-value-preserved
 loop-value-preserved c = record {
   count = rw c.in_ok-push.ensures.ok (length_push c.loop-value.found c.in-Ok.next
       ∙ ap (λ n. n + 1) c.loop-value.invariant.count);
   same = grind (arith, common_steps);
-  distinct = rw c.in_ok-push.ensures.ok (distinct_more c.loop-value.found c.in-Ok.next
-      c.loop-value.invariant.distinct (search rules));
 }

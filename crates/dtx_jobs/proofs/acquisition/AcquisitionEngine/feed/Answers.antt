@@ -15,9 +15,9 @@ returns-clause-fed c = λ before long stand.
       stand = record {
         room = c.acquire_piece.ensures.room;
         stands = subst (StandsFor c.acquire_piece.new.acquirer) (sym all)
-            (c.acquire_piece.ensures.stands (symbols before) stand.stands);
+            (c.acquire_piece.ensures.acquired.stands (symbols before) stand.stands);
       };
       made =
           ap (λ (s : List ℤ). only (segment_bytes (acquired_so_far c.args.self.now.acquirer.scale s))) all
-          ∙ ap only (c.acquire_piece.ensures.symbols (symbols before) stand.stands);
+          ∙ ap only (c.acquire_piece.ensures.acquired.symbols (symbols before) stand.stands);
     }

@@ -10,7 +10,7 @@ returns-clause-receiving g c = λ segments is.
     let giving = g.R.SegmentReceiver.giving in
     let stands = subst (λ r. g.R.SegmentReceiver.stands r segments) (sym c.deref_mut.ensures.value) is.receiver in
     let batch = c.as_slice.result.now in
-    let x = c.to_symbols.new.segment in
+    let x = c.to_symbols.new.brought in
     let old : Tally = c.args.self.now.tally in
     let told : c.begun.result ≡ begun (tracking segments x) = c.begun.ensures.begun
     ∙ ap begun (c.take-tracking.ensures.answer segments stands) in
@@ -24,9 +24,9 @@ returns-clause-receiving g c = λ segments is.
     ∙ ap (λ z. giving.so_far segments ++ z) (sym c.as_slice.ensures.value)) in
     record {
       receiver = subst (λ s. g.R.SegmentReceiver.stands c.take-tracking.new.self (segments ++ s ∷ []))
-          c.to_symbols.ensures (c.take-tracking.ensures.stands segments stands);
+          c.to_symbols.ensures.symbols (c.take-tracking.ensures.stands segments stands);
       tally = subst (λ s. c.add.new.self
-          ≡ tally_of (segments ++ s ∷ []) (giving.so_far (segments ++ s ∷ []))) c.to_symbols.ensures
+          ≡ tally_of (segments ++ s ∷ []) (giving.so_far (segments ++ s ∷ []))) c.to_symbols.ensures.symbols
           (c.add.ensures.counted ∙ counted);
     }
 
