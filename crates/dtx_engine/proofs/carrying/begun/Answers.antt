@@ -29,7 +29,8 @@ returns-in-Ok g c = record {
   carried = λ apart held file told there.
       let recipe = g.E.Engine.recipe c.args.engine.now in
       let now = g.S.Shelf.files c.carry.new.shelf in
-      let here = subst (λ (n : List (List ℕ)). IsNoneOf c.args.place.input.name.now n) (sym c.begin.ensures.kept) apart in
+      let here = subst (λ (n : List (List ℕ)). IsNoneOf c.args.place.input.name.now n) (sym c.begin.ensures.kept)
+      apart in
       let shape = c.args.place.shape in
       subst (λ (n : List (List ℕ)). IsCarriedOut (meaning_of_file shape recipe n file) (Some held) c.carry.result now)
       c.begin.ensures.kept (c.carry.ensures.carried here held file (c.in-Ok.ensures.begun (Some held) told) there);
