@@ -191,8 +191,7 @@ follows_at s o e = subst (IsFollowed s) (pending_is s o e) (follows s)
 nothing_before : (s : List (List ℤ)) → length s - 0 ≡ length s
 nothing_before s = omega arith
 
--- what is ahead with one segment more: all that was, and behind it so many of the n segments that were not, and that
--- one
+-- what is ahead with one segment more: all that was, and behind it so many of the n that were not and of that one
 record IsAhead (s : List (List ℤ)) (x : List ℤ) (n more : ℕ) : Type 0 where
   followed : IsFollowed s n
   all : ahead (s ++ x ∷ []) ≡ (length s - n) + more

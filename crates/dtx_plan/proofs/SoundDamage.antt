@@ -45,7 +45,8 @@ next_is end item d x e =
     let first = bind_ok (behind at.0 end item) _ x at.2 in
     let count = bind_ok (whole_or 1 (get_member (codes "count") entry.0) key.DamageCount item 1 520832000000) _ x
     first.2 in
-    let put = bind_ok (signed (get_member (codes "put") entry.0) key.DamagePut item (negsuc 127) (pos 127)) _ x count.2 in
+    let put = bind_ok (signed (get_member (codes "put") entry.0) key.DamagePut item (negsuc 127) (pos 127)) _ x count.2
+    in
     let a = whole_range (get_member (codes "at") entry.0) key.DamageAt item 0 520831999999 at.0 at.1 in
     let n = whole_or_range 1 (get_member (codes "count") entry.0) key.DamageCount item 1 520832000000 count.0
     (omega arith) (omega arith) count.1 in
@@ -71,7 +72,8 @@ record AreRead (ds : List Damage) : Type 0 where
 order_more : (ds : List Damage) (d : Damage) → InOrder ds → last_end ds ≤ d.at → InOrder (ds ++ d ∷ [])
 order_more ds d ordered after = grind (arith, common_steps)
 
-read_more : (done : List Damage) (d : Data) (x : Damage) → AreRead done → damage done d ≡ Ok x → AreRead (done ++ x ∷ [])
+read_more : (done : List Damage) (d : Data) (x : Damage) → AreRead done → damage done d ≡ Ok x
+    → AreRead (done ++ x ∷ [])
 read_more done d x kept e =
     let next = next_is (last_end done) (length done) d x e in
     record {

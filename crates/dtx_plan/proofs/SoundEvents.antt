@@ -1,5 +1,6 @@
 -- What the walk over the array `event` leaves: events of transmitters of the plan, their numbers in their ranges.
-use Rattle.std.proofs.Common.{◌≡◌, ℕ, ◌-◌, ◌≤◌, ◌<◌, List, [], ◌∷◌, length, map, refl, subst, sym, ◌∙◌, arith, All, true}
+use Rattle.std.proofs.Common.{◌≡◌, ℕ, ◌-◌, ◌≤◌, ◌<◌, List, [], ◌∷◌, length, map, refl, subst, sym, ◌∙◌, arith, All}
+use Rattle.std.proofs.Common.{true}
 use Rattle.std.specs.Prelude.{codes, nat_le, nat_eq, ◌&&◌, Ok}
 use Rattle.std.specs.List.{list_all}
 use Rattle.std.proofs.lemmas.Bool.{and_parts, eqb-true, leb-true}
@@ -16,7 +17,8 @@ use Rattle.dtx_plan.specs.declared.event.EventKind.{EventKind}
 use Rattle.dtx_plan.specs.declared.event.EventKind.TheVariants.{Send, Foreign, Flip, Lie, Restart}
 use Rattle.dtx_plan.specs.Rows.{table, whole, text, entries}
 use Rattle.dtx_plan.specs.TransmitterTable.{has_address}
-use Rattle.dtx_plan.specs.EventTable.{kind, known_keys, no_stranger, send, foreign, flip, lie, is_state, states_of, states}
+use Rattle.dtx_plan.specs.EventTable.{kind, known_keys, no_stranger, send, foreign, flip, lie, is_state, states_of}
+use Rattle.dtx_plan.specs.EventTable.{states}
 use Rattle.dtx_plan.specs.EventTable.{event_of, event_at, event_after}
 use Rattle.dtx_plan.specs.Sound.{IsPart, IsInRange, IsEvent, to_of}
 use Rattle.dtx_plan.specs.WalksLaws.{bind_ok, test_ok, ok_same, whole_range, entries_keep}
@@ -67,7 +69,8 @@ flip_is to entry item e is =
     (record { told = refl; in_range = (omega (arith, f.1), omega (arith, a.1), w.0) })
 
 -- the states that digits spell are below 8
-states_small : (digits : List ℕ) → list_all is_state digits ≡ true → All (λ state. state < 8) (map (λ digit. digit - 48) digits)
+states_small : (digits : List ℕ) → list_all is_state digits ≡ true
+    → All (λ state. state < 8) (map (λ digit. digit - 48) digits)
 states_small [] e = All-nil (λ state. state < 8)
 states_small (digit ∷ digits) e =
     let both = and_parts (is_state digit) (list_all is_state digits) e in

@@ -107,7 +107,7 @@ fn expect_refusals(rt: &(impl AllocGlobal + Abort), file: File, rows: &[Row]) {
     }
 }
 
-static ROOTS: [Row; 37] = [
+static ROOTS: [Row; 20] = [
     ("", "start = ", ("whole", 0, "text")),
     ("", "start = 99999999999999999999", ("whole", 0, "text")),
     ("", "more = 1", ("whole", 0, "unknown")),
@@ -140,6 +140,9 @@ static ROOTS: [Row; 37] = [
         "transmitter = [1]\nnet = 1",
         ("transmitter", 0, "kind"),
     ),
+];
+
+static ENTRIES: [Row; 17] = [
     (TRANSMITTERS, "[1]", ("transmitter", 0, "kind")),
     (TRANSMITTERS, "[{ to = 7 }]", ("transmitter", 0, "unknown")),
     (
@@ -218,9 +221,10 @@ static ROOTS: [Row; 37] = [
 #[test]
 fn a_plan_is_refused_at_its_root_and_at_its_transmitters(rt: HostRuntime) {
     expect_refusals(&rt, File::Plan, &ROOTS);
+    expect_refusals(&rt, File::Plan, &ENTRIES);
 }
 
-static NETWORKS: [Row; 50] = [
+static NETWORKS: [Row; 16] = [
     (NET, "1", ("net", 0, "kind")),
     (NET, "{ stream = 1, from = 7 }", ("net", 0, "unknown")),
     (NET, "{ event = 1 }", ("stream", 0, "missing")),
@@ -241,6 +245,30 @@ static NETWORKS: [Row; 50] = [
         "{ stream = 's', event = [], receive = 1 }",
         ("receive", 0, "kind"),
     ),
+    (RECEIVE, "[]", ("receive", 0, "kind")),
+    (RECEIVE, "{ to = 7 }", ("receive", 0, "unknown")),
+    (RECEIVE, "{ damage = 1 }", ("receive.from", 0, "missing")),
+    (
+        RECEIVE,
+        "{ from = true, damage = 1 }",
+        ("receive.from", 0, "kind"),
+    ),
+    (RECEIVE, "{ from = -7 }", ("receive.from", 0, "range")),
+    (
+        RECEIVE,
+        "{ from = 8, damage = 1 }",
+        ("receive.from", 0, "stranger"),
+    ),
+    (RECEIVE, "{ from = 7, damage = 1 }", ("damage", 0, "kind")),
+    (
+        RECEIVE,
+        "{ from = 7, damage = [{ at = 0, put = 0 }, { at = 0, put = 0 }] }",
+        ("damage.at", 1, "order"),
+    ),
+];
+
+/// What refuses an event up to its `from`.
+static EVENT_BEGINS: [Row; 18] = [
     (EVENTS, "[{ more = 1 }]", ("do", 0, "missing")),
     (EVENTS, "[{ do = 1, more = 1 }]", ("do", 0, "kind")),
     (EVENTS, "[{ do = 'stop', more = 1 }]", ("do", 0, "range")),
@@ -311,6 +339,10 @@ static NETWORKS: [Row; 50] = [
         "[{ do = 'send', to = 7, from = 624000000, count = 0 }]",
         ("from", 0, "range"),
     ),
+];
+
+/// What refuses it behind that.
+static EVENT_ENDS: [Row; 16] = [
     (
         EVENTS,
         "[{ do = 'send', to = 7, from = 0 }]",
@@ -391,31 +423,13 @@ static NETWORKS: [Row; 50] = [
         "[{ do = 'restart', to = 7 }, { do = 'restart' }]\nnet.receive = 1",
         ("to", 1, "missing"),
     ),
-    (RECEIVE, "[]", ("receive", 0, "kind")),
-    (RECEIVE, "{ to = 7 }", ("receive", 0, "unknown")),
-    (RECEIVE, "{ damage = 1 }", ("receive.from", 0, "missing")),
-    (
-        RECEIVE,
-        "{ from = true, damage = 1 }",
-        ("receive.from", 0, "kind"),
-    ),
-    (RECEIVE, "{ from = -7 }", ("receive.from", 0, "range")),
-    (
-        RECEIVE,
-        "{ from = 8, damage = 1 }",
-        ("receive.from", 0, "stranger"),
-    ),
-    (RECEIVE, "{ from = 7, damage = 1 }", ("damage", 0, "kind")),
-    (
-        RECEIVE,
-        "{ from = 7, damage = [{ at = 0, put = 0 }, { at = 0, put = 0 }] }",
-        ("damage.at", 1, "order"),
-    ),
 ];
 
 #[test]
 fn a_plan_is_refused_at_its_network(rt: HostRuntime) {
     expect_refusals(&rt, File::Plan, &NETWORKS);
+    expect_refusals(&rt, File::Plan, &EVENT_BEGINS);
+    expect_refusals(&rt, File::Plan, &EVENT_ENDS);
 }
 
 static CHANGES: [Row; 17] = [
