@@ -30,13 +30,23 @@ const FAST: [(&str, usize); 6] = [
 ];
 
 #[derive(Drop)]
-struct Correction<'a, C> {
-    code: &'a C,
+pub struct Correction<C> {
+    code: C,
     codewords: [[u8; WORD]; CODEWORDS],
     wrong: usize,
 }
 
-impl<C: Correct<WORD, DATA>> Work for Correction<'_, C> {
+impl<C> Correction<C> {
+    pub fn new(code: C) -> Self {
+        Correction {
+            code,
+            codewords: codewords(),
+            wrong: 0,
+        }
+    }
+}
+
+impl<C: Correct<WORD, DATA>> Work for Correction<C> {
     /// How many places are changed, modulo 256.
     fn round(&mut self) -> u8 {
         let mut changed = 0u8;
@@ -54,21 +64,16 @@ impl<C: Correct<WORD, DATA>> Work for Correction<'_, C> {
 
 pub fn print_correct_times(rt: &(impl Clock + Print)) -> io::Result<()> {
     print_one_times(rt)?;
-    print_corrected(rt, &LINEAR, &Linear::new())?;
-    print_corrected(rt, &FAST, &Fast::new())
+    print_corrected(rt, &LINEAR, &mut Correction::new(Linear::new()))?;
+    print_corrected(rt, &FAST, &mut Correction::new(Fast::new()))
 }
 
 /// Prints how long a corrector takes, a line for each number of wrong bytes.
 pub fn print_corrected<C: Correct<WORD, DATA>>(
     rt: &(impl Clock + Print),
     lines: &[(&'static str, usize)],
-    code: &C,
+    work: &mut Correction<C>,
 ) -> io::Result<()> {
-    let mut work = Correction {
-        code,
-        codewords: codewords(),
-        wrong: 0,
-    };
     for (name, wrong) in lines {
         work.wrong = *wrong;
         let line = Line {
@@ -76,7 +81,7 @@ pub fn print_corrected<C: Correct<WORD, DATA>>(
             piece: "word",
             pieces: WORDS,
         };
-        print_least(rt, &line, &mut work)?;
+        print_least(rt, &line, work)?;
     }
     Ok(())
 }

@@ -1,6 +1,6 @@
 //! How long a word takes of which twenty bytes are missing, beside one of which ten are wrong.
 
-use crate::correcting::{CODEWORDS, WORDS, codewords, print_corrected};
+use crate::correcting::{CODEWORDS, Correction, WORDS, codewords, print_corrected};
 use crate::times::{Line, Work, print_least};
 use crate::work::{DATA, WORD};
 use dtx_erase::{Erase, Mend};
@@ -52,7 +52,7 @@ fn lose(word: &mut [u8; WORD], number: usize) -> [bool; WORD] {
 }
 
 pub fn print_mend_times(rt: &(impl Clock + Print)) -> io::Result<()> {
-    print_corrected(rt, &CORRECT, &Fast::new())?;
+    print_corrected(rt, &CORRECT, &mut Correction::new(Fast::new()))?;
     let mut mending = Mending {
         code: Erase::new(),
         codewords: codewords(),
