@@ -30,6 +30,14 @@ run 0 'bytes 1001728 damaged 12' hurt "$room/from_order.sym" changes.toml out.sy
 run 0 'segments 1204 runs 1 packets 937 fixed 9 flagged 0 loose 0' receive out.sym out.ts
 has_digest out.ts 25bcdec4408a72dc0fc771a6f9f4864b5bece438a7f254858a62c49148eb8056
 
+start 'a packet that is hurt is refused'
+run 0 'packets 9' make 1 9 in.ts
+damage_says 940::72
+run 0 'bytes 1692 damaged 1' hurt in.ts changes.toml hurt.ts
+run 0 'packets 9 filled 0 loose 0' adapt "$plan" in.ts whole.ts
+run 6 'packet 5' adapt "$plan" hurt.ts out.ts
+head -c 752 whole.ts | cmp -s - out.ts || wrong 'out.ts is not the first four packets'
+
 # What is put where: each entry's bytes, but for those behind the file's end.
 while IFS='|' read -r entries status line wanted; do
     start "ten bytes with damage at $entries: $line"

@@ -20,6 +20,12 @@ cmp -s "$room/received.ts" out.ts || wrong 'out.ts has other packets'
 [[ $(cat "$room/said") == *' flagged 51 loose 0' ]] || wrong "printed $(cat "$room/said")"
 leaves in.sym wanted.ts out.ts
 
+start 'undamaged symbols of a made frame'
+run 0 'packets 624' make 1 624 in.ts
+run 0 'packets 624 segments 626 loose 0' code in.ts in.sym
+run 0 'segments 626 runs 1 packets 573 fixed 0 flagged 0 loose 0' mend in.sym out.ts
+head -c $((573 * 188)) in.ts | cmp -s - out.ts || wrong 'out.ts is not the first 573 packets'
+
 puts_lost_segments_right mend
 
 # Where segments are missing: at the begin and the end of a run, over a field sync that is due, and more of them than can be put right.

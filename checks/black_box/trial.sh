@@ -29,6 +29,8 @@ leaves plan.toml trial.ts net.feed net.ts tx-{1,2,3}.{sym,log}
 
 start 'a trial of one frame'
 run 0 'feed 624 filled 2 steps 1922 packets 261 fixed 0 flagged 0' trial 1 624
+[[ $(stat -c %s tx-3.sym) == 436800 ]] || wrong "tx-3.sym has $(stat -c %s tx-3.sym) bytes"
+head -c 436800 tx-1.sym | cmp -s - tx-3.sym || wrong 'tx-3.sym is not the front of tx-1.sym'
 leaves trial.ts net.feed net.ts tx-{1,2,3}.{sym,log}
 
 start 'a trial of less than a frame'

@@ -88,7 +88,7 @@ enum From {
     Highest,
 }
 
-/// What a group is given for them.
+/// Aligns the coder where that is asked, and gives the states that a group is given.
 fn preset(coder: &mut Coder, from: From) -> Option<States> {
     match from {
         From::Left => None,

@@ -88,8 +88,8 @@ fn cost(missing: usize, wrong: usize) -> usize {
 }
 
 /// What is answered there. Where the parity bytes suffice, the word comes back; where they don't, there is mostly no
-/// mending. But a codeword that is near enough is one,
-/// whichever it is: by a plain solver of linear equations there is another one in four of the cases.
+/// mending. But a codeword that is near enough is one, whichever it is: by a plain solver of linear equations there is
+/// another one in four of the cases.
 fn answer(missing: usize, wrong: usize) -> Result<u8, TooMany> {
     match (missing, wrong) {
         (16, 3) => Ok(18),

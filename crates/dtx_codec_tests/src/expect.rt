@@ -3,10 +3,10 @@
 use std::alloc::AllocError;
 use std::process::Abort;
 
-/// Expects a table to have no wrong row: of the first one the number is told.
+/// Expects nothing to be wrong: of the first row or place that is, the number is told.
 pub(crate) fn expect_none(rt: &impl Abort, wrong: Option<usize>) {
     if let Some(row) = wrong {
-        panic!(rt; "row {row} is wrong");
+        panic!(rt; "number {row} is wrong");
     }
 }
 

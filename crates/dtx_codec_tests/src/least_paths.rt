@@ -98,7 +98,7 @@ fn lowest() -> [[i8; SEGMENT]; 4] {
     [segment_of(-7); 4]
 }
 
-/// Whether a wrong symbol among them is found. At -4 slicing gives -3.
+/// Whether a wrong symbol among them is corrected. At -4 slicing gives -3.
 fn corrects(soft: &mut Soft) -> bool {
     let mut segments = lowest();
     segments[1][124] = -4;

@@ -5,6 +5,7 @@ use crate::samples::segment_of;
 use dtx_frame::field_sync;
 use dtx_receiver::{Batch, Receiver, Tracking};
 use dtx_sizes::{PRECODE, SEGMENT};
+use std::process::Abort;
 
 /// What the packets of some calls come to: how many there are, how many bytes were put right, how many were flagged,
 /// and their bytes in order as one number.
@@ -107,9 +108,11 @@ fn received(receiver: &mut Receiver, kind: Kind, count: u32) -> (Totals, Totals)
     let mut batch = Batch::new();
     let mut totals = Totals::none();
     receiver.take(&sync(&last(kind, false)), &mut batch);
+    totals.add(&batch);
     for n in 0..count {
         if n == 312 {
             receiver.take(&sync(&last(kind, true)), &mut batch);
+            totals.add(&batch);
         }
         receiver.take(&data(kind, n), &mut batch);
         totals.add(&batch);
@@ -124,16 +127,20 @@ fn received(receiver: &mut Receiver, kind: Kind, count: u32) -> (Totals, Totals)
 /// the digest of all bytes: of these what is told.
 type Row = (Kind, u32, Option<u32>, (u32, u32, u32), Option<u32>);
 
-// The digest of zeros is that of a program in Python that follows the standard's randomizer, and those of noise are of
-// one that follows the definitions over the whole list.
-const ROWS: [Row; 12] = [
+// The digest is that of a program in Python that follows the standard's randomizer.
+const ZEROS: [Row; 6] = [
+    (Kind::Zeros, 56, Some(4), (4, 0, 0), Some(3678594777)),
     (Kind::Zeros, 0, Some(0), (0, 0, 0), None),
     (Kind::Zeros, 48, Some(0), (0, 0, 0), None),
     (Kind::Zeros, 52, Some(0), (1, 0, 0), None),
     (Kind::Zeros, 55, Some(0), (1, 0, 0), None),
-    (Kind::Zeros, 56, Some(4), (4, 0, 0), Some(3678594777)),
     (Kind::Zeros, 104, Some(52), (53, 0, 0), None),
-    (Kind::Lost, 624, None, (573, 420, 0), None),
+];
+
+const LOST: [Row; 1] = [(Kind::Lost, 624, None, (573, 420, 0), None)];
+
+// The digests are of a program that follows the definitions over the whole list.
+const NOISE: [Row; 5] = [
     (Kind::Noise, 52, None, (1, 0, 1), Some(661802710)),
     (Kind::Noise, 56, None, (4, 0, 4), Some(479874379)),
     (Kind::Noise, 104, None, (53, 0, 53), Some(325097249)),
@@ -151,8 +158,8 @@ fn gives(receiver: &mut Receiver, row: &Row) -> bool {
 }
 
 /// The first run that gives something else.
-fn first_wrong(receiver: &mut Receiver) -> Option<usize> {
-    for (number, row) in ROWS.iter().enumerate() {
+fn first_wrong(receiver: &mut Receiver, rows: &[Row]) -> Option<usize> {
+    for (number, row) in rows.iter().enumerate() {
         if !gives(receiver, row) {
             return Some(number);
         }
@@ -160,11 +167,26 @@ fn first_wrong(receiver: &mut Receiver) -> Option<usize> {
     None
 }
 
+/// Expects a new receiver to give what the rows tell.
+fn expect_runs(rt: &(impl AllocGlobal + Abort), rows: &[Row]) {
+    expect_rows(rt, Receiver::new(rt.alloc()), |receiver| {
+        first_wrong(receiver, rows)
+    });
+}
+
 #[test]
-fn zeros_give_the_randomizers_bytes_once_53_segments_stand_or_at_the_end_two_lost_are_put_right_and_noise_is_flagged(
-    rt: HostRuntime,
-) {
-    expect_rows(&rt, Receiver::new(rt.alloc()), first_wrong);
+fn zeros_give_the_randomizers_bytes_once_53_segments_stand_and_at_the_end(rt: HostRuntime) {
+    expect_runs(&rt, &ZEROS);
+}
+
+#[test]
+fn two_lost_segments_are_put_right(rt: HostRuntime) {
+    expect_runs(&rt, &LOST);
+}
+
+#[test]
+fn noise_gives_flagged_packets_with_the_bytes_as_gathered(rt: HostRuntime) {
+    expect_runs(&rt, &NOISE);
 }
 
 /// Whether a field's data segments are that, and give so many packets as they come.

@@ -77,7 +77,7 @@ fn answered(rt: &HostRuntime, steps: &[(&str, Step)], overlap: bool) -> io::Resu
     answers(rt, &mut HostShelf::new(rt, &progress), steps, overlap)
 }
 
-/// Asserts that they are; a failure tells the name of the steps.
+/// Asserts that steps were answered as they say; a failure tells their name.
 fn check(rt: &impl Abort, name: &str, answered: io::Result<bool>) {
     match answered {
         Ok(are) => assert!(rt; are, "{name}"),
@@ -179,7 +179,7 @@ const HELD: &str = "dtx_outside_host_held";
 static WAYS: [(&str, &[(&str, Step)]); 4] = [
     ("lost", LOST),
     ("replaced", REPLACED),
-    ("cut", SHORTER),
+    ("shorter", SHORTER),
     ("longer", LONGER),
 ];
 

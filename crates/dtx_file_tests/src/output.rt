@@ -120,8 +120,10 @@ fn many_bytes_are_added_at_once_but_for_a_part_of_a_page(rt: HostRuntime) {
     assert!(rt; go(rt.alloc(), &MANY));
 }
 
+// Half of the third piece's whole pages.
 const HALF: usize = 25 * FILE_PAGE / 2;
 
+// The first append fails in its midst.
 const FAILING: [Step; 8] = [
     Step::Fail,
     Step::Begin,

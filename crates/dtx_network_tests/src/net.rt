@@ -150,7 +150,7 @@ fn one_goes_on(stage: &mut Stage) -> bool {
         && stage.air.segments == 0
 }
 
-/// Whether each begins to send at its moment, and goes on so.
+/// Whether each begins to send at its moment, and 7 goes on where 9 starts anew.
 fn goes_on(stage: &mut Stage) -> bool {
     is_ahead(stage)
         && are_quiet(stage, 0, 103)
@@ -159,6 +159,7 @@ fn goes_on(stage: &mut Stage) -> bool {
         && one_goes_on(stage)
 }
 
+/// Whether both do so in a new network.
 fn each_goes_on(alloc: Global) -> bool {
     match Net::new(alloc, &TRANSMITTERS) {
         Ok(net) => goes_on(&mut Stage {

@@ -208,23 +208,27 @@ fn fields(kept: Kept) -> Ops {
     }
 }
 
-/// A packet of the data reads as the fields, and they are written as the packet.
-fn is_kept(kept: Kept, sync: u8, counter: u8) -> bool
+/// A packet of the data reads as the fields, with so many entries, and they are written as the packet.
+fn is_kept(kept: Kept, sync: u8, counter: u8, entries: usize) -> bool
     requires { counter < 16 }
 {
     let packet = packet_of(&data(kept));
     match read(&Fast::new(), &packet) {
-        Ok(ops) => ops == fields(kept) && comes_back(&packet, &ops, sync, counter),
+        Ok(ops) => {
+            ops.offsets.len() == entries
+                && ops == fields(kept)
+                && comes_back(&packet, &ops, sync, counter)
+        }
         Err(_) => false,
     }
 }
 
-/// Data, and the byte 0 and the counter with which their fields are written.
-static KEPT: [(Kept, u8, u8); 4] = [
-    (Kept::Worked, 0xB8, 13),
-    (Kept::Page, 0x47, 9),
-    (Kept::Greatest, 0x47, 15),
-    (Kept::LastPage, 0x47, 15),
+/// Data, the byte 0 and the counter with which their fields are written, and how many entries they have.
+static KEPT: [(Kept, u8, u8, usize); 4] = [
+    (Kept::Worked, 0xB8, 13, 1),
+    (Kept::Page, 0x47, 9, 2),
+    (Kept::Greatest, 0x47, 15, 35),
+    (Kept::LastPage, 0x47, 15, 34),
 ];
 
 #[test]
@@ -232,8 +236,8 @@ fn worked_fields_a_page_greatest_numbers_and_the_last_page_of_the_most_are_read_
     rt: HostRuntime,
 ) {
     for i in 0..KEPT.len() {
-        let (kept, sync, counter) = KEPT[i];
-        expect(&rt, is_kept(kept, sync, counter), i);
+        let (kept, sync, counter, entries) = KEPT[i];
+        expect(&rt, is_kept(kept, sync, counter, entries), i);
     }
 }
 

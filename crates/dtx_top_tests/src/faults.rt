@@ -182,7 +182,7 @@ fn has_ended_well(desk: &Desk, whole: &Desk, case: &Case, call: Call, nth: u64) 
     }
 }
 
-/// Whether at least half of the output stands.
+/// Whether at least half of the output "o" stands, where a command has one. `net` and `trial` have none.
 fn has_half(desk: &Desk, whole: &Desk) -> bool {
     desk.file("o").len() >= whole.file("o").len() / 2
 }
@@ -227,6 +227,7 @@ impl Desks {
     /// where its last read fails, half of the output stands.
     fn always_ends_well(&mut self, case: &Case) -> Result<bool, AllocError> {
         run_over(&mut self.whole, &self.inputs, case, Call::Read, NEVER)?;
+        // The call that fails last is the last read.
         for call in [Call::Begin, Call::Append, Call::Read] {
             if !self.ends_well(case, call)? {
                 return Ok(false);

@@ -33,7 +33,8 @@ fn are_placed(plan: &Plan) -> bool {
         && most.place(1019) == None
 }
 
-/// A number of transmitters, the last one's address, and whether the plan has these, or why it is refused.
+/// How many transmitters stand before the last one, its address, and whether they stand at their places, or why the
+/// plan is refused.
 type Row = (u32, u32, Answer);
 
 static ROWS: [Row; 3] = [

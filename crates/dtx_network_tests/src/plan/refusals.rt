@@ -268,7 +268,7 @@ static NETWORKS: [Row; 16] = [
 ];
 
 /// What refuses an event up to its `from`.
-static EVENT_BEGINS: [Row; 18] = [
+static EVENT_BEGINS: [Row; 19] = [
     (EVENTS, "[{ more = 1 }]", ("do", 0, "missing")),
     (EVENTS, "[{ do = 1, more = 1 }]", ("do", 0, "kind")),
     (EVENTS, "[{ do = 'stop', more = 1 }]", ("do", 0, "range")),
@@ -339,10 +339,15 @@ static EVENT_BEGINS: [Row; 18] = [
         "[{ do = 'send', to = 7, from = 624000000, count = 0 }]",
         ("from", 0, "range"),
     ),
+    (
+        EVENTS,
+        "[{ do = 'restart', to = 7 }, { do = 'restart' }]\nnet.receive = 1",
+        ("to", 1, "missing"),
+    ),
 ];
 
 /// What refuses it behind that.
-static EVENT_ENDS: [Row; 16] = [
+static EVENT_ENDS: [Row; 15] = [
     (
         EVENTS,
         "[{ do = 'send', to = 7, from = 0 }]",
@@ -417,11 +422,6 @@ static EVENT_ENDS: [Row; 16] = [
         EVENTS,
         "[{ do = 'lie', to = 7, from = 0, states = '012345670128' }]",
         ("states", 0, "range"),
-    ),
-    (
-        EVENTS,
-        "[{ do = 'restart', to = 7 }, { do = 'restart' }]\nnet.receive = 1",
-        ("to", 1, "missing"),
     ),
 ];
 
