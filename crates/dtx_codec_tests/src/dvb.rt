@@ -66,8 +66,8 @@ fn the_blocks_are_those_of_an_independent_program(rt: HostRuntime) {
     expect(&rt, DvbOut::new(rt.alloc()), are_sent);
 }
 
-/// The stream's blocks with so many wrong bytes of the first word, at most as many as blocks wait; byte j of it stands at
-/// j + 204 * (j mod 12).
+/// The stream's blocks with so many wrong bytes of the first word, at most as many as blocks wait; byte j of it stands
+/// at j + 204 * (j mod 12).
 fn with_wrong(out: &mut DvbOut, wrong: usize) -> Blocks {
     let mut blocks = sent(out);
     for j in 0..WAITING {

@@ -61,8 +61,8 @@ fn each_level_has_its_symbol(rt: HostRuntime) {
     }
 }
 
-/// The sync of a first field, of whose symbols those from place `from` on have the wrong sign, `count` of them or as many
-/// as there are.
+/// The sync of a first field, of whose symbols those from place `from` on have the wrong sign, `count` of them or as
+/// many as there are.
 fn with_wrong(from: usize, count: usize) -> [i8; SEGMENT] {
     let mut out = [0; SEGMENT];
     field_sync(false, &[-7; PRECODE], &mut out);
