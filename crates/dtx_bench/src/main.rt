@@ -36,56 +36,19 @@ fn main(rt: HostRuntime) -> io::Result<()> {
     }
 }
 
-/// The parts that are measured.
-#[derive(Clone, Copy)]
-enum Part {
-    Encode,
-    Correct,
-    Whiten,
-    Spread,
-    Outer,
-    Trellis,
-    Group,
-    Proves,
-    Receive,
-    Mend,
-}
-
-const WORDS: [(&str, Part); 10] = [
-    ("encode", Part::Encode),
-    ("correct", Part::Correct),
-    ("whiten", Part::Whiten),
-    ("spread", Part::Spread),
-    ("outer", Part::Outer),
-    ("trellis", Part::Trellis),
-    ("group", Part::Group),
-    ("proves", Part::Proves),
-    ("receive", Part::Receive),
-    ("mend", Part::Mend),
-];
-
-fn part_of(word: &str) -> Option<Part> {
-    for (name, part) in &WORDS {
-        if *name == word {
-            return Some(*part);
-        }
-    }
-    None
-}
-
 fn print_times(rt: &(impl Clock + Print), alloc: Global, word: &str) -> io::Result<()> {
-    match part_of(word) {
-        Some(Part::Encode) => print_encode_times(rt),
-        Some(Part::Correct) => print_correct_times(rt),
-        Some(Part::Whiten) => print_whiten_times(rt, alloc),
-        Some(Part::Spread) => print_spread_times(rt, alloc),
-        Some(Part::Outer) => print_outer_times(rt, alloc),
-        Some(Part::Trellis) => print_trellis_times(rt),
-        Some(Part::Group) => print_group_times(rt, alloc),
-        Some(Part::Proves) => print_proves_times(rt, alloc),
-        Some(Part::Receive) => print_receive_times(rt, alloc),
-        Some(Part::Mend) => print_mend_times(rt),
-        None => rt.println(
+    match word {
+        "encode" => print_encode_times(rt),
+        "correct" => print_correct_times(rt),
+        "whiten" => print_whiten_times(rt, alloc),
+        "spread" => print_spread_times(rt, alloc),
+        "outer" => print_outer_times(rt, alloc),
+        "trellis" => print_trellis_times(rt),
+        "group" => print_group_times(rt, alloc),
+        "proves" => print_proves_times(rt, alloc),
+        "receive" => print_receive_times(rt, alloc),
+        "mend" => print_mend_times(rt),
+        _ => rt.println(
             "usage: dtx_bench [encode|correct|whiten|spread|outer|trellis|group|proves|receive|mend]",
         ),
     }
