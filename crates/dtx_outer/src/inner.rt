@@ -188,8 +188,8 @@ impl<
             return Taken::None;
         }
         let place = self.place;
-        self.place = following(place, W::PERIOD / K);
-        give(corrected, &self.whitener, K * place, word, out)
+        self.place = following::<W, K>(place);
+        give(corrected, &self.whitener, place, word, out)
     }
 
     /// Gathers a block. The word is the end of the block before it and the begin of this one, so that its first byte is
@@ -231,21 +231,21 @@ impl<
     }
 }
 
-/// The data of a word, unwhitened from a place on.
+/// The data of a word, unwhitened as this packet of the whitener's period.
 fn give<W: Whitener, const N: usize, const K: usize>(
     corrected: Result<u8, TooMany>,
     whitener: &W,
-    from: usize,
+    place: usize,
     word: &[u8; N],
     out: &mut [u8; K],
 ) -> Taken
     requires code { IsCode N K }
-    requires within { from + K ≤ W.PERIOD }
+    requires within { K * place + K ≤ W.PERIOD }
     ensures { (gathered : List ℕ)
         → MatchResult corrected (IsCorrected N K gathered word.now) (λ _e. IsLeft N K gathered word.now)
-        → Gives N K (W.bytes whitener.now) from gathered out.new result }
+        → Gives N K (W.bytes whitener.now) (K * place) gathered out.new result }
 {
-    whiten_to::<W, K>(whitener, from, &word[..K], &mut out[..]);
+    whiten_to::<W, K>(whitener, K * place, &word[..K], &mut out[..]);
     match corrected {
         Ok(fixed) => Taken::Good { fixed },
         Err(TooMany) => Taken::Bad,
@@ -310,13 +310,14 @@ fn block<const N: usize>(bytes: &[u8], p: usize) -> &[u8]
     &bytes[N * p..N * p + N]
 }
 
-/// The place after this one, of so many in a turn.
-fn following(place: usize, count: usize) -> usize
-    requires { place < count }
-    ensures next { result ≡ (if place + 1 == count then 0 else place + 1) }
-    ensures within { result < count }
+/// The packet of the whitener's period after this one.
+fn following<W: Whitener, const K: usize>(place: usize) -> usize
+    requires some { 1 ≤ K }
+    requires within { place < W.PERIOD / K }
+    ensures next { result ≡ (if place + 1 == W.PERIOD / K then 0 else place + 1) }
+    ensures within { result < W.PERIOD / K }
 {
-    if place + 1 == count {
+    if place + 1 == W::PERIOD / K {
         return 0;
     }
     place + 1

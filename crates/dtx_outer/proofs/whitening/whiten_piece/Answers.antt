@@ -3,6 +3,7 @@ use Rattle.std.proofs.lemmas.List.{get_or_append_left, get_or-append_right, get_
 use Rattle.std.proofs.lemmas.List.{length-drop, length-take-le}
 use Rattle.std.specs.Int.RustNames.{bit_xor}
 use Rattle.dtx_laws.specs.WhiteningLaws.{length-whitened, get_or-whitened}
+use Rattle.dtx_lists.proofs.Written.{length-put_mid}
 use Rattle.dtx_outer.proofs.whitening.whiten_piece.Goals as goal
 
 pub returns-clause-piece : goal.returns-clause-piece
@@ -28,3 +29,17 @@ returns-clause-piece g c = λ j a b.
     (get_or-take (at + 16 - at) (drop at head) (j - at) 0 (omega (arith, a, b)) ∙ get_or-drop at head (j - at) 0
     ∙ ap (λ i. get_or head i 0) here)
     (ap (λ i. get_or white i 0) there)
+
+pub returns-clause-same : goal.returns-clause-same
+returns-clause-same g c =
+    length-put_mid c.args.at (c.args.at + 16 - c.args.at) c.args.out.now c.copy_from_slice.new.self
+    (omega (arith, c.requires.at, c.requires.long))
+    (c.copy_from_slice.ensures.len
+    ∙ length-take-le (c.args.at + 16 - c.args.at) (drop c.args.at c.args.out.now)
+    (omega (arith, length-drop c.args.at c.args.out.now, c.requires.at, c.requires.long)))
+
+pub returns-clause-before : goal.returns-clause-before
+returns-clause-before g c = λ j l.
+    get_or_append_left (take c.args.at c.args.out.now) _ 0 j
+    (omega (arith, l, length-take-le c.args.at c.args.out.now (omega (arith, c.requires.at, c.requires.long))))
+    ∙ get_or-take c.args.at c.args.out.now j 0 l

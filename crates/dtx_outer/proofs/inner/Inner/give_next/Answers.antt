@@ -1,4 +1,4 @@
-use Rattle.std.proofs.Common.{rules, ◌*◌, ◌/◌, ◌<◌, ap, subst, sym, ◌∙◌, arith}
+use Rattle.std.proofs.Common.{rules, ◌*◌, ◌/◌, ap, subst, sym, arith}
 use Rattle.dtx_outer.specs.Inner.{Kept, Gives}
 use Rattle.dtx_outer.proofs.Coding.{packet_within}
 use Rattle.dtx_outer.proofs.Runs.{next_waiting, next_given}
@@ -19,20 +19,8 @@ returns-then-self-gt0-clause-kept g c =
     })
     c.args.self.now c.self.view_is c.if-self-gt0.true
 
-pub nonzero_div-PERIOD : goal.nonzero_div-PERIOD
-nonzero_div-PERIOD g c = omega (arith, c.requires.some)
-
 pub following-self-inside-requires : goal.following-self-inside-requires
-following-self-inside-requires g c =
-    subst (λ period. c.self.inside.place < period / g.row.K) (sym c.PERIOD.ensures) c.self.invariant.1
-
--- the packet is one of the period
-pub overflow_mul-place : goal.overflow_mul-place
-overflow_mul-place g c = omega (
-  arith,
-  packet_within g.row.K c.self.inside.place g.W.Whitener.PERIOD (omega (arith, c.requires.some)) c.self.invariant.1,
-  g.met.W.Whitener.fits,
-)
+following-self-inside-requires g c = record { some = c.requires.some; within = c.self.invariant.1 }
 
 pub give-requires : goal.give-requires
 give-requires g c = (
@@ -48,11 +36,7 @@ give-requires g c = (
 )
 
 pub invariant_of-self-2 : goal.invariant_of-self-2
-invariant_of-self-2 g c = (
-  c.self.invariant.0,
-  subst (λ period. c.following-self-inside.result < period / g.row.K) c.PERIOD.ensures
-      c.following-self-inside.ensures.within,
-)
+invariant_of-self-2 g c = (c.self.invariant.0, c.following-self-inside.ensures.within)
 
 pub returns-clause-waiting : goal.returns-clause-waiting
 returns-clause-waiting g c = λ h.
@@ -65,7 +49,7 @@ returns-clause-given g c = λ _ gathered corrected.
 
 pub returns-clause-kept : goal.returns-clause-kept
 returns-clause-kept g c =
-    next_given g.row.K (c.PERIOD.result / g.row.K) c.following-self-inside.result
+    next_given g.row.K (g.W.Whitener.PERIOD / g.row.K) c.following-self-inside.result
     (record {
       white = g.W.Whitener.bytes c.self.inside.whitener;
       branches = g.G.Gather.seen c.self.inside.gather;
@@ -74,5 +58,5 @@ returns-clause-kept g c =
       place = c.self.inside.place;
     })
     c.args.self.now c.self.view_is c.if-self-gt0.false
-    (ap (λ period. period / g.row.K) (c.PERIOD.ensures ∙ sym (g.met.W.Whitener.long c.self.inside.whitener)))
+    (ap (λ period. period / g.row.K) (sym (g.met.W.Whitener.long c.self.inside.whitener)))
     c.following-self-inside.ensures.next

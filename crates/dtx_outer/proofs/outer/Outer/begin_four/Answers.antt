@@ -1,6 +1,6 @@
-use Rattle.std.proofs.Common.{rules, ◌≡◌, ℕ, ◌+◌, ◌-◌, ◌*◌, ◌<◌, ◌≤◌, [], List, Bor, get_or, length, map, ap, sym, ◌∙◌}
+use Rattle.std.proofs.Common.{◌≡◌, ℕ, ◌+◌, ◌-◌, ◌*◌, ◌<◌, ◌≤◌, [], List, Bor, get_or, drop, length, map, ap, sym, ◌∙◌}
 use Rattle.std.proofs.Common.{arith}
-use Rattle.std.proofs.lemmas.List.{get_or-map}
+use Rattle.std.proofs.lemmas.List.{get_or-map, length-drop, length-take-le}
 use Rattle.dtx_laws.specs.CompletedLaws.{fronts_more}
 use Rattle.dtx_laws.specs.Whitening.{whitened}
 use Rattle.dtx_laws.specs.WhiteningLaws.{length-whitened}
@@ -14,7 +14,7 @@ overflow_add-from g c =
     let small : c.args.place + c.loop-p.p ≤ g.W.Whitener.PERIOD =
     place_small g.row.K c.args.place g.W.Whitener.PERIOD c.loop-p.p (omega (arith, c.requires.code.some))
     c.requires.within c.loop-p-test.true in
-    search rules
+    omega (arith, small, g.met.W.Whitener.fits)
 
 -- the word begins within the words
 pub overflow_mul-at : goal.overflow_mul-at
@@ -22,28 +22,27 @@ overflow_mul-at g c =
     let whole : g.row.N * c.loop-p.p + g.row.K ≤ length c.loop-p.words =
     front_within g.row.N g.row.K c.loop-p.p (length c.loop-p.words) (omega (arith, c.requires.code.longer))
     c.loop-p-test.true c.loop-p.invariant.long in
-    search rules
+    omega (arith, whole, c.loop-p.invariant.long, c.requires.code.short)
 
 pub overflow_add-at : goal.overflow_add-at
 overflow_add-at g c =
     let whole : g.row.N * c.loop-p.p + g.row.K ≤ length c.loop-p.words =
     front_within g.row.N g.row.K c.loop-p.p (length c.loop-p.words) (omega (arith, c.requires.code.longer))
     c.loop-p-test.true c.loop-p.invariant.long in
-    search rules
+    omega (arith, whole, c.loop-p.invariant.long, c.requires.code.short)
 
 pub slice_bounds-whiten_to-end : goal.slice_bounds-whiten_to-end
 slice_bounds-whiten_to-end g c =
-    let whole : g.row.N * c.loop-p.p + g.row.K ≤ length c.loop-p.words =
     front_within g.row.N g.row.K c.loop-p.p (length c.loop-p.words) (omega (arith, c.requires.code.longer))
-    c.loop-p-test.true c.loop-p.invariant.long in
-    search rules
+    c.loop-p-test.true c.loop-p.invariant.long
 
 pub whiten_to-requires-clause-room : goal.whiten_to-requires-clause-room
 whiten_to-requires-clause-room g c =
     let whole : g.row.N * c.loop-p.p + g.row.K ≤ length c.loop-p.words =
     front_within g.row.N g.row.K c.loop-p.p (length c.loop-p.words) (omega (arith, c.requires.code.longer))
     c.loop-p-test.true c.loop-p.invariant.long in
-    search rules
+    length-take-le (g.row.N * c.loop-p.p + g.row.K - g.row.N * c.loop-p.p) (drop (g.row.N * c.loop-p.p) c.loop-p.words)
+    (omega (arith, length-drop (g.row.N * c.loop-p.p) c.loop-p.words, whole)) ∙ omega arith
 
 pub overflow_mul-from : goal.overflow_mul-from
 overflow_mul-from g c =
