@@ -1,19 +1,13 @@
 -- The pieces of a line, as far as a loop has come.
-use Rattle.std.proofs.Common.{◌≡◌, ◌≢◌, ℕ, ◌+◌, ◌≤◌, ◌<◌, suc, List, ◌++◌, length, map, take, drop, get_or}
+use Rattle.std.proofs.Common.{◌≡◌, ℕ, ◌+◌, ◌≤◌, ◌<◌, suc, List, ◌++◌, length, map, take, drop, get_or}
 use Rattle.std.proofs.Common.{refl, sym, ap, ◌∙◌, add-one, append_assoc}
-use Rattle.std.specs.Prelude.{Option, codes, decimal, min}
+use Rattle.std.specs.Prelude.{codes, decimal, min}
 use Rattle.std.specs.Borrow.{Bor}
 use Rattle.std.proofs.lemmas.List.{take_min, take-map}
 use Rattle.std.proofs.Math.Seq.{drop-cons}
 use Rattle.std.proofs.Math.ListN.{drop_of_length-le}
-use Rattle.dtx_plan.specs.declared.refusal.PlanNo.{PlanNo}
-use Rattle.dtx_meaning.specs.declared.status.Outcome.{Outcome}
-use Rattle.dtx_meaning.specs.declared.status.Status.{Status}
-use Rattle.dtx_meaning.specs.declared.status.Status.TheVariants.{Done, Usage, Same, Absent, Plan, Packet, TooLong}
-use Rattle.dtx_meaning.specs.declared.status.Status.TheVariants.{OutOfFeed, OutOfAir, NoSync, ReadFault, WriteFault}
-use Rattle.dtx_meaning.specs.declared.status.Status.TheVariants.{Memory}
 use Rattle.dtx_words.specs.declared.rows.Command.{Command}
-use Rattle.dtx_words.specs.Line.{bare_line, line_at, numbered, refusal_line, verbs_behind}
+use Rattle.dtx_words.specs.Line.{numbered, verbs_behind}
 use Rattle.dtx_words.specs.Rows.{row_of}
 
 -- the labels behind references
@@ -57,39 +51,3 @@ pub labels_taken : (labels : List (Bor (List ℕ))) (n k : ℕ) → k ≡ min n 
 labels_taken labels n k is =
     ap (λ m. labels_behind (take m labels)) is ∙ ap labels_behind (take_min n labels)
     ∙ sym (take-map (λ label. label.now) n labels)
-
--- the line of a status but that of a command that is done
-pub line_of_refusal : (command : Option Command) (status : Status) (outcome : Outcome) (name : List ℕ) → status ≢ Done
-    → line_at command status outcome name ≡ refusal_line status name
-line_of_refusal command Done outcome name not_done = absurd (not_done refl)
-line_of_refusal command Usage outcome name not_done = refl
-line_of_refusal command Same outcome name not_done = refl
-line_of_refusal command (Absent input) outcome name not_done = refl
-line_of_refusal command (Plan refusal) outcome name not_done = refl
-line_of_refusal command (Packet k) outcome name not_done = refl
-line_of_refusal command TooLong outcome name not_done = refl
-line_of_refusal command (OutOfFeed event) outcome name not_done = refl
-line_of_refusal command (OutOfAir entry) outcome name not_done = refl
-line_of_refusal command NoSync outcome name not_done = refl
-line_of_refusal command ReadFault outcome name not_done = refl
-line_of_refusal command WriteFault outcome name not_done = refl
-line_of_refusal command Memory outcome name not_done = refl
-
--- the line of a refusal that has neither a name nor a number
-pub refusal_is_bare : (status : Status) (name : List ℕ) → status ≢ Usage → status ≢ Same
-    → ((input : ℕ) → status ≢ Absent input) → ((refusal : PlanNo) → status ≢ Plan refusal)
-    → ((k : ℕ) → status ≢ Packet k) → ((event : ℕ) → status ≢ OutOfFeed event)
-    → ((entry : ℕ) → status ≢ OutOfAir entry) → refusal_line status name ≡ bare_line status
-refusal_is_bare Done name usage same absent plan packet feed air = refl
-refusal_is_bare Usage name usage same absent plan packet feed air = absurd (usage refl)
-refusal_is_bare Same name usage same absent plan packet feed air = absurd (same refl)
-refusal_is_bare (Absent input) name usage same absent plan packet feed air = absurd (absent input refl)
-refusal_is_bare (Plan refusal) name usage same absent plan packet feed air = absurd (plan refusal refl)
-refusal_is_bare (Packet k) name usage same absent plan packet feed air = absurd (packet k refl)
-refusal_is_bare TooLong name usage same absent plan packet feed air = refl
-refusal_is_bare (OutOfFeed event) name usage same absent plan packet feed air = absurd (feed event refl)
-refusal_is_bare (OutOfAir entry) name usage same absent plan packet feed air = absurd (air entry refl)
-refusal_is_bare NoSync name usage same absent plan packet feed air = refl
-refusal_is_bare ReadFault name usage same absent plan packet feed air = refl
-refusal_is_bare WriteFault name usage same absent plan packet feed air = refl
-refusal_is_bare Memory name usage same absent plan packet feed air = refl

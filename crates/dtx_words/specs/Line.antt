@@ -35,24 +35,6 @@ usage_line = verbs_behind (codes "usage: dtx ") first_words ++ codes "\n"
 abbrev pub done_line : Option Command → Outcome → List ℕ
 done_line command outcome = numbered (labels_of command outcome.shown) outcome.numbers ++ codes "\n"
 
--- the line of a refusal, with its name where it has one
-abbrev pub refusal_line : Status → List ℕ → List ℕ
-refusal_line Done name = []
-refusal_line Usage name = usage_line
-refusal_line Same name = codes "same " ++ name ++ codes "\n"
-refusal_line (Absent input) name = codes "absent " ++ name ++ codes "\n"
-refusal_line (Plan refusal) name =
-    codes "plan " ++ key_word refusal.key ++ codes " " ++ decimal refusal.item ++ codes " " ++ rule_word refusal.rule
-    ++ codes "\n"
-refusal_line (Packet k) name = codes "packet " ++ decimal k ++ codes "\n"
-refusal_line TooLong name = codes "too long\n"
-refusal_line (OutOfFeed event) name = codes "out of feed " ++ decimal event ++ codes "\n"
-refusal_line (OutOfAir entry) name = codes "out of air " ++ decimal entry ++ codes "\n"
-refusal_line NoSync name = codes "no sync\n"
-refusal_line ReadFault name = codes "read fault\n"
-refusal_line WriteFault name = codes "write fault\n"
-refusal_line Memory name = codes "no memory\n"
-
 -- the line of a refusal that has neither a name nor a number
 abbrev pub bare_line : Status → List ℕ
 bare_line TooLong = codes "too long\n"
@@ -61,6 +43,19 @@ bare_line ReadFault = codes "read fault\n"
 bare_line WriteFault = codes "write fault\n"
 bare_line Memory = codes "no memory\n"
 bare_line _ = []
+
+-- the line of a refusal, with its name where it has one
+abbrev pub refusal_line : Status → List ℕ → List ℕ
+refusal_line Usage name = usage_line
+refusal_line Same name = codes "same " ++ name ++ codes "\n"
+refusal_line (Absent input) name = codes "absent " ++ name ++ codes "\n"
+refusal_line (Plan refusal) name =
+    codes "plan " ++ key_word refusal.key ++ codes " " ++ decimal refusal.item ++ codes " " ++ rule_word refusal.rule
+    ++ codes "\n"
+refusal_line (Packet k) name = codes "packet " ++ decimal k ++ codes "\n"
+refusal_line (OutOfFeed event) name = codes "out of feed " ++ decimal event ++ codes "\n"
+refusal_line (OutOfAir entry) name = codes "out of air " ++ decimal entry ++ codes "\n"
+refusal_line status name = bare_line status
 
 -- the line of a status, with the numbers of that outcome, and that name
 abbrev pub line_at : Option Command → Status → Outcome → List ℕ → List ℕ

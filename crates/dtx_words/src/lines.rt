@@ -27,9 +27,21 @@ pub fn line<O: Sink>(
     ensures written { IsPut (line_of command outcome.now name.now) (O.written out.old) result (O.written out.new) }
     ensures gone { IsCounted (O.faults out.old) result (O.faults out.new) }
 {
-    match outcome.status {
+    let status = outcome.status;
+    match status {
         Status::Done => put_done(command, outcome, out),
-        status => put_refusal(status, name, out),
+        Status::Usage => put_usage(out),
+        Status::Same => put_name("same ", name, out),
+        Status::Absent(_) => put_name("absent ", name, out),
+        Status::Plan(no) => put_plan(no, out),
+        Status::Packet(k) => put_count("packet ", k, out),
+        Status::OutOfFeed(event) => put_count("out of feed ", event as u64, out),
+        Status::OutOfAir(entry) => put_count("out of air ", entry as u64, out),
+        Status::TooLong
+        | Status::NoSync
+        | Status::ReadFault
+        | Status::WriteFault
+        | Status::Memory => put_line(bare_line(status), out),
     }
 }
 
@@ -97,23 +109,6 @@ fn put_verb<O: Sink>(before: &'static str, command: Command, out: &mut O) -> Res
     ensures gone { IsCounted (O.faults out.old) result (O.faults out.new) }
 {
     put_all(out, &[before, row(command).verb])
-}
-
-/// Prints the line of a refusal, with a name where it has one.
-fn put_refusal<O: Sink>(status: Status, name: &str, out: &mut O) -> Result<(), SinkNo>
-    ensures written { IsPut (refusal_line status name.now) (O.written out.old) result (O.written out.new) }
-    ensures gone { IsCounted (O.faults out.old) result (O.faults out.new) }
-{
-    match status {
-        Status::Usage => put_usage(out),
-        Status::Same => put_name("same ", name, out),
-        Status::Absent(_) => put_name("absent ", name, out),
-        Status::Plan(no) => put_plan(no, out),
-        Status::Packet(k) => put_count("packet ", k, out),
-        Status::OutOfFeed(event) => put_count("out of feed ", event as u64, out),
-        Status::OutOfAir(entry) => put_count("out of air ", entry as u64, out),
-        _ => put_line(bare_line(status), out),
-    }
 }
 
 /// The line of a refusal that has neither a name nor a number.
