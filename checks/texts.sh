@@ -115,6 +115,27 @@ few_edits() {
     done
 }
 
+# A wrong program beside those of the gate has to fit the code, in which each of its old texts stands once.
+misfit_programs() {
+    python3 - checks/wrong_programs/*/*.edit <<'PROGRAM'
+import sys
+
+for edit in sys.argv[1:]:
+    texts, path, old = {}, '', ''
+    for line in open(edit, encoding='utf-8').read().split('\n'):
+        word, _, text = line.partition(': ')
+        if word == 'file':
+            path = f"crates/{edit.split('/')[2]}/{text}"
+        elif word == 'old':
+            old = text
+            texts.setdefault(path, open(path, encoding='utf-8').read())
+            if texts[path].count(old) != 1:
+                print(f'{edit}: its old text is in {path} {texts[path].count(old)} times')
+        elif word == 'new':
+            texts[path] = texts[path].replace(old, text)
+PROGRAM
+}
+
 # A name in capitals, as in crates/NAME, stands for any.
 missing_files() {
     local text path
@@ -147,6 +168,7 @@ rule 'HANDLES' "$(handles)"
 rule 'a README of more than 120 lines' "$(awk 'END { if (NR > 120) print "README.md: " NR " lines" }' README.md)"
 rule 'the gate' "$(gate)"
 rule 'fewer than three must-fail edits' "$(few_edits)"
+rule 'a wrong program that does not fit' "$(misfit_programs 2>&1)"
 rule 'a file that is not there' "$(missing_files)"
 rule 'what a build made is committed' "$(git ls-files -- 'crates/*/out/*')"
 rule 'a script' "$(scripts)"
