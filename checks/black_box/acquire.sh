@@ -22,6 +22,7 @@ from_air() {
 
 from_air 'as they were sent' 'symbols 1085760 runs 1 segments 1305 cost 0 loose 0' 0:1305 <"$room/feed.sym"
 from_air 'behind 100 of nothing' 'symbols 1085860 runs 1 segments 1305 cost 0 loose 100' 0:1305 < <(head -c 100 /dev/zero && bytes 0)
+from_air 'few segments behind 100 of nothing' 'symbols 5092 runs 1 segments 6 cost 0 loose 100' 0:6 < <(head -c 100 /dev/zero && bytes 0 4992)
 from_air 'without the first 1000' 'symbols 1084760 runs 1 segments 992 cost 0 loose 259416' 313:1305 < <(bytes 1000)
 from_air 'some of a field are lost' 'symbols 1085660 runs 2 segments 992 cost 0 loose 260316' 0:313 626:1305 \
     < <(bytes 0 300000 && bytes 300100)
@@ -44,6 +45,9 @@ cmp -s "$room/feed.sym" out.sym || wrong 'out.sym has other segments'
 
 start 'symbols from the air: none in which a field begins'
 head -c 2000 /dev/zero >in.sym
+run 10 'no sync' acquire 1 in.sym out.sym
+[[ -f out.sym && ! -s out.sym ]] || wrong 'out.sym is not empty'
+bytes 832 1664 >in.sym
 run 10 'no sync' acquire 1 in.sym out.sym
 [[ -f out.sym && ! -s out.sym ]] || wrong 'out.sym is not empty'
 : >in.sym

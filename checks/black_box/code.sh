@@ -53,3 +53,12 @@ run 0 'packets 1300 filled 0 loose 0' adapt "$plan" ../inputs/given.ts feed.ts
 run 0 'packets 1300 segments 1305 loose 0' code feed.ts out.sym
 coded_front 1300
 leaves feed.ts out.sym
+
+start 'zeros are a field sync, and then the lowest symbol'
+"$top/checks/independent/reference.py" zeros 4 in.ts
+run 0 'packets 4 segments 5 loose 0' code in.ts out.sym
+for ((segment = 0; segment < 4; segment++)); do
+    printf '\x05\xfb\xfb\x05'
+    head -c 828 /dev/zero | tr '\0' '\371'
+done >wanted.sym
+tail -c 3328 out.sym | cmp -s - wanted.sym || wrong 'out.sym has another symbol'

@@ -74,6 +74,21 @@ for place in 0 5 107 108 1000 1950 2000 2345 3000 3984; do
     is_first_of out.ts "$room/x.ts" 9
 done
 
+# Byte j of the first word stands at j + 204 * (j mod 12).
+while read -r count fixed flagged; do
+    start "$count wrong bytes of a word"
+    cp "$room/y" y
+    for ((index = 0; index < count; index++)); do
+        other_bytes y $((205 * index)) 1
+    done
+    reads y
+    [[ $(cat "$room/said") == "blocks 20 packets 9 fixed $fixed flagged $flagged loose 0" ]] || wrong "printed $(cat "$room/said")"
+    tail -c +189 out.ts | cmp -s - <(tail -c +189 "$room/x.ts" | head -c $((8 * 188))) || wrong 'the other packets are not those of the stream'
+done <<'end'
+8 8 0
+9 0 1
+end
+
 start 'words with too many wrong bytes are flagged and kept'
 cp "$room/y" y
 other_bytes y 2244 204

@@ -119,7 +119,8 @@ input_and_output_are_equal ../inputs/ten missing.toml ../inputs/ten 3 same_../in
 changes_and_output_are_equal missing changes.toml changes.toml 3 same_changes.toml
 end
 
-# Changes that are refused come before a missing input, and leave an older output.
+# Changes that are refused come before a missing input, and leave an older output. Of a text with two faults the one is told that the walk
+# meets first.
 while IFS='|' read -r line text; do
     start "changes that are refused: $line, $text"
     printf '%b' "$text" >changes.toml
@@ -144,6 +145,20 @@ damage.count 0 range|[[damage]]\nat = 0\ncount = 0\n
 damage.put 0 missing|[[damage]]\nat = 0\n
 damage.put 0 kind|[[damage]]\nat = 0\nput = "A"\n
 damage.put 0 range|[[damage]]\nat = 0\nput = 128\n
+whole 0 text|damage = 1 1
+whole 0 unknown|damage = 1\nstart = 0
+damage 0 kind|damage = {}
+damage 0 unknown|damage = [{ from = 7 }]
+damage.at 0 missing|damage = [{ count = 0 }]
+damage.at 0 kind|damage = [{ at = true, count = 0 }]
+damage.at 0 range|damage = [{ at = 520832000000, count = 0 }]
+damage.count 0 kind|damage = [{ at = 0, count = "1" }]
+damage.count 0 range|damage = [{ at = 0, count = 0 }]
+damage.count 0 range|damage = [{ at = 0, count = 520832000001, put = 128 }]
+damage.put 0 missing|damage = [{ at = 0 }, 1]
+damage.put 0 range|damage = [{ at = 0, put = -129 }]
+damage.at 1 order|damage = [{ at = 4, count = 3, put = 0 }, { at = 6, count = 0 }]
+damage.at 2 order|damage = [{ at = 4, count = 3, put = 0 }, { at = 7, put = 0 }, { at = 7, put = 0 }]
 end
 
 start 'changes beyond 16,777,216 bytes'

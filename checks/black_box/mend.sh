@@ -28,6 +28,30 @@ head -c $((573 * 188)) in.ts | cmp -s - out.ts || wrong 'out.ts is not the first
 
 puts_lost_segments_right mend
 
+# Of a stream of zeros whole segments are missing, and others wrong, from one to another, and symbols of its second field sync; each missing
+# byte of a word costs half as much as a wrong one. The numbers are those of a program that follows the rules over the whole list.
+"$top/checks/independent/reference.py" zeros 624 "$room/zeros.ts"
+"$dtx" code "$room/zeros.ts" "$room/zeros.sym" >"$room/said"
+while read -r lost spoilt fixed flagged; do
+    start "the segments $lost of zeros are missing, and $spoilt wrong"
+    cp "$room/zeros.sym" in.sym
+    missing $((313 * 832 + 820)) 12 in.sym
+    missing $((${lost%-*} * 832)) $(((${lost#*-} - ${lost%-*}) * 832)) in.sym
+    head -c $(((${spoilt#*-} - ${spoilt%-*}) * 832)) /dev/zero | tr '\0' '\177' |
+        dd of=in.sym bs=832 seek="${spoilt%-*}" conv=notrunc status=none
+    run 0 "segments 626 runs 1 packets 573 fixed $fixed flagged $flagged loose 0" mend in.sym out.ts
+    leaves in.sym out.ts
+done <<'end'
+306-311 0-0 0 0
+201-206 0-0 0 0
+201-207 0-0 0 48
+201-203 210-211 216 0
+201-204 210-212 69 44
+1-6 0-0 0 0
+620-626 0-0 0 2
+0-0 311-313 432 0
+end
+
 # Where segments are missing: at the begin and the end of a run, over a field sync that is due, and more of them than can be put right.
 while read -r shows from count flagged; do
     start "missing symbols: $shows"

@@ -1,22 +1,29 @@
 # Plans that are read and plans that are refused. Where a plan is refused no file is begun.
 
 # The beginnings of plans that are whole up to a place: of a network, of its table `net`, of an event, of what is received, of an
-# entry of damage.
+# entry of damage; and of shorter ones: up to the maximum delay, up to the transmitters, with one of these, up to what is received, and up
+# to the events.
 head='start = 0\nmax_delay = 5000000\n[[transmitter]]\naddress = 7\noffset = -10\n[[transmitter]]\naddress = 9\noffset = 25\n'
 net=$head'[net]\nstream = "s.ts"\n'
 event=$net'[[net.event]]\n'
 receive=$net'[net.receive]\n'
 damage=$receive'from = 7\n[[net.receive.damage]]\n'
+begun='start = 0\n'
+delayed=$begun'max_delay = 0\n'
+lone=$delayed'transmitter = [{ address = 7, offset = 0 }]\n'
+heard=$lone'net.stream = "s"\nnet.receive = '
+told=$lone'net.stream = "s"\nnet.event = '
 
-# plan_says TEXT: makes plan.toml of a text, in which {head}, {net}, {event}, {receive} and {damage} stand for these beginnings.
+# plan_says TEXT: makes plan.toml of a text, in which the name of a beginning in braces stands for it.
 plan_says() {
     local text=$1 part
-    for part in head net event receive damage; do
+    for part in head net event receive damage begun delayed lone heard told; do
         text=${text//"{$part}"/${!part}}
     done
     printf '%b' "$text" >plan.toml
 }
 
+# Of a text with two faults the one is told that the walk meets first.
 given 3 0
 while IFS='|' read -r line text; do
     start "a plan that is refused: $line, $text"
@@ -118,6 +125,70 @@ damage.put 0 missing|{damage}at = 0\n
 damage.put 0 kind|{damage}at = 0\nput = 0.0\n
 damage.put 0 range|{damage}at = 0\nput = 128\n
 damage.put 0 range|{damage}at = 0\nput = -129\n
+whole 0 text|start = 99999999999999999999
+whole 0 unknown|start = "x"\ndamage = []
+start 0 missing|max_delay = true
+start 0 range|start = 10000000\nmax_delay = 10000000
+max_delay 0 missing|{begun}transmitter = 1
+max_delay 0 range|{begun}max_delay = 10000000\ntransmitter = []
+transmitter 0 missing|{delayed}net = 1
+transmitter 0 kind|{delayed}transmitter = {}
+transmitter 0 kind|{delayed}transmitter = [1]\nnet = 1
+transmitter 0 unknown|{delayed}transmitter = [{ to = 7 }]
+address 0 missing|{delayed}transmitter = [{ offset = "x" }]
+address 0 kind|{delayed}transmitter = [{ address = "7", offset = "x" }]
+address 0 range|{delayed}transmitter = [{ address = -1 }]
+address 0 range|{delayed}transmitter = [{ address = 65536 }]
+offset 0 missing|{delayed}transmitter = [{ address = 7, delay = true }]
+offset 0 kind|{delayed}transmitter = [{ address = 7, offset = 0.5, delay = true }]
+offset 0 range|{delayed}transmitter = [{ address = 7, offset = -32769, delay = -1 }]
+offset 0 range|{delayed}transmitter = [{ address = 7, offset = 32768 }, { address = 7, offset = 0 }]
+delay 0 kind|{delayed}transmitter = [{ address = 7, offset = 0, delay = true }, 1]
+delay 0 range|{delayed}transmitter = [{ address = 7, offset = 0, delay = 4294967296 }, 1]
+delay 0 range|{delayed}transmitter = [{ address = 7, offset = 0, delay = -1 }]\nnet = 1
+address 1 twice|{delayed}transmitter = [{ address = 7, offset = -10 }, { address = 7, offset = 25 }]
+address 2 twice|{delayed}transmitter = [{ address = 7, offset = 0 }, { address = 9, offset = 0 }, { address = 7 }]
+address 2 missing|{delayed}transmitter = [{ address = 7, offset = 0 }, { address = 9, offset = 0 }, {}]
+net 0 kind|{lone}net = 1
+net 0 unknown|{lone}net = { stream = 1, from = 7 }
+stream 0 missing|{lone}net = { event = 1 }
+stream 0 kind|{lone}net = { stream = 1, event = 1 }
+stream 0 range|{lone}net = { stream = "", event = 1 }
+event 0 kind|{lone}net = { stream = "s", event = 1, receive = 1 }
+event 0 kind|{lone}net = { stream = "s", event = [1], receive = 1 }
+receive 0 kind|{lone}net = { stream = "s", event = [], receive = 1 }
+receive 0 kind|{heard}[]
+receive.from 0 missing|{heard}{ damage = 1 }
+receive.from 0 kind|{heard}{ from = true, damage = 1 }
+receive.from 0 range|{heard}{ from = -7, damage = 1 }
+receive.from 0 stranger|{heard}{ from = 8, damage = 1 }
+damage.at 1 order|{heard}{ from = 7, damage = [{ at = 0, put = 0 }, { at = 0, put = 0 }] }
+do 0 missing|{told}[{ more = 1 }]
+do 0 kind|{told}[{ do = 1, more = 1 }]
+do 0 range|{told}[{ do = "stop", more = 1 }]
+event 0 unknown|{told}[{ do = "send", seed = 1, to = 8 }]
+event 0 unknown|{told}[{ do = "foreign", at = 1 }]
+event 0 unknown|{told}[{ do = "flip", count = 1 }]
+event 0 unknown|{told}[{ do = "lie", with = 1 }]
+event 0 unknown|{told}[{ do = "restart", from = 0 }]
+to 0 missing|{told}[{ do = "send", from = true }]
+to 0 kind|{told}[{ do = "send", to = 7.0 }]
+to 0 range|{told}[{ do = "send", to = 65536 }]
+to 0 stranger|{told}[{ do = "foreign", to = 8, seed = -1 }]
+seed 0 missing|{told}[{ do = "foreign", to = 7, from = -1 }]
+seed 0 kind|{told}[{ do = "foreign", to = 7, seed = "1" }]
+seed 0 range|{told}[{ do = "foreign", to = 7, seed = -1, from = -1 }]
+from 0 missing|{told}[{ do = "send", to = 7, count = 0 }]
+from 0 kind|{told}[{ do = "lie", to = 7, from = true, states = 1 }]
+from 0 range|{told}[{ do = "send", to = 7, from = 624000000, count = 0 }]
+to 1 missing|{told}[{ do = "restart", to = 7 }, { do = "restart" }]\nnet.receive = 1
+count 0 range|{told}[{ do = "foreign", to = 7, seed = 0, from = 0, count = 0 }]
+count 0 range|{told}[{ do = "send", to = 7, from = 623999999, count = 2 }, 1]
+at 0 missing|{told}[{ do = "flip", to = 7, from = 0, with = 0 }]
+at 0 range|{told}[{ do = "flip", to = 7, from = 0, at = 188, with = 0 }]
+with 0 kind|{told}[{ do = "flip", to = 7, from = 0, at = 187, with = [] }]
+states 0 range|{told}[{ do = "lie", to = 7, from = 0, states = "0123456701238" }]
+states 0 range|{told}[{ do = "lie", to = 7, from = 0, states = "012345670128" }]
 end
 
 start 'a plan beyond 16,777,216 bytes'
@@ -165,6 +236,21 @@ start 'a plan of 1,021 transmitters whose entries break rules'
 run 5 'plan transmitter 0 range' adapt plan.toml ../inputs/given.ts out.ts
 sed -i 's/0, //' plan.toml
 run 5 'plan transmitter 0 kind' adapt plan.toml ../inputs/given.ts out.ts
+
+# How many entries a list may have, and how many bytes a name: what is met behind that is told, or else the list or the name.
+while IFS='|' read -r line before part count behind; do
+    start "a plan with $count times $part: $line"
+    plan_says "$before$(printf "$part%.0s" $(seq "$count"))$behind"
+    run 5 "plan $line" adapt plan.toml ../inputs/given.ts out.ts
+done <<'end'
+event 0 kind|{told}[|1,|10000|]
+event 0 range|{told}[|1,|10001|]
+damage 0 kind|{heard}{ from = 7, damage = [|1,|100000|] }
+damage 0 range|{heard}{ from = 7, damage = [|1,|100001|] }
+event 0 kind|{lone}net = { event = 1, stream = "|a|255|" }
+stream 0 range|{lone}net = { event = 1, stream = "|a|256|" }
+stream 0 range|{lone}net = { event = 1, stream = "|\xc3\xa9|128|" }
+end
 
 # The last of 1,020 entries breaks a rule.
 while IFS='|' read -r line last; do

@@ -32,6 +32,38 @@ head -c $((700 * 832 + 100)) "$room/feed.sym" >in.sym
 run 0 'segments 700 runs 1 packets 644 fixed 0 flagged 0 loose 100' receive in.sym out.ts
 head -c $((644 * 188)) "$room/received.ts" | cmp -s - out.ts || wrong 'out.ts is not the first 644 packets'
 
+while read -r segments packets; do
+    start "the first $segments segments of a feed"
+    head -c $((segments * 832)) "$room/feed.sym" >in.sym
+    run 0 "segments $segments runs 1 packets $packets fixed 0 flagged 0 loose 0" receive in.sym out.ts
+    head -c $((packets * 188)) "$room/received.ts" | cmp -s - out.ts || wrong "out.ts is not the first $packets packets"
+done <<'end'
+49 0
+52 0
+53 1
+56 1
+57 4
+105 53
+108 53
+319 264
+end
+
+# Behind field syncs stands noise, which no codeword is near.
+while read -r segments packets; do
+    start "$segments segments of noise"
+    "$top/checks/independent/noise.py" "$segments" in.sym
+    "$top/checks/independent/receiver.py" in.sym wanted.ts >"$room/line"
+    run 0 "segments $segments runs 1 packets $packets fixed 0 flagged $packets loose 0" receive in.sym out.ts
+    [[ $(cat "$room/line") == "$(cat "$room/said")" ]] || wrong "the other program printed $(cat "$room/line")"
+    cmp -s wanted.ts out.ts || wrong 'out.ts has other packets'
+done <<'end'
+53 1
+57 4
+105 53
+108 53
+319 264
+end
+
 start 'symbols twice in a row: the first run ends in the second copy, and the next one begins with its second field sync'
 cat "$room/feed.sym" "$room/feed.sym" >in.sym
 "$dtx" receive in.sym out.ts >"$room/said" 2>"$room/complaint"
