@@ -2,12 +2,16 @@
 # write or growth of memory fail; it is built here, where there is a C compiler.
 
 # each_fails KIND STATUS LINE WORD..: the program, given the words, in each run of which one more call of that kind fails, until a run makes no
-# more of them: it ends with the status and the line, and leaves front parts of what one leaves that isn't disturbed.
+# more of them: it ends with the status and the line, and leaves of each file a front part of what a run leaves that isn't disturbed, or the
+# file as it was before. A stream is never held whole: where its last read fails, at least half of the output stands.
 each_fails() {
-    local kind=$1 status=$2 line=$3 number got file
+    local kind=$1 status=$2 line=$3 number got file left=0 all=0
     shift 3
     for ((number = 1; number < 2000; number++)); do
         rm -f -- *
+        for file in "$room"/whole/*; do
+            cp "$room/calls/before" "${file##*/}"
+        done
         FAILS=$kind:$number LD_PRELOAD=$room/calls/fails.so "$top/crates/dtx/out/dtx" "$@" >"$room/said" 2>"$room/complaint"
         got=$?
         ((got)) || break
@@ -16,11 +20,15 @@ each_fails() {
         [[ $(cat "$room/said") == "$line" || $kind == memory && ! -s $room/said ]] ||
             wrong "$kind $number of $1: printed $(cat -v "$room/said")"
         for file in *; do
-            [[ ! -e $file ]] || is_front "$file" "$room/whole/$file"
+            cmp -s "$room/calls/before" "$file" || is_front "$file" "$room/whole/$file"
+        done
+        for file in out.{sym,ts,dvb,txt}; do
+            [[ ! -e $file ]] || left=$(stat -c %s "$file") all=$(stat -c %s "$room/whole/$file")
         done
         ((${#wrongs[@]} < 3)) || return
     done
     ((number > 1)) || wrong "no $kind of $1 failed"
+    [[ $kind != read ]] || ((2 * left >= all)) || wrong "where the last read of $1 fails, $left bytes stand of $all"
     diff -r . "$room/whole" >"$room/said" || wrong "$1 without a failure leaves other files"
 }
 
@@ -30,13 +38,15 @@ if command -v cc >/dev/null; then
 #define _GNU_SOURCE
 #include <dlfcn.h>
 #include <errno.h>
+#include <stdio.h>
 #include <stdlib.h>
 #include <string.h>
 #include <unistd.h>
 
+static long count;
+
 /* FAILS=KIND:NUMBER names the call that fails, counted from 1. */
 static int fails(const char *kind) {
-    static long count;
     const char *plan = getenv("FAILS");
     size_t length = strlen(kind);
     return plan && !strncmp(plan, kind, length) && ++count == atol(plan + length + 1);
@@ -60,6 +70,16 @@ ssize_t write(int file, const void *bytes, size_t count) {
     return call(file, bytes, count);
 }
 
+/* COUNTED names a file that is told how many calls of the kind there were. */
+__attribute__((destructor)) static void tell(void) {
+    const char *name = getenv("COUNTED");
+    FILE *file = name ? fopen(name, "w") : NULL;
+    if (file) {
+        fprintf(file, "%ld\n", count);
+        fclose(file);
+    }
+}
+
 void *__libc_malloc(size_t size);
 void *malloc(size_t size) {
     if (fails("memory")) {
@@ -70,6 +90,7 @@ void *malloc(size_t size) {
 }
 end
     cc -shared -fPIC -O1 -o "$room/calls/fails.so" "$room/calls/fails.c" -ldl 2>"$room/complaint"
+    printf 'as before' >"$room/calls/before"
     "$dtx" make 1 700 "$inputs/calls.ts" >"$room/said"
     "$dtx" adapt "$inputs/plan.toml" "$inputs/calls.ts" "$inputs/calls.feed" >"$room/said"
     "$dtx" code "$inputs/calls.ts" "$inputs/calls.sym" >"$room/said"
@@ -109,6 +130,30 @@ make 1 1000 out.ts
 net ../inputs/calls.plan
 trial 1 624
 end
+
+    # The first transmitter is given the feed in two parts, and the other one whole between them; the last append is one of the first one's.
+    start 'a network breaks off at one step for all'
+    { network ../inputs/calls.ts && send 7 0 300 && send 9 0 700 && send 7 300 400; } >"$inputs/calls.plan"
+    inputs_before=$(sums)
+    rm -rf "$room/whole"
+    mkdir "$room/whole"
+    (
+        cd "$room/whole" || exit 1
+        COUNTED=$room/counted FAILS=write:0 LD_PRELOAD=$room/calls/fails.so "$top/crates/dtx/out/dtx" net ../inputs/calls.plan
+    ) >"$room/said" 2>"$room/complaint"
+    ended 0 $?
+    [[ $(cat "$room/said") == 'feed 700 filled 2 steps 1400' ]] || wrong "printed $(cat "$room/said")"
+    cmp -s "$room/whole/tx-7.sym" "$room/whole/tx-9.sym" || wrong 'the two send other symbols'
+    FAILS=write:$(cat "$room/counted") LD_PRELOAD=$room/calls/fails.so "$top/crates/dtx/out/dtx" net ../inputs/calls.plan \
+        >"$room/said" 2>"$room/complaint"
+    ended 12 $?
+    [[ $(cat "$room/said") == 'write fault' ]] || wrong "printed $(cat "$room/said")"
+    for file in net.feed tx-7.log tx-9.sym tx-9.log; do
+        cmp -s "$room/whole/$file" $file || wrong "$file is not whole"
+    done
+    is_front tx-7.sym "$room/whole/tx-7.sym"
+    cut=$(($(stat -c %s "$room/whole/tx-7.sym") - $(stat -c %s tx-7.sym)))
+    ((0 < cut && cut <= 3328)) || wrong "tx-7.sym lacks $cut bytes"
     rm "$inputs"/calls.*
     inputs_before=$(sums)
 fi

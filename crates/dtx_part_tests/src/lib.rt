@@ -25,6 +25,8 @@ mod least_paths;
 #[cfg(test)]
 mod ops;
 #[cfg(test)]
+mod packet;
+#[cfg(test)]
 mod polynomial;
 #[cfg(test)]
 mod refusals;

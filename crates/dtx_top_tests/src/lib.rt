@@ -1,11 +1,12 @@
-//! Tests of the program, over files in memory. They stand apart, so that no crate is proved once more with its tests.
+//! Tests of what stands outermost: the host's files, when gathered bytes go to theirs, and a network that meets what the
+//! headline asks. They stand apart, so that no crate is proved once more with its tests.
 #![tactic(auto)]
 
 #[cfg(test)]
-mod desk;
+mod host_shelf;
 #[cfg(test)]
-mod faults;
+mod host_sink;
 #[cfg(test)]
-mod net;
+mod output;
 #[cfg(test)]
 mod worked_network;

@@ -1,7 +1,7 @@
 //! A worked network that meets what the headline asks of transmitters, symbols and damage, with damage and without.
 //! What is decided when the test runs gives the facts from which the rest is proved: where `works` answers `true`, what
 //! the headline says of transmitters that join is said of these two, without a premise. Each function answers `true`
-//! only where what it asks holds. That the command `net` does such a network is a test of its own.
+//! only where what it asks holds. That the command `net` does these networks is a row of the black box.
 
 ghost use Rattle.std.specs.Prelude.{◌≡◌, ◌≢◌, ◌+◌, ◌≤◌, ◌∷◌, [], IfSome, IsSomeAnd, Some, length, slice_get, true};
 ghost use Rattle.dtx_network.specs.Plans.{IsInTime, IsPlan};
@@ -18,7 +18,7 @@ use std::alloc::Global;
 const COUNT: usize = 400;
 
 /// Two transmitters are given the whole feed, and the first one is received.
-pub(crate) const WITHOUT_DAMAGE: &[u8] = b"start = 0
+const WITHOUT_DAMAGE: &[u8] = b"start = 0
 max_delay = 5000000
 [[transmitter]]
 address = 7
@@ -44,7 +44,7 @@ from = 7
 ";
 
 /// The same, with other bytes laid over 20 symbols of the second segment.
-pub(crate) const WITH_DAMAGE: &[u8] = b"start = 0
+const WITH_DAMAGE: &[u8] = b"start = 0
 max_delay = 5000000
 [[transmitter]]
 address = 7
