@@ -48,6 +48,7 @@ head -c 2000 /dev/zero >in.sym
 run 10 'no sync' acquire 1 in.sym out.sym
 [[ -f out.sym && ! -s out.sym ]] || wrong 'out.sym is not empty'
 bytes 832 1664 >in.sym
+rm out.sym
 run 10 'no sync' acquire 1 in.sym out.sym
 [[ -f out.sym && ! -s out.sym ]] || wrong 'out.sym is not empty'
 : >in.sym

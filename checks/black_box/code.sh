@@ -61,4 +61,4 @@ for ((segment = 0; segment < 4; segment++)); do
     printf '\x05\xfb\xfb\x05'
     head -c 828 /dev/zero | tr '\0' '\371'
 done >wanted.sym
-tail -c 3328 out.sym | cmp -s - wanted.sym || wrong 'out.sym has another symbol'
+head -c 832 "$room/made.sym" | cat - wanted.sym | cmp -s - out.sym || wrong 'out.sym has another symbol'

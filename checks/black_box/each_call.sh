@@ -1,38 +1,68 @@
 # Each call of the host fails in turn: what a command answers then, and what it leaves. A library in front of the system's own makes one read,
 # write or growth of memory fail; it is built here, where there is a C compiler.
 
-# each_fails KIND STATUS LINE WORD..: the program, given the words, in each run of which one more call of that kind fails, until a run makes no
-# more of them: it ends with the status and the line, and leaves of each file a front part of what a run leaves that isn't disturbed, or the
-# file as it was before. A stream is never held whole: where its last read fails, at least half of the output stands.
+# with_calls WORD..: runs the program, given the words, in front of whose calls the library stands.
+with_calls() {
+    LD_PRELOAD=$room/calls/fails.so "$top/crates/dtx/out/dtx" "$@" >"$room/said" 2>"$room/complaint"
+}
+
+# calls_of KIND WORD..: how many calls of that kind the program makes.
+calls_of() {
+    COUNTED=$room/counted FAILS=$1:0 with_calls "${@:2}"
+    cat "$room/counted"
+}
+
+# each_fails KIND STATUS LINE WORD..: the program, given the words, in each run of which one more call of that kind fails: it ends with the status
+# and the line, and leaves of each of its first outputs a front part of what a run leaves that isn't disturbed, and the others as they were
+# before. A stream is never held whole: where its last read fails, at least half of the output stands.
 each_fails() {
-    local kind=$1 status=$2 line=$3 number got file left=0 all=0
+    local kind=$1 status=$2 line=$3 calls number file left=0 all=0
     shift 3
-    for ((number = 1; number < 2000; number++)); do
+    calls=$(calls_of "$kind" "$@")
+    ((calls > 0)) || wrong "$1 makes no $kind"
+    for ((number = 1; number <= calls; number++)); do
         rm -f -- *
         for file in "$room"/whole/*; do
             cp "$room/calls/before" "${file##*/}"
         done
-        FAILS=$kind:$number LD_PRELOAD=$room/calls/fails.so "$top/crates/dtx/out/dtx" "$@" >"$room/said" 2>"$room/complaint"
-        got=$?
-        ((got)) || break
-        ended "$status" $got
+        FAILS=$kind:$number with_calls "$@"
+        ended "$status" $?
         # Where there is no memory for the words, there is none for a line.
         [[ $(cat "$room/said") == "$line" || $kind == memory && ! -s $room/said ]] ||
             wrong "$kind $number of $1: printed $(cat -v "$room/said")"
-        for file in *; do
-            cmp -s "$room/calls/before" "$file" || is_front "$file" "$room/whole/$file"
-        done
+        are_fronts
         for file in out.{sym,ts,dvb,txt}; do
             [[ ! -e $file ]] || left=$(stat -c %s "$file") all=$(stat -c %s "$room/whole/$file")
         done
         ((${#wrongs[@]} < 3)) || return
     done
-    ((number > 1)) || wrong "no $kind of $1 failed"
     [[ $kind != read ]] || ((2 * left >= all)) || wrong "where the last read of $1 fails, $left bytes stand of $all"
-    diff -r . "$room/whole" >"$room/said" || wrong "$1 without a failure leaves other files"
 }
 
-if command -v cc >/dev/null; then
+# are_fronts: the outputs that were begun are the first ones, and each is a front part of the whole one.
+are_fronts() {
+    local file all_begun=1
+    for file in $(outputs); do
+        if cmp -s "$room/calls/before" "$file"; then
+            all_begun=
+        else
+            [[ $all_begun ]] || wrong "$file was begun, and one before it wasn't"
+            is_front "$file" "$room/whole/$file"
+        fi
+    done
+}
+
+# outputs: the files of the undisturbed run, in the order in which they are begun.
+outputs() {
+    local file
+    for file in out.{ts,sym,dvb,txt,log} trial.ts net.feed tx-{1,2,3,7,9}.{sym,log} net.ts; do
+        [[ ! -e $room/whole/$file ]] || printf '%s\n' "$file"
+    done
+}
+
+if ! command -v cc >/dev/null; then
+    echo 'black box: no call of the host is made to fail, since there is no C compiler'
+else
     mkdir "$room/calls"
     cat >"$room/calls/fails.c" <<'end'
 #define _GNU_SOURCE
@@ -73,9 +103,10 @@ ssize_t write(int file, const void *bytes, size_t count) {
 /* COUNTED names a file that is told how many calls of the kind there were. */
 __attribute__((destructor)) static void tell(void) {
     const char *name = getenv("COUNTED");
+    long calls = count;
     FILE *file = name ? fopen(name, "w") : NULL;
     if (file) {
-        fprintf(file, "%ld\n", count);
+        fprintf(file, "%ld\n", calls);
         fclose(file);
     }
 }
@@ -101,6 +132,7 @@ end
     printf '[net]\nstream = "../inputs/calls.ts"\n' >>"$inputs/calls.plan"
     printf '[[net.event]]\ndo = "send"\nto = %d\nfrom = 0\ncount = %d\n' 7 700 9 60 >>"$inputs/calls.plan"
     printf '[[net.event]]\ndo = "restart"\nto = 9\n[net.receive]\nfrom = 7\n' >>"$inputs/calls.plan"
+    printf '[[net.receive.damage]]\nat = 400000\ncount = 20\nput = 3\n' >>"$inputs/calls.plan"
     inputs_before=$(sums)
     while read -ra words; do
         start "each call of \`${words[*]}\` fails in turn"
@@ -137,15 +169,11 @@ end
     inputs_before=$(sums)
     rm -rf "$room/whole"
     mkdir "$room/whole"
-    (
-        cd "$room/whole" || exit 1
-        COUNTED=$room/counted FAILS=write:0 LD_PRELOAD=$room/calls/fails.so "$top/crates/dtx/out/dtx" net ../inputs/calls.plan
-    ) >"$room/said" 2>"$room/complaint"
+    (cd "$room/whole" && "$dtx" net ../inputs/calls.plan) >"$room/said" 2>"$room/complaint"
     ended 0 $?
     [[ $(cat "$room/said") == 'feed 700 filled 2 steps 1400' ]] || wrong "printed $(cat "$room/said")"
     cmp -s "$room/whole/tx-7.sym" "$room/whole/tx-9.sym" || wrong 'the two send other symbols'
-    FAILS=write:$(cat "$room/counted") LD_PRELOAD=$room/calls/fails.so "$top/crates/dtx/out/dtx" net ../inputs/calls.plan \
-        >"$room/said" 2>"$room/complaint"
+    FAILS=write:$(calls_of write net ../inputs/calls.plan) with_calls net ../inputs/calls.plan
     ended 12 $?
     [[ $(cat "$room/said") == 'write fault' ]] || wrong "printed $(cat "$room/said")"
     for file in net.feed tx-7.log tx-9.sym tx-9.log; do

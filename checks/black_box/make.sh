@@ -13,6 +13,10 @@ done <<'end'
 1 31200 14055ecf3f9dc65ffe7d16262e14256a2a9c603dffe27f0738c0ab7ce96c29a3
 end
 
+start 'the first made packet of seed 0'
+run 0 'packets 1' make 0 1 out.ts
+[[ $(od -An -tx1 -N 8 out.ts) == ' 47 00 31 10 7c 25 96 d0' && $(od -An -tx1 -j 187 out.ts) == ' 00' ]] || wrong 'it is another packet'
+
 start 'a made stream of no packets'
 run 0 'packets 0' make 0 0 out.ts
 [[ -f out.ts && ! -s out.ts ]] || wrong 'out.ts is not empty'

@@ -40,6 +40,7 @@ while read -r lost spoilt fixed flagged; do
     head -c $(((${spoilt#*-} - ${spoilt%-*}) * 832)) /dev/zero | tr '\0' '\177' |
         dd of=in.sym bs=832 seek="${spoilt%-*}" conv=notrunc status=none
     run 0 "segments 626 runs 1 packets 573 fixed $fixed flagged $flagged loose 0" mend in.sym out.ts
+    ((flagged)) || head -c $((573 * 188)) "$room/zeros.ts" | cmp -s - out.ts || wrong 'out.ts is not the first 573 packets'
     leaves in.sym out.ts
 done <<'end'
 306-311 0-0 0 0

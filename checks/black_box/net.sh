@@ -520,16 +520,29 @@ fi
 
 # The two networks of which a test finds that they meet what the headline asks, one with a little damage before its first field sync. Those
 # packets from packet 312 on are received, but for the last 52, whose bytes aren't all sent.
-for damage in '' $'[[net.receive.damage]]\nat = 1000\ncount = 20\nput = 127\n'; do
-    start "a worked network${damage:+ with damage}"
+for laid in '' 'damage 1000 20 127'; do
+    start "a worked network${laid:+ with $laid}"
     stream 400 made.ts
     {
         printf 'start = 0\nmax_delay = 5000000\n'
         printf '[[transmitter]]\naddress = 7\noffset = -10\ndelay = 1000\n[[transmitter]]\naddress = 9\noffset = 15\n'
         printf '[net]\nstream = "made.ts"\n'
-        send 7 0 400 && send 9 0 400 && receiver 7
-        printf '%s' "$damage"
+        send 7 0 400 && send 9 0 400 && receiver 7 && $laid
     } >plan.toml
     run 0 'feed 400 filled 1 steps 800 packets 36 fixed 0 flagged 0' net plan.toml
-    tail -c +$((312 * 188 + 1)) net.feed | head -c $((36 * 188)) | tail -c +2 | cmp -s - <(tail -c +2 net.ts) || wrong 'net.ts has other packets'
+    tail -c +$((312 * 188 + 1)) net.feed | head -c $((36 * 188)) | cmp -s - net.ts || wrong 'net.ts has other packets'
+done
+
+# Operations packets that begin a frame and a field behind a field sync, as they are and as lies.
+for order in 0 624; do
+    start "a lie at packet $order"
+    stream 700 s.ts
+    tail -c +$((100 * 188 + 1)) s.ts | head -c 188 | dd of=s.ts bs=188 seek="$order" conv=notrunc status=none
+    {
+        network s.ts
+        ((order == 0)) || send 7 0 "$order"
+        lie 7 "$order" 777777777777 && send 7 $((order + 1)) $((699 - order)) && send 9 0 700
+    } >plan.toml
+    is_network 0 plan.toml
+    [[ $(head -n 1 tx-7.log) == 'preset 0 0 100 5078070 640' ]] || wrong "tx-7.log is '$(tr '\n' ';' <tx-7.log)'"
 done

@@ -112,6 +112,24 @@ pid,eleven,kind,third,pad,stamp,delay,index,page,pages,no-pages,count,no-pages-a
 address 578 2 1 preset 0 1 100 5562023 640
 end
 
+# Four groups in a row begin with an order each: PAGE:PAGES:ADDRESS:OFFSET. An entry is in force until its page is told without it, or another
+# number of pages. A line of the log is told by its words with an underscore between them.
+while read -r segments presets mutes orders log; do
+    start "an exciter of transmitter 7 that is told the pages ${orders//,/ }"
+    # shellcheck disable=SC2086
+    "$top/checks/independent/pages.py" feed ${orders//,/ } in.ts
+    run 0 "packets 68 segments $segments presets $presets mutes $mutes loose 0" excite in.ts 7 1000 out.sym out.log
+    log=${log//_/ }
+    IFS=, read -ra lines <<<"$log"
+    has_log "${lines[@]}"
+done <<'end'
+8 2 1 0:2:8:0,1:2:9:0,1:2:7:-10,0:2:8:0 mute_0_unlisted,preset_0_0_60_5047147_737,preset_4_0_64_5050239_1189
+8 2 2 1:2:7:-10,0:2:8:0,1:2:9:0,0:2:8:0 preset_0_0_52_5040962_1372,preset_4_0_56_5044055_285,mute_8_unlisted,mute_8_unlisted
+4 1 1 0:2:7:-10,1:3:8:0,0:3:8:0,2:3:8:0 preset_0_0_52_5040962_1372,mute_4_unlisted
+12 3 1 0:2:7:-10,1:2:7:20,0:2:8:0,1:2:8:0 preset_0_0_52_5040962_1372,preset_4_0_56_5044085_285,preset_8_0_60_5047177_737,mute_12_unlisted
+4 1 2 0:1:8:0,0:2:7:-10,0:1:8:0,1:2:8:0 mute_0_unlisted,preset_0_0_56_5044055_285,mute_4_unlisted
+end
+
 # Random lists of packets with pages that are lost, doubled, out of order, or of another number of pages.
 start 'random lists of pages'
 "$top/checks/independent/pages.py" "$dtx" 40 >"$room/said" || wrong "$(grep FAILED "$room/said" | head -n 3)"

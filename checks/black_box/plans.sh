@@ -35,6 +35,7 @@ whole 0 text|start =
 whole 0 text|start = 0\nstart = 1\n
 whole 0 text|{head}net = 9223372036854775808\n
 whole 0 text|\xff
+whole 0 text|{head}#\xff\n
 whole 0 unknown|{head}[site]\n
 whole 0 unknown|starts = 0\n
 whole 0 unknown|damage = []\n{head}
@@ -158,6 +159,7 @@ event 0 kind|{lone}net = { stream = "s", event = 1, receive = 1 }
 event 0 kind|{lone}net = { stream = "s", event = [1], receive = 1 }
 receive 0 kind|{lone}net = { stream = "s", event = [], receive = 1 }
 receive 0 kind|{heard}[]
+receive 0 unknown|{heard}{ to = 7 }
 receive.from 0 missing|{heard}{ damage = 1 }
 receive.from 0 kind|{heard}{ from = true, damage = 1 }
 receive.from 0 range|{heard}{ from = -7, damage = 1 }
@@ -192,7 +194,7 @@ states 0 range|{told}[{ do = "lie", to = 7, from = 0, states = "012345670128" }]
 end
 
 start 'a plan beyond 16,777,216 bytes'
-{ printf '%b' "$head" && head -c 16777216 /dev/zero | tr '\0' '\n'; } >plan.toml
+{ printf '%b' "$head" && yes '' | head -c $((16777217 - $(printf '%b' "$head" | wc -c))); } >plan.toml
 run 5 'plan whole 0 size' adapt plan.toml ../inputs/given.ts out.ts
 leaves plan.toml
 
@@ -214,6 +216,7 @@ done <<'end'
 start = 9999999\nmax_delay = 9999999\n[[transmitter]]\naddress = 65535\noffset = -32768\ndelay = 4294967295\n
 start = 0\nmax_delay = 0\ntransmitter = [{ address = 0, offset = 32767 }]\n
 {net}
+{head}[net]\nstream = 's.ts'\n
 {event}do = "send"\nto = 7\nfrom = 623999999\ncount = 1\n[[net.event]]\ndo = "restart"\nto = 9\n
 {event}do = "foreign"\nto = 7\nseed = 9223372036854775807\nfrom = 0\ncount = 624000000\n
 {event}do = "flip"\nto = 9\nfrom = 0\nat = 0\nwith = 255\n[[net.event]]\ndo = "lie"\nto = 9\nfrom = 0\nstates = "012345677777"\n
@@ -238,10 +241,11 @@ sed -i 's/0, //' plan.toml
 run 5 'plan transmitter 0 kind' adapt plan.toml ../inputs/given.ts out.ts
 
 # How many entries a list may have, and how many bytes a name: what is met behind that is told, or else the list or the name.
-while IFS='|' read -r line before part count behind; do
-    start "a plan with $count times $part: $line"
-    plan_says "$before$(printf "$part%.0s" $(seq "$count"))$behind"
+while IFS='|' read -r line before entry count behind; do
+    start "a plan with $count times $entry: $line"
+    plan_says "$before$(printf "$entry%.0s" $(seq "$count"))$behind"
     run 5 "plan $line" adapt plan.toml ../inputs/given.ts out.ts
+    leaves plan.toml
 done <<'end'
 event 0 kind|{told}[|1,|10000|]
 event 0 range|{told}[|1,|10001|]

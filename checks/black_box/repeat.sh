@@ -10,6 +10,13 @@ start 'a repeater that is given the symbols of a transmitter'
 run 0 'segments 1204 runs 1 packets 937 sent 525 presets 2 mutes 0 loose 0' repeat "$room/from_order.sym" 7 1000 out.sym out.log
 has_log 'preset 0 1 100 5562013 640' 'preset 313 1 412 5803985 612'
 
+start 'fields take turns, whatever a later sync says'
+cp "$room/from_order.sym" in.sym
+dd if="$room/from_order.sym" of=in.sym bs=832 skip=212 seek=525 count=1 conv=notrunc status=none
+cmp -s "$room/from_order.sym" in.sym && wrong 'the sync is no other one'
+run 0 'segments 1204 runs 1 packets 937 sent 525 presets 2 mutes 0 loose 0' repeat in.sym 7 1000 out.sym out.log
+has_log 'preset 0 1 100 5562013 640' 'preset 313 1 412 5803985 612'
+
 start 'the other transmitter sends the same 35 ticks later'
 run 0 'segments 1305 runs 1 packets 1249 sent 1151 presets 4 mutes 0 loose 0' repeat "$room/feed.sym" 9 2000 out.sym out.log
 head -c 957632 "$room/from_order.sym" | cmp -s - out.sym || wrong 'out.sym is not the front of what an exciter sends'

@@ -40,3 +40,17 @@ leaves_nothing
 start 'a trial of too many packets'
 run 2 "$usage" trial 1 1000001
 leaves_nothing
+
+# A file of a trial that is a folder can't be begun; those before it stand.
+while read -r folder_name left; do
+    start "a trial whose $folder_name can't be begun"
+    mkdir "$folder_name"
+    run 12 'write fault' trial 1 624
+    # shellcheck disable=SC2086
+    leaves "$folder_name" $left
+done <<'end'
+trial.ts
+net.feed trial.ts
+tx-2.sym trial.ts net.feed tx-1.sym tx-1.log
+net.ts trial.ts net.feed tx-1.sym tx-1.log tx-2.sym tx-2.log tx-3.sym tx-3.log
+end

@@ -12,11 +12,11 @@ LAST = ([7, -5, -3, -1, 1, 3, 5, 7, -7, 5, 3, -1], [7] * 12)
 
 
 def noise(n):
-    """Symbol n, which is any byte."""
+    """Symbol n, which is any byte, in two's complement."""
     x = n * 2_654_435_761 & 0xFFFFFFFF
     x ^= x >> 15
     x = x * 2_246_822_519 & 0xFFFFFFFF
-    return (x ^ x >> 13) % 256
+    return (x ^ x >> 13) % 256 ^ 128
 
 
 def segment(number):

@@ -1,7 +1,9 @@
 #!/usr/bin/env python3
 """Tries `dtx excite` on random lists of packets with the pages of a network, against the written rules computed anew over the whole list.
 
-pages.py DTX LISTS    names each list that differs, and ends with the line `pages: N passed, M failed`
+pages.py DTX LISTS         names each list that differs, and ends with the line `pages: N passed, M failed`
+pages.py feed PAGE.. OUT   writes 68 packets with a mark in front, where a group from packet 52 on begins with the order of each PAGE, which
+                           is PAGE:PAGES:ADDRESS:OFFSET and has one entry
 """
 
 import collections
@@ -138,6 +140,20 @@ def made_list(chance):
     return packets, asked, chance.choice((0, 0, 0, 1000, limit, limit + 1, limit - 10_000))
 
 
+def order_of(index, page, pages, address, offset):
+    """The operations packet at a place of the first frame with one entry."""
+    fields = {"kind": 2 if pages > 1 else 1, "states": [0] * 12, "stamp": 0, "max_delay": 5_000_000, "frame": 0, "index": index}
+    return spelled(0x47, 0, {**fields, "page": page, "pages": pages, "offsets": {address: offset}})
+
+
+def feed_of(orders):
+    """The packets of a feed with such orders at the packets 52, 56 and so on."""
+    packets = [with_sync(STRAY + b"\x10" + bytes(184), 0x47 if k else 0xB8) for k in range(52 + 4 * len(orders))]
+    for i, order in enumerate(orders):
+        packets[52 + 4 * i] = order_of(52 + 4 * i, *map(int, order.split(":")))
+    return b"".join(packets)
+
+
 def cases(dtx, lists):
     """Random lists, and what is wrong with what the program makes of them; and what is wrong where something doesn't occur."""
     chance, met = random.Random(34), collections.Counter()
@@ -156,4 +172,8 @@ def cases(dtx, lists):
 
 
 if __name__ == "__main__":
+    if sys.argv[1] == "feed":
+        with open(sys.argv[-1], "wb") as out:
+            out.write(feed_of(sys.argv[2:-1]))
+        sys.exit()
     sys.exit(try_each("pages", cases(sys.argv[1], int(sys.argv[2]))))

@@ -43,5 +43,8 @@ fn wrong_of(atsc: Atsc) -> Option<usize> {
 
 #[test]
 fn the_bytes_are_those_of_a_register_drawn_from_the_standard(rt: HostRuntime) {
-    expect_none(&rt, wrong_of(Atsc::new(rt.alloc()).expect(&rt, "a randomizer")));
+    expect_none(
+        &rt,
+        wrong_of(Atsc::new(rt.alloc()).expect(&rt, "a randomizer")),
+    );
 }

@@ -2,9 +2,8 @@
 
 use dtx_host::{HostShelf, Progress};
 use dtx_outside::{ReadNo, Shelf, WriteNo};
-use std::process::Abort;
+use std::fs;
 use std::rt::Files;
-use std::{fs, io};
 
 /// What the shelf is asked of a file, with its answer, and what others do with the file.
 #[derive(Clone, Copy)]
@@ -36,53 +35,31 @@ fn reads(shelf: &mut impl Shelf, name: &str, place: u8, wanted: Result<&[u8], Re
     }
 }
 
-/// What others do.
-fn does(files: &impl Files, name: &str, step: &Step) -> io::Result<()> {
+/// Whether others can do what they do.
+fn is_done(files: &impl Files, name: &str, step: &Step) -> bool {
     match *step {
-        Step::Written(bytes) => fs::write(files, name, bytes),
-        Step::Renamed(other) => fs::rename(files, name, other),
-        Step::Removed => fs::remove_file(files, name),
-        _ => Ok(()),
+        Step::Written(bytes) => fs::write(files, name, bytes).is_ok(),
+        Step::Renamed(other) => fs::rename(files, name, other).is_ok(),
+        Step::Removed => fs::remove_file(files, name).is_ok(),
+        _ => true,
     }
 }
 
 /// Whether the steps are answered as they say.
-fn are_answered(
-    files: &impl Files,
-    shelf: &mut impl Shelf,
-    steps: &[(&str, Step)],
-) -> io::Result<bool> {
+fn are_answered(files: &impl Files, shelf: &mut impl Shelf, steps: &[(&str, Step)]) -> bool {
     for (name, step) in steps {
-        does(files, name, step)?;
-        if !is_answered(shelf, name, step) {
-            return Ok(false);
+        if !is_done(files, name, step) || !is_answered(shelf, name, step) {
+            return false;
         }
     }
-    Ok(true)
+    true
 }
 
-/// Whether they are, and whether a file was not begun then because it was met before.
-fn answers(
-    rt: &HostRuntime,
-    shelf: &mut HostShelf<HostRuntime>,
-    steps: &[(&str, Step)],
-    overlap: bool,
-) -> io::Result<bool> {
-    Ok(are_answered(rt, shelf, steps)? && shelf.overlap() == overlap)
-}
-
-/// The same by a new shelf.
-fn answered(rt: &HostRuntime, steps: &[(&str, Step)], overlap: bool) -> io::Result<bool> {
+/// Whether they are by a new shelf, and whether a file was not begun then because it was met before.
+fn answered(rt: &HostRuntime, steps: &[(&str, Step)], overlap: bool) -> bool {
     let progress = Progress::new(rt, false);
-    answers(rt, &mut HostShelf::new(rt, &progress), steps, overlap)
-}
-
-/// Asserts that steps were answered as they say; a failure tells their name.
-fn check(rt: &impl Abort, name: &str, answered: io::Result<bool>) {
-    match answered {
-        Ok(are) => assert!(rt; are, "{name}"),
-        Err(no) => panic!(rt; "{name}: {no}"),
-    }
+    let mut shelf = HostShelf::new(rt, &progress);
+    are_answered(rt, &mut shelf, steps) && shelf.overlap() == overlap
 }
 
 const OUT: &str = "dtx_outside_host_test";
@@ -108,7 +85,7 @@ const FILES: &[(&str, Step)] = &[
 
 #[test]
 fn files_are_written_and_read(rt: HostRuntime) {
-    check(&rt, "files", answered(&rt, FILES, false));
+    assert!(rt; answered(&rt, FILES, false));
 }
 
 const READ: &str = "dtx_outside_host_read";
@@ -131,7 +108,7 @@ const MET: &[(&str, Step)] = &[
 
 #[test]
 fn a_file_that_was_read_or_begun_is_not_begun_again(rt: HostRuntime) {
-    check(&rt, "met", answered(&rt, MET, true));
+    assert!(rt; answered(&rt, MET, true));
 }
 
 const CHANGED: &str = "dtx_outside_host_changed";
@@ -169,8 +146,8 @@ const CUT: &[(&str, Step)] = &[
 
 #[test]
 fn a_file_that_others_change_meanwhile_is_a_fault(rt: HostRuntime) {
-    check(&rt, "changes", answered(&rt, CHANGES, false));
-    check(&rt, "cut", answered(&rt, CUT, false));
+    assert!(rt; answered(&rt, CHANGES, false));
+    assert!(rt; answered(&rt, CUT, false));
 }
 
 const HELD: &str = "dtx_outside_host_held";
@@ -222,6 +199,6 @@ const LONGER: &[(&str, Step)] = &[
 #[test]
 fn a_file_that_others_change_between_two_appends_is_a_fault(rt: HostRuntime) {
     for (way, steps) in &WAYS {
-        check(&rt, way, answered(&rt, steps, false));
+        assert!(rt; answered(&rt, steps, false), "{way}");
     }
 }

@@ -7,6 +7,8 @@ mod host_shelf;
 #[cfg(test)]
 mod host_sink;
 #[cfg(test)]
+mod lines;
+#[cfg(test)]
 mod output;
 #[cfg(test)]
 mod worked_network;
