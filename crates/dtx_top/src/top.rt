@@ -98,7 +98,7 @@ pub fn run<S: Shelf, O: Sink>(alloc: Global, words: &[Word], shelf: &mut S, out:
         → IsUnprinted (means words.now held) (Some held) result (Rose (O.faults out.old) (O.faults out.new))
         (S.files shelf.new)) }
 
-    // The line is that of the answer, with the names and the numbers of the meaning.
+    // The line is that of the answer, with the numbers of the meaning, and the name that the words or the plan give.
     ensures line { IfSome (S.files shelf.old) (λ held. HasLine (IsToldLine (command_of words.now) words.now held) result
         (Rose (O.faults out.old) (O.faults out.new)) (O.written out.old) (O.written out.new)) }
 
