@@ -8,7 +8,6 @@ mod correcting;
 mod encoding;
 mod groups;
 mod mending;
-mod receiving;
 mod sending;
 mod spreading;
 mod times;
@@ -21,7 +20,6 @@ use correcting::print_correct_times;
 use encoding::{print_check, print_encode_times};
 use groups::print_trellis_times;
 use mending::print_mend_times;
-use receiving::print_receive_times;
 use sending::print_group_times;
 use spreading::print_spread_times;
 use std::alloc::Global;
@@ -46,10 +44,9 @@ fn print_times(rt: &(impl Clock + Print), alloc: Global, word: &str) -> io::Resu
         "trellis" => print_trellis_times(rt),
         "group" => print_group_times(rt, alloc),
         "proves" => print_proves_times(rt, alloc),
-        "receive" => print_receive_times(rt, alloc),
         "mend" => print_mend_times(rt),
         _ => rt.println(
-            "usage: dtx_bench [encode|correct|whiten|spread|outer|trellis|group|proves|receive|mend]",
+            "usage: dtx_bench [encode|correct|whiten|spread|outer|trellis|group|proves|mend]",
         ),
     }
 }
