@@ -35,7 +35,6 @@ small_times k u x (inr e) l =
 clear_top : (d low n p : ℕ) → low < 2 ^ d → p < 2 ^ suc (d + n)
     → bit_xor p (bit_at p (d + n) * ((2 ^ d + low) * 2 ^ n)) < 2 ^ (d + n)
 clear_top d low n p hl hp =
-    let k : ℕ = d + n in
     let e : bit_at p (d + n) ≡ p / 2 ^ (d + n) = top_bit (d + n) p hp in
     subst (λ (u : ℕ). bit_xor p (u * ((2 ^ d + low) * 2 ^ n)) < 2 ^ (d + n)) (sym e)
     (subst (λ (x : ℕ). bit_xor p x < 2 ^ (d + n)) (sym (shifted d low n (p / 2 ^ (d + n))))
