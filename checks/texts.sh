@@ -87,13 +87,32 @@ for name in sys.stdin.read().split():
 '
 }
 
-# Lemmas that other crates cite stand in specs/. `dtx_lists` has lemmas alone.
+# Lemmas that other crates cite stand in proofs/NAMELemmas.antt. `dtx_lists` has lemmas alone.
 foreign_proofs() {
     local file own
     files 'crates/*/src/*' 'crates/*/specs/*' 'crates/*/proofs/*' | while IFS= read -r file; do
         own=${file#crates/}
         own=${own%%/*}
-        grep -HnoE 'Rattle\.dtx_[a-z_]+\.proofs' "$file" | grep -vE "Rattle\.($own|dtx_lists)\.proofs"
+        grep -HnoE 'dtx_[a-z_]+(\.|::)proofs(\.|::)[A-Za-z0-9_]+' "$file" |
+            grep -vE ":($own|dtx_lists)(\.|::)proofs|Lemmas\$"
+    done
+}
+
+# A declaration without a word before it that says what it is, as `abbrev` or `record`, is a lemma.
+proved_specs() {
+    files 'crates/*/specs/*' | grep -vE '^crates/dtx_lists/|/[A-Za-z]*Laws\.antt$' |
+        xargs -r grep -nE '^(pub )?[^ ]+ : '
+}
+
+# specs/NAMELaws.antt has laws that an impl of the crate gives its trait, or what those of another such file need.
+laws_of_no_impl() {
+    local file crate name
+    files 'crates/*/specs/*Laws.antt' | while IFS= read -r file; do
+        crate=${file#crates/}
+        crate=${crate%%/*}
+        name=$(basename "$file" .antt)
+        grep -rqE "use Rattle\.$crate\.specs\.$name\.\{" "crates/$crate/src" "crates/$crate"/specs/*Laws.antt ||
+            echo "$file"
     done
 }
 
@@ -172,6 +191,8 @@ rule 'a path of a machine' "$(paths_of_a_machine)"
 rule 'a file longer than 600 lines' "$(long_files)"
 rule 'a line longer than 120 columns' "$(long_lines)"
 rule "a file that names another crate's proofs" "$(foreign_proofs)"
+rule 'a lemma in specs/' "$(proved_specs)"
+rule 'laws in specs/ that no impl has' "$(laws_of_no_impl)"
 rule 'HANDLES' "$(handles)"
 rule 'a README of more than 120 lines' "$(awk 'END { if (NR > 120) print "README.md: " NR " lines" }' README.md)"
 rule 'the gate' "$(gate)"
