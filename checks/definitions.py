@@ -20,7 +20,7 @@ from pathlib import Path
 CRATES = Path(__file__).resolve().parent.parent / 'crates'
 HEADER = re.compile(r'(?:(?:abbrev|unfoldable|pub|record|data) )*(?P<name>[^\s:(){}]+)')
 IMPORT = re.compile(r'use ([^\s{;]+?)(?:\.\{(.*)\}| as (\S+))$')
-TOKEN = re.compile(r'(?P<dots>(?:[^\W\d][\w\'-]*\.)*)(?P<name>[^\W\d][\w\'-]*)')
+TOKEN = re.compile(r"((?:[^\W\d][\w'-]*\.)*)([^\W\d][\w'-]*)(?![\w'-]| = )")
 DECLARED = r'(?:pub(?:\(crate\))? )?(?:struct|enum|const|type) %s\b'
 
 
@@ -59,10 +59,10 @@ def specs_file(module):
 
 
 def bound_in(lines):
-    """The names that a definition binds itself: parameters, fields, and what its patterns and functions name."""
+    """The names that a definition binds itself: its parameters and fields, and what its patterns and functions name."""
     text = '\n'.join(lines)
     binders = re.findall(r'λ ([^.]*)\.', text) + re.findall(r'[({]([\w\' -]+) :', text)
-    binders += re.findall(r'^\s+(?:pub )?([\w\'-]+) :', text, re.M) + re.findall(r'([\w\'-]+) =', text)
+    binders += re.findall(r'^\s+(?:pub )?([\w\'-]+) :', text, re.M)
     binders += [line.split(' = ')[0] for line in lines if line[0] != ' ' and ' : ' not in line.split(' = ')[0]]
     return {name for binder in binders for name in TOKEN.findall(binder) for name in name[1:] if name[0].islower()}
 

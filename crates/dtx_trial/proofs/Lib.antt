@@ -1,0 +1,2 @@
+pub mod MadeOrders
+pub mod TrialLives

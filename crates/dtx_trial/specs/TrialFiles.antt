@@ -1,7 +1,7 @@
 -- What `trial SEED COUNT` leaves in its files (the symbols are those of ATSC A/53 Part 2; the feed and the logs are the
 -- profile's own, in the manner of ATSC A/110). Packets are counted from 0.
-use Rattle.std.specs.Prelude.{◌≡◌, ℕ, ◌+◌, ◌-◌, ◌*◌, ◌/◌, ◌%◌, ◌==◌, ℤ, pos, negsuc, if◌then◌else◌, Some, List, []}
-use Rattle.std.specs.Prelude.{codes, drop, flat_map, map, slice_index_or}
+use Rattle.std.specs.Prelude.{◌≡◌, ℕ, ◌+◌, ◌-◌, ◌*◌, ◌/◌, ◌%◌, ◌==◌, ℤ, pos, negsuc, if◌then◌else◌, Some, None, List}
+use Rattle.std.specs.Prelude.{[], codes, drop, flat_map, map, slice_index_or}
 use Rattle.std.specs.FinMap.{get}
 use Rattle.std.specs.List.{range_with_len}
 use Rattle.dtx_adapter.specs.Feed.{feed}
@@ -14,12 +14,17 @@ use Rattle.dtx_files.specs.LogText.{log_text}
 use Rattle.dtx_files.specs.Symbols.{segment_bytes}
 use Rattle.dtx_make.specs.Made.{made_stream}
 use Rattle.dtx_outside.specs.Shelf.{Files}
-use Rattle.dtx_top.specs.Trial.{trial_plan}
+use Rattle.dtx_plan.specs.declared.plan.Plan.{Plan}
+use Rattle.dtx_top.specs.Trial.{trial_transmitters}
 use Rattle.dtx_top.specs.WorkedNetwork.{made_packets}
 
--- the feed of the made stream, under the plan of a trial
+-- what a feed takes of the plan of a trial: the transmitters 1, 2 and 3, with the offsets 0, 25 and -10 ticks
+abbrev pub feed_plan : Plan
+feed_plan = record { start = 0; max_delay = 5000000; transmitters = trial_transmitters; net = None }
+
+-- the feed of the made stream
 abbrev pub trial_feed : ℕ → ℕ → List (List ℕ)
-trial_feed seed count = feed (trial_plan seed count) (made_packets seed count)
+trial_feed seed count = feed feed_plan (made_packets seed count)
 
 -- The symbols of that feed, one byte each, from its first order's group on. A made stream has its first placeholder at
 -- packet 100, with which a group begins, and a field sync and 100 data segments stand before that packet's own.
@@ -53,8 +58,7 @@ trial_received seed count =
     flat_map (λ k. as_received (slice_index_or (trial_feed seed count) k [])) (range_with_len 312
     (whole_from_312 (4 * (count / 4))))
 
--- The files of a trial that is done. The three symbol files are one list, and the three logs differ in the offset
--- alone: 0, 25 and -10 ticks.
+-- The files of a trial that is done. The three symbol files are one list, and the three logs differ in the offset alone.
 pub record AreTrialFiles (seed count : ℕ) (now : Files) : Type 0 where
   pub stream : get now (codes "trial.ts") ≡ Some (made_stream seed count)
   pub feed : get now (codes "net.feed") ≡ Some (flat_map (λ packet. packet) (trial_feed seed count))
