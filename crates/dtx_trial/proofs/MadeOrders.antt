@@ -4,6 +4,7 @@ use Rattle.std.proofs.Common.{Bool, true, false, cond, List, [], ◌∷◌, ◌+
 use Rattle.std.specs.Prelude.{◌||◌, filter, replicate}
 use Rattle.std.specs.List.{range_with_len}
 use Rattle.std.proofs.lemmas.Bool.{cases_eq, eq-eqb, ne_eqb}
+use Rattle.std.proofs.lemmas.List.{append-nil}
 use Rattle.std.proofs.lemmas.List.Elements.{filter-append}
 use Rattle.std.proofs.lemmas.List.FromFn.{get_or-map-range_with_len, map-range_with_len_more}
 use Rattle.dtx_lists.proofs.Range.{range_with_len-parts}
@@ -82,11 +83,7 @@ every_312 p (suc n) h =
         let same : (n + 311) / 312 ≡ (suc n + 311) / 312 = omega (arith, z) in
         ap (λ xs. front ++ xs) (filter-lost p (100 + n) [] (h (100 + n) (omega arith) (omega arith)
         ∙ ne_eqb ((100 + n) % 312) 100 (λ e. z (omega (arith, e)))))
-        ∙ nothing front ∙ ap (λ m. map each_312 (range_with_len 0 m)) same
-
-    nothing : (xs : List ℕ) → xs ++ [] ≡ xs
-    nothing [] = refl
-    nothing (x ∷ xs) = ap (λ ys. x ∷ ys) (nothing xs)
+        ∙ append-nil front ∙ ap (λ m. map each_312 (range_with_len 0 m)) same
 
 -- ---- orders of its feed
 

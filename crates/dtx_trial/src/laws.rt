@@ -2,11 +2,33 @@
 //! 2; the feed and the logs are the profile's own, in the manner of ATSC A/110).
 
 ghost use Rattle.std.specs.Prelude.{◌≡◌, ◌^◌, ◌<◌, ◌≤◌, ◌∷◌, [], ℕ, IfSome, IsSomeAnd, codes, decimal};
+ghost use Rattle.dtx_outside.specs.Shelf.{Files};
+ghost use Rattle.dtx_top.specs.Trial.{IsTrialDone};
 ghost use Rattle.dtx_trial.specs.TrialFiles.{AreTrialFiles};
 
+use dtx_network::laws::{
+    from_a_mark, gives_all_back, listings_of_a_feed, orders_of_a_feed, packets_of_a_feed,
+    stretch_is_slight,
+};
 use dtx_outside::{Shelf, Sink, Word};
+use dtx_top::laws::{a_trial_is_done, made_packets_are_a_stream};
 use dtx_top::{Status, run};
 use std::alloc::Global;
+
+/// These are the files of each trial of which the headline holds.
+pub fn files_of_a_done_trial()
+    ensures { (seed count : ℕ) (held now : Files) → 624 ≤ count → count ≤ 1000000 → IsTrialDone seed count held now
+        → AreTrialFiles seed count now }
+{
+    a_trial_is_done();
+    made_packets_are_a_stream();
+    orders_of_a_feed();
+    listings_of_a_feed();
+    from_a_mark();
+    packets_of_a_feed();
+    stretch_is_slight();
+    gives_all_back();
+}
 
 /// What `run` leaves of `trial SEED COUNT`, for every SEED below 2^64 and COUNT from 624 to 1,000,000, over files that
 /// are told, where the answer is `Done`. `tx-1.sym`, `tx-2.sym` and `tx-3.sym` are one and the same list of bytes: the
@@ -19,5 +41,6 @@ pub fn run_of_a_trial<S: Shelf, O: Sink>(alloc: Global, words: &[Word], shelf: &
         → 624 ≤ count → count ≤ 1000000 → IfSome (S.files shelf.old) (λ held. result ≡ Status.Done
         → IsSomeAnd (S.files shelf.new) (AreTrialFiles seed count)) }
 {
+    files_of_a_done_trial();
     run(alloc, words, shelf, out)
 }
