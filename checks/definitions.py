@@ -74,13 +74,13 @@ def owner_of(module, name):
         return (module, name)
     if name in imports:
         return resolved(*imports[name])
-    return next(((module, owner) for owner, lines in definitions.items()
-                 if any(re.match(rf'\s+(pub )?{re.escape(name)} :', line) for line in lines[1:])), None)
+    return next((module, owner) for owner, lines in definitions.items()
+                if any(re.match(rf'\s+(pub )?{re.escape(name)} :', line) for line in lines[1:]))
 
 
 def resolved(module, name):
     """The definition of an imported name, if it isn't the standard library's."""
-    if not module.startswith('Rattle.dtx_') or '.proofs.' in module:
+    if not module.startswith('Rattle.dtx_'):
         return None
     if '.declared.' not in module:
         return owner_of(module, name)

@@ -1,11 +1,12 @@
 -- The files of a trial of which the headline holds.
-use Rattle.std.proofs.Common.{◌≡◌, ℕ, ℤ, pos, negsuc, zero, suc, ◌+◌, ◌-◌, ◌*◌, ◌/◌, ◌%◌, ◌<◌, ◌≤◌, List, [], ◌∷◌, ◌++◌}
+use Rattle.std.proofs.Common.{◌≡◌, ℕ, ℤ, pos, negsuc, zero, suc, ◌+◌, ◌-◌, ◌*◌, ◌/◌, ◌<◌, ◌≤◌, List, [], ◌∷◌, ◌++◌}
 use Rattle.std.proofs.Common.{length, map, drop, get_or, refl, sym, ap, subst, ◌∙◌, arith}
-use Rattle.std.specs.Prelude.{Option, Some, None, slice_get, slice_range, codes}
+use Rattle.std.specs.Prelude.{Option, Some, slice_get, slice_range, codes, decimal}
 use Rattle.std.specs.FinMap.{get}
 use Rattle.std.specs.Int.Signed.{le_z_yes}
 use Rattle.std.specs.List.{flat_map, range_with_len}
 use Rattle.std.specs.Option.{option_map_or}
+use Rattle.std.proofs.lemmas.Fmt.{decimal_digit}
 use Rattle.std.proofs.lemmas.List.{append-nil, take_all}
 use Rattle.std.proofs.lemmas.List.Folds.{flat_map-map}
 use Rattle.dtx_adapter.specs.Feed.{fed_packet, feed, feed_to, ops_at}
@@ -26,7 +27,7 @@ use Rattle.dtx_make.specs.Made.{made_packet, made_stream}
 use Rattle.dtx_net.specs.Lives.{lives_of}
 use Rattle.dtx_net.specs.PlaceOfLaws.{place_only}
 use Rattle.dtx_net.specs.Sent.{lines_of, sent_segments}
-use Rattle.dtx_net.specs.Steps.{Step, transmitter_place}
+use Rattle.dtx_net.specs.Steps.{Step}
 use Rattle.dtx_network.specs.GivesBack.{BeginsField, GivesAllBack, IsAllBack, IsReceivedAlone}
 use Rattle.dtx_network.specs.Headline.{HaveNoMark, IsFedAnew, IsFirstListing, stretch_of}
 use Rattle.dtx_network.specs.Network.{steps_under}
@@ -48,7 +49,7 @@ use Rattle.dtx_top.specs.WorkedNetwork.{made_packets}
 use Rattle.dtx_trial.proofs.MadeOrders.{IsOrdered, first_listing}
 use Rattle.dtx_trial.proofs.TrialLives.{first_lives, length-made, made_unmarked, none_marked, second_lives, third_lives}
 use Rattle.dtx_trial.proofs.TrialSymbols.{bytes_back, lines_are, numbers_are, stretch_is}
-use Rattle.dtx_trial.specs.TrialFiles.{AreTrialFiles, feed_plan, order_line, trial_feed, trial_log, trial_received}
+use Rattle.dtx_trial.specs.TrialFiles.{AreTrialFiles, feed_plan, order_line, trial_log, trial_received}
 use Rattle.dtx_trial.specs.TrialFiles.{trial_symbols, whole_from_312}
 
 -- the laws that are cited
@@ -291,6 +292,13 @@ file_received laws seed count least most cut =
 
 -- ---- all files
 
+-- a file of the transmitter at an address of one digit
+named : (now : Files) (address : ℕ) (ending bytes : List ℕ) → address < 10
+    → get now (codes "tx-" ++ (decimal address ++ ending)) ≡ Some bytes
+    → get now (codes "tx-" ++ ((48 + address) ∷ ending)) ≡ Some bytes
+named now address ending bytes small is =
+    sym (ap (λ (digits : List ℕ). get now (codes "tx-" ++ (digits ++ ending))) (decimal_digit address small)) ∙ is
+
 files_of : Laws → (seed count : ℕ) (held now : Files) → 624 ≤ count → count ≤ 1000000
     → get now (codes "trial.ts") ≡ Some (made_stream seed count)
     → HeadlineOfFiles (trial_plan seed count) (trial_network seed count) (made_packets seed count) held now
@@ -299,18 +307,18 @@ files_of laws seed count held now least most made h = record {
   stream = made;
   feed = h.files.feed ∙ ap (λ (fed : List (List ℕ)). Some (flat_map (λ p. p) fed))
       (same_feed seed count (made_packets seed count));
-  symbols_1 = h.files.sent.symbols 0 first refl
+  symbols_1 = named now 1 (codes ".sym") _ (omega arith) (h.files.sent.symbols 0 first refl)
       ∙ ap Some (symbols_of_one laws seed count least most first 0 [] (first_given laws seed count));
-  symbols_2 = h.files.sent.symbols 1 second refl
+  symbols_2 = named now 2 (codes ".sym") _ (omega arith) (h.files.sent.symbols 1 second refl)
       ∙ ap Some (symbols_of_one laws seed count least most second 1 [] (second_given laws seed count));
-  symbols_3 = h.files.sent.symbols 2 third refl
+  symbols_3 = named now 3 (codes ".sym") _ (omega arith) (h.files.sent.symbols 2 third refl)
       ∙ ap Some (symbols_of_one laws seed count least most third 2 (made_packets seed 50)
       (third_given laws seed count));
-  log_1 = h.files.sent.logs 0 first refl
+  log_1 = named now 1 (codes ".log") _ (omega arith) (h.files.sent.logs 0 first refl)
       ∙ ap Some (log_of_one laws seed count least most first 0 [] (first_given laws seed count));
-  log_2 = h.files.sent.logs 1 second refl
+  log_2 = named now 2 (codes ".log") _ (omega arith) (h.files.sent.logs 1 second refl)
       ∙ ap Some (log_of_one laws seed count least most second 1 [] (second_given laws seed count));
-  log_3 = h.files.sent.logs 2 third refl
+  log_3 = named now 3 (codes ".log") _ (omega arith) (h.files.sent.logs 2 third refl)
       ∙ ap Some (log_of_one laws seed count least most third 2 (made_packets seed 50) (third_given laws seed count));
   received = h.files.received
       ∙ ap Some (file_received laws seed count least most (h.segments 2 third refl));

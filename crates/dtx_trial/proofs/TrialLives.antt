@@ -1,9 +1,9 @@
 -- What the transmitters of a trial are given: each has one life, which ends with the whole feed.
-use Rattle.std.proofs.Common.{◌≡◌, ◌≢◌, ℕ, pos, negsuc, zero, suc, ◌+◌, ◌%◌, ◌==◌, cond, Bool, true, false, List, []}
-use Rattle.std.proofs.Common.{◌∷◌, ◌++◌, Option, Some, None, length, map, refl, sym, ap, ap₂, ◌∙◌, arith}
+use Rattle.std.proofs.Common.{◌≡◌, ◌≢◌, ℕ, pos, negsuc, suc, ◌+◌, ◌%◌, ◌==◌, cond, Bool, true, false, List, []}
+use Rattle.std.proofs.Common.{◌∷◌, ◌++◌, Option, Some, length, map, refl, sym, ap, ◌∙◌, arith}
 use Rattle.std.specs.Prelude.{replicate}
 use Rattle.std.specs.List.{range_with_len}
-use Rattle.std.proofs.lemmas.List.{append-nil, append_assoc, get_or-map, length-map}
+use Rattle.std.proofs.lemmas.List.{append-nil, append_assoc, get_or-map}
 use Rattle.std.proofs.lemmas.List.FromFn.{length-map-range_with_len}
 use Rattle.dtx_adapter.specs.Feed.{feed}
 use Rattle.dtx_lists.proofs.RangeMoved.{map-range_moved}

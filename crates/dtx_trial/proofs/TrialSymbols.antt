@@ -1,5 +1,5 @@
 -- What a transmitter sends and logs that is given a trial's feed, and which packets come back of it.
-use Rattle.std.proofs.Common.{◌≡◌, ◌≢◌, ◌⊎◌, inl, inr, ℕ, ℤ, ◌+◌, ◌-◌, ◌*◌, ◌/◌, ◌%◌, ◌<◌, ◌≤◌, ◌==◌, Bool, cond, List}
+use Rattle.std.proofs.Common.{◌≡◌, ◌≢◌, ◌⊎◌, inl, inr, ℕ, ℤ, ◌+◌, ◌-◌, ◌*◌, ◌/◌, ◌%◌, ◌≤◌, ◌==◌, cond, List}
 use Rattle.std.proofs.Common.{[], ◌∷◌, ◌++◌, length, map, drop, get_or, refl, sym, ap, ap₂, ◌∙◌, arith}
 use Rattle.std.specs.Prelude.{filter}
 use Rattle.std.specs.List.{flat_map, range_with_len}
@@ -106,8 +106,14 @@ unfolding numbers_in
 numbers_are fed count long least =
     let u : ℕ = count / 4 - 78 in
     let run : List (List ℤ) = drop 212 (drop 101 (a53 fed)) in
-    let groups : groups_of run ≡ u = run_groups run u (omega (arith, least, long, length-drop 212 (drop 101 (a53 fed)),
-    length-drop 101 (a53 fed), length-a53 fed)) in
+    let groups : groups_of run ≡ u = run_groups run u (omega (
+      arith,
+      least,
+      long,
+      length-drop 212 (drop 101 (a53 fed)),
+      length-drop 101 (a53 fed),
+      length-a53 fed,
+    )) in
     let words : 828 * u ≡ 207 * (4 * u) = omega arith in
     let all : 4 * u + 312 ≡ 4 * (count / 4) = omega (arith, least) in
     ap (λ n. filter (is_complete (828 * n)) (range_with_len 0 (4 * n))) groups

@@ -1,15 +1,14 @@
 -- The words `trial SEED COUNT`, with both numbers as they are written, are those of a trial of these numbers.
-use Rattle.std.proofs.Common.{◌≡◌, ℕ, ◌-◌, ◌^◌, ◌<◌, ◌≤◌, ◌&&◌, true, cond, List, [], ◌∷◌, refl, sym, ap, subst, ◌∙◌}
+use Rattle.std.proofs.Common.{◌≡◌, ℕ, ◌-◌, ◌^◌, ◌<◌, ◌≤◌, List, [], ◌∷◌, refl, sym, ap, subst, ◌∙◌}
 use Rattle.std.proofs.Common.{arith}
 use Rattle.std.specs.Prelude.{Option, Some, None, IfSome, IsSomeAnd, codes, decimal, is_some, nat_le}
-use Rattle.std.specs.Str.{bytes_eq}
 use Rattle.std.specs.Str.Parse.{AllDigits, digits_value}
 use Rattle.std.proofs.lemmas.Bool.{and_from, cond-true, le-leb}
 use Rattle.std.proofs.lemmas.Fmt.{digits_value-decimal}
 use Rattle.std.proofs.lemmas.Slice.Eq.{bytes_eq-Decides}
 use Rattle.std.proofs.lemmas.Str.Parse.{IsNumeralModel, numerals_by_value, tells_digits}
 use Rattle.dtx_outside.specs.Shelf.{Files}
-use Rattle.dtx_words.specs.Fitting.{command_of, fits}
+use Rattle.dtx_words.specs.Fitting.{command_of}
 use Rattle.dtx_words.specs.FittingLaws.{command_found}
 use Rattle.dtx_words.specs.Number.{at_least, number_in, number_within}
 use Rattle.dtx_words.specs.declared.rows.Command.{Command}

@@ -36,7 +36,12 @@ pub fn files_of_a_done_trial()
 /// feed's orders, at moments that differ between the three by their offsets and in nothing else. `net.ts` is exactly
 /// the packets of the feed from the first field sync on whose bytes are all there. It is no call of the program's own:
 /// it follows from the clauses of `run`, which it calls.
-pub fn run_of_a_trial<S: Shelf, O: Sink>(alloc: Global, words: &[Word], shelf: &mut S, out: &mut O) -> Status
+pub fn run_of_a_trial<S: Shelf, O: Sink>(
+    alloc: Global,
+    words: &[Word],
+    shelf: &mut S,
+    out: &mut O,
+) -> Status
     ensures { (seed count : ℕ) → words.now ≡ codes "trial" ∷ decimal seed ∷ decimal count ∷ [] → seed < 2 ^ 64
         → 624 ≤ count → count ≤ 1000000 → IfSome (S.files shelf.old) (λ held. result ≡ Status.Done
         → IsSomeAnd (S.files shelf.new) (AreTrialFiles seed count)) }
