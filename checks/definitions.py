@@ -5,12 +5,13 @@
     checks/definitions.py --document docs/proved.md
 
 The first form takes a function of a file under crates/ and one of its clauses, or all of them. It prints the files in
-which the definitions stand, the lowest crate first, with the number of definitions and of their lines in each, without
-comments, and at the end the sums. What the standard library defines isn't counted. A type that is declared in code
-counts as a definition of the file that declares it.
+which the definitions stand, in reading order (the lowest crate first), with the number of definitions in each and of
+their lines without comments, and at the end the sums. What the standard library defines isn't counted. A type or a
+constant that code declares counts as a definition of that file, and what its fields are made of only where it is named.
 
-The second form reads the rows of a document's table `| Statement | Function | Definitions | Lines | Files |`, whose
-second column is a form's words, and prints each number that is another one than the computed one.
+The second form reads two kinds of rows of a document: `| .. | FILE FUNCTION CLAUSE | DEFINITIONS | LINES | FILES |`,
+the words in backticks, and `| FILE | DEFINITIONS | LINES |`, which are the files of the first of those, in their order.
+It prints each that says something else than what is computed.
 """
 import functools
 import re
@@ -18,10 +19,10 @@ import sys
 from pathlib import Path
 
 CRATES = Path(__file__).resolve().parent.parent / 'crates'
-HEADER = re.compile(r'(?:(?:abbrev|unfoldable|pub|record|data) )*(?P<name>[^\s:(){}]+)')
-IMPORT = re.compile(r'use ([^\s{;]+?)(?:\.\{(.*)\}| as (\S+))$')
+HEADER = re.compile(r'(?:(?:abbrev|unfoldable|pub|record|data) )*([^\s:(){}]+)')
+IMPORT = re.compile(r'(?:(?:unfoldable|pub) )*use ([^\s{;]+?)(?:\.\{(.*)\}| as (\S+))$')
 TOKEN = re.compile(r"((?:[^\W\d][\w'-]*\.)*)([^\W\d][\w'-]*)(?![\w'-]| = )")
-DECLARED = r'(?:pub(?:\(crate\))? )?(?:struct|enum|const|type) %s\b'
+DECLARED = r'(?:pub(?:\(crate\))? )?(?:struct|enum|const) %s\b'
 
 
 def without_comments(text, mark):
@@ -29,87 +30,69 @@ def without_comments(text, mark):
     return [line for line in kept if line]
 
 
-def import_of(line):
-    """The names that a line brings in, each with the module and the name that it has there."""
-    found = IMPORT.match(line.replace('unfoldable ', '').replace('pub ', ''))
-    if not found:
-        return {}
-    module, names, alias = found.groups()
-    if alias:
-        return {alias: (module, None)}
-    pairs = (part.strip().split(' as ') for part in names.split(', '))
-    return {pair[-1]: (module, pair[0]) for pair in pairs}
+def imports_of(lines):
+    """The names that `use` lines bring in, each with its module, and the name that it has there where it is no module."""
+    imports = {}
+    for found in filter(None, map(IMPORT.match, lines)):
+        module, names, alias = found.groups()
+        for part in names.split(', ') if names else [f' as {alias}']:
+            name, _, other = part.partition(' as ')
+            imports[other or name] = (module, name or None)
+    return imports
 
 
 @functools.lru_cache(None)
-def specs_file(module):
-    """The imports and the definitions of a module under specs/, each definition by its lines."""
-    _, crate, *path = module.split('.')
-    imports, definitions, current = {}, {}, None
-    for line in without_comments((CRATES / crate / Path(*path)).with_suffix('.antt').read_text(), '--'):
-        if line[0] == ' ' or line.startswith('}'):
+def module_of(name):
+    """The imports and the definitions of a module of .antt, each definition by its lines."""
+    _, crate, *path = name.split('.')
+    lines = without_comments((CRATES / crate / Path(*path)).with_suffix('.antt').read_text(), '--')
+    definitions, current = {}, None
+    for line in lines:
+        if line[0] in ' }':
             current.append(line)
-        elif re.match(r'(unfoldable |pub )*use ', line):
-            imports.update(import_of(line))
-        elif not re.match(r'(pub )?mod |unfolding ', line):
-            name = HEADER.match(line)['name']
-            current = definitions.setdefault(name, [])
+        elif not re.match(r'(?:(?:unfoldable|pub) )*(?:use|mod) |unfolding ', line):
+            current = definitions.setdefault(HEADER.match(line)[1], [])
             current.append(line)
-    return imports, definitions
+    return imports_of(lines), definitions
 
 
-def bound_in(lines):
-    """The names that a definition binds itself: its parameters and fields, and what its patterns and functions name."""
-    text = '\n'.join(lines)
-    binders = re.findall(r'λ ([^.]*)\.', text) + re.findall(r'[({]([\w\' -]+) :', text)
-    binders += re.findall(r'^\s+(?:pub )?([\w\'-]+) :', text, re.M)
-    binders += [line.split(' = ')[0] for line in lines if line[0] != ' ' and ' : ' not in line.split(' = ')[0]]
-    return {name for binder in binders for name in TOKEN.findall(binder) for name in name[1:] if name[0].islower()}
-
-
-def owner_of(module, name):
+def resolved(module, name):
     """The definition that a name of a module is: itself, or the type of which it is a constructor."""
-    imports, definitions = specs_file(module)
+    if not module.startswith('Rattle.dtx_'):
+        return None
+    head, declared, path = module.partition('.specs.declared.')
+    if declared:
+        parts = [part for part in path.split('.') if part not in ('TheVariants', 'TheConstants')]
+        kind = name if path.endswith('TheConstants') else parts.pop()
+        return (head + '.src.' + '.'.join(parts), kind)
+    imports, definitions = module_of(module)
     if name in definitions:
         return (module, name)
     if name in imports:
         return resolved(*imports[name])
     return next((module, owner) for owner, lines in definitions.items()
-                if any(re.match(rf'\s+(pub )?{re.escape(name)} :', line) for line in lines[1:]))
+                if any(re.match(rf'\s+{re.escape(name)} :', line) for line in lines[1:]))
 
 
-def resolved(module, name):
-    """The definition of an imported name, if it isn't the standard library's."""
-    if not module.startswith('Rattle.dtx_'):
-        return None
-    if '.declared.' not in module:
-        return owner_of(module, name)
-    head, _, path = module.partition('.specs.declared.')
-    parts = [part for part in path.split('.') if part not in ('TheVariants', 'TheConstants')]
-    kind = name if path.endswith('TheConstants') else parts.pop()
-    return (head + '.src.' + '.'.join(parts), kind)
-
-
-def names_in(lines, imports, definitions, bound):
-    """The definitions that lines of a file name, in their order."""
-    for dots, name in TOKEN.findall('\n'.join(lines)):
+def names_in(text, imports, own):
+    """The definitions that a text names, where these names are imported and these are of its own module."""
+    operators = [name for name in imports if '◌' in name and name.strip('◌') in text]
+    found = [imports[name] for name in operators]
+    for dots, name in TOKEN.findall(text):
         first = dots.split('.')[0]
-        if first in imports and imports[first][1] is None and first not in bound:
-            yield resolved(imports[first][0], name)
-        if first:
-            name = first
-        if name in bound:
-            continue
-        if name in imports and imports[name][1]:
-            yield resolved(*imports[name])
-        elif name in definitions:
-            yield (definitions[name], name)
+        if imports.get(first, ('', ''))[1] is None:
+            found.append((imports[first][0], name))
+        elif (first or name) in imports:
+            found.append(imports[first or name])
+        elif (first or name) in own:
+            found.append((own[first or name], first or name))
+    return [key for key in (resolved(*pair) for pair in found) if key]
 
 
 def declared_lines(module, name):
     """The lines of a type or constant that code declares."""
-    _, crate, _, *path = module.split('.')
-    lines = without_comments((CRATES / crate / 'src' / Path(*path)).with_suffix('.rt').read_text(), '//')
+    _, crate, *path = module.split('.')
+    lines = without_comments((CRATES / crate / Path(*path)).with_suffix('.rt').read_text(), '//')
     start = next(n for n, line in enumerate(lines) if re.match(DECLARED % re.escape(name), line))
     if lines[start].endswith((';', '}')):
         return lines[start:start + 1]
@@ -121,23 +104,21 @@ def definition(module, name):
     """The lines of a definition, and the definitions that they name."""
     if '.src.' in module:
         return declared_lines(module, name), []
-    imports, definitions = specs_file(module)
-    lines = definitions[name]
+    imports, definitions = module_of(module)
     own = {other: module for other in definitions if other != name}
-    return lines, [found for found in names_in(lines, imports, own, bound_in(lines)) if found]
+    return definitions[name], names_in('\n'.join(definitions[name]), imports, own)
 
 
 def closure(roots):
-    """All definitions that stand below some, each behind those that it names, with their lines."""
-    found = {}
+    """The lines of all definitions from some on, each behind those that it names."""
+    met, found = set(), {}
 
     def visit(key):
-        if key not in found:
-            found[key] = None
+        if key not in met:
+            met.add(key)
             lines, below = definition(*key)
             for other in below:
                 visit(other)
-            del found[key]
             found[key] = lines
 
     for root in roots:
@@ -145,8 +126,8 @@ def closure(roots):
     return found
 
 
-def balanced(text, start):
-    """The text of the braces that open at a place."""
+def in_braces(text, start):
+    """The text between the braces of which the first stands there."""
     depth = 0
     for place in range(start, len(text)):
         depth += {'{': 1, '}': -1}.get(text[place], 0)
@@ -157,62 +138,65 @@ def balanced(text, start):
 
 def roots_of(path, function, clause=None):
     """The definitions that the clauses of a function name, or that one clause."""
-    text = '\n'.join(without_comments(Path(path).read_text(), '//'))
-    imports = {}
-    for line in re.findall(r'^ghost (use .*);$', text, re.M):
-        imports.update(import_of(line))
+    lines = without_comments((CRATES.parent / path).read_text(), '//')
+    text = '\n'.join(lines)
     start = re.search(rf'\bfn {function}\b', text).start()
     head = text[start:re.compile(r'^\{', re.M).search(text, start).start()]
-    clauses = [(found[1], balanced(head, found.end() - 1)) for found in re.finditer(r'ensures (\w+ )?\{', head)]
-    chosen = [body for label, body in clauses if clause is None or (label or '').strip() == clause]
+    clauses = [(found[1], in_braces(head, found.end() - 1)) for found in re.finditer(r'ensures (?:(\w+) )?\{', head)]
+    chosen = '\n'.join(body for label, body in clauses if clause in (None, label))
     if not chosen:
         sys.exit(f'{path}: {function} has no clause {clause}')
-    return [found for body in chosen
-            for found in names_in([body], imports, {}, bound_in([' ' + body])) if found]
+    imports = imports_of(line[len('ghost '):-1] for line in lines if line.startswith('ghost use '))
+    return names_in(chosen, imports, {})
 
 
 def heights():
-    """The place of each crate in crates.txt, where the lowest stands first."""
+    """The place of each crate in crates.txt, where a lower crate stands before those above it."""
     lines = (CRATES.parent / 'crates.txt').read_text().split('\n')
     return {line.split(':')[0].split()[0]: n for n, line in enumerate(lines) if re.match(r'[a-z]\w*[^#]*:', line)}
 
 
-def files_of(found):
-    """The files of definitions in reading order, each with the number of its definitions and of their lines."""
+def computed(words):
+    """The files of a statement in reading order, each with the number of its definitions and of their lines."""
     order, files = heights(), {}
-    for (module, _), lines in found.items():
+    for (module, _), lines in closure(roots_of(*words)).items():
         _, crate, *path = module.split('.')
-        suffix = '.rt' if path[0] == 'src' else '.antt'
-        name = f'crates/{crate}/{"/".join(path)}{suffix}'
+        name = f'crates/{crate}/{"/".join(path)}{".rt" if path[0] == "src" else ".antt"}'
         count, many = files.get(name, (0, 0))
         files[name] = (count + 1, many + len(lines))
     return dict(sorted(files.items(), key=lambda item: order[item[0].split('/')[1]]))
 
 
-def computed(words):
-    """The numbers of definitions, lines and files of a statement, and the files."""
-    files = files_of(closure(roots_of(CRATES.parent / words[0], *words[1:])))
-    return sum(n for n, _ in files.values()), sum(m for _, m in files.values()), files
+def sums(files):
+    return sum(count for count, _ in files.values()), sum(many for _, many in files.values()), len(files)
 
 
 def compare(document):
-    """Prints each row of a document that says another number than the computed one."""
-    for line in Path(document).read_text().split('\n'):
-        row = re.match(r'\| [^|]* \| `(crates/[^`|]*)` \| (\d+) \| (\d+) \| (\d+) \|$', line)
-        if row:
-            count, many, files = computed(row[1].split())
-            if row.groups()[1:] != (str(count), str(many), str(len(files))):
-                print(f'{document}: {row[1]}: {count} definitions, {many} lines, {len(files)} files')
+    """Prints what a document says of statements and of the files of the first one otherwise than it is computed."""
+    text = Path(document).read_text()
+    rows = re.findall(r'^\| [^|]* \| `(crates/[^`|]*)` \| (\d+) \| (\d+) \| (\d+) \|$', text, re.M)
+    for words, *told in rows:
+        found = sums(computed(words.split()))
+        if [int(number) for number in told] != list(found):
+            print('%s: %s: %d definitions, %d lines, %d files' % (document, words, *found))
+    told = re.findall(r'^\| `(crates/[^`|]*)` \| (\d+) \| (\d+) \|$', text, re.M)
+    files = [(name, str(count), str(many)) for name, (count, many) in computed(rows[0][0].split()).items()]
+    for here, there in ((told, files), (files, told)):
+        for row in here:
+            if row not in there:
+                print(f'{document}: {"has" if here is told else "misses"} the row of {" ".join(row)}')
+    if sorted(told) == sorted(files) and told != files:
+        print(f'{document}: the files stand in another order')
 
 
 def main(words):
-    if words[:1] == ['--document']:
+    if words[0] == '--document':
         compare(words[1])
         return
-    count, many, files = computed(words)
-    for name, (n, m) in files.items():
-        print(f'{n:4d} {m:5d} {name}')
-    print(f'{count} definitions of {many} lines in {len(files)} files')
+    files = computed(words)
+    for name, (count, many) in files.items():
+        print(f'{count:4d} {many:5d} {name}')
+    print('%d definitions of %d lines in %d files' % sums(files))
 
 
 if __name__ == '__main__':

@@ -171,6 +171,7 @@ rule 'fewer than three must-fail edits' "$(few_edits)"
 rule 'a wrong program that does not fit' "$(misfit_programs 2>&1)"
 rule 'a file that is not there' "$(missing_files)"
 rule 'what a build made is committed' "$(git ls-files -- 'crates/*/out/*')"
+rule 'a number of definitions' "$(checks/definitions.py --document docs/proved.md 2>&1)"
 rule 'a script' "$(scripts)"
 printf 'texts: %d passed, %d failed\n' "$passed" "$failed"
 ((failed == 0))

@@ -101,7 +101,8 @@ steps_of seed count = steps_under (trial_plan seed count) (made_packets seed cou
 fed_long : (seed count : ℕ) → length (fed_of seed count) ≡ count
 fed_long seed count = length-feed (trial_plan seed count) (made_packets seed count) ∙ length-made seed count
 
-stream_of : (seed count : ℕ) → IsStream (made_packets seed count) → packets_of (made_stream seed count) ≡ made_packets seed count
+stream_of : (seed count : ℕ) → IsStream (made_packets seed count)
+    → packets_of (made_stream seed count) ≡ made_packets seed count
 unfolding made_stream made_packets
 stream_of seed count u =
     ap packets_of (sym (flat_map-map (λ p. p) (made_packet seed) (range_with_len 0 count)))

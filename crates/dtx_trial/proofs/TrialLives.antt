@@ -111,10 +111,6 @@ send_behind fed to seed many count long =
 
 -- ---- the three transmitters
 
--- what is given, whatever the stream is
-abbrev pub fed_of : ℕ → ℕ → List (List ℕ) → List (List ℕ)
-fed_of seed count stream = feed (trial_plan seed count) stream
-
 first_at : (seed count : ℕ) → IsPlan (trial_plan seed count) → transmitter_place 1 trial_transmitters ≡ Some 0
 first_at seed count p = place_only trial_transmitters 0 (near 1 (pos 0)) p.sound.transmitters refl
 
@@ -125,12 +121,13 @@ third_at : (seed count : ℕ) → IsPlan (trial_plan seed count) → transmitter
 third_at seed count p = place_only trial_transmitters 2 (near 3 (negsuc 9)) p.sound.transmitters refl
 
 pub first_lives : (seed count : ℕ) (stream : List (List ℕ)) → IsPlan (trial_plan seed count)
-    → length (fed_of seed count stream) ≡ count
-    → lives_of 0 (steps_under (trial_plan seed count) stream (trial_events seed count)) ≡ fed_of seed count stream ∷ []
+    → length (feed (trial_plan seed count) stream) ≡ count
+    → lives_of 0 (steps_under (trial_plan seed count) stream (trial_events seed count))
+    ≡ feed (trial_plan seed count) stream ∷ []
 unfolding lives_of
 first_lives seed count stream p long =
     let ts : List Transmitter = trial_transmitters in
-    let fed : List (List ℕ) = fed_of seed count stream in
+    let fed : List (List ℕ) = feed (trial_plan seed count) stream in
     let last : List Event = Send 3 0 count ∷ [] in
     let more : List Event = Foreign 3 seed 0 50 ∷ last in
     ap (lives_from []) (
@@ -143,12 +140,13 @@ first_lives seed count stream p long =
     ∙ send_alone fed 1 count long
 
 pub second_lives : (seed count : ℕ) (stream : List (List ℕ)) → IsPlan (trial_plan seed count)
-    → length (fed_of seed count stream) ≡ count
-    → lives_of 1 (steps_under (trial_plan seed count) stream (trial_events seed count)) ≡ fed_of seed count stream ∷ []
+    → length (feed (trial_plan seed count) stream) ≡ count
+    → lives_of 1 (steps_under (trial_plan seed count) stream (trial_events seed count))
+    ≡ feed (trial_plan seed count) stream ∷ []
 unfolding lives_of
 second_lives seed count stream p long =
     let ts : List Transmitter = trial_transmitters in
-    let fed : List (List ℕ) = fed_of seed count stream in
+    let fed : List (List ℕ) = feed (trial_plan seed count) stream in
     let last : List Event = Send 3 0 count ∷ [] in
     let more : List Event = Foreign 3 seed 0 50 ∷ last in
     ap (lives_from []) (
@@ -161,13 +159,13 @@ second_lives seed count stream p long =
     ∙ send_alone fed 2 count long
 
 pub third_lives : (seed count : ℕ) (stream : List (List ℕ)) → IsPlan (trial_plan seed count)
-    → length (fed_of seed count stream) ≡ count
+    → length (feed (trial_plan seed count) stream) ≡ count
     → lives_of 2 (steps_under (trial_plan seed count) stream (trial_events seed count))
-    ≡ (made_packets seed 50 ++ fed_of seed count stream) ∷ []
+    ≡ (made_packets seed 50 ++ feed (trial_plan seed count) stream) ∷ []
 unfolding lives_of
 third_lives seed count stream p long =
     let ts : List Transmitter = trial_transmitters in
-    let fed : List (List ℕ) = fed_of seed count stream in
+    let fed : List (List ℕ) = feed (trial_plan seed count) stream in
     let last : List Event = Send 3 0 count ∷ [] in
     let more : List Event = Foreign 3 seed 0 50 ∷ last in
     ap (lives_from []) (

@@ -91,7 +91,8 @@ whole_of u least = complete_parts s ∙ by_end (cases_eq (s % 52) 0)
         ∙ sym (range_with_len-parts 0 (s - 52) 1) ∙ ap (range_with_len 0) many
     by_end (inr z) =
         let extra : ℕ = cond ((s + 312) % 52 == 0) 1 0 in
-        let none : extra ≡ 0 = cond-false ((s + 312) % 52 == 0) 1 0 (ne_eqb ((s + 312) % 52) 0 (λ e. z (omega (arith, e)))) in
+        let none : extra ≡ 0 = cond-false ((s + 312) % 52 == 0) 1 0
+        (ne_eqb ((s + 312) % 52) 0 (λ e. z (omega (arith, e)))) in
         let many : s - 52 ≡ whole_from_312 (s + 312) = omega (arith, none, least) in
         ap (λ xs. front ++ xs) (complete_none s (inr z)) ∙ append-nil front ∙ ap (range_with_len 0) many
 

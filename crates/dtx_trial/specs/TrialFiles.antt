@@ -46,9 +46,9 @@ order_line offset i =
 abbrev pub trial_log : ℕ → ℤ → List ℕ
 trial_log count offset = log_text (map (order_line offset) (range_with_len 0 ((count + 208) / 312)))
 
--- How many packets come back from packet 312 on, the first behind a field sync, of which the whole groups hold `sent`.
--- A codeword is spread over the 53 data segments from its packet's own on, or over 52 where 52 divides the packet's
--- number.
+-- How many packets come back from packet 312 on, the first behind a field sync, where the whole groups hold so many in
+-- all: the bytes of a packet's codeword are spread over the 53 data segments from its own on, or over 52 where 52
+-- divides the packet's number.
 abbrev pub whole_from_312 : ℕ → ℕ
 whole_from_312 sent = sent - 364 + (if sent % 52 == 0 then 1 else 0)
 
@@ -58,7 +58,8 @@ trial_received seed count =
     flat_map (λ k. as_received (slice_index_or (trial_feed seed count) k [])) (range_with_len 312
     (whole_from_312 (4 * (count / 4))))
 
--- The files of a trial that is done. The three symbol files are one list, and the three logs differ in the offset alone.
+-- The files of a trial that is done. The three symbol files are one list, and the three logs differ in the offset
+-- alone.
 pub record AreTrialFiles (seed count : ℕ) (now : Files) : Type 0 where
   pub stream : get now (codes "trial.ts") ≡ Some (made_stream seed count)
   pub feed : get now (codes "net.feed") ≡ Some (flat_map (λ packet. packet) (trial_feed seed count))
