@@ -13,10 +13,11 @@ if [[ ! $(git ls-files crates.txt) ]]; then
     exit 1
 fi
 
-# Crates that may have fewer than three must-fail edits: `dtx` and `dtx_bench` are programs, whose `main` has no contract
-# that an edit could break, `dtx_lists`, `dtx_chain`, `dtx_network`, `dtx_gap_filler`, `dtx_repeated_feed`, `dtx_trial` and
-# `dtx_symbol_laws` have lemmas and laws alone, `dtx_host` promises what the traits ask of files that tell nothing, and that
-# answers are counted, and the crates of tests, whose names end so, have nothing that another crate stands on.
+# Crates that may have fewer than three wrong programs, in the gate and beside it: `dtx` and `dtx_bench` are programs, whose
+# `main` has no contract that an edit could break, `dtx_lists`, `dtx_chain`, `dtx_network`, `dtx_gap_filler`,
+# `dtx_repeated_feed`, `dtx_trial` and `dtx_symbol_laws` have lemmas and laws alone, `dtx_host` promises what the traits ask
+# of files that tell nothing, and that answers are counted, and the crates of tests, whose names end so, have nothing that
+# another crate stands on.
 few_edits=' dtx dtx_bench dtx_host dtx_lists dtx_chain dtx_network dtx_gap_filler dtx_repeated_feed dtx_symbol_laws dtx_trial '
 
 passed=0
@@ -110,8 +111,15 @@ gate() {
 few_edits() {
     local crate edits
     for crate in $(crates); do
-        edits=$(find "crates/$crate/must-fail" -name '*.edit' 2>/dev/null | wc -l)
+        edits=$(find "crates/$crate/must-fail" "checks/wrong_programs/$crate" -name '*.edit' 2>/dev/null | wc -l)
         ((edits >= 3)) || [[ $crate == *_tests || $few_edits == *" $crate "* ]] || echo "$crate has $edits"
+    done
+}
+
+# A wrong program changes what runs: an edit of a definition or of a proof shows nothing of a contract.
+edits_beside_the_code() {
+    files 'crates/*/must-fail/*.edit' 'checks/wrong_programs/*/*.edit' | while IFS= read -r edit; do
+        grep -Hn '^file: ' "$edit" | grep -v ':file: src/'
     done
 }
 
@@ -167,7 +175,8 @@ rule "a file that names another crate's proofs" "$(foreign_proofs)"
 rule 'HANDLES' "$(handles)"
 rule 'a README of more than 120 lines' "$(awk 'END { if (NR > 120) print "README.md: " NR " lines" }' README.md)"
 rule 'the gate' "$(gate)"
-rule 'fewer than three must-fail edits' "$(few_edits)"
+rule 'fewer than three wrong programs' "$(few_edits)"
+rule 'an edit of another file than the code' "$(edits_beside_the_code)"
 rule 'a wrong program that does not fit' "$(misfit_programs 2>&1)"
 rule 'a file that is not there' "$(missing_files)"
 rule 'what a build made is committed' "$(git ls-files -- 'crates/*/out/*')"
