@@ -15,10 +15,10 @@ fi
 
 # Crates that may have fewer than three wrong programs, in the gate and beside it: `dtx` and `dtx_bench` are programs, whose
 # `main` has no contract that an edit could break, `dtx_lists`, `dtx_chain`, `dtx_network`, `dtx_gap_filler`,
-# `dtx_repeated_feed` and `dtx_symbol_laws` have lemmas and laws alone, `dtx_host` promises what the traits ask of files that
-# tell nothing, and that answers are counted, and the crates of tests, whose names end so, have nothing that another crate
-# stands on.
-few_edits=' dtx dtx_bench dtx_host dtx_lists dtx_chain dtx_network dtx_gap_filler dtx_repeated_feed dtx_symbol_laws '
+# `dtx_repeated_feed`, `dtx_trial` and `dtx_symbol_laws` have lemmas and laws alone, `dtx_host` promises what the traits ask
+# of files that tell nothing, and that answers are counted, and the crates of tests, whose names end so, have nothing that
+# another crate stands on.
+few_edits=' dtx dtx_bench dtx_host dtx_lists dtx_chain dtx_network dtx_gap_filler dtx_repeated_feed dtx_symbol_laws dtx_trial '
 
 passed=0
 failed=0
@@ -201,6 +201,7 @@ rule 'an edit of another file than the code' "$(edits_beside_the_code)"
 rule 'a wrong program that does not fit' "$(misfit_programs 2>&1)"
 rule 'a file that is not there' "$(missing_files)"
 rule 'what a build made is committed' "$(git ls-files -- 'crates/*/out/*')"
+rule 'a number of definitions' "$(checks/definitions.py --document docs/proved.md 2>&1)"
 rule 'a script' "$(scripts)"
 printf 'texts: %d passed, %d failed\n' "$passed" "$failed"
 ((failed == 0))
