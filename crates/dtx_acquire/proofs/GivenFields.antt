@@ -9,9 +9,9 @@ use Rattle.dtx_acquire.specs.Agreement.{agrees, least_from}
 use Rattle.dtx_acquire.specs.Acquired.{Field, Sync, acquired, acquired_runs, all_fields, all_syncs, begun, begun_at}
 use Rattle.dtx_acquire.specs.Acquired.{behind, due, field_at, fields_where, given_at, is_met, restored, restored_of}
 use Rattle.dtx_acquire.specs.Acquired.{runs_of, segments_from, syncs_from, unless_lost}
-use Rattle.dtx_acquire.specs.FieldsLaws.{enough_first, fields_of, first_of}
+use Rattle.dtx_acquire.proofs.FieldsLemmas.{enough_first, fields_of, first_of}
 use Rattle.dtx_acquire.specs.Sent.{AreInFields}
-use Rattle.dtx_acquire.specs.SyncsLaws.{later, sync_of}
+use Rattle.dtx_acquire.proofs.SyncsLemmas.{later, sync_of}
 use Rattle.dtx_acquire.proofs.GivenSegments.{from_whole, restored_given, segments_append}
 use Rattle.dtx_acquire.proofs.Leaving.{length-restored, length-segments_from}
 

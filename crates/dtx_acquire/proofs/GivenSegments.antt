@@ -11,7 +11,7 @@ use Rattle.std.proofs.lemmas.Simd.{map-map}
 use Rattle.dtx_trellis.specs.Trellis.{symbol_of}
 use Rattle.dtx_frame.specs.Segments.{data_segment, field_sync, segment_sync}
 use Rattle.dtx_soft.specs.Softened.{softened}
-use Rattle.dtx_soft.specs.SoftenedLaws.{softened_found}
+use Rattle.dtx_soft.proofs.SoftenedLemmas.{softened_found}
 use Rattle.dtx_acquire.specs.Acquired.{behind_groups, in_groups, restored, restored_data, restored_field, restored_sync}
 use Rattle.dtx_acquire.specs.Acquired.{segments_from}
 use Rattle.dtx_acquire.specs.Agreement.{is_second}

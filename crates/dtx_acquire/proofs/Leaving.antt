@@ -15,10 +15,10 @@ use Rattle.dtx_acquire.specs.Acquired.{path_cost}
 use Rattle.dtx_acquire.specs.Acquired.{restored, restored_data, restored_field, restored_of, runs_of, segments_from}
 use Rattle.dtx_acquire.specs.Acquired.{settled_fields}
 use Rattle.dtx_acquire.specs.Acquirer.{Holding, IsSought, Leaves, StandsFor, field_of, where_wanted}
-use Rattle.dtx_acquire.specs.AcquiredLaws.{restored_append}
-use Rattle.dtx_acquire.specs.AgreementLaws.{least_none}
-use Rattle.dtx_acquire.specs.FieldsLaws.{fields_last, fields_none, fields_short}
-use Rattle.dtx_acquire.specs.StepsLaws.{sought_fields}
+use Rattle.dtx_acquire.proofs.AcquiredLemmas.{restored_append}
+use Rattle.dtx_acquire.proofs.AgreementLemmas.{least_none}
+use Rattle.dtx_acquire.proofs.FieldsLemmas.{fields_last, fields_none, fields_short}
+use Rattle.dtx_acquire.proofs.StepsLemmas.{sought_fields}
 
 -- ---- sums
 

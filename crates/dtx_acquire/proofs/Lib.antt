@@ -1,3 +1,8 @@
+mod AgreementLemmas
+pub mod SyncsLemmas
+pub mod FieldsLemmas
+mod StepsLemmas
+pub mod AcquiredLemmas
 pub mod Packing
 pub mod Windows
 pub mod Moved

@@ -14,7 +14,7 @@ use Rattle.dtx_trellis.specs.Pairs.{coder_at}
 use Rattle.dtx_soft.specs.Coders.{IsSoftened, coder_symbols, data_symbol}
 use Rattle.dtx_soft.specs.Paths.{IsPath, next_state, symbol_at}
 use Rattle.dtx_soft.specs.Softened.{IsOwn, softened, softened_segment, softened_symbol}
-use Rattle.dtx_soft.specs.SoftenedLaws.{coder_small, length-coder, own_place, softened_found}
+use Rattle.dtx_soft.proofs.SoftenedLemmas.{coder_small, length-coder, own_place, softened_found}
 use Rattle.dtx_acquire.specs.Acquired.{behind_groups, in_groups, restored_data, restored_field}
 use Rattle.dtx_acquire.specs.Sent.{IsNear}
 use Rattle.dtx_acquire.proofs.NearLevels.{times_symbol}

@@ -3,7 +3,7 @@ use Rattle.std.proofs.Common.{◌≡◌, ℕ, ℤ, suc, ◌+◌, ◌-◌, ◌*�
 use Rattle.std.proofs.Common.{◌∷◌, length, map, sym, ap, ap₂, subst, refl, arith}
 use Rattle.std.proofs.lemmas.Bool.{cases_lt}
 use Rattle.std.proofs.lemmas.Int.{ints}
-use Rattle.dtx_soft.specs.MovedLaws.{distance-cons}
+use Rattle.dtx_soft.proofs.MovedLemmas.{distance-cons}
 use Rattle.dtx_soft.specs.Paths.{cost, squared, symbol_at}
 
 -- that each symbol lies near that of its level

@@ -5,7 +5,7 @@ use Rattle.std.proofs.lemmas.List.{ext_get_or, get_or-append_right, get_or-drop,
 use Rattle.std.proofs.lemmas.List.{length-drop, length-map, length-take-le}
 use Rattle.dtx_trellis.specs.Trellis.{symbol_of}
 use Rattle.dtx_frame.specs.Segments.{data_segment, field_sync, segment_sync}
-use Rattle.dtx_frame.specs.SymbolsLaws as symbols
+use Rattle.dtx_frame.proofs.SymbolsLemmas as symbols
 use Rattle.dtx_acquire.specs.Acquired.{restored_data, restored_sync}
 use Rattle.dtx_acquire.specs.Scaled.{decided}
 use Rattle.dtx_acquire.specs.Sent.{AreLevels, AreNear, IsData, IsNear, IsSync}

@@ -13,10 +13,10 @@ use Rattle.dtx_soft.specs.Softened.{IsOwn}
 use Rattle.dtx_acquire.specs.Acquired.{Field, acquired, fields_where, in_groups, restored, restored_of, segments_from}
 use Rattle.dtx_acquire.specs.Acquirer.{field_of}
 use Rattle.dtx_acquire.specs.Agreement.{agrees}
-use Rattle.dtx_acquire.specs.AgreementLaws.{least_none}
-use Rattle.dtx_acquire.specs.FieldsLaws.{fields_last, fields_none}
+use Rattle.dtx_acquire.proofs.AgreementLemmas.{least_none}
+use Rattle.dtx_acquire.proofs.FieldsLemmas.{fields_last, fields_none}
 use Rattle.dtx_acquire.specs.Sent.{AreNear, AreInFields, AreSent, IsData, IsNear, IsSync, groups_behind}
-use Rattle.dtx_acquire.specs.StepsLaws.{step_due}
+use Rattle.dtx_acquire.proofs.StepsLemmas.{step_due}
 use Rattle.dtx_acquire.proofs.NearGroups.{field_restored}
 use Rattle.dtx_acquire.proofs.NearRows.{AreNearRows, length_data, near_drop, sync_restored}
 use Rattle.dtx_acquire.proofs.NearSyncs.{agrees_near, length_sync}

@@ -5,10 +5,10 @@ use Rattle.std.proofs.Common.{arith}
 use Rattle.std.proofs.lemmas.Bool.{le-leb}
 use Rattle.std.proofs.lemmas.List.{get_or-append_right, get_or-drop, get_or-map, get_or-replicate, get_or-take}
 use Rattle.std.proofs.lemmas.List.{get_or_append_left, length-append, length-drop, length-map, length-take-le}
-use Rattle.dtx_frame.specs.CountsLaws.{sum_is, total_ones, total_zeros}
+use Rattle.dtx_frame.proofs.CountsLemmas.{sum_is, total_ones, total_zeros}
 use Rattle.dtx_trellis.specs.Trellis.{symbol_of}
 use Rattle.dtx_frame.specs.Segments.{field_sync, sync_symbols}
-use Rattle.dtx_frame.specs.SymbolsLaws.{first_is, length_front, second_is}
+use Rattle.dtx_frame.proofs.SymbolsLemmas.{first_is, length_front, second_is}
 use Rattle.dtx_acquire.specs.Agreement.{agrees, are_unlike, is_plus, is_second, sync_sign, unlike, unlike_at}
 use Rattle.dtx_acquire.specs.Sent.{AreLevels, IsNear, IsSync}
 use Rattle.dtx_acquire.proofs.NearLevels.{sign_near}

@@ -8,7 +8,7 @@ use Rattle.std.proofs.lemmas.List.{length-take-le, map-append, take-take, drop-t
 use Rattle.std.proofs.lemmas.List.{drop-drop}
 use Rattle.std.proofs.lemmas.List.Sums.{sum_by-append, sum_by-cons}
 use Rattle.dtx_frame.specs.Segments.{sync_symbols}
-use Rattle.dtx_frame.specs.SymbolsLaws.{first_is, length_front}
+use Rattle.dtx_frame.proofs.SymbolsLemmas.{first_is, length_front}
 use Rattle.std.proofs.lemmas.Nat.{ones-le, xor_lt}
 use lib.Pow.{pow_mono}
 use Rattle.dtx_lists.proofs.Range.{range_with_len-parts}

@@ -3,6 +3,7 @@
 -- apart, each with the data segments behind it, which together are a field.
 use Rattle.std.specs.Prelude.{ℕ, ℤ, ◌+◌, ◌-◌, ◌*◌, ◌/◌, ◌&&◌, nat_le, nat_lt, Bool, true, false, not, if◌then◌else◌}
 use Rattle.std.specs.Prelude.{Option, Some, None, option_map, List, [], ◌∷◌, ◌++◌, length, map, sum, take, drop, filter}
+use Rattle.std.specs.Prelude.{◌≡◌}
 use Rattle.std.proofs.Common.{zero, suc}
 use Rattle.std.specs.List.{flat_map, range_with_len}
 use Rattle.dtx_frame.specs.Segments.{field_sync, segment_sync}
@@ -162,3 +163,9 @@ last_fields symbols = fields_where not true symbols
 
 unfoldable pub acquired_rest : ℕ → List ℤ → List (List ℤ)
 acquired_rest scale symbols = restored_of scale (last_fields symbols)
+
+-- Symbols at which no place agrees give nothing.
+pub record IsSame (scale : ℕ) (s t : List ℤ) : Type 0 where
+  pub segments : acquired scale s ≡ acquired scale t
+  pub runs : acquired_runs s ≡ acquired_runs t
+  pub costs : acquired_cost scale s ≡ acquired_cost scale t

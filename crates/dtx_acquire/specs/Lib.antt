@@ -4,8 +4,3 @@ pub mod Scaled
 pub mod Acquired
 pub mod Acquirer
 pub mod Sent
-pub mod AgreementLaws
-pub mod SyncsLaws
-pub mod FieldsLaws
-pub mod StepsLaws
-pub mod AcquiredLaws

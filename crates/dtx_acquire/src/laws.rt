@@ -3,8 +3,7 @@
 ghost use Rattle.std.specs.Prelude.{◌≡◌, ◌<◌, ◌++◌, ◌∷◌, [], ◌⊎◌, ◌↔◌, false, ℕ, ℤ, List, length};
 ghost use Rattle.std.specs.List.{flat_map};
 ghost use Rattle.dtx_acquire.specs.Acquired.{Field, acquired, acquired_rest, acquired_runs, acquired_so_far};
-ghost use Rattle.dtx_acquire.specs.Acquired.{all_fields};
-ghost use Rattle.dtx_acquire.specs.AcquiredLaws.{IsSame};
+ghost use Rattle.dtx_acquire.specs.Acquired.{all_fields, IsSame};
 ghost use Rattle.dtx_acquire.specs.Agreement.{agrees};
 ghost use Rattle.dtx_acquire.specs.Sent.{AreNear, AreInFields, AreSent};
 

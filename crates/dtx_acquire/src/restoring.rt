@@ -2,7 +2,7 @@
 
 ghost use Rattle.std.specs.Prelude.{◌≡◌, ℕ, ◌+◌, ◌*◌, ◌%◌, ◌<◌, ◌≤◌, [], length, map, nat_abs, pos};
 ghost use Rattle.std.specs.Prelude.{slice_index_or};
-ghost use Rattle.dtx_soft.specs.CostLaws.{AreSigned};
+ghost use Rattle.dtx_soft.specs.Signed.{AreSigned};
 ghost use Rattle.dtx_soft.specs.Softened.{softened, softened_cost};
 ghost use Rattle.dtx_acquire.specs.Acquired.{in_groups, path_cost, restored, restored_data, restored_field};
 ghost use Rattle.dtx_acquire.specs.Acquired.{restored_sync};

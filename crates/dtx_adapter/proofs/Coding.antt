@@ -4,7 +4,7 @@ use Rattle.std.proofs.Common.{sym, subst, ◌∙◌}
 use Rattle.std.specs.Prelude.{◌↔◌, IsTrue}
 use Rattle.std.proofs.lemmas.Bool.{leb-true, le-leb, eqb-true, eq-eqb}
 use Rattle.dtx_coder.specs.Groups.{Coding, Group, StandsFor, IsCoded}
-use Rattle.dtx_coder.specs.NextLaws.{next_stands}
+use Rattle.dtx_coder.proofs.NextLemmas.{next_stands}
 
 -- a whole group
 pub group_stands : (coder new : Coding) (fed : List (List ℕ)) (group : Group) (count : ℕ) (sent : List ℤ)

@@ -2,10 +2,3 @@ pub mod Feed
 pub mod Filling
 pub mod Adapting
 pub mod Turns
-pub mod GroupsLaws
-pub mod FeedsLaws
-pub mod PagesLaws
-pub mod PacketPagesLaws
-pub mod TurnsLaws
-pub mod MakingLaws
-pub mod ReadingsLaws

@@ -1,1 +1,3 @@
+pub mod NextAnchorLemmas
+pub mod AnchoredLemmas
 pub mod NextPlace

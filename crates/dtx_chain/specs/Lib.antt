@@ -1,14 +1,2 @@
 pub mod Undamaged
 pub mod Damage
-pub mod NumbersLaws
-pub mod RunsLaws
-pub mod WordsLaws
-pub mod SlightLaws
-pub mod AllBackLaws
-pub mod PlacesLaws
-pub mod UndamagedLaws
-pub mod LevelsLaws
-pub mod ApartLaws
-pub mod FromSyncLaws
-pub mod NoDamageLaws
-pub mod ReceivedLaws

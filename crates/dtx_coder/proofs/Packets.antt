@@ -6,14 +6,14 @@ use Rattle.std.proofs.lemmas.List.{get_or-map, length-map}
 use Rattle.dtx_laws.specs.Branches.{spreading, after_all}
 use Rattle.dtx_laws.specs.Whitening.{whitened}
 use Rattle.dtx_laws.specs.Words.{codeword}
-use Rattle.dtx_laws.specs.InterleavingLaws.{HasWidths-all, HasWidths-zeroed}
+use Rattle.dtx_laws.proofs.InterleavingLemmas.{HasWidths-all, HasWidths-zeroed}
 use Rattle.dtx_outer.specs.Coding.{coded_as, codewords}
-use Rattle.dtx_outer.specs.CodingLaws.{four_made}
+use Rattle.dtx_outer.proofs.CodingLemmas.{four_made}
 use Rattle.dtx_outer.specs.Outer.{Held}
 use Rattle.dtx_whiten.specs.Randomizer.{randomizer_bytes}
 use Rattle.dtx_whiten.specs.Randomized.{randomized}
-use Rattle.dtx_whiten.specs.Bytes.{length-randomizer_bytes}
-use Rattle.dtx_whiten.specs.PacketsLaws.{randomized_whitened}
+use Rattle.dtx_whiten.specs.BytesLaws.{length-randomizer_bytes}
+use Rattle.dtx_whiten.proofs.PacketsLemmas.{randomized_whitened}
 use Rattle.dtx_coder.specs.Coded.{coded_from}
 use Rattle.dtx_coder.specs.Groups.{IsAtsc, zero_branches}
 

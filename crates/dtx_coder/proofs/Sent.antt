@@ -13,9 +13,9 @@ use Rattle.dtx_frame.specs.Segments.{data_segment, field_sync, segment_sync}
 use Rattle.dtx_coder.specs.Coded.{coded_from}
 use Rattle.dtx_coder.specs.Stream.{segment, four_segments, last_of, symbols_of}
 use Rattle.dtx_coder.specs.Groups.{Coding, Group, IsCoded, bytes_of, group_levels, air_segments, after_group}
-use Rattle.dtx_coder.specs.LevelsLaws.{length-levels_of}
-use Rattle.dtx_coder.specs.SegmentsLaws.{length-segment, segment_is}
-use Rattle.dtx_coder.specs.NextLaws.{same_coding}
+use Rattle.dtx_coder.proofs.LevelsLemmas.{length-levels_of}
+use Rattle.dtx_coder.proofs.SegmentsLemmas.{length-segment, segment_is}
+use Rattle.dtx_coder.proofs.NextLemmas.{same_coding}
 
 -- one segment more
 symbols_more : (zs : List ℕ) (n : ℕ) → symbols_of (map (segment zs) (range_with_len 0 (n + 1)))

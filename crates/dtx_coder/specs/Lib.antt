@@ -3,15 +3,3 @@ pub mod Stream
 pub mod Groups
 pub mod Runs
 pub mod Along
-pub mod BytesLaws
-pub mod LevelsLaws
-pub mod SlicesLaws
-pub mod SegmentsLaws
-pub mod CountsLaws
-pub mod StreamLaws
-pub mod NextLaws
-pub mod KeptLaws
-pub mod AlongLaws
-pub mod RunsLaws
-pub mod FlushedLaws
-pub mod AlignLaws

@@ -6,7 +6,7 @@ use Rattle.std.proofs.lemmas.List.{length-take-le, get_or-set_same, get_or-set_o
 use Rattle.std.proofs.lemmas.Bool.{ne_eqb}
 use Rattle.dtx_galois.specs.Field.{AreBytes}
 use Rattle.dtx_laws.specs.Locator.{IsLocator, combination}
-use Rattle.dtx_laws.specs.PartsLaws.{bytes_take}
+use Rattle.dtx_laws.proofs.PartsLemmas.{bytes_take}
 use Rattle.dtx_correct.specs.Elimination.{Solves, count, vector, IsUnit}
 
 pub zeros_at : (n k : ℕ) → ◌≡◌ {A = ℕ} (get_or (replicate n 0) k 0) 0

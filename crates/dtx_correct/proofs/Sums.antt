@@ -5,8 +5,8 @@ use Rattle.std.proofs.Math.Seq.{drop-cons}
 use Rattle.dtx_laws.specs.Locator.{combination}
 use Rattle.dtx_galois.specs.Field.{mul}
 use Rattle.dtx_galois.specs.Word.{sums, scaled}
-use Rattle.dtx_galois.specs.WordsLaws.{length_sums}
-use Rattle.dtx_laws.specs.PartsLaws.{sums_at}
+use Rattle.dtx_galois.proofs.WordsLemmas.{length_sums}
+use Rattle.dtx_laws.proofs.PartsLemmas.{sums_at}
 
 -- a list known at each place
 pub sums_scaled : (new old low : List ℕ) (f : ℕ) → length new ≡ length old → length old ≡ length low

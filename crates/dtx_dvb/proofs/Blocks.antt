@@ -4,12 +4,12 @@ use Rattle.std.specs.List.{concat}
 use Rattle.dtx_laws.specs.Words.{codeword}
 use Rattle.dtx_laws.specs.Whitening.{whitened}
 use Rattle.dtx_outer.specs.Coding.{coded_as, codewords}
-use Rattle.dtx_outer.specs.CodingLaws.{four_made}
+use Rattle.dtx_outer.proofs.CodingLemmas.{four_made}
 use Rattle.dtx_outer.specs.Outer.{coded}
 use Rattle.dtx_dvb.specs.Randomizer.{randomizer_bytes}
 use Rattle.dtx_dvb.specs.RandomizerLaws.{length-randomizer_bytes}
 use Rattle.dtx_dvb.specs.Stream.{block_of, blocks_from}
-use Rattle.dtx_dvb.specs.StreamLaws.{randomized_whitened}
+use Rattle.dtx_dvb.proofs.StreamLemmas.{randomized_whitened}
 
 pub coded_is : (place : ℕ) (white packet : List ℕ) → white ≡ randomizer_bytes → length packet ≡ 188 → place < 8
     → coded 204 188 white (188 * place) packet ≡ block_of place packet

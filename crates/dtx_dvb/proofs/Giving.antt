@@ -5,14 +5,14 @@ use Rattle.dtx_laws.specs.Codeword.{distance}
 use Rattle.dtx_laws.specs.Whitening.{whitened}
 use Rattle.dtx_outer.specs.Inner.{IsTaken, waiting}
 use Rattle.dtx_outer.specs.Made.{IsTold}
-use Rattle.dtx_outer.specs.MadeLaws.{made_told}
+use Rattle.dtx_outer.proofs.MadeLemmas.{made_told}
 use Rattle.dtx_outer.specs.declared.inner.Taken.{Taken}
 use Rattle.dtx_outer.specs.declared.inner.Taken.TheVariants.{None, Good, Bad}
 use Rattle.dtx_dvb.specs.Read.{Read}
 use Rattle.dtx_dvb.specs.Randomizer.{randomizer_bytes}
 use Rattle.dtx_dvb.specs.RandomizerLaws.{length-randomizer_bytes}
 use Rattle.dtx_dvb.specs.Reading.{read_by, read_dvb}
-use Rattle.dtx_dvb.specs.ReadingLaws.{waiting_dvb, read_word, read_made}
+use Rattle.dtx_dvb.proofs.ReadingLemmas.{waiting_dvb, read_word, read_made}
 use Rattle.dtx_dvb.specs.Given.{given, finished}
 
 pub few_blocks : (bytes : List ℕ) → length bytes < 204 * 11 → length bytes < 204 * waiting 204 12 17

@@ -2,13 +2,7 @@ pub mod Randomizer
 pub mod RandomizerLaws
 pub mod Stream
 pub mod Sending
-pub mod StreamLaws
 pub mod Read
 pub mod Reading
 pub mod Given
-pub mod ReadingLaws
 pub mod Damage
-pub mod BackLaws
-pub mod SyncLaws
-pub mod CountsLaws
-pub mod BurstLaws

@@ -1,12 +1,11 @@
--- Laws of outputs: what is gathered is written in part, and a part of less is a part of more.
-use Rattle.std.specs.Prelude.{◌≢◌, ℕ, List, [], ◌∷◌, ◌++◌, Option}
-use Rattle.std.specs.Option.{option_map}
-use Rattle.std.proofs.Common.{refl, sym, ap, ◌∙◌, inl, inr}
-use Rattle.std.proofs.lemmas.List.{append_assoc}
-use Rattle.dtx_outside.specs.Shelf.{Files, with_file}
+-- Laws of outputs: what is gathered is written in part.
+-- They stand here since the ghost members of an impl, a trait's laws, cite lemmas of specs/ alone.
+use Rattle.std.specs.Prelude.{◌≢◌, ℕ, List, [], ◌∷◌, Option}
+use Rattle.std.proofs.Common.{inr}
+use Rattle.dtx_outside.specs.Shelf.{Files}
 use Rattle.dtx_outside.specs.Written.{IsGathered}
-use Rattle.dtx_meaning.specs.Meaning.{ArePartWritten, IsFrontOf, IsNoOutput}
-use Rattle.dtx_engine.specs.Made.{Made, AreFrontsOf, IsNoneOf, outputs_of}
+use Rattle.dtx_meaning.specs.Meaning.{ArePartWritten}
+use Rattle.dtx_engine.specs.Made.{Made, outputs_of}
 use Rattle.dtx_engine.specs.Outlet.{AreBothGathered}
 
 -- one output
@@ -21,45 +20,6 @@ pub part_of_two : (one other : List ℕ) (start : Option Files) (made : Made) (o
 part_of_two one other start made one_rest other_rest now is =
     inr (is.one_front, (one_rest, is.first), inr (is.other_front, (other_rest, is.second), is.files))
 
--- a front part of a front part
-pub front_of_front : (a b c : List ℕ) → IsFrontOf a b → IsFrontOf b c → IsFrontOf a c
-front_of_front a b c (r, first) (s, next) =
-    (r ++ s, sym (append_assoc a r s) ∙ ap (λ (x : List ℕ). x ++ s) first ∙ next)
-
-part_of_one_more : (name a b : List ℕ) (start now : Option Files) → IsFrontOf a b
-    → ArePartWritten ((name, a) ∷ []) start now → ArePartWritten ((name, b) ∷ []) start now
-part_of_one_more name a b start now more part = elim part [
-  | inl same ↦ inl same
-  | inr begun ↦ inr (begun.0, front_of_front begun.0 a b begun.1 more, begun.2)
-]
-
--- a part of less is a part of more
-pub part_of_more : (names : List (List ℕ)) (a b : Made) (start now : Option Files) → AreFrontsOf a b
-    → ArePartWritten (outputs_of names a) start now → ArePartWritten (outputs_of names b) start now
-part_of_more [] a b start now more part = part
-part_of_more (first ∷ []) a b start now more part =
-    part_of_one_more first a.first b.first start now more.0 part
-part_of_more (first ∷ (second ∷ rest)) a b start now more part = elim part [
-  | inl same ↦ inl same
-  | inr begun ↦ inr (
-    begun.0,
-    front_of_front begun.0 a.first b.first begun.1 more.0,
-    part_of_one_more second a.second b.second (option_map (with_file first begun.0) start) now more.1 begun.2,
-  )
-]
-
--- a name that is none of the names is that of no output
-pub no_output : (name : List ℕ) (names : List (List ℕ)) (made : Made) → IsNoneOf name names
-    → IsNoOutput name (outputs_of names made)
-no_output name [] made apart = tt
-no_output name (first ∷ []) made apart = (apart.0, tt)
-no_output name (first ∷ (second ∷ rest)) made apart = (apart.0, (apart.1.0, tt))
-
 -- where there is a name there is an output
 pub some_names : (name : List ℕ) (rest : List (List ℕ)) → name ∷ rest ≢ []
 some_names name rest = λ none. cc
-
-pub some_outputs : (names : List (List ℕ)) (made : Made) → names ≢ [] → outputs_of names made ≢ []
-some_outputs [] made some = absurd (some refl)
-some_outputs (first ∷ []) made some = λ none. cc
-some_outputs (first ∷ (second ∷ rest)) made some = λ none. cc

@@ -20,7 +20,7 @@ pub struct Input<'a> {
 
 /// Asks for one byte of the input of that number, so that one that isn't there or can't be read is met before any
 /// output is begun.
-#[tactic(auto, using(crate::specs::AnswersLaws::read_answers))]
+#[tactic(auto, using(crate::proofs::AnswersLemmas::read_answers))]
 pub fn ask_for<S: Shelf>(shelf: &mut S, which: u8, input: &str) -> Result<(), Status>
     ensures told { IfSome (S.files shelf.old) (λ held. IsAsked (files.get held input.now) which result) }
     ensures input { IfErr result (IsOfInput which) }

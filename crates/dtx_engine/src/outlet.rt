@@ -76,7 +76,7 @@ impl<'a> One<'a> {
     }
 }
 
-#[tactic(auto, using(dtx_meaning::specs::Laws::write_is_fault))]
+#[tactic(auto, using(dtx_meaning::proofs::MeaningLemmas::write_is_fault))]
 impl<'a> Outlet for One<'a> {
     ghost use Rattle.std.specs.Prelude.{◌≡◌, [], ◌∷◌};
     ghost use Rattle.dtx_outside.specs.Written.{IsGathered};
@@ -143,7 +143,7 @@ impl<'a> Two<'a> {
     }
 }
 
-#[tactic(auto, using(dtx_meaning::specs::Laws::write_is_fault))]
+#[tactic(auto, using(dtx_meaning::proofs::MeaningLemmas::write_is_fault))]
 impl<'a> Outlet for Two<'a> {
     ghost use Rattle.std.specs.Prelude.{◌≡◌, ◌≢◌, [], ◌∷◌};
     ghost use Rattle.dtx_engine.specs.Outlet.{AreBothGathered};

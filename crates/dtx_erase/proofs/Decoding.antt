@@ -4,14 +4,14 @@ use Rattle.std.proofs.Common.{sym, ap, ap₂, ◌∙◌, subst, inl, inr, arith}
 use Rattle.std.proofs.lemmas.Bool.{cases_lt}
 use Rattle.std.proofs.lemmas.List.{append-nil, length-map}
 use Rattle.dtx_receiver.specs.Bytes.{groups_of, bytes_in}
-use Rattle.dtx_receiver.specs.SegmentsLaws.{Still, still_data, still_sync, first_groups}
-use Rattle.dtx_erase.specs.GrowingLaws.{mended_given}
+use Rattle.dtx_receiver.proofs.SegmentsLemmas.{Still, still_data, still_sync, first_groups}
+use Rattle.dtx_erase.proofs.GrowingLemmas.{mended_given}
 use Rattle.dtx_erase.specs.Marks.{shown, shown_run, is_set}
-use Rattle.dtx_receiver.specs.AnswersLaws.{IsDecoder}
+use Rattle.dtx_receiver.proofs.AnswersLemmas.{IsDecoder}
 use Rattle.dtx_erase.specs.Mended.{mended_early, mended_run, mended_run_early, all_mended, mended_so_far}
 use Rattle.dtx_erase.specs.Sides.{Holds, Decoding, Decodes}
-use Rattle.dtx_erase.specs.MarksLaws.{shown_groups, marks_are, shown_push}
-use Rattle.dtx_receiver.specs.LevelsLaws.{part_now, not_due_now}
+use Rattle.dtx_erase.proofs.MarksLemmas.{shown_groups, marks_are, shown_push}
+use Rattle.dtx_receiver.proofs.LevelsLemmas.{part_now, not_due_now}
 use Rattle.dtx_erase.proofs.Stands.{holds_sync, groups_whole}
 
 shown_long : (run : List (List ℤ)) → length (shown_run run) ≡ length run

@@ -3,10 +3,10 @@ use Rattle.std.proofs.Common.{◌≡◌, ℕ, zero, suc, ◌+◌, ◌-◌, ◌*�
 use Rattle.std.proofs.Common.{take, drop, refl, sym, ap, ap₂, ◌∙◌, subst, inr, arith}
 use Rattle.std.proofs.lemmas.List.{length-append, length-drop, length-take-le, take_all, get_or-take, get_or-drop}
 use Rattle.dtx_laws.specs.Branches.{Branching, HasWidths, gathering, leaving_all, after_all}
-use Rattle.dtx_laws.specs.PlacesLaws.{length_leaving, leaving_append, after_append}
+use Rattle.dtx_laws.proofs.PlacesLemmas.{length_leaving, leaving_append, after_append}
 use Rattle.dtx_outer.specs.Inner.{word_at}
-use Rattle.dtx_outer.specs.WordsLaws.{word_by, gathers_word, word_stays}
-use Rattle.dtx_receiver.specs.CompleteLaws.{complete_all}
+use Rattle.dtx_outer.proofs.WordsLemmas.{word_by, gathers_word, word_stays}
+use Rattle.dtx_receiver.proofs.CompleteLemmas.{complete_all}
 use Rattle.dtx_outer.specs.Inner.{IsComplete}
 use Rattle.dtx_erase.specs.Sides.{word_of, Gathers}
 

@@ -1,3 +1,9 @@
+mod MendingLemmas
+pub mod ChosenLemmas
+mod MarksLemmas
+mod MendedLemmas
+pub mod UnmarkedLemmas
+pub mod GrowingLemmas
 pub mod Marked
 pub mod Weighed
 pub mod Restored

@@ -12,7 +12,7 @@ use Rattle.dtx_whiten.specs.Randomizer.{randomizer_bytes}
 use Rattle.dtx_erase.specs.Marks.{shown, is_set}
 use Rattle.dtx_erase.specs.Mending.{lost, IsAnswered}
 use Rattle.dtx_erase.specs.Mended.{mending}
-use Rattle.dtx_erase.specs.ChosenLaws.{mending_only, mending_never}
+use Rattle.dtx_erase.proofs.ChosenLemmas.{mending_only, mending_never}
 
 pub received_is : {E : Type 0} (from : ℕ) (marks : List Bool) (word new head : List ℕ) (r : Result ℕ E) (out : Received)
     → length word ≡ 207 → length marks ≡ 207 → head ≡ whitened randomizer_bytes from (take 187 new)

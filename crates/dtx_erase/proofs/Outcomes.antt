@@ -5,7 +5,7 @@ use Rattle.std.specs.Prelude.{Result, Ok, Err, MatchResult}
 use Rattle.dtx_laws.specs.Codeword.{IsCodeword}
 use Rattle.dtx_laws.specs.Correction.{IsCorrected, IsLeft}
 use Rattle.dtx_erase.specs.Mending.{lost, IsMending, IsAnswered, IsUnmended}
-use Rattle.dtx_erase.specs.MendingLaws.{correction_mends, mending_corrects}
+use Rattle.dtx_erase.proofs.MendingLemmas.{correction_mends, mending_corrects}
 
 -- without marks the corrector's answer is the mender's
 pub corrected_answer : {E : Type 0} (n k : ℕ) (marks : List Bool) (old new : List ℕ) (r : Result ℕ E) → length old ≡ n

@@ -6,15 +6,15 @@ use Rattle.std.proofs.lemmas.List.{length-append}
 use Rattle.dtx_slice.specs.Slicing.{sliced_data}
 use Rattle.dtx_outer.specs.Inner.{word_at}
 use Rattle.dtx_receiver.specs.declared.batch.Received.{Received}
-use Rattle.dtx_receiver.specs.AnswersLaws.{Carries}
+use Rattle.dtx_receiver.proofs.AnswersLemmas.{Carries}
 use Rattle.dtx_receiver.specs.Bytes.{groups_of, levels_from, levels_in, bytes_in}
-use Rattle.dtx_receiver.specs.SegmentsLaws.{Grown, grown}
+use Rattle.dtx_receiver.proofs.SegmentsLemmas.{Grown, grown}
 use Rattle.dtx_erase.specs.Marks.{shown, shown_run, is_set}
 use Rattle.dtx_erase.specs.Mended.{mended_early, mended_run_packets, mended_run, mended_run_early}
 use Rattle.dtx_erase.specs.Sides.{Side, Holds, Decoding, Decodes, mended_word, word_of}
-use Rattle.dtx_erase.specs.MarksLaws.{marks_are, shown_groups, shown_push}
-use Rattle.dtx_erase.specs.MendedLaws.{early_short, early_four, end_none, end_one}
-use Rattle.dtx_receiver.specs.LevelsLaws.{part_now, not_due_now}
+use Rattle.dtx_erase.proofs.MarksLemmas.{marks_are, shown_groups, shown_push}
+use Rattle.dtx_erase.proofs.MendedLemmas.{early_short, early_four, end_none, end_one}
+use Rattle.dtx_receiver.proofs.LevelsLemmas.{part_now, not_due_now}
 use Rattle.dtx_erase.proofs.Stands.{groups_whole}
 use Rattle.dtx_erase.proofs.Decoding.{Both, decodes_data, decodes_group, early_data, early_is, flags_long, shown_due}
 

@@ -9,13 +9,13 @@ use Rattle.std.proofs.lemmas.Bool.{and_parts, true≢false, cases_lt, cases_eq, 
 use Rattle.std.proofs.lemmas.List.{length-replicate, set-get_or, replicate-append-replicate}
 use Rattle.std.proofs.lemmas.List.{take-replicate, drop-replicate, drop-map, get_or-drop, length-drop}
 use Rattle.dtx_laws.specs.Branches.{Branching, HasWidths, gathering, leaving_all, after_all, after_byte}
-use Rattle.dtx_laws.specs.InterleavingLaws.{HasWidths-all}
-use Rattle.dtx_laws.specs.PlacesLaws.{Holds, Holds-step, Holds-turn, after_append}
+use Rattle.dtx_laws.proofs.InterleavingLemmas.{HasWidths-all}
+use Rattle.dtx_laws.proofs.PlacesLemmas.{Holds, Holds-step, Holds-turn, after_append}
 use Rattle.dtx_slice.specs.Unrolled.{symbol_place, precoder_bit, pair_from, pair_back, byte_back, bytes_back}
 use Rattle.dtx_slice.specs.Unrolled.{coder_of, level_groups, precoder_bits_after}
 use Rattle.dtx_slice.specs.Slicing.{sliced, sliced_data}
 use Rattle.dtx_receiver.specs.Bytes.{data_count}
-use Rattle.dtx_receiver.specs.LevelsLaws.{part_now, not_due_now}
+use Rattle.dtx_receiver.proofs.LevelsLemmas.{part_now, not_due_now}
 use Rattle.dtx_erase.specs.Sides as sides
 use Rattle.dtx_erase.specs.Marks.{shown}
 use Rattle.dtx_erase.specs.Sides.{Side, HaveCome, AreClear, IsQuiet, AreKnown}

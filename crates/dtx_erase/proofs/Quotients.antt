@@ -3,15 +3,16 @@ use Rattle.std.proofs.Common.{◌≡◌, ℕ, zero, suc, ◌+◌, ◌-◌, ◌<�
 use Rattle.std.proofs.Common.{length, get_or, bit_xor, refl, sym, ap, ap₂, ◌∙◌, arith, add-one}
 use Rattle.std.specs.Int.Bits.{xor_self, xor_zero_r, xor_comm, xor_assoc, xor_lt}
 use Rattle.dtx_galois.specs.Field.{mul, pow}
-use Rattle.dtx_galois.specs.LinearLaws.{mul_right, xor_swap}
-use Rattle.dtx_galois.specs.FieldLaws.{mul_comm, mul_assoc, mul_one, mul_zero, mul_small, mul_swap, pow_small}
+use Rattle.dtx_galois.proofs.LinearLemmas.{mul_right, xor_swap}
+use Rattle.dtx_galois.proofs.FieldLemmas.{mul_comm, mul_assoc, mul_one, mul_zero, mul_small, mul_swap, pow_small}
 use Rattle.dtx_laws.specs.ErrorValues.{others, weight, without, error_at}
 use Rattle.dtx_laws.specs.Locator.{combination, low_value, power_at}
-use Rattle.dtx_laws.specs.OthersLaws.{weight_small}
-use Rattle.dtx_laws.specs.PairsLaws.{without_is}
-use Rattle.dtx_fast.specs.QuotientLaws.{combination_turned, turned_small}
+use Rattle.dtx_laws.proofs.OthersLemmas.{weight_small}
+use Rattle.dtx_laws.proofs.PairsLemmas.{without_is}
+use Rattle.dtx_fast.proofs.QuotientLemmas.{combination_turned, turned_small}
 use Rattle.dtx_fast.specs.Recurrence.{discrepancy, moved, connection, quotient, turned, error_value}
-use Rattle.dtx_fast.specs.RecurrenceLaws.{discrepancy_mended, discrepancy_moved, discrepancy_longer, same_coefficients}
+use Rattle.dtx_fast.proofs.RecurrenceLemmas.{discrepancy_mended, discrepancy_moved, discrepancy_longer}
+use Rattle.dtx_fast.proofs.RecurrenceLemmas.{same_coefficients}
 use Rattle.dtx_erase.proofs.Marked.{others_with, length_with}
 
 -- ---- products

@@ -6,17 +6,17 @@ use Rattle.std.proofs.Common.{add-one}
 use Rattle.std.proofs.lemmas.Bool.{eqb-true, eqb-false}
 use Rattle.std.specs.Int.Bits.{xor_zero_r, xor_comm}
 use Rattle.dtx_galois.specs.Field.{mul, pow, value, AreBytes}
-use Rattle.dtx_galois.specs.FieldLaws.{mul_comm}
-use Rattle.dtx_galois.specs.ValuesLaws.{value_more}
+use Rattle.dtx_galois.proofs.FieldLemmas.{mul_comm}
+use Rattle.dtx_galois.proofs.ValuesLemmas.{value_more}
 use Rattle.dtx_laws.specs.Codeword.{IsCorrection}
 use Rattle.dtx_laws.specs.Locator.{low_value, is_marked, power_at, vanishes_at}
 use Rattle.dtx_laws.specs.ErrorValues.{others, weight, without, patched_at}
-use Rattle.dtx_laws.specs.KernelLaws.{kernel, same_sequence}
-use Rattle.dtx_laws.specs.OthersLaws.{few_others, weight_at_other, weight_not_zero}
-use Rattle.dtx_laws.specs.PatchingLaws.{others_same, patched_other}
-use Rattle.dtx_laws.specs.PartsLaws.{byte_at}
-use Rattle.dtx_fast.specs.ConnectionLaws.{least_of_word}
-use Rattle.dtx_fast.specs.QuotientLaws.{length_turned, bytes_turned, combination_turned}
+use Rattle.dtx_laws.proofs.KernelLemmas.{kernel, same_sequence}
+use Rattle.dtx_laws.proofs.OthersLemmas.{few_others, weight_at_other, weight_not_zero}
+use Rattle.dtx_laws.proofs.PatchingLemmas.{others_same, patched_other}
+use Rattle.dtx_laws.proofs.PartsLemmas.{byte_at}
+use Rattle.dtx_fast.proofs.ConnectionLemmas.{least_of_word}
+use Rattle.dtx_fast.proofs.QuotientLemmas.{length_turned, bytes_turned, combination_turned}
 use Rattle.dtx_fast.specs.Recurrence.{IsRecurrence, IsLeast, turned}
 use Rattle.dtx_erase.specs.Mending.{lost, IsMending}
 use Rattle.dtx_erase.proofs.Marked.{length_marked, others_either, length_with, others_all}

@@ -6,10 +6,10 @@ use Rattle.dtx_laws.specs.Branches.{Branching, HasWidths, gathering, leaving_all
 use Rattle.dtx_slice.specs.Slicing.{sliced_data, sliced_last}
 use Rattle.dtx_slice.specs.Unrolled.{level_groups, byte_back, bytes_back, precoder_bits_after, precoder_bits_of}
 use Rattle.dtx_receiver.specs.Bytes.{data_count, groups_of, bytes_in}
-use Rattle.dtx_receiver.specs.LevelsLaws.{levels_first, levels_sync, levels_data, Whole, Added, levels_group}
-use Rattle.dtx_receiver.specs.LevelsLaws.{part_now, not_due_now}
+use Rattle.dtx_receiver.proofs.LevelsLemmas.{levels_first, levels_sync, levels_data, Whole, Added, levels_group}
+use Rattle.dtx_receiver.proofs.LevelsLemmas.{part_now, not_due_now}
 use Rattle.dtx_receiver.specs.Receiver.{AreLevels}
-use Rattle.dtx_receiver.specs.SegmentsLaws.{more_data, Still, still_data, still_sync, first_groups, first_bytes}
+use Rattle.dtx_receiver.proofs.SegmentsLemmas.{more_data, Still, still_data, still_sync, first_groups, first_bytes}
 use Rattle.dtx_erase.specs.Sides.{Side, Gathers, Holds}
 use Rattle.dtx_erase.proofs.Gathered.{gathers_first, gathers_stay, gathers_group}
 

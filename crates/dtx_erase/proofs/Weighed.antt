@@ -6,15 +6,15 @@ use Rattle.std.proofs.Common.{arith}
 use Rattle.std.proofs.lemmas.Bool.{eq-eqb, eqb-true}
 use Rattle.std.specs.Int.Bits.{xor_self, xor_lt}
 use Rattle.dtx_galois.specs.Field.{mul, pow, value, AreBytes}
-use Rattle.dtx_galois.specs.FieldLaws.{mul_zero, mul_small, xor_zero, no_divisors}
-use Rattle.dtx_galois.specs.LinearLaws.{mul_left}
-use Rattle.dtx_galois.specs.PowersLaws.{pow_swap}
+use Rattle.dtx_galois.proofs.FieldLemmas.{mul_zero, mul_small, xor_zero, no_divisors}
+use Rattle.dtx_galois.proofs.LinearLemmas.{mul_left}
+use Rattle.dtx_galois.proofs.PowersLemmas.{pow_swap}
 use Rattle.dtx_laws.specs.Codeword.{IsCorrection, distance}
 use Rattle.dtx_laws.specs.ErrorValues.{weight, without}
-use Rattle.dtx_laws.specs.MomentsLaws.{moment}
-use Rattle.dtx_laws.specs.OthersLaws.{weight_small}
-use Rattle.dtx_laws.specs.PairsLaws.{without_is}
-use Rattle.dtx_laws.specs.PartsLaws.{byte_at}
+use Rattle.dtx_laws.proofs.MomentsLemmas.{moment}
+use Rattle.dtx_laws.proofs.OthersLemmas.{weight_small}
+use Rattle.dtx_laws.proofs.PairsLemmas.{without_is}
+use Rattle.dtx_laws.proofs.PartsLemmas.{byte_at}
 use Rattle.dtx_erase.specs.Mending.{lost, unmarked_distance, IsMending}
 
 -- each byte with the power of 2 at its place

@@ -1,10 +1,4 @@
 pub mod Mending
-pub mod MendingLaws
 pub mod Marks
 pub mod Mended
 pub mod Sides
-pub mod ChosenLaws
-pub mod MarksLaws
-pub mod MendedLaws
-pub mod UnmarkedLaws
-pub mod GrowingLaws

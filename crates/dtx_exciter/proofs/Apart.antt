@@ -5,7 +5,7 @@ use Rattle.std.specs.Prelude.{slice_range, ℤ, pos, ◌-ℤ◌, ◌*ℤ◌}
 use Rattle.std.specs.List.{range_with_len, filter_map, cons_option}
 use Rattle.std.proofs.lemmas.List.{drop_at}
 use Rattle.dtx_clock.specs.Clock.{grains_of, DifferBy}
-use Rattle.dtx_clock.specs.MomentsLaws.{moments_differ}
+use Rattle.dtx_clock.proofs.MomentsLemmas.{moments_differ}
 use Rattle.dtx_ops.specs.declared.fields.Ops.{Ops}
 use Rattle.dtx_exciter.specs.Order.{Order, counting_order, placed}
 use Rattle.dtx_exciter.specs.Packets.{readings}
@@ -14,7 +14,7 @@ use Rattle.dtx_exciter.specs.Lockstep.{IsFeed, locked_from, IsStretch, segment_p
 use Rattle.dtx_exciter.specs.Log.{preset}
 use Rattle.dtx_exciter.specs.Stretch.{before_stretch, order_moment, preset_line, orders_in, stretch_lines}
 use Rattle.dtx_exciter.specs.Stretch.{IsApart, AreApart}
-use Rattle.dtx_exciter.specs.LockstepIsLaws.{lockstep_is}
+use Rattle.dtx_exciter.proofs.LockstepIsLemmas.{lockstep_is}
 
 -- ---- segments
 

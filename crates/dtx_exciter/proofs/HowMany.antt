@@ -21,9 +21,9 @@ use Rattle.dtx_exciter.specs.Emission.{segments_since, sent_by, sent_at, sent_be
 use Rattle.dtx_exciter.specs.Emission.{last_segments}
 use Rattle.dtx_exciter.specs.Emission.{was_sent}
 use Rattle.dtx_exciter.specs.Kept.{is_served}
-use Rattle.dtx_exciter.specs.AnswerLaws.{sent_is_served}
-use Rattle.dtx_exciter.specs.GroupSentLaws.{none_by}
-use Rattle.dtx_exciter.specs.UnderLaws.{length-said, Goes, goes}
+use Rattle.dtx_exciter.proofs.AnswerLemmas.{sent_is_served}
+use Rattle.dtx_exciter.proofs.GroupSentLemmas.{none_by}
+use Rattle.dtx_exciter.proofs.UnderLemmas.{length-said, Goes, goes}
 
 -- ---- none
 

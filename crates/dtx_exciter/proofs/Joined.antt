@@ -22,13 +22,13 @@ use Rattle.dtx_exciter.specs.Packets.{readings}
 use Rattle.dtx_exciter.specs.Emission.{Holds, sent_by, sent_at, sent_before, behind_field_sync, given_under}
 use Rattle.dtx_exciter.specs.Step.{bytes_of, own_order, told_group, own_of, group_of, IsSent}
 use Rattle.dtx_exciter.specs.Kept.{whole, last_orders, is_served, RunsUnder, KeepsUnder, IsJoined}
-use Rattle.dtx_exciter.specs.ForceLaws.{counted_behind, IsBehind}
-use Rattle.dtx_exciter.specs.UnderLaws.{length-said}
-use Rattle.dtx_exciter.specs.EndsLaws as Ends
-use Rattle.dtx_exciter.specs.JoinedLaws.{last_same, settled_same, held_more, front_same, group_bytes, settled_more}
-use Rattle.dtx_exciter.specs.JoinedLaws.{partial_full}
-use Rattle.dtx_exciter.specs.AnswerLaws.{told_group_is, sent_is_served}
-use Rattle.dtx_exciter.specs.GroupSentLaws.{IsGiven, HasSync, group_sent, runs_more, none_by}
+use Rattle.dtx_exciter.proofs.ForceLemmas.{counted_behind, IsBehind}
+use Rattle.dtx_exciter.proofs.UnderLemmas.{length-said}
+use Rattle.dtx_exciter.proofs.EndsLemmas as Ends
+use Rattle.dtx_exciter.proofs.JoinedLemmas.{last_same, settled_same, held_more, front_same, group_bytes, settled_more}
+use Rattle.dtx_exciter.proofs.JoinedLemmas.{partial_full}
+use Rattle.dtx_exciter.proofs.AnswerLemmas.{told_group_is, sent_is_served}
+use Rattle.dtx_exciter.proofs.GroupSentLemmas.{IsGiven, HasSync, group_sent, runs_more, none_by}
 
 length-with : (l : List (List ℕ)) (p : List ℕ) → length (readings (l ++ p ∷ [])) ≡ length l + 1
 length-with l p = length-said (l ++ p ∷ []) ∙ length_push l p

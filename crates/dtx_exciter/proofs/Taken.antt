@@ -12,7 +12,7 @@ use Rattle.dtx_laws.specs.Branches.{HasWidths, spreading}
 use Rattle.dtx_coder.specs.Groups.{Coding, aligned_coding}
 use Rattle.dtx_coder.specs.Runs.{AreStates}
 use Rattle.dtx_coder.specs.Along.{RunsAlong}
-use Rattle.dtx_coder.specs.AlongLaws.{along_begins}
+use Rattle.dtx_coder.proofs.AlongLemmas.{along_begins}
 use Rattle.dtx_exciter.specs.declared.exciter.Exciter.{Exciter}
 use Rattle.dtx_exciter.specs.declared.answers.Why.TheVariants.{Cadence}
 use Rattle.dtx_exciter.specs.declared.answers.Told.{Told}
@@ -25,9 +25,9 @@ use Rattle.dtx_exciter.specs.Kept.{is_served, RunsUnder, KeepsUnder, Keeps, Stan
 use Rattle.dtx_exciter.specs.Kept.{Joins}
 use Rattle.dtx_exciter.specs.declared.pages.Pages.{Pages}
 use Rattle.dtx_exciter.specs.HeldPages.{HoldsPages}
-use Rattle.dtx_exciter.specs.HeldPagesLaws.{nothing_holds}
-use Rattle.dtx_exciter.specs.UnderLaws.{Goes, goes, syncs_push, under_nothing, syncs_nothing}
-use Rattle.dtx_exciter.specs.EndsLaws.{last_single}
+use Rattle.dtx_exciter.proofs.HeldPagesLemmas.{nothing_holds}
+use Rattle.dtx_exciter.proofs.UnderLemmas.{Goes, goes, syncs_push, under_nothing, syncs_nothing}
+use Rattle.dtx_exciter.proofs.EndsLemmas.{last_single}
 
 -- ---- nothing given
 

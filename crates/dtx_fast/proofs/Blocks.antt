@@ -2,8 +2,8 @@
 use Rattle.std.proofs.Common.{◌≡◌, ℕ, zero, suc, ◌+◌, ◌-◌, ◌*◌, ◌<◌, ◌≤◌, ◌⊎◌, inl, inr, List, get_or, bit_xor, refl}
 use Rattle.std.proofs.Common.{sym, ap, ap₂, ◌∙◌, arith}
 use Rattle.dtx_galois.specs.Field.{mul, pow}
-use Rattle.dtx_galois.specs.FieldLaws.{mul_assoc, mul_comm, mul_one}
-use Rattle.dtx_galois.specs.PowersLaws.{pow_add, pow_mul, pow_one}
+use Rattle.dtx_galois.proofs.FieldLemmas.{mul_assoc, mul_comm, mul_one}
+use Rattle.dtx_galois.proofs.PowersLemmas.{pow_add, pow_mul, pow_one}
 use Rattle.dtx_fast.specs.Recurrence.{walked}
 
 -- at the product of two elements each coefficient is multiplied by a power of the first

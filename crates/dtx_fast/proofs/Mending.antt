@@ -5,14 +5,14 @@ use Rattle.std.proofs.lemmas.List.{get_or-set_other, length-set}
 use Rattle.std.proofs.lemmas.Bool.{eq-eqb, ne_eqb}
 use Rattle.std.specs.Int.Bits.{xor_assoc, xor_self, xor_comm, xor_zero_r, xor_lt}
 use Rattle.dtx_galois.specs.Field.{mul, pow, value, AreBytes}
-use Rattle.dtx_galois.specs.FieldLaws.{pow_small}
-use Rattle.dtx_galois.specs.LinearLaws.{mul_left}
-use Rattle.dtx_galois.specs.PowersLaws.{pow_add, pow_times}
+use Rattle.dtx_galois.proofs.FieldLemmas.{pow_small}
+use Rattle.dtx_galois.proofs.LinearLemmas.{mul_left}
+use Rattle.dtx_galois.proofs.PowersLemmas.{pow_add, pow_times}
 use Rattle.dtx_laws.specs.Codeword.{IsCode, distance}
 use Rattle.dtx_laws.specs.Correction.{IsCorrected}
-use Rattle.dtx_laws.specs.PartsLaws.{byte_at}
-use Rattle.dtx_laws.specs.WordsLaws.{distance_self}
-use Rattle.dtx_fast.specs.RepairLaws.{powers_not_zero, two_inverse}
+use Rattle.dtx_laws.proofs.PartsLemmas.{byte_at}
+use Rattle.dtx_laws.proofs.WordsLemmas.{distance_self}
+use Rattle.dtx_fast.proofs.RepairLemmas.{powers_not_zero, two_inverse}
 
 -- the word with an error taken away: α to the error added to the byte whose power has the exponent e
 abbrev pub mended : ℕ → ℕ → List ℕ → List ℕ

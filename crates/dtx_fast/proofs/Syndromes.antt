@@ -5,7 +5,7 @@ use Rattle.std.proofs.lemmas.List.{take_all, take_at, drop_at, length-take-le}
 use Rattle.dtx_galois.specs.Field.{pow, value}
 use Rattle.dtx_galois.specs.Word.{sums}
 use Rattle.dtx_laws.specs.Codeword.{IsCodeword}
-use Rattle.dtx_laws.specs.PartsLaws.{syndrome_is}
+use Rattle.dtx_laws.proofs.PartsLemmas.{syndrome_is}
 
 -- all that stands behind the data
 pub rest : (k : ℕ) (xs : List ℕ) → take (length xs - k) (drop k xs) ≡ drop k xs

@@ -1,9 +1,3 @@
 pub mod Recurrence
 pub mod Stage
-pub mod RecurrenceLaws
-pub mod ConnectionLaws
-pub mod QuotientLaws
-pub mod RepairLaws
-pub mod StageLaws
 pub mod Rows
-pub mod RowsLaws

@@ -1,2 +1,4 @@
+pub mod AppendedLemmas
+pub mod GivenFewLemmas
 pub mod Pushed
 pub mod Told

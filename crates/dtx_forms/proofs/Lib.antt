@@ -1,2 +1,9 @@
+pub mod AllowedFileLemmas
+pub mod AnswersLemmas
+pub mod NumbersLemmas
+pub mod OfWordsLemmas
+pub mod PerformedLemmas
+mod PlanFileLemmas
+pub mod WordsLemmas
 pub mod Apart
 pub mod SmallFile

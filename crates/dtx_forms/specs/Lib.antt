@@ -1,15 +1,8 @@
-pub mod AllowedFileLaws
 pub mod Answers
-pub mod AnswersLaws
 pub mod Combine
 pub mod Job
-pub mod NumbersLaws
 pub mod OfWords
-pub mod OfWordsLaws
-pub mod PerformedLaws
 pub mod PlanFile
-pub mod PlanFileLaws
 pub mod Shapes
 pub mod Transform
 pub mod Transmit
-pub mod WordsLaws

@@ -1,11 +1,3 @@
 pub mod Sequences
 pub mod Segments
 pub mod Detection
-pub mod AlikeLaws
-pub mod CountsLaws
-pub mod RuleLaws
-pub mod SlicesLaws
-pub mod SymbolsLaws
-pub mod UnlikeLaws
-pub mod RecurrencesLaws
-pub mod WindowsLaws

@@ -1,1 +1,9 @@
+pub mod BytesLemmas
+pub mod DivisionLemmas
+pub mod FieldLemmas
+pub mod LinearLemmas
+pub mod PowersLemmas
+pub mod RootsLemmas
+pub mod ValuesLemmas
+pub mod WordsLemmas
 pub mod TableEntries

@@ -4,7 +4,7 @@ use Rattle.std.proofs.Common.{sym, ap, ap₂, ◌∙◌, arith}
 use Rattle.std.proofs.lemmas.Bool.{eqb-true, and_parts, ltb-true}
 use Rattle.dtx_galois.specs.Field.{mul, pow}
 use Rattle.dtx_lists.proofs.Below.{holds_below, at_below}
-use Rattle.dtx_galois.specs.PowersLaws.{pow_add, pow_times, pow_mod, power_at, cycle}
+use Rattle.dtx_galois.proofs.PowersLemmas.{pow_add, pow_times, pow_mod, power_at, cycle}
 use Rattle.dtx_galois.specs.declared.tables.TheConstants.{POWERS, LOGARITHMS}
 
 logarithms_test : holds_below (λ a. get_or POWERS (get_or LOGARITHMS (suc a) 0) 0 == suc a && nat_lt

@@ -1,11 +1,3 @@
 pub mod BitPolynomial
 pub mod Field
 pub mod Word
-pub mod BytesLaws
-pub mod DivisionLaws
-pub mod FieldLaws
-pub mod LinearLaws
-pub mod PowersLaws
-pub mod RootsLaws
-pub mod ValuesLaws
-pub mod WordsLaws

@@ -4,14 +4,14 @@ use Rattle.std.proofs.Common.{List, [], length, drop, get_or, sym, ap, ◌∙◌
 use Rattle.std.specs.Prelude.{nat_le, slice_range}
 use Rattle.std.proofs.lemmas.Bool.{cases_eq, eq-eqb, ne_eqb, le-leb, lt-leb, leb-true, leb-false}
 use Rattle.std.proofs.lemmas.List.{get_or-drop, get_or-take, length-drop, length-take}
-use Rattle.dtx_frame.specs.AlikeLaws.{second_told}
+use Rattle.dtx_frame.proofs.AlikeLemmas.{second_told}
 use Rattle.dtx_frame.specs.Detection.{looks_second, opposites}
 use Rattle.dtx_frame.specs.Segments.{field_sync}
 use Rattle.dtx_coder.specs.Stream.{a53, last_before}
-use Rattle.dtx_coder.specs.CountsLaws.{length-a53}
+use Rattle.dtx_coder.proofs.CountsLemmas.{length-a53}
 use Rattle.dtx_chain.specs.Damage.{to_sync, packet_behind}
-use Rattle.dtx_chain.specs.PlacesLaws.{sync_at}
-use Rattle.dtx_chain.specs.SlightLaws.{sync_first}
+use Rattle.dtx_chain.proofs.PlacesLemmas.{sync_at}
+use Rattle.dtx_chain.proofs.SlightLemmas.{sync_first}
 use Rattle.dtx_repeat.specs.Marks.{wrong_signs}
 use Rattle.dtx_gap_filler.specs.Heard.{first_sync}
 

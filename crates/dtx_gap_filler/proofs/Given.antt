@@ -12,23 +12,23 @@ use Rattle.dtx_frame.specs.Detection.{looks_second}
 use Rattle.dtx_plan.specs.declared.plan.Plan.{Plan}
 use Rattle.dtx_plan.specs.declared.transmitter.Transmitter.{Transmitter}
 use Rattle.dtx_adapter.specs.Feed.{feed}
-use Rattle.dtx_adapter.specs.FeedsLaws.{length-feed}
-use Rattle.dtx_adapter.specs.ReadingsLaws.{sync_fed}
+use Rattle.dtx_adapter.proofs.FeedsLemmas.{length-feed}
+use Rattle.dtx_adapter.proofs.ReadingsLemmas.{sync_fed}
 use Rattle.dtx_coder.specs.Stream.{a53}
-use Rattle.dtx_coder.specs.CountsLaws.{length-a53}
+use Rattle.dtx_coder.proofs.CountsLemmas.{length-a53}
 use Rattle.dtx_receiver.specs.Bytes.{data_count, groups_of, bytes_in}
-use Rattle.dtx_receiver.specs.CompleteLaws.{complete_told, complete_all, complete_only}
+use Rattle.dtx_receiver.proofs.CompleteLemmas.{complete_told, complete_all, complete_only}
 use Rattle.dtx_receiver.specs.Packets.{is_complete, run_packets, all_packets, received}
 use Rattle.dtx_receiver.specs.Runs.{runs}
 use Rattle.dtx_receiver.specs.declared.batch.Received.{Received}
 use Rattle.dtx_chain.specs.Undamaged.{ArePackets, as_received}
 use Rattle.dtx_chain.specs.Damage.{AreReceived, to_sync, from_sync, packet_behind, numbers_in}
-use Rattle.dtx_chain.specs.SlightLaws.{sent_within, sync_first}
-use Rattle.dtx_chain.specs.WordsLaws.{packet_at}
+use Rattle.dtx_chain.proofs.SlightLemmas.{sent_within, sync_first}
+use Rattle.dtx_chain.proofs.WordsLemmas.{packet_at}
 use Rattle.dtx_network.specs.Plans.{IsStream}
 use Rattle.dtx_repeat.specs.Lives.{packets_in, life_of, lives}
 use Rattle.dtx_repeat.specs.Marks.{HasSyncs, without_mark}
-use Rattle.dtx_repeat.specs.MarksLaws.{second_is, feed_is}
+use Rattle.dtx_repeat.proofs.MarksLemmas.{second_is, feed_is}
 use Rattle.dtx_repeat.specs.Restored.{place_behind, first_place, run_restored}
 use Rattle.dtx_gap_filler.specs.Heard.{Hears, first_sync, heard_to}
 

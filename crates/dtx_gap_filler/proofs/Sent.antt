@@ -13,10 +13,10 @@ use Rattle.dtx_adapter.specs.Feed.{feed}
 use Rattle.dtx_exciter.specs.Packets.{syncs}
 use Rattle.dtx_exciter.specs.Emission.{emission}
 use Rattle.dtx_exciter.specs.Log.{life_lines, log, emission_over}
-use Rattle.dtx_exciter.specs.SinceMarkLaws.{take_parts}
+use Rattle.dtx_exciter.proofs.SinceMarkLemmas.{take_parts}
 use Rattle.dtx_chain.specs.Undamaged.{ArePackets}
 use Rattle.dtx_chain.specs.Damage.{packet_behind, from_sync, numbers_in}
-use Rattle.dtx_chain.specs.SlightLaws.{field_begins}
+use Rattle.dtx_chain.proofs.SlightLemmas.{field_begins}
 use Rattle.dtx_network.specs.Headline.{IsFirstListing, HasNoListing, HaveNoMark, IsFedAnew, stretch_of}
 use Rattle.dtx_network.specs.Presets.{presets}
 use Rattle.dtx_repeat.specs.Lives.{lives, repeated, repeated_log}

@@ -1,3 +1,22 @@
+mod AcquireLemmas
+mod AnswersLemmas
+mod CodeLemmas
+mod ExciteLemmas
+pub mod GivenLemmas
+pub mod GivingLemmas
+mod LivesLemmas
+pub mod MendLemmas
+pub mod ReceiveLemmas
+pub mod ReceivedLemmas
+pub mod RepeatLemmas
+pub mod SoftLemmas
+mod SoftRowsLemmas
+mod SofteningLemmas
+pub mod SplicedSymbolsLemmas
+pub mod StreamBackLemmas
+pub mod SymbolFileLemmas
+pub mod SymbolsBackLemmas
+mod WatchLemmas
 pub mod BytesOf
 pub mod LifeOn
 pub mod LivesOn

@@ -5,13 +5,13 @@ use Rattle.std.specs.Prelude.{Some, None}
 use Rattle.std.specs.List.{range_with_len, flat_map}
 use Rattle.std.proofs.lemmas.List.{length-append, length_push}
 use Rattle.std.proofs.lemmas.List.Sums.{sum_by-append}
-use Rattle.dtx_exciter.specs.EmittedLaws.{emission_push}
+use Rattle.dtx_exciter.proofs.EmittedLemmas.{emission_push}
 use Rattle.dtx_exciter.specs.Emission.{last_segments, emission}
 use Rattle.dtx_exciter.specs.Log.{Line, line_of, life_lines}
 use Rattle.dtx_exciter.specs.Packets.{last_answer}
 use Rattle.dtx_exciter.specs.declared.answers.Told.{Told}
 use Rattle.dtx_exciter.specs.declared.answers.Told.TheVariants.{Quiet, Sent, Muted}
-use Rattle.dtx_files.specs.GivenFewLaws.{given_few}
+use Rattle.dtx_files.proofs.GivenFewLemmas.{given_few}
 use Rattle.dtx_jobs.specs.ExciteLaws.{line_at, lines_push}
 use Rattle.dtx_jobs.specs.Life.{one_preset, one_mute, presets_in, mutes_in, life_tally, tally_with, HasRoom}
 use Rattle.dtx_jobs.specs.declared.life_tally.LifeTally.{LifeTally}

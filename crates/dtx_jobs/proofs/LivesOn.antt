@@ -14,18 +14,19 @@ use Rattle.dtx_exciter.specs.Emission.{emission}
 use Rattle.dtx_exciter.specs.Log.{Line, restart, life_lines, log, emission_over}
 use Rattle.dtx_exciter.specs.Packets.{last_answer, group_part, under, anchor_of, syncs}
 use Rattle.dtx_repeat.specs.GoingOn.{last_life, with_begun}
-use Rattle.dtx_repeat.specs.GoingOnLaws.{last_begun}
-use Rattle.dtx_repeat.specs.Lives.{packets_in, lives_so_far}
-use Rattle.dtx_repeat.specs.LivesLaws.{AreGiven, lives_more, as_many_so_far}
+use Rattle.dtx_repeat.proofs.GoingOnLemmas.{last_begun}
+use Rattle.dtx_repeat.specs.Lives.{packets_in, lives_so_far, AreGiven}
+use Rattle.dtx_repeat.proofs.LivesLemmas.{lives_more, as_many_so_far}
 use Rattle.dtx_repeat.specs.Repeater.{StandsFor, given_behind}
 use Rattle.dtx_repeat.specs.Restored.{restored_so_far}
 use Rattle.dtx_repeat.specs.declared.repeater.Repeater.{Repeater}
-use Rattle.dtx_repeat.specs.RestoredLaws.{packets_in-append}
-use Rattle.dtx_files.specs.GivenFewLaws.{given_few}
+use Rattle.dtx_repeat.proofs.RestoredLemmas.{packets_in-append}
+use Rattle.dtx_files.proofs.GivenFewLemmas.{given_few}
 use Rattle.dtx_files.specs.LogText.{log_text}
 use Rattle.dtx_jobs.specs.Life.{one_preset, one_mute, presets_in, mutes_in, HasRoom}
 use Rattle.dtx_jobs.specs.Lives.{sent_over, logged_over, lives_tally}
-use Rattle.dtx_jobs.specs.LivesLaws.{brought_by, sent_with, logged_with, tally_with_begun}
+use Rattle.dtx_jobs.specs.LivesLaws.{brought_by}
+use Rattle.dtx_jobs.proofs.LivesLemmas.{sent_with, logged_with, tally_with_begun}
 use Rattle.dtx_jobs.specs.Repetition.{IsRepeating, IsSentOn}
 use Rattle.dtx_jobs.specs.Restarts.{restart_at}
 use Rattle.dtx_jobs.specs.declared.life_tally.LifeTally.{LifeTally}

@@ -8,16 +8,16 @@ use Rattle.std.proofs.lemmas.Grind.{flat_map-append}
 use Rattle.std.proofs.Math.Seq.{take-add}
 use Rattle.std.proofs.lemmas.List.{map-append, take_at, drop_at, take_all, length-append}
 use Rattle.std.proofs.lemmas.List.FromFn.{length-map-range_with_len}
-use Rattle.dtx_coder.specs.NextLaws.{next_segments, next_stands}
+use Rattle.dtx_coder.proofs.NextLemmas.{next_segments, next_stands}
 use Rattle.dtx_coder.specs.Groups.{Coding, Group, StandsFor, IsNextGroup, IsCoded, air_segments, group_levels}
 use Rattle.dtx_coder.specs.Stream.{a53, symbols_of, a53_symbols, segment, four_segments}
 use Rattle.dtx_files.specs.Symbols.{byte_of_symbol}
 use Rattle.dtx_frame.specs.Segments.{field_sync}
 use Rattle.dtx_sizes.specs.Fields.{field_place}
 use Rattle.dtx_sizes.specs.declared.fields.FieldPlace.{FieldPlace}
-use Rattle.dtx_packets.specs.PacketLaws.{packets_of-append}
+use Rattle.dtx_packets.proofs.PacketLemmas.{packets_of-append}
 use Rattle.dtx_packets.specs.Packets.{packets_from, packets_of}
-use Rattle.dtx_packet_jobs.specs.PacketFileLaws.{front_of, length-packets_of}
+use Rattle.dtx_packet_jobs.proofs.PacketFileLemmas.{front_of, length-packets_of}
 use Rattle.dtx_jobs.specs.Symbols.{symbol_bytes, in_groups}
 
 -- ---- a group

@@ -3,7 +3,7 @@ use Rattle.std.proofs.Common.{◌≡◌, ℕ, ◌+◌, List, [], ◌∷◌, ◌+
 use Rattle.std.specs.Prelude.{ℤ, if◌then◌else◌}
 use Rattle.std.proofs.lemmas.List.{length-append}
 use Rattle.std.proofs.lemmas.List.Sums.{sum_by-append}
-use Rattle.dtx_receiver.specs.CountingLaws.{no_segments, runs_more}
+use Rattle.dtx_receiver.proofs.CountingLemmas.{no_segments, runs_more}
 use Rattle.dtx_receiver.specs.Runs.{runs, begun, tracking}
 use Rattle.dtx_receiver.specs.declared.batch.Received.{Received}
 use Rattle.dtx_jobs.specs.Giving.{Giving, IsGiving}

@@ -18,7 +18,7 @@ use Rattle.dtx_engine.specs.Recipe.{meaning_of_file}
 use Rattle.dtx_meaning.specs.Meaning.{Meaning}
 use Rattle.dtx_meaning.specs.declared.status.Status.TheVariants.{Done}
 use Rattle.dtx_ops.specs.Reading.{reading, unless}
-use Rattle.dtx_ops.specs.RefusingLaws.{reading_other}
+use Rattle.dtx_ops.proofs.RefusingLemmas.{reading_other}
 use Rattle.dtx_ops.specs.Rules.{first, rules, data_rules, head_rules}
 use Rattle.dtx_ops.specs.declared.fields.Ops.{Ops}
 use Rattle.dtx_ops.specs.declared.refusal.OpsNo.{OpsNo}
@@ -26,7 +26,7 @@ use Rattle.dtx_ops.specs.declared.refusal.OpsNo.TheVariants as no
 use Rattle.dtx_packets.specs.Packet.{pid_of}
 use Rattle.dtx_packets.specs.Packets.{packets_of, whole_packets}
 use Rattle.dtx_watch.specs.Sound.{IsSoundAt, IsSoundFeed, IsCalmOps, IsCalm, IsCalmAt}
-use Rattle.dtx_watch.specs.SoundLaws.{calm}
+use Rattle.dtx_watch.proofs.SoundLemmas.{calm}
 use Rattle.dtx_watch.specs.Watch.{notes_at, notes_to, watch}
 use Rattle.dtx_watch.specs.WatchText.{note_text, watch_text}
 use Rattle.dtx_watch.specs.declared.notes.ClockNote.{ClockNote}
@@ -40,7 +40,7 @@ use Rattle.dtx_watch.specs.declared.notes.What.TheVariants as what
 use Rattle.dtx_forms.specs.Shapes.{single_packets}
 use Rattle.dtx_jobs.specs.Watch.{count_of, watch_numbers, watch_tally, watching, one_ops, one_slip, one_jump}
 use Rattle.dtx_jobs.specs.Watch.{slips_of, jumps_of, one_unread, one_stray}
-use Rattle.dtx_jobs.specs.WatchLaws.{same_numbers}
+use Rattle.dtx_jobs.proofs.WatchLemmas.{same_numbers}
 use Rattle.dtx_jobs.specs.WatchedFeed.{ops_packets, ops_at, AreCalm, IsWatchedCalmly}
 use Rattle.dtx_jobs.specs.declared.watch_tally.WatchTally.{WatchTally}
 use Rattle.dtx_jobs.proofs.WatchedText.{notes_watched}

@@ -5,12 +5,12 @@ use Rattle.std.specs.Prelude.{codes, min, None}
 use Rattle.std.specs.List.{range_with_len, sum_by}
 use Rattle.std.specs.Str.{bytes_eq}
 use Rattle.std.proofs.lemmas.List.Sums.{sum_by-append, sum_by-cons}
-use Rattle.dtx_packets.specs.PacketLaws.{packets_of-piece}
+use Rattle.dtx_packets.proofs.PacketLemmas.{packets_of-piece}
 use Rattle.dtx_packets.specs.Packets.{packets_of, whole_packets}
-use Rattle.dtx_watch.specs.ToldLaws.{all_told}
+use Rattle.dtx_watch.proofs.ToldLemmas.{all_told}
 use Rattle.dtx_watch.specs.Watch.{watch, told, waiting}
 use Rattle.dtx_watch.specs.WatchLines.{first_word, later_words, lines_with, note_words}
-use Rattle.dtx_watch.specs.WatchLinesLaws.{watch_text-append, words_of-watch_text}
+use Rattle.dtx_watch.proofs.WatchLinesLemmas.{watch_text-append, words_of-watch_text}
 use Rattle.dtx_watch.specs.WatchText.{states_word, clock_word, watch_text}
 use Rattle.dtx_watch.specs.declared.notes.ClockNote.{ClockNote}
 use Rattle.dtx_watch.specs.declared.notes.ClockNote.TheVariants as clock
@@ -23,12 +23,12 @@ use Rattle.dtx_meaning.specs.Meaning.{Meaning}
 use Rattle.dtx_meaning.specs.declared.status.Status.TheVariants.{Done}
 use Rattle.dtx_engine.specs.Made.{only, outputs_of}
 use Rattle.dtx_engine.specs.Recipe.{first_refused, meaning_of_file}
-use Rattle.dtx_forms.specs.AllowedFileLaws.{all_read, none_found}
+use Rattle.dtx_forms.proofs.AllowedFileLemmas.{all_read, none_found}
 use Rattle.dtx_forms.specs.Shapes.{single_packets}
-use Rattle.dtx_packet_jobs.specs.PacketFileLaws.{length-packets_of}
+use Rattle.dtx_packet_jobs.proofs.PacketFileLemmas.{length-packets_of}
 use Rattle.dtx_jobs.specs.Watch.{watched_bytes, waiting_bytes, count_of, watch_tally, watch_numbers, watch_answer}
 use Rattle.dtx_jobs.specs.Watch.{watching, one_ops, one_slip, one_jump, slips_of, jumps_of, one_unread, one_stray}
-use Rattle.dtx_jobs.specs.WatchLaws.{same_numbers}
+use Rattle.dtx_jobs.proofs.WatchLemmas.{same_numbers}
 use Rattle.dtx_jobs.specs.WatchedFeed.{tally_of_text, watched_of}
 use Rattle.dtx_jobs.specs.declared.watch_tally.WatchTally.{WatchTally}
 

@@ -1,18 +1,13 @@
 -- Laws of what `acquire` makes.
-use Rattle.std.proofs.Common.{◌≡◌, ℕ, List, [], ◌++◌, refl, sym, ap, ◌∙◌, rules, subst}
+-- They stand here since the ghost members of an impl, a trait's laws, cite lemmas of specs/ alone.
+use Rattle.std.proofs.Common.{◌≡◌, ℕ, List, [], ◌++◌, refl, sym, ap, ◌∙◌}
 use Rattle.std.proofs.lemmas.List.{map-append}
-use Rattle.std.specs.Prelude.{None, Option, Some}
 use Rattle.dtx_acquire.specs.Acquired.{acquired_so_far}
-use Rattle.dtx_acquire.specs.AcquiredLaws.{none_so_far, so_far_grows}
+use Rattle.dtx_acquire.proofs.AcquiredLemmas.{none_so_far, so_far_grows}
 use Rattle.dtx_engine.specs.Made.{AreFrontsOf, only}
-use Rattle.dtx_files.specs.AppendedLaws.{segment_bytes-append}
+use Rattle.dtx_files.proofs.AppendedLemmas.{segment_bytes-append}
 use Rattle.dtx_files.specs.Symbols.{segment_bytes}
-use Rattle.dtx_meaning.specs.Status.{ended}
-use Rattle.dtx_meaning.specs.declared.status.Outcome.{Outcome}
-use Rattle.dtx_meaning.specs.declared.status.Status.TheVariants.{Memory, Usage}
-use Rattle.dtx_outside.specs.Counts.{Counts}
-use Rattle.dtx_outside.specs.Shelf.{Files}
-use Rattle.dtx_jobs.specs.Acquire.{IsAcquired, acquiring}
+use Rattle.dtx_jobs.specs.Acquire.{acquiring}
 use Rattle.dtx_jobs.specs.SymbolFile.{symbol_of_byte, symbols}
 
 -- ---- what is made
@@ -31,19 +26,3 @@ acquires_more scale a b =
       ),
       ([], refl),
     )
-
--- ---- what is refused
-
--- where the scale doesn't fit
-pub refused_unscaled : (input output : List ℕ) (outcome : Outcome) (told : Option Files) (counts : Counts)
-    → outcome ≡ ended Usage → IsAcquired None input output outcome told told counts counts
-refused_unscaled input output outcome told counts is =
-    subst (λ (o : Outcome). IsAcquired None input output o told told counts counts) (sym is)
-    (record { performed = search rules })
-
--- where memory is wanted
-pub refused_memory : (scale : ℕ) (input output : List ℕ) (outcome : Outcome) (told : Option Files) (counts : Counts)
-    → outcome ≡ ended Memory → IsAcquired (Some scale) input output outcome told told counts counts
-refused_memory scale input output outcome told counts is =
-    subst (λ (o : Outcome). IsAcquired (Some scale) input output o told told counts counts) (sym is)
-    (record { performed = search rules })

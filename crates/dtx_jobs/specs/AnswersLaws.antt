@@ -1,20 +1,17 @@
 -- Which refusals the commands of symbols and feeds know: of how their making answers.
+-- They stand here since the ghost members of an impl, a trait's laws, cite lemmas of specs/ alone.
 use Rattle.std.specs.Prelude.{◌==◌, ℕ, Bool, false, true, length, if◌then◌else◌}
 use Rattle.dtx_receiver.specs.Runs.{runs}
 use Rattle.dtx_repeat.specs.Lives.{lives}
-use Rattle.dtx_acquire.specs.Acquired.{acquired, acquired_cost, acquired_runs}
 use Rattle.dtx_meaning.specs.Status.{ended}
 use Rattle.dtx_meaning.specs.declared.status.Outcome.{Outcome}
 use Rattle.dtx_meaning.specs.declared.status.Status.{Status}
-use Rattle.dtx_meaning.specs.declared.status.Status.TheVariants.{Done, TooLong}
-use Rattle.dtx_meaning.specs.declared.status.Status.TheVariants.{NoSync}
+use Rattle.dtx_meaning.specs.declared.status.Status.TheVariants.{Done, TooLong, NoSync}
 use Rattle.dtx_engine.specs.Recipe.{IsAnswerOf}
 use Rattle.dtx_words.specs.declared.rows.Command.{Command}
-use Rattle.dtx_words.specs.declared.rows.Command.TheVariants.{Code, Excite, Receive, Soft}
-use Rattle.dtx_words.specs.declared.rows.Command.TheVariants.{Mend, Repeat, Acquire, Watch}
+use Rattle.dtx_words.specs.declared.rows.Command.TheVariants.{Code, Excite, Receive, Soft, Mend, Repeat, Watch}
 use Rattle.dtx_forms.specs.Answers.{Knows}
-use Rattle.dtx_forms.specs.AnswersLaws.{knows_by, none_refused}
-use Rattle.dtx_jobs.specs.Acquire.{acquired_numbers, acquiring}
+use Rattle.dtx_forms.proofs.AnswersLemmas.{knows_by, none_refused}
 use Rattle.dtx_jobs.specs.Code.{coding}
 use Rattle.dtx_jobs.specs.Excite.{exciting}
 use Rattle.dtx_jobs.specs.Giving.{Giving, given_numbers, receiving_by}
@@ -23,7 +20,7 @@ use Rattle.dtx_jobs.specs.Receive.{receiving, with_corrections}
 use Rattle.dtx_jobs.specs.Lives.{lives_tally}
 use Rattle.dtx_jobs.specs.Repeat.{repeated_numbers, repeating}
 use Rattle.dtx_jobs.specs.Soft.{softening}
-use Rattle.dtx_jobs.specs.SymbolFile.{file_segments, symbols}
+use Rattle.dtx_jobs.specs.SymbolFile.{file_segments}
 use Rattle.dtx_jobs.specs.Watch.{watching}
 
 -- a stream that is coded
@@ -78,14 +75,3 @@ soft_knows = knows_by softening Soft tt (λ k unit. none_refused unit) (λ given
 -- a feed that is watched
 pub watch_knows : (status : Status) → IsAnswerOf watching status → Knows Watch status
 watch_knows = knows_by watching Watch tt (λ k unit. none_refused unit) (λ given loose. tt)
-
--- a capture whose fields are found
-pub acquire_knows : (scale : ℕ) (status : Status) → IsAnswerOf (acquiring scale) status → Knows Acquire status
-acquire_knows scale =
-    knows_by (acquiring scale) Acquire tt (λ k unit. none_refused unit)
-    (λ given loose. sync_or_not Acquire (acquired_runs (symbols given) == 0) (record {
-      status = Done;
-      numbers = acquired_numbers (length (symbols given)) (acquired_runs (symbols given))
-          (length (acquired scale (symbols given))) (acquired_cost scale (symbols given));
-      shown = 5;
-    }) tt tt)

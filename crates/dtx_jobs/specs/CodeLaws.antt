@@ -1,31 +1,24 @@
--- Laws of the symbols of a stream: packets behind the last whole group bring none, and more packets bring more behind.
-use Rattle.std.proofs.Common.{◌≡◌, ℕ, ℤ, ◌-◌, ◌*◌, ◌/◌, ◌%◌, ◌≤◌, List, [], ◌++◌, length, map, take, refl, sym, ap}
-use Rattle.std.proofs.Common.{◌∙◌, arith}
+-- Laws of the symbols of a stream: more packets bring more behind.
+-- They stand here since the ghost members of an impl, a trait's laws, cite lemmas of specs/ alone.
+use Rattle.std.proofs.Common.{◌≡◌, ℕ, ℤ, ◌-◌, ◌*◌, ◌/◌, ◌%◌, ◌≤◌, List, [], ◌++◌, length, map, refl, sym, ap, ◌∙◌}
+use Rattle.std.proofs.Common.{arith}
 use Rattle.std.specs.List.{range_with_len, flat_map}
 use Rattle.std.proofs.lemmas.Grind.{flat_map-append}
 use Rattle.std.proofs.lemmas.List.{map-append, length-append, take-append-le}
-use Rattle.dtx_coder.specs.NextLaws.{a53_nothing}
-use Rattle.dtx_coder.specs.StreamLaws.{a53_from, a53_whole}
+use Rattle.dtx_coder.proofs.NextLemmas.{a53_nothing}
+use Rattle.dtx_coder.proofs.StreamLemmas.{a53_from, a53_whole}
 use Rattle.dtx_coder.specs.Stream.{a53, group_segments, symbols_of, a53_symbols}
 use Rattle.dtx_engine.specs.Made.{only, AreFrontsOf}
 use Rattle.dtx_files.specs.Symbols.{byte_of_symbol}
-use Rattle.dtx_packets.specs.PacketLaws.{packets_of-append}
+use Rattle.dtx_packets.proofs.PacketLemmas.{packets_of-append}
 use Rattle.dtx_packets.specs.Packets.{packets_of}
 use Rattle.dtx_jobs.specs.Code.{coding}
-use Rattle.dtx_jobs.specs.Symbols.{symbol_bytes, in_groups}
+use Rattle.dtx_jobs.specs.Symbols.{symbol_bytes}
 
 -- no packets have no symbols
 symbols_none : symbol_bytes [] ≡ []
 unfolding a53_symbols
 symbols_none = ap (λ ss. map byte_of_symbol (symbols_of ss)) a53_nothing
-
--- packets behind the last whole group bring no symbols
-same_symbols : (ps qs : List (List ℕ)) → a53 ps ≡ a53 qs → symbol_bytes ps ≡ symbol_bytes qs
-unfolding a53_symbols
-same_symbols ps qs e = ap (λ ss. map byte_of_symbol (symbols_of ss)) e
-
-pub symbols_whole : (ps : List (List ℕ)) → symbol_bytes ps ≡ symbol_bytes (take (in_groups ps) ps)
-symbols_whole ps = same_symbols ps (take (in_groups ps) ps) (a53_whole ps)
 
 a53_more : (ps qs : List (List ℕ)) → (rest : List (List ℤ)) × (a53 (ps ++ qs) ≡ a53 ps ++ rest)
 a53_more ps qs =

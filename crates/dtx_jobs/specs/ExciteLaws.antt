@@ -1,6 +1,7 @@
 -- Laws of what an exciter makes of packets: of more packets it makes more behind.
-use Rattle.std.proofs.Common.{◌≡◌, ℕ, ℤ, ◌+◌, ◌%◌, ◌≤◌, List, [], ◌∷◌, ◌++◌, length, map, take, refl, sym, ap, ap₂}
-use Rattle.std.proofs.Common.{◌∙◌, arith, append_assoc, zero-add}
+-- They stand here since the ghost members of an impl, a trait's laws, cite lemmas of specs/ alone.
+use Rattle.std.proofs.Common.{◌≡◌, ℕ, ℤ, ◌+◌, ◌%◌, ◌≤◌, List, [], ◌∷◌, ◌++◌, length, map, take, refl, sym, ap, ap₂, ◌∙◌}
+use Rattle.std.proofs.Common.{arith, append_assoc, zero-add}
 use Rattle.std.specs.List.{range_with_len, flat_map}
 use Rattle.std.proofs.lemmas.Grind.{flat_map-append}
 use Rattle.std.proofs.lemmas.List.{append-nil, length_push, take-append-le, take_all}
@@ -8,15 +9,15 @@ use Rattle.dtx_lists.proofs.Range.{range_with_len-parts}
 use Rattle.dtx_lists.proofs.RangeMoved.{flat_map-range_same}
 use Rattle.dtx_coder.specs.Stream.{symbols_of}
 use Rattle.dtx_engine.specs.Made.{only, AreFrontsOf}
-use Rattle.dtx_exciter.specs.EmittedLaws.{emission_push, emission_more}
+use Rattle.dtx_exciter.proofs.EmittedLemmas.{emission_more}
 use Rattle.dtx_exciter.specs.Emission.{last_segments, emission}
 use Rattle.dtx_exciter.specs.Log.{Line, line_of, life_lines}
 use Rattle.dtx_exciter.specs.Packets.{last_answer}
 use Rattle.dtx_exciter.specs.Stretch.{emission_behind}
-use Rattle.dtx_files.specs.AppendedLaws.{segment_bytes-append, log_text-append}
+use Rattle.dtx_files.proofs.AppendedLemmas.{segment_bytes-append, log_text-append}
 use Rattle.dtx_files.specs.LogText.{log_text}
 use Rattle.dtx_files.specs.Symbols.{byte_of_symbol}
-use Rattle.dtx_packets.specs.PacketLaws.{packets_of-append}
+use Rattle.dtx_packets.proofs.PacketLemmas.{packets_of-append}
 use Rattle.dtx_packets.specs.Packets.{packets_of}
 use Rattle.dtx_jobs.specs.Excite.{exciting}
 use Rattle.dtx_jobs.specs.Life.{sent_bytes, logged_bytes}
@@ -60,13 +61,6 @@ pub logged_push : (a d : ℕ) (l : List (List ℕ)) (p : List ℕ)
     ≡ logged_bytes a d l ++ log_text
     (line_of (length (emission a d l)) (length (last_segments a d (l ++ p ∷ []))) (last_answer a d (l ++ p ∷ [])))
 logged_push a d l p = ap log_text (lines_push a d l p) ∙ log_text-append (life_lines a d 0 l) _
-
-pub sent_push : (a d : ℕ) (l : List (List ℕ)) (p : List ℕ)
-    → sent_bytes a d (l ++ p ∷ []) ≡ sent_bytes a d l ++ map byte_of_symbol (symbols_of (last_segments a d (l
-    ++ p ∷ [])))
-sent_push a d l p =
-    ap (λ ss. map byte_of_symbol (symbols_of ss)) (emission_push a d l p)
-    ∙ segment_bytes-append (emission a d l) (last_segments a d (l ++ p ∷ []))
 
 -- ---- any packets further
 

@@ -1,29 +1,17 @@
--- Laws of what is made of symbols, whichever receiver it is: it grows with them, and with what the end brings it is all
--- packets.
-use Rattle.std.proofs.Common.{◌≡◌, ℕ, ◌%◌, List, [], ◌∷◌, ◌++◌, length, map, take, drop, refl, sym, ap, ◌∙◌}
+-- Laws of what is made of symbols, whichever receiver it is: it grows with them.
+-- They stand here since the ghost members of an impl, a trait's laws, cite lemmas of specs/ alone.
+use Rattle.std.proofs.Common.{◌≡◌, ℕ, ◌%◌, List, [], ◌∷◌, ◌++◌, length, refl, sym, ap, ◌∙◌}
 use Rattle.std.specs.Prelude.{ℤ}
-use Rattle.std.specs.List.{flat_map}
 use Rattle.std.proofs.lemmas.Grind.{flat_map-append}
-use Rattle.std.proofs.lemmas.List.{append_assoc, append-nil, drop_at, take-append-drop}
-use Rattle.dtx_engine.specs.Made.{only, joined, AreFrontsOf}
+use Rattle.std.proofs.lemmas.List.{append_assoc, append-nil}
+use Rattle.dtx_engine.specs.Made.{only, AreFrontsOf}
 use Rattle.dtx_receiver.specs.declared.batch.Received.{Received}
-use Rattle.dtx_jobs.specs.Giving.{Giving, IsGiving, all_bytes, bytes_of, early_bytes, end_bytes, receiving_by}
+use Rattle.dtx_jobs.specs.Giving.{Giving, IsGiving, bytes_of, receiving_by}
 use Rattle.dtx_jobs.specs.SymbolFile.{file_segments}
 use Rattle.dtx_jobs.specs.SymbolFileLaws.{file_segments-append}
 
 pub bytes_of-append : (a b : List Received) → bytes_of (a ++ b) ≡ bytes_of a ++ bytes_of b
 bytes_of-append a b = flat_map-append (λ (p : Received). p.packet.0) a b
-
-pub flat_bytes : (ps : List Received)
-    → flat_map (λ (p : List ℕ). p) (map (λ (r : Received). r.packet.0) ps) ≡ bytes_of ps
-flat_bytes [] = refl
-flat_bytes (p ∷ ps) = ap (λ z. p.packet.0 ++ z) (flat_bytes ps)
-
--- the bytes of the packets of segments
-pub bytes_of-all : (giving : Giving) → IsGiving giving → (segments : List (List ℤ))
-    → flat_map (λ (p : List ℕ). p) (giving.packets segments) ≡ bytes_of (giving.all segments)
-bytes_of-all giving is segments =
-    ap (flat_map (λ (p : List ℕ). p)) (is.packets segments) ∙ flat_bytes (giving.all segments)
 
 -- with more segments there are more packets behind
 pub given_on : (giving : Giving) → IsGiving giving → (segments more : List (List ℤ))
@@ -36,18 +24,6 @@ given_on giving is segments (x ∷ more) =
       first.0 ++ rest.0,
       ap giving.so_far (sym (append_assoc segments (x ∷ []) more)) ∙ rest.1 ∙ ap (λ z. z ++ rest.0) first.1
           ∙ append_assoc (giving.so_far segments) first.0 rest.0,
-    )
-
--- what is given while the first segments come is a front part of what all give
-pub front_given : (giving : Giving) → IsGiving giving → (segments : List (List ℤ)) (n : ℕ)
-    → (rest : List Received) × (giving.all segments ≡ giving.so_far (take n segments) ++ rest)
-front_given giving is segments n =
-    let on = given_on giving is (take n segments) (drop n segments) in
-    let end = is.end segments in (
-      on.0 ++ end.0,
-      end.1
-          ∙ ap (λ list. list ++ end.0) (ap giving.so_far (sym (take-append-drop n segments)) ∙ on.1)
-          ∙ append_assoc (giving.so_far (take n segments)) on.0 end.0,
     )
 
 -- ---- what is made
@@ -66,20 +42,3 @@ receives_more giving is a b whole =
       ),
       ([], refl),
     )
-
--- what the end adds, where it brings these
-pub receives_last : (giving : Giving) → IsGiving giving → (file last : List ℕ)
-    → bytes_of (giving.all (file_segments file)) ≡ early_bytes giving file ++ last → last ≡ end_bytes giving file
-receives_last giving is file last brought =
-    sym (ap (drop (length (early_bytes giving file))) (bytes_of-all giving is (file_segments file) ∙ brought)
-    ∙ drop_at (early_bytes giving file) last (length (early_bytes giving file)) refl)
-
--- what is made of all segments is their packets
-pub receives_whole : (giving : Giving) → IsGiving giving → (file : List ℕ)
-    → joined ((receiving_by giving).made file) ((receiving_by giving).rest file) ≡ only (all_bytes giving file)
-receives_whole giving is file =
-    let end = is.end (file_segments file) in
-    let brought : bytes_of (giving.all (file_segments file)) ≡ early_bytes giving file ++ bytes_of end.0 =
-    ap bytes_of end.1 ∙ bytes_of-append (giving.so_far (file_segments file)) end.0 in
-    ap only (ap (λ z. early_bytes giving file ++ z) (sym (receives_last giving is file (bytes_of end.0) brought))
-    ∙ sym brought ∙ sym (bytes_of-all giving is (file_segments file)))

@@ -7,7 +7,6 @@ pub mod CodeLaws
 pub mod Excitation
 pub mod Excite
 pub mod ExciteLaws
-pub mod GivenLaws
 pub mod Giving
 pub mod GivingLaws
 pub mod Life
@@ -18,7 +17,6 @@ pub mod MendLaws
 pub mod MendedBack
 pub mod Receive
 pub mod ReceiveLaws
-pub mod ReceivedLaws
 pub mod Reception
 pub mod Repeat
 pub mod RepeatLaws
@@ -27,16 +25,12 @@ pub mod Restarts
 pub mod Soft
 pub mod SoftLaws
 pub mod SoftPlacesLaws
-pub mod SoftRowsLaws
 pub mod Softening
 pub mod SofteningLaws
-pub mod SplicedSymbolsLaws
-pub mod StreamBackLaws
 pub mod StreamCoder
 pub mod SymbolFile
 pub mod SymbolFileLaws
 pub mod Symbols
-pub mod SymbolsBackLaws
 pub mod Tally
 pub mod Watch
 pub mod WatchLaws

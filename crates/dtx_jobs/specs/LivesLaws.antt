@@ -1,42 +1,32 @@
 -- What an exciter makes of lives, with one packet more and with one life more.
-use Rattle.std.proofs.Common.{◌≡◌, ℕ, ℤ, ◌+◌, ◌<◌, List, [], ◌∷◌, ◌++◌, length, map, refl}
-use Rattle.std.proofs.Common.{sym, ap}
-use Rattle.std.proofs.Common.{◌∙◌, append_assoc, arith}
-use Rattle.std.specs.Prelude.{nat_lt}
-use Rattle.std.specs.List.{flat_map}
-use Rattle.std.proofs.lemmas.Bool.{cond-true, cond-false, lt-ltb, le-ltb}
-use Rattle.std.proofs.lemmas.Grind.{flat_map-append}
-use Rattle.std.proofs.lemmas.List.{append-nil, length-append, length_push}
-use Rattle.std.proofs.lemmas.List.Sums.{sum_by-append}
+-- They stand here since the ghost members of an impl, a trait's laws, cite lemmas of specs/ alone.
+use Rattle.std.proofs.Common.{◌≡◌, ℕ, ℤ, ◌+◌, ◌<◌, List, [], ◌∷◌, ◌++◌, length, map, refl, sym, ap, ◌∙◌, append_assoc}
+use Rattle.std.proofs.Common.{arith}
+use Rattle.std.proofs.lemmas.List.{append-nil, length-append}
 use Rattle.dtx_coder.specs.Stream.{symbols_of}
 use Rattle.dtx_exciter.specs.Emission.{last_segments, emission}
-use Rattle.dtx_exciter.specs.EmittedLaws.{emission_push}
-use Rattle.dtx_exciter.specs.InLivesLaws.{segments_in, lines_in}
-use Rattle.dtx_exciter.specs.LinesLaws.{lines_more}
+use Rattle.dtx_exciter.proofs.EmittedLemmas.{emission_push}
+use Rattle.dtx_exciter.proofs.InLivesLemmas.{segments_in, lines_in}
+use Rattle.dtx_exciter.proofs.LinesLemmas.{lines_more}
 use Rattle.dtx_exciter.specs.Log.{Line, restart, line_of, life_lines, log, restarted_lines, restarting_lines}
 use Rattle.dtx_exciter.specs.Log.{emission_over}
 use Rattle.dtx_exciter.specs.Packets.{last_answer}
 use Rattle.dtx_exciter.specs.Stretch.{lines_behind}
-use Rattle.dtx_files.specs.AppendedLaws.{segment_bytes-append, log_text-append}
+use Rattle.dtx_files.proofs.AppendedLemmas.{segment_bytes-append, log_text-append}
 use Rattle.dtx_files.specs.LogText.{log_text}
 use Rattle.dtx_files.specs.Symbols.{byte_of_symbol}
-use Rattle.dtx_receiver.specs.declared.tracking.Tracking.{Tracking}
-use Rattle.dtx_receiver.specs.declared.tracking.Tracking.TheVariants.{Searching, Began, Sync, Data, Ended}
-use Rattle.dtx_repeat.specs.GoingOn.{last_life, longer, with_begun}
-use Rattle.dtx_repeat.specs.GoingOnLaws.{longer_last}
-use Rattle.dtx_jobs.specs.Life.{one_preset, one_mute, presets_in, mutes_in, tally_with}
-use Rattle.dtx_jobs.specs.Lives.{sent_over, logged_over, lives_tally}
-use Rattle.dtx_jobs.specs.Restarts.{restart_at}
-use Rattle.dtx_jobs.specs.declared.life_tally.LifeTally.{LifeTally}
+use Rattle.dtx_repeat.specs.GoingOn.{last_life, longer}
+use Rattle.dtx_repeat.proofs.GoingOnLemmas.{longer_last}
+use Rattle.dtx_jobs.specs.Lives.{sent_over, logged_over}
 
 -- ---- the last of some lives
 
-abbrev lives_but_last : List (List (List ℕ)) → List (List (List ℕ))
+abbrev pub lives_but_last : List (List (List ℕ)) → List (List (List ℕ))
 lives_but_last [] = []
 lives_but_last (life ∷ []) = []
 lives_but_last (life ∷ (next ∷ more)) = life ∷ lives_but_last (next ∷ more)
 
-parts : (lives : List (List (List ℕ))) → 0 < length lives → lives ≡ lives_but_last lives ++ last_life lives ∷ []
+pub parts : (lives : List (List (List ℕ))) → 0 < length lives → lives ≡ lives_but_last lives ++ last_life lives ∷ []
 parts [] some = absurd (omega (arith, some))
 parts (life ∷ []) some = refl
 parts (life ∷ (next ∷ more)) some = ap (λ z. life ∷ z) (parts (next ∷ more) (omega arith))
@@ -189,106 +179,3 @@ sent_begun a d lives = ap (λ ss. map byte_of_symbol (symbols_of ss)) (emission_
 pub logged_begun : (a d : ℕ) (lives : List (List (List ℕ)))
     → logged_over a d (lives ++ [] ∷ []) ≡ logged_over a d lives ++ log_text (restart_by a d lives)
 logged_begun a d lives = ap log_text (log_begun a d lives) ∙ log_text-append (log a d 0 lives) (restart_by a d lives)
-
--- ---- the numbers
-
-same_tally : (a b c e a' b' c' e' : ℕ) → a ≡ a' → b ≡ b' → c ≡ c' → e ≡ e'
-    → ◌≡◌ {A = LifeTally} (record { packets = a; segments = b; presets = c; mutes = e })
-    (record { packets = a'; segments = b'; presets = c'; mutes = e' })
-same_tally a b c e a' b' c' e' p q r s = rw (p, q, r, s) refl
-
-packets_last : (xs : List (List (List ℕ))) (life : List (List ℕ))
-    → length (flat_map (λ (l : List (List ℕ)). l) (xs ++ life ∷ []))
-    ≡ length (flat_map (λ (l : List (List ℕ)). l) xs) + length life
-packets_last xs life =
-    ap length (flat_map-append (λ (l : List (List ℕ)). l) xs (life ∷ []))
-    ∙ length-append (flat_map (λ (l : List (List ℕ)). l) xs) (life ++ [])
-    ∙ ap (λ z. length (flat_map (λ (l : List (List ℕ)). l) xs) + length z) (append-nil life)
-
-packets_longer : (lives : List (List (List ℕ))) (p : List ℕ) → 0 < length lives
-    → length (flat_map (λ (l : List (List ℕ)). l) (longer lives (p ∷ [])))
-    ≡ length (flat_map (λ (l : List (List ℕ)). l) lives) + 1
-packets_longer lives p some =
-    let xs : List (List (List ℕ)) = lives_but_last lives in
-    let life : List (List ℕ) = last_life lives in
-    let e = parts lives some in
-    let count : List (List (List ℕ)) → ℕ = λ z. length (flat_map (λ (l : List (List ℕ)). l) z) in
-    omega (
-      arith,
-      ap (λ z. count (longer z (p ∷ []))) e ∙ ap count (longer_last xs life (p ∷ [])),
-      packets_last xs (life ++ p ∷ []),
-      ap count e,
-      packets_last xs life,
-      length_push life p,
-    )
-
-pub tally_longer : (a d : ℕ) (lives : List (List (List ℕ))) (p : List ℕ) → 0 < length lives
-    → tally_with (lives_tally a d lives) (length (brought_by a d lives p)) (line_by a d lives p)
-    ≡ lives_tally a d (longer lives (p ∷ []))
-tally_longer a d lives p some =
-    let line : List Line = line_by a d lives p in
-    same_tally _ _ _ _ _ _ _ _
-    (sym (packets_longer lives p some))
-    (sym (ap length (emission_longer a d lives p some)
-    ∙ length-append (emission_over a d lives) (brought_by a d lives p)))
-    (sym (ap presets_in (log_longer a d lives p some) ∙ sum_by-append one_preset (log a d 0 lives) line))
-    (sym (ap mutes_in (log_longer a d lives p some) ∙ sum_by-append one_mute (log a d 0 lives) line))
-
-no_presets : (a d : ℕ) (lives : List (List (List ℕ))) → presets_in (restart_by a d lives) ≡ 0
-no_presets a d [] = refl
-no_presets a d (x ∷ more) = refl
-
-no_mutes : (a d : ℕ) (lives : List (List (List ℕ))) → mutes_in (restart_by a d lives) ≡ 0
-no_mutes a d [] = refl
-no_mutes a d (x ∷ more) = refl
-
-pub tally_begun : (a d : ℕ) (lives : List (List (List ℕ))) → lives_tally a d lives ≡ lives_tally a d (lives ++ [] ∷ [])
-tally_begun a d lives =
-    same_tally _ _ _ _ _ _ _ _
-    (sym (omega (arith, packets_last lives [])))
-    (sym (ap length (emission_begun a d lives)))
-    (sym (omega (
-      arith,
-      ap presets_in (log_begun a d lives) ∙ sum_by-append one_preset (log a d 0 lives) (restart_by a d lives),
-      no_presets a d lives,
-    )))
-    (sym (omega (
-      arith,
-      ap mutes_in (log_begun a d lives) ∙ sum_by-append one_mute (log a d 0 lives) (restart_by a d lives),
-      no_mutes a d lives,
-    )))
-
--- ---- where a segment is told to begin a run
-
-pub sent_with : (a d : ℕ) (t : Tracking) (lives : List (List (List ℕ)))
-    → sent_over a d (with_begun t lives) ≡ sent_over a d lives
-sent_with a d Searching lives = refl
-sent_with a d Sync lives = refl
-sent_with a d Data lives = refl
-sent_with a d Ended lives = refl
-sent_with a d Began lives = sent_begun a d lives
-
-restart_is : (a d runs n : ℕ) (lives : List (List (List ℕ))) → runs ≡ length lives
-    → n ≡ length (emission_over a d lives) → restart_by a d lives ≡ restart_at Began runs n
-restart_is a d runs n [] e f = sym (cond-false (nat_lt 0 runs) (restart n ∷ []) [] (le-ltb 0 runs (omega (arith, e))))
-restart_is a d runs n (x ∷ more) e f =
-    ap (λ m. restart m ∷ []) (sym f)
-    ∙ sym (cond-true (nat_lt 0 runs) (restart n ∷ []) [] (lt-ltb 0 runs (omega (arith, e))))
-
-pub logged_with : (a d : ℕ) (t : Tracking) (runs n : ℕ) (lives : List (List (List ℕ))) → runs ≡ length lives
-    → n ≡ length (emission_over a d lives)
-    → logged_over a d (with_begun t lives) ≡ logged_over a d lives ++ log_text (restart_at t runs n)
-logged_with a d Searching runs n lives e f = sym (append-nil (logged_over a d lives))
-logged_with a d Sync runs n lives e f = sym (append-nil (logged_over a d lives))
-logged_with a d Data runs n lives e f = sym (append-nil (logged_over a d lives))
-logged_with a d Ended runs n lives e f = sym (append-nil (logged_over a d lives))
-logged_with a d Began runs n lives e f =
-    logged_begun a d lives ∙ ap (λ l. logged_over a d lives ++ log_text l) (restart_is a d runs n lives e f)
-
-pub tally_with_begun : (a d : ℕ) (t : Tracking) (lives : List (List (List ℕ)))
-    → lives_tally a d lives ≡ lives_tally a d (with_begun t lives)
-tally_with_begun a d Searching lives = refl
-tally_with_begun a d Sync lives = refl
-tally_with_begun a d Data lives = refl
-tally_with_begun a d Ended lives = refl
-tally_with_begun a d Began lives = tally_begun a d lives

@@ -4,9 +4,10 @@ use Rattle.std.specs.FinMap.{get}
 use Rattle.std.specs.Str.{bytes_eq}
 use Rattle.dtx_engine.specs.Recipe.{Recipe}
 use Rattle.dtx_meaning.specs.declared.status.Outcome.{Outcome}
+use Rattle.dtx_meaning.specs.Meaning.{Meaning}
 use Rattle.dtx_outside.specs.Shelf.{Files}
 use Rattle.dtx_receiver.specs.Packets.{all_packets, packets_so_far, received}
-use Rattle.dtx_jobs.specs.Giving.{Giving, all_bytes, answer_of, receiving_by}
+use Rattle.dtx_jobs.specs.Giving.{Giving, all_bytes, answer_of, receiving_by, given_of}
 use Rattle.dtx_words.specs.declared.rows.Command.TheVariants.{Receive}
 use Rattle.dtx_forms.specs.Job.{Job}
 use Rattle.dtx_forms.specs.Shapes.{segments}
@@ -37,3 +38,7 @@ abbrev pub IsWritten : List ℕ → List ℕ → Type 0
 IsWritten file bytes = (verb input output : List ℕ) (held : Files) → bytes_eq input output ≡ false
     → get held input ≡ Some file
     → (receive_job.means (verb ∷ input ∷ output ∷ []) held).outputs ≡ (output, bytes) ∷ []
+
+-- what `receive` answers and writes of all segments of some bytes, behind which so many are loose
+abbrev pub received_of : List (List ℕ) → List ℕ → ℕ → Meaning
+received_of names file loose = given_of with_corrections names file loose

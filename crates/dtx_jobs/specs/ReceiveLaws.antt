@@ -1,15 +1,14 @@
--- Laws of what `receive` makes of symbols: what is given where each word is corrected, and all of it.
-use Rattle.std.proofs.Common.{◌≡◌, ℕ, ℤ, List, [], length, map, ap, refl}
+-- Laws of what `receive` makes of symbols: what is given where each word is corrected.
+-- They stand here since the ghost members of an impl, a trait's laws, cite lemmas of specs/ alone.
+use Rattle.std.proofs.Common.{◌≡◌, ℤ, List, [], length, map, ap, refl}
 use Rattle.std.specs.List.{flat_map}
 use Rattle.std.proofs.lemmas.List.{nil_from_length}
-use Rattle.dtx_engine.specs.Made.{only, joined}
 use Rattle.dtx_receiver.specs.Bytes.{bytes_in}
-use Rattle.dtx_receiver.specs.CountingLaws.{nothing_given, given_more, all_more}
+use Rattle.dtx_receiver.proofs.CountingLemmas.{nothing_given, given_more, all_more}
 use Rattle.dtx_receiver.specs.Packets.{all_packets, run_packets, received}
 use Rattle.dtx_receiver.specs.Runs.{runs}
 use Rattle.dtx_jobs.specs.Giving.{IsGiving}
-use Rattle.dtx_jobs.specs.GivingLaws.{receives_whole}
-use Rattle.dtx_jobs.specs.Receive.{received_bytes, receiving, with_corrections}
+use Rattle.dtx_jobs.specs.Receive.{with_corrections}
 
 no_packets : (list : List (List ℤ)) → length (runs list) ≡ 0 → all_packets list ≡ []
 unfolding all_packets
@@ -27,7 +26,3 @@ corrections_given = record {
   packets = packets_are;
   no_run = no_packets;
 }
-
--- what is made of all segments is their packets
-pub receives_all : (file : List ℕ) → joined (receiving.made file) (receiving.rest file) ≡ only (received_bytes file)
-receives_all file = receives_whole with_corrections corrections_given file

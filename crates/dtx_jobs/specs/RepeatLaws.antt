@@ -1,26 +1,26 @@
 -- Laws of what is made of symbols that are sent again: it grows with them.
-use Rattle.std.proofs.Common.{◌≡◌, ℕ, ℤ, ◌%◌, ◌<◌, List, [], ◌∷◌, ◌++◌, length, take, drop, refl, sym, ap, ap₂, ◌∙◌}
-use Rattle.std.proofs.Common.{subst, arith}
+-- They stand here since the ghost members of an impl, a trait's laws, cite lemmas of specs/ alone.
+use Rattle.std.proofs.Common.{◌≡◌, ℕ, ℤ, ◌%◌, ◌<◌, List, [], ◌∷◌, ◌++◌, length, refl, sym, ap, ◌∙◌, subst, arith}
 use Rattle.std.proofs.Common.{append_assoc}
-use Rattle.std.proofs.lemmas.List.{append-nil, drop_at, take-append-drop}
-use Rattle.dtx_engine.specs.Made.{Made, only, joined, AreFrontsOf}
+use Rattle.std.proofs.lemmas.List.{append-nil}
+use Rattle.dtx_engine.specs.Made.{only, AreFrontsOf}
 use Rattle.dtx_exciter.specs.Log.{log}
 use Rattle.dtx_receiver.specs.Runs.{tracking}
 use Rattle.dtx_receiver.specs.declared.batch.Received.{Received}
 use Rattle.dtx_receiver.specs.declared.tracking.Tracking.{Tracking}
 use Rattle.dtx_receiver.specs.declared.tracking.Tracking.TheVariants.{Searching, Began, Sync, Data, Ended}
 use Rattle.dtx_repeat.specs.GoingOn.{longer, with_begun}
-use Rattle.dtx_repeat.specs.GoingOnLaws.{longer_none, longer_longer, length-longer}
-use Rattle.dtx_repeat.specs.Lives.{lives, lives_so_far, packets_in}
-use Rattle.dtx_repeat.specs.LivesLaws.{AreGiven, lives_more, lives_end, some_more, some_last, no_lives}
+use Rattle.dtx_repeat.proofs.GoingOnLemmas.{longer_none, longer_longer, length-longer}
+use Rattle.dtx_repeat.specs.Lives.{lives, lives_so_far, packets_in, AreGiven}
+use Rattle.dtx_repeat.proofs.LivesLemmas.{lives_more, some_more, no_lives}
 use Rattle.dtx_jobs.specs.Lives.{sent_over, logged_over}
 use Rattle.dtx_jobs.specs.LivesLaws.{sent_longer, logged_longer, sent_begun, logged_begun}
-use Rattle.dtx_jobs.specs.Repeat.{sent_in, repeating, repeated_files}
+use Rattle.dtx_jobs.specs.Repeat.{sent_in, repeating}
 use Rattle.dtx_jobs.specs.SymbolFile.{file_segments}
 use Rattle.dtx_jobs.specs.SymbolFileLaws.{file_segments-append}
 
 -- what lives make is a front part of what longer lives make
-abbrev Fronts : ℕ → ℕ → List (List (List ℕ)) → List (List (List ℕ)) → Type 0
+abbrev pub Fronts : ℕ → ℕ → List (List (List ℕ)) → List (List (List ℕ)) → Type 0
 Fronts a d before after = AreFrontsOf (sent_in a d before) (sent_in a d after)
 
 fronts_same : (a d : ℕ) (before after : List (List (List ℕ))) → after ≡ before → Fronts a d before after
@@ -29,7 +29,7 @@ fronts_same a d before after e = (
   ([], append-nil (logged_over a d before) ∙ ap (logged_over a d) (sym e)),
 )
 
-fronts_on : (a d : ℕ) (before between after : List (List (List ℕ))) → Fronts a d before between
+pub fronts_on : (a d : ℕ) (before between after : List (List (List ℕ))) → Fronts a d before between
     → Fronts a d between after → Fronts a d before after
 fronts_on a d before between after f g = (
   (
@@ -60,7 +60,7 @@ fronts_all a d lives (p ∷ packets) some =
     (subst (Fronts a d one) (longer_longer lives (p ∷ []) packets)
     (fronts_all a d one packets (omega (arith, some, length-longer lives (p ∷ [])))))
 
-fronts_given : (a d : ℕ) (before after : List (List (List ℕ))) (packets : List Received)
+pub fronts_given : (a d : ℕ) (before after : List (List (List ℕ))) (packets : List Received)
     → AreGiven before after packets → Fronts a d before after
 fronts_given a d [] after packets g =
     fronts_same a d [] after (g.0 ∙ ap (λ z. longer [] (packets_in z)) (g.1 refl))
@@ -88,17 +88,12 @@ fronts_segment a d s x =
     (fronts_given a d begun (lives_so_far (s ++ x ∷ [])) more.0 (lives_more s x more.0 more.1))
 
 -- with any segments more
-fronts_segments : (a d : ℕ) (s more : List (List ℤ)) → Fronts a d (lives_so_far s) (lives_so_far (s ++ more))
+pub fronts_segments : (a d : ℕ) (s more : List (List ℤ)) → Fronts a d (lives_so_far s) (lives_so_far (s ++ more))
 fronts_segments a d s [] = fronts_same a d (lives_so_far s) (lives_so_far (s ++ [])) (ap lives_so_far (append-nil s))
 fronts_segments a d s (x ∷ more) =
     fronts_on a d (lives_so_far s) (lives_so_far (s ++ x ∷ [])) (lives_so_far (s ++ x ∷ more)) (fronts_segment a d s x)
     (subst (λ z. Fronts a d (lives_so_far (s ++ x ∷ [])) (lives_so_far z)) (append_assoc s (x ∷ []) more)
     (fronts_segments a d (s ++ x ∷ []) more))
-
--- and at the end
-fronts_end : (a d : ℕ) (s : List (List ℤ)) → Fronts a d (lives_so_far s) (lives s)
-fronts_end a d s = let last = some_last s in
-    fronts_given a d (lives_so_far s) (lives s) last.0 (lives_end s last.0 last.1)
 
 -- ---- what is made
 
@@ -111,36 +106,3 @@ pub repeats_more : (a d : ℕ) (x y : List ℕ) → length x % 832 ≡ 0
 repeats_more a d x y whole =
     subst (λ s. Fronts a d (lives_so_far (file_segments x)) (lives_so_far s)) (sym (file_segments-append x y whole))
     (fronts_segments a d (file_segments x) (file_segments y))
-
--- what the end adds, where it brings these
-pub repeats_last : (a d : ℕ) (file symbols lines : List ℕ)
-    → sent_over a d (lives (file_segments file)) ≡ sent_over a d (lives_so_far (file_segments file)) ++ symbols
-    → logged_over a d (lives (file_segments file)) ≡ logged_over a d (lives_so_far (file_segments file)) ++ lines
-    → record { first = symbols; second = lines } ≡ (repeating a d).rest file
-repeats_last a d file symbols lines sent logged =
-    let s : List (List ℤ) = file_segments file in
-    let made : List ℕ → List ℕ → Made = λ x y. record { first = x; second = y } in
-    sym (ap₂ made
-    (ap (drop (length (sent_over a d (lives_so_far s)))) sent
-    ∙ drop_at (sent_over a d (lives_so_far s)) symbols (length (sent_over a d (lives_so_far s))) refl)
-    (ap (drop (length (logged_over a d (lives_so_far s)))) logged
-    ∙ drop_at (logged_over a d (lives_so_far s)) lines (length (logged_over a d (lives_so_far s))) refl))
-
--- what is made of all segments is what their runs give
-pub repeats_all : (a d : ℕ) (file : List ℕ)
-    → joined ((repeating a d).made file) ((repeating a d).rest file) ≡ repeated_files a d file
-repeats_all a d file =
-    let s : List (List ℤ) = file_segments file in
-    let end = fronts_end a d s in
-    let made : List ℕ → List ℕ → Made = λ x y. record { first = x; second = y } in
-    ap (joined ((repeating a d).made file)) (sym (repeats_last a d file end.0.0 end.1.0 (sym end.0.1) (sym end.1.1)))
-    ∙ ap₂ made end.0.1 end.1.1
-
--- what the first segments give while they come is in each output a front part of what all give
-pub repeats_front : (a d : ℕ) (list : List (List ℤ)) (n : ℕ)
-    → AreFrontsOf (sent_in a d (lives_so_far (take n list))) (sent_in a d (lives list))
-repeats_front a d list n =
-    fronts_on a d (lives_so_far (take n list)) (lives_so_far list) (lives list)
-    (subst (λ z. Fronts a d (lives_so_far (take n list)) (lives_so_far z)) (take-append-drop n list)
-    (fronts_segments a d (take n list) (drop n list)))
-    (fronts_end a d list)

@@ -1,29 +1,26 @@
 -- Laws of what `soft` makes, one segment after another.
+-- They stand here since the ghost members of an impl, a trait's laws, cite lemmas of specs/ alone.
 use Rattle.std.proofs.Common.{◌≡◌, ℕ, ℤ, zero, suc, ◌+◌, ◌-◌, ◌*◌, ◌/◌, ◌<◌, ◌≤◌, ◌⊎◌, inl, inr, Bool, true, false}
-use Rattle.std.proofs.Common.{cond, Option, Some, None, List, [], ◌∷◌, ◌++◌, length, map, sum, take, drop, get_or}
-use Rattle.std.proofs.Common.{min, unwrap_or, refl, sym, ap, ap₂, ◌∙◌, subst, arith}
+use Rattle.std.proofs.Common.{cond, Option, Some, None, List, [], ◌∷◌, ◌++◌, length, map, take, drop, get_or, min}
+use Rattle.std.proofs.Common.{unwrap_or, refl, sym, ap, ap₂, ◌∙◌, subst, arith}
 use Rattle.std.specs.List.{range_with_len}
 use Rattle.std.proofs.lemmas.Bool.{cases_lt}
 use Rattle.std.proofs.lemmas.List.{append_assoc, append-nil, drop-append-le, get_or-drop, get_or_append_left}
 use Rattle.std.proofs.lemmas.List.{length-append, length-drop, length_push, length-take-le, map-append, take-append-le}
-use Rattle.std.proofs.lemmas.List.Sums.{sum_by-append, sum_by-cons}
 use Rattle.std.proofs.lemmas.List.FromFn.{fill_by_all, length-map-range_with_len}
 use Rattle.std.proofs.Math.Seq.{get_or-append_seam}
 use Rattle.dtx_frame.specs.Detection.{looks_like}
 use Rattle.dtx_lists.proofs.Range.{map-range_same, range_with_len-parts}
 use Rattle.dtx_lists.proofs.RangeMoved.{map-range_moved}
-use Rattle.dtx_soft.specs.Coders.{coder_symbols}
-use Rattle.dtx_soft.specs.Paths.{cost, distance}
-use Rattle.dtx_soft.specs.Softened.{least_cost, softened, softened_cost, softened_segment}
-use Rattle.dtx_jobs.specs.Soft.{count_from, field_sum, flushed, groups_in, in_groups, next_place, pending, place_at}
-use Rattle.dtx_jobs.specs.Soft.{ahead, soft_at, soft_from, soft_rest, soft_so_far, soft_symbols}
-use Rattle.dtx_jobs.specs.SoftPlacesLaws.{IsFollowed, before_push, at_push, follows, place_copied, place_on}
-use Rattle.dtx_jobs.specs.SoftPlacesLaws.{place_ends}
+use Rattle.dtx_soft.specs.Softened.{softened, softened_segment}
+use Rattle.dtx_jobs.specs.Soft.{flushed, groups_in, in_groups, next_place, pending, ahead, soft_at, soft_from}
+use Rattle.dtx_jobs.specs.Soft.{soft_so_far}
+use Rattle.dtx_jobs.specs.SoftPlacesLaws.{IsFollowed, before_push, at_push, follows, place_copied, place_on, place_ends}
 use Rattle.dtx_jobs.specs.SoftPlacesLaws.{follows_on, place_small}
 
 -- ---- what stays
 
-part_stays : (s t : List (List ℤ)) (n : ℕ) → n + 312 ≤ length s → in_groups (s ++ t) n ≡ in_groups s n
+pub part_stays : (s t : List (List ℤ)) (n : ℕ) → n + 312 ≤ length s → in_groups (s ++ t) n ≡ in_groups s n
 unfolding in_groups
 part_stays s t n l =
     let all : 4 * (min 312 (length (s ++ t) - n) / 4) ≡ 312 = omega (arith, length-append s t) in
@@ -48,35 +45,15 @@ so_far_stays : (s t : List (List ℤ)) (n : ℕ) → IsFollowed s n
 so_far_stays s t n h =
     map-range_same (soft_at (s ++ t)) (soft_at s) 0 (length s - n) (λ i a b. soft_stays s t n i h (omega arith))
 
-abbrev count_at : (List (List ℤ) → ℕ) → List (List ℤ) → ℕ → ℕ
-count_at count s i = count_from count s i (place_at s i)
-
-count_stays : (count : List (List ℤ) → ℕ) (s t : List (List ℤ)) (n i : ℕ) → IsFollowed s n → i < length s - n
-    → count_at count (s ++ t) i ≡ count_at count s i
-count_stays count s t n i h l =
-    ap (count_from count (s ++ t) i) (before_push s t i (omega arith)) ∙ by_place (next_place (take i s)) refl
-  where
-    by_place : (o : Option ℕ) → next_place (take i s) ≡ o → count_from count (s ++ t) i o ≡ count_from count s i o
-    by_place None e = refl
-    by_place (Some zero) e = (let c = h.closed i 0 l e in ap count (part_stays s t i (omega (arith, c.1))))
-    by_place (Some (suc p)) e = refl
-
-field_sum_stays : (count : List (List ℤ) → ℕ) (s t : List (List ℤ)) (n : ℕ) → IsFollowed s n
-    → field_sum count (s ++ t) (length s - n) ≡ field_sum count s (length s - n)
-unfolding field_sum
-field_sum_stays count s t n h =
-    ap sum (map-range_same (count_at count (s ++ t)) (count_at count s) 0 (length s - n)
-    (λ i a b. count_stays count s t n i h (omega arith)))
-
 -- ---- a field
 
 -- the last n segments are the first n data segments of a field
-record IsField (s : List (List ℤ)) (first n : ℕ) : Type 0 where
-  few : n ≤ 312
-  long : first + n ≡ length s
-  places : (j : ℕ) → j < n → next_place (take (first + j) s) ≡ Some j
+pub record IsField (s : List (List ℤ)) (first n : ℕ) : Type 0 where
+  pub few : n ≤ 312
+  pub long : first + n ≡ length s
+  pub places : (j : ℕ) → j < n → next_place (take (first + j) s) ≡ Some j
 
-groups_are : (s : List (List ℤ)) (first n : ℕ) → IsField s first n → in_groups s first ≡ groups_in (drop first s)
+pub groups_are : (s : List (List ℤ)) (first n : ℕ) → IsField s first n → in_groups s first ≡ groups_in (drop first s)
 unfolding in_groups groups_in
 groups_are s first n h =
     let few = h.few in
@@ -123,7 +100,7 @@ length-flushed rows =
     let d = length-drop (4 * (length rows / 4)) rows in
     omega (arith, a, b, c, d)
 
-field_soft : (s : List (List ℤ)) (first n : ℕ) → IsField s first n
+pub field_soft : (s : List (List ℤ)) (first n : ℕ) → IsField s first n
     → map (soft_at s) (range_with_len first n) ≡ flushed (drop first s)
 field_soft s first n h =
     let rows = drop first s in
@@ -133,46 +110,9 @@ field_soft s first n h =
     ∙ ap (λ k. get_or (flushed rows) k []) (sym same)))
     ∙ sym (fill_by_all (λ j. get_or (flushed rows) j []) (flushed rows) n [] long (λ k l. refl))
 
-pub none_counts : (f : ℕ → ℕ) (a n : ℕ) → ((i : ℕ) → a ≤ i → i < a + n → f i ≡ 0) → sum (map f (range_with_len a n)) ≡ 0
-none_counts f a zero h = refl
-none_counts f a (suc n) h =
-    let first = h a (omega arith) (omega arith) in
-    let rest = none_counts f (a + 1) n (λ i l m. h i (omega arith) (omega arith)) in
-    let both : sum (f a ∷ map f (range_with_len (a + 1) n)) ≡ f a + sum (map f (range_with_len (a + 1) n)) =
-    sum_by-cons (λ x. x) (f a) (map f (range_with_len (a + 1) n)) in
-    both ∙ ap₂ (λ x y. x + y) first rest
-
-field_counts : (count : List (List ℤ) → ℕ) (s : List (List ℤ)) (first n : ℕ) → IsField s first n → count [] ≡ 0
-    → sum (map (count_at count s) (range_with_len first n)) ≡ count (groups_in (drop first s))
-field_counts count s first zero h none =
-    sym (ap count (empty (groups_in (drop first s))
-    (omega (arith, length-groups (drop first s), length-drop first s, h.long))) ∙ none)
-  where
-    empty : (xs : List (List ℤ)) → length xs ≡ 0 → xs ≡ []
-    empty [] e = refl
-    empty (x ∷ xs) e = absurd (omega arith)
-field_counts count s first (suc n) h none =
-    let here : count_at count s first ≡ count (groups_in (drop first s)) =
-    ap (λ i. count_from count s first (next_place (take i s))) (sym (same first))
-    ∙ ap (count_from count s first) (h.places 0 (omega arith)) ∙ ap count (groups_are s first (suc n) h) in
-    let rest : sum (map (count_at count s) (range_with_len (first + 1) n)) ≡ 0 =
-    none_counts (count_at count s) (first + 1) n (λ i l m. behind i (i - first - 1) (omega arith) (omega arith)) in
-    let both : sum (count_at count s first ∷ map (count_at count s) (range_with_len (first + 1) n))
-    ≡ count_at count s first + sum (map (count_at count s) (range_with_len (first + 1) n)) =
-    sum_by-cons (λ x. x) (count_at count s first) (map (count_at count s) (range_with_len (first + 1) n)) in
-    both ∙ ap₂ (λ x y. x + y) here rest ∙ same (count (groups_in (drop first s)))
-  where
-    same : (k : ℕ) → k + 0 ≡ k
-    same k = omega arith
-
-    behind : (i j : ℕ) → first + suc j ≡ i → suc j < suc n → count_at count s i ≡ 0
-    behind i j e l =
-        ap (λ k. count_from count s i (next_place (take k s))) (sym e)
-        ∙ ap (count_from count s i) (h.places (suc j) l)
-
 -- ---- the pieces
 
-followed_field : (s : List (List ℤ)) (n : ℕ) → IsFollowed s n → n ≤ 312 → IsField s (length s - n) n
+pub followed_field : (s : List (List ℤ)) (n : ℕ) → IsFollowed s n → n ≤ 312 → IsField s (length s - n) n
 followed_field s n h l = record { few = l; long = omega (arith, h.within); places = h.places }
 
 pub pending_copied : (s : List (List ℤ)) (x : List ℤ) → next_place s ≡ None → pending (s ++ x ∷ []) ≡ 0
@@ -189,19 +129,19 @@ follows_at : (s : List (List ℤ)) (o : Option ℕ) → next_place s ≡ o → I
 follows_at s o e = subst (IsFollowed s) (pending_is s o e) (follows s)
 
 -- what is ahead with one segment more: all that was, and behind it so many of the n that were not and of that one
-record IsAhead (s : List (List ℤ)) (x : List ℤ) (n more : ℕ) : Type 0 where
-  followed : IsFollowed s n
-  all : ahead (s ++ x ∷ []) ≡ (length s - n) + more
-  own : length s - n ≡ ahead s
+pub record IsAhead (s : List (List ℤ)) (x : List ℤ) (n more : ℕ) : Type 0 where
+  pub followed : IsFollowed s n
+  pub all : ahead (s ++ x ∷ []) ≡ (length s - n) + more
+  pub own : length s - n ≡ ahead s
 
-ahead_copied : (s : List (List ℤ)) (x : List ℤ) → next_place s ≡ None → IsAhead s x 0 1
+pub ahead_copied : (s : List (List ℤ)) (x : List ℤ) → next_place s ≡ None → IsAhead s x 0 1
 ahead_copied s x e = record {
   followed = follows_at s None e;
   all = omega (arith, pending_copied s x e, length_push s x);
   own = omega (arith, pending_is s None e);
 }
 
-ahead_kept : (s : List (List ℤ)) (x : List ℤ) (p : ℕ) → next_place s ≡ Some p → p + 1 < 312 → IsAhead s x p 0
+pub ahead_kept : (s : List (List ℤ)) (x : List ℤ) (p : ℕ) → next_place s ≡ Some p → p + 1 < 312 → IsAhead s x p 0
 ahead_kept s x p e l =
     let on = pending_is (s ++ x ∷ []) (Some (p + 1)) (place_on s x p e l) in
     record {
@@ -210,7 +150,7 @@ ahead_kept s x p e l =
       own = omega (arith, pending_is s (Some p) e);
     }
 
-ahead_full : (s : List (List ℤ)) (x : List ℤ) → next_place s ≡ Some 311 → IsAhead s x 311 312
+pub ahead_full : (s : List (List ℤ)) (x : List ℤ) → next_place s ≡ Some 311 → IsAhead s x 311 312
 ahead_full s x e =
     let f = follows_at s (Some 311) e in
     let within = f.within in
@@ -222,7 +162,7 @@ ahead_full s x e =
     }
 
 -- the field that is full with the segment
-full_field : (s : List (List ℤ)) (x : List ℤ) → next_place s ≡ Some 311 → IsFollowed s 311
+pub full_field : (s : List (List ℤ)) (x : List ℤ) → next_place s ≡ Some 311 → IsFollowed s 311
     → IsField (s ++ x ∷ []) (length s - 311) 312
 full_field s x e f = field_of (length (s ++ x ∷ []) - 312) (omega (arith, length_push s x))
     (followed_field (s ++ x ∷ []) 312 (follows_on s x 311 f e) (omega arith))
@@ -231,7 +171,7 @@ full_field s x e f = field_of (length (s ++ x ∷ []) - 312) (omega (arith, leng
     field_of n e h = subst (λ n. IsField (s ++ x ∷ []) n 312) e h
 
 -- and its segments
-full_rows : (s : List (List ℤ)) (x : List ℤ) → IsAhead s x 311 312
+pub full_rows : (s : List (List ℤ)) (x : List ℤ) → IsAhead s x 311 312
     → drop (length s - 311) (s ++ x ∷ []) ≡ drop (ahead s) s ++ x ∷ []
 full_rows s x h = drop-append-le (length s - 311) s (x ∷ []) (omega arith) ∙ ap (λ n. drop n s ++ x ∷ []) h.own
 
@@ -271,29 +211,6 @@ so_far_full s x e =
     (ap (λ n. map (soft_at (s ++ x ∷ [])) (range_with_len n 312)) zero_on
     ∙ field_soft (s ++ x ∷ []) (length s - 311) 312 (full_field s x e h.followed) ∙ ap flushed (full_rows s x h))
 
-pending_few : (s : List (List ℤ)) → pending s ≤ 312
-pending_few s = by_place (next_place s) refl
-  where
-    by_place : (o : Option ℕ) → next_place s ≡ o → unwrap_or o 0 ≤ 312
-    by_place None e = omega arith
-    by_place (Some p) e = (let l = place_small s p e in omega (arith, l))
-
-pub rest_is : (s : List (List ℤ)) → soft_rest s ≡ flushed (drop (ahead s) s)
-unfolding soft_rest
-rest_is s = field_soft s (ahead s) (pending s) (followed_field s (pending s) (follows s) (pending_few s))
-
-pub all_is : (s : List (List ℤ)) → soft_so_far s ++ soft_rest s ≡ soft_symbols s
-unfolding soft_so_far soft_rest soft_symbols
-all_is s =
-    let f = follows s in
-    let parts : ahead s + pending s ≡ length s = omega (arith, f.within) in
-    let zero_on : 0 + ahead s ≡ ahead s = omega arith in
-    sym (ap (λ n. map (soft_at s) (range_with_len 0 n)) (sym parts)
-    ∙ ap (map (soft_at s)) (range_with_len-parts 0 (ahead s) (pending s))
-    ∙ map-append (soft_at s) (range_with_len 0 (ahead s)) (range_with_len (0 + ahead s) (pending s))
-    ∙ ap (λ n. map (soft_at s) (range_with_len 0 (ahead s))
-    ++ map (soft_at s) (range_with_len n (pending s))) zero_on)
-
 -- ---- with more segments more is made
 
 pub one_on : (s : List (List ℤ)) (x : List ℤ)
@@ -332,71 +249,5 @@ none_so_far =
 
 -- ---- numbers
 
-field_sum_more : (count : List (List ℤ) → ℕ) (s : List (List ℤ)) (m n : ℕ)
-    → field_sum count s (m + n) ≡ field_sum count s m + sum (map (count_at count s) (range_with_len m n))
-unfolding field_sum
-field_sum_more count s m n =
-    let on : 0 + m ≡ m = omega arith in
-    ap (λ r. sum (map (count_at count s) r)) (range_with_len-parts 0 m n)
-    ∙ ap sum (map-append (count_at count s) (range_with_len 0 m) (range_with_len (0 + m) n))
-    ∙ sum_by-append (λ x. x) (map (count_at count s) (range_with_len 0 m))
-    (map (count_at count s) (range_with_len (0 + m) n))
-    ∙ ap (λ k. sum (map (count_at count s) (range_with_len 0 m))
-    + sum (map (count_at count s) (range_with_len k n))) on
-
-pub count_copied : (count : List (List ℤ) → ℕ) (s : List (List ℤ)) (x : List ℤ) → next_place s ≡ None
-    → field_sum count (s ++ x ∷ []) (ahead (s ++ x ∷ [])) ≡ field_sum count s (ahead s)
-count_copied count s x e =
-    let h = ahead_copied s x e in
-    let here : count_at count (s ++ x ∷ []) (length s - 0) ≡ 0 =
-    ap (count_from count (s ++ x ∷ []) (length s - 0)) (at_push s x (length s - 0) (omega arith) ∙ e) in
-    ap (field_sum count (s ++ x ∷ [])) h.all ∙ field_sum_more count (s ++ x ∷ []) (length s - 0) 1
-    ∙ ap₂ (λ a b. a + b) (field_sum_stays count s (x ∷ []) 0 h.followed ∙ ap (field_sum count s) h.own)
-    (none_counts (count_at count (s ++ x ∷ [])) (length s - 0) 1
-    (λ i a b. (let same : length s - 0 ≡ i = omega arith in ap (count_at count (s ++ x ∷ [])) (sym same) ∙ here)))
-    ∙ nothing_more (field_sum count s (ahead s))
-  where
-    nothing_more : (n : ℕ) → n + 0 ≡ n
-    nothing_more n = omega arith
-
-pub count_kept : (count : List (List ℤ) → ℕ) (s : List (List ℤ)) (x : List ℤ) (p : ℕ) → next_place s ≡ Some p
-    → p + 1 < 312 → field_sum count (s ++ x ∷ []) (ahead (s ++ x ∷ [])) ≡ field_sum count s (ahead s)
-count_kept count s x p e l =
-    let h = ahead_kept s x p e l in
-    let all : ahead (s ++ x ∷ []) ≡ length s - p = omega (arith, h.all) in
-    ap (field_sum count (s ++ x ∷ [])) all ∙ field_sum_stays count s (x ∷ []) p h.followed
-    ∙ ap (field_sum count s) h.own
-
-pub count_full : (count : List (List ℤ) → ℕ) (s : List (List ℤ)) (x : List ℤ) → next_place s ≡ Some 311
-    → count [] ≡ 0
-    → field_sum count (s ++ x ∷ []) (ahead (s ++ x ∷ []))
-    ≡ field_sum count s (ahead s) + count (groups_in (drop (ahead s) s ++ x ∷ []))
-count_full count s x e none =
-    let h = ahead_full s x e in
-    ap (field_sum count (s ++ x ∷ [])) h.all ∙ field_sum_more count (s ++ x ∷ []) (length s - 311) 312
-    ∙ ap₂ (λ a b. a + b) (field_sum_stays count s (x ∷ []) 311 h.followed ∙ ap (field_sum count s) h.own)
-    (field_counts count (s ++ x ∷ []) (length s - 311) 312 (full_field s x e h.followed) none
-    ∙ ap (λ rows. count (groups_in rows)) (full_rows s x h))
-
-pub count_rest : (count : List (List ℤ) → ℕ) (s : List (List ℤ)) → count [] ≡ 0
-    → field_sum count s (length s) ≡ field_sum count s (ahead s) + count (groups_in (drop (ahead s) s))
-count_rest count s none =
-    let f = follows s in
-    let parts : ahead s + pending s ≡ length s = omega (arith, f.within) in
-    ap (field_sum count s) (sym parts) ∙ field_sum_more count s (ahead s) (pending s)
-    ∙ ap (λ n. field_sum count s (ahead s) + n)
-    (field_counts count s (ahead s) (pending s) (followed_field s (pending s) f (pending_few s)) none)
-
-pub field_sum_none : (count : List (List ℤ) → ℕ) → field_sum count [] (ahead []) ≡ 0
-unfolding field_sum
-field_sum_none count =
-    let none : ahead [] ≡ 0 = omega arith in
-    ap (λ n. sum (map (count_at count []) (range_with_len 0 n))) none
-
 pub within : (s : List (List ℤ)) (p : ℕ) → next_place s ≡ Some p → p ≤ length s
 within s p e = (follows_at s (Some p) e).within
-
--- no segments cost nothing
-pub no_cost : softened_cost 1 [] ≡ 0
-unfolding softened_cost least_cost cost coder_symbols distance
-no_cost = refl

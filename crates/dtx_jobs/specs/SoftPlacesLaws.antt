@@ -1,4 +1,5 @@
 -- Laws of the places of segments: how they go on, and that those of a field follow one another.
+-- They stand here since the ghost members of an impl, a trait's laws, cite lemmas of specs/ alone.
 use Rattle.std.proofs.Common.{◌≡◌, ◌≢◌, ℕ, ℤ, ◌+◌, ◌-◌, ◌%◌, ◌<◌, ◌≤◌, ◌⊎◌, inl, inr, ◌==◌, Bool, true, false}
 use Rattle.std.proofs.Common.{cond, Option, Some, None, List, [], ◌∷◌, ◌++◌, length, take, unwrap_or, refl, sym, ap}
 use Rattle.std.proofs.Common.{◌∙◌, subst, arith}
@@ -6,7 +7,7 @@ use Rattle.std.proofs.lemmas.Bool.{cases_lt, cond-false, eqb-true, eqb-false, ne
 use Rattle.std.proofs.lemmas.List.{append_assoc, append-nil, length_push, take-append-le}
 use Rattle.std.proofs.Math.Seq.{take-append_seam}
 use Rattle.dtx_frame.specs.Detection.{looks_like}
-use Rattle.dtx_receiver.specs.FollowingLaws.{next_is}
+use Rattle.dtx_receiver.proofs.FollowingLemmas.{next_is}
 use Rattle.dtx_receiver.specs.Runs.{sync_due, Tracked, tracked}
 use Rattle.dtx_jobs.specs.Soft.{next_place, pending, place_in}
 

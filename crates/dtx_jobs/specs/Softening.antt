@@ -1,7 +1,7 @@
 -- What is kept while symbols are softened.
 use Rattle.std.specs.Prelude.{◌≡◌, ℕ, ℤ, pos, ◌*◌, ◌<◌, ◌≤◌, nat_abs, IfSome, List, length, take, drop, slice_index_or}
 use Rattle.std.specs.Prelude.{unwrap_or, vec_len}
-use Rattle.dtx_soft.specs.CostLaws.{AreSigned}
+use Rattle.dtx_soft.specs.Signed.{AreSigned}
 use Rattle.dtx_soft.specs.Softened.{softened_cost}
 use Rattle.dtx_jobs.specs.declared.softening.Softening.{Softening}
 use Rattle.dtx_jobs.specs.declared.softening.TheConstants.{MOST_COST}

@@ -1,11 +1,9 @@
 -- Laws of the segments of a symbol file that is read piece by piece.
-use Rattle.std.proofs.Common.{◌≡◌, ℕ, ◌+◌, ◌-◌, ◌*◌, ◌%◌, ◌<◌, ◌≤◌, List, [], ◌∷◌, ◌++◌}
-use Rattle.std.proofs.Common.{length, take, drop, map, refl, sym, ap, ◌∙◌, arith}
-use Rattle.std.specs.Prelude.{ℤ}
-use Rattle.std.proofs.lemmas.List.{drop-drop, drop-take, take-take, map-append, append_assoc, length-append}
-use Rattle.std.proofs.lemmas.List.{length-take-le, take_at}
+-- They stand here since the ghost members of an impl, a trait's laws, cite lemmas of specs/ alone.
+use Rattle.std.proofs.Common.{◌≡◌, ℕ, ◌+◌, ◌-◌, ◌*◌, ◌%◌, ◌<◌, List, [], ◌++◌, length, take, drop, map, refl, sym, ap}
+use Rattle.std.proofs.Common.{◌∙◌, arith}
+use Rattle.std.proofs.lemmas.List.{drop-drop, drop-take, take-take, map-append, length-append}
 use Rattle.std.proofs.lemmas.List.FromFn.{get_or-map-range_with_len, length-map-range_with_len, fill_by_all}
-use Rattle.std.proofs.lemmas.List.FromFn.{map-range_with_len_more}
 use Rattle.std.proofs.Math.Seq.{take-append_seam, drop-append_seam}
 use Rattle.std.specs.List.{range_with_len}
 use Rattle.dtx_lists.proofs.Range.{range_with_len-parts}
@@ -40,10 +38,6 @@ segments_from-piece file first n =
     (λ k less. get_or-map-range_with_len (segment_at file) first n k (first + k) [] less refl
     ∙ sym (segment_at-piece file first n k less)))
 
--- how many segments bytes have
-pub length-segments_of : (file : List ℕ) → length (file_segments file) ≡ whole_segments file
-length-segments_of file = length-map-range_with_len (segment_at file) 0 (whole_segments file)
-
 -- the segments of bytes behind whole segments
 pub file_segments-append : (a b : List ℕ) → length a % 832 ≡ 0
     → file_segments (a ++ b) ≡ file_segments a ++ file_segments b
@@ -63,33 +57,3 @@ file_segments-append a b whole =
     ∙ ap (λ z. segments_from (take (832 * n) z) 0 n) behind ∙ segments_from-piece b 0 n in
     ap (segments_from (a ++ b) 0) both ∙ segments_from-append (a ++ b) 0 m n
     ∙ ap (λ z. z ++ segments_from (a ++ b) (0 + m) n) first ∙ ap (λ z. file_segments a ++ z) second
-
--- where all whole segments were read, the bytes behind them are in none
-pub file_segments-whole : (file : List ℕ) → file_segments (take (832 * whole_segments file) file) ≡ file_segments file
-file_segments-whole file =
-    let all : length (take (832 * whole_segments file) file) ≡ 832 * whole_segments file =
-    length-take-le (832 * whole_segments file) file (omega arith) in
-    let many : whole_segments (take (832 * whole_segments file) file) ≡ whole_segments file = omega (arith, all) in
-    ap (segments_from (take (832 * whole_segments file) file) 0) many ∙ segments_from-piece file 0 (whole_segments file)
-
--- the first segments of a file
-pub first_segments : (file : List ℕ) (n : ℕ) → n ≤ whole_segments file
-    → file_segments (take (832 * n) file) ≡ take n (file_segments file)
-first_segments file n within =
-    let long : length (take (832 * n) file) ≡ 832 * n = length-take-le (832 * n) file (omega (arith, within)) in
-    let many : whole_segments (take (832 * n) file) ≡ n = omega (arith, long) in
-    let all : whole_segments file ≡ n + (whole_segments file - n) = omega (arith, within) in
-    ap (segments_from (take (832 * n) file) 0) many ∙ segments_from-piece file 0 n
-    ∙ sym (ap (λ m. take n (segments_from file 0 m)) all
-    ∙ ap (take n) (segments_from-append file 0 n (whole_segments file - n))
-    ∙ take_at (segments_from file 0 n) (segments_from file (0 + n) (whole_segments file - n)) n
-    (length-map-range_with_len (segment_at file) 0 n))
-
--- one segment more of a piece, behind those before
-pub segment_on : (segments : List (List ℤ)) (bytes : List ℕ) (i : ℕ) (chunk : List ℕ)
-    → chunk ≡ take 832 (drop (832 * i) bytes)
-    → (segments ++ segments_from bytes 0 i) ++ symbols chunk ∷ [] ≡ segments ++ segments_from bytes 0 (i + 1)
-segment_on segments bytes i chunk is =
-    append_assoc segments (segments_from bytes 0 i) (symbols chunk ∷ [])
-    ∙ ap (λ z. segments ++ z) (ap (λ x. segments_from bytes 0 i ++ symbols x ∷ []) is
-    ∙ sym (map-range_with_len_more (segment_at bytes) 0 i i (omega arith)))

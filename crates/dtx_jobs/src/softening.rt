@@ -5,7 +5,7 @@ ghost use Rattle.std.specs.Prelude.{vec_len};
 ghost use Rattle.std.specs.Prelude.{slice_index_or, IfSome, unwrap_or, if◌then◌else◌};
 ghost use Rattle.dtx_files.specs.Symbols.{segment_bytes};
 ghost use Rattle.dtx_frame.specs.Detection.{looks_like};
-ghost use Rattle.dtx_soft.specs.CostLaws.{AreSigned};
+ghost use Rattle.dtx_soft.specs.Signed.{AreSigned};
 ghost use Rattle.dtx_soft.specs.Softened.{softened_cost};
 ghost use Rattle.dtx_jobs.specs.Soft.{flushed, groups_in, has_group, soft_rest, soft_so_far};
 ghost use Rattle.dtx_jobs.specs.Softening.{IsKept, IsSigned, IsSoftening, kept_rows};

@@ -4,8 +4,8 @@ use Rattle.std.proofs.lemmas.List.{length-take-le}
 use Rattle.dtx_galois.specs.Field.{AreBytes}
 use Rattle.dtx_laws.specs.Codeword.{IsCode, IsCodeword}
 use Rattle.dtx_laws.specs.Words.{codeword}
-use Rattle.dtx_laws.specs.ChoiceLaws.{codeword_is, codeword_begins}
-use Rattle.dtx_laws.specs.PartsLaws.{bytes_take}
+use Rattle.dtx_laws.proofs.ChoiceLemmas.{codeword_is, codeword_begins}
+use Rattle.dtx_laws.proofs.PartsLemmas.{bytes_take}
 
 length_head : (n k : ℕ) (word head : List ℕ) → IsCode n k → length word ≡ n → head ≡ take k word → length head ≡ k
 length_head n k word head c l h = ap length h ∙ length-take-le k word (omega (arith, c.longer))

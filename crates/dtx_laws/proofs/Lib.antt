@@ -1,2 +1,17 @@
+pub mod EncodingLemmas
+pub mod GatheringLemmas
+pub mod InterleavingLemmas
+pub mod PartsLemmas
+pub mod PlacesLemmas
+pub mod WhiteningLemmas
+pub mod MomentsLemmas
+pub mod WordsLemmas
+pub mod ChoiceLemmas
+pub mod CompletedLemmas
+pub mod AnswersLemmas
+pub mod PatchingLemmas
+pub mod KernelLemmas
+pub mod OthersLemmas
+pub mod PairsLemmas
 pub mod Turns
 pub mod Encoded

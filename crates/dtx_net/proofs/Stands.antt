@@ -12,8 +12,8 @@ use Rattle.dtx_net.specs.declared.net.Net.{Net}
 use Rattle.dtx_net.specs.Steps.{Step}
 use Rattle.dtx_net.specs.Lives.{last_life}
 use Rattle.dtx_net.specs.Standing.{StandsFor, AreNew, ChangesOnly}
-use Rattle.dtx_net.specs.PlacesLaws.{set_here, set_elsewhere, pushed_here}
-use Rattle.dtx_net.specs.LastLifeLaws.{last_elsewhere}
+use Rattle.dtx_net.proofs.PlacesLemmas.{set_here, set_elsewhere, pushed_here}
+use Rattle.dtx_net.proofs.LastLifeLemmas.{last_elsewhere}
 
 some_same : {X : Type 0} (x y : X) → Some x ≡ Some y → x ≡ y
 some_same x y e = cc

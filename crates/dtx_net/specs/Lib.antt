@@ -3,8 +3,3 @@ pub mod Steps
 pub mod Lives
 pub mod Sent
 pub mod Standing
-pub mod GrowsLaws
-pub mod LastLifeLaws
-pub mod OwnLaws
-pub mod PlaceOfLaws
-pub mod PlacesLaws

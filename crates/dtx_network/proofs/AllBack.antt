@@ -3,11 +3,11 @@ use Rattle.std.proofs.Common.{◌≡◌, ℕ, ℤ, ◌+◌, ◌-◌, ◌*◌, �
 use Rattle.std.proofs.Common.{get_or, sym, ap, ap₂, subst, ◌∙◌, arith}
 use Rattle.std.proofs.lemmas.List.{length-drop, length-take-le}
 use Rattle.dtx_coder.specs.Stream.{a53}
-use Rattle.dtx_coder.specs.CountsLaws.{length-a53}
+use Rattle.dtx_coder.proofs.CountsLemmas.{length-a53}
 use Rattle.dtx_chain.specs.Undamaged.{ArePackets, as_received}
 use Rattle.dtx_chain.specs.Damage.{AreReceived, to_sync, from_sync, packet_behind, numbers_in}
-use Rattle.dtx_chain.specs.SlightLaws.{one_run_left}
-use Rattle.dtx_chain.specs.AllBackLaws.{all_back, none_flagged}
+use Rattle.dtx_chain.proofs.SlightLemmas.{one_run_left}
+use Rattle.dtx_chain.proofs.AllBackLemmas.{all_back, none_flagged}
 use Rattle.dtx_exciter.specs.Lockstep.{segment_place}
 use Rattle.dtx_network.specs.Headline.{last_packet, stretch_of}
 use Rattle.dtx_network.specs.GivesBack.{BeginsField, to_field, next_field, GivesAllBack}

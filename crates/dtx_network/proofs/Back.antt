@@ -9,9 +9,9 @@ use Rattle.dtx_receiver.specs.Packets.{received_at, run_packets, all_packets, re
 use Rattle.dtx_receiver.specs.declared.batch.Received.{Received}
 use Rattle.dtx_chain.specs.Undamaged.{ArePackets}
 use Rattle.dtx_chain.specs.Damage.{as_corrected}
-use Rattle.dtx_chain.specs.NumbersLaws.{number_at}
-use Rattle.dtx_chain.specs.RunsLaws.{by_run, middle_at}
-use Rattle.dtx_chain.specs.WordsLaws.{corrected_back, corrected_packet}
+use Rattle.dtx_chain.proofs.NumbersLemmas.{number_at}
+use Rattle.dtx_chain.proofs.RunsLemmas.{by_run, middle_at}
+use Rattle.dtx_chain.proofs.WordsLemmas.{corrected_back, corrected_packet}
 use Rattle.dtx_network.specs.Headline.{last_packet}
 use Rattle.dtx_network.specs.GivesBack.{BeginsField, to_field, word_of, CanBeGivenBack, packets_of_runs, IsBack}
 use Rattle.dtx_network.specs.GivesBack.{GivesBack}

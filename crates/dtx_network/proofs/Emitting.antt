@@ -8,7 +8,7 @@ use Rattle.std.proofs.lemmas.Bool.{cond-true, and_from, eq-eqb}
 use Rattle.std.proofs.lemmas.List.{length-append}
 use Rattle.std.proofs.lemmas.List.Elements.{All-append, All-weaker, All-contains, Contains-append_cases}
 use Rattle.dtx_clock.specs.Clock.{stamp_of, grains_of, DifferBy}
-use Rattle.dtx_clock.specs.MomentsLaws.{moments_differ}
+use Rattle.dtx_clock.proofs.MomentsLemmas.{moments_differ}
 use Rattle.dtx_plan.specs.declared.plan.Plan.{Plan}
 use Rattle.dtx_plan.specs.declared.transmitter.Transmitter.{Transmitter}
 use Rattle.dtx_ops.specs.declared.fields.Ops.{Ops}
@@ -20,8 +20,8 @@ use Rattle.dtx_exciter.specs.Emission.{emission}
 use Rattle.dtx_exciter.specs.Lockstep.{IsFeed, IsStretch, locked_from, segment_place, stretch}
 use Rattle.dtx_exciter.specs.Log.{Line, preset, life_lines, log, restarted_lines, restarting_lines, emission_over}
 use Rattle.dtx_exciter.specs.Stretch.{emission_behind, lines_behind, before_stretch, stretch_lines, IsApart}
-use Rattle.dtx_exciter.specs.InLivesLaws.{stretch_segments, stretch_log}
-use Rattle.dtx_exciter.specs.LockstepIsLaws.{lockstep_is, lockstep_on, length-before}
+use Rattle.dtx_exciter.proofs.InLivesLemmas.{stretch_segments, stretch_log}
+use Rattle.dtx_exciter.proofs.LockstepIsLemmas.{lockstep_is, lockstep_on, length-before}
 use Rattle.dtx_network.specs.Plans.{IsPlan, IsStream, IsListed, IsInTime}
 use Rattle.dtx_network.specs.Orders.{has_order, has_listing}
 use Rattle.dtx_network.specs.Presets.{orders, moment_at, preset_at, presets}

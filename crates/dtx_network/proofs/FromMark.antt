@@ -12,7 +12,7 @@ use Rattle.std.proofs.lemmas.List.{length-take-le, take-map, take-take, take_mor
 use Rattle.dtx_packets.specs.Packet.{sync_of}
 use Rattle.dtx_cadence.specs.Anchor.{has_mark, anchor, seen_by, seen}
 use Rattle.dtx_cadence.specs.Cadence.{IsInStep}
-use Rattle.dtx_cadence.specs.NextAnchorLaws.{anchor_below, anchor_is_mark}
+use Rattle.dtx_cadence.proofs.NextAnchorLemmas.{anchor_below, anchor_is_mark}
 use Rattle.dtx_plan.specs.declared.plan.Plan.{Plan}
 use Rattle.dtx_plan.specs.declared.transmitter.Transmitter.{Transmitter}
 use Rattle.dtx_adapter.specs.Feed.{paging_at, is_listed, filled_groups, feed}
@@ -29,13 +29,13 @@ use Rattle.dtx_exciter.specs.Emission.{emission}
 use Rattle.dtx_exciter.specs.Lockstep.{IsFeed, IsStretch, locked_by, locked_from, stretch}
 use Rattle.dtx_exciter.specs.Log.{line_of, life_lines}
 use Rattle.dtx_exciter.specs.Stretch.{emission_behind, lines_behind, sync_behind, before_stretch, stretch_lines}
-use Rattle.dtx_exciter.specs.EmittedLaws.{emission_more}
-use Rattle.dtx_exciter.specs.ForceLaws.{IsBehind, counted_behind}
-use Rattle.dtx_exciter.specs.InLifeLaws.{counted_same}
-use Rattle.dtx_exciter.specs.UnderLaws.{length-syncs, length-said, told_seen, goes}
-use Rattle.dtx_exciter.specs.FollowedLaws.{Follows, follows, after, after_more, syncs_append, told_is}
-use Rattle.dtx_exciter.specs.LockstepIsLaws.{lockstep_is}
-use Rattle.dtx_exciter.specs.LinesLaws.{lines_more, lines_is}
+use Rattle.dtx_exciter.proofs.EmittedLemmas.{emission_more}
+use Rattle.dtx_exciter.proofs.ForceLemmas.{IsBehind, counted_behind}
+use Rattle.dtx_exciter.proofs.InLifeLemmas.{counted_same}
+use Rattle.dtx_exciter.proofs.UnderLemmas.{length-syncs, length-said, told_seen, goes}
+use Rattle.dtx_exciter.proofs.FollowedLemmas.{Follows, follows, after, after_more, syncs_append, told_is}
+use Rattle.dtx_exciter.proofs.LockstepIsLemmas.{lockstep_is}
+use Rattle.dtx_exciter.proofs.LinesLemmas.{lines_more, lines_is}
 use Rattle.dtx_network.specs.Plans.{IsPlan, IsStream}
 use Rattle.dtx_network.specs.Orders.{has_order}
 use Rattle.dtx_network.specs.Presets.{presets}

@@ -15,7 +15,7 @@ use Rattle.dtx_plan.specs.declared.plan.Plan.{Plan}
 use Rattle.dtx_plan.specs.declared.transmitter.Transmitter.{Transmitter}
 use Rattle.dtx_adapter.specs.Feed.{entry_of, pages_for, paging_of, paging_at, listed, is_listed, filled_groups, ops_at}
 use Rattle.dtx_adapter.specs.Feed.{feed}
-use Rattle.dtx_adapter.specs.PagesLaws.{paging_of-few, paging_of-many, entry_on_page}
+use Rattle.dtx_adapter.proofs.PagesLemmas.{paging_of-few, paging_of-many, entry_on_page}
 use Rattle.dtx_exciter.specs.Pages as pages
 use Rattle.dtx_exciter.specs.Packets.{reads}
 use Rattle.dtx_network.specs.Plans.{IsPlan, IsStream}

@@ -20,17 +20,17 @@ use Rattle.dtx_plan.specs.declared.event.Event.TheVariants.{Send}
 use Rattle.dtx_plan.specs.TransmitterTable.{addresses_of}
 use Rattle.dtx_plan.specs.Sound.{IsEvent, to_of}
 use Rattle.dtx_adapter.specs.Feed.{feed}
-use Rattle.dtx_adapter.specs.FeedsLaws.{length-feed}
+use Rattle.dtx_adapter.proofs.FeedsLemmas.{length-feed}
 use Rattle.dtx_exciter.specs.Emission.{emission}
-use Rattle.dtx_exciter.specs.LockedLaws.{locked_nothing, locked_soon}
+use Rattle.dtx_exciter.proofs.LockedLemmas.{locked_nothing, locked_soon}
 use Rattle.dtx_exciter.specs.Lockstep.{locked_from}
 use Rattle.dtx_exciter.specs.Log.{emission_over}
 use Rattle.dtx_net.specs.Sent.{sent_segments}
 use Rattle.dtx_net.specs.Steps.{Step, transmitter_place, actions_of, steps_at, steps_of, schedule}
 use Rattle.dtx_net.specs.Lives.{own_steps, lives_from, lives_of, last_life}
-use Rattle.dtx_net.specs.LastLifeLaws.{last_life_is}
-use Rattle.dtx_net.specs.OwnLaws.{own_here, own_elsewhere}
-use Rattle.dtx_net.specs.PlaceOfLaws.{place_found, place_only}
+use Rattle.dtx_net.proofs.LastLifeLemmas.{last_life_is}
+use Rattle.dtx_net.proofs.OwnLemmas.{own_here, own_elsewhere}
+use Rattle.dtx_net.proofs.PlaceOfLemmas.{place_found, place_only}
 use Rattle.dtx_network.specs.Plans.{IsPlan, IsStream, IsInTime}
 use Rattle.dtx_network.specs.Orders.{has_listing, pages_in}
 use Rattle.dtx_network.specs.Presets.{orders}

@@ -15,13 +15,13 @@ use Rattle.dtx_coder.specs.Stream.{states}
 use Rattle.dtx_ops.specs.declared.fields.Ops.{Ops}
 use Rattle.dtx_ops.specs.Spelling.{IsEntry}
 use Rattle.dtx_ops.specs.Reading.{reading}
-use Rattle.dtx_ops.specs.ReadingsLaws.{read_as}
-use Rattle.dtx_ops.specs.RefusingLaws.{reading_other}
+use Rattle.dtx_ops.proofs.ReadingsLemmas.{read_as}
+use Rattle.dtx_ops.proofs.RefusingLemmas.{reading_other}
 use Rattle.dtx_plan.specs.declared.plan.Plan.{Plan}
 use Rattle.dtx_plan.specs.Sound.{IsTransmitter}
 use Rattle.dtx_adapter.specs.Feed.{entry_of, paging_at, listed, ops_at, feed}
-use Rattle.dtx_adapter.specs.FeedsLaws.{length-feed}
-use Rattle.dtx_adapter.specs.ReadingsLaws.{placeholder_reads, others_stay, said_states}
+use Rattle.dtx_adapter.proofs.FeedsLemmas.{length-feed}
+use Rattle.dtx_adapter.proofs.ReadingsLemmas.{placeholder_reads, others_stay, said_states}
 use Rattle.dtx_exciter.specs.Order.{either, ordered, ordered_at, order_at, counting_order}
 use Rattle.dtx_exciter.specs.Packets.{read_fields, reads, readings}
 use Rattle.dtx_network.specs.Plans.{IsPlan, IsStream}

@@ -10,13 +10,13 @@ use Rattle.std.proofs.lemmas.List.{get_or-append-add, get_or_append_left, get_or
 use Rattle.std.proofs.lemmas.List.{drop-set-add}
 use Rattle.dtx_cadence.specs.Anchor.{has_mark}
 use Rattle.dtx_cadence.specs.Cadence.{HasMarksRound}
-use Rattle.dtx_exciter.specs.FollowedLaws.{marked_part, syncs_append}
-use Rattle.dtx_exciter.specs.LockedLaws.{IsLocked, locked, has_lock}
+use Rattle.dtx_exciter.proofs.FollowedLemmas.{marked_part, syncs_append}
+use Rattle.dtx_exciter.proofs.LockedLemmas.{IsLocked, locked, has_lock}
 use Rattle.dtx_exciter.specs.Lockstep.{IsFeed, HasLock, locked_from}
 use Rattle.dtx_exciter.specs.Packets.{anchor_of, syncs}
 use Rattle.dtx_exciter.specs.SentAlike.{bodies, AreSentAlike}
-use Rattle.dtx_exciter.specs.SentAlikeLaws.{one_missing, stray}
-use Rattle.dtx_exciter.specs.UnderLaws.{length-syncs}
+use Rattle.dtx_exciter.proofs.SentAlikeLemmas.{one_missing, stray}
+use Rattle.dtx_exciter.proofs.UnderLemmas.{length-syncs}
 
 -- ---- marks of all that is given
 

@@ -9,15 +9,15 @@ use Rattle.std.proofs.lemmas.List.{append-nil, length-append, length_push, lengt
 use Rattle.std.proofs.lemmas.List.{take_all}
 use Rattle.dtx_packets.specs.Packet.{sync_of}
 use Rattle.dtx_cadence.specs.Anchor.{has_mark, anchor}
-use Rattle.dtx_cadence.specs.AnchoredLaws.{two_missing, in_step_at_third}
-use Rattle.dtx_cadence.specs.NextAnchorLaws.{anchor_below, anchor_next, ends_with}
+use Rattle.dtx_cadence.proofs.AnchoredLemmas.{two_missing, in_step_at_third}
+use Rattle.dtx_cadence.proofs.NextAnchorLemmas.{anchor_below, anchor_next, ends_with}
 use Rattle.dtx_exciter.specs.declared.answers.Told.TheVariants.{Muted}
 use Rattle.dtx_exciter.specs.declared.answers.Why.TheVariants.{Cadence}
-use Rattle.dtx_exciter.specs.FollowedLaws.{marked_part, syncs_append, after, after_more}
+use Rattle.dtx_exciter.proofs.FollowedLemmas.{marked_part, syncs_append, after, after_more}
 use Rattle.dtx_exciter.specs.Lockstep.{IsFeed}
 use Rattle.dtx_exciter.specs.Packets.{anchor_of, readings, syncs, last_answer}
 use Rattle.dtx_exciter.specs.Told.{was_lost, told_from, told_of, told_under}
-use Rattle.dtx_exciter.specs.UnderLaws.{syncs_push, length-syncs}
+use Rattle.dtx_exciter.proofs.UnderLemmas.{syncs_push, length-syncs}
 
 -- a packet with which the anchor is lost
 pub lost_mutes : (address delay : ℕ) (d : List (List ℕ)) (p : List ℕ)

@@ -14,7 +14,7 @@ use Rattle.dtx_exciter.specs.Packets.{readings}
 use Rattle.dtx_exciter.specs.Lockstep.{segment_place}
 use Rattle.dtx_exciter.specs.Log.{Line, preset}
 use Rattle.dtx_exciter.specs.Stretch.{preset_line, orders_in, stretch_lines}
-use Rattle.dtx_exciter.specs.ForceLaws.{counted_off}
+use Rattle.dtx_exciter.proofs.ForceLemmas.{counted_off}
 use Rattle.dtx_network.specs.Plans.{IsPlan, IsStream}
 use Rattle.dtx_network.specs.Orders.{has_order, IsOrder}
 use Rattle.dtx_network.specs.Presets.{orders, preset_at, presets}

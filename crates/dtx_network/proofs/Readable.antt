@@ -11,7 +11,7 @@ use Rattle.dtx_receiver.specs.Intervals.{segments_in}
 use Rattle.dtx_exciter.specs.Lockstep.{segment_place}
 use Rattle.dtx_chain.specs.Undamaged.{ArePackets}
 use Rattle.dtx_chain.specs.Damage.{IsNear}
-use Rattle.dtx_chain.specs.FromSyncLaws.{IsThere, length-bytes_there, front_near, some_segments}
+use Rattle.dtx_chain.proofs.FromSyncLemmas.{IsThere, length-bytes_there, front_near, some_segments}
 use Rattle.dtx_network.specs.Headline.{last_packet, stretch_of}
 use Rattle.dtx_network.specs.GivesBack.{BeginsField, to_field, word_of, CanBeGivenBack}
 use Rattle.dtx_network.proofs.AllBack.{length-stretch_of}

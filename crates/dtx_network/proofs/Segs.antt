@@ -26,8 +26,8 @@ use Rattle.dtx_exciter.specs.Emission.{emission}
 use Rattle.dtx_exciter.specs.Log.{preset, mute, restart, line_of, life_lines, restarted_lines, restarting_lines}
 use Rattle.dtx_exciter.specs.Log.{emission_over}
 use Rattle.dtx_exciter.specs.Stretch.{emission_behind, lines_behind}
-use Rattle.dtx_exciter.specs.EmittedLaws.{emission_more, emission_push}
-use Rattle.dtx_exciter.specs.UnderLaws.{said_drop, length-said}
+use Rattle.dtx_exciter.proofs.EmittedLemmas.{emission_more, emission_push}
+use Rattle.dtx_exciter.proofs.UnderLemmas.{said_drop, length-said}
 use Rattle.dtx_network.specs.Headline.{segment_of, line_end}
 
 -- ---- a preset has its group's segments

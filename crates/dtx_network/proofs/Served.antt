@@ -10,8 +10,8 @@ use Rattle.dtx_ops.specs.declared.paging.Paging.{Paging}
 use Rattle.dtx_plan.specs.declared.plan.Plan.{Plan}
 use Rattle.dtx_plan.specs.declared.transmitter.Transmitter.{Transmitter}
 use Rattle.dtx_adapter.specs.Feed.{entry_of, paging_at, is_listed, filled_groups, feed}
-use Rattle.dtx_adapter.specs.FeedsLaws.{length-feed}
-use Rattle.dtx_adapter.specs.ReadingsLaws.{sync_fed}
+use Rattle.dtx_adapter.proofs.FeedsLemmas.{length-feed}
+use Rattle.dtx_adapter.proofs.ReadingsLemmas.{sync_fed}
 use Rattle.dtx_exciter.specs.Pages as pages
 use Rattle.dtx_exciter.specs.Lockstep.{IsFeed}
 use Rattle.dtx_network.specs.Plans.{IsPlan, IsStream, IsListed, IsInTime}

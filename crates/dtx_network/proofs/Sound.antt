@@ -3,12 +3,12 @@ use Rattle.std.proofs.Common.{◌≡◌, ◌⊎◌, inl, inr, ℕ, ◌%◌, ◌<
 use Rattle.std.proofs.Common.{length, take, get_or, refl, sym, ap, subst, ◌∙◌, arith}
 use Rattle.std.proofs.lemmas.Bool.{cases_Bool, eqb-true, eqb-false}
 use Rattle.dtx_packets.specs.Packet.{pid_of}
-use Rattle.dtx_ops.specs.RefusingLaws.{reading_other}
+use Rattle.dtx_ops.proofs.RefusingLemmas.{reading_other}
 use Rattle.dtx_ops.specs.Reading.{reading}
 use Rattle.dtx_plan.specs.declared.plan.Plan.{Plan}
 use Rattle.dtx_adapter.specs.Feed.{ops_at, feed}
-use Rattle.dtx_adapter.specs.FeedsLaws.{length-feed}
-use Rattle.dtx_adapter.specs.ReadingsLaws.{sync_fed, said_states}
+use Rattle.dtx_adapter.proofs.FeedsLemmas.{length-feed}
+use Rattle.dtx_adapter.proofs.ReadingsLemmas.{sync_fed, said_states}
 use Rattle.dtx_watch.specs.Sound.{SaysAt, IsSoundAt, IsSoundFeed}
 use Rattle.dtx_network.specs.Plans.{IsPlan, IsStream}
 use Rattle.dtx_network.proofs.Orders.{operations_read, other_stays}

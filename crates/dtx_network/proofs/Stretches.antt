@@ -3,9 +3,9 @@ use Rattle.std.proofs.Common.{◌≡◌, ℕ, ℤ, ◌+◌, ◌-◌, ◌*◌, �
 use Rattle.std.specs.List.{range_with_len, flat_map}
 use Rattle.std.proofs.lemmas.List.{length-drop, drop-append-le, take_at}
 use Rattle.dtx_coder.specs.Stream.{group_segments, a53}
-use Rattle.dtx_coder.specs.StreamLaws.{a53_from}
+use Rattle.dtx_coder.proofs.StreamLemmas.{a53_from}
 use Rattle.dtx_exciter.specs.Lockstep.{segment_place, stretch}
-use Rattle.dtx_exciter.specs.EmittedLaws.{length-front, stretch_whole}
+use Rattle.dtx_exciter.proofs.EmittedLemmas.{length-front, stretch_whole}
 use Rattle.dtx_network.specs.Headline.{stretch_of}
 
 -- behind the last data segment of a group, so many segments stand

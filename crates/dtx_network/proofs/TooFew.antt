@@ -7,8 +7,8 @@ use Rattle.std.proofs.lemmas.List.FromFn.{get_or-map-range_with_len}
 use Rattle.dtx_galois.specs.Field.{AreBytes}
 use Rattle.dtx_laws.specs.Interleaving.{interleaved, interleaved_at}
 use Rattle.dtx_coder.specs.Coded.{coded_from, coded, spread}
-use Rattle.dtx_coder.specs.BytesLaws.{coded_append, length-coded}
-use Rattle.dtx_chain.specs.ApartLaws.{other_last, length-other, bytes_other, code_of, length-code, last_differs}
+use Rattle.dtx_coder.proofs.BytesLemmas.{coded_append, length-coded}
+use Rattle.dtx_chain.proofs.ApartLemmas.{other_last, length-other, bytes_other, code_of, length-code, last_differs}
 
 -- Byte 50 of packet 51 behind the packet p is the last byte of p's codeword.
 late_is : (front packets : List (List ℕ)) (p : List ℕ) → (length front + 1) % 624 ≡ 0 → 52 ≤ length packets

@@ -13,8 +13,8 @@ use Rattle.dtx_plan.specs.declared.plan.Plan.{Plan}
 use Rattle.dtx_plan.specs.declared.transmitter.Transmitter.{Transmitter}
 use Rattle.dtx_adapter.specs.Feed.{is_placeholder, paging_at, is_listed, is_filled, filled_groups, feed}
 use Rattle.dtx_adapter.specs.Turns.{IsListedIn}
-use Rattle.dtx_adapter.specs.GroupsLaws.{filled_groups-next}
-use Rattle.dtx_adapter.specs.TurnsLaws.{in_turn}
+use Rattle.dtx_adapter.proofs.GroupsLemmas.{filled_groups-next}
+use Rattle.dtx_adapter.proofs.TurnsLemmas.{in_turn}
 use Rattle.dtx_network.specs.Plans.{IsPlan, IsStream, IsListed}
 use Rattle.dtx_network.specs.Orders.{is_operations, has_order, has_listing, pages_in}
 use Rattle.dtx_network.specs.Presets.{orders}

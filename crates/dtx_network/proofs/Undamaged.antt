@@ -3,7 +3,7 @@ use Rattle.std.proofs.Common.{ℕ, List, ◌+◌, refl}
 use Rattle.dtx_exciter.specs.Lockstep.{segment_place}
 use Rattle.dtx_chain.specs.Undamaged.{ArePackets}
 use Rattle.dtx_chain.specs.Damage.{AreReceived}
-use Rattle.dtx_chain.specs.NoDamageLaws.{part_received, is_slight}
+use Rattle.dtx_chain.proofs.NoDamageLemmas.{part_received, is_slight}
 use Rattle.dtx_network.specs.Headline.{last_packet, stretch_of}
 use Rattle.dtx_network.specs.GivesBack.{IsReceivedAlone}
 

@@ -3,12 +3,3 @@ pub mod Spelling
 pub mod Fields
 pub mod Rules
 pub mod Reading
-pub mod RefusingLaws
-pub mod NumbersLaws
-pub mod EntriesLaws
-pub mod PagingLaws
-pub mod DataLaws
-pub mod ReadingsLaws
-pub mod AddressesLaws
-pub mod DigitsLaws
-pub mod PassingLaws

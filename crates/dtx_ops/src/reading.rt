@@ -66,7 +66,7 @@ fn data_in(word: &[u8; 184]) -> [u8; 164]
 }
 
 /// The fields in the data, or else the first rule that refuses them.
-#[tactic(auto, unfolding(crate::specs::Reading::data_reading, crate::specs::Rules::data_rules), using(crate::specs::RefusingLaws::first_none, crate::specs::RefusingLaws::first_some))]
+#[tactic(auto, unfolding(crate::specs::Reading::data_reading, crate::specs::Rules::data_rules), using(crate::proofs::RefusingLemmas::first_none, crate::proofs::RefusingLemmas::first_some))]
 fn read_data(bytes: &[u8]) -> Result<Ops, OpsNo>
     requires { length bytes.now ≡ 164 }
     ensures { result ≡ spec.data_reading bytes.now }
@@ -94,7 +94,7 @@ fn paging(bytes: &[u8]) -> Paging
 }
 
 /// The fields in the data, or else the first rule on the page, the entries and the bytes behind them that refuses them.
-#[tactic(auto, unfolding(crate::specs::Fields::count_in), using(crate::specs::RefusingLaws::first_none, crate::specs::RefusingLaws::first_some))]
+#[tactic(auto, unfolding(crate::specs::Fields::count_in), using(crate::proofs::RefusingLemmas::first_none, crate::proofs::RefusingLemmas::first_some))]
 fn read_page(paging: Paging, bytes: &[u8]) -> Result<Ops, OpsNo>
     requires long { length bytes.now ≡ 164 }
     requires paging { paging ≡ paging_in bytes.now }

@@ -10,10 +10,10 @@ use Rattle.std.proofs.lemmas.List.FromFn.{get_or-enumerate_from, length-enumerat
 use Rattle.std.proofs.lemmas.Nat.{le-div, mul-le}
 use Rattle.dtx_laws.specs.Branches.{Branching, leaving_all, after_all, leaving_calls, after_calls}
 use Rattle.dtx_laws.specs.Codeword.{IsCode}
-use Rattle.dtx_laws.specs.CompletedLaws.{completed_each}
+use Rattle.dtx_laws.proofs.CompletedLemmas.{completed_each}
 use Rattle.dtx_laws.specs.Whitening.{whitened}
 use Rattle.dtx_laws.specs.Words.{completed}
-use Rattle.dtx_outer.specs.BackLaws.{length-coded}
+use Rattle.dtx_outer.proofs.BackLemmas.{length-coded}
 use Rattle.dtx_outer.specs.Coding.{coded_as, codewords}
 
 -- ---- each packet

@@ -1,2 +1,6 @@
+pub mod CodingLemmas
+pub mod WordsLemmas
+pub mod MadeLemmas
+pub mod BackLemmas
 pub mod Coding
 pub mod Runs

@@ -12,13 +12,13 @@ use Rattle.std.proofs.Math.ListN.{set}
 use Rattle.std.proofs.Math.Seq.{take-add}
 use Rattle.dtx_laws.specs.Branches.{IsInterleaver, Branching, HasWidths, gathering, aligned, leaving_all, after_all}
 use Rattle.dtx_laws.specs.Branches.{after_byte, leaving}
-use Rattle.dtx_laws.specs.InterleavingLaws.{HasWidths-aligned}
-use Rattle.dtx_laws.specs.PlacesLaws.{length_leaving, leaving_append, after_append}
+use Rattle.dtx_laws.proofs.InterleavingLemmas.{HasWidths-aligned}
+use Rattle.dtx_laws.proofs.PlacesLemmas.{length_leaving, leaving_append, after_append}
 use Rattle.dtx_outer.specs.Inner.{waiting, completing, word_at, Kept, StandsFor, Gives, IsTaken, IsNext, block_behind}
 use Rattle.dtx_outer.specs.Outer.{IsPeriod}
 use Rattle.dtx_outer.specs.declared.inner.Taken.{Taken}
 use Rattle.dtx_outer.specs.declared.inner.Taken.TheVariants.{None}
-use Rattle.dtx_outer.specs.WordsLaws.{waiting_some, completing_is, completing_within, word_by, gathers_word}
+use Rattle.dtx_outer.proofs.WordsLemmas.{waiting_some, completing_is, completing_within, word_by, gathers_word}
 
 -- ---- the word that a block completes
 

@@ -2,11 +2,9 @@ pub mod Calls
 pub mod Counts
 pub mod Fill
 pub mod Held
-pub mod Laws
 pub mod MemoryShelf
 pub mod MemorySink
 pub mod Refusals
 pub mod Shelf
 pub mod Sink
 pub mod Written
-pub mod WrittenLaws

@@ -6,13 +6,13 @@ use Rattle.std.specs.List.{find, flat_map, range_with_len}
 use Rattle.std.proofs.lemmas.Bool.{cond-false}
 use Rattle.std.proofs.lemmas.List.{append-nil, length-drop, length-take-le, take-append-drop, take_all, take_at}
 use Rattle.dtx_lists.proofs.RangeSearch.{find-range_first}
-use Rattle.dtx_packets.specs.PacketLaws.{packets_of-piece}
+use Rattle.dtx_packets.proofs.PacketLemmas.{packets_of-piece}
 use Rattle.dtx_packets.specs.Packets.{packet_at, packets_from, packets_of, whole_packets}
-use Rattle.dtx_dvb.specs.BackLaws.{all_as_sent, all_fixed, none_flagged, packets_back, undamaged}
+use Rattle.dtx_dvb.proofs.BackLemmas.{all_as_sent, all_fixed, none_flagged, packets_back, undamaged}
 use Rattle.dtx_dvb.specs.Damage.{ArePackets, IsSlight, as_sent}
 use Rattle.dtx_dvb.specs.Read.{Read, fixed_in, flagged_in}
 use Rattle.dtx_dvb.specs.Reading.{read_dvb}
-use Rattle.dtx_dvb.specs.ReadingLaws.{length-read, next_of, read_loose, read_more}
+use Rattle.dtx_dvb.proofs.ReadingLemmas.{length-read, next_of, read_loose, read_more}
 use Rattle.dtx_dvb.specs.Stream.{dvb}
 use Rattle.dtx_meaning.specs.Meaning.{Meaning}
 use Rattle.dtx_meaning.specs.Status.{ended}
@@ -21,15 +21,14 @@ use Rattle.dtx_meaning.specs.declared.status.Status.TheVariants.{Done, Packet, T
 use Rattle.dtx_engine.specs.Made.{only, outputs_of}
 use Rattle.dtx_engine.specs.Recipe.{Course, course, course_from, first_refused, meaning_at, meaning_of_file}
 use Rattle.dtx_engine.specs.declared.piece.Ending.TheVariants.{Refused}
-use Rattle.dtx_forms.specs.AllowedFileLaws.{all_read, first_read, none_found}
+use Rattle.dtx_forms.proofs.AllowedFileLemmas.{all_read, first_read, none_found}
 use Rattle.dtx_packet_jobs.specs.DvbBack.{HaveSyncs, back_of, read_of, read_until, sent_of, sent_until, wrong_in_all}
 use Rattle.dtx_packet_jobs.specs.DvbCode.{dvb_coding}
 use Rattle.dtx_packet_jobs.specs.DvbRead.{bytes_of_reads, dvb_reading, whole_blocks}
-use Rattle.dtx_packet_jobs.specs.PacketFileLaws.{length-packets_of}
+use Rattle.dtx_packet_jobs.proofs.PacketFileLemmas.{length-packets_of, front_of}
 use Rattle.dtx_packet_jobs.specs.Place.{has_sync}
 use Rattle.dtx_packet_jobs.specs.DvbShapes.{blocks, dvb_packets}
 use Rattle.dtx_packet_jobs.proofs.DvbChunks.{chunks_flat, packets_are}
-use Rattle.dtx_packet_jobs.specs.PacketFileLaws.{front_of}
 
 -- ---- what is sent
 

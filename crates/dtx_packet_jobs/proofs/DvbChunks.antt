@@ -8,7 +8,7 @@ use Rattle.std.proofs.lemmas.Grind.{flat_map-append}
 use Rattle.std.proofs.lemmas.List.{append_assoc, append-nil, length-append, length-take-le, take_more}
 use Rattle.std.proofs.lemmas.List.{take-append-drop}
 use Rattle.std.proofs.lemmas.List.FromFn.{fill_by_all}
-use Rattle.dtx_packets.specs.Chunks.{get_or-first_chunks}
+use Rattle.dtx_packets.proofs.ChunksLemmas.{get_or-first_chunks}
 use Rattle.dtx_packets.specs.Packets.{packet_at, packets_of, whole_packets}
 
 -- one element more of a list, behind others

@@ -5,7 +5,7 @@ use Rattle.std.specs.List.{flat_map, range_with_len}
 use Rattle.std.proofs.lemmas.Grind.{flat_map-append}
 use Rattle.std.proofs.lemmas.List.{append-nil, get_or_default}
 use Rattle.dtx_lists.proofs.Range.{range_with_len-parts}
-use Rattle.dtx_dvb.specs.CountsLaws.{fixed-append, flagged-append}
+use Rattle.dtx_dvb.proofs.CountsLemmas.{fixed-append, flagged-append}
 use Rattle.dtx_dvb.specs.Given.{given}
 use Rattle.dtx_dvb.specs.Read.{Read, fixed_in, fixed_of, flag_of, flagged_in}
 use Rattle.dtx_outer.specs.declared.inner.Taken.{Taken}

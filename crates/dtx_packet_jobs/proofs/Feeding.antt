@@ -4,16 +4,16 @@ use Rattle.std.proofs.Common.{subst, ◌∙◌, arith}
 use Rattle.std.proofs.lemmas.List.{append_assoc, append-nil}
 use Rattle.std.proofs.lemmas.List.Sums.{length-filter, count_by-le-length}
 use Rattle.std.proofs.Math.Seq.{take-add}
-use Rattle.dtx_adapter.specs.FeedsLaws.{placeholders-append}
+use Rattle.dtx_adapter.proofs.FeedsLemmas.{placeholders-append}
 use Rattle.dtx_adapter.specs.Adapting.{StandsFor}
 use Rattle.dtx_adapter.specs.Feed.{is_placeholder, placeholders}
 use Rattle.dtx_engine.specs.Made.{Made, joined, only}
 use Rattle.dtx_engine.specs.Recipe.{Recipe, IsFed}
-use Rattle.dtx_packets.specs.PacketLaws.{packets_of-append, whole_packets-append}
+use Rattle.dtx_packets.proofs.PacketLemmas.{packets_of-append, whole_packets-append}
 use Rattle.dtx_packets.specs.Packets.{packets_of, whole_packets}
 use Rattle.dtx_packet_jobs.specs.Adapt.{feeding}
 use Rattle.dtx_packet_jobs.specs.Feed.{feed_bytes, HasFed, IsCounted}
-use Rattle.dtx_packet_jobs.specs.PacketFileLaws.{length-packets_of}
+use Rattle.dtx_packet_jobs.proofs.PacketFileLemmas.{length-packets_of}
 use Rattle.dtx_packet_jobs.specs.declared.feeder.Feeder.{Feeder}
 use Rattle.dtx_packet_jobs.proofs.PacketBytes.{front_put}
 use borrow.Rule.Slice.PartMut.{put_mid}

@@ -1,3 +1,7 @@
+mod AnswersLemmas
+mod DamagedLemmas
+pub mod FeedFileLemmas
+pub mod PacketFileLemmas
 pub mod DvbBack
 pub mod DvbChunks
 pub mod DvbReads

@@ -3,16 +3,16 @@ use Rattle.std.proofs.Common.{◌≡◌, ℕ, ◌+◌, ◌-◌, ◌≤◌, List,
 use Rattle.std.proofs.Common.{arith, inr}
 use Rattle.std.specs.Prelude.{Option}
 use Rattle.std.specs.List.{range_with_len}
-use Rattle.dtx_make.specs.StreamsLaws.{made_stream_none, made_stream_more, made_stream-parts}
+use Rattle.dtx_make.proofs.StreamsLemmas.{made_stream_none, made_stream_more, made_stream-parts}
 use Rattle.dtx_make.specs.Made.{made_packet, made_stream}
-use Rattle.dtx_meaning.specs.Laws.{carried_part}
+use Rattle.dtx_meaning.proofs.MeaningLemmas.{carried_part}
 use Rattle.dtx_meaning.specs.Meaning.{ArePartWritten, IsCarriedOut}
 use Rattle.dtx_meaning.specs.Status.{IsFault, ended, of_write}
 use Rattle.dtx_meaning.specs.declared.status.Outcome.{Outcome}
 use Rattle.dtx_meaning.specs.declared.status.Status.{Status}
 use Rattle.dtx_outside.specs.Shelf.{Files}
 use Rattle.dtx_outside.specs.Written.{IsWritten, IsGathered, IsPartWritten}
-use Rattle.dtx_outside.specs.WrittenLaws.{gathered_of_written, part_of_more}
+use Rattle.dtx_outside.proofs.WrittenLemmas.{gathered_of_written, part_of_more}
 use Rattle.dtx_outside.specs.declared.shelf.WriteNo.{WriteNo}
 use Rattle.dtx_outside.specs.declared.shelf.WriteNo.TheVariants.{Failed, Memory}
 use Rattle.dtx_packet_jobs.specs.Make.{made_file}

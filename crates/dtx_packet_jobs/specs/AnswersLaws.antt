@@ -1,39 +1,17 @@
--- Which refusals the commands of packets and of plain bytes know: of how their making answers, and of faults of
--- writing.
-use Rattle.std.specs.Prelude.{ℕ, List, Option, Some, None}
-use Rattle.dtx_outside.specs.declared.shelf.WriteNo.{WriteNo}
-use Rattle.dtx_outside.specs.declared.shelf.WriteNo.TheVariants as write
-use Rattle.dtx_plan.specs.declared.damage.Damage.{Damage}
-use Rattle.dtx_plan.specs.declared.plan.Plan as plans
-use Rattle.dtx_meaning.specs.Status.{of_write}
+-- Which refusals the commands of packets and of plain bytes know: of how their making answers.
+-- They stand here since the ghost members of an impl, a trait's laws, cite lemmas of specs/ alone.
 use Rattle.dtx_meaning.specs.declared.status.Status.{Status}
 use Rattle.dtx_engine.specs.Recipe.{IsAnswerOf}
-use Rattle.dtx_words.specs.declared.rows.Command.TheVariants.{Adapt, Make, Hurt, Place}
-use Rattle.dtx_words.specs.declared.rows.Command.TheVariants.{DvbCode, DvbRead}
+use Rattle.dtx_words.specs.declared.rows.Command.TheVariants.{Place, DvbCode, DvbRead}
 use Rattle.dtx_forms.specs.Answers.{Knows}
-use Rattle.dtx_forms.specs.AnswersLaws.{knows_by, none_refused}
-use Rattle.dtx_packet_jobs.specs.Adapt.{feeding}
+use Rattle.dtx_forms.proofs.AnswersLemmas.{knows_by, none_refused}
 use Rattle.dtx_packet_jobs.specs.DvbCode.{dvb_coding}
 use Rattle.dtx_packet_jobs.specs.DvbRead.{dvb_reading}
-use Rattle.dtx_packet_jobs.specs.Hurt.{hurting, hurt_end}
 use Rattle.dtx_packet_jobs.specs.Place.{placing}
-
--- a stream that is adapted
-pub adapt_knows : (plan : plans.Plan) (status : Status) → IsAnswerOf (feeding plan) status → Knows Adapt status
-adapt_knows plan = knows_by (feeding plan) Adapt tt (λ k unit. tt) (λ given loose. tt)
 
 -- a stream in which placeholders are placed
 pub place_knows : (status : Status) → IsAnswerOf placing status → Knows Place status
 place_knows = knows_by placing Place tt (λ k unit. tt) (λ given loose. tt)
-
-past_or_not : (damage : List Damage) (bytes : ℕ) (past : Option ℕ) → Knows Hurt (hurt_end damage bytes past).status
-past_or_not damage bytes (Some entry) = tt
-past_or_not damage bytes None = tt
-
--- a file over which damage is laid
-pub hurt_knows : (damage : List Damage) (status : Status) → IsAnswerOf (hurting damage) status → Knows Hurt status
-hurt_knows damage =
-    knows_by (hurting damage) Hurt tt (λ k unit. none_refused unit) (λ given loose. past_or_not damage _ _)
 
 -- a stream that the outer coding of DVB sends
 pub dvb_code_knows : (status : Status) → IsAnswerOf dvb_coding status → Knows DvbCode status
@@ -42,8 +20,3 @@ dvb_code_knows = knows_by dvb_coding DvbCode tt (λ k unit. tt) (λ given loose.
 -- blocks that are read back
 pub dvb_read_knows : (status : Status) → IsAnswerOf dvb_reading status → Knows DvbRead status
 dvb_read_knows = knows_by dvb_reading DvbRead tt (λ k unit. none_refused unit) (λ given loose. tt)
-
--- a fault of writing
-pub write_known : (cause : WriteNo) → Knows Make (of_write cause)
-write_known write.Failed = tt
-write_known write.Memory = tt

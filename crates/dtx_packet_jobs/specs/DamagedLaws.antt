@@ -1,9 +1,10 @@
 -- Laws of what is made of damaged bytes.
+-- They stand here since the ghost members of an impl, a trait's laws, cite lemmas of specs/ alone.
 use Rattle.std.proofs.Common.{◌≡◌, ℕ, ◌%◌, List, [], ◌++◌, length, sym, ap, subst, ◌∙◌}
-use Rattle.dtx_engine.specs.Made.{Made, only, AreFrontsOf}
-use Rattle.dtx_engine.specs.Recipe.{Recipe, IsFed}
+use Rattle.dtx_engine.specs.Made.{only, AreFrontsOf}
+use Rattle.dtx_engine.specs.Recipe.{Recipe}
 use Rattle.dtx_make.specs.Hurt.{hurt, damaged_bytes}
-use Rattle.dtx_make.specs.LaidLaws.{hurt-append, hurt_none, length-hurt}
+use Rattle.dtx_make.proofs.LaidLemmas.{hurt-append, hurt_none, length-hurt}
 use Rattle.dtx_plan.specs.declared.damage.Damage.{Damage}
 use Rattle.dtx_packet_jobs.specs.Damaged.{damaged_making}
 
@@ -20,12 +21,3 @@ pub hurt_grows : (damage : List Damage) (recipe : Recipe) (unit : ℕ)
 hurt_grows damage recipe unit grows a b whole =
     subst (λ (z : List ℕ). AreFrontsOf (recipe.made (hurt damage a)) (recipe.made z)) (sym (hurt-append damage a b))
     (grows (hurt damage a) (damaged_bytes damage (length a) b) (ap (λ n. n % unit) (length-hurt damage a) ∙ whole))
-
--- damaged bytes were given behind others
-pub hurt_fed : (damage : List Damage) (recipe : Recipe) (given bytes : List ℕ) (stands : List ℕ → Type 0) (gives : Made)
-    → IsFed recipe (hurt damage given) (damaged_bytes damage (length given) bytes) stands gives
-    → IsFed (damaged_making damage recipe) given bytes (λ z. stands (hurt damage z)) gives
-hurt_fed damage recipe given bytes stands gives fed = record {
-  stand = subst stands (sym (hurt-append damage given bytes)) fed.stand;
-  made = ap recipe.made (hurt-append damage given bytes) ∙ fed.made;
-}

@@ -1,9 +1,10 @@
 -- Laws of what is sent of a stream: more packets bring more bytes behind.
+-- They stand here since the ghost members of an impl, a trait's laws, cite lemmas of specs/ alone.
 use Rattle.std.proofs.Common.{◌≡◌, ℕ, ◌%◌, List, [], ◌∷◌, ◌++◌, length, refl, sym, ap, ◌∙◌, arith}
 use Rattle.dtx_dvb.specs.Stream.{dvb}
-use Rattle.dtx_dvb.specs.StreamLaws.{dvb_append, bytes_behind, length-dvb}
+use Rattle.dtx_dvb.proofs.StreamLemmas.{dvb_append, bytes_behind, length-dvb}
 use Rattle.dtx_engine.specs.Made.{only, AreFrontsOf}
-use Rattle.dtx_packets.specs.PacketLaws.{packets_of-append}
+use Rattle.dtx_packets.proofs.PacketLemmas.{packets_of-append}
 use Rattle.dtx_packets.specs.Packets.{packets_of}
 use Rattle.dtx_packet_jobs.specs.DvbCode.{dvb_coding}
 

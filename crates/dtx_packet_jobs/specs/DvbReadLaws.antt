@@ -1,10 +1,11 @@
 -- Laws of what is read back of a stream: more blocks bring more packets behind.
+-- They stand here since the ghost members of an impl, a trait's laws, cite lemmas of specs/ alone.
 use Rattle.std.proofs.Common.{◌≡◌, ℕ, ◌/◌, ◌%◌, List, [], ◌∷◌, ◌++◌, length, refl, sym, ap, ◌∙◌, arith}
 use Rattle.std.proofs.lemmas.Grind.{flat_map-append}
 use Rattle.std.proofs.lemmas.List.{length-append}
 use Rattle.dtx_dvb.specs.Read.{Read}
 use Rattle.dtx_dvb.specs.Reading.{read_dvb}
-use Rattle.dtx_dvb.specs.ReadingLaws.{length-read, next_of, read_more}
+use Rattle.dtx_dvb.proofs.ReadingLemmas.{length-read, next_of, read_more}
 use Rattle.dtx_engine.specs.Made.{only, AreFrontsOf}
 use Rattle.dtx_packet_jobs.specs.DvbRead.{bytes_of_reads, dvb_reading}
 

@@ -1,11 +1,12 @@
 -- The feed of a stream grows with it.
+-- They stand here since the ghost members of an impl, a trait's laws, cite lemmas of specs/ alone.
 use Rattle.std.proofs.Common.{◌≡◌, ℕ, ◌%◌, List, [], ◌++◌, length, drop, refl, sym, ap, ◌∙◌}
 use Rattle.std.proofs.lemmas.Grind.{flat_map-append}
-use Rattle.dtx_adapter.specs.FeedsLaws.{feed_parts}
+use Rattle.dtx_adapter.proofs.FeedsLemmas.{feed_parts}
 use Rattle.dtx_adapter.specs.Feed.{feed, feed_to}
 use Rattle.dtx_engine.specs.Made.{AreFrontsOf, only}
 use Rattle.dtx_meaning.specs.Meaning.{IsFrontOf}
-use Rattle.dtx_packets.specs.PacketLaws.{packets_of-append}
+use Rattle.dtx_packets.proofs.PacketLemmas.{packets_of-append}
 use Rattle.dtx_packets.specs.Packets.{packets_of}
 use Rattle.dtx_plan.specs.declared.plan.Plan.{Plan}
 use Rattle.dtx_packet_jobs.specs.Adapt.{feeding}

@@ -1,7 +1,8 @@
 -- Damage that is laid piece by piece.
+-- They stand here since the ghost members of an impl, a trait's laws, cite lemmas of specs/ alone.
 use Rattle.std.proofs.Common.{◌≡◌, ℕ, List, [], ◌++◌, length, refl, sym, ap, ◌∙◌, zero-add}
 use Rattle.dtx_engine.specs.Made.{AreFrontsOf, only}
-use Rattle.dtx_make.specs.LaidLaws.{damaged_bytes-append}
+use Rattle.dtx_make.proofs.LaidLemmas.{damaged_bytes-append}
 use Rattle.dtx_make.specs.Hurt.{hurt, damaged_bytes}
 use Rattle.dtx_plan.specs.declared.damage.Damage.{Damage}
 use Rattle.dtx_packet_jobs.specs.Hurt.{hurting}

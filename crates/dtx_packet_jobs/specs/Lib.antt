@@ -11,11 +11,9 @@ pub mod DvbReadLaws
 pub mod DvbReading
 pub mod DvbShapes
 pub mod Feed
-pub mod FeedFileLaws
 pub mod FeedLaws
 pub mod Hurt
 pub mod HurtLaws
 pub mod Make
-pub mod PacketFileLaws
 pub mod PastEnd
 pub mod Place

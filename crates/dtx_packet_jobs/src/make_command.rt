@@ -73,7 +73,7 @@ pub fn make_stream<S: Shelf>(
 }
 
 /// Begins the file, and makes the packets in it.
-#[tactic(auto, using(crate::specs::AnswersLaws::write_known, dtx_forms::specs::OfWordsLaws::write_of_inputs))]
+#[tactic(auto, using(crate::proofs::AnswersLemmas::write_known, dtx_forms::proofs::OfWordsLemmas::write_of_inputs))]
 fn make_file<S: Shelf>(
     seed: u64,
     count: u64,
@@ -94,7 +94,7 @@ fn make_file<S: Shelf>(
 }
 
 /// Makes the packets in a file that was begun, and answers.
-#[tactic(auto, using(crate::specs::AnswersLaws::write_known, dtx_forms::specs::OfWordsLaws::write_of_inputs))]
+#[tactic(auto, using(crate::proofs::AnswersLemmas::write_known, dtx_forms::proofs::OfWordsLemmas::write_of_inputs))]
 fn fill_file<S: Shelf>(
     seed: u64,
     count: u64,

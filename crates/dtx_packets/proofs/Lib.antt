@@ -1,1 +1,3 @@
+pub mod ChunksLemmas
+pub mod PacketLemmas
 pub mod Reading

@@ -10,7 +10,7 @@ use Rattle.dtx_packets.specs.declared.packet.Packet.{Packet}
 use Rattle.dtx_packets.specs.Packets.{whole_packets, packets_of}
 use Rattle.dtx_packets.specs.declared.refusal.NextNo.{NextNo}
 use Rattle.dtx_packets.specs.Reading.{Reading, next_of, IsCount, IsAdvance, AreNext, IsRefused, IsStep, IsLeft}
-use Rattle.dtx_packets.specs.PacketLaws.{packets_of-piece, whole_packets-piece}
+use Rattle.dtx_packets.proofs.PacketLemmas.{packets_of-piece, whole_packets-piece}
 
 cut_of_file : (found : Option (List ℕ)) (old new : Reading) (n : ℕ) (bytes part : List ℕ) (into : List Packet)
     → whole_packets bytes ≡ length into → part ≡ take (188 * n) bytes

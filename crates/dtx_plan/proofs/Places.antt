@@ -10,7 +10,7 @@ use Rattle.std.proofs.lemmas.Bool.Decides.{nat_tests}
 use Rattle.dtx_plan.specs.declared.transmitter.Transmitter.{Transmitter}
 use Rattle.dtx_plan.specs.TransmitterTable.{transmitter_place}
 use Rattle.dtx_plan.specs.Places.{ArePlaces}
-use Rattle.dtx_plan.specs.PlacesLaws.{place_more}
+use Rattle.dtx_plan.proofs.PlacesLemmas.{place_more}
 
 -- ---- keys
 

@@ -15,8 +15,8 @@ use Rattle.dtx_plan.specs.Rows.{refused, table, known, whole, whole_or, signed, 
 use Rattle.dtx_plan.specs.DamageTable.{behind, damage, damage_from, last_end}
 use Rattle.dtx_plan.specs.ReceiveTable.{damage_of}
 use Rattle.dtx_plan.specs.Sound.{IsDamage, AreDamages}
-use Rattle.dtx_plan.specs.WalksLaws.{bind_ok, ok_same, whole_range, whole_or_range, array_or_none_range, entries_keep}
-use Rattle.dtx_plan.specs.WalksLaws.{entries_count}
+use Rattle.dtx_plan.proofs.WalksLemmas.{bind_ok, ok_same, whole_range, whole_or_range, array_or_none_range}
+use Rattle.dtx_plan.proofs.WalksLemmas.{entries_keep, entries_count}
 
 -- ---- one entry
 

@@ -21,7 +21,7 @@ use Rattle.dtx_plan.specs.EventTable.{kind, known_keys, no_stranger, send, forei
 use Rattle.dtx_plan.specs.EventTable.{states}
 use Rattle.dtx_plan.specs.EventTable.{event_of, event_at, event_after}
 use Rattle.dtx_plan.specs.Sound.{IsPart, IsInRange, IsEvent, to_of}
-use Rattle.dtx_plan.specs.WalksLaws.{bind_ok, test_ok, ok_same, whole_range, entries_keep}
+use Rattle.dtx_plan.proofs.WalksLemmas.{bind_ok, test_ok, ok_same, whole_range, entries_keep}
 
 -- ---- one event
 

@@ -20,7 +20,7 @@ use Rattle.dtx_plan.specs.NetTable.{stream_of, stream, events_of, net_of, net}
 use Rattle.dtx_plan.specs.RootTable.{plan, changes}
 use Rattle.dtx_plan.specs.Plan.{root_of, plan_of, changes_of}
 use Rattle.dtx_plan.specs.Sound.{AreDamages, IsReceived, IsNet, IsSound, HasSoundNet}
-use Rattle.dtx_plan.specs.WalksLaws.{bind_ok, test_ok, ok_same, array_or_none_range, entries_count, plan_sound}
+use Rattle.dtx_plan.proofs.WalksLemmas.{bind_ok, test_ok, ok_same, array_or_none_range, entries_count, plan_sound}
 use Rattle.dtx_plan.proofs.SoundDamage.{damages_are}
 use Rattle.dtx_plan.proofs.SoundEvents.{listed_is, events_are}
 

@@ -9,6 +9,3 @@ pub mod NetTable
 pub mod RootTable
 pub mod Plan
 pub mod Sound
-pub mod AddressesLaws
-pub mod PlacesLaws
-pub mod WalksLaws

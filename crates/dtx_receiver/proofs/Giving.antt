@@ -4,15 +4,15 @@ use Rattle.std.proofs.Common.{ap, ◌∙◌, subst, append_assoc, lit<, arith}
 use Rattle.dtx_laws.specs.Codeword.{distance}
 use Rattle.dtx_laws.specs.Whitening.{whitened}
 use Rattle.dtx_whiten.specs.Randomizer.{randomizer_bytes}
-use Rattle.dtx_whiten.specs.Bytes.{length-randomizer_bytes}
+use Rattle.dtx_whiten.specs.BytesLaws.{length-randomizer_bytes}
 use Rattle.dtx_outer.specs.Inner.{IsTaken}
 use Rattle.dtx_outer.specs.Made.{IsTold}
-use Rattle.dtx_outer.specs.MadeLaws.{made_told}
+use Rattle.dtx_outer.proofs.MadeLemmas.{made_told}
 use Rattle.dtx_outer.specs.declared.inner.Taken.{Taken}
 use Rattle.dtx_outer.specs.declared.inner.Taken.TheVariants.{Good, Bad}
 use Rattle.dtx_receiver.specs.declared.batch.Received.{Received}
 use Rattle.dtx_receiver.specs.Packets.{received_by, early_of}
-use Rattle.dtx_receiver.specs.EarlyLaws.{received_word, early_made}
+use Rattle.dtx_receiver.proofs.EarlyLemmas.{received_word, early_made}
 use Rattle.dtx_receiver.specs.Handed.{handed}
 
 -- where the data of packet k stand in the randomizer's period

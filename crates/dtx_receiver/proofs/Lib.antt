@@ -1,2 +1,12 @@
+pub mod CompleteLemmas
+pub mod SegmentsLemmas
+pub mod FollowingLemmas
+pub mod EarlyLemmas
+pub mod GivenLemmas
+pub mod AnswersLemmas
+pub mod LevelsLemmas
+pub mod IntervalsLemmas
+pub mod CountingLemmas
+pub mod SplicingLemmas
 pub mod Stands
 pub mod Giving

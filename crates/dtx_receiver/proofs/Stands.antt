@@ -5,16 +5,16 @@ use Rattle.std.proofs.lemmas.List.{append-nil}
 use Rattle.std.proofs.lemmas.List.FromFn.{length-map-range_with_len}
 use Rattle.dtx_slice.specs.Slicing.{sliced_data, sliced_last}
 use Rattle.dtx_slice.specs.Unrolled.{level_groups, byte_back, bytes_back, precoder_bits_after, precoder_bits_of}
-use Rattle.dtx_slice.specs.JoinsLaws.{groups_whole}
+use Rattle.dtx_slice.proofs.JoinsLemmas.{groups_whole}
 use Rattle.dtx_outer.specs.Inner as inner
 use Rattle.dtx_receiver.specs.Bytes.{data_count, groups_of, levels_in, first_bits, bytes_in}
 use Rattle.dtx_receiver.specs.Packets.{run_packets, early_of, all_packets, packets_so_far}
-use Rattle.dtx_receiver.specs.AnswersLaws.{IsDecoder}
-use Rattle.dtx_receiver.specs.EarlyLaws.{end_none, end_turn}
-use Rattle.dtx_receiver.specs.GivenLaws.{received_given}
-use Rattle.dtx_receiver.specs.LevelsLaws.{levels_first, levels_sync, levels_data, Whole, Added, levels_group}
+use Rattle.dtx_receiver.proofs.AnswersLemmas.{IsDecoder}
+use Rattle.dtx_receiver.proofs.EarlyLemmas.{end_none, end_turn}
+use Rattle.dtx_receiver.proofs.GivenLemmas.{received_given}
+use Rattle.dtx_receiver.proofs.LevelsLemmas.{levels_first, levels_sync, levels_data, Whole, Added, levels_group}
 use Rattle.dtx_receiver.specs.Receiver.{AreLevels, Decoding, Decodes}
-use Rattle.dtx_receiver.specs.SegmentsLaws.{Still, still_data, still_sync, first_groups, first_bytes}
+use Rattle.dtx_receiver.proofs.SegmentsLemmas.{Still, still_data, still_sync, first_groups, first_bytes}
 
 -- what is kept, of its parts
 abbrev pub decoding : List ℕ → List ℕ → inner.Kept → ℕ → Decoding

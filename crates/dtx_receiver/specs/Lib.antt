@@ -4,13 +4,3 @@ pub mod Intervals
 pub mod Bytes
 pub mod Packets
 pub mod Receiver
-pub mod CompleteLaws
-pub mod SegmentsLaws
-pub mod FollowingLaws
-pub mod EarlyLaws
-pub mod GivenLaws
-pub mod AnswersLaws
-pub mod LevelsLaws
-pub mod IntervalsLaws
-pub mod CountingLaws
-pub mod SplicingLaws

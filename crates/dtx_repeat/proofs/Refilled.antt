@@ -7,7 +7,7 @@ use Rattle.dtx_cadence.specs.Mark.{marked}
 use Rattle.dtx_packets.specs.declared.packet.Packet.{Packet}
 use Rattle.dtx_receiver.specs.declared.batch.Received.{Received}
 use Rattle.dtx_repeat.specs.Restored.{restored_one, restored}
-use Rattle.dtx_repeat.specs.RestoredLaws.{restored_none, restored_cons, restored_behind, length-restored}
+use Rattle.dtx_repeat.proofs.RestoredLemmas.{restored_none, restored_cons, restored_behind, length-restored}
 
 -- all of a list are
 pub refilled : (k : ℕ) (xs ys zs : List Received) → ys ≡ xs → zs ≡ restored k ys

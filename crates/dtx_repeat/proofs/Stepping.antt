@@ -4,7 +4,7 @@ use Rattle.dtx_receiver.specs.declared.batch.Received.{Received}
 use Rattle.dtx_receiver.specs.declared.tracking.Tracking.{Tracking}
 use Rattle.dtx_receiver.specs.declared.tracking.Tracking.TheVariants.{Searching, Sync, Data, Ended}
 use Rattle.dtx_repeat.specs.GoingOn.{GoesOn}
-use Rattle.dtx_repeat.specs.GoingOnLaws.{Steps}
+use Rattle.dtx_repeat.proofs.GoingOnLemmas.{Steps}
 use Rattle.dtx_repeat.specs.Repeater.{given_behind}
 
 abbrev pub BeginsNone : Tracking → Type 0

@@ -1,9 +1,5 @@
 pub mod Restored
 pub mod Lives
 pub mod Repeater
-pub mod RestoredLaws
 pub mod GoingOn
-pub mod GoingOnLaws
-pub mod LivesLaws
 pub mod Marks
-pub mod MarksLaws

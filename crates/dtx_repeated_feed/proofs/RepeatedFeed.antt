@@ -12,13 +12,13 @@ use Rattle.dtx_meaning.specs.declared.status.Status.TheVariants.{Same}
 use Rattle.dtx_outside.specs.Shelf.{Files}
 use Rattle.dtx_receiver.specs.Intervals.{NoneLooks}
 use Rattle.dtx_repeat.specs.Lives.{lives, repeated, repeated_log}
-use Rattle.dtx_repeat.specs.LivesLaws.{as_many}
+use Rattle.dtx_repeat.proofs.LivesLemmas.{as_many}
 use Rattle.dtx_words.specs.Fitting.{command_of}
 use Rattle.dtx_words.specs.Names as names
 use Rattle.dtx_words.specs.Number.{number_in}
 use Rattle.dtx_words.specs.declared.rows.Command.{Command}
 use Rattle.dtx_words.specs.declared.rows.Command.TheVariants.{Repeat}
-use Rattle.dtx_jobs.specs.GivenLaws.{no_run_in}
+use Rattle.dtx_jobs.proofs.GivenLemmas.{no_run_in}
 use Rattle.dtx_jobs.specs.Repeat.{repeating}
 use Rattle.dtx_symbol_laws.specs.RepeatedFiles.{repeated_of}
 use Rattle.dtx_forms.specs.Shapes.{segments}

@@ -8,10 +8,10 @@ use Rattle.dtx_galois.specs.Field.{AreBytes}
 use Rattle.dtx_laws.specs.Codeword.{IsCode, IsCodeword}
 use Rattle.dtx_laws.specs.Register.{generator, register}
 use Rattle.dtx_laws.specs.Words.{codeword, completed}
-use Rattle.dtx_laws.specs.EncodingLaws.{encoded, encoded_is, length_generator, length_register}
-use Rattle.dtx_laws.specs.ChoiceLaws.{codeword_is, codeword_only}
-use Rattle.dtx_laws.specs.CompletedLaws.{completed_four}
-use Rattle.dtx_laws.specs.PartsLaws.{bytes_take}
+use Rattle.dtx_laws.proofs.EncodingLemmas.{encoded, encoded_is, length_generator, length_register}
+use Rattle.dtx_laws.proofs.ChoiceLemmas.{codeword_is, codeword_only}
+use Rattle.dtx_laws.proofs.CompletedLemmas.{completed_four}
+use Rattle.dtx_laws.proofs.PartsLemmas.{bytes_take}
 use Rattle.dtx_rs.proofs.Linear.{register_padded}
 
 -- the first bytes of a word

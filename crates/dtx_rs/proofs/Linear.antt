@@ -5,11 +5,11 @@ use Rattle.std.proofs.lemmas.List.{length_push, append_assoc, append-nil, length
 use Rattle.std.specs.Int.Bits.{xor_comm, xor_assoc, xor_self, xor_zero_r}
 use Rattle.dtx_galois.specs.Field.{mul}
 use Rattle.dtx_galois.specs.Word.{sums, scaled}
-use Rattle.dtx_galois.specs.LinearLaws.{mul_left, xor_swap}
-use Rattle.dtx_galois.specs.FieldLaws.{mul_zero, zero_mul}
-use Rattle.dtx_galois.specs.WordsLaws.{length_sums, length_scaled}
+use Rattle.dtx_galois.proofs.LinearLemmas.{mul_left, xor_swap}
+use Rattle.dtx_galois.proofs.FieldLemmas.{mul_zero, zero_mul}
+use Rattle.dtx_galois.proofs.WordsLemmas.{length_sums, length_scaled}
 use Rattle.dtx_laws.specs.Register.{fed, register}
-use Rattle.dtx_laws.specs.EncodingLaws.{length_register}
+use Rattle.dtx_laws.proofs.EncodingLemmas.{length_register}
 
 -- ---- sums of words of one length
 

@@ -4,9 +4,9 @@ use Rattle.std.proofs.Common.{replicate, bit_xor, refl, sym, ap, ap₂, ◌∙�
 use Rattle.std.proofs.lemmas.List.{ext_get_or, take_at, drop_at, append_assoc, length_push}
 use Rattle.dtx_galois.specs.Field.{mul, pow}
 use Rattle.dtx_galois.specs.Word.{sums, scaled}
-use Rattle.dtx_galois.specs.FieldLaws.{mul_comm, mul_one, pow_small}
+use Rattle.dtx_galois.proofs.FieldLemmas.{mul_comm, mul_one, pow_small}
 use Rattle.dtx_laws.specs.Register.{generator}
-use Rattle.dtx_laws.specs.EncodingLaws.{length_generator}
+use Rattle.dtx_laws.proofs.EncodingLemmas.{length_generator}
 use Rattle.dtx_rs.specs.Generator.{multiplied}
 
 length_multiplied : (r c : ℕ) (xs : List ℕ) → length (multiplied r c xs) ≡ length xs

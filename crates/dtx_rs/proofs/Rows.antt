@@ -5,7 +5,7 @@ use Rattle.std.proofs.lemmas.List.{length-replicate, take_more}
 use Rattle.std.specs.Int.Bits.{xor_zero_r}
 use Rattle.dtx_galois.specs.Word.{sums}
 use Rattle.dtx_laws.specs.Register.{fed, register}
-use Rattle.dtx_laws.specs.EncodingLaws.{length_register}
+use Rattle.dtx_laws.proofs.EncodingLemmas.{length_register}
 use Rattle.dtx_rs.specs.Table.{row}
 use Rattle.dtx_rs.proofs.Linear.{zeros_sums, register_sums, register_append, zero_fed, big_step}
 

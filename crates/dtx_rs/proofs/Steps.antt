@@ -5,7 +5,7 @@ use Rattle.std.proofs.lemmas.List.{length_push}
 use Rattle.std.proofs.lemmas.Nat.{le_bytes_4}
 use Rattle.std.specs.Int.{to_le_bytes, from_le_bytes, w32}
 use Rattle.dtx_galois.specs.Word.{sums}
-use Rattle.dtx_galois.specs.WordsLaws.{length_sums}
+use Rattle.dtx_galois.proofs.WordsLemmas.{length_sums}
 use Rattle.dtx_laws.specs.Register.{register}
 use Rattle.dtx_rs.specs.Table.{row, word_bytes}
 use Rattle.dtx_rs.proofs.Rows.{four_fed, length_row}

@@ -5,7 +5,7 @@ use Rattle.std.proofs.lemmas.List.{ext_get_or, get_or-map, length-map, set_at}
 use Rattle.std.specs.Simd.Lanes.{zip2}
 use Rattle.dtx_galois.specs.Field.{mul}
 use Rattle.dtx_galois.specs.Word.{sums, scaled}
-use Rattle.dtx_galois.specs.WordsLaws.{length_sums}
+use Rattle.dtx_galois.proofs.WordsLemmas.{length_sums}
 use Rattle.dtx_laws.specs.Register.{fed}
 
 pub sums_at : (xs ys : List ℕ) (k : ℕ) → k < length xs → k < length ys

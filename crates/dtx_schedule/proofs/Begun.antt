@@ -8,15 +8,15 @@ use Rattle.std.proofs.Math.Seq.{take-length}
 use Rattle.std.proofs.lemmas.List.{take_more, take-append-drop}
 use Rattle.std.proofs.lemmas.Option.{slice_get_within, get_or_from_slice_get}
 use Rattle.dtx_meaning.specs.Meaning.{Outputs, ArePartWritten, with_outputs}
-use Rattle.dtx_meaning.specs.Laws.{part_before, part_behind, with_outputs-append}
+use Rattle.dtx_meaning.proofs.MeaningLemmas.{part_before, part_behind, with_outputs-append}
 use Rattle.dtx_outside.specs.Shelf.{Files, with_file, IsBegun}
 use Rattle.dtx_outside.specs.Written.{IsWritten}
-use Rattle.dtx_outside.specs.WrittenLaws.{begun_written}
+use Rattle.dtx_outside.proofs.WrittenLemmas.{begun_written}
 use Rattle.dtx_outside.specs.declared.shelf.WriteNo.{WriteNo}
 use Rattle.dtx_plan.specs.declared.transmitter.Transmitter.{Transmitter}
 use Rattle.dtx_words.specs.NetworkNames.{symbol_name, log_name}
 use Rattle.dtx_schedule.specs.TransmitterFiles.{files_of, log_file, nothing, played, played_outputs}
-use Rattle.dtx_schedule.specs.FilesLaws.{contents_same, no_log_file, no_symbol_file}
+use Rattle.dtx_schedule.proofs.FilesLemmas.{contents_same, no_log_file, no_symbol_file}
 
 -- the outputs of the first n transmitters, with nothing in them
 abbrev pub first_empty : List Transmitter → ℕ → Outputs

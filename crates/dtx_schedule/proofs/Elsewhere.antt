@@ -4,8 +4,8 @@ use Rattle.dtx_files.specs.LogText.{log_text}
 use Rattle.dtx_files.specs.Symbols.{segment_bytes}
 use Rattle.dtx_net.specs.Sent.{sent_segments}
 use Rattle.dtx_net.specs.Steps.{Step}
-use Rattle.dtx_net.specs.GrowsLaws.{segments_same, lines_same}
-use Rattle.dtx_net.specs.LastLifeLaws.{lives_elsewhere}
+use Rattle.dtx_net.proofs.GrowsLemmas.{segments_same, lines_same}
+use Rattle.dtx_net.proofs.LastLifeLemmas.{lives_elsewhere}
 use Rattle.dtx_plan.specs.declared.transmitter.Transmitter.{Transmitter}
 use Rattle.dtx_schedule.specs.TransmitterFiles.{symbol_file, log_file}
 

@@ -10,7 +10,7 @@ use Rattle.std.proofs.lemmas.Simd.{map-map}
 use Rattle.dtx_lists.proofs.Range.{map-range_same}
 use Rattle.dtx_make.specs.Made.{made_packet}
 use Rattle.dtx_packets.specs.Packets.{packet_at, packets_from, packets_of, whole_packets}
-use Rattle.dtx_packets.specs.PacketLaws.{packets_from-append}
+use Rattle.dtx_packets.proofs.PacketLemmas.{packets_from-append}
 use Rattle.dtx_outside.specs.Shelf.{Files}
 use Rattle.dtx_plan.specs.declared.transmitter.Transmitter.{Transmitter}
 use Rattle.dtx_plan.specs.declared.event.Event.{Event}

@@ -12,7 +12,7 @@ use Rattle.dtx_words.specs.NetworkNames.{feed_name, symbol_name, log_name}
 use Rattle.dtx_schedule.specs.declared.playout.Playout.{Playout}
 use Rattle.dtx_schedule.specs.PlayedSoFar.{IsPlayedSoFar, IsUnderWay}
 use Rattle.dtx_schedule.specs.TransmitterFiles.{Contents, files_of, played, played_outputs}
-use Rattle.dtx_schedule.specs.FilesLaws.{get_past, with_outputs-told}
+use Rattle.dtx_schedule.proofs.FilesLemmas.{get_past, with_outputs-told}
 use Rattle.dtx_schedule.proofs.Fronts.{at_rest}
 
 -- the feed is no file of a transmitter: its name begins with another letter

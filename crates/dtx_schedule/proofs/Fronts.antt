@@ -9,14 +9,14 @@ use Rattle.std.proofs.lemmas.List.{append-nil}
 use Rattle.dtx_exciter.specs.Emission.{last_segments}
 use Rattle.dtx_exciter.specs.Log.{restart, line_of}
 use Rattle.dtx_exciter.specs.Packets.{last_answer}
-use Rattle.dtx_files.specs.AppendedLaws.{segment_bytes-append, log_text-append}
+use Rattle.dtx_files.proofs.AppendedLemmas.{segment_bytes-append, log_text-append}
 use Rattle.dtx_files.specs.LogText.{log_text}
 use Rattle.dtx_files.specs.Symbols.{segment_bytes}
 use Rattle.dtx_meaning.specs.Meaning.{ArePartWritten, IsFrontOf, with_outputs}
 use Rattle.dtx_net.specs.Lives.{last_life}
 use Rattle.dtx_net.specs.Sent.{sent_segments, lines_of}
 use Rattle.dtx_net.specs.Steps.{Step}
-use Rattle.dtx_net.specs.GrowsLaws.{segments_given, lines_given, segments_restarted, lines_restarted}
+use Rattle.dtx_net.proofs.GrowsLemmas.{segments_given, lines_given, segments_restarted, lines_restarted}
 use Rattle.dtx_outside.specs.Shelf.{Files, with_file}
 use Rattle.dtx_plan.specs.declared.transmitter.Transmitter.{Transmitter}
 use Rattle.dtx_words.specs.NetworkNames.{symbol_name, log_name}

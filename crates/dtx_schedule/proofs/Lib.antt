@@ -1,3 +1,5 @@
+pub mod FilesLemmas
+pub mod ProgressLemmas
 pub mod Begun
 pub mod Elsewhere
 pub mod EventSteps

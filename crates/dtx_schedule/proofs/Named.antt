@@ -5,7 +5,7 @@ use Rattle.std.specs.Prelude.{Some, slice_get}
 use Rattle.std.proofs.lemmas.Bool.{cases_lt}
 use Rattle.std.proofs.lemmas.List.{length-append}
 use Rattle.std.proofs.lemmas.Option.{same_Some, slice_get_within}
-use Rattle.dtx_net.specs.PlacesLaws.{pushed_here}
+use Rattle.dtx_net.proofs.PlacesLemmas.{pushed_here}
 use Rattle.dtx_plan.specs.declared.transmitter.Transmitter.{Transmitter}
 use Rattle.dtx_schedule.specs.Pair.{AreNamesOf}
 use Rattle.dtx_schedule.specs.Playout.{AreNames}

@@ -5,7 +5,7 @@ use Rattle.std.specs.Prelude.{Option, Some, Result, Ok, Err}
 use Rattle.std.specs.Option.{option_map}
 use Rattle.std.proofs.Math.Seq.{take-append-add, take-append_seam}
 use Rattle.std.proofs.lemmas.List.{append-nil, length-append, take_all}
-use Rattle.dtx_meaning.specs.Laws.{part_of_none}
+use Rattle.dtx_meaning.proofs.MeaningLemmas.{part_of_none}
 use Rattle.dtx_meaning.specs.Meaning.{ArePartWritten, IsFrontOf, with_outputs}
 use Rattle.dtx_meaning.specs.declared.status.Status.{Status}
 use Rattle.dtx_meaning.specs.declared.status.Status.TheVariants.{Memory}
@@ -15,9 +15,9 @@ use Rattle.dtx_plan.specs.declared.transmitter.Transmitter.{Transmitter}
 use Rattle.dtx_words.specs.NetworkNames.{symbol_name, log_name}
 use Rattle.dtx_schedule.specs.Played.{IsBrokenOff, IsPlayFault, IsPlayOf}
 use Rattle.dtx_schedule.specs.PlayedSoFar.{IsUnderWay}
-use Rattle.dtx_schedule.specs.FilesLaws.{contents_same}
+use Rattle.dtx_schedule.proofs.FilesLemmas.{contents_same}
 use Rattle.dtx_schedule.specs.Progress.{IsProgressOf, IsComplete, Progress, begun_files}
-use Rattle.dtx_schedule.specs.ProgressLaws.{all_files, all_played, only_begun}
+use Rattle.dtx_schedule.proofs.ProgressLemmas.{all_files, all_played, only_begun}
 use Rattle.dtx_schedule.specs.TransmitterFiles.{AreFronts, Contents, files_of, nothing, played}
 use Rattle.dtx_schedule.specs.TransmitterFiles.{played_outputs}
 use Rattle.dtx_schedule.specs.declared.playing.Played.{Played}

@@ -13,8 +13,8 @@ use Rattle.dtx_schedule.specs.Playout.{AreNames}
 use Rattle.dtx_schedule.specs.TransmitterFiles.{files_of, log_file, played, played_outputs, symbol_file}
 use Rattle.dtx_schedule.specs.declared.pair.FileNames.{FileNames}
 use Rattle.dtx_schedule.proofs.Elsewhere.{log_elsewhere, symbols_elsewhere}
-use Rattle.dtx_schedule.specs.FilesLaws.{AreApart, apart_of, at_places, contents_same, files_with, has_pair, put}
-use Rattle.dtx_schedule.specs.FilesLaws.{set_pair, with_outputs-told}
+use Rattle.dtx_schedule.proofs.FilesLemmas.{AreApart, apart_of, at_places, contents_same, files_with, has_pair, put}
+use Rattle.dtx_schedule.proofs.FilesLemmas.{set_pair, with_outputs-told}
 use Rattle.dtx_schedule.proofs.Fronts.{front_added, front_behind, front_of_same, front_same}
 
 pub are_apart : (ts : List Transmitter) (names : List FileNames) → AreTransmitters ts → AreNames ts names → AreApart ts

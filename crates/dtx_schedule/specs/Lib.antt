@@ -1,10 +1,8 @@
 pub mod Changes
-pub mod FilesLaws
 pub mod Inside
 pub mod Pair
 pub mod Played
 pub mod PlayedSoFar
 pub mod Playout
 pub mod Progress
-pub mod ProgressLaws
 pub mod TransmitterFiles

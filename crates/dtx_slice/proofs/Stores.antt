@@ -4,7 +4,7 @@ use Rattle.std.proofs.Common.{refl, ap, ◌∙◌, arith}
 use Rattle.std.proofs.lemmas.List.{get_or_append_left, get_or-append_right, length-take-le, get_or-drop, take_all}
 use Rattle.std.proofs.lemmas.Simd.{get_or-put_chunk_at, length-put_chunk, get_or-chunk, length-chunk}
 use lib.Lanes.{put_chunk, chunk}
-use Rattle.dtx_trellis.specs.StoresLaws.{lasts, last_at}
+use Rattle.dtx_trellis.proofs.StoresLemmas.{lasts, last_at}
 use Rattle.dtx_slice.proofs.LaneSteps.{picked_small}
 use Rattle.dtx_slice.proofs.Slices.{AreSmall, small_take, small_drop}
 

@@ -3,8 +3,8 @@ use Rattle.std.proofs.Common.{◌≡◌, ℕ, zero, suc, ◌+◌, ◌*◌, ◌/�
 use Rattle.std.proofs.Common.{subst, arith}
 use Rattle.std.specs.List.{range_with_len}
 use Rattle.dtx_trellis.specs.Trellis.{AreBits, State, level, level_of, next_of, state_after}
-use Rattle.dtx_trellis.specs.StepsLaws.{after_zero, level_step, state_step}
-use Rattle.dtx_trellis.specs.GoesOnLaws.{after_bits}
+use Rattle.dtx_trellis.proofs.StepsLemmas.{after_zero, level_step, state_step}
+use Rattle.dtx_trellis.proofs.GoesOnLemmas.{after_bits}
 use Rattle.dtx_soft.specs.Paths.{IsPath, next_state}
 
 -- a level that may follow a state, and the state behind it

@@ -1,3 +1,8 @@
+pub mod LeastPathLemmas
+pub mod SoftenedLemmas
+pub mod CostLemmas
+pub mod SumsLemmas
+pub mod MovedLemmas
 pub mod Writes
 pub mod Steps
 pub mod Paths

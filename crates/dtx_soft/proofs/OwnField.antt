@@ -3,11 +3,11 @@ use Rattle.std.proofs.Common.{◌≡◌, ℕ, zero, suc, ℤ, ◌+◌, ◌<◌, 
 use Rattle.std.proofs.Common.{◌∙◌, arith}
 use Rattle.dtx_soft.specs.Coders.{AreLeast, IsSoftened, coder_symbols, coders_distance}
 use Rattle.dtx_soft.specs.LeastPath.{least_path}
-use Rattle.dtx_soft.specs.LeastPathLaws.{least_path_found}
-use Rattle.dtx_soft.specs.MovedLaws.{distance_same}
+use Rattle.dtx_soft.proofs.LeastPathLemmas.{least_path_found}
+use Rattle.dtx_soft.proofs.MovedLemmas.{distance_same}
 use Rattle.dtx_soft.specs.Paths.{symbol_at}
 use Rattle.dtx_soft.specs.Softened.{IsOwn, softened, softened_cost}
-use Rattle.dtx_soft.specs.SoftenedLaws.{cost_is, softened_is}
+use Rattle.dtx_soft.proofs.SoftenedLemmas.{cost_is, softened_is}
 use Rattle.dtx_soft.proofs.OwnSymbols.{own_symbols}
 use Rattle.dtx_soft.proofs.Softened.{coders_distance_more}
 

@@ -5,7 +5,7 @@ use Rattle.std.proofs.lemmas.Int.{ints}
 use Rattle.std.proofs.lemmas.List.{length-map}
 use Rattle.dtx_soft.specs.Paths.{IsPath, cost, distance, squared, symbol_at}
 use Rattle.dtx_soft.specs.Least.{IsLeast}
-use Rattle.dtx_soft.specs.MovedLaws.{distance-cons, distance_same}
+use Rattle.dtx_soft.proofs.MovedLemmas.{distance-cons, distance_same}
 
 same_squared : (x y : ℤ) → squared x y ≡ 0 → x ≡ y
 unfolding squared

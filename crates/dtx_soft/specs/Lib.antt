@@ -1,16 +1,12 @@
 pub mod Paths
 pub mod Least
 pub mod LeastPath
-pub mod LeastPathLaws
 pub mod Nearest
 pub mod Decoder
 pub mod Certificate
 pub mod Coders
 pub mod Softened
-pub mod SoftenedLaws
-pub mod CostLaws
-pub mod SumsLaws
-pub mod MovedLaws
+pub mod Signed
 pub mod Gaps
 pub mod Near
 pub mod Squares

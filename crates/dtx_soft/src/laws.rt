@@ -8,7 +8,7 @@ ghost use Rattle.dtx_soft.specs.Paths.{IsPath, cost, symbol_at};
 ghost use Rattle.dtx_soft.specs.Least.{ArePotentials, IsLeast, NoneCostsLess};
 ghost use Rattle.dtx_soft.specs.Certificate.{IsCertificate};
 ghost use Rattle.dtx_soft.specs.Coders.{IsSoftened, coder_symbols, coders_distance, segments_distance};
-ghost use Rattle.dtx_soft.specs.CostLaws.{AreSigned};
+ghost use Rattle.dtx_soft.specs.Signed.{AreSigned};
 ghost use Rattle.dtx_soft.specs.Softened.{IsOwn, softened, softened_cost};
 ghost use Rattle.dtx_soft.specs.LeastPath.{least_levels, least_path, least_start};
 

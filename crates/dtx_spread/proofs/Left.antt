@@ -6,7 +6,7 @@ use Rattle.std.proofs.lemmas.Bool.{cases_eq}
 use Rattle.std.proofs.lemmas.List.{get_or-drop, get_or-take, ext_get_or}
 use Rattle.std.proofs.Math.Nat.{add-mod_left, mod-add-mod, mod-eq_of_lt}
 use Rattle.dtx_laws.specs.Branches.{leaving_all, after_all}
-use Rattle.dtx_laws.specs.PlacesLaws.{length_leaving}
+use Rattle.dtx_laws.proofs.PlacesLemmas.{length_leaving}
 use Rattle.dtx_spread.specs.Block.{branches_in, following, AreLeft, AreWidths}
 use Rattle.dtx_spread.proofs.Ahead.{following_end, following_on, following_less}
 use Rattle.dtx_spread.proofs.InBlock.{leaves, branches_byte, branches_moved}

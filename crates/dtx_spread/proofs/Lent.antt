@@ -3,7 +3,7 @@ use Rattle.std.proofs.Common.{◌≡◌, ℕ, ◌+◌, ◌≤◌, List, ◌++◌
 use Rattle.std.proofs.lemmas.List.{take_at, drop_at, drop-drop, length-take-le, append_assoc}
 use Rattle.std.proofs.Math.Seq.{take-add}
 use Rattle.dtx_laws.specs.Branches.{Branching, leaving_all, after_all}
-use Rattle.dtx_laws.specs.PlacesLaws.{leaving_append, after_append, length_leaving}
+use Rattle.dtx_laws.proofs.PlacesLemmas.{leaving_append, after_append, length_leaving}
 use borrow.Rule.Slice.PartMut.{put_mid}
 
 pub lent_whole : (n : ℕ) (xs new : List ℕ) → n ≡ length xs → length new ≡ length xs

@@ -3,7 +3,7 @@
 ghost use Rattle.std.specs.Prelude.{◌≡◌, ℕ, ◌+◌, ◌*◌, ◌<◌};
 ghost use Rattle.dtx_laws.specs.Branches.{IsInterleaver, spreading, gathering};
 ghost use Rattle.dtx_spread.specs.Block.{AreWidths};
-ghost use Rattle.dtx_spread.specs.Longest.{spreading_widths, gathering_widths};
+ghost use Rattle.dtx_spread.specs.WidthsLaws.{spreading_widths, gathering_widths};
 
 /// The widths of `B` branches.
 pub(crate) trait Widths<const B: usize, const M: usize> {

@@ -6,16 +6,16 @@ use Rattle.std.specs.List.{range_with_len}
 use Rattle.std.proofs.lemmas.Bool.{cond-false, cond-true, eq-eqb, ne_eqb}
 use Rattle.std.proofs.lemmas.List.{append_assoc, length-map, take_all, take-append-drop, take-map}
 use Rattle.dtx_acquire.specs.Acquired.{acquired, acquired_cost, acquired_rest, acquired_runs, acquired_so_far}
-use Rattle.dtx_acquire.specs.AcquiredLaws.{all_is_acquired, so_far_grows}
+use Rattle.dtx_acquire.proofs.AcquiredLemmas.{all_is_acquired, so_far_grows}
 use Rattle.dtx_meaning.specs.Status.{ended}
 use Rattle.dtx_meaning.specs.declared.status.Outcome.{Outcome}
 use Rattle.dtx_meaning.specs.declared.status.Status.TheVariants.{Done, TooLong}
 use Rattle.dtx_engine.specs.Made.{Made, joined, only, outputs_of}
 use Rattle.dtx_engine.specs.Recipe.{first_refused, meaning_at, meaning_of_file, whole_units}
 use Rattle.dtx_engine.specs.declared.piece.Ending.TheVariants.{Whole}
-use Rattle.dtx_files.specs.AppendedLaws.{segment_bytes-append}
+use Rattle.dtx_files.proofs.AppendedLemmas.{segment_bytes-append}
 use Rattle.dtx_files.specs.Symbols.{segment_bytes}
-use Rattle.dtx_forms.specs.AllowedFileLaws.{all_read, first_read, none_found}
+use Rattle.dtx_forms.proofs.AllowedFileLemmas.{all_read, first_read, none_found}
 use Rattle.dtx_forms.specs.Shapes.{single_bytes}
 use Rattle.dtx_jobs.specs.Acquire.{acquire_answer, acquired_numbers, acquiring}
 use Rattle.dtx_jobs.specs.Giving.{no_sync_in}

@@ -5,13 +5,13 @@ use Rattle.std.proofs.Common.{ap₂, ◌∙◌, subst, arith}
 use Rattle.std.proofs.lemmas.Bool.{cases_eq, cond-false, cond-true, eq-eqb, ne_eqb}
 use Rattle.std.proofs.lemmas.List.{length-append, length-map, take_all}
 use Rattle.dtx_trellis.specs.Trellis.{symbol_of}
-use Rattle.dtx_frame.specs.AlikeLaws.{looks_alike}
+use Rattle.dtx_frame.proofs.AlikeLemmas.{looks_alike}
 use Rattle.dtx_frame.specs.Detection.{looks_like}
 use Rattle.dtx_frame.specs.Segments.{bit_symbol, data_segment, field_sync, segment_sync, sync_symbols}
-use Rattle.dtx_frame.specs.SymbolsLaws as lengths
-use Rattle.dtx_coder.specs.CountsLaws.{AreSegments}
+use Rattle.dtx_frame.proofs.SymbolsLemmas as lengths
+use Rattle.dtx_coder.proofs.CountsLemmas.{AreSegments}
 use Rattle.dtx_receiver.specs.Intervals.{AreRuns, IsRun, looks_at, segments_in}
-use Rattle.dtx_receiver.specs.IntervalsLaws.{are_runs, only_runs}
+use Rattle.dtx_receiver.proofs.IntervalsLemmas.{are_runs, only_runs}
 use Rattle.dtx_receiver.specs.Runs.{runs}
 use Rattle.dtx_acquire.specs.Acquired.{acquired, acquired_cost, acquired_runs}
 use Rattle.dtx_acquire.specs.Sent.{AreInFields, AreLevels, IsData, IsSync}
@@ -22,8 +22,7 @@ use Rattle.dtx_meaning.specs.declared.status.Status.TheVariants.{Done, NoSync}
 use Rattle.dtx_files.specs.Symbols.{segment_bytes}
 use Rattle.dtx_jobs.specs.Acquire.{acquire_answer, acquired_answer, acquired_numbers}
 use Rattle.dtx_jobs.specs.SymbolFile.{file_segments}
-use Rattle.dtx_jobs.specs.SymbolsBackLaws.{AreBack, EachBack, IsBack, each_append, level_back}
-use Rattle.dtx_jobs.specs.SymbolsBackLaws.{segments_read_back}
+use Rattle.dtx_jobs.proofs.SymbolsBackLemmas.{AreBack, EachBack, IsBack, each_append, level_back, segments_read_back}
 
 -- ---- the run
 

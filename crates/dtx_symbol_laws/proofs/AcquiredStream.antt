@@ -9,13 +9,13 @@ use Rattle.std.proofs.lemmas.List.{take-take}
 use Rattle.dtx_lists.proofs.Below.{at_below, holds_below}
 use Rattle.dtx_trellis.specs.Trellis.{symbol_of}
 use Rattle.dtx_frame.specs.Segments.{data_segment, field_sync, segment_sync}
-use Rattle.dtx_frame.specs.SymbolsLaws.{length_sync}
-use Rattle.dtx_coder.specs.CountsLaws.{length-a53}
-use Rattle.dtx_coder.specs.LevelsLaws.{length-levels}
-use Rattle.dtx_coder.specs.SegmentsLaws.{segment_is}
+use Rattle.dtx_frame.proofs.SymbolsLemmas.{length_sync}
+use Rattle.dtx_coder.proofs.CountsLemmas.{length-a53}
+use Rattle.dtx_coder.proofs.LevelsLemmas.{length-levels}
+use Rattle.dtx_coder.proofs.SegmentsLemmas.{segment_is}
 use Rattle.dtx_coder.specs.Stream.{a53, a53_symbols, last_before, last_of, levels, no_last, segment}
-use Rattle.dtx_chain.specs.LevelsLaws.{level_small}
-use Rattle.dtx_chain.specs.PlacesLaws.{data_at_place, sync_at}
+use Rattle.dtx_chain.proofs.LevelsLemmas.{level_small}
+use Rattle.dtx_chain.proofs.PlacesLemmas.{data_at_place, sync_at}
 use Rattle.dtx_soft.specs.Coders.{coder_symbols}
 use Rattle.dtx_soft.specs.Softened.{IsOwn}
 use Rattle.dtx_acquire.specs.Acquired as acquired

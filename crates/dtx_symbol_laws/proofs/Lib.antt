@@ -1,3 +1,4 @@
+mod MendedBackLemmas
 pub mod AcquiredFile
 pub mod AcquiredRun
 pub mod AcquiredStream

@@ -5,18 +5,17 @@ use Rattle.std.proofs.Common.{arith}
 use Rattle.std.proofs.lemmas.List.Elements.{All-get_or}
 use Rattle.dtx_trellis.specs.Trellis.{symbol_of}
 use Rattle.dtx_trellis.specs.Pairs.{coder_at}
-use Rattle.dtx_coder.specs.CountsLaws.{AreSegments, segments_map}
+use Rattle.dtx_coder.proofs.CountsLemmas.{AreSegments, segments_map}
 use Rattle.dtx_soft.specs.Coders.{coder_symbols}
 use Rattle.dtx_soft.specs.LeastPath.{least_levels, least_start}
-use Rattle.dtx_soft.specs.LeastPathLaws.{least_path_found}
+use Rattle.dtx_soft.proofs.LeastPathLemmas.{least_path_found}
 use Rattle.dtx_soft.specs.Paths.{IsPath, next_state, symbol_at}
 use Rattle.dtx_soft.specs.Softened.{least_symbols, softened, softened_segment, softened_symbol}
 use Rattle.dtx_files.specs.Symbols.{segment_bytes}
 use Rattle.dtx_jobs.specs.Soft.{in_groups, place_at, soft_at, soft_from, soft_symbols}
 use Rattle.dtx_jobs.specs.SymbolFile.{file_segments, segment_at, symbol_of_byte, whole_segments}
-use Rattle.dtx_jobs.specs.SymbolsBackLaws.{AreBack, EachBack, IsBack, each_at, each_drop, each_map, each_of}
-use Rattle.dtx_jobs.specs.SymbolsBackLaws.{each_range, each_take}
-use Rattle.dtx_jobs.specs.SymbolsBackLaws.{level_back, segments_read_back}
+use Rattle.dtx_jobs.proofs.SymbolsBackLemmas.{AreBack, EachBack, IsBack, each_at, each_drop, each_map, each_of}
+use Rattle.dtx_jobs.proofs.SymbolsBackLemmas.{each_range, each_take, level_back, segments_read_back}
 use Rattle.dtx_symbol_laws.proofs.SoftFiles.{byte_back}
 use Rattle.dtx_symbol_laws.proofs.SoftMoved.{HasRows, file_rows, softened_row}
 

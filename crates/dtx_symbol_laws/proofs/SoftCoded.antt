@@ -2,19 +2,19 @@
 use Rattle.std.proofs.Common.{◌≡◌, ◌≢◌, ℕ, ℤ, zero, suc, ◌+◌, ◌-◌, ◌*◌, ◌/◌, ◌%◌, ◌<◌, ◌≤◌, List, [], ◌∷◌, length, min}
 use Rattle.std.proofs.Common.{refl, sym, ap, ap₂, ◌∙◌, arith}
 use Rattle.dtx_packets.specs.Packets.{packets_of, whole_packets}
-use Rattle.dtx_coder.specs.CountsLaws.{length-a53}
+use Rattle.dtx_coder.proofs.CountsLemmas.{length-a53}
 use Rattle.dtx_coder.specs.Stream.{a53, a53_symbols}
 use Rattle.dtx_soft.specs.Softened.{softened_cost}
-use Rattle.dtx_soft.specs.SumsLaws.{over, over_more}
+use Rattle.dtx_soft.proofs.SumsLemmas.{over, over_more}
 use Rattle.dtx_meaning.specs.Meaning.{Meaning}
 use Rattle.dtx_meaning.specs.declared.status.Status.TheVariants.{Done}
 use Rattle.dtx_engine.specs.Made.{only, outputs_of}
 use Rattle.dtx_engine.specs.Recipe.{meaning_of_file}
 use Rattle.dtx_files.specs.Symbols.{segment_bytes}
 use Rattle.dtx_forms.specs.Shapes.{segments}
-use Rattle.dtx_packet_jobs.specs.PacketFileLaws.{length-packets_of}
+use Rattle.dtx_packet_jobs.proofs.PacketFileLemmas.{length-packets_of}
 use Rattle.dtx_jobs.specs.Soft.{count_from, field_sum, has_group, in_groups, place_at, soft_symbols, softening}
-use Rattle.dtx_jobs.specs.StreamBackLaws.{length-symbol_bytes, stream_read_back}
+use Rattle.dtx_jobs.proofs.StreamBackLemmas.{length-symbol_bytes, stream_read_back}
 use Rattle.dtx_jobs.specs.SymbolFile.{whole_segments}
 use Rattle.dtx_jobs.specs.Symbols.{symbol_bytes}
 use Rattle.dtx_symbol_laws.specs.SoftFields.{kept_of, place_behind}

@@ -13,10 +13,9 @@ use Rattle.std.proofs.lemmas.List.FromFn.{fill_by_all, get_or-map-range_with_len
 use Rattle.std.proofs.lemmas.List.Sums.{sum_by-append, sum_by-cons}
 use Rattle.dtx_lists.proofs.Range.{map-range_same}
 use Rattle.dtx_receiver.specs.Intervals.{AreRuns, IsRun, NoneLooks, looks_at, segments_in}
-use Rattle.dtx_receiver.specs.IntervalsLaws.{are_runs, only_runs}
+use Rattle.dtx_receiver.proofs.IntervalsLemmas.{are_runs, only_runs}
 use Rattle.dtx_soft.specs.Softened.{softened, softened_segment}
-use Rattle.dtx_soft.specs.SumsLaws.{none_first, over, over_more, over_none, over_one, over_parts}
-use Rattle.dtx_soft.specs.SumsLaws.{over_same}
+use Rattle.dtx_soft.proofs.SumsLemmas.{none_first, over, over_more, over_none, over_one, over_parts, over_same}
 use Rattle.dtx_jobs.specs.Soft.{count_from, field_sum, groups_in, in_groups, place_at, soft_at, soft_from, soft_symbols}
 use Rattle.dtx_symbol_laws.specs.SoftFields.{field_groups, fields_in, fields_of, place_behind}
 use Rattle.dtx_symbol_laws.proofs.SoftPlaces.{Begins, begins_first, none_from, places_stay, run_begins, run_behind}

@@ -9,14 +9,14 @@ use Rattle.std.proofs.lemmas.List.{get_or-drop, get_or-take, length-drop, length
 use Rattle.std.proofs.lemmas.List.FromFn.{get_or-map-range_with_len, length-map-range_with_len}
 use Rattle.dtx_receiver.specs.Intervals.{IsRun}
 use Rattle.dtx_soft.specs.Coders.{segments_distance}
-use Rattle.dtx_soft.specs.MovedLaws.{distance_is, distance_same}
+use Rattle.dtx_soft.proofs.MovedLemmas.{distance_is, distance_same}
 use Rattle.dtx_soft.specs.Paths.{distance}
 use Rattle.dtx_soft.specs.Softened.{softened, softened_cost, softened_segment, softened_symbol}
-use Rattle.dtx_soft.specs.SoftenedLaws.{cost_is, softened_found}
-use Rattle.dtx_soft.specs.SumsLaws.{none_first, over, over_more, over_moved, over_none, over_one, over_parts}
+use Rattle.dtx_soft.proofs.SoftenedLemmas.{cost_is, softened_found}
+use Rattle.dtx_soft.proofs.SumsLemmas.{none_first, over, over_more, over_moved, over_none, over_one, over_parts}
 use Rattle.dtx_jobs.specs.Soft.{count_from, field_sum, in_groups, place_at, soft_symbols}
 use Rattle.dtx_jobs.specs.SymbolFile.{file_segments, segment_at, symbol_of_byte, whole_segments}
-use Rattle.dtx_jobs.specs.SymbolFileLaws.{length-segments_of}
+use Rattle.dtx_jobs.proofs.SymbolFileLemmas.{length-segments_of}
 use Rattle.dtx_symbol_laws.specs.SoftFields.{place_behind}
 use Rattle.dtx_symbol_laws.proofs.SoftFields.{IsField, all_sum, count_at, count_is, field_of, groups_become}
 use Rattle.dtx_symbol_laws.proofs.SoftFields.{others_stay}

@@ -7,7 +7,7 @@ use Rattle.std.proofs.lemmas.List.{length_push, map-append, take_more, take_all}
 use Rattle.std.proofs.lemmas.List.FromFn.{get_or-map-range_with_len, length-map-range_with_len}
 use Rattle.dtx_frame.specs.Detection.{looks_like}
 use Rattle.dtx_receiver.specs.declared.tracking.Tracking.TheVariants.{Searching, Began, Sync, Data, Ended}
-use Rattle.dtx_receiver.specs.FollowingLaws.{tracked_push}
+use Rattle.dtx_receiver.proofs.FollowingLemmas.{tracked_push}
 use Rattle.dtx_receiver.specs.Runs.{followed, runs, sync_due, Tracked, tracked, tracking, tracking_of}
 use Rattle.dtx_jobs.specs.Soft.{next_place, place_in, soft_at, soft_from, soft_symbols}
 

@@ -5,15 +5,15 @@ use Rattle.std.proofs.Common.{◌∙◌, arith}
 use Rattle.std.proofs.lemmas.Bool.{cases_lt}
 use Rattle.std.proofs.lemmas.List.{get_or-drop, get_or-take, get_or_default, get_or_past, length-take}
 use Rattle.std.proofs.lemmas.List.FromFn.{fill_by_all}
-use Rattle.dtx_frame.specs.AlikeLaws.{looks_alike}
+use Rattle.dtx_frame.proofs.AlikeLemmas.{looks_alike}
 use Rattle.dtx_frame.specs.Detection.{looks_like}
-use Rattle.dtx_coder.specs.CountsLaws.{a53_segment}
+use Rattle.dtx_coder.proofs.CountsLemmas.{a53_segment}
 use Rattle.dtx_coder.specs.Stream.{a53}
 use Rattle.dtx_soft.specs.Coders.{coder_symbols}
 use Rattle.dtx_soft.specs.Softened.{IsOwn, softened, softened_cost}
-use Rattle.dtx_chain.specs.PlacesLaws.{sync_at_place}
+use Rattle.dtx_chain.proofs.PlacesLemmas.{sync_at_place}
 use Rattle.dtx_jobs.specs.Soft.{count_from, field_sum, in_groups, place_at, soft_at, soft_from, soft_symbols}
-use Rattle.dtx_jobs.specs.SoftLaws.{none_counts}
+use Rattle.dtx_jobs.proofs.SoftLemmas.{none_counts}
 use Rattle.dtx_jobs.specs.SoftPlacesLaws.{place_first}
 use Rattle.dtx_symbol_laws.specs.SoftFields.{place_behind}
 use Rattle.dtx_symbol_laws.proofs.SoftPlaces.{in_run}

@@ -10,21 +10,21 @@ use Rattle.std.proofs.lemmas.List.FromFn.{fill_by_all, get_or-map-range_with_len
 use Rattle.dtx_trellis.specs.Trellis.{AreBits, State, level, state_after, state_of, symbol_of}
 use Rattle.dtx_trellis.specs.Pairs.{groups, higher, lower}
 use Rattle.dtx_trellis.specs.Groups.{level_at, levels_of}
-use Rattle.dtx_trellis.specs.CodersLaws.{length_higher, length_lower}
-use Rattle.dtx_trellis.specs.GoesOnLaws.{after_bits, level_goes_on, same_levels}
-use Rattle.dtx_trellis.specs.JoinsLaws.{groups_whole}
-use Rattle.dtx_trellis.specs.RoundsLaws.{bits_of}
-use Rattle.dtx_slice.specs.InverseLaws.{lower_bit, place_coder, place_round, place_within}
+use Rattle.dtx_trellis.proofs.CodersLemmas.{length_higher, length_lower}
+use Rattle.dtx_trellis.proofs.GoesOnLemmas.{after_bits, level_goes_on, same_levels}
+use Rattle.dtx_trellis.proofs.JoinsLemmas.{groups_whole}
+use Rattle.dtx_trellis.proofs.RoundsLemmas.{bits_of}
+use Rattle.dtx_slice.proofs.InverseLemmas.{lower_bit, place_coder, place_round, place_within}
 use Rattle.dtx_slice.specs.Unrolled.{symbol_place}
 use Rattle.dtx_frame.specs.Segments.{data_segment, segment_sync}
-use Rattle.dtx_frame.specs.SymbolsLaws.{length_sync}
-use Rattle.dtx_coder.specs.BytesLaws.{length-whole}
+use Rattle.dtx_frame.proofs.SymbolsLemmas.{length_sync}
+use Rattle.dtx_coder.proofs.BytesLemmas.{length-whole}
 use Rattle.dtx_coder.specs.Coded.{whole_groups}
-use Rattle.dtx_coder.specs.CountsLaws.{length-a53}
-use Rattle.dtx_coder.specs.LevelsLaws.{length-levels}
-use Rattle.dtx_coder.specs.SegmentsLaws.{segment_is}
+use Rattle.dtx_coder.proofs.CountsLemmas.{length-a53}
+use Rattle.dtx_coder.proofs.LevelsLemmas.{length-levels}
+use Rattle.dtx_coder.proofs.SegmentsLemmas.{segment_is}
 use Rattle.dtx_coder.specs.Stream.{a53, levels, segment, zero_states}
-use Rattle.dtx_chain.specs.PlacesLaws.{data_at_place}
+use Rattle.dtx_chain.proofs.PlacesLemmas.{data_at_place}
 use Rattle.dtx_soft.specs.Coders.{coder_symbols, data_symbol}
 use Rattle.dtx_soft.specs.Paths.{IsPath, symbol_at}
 use Rattle.dtx_soft.specs.Softened.{IsOwn}

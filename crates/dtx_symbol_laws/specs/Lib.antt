@@ -1,4 +1,3 @@
 pub mod AcquiredFile
-pub mod MendedBackLaws
 pub mod RepeatedFiles
 pub mod SoftFields

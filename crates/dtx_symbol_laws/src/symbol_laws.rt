@@ -12,7 +12,7 @@ ghost use Rattle.dtx_forms.specs.Shapes as shapes;
 ghost use Rattle.dtx_packet_jobs.specs.Damaged.{damaged_making};
 ghost use Rattle.dtx_jobs.specs.Giving.{given_until};
 ghost use Rattle.dtx_jobs.specs.Receive.{IsWritten, receive_answer, received_bytes, receiving, with_corrections};
-ghost use Rattle.dtx_jobs.specs.ReceivedLaws.{received_of};
+ghost use Rattle.dtx_jobs.specs.Receive.{received_of};
 ghost use Rattle.dtx_jobs.specs.SymbolFile.{file_segments, whole_segments};
 
 use dtx_meaning::Status;

@@ -10,18 +10,18 @@ use Rattle.dtx_engine.specs.Recipe.{meaning_of_file, whole_units}
 use Rattle.dtx_engine.specs.declared.engine.Shape.{Shape}
 use Rattle.dtx_engine.specs.declared.piece.Ending.TheVariants.{Whole, Refused}
 use Rattle.dtx_packet_jobs.specs.Feed.{feed_bytes}
-use Rattle.dtx_packet_jobs.specs.PacketFileLaws.{length-packets_of, long-packets_of}
+use Rattle.dtx_packet_jobs.proofs.PacketFileLemmas.{length-packets_of, long-packets_of}
 use Rattle.dtx_forms.specs.Shapes.{packets}
-use Rattle.dtx_meaning.specs.Laws.{carried_before, carried_then, part_of_carried}
+use Rattle.dtx_meaning.proofs.MeaningLemmas.{carried_before, carried_then, part_of_carried}
 use Rattle.dtx_meaning.specs.Meaning.{Meaning, IsCarriedOut, IsWhole, and_then, with_outputs}
 use Rattle.dtx_meaning.specs.Status.{IsFault}
 use Rattle.dtx_meaning.specs.declared.status.Outcome.{Outcome}
 use Rattle.dtx_meaning.specs.declared.status.Status.{Status}
 use Rattle.dtx_meaning.specs.declared.status.Status.TheVariants.{Done, TooLong}
 use Rattle.dtx_network.specs.Network.{steps_under}
-use Rattle.dtx_outside.specs.Laws.{get-insert_same}
+use Rattle.dtx_outside.proofs.FilesLemmas.{get-insert_same}
 use Rattle.dtx_outside.specs.Shelf.{Files, with_file}
-use Rattle.dtx_packets.specs.PacketLaws.{packets_of-piece, whole_packets-piece}
+use Rattle.dtx_packets.proofs.PacketLemmas.{packets_of-piece, whole_packets-piece}
 use Rattle.dtx_packets.specs.Packets.{packets_of, whole_packets}
 use Rattle.dtx_plan.specs.declared.plan.NetPlan.{NetPlan}
 use Rattle.dtx_plan.specs.declared.plan.Plan.{Plan}

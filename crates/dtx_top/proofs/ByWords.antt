@@ -13,7 +13,7 @@ use Rattle.dtx_forms.specs.Answers.{Knows}
 use Rattle.dtx_forms.specs.OfWords.{IsOfWords, acquire_same, transmit_same, make_same, number_same, numbers_same}
 use Rattle.dtx_forms.specs.OfWords.{dvb_same, three_same, two_same}
 use Rattle.dtx_words.specs.Fitting.{command_of, fit_fields, fits}
-use Rattle.dtx_words.specs.FittingLaws.{command_fits}
+use Rattle.dtx_words.proofs.FittingLemmas.{command_fits}
 use Rattle.dtx_words.specs.Line.{finished}
 use Rattle.dtx_words.specs.Names.{names_at, repeated}
 use Rattle.dtx_words.specs.Rows.{acquire_row, adapt_row, code_row, excite_row, make_row, net_row, trial_row}

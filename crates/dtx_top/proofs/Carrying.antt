@@ -10,7 +10,7 @@ use Rattle.dtx_packet_jobs.specs.Damaged.{damaged_making}
 use Rattle.dtx_packet_jobs.specs.PastEnd.{first_past}
 use Rattle.dtx_jobs.specs.Receive.{receiving}
 use Rattle.dtx_forms.specs.Shapes.{segments}
-use Rattle.dtx_meaning.specs.Laws.{carried_refused}
+use Rattle.dtx_meaning.proofs.MeaningLemmas.{carried_refused}
 use Rattle.dtx_meaning.specs.Meaning.{Meaning, IsCarriedOut}
 use Rattle.dtx_meaning.specs.Status.{IsFault, ended}
 use Rattle.dtx_meaning.specs.declared.status.Outcome.{Outcome}

@@ -6,8 +6,8 @@ use Rattle.dtx_outside.specs.Shelf.{Files}
 use Rattle.dtx_outside.specs.Sink.{IsCounted, HasRisenBy}
 use Rattle.dtx_outside.specs.declared.sink.SinkNo.{SinkNo}
 use Rattle.dtx_outside.specs.declared.sink.SinkNo.TheVariants as sink
-use Rattle.dtx_meaning.specs.Laws.{done_printed, done_wanting, done_unprinted, status_of_done}
-use Rattle.dtx_meaning.specs.Laws.{whole_of_carried}
+use Rattle.dtx_meaning.proofs.MeaningLemmas.{done_printed, done_wanting, done_unprinted, status_of_done}
+use Rattle.dtx_meaning.proofs.MeaningLemmas.{whole_of_carried}
 use Rattle.dtx_meaning.specs.Meaning.{Meaning, IsCarriedOut, IsDone, IsUnprinted}
 use Rattle.dtx_meaning.specs.Status.{IsFault, blame_of}
 use Rattle.dtx_meaning.specs.declared.status.Outcome.{Outcome}

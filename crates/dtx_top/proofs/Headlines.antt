@@ -11,7 +11,7 @@ use Rattle.std.proofs.lemmas.List.Elements.{All-get_or}
 use Rattle.std.proofs.lemmas.Option.{slice_get_within, get_or_from_slice_get}
 use Rattle.dtx_outside.specs.Shelf.{Files}
 use Rattle.dtx_packets.specs.Packets.{packets_of}
-use Rattle.dtx_plan.specs.WalksLaws.{plan_sound, plan_transmitters}
+use Rattle.dtx_plan.proofs.WalksLemmas.{plan_sound, plan_transmitters}
 use Rattle.dtx_plan.specs.Plan.{plan_of}
 use Rattle.dtx_plan.specs.Sound.{IsTransmitter}
 use Rattle.dtx_plan.specs.declared.plan.NetPlan.{NetPlan}
@@ -23,10 +23,10 @@ use Rattle.dtx_make.specs.Hurt.{hurt}
 use Rattle.dtx_receiver.specs.Packets.{received}
 use Rattle.dtx_net.specs.Sent.{sent_segments}
 use Rattle.dtx_net.specs.Steps.{transmitter_place}
-use Rattle.dtx_chain.specs.ReceivedLaws.{all_whole}
+use Rattle.dtx_chain.proofs.ReceivedLemmas.{all_whole}
 use Rattle.dtx_network.specs.Network.{steps_under}
 use Rattle.dtx_network.specs.Plans.{IsPlan, IsStream}
-use Rattle.dtx_meaning.specs.Laws.{whole_of_carried}
+use Rattle.dtx_meaning.proofs.MeaningLemmas.{whole_of_carried}
 use Rattle.dtx_meaning.specs.Meaning.{Meaning, Outputs, IsCarriedOut, and_then, refused, with_outputs}
 use Rattle.dtx_meaning.specs.Status.{IsFault}
 use Rattle.dtx_meaning.specs.declared.status.Outcome.{Outcome}
@@ -39,13 +39,13 @@ use Rattle.dtx_forms.specs.PlanFile.{under_plan, under_said}
 use Rattle.dtx_forms.specs.Shapes.{packets, segments}
 use Rattle.dtx_packet_jobs.specs.Damaged.{damaged_making}
 use Rattle.dtx_packet_jobs.specs.Feed.{feed_bytes}
-use Rattle.dtx_packet_jobs.specs.PacketFileLaws.{packets_of-bytes}
+use Rattle.dtx_packet_jobs.proofs.PacketFileLemmas.{packets_of-bytes}
 use Rattle.dtx_packet_jobs.specs.PastEnd.{first_past}
 use Rattle.dtx_jobs.specs.Receive.{received_bytes, receiving}
-use Rattle.dtx_jobs.specs.ReceiveLaws.{receives_all}
+use Rattle.dtx_jobs.proofs.ReceiveLemmas.{receives_all}
 use Rattle.dtx_jobs.specs.SymbolFile as symbols
 use Rattle.dtx_schedule.specs.Inside.{first_past_feed}
-use Rattle.dtx_schedule.specs.FilesLaws.{AreApart, apart_of, files_with, with_outputs-told}
+use Rattle.dtx_schedule.proofs.FilesLemmas.{AreApart, apart_of, files_with, with_outputs-told}
 use Rattle.dtx_schedule.specs.TransmitterFiles.{played_outputs, symbol_file}
 use Rattle.dtx_top.specs.HeadlineOfFiles.{HeadlineLaw, HeadlineOfFiles}
 use Rattle.dtx_top.specs.NetMeaning.{adapting, events_past, fed_meaning, is_done, network_meaning, planned_meaning}

@@ -7,7 +7,7 @@ use Rattle.dtx_outside.specs.Shelf.{Files}
 use Rattle.dtx_outside.specs.Sink.{IsCounted}
 use Rattle.dtx_outside.specs.declared.sink.SinkNo.{SinkNo}
 use Rattle.dtx_outside.specs.declared.sink.SinkNo.TheVariants as sink
-use Rattle.dtx_meaning.specs.Laws.{whole_of_carried}
+use Rattle.dtx_meaning.proofs.MeaningLemmas.{whole_of_carried}
 use Rattle.dtx_meaning.specs.Meaning.{IsCarriedOut}
 use Rattle.dtx_meaning.specs.Status.{IsFault}
 use Rattle.dtx_meaning.specs.declared.status.Outcome.{Outcome}

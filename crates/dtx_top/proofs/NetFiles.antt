@@ -8,13 +8,13 @@ use Rattle.dtx_packet_jobs.specs.Feed.{feed_bytes}
 use Rattle.dtx_meaning.specs.Meaning.{Outputs, IsNoOutput}
 use Rattle.dtx_net.specs.Steps.{Step}
 use Rattle.dtx_network.specs.Network.{steps_under}
-use Rattle.dtx_outside.specs.Laws.{get-insert_same}
+use Rattle.dtx_outside.proofs.FilesLemmas.{get-insert_same}
 use Rattle.dtx_outside.specs.Shelf.{Files, with_file}
 use Rattle.dtx_plan.specs.declared.plan.NetPlan.{NetPlan}
 use Rattle.dtx_plan.specs.declared.plan.Plan.{Plan}
 use Rattle.dtx_plan.specs.declared.plan.ReceivePlan.{ReceivePlan}
 use Rattle.dtx_plan.specs.declared.transmitter.Transmitter.{Transmitter}
-use Rattle.dtx_schedule.specs.FilesLaws.{AreApart, files_with, get_past, has_pair}
+use Rattle.dtx_schedule.proofs.FilesLemmas.{AreApart, files_with, get_past, has_pair}
 use Rattle.dtx_schedule.specs.TransmitterFiles.{Contents, files_of, played, played_outputs, transmitter_names}
 use Rattle.dtx_words.specs.NetworkNames.{feed_name, log_name, received_name, symbol_name}
 use Rattle.dtx_top.specs.Networks.{AreNetworkFiles, received_names, written_names}

@@ -6,7 +6,7 @@ use Rattle.std.specs.Option.{option_map}
 use Rattle.std.specs.FinMap.{get}
 use Rattle.std.proofs.lemmas.List.{append-nil}
 use Rattle.dtx_make.specs.Made.{made_stream}
-use Rattle.dtx_meaning.specs.Laws.{part_of_none, with_outputs-append}
+use Rattle.dtx_meaning.proofs.MeaningLemmas.{part_of_none, with_outputs-append}
 use Rattle.dtx_meaning.specs.Meaning.{ArePartWritten, Outputs, with_outputs}
 use Rattle.dtx_meaning.specs.Status.{IsFault, ended}
 use Rattle.dtx_meaning.specs.declared.status.Outcome.{Outcome}
@@ -23,7 +23,7 @@ use Rattle.dtx_plan.specs.declared.plan.Plan as whole
 use Rattle.dtx_plan.specs.declared.refusal.PlanNo.{PlanNo}
 use Rattle.dtx_plan.specs.declared.transmitter.Transmitter.{Transmitter}
 use Rattle.dtx_schedule.specs.Progress.{Progress, begun_files}
-use Rattle.dtx_schedule.specs.ProgressLaws.{all_files, all_played, only_begun}
+use Rattle.dtx_schedule.proofs.ProgressLemmas.{all_files, all_played, only_begun}
 use Rattle.dtx_schedule.specs.TransmitterFiles.{played, played_outputs}
 use Rattle.dtx_words.specs.Line.{finished}
 use Rattle.dtx_words.specs.Number.{number_in, number_within}

@@ -6,9 +6,9 @@ use Rattle.std.proofs.lemmas.Bool.{eqb-true, or_cases}
 use Rattle.std.proofs.lemmas.List.{get_or-drop, get_or-take, length-take}
 use Rattle.std.proofs.lemmas.List.Elements.{All-get_or, All-from_get_or}
 use Rattle.dtx_adapter.specs.Feed.{is_placeholder}
-use Rattle.dtx_galois.specs.BytesLaws.{AreBytes-from_places}
+use Rattle.dtx_galois.proofs.BytesLemmas.{AreBytes-from_places}
 use Rattle.dtx_galois.specs.Field.{AreBytes}
-use Rattle.dtx_laws.specs.PartsLaws.{byte_at}
+use Rattle.dtx_laws.proofs.PartsLemmas.{byte_at}
 use Rattle.dtx_network.specs.Plans.{IsStream}
 use Rattle.dtx_packets.specs.Packet.{pid_of}
 use Rattle.dtx_packet_jobs.specs.Place.{behind, placed}

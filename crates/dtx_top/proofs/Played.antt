@@ -4,9 +4,9 @@ use Rattle.std.specs.Prelude.{Option, Some, None, IfSome, min, slice_index}
 use Rattle.std.specs.FinMap.{get}
 use Rattle.dtx_adapter.specs.Feed.{feed, placeholders}
 use Rattle.dtx_packet_jobs.specs.Feed.{feed_bytes}
-use Rattle.dtx_packet_jobs.specs.FeedFileLaws.{packets_of-feed_bytes, whole_packets-feed_bytes}
+use Rattle.dtx_packet_jobs.proofs.FeedFileLemmas.{packets_of-feed_bytes, whole_packets-feed_bytes}
 use Rattle.dtx_packet_jobs.specs.PastEnd.{first_past}
-use Rattle.dtx_meaning.specs.Laws.{carried_part, carried_then, part_before, part_of_carried, some_before}
+use Rattle.dtx_meaning.proofs.MeaningLemmas.{carried_part, carried_then, part_before, part_of_carried, some_before}
 use Rattle.dtx_meaning.specs.Meaning.{Meaning, IsCarriedOut, with_outputs}
 use Rattle.dtx_meaning.specs.Status.{IsFault, ended}
 use Rattle.dtx_meaning.specs.declared.status.Outcome.{Outcome}
@@ -20,7 +20,7 @@ use Rattle.dtx_plan.specs.declared.plan.NetPlan.{NetPlan}
 use Rattle.dtx_plan.specs.declared.plan.Plan.{Plan}
 use Rattle.dtx_plan.specs.declared.plan.ReceivePlan.{ReceivePlan}
 use Rattle.dtx_plan.specs.declared.transmitter.Transmitter.{Transmitter}
-use Rattle.dtx_schedule.specs.FilesLaws.{apart_of, files_with, has_pair, with_outputs-told}
+use Rattle.dtx_schedule.proofs.FilesLemmas.{apart_of, files_with, has_pair, with_outputs-told}
 use Rattle.dtx_schedule.specs.Inside.{first_past_feed}
 use Rattle.dtx_schedule.specs.Played.{IsPlayFault}
 use Rattle.dtx_schedule.specs.Playout.{IsPlayout, SentBy, packets_given}

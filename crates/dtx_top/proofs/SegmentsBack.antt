@@ -2,7 +2,7 @@
 use Rattle.std.proofs.Common.{◌≡◌, ℕ, List, length}
 use Rattle.dtx_jobs.specs.SymbolFile as file
 use Rattle.dtx_jobs.specs.SymbolFile.{whole_segments}
-use Rattle.dtx_jobs.specs.SymbolsBackLaws.{segments_read_back, whole_segments_back}
+use Rattle.dtx_jobs.proofs.SymbolsBackLemmas.{segments_read_back, whole_segments_back}
 use Rattle.dtx_net.specs.Sent as sent
 use Rattle.dtx_net.specs.Steps.{Step}
 use Rattle.dtx_plan.specs.declared.transmitter.Transmitter.{Transmitter}

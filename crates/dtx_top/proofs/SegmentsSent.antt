@@ -7,22 +7,22 @@ use Rattle.std.specs.List.{flat_map, range_with_len}
 use Rattle.std.proofs.lemmas.Bool.{cases_lt, leb-true}
 use Rattle.std.proofs.lemmas.List.{length-append, length-drop}
 use Rattle.dtx_frame.specs.Segments.{field_sync, sync_symbols}
-use Rattle.dtx_frame.specs.SymbolsLaws.{length_front}
+use Rattle.dtx_frame.proofs.SymbolsLemmas.{length_front}
 use Rattle.dtx_coder.specs.Along.{levels_since}
 use Rattle.dtx_coder.specs.Coded.{whole_groups}
 use Rattle.dtx_coder.specs.Stream.{segment, four_segments, last_of}
-use Rattle.dtx_coder.specs.BytesLaws.{length-whole}
-use Rattle.dtx_coder.specs.CountsLaws.{AreSegments, segments_append, segments_map, segment_at}
-use Rattle.dtx_coder.specs.LevelsLaws.{length-levels_of}
-use Rattle.dtx_coder.specs.SegmentsLaws.{length-segment}
+use Rattle.dtx_coder.proofs.BytesLemmas.{length-whole}
+use Rattle.dtx_coder.proofs.CountsLemmas.{AreSegments, segments_append, segments_map, segment_at}
+use Rattle.dtx_coder.proofs.LevelsLemmas.{length-levels_of}
+use Rattle.dtx_coder.proofs.SegmentsLemmas.{length-segment}
 use Rattle.dtx_exciter.specs.Emission.{segments_since, sent_by, sent_at, sent_before, behind_field_sync, given_under}
 use Rattle.dtx_exciter.specs.Emission.{last_segments}
 use Rattle.dtx_exciter.specs.Emission.{emission}
 use Rattle.dtx_exciter.specs.Order.{Order, orders}
 use Rattle.dtx_exciter.specs.Packets.{readings, under}
 use Rattle.dtx_exciter.specs.Told.{served}
-use Rattle.dtx_exciter.specs.ForceLaws.{force_first, force_stands}
-use Rattle.dtx_jobs.specs.SymbolsBackLaws.{length-segment_bytes}
+use Rattle.dtx_exciter.proofs.ForceLemmas.{force_first, force_stands}
+use Rattle.dtx_jobs.proofs.SymbolsBackLemmas.{length-segment_bytes}
 use Rattle.dtx_net.specs.Lives.{lives_of}
 use Rattle.dtx_net.specs.Sent.{sent_segments}
 use Rattle.dtx_net.specs.Steps.{Step}

@@ -13,8 +13,8 @@ use Rattle.dtx_exciter.specs.Emission.{emission}
 use Rattle.dtx_exciter.specs.Order.{Order, orders}
 use Rattle.dtx_exciter.specs.Packets.{readings, under}
 use Rattle.dtx_exciter.specs.Told.{served}
-use Rattle.dtx_jobs.specs.StreamBackLaws.{levels_small, segment_back, sync_back}
-use Rattle.dtx_jobs.specs.SymbolsBackLaws.{AreBack, EachBack, IsBack, each_at, each_drop, each_flat, each_range}
+use Rattle.dtx_jobs.proofs.StreamBackLemmas.{levels_small, segment_back, sync_back}
+use Rattle.dtx_jobs.proofs.SymbolsBackLemmas.{AreBack, EachBack, IsBack, each_at, each_drop, each_flat, each_range}
 use Rattle.dtx_net.specs.Lives.{lives_of}
 use Rattle.dtx_net.specs.Sent.{sent_segments}
 use Rattle.dtx_net.specs.Steps.{Step}

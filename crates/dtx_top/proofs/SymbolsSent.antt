@@ -9,7 +9,7 @@ use Rattle.std.proofs.lemmas.List.Elements.{All-head, All-tail}
 use Rattle.dtx_packet_jobs.specs.PastEnd.{ends_past, first_past}
 use Rattle.dtx_net.specs.Sent.{sent_segments}
 use Rattle.dtx_net.specs.Steps.{Step, transmitter_place}
-use Rattle.dtx_net.specs.PlaceOfLaws.{place_found, place_missing}
+use Rattle.dtx_net.proofs.PlaceOfLemmas.{place_found, place_missing}
 use Rattle.dtx_network.specs.Network.{steps_under}
 use Rattle.dtx_plan.specs.Sound.{IsDamage}
 use Rattle.dtx_plan.specs.TransmitterTable.{has_address}

@@ -5,7 +5,7 @@ use Rattle.std.proofs.lemmas.Bool.{and_parts}
 use Rattle.dtx_meaning.specs.declared.status.Status.TheVariants.{Done}
 use Rattle.dtx_outside.specs.Shelf.{Files}
 use Rattle.dtx_words.specs.Fitting.{command_of, fit_fields, fits}
-use Rattle.dtx_words.specs.FittingLaws.{command_fits}
+use Rattle.dtx_words.proofs.FittingLemmas.{command_fits}
 use Rattle.dtx_words.specs.Number.{number_in, number_within}
 use Rattle.dtx_words.specs.Rows.{trial_row}
 use Rattle.dtx_words.specs.declared.rows.Command.{Command}
@@ -13,7 +13,7 @@ use Rattle.dtx_words.specs.declared.rows.Command.TheVariants.{Trial}
 use Rattle.dtx_top.specs.Means.{means, means_of}
 use Rattle.dtx_top.specs.Trial.{trial_made, trial_meaning, trial_of}
 use Rattle.dtx_top.proofs.ByWords.{fit_length, with_two}
-use Rattle.dtx_forms.specs.NumbersLaws.{number_most, within_range}
+use Rattle.dtx_forms.proofs.NumbersLemmas.{number_most, within_range}
 
 -- trials of numbers in their ranges are done
 abbrev pub TrialLaw : Type 0

@@ -8,10 +8,10 @@ use Rattle.std.proofs.lemmas.List.Folds.{flat_map-map}
 use Rattle.std.proofs.lemmas.List.FromFn.{get_or-map-range_with_len}
 use Rattle.dtx_engine.specs.Recipe.{first_refused, meaning_of_file, unit_at, whole_units}
 use Rattle.dtx_galois.specs.Field.{AreBytes}
-use Rattle.dtx_packet_jobs.specs.PacketFileLaws.{packets_of-bytes}
+use Rattle.dtx_packet_jobs.proofs.PacketFileLemmas.{packets_of-bytes}
 use Rattle.dtx_forms.specs.Shapes.{packets}
 use Rattle.dtx_make.specs.Made.{made_packet, made_payload, made_stream}
-use Rattle.dtx_make.specs.StreamsLaws.{length-made_stream}
+use Rattle.dtx_make.proofs.StreamsLemmas.{length-made_stream}
 use Rattle.dtx_meaning.specs.Meaning.{Meaning}
 use Rattle.dtx_packets.specs.Packet.{sync_of}
 use Rattle.dtx_packets.specs.Packets.{packet_at, packets_of, whole_packets}

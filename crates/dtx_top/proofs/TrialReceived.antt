@@ -17,27 +17,27 @@ use Rattle.dtx_plan.specs.declared.event.Event.{Event}
 use Rattle.dtx_plan.specs.declared.event.Event.TheVariants.{Foreign, Send}
 use Rattle.dtx_plan.specs.declared.plan.Plan.{Plan}
 use Rattle.dtx_plan.specs.declared.transmitter.Transmitter.{Transmitter}
-use Rattle.dtx_make.specs.EntriesLaws.{entry_at_nothing}
+use Rattle.dtx_make.proofs.EntriesLemmas.{entry_at_nothing}
 use Rattle.dtx_make.specs.Hurt.{hurt}
-use Rattle.dtx_make.specs.LaidBytesLaws.{laid_none}
+use Rattle.dtx_make.proofs.LaidBytesLemmas.{laid_none}
 use Rattle.dtx_make.specs.Made.{made_packet}
-use Rattle.dtx_coder.specs.CountsLaws.{length-a53}
+use Rattle.dtx_coder.proofs.CountsLemmas.{length-a53}
 use Rattle.dtx_coder.specs.Stream.{a53}
 use Rattle.dtx_receiver.specs.Intervals.{looks_at}
-use Rattle.dtx_receiver.specs.IntervalsLaws.{no_runs}
+use Rattle.dtx_receiver.proofs.IntervalsLemmas.{no_runs}
 use Rattle.dtx_receiver.specs.Runs.{runs}
 use Rattle.dtx_adapter.specs.Feed.{feed}
 use Rattle.dtx_exciter.specs.Emission.{emission, last_segments}
-use Rattle.dtx_exciter.specs.EmittedLaws.{emission_push}
+use Rattle.dtx_exciter.proofs.EmittedLemmas.{emission_push}
 use Rattle.dtx_exciter.specs.Lockstep.{segment_place}
 use Rattle.dtx_exciter.specs.Log.{emission_over}
 use Rattle.dtx_exciter.specs.Packets.{anchor_of, group_part, part_of, under}
 use Rattle.dtx_net.specs.Lives.{lives_from, lives_of, own_steps}
-use Rattle.dtx_net.specs.PlaceOfLaws.{place_only}
+use Rattle.dtx_net.proofs.PlaceOfLemmas.{place_only}
 use Rattle.dtx_net.specs.Sent.{sent_segments}
 use Rattle.dtx_net.specs.Steps.{Step, actions_of, feed_packet, schedule, steps_at, steps_of, transmitter_place}
 use Rattle.dtx_net.specs.Lives.{last_life}
-use Rattle.dtx_chain.specs.PlacesLaws.{syncs_look}
+use Rattle.dtx_chain.proofs.PlacesLemmas.{syncs_look}
 use Rattle.dtx_network.specs.Headline.{last_packet, stretch_of}
 use Rattle.dtx_network.specs.Network.{Follows, Joined, steps_under}
 use Rattle.dtx_network.specs.Plans.{IsInTime, IsPlan}
@@ -48,7 +48,7 @@ use Rattle.dtx_meaning.specs.declared.status.Status.TheVariants.{Done, NoSync}
 use Rattle.dtx_words.specs.NetworkNames.{received_name}
 use Rattle.dtx_packet_jobs.specs.PastEnd.{first_past}
 use Rattle.dtx_jobs.specs.Receive.{receive_answer}
-use Rattle.dtx_jobs.specs.ReceivedLaws.{all_damaged_received}
+use Rattle.dtx_jobs.proofs.ReceivedLemmas.{all_damaged_received}
 use Rattle.dtx_jobs.specs.SymbolFile.{file_segments, whole_segments}
 use Rattle.dtx_schedule.specs.TransmitterFiles.{symbol_file}
 use Rattle.dtx_top.specs.HeadlineOfFiles.{HeadlineLaw}

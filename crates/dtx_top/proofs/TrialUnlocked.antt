@@ -8,10 +8,10 @@ use Rattle.dtx_cadence.specs.Anchor.{anchor, anchor_at, anchor_to, has_mark}
 use Rattle.dtx_exciter.specs.Lockstep.{locked_by, locked_from}
 use Rattle.dtx_exciter.specs.Packets.{anchor_of, syncs}
 use Rattle.dtx_make.specs.Made.{made_packet}
-use Rattle.dtx_net.specs.LastLifeLaws.{last_life_is}
+use Rattle.dtx_net.proofs.LastLifeLemmas.{last_life_is}
 use Rattle.dtx_net.specs.Lives.{last_life, lives_from, lives_of, own_steps}
-use Rattle.dtx_net.specs.OwnLaws.{own_elsewhere, own_here, own_steps-append}
-use Rattle.dtx_net.specs.PlaceOfLaws.{place_only}
+use Rattle.dtx_net.proofs.OwnLemmas.{own_elsewhere, own_here, own_steps-append}
+use Rattle.dtx_net.proofs.PlaceOfLemmas.{place_only}
 use Rattle.dtx_net.specs.Steps.{actions_of, schedule, steps_at, steps_of, transmitter_place}
 use Rattle.dtx_network.specs.Network.{steps_under}
 use Rattle.dtx_network.specs.Plans.{IsPlan}

@@ -12,8 +12,8 @@ use Rattle.std.proofs.lemmas.Option.{same_Some}
 use Rattle.dtx_forms.specs.Answers.{Knows}
 use Rattle.dtx_packet_jobs.specs.Make.{made_file}
 use Rattle.dtx_make.specs.Made.{made_stream}
-use Rattle.dtx_meaning.specs.Laws.{carried_before, carried_then, part_of_carried, part_of_none}
-use Rattle.dtx_meaning.specs.Laws.{whole_of_carried}
+use Rattle.dtx_meaning.proofs.MeaningLemmas.{carried_before, carried_then, part_of_carried, part_of_none}
+use Rattle.dtx_meaning.proofs.MeaningLemmas.{whole_of_carried}
 use Rattle.dtx_meaning.specs.Meaning.{Meaning, IsCarriedOut}
 use Rattle.dtx_meaning.specs.Status.{IsFault, IsOfInputs, blame_of}
 use Rattle.dtx_meaning.specs.declared.status.Outcome.{Outcome}
@@ -23,7 +23,7 @@ use Rattle.dtx_meaning.specs.declared.status.Status.TheVariants.{OutOfFeed, OutO
 use Rattle.dtx_meaning.specs.declared.status.Status.TheVariants.{Memory}
 use Rattle.dtx_network.specs.Network.{steps_under}
 use Rattle.dtx_network.specs.Plans.{IsPlan}
-use Rattle.dtx_outside.specs.Laws.{get-insert_same}
+use Rattle.dtx_outside.proofs.FilesLemmas.{get-insert_same}
 use Rattle.dtx_outside.specs.Shelf.{Files}
 use Rattle.dtx_packets.specs.Packets.{packets_of}
 use Rattle.dtx_plan.specs.Sound.{AreDamages, AreTransmitters, IsDamage, IsEvent, IsNet, IsPart, IsSound, IsTransmitter}

@@ -15,9 +15,9 @@ use Rattle.dtx_plan.specs.declared.plan.NetPlan.{NetPlan}
 use Rattle.dtx_plan.specs.declared.plan.Plan.{Plan}
 use Rattle.dtx_plan.specs.declared.plan.ReceivePlan.{ReceivePlan}
 use Rattle.dtx_plan.specs.declared.transmitter.Transmitter.{Transmitter}
-use Rattle.dtx_schedule.specs.FilesLaws.{AreApart, files_with, get_past, has_pair, with_outputs-told}
+use Rattle.dtx_schedule.proofs.FilesLemmas.{AreApart, files_with, get_past, has_pair, with_outputs-told}
 use Rattle.dtx_schedule.specs.Progress.{begun_files}
-use Rattle.dtx_schedule.specs.ProgressLaws.{all_files}
+use Rattle.dtx_schedule.proofs.ProgressLemmas.{all_files}
 use Rattle.dtx_schedule.specs.TransmitterFiles.{files_of, log_file, symbol_file}
 use Rattle.dtx_words.specs.NetworkNames.{log_name, received_name, symbol_name}
 use Rattle.dtx_top.specs.NetMeaning.{received_past}

@@ -10,15 +10,15 @@ use Rattle.std.proofs.lemmas.List.{length-take-le}
 use Rattle.std.proofs.lemmas.List.FromFn.{get_or-map-range_with_len, length-map-range_with_len}
 use Rattle.dtx_lists.proofs.Range.{map-range_same}
 use Rattle.dtx_chain.specs.Damage.{AreReceived, damage_at, damaged_symbols, from_sync, to_sync}
-use Rattle.dtx_chain.specs.NoDamageLaws.{part_received, slight_before}
+use Rattle.dtx_chain.proofs.NoDamageLemmas.{part_received, slight_before}
 use Rattle.dtx_chain.specs.Undamaged.{ArePackets}
 use Rattle.dtx_exciter.specs.Lockstep.{segment_place}
-use Rattle.dtx_frame.specs.CountsLaws.{sum_is, total, total_zeros}
+use Rattle.dtx_frame.proofs.CountsLemmas.{sum_is, total, total_zeros}
 use Rattle.dtx_jobs.specs.SymbolFile.{segment_at, file_segments, symbol_of_byte, symbols}
-use Rattle.dtx_make.specs.EntriesLaws.{covers_before, covers_within}
+use Rattle.dtx_make.proofs.EntriesLemmas.{covers_before, covers_within}
 use Rattle.dtx_make.specs.Hurt.{covers, entry_at, hurt}
-use Rattle.dtx_make.specs.LaidBytesLaws.{laid_stays}
-use Rattle.dtx_make.specs.LaidLaws.{length-hurt}
+use Rattle.dtx_make.proofs.LaidBytesLemmas.{laid_stays}
+use Rattle.dtx_make.proofs.LaidLemmas.{length-hurt}
 use Rattle.dtx_network.specs.GivesBack.{IsReceivedAlone}
 use Rattle.dtx_network.specs.Headline.{last_packet, stretch_of}
 use Rattle.dtx_plan.specs.declared.damage.Damage.{Damage}

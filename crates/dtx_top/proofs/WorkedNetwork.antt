@@ -25,7 +25,7 @@ use Rattle.dtx_adapter.specs.Feed.{feed}
 use Rattle.dtx_exciter.specs.Lockstep.{locked_by, locked_from}
 use Rattle.dtx_exciter.specs.Packets.{anchor_of}
 use Rattle.dtx_net.specs.Lives.{last_life}
-use Rattle.dtx_net.specs.PlaceOfLaws.{place_only}
+use Rattle.dtx_net.proofs.PlaceOfLemmas.{place_only}
 use Rattle.dtx_net.specs.Sent.{sent_segments}
 use Rattle.dtx_net.specs.Steps.{Step, transmitter_place}
 use Rattle.dtx_chain.specs.Undamaged.{ArePackets}

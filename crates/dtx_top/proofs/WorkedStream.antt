@@ -6,10 +6,10 @@ use Rattle.std.specs.Prelude.{◌||◌, replicate}
 use Rattle.std.specs.List.{range_with_len, list_any}
 use Rattle.std.proofs.lemmas.List.Elements.{All-from_get_or}
 use Rattle.std.proofs.lemmas.List.FromFn.{get_or-map-range_with_len, length-map-range_with_len}
-use Rattle.dtx_galois.specs.BytesLaws.{AreBytes-from_places}
+use Rattle.dtx_galois.proofs.BytesLemmas.{AreBytes-from_places}
 use Rattle.dtx_galois.specs.Field.{AreBytes}
 use Rattle.dtx_make.specs.Made.{made_packet, made_payload, number_at}
-use Rattle.dtx_make.specs.StreamsLaws.{length-made_packet, number_more}
+use Rattle.dtx_make.proofs.StreamsLemmas.{length-made_packet, number_more}
 use Rattle.dtx_network.specs.Orders.{has_order, is_operations}
 use Rattle.dtx_network.specs.Plans.{IsStream}
 use Rattle.dtx_packets.specs.Packet.{pid_of}

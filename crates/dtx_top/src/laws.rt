@@ -48,8 +48,8 @@ use dtx_network::laws::{
 };
 use dtx_packet_jobs::laws::placing::{fields_with_one, groups_begin_late, what_stays};
 
-/// Nothing is refused without cause. Where a call has ended so and counted no fault of reading, writing or printing, its
-/// answer is that of the meaning, or memory was wanted.
+/// Nothing is refused without cause. Where a call has ended so and counted no fault of reading, writing or printing,
+/// its answer is that of the meaning, or memory was wanted.
 pub fn no_answer_is_without_cause()
     ensures { (meaning : Meaning) (start now : Option Files) (status : Status) (before after : Counts) (first last : ℕ)
         → IsDone meaning start status (Rose first last) now → HasEnded before after first last status

@@ -122,8 +122,8 @@ pub fn run<S: Shelf, O: Sink>(alloc: Global, words: &[Word], shelf: &mut S, out:
     // The headline: for every packet stream and schedule, an exciter that from any earlier state is given the adapter's
     // feed unchanged through three cadence marks and on emits, from its first listing whose group starts 52 or more
     // packets later, exactly the A/53 symbols of that feed, at moments that differ between transmitters only by the
-    // signalled offsets; and symbols with at most ten wrong bytes per codeword give its packets back. It holds where all
-    // was done, also where the line alone could not be printed.
+    // signalled offsets; and symbols with at most ten wrong bytes per codeword give its packets back. It holds where
+    // all was done, also where the line alone could not be printed.
     ensures headline { IfSome (S.files shelf.old) (λ held.
         IsAllDone result (S.counts shelf.old) (S.counts shelf.new)
         → HasHeadlineOf (command_of words.now) words.now held (S.files shelf.new)) }

@@ -7,8 +7,8 @@ use Rattle.std.proofs.lemmas.List.FromFn.{fill_by_all, get_or-map-range_with_len
 use Rattle.dtx_trellis.specs.Trellis.{AreBits, State, number_of, symbol_of}
 use Rattle.dtx_trellis.specs.Pairs.{groups}
 use Rattle.dtx_trellis.specs.Groups.{AreSent, level_at, levels_of, coder_after, states_after, sent_place}
-use Rattle.dtx_trellis.specs.CodersLaws.{one_group}
-use Rattle.dtx_trellis.specs.RoundsLaws.{coder_bits}
+use Rattle.dtx_trellis.proofs.CodersLemmas.{one_group}
+use Rattle.dtx_trellis.proofs.RoundsLemmas.{coder_bits}
 
 level_in : (s d : ℕ) (states bytes : List ℕ) → length bytes ≡ 828 → d < 3312
     → get_or (levels_of s states bytes) d 0 ≡ level_at s states bytes d

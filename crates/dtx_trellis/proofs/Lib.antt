@@ -1,2 +1,10 @@
+pub mod CodersLemmas
+pub mod LaneStepsLemmas
+pub mod StepsLemmas
+pub mod StoresLemmas
+pub mod GoesOnLemmas
+pub mod RoundsLemmas
+pub mod JoinsLemmas
+pub mod LaneRoundsLemmas
 pub mod Ends
 pub mod Rows

@@ -2,11 +2,3 @@ pub mod Pairs
 pub mod Trellis
 pub mod Groups
 pub mod Lanes
-pub mod CodersLaws
-pub mod LaneStepsLaws
-pub mod StepsLaws
-pub mod StoresLaws
-pub mod GoesOnLaws
-pub mod RoundsLaws
-pub mod JoinsLaws
-pub mod LaneRoundsLaws

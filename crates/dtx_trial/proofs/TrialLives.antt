@@ -9,8 +9,8 @@ use Rattle.dtx_adapter.specs.Feed.{feed}
 use Rattle.dtx_lists.proofs.RangeMoved.{map-range_moved}
 use Rattle.dtx_make.specs.Made.{made_packet, made_payload}
 use Rattle.dtx_net.specs.Lives.{lives_from, lives_of, own_steps}
-use Rattle.dtx_net.specs.OwnLaws.{own_elsewhere, own_here, own_steps-append}
-use Rattle.dtx_net.specs.PlaceOfLaws.{place_only}
+use Rattle.dtx_net.proofs.OwnLemmas.{own_elsewhere, own_here, own_steps-append}
+use Rattle.dtx_net.proofs.PlaceOfLemmas.{place_only}
 use Rattle.dtx_net.specs.Steps.{actions_of, feed_packet, schedule, steps_at, steps_of, transmitter_place}
 use Rattle.dtx_network.specs.Headline.{HaveNoMark}
 use Rattle.dtx_network.specs.Network.{steps_under}

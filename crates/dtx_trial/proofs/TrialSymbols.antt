@@ -8,13 +8,13 @@ use Rattle.std.proofs.lemmas.List.{append-nil, length-drop, take_all}
 use Rattle.std.proofs.lemmas.List.Folds.{flat_map-map}
 use Rattle.dtx_lists.proofs.Range.{range_with_len-parts}
 use Rattle.dtx_lists.proofs.RangeMoved.{map-range_moved}
-use Rattle.dtx_coder.specs.CountsLaws.{length-a53}
+use Rattle.dtx_coder.proofs.CountsLemmas.{length-a53}
 use Rattle.dtx_coder.specs.Stream.{a53}
 use Rattle.dtx_clock.specs.Clock.{moment_of, stamp_of}
 use Rattle.dtx_receiver.specs.Bytes.{data_count, groups_of}
-use Rattle.dtx_receiver.specs.CompleteLaws.{complete_last, complete_none, complete_parts}
+use Rattle.dtx_receiver.proofs.CompleteLemmas.{complete_last, complete_none, complete_parts}
 use Rattle.dtx_receiver.specs.Packets.{is_complete}
-use Rattle.dtx_chain.specs.AllBackLaws.{data_all}
+use Rattle.dtx_chain.proofs.AllBackLemmas.{data_all}
 use Rattle.dtx_chain.specs.Damage.{numbers_in}
 use Rattle.dtx_chain.specs.Undamaged.{as_received}
 use Rattle.dtx_exciter.specs.Lockstep.{segment_place}

@@ -8,15 +8,15 @@ use Rattle.dtx_laws.specs.Branches.{HasWidths, spreading}
 use Rattle.dtx_coder.specs.Groups.{Coding, aligned_coding}
 use Rattle.dtx_coder.specs.Runs.{AreStates}
 use Rattle.dtx_coder.specs.Along.{RunsAlong}
-use Rattle.dtx_coder.specs.AlongLaws.{along_begins}
+use Rattle.dtx_coder.proofs.AlongLemmas.{along_begins}
 use Rattle.dtx_exciter.specs.Step.{bytes_of}
 use Rattle.dtx_exciter.specs.Kept.{RunsUnder}
-use Rattle.dtx_exciter.specs.UnderLaws.{under_nothing, syncs_nothing}
-use Rattle.dtx_exciter.specs.EndsLaws.{last_single}
+use Rattle.dtx_exciter.proofs.UnderLemmas.{under_nothing, syncs_nothing}
+use Rattle.dtx_exciter.proofs.EndsLemmas.{last_single}
 use Rattle.dtx_watch.specs.declared.watcher.Watcher.{Watcher}
 use Rattle.dtx_watch.specs.Watch.{stamped_before}
 use Rattle.dtx_watch.specs.Kept.{are_some, KeepsUnder, Keeps, StandsFor}
-use Rattle.dtx_watch.specs.ToldLaws.{part_is}
+use Rattle.dtx_watch.proofs.ToldLemmas.{part_is}
 
 pub stands_nothing : (w : Watcher) → w.count ≡ 0 → w.part ≡ 0 → cadence.StandsFor w.anchor [] → StandsFor w []
 stands_nothing w count part h = record {

@@ -5,7 +5,7 @@ use Rattle.std.proofs.lemmas.List.{length-append}
 use Rattle.dtx_watch.specs.declared.notes.Note.{Note}
 use Rattle.dtx_watch.specs.declared.watcher.Watcher.{Watcher}
 use Rattle.dtx_watch.specs.Step.{Group, notes_in, lock_notes}
-use Rattle.dtx_watch.specs.GroupsLaws.{few_notes}
+use Rattle.dtx_watch.proofs.GroupsLemmas.{few_notes}
 
 few_by : (b : Bool) (note : Note) → length (cond b (note ∷ []) []) ≤ 1
 few_by true note = omega arith

@@ -11,16 +11,16 @@ use Rattle.std.proofs.lemmas.List.{get_or-drop, get_or-append_right}
 use Rattle.dtx_packets.specs.declared.packet.Packet.{Packet}
 use Rattle.dtx_coder.specs.Groups.{Coding, after_group}
 use Rattle.dtx_coder.specs.Along.{states_since}
-use Rattle.dtx_coder.specs.AlongLaws.{states_along}
+use Rattle.dtx_coder.proofs.AlongLemmas.{states_along}
 use Rattle.dtx_ops.specs.declared.fields.Ops.{Ops}
 use Rattle.dtx_exciter.specs.Order.{Order, counting_order, placed, orders}
 use Rattle.dtx_exciter.specs.Packets.{readings}
 use Rattle.dtx_exciter.specs.Step.{bytes_of}
 use Rattle.dtx_exciter.specs.Kept.{whole, last_orders, RunsUnder}
-use Rattle.dtx_exciter.specs.EndsLaws as Ends
-use Rattle.dtx_exciter.specs.JoinedLaws.{last_same, settled_same, held_more, front_same, group_bytes, settled_more}
-use Rattle.dtx_exciter.specs.JoinedLaws.{partial_full}
-use Rattle.dtx_exciter.specs.GroupSentLaws.{IsGiven, runs_more}
+use Rattle.dtx_exciter.proofs.EndsLemmas as Ends
+use Rattle.dtx_exciter.proofs.JoinedLemmas.{last_same, settled_same, held_more, front_same, group_bytes, settled_more}
+use Rattle.dtx_exciter.proofs.JoinedLemmas.{partial_full}
+use Rattle.dtx_exciter.proofs.GroupSentLemmas.{IsGiven, runs_more}
 use Rattle.dtx_watch.specs.declared.notes.Note.{Note}
 use Rattle.dtx_watch.specs.declared.notes.What.TheVariants as what
 use Rattle.dtx_watch.specs.declared.telling.Expected.{Expected}
@@ -31,8 +31,8 @@ use Rattle.dtx_watch.specs.Notes.{one_or_none}
 use Rattle.dtx_watch.specs.Step.{group_at_hand, order_of, earliest, notes_in, lock_notes, expected_of}
 use Rattle.dtx_watch.specs.Step.{states_in, group_of, IsEnded}
 use Rattle.dtx_watch.specs.Kept.{are_some, KeepsUnder, IsJoined}
-use Rattle.dtx_watch.specs.GroupsLaws.{IsAtHand, notes_at_hand, order_at_hand, stamped_at_hand}
-use Rattle.dtx_watch.specs.ToldLaws.{stamped_front, not_whole, counts, early}
+use Rattle.dtx_watch.proofs.GroupsLemmas.{IsAtHand, notes_at_hand, order_at_hand, stamped_at_hand}
+use Rattle.dtx_watch.proofs.ToldLemmas.{stamped_front, not_whole, counts, early}
 
 -- ---- a packet that ends no group
 

@@ -10,7 +10,7 @@ use Rattle.dtx_cadence.specs.declared.anchor.Seen.TheVariants.{Free, Start, Lost
 use Rattle.dtx_cadence.specs.Anchor as cadence
 use Rattle.dtx_ops.specs.Reading.{reading}
 use Rattle.dtx_exciter.specs.Packets.{syncs, under, part_of, group_part}
-use Rattle.dtx_exciter.specs.UnderLaws.{Goes, goes, syncs_push}
+use Rattle.dtx_exciter.proofs.UnderLemmas.{Goes, goes, syncs_push}
 use Rattle.dtx_watch.specs.declared.notes.Note.{Note}
 use Rattle.dtx_watch.specs.declared.notes.What.TheVariants as what
 use Rattle.dtx_watch.specs.declared.telling.Expected.TheVariants.{Early}
@@ -19,8 +19,8 @@ use Rattle.dtx_watch.specs.Notes.{packet_note, one_or_none}
 use Rattle.dtx_watch.specs.Watch.{group_notes, told, waiting}
 use Rattle.dtx_watch.specs.Step.{group_at_hand, notes_in, lock_notes, IsSame}
 use Rattle.dtx_watch.specs.Kept.{KeepsUnder, Keeps, StandsFor, IsTaken, IsJoined, Joins}
-use Rattle.dtx_watch.specs.ToldLaws.{Stood, stood_before, part_is, part_under, part_free, told_free, told_lost}
-use Rattle.dtx_watch.specs.ToldLaws.{told_start, told_partial, told_group, waiting_none, waiting_some}
+use Rattle.dtx_watch.proofs.ToldLemmas.{Stood, stood_before, part_is, part_under, part_free, told_free, told_lost}
+use Rattle.dtx_watch.proofs.ToldLemmas.{told_start, told_partial, told_group, waiting_none, waiting_some}
 use Rattle.dtx_watch.proofs.Joined.{all_notes, part_at_hand}
 
 pub record Sees (old : Watcher) (before : List (List ℕ)) (p : List ℕ) (sync : ℕ) (s : Seen)

@@ -3,11 +3,6 @@ pub mod Notes
 pub mod Watch
 pub mod Step
 pub mod Kept
-pub mod AnchorsLaws
-pub mod GroupsLaws
-pub mod ToldLaws
 pub mod Sound
-pub mod SoundLaws
 pub mod WatchText
 pub mod WatchLines
-pub mod WatchLinesLaws

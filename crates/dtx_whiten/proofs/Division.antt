@@ -6,7 +6,7 @@ use Rattle.std.specs.Int.{bit_at}
 use Rattle.std.specs.Int.Bits.{xor_zero_r}
 use Rattle.std.proofs.lemmas.Nat.Bits.{bit_at-lt, bit_at-suc, shr_and_one}
 use Rattle.dtx_galois.specs.BitPolynomial.{remainder}
-use Rattle.dtx_galois.specs.LinearLaws.{bit_cases, shift_of_sum}
+use Rattle.dtx_galois.proofs.LinearLemmas.{bit_cases, shift_of_sum}
 
 -- what the test of a bit tells
 pub bit_set : (n i : ℕ) → bit_and (n / 2 ^ i) 1 ≡ 1 → bit_at n i ≡ 1

@@ -2,7 +2,7 @@
 use Rattle.std.proofs.Common.{◌≡◌, ℕ, suc, ◌+◌, ◌*◌, ◌^◌, ◌<◌, refl, sym, ap, ◌∙◌, pow-suc, mul_assoc, add-one, lit<}
 use Rattle.std.proofs.lemmas.Nat.{shl_below}
 use Rattle.dtx_galois.specs.BitPolynomial.{remainder}
-use Rattle.dtx_galois.specs.DivisionLaws.{remainder_small}
+use Rattle.dtx_galois.proofs.DivisionLemmas.{remainder_small}
 use Rattle.dtx_whiten.specs.Randomizer.{polynomial, preload, register}
 use Rattle.dtx_whiten.proofs.Division.{remainder_double}
 

@@ -1,4 +1,3 @@
 pub mod Randomizer
 pub mod Randomized
-pub mod Bytes
-pub mod PacketsLaws
+pub mod BytesLaws

@@ -4,7 +4,7 @@ ghost use Rattle.std.specs.Prelude.{◌≡◌, ◌*◌, IfOk, vec_len};
 ghost use Rattle.dtx_sizes.specs.declared.fields.TheConstants.{FIELD_PACKETS};
 ghost use Rattle.dtx_sizes.specs.declared.packets.TheConstants.{PACKET_DATA};
 ghost use Rattle.dtx_whiten.specs.Randomizer.{randomizer_bytes};
-ghost use Rattle.dtx_whiten.specs.Bytes.{all_long, all_are_bytes, period_fits};
+ghost use Rattle.dtx_whiten.specs.BytesLaws.{all_long, all_are_bytes, period_fits};
 
 use crate::register::{PRELOAD, shifted, tapped};
 use dtx_laws::Whitener;

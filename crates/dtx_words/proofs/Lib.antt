@@ -1,3 +1,5 @@
+pub mod FittingLemmas
+pub mod NetworkNamesLemmas
 pub mod FileNames
 pub mod FittedRow
 pub mod LinePieces

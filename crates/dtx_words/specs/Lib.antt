@@ -1,9 +1,7 @@
 pub mod Fitting
-pub mod FittingLaws
 pub mod Line
 pub mod Names
 pub mod NetworkNames
 pub mod Number
 pub mod Printed
 pub mod Rows
-pub mod NetworkNamesLaws

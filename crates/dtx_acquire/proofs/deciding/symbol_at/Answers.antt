@@ -1,4 +1,4 @@
-use Rattle.dtx_frame.specs.SymbolsLaws.{level_symbol_is}
+use Rattle.dtx_frame.proofs.SymbolsLemmas.{level_symbol_is}
 use Rattle.dtx_acquire.proofs.deciding.symbol_at.Goals as goal
 
 pub returns : goal.returns

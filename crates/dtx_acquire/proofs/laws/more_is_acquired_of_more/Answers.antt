@@ -1,4 +1,4 @@
-use Rattle.dtx_acquire.specs.AcquiredLaws.{so_far_grows}
+use Rattle.dtx_acquire.proofs.AcquiredLemmas.{so_far_grows}
 use Rattle.dtx_acquire.proofs.laws.more_is_acquired_of_more.Goals as goal
 
 pub returns : goal.returns

@@ -1,7 +1,7 @@
 use Rattle.std.proofs.Common.{◌+◌, ◌*◌, ◌≤◌, ℕ, ◌∙◌, length, arith}
 use Rattle.std.proofs.Math.Nat.{mul-le-mul}
-use Rattle.dtx_soft.specs.CostLaws.{scaled_costs_small}
-use Rattle.dtx_soft.specs.SoftenedLaws.{cost_is, softened_is}
+use Rattle.dtx_soft.proofs.CostLemmas.{scaled_costs_small}
+use Rattle.dtx_soft.proofs.SoftenedLemmas.{cost_is, softened_is}
 use Rattle.dtx_acquire.proofs.restoring.soften.Goals as goal
 
 pub returns-clause-segments : goal.returns-clause-segments

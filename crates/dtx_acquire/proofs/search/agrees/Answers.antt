@@ -1,6 +1,6 @@
 use Rattle.std.proofs.Common.{◌+◌, ◌≡◌, ◌∙◌, ap, arith}
 use Rattle.dtx_acquire.specs.Agreement.{unlike}
-use Rattle.dtx_acquire.specs.AgreementLaws.{agrees_by}
+use Rattle.dtx_acquire.proofs.AgreementLemmas.{agrees_by}
 use Rattle.dtx_acquire.proofs.search.agrees.Goals as goal
 
 pub returns : goal.returns

@@ -2,7 +2,7 @@ use Rattle.std.proofs.Common.{◌≡◌, ◌+◌, ◌*◌, ◌<◌, ◌≤◌, �
 use Rattle.std.proofs.lemmas.Bool.{cases_lt}
 use Rattle.dtx_lists.proofs.RangeSearch.{find-range_misses}
 use Rattle.dtx_acquire.specs.Agreement.{agrees}
-use Rattle.dtx_acquire.specs.AgreementLaws.{least_found, least_none, past_end}
+use Rattle.dtx_acquire.proofs.AgreementLemmas.{least_found, least_none, past_end}
 use Rattle.dtx_acquire.proofs.search.search.Goals as goal
 
 pub returns-then-symbols-from-lt-SEGMENT : goal.returns-then-symbols-from-lt-SEGMENT

@@ -3,7 +3,7 @@ use Rattle.std.proofs.lemmas.Bool.{le-leb, lt-leb}
 use Rattle.std.proofs.Common.{below_more}
 use Rattle.dtx_lists.proofs.RangeSearch.{find-range_first}
 use Rattle.dtx_acquire.specs.Agreement.{agrees}
-use Rattle.dtx_acquire.specs.AgreementLaws.{agrees_by, none_found}
+use Rattle.dtx_acquire.proofs.AgreementLemmas.{agrees_by, none_found}
 use Rattle.dtx_acquire.proofs.search.search_word.Goals as goal
 
 -- from the first on

@@ -1,7 +1,7 @@
 use Rattle.std.proofs.Common.{◌≡◌, ◌+◌, ◌-◌, Some, None, drop, length, sym, ap, ◌∙◌, arith}
 use Rattle.dtx_acquire.specs.Agreement.{agrees, least_from}
-use Rattle.dtx_acquire.specs.AgreementLaws.{least_gives, least_misses, whole_there}
-use Rattle.dtx_acquire.specs.StepsLaws.{agrees_dropped}
+use Rattle.dtx_acquire.proofs.AgreementLemmas.{least_gives, least_misses, whole_there}
+use Rattle.dtx_acquire.proofs.StepsLemmas.{agrees_dropped}
 use Rattle.dtx_acquire.proofs.step.seek.Goals as goal
 
 pub leave-requires : goal.leave-requires

@@ -1,7 +1,7 @@
 use Rattle.std.proofs.Common.{◌≡◌, ℕ, ◌+◌, ◌≤◌, sym, ap, ◌∙◌, arith}
 use Rattle.dtx_acquire.specs.Agreement.{agrees}
-use Rattle.dtx_acquire.specs.AgreementLaws.{least_gives}
-use Rattle.dtx_acquire.specs.StepsLaws.{agrees_dropped, step_due, step_kept, step_lost}
+use Rattle.dtx_acquire.proofs.AgreementLemmas.{least_gives}
+use Rattle.dtx_acquire.proofs.StepsLemmas.{agrees_dropped, step_due, step_kept, step_lost}
 use Rattle.dtx_acquire.proofs.step.step_of.Goals as goal
 
 pub returns-then-agrees-clause-fields : goal.returns-then-agrees-clause-fields

@@ -4,9 +4,9 @@ use Rattle.std.proofs.lemmas.List.{length-append, take_all, length-map, length-s
 use Rattle.dtx_packets.specs.declared.packet.Packet as packet
 use Rattle.dtx_adapter.specs.Feed.{is_placeholder, placeholders, as_feed_packet, feed}
 use Rattle.dtx_adapter.specs.Filling.{Filling, Fills, filled_ops}
-use Rattle.dtx_adapter.specs.FeedsLaws.{placeholders-append, placeholders-one}
-use Rattle.dtx_adapter.specs.MakingLaws.{fills_none, made_none, fills_next, made_next, raw, still_given, given_next}
-use Rattle.dtx_adapter.specs.MakingLaws.{made_more}
+use Rattle.dtx_adapter.proofs.FeedsLemmas.{placeholders-append, placeholders-one}
+use Rattle.dtx_adapter.proofs.MakingLemmas.{fills_none, made_none, fills_next, made_next, raw, still_given, given_next}
+use Rattle.dtx_adapter.proofs.MakingLemmas.{made_more}
 use Rattle.dtx_adapter.proofs.adapter.make_group.Goals as goal
 use Rattle.dtx_adapter.proofs.adapter.make_group.Goals.{then-make, else-make}
 

@@ -1,4 +1,4 @@
-use Rattle.dtx_adapter.specs.PagesLaws.{few_on_page}
+use Rattle.dtx_adapter.proofs.PagesLemmas.{few_on_page}
 use Rattle.dtx_adapter.proofs.filler.ops_of.Goals as goal
 
 pub entries_on-requires : goal.entries_on-requires

@@ -1,5 +1,5 @@
-use Rattle.dtx_adapter.specs.GroupsLaws.{filled_groups-next, filled_groups-more}
-use Rattle.dtx_adapter.specs.ReadingsLaws.{is_filled-feed, filled_groups-feed}
+use Rattle.dtx_adapter.proofs.GroupsLemmas.{filled_groups-next, filled_groups-more}
+use Rattle.dtx_adapter.proofs.ReadingsLemmas.{is_filled-feed, filled_groups-feed}
 use Rattle.dtx_adapter.proofs.laws.counted.Goals as goal
 
 pub returns-clause-next : goal.returns-clause-next

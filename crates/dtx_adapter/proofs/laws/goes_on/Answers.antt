@@ -1,4 +1,4 @@
-use Rattle.dtx_adapter.specs.FeedsLaws.{placeholders-append, length-feed, feed_parts}
+use Rattle.dtx_adapter.proofs.FeedsLemmas.{placeholders-append, length-feed, feed_parts}
 use Rattle.dtx_adapter.proofs.laws.goes_on.Goals as goal
 
 pub returns-clause-long : goal.returns-clause-long

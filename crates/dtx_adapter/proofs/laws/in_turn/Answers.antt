@@ -1,4 +1,4 @@
-use Rattle.dtx_adapter.specs.TurnsLaws as turns
+use Rattle.dtx_adapter.proofs.TurnsLemmas as turns
 use Rattle.dtx_adapter.proofs.laws.in_turn.Goals as goal
 
 pub returns : goal.returns

@@ -1,4 +1,4 @@
-use Rattle.dtx_adapter.specs.ReadingsLaws.{sync_fed}
+use Rattle.dtx_adapter.proofs.ReadingsLemmas.{sync_fed}
 use Rattle.dtx_adapter.proofs.laws.marks.Goals as goal
 
 pub returns : goal.returns

@@ -1,4 +1,4 @@
-use Rattle.dtx_adapter.specs.ReadingsLaws.{placeholder_reads, others_stay, said_states}
+use Rattle.dtx_adapter.proofs.ReadingsLemmas.{placeholder_reads, others_stay, said_states}
 use Rattle.dtx_adapter.proofs.laws.operations_packets.Goals as goal
 
 pub returns-clause-read : goal.returns-clause-read

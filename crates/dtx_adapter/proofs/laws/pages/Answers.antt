@@ -1,6 +1,6 @@
-use Rattle.dtx_adapter.specs.PacketPagesLaws.{packet_of_one, packet_of_many, packet_has_place, on_one_page}
-use Rattle.dtx_adapter.specs.PacketPagesLaws.{packet_entry}
-use Rattle.dtx_adapter.specs.PagesLaws.{pages_hold, pages_are_least}
+use Rattle.dtx_adapter.proofs.PacketPagesLemmas.{packet_of_one, packet_of_many, packet_has_place, on_one_page}
+use Rattle.dtx_adapter.proofs.PacketPagesLemmas.{packet_entry}
+use Rattle.dtx_adapter.proofs.PagesLemmas.{pages_hold, pages_are_least}
 use Rattle.dtx_adapter.proofs.laws.pages.Goals as goal
 
 pub returns-clause-one : goal.returns-clause-one

@@ -1,4 +1,4 @@
-use Rattle.dtx_adapter.specs.FeedsLaws.{feed-take, feed_packet}
+use Rattle.dtx_adapter.proofs.FeedsLemmas.{feed-take, feed_packet}
 use Rattle.dtx_adapter.proofs.laws.prefix.Goals as goal
 
 pub returns-clause-feed : goal.returns-clause-feed

@@ -1,4 +1,4 @@
-use Rattle.dtx_cadence.specs.AnchoredLaws.{in_step_at_third, anchored}
+use Rattle.dtx_cadence.proofs.AnchoredLemmas.{in_step_at_third, anchored}
 use Rattle.dtx_cadence.proofs.laws.from_the_third_mark.Goals as goal
 
 pub returns-clause-third : goal.returns-clause-third

@@ -1,4 +1,4 @@
-use Rattle.dtx_cadence.specs.AnchoredLaws.{missing_mark}
+use Rattle.dtx_cadence.proofs.AnchoredLemmas.{missing_mark}
 use Rattle.dtx_cadence.proofs.laws.one_missing_mark.Goals as goal
 
 pub returns : goal.returns

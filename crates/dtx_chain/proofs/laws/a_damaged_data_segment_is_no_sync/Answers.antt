@@ -1,4 +1,4 @@
-use Rattle.dtx_chain.specs.SlightLaws.{no_sync}
+use Rattle.dtx_chain.proofs.SlightLemmas.{no_sync}
 use Rattle.dtx_chain.proofs.laws.a_damaged_data_segment_is_no_sync.Goals as goal
 
 pub returns : goal.returns

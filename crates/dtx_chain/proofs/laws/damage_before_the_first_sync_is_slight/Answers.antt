@@ -1,4 +1,4 @@
-use Rattle.dtx_chain.specs.NoDamageLaws.{slight_before}
+use Rattle.dtx_chain.proofs.NoDamageLemmas.{slight_before}
 use Rattle.dtx_chain.proofs.laws.damage_before_the_first_sync_is_slight.Goals as goal
 
 pub returns : goal.returns

@@ -1,5 +1,5 @@
-use Rattle.dtx_chain.specs.SlightLaws.{one_run_left}
-use Rattle.dtx_chain.specs.AllBackLaws.{all_back, all_good, none_flagged}
+use Rattle.dtx_chain.proofs.SlightLemmas.{one_run_left}
+use Rattle.dtx_chain.proofs.AllBackLemmas.{all_back, all_good, none_flagged}
 use Rattle.dtx_chain.proofs.laws.gives_all_back.Goals as goal
 
 pub returns-clause-run : goal.returns-clause-run

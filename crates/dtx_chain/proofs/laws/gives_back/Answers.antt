@@ -1,5 +1,5 @@
-use Rattle.dtx_chain.specs.WordsLaws.{corrected_back}
-use Rattle.dtx_chain.specs.NumbersLaws.{number_at}
+use Rattle.dtx_chain.proofs.WordsLemmas.{corrected_back}
+use Rattle.dtx_chain.proofs.NumbersLemmas.{number_at}
 use Rattle.dtx_chain.proofs.laws.gives_back.Goals as goal
 
 pub returns-clause-packet : goal.returns-clause-packet

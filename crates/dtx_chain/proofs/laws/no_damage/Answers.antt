@@ -1,4 +1,4 @@
-use Rattle.dtx_chain.specs.NoDamageLaws.{part_received, is_slight}
+use Rattle.dtx_chain.proofs.NoDamageLemmas.{part_received, is_slight}
 use Rattle.dtx_chain.proofs.laws.no_damage.Goals as goal
 
 pub returns-clause-received : goal.returns-clause-received

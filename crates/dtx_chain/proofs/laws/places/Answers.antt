@@ -1,5 +1,5 @@
-use Rattle.dtx_chain.specs.PlacesLaws.{sync_at_place, data_at_place}
-use Rattle.dtx_chain.specs.SlightLaws.{sync_first, none_earlier, behind_sync, field_begins}
+use Rattle.dtx_chain.proofs.PlacesLemmas.{sync_at_place, data_at_place}
+use Rattle.dtx_chain.proofs.SlightLemmas.{sync_first, none_earlier, behind_sync, field_begins}
 use Rattle.dtx_chain.proofs.laws.places.Goals as goal
 
 pub returns-clause-sync : goal.returns-clause-sync

@@ -1,4 +1,4 @@
-use Rattle.dtx_chain.specs.ReceivedLaws.{all_whole}
+use Rattle.dtx_chain.proofs.ReceivedLemmas.{all_whole}
 use Rattle.dtx_chain.proofs.laws.received_packets_are_whole.Goals as goal
 
 pub returns : goal.returns

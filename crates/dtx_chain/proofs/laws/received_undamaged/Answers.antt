@@ -1,5 +1,5 @@
-use Rattle.dtx_chain.specs.PlacesLaws.{one_run}
-use Rattle.dtx_chain.specs.UndamagedLaws.{good_packets, packets_back}
+use Rattle.dtx_chain.proofs.PlacesLemmas.{one_run}
+use Rattle.dtx_chain.proofs.UndamagedLemmas.{good_packets, packets_back}
 use Rattle.dtx_chain.proofs.laws.received_undamaged.Goals as goal
 
 pub returns-clause-run : goal.returns-clause-run

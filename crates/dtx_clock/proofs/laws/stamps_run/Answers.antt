@@ -1,4 +1,4 @@
-use Rattle.dtx_clock.specs.StampsLaws.{stamps_run}
+use Rattle.dtx_clock.proofs.StampsLemmas.{stamps_run}
 use Rattle.dtx_clock.proofs.laws.stamps_run.Goals as goal
 
 pub returns : goal.returns

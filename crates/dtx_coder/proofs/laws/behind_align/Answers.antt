@@ -1,4 +1,4 @@
-use Rattle.dtx_coder.specs.AlignLaws.{behind_groups}
+use Rattle.dtx_coder.proofs.AlignLemmas.{behind_groups}
 use Rattle.dtx_coder.proofs.laws.behind_align.Goals as goal
 
 pub returns : goal.returns

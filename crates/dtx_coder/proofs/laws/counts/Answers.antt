@@ -1,4 +1,4 @@
-use Rattle.dtx_coder.specs.CountsLaws.{length-a53, a53_segment, length-a53_symbols}
+use Rattle.dtx_coder.proofs.CountsLemmas.{length-a53, a53_segment, length-a53_symbols}
 use Rattle.dtx_coder.proofs.laws.counts.Goals as goal
 
 pub returns-clause-segments : goal.returns-clause-segments

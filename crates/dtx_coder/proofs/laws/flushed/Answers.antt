@@ -1,4 +1,4 @@
-use Rattle.dtx_coder.specs.FlushedLaws.{bytes_settled, group_settled}
+use Rattle.dtx_coder.proofs.FlushedLemmas.{bytes_settled, group_settled}
 use Rattle.dtx_coder.proofs.laws.flushed.Goals as goal
 
 pub returns-clause-bytes : goal.returns-clause-bytes

@@ -1,4 +1,4 @@
-use Rattle.dtx_coder.specs.StreamLaws.{a53_from, a53_whole}
+use Rattle.dtx_coder.proofs.StreamLemmas.{a53_from, a53_whole}
 use Rattle.dtx_coder.proofs.laws.fronts.Goals as goal
 
 pub returns-clause-front : goal.returns-clause-front

@@ -1,5 +1,5 @@
-use Rattle.dtx_coder.specs.LevelsLaws.{levels_from, states_from}
-use Rattle.dtx_coder.specs.StreamLaws.{four_from}
+use Rattle.dtx_coder.proofs.LevelsLemmas.{levels_from, states_from}
+use Rattle.dtx_coder.proofs.StreamLemmas.{four_from}
 use Rattle.dtx_coder.proofs.laws.goes_on.Goals as goal
 
 pub returns-clause-levels : goal.returns-clause-levels

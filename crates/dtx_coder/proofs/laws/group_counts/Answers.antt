@@ -1,4 +1,4 @@
-use Rattle.dtx_coder.specs.KeptLaws.{length-segments_of, group_segment}
+use Rattle.dtx_coder.proofs.KeptLemmas.{length-segments_of, group_segment}
 use Rattle.dtx_coder.proofs.laws.group_counts.Goals as goal
 
 pub returns-clause-segments : goal.returns-clause-segments

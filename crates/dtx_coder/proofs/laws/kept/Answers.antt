@@ -1,4 +1,4 @@
-use Rattle.dtx_coder.specs.KeptLaws.{states_kept, last_kept, branches_kept}
+use Rattle.dtx_coder.proofs.KeptLemmas.{states_kept, last_kept, branches_kept}
 use Rattle.dtx_coder.proofs.laws.kept.Goals as goal
 
 pub returns-clause-states : goal.returns-clause-states

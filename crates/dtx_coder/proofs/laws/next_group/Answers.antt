@@ -1,4 +1,4 @@
-use Rattle.dtx_coder.specs.NextLaws.{next_segments, next_stands}
+use Rattle.dtx_coder.proofs.NextLemmas.{next_segments, next_stands}
 use Rattle.dtx_coder.proofs.laws.next_group.Goals as goal
 
 pub returns-clause-stands : goal.returns-clause-stands

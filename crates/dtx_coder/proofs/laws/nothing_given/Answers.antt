@@ -1,4 +1,4 @@
-use Rattle.dtx_coder.specs.NextLaws.{a53_nothing, new_stands}
+use Rattle.dtx_coder.proofs.NextLemmas.{a53_nothing, new_stands}
 use Rattle.dtx_coder.proofs.laws.nothing_given.Goals as goal
 
 pub returns-clause-stands : goal.returns-clause-stands

@@ -1,7 +1,7 @@
 use Rattle.std.proofs.Common.{◌≡◌, ℕ, ◌<◌, ◌+◌, ◌&&◌, not, ◌==◌, Bool, List, sym, arith, get_or, set, false}
 use Rattle.std.proofs.lemmas.List.{get_or-set_other}
 use Rattle.dtx_galois.specs.Field.{pow}
-use Rattle.dtx_galois.specs.FieldLaws.{mul_inverse}
+use Rattle.dtx_galois.proofs.FieldLemmas.{mul_inverse}
 use Rattle.dtx_laws.specs.Locator.{combination, is_marked}
 use Rattle.dtx_correct.specs.Elimination.{reduced, vector}
 use Rattle.dtx_correct.proofs.Reduction.{step, combination_small}

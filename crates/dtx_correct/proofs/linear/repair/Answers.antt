@@ -4,8 +4,8 @@ use Rattle.std.proofs.lemmas.List.{take_all}
 use Rattle.dtx_galois.specs.Field.{pow, value}
 use Rattle.dtx_galois.specs.Word.{sums}
 use Rattle.dtx_laws.specs.Locator.{is_marked}
-use Rattle.dtx_laws.specs.PatchingLaws.{patched_right}
-use Rattle.dtx_laws.specs.PartsLaws.{syndrome_is}
+use Rattle.dtx_laws.proofs.PatchingLemmas.{patched_right}
+use Rattle.dtx_laws.proofs.PartsLemmas.{syndrome_is}
 use Rattle.dtx_correct.proofs.linear.repair.Goals as goal
 
 pub returns : goal.returns

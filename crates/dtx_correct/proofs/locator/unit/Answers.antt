@@ -1,6 +1,6 @@
 use Rattle.std.proofs.Common.{ℕ, ◌∙◌, arith, replicate}
 use Rattle.std.proofs.lemmas.List.{get_or-set_other, get_or-set_same, length-set}
-use Rattle.dtx_galois.specs.BytesLaws.{bytes_zeros}
+use Rattle.dtx_galois.proofs.BytesLemmas.{bytes_zeros}
 use Rattle.dtx_correct.proofs.Kept.{zeros_at, bytes_set}
 use Rattle.dtx_correct.proofs.locator.unit.Goals as goal
 

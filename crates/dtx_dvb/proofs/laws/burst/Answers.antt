@@ -1,4 +1,4 @@
-use Rattle.dtx_dvb.specs.BurstLaws.{burst_slight}
+use Rattle.dtx_dvb.proofs.BurstLemmas.{burst_slight}
 use Rattle.dtx_dvb.proofs.laws.burst.Goals as goal
 
 pub returns : goal.returns

@@ -1,4 +1,4 @@
-use Rattle.dtx_dvb.specs.CountsLaws.{fixed_one, flagged_one, fixed-append, flagged-append}
+use Rattle.dtx_dvb.proofs.CountsLemmas.{fixed_one, flagged_one, fixed-append, flagged-append}
 use Rattle.dtx_dvb.proofs.laws.counted.Goals as goal
 
 pub returns-clause-fixed : goal.returns-clause-fixed

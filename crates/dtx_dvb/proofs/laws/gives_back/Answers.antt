@@ -1,4 +1,4 @@
-use Rattle.dtx_dvb.specs.BackLaws.{all_back, packets_back, none_flagged, all_fixed, corrected_back}
+use Rattle.dtx_dvb.proofs.BackLemmas.{all_back, packets_back, none_flagged, all_fixed, corrected_back}
 use Rattle.dtx_dvb.proofs.laws.gives_back.Goals as goal
 
 pub returns-clause-read : goal.returns-clause-read

@@ -1,6 +1,6 @@
 use Rattle.std.proofs.Common.{length}
-use Rattle.dtx_dvb.specs.ReadingLaws.{length-read, get_or-read, complete_where, read_stays, read_short, read_next}
-use Rattle.dtx_dvb.specs.ReadingLaws.{read_loose}
+use Rattle.dtx_dvb.proofs.ReadingLemmas.{length-read, get_or-read, complete_where, read_stays, read_short, read_next}
+use Rattle.dtx_dvb.proofs.ReadingLemmas.{read_loose}
 use Rattle.dtx_dvb.proofs.laws.reading.Goals as goal
 
 pub returns-clause-count : goal.returns-clause-count

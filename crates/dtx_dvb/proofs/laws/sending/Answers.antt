@@ -1,4 +1,4 @@
-use Rattle.dtx_dvb.specs.StreamLaws.{length-dvb, get_or-dvb, dvb_front, bytes_more, sent_more}
+use Rattle.dtx_dvb.proofs.StreamLemmas.{length-dvb, get_or-dvb, dvb_front, bytes_more, sent_more}
 use Rattle.dtx_dvb.proofs.laws.sending.Goals as goal
 
 pub returns-clause-long : goal.returns-clause-long

@@ -1,4 +1,4 @@
-use Rattle.dtx_dvb.specs.SyncLaws.{sync_byte, sent_sync}
+use Rattle.dtx_dvb.proofs.SyncLemmas.{sync_byte, sent_sync}
 use Rattle.dtx_dvb.proofs.laws.sync_bytes.Goals as goal
 
 pub returns-clause-blocks : goal.returns-clause-blocks

@@ -1,5 +1,5 @@
-use Rattle.dtx_dvb.specs.StreamLaws.{length-blocks, randomized_whitened}
-use Rattle.dtx_dvb.specs.BackLaws.{block_is, block_begins, block_there}
+use Rattle.dtx_dvb.proofs.StreamLemmas.{length-blocks, randomized_whitened}
+use Rattle.dtx_dvb.proofs.BackLemmas.{block_is, block_begins, block_there}
 use Rattle.dtx_dvb.proofs.laws.the_blocks.Goals as goal
 
 pub returns-clause-long : goal.returns-clause-long

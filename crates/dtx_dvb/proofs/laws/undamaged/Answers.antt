@@ -1,4 +1,4 @@
-use Rattle.dtx_dvb.specs.BackLaws.{undamaged, all_as_sent}
+use Rattle.dtx_dvb.proofs.BackLemmas.{undamaged, all_as_sent}
 use Rattle.dtx_dvb.proofs.laws.undamaged.Goals as goal
 
 pub returns-clause-slight : goal.returns-clause-slight

@@ -1,8 +1,8 @@
 use Rattle.std.proofs.Common.{ℕ, List, subst, sym}
-use Rattle.dtx_meaning.specs.Laws.{fault_of_input}
+use Rattle.dtx_meaning.proofs.MeaningLemmas.{fault_of_input}
 use Rattle.dtx_meaning.specs.Meaning.{IsCarriedOut}
 use Rattle.dtx_meaning.specs.Status.{blame_of}
-use Rattle.dtx_engine.specs.AnswersLaws.{fault_answers}
+use Rattle.dtx_engine.proofs.AnswersLemmas.{fault_answers}
 use Rattle.dtx_engine.specs.Made.{IsNoneOf}
 use Rattle.dtx_engine.specs.Recipe.{meaning_of_file}
 use Rattle.dtx_engine.proofs.Gone.{gone_behind}

@@ -1,4 +1,4 @@
-use Rattle.dtx_erase.specs.UnmarkedLaws.{as_many, as_many_so_far}
+use Rattle.dtx_erase.proofs.UnmarkedLemmas.{as_many, as_many_so_far}
 use Rattle.dtx_erase.proofs.laws.as_many.Goals as goal
 
 pub returns-clause-all : goal.returns-clause-all

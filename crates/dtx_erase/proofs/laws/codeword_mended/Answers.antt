@@ -1,4 +1,4 @@
-use Rattle.dtx_erase.specs.MendingLaws.{own_answer}
+use Rattle.dtx_erase.proofs.MendingLemmas.{own_answer}
 use Rattle.dtx_erase.proofs.laws.codeword_mended.Goals as goal
 
 pub returns : goal.returns

@@ -1,4 +1,4 @@
-use Rattle.dtx_erase.specs.MendingLaws.{damage_only, damage_is}
+use Rattle.dtx_erase.proofs.MendingLemmas.{damage_only, damage_is}
 use Rattle.dtx_erase.proofs.laws.damage_mended.Goals as goal
 
 pub returns-clause-only : goal.returns-clause-only

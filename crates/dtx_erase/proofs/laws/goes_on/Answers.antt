@@ -1,4 +1,4 @@
-use Rattle.dtx_erase.specs.GrowingLaws.{nothing_mended, mended_more, mended_end}
+use Rattle.dtx_erase.proofs.GrowingLemmas.{nothing_mended, mended_more, mended_end}
 use Rattle.dtx_erase.proofs.laws.goes_on.Goals as goal
 
 pub returns : goal.returns

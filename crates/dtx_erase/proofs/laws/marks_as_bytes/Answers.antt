@@ -1,4 +1,4 @@
-use Rattle.dtx_erase.specs.MarksLaws.{marks_are}
+use Rattle.dtx_erase.proofs.MarksLemmas.{marks_are}
 use Rattle.dtx_erase.proofs.laws.marks_as_bytes.Goals as goal
 
 pub returns : goal.returns

@@ -1,4 +1,4 @@
-use Rattle.dtx_erase.specs.UnmarkedLaws.{mended_packet}
+use Rattle.dtx_erase.proofs.UnmarkedLemmas.{mended_packet}
 use Rattle.dtx_erase.proofs.laws.near_packet.Goals as goal
 
 pub returns : goal.returns

@@ -1,4 +1,4 @@
-use Rattle.dtx_erase.specs.UnmarkedLaws.{all_same, so_far_same, bytes_same}
+use Rattle.dtx_erase.proofs.UnmarkedLemmas.{all_same, so_far_same, bytes_same}
 use Rattle.dtx_erase.proofs.laws.nothing_missing.Goals as goal
 
 pub returns-clause-packets : goal.returns-clause-packets

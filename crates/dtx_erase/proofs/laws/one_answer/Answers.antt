@@ -1,4 +1,4 @@
-use Rattle.dtx_erase.specs.MendingLaws.{answers_same, answer_either}
+use Rattle.dtx_erase.proofs.MendingLemmas.{answers_same, answer_either}
 use Rattle.dtx_erase.proofs.laws.one_answer.Goals as goal
 
 pub returns-clause-same : goal.returns-clause-same

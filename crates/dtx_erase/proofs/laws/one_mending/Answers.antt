@@ -1,4 +1,4 @@
-use Rattle.dtx_erase.specs.MendingLaws.{one_mending}
+use Rattle.dtx_erase.proofs.MendingLemmas.{one_mending}
 use Rattle.dtx_erase.proofs.laws.one_mending.Goals as goal
 
 pub returns : goal.returns

@@ -1,4 +1,4 @@
-use Rattle.dtx_erase.specs.MendingLaws.{mending_corrects, correction_mends}
+use Rattle.dtx_erase.proofs.MendingLemmas.{mending_corrects, correction_mends}
 use Rattle.dtx_erase.proofs.laws.without_marks.Goals as goal
 
 pub returns-clause-correction : goal.returns-clause-correction

@@ -2,7 +2,7 @@ use Rattle.std.proofs.Common.{◌≡◌, ℕ, ◌+◌, ◌==◌, ◌||◌, Bool,
 use Rattle.std.proofs.Common.{refl, sym, ap, ◌∙◌, arith}
 use Rattle.std.proofs.lemmas.List.{length-set}
 use Rattle.dtx_galois.specs.Field.{value, AreBytes}
-use Rattle.dtx_galois.specs.BytesLaws.{AreBytes-from_places}
+use Rattle.dtx_galois.proofs.BytesLemmas.{AreBytes-from_places}
 use Rattle.dtx_laws.specs.ErrorValues.{others}
 use Rattle.dtx_laws.specs.Locator.{is_marked, power_at}
 use Rattle.dtx_erase.proofs.Restored.{few_zeros}

@@ -1,4 +1,4 @@
-use Rattle.dtx_exciter.specs.LockstepIsLaws.{length-before, sync_at_most}
+use Rattle.dtx_exciter.proofs.LockstepIsLemmas.{length-before, sync_at_most}
 use Rattle.dtx_exciter.proofs.laws.counts.Goals as goal
 
 pub returns-clause-before : goal.returns-clause-before

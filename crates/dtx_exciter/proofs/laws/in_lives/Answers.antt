@@ -1,4 +1,4 @@
-use Rattle.dtx_exciter.specs.InLivesLaws.{segments_in, lines_in}
+use Rattle.dtx_exciter.proofs.InLivesLemmas.{segments_in, lines_in}
 use Rattle.dtx_exciter.proofs.laws.in_lives.Goals as goal
 
 pub returns-clause-segments : goal.returns-clause-segments

@@ -1,4 +1,4 @@
-use Rattle.dtx_exciter.specs.LinesLaws.{lines_is, lines_on}
+use Rattle.dtx_exciter.proofs.LinesLemmas.{lines_is, lines_on}
 use Rattle.dtx_exciter.proofs.laws.lines.Goals as goal
 
 pub returns-clause-exact : goal.returns-clause-exact

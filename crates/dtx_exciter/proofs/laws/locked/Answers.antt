@@ -1,4 +1,4 @@
-use Rattle.dtx_exciter.specs.LockedLaws.{locked_nothing, locked_soon, has_lock}
+use Rattle.dtx_exciter.proofs.LockedLemmas.{locked_nothing, locked_soon, has_lock}
 use Rattle.dtx_exciter.proofs.laws.locked.Goals as goal
 
 pub returns-clause-anew : goal.returns-clause-anew

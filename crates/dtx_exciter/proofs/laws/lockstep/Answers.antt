@@ -1,4 +1,4 @@
-use Rattle.dtx_exciter.specs.LockstepIsLaws.{lockstep_is, lockstep_on}
+use Rattle.dtx_exciter.proofs.LockstepIsLemmas.{lockstep_is, lockstep_on}
 use Rattle.dtx_exciter.proofs.laws.lockstep.Goals as goal
 
 pub returns-clause-exact : goal.returns-clause-exact

@@ -1,4 +1,4 @@
-use Rattle.dtx_exciter.specs.InLivesLaws.{stretch_segments, stretch_log}
+use Rattle.dtx_exciter.proofs.InLivesLemmas.{stretch_segments, stretch_log}
 use Rattle.dtx_exciter.proofs.laws.lockstep_in_lives.Goals as goal
 
 pub returns-clause-segments : goal.returns-clause-segments

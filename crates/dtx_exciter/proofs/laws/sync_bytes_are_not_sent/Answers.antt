@@ -1,4 +1,4 @@
-use Rattle.dtx_exciter.specs.SentAlikeLaws.{answers_same, emission_same, lines_same}
+use Rattle.dtx_exciter.proofs.SentAlikeLemmas.{answers_same, emission_same, lines_same}
 use Rattle.dtx_exciter.proofs.laws.sync_bytes_are_not_sent.Goals as goal
 
 pub returns-clause-answers : goal.returns-clause-answers

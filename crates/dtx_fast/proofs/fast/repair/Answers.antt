@@ -2,9 +2,9 @@ use Rattle.std.proofs.Common.{◌≡◌, ℕ, ◌<◌, ◌+◌, ◌*◌, ◌/◌
 use Rattle.std.proofs.Common.{arith, get_or}
 use Rattle.dtx_galois.specs.Field.{pow, value}
 use Rattle.dtx_laws.specs.Codeword.{distance}
-use Rattle.dtx_fast.specs.ConnectionLaws.{least_of_word}
+use Rattle.dtx_fast.proofs.ConnectionLemmas.{least_of_word}
 use Rattle.dtx_fast.specs.Recurrence.{IsRecurrence, inverse_at}
-use Rattle.dtx_fast.specs.RepairLaws.{repaired_right}
+use Rattle.dtx_fast.proofs.RepairLemmas.{repaired_right}
 use Rattle.dtx_fast.proofs.fast.repair.Goals as goal
 
 pub patch-requires-clause-walk : goal.patch-requires-clause-walk

@@ -1,4 +1,4 @@
-use Rattle.dtx_fast.specs.ConnectionLaws.{least_of_word}
+use Rattle.dtx_fast.proofs.ConnectionLemmas.{least_of_word}
 use Rattle.dtx_fast.proofs.laws.no_longer_than_wrong_places.Goals as goal
 
 pub returns : goal.returns

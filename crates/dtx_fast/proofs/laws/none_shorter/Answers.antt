@@ -1,6 +1,6 @@
 use Rattle.std.proofs.Common.{ap, ◌∙◌, subst, arith, add-one}
 use Rattle.dtx_fast.specs.Recurrence.{IsRecurrence, discrepancy}
-use Rattle.dtx_fast.specs.RecurrenceLaws.{none_shorter}
+use Rattle.dtx_fast.proofs.RecurrenceLemmas.{none_shorter}
 use Rattle.dtx_fast.proofs.laws.none_shorter.Goals as goal
 
 pub returns : goal.returns

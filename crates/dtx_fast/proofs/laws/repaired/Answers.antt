@@ -1,4 +1,4 @@
-use Rattle.dtx_fast.specs.RepairLaws.{repaired_right}
+use Rattle.dtx_fast.proofs.RepairLemmas.{repaired_right}
 use Rattle.dtx_fast.proofs.laws.repaired.Goals as goal
 
 pub returns : goal.returns

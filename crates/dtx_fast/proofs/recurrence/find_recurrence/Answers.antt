@@ -1,6 +1,6 @@
 use Rattle.std.proofs.Common.{◌≡◌, ℕ, ◌<◌, List, sym, subst, arith, get_or}
 use Rattle.dtx_fast.specs.Recurrence.{IsRecurrence, IsLeast}
-use Rattle.dtx_fast.specs.StageLaws.{stage_recurs}
+use Rattle.dtx_fast.proofs.StageLemmas.{stage_recurs}
 use Rattle.dtx_fast.proofs.recurrence.find_recurrence.Goals as goal
 
 pub loop-n-init : goal.loop-n-init

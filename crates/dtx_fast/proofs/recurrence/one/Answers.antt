@@ -1,6 +1,6 @@
 use Rattle.std.proofs.Common.{ℕ, ◌≡◌, ◌<◌, ◌∙◌, arith, replicate}
 use Rattle.std.proofs.lemmas.List.{get_or-set_other}
-use Rattle.dtx_fast.specs.StageLaws.{zeros_at}
+use Rattle.dtx_fast.proofs.StageLemmas.{zeros_at}
 use Rattle.dtx_fast.proofs.recurrence.one.Goals as goal
 
 pub returns-clause-others : goal.returns-clause-others

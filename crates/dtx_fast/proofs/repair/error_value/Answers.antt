@@ -3,7 +3,7 @@ use Rattle.std.proofs.Common.{arith, ◌≡◌}
 use Rattle.dtx_galois.specs.Field.{mul, pow}
 use Rattle.dtx_laws.specs.Locator.{low_value}
 use Rattle.dtx_fast.specs.Recurrence.{discrepancy, quotient, turned, error_value}
-use Rattle.dtx_fast.specs.RecurrenceLaws.{discrepancy_next}
+use Rattle.dtx_fast.proofs.RecurrenceLemmas.{discrepancy_next}
 use Rattle.dtx_fast.proofs.repair.error_value.Goals as goal
 
 pub loop-k-init : goal.loop-k-init

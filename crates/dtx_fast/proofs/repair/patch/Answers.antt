@@ -1,7 +1,7 @@
 use Rattle.std.proofs.Common.{◌≡◌, ◌∙◌, ◌+◌, ◌-◌, ◌<◌, ◌≤◌, ℕ, List, length, ap, arith, get_or, bit_xor}
 use Rattle.std.proofs.lemmas.List.{get_or-set_other, length-set}
 use Rattle.dtx_fast.specs.Recurrence.{error_value}
-use Rattle.dtx_fast.specs.RepairLaws.{patched_more}
+use Rattle.dtx_fast.proofs.RepairLemmas.{patched_more}
 use Rattle.dtx_fast.proofs.repair.patch.Goals as goal
 
 pub loop-exponent-preserved : goal.loop-exponent-preserved

@@ -1,7 +1,7 @@
 use Rattle.std.proofs.Common.{◌∙◌}
 use Rattle.dtx_forms.specs.Job.{IsJobPerformed}
 use Rattle.dtx_forms.specs.Combine.{combine_job}
-use Rattle.dtx_forms.specs.WordsLaws.{by_four}
+use Rattle.dtx_forms.proofs.WordsLemmas.{by_four}
 use Rattle.dtx_forms.proofs.combining.combine.Goals as goal
 
 pub returns-in-len4 : goal.returns-in-len4

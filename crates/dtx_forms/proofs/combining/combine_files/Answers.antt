@@ -1,6 +1,6 @@
 use Rattle.std.proofs.Common.{ℕ, List, [], ◌∷◌}
 use Rattle.dtx_forms.proofs.Apart.{all_differ}
-use Rattle.dtx_forms.specs.PerformedLaws.{apart_performed, refused_same}
+use Rattle.dtx_forms.proofs.PerformedLemmas.{apart_performed, refused_same}
 use Rattle.dtx_forms.proofs.combining.combine_files.Goals as goal
 
 pub returns-in-Some : goal.returns-in-Some

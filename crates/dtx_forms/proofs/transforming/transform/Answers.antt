@@ -1,7 +1,7 @@
 use Rattle.std.proofs.Common.{◌∙◌}
 use Rattle.dtx_forms.specs.Job.{IsJobPerformed}
 use Rattle.dtx_forms.specs.Transform.{transform_job}
-use Rattle.dtx_forms.specs.WordsLaws.{by_three}
+use Rattle.dtx_forms.proofs.WordsLemmas.{by_three}
 use Rattle.dtx_forms.proofs.transforming.transform.Goals as goal
 
 pub returns-in-len3 : goal.returns-in-len3

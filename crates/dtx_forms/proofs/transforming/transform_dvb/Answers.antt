@@ -1,7 +1,7 @@
 use Rattle.std.proofs.Common.{[], get_or, refl, ◌∙◌}
 use Rattle.dtx_forms.specs.Job.{IsJobPerformed}
 use Rattle.dtx_forms.specs.Transform.{dvb_job}
-use Rattle.dtx_forms.specs.WordsLaws.{by_four}
+use Rattle.dtx_forms.proofs.WordsLemmas.{by_four}
 use Rattle.dtx_forms.proofs.transforming.transform_dvb.Goals as goal
 
 pub returns-in-len4 : goal.returns-in-len4

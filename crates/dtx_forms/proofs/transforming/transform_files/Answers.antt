@@ -1,4 +1,4 @@
-use Rattle.dtx_forms.specs.AnswersLaws.{transformed_knows}
+use Rattle.dtx_forms.proofs.AnswersLemmas.{transformed_knows}
 use Rattle.dtx_forms.proofs.transforming.transform_files.Goals as goal
 
 pub returns-in-Ok : goal.returns-in-Ok

@@ -1,7 +1,7 @@
 use Rattle.std.proofs.Common.{◌∙◌}
 use Rattle.dtx_forms.specs.Job.{IsJobPerformed}
 use Rattle.dtx_forms.specs.Transmit.{transmit_job}
-use Rattle.dtx_forms.specs.WordsLaws.{by_six}
+use Rattle.dtx_forms.proofs.WordsLemmas.{by_six}
 use Rattle.dtx_forms.proofs.transmitting.transmit.Goals as goal
 
 pub returns-in-len6 : goal.returns-in-len6

@@ -1,5 +1,5 @@
 use Rattle.std.proofs.Common.{false, refl, arith}
-use Rattle.dtx_meaning.specs.Laws.{of_inputs}
+use Rattle.dtx_meaning.proofs.MeaningLemmas.{of_inputs}
 use Rattle.dtx_forms.proofs.transmitting.transmit_apart.Goals as goal
 
 pub returns-in-Ok : goal.returns-in-Ok

@@ -3,7 +3,7 @@ use Rattle.std.specs.FinMap.{get}
 use Rattle.dtx_engine.specs.Recipe.{meaning}
 use Rattle.dtx_outside.specs.Shelf.{Files}
 use Rattle.dtx_forms.proofs.Apart.{all_differ}
-use Rattle.dtx_forms.specs.PerformedLaws.{apart_performed, refused_same}
+use Rattle.dtx_forms.proofs.PerformedLemmas.{apart_performed, refused_same}
 use Rattle.dtx_forms.proofs.transmitting.transmit_files.Goals as goal
 
 pub returns-in-Some : goal.returns-in-Some

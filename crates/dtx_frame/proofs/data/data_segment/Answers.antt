@@ -5,7 +5,7 @@ use Rattle.std.proofs.lemmas.List.{get_or_append_left}
 use Rattle.dtx_lists.proofs.Parts.{append_from_parts}
 use Rattle.dtx_trellis.specs.Trellis.{symbol_of}
 use Rattle.dtx_frame.specs.Segments.{data_segment, segment_sync}
-use Rattle.dtx_frame.specs.SymbolsLaws.{in_front_is, level_symbol, level_symbol_is, length_sync}
+use Rattle.dtx_frame.proofs.SymbolsLemmas.{in_front_is, level_symbol, level_symbol_is, length_sync}
 use Rattle.dtx_frame.proofs.data.data_segment.Goals as goal
 
 pub loop-d-init : goal.loop-d-init

@@ -4,7 +4,7 @@ use Rattle.std.proofs.lemmas.Slice.{drop-put_mid}
 use Rattle.dtx_lists.proofs.Written.{length-put_mid}
 use borrow.Rule.Slice.PartMut.{put_mid}
 use Rattle.dtx_frame.specs.Segments.{segment_sync}
-use Rattle.dtx_frame.specs.SymbolsLaws.{in_front_is, length_sync}
+use Rattle.dtx_frame.proofs.SymbolsLemmas.{in_front_is, length_sync}
 use Rattle.dtx_frame.proofs.Parts.{part_put, piece_before, behind_too}
 use Rattle.dtx_frame.proofs.data.put_segment_syncs.Goals as goal
 

@@ -3,8 +3,8 @@ use Rattle.std.proofs.lemmas.Int.{to_z-of_z}
 use Rattle.dtx_slice.specs.Slicing.{sliced}
 use Rattle.dtx_frame.specs.Segments.{sync_symbols}
 use Rattle.dtx_frame.specs.Detection.{differs}
-use Rattle.dtx_frame.specs.AlikeLaws.{table_level}
-use Rattle.dtx_frame.specs.CountsLaws.{same_is, other_is}
+use Rattle.dtx_frame.proofs.AlikeLemmas.{table_level}
+use Rattle.dtx_frame.proofs.CountsLemmas.{same_is, other_is}
 use Rattle.dtx_frame.proofs.detection.differs.Goals as goal
 
 pub returns-then-level-clause-differs : goal.returns-then-level-clause-differs

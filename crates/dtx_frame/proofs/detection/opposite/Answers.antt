@@ -3,8 +3,8 @@ use Rattle.std.proofs.lemmas.Int.{to_z-of_z}
 use Rattle.dtx_slice.specs.Slicing.{sliced}
 use Rattle.dtx_frame.specs.Sequences.{pn63}
 use Rattle.dtx_frame.specs.Detection.{opposite}
-use Rattle.dtx_frame.specs.AlikeLaws.{table_sign}
-use Rattle.dtx_frame.specs.CountsLaws.{same_is, other_is}
+use Rattle.dtx_frame.proofs.AlikeLemmas.{table_sign}
+use Rattle.dtx_frame.proofs.CountsLemmas.{same_is, other_is}
 use Rattle.dtx_frame.proofs.detection.opposite.Goals as goal
 
 pub returns-then-level-clause-opposite : goal.returns-then-level-clause-opposite

@@ -1,4 +1,4 @@
-use Rattle.dtx_frame.specs.AlikeLaws.{none_differ, looks_alike, second_told}
+use Rattle.dtx_frame.proofs.AlikeLemmas.{none_differ, looks_alike, second_told}
 use Rattle.dtx_frame.proofs.laws.alike.Goals as goal
 
 pub returns-clause-differing : goal.returns-clause-differing

@@ -1,4 +1,4 @@
-use Rattle.dtx_frame.specs.RecurrencesLaws.{length_511, front_511, rule_511}
+use Rattle.dtx_frame.proofs.RecurrencesLemmas.{length_511, front_511, rule_511}
 use Rattle.dtx_frame.proofs.laws.long_sequence.Goals as goal
 
 pub returns-clause-long : goal.returns-clause-long

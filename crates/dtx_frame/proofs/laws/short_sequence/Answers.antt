@@ -1,4 +1,4 @@
-use Rattle.dtx_frame.specs.RecurrencesLaws.{length_63, front_63, rule_63}
+use Rattle.dtx_frame.proofs.RecurrencesLemmas.{length_63, front_63, rule_63}
 use Rattle.dtx_frame.proofs.laws.short_sequence.Goals as goal
 
 pub returns-clause-long : goal.returns-clause-long

@@ -1,4 +1,4 @@
-use Rattle.dtx_frame.specs.SlicesLaws.{sliced_symbol, data_back, end_back, last_back}
+use Rattle.dtx_frame.proofs.SlicesLemmas.{sliced_symbol, data_back, end_back, last_back}
 use Rattle.dtx_frame.proofs.laws.undamaged.Goals as goal
 
 pub returns-clause-symbol : goal.returns-clause-symbol

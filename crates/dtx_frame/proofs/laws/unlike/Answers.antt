@@ -1,4 +1,4 @@
-use Rattle.dtx_frame.specs.UnlikeLaws.{unlike_segment, unlike_looks}
+use Rattle.dtx_frame.proofs.UnlikeLemmas.{unlike_segment, unlike_looks}
 use Rattle.dtx_frame.proofs.laws.unlike.Goals as goal
 
 pub returns-clause-differing : goal.returns-clause-differing

@@ -1,7 +1,7 @@
 use Rattle.std.proofs.Common.{◌≡◌, sym, ap, ◌∙◌}
 use Rattle.dtx_frame.specs.Segments.{field_sync, sync_symbols}
 use Rattle.dtx_frame.proofs.Parts.{two_parts}
-use Rattle.dtx_frame.specs.SymbolsLaws.{first_is, second_is, length_front}
+use Rattle.dtx_frame.proofs.SymbolsLemmas.{first_is, second_is, length_front}
 use Rattle.dtx_frame.proofs.sync.field_sync.Goals as goal
 use Rattle.dtx_frame.proofs.sync.field_sync.Goals.{then-second, else-second}
 

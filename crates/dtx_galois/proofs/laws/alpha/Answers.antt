@@ -1,6 +1,6 @@
 use Rattle.std.proofs.Common.{arith, get_or}
 use Rattle.dtx_galois.specs.declared.tables.TheConstants.{LOGARITHMS}
-use Rattle.dtx_galois.specs.PowersLaws.{powers_differ, cycle}
+use Rattle.dtx_galois.proofs.PowersLemmas.{powers_differ, cycle}
 use Rattle.dtx_galois.proofs.TableEntries.{logarithm_at}
 use Rattle.dtx_galois.proofs.laws.alpha.Goals as goal
 

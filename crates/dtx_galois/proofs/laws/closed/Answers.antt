@@ -1,6 +1,6 @@
 use Rattle.std.specs.Int.Bits.{xor_lt}
-use Rattle.dtx_galois.specs.FieldLaws.{mul_small, pow_small}
-use Rattle.dtx_galois.specs.ValuesLaws.{value_small}
+use Rattle.dtx_galois.proofs.FieldLemmas.{mul_small, pow_small}
+use Rattle.dtx_galois.proofs.ValuesLemmas.{value_small}
 use Rattle.dtx_galois.proofs.laws.closed.Goals as goal
 
 pub returns-clause-sum : goal.returns-clause-sum

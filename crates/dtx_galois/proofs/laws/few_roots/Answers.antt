@@ -1,4 +1,4 @@
-use Rattle.dtx_galois.specs.RootsLaws.{fewer_roots}
+use Rattle.dtx_galois.proofs.RootsLemmas.{fewer_roots}
 use Rattle.dtx_galois.proofs.laws.few_roots.Goals as goal
 
 pub returns : goal.returns

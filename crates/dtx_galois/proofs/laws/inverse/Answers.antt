@@ -1,6 +1,6 @@
 use Rattle.std.proofs.Common.{arith}
 use Rattle.dtx_galois.specs.Field.{pow}
-use Rattle.dtx_galois.specs.FieldLaws.{mul_inverse, pow_small}
+use Rattle.dtx_galois.proofs.FieldLemmas.{mul_inverse, pow_small}
 use Rattle.dtx_galois.proofs.laws.inverse.Goals as goal
 
 pub returns-clause-product : goal.returns-clause-product

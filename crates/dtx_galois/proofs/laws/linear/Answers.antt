@@ -1,4 +1,4 @@
-use Rattle.dtx_galois.specs.ValuesLaws.{value_sums, value_scaled}
+use Rattle.dtx_galois.proofs.ValuesLemmas.{value_sums, value_scaled}
 use Rattle.dtx_galois.proofs.laws.linear.Goals as goal
 
 pub returns-clause-sum : goal.returns-clause-sum

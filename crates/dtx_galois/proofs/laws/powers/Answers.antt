@@ -1,4 +1,4 @@
-use Rattle.dtx_galois.specs.PowersLaws.{pow_add}
+use Rattle.dtx_galois.proofs.PowersLemmas.{pow_add}
 use Rattle.dtx_galois.proofs.laws.powers.Goals as goal
 
 pub returns : goal.returns

@@ -1,6 +1,6 @@
 use Rattle.std.proofs.Common.{ℕ, ◌∙◌, ap, arith, refl, sym, get_or, bit_xor}
 use Rattle.dtx_galois.specs.Field.{mul, value}
-use Rattle.dtx_galois.specs.ValuesLaws.{value_more}
+use Rattle.dtx_galois.proofs.ValuesLemmas.{value_more}
 use Rattle.dtx_galois.proofs.polynomial.eval.Goals as goal
 
 pub loop-byte-init : goal.loop-byte-init

@@ -1,7 +1,7 @@
 use Rattle.std.proofs.Common.{◌-◌, ap, ◌∙◌, arith, get_or}
 use Rattle.dtx_galois.specs.declared.tables.TheConstants.{POWERS}
 use Rattle.dtx_galois.proofs.TableEntries.{around}
-use Rattle.dtx_galois.specs.PowersLaws.{power_at}
+use Rattle.dtx_galois.proofs.PowersLemmas.{power_at}
 use Rattle.dtx_galois.proofs.tables.power.Goals as goal
 use Rattle.dtx_galois.proofs.tables.power.Goals.{then-exponent-lt-ORDER, else-exponent-lt-ORDER}
 

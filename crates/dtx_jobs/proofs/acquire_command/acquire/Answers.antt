@@ -1,9 +1,9 @@
 use Rattle.std.proofs.Common.{ℕ, Option, Some, sym, subst, ◌∙◌, arith}
 use Rattle.dtx_forms.specs.Job.{IsJobPerformed}
-use Rattle.dtx_forms.specs.NumbersLaws.{within_range}
-use Rattle.dtx_forms.specs.WordsLaws.{by_four}
+use Rattle.dtx_forms.proofs.NumbersLemmas.{within_range}
+use Rattle.dtx_forms.proofs.WordsLemmas.{by_four}
 use Rattle.dtx_jobs.specs.Acquire.{IsAcquired, acquire_job}
-use Rattle.dtx_jobs.specs.AcquireLaws.{refused_unscaled}
+use Rattle.dtx_jobs.proofs.AcquireLemmas.{refused_unscaled}
 use Rattle.dtx_jobs.proofs.acquire_command.acquire.Goals as goal
 
 pub overflow_cast-scale : goal.overflow_cast-scale

@@ -1,8 +1,8 @@
 use Rattle.dtx_words.specs.declared.rows.Command.TheVariants.{Acquire}
-use Rattle.dtx_forms.specs.AnswersLaws.{transformed_knows}
+use Rattle.dtx_forms.proofs.AnswersLemmas.{transformed_knows}
 use Rattle.dtx_jobs.specs.Acquire.{acquiring}
-use Rattle.dtx_jobs.specs.AcquireLaws.{refused_memory}
-use Rattle.dtx_jobs.specs.AnswersLaws.{acquire_knows}
+use Rattle.dtx_jobs.proofs.AcquireLemmas.{refused_memory}
+use Rattle.dtx_jobs.proofs.AnswersLemmas.{acquire_knows}
 use Rattle.dtx_jobs.proofs.acquire_command.acquire_files.Goals as goal
 
 pub transform-requires : goal.transform-requires

@@ -5,7 +5,7 @@ use Rattle.std.proofs.Math.Seq.{take-add}
 use Rattle.std.proofs.lemmas.List.{take_all}
 use Rattle.dtx_acquire.specs.Acquired.{acquired_so_far}
 use Rattle.dtx_acquire.specs.Acquirer.{StandsFor}
-use Rattle.dtx_files.specs.AppendedLaws.{segment_bytes-append}
+use Rattle.dtx_files.proofs.AppendedLemmas.{segment_bytes-append}
 use Rattle.dtx_files.specs.Symbols.{segment_bytes}
 use Rattle.dtx_jobs.proofs.acquisition.acquire_all.Goals as goal
 

@@ -1,4 +1,4 @@
-use Rattle.dtx_laws.specs.WordsLaws.{own_correction, distance_self}
+use Rattle.dtx_laws.proofs.WordsLemmas.{own_correction, distance_self}
 use Rattle.dtx_laws.proofs.laws.codeword_corrected.Goals as goal
 
 pub returns-clause-itself : goal.returns-clause-itself

@@ -1,4 +1,4 @@
-use Rattle.dtx_laws.specs.ChoiceLaws.{codeword_is, codeword_begins, codeword_only, codeword_length}
+use Rattle.dtx_laws.proofs.ChoiceLemmas.{codeword_is, codeword_begins, codeword_only, codeword_length}
 use Rattle.dtx_laws.proofs.laws.the_codeword.Goals as goal
 
 pub returns-clause-is : goal.returns-clause-is

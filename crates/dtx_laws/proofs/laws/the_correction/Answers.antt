@@ -1,4 +1,4 @@
-use Rattle.dtx_laws.specs.ChoiceLaws.{correction_is, correction_only, correction_none}
+use Rattle.dtx_laws.proofs.ChoiceLemmas.{correction_is, correction_only, correction_none}
 use Rattle.dtx_laws.proofs.laws.the_correction.Goals as goal
 
 pub returns-clause-is : goal.returns-clause-is

@@ -1,6 +1,6 @@
 use Rattle.std.proofs.Common.{◌+◌, ap, ◌∙◌, zero-add}
 use Rattle.dtx_make.specs.Hurt.{damaged_from}
-use Rattle.dtx_make.specs.DamagedPlacesLaws.{damaged_from-parts, damaged_from-le-count}
+use Rattle.dtx_make.proofs.DamagedPlacesLemmas.{damaged_from-parts, damaged_from-le-count}
 use Rattle.dtx_make.proofs.laws.counted_in_pieces.Goals as goal
 
 pub returns : goal.returns

@@ -1,4 +1,4 @@
-use Rattle.dtx_make.specs.LaidBytesLaws.{laid_covered, laid_stays}
+use Rattle.dtx_make.proofs.LaidBytesLemmas.{laid_covered, laid_stays}
 use Rattle.dtx_make.proofs.laws.each_byte.Goals as goal
 
 pub returns : goal.returns

@@ -1,6 +1,6 @@
 use Rattle.std.proofs.Common.{◌++◌, length, ap, ◌∙◌, zero-add}
 use Rattle.dtx_make.specs.Hurt.{damaged_bytes}
-use Rattle.dtx_make.specs.LaidLaws.{damaged_bytes-append}
+use Rattle.dtx_make.proofs.LaidLemmas.{damaged_bytes-append}
 use Rattle.dtx_make.proofs.laws.laid_in_pieces.Goals as goal
 
 pub returns : goal.returns

@@ -1,4 +1,4 @@
-use Rattle.dtx_make.specs.LaidLaws.{length-laid}
+use Rattle.dtx_make.proofs.LaidLemmas.{length-laid}
 use Rattle.dtx_make.proofs.laws.length_stays.Goals as goal
 
 pub returns : goal.returns

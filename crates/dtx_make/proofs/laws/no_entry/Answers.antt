@@ -1,7 +1,7 @@
 use Rattle.std.proofs.Common.{[], sym}
-use Rattle.dtx_make.specs.EntriesLaws.{entry_at_nothing}
-use Rattle.dtx_make.specs.LaidBytesLaws.{laid_none}
-use Rattle.dtx_make.specs.DamagedPlacesLaws.{damaged_from_none}
+use Rattle.dtx_make.proofs.EntriesLemmas.{entry_at_nothing}
+use Rattle.dtx_make.proofs.LaidBytesLemmas.{laid_none}
+use Rattle.dtx_make.proofs.DamagedPlacesLemmas.{damaged_from_none}
 use Rattle.dtx_make.proofs.laws.no_entry.Goals as goal
 
 pub returns : goal.returns

@@ -3,9 +3,9 @@ use Rattle.std.proofs.Common.{arith}
 use Rattle.std.proofs.lemmas.Option.{get_or_from_slice_get}
 use Rattle.dtx_plan.specs.declared.damage.Damage.{Damage}
 use Rattle.dtx_make.specs.Hurt.{AreInOrder, IsCovered, damaged_from}
-use Rattle.dtx_make.specs.EntriesLaws.{entry_at_before, entry_at_behind}
-use Rattle.dtx_make.specs.DamagedPlacesLaws.{damaged_from_none, damaged_from_same, damaged_from_more, damaged_from_one}
-use Rattle.dtx_make.specs.DamagedPlacesLaws.{damaged_from-le-count}
+use Rattle.dtx_make.proofs.EntriesLemmas.{entry_at_before, entry_at_behind}
+use Rattle.dtx_make.proofs.DamagedPlacesLemmas.{damaged_from_none, damaged_from_same, damaged_from_more}
+use Rattle.dtx_make.proofs.DamagedPlacesLemmas.{damaged_from_one, damaged_from-le-count}
 use Rattle.dtx_make.proofs.laying.damaged_in.Goals as goal
 
 one_more : (ds : List Damage) (e : Damage) (i place n before from to : ℕ) → AreInOrder ds → i < length ds

@@ -1,6 +1,6 @@
 use Rattle.std.proofs.Common.{◌≡◌, ℕ, ◌<◌, ◌≤◌, ◌↔◌, ◌⊎◌, Bool, true, false, inl, inr, arith, rules}
 use Rattle.std.proofs.lemmas.Bool.{cases_lt, iff_false}
-use Rattle.dtx_make.specs.EntriesLaws.{end_by, end_behind}
+use Rattle.dtx_make.proofs.EntriesLemmas.{end_by, end_behind}
 use Rattle.dtx_make.proofs.laying.first_behind.Goals as goal
 
 behind : (b : Bool) (place end : ℕ) → ((b ≡ true) ↔ (end ≤ place)) → b ≡ false → place < end

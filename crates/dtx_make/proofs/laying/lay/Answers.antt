@@ -1,8 +1,8 @@
 use Rattle.std.proofs.Common.{◌≡◌, ◌+◌, ◌∷◌, [], sym, ◌∙◌, ap, take, length, get_or, arith}
 use Rattle.std.proofs.lemmas.Option.{get_or_from_slice_get}
 use Rattle.dtx_make.specs.Hurt.{damaged_bytes}
-use Rattle.dtx_make.specs.EntriesLaws.{entry_at_before, entry_at_behind}
-use Rattle.dtx_make.specs.LaidBytesLaws.{laid_none, laid_same, laid_more}
+use Rattle.dtx_make.proofs.EntriesLemmas.{entry_at_before, entry_at_behind}
+use Rattle.dtx_make.proofs.LaidBytesLemmas.{laid_none, laid_same, laid_more}
 use Rattle.dtx_make.proofs.laying.lay.Goals as goal
 
 pub loop-i-init : goal.loop-i-init

@@ -1,7 +1,7 @@
 use Rattle.std.proofs.Common.{◌≡◌, ℕ, length, take, drop, replicate, refl, ◌-◌, ap₂, ◌∙◌, arith, rules}
 use Rattle.std.specs.Int.{w8, cast_unsigned}
 use Rattle.std.proofs.lemmas.List.{length-take-le, length-drop}
-use Rattle.dtx_make.specs.LaidBytesLaws.{laid_part}
+use Rattle.dtx_make.proofs.LaidBytesLemmas.{laid_part}
 use Rattle.dtx_make.proofs.laying.lay_entry.Goals as goal
 
 pub returns : goal.returns

@@ -1,7 +1,7 @@
 use Rattle.std.proofs.Common.{◌/◌, ◌^◌, ap, sym, ◌∙◌, arith, rules}
 use Rattle.std.proofs.Math.ListN.{length-set}
 use Rattle.dtx_make.specs.Made.{next_number}
-use Rattle.dtx_make.specs.StreamsLaws.{made_payload_by, number_first, number_more, payload_more}
+use Rattle.dtx_make.proofs.StreamsLemmas.{made_payload_by, number_first, number_more, payload_more}
 use Rattle.dtx_make.proofs.made.payload.Goals as goal
 
 pub returns : goal.returns

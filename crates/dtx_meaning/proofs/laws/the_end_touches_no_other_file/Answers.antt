@@ -1,5 +1,5 @@
 use Rattle.dtx_outside.specs.Counts.{Rose}
-use Rattle.dtx_meaning.specs.Laws.{same_at_done}
+use Rattle.dtx_meaning.proofs.MeaningLemmas.{same_at_done}
 use Rattle.dtx_meaning.proofs.laws.the_end_touches_no_other_file.Goals as goal
 
 pub returns-clause-others : goal.returns-clause-others

@@ -1,5 +1,5 @@
 use Rattle.dtx_outside.specs.Counts.{Rose}
-use Rattle.dtx_meaning.specs.Laws.{done_wanting}
+use Rattle.dtx_meaning.proofs.MeaningLemmas.{done_wanting}
 use Rattle.dtx_meaning.proofs.laws.what_is_printed_is_done.Goals as goal
 
 pub returns-clause-wanting : goal.returns-clause-wanting

@@ -1,5 +1,5 @@
-use Rattle.dtx_net.specs.LastLifeLaws.{lives_without, lives_elsewhere}
-use Rattle.dtx_net.specs.GrowsLaws.{own_same, segments_same, lines_same}
+use Rattle.dtx_net.proofs.LastLifeLemmas.{lives_without, lives_elsewhere}
+use Rattle.dtx_net.proofs.GrowsLemmas.{own_same, segments_same, lines_same}
 use Rattle.dtx_net.proofs.laws.interleavings.Goals as goal
 
 pub returns-clause-segments : goal.returns-clause-segments

@@ -1,4 +1,4 @@
-use Rattle.dtx_net.specs.GrowsLaws.{segments_given, lines_given}
+use Rattle.dtx_net.proofs.GrowsLemmas.{segments_given, lines_given}
 use Rattle.dtx_net.proofs.laws.one_packet_is_sent.Goals as goal
 
 pub returns-clause-segments : goal.returns-clause-segments

@@ -1,4 +1,4 @@
-use Rattle.dtx_net.specs.GrowsLaws.{segments_restarted, lines_restarted}
+use Rattle.dtx_net.proofs.GrowsLemmas.{segments_restarted, lines_restarted}
 use Rattle.dtx_net.proofs.laws.one_restart_is_logged.Goals as goal
 
 pub returns-clause-segments : goal.returns-clause-segments

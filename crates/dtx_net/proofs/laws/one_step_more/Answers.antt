@@ -1,6 +1,6 @@
 use Rattle.std.proofs.Common.{refl}
 use Rattle.dtx_net.specs.Lives.{lives_of}
-use Rattle.dtx_net.specs.LastLifeLaws.{lives}
+use Rattle.dtx_net.proofs.LastLifeLemmas.{lives}
 use Rattle.dtx_net.proofs.laws.one_step_more.Goals as goal
 
 pub returns-clause-nothing : goal.returns-clause-nothing

@@ -1,4 +1,4 @@
-use Rattle.dtx_net.specs.PlaceOfLaws.{place_found, place_only, place_missing}
+use Rattle.dtx_net.proofs.PlaceOfLemmas.{place_found, place_only, place_missing}
 use Rattle.dtx_net.proofs.laws.places.Goals as goal
 
 pub returns-clause-found : goal.returns-clause-found

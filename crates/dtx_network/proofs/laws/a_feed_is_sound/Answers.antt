@@ -1,6 +1,6 @@
 use Rattle.std.proofs.Common.{drop, refl}
 use Rattle.dtx_adapter.specs.Feed.{feed}
-use Rattle.dtx_watch.specs.SoundLaws.{calm}
+use Rattle.dtx_watch.proofs.SoundLemmas.{calm}
 use Rattle.dtx_network.proofs.Sound.{sound}
 use Rattle.dtx_network.proofs.laws.a_feed_is_sound.Goals as goal
 

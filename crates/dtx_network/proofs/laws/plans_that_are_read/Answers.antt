@@ -1,4 +1,4 @@
-use Rattle.dtx_plan.specs.WalksLaws.{plan_sound, plan_transmitters}
+use Rattle.dtx_plan.proofs.WalksLemmas.{plan_sound, plan_transmitters}
 use Rattle.dtx_network.proofs.laws.plans_that_are_read.Goals as goal
 
 pub returns : goal.returns

@@ -1,4 +1,4 @@
-use Rattle.dtx_ops.specs.NumbersLaws.{big_bytes-big_number}
+use Rattle.dtx_ops.proofs.NumbersLemmas.{big_bytes-big_number}
 use Rattle.dtx_ops.proofs.laws.bytes_of_their_number.Goals as goal
 
 pub returns : goal.returns

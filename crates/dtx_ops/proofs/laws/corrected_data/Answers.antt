@@ -1,4 +1,4 @@
-use Rattle.dtx_ops.specs.ReadingsLaws.{corrected_some, corrected_none}
+use Rattle.dtx_ops.proofs.ReadingsLemmas.{corrected_some, corrected_none}
 use Rattle.dtx_ops.proofs.laws.corrected_data.Goals as goal
 
 pub returns-clause-some : goal.returns-clause-some

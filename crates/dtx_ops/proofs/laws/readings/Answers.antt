@@ -1,4 +1,4 @@
-use Rattle.dtx_ops.specs.ReadingsLaws.{read_as, reads, refused, refusal_read}
+use Rattle.dtx_ops.proofs.ReadingsLemmas.{read_as, reads, refused, refusal_read}
 use Rattle.dtx_ops.proofs.laws.readings.Goals as goal
 
 pub returns-clause-reads_as : goal.returns-clause-reads_as

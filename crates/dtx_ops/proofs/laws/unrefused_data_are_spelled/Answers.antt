@@ -1,4 +1,4 @@
-use Rattle.dtx_ops.specs.DataLaws.{valid_unrefused, spelled_unrefused}
+use Rattle.dtx_ops.proofs.DataLemmas.{valid_unrefused, spelled_unrefused}
 use Rattle.dtx_ops.proofs.laws.unrefused_data_are_spelled.Goals as goal
 
 pub returns-clause-valid : goal.returns-clause-valid

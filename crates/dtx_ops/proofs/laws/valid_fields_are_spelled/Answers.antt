@@ -1,4 +1,4 @@
-use Rattle.dtx_ops.specs.DataLaws.{length-data_of, AreBytes-data_of, fields-data_of, unrefused-data_of}
+use Rattle.dtx_ops.proofs.DataLemmas.{length-data_of, AreBytes-data_of, fields-data_of, unrefused-data_of}
 use Rattle.dtx_ops.proofs.laws.valid_fields_are_spelled.Goals as goal
 
 pub returns-clause-long : goal.returns-clause-long

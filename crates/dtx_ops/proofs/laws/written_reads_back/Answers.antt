@@ -1,4 +1,4 @@
-use Rattle.dtx_ops.specs.ReadingsLaws.{pid_of-spelling, changed_reads}
+use Rattle.dtx_ops.proofs.ReadingsLemmas.{pid_of-spelling, changed_reads}
 use Rattle.dtx_ops.proofs.laws.written_reads_back.Goals as goal
 
 pub returns-clause-pid : goal.returns-clause-pid

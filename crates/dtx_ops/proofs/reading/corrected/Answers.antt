@@ -1,5 +1,5 @@
 use Rattle.std.proofs.Common.{◌∙◌, Some, ap, sym}
-use Rattle.dtx_ops.specs.RefusingLaws.{corrected_by, none_corrected}
+use Rattle.dtx_ops.proofs.RefusingLemmas.{corrected_by, none_corrected}
 use Rattle.dtx_ops.proofs.reading.corrected.Goals as goal
 
 pub returns-in-Ok : goal.returns-in-Ok

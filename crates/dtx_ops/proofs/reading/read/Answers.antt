@@ -1,6 +1,6 @@
 use Rattle.std.proofs.Common.{◌∙◌, sym}
-use Rattle.dtx_ops.specs.ReadingsLaws.{valid_read}
-use Rattle.dtx_ops.specs.RefusingLaws.{reading_other, reading_none, reading_some}
+use Rattle.dtx_ops.proofs.ReadingsLemmas.{valid_read}
+use Rattle.dtx_ops.proofs.RefusingLemmas.{reading_other, reading_none, reading_some}
 use Rattle.dtx_ops.proofs.reading.read.Goals as goal
 
 pub returns-then-pid-ne-OPERATIONS_PID : goal.returns-then-pid-ne-OPERATIONS_PID

@@ -3,7 +3,7 @@ use Rattle.std.proofs.lemmas.List.{length-take}
 use Rattle.std.specs.List.{flat_map}
 use Rattle.dtx_ops.specs.declared.fields.Entry.{Entry}
 use Rattle.dtx_ops.specs.Spelling.{entry_bytes}
-use Rattle.dtx_ops.specs.EntriesLaws.{length-entries, one_more_entry}
+use Rattle.dtx_ops.proofs.EntriesLemmas.{length-entries, one_more_entry}
 use Rattle.dtx_ops.proofs.Writes.{wrote_at, entries_more}
 use Rattle.dtx_ops.proofs.writing.write_entries.Goals as goal
 

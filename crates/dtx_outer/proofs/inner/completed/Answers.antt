@@ -1,6 +1,6 @@
 use Rattle.std.proofs.Common.{◌≡◌, ◌-◌, ◌*◌, ap, arith}
 use Rattle.dtx_outer.specs.Inner.{waiting}
-use Rattle.dtx_outer.specs.WordsLaws.{waiting_some, delay_small, waited_within, completing_within, completing_is}
+use Rattle.dtx_outer.proofs.WordsLemmas.{waiting_some, delay_small, waited_within, completing_within, completing_is}
 use Rattle.dtx_outer.proofs.inner.completed.Goals as goal
 
 pub overflow_sub-result-2 : goal.overflow_sub-result-2

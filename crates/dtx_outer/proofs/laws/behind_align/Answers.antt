@@ -1,4 +1,4 @@
-use Rattle.dtx_laws.specs.InterleavingLaws.{behind_calls}
+use Rattle.dtx_laws.proofs.InterleavingLemmas.{behind_calls}
 use Rattle.dtx_outer.specs.Coding.{codewords}
 use Rattle.dtx_outer.proofs.laws.behind_align.Goals as goal
 

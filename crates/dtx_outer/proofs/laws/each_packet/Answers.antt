@@ -1,4 +1,4 @@
-use Rattle.dtx_outer.specs.BackLaws.{coded_is}
+use Rattle.dtx_outer.proofs.BackLemmas.{coded_is}
 use Rattle.dtx_outer.proofs.Coding.{length-codewords, get_or-codewords, length-joined}
 use Rattle.dtx_outer.proofs.laws.each_packet.Goals as goal
 

@@ -1,4 +1,4 @@
-use Rattle.dtx_laws.specs.InterleavingLaws.{zeros_calls}
+use Rattle.dtx_laws.proofs.InterleavingLemmas.{zeros_calls}
 use Rattle.dtx_outer.specs.Coding.{codewords}
 use Rattle.dtx_outer.proofs.laws.from_zeros.Goals as goal
 

@@ -1,5 +1,5 @@
 use Rattle.std.proofs.Common.{sym, ◌∙◌, arith}
-use Rattle.dtx_laws.specs.WhiteningLaws.{whitened_by}
+use Rattle.dtx_laws.proofs.WhiteningLemmas.{whitened_by}
 use Rattle.dtx_outer.proofs.whitening.whiten.Goals as goal
 
 pub returns : goal.returns

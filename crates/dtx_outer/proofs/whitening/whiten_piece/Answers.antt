@@ -2,7 +2,7 @@ use Rattle.std.proofs.Common.{◌≡◌, ℕ, ◌+◌, ◌-◌, List, length, ge
 use Rattle.std.proofs.lemmas.List.{get_or_append_left, get_or-append_right, get_or-take, get_or-drop}
 use Rattle.std.proofs.lemmas.List.{length-drop, length-take-le}
 use Rattle.std.specs.Int.RustNames.{bit_xor}
-use Rattle.dtx_laws.specs.WhiteningLaws.{length-whitened, get_or-whitened}
+use Rattle.dtx_laws.proofs.WhiteningLemmas.{length-whitened, get_or-whitened}
 use Rattle.dtx_lists.proofs.Written.{length-put_mid}
 use Rattle.dtx_outer.proofs.whitening.whiten_piece.Goals as goal
 

@@ -1,7 +1,7 @@
 use Rattle.std.proofs.Common.{◌≡◌, ℕ, ◌+◌, ◌-◌, ◌<◌, ◌≤◌, ◌⊎◌, inl, inr, List, length, get_or, sym, ◌∙◌, arith}
 use Rattle.std.proofs.lemmas.Bool.{cases_lt}
 use Rattle.std.specs.Int.RustNames.{bit_xor}
-use Rattle.dtx_laws.specs.WhiteningLaws.{whitened_by}
+use Rattle.dtx_laws.proofs.WhiteningLemmas.{whitened_by}
 use Rattle.dtx_outer.proofs.whitening.whiten_to.Goals as goal
 
 pub returns : goal.returns

@@ -1,6 +1,6 @@
 use Rattle.std.proofs.Common.{false, refl, arith}
-use Rattle.dtx_meaning.specs.Laws.{of_inputs}
-use Rattle.dtx_packet_jobs.specs.AnswersLaws.{adapt_knows}
+use Rattle.dtx_meaning.proofs.MeaningLemmas.{of_inputs}
+use Rattle.dtx_packet_jobs.proofs.AnswersLemmas.{adapt_knows}
 use Rattle.dtx_packet_jobs.proofs.adapt_command.adapt_under.Goals as goal
 
 pub returns-in-Ok : goal.returns-in-Ok

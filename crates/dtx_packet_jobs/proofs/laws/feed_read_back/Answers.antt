@@ -1,4 +1,4 @@
-use Rattle.dtx_packet_jobs.specs.FeedFileLaws.{packets_of-feed_bytes, whole_packets-feed_bytes}
+use Rattle.dtx_packet_jobs.proofs.FeedFileLemmas.{packets_of-feed_bytes, whole_packets-feed_bytes}
 use Rattle.dtx_packet_jobs.proofs.laws.feed_read_back.Goals as goal
 
 pub returns-clause-packets : goal.returns-clause-packets

@@ -1,4 +1,4 @@
-use Rattle.dtx_packet_jobs.specs.PacketFileLaws.{packets_of-bytes, whole_packets-bytes}
+use Rattle.dtx_packet_jobs.proofs.PacketFileLemmas.{packets_of-bytes, whole_packets-bytes}
 use Rattle.dtx_packet_jobs.proofs.laws.packets_read_back.Goals as goal
 
 pub returns-clause-packets : goal.returns-clause-packets

@@ -3,7 +3,7 @@ use Rattle.std.proofs.lemmas.List.{take_more_set, map_push, drop-set-lt, drop-dr
 use Rattle.std.proofs.lemmas.List.FromFn.{map-range_with_len_more}
 use Rattle.dtx_packets.specs.declared.packet.Packet.{Packet}
 use Rattle.dtx_packets.specs.Packets.{packet_at, packets_from, whole_packets}
-use Rattle.dtx_packets.specs.Chunks.{get_or-first_chunks}
+use Rattle.dtx_packets.proofs.ChunksLemmas.{get_or-first_chunks}
 use Rattle.dtx_packets.proofs.cutting.cut.Goals as goal
 
 pub loop-k-preserved : goal.loop-k-preserved

@@ -1,4 +1,4 @@
-use Rattle.dtx_plan.specs.WalksLaws.{plan_sound, plan_transmitters}
+use Rattle.dtx_plan.proofs.WalksLemmas.{plan_sound, plan_transmitters}
 use Rattle.dtx_plan.proofs.laws.plans_are_sound.Goals as goal
 
 pub returns-clause-sound : goal.returns-clause-sound

@@ -1,4 +1,4 @@
-use Rattle.dtx_receiver.specs.IntervalsLaws.{told_on, told_off}
+use Rattle.dtx_receiver.proofs.IntervalsLemmas.{told_on, told_off}
 use Rattle.dtx_receiver.proofs.laws.answers.Goals as goal
 
 pub returns-clause-on : goal.returns-clause-on

@@ -1,4 +1,4 @@
-use Rattle.dtx_receiver.specs.CompleteLaws.{complete_told, complete_all, complete_only}
+use Rattle.dtx_receiver.proofs.CompleteLemmas.{complete_told, complete_all, complete_only}
 use Rattle.dtx_receiver.proofs.laws.complete.Goals as goal
 
 pub returns-clause-told : goal.returns-clause-told

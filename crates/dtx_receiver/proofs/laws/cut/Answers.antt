@@ -1,4 +1,4 @@
-use Rattle.dtx_receiver.specs.SplicingLaws.{cut_packets, cut_received}
+use Rattle.dtx_receiver.proofs.SplicingLemmas.{cut_packets, cut_received}
 use Rattle.dtx_receiver.proofs.laws.cut.Goals as goal
 
 pub returns-clause-packets : goal.returns-clause-packets

@@ -1,4 +1,4 @@
-use Rattle.dtx_receiver.specs.CountingLaws.{nothing_given, given_more, all_more}
+use Rattle.dtx_receiver.proofs.CountingLemmas.{nothing_given, given_more, all_more}
 use Rattle.dtx_receiver.proofs.laws.goes_on.Goals as goal
 
 pub returns-clause-none : goal.returns-clause-none

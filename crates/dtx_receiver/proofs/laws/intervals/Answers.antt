@@ -1,4 +1,4 @@
-use Rattle.dtx_receiver.specs.IntervalsLaws.{are_runs, only_runs, no_runs}
+use Rattle.dtx_receiver.proofs.IntervalsLemmas.{are_runs, only_runs, no_runs}
 use Rattle.dtx_receiver.proofs.laws.intervals.Goals as goal
 
 pub returns-clause-are : goal.returns-clause-are

@@ -1,4 +1,4 @@
-use Rattle.dtx_receiver.specs.CountingLaws.{no_segments, runs_more}
+use Rattle.dtx_receiver.proofs.CountingLemmas.{no_segments, runs_more}
 use Rattle.dtx_receiver.proofs.laws.one_more.Goals as goal
 
 pub returns-clause-none : goal.returns-clause-none

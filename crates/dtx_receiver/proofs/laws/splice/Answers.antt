@@ -1,4 +1,4 @@
-use Rattle.dtx_receiver.specs.SplicingLaws.{behind_none, behind_ended, spliced_runs, spliced_packets}
+use Rattle.dtx_receiver.proofs.SplicingLemmas.{behind_none, behind_ended, spliced_runs, spliced_packets}
 use Rattle.dtx_receiver.proofs.laws.splice.Goals as goal
 
 pub returns-clause-none : goal.returns-clause-none

@@ -1,4 +1,4 @@
-use Rattle.dtx_repeat.specs.MarksLaws.{second_is}
+use Rattle.dtx_repeat.proofs.MarksLemmas.{second_is}
 use Rattle.dtx_repeat.proofs.laws.few_wrong_signs.Goals as goal
 
 pub returns : goal.returns

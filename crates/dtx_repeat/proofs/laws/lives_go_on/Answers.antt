@@ -1,4 +1,4 @@
-use Rattle.dtx_repeat.specs.LivesLaws.{as_many, lives_more, lives_end}
+use Rattle.dtx_repeat.proofs.LivesLemmas.{as_many, lives_more, lives_end}
 use Rattle.dtx_repeat.proofs.laws.lives_go_on.Goals as goal
 
 pub returns : goal.returns

@@ -1,4 +1,4 @@
-use Rattle.dtx_repeat.specs.MarksLaws.{marks_are}
+use Rattle.dtx_repeat.proofs.MarksLemmas.{marks_are}
 use Rattle.dtx_repeat.proofs.laws.marks.Goals as goal
 
 pub returns : goal.returns

@@ -1,5 +1,5 @@
 use Rattle.std.proofs.Common.{◌++◌, sym, ap, arith}
-use Rattle.dtx_repeat.specs.RestoredLaws.{restored_none}
+use Rattle.dtx_repeat.proofs.RestoredLemmas.{restored_none}
 use Rattle.dtx_repeat.proofs.Refilled.{next_on, one_on}
 use Rattle.dtx_repeat.proofs.marks.restore.Goals as goal
 

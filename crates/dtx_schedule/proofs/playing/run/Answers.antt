@@ -1,7 +1,7 @@
 use Rattle.std.proofs.Common.{◌≡◌, List, sym, ap, subst, ◌∙◌, inl, inr}
 use Rattle.std.specs.Prelude.{Option, Some, Result, Ok, Err}
 use Rattle.std.proofs.lemmas.Result.{err_from_is_err_and}
-use Rattle.dtx_meaning.specs.Laws.{write_is_fault}
+use Rattle.dtx_meaning.proofs.MeaningLemmas.{write_is_fault}
 use Rattle.dtx_meaning.specs.Meaning.{ArePartWritten, with_outputs}
 use Rattle.dtx_meaning.specs.declared.status.Status.{Status}
 use Rattle.dtx_net.specs.Steps.{Step, schedule}

@@ -1,4 +1,4 @@
-use Rattle.dtx_slice.specs.JoinsLaws.{bytes_append, precoder_bits_append}
+use Rattle.dtx_slice.proofs.JoinsLemmas.{bytes_append, precoder_bits_append}
 use Rattle.dtx_slice.proofs.laws.group_after_group.Goals as goal
 
 pub returns-clause-bytes : goal.returns-clause-bytes

@@ -1,4 +1,4 @@
-use Rattle.dtx_slice.specs.InverseLaws.{bytes_come_back, precoder_bits_go_on}
+use Rattle.dtx_slice.proofs.InverseLemmas.{bytes_come_back, precoder_bits_go_on}
 use Rattle.dtx_slice.proofs.laws.inverts.Goals as goal
 
 pub returns-clause-bytes : goal.returns-clause-bytes

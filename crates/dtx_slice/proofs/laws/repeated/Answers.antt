@@ -1,4 +1,4 @@
-use Rattle.dtx_slice.specs.JoinsLaws.{precoder_bits_repeated}
+use Rattle.dtx_slice.proofs.JoinsLemmas.{precoder_bits_repeated}
 use Rattle.dtx_slice.proofs.laws.repeated.Goals as goal
 
 pub returns : goal.returns

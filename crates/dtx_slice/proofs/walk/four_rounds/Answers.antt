@@ -1,5 +1,5 @@
 use Rattle.std.proofs.Common.{◌/◌, ◌%◌, get_or, ◌∙◌}
-use Rattle.dtx_slice.specs.PlacesLaws.{lane_joined}
+use Rattle.dtx_slice.proofs.PlacesLemmas.{lane_joined}
 use Rattle.dtx_slice.proofs.walk.four_rounds.Goals as goal
 
 pub returns-clause-bytes : goal.returns-clause-bytes

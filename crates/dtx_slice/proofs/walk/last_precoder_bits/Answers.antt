@@ -1,5 +1,5 @@
 use Rattle.std.proofs.Common.{◌∙◌, arith}
-use Rattle.dtx_slice.specs.PlacesLaws.{precoder_bit_last}
+use Rattle.dtx_slice.proofs.PlacesLemmas.{precoder_bit_last}
 use Rattle.dtx_slice.proofs.walk.last_precoder_bits.Goals as goal
 
 pub returns-clause-precoder_bits : goal.returns-clause-precoder_bits

@@ -1,5 +1,5 @@
 use Rattle.std.proofs.Common.{ℕ, ◌+◌, ◌%◌, List, get_or, ap, ◌∙◌, arith}
-use Rattle.dtx_slice.specs.PlacesLaws.{lane_stays, lane_moves}
+use Rattle.dtx_slice.proofs.PlacesLemmas.{lane_stays, lane_moves}
 use Rattle.dtx_slice.proofs.walk.load_round.Goals as goal
 use Rattle.dtx_slice.proofs.walk.load_round.Goals.{then-byte-round-lt-SEGMENT_ROUNDS, else-byte-round-lt-SEGMENT_ROUNDS}
 

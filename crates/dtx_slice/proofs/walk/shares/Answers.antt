@@ -1,4 +1,4 @@
-use Rattle.dtx_trellis.specs.LaneStepsLaws.{look_up_ok, looked_up_at}
+use Rattle.dtx_trellis.proofs.LaneStepsLemmas.{look_up_ok, looked_up_at}
 use Rattle.dtx_slice.proofs.LaneSteps.{levels_asked, long_shares}
 use Rattle.dtx_slice.proofs.walk.shares.Goals as goal
 

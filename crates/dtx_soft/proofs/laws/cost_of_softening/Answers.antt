@@ -1,5 +1,5 @@
-use Rattle.dtx_soft.specs.MovedLaws.{distance_is}
-use Rattle.dtx_soft.specs.SoftenedLaws.{cost_is}
+use Rattle.dtx_soft.proofs.MovedLemmas.{distance_is}
+use Rattle.dtx_soft.proofs.SoftenedLemmas.{cost_is}
 use Rattle.dtx_soft.proofs.laws.cost_of_softening.Goals as goal
 
 pub returns-clause-coders : goal.returns-clause-coders

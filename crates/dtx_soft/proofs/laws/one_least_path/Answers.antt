@@ -1,4 +1,4 @@
-use Rattle.dtx_soft.specs.LeastPathLaws.{least_path_found, least_path_is}
+use Rattle.dtx_soft.proofs.LeastPathLemmas.{least_path_found, least_path_is}
 use Rattle.dtx_soft.proofs.laws.one_least_path.Goals as goal
 
 pub returns-clause-found : goal.returns-clause-found

@@ -1,4 +1,4 @@
-use Rattle.dtx_soft.specs.SoftenedLaws.{softened_found, softened_is}
+use Rattle.dtx_soft.proofs.SoftenedLemmas.{softened_found, softened_is}
 use Rattle.dtx_soft.proofs.laws.one_softening.Goals as goal
 
 pub returns-clause-found : goal.returns-clause-found

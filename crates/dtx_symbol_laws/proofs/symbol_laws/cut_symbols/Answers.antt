@@ -1,4 +1,4 @@
-use Rattle.dtx_jobs.specs.SplicedSymbolsLaws.{cut_written}
+use Rattle.dtx_jobs.proofs.SplicedSymbolsLemmas.{cut_written}
 use Rattle.dtx_symbol_laws.proofs.symbol_laws.cut_symbols.Goals as goal
 
 pub returns : goal.returns

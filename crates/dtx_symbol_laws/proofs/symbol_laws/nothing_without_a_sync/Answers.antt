@@ -1,4 +1,4 @@
-use Rattle.dtx_jobs.specs.GivenLaws.{no_run_in, no_sync_answered, nothing_given}
+use Rattle.dtx_jobs.proofs.GivenLemmas.{no_run_in, no_sync_answered, nothing_given}
 use Rattle.dtx_jobs.specs.Receive.{with_corrections}
 use Rattle.dtx_jobs.specs.ReceiveLaws.{corrections_given}
 use Rattle.dtx_jobs.specs.SymbolFile.{file_segments}

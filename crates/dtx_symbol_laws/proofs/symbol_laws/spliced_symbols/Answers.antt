@@ -1,4 +1,4 @@
-use Rattle.dtx_jobs.specs.SplicedSymbolsLaws.{spliced_written}
+use Rattle.dtx_jobs.proofs.SplicedSymbolsLemmas.{spliced_written}
 use Rattle.dtx_symbol_laws.proofs.symbol_laws.spliced_symbols.Goals as goal
 
 pub returns : goal.returns

@@ -8,7 +8,7 @@ use Rattle.std.proofs.lemmas.List.{length-drop}
 use Rattle.std.proofs.lemmas.List.Elements.{All-drop, All-from_recursion, All-weaker}
 use Rattle.std.proofs.lemmas.Slice.Eq.{bytes_eq-Decides}
 use Rattle.dtx_adapter.specs.Feed.{feed}
-use Rattle.dtx_adapter.specs.FeedsLaws.{length-feed}
+use Rattle.dtx_adapter.proofs.FeedsLemmas.{length-feed}
 use Rattle.dtx_engine.specs.Recipe.{meaning, meaning_of_file}
 use Rattle.dtx_galois.specs.Field.{AreBytes}
 use Rattle.dtx_meaning.specs.Meaning.{refused}
@@ -21,7 +21,8 @@ use Rattle.dtx_words.specs.Fitting.{command_of}
 use Rattle.dtx_words.specs.declared.rows.Command.{Command}
 use Rattle.dtx_words.specs.declared.rows.Command.TheVariants.{Watch}
 use Rattle.dtx_packet_jobs.specs.Feed.{bytes_of_packets}
-use Rattle.dtx_packet_jobs.specs.PacketFileLaws.{IsLong, length-bytes_of_packets, packets_of-bytes, whole_packets-bytes}
+use Rattle.dtx_packet_jobs.proofs.PacketFileLemmas.{IsLong, length-bytes_of_packets, packets_of-bytes}
+use Rattle.dtx_packet_jobs.proofs.PacketFileLemmas.{whole_packets-bytes}
 use Rattle.dtx_forms.specs.Shapes.{single_packets}
 use Rattle.dtx_jobs.specs.Watch.{watching}
 use Rattle.dtx_jobs.specs.WatchedFeed.{IsWatchedCalmly}

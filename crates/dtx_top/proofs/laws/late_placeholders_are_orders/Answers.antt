@@ -3,7 +3,7 @@ use Rattle.std.specs.Prelude.{is_some}
 use Rattle.dtx_adapter.specs.Feed.{feed}
 use Rattle.dtx_exciter.specs.Order.{counting_order}
 use Rattle.dtx_exciter.specs.Packets.{readings}
-use Rattle.dtx_exciter.specs.UnderLaws.{said_drop}
+use Rattle.dtx_exciter.proofs.UnderLemmas.{said_drop}
 use Rattle.dtx_top.proofs.LateOrders.{held_order, order_from}
 use Rattle.dtx_top.proofs.laws.late_placeholders_are_orders.Goals as goal
 

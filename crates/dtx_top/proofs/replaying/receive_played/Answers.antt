@@ -1,6 +1,6 @@
 use Rattle.std.proofs.Common.{◌≡◌, List, refl, sym, subst}
 use Rattle.std.specs.Prelude.{Option, Some, IfSome}
-use Rattle.dtx_meaning.specs.Laws.{part_of_none}
+use Rattle.dtx_meaning.proofs.MeaningLemmas.{part_of_none}
 use Rattle.dtx_meaning.specs.Meaning.{IsCarriedOut}
 use Rattle.dtx_meaning.specs.declared.status.Status.{Status}
 use Rattle.dtx_network.specs.Network.{steps_under}

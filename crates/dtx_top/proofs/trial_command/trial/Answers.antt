@@ -1,6 +1,6 @@
 use Rattle.std.proofs.Common.{ℕ, ◌-◌, ◌^◌, List, ap, subst, sym, ◌∙◌}
 use Rattle.std.specs.Prelude.{Some, IfSome}
-use Rattle.dtx_forms.specs.NumbersLaws.{within_range}
+use Rattle.dtx_forms.proofs.NumbersLemmas.{within_range}
 use Rattle.dtx_meaning.specs.Meaning.{IsCarriedOut}
 use Rattle.dtx_words.specs.Number.{number_in, number_within}
 use Rattle.dtx_top.specs.Trial.{HasNumbersProgress, HasTrialProgress, trial_meaning, trial_of}

@@ -1,5 +1,5 @@
 use Rattle.std.proofs.Common.{get_or, ◌∙◌}
-use Rattle.dtx_trellis.specs.LaneStepsLaws.{doubled_at}
+use Rattle.dtx_trellis.proofs.LaneStepsLemmas.{doubled_at}
 use Rattle.dtx_trellis.proofs.lanes.doubled.Goals as goal
 
 pub returns-clause-levels : goal.returns-clause-levels

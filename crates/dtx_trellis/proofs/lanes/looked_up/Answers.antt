@@ -1,6 +1,6 @@
 use Rattle.std.proofs.lemmas.Simd.{length-swz_l}
 use Rattle.std.proofs.Common.{w8, ◌∙◌}
-use Rattle.dtx_trellis.specs.LaneStepsLaws.{look_up_ok, looked_up_at}
+use Rattle.dtx_trellis.proofs.LaneStepsLemmas.{look_up_ok, looked_up_at}
 use Rattle.dtx_trellis.proofs.lanes.looked_up.Goals as goal
 
 pub swizzle : goal.swizzle

@@ -1,6 +1,6 @@
 use Rattle.std.proofs.Common.{◌<◌, get_or, bit_and, sym, ◌∙◌, subst, arith, Fits, w8}
 use Rattle.std.proofs.lemmas.Simd.{Each1-get_or}
-use Rattle.dtx_trellis.specs.LaneStepsLaws.{long_splat, low_bits, splat_at}
+use Rattle.dtx_trellis.proofs.LaneStepsLemmas.{long_splat, low_bits, splat_at}
 use Rattle.dtx_trellis.proofs.lanes.lower.Goals as goal
 
 pub returns-clause-lanes : goal.returns-clause-lanes

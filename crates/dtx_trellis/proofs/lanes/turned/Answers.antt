@@ -1,4 +1,4 @@
-use Rattle.dtx_trellis.specs.LaneStepsLaws.{turned_at}
+use Rattle.dtx_trellis.proofs.LaneStepsLemmas.{turned_at}
 use Rattle.dtx_trellis.proofs.lanes.turned.Goals as goal
 
 pub returns-clause-lanes : goal.returns-clause-lanes

@@ -1,6 +1,6 @@
 use Rattle.std.proofs.Common.{ap₂, get_or, ◌∙◌}
 use Rattle.std.specs.Int.RustNames.{bit_xor}
-use Rattle.dtx_trellis.specs.LaneStepsLaws.{at_zip, both_at, long_zip}
+use Rattle.dtx_trellis.proofs.LaneStepsLemmas.{at_zip, both_at, long_zip}
 use Rattle.dtx_trellis.proofs.lanes.two_pairs.Goals as goal
 
 pub returns-clause-long : goal.returns-clause-long

@@ -1,6 +1,6 @@
 use Rattle.std.proofs.Common.{◌/◌, ◌^◌, ◌<◌, sym, subst, arith, Fits, w8}
 use Rattle.std.proofs.lemmas.Simd.{Each1-get_or}
-use Rattle.dtx_trellis.specs.LaneStepsLaws.{long_splat, splat_at}
+use Rattle.dtx_trellis.proofs.LaneStepsLemmas.{long_splat, splat_at}
 use Rattle.dtx_trellis.proofs.lanes.upper.Goals as goal
 
 pub returns-clause-lanes : goal.returns-clause-lanes

@@ -1,4 +1,4 @@
-use Rattle.dtx_trellis.specs.JoinsLaws.{higher_append, lower_append, states_append, levels_append}
+use Rattle.dtx_trellis.proofs.JoinsLemmas.{higher_append, lower_append, states_append, levels_append}
 use Rattle.dtx_trellis.proofs.laws.group_after_group.Goals as goal
 
 pub returns-clause-higher : goal.returns-clause-higher

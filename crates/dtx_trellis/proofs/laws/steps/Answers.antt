@@ -1,4 +1,4 @@
-use Rattle.dtx_trellis.specs.StepsLaws.{after_zero, state_step, level_step}
+use Rattle.dtx_trellis.proofs.StepsLemmas.{after_zero, state_step, level_step}
 use Rattle.dtx_trellis.proofs.laws.steps.Goals as goal
 
 pub returns-clause-first : goal.returns-clause-first

@@ -1,7 +1,7 @@
 use Rattle.std.proofs.Common.{ℕ, ◌+◌, ◌*◌, ◌<◌, pos, get_or, sym, ap, ◌∙◌, subst, arith}
 use Rattle.dtx_trellis.specs.Trellis.{symbol_of}
 use Rattle.dtx_trellis.specs.Groups.{sent_place}
-use Rattle.dtx_trellis.specs.LaneRoundsLaws.{round_level, sent_more}
+use Rattle.dtx_trellis.proofs.LaneRoundsLemmas.{round_level, sent_more}
 use Rattle.dtx_trellis.proofs.walk.emit.Goals as goal
 
 place_small : (r : ℕ) → r < 276 → sent_place (12 * r) + 12 < 3329

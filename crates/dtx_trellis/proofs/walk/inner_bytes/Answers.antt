@@ -1,7 +1,7 @@
 use Rattle.std.proofs.Common.{◌≡◌, ℕ, ◌+◌, ◌*◌, ◌/◌, ◌<◌, sym, ap, ◌∙◌, subst, arith}
 use Rattle.dtx_trellis.specs.Lanes.{HoldsBytes, HoldsStates, turn}
-use Rattle.dtx_trellis.specs.LaneRoundsLaws.{first_turn, inside, inside_turn, loaded_bytes, lower_pairs, round_place}
-use Rattle.dtx_trellis.specs.LaneRoundsLaws.{stands_next, upper_pairs}
+use Rattle.dtx_trellis.proofs.LaneRoundsLemmas.{first_turn, inside, inside_turn, loaded_bytes, lower_pairs, round_place}
+use Rattle.dtx_trellis.proofs.LaneRoundsLemmas.{stands_next, upper_pairs}
 use Rattle.dtx_trellis.proofs.walk.inner_bytes.Goals as goal
 
 pub two_rounds-middle-requires-clause-place : goal.two_rounds-middle-requires-clause-place

@@ -1,8 +1,8 @@
 use Rattle.std.proofs.Common.{◌+◌, ◌*◌, ◌%◌, get_or, sym, ap, ◌∙◌, arith}
 use Rattle.dtx_trellis.specs.Trellis.{state_of}
 use Rattle.dtx_trellis.specs.Lanes.{coder_turned, turn}
-use Rattle.dtx_trellis.specs.RoundsLaws.{first_state}
-use Rattle.dtx_trellis.specs.LaneRoundsLaws.{first_coder, state_low}
+use Rattle.dtx_trellis.proofs.RoundsLemmas.{first_state}
+use Rattle.dtx_trellis.proofs.LaneRoundsLemmas.{first_coder, state_low}
 use Rattle.dtx_trellis.proofs.walk.laid_out.Goals as goal
 
 pub returns : goal.returns

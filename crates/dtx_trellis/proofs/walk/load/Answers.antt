@@ -1,5 +1,5 @@
 use Rattle.std.proofs.Common.{◌≡◌, ◌+◌, ◌*◌, ℕ, List, get_or, ap, ◌∙◌, arith}
-use Rattle.dtx_trellis.specs.StoresLaws.{loaded}
+use Rattle.dtx_trellis.proofs.StoresLemmas.{loaded}
 use Rattle.dtx_trellis.proofs.walk.load.Goals as goal
 use Rattle.dtx_trellis.proofs.walk.load.Goals.{then-byte-lt-LAST_BYTE, else-byte-lt-LAST_BYTE}
 

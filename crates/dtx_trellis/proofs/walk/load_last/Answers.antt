@@ -1,4 +1,4 @@
-use Rattle.dtx_trellis.specs.StoresLaws.{last_loaded}
+use Rattle.dtx_trellis.proofs.StoresLemmas.{last_loaded}
 use Rattle.dtx_trellis.proofs.walk.load_last.Goals as goal
 
 pub returns-clause-bytes : goal.returns-clause-bytes

@@ -1,4 +1,4 @@
-use Rattle.dtx_trellis.specs.LaneRoundsLaws.{not_both}
+use Rattle.dtx_trellis.proofs.LaneRoundsLemmas.{not_both}
 use Rattle.std.proofs.Common.{◌≡◌, ◌≢◌, ℕ, ◌+◌, ◌%◌, ◌*◌, ◌<◌, arith}
 use Rattle.dtx_trellis.specs.Groups.{sent_place}
 use Rattle.dtx_trellis.proofs.walk.next_place.Goals as goal

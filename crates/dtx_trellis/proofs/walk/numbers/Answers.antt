@@ -2,7 +2,7 @@ use Rattle.std.proofs.Common.{◌≡◌, ℕ, ◌+◌, ◌-◌, ◌*◌, ◌%◌
 use Rattle.std.proofs.lemmas.List.{get_or-set_same, get_or-set_other, length-set}
 use Rattle.dtx_trellis.specs.Trellis.{number_of}
 use Rattle.dtx_trellis.specs.Groups.{coder_after}
-use Rattle.dtx_trellis.specs.LaneRoundsLaws.{number_end}
+use Rattle.dtx_trellis.proofs.LaneRoundsLemmas.{number_end}
 use Rattle.dtx_trellis.proofs.walk.numbers.Goals as goal
 
 pub loop-e-preserved : goal.loop-e-preserved

@@ -2,8 +2,8 @@ use Rattle.std.proofs.Common.{◌≡◌, ℕ, ◌*◌, ◌/◌, ◌<◌, get_or,
 use Rattle.std.proofs.lemmas.Simd.{Each1-from_get_or}
 use Rattle.dtx_trellis.specs.Trellis.{symbol_of}
 use Rattle.dtx_trellis.specs.Lanes.{level_told}
-use Rattle.dtx_trellis.specs.LaneStepsLaws.{level_small, long_sent, sent_at}
-use Rattle.dtx_trellis.specs.StoresLaws.{stored}
+use Rattle.dtx_trellis.proofs.LaneStepsLemmas.{level_small, long_sent, sent_at}
+use Rattle.dtx_trellis.proofs.StoresLemmas.{stored}
 use Rattle.dtx_trellis.proofs.walk.store.Goals as goal
 
 halved : (d z : ℕ) → d ≡ 2 * z → d / 2 ≡ z

@@ -1,7 +1,7 @@
 use Rattle.std.proofs.Common.{◌≡◌, ◌+◌, ◌*◌, subst, arith}
 use Rattle.dtx_trellis.specs.Groups.{AreSent}
 use Rattle.dtx_trellis.specs.Lanes.{HoldsStates, turn}
-use Rattle.dtx_trellis.specs.LaneRoundsLaws.{first_round, second_moved}
+use Rattle.dtx_trellis.proofs.LaneRoundsLemmas.{first_round, second_moved}
 use Rattle.dtx_trellis.proofs.walk.two_rounds.Goals as goal
 
 pub emit-requires-clause-held : goal.emit-requires-clause-held

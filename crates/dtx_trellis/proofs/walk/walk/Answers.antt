@@ -1,4 +1,4 @@
-use Rattle.dtx_trellis.specs.LaneRoundsLaws.{none_sent}
+use Rattle.dtx_trellis.proofs.LaneRoundsLemmas.{none_sent}
 use Rattle.dtx_trellis.proofs.walk.walk.Goals as goal
 
 pub loop-segment-init : goal.loop-segment-init

@@ -1,5 +1,5 @@
 use Rattle.std.proofs.Common.{arith}
-use Rattle.dtx_watch.specs.ToldLaws.{settled, notes_stay}
+use Rattle.dtx_watch.proofs.ToldLemmas.{settled, notes_stay}
 use Rattle.dtx_watch.proofs.laws.notes_stay.Goals as goal
 
 pub returns : goal.returns

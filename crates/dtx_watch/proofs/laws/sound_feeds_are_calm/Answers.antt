@@ -1,5 +1,5 @@
 use Rattle.std.proofs.Common.{drop, refl}
-use Rattle.dtx_watch.specs.SoundLaws.{calm}
+use Rattle.dtx_watch.proofs.SoundLemmas.{calm}
 use Rattle.dtx_watch.proofs.laws.sound_feeds_are_calm.Goals as goal
 
 pub returns : goal.returns

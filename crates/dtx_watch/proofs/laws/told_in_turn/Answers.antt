@@ -1,4 +1,4 @@
-use Rattle.dtx_watch.specs.ToldLaws.{nothing_told, told_further, all_told}
+use Rattle.dtx_watch.proofs.ToldLemmas.{nothing_told, told_further, all_told}
 use Rattle.dtx_watch.proofs.laws.told_in_turn.Goals as goal
 
 pub returns : goal.returns

@@ -1,4 +1,4 @@
-use Rattle.dtx_watch.specs.WatchLinesLaws.{words_of-watch_text}
+use Rattle.dtx_watch.proofs.WatchLinesLemmas.{words_of-watch_text}
 use Rattle.dtx_watch.proofs.laws.watch_text_has_the_words_of_its_notes.Goals as goal
 
 pub returns : goal.returns

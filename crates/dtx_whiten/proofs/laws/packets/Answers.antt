@@ -1,4 +1,4 @@
-use Rattle.dtx_whiten.specs.PacketsLaws.{randomized_whitened, get_or-randomized_stream}
+use Rattle.dtx_whiten.proofs.PacketsLemmas.{randomized_whitened, get_or-randomized_stream}
 use Rattle.dtx_whiten.proofs.laws.packets.Goals as goal
 
 pub returns-clause-packet : goal.returns-clause-packet

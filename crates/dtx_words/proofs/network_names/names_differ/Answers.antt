@@ -1,4 +1,4 @@
-use Rattle.dtx_words.specs.NetworkNamesLaws.{logs_differ, symbols_differ, symbols_no_logs}
+use Rattle.dtx_words.proofs.NetworkNamesLemmas.{logs_differ, symbols_differ, symbols_no_logs}
 use Rattle.dtx_words.proofs.network_names.names_differ.Goals as goal
 
 pub returns-clause-symbols : goal.returns-clause-symbols

@@ -4,8 +4,8 @@ use Rattle.std.proofs.lemmas.List.{append-nil, length-take-le}
 use Rattle.dtx_acquire.specs.Acquired.{acquired_so_far, restored_of, settled_fields}
 use Rattle.dtx_acquire.specs.Acquirer.{Holding, Leaves, StandsFor}
 use Rattle.dtx_acquire.specs.Agreement.{agrees}
-use Rattle.dtx_acquire.specs.AgreementLaws.{whole_there}
-use Rattle.dtx_acquire.specs.StepsLaws.{agrees_front}
+use Rattle.dtx_acquire.proofs.AgreementLemmas.{whole_there}
+use Rattle.dtx_acquire.proofs.StepsLemmas.{agrees_front}
 use Rattle.dtx_acquire.proofs.Leaving.{leaves_more, so_far_by, stands_by}
 use Rattle.dtx_acquire.proofs.acquirer.Acquirer.take.Goals as goal
 

@@ -10,8 +10,8 @@ use Rattle.dtx_adapter.specs.Adapting.{StandsFor}
 use Rattle.dtx_adapter.specs.Feed.{feed}
 use Rattle.dtx_adapter.specs.Filling.{Filling, Fills, begun}
 use Rattle.dtx_adapter.specs.declared.adapter.Adapter.{Adapter}
-use Rattle.dtx_adapter.specs.FeedsLaws.{length-feed, feed_parts}
-use Rattle.dtx_adapter.specs.MakingLaws.{raw, fills_begun}
+use Rattle.dtx_adapter.proofs.FeedsLemmas.{length-feed, feed_parts}
+use Rattle.dtx_adapter.proofs.MakingLemmas.{raw, fills_begun}
 use Rattle.dtx_adapter.proofs.adapter.Adapter.group.Goals as goal
 
 -- where only whole groups were given, the coder was given the whole feed

@@ -1,5 +1,5 @@
 use Rattle.std.proofs.Common.{refl, ◌∙◌}
-use Rattle.dtx_coder.specs.NextLaws.{new_stands}
+use Rattle.dtx_coder.proofs.NextLemmas.{new_stands}
 use Rattle.dtx_adapter.specs.Feed.{feed, feed_to}
 use Rattle.dtx_adapter.proofs.adapter.Adapter.new.Goals as goal
 

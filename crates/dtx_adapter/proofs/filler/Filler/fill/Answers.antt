@@ -3,7 +3,7 @@ use Rattle.dtx_cadence.specs.Mark.{sync_at, marked}
 use Rattle.dtx_clock.specs.Clock.{stamp_of}
 use Rattle.dtx_ops.specs.Spelling.{spelling}
 use Rattle.dtx_adapter.specs.Filling.{Filling, filled_ops}
-use Rattle.dtx_adapter.specs.MakingLaws.{at_hand_differ}
+use Rattle.dtx_adapter.proofs.MakingLemmas.{at_hand_differ}
 use Rattle.dtx_adapter.proofs.filler.Filler.fill.Goals as goal
 
 pub write-requires-clause-differ : goal.write-requires-clause-differ

@@ -5,9 +5,9 @@ use Rattle.dtx_ops.specs.declared.paging.Paging.{Paging}
 use Rattle.dtx_ops.specs.Spelling.{IsEntry}
 use Rattle.dtx_plan.specs.declared.transmitter.Transmitter.{Transmitter}
 use Rattle.dtx_adapter.specs.Feed.{entry_of, placeholders, paging_of, listed}
-use Rattle.dtx_adapter.specs.GroupsLaws.{is_filled-none, filled_groups-none}
-use Rattle.dtx_adapter.specs.PagesLaws.{paging_of-same, paged_at_hand}
-use Rattle.dtx_adapter.specs.MakingLaws.{entries_differ}
+use Rattle.dtx_adapter.proofs.GroupsLemmas.{is_filled-none, filled_groups-none}
+use Rattle.dtx_adapter.proofs.PagesLemmas.{paging_of-same, paged_at_hand}
+use Rattle.dtx_adapter.proofs.MakingLemmas.{entries_differ}
 use Rattle.dtx_adapter.proofs.filler.Filler.new.Goals as goal
 
 pub invariant_of-result : goal.invariant_of-result

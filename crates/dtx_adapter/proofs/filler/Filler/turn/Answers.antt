@@ -2,7 +2,7 @@ use Rattle.std.proofs.Common.{ℕ, ◌+◌, ◌*◌, ◌%◌, ◌<◌, ◌≤◌
 use Rattle.std.specs.Prelude.{slice_range}
 use Rattle.dtx_ops.specs.declared.paging.Paging.TheVariants.{Of}
 use Rattle.dtx_ops.specs.Paging.{page_of, pages_of, IsPaged}
-use Rattle.dtx_adapter.specs.PagesLaws.{paged}
+use Rattle.dtx_adapter.proofs.PagesLemmas.{paged}
 use Rattle.dtx_adapter.proofs.filler.Filler.turn.Goals as goal
 
 pub invariant_of-self : goal.invariant_of-self

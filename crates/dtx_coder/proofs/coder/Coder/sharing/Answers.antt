@@ -3,7 +3,7 @@ use Rattle.dtx_outer.specs.Outer.{Held}
 use Rattle.dtx_coder.specs.Stream.{zero_states, no_last}
 use Rattle.dtx_coder.specs.Groups.{IsAtsc, new_coding}
 use Rattle.dtx_coder.proofs.Packets.{atsc_new}
-use Rattle.dtx_coder.specs.NextLaws.{same_coding}
+use Rattle.dtx_coder.proofs.NextLemmas.{same_coding}
 use Rattle.dtx_coder.proofs.coder.Coder.sharing.Goals as goal
 
 pub invariant_of-result : goal.invariant_of-result

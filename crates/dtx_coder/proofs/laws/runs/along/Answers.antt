@@ -1,4 +1,4 @@
-use Rattle.dtx_coder.specs.AlongLaws.{along_begins, along_goes_on, along_preset}
+use Rattle.dtx_coder.proofs.AlongLemmas.{along_begins, along_goes_on, along_preset}
 use Rattle.dtx_coder.proofs.laws.runs.along.Goals as goal
 
 pub returns-clause-begins : goal.returns-clause-begins

@@ -1,5 +1,5 @@
-use Rattle.dtx_coder.specs.AlignLaws.{in_turn}
-use Rattle.dtx_coder.specs.RunsLaws.{branches_groups, length-bytes_of_groups, coded_packets}
+use Rattle.dtx_coder.proofs.AlignLemmas.{in_turn}
+use Rattle.dtx_coder.proofs.RunsLemmas.{branches_groups, length-bytes_of_groups, coded_packets}
 use Rattle.dtx_coder.proofs.laws.runs.interleaved_groups.Goals as goal
 
 pub returns-clause-bytes : goal.returns-clause-bytes

@@ -1,4 +1,4 @@
-use Rattle.dtx_coder.specs.RunsLaws.{coder_append, bytes_append, segments_append}
+use Rattle.dtx_coder.proofs.RunsLemmas.{coder_append, bytes_append, segments_append}
 use Rattle.dtx_coder.proofs.laws.runs.one_after_another.Goals as goal
 
 pub returns-clause-coder : goal.returns-clause-coder

@@ -1,4 +1,4 @@
-use Rattle.dtx_coder.specs.RunsLaws.{segments_restart, states_restart}
+use Rattle.dtx_coder.proofs.RunsLemmas.{segments_restart, states_restart}
 use Rattle.dtx_coder.proofs.laws.runs.restarts.Goals as goal
 
 pub returns-clause-segments : goal.returns-clause-segments

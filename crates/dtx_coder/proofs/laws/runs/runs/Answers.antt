@@ -1,4 +1,4 @@
-use Rattle.dtx_coder.specs.RunsLaws.{segments_run, states_run, last_run}
+use Rattle.dtx_coder.proofs.RunsLemmas.{segments_run, states_run, last_run}
 use Rattle.dtx_coder.proofs.laws.runs.runs.Goals as goal
 
 pub returns-clause-segments : goal.returns-clause-segments

@@ -1,4 +1,4 @@
-use Rattle.dtx_coder.specs.AlongLaws.{sent_group, sent_preset, states_along, last_along}
+use Rattle.dtx_coder.proofs.AlongLemmas.{sent_group, sent_preset, states_along, last_along}
 use Rattle.dtx_coder.proofs.laws.runs.sent_along.Goals as goal
 
 pub returns-clause-group : goal.returns-clause-group

@@ -3,7 +3,7 @@ use Rattle.std.proofs.lemmas.Slice.Eq.{slice_eq-Decides}
 use Rattle.std.proofs.lemmas.Bool.Decides.{Decides-eqb}
 use Rattle.std.specs.Bool.{Decides}
 use Rattle.dtx_laws.specs.Codeword.{IsCodeword}
-use Rattle.dtx_laws.specs.AnswersLaws.{codeword_answer}
+use Rattle.dtx_laws.proofs.AnswersLemmas.{codeword_answer}
 use Rattle.dtx_correct.proofs.linear.LinearCorrect.correct.Goals as goal
 
 pub returns-then-eq-clause-answer : goal.returns-then-eq-clause-answer

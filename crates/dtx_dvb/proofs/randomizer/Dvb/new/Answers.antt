@@ -1,5 +1,5 @@
 use Rattle.std.proofs.Common.{◌≡◌, ◌*◌, vec_len, arith}
-use Rattle.dtx_dvb.specs.RandomizerLaws.{randomizer_bytes_by}
+use Rattle.dtx_dvb.proofs.RandomizerLemmas.{randomizer_bytes_by}
 use Rattle.dtx_dvb.proofs.randomizer.Dvb.new.Goals as goal
 
 pub invariant_of-result : goal.invariant_of-result

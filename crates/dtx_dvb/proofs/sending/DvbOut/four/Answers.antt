@@ -3,7 +3,7 @@ use Rattle.dtx_laws.specs.Branches.{leaving_all, after_all}
 use Rattle.dtx_outer.specs.Outer.{Held}
 use Rattle.dtx_dvb.specs.Stream.{dvb}
 use Rattle.dtx_dvb.specs.Sending.{HasSent}
-use Rattle.dtx_dvb.specs.StreamLaws.{bytes_more, sent_more}
+use Rattle.dtx_dvb.proofs.StreamLemmas.{bytes_more, sent_more}
 use Rattle.dtx_dvb.proofs.Blocks.{blocks_coded}
 use Rattle.dtx_dvb.proofs.sending.DvbOut.four.Goals as goal
 

@@ -2,7 +2,7 @@ use Rattle.std.proofs.Common.{◌≡◌, ◌++◌, ◌∷◌, [], length, sym, a
 use Rattle.dtx_laws.specs.Branches.{leaving_all, after_all}
 use Rattle.dtx_dvb.specs.Stream.{dvb}
 use Rattle.dtx_dvb.specs.Sending.{HasSent}
-use Rattle.dtx_dvb.specs.StreamLaws.{blocks_one, bytes_more, sent_more}
+use Rattle.dtx_dvb.proofs.StreamLemmas.{blocks_one, bytes_more, sent_more}
 use Rattle.dtx_dvb.proofs.Blocks.{coded_is}
 use Rattle.dtx_dvb.proofs.sending.DvbOut.packet.Goals as goal
 

@@ -5,7 +5,7 @@ use Rattle.std.proofs.lemmas.Bool.Decides.{Decides-eqb}
 use Rattle.std.specs.Bool.{Decides}
 use Rattle.dtx_laws.specs.Codeword.{IsCodeword}
 use Rattle.dtx_erase.specs.Mending.{IsMending}
-use Rattle.dtx_erase.specs.MendingLaws.{own_answer}
+use Rattle.dtx_erase.proofs.MendingLemmas.{own_answer}
 use Rattle.dtx_erase.proofs.Outcomes.{not_restored}
 use Rattle.dtx_erase.proofs.erasing.Erase.mend_marked.Goals as goal
 

@@ -1,5 +1,5 @@
 use Rattle.std.proofs.Common.{None, refl, sym, subst, ◌∙◌, ap}
-use Rattle.dtx_receiver.specs.AnswersLaws.{finish_none, finish_some, stands_new}
+use Rattle.dtx_receiver.proofs.AnswersLemmas.{finish_none, finish_some, stands_new}
 use Rattle.dtx_erase.specs.Sides.{Decodes, Kept}
 use Rattle.dtx_erase.proofs.Decoding.{mending}
 use Rattle.dtx_erase.proofs.receiver.MendReceiver.finish.Goals as goal

@@ -1,5 +1,5 @@
 use Rattle.std.proofs.Common.{◌≡◌, ◌+◌, ◌-◌, ◌%◌, Some, None, refl, sym, subst, ◌∙◌, ap, arith}
-use Rattle.dtx_receiver.specs.AnswersLaws.{step_searching, step_began, step_sync, step_ended, step_data}
+use Rattle.dtx_receiver.proofs.AnswersLemmas.{step_searching, step_began, step_sync, step_ended, step_data}
 use Rattle.dtx_erase.specs.Sides.{Kept, Mends}
 use Rattle.dtx_erase.proofs.Decoding.{mending}
 use Rattle.dtx_erase.proofs.receiver.MendReceiver.follow.Goals as goal

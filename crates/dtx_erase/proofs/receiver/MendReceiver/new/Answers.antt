@@ -1,5 +1,5 @@
 use Rattle.std.proofs.Common.{None, refl}
-use Rattle.dtx_receiver.specs.AnswersLaws.{stands_new}
+use Rattle.dtx_receiver.proofs.AnswersLemmas.{stands_new}
 use Rattle.dtx_erase.specs.Sides.{Decodes}
 use Rattle.dtx_erase.proofs.receiver.MendReceiver.new.Goals as goal
 

@@ -1,6 +1,6 @@
 use Rattle.std.proofs.Common.{sym, ap, ◌∙◌, subst}
 use Rattle.dtx_laws.specs.Branches.{Branching, HasWidths, gathering}
-use Rattle.dtx_laws.specs.InterleavingLaws.{HasWidths-aligned}
+use Rattle.dtx_laws.proofs.InterleavingLemmas.{HasWidths-aligned}
 use Rattle.dtx_slice.specs.Unrolled.{precoder_bits_of}
 use Rattle.dtx_erase.proofs.Stands.{holds_first}
 use Rattle.dtx_erase.proofs.side.Side.begin.Goals as goal

@@ -1,9 +1,9 @@
 use Rattle.std.proofs.Common.{◌≡◌, ℤ, ◌+◌, ◌%◌, ◌*◌, ◌++◌, List, refl, sym, subst, ◌∙◌, ap, take, drop, arith}
 use Rattle.dtx_slice.specs.Slicing.{sliced_data}
 use Rattle.dtx_receiver.specs.Bytes.{data_count}
-use Rattle.dtx_receiver.specs.SegmentsLaws.{segment_long}
+use Rattle.dtx_receiver.proofs.SegmentsLemmas.{segment_long}
 use Rattle.dtx_erase.specs.Sides.{Side, Holds}
-use Rattle.dtx_receiver.specs.LevelsLaws.{whole_now, part_now, not_due_now}
+use Rattle.dtx_receiver.proofs.LevelsLemmas.{whole_now, part_now, not_due_now}
 use Rattle.dtx_erase.proofs.Stands.{side, holds_group, holds_data}
 use Rattle.dtx_erase.proofs.side.Side.take.Goals as goal
 

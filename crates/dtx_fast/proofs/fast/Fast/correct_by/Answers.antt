@@ -1,6 +1,6 @@
 use Rattle.std.proofs.Common.{◌≡◌, ◌-◌, ◌++◌, List, ℕ, length, take, sym, ap, ◌∙◌, subst, arith}
 use Rattle.dtx_laws.specs.Codeword.{IsCodeword}
-use Rattle.dtx_laws.specs.AnswersLaws.{codeword_answer}
+use Rattle.dtx_laws.proofs.AnswersLemmas.{codeword_answer}
 use Rattle.dtx_fast.proofs.fast.Fast.correct_by.Goals as goal
 
 pub returns-then-has_parity-clause-answer : goal.returns-then-has_parity-clause-answer

@@ -2,7 +2,7 @@ use Rattle.std.proofs.Common.{ℕ, ◌+◌, ◌∙◌, List, length, ap, arith, 
 use Rattle.std.proofs.lemmas.List.{length-replicate}
 use Rattle.dtx_galois.specs.Field.{pow}
 use Rattle.dtx_fast.specs.Recurrence.{walked}
-use Rattle.dtx_fast.specs.RowsLaws.{walked_front}
+use Rattle.dtx_fast.proofs.RowsLemmas.{walked_front}
 use Rattle.dtx_fast.proofs.Blocks.{not_moved, moved_more, block_value, blocks_more}
 use Rattle.dtx_fast.proofs.places.Places.walk.Goals as goal
 

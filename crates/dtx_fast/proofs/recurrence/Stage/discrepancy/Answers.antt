@@ -1,6 +1,6 @@
 use Rattle.std.proofs.Common.{◌∙◌, refl, sym, ap₂, bit_xor, get_or}
 use Rattle.dtx_fast.specs.Recurrence.{discrepancy}
-use Rattle.dtx_fast.specs.RecurrenceLaws.{discrepancy_next}
+use Rattle.dtx_fast.proofs.RecurrenceLemmas.{discrepancy_next}
 use Rattle.dtx_fast.proofs.recurrence.Stage.discrepancy.Goals as goal
 
 pub loop-k-init : goal.loop-k-init

@@ -1,5 +1,5 @@
 use Rattle.std.proofs.Common.{get_or}
-use Rattle.dtx_fast.specs.StageLaws.{stage_kept}
+use Rattle.dtx_fast.proofs.StageLemmas.{stage_kept}
 use Rattle.dtx_fast.proofs.recurrence.Stage.keep.Goals as goal
 
 pub returns-clause-stage : goal.returns-clause-stage

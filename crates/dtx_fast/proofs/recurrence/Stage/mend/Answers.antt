@@ -1,6 +1,6 @@
 use Rattle.std.proofs.Common.{◌∙◌, ℕ, ◌-◌, ap, arith, get_or}
 use Rattle.dtx_galois.specs.Field.{mul}
-use Rattle.dtx_fast.specs.StageLaws.{mended_at, stage_mended}
+use Rattle.dtx_fast.proofs.StageLemmas.{mended_at, stage_mended}
 use Rattle.dtx_fast.proofs.recurrence.Stage.mend.Goals as goal
 
 pub returns-clause-stage : goal.returns-clause-stage

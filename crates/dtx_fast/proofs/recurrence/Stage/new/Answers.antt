@@ -1,4 +1,4 @@
-use Rattle.dtx_fast.specs.StageLaws.{first_stage}
+use Rattle.dtx_fast.proofs.StageLemmas.{first_stage}
 use Rattle.dtx_fast.proofs.recurrence.Stage.new.Goals as goal
 
 pub returns-clause-stage : goal.returns-clause-stage

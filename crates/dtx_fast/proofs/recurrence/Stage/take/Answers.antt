@@ -1,5 +1,5 @@
 use Rattle.std.proofs.Common.{◌∙◌, arith, get_or}
-use Rattle.dtx_fast.specs.StageLaws.{least_grown}
+use Rattle.dtx_fast.proofs.StageLemmas.{least_grown}
 use Rattle.dtx_fast.proofs.recurrence.Stage.take.Goals as goal
 
 pub returns-else-n-self-2-clause-refused : goal.returns-else-n-self-2-clause-refused

@@ -2,8 +2,8 @@ use Rattle.std.proofs.Common.{ℕ, ◌∙◌, sym, ap₂, bit_xor, arith, get_or
 use Rattle.std.proofs.lemmas.List.{length-replicate}
 use Rattle.dtx_galois.specs.Field.{pow}
 use Rattle.dtx_fast.specs.Recurrence.{walked}
-use Rattle.dtx_fast.specs.RowsLaws.{two_rows, walked_next}
-use Rattle.dtx_fast.specs.StageLaws.{zeros_at}
+use Rattle.dtx_fast.proofs.RowsLemmas.{two_rows, walked_next}
+use Rattle.dtx_fast.proofs.StageLemmas.{zeros_at}
 use Rattle.dtx_fast.proofs.rows.Rows.walk.Goals as goal
 
 pub loop-k-init : goal.loop-k-init

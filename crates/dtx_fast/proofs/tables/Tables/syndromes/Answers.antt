@@ -2,10 +2,10 @@ use Rattle.std.proofs.Common.{◌≡◌, ◌∙◌, ◌-◌, ◌<◌, ℕ, List,
 use Rattle.std.proofs.lemmas.List.{get_or-take, length-take-le}
 use Rattle.dtx_galois.specs.Field.{pow}
 use Rattle.dtx_galois.specs.Word.{sums}
-use Rattle.dtx_galois.specs.WordsLaws.{length_sums}
-use Rattle.dtx_laws.specs.PartsLaws.{sums_at}
+use Rattle.dtx_galois.proofs.WordsLemmas.{length_sums}
+use Rattle.dtx_laws.proofs.PartsLemmas.{sums_at}
 use Rattle.dtx_fast.specs.Recurrence.{walked}
-use Rattle.dtx_fast.specs.RowsLaws.{value_walked}
+use Rattle.dtx_fast.proofs.RowsLemmas.{value_walked}
 use Rattle.dtx_fast.proofs.tables.Tables.syndromes.Goals as goal
 
 pub returns-then-parity-le-PARITY-clause-values : goal.returns-then-parity-le-PARITY-clause-values

@@ -1,6 +1,6 @@
 use Rattle.std.proofs.Common.{ℕ, ap, sym, ◌∙◌}
 use Rattle.dtx_galois.specs.Field.{mul}
-use Rattle.dtx_galois.specs.FieldLaws.{mul_zero, zero_mul}
+use Rattle.dtx_galois.proofs.FieldLemmas.{mul_zero, zero_mul}
 use Rattle.dtx_galois.proofs.TableEntries.{product_at}
 use Rattle.dtx_galois.proofs.element.Gf.mul.Goals as goal
 use Rattle.dtx_galois.proofs.element.Gf.mul.Goals.{then-self-eq0-via-then-self-eq0}

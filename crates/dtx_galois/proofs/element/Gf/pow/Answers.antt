@@ -1,6 +1,6 @@
 use Rattle.std.proofs.Common.{ℕ, ap, sym, ◌∙◌, arith}
 use Rattle.dtx_galois.specs.Field.{pow}
-use Rattle.dtx_galois.specs.PowersLaws.{zero_pow}
+use Rattle.dtx_galois.proofs.PowersLemmas.{zero_pow}
 use Rattle.dtx_galois.proofs.TableEntries.{power_of}
 use Rattle.dtx_galois.proofs.element.Gf.pow.Goals as goal
 

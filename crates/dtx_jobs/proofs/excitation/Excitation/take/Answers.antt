@@ -5,10 +5,11 @@ use Rattle.dtx_exciter.specs.Kept.{StandsFor}
 use Rattle.dtx_exciter.specs.Emission.{last_segments, emission}
 use Rattle.dtx_exciter.specs.Log.{line_of}
 use Rattle.dtx_exciter.specs.Packets.{last_answer}
-use Rattle.dtx_files.specs.GivenFewLaws.{given_few}
+use Rattle.dtx_files.proofs.GivenFewLemmas.{given_few}
 use Rattle.dtx_files.specs.LogText.{log_text}
 use Rattle.dtx_files.specs.Symbols.{byte_of_symbol}
-use Rattle.dtx_jobs.specs.ExciteLaws.{sent_push, logged_push}
+use Rattle.dtx_jobs.proofs.ExciteLemmas.{sent_push}
+use Rattle.dtx_jobs.specs.ExciteLaws.{logged_push}
 use Rattle.dtx_jobs.specs.Life.{life_tally, tally_with, HasRoom}
 use Rattle.dtx_jobs.specs.declared.life_tally.LifeTally.{LifeTally}
 use Rattle.dtx_jobs.proofs.LifeOn.{has_room, tally_push}

@@ -2,7 +2,7 @@ use Rattle.std.proofs.Common.{◌≡◌, ◌+◌, ◌/◌, ◌<◌, ◌++◌, �
 use Rattle.std.proofs.Common.{arith, append_assoc}
 use Rattle.std.proofs.lemmas.List.FromFn.{map-range_with_len_more}
 use Rattle.dtx_exciter.specs.Packets.{group_part}
-use Rattle.dtx_packets.specs.Chunks.{get_or-first_chunks}
+use Rattle.dtx_packets.proofs.ChunksLemmas.{get_or-first_chunks}
 use Rattle.dtx_packets.specs.Packets.{packet_at, packets_from}
 use Rattle.dtx_jobs.specs.Excitation.{IsLife}
 use Rattle.dtx_jobs.specs.Life.{sent_bytes, logged_bytes}

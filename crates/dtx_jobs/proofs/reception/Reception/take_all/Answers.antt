@@ -1,12 +1,12 @@
 use Rattle.std.proofs.Common.{◌≡◌, ◌*◌, ◌/◌, ◌<◌, ◌++◌, [], length, take, drop, get_or, ap, sym, subst, ◌∙◌, arith}
 use Rattle.std.proofs.Common.{append_assoc}
 use Rattle.std.proofs.lemmas.List.{append-nil}
-use Rattle.dtx_packets.specs.Chunks.{get_or-first_chunks}
+use Rattle.dtx_packets.proofs.ChunksLemmas.{get_or-first_chunks}
 use Rattle.dtx_jobs.specs.Giving.{bytes_of}
 use Rattle.dtx_jobs.specs.GivingLaws.{bytes_of-append}
 use Rattle.dtx_jobs.specs.Reception.{IsReceiving}
 use Rattle.dtx_jobs.specs.SymbolFile.{segments_from}
-use Rattle.dtx_jobs.specs.SymbolFileLaws.{segment_on}
+use Rattle.dtx_jobs.proofs.SymbolFileLemmas.{segment_on}
 use Rattle.dtx_jobs.proofs.reception.Reception.take_all.Goals as goal
 
 pub loop-i-init : goal.loop-i-init

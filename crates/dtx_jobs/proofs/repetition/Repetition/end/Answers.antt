@@ -1,7 +1,7 @@
 use Rattle.std.proofs.Common.{[], sym, subst}
 use Rattle.dtx_repeat.specs.GoingOn.{last_life}
 use Rattle.dtx_repeat.specs.Lives.{lives_so_far}
-use Rattle.dtx_repeat.specs.LivesLaws.{lives_end}
+use Rattle.dtx_repeat.proofs.LivesLemmas.{lives_end}
 use Rattle.dtx_repeat.specs.Repeater.{StandsFor}
 use Rattle.dtx_jobs.specs.Repetition.{IsSentOn}
 use Rattle.dtx_jobs.proofs.repetition.Repetition.end.Goals as goal

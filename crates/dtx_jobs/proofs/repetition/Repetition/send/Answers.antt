@@ -4,15 +4,16 @@ use Rattle.dtx_coder.specs.Stream.{symbols_of}
 use Rattle.dtx_exciter.specs.Log.{line_of}
 use Rattle.dtx_exciter.specs.Packets.{group_part}
 use Rattle.dtx_exciter.specs.Log.{emission_over}
-use Rattle.dtx_files.specs.GivenFewLaws.{given_few}
+use Rattle.dtx_files.proofs.GivenFewLemmas.{given_few}
 use Rattle.dtx_files.specs.LogText.{log_text}
 use Rattle.dtx_files.specs.Symbols.{byte_of_symbol}
 use Rattle.dtx_repeat.specs.GoingOn.{last_life}
-use Rattle.dtx_repeat.specs.GoingOnLaws.{last_longer_one}
+use Rattle.dtx_repeat.proofs.GoingOnLemmas.{last_longer_one}
 use Rattle.dtx_repeat.specs.Repeater.{StandsFor}
 use Rattle.dtx_jobs.specs.Life.{tally_with, HasRoom}
 use Rattle.dtx_jobs.specs.Lives.{lives_tally}
-use Rattle.dtx_jobs.specs.LivesLaws.{brought_by, line_by, sent_longer, logged_longer, tally_longer}
+use Rattle.dtx_jobs.specs.LivesLaws.{brought_by, line_by, sent_longer, logged_longer}
+use Rattle.dtx_jobs.proofs.LivesLemmas.{tally_longer}
 use Rattle.dtx_jobs.specs.declared.life_tally.LifeTally.{LifeTally}
 use Rattle.dtx_jobs.proofs.LivesOn.{lives_room}
 use Rattle.dtx_jobs.proofs.repetition.Repetition.send.Goals as goal

@@ -5,7 +5,7 @@ use Rattle.dtx_exciter.specs.Packets.{group_part}
 use Rattle.dtx_receiver.specs.declared.batch.Batch.{Batch}
 use Rattle.dtx_receiver.specs.declared.batch.Received.{Received}
 use Rattle.dtx_repeat.specs.GoingOn.{last_life, longer}
-use Rattle.dtx_repeat.specs.GoingOnLaws.{longer_none, longer_longer, length-longer}
+use Rattle.dtx_repeat.proofs.GoingOnLemmas.{longer_none, longer_longer, length-longer}
 use Rattle.dtx_repeat.specs.Lives.{packets_in}
 use Rattle.dtx_jobs.specs.Lives.{sent_over, logged_over}
 use Rattle.dtx_jobs.specs.Repetition.{IsSending, IsSentOn}

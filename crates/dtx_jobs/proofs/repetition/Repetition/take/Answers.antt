@@ -1,7 +1,7 @@
 use Rattle.std.proofs.Common.{◌≡◌, ◌++◌, ◌∷◌, [], ℤ, List, length, sym, ap, subst, arith}
 use Rattle.std.proofs.lemmas.List.{length_push}
 use Rattle.dtx_exciter.specs.Packets.{group_part}
-use Rattle.dtx_receiver.specs.CountingLaws.{runs_more}
+use Rattle.dtx_receiver.proofs.CountingLemmas.{runs_more}
 use Rattle.dtx_receiver.specs.Runs.{begun, tracking}
 use Rattle.dtx_receiver.specs.declared.batch.Batch.{Batch}
 use Rattle.dtx_repeat.specs.GoingOn.{last_life, longer, with_begun}

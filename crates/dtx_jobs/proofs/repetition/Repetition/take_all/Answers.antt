@@ -2,13 +2,13 @@ use Rattle.std.proofs.Common.{◌≡◌, ◌+◌, ◌*◌, ◌/◌, ◌<◌, ◌
 use Rattle.std.proofs.Common.{◌≤◌, ap₂, sym, subst, ◌∙◌, arith}
 use Rattle.std.proofs.lemmas.List.{append-nil}
 use Rattle.dtx_exciter.specs.Packets.{group_part}
-use Rattle.dtx_packets.specs.Chunks.{get_or-first_chunks}
+use Rattle.dtx_packets.proofs.ChunksLemmas.{get_or-first_chunks}
 use Rattle.dtx_repeat.specs.GoingOn.{last_life}
 use Rattle.dtx_repeat.specs.Lives.{lives_so_far}
 use Rattle.dtx_jobs.specs.Lives.{sent_over, logged_over}
 use Rattle.dtx_jobs.specs.Repetition.{IsRepeating}
 use Rattle.dtx_jobs.specs.SymbolFile.{segments_from, symbols}
-use Rattle.dtx_jobs.specs.SymbolFileLaws.{segment_on}
+use Rattle.dtx_jobs.proofs.SymbolFileLemmas.{segment_on}
 use Rattle.dtx_jobs.proofs.repetition.Repetition.take_all.Goals as goal
 
 pub loop-i-init : goal.loop-i-init

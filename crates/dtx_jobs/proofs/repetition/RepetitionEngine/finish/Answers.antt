@@ -3,10 +3,10 @@ use Rattle.std.proofs.lemmas.List.{append-nil}
 use Rattle.dtx_repeat.specs.Lives.{lives_so_far}
 use Rattle.dtx_jobs.specs.Lives.{sent_over, logged_over}
 use Rattle.dtx_jobs.specs.Repeat.{repeating}
-use Rattle.dtx_jobs.specs.RepeatLaws.{repeats_last}
+use Rattle.dtx_jobs.proofs.RepeatLemmas.{repeats_last}
 use Rattle.dtx_jobs.specs.Repetition.{WasRepeated}
 use Rattle.dtx_jobs.specs.SymbolFile.{file_segments}
-use Rattle.dtx_jobs.specs.SymbolFileLaws.{length-segments_of}
+use Rattle.dtx_jobs.proofs.SymbolFileLemmas.{length-segments_of}
 use Rattle.dtx_jobs.proofs.LivesOn.{cleared}
 use Rattle.dtx_jobs.proofs.repetition.RepetitionEngine.finish.Goals as goal
 use Rattle.dtx_jobs.proofs.repetition.RepetitionEngine.finish.Goals.{After-end}

@@ -1,7 +1,7 @@
 use Rattle.std.proofs.Common.{[], length, subst, sym, ap, ◌∙◌, arith}
-use Rattle.dtx_receiver.specs.CountingLaws.{no_segments}
+use Rattle.dtx_receiver.proofs.CountingLemmas.{no_segments}
 use Rattle.dtx_repeat.specs.GoingOn.{last_life}
-use Rattle.dtx_repeat.specs.LivesLaws.{no_lives}
+use Rattle.dtx_repeat.proofs.LivesLemmas.{no_lives}
 use Rattle.dtx_repeat.specs.Repeater.{StandsFor}
 use Rattle.dtx_jobs.specs.Lives.{lives_tally}
 use Rattle.dtx_jobs.specs.declared.life_tally.LifeTally.{LifeTally}

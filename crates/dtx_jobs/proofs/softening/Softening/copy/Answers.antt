@@ -1,5 +1,5 @@
 use Rattle.std.proofs.Common.{rules}
-use Rattle.dtx_jobs.specs.SofteningLaws.{brought_copied, stands_copied}
+use Rattle.dtx_jobs.proofs.SofteningLemmas.{brought_copied, stands_copied}
 use Rattle.dtx_jobs.proofs.softening.Softening.copy.Goals as goal
 
 pub returns-clause-softening : goal.returns-clause-softening

@@ -1,10 +1,10 @@
 use Rattle.std.proofs.Common.{ℕ, ◌≡◌, ◌+◌, ◌<◌, ◌++◌, Option, IfSome, Some, rules, arith, ap, ◌∙◌, subst, length}
 use Rattle.std.proofs.Common.{slice_set, take, unwrap_or, refl}
 use Rattle.dtx_files.specs.Symbols.{segment_bytes}
-use Rattle.dtx_soft.specs.CostLaws.{AreSigned}
+use Rattle.dtx_soft.specs.Signed.{AreSigned}
 use Rattle.dtx_soft.specs.Softened.{softened_cost}
 use Rattle.dtx_jobs.specs.Soft.{flushed, groups_in, has_group}
-use Rattle.dtx_jobs.specs.SofteningLaws.{brought_full, brought_kept, signed_more, stands_full, stands_kept}
+use Rattle.dtx_jobs.proofs.SofteningLemmas.{brought_full, brought_kept, signed_more, stands_full, stands_kept}
 use Rattle.dtx_jobs.proofs.softening.Softening.keep.Goals as goal
 
 small : (o : Option ℕ) (p : ℕ) → o ≡ Some p → IfSome o (λ place. place < 312) → p < 312

@@ -4,7 +4,8 @@ use Rattle.dtx_files.specs.Symbols.{segment_bytes}
 use Rattle.dtx_jobs.specs.Soft.{soft_so_far}
 use Rattle.dtx_jobs.specs.Softening.{IsSoftening}
 use Rattle.dtx_jobs.specs.SymbolFile.{file_segments}
-use Rattle.dtx_jobs.specs.SymbolFileLaws.{file_segments-append, length-segments_of}
+use Rattle.dtx_jobs.specs.SymbolFileLaws.{file_segments-append}
+use Rattle.dtx_jobs.proofs.SymbolFileLemmas.{length-segments_of}
 use Rattle.dtx_jobs.proofs.softening.SofteningEngine.feed.Goals as goal
 
 pub take_all-requires-clause-most : goal.take_all-requires-clause-most

@@ -5,10 +5,10 @@ use Rattle.dtx_meaning.specs.declared.status.Outcome.{Outcome}
 use Rattle.dtx_meaning.specs.declared.status.Status.TheVariants.{Done}
 use Rattle.dtx_soft.specs.Softened.{softened_cost}
 use Rattle.dtx_jobs.specs.Soft.{field_sum, flushed, has_group}
-use Rattle.dtx_jobs.specs.SoftLaws.{no_cost}
-use Rattle.dtx_jobs.specs.SofteningLaws.{field_sum_all, rest_of}
+use Rattle.dtx_jobs.proofs.SoftLemmas.{no_cost}
+use Rattle.dtx_jobs.proofs.SofteningLemmas.{field_sum_all, rest_of}
 use Rattle.dtx_jobs.specs.SymbolFile.{file_segments}
-use Rattle.dtx_jobs.specs.SymbolFileLaws.{length-segments_of}
+use Rattle.dtx_jobs.proofs.SymbolFileLemmas.{length-segments_of}
 use Rattle.dtx_jobs.proofs.softening.SofteningEngine.finish.Goals as goal
 
 pub flush-requires-clause-fields : goal.flush-requires-clause-fields

@@ -1,6 +1,6 @@
 use Rattle.std.proofs.Common.{ap, arith, refl}
 use Rattle.dtx_soft.specs.Decoder.{Decoder}
-use Rattle.dtx_jobs.specs.SofteningLaws.{softening_none}
+use Rattle.dtx_jobs.proofs.SofteningLemmas.{softening_none}
 use Rattle.dtx_jobs.proofs.softening.SofteningTransforming.new.Goals as goal
 
 pub returns-clause-given : goal.returns-clause-given

@@ -3,8 +3,8 @@ use Rattle.std.proofs.Common.{sym, subst, ◌∙◌, arith, append_assoc}
 use Rattle.std.proofs.lemmas.List.{length-append}
 use Rattle.std.proofs.lemmas.List.FromFn.{length-map-range_with_len}
 use Rattle.dtx_coder.specs.Groups.{StandsFor}
-use Rattle.dtx_packets.specs.Chunks.{get_or-first_chunks}
-use Rattle.dtx_packets.specs.PacketLaws.{packets_of-piece, packets_from-append}
+use Rattle.dtx_packets.proofs.ChunksLemmas.{get_or-first_chunks}
+use Rattle.dtx_packets.proofs.PacketLemmas.{packets_of-piece, packets_from-append}
 use Rattle.dtx_packets.specs.Packets.{packet_at, packets_from, packets_of}
 use Rattle.dtx_packets.specs.declared.packet.Packet.{Packet}
 use Rattle.dtx_jobs.specs.Symbols.{symbol_bytes}

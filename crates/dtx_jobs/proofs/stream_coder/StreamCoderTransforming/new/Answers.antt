@@ -1,5 +1,5 @@
 use Rattle.std.proofs.Common.{refl, ◌∙◌}
-use Rattle.dtx_coder.specs.NextLaws.{new_stands}
+use Rattle.dtx_coder.proofs.NextLemmas.{new_stands}
 use Rattle.dtx_jobs.proofs.stream_coder.StreamCoderTransforming.new.Goals as goal
 
 pub returns-clause-given : goal.returns-clause-given

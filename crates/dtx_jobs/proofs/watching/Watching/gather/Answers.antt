@@ -3,7 +3,7 @@ use Rattle.std.proofs.lemmas.List.{length-take-le}
 use Rattle.dtx_watch.specs.declared.notes.Note.{Note}
 use Rattle.dtx_watch.specs.declared.notes.What.TheVariants.{Lock}
 use Rattle.dtx_jobs.specs.Watching.{HasRoom}
-use Rattle.dtx_jobs.specs.WatchLaws.{room_within, lines_next, tally_next}
+use Rattle.dtx_jobs.proofs.WatchLemmas.{room_within, lines_next, tally_next}
 use Rattle.dtx_jobs.proofs.watching.Watching.gather.Goals as goal
 
 pub put-requires-clause-tally : goal.put-requires-clause-tally

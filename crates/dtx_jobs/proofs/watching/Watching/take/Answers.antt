@@ -6,7 +6,8 @@ use Rattle.dtx_watch.specs.WatchText.{watch_text}
 use Rattle.dtx_watch.specs.declared.notes.Note.{Note}
 use Rattle.dtx_jobs.specs.Watch.{watch_tally}
 use Rattle.dtx_jobs.specs.Watching.{tally_with}
-use Rattle.dtx_jobs.specs.WatchLaws.{has_room, tally_parts, watched_parts}
+use Rattle.dtx_jobs.proofs.WatchLemmas.{has_room, tally_parts}
+use Rattle.dtx_jobs.specs.WatchLaws.{watched_parts}
 use Rattle.dtx_jobs.specs.declared.watch_tally.WatchTally.{WatchTally}
 use Rattle.dtx_jobs.proofs.watching.Watching.take.Goals as goal
 

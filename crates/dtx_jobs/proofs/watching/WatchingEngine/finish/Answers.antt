@@ -1,17 +1,17 @@
 use Rattle.std.proofs.Common.{◌≡◌, ◌++◌, ℕ, List, length, ap, sym, subst, ◌∙◌, arith}
 use Rattle.dtx_packets.specs.Packets.{packets_of}
 use Rattle.dtx_watch.specs.Kept.{StandsFor}
-use Rattle.dtx_watch.specs.ToldLaws.{all_told}
+use Rattle.dtx_watch.proofs.ToldLemmas.{all_told}
 use Rattle.dtx_watch.specs.Watch.{told, waiting}
 use Rattle.dtx_watch.specs.WatchText.{watch_text}
 use Rattle.dtx_watch.specs.declared.notes.Note.{Note}
 use Rattle.dtx_meaning.specs.declared.status.Outcome.{Outcome}
 use Rattle.dtx_meaning.specs.declared.status.Status.TheVariants.{Done}
 use Rattle.dtx_engine.specs.Made.{only}
-use Rattle.dtx_packet_jobs.specs.PacketFileLaws.{length-packets_of}
+use Rattle.dtx_packet_jobs.proofs.PacketFileLemmas.{length-packets_of}
 use Rattle.dtx_jobs.specs.Watch.{watch_tally, watch_numbers}
 use Rattle.dtx_jobs.specs.Watching.{tally_with}
-use Rattle.dtx_jobs.specs.WatchLaws.{has_room, tally_parts, waiting_is}
+use Rattle.dtx_jobs.proofs.WatchLemmas.{has_room, tally_parts, waiting_is}
 use Rattle.dtx_jobs.specs.declared.watch_tally.WatchTally.{WatchTally}
 use Rattle.dtx_jobs.proofs.watching.WatchingEngine.finish.Goals as goal
 

@@ -1,6 +1,6 @@
 use Rattle.std.proofs.Common.{[], ap, subst, sym, ◌∙◌}
 use Rattle.dtx_watch.specs.Kept.{StandsFor}
-use Rattle.dtx_watch.specs.ToldLaws.{nothing_told}
+use Rattle.dtx_watch.proofs.ToldLemmas.{nothing_told}
 use Rattle.dtx_jobs.specs.Watch.{watch_tally}
 use Rattle.dtx_jobs.proofs.watching.WatchingTransforming.new.Goals as goal
 

@@ -3,7 +3,7 @@ use Rattle.std.proofs.lemmas.Slice.Eq.{slice_eq-Decides}
 use Rattle.std.proofs.lemmas.Bool.Decides.{Decides-eqb}
 use Rattle.std.specs.Bool.{Decides}
 use Rattle.dtx_laws.specs.Codeword.{IsCodeword}
-use Rattle.dtx_laws.specs.WordsLaws.{one_codeword}
+use Rattle.dtx_laws.proofs.WordsLemmas.{one_codeword}
 use Rattle.dtx_laws.proofs.correcting.outcome.is_codeword.Goals as goal
 
 pub returns : goal.returns

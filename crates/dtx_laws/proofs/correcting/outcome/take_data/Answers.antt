@@ -1,5 +1,5 @@
 use Rattle.std.proofs.Common.{arith}
-use Rattle.dtx_galois.specs.BytesLaws.{AreBytes-from_places}
+use Rattle.dtx_galois.proofs.BytesLemmas.{AreBytes-from_places}
 use Rattle.dtx_laws.proofs.correcting.outcome.take_data.Goals as goal
 
 pub returns-clause-bytes : goal.returns-clause-bytes

@@ -3,9 +3,9 @@ use Rattle.std.proofs.lemmas.List.{take_all}
 use Rattle.std.specs.Int.Bits.{xor_lt}
 use Rattle.dtx_galois.specs.Field.{mul, value}
 use Rattle.dtx_galois.specs.Word.{sums}
-use Rattle.dtx_galois.specs.ValuesLaws.{value_more}
-use Rattle.dtx_galois.specs.WordsLaws.{length_sums}
-use Rattle.dtx_laws.specs.PartsLaws.{sums_at}
+use Rattle.dtx_galois.proofs.ValuesLemmas.{value_more}
+use Rattle.dtx_galois.proofs.WordsLemmas.{length_sums}
+use Rattle.dtx_laws.proofs.PartsLemmas.{sums_at}
 use Rattle.dtx_laws.proofs.correcting.syndromes.value_of_sum.Goals as goal
 
 pub loop-i-init : goal.loop-i-init

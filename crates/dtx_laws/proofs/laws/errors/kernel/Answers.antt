@@ -1,4 +1,4 @@
-use Rattle.dtx_laws.specs.KernelLaws.{kernel}
+use Rattle.dtx_laws.proofs.KernelLemmas.{kernel}
 use Rattle.dtx_laws.proofs.laws.errors.kernel.Goals as goal
 
 pub returns : goal.returns

@@ -1,5 +1,5 @@
-use Rattle.dtx_laws.specs.AnswersLaws.{answers_same, answer_either, answer_codeword, codeword_never_left}
-use Rattle.dtx_laws.specs.AnswersLaws.{encoded_answer, encoded_never_left}
+use Rattle.dtx_laws.proofs.AnswersLemmas.{answers_same, answer_either, answer_codeword, codeword_never_left}
+use Rattle.dtx_laws.proofs.AnswersLemmas.{encoded_answer, encoded_never_left}
 use Rattle.dtx_laws.proofs.laws.errors.one_answer.Goals as goal
 
 pub returns-clause-same : goal.returns-clause-same

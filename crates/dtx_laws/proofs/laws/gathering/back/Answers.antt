@@ -1,4 +1,4 @@
-use Rattle.dtx_laws.specs.GatheringLaws.{gathered_back, gathered_zeros}
+use Rattle.dtx_laws.proofs.GatheringLemmas.{gathered_back, gathered_zeros}
 use Rattle.dtx_laws.proofs.laws.gathering.back.Goals as goal
 
 pub returns-clause-late : goal.returns-clause-late

@@ -1,4 +1,4 @@
-use Rattle.dtx_laws.specs.GatheringLaws.{behind_calls}
+use Rattle.dtx_laws.proofs.GatheringLemmas.{behind_calls}
 use Rattle.dtx_laws.proofs.laws.gathering.behind_align.Goals as goal
 
 pub returns : goal.returns

@@ -1,4 +1,4 @@
-use Rattle.dtx_laws.specs.GatheringLaws.{zeros_calls}
+use Rattle.dtx_laws.proofs.GatheringLemmas.{zeros_calls}
 use Rattle.dtx_laws.proofs.laws.gathering.from_zeros.Goals as goal
 
 pub returns : goal.returns

@@ -1,4 +1,4 @@
-use Rattle.dtx_laws.specs.GatheringLaws.{length-gathered, get_or-gathered, gathered-append}
+use Rattle.dtx_laws.proofs.GatheringLemmas.{length-gathered, get_or-gathered, gathered-append}
 use Rattle.dtx_laws.proofs.laws.gathering.the_map.Goals as goal
 
 pub returns-clause-long : goal.returns-clause-long

@@ -1,4 +1,4 @@
-use Rattle.dtx_laws.specs.InterleavingLaws.{leaving_calls_is, after_calls_is}
+use Rattle.dtx_laws.proofs.InterleavingLemmas.{leaving_calls_is, after_calls_is}
 use Rattle.dtx_laws.proofs.laws.interleaving.any_cut.Goals as goal
 
 pub returns-clause-bytes : goal.returns-clause-bytes

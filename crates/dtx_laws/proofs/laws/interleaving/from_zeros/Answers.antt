@@ -1,4 +1,4 @@
-use Rattle.dtx_laws.specs.InterleavingLaws.{zeros_calls}
+use Rattle.dtx_laws.proofs.InterleavingLemmas.{zeros_calls}
 use Rattle.dtx_laws.proofs.laws.interleaving.from_zeros.Goals as goal
 
 pub returns : goal.returns

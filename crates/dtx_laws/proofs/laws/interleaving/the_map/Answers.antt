@@ -1,4 +1,4 @@
-use Rattle.dtx_laws.specs.InterleavingLaws.{length-interleaved, get_or-interleaved, interleaved-append}
+use Rattle.dtx_laws.proofs.InterleavingLemmas.{length-interleaved, get_or-interleaved, interleaved-append}
 use Rattle.dtx_laws.proofs.laws.interleaving.the_map.Goals as goal
 
 pub returns-clause-long : goal.returns-clause-long

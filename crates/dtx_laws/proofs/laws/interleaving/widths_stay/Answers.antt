@@ -1,4 +1,4 @@
-use Rattle.dtx_laws.specs.InterleavingLaws.{HasWidths-all}
+use Rattle.dtx_laws.proofs.InterleavingLemmas.{HasWidths-all}
 use Rattle.dtx_laws.proofs.laws.interleaving.widths_stay.Goals as goal
 
 pub returns : goal.returns

@@ -1,4 +1,4 @@
-use Rattle.dtx_laws.specs.WhiteningLaws.{length-whitened, bytes_whitened}
+use Rattle.dtx_laws.proofs.WhiteningLemmas.{length-whitened, bytes_whitened}
 use Rattle.dtx_laws.proofs.laws.whitening.kept.Goals as goal
 
 pub returns-clause-long : goal.returns-clause-long

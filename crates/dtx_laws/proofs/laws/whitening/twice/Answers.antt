@@ -1,4 +1,4 @@
-use Rattle.dtx_laws.specs.WhiteningLaws.{whitened_twice}
+use Rattle.dtx_laws.proofs.WhiteningLemmas.{whitened_twice}
 use Rattle.dtx_laws.proofs.laws.whitening.twice.Goals as goal
 
 pub returns : goal.returns

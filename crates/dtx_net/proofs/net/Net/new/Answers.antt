@@ -1,6 +1,6 @@
 use Rattle.std.proofs.Common.{sym, subst, ◌∙◌}
 use Rattle.dtx_exciter.specs.Kept as exciter
-use Rattle.dtx_net.specs.LastLifeLaws.{last_nothing}
+use Rattle.dtx_net.proofs.LastLifeLemmas.{last_nothing}
 use Rattle.dtx_net.proofs.net.Net.new.Goals as goal
 
 pub returns : goal.returns

@@ -4,7 +4,7 @@ use Rattle.std.proofs.lemmas.Option.{slice_get_read}
 use Rattle.dtx_exciter.specs.Kept as exciter
 use Rattle.dtx_net.specs.Steps.{packet_step}
 use Rattle.dtx_net.specs.Lives.{last_life}
-use Rattle.dtx_net.specs.LastLifeLaws.{last_given}
+use Rattle.dtx_net.proofs.LastLifeLemmas.{last_given}
 use Rattle.dtx_net.proofs.Stands.{stands_replaced, elsewhere_replaced}
 use Rattle.dtx_net.proofs.net.Net.step.Goals as goal
 

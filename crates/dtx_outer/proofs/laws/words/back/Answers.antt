@@ -1,6 +1,6 @@
 use Rattle.std.proofs.Common.{refl}
 use Rattle.dtx_laws.specs.Interleaving.{interleaved}
-use Rattle.dtx_outer.specs.WordsLaws.{word_back, word_behind}
+use Rattle.dtx_outer.proofs.WordsLemmas.{word_back, word_behind}
 use Rattle.dtx_outer.proofs.laws.words.back.Goals as goal
 
 pub returns-clause-zeros : goal.returns-clause-zeros

@@ -1,4 +1,4 @@
-use Rattle.dtx_outer.specs.WordsLaws.{word_stays, complete_then, one_more_brings}
+use Rattle.dtx_outer.proofs.WordsLemmas.{word_stays, complete_then, one_more_brings}
 use Rattle.dtx_outer.proofs.laws.words.complete.Goals as goal
 
 pub returns-clause-stays : goal.returns-clause-stays

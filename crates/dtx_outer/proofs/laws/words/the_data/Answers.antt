@@ -1,4 +1,4 @@
-use Rattle.dtx_outer.specs.WordsLaws.{good_data, bad_data}
+use Rattle.dtx_outer.proofs.WordsLemmas.{good_data, bad_data}
 use Rattle.dtx_outer.proofs.laws.words.the_data.Goals as goal
 
 pub returns-clause-good : goal.returns-clause-good

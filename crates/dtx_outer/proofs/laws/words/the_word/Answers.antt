@@ -1,4 +1,4 @@
-use Rattle.dtx_outer.specs.WordsLaws.{length-word, get_or-word}
+use Rattle.dtx_outer.proofs.WordsLemmas.{length-word, get_or-word}
 use Rattle.dtx_outer.proofs.laws.words.the_word.Goals as goal
 
 pub returns-clause-long : goal.returns-clause-long

@@ -1,4 +1,4 @@
-use Rattle.dtx_outer.specs.WordsLaws.{waiting_covers, waiting_least, waiting_air}
+use Rattle.dtx_outer.proofs.WordsLemmas.{waiting_covers, waiting_least, waiting_air}
 use Rattle.dtx_outer.proofs.laws.words.waits.Goals as goal
 
 pub returns-clause-covers : goal.returns-clause-covers

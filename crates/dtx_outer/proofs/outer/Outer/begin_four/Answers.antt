@@ -1,9 +1,9 @@
 use Rattle.std.proofs.Common.{◌≡◌, ℕ, ◌+◌, ◌-◌, ◌*◌, ◌<◌, ◌≤◌, [], List, Bor, get_or, drop, length, map, ap, sym, ◌∙◌}
 use Rattle.std.proofs.Common.{arith}
 use Rattle.std.proofs.lemmas.List.{get_or-map, length-drop, length-take-le}
-use Rattle.dtx_laws.specs.CompletedLaws.{fronts_more}
+use Rattle.dtx_laws.proofs.CompletedLemmas.{fronts_more}
 use Rattle.dtx_laws.specs.Whitening.{whitened}
-use Rattle.dtx_laws.specs.WhiteningLaws.{length-whitened}
+use Rattle.dtx_laws.proofs.WhiteningLemmas.{length-whitened}
 use Rattle.dtx_lists.proofs.Written.{length-put_mid}
 use Rattle.dtx_outer.specs.Outer.{Held}
 use Rattle.dtx_outer.proofs.Coding.{front_within, white_within, place_small}

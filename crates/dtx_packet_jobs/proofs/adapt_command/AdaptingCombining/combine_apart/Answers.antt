@@ -4,7 +4,7 @@ use Rattle.dtx_plan.specs.Plan.{plan_of}
 use Rattle.dtx_engine.specs.Recipe.{meaning}
 use Rattle.dtx_words.specs.declared.rows.Command.TheVariants.{Adapt}
 use Rattle.dtx_forms.specs.Shapes.{packets}
-use Rattle.dtx_forms.specs.PerformedLaws.{read_performed, unread_performed}
+use Rattle.dtx_forms.proofs.PerformedLemmas.{read_performed, unread_performed}
 use Rattle.dtx_packet_jobs.specs.Adapt.{feeding}
 use Rattle.dtx_packet_jobs.proofs.adapt_command.AdaptingCombining.combine_apart.Goals as goal
 

@@ -2,8 +2,8 @@ use Rattle.std.proofs.Common.{◌≡◌, ℕ, List, ◌*◌, length, sym, ap, su
 use Rattle.dtx_engine.specs.Recipe.{IsFed}
 use Rattle.dtx_engine.specs.declared.engine.Shape.{Shape}
 use Rattle.dtx_make.specs.Hurt.{hurt, damaged_bytes}
-use Rattle.dtx_make.specs.LaidLaws.{length-hurt}
-use Rattle.dtx_packet_jobs.specs.DamagedLaws.{hurt_fed}
+use Rattle.dtx_make.proofs.LaidLemmas.{length-hurt}
+use Rattle.dtx_packet_jobs.proofs.DamagedLemmas.{hurt_fed}
 use Rattle.dtx_packet_jobs.proofs.damaged.DamagedEngine.feed.Goals as goal
 
 pub feed-requires-clause-given : goal.feed-requires-clause-given

@@ -3,9 +3,9 @@ use Rattle.std.proofs.lemmas.List.{length-append, append-nil}
 use Rattle.dtx_dvb.specs.Sending.{HasSent}
 use Rattle.dtx_dvb.specs.Stream.{dvb}
 use Rattle.dtx_engine.specs.Made.{only}
-use Rattle.dtx_packets.specs.PacketLaws.{packets_of-append}
+use Rattle.dtx_packets.proofs.PacketLemmas.{packets_of-append}
 use Rattle.dtx_packets.specs.Packets.{packets_of}
-use Rattle.dtx_packet_jobs.specs.PacketFileLaws.{length-packets_of}
+use Rattle.dtx_packet_jobs.proofs.PacketFileLemmas.{length-packets_of}
 use Rattle.dtx_packet_jobs.proofs.dvb_coding.DvbCodingEngine.feed.Goals as goal
 
 pub returns-clause-fed : goal.returns-clause-fed

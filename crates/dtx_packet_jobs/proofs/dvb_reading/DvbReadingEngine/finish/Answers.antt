@@ -1,6 +1,6 @@
 use Rattle.std.proofs.Common.{◌≡◌, ℕ, [], ◌∷◌, ap₂, ◌∙◌, arith, length}
 use Rattle.dtx_dvb.specs.Reading.{read_dvb}
-use Rattle.dtx_dvb.specs.ReadingLaws.{length-read}
+use Rattle.dtx_dvb.proofs.ReadingLemmas.{length-read}
 use Rattle.dtx_meaning.specs.declared.status.Outcome.{Outcome}
 use Rattle.dtx_meaning.specs.declared.status.Status.TheVariants.{Done}
 use Rattle.dtx_packet_jobs.specs.DvbRead.{whole_blocks}

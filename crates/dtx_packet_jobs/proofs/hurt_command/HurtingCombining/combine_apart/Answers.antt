@@ -1,12 +1,12 @@
 use Rattle.std.proofs.Common.{[], ◌∷◌, false, refl, arith}
 use Rattle.std.specs.FinMap.{get}
 use Rattle.dtx_plan.specs.Plan.{changes_of}
-use Rattle.dtx_meaning.specs.Laws.{of_inputs}
+use Rattle.dtx_meaning.proofs.MeaningLemmas.{of_inputs}
 use Rattle.dtx_engine.specs.Recipe.{meaning}
 use Rattle.dtx_words.specs.declared.rows.Command.TheVariants.{Hurt}
 use Rattle.dtx_forms.specs.Shapes.{single_bytes}
-use Rattle.dtx_forms.specs.PerformedLaws.{read_performed, unread_performed}
-use Rattle.dtx_packet_jobs.specs.AnswersLaws.{hurt_knows}
+use Rattle.dtx_forms.proofs.PerformedLemmas.{read_performed, unread_performed}
+use Rattle.dtx_packet_jobs.proofs.AnswersLemmas.{hurt_knows}
 use Rattle.dtx_packet_jobs.specs.Hurt.{hurting}
 use Rattle.dtx_packet_jobs.proofs.hurt_command.HurtingCombining.combine_apart.Goals as goal
 

@@ -1,6 +1,6 @@
 use Rattle.std.proofs.Common.{ap, sym, ◌∙◌}
 use Rattle.std.specs.Prelude.{is_some}
-use Rattle.dtx_plan.specs.PlacesLaws.{has_place}
+use Rattle.dtx_plan.proofs.PlacesLemmas.{has_place}
 use Rattle.dtx_plan.proofs.transmitters.Transmitters.has.Goals as goal
 
 pub returns : goal.returns

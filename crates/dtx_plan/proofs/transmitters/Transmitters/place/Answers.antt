@@ -1,5 +1,5 @@
 use Rattle.std.proofs.Common.{ap, ◌∙◌}
-use Rattle.dtx_plan.specs.PlacesLaws.{place_within}
+use Rattle.dtx_plan.proofs.PlacesLemmas.{place_within}
 use Rattle.dtx_plan.specs.TransmitterTable.{transmitter_place}
 use Rattle.dtx_plan.proofs.transmitters.Transmitters.place.Goals as goal
 

@@ -4,8 +4,8 @@ use Rattle.dtx_slice.specs.Slicing.{sliced_data}
 use Rattle.dtx_receiver.specs.Bytes.{data_count, bytes_in}
 use Rattle.dtx_receiver.specs.Packets.{early_of}
 use Rattle.dtx_receiver.specs.Receiver.{Decoding, Decodes}
-use Rattle.dtx_receiver.specs.SegmentsLaws.{still_data, segment_long}
-use Rattle.dtx_receiver.specs.LevelsLaws.{whole_now, part_now, not_due_now}
+use Rattle.dtx_receiver.proofs.SegmentsLemmas.{still_data, segment_long}
+use Rattle.dtx_receiver.proofs.LevelsLemmas.{whole_now, part_now, not_due_now}
 use Rattle.dtx_receiver.proofs.Stands.{decoding, decodes_group, bytes_group, decodes_data}
 use Rattle.dtx_receiver.proofs.decoder.Decoder.take.Goals as goal
 

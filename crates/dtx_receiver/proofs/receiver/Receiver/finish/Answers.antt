@@ -1,6 +1,6 @@
 use Rattle.std.proofs.Common.{None, ◌++◌, refl, sym, subst, ◌∙◌, ap}
 use Rattle.std.proofs.lemmas.List.{append-nil}
-use Rattle.dtx_receiver.specs.AnswersLaws.{finish_none, finish_some, stands_new}
+use Rattle.dtx_receiver.proofs.AnswersLemmas.{finish_none, finish_some, stands_new}
 use Rattle.dtx_receiver.specs.Bytes.{bytes_in}
 use Rattle.dtx_receiver.specs.Packets.{early_of}
 use Rattle.dtx_receiver.specs.Receiver.{Decodes, Kept}

@@ -1,6 +1,6 @@
 use Rattle.std.proofs.Common.{◌≡◌, ◌+◌, ◌-◌, ◌%◌, ◌++◌, Some, None, refl, sym, subst, ◌∙◌, ap, arith}
 use Rattle.std.proofs.lemmas.List.{append-nil}
-use Rattle.dtx_receiver.specs.AnswersLaws.{step_searching, step_began, step_sync, step_ended, step_data}
+use Rattle.dtx_receiver.proofs.AnswersLemmas.{step_searching, step_began, step_sync, step_ended, step_data}
 use Rattle.dtx_receiver.specs.Bytes.{bytes_in}
 use Rattle.dtx_receiver.specs.Packets.{early_of}
 use Rattle.dtx_receiver.specs.Receiver.{Kept, StandsFor}

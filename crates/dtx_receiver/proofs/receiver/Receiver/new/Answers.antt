@@ -1,5 +1,5 @@
 use Rattle.std.proofs.Common.{None, refl}
-use Rattle.dtx_receiver.specs.AnswersLaws.{stands_new}
+use Rattle.dtx_receiver.proofs.AnswersLemmas.{stands_new}
 use Rattle.dtx_receiver.specs.Receiver.{Decodes}
 use Rattle.dtx_receiver.proofs.receiver.Receiver.new.Goals as goal
 

@@ -1,6 +1,6 @@
 use Rattle.std.proofs.Common.{◌++◌, sym, ap, ◌∙◌}
 use Rattle.dtx_receiver.specs.Runs.{tracked}
-use Rattle.dtx_repeat.specs.GoingOnLaws.{at_end}
+use Rattle.dtx_repeat.proofs.GoingOnLemmas.{at_end}
 use Rattle.dtx_repeat.specs.Restored.{restored_so_far}
 use Rattle.dtx_repeat.proofs.Refilled.{refilled}
 use Rattle.dtx_repeat.proofs.repeater.Repeater.finish.Goals as goal

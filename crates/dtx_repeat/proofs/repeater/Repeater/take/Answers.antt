@@ -3,7 +3,7 @@ use Rattle.dtx_receiver.specs.Runs.{tracked, tracking}
 use Rattle.dtx_receiver.specs.declared.batch.Received.{Received}
 use Rattle.dtx_receiver.specs.declared.tracking.Tracking.TheVariants.{Began}
 use Rattle.dtx_repeat.specs.GoingOn.{GoesOn, Begins}
-use Rattle.dtx_repeat.specs.GoingOnLaws.{Steps, one_more}
+use Rattle.dtx_repeat.proofs.GoingOnLemmas.{Steps, one_more}
 use Rattle.dtx_repeat.specs.Repeater.{StandsFor, given_behind, next_place}
 use Rattle.dtx_repeat.specs.Restored.{restored_so_far}
 use Rattle.dtx_repeat.specs.declared.repeater.Repeater.{Repeater}

@@ -1,4 +1,4 @@
-use Rattle.dtx_symbol_laws.specs.MendedBackLaws.{all_mended_back}
+use Rattle.dtx_symbol_laws.proofs.MendedBackLemmas.{all_mended_back}
 use Rattle.dtx_symbol_laws.proofs.laws.mending.a_stretch_is_mended.Goals as goal
 
 pub returns : goal.returns

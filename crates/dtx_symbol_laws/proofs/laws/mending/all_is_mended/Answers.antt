@@ -1,4 +1,4 @@
-use Rattle.dtx_symbol_laws.specs.MendedBackLaws.{all_mended_of, as_long, packets_read}
+use Rattle.dtx_symbol_laws.proofs.MendedBackLemmas.{all_mended_of, as_long, packets_read}
 use Rattle.dtx_symbol_laws.proofs.laws.mending.all_is_mended.Goals as goal
 
 pub returns : goal.returns

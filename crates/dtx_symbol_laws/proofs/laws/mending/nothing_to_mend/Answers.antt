@@ -1,4 +1,4 @@
-use Rattle.dtx_jobs.specs.MendLaws.{same_file, same_words}
+use Rattle.dtx_jobs.proofs.MendLemmas.{same_file, same_words}
 use Rattle.dtx_symbol_laws.proofs.laws.mending.nothing_to_mend.Goals as goal
 
 pub returns : goal.returns

@@ -1,4 +1,4 @@
-use Rattle.dtx_jobs.specs.RepeatLaws.{repeats_front}
+use Rattle.dtx_jobs.proofs.RepeatLemmas.{repeats_front}
 use Rattle.dtx_symbol_laws.proofs.RepeatedFiles.{all_repeated, first_repeated, nothing_repeated}
 use Rattle.dtx_symbol_laws.proofs.laws.repeating.all_is_repeated.Goals as goal
 

@@ -10,7 +10,7 @@ use Rattle.dtx_watch.specs.declared.watcher.Watcher.{Watcher}
 use Rattle.dtx_watch.specs.Clock.{stamp_in}
 use Rattle.dtx_watch.specs.Notes.{packet_note, one_or_none}
 use Rattle.dtx_watch.specs.Step.{Group, group_at_hand, order_of, earliest, stamped_in, note_in, notes_in, lock_notes}
-use Rattle.dtx_watch.specs.GroupsLaws.{notes_none, notes_more, stamped_none, stamped_more, earliest_more, map_either}
+use Rattle.dtx_watch.proofs.GroupsLemmas.{notes_none, notes_more, stamped_none, stamped_more, earliest_more, map_either}
 use Rattle.dtx_watch.proofs.Counting.{few_in_all}
 use Rattle.dtx_watch.proofs.watcher.Watcher.tell_group.Goals as goal
 

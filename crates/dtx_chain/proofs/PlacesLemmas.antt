@@ -1,0 +1,166 @@
+-- Where the segments of a stream stand, and that they are one run.
+use Rattle.std.proofs.Common.{◌≡◌, ◌≢◌, ℕ, ℤ, Bool, zero, suc, ◌+◌, ◌-◌, ◌*◌, ◌/◌, ◌%◌, ◌<◌, ◌≤◌, ◌⊎◌, ◌==◌, nat_le}
+use Rattle.std.proofs.Common.{true, List, [], ◌∷◌, ◌++◌, length, map, get_or, refl, sym, ap, ap₂, ◌∙◌, inl, inr, arith}
+use Rattle.std.proofs.Common.{zero-add}
+use Rattle.std.specs.List.{range_with_len, flat_map}
+use Rattle.std.proofs.lemmas.Bool.{cases_eq, cond-true, cond-false, eq-eqb, ne_eqb}
+use Rattle.std.proofs.lemmas.List.{append-nil, length-append, take_all, get_or_append_left, get_or-append_right}
+use Rattle.std.proofs.lemmas.List.FromFn.{length-map-range_with_len, get_or-map-range_with_len}
+use Rattle.std.proofs.lemmas.Grind.{flat_map-append}
+use Rattle.dtx_lists.proofs.Range.{range_with_len-parts}
+use Rattle.dtx_frame.specs.Segments.{field_sync}
+use Rattle.dtx_frame.specs.Detection.{looks_like}
+use Rattle.dtx_frame.proofs.AlikeLemmas.{looks_alike}
+use Rattle.dtx_coder.specs.Stream.{levels, segment, four_segments, last_before, sync_before, group_segments, a53}
+use Rattle.dtx_coder.proofs.CountsLemmas.{length-a53}
+use Rattle.dtx_receiver.specs.Runs.{runs}
+use Rattle.dtx_receiver.specs.Intervals.{looks_at, IsRun, AreRuns, segments_in}
+use Rattle.dtx_receiver.proofs.IntervalsLemmas.{are_runs, only_runs}
+
+-- element j of part u of lists that stand one behind the other
+part_at : {X : Type 0} (f : ℕ → List X) (n u j : ℕ) (d : X) → u < n → j < length (f u)
+    → get_or (flat_map f (range_with_len 0 n)) (length (flat_map f (range_with_len 0 u)) + j) d ≡ get_or (f u) j d
+part_at {X = X} f n u j d l m =
+    ap (λ xs. get_or xs (length before + j) d) parts
+    ∙ get_or-append_right before (f u ++ rest) (length before) (length before + j) d refl (omega arith)
+    ∙ ap (λ i. get_or (f u ++ rest) i d) back
+    ∙ get_or_append_left (f u) rest d j m
+  where
+    before : List X
+    before = flat_map f (range_with_len 0 u)
+
+    rest : List X
+    rest = flat_map f (range_with_len (u + 1) (n - u - 1))
+
+    back : length before + j - length before ≡ j
+    back = omega arith
+
+    whole : n ≡ u + suc (n - u - 1)
+    whole = omega arith
+
+    from : 0 + u ≡ u
+    from = omega arith
+
+    parts : flat_map f (range_with_len 0 n) ≡ before ++ (f u ++ rest)
+    parts =
+        ap (λ i. flat_map f (range_with_len 0 i)) whole
+        ∙ ap (flat_map f) (range_with_len-parts 0 u (suc (n - u - 1))
+        ∙ ap (λ a. range_with_len 0 u ++ range_with_len a (suc (n - u - 1))) from)
+        ∙ flat_map-append f (range_with_len 0 u) (range_with_len u (suc (n - u - 1)))
+
+-- a field sync stands before a group that begins a field, and before no other
+sync_there : (ps : List (List ℕ)) (u : ℕ) → 4 * u % 312 ≡ 0
+    → sync_before ps u ≡ field_sync (nat_le 312 (4 * u % 624)) (last_before ps u) ∷ []
+unfolding sync_before
+sync_there ps u z =
+    cond-true (4 * u % 312 == 0) (field_sync (nat_le 312 (4 * u % 624)) (last_before ps u) ∷ []) []
+    (eq-eqb (4 * u % 312) 0 z)
+
+sync_absent : (ps : List (List ℕ)) (u : ℕ) → 4 * u % 312 ≢ 0 → sync_before ps u ≡ []
+unfolding sync_before
+sync_absent ps u z =
+    cond-false (4 * u % 312 == 0) (field_sync (nat_le 312 (4 * u % 624)) (last_before ps u) ∷ []) []
+    (ne_eqb (4 * u % 312) 0 z)
+
+length-group : (ps : List (List ℕ)) (u : ℕ) → length (group_segments ps u) ≡ length (sync_before ps u) + 4
+unfolding group_segments four_segments
+length-group ps u =
+    length-append (sync_before ps u) (map (segment (levels ps)) (range_with_len (4 * u) 4))
+    ∙ ap (λ n. length (sync_before ps u) + n) (length-map-range_with_len (segment (levels ps)) (4 * u) 4)
+
+length-before : (ps : List (List ℕ)) (u : ℕ) → length (flat_map (group_segments ps) (range_with_len 0 u))
+    ≡ 4 * u + (u + 77) / 78
+length-before ps zero = refl
+length-before ps (suc u) =
+    ap (λ n. length (flat_map (group_segments ps) (range_with_len 0 n))) (let e : suc u ≡ u + 1 = omega arith in e)
+    ∙ ap (λ ns. length (flat_map (group_segments ps) ns)) (range_with_len-parts 0 u 1
+    ∙ ap (λ a. range_with_len 0 u ++ range_with_len a 1) (zero-add u))
+    ∙ ap length (flat_map-append (group_segments ps) (range_with_len 0 u) (u ∷ []))
+    ∙ length-append (flat_map (group_segments ps) (range_with_len 0 u)) (group_segments ps u ++ [])
+    ∙ ap₂ (λ (x y : ℕ). x + y) (length-before ps u) (ap length (append-nil (group_segments ps u)) ∙ length-group ps u)
+    ∙ by_sync (cases_eq (4 * u % 312) 0)
+  where
+    by_sync : (4 * u % 312 ≡ 0) ⊎ (4 * u % 312 ≢ 0)
+        → 4 * u + (u + 77) / 78 + (length (sync_before ps u) + 4) ≡ 4 * suc u + (suc u + 77) / 78
+    by_sync (inl z) = omega (arith, z, ap length (sync_there ps u z))
+    by_sync (inr z) = omega (arith, z, ap length (sync_absent ps u z))
+
+-- ---- field syncs
+
+pub sync_at : (ps : List (List ℕ)) (u : ℕ) → u < length ps / 4 → 4 * u % 312 ≡ 0
+    → get_or (a53 ps) (4 * u + (u + 77) / 78) [] ≡ field_sync (nat_le 312 (4 * u % 624)) (last_before ps u)
+unfolding a53 group_segments
+sync_at ps u l z =
+    ap (λ i. get_or (a53 ps) i []) (there (4 * u + (u + 77) / 78) ∙ ap (λ n. n + 0) (sym (length-before ps u)))
+    ∙ part_at (group_segments ps) (length ps / 4) u 0 [] l (omega (arith, length-group ps u))
+    ∙ ap (λ xs. get_or (xs ++ four_segments (levels ps) (4 * u)) 0 []) (sync_there ps u z)
+  where
+    there : (n : ℕ) → n ≡ n + 0
+    there n = omega arith
+
+-- ---- data segments
+
+pub data_at_place : (ps : List (List ℕ)) (d : ℕ) → d < 4 * (length ps / 4)
+    → get_or (a53 ps) (d + d / 312 + 1) [] ≡ segment (levels ps) d
+unfolding a53 group_segments four_segments
+data_at_place ps d l =
+    ap (λ i. get_or (a53 ps) i []) (by_sync (cases_eq (4 * (d / 4) % 312) 0)
+    ∙ ap (λ n. n + (length (sync_before ps (d / 4)) + d % 4)) (sym (length-before ps (d / 4))))
+    ∙ part_at (group_segments ps) (length ps / 4) (d / 4) (length (sync_before ps (d / 4)) + d % 4) [] (omega arith)
+    (omega (arith, length-group ps (d / 4)))
+    ∙ get_or-append_right (sync_before ps (d / 4)) (map (segment (levels ps)) (range_with_len (4 * (d / 4)) 4))
+    (length (sync_before ps (d / 4))) (length (sync_before ps (d / 4)) + d % 4) [] refl (omega arith)
+    ∙ get_or-map-range_with_len (segment (levels ps)) (4 * (d / 4)) 4
+    (length (sync_before ps (d / 4)) + d % 4 - length (sync_before ps (d / 4))) d [] (omega arith) (omega arith)
+  where
+    by_sync : (4 * (d / 4) % 312 ≡ 0) ⊎ (4 * (d / 4) % 312 ≢ 0)
+        → d + d / 312 + 1 ≡ 4 * (d / 4) + (d / 4 + 77) / 78 + (length (sync_before ps (d / 4)) + d % 4)
+    by_sync (inl z) = omega (arith, z, ap length (sync_there ps (d / 4) z))
+    by_sync (inr z) = omega (arith, z, ap length (sync_absent ps (d / 4) z))
+
+-- ---- one run
+
+-- each 313th segment is a field sync
+pub sync_at_place : (ps : List (List ℕ)) (n : ℕ) → n < length (a53 ps) → n % 313 ≡ 0
+    → (second : Bool) × (last : List ℤ) × (get_or (a53 ps) n [] ≡ field_sync second last)
+sync_at_place ps n l z = (
+  nat_le 312 (4 * (78 * (n / 313)) % 624),
+  last_before ps (78 * (n / 313)),
+  ap (λ i. get_or (a53 ps) i []) there ∙ sync_at ps (78 * (n / 313)) within (omega arith),
+)
+  where
+    there : n ≡ 4 * (78 * (n / 313)) + (78 * (n / 313) + 77) / 78
+    there = omega (arith, z)
+
+    within : 78 * (n / 313) < length ps / 4
+    within = omega (arith, z, l, length-a53 ps)
+
+pub syncs_look : (ps : List (List ℕ)) (j : ℕ) → j < length (a53 ps) → j % 313 ≡ 0 → looks_at (a53 ps) j ≡ true
+syncs_look ps j l z =
+    let s : (second : Bool) × (last : List ℤ) × (get_or (a53 ps) j [] ≡ field_sync second last) =
+    sync_at_place ps j l z in
+    ap looks_like s.2 ∙ looks_alike s.0 s.1
+
+pub one_run : (ps : List (List ℕ)) → 4 ≤ length ps → runs (a53 ps) ≡ a53 ps ∷ []
+one_run ps l =
+    (are_runs (a53 ps)).2
+    ∙ ap (map (segments_in (a53 ps))) (only_runs (a53 ps) 0 (are_runs (a53 ps)).0 ((0, length (a53 ps)) ∷ [])
+    (are_runs (a53 ps)).1 mine)
+    ∙ ap (λ xs. xs ∷ []) (take_all (0 + length (a53 ps) - 0) (a53 ps) (omega arith))
+  where
+    some : 0 < length (a53 ps)
+    some = omega (arith, l, length-a53 ps)
+
+    plus : (n : ℕ) → 0 + n ≡ n
+    plus n = omega arith
+
+    run : IsRun (a53 ps) 0 (length (a53 ps))
+    run = record {
+      some = some;
+      within = omega arith;
+      syncs = λ j m z. ap (looks_at (a53 ps)) (plus j) ∙ syncs_look ps j m z;
+      ends = inl (omega arith);
+    }
+
+    mine : AreRuns (a53 ps) 0 ((0, length (a53 ps)) ∷ [])
+    mine = (omega arith, λ i a b. absurd (omega (arith, b)), run, λ i a b. absurd (omega (arith, a, b)))

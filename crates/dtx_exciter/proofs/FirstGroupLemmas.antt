@@ -1,0 +1,134 @@
+-- What the first group of a stretch gives: its data segments, behind a field sync where the group before it was sent.
+use Rattle.std.proofs.Common.{◌≡◌, ℕ, ℤ, ◌+◌, ◌-◌, ◌*◌, ◌/◌, ◌%◌, ◌<◌, ◌≤◌, ◌==◌, Bool, true, false, cond, Some}
+use Rattle.std.proofs.Common.{List, [], ◌∷◌, ◌++◌, length, take, drop, get_or, refl, sym, ap, ap₂, ◌∙◌, arith}
+use Rattle.std.specs.Prelude.{nat_le, is_ok}
+use Rattle.std.proofs.lemmas.Bool.{cond-true, le-leb}
+use Rattle.std.proofs.lemmas.List.{append_assoc}
+use Rattle.dtx_lists.proofs.Range.{map-range_same}
+use Rattle.dtx_frame.specs.Segments.{field_sync}
+use Rattle.dtx_coder.specs.Along.{levels_since}
+use Rattle.dtx_coder.specs.Stream.{levels, segment, four_segments, last_of}
+use Rattle.dtx_exciter.specs.Order.{Order, orders}
+use Rattle.dtx_exciter.specs.Told.{served}
+use Rattle.dtx_exciter.specs.Packets.{readings}
+use Rattle.dtx_exciter.specs.Emission.{segments_since, sent_by, sent_at, sent_before, behind_field_sync, given_under}
+use Rattle.dtx_exciter.specs.Stretch.{sync_behind}
+use Rattle.dtx_exciter.proofs.ForceLemmas.{Stands, force_left, force_stands}
+use Rattle.dtx_exciter.proofs.GroupSentLemmas.{since_front}
+use Rattle.dtx_exciter.proofs.InLifeLemmas.{life, length-life, Marks, IsGroup, upto, given_last, place_of, sent_same}
+use Rattle.dtx_exciter.proofs.SinceMarkLemmas.{take_parts}
+use Rattle.dtx_exciter.proofs.UnderLemmas.{length-said, said_append}
+
+-- ---- the field sync
+
+-- it stands in front of a group's data segments
+sync_first : (i : ℕ) (b : List (List ℤ)) (zs : List ℕ) (k : ℕ)
+    → behind_field_sync i b (four_segments zs k) ≡ sync_behind b i ++ four_segments zs k
+unfolding four_segments
+sync_first i [] zs k = refl
+sync_first i (s ∷ ss) zs k = refl
+
+-- at another place of the same kind
+sync_place : (b : List (List ℤ)) (i k : ℕ) → i % 624 ≡ k % 624 → sync_behind b i ≡ sync_behind b k
+sync_place [] i k e = refl
+sync_place (s ∷ ss) i k e =
+    let c : i % 312 ≡ k % 312 = omega (arith, e) in
+    ap₂ (λ x y. cond (x == 0) (field_sync (nat_le 312 y) (last_of (get_or (s ∷ ss) (length ss) [])) ∷ []) []) c e
+
+-- a field sync that stands in front of the group before changes nothing
+sync_over : (j k : ℕ) (b ss : List (List ℤ)) → sync_behind (behind_field_sync j b ss) k ≡ sync_behind ss k
+sync_over j k b [] = refl
+sync_over j k [] (s ∷ ss) = refl
+sync_over j k (c ∷ cs) (s ∷ ss) = by_test (j % 312 == 0)
+  where
+    by_test : (t : Bool)
+        → sync_behind (cond t (field_sync (nat_le 312 (j % 624)) (last_of (get_or (c ∷ cs) (length cs) [])) ∷ []) []
+        ++ s ∷ ss) k ≡ sync_behind (s ∷ ss) k
+    by_test true = refl
+    by_test false = refl
+
+-- ---- the group before it
+
+segments_front : (l r : List (List ℕ)) (u g : ℕ) (q : List ℕ) → length l ≡ 4 * (u + 1) → g ≤ u
+    → segments_since g q (l ++ r) u ≡ segments_since g q l u
+unfolding segments_since four_segments
+segments_front l r u g q e h =
+    map-range_same (segment (levels_since g q (l ++ r))) (segment (levels_since g q l)) (4 * (u - g)) 4
+    (λ k a b. since_front l r (u + 1) g k q e (omega (arith, h)) (omega (arith, h, b)))
+
+-- what is sent of it is the same where packets follow
+sent_front : (a d : ℕ) (l r : List (List ℕ)) (i : ℕ) → length l ≡ i + 4 → i % 4 ≡ 0
+    → sent_at a d (l ++ r) i ≡ sent_at a d l i
+unfolding sent_at
+sent_front a d l r i e w =
+    ap (sent_by a d (l ++ r) i) (ap (λ s. orders s i) (said_append l r)
+    ∙ force_left (readings l) (readings r) i (omega (arith, e, length-said l)))
+    ∙ by_order (orders (readings l) i) refl
+  where
+    by_order : (o : List Order) → orders (readings l) i ≡ o → sent_by a d (l ++ r) i o ≡ sent_by a d l i o
+    by_order [] h = refl
+    by_order (order ∷ older) h =
+        let s : Stands (readings l) (i + 1) order = force_stands (readings l) i order older h in
+        let p : order.place < i + 1 = s.below in
+        ap (λ x. cond (is_ok (served a d (order ∷ older))) x [])
+        (segments_front l r (i / 4) (order.place / 4) order.ops.states (omega (arith, e, w)) (omega (arith, p)))
+
+-- ---- the first group
+
+pub given_first : (a d : ℕ) (z : ℤ) (base feed : List (List ℕ)) (mark n first : ℕ) → Marks a d z base feed mark n
+    → IsGroup a feed mark n first first
+    → given_under a d (Some (life base feed mark (first + 4)))
+    ≡ sync_behind (given_under a d (Some (life base feed mark first))) (mark + first)
+    ++ four_segments (levels (upto feed mark (first + 4))) (mark + first)
+given_first a d z base feed mark n first m g =
+    given_last a d base feed mark first inside g.group m.at_other
+    ∙ ap₂ (behind_field_sync (length base + first)) before
+    (sent_same a d z base feed mark n (first + 4) first first m
+    (place_of a feed mark n first first first g (omega arith) g.group (omega arith)))
+    ∙ sync_first (length base + first) (sent_at a d (life base feed mark first) (length base + (first - 4)))
+    (levels (upto feed mark (first + 4))) (mark + first)
+    ∙ ap (λ x. x ++ four_segments (levels (upto feed mark (first + 4))) (mark + first))
+    (sync_place (sent_at a d (life base feed mark first) (length base + (first - 4))) (length base + first)
+    (mark + first) (let m1 = m.at_mark in let m2 = m.at_other in omega (arith, m1, m2))
+    ∙ sym (ap (λ x. sync_behind x (mark + first)) earlier
+    ∙ sync_over (length base + (first - 4)) (mark + first)
+    (sent_before a d (life base feed mark first) (length base + (first - 4)))
+    (sent_at a d (life base feed mark first) (length base + (first - 4)))))
+  where
+    inside : mark + (first + 4) ≤ length feed
+    inside = let i = m.inside in let w = g.within in omega (arith, i, w)
+
+    far : 52 ≤ first
+    far = g.flushed
+
+    four : first - 4 + 4 ≡ first
+    four = omega (arith, far)
+
+    long : length (life base feed mark first) ≡ length base + (first - 4) + 4
+    long = omega (arith, far, length-life base feed mark first (omega (arith, inside)))
+
+    longer : life base feed mark (first + 4) ≡ life base feed mark first ++ take 4 (drop first (drop mark feed))
+    longer = ap (λ x. base ++ x) (take_parts first 4 (drop mark feed))
+        ∙ sym (append_assoc base (take first (drop mark feed)) (take 4 (drop first (drop mark feed))))
+
+    at : length base + first - 4 ≡ length base + (first - 4)
+    at = omega (arith, far)
+
+    before : sent_before a d (life base feed mark (first + 4)) (length base + first)
+        ≡ sent_at a d (life base feed mark first) (length base + (first - 4))
+    before =
+        cond-true (nat_le 4 (length base + first)) _ _ (le-leb 4 (length base + first) (omega (arith, far)))
+        ∙ ap₂ (sent_at a d) longer at
+        ∙ sent_front a d (life base feed mark first) (take 4 (drop first (drop mark feed)))
+        (length base + (first - 4)) long (let w = g.whole in let m2 = m.at_other in omega (arith, w, m2, far))
+
+    earlier : given_under a d (Some (life base feed mark first))
+        ≡ behind_field_sync (length base + (first - 4)) (sent_before a d (life base feed mark first)
+        (length base + (first - 4))) (sent_at a d (life base feed mark first) (length base + (first - 4)))
+    earlier =
+        ap (λ k. given_under a d (Some (life base feed mark k))) (sym four)
+        ∙ given_last a d base feed mark (first - 4) (omega (arith, inside)) (let w = g.whole in
+        omega (arith, w, far)) m.at_other
+        ∙ ap (λ k. behind_field_sync (length base + (first - 4))
+        (sent_before a d (life base feed mark k) (length base + (first - 4)))
+        (sent_at a d (life base feed mark k) (length base + (first - 4)))) four

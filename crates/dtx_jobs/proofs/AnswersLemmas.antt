@@ -1,0 +1,23 @@
+-- Which refusals the commands of symbols and feeds know: of how their making answers.
+use Rattle.std.specs.Prelude.{◌==◌, ℕ, length}
+use Rattle.dtx_acquire.specs.Acquired.{acquired, acquired_cost, acquired_runs}
+use Rattle.dtx_meaning.specs.declared.status.Status.{Status}
+use Rattle.dtx_meaning.specs.declared.status.Status.TheVariants.{Done}
+use Rattle.dtx_engine.specs.Recipe.{IsAnswerOf}
+use Rattle.dtx_words.specs.declared.rows.Command.TheVariants.{Acquire}
+use Rattle.dtx_forms.specs.Answers.{Knows}
+use Rattle.dtx_forms.proofs.AnswersLemmas.{knows_by, none_refused}
+use Rattle.dtx_jobs.specs.Acquire.{acquired_numbers, acquiring}
+use Rattle.dtx_jobs.specs.SymbolFile.{symbols}
+use Rattle.dtx_jobs.specs.AnswersLaws.{sync_or_not}
+
+-- a capture whose fields are found
+pub acquire_knows : (scale : ℕ) (status : Status) → IsAnswerOf (acquiring scale) status → Knows Acquire status
+acquire_knows scale =
+    knows_by (acquiring scale) Acquire tt (λ k unit. none_refused unit)
+    (λ given loose. sync_or_not Acquire (acquired_runs (symbols given) == 0) (record {
+      status = Done;
+      numbers = acquired_numbers (length (symbols given)) (acquired_runs (symbols given))
+          (length (acquired scale (symbols given))) (acquired_cost scale (symbols given));
+      shown = 5;
+    }) tt tt)

@@ -1,0 +1,141 @@
+-- Lemmas of what is received of a whole symbol file, whichever receiver it is; its bytes may have damage laid over
+-- them.
+use Rattle.std.proofs.Common.{◌≡◌, ◌≢◌, ◌↔◌, ℕ, ◌*◌, ◌/◌, ◌%◌, ◌<◌, ◌≤◌, List, [], length, take, drop, sym, ap}
+use Rattle.std.proofs.Common.{ap₂, ◌∙◌, subst, arith}
+use Rattle.std.specs.Prelude.{ℤ, min, None}
+use Rattle.std.specs.List.{flat_map, range_with_len}
+use Rattle.std.proofs.lemmas.Bool.{cond-false, cond-true, eq-eqb, ne_eqb}
+use Rattle.std.proofs.lemmas.List.{take_at, take-append-drop, length-take-le}
+use Rattle.dtx_plan.specs.declared.damage.Damage.{Damage}
+use Rattle.dtx_make.specs.Hurt.{hurt, damaged_bytes}
+use Rattle.dtx_make.proofs.LaidLemmas.{hurt-append, length-hurt}
+use Rattle.dtx_receiver.specs.Intervals.{NoneLooks}
+use Rattle.dtx_receiver.proofs.IntervalsLemmas.{no_runs}
+use Rattle.dtx_receiver.specs.Runs.{runs}
+use Rattle.dtx_meaning.specs.Meaning.{Meaning}
+use Rattle.dtx_meaning.specs.Status.{ended}
+use Rattle.dtx_meaning.specs.declared.status.Outcome.{Outcome}
+use Rattle.dtx_meaning.specs.declared.status.Status.TheVariants.{Done, NoSync, TooLong}
+use Rattle.dtx_engine.specs.Made.{Made, only, outputs_of}
+use Rattle.dtx_engine.specs.Recipe.{first_refused, meaning_at}
+use Rattle.dtx_engine.specs.Recipe.{meaning_of_file, whole_units}
+use Rattle.dtx_engine.specs.declared.piece.Ending.TheVariants.{Whole}
+use Rattle.dtx_forms.proofs.AllowedFileLemmas.{all_read, first_read, none_found}
+use Rattle.dtx_forms.specs.Shapes.{segments}
+use Rattle.dtx_packet_jobs.specs.Damaged.{damaged_making}
+use Rattle.dtx_jobs.specs.Giving.{Giving, IsGiving, all_bytes, answer_of, bytes_of, given_numbers, given_of}
+use Rattle.dtx_jobs.specs.Giving.{given_until, no_sync_in, receiving_by}
+use Rattle.dtx_jobs.proofs.GivingLemmas.{bytes_of-all, receives_whole}
+use Rattle.dtx_jobs.specs.SymbolFile.{file_segments, whole_segments}
+use Rattle.dtx_jobs.proofs.SymbolFileLemmas.{file_segments-whole, first_segments, length-segments_of}
+
+-- ---- all units are allowed
+
+pub all_allowed : (giving : Giving) (file : List ℕ) → first_refused segments (receiving_by giving) file ≡ None
+unfolding first_refused
+all_allowed giving file = none_found (range_with_len 0 (min (whole_units segments file) segments.limit))
+
+all_damaged_allowed : (giving : Giving) (damage : List Damage) (file : List ℕ)
+    → first_refused segments (damaged_making damage (receiving_by giving)) file ≡ None
+unfolding first_refused
+all_damaged_allowed giving damage file =
+    none_found (range_with_len 0 (min (whole_units segments file) segments.limit))
+
+-- ---- of all segments
+
+-- only the whole segments count
+given_front : (giving : Giving) → IsGiving giving → (names : List (List ℕ)) (file : List ℕ) (loose : ℕ)
+    → meaning_at (receiving_by giving) names (take (832 * whole_segments file) file) (Whole loose)
+    ≡ given_of giving names file loose
+given_front giving is names file loose =
+    let means : List (List ℤ) → Made → Meaning =
+    λ list made. record { outcome = answer_of giving list loose; outputs = outputs_of names made } in
+    let whole = file_segments-whole file in
+    ap₂ means whole (receives_whole giving is (take (832 * whole_segments file) file)
+    ∙ ap (λ list. only (flat_map (λ p. p) (giving.packets list))) whole)
+
+-- a symbol file with no more segments than are received
+pub all_given : (giving : Giving) → IsGiving giving → (names : List (List ℕ)) (file : List ℕ)
+    → whole_segments file ≤ 626000000
+    → meaning_of_file segments (receiving_by giving) names file ≡ given_of giving names file (length file % 832)
+all_given giving is names file few =
+    all_read segments (receiving_by giving) names file (all_allowed giving file) few
+    ∙ given_front giving is names file (length file % 832)
+
+-- and one with more: what the first ones give while they come
+pub first_given : (giving : Giving) (names : List (List ℕ)) (file : List ℕ) → 626000000 < whole_segments file
+    → meaning_of_file segments (receiving_by giving) names file ≡ given_until giving names file
+first_given giving names file many =
+    first_read segments (receiving_by giving) names file (all_allowed giving file) many
+    ∙ ap (λ (list : List (List ℤ)). record {
+      outcome = ended TooLong;
+      outputs = outputs_of names (only (bytes_of (giving.so_far list)));
+    }) (first_segments file 626000000 (omega (arith, many)))
+
+-- the first bytes of a damaged file are the damaged first bytes
+hurt_front : (damage : List Damage) (file : List ℕ) (n : ℕ) → n ≤ length file
+    → hurt damage (take n file) ≡ take n (hurt damage file)
+hurt_front damage file n within =
+    let front : List ℕ = take n file in
+    let long : length (hurt damage front) ≡ n = length-hurt damage front ∙ length-take-le n file within in
+    sym (ap (take n) (ap (hurt damage) (sym (take-append-drop n file)) ∙ hurt-append damage front (drop n file))
+    ∙ take_at (hurt damage front) (damaged_bytes damage (length front) (drop n file)) n long)
+
+-- and one that is damaged as it is read
+pub all_damaged_given : (giving : Giving) → IsGiving giving → (names : List (List ℕ)) (damage : List Damage)
+    (file : List ℕ) → whole_segments file ≤ 626000000
+    → meaning_of_file segments (damaged_making damage (receiving_by giving)) names file
+    ≡ given_of giving names (hurt damage file) (length file % 832)
+all_damaged_given giving is names damage file few =
+    let long : length (hurt damage file) ≡ length file = length-hurt damage file in
+    let n : ℕ = 832 * whole_segments file in
+    let many : n ≡ 832 * whole_segments (hurt damage file) = ap (λ m. 832 * (m / 832)) (sym long) in
+    all_read segments (damaged_making damage (receiving_by giving)) names file (all_damaged_allowed giving damage file)
+    few
+    ∙ ap (λ z. meaning_at (receiving_by giving) names z (Whole (length file % 832)))
+    (hurt_front damage file n (omega arith) ∙ ap (λ m. take m (hurt damage file)) many)
+    ∙ given_front giving is names (hurt damage file) (length file % 832)
+
+-- ---- where something looks like a field sync, and where nothing does
+
+-- there is no run just where no segment of a file does
+pub no_run_in : (file : List ℕ)
+    → (length (runs (file_segments file)) ≡ 0) ↔ NoneLooks (file_segments file) 0 (whole_segments file)
+no_run_in file =
+    subst (λ (n : ℕ). (length (runs (file_segments file)) ≡ 0) ↔ NoneLooks (file_segments file) 0 n)
+    (length-segments_of file) (no_runs (file_segments file))
+
+pub sync_answered : (giving : Giving) (list : List (List ℤ)) (loose : ℕ) → length (runs list) ≢ 0
+    → answer_of giving list loose ≡ record { status = Done; numbers = given_numbers giving list loose; shown = 6 }
+sync_answered giving list loose some = cond-false _ _ _ (ne_eqb (length (runs list)) 0 some)
+
+-- there is no packet
+pub nothing_given : (giving : Giving) → IsGiving giving → (file : List ℕ) → length (runs (file_segments file)) ≡ 0
+    → all_bytes giving file ≡ []
+nothing_given giving is file none =
+    bytes_of-all giving is (file_segments file) ∙ ap bytes_of (is.no_run (file_segments file) none)
+
+pub no_sync_answered : (giving : Giving) (list : List (List ℤ)) (loose : ℕ) → length (runs list) ≡ 0
+    → answer_of giving list loose ≡ ended NoSync
+no_sync_answered giving list loose none = cond-true _ _ _ (eq-eqb (length (runs list)) 0 none)
+
+-- what is answered and written then, of a file with no more segments than are received
+pub nothing_received : (giving : Giving) → IsGiving giving → (names : List (List ℕ)) (file : List ℕ)
+    → whole_segments file ≤ 626000000 → NoneLooks (file_segments file) 0 (whole_segments file)
+    → meaning_of_file segments (receiving_by giving) names file ≡ no_sync_in names
+nothing_received giving is names file few none =
+    let means : Outcome → List ℕ → Meaning =
+    λ outcome bytes. record { outcome = outcome; outputs = outputs_of names (only bytes) } in
+    let no_run : length (runs (file_segments file)) ≡ 0 = (no_run_in file).1 none in
+    all_given giving is names file few
+    ∙ ap₂ means (no_sync_answered giving (file_segments file) (length file % 832) no_run)
+    (nothing_given giving is file no_run)
+
+-- and where one does
+pub done_received : (giving : Giving) → IsGiving giving → (names : List (List ℕ)) (file : List ℕ)
+    → whole_segments file ≤ 626000000 → (NoneLooks (file_segments file) 0 (whole_segments file) → ⊥)
+    → (meaning_of_file segments (receiving_by giving) names file).outcome.status ≡ Done
+done_received giving is names file few some =
+    ap (λ (m : Meaning). m.outcome.status) (all_given giving is names file few)
+    ∙ ap (λ (o : Outcome). o.status) (sync_answered giving (file_segments file) (length file % 832)
+    (λ e. some ((no_run_in file).0 e)))

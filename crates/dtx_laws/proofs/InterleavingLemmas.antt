@@ -1,0 +1,221 @@
+-- The laws of interleaving.
+use Rattle.std.proofs.Common.{◌≡◌, ℕ, ◌+◌, ◌-◌, ◌*◌, ◌/◌, ◌%◌, ◌<◌, ◌≤◌, ◌⊎◌, ◌==◌, nat_le, cond, inl, inr, List, []}
+use Rattle.std.proofs.Common.{◌∷◌, ◌++◌, length, get_or, set, drop, take, replicate, refl, sym, ap, subst, ◌∙◌, arith}
+use Rattle.std.proofs.Common.{add-mul}
+use Rattle.std.specs.List.{concat}
+use Rattle.std.proofs.Common.{mul-le-mul_right, div-add-mod'}
+use Rattle.std.proofs.lemmas.Bool.{cases_lt, cases_eq, cond-true, cond-false, le-leb, lt-leb}
+use Rattle.std.proofs.lemmas.Nat.{mod_below}
+use Rattle.std.proofs.lemmas.List.{length-set, length-append, get_or-set_same, get_or-set_other, get_or_append_left}
+use Rattle.std.proofs.lemmas.List.{ext_get_or, length-take-le, get_or-take, length-replicate, get_or-replicate}
+use Rattle.std.proofs.lemmas.List.FromFn.{get_or-map-range_with_len, length-map-range_with_len}
+use Rattle.dtx_laws.specs.Branches.{Branching, HasWidths, spreading, zeroed, aligned, after_byte, leaving_all}
+use Rattle.dtx_laws.specs.Branches.{after_all, leaving_calls, after_calls}
+use Rattle.dtx_laws.specs.Interleaving.{interleaved_at, interleaved, IsInterleavedBehind}
+use Rattle.dtx_laws.proofs.PlacesLemmas.{aligned_gives, stream_come, stream_held, length_leaving, leaving_append}
+use Rattle.dtx_laws.proofs.PlacesLemmas.{after_append, length_moved}
+
+-- ---- the map
+
+pub length-interleaved : (b m : ℕ) (x : List ℕ) → length (interleaved b m x) ≡ length x
+unfolding interleaved
+length-interleaved b m x = length-map-range_with_len (interleaved_at b m x) 0 (length x)
+
+pub get_or-interleaved : (b m : ℕ) (x : List ℕ) (n : ℕ) → n < length x
+    → get_or (interleaved b m x) n 0 ≡ interleaved_at b m x n
+unfolding interleaved
+get_or-interleaved b m x n l = get_or-map-range_with_len (interleaved_at b m x) 0 (length x) n n 0 l (omega arith)
+
+interleaved_before : (b m : ℕ) (x z : List ℕ) (n : ℕ) → n < length x
+    → interleaved_at b m (x ++ z) n ≡ interleaved_at b m x n
+interleaved_before b m x z n l =
+    ap (λ y. cond (nat_le (b * m * (n % b)) n) y 0) (get_or_append_left x z 0 (n - b * m * (n % b)) (omega arith))
+
+-- later bytes leave the earlier ones alone
+pub interleaved-append : (b m : ℕ) (x z : List ℕ) → take (length x) (interleaved b m (x ++ z)) ≡ interleaved b m x
+interleaved-append b m x z =
+    ext_get_or 0 (take (length x) (interleaved b m (x ++ z))) (interleaved b m x) (long
+    ∙ sym (length-interleaved b m x))
+    (λ i l. get_or-take (length x) (interleaved b m (x ++ z)) i 0 (omega (arith, long, l))
+    ∙ get_or-interleaved b m (x ++ z) i (omega (arith, long, l, length-append x z))
+    ∙ interleaved_before b m x z i (omega (arith, long, l))
+    ∙ sym (get_or-interleaved b m x i (omega (arith, long, l))))
+  where
+    long : length (take (length x) (interleaved b m (x ++ z))) ≡ length x
+    long = length-take-le (length x) (interleaved b m (x ++ z)) (omega (
+      arith,
+      length-interleaved b m (x ++ z),
+      length-append x z,
+    ))
+
+-- ---- any cut into calls
+
+pub leaving_calls_is : (b : ℕ) (v : Branching) (calls : List (List ℕ))
+    → leaving_calls b v calls ≡ leaving_all b v (concat calls)
+unfolding leaving_calls leaving_all
+leaving_calls_is b v [] = refl
+leaving_calls_is b v (x ∷ xs) = ap (λ ys. leaving_all b v x ++ ys) (leaving_calls_is b (after_all b v x) xs)
+    ∙ sym (leaving_append b v x (concat xs))
+
+pub after_calls_is : (b : ℕ) (v : Branching) (calls : List (List ℕ))
+    → after_calls b v calls ≡ after_all b v (concat calls)
+unfolding after_calls after_all
+after_calls_is b v [] = refl
+after_calls_is b v (x ∷ xs) = after_calls_is b (after_all b v x) xs ∙ sym (after_append b v x (concat xs))
+
+-- ---- the widths
+
+next_below : (b n : ℕ) → n < b → (n + 1 ≡ b) ⊎ (n + 1 ≡ b → ⊥) → cond (n + 1 == b) 0 (n + 1) < b
+next_below b n l h = search (arith, cond-true, cond-false)
+
+HasWidths-byte : (b : ℕ) (w : ℕ → ℕ) (v : Branching) (byte : ℕ) → HasWidths b w v → HasWidths b w (after_byte b v byte)
+HasWidths-byte b w v byte h = record {
+  next = next_below b v.next h.next (cases_eq (v.next + 1) b);
+  count = length-set v.lists v.next (drop 1 (get_or v.lists v.next [] ++ byte ∷ [])) ∙ h.count;
+  long = λ i l. by_cases i l (cases_eq i v.next);
+}
+  where
+    by_cases : (i : ℕ) → i < b → (i ≡ v.next) ⊎ (i ≡ v.next → ⊥)
+        → length (get_or (set v.lists v.next (drop 1 (get_or v.lists v.next [] ++ byte ∷ []))) i []) ≡ w i
+    by_cases i l (inl e) =
+        subst (λ (k : ℕ). length (get_or (set v.lists v.next (drop 1 (get_or v.lists v.next [] ++ byte ∷ []))) k [])
+        ≡ w k) (sym e)
+        (ap length (get_or-set_same v.lists v.next (drop 1 (get_or v.lists v.next [] ++ byte ∷ [])) []
+        (omega (arith, h.next, h.count))) ∙ length_moved (get_or v.lists v.next []) byte ∙ h.long v.next h.next)
+    by_cases i l (inr n) =
+        ap length (get_or-set_other v.lists v.next i (drop 1 (get_or v.lists v.next [] ++ byte ∷ [])) [] n) ∙ h.long i l
+
+pub HasWidths-all : (b : ℕ) (w : ℕ → ℕ) (v : Branching) (x : List ℕ) → HasWidths b w v → HasWidths b w (after_all b v x)
+unfolding after_all
+HasWidths-all b w v [] h = h
+HasWidths-all b w v (x ∷ xs) h = HasWidths-all b w (after_byte b v x) xs (HasWidths-byte b w v x h)
+
+pub HasWidths-aligned : (b : ℕ) (w : ℕ → ℕ) (v : Branching) → HasWidths b w v → HasWidths b w (aligned v)
+HasWidths-aligned b w v h = record { next = omega (arith, h.next); count = h.count; long = h.long }
+
+pub HasWidths-zeroed : (b : ℕ) (w : ℕ → ℕ) → 0 < b → HasWidths b w (zeroed b w)
+unfolding zeroed
+HasWidths-zeroed b w p = record {
+  next = p;
+  count = length-map-range_with_len (λ i. replicate (w i) 0) 0 b;
+  long = λ i l. ap length (get_or-map-range_with_len (λ i. replicate (w i) 0) 0 b i i [] l (omega arith))
+      ∙ length-replicate {A = ℕ} (w i) 0;
+}
+
+-- ---- behind an align
+
+turns_least : (q d b r : ℕ) → d * b ≤ q * b + r → r < b → d ≤ q
+turns_least q d b r h l = by_cases (cases_lt q d)
+  where
+    by_cases : (q < d) ⊎ (d ≤ q) → d ≤ q
+    by_cases (inl k) = let g : (q + 1) * b ≤ d * b = mul-le-mul_right b (omega arith) in
+        let f : (q + 1) * b ≡ q * b + b = grind arith in absurd (omega arith)
+    by_cases (inr k) = k
+
+minus : (b q d r n : ℕ) → n ≡ q * b + r → d ≤ q → (q - d) * b + r ≡ n - d * b
+minus b q d r n e k =
+    let f : q ≡ (q - d) + d = omega arith in
+    let g : q * b ≡ (q - d) * b + d * b = ap (λ z. z * b) f ∙ add-mul (q - d) d b in
+    omega arith
+
+below_turn : (q d b r n : ℕ) → n ≡ q * b + r → n < d * b → q < d
+below_turn q d b r n e h = by_cases (cases_lt q d)
+  where
+    by_cases : (q < d) ⊎ (d ≤ q) → q < d
+    by_cases (inl k) = k
+    by_cases (inr k) = let g : d * b ≤ q * b = mul-le-mul_right b k in absurd (omega arith)
+
+-- the delay of a byte, in turns: its branch's width
+pub in_turns : (b m r : ℕ) → b * m * r ≡ m * r * b
+in_turns b m r = grind arith
+
+-- whatever the widths are: the byte whose source has come
+pub come_by : (b d : ℕ) (w : ℕ → ℕ) (v : Branching) (x : List ℕ) (n : ℕ) → HasWidths b w v → v.next ≡ 0 → n < length x
+    → d ≡ w (n % b) * b → d ≤ n
+    → get_or (leaving_all b v x) n 0 ≡ get_or x (n - d) 0
+come_by b d w v x n s z l t h =
+    let p : 0 < b = omega (arith, s.next) in
+    let e : n ≡ n / b * b + n % b = sym (div-add-mod' n b) in
+    let k : w (n % b) ≤ n / b = turns_least (n / b) (w (n % b)) b (n % b) (omega (arith, h, t, e)) (mod_below n b p) in
+    aligned_gives b w v x p s z n l ∙ stream_come b w v x (n % b) (n / b) k
+    ∙ ap (λ i. get_or x i 0) (minus b (n / b) (w (n % b)) (n % b) n e k ∙ ap (λ i. n - i) (sym t))
+
+pub held_turn_by : (b d : ℕ) (w : ℕ → ℕ) (n : ℕ) → d ≡ w (n % b) * b → n < d → n / b < w (n % b)
+held_turn_by b d w n t h = below_turn (n / b) (w (n % b)) b (n % b) n (sym (div-add-mod' n b)) (omega (arith, h, t))
+
+-- and the byte that a branch held
+pub held_by : (b d : ℕ) (w : ℕ → ℕ) (v : Branching) (x : List ℕ) (n : ℕ) → HasWidths b w v → v.next ≡ 0 → n < length x
+    → d ≡ w (n % b) * b → n < d
+    → get_or (leaving_all b v x) n 0 ≡ get_or (get_or v.lists (n % b) []) (n / b) 0
+held_by b d w v x n s z l t h =
+    aligned_gives b w v x (omega (arith, s.next)) s z n l
+    ∙ stream_held b w v x (n % b) (n / b) (held_turn_by b d w n t h)
+
+pub come_at : (b m : ℕ) (v : Branching) (x : List ℕ) (n : ℕ) → HasWidths b (spreading m) v → v.next ≡ 0 → n < length x
+    → b * m * (n % b) ≤ n
+    → get_or (leaving_all b v x) n 0 ≡ get_or x (n - b * m * (n % b)) 0
+come_at b m v x n s z l h = come_by b (b * m * (n % b)) (spreading m) v x n s z l (in_turns b m (n % b)) h
+
+held_turn : (b m n : ℕ) → n < b * m * (n % b) → n / b < m * (n % b)
+held_turn b m n h = held_turn_by b (b * m * (n % b)) (spreading m) n (in_turns b m (n % b)) h
+
+held_at : (b m : ℕ) (v : Branching) (x : List ℕ) (n : ℕ) → HasWidths b (spreading m) v → v.next ≡ 0 → n < length x
+    → n < b * m * (n % b)
+    → get_or (leaving_all b v x) n 0 ≡ get_or (get_or v.lists (n % b) []) (n / b) 0
+held_at b m v x n s z l h = held_by b (b * m * (n % b)) (spreading m) v x n s z l (in_turns b m (n % b)) h
+
+at_come : (b m : ℕ) (x : List ℕ) (n : ℕ) → b * m * (n % b) ≤ n
+    → interleaved_at b m x n ≡ get_or x (n - b * m * (n % b)) 0
+at_come b m x n h =
+    cond-true (nat_le (b * m * (n % b)) n) (get_or x (n - b * m * (n % b)) 0) 0 (le-leb (b * m * (n % b)) n h)
+
+pub at_held : (b m : ℕ) (x : List ℕ) (n : ℕ) → n < b * m * (n % b) → interleaved_at b m x n ≡ 0
+at_held b m x n h =
+    cond-false (nat_le (b * m * (n % b)) n) (get_or x (n - b * m * (n % b)) 0) 0 (lt-leb (b * m * (n % b)) n h)
+
+pub behind : (b m : ℕ) (v : Branching) (x : List ℕ) → HasWidths b (spreading m) v → v.next ≡ 0
+    → IsInterleavedBehind b m v.lists x (leaving_all b v x)
+behind b m v x s z = record {
+  long = length_leaving b v x;
+  come = λ n l h. come_at b m v x n s z l h ∙ sym (get_or-interleaved b m x n l ∙ at_come b m x n h);
+  held = λ n l h. held_at b m v x n s z l h;
+  within = λ n l h. omega (arith, held_turn b m n h, s.long (n % b) (mod_below n b (omega (arith, s.next))));
+}
+
+pub behind_calls : (b m : ℕ) (v : Branching) (calls : List (List ℕ)) → HasWidths b (spreading m) v
+    → IsInterleavedBehind b m v.lists (concat calls) (leaving_calls b (aligned v) calls)
+behind_calls b m v calls s =
+    subst (λ ys. IsInterleavedBehind b m v.lists (concat calls) ys) (sym (leaving_calls_is b (aligned v) calls))
+    (behind b m (aligned v) (concat calls) (HasWidths-aligned b (spreading m) v s) refl)
+
+-- ---- from zeros
+
+pub zeros_at : (b : ℕ) (w : ℕ → ℕ) (i k : ℕ) → i < b → k < w i → get_or (get_or (zeroed b w).lists i []) k 0 ≡ 0
+unfolding zeroed
+zeros_at b w i k l h =
+    ap (λ ys. get_or ys k 0) (get_or-map-range_with_len (λ i. replicate (w i) 0) 0 b i i [] l (omega arith))
+    ∙ get_or-replicate {A = ℕ} (w i) k 0 0 h
+
+pub next-zeroed : (b : ℕ) (w : ℕ → ℕ) → (zeroed b w).next ≡ 0
+unfolding zeroed
+next-zeroed b w = refl
+
+pub zeros_give : (b m : ℕ) (x : List ℕ) → 0 < b → leaving_all b (zeroed b (spreading m)) x ≡ interleaved b m x
+zeros_give b m x p =
+    ext_get_or 0 (leaving_all b (zeroed b (spreading m)) x) (interleaved b m x)
+    (length_leaving b (zeroed b (spreading m)) x ∙ sym (length-interleaved b m x))
+    (λ n l. by_cases n (omega (arith, l, length_leaving b (zeroed b (spreading m)) x)) (cases_lt n (b * m * (n % b))))
+  where
+    all : IsInterleavedBehind b m (zeroed b (spreading m)).lists x (leaving_all b (zeroed b (spreading m)) x)
+    all = behind b m (zeroed b (spreading m)) x (HasWidths-zeroed b (spreading m) p) (next-zeroed b (spreading m))
+
+    by_cases : (n : ℕ) → n < length x → (n < b * m * (n % b)) ⊎ (b * m * (n % b) ≤ n)
+        → get_or (leaving_all b (zeroed b (spreading m)) x) n 0 ≡ get_or (interleaved b m x) n 0
+    by_cases n l (inl h) =
+        all.held n l h ∙ zeros_at b (spreading m) (n % b) (n / b) (mod_below n b p) (held_turn b m n h)
+        ∙ sym (get_or-interleaved b m x n l ∙ at_held b m x n h)
+    by_cases n l (inr h) = all.come n l h
+
+pub zeros_calls : (b m : ℕ) (calls : List (List ℕ)) → 0 < b
+    → leaving_calls b (zeroed b (spreading m)) calls ≡ interleaved b m (concat calls)
+zeros_calls b m calls p = leaving_calls_is b (zeroed b (spreading m)) calls ∙ zeros_give b m (concat calls) p

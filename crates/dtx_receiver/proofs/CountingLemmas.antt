@@ -1,0 +1,224 @@
+-- Runs and packets with one segment more, and at the end of a list.
+use Rattle.std.proofs.Common.{◌≡◌, ◌≢◌, ℕ, ℤ, ◌+◌, ◌*◌, ◌/◌, ◌%◌, ◌<◌, ◌⊎◌, Bool, true, false, Option, Some}
+use Rattle.std.proofs.Common.{None, List, [], ◌∷◌, ◌++◌, length, map, take, drop, refl, sym, ap, ap₂, ◌∙◌}
+use Rattle.std.proofs.Common.{append_assoc, inl, inr, arith}
+use Rattle.std.specs.Prelude.{option_to_list}
+use Rattle.std.specs.List.{range_with_len}
+use Rattle.std.proofs.lemmas.Bool.{cases_eq}
+use Rattle.std.proofs.lemmas.List.{length-append, append-nil, length-take-le, length-drop, take-append-drop}
+use Rattle.std.proofs.lemmas.List.FromFn.{length-map-range_with_len}
+use Rattle.dtx_frame.specs.Detection.{looks_like}
+use Rattle.dtx_trellis.specs.Pairs.{group_place}
+use Rattle.dtx_slice.specs.Unrolled.{level_groups, byte_back, bytes_back, precoder_bits_after}
+use Rattle.dtx_slice.proofs.JoinsLemmas.{bytes_append}
+use Rattle.dtx_receiver.specs.declared.batch.Received.{Received}
+use Rattle.dtx_receiver.specs.declared.tracking.Tracking.{Tracking}
+use Rattle.dtx_receiver.specs.declared.tracking.Tracking.TheVariants.{Searching, Began, Sync, Data, Ended}
+use Rattle.dtx_receiver.specs.Runs.{Tracked, tracked, runs, tracking, begun}
+use Rattle.dtx_receiver.specs.Bytes.{data_count, first_bits, levels_in, bytes_in}
+use Rattle.dtx_receiver.specs.Packets.{run_packets, early_of, all_packets, packets_so_far}
+use Rattle.dtx_receiver.proofs.EarlyLemmas.{early_more, end_more, packets_more}
+use Rattle.dtx_receiver.proofs.SegmentsLemmas.{still_data, still_sync, levels_grown, first_stays, some_before}
+use Rattle.dtx_receiver.proofs.FollowingLemmas.{searching, began, sync_came, ended_there, data_came}
+use Rattle.dtx_receiver.proofs.GivenLemmas.{received_given, given_on, given_end, given_none, given_first, all_run}
+use Rattle.dtx_receiver.proofs.GivenLemmas.{all_none}
+use Rattle.dtx_receiver.proofs.IntervalsLemmas.{some_segment}
+
+-- ---- how many runs
+
+pub no_segments : runs [] ≡ []
+unfolding runs tracked
+no_segments = refl
+
+pub nothing_given : packets_so_far [] ≡ []
+unfolding packets_so_far tracked
+nothing_given = refl
+
+runs_by : (s : List (List ℤ)) (t : Tracked) → tracked s ≡ t
+    → length (runs s) ≡ length t.ended + length (option_to_list t.run)
+unfolding runs
+runs_by s t e =
+    ap (λ (u : Tracked). length (u.ended ++ option_to_list u.run)) e ∙ length-append t.ended (option_to_list t.run)
+
+runs_now : (s : List (List ℤ)) (o : Option (List (List ℤ))) → (tracked s).run ≡ o
+    → length (runs s) ≡ length (tracked s).ended + length (option_to_list o)
+runs_now s o e =
+    runs_by s (tracked s) refl
+    ∙ ap (λ (p : Option (List (List ℤ))). length (tracked s).ended + length (option_to_list p)) e
+
+told_runs : (s : List (List ℤ)) (x : List ℤ) (t : Tracking) → t ≡ tracking s x
+    → length (runs (s ++ x ∷ [])) ≡ length (runs s) + begun t
+    → length (runs (s ++ x ∷ [])) ≡ length (runs s) + begun (tracking s x)
+told_runs s x t e h = h ∙ ap (λ (u : Tracking). length (runs s) + begun u) e
+
+pub runs_more : (s : List (List ℤ)) (x : List ℤ) → length (runs (s ++ x ∷ [])) ≡ length (runs s) + begun (tracking s x)
+runs_more s x = by_run (tracked s).run refl (looks_like x) refl
+  where
+    ended : ℕ
+    ended = length (tracked s).ended
+
+    by_run : (o : Option (List (List ℤ))) → (tracked s).run ≡ o → (b : Bool) → looks_like x ≡ b
+        → length (runs (s ++ x ∷ [])) ≡ length (runs s) + begun (tracking s x)
+    by_run None e false l = let t = searching s x e l in
+        told_runs s x Searching t.1 (runs_by (s ++ x ∷ []) _ t.0 ∙ omega (arith, runs_now s None e))
+    by_run None e true l = let t = began s x e l in
+        told_runs s x Began t.1 (runs_by (s ++ x ∷ []) _ t.0 ∙ omega (arith, runs_now s None e))
+    by_run (Some run) e b l = by_due (cases_eq (length run % 313) 0) b l
+      where
+        now : length (runs s) ≡ ended + 1
+        now = runs_now s (Some run) e
+
+        by_due : (length run % 313 ≡ 0) ⊎ (length run % 313 ≢ 0) → (b : Bool) → looks_like x ≡ b
+            → length (runs (s ++ x ∷ [])) ≡ length (runs s) + begun (tracking s x)
+        by_due (inr d) b l = let t = data_came s x run e d in
+            told_runs s x Data t.1 (runs_by (s ++ x ∷ []) _ t.0 ∙ omega (arith, now))
+        by_due (inl d) true l = let t = sync_came s x run e d l in
+            told_runs s x Sync t.1 (runs_by (s ++ x ∷ []) _ t.0 ∙ omega (arith, now))
+        by_due (inl d) false l = let t = ended_there s x run e d l in
+            told_runs s x Ended t.1 (runs_by (s ++ x ∷ []) _ t.0
+            ∙ omega (arith, now, length-append (tracked s).ended (run ∷ [])))
+
+-- ---- what is given
+
+-- the bytes of levels are those of their whole groups
+long_back : (s : ℕ) (f levels : List ℕ) → length (bytes_back s f levels) ≡ 207 * (4 * level_groups levels)
+unfolding bytes_back
+long_back s f levels =
+    length-map-range_with_len (byte_back s f levels) 0 (828 * level_groups levels) ∙ blocks (level_groups levels)
+  where
+    blocks : (g : ℕ) → 828 * g ≡ 207 * (4 * g)
+    blocks g = omega arith
+
+none_back : (s : ℕ) (f levels : List ℕ) → length levels < 3312 → bytes_back s f levels ≡ []
+unfolding bytes_back level_groups
+none_back s f levels l = ap (λ g. map (byte_back s f levels) (range_with_len 0 (828 * g))) (none (length levels) l)
+  where
+    none : (n : ℕ) → n < 3312 → n / 3312 ≡ 0
+    none n l = omega arith
+
+-- with levels more there may be bytes more
+pub bytes_front : (f y z : List ℕ) → (more : List ℕ) × (n : ℕ) × (length more ≡ 207 * n)
+    × (bytes_back 0 f (y ++ z) ≡ bytes_back 0 f y ++ more)
+bytes_front f y z = (
+  bytes_back (group_place 0 u) new (rest ++ z),
+  4 * level_groups (rest ++ z),
+  long_back (group_place 0 u) new (rest ++ z),
+  there,
+)
+  where
+    u : ℕ
+    u = length y / 3312
+
+    front : List ℕ
+    front = take (3312 * (length y / 3312)) y
+
+    rest : List ℕ
+    rest = drop (3312 * (length y / 3312)) y
+
+    new : List ℕ
+    new = precoder_bits_after 0 f front
+
+    parts : front ++ rest ≡ y
+    parts = take-append-drop (3312 * u) y
+
+    long : length front ≡ 3312 * u
+    long = length-take-le (3312 * u) y (omega arith)
+
+    short : length rest < 3312
+    short = omega (arith, length-drop (3312 * u) y)
+
+    own : bytes_back 0 f y ≡ bytes_back 0 f front
+    own =
+        ap (bytes_back 0 f) (sym parts) ∙ bytes_append 0 u f front rest long
+        ∙ ap (λ xs. bytes_back 0 f front ++ xs) (none_back (group_place 0 u) new rest short)
+        ∙ append-nil (bytes_back 0 f front)
+
+    there : bytes_back 0 f (y ++ z) ≡ bytes_back 0 f y ++ bytes_back (group_place 0 u) new (rest ++ z)
+    there =
+        ap (λ xs. bytes_back 0 f (xs ++ z)) (sym parts) ∙ ap (bytes_back 0 f) (append_assoc front rest z)
+        ∙ bytes_append 0 u f front (rest ++ z) long
+        ∙ ap (λ xs. xs ++ bytes_back (group_place 0 u) new (rest ++ z)) (sym own)
+
+pub bytes_count : (run : List (List ℤ)) → length (bytes_in run) ≡ 207 * (4 * level_groups (levels_in run))
+unfolding bytes_in
+bytes_count run = long_back 0 (first_bits run) (levels_in run)
+
+abbrev More : List Received → List Received → Type 0
+More after before = (brought : List Received) × (after ≡ before ++ brought)
+
+early_front : (run new : List (List ℤ)) (z : List ℕ) → first_bits new ≡ first_bits run
+    → levels_in new ≡ levels_in run ++ z → More (early_of (bytes_in new)) (early_of (bytes_in run))
+unfolding bytes_in
+early_front run new z e f =
+    let b = bytes_front (first_bits run) (levels_in run) z in
+    let m = early_more (bytes_in run) b.0 (4 * level_groups (levels_in run)) b.1 (bytes_count run) b.2 in
+    (_, ap early_of (ap₂ (λ g y. bytes_back 0 g y) e f ∙ b.3) ∙ m)
+
+early_data : (run : List (List ℤ)) (x : List ℤ) → length run % 313 ≢ 0
+    → More (early_of (bytes_in (run ++ x ∷ []))) (early_of (bytes_in run))
+early_data run x n = by_part (cases_eq (data_count run % 4) 3)
+  where
+    by_part : (data_count run % 4 ≡ 3) ⊎ (data_count run % 4 ≢ 3)
+        → More (early_of (bytes_in (run ++ x ∷ []))) (early_of (bytes_in run))
+    by_part (inl p) = early_front run (run ++ x ∷ []) _ (first_stays run x (some_before run n)) (levels_grown run x n p)
+    by_part (inr p) = ([], ap early_of (still_data run x n p).bytes ∙ sym (append-nil (early_of (bytes_in run))))
+
+whole_front : (run new : List (List ℤ)) (z : List ℕ) → first_bits new ≡ first_bits run
+    → levels_in new ≡ levels_in run ++ z → More (run_packets (bytes_in new)) (run_packets (bytes_in run))
+unfolding bytes_in
+whole_front run new z e f =
+    let b = bytes_front (first_bits run) (levels_in run) z in
+    let m = packets_more (bytes_in run) b.0 (4 * level_groups (levels_in run)) b.1 (bytes_count run) b.2 in
+    (m.0, ap run_packets (ap₂ (λ g y. bytes_back 0 g y) e f ∙ b.3) ∙ m.1)
+
+-- the packets of a run with one segment more
+pub whole_more : (run : List (List ℤ)) (x : List ℤ) → 0 < length run
+    → More (run_packets (bytes_in (run ++ x ∷ []))) (run_packets (bytes_in run))
+whole_more run x some = by_place (cases_eq (length run % 313) 0) (cases_eq (data_count run % 4) 3)
+  where
+    same : bytes_in (run ++ x ∷ []) ≡ bytes_in run
+        → More (run_packets (bytes_in (run ++ x ∷ []))) (run_packets (bytes_in run))
+    same e = ([], ap run_packets e ∙ sym (append-nil (run_packets (bytes_in run))))
+
+    by_place : (length run % 313 ≡ 0) ⊎ (length run % 313 ≢ 0) → (data_count run % 4 ≡ 3) ⊎ (data_count run % 4 ≢ 3)
+        → More (run_packets (bytes_in (run ++ x ∷ []))) (run_packets (bytes_in run))
+    by_place (inl d) p = same (still_sync run x some d).bytes
+    by_place (inr n) (inl p) =
+        whole_front run (run ++ x ∷ []) _ (first_stays run x some) (levels_grown run x n p)
+    by_place (inr n) (inr p) = same (still_data run x n p).bytes
+
+pub given_more : (s : List (List ℤ)) (x : List ℤ) → More (packets_so_far (s ++ x ∷ [])) (packets_so_far s)
+given_more s x = by_run (tracked s).run refl (looks_like x) refl
+  where
+    by_run : (o : Option (List (List ℤ))) → (tracked s).run ≡ o → (b : Bool) → looks_like x ≡ b
+        → More (packets_so_far (s ++ x ∷ [])) (packets_so_far s)
+    by_run None e false l = ([], given_none received_given s x e (searching s x e l).0)
+    by_run None e true l = ([], given_first received_given s x e (began s x e l).0)
+    by_run (Some run) e b l = by_due (cases_eq (length run % 313) 0) b l
+      where
+        by_due : (length run % 313 ≡ 0) ⊎ (length run % 313 ≢ 0) → (b : Bool) → looks_like x ≡ b
+            → More (packets_so_far (s ++ x ∷ [])) (packets_so_far s)
+        by_due (inr d) b l = let m = early_data run x d in
+            (m.0, given_on received_given s x run (run ++ x ∷ []) m.0 e (data_came s x run e d).0 m.1)
+        by_due (inl d) true l = (
+          [],
+          given_on received_given s x run (run ++ x ∷ []) [] e (sync_came s x run e d l).0
+              (ap early_of (still_sync run x (some_segment s run e) d).bytes
+              ∙ sym (append-nil (early_of (bytes_in run)))),
+        )
+        by_due (inl d) false l = (
+          _,
+          given_end received_given s x run _ e (ended_there s x run e d l).0
+              (end_more (bytes_in run) (4 * level_groups (levels_in run)) (bytes_count run)),
+        )
+
+pub all_more : (s : List (List ℤ)) → More (all_packets s) (packets_so_far s)
+all_more s = by_run (tracked s).run refl
+  where
+    by_run : (o : Option (List (List ℤ))) → (tracked s).run ≡ o → More (all_packets s) (packets_so_far s)
+    by_run None e = ([], all_none received_given s e)
+    by_run (Some run) e = (
+      _,
+      all_run received_given s run _ e
+          (end_more (bytes_in run) (4 * level_groups (levels_in run)) (bytes_count run)),
+    )

@@ -1,0 +1,127 @@
+-- What is given of runs with one segment more, whichever packets a run gives.
+use Rattle.std.proofs.Common.{◌≡◌, ℤ, Option, Some, None, List, [], ◌∷◌, ◌++◌, refl, sym, ap, ◌∙◌, append_assoc}
+use Rattle.std.specs.Prelude.{option_to_list}
+use Rattle.std.specs.List.{flat_map}
+use Rattle.std.proofs.lemmas.List.{append-nil}
+use Rattle.std.proofs.lemmas.Grind.{flat_map-append}
+use Rattle.dtx_receiver.specs.declared.batch.Received.{Received}
+use Rattle.dtx_receiver.specs.Runs.{Tracked, tracked, runs}
+use Rattle.dtx_receiver.specs.Bytes.{bytes_in}
+use Rattle.dtx_receiver.specs.Packets.{run_packets, early_of, all_packets, packets_so_far}
+use Rattle.dtx_receiver.proofs.EarlyLemmas.{early_nothing}
+use Rattle.dtx_receiver.proofs.SegmentsLemmas.{first_bytes}
+
+abbrev Packets : Type 0
+Packets = List (List ℤ) → List Received
+
+-- `given` are the packets of a list that are given before it ends, and `all` those of the whole list, where a run gives
+-- `early` while it is on, none of them for its first segment, and `whole` with its end.
+pub record AreGiven (whole early given all : List (List ℤ) → List Received) : Type 0 where
+  pub first : (x : List ℤ) → early (x ∷ []) ≡ []
+  pub so_far : (s : List (List ℤ)) → given s ≡ flat_map whole (tracked s).ended
+      ++ flat_map early (option_to_list (tracked s).run)
+  pub ended : (s : List (List ℤ)) → all s ≡ flat_map whole (runs s)
+
+-- a receiver's
+pub received_given : AreGiven (λ run. run_packets (bytes_in run)) (λ run. early_of (bytes_in run)) packets_so_far
+    all_packets
+unfolding packets_so_far all_packets
+received_given = record {
+  first = λ x. ap early_of (first_bytes x) ∙ early_nothing;
+  so_far = λ s. refl;
+  ended = λ s. refl;
+}
+
+given_with : Packets → Packets → List (List (List ℤ)) → Option (List (List ℤ)) → List Received
+given_with whole early ended o = flat_map whole ended ++ flat_map early (option_to_list o)
+
+given_is : {whole early given all : Packets} (g : AreGiven whole early given all) (s : List (List ℤ)) (t : Tracked)
+    → tracked s ≡ t → given s ≡ given_with whole early t.ended t.run
+unfolding given_with
+given_is {whole} {early} g s t e = g.so_far s ∙ ap (λ (u : Tracked). given_with whole early u.ended u.run) e
+
+some_is : (whole early : Packets) (ended : List (List (List ℤ))) (run : List (List ℤ))
+    → given_with whole early ended (Some run) ≡ flat_map whole ended ++ early run
+unfolding given_with
+some_is whole early ended run = ap (λ xs. flat_map whole ended ++ xs) (append-nil (early run))
+
+none_is : (whole early : Packets) (ended : List (List (List ℤ)))
+    → given_with whole early ended None ≡ flat_map whole ended
+unfolding given_with
+none_is whole early ended = append-nil (flat_map whole ended)
+
+given_run : {whole early given all : Packets} (g : AreGiven whole early given all) (s : List (List ℤ))
+    (run : List (List ℤ)) → (tracked s).run ≡ Some run
+    → given s ≡ flat_map whole (tracked s).ended ++ early run
+given_run {whole} {early} g s run e =
+    given_is g s (tracked s) refl ∙ ap (given_with whole early (tracked s).ended) e
+    ∙ some_is whole early (tracked s).ended run
+
+given_off : {whole early given all : Packets} (g : AreGiven whole early given all) (s : List (List ℤ))
+    → (tracked s).run ≡ None → given s ≡ flat_map whole (tracked s).ended
+given_off {whole} {early} g s e =
+    given_is g s (tracked s) refl ∙ ap (given_with whole early (tracked s).ended) e
+    ∙ none_is whole early (tracked s).ended
+
+pub given_on : {whole early given all : Packets} (g : AreGiven whole early given all) (s : List (List ℤ)) (x : List ℤ)
+    (run new : List (List ℤ)) (brought : List Received) → (tracked s).run ≡ Some run
+    → tracked (s ++ x ∷ []) ≡ record { ended = (tracked s).ended; run = Some new }
+    → early new ≡ early run ++ brought → given (s ++ x ∷ []) ≡ given s ++ brought
+given_on {whole} {early} g s x run new brought e f h =
+    given_is g (s ++ x ∷ []) (record { ended = (tracked s).ended; run = Some new }) f
+    ∙ some_is whole early (tracked s).ended new
+    ∙ ap (λ xs. flat_map whole (tracked s).ended ++ xs) h
+    ∙ sym (append_assoc (flat_map whole (tracked s).ended) (early run) brought)
+    ∙ ap (λ xs. xs ++ brought) (sym (given_run g s run e))
+
+whole_run : {whole early given all : Packets} (g : AreGiven whole early given all) (s : List (List ℤ))
+    (run : List (List ℤ)) (brought : List Received) → (tracked s).run ≡ Some run → whole run ≡ early run ++ brought
+    → flat_map whole ((tracked s).ended ++ run ∷ []) ≡ given s ++ brought
+whole_run {whole} {early} g s run brought e h =
+    flat_map-append whole (tracked s).ended (run ∷ [])
+    ∙ ap (λ xs. flat_map whole (tracked s).ended ++ xs) (append-nil (whole run) ∙ h)
+    ∙ sym (append_assoc (flat_map whole (tracked s).ended) (early run) brought)
+    ∙ ap (λ xs. xs ++ brought) (sym (given_run g s run e))
+
+pub given_end : {whole early given all : Packets} (g : AreGiven whole early given all) (s : List (List ℤ)) (x : List ℤ)
+    (run : List (List ℤ)) (brought : List Received) → (tracked s).run ≡ Some run
+    → tracked (s ++ x ∷ []) ≡ record { ended = (tracked s).ended ++ run ∷ []; run = None }
+    → whole run ≡ early run ++ brought → given (s ++ x ∷ []) ≡ given s ++ brought
+given_end {whole} {early} g s x run brought e f h =
+    given_is g (s ++ x ∷ []) (record { ended = (tracked s).ended ++ run ∷ []; run = None }) f
+    ∙ none_is whole early ((tracked s).ended ++ run ∷ []) ∙ whole_run g s run brought e h
+
+pub given_none : {whole early given all : Packets} (g : AreGiven whole early given all) (s : List (List ℤ))
+    (x : List ℤ) → (tracked s).run ≡ None → tracked (s ++ x ∷ []) ≡ record { ended = (tracked s).ended; run = None }
+    → given (s ++ x ∷ []) ≡ given s ++ []
+given_none {whole} {early} {given} g s x e f =
+    given_is g (s ++ x ∷ []) (record { ended = (tracked s).ended; run = None }) f
+    ∙ none_is whole early (tracked s).ended ∙ sym (given_off g s e) ∙ sym (append-nil (given s))
+
+pub given_first : {whole early given all : Packets} (g : AreGiven whole early given all) (s : List (List ℤ))
+    (x : List ℤ) → (tracked s).run ≡ None
+    → tracked (s ++ x ∷ []) ≡ record { ended = (tracked s).ended; run = Some (x ∷ []) }
+    → given (s ++ x ∷ []) ≡ given s ++ []
+given_first {whole} {early} {given} g s x e f =
+    given_is g (s ++ x ∷ []) (record { ended = (tracked s).ended; run = Some (x ∷ []) }) f
+    ∙ some_is whole early (tracked s).ended (x ∷ [])
+    ∙ ap (λ xs. flat_map whole (tracked s).ended ++ xs) (g.first x)
+    ∙ append-nil (flat_map whole (tracked s).ended) ∙ sym (given_off g s e) ∙ sym (append-nil (given s))
+
+-- with the end of the list
+pub all_run : {whole early given all : Packets} (g : AreGiven whole early given all) (s : List (List ℤ))
+    (run : List (List ℤ)) (brought : List Received) → (tracked s).run ≡ Some run → whole run ≡ early run ++ brought
+    → all s ≡ given s ++ brought
+unfolding runs
+all_run {whole} g s run brought e h =
+    g.ended s
+    ∙ ap (λ (o : Option (List (List ℤ))). flat_map whole ((tracked s).ended ++ option_to_list o)) e
+    ∙ whole_run g s run brought e h
+
+pub all_none : {whole early given all : Packets} (g : AreGiven whole early given all) (s : List (List ℤ))
+    → (tracked s).run ≡ None → all s ≡ given s ++ []
+unfolding runs
+all_none {whole} {early} {given} g s e =
+    g.ended s
+    ∙ ap (λ (o : Option (List (List ℤ))). flat_map whole ((tracked s).ended ++ option_to_list o)) e
+    ∙ ap (flat_map whole) (append-nil (tracked s).ended) ∙ sym (given_off g s e) ∙ sym (append-nil (given s))

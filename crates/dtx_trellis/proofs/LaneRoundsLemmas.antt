@@ -1,0 +1,318 @@
+-- A round of the coders side by side, by the definitions.
+use Rattle.std.proofs.Common.{◌≡◌, ◌≢◌, Bool, true, false, ◌⊎◌, inl, inr, ℕ, ◌-◌, ◌+◌, ◌*◌, ◌/◌, ◌%◌, ◌<◌, ◌≤◌, ◌==◌}
+use Rattle.std.proofs.Common.{ltb, ℤ, pos, List, length, get_or, sym, ap, ap₂, ◌∙◌, subst, arith}
+use Rattle.std.proofs.lemmas.Bool.{cases_lt, cond-true, cond_both, eq-eqb, eqb-true, false≢true, lt-ltb}
+use Rattle.dtx_trellis.specs.Trellis.{AreBits, level_of, next_of, number_of, state_of, symbol_of}
+use Rattle.dtx_trellis.specs.Pairs.{byte_place, pair_in, coder_at}
+use Rattle.dtx_trellis.specs.Groups.{AreSent, coder_after, level_at, sent_place}
+use Rattle.dtx_trellis.specs.Lanes.{coder_turned, turn, AreNibbles, HoldsBytes, HoldsPairs, HoldsRound, HoldsStates}
+use Rattle.dtx_trellis.specs.Lanes.{IsMovedOn, StandsAt, behind_both, came_from, lane_behind, level_told, pair_taken}
+use Rattle.dtx_trellis.specs.Lanes.{turned_place}
+use Rattle.dtx_trellis.proofs.CodersLemmas.{coder_is, one_group, pair_0, pair_1, pair_2, pair_3}
+use Rattle.dtx_trellis.proofs.RoundsLemmas.{IsGroup, coder_next, level_next, coder_bits}
+use Rattle.dtx_trellis.proofs.LaneStepsLemmas.{level_behind, lower_both, state_behind, state_eq, turned_small}
+use Rattle.dtx_trellis.proofs.LaneStepsLemmas.{upper_both}
+
+pub place_coder : (s r p : ℕ) → p < 12 → coder_turned (turn s r) p ≡ coder_at s (12 * r + p)
+unfolding coder_turned turn
+place_coder s r p l = sym (coder_is s r p l)
+
+bits_after : (s r e : ℕ) (states bytes : List ℕ) → IsGroup s bytes → r < 276 → AreBits (coder_after s states bytes r e)
+bits_after s r e states bytes g l = coder_bits s e r states bytes (omega (arith, one_group bytes g.long))
+
+-- lanes that stand behind a round
+pub behind_round : (s r x : ℕ) (states bytes lanes : List ℕ) → IsGroup s bytes → r < 276 → AreNibbles lanes
+    → ((p : ℕ) → p < 12 → get_or lanes p 0
+    ≡ lane_behind (coder_after s states bytes r (coder_turned x p)) (pair_taken s bytes r (coder_turned x p)))
+    → HoldsRound s states bytes r x lanes
+behind_round s r x states bytes lanes g l n f = record {
+  behind = record {
+    nibbles = n;
+    at = λ p m. ap state_of (f p m) ∙ state_behind (coder_after s states bytes r (coder_turned x p))
+        (pair_taken s bytes r (coder_turned x p)) (bits p)
+        ∙ sym (coder_next s r (coder_turned x p) states bytes g l);
+  };
+  levels = λ p m. ap level_told (f p m) ∙ level_behind (coder_after s states bytes r (coder_turned x p))
+      (pair_taken s bytes r (coder_turned x p)) (bits p);
+}
+  where
+    bits : (p : ℕ) → AreBits (coder_after s states bytes r (coder_turned x p))
+    bits p = bits_after s r (coder_turned x p) states bytes g l
+
+-- what two rounds take, and what two look-ups give
+pub record TwoRounds (s r x : ℕ) (states bytes lanes pairs both : List ℕ) : Type 0 where
+  pub group : IsGroup s bytes
+  pub round : r + 1 < 276
+  pub held : HoldsStates s states bytes r x lanes
+  pub taken : HoldsPairs s bytes r x pairs
+  pub give : (p : ℕ) → p < 16 → get_or both p 0 ≡ behind_both (get_or lanes p 0) (get_or pairs p 0)
+
+pub first_round : (s r x : ℕ) (states bytes lanes pairs both upper : List ℕ)
+    → TwoRounds s r x states bytes lanes pairs both → AreNibbles upper
+    → ((p : ℕ) → p < 16 → get_or upper p 0 ≡ get_or both p 0 / 16) → HoldsRound s states bytes r x upper
+first_round s r x states bytes lanes pairs both upper h n f =
+    behind_round s r x states bytes upper h.group (omega (arith, h.round)) n
+    (λ p l. f p (omega arith) ∙ ap (λ y. y / 16) (h.give p (omega arith))
+    ∙ upper_both (get_or lanes p 0) (get_or pairs p 0) ∙ ap₂ lane_behind (h.held.at p l) (h.taken.first p l))
+
+pub second_round : (s r x : ℕ) (states bytes lanes pairs both lower : List ℕ)
+    → TwoRounds s r x states bytes lanes pairs both → AreNibbles lower
+    → ((p : ℕ) → p < 16 → get_or lower p 0 ≡ get_or both p 0 % 16) → HoldsRound s states bytes (r + 1) x lower
+second_round s r x states bytes lanes pairs both lower h n f =
+    behind_round s (r + 1) x states bytes lower h.group h.round n
+    (λ p l. f p (omega arith) ∙ ap (λ y. y % 16) (h.give p (omega arith))
+    ∙ lower_both (get_or lanes p 0) (get_or pairs p 0)
+    ∙ ap₂ (λ q y. lane_behind (next_of q (y / 2) (y % 2)) (get_or pairs p 0 % 4)) (h.held.at p l) (h.taken.first p l)
+    ∙ ap₂ lane_behind (sym (coder_next s r (coder_turned x p) states bytes h.group (omega (arith, h.round))))
+    (h.taken.second p l))
+
+-- the level of each lane is that of its data symbol
+pub round_level : (s r p : ℕ) (states bytes lanes : List ℕ) → IsGroup s bytes → r < 276 → p < 12
+    → HoldsRound s states bytes r (turn s r) lanes
+    → level_told (get_or lanes p 0) ≡ level_at s states bytes (12 * r + p)
+round_level s r p states bytes lanes g l m h =
+    h.levels p m
+    ∙ ap (λ e. level_of (coder_after s states bytes r e) (pair_taken s bytes r e / 2) (pair_taken s bytes r e % 2))
+    (place_coder s r p m)
+    ∙ sym (level_next s r p states bytes g l m)
+
+-- where round t begins a segment, each place has the coder of the place four further on
+turned_coder : (s t p : ℕ) → t % 69 ≡ 0 → 0 < t → p < 12
+    → coder_turned (turn s t) p ≡ coder_turned (turn s (t - 1)) ((p + 4) % 12)
+unfolding coder_turned turn
+turned_coder s t p e z l =
+    let n : t / 69 ≡ (t - 1) / 69 + 1 = omega arith in
+    ap (λ i. (p + 4 * ((s + i) % 3)) % 12) n ∙ moved ((t - 1) / 69)
+  where
+    moved : (i : ℕ) → (p + 4 * ((s + (i + 1)) % 3)) % 12 ≡ ((p + 4) % 12 + 4 * ((s + i) % 3)) % 12
+    moved i = omega arith
+
+pub same_turn : (s t : ℕ) → t % 69 ≢ 0 → turn s t ≡ turn s (t - 1)
+unfolding turn
+same_turn s t m = ap (λ i. (s + i) % 3) (inside t m)
+  where
+    inside : (t : ℕ) → t % 69 ≢ 0 → t / 69 ≡ (t - 1) / 69
+    inside t m = omega arith
+
+-- the first round of a byte group begins no segment but the first
+pub first_turn : (s h : ℕ) → h < 69 → turn s (4 * h) ≡ turn s (4 * h - 1)
+unfolding turn
+first_turn s h l = ap (λ i. (s + i) % 3) (inside h l)
+  where
+    inside : (h : ℕ) → h < 69 → 4 * h / 69 ≡ (4 * h - 1) / 69
+    inside h l = omega arith
+
+-- the twelve bytes of byte group h
+pub loaded_bytes : (s h : ℕ) (bytes v : List ℕ) → length v ≡ 16
+    → ((p : ℕ) → p < 12 → get_or v p 0 ≡ get_or bytes (12 * h + p) 0) → HoldsBytes s bytes (4 * h) (turn s (4 * h)) v
+unfolding byte_place coder_turned turn
+loaded_bytes s h bytes v k f = record {
+  long = k;
+  at = λ p l. f p l ∙ ap (λ i. get_or bytes i 0) (place p l);
+}
+  where
+    back : (p x : ℕ) → p < 12 → ((p + 4 * (x % 3)) % 12 + 12 - 4 * (x % 3)) % 12 ≡ p
+    back p x l = omega arith
+
+    place : (p : ℕ) → p < 12
+        → 12 * h + p ≡ 12 * (4 * h / 4) + ((p + 4 * ((s + 4 * h / 69) % 3)) % 12 + 12 - 4 *
+        ((s + 4 * (4 * h / 4) / 69) % 3)) % 12
+    place p l =
+        let e : 4 * h / 4 ≡ h = omega arith in
+        ap (λ x. 12 * h + x) (sym (back p (s + 4 * h / 69) l))
+        ∙ ap (λ x. 12 * x + ((p + 4 * ((s + 4 * h / 69) % 3)) % 12 + 12 - 4 * ((s + 4 * x / 69) % 3)) % 12) (sym e)
+
+-- place p has its coder from place q
+abbrev Comes : ℕ → ℕ → ℕ → ℕ → Type 0
+Comes s t p q = (q < 12) × (coder_turned (turn s t) p ≡ coder_turned (turn s (t - 1)) q)
+
+-- lanes that are moved on: each place has the lane of its coder
+came_small : (t p : ℕ) → p < 16 → came_from t p < 16
+came_small t p l = cond_both (t % 69 == 0) (turned_place p) p (λ y. y < 16) (λ _. turned_small p l) (λ _. l)
+
+came_coder : (s t p : ℕ) → 0 < t → p < 12
+    → (came_from t p < 12) × (coder_turned (turn s t) p ≡ coder_turned (turn s (t - 1)) (came_from t p))
+came_coder s t p z l =
+    cond_both (t % 69 == 0) (turned_place p) p (Comes s t p)
+    (λ e. subst (Comes s t p) (sym (cond-true (ltb p 12) ((p + 4) % 12) p (lt-ltb p 12 l)))
+    (omega arith, turned_coder s t p (eqb-true (t % 69) 0 e) z l))
+    (λ e. (l, ap (λ x. coder_turned x p) (same_turn s t (λ m. false≢true (sym e ∙ eq-eqb (t % 69) 0 m)))))
+
+pub moved_states : (s t u : ℕ) (states bytes v w : List ℕ) → 0 < t → IsMovedOn t v w
+    → HoldsStates s states bytes u (turn s (t - 1)) v → HoldsStates s states bytes u (turn s t) w
+moved_states s t u states bytes v w z m h = record {
+  nibbles = record {
+    long = m.long;
+    small = λ p l. subst (λ y. y < 16) (sym (m.at p l)) (h.nibbles.small (came_from t p) (came_small t p l));
+  };
+  at = λ p l.
+      let c = came_coder s t p z l in
+      ap state_of (m.at p (omega arith)) ∙ h.at (came_from t p) c.0 ∙ ap (coder_after s states bytes u) (sym c.1);
+}
+
+pub moved_round : (s t r : ℕ) (states bytes v w : List ℕ) → 0 < t → IsMovedOn t v w
+    → HoldsRound s states bytes r (turn s (t - 1)) v → HoldsRound s states bytes r (turn s t) w
+moved_round s t r states bytes v w z m h = record {
+  behind = moved_states s t (r + 1) states bytes v w z m h.behind;
+  levels = λ p l.
+      let c = came_coder s t p z l in
+      ap level_told (m.at p (omega arith)) ∙ h.levels (came_from t p) c.0
+      ∙ ap (λ e. level_of (coder_after s states bytes r e) (pair_taken s bytes r e / 2) (pair_taken s bytes r e % 2))
+      (sym c.1);
+}
+
+pub moved_bytes : (s t r : ℕ) (bytes v w : List ℕ) → 0 < t → IsMovedOn t v w
+    → HoldsBytes s bytes r (turn s (t - 1)) v → HoldsBytes s bytes r (turn s t) w
+moved_bytes s t r bytes v w z m h = record {
+  long = m.long;
+  at = λ p l.
+      let c = came_coder s t p z l in
+      m.at p (omega arith) ∙ h.at (came_from t p) c.0 ∙ ap (λ e. get_or bytes (byte_place s r e) 0) (sym c.1);
+}
+
+-- the second of two rounds, which may begin a segment
+pub second_moved : (s r : ℕ) (states bytes lanes pairs both lower behind : List ℕ)
+    → TwoRounds s r (turn s r) states bytes lanes pairs both → AreNibbles lower
+    → ((p : ℕ) → p < 16 → get_or lower p 0 ≡ get_or both p 0 % 16) → IsMovedOn (r + 1) lower behind
+    → HoldsRound s states bytes (r + 1) (turn s (r + 1)) behind
+second_moved s r states bytes lanes pairs both lower behind h n f m =
+    let e : r ≡ r + 1 - 1 = omega arith in
+    moved_round s (r + 1) (r + 1) states bytes lower behind (omega arith) m
+    (subst (λ t. HoldsRound s states bytes (r + 1) (turn s t) lower) e
+    (second_round s r (turn s r) states bytes lanes pairs both lower h n f))
+
+-- the pairs of the four rounds of byte group h
+byte_later : (s h r e : ℕ) → r / 4 ≡ h → byte_place s (4 * h) e ≡ byte_place s r e
+unfolding byte_place
+byte_later s h r e f =
+    ap (λ k. 12 * k + (e + 12 - 4 * ((s + 4 * k / 69) % 3)) % 12) (whole h ∙ sym f)
+  where
+    whole : (h : ℕ) → 4 * h / 4 ≡ h
+    whole h = omega arith
+
+pub upper_pairs : (s h x : ℕ) (bytes v w : List ℕ) → HoldsBytes s bytes (4 * h) x v
+    → AreNibbles w → ((p : ℕ) → p < 16 → get_or w p 0 ≡ get_or v p 0 / 16) → HoldsPairs s bytes (4 * h) x w
+upper_pairs s h x bytes v w held n f = record {
+  nibbles = n;
+  first = λ p l. ap (λ y. y / 4) (f p (omega arith))
+      ∙ high (get_or v p 0) (subst (λ y. y < 16) (f p (omega arith)) (n.small p (omega arith)))
+      ∙ ap (λ y. y / 64 % 4) (held.at p l) ∙ pair_0 (byte p) (4 * h) (omega arith);
+  second = λ p l. ap (λ y. y % 4) (f p (omega arith)) ∙ ap (λ y. y / 16 % 4) (held.at p l)
+      ∙ pair_1 (byte p) (4 * h + 1) (omega arith)
+      ∙ ap (λ i. pair_in (get_or bytes i 0) (4 * h + 1)) (byte_later s h (4 * h + 1) (coder_turned x p) (omega arith));
+}
+  where
+    byte : ℕ → ℕ
+    byte p = get_or bytes (byte_place s (4 * h) (coder_turned x p)) 0
+
+    high : (b : ℕ) → b / 16 < 16 → b / 16 / 4 ≡ b / 64 % 4
+    high b l = omega arith
+
+pub lower_pairs : (s h x : ℕ) (bytes v w : List ℕ) → HoldsBytes s bytes (4 * h) x v → AreNibbles w
+    → ((p : ℕ) → p < 16 → get_or w p 0 ≡ get_or v p 0 % 16) → HoldsPairs s bytes (4 * h + 2) x w
+lower_pairs s h x bytes v w held n f = record {
+  nibbles = n;
+  first = λ p l. ap (λ y. y / 4) (f p (omega arith)) ∙ middle (get_or v p 0) ∙ ap (λ y. y / 4 % 4) (held.at p l)
+      ∙ pair_2 (byte p) (4 * h + 2) (omega arith)
+      ∙ ap (λ i. pair_in (get_or bytes i 0) (4 * h + 2)) (byte_later s h (4 * h + 2) (coder_turned x p) (omega arith));
+  second = λ p l. ap (λ y. y % 4) (f p (omega arith)) ∙ low (get_or v p 0) ∙ ap (λ y. y % 4) (held.at p l)
+      ∙ pair_3 (byte p) (4 * h + 2 + 1) (omega arith)
+      ∙ ap (λ i. pair_in (get_or bytes i 0) (4 * h + 2 + 1))
+      (byte_later s h (4 * h + 2 + 1) (coder_turned x p) (omega arith));
+}
+  where
+    byte : ℕ → ℕ
+    byte p = get_or bytes (byte_place s (4 * h) (coder_turned x p)) 0
+
+    middle : (b : ℕ) → b % 16 / 4 ≡ b / 4 % 4
+    middle b = omega arith
+
+    low : (b : ℕ) → b % 16 % 4 ≡ b % 4
+    low b = omega arith
+
+-- the coder at place p in the first segment of a group, and in the last
+pub first_coder : (s p : ℕ) → coder_turned (turn s 0) p ≡ (p + 4 * (s % 3)) % 12
+unfolding coder_turned turn
+first_coder s p = omega arith
+
+pub last_place : (s e : ℕ) → e < 12 → coder_turned (turn s 275) ((e + 12 - 4 * (s % 3)) % 12) ≡ e
+unfolding coder_turned turn
+last_place s e l = omega arith
+
+pub state_low : (n : ℕ) → state_of (n % 8) ≡ state_of n
+state_low n = state_eq (state_of (n % 8)) (state_of n) (omega arith) (omega arith) (omega arith)
+
+-- the number of coder e's state behind the last round
+pub number_end : (s e : ℕ) (states bytes lanes : List ℕ) → e < 12
+    → HoldsStates s states bytes 276 (turn s 275) lanes
+    → get_or lanes ((e + 12 - 4 * (s % 3)) % 12) 0 % 8 ≡ number_of (coder_after s states bytes 276 e)
+number_end s e states bytes lanes l h =
+    number_is (get_or lanes ((e + 12 - 4 * (s % 3)) % 12) 0)
+    ∙ ap number_of (h.at ((e + 12 - 4 * (s % 3)) % 12) (omega arith)
+    ∙ ap (coder_after s states bytes 276) (last_place s e l))
+  where
+    number_is : (n : ℕ) → n % 8 ≡ number_of (state_of n)
+    number_is n = omega arith
+
+-- where a round is sent
+pub round_place : (r : ℕ) → 12 * r + 4 * (r / 69 + 1) ≡ sent_place (12 * r)
+unfolding sent_place
+round_place r = omega arith
+
+-- the symbols of one more round
+pub sent_more : (s r : ℕ) (states bytes : List ℕ) (before symbols : List ℤ) → AreSent s states bytes (12 * r) before
+    → ((i : ℕ) → i < sent_place (12 * r) → get_or symbols i (pos 0) ≡ get_or before i (pos 0))
+    → ((p : ℕ) → p < 12
+    → get_or symbols (sent_place (12 * r) + p) (pos 0) ≡ symbol_of (level_at s states bytes (12 * r + p)))
+    → AreSent s states bytes (12 * (r + 1)) symbols
+unfolding AreSent sent_place
+sent_more s r states bytes before symbols h kept given d l = by_cases (cases_lt d (12 * r))
+  where
+    earlier : d < 12 * r → d + 4 * (d / 828 + 1) < 12 * r + 4 * (12 * r / 828 + 1)
+    earlier k = omega arith
+
+    back : 12 * r ≤ d → 12 * r + (d - 12 * r) ≡ d
+    back k = omega arith
+
+    place : 12 * r ≤ d → 12 * r + 4 * (12 * r / 828 + 1) + (d - 12 * r) ≡ d + 4 * (d / 828 + 1)
+    place k = omega arith
+
+    by_cases : (d < 12 * r) ⊎ (12 * r ≤ d)
+        → get_or symbols (d + 4 * (d / 828 + 1)) (pos 0) ≡ symbol_of (level_at s states bytes d)
+    by_cases (inl k) = kept (d + 4 * (d / 828 + 1)) (earlier k) ∙ h d k
+    by_cases (inr k) =
+        subst (λ i. get_or symbols i (pos 0) ≡ symbol_of (level_at s states bytes d)) (place k)
+        (subst (λ n. get_or symbols (12 * r + 4 * (12 * r / 828 + 1) + (d - 12 * r)) (pos 0)
+        ≡ symbol_of (level_at s states bytes n)) (back k) (given (d - 12 * r) (omega arith)))
+
+pub none_sent : (s : ℕ) (states bytes : List ℕ) (symbols : List ℤ) → AreSent s states bytes 0 symbols
+unfolding AreSent
+none_sent s states bytes symbols d l = absurd (omega arith)
+
+-- behind the four rounds of byte h
+pub stands_next : (s h : ℕ) (states bytes lanes : List ℕ) (symbols : List ℤ)
+    → HoldsStates s states bytes (4 * h + 2 + 2) (turn s (4 * h + 2 + 1)) lanes
+    → AreSent s states bytes (12 * (4 * h + 2 + 2)) symbols → StandsAt s states bytes (h + 1) lanes symbols
+stands_next s h states bytes lanes symbols held sent =
+    let e : 4 * h + 2 + 2 ≡ 4 * (h + 1) = omega arith in
+    let f : 4 * h + 2 + 1 ≡ 4 * (h + 1) - 1 = omega arith in
+    record {
+      held = subst (λ t. HoldsStates s states bytes t (turn s (4 * (h + 1) - 1)) lanes) e
+          (subst (λ t. HoldsStates s states bytes (4 * h + 2 + 2) (turn s t) lanes) f held);
+      sent = subst (λ t. AreSent s states bytes (12 * t) symbols) e sent;
+    }
+
+-- the rounds of byte h of each coder, where it stands within segment g and doesn't begin it
+pub inside : (h g k : ℕ) → g < 4 → 17 * g < h → h < 17 * (g + 1) → k < 4
+    → ((4 * h + k) / 69 ≡ g) × ((4 * h + k) % 69 ≢ 0)
+inside h g k l m n o = (omega arith, λ e. omega arith)
+
+pub inside_turn : (s h g k : ℕ) → g < 4 → 17 * g < h → h < 17 * (g + 1) → k < 4 → turn s (4 * h) ≡ turn s (4 * h + k)
+unfolding turn
+inside_turn s h g k l m n o = ap (λ i. (s + i) % 3) (none ∙ sym (inside h g k l m n o).0)
+  where
+    none : 4 * h / 69 ≡ g
+    none = omega arith
+
+pub not_both : (b : Bool) {P : Type 0} → b ≡ false → (P → b ≡ true) → P → ⊥
+not_both b f g p = false≢true (sym f ∙ g p)

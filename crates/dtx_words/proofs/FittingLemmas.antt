@@ -1,0 +1,141 @@
+-- Lemmas of the command that the words fit: it is the one that they fit, and there is no other.
+use Rattle.std.specs.Prelude.{◌≡◌, ℕ, Bool, true, false, ◌&&◌, cond, codes, List, [], ◌∷◌, Option, Some, None, refl}
+use Rattle.std.specs.List.{find}
+use Rattle.std.specs.Str.{bytes_eq}
+use Rattle.std.proofs.Common.{sym, ap, ◌∙◌, subst}
+use Rattle.std.proofs.lemmas.Bool.{and_parts}
+use Rattle.std.proofs.lemmas.Slice.Eq.{bytes_eq-Decides}
+use Rattle.dtx_words.specs.declared.rows.Command.{Command}
+use Rattle.dtx_words.specs.declared.rows.Command.TheVariants.{Adapt, Code, Excite, Receive, Net, Make, Hurt, Place}
+use Rattle.dtx_words.specs.declared.rows.Command.TheVariants.{Trial, Soft, Mend, DvbCode, DvbRead, Repeat}
+use Rattle.dtx_words.specs.declared.rows.Command.TheVariants.{Acquire, Watch}
+use Rattle.dtx_words.specs.declared.rows.Field.{Field}
+use Rattle.dtx_words.specs.declared.rows.Field.TheVariants.{Input, Output, Number, Within, Second}
+use Rattle.dtx_words.specs.Fitting.{fits, fit_fields, command_of}
+use Rattle.dtx_words.specs.Rows.{row_of, commands, second_text}
+
+-- no command passes
+abbrev DoAllFail : (Command → Bool) → List Command → Type 0
+DoAllFail p [] = Unit {0}
+DoAllFail p (first ∷ rest) = (p first ≡ false) × DoAllFail p rest
+
+-- what is found passes the test
+found_passes : (p : Command → Bool) (all : List Command) (c : Command) → find p all ≡ Some c → p c ≡ true
+found_passes p [] c is = let e : None ≡ Some c = is in cc
+found_passes p (first ∷ rest) c is = tested (p first) refl (found_passes p rest c) is
+  where
+    tested : (b : Bool) → p first ≡ b → (find p rest ≡ Some c → p c ≡ true) → cond b (Some first) (find p rest) ≡ Some c
+        → p c ≡ true
+    tested true passes further is =
+        let e : Some first ≡ Some c = is in let same : first ≡ c = cc in subst (λ x. p x ≡ true) same passes
+    tested false fails further is = further is
+
+-- where nothing is found, nothing passes
+none_passes : (p : Command → Bool) (all : List Command) → find p all ≡ None → DoAllFail p all
+none_passes p [] is = tt
+none_passes p (first ∷ rest) is = tested (p first) refl (none_passes p rest) is
+  where
+    tested : (b : Bool) → p first ≡ b → (find p rest ≡ None → DoAllFail p rest)
+        → cond b (Some first) (find p rest) ≡ None
+        → DoAllFail p (first ∷ rest)
+    tested true passes further is = let e : Some first ≡ None = is in cc
+    tested false fails further is = (fails, further is)
+
+-- each command is among all
+fails_of_all : (p : Command → Bool) → DoAllFail p commands → (c : Command) → p c ≡ false
+fails_of_all p all Adapt = all.0
+fails_of_all p all Code = all.1.0
+fails_of_all p all Excite = all.1.1.0
+fails_of_all p all Receive = all.1.1.1.0
+fails_of_all p all Net = all.1.1.1.1.0
+fails_of_all p all Make = all.1.1.1.1.1.0
+fails_of_all p all Hurt = all.1.1.1.1.1.1.0
+fails_of_all p all Place = all.1.1.1.1.1.1.1.0
+fails_of_all p all Trial = all.1.1.1.1.1.1.1.1.0
+fails_of_all p all Soft = all.1.1.1.1.1.1.1.1.1.0
+fails_of_all p all Mend = all.1.1.1.1.1.1.1.1.1.1.0
+fails_of_all p all DvbCode = all.1.1.1.1.1.1.1.1.1.1.1.0
+fails_of_all p all DvbRead = all.1.1.1.1.1.1.1.1.1.1.1.1.0
+fails_of_all p all Repeat = all.1.1.1.1.1.1.1.1.1.1.1.1.1.0
+fails_of_all p all Acquire = all.1.1.1.1.1.1.1.1.1.1.1.1.1.1.0
+fails_of_all p all Watch = all.1.1.1.1.1.1.1.1.1.1.1.1.1.1.1.0
+
+-- the second word may be this: it is the command's own one, where it has one
+abbrev opens : List Field → List ℕ → Bool
+opens [] word = true
+opens (Input ∷ fields) word = true
+opens (Output ∷ fields) word = true
+opens (Number most ∷ fields) word = true
+opens (Within least most ∷ fields) word = true
+opens (Second second ∷ fields) word = bytes_eq word (second_text second)
+
+-- the first of some words, or no letters where there is none
+abbrev first_word : List (List ℕ) → List ℕ
+first_word [] = []
+first_word (word ∷ words) = word
+
+opens_of : (fields : List Field) (words : List (List ℕ)) → fit_fields fields words ≡ true
+    → opens fields (first_word words) ≡ true
+opens_of [] words fit = refl
+opens_of (Input ∷ fields) words fit = refl
+opens_of (Output ∷ fields) words fit = refl
+opens_of (Number most ∷ fields) words fit = refl
+opens_of (Within least most ∷ fields) words fit = refl
+opens_of (Second second ∷ fields) [] fit = let e : false ≡ true = fit in cc
+opens_of (Second second ∷ fields) (word ∷ words) fit = (and_parts _ _ fit).0
+
+-- the command of a first and a second word
+command_named : List ℕ → List ℕ → Option Command
+command_named verb word = find (λ c. bytes_eq verb (row_of c).verb && opens (row_of c).fields word) commands
+
+named_by_words : (c : Command) (word : List ℕ) → opens (row_of c).fields word ≡ true
+    → command_named (row_of c).verb word ≡ Some c
+unfolding command_named
+named_by_words Adapt word is = refl
+named_by_words Code word is = refl
+named_by_words Excite word is = refl
+named_by_words Receive word is = refl
+named_by_words Net word is = refl
+named_by_words Make word is = refl
+named_by_words Hurt word is = refl
+named_by_words Place word is = refl
+named_by_words Trial word is = refl
+named_by_words Soft word is = refl
+named_by_words Mend word is = refl
+named_by_words DvbCode word is =
+    subst (λ w. command_named (codes "dvb") w ≡ Some DvbCode) (sym ((bytes_eq-Decides word (codes "code")).0 is)) refl
+named_by_words DvbRead word is =
+    subst (λ w. command_named (codes "dvb") w ≡ Some DvbRead) (sym ((bytes_eq-Decides word (codes "read")).0 is)) refl
+named_by_words Repeat word is = refl
+named_by_words Acquire word is = refl
+named_by_words Watch word is = refl
+
+-- the first of words that fit a command is its word
+verb_is : (c : Command) (verb : List ℕ) (words : List (List ℕ)) → fits c (verb ∷ words) ≡ true → verb ≡ (row_of c).verb
+verb_is c verb words fit = (bytes_eq-Decides verb (row_of c).verb).0 (and_parts _ _ fit).0
+
+-- no two commands fit the same words
+pub fits_only : (words : List (List ℕ)) (a b : Command) → fits a words ≡ true → fits b words ≡ true → a ≡ b
+fits_only [] a b first second = let e : false ≡ true = first in cc
+fits_only (verb ∷ words) a b first second =
+    let e : Some a ≡ Some b =
+    sym (named_by_words a (first_word words) (opens_of (row_of a).fields words (and_parts _ _ first).1))
+    ∙ ap (λ v. command_named v (first_word words)) (sym (verb_is a verb words first) ∙ verb_is b verb words second)
+    ∙ named_by_words b (first_word words) (opens_of (row_of b).fields words (and_parts _ _ second).1) in
+    cc
+
+-- the words fit the command that is found
+pub command_fits : (words : List (List ℕ)) (c : Command) → command_of words ≡ Some c → fits c words ≡ true
+command_fits words c is = found_passes (λ c. fits c words) commands c is
+
+-- where none is found, they fit none
+pub none_fits : (words : List (List ℕ)) (c : Command) → command_of words ≡ None → fits c words ≡ false
+none_fits words c is = fails_of_all (λ c. fits c words) (none_passes (λ c. fits c words) commands is) c
+
+-- the command that the words fit is found
+pub command_found : (words : List (List ℕ)) (c : Command) → fits c words ≡ true → command_of words ≡ Some c
+command_found words c fit = found (command_of words) refl
+  where
+    found : (o : Option Command) → command_of words ≡ o → command_of words ≡ Some c
+    found None is = let e : true ≡ false = sym fit ∙ none_fits words c is in cc
+    found (Some other) is = is ∙ ap Some (fits_only words other c (command_fits words other is) fit)
