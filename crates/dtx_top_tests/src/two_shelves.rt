@@ -69,7 +69,10 @@ static RUNS: [(&str, &str); 22] = [
         "net plan",
         "net.feed net.ts tx-7.sym tx-7.log tx-9.sym tx-9.log",
     ),
-    ("trial 5 624", "trial.ts net.feed net.ts tx-1.sym tx-3.log"),
+    (
+        "trial 5 624",
+        "trial.ts net.feed net.ts tx-1.sym tx-1.log tx-2.sym tx-2.log tx-3.sym tx-3.log",
+    ),
     ("code coded.sym refused.sym", "refused.sym"),
     ("receive made.ts no_sync.ts", "no_sync.ts"),
     ("adapt changes made.ts no_plan.ts", "no_plan.ts"),
@@ -143,6 +146,8 @@ fn first_unlike(rt: &HostRuntime, memory: &mut MemoryShelf) -> Option<&'static s
 }
 
 fn remove_all(rt: &HostRuntime) {
+    let _ = fs::remove_file(rt, "plan");
+    let _ = fs::remove_file(rt, "changes");
     for (_, names) in &RUNS {
         for name in names.split(' ') {
             let _ = fs::remove_file(rt, name);
