@@ -18,8 +18,8 @@ cat >"$kit/bin/rattle" <<'end'
 #!/usr/bin/env bash
 echo "rattle $1 $3" >>"${BASH_SOURCE[0]%/*/*}/asked"
 ! grep -r false src || exit 1
-place=${*##* -o }
-mkdir -p "${place%% *}"
+while [[ $1 != -o ]]; do shift; done
+mkdir -p "$2"
 end
 printf '#!%s\nwhile [[ $1 != -o ]]; do shift; done\nprintf "#!/usr/bin/env bash\\necho built anew\\n" >"$2"\nchmod 755 "$2"\n' "$BASH" >"$kit/bin/rattle-link"
 chmod 755 "$tools/sha256sum" "$kit/path/rt" "$kit"/bin/*
