@@ -2,7 +2,7 @@
 # Tries wrong programs beside those of the gate: each edit of checks/wrong_programs/CRATE has to be refused by the prover,
 # as those of crates/CRATE/must-fail are, and for a goal, not for a name that a proof lacks. It is no part of `./test`,
 # since each costs a check: it is run by hand, with names of crates, or none for all. It works on a copy, which takes the
-# libraries that stand built, as `./dtx` leaves them; what isn't built is proved first, which takes half an hour or so.
+# libraries that stand built, as `rt check` leaves them; what isn't built is proved first, which takes half an hour or so.
 # The last line is `wrong programs: N passed, M failed`.
 
 set -u
