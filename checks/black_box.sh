@@ -2,7 +2,7 @@
 # Tries the built program on real files, from outside: its status, what it prints, each byte that it
 # writes, and what stands after a refusal. What it must write is made here, and never by dtx.
 # Names what fails, and ends with the line `black box: N passed, M failed`. Where the first word is `--released`, it tries the released
-# program. Other words name the parts that are tried, all where there are none; what several parts need is made by each of these.
+# program. Other words name the parts that are tried, all where there are none: a part may need files that those before it make.
 
 set -u
 umask 022

@@ -207,9 +207,11 @@ start 'where neither can be run, the kit proves and builds just what the program
 released_alone
 rm "$repository/release/dtx"
 launch_path=$tools:$kit/path
-launches 0 'built anew' "dtx: there is no release/dtx with its release/sources, so the program is proved and built: @MINUTES@ from nothing, less \
-after a change (log: $repository/crates/dtx/out/build.log)
-dtx: 100 % of the work is left, after 0 minutes: low"
+PATH=$launch_path "$repository/dtx" >"$room/said" 2>"$room/complaint" </dev/null || wrong "ended with $?"
+[[ $(cat "$room/said") == 'built anew' ]] || wrong "printed '$(cat "$room/said")'"
+takes=$(sed -n "s/^takes='\(.*\)'\$/\1/p" "$top/build")
+[[ $takes && $(head -n 1 "$room/complaint") == "dtx: there is no release/dtx with its release/sources, so the program is proved and built: $takes from nothing, \
+less after a change (log: $repository/crates/dtx/out/build.log)" ]] || wrong "on standard error: $(cat "$room/complaint")"
 [[ $(cat "$kit/asked") == $'rattle build low\nrattle build dtx' ]] || wrong "the kit was asked for $(cat "$kit/asked")"
 launches 0 'built anew' ''
 [[ $(wc -l <"$kit/asked") == 2 ]] || wrong 'the kit was asked again'
