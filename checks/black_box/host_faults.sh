@@ -187,7 +187,7 @@ start 'a disk that fills up in the middle'
 on_small_disk code ../../inputs/long.ts out.sym
 status=$?
 if ((status == 99)) || [[ ! -d kept ]]; then
-    echo 'black box: the cases of a small disk were left out, since none can be mounted here'
+    left_out 'a disk that fills up, since none can be mounted' 'util-linux, or run it as root'
 else
     is_said 12 'write fault' $status
     is_begun kept/out.sym "$room/long.sym"
