@@ -1,7 +1,7 @@
 #!/usr/bin/env bash
-# Where GNU Radio is installed, tries examples/radio: a network's symbols go through a channel with an echo and noise, and
-# come back. At least so many packets have to be right, and none wrong without a flag. Exact lines aren't asked for, since
-# the figures hang on GNU Radio. The last line is `radio: N passed, M failed`.
+# Where GNU Radio is installed, tries examples/radio: a network's symbols go through a channel with an echo and noise,
+# and come back. At least so many packets have to be right, and none wrong without a flag. Exact lines aren't asked for,
+# since the figures hang on GNU Radio. The last line is `radio: N passed, M failed`.
 
 set -u
 export LC_ALL=C
@@ -32,7 +32,8 @@ holds() {
 
 # comes_back LEAST LINE: at least so many are right, and none is wrong.
 comes_back() {
-    [[ $2 =~ right\ ([0-9]+)\ flagged\ [0-9]+\ wrong\ 0$ ]] && ((BASH_REMATCH[1] >= $1)) || { echo "$2"; false; }
+    echo "$2"
+    [[ $2 =~ right\ ([0-9]+)\ flagged\ [0-9]+\ wrong\ 0$ ]] && ((BASH_REMATCH[1] >= $1))
 }
 
 # refused WORD..: the script says in a line what is wrong, and no traceback.
@@ -49,10 +50,11 @@ sent = vsb.numpy.fromfile(sys.argv[2], dtype=vsb.numpy.int8).reshape(-1, vsb.SEG
 sys.exit(any(list(sent[313 * k, :704]) != list(vsb.field_sync(k % 2)) for k in range(2)))' "$top/examples/radio" "$1"
 }
 
-# A word of a packet that comes back with one wrong bit, unflagged, is told.
+# A packet with a wrong byte and no flag is counted.
 tells_wrong() {
     { head -c 900 kept/back.ts; printf '?'; tail -c +902 kept/back.ts; } >changed.ts
-    ! "$gnuradio_python" "$top/examples/radio/compare.py" kept/net.feed changed.ts && [[ $(tail -n 1 said) == *' wrong 1' ]]
+    "$gnuradio_python" "$top/examples/radio/compare.py" kept/net.feed changed.ts >lines
+    [[ $? == 1 && $(cat lines) == *' flagged 0 wrong 1' ]]
 }
 
 line=$("$top/examples/radio/try.sh" 2000 kept 2>&1)

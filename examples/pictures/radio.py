@@ -1,8 +1,8 @@
 #!/usr/bin/env python3
 """Draws how symbols come back over a simulated channel: radio.py FIGURES TAPS NAME writes NAME.svg and NAME.png.
 
-Above: how many packets come back of how much noise, of the figures of `bench/gnuradio/radio.sh noise`. Below: the taps of
-`examples/radio/equalize.py`, in which an echo stands where it comes, and again where that one's own echo would.
+Above: how many packets come back of how much noise, of the figures of `bench/gnuradio/radio.sh noise`. Below: the taps
+of `examples/radio/equalize.py`, in which an echo stands where it comes, and again where that one's own echo would.
 """
 
 import sys

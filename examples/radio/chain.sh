@@ -1,6 +1,6 @@
 # shellcheck shell=bash
-# What try.sh and bench/gnuradio/radio.sh share, to be sourced: a network, and the way of its symbols through a channel and
-# back. It gives `radio`, the folder of these scripts, and `dtx`, the launcher. All files are in the folder at hand.
+# What try.sh and bench/gnuradio/radio.sh share, to be sourced: a network, and the way of its symbols through a channel
+# and back. It gives `radio`, the folder of these scripts, and `dtx`, the launcher. All files are in the folder at hand.
 
 export LC_ALL=C
 radio=$(cd "$(dirname "${BASH_SOURCE[0]}")" && pwd -P)
@@ -35,14 +35,15 @@ network() {
     quiet "$dtx" net plan.toml
 }
 
-# through WORD..: what comes of it through a channel, as modulate.py has the words, and behind the front end. Where `theirs`
-# names a file, it is what GNU Radio's own decoder makes of that.
+# through WORD..: what comes of it through a channel, as modulate.py has the words, and behind the front end. Where
+# `theirs` names a file, it is what GNU Radio's own decoder makes of that.
 through() {
     quiet "$gnuradio_python" "$radio/modulate.py" air.iq "$@"
     quiet "$gnuradio_python" "$radio/demodulate.py" 8e6 air.iq front.sym ${theirs:+"$theirs"}
 }
 
-# back [FROM [SYMBOLS]]: which packets come back, from that one of the feed on, of the symbols behind the front end, or of these.
+# back [FROM [SYMBOLS]]: which packets come back, from that one of the feed on, of the symbols behind the front end
+# when they are equalized, or of these as they are.
 back() {
     [[ ${2-} ]] || quiet "$gnuradio_python" "$radio/equalize.py" front.sym air.sym taps.txt
     quiet "$dtx" acquire 8 "${2-air.sym}" found.sym

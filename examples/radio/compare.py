@@ -1,9 +1,9 @@
 #!/usr/bin/env python3
 """Tells which packets came back: compare.py FEED PACKETS [FROM]
 
-Each packet is sought in the feed by all but its sync byte, which isn't sent. It is right where the feed has it, behind the
-one before; flagged where it has the transport error indicator; and else wrong, which makes the status 1. Those before
-packet FROM of the feed aren't counted; one that the feed hasn't stands behind the one before it.
+Each packet is sought in the feed by all but its sync byte, which isn't sent. It is right where the feed has it, behind
+the one before; flagged where it has the transport error indicator; and else wrong, which makes the status 1. Those
+before packet FROM of the feed aren't counted; one that the feed hasn't stands behind the one before it.
 """
 
 import sys

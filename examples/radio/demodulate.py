@@ -28,7 +28,7 @@ def peak(samples, rate, middle, reach):
 
 
 def symbol_rate_of(samples, rate, pilot):
-    """By the receiver's clock. Half of it above the pilot both sidebands are left, so the square of that band has a line."""
+    """By the receiver's clock. Half of it above the pilot both sidebands are left: the square of that has a line."""
     turned = samples * numpy.exp(-2j * numpy.pi * (pilot + SYMBOL_RATE / 2) / rate * numpy.arange(len(samples)))
     lines = numpy.fft.fft(turned)
     lines[numpy.abs(numpy.fft.fftfreq(len(samples), 1 / rate)) > 3e5] = 0

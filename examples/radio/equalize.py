@@ -1,11 +1,12 @@
 #!/usr/bin/env python3
 """Undoes what a channel did to soft symbols, by their field syncs: equalize.py IN OUT [TAPS]
 
-IN is what demodulate.py writes: segments of signed bytes, of any gain, constant and polarity. OUT is for `dtx acquire 8`.
-TAPS is the last field's taps, a line each: by how many symbols the symbol comes earlier, and its weight.
+IN is what demodulate.py writes: segments of signed bytes, of any gain, constant and polarity. OUT is for
+`dtx acquire 8`. TAPS is the last field's taps, a line each: by how many symbols the symbol that it weights comes
+earlier, and the weight, of which the greatest is 1.
 
-From each field sync on, those taps and that constant are used that make of it, and with less weight of those before it,
-most nearly what the standard has there (least squares). What stands before the first field sync becomes 0.
+From each field sync on, those taps and that constant are used that make of it, and with less weight of those before
+it, most nearly what the standard has there (least squares). What stands before the first field sync becomes 0.
 """
 
 from vsb import SEGMENT, STEPS, Wrong, done, field_sync, numpy, words_of

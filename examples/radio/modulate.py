@@ -1,10 +1,10 @@
 #!/usr/bin/env python3
-"""Sends what transmitters sent through one channel: modulate.py [OPTION].. OUT --send SYMBOLS LOG WAY DECIBELS DEGREES ..
+"""Sends symbols through a channel: modulate.py [OPTION].. OUT --send SYMBOLS LOG WAY DECIBELS DEGREES [--send ..]..
 
-OUT is complex baseband: complex64, the channel's middle at 0 Hz. There is a --send for each transmitter: its symbol file
-and its log, as `dtx` writes them; by how many symbols its way to the receiver is longer, which may be a part; its level;
-and the phase of its carrier. When it sends is told by its log, whose orders have to be less than a second apart. All of
-them run on one symbol clock, that of the first one, and another's moments of the same orders tell how late it is.
+OUT is complex baseband: complex64, the channel's middle at 0 Hz. There is a --send for each transmitter: its symbol
+file and its log, as `dtx` writes them; by how many symbols its way to the receiver is longer, which may be a part; its
+level; and the phase of its carrier. When it sends is told by its log, whose orders have to be less than a second
+apart. All of them run on one symbol clock, that of the first one; moments of the same orders tell how late another is.
 """
 
 import math
@@ -28,7 +28,7 @@ Way = namedtuple("Way", "levels late decibels degrees")
 
 
 def presets(log):
-    """The lines `preset` of a log: the frame and packet, the segment, and the moment in grains, with seconds counted on."""
+    """The lines `preset` of a log: frame and packet, the segment, and the moment in grains, with seconds counted on."""
     found, second, before = [], 0, 0
     for line in Path(log).read_text().splitlines():
         if line.startswith("preset "):
@@ -121,7 +121,7 @@ def words():
     reader.add_argument("out")
     reader.add_argument("--send", nargs=5, action="append", required=True, metavar=tuple("SLWDP"))
     reader.add_argument("--rate", type=float, default=8e6, help="samples a second, above the channel's 6e6")
-    reader.add_argument("--noise", type=float, default=60, help="decibels below the data symbols at level 0, in their band")
+    reader.add_argument("--noise", type=float, default=60, help="decibels below the data symbols of level 0")
     reader.add_argument("--carrier", type=float, default=0, help="by how many Hz the receiver's carrier is off")
     reader.add_argument("--clock", type=float, default=0, help="by how many millionths its sampling clock is fast")
     reader.add_argument("--seed", type=int, default=1, help="of the noise")

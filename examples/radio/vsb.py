@@ -1,4 +1,4 @@
-"""What the scripts of this folder share: the numbers of 8-VSB and its field sync (ATSC A/53 Part 2), and how a script ends."""
+"""What the scripts of this folder share: the numbers of 8-VSB and its field sync (ATSC A/53 Part 2), reading words."""
 
 import argparse
 import sys
