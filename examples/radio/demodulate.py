@@ -6,7 +6,7 @@ timing, field syncs too, one signed byte a symbol, eight steps a unit, for equal
 equalizer and decoder make of the same segments.
 """
 
-from vsb import PILOT, SEGMENT, STEPS, SYMBOL_RATE, Wrong, done, numpy, words_of
+from vsb import CHANNEL, PILOT, SEGMENT, STEPS, SYMBOL_RATE, Wrong, done, numpy, words_of
 
 from gnuradio import analog, blocks, dtv, filter, gr
 
@@ -86,6 +86,8 @@ def main():
     reader.add_argument("out")
     reader.add_argument("packets", nargs="?")
     given = reader.parse_args()
+    if given.rate <= CHANNEL:
+        raise Wrong(f"the rate has to be above {CHANNEL:g}")
     pilot, rate = measured(given.source, given.rate)
     graph, timing = gr.top_block(), dtv.atsc_sync(SAMPLED)
     graph.connect(

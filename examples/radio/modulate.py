@@ -12,13 +12,12 @@ import tempfile
 from collections import namedtuple
 from pathlib import Path
 
-from vsb import POWER, PILOT, ROLL_OFF, SEGMENT, SYMBOL_RATE, Wrong, done, numpy, words_of
+from vsb import CHANNEL, PILOT, POWER, ROLL_OFF, SEGMENT, SYMBOL_RATE, Wrong, done, numpy, words_of
 
 from gnuradio import analog, blocks, filter, gr
 
 GRAINS_OF_TICK, GRAINS_OF_SYMBOL = 1539, 1430
 SECOND = 10_000_000 * GRAINS_OF_TICK
-CHANNEL = 6e6
 TAPS = 201  # of the pulse, one a symbol
 PARTS = 64  # of a symbol: so finely a transmitter is delayed
 PHASES = 32  # of the resampler

@@ -10,6 +10,7 @@ try:
 except ImportError as missing:
     raise SystemExit("this needs a Python that finds GNU Radio: Debian's gnuradio and python3-numpy") from missing
 
+CHANNEL = 6e6  # Hz, and so many complex samples a second at the least
 SYMBOL_RATE = 4.5e6 * 684 / 286
 ROLL_OFF = 0.1152
 SEGMENT = 832
