@@ -13,11 +13,12 @@ if [[ ! $(git ls-files crates.txt) ]]; then
     exit 1
 fi
 
-# Crates that may have fewer than three must-fail edits: `dtx` and `dtx_bench` are programs, whose `main` has no contract
-# that an edit could break, `dtx_lists`, `dtx_chain`, `dtx_network`, `dtx_gap_filler`, `dtx_repeated_feed` and
-# `dtx_symbol_laws` have lemmas and laws alone, `dtx_host` promises what the traits ask of files that tell nothing, and that
-# answers are counted, and the crates of tests, whose names end so, have nothing that another crate stands on.
-few_edits=' dtx dtx_bench dtx_host dtx_lists dtx_chain dtx_network dtx_gap_filler dtx_repeated_feed dtx_symbol_laws '
+# Crates that may have fewer than three wrong programs, in the gate and beside it: `dtx` and `dtx_bench` are programs, whose
+# `main` has no contract that an edit could break, `dtx_lists`, `dtx_chain`, `dtx_network`, `dtx_gap_filler`,
+# `dtx_repeated_feed`, `dtx_trial` and `dtx_symbol_laws` have lemmas and laws alone, `dtx_host` promises what the traits ask
+# of files that tell nothing, and that answers are counted, and the crates of tests, whose names end so, have nothing that
+# another crate stands on.
+few_edits=' dtx dtx_bench dtx_host dtx_lists dtx_chain dtx_network dtx_gap_filler dtx_repeated_feed dtx_symbol_laws dtx_trial '
 
 passed=0
 failed=0
@@ -86,13 +87,32 @@ for name in sys.stdin.read().split():
 '
 }
 
-# Lemmas that other crates cite stand in specs/. `dtx_lists` has lemmas alone.
+# Lemmas that other crates cite stand in proofs/NAMELemmas.antt. `dtx_lists` has lemmas alone.
 foreign_proofs() {
     local file own
     files 'crates/*/src/*' 'crates/*/specs/*' 'crates/*/proofs/*' | while IFS= read -r file; do
         own=${file#crates/}
         own=${own%%/*}
-        grep -HnoE 'Rattle\.dtx_[a-z_]+\.proofs' "$file" | grep -vE "Rattle\.($own|dtx_lists)\.proofs"
+        grep -HnoE 'dtx_[a-z_]+(\.|::)proofs(\.|::)[A-Za-z0-9_]+' "$file" |
+            grep -vE ":($own|dtx_lists)(\.|::)proofs|Lemmas\$"
+    done
+}
+
+# A declaration without a word before it that says what it is, as `abbrev` or `record`, is a lemma.
+proved_specs() {
+    files 'crates/*/specs/*' | grep -vE '^crates/dtx_lists/|/[A-Za-z]*Laws\.antt$' |
+        xargs -r grep -nE '^(pub )?[^ ]+ : '
+}
+
+# specs/NAMELaws.antt has laws that an impl of the crate gives its trait, or what those of another such file need.
+laws_of_no_impl() {
+    local file crate name
+    files 'crates/*/specs/*Laws.antt' | while IFS= read -r file; do
+        crate=${file#crates/}
+        crate=${crate%%/*}
+        name=$(basename "$file" .antt)
+        grep -rqE "use Rattle\.$crate\.specs\.$name\.\{" "crates/$crate/src" "crates/$crate"/specs/*Laws.antt ||
+            echo "$file"
     done
 }
 
@@ -110,8 +130,15 @@ gate() {
 few_edits() {
     local crate edits
     for crate in $(crates); do
-        edits=$(find "crates/$crate/must-fail" -name '*.edit' 2>/dev/null | wc -l)
+        edits=$(find "crates/$crate/must-fail" "checks/wrong_programs/$crate" -name '*.edit' 2>/dev/null | wc -l)
         ((edits >= 3)) || [[ $crate == *_tests || $few_edits == *" $crate "* ]] || echo "$crate has $edits"
+    done
+}
+
+# A wrong program changes what runs: an edit of a definition or of a proof shows nothing of a contract.
+edits_beside_the_code() {
+    files 'crates/*/must-fail/*.edit' 'checks/wrong_programs/*/*.edit' | while IFS= read -r edit; do
+        grep -Hn '^file: ' "$edit" | grep -v ':file: src/'
     done
 }
 
@@ -164,13 +191,17 @@ rule 'a path of a machine' "$(paths_of_a_machine)"
 rule 'a file longer than 600 lines' "$(long_files)"
 rule 'a line longer than 120 columns' "$(long_lines)"
 rule "a file that names another crate's proofs" "$(foreign_proofs)"
+rule 'a lemma in specs/' "$(proved_specs)"
+rule 'laws in specs/ that no impl has' "$(laws_of_no_impl)"
 rule 'HANDLES' "$(handles)"
 rule 'a README of more than 120 lines' "$(awk 'END { if (NR > 120) print "README.md: " NR " lines" }' README.md)"
 rule 'the gate' "$(gate)"
-rule 'fewer than three must-fail edits' "$(few_edits)"
+rule 'fewer than three wrong programs' "$(few_edits)"
+rule 'an edit of another file than the code' "$(edits_beside_the_code)"
 rule 'a wrong program that does not fit' "$(misfit_programs 2>&1)"
 rule 'a file that is not there' "$(missing_files)"
 rule 'what a build made is committed' "$(git ls-files -- 'crates/*/out/*')"
+rule 'a number of definitions' "$(checks/definitions.py --document docs/proved.md 2>&1)"
 rule 'a script' "$(scripts)"
 printf 'texts: %d passed, %d failed\n' "$passed" "$failed"
 ((failed == 0))

@@ -214,9 +214,6 @@ bytes_there ps q run p h = record {
     front : List ℕ
     front = levels_to ps (78 * q)
 
-    behind : List ℕ
-    behind = drop (3312 * (78 * q)) (levels ps)
-
     own : List ℕ
     own = take (3312 * groups_of run) (drop (3312 * (78 * q)) (levels ps))
 

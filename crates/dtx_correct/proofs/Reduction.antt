@@ -90,18 +90,3 @@ step w e s a v p g h lp ap' f = record {
         reduced_annuls s e i v p g k (h.long k l ∙ sym (h.long p lp))
         ∙ ap₂ bit_xor (h.annuls k i l t r) (ap (mul (mul (combination (v k) s e) g)) (h.annuls p i lp ap' r)
         ∙ mul_zero (mul (combination (v k) s e) g))
-
--- where every vector that is kept solves the new equation, nothing is given up
-pub skip : (w e : ℕ) (s : ℕ → ℕ) (a : ℕ → Bool) (v : ℕ → List ℕ) → Solves w e s a v
-    → ((k : ℕ) → k < w → a k ≡ true → combination (v k) s e ≡ 0) → Solves w (e + 1) s a v
-skip w e s a v h z = record {
-  long = h.long;
-  bytes = h.bytes;
-  own = h.own;
-  apart = h.apart;
-  annuls = λ k i l t m. by_cases k i l t (order e i m);
-}
-  where
-    by_cases : (k i : ℕ) → k < w → a k ≡ true → (i ≡ e) ⊎ (i < e) → combination (v k) s i ≡ 0
-    by_cases k i l t (inl q) = subst (λ (j : ℕ). combination (v k) s j ≡ 0) (sym q) (z k l t)
-    by_cases k i l t (inr r) = h.annuls k i l t r

@@ -48,9 +48,6 @@ early_group x kept new run place brought b n d none some =
     there : (more : List ℕ) × (bytes_in (shown_run run ++ map shown x ∷ []) ≡ bytes_in (shown_run run) ++ more)
     there = bytes_more (map shown x) (shown_run run) place (shown_due run place b.due) n b.old.marks.levels.long
 
-    g : ℕ
-    g = groups_of run
-
     whole : groups_of (run ++ x ∷ []) ≡ groups_of run + 1
     whole = groups_whole run x place b.due n
 

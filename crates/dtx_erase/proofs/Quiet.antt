@@ -151,12 +151,6 @@ pub clear_after : (v : Branching) → HasWidths 52 (gathering 52 4) v
 unfolding held_first
 clear_after v h i j l = by_length (cases_lt j (gathering 52 4 i))
   where
-    e : ℕ → ℕ → ℕ
-    e = held_first v.next v.lists
-
-    new : Branching
-    new = after_all 52 v (zeros (828 * 13))
-
     come : Come (gathering 52 4) (held_first v.next v.lists) (v.next + 828 * 13) (after_all 52 v (zeros (828 * 13)))
     come = come_all (gathering 52 4) (held_first v.next v.lists) v.next (828 * 13) v
         (come_first (gathering 52 4) v h) (zero_comes (gathering 52 4) v h)

@@ -28,13 +28,6 @@ use Rattle.dtx_exciter.specs.EndsLaws.{IsOlder}
 
 -- ---- levels go on
 
-length-since : (w : List (List ℕ)) (u g : ℕ) (q : List ℕ) → length w ≡ 4 * u → g ≤ u
-    → length (levels_since g q w) ≡ 3312 * (u - g)
-unfolding levels_since
-length-since w u g q e l =
-    length-levels_of (4 * g % 312) q (drop (828 * g) (whole_groups w)) (u - g)
-    (omega (arith, l, e, length-drop (828 * g) (whole_groups w), length-whole w))
-
 -- a segment of the front stays
 pub since_front : (w qs : List (List ℕ)) (u g k : ℕ) (q : List ℕ) → length w ≡ 4 * u → g ≤ u → k < 4 * (u - g)
     → segment (levels_since g q (w ++ qs)) k ≡ segment (levels_since g q w) k

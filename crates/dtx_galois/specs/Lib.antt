@@ -2,6 +2,7 @@ pub mod BitPolynomial
 pub mod Field
 pub mod Word
 pub mod BytesLaws
+pub mod DivisionLaws
 pub mod FieldLaws
 pub mod LinearLaws
 pub mod PowersLaws

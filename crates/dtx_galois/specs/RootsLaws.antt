@@ -30,8 +30,6 @@ divides : (r a : ℕ) (cs : List ℕ) (x : ℕ) → bit_xor (mul a (pow x (lengt
 unfolding value pow
 divides r a [] x = xor_zero_r (mul a 1) ∙ sym (ap (λ y. bit_xor y (mul a 1)) (mul_zero (bit_xor x r)))
 divides r a (c ∷ cs) x =
-    let b : ℕ = bit_xor (mul a r) c in
-    let p : ℕ = pow x (length cs) in
     let n : length (quotient r (bit_xor (mul a r) c) cs) ≡ length cs = length_quotient r (bit_xor (mul a r) c) cs in
     regroup a r c x (pow x (length cs)) (value cs x)
     ∙ ap (bit_xor (mul (bit_xor x r) (mul a (pow x (length cs))))) (divides r (bit_xor (mul a r) c) cs x)

@@ -188,9 +188,6 @@ pending_is s o e = ap (λ (o : Option ℕ). unwrap_or o 0) e
 follows_at : (s : List (List ℤ)) (o : Option ℕ) → next_place s ≡ o → IsFollowed s (unwrap_or o 0)
 follows_at s o e = subst (IsFollowed s) (pending_is s o e) (follows s)
 
-nothing_before : (s : List (List ℤ)) → length s - 0 ≡ length s
-nothing_before s = omega arith
-
 -- what is ahead with one segment more: all that was, and behind it so many of the n that were not and of that one
 record IsAhead (s : List (List ℤ)) (x : List ℤ) (n more : ℕ) : Type 0 where
   followed : IsFollowed s n

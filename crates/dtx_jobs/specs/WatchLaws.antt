@@ -194,14 +194,6 @@ tally_more t xs ys =
     same_numbers t.packets _ _ _ _ _ _ _ _ _ _ (count_more one_ops t.ops xs ys) (count_more slips_of t.slips xs ys)
     (count_more jumps_of t.jumps xs ys) (count_more one_unread t.unread xs ys) (count_more one_stray t.stray xs ys)
 
-pub tally_nothing : (t : WatchTally) → t ≡ tally_with t []
-tally_nothing t =
-    same_numbers t.packets _ _ _ _ _ _ _ _ _ _ (zero_more t.ops) (zero_more t.slips) (zero_more t.jumps)
-    (zero_more t.unread) (zero_more t.stray)
-  where
-    zero_more : (n : ℕ) → n ≡ n + 0
-    zero_more n = omega arith
-
 -- one note
 pub tally_one : (t : WatchTally) (note : Note) → tally_of_one t note.what ≡ tally_with t (note ∷ [])
 tally_one t note =

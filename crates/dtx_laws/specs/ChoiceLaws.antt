@@ -73,15 +73,26 @@ unfolding all_words
 words_all zero = ((refl, tt), tt)
 words_all (suc n) = words_flat n (all_words n) 0 256 (omega arith) (words_all n)
 
+-- the word that a test chooses among all words, and that none passes where it chooses none
+pub chosen : (fits : List ℕ → Bool) (n : ℕ) (code : List ℕ) → find fits (all_words n) ≡ Some code
+    → (fits code ≡ true) × ((length code ≡ n) × AreBytes code)
+chosen fits n code e =
+    subst (λ o. IfSome o (λ w. (fits w ≡ true) × ((length w ≡ n) × AreBytes w))) e
+    (find-gives fits (λ w. (length w ≡ n) × AreBytes w) (all_words n) (words_all n))
+
+pub none_fits : (fits : List ℕ → Bool) (n : ℕ) (code : List ℕ) → find fits (all_words n) ≡ None → length code ≡ n
+    → AreBytes code → fits code ≡ false
+none_fits fits n code e l b = find-none fits (all_words n) code e (Contains-all_words n code l b)
+
 -- ---- the test
 
-vanishes_at : (n k : ℕ) (w : List ℕ) → vanishes n k w ≡ true → (i : ℕ) → i < n - k → value w (pow 2 i) ≡ 0
+pub vanishes_at : (n k : ℕ) (w : List ℕ) → vanishes n k w ≡ true → (i : ℕ) → i < n - k → value w (pow 2 i) ≡ 0
 unfolding vanishes
 vanishes_at n k w t i l =
     eqb-true (value w (pow 2 i)) 0 (list_all-range_at (λ i. value w (pow 2 i) == 0) 0 (n - k) t i (omega arith)
     (omega arith))
 
-vanishes_from : (n k : ℕ) (w : List ℕ) → ((i : ℕ) → i < n - k → value w (pow 2 i) ≡ 0) → vanishes n k w ≡ true
+pub vanishes_from : (n k : ℕ) (w : List ℕ) → ((i : ℕ) → i < n - k → value w (pow 2 i) ≡ 0) → vanishes n k w ≡ true
 unfolding vanishes
 vanishes_from n k w h =
     list_all-range_from (λ i. value w (pow 2 i) == 0) 0 (n - k)
@@ -164,9 +175,7 @@ correction_fits n k word c h =
 pub correction_is : (n k : ℕ) (word code : List ℕ) → correction n k word ≡ Some code → IsCorrection n k word code
 unfolding correction
 correction_is n k word code e =
-    let h : (fits n k word code ≡ true) × ((length code ≡ n) × AreBytes code) =
-    subst (λ o. IfSome o (λ w. (fits n k word w ≡ true) × ((length w ≡ n) × AreBytes w))) e
-    (find-gives (fits n k word) (λ w. (length w ≡ n) × AreBytes w) (all_words n) (words_all n)) in
+    let h : (fits n k word code ≡ true) × ((length code ≡ n) × AreBytes code) = chosen (fits n k word) n code e in
     correction_from n k word code h.0 h.1.0 h.1.1
 
 pub correction_none : (n k : ℕ) (word : List ℕ) → correction n k word ≡ None → (code : List ℕ)
@@ -174,8 +183,7 @@ pub correction_none : (n k : ℕ) (word : List ℕ) → correction n k word ≡ 
 unfolding correction
 correction_none n k word e code h =
     true≢false
-    (sym (correction_fits n k word code h)
-    ∙ find-none (fits n k word) (all_words n) code e (Contains-all_words n code h.codeword.long h.codeword.bytes))
+    (sym (correction_fits n k word code h) ∙ none_fits (fits n k word) n code e h.codeword.long h.codeword.bytes)
 
 -- what is a correction is the function's
 pub correction_only : (n k : ℕ) (word code : List ℕ) → n ≤ 255 → length word ≡ n → IsCorrection n k word code

@@ -26,7 +26,6 @@ pub value_generator : (m x : ℕ) → bit_xor (pow x (suc m)) (value (generator 
     ≡ mul (bit_xor x (pow 2 m)) (bit_xor (pow x m) (value (generator m) x))
 unfolding pow value
 value_generator m x =
-    let g : ℕ = value (generator m) x in
     ap (bit_xor (pow x (suc m)))
     (value_sums (generator m ++ 0 ∷ []) (pow 2 m ∷ scaled (pow 2 m) (generator m)) x (length_push (generator m) 0
     ∙ add-one (length (generator m)) ∙ ap suc (sym (length_scaled (pow 2 m) (generator m))))

@@ -148,9 +148,7 @@ Stands b w e n v = (v.next ≡ n % b) × Holds b w e (n / b) (n % b) v.lists
 Stands-next : (b : ℕ) (w : ℕ → ℕ) (e : ℕ → ℕ → ℕ) (n : ℕ) (v : Branching) (byte : ℕ) → 0 < b → Stands b w e n v
     → byte ≡ e (n % b) (n / b + w (n % b)) → Stands b w e (n + 1) (after_byte b v byte)
 Stands-next b w e n v byte p s c =
-    let r : ℕ = n % b in
     let l : n % b < b = mod_below n b p in
-    let t : Bool = n % b + 1 == b in
     let pq : ((n / b * b + n % b + 1) / b ≡ cond (n % b + 1 == b) (n / b + 1) (n / b))
     × ((n / b * b + n % b + 1) % b ≡ cond (n % b + 1 == b) 0 (n % b + 1)) =
     next_place b (n / b) (n % b) p l (n % b + 1 == b) (eqb-true (n % b + 1) b) (eqb-false (n % b + 1) b) in

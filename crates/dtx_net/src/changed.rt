@@ -17,16 +17,7 @@ pub fn flipped(packet: &Packet, at: u8, with: u8) -> Packet
     changed
 }
 
-/// An operations packet of the fields that the packet reads as, but with these states, and with right parity bytes;
-/// byte 0 and the counter stay. A packet that isn't read stays as it is (the profile's own). The code's tables are made
-/// for this one packet: a network has them.
-pub fn lied(packet: &Packet, states: &States) -> Packet
-    ensures { result.0 ≡ lied_packet packet.now.0 states.now }
-{
-    lied_by(&Corrector::new(), packet, states)
-}
-
-/// The same, by tables that are there.
+/// The packet with other states, as `Net::lied` says, by these tables of the code.
 #[tactic(auto, unfolding(crate::specs::Changed::lied_packet))]
 pub(crate) fn lied_by(corrector: &Corrector, packet: &Packet, states: &States) -> Packet
     ensures { result.0 ≡ lied_packet packet.now.0 states.now }

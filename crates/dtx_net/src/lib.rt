@@ -5,5 +5,5 @@ mod changed;
 pub mod laws;
 mod net;
 
-pub use changed::{flipped, lied};
+pub use changed::flipped;
 pub use net::Net;

@@ -6,12 +6,7 @@ use Rattle.std.proofs.lemmas.List.{map-append}
 use Rattle.std.proofs.Math.Seq.{take-append_seam, drop-append_seam}
 use Rattle.std.proofs.lemmas.List.FromFn.{get_or-map-range_with_len, length-map-range_with_len, fill_by_all}
 use Rattle.std.specs.List.{range_with_len}
-use Rattle.dtx_sizes.specs.declared.limits.TheConstants.{MOST_PACKETS}
-use Rattle.dtx_packets.specs.Packets.{most_packets, packet_at, whole_packets, packets_from, packets_of}
-
--- the limit in the code is the profile's
-pub limit_is : MOST_PACKETS ≡ most_packets
-limit_is = refl
+use Rattle.dtx_packets.specs.Packets.{packet_at, whole_packets, packets_from, packets_of}
 
 range_with_len-append : (a m n : ℕ) → range_with_len a (m + n) ≡ range_with_len a m ++ range_with_len (a + m) n
 range_with_len-append a zero n =

@@ -1,6 +1,6 @@
 // The way back of the interleaver.
 
-use crate::samples::only;
+use crate::expect::only;
 use dtx_laws::Gather;
 use dtx_spread::Collect;
 

@@ -1,4 +1,4 @@
-//! What ends a test at a row of its table.
+//! What ends a test at a row of its table, and what several tests ask of bytes.
 
 use std::fmt::Display;
 use std::process::Abort;
@@ -15,4 +15,18 @@ pub(crate) fn expect<Name: Display + Drop>(rt: &impl Abort, holds: bool, row: Na
     if !holds {
         panic!(rt; "row {row}")
     }
+}
+
+/// Where alone a byte isn't 0, and that byte.
+pub(crate) fn only(bytes: &[u8]) -> Option<(usize, u8)> {
+    let mut found = None;
+    for (place, byte) in bytes.iter().enumerate() {
+        if *byte != 0 {
+            if found.is_some() {
+                return None;
+            }
+            found = Some((place, *byte));
+        }
+    }
+    found
 }

@@ -1,7 +1,7 @@
 //! Five symbols at a time, whose least paths were found by trying all.
 
 use crate::expect::{expect, expect_none};
-use dtx_soft::{Soft, proves};
+use dtx_soft::{MAX_SCALE, Soft, proves};
 use std::alloc::Global;
 
 /// The least path over five symbols: its cost, its start and its levels, and the least cost from each state.
@@ -50,7 +50,7 @@ static ROWS: [Row; 7] = [
 /// Whether a decoder of that scale finds the least path.
 fn is_found(alloc: Global, row: &Row) -> bool {
     let (scale, symbols, path) = row;
-    match Soft::scaled(alloc, (*scale).min(18)) {
+    match Soft::scaled(alloc, (*scale).min(MAX_SCALE)) {
         Ok(mut soft) => is_least(&mut soft, symbols, path),
         Err(_) => false,
     }

@@ -31,8 +31,6 @@ mod polynomial;
 #[cfg(test)]
 mod refusals;
 #[cfg(test)]
-mod samples;
-#[cfg(test)]
 mod slice;
 #[cfg(test)]
 mod spread;

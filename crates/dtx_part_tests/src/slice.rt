@@ -2,7 +2,7 @@
 
 ghost use Rattle.std.specs.Prelude.{◌≡◌, ◌%◌, ◌<◌, EachIndex, slice_index};
 
-use crate::samples::only;
+use crate::expect::only;
 use dtx_sizes::{FIELD_PACKETS, GROUP_BYTES, GROUP_LEVELS, PRECODE, SEGMENT, SEGMENT_LEVELS};
 use dtx_slice::{Unroll, last_levels, level, levels, put_levels};
 

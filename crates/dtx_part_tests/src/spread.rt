@@ -1,6 +1,6 @@
 // The interleaver alone.
 
-use crate::samples::only;
+use crate::expect::only;
 use dtx_laws::Spread;
 use dtx_spread::Branches;
 

@@ -6,7 +6,7 @@ use std::marker::Model;
 
 /// One entry of damage: `put` stands in place of each of the `count` bytes from `at` on, which of a symbol file are
 /// symbols.
-#[derive(Clone, Copy, PartialEq, Eq)]
+#[derive(Clone, Copy)]
 pub struct Damage {
     pub at: u64,
     pub count: u64,

@@ -2,7 +2,7 @@
 
 /// A transmitter: its address, the offset of its emission from the network's maximum delay, and the delay of the way to
 /// it, in ticks of 100 ns (the offset is that of ATSC A/110, its place in the plan the profile's own).
-#[derive(Clone, Copy, Default, PartialEq, Eq)]
+#[derive(Clone, Copy)]
 pub struct Transmitter {
     pub address: u16,
     pub offset: i16,

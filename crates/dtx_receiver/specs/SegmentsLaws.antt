@@ -195,10 +195,6 @@ pub first_groups : (x : List ℤ) → groups_of (x ∷ []) ≡ 0
 unfolding groups_of data_count
 first_groups x = refl
 
-pub first_count : (x : List ℤ) → data_count (x ∷ []) ≡ 0
-unfolding data_count
-first_count x = refl
-
 pub first_levels : (x : List ℤ) → levels_in (x ∷ []) ≡ []
 unfolding levels_in levels_from groups_of data_count
 first_levels x = refl

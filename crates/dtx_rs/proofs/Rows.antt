@@ -1,5 +1,5 @@
 -- What is fed to zeros is a sum of rows.
-use Rattle.std.proofs.Common.{◌≡◌, ℕ, zero, suc, ◌+◌, ◌<◌, List, [], ◌∷◌, ◌++◌, length, get_or}
+use Rattle.std.proofs.Common.{◌≡◌, ℕ, suc, ◌+◌, ◌<◌, List, [], ◌∷◌, ◌++◌, length, get_or}
 use Rattle.std.proofs.Common.{take, replicate, bit_xor, refl, sym, ap, ap₂, ◌∙◌, arith}
 use Rattle.std.proofs.lemmas.List.{length-replicate, take_more}
 use Rattle.std.specs.Int.Bits.{xor_zero_r}
@@ -27,10 +27,6 @@ rows_sum divisor bs b =
         ≡ replicate (length divisor) 0
     zeros_zeros [] = refl
     zeros_zeros (c ∷ divisor) = ap (◌∷◌ 0) (zeros_zeros divisor)
-
-zeros_end : (k : ℕ) → ◌≡◌ {A = List ℕ} (0 ∷ replicate k 0) (replicate k 0 ++ 0 ∷ [])
-zeros_end zero = refl
-zeros_end (suc k) = ap (◌∷◌ 0) (zeros_end k)
 
 four_rows : (divisor : List ℕ) (a b c d : ℕ) → register divisor (replicate (length divisor) 0) (a ∷ b ∷ c ∷ d ∷ [])
     ≡ sums (row divisor a 3) (sums (row divisor b 2) (sums (row divisor c 1) (row divisor d 0)))

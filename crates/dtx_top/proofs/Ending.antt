@@ -1,14 +1,14 @@
 -- How a call ends, of how its command ended and how its line was printed.
-use Rattle.std.specs.Prelude.{◌≡◌, ◌⊎◌, ℕ, List, Option, Some, None, Result, Ok, Err, IfSome, refl}
+use Rattle.std.specs.Prelude.{◌≡◌, ◌⊎◌, ℕ, Option, Some, None, Result, Ok, Err, IfSome, refl}
 use Rattle.std.proofs.Common.{sym, ap, ◌∙◌, subst, inl, inr}
 use Rattle.dtx_outside.specs.Counts.{Counts, Rose, HasGone}
-use Rattle.dtx_outside.specs.Shelf.{Files, IsSameAt}
+use Rattle.dtx_outside.specs.Shelf.{Files}
 use Rattle.dtx_outside.specs.Sink.{IsCounted, HasRisenBy}
 use Rattle.dtx_outside.specs.declared.sink.SinkNo.{SinkNo}
 use Rattle.dtx_outside.specs.declared.sink.SinkNo.TheVariants as sink
-use Rattle.dtx_meaning.specs.Laws.{done_printed, done_wanting, done_unprinted, same_at_done, status_of_done}
+use Rattle.dtx_meaning.specs.Laws.{done_printed, done_wanting, done_unprinted, status_of_done}
 use Rattle.dtx_meaning.specs.Laws.{whole_of_carried}
-use Rattle.dtx_meaning.specs.Meaning.{Meaning, IsCarriedOut, IsDone, IsNoOutput, IsUnprinted}
+use Rattle.dtx_meaning.specs.Meaning.{Meaning, IsCarriedOut, IsDone, IsUnprinted}
 use Rattle.dtx_meaning.specs.Status.{IsFault, blame_of}
 use Rattle.dtx_meaning.specs.declared.status.Outcome.{Outcome}
 use Rattle.dtx_meaning.specs.declared.status.Status.{Status}
@@ -16,7 +16,7 @@ use Rattle.dtx_meaning.specs.declared.status.Status.TheVariants.{Done, Usage, Sa
 use Rattle.dtx_meaning.specs.declared.status.Status.TheVariants.{OutOfFeed, OutOfAir, NoSync, ReadFault, WriteFault}
 use Rattle.dtx_meaning.specs.declared.status.Status.TheVariants.{Memory}
 use Rattle.dtx_words.specs.Line.{finished}
-use Rattle.dtx_top.specs.Ends.{HasCause, HasEnded, IsFaultless, IsUsage}
+use Rattle.dtx_top.specs.Ends.{HasCause, HasEnded, IsAllDone, IsFaultless}
 
 -- a status after its line failed, but for `Done`
 pub finished_failed : (status : Status) → (status ≡ Done) ⊎ (finished status (Err sink.Failed) ≡ status)
@@ -59,14 +59,6 @@ pub done_told : (means : Files → Meaning) (told now : Option Files) (outcome :
 done_told means None now outcome line first last is counted = tt
 done_told means (Some held) now outcome line first last is counted =
     done_of (means held) (Some held) now outcome line first last is counted
-
--- no file but the outputs was touched
-pub others_told : (means : Files → Meaning) (told now : Option Files) (status : Status) (unprinted : Type 0)
-    → IfSome told (λ held. IsDone (means held) (Some held) status unprinted now)
-    → IfSome told (λ held. (name : List ℕ) → IsNoOutput name (means held).outputs → IsSameAt name told now)
-others_told means None now status unprinted is = tt
-others_told means (Some held) now status unprinted is =
-    λ name apart. same_at_done (means held) name (Some held) now status unprinted apart is
 
 not_done : (status : Status) → status ≡ Done → IsFault status → ⊥
 not_done status done fault = let P : Status → Type 0 = λ s. IsFault s in subst P done fault
@@ -175,7 +167,7 @@ not_faulted WriteFault before now first last cause none fault = elim cause [
 not_faulted Memory before now first last cause none fault = refl
 not_faulted _ before now first last cause none fault = absurd fault
 
-complete_of : (m : Meaning) (start now : Option Files) (status : Status) (before after : Counts) (first last : ℕ)
+pub complete_of : (m : Meaning) (start now : Option Files) (status : Status) (before after : Counts) (first last : ℕ)
     → IsDone m start status (Rose first last) now → HasEnded before after first last status
     → IsFaultless before after first last
     → (status ≡ m.outcome.status) ⊎ (status ≡ Memory)
@@ -184,31 +176,6 @@ complete_of m start now status before after first last is gone none =
       | inl answered ↦ inl answered
       | inr fault ↦ inr (not_faulted status before after first last gone.cause none fault)
     ]
-
--- the same over files that are told
-pub complete_told : (means : Files → Meaning) (told now : Option Files) (status : Status) (before after : Counts)
-    (first last : ℕ)
-    → IfSome told (λ held. IsDone (means held) (Some held) status (Rose first last) now)
-    → HasEnded before after first last status
-    → IfSome told (λ held. IsFaultless before after first last → (status ≡ (means held).outcome.status)
-    ⊎ (status ≡ Memory))
-complete_told means None now status before after first last is gone = tt
-complete_told means (Some held) now status before after first last is gone =
-    λ none. complete_of (means held) (Some held) now status before after first last is gone none
-
--- ---- words that fit no command
-
-usage_printed : (line : Result (Unit {0}) SinkNo) → (finished Usage line ≡ Usage) ⊎ (finished Usage line ≡ Memory)
-usage_printed (Ok u) = inl refl
-usage_printed (Err sink.Memory) = inr refl
-usage_printed (Err sink.Failed) = inl refl
-
-pub usage_of : (status : Status) (line : Result (Unit {0}) SinkNo) (told now : Option Files) → status ≡ Usage
-    → now ≡ told
-    → IsUsage (finished status line) told now
-usage_of status line told now is same =
-    let P : Status → Type 0 = λ s. (finished s line ≡ Usage) ⊎ (finished s line ≡ Memory) in
-    record { answer = subst P (sym is) (usage_printed line); files = same }
 
 -- ---- the headline
 
@@ -221,8 +188,24 @@ done_before status (Err sink.Failed) done = elim (finished_failed status) [
   | inr same ↦ sym same ∙ done
 ]
 
--- what holds where the command is done, holds where the call is
-pub done_then : (P : Files → Type 0) (told : Option Files) (status : Status) (line : Result (Unit {0}) SinkNo)
-    → IfSome told (λ held. status ≡ Done → P held) → IfSome told (λ held. finished status line ≡ Done → P held)
-done_then P None status line is = tt
-done_then P (Some held) status line is = λ done. is (done_before status line done)
+-- all was done only where the command is done
+all_done_before : (status : Status) (line : Result (Unit {0}) SinkNo) (before after : Counts)
+    → HasGone before after (blame_of status) → IsAllDone (finished status line) before after → status ≡ Done
+all_done_before status line before after gone (inl done) = done_before status line done
+all_done_before status (Ok u) before after gone (inr h) =
+    absurd (h.1 (let P : Status → Type 0 = λ s. HasGone before after (blame_of s) in subst P h.0 gone).risen)
+all_done_before status (Err sink.Memory) before after gone (inr h) = let e : Memory ≡ WriteFault = h.0 in cc
+all_done_before status (Err sink.Failed) before after gone (inr h) = elim (finished_failed status) [
+  | inl is ↦ is
+  | inr same ↦ absurd (h.1 (let P : Status → Type 0 = λ s. HasGone before after (blame_of s) in
+      subst P (sym same ∙ h.0) gone).risen)
+]
+
+-- what holds where the command is done, holds where all was done
+pub all_done_then : (P : Files → Type 0) (told : Option Files) (status : Status) (line : Result (Unit {0}) SinkNo)
+    (before after : Counts) → HasGone before after (blame_of status)
+    → IfSome told (λ held. status ≡ Done → P held)
+    → IfSome told (λ held. IsAllDone (finished status line) before after → P held)
+all_done_then P None status line before after gone is = tt
+all_done_then P (Some held) status line before after gone is =
+    λ done. is (all_done_before status line before after gone done)

@@ -28,7 +28,6 @@ of_job command job words outcome kept told now before after is other progress he
   carried = rw is done.carried;
   gone = done.gone;
   answer = rw is (done.words, done.answers);
-  usage = λ none. cc;
   name = λ net. elim (other net) [ ];
   untold_name = λ net. elim (other net) [ ];
   shown = λ net. elim (other net) [ ];

@@ -1,5 +1,5 @@
 -- The events of a network, played over the feed of its stream, and what is received of them.
-use Rattle.std.proofs.Common.{◌≡◌, ◌≢◌, ℕ, ◌*◌, ◌-◌, ◌^◌, ◌≤◌, List, [], ◌∷◌, length, sym, ap, subst, ◌∙◌, inl, arith}
+use Rattle.std.proofs.Common.{◌≡◌, ◌≢◌, ℕ, ◌*◌, ◌-◌, ◌^◌, ◌≤◌, List, [], ◌∷◌, length, sym, ap, subst, ◌∙◌, arith}
 use Rattle.std.specs.Prelude.{Option, Some, None, IfSome, min, slice_index}
 use Rattle.std.specs.FinMap.{get}
 use Rattle.dtx_adapter.specs.Feed.{feed, placeholders}
@@ -27,7 +27,7 @@ use Rattle.dtx_schedule.specs.Playout.{IsPlayout, SentBy, packets_given}
 use Rattle.dtx_schedule.specs.TransmitterFiles.{Contents, files_of, played, played_outputs, symbol_file}
 use Rattle.dtx_schedule.specs.declared.playout.Playout.{Playout}
 use Rattle.dtx_words.specs.NetworkNames.{feed_name, symbol_name}
-use Rattle.dtx_top.specs.NetMeaning.{played_and_received, played_outcome, playing, received_of, received_past}
+use Rattle.dtx_top.specs.NetMeaning.{played_and_received, playing, received_of, received_past}
 use Rattle.dtx_top.specs.NetMeaning.{with_received}
 use Rattle.dtx_top.specs.NetProgress.{NetProgress, reception_outputs}
 use Rattle.dtx_top.specs.Networks.{sent_file}
@@ -92,20 +92,6 @@ play_fault plan network stream receive held status outcome now transmitters is e
         (some_before (playing plan network stream).outputs (received_of plan network stream receiver).outputs some)
         (part_before (playing plan network stream).outputs (received_of plan network stream receiver).outputs
         (Some held) now is.part)
-
--- without a receiver all is done
-pub all_played : (plan : Plan) (network : NetPlan) (stream : List (List ℕ)) (held : Files) (now : Option Files)
-    (fed : Outcome) (steps : ℕ) (result : Outcome)
-    → HasNumbers stream fed → steps ≡ packets_given (steps_under plan stream network.events)
-    → now ≡ with_outputs (played_outputs plan.transmitters (steps_under plan stream network.events)) (Some held)
-    → result ≡ played_outcome (slice_index fed.numbers 0) (slice_index fed.numbers 1) steps
-    → IsCarriedOut (playing plan network stream) (Some held) result now
-all_played plan network stream held now fed steps result numbers counted files is = inl (record {
-  answer = is ∙ ap (λ n. played_outcome n (slice_index fed.numbers 1) steps) numbers.packets
-      ∙ ap (λ n. played_outcome (length stream) n steps) numbers.filled
-      ∙ ap (played_outcome (length stream) (placeholders stream)) counted;
-  files = files;
-})
 
 -- with one the symbols are received, from the files that the schedule left
 pub record AreReceived (plan : Plan) (network : NetPlan) (stream : List (List ℕ)) (receiver : ReceivePlan)

@@ -45,16 +45,16 @@ pub record HasEnded (before now : Counts) (first last : ℕ) (status : Status) :
   pub faults : first ≤ last
   pub cause : HasCause status before now first last
 
+-- All was done, whether or not its line could be printed: where no fault of writing is counted, `WriteFault` speaks of
+-- the line alone.
+abbrev pub IsAllDone : Status → Counts → Counts → Type 0
+IsAllDone status before now = (status ≡ Done) ⊎ ((status ≡ WriteFault) × ¬ Rose before.write_faults now.write_faults)
+
 -- no fault was counted, of reading, of writing, or of printing
 pub record IsFaultless (before now : Counts) (first last : ℕ) : Type 0 where
   pub reading : ¬ Rose before.read_faults now.read_faults
   pub writing : ¬ Rose before.write_faults now.write_faults
   pub printing : ¬ Rose first last
-
--- words that fit no command are answered so, unless memory is wanted for the line, and touch nothing
-pub record IsUsage (status : Status) (told now : Option Files) : Type 0 where
-  pub answer : (status ≡ Usage) ⊎ (status ≡ Memory)
-  pub files : now ≡ told
 
 -- the headline, where the words are those of a network
 abbrev pub HasHeadlineOf : Option Command → List (List ℕ) → Files → Option Files → Type 0
@@ -108,7 +108,6 @@ pub record IsCommandPerformed (command : Option Command) (words : List (List ℕ
   pub carried : IfSome told (λ held. IsCarriedOut (means_of command words held) (Some held) outcome now)
   pub gone : HasGone before after (blame_of outcome.status)
   pub answer : IsOfCommand command words outcome.status
-  pub usage : command ≡ None → (outcome.status ≡ Usage) × (now ≡ told)
   pub name : command ≡ Some Net → IfSome told (λ held. name_kept command words outcome.status kept
       ≡ line_name outcome.status (names_told command words held))
   pub untold_name : command ≡ Some Net → IsSomeName command words outcome.status

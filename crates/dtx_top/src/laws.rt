@@ -1,9 +1,11 @@
-//! Laws of the definitions: the segments of a transmitter's symbol file are those that it sends.
+//! Laws of the definitions: what follows of a call's end, and of a network's files.
 
-ghost use Rattle.std.specs.Prelude.{◌≡◌, ◌≢◌, ◌-◌, ◌*◌, ◌/◌, ◌%◌, ◌^◌, ◌<◌, ◌≤◌, ◌∷◌, [], ℕ, IsSomeAnd, List, Some};
+ghost use Rattle.std.specs.Prelude.{◌≡◌, ◌≢◌, ◌⊎◌, ◌-◌, ◌*◌, ◌/◌, ◌%◌, ◌^◌, ◌<◌, ◌≤◌, ◌∷◌, [], ℕ, IsSomeAnd, List};
+ghost use Rattle.std.specs.Prelude.{Option, Some};
 ghost use Rattle.std.specs.Prelude.{drop, is_some, length, slice_index_or, true};
 ghost use Rattle.std.specs.FinMap.{get};
 ghost use Rattle.std.specs.List.{list_any};
+ghost use Rattle.dtx_outside.specs.Counts.{Counts, Rose};
 ghost use Rattle.dtx_outside.specs.Shelf.{Files};
 ghost use Rattle.dtx_packets.specs.Packet.{pid_of};
 ghost use Rattle.dtx_packets.specs.Packets.{packets_of};
@@ -19,7 +21,9 @@ ghost use Rattle.dtx_adapter.specs.Feed.{feed};
 ghost use Rattle.dtx_network.specs.Network.{steps_under};
 ghost use Rattle.dtx_network.specs.Orders.{has_order};
 ghost use Rattle.dtx_network.specs.Plans.{IsPlan, IsStream};
+ghost use Rattle.dtx_meaning.specs.Meaning.{IsDone, Meaning};
 ghost use Rattle.dtx_meaning.specs.declared.status.Status.{Status};
+ghost use Rattle.dtx_meaning.specs.declared.status.Status.TheVariants.{Memory};
 ghost use Rattle.dtx_packet_jobs.specs.Feed.{bytes_of_packets, feed_bytes};
 ghost use Rattle.dtx_packet_jobs.specs.Place.{behind, is_open, placed};
 ghost use Rattle.dtx_jobs.specs.SymbolFile as file;
@@ -28,6 +32,7 @@ ghost use Rattle.dtx_schedule.specs.TransmitterFiles.{log_file, symbol_file};
 ghost use Rattle.dtx_words.specs.Fitting.{command_of};
 ghost use Rattle.dtx_words.specs.NetworkNames.{received_name};
 ghost use Rattle.dtx_words.specs.declared.rows.Command.TheVariants as command;
+ghost use Rattle.dtx_top.specs.Ends.{HasEnded, IsFaultless};
 ghost use Rattle.dtx_top.specs.HeadlineOfFiles.{HeadlineOfFiles};
 ghost use Rattle.dtx_top.specs.Means.{means};
 ghost use Rattle.dtx_top.specs.NetProgress.{AreUnderWay, HasNetProgress};
@@ -42,6 +47,14 @@ use dtx_network::laws::{
     packets_of_a_feed, sends_the_stretch_alone,
 };
 use dtx_packet_jobs::laws::placing::{fields_with_one, groups_begin_late, what_stays};
+
+/// Nothing is refused without cause. Where a call has ended so and counted no fault of reading, writing or printing, its
+/// answer is that of the meaning, or memory was wanted.
+pub fn no_answer_is_without_cause()
+    ensures { (meaning : Meaning) (start now : Option Files) (status : Status) (before after : Counts) (first last : ℕ)
+        → IsDone meaning start status (Rose first last) now → HasEnded before after first last status
+        → IsFaultless before after first last → (status ≡ meaning.outcome.status) ⊎ (status ≡ Memory) }
+{}
 
 /// The segments of a transmitter's symbol file are those that it sends: segment n of the file is segment n of them.
 pub fn segments_read_back()

@@ -1,11 +1,10 @@
 // The call that does all that the program does.
-ghost use Rattle.std.specs.Prelude.{◌≡◌, ◌⊎◌, ℕ, List, None, Some, IfSome};
+ghost use Rattle.std.specs.Prelude.{◌≡◌, IfSome};
 ghost use Rattle.dtx_outside.specs.Counts.{Rose};
-ghost use Rattle.dtx_outside.specs.Shelf.{IsSameAt};
-ghost use Rattle.dtx_meaning.specs.Meaning.{IsDone, IsNoOutput, IsUnprinted};
+ghost use Rattle.dtx_meaning.specs.Meaning.{IsDone, IsUnprinted};
 ghost use Rattle.dtx_words.specs.Fitting.{command_of};
 ghost use Rattle.dtx_words.specs.Names.{line_name};
-ghost use Rattle.dtx_top.specs.Ends.{HasEnded, HasHeadlineOf, HasProgressOf, IsByWords, IsFaultless, IsUsage};
+ghost use Rattle.dtx_top.specs.Ends.{HasEnded, HasHeadlineOf, HasProgressOf, IsAllDone, IsByWords};
 ghost use Rattle.dtx_top.specs.Lines.{name_kept, HasLine, IsSomeLine, IsToldLine};
 ghost use Rattle.dtx_top.specs.Means.{means};
 ghost use Rattle.dtx_top.specs.Trial.{trial_names};
@@ -109,25 +108,11 @@ pub fn run<S: Shelf, O: Sink>(alloc: Global, words: &[Word], shelf: &mut S, out:
     ensures untold_line { HasLine (IsSomeLine (command_of words.now) words.now) result
         (Rose (O.faults out.old) (O.faults out.new)) (O.written out.old) (O.written out.new) }
 
-    // Words that fit no command have no other answer, also where the files are not told, and touch nothing.
-    ensures usage { command_of words.now ≡ None → IsUsage result (S.files shelf.old) (S.files shelf.new) }
-
     // Also where the files are not told: what the words alone say of the answer. `Usage` comes only where they fit no
     // command; `Same` only where two names are equal, and there always unless memory is wanted, but for `net`, whose
     // names its plan tells; an input that isn't there is one that they name, or one of the four that `net` reads or of
     // the three that `trial` reads; and each refusal is one that the command knows.
     ensures words { IsByWords (command_of words.now) words.now result }
-
-    // Nothing is refused without cause: where no fault is counted, the answer is that of the meaning, unless memory is
-    // wanted.
-    ensures complete { IfSome (S.files shelf.old) (λ held.
-        IsFaultless (S.counts shelf.old) (S.counts shelf.new) (O.faults out.old) (O.faults out.new)
-        → (result ≡ (means words.now held).outcome.status) ⊎ (result ≡ Status.Memory)) }
-
-    // No file but the outputs of the meaning is touched.
-    ensures others { IfSome (S.files shelf.old) (λ held. (name : List ℕ)
-        → IsNoOutput name (means words.now held).outputs
-        → IsSameAt name (S.files shelf.old) (S.files shelf.new)) }
 
     // How far a network came, whatever the answer: one number of steps says it of the files of all transmitters, which
     // are begun behind the whole feed; what is received is begun behind the last step.
@@ -137,8 +122,10 @@ pub fn run<S: Shelf, O: Sink>(alloc: Global, words: &[Word], shelf: &mut S, out:
     // The headline: for every packet stream and schedule, an exciter that from any earlier state is given the adapter's
     // feed unchanged through three cadence marks and on emits, from its first listing whose group starts 52 or more
     // packets later, exactly the A/53 symbols of that feed, at moments that differ between transmitters only by the
-    // signalled offsets; and symbols with at most ten wrong bytes per codeword give its packets back.
-    ensures headline { IfSome (S.files shelf.old) (λ held. result ≡ Status.Done
+    // signalled offsets; and symbols with at most ten wrong bytes per codeword give its packets back. It holds where all
+    // was done, also where the line alone could not be printed.
+    ensures headline { IfSome (S.files shelf.old) (λ held.
+        IsAllDone result (S.counts shelf.old) (S.counts shelf.new)
         → HasHeadlineOf (command_of words.now) words.now held (S.files shelf.new)) }
 {
     let command = command(words);

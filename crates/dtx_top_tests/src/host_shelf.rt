@@ -62,7 +62,7 @@ fn answered(rt: &HostRuntime, steps: &[(&str, Step)], overlap: bool) -> bool {
     are_answered(rt, &mut shelf, steps) && shelf.overlap() == overlap
 }
 
-const OUT: &str = "dtx_outside_host_test";
+const OUT: &str = "dtx_host_test";
 
 const FILES: &[(&str, Step)] = &[
     (OUT, Step::Written(b"old")),
@@ -88,19 +88,16 @@ fn files_are_written_and_read(rt: HostRuntime) {
     assert!(rt; answered(&rt, FILES, false));
 }
 
-const READ: &str = "dtx_outside_host_read";
+const READ: &str = "dtx_host_read";
 
-const BEGUN: &str = "dtx_outside_host_begun";
+const BEGUN: &str = "dtx_host_begun";
 
 const MET: &[(&str, Step)] = &[
     (READ, Step::Written(b"abc")),
     (READ, Step::Read(0, Ok(b"abc"))),
     (BEGUN, Step::Begin(Ok(()))),
-    ("./dtx_outside_host_read", Step::Begin(Err(WriteNo::Failed))),
-    (
-        "./dtx_outside_host_begun",
-        Step::Begin(Err(WriteNo::Failed)),
-    ),
+    ("./dtx_host_read", Step::Begin(Err(WriteNo::Failed))),
+    ("./dtx_host_begun", Step::Begin(Err(WriteNo::Failed))),
     (READ, Step::Read(0, Ok(b"abc"))),
     (READ, Step::Removed),
     (BEGUN, Step::Removed),
@@ -111,11 +108,11 @@ fn a_file_that_was_read_or_begun_is_not_begun_again(rt: HostRuntime) {
     assert!(rt; answered(&rt, MET, true));
 }
 
-const CHANGED: &str = "dtx_outside_host_changed";
+const CHANGED: &str = "dtx_host_changed";
 
-const OTHER: &str = "dtx_outside_host_other";
+const OTHER: &str = "dtx_host_other";
 
-const KEPT: &str = "dtx_outside_host_kept";
+const KEPT: &str = "dtx_host_kept";
 
 const CHANGES: &[(&str, Step)] = &[
     (CHANGED, Step::Written(b"abc")),
@@ -150,7 +147,7 @@ fn a_file_that_others_change_meanwhile_is_a_fault(rt: HostRuntime) {
     assert!(rt; answered(&rt, CUT, false));
 }
 
-const HELD: &str = "dtx_outside_host_held";
+const HELD: &str = "dtx_host_held";
 
 /// A file that was written twice, and what others do with it then.
 static WAYS: [(&str, &[(&str, Step)]); 4] = [

@@ -11,4 +11,6 @@ mod lines;
 #[cfg(test)]
 mod output;
 #[cfg(test)]
+mod two_shelves;
+#[cfg(test)]
 mod worked_network;

@@ -2,8 +2,9 @@
 use Rattle.std.proofs.Common.{◌≡◌, ℕ, suc, ◌+◌, ◌*◌, ◌^◌, ◌<◌, refl, sym, ap, ◌∙◌, pow-suc, mul_assoc, add-one, lit<}
 use Rattle.std.proofs.lemmas.Nat.{shl_below}
 use Rattle.dtx_galois.specs.BitPolynomial.{remainder}
+use Rattle.dtx_galois.specs.DivisionLaws.{remainder_small}
 use Rattle.dtx_whiten.specs.Randomizer.{polynomial, preload, register}
-use Rattle.dtx_whiten.proofs.Division.{remainder_small, remainder_double}
+use Rattle.dtx_whiten.proofs.Division.{remainder_double}
 
 pub register_zero : register 0 ≡ 0xf180
 unfolding register preload remainder

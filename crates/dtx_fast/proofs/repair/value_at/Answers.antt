@@ -9,12 +9,10 @@ loop-k-init c = record { sum = refl; power = refl }
 
 pub loop-k-preserved : goal.loop-k-preserved
 unfolding walked pow
-loop-k-preserved c =
-    let k : ℕ = c.loop-k.k in
-    record {
-      sum = c.add-sum.ensures ∙ ap₂ bit_xor c.loop-k.invariant.sum (c.mul.ensures
-          ∙ ap (mul (get_or c.args.found.now.coefficients c.loop-k.k 0)) c.loop-k.invariant.power)
-          ∙ sym (ap (λ w. walked w (λ i. get_or c.args.found.now.coefficients i 0) c.args.at.0) (add-one c.loop-k.k));
-      power = c.mul-power.ensures ∙ ap (mul c.args.at.0) c.loop-k.invariant.power
-          ∙ sym (ap (pow c.args.at.0) (add-one c.loop-k.k));
-    }
+loop-k-preserved c = record {
+  sum = c.add-sum.ensures ∙ ap₂ bit_xor c.loop-k.invariant.sum (c.mul.ensures
+      ∙ ap (mul (get_or c.args.found.now.coefficients c.loop-k.k 0)) c.loop-k.invariant.power)
+      ∙ sym (ap (λ w. walked w (λ i. get_or c.args.found.now.coefficients i 0) c.args.at.0) (add-one c.loop-k.k));
+  power = c.mul-power.ensures ∙ ap (mul c.args.at.0) c.loop-k.invariant.power
+      ∙ sym (ap (pow c.args.at.0) (add-one c.loop-k.k));
+}

@@ -1,4 +1,4 @@
-use Rattle.dtx_galois.proofs.Division.{remainder_small, remainder_multiple}
+use Rattle.dtx_galois.specs.DivisionLaws.{remainder_small, remainder_multiple}
 use Rattle.dtx_galois.proofs.laws.division.Goals as goal
 
 pub returns-clause-small : goal.returns-clause-small

@@ -1,11 +1,7 @@
-use Rattle.std.proofs.Common.{ℕ, zero, suc, ◌<◌, get_or, replicate, arith}
+use Rattle.std.proofs.Common.{ℕ, ◌<◌, sym, subst, arith}
+use Rattle.std.proofs.lemmas.List.{get_or-replicate, length-replicate}
 use Rattle.dtx_part_tests.proofs.frame.each_level_has_its_symbol.Goals as goal
 
--- each of equal numbers is as small as one
-equal_small : (n z i : ℕ) → z < 8 → get_or (replicate n z) i 0 < 8
-equal_small zero z i l = omega arith
-equal_small (suc n) z zero l = l
-equal_small (suc n) z (suc i) l = equal_small n z i l
-
 pub data_segment-requires : goal.data_segment-requires
-data_segment-requires g c = λ i l. equal_small 828 c.loop-level.level i c.loop-level-test.true
+data_segment-requires g c = λ i l. subst (λ (n : ℕ). n < 8) (sym (get_or-replicate {A = ℕ} 828 i c.loop-level.level 0
+    (omega (arith, l, length-replicate {A = ℕ} 828 c.loop-level.level)))) c.loop-level-test.true

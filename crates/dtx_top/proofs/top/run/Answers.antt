@@ -1,8 +1,8 @@
-use Rattle.std.proofs.Common.{sym, ◌∙◌, rules}
-use Rattle.dtx_top.specs.Ends.{HasHeadlineOf}
+use Rattle.std.proofs.Common.{sym, subst, rules}
+use Rattle.dtx_top.specs.Ends.{HasHeadlineOf, IsOfCommand}
 use Rattle.dtx_top.specs.Means.{means_of}
 use Rattle.dtx_top.proofs.ByWords.{words_told}
-use Rattle.dtx_top.proofs.Ending.{complete_told, done_then, done_told, ended_of, others_told, unprinted_told, usage_of}
+use Rattle.dtx_top.proofs.Ending.{all_done_then, done_told, ended_of, unprinted_told}
 use Rattle.dtx_top.proofs.LineLeft.{line_told, line_untold}
 use Rattle.dtx_top.proofs.NetProgresses.{progress_told}
 use Rattle.dtx_top.proofs.top.run.Goals as goal
@@ -14,21 +14,6 @@ returns-clause-carried g c =
     c.perform-performed.ensures.carried
     c.line-printed.ensures.gone)
 
-pub returns-clause-others : goal.returns-clause-others
-returns-clause-others g c = rw (← c.command-command.ensures)
-    (others_told (means_of c.command-command.result c.args.words.now) _ _ _ _
-    (done_told (means_of c.command-command.result c.args.words.now) _ _ _ _ _ _
-    c.perform-performed.ensures.carried
-    c.line-printed.ensures.gone))
-
-pub returns-clause-complete : goal.returns-clause-complete
-returns-clause-complete g c = rw (c.finish.ensures, ← c.command-command.ensures)
-    (complete_told (means_of c.command-command.result c.args.words.now) _ _ _ _ _ _ _
-    (done_told (means_of c.command-command.result c.args.words.now) _ _ _ _ _ _
-    c.perform-performed.ensures.carried
-    c.line-printed.ensures.gone)
-    (ended_of _ _ _ _ _ _ c.perform-performed.ensures.gone c.line-printed.ensures.gone))
-
 pub returns-clause-line : goal.returns-clause-line
 returns-clause-line g c = rw (c.finish.ensures, ← c.command-command.ensures)
     (line_told c.command-command.result c.args.words.now _ _ _ _ _ _ _ _ _ c.perform-performed.ensures.carried
@@ -39,20 +24,15 @@ pub returns-clause-untold_line : goal.returns-clause-untold_line
 returns-clause-untold_line g c = rw (c.finish.ensures, ← c.command-command.ensures)
     (line_untold c.command-command.result c.args.words.now c.perform-performed.result.outcome
     c.perform-performed.result.name.bytes _ _ _ _ _ c.perform-performed.ensures.untold_name
-    (λ none. (c.perform-performed.ensures.usage none).0) c.perform-performed.ensures.shown
+    (λ none. subst (λ command. IsOfCommand command c.args.words.now c.perform-performed.result.outcome.status) none
+    c.perform-performed.ensures.answer) c.perform-performed.ensures.shown
     (search rules)
     (rw (← c.name_of-name.ensures) c.line-printed.ensures.written) c.line-printed.ensures.gone)
 
 pub returns-clause-headline : goal.returns-clause-headline
 returns-clause-headline g c = rw (c.finish.ensures, ← c.command-command.ensures)
-    (done_then (λ held. HasHeadlineOf c.command-command.result c.args.words.now held _) _ _ _
-    c.perform-performed.ensures.headline)
-
-pub returns-clause-usage : goal.returns-clause-usage
-returns-clause-usage g c = λ none.
-    let no_command = c.command-command.ensures ∙ none in
-    let usage = c.perform-performed.ensures.usage no_command in
-    rw c.finish.ensures (usage_of _ _ _ _ usage.0 usage.1)
+    (all_done_then (λ held. HasHeadlineOf c.command-command.result c.args.words.now held _) _ _ _ _ _
+    c.perform-performed.ensures.gone c.perform-performed.ensures.headline)
 
 pub returns-clause-gone : goal.returns-clause-gone
 returns-clause-gone g c = rw c.finish.ensures

@@ -1,6 +1,6 @@
 use Rattle.std.proofs.Common.{◌*◌, ◌^◌}
+use Rattle.dtx_galois.specs.DivisionLaws.{remainder_multiple}
 use Rattle.dtx_whiten.specs.Randomizer.{polynomial, preload, register}
-use Rattle.dtx_whiten.proofs.Division.{remainder_multiple}
 use Rattle.dtx_whiten.proofs.Shifts.{register_small}
 use Rattle.dtx_whiten.proofs.laws.division.Goals as goal
 

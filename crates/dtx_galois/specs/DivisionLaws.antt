@@ -10,7 +10,7 @@ use Rattle.dtx_galois.specs.BitPolynomial.{product, remainder}
 use Rattle.dtx_galois.specs.LinearLaws.{bit_cases, product_same}
 
 -- a polynomial whose term at d + n is cleared, of two with the same bit there
-pub same_top : (k u r s : ℕ) → r < 2 ^ k → s < 2 ^ k → bit_xor (u * 2 ^ k + r) (u * 2 ^ k + s) < 2 ^ k
+same_top : (k u r s : ℕ) → r < 2 ^ k → s < 2 ^ k → bit_xor (u * 2 ^ k + r) (u * 2 ^ k + s) < 2 ^ k
 same_top k u r s hr hs =
     subst (λ (x : ℕ). x < 2 ^ k) (sym (xor_block k u u r s hr hs ∙ ap (λ (x : ℕ). x * 2 ^ k + bit_xor r s) (xor_self u)
     ∙ ap (λ (x : ℕ). x + bit_xor r s) (zero-mul (2 ^ k)) ∙ zero_add (bit_xor r s))) (xor_lt k r s hr hs)
@@ -32,10 +32,9 @@ small_times k u x (inr e) l =
     subst (λ (v : ℕ). v * x < 2 ^ k) (sym e) (subst (λ (y : ℕ). y < 2 ^ k) (sym (one-mul x)) l)
 
 -- a step of the division leaves a polynomial of lower degree
-pub clear_top : (d low n p : ℕ) → low < 2 ^ d → p < 2 ^ suc (d + n)
+clear_top : (d low n p : ℕ) → low < 2 ^ d → p < 2 ^ suc (d + n)
     → bit_xor p (bit_at p (d + n) * ((2 ^ d + low) * 2 ^ n)) < 2 ^ (d + n)
 clear_top d low n p hl hp =
-    let k : ℕ = d + n in
     let e : bit_at p (d + n) ≡ p / 2 ^ (d + n) = top_bit (d + n) p hp in
     subst (λ (u : ℕ). bit_xor p (u * ((2 ^ d + low) * 2 ^ n)) < 2 ^ (d + n)) (sym e)
     (subst (λ (x : ℕ). bit_xor p x < 2 ^ (d + n)) (sym (shifted d low n (p / 2 ^ (d + n))))
@@ -67,7 +66,7 @@ top_of : (n u r : ℕ) → u < 2 → r < 2 ^ n → bit_at (u * 2 ^ n + r) n ≡ 
 top_of n u r hu hr = ap (λ (x : ℕ). x % 2) (div-mul-add u (2 ^ n) r hr) ∙ mod-eq_of_lt hu
 
 -- one term more of the quotient
-pub product_term : (n u q g : ℕ) → u < 2 → q < 2 ^ n
+product_term : (n u q g : ℕ) → u < 2 → q < 2 ^ n
     → product (suc n) (u * 2 ^ n + q) g ≡ bit_xor (u * (g * 2 ^ n)) (product n q g)
 unfolding product
 product_term n u q g hu hq =

@@ -1,0 +1,5 @@
+pub mod DoneTrial
+pub mod MadeOrders
+pub mod TrialLives
+pub mod TrialSymbols
+pub mod TrialWords
