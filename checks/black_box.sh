@@ -270,7 +270,7 @@ plan_of() {
 # ---- The cases, subject by subject ----
 
 ((${#parts[@]})) || parts=(launcher adapt plans make code receive excite hurt place net pages small trial soft mend dvb repeat acquire watch
-    names overlaps words refused_streams refused_files forbidden_files host_faults each_call progress many)
+    names overlaps words refused_streams refused_files forbidden_files host_faults pipes each_call progress many)
 for part in "${parts[@]}"; do
     . "$top/checks/black_box/$part.sh"
 done
