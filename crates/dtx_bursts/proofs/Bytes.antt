@@ -4,7 +4,7 @@ use Rattle.std.proofs.Common.{◌∷◌, ◌++◌, ◌⊎◌, inl, inr, length, 
 use Rattle.std.specs.List.{range_with_len, flat_map}
 use Rattle.std.proofs.lemmas.Bool.{cond-true, cond-false, eq-eqb, ne_eqb}
 use Rattle.std.proofs.lemmas.List.{get_or_append_left, get_or-append_right, get_or-drop, get_or-map, length-drop, length-append}
-use Rattle.std.proofs.lemmas.List.FromFn.{get_or-map-range_with_len}
+use Rattle.std.proofs.lemmas.List.FromFn.{get_or-map-range_with_len, length-map-range_with_len}
 use Rattle.dtx_slice.specs.Slicing.{sliced, sliced_data, sliced_last}
 use Rattle.dtx_slice.specs.Unrolled.{symbol_place, precoder_bit, pair_from, pair_back, coder_of, byte_back}
 use Rattle.dtx_slice.specs.Unrolled.{precoder_bits_of, level_groups, bytes_back}
@@ -54,7 +54,7 @@ flat_at f w a (suc n) (suc i) k d long l m =
 abbrev pub AreWhole : List (List ℤ) → Type 0
 AreWhole run = (i : ℕ) → i < length run → length (get_or run i []) ≡ 832
 
-data_within : (run : List (List ℤ)) (d : ℕ) → d < 4 * groups_of run → d + d / 312 + 1 < length run
+pub data_within : (run : List (List ℤ)) (d : ℕ) → d < 4 * groups_of run → d + d / 312 + 1 < length run
 unfolding groups_of data_count
 data_within run d l = by_length (length run) l
   where
@@ -97,7 +97,7 @@ level_is run d whole l =
 -- ---- a coder's bit and its next symbol
 
 -- the level of the symbol of coder e before round r
-abbrev level_before : List (List ℤ) → ℕ → ℕ → ℕ
+abbrev pub level_before : List (List ℤ) → ℕ → ℕ → ℕ
 level_before run r e = symbol_level run (position_of r e)
 
 first_bit : (run : List (List ℤ)) (e : ℕ) → AreWhole run → 0 < length run → e < 12
@@ -133,18 +133,22 @@ pub record AreSame (a b : List (List ℤ)) (y : ℕ) : Type 0 where
   pub same : (i : ℕ) → i < 5 → level_before a (4 * (y / 12) + i) (coder_of 0 y)
       ≡ level_before b (4 * (y / 12) + i) (coder_of 0 y)
 
+pub pair_is : (run : List (List ℤ)) (r e : ℕ) → AreWhole run → 0 < length run → r < 276 * groups_of run → e < 12
+    → pair_back 0 (first_bits run) (levels_in run) r e
+    ≡ pair_from (level_before run r e / 4) (level_before run (r + 1) e)
+unfolding pair_back
+pair_is run r e whole some l m =
+    ap₂ pair_from (bit_is run r e whole some (omega (arith, l)) m)
+    (level_is run (symbol_place 0 r e) whole (place_within 0 r e (groups_of run) l)
+    ∙ ap (symbol_level run) (sym (next_position r e)))
+
 same_pair : (a b : List (List ℤ)) (r e : ℕ) → AreWhole a → AreWhole b → 0 < length a → length b ≡ length a
     → groups_of b ≡ groups_of a → r < 276 * groups_of a → e < 12 → level_before a r e ≡ level_before b r e
     → level_before a (r + 1) e ≡ level_before b (r + 1) e
     → pair_back 0 (first_bits a) (levels_in a) r e ≡ pair_back 0 (first_bits b) (levels_in b) r e
-unfolding pair_back
 same_pair a b r e wa wb some as_long as_many l m x y =
-    ap₂ pair_from
-    (bit_is a r e wa some (omega (arith, l)) m ∙ ap (λ n. n / 4) x
-    ∙ sym (bit_is b r e wb (omega (arith, some, as_long)) (omega (arith, l, as_many)) m))
-    (level_is a (symbol_place 0 r e) wa (place_within 0 r e (groups_of a) l)
-    ∙ ap (symbol_level a) (sym (next_position r e)) ∙ y ∙ ap (symbol_level b) (next_position r e)
-    ∙ sym (level_is b (symbol_place 0 r e) wb (place_within 0 r e (groups_of b) (omega (arith, l, as_many)))))
+    pair_is a r e wa some l m ∙ ap₂ (λ u v. pair_from (u / 4) v) x y
+    ∙ sym (pair_is b r e wb (omega (arith, some, as_long)) (omega (arith, l, as_many)) m)
 
 -- ---- the bytes of two runs
 
@@ -230,12 +234,24 @@ level_groups_are run whole =
     back : (g : ℕ) → 828 * (4 * g) / 3312 ≡ g
     back g = omega arith
 
-byte_at : (run : List (List ℤ)) (y : ℕ) → AreWhole run → y < 828 * groups_of run
+pub byte_at : (run : List (List ℤ)) (y : ℕ) → AreWhole run → y < 828 * groups_of run
     → get_or (bytes_in run) y 0 ≡ byte_back 0 (first_bits run) (levels_in run) y
 unfolding bytes_in bytes_back
 byte_at run y whole l =
     get_or-map-range_with_len (byte_back 0 (first_bits run) (levels_in run)) 0
     (828 * level_groups (levels_in run)) y y 0 (omega (arith, l, level_groups_are run whole)) (omega arith)
+
+pub length-run : (run : List (List ℤ)) → AreWhole run → length (bytes_in run) ≡ 828 * groups_of run
+unfolding bytes_in bytes_back
+length-run run whole =
+    length-map-range_with_len (byte_back 0 (first_bits run) (levels_in run)) 0 (828 * level_groups (levels_in run))
+    ∙ ap (λ n. 828 * n) (level_groups_are run whole)
+
+pub byte_stays : (a b : List (List ℤ)) (y : ℕ) → AreAlike a b → y < 828 * groups_of a → AreSame a b y
+    → get_or (bytes_in a) y 0 ≡ get_or (bytes_in b) y 0
+byte_stays a b y h l s =
+    byte_at a y h.first l ∙ same_byte a b y h l s
+    ∙ sym (byte_at b y h.second (omega (arith, l, same_groups a b h.as_long)))
 
 -- ---- a byte off the symbols from one on and before another
 
@@ -265,26 +281,31 @@ abbrev pub DifferWithin : (count from : ℕ) (a b : List (List ℤ)) → Type 0
 DifferWithin count from a b = (n : ℕ) → n < 832 * length a → (n < from) ⊎ (from + count ≤ n)
     → symbol_level a n ≡ symbol_level b n
 
+-- a byte's symbols, from the first to the last
+pub symbol_within : (run : List (List ℤ)) (y i : ℕ) → 0 < length run → y < 828 * groups_of run → i < 5
+    → position_of (4 * (y / 12) + i) (coder_of 0 y) < 832 * length run
+symbol_within run y i some l m = of_within run (4 * (y / 12) + i) (coder_of 0 y) some (omega (arith, l, m))
+
+pub not_before : (y i : ℕ) → begin_of y ≤ position_of (4 * (y / 12) + i) (coder_of 0 y)
+not_before y i = rises_by (4 * (y / 12)) i (coder_of 0 y)
+
+pub not_behind : (y i : ℕ) → i < 5 → position_of (4 * (y / 12) + i) (coder_of 0 y) ≤ end_of y
+not_behind y i m =
+    let z : 4 * (y / 12) + i + (4 - i) ≡ 4 * (y / 12) + 4 = omega (arith, m) in
+    subst (λ n. position_of (4 * (y / 12) + i) (coder_of 0 y) ≤ position_of n (coder_of 0 y)) z
+    (rises_by (4 * (y / 12) + i) (4 - i) (coder_of 0 y))
+
 pub off_byte : (a b : List (List ℤ)) (count from y : ℕ) → AreAlike a b → DifferWithin count from a b
     → y < 828 * groups_of a → (end_of y < from) ⊎ (from + count ≤ begin_of y)
     → get_or (bytes_in a) y 0 ≡ get_or (bytes_in b) y 0
 off_byte a b count from y h d l off =
-    byte_at a y h.first l
-    ∙ same_byte a b y h l (record { same = λ i m. d (at i) (within i m) (by_side i m off) })
-    ∙ sym (byte_at b y h.second (omega (arith, l, same_groups a b h.as_long)))
+    byte_stays a b y h l (record {
+      same = λ i m. d (position_of (4 * (y / 12) + i) (coder_of 0 y)) (symbol_within a y i h.some l m)
+          (by_side i m off);
+    })
   where
-    at : ℕ → ℕ
-    at i = position_of (4 * (y / 12) + i) (coder_of 0 y)
-
-    within : (i : ℕ) → i < 5 → at i < 832 * length a
-    within i m = of_within a (4 * (y / 12) + i) (coder_of 0 y) h.some (omega (arith, l, m))
-
-    by_side : (i : ℕ) → i < 5 → (end_of y < from) ⊎ (from + count ≤ begin_of y) → (at i < from) ⊎ (from + count ≤ at i)
-    by_side i m (inl u) =
-        let z : 4 * (y / 12) + i + (4 - i) ≡ 4 * (y / 12) + 4 = omega (arith, m) in
-        inl (omega (
-          arith,
-          u,
-          subst (λ n. at i ≤ position_of n (coder_of 0 y)) z (rises_by (4 * (y / 12) + i) (4 - i) (coder_of 0 y)),
-        ))
-    by_side i m (inr u) = inr (omega (arith, u, rises_by (4 * (y / 12)) i (coder_of 0 y)))
+    by_side : (i : ℕ) → i < 5 → (end_of y < from) ⊎ (from + count ≤ begin_of y)
+        → (position_of (4 * (y / 12) + i) (coder_of 0 y) < from)
+        ⊎ (from + count ≤ position_of (4 * (y / 12) + i) (coder_of 0 y))
+    by_side i m (inl u) = inl (omega (arith, u, not_behind y i m))
+    by_side i m (inr u) = inr (omega (arith, u, not_before y i))

@@ -1,6 +1,6 @@
 -- Where the symbols stand on which a byte of a run hangs, and how far apart those of two bytes are.
 use Rattle.std.proofs.Common.{◌≡◌, ℕ, zero, suc, ◌+◌, ◌-◌, ◌*◌, ◌/◌, ◌%◌, ◌<◌, ◌≤◌, ◌==◌, ◌⊎◌, inl, inr, cond}
-use Rattle.std.proofs.Common.{refl, sym, ap, ap₂, ◌∙◌, subst, arith}
+use Rattle.std.proofs.Common.{refl, sym, ap, ap₂, ◌∙◌, subst, subst₂, arith}
 use Rattle.std.proofs.lemmas.Bool.{cases_lt, cond-true, cond-false, ne_eqb}
 use Rattle.dtx_slice.specs.Lanes.{lane_place}
 use Rattle.dtx_slice.specs.PlacesLaws.{lane_symbol, lane_byte_coder}
@@ -117,3 +117,48 @@ apart_ten y z l =
           (data_apart_ten (y / 12) (y % 12) (z / 12) (z % 12) (omega arith) (omega arith) (omega (arith, l))),
     )
 
+
+-- ---- twenty bytes of a word lie between them
+
+-- So many places apart are bytes of one word: those of one ramp, 1,045 or 1,046, or further ones.
+abbrev pub AreTwenty : ℕ → ℕ → Type 0
+AreTwenty y z = ((y + 1045 ≤ z) × (z ≤ y + 1046)) ⊎ (y + 1097 ≤ z)
+
+data_apart_twenty : (h p g q : ℕ) → p < 12 → q < 12 → AreTwenty (12 * h + p) (12 * g + q)
+    → last_data h p + 4121 ≤ first_data g q
+data_apart_twenty h p g q l m (inl (a, b)) = omega (arith, l, m, a, b)
+data_apart_twenty h p g q l m (inr a) = omega (arith, l, m, a)
+
+-- a little more near a segment's begin
+data_apart_early : (h p g q : ℕ) → p < 12 → q < 12 → AreTwenty (12 * h + p) (12 * g + q) → last_data h p % 828 < 19
+    → last_data h p + 4125 ≤ first_data g q
+data_apart_early h p g q l m (inl (a, b)) s = omega (arith, l, m, a, b, s)
+data_apart_early h p g q l m (inr a) s = omega (arith, l, m, a)
+
+position_apart_twenty : (c d : ℕ) → c + 4121 ≤ d → (19 ≤ c % 828) ⊎ (c + 4125 ≤ d) → position c + 4141 ≤ position d
+position_apart_twenty c d l (inl s) = omega (arith, l, s)
+position_apart_twenty c d l (inr m) = omega (arith, m)
+
+pub apart_twenty : (y z : ℕ) → AreTwenty y z → end_of y + 4141 ≤ begin_of z
+apart_twenty y z a =
+    omega (arith, end_is y, begin_is z later, at (cases_lt (last_data (y / 12) (y % 12) % 828) 19))
+  where
+    behind : AreTwenty y z → y + 1045 ≤ z
+    behind (inl (l, m)) = l
+    behind (inr l) = omega (arith, l)
+
+    later : 0 < z / 12
+    later = omega (arith, behind a)
+
+    own : AreTwenty (12 * (y / 12) + y % 12) (12 * (z / 12) + z % 12)
+    own = subst₂ AreTwenty (sym (twelve y)) (sym (twelve z)) a
+
+    at : (last_data (y / 12) (y % 12) % 828 < 19) ⊎ (19 ≤ last_data (y / 12) (y % 12) % 828)
+        → position (last_data (y / 12) (y % 12)) + 4141 ≤ position (first_data (z / 12) (z % 12))
+    at (inl s) =
+        position_apart_twenty (last_data (y / 12) (y % 12)) (first_data (z / 12) (z % 12))
+        (data_apart_twenty (y / 12) (y % 12) (z / 12) (z % 12) (omega arith) (omega arith) own)
+        (inr (data_apart_early (y / 12) (y % 12) (z / 12) (z % 12) (omega arith) (omega arith) own s))
+    at (inr s) =
+        position_apart_twenty (last_data (y / 12) (y % 12)) (first_data (z / 12) (z % 12))
+        (data_apart_twenty (y / 12) (y % 12) (z / 12) (z % 12) (omega arith) (omega arith) own) (inl s)

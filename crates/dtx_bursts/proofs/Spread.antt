@@ -151,3 +151,8 @@ at_most_ten w j g h = within_window w 522 j 10 g h (few_ten w)
 
 pub at_most_twenty : (w j : ℕ) (g : ℕ → ℕ) → IsWithin w 1045 j g → total g (207 * j) 207 ≤ 20
 at_most_twenty w j g h = within_window w 1045 j 20 g h (few_twenty w)
+
+-- two bytes of a word that are more than 1,046 places apart
+pub no_nearer : (j k m : ℕ) → 207 * j ≤ k → k < 207 * j + 207 → 207 * j ≤ m → m < 207 * j + 207
+    → air_place k + 1047 ≤ air_place m → air_place k + 1097 ≤ air_place m
+no_nearer j k m a b c d l = omega (arith, a, b, c, d, l)

@@ -1,10 +1,12 @@
 -- Where the places of a word that fail a test hang on symbols in a row, they are few.
 use Rattle.std.proofs.Common.{◌≡◌, ℕ, ◌+◌, ◌*◌, ◌%◌, ◌<◌, ◌≤◌, ◌⊎◌, cond, inl, inr, Bool, true, false, ap, arith, refl}
+use Rattle.std.proofs.Common.{◌-◌, subst}
 use Rattle.std.proofs.lemmas.Bool.{cases_lt}
 use Rattle.dtx_frame.specs.CountsLaws.{total}
+use Rattle.dtx_outer.specs.Inner.{codeword_byte_place, IsComplete}
 use Rattle.dtx_bursts.proofs.Least.{IsLeast, AllPass, least_by}
-use Rattle.dtx_bursts.proofs.Places.{begin_of, end_of, apart_ten}
-use Rattle.dtx_bursts.proofs.Spread.{air_place, IsWithin, at_most_ten}
+use Rattle.dtx_bursts.proofs.Places.{AreTwenty, begin_of, end_of, apart_ten, apart_twenty}
+use Rattle.dtx_bursts.proofs.Spread.{air_place, IsWithin, at_most_ten, at_most_twenty, no_nearer}
 
 -- Each place of word j at which the test fails hangs on the symbols from one on, so many.
 abbrev pub AreTouched : (count from j : ℕ) → (ℕ → Bool) → Type 0
@@ -16,9 +18,15 @@ abbrev pub AreApart : (count n j : ℕ) → Type 0
 AreApart count n j = (k m : ℕ) → 207 * j ≤ k → k < 207 * j + 207 → 207 * j ≤ m → m < 207 * j + 207
     → air_place k + n ≤ air_place m → end_of (air_place k) + count ≤ begin_of (air_place m)
 
-never_both : (b : Bool) → b ≡ true → b ≡ false → ⊥
+pub never_both : (b : Bool) → b ≡ true → b ≡ false → ⊥
 never_both true t f = cc
 never_both false t f = cc
+
+-- a byte of a word that is all there
+pub byte_there : (given j m : ℕ) → IsComplete 207 52 4 given j → 207 * j ≤ m → m < 207 * j + 207 → air_place m < given
+byte_there given j m c l u =
+    let z : 207 * j + (m - 207 * j) ≡ m = omega (arith, l) in
+    subst (λ n. codeword_byte_place 52 4 n < given) z (c (m - 207 * j) (omega (arith, l, u)))
 
 -- 1 where the test fails
 abbrev pub failing : (ℕ → Bool) → ℕ → ℕ
@@ -63,4 +71,17 @@ apart_in_ten j k m a b c d l = apart_ten (air_place k) (air_place m) l
 pub few_in_ten : (from j : ℕ) (p : ℕ → Bool) → AreTouched 2022 from j p → total (failing p) (207 * j) 207 ≤ 10
 few_in_ten from j p touched =
     by_least 2022 522 from j 10 p touched (apart_in_ten j) (λ w. at_most_ten w j (failing p))
+    (least_by p air_place (207 * j) 207)
+
+apart_in_twenty : (j : ℕ) → AreApart 4141 1045 j
+apart_in_twenty j k m a b c d l = apart_twenty (air_place k) (air_place m) (by_gap (cases_lt (air_place m) (air_place k + 1047)))
+  where
+    by_gap : (air_place m < air_place k + 1047) ⊎ (air_place k + 1047 ≤ air_place m)
+        → AreTwenty (air_place k) (air_place m)
+    by_gap (inl u) = inl (l, omega (arith, u))
+    by_gap (inr u) = inr (no_nearer j k m a b c d u)
+
+pub few_in_twenty : (from j : ℕ) (p : ℕ → Bool) → AreTouched 4141 from j p → total (failing p) (207 * j) 207 ≤ 20
+few_in_twenty from j p touched =
+    by_least 4141 1045 from j 20 p touched (apart_in_twenty j) (λ w. at_most_twenty w j (failing p))
     (least_by p air_place (207 * j) 207)

@@ -1,23 +1,54 @@
 //! Laws of the definitions: how many symbols in a row may be wrong, or missing.
 
-ghost use Rattle.std.specs.Prelude.{ℕ, ℤ, List, length};
-ghost use Rattle.dtx_chain.specs.Damage.{AreFound, AreReceived, IsSlight};
-ghost use Rattle.dtx_chain.specs.Undamaged.{ArePackets};
-ghost use Rattle.dtx_bursts.specs.Burst.{IsBurst, LeavesSyncs};
+ghost use Rattle.std.specs.Prelude.{◌≡◌, ℕ, ℤ, ◌+◌, ◌*◌, ◌<◌, ◌≤◌, true, List, [], length, map, slice_index_or};
+ghost use Rattle.std.specs.List.{list_all};
+ghost use Rattle.dtx_outer.specs.Inner.{IsComplete, word_at};
+ghost use Rattle.dtx_receiver.specs.Bytes.{bytes_in, groups_of};
+ghost use Rattle.dtx_erase.specs.Marks.{marks_in};
+ghost use Rattle.dtx_erase.specs.Mended.{all_mended, marks_at, mended};
+ghost use Rattle.dtx_erase.specs.Mending.{lost, unmarked_distance};
+ghost use Rattle.dtx_chain.specs.Damage.{AreFound, AreReceived, IsSlight, codeword_at, from_sync, numbers_in};
+ghost use Rattle.dtx_chain.specs.Damage.{packet_behind, to_sync};
+ghost use Rattle.dtx_chain.specs.Undamaged.{ArePackets, as_received};
+ghost use Rattle.dtx_bursts.specs.Burst.{IsBurst, IsGap, LeavesSyncs};
 
 /// At most 2,022 wrong symbols in a row, whatever they are and wherever they stand, are slight damage where the field
-/// syncs are found: no word has more than ten wrong bytes. So `dtx_chain::laws::gives_all_back` holds of them. Two
-/// segments are 1,664 symbols.
+/// syncs are found: no word has more than ten wrong bytes. So all packets whose bytes are all there come back, and none
+/// is flagged (`gives_all_back` of `dtx_chain`). Two segments are 1,664 symbols.
 pub fn wrong_symbols_in_a_row()
     ensures { (packets : List (List ℕ)) (first from : ℕ) (sent got : List (List ℤ))
         → AreReceived packets first sent got → ArePackets packets → AreFound first sent got
         → IsBurst 2022 from sent got → IsSlight packets first sent got }
 {}
 
-/// The field syncs are found where a burst begins at or behind the first of them, and at most 32 of its symbols are
-/// among the first 515 of each: however long it is.
+/// At most 4,141 missing symbols in a row, wherever they stand, leave each word mendable where the field syncs are
+/// found: no word has more than twenty missing bytes, and none is wrong. Then all packets from the one behind the first
+/// field sync on whose bytes are all there are mended, in order, and none is flagged. Four segments are 3,328 symbols.
+pub fn missing_symbols_in_a_row()
+    ensures words { (packets : List (List ℕ)) (first from : ℕ) (sent got : List (List ℤ))
+        → AreReceived packets first sent got → ArePackets packets → IsGap 4141 from sent got
+        → (j : ℕ) → IsComplete 207 52 4 (828 * groups_of (from_sync first got)) j
+        → 2 * unmarked_distance (marks_at (marks_in (from_sync first got)) j)
+        (word_at 207 52 4 (bytes_in (from_sync first got)) j) (codeword_at packets (packet_behind first + j))
+        + lost (marks_at (marks_in (from_sync first got)) j) ≤ 20 }
+    ensures packets { (packets : List (List ℕ)) (first from : ℕ) (sent got : List (List ℤ))
+        → AreReceived packets first sent got → ArePackets packets → to_sync first < length sent
+        → AreFound first sent got → IsGap 4141 from sent got
+        → mended got ≡ map (λ j. as_received (slice_index_or packets (packet_behind first + j) []))
+        (numbers_in (from_sync first got)) }
+    ensures unflagged { (packets : List (List ℕ)) (first from : ℕ) (sent got : List (List ℤ))
+        → AreReceived packets first sent got → ArePackets packets → to_sync first < length sent
+        → AreFound first sent got → IsGap 4141 from sent got
+        → list_all (λ r. r.good) (all_mended got) ≡ true }
+{}
+
+/// The field syncs are found where a burst stands at or behind the first of them, and at most 32 of its symbols are
+/// among the first 515 of each: however long it is, and whether its symbols are wrong or missing.
 pub fn syncs_are_found()
-    ensures { (packets : List (List ℕ)) (first count from : ℕ) (sent got : List (List ℤ))
+    ensures wrong { (packets : List (List ℕ)) (first count from : ℕ) (sent got : List (List ℤ))
         → AreReceived packets first sent got → LeavesSyncs first count from (length sent)
         → IsBurst count from sent got → AreFound first sent got }
+    ensures missing { (packets : List (List ℕ)) (first count from : ℕ) (sent got : List (List ℤ))
+        → AreReceived packets first sent got → LeavesSyncs first count from (length sent)
+        → IsGap count from sent got → AreFound first sent got }
 {}
