@@ -13,3 +13,4 @@ pub mod Syncs
 pub mod Replaced
 pub mod Apart
 pub mod TooMany
+pub mod TooManyMissing

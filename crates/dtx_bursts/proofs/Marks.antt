@@ -1,15 +1,14 @@
 -- A byte of a run is marked where one of five symbols is missing.
 use Rattle.std.proofs.Common.{◌≡◌, ℕ, ℤ, pos, zero, suc, ◌+◌, ◌-◌, ◌*◌, ◌/◌, ◌%◌, ◌<◌, ◌≤◌, ◌==◌, ◌⊎◌, ◌||◌, inl, inr}
-use Rattle.std.proofs.Common.{cond, Bool, true, false, List, [], ◌∷◌, length, map, drop, get_or, refl, sym, ap, ap₂}
+use Rattle.std.proofs.Common.{Bool, true, false, List, [], length, map, drop, get_or, refl, sym, ap, ap₂}
 use Rattle.std.proofs.Common.{◌∙◌, subst, arith}
 use Rattle.std.specs.List.{range_with_len, flat_map}
 use Rattle.std.proofs.lemmas.Bool.{cond-false, ne_eqb}
 use Rattle.std.proofs.lemmas.List.{get_or-drop, get_or-map, length-drop, length-map}
-use Rattle.std.proofs.lemmas.List.FromFn.{get_or-map-range_with_len}
 use Rattle.dtx_slice.specs.Unrolled.{symbol_place, coder_of}
 use Rattle.dtx_slice.specs.InverseLaws.{place_within}
-use Rattle.dtx_receiver.specs.Bytes.{data_at, groups_of, bytes_in}
-use Rattle.dtx_erase.specs.Marks.{is_missing, missing_in, was_missing, is_marked, marks_in}
+use Rattle.dtx_receiver.specs.Bytes.{data_at, groups_of}
+use Rattle.dtx_erase.specs.Marks.{is_missing, missing_in, was_missing, is_marked}
 use Rattle.dtx_bursts.specs.Burst.{symbol_at}
 use Rattle.dtx_bursts.proofs.Bytes.{AreWhole, data_within, flat_at}
 use Rattle.dtx_bursts.proofs.Places.{position, position_of, first_position, next_position}

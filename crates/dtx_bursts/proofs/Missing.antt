@@ -1,6 +1,6 @@
 -- Missing symbols in a row mark few bytes of each word, and leave the others as they were.
-use Rattle.std.proofs.Common.{◌≡◌, ℕ, ℤ, ◌+◌, ◌-◌, ◌*◌, ◌/◌, ◌%◌, ◌<◌, ◌≤◌, ◌⊎◌, cond, not, inl, inr, Bool, true, false}
-use Rattle.std.proofs.Common.{List, length, map, drop, get_or, refl, sym, ap, ◌∙◌, subst, arith}
+use Rattle.std.proofs.Common.{◌≡◌, ℕ, ℤ, ◌+◌, ◌*◌, ◌/◌, ◌<◌, ◌≤◌, ◌⊎◌, cond, not, inl, inr, Bool, true, false}
+use Rattle.std.proofs.Common.{List, length, map, get_or, refl, sym, ap, ◌∙◌, subst, arith}
 use Rattle.std.proofs.lemmas.List.FromFn.{get_or-map-range_with_len}
 use Rattle.std.specs.List.{range_with_len}
 use Rattle.dtx_frame.specs.CountsLaws.{total}
@@ -53,7 +53,7 @@ told count from a b y h gap l (inr (seen, unmarked)) =
 
 -- ---- a word
 
-mark_at : (a b : List (List ℤ)) (j i : ℕ) → AreAlike a b → IsComplete 207 52 4 (828 * groups_of a) j → i < 207
+pub mark_at : (a b : List (List ℤ)) (j i : ℕ) → AreAlike a b → IsComplete 207 52 4 (828 * groups_of a) j → i < 207
     → get_or (marks_at (marks_in a) j) i false ≡ is_marked a (air_place (207 * j + i))
 unfolding marks_at marks_in
 mark_at a b j i h c l =

@@ -1,6 +1,6 @@
 -- Segments of which each symbol is replaced by another.
 use Rattle.std.proofs.Common.{◌≡◌, ℕ, ℤ, pos, negsuc, ◌+◌, ◌-◌, ◌*◌, ◌/◌, ◌%◌, ◌<◌, ◌≤◌, ◌⊎◌, inl, inr, cond, nat_le, nat_lt, ◌&&◌}
-use Rattle.std.proofs.Common.{Bool, true, false, List, [], length, map, take, drop, get_or, refl, sym, ap, ap₂, ◌∙◌, subst, arith}
+use Rattle.std.proofs.Common.{Bool, true, false, List, [], length, map, get_or, refl, sym, ap, ◌∙◌, subst, arith}
 use Rattle.std.specs.List.{range_with_len}
 use Rattle.std.proofs.lemmas.Bool.{and_from, and_left, and_right, cond-true, cond-false, le-leb, le-ltb, leb-true, lt-leb, lt-ltb}
 use Rattle.std.proofs.lemmas.List.{take_all}
@@ -64,23 +64,22 @@ level_eight run p = sliced_eight (symbol_at run p)
 
 -- ---- so many in a row
 
--- the symbols from one on, so many, are replaced
-pub row : (count from : ℕ) → (ℕ → ℤ) → List (List ℤ) → ℕ → ℤ
-row count from new sent p = cond (nat_le from p && nat_lt p (from + count)) (new p) (symbol_at sent p)
+-- one symbol inside the row, and another outside of it
+pub row : (count from : ℕ) (new old : ℕ → ℤ) → ℕ → ℤ
+row count from new old p = cond (nat_le from p && nat_lt p (from + count)) (new p) (old p)
 
-pub inside : (count from p : ℕ) (new : ℕ → ℤ) (sent : List (List ℤ)) → from ≤ p → p < from + count
-    → row count from new sent p ≡ new p
+pub inside : (count from p : ℕ) (new old : ℕ → ℤ) → from ≤ p → p < from + count → row count from new old p ≡ new p
 unfolding row
-inside count from p new sent l u =
-    cond-true (nat_le from p && nat_lt p (from + count)) (new p) (symbol_at sent p)
+inside count from p new old l u =
+    cond-true (nat_le from p && nat_lt p (from + count)) (new p) (old p)
     (and_from (nat_le from p) (nat_lt p (from + count)) (le-leb from p l) (lt-ltb p (from + count) u))
 
-pub outside : (count from p : ℕ) (new : ℕ → ℤ) (sent : List (List ℤ)) → (p < from) ⊎ (from + count ≤ p)
-    → row count from new sent p ≡ symbol_at sent p
+pub outside : (count from p : ℕ) (new old : ℕ → ℤ) → (p < from) ⊎ (from + count ≤ p)
+    → row count from new old p ≡ old p
 unfolding row
-outside count from p new sent (inl l) =
-    cond-false (nat_le from p && nat_lt p (from + count)) (new p) (symbol_at sent p)
+outside count from p new old (inl l) =
+    cond-false (nat_le from p && nat_lt p (from + count)) (new p) (old p)
     (and_left (nat_le from p) (nat_lt p (from + count)) (lt-leb from p l))
-outside count from p new sent (inr u) =
-    cond-false (nat_le from p && nat_lt p (from + count)) (new p) (symbol_at sent p)
+outside count from p new old (inr u) =
+    cond-false (nat_le from p && nat_lt p (from + count)) (new p) (old p)
     (and_right (nat_le from p) (nat_lt p (from + count)) (le-ltb p (from + count) u))

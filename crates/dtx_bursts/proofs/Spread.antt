@@ -3,10 +3,9 @@
 -- Byte m of the codewords stands at place m + 208 * (m % 52). Those of one value of m / 52 are a ramp, of which
 -- neighbours stand 209 places apart; each further ramp stands 52 places on. The 207 bytes of a word are of five ramps,
 -- of which the first lacks its begin and the last lacks its end.
-use Rattle.std.proofs.Common.{◌≡◌, ℕ, zero, suc, ◌+◌, ◌-◌, ◌*◌, ◌/◌, ◌%◌, ◌<◌, ◌≤◌, ◌⊎◌, min, inl, inr, ap, subst, arith}
+use Rattle.std.proofs.Common.{◌≡◌, ℕ, zero, suc, ◌+◌, ◌-◌, ◌*◌, ◌/◌, ◌%◌, ◌<◌, ◌≤◌, ◌⊎◌, min, inl, inr, subst, arith}
 use Rattle.dtx_frame.specs.CountsLaws.{total}
 use Rattle.dtx_bursts.proofs.Counting.{total_rises}
-use Rattle.std.proofs.lemmas.Bool.{cases_lt}
 
 abbrev pub air_place : ℕ → ℕ
 air_place m = m + 208 * (m % 52)

@@ -1,6 +1,6 @@
 -- A burst that leaves the field syncs leaves them found.
 use Rattle.std.proofs.Common.{◌≡◌, ℕ, ℤ, pos, ◌+◌, ◌-◌, ◌*◌, ◌/◌, ◌%◌, ◌<◌, ◌≤◌, ◌==◌, ◌⊎◌, inl, inr, cond, min, true, false}
-use Rattle.std.proofs.Common.{Bool, List, [], length, map, sum, get_or, refl, sym, ap, ap₂, ◌∙◌, subst, arith}
+use Rattle.std.proofs.Common.{Bool, List, [], length, map, sum, get_or, sym, ap, ap₂, ◌∙◌, subst, arith}
 use Rattle.std.specs.List.{range_with_len}
 use Rattle.std.proofs.lemmas.Bool.{cases_lt, le-leb}
 use Rattle.dtx_slice.specs.Slicing.{sliced}
@@ -8,8 +8,7 @@ use Rattle.dtx_frame.specs.AlikeLaws.{none_differ}
 use Rattle.dtx_frame.specs.CountsLaws.{total, total_zeros, sum_is, part, same_is}
 use Rattle.dtx_frame.specs.Detection.{differs, differing, looks_like}
 use Rattle.dtx_frame.specs.Segments.{field_sync, sync_symbols}
-use Rattle.dtx_coder.specs.Stream.{a53}
-use Rattle.dtx_chain.specs.Damage.{AreReceived, AreFound, damage_at, damaged_symbols, to_sync}
+use Rattle.dtx_chain.specs.Damage.{AreReceived, AreFound, damage_at, damaged_symbols}
 use Rattle.dtx_chain.specs.PlacesLaws.{sync_at_place}
 use Rattle.dtx_chain.specs.SlightLaws.{sent_at, sent_within}
 use Rattle.dtx_bursts.specs.Burst.{IsBurst, LeavesSyncs, symbol_level}

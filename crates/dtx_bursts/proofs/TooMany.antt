@@ -1,6 +1,6 @@
 -- One symbol more in a row can be too many: a stream's first packet shows it.
-use Rattle.std.proofs.Common.{◌≡◌, ℕ, ℤ, pos, ◌+◌, ◌-◌, ◌*◌, ◌/◌, ◌%◌, ◌<◌, ◌≤◌, ◌==◌, ◌⊎◌, cond, nat_le, nat_lt}
-use Rattle.std.proofs.Common.{◌&&◌, ◌||◌, inl, inr, Bool, true, List, [], ◌∷◌, length, drop, get_or, refl, sym, ap, ap₂, ◌∙◌}
+use Rattle.std.proofs.Common.{◌≡◌, ℕ, ℤ, ◌+◌, ◌-◌, ◌*◌, ◌/◌, ◌%◌, ◌<◌, ◌≤◌, ◌==◌, ◌⊎◌, nat_le, nat_lt}
+use Rattle.std.proofs.Common.{◌&&◌, ◌||◌, inl, inr, Bool, true, List, [], ◌∷◌, length, get_or, refl, sym, ap, ap₂, ◌∙◌}
 use Rattle.std.proofs.Common.{subst, arith}
 use Rattle.std.proofs.lemmas.Bool.{and_parts, cases_lt, cond-false, leb-true, ltb-true, ne_eqb, or_cases}
 use Rattle.dtx_laws.specs.Codeword.{distance}
@@ -18,17 +18,16 @@ use Rattle.dtx_chain.specs.Undamaged.{ArePackets}
 use Rattle.dtx_chain.specs.Damage.{AreReceived, AreFound, codeword_at, from_sync, packet_behind, to_sync, word_in}
 use Rattle.dtx_chain.specs.LevelsLaws.{groups_are}
 use Rattle.dtx_bursts.specs.Burst.{IsBurst, LeavesSyncs, symbol_at, symbol_level}
-use Rattle.dtx_bursts.proofs.Apart.{apart_by_first, apart_by_last, level_on}
-use Rattle.dtx_bursts.proofs.Bytes.{AreWhole, level_before, same_groups, symbol_within}
+use Rattle.dtx_bursts.proofs.Apart.{apart_by_first, apart_by_last}
+use Rattle.dtx_bursts.proofs.Bytes.{AreWhole, same_groups, symbol_within}
 use Rattle.dtx_bursts.proofs.Counting.{distance_least, no_fewer, rising}
 use Rattle.dtx_bursts.proofs.Moved.{sent_word}
 use Rattle.dtx_bursts.proofs.Places.{begin_of, end_of, position_of}
-use Rattle.dtx_bursts.proofs.Replaced.{are_replaced, inside, length-replaced, level_eight, outside, replaced, row}
-use Rattle.dtx_bursts.proofs.Replaced.{symbol_replaced, whole_replaced}
+use Rattle.dtx_bursts.proofs.Replaced.{are_replaced, inside, level_eight, outside, replaced, row}
+use Rattle.dtx_bursts.proofs.Replaced.{symbol_replaced}
 use Rattle.dtx_bursts.proofs.Slight.{differs}
 use Rattle.dtx_bursts.proofs.Spread.{air_place}
 use Rattle.dtx_bursts.proofs.Syncs.{burst_found}
-use Rattle.dtx_bursts.proofs.Window.{failing}
 
 -- a symbol of the opposite level: seven less its own
 opposite : List (List ℤ) → ℕ → ℤ
@@ -36,26 +35,26 @@ opposite sent p = symbol_of (7 - symbol_level sent p)
 
 -- a stream of which 2,023 symbols in a row are opposite, from symbol 25,425 on
 turned : List (List ℕ) → List (List ℤ)
-turned ps = replaced (row 2023 25425 (opposite (a53 ps)) (a53 ps)) (length (a53 ps))
+turned ps = replaced (row 2023 25425 (opposite (a53 ps)) (symbol_at (a53 ps))) (length (a53 ps))
 
 level_turned : (ps : List (List ℕ)) (p : ℕ) → p < 832 * length (a53 ps) → 25425 ≤ p → p < 25425 + 2023
     → symbol_level (turned ps) p ≡ 7 - symbol_level (a53 ps) p
 unfolding turned opposite symbol_level
 level_turned ps p l a b =
-    ap sliced (symbol_replaced (row 2023 25425 (opposite (a53 ps)) (a53 ps)) (length (a53 ps)) p l
-    ∙ inside 2023 25425 p (opposite (a53 ps)) (a53 ps) a b)
+    ap sliced (symbol_replaced (row 2023 25425 (opposite (a53 ps)) (symbol_at (a53 ps))) (length (a53 ps)) p l
+    ∙ inside 2023 25425 p (opposite (a53 ps)) (symbol_at (a53 ps)) a b)
     ∙ sliced_symbol (7 - sliced (symbol_at (a53 ps) p)) (omega arith)
 
 level_left : (ps : List (List ℕ)) (p : ℕ) → p < 832 * length (a53 ps) → (p < 25425) ⊎ (25425 + 2023 ≤ p)
     → symbol_level (turned ps) p ≡ symbol_level (a53 ps) p
 unfolding turned symbol_level
 level_left ps p l side =
-    ap sliced (symbol_replaced (row 2023 25425 (opposite (a53 ps)) (a53 ps)) (length (a53 ps)) p l
-    ∙ outside 2023 25425 p (opposite (a53 ps)) (a53 ps) side)
+    ap sliced (symbol_replaced (row 2023 25425 (opposite (a53 ps)) (symbol_at (a53 ps))) (length (a53 ps)) p l
+    ∙ outside 2023 25425 p (opposite (a53 ps)) (symbol_at (a53 ps)) side)
 
 turned_received : (ps : List (List ℕ)) → AreReceived ps 0 (a53 ps) (turned ps)
 unfolding turned
-turned_received ps = are_replaced ps (row 2023 25425 (opposite (a53 ps)) (a53 ps))
+turned_received ps = are_replaced ps (row 2023 25425 (opposite (a53 ps)) (symbol_at (a53 ps)))
 
 turned_burst : (ps : List (List ℕ)) → IsBurst 2023 25425 (a53 ps) (turned ps)
 turned_burst ps = record { others = λ n l side. level_left ps n l side }
@@ -90,13 +89,13 @@ they_hang : rising hangs 0 eleven 207 ≡ true
 unfolding hangs eleven position_of symbol_place coder_of
 they_hang = refl
 
-whole_stream : (ps : List (List ℕ)) → AreWhole (a53 ps)
+pub whole_stream : (ps : List (List ℕ)) → AreWhole (a53 ps)
 whole_stream ps i l = a53_segment ps i l
 
-some_segments : (ps : List (List ℕ)) → 52 ≤ length ps → 0 < length (a53 ps)
+pub some_segments : (ps : List (List ℕ)) → 52 ≤ length ps → 0 < length (a53 ps)
 some_segments ps l = omega (arith, l, length-a53 ps)
 
-enough_groups : (ps : List (List ℕ)) → 52 ≤ length ps → 13 ≤ groups_of (a53 ps)
+pub enough_groups : (ps : List (List ℕ)) → 52 ≤ length ps → 13 ≤ groups_of (a53 ps)
 enough_groups ps l = omega (arith, l, groups_are ps)
 
 -- the levels on which a byte hangs
@@ -205,7 +204,7 @@ eleven_others ps l = no_fewer (other_at ps) hangs (others ps l) eleven 0 207 the
 
 -- ---- the first word
 
-first_complete : (ps : List (List ℕ)) (g : ℕ) → 52 ≤ length ps → g ≡ groups_of (a53 ps)
+pub first_complete : (ps : List (List ℕ)) (g : ℕ) → 52 ≤ length ps → g ≡ groups_of (a53 ps)
     → IsComplete 207 52 4 (828 * g) 0
 first_complete ps g l e i m = omega (arith, m, e, enough_groups ps l)
 

@@ -2,13 +2,15 @@
 
 ghost use Rattle.std.specs.Prelude.{◌≡◌, ℕ, ℤ, ◌+◌, ◌*◌, ◌<◌, ◌≤◌, true, List, [], length, map, slice_index_or};
 ghost use Rattle.std.specs.List.{list_all};
+ghost use Rattle.dtx_laws.specs.Codeword.{distance};
+ghost use Rattle.dtx_coder.specs.Stream.{a53};
 ghost use Rattle.dtx_outer.specs.Inner.{IsComplete, word_at};
 ghost use Rattle.dtx_receiver.specs.Bytes.{bytes_in, groups_of};
 ghost use Rattle.dtx_erase.specs.Marks.{marks_in};
 ghost use Rattle.dtx_erase.specs.Mended.{all_mended, marks_at, mended};
 ghost use Rattle.dtx_erase.specs.Mending.{lost, unmarked_distance};
 ghost use Rattle.dtx_chain.specs.Damage.{AreFound, AreReceived, IsSlight, codeword_at, from_sync, numbers_in};
-ghost use Rattle.dtx_chain.specs.Damage.{packet_behind, to_sync};
+ghost use Rattle.dtx_chain.specs.Damage.{packet_behind, to_sync, word_in};
 ghost use Rattle.dtx_chain.specs.Undamaged.{ArePackets, as_received};
 ghost use Rattle.dtx_bursts.specs.Burst.{IsBurst, IsGap, LeavesSyncs};
 
@@ -51,4 +53,16 @@ pub fn syncs_are_found()
     ensures missing { (packets : List (List ℕ)) (first count from : ℕ) (sent got : List (List ℤ))
         → AreReceived packets first sent got → LeavesSyncs first count from (length sent)
         → IsGap count from sent got → AreFound first sent got }
+{}
+
+/// One symbol more is too many: each stream of 52 packets or more can be received with 2,023 wrong symbols in a row so
+/// that the word of its first packet has eleven wrong bytes or more, and with 4,142 missing ones so that it has
+/// twenty-one missing bytes or more. The field syncs are found.
+pub fn one_symbol_more_is_too_many()
+    ensures wrong { (packets : List (List ℕ)) → ArePackets packets → 52 ≤ length packets
+        → (got : List (List ℤ)) × AreReceived packets 0 (a53 packets) got × AreFound 0 (a53 packets) got
+        × IsBurst 2023 25425 (a53 packets) got × (11 ≤ distance (word_in 0 got 0) (codeword_at packets 0)) }
+    ensures missing { (packets : List (List ℕ)) → 52 ≤ length packets
+        → (got : List (List ℤ)) × AreReceived packets 0 (a53 packets) got × AreFound 0 (a53 packets) got
+        × IsGap 4142 19982 (a53 packets) got × (21 ≤ lost (marks_at (marks_in (from_sync 0 got)) 0)) }
 {}
