@@ -1,0 +1,10 @@
+pub mod Since
+pub mod Orders
+pub mod Given
+pub mod Alike
+pub mod Marks
+pub mod Noted
+pub mod Coded
+pub mod Words
+pub mod Told
+pub mod Lines
