@@ -8,3 +8,4 @@ pub mod Coded
 pub mod Words
 pub mod Told
 pub mod Lines
+pub mod Clocked

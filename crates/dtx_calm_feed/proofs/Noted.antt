@@ -225,22 +225,26 @@ states_right l i order older ops h = by_test (bytes_eq ops.states q) refl
     by_test true e = let d = bytes_eq-Decides ops.states q in d.0 e
     by_test false e = absurd (h (cond-false (bytes_eq ops.states q) states_are.Right states_are.Slip e))
 
+-- what is told of an operations packet of a calm feed at its place
+pub ordered_calm : (feed : List (List ℕ)) (k : ℕ) (ops : Ops) → IsCalmFeed feed
+    → ordered_at (readings feed) k ≡ Some ops
+    → IsCalmWhat (OpsAt (ops_note (expected_at feed (4 * (k / 4))) (stamped_before feed k) ops))
+ordered_calm feed k ops c e =
+    let o : IsOrderedAt feed k ops = ordered_is feed k ops e in
+    let less : k - 0 ≡ k = omega arith in
+    ops_calm feed k ops o (subst (λ n. AllByRecursion IsCalmNote (one_or_none (note_under feed k n))) less
+    (calm_under feed 0 k c.anchor_is (omega arith) o.inside (c.calm k o.inside)))
+
 pub never_slips : (feed : List (List ℕ)) → IsCalmFeed feed → NeverSlips feed
 never_slips feed c = λ i ops order older e l f.
     let x : IsIn feed i ops = counted_in feed i ops e in
-    let o : IsOrderedAt feed x.packet ops = ordered_is feed x.packet ops x.is in
     let b : IsBehind i = counted_behind (readings feed) i ops e in
     let k : ℕ = x.packet in
     let from = x.from in
     let within = x.within in
-    let inside = o.inside in
     let whole = b.whole in
-    let less : k - 0 ≡ k = omega arith in
     let group : 4 * (k / 4) ≡ i = omega (arith, from, within, whole) in
-    let note : AllByRecursion IsCalmNote (one_or_none (note_under feed k k)) =
-    subst (λ n. AllByRecursion IsCalmNote (one_or_none (note_under feed k n))) less
-    (calm_under feed 0 k c.anchor_is (omega arith) inside (c.calm k inside)) in
     states_right feed i order older ops
     (subst (λ z. states_note z ops ≢ states_are.Slip)
     (ap (expected_at feed) group ∙ counts feed i b.flushed l ∙ ap (expected_by feed i) f)
-    (ops_calm feed k ops o note).0)
+    (ordered_calm feed k ops c x.is).0)

@@ -214,3 +214,14 @@ clock_said l m ops word = (
   λ e. subst (IsClockSaid l m ops) e (clock_told l m ops),
   λ h. one_clock l m ops (clock_note (stamped_before l m) ops) word (clock_told l m ops) h,
 )
+
+-- no jump
+pub clock_follows : (l : List (List ℕ)) (m : ℕ) (before ops : Ops) → latest_before l m ≡ Some before
+    → clock_note (stamped_before l m) ops ≢ clock_is.Jump → Follows before ops
+clock_follows l m before ops b h = by_word (clock_note (stamped_before l m) ops) refl (clock_told l m ops)
+  where
+    by_word : (word : ClockNote) → clock_note (stamped_before l m) ops ≡ word → IsClockSaid l m ops word
+        → Follows before ops
+    by_word clock_is.First e k = absurd (none_some l m before k b)
+    by_word clock_is.Right e k = subst (λ x. Follows x ops) (some_same l m k.0 before k.1 b) k.2
+    by_word clock_is.Jump e k = absurd (h e)

@@ -1,21 +1,24 @@
 //! Laws of the definitions.
 
-ghost use Rattle.std.specs.Prelude.{◌≡◌, ◌⊎◌, ℕ, ◌+◌, ◌-◌, ◌/◌, ◌%◌, ◌<◌, ◌≤◌, Bool, Some, List, [], drop};
+ghost use Rattle.std.specs.Prelude.{◌≡◌, ◌⊎◌, ℕ, ℤ, ◌+ℤ◌, ◌+◌, ◌-◌, ◌/◌, ◌%◌, ◌<◌, ◌≤◌, Bool, Some, List, [], drop};
 ghost use Rattle.std.specs.Prelude.{length, slice_range, take};
 ghost use Rattle.std.specs.List.{AllByRecursion};
+ghost use Rattle.dtx_clock.specs.Clock.{DifferBy, grains_of};
 ghost use Rattle.dtx_coder.specs.Along.{RunsAlong};
 ghost use Rattle.dtx_coder.specs.Groups.{Coding};
 ghost use Rattle.dtx_coder.specs.Stream.{four_segments, levels, states};
 ghost use Rattle.dtx_ops.specs.declared.fields.Ops.{Ops};
 ghost use Rattle.dtx_exciter.specs.Emission.{last_segments, segments_since};
-ghost use Rattle.dtx_exciter.specs.Order.{Order, counting_order};
+ghost use Rattle.dtx_exciter.specs.Order.{Order, counting_order, ordered_at};
 ghost use Rattle.dtx_exciter.specs.Packets.{anchor_of, readings, under};
 ghost use Rattle.dtx_watch.specs.declared.notes.StatesNote.TheVariants as states_are;
+ghost use Rattle.dtx_watch.specs.Clock.{frames_between};
 ghost use Rattle.dtx_watch.specs.Watch.{watch};
 ghost use Rattle.dtx_watch.specs.WatchText.{watch_text};
 ghost use Rattle.dtx_calm_feed.specs.Calm.{IsCalmFeed, IsCalmFrom, IsCalmText};
+ghost use Rattle.dtx_calm_feed.specs.Moments.{IsBelowTick, air_between};
 ghost use Rattle.dtx_calm_feed.specs.Own.{IsFirstOrder, IsMarkOf, data_of, own_data, own_segments};
-ghost use Rattle.dtx_calm_feed.specs.Said.{AreSaid, IsLatestOrder, IsSaid};
+ghost use Rattle.dtx_calm_feed.specs.Said.{AreSaid, Follows, IsLatestOrder, IsSaid, latest_before};
 
 /// What is told of any packets is so. A line `ops` stands for an operations packet at its place. It says `right` of the
 /// states exactly where they are those that the twelve coders have before its group, which began with those of the
@@ -93,4 +96,17 @@ pub fn calm_feeds_are_as_coded()
         → first.ops.states ≡ states (take (m + first.place) packets)
         → i % 4 ≡ 0 → first.place ≤ i → m + i + 4 ≤ length packets
         → own_data (drop m packets) i ≡ four_segments (levels packets) (m + i) }
+{}
+
+/// The stamps of a calm feed follow each other: that of an operations packet is later than that of the one before it by
+/// the length of the frames between the two, by one division, rounded down or up, and the maximum delay is the same. So
+/// the moments that one exciter makes of the two differ by what is on the air between their segments, but for less than
+/// a tick, and otherwise by whole seconds.
+pub fn stamps_and_moments_follow()
+    ensures stamps { (feed : List (List ℕ)) (k : ℕ) (before ops : Ops) → IsCalmFeed feed
+        → ordered_at (readings feed) k ≡ Some ops → latest_before feed k ≡ Some before → Follows before ops }
+    ensures moments { (before ops : Ops) (offset : ℤ) (i j : ℕ) → Follows before ops
+        → (rest : ℤ) × IsBelowTick rest
+        × DifferBy (grains_of ops.stamp ops.max_delay offset j) (grains_of before.stamp before.max_delay offset i)
+        (air_between (frames_between before.frame ops.frame) i j +ℤ rest) }
 {}
