@@ -1,19 +1,16 @@
 -- The stamps of a calm feed follow each other, and so do the moments that exciters make of them.
-use Rattle.std.proofs.Common.{◌≡◌, ◌≢◌, ◌⊎◌, inl, inr, ℕ, ℤ, pos, negsuc, ◌+◌, ◌-◌, ◌*◌, ◌/◌, ◌%◌, ◌<◌, ◌≤◌, ◌+ℤ◌}
-use Rattle.std.proofs.Common.{◌-ℤ◌, ◌*ℤ◌, Bool, true, false, Some, List, refl, subst, sym, ap, ◌∙◌, arith, unsigned_abs}
+use Rattle.std.proofs.Common.{◌≡◌, inl, inr, ℕ, ℤ, pos, negsuc, ◌+◌, ◌-◌, ◌*◌, ◌/◌, ◌%◌, ◌+ℤ◌}
+use Rattle.std.proofs.Common.{◌-ℤ◌, ◌*ℤ◌, Some, List, refl, arith, unsigned_abs}
 use Rattle.std.specs.Int.{int_rem_euclid}
 use Rattle.std.proofs.lemmas.Int.{ints}
-use Rattle.dtx_clock.specs.Clock.{DifferBy, count_of, grains_of, segment_of}
+use Rattle.dtx_clock.specs.Clock.{DifferBy, count_of, grains_of}
 use Rattle.dtx_ops.specs.declared.fields.Ops.{Ops}
 use Rattle.dtx_exciter.specs.Order.{ordered_at}
 use Rattle.dtx_exciter.specs.Packets.{readings}
-use Rattle.dtx_watch.specs.Clock.{clock_note, frames_between}
-use Rattle.dtx_watch.specs.Watch.{stamped_before}
-use Rattle.dtx_watch.specs.declared.notes.ClockNote.{ClockNote}
-use Rattle.dtx_watch.specs.declared.notes.ClockNote.TheVariants as clock_is
+use Rattle.dtx_watch.specs.Clock.{frames_between}
 use Rattle.dtx_calm_feed.specs.Calm.{IsCalmFeed}
 use Rattle.dtx_calm_feed.specs.Moments.{IsBelowTick, air_between}
-use Rattle.dtx_calm_feed.specs.Said.{AreFrames, Follows, IsClockSaid, latest_before}
+use Rattle.dtx_calm_feed.specs.Said.{AreFrames, Follows, latest_before}
 use Rattle.dtx_calm_feed.proofs.Noted.{ordered_calm}
 use Rattle.dtx_calm_feed.proofs.Told.{clock_follows}
 

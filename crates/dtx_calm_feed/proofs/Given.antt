@@ -1,6 +1,6 @@
 -- What an exciter gives that is locked to a mark of a feed: nothing, or the feed's own segments.
-use Rattle.std.proofs.Common.{◌≡◌, ◌⊎◌, inl, inr, ℕ, ℤ, ◌+◌, ◌-◌, ◌*◌, ◌/◌, ◌%◌, ◌<◌, ◌≤◌, ◌==◌, Bool, true, false}
-use Rattle.std.proofs.Common.{cond, Option, Some, None, List, [], ◌∷◌, ◌++◌, length, take, drop, get_or, refl, sym, ap}
+use Rattle.std.proofs.Common.{◌≡◌, ◌⊎◌, inl, inr, ℕ, ℤ, ◌+◌, ◌-◌, ◌/◌, ◌%◌, ◌<◌, ◌≤◌, ◌==◌, Bool, true, false}
+use Rattle.std.proofs.Common.{cond, Some, List, [], ◌∷◌, ◌++◌, length, drop, get_or, refl, sym, ap}
 use Rattle.std.proofs.Common.{ap₂, subst, ◌∙◌, arith}
 use Rattle.std.specs.Prelude.{is_ok, nat_le, slice_range}
 use Rattle.std.proofs.lemmas.Bool.{cases_lt, cond-false, cond-true, eqb-true, leb-true}
@@ -15,7 +15,7 @@ use Rattle.dtx_exciter.specs.Order.{Order, counting_order, orders}
 use Rattle.dtx_exciter.specs.Packets.{readings, under}
 use Rattle.dtx_exciter.specs.Told.{served}
 use Rattle.dtx_calm_feed.specs.Own.{own_data, own_segments}
-use Rattle.dtx_calm_feed.proofs.Since.{IsPart, segments_part}
+use Rattle.dtx_calm_feed.proofs.Since.{segments_part}
 use Rattle.dtx_calm_feed.proofs.Orders.{NeverSlips, own_since}
 
 -- whole groups of a feed's packets l, from its mark x to n
@@ -40,7 +40,7 @@ order_is l x n j order older p h e =
     ∙ ap (counting_order (readings (slice_range l x n))) none ∙ s.counts
 
 -- what is sent of the group j packets behind the mark
-abbrev IsNoneOr : List (List ℤ) → List (List ℤ) → Type 0
+abbrev pub IsNoneOr : List (List ℤ) → List (List ℤ) → Type 0
 IsNoneOr own given = (given ≡ []) ⊎ (given ≡ own)
 
 sent_own : (a d : ℕ) (l : List (List ℕ)) (x n j : ℕ) → NeverSlips l → IsWhole l x n → j % 4 ≡ 0 → x + j + 4 ≤ n
@@ -83,7 +83,7 @@ sent_own a d l x n j r p w h = by_orders (orders (readings (slice_range l x n)) 
 -- ---- behind a field sync
 
 -- at another place of the same kind
-sync_place : (i k : ℕ) (before own : List (List ℤ)) → i % 624 ≡ k % 624
+pub sync_place : (i k : ℕ) (before own : List (List ℤ)) → i % 624 ≡ k % 624
     → behind_field_sync i before own ≡ behind_field_sync k before own
 sync_place i k before [] e = refl
 sync_place i k [] (s ∷ ss) e = refl
@@ -96,7 +96,7 @@ sync_place i k (b ∷ bs) (s ∷ ss) e =
 abbrev pub GivesOwn : List (List ℕ) → ℕ → List (List ℤ) → Type 0
 GivesOwn l n given = (given ≡ []) ⊎ ((goes_on : Bool) × (given ≡ own_segments goes_on l (n - 4)))
 
-given_by : (l : List (List ℕ)) (i : ℕ) (before own : List (List ℤ)) → IsNoneOr (own_data l (i - 4)) before
+pub given_by : (l : List (List ℕ)) (i : ℕ) (before own : List (List ℤ)) → IsNoneOr (own_data l (i - 4)) before
     → IsNoneOr (own_data l i) own
     → (behind_field_sync i before own ≡ [])
     ⊎ ((goes_on : Bool) × (behind_field_sync i before own ≡ own_segments goes_on l i))

@@ -1,6 +1,7 @@
 pub mod Since
 pub mod Orders
 pub mod Given
+pub mod Held
 pub mod Alike
 pub mod Marks
 pub mod Noted
@@ -9,3 +10,4 @@ pub mod Words
 pub mod Told
 pub mod Lines
 pub mod Clocked
+pub mod Soundly

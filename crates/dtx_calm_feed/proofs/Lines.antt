@@ -61,28 +61,33 @@ ops_said d k a ops true n e t =
       subst (IsWhatSaid d k)
           (sym (cond-true (ops.index == (k - a) % 624) (OpsAt o) (Stray ops.frame ops.index) t))
           (record {
-        anchor = a;
-        anchor_is = n;
-        ops = ops;
-        reads_so = e;
-        at_place = eqb-true ops.index ((k - a) % 624) t;
-        frame = refl;
-        index = refl;
-        stamp = refl;
-        max_delay = refl;
-        listed = refl;
-        states = λ word. states_said l (4 * ((k - a) / 4)) ops word;
-        clock = λ word. clock_said l (k - a) ops word;
-      }),
+            anchor = a;
+            anchor_is = n;
+            ops = ops;
+            reads_so = e;
+            at_place = eqb-true ops.index ((k - a) % 624) t;
+            frame = refl;
+            index = refl;
+            stamp = refl;
+            max_delay = refl;
+            listed = refl;
+            states = λ word. states_said l (4 * ((k - a) / 4)) ops word;
+            clock = λ word. clock_said l (k - a) ops word;
+          }),
       tt,
     )
 ops_said d k a ops false n e t =
     let l : List (List ℕ) = drop a d in
     let o = ops_note (expected_at l (4 * ((k - a) / 4))) (stamped_before l (k - a)) ops in (
       subst (IsWhatSaid d k)
-          (sym (cond-false (ops.index == (k - a) % 624) (OpsAt o) (Stray ops.frame ops.index) t))
-          (ops, e, refl, refl, λ b h. subst (λ x. ops.index ≢ (k - x) % 624) (same a b (sym n ∙ h))
-          (eqb-false ops.index ((k - a) % 624) t)),
+          (sym (cond-false (ops.index == (k - a) % 624) (OpsAt o) (Stray ops.frame ops.index) t)) (
+            ops,
+            e,
+            refl,
+            refl,
+            λ b h. subst (λ x. ops.index ≢ (k - x) % 624) (same a b (sym n ∙ h))
+                (eqb-false ops.index ((k - a) % 624) t),
+          ),
       tt,
     )
   where

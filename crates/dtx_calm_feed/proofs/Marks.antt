@@ -1,5 +1,5 @@
 -- An anchor of packets from a mark of them on.
-use Rattle.std.proofs.Common.{◌≡◌, ℕ, ◌+◌, ◌-◌, ◌%◌, ◌<◌, ◌≤◌, ◌==◌, ◌&&◌, Bool, true, false, cond, not, Option, Some, None}
+use Rattle.std.proofs.Common.{◌≡◌, inl, ℕ, ◌+◌, ◌-◌, ◌%◌, ◌<◌, ◌≤◌, ◌==◌, ◌&&◌, Bool, true, false, cond, not, Some, None}
 use Rattle.std.proofs.Common.{option_map, List, [], length, take, drop, refl, sym, ap, ap₂, ◌∙◌, arith}
 use Rattle.std.specs.Prelude.{slice_index_or, slice_range}
 use Rattle.std.specs.List.{take-map}
@@ -7,10 +7,10 @@ use Rattle.std.proofs.lemmas.Bool.{eq-eqb, eqb-true}
 use Rattle.std.proofs.lemmas.List.{drop-map, get_or-drop, get_or-map, length-drop, take_all}
 use Rattle.dtx_packets.specs.Packet.{sync_of}
 use Rattle.dtx_cadence.specs.Anchor.{anchor, anchor_to, ends_lock, has_mark}
-use Rattle.dtx_cadence.specs.NextAnchorLaws.{Stays, anchor_below, anchor_is_mark, anchor_take, none_ended, stays}
+use Rattle.dtx_cadence.specs.NextAnchorLaws.{anchor_below, anchor_is_mark, anchor_take, none_ended, stays}
 use Rattle.dtx_exciter.specs.Packets.{anchor_of, syncs, under}
 use Rattle.dtx_exciter.specs.UnderLaws.{length-syncs}
-use Rattle.dtx_calm_feed.specs.Own.{IsMarkOf}
+use Rattle.dtx_calm_feed.specs.Own.{IsLockedTo, IsMarkOf}
 
 -- ---- sync bytes
 
@@ -82,11 +82,20 @@ anchor_from d a x n h b m k f l =
     (omega (arith, f)) (omega (arith, f, l, long))
 
 pub locked : (feed : List (List ℕ)) (m n : ℕ) → anchor_of feed ≡ Some 0 → IsMarkOf feed m → m < n → n ≤ length feed
-    → under (slice_range feed m n) ≡ Some (slice_range feed m n)
+    → IsLockedTo feed (slice_range feed m n) n
 unfolding under
 locked feed m n h k f l =
-    ap (λ o. option_map (λ a. drop a (slice_range feed m n)) o)
-    (anchor_from feed 0 m n h (omega arith) (let s = k.in_step in omega (arith, s)) k.is_mark f l)
+    let s = k.in_step in
+    record {
+      before = [];
+      mark = m;
+      in_step = omega arith;
+      at_mark = s;
+      inside = l;
+      given = ap (λ o. option_map (λ a. drop a (slice_range feed m n)) o)
+          (anchor_from feed 0 m n h (omega arith) (omega (arith, s)) k.is_mark f l);
+      ordered = inl refl;
+    }
 
 -- an anchor is a mark
 mark_at : (d : List (List ℕ)) (a : ℕ) → anchor_of d ≡ Some a → a < length d → sync_of (slice_index_or d a []) ≡ 0xB8

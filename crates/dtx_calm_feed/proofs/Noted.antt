@@ -1,7 +1,7 @@
 -- The notes of calm packets, and the orders of calm feeds.
 use Rattle.std.proofs.Common.{◌≡◌, ◌≢◌, ◌⊎◌, inl, inr, ℕ, ◌+◌, ◌-◌, ◌*◌, ◌/◌, ◌%◌, ◌<◌, ◌≤◌, ◌==◌, ◌&&◌, Bool, true}
 use Rattle.std.proofs.Common.{false, cond, Option, Some, None, Result, Ok, Err, List, [], ◌∷◌, ◌++◌, length, take, drop}
-use Rattle.std.proofs.Common.{get_or, refl, sym, ap, ap₂, subst, ◌∙◌, arith}
+use Rattle.std.proofs.Common.{get_or, refl, sym, ap, subst, ◌∙◌, arith}
 use Rattle.std.specs.Prelude.{nat_le}
 use Rattle.std.specs.List.{AllByRecursion}
 use Rattle.std.specs.Str.{bytes_eq}
@@ -15,14 +15,13 @@ use Rattle.dtx_ops.specs.declared.refusal.OpsNo.{OpsNo}
 use Rattle.dtx_ops.specs.declared.refusal.OpsNo.TheVariants.{NotOps, Uncorrectable, Kind, Pad, Stamp, Delay, Index}
 use Rattle.dtx_ops.specs.declared.refusal.OpsNo.TheVariants.{Count, Twice, Fill, Page}
 use Rattle.dtx_exciter.specs.ForceLaws.{IsBehind, counted_behind}
-use Rattle.dtx_exciter.specs.Order.{Order, either, ordered, ordered_at, order_at, counting_order, orders}
+use Rattle.dtx_exciter.specs.Order.{Order, either, ordered, ordered_at, order_at, counting_order}
 use Rattle.dtx_exciter.specs.Packets.{anchor_of, read_fields, readings, reads}
 use Rattle.dtx_watch.specs.AnchorsLaws.{below, since}
 use Rattle.dtx_watch.specs.Notes.{lock_note, one_or_none, ops_note, packet_note, states_note}
 use Rattle.dtx_watch.specs.ToldLaws.{counts}
 use Rattle.dtx_watch.specs.Watch.{expected_at, expected_by, note_under, notes_at, reading_note, stamped_before}
 use Rattle.dtx_watch.specs.declared.notes.Note.{Note}
-use Rattle.dtx_watch.specs.declared.notes.StatesNote.{StatesNote}
 use Rattle.dtx_watch.specs.declared.notes.StatesNote.TheVariants as states_are
 use Rattle.dtx_watch.specs.declared.notes.What.TheVariants.{Stray, Ops as OpsAt}
 use Rattle.dtx_calm_feed.specs.Calm.{IsCalmFeed, IsCalmFrom, IsCalmNote, IsCalmWhat}

@@ -1,6 +1,6 @@
 -- What a feed sends under its latest order is what it sends under its first one, where each order tells the states that
 -- its coders have.
-use Rattle.std.proofs.Common.{◌≡◌, ℕ, ℤ, zero, suc, ◌+◌, ◌-◌, ◌*◌, ◌/◌, ◌%◌, ◌<◌, ◌≤◌, Option, Some, None, List, []}
+use Rattle.std.proofs.Common.{◌≡◌, ℕ, ℤ, zero, suc, ◌+◌, ◌-◌, ◌*◌, ◌/◌, ◌%◌, ◌≤◌, Option, Some, None, List, []}
 use Rattle.std.proofs.Common.{◌∷◌, length, take, refl, sym, ap, ap₂, subst, ◌∙◌, arith}
 use Rattle.std.specs.Prelude.{⊤}
 use Rattle.std.specs.List.{cons_option}
@@ -137,3 +137,35 @@ own_first l i first f a m =
     ∙ is_own l i own (orders (readings l) (first.place + 4 * ((i - first.place) / 4)))
     (first_stays l i first.place ((i - first.place) / 4) own w
     (subst (HasFirst l i own) (sym (first_here l first f)) refl))
+
+-- ---- the latest order
+
+-- the latest of these orders stands at p or behind it
+abbrev pub IsNotBefore : ℕ → List Order → Type 0
+IsNotBefore p [] = ⊥
+IsNotBefore p (order ∷ older) = p ≤ order.place
+
+later_next : (p k : ℕ) (o : Option Ops) (rest : List Order) → p ≤ k → IsNotBefore p rest
+    → IsNotBefore p (cons_option (placed k o) rest)
+later_next p k None rest l h = h
+later_next p k (Some ops) rest l h = l
+
+later_on : (l : List (List ℕ)) (p c : ℕ) → p % 4 ≡ 0 → IsNotBefore p (orders (readings l) p)
+    → IsNotBefore p (orders (readings l) (p + 4 * c))
+later_on l p zero w h = let e : p ≡ p + 4 * 0 = omega arith in subst (λ n. IsNotBefore p (orders (readings l) n)) e h
+later_on l p (suc c) w h =
+    let k : ℕ = p + 4 * suc c in
+    let less : p + 4 * c ≡ p + 4 * suc c - 4 = omega arith in
+    subst (IsNotBefore p) (sym (force_more (readings l) k (omega (arith, w)) (omega arith)))
+    (later_next p k (counting_order (readings l) k) (orders (readings l) (k - 4)) (omega arith)
+    (subst (λ n. IsNotBefore p (orders (readings l) n)) less (later_on l p c w h)))
+
+-- behind an order the latest one is that or a later one
+pub later : (l : List (List ℕ)) (p i : ℕ) (ops : Ops) → counting_order (readings l) p ≡ Some ops → p ≤ i → i % 4 ≡ 0
+    → IsNotBefore p (orders (readings l) i)
+later l p i ops e m a =
+    let w : p % 4 ≡ 0 = (counted_behind (readings l) p ops e).whole in
+    let up : p + 4 * ((i - p) / 4) ≡ i = omega (arith, w, a, m) in
+    let same : p ≤ p = omega arith in
+    subst (λ n. IsNotBefore p (orders (readings l) n)) up
+    (later_on l p ((i - p) / 4) w (subst (IsNotBefore p) (sym (here l p ops e)) same))

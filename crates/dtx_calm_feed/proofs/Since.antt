@@ -1,5 +1,5 @@
 -- The states and the segments since a group go on behind a later one.
-use Rattle.std.proofs.Common.{◌≡◌, ℕ, ℤ, ◌+◌, ◌-◌, ◌*◌, ◌/◌, ◌%◌, ◌<◌, ◌≤◌, List, ◌++◌, length, take, drop, sym, ap, ap₂}
+use Rattle.std.proofs.Common.{◌≡◌, ℕ, ◌+◌, ◌-◌, ◌*◌, ◌/◌, ◌%◌, ◌<◌, ◌≤◌, List, ◌++◌, length, take, drop, sym, ap, ap₂}
 use Rattle.std.proofs.Common.{◌∙◌, arith}
 use Rattle.std.specs.Prelude.{slice_range}
 use Rattle.std.proofs.lemmas.List.{drop-append-le, length-drop, length-take-le, take-append-drop}
@@ -165,3 +165,15 @@ segments_part l x n y j q p =
     parts : take x l ++ slice_range l x n ≡ take n l
     parts = let e : x + (n - x) ≡ n = omega (arith, p8) in
         sym (take_parts x (n - x) l) ∙ ap (λ (k : ℕ). take k l) e
+
+-- the same where other packets stand before the mark, in step with it
+pub segments_held : (base l : List (List ℕ)) (x n y j : ℕ) (q : List ℕ) → length base % 624 ≡ 0 → IsPart l x n y j
+    → segments_since ((length base + y) / 4) q (base ++ slice_range l x n) ((length base + j) / 4)
+    ≡ segments_since ((x + y) / 4) q l ((x + j) / 4)
+segments_held base l x n y j q m p =
+    let w = p.whole in
+    let h = p.inside in
+    let long : length (slice_range l x n) ≡ n - x =
+    length-take-le (n - x) (drop x l) (omega (arith, h, length-drop x l)) in
+    segments_mark base (slice_range l x n) y j q m (omega (arith, long, w)) p.flushed p.order p.later p.group
+    ∙ segments_part l x n y j q p

@@ -1,6 +1,6 @@
 -- A sound feed, from any of its marks on, is a calm one.
-use Rattle.std.proofs.Common.{◌≡◌, ℕ, ◌+◌, ◌-◌, ◌%◌, ◌<◌, ◌≤◌, ◌==◌, Bool, true, false, cond, Some, Result, Ok, Err, List}
-use Rattle.std.proofs.Common.{[], ◌∷◌, ◌++◌, length, take, drop, get_or, refl, sym, ap, subst, ◌∙◌, arith}
+use Rattle.std.proofs.Common.{◌≡◌, ℕ, ◌+◌, ◌-◌, ◌%◌, ◌<◌, ◌==◌, Bool, true, false, cond, Some, Result, Ok, Err, List}
+use Rattle.std.proofs.Common.{[], ◌∷◌, length, drop, get_or, refl, sym, ap, subst, ◌∙◌, arith}
 use Rattle.std.specs.List.{AllByRecursion}
 use Rattle.std.proofs.lemmas.List.{get_or-drop, get_or-map, length-drop, take_all}
 use Rattle.dtx_packets.specs.Packet.{sync_of}
@@ -56,11 +56,11 @@ pub sound_is_calm : (start most mark : ℕ) (f : List (List ℕ)) → IsSoundFee
 sound_is_calm start most mark f s z l = record {
   anchor_is = anchor_is start most mark f s z l;
   calm = λ k m. calm_at k (calm start most f (drop mark f) mark k (record {
-      sound = s;
-      mark = z;
-      inside = l;
-      are = refl;
-    }) m);
+    sound = s;
+    mark = z;
+    inside = l;
+    are = refl;
+  }) m);
 }
   where
     calm_at : (k : ℕ) → IsCalmAt (drop mark f) k → AllByRecursion IsCalmNote (notes_at (drop mark f) k)

@@ -11,12 +11,12 @@ use Rattle.dtx_coder.specs.AlongLaws.{states_along}
 use Rattle.dtx_coder.specs.Groups.{Coding}
 use Rattle.dtx_ops.specs.declared.fields.Ops.{Ops}
 use Rattle.dtx_exciter.specs.ForceLaws.{IsBehind, Stands, counted_behind, force_stands}
-use Rattle.dtx_exciter.specs.Order.{Order, ordered_at, orders}
+use Rattle.dtx_exciter.specs.Order.{Order, orders}
 use Rattle.dtx_exciter.specs.Packets.{readings}
 use Rattle.dtx_watch.specs.Clock.{clock_note, frames_between, stamp_in}
 use Rattle.dtx_watch.specs.Notes.{states_note}
 use Rattle.dtx_watch.specs.ToldLaws.{counts, early, not_whole}
-use Rattle.dtx_watch.specs.Watch.{expected_at, expected_by, latest, stamped_before}
+use Rattle.dtx_watch.specs.Watch.{expected_at, expected_by, stamped_before}
 use Rattle.dtx_watch.specs.declared.notes.ClockNote.{ClockNote}
 use Rattle.dtx_watch.specs.declared.notes.ClockNote.TheVariants as clock_is
 use Rattle.dtx_watch.specs.declared.notes.StatesNote.{StatesNote}

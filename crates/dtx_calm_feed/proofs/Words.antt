@@ -1,17 +1,15 @@
 -- A calm text is that of calm notes.
-use Rattle.std.proofs.Common.{◌≡◌, ◌≢◌, ℕ, zero, suc, ◌+◌, ◌<◌, ◌≤◌, ◌⊎◌, inl, inr, Bool, true, false, cond, List, []}
+use Rattle.std.proofs.Common.{◌≡◌, ℕ, zero, suc, ◌+◌, ◌<◌, ◌≤◌, ◌⊎◌, inl, inr, Bool, true, false, cond, List, []}
 use Rattle.std.proofs.Common.{◌∷◌, ◌++◌, length, map, refl, sym, ap, subst, ◌∙◌, arith}
 use Rattle.std.specs.Prelude.{codes, slice_index_or}
 use Rattle.std.specs.List.{AllByRecursion, count_by, flat_map, range_with_len}
 use Rattle.std.specs.Str.{bytes_eq}
 use Rattle.std.proofs.lemmas.List.Sums.{sum_by-cons}
 use Rattle.dtx_watch.specs.Watch.{notes_at, notes_to, watch}
-use Rattle.dtx_watch.specs.WatchLines.{first_word, later_words, lines_with, note_words, words_of_lines}
+use Rattle.dtx_watch.specs.WatchLines.{first_word, lines_with, note_words}
 use Rattle.dtx_watch.specs.WatchLinesLaws.{words_of-watch_text}
 use Rattle.dtx_watch.specs.WatchText.{clock_word, states_word, watch_text}
-use Rattle.dtx_watch.specs.declared.notes.ClockNote.TheVariants as clock_is
 use Rattle.dtx_watch.specs.declared.notes.Note.{Note}
-use Rattle.dtx_watch.specs.declared.notes.StatesNote.TheVariants as states_are
 use Rattle.dtx_watch.specs.declared.notes.What.{What}
 use Rattle.dtx_watch.specs.declared.notes.What.TheVariants.{Lock, Lost, Unread, Stray, Ops as OpsAt}
 use Rattle.dtx_calm_feed.specs.Calm.{IsCalmNote, IsCalmText, IsCalmWhat}

@@ -1,5 +1,5 @@
 -- What each word of a watcher's text says of the packets (the profile's own).
-use Rattle.std.specs.Prelude.{◌≡◌, ◌≢◌, ◌↔◌, ◌⊎◌, ℕ, ◌+◌, ◌-◌, ◌*◌, ◌/◌, ◌%◌, ◌^◌, ◌<◌, ◌≤◌, Option, Some, None, Ok, Err, List}
+use Rattle.std.specs.Prelude.{◌≡◌, ◌≢◌, ◌↔◌, ◌⊎◌, ℕ, ◌+◌, ◌-◌, ◌*◌, ◌/◌, ◌%◌, ◌≤◌, Option, Some, None, Ok, Err, List}
 use Rattle.std.specs.Prelude.{[], ◌∷◌, drop, length, slice_index_or, take}
 use Rattle.dtx_coder.specs.Along.{states_since}
 use Rattle.dtx_ops.specs.Reading.{reading}

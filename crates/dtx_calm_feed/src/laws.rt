@@ -10,14 +10,15 @@ ghost use Rattle.dtx_coder.specs.Stream.{four_segments, levels, states};
 ghost use Rattle.dtx_ops.specs.declared.fields.Ops.{Ops};
 ghost use Rattle.dtx_exciter.specs.Emission.{last_segments, segments_since};
 ghost use Rattle.dtx_exciter.specs.Order.{Order, counting_order, ordered_at};
-ghost use Rattle.dtx_exciter.specs.Packets.{anchor_of, readings, under};
+ghost use Rattle.dtx_exciter.specs.Packets.{anchor_of, readings};
 ghost use Rattle.dtx_watch.specs.declared.notes.StatesNote.TheVariants as states_are;
 ghost use Rattle.dtx_watch.specs.Clock.{frames_between};
+ghost use Rattle.dtx_watch.specs.Sound.{IsSoundFeed};
 ghost use Rattle.dtx_watch.specs.Watch.{watch};
 ghost use Rattle.dtx_watch.specs.WatchText.{watch_text};
 ghost use Rattle.dtx_calm_feed.specs.Calm.{IsCalmFeed, IsCalmFrom, IsCalmText};
 ghost use Rattle.dtx_calm_feed.specs.Moments.{IsBelowTick, air_between};
-ghost use Rattle.dtx_calm_feed.specs.Own.{IsFirstOrder, IsMarkOf, data_of, own_data, own_segments};
+ghost use Rattle.dtx_calm_feed.specs.Own.{IsFirstOrder, IsLockedTo, IsMarkOf, data_of, own_data, own_segments};
 ghost use Rattle.dtx_calm_feed.specs.Said.{AreSaid, Follows, IsLatestOrder, IsSaid, latest_before};
 
 /// What is told of any packets is so. A line `ops` stands for an operations packet at its place. It says `right` of the
@@ -46,39 +47,42 @@ pub fn calm_texts()
         → IsCalmFeed (drop anchor packets) }
 {}
 
+/// A sound feed, from any of its marks on, is calm: so what is said of calm feeds holds of every feed of an adapter.
+pub fn sound_feeds_are_calm_feeds()
+    ensures { (start most mark : ℕ) (feed : List (List ℕ)) → IsSoundFeed start most feed → mark % 624 ≡ 0
+        → mark < length feed → IsCalmFeed (drop mark feed) }
+{}
+
 /// An exciter in a new life that is given a calm feed from any mark of it on is locked to that mark, as long as it is
 /// given the feed.
 pub fn locked_at_any_mark()
     ensures { (feed : List (List ℕ)) (m n : ℕ) → IsCalmFeed feed → IsMarkOf feed m → m < n → n ≤ length feed
-        → under (slice_range feed m n) ≡ Some (slice_range feed m n) }
+        → IsLockedTo feed (slice_range feed m n) n }
 {}
 
-/// An exciter that is locked to a mark of a calm feed, whatever its address and delay and whatever it was given before,
-/// gives of each group nothing, or the feed's own segments of the group. Their coders begin with the states of the
-/// feed's first order, and nothing presets them later: so the later orders, at which the exciter does preset its
-/// coders, change nothing of what it sends.
+/// An exciter that is locked to a calm feed, whatever its address and its delay and whatever it was given before, gives
+/// of each group nothing, or the feed's own segments of the group. Their coders begin with the states of the feed's
+/// first order, and nothing presets them later: so the later orders, at which the exciter does preset its coders,
+/// change nothing of what it sends.
 pub fn each_sends_its_own()
-    ensures segments { (address delay : ℕ) (feed life : List (List ℕ)) (m n : ℕ) → IsCalmFeed feed → m % 624 ≡ 0
-        → n ≤ length feed → under life ≡ Some (slice_range feed m n)
-        → (last_segments address delay life ≡ [])
+    ensures segments { (address delay : ℕ) (feed life : List (List ℕ)) (n : ℕ) → IsCalmFeed feed
+        → IsLockedTo feed life n → (last_segments address delay life ≡ [])
         ⊎ ((goes_on : Bool) × (last_segments address delay life ≡ own_segments goes_on feed (n - 4))) }
     ensures from_the_first { (feed : List (List ℕ)) (i : ℕ) (first : Order) → IsFirstOrder feed first → i % 4 ≡ 0
         → first.place ≤ i → own_data feed i ≡ segments_since (first.place / 4) first.ops.states feed (i / 4) }
 {}
 
-/// Two exciters that are locked to marks of a calm feed, of any addresses and delays, give the same segments of each
-/// group where they give as many; and where one also gives a field sync in front, since it sent the group before, the
-/// data segments of both are the same.
+/// Two exciters that are locked to a calm feed, of any addresses and delays and at any two marks, give the same segments
+/// of each group where they give as many; and where one also gives a field sync in front, since it sent the group
+/// before, the data segments of both are the same.
 pub fn all_send_the_same()
-    ensures segments { (a b delay_a delay_b : ℕ) (feed life_a life_b : List (List ℕ)) (m_a m_b n : ℕ)
-        → IsCalmFeed feed → m_a % 624 ≡ 0 → m_b % 624 ≡ 0 → n ≤ length feed
-        → under life_a ≡ Some (slice_range feed m_a n) → under life_b ≡ Some (slice_range feed m_b n)
+    ensures segments { (a b delay_a delay_b : ℕ) (feed life_a life_b : List (List ℕ)) (n : ℕ) → IsCalmFeed feed
+        → IsLockedTo feed life_a n → IsLockedTo feed life_b n
         → length (last_segments a delay_a life_a) ≡ length (last_segments b delay_b life_b)
         → last_segments a delay_a life_a ≡ last_segments b delay_b life_b }
-    ensures groups { (a b delay_a delay_b : ℕ) (feed life_a life_b : List (List ℕ)) (m_a m_b n : ℕ)
-        → IsCalmFeed feed → m_a % 624 ≡ 0 → m_b % 624 ≡ 0 → n ≤ length feed
-        → under life_a ≡ Some (slice_range feed m_a n) → under life_b ≡ Some (slice_range feed m_b n)
-        → 0 < length (last_segments a delay_a life_a) → 0 < length (last_segments b delay_b life_b)
+    ensures groups { (a b delay_a delay_b : ℕ) (feed life_a life_b : List (List ℕ)) (n : ℕ) → IsCalmFeed feed
+        → IsLockedTo feed life_a n → IsLockedTo feed life_b n → 0 < length (last_segments a delay_a life_a)
+        → 0 < length (last_segments b delay_b life_b)
         → data_of (last_segments a delay_a life_a) ≡ data_of (last_segments b delay_b life_b) }
 {}
 
