@@ -51,7 +51,8 @@ coded_next : (f : List (List ℕ)) (m k : ℕ) (o : Option Ops) (rest : List Ord
 coded_next f m k None rest r z w a h e g c = c
 coded_next f m k (Some ops) [] r z w a h e g c = absurd c
 coded_next f m k (Some ops) (order ∷ older) r z w a h e g c =
-    let st : Stands (readings (drop m f)) (k - 4 + 1) order = force_stands (readings (drop m f)) (k - 4) order older g in
+    let st : Stands (readings (drop m f)) (k - 4 + 1) order =
+    force_stands (readings (drop m f)) (k - 4) order older g in
     let b : IsBehind order.place = counted_behind (readings (drop m f)) order.place order.ops st.counts in
     let below = st.below in
     r k ops order older e (omega (arith, h, length-drop m f)) g

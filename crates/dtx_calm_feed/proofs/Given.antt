@@ -48,8 +48,8 @@ sent_own : (a d : ℕ) (l : List (List ℕ)) (x n j : ℕ) → NeverSlips l → 
 unfolding sent_at
 sent_own a d l x n j r p w h = by_orders (orders (readings (slice_range l x n)) j) refl
   where
-    by_service : (order : Order) (older : List Order) (t : Bool) → orders (readings (slice_range l x n)) j ≡ order ∷ older
-        → is_ok (served a d (order ∷ older)) ≡ t
+    by_service : (order : Order) (older : List Order) (t : Bool)
+        → orders (readings (slice_range l x n)) j ≡ order ∷ older → is_ok (served a d (order ∷ older)) ≡ t
         → IsNoneOr (own_data l (x + j)) (sent_by a d (slice_range l x n) j (order ∷ older))
     by_service order older false e s = inl (cond-false (is_ok (served a d (order ∷ older)))
         (segments_since (order.place / 4) order.ops.states (slice_range l x n) (j / 4)) [] s)

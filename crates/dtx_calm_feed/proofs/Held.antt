@@ -1,6 +1,6 @@
 -- What an exciter gives that was locked before a mark of a feed, in step with it, from an order of the feed on.
-use Rattle.std.proofs.Common.{◌≡◌, ◌⊎◌, inl, inr, ℕ, ℤ, ◌+◌, ◌-◌, ◌*◌, ◌/◌, ◌%◌, ◌<◌, ◌≤◌, ◌==◌, Bool, true, false}
-use Rattle.std.proofs.Common.{Some, List, [], ◌∷◌, ◌++◌, length, take, drop, refl, sym, ap, ap₂, subst, ◌∙◌, arith}
+use Rattle.std.proofs.Common.{◌≡◌, ◌⊎◌, inl, inr, ℕ, ℤ, ◌+◌, ◌-◌, ◌/◌, ◌%◌, ◌≤◌, ◌==◌, Bool, true, false}
+use Rattle.std.proofs.Common.{Some, List, [], ◌∷◌, ◌++◌, length, drop, refl, sym, ap, subst, ◌∙◌, arith}
 use Rattle.std.specs.Prelude.{is_ok, nat_le, slice_range}
 use Rattle.std.proofs.lemmas.Bool.{cond-false, cond-true, eqb-true, le-leb}
 use Rattle.std.proofs.lemmas.List.{length-append, length-drop, length-take-le}
@@ -13,7 +13,7 @@ use Rattle.dtx_exciter.specs.Order.{Order, counting_order, orders}
 use Rattle.dtx_exciter.specs.Packets.{readings, under}
 use Rattle.dtx_exciter.specs.Told.{served}
 use Rattle.dtx_calm_feed.specs.Own.{IsLockedTo, own_data}
-use Rattle.dtx_calm_feed.proofs.Since.{IsPart, segments_held}
+use Rattle.dtx_calm_feed.proofs.Since.{segments_held}
 use Rattle.dtx_calm_feed.proofs.Orders.{IsNotBefore, NeverSlips, later, own_since}
 use Rattle.dtx_calm_feed.proofs.Given.{GivesOwn, IsNoneOr, IsWhole, given_by, gives_own, sync_place}
 

@@ -1,6 +1,6 @@
 -- An anchor of packets from a mark of them on.
-use Rattle.std.proofs.Common.{◌≡◌, inl, ℕ, ◌+◌, ◌-◌, ◌%◌, ◌<◌, ◌≤◌, ◌==◌, ◌&&◌, Bool, true, false, cond, not, Some, None}
-use Rattle.std.proofs.Common.{option_map, List, [], length, take, drop, refl, sym, ap, ap₂, ◌∙◌, arith}
+use Rattle.std.proofs.Common.{◌≡◌, inl, ℕ, ◌+◌, ◌-◌, ◌%◌, ◌<◌, ◌≤◌, ◌==◌, ◌&&◌, Bool, true, false, cond, not, Some}
+use Rattle.std.proofs.Common.{None, option_map, List, [], length, take, drop, refl, sym, ap, ap₂, ◌∙◌, arith}
 use Rattle.std.specs.Prelude.{slice_index_or, slice_range}
 use Rattle.std.specs.List.{take-map}
 use Rattle.std.proofs.lemmas.Bool.{eq-eqb, eqb-true}
@@ -74,8 +74,8 @@ unfolding anchor_of syncs
 anchor_from d a x n h b m k f l =
     let long : length (syncs d) ≡ length d = length-syncs d in
     let at : has_mark (syncs d) x ≡ true =
-    ap (λ (y : ℕ). y == 0xB8) (get_or-map sync_of d x [] 0 (omega (arith, f, l))) ∙ eq-eqb (sync_of (slice_index_or d x []))
-    0xB8 k in
+    ap (λ (y : ℕ). y == 0xB8) (get_or-map sync_of d x [] 0 (omega (arith, f, l)))
+    ∙ eq-eqb (sync_of (slice_index_or d x [])) 0xB8 k in
     ap anchor (sym (take-map sync_of (n - x) (drop x d)) ∙ ap (take (n - x)) (sym (drop-map sync_of x d)))
     ∙ anchor_take (drop x (syncs d)) (n - x) (omega (arith, l, long, length-drop x (syncs d)))
     ∙ from_mark (syncs d) a x (n - x) (record { anchor_is = h; behind = b; in_step = m; marked = at })

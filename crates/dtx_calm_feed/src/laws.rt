@@ -47,7 +47,7 @@ pub fn calm_texts()
         → IsCalmFeed (drop anchor packets) }
 {}
 
-/// A sound feed, from any of its marks on, is calm: so what is said of calm feeds holds of every feed of an adapter.
+/// A sound feed, from any of its marks on, is a calm one: so what is said of calm feeds holds of it.
 pub fn sound_feeds_are_calm_feeds()
     ensures { (start most mark : ℕ) (feed : List (List ℕ)) → IsSoundFeed start most feed → mark % 624 ≡ 0
         → mark < length feed → IsCalmFeed (drop mark feed) }
@@ -72,9 +72,9 @@ pub fn each_sends_its_own()
         → first.place ≤ i → own_data feed i ≡ segments_since (first.place / 4) first.ops.states feed (i / 4) }
 {}
 
-/// Two exciters that are locked to a calm feed, of any addresses and delays and at any two marks, give the same segments
-/// of each group where they give as many; and where one also gives a field sync in front, since it sent the group
-/// before, the data segments of both are the same.
+/// Two exciters that are locked to a calm feed, of any addresses and delays and at any two marks, give the same
+/// segments of each group where they give as many; and where one also gives a field sync in front, since it sent the
+/// group before, the data segments of both are the same.
 pub fn all_send_the_same()
     ensures segments { (a b delay_a delay_b : ℕ) (feed life_a life_b : List (List ℕ)) (n : ℕ) → IsCalmFeed feed
         → IsLockedTo feed life_a n → IsLockedTo feed life_b n
@@ -87,8 +87,8 @@ pub fn all_send_the_same()
 {}
 
 /// Where the first order of a calm feed tells the states that the coders of some stream have there, of which the feed
-/// is what stands behind some whole frames, each order tells them, and the feed's own data segments are those of the
-/// stream (ATSC A/53 Part 2).
+/// is what stands behind some whole frames, each order of a whole group tells them, and the feed's own data segments
+/// are those of the stream (ATSC A/53 Part 2).
 pub fn calm_feeds_are_as_coded()
     ensures states { (packets : List (List ℕ)) (m g : ℕ) (first : Order) (ops : Ops) → IsCalmFeed (drop m packets)
         → m % 624 ≡ 0 → IsFirstOrder (drop m packets) first
