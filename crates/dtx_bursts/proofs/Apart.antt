@@ -20,7 +20,8 @@ joined_is : (run : List (List ℤ)) (y : ℕ) → AreWhole run → 0 < length ru
 unfolding byte_back
 joined_is run y whole some l =
     byte_at run y whole l
-    ∙ ap₂ (λ a b. 64 * a + 16 * b + 4 * pair 2 + pair 3) (first (pair_is run (4 * (y / 12)) e whole some (omega (arith, l)) small))
+    ∙ ap₂ (λ a b. 64 * a + 16 * b + 4 * pair 2 + pair 3)
+    (first (pair_is run (4 * (y / 12)) e whole some (omega (arith, l)) small))
     (pair_is run (4 * (y / 12) + 1) e whole some (omega (arith, l)) small ∙ next 1)
     ∙ ap₂ (λ a b. 64 * pair_from (level_on run y 0 / 4) (level_on run y 1)
     + 16 * pair_from (level_on run y 1 / 4) (level_on run y 2) + 4 * a + b)

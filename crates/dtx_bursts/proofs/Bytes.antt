@@ -2,7 +2,8 @@
 use Rattle.std.proofs.Common.{◌≡◌, ℕ, ℤ, pos, zero, suc, ◌+◌, ◌-◌, ◌*◌, ◌/◌, ◌%◌, ◌<◌, ◌≤◌, List, []}
 use Rattle.std.proofs.Common.{◌++◌, ◌⊎◌, inl, inr, length, map, drop, get_or, sym, ap, ap₂, ◌∙◌, subst, arith}
 use Rattle.std.specs.List.{range_with_len, flat_map}
-use Rattle.std.proofs.lemmas.List.{get_or_append_left, get_or-append_right, get_or-drop, get_or-map, length-drop, length-append}
+use Rattle.std.proofs.lemmas.List.{get_or_append_left, get_or-append_right, get_or-drop, get_or-map, length-drop}
+use Rattle.std.proofs.lemmas.List.{length-append}
 use Rattle.std.proofs.lemmas.List.FromFn.{get_or-map-range_with_len, length-map-range_with_len}
 use Rattle.dtx_slice.specs.Slicing.{sliced, sliced_data, sliced_last}
 use Rattle.dtx_slice.specs.Unrolled.{symbol_place, precoder_bit, pair_from, pair_back, coder_of, byte_back}
@@ -215,7 +216,8 @@ length-flat f w a (suc n) long =
       arith,
       length-append (f a) (flat_map f (range_with_len (a + 1) n)),
       subst (λ (b : ℕ). length (f b) ≡ w) z (long 0 (omega arith)),
-      length-flat f w (a + 1) n (λ j l. subst (λ (b : ℕ). length (f b) ≡ w) (moved a j) (long (suc j) (omega (arith, l)))),
+      length-flat f w (a + 1) n
+          (λ j l. subst (λ (b : ℕ). length (f b) ≡ w) (moved a j) (long (suc j) (omega (arith, l)))),
     )
   where
     moved : (a j : ℕ) → a + suc j ≡ a + 1 + j

@@ -25,18 +25,24 @@ Found p v a n = ((at : ℕ) × IsLeast p v a n at) ⊎ AllPass p a n
 
 more : (p : ℕ → Bool) (v : ℕ → ℕ) (a n : ℕ) (b : Bool) → p a ≡ b → Found p v (suc a) n → Found p v a (suc n)
 more p v a n true e (inr pass) = inr (first_or_later (λ i. p i ≡ true) a n e pass)
-more p v a n true e (inl (at, h)) = inl (at, record {
-  from = omega (arith, h.from);
-  to = omega (arith, h.to);
-  fails = h.fails;
-  least = first_or_later (λ i. (p i ≡ true) ⊎ (v at ≤ v i)) a n (inl e) h.least;
-})
-more p v a n false e (inr pass) = inl (a, record {
-  from = omega arith;
-  to = omega arith;
-  fails = e;
-  least = first_or_later (λ i. (p i ≡ true) ⊎ (v a ≤ v i)) a n (inr (omega arith)) (λ i l m. inl (pass i l m));
-})
+more p v a n true e (inl (at, h)) = inl (
+  at,
+  record {
+    from = omega (arith, h.from);
+    to = omega (arith, h.to);
+    fails = h.fails;
+    least = first_or_later (λ i. (p i ≡ true) ⊎ (v at ≤ v i)) a n (inl e) h.least;
+  },
+)
+more p v a n false e (inr pass) = inl (
+  a,
+  record {
+    from = omega arith;
+    to = omega arith;
+    fails = e;
+    least = first_or_later (λ i. (p i ≡ true) ⊎ (v a ≤ v i)) a n (inr (omega arith)) (λ i l m. inl (pass i l m));
+  },
+)
 more p v a n false e (inl (at, h)) = by_value (cases_lt (v a) (v at))
   where
     below : v a < v at → (i : ℕ) → (p i ≡ true) ⊎ (v at ≤ v i) → (p i ≡ true) ⊎ (v a ≤ v i)
@@ -44,19 +50,25 @@ more p v a n false e (inl (at, h)) = by_value (cases_lt (v a) (v at))
     below k i (inr l) = inr (omega (arith, k, l))
 
     by_value : (v a < v at) ⊎ (v at ≤ v a) → Found p v a (suc n)
-    by_value (inl k) = inl (a, record {
-      from = omega arith;
-      to = omega arith;
-      fails = e;
-      least = first_or_later (λ i. (p i ≡ true) ⊎ (v a ≤ v i)) a n (inr (omega arith))
-          (λ i l m. below k i (h.least i l m));
-    })
-    by_value (inr k) = inl (at, record {
-      from = omega (arith, h.from);
-      to = omega (arith, h.to);
-      fails = h.fails;
-      least = first_or_later (λ i. (p i ≡ true) ⊎ (v at ≤ v i)) a n (inr k) h.least;
-    })
+    by_value (inl k) = inl (
+      a,
+      record {
+        from = omega arith;
+        to = omega arith;
+        fails = e;
+        least = first_or_later (λ i. (p i ≡ true) ⊎ (v a ≤ v i)) a n (inr (omega arith))
+            (λ i l m. below k i (h.least i l m));
+      },
+    )
+    by_value (inr k) = inl (
+      at,
+      record {
+        from = omega (arith, h.from);
+        to = omega (arith, h.to);
+        fails = h.fails;
+        least = first_or_later (λ i. (p i ≡ true) ⊎ (v at ≤ v i)) a n (inr k) h.least;
+      },
+    )
 
 pub least_by : (p : ℕ → Bool) (v : ℕ → ℕ) (a n : ℕ) → Found p v a n
 least_by p v a zero = inr (λ i l m. absurd (omega (arith, l, m)))

@@ -37,10 +37,13 @@ told count from a b y h gap l (inl (i, m, lost, marked)) =
     let at = gap.missing (position_of (4 * (y / 12) + i) (coder_of 0 y)) (symbol_within a y i h.some l m) lost in
     inl (marked, omega (arith, at.0, not_behind y i m), omega (arith, at.1, not_before y i))
 told count from a b y h gap l (inr (seen, unmarked)) =
-    inr (unmarked, byte_stays a b y h l (record {
-      same = λ i m. same_where i m
-          (gap.there (position_of (4 * (y / 12) + i) (coder_of 0 y)) (symbol_within a y i h.some l m));
-    }))
+    inr (
+      unmarked,
+      byte_stays a b y h l (record {
+        same = λ i m. same_where i m
+            (gap.there (position_of (4 * (y / 12) + i) (coder_of 0 y)) (symbol_within a y i h.some l m));
+      }),
+    )
   where
     same_where : (i : ℕ) → i < 5
         → (is_missing (symbol_at a (position_of (4 * (y / 12) + i) (coder_of 0 y))) ≡ true)
@@ -48,7 +51,8 @@ told count from a b y h gap l (inr (seen, unmarked)) =
         ≡ symbol_level b (position_of (4 * (y / 12) + i) (coder_of 0 y)))
         → symbol_level a (position_of (4 * (y / 12) + i) (coder_of 0 y))
         ≡ symbol_level b (position_of (4 * (y / 12) + i) (coder_of 0 y))
-    same_where i m (inl e) = absurd (never_both (is_missing (symbol_at a (position_of (4 * (y / 12) + i) (coder_of 0 y)))) e (seen i m))
+    same_where i m (inl e) =
+        absurd (never_both (is_missing (symbol_at a (position_of (4 * (y / 12) + i) (coder_of 0 y)))) e (seen i m))
     same_where i m (inr e) = e
 
 -- ---- a word
@@ -103,7 +107,8 @@ few_lost a b from j h gap c =
 
 pub none_wrong : (a b : List (List ℤ)) (count from j : ℕ) → AreAlike a b → AreMissing count from a b
     → IsComplete 207 52 4 (828 * groups_of a) j
-    → unmarked_distance (marks_at (marks_in a) j) (word_at 207 52 4 (bytes_in a) j) (word_at 207 52 4 (bytes_in b) j) ≡ 0
+    → unmarked_distance (marks_at (marks_in a) j) (word_at 207 52 4 (bytes_in a) j) (word_at 207 52 4 (bytes_in b) j)
+    ≡ 0
 none_wrong a b count from j h gap c =
     none_unmarked (marks_at (marks_in a) j) (word_at 207 52 4 (bytes_in a) j) (word_at 207 52 4 (bytes_in b) j)
     (λ i l. each i (subst (λ (n : ℕ). i < n) (length-marks (marks_in a) j) l))

@@ -25,7 +25,8 @@ level_moved : (k n : ℕ) (xs : List (List ℤ)) → symbol_level (drop k xs) n 
 unfolding symbol_level
 level_moved k n xs = ap sliced (symbol_moved k n xs)
 
-pub differ_moved : (k count from : ℕ) (sent got : List (List ℤ)) → length got ≡ length sent → IsBurst count from sent got
+pub differ_moved : (k count from : ℕ) (sent got : List (List ℤ)) → length got ≡ length sent
+    → IsBurst count from sent got
     → DifferWithin count (from - 832 * k) (drop k got) (drop k sent)
 differ_moved k count from sent got e burst n l side =
     level_moved k n got ∙ burst.others (832 * k + n) (omega (arith, l, e, length-drop k got)) (by_side side)

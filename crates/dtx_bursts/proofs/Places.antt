@@ -41,7 +41,8 @@ unfolding symbol_place coder_of
 first_is h p l s =
     let a : (12 * h + p) % 12 ≡ p = omega (arith, l) in
     let b : (12 * h + p) / 12 ≡ h = omega (arith, l) in
-    ap₂ (λ x y. 12 * (4 * h - 1) + ((x + 4 * ((0 + 4 * y / 69) % 3)) % 12 + 12 - 4 * ((0 + (4 * h - 1) / 69) % 3)) % 12) a b
+    ap₂ (λ x y. 12 * (4 * h - 1) + ((x + 4 * ((0 + 4 * y / 69) % 3)) % 12 + 12 - 4 * ((0 + (4 * h - 1) / 69) % 3)) % 12)
+    a b
     ∙ ap (λ x. 12 * (4 * h - 1) + x) (turned_back h p l s)
 
 last_is : (h p : ℕ) → p < 12 → symbol_place 0 (4 * h + 3) (coder_of 0 (12 * h + p)) ≡ last_data h p
@@ -116,7 +117,6 @@ apart_ten y z l =
       position_apart_ten (last_data (y / 12) (y % 12)) (first_data (z / 12) (z % 12))
           (data_apart_ten (y / 12) (y % 12) (z / 12) (z % 12) (omega arith) (omega arith) (omega (arith, l))),
     )
-
 
 -- ---- twenty bytes of a word lie between them
 

@@ -14,7 +14,8 @@ air_place m = m + 208 * (m % 52)
 abbrev ramp_begin : ℕ → ℕ → ℕ
 ramp_begin w t = 51 * t + (w + 157 * t + 208) / 209
 
-in_ramp : (w n m : ℕ) → w ≤ air_place m → air_place m < w + n → (ramp_begin w (m / 52) ≤ m) × (m < ramp_begin (w + n) (m / 52))
+in_ramp : (w n m : ℕ) → w ≤ air_place m → air_place m < w + n
+    → (ramp_begin w (m / 52) ≤ m) × (m < ramp_begin (w + n) (m / 52))
 in_ramp w n m l h = (omega (arith, l), omega (arith, h))
 
 -- how many of the numbers from a on and below b stand before m
@@ -32,7 +33,8 @@ ramp_count w n t m = before (ramp_begin w t) (ramp_begin (w + n) t) m
 
 five_counts : ℕ → ℕ → ℕ → ℕ → ℕ
 five_counts w n t m =
-    ramp_count w n t m + ramp_count w n (t + 1) m + ramp_count w n (t + 2) m + ramp_count w n (t + 3) m + ramp_count w n (t + 4) m
+    ramp_count w n t m + ramp_count w n (t + 1) m + ramp_count w n (t + 2) m + ramp_count w n (t + 3) m
+    + ramp_count w n (t + 4) m
 
 -- ---- at most ten
 
@@ -69,7 +71,8 @@ rises w n t m a b l h = by_ramp (m / 52 - t) (omega (arith, a)) (omega (arith, a
 
     at_ramp : (u : ℕ) → m / 52 ≡ u → 1 + ramp_count w n u m ≤ ramp_count w n u (m + 1)
     at_ramp u e = subst (λ (u : ℕ). 1 + ramp_count w n u m ≤ ramp_count w n u (m + 1)) e
-        (before_rises (ramp_begin w (m / 52)) (ramp_begin (w + n) (m / 52)) m (in_ramp w n m l h).0 (in_ramp w n m l h).1)
+        (before_rises (ramp_begin w (m / 52)) (ramp_begin (w + n) (m / 52)) m (in_ramp w n m l h).0
+        (in_ramp w n m l h).1)
 
     by_ramp : (k : ℕ) → m / 52 ≡ t + k → k < 5
         → 1 + (ramp_count w n t m + ramp_count w n (t + 1) m + ramp_count w n (t + 2) m + ramp_count w n (t + 3) m

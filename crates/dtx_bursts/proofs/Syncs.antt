@@ -1,5 +1,6 @@
 -- A burst that leaves the field syncs leaves them found.
-use Rattle.std.proofs.Common.{◌≡◌, ℕ, ℤ, pos, ◌+◌, ◌-◌, ◌*◌, ◌/◌, ◌%◌, ◌<◌, ◌≤◌, ◌==◌, ◌⊎◌, inl, inr, cond, min, true, false}
+use Rattle.std.proofs.Common.{◌≡◌, ℕ, ℤ, pos, ◌+◌, ◌-◌, ◌*◌, ◌/◌, ◌%◌, ◌<◌, ◌≤◌, ◌==◌, ◌⊎◌, inl, inr, cond, min}
+use Rattle.std.proofs.Common.{true, false}
 use Rattle.std.proofs.Common.{Bool, List, [], length, map, sum, get_or, sym, ap, ap₂, ◌∙◌, subst, arith}
 use Rattle.std.specs.List.{range_with_len}
 use Rattle.std.proofs.lemmas.Bool.{cases_lt, le-leb}
@@ -107,7 +108,8 @@ burst_found ps first count from sent got r leaves burst = record {
   before = λ i l m. omega (
     arith,
     none_damaged (get_or sent i []) (get_or got i [])
-        (λ n h. same_level count from sent got burst i n l (omega (arith, h)) (inl (omega (arith, leaves.behind, m, h)))),
+        (λ n h. same_level count from sent got burst i n l (omega (arith, h))
+        (inl (omega (arith, leaves.behind, m, h)))),
   );
 }
   where

@@ -104,27 +104,31 @@ level_of : (ps : List (List ℕ)) (y i : ℕ) → 52 ≤ length ps → y < 10764
 level_of ps y i l m k =
     symbol_within (a53 ps) y i (some_segments ps l) (omega (arith, m, enough_groups ps l)) k
 
+same : (ps : List (List ℕ)) → groups_of (turned ps) ≡ groups_of (a53 ps)
+same ps = same_groups (a53 ps) (turned ps) (turned_received ps).as_many
+
+some : (ps : List (List ℕ)) → 52 ≤ length ps → 0 < length (turned ps)
+some ps l = omega (arith, (turned_received ps).as_many, some_segments ps l)
+
+there : (ps : List (List ℕ)) (run : List (List ℤ)) (y : ℕ) → 52 ≤ length ps → y < 10764
+    → groups_of run ≡ groups_of (a53 ps) → y < 828 * groups_of run
+there ps run y l m e = omega (arith, e, m, enough_groups ps l)
+
 -- a byte that hangs on them is another
 other_byte : (ps : List (List ℕ)) (y : ℕ) → 52 ≤ length ps → y < 10764
     → ((25425 ≤ end_of y) × (end_of y < 27448))
     ⊎ ((25425 ≤ begin_of y) × (begin_of y < 27448) × (27448 ≤ position_of (4 * (y / 12) + 1) (coder_of 0 y)))
     → get_or (bytes_in (turned ps)) y 0 ≡ get_or (bytes_in (a53 ps)) y 0 → ⊥
 other_byte ps y l m (inl (a, b)) =
-    apart_by_last (turned ps) (a53 ps) y (turned_received ps).long some (there (turned ps) same) (whole_stream ps)
-    (some_segments ps l) (there (a53 ps) refl) (level_eight (a53 ps) (end_of y))
+    apart_by_last (turned ps) (a53 ps) y (turned_received ps).long (some ps l)
+    (there ps (turned ps) y l m (same ps)) (whole_stream ps)
+    (some_segments ps l) (there ps (a53 ps) y l m refl) (level_eight (a53 ps) (end_of y))
     (level_turned ps (end_of y) (level_of ps y 4 l m (omega arith)) a b)
-  where
-    same : groups_of (turned ps) ≡ groups_of (a53 ps)
-    same = same_groups (a53 ps) (turned ps) (turned_received ps).as_many
-
-    some : 0 < length (turned ps)
-    some = omega (arith, (turned_received ps).as_many, some_segments ps l)
-
-    there : (run : List (List ℤ)) → groups_of run ≡ groups_of (a53 ps) → y < 828 * groups_of run
-    there run e = omega (arith, e, m, enough_groups ps l)
 other_byte ps y l m (inr (a, b, c)) =
-    apart_by_first (turned ps) (a53 ps) y (turned_received ps).long some (there (turned ps) same) (whole_stream ps)
-    (some_segments ps l) (there (a53 ps) refl) (level_eight (a53 ps) (position_of (4 * (y / 12) + 0) (coder_of 0 y)))
+    apart_by_first (turned ps) (a53 ps) y (turned_received ps).long (some ps l)
+    (there ps (turned ps) y l m (same ps)) (whole_stream ps)
+    (some_segments ps l) (there ps (a53 ps) y l m refl)
+    (level_eight (a53 ps) (position_of (4 * (y / 12) + 0) (coder_of 0 y)))
     (level_eight (a53 ps) (position_of (4 * (y / 12) + 1) (coder_of 0 y)))
     (level_turned ps (position_of (4 * (y / 12) + 0) (coder_of 0 y)) (level_of ps y 0 l m (omega arith))
     (subst (λ n. 25425 ≤ position_of n (coder_of 0 y)) start a)
@@ -133,15 +137,6 @@ other_byte ps y l m (inr (a, b, c)) =
   where
     start : 4 * (y / 12) ≡ 4 * (y / 12) + 0
     start = omega arith
-
-    same : groups_of (turned ps) ≡ groups_of (a53 ps)
-    same = same_groups (a53 ps) (turned ps) (turned_received ps).as_many
-
-    some : 0 < length (turned ps)
-    some = omega (arith, (turned_received ps).as_many, some_segments ps l)
-
-    there : (run : List (List ℤ)) → groups_of run ≡ groups_of (a53 ps) → y < 828 * groups_of run
-    there run e = omega (arith, e, m, enough_groups ps l)
 
 -- as the test tells
 hangs_at : (m : ℕ) → hangs m ≡ true → (m < 207) × (((25425 ≤ end_of (air_place m)) × (end_of (air_place m) < 27448))
@@ -168,16 +163,14 @@ hangs_at m t = by_part (or_cases (nat_lt m 207 && last) (nat_lt m 207 && first) 
         × (27448 ≤ position_of (4 * (air_place m / 12) + 1) (coder_of 0 (air_place m)))))
     by_part (inl e) =
         let parts = and_parts (nat_lt m 207) last e in
-        let both = and_parts (nat_le 25425 (end_of (air_place m))) (nat_lt (end_of (air_place m)) 27448) parts.1 in
-        (
+        let both = and_parts (nat_le 25425 (end_of (air_place m))) (nat_lt (end_of (air_place m)) 27448) parts.1 in (
           ltb-true m 207 parts.0,
           inl (leb-true 25425 (end_of (air_place m)) both.0, ltb-true (end_of (air_place m)) 27448 both.1),
         )
     by_part (inr e) =
         let parts = and_parts (nat_lt m 207) first e in
         let both = and_parts begin next parts.1 in
-        let ends = and_parts (nat_le 25425 (begin_of (air_place m))) (nat_lt (begin_of (air_place m)) 27448) both.0 in
-        (
+        let ends = and_parts (nat_le 25425 (begin_of (air_place m))) (nat_lt (begin_of (air_place m)) 27448) both.0 in (
           ltb-true m 207 parts.0,
           inr (
             leb-true 25425 (begin_of (air_place m)) ends.0,

@@ -74,14 +74,16 @@ gapped_gap ps = record {
 }
   where
     left : (n : ℕ) → n < 832 * length (a53 ps) → (n < 19982) ⊎ (19982 + 4142 ≤ n)
-        → (is_missing (symbol_at (gapped ps) n) ≡ true) ⊎ (sliced (symbol_at (gapped ps) n) ≡ sliced (symbol_at (a53 ps) n))
+        → (is_missing (symbol_at (gapped ps) n) ≡ true)
+        ⊎ (sliced (symbol_at (gapped ps) n) ≡ sliced (symbol_at (a53 ps) n))
     left n l side =
         inr (ap sliced (left_outside ps n l side)
         ∙ sliced_symbol (sliced (symbol_at (a53 ps) n)) (level_eight (a53 ps) n))
 
     by_place : (n : ℕ) → n < 832 * length (a53 ps) → (n < 19982) ⊎ (19982 ≤ n)
         → (n < 19982 + 4142) ⊎ (19982 + 4142 ≤ n)
-        → (is_missing (symbol_at (gapped ps) n) ≡ true) ⊎ (sliced (symbol_at (gapped ps) n) ≡ sliced (symbol_at (a53 ps) n))
+        → (is_missing (symbol_at (gapped ps) n) ≡ true)
+        ⊎ (sliced (symbol_at (gapped ps) n) ≡ sliced (symbol_at (a53 ps) n))
     by_place n l (inl a) b = left n l (inl a)
     by_place n l (inr a) (inl b) = inl (missing_inside ps n l a b)
     by_place n l (inr a) (inr b) = left n l (inr b)
@@ -137,15 +139,14 @@ hangs_at m t = by_part (or_cases (nat_lt m 207 && last) (nat_lt m 207 && first) 
         ⊎ ((19982 ≤ begin_of (air_place m)) × (begin_of (air_place m) < 24124)))
     by_part (inl e) =
         let parts = and_parts (nat_lt m 207) last e in
-        let both = and_parts (nat_le 19982 (end_of (air_place m))) (nat_lt (end_of (air_place m)) 24124) parts.1 in
-        (
+        let both = and_parts (nat_le 19982 (end_of (air_place m))) (nat_lt (end_of (air_place m)) 24124) parts.1 in (
           ltb-true m 207 parts.0,
           inl (leb-true 19982 (end_of (air_place m)) both.0, ltb-true (end_of (air_place m)) 24124 both.1),
         )
     by_part (inr e) =
         let parts = and_parts (nat_lt m 207) first e in
-        let both = and_parts (nat_le 19982 (begin_of (air_place m))) (nat_lt (begin_of (air_place m)) 24124) parts.1 in
-        (
+        let both =
+        and_parts (nat_le 19982 (begin_of (air_place m))) (nat_lt (begin_of (air_place m)) 24124) parts.1 in (
           ltb-true m 207 parts.0,
           inr (leb-true 19982 (begin_of (air_place m)) both.0, ltb-true (begin_of (air_place m)) 24124 both.1),
         )

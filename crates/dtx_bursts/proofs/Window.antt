@@ -74,7 +74,8 @@ few_in_ten from j p touched =
     (least_by p air_place (207 * j) 207)
 
 apart_in_twenty : (j : ℕ) → AreApart 4141 1045 j
-apart_in_twenty j k m a b c d l = apart_twenty (air_place k) (air_place m) (by_gap (cases_lt (air_place m) (air_place k + 1047)))
+apart_in_twenty j k m a b c d l =
+    apart_twenty (air_place k) (air_place m) (by_gap (cases_lt (air_place m) (air_place k + 1047)))
   where
     by_gap : (air_place m < air_place k + 1047) ⊎ (air_place k + 1047 ≤ air_place m)
         → AreTwenty (air_place k) (air_place m)
