@@ -1,13 +1,19 @@
 #!/usr/bin/env bash
 # Tries the built program on real files, from outside: its status, what it prints, each byte that it
 # writes, and what stands after a refusal. What it must write is made here, and never by dtx.
-# Names what fails, and ends with the line `black box: N passed, M failed`.
+# Names what fails, and ends with the line `black box: N passed, M failed`. Where the first word is `--released`, it tries the released
+# program. Other words name the parts that are tried, all where there are none: a part may need files that those before it make.
 
 set -u
 umask 022
 export LC_ALL=C
 top=$(cd "$(dirname "${BASH_SOURCE[0]}")/.." && pwd) || exit 1
 dtx=$top/dtx
+if [[ ${1-} == --released ]]; then
+    dtx=$top/release/dtx
+    shift
+fi
+parts=("$@")
 usage='usage: dtx adapt|code|excite|receive|net|make|hurt|place|trial|soft|mend|dvb|repeat|acquire|watch'
 
 if [[ $("$dtx" </dev/null) != "$usage" ]]; then
@@ -15,6 +21,10 @@ if [[ $("$dtx" </dev/null) != "$usage" ]]; then
     echo 'black box: 0 passed, 1 failed'
     exit 1
 fi
+
+# The program itself, without its launcher.
+binary=$dtx
+[[ $dtx != "$top/dtx" ]] || binary=$("$top/build" --which) || exit 1
 
 room=$(mktemp -d) || exit 1
 trap 'chmod -R u+w "$room"; rm -rf "$room"' EXIT
@@ -53,6 +63,11 @@ finish() {
 
 wrong() {
     wrongs+=("$1")
+}
+
+# left_out WHAT PACKAGE: says what is not tried, and which package would change that.
+left_out() {
+    printf 'left out: %s: install %s\n' "$1" "$2"
 }
 
 # run STATUS LINE WORD..: the program, given the words, ends with the status, prints just that line,
@@ -254,8 +269,9 @@ plan_of() {
 
 # ---- The cases, subject by subject ----
 
-for part in adapt plans make code receive excite hurt place net pages small trial soft mend dvb repeat acquire watch names overlaps words refused_streams \
-    refused_files forbidden_files host_faults each_call progress many; do
+((${#parts[@]})) || parts=(launcher adapt plans make code receive excite hurt place net pages small trial soft mend dvb repeat acquire watch
+    names overlaps words refused_streams refused_files forbidden_files host_faults pipes each_call progress many)
+for part in "${parts[@]}"; do
     . "$top/checks/black_box/$part.sh"
 done
 

@@ -1,5 +1,6 @@
 #!/usr/bin/env bash
-# Types in the commands of docs/guide.md, in an empty folder, and compares what each prints with what the guide says.
+# Types in the commands of docs/guide.md, in an empty folder, and compares what each prints with what the guide says:
+# those of blocks of the kind `console`. A block that needs GNU Radio is of another kind; checks/radio.sh tries the like.
 # The last line is `guide: N passed, M failed`, where each command counts once.
 
 set -u

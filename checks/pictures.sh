@@ -1,6 +1,7 @@
 #!/usr/bin/env bash
-# Draws both pictures of examples/pictures where matplotlib is installed: what a network of thirty-five transmitters left,
-# one of them late, and how a noisy capture is received. Each transmitter's row and each mute has to be in the drawing.
+# Draws the pictures of examples/pictures where matplotlib is installed: what a network of thirty-five transmitters left,
+# one of them late, how a noisy capture is received, and figures and taps of a channel. Each transmitter's row and each
+# mute has to be in the drawing.
 # The last line is `pictures: N passed, M failed`.
 
 set -u
@@ -56,6 +57,7 @@ plan() {
 }
 
 # The python3 that the shell finds may be another one than the system's, which has the library from Debian's package.
+drawn=
 for python in python3 /usr/bin/python3; do
     if "$python" -c 'import matplotlib' 2>/dev/null; then
         plan >plan.toml
@@ -67,8 +69,14 @@ for python in python3 /usr/bin/python3; do
         dtx code stream.ts clean.sym >said && "$python" "$top/examples/capture.py" 1 26 5 clean.sym noisy.sym
         holds 'the picture of a reception' "$python" "$top/examples/pictures/reception.py" noisy.sym reception
         holds 'its size' drawn reception
+        printf '%s\t%s\t%s\t%s\n' dB one two three 14 0 9 5 15 8 9 9 >figures
+        seq 48 -1 -48 | awk '{ print $1, ($1 == 0) - ($1 == 14) / 2 }' >taps
+        holds 'the picture of a channel' "$python" "$top/examples/pictures/radio.py" figures taps radio
+        holds 'its size' drawn radio
+        drawn=yes
         break
     fi
 done
+[[ $drawn ]] || echo 'left out: the pictures: install python3-matplotlib'
 printf 'pictures: %d passed, %d failed\n' "$passed" "$failed"
 ((failed == 0))

@@ -5,12 +5,10 @@
 
 export LC_ALL=C
 top=$(cd "$(dirname "${BASH_SOURCE[0]}")/../.." && pwd)
-program=$top/crates/dtx/out/dtx
+# The program is measured without its launcher.
+program=$("$top/build" --which) || exit 1
 room=$(mktemp -d)
 trap 'rm -rf "$room"' EXIT
-
-# The launcher builds the program, which is measured without it.
-"$top/dtx" >"$room/usage" || [[ $? == 2 ]]
 
 pinned=()
 if command -v taskset >/dev/null; then

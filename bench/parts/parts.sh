@@ -4,7 +4,7 @@
 
 proved=$top/crates/dtx_bench/out/dtx_bench
 if [ ! -x "$proved" ]; then
-    (cd "$top/crates/dtx_bench" && rt run >/dev/null)
+    "$top/build" dtx_bench
 fi
 
 pinned=

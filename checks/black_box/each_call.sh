@@ -3,7 +3,7 @@
 
 # with_calls WORD..: runs the program, given the words, in front of whose calls the library stands.
 with_calls() {
-    LD_PRELOAD=$room/calls/fails.so "$top/crates/dtx/out/dtx" "$@" >"$room/said" 2>"$room/complaint"
+    LD_PRELOAD=$room/calls/fails.so "$binary" "$@" >"$room/said" 2>"$room/complaint"
 }
 
 # calls_of KIND WORD..: how many calls of that kind the program makes.
@@ -61,7 +61,7 @@ outputs() {
 }
 
 if ! command -v cc >/dev/null; then
-    echo 'black box: no call of the host is made to fail, since there is no C compiler'
+    left_out 'each call of the host that fails' 'a C compiler, as gcc'
 else
     mkdir "$room/calls"
     cat >"$room/calls/fails.c" <<'end'

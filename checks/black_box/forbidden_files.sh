@@ -2,7 +2,7 @@
 
 # Root may use all, so the program then runs as nobody, from a copy where nobody reaches it.
 if ((EUID == 0)); then
-    cp "$top/crates/dtx/out/dtx" "$room/program"
+    cp "$binary" "$room/program"
     chmod 755 "$room/program"
     program=(setpriv --reuid=65534 --regid=65534 --clear-groups "$room/program")
 fi
@@ -52,6 +52,6 @@ if [[ $("${program[@]}" 2>/dev/null) == "$usage" ]]; then
     run 11 'read fault' hurt ../inputs/given.ts changes.toml out.ts
     leaves changes.toml
 else
-    echo 'black box: the cases of another user were left out, since root could not become nobody here'
+    left_out 'files that another user may not use, since root could not become nobody' 'util-linux, or run it as another user'
 fi
 

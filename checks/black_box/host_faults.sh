@@ -125,33 +125,13 @@ for most in 1024 16; do
     done
 done
 
-# ---- Inputs and outputs that are no files ----
-
-start 'an input that is a pipe that no one writes'
-mkfifo in.ts
-program=(timeout 20 "$dtx")
-run 11 'read fault' code in.ts out.sym
-run 11 'read fault' adapt "$plan" in.ts out.ts
-run 11 'read fault' adapt in.ts ../inputs/given.ts out.ts
-run 11 'read fault' hurt ../inputs/given.ts in.ts out.ts
-run 11 'read fault' net in.ts
-leaves in.ts
-
-start 'an input that is a pipe that another program writes'
-run 11 'read fault' code /dev/stdin out.sym < <(cat ../inputs/given.ts)
-leaves_nothing
+# ---- A socket with a name ----
 
 start 'a socket as an input and as an output'
 python3 -c 'import socket; socket.socket(socket.AF_UNIX).bind("socket")'
 run 11 'read fault' code socket out.sym
 run 12 'write fault' code ../inputs/given.ts socket
 leaves socket
-
-start 'a terminal as an input'
-program=(timeout 20 python3 "$top/checks/black_box/terminal.py" shown '' 1 "$dtx")
-run 11 'read fault' code TERMINAL out.sym
-leaves shown
-program=("$dtx")
 
 # ---- Names ----
 
@@ -187,7 +167,7 @@ start 'a disk that fills up in the middle'
 on_small_disk code ../../inputs/long.ts out.sym
 status=$?
 if ((status == 99)) || [[ ! -d kept ]]; then
-    echo 'black box: the cases of a small disk were left out, since none can be mounted here'
+    left_out 'a disk that fills up, since none can be mounted' 'util-linux, or run it as root'
 else
     is_said 12 'write fault' $status
     is_begun kept/out.sym "$room/long.sym"

@@ -88,6 +88,8 @@ if command -v parallel >/dev/null; then
     start 'the transmitters of a network by GNU parallel send what the network sends'
     network_in_many
     unset PARALLEL
+else
+    left_out 'pieces by GNU parallel' parallel
 fi
 
 # In the place of another machine: what comes to it is done here, in a home and by a shell of its own, as a login has them.
@@ -109,6 +111,8 @@ chmod +x "$room/many/away/ssh"
 if command -v parallel >/dev/null && command -v rsync >/dev/null; then
     start 'pieces on another machine are joined to what one process writes'
     excite_by PATH="$room/many/away:$PATH" SSHLOGIN=elsewhere
+else
+    left_out 'pieces on another machine' 'parallel and rsync'
 fi
 
 # In the place of a cluster: it runs the jobs of an array one after the other.

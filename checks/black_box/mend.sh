@@ -28,6 +28,21 @@ head -c $((573 * 188)) in.ts | cmp -s - out.ts || wrong 'out.ts is not the first
 
 puts_lost_segments_right mend
 
+# The most missing symbols in a row that are mended wherever they stand, and one more where that is too many for one word.
+start 'how many symbols in a row may be wrong or missing is what a count of bytes says'
+"$top/checks/independent/bursts.py" >"$room/said" || wrong "printed $(cat "$room/said")"
+while read -r count flagged; do
+    start "$count missing symbols in a row"
+    cp "$room/feed.sym" in.sym
+    missing 19982 "$count" in.sym
+    agrees mend in.sym out.ts
+    [[ $(cat "$room/said") == 'segments 1305 runs 1 packets 1249 '*" flagged $flagged loose 0" ]] || wrong "printed $(cat "$room/said")"
+    leaves in.sym wanted.ts out.ts
+done <<'end'
+4141 0
+4142 1
+end
+
 # Of a stream of zeros whole segments are missing, and others wrong, from one to another, and symbols of its second field sync; each missing
 # byte of a word costs half as much as a wrong one. The numbers are those of a program that follows the rules over the whole list.
 "$top/checks/independent/reference.py" zeros 624 "$room/zeros.ts"

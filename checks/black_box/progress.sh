@@ -22,6 +22,12 @@ on_terminal 0 'packets 3000 segments 3010 loose 0' "$far" 1 code ../inputs/long.
 start 'long work on a terminal prints its line last'
 on_terminal 0 '' "${far}packets 3000 segments 3010 loose 0" 2 code ../inputs/long.ts out.sym
 
+start 'long work on a pipe says how much was read'
+mkfifo in.ts
+cat ../inputs/long.ts >in.ts &
+on_terminal 0 'packets 3000 segments 3010 loose 0' '(@dtx: +[0-9]+ MB, +[0-9]+\.[0-9] MB/s)+@ {31}@' 1 code in.ts out.sym
+wait
+
 start 'long work elsewhere says nothing on standard error'
 meanwhile 'sleep 1.2' out.sym code ../inputs/long.ts out.sym
 is_said 0 'packets 3000 segments 3010 loose 0' $?

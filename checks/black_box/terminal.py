@@ -3,7 +3,7 @@
 
 What the terminal showed is written to the file SHOWN. Where PIPE isn't empty, it is a pipe that is made here, and what the
 program writes to it waits for 1.2 seconds, and is then written to PIPE.taken. Where STREAMS is 2, standard output is the
-terminal too. The word TERMINAL stands for the terminal's name."""
+terminal too. The word TERMINAL stands for the terminal's name; then a line of six bytes is typed there, and the end."""
 import os
 import pty
 import sys
@@ -35,6 +35,8 @@ def main(shown, pipe, streams, *words):
     modes = termios.tcgetattr(slave)
     modes[1] &= ~termios.OPOST
     termios.tcsetattr(slave, termios.TCSANOW, modes)
+    if "TERMINAL" in words:
+        os.write(master, b"typed\n\x04")
     words = [os.ttyname(slave) if word == "TERMINAL" else word for word in words]
     if pipe:
         os.mkfifo(pipe)

@@ -12,7 +12,6 @@
 set -o pipefail
 export LC_ALL=C
 here=$(cd "$(dirname "${BASH_SOURCE[0]}")" && pwd -P)
-launcher=${here%/*/*}/dtx
 processors=$(getconf _NPROCESSORS_ONLN)
 packet=188
 segment=832
@@ -55,8 +54,8 @@ are_apart() {
 
 # Makes the folder of the pieces, which holds the built program too: a machine elsewhere needs nothing else.
 make_folder() {
-    "$launcher" >/dev/null
-    (($? == 2)) || fail 'the program could not be built'
+    local program
+    program=$("${here%/*/*}/build" --which) || fail 'the program could not be built'
     if [[ ${FOLDER-} ]]; then
         folder=$FOLDER
         mkdir -p -- "$folder" || exit 1
@@ -66,7 +65,7 @@ make_folder() {
         [[ ${SLURM-} != 1 ]] || fail 'SLURM=1 asks for FOLDER=.., a folder that all machines share'
         folder=$(mktemp -d) || exit 1
     fi
-    cp "${launcher%/*}/crates/dtx/out/dtx" "$here/piece.sh" "$folder" || exit 1
+    cp "$program" "$here/piece.sh" "$folder" || exit 1
 }
 
 # beside NAME: sets `made` to an empty file beside the name, to be renamed once it is whole.

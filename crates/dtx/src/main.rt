@@ -14,6 +14,10 @@ use std::{env, io};
 const OVERLAP: &str =
     "dtx: an output is a file that is read, or another output, under another name";
 
+/// What it says where an input that has no places, as a pipe, was to be read a second time.
+const AGAIN: &str =
+    "dtx: an input is a pipe that was read before: what it gave can't be read again";
+
 fn main(rt: HostRuntime) -> ExitCode {
     let _standing = stand_in(&rt);
     match words(&rt) {
@@ -25,6 +29,9 @@ fn main(rt: HostRuntime) -> ExitCode {
             progress.wipe(&rt);
             if shelf.overlap() {
                 let _ = eprintln!(rt; "{OVERLAP}");
+            }
+            if shelf.again() {
+                let _ = eprintln!(rt; "{AGAIN}");
             }
             ExitCode::from(status.code())
         }

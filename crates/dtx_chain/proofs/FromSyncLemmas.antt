@@ -271,9 +271,11 @@ complete_moved : (q j a b : ℕ) → IsComplete 207 52 4 (828 * a) j → 78 * q 
     → IsComplete 207 52 4 (828 * b) (312 * q + j)
 complete_moved q j a b c l = λ i m. let h = c i m in omega (arith, h, l)
 
-pub word_there : (ps : List (List ℕ)) (q j : ℕ) (run : List (List ℤ)) → ArePackets ps → IsThere ps q run
-    → IsComplete 207 52 4 (828 * groups_of run) j → IsNear ps (312 * q + j) (word_at 207 52 4 (bytes_in run) j)
-word_there ps q j run p h c = omega (arith, far)
+-- a word whose bytes are all there is its packet's codeword
+pub own_word : (ps : List (List ℕ)) (q j : ℕ) (run : List (List ℤ)) → ArePackets ps → IsThere ps q run
+    → IsComplete 207 52 4 (828 * groups_of run) j
+    → word_at 207 52 4 (bytes_in run) j ≡ codeword_at ps (312 * q + j)
+own_word ps q j run p h c = same ∙ word_is ps (312 * q + j) within complete
   where
     t : AreThere ps q run
     t = bytes_there ps q run p h
@@ -291,10 +293,13 @@ word_there ps q j run p h c = omega (arith, far)
         ∙ sym (word_moved q j t.before (bytes_in run ++ t.after) t.long)
         ∙ ap (λ y. word_at 207 52 4 y (312 * q + j)) (sym t.all)
 
-    far : distance (word_at 207 52 4 (bytes_in run) j) (codeword_at ps (312 * q + j)) ≡ 0
-    far =
-        ap (λ w. distance w (codeword_at ps (312 * q + j))) (same ∙ word_is ps (312 * q + j) within complete)
-        ∙ distance_self (codeword_at ps (312 * q + j))
+pub word_there : (ps : List (List ℕ)) (q j : ℕ) (run : List (List ℤ)) → ArePackets ps → IsThere ps q run
+    → IsComplete 207 52 4 (828 * groups_of run) j → IsNear ps (312 * q + j) (word_at 207 52 4 (bytes_in run) j)
+word_there ps q j run p h c = omega (
+  arith,
+  ap (λ w. distance w (codeword_at ps (312 * q + j))) (own_word ps q j run p h c)
+      ∙ distance_self (codeword_at ps (312 * q + j)),
+)
 
 -- ---- a run of which a front stands there
 

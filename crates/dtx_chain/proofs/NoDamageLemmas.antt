@@ -67,7 +67,7 @@ none_damaged segment =
 -- ---- each word is near
 
 -- from the first field sync on they stand in the stream
-is_there : (ps : List (List ℕ)) (first : ℕ) (sent : List (List ℤ)) → AreReceived ps first sent sent
+pub is_there : (ps : List (List ℕ)) (first : ℕ) (sent : List (List ℤ)) → AreReceived ps first sent sent
     → to_sync first < length sent → IsThere ps ((first + to_sync first) / 313) (from_sync first sent)
 unfolding from_sync
 is_there ps first sent r l =
@@ -86,7 +86,7 @@ is_there ps first sent r l =
     }
 
 -- where there is none, no word is complete
-no_groups : (first : ℕ) (sent : List (List ℤ)) → length sent ≤ to_sync first → groups_of (from_sync first sent) ≡ 0
+pub no_groups : (first : ℕ) (sent : List (List ℤ)) → length sent ≤ to_sync first → groups_of (from_sync first sent) ≡ 0
 unfolding from_sync groups_of data_count
 no_groups first sent l =
     let n : length (drop (to_sync first) sent) ≡ 0 = omega (arith, l, length-drop (to_sync first) sent) in

@@ -136,7 +136,8 @@ impl<F: Write + Drop> FilesMet<F> {
         found.is_file && self.was_met(found.id)
     }
 
-    fn was_met(&self, id: FileId) -> bool {
+    /// Whether that file was read or begun before, under whatever name.
+    pub(crate) fn was_met(&self, id: FileId) -> bool {
         for met in self.met.iter() {
             if met.id == id {
                 return true;

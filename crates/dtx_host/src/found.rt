@@ -21,6 +21,7 @@ pub(crate) struct Found {
     pub(crate) id: FileId,
     pub(crate) len: u64,
     pub(crate) is_file: bool,
+    /// A pipe or a socket.
     pub(crate) is_pipe: bool,
     pub(crate) is_disk: bool,
 }
@@ -50,7 +51,7 @@ fn found_of(found: &Metadata) -> Found {
         },
         len: found.len(),
         is_file: found.is_file(),
-        is_pipe: kind.is_fifo(),
+        is_pipe: kind.is_fifo() || kind.is_socket(),
         is_disk: kind.is_block_device(),
     }
 }
@@ -75,10 +76,22 @@ pub(crate) fn read_at<F: Read + Seek>(
     if let Err(e) = file.seek(SeekFrom::Start(place)) {
         return Err(read_refusal(&e));
     }
+    read_next(file, into)
+}
+
+/// Reads once, from where the file stands.
+pub(crate) fn read_next<F: Read>(file: &mut F, into: &mut [u8]) -> Result<usize, ReadNo>
+    ensures { IfOk result (λ n. n ≤ length into.new) }
+{
     match file.read(into) {
         Ok(n) => Ok(n),
         Err(e) => Err(read_refusal(&e)),
     }
+}
+
+/// Whether the file can be read from a place on. A pipe, a terminal and a socket can't.
+pub(crate) fn has_places<F: Seek>(file: &mut F) -> bool {
+    file.seek(SeekFrom::Start(0)).is_ok()
 }
 
 /// Takes away what the open file holds.

@@ -2,28 +2,32 @@
 ghost use Rattle.std.specs.Prelude.{◌≤◌, IfOk, length};
 
 use crate::files_met::{FilesMet, Met};
-use crate::found::{Found, empty, found_open, found_under, open, read_at};
+use crate::found::{FileId, Found, empty, found_open, found_under, has_places, open, read_at};
+use crate::pipe::{Pipe, Pipes};
 use crate::progress::Progress;
 use dtx_outside::{ReadNo, WriteNo};
-use std::fs::OpenOptions;
+use std::fs::{OpenFile, OpenOptions};
+use std::io::{Input, Read, Seek};
 use std::rt::Files;
 use std::time::Clock;
 
-/// The files that the runtime reaches, and those of them that were met.
+/// The files that the runtime reaches, those of them that were met, and the pipes that are read.
 #[derive(Drop)]
 pub(crate) struct HostFiles<'a, R: Files> {
     rt: &'a R,
     progress: &'a Progress,
     met: FilesMet<R::File>,
+    pipes: Pipes<R::File>,
     overlap: bool,
 }
 
-impl<'a, R: Files + AllocGlobal + Clock + Eprint> HostFiles<'a, R> {
+impl<'a, R: Files + AllocGlobal + Clock + Eprint + Input> HostFiles<'a, R> {
     pub(crate) fn new(rt: &'a R, progress: &'a Progress) -> HostFiles<'a, R> {
         HostFiles {
             rt,
             progress,
             met: FilesMet::new(rt.alloc()),
+            pipes: Pipes::new(rt.alloc()),
             overlap: false,
         }
     }
@@ -33,23 +37,80 @@ impl<'a, R: Files + AllocGlobal + Clock + Eprint> HostFiles<'a, R> {
         self.overlap
     }
 
-    /// Opens the file and reads once. Before the first byte a pipe is refused by its name, since opening it may wait,
-    /// and what else has no places by the first `seek`.
+    /// Whether an input that is read once was to be read a second time.
+    pub(crate) fn again(&self) -> bool {
+        self.pipes.again()
+    }
+
+    /// Reads once: of a pipe that is held, and else of the file under that name, which is opened.
     pub(crate) fn read(&mut self, name: &str, place: u64, into: &mut [u8]) -> Result<usize, ReadNo>
         ensures { IfOk result (λ n. n ≤ length into.new) }
     {
-        if place == 0 && is_pipe(self.rt, name) {
+        match self.pipes.held(name) {
+            Some(pipe) => read_held(self.rt, self.progress, pipe, place, into),
+            None => self.read_unheld(name, place, into),
+        }
+    }
+
+    fn read_unheld(&mut self, name: &str, place: u64, into: &mut [u8]) -> Result<usize, ReadNo>
+        ensures { IfOk result (λ n. n ≤ length into.new) }
+    {
+        match named_pipe(self.rt, name, place) {
+            Some(id) => self.read_named_pipe(name, id, into),
+            None => self.read_named(name, place, into),
+        }
+    }
+
+    /// Reads the first bytes of a pipe or a socket. Before one is opened, which may wait, it is asked whether it may be
+    /// read. Standard input isn't opened anew: a socket can't be, and a pipe with a name could wait for a writer that
+    /// comes no more.
+    fn read_named_pipe(&mut self, name: &str, id: FileId, into: &mut [u8]) -> Result<usize, ReadNo>
+        ensures { IfOk result (λ n. n ≤ length into.new) }
+    {
+        if self.is_taken(name, id) {
             return Err(ReadNo::Failed);
         }
+        if is_standard_input(self.rt, id) {
+            self.read_pipe(name, id, None, into)
+        } else {
+            self.read_named(name, 0, into)
+        }
+    }
+
+    /// Whether a pipe may not be read: it is read already, since two readers would share its bytes, or written, or
+    /// another file was met under its name.
+    fn is_taken(&mut self, name: &str, id: FileId) -> bool {
+        self.pipes.meets_again(id) || self.met.was_met(id) || self.met.knows(name)
+    }
+
+    /// Opens the file and reads once.
+    fn read_named(&mut self, name: &str, place: u64, into: &mut [u8]) -> Result<usize, ReadNo>
+        ensures { IfOk result (λ n. n ≤ length into.new) }
+    {
         match self.open(OpenOptions::new().read(true), name) {
-            Ok(mut file) => self.read_open(&mut file, name, place, into),
+            Ok(file) => self.read_opened(file, name, place, into),
             // Where a file was met under its name, one that is not there is one that was lost meanwhile.
             Err(ReadNo::Absent) if self.met.knows(name) => Err(ReadNo::Failed),
             Err(no) => Err(no),
         }
     }
 
-    fn read_open(
+    fn read_opened(
+        &mut self,
+        mut file: R::File,
+        name: &str,
+        place: u64,
+        into: &mut [u8],
+    ) -> Result<usize, ReadNo>
+        ensures { IfOk result (λ n. n ≤ length into.new) }
+    {
+        match opened_pipe(&mut file, place) {
+            Some(id) => self.read_pipe(name, id, Some(file), into),
+            None => self.read_file(&mut file, name, place, into),
+        }
+    }
+
+    fn read_file(
         &mut self,
         file: &mut R::File,
         name: &str,
@@ -64,6 +125,38 @@ impl<'a, R: Files + AllocGlobal + Clock + Eprint> HostFiles<'a, R> {
         let read_to = place.saturating_add(n as u64);
         self.progress.note(self.rt, n as u64, read_to, found.len);
         Ok(n)
+    }
+
+    /// Holds a pipe, where it may be read, and reads its first bytes.
+    fn read_pipe(
+        &mut self,
+        name: &str,
+        id: FileId,
+        file: Option<R::File>,
+        into: &mut [u8],
+    ) -> Result<usize, ReadNo>
+        ensures { IfOk result (λ n. n ≤ length into.new) }
+    {
+        match self.hold(name, id, file) {
+            Ok(()) => self.read_first(name, into),
+            Err(no) => Err(no),
+        }
+    }
+
+    fn hold(&mut self, name: &str, id: FileId, file: Option<R::File>) -> Result<(), ReadNo> {
+        if self.is_taken(name, id) {
+            return Err(ReadNo::Failed);
+        }
+        self.pipes.hold(name, id, file)
+    }
+
+    fn read_first(&mut self, name: &str, into: &mut [u8]) -> Result<usize, ReadNo>
+        ensures { IfOk result (λ n. n ≤ length into.new) }
+    {
+        match self.pipes.held(name) {
+            Some(pipe) => read_held(self.rt, self.progress, pipe, 0, into),
+            None => Err(ReadNo::Failed),
+        }
     }
 
     /// Opens the file, which it makes where it isn't there, and takes away what it holds only where it is none that was
@@ -97,7 +190,9 @@ impl<'a, R: Files + AllocGlobal + Clock + Eprint> HostFiles<'a, R> {
 
     /// Whether the file is one that may not be begun, which is kept in mind.
     fn overlaps(&mut self, found: &Found) -> bool {
-        let overlaps = self.met.would_lose(found) || is_printed_to(self.rt, found);
+        let overlaps = self.met.would_lose(found)
+            || self.pipes.has(found.id)
+            || is_printed_to(self.rt, found);
         self.overlap |= overlaps;
         overlaps
     }
@@ -168,17 +263,54 @@ fn append_held<R: Files>(
     file.append(bytes)
 }
 
-fn is_pipe<R: Files>(rt: &R, name: &str) -> bool {
+fn read_held<R: Clock + Eprint + Input, F: Read>(
+    rt: &R,
+    progress: &Progress,
+    pipe: &mut Pipe<F>,
+    place: u64,
+    into: &mut [u8],
+) -> Result<usize, ReadNo>
+    ensures { IfOk result (λ n. n ≤ length into.new) }
+{
+    let n = pipe.read(rt, place, into)?;
+    progress.note(rt, n as u64, place.saturating_add(n as u64), 0);
+    Ok(n)
+}
+
+/// The pipe or socket that stands under the name, of which nothing was read.
+fn named_pipe<R: Files>(rt: &R, name: &str, place: u64) -> Option<FileId> {
+    if place > 0 {
+        return None;
+    }
     match found_under(rt, name) {
-        Ok(found) => found.is_pipe,
+        Ok(found) if found.is_pipe => Some(found.id),
+        _ => None,
+    }
+}
+
+fn is_standard_input<R: Files>(rt: &R, id: FileId) -> bool {
+    match found_under(rt, "/dev/stdin") {
+        Ok(found) => found.id == id,
         Err(_) => false,
     }
 }
 
-/// Whether standard output goes to that file: the line of the answer would stand over what is written there.
+/// The pipe that is open, where it is one of which nothing was read.
+fn opened_pipe<F: OpenFile + Seek>(file: &mut F, place: u64) -> Option<FileId> {
+    if place > 0 || has_places(file) {
+        return None;
+    }
+    match found_open(file) {
+        Ok(found) => Some(found.id),
+        Err(_) => None,
+    }
+}
+
+/// Whether standard output goes to that file or pipe: the line of the answer would stand over what is written there, or
+/// behind it.
 fn is_printed_to<R: Files>(rt: &R, found: &Found) -> bool {
     match found_under(rt, "/dev/stdout") {
-        Ok(printed) => found.is_file && printed.id == found.id,
+        Ok(printed) => (found.is_file || found.is_pipe) && printed.id == found.id,
         Err(_) => false,
     }
 }

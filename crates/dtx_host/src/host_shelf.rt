@@ -8,6 +8,7 @@ ghost use Rattle.dtx_outside.specs.Shelf.{untold, Gives, IsBegun, IsAppended};
 use crate::host_files::HostFiles;
 use crate::progress::Progress;
 use dtx_outside::{ReadNo, Refusals, Shelf, WriteNo};
+use std::io::Input;
 use std::marker::Model;
 use std::rt::Files;
 use std::time::Clock;
@@ -34,7 +35,7 @@ impl<'a, R: Files> Model for HostShelf<'a, R> {
     ghost view = { λ s. s.refusals };
 }
 
-impl<'a, R: Files + AllocGlobal + Clock + Eprint> HostShelf<'a, R> {
+impl<'a, R: Files + AllocGlobal + Clock + Eprint + Input> HostShelf<'a, R> {
     /// The files that the runtime reaches, with nothing counted yet. What is read shows in the progress.
     pub fn new(rt: &'a R, progress: &'a Progress) -> HostShelf<'a, R>
         ensures { result ≡ no_counts }
@@ -49,9 +50,14 @@ impl<'a, R: Files + AllocGlobal + Clock + Eprint> HostShelf<'a, R> {
     pub fn overlap(&self) -> bool {
         self.files.overlap()
     }
+
+    /// Whether an input that is read once, as a pipe is, was to be read a second time, under this name or another.
+    pub fn again(&self) -> bool {
+        self.files.again()
+    }
 }
 
-impl<R: Files + AllocGlobal + Clock + Eprint> Shelf for HostShelf<'_, R> {
+impl<R: Files + AllocGlobal + Clock + Eprint + Input> Shelf for HostShelf<'_, R> {
     ghost files = { λ _. untold };
 
     ghost counts = { λ s. s };

@@ -6,6 +6,7 @@ mod found;
 mod host_files;
 mod host_shelf;
 mod host_sink;
+mod pipe;
 mod progress;
 
 pub use host_shelf::HostShelf;

@@ -38,7 +38,8 @@ impl Progress {
         }
     }
 
-    /// Notes that of a file with so many bytes in all those before `place` were read, the last `bytes` just now.
+    /// Notes that of a file with so many bytes in all those before `place` were read, the last `bytes` just now. Of a
+    /// pipe it isn't known how many there are: 0 stands for that.
     pub(crate) fn note(&self, rt: &(impl Clock + Eprint), bytes: u64, place: u64, whole: u64) {
         let Some(begun) = self.begun else {
             return;
@@ -49,15 +50,12 @@ impl Progress {
             return;
         };
         let passed = u64::try_from(passed.as_millis()).unwrap_or(u64::MAX);
-        if passed < self.due.get() || whole == 0 {
+        if passed < self.due.get() {
             return;
         }
         self.due.set(passed.saturating_add(RENEWAL));
         self.shown.set(true);
-        let percent = place.min(whole) as u128 * 100 / whole as u128;
-        let speed = read / passed.max(1);
-        let (millions, tenths) = (speed / 1000, speed % 1000 / 100);
-        let _ = eprint!(rt; "\rdtx: {percent:>3} % read, {millions:>5}.{tenths} MB/s");
+        show(rt, place, whole, read / passed.max(1));
     }
 
     /// Wipes the line, where it stands.
@@ -67,4 +65,16 @@ impl Progress {
             let _ = eprint!(rt; "\r                               \r");
         }
     }
+}
+
+/// Shows how far the input at hand was read, and how many kB a second: as many columns for a file as for a pipe.
+fn show(rt: &impl Eprint, place: u64, whole: u64, speed: u64) {
+    let (millions, tenths) = (speed / 1000, speed % 1000 / 100);
+    let _ = if whole == 0 {
+        let read = place / 1_000_000;
+        eprint!(rt; "\rdtx: {read:>7} MB, {millions:>5}.{tenths} MB/s")
+    } else {
+        let percent = place.min(whole) as u128 * 100 / whole as u128;
+        eprint!(rt; "\rdtx: {percent:>3} % read, {millions:>5}.{tenths} MB/s")
+    };
 }

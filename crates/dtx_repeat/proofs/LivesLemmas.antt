@@ -8,9 +8,9 @@ use Rattle.dtx_receiver.specs.Runs.{tracked, runs, tracking}
 use Rattle.dtx_receiver.specs.declared.batch.Received.{Received}
 use Rattle.dtx_receiver.specs.declared.tracking.Tracking.{Tracking}
 use Rattle.dtx_receiver.specs.declared.tracking.Tracking.TheVariants.{Searching, Began, Sync, Data, Ended}
-use Rattle.dtx_repeat.specs.GoingOn.{longer, with_begun, GoesOn, Ends}
+use Rattle.dtx_repeat.specs.GoingOn.{longer, with_begun, AreGiven, GoesOn, Ends}
 use Rattle.dtx_repeat.proofs.GoingOnLemmas.{Steps, one_more, at_end, longer_none}
-use Rattle.dtx_repeat.specs.Lives.{packets_in, life_of, lives, lives_so_far, AreGiven}
+use Rattle.dtx_repeat.specs.Lives.{packets_in, life_of, lives, lives_so_far}
 use Rattle.dtx_repeat.specs.Repeater.{next_place}
 use Rattle.dtx_repeat.specs.Restored.{restored, all_restored, restored_so_far, early_restored}
 use Rattle.dtx_repeat.proofs.RestoredLemmas.{restored_none}

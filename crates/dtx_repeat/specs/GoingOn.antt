@@ -20,6 +20,10 @@ longer [] packets = []
 longer (life ∷ []) packets = (life ++ packets) ∷ []
 longer (life ∷ (next ∷ more)) packets = life ∷ longer (next ∷ more) packets
 
+-- These packets are given to the last life, where there is one.
+abbrev pub AreGiven : List (List (List ℕ)) → List (List (List ℕ)) → List Received → Type 0
+AreGiven before after packets = (after ≡ longer before (packets_in packets)) × (before ≡ [] → packets ≡ [])
+
 -- one life more, of no packets, where a segment is told to begin a run
 abbrev pub with_begun : Tracking → List (List (List ℕ)) → List (List (List ℕ))
 with_begun Began lives = lives ++ [] ∷ []

@@ -1,11 +1,10 @@
 -- What a transmitter sends that is fed from the air (the profile's own, over the symbols of ATSC A/53 Part 2): each run
 -- of the segments that it receives is one life of its exciter.
-use Rattle.std.specs.Prelude.{ℕ, ℤ, List, ◌++◌, map, option_to_list, ◌≡◌, []}
+use Rattle.std.specs.Prelude.{ℕ, ℤ, List, ◌++◌, map, option_to_list}
 use Rattle.dtx_exciter.specs.Log.{Line, log, emission_over}
 use Rattle.dtx_receiver.specs.Runs.{tracked, runs}
 use Rattle.dtx_receiver.specs.declared.batch.Received.{Received}
 use Rattle.dtx_repeat.specs.Restored.{run_restored, early_restored}
-use Rattle.dtx_repeat.specs.GoingOn.{longer}
 
 -- the bytes of received packets, each packet for itself
 abbrev pub packets_in : List Received → List (List ℕ)
@@ -31,7 +30,3 @@ repeated address delay segments = emission_over address delay (lives segments)
 
 abbrev pub repeated_log : ℕ → ℕ → List (List ℤ) → List Line
 repeated_log address delay segments = log address delay 0 (lives segments)
-
--- These packets are given to the last life, where there is one.
-abbrev pub AreGiven : List (List (List ℕ)) → List (List (List ℕ)) → List Received → Type 0
-AreGiven before after packets = (after ≡ longer before (packets_in packets)) × (before ≡ [] → packets ≡ [])

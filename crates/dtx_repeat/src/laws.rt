@@ -7,8 +7,8 @@ ghost use Rattle.dtx_cadence.specs.Mark.{sync_at};
 ghost use Rattle.dtx_frame.specs.Detection.{looks_second};
 ghost use Rattle.dtx_receiver.specs.Runs.{runs, tracking};
 ghost use Rattle.dtx_receiver.specs.declared.batch.Received.{Received};
-ghost use Rattle.dtx_repeat.specs.GoingOn.{with_begun};
-ghost use Rattle.dtx_repeat.specs.Lives.{packets_in, lives, lives_so_far, AreGiven};
+ghost use Rattle.dtx_repeat.specs.GoingOn.{AreGiven, with_begun};
+ghost use Rattle.dtx_repeat.specs.Lives.{packets_in, lives, lives_so_far};
 ghost use Rattle.dtx_repeat.specs.Marks.{is_mark, wrong_signs, HasSyncs, without_mark};
 ghost use Rattle.dtx_repeat.specs.Restored.{place_behind, restored, all_restored, restored_so_far};
 

@@ -1,0 +1,16 @@
+pub mod Counting
+pub mod Spread
+pub mod Places
+pub mod Bytes
+pub mod Marks
+pub mod Least
+pub mod Window
+pub mod Missing
+pub mod Moved
+pub mod Slight
+pub mod Mended
+pub mod Syncs
+pub mod Replaced
+pub mod Apart
+pub mod TooMany
+pub mod TooManyMissing

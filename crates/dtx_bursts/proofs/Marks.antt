@@ -1,0 +1,130 @@
+-- A byte of a run is marked where one of five symbols is missing.
+use Rattle.std.proofs.Common.{◌≡◌, ℕ, ℤ, pos, zero, suc, ◌+◌, ◌-◌, ◌*◌, ◌/◌, ◌%◌, ◌<◌, ◌≤◌, ◌==◌, ◌⊎◌, ◌||◌, inl, inr}
+use Rattle.std.proofs.Common.{Bool, true, false, List, [], length, map, drop, get_or, refl, sym, ap, ap₂}
+use Rattle.std.proofs.Common.{◌∙◌, subst, arith}
+use Rattle.std.specs.List.{range_with_len, flat_map}
+use Rattle.std.proofs.lemmas.Bool.{cond-false, ne_eqb}
+use Rattle.std.proofs.lemmas.List.{get_or-drop, get_or-map, length-drop, length-map}
+use Rattle.dtx_slice.specs.Unrolled.{symbol_place, coder_of}
+use Rattle.dtx_slice.specs.InverseLaws.{place_within}
+use Rattle.dtx_receiver.specs.Bytes.{data_at, groups_of}
+use Rattle.dtx_erase.specs.Marks.{is_missing, missing_in, was_missing, is_marked}
+use Rattle.dtx_bursts.specs.Burst.{symbol_at}
+use Rattle.dtx_bursts.proofs.Bytes.{AreWhole, data_within, flat_at}
+use Rattle.dtx_bursts.proofs.Places.{position, position_of, first_position, next_position}
+
+missing_at : (x : List ℤ) (k : ℕ) → length x ≡ 832 → k < 828
+    → get_or (map is_missing (drop 4 x)) k false ≡ is_missing (get_or x (4 + k) (pos 0))
+missing_at x k long l =
+    get_or-map is_missing (drop 4 x) k (pos 0) false (omega (arith, l, long, length-drop 4 x))
+    ∙ ap is_missing (get_or-drop 4 x k (pos 0))
+
+missing_is : (run : List (List ℤ)) (d : ℕ) → AreWhole run → d < 3312 * groups_of run
+    → get_or (missing_in run) d false ≡ is_missing (symbol_at run (position d))
+unfolding missing_in data_at
+missing_is run d whole l =
+    let i : ℕ = d / 828 in
+    let k : ℕ = d % 828 in
+    let parts : d ≡ 828 * i + k = omega arith in
+    let in_data : i < 4 * groups_of run = omega (arith, l) in
+    let place : i ≡ 0 + i = omega arith in
+    let segment : (832 * (i + i / 312 + 1) + 4 + k) / 832 ≡ i + i / 312 + 1 = omega arith in
+    let symbol : (832 * (i + i / 312 + 1) + 4 + k) % 832 ≡ 4 + k = omega arith in
+    ap (λ n. get_or (flat_map flags (range_with_len 0 (4 * groups_of run))) n false) parts
+    ∙ flat_at flags 828 0 (4 * groups_of run) i k false long in_data (omega arith)
+    ∙ ap (λ n. get_or (flags n) k false) (sym place)
+    ∙ missing_at (get_or run (i + i / 312 + 1) []) k (whole (i + i / 312 + 1) (data_within run i in_data)) (omega arith)
+    ∙ ap₂ (λ a b. is_missing (get_or (get_or run a []) b (pos 0))) (sym segment) (sym symbol)
+  where
+    flags : ℕ → List Bool
+    flags = λ d. map is_missing (drop 4 (get_or run (d + d / 312 + 1) []))
+
+    long : (j : ℕ) → j < 4 * groups_of run → length (flags (0 + j)) ≡ 828
+    long j h =
+        let z : j ≡ 0 + j = omega arith in
+        subst (λ n. length (flags n) ≡ 828) z (omega (
+          arith,
+          length-map (drop 4 (get_or run (j + j / 312 + 1) [])) is_missing,
+          length-drop 4 (get_or run (j + j / 312 + 1) []),
+          whole (j + j / 312 + 1) (data_within run j h),
+        ))
+
+-- the symbol of coder e before round r
+was_is : (run : List (List ℤ)) (r e : ℕ) → AreWhole run → 0 < length run → r ≤ 276 * groups_of run
+    → was_missing run r e ≡ is_missing (symbol_at run (position_of r e))
+unfolding was_missing
+was_is run zero e whole some l =
+    let q : ℕ = (e + 4) % 12 in
+    let x : List ℤ = get_or run 0 [] in
+    let long : length x ≡ 832 = whole 0 some in
+    let segment : 0 ≡ (820 + q) / 832 = omega arith in
+    let symbol : 820 + q ≡ (820 + q) % 832 = omega arith in
+    get_or-map is_missing (drop 820 x) q (pos 0) false (omega (arith, long, length-drop 820 x))
+    ∙ ap is_missing (get_or-drop 820 x q (pos 0))
+    ∙ ap₂ (λ a b. is_missing (get_or (get_or run a []) b (pos 0))) segment symbol
+    ∙ ap (λ n. is_missing (symbol_at run n)) (sym (first_position e))
+was_is run (suc r) e whole some l =
+    let a : suc r ≡ r + 1 = omega arith in
+    ap (λ n. was_missing run n e) a ∙ later r (omega (arith, l))
+    ∙ ap (λ n. is_missing (symbol_at run (position_of n e))) (sym a)
+  where
+    later : (r : ℕ) → r < 276 * groups_of run
+        → was_missing run (r + 1) e ≡ is_missing (symbol_at run (position_of (r + 1) e))
+    later r m =
+        let b : r + 1 - 1 ≡ r = omega arith in
+        cond-false (r + 1 == 0) (get_or (map is_missing (drop 820 (get_or run 0 []))) ((e + 4) % 12) false)
+        (get_or (missing_in run) (symbol_place 0 (r + 1 - 1) e) false) (ne_eqb (r + 1) 0 (λ z. omega (arith, z)))
+        ∙ ap (λ n. get_or (missing_in run) (symbol_place 0 n e) false) b
+        ∙ missing_is run (symbol_place 0 r e) whole (place_within 0 r e (groups_of run) m)
+        ∙ ap (λ n. is_missing (symbol_at run n)) (sym (next_position r e))
+
+-- ---- a byte
+
+-- the symbol is missing before round 4 * (y / 12) + i
+abbrev missing_before : List (List ℤ) → ℕ → ℕ → Bool
+missing_before run y i = is_missing (symbol_at run (position_of (4 * (y / 12) + i) (coder_of 0 y)))
+
+-- One of its five symbols is missing, or none is.
+abbrev pub MarkedOrNot : List (List ℤ) → ℕ → Type 0
+MarkedOrNot run y = ((i : ℕ) × (i < 5) × (missing_before run y i ≡ true) × (is_marked run y ≡ true))
+    ⊎ (((i : ℕ) → i < 5 → missing_before run y i ≡ false) × (is_marked run y ≡ false))
+
+five : (a b c d e : Bool) (f : ℕ → Bool) → f 0 ≡ a → f 1 ≡ b → f 2 ≡ c → f 3 ≡ d → f 4 ≡ e
+    → ((i : ℕ) × (i < 5) × (f i ≡ true) × ((a || (b || (c || (d || e)))) ≡ true))
+    ⊎ (((i : ℕ) → i < 5 → f i ≡ false) × ((a || (b || (c || (d || e)))) ≡ false))
+five true b c d e f x0 x1 x2 x3 x4 = inl (0, omega arith, x0, refl)
+five false true c d e f x0 x1 x2 x3 x4 = inl (1, omega arith, x1, refl)
+five false false true d e f x0 x1 x2 x3 x4 = inl (2, omega arith, x2, refl)
+five false false false true e f x0 x1 x2 x3 x4 = inl (3, omega arith, x3, refl)
+five false false false false true f x0 x1 x2 x3 x4 = inl (4, omega arith, x4, refl)
+five false false false false false f x0 x1 x2 x3 x4 = inr (none, refl)
+  where
+    none : (i : ℕ) → i < 5 → f i ≡ false
+    none zero l = x0
+    none (suc zero) l = x1
+    none (suc (suc zero)) l = x2
+    none (suc (suc (suc zero))) l = x3
+    none (suc (suc (suc (suc zero)))) l = x4
+    none (suc (suc (suc (suc (suc i))))) l = absurd (omega (arith, l))
+
+pub marked_or_not : (run : List (List ℤ)) (y : ℕ) → AreWhole run → 0 < length run → y < 828 * groups_of run
+    → MarkedOrNot run y
+unfolding is_marked
+marked_or_not run y whole some l =
+    five (was_missing run r e) (was_missing run (r + 1) e) (was_missing run (r + 2) e) (was_missing run (r + 3) e)
+    (was_missing run (r + 4) e) (missing_before run y) (at 0 (omega arith) start) (at 1 (omega arith) refl)
+    (at 2 (omega arith) refl) (at 3 (omega arith) refl) (at 4 (omega arith) refl)
+  where
+    r : ℕ
+    r = 4 * (y / 12)
+
+    e : ℕ
+    e = coder_of 0 y
+
+    start : 4 * (y / 12) + 0 ≡ 4 * (y / 12)
+    start = omega arith
+
+    at : (i : ℕ) {n : ℕ} → i < 5 → 4 * (y / 12) + i ≡ n → missing_before run y i ≡ was_missing run n (coder_of 0 y)
+    at i k z =
+        sym (was_is run (4 * (y / 12) + i) (coder_of 0 y) whole some (omega (arith, l, k)))
+        ∙ ap (λ n. was_missing run n (coder_of 0 y)) z

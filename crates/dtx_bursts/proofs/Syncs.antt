@@ -1,0 +1,136 @@
+-- A burst that leaves the field syncs leaves them found.
+use Rattle.std.proofs.Common.{◌≡◌, ℕ, ℤ, pos, ◌+◌, ◌-◌, ◌*◌, ◌/◌, ◌%◌, ◌<◌, ◌≤◌, ◌==◌, ◌⊎◌, inl, inr, cond, min}
+use Rattle.std.proofs.Common.{true, false}
+use Rattle.std.proofs.Common.{Bool, List, [], length, map, sum, get_or, sym, ap, ap₂, ◌∙◌, subst, arith}
+use Rattle.std.specs.List.{range_with_len}
+use Rattle.std.proofs.lemmas.Bool.{cases_lt, le-leb}
+use Rattle.dtx_slice.specs.Slicing.{sliced}
+use Rattle.dtx_frame.specs.AlikeLaws.{none_differ}
+use Rattle.dtx_frame.specs.CountsLaws.{total, total_zeros, sum_is, part, same_is}
+use Rattle.dtx_frame.specs.Detection.{differs, differing, looks_like}
+use Rattle.dtx_frame.specs.Segments.{field_sync, sync_symbols}
+use Rattle.dtx_chain.specs.Damage.{AreReceived, AreFound, damage_at, damaged_symbols}
+use Rattle.dtx_chain.specs.PlacesLaws.{sync_at_place}
+use Rattle.dtx_chain.specs.SlightLaws.{sent_at, sent_within}
+use Rattle.dtx_bursts.specs.Burst.{IsBurst, LeavesSyncs, symbol_level}
+use Rattle.dtx_bursts.proofs.Counting.{total_rises}
+
+level_in : (xs : List (List ℤ)) (i n : ℕ) → n < 832
+    → symbol_level xs (832 * i + n) ≡ sliced (get_or (get_or xs i []) n (pos 0))
+unfolding symbol_level
+level_in xs i n l =
+    let a : (832 * i + n) / 832 ≡ i = omega (arith, l) in
+    let b : (832 * i + n) % 832 ≡ n = omega (arith, l) in
+    ap₂ (λ x y. sliced (get_or (get_or xs x []) y (pos 0))) a b
+
+-- a symbol off the burst
+same_level : (count from : ℕ) (sent got : List (List ℤ)) → IsBurst count from sent got → (i n : ℕ) → i < length sent
+    → n < 832 → (832 * i + n < from) ⊎ (from + count ≤ 832 * i + n)
+    → sliced (get_or (get_or got i []) n (pos 0)) ≡ sliced (get_or (get_or sent i []) n (pos 0))
+same_level count from sent got burst i n l m side =
+    sym (level_in got i n m) ∙ burst.others (832 * i + n) (omega (arith, l, m)) side ∙ level_in sent i n m
+
+-- ---- segments before the first field sync
+
+none_damaged : (sent got : List ℤ)
+    → ((n : ℕ) → n < 515 → sliced (get_or got n (pos 0)) ≡ sliced (get_or sent n (pos 0)))
+    → damaged_symbols sent got ≡ 0
+unfolding damaged_symbols damage_at
+none_damaged sent got same =
+    sum_is (damage_at sent got) 0 515
+    ∙ total_zeros (damage_at sent got) 0 515
+    (λ n _ l. same_is (sliced (get_or got n (pos 0))) (sliced (get_or sent n (pos 0))) (same n (omega (arith, l))))
+
+-- ---- field syncs
+
+differs_bit : (x : List ℤ) (n : ℕ) → differs x n ≤ 1
+unfolding differs
+differs_bit x n = bit (sliced (get_or x n (pos 0)) == sliced (get_or (sync_symbols false) n (pos 0)))
+  where
+    bit : (b : Bool) → cond b 0 1 ≤ 1
+    bit true = omega arith
+    bit false = omega arith
+
+differs_as : (x y : List ℤ) (n : ℕ) → sliced (get_or x n (pos 0)) ≡ sliced (get_or y n (pos 0))
+    → differs x n ≡ differs y n
+unfolding differs
+differs_as x y n e =
+    ap {B = ℕ} (λ (z : ℕ). cond (z == sliced (get_or (sync_symbols false) n (pos 0))) 0 1) e
+
+own_symbol : (second : Bool) (last : List ℤ) (n : ℕ) → n < 515 → differs (field_sync second last) n ≡ 0
+unfolding differing
+own_symbol second last n l =
+    none (differs (field_sync second last) n) (total (differs (field_sync second last)) 0 515)
+    (part (differs (field_sync second last)) n 1 515 (omega (arith, l)))
+    (sym (sum_is (differs (field_sync second last)) 0 515) ∙ none_differ second last)
+  where
+    none : (x y : ℕ) → x + 0 ≤ y → y ≡ 0 → x ≡ 0
+    none x y l e = omega (arith, l, e)
+
+-- where all that differ are among the first 32, or among the last
+abbrev FewDiffer : List ℤ → Type 0
+FewDiffer x = ((n : ℕ) → n < 515 → (n < 32) ⊎ (differs x n ≡ 0)) ⊎ ((n : ℕ) → n < 515 → (483 ≤ n) ⊎ (differs x n ≡ 0))
+
+-- a number that rises with them
+bound : (g f : ℕ → ℕ) (n : ℕ) → ((i : ℕ) → i < n → g i + f i ≤ f (i + 1)) → total g 0 n + f 0 ≤ f n
+bound g f n h =
+    let z : 0 + n ≡ n = omega arith in
+    subst (λ (m : ℕ). total g 0 n + f 0 ≤ f m) z (total_rises f g 0 n (λ i _ l. h i (omega (arith, l))))
+
+alone : (t : ℕ) → t + 0 ≤ 32 → t ≤ 32
+alone t l = omega (arith, l)
+
+few : (x : List ℤ) → FewDiffer x → total (differs x) 0 515 ≤ 32
+few x (inl h) = alone (total (differs x) 0 515) (bound (differs x) (λ n. min n 32) 515 (λ n l. step n (h n l)))
+  where
+    step : (n : ℕ) → (n < 32) ⊎ (differs x n ≡ 0) → differs x n + min n 32 ≤ min (n + 1) 32
+    step n (inl l) = omega (arith, l, differs_bit x n)
+    step n (inr z) = omega (arith, z)
+few x (inr h) = alone (total (differs x) 0 515) (bound (differs x) (λ n. n - 483) 515 (λ n l. step n (h n l)))
+  where
+    step : (n : ℕ) → (483 ≤ n) ⊎ (differs x n ≡ 0) → differs x n + (n - 483) ≤ n + 1 - 483
+    step n (inl l) = omega (arith, l, differs_bit x n)
+    step n (inr z) = omega (arith, z)
+
+looks : (x : List ℤ) → FewDiffer x → looks_like x ≡ true
+unfolding looks_like differing
+looks x h =
+    le-leb (sum (map (differs x) (range_with_len 0 515))) 32
+    (subst (λ (n : ℕ). n ≤ 32) (sym (sum_is (differs x) 0 515)) (few x h))
+
+-- ---- all of them
+
+pub burst_found : (ps : List (List ℕ)) (first count from : ℕ) (sent got : List (List ℤ))
+    → AreReceived ps first sent got → LeavesSyncs first count from (length sent) → IsBurst count from sent got
+    → AreFound first sent got
+burst_found ps first count from sent got r leaves burst = record {
+  syncs = λ i l z. looks (get_or got i []) (by_side i l z (leaves.few i l z));
+  before = λ i l m. omega (
+    arith,
+    none_damaged (get_or sent i []) (get_or got i [])
+        (λ n h. same_level count from sent got burst i n l (omega (arith, h))
+        (inl (omega (arith, leaves.behind, m, h)))),
+  );
+}
+  where
+    as_sent : (i n : ℕ) → i < length sent → (first + i) % 313 ≡ 0 → n < 515
+        → (832 * i + n < from) ⊎ (from + count ≤ 832 * i + n) → differs (get_or got i []) n ≡ 0
+    as_sent i n l z h side =
+        let s = sync_at_place ps (first + i) (omega (arith, l, sent_within ps first sent got r (omega (arith, l)))) z in
+        differs_as (get_or got i []) (field_sync s.0 s.1) n
+        (same_level count from sent got burst i n l (omega (arith, h)) side
+        ∙ ap (λ (x : List ℤ). sliced (get_or x n (pos 0))) (sent_at ps first sent got r i l ∙ s.2))
+        ∙ own_symbol s.0 s.1 n h
+
+    by_side : (i : ℕ) → i < length sent → (first + i) % 313 ≡ 0
+        → (from + count ≤ 832 * i + 32) ⊎ (832 * i + 483 ≤ from) → FewDiffer (get_or got i [])
+    by_side i l z (inl u) = inl (λ n h. at n h (cases_lt n 32))
+      where
+        at : (n : ℕ) → n < 515 → (n < 32) ⊎ (32 ≤ n) → (n < 32) ⊎ (differs (get_or got i []) n ≡ 0)
+        at n h (inl m) = inl m
+        at n h (inr m) = inr (as_sent i n l z h (inr (omega (arith, u, m))))
+    by_side i l z (inr u) = inr (λ n h. at n h (cases_lt n 483))
+      where
+        at : (n : ℕ) → n < 515 → (n < 483) ⊎ (483 ≤ n) → (483 ≤ n) ⊎ (differs (get_or got i []) n ≡ 0)
+        at n h (inl m) = inr (as_sent i n l z h (inl (omega (arith, u, m))))
+        at n h (inr m) = inl m

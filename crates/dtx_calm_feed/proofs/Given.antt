@@ -1,0 +1,174 @@
+-- What an exciter gives that is locked to a mark of a feed: nothing, or the feed's own segments.
+use Rattle.std.proofs.Common.{◌≡◌, ◌⊎◌, inl, inr, ℕ, ℤ, ◌+◌, ◌-◌, ◌/◌, ◌%◌, ◌<◌, ◌≤◌, ◌==◌, Bool, true, false}
+use Rattle.std.proofs.Common.{cond, Some, List, [], ◌∷◌, ◌++◌, length, drop, get_or, refl, sym, ap}
+use Rattle.std.proofs.Common.{ap₂, subst, ◌∙◌, arith}
+use Rattle.std.specs.Prelude.{is_ok, nat_le, slice_range}
+use Rattle.std.proofs.lemmas.Bool.{cases_lt, cond-false, cond-true, eqb-true, leb-true}
+use Rattle.std.proofs.lemmas.List.{length-drop, length-take-le}
+use Rattle.dtx_frame.specs.Segments.{field_sync}
+use Rattle.dtx_coder.specs.Stream.{last_of}
+use Rattle.dtx_exciter.specs.Emission.{segments_since, sent_by, sent_at, sent_before, behind_field_sync, given_under}
+use Rattle.dtx_exciter.specs.Emission.{last_segments}
+use Rattle.dtx_exciter.specs.ForceLaws.{IsBehind, Stands, counted_behind, force_first, force_stands}
+use Rattle.dtx_exciter.specs.InLifeLaws.{counted_same}
+use Rattle.dtx_exciter.specs.Order.{Order, counting_order, orders}
+use Rattle.dtx_exciter.specs.Packets.{readings, under}
+use Rattle.dtx_exciter.specs.Told.{served}
+use Rattle.dtx_calm_feed.specs.Own.{own_data, own_segments}
+use Rattle.dtx_calm_feed.proofs.Since.{segments_part}
+use Rattle.dtx_calm_feed.proofs.Orders.{NeverSlips, own_since}
+
+-- whole groups of a feed's packets l, from its mark x to n
+pub record IsWhole (l : List (List ℕ)) (x n : ℕ) : Type 0 where
+  pub at_mark : x % 624 ≡ 0
+  pub inside : n ≤ length l
+  pub whole : (n - x) % 4 ≡ 0
+
+-- an order of the life is one of the feed
+order_is : (l : List (List ℕ)) (x n j : ℕ) (order : Order) (older : List Order) → IsWhole l x n → x + j + 4 ≤ n
+    → orders (readings (slice_range l x n)) j ≡ order ∷ older
+    → counting_order (readings l) (x + order.place) ≡ Some order.ops
+order_is l x n j order older p h e =
+    let s : Stands (readings (slice_range l x n)) (j + 1) order =
+    force_stands (readings (slice_range l x n)) j order older e in
+    let b : IsBehind order.place = counted_behind (readings (slice_range l x n)) order.place order.ops s.counts in
+    let below = s.below in
+    let inside = p.inside in
+    let none : 0 + order.place ≡ order.place = omega arith in
+    sym (counted_same [] l x (n - x) order.place p.at_mark (omega arith) (omega (arith, inside, h))
+    (omega (arith, below, h)) b.flushed)
+    ∙ ap (counting_order (readings (slice_range l x n))) none ∙ s.counts
+
+-- what is sent of the group j packets behind the mark
+abbrev pub IsNoneOr : List (List ℤ) → List (List ℤ) → Type 0
+IsNoneOr own given = (given ≡ []) ⊎ (given ≡ own)
+
+sent_own : (a d : ℕ) (l : List (List ℕ)) (x n j : ℕ) → NeverSlips l → IsWhole l x n → j % 4 ≡ 0 → x + j + 4 ≤ n
+    → IsNoneOr (own_data l (x + j)) (sent_at a d (slice_range l x n) j)
+unfolding sent_at
+sent_own a d l x n j r p w h = by_orders (orders (readings (slice_range l x n)) j) refl
+  where
+    by_service : (order : Order) (older : List Order) (t : Bool)
+        → orders (readings (slice_range l x n)) j ≡ order ∷ older → is_ok (served a d (order ∷ older)) ≡ t
+        → IsNoneOr (own_data l (x + j)) (sent_by a d (slice_range l x n) j (order ∷ older))
+    by_service order older false e s = inl (cond-false (is_ok (served a d (order ∷ older)))
+        (segments_since (order.place / 4) order.ops.states (slice_range l x n) (j / 4)) [] s)
+    by_service order older true e s =
+        let st : Stands (readings (slice_range l x n)) (j + 1) order =
+        force_stands (readings (slice_range l x n)) j order older e in
+        let b : IsBehind order.place = counted_behind (readings (slice_range l x n)) order.place order.ops st.counts in
+        let below = st.below in
+        let at_mark = p.at_mark in
+        let inside = p.inside in
+        inr (cond-true (is_ok (served a d (order ∷ older)))
+        (segments_since (order.place / 4) order.ops.states (slice_range l x n) (j / 4)) [] s
+        ∙ segments_part l x n order.place j order.ops.states (record {
+          at_mark = p.at_mark;
+          inside = p.inside;
+          whole = p.whole;
+          flushed = b.flushed;
+          order = b.whole;
+          later = omega (arith, below);
+          group = w;
+          within = h;
+        })
+        ∙ sym (own_since l (x + order.place) (x + j) order.ops r (order_is l x n j order older p h e)
+        (omega (arith, below)) (omega (arith, at_mark, w)) (omega (arith, inside, h))))
+
+    by_orders : (os : List Order) → orders (readings (slice_range l x n)) j ≡ os
+        → IsNoneOr (own_data l (x + j)) (sent_by a d (slice_range l x n) j os)
+    by_orders [] e = inl refl
+    by_orders (order ∷ older) e = by_service order older (is_ok (served a d (order ∷ older))) e refl
+
+-- ---- behind a field sync
+
+-- at another place of the same kind
+pub sync_place : (i k : ℕ) (before own : List (List ℤ)) → i % 624 ≡ k % 624
+    → behind_field_sync i before own ≡ behind_field_sync k before own
+sync_place i k before [] e = refl
+sync_place i k [] (s ∷ ss) e = refl
+sync_place i k (b ∷ bs) (s ∷ ss) e =
+    let c : i % 312 ≡ k % 312 = omega (arith, e) in
+    ap₂ (λ x y. cond (x == 0) (field_sync (nat_le 312 y) (last_of (get_or (b ∷ bs) (length bs) [])) ∷ []) []
+    ++ s ∷ ss) c e
+
+-- nothing, or the feed's own segments of the group that ends at packet n
+abbrev pub GivesOwn : List (List ℕ) → ℕ → List (List ℤ) → Type 0
+GivesOwn l n given = (given ≡ []) ⊎ ((goes_on : Bool) × (given ≡ own_segments goes_on l (n - 4)))
+
+pub given_by : (l : List (List ℕ)) (i : ℕ) (before own : List (List ℤ)) → IsNoneOr (own_data l (i - 4)) before
+    → IsNoneOr (own_data l i) own
+    → (behind_field_sync i before own ≡ [])
+    ⊎ ((goes_on : Bool) × (behind_field_sync i before own ≡ own_segments goes_on l i))
+unfolding own_segments
+given_by l i before own b (inl e) = inl (ap (behind_field_sync i before) e)
+given_by l i before own (inl f) (inr e) = inr (false, ap₂ (behind_field_sync i) f e)
+given_by l i before own (inr f) (inr e) = inr (true, ap₂ (behind_field_sync i) f e)
+
+before_own : (a d : ℕ) (l : List (List ℕ)) (x n j : ℕ) → NeverSlips l → IsWhole l x n → j % 4 ≡ 0 → x + j + 4 ≤ n
+    → IsNoneOr (own_data l (x + j - 4)) (sent_before a d (slice_range l x n) j)
+before_own a d l x n j r p w h = by_place (nat_le 4 j) refl
+  where
+    by_place : (t : Bool) → nat_le 4 j ≡ t
+        → IsNoneOr (own_data l (x + j - 4)) (cond t (sent_at a d (slice_range l x n) (j - 4)) [])
+    by_place false e = inl refl
+    by_place true e =
+        let far : 4 ≤ j = leb-true 4 j e in
+        let at : x + (j - 4) ≡ x + j - 4 = omega (arith, far) in
+        subst (λ k. IsNoneOr (own_data l k) (sent_at a d (slice_range l x n) (j - 4))) at
+        (sent_own a d l x n (j - 4) r p (omega (arith, w, far)) (omega (arith, h, far)))
+
+group_given : (a d : ℕ) (l : List (List ℕ)) (x n : ℕ) → NeverSlips l → IsWhole l x n → x + 4 ≤ n
+    → GivesOwn l n (behind_field_sync (n - x - 4) (sent_before a d (slice_range l x n) (n - x - 4))
+    (sent_at a d (slice_range l x n) (n - x - 4)))
+group_given a d l x n r p h =
+    let w = p.whole in
+    let m = p.at_mark in
+    let at : x + (n - x - 4) ≡ n - 4 = omega (arith, h) in
+    let same : (n - x - 4) % 624 ≡ (n - 4) % 624 = omega (arith, m, h) in
+    let before : List (List ℤ) = sent_before a d (slice_range l x n) (n - x - 4) in
+    let own : List (List ℤ) = sent_at a d (slice_range l x n) (n - x - 4) in
+    subst (GivesOwn l n) (sym (sync_place (n - x - 4) (n - 4) before own same))
+    (given_by l (n - 4) before own
+    (subst (λ k. IsNoneOr (own_data l (k - 4)) before) at
+    (before_own a d l x n (n - x - 4) r p (omega (arith, w)) (omega (arith, h))))
+    (subst (λ k. IsNoneOr (own_data l k) own) at
+    (sent_own a d l x n (n - x - 4) r p (omega (arith, w)) (omega (arith, h)))))
+
+-- no packets give nothing
+none_given : (a d i : ℕ) (packets before : List (List ℤ)) (l : List (List ℕ)) → i ≡ 0
+    → behind_field_sync i before (sent_at a d l i) ≡ []
+unfolding sent_at
+none_given a d i packets before l e =
+    ap (λ n. behind_field_sync i before (sent_by a d l n (orders (readings l) n))) e
+    ∙ ap (λ os. behind_field_sync i before (sent_by a d l 0 os)) (force_first (readings l))
+
+pub gives_own : (a d : ℕ) (l life : List (List ℕ)) (x n : ℕ) → NeverSlips l → x % 624 ≡ 0 → n ≤ length l
+    → under life ≡ Some (slice_range l x n) → GivesOwn l n (last_segments a d life)
+unfolding last_segments
+gives_own a d l life x n r m h e =
+    subst (λ o. GivesOwn l n (given_under a d o)) (sym e) (by_whole (length t % 4 == 0) refl)
+  where
+    t : List (List ℕ)
+    t = slice_range l x n
+
+    long : length t ≡ n - x
+    long = let some : n - x ≤ length (drop x l) = omega (arith, h, length-drop x l) in
+        length-take-le (n - x) (drop x l) some
+
+    all : List (List ℤ)
+    all = behind_field_sync (length t - 4) (sent_before a d t (length t - 4)) (sent_at a d t (length t - 4))
+
+    by_length : (n - x) % 4 ≡ 0 → (n - x < 4) ⊎ (4 ≤ n - x) → GivesOwn l n all
+    by_length w (inl few) =
+        inl (none_given a d (length t - 4) [] (sent_before a d t (length t - 4)) t (omega (arith, long, few)))
+    by_length w (inr some) =
+        subst (λ k. GivesOwn l n (behind_field_sync (k - 4) (sent_before a d t (k - 4)) (sent_at a d t (k - 4))))
+        (sym long)
+        (group_given a d l x n r (record { at_mark = m; inside = h; whole = w }) (omega (arith, some)))
+
+    by_whole : (b : Bool) → (length t % 4 == 0) ≡ b → GivesOwn l n (given_under a d (Some t))
+    by_whole false f = inl (cond-false (length t % 4 == 0) all [] f)
+    by_whole true f =
+        subst (GivesOwn l n) (sym (cond-true (length t % 4 == 0) all [] f))
+        (by_length (omega (arith, long, eqb-true (length t % 4) 0 f)) (cases_lt (n - x) 4))

@@ -1,0 +1,13 @@
+pub mod Since
+pub mod Orders
+pub mod Given
+pub mod Held
+pub mod Alike
+pub mod Marks
+pub mod Noted
+pub mod Coded
+pub mod Words
+pub mod Told
+pub mod Lines
+pub mod Clocked
+pub mod Soundly

@@ -1,0 +1,179 @@
+-- The states and the segments since a group go on behind a later one.
+use Rattle.std.proofs.Common.{◌≡◌, ℕ, ◌+◌, ◌-◌, ◌*◌, ◌/◌, ◌%◌, ◌<◌, ◌≤◌, List, ◌++◌, length, take, drop, sym, ap, ap₂}
+use Rattle.std.proofs.Common.{◌∙◌, arith}
+use Rattle.std.specs.Prelude.{slice_range}
+use Rattle.std.proofs.lemmas.List.{drop-append-le, length-drop, length-take-le, take-append-drop}
+use Rattle.dtx_lists.proofs.Range.{map-range_same}
+use Rattle.dtx_trellis.specs.Groups.{levels_of, states_after}
+use Rattle.dtx_trellis.specs.JoinsLaws.{levels_append, states_append}
+use Rattle.dtx_trellis.specs.Pairs.{group_place}
+use Rattle.dtx_coder.specs.Along.{levels_since, states_since}
+use Rattle.dtx_coder.specs.BytesLaws.{length-whole, whole_append}
+use Rattle.dtx_coder.specs.Coded.{whole_groups}
+use Rattle.dtx_coder.specs.LevelsLaws.{length-levels_of}
+use Rattle.dtx_coder.specs.SegmentsLaws.{four_behind}
+use Rattle.dtx_coder.specs.Stream.{segment, four_segments}
+use Rattle.dtx_exciter.specs.Emission.{segments_since}
+use Rattle.dtx_exciter.specs.GroupSentLaws.{since_front}
+use Rattle.dtx_exciter.specs.SinceMarkLaws.{levels_mark, take_parts}
+
+-- ---- from group h on
+
+-- the bytes since group g, up to group h
+abbrev between : List (List ℕ) → ℕ → ℕ → List ℕ
+between w g h = drop (828 * g) (whole_groups (take (4 * h) w))
+
+bytes_on : (w : List (List ℕ)) (g h : ℕ) → g ≤ h → 4 * h ≤ length w
+    → drop (828 * g) (whole_groups w) ≡ between w g h ++ drop (828 * h) (whole_groups w)
+bytes_on w g h l m =
+    let front : List (List ℕ) = take (4 * h) w in
+    let long : length front ≡ 4 * h = length-take-le (4 * h) w m in
+    let same : front ++ drop (4 * h) w ≡ w = take-append-drop (4 * h) w in
+    ap (λ x. drop (828 * g) (whole_groups x)) (sym same)
+    ∙ ap (drop (828 * g)) (whole_append front (drop (4 * h) w) h long
+    ∙ ap (λ x. whole_groups front ++ drop (828 * h) (whole_groups x)) same)
+    ∙ drop-append-le (828 * g) (whole_groups front) (drop (828 * h) (whole_groups w))
+    (omega (arith, l, long, length-whole front))
+
+length-between : (w : List (List ℕ)) (g h : ℕ) → g ≤ h → 4 * h ≤ length w → length (between w g h) ≡ 828 * (h - g)
+length-between w g h l m =
+    let front : List (List ℕ) = take (4 * h) w in
+    omega (
+      arith,
+      l,
+      length-take-le (4 * h) w m,
+      length-whole front,
+      length-drop (828 * g) (whole_groups front),
+    )
+
+place_on : (g h : ℕ) → g ≤ h → group_place (4 * g % 312) (h - g) ≡ 4 * h % 312
+unfolding group_place
+place_on g h l = let e : (4 * g % 312 + 4 * (h - g)) % 312 ≡ 4 * h % 312 = omega (arith, l) in e
+
+pub states_on : (w : List (List ℕ)) (g h : ℕ) (q : List ℕ) → g ≤ h → 4 * h ≤ length w
+    → states_since g q w ≡ states_since h (states_since g q (take (4 * h) w)) w
+unfolding states_since
+states_on w g h q l m =
+    ap (states_after (4 * g % 312) q) (bytes_on w g h l m)
+    ∙ states_append (4 * g % 312) (h - g) q (between w g h) (drop (828 * h) (whole_groups w)) (length-between w g h l m)
+    ∙ ap (λ k. states_after k (states_after (4 * g % 312) q (between w g h)) (drop (828 * h) (whole_groups w)))
+    (place_on g h l)
+
+levels_on : (w : List (List ℕ)) (g h : ℕ) (q : List ℕ) → g ≤ h → 4 * h ≤ length w
+    → levels_since g q w
+    ≡ levels_since g q (take (4 * h) w) ++ levels_since h (states_since g q (take (4 * h) w)) w
+unfolding levels_since states_since
+levels_on w g h q l m =
+    let s : ℕ = 4 * g % 312 in
+    ap (levels_of s q) (bytes_on w g h l m)
+    ∙ levels_append s (h - g) q (between w g h) (drop (828 * h) (whole_groups w)) (length-between w g h l m)
+    ∙ ap (λ k. levels_of s q (between w g h)
+    ++ levels_of k (states_after s q (between w g h)) (drop (828 * h) (whole_groups w))) (place_on g h l)
+
+length-levels_between : (w : List (List ℕ)) (g h : ℕ) (q : List ℕ) → g ≤ h → 4 * h ≤ length w
+    → length (levels_since g q (take (4 * h) w)) ≡ 828 * (4 * (h - g))
+unfolding levels_since
+length-levels_between w g h q l m =
+    length-levels_of (4 * g % 312) q (between w g h) (h - g) (length-between w g h l m)
+    ∙ (let e : 3312 * (h - g) ≡ 828 * (4 * (h - g)) = omega arith in e)
+
+-- the data segments of group u, where the coders are preset with the states that they have
+pub segments_on : (w : List (List ℕ)) (g h u : ℕ) (q : List ℕ) → g ≤ h → h ≤ u → 4 * h ≤ length w
+    → segments_since g q w u ≡ segments_since h (states_since g q (take (4 * h) w)) w u
+unfolding segments_since
+segments_on w g h u q l k m =
+    let e : 4 * (u - g) ≡ 4 * (h - g) + 4 * (u - h) = omega (arith, l, k) in
+    let front : List (List ℕ) = take (4 * h) w in
+    ap₂ four_segments (levels_on w g h q l m) e
+    ∙ four_behind (levels_since g q front) (levels_since h (states_since g q front) w) (4 * (h - g)) (4 * (u - h))
+    (length-levels_between w g h q l m)
+
+-- ---- packets behind, and packets before a mark
+
+pub segments_front : (w r : List (List ℕ)) (n g u : ℕ) (q : List ℕ) → length w ≡ 4 * n → g ≤ u → u < n
+    → segments_since g q (w ++ r) u ≡ segments_since g q w u
+unfolding segments_since four_segments
+segments_front w r n g u q e l m =
+    map-range_same (segment (levels_since g q (w ++ r))) (segment (levels_since g q w)) (4 * (u - g)) 4
+    (λ k a b. since_front w r n g k q e (omega (arith, l, m)) (omega (arith, l, m, b)))
+
+segments_mark : (a s : List (List ℕ)) (y j : ℕ) (q : List ℕ) → length a % 624 ≡ 0 → length s % 4 ≡ 0 → 52 ≤ y
+    → y % 4 ≡ 0 → y ≤ j → j % 4 ≡ 0
+    → segments_since ((length a + y) / 4) q (a ++ s) ((length a + j) / 4) ≡ segments_since (y / 4) q s (j / 4)
+unfolding segments_since
+segments_mark a s y j q m w l e k f =
+    let n : 4 * ((length a + j) / 4 - (length a + y) / 4) ≡ 4 * (j / 4 - y / 4) = omega (arith, m, e, k, f) in
+    let g : 4 * ((length a + y) / 4) ≡ length a + y = omega (arith, m, e) in
+    ap₂ four_segments (levels_mark a s y ((length a + y) / 4) q m w l e g) n
+
+-- whole groups of a feed's packets l, from its mark x to n, where an order stands y packets behind the mark and a group
+-- at j or further behind it
+pub record IsPart (l : List (List ℕ)) (x n y j : ℕ) : Type 0 where
+  pub at_mark : x % 624 ≡ 0
+  pub inside : n ≤ length l
+  pub whole : (n - x) % 4 ≡ 0
+  pub flushed : 52 ≤ y
+  pub order : y % 4 ≡ 0
+  pub later : y ≤ j
+  pub group : j % 4 ≡ 0
+  pub within : x + j + 4 ≤ n
+
+-- the same data segments as in all of the feed
+pub segments_part : (l : List (List ℕ)) (x n y j : ℕ) (q : List ℕ) → IsPart l x n y j
+    → segments_since (y / 4) q (slice_range l x n) (j / 4) ≡ segments_since ((x + y) / 4) q l ((x + j) / 4)
+segments_part l x n y j q p =
+    sym (ap (λ (k : ℕ). segments_since ((k + y) / 4) q (a ++ s) ((k + j) / 4)) (sym la)
+    ∙ segments_mark a s y j q (omega (arith, la, p1)) (omega (arith, ls, p3)) p.flushed p.order p.later p.group)
+    ∙ ap (λ z. segments_since ((x + y) / 4) q z ((x + j) / 4)) parts
+    ∙ sym (segments_front (take n l) (drop n l) (n / 4) ((x + y) / 4) ((x + j) / 4) q (omega (arith, ln, p1, p3, p8))
+    (omega (arith, p6)) (omega (arith, p1, p3, p7, p8)))
+    ∙ ap (λ z. segments_since ((x + y) / 4) q z ((x + j) / 4)) (take-append-drop n l)
+  where
+    a : List (List ℕ)
+    a = take x l
+
+    s : List (List ℕ)
+    s = slice_range l x n
+
+    p1 : x % 624 ≡ 0
+    p1 = p.at_mark
+
+    p2 : n ≤ length l
+    p2 = p.inside
+
+    p3 : (n - x) % 4 ≡ 0
+    p3 = p.whole
+
+    p6 : y ≤ j
+    p6 = p.later
+
+    p7 : j % 4 ≡ 0
+    p7 = p.group
+
+    p8 : x + j + 4 ≤ n
+    p8 = p.within
+
+    la : length (take x l) ≡ x
+    la = length-take-le x l (omega (arith, p2, p8))
+
+    ls : length (slice_range l x n) ≡ n - x
+    ls = length-take-le (n - x) (drop x l) (omega (arith, p2, p8, length-drop x l))
+
+    ln : length (take n l) ≡ n
+    ln = length-take-le n l p2
+
+    parts : take x l ++ slice_range l x n ≡ take n l
+    parts = let e : x + (n - x) ≡ n = omega (arith, p8) in
+        sym (take_parts x (n - x) l) ∙ ap (λ (k : ℕ). take k l) e
+
+-- the same where other packets stand before the mark, in step with it
+pub segments_held : (base l : List (List ℕ)) (x n y j : ℕ) (q : List ℕ) → length base % 624 ≡ 0 → IsPart l x n y j
+    → segments_since ((length base + y) / 4) q (base ++ slice_range l x n) ((length base + j) / 4)
+    ≡ segments_since ((x + y) / 4) q l ((x + j) / 4)
+segments_held base l x n y j q m p =
+    let w = p.whole in
+    let h = p.inside in
+    let long : length (slice_range l x n) ≡ n - x =
+    length-take-le (n - x) (drop x l) (omega (arith, h, length-drop x l)) in
+    segments_mark base (slice_range l x n) y j q m (omega (arith, long, w)) p.flushed p.order p.later p.group
+    ∙ segments_part l x n y j q p

@@ -1,0 +1,70 @@
+-- A sound feed, from any of its marks on, is a calm one.
+use Rattle.std.proofs.Common.{◌≡◌, ℕ, ◌+◌, ◌-◌, ◌%◌, ◌<◌, ◌==◌, Bool, true, false, cond, Some, Result, Ok, Err, List}
+use Rattle.std.proofs.Common.{[], ◌∷◌, length, drop, get_or, refl, sym, ap, subst, ◌∙◌, arith}
+use Rattle.std.specs.List.{AllByRecursion}
+use Rattle.std.proofs.lemmas.List.{get_or-drop, get_or-map, length-drop, take_all}
+use Rattle.dtx_packets.specs.Packet.{sync_of}
+use Rattle.dtx_cadence.specs.Anchor.{anchor}
+use Rattle.dtx_cadence.specs.AnchoredLaws.{anchored}
+use Rattle.dtx_cadence.specs.Cadence.{IsAnchored, IsMarked}
+use Rattle.dtx_ops.specs.Reading.{reading}
+use Rattle.dtx_ops.specs.declared.fields.Ops.{Ops}
+use Rattle.dtx_ops.specs.declared.refusal.OpsNo.{OpsNo}
+use Rattle.dtx_exciter.specs.Packets.{anchor_of, syncs}
+use Rattle.dtx_exciter.specs.UnderLaws.{length-syncs}
+use Rattle.dtx_watch.specs.Sound.{IsCalm, IsCalmAt, IsSoundFeed}
+use Rattle.dtx_watch.specs.SoundLaws.{calm}
+use Rattle.dtx_watch.specs.Watch.{notes_at}
+use Rattle.dtx_watch.specs.declared.notes.Note.{Note}
+use Rattle.dtx_watch.specs.declared.notes.What.TheVariants.{Lock}
+use Rattle.dtx_calm_feed.specs.Calm.{IsCalmFeed, IsCalmNote}
+use Rattle.dtx_calm_feed.proofs.Noted.{all_both}
+
+marked : (start most mark : ℕ) (f : List (List ℕ)) → IsSoundFeed start most f → mark % 624 ≡ 0
+    → IsMarked (syncs (drop mark f))
+unfolding syncs
+marked start most mark f s z = λ k l.
+    let d : List (List ℕ) = drop mark f in
+    let w : k < length d = omega (arith, l, length-syncs d) in
+    let same : (mark + k) % 624 ≡ k % 624 = omega (arith, z) in
+    ap (λ (b : ℕ). b == 0xB8) (get_or-map sync_of d k [] 0 w ∙ ap sync_of (get_or-drop mark f k []))
+    ∙ s.marks (mark + k) (omega (arith, w, length-drop mark f)) ∙ ap (λ (n : ℕ). n == 0) same
+
+anchor_is : (start most mark : ℕ) (f : List (List ℕ)) → IsSoundFeed start most f → mark % 624 ≡ 0 → mark < length f
+    → anchor_of (drop mark f) ≡ Some 0
+unfolding anchor_of
+anchor_is start most mark f s z l =
+    let e : List ℕ = syncs (drop mark f) in
+    let long : length e ≡ length f - mark = length-syncs (drop mark f) ∙ length-drop mark f in
+    let none : (j : ℕ) → anchor [] ≡ Some j → (length {A = ℕ} [] - j) % 624 ≡ 0 = λ j g. omega arith in
+    let a : IsAnchored [] e 0 = anchored [] e (marked start most mark f s z) (omega (arith, l, long)) none in
+    let w = a.within in
+    let first : a.place ≡ 0 = omega (arith, w) in
+    ap anchor (sym (take_all (length e - 1 + 1) e (omega (arith, l, long))))
+    ∙ a.holds (length e - 1) (omega arith) (omega (arith, l, long)) ∙ ap Some first
+
+lock_calm : (t : Bool) → AllByRecursion IsCalmNote (cond t ((record { packet = 0; what = Lock }) ∷ []) [])
+lock_calm true = (tt, tt)
+lock_calm false = tt
+
+notes_calm : (k : ℕ) (r : Result Ops OpsNo) (notes : List Note) → IsCalm k r notes → AllByRecursion IsCalmNote notes
+notes_calm k (Ok ops) notes h = subst (AllByRecursion IsCalmNote) (sym h.2) ((h.1.states, h.1.clock), tt)
+notes_calm k (Err refusal) notes h = subst (AllByRecursion IsCalmNote) (sym h) tt
+
+pub sound_is_calm : (start most mark : ℕ) (f : List (List ℕ)) → IsSoundFeed start most f → mark % 624 ≡ 0
+    → mark < length f → IsCalmFeed (drop mark f)
+sound_is_calm start most mark f s z l = record {
+  anchor_is = anchor_is start most mark f s z l;
+  calm = λ k m. calm_at k (calm start most f (drop mark f) mark k (record {
+    sound = s;
+    mark = z;
+    inside = l;
+    are = refl;
+  }) m);
+}
+  where
+    calm_at : (k : ℕ) → IsCalmAt (drop mark f) k → AllByRecursion IsCalmNote (notes_at (drop mark f) k)
+    calm_at k c =
+        let lock : List Note = cond (k == 0) ((record { packet = 0; what = Lock }) ∷ []) [] in
+        subst (AllByRecursion IsCalmNote) (sym c.2)
+        (all_both lock c.0 (lock_calm (k == 0)) (notes_calm k (reading (get_or (drop mark f) k [])) c.0 c.1))

@@ -1,0 +1,4 @@
+pub mod Said
+pub mod Calm
+pub mod Own
+pub mod Moments

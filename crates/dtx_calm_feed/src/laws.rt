@@ -1,0 +1,116 @@
+//! Laws of the definitions.
+
+ghost use Rattle.std.specs.Prelude.{◌≡◌, ◌⊎◌, ℕ, ℤ, ◌+ℤ◌, ◌+◌, ◌-◌, ◌/◌, ◌%◌, ◌<◌, ◌≤◌, Bool, Some, List, [], drop};
+ghost use Rattle.std.specs.Prelude.{length, slice_range, take};
+ghost use Rattle.std.specs.List.{AllByRecursion};
+ghost use Rattle.dtx_clock.specs.Clock.{DifferBy, grains_of};
+ghost use Rattle.dtx_coder.specs.Along.{RunsAlong};
+ghost use Rattle.dtx_coder.specs.Groups.{Coding};
+ghost use Rattle.dtx_coder.specs.Stream.{four_segments, levels, states};
+ghost use Rattle.dtx_ops.specs.declared.fields.Ops.{Ops};
+ghost use Rattle.dtx_exciter.specs.Emission.{last_segments, segments_since};
+ghost use Rattle.dtx_exciter.specs.Order.{Order, counting_order, ordered_at};
+ghost use Rattle.dtx_exciter.specs.Packets.{anchor_of, readings};
+ghost use Rattle.dtx_watch.specs.declared.notes.StatesNote.TheVariants as states_are;
+ghost use Rattle.dtx_watch.specs.Clock.{frames_between};
+ghost use Rattle.dtx_watch.specs.Sound.{IsSoundFeed};
+ghost use Rattle.dtx_watch.specs.Watch.{watch};
+ghost use Rattle.dtx_watch.specs.WatchText.{watch_text};
+ghost use Rattle.dtx_calm_feed.specs.Calm.{IsCalmFeed, IsCalmFrom, IsCalmText};
+ghost use Rattle.dtx_calm_feed.specs.Moments.{IsBelowTick, air_between};
+ghost use Rattle.dtx_calm_feed.specs.Own.{IsFirstOrder, IsLockedTo, IsMarkOf, data_of, own_data, own_segments};
+ghost use Rattle.dtx_calm_feed.specs.Said.{AreSaid, Follows, IsLatestOrder, IsSaid, latest_before};
+
+/// What is told of any packets is so. A line `ops` stands for an operations packet at its place. It says `right` of the
+/// states exactly where they are those that the twelve coders have before its group, which began with those of the
+/// latest earlier order under this anchor, and `slip` exactly where there is such an order and they are others; and
+/// `right` of the clock exactly where the stamp is later than that of the latest operations packet before it by the
+/// length of the frames between the two, by one division, rounded down or up, and the maximum delay is the same.
+pub fn each_line_is_so()
+    ensures { (packets : List (List ℕ)) → AllByRecursion (IsSaid packets) (watch packets) }
+{}
+
+/// States that are said to be right are those that each coder holds before the group that was given the groups from the
+/// anchor on, whatever it held before the anchor, and was preset with the states of the latest earlier order before its
+/// group, and then no more.
+pub fn right_states_are_held()
+    ensures { (packets : List (List ℕ)) (i : ℕ) (order : Order) (told : List ℕ) (coder : Coding)
+        → AreSaid packets i told states_are.Right → IsLatestOrder packets i order
+        → RunsAlong (take i packets) (order.place / 4) order.ops.states coder → coder.states ≡ told }
+{}
+
+/// Where a text is calm, its packets are so from their anchor on, and the packets from there on are a calm feed.
+pub fn calm_texts()
+    ensures from { (packets : List (List ℕ)) (anchor : ℕ) → IsCalmText (watch_text (watch packets))
+        → anchor_of packets ≡ Some anchor → IsCalmFrom packets anchor }
+    ensures feed { (packets : List (List ℕ)) (anchor : ℕ) → IsCalmFrom packets anchor
+        → IsCalmFeed (drop anchor packets) }
+{}
+
+/// A sound feed, from any of its marks on, is a calm one: so what is said of calm feeds holds of it.
+pub fn sound_feeds_are_calm_feeds()
+    ensures { (start most mark : ℕ) (feed : List (List ℕ)) → IsSoundFeed start most feed → mark % 624 ≡ 0
+        → mark < length feed → IsCalmFeed (drop mark feed) }
+{}
+
+/// An exciter in a new life that is given a calm feed from any mark of it on is locked to that mark, as long as it is
+/// given the feed.
+pub fn locked_at_any_mark()
+    ensures { (feed : List (List ℕ)) (m n : ℕ) → IsCalmFeed feed → IsMarkOf feed m → m < n → n ≤ length feed
+        → IsLockedTo feed (slice_range feed m n) n }
+{}
+
+/// An exciter that is locked to a calm feed, whatever its address and its delay and whatever it was given before, gives
+/// of each group nothing, or the feed's own segments of the group. Their coders begin with the states of the feed's
+/// first order, and nothing presets them later: so the later orders, at which the exciter does preset its coders,
+/// change nothing of what it sends.
+pub fn each_sends_its_own()
+    ensures segments { (address delay : ℕ) (feed life : List (List ℕ)) (n : ℕ) → IsCalmFeed feed
+        → IsLockedTo feed life n → (last_segments address delay life ≡ [])
+        ⊎ ((goes_on : Bool) × (last_segments address delay life ≡ own_segments goes_on feed (n - 4))) }
+    ensures from_the_first { (feed : List (List ℕ)) (i : ℕ) (first : Order) → IsFirstOrder feed first → i % 4 ≡ 0
+        → first.place ≤ i → own_data feed i ≡ segments_since (first.place / 4) first.ops.states feed (i / 4) }
+{}
+
+/// Two exciters that are locked to a calm feed, of any addresses and delays and at any two marks, give the same
+/// segments of each group where they give as many; and where one also gives a field sync in front, since it sent the
+/// group before, the data segments of both are the same.
+pub fn all_send_the_same()
+    ensures segments { (a b delay_a delay_b : ℕ) (feed life_a life_b : List (List ℕ)) (n : ℕ) → IsCalmFeed feed
+        → IsLockedTo feed life_a n → IsLockedTo feed life_b n
+        → length (last_segments a delay_a life_a) ≡ length (last_segments b delay_b life_b)
+        → last_segments a delay_a life_a ≡ last_segments b delay_b life_b }
+    ensures groups { (a b delay_a delay_b : ℕ) (feed life_a life_b : List (List ℕ)) (n : ℕ) → IsCalmFeed feed
+        → IsLockedTo feed life_a n → IsLockedTo feed life_b n → 0 < length (last_segments a delay_a life_a)
+        → 0 < length (last_segments b delay_b life_b)
+        → data_of (last_segments a delay_a life_a) ≡ data_of (last_segments b delay_b life_b) }
+{}
+
+/// Where the first order of a calm feed tells the states that the coders of some stream have there, of which the feed
+/// is what stands behind some whole frames, each order of a whole group tells them, and the feed's own data segments
+/// are those of the stream (ATSC A/53 Part 2).
+pub fn calm_feeds_are_as_coded()
+    ensures states { (packets : List (List ℕ)) (m g : ℕ) (first : Order) (ops : Ops) → IsCalmFeed (drop m packets)
+        → m % 624 ≡ 0 → IsFirstOrder (drop m packets) first
+        → first.ops.states ≡ states (take (m + first.place) packets)
+        → counting_order (readings (drop m packets)) g ≡ Some ops → m + g + 4 ≤ length packets
+        → ops.states ≡ states (take (m + g) packets) }
+    ensures segments { (packets : List (List ℕ)) (m i : ℕ) (first : Order) → m % 624 ≡ 0
+        → IsFirstOrder (drop m packets) first
+        → first.ops.states ≡ states (take (m + first.place) packets)
+        → i % 4 ≡ 0 → first.place ≤ i → m + i + 4 ≤ length packets
+        → own_data (drop m packets) i ≡ four_segments (levels packets) (m + i) }
+{}
+
+/// The stamps of a calm feed follow each other: that of an operations packet is later than that of the one before it by
+/// the length of the frames between the two, by one division, rounded down or up, and the maximum delay is the same. So
+/// the moments that one exciter makes of the two differ by what is on the air between their segments, but for less than
+/// a tick, and otherwise by whole seconds.
+pub fn stamps_and_moments_follow()
+    ensures stamps { (feed : List (List ℕ)) (k : ℕ) (before ops : Ops) → IsCalmFeed feed
+        → ordered_at (readings feed) k ≡ Some ops → latest_before feed k ≡ Some before → Follows before ops }
+    ensures moments { (before ops : Ops) (offset : ℤ) (i j : ℕ) → Follows before ops
+        → (rest : ℤ) × IsBelowTick rest
+        × DifferBy (grains_of ops.stamp ops.max_delay offset j) (grains_of before.stamp before.max_delay offset i)
+        (air_between (frames_between before.frame ops.frame) i j +ℤ rest) }
+{}
