@@ -174,6 +174,14 @@ missing_files() {
     done
 }
 
+# At most thirty words where someone begins to read, and forty elsewhere.
+long_sentences() {
+    local others
+    mapfile -t others < <(files '*.md' | grep -vxE 'README[.]md|docs/guide[.]md')
+    checks/sentences.py 30 README.md docs/guide.md
+    checks/sentences.py 40 "${others[@]}"
+}
+
 scripts() {
     local file
     files | while IFS= read -r file; do
@@ -202,6 +210,7 @@ rule 'a wrong program that does not fit' "$(misfit_programs 2>&1)"
 rule 'a file that is not there' "$(missing_files)"
 rule 'what a build made is committed' "$(git ls-files -- 'crates/*/out/*')"
 rule 'a number of definitions' "$(checks/definitions.py --document docs/proved.md 2>&1)"
+rule 'a sentence that is too long' "$(long_sentences)"
 rule 'a script' "$(scripts)"
 printf 'texts: %d passed, %d failed\n' "$passed" "$failed"
 ((failed == 0))
