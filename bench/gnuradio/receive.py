@@ -1,7 +1,7 @@
 #!/usr/bin/env python3
 """Receives symbols by GNU Radio's ATSC blocks and writes their packets: receive.py IN OUT [SCALE], where a symbol lies at so many steps a
 unit. Its equalizer, which takes the field syncs out, is left out, since symbols are measured here and no channel: they are taken out by
-their number."""
+their number. The blocks keep the last 65 packets of a file to themselves."""
 
 import sys
 

@@ -1,7 +1,7 @@
 -- Where a symbol's level is the opposite one, the bytes that hang on it are others.
 use Rattle.std.proofs.Common.{◌≡◌, ℕ, ℤ, ◌+◌, ◌-◌, ◌*◌, ◌/◌, ◌<◌, List, length, get_or, sym, ap, ap₂, ◌∙◌, arith}
 use Rattle.dtx_slice.specs.Unrolled.{pair_back, pair_from, coder_of, byte_back}
-use Rattle.dtx_slice.specs.InverseLaws.{coder_of_small}
+use Rattle.dtx_slice.proofs.InverseLemmas.{coder_of_small}
 use Rattle.dtx_receiver.specs.Bytes.{groups_of, levels_in, first_bits, bytes_in}
 use Rattle.dtx_bursts.proofs.Bytes.{AreWhole, byte_at, level_before, pair_is}
 

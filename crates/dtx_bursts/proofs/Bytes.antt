@@ -8,10 +8,10 @@ use Rattle.std.proofs.lemmas.List.FromFn.{get_or-map-range_with_len, length-map-
 use Rattle.dtx_slice.specs.Slicing.{sliced, sliced_data, sliced_last}
 use Rattle.dtx_slice.specs.Unrolled.{symbol_place, precoder_bit, pair_from, pair_back, coder_of, byte_back}
 use Rattle.dtx_slice.specs.Unrolled.{precoder_bits_of, level_groups, bytes_back}
-use Rattle.dtx_slice.specs.PlacesLaws.{precoder_bit_zero, precoder_bit_next}
-use Rattle.dtx_slice.specs.InverseLaws.{place_within, coder_of_small}
+use Rattle.dtx_slice.proofs.PlacesLemmas.{precoder_bit_zero, precoder_bit_next}
+use Rattle.dtx_slice.proofs.InverseLemmas.{place_within, coder_of_small}
 use Rattle.dtx_receiver.specs.Bytes.{data_count, data_at, groups_of, levels_from, levels_in, first_bits, bytes_in}
-use Rattle.dtx_receiver.specs.SegmentsLaws.{segment_long}
+use Rattle.dtx_receiver.proofs.SegmentsLemmas.{segment_long}
 use Rattle.dtx_bursts.specs.Burst.{symbol_level}
 use Rattle.dtx_bursts.proofs.Places.{position, position_of, first_position, next_position, of_rises, begin_of, end_of}
 

@@ -5,7 +5,7 @@ use Rattle.std.proofs.Common.{length, get_or, refl, sym, ap, subst, subst₂, ar
 use Rattle.std.proofs.lemmas.Bool.{and_parts, cond-true, eq-eqb, leb-true}
 use Rattle.dtx_laws.specs.Codeword.{distance}
 use Rattle.dtx_erase.specs.Mending.{lost, unmarked_distance}
-use Rattle.dtx_frame.specs.CountsLaws.{total}
+use Rattle.dtx_frame.proofs.CountsLemmas.{total}
 
 pub total_rises : (f g : ℕ → ℕ) (a n : ℕ) → ((i : ℕ) → a ≤ i → i < a + n → g i + f i ≤ f (i + 1))
     → total g a n + f a ≤ f (a + n)

@@ -6,7 +6,7 @@ use Rattle.std.specs.List.{range_with_len, flat_map}
 use Rattle.std.proofs.lemmas.Bool.{cond-false, ne_eqb}
 use Rattle.std.proofs.lemmas.List.{get_or-drop, get_or-map, length-drop, length-map}
 use Rattle.dtx_slice.specs.Unrolled.{symbol_place, coder_of}
-use Rattle.dtx_slice.specs.InverseLaws.{place_within}
+use Rattle.dtx_slice.proofs.InverseLemmas.{place_within}
 use Rattle.dtx_receiver.specs.Bytes.{data_at, groups_of}
 use Rattle.dtx_erase.specs.Marks.{is_missing, missing_in, was_missing, is_marked}
 use Rattle.dtx_bursts.specs.Burst.{symbol_at}

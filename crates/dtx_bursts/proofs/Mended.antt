@@ -10,13 +10,13 @@ use Rattle.dtx_receiver.specs.declared.batch.Received.{Received}
 use Rattle.dtx_erase.specs.Marks.{is_missing, marks_in}
 use Rattle.dtx_erase.specs.Mended.{all_mended, marks_at, mended, mended_at, mended_run, mended_run_packets}
 use Rattle.dtx_erase.specs.Mending.{lost, unmarked_distance}
-use Rattle.dtx_erase.specs.UnmarkedLaws.{mended_packet}
-use Rattle.dtx_chain.specs.AllBackLaws.{corrected_bytes, corrected_good, run_back}
+use Rattle.dtx_erase.proofs.UnmarkedLemmas.{mended_packet}
+use Rattle.dtx_chain.proofs.AllBackLemmas.{corrected_bytes, corrected_good, run_back}
 use Rattle.dtx_chain.specs.Undamaged.{ArePackets, as_received}
 use Rattle.dtx_chain.specs.Damage.{AreReceived, AreFound, as_corrected, codeword_at, from_sync, numbers_in}
 use Rattle.dtx_chain.specs.Damage.{packet_behind, to_sync, word_in}
-use Rattle.dtx_chain.specs.SlightLaws.{field_begins, one_run_left}
-use Rattle.dtx_chain.specs.WordsLaws.{codeword_back, own_codeword}
+use Rattle.dtx_chain.proofs.SlightLemmas.{field_begins, one_run_left}
+use Rattle.dtx_chain.proofs.WordsLemmas.{codeword_back, own_codeword}
 use Rattle.dtx_bursts.specs.Burst.{IsBurst, IsGap, symbol_at, symbol_level}
 use Rattle.dtx_bursts.proofs.Missing.{few_lost, none_wrong}
 use Rattle.dtx_bursts.proofs.Moved.{alike_moved, missing_moved, no_word, sent_word}

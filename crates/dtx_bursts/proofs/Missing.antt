@@ -3,15 +3,15 @@ use Rattle.std.proofs.Common.{◌≡◌, ℕ, ℤ, ◌+◌, ◌*◌, ◌/◌, �
 use Rattle.std.proofs.Common.{List, length, map, get_or, refl, sym, ap, ◌∙◌, subst, arith}
 use Rattle.std.proofs.lemmas.List.FromFn.{get_or-map-range_with_len}
 use Rattle.std.specs.List.{range_with_len}
-use Rattle.dtx_frame.specs.CountsLaws.{total}
+use Rattle.dtx_frame.proofs.CountsLemmas.{total}
 use Rattle.dtx_slice.specs.Unrolled.{coder_of}
 use Rattle.dtx_outer.specs.Inner.{codeword_byte_place, IsComplete, word_at}
-use Rattle.dtx_outer.specs.WordsLaws.{get_or-word}
+use Rattle.dtx_outer.proofs.WordsLemmas.{get_or-word}
 use Rattle.dtx_receiver.specs.Bytes.{groups_of, bytes_in}
 use Rattle.dtx_erase.specs.Marks.{is_missing, is_marked, marks_in}
 use Rattle.dtx_erase.specs.Mended.{marks_at}
 use Rattle.dtx_erase.specs.Mending.{lost, unmarked_distance}
-use Rattle.dtx_erase.specs.UnmarkedLaws.{length-marks}
+use Rattle.dtx_erase.proofs.UnmarkedLemmas.{length-marks}
 use Rattle.dtx_bursts.specs.Burst.{symbol_at, symbol_level}
 use Rattle.dtx_bursts.proofs.Bytes.{AreAlike, byte_stays, length-run, not_before, not_behind, symbol_within}
 use Rattle.dtx_bursts.proofs.Counting.{lost_within, none_unmarked}

@@ -8,8 +8,8 @@ use Rattle.dtx_receiver.specs.Bytes.{groups_of, bytes_in}
 use Rattle.dtx_erase.specs.Marks.{is_missing}
 use Rattle.dtx_chain.specs.Undamaged.{ArePackets}
 use Rattle.dtx_chain.specs.Damage.{AreReceived, codeword_at, from_sync, to_sync, packet_behind}
-use Rattle.dtx_chain.specs.FromSyncLaws.{own_word}
-use Rattle.dtx_chain.specs.NoDamageLaws.{are_received, is_there, no_groups}
+use Rattle.dtx_chain.proofs.FromSyncLemmas.{own_word}
+use Rattle.dtx_chain.proofs.NoDamageLemmas.{are_received, is_there, no_groups}
 use Rattle.dtx_bursts.specs.Burst.{IsBurst, IsGap, symbol_at, symbol_level}
 use Rattle.dtx_bursts.proofs.Bytes.{AreAlike, AreWhole, DifferWithin, same_groups}
 use Rattle.dtx_bursts.proofs.Missing.{AreMissing}

@@ -3,7 +3,7 @@ use Rattle.std.proofs.Common.{◌≡◌, ℕ, zero, suc, ◌+◌, ◌-◌, ◌*�
 use Rattle.std.proofs.Common.{refl, sym, ap, ap₂, ◌∙◌, subst, subst₂, arith}
 use Rattle.std.proofs.lemmas.Bool.{cases_lt, cond-false, ne_eqb}
 use Rattle.dtx_slice.specs.Lanes.{lane_place}
-use Rattle.dtx_slice.specs.PlacesLaws.{lane_symbol, lane_byte_coder}
+use Rattle.dtx_slice.proofs.PlacesLemmas.{lane_symbol, lane_byte_coder}
 use Rattle.dtx_slice.specs.Unrolled.{symbol_place, coder_of}
 
 -- the place of a run's data symbol d among all of its symbols

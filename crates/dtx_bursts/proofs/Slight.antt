@@ -3,9 +3,9 @@ use Rattle.std.proofs.Common.{◌≡◌, ℕ, ℤ, ◌+◌, ◌-◌, ◌*◌, �
 use Rattle.std.proofs.Common.{length, drop, get_or, ap₂, subst, arith}
 use Rattle.std.proofs.lemmas.Bool.{cases_lt, eq-eqb}
 use Rattle.dtx_laws.specs.Codeword.{distance}
-use Rattle.dtx_frame.specs.CountsLaws.{total}
+use Rattle.dtx_frame.proofs.CountsLemmas.{total}
 use Rattle.dtx_outer.specs.Inner.{IsComplete, word_at}
-use Rattle.dtx_outer.specs.WordsLaws.{length-word, get_or-word}
+use Rattle.dtx_outer.proofs.WordsLemmas.{length-word, get_or-word}
 use Rattle.dtx_receiver.specs.Bytes.{groups_of, bytes_in}
 use Rattle.dtx_chain.specs.Undamaged.{ArePackets}
 use Rattle.dtx_chain.specs.Damage.{AreReceived, AreFound, IsNear, IsSlight, from_sync, to_sync, packet_behind, word_in}

@@ -4,7 +4,7 @@
 -- neighbours stand 209 places apart; each further ramp stands 52 places on. The 207 bytes of a word are of five ramps,
 -- of which the first lacks its begin and the last lacks its end.
 use Rattle.std.proofs.Common.{◌≡◌, ℕ, zero, suc, ◌+◌, ◌-◌, ◌*◌, ◌/◌, ◌%◌, ◌<◌, ◌≤◌, ◌⊎◌, min, inl, inr, subst, arith}
-use Rattle.dtx_frame.specs.CountsLaws.{total}
+use Rattle.dtx_frame.proofs.CountsLemmas.{total}
 use Rattle.dtx_bursts.proofs.Counting.{total_rises}
 
 abbrev pub air_place : ℕ → ℕ

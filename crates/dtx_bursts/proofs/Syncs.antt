@@ -5,13 +5,13 @@ use Rattle.std.proofs.Common.{Bool, List, [], length, map, sum, get_or, sym, ap,
 use Rattle.std.specs.List.{range_with_len}
 use Rattle.std.proofs.lemmas.Bool.{cases_lt, le-leb}
 use Rattle.dtx_slice.specs.Slicing.{sliced}
-use Rattle.dtx_frame.specs.AlikeLaws.{none_differ}
-use Rattle.dtx_frame.specs.CountsLaws.{total, total_zeros, sum_is, part, same_is}
+use Rattle.dtx_frame.proofs.AlikeLemmas.{none_differ}
+use Rattle.dtx_frame.proofs.CountsLemmas.{total, total_zeros, sum_is, part, same_is}
 use Rattle.dtx_frame.specs.Detection.{differs, differing, looks_like}
 use Rattle.dtx_frame.specs.Segments.{field_sync, sync_symbols}
 use Rattle.dtx_chain.specs.Damage.{AreReceived, AreFound, damage_at, damaged_symbols}
-use Rattle.dtx_chain.specs.PlacesLaws.{sync_at_place}
-use Rattle.dtx_chain.specs.SlightLaws.{sent_at, sent_within}
+use Rattle.dtx_chain.proofs.PlacesLemmas.{sync_at_place}
+use Rattle.dtx_chain.proofs.SlightLemmas.{sent_at, sent_within}
 use Rattle.dtx_bursts.specs.Burst.{IsBurst, LeavesSyncs, symbol_level}
 use Rattle.dtx_bursts.proofs.Counting.{total_rises}
 

@@ -7,16 +7,16 @@ use Rattle.dtx_laws.specs.Codeword.{distance}
 use Rattle.dtx_trellis.specs.Trellis.{symbol_of}
 use Rattle.dtx_slice.specs.Slicing.{sliced}
 use Rattle.dtx_slice.specs.Unrolled.{symbol_place, coder_of}
-use Rattle.dtx_frame.specs.CountsLaws.{total}
-use Rattle.dtx_frame.specs.SlicesLaws.{sliced_symbol}
+use Rattle.dtx_frame.proofs.CountsLemmas.{total}
+use Rattle.dtx_frame.proofs.SlicesLemmas.{sliced_symbol}
 use Rattle.dtx_outer.specs.Inner.{IsComplete, word_at}
-use Rattle.dtx_outer.specs.WordsLaws.{length-word, get_or-word}
+use Rattle.dtx_outer.proofs.WordsLemmas.{length-word, get_or-word}
 use Rattle.dtx_coder.specs.Stream.{a53}
-use Rattle.dtx_coder.specs.CountsLaws.{a53_segment, length-a53}
+use Rattle.dtx_coder.proofs.CountsLemmas.{a53_segment, length-a53}
 use Rattle.dtx_receiver.specs.Bytes.{groups_of, bytes_in}
 use Rattle.dtx_chain.specs.Undamaged.{ArePackets}
 use Rattle.dtx_chain.specs.Damage.{AreReceived, AreFound, codeword_at, from_sync, packet_behind, to_sync, word_in}
-use Rattle.dtx_chain.specs.LevelsLaws.{groups_are}
+use Rattle.dtx_chain.proofs.LevelsLemmas.{groups_are}
 use Rattle.dtx_bursts.specs.Burst.{IsBurst, LeavesSyncs, symbol_at, symbol_level}
 use Rattle.dtx_bursts.proofs.Apart.{apart_by_first, apart_by_last}
 use Rattle.dtx_bursts.proofs.Bytes.{AreWhole, same_groups, symbol_within}

@@ -7,14 +7,14 @@ use Rattle.dtx_lists.proofs.Below.{holds_below, at_below}
 use Rattle.dtx_trellis.specs.Trellis.{symbol_of}
 use Rattle.dtx_slice.specs.Slicing.{sliced}
 use Rattle.dtx_slice.specs.Unrolled.{symbol_place, coder_of}
-use Rattle.dtx_frame.specs.CountsLaws.{total}
-use Rattle.dtx_frame.specs.SlicesLaws.{sliced_symbol}
+use Rattle.dtx_frame.proofs.CountsLemmas.{total}
+use Rattle.dtx_frame.proofs.SlicesLemmas.{sliced_symbol}
 use Rattle.dtx_coder.specs.Stream.{a53}
 use Rattle.dtx_receiver.specs.Bytes.{groups_of}
 use Rattle.dtx_erase.specs.Marks.{is_missing, is_marked, marks_in}
 use Rattle.dtx_erase.specs.Mended.{marks_at}
 use Rattle.dtx_erase.specs.Mending.{lost}
-use Rattle.dtx_erase.specs.UnmarkedLaws.{length-marks}
+use Rattle.dtx_erase.proofs.UnmarkedLemmas.{length-marks}
 use Rattle.dtx_chain.specs.Damage.{AreReceived, AreFound, from_sync, to_sync}
 use Rattle.dtx_bursts.specs.Burst.{IsGap, symbol_at, symbol_level}
 use Rattle.dtx_bursts.proofs.Bytes.{AreAlike, same_groups, symbol_within}

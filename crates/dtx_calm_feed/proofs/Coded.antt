@@ -5,15 +5,15 @@ use Rattle.std.specs.List.{cons_option}
 use Rattle.std.proofs.lemmas.Bool.{cases_lt}
 use Rattle.std.proofs.lemmas.List.{length-append, length-drop, length-take-le, take-append-drop, take-take}
 use Rattle.dtx_coder.specs.Along.{levels_since, states_since}
-use Rattle.dtx_coder.specs.LevelsLaws.{length-levels, levels_more}
-use Rattle.dtx_coder.specs.SegmentsLaws.{four_front}
+use Rattle.dtx_coder.proofs.LevelsLemmas.{length-levels, levels_more}
+use Rattle.dtx_coder.proofs.SegmentsLemmas.{four_front}
 use Rattle.dtx_coder.specs.Stream.{four_segments, levels, states}
 use Rattle.dtx_ops.specs.declared.fields.Ops.{Ops}
 use Rattle.dtx_exciter.specs.Emission.{segments_since}
-use Rattle.dtx_exciter.specs.ForceLaws.{IsBehind, Stands, counted_behind, force_more, force_stands}
+use Rattle.dtx_exciter.proofs.ForceLemmas.{IsBehind, Stands, counted_behind, force_more, force_stands}
 use Rattle.dtx_exciter.specs.Order.{Order, counting_order, orders, placed}
 use Rattle.dtx_exciter.specs.Packets.{readings}
-use Rattle.dtx_exciter.specs.SinceMarkLaws.{AreSame, data_same, states_from_group, states_mark, take_parts}
+use Rattle.dtx_exciter.proofs.SinceMarkLemmas.{AreSame, data_same, states_from_group, states_mark, take_parts}
 use Rattle.dtx_calm_feed.specs.Own.{IsFirstOrder, own_data}
 use Rattle.dtx_calm_feed.proofs.Orders.{NeverSlips, first_here, here, own_first}
 use Rattle.dtx_calm_feed.proofs.Since.{segments_front}

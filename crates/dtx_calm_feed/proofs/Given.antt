@@ -9,8 +9,8 @@ use Rattle.dtx_frame.specs.Segments.{field_sync}
 use Rattle.dtx_coder.specs.Stream.{last_of}
 use Rattle.dtx_exciter.specs.Emission.{segments_since, sent_by, sent_at, sent_before, behind_field_sync, given_under}
 use Rattle.dtx_exciter.specs.Emission.{last_segments}
-use Rattle.dtx_exciter.specs.ForceLaws.{IsBehind, Stands, counted_behind, force_first, force_stands}
-use Rattle.dtx_exciter.specs.InLifeLaws.{counted_same}
+use Rattle.dtx_exciter.proofs.ForceLemmas.{IsBehind, Stands, counted_behind, force_first, force_stands}
+use Rattle.dtx_exciter.proofs.InLifeLemmas.{counted_same}
 use Rattle.dtx_exciter.specs.Order.{Order, counting_order, orders}
 use Rattle.dtx_exciter.specs.Packets.{readings, under}
 use Rattle.dtx_exciter.specs.Told.{served}

@@ -7,8 +7,8 @@ use Rattle.std.proofs.lemmas.List.{length-append, length-drop, length-take-le}
 use Rattle.dtx_ops.specs.declared.fields.Ops.{Ops}
 use Rattle.dtx_exciter.specs.Emission.{segments_since, sent_by, sent_at, sent_before, behind_field_sync, given_under}
 use Rattle.dtx_exciter.specs.Emission.{last_segments}
-use Rattle.dtx_exciter.specs.ForceLaws.{IsBehind, Stands, counted_behind, force_stands}
-use Rattle.dtx_exciter.specs.InLifeLaws.{counted_same}
+use Rattle.dtx_exciter.proofs.ForceLemmas.{IsBehind, Stands, counted_behind, force_stands}
+use Rattle.dtx_exciter.proofs.InLifeLemmas.{counted_same}
 use Rattle.dtx_exciter.specs.Order.{Order, counting_order, orders}
 use Rattle.dtx_exciter.specs.Packets.{readings, under}
 use Rattle.dtx_exciter.specs.Told.{served}

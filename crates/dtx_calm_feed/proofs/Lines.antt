@@ -11,7 +11,7 @@ use Rattle.dtx_ops.specs.declared.refusal.OpsNo.{OpsNo}
 use Rattle.dtx_ops.specs.declared.refusal.OpsNo.TheVariants.{NotOps, Uncorrectable, Kind, Pad, Stamp, Delay, Index}
 use Rattle.dtx_ops.specs.declared.refusal.OpsNo.TheVariants.{Count, Twice, Fill, Page}
 use Rattle.dtx_exciter.specs.Packets.{anchor_of}
-use Rattle.dtx_watch.specs.AnchorsLaws.{below}
+use Rattle.dtx_watch.proofs.AnchorsLemmas.{below}
 use Rattle.dtx_watch.specs.Notes.{lock_note, one_or_none, ops_note, packet_note}
 use Rattle.dtx_watch.specs.Watch.{expected_at, note_under, notes_at, notes_to, reading_note, stamped_before, watch}
 use Rattle.dtx_watch.specs.declared.notes.Note.{Note}

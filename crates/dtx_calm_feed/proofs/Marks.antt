@@ -7,9 +7,9 @@ use Rattle.std.proofs.lemmas.Bool.{eq-eqb, eqb-true}
 use Rattle.std.proofs.lemmas.List.{drop-map, get_or-drop, get_or-map, length-drop, take_all}
 use Rattle.dtx_packets.specs.Packet.{sync_of}
 use Rattle.dtx_cadence.specs.Anchor.{anchor, anchor_to, ends_lock, has_mark}
-use Rattle.dtx_cadence.specs.NextAnchorLaws.{anchor_below, anchor_is_mark, anchor_take, none_ended, stays}
+use Rattle.dtx_cadence.proofs.NextAnchorLemmas.{anchor_below, anchor_is_mark, anchor_take, none_ended, stays}
 use Rattle.dtx_exciter.specs.Packets.{anchor_of, syncs, under}
-use Rattle.dtx_exciter.specs.UnderLaws.{length-syncs}
+use Rattle.dtx_exciter.proofs.UnderLemmas.{length-syncs}
 use Rattle.dtx_calm_feed.specs.Own.{IsLockedTo, IsMarkOf}
 
 -- ---- sync bytes

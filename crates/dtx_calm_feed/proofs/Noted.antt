@@ -14,12 +14,12 @@ use Rattle.dtx_ops.specs.declared.fields.Ops.{Ops}
 use Rattle.dtx_ops.specs.declared.refusal.OpsNo.{OpsNo}
 use Rattle.dtx_ops.specs.declared.refusal.OpsNo.TheVariants.{NotOps, Uncorrectable, Kind, Pad, Stamp, Delay, Index}
 use Rattle.dtx_ops.specs.declared.refusal.OpsNo.TheVariants.{Count, Twice, Fill, Page}
-use Rattle.dtx_exciter.specs.ForceLaws.{IsBehind, counted_behind}
+use Rattle.dtx_exciter.proofs.ForceLemmas.{IsBehind, counted_behind}
 use Rattle.dtx_exciter.specs.Order.{Order, either, ordered, ordered_at, order_at, counting_order}
 use Rattle.dtx_exciter.specs.Packets.{anchor_of, read_fields, readings, reads}
-use Rattle.dtx_watch.specs.AnchorsLaws.{below, since}
+use Rattle.dtx_watch.proofs.AnchorsLemmas.{below, since}
 use Rattle.dtx_watch.specs.Notes.{lock_note, one_or_none, ops_note, packet_note, states_note}
-use Rattle.dtx_watch.specs.ToldLaws.{counts}
+use Rattle.dtx_watch.proofs.ToldLemmas.{counts}
 use Rattle.dtx_watch.specs.Watch.{expected_at, expected_by, note_under, notes_at, reading_note, stamped_before}
 use Rattle.dtx_watch.specs.declared.notes.Note.{Note}
 use Rattle.dtx_watch.specs.declared.notes.StatesNote.TheVariants as states_are

@@ -7,8 +7,8 @@ use Rattle.std.specs.List.{cons_option}
 use Rattle.dtx_coder.specs.Along.{states_since}
 use Rattle.dtx_ops.specs.declared.fields.Ops.{Ops}
 use Rattle.dtx_exciter.specs.Emission.{segments_since}
-use Rattle.dtx_exciter.specs.ForceLaws.{IsBehind, Stands, counted_behind, force_first, force_more, force_next}
-use Rattle.dtx_exciter.specs.ForceLaws.{force_stands}
+use Rattle.dtx_exciter.proofs.ForceLemmas.{IsBehind, Stands, counted_behind, force_first, force_more, force_next}
+use Rattle.dtx_exciter.proofs.ForceLemmas.{force_stands}
 use Rattle.dtx_exciter.specs.Order.{Order, counting_order, orders, placed}
 use Rattle.dtx_exciter.specs.Packets.{readings}
 use Rattle.dtx_calm_feed.specs.Own.{IsFirstOrder, own_by, own_data}

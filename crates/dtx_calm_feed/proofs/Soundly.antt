@@ -5,15 +5,15 @@ use Rattle.std.specs.List.{AllByRecursion}
 use Rattle.std.proofs.lemmas.List.{get_or-drop, get_or-map, length-drop, take_all}
 use Rattle.dtx_packets.specs.Packet.{sync_of}
 use Rattle.dtx_cadence.specs.Anchor.{anchor}
-use Rattle.dtx_cadence.specs.AnchoredLaws.{anchored}
+use Rattle.dtx_cadence.proofs.AnchoredLemmas.{anchored}
 use Rattle.dtx_cadence.specs.Cadence.{IsAnchored, IsMarked}
 use Rattle.dtx_ops.specs.Reading.{reading}
 use Rattle.dtx_ops.specs.declared.fields.Ops.{Ops}
 use Rattle.dtx_ops.specs.declared.refusal.OpsNo.{OpsNo}
 use Rattle.dtx_exciter.specs.Packets.{anchor_of, syncs}
-use Rattle.dtx_exciter.specs.UnderLaws.{length-syncs}
+use Rattle.dtx_exciter.proofs.UnderLemmas.{length-syncs}
 use Rattle.dtx_watch.specs.Sound.{IsCalm, IsCalmAt, IsSoundFeed}
-use Rattle.dtx_watch.specs.SoundLaws.{calm}
+use Rattle.dtx_watch.proofs.SoundLemmas.{calm}
 use Rattle.dtx_watch.specs.Watch.{notes_at}
 use Rattle.dtx_watch.specs.declared.notes.Note.{Note}
 use Rattle.dtx_watch.specs.declared.notes.What.TheVariants.{Lock}

@@ -7,15 +7,15 @@ use Rattle.std.proofs.lemmas.Bool.{and_from, and_parts, cases_lt, cond-false, co
 use Rattle.std.proofs.lemmas.Slice.Eq.{bytes_eq-Decides}
 use Rattle.dtx_clock.specs.Clock.{runs}
 use Rattle.dtx_coder.specs.Along.{RunsAlong, states_since}
-use Rattle.dtx_coder.specs.AlongLaws.{states_along}
+use Rattle.dtx_coder.proofs.AlongLemmas.{states_along}
 use Rattle.dtx_coder.specs.Groups.{Coding}
 use Rattle.dtx_ops.specs.declared.fields.Ops.{Ops}
-use Rattle.dtx_exciter.specs.ForceLaws.{IsBehind, Stands, counted_behind, force_stands}
+use Rattle.dtx_exciter.proofs.ForceLemmas.{IsBehind, Stands, counted_behind, force_stands}
 use Rattle.dtx_exciter.specs.Order.{Order, orders}
 use Rattle.dtx_exciter.specs.Packets.{readings}
 use Rattle.dtx_watch.specs.Clock.{clock_note, frames_between, stamp_in}
 use Rattle.dtx_watch.specs.Notes.{states_note}
-use Rattle.dtx_watch.specs.ToldLaws.{counts, early, not_whole}
+use Rattle.dtx_watch.proofs.ToldLemmas.{counts, early, not_whole}
 use Rattle.dtx_watch.specs.Watch.{expected_at, expected_by, stamped_before}
 use Rattle.dtx_watch.specs.declared.notes.ClockNote.{ClockNote}
 use Rattle.dtx_watch.specs.declared.notes.ClockNote.TheVariants as clock_is

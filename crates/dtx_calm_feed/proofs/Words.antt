@@ -7,7 +7,7 @@ use Rattle.std.specs.Str.{bytes_eq}
 use Rattle.std.proofs.lemmas.List.Sums.{sum_by-cons}
 use Rattle.dtx_watch.specs.Watch.{notes_at, notes_to, watch}
 use Rattle.dtx_watch.specs.WatchLines.{first_word, lines_with, note_words}
-use Rattle.dtx_watch.specs.WatchLinesLaws.{words_of-watch_text}
+use Rattle.dtx_watch.proofs.WatchLinesLemmas.{words_of-watch_text}
 use Rattle.dtx_watch.specs.WatchText.{clock_word, states_word, watch_text}
 use Rattle.dtx_watch.specs.declared.notes.Note.{Note}
 use Rattle.dtx_watch.specs.declared.notes.What.{What}

@@ -7,9 +7,9 @@ use std::alloc::{AllocError, Global};
 use std::io::{Input, Read};
 
 /// How many bytes are kept, at the end of the piece that was read last. Each command asks for one byte of an input
-/// before it begins its outputs, and reads that byte again with its first piece; a page is more than any asks for, and
-/// small beside what a command holds.
-const KEPT: usize = 4096;
+/// before it begins its outputs, and reads that byte again with its first piece. So many are more than any asks for,
+/// and cost nothing beside a read.
+const KEPT: usize = 256;
 
 /// An input that is read once, in order.
 #[derive(Drop)]

@@ -15,7 +15,8 @@ use Rattle.dtx_exciter.specs.Log.{Line, restart, life_lines, log, emission_over}
 use Rattle.dtx_exciter.specs.Packets.{last_answer, group_part, under, anchor_of, syncs}
 use Rattle.dtx_repeat.specs.GoingOn.{last_life, with_begun}
 use Rattle.dtx_repeat.proofs.GoingOnLemmas.{last_begun}
-use Rattle.dtx_repeat.specs.Lives.{packets_in, lives_so_far, AreGiven}
+use Rattle.dtx_repeat.specs.Lives.{packets_in, lives_so_far}
+use Rattle.dtx_repeat.specs.GoingOn.{AreGiven}
 use Rattle.dtx_repeat.proofs.LivesLemmas.{lives_more, as_many_so_far}
 use Rattle.dtx_repeat.specs.Repeater.{StandsFor, given_behind}
 use Rattle.dtx_repeat.specs.Restored.{restored_so_far}

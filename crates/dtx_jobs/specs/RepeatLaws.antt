@@ -11,7 +11,8 @@ use Rattle.dtx_receiver.specs.declared.tracking.Tracking.{Tracking}
 use Rattle.dtx_receiver.specs.declared.tracking.Tracking.TheVariants.{Searching, Began, Sync, Data, Ended}
 use Rattle.dtx_repeat.specs.GoingOn.{longer, with_begun}
 use Rattle.dtx_repeat.proofs.GoingOnLemmas.{longer_none, longer_longer, length-longer}
-use Rattle.dtx_repeat.specs.Lives.{lives, lives_so_far, packets_in, AreGiven}
+use Rattle.dtx_repeat.specs.Lives.{lives, lives_so_far, packets_in}
+use Rattle.dtx_repeat.specs.GoingOn.{AreGiven}
 use Rattle.dtx_repeat.proofs.LivesLemmas.{lives_more, some_more, no_lives}
 use Rattle.dtx_jobs.specs.Lives.{sent_over, logged_over}
 use Rattle.dtx_jobs.specs.LivesLaws.{sent_longer, logged_longer, sent_begun, logged_begun}
