@@ -32,48 +32,61 @@ gap_is_burst count from sent got gap = record { others = λ n l side. by_level n
     by_level n l (inl a) (inl m) = let at = gap.missing n l m in absurd (omega (arith, at.0, a))
     by_level n l (inr a) (inl m) = let at = gap.missing n l m in absurd (omega (arith, at.1, a))
 
--- word j of a run differs from the codeword of packet k of a stream in e unmarked bytes, where f are marked, and
--- 2 * e + f is at most 20
+-- word j of a run differs from the codeword of packet k of a stream in no unmarked byte, and at most 20 are marked
+abbrev IsMissing : List (List ℕ) → ℕ → List (List ℤ) → ℕ → Type 0
+IsMissing packets k run j =
+    (unmarked_distance (marks_at (marks_in run) j) (word_at 207 52 4 (bytes_in run) j) (codeword_at packets k) ≡ 0)
+    × (lost (marks_at (marks_in run) j) ≤ 20)
+
+-- it differs from it in e unmarked bytes, where f are marked, and 2 * e + f is at most 20
 abbrev IsMendable : List (List ℕ) → ℕ → List (List ℤ) → ℕ → Type 0
 IsMendable packets k run j =
     2 * unmarked_distance (marks_at (marks_in run) j) (word_at 207 52 4 (bytes_in run) j) (codeword_at packets k)
     + lost (marks_at (marks_in run) j) ≤ 20
 
-mendable_behind : (ps : List (List ℕ)) (first from j : ℕ) (sent got : List (List ℤ)) → AreReceived ps first sent got
+missing_behind : (ps : List (List ℕ)) (first from j : ℕ) (sent got : List (List ℤ)) → AreReceived ps first sent got
     → ArePackets ps → IsGap 4141 from sent got → to_sync first < length sent
     → IsComplete 207 52 4 (828 * groups_of (from_sync first got)) j
-    → IsMendable ps (packet_behind first + j) (from_sync first got) j
+    → IsMissing ps (packet_behind first + j) (from_sync first got) j
 unfolding from_sync
-mendable_behind ps first from j sent got r p gap l c =
-    cost (unmarked_distance (marks_at (marks_in run) j) (word_at 207 52 4 (bytes_in run) j)
-    (codeword_at ps (packet_behind first + j)))
-    (lost (marks_at (marks_in run) j))
-    (subst (λ (code : List ℕ). unmarked_distance (marks_at (marks_in run) j) (word_at 207 52 4 (bytes_in run) j) code
-    ≡ 0)
-    (sent_word ps first j sent got r p l c)
-    (none_wrong run (drop (to_sync first) sent) 4141 (from - 832 * to_sync first) j
-    (alike_moved ps first (to_sync first) sent got r l) (missing_moved (to_sync first) 4141 from sent got r.as_many gap)
-    c))
-    (few_lost run (drop (to_sync first) sent) (from - 832 * to_sync first) j
-    (alike_moved ps first (to_sync first) sent got r l) (missing_moved (to_sync first) 4141 from sent got r.as_many gap)
-    c)
+missing_behind ps first from j sent got r p gap l c = (
+  subst (λ (code : List ℕ). unmarked_distance (marks_at (marks_in run) j) (word_at 207 52 4 (bytes_in run) j) code ≡ 0)
+      (sent_word ps first j sent got r p l c)
+      (none_wrong run (drop (to_sync first) sent) 4141 (from - 832 * to_sync first) j
+      (alike_moved ps first (to_sync first) sent got r l) (missing_moved (to_sync first) 4141 from sent got r.as_many gap)
+      c),
+  few_lost run (drop (to_sync first) sent) (from - 832 * to_sync first) j
+      (alike_moved ps first (to_sync first) sent got r l) (missing_moved (to_sync first) 4141 from sent got r.as_many gap)
+      c,
+)
   where
     run : List (List ℤ)
     run = drop (to_sync first) got
 
-    cost : (x y : ℕ) → x ≡ 0 → y ≤ 20 → 2 * x + y ≤ 20
-    cost x y e l = omega (arith, e, l)
+pub gap_missing : (ps : List (List ℕ)) (first from : ℕ) (sent got : List (List ℤ)) → AreReceived ps first sent got
+    → ArePackets ps → IsGap 4141 from sent got → (j : ℕ)
+    → IsComplete 207 52 4 (828 * groups_of (from_sync first got)) j
+    → IsMissing ps (packet_behind first + j) (from_sync first got) j
+gap_missing ps first from sent got r p gap j c = by_sync (cases_lt (to_sync first) (length sent))
+  where
+    by_sync : (to_sync first < length sent) ⊎ (length sent ≤ to_sync first)
+        → IsMissing ps (packet_behind first + j) (from_sync first got) j
+    by_sync (inl l) = missing_behind ps first from j sent got r p gap l c
+    by_sync (inr l) = absurd (no_word first got j (omega (arith, l, r.as_many)) c)
 
-pub gap_mendable : (ps : List (List ℕ)) (first from : ℕ) (sent got : List (List ℤ)) → AreReceived ps first sent got
+gap_mendable : (ps : List (List ℕ)) (first from : ℕ) (sent got : List (List ℤ)) → AreReceived ps first sent got
     → ArePackets ps → IsGap 4141 from sent got → (j : ℕ)
     → IsComplete 207 52 4 (828 * groups_of (from_sync first got)) j
     → IsMendable ps (packet_behind first + j) (from_sync first got) j
-gap_mendable ps first from sent got r p gap j c = by_sync (cases_lt (to_sync first) (length sent))
+gap_mendable ps first from sent got r p gap j c =
+    let run : List (List ℤ) = from_sync first got in
+    let missing = gap_missing ps first from sent got r p gap j c in
+    cost (unmarked_distance (marks_at (marks_in run) j) (word_at 207 52 4 (bytes_in run) j)
+    (codeword_at ps (packet_behind first + j)))
+    (lost (marks_at (marks_in run) j)) missing.0 missing.1
   where
-    by_sync : (to_sync first < length sent) ⊎ (length sent ≤ to_sync first)
-        → IsMendable ps (packet_behind first + j) (from_sync first got) j
-    by_sync (inl l) = mendable_behind ps first from j sent got r p gap l c
-    by_sync (inr l) = absurd (no_word first got j (omega (arith, l, r.as_many)) c)
+    cost : (x y : ℕ) → x ≡ 0 → y ≤ 20 → 2 * x + y ≤ 20
+    cost x y e l = omega (arith, e, l)
 
 -- ---- the packets
 

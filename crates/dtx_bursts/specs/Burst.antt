@@ -24,8 +24,8 @@ pub record IsGap (count from : ℕ) (sent got : List (List ℤ)) : Type 0 where
       → (is_missing (symbol_at got n) ≡ true) ⊎ (symbol_level got n ≡ symbol_level sent n)
   pub missing : (n : ℕ) → n < 832 * length sent → is_missing (symbol_at got n) ≡ true → (from ≤ n) × (n < from + count)
 
--- So many symbols in a row from one on stand at or behind the first field sync, and at most 32 of them are among the
--- first 515 of each field sync: these are its first 32 or its last.
+-- So many symbols in a row from one on stand at or behind the first field sync. Of the first 515 symbols of each field
+-- sync they reach only the first 32 or the last 32.
 pub record LeavesSyncs (first count from segments : ℕ) : Type 0 where
   pub behind : 832 * to_sync first ≤ from
   pub few : (i : ℕ) → i < segments → (first + i) % 313 ≡ 0 → (from + count ≤ 832 * i + 32) ⊎ (832 * i + 483 ≤ from)

@@ -30,9 +30,9 @@ pub fn missing_symbols_in_a_row()
     ensures words { (packets : List (List ℕ)) (first from : ℕ) (sent got : List (List ℤ))
         → AreReceived packets first sent got → ArePackets packets → IsGap 4141 from sent got
         → (j : ℕ) → IsComplete 207 52 4 (828 * groups_of (from_sync first got)) j
-        → 2 * unmarked_distance (marks_at (marks_in (from_sync first got)) j)
-        (word_at 207 52 4 (bytes_in (from_sync first got)) j) (codeword_at packets (packet_behind first + j))
-        + lost (marks_at (marks_in (from_sync first got)) j) ≤ 20 }
+        → (unmarked_distance (marks_at (marks_in (from_sync first got)) j)
+        (word_at 207 52 4 (bytes_in (from_sync first got)) j) (codeword_at packets (packet_behind first + j)) ≡ 0)
+        × (lost (marks_at (marks_in (from_sync first got)) j) ≤ 20) }
     ensures packets { (packets : List (List ℕ)) (first from : ℕ) (sent got : List (List ℤ))
         → AreReceived packets first sent got → ArePackets packets → to_sync first < length sent
         → AreFound first sent got → IsGap 4141 from sent got
@@ -44,8 +44,8 @@ pub fn missing_symbols_in_a_row()
         → list_all (λ r. r.good) (all_mended got) ≡ true }
 {}
 
-/// The field syncs are found where a burst stands at or behind the first of them, and at most 32 of its symbols are
-/// among the first 515 of each: however long it is, and whether its symbols are wrong or missing.
+/// The field syncs are found where a burst stands at or behind the first of them, and reaches of the first 515 symbols
+/// of each only the first 32 or the last 32: however long it is, and whether its symbols are wrong or missing.
 pub fn syncs_are_found()
     ensures wrong { (packets : List (List ℕ)) (first count from : ℕ) (sent got : List (List ℤ))
         → AreReceived packets first sent got → LeavesSyncs first count from (length sent)
@@ -55,7 +55,7 @@ pub fn syncs_are_found()
         → IsGap count from sent got → AreFound first sent got }
 {}
 
-/// One symbol more is too many: each stream of 52 packets or more can be received with 2,023 wrong symbols in a row so
+/// One symbol more can be too many: each stream of 52 packets or more can be received with 2,023 wrong symbols in a row so
 /// that the word of its first packet has eleven wrong bytes or more, and with 4,142 missing ones so that it has
 /// twenty-one missing bytes or more. The field syncs are found.
 pub fn one_symbol_more_is_too_many()

@@ -39,9 +39,9 @@ pub record IsMarkOf (packets : List (List ℕ)) (m : ℕ) : Type 0 where
   pub in_step : m % 624 ≡ 0
   pub is_mark : sync_of (slice_index_or packets m []) ≡ 0xB8
 
--- An exciter that was given this life is locked to a mark of the feed, and was given the feed from that mark up to
--- packet n. It was locked to nothing before the mark; or to one in step with it, and an order of the feed stands 52 or
--- more packets behind the mark, and before the last two groups that it was given.
+-- An exciter that was given this life is locked to the feed from the place of a mark on, and was given the feed from
+-- there up to packet n. It was locked to nothing before; or to a mark in step with it, and an order of the feed stands
+-- 52 or more packets behind that place, and before the last group that it was given.
 pub record IsLockedTo (feed life : List (List ℕ)) (n : ℕ) : Type 0 where
   pub before : List (List ℕ)
   pub mark : ℕ

@@ -22,10 +22,11 @@ ghost use Rattle.dtx_calm_feed.specs.Own.{IsFirstOrder, IsLockedTo, IsMarkOf, da
 ghost use Rattle.dtx_calm_feed.specs.Said.{AreSaid, Follows, IsLatestOrder, IsSaid, latest_before};
 
 /// What is told of any packets is so. A line `ops` stands for an operations packet at its place. It says `right` of the
-/// states exactly where they are those that the twelve coders have before its group, which began with those of the
-/// latest earlier order under this anchor, and `slip` exactly where there is such an order and they are others; and
-/// `right` of the clock exactly where the stamp is later than that of the latest operations packet before it by the
-/// length of the frames between the two, by one division, rounded down or up, and the maximum delay is the same.
+/// states exactly where its group counts and they are those that the twelve coders have before its group, which began
+/// with those of the latest earlier order under this anchor. It says `slip` exactly where its group counts, there is
+/// such an order and they are others. It says `right` of the clock exactly where the stamp is later than that of the
+/// latest operations packet before it by the length of the frames that the two tell, by one division, rounded down or
+/// up, and the maximum delay is the same.
 pub fn each_line_is_so()
     ensures { (packets : List (List ℕ)) → AllByRecursion (IsSaid packets) (watch packets) }
 {}
@@ -53,8 +54,8 @@ pub fn sound_feeds_are_calm_feeds()
         → mark < length feed → IsCalmFeed (drop mark feed) }
 {}
 
-/// An exciter in a new life that is given a calm feed from any mark of it on is locked to that mark, as long as it is
-/// given the feed.
+/// An exciter in a new life that is given a calm feed from any mark of it on that stands where one is due is locked to
+/// that mark, as long as it is given the feed.
 pub fn locked_at_any_mark()
     ensures { (feed : List (List ℕ)) (m n : ℕ) → IsCalmFeed feed → IsMarkOf feed m → m < n → n ≤ length feed
         → IsLockedTo feed (slice_range feed m n) n }
@@ -103,9 +104,9 @@ pub fn calm_feeds_are_as_coded()
 {}
 
 /// The stamps of a calm feed follow each other: that of an operations packet is later than that of the one before it by
-/// the length of the frames between the two, by one division, rounded down or up, and the maximum delay is the same. So
-/// the moments that one exciter makes of the two differ by what is on the air between their segments, but for less than
-/// a tick, and otherwise by whole seconds.
+/// the length of the frames between the two, by one division, rounded down or up, and the maximum delay is the same. The
+/// frames are those that the packets tell. So the moments that an exciter makes of the two at one offset differ by what
+/// is on the air between segments of these frames, but for less than a tick, and otherwise by whole seconds.
 pub fn stamps_and_moments_follow()
     ensures stamps { (feed : List (List ℕ)) (k : ℕ) (before ops : Ops) → IsCalmFeed feed
         → ordered_at (readings feed) k ≡ Some ops → latest_before feed k ≡ Some before → Follows before ops }

@@ -47,8 +47,8 @@ abbrev pub trial_log : ℕ → ℤ → List ℕ
 trial_log count offset = log_text (map (order_line offset) (range_with_len 0 ((count + 208) / 312)))
 
 -- How many packets come back from packet 312 on, the first behind a field sync, where the whole groups hold so many in
--- all: the bytes of a packet's codeword are spread over the 53 data segments from its own on, or over 52 where 52
--- divides the packet's number.
+-- all. The 207 bytes of packet k are there where 53 data segments or more are sent from its own on, or 52 where 52
+-- divides k.
 abbrev pub whole_from_312 : ℕ → ℕ
 whole_from_312 sent = sent - 364 + (if sent % 52 == 0 then 1 else 0)
 

@@ -1,5 +1,5 @@
-//! What the command `trial` leaves in its files, a statement without a premise (the symbols are those of ATSC A/53 Part
-//! 2; the feed and the logs are the profile's own, in the manner of ATSC A/110).
+//! What the command `trial` leaves in its files: a statement that asks nothing of an input (the symbols are those of
+//! ATSC A/53 Part 2; the feed and the logs are the profile's own, in the manner of ATSC A/110).
 
 ghost use Rattle.std.specs.Prelude.{◌≡◌, ◌^◌, ◌<◌, ◌≤◌, ◌∷◌, [], ℕ, IfSome, IsSomeAnd, codes, decimal};
 ghost use Rattle.dtx_outside.specs.Shelf.{Files};
@@ -34,8 +34,8 @@ pub fn files_of_a_done_trial()
 /// are told, where the answer is `Done`. `tx-1.sym`, `tx-2.sym` and `tx-3.sym` are one and the same list of bytes: the
 /// A/53 symbols of the feed of the made stream from its first order's group on. Each log is exactly the presets of the
 /// feed's orders, at moments that differ between the three by their offsets and in nothing else. `net.ts` is exactly
-/// the packets of the feed from the first field sync on whose bytes are all there. It is no call of the program's own:
-/// it follows from the clauses of `run`, which it calls.
+/// the packets of the feed, from the first field sync of these symbols on, whose bytes are all there, with 0x47 as
+/// their sync bytes. It is no call of the program's own: it follows from the clauses of `run`, which it calls.
 pub fn run_of_a_trial<S: Shelf, O: Sink>(
     alloc: Global,
     words: &[Word],
