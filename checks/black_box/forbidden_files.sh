@@ -51,6 +51,7 @@ if [[ $("${program[@]}" 2>/dev/null) == "$usage" ]]; then
     chmod 000 changes.toml
     run 11 'read fault' hurt ../inputs/given.ts changes.toml out.ts
     leaves changes.toml
+    program=("$dtx")
 else
     left_out 'files that another user may not use, since root could not become nobody' 'util-linux, or run it as another user'
 fi

@@ -95,15 +95,16 @@ hurt @ROOM/feed.sym @ROOM/piped.toml out.sym
 end
 
 start 'a network whose plan and stream are pipes'
-{ network s.ts && send 7 0 625 && receiver 7; } >"$room/piped.plan"
-cp ../inputs/given.ts s.ts
+{ network s.ts && send 7 0 1300 && receiver 7; } >"$room/piped.plan"
+stream 1300 "$room/piped.ts"
+cp "$room/piped.ts" s.ts
 "$dtx" net "$room/piped.plan" >"$room/line"
 mkdir wanted
 mv net.* tx-* wanted
 rm s.ts
 mkfifo s.ts plan
 cat "$room/piped.plan" >plan &
-cat ../inputs/given.ts >s.ts &
+cat "$room/piped.ts" >s.ts &
 run 0 "$(<"$room/line")" net plan
 wait
 are_wanted
