@@ -55,8 +55,8 @@ pub fn syncs_are_found()
         → IsGap count from sent got → AreFound first sent got }
 {}
 
-/// One symbol more can be too many: each stream of 52 packets or more can be received with 2,023 wrong symbols in a row so
-/// that the word of its first packet has eleven wrong bytes or more, and with 4,142 missing ones so that it has
+/// One symbol more can be too many: each stream of 52 packets or more can be received with 2,023 wrong symbols in a row
+/// so that the word of its first packet has eleven wrong bytes or more, and with 4,142 missing ones so that it has
 /// twenty-one missing bytes or more. The field syncs are found.
 pub fn one_symbol_more_is_too_many()
     ensures wrong { (packets : List (List ℕ)) → ArePackets packets → 52 ≤ length packets
