@@ -34,7 +34,9 @@ folder=$room/folder
 mkdir "$inputs"
 
 # ---- Cases ----
-program=("$dtx")
+# What cases run, where they set no other `program`; a part may set another one for all of its own.
+usual=("$dtx")
+program=("${usual[@]}")
 passed=0
 failed=0
 title=
@@ -44,6 +46,7 @@ wrongs=()
 start() {
     finish
     title=$1
+    program=("${usual[@]}")
     rm -rf "$folder"
     mkdir "$folder"
     cd "$folder" || exit 1
@@ -272,6 +275,7 @@ plan_of() {
 ((${#parts[@]})) || parts=(launcher adapt plans make code receive excite hurt place net pages small trial soft mend dvb repeat acquire watch
     names overlaps words refused_streams refused_files forbidden_files host_faults pipes each_call progress many)
 for part in "${parts[@]}"; do
+    usual=("$dtx")
     . "$top/checks/black_box/$part.sh"
 done
 

@@ -11,20 +11,8 @@ room=$(mktemp -d) || exit 1
 trap 'rm -rf "$room"' EXIT
 cd "$room" || exit 1
 export PATH=$top:$PATH MPLCONFIGDIR=$room/matplotlib
-passed=0
-failed=0
-
-# holds WHAT COMMAND..: it passes where the command does.
-holds() {
-    local what=$1
-    shift
-    if "$@" >said 2>&1; then
-        passed=$((passed + 1))
-    else
-        failed=$((failed + 1))
-        printf 'FAILED: %s: %s\n' "$what" "$(head -n 3 said)"
-    fi
-}
+. "$top/checks/counting.sh"
+said=said
 
 # drawn NAME: both forms are there, of a size that fits a page, and the drawing is not empty.
 drawn() {
@@ -78,5 +66,4 @@ for python in python3 /usr/bin/python3; do
     fi
 done
 [[ $drawn ]] || echo 'left out: the pictures: install python3-matplotlib'
-printf 'pictures: %d passed, %d failed\n' "$passed" "$failed"
-((failed == 0))
+counts pictures

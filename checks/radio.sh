@@ -15,20 +15,8 @@ if ! find_gnuradio; then
     echo 'radio: 0 passed, 0 failed'
     exit 0
 fi
-passed=0
-failed=0
-
-# holds WHAT COMMAND..: it passes where the command does.
-holds() {
-    local what=$1
-    shift
-    if "$@" >said 2>&1; then
-        passed=$((passed + 1))
-    else
-        failed=$((failed + 1))
-        printf 'FAILED: %s: %s\n' "$what" "$(tail -n 3 said)"
-    fi
-}
+. "$top/checks/counting.sh"
+said=said
 
 # comes_back LEAST LINE: at least so many are right, and none is wrong.
 comes_back() {
@@ -66,5 +54,4 @@ holds 'words of no number' refused modulate.py out --send kept/tx-7.sym kept/tx-
 holds 'a log without a preset' refused modulate.py out --send kept/tx-7.sym kept/said 0 0 0
 holds 'too few samples' refused demodulate.py 8e6 kept/tx-7.log out
 holds 'symbols without a field sync' refused equalize.py kept/back.ts out
-printf 'radio: %d passed, %d failed\n' "$passed" "$failed"
-((failed == 0))
+counts radio

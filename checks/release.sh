@@ -10,20 +10,7 @@ top=$(cd "$(dirname "${BASH_SOURCE[0]}")/.." && pwd) || exit 1
 cd "$top" || exit 1
 . ./build || exit 1
 find_sources dtx
-passed=0
-failed=0
-
-# holds WHAT COMMAND..: it passes where the command does.
-holds() {
-    local what=$1
-    shift
-    if "$@"; then
-        passed=$((passed + 1))
-    else
-        failed=$((failed + 1))
-        printf 'FAILED: %s\n' "$what"
-    fi
-}
+. checks/counting.sh
 
 # The line of the kit, the checksum of each source, and that of the program.
 are_told() {
@@ -49,5 +36,4 @@ else
     holds 'the released program does not do what the black box asks' does_the_same
     echo "left out: that the program of this kit is release/dtx, byte for byte: that was $(head -n 1 release/sources | cut -c 3-)"
 fi
-printf 'release: %d passed, %d failed\n' "$passed" "$failed"
-((failed == 0))
+counts release

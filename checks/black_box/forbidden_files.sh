@@ -4,9 +4,9 @@
 if ((EUID == 0)); then
     cp "$binary" "$room/program"
     chmod 755 "$room/program"
-    program=(setpriv --reuid=65534 --regid=65534 --clear-groups "$room/program")
+    usual=(setpriv --reuid=65534 --regid=65534 --clear-groups "$room/program")
 fi
-if [[ $("${program[@]}" 2>/dev/null) == "$usage" ]]; then
+if [[ $("${usual[@]}" 2>/dev/null) == "$usage" ]]; then
     start 'an output in a folder that may not be written'
     mkdir shut
     chmod 555 shut
@@ -51,7 +51,6 @@ if [[ $("${program[@]}" 2>/dev/null) == "$usage" ]]; then
     chmod 000 changes.toml
     run 11 'read fault' hurt ../inputs/given.ts changes.toml out.ts
     leaves changes.toml
-    program=("$dtx")
 else
     left_out 'files that another user may not use, since root could not become nobody' 'util-linux, or run it as another user'
 fi

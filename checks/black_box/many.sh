@@ -50,7 +50,6 @@ in_many() {
     run 0 "packets $(($(stat -c %s "$room/many/one.ts") / 188))" "$1" ../many/one.sym all.ts
     same one sym log ts
     leaves all.sym all.log all.ts
-    program=("$dtx")
 }
 
 # network_in_many: a network, and its files by one process.
@@ -58,7 +57,6 @@ network_in_many() {
     program=("$many/network.sh")
     run 0 "tx-7 $(cat "$room/many/one.line")
 tx-9 $(cat "$room/many/one.line")" ../many/net.toml ../many/made.ts 7:1000 9:2000
-    program=("$dtx")
     rm -rf "$room/many/net"
     mkdir "$room/many/net"
     (cd "$room/many/net" && "$dtx" net ../net.toml >"$room/many.said") || wrong 'the network is not done'
@@ -139,13 +137,11 @@ start 'pieces of a feed with few orders'
 program=("$many/excite.sh")
 run 0 "$(cat "$room/many/sparse.line")" 7 ../many/sparse.feed 7 1000 all.sym all.log
 same sparse sym log
-program=("$dtx")
 
 start 'pieces of symbols whose last field is short'
 program=("$many/receive.sh")
 run 0 "packets $(($(stat -c %s "$room/many/short.ts") / 188))" 9 ../many/short.sym all.ts
 same short ts
-program=("$dtx")
 
 # fails_in_pieces STATUS LINE COMPLAINT WORD..: the script, given the words, ends with the status, prints that, and leaves nothing.
 fails_in_pieces() {

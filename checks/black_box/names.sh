@@ -49,5 +49,4 @@ start 'the launcher by a link'
 ln -s "$dtx" linked
 program=(./linked)
 run 0 'packets 3 filled 0 loose 0' adapt "$plan" ../inputs/given.ts out.ts
-program=("$dtx")
 holds out.ts 3

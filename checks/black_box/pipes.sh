@@ -1,6 +1,6 @@
 # Inputs that are pipes, and what else is read once: what comes of them is what comes of files.
 
-program=(timeout 60 "$dtx")
+usual=(timeout 60 "$dtx")
 again='dtx: an input is a pipe that was read before: what it gave can'\''t be read again'
 overlap='dtx: an output is a file that is read, or another output, under another name'
 
@@ -135,7 +135,6 @@ start 'standard input that is a socket'
 program=(timeout 60 python3 "$top/checks/black_box/by_socket.py" ../inputs/given.ts "$dtx")
 run 0 'packets 625 segments 626 loose 0' code /dev/stdin out.sym
 coded_front 625
-program=(timeout 60 "$dtx")
 
 start 'process substitution, for inputs and an output'
 mkfifo done
@@ -208,13 +207,11 @@ run 124 '' code in.ts out.sym
 exec 9>&-
 (($(stat -c %s out.sym) >= 143360)) || wrong 'the first symbols did not come'
 is_begun out.sym "$room/long.sym"
-program=(timeout 60 "$dtx")
 
 start 'a terminal as an input'
 program=(timeout 20 python3 "$top/checks/black_box/terminal.py" shown '' 1 "$dtx")
 run 0 'packets 0 segments 0 loose 6' code TERMINAL out.sym
 leaves shown out.sym
-program=(timeout 60 "$dtx")
 
 # ---- Pipes that are named twice ----
 
@@ -266,5 +263,3 @@ long_stream | (
     exec "$dtx" code /dev/stdin /dev/null >"$room/said" 2>"$room/complaint"
 )
 is_said 0 'packets 600000 segments 601924 loose 0' $?
-
-program=("$dtx")

@@ -7,7 +7,6 @@ on_terminal() {
     shift 4
     program=(timeout 30 python3 "$top/checks/black_box/terminal.py" "$room/shown" out.sym "$streams" "$dtx")
     run "$status" "$line" "$@"
-    program=("$dtx")
     tr '\r' '@' <"$room/shown" >"$room/legible"
     printf '%s' "$(cat "$room/legible")" | grep -Eqx "$shown" || wrong "the terminal showed '$(cat "$room/legible")'"
     cmp -s out.sym.taken "$room/long.sym" || wrong 'other symbols came through the pipe'
@@ -37,5 +36,4 @@ start 'short work on a terminal says nothing there'
 program=(timeout 30 python3 "$top/checks/black_box/terminal.py" "$room/shown" '' 1 "$dtx")
 run 0 'packets 3000 segments 3010 loose 0' code ../inputs/long.ts out.sym
 run 4 'absent missing.ts' code missing.ts out.sym
-program=("$dtx")
 [[ ! -s $room/shown ]] || wrong "the terminal showed '$(cat "$room/shown")'"
