@@ -1,5 +1,7 @@
 pub mod AllowedFileLemmas
 pub mod AnswersLemmas
+mod DamagedLemmas
+pub mod FilePacketsLemmas
 pub mod NumbersLemmas
 pub mod OfWordsLemmas
 pub mod PerformedLemmas

@@ -1,5 +1,7 @@
 pub mod Answers
 pub mod Combine
+pub mod Damaged
+pub mod DamagedLaws
 pub mod Job
 pub mod OfWords
 pub mod PlanFile

@@ -4,6 +4,7 @@
 
 mod changing;
 mod combining;
+mod damaged;
 mod plan_file;
 mod shapes;
 mod transforming;
@@ -11,6 +12,7 @@ mod transmitting;
 
 pub use changing::Changing;
 pub use combining::{Combining, combine};
+pub use damaged::Damaged;
 pub use plan_file::{changes_in, plan_in};
 pub use shapes::{
     CODED_PACKETS, PIECE_BYTES, PIECE_SEGMENTS, coded_packets, packets, segments, single_bytes,

@@ -4,7 +4,7 @@ use Rattle.dtx_plan.specs.declared.damage.Damage.{Damage}
 use Rattle.dtx_make.specs.Hurt.{hurt}
 use Rattle.dtx_engine.specs.Recipe.{meaning_of_file}
 use Rattle.dtx_forms.specs.Shapes.{segments}
-use Rattle.dtx_packet_jobs.specs.Damaged.{damaged_making}
+use Rattle.dtx_forms.specs.Damaged.{damaged_making}
 use Rattle.dtx_jobs.proofs.GivenLemmas.{all_damaged_given, all_given}
 use Rattle.dtx_jobs.specs.Receive.{receiving, with_corrections, received_of}
 use Rattle.dtx_jobs.specs.ReceiveLaws.{corrections_given}

@@ -17,7 +17,7 @@ use Rattle.dtx_sizes.specs.Fields.{field_place}
 use Rattle.dtx_sizes.specs.declared.fields.FieldPlace.{FieldPlace}
 use Rattle.dtx_packets.proofs.PacketLemmas.{packets_of-append}
 use Rattle.dtx_packets.specs.Packets.{packets_from, packets_of}
-use Rattle.dtx_packet_jobs.proofs.PacketFileLemmas.{front_of, length-packets_of}
+use Rattle.dtx_forms.proofs.FilePacketsLemmas.{front_of, length-packets_of}
 use Rattle.dtx_jobs.specs.Symbols.{symbol_bytes, in_groups}
 
 -- ---- a group

@@ -25,7 +25,7 @@ use Rattle.dtx_engine.specs.Made.{only, outputs_of}
 use Rattle.dtx_engine.specs.Recipe.{first_refused, meaning_of_file}
 use Rattle.dtx_forms.proofs.AllowedFileLemmas.{all_read, none_found}
 use Rattle.dtx_forms.specs.Shapes.{single_packets}
-use Rattle.dtx_packet_jobs.proofs.PacketFileLemmas.{length-packets_of}
+use Rattle.dtx_forms.proofs.FilePacketsLemmas.{length-packets_of}
 use Rattle.dtx_jobs.specs.Watch.{watched_bytes, waiting_bytes, count_of, watch_tally, watch_numbers, watch_answer}
 use Rattle.dtx_jobs.specs.Watch.{watching, one_ops, one_slip, one_jump, slips_of, jumps_of, one_unread, one_stray}
 use Rattle.dtx_jobs.proofs.WatchLemmas.{same_numbers}

@@ -1,6 +1,5 @@
-//! The commands of one stream or file, one call each. Those that code a stream, or read a feed or symbols, stand here:
-//! each a job, whose meaning is a function of words and files, and an engine that makes it. The others are offered
-//! again from `dtx_packet_jobs`.
+//! The commands that code a stream, or read a feed or symbols, one call each. Each has a job, whose meaning is a
+//! function of words and files, and an engine that makes what it means.
 #![tactic(auto)]
 
 mod acquire_command;
@@ -28,7 +27,6 @@ mod watching;
 
 pub use acquire_command::acquire;
 pub use code_command::code;
-pub use dtx_packet_jobs::{adapt, dvb_code, dvb_read, hurt, make, place};
 pub use excite_command::excite;
 pub use mend_command::mend;
 pub use receive_command::receive;

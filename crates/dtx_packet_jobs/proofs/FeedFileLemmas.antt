@@ -20,7 +20,8 @@ use Rattle.dtx_adapter.specs.Feed.{as_feed_packet, fed_packet, feed}
 use Rattle.dtx_adapter.proofs.FeedsLemmas.{length-feed, feed_packet}
 use Rattle.dtx_adapter.proofs.PagesLemmas.{page_has_place}
 use Rattle.dtx_packet_jobs.specs.Feed.{feed_bytes}
-use Rattle.dtx_packet_jobs.proofs.PacketFileLemmas.{IsLong, packets_of-bytes, whole_packets-bytes}
+use Rattle.dtx_forms.proofs.FilePacketsLemmas.{IsLong}
+use Rattle.dtx_packet_jobs.proofs.PacketFileLemmas.{packets_of-bytes, whole_packets-bytes}
 
 long-spelling : (f : Ops) (counter sync : ℕ) → length f.offsets.items ≤ most_of f.paging
     → IsLong (spelling f counter sync)

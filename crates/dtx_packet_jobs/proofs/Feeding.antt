@@ -13,7 +13,7 @@ use Rattle.dtx_packets.proofs.PacketLemmas.{packets_of-append, whole_packets-app
 use Rattle.dtx_packets.specs.Packets.{packets_of, whole_packets}
 use Rattle.dtx_packet_jobs.specs.Adapt.{feeding}
 use Rattle.dtx_packet_jobs.specs.Feed.{feed_bytes, HasFed, IsCounted}
-use Rattle.dtx_packet_jobs.proofs.PacketFileLemmas.{length-packets_of}
+use Rattle.dtx_forms.proofs.FilePacketsLemmas.{length-packets_of}
 use Rattle.dtx_packet_jobs.specs.declared.feeder.Feeder.{Feeder}
 use Rattle.dtx_packet_jobs.proofs.PacketBytes.{front_put}
 use borrow.Rule.Slice.PartMut.{put_mid}

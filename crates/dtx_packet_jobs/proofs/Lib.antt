@@ -1,5 +1,4 @@
 mod AnswersLemmas
-mod DamagedLemmas
 pub mod FeedFileLemmas
 pub mod PacketFileLemmas
 pub mod DvbBack

@@ -1,17 +1,13 @@
--- Packets of 188 bytes each as the bytes of a file, and the packets of a file.
-use Rattle.std.proofs.Common.{◌≡◌, ℕ, zero, suc, ◌+◌, ◌-◌, ◌*◌, ◌<◌, ◌≤◌, List, [], ◌∷◌, ◌++◌, length, get_or}
+-- Packets of 188 bytes each as the bytes of a file.
+use Rattle.std.proofs.Common.{◌≡◌, ℕ, zero, suc, ◌+◌, ◌*◌, ◌<◌, List, [], ◌∷◌, ◌++◌, length, get_or}
 use Rattle.std.proofs.Common.{take, drop, refl, sym, ap, ◌∙◌, arith}
 use Rattle.std.specs.List.{All}
-use Rattle.std.proofs.lemmas.List.{take_at, drop_at, drop-drop, length-append, length-drop, length-take-le}
-use Rattle.std.proofs.lemmas.List.Elements.{All-from_get_or, All-head, All-tail}
-use Rattle.std.proofs.lemmas.List.FromFn.{fill_by_all, get_or-map-range_with_len, length-map-range_with_len}
-use Rattle.dtx_packets.proofs.PacketLemmas.{packets_from-append}
+use Rattle.std.proofs.lemmas.List.{take_at, drop_at, drop-drop, length-append}
+use Rattle.std.proofs.lemmas.List.Elements.{All-head, All-tail}
+use Rattle.std.proofs.lemmas.List.FromFn.{fill_by_all}
 use Rattle.dtx_packets.specs.Packets.{packet_at, packets_from, packets_of, whole_packets}
+use Rattle.dtx_forms.proofs.FilePacketsLemmas.{IsLong}
 use Rattle.dtx_packet_jobs.specs.Feed.{bytes_of_packets}
-
--- a packet has 188 bytes
-abbrev pub IsLong : List ℕ → Type 0
-IsLong packet = length packet ≡ 188
 
 pub length-bytes_of_packets : (packets : List (List ℕ)) → All IsLong packets
     → length (bytes_of_packets packets) ≡ 188 * length packets
@@ -47,21 +43,3 @@ packets_of-bytes packets long =
     ap (packets_from file 0) (whole_packets-bytes packets long)
     ∙ sym (fill_by_all (packet_at file) packets (length packets) [] refl
     (λ k within. sym (packet_at-bytes packets k long within)))
-
-pub length-packets_of : (file : List ℕ) → length (packets_of file) ≡ whole_packets file
-length-packets_of file = length-map-range_with_len (packet_at file) 0 (whole_packets file)
-
-pub long-packets_of : (file : List ℕ) → All IsLong (packets_of file)
-long-packets_of file = All-from_get_or IsLong (packets_of file) [] (λ k within.
-    let below : k < whole_packets file = omega (arith, within, length-packets_of file) in
-    ap (λ (p : List ℕ). length p) (get_or-map-range_with_len (packet_at file) 0 (whole_packets file) k k [] below
-    (omega arith))
-    ∙ length-take-le 188 (drop (188 * k) file) (omega (arith, below, length-drop (188 * k) file)))
-
--- the first packets of a file
-pub front_of : (file : List ℕ) (m : ℕ) → m ≤ whole_packets file → take m (packets_of file) ≡ packets_from file 0 m
-front_of file m within =
-    let rest : m + (whole_packets file - m) ≡ whole_packets file = omega (arith, within) in
-    ap (take m) (ap (packets_from file 0) (sym rest) ∙ packets_from-append file 0 m (whole_packets file - m))
-    ∙ take_at (packets_from file 0 m) (packets_from file (0 + m) (whole_packets file - m)) m
-    (length-map-range_with_len (packet_at file) 0 m)

@@ -1,7 +1,5 @@
 pub mod Adapt
 pub mod AnswersLaws
-pub mod Damaged
-pub mod DamagedLaws
 pub mod DvbBack
 pub mod DvbCode
 pub mod DvbCodeLaws

@@ -4,7 +4,6 @@
 #![tactic(auto)]
 
 mod adapt_command;
-mod damaged;
 mod dvb_code_command;
 mod dvb_coding;
 mod dvb_read_command;
@@ -21,7 +20,6 @@ mod place_command;
 mod placing;
 
 pub use adapt_command::adapt;
-pub use damaged::Damaged;
 pub use dvb_code_command::dvb_code;
 pub use dvb_read_command::dvb_read;
 pub use feeder::Feeder;

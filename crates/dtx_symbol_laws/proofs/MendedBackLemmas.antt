@@ -36,7 +36,8 @@ use Rattle.dtx_meaning.specs.declared.status.Outcome.{Outcome}
 use Rattle.dtx_engine.specs.Made.{only, outputs_of}
 use Rattle.dtx_engine.specs.Recipe.{meaning_of_file}
 use Rattle.dtx_forms.specs.Shapes.{segments}
-use Rattle.dtx_packet_jobs.proofs.PacketFileLemmas.{IsLong, length-bytes_of_packets, packets_of-bytes}
+use Rattle.dtx_forms.proofs.FilePacketsLemmas.{IsLong}
+use Rattle.dtx_packet_jobs.proofs.PacketFileLemmas.{length-bytes_of_packets, packets_of-bytes}
 use Rattle.dtx_jobs.proofs.GivenLemmas.{all_given, sync_answered}
 use Rattle.dtx_jobs.specs.Giving.{Giving, IsGiving, answer_of, bytes_of}
 use Rattle.dtx_jobs.proofs.GivingLemmas.{flat_bytes}

@@ -12,7 +12,7 @@ use Rattle.dtx_engine.specs.Made.{only, outputs_of}
 use Rattle.dtx_engine.specs.Recipe.{meaning_of_file}
 use Rattle.dtx_files.specs.Symbols.{segment_bytes}
 use Rattle.dtx_forms.specs.Shapes.{segments}
-use Rattle.dtx_packet_jobs.proofs.PacketFileLemmas.{length-packets_of}
+use Rattle.dtx_forms.proofs.FilePacketsLemmas.{length-packets_of}
 use Rattle.dtx_jobs.specs.Soft.{count_from, field_sum, has_group, in_groups, place_at, soft_symbols, softening}
 use Rattle.dtx_jobs.proofs.StreamBackLemmas.{length-symbol_bytes, stream_read_back}
 use Rattle.dtx_jobs.specs.SymbolFile.{whole_segments}

@@ -9,7 +9,7 @@ ghost use Rattle.dtx_receiver.specs.Intervals.{AreRuns, NoneLooks};
 ghost use Rattle.dtx_meaning.specs.Status.{ended};
 ghost use Rattle.dtx_engine.specs.Recipe.{meaning_of_file};
 ghost use Rattle.dtx_forms.specs.Shapes as shapes;
-ghost use Rattle.dtx_packet_jobs.specs.Damaged.{damaged_making};
+ghost use Rattle.dtx_forms.specs.Damaged.{damaged_making};
 ghost use Rattle.dtx_jobs.specs.Giving.{given_until};
 ghost use Rattle.dtx_jobs.specs.Receive.{IsWritten, receive_answer, received_bytes, receiving, with_corrections};
 ghost use Rattle.dtx_jobs.specs.Receive.{received_of};

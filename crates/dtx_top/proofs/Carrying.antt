@@ -6,7 +6,7 @@ use Rattle.std.specs.FinMap.{get}
 use Rattle.std.proofs.lemmas.Bool.{cond-false}
 use Rattle.dtx_engine.specs.Recipe.{Recipe, meaning}
 use Rattle.dtx_engine.specs.declared.engine.Shape.{Shape}
-use Rattle.dtx_packet_jobs.specs.Damaged.{damaged_making}
+use Rattle.dtx_forms.specs.Damaged.{damaged_making}
 use Rattle.dtx_packet_jobs.specs.PastEnd.{first_past}
 use Rattle.dtx_jobs.specs.Receive.{receiving}
 use Rattle.dtx_forms.specs.Shapes.{segments}

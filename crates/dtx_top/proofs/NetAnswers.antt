@@ -15,7 +15,7 @@ use Rattle.dtx_words.specs.declared.rows.Command.TheVariants.{Receive}
 use Rattle.dtx_forms.specs.Answers.{Knows}
 use Rattle.dtx_forms.proofs.OfWordsLemmas.{refusal_of_input}
 use Rattle.dtx_forms.specs.PlanFile.{IsPlanRefusal}
-use Rattle.dtx_packet_jobs.specs.Damaged.{damaged_making}
+use Rattle.dtx_forms.specs.Damaged.{damaged_making}
 use Rattle.dtx_packet_jobs.specs.PastEnd.{ends_past, first_past}
 use Rattle.dtx_jobs.specs.AnswersLaws.{receive_knows}
 use Rattle.dtx_jobs.specs.Receive.{receiving}

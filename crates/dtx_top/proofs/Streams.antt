@@ -8,7 +8,7 @@ use Rattle.std.proofs.lemmas.List.Elements.{All-from_get_or}
 use Rattle.std.proofs.lemmas.List.FromFn.{get_or-map-range_with_len}
 use Rattle.dtx_engine.specs.Recipe.{first_refused, unit_at, whole_units}
 use Rattle.dtx_galois.specs.Field.{AreBytes}
-use Rattle.dtx_packet_jobs.proofs.PacketFileLemmas.{length-packets_of, long-packets_of}
+use Rattle.dtx_forms.proofs.FilePacketsLemmas.{length-packets_of, long-packets_of}
 use Rattle.dtx_forms.specs.Shapes.{packets}
 use Rattle.dtx_network.specs.Plans.{IsStream}
 use Rattle.dtx_packets.specs.Packets.{packet_at, packets_of, whole_packets}

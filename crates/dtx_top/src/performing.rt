@@ -5,12 +5,10 @@ ghost use Rattle.dtx_top.specs.Ends.{IsCommandPerformed};
 use crate::net_command::{NetOutcome, net};
 use crate::trial_command::trial;
 use arrayvec::ArrayString;
-use dtx_jobs::{
-    acquire, adapt, code, dvb_code, dvb_read, excite, hurt, make, mend, place, receive, repeat,
-    soft, watch,
-};
+use dtx_jobs::{acquire, code, excite, mend, receive, repeat, soft, watch};
 use dtx_meaning::{Outcome, Status, ended};
 use dtx_outside::{Shelf, Word};
+use dtx_packet_jobs::{adapt, dvb_code, dvb_read, hurt, make, place};
 use dtx_words::Command;
 use std::alloc::Global;
 

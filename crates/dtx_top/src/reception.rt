@@ -2,7 +2,7 @@
 ghost use Rattle.std.specs.Prelude.{◌≡◌, [], ◌∷◌, ℕ, List, Some, IfSome, length, slice_index};
 ghost use Rattle.std.specs.FinMap as files;
 ghost use Rattle.dtx_engine.specs.Recipe.{meaning};
-ghost use Rattle.dtx_packet_jobs.specs.Damaged.{damaged_making};
+ghost use Rattle.dtx_forms.specs.Damaged.{damaged_making};
 ghost use Rattle.dtx_packet_jobs.specs.PastEnd as past;
 ghost use Rattle.dtx_jobs.specs.Receive.{receiving};
 ghost use Rattle.dtx_forms.specs.Shapes as shapes;
@@ -16,10 +16,11 @@ ghost use Rattle.dtx_top.specs.NetAnswers.{IsOfReplay};
 ghost use Rattle.dtx_top.specs.NetMeaning.{received_past};
 
 use dtx_engine::{Input, carry_to_one};
+use dtx_forms::Damaged;
 use dtx_jobs::Reception;
 use dtx_meaning::{Outcome, Status, ended};
 use dtx_outside::Shelf;
-use dtx_packet_jobs::{Damaged, first_past};
+use dtx_packet_jobs::first_past;
 use dtx_plan::ReceivePlan;
 use dtx_receiver::Receiver;
 use dtx_words::{received_name, symbol_name};

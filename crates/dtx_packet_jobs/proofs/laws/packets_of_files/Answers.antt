@@ -1,4 +1,4 @@
-use Rattle.dtx_packet_jobs.proofs.PacketFileLemmas.{length-packets_of, long-packets_of}
+use Rattle.dtx_forms.proofs.FilePacketsLemmas.{length-packets_of, long-packets_of}
 use Rattle.dtx_packet_jobs.proofs.laws.packets_of_files.Goals as goal
 
 pub returns-clause-long : goal.returns-clause-long

@@ -21,7 +21,8 @@ use Rattle.dtx_words.specs.Fitting.{command_of}
 use Rattle.dtx_words.specs.declared.rows.Command.{Command}
 use Rattle.dtx_words.specs.declared.rows.Command.TheVariants.{Watch}
 use Rattle.dtx_packet_jobs.specs.Feed.{bytes_of_packets}
-use Rattle.dtx_packet_jobs.proofs.PacketFileLemmas.{IsLong, length-bytes_of_packets, packets_of-bytes}
+use Rattle.dtx_forms.proofs.FilePacketsLemmas.{IsLong}
+use Rattle.dtx_packet_jobs.proofs.PacketFileLemmas.{length-bytes_of_packets, packets_of-bytes}
 use Rattle.dtx_packet_jobs.proofs.PacketFileLemmas.{whole_packets-bytes}
 use Rattle.dtx_forms.specs.Shapes.{single_packets}
 use Rattle.dtx_jobs.specs.Watch.{watching}

@@ -2,7 +2,7 @@ use Rattle.std.proofs.Common.{ℕ, List, ap, ap₂, sym, subst, ◌∙◌, arith
 use Rattle.dtx_packets.proofs.PacketLemmas.{packets_of-append}
 use Rattle.dtx_packets.specs.Packets.{packets_of}
 use Rattle.dtx_engine.specs.Made.{Made}
-use Rattle.dtx_packet_jobs.proofs.PacketFileLemmas.{length-packets_of}
+use Rattle.dtx_forms.proofs.FilePacketsLemmas.{length-packets_of}
 use Rattle.dtx_jobs.specs.Excitation.{IsLife}
 use Rattle.dtx_jobs.specs.Excite.{excited}
 use Rattle.dtx_jobs.specs.declared.life_tally.LifeTally.{LifeTally}

@@ -3,7 +3,7 @@ use Rattle.std.proofs.lemmas.List.{length-append}
 use Rattle.dtx_packets.specs.Packets.{packets_of}
 use Rattle.dtx_coder.specs.Groups.{StandsFor}
 use Rattle.dtx_engine.specs.Made.{only}
-use Rattle.dtx_packet_jobs.proofs.PacketFileLemmas.{length-packets_of}
+use Rattle.dtx_forms.proofs.FilePacketsLemmas.{length-packets_of}
 use Rattle.dtx_jobs.proofs.CodeLemmas.{symbols_whole}
 use Rattle.dtx_jobs.specs.Symbols.{symbol_bytes}
 use Rattle.dtx_jobs.proofs.StreamSymbols.{all_in_groups, groups_of_piece}

@@ -8,7 +8,7 @@ use Rattle.dtx_watch.specs.declared.notes.Note.{Note}
 use Rattle.dtx_meaning.specs.declared.status.Outcome.{Outcome}
 use Rattle.dtx_meaning.specs.declared.status.Status.TheVariants.{Done}
 use Rattle.dtx_engine.specs.Made.{only}
-use Rattle.dtx_packet_jobs.proofs.PacketFileLemmas.{length-packets_of}
+use Rattle.dtx_forms.proofs.FilePacketsLemmas.{length-packets_of}
 use Rattle.dtx_jobs.specs.Watch.{watch_tally, watch_numbers}
 use Rattle.dtx_jobs.specs.Watching.{tally_with}
 use Rattle.dtx_jobs.proofs.WatchLemmas.{has_room, tally_parts, waiting_is}

@@ -2,7 +2,7 @@ use Rattle.std.proofs.Common.{◌≡◌, ◌+◌, ◌*◌, ◌%◌, ◌&&◌, �
 use Rattle.std.proofs.lemmas.Bool.{cond-true, cond-false}
 use Rattle.dtx_packets.specs.Packets.{packets_of}
 use Rattle.dtx_packet_jobs.specs.Place.{IsCounted, as_placeholder, becomes}
-use Rattle.dtx_packet_jobs.proofs.PacketFileLemmas.{length-packets_of}
+use Rattle.dtx_forms.proofs.FilePacketsLemmas.{length-packets_of}
 use Rattle.dtx_packet_jobs.proofs.PlacedBytes.{packets_of-next}
 use Rattle.dtx_packet_jobs.proofs.PlacedCounts.{one_if}
 use Rattle.dtx_packet_jobs.proofs.PlacedTally.{IsMet, bare_most, becomes_met, counted_met, placed_most, some_bare}

@@ -1,6 +1,6 @@
 use Rattle.std.proofs.Common.{subst, sym}
 use Rattle.dtx_make.proofs.LaidLemmas.{hurt_none}
-use Rattle.dtx_packet_jobs.proofs.damaged.Damaged.new.Goals as goal
+use Rattle.dtx_forms.proofs.damaged.Damaged.new.Goals as goal
 
 pub returns-clause-fresh : goal.returns-clause-fresh
 returns-clause-fresh g c = (

@@ -1,7 +1,7 @@
 use Rattle.std.proofs.Common.{◌∙◌}
 use Rattle.dtx_make.specs.Hurt.{hurt}
 use Rattle.dtx_make.proofs.LaidLemmas.{length-hurt}
-use Rattle.dtx_packet_jobs.proofs.damaged.DamagedEngine.finish.Goals as goal
+use Rattle.dtx_forms.proofs.damaged.DamagedEngine.finish.Goals as goal
 
 pub finish-requires : goal.finish-requires
 finish-requires g c =

@@ -6,7 +6,7 @@ use Rattle.dtx_engine.specs.Recipe.{Recipe}
 use Rattle.dtx_make.specs.Hurt.{hurt, damaged_bytes}
 use Rattle.dtx_make.proofs.LaidLemmas.{hurt-append, hurt_none, length-hurt}
 use Rattle.dtx_plan.specs.declared.damage.Damage.{Damage}
-use Rattle.dtx_packet_jobs.specs.Damaged.{damaged_making}
+use Rattle.dtx_forms.specs.Damaged.{damaged_making}
 
 -- of no bytes nothing is made
 pub hurt_starts : (damage : List Damage) (recipe : Recipe) → recipe.made [] ≡ only []

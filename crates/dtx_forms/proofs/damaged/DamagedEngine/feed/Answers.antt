@@ -3,8 +3,8 @@ use Rattle.dtx_engine.specs.Recipe.{IsFed}
 use Rattle.dtx_engine.specs.declared.engine.Shape.{Shape}
 use Rattle.dtx_make.specs.Hurt.{hurt, damaged_bytes}
 use Rattle.dtx_make.proofs.LaidLemmas.{length-hurt}
-use Rattle.dtx_packet_jobs.proofs.DamagedLemmas.{hurt_fed}
-use Rattle.dtx_packet_jobs.proofs.damaged.DamagedEngine.feed.Goals as goal
+use Rattle.dtx_forms.proofs.DamagedLemmas.{hurt_fed}
+use Rattle.dtx_forms.proofs.damaged.DamagedEngine.feed.Goals as goal
 
 pub feed-requires-clause-given : goal.feed-requires-clause-given
 feed-requires-clause-given g c =

@@ -1,7 +1,7 @@
 // Damage that is laid over an input as it is read.
 ghost use Rattle.std.specs.Prelude.{◌≡◌, []};
 ghost use Rattle.dtx_make.specs.Hurt.{AreInOrder};
-ghost use Rattle.dtx_packet_jobs.specs.Damaged.{damaged_making};
+ghost use Rattle.dtx_forms.specs.Damaged.{damaged_making};
 
 use dtx_engine::{Engine, Shape};
 use dtx_make::lay;
@@ -30,7 +30,7 @@ impl<'a, E: Engine> Damaged<'a, E> {
 impl<E: Engine> Engine for Damaged<'_, E> {
     ghost use Rattle.std.specs.Prelude.{List, ℕ};
     ghost use Rattle.dtx_make.specs.Hurt.{AreInOrder, hurt};
-    ghost use Rattle.dtx_packet_jobs.specs.DamagedLaws.{hurt_starts, hurt_grows};
+    ghost use Rattle.dtx_forms.specs.DamagedLaws.{hurt_starts, hurt_grows};
 
     ghost shape = { E.shape };
 

@@ -5,7 +5,7 @@ use Rattle.dtx_engine.specs.Recipe.{Recipe, IsFed}
 use Rattle.dtx_make.specs.Hurt.{hurt, damaged_bytes}
 use Rattle.dtx_make.proofs.LaidLemmas.{hurt-append}
 use Rattle.dtx_plan.specs.declared.damage.Damage.{Damage}
-use Rattle.dtx_packet_jobs.specs.Damaged.{damaged_making}
+use Rattle.dtx_forms.specs.Damaged.{damaged_making}
 
 -- damaged bytes were given behind others
 pub hurt_fed : (damage : List Damage) (recipe : Recipe) (given bytes : List ℕ) (stands : List ℕ → Type 0) (gives : Made)

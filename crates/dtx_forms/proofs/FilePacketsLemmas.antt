@@ -1,0 +1,31 @@
+-- Lemmas of the packets of a file.
+use Rattle.std.proofs.Common.{◌≡◌, ℕ, ◌+◌, ◌-◌, ◌*◌, ◌<◌, ◌≤◌, List, [], length, get_or}
+use Rattle.std.proofs.Common.{take, drop, sym, ap, ◌∙◌, arith}
+use Rattle.std.specs.List.{All}
+use Rattle.std.proofs.lemmas.List.{take_at, length-drop, length-take-le}
+use Rattle.std.proofs.lemmas.List.Elements.{All-from_get_or}
+use Rattle.std.proofs.lemmas.List.FromFn.{get_or-map-range_with_len, length-map-range_with_len}
+use Rattle.dtx_packets.proofs.PacketLemmas.{packets_from-append}
+use Rattle.dtx_packets.specs.Packets.{packet_at, packets_from, packets_of, whole_packets}
+
+-- a packet has 188 bytes
+abbrev pub IsLong : List ℕ → Type 0
+IsLong packet = length packet ≡ 188
+
+pub length-packets_of : (file : List ℕ) → length (packets_of file) ≡ whole_packets file
+length-packets_of file = length-map-range_with_len (packet_at file) 0 (whole_packets file)
+
+pub long-packets_of : (file : List ℕ) → All IsLong (packets_of file)
+long-packets_of file = All-from_get_or IsLong (packets_of file) [] (λ k within.
+    let below : k < whole_packets file = omega (arith, within, length-packets_of file) in
+    ap (λ (p : List ℕ). length p) (get_or-map-range_with_len (packet_at file) 0 (whole_packets file) k k [] below
+    (omega arith))
+    ∙ length-take-le 188 (drop (188 * k) file) (omega (arith, below, length-drop (188 * k) file)))
+
+-- the first packets of a file
+pub front_of : (file : List ℕ) (m : ℕ) → m ≤ whole_packets file → take m (packets_of file) ≡ packets_from file 0 m
+front_of file m within =
+    let rest : m + (whole_packets file - m) ≡ whole_packets file = omega (arith, within) in
+    ap (take m) (ap (packets_from file 0) (sym rest) ∙ packets_from-append file 0 m (whole_packets file - m))
+    ∙ take_at (packets_from file 0 m) (packets_from file (0 + m) (whole_packets file - m)) m
+    (length-map-range_with_len (packet_at file) 0 m)
