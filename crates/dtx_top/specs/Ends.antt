@@ -76,10 +76,10 @@ inputs_among [] = zero
 inputs_among (Input ∷ fields) = suc (inputs_among fields)
 inputs_among (field ∷ fields) = inputs_among fields
 
--- Words that fit a command are never answered `Usage`. They are answered `Same` where two of the command's file names
--- are equal, unless memory is wanted, and only there; an input that isn't there is one that the words name; and each
--- refusal is one that the command knows. Of `net`, whose plan names further files, an input that isn't there is one of
--- the four that it reads; of `trial`, whose words name no file, one of the three that it reads.
+-- Words that fit a command are never answered `Usage`. They are answered `Same` only where two of the command's file
+-- names are equal, and there always unless memory runs out. An input that isn't there is one that the words name, and
+-- each refusal is one that the command knows. Of `net`, whose plan names further files, an input that isn't there is
+-- one of the four that it reads. Of `trial`, whose words name no file, it is one of the three that it reads.
 abbrev pub IsByWords : Option Command → List (List ℕ) → Status → Type 0
 IsByWords None words status = (status ≡ Usage) ⊎ (status ≡ Memory)
 IsByWords (Some Net) words status = IsOfNetwork status
@@ -100,9 +100,9 @@ IsOfCommand (Some command) words status = IsOfJob (job_of command) words status
 
 -- ---- a command, but for its line
 
--- A command was performed, but for its line, in which this name stands where the words don't say which. Where the
--- files are told, what the words mean was carried out, a network came so far, and the headline holds where it is done;
--- whether they are told or not, the answer is one that the words allow, and the counts have gone with it.
+-- A command was performed, but for its line, in which this name stands where the words don't say which. Where the files
+-- are told, what the words mean was carried out, a network came so far, and the headline holds where it is done.
+-- Whether they are told or not, the answer is one that the words allow, and the counts have gone with it.
 pub record IsCommandPerformed (command : Option Command) (words : List (List ℕ)) (outcome : Outcome) (kept : List ℕ)
     (told now : Option Files) (before after : Counts) : Type 0 where
   pub carried : IfSome told (λ held. IsCarriedOut (means_of command words held) (Some held) outcome now)

@@ -18,8 +18,8 @@ abbrev pub HasDamage : Option ReceivePlan → Type 0
 HasDamage None = ⊥
 HasDamage (Some receiver) = receiver.damage ≢ []
 
--- The same where the plan is read and no two names are equal, of what is received: then an input that isn't there is no
--- plan; and damage ends behind the symbols only where there is some.
+-- The same of what is received, where the plan is read and no two names are equal. Then an input that isn't there is no
+-- plan, and damage ends behind the symbols only where there is some.
 abbrev pub IsOfReplay : Option ReceivePlan → Status → Type 0
 IsOfReplay receive Usage = ⊥
 IsOfReplay receive Same = ⊥
