@@ -26,9 +26,9 @@ pub fn more_is_acquired_of_more()
         × (acquired_so_far scale (symbols ++ more) ≡ acquired_so_far scale symbols ++ others) }
 {}
 
-/// An error below half the distance of two levels moves nothing, at every scale: of segments as they are sent, from a
-/// field's first on, each symbol may be received as any that differs from the scale times it by less than the scale,
-/// and what is acquired is what was sent.
+/// An error below half the distance of two levels moves nothing, at every scale. Take segments as they are sent, from a
+/// field's first on. Each symbol may be received as any that differs from the scale times it by less than the scale:
+/// what is acquired is what was sent.
 pub fn a_small_error_moves_nothing()
     ensures { (scale : ℕ) (sent : List (List ℤ)) (symbols : List ℤ) → 0 < scale → AreSent sent
         → AreNear scale (flat_map (λ segment. segment) sent) symbols → acquired scale symbols ≡ sent }

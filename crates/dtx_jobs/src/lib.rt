@@ -1,5 +1,5 @@
-//! The commands of one stream or file, one call each. Those that code a stream, or read a feed or symbols, stand here:
-//! each a job, whose meaning is a function of words and files, and an engine that makes it. The others are offered
+//! The commands of one stream or file, one call each. Those that code a stream, or read a feed or symbols, stand here.
+//! Each is a job, whose meaning is a function of words and files, and an engine that makes it. The others are offered
 //! again from `dtx_packet_jobs`.
 #![tactic(auto)]
 
