@@ -40,8 +40,9 @@ pub record IsMarkOf (packets : List (List ℕ)) (m : ℕ) : Type 0 where
   pub is_mark : sync_of (slice_index_or packets m []) ≡ 0xB8
 
 -- An exciter that was given this life is locked to the feed from the place of a mark on, and was given the feed from
--- there up to packet n. Before that either it was locked to nothing. Or it was locked to a mark in step with it, and an
--- order of the feed stands 52 or more packets behind that place, and before the last group that it was given.
+-- there up to packet n. Before that either it was locked to nothing, or it was locked to a mark in step with it. In the
+-- second case an order of the feed stands 52 or more packets behind that place, and before the last group that it was
+-- given.
 pub record IsLockedTo (feed life : List (List ℕ)) (n : ℕ) : Type 0 where
   pub before : List (List ℕ)
   pub mark : ℕ

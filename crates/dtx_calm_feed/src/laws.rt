@@ -87,9 +87,9 @@ pub fn all_send_the_same()
         → data_of (last_segments a delay_a life_a) ≡ data_of (last_segments b delay_b life_b) }
 {}
 
-/// Let the first order of a calm feed tell the states that the coders of some stream have there, the feed being what
-/// stands behind some whole frames of the stream. Then each order of a whole group tells them. The feed's own data
-/// segments are those of the stream (ATSC A/53 Part 2).
+/// Let a calm feed be what stands behind some whole frames of a stream, and let its first order tell the states that
+/// the stream's coders have there. Then each order of a whole group tells them. The feed's own data segments are those
+/// of the stream (ATSC A/53 Part 2).
 pub fn calm_feeds_are_as_coded()
     ensures states { (packets : List (List ℕ)) (m g : ℕ) (first : Order) (ops : Ops) → IsCalmFeed (drop m packets)
         → m % 624 ≡ 0 → IsFirstOrder (drop m packets) first

@@ -113,8 +113,8 @@ impl<'a> Outlet for One<'a> {
     ghost part = { λ w start made now is. part_of_one w.name.now start made w.output now is };
 }
 
-/// How many bytes are gathered for each of two outputs: few, since the whole pages of a large piece go to its file at
-/// once, and only the rest of a page waits.
+/// How many bytes are gathered for each of two outputs. These are few: the whole pages of a large piece go to its file
+/// at once, and only the rest of a page waits.
 const GATHERED: usize = 16_384;
 
 /// Two outputs of two names.

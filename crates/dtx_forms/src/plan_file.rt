@@ -13,8 +13,8 @@ use dtx_outside::{Shelf, fill};
 use dtx_plan::{Damages, Plan, read_changes, read_plan};
 use std::alloc::{AllocError, Global};
 
-/// How many bytes of a plan or a file of changes are read: one more than such a file may have, so that a file that is
-/// too long is told from one that isn't.
+/// How many bytes of a plan or a file of changes are read. It is one more than such a file may have, so that a file
+/// that is too long is told from one that isn't.
 const SMALL: usize = 16_777_217;
 
 /// How many bytes of it are read at once.

@@ -30,12 +30,12 @@ pub fn is_given_the_feed()
 }
 
 /// A repeater that hears a feed, with slight damage, sends exactly the main transmitter's symbols (ATSC A/53 Part 2).
-/// Its first listing is the first group, received whole, one of whose operations packets lists its address, and that
-/// begins late enough: 52 or more packets behind the first mark at or behind the packet that follows the first field
-/// sync. Its segments are those of the feed from the first data segment of that group on to the last data segment of
-/// the last group received whole, and no other. Its log has one preset line, with the moment at its offset, for each of
-/// these groups that holds an operations packet, and no other line. Where there is no such listing, it sends no segment
-/// and logs no line.
+/// Its first listing is the first group, received whole, one of whose operations packets lists its address and that
+/// begins late enough. Late enough is 52 or more packets behind the first mark at or behind the packet that follows the
+/// first field sync. Its segments are those of the feed from the first data segment of that group on to the last data
+/// segment of the last group received whole, and no other. Its log has one preset line, with the moment at its offset,
+/// for each of these groups that holds an operations packet, and no other line. Where there is no such listing, it
+/// sends no segment and logs no line.
 pub fn repeats()
     ensures segments { (plan : Plan) (stream : List (List ℕ)) (t : Transmitter) (delay first k : ℕ)
         (sent got : List (List ℤ)) → Hears plan stream t delay first sent got

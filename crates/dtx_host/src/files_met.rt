@@ -36,7 +36,7 @@ impl<F: Write + Drop> Met<F> {
     }
 
     /// Notes what was found where it was looked for. It fails where the file was not begun, or is another one, or not
-    /// as long as what was added to it: then another file has come under its name, or someone else writes to it.
+    /// as long as what was added to it. Then another file has come under its name, or someone else writes to it.
     pub(crate) fn note_seen(&mut self, found: &Found) -> Result<(), WriteNo> {
         match self.added {
             Some(added) if self.is_as_found(found, added) => {
@@ -104,8 +104,8 @@ impl<F: Write + Drop> FilesMet<F> {
     }
 
     /// Keeps a file in mind that is to be read from byte `place` on. It fails where another file was met under its
-    /// name, where it was not there when earlier bytes were read, or has become shorter: what is read would not be of
-    /// one file.
+    /// name, where it was not there when earlier bytes were read, or has become shorter. Else what is read would not be
+    /// of one file.
     pub(crate) fn note_read(
         &mut self,
         name: &str,

@@ -89,8 +89,8 @@ IsOfInput number Same = ⊥
 IsOfInput number (Absent input) = input ≡ number
 IsOfInput number _ = Unit {0}
 
--- An answer of so many inputs where the words fit, and whether two names are equal is given: `Same` where they are, or
--- want of memory, and only there; and an input that isn't there is one of them.
+-- An answer of so many inputs where the words fit, and whether two names are equal is given. Where they are, it is
+-- `Same` or out of memory, and `Same` comes only there. An input that isn't there is one of these inputs.
 abbrev pub IsOfInputs : Bool → ℕ → Status → Type 0
 IsOfInputs same inputs Usage = ⊥
 IsOfInputs same inputs Same = same ≡ true

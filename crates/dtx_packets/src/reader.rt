@@ -107,8 +107,9 @@ impl PacketReader {
         }
     }
 
-    /// Puts the next whole packets at the front of the places, read at once, and answers how many they are: as many as
-    /// there are places, as the limit still allows and as are left. It is 0 where fewer than 188 bytes are left.
+    /// Puts the next whole packets at the front of the places, read at once, and answers how many they are. They are as
+    /// many as there are places, as the limit still allows and as are left. It is 0 where fewer than 188 bytes are
+    /// left.
     ///
     /// It refuses as `next` does. Where it answers 0 or refuses, the places are as they were.
     pub fn next_many<S: Shelf>(

@@ -6,8 +6,8 @@ use crate::key::PlanKey;
 use crate::rule::PlanRule;
 use std::alloc::{AllocError, AllocFailed};
 
-/// The first refusal of the walk over a plan: the key of its row, the number of the entry, from 0 and 0 where there is
-/// no entry, and the rule that is broken.
+/// The first refusal of the walk over a plan: the key of its row, the number of the entry, and the rule that is broken.
+/// Entries are counted from 0, and the number is 0 where there is no entry.
 #[derive(Clone, Copy, PartialEq, Eq)]
 pub struct PlanNo {
     pub key: PlanKey,

@@ -27,7 +27,7 @@ pub record IsPlayedSoFar (ts : List Transmitter) (steps : List Step) (held : Fil
   pub playing : IsPlayout ts playout steps
   pub files : now ≡ with_outputs (played_outputs ts steps) (Some held)
 
--- The first of these steps are done, and at most one more is under way: each file of a transmitter has all that those
+-- The first of these steps are done, and at most one more is under way. Each file of a transmitter has all that those
 -- give, and no more than that one gives too.
 pub record IsUnderWay (ts : List Transmitter) (steps : List Step) (held : Files) (now : Option Files) : Type 0 where
   pub done : List Step
@@ -86,8 +86,8 @@ pub record IsPieceCount (count : ℕ) (into : List packet.Packet) (n : ℕ) : Ty
   pub fits : n ≤ length into
   pub within : n ≤ count
 
--- what giving the first packets of a part, which begins with a packet of the feed, leaves: so many more are given; or a
--- fault was met while one of all packets of the part was
+-- What giving the first packets of a part leaves, which begins with a packet of the feed. So many more are given. Or an
+-- I/O error or lack of memory was met while one of all packets of the part was given.
 abbrev pub IsGivenOf : List Transmitter → List Step → ℕ → List ℕ → ℕ → ℕ → Files → Result ℕ Status → Playout
     → Option Files → Type 0
 IsGivenOf ts before who feed from count held (Ok n) playout now =

@@ -42,8 +42,8 @@ pub(crate) struct SquareGaps<T> {
     pub(crate) odd_tied: T,
 }
 
-/// Of the gaps of a symbol's squares and of the potentials behind it: the sum of the even ones, or 0 where it is more,
-/// the lesser of the even ones, and the same of the odd ones.
+/// Of the gaps of a symbol's squares and of the potentials behind it. There is the sum of the even ones, or 0 where it
+/// is more, the lesser of the even ones, and the same of the odd ones.
 #[derive(Drop)]
 struct Terms {
     even_sum: i16,

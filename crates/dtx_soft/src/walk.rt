@@ -116,7 +116,7 @@ fn follow(table: &Table, symbols: &[i8], start: u8, potentials: &[[u32; 4]], lev
     }
 }
 
-/// For each state which of the two pairs of levels that may follow it is to be taken: bits 2, 0, 3 and 1 are for states
+/// For each state which of the two pairs of levels that may follow it is to be taken. Bits 2, 0, 3 and 1 are for states
 /// 0 to 3, which is the order in which a vector has them.
 #[inline(always)]
 fn taken(row: &Nearest, behind: &[u32; 4]) -> u8

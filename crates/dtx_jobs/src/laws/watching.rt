@@ -13,8 +13,8 @@ ghost use Rattle.dtx_jobs.specs.WatchedFeed.{IsWatchedCalmly, tally_of_text, wat
 use dtx_sizes::MOST_PACKETS;
 
 /// Of a file with no more packets than may be, what is told of all of them is written. The numbers of the line are
-/// those of that text. As many of its lines begin with `ops` as the line says, as many of them have the word `slip` and
-/// the word `jump` at its place, and as many begin with `unread` and with `stray`. So it is of the text of any notes.
+/// those of that text. As many of its lines begin with `ops`, with `unread` and with `stray` as the line says. As many
+/// of them have the word `slip` and the word `jump` at its place. So it is of the text of any notes.
 pub fn all_is_watched()
     ensures written { (names : List (List ℕ)) (file : List ℕ) → whole_packets file ≤ MOST_PACKETS
         → meaning_of_file shapes.single_packets watching names file ≡ watched_of names file }

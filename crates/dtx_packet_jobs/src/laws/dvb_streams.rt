@@ -40,9 +40,9 @@ pub fn all_is_read()
         → meaning_of_file shapes.blocks dvb_reading names bytes ≡ read_until names bytes }
 {}
 
-/// What is read of what was sent of a stream whose packets begin with 0x47, with at most eight wrong bytes in each word
-/// that is gathered, are its packets but the last eleven, none of them flagged. So it is of the bytes as they were
-/// sent.
+/// Let a stream have packets that begin with 0x47, and let what was sent of it have at most eight wrong bytes in each
+/// word that is gathered. What is read of it are its packets but the last eleven, none of them flagged. So it is of the
+/// bytes as they were sent.
 pub fn streams_come_back()
     ensures damaged { (names : List (List ℕ)) (stream bytes : List ℕ) → whole_packets stream ≤ MOST_PACKETS
         → ArePackets (packets_of stream) → IsSlight (packets_of stream) bytes
