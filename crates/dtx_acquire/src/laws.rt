@@ -20,7 +20,7 @@ pub fn all_is_acquired()
         → acquired_so_far scale symbols ++ acquired_rest scale symbols ≡ acquired scale symbols }
 {}
 
-/// What is acquired of first symbols, whatever follows, is a front part of what is acquired of more.
+/// What is acquired of first symbols, whatever follows, is a prefix of what is acquired of more.
 pub fn more_is_acquired_of_more()
     ensures { (scale : ℕ) (symbols more : List ℤ) → (others : List (List ℤ))
         × (acquired_so_far scale (symbols ++ more) ≡ acquired_so_far scale symbols ++ others) }

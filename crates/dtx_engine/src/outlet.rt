@@ -16,7 +16,7 @@ pub trait Outlet {
     /// Their names, in the order in which they are begun.
     ghost names: { Self → List (List ℕ) };
 
-    /// Since the start this was given to be written: each file has a front part of its bytes, and the value the rest.
+    /// Since the start this was given to be written: each file has a prefix of its bytes, and the value the rest.
     ghost gathered: { Self → Option Files → Made → Option Files → Type 0 };
 
     /// Nothing was given, and the names differ.

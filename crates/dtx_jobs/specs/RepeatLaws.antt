@@ -20,7 +20,7 @@ use Rattle.dtx_jobs.specs.Repeat.{sent_in, repeating}
 use Rattle.dtx_jobs.specs.SymbolFile.{file_segments}
 use Rattle.dtx_jobs.specs.SymbolFileLaws.{file_segments-append}
 
--- what lives make is a front part of what longer lives make
+-- what lives make is a prefix of what longer lives make
 abbrev pub Fronts : ℕ → ℕ → List (List (List ℕ)) → List (List (List ℕ)) → Type 0
 Fronts a d before after = AreFrontsOf (sent_in a d before) (sent_in a d after)
 

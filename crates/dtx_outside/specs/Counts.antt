@@ -23,7 +23,7 @@ Rose before now = now < last_count → before < now
 pub data Blame : Type 0 where
   -- nothing: no refusal was met
   Nothing : Blame
-  -- want of memory, which no count tells, maybe after a refusal that one tells
+  -- out of memory, which no count tells, maybe after a refusal that one tells
   Wanting : Blame
   -- a file to be read wasn't there
   Missing : Blame

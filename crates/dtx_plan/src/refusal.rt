@@ -1,4 +1,4 @@
-// Why a plan is refused: the key, the entry and the rule, or want of memory.
+// Why a plan is refused: the key, the entry and the rule, or out of memory.
 ghost use Rattle.std.specs.Prelude.{◌≡◌};
 ghost use Rattle.dtx_plan.specs.declared.refusal.PlanFault.TheVariants.{Memory};
 
@@ -29,7 +29,7 @@ impl PlanNo {
 pub enum PlanFault {
     /// A rule of the walk is broken.
     No(PlanNo),
-    /// Memory is wanted.
+    /// Out of memory.
     Memory,
 }
 

@@ -27,7 +27,7 @@ pub struct Repeater {
 
 impl Repeater {
     /// The repeater of the transmitter with this address, to which the feed takes `delay` ticks of 100 ns. It received
-    /// nothing and was given nothing. Only want of memory is refused.
+    /// nothing and was given nothing. The only error is out of memory.
     pub fn new(alloc: Global, address: u16, delay: u32) -> Result<Repeater, AllocError>
         ensures { IfOk result (λ repeater. StandsFor address delay repeater [] []) }
     {

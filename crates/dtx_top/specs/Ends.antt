@@ -25,9 +25,9 @@ use Rattle.dtx_top.specs.NetAnswers.{IsOfNetWords, IsOfNetwork, ShowsNetwork}
 use Rattle.dtx_top.specs.NetProgress.{HasProgress}
 use Rattle.dtx_top.specs.Trial.{HasTrialHeadline, HasTrialProgress}
 
--- The cause of an answer, of the counts of the shelf and of that of the sink. On `Done` all stand, so no fault was met.
--- `WriteFault` is also answered where the line of `Done` could not be printed; want of memory may be met behind a
--- fault.
+-- The cause of an answer, of the counts of the shelf and of that of the sink. On `Done` all stand, so no I/O error was
+-- met. `WriteFault` is also answered where the line of `Done` could not be printed. Memory may run out behind an I/O
+-- error.
 abbrev pub HasCause : Status → Counts → Counts → ℕ → ℕ → Type 0
 HasCause Done before now first last = (now ≡ before) × (last ≡ first)
 HasCause (Absent input) before now first last = Rose before.misses now.misses
@@ -45,12 +45,12 @@ pub record HasEnded (before now : Counts) (first last : ℕ) (status : Status) :
   pub faults : first ≤ last
   pub cause : HasCause status before now first last
 
--- All was done, whether or not its line could be printed: where no fault of writing is counted, `WriteFault` speaks of
+-- All was done, whether or not its line could be printed: where no error of writing is counted, `WriteFault` speaks of
 -- the line alone.
 abbrev pub IsAllDone : Status → Counts → Counts → Type 0
 IsAllDone status before now = (status ≡ Done) ⊎ ((status ≡ WriteFault) × ¬ Rose before.write_faults now.write_faults)
 
--- no fault was counted, of reading, of writing, or of printing
+-- no I/O error was counted, of reading, of writing, or of printing
 pub record IsFaultless (before now : Counts) (first last : ℕ) : Type 0 where
   pub reading : ¬ Rose before.read_faults now.read_faults
   pub writing : ¬ Rose before.write_faults now.write_faults
