@@ -1,4 +1,4 @@
-//! Laws of the definitions: undamaged symbols are one run, and its packets are those that were sent; a word with few
+//! Laws of the definitions. Undamaged symbols are one run, and its packets are those that were sent. A word with few
 //! wrong bytes gives its packet back.
 
 ghost use Rattle.std.specs.Prelude.{◌≡◌, ℕ, ℤ, ◌≢◌, ◌+◌, ◌*◌, ◌/◌, ◌%◌, ◌<◌, ◌≤◌, Bool, true, false, List, [], ◌∷◌};
@@ -20,8 +20,8 @@ ghost use Rattle.dtx_chain.specs.Undamaged.{ArePackets, as_sent, whole_words, as
 
 use dtx_sizes::{FIELD_PACKETS, FIELD_SEGMENTS, GROUP_PACKETS, PACKET};
 
-/// The undamaged symbols of packets that make at least one whole group are received as one run. Each packet whose bytes
-/// are all there comes back, in order, with 0x47 as its sync byte; none is flagged, and no byte was put right.
+/// Each packet whose bytes are all there comes back, in order, with 0x47 as its sync byte. None is flagged, and no byte
+/// was put right.
 pub fn received_undamaged()
     ensures run { (packets : List (List ℕ)) → GROUP_PACKETS ≤ length packets → runs (a53 packets) ≡ a53 packets ∷ [] }
     ensures good { (packets : List (List ℕ)) → GROUP_PACKETS ≤ length packets → ArePackets packets

@@ -175,7 +175,7 @@ pub fn same_everywhere()
 
 // ---- several pages
 
-/// A transmitter without an entry in force is told so at an order exactly where all pages were told; else nothing is
+/// A transmitter without an entry in force is told so at an order exactly where all pages were told. Else nothing is
 /// answered there, and it waits for its page. All are told exactly where, for each of the order in force's pages, some
 /// order tells it and each one from there on has this number of pages.
 pub fn pages()

@@ -20,8 +20,8 @@ use Rattle.dtx_jobs.specs.declared.watch_tally.WatchTally.{WatchTally}
 
 -- ---- the numbers of the line, by the text
 
--- The tally of the text of what is told of so many packets. It counts the lines that begin with the word `ops`, those
--- that have the word `slip` or `jump` at its place behind that, and those that begin with `unread` and with `stray`.
+-- The tally of the text of what is told of so many packets. It counts the lines that begin with `ops`, `unread` and
+-- `stray`. It counts those that have the word `slip` or `jump` at its place.
 abbrev pub tally_of_text : ℕ → List ℕ → WatchTally
 tally_of_text packets text = record {
   packets = packets;

@@ -81,8 +81,8 @@ impl PacketReader {
 
     /// The next whole packet, or `None` where fewer than 188 bytes are left.
     ///
-    /// It refuses with `TooLong` where as many packets as the limit were given and another whole one is there, and
-    /// otherwise as the shelf refuses.
+    /// It refuses with `TooLong` where as many packets as the limit were given and another whole one is there.
+    /// Otherwise it refuses as the shelf does.
     pub fn next<S: Shelf>(&mut self, shelf: &mut S, name: &str) -> Result<Option<Packet>, NextNo>
         ensures told { IfSome (S.files shelf.old) (λ held. IsNext (map.get held name.now) self.old result self.new) }
 

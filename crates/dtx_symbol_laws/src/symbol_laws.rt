@@ -26,9 +26,9 @@ pub fn segments_in_pieces()
     ensures count { (file : List ℕ) → length (file_segments file) ≡ whole_segments file }
 {}
 
-/// Of a file with no more segments than are received all packets are written; so of the damaged bytes, where damage is
-/// laid over them. Of a file with more that is the answer, and what the first ones give while they come is written, as
-/// many as may be.
+/// Of a file with no more segments than are received all packets are written. So it is of the damaged bytes, where
+/// damage is laid over them. Where a file has more, that is the answer, and what the first ones give while they come is
+/// written, as many as may be.
 pub fn all_is_received()
     ensures plain { (names : List (List ℕ)) (file : List ℕ) → whole_segments file ≤ MOST_SEGMENTS
         → meaning_of_file shapes.segments receiving names file ≡ received_of names file (length file % 832) }

@@ -16,7 +16,7 @@ use Rattle.dtx_top.specs.Trial.{trial_names}
 
 -- ---- which line
 
--- the file names of a command: those among its words; of `net` also those that its plan gives; those of a trial
+-- The file names of a command: those among its words, or those of a trial. Of `net` also those that its plan gives.
 abbrev pub names_told : Option Command → List (List ℕ) → Files → List (List ℕ)
 names_told (Some Net) words held = net_names words held
 names_told (Some Trial) words held = trial_names

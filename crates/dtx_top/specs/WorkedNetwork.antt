@@ -41,7 +41,7 @@ pub record IsGivenBack (plan : Plan) (network : NetPlan) (stream : List (List �
       (file_segments (damaged_file plan network stream receiver))
 
 -- Two transmitters of a network, of different addresses, join the feed of a stream. What `Follows` says is said of
--- both, their moments of the group from packet g on are apart, and the one is given back; no premise is left.
+-- both. Their moments of the group from packet g on are apart, and the one is given back. No premise is left.
 pub record WorkedNetwork (plan : Plan) (network : NetPlan) (stream : List (List ℕ)) (g entries : ℕ) : Type 0 where
   pub one : Joined plan stream network.events
   pub other : Joined plan stream network.events

@@ -87,9 +87,9 @@ pub fn files_of_a_network_under_way()
 {}
 
 /// A simple network meets what the headline asks of transmitters, symbols and damage, with little damage and without.
-/// Two transmitters of at most 35, of different addresses and in time, are given the whole feed of a stream. The stream
-/// has 372 packets or more, and a placeholder in the group from packet 100 on. Nothing else is done, and the first
-/// transmitter is received.
+/// It has at most 35 transmitters. Two of them, of different addresses and in time, are given the whole feed of a
+/// stream. The stream has 372 packets or more, and a placeholder in the group from packet 100 on. Nothing else is done,
+/// and the first of the two is received.
 ///
 /// Take the files of such a network of which the headline holds, as it does where the command `net` is done. There
 /// `net.ts` has exactly the packets of the feed from the stretch's first field sync on whose bytes are all there, in

@@ -35,8 +35,8 @@ pub const STREAM_NAME: usize = 255;
 pub struct NetOutcome {
     /// How it ended.
     pub outcome: Outcome,
-    /// The name in its line, where it isn't the word PLAN itself: one that is repeated, or that of an input but the
-    /// plan; else nothing.
+    /// The name in its line, where it isn't the word PLAN itself. It is one that is repeated, or that of an input but
+    /// the plan, or else nothing.
     pub name: ArrayString<STREAM_NAME>,
 }
 

@@ -109,9 +109,9 @@ pub fn run<S: Shelf, O: Sink>(alloc: Global, words: &[Word], shelf: &mut S, out:
         (Rose (O.faults out.old) (O.faults out.new)) (O.written out.old) (O.written out.new) }
 
     // Also where the files are not told: what the words alone say of the answer. `Usage` comes only where they fit no
-    // command. `Same` comes only where two names are equal, and there always unless memory runs out; but `net` has
-    // names that its plan tells. An input that isn't there is one that the words name, or one of the four that `net`
-    // reads or of the three that `trial` reads. Each refusal is one that the command knows.
+    // command. `Same` comes only where two names are equal, and there always unless memory runs out. Of `net`, whose
+    // plan gives names too, the words don't say so. An input that isn't there is one that they name, or one of the four
+    // that `net` reads or the three that `trial` reads. Each refusal is one that the command knows.
     ensures words { IsByWords (command_of words.now) words.now result }
 
     // How far a network came, whatever the answer. One number of steps says it of the files of all transmitters, which
@@ -135,7 +135,7 @@ pub fn run<S: Shelf, O: Sink>(alloc: Global, words: &[Word], shelf: &mut S, out:
     finish(performed.outcome.status, printed)
 }
 
-/// The name in the line: among the words; of a network the one that it keeps; of a trial that of its file.
+/// The name in the line: one among the words, that which a network keeps, or that of a trial's file.
 fn name_of<'a>(command: Option<Command>, words: &'a [Word], performed: &'a NetOutcome) -> &'a str
     ensures { result.now ≡ name_kept command words.now performed.now.outcome.status performed.now.name.bytes }
 {

@@ -18,7 +18,7 @@ pub fn placing_twice()
 {}
 
 /// Where a field's packets from place 52 on hold a null packet or a placeholder, there is a placeholder among them in
-/// what is placed; and in no other field.
+/// what is placed. In no other field is there one.
 pub fn fields_with_one()
     ensures { (packets : List (List ℕ)) (field : ℕ)
         → list_any is_placeholder (behind (placed packets) field) ≡ list_any is_open (behind packets field) }

@@ -33,9 +33,9 @@ pub fn all_is_mended()
 {}
 
 /// The three answers of `mend` that a file's content decides, each with its cause. Where the file has more segments
-/// than are received, it is too long. Then what the first ones give while they come is written, as many as may be: a
-/// prefix of what all give, and as many packets as `receive` writes then. Else, where no segment looks like a field
-/// sync, that is the answer, and OUT is empty. Where one does, all is done.
+/// than are received, it is too long. Then what the first ones give while they come is written, as many as may be. It
+/// is a prefix of what all give, and as many packets as `receive` writes then. Else, where no segment looks like a
+/// field sync, that is the answer, and OUT is empty. Where one does, all is done.
 pub fn mending_answers()
     ensures too_long { (names : List (List ℕ)) (file : List ℕ) → MOST_SEGMENTS < whole_segments file
         → meaning_of_file shapes.segments mending_symbols names file ≡ mended_until names file }
