@@ -31,7 +31,7 @@ pub record Leaves (holding : Holding) (symbols : List ℤ) (done : List Field) :
   pub segments_are : holding.segments ≡ length (restored_of holding.scale done)
   pub cost_is : holding.cost ≡ cost_of holding.scale done
 
--- The acquirer holds what these symbols leave: all of which it is known what they give was given, and one field and one
+-- The acquirer holds what these symbols leave. All of which it is known what they give was given, and one field and one
 -- segment are not yet held.
 pub record StandsFor (holding : Holding) (symbols : List ℤ) : Type 0 where
   pub few : length holding.held < 261248

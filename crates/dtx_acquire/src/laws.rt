@@ -34,9 +34,9 @@ pub fn a_small_error_moves_nothing()
         → AreNear scale (flat_map (λ segment. segment) sent) symbols → acquired scale symbols ≡ sent }
 {}
 
-/// What is acquired is whole segments, of which those are field syncs that 313 divides, and the others data segments,
-/// so that each sync looks like one. Each field but the last gives 313 segments or none, so each run but the last gives
-/// a multiple of 313. Where there is no run there is no segment, and only there.
+/// What is acquired is whole segments. Those whose number 313 divides are field syncs, and the others data segments, so
+/// that each sync looks like one. Each field but the last gives 313 segments or none, so each run but the last gives a
+/// multiple of 313. Where there is no run there is no segment, and only there.
 pub fn whole_fields_are_acquired()
     ensures segments { (scale : ℕ) (symbols : List ℤ) → 0 < scale → AreInFields (acquired scale symbols) }
     ensures fields { (symbols : List ℤ) (front : List Field) (field next : Field) (back : List Field)

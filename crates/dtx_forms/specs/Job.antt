@@ -10,8 +10,8 @@ use Rattle.dtx_words.specs.declared.rows.Command.{Command}
 use Rattle.dtx_forms.specs.Answers.{Knows}
 use Rattle.dtx_forms.specs.OfWords.{IsOfWords}
 
--- which command it is, what words mean, whether two of its file names are equal, where the words fit, and nothing where
--- they don't, and how many inputs they name
+-- which command it is, what words mean, whether two of its file names are equal (nothing where the words don't fit),
+-- and how many inputs they name
 pub record Job : Type 0 where
   pub command : Command
   pub means : List (List ℕ) → Files → Meaning

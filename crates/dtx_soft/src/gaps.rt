@@ -1,5 +1,5 @@
-//! The walk from the end of the symbols to their begin, of all lanes side by side. It keeps only how the least costs of
-//! the four states differ.
+//! The walk from the end of the symbols to their beginning, of all lanes side by side. It keeps only how the least
+//! costs of the four states differ.
 
 ghost use Rattle.std.specs.Prelude.{◌≡◌, ◌≢◌, ◌⊎◌, ℕ, ℤ, pos, neg_ℤ, ◌+◌, ◌*◌, ◌<◌};
 ghost use Rattle.std.specs.Prelude.{◌≤◌, ◌≤ℤ◌, ◌<ℤ◌, ◌+ℤ◌, ◌-ℤ◌, length};

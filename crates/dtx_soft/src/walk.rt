@@ -1,5 +1,5 @@
-//! The walk from the end of the symbols to their begin, which finds the least costs, and the walk on, which finds the
-//! least path (the Viterbi decoder).
+//! The walk from the end of the symbols to their beginning, which finds the least costs, and the walk on, which finds
+//! the least path (the Viterbi decoder).
 
 ghost use Rattle.std.specs.Prelude.{◌≡◌, ℕ, ◌+◌, ◌-◌, ◌*◌, ◌/◌, ◌%◌, ◌^◌, ◌<◌, ◌≤◌, ◌⊎◌};
 ghost use Rattle.std.specs.Prelude.{EachIndex, [], length, slice_index};

@@ -28,8 +28,8 @@ use Rattle.dtx_top.specs.Networks.{damaged_file}
 
 -- This receiver takes the symbols of the transmitter of this address, with that many entries of damage laid over them.
 -- What it takes is as long as the stretch from packet k to the end of the stream, and is that with slight damage, or
--- none. The stretch holds a field sync. One run is received, from the first one on: its packets whose bytes are all
--- there, in order, with 0x47 as their sync bytes, none flagged, and no other.
+-- none. The stretch holds a field sync. One run is received, from the first field sync on. It gives its packets whose
+-- bytes are all there, in order, with 0x47 as their sync bytes, none flagged, and no other.
 pub record IsGivenBack (plan : Plan) (network : NetPlan) (stream : List (List ℕ)) (address k entries : ℕ)
     (receiver : ReceivePlan) : Type 0 where
   pub from : receiver.from ≡ address

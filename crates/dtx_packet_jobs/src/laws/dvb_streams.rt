@@ -16,8 +16,8 @@ use dtx_meaning::Status;
 use dtx_sizes::MOST_PACKETS;
 
 /// All whole packets of a stream are sent, where they begin with 0x47 and are no more than may be. Where a packet among
-/// so many doesn't, the first of them is refused, and those before it are sent. Where all of so many do and the stream
-/// has more, it is too long, and so many are sent.
+/// so many doesn't begin so, the first such packet is refused, and those before it are sent. Where all of so many do
+/// and the stream has more, it is too long, and so many are sent.
 pub fn all_is_sent()
     ensures whole { (names : List (List ℕ)) (stream : List ℕ) → whole_packets stream ≤ MOST_PACKETS
         → HaveSyncs stream (whole_packets stream)
