@@ -39,8 +39,8 @@ pub(crate) fn seek(on: bool, held: &mut Held) -> bool
     }
 }
 
-/// What comes of a field behind which a segment is held. It says how many symbols are let go with it, how many of its
-/// segments are given, whether a sync is in front of what is behind, and whether a run would begin with that.
+/// What comes of a field behind which a segment is held: how many symbols are let go with it, and how many of its
+/// segments are given. Also whether a sync is in front of what is behind, and whether a run would begin with that.
 #[derive(Clone, Copy, Drop)]
 pub(crate) struct Step {
     pub(crate) count: usize,

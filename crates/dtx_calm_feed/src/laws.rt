@@ -104,9 +104,10 @@ pub fn calm_feeds_are_as_coded()
 {}
 
 /// The stamps of a calm feed follow each other. The stamp of an operations packet is later than that of the one before
-/// it by the length of the frames between the two, by one division, rounded down or up. The maximum delay is the same.
-/// The frames are those that the packets tell. So the moments that an exciter makes of the two at one offset differ by
-/// what is on the air between segments of these frames, but for less than a tick, and otherwise by whole seconds.
+/// it by the length of the frames between the two. That length is by one division, rounded down or up. The maximum
+/// delay is the same. The frames are those that the packets tell. So the moments that an exciter makes of the two at
+/// one offset differ by what is on the air between segments of these frames, up to less than a tick and some whole
+/// seconds.
 pub fn stamps_and_moments_follow()
     ensures stamps { (feed : List (List ℕ)) (k : ℕ) (before ops : Ops) → IsCalmFeed feed
         → ordered_at (readings feed) k ≡ Some ops → latest_before feed k ≡ Some before → Follows before ops }

@@ -80,8 +80,8 @@ line_end (preset n frame packet tick grain) = n + 4
 line_end (mute n why) = n
 line_end (restart n) = n
 
--- What stands around the packets of a feed in all lives of a transmitter: the lives before the one that is given them,
--- what that life is given before and behind them, and the lives behind it.
+-- What stands around the packets of a feed in all lives of a transmitter. There are the lives before the one that is
+-- given them, what that life is given before and behind them, and the lives behind it.
 pub record Around : Type 0 where
   pub lives_before : List (List (List ℕ))
   pub before : List (List ℕ)

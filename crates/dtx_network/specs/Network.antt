@@ -90,8 +90,8 @@ pub record AreApart (ticks : ℤ) (log log_other : List Line) (one other : Line)
 -- The headline.
 pub record Headline (plan : Plan) (stream : List (List ℕ)) (events : List Event) : Type 0 where
   -- Every transmitter that joins the feed, from any earlier state, emits exactly the feed's symbols in the stretch. A
-  -- run that begins at one of their field syncs gives the packets back whose bytes are all its own and lie in segments
-  -- of the stretch, with at most ten wrong bytes a word. The stretch alone does so too with slight damage.
+  -- run that begins at one of their field syncs gives packets back: those whose bytes are all its own and lie in
+  -- segments of the stretch, with at most ten wrong bytes a word. The stretch alone does so too with slight damage.
   pub follows : (x : Joined plan stream events) → Follows plan stream events x
   -- Any two of them log a preset of each group with an operations packet that both have. The moments of these two
   -- differ only by the offsets and some whole seconds.

@@ -117,11 +117,11 @@ pub fn stretch_of_a_feed()
         → stretch_of feed k end ≡ stretch feed k end }
 {}
 
-/// For every stream and all lives of a listed transmitter that is in time: one life is given the feed unchanged from a
-/// mark on, whatever it held before and holds behind. Then the transmitter emits exactly the feed's own segments from
-/// its first listing on. That is the first one that begins 52 or more packets behind the mark from which it is locked
-/// to the feed. In front of these segments stands what its earlier lives send and what this one sends before. Behind
-/// them stands what this one sends then and what its later lives send. The same holds of its lines.
+/// For every stream and all lives of a listed transmitter that is in time. Let one life be given the feed unchanged
+/// from a mark on, whatever it held before and holds behind. Then the transmitter emits exactly the feed's own segments
+/// from its first listing on. That is the first one that begins 52 or more packets behind the mark from which it is
+/// locked to the feed. In front of these segments stands what its earlier lives send and what this one sends before.
+/// Behind them stands what this one sends then and what its later lives send. The same holds of its lines.
 pub fn emits()
     ensures { (plan : Plan) (stream : List (List ℕ)) (t : Transmitter) (xs ys : List (List (List ℕ)))
         (life : List (List ℕ)) (mark n k : ℕ)
@@ -132,7 +132,7 @@ pub fn emits()
         (emission_over t.address t.delay (xs ++ life ∷ ys)) (log t.address t.delay 0 (xs ++ life ∷ ys)) }
 {}
 
-/// An exciter that is given a feed from its first packet on sends the feed's own segments (ATSC A/53 Part 2) from its
+/// An exciter is given a feed from its first packet on. It sends the feed's own segments (ATSC A/53 Part 2) from its
 /// first listing on that begins at packet 52 or later, and nothing before. Its whole log is the presets of the orders
 /// from there on. As long as no whole group that begins at packet 52 or later lists it, it sends and logs nothing. This
 /// holds whatever other pages it is told, since its own is still to come.

@@ -28,11 +28,11 @@ use std::alloc::Global;
 /// those of all data segments and field syncs that its whole groups of four packets give (ATSC A/53 Part 2). Byte 0 of
 /// its packets is 0x47 or the mark 0xB8, and isn't sent.
 ///
-/// `excite FEED ADDRESS DELAY OUT LOG` gives the packets of FEED, which are of any bytes, to one exciter. It writes the
-/// segments that the exciter sends to OUT, one signed byte a symbol in two's complement, and its log to LOG (the
-/// profile's own, over ATSC A/53 Part 2 and in the manner of ATSC A/110). ADDRESS is the transmitter's, 0 to 65,535.
-/// DELAY is for how many ticks of 100 ns the feed is on its way to it, 0 to 4,294,967,295. Both are written as the
-/// numbers of `make` are.
+/// `excite FEED ADDRESS DELAY OUT LOG` gives the packets of FEED, which are of any bytes, to one exciter (the profile's
+/// own, over ATSC A/53 Part 2 and in the manner of ATSC A/110). It writes the segments that the exciter sends to OUT,
+/// one signed byte a symbol in two's complement, and its log to LOG. ADDRESS is the transmitter's, 0 to 65,535. DELAY
+/// is for how many ticks of 100 ns the feed is on its way to it, 0 to 4,294,967,295. Both are written as the numbers of
+/// `make` are.
 ///
 /// `receive IN OUT` writes the packets of the symbols IN to OUT (ATSC A/53 Part 2, the way back). They are those of
 /// every run of segments that begins with one that looks like a field sync. Each has up to ten wrong bytes of its word
@@ -58,9 +58,9 @@ use std::alloc::Global;
 /// a network over them as `net` does (the profile's own). Three transmitters are given the feed, the third one behind
 /// 50 packets without a mark. The third one is received. COUNT is 624 to 1,000,000.
 ///
-/// `soft IN OUT` writes the segments of the symbols IN to OUT. In each field of a run the data symbols of its whole
-/// groups of four segments become those of the least path of each trellis coder, in the sum of the squares (ATSC A/53
-/// Part 2, trellis coding). All other segments stay.
+/// `soft IN OUT` writes the segments of the symbols IN to OUT, softened (ATSC A/53 Part 2, trellis coding). In each
+/// field of a run the data symbols of its whole groups of four segments become those of the least path of each trellis
+/// coder, in the sum of the squares. All other segments stay.
 ///
 /// `mend IN OUT` writes the packets of the symbols IN to OUT as `receive` does, where a symbol of -128 says that
 /// nothing was received there. Of each word up to e wrong bytes and f missing ones are put right, 2e + f being at most

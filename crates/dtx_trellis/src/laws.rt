@@ -10,8 +10,8 @@ ghost use Rattle.dtx_trellis.specs.Groups.{coder_after, level_at, levels_of, sta
 use dtx_sizes::GROUP_BYTES;
 
 /// The first data symbols of segments 0 to 4 of a field (ATSC A/53 Part 2, the table of byte to symbol conversion). The
-/// law says their coders, the bytes of the field on which these work, and which bits of the byte they take: 7 and 6, 5
-/// and 4, 3 and 2, 1 and 0, and 7 and 6 again.
+/// law says their coders, the bytes of the field on which these work, and which bits of the byte they take. The bits
+/// are 7 and 6, 5 and 4, 3 and 2, 1 and 0, and 7 and 6 again.
 pub fn first_symbols()
     ensures coders { coder_at 0 0 ∷ coder_at 0 828 ∷ coder_at 0 1656 ∷ coder_at 0 2484 ∷ coder_at
         (group_place 0 1) 0 ∷ [] ≡ 0 ∷ 4 ∷ 8 ∷ 0 ∷ 4 ∷ [] }

@@ -75,7 +75,7 @@ impl Watcher {
     }
 
     /// Is given one more packet, of any bytes. Sets the notes to what is told with it. Under an anchor a group's last
-    /// packet brings what is told of all four, and the others nothing, since what a packet's states are waits for its
+    /// packet brings what is told of all four, and the others nothing. For what a packet's states are waits for its
     /// group to be whole. Where there is no anchor each packet brings its own.
     pub fn take(&mut self, packet: &Packet, notes: &mut ArrayVec<Note, MOST_NOTES>)
         requires room { HasRoom self.old }
