@@ -64,8 +64,8 @@ pub struct One<'a> {
 }
 
 impl<'a> One<'a> {
-    /// The output of that name, of which nothing was given. It takes the memory of one piece. (Match its answer: `?`
-    /// gets no proof here.)
+    /// The output of that name, of which nothing was given. It takes the memory of one piece, and the only error is out
+    /// of memory. (Match its answer: `?` gets no proof here.)
     pub fn new(alloc: Global, name: &'a str) -> Result<One<'a>, AllocError>
         ensures { IfOk result (λ w. ⟦<One<'a> as Outlet>⟧.fresh w × (⟦<One<'a> as Outlet>⟧.names w ≡ name.now ∷ [])) }
     {
@@ -127,8 +127,8 @@ pub struct Two<'a> {
 }
 
 impl<'a> Two<'a> {
-    /// The outputs of these names, of which nothing was given. Little memory is taken. (Match its answer: `?` gets no
-    /// proof here.)
+    /// The outputs of these names, of which nothing was given. Little memory is taken, and the only error is out of
+    /// memory. (Match its answer: `?` gets no proof here.)
     pub fn new(alloc: Global, first: &'a str, second: &'a str) -> Result<Two<'a>, AllocError>
         requires { first.now ≢ second.now }
         ensures { IfOk result (λ w. ⟦<Two<'a> as Outlet>⟧.fresh w

@@ -37,14 +37,14 @@ pub struct Exciter {
 
 impl Exciter {
     /// The exciter of the transmitter with this address, to which the feed takes `delay` ticks of 100 ns. It was given
-    /// nothing.
+    /// nothing. The only error is out of memory.
     pub fn new(alloc: Global, address: u16, delay: u32) -> Result<Exciter, AllocError>
         ensures { IfOk result (λ exciter. StandsFor address delay exciter []) }
     {
         Exciter::sharing(alloc, &Tables::new(alloc)?, address, delay)
     }
 
-    /// The same, by tables that others may share.
+    /// The same, by tables that others may share. The only error is out of memory.
     pub fn sharing(
         alloc: Global,
         tables: &Tables,

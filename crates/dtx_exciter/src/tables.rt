@@ -20,7 +20,7 @@ impl Tables {
         })
     }
 
-    /// The corrector of operations packets, shared.
+    /// The corrector of operations packets, shared. The only error is out of memory.
     pub fn corrector(&self) -> Result<Rc<Corrector>, AllocError> {
         self.corrector.clone()
     }

@@ -38,7 +38,7 @@ impl Transmitters {
         }
     }
 
-    /// These transmitters, in their order.
+    /// These transmitters, in their order. The only error is out of memory.
     pub fn from_slice(
         alloc: Global,
         transmitters: &[Transmitter],

@@ -45,14 +45,15 @@ impl Model for Soft {
 }
 
 impl Soft {
-    /// A decoder of symbols at the standard's levels, which are 2 * z - 7 for z from 0 to 7.
+    /// A decoder of symbols at the standard's levels, which are 2 * z - 7 for z from 0 to 7. The only error is out of
+    /// memory.
     pub fn new(alloc: Global) -> Result<Soft, AllocError>
         ensures { IfOk result (λ soft. soft ≡ new_decoder 1) }
     {
         Soft::scaled(alloc, 1)
     }
 
-    /// A decoder of symbols at so many times the standard's levels.
+    /// A decoder of symbols at so many times the standard's levels. The only error is out of memory.
     pub fn scaled(alloc: Global, scale: u8) -> Result<Soft, AllocError>
         requires { scale ≤ MAX_SCALE }
         ensures { IfOk result (λ soft. soft ≡ new_decoder scale) }

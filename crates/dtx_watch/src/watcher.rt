@@ -55,7 +55,7 @@ pub struct Watcher {
 }
 
 impl Watcher {
-    /// Was given nothing.
+    /// A watcher that was given nothing. The only error is out of memory.
     pub fn new(alloc: Global) -> Result<Watcher, AllocError>
         ensures { IfOk result (λ watcher. StandsFor watcher []) }
     {

@@ -17,7 +17,7 @@ use std::alloc::{AllocError, Global};
 
 impl Net {
     /// The network of 1 to 1,020 transmitters whose addresses differ from each other. Nothing was done with it. All
-    /// memory is taken here.
+    /// memory is taken here, and the only error is out of memory.
     pub fn new(alloc: Global, transmitters: &[Transmitter]) -> Result<Net, AllocError>
         requires { AreTransmitters transmitters.now }
         ensures { IfOk result (λ net. StandsFor transmitters.now net []) }
