@@ -7,8 +7,8 @@ use crate::tables::{FIRST, FRONT, SECOND};
 use dtx_sizes::{PRECODE, SEGMENT};
 
 /// Writes the sync of a first or a second field (ATSC A/53 Part 2, data field sync). `last` are the last twelve symbols
-/// of the segment before. The mode bits and the reserved symbols are the profile's own. So is that the middle one of
-/// the three short sequences is inverted in the second field.
+/// of the segment before. The mode bits and the reserved symbols are the profile's own. So is the inversion of the
+/// middle one of the three short sequences in the second field.
 pub fn field_sync(second: bool, last: &[i8; PRECODE], out: &mut [i8; SEGMENT])
     ensures { out.new ≡ field_sync second last.now }
 {
