@@ -31,9 +31,9 @@ pub fn each_line_is_so()
     ensures { (packets : List (List ℕ)) → AllByRecursion (IsSaid packets) (watch packets) }
 {}
 
-/// States that are said to be right are those that each coder holds before the group, whatever it held before the
-/// anchor. That is a coder that was given the groups from the anchor on, was preset with the states of the latest
-/// earlier order before its group, and then no more.
+/// Take a coder that was given the groups from the anchor on, whatever it held before the anchor. It was preset with
+/// the states of the latest earlier order before that order's group, and then no more. States that are said to be right
+/// are those that it holds before the group at hand.
 pub fn right_states_are_held()
     ensures { (packets : List (List ℕ)) (i : ℕ) (order : Order) (told : List ℕ) (coder : Coding)
         → AreSaid packets i told states_are.Right → IsLatestOrder packets i order

@@ -88,9 +88,9 @@ pub record IsUnprinted (meaning : Meaning) (start : Option Files) (status : Stat
   pub done : meaning.outcome.status ≡ Done
   pub files : now ≡ with_outputs meaning.outputs start
 
--- What came of a meaning. Its answer with its outputs whole, or an I/O error or lack of memory with prefixes of them.
--- Or all was done and the line alone could not be printed. Lack of memory that is met while a line is printed leaves
--- the outputs whole, which are prefixes of themselves.
+-- What came of a meaning is one of three. Its answer came, with its outputs whole. Or there was an I/O error or lack of
+-- memory, with prefixes of the outputs. Or all was done and the line alone could not be printed. Lack of memory that is
+-- met while a line is printed leaves the outputs whole, which are prefixes of themselves.
 abbrev pub IsDone : Meaning → Option Files → Status → Type 0 → Option Files → Type 0
 IsDone meaning start status unprinted now =
     IsAnswered meaning start status now

@@ -107,9 +107,9 @@ abbrev pub sent_with : Transmitter → List (List ℕ) → ℕ → ℕ → Aroun
 sent_with t feed mark end a = sent_before t a
     + length (emission t.address t.delay (a.before ++ (slice_range feed mark end ++ a.behind)))
 
--- What it is that a transmitter emits exactly, where one of its lives is given packets mark to end of the feed. Its
--- segments hold the stretch, in a row and with nothing between. Its log holds the presets of the stretch's orders, at
--- their moments. What comes before the stretch and behind it is told too, so the stretch is the one that this life
+-- A transmitter emits exactly, where one of its lives is given packets mark to end of the feed: this is what it means.
+-- Its segments hold the stretch, in a row and with nothing between. Its log holds the presets of the stretch's orders,
+-- at their moments. What comes before the stretch and behind it is told too, so the stretch is the one that this life
 -- sends. Each earlier line speaks of nothing behind the stretch's beginning, and each later one of nothing before its
 -- end.
 pub record Emits (plan : Plan) (t : Transmitter) (feed : List (List ℕ)) (mark k end : ℕ) (a : Around)

@@ -134,8 +134,8 @@ pub fn emits()
 
 /// An exciter is given a feed from its first packet on. It sends the feed's own segments (ATSC A/53 Part 2) from its
 /// first listing on that begins at packet 52 or later, and nothing before. Its whole log is the presets of the orders
-/// from there on. As long as no whole group that begins at packet 52 or later lists it, it sends and logs nothing. This
-/// holds whatever other pages it is told, since its own is still to come.
+/// from there on. As long as it is given no whole group that begins at packet 52 or later and lists it, it sends and
+/// logs nothing. This holds whatever other pages it is told, since its own is still to come.
 pub fn from_its_start()
     ensures segments { (plan : Plan) (stream : List (List ℕ)) (t : Transmitter) (n k : ℕ) → IsPlan plan
         → IsStream stream → IsListed plan t → IsInTime plan t
@@ -159,9 +159,9 @@ pub fn from_its_start()
 
 /// An exciter is given a feed from one of its marks on, and before that nothing or packets without any mark. It sends
 /// the feed's own segments (ATSC A/53 Part 2) from its first listing on that begins 52 or more packets behind the mark,
-/// and nothing before. Its whole log is the presets of the orders from there on. As long as no whole group that begins
-/// 52 or more packets behind the mark lists it, it sends and logs nothing. Its delay may be another one than the
-/// plan's, as long as it is in time.
+/// and nothing before. Its whole log is the presets of the orders from there on. As long as it is given no whole group
+/// that begins 52 or more packets behind the mark and lists it, it sends and logs nothing. Its delay may be another one
+/// than the plan's, as long as it is in time.
 pub fn from_a_mark()
     ensures segments { (plan : Plan) (stream : List (List ℕ)) (t : Transmitter) (delay : ℕ) (earlier : List (List ℕ))
         (mark n k : ℕ) → IsFedAnew plan stream t delay earlier mark n
