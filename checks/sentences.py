@@ -1,11 +1,20 @@
 #!/usr/bin/env python3
 """Lists sentences of texts that have too many words: `checks/sentences.py MOST FILE..`.
 
-Code blocks, tables, quotations and headings are not read. A piece of code between backquotes is one word. A line for each
-sentence that is too long: file, line, number of words, and how it begins.
+Of .rt and .antt files the comments are read: those on lines of their own. Code blocks, tables, quotations and headings
+are not read. A piece of code between backquotes is one word. A line for each sentence that is too long: file, line,
+number of words, and how it begins.
 """
 import re
 import sys
+
+
+def prose(name, lines):
+    """The lines of a text, and of a source file the comments, with an empty line for each line of code."""
+    if not name.endswith(('.rt', '.antt')):
+        return lines
+    comments = (re.match(r'\s*(?://[/!]?|--)(.*)', line) for line in lines)
+    return [comment[1] if comment else '' for comment in comments]
 
 
 def paragraphs(lines):
@@ -28,7 +37,7 @@ def paragraphs(lines):
 
 def sentences(text):
     """Cuts a paragraph behind each full stop, question mark or exclamation mark that a new sentence follows."""
-    text = re.sub(r'`[^`]*`', 'code', text)
+    text = re.sub(r'`[^`]*`', 'Code', text)
     text = re.sub(r'\[([^\]]*)\]\([^)]*\)', r'\1', text)
     return re.split(r'(?<=[.!?])["”)*]*\s+(?=["“(*]*[A-Z0-9])', text)
 
@@ -41,7 +50,7 @@ def main(arguments):
     most, status = int(arguments[0]), 0
     for name in arguments[1:]:
         with open(name, encoding='utf-8') as file:
-            lines = file.read().split('\n')
+            lines = prose(name, file.read().split('\n'))
         for number, text in paragraphs(lines):
             for sentence in sentences(text):
                 count = len(words(sentence))

@@ -40,7 +40,7 @@ fn main(rt: HostRuntime) -> ExitCode {
     }
 }
 
-/// Opens what stands in for standard streams that are closed, so that no file of a command takes their places: printing
+/// Opens what stands in for standard streams that are closed, so that no file of a command takes their places. Printing
 /// to such a one fails, and writes into no file.
 fn stand_in<R: Files>(rt: &R) -> [io::Result<R::File>; 3] {
     [

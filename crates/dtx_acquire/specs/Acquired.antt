@@ -1,6 +1,6 @@
--- What is acquired of symbols that begin anywhere: the fields of their runs, with their symbols decided and their syncs
--- restored (the profile's own; ATSC A/53 Part 2, data segment sync and data field sync). A run is syncs 313 segments
--- apart, each with the data segments behind it, which together are a field.
+-- What is acquired of symbols that begin anywhere (the profile's own; ATSC A/53 Part 2, data segment sync and data
+-- field sync). It is the fields of their runs, with their symbols decided and their syncs restored. A run is syncs 313
+-- segments apart, each with the data segments behind it, which together are a field.
 use Rattle.std.specs.Prelude.{ℕ, ℤ, ◌+◌, ◌-◌, ◌*◌, ◌/◌, ◌&&◌, nat_le, nat_lt, Bool, true, false, not, if◌then◌else◌}
 use Rattle.std.specs.Prelude.{Option, Some, None, option_map, List, [], ◌∷◌, ◌++◌, length, map, sum, take, drop, filter}
 use Rattle.std.specs.Prelude.{◌≡◌}
@@ -30,7 +30,7 @@ due place = place + 260416
 unfoldable pub is_met : List ℤ → ℕ → Bool
 is_met symbols place = nat_le (due place + 832) (length symbols)
 
--- The sync behind the one at a place: the run goes on with the due one where that agrees; else another run begins at
+-- The sync behind the one at a place. The run goes on with the due one where that agrees. Else another run begins at
 -- the least place behind this one that does. Where no segment stands there the run is the last.
 unfoldable pub behind : List ℤ → ℕ → Option Sync
 behind symbols place =
@@ -63,8 +63,8 @@ pub record Field : Type 0 where
 unfoldable pub segments_from : List ℤ → ℕ → ℕ → List (List ℤ)
 segments_from symbols place count = map (λ i. take 832 (drop (place + 832 * i) symbols)) (range_with_len 0 count)
 
--- how many segments of a field are given whose next sync isn't where it is due, but the next one that agrees is there:
--- none where that is earlier, since then symbols were lost
+-- How many segments of a field are given whose next sync isn't where it is due, but the next one that agrees is there.
+-- There are none where that is earlier, since then symbols were lost.
 abbrev pub unless_lost : ℕ → Option ℕ → ℕ
 unless_lost place None = 313
 unless_lost place (Some next) = if nat_lt next (due place) then 0 else 313

@@ -4,8 +4,8 @@ use Rattle.dtx_acquire.specs.Agreement.{agrees}
 use Rattle.dtx_acquire.specs.Acquired.{Field, cost_of, fields_where, restored_of, runs_of, segments_from}
 use Rattle.dtx_acquire.specs.Acquired.{settled_fields}
 
--- An acquirer: its scale, the symbols that it holds, whether a sync is known to stand in front of them, whether a run
--- would begin with it, what it gave last, and the numbers of all that was given.
+-- An acquirer: its scale, the symbols that it holds, whether a sync is known to stand in front of them, and whether a
+-- run would begin with it. It also has what it gave last, and the numbers of all that was given.
 pub record Holding : Type 0 where
   pub scale : ℕ
   pub held : List ℤ
@@ -21,7 +21,7 @@ pub record Holding : Type 0 where
 abbrev pub where_wanted : Bool → List Field → List Field
 where_wanted wanted fields = if wanted then fields else []
 
--- Where `done` are the fields that were given, of which it is known what they give: whatever follows the symbols, all
+-- Here `done` are the fields that were given, of which it is known what they give. Whatever follows the symbols, all
 -- other fields are those of what is held and follows.
 pub record Leaves (holding : Holding) (symbols : List ℤ) (done : List Field) : Type 0 where
   pub fields : (wanted : Bool → Bool) (more : List ℤ) → fields_where wanted true (symbols ++ more)
@@ -31,7 +31,7 @@ pub record Leaves (holding : Holding) (symbols : List ℤ) (done : List Field) :
   pub segments_are : holding.segments ≡ length (restored_of holding.scale done)
   pub cost_is : holding.cost ≡ cost_of holding.scale done
 
--- The acquirer holds what these symbols leave: all of which it is known what they give was given, and one field and one
+-- The acquirer holds what these symbols leave. All of which it is known what they give was given, and one field and one
 -- segment are not yet held.
 pub record StandsFor (holding : Holding) (symbols : List ℤ) : Type 0 where
   pub few : length holding.held < 261248

@@ -26,8 +26,8 @@ unlike_at symbols place i = if are_unlike (is_plus (slice_index_or symbols (plac
 unfoldable pub unlike : List ℤ → ℕ → ℕ → ℕ → ℕ
 unlike symbols place i count = sum (map (unlike_at symbols place) (range_with_len i count))
 
--- A place agrees where a whole segment stands there and at most 128 of its first 515 symbols have another sign, which
--- are those of the segment sync and of the long sequence.
+-- A place agrees where a whole segment stands there and at most 128 of its first 515 symbols have another sign than
+-- those of the segment sync and of the long sequence.
 unfoldable pub agrees : List ℤ → ℕ → Bool
 agrees symbols place = nat_le (place + 832) (length symbols) && nat_le (unlike symbols place 0 515) 128
 

@@ -53,7 +53,7 @@ impl Model for Acquirer {
 }
 
 impl Acquirer {
-    /// An acquirer to which no symbols were given. Only want of memory is refused.
+    /// An acquirer to which no symbols were given. The only error is out of memory.
     pub fn new(alloc: Global, scale: u8) -> Result<Acquirer, AllocError>
         requires from { 0 < scale }
         requires to { scale ≤ MAX_SCALE }

@@ -52,7 +52,7 @@ impl Giver {
         })
     }
 
-    /// Gives the first segments of those that are held, so many: a field, or its front part. Lets so many symbols go.
+    /// Gives the first segments of those that are held, so many: a field, or a prefix of it. Lets so many symbols go.
     pub(crate) fn give(&mut self, held: &mut Held, count: usize, gone: usize, begins: bool)
         requires few { count ≤ FIELD }
         requires room { SEGMENT * count ≤ length held.old }

@@ -20,23 +20,23 @@ pub fn all_is_acquired()
         → acquired_so_far scale symbols ++ acquired_rest scale symbols ≡ acquired scale symbols }
 {}
 
-/// What is acquired of first symbols, whatever follows, is a front part of what is acquired of more.
+/// What is acquired of first symbols, whatever follows, is a prefix of what is acquired of more.
 pub fn more_is_acquired_of_more()
     ensures { (scale : ℕ) (symbols more : List ℤ) → (others : List (List ℤ))
         × (acquired_so_far scale (symbols ++ more) ≡ acquired_so_far scale symbols ++ others) }
 {}
 
-/// An error below half the distance of two levels moves nothing, at every scale: of segments as they are sent, from a
-/// field's first on, each symbol may be received as any that differs from the scale times it by less than the scale,
-/// and what is acquired is what was sent.
+/// An error below half the distance of two levels moves nothing, at every scale. Take segments as they are sent, from a
+/// field's first on. Each symbol may be received as any that differs from the scale times it by less than the scale:
+/// what is acquired is what was sent.
 pub fn a_small_error_moves_nothing()
     ensures { (scale : ℕ) (sent : List (List ℤ)) (symbols : List ℤ) → 0 < scale → AreSent sent
         → AreNear scale (flat_map (λ segment. segment) sent) symbols → acquired scale symbols ≡ sent }
 {}
 
-/// What is acquired is whole segments, of which those are field syncs that 313 divides, and the others data segments,
-/// so that each sync looks like one. Each field but the last gives 313 segments or none, so each run but the last gives
-/// a multiple of 313. Where there is no run there is no segment, and only there.
+/// What is acquired is whole segments. Those whose number 313 divides are field syncs, and the others data segments, so
+/// that each sync looks like one. Each field but the last gives 313 segments or none, so each run but the last gives a
+/// multiple of 313. Where there is no run there is no segment, and only there.
 pub fn whole_fields_are_acquired()
     ensures segments { (scale : ℕ) (symbols : List ℤ) → 0 < scale → AreInFields (acquired scale symbols) }
     ensures fields { (symbols : List ℤ) (front : List Field) (field next : Field) (back : List Field)

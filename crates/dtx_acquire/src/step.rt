@@ -15,8 +15,8 @@ pub(crate) const FIELD: usize = FIELD_SEGMENTS as usize;
 /// How many symbols behind a sync the next one is due.
 const DUE: usize = SEGMENT * FIELD;
 
-/// Looks for a sync among symbols, where none is in front of them, and lets those before it go, or all but the last
-/// ones, at which a sync may begin. Answers whether one is in front then.
+/// Looks for a sync among symbols, where none is in front of them. Lets those before it go, or all but the last ones,
+/// at which a sync may begin. Answers whether one is in front then.
 pub(crate) fn seek(on: bool, held: &mut Held) -> bool
     requires { on ≡ true → agrees held.old 0 ≡ true }
     ensures front { result ≡ true → agrees held.new 0 ≡ true }
@@ -39,8 +39,8 @@ pub(crate) fn seek(on: bool, held: &mut Held) -> bool
     }
 }
 
-/// What comes of a field behind which a segment is held: how many symbols are let go with it, how many of its segments
-/// are given, whether a sync is in front of what is behind, and whether a run would begin with that.
+/// What comes of a field behind which a segment is held: how many symbols are let go with it, and how many of its
+/// segments are given. Also whether a sync is in front of what is behind, and whether a run would begin with that.
 #[derive(Clone, Copy, Drop)]
 pub(crate) struct Step {
     pub(crate) count: usize,

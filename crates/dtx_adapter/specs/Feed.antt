@@ -32,8 +32,8 @@ entry_of t = record { address = t.address; offset = t.offset }
 unfoldable pub pages_for : ℕ → ℕ
 pages_for count = (count + 33) / 34
 
--- the page that a group's operations packets carry, behind n other groups that hold some: up to 35 transmitters stand
--- on the only page, and more of them on pages that take turns
+-- The page that a group's operations packets carry, behind n other groups that hold some. Up to 35 transmitters stand
+-- on the only page, and more of them on pages that take turns.
 unfoldable pub paging_of : {X : Type 0} → List X → ℕ → Paging
 paging_of ts n = if nat_le (length ts) 35 then One else Of (n % pages_for (length ts)) (pages_for (length ts))
 
@@ -59,9 +59,10 @@ filled_groups stream u = length (filter (is_filled stream) (range_with_len 0 u))
 abbrev pub paging_at : Plan → List (List ℕ) → ℕ → Paging
 paging_at plan stream u = paging_of plan.transmitters (filled_groups stream u)
 
--- What operations packet k of a stream's feed says, before which these packets of the feed stand: the states that the
--- coders have behind all whole groups before its own, the stamp of its frame, the plan's maximum delay, the number of
--- the frame, the packet's place in it, the page of its group, and the plan's transmitters on that page.
+-- What operations packet k of a stream's feed says, before which these packets of the feed stand. It says the states
+-- that the coders have behind all whole groups before its own, the stamp of its frame, and the plan's maximum delay. It
+-- says the number of the frame, the packet's place in it, the page of its group, and the plan's transmitters on that
+-- page.
 unfoldable pub ops_at : Plan → List (List ℕ) → List (List ℕ) → ℕ → Ops
 ops_at plan stream before k = record {
   states = states (take (4 * (k / 4)) before);
@@ -77,8 +78,8 @@ ops_at plan stream before k = record {
 unfoldable pub counter_at : List (List ℕ) → ℕ → ℕ
 counter_at stream k = placeholders (take k stream) % 16
 
--- what a packet of the stream becomes as packet k of the feed: a placeholder becomes an operations packet that says
--- this, with this counter, and every other packet keeps all but byte 0
+-- What a packet of the stream becomes as packet k of the feed. A placeholder becomes an operations packet that says
+-- this, with this counter. Every other packet keeps all but byte 0.
 unfoldable pub as_feed_packet : Ops → ℕ → ℕ → List ℕ → List ℕ
 as_feed_packet ops counter k packet = if is_placeholder packet then spelling ops counter
     (sync_at k) else marked k packet

@@ -9,8 +9,8 @@ use Rattle.dtx_ops.specs.Paging.{IsPaged}
 use Rattle.dtx_plan.specs.declared.plan.Plan.{Plan}
 use Rattle.dtx_adapter.specs.Feed.{entry_of, placeholders, listed, is_filled, paging_at}
 
--- the tick at which the feed starts, the states before the group, the maximum delay, all transmitters, the page of the
--- group at hand, the next packet's counter, and whether that group filled a placeholder
+-- The tick at which the feed starts, the states before the group, the maximum delay and all transmitters. Then the page
+-- of the group at hand, the next packet's counter, and whether that group filled a placeholder.
 pub record Filling : Type 0 where
   pub start : ℕ
   pub states : List ℕ
@@ -46,8 +46,8 @@ begun filling states = record filling {
   filled = false;
 }
 
--- What is said can be read: start and maximum delay are below one second of 10,000,000 ticks, the counter is of four
--- bits, the addresses differ, the page has its place, and its transmitters are at hand.
+-- What is said can be read. Start and maximum delay are below one second of 10,000,000 ticks, and the counter is of
+-- four bits. The addresses differ, the page has its place, and its transmitters are at hand.
 pub record IsReadable (ticks delay count : ℕ) (transmitters : List Entry) (turn : Paging) (offsets : List Entry)
     : Type 0 where
   pub start : ticks < 10000000

@@ -30,7 +30,7 @@ pub struct Adapter {
 }
 
 impl Adapter {
-    /// The adapter of a plan. It was given nothing. Only want of memory is refused.
+    /// The adapter of a plan. It was given nothing. The only error is out of memory.
     pub fn new(alloc: Global, plan: &Plan) -> Result<Adapter, AllocError>
         requires { IsSound plan.now }
         ensures stands { IfOk result (λ adapter. StandsFor plan.now adapter []) }

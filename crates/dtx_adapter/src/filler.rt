@@ -60,7 +60,7 @@ impl Model for Filler {
 }
 
 impl Filler {
-    /// That of a plan. It has filled nothing. Only want of memory is refused.
+    /// That of a plan. It has filled nothing. The only error is out of memory.
     pub(crate) fn new(alloc: Global, plan: &Plan) -> Result<Filler, AllocError>
         requires { IsSound plan.now }
         ensures fills { IfOk result (λ filler. Fills plan.now filler [] 0) }

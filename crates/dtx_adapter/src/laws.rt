@@ -28,8 +28,8 @@ pub fn goes_on()
         → placeholders (stream ++ more) ≡ placeholders stream + placeholders more }
 {}
 
-/// The feed of a stream's first packets is as many packets of its feed, and packet k is made of packet k of the stream
-/// and of those that the feed has before it.
+/// The feed of a stream's first packets is as many packets of its feed. Packet k of it is made of packet k of the
+/// stream and of those that the feed has before it.
 pub fn prefix()
     ensures feed { (plan : Plan) (stream : List (List ℕ)) (n : ℕ)
         → feed plan (take n stream) ≡ take n (feed plan stream) }
@@ -37,8 +37,8 @@ pub fn prefix()
         → slice_index_or (feed plan stream) k [] ≡ fed_packet plan stream (take k (feed plan stream)) k }
 {}
 
-/// Each placeholder becomes an operations packet that reads as what is said at its place, with the states behind all
-/// whole groups before its own, the operations packets among them filled. No other packet becomes one. The plan is
+/// Each placeholder becomes an operations packet that reads as what is said at its place. Its states are those behind
+/// all whole groups before its own, the operations packets among them filled. No other packet becomes one. The plan is
 /// sound, and its transmitters have the numbers of entries.
 pub fn operations_packets()
     ensures read { (plan : Plan) (stream : List (List ℕ)) (k : ℕ) → IsSound plan
@@ -54,10 +54,9 @@ pub fn operations_packets()
 {}
 
 /// Up to 35 transmitters stand on the only page. More stand on the fewest pages of 34 that hold them, of which an
-/// operations packet carries one:
-/// it is below the number of pages, which is at most 30, and has transmitter i exactly where it is page i / 34. The
-/// entry of a transmitter of a sound plan is found by its address exactly in the packets that carry its page, and there
-/// has its own offset.
+/// operations packet carries one. The number of this page is below the number of pages, which is at most 30. The page
+/// has transmitter i exactly where it is page i / 34. The entry of a transmitter of a sound plan is found by its
+/// address exactly in the packets that carry its page, and there has its own offset.
 pub fn pages()
     ensures one { (plan : Plan) (stream before : List (List ℕ)) (k : ℕ) → length plan.transmitters ≤ MOST_ENTRIES
         → (ops_at plan stream before k).paging ≡ One }

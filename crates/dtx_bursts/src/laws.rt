@@ -15,7 +15,7 @@ ghost use Rattle.dtx_chain.specs.Undamaged.{ArePackets, as_received};
 ghost use Rattle.dtx_bursts.specs.Burst.{IsBurst, IsGap, LeavesSyncs};
 
 /// At most 2,022 wrong symbols in a row, whatever they are and wherever they stand, are slight damage where the field
-/// syncs are found: no word has more than ten wrong bytes. So all packets whose bytes are all there come back, and none
+/// syncs are found. No word has more than ten wrong bytes. So all packets whose bytes are all there come back, and none
 /// is flagged (`gives_all_back` of `dtx_chain`). Two segments are 1,664 symbols.
 pub fn wrong_symbols_in_a_row()
     ensures { (packets : List (List ℕ)) (first from : ℕ) (sent got : List (List ℤ))
@@ -24,7 +24,7 @@ pub fn wrong_symbols_in_a_row()
 {}
 
 /// At most 4,141 missing symbols in a row, wherever they stand, leave each word mendable where the field syncs are
-/// found: no word has more than twenty missing bytes, and none is wrong. Then all packets from the one behind the first
+/// found. No word has more than twenty missing bytes, and none is wrong. Then all packets from the one behind the first
 /// field sync on whose bytes are all there are mended, in order, and none is flagged. Four segments are 3,328 symbols.
 pub fn missing_symbols_in_a_row()
     ensures words { (packets : List (List ℕ)) (first from : ℕ) (sent got : List (List ℤ))
@@ -45,7 +45,8 @@ pub fn missing_symbols_in_a_row()
 {}
 
 /// The field syncs are found where a burst stands at or behind the first of them, and reaches of the first 515 symbols
-/// of each only the first 32 or the last 32: however long it is, and whether its symbols are wrong or missing.
+/// of each only the first 32 or the last 32. It doesn't matter how long it is, and whether its symbols are wrong or
+/// missing.
 pub fn syncs_are_found()
     ensures wrong { (packets : List (List ℕ)) (first count from : ℕ) (sent got : List (List ℤ))
         → AreReceived packets first sent got → LeavesSyncs first count from (length sent)
@@ -55,9 +56,9 @@ pub fn syncs_are_found()
         → IsGap count from sent got → AreFound first sent got }
 {}
 
-/// One symbol more can be too many: each stream of 52 packets or more can be received with 2,023 wrong symbols in a row
-/// so that the word of its first packet has eleven wrong bytes or more, and with 4,142 missing ones so that it has
-/// twenty-one missing bytes or more. The field syncs are found.
+/// One symbol more can be too many. Each stream of 52 packets or more can be received with 2,023 wrong symbols in a row
+/// so that the word of its first packet has eleven wrong bytes or more. It can be received with 4,142 missing ones so
+/// that this word has twenty-one missing bytes or more. The field syncs are found.
 pub fn one_symbol_more_is_too_many()
     ensures wrong { (packets : List (List ℕ)) → ArePackets packets → 52 ≤ length packets
         → (got : List (List ℤ)) × AreReceived packets 0 (a53 packets) got × AreFound 0 (a53 packets) got

@@ -28,8 +28,8 @@ struct Lock {
     missed: bool,
 }
 
-/// The anchor of the packets of which it was told: a first mark, which stays the anchor until two marks that are due in
-/// a row are missing, whatever marks stand elsewhere (the profile's own).
+/// The anchor of the packets of which it was told (the profile's own). It is a first mark, which stays the anchor until
+/// two marks that are due in a row are missing, whatever marks stand elsewhere.
 #[derive(Drop)]
 pub struct Anchor {
     lock: Option<Lock>,

@@ -8,8 +8,8 @@ use Rattle.dtx_exciter.specs.Emission.{segments_since, behind_field_sync}
 use Rattle.dtx_exciter.specs.Order.{Order, counting_order, orders}
 use Rattle.dtx_exciter.specs.Packets.{readings, under}
 
--- the data segments of the group from i on, where the coders begin with the states of the first of these orders, the
--- latest of which comes first in the list, and no later order presets them
+-- The data segments of the group from i on, where the coders begin with the states of the first of these orders, and no
+-- later order presets them. The latest order comes first in the list.
 abbrev pub own_by : List (List ℕ) → ℕ → List Order → List (List ℤ)
 own_by packets i [] = []
 own_by packets i (order ∷ []) = segments_since (order.place / 4) order.ops.states packets (i / 4)
@@ -19,8 +19,8 @@ own_by packets i (order ∷ next ∷ older) = own_by packets i (next ∷ older)
 unfoldable pub own_data : List (List ℕ) → ℕ → List (List ℤ)
 own_data packets i = own_by packets i (orders (readings packets) i)
 
--- the segments of that group: where it begins a field and the group before it is sent, behind the field sync that ends
--- with the last twelve symbols of that one
+-- The segments of that group. Where it begins a field and the group before it is sent, the field sync stands before
+-- them, which ends with the last twelve symbols of that group.
 unfoldable pub own_segments : Bool → List (List ℕ) → ℕ → List (List ℤ)
 own_segments goes_on packets i =
     behind_field_sync i (if goes_on then own_data packets (i - 4) else []) (own_data packets i)
@@ -40,8 +40,9 @@ pub record IsMarkOf (packets : List (List ℕ)) (m : ℕ) : Type 0 where
   pub is_mark : sync_of (slice_index_or packets m []) ≡ 0xB8
 
 -- An exciter that was given this life is locked to the feed from the place of a mark on, and was given the feed from
--- there up to packet n. It was locked to nothing before; or to a mark in step with it, and an order of the feed stands
--- 52 or more packets behind that place, and before the last group that it was given.
+-- there up to packet n. Before that either it was locked to nothing, or it was locked to a mark in step with it. In the
+-- second case an order of the feed stands 52 or more packets behind that place, and before the last group that it was
+-- given.
 pub record IsLockedTo (feed life : List (List ℕ)) (n : ℕ) : Type 0 where
   pub before : List (List ℕ)
   pub mark : ℕ

@@ -28,8 +28,9 @@ Counts packets i = (52 ≤ i) × (i + 4 ≤ length packets)
 abbrev pub IsLatestOrder : List (List ℕ) → ℕ → Order → Type 0
 IsLatestOrder packets i order = (older : List Order) × (orders (readings packets) (i - 4) ≡ order ∷ older)
 
--- what the word for the states says of an operations packet of the group from i on that tells these: whether they are
--- those that the coders have before that group, which began with those of the latest earlier order before its group
+-- What the word for the states says of an operations packet of the group from i on that tells these. It says whether
+-- they are those that the coders have before that group. The coders began with the states of the latest earlier order
+-- before its group.
 abbrev pub AreSaid : List (List ℕ) → ℕ → List ℕ → StatesNote → Type 0
 AreSaid packets i states states_are.Early = Counts packets i → ⊥
 AreSaid packets i states states_are.First = Counts packets i × (orders (readings packets) (i - 4) ≡ [])

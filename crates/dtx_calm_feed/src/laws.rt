@@ -22,18 +22,18 @@ ghost use Rattle.dtx_calm_feed.specs.Own.{IsFirstOrder, IsLockedTo, IsMarkOf, da
 ghost use Rattle.dtx_calm_feed.specs.Said.{AreSaid, Follows, IsLatestOrder, IsSaid, latest_before};
 
 /// What is told of any packets is so. A line `ops` stands for an operations packet at its place. It says `right` of the
-/// states exactly where its group counts and they are those that the twelve coders have before its group, which began
-/// with those of the latest earlier order under this anchor. It says `slip` exactly where its group counts, there is
-/// such an order and they are others. It says `right` of the clock exactly where the stamp is later than that of the
-/// latest operations packet before it by the length of the frames that the two tell, by one division, rounded down or
-/// up, and the maximum delay is the same.
+/// states exactly where its group counts and they are those that the twelve coders have before its group. These coders
+/// began with the states of the latest earlier order under this anchor. It says `slip` exactly where its group counts,
+/// there is such an order and they are others. It says `right` of the clock exactly where two things hold. The stamp is
+/// later than that of the latest operations packet before it by the length of the frames that the two tell, by one
+/// division, rounded down or up. And the maximum delay is the same.
 pub fn each_line_is_so()
     ensures { (packets : List (List ℕ)) → AllByRecursion (IsSaid packets) (watch packets) }
 {}
 
-/// States that are said to be right are those that each coder holds before the group that was given the groups from the
-/// anchor on, whatever it held before the anchor, and was preset with the states of the latest earlier order before its
-/// group, and then no more.
+/// Take a coder that was given the groups from the anchor on, whatever it held before the anchor. It was preset with
+/// the states of the latest earlier order before that order's group, and then no more. States that are said to be right
+/// are those that it holds before the group at hand.
 pub fn right_states_are_held()
     ensures { (packets : List (List ℕ)) (i : ℕ) (order : Order) (told : List ℕ) (coder : Coding)
         → AreSaid packets i told states_are.Right → IsLatestOrder packets i order
@@ -54,16 +54,16 @@ pub fn sound_feeds_are_calm_feeds()
         → mark < length feed → IsCalmFeed (drop mark feed) }
 {}
 
-/// An exciter in a new life that is given a calm feed from any mark of it on that stands where one is due is locked to
+/// An exciter in a new life is given a calm feed from any mark of it on that stands where one is due. It is locked to
 /// that mark, as long as it is given the feed.
 pub fn locked_at_any_mark()
     ensures { (feed : List (List ℕ)) (m n : ℕ) → IsCalmFeed feed → IsMarkOf feed m → m < n → n ≤ length feed
         → IsLockedTo feed (slice_range feed m n) n }
 {}
 
-/// An exciter that is locked to a calm feed, whatever its address and its delay and whatever it was given before, gives
+/// An exciter is locked to a calm feed, whatever its address and its delay and whatever it was given before. It gives
 /// of each group nothing, or the feed's own segments of the group. Their coders begin with the states of the feed's
-/// first order, and nothing presets them later: so the later orders, at which the exciter does preset its coders,
+/// first order, and nothing presets them later. So the later orders, at which the exciter does preset its coders,
 /// change nothing of what it sends.
 pub fn each_sends_its_own()
     ensures segments { (address delay : ℕ) (feed life : List (List ℕ)) (n : ℕ) → IsCalmFeed feed
@@ -73,9 +73,9 @@ pub fn each_sends_its_own()
         → first.place ≤ i → own_data feed i ≡ segments_since (first.place / 4) first.ops.states feed (i / 4) }
 {}
 
-/// Two exciters that are locked to a calm feed, of any addresses and delays and at any two marks, give the same
-/// segments of each group where they give as many; and where one also gives a field sync in front, since it sent the
-/// group before, the data segments of both are the same.
+/// Two exciters are locked to a calm feed, of any addresses and delays and at any two marks. They give the same
+/// segments of each group of which they give as many. One of them may also give a field sync in front, since it sent
+/// the group before: then the data segments of both are the same.
 pub fn all_send_the_same()
     ensures segments { (a b delay_a delay_b : ℕ) (feed life_a life_b : List (List ℕ)) (n : ℕ) → IsCalmFeed feed
         → IsLockedTo feed life_a n → IsLockedTo feed life_b n
@@ -87,9 +87,9 @@ pub fn all_send_the_same()
         → data_of (last_segments a delay_a life_a) ≡ data_of (last_segments b delay_b life_b) }
 {}
 
-/// Where the first order of a calm feed tells the states that the coders of some stream have there, of which the feed
-/// is what stands behind some whole frames, each order of a whole group tells them, and the feed's own data segments
-/// are those of the stream (ATSC A/53 Part 2).
+/// Let a calm feed be what stands behind some whole frames of a stream, and let its first order tell the states that
+/// the stream's coders have there. Then each order of a whole group tells them. The feed's own data segments are those
+/// of the stream (ATSC A/53 Part 2).
 pub fn calm_feeds_are_as_coded()
     ensures states { (packets : List (List ℕ)) (m g : ℕ) (first : Order) (ops : Ops) → IsCalmFeed (drop m packets)
         → m % 624 ≡ 0 → IsFirstOrder (drop m packets) first
@@ -103,10 +103,11 @@ pub fn calm_feeds_are_as_coded()
         → own_data (drop m packets) i ≡ four_segments (levels packets) (m + i) }
 {}
 
-/// The stamps of a calm feed follow each other: that of an operations packet is later than that of the one before it by
-/// the length of the frames between the two, by one division, rounded down or up, and the maximum delay is the same.
-/// The frames are those that the packets tell. So the moments that an exciter makes of the two at one offset differ by
-/// what is on the air between segments of these frames, but for less than a tick, and otherwise by whole seconds.
+/// The stamps of a calm feed follow each other. The stamp of an operations packet is later than that of the one before
+/// it by the length of the frames between the two. That length is by one division, rounded down or up. The maximum
+/// delay is the same. The frames are those that the packets tell. So the moments that an exciter makes of the two at
+/// one offset differ by what is on the air between segments of these frames, up to less than a tick and some whole
+/// seconds.
 pub fn stamps_and_moments_follow()
     ensures stamps { (feed : List (List ℕ)) (k : ℕ) (before ops : Ops) → IsCalmFeed feed
         → ordered_at (readings feed) k ≡ Some ops → latest_before feed k ≡ Some before → Follows before ops }

@@ -1,4 +1,4 @@
-//! Laws of the definitions: undamaged symbols are one run, and its packets are those that were sent; a word with few
+//! Laws of the definitions. Undamaged symbols are one run, and its packets are those that were sent. A word with few
 //! wrong bytes gives its packet back.
 
 ghost use Rattle.std.specs.Prelude.{◌≡◌, ℕ, ℤ, ◌≢◌, ◌+◌, ◌*◌, ◌/◌, ◌%◌, ◌<◌, ◌≤◌, Bool, true, false, List, [], ◌∷◌};
@@ -20,8 +20,8 @@ ghost use Rattle.dtx_chain.specs.Undamaged.{ArePackets, as_sent, whole_words, as
 
 use dtx_sizes::{FIELD_PACKETS, FIELD_SEGMENTS, GROUP_PACKETS, PACKET};
 
-/// The undamaged symbols of packets that make at least one whole group are received as one run. Each packet whose bytes
-/// are all there comes back, in order, with 0x47 as its sync byte; none is flagged, and no byte was put right.
+/// Each packet whose bytes are all there comes back, in order, with 0x47 as its sync byte. None is flagged, and no byte
+/// was put right.
 pub fn received_undamaged()
     ensures run { (packets : List (List ℕ)) → GROUP_PACKETS ≤ length packets → runs (a53 packets) ≡ a53 packets ∷ [] }
     ensures good { (packets : List (List ℕ)) → GROUP_PACKETS ≤ length packets → ArePackets packets
@@ -30,10 +30,11 @@ pub fn received_undamaged()
         → received (a53 packets) ≡ map (λ k. as_received (slice_index_or packets k [])) (whole_words packets) }
 {}
 
-/// Word j of the bytes of any run gives packet f + j of a stream back, received good and with 0x47 as its sync byte,
-/// wherever the word differs from that packet's codeword in at most ten bytes: those are the bytes put right. Packet f
-/// begins a field, as the packet behind a field sync does. The bytes of the run may be any numbers, and as many or as
-/// few as they are. Where all bytes of word j are there, its packet is number j of those that the run gives.
+/// Word j of the bytes of any run gives packet f + j of a stream back, wherever the word differs from that packet's
+/// codeword in at most ten bytes. These are the bytes put right. The packet is received good and with 0x47 as its sync
+/// byte. Packet f begins a field, as the packet behind a field sync does. The bytes of the run may be any numbers, and
+/// as many or as few as they are. Where all bytes of word j are there, its packet is number j of those that the run
+/// gives.
 pub fn gives_back()
     ensures packet { (packets : List (List ℕ)) (bytes : List ℕ) (f j : ℕ) → ArePackets packets → f % FIELD_PACKETS ≡ 0
         → f + j < length packets → IsNear packets (f + j) (word_at 207 52 4 bytes j)
@@ -51,9 +52,9 @@ pub fn what_comes_back_was_near()
         → IsNear packets (f + j) (word_at 207 52 4 bytes j) }
 {}
 
-/// Where the symbols of segments in a row of a stream are received with slight damage, and a field sync is among them,
-/// they are one run, which begins with their first field sync. Its packets are exactly those of the stream from the one
-/// behind that field sync on whose bytes are all there, in order, each good and with 0x47 as its sync byte.
+/// Let the symbols of segments in a row of a stream be received with slight damage, a field sync among them. Then they
+/// are one run, which begins with their first field sync. Its packets are exactly those of the stream from the one
+/// behind that field sync on whose bytes are all there, in order. Each is good and has 0x47 as its sync byte.
 pub fn gives_all_back()
     ensures run { (packets : List (List ℕ)) (first : ℕ) (sent got : List (List ℤ)) → AreReceived packets first sent got
         → to_sync first < length sent → IsSlight packets first sent got
@@ -73,8 +74,8 @@ pub fn gives_all_back()
         → list_all (λ r. r.good) (all_packets got) ≡ true }
 {}
 
-/// Eleven wrong bytes are too many: for each packet of a stream there is a word of 207 bytes that differs from the
-/// packet's codeword in eleven of them, and wherever a run has that word, it gives another packet back.
+/// Eleven wrong bytes are too many. For each packet of a stream there is a word of 207 bytes that differs from the
+/// packet's codeword in eleven of them. Wherever a run has that word, it gives another packet back.
 pub fn eleven_are_too_many()
     ensures { (packets : List (List ℕ)) (f j : ℕ) → ArePackets packets → f % FIELD_PACKETS ≡ 0 → f + j < length packets
         → (word : List ℕ) × (length word ≡ 207) × AreBytes word × (distance word (codeword_at packets (f + j)) ≡ 11)
@@ -82,8 +83,8 @@ pub fn eleven_are_too_many()
         → (received_at bytes j).packet.0 ≢ as_received (slice_index_or packets (f + j) [])) }
 {}
 
-/// A data segment of a stream with at most 31 damaged symbols among its first 515 isn't taken for a field sync, which
-/// may have 32 wrong ones there: undamaged, it differs from one in 64 or more of them.
+/// A data segment of a stream with at most 31 damaged symbols among its first 515 isn't taken for a field sync. A field
+/// sync may have 32 wrong ones there, and undamaged the segment differs from one in 64 or more of them.
 pub fn a_damaged_data_segment_is_no_sync()
     ensures { (packets : List (List ℕ)) (n : ℕ) (got : List ℤ) → n < length (a53 packets) → n % FIELD_SEGMENTS ≢ 0
         → damaged_symbols (slice_index_or (a53 packets) n []) got ≤ 31 → looks_like got ≡ false }
@@ -113,9 +114,9 @@ pub fn damage_before_the_first_sync_is_slight()
         → IsSlight packets first sent got }
 {}
 
-/// Where the segments of a stream stand that these definitions count on. Its field syncs are those at multiples of 313,
-/// segment k of its packets stands k + k / 312 + 1 places behind its first, and so `to_sync` leads to the first field
-/// sync from any segment on, and `packet_behind` is the packet whose segment follows it and begins a field.
+/// Where the segments of a stream stand that these definitions count on. Its field syncs are those at multiples of 313.
+/// Segment k of its packets stands k + k / 312 + 1 places behind its first. So `to_sync` leads to the first field sync
+/// from any segment on. `packet_behind` is the packet whose segment follows it and begins a field.
 pub fn places()
     ensures sync { (packets : List (List ℕ)) (n : ℕ) → n < length (a53 packets) → n % FIELD_SEGMENTS ≡ 0
         → (second : Bool) × (last : List ℤ) × (slice_index_or (a53 packets) n [] ≡ field_sync second last) }

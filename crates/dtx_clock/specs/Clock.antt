@@ -11,8 +11,8 @@ use Rattle.dtx_clock.specs.declared.answers.Moment.{Moment}
 abbrev pub stamp_of : ℕ → ℕ → ℕ
 stamp_of start frame = (start * 1539 + frame * 744789760) / 1539 % 10000000
 
--- whether a clock that runs gets from one stamp to another in so many frames: what lies between the two, modulo one
--- second, is the length of the frames by one division, rounded down or up
+-- Whether a clock that runs gets from one stamp to another in so many frames. It does where what lies between the two,
+-- modulo one second, is the length of the frames by one division, rounded down or up.
 abbrev pub runs : ℕ → ℕ → ℕ → Bool
 runs from to frames =
     ((to + 10000000 - from % 10000000) % 10000000 == frames * 744789760 / 1539 % 10000000)

@@ -30,8 +30,8 @@ pub fn stamp(start: u32, frame: u32) -> u32
     (grains / TICK % SECOND_TICKS as u64) as u32
 }
 
-/// Whether a clock that runs gets from the stamp `from` to the stamp `to` in so many frames: what lies between the two,
-/// modulo one second, is the length of the frames by one division, rounded down or up.
+/// Whether a clock that runs gets from the stamp `from` to the stamp `to` in so many frames. It does where what lies
+/// between the two, modulo one second, is the length of the frames by one division, rounded down or up.
 pub fn runs(from: u32, to: u32, frames: u32) -> bool
     ensures { result ≡ runs from to frames }
 {
@@ -51,8 +51,8 @@ pub fn hold(max: u32, offset: i16, delay: u32) -> Result<u32, Late>
     if left < 0 { Err(Late) } else { Ok(left as u32) }
 }
 
-/// The moment at which the data segment of the packet at that place of its frame begins: the frame's stamp, the maximum
-/// delay and the offset, and then the segments of the frame before it.
+/// The moment at which the data segment of the packet at that place of its frame begins. It is the frame's stamp, the
+/// maximum delay and the offset, and then the segments of the frame before it.
 pub fn moment(stamp: u32, max: u32, offset: i16, packet: u16) -> Moment
     requires stamp { stamp < SECOND_TICKS }
     requires max { max < SECOND_TICKS }

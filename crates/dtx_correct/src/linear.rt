@@ -9,7 +9,8 @@ use dtx_laws::correcting::{accept, encoded_again, marks_of, patch, syndromes_of}
 use dtx_laws::{Correct, TooMany};
 use dtx_rs::Rs;
 
-/// Corrects words of the code of `N` bytes a word with `K` bytes of data. It holds the code's encoder.
+/// Corrects words of the code of `N` bytes a word with `K` bytes of data (ATSC A/53 Part 2, Reed-Solomon encoder: the
+/// way back). It holds the code's encoder.
 #[derive(Drop)]
 pub struct Linear<const N: usize, const K: usize> {
     encoder: Rs<N, K>,

@@ -10,8 +10,8 @@ use dtx_laws::correcting::ROOM;
 /// How many coefficients the vectors have room for: more than half as many as a word can have bytes.
 pub const WIDTH: usize = 128;
 
-/// The coefficients of a locator that annuls the first `equations` places; what stands behind the first `equations + 1`
-/// of them doesn't count. Of the unit vectors one is given up for each equation, and one is left.
+/// The coefficients of a locator that annuls the first `equations` places. What stands behind the first `equations + 1`
+/// of them doesn't count.
 pub fn find_locator(syndromes: &[u8; ROOM], equations: usize) -> [u8; WIDTH]
     requires { equations < WIDTH }
     ensures long { length (take (equations + 1) result) ≡ equations + 1 }

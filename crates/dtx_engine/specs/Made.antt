@@ -19,7 +19,7 @@ both first second = record { first = first; second = second }
 abbrev pub joined : Made → Made → Made
 joined a b = record { first = a.first ++ b.first; second = a.second ++ b.second }
 
--- a front part of each
+-- a prefix of each
 abbrev pub AreFrontsOf : Made → Made → Type 0
 AreFrontsOf front whole = IsFrontOf front.first whole.first × IsFrontOf front.second whole.second
 

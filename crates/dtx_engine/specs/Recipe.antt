@@ -16,8 +16,8 @@ use Rattle.dtx_engine.specs.declared.engine.Shape.{Shape}
 use Rattle.dtx_engine.specs.declared.piece.Ending.{Ending}
 use Rattle.dtx_engine.specs.declared.piece.Ending.TheVariants.{Whole, Refused}
 
--- which units are allowed, what is made of the bytes of whole units and what the end adds to it, and how the command
--- ends where all units were read and so many bytes are loose behind them
+-- Which units are allowed, what is made of the bytes of whole units, and what the end adds to it. Also how the command
+-- ends where all units were read and so many bytes are loose behind them.
 pub record Recipe : Type 0 where
   pub allows : ℕ → List ℕ → Bool
   pub made : List ℕ → Made
@@ -28,8 +28,8 @@ pub record Recipe : Type 0 where
 abbrev pub IsEndOf : Recipe → Status → Type 0
 IsEndOf recipe status = (given : List ℕ) × (loose : ℕ) × (status ≡ (recipe.answer given loose).status)
 
--- What may be answered of an input of which this is made, whatever it holds: that some unit isn't allowed or that there
--- are too many, how the making ends, that the input isn't there, or a fault.
+-- What may be answered of an input of which this is made, whatever it holds. Some unit isn't allowed, there are too
+-- many, or the input isn't there. Or the making ends so, or there was an I/O error or no memory.
 abbrev pub IsAnswerOf : Recipe → Status → Type 0
 IsAnswerOf recipe (Packet k) = ((unit : List ℕ) × (recipe.allows k unit ≡ false)) ⊎ IsEndOf recipe (Packet k)
 IsAnswerOf recipe TooLong = Unit {0}

@@ -21,7 +21,7 @@ impl<const N: usize> Model for Buffer<N> {
 }
 
 impl<const N: usize> Buffer<N> {
-    /// An empty one.
+    /// An empty buffer. The only error is out of memory.
     pub fn new(alloc: Global) -> Result<Buffer<N>, AllocError>
         ensures { IfOk result (λ b. b ≡ []) }
     {

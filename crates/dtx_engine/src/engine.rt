@@ -77,7 +77,7 @@ pub trait Engine {
     /// Of no units nothing is made.
     ghost starts: { (s : Self) → (recipe s).made [] ≡ only [] };
 
-    /// What is made of first units is a front part of what is made of more.
+    /// What is made of first units is a prefix of what is made of more.
     ghost grows: { (s : Self) (a b : List ℕ) → length a % shape.unit ≡ 0
         → AreFrontsOf ((recipe s).made a) ((recipe s).made (a ++ b)) };
 }

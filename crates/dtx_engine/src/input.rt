@@ -18,8 +18,8 @@ pub struct Input<'a> {
     pub number: u8,
 }
 
-/// Asks for one byte of the input of that number, so that one that isn't there or can't be read is met before any
-/// output is begun.
+/// Asks for one byte of the input of that number, before any output is begun. So an input that isn't there or can't be
+/// read is met then: the error is `Absent` with its number, `ReadFault` or `Memory`.
 #[tactic(auto, using(crate::proofs::AnswersLemmas::read_answers))]
 pub fn ask_for<S: Shelf>(shelf: &mut S, which: u8, input: &str) -> Result<(), Status>
     ensures told { IfSome (S.files shelf.old) (λ held. IsAsked (files.get held input.now) which result) }

@@ -16,7 +16,7 @@ pub trait Outlet {
     /// Their names, in the order in which they are begun.
     ghost names: { Self → List (List ℕ) };
 
-    /// Since the start this was given to be written: each file has a front part of its bytes, and the value the rest.
+    /// Since the start this was given to be written: each file has a prefix of its bytes, and the value the rest.
     ghost gathered: { Self → Option Files → Made → Option Files → Type 0 };
 
     /// Nothing was given, and the names differ.
@@ -64,8 +64,8 @@ pub struct One<'a> {
 }
 
 impl<'a> One<'a> {
-    /// The output of that name, of which nothing was given. It takes the memory of one piece. (Match its answer: `?`
-    /// gets no proof here.)
+    /// The output of that name, of which nothing was given. It takes the memory of one piece, and the only error is out
+    /// of memory. (Match its answer: `?` gets no proof here.)
     pub fn new(alloc: Global, name: &'a str) -> Result<One<'a>, AllocError>
         ensures { IfOk result (λ w. ⟦<One<'a> as Outlet>⟧.fresh w × (⟦<One<'a> as Outlet>⟧.names w ≡ name.now ∷ [])) }
     {
@@ -113,8 +113,8 @@ impl<'a> Outlet for One<'a> {
     ghost part = { λ w start made now is. part_of_one w.name.now start made w.output now is };
 }
 
-/// How many bytes are gathered for each of two outputs: few, since the whole pages of a large piece go to its file at
-/// once, and only the rest of a page waits.
+/// How many bytes are gathered for each of two outputs. These are few: the whole pages of a large piece go to its file
+/// at once, and only the rest of a page waits.
 const GATHERED: usize = 16_384;
 
 /// Two outputs of two names.
@@ -127,8 +127,8 @@ pub struct Two<'a> {
 }
 
 impl<'a> Two<'a> {
-    /// The outputs of these names, of which nothing was given. Little memory is taken. (Match its answer: `?` gets no
-    /// proof here.)
+    /// The outputs of these names, of which nothing was given. Little memory is taken, and the only error is out of
+    /// memory. (Match its answer: `?` gets no proof here.)
     pub fn new(alloc: Global, first: &'a str, second: &'a str) -> Result<Two<'a>, AllocError>
         requires { first.now ≢ second.now }
         ensures { IfOk result (λ w. ⟦<Two<'a> as Outlet>⟧.fresh w

@@ -15,8 +15,8 @@ use Rattle.dtx_exciter.specs.Packets.{readings, under}
 unfoldable pub segments_since : ℕ → List ℕ → List (List ℕ) → ℕ → List (List ℤ)
 segments_since g q packets u = four_segments (levels_since g q packets) (4 * (u - g))
 
--- the data segments of the group from i on under these orders, where the transmitter is served: the coders begin with
--- the states of the order in force, before its group
+-- The data segments of the group from i on under these orders, where the transmitter is served. The coders begin with
+-- the states of the order in force, before its group.
 abbrev pub sent_by : ℕ → ℕ → List (List ℕ) → ℕ → List Order → List (List ℤ)
 sent_by address delay packets i [] = []
 sent_by address delay packets i (order ∷ older) =
@@ -35,8 +35,8 @@ sent_before address delay packets i = if nat_le 4 i then sent_at address delay p
 abbrev pub was_sent : ℕ → ℕ → List (Option Ops) → ℕ → Bool
 was_sent address delay readings i = nat_le 4 i && is_sent (told_at address delay (i - 4) (orders readings (i - 4)))
 
--- a sent group behind a field sync, where it begins a field and the group before it was sent: the field sync ends with
--- the last twelve symbols that were sent
+-- A sent group. Where it begins a field and the group before it was sent, a field sync stands before it, which ends
+-- with the last twelve symbols that were sent.
 abbrev pub behind_field_sync : ℕ → List (List ℤ) → List (List ℤ) → List (List ℤ)
 behind_field_sync i before [] = []
 behind_field_sync i [] (s ∷ ss) = s ∷ ss

@@ -10,10 +10,10 @@ use Rattle.dtx_exciter.specs.Order.{counting_order}
 use Rattle.dtx_exciter.specs.Pages.{entry_of, lists}
 use Rattle.dtx_exciter.specs.Packets.{readings, anchor_of}
 
--- What the exciter of the transmitter with this address and delay asks of a feed to go with it at this offset: a mark
+-- What the exciter of the transmitter with this address and delay asks of a feed to go with it at this offset. A mark
 -- stands at each 624th packet and nowhere else. The orders 52 or more packets behind its start set the states that the
 -- feed's own coders have before the order's group. All have one number of pages. Of the orders of one page all list the
--- address or none does; those that list it do with this offset. The delay is at most each maximum delay plus it.
+-- address or none does. Those that list it do with this offset. The delay is at most each maximum delay plus it.
 pub record IsFeed (address delay : ℕ) (offset : ℤ) (feed : List (List ℕ)) : Type 0 where
   pub marks : (k : ℕ) → k < length feed → (sync_of (slice_index_or feed k []) == 0xB8) ≡ (k % 624 == 0)
   pub states : (g : ℕ) (ops : Ops) → counting_order (readings feed) g ≡ Some ops → ops.states ≡ states (take g feed)
@@ -27,9 +27,9 @@ pub record IsFeed (address delay : ℕ) (offset : ℤ) (feed : List (List ℕ)) 
   pub serves : (g : ℕ) (ops : Ops) → counting_order (readings feed) g ≡ Some ops
       → pos delay ≤ℤ (pos ops.max_delay +ℤ offset)
 
--- the packet of a feed from which on an exciter is locked to it, where it is given the feed from this mark on behind n
--- packets with this anchor: from the mark on where nothing was locked, or the old lock is in step with the mark; else
--- the old lock is out of step, and lost by the third mark
+-- The packet of a feed from which on an exciter is locked to it, where it is given the feed from this mark on behind n
+-- packets with this anchor. It is locked from the mark on where nothing was locked, or the old lock is in step with the
+-- mark. Else the old lock is out of step, and lost by the third mark.
 abbrev pub locked_by : Option ℕ → ℕ → ℕ → ℕ
 locked_by None n mark = mark
 locked_by (Some j) n mark = if (n - j) % 624 == 0 then mark else mark + 1248
@@ -38,8 +38,8 @@ locked_by (Some j) n mark = if (n - j) % 624 == 0 then mark else mark + 1248
 unfoldable pub locked_from : List (List ℕ) → ℕ → ℕ
 locked_from earlier mark = locked_by (anchor_of earlier) (length earlier) mark
 
--- Behind packet z of the feed and each further one the anchor is the same, in step with the feed, where the feed is
--- given from mark on behind earlier packets.
+-- The feed is given from mark on behind earlier packets. Behind packet z of the feed and each further one the anchor is
+-- the same, in step with the feed.
 pub record HasLock (earlier feed : List (List ℕ)) (mark z : ℕ) : Type 0 where
   pub place : ℕ
   pub within : place ≤ length earlier + (z - mark)

@@ -41,7 +41,7 @@ abbrev pub all_pages_told : List Order → Bool
 all_pages_told [] = false
 all_pages_told (order ∷ older) = list_all (is_told (order ∷ older)) (range_with_len 0 (pages order))
 
--- Page k of n was told for the group that begins at i: an order up to that group tells it, and each one from there on
+-- Page k of n was told for the group that begins at i. An order up to that group tells it, and each one from there on
 -- has this number of pages.
 pub record WasTold (said : List (Option Ops)) (i n k : ℕ) : Type 0 where
   pub group : ℕ

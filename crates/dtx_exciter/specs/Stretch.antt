@@ -30,16 +30,17 @@ lines_behind address delay n packets more =
 
 -- ---- in front of the stretch
 
--- the field sync in front of the group from packet k on, where the group before it gave these segments: none where it
--- wasn't sent or k begins no field, else one, which ends with the last twelve symbols that were sent
+-- The field sync in front of the group from packet k on, where the group before it gave these segments. There is none
+-- where that group wasn't sent or k begins no field. Else there is one, which ends with the last twelve symbols that
+-- were sent.
 abbrev pub sync_behind : List (List ℤ) → ℕ → List (List ℤ)
 sync_behind [] k = []
 sync_behind (s ∷ ss) k =
     if k % 312 == 0 then field_sync (nat_le 312 (k % 624))
     (last_of (slice_index_or (s ∷ ss) (length ss) [])) ∷ [] else []
 
--- all that is given before the data segment of packet k, where a feed is given from its mark on behind earlier packets:
--- what the packets before the last one of its group give, and the field sync in front of the group
+-- All that is given before the data segment of packet k, where a feed is given from its mark on behind earlier packets.
+-- It is what the packets before the last one of its group give, and the field sync in front of the group.
 unfoldable pub before_stretch : ℕ → ℕ → List (List ℕ) → List (List ℕ) → ℕ → ℕ → List (List ℤ)
 before_stretch address delay earlier feed mark k =
     emission address delay (earlier ++ slice_range feed mark (k + 3))

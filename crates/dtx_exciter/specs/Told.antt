@@ -22,8 +22,8 @@ abbrev pub left_of : ℤ → Result ℕ (Option Why)
 left_of (pos n) = Ok n
 left_of (negsuc n) = Err (Some Late)
 
--- the maximum delay and the offset of the entry in force less the delay: where there is none, the transmitter waits for
--- its page, and is unlisted once all pages are told
+-- The maximum delay and the offset of the entry in force less the delay. Where there is no such entry, the transmitter
+-- waits for its page, and is unlisted once all pages are told.
 abbrev pub hold_by : ℕ → ℕ → Option Entry → Bool → Result ℕ (Option Why)
 hold_by delay most None told = Err (if told then Some Unlisted else None)
 hold_by delay most (Some e) told = left_of (pos most +ℤ e.offset -ℤ pos delay)

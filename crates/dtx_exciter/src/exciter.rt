@@ -20,8 +20,8 @@ use dtx_trellis::States;
 use std::alloc::{AllocError, Global};
 use std::rc::Rc;
 
-/// An exciter. It is given the packets of a feed, from any place of it on and whatever else, and sends the segments
-/// that its orders tell it to send (the profile's own, over ATSC A/53 Part 2 and in the manner of ATSC A/110).
+/// An exciter (the profile's own, over ATSC A/53 Part 2 and in the manner of ATSC A/110). It is given the packets of a
+/// feed, from any place of it on and whatever else, and sends the segments that its orders tell it to send.
 #[derive(Drop)]
 pub struct Exciter {
     address: u16,
@@ -37,14 +37,14 @@ pub struct Exciter {
 
 impl Exciter {
     /// The exciter of the transmitter with this address, to which the feed takes `delay` ticks of 100 ns. It was given
-    /// nothing.
+    /// nothing. The only error is out of memory.
     pub fn new(alloc: Global, address: u16, delay: u32) -> Result<Exciter, AllocError>
         ensures { IfOk result (λ exciter. StandsFor address delay exciter []) }
     {
         Exciter::sharing(alloc, &Tables::new(alloc)?, address, delay)
     }
 
-    /// The same, by tables that others may share.
+    /// The same, by tables that others may share. The only error is out of memory.
     pub fn sharing(
         alloc: Global,
         tables: &Tables,
@@ -66,9 +66,9 @@ impl Exciter {
         })
     }
 
-    /// Is given one more packet, of any bytes. `Sent` is answered to the last packet of a group that is sent, and then
-    /// the air holds its segments: four data segments, and before them a field sync, where the group begins a field and
-    /// the group before it was sent. With any other answer the air holds none.
+    /// Is given one more packet, of any bytes. `Sent` is answered to the last packet of a group that is sent. Then the
+    /// air holds its segments: four data segments, and before them a field sync, where the group begins a field and the
+    /// group before it was sent. With any other answer the air holds none.
     pub fn take(&mut self, packet: &Packet, air: &mut Air) -> Told
         ensures { (address delay : ℕ) (before : List (List ℕ)) → StandsFor address delay self.old before
             → IsTaken address delay (before ++ packet.now.0 ∷ []) self.new result air.new.segments air.new.symbols }

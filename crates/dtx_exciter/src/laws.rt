@@ -32,11 +32,11 @@ pub fn locked()
         → HasLock earlier feed mark (locked_from earlier mark) }
 {}
 
-/// An exciter that is given a feed unchanged from one of its marks on gives, from any order on that lists it and whose
-/// group begins 52 or more packets behind the place from which it is locked, just the feed's own segments, from the
-/// first data segment of that group on, in a row and with nothing between, up to the last group that ends before the
-/// packets that are given then. What it gives before them is what it gives before the last packet of that group, and
-/// then at most one field sync, in front of the group.
+/// An exciter is given a feed unchanged from one of its marks on. Take any order that lists it and whose group begins
+/// 52 or more packets behind the place from which it is locked. From the first data segment of that group on it gives
+/// just the feed's own segments, in a row and with nothing between. They go up to the last group that ends before the
+/// packets that are given then. Before them it gives what it gives before the last packet of that group, and then at
+/// most one field sync, in front of the group.
 pub fn lockstep()
     ensures exact { (address delay : ℕ) (offset : ℤ) (feed earlier : List (List ℕ)) (mark end k : ℕ)
         → IsFeed address delay offset feed → IsStretch address feed (locked_from earlier mark) mark end k
@@ -49,8 +49,8 @@ pub fn lockstep()
         ++ (stretch feed k end ++ emission_behind address delay (earlier ++ slice_range feed mark end) later) }
 {}
 
-/// How many segments stand before the stretch: as many as are given before the last packet of its first group, and one
-/// more where a field sync stands in front of that group.
+/// How many segments stand before the stretch: as many as are given before the last packet of its first group. Where a
+/// field sync stands in front of that group, there is one more.
 pub fn counts()
     ensures before { (address delay : ℕ) (feed earlier : List (List ℕ)) (mark k : ℕ)
         → length (before_stretch address delay earlier feed mark k)
@@ -59,9 +59,9 @@ pub fn counts()
     ensures sync { (segments : List (List ℤ)) (k : ℕ) → length (sync_behind segments k) ≤ 1 }
 {}
 
-/// The log beside the stretch: the lines of what is given before the last packet of its first group, and then one line
-/// for each order of the stretch and no other, which speaks of the group's first data segment and has the order's
-/// moment there.
+/// The log beside the stretch. It has the lines of what is given before the last packet of its first group, and then
+/// one line for each order of the stretch and no other. Such a line speaks of the group's first data segment and has
+/// the order's moment there.
 pub fn lines()
     ensures exact { (address delay n : ℕ) (offset : ℤ) (feed earlier : List (List ℕ)) (mark end k : ℕ)
         → IsFeed address delay offset feed → IsStretch address feed (locked_from earlier mark) mark end k
@@ -86,8 +86,8 @@ pub fn first_line()
         ∷ map (preset_line offset s k) (orders_in feed (k + 1) end) }
 {}
 
-/// How many segments a packet gives: none where its answer isn't that its group is sent, and else the group's four, and
-/// one more where a field begins with the group and the group before it was sent too.
+/// How many segments a packet gives. It gives none where its answer isn't that its group is sent, and else the group's
+/// four. It gives one more where a field begins with the group and the group before it was sent too.
 pub fn sent_packets_give()
     ensures none { (address delay : ℕ) (packets : List (List ℕ)) (packet : List ℕ)
         → is_sent (last_answer address delay (packets ++ packet ∷ [])) ≡ false
@@ -99,10 +99,10 @@ pub fn sent_packets_give()
         ≡ (if was_sent address delay (readings l) (length l - 4) && ((length l - 4) % 312 == 0) then 5 else 4)) }
 {}
 
-/// How many segments packets give at most. With p packets behind the last whole group under the anchor, which is all of
-/// them under it where no group is whole, and 0 where there is no anchor, one packet more gives at most five quarters
-/// of p + 1 segments, less five quarters of what stands so behind it. So m packets in a row give at most 5 (p + m) / 4,
-/// and p is at most 3.
+/// How many segments packets give at most. Let p be the packets behind the last whole group under the anchor: all of
+/// them under it where no group is whole, and 0 where there is no anchor. Then one packet more gives at most five
+/// quarters of p + 1 segments, less five quarters of what stands so behind it. So m packets in a row give at most 5 (p
+/// + m) / 4, and p is at most 3.
 pub fn groups_are_spaced()
     ensures spaced { (address delay : ℕ) (packets : List (List ℕ)) (packet : List ℕ)
         → 4 * length (last_segments address delay (packets ++ packet ∷ [])) + 5 * group_part (packets ++ packet ∷ [])
@@ -127,7 +127,7 @@ pub fn lines_go_on()
 
 // ---- sync bytes
 
-/// A sync byte tells an exciter of marks alone: packets that differ in their sync bytes alone, and have the same anchor
+/// A sync byte tells an exciter of marks alone. Packets that differ in their sync bytes alone, and have the same anchor
 /// behind each packet, have the same answers, segments and lines.
 pub fn sync_bytes_are_not_sent()
     ensures answers { (address delay n : ℕ) (xs ys : List (List ℕ)) → AreSentAlike xs ys → n ≤ length xs
@@ -146,8 +146,8 @@ pub fn one_missing_mark()
         → AreSentAlike packets (slice_set packets i packet) }
 {}
 
-/// Any number of stray marks change nothing under an anchor: packets that differ in their sync bytes alone, and have
-/// the same marks up to the anchor and where marks are due.
+/// Any number of stray marks change nothing under an anchor. This holds of packets that differ in their sync bytes
+/// alone, and have the same marks up to the anchor and where marks are due.
 pub fn stray_marks()
     ensures { (xs ys : List (List ℕ)) (j : ℕ) → bodies xs ≡ bodies ys → anchor_of xs ≡ Some j
         → AreAlike (syncs xs) (syncs ys) (j + 1) → AreAlikeWhereDue (syncs xs) (syncs ys) j → AreSentAlike xs ys }
@@ -155,10 +155,10 @@ pub fn stray_marks()
 
 // ---- two transmitters
 
-/// Two transmitters that are given a feed from a mark of it on, each behind packets of its own, give the same segments
-/// in a stretch that begins with an order that lists both, and for each order there a line of the same frame and
-/// packet; the two lines' moments differ by the difference of the two offsets, in ticks of 1539 grains, and otherwise
-/// by whole seconds.
+/// Two transmitters are given a feed from a mark of it on, each behind packets of its own. In a stretch that begins
+/// with an order that lists both, they give the same segments. For each order there both give a line of the same frame
+/// and packet. The moments of these two lines differ by the difference of the two offsets, in ticks of 1539 grains, and
+/// otherwise by whole seconds.
 pub fn same_everywhere()
     ensures segments { (a b delay_a delay_b : ℕ) (offset_a offset_b : ℤ) (feed earlier_a earlier_b : List (List ℕ))
         (mark_a mark_b end k : ℕ) → IsFeed a delay_a offset_a feed → IsFeed b delay_b offset_b feed
@@ -175,7 +175,7 @@ pub fn same_everywhere()
 
 // ---- several pages
 
-/// A transmitter without an entry in force is told so at an order exactly where all pages were told; else nothing is
+/// A transmitter without an entry in force is told so at an order exactly where all pages were told. Else nothing is
 /// answered there, and it waits for its page. All are told exactly where, for each of the order in force's pages, some
 /// order tells it and each one from there on has this number of pages.
 pub fn pages()
@@ -191,9 +191,9 @@ pub fn pages()
 
 // ---- several lives
 
-/// The segments and the log of several lives, from one of them on: those of the lives before it, its own, and those of
-/// the lives behind it, with a restart between any two. Each line counts all segments before it, those of earlier lives
-/// too.
+/// The segments and the log of several lives, from one of them on. They are those of the lives before it, its own, and
+/// those of the lives behind it, with a restart between any two. Each line counts all segments before it, those of
+/// earlier lives too.
 pub fn in_lives()
     ensures segments { (address delay : ℕ) (xs ys : List (List (List ℕ))) (life : List (List ℕ))
         → emission_over address delay (xs ++ life ∷ ys) ≡ emission_over address delay xs

@@ -58,8 +58,8 @@ pub fn ordered(place: u16, reading: Result<Ops, OpsNo>) -> Option<Ops>
     }
 }
 
-/// Whether 52 or more packets stand under the anchor, as the packet at this place of its frame has joined them, and
-/// whether they did so before it: only groups behind them count as orders.
+/// Whether 52 or more packets stand under the anchor once the packet at this place of its frame has joined them;
+/// `before` says whether they did without it. Only groups behind them count as orders.
 pub fn is_flushed(before: bool, place: u16) -> bool
     ensures { result ≡ (before || (place == 51)) }
 {

@@ -12,7 +12,7 @@ pub struct Tables {
 }
 
 impl Tables {
-    /// The tables are made here. Only want of memory is refused.
+    /// The tables are made here. The only error is out of memory.
     pub fn new(alloc: Global) -> Result<Tables, AllocError> {
         Ok(Tables {
             coding: dtx_coder::Tables::new(alloc)?,
@@ -20,7 +20,7 @@ impl Tables {
         })
     }
 
-    /// The corrector of operations packets, shared.
+    /// The corrector of operations packets, shared. The only error is out of memory.
     pub fn corrector(&self) -> Result<Rc<Corrector>, AllocError> {
         self.corrector.clone()
     }

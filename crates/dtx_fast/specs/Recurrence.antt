@@ -11,7 +11,7 @@ unfoldable pub discrepancy : ℕ → (ℕ → ℕ) → (ℕ → ℕ) → ℕ →
 discrepancy zero c s n = 0
 discrepancy (suc w) c s n = bit_xor (discrepancy w c s n) (mul (c w) (s (n - w)))
 
--- A recurrence of order l: each of the terms of s from l to n - 1 follows from the l terms before it, by coefficients
+-- A recurrence of order l. Each of the terms of s from l to n - 1 follows from the l terms before it, by coefficients
 -- of which the first is 1.
 pub record IsRecurrence (n l : ℕ) (s c : ℕ → ℕ) : Type 0 where
   pub newest : c 0 ≡ 1
@@ -48,8 +48,8 @@ unfoldable pub walked : ℕ → (ℕ → ℕ) → ℕ → ℕ
 walked zero c y = 0
 walked (suc w) c y = bit_xor (walked w c y) (mul (c w) (pow y w))
 
--- the value of the error at the place of the power x, by a recurrence of order l of the syndromes s: a combination of
--- the syndromes by the quotient, over the quotient's value, of which the power 254 is the inverse
+-- The value of the error at the place of the power x, by a recurrence of order l of the syndromes s. It is a
+-- combination of the syndromes by the quotient, over the quotient's value, of which the power 254 is the inverse.
 unfoldable pub error_value : ℕ → (ℕ → ℕ) → (ℕ → ℕ) → ℕ → ℕ
 error_value l c s x = mul (discrepancy l (quotient x c) s (l - 1)) (pow (low_value (turned l (quotient x c)) x) 254)
 

@@ -6,8 +6,7 @@ use Rattle.dtx_fast.specs.Recurrence.{discrepancy, IsLeast}
 use Rattle.dtx_fast.specs.declared.recurrence.TheConstants.{WIDTH}
 
 -- After n terms c is a recurrence of order l, and none has a lower order. b was the one before the order grew for the
--- last time, which failed `gap` terms ago by what `inverse` is the inverse of; where none has failed, all n terms are
--- 0.
+-- last time. It failed `gap` terms ago, by what `inverse` is the inverse of. Where none has failed, all n terms are 0.
 pub record IsStage (n l gap inverse : ℕ) (s c b : ℕ → ℕ) : Type 0 where
   pub newest : c 0 ≡ 1
   pub behind : (k : ℕ) → l < k → c k ≡ 0

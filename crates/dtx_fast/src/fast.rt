@@ -17,8 +17,8 @@ use dtx_laws::correcting::{ROOM, accept, encoded_again};
 use dtx_laws::{Correct, Encode, PARITY, TooMany};
 use dtx_rs::Rs;
 
-/// Corrects words of the code of `N` bytes a word with `K` bytes of data. It holds the code's encoder and tables, 45
-/// kB in all, so make one and keep it.
+/// Corrects words of the code of `N` bytes a word with `K` bytes of data (ATSC A/53 Part 2, Reed-Solomon encoder: the
+/// way back). It holds the code's encoder and tables, 45 kB in all, so make one and keep it.
 #[derive(Drop)]
 pub struct Fast<const N: usize, const K: usize> {
     encoder: Rs<N, K>,

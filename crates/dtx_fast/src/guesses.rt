@@ -78,7 +78,7 @@ impl Guesses {
         ))
     }
 
-    /// The zeros of x * x * x + p * x * x + q * x + r, where there are three: for x = p + scale * z it is a multiple of
+    /// The zeros of x * x * x + p * x * x + q * x + r, where there are three. For x = p + scale * z it is a multiple of
     /// z * z * z + z + rest.
     fn zeros(&self, locator: &[Gf; 3]) -> [Gf; 3] {
         let [p, q, r] = *locator;
@@ -122,7 +122,7 @@ fn first_seven(syndromes: &[u8; ROOM]) -> [Gf; 7] {
     ]
 }
 
-/// The coefficients below the highest, 1, of the polynomial that vanishes at the powers of three places: they make each
+/// The coefficients below the highest, 1, of the polynomial that vanishes at the powers of three places. They make each
 /// of three syndromes of the three before it, which Cramer's rule solves.
 fn locator_of_three(syndromes: &[u8; ROOM]) -> [Gf; 3] {
     let [a, b, c, d, e, f, _] = first_seven(syndromes);

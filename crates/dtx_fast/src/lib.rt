@@ -1,5 +1,5 @@
-//! The faster corrector of codewords: nearly all words of up to three wrong bytes in closed form, all others by the
-//! method of Berlekamp and Massey for the locator and Forney's quotient for the values.
+//! The faster corrector of codewords. It corrects nearly all words of up to three wrong bytes in closed form. For all
+//! others it finds the locator by the method of Berlekamp and Massey and the values by Forney's quotient.
 #![tactic(auto)]
 
 mod fast;

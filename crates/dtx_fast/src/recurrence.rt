@@ -69,8 +69,8 @@ pub fn find_recurrence(syndromes: &[u8; ROOM], count: usize) -> Option<Recurrenc
     Some(Recurrence::new(&stage.coefficients[..], stage.order))
 }
 
-/// A recurrence of the terms so far; the one before its order grew for the last time, how many terms ago that one
-/// failed, and the inverse of what it failed by.
+/// A recurrence of the terms so far, and the one before its order grew for the last time. Also how many terms ago that
+/// one failed, and the inverse of what it failed by.
 #[derive(Drop)]
 struct Stage {
     coefficients: [u8; WIDTH],

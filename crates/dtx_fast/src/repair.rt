@@ -93,9 +93,9 @@ fn has_zero(walk: &[u8; ROOM], start: usize) -> bool
     any
 }
 
-/// The value of the error at the place of the power `at`, by the polynomial of that order, the highest coefficient
-/// first, that vanishes at the powers of all wrong places: a combination of the syndromes by its quotient by `X - at`,
-/// over the quotient's own value at `at`, of which the power 254 is the inverse.
+/// The value of the error at the place of the power `at`, by the polynomial of that order that vanishes at the powers
+/// of all wrong places. The highest coefficient stands first. The value is a combination of the syndromes by the
+/// polynomial's quotient by `X - at`, over the quotient's own value at `at`, of which the power 254 is the inverse.
 #[inline(never)]
 pub fn error_value(coefficients: &[u8], order: usize, syndromes: &[u8; ROOM], at: Gf) -> Gf
     requires coefficients { order < length coefficients.now }

@@ -7,8 +7,8 @@ use arrayvec::ArrayString;
 use dtx_exciter::{Preset, Told, Why};
 use itoa::Buffer;
 
-/// How many bytes a line has room for: `preset`, numbers of 64, 32, 16, 32 and 16 bits with a space before each, and a
-/// line feed are 62 bytes at most.
+/// How many bytes a line has room for. A line of `preset`, numbers of 64, 32, 16, 32 and 16 bits with a space before
+/// each, and a line feed has 62 bytes at most.
 pub const LOG_LINE: usize = 64;
 
 /// Sets the text to the line of an exciter's answer, or to nothing where it has none (the profile's own). So many

@@ -54,9 +54,9 @@ abbrev pub Where : Bool → Type 0
 Where true = Unit {0}
 Where false = ⊥
 
--- The command may be answered so, whatever the words and the files are: a refusal of a plan where it reads one, of a
--- packet where it judges them, and so on. Each command may be answered the rest; which input may be absent its words
--- say (`IsOfWords`).
+-- The command may be answered so, whatever the words and the files are. A refusal of a plan comes where it reads one,
+-- of a packet where it judges them, and so on. Each command may be answered the rest. Which input may be absent its
+-- words say (`IsOfWords`).
 abbrev pub Knows : Command → Status → Type 0
 Knows command (Plan refusal) = Where (reads_plan command)
 Knows command (Packet k) = Where (judges_packets command)

@@ -1,5 +1,5 @@
--- Laws of what is made of damaged bytes.
--- They stand here since the ghost members of an impl, a trait's laws, cite lemmas of specs/ alone.
+-- Laws of what is made of damaged bytes. They stand in specs/, since the ghost members of an impl, a trait's laws, can
+-- cite lemmas from there only.
 use Rattle.std.proofs.Common.{◌≡◌, ℕ, ◌%◌, List, [], ◌++◌, length, sym, ap, subst, ◌∙◌}
 use Rattle.dtx_engine.specs.Made.{only, AreFrontsOf}
 use Rattle.dtx_engine.specs.Recipe.{Recipe}
@@ -13,7 +13,7 @@ pub hurt_starts : (damage : List Damage) (recipe : Recipe) → recipe.made [] �
     → (damaged_making damage recipe).made [] ≡ only []
 hurt_starts damage recipe starts = ap recipe.made (hurt_none damage) ∙ starts
 
--- what is made of first bytes is a front part of what is made of more
+-- what is made of first bytes is a prefix of what is made of more
 pub hurt_grows : (damage : List Damage) (recipe : Recipe) (unit : ℕ)
     → ((a b : List ℕ) → length a % unit ≡ 0 → AreFrontsOf (recipe.made a) (recipe.made (a ++ b)))
     → (a b : List ℕ) → length a % unit ≡ 0

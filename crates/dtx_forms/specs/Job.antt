@@ -10,18 +10,18 @@ use Rattle.dtx_words.specs.declared.rows.Command.{Command}
 use Rattle.dtx_forms.specs.Answers.{Knows}
 use Rattle.dtx_forms.specs.OfWords.{IsOfWords}
 
--- which command it is, what words mean, whether two of its file names are equal, where the words fit, and nothing where
--- they don't, and how many inputs they name
+-- which command it is, what words mean, whether two of its file names are equal (nothing where the words don't fit),
+-- and how many inputs they name
 pub record Job : Type 0 where
   pub command : Command
   pub means : List (List ℕ) → Files → Meaning
   pub same : List (List ℕ) → Option Bool
   pub inputs : ℕ
 
--- What is meant was done. Where the files are told, all of it, or a fault or want of memory was met and the first of
--- its outputs, none perhaps, hold front parts; every other file is as before. Whether they are told or not, the answer
--- is one that the words allow and that the command knows, and no count fell: the one that the answer is blamed on rose,
--- and where it is blamed on nothing, want of memory neither, all stand.
+-- What is meant was done. Where the files are told, all of it was done, or there was an I/O error or lack of memory.
+-- Then each of the first of its outputs, none perhaps, holds a prefix. Every other file is as before. Whether the files
+-- are told or not, the answer is one that the words allow and that the command knows, and no count fell. The count that
+-- the answer is blamed on rose. Where the answer is blamed on nothing, and isn't out of memory, all counts stand.
 pub record IsPerformed (command : Command) (means : Files → Meaning) (same : Option Bool) (inputs : ℕ)
     (outcome : Outcome) (told now : Option Files) (before after : Counts) : Type 0 where
   pub carried : IfSome told (λ held. IsCarriedOut (means held) (Some held) outcome now)

@@ -56,8 +56,8 @@ make_same words = None
 
 -- ---- the answer
 
--- Words that don't fit are answered so, and no others. Of words that fit equal names are refused as such unless memory
--- is wanted, and no others; and an input that isn't there is one of those that they name.
+-- Words that don't fit are answered so, and no others. Of words that fit, equal names are refused as such unless memory
+-- runs out, and no others are. An input that isn't there is one of those that they name.
 abbrev pub IsOfWords : Option Bool → ℕ → Status → Type 0
 IsOfWords None inputs status = status ≡ Usage
 IsOfWords (Some same) inputs status = IsOfInputs same inputs status

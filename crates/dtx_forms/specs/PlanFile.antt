@@ -1,4 +1,4 @@
--- What comes of reading a file that is read whole, a plan or a file of changes; what a command means that reads one.
+-- What comes of reading a file that is read whole, a plan or a file of changes. What a command means that reads one.
 use Rattle.std.specs.Prelude.{◌≡◌, ℕ, ◌≤◌, Bool, true, List, length, take, Option, Some, None, Result, Ok, Err}
 use Rattle.std.specs.Prelude.{IsSomeAnd}
 use Rattle.std.specs.Prelude.{Vec}

@@ -1,5 +1,6 @@
-//! What a job is, and the forms that jobs have: one output of one input, what a transmitter sends and logs, one output
-//! of two inputs; the plan and the changes that some of them read, and in which units they read their inputs.
+//! What a job is, and the forms that jobs have: one output of one input, what a transmitter sends and logs, and one
+//! output of two inputs. Also the plan and the changes that some of them read, and in which units they read their
+//! inputs.
 #![tactic(auto)]
 
 mod changing;

@@ -13,14 +13,15 @@ use dtx_outside::{Shelf, fill};
 use dtx_plan::{Damages, Plan, read_changes, read_plan};
 use std::alloc::{AllocError, Global};
 
-/// How many bytes of a plan or a file of changes are read: one more than such a file may have, so that a file that is
-/// too long is told from one that isn't.
+/// How many bytes of a plan or a file of changes are read. It is one more than such a file may have, so that a file
+/// that is too long is told from one that isn't.
 const SMALL: usize = 16_777_217;
 
 /// How many bytes of it are read at once.
 const PIECE: usize = 65_536;
 
-/// Reads the plan of the input of that number. Its text is that of `dtx_plan::read_plan` (the profile's own).
+/// Reads the plan of the input of that number. Its text is that of `dtx_plan::read_plan` (the profile's own). The error
+/// is `Absent` with that number, `Plan` with the rule that is broken, `ReadFault` or `Memory`.
 pub fn plan_in<S: Shelf>(
     alloc: Global,
     shelf: &mut S,
@@ -46,7 +47,7 @@ pub fn plan_in<S: Shelf>(
 }
 
 /// Reads the damage of the file of changes of that number. Its text is that of `dtx_plan::read_changes` (the profile's
-/// own).
+/// own). It refuses as `plan_in` does.
 pub fn changes_in<S: Shelf>(
     alloc: Global,
     shelf: &mut S,

@@ -47,9 +47,9 @@ struct TransmitterFiles<'a> {
     log: &'a str,
 }
 
-/// Reads ADDRESS, 0 to 65,535, and DELAY, for how many ticks of 100 ns the feed is on its way, 0 to 4,294,967,295, in
-/// decimal digits without sign and without a leading zero unless it is `0`, and gives the units of IN to an engine of
-/// that transmitter, whose symbols go to OUT and whose log goes to LOG.
+/// Gives the units of IN to an engine of the transmitter that ADDRESS and DELAY name, whose symbols go to OUT and whose
+/// log goes to LOG. ADDRESS is 0 to 65,535. DELAY is for how many ticks of 100 ns the feed is on its way, 0 to
+/// 4,294,967,295. Both are read in decimal digits without sign and without a leading zero unless it is `0`.
 pub fn transmit<E: Transmitting, S: Shelf>(alloc: Global, words: &[Word], shelf: &mut S) -> Outcome
     ensures { IsJobPerformed (transmit_job E.command E.shape E.sends) words.now result
         (S.files shelf.old) (S.files shelf.new)

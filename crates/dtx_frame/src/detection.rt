@@ -54,8 +54,9 @@ fn differs(segment: &[i8; SEGMENT], i: usize) -> u16
     }
 }
 
-/// Whether a field sync is that of a second field: at least 32 of the 63 symbols of the middle one of its three short
-/// sequences, sliced, have the other sign than that sequence. Levels 0 to 3 are the negative sign (the profile's own).
+/// Whether a field sync is that of a second field. It is one where at least 32 of the 63 symbols of the middle one of
+/// its three short sequences, sliced, have the other sign than that sequence. Levels 0 to 3 are the negative sign (the
+/// profile's own).
 pub fn is_second(segment: &[i8; SEGMENT]) -> bool
     ensures { result ≡ looks_second segment.now }
 {

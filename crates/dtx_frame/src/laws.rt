@@ -13,7 +13,7 @@ ghost use Rattle.dtx_frame.specs.Detection.{differing, looks_like, looks_second}
 use dtx_sizes::{GROUP_BYTES, PRECODE, SEGMENT_LEVELS};
 
 /// An undamaged data segment, segment n of whole groups from any states, differs from a field sync in at least 64 of
-/// its first 515 symbols, and so it doesn't look like one.
+/// its first 515 symbols. So it doesn't look like one.
 pub fn unlike()
     ensures differing { (s u n : ℕ) (states bytes : List ℕ) → length bytes ≡ GROUP_BYTES * u → n < 4 * u
         → 64 ≤ differing (data_segment (slice_range (levels_of s states bytes) (SEGMENT_LEVELS * n)

@@ -28,7 +28,7 @@ pub record Hears (plan : Plan) (stream : List (List ℕ)) (t : Transmitter) (del
   pub holds_sync : to_sync first < length sent
   pub slight : IsSlight (feed plan stream) first sent got
   -- The middle one of the short sequences of the first field sync has at most 31 wrong signs, for a first or a second
-  -- field: a second one begins 312 packets behind a mark.
+  -- field. A second one begins 312 packets behind a mark.
   pub few_wrong_signs : wrong_signs (packet_behind first % 624 == 312) (first_sync first got) ≤ 31
 
 -- the first mark of a feed at packet m or behind it: the packet that begins a frame
@@ -39,7 +39,7 @@ mark_from m = 624 * ((m + 623) / 624)
 abbrev pub heard_mark : ℕ → ℕ
 heard_mark first = mark_from (packet_behind first)
 
--- The packet up to which the feed is received whole: behind the first field sync so many packets in a row have all
+-- The packet up to which the feed is received whole. Behind the first field sync so many packets in a row have all
 -- their 207 bytes among those received, and no packet behind them has.
 unfoldable pub heard_to : ℕ → List (List ℤ) → ℕ
 heard_to first got = packet_behind first + length (numbers_in (from_sync first got))

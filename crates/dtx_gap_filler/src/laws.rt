@@ -16,7 +16,7 @@ use dtx_chain::laws::{gives_all_back, no_damage};
 use dtx_network::laws::{from_a_mark, packets_of_a_feed};
 
 /// The packets that a repeater gives its exciter of a feed that it hears are just the feed's, marks and all, in one
-/// life: from the one behind the first field sync on, as far as they are received whole.
+/// life. They are those from the one behind the first field sync on, as far as they are received whole.
 pub fn is_given_the_feed()
     ensures life { (plan : Plan) (stream : List (List ℕ)) (t : Transmitter) (delay first : ℕ) (sent got : List (List ℤ))
         → Hears plan stream t delay first sent got
@@ -30,12 +30,12 @@ pub fn is_given_the_feed()
 }
 
 /// A repeater that hears a feed, with slight damage, sends exactly the main transmitter's symbols (ATSC A/53 Part 2).
-/// Its first listing is the first group, received whole, that begins 52 or more packets behind the first mark at or
-/// behind the packet that follows the first field sync, and one of whose operations packets lists its address. Its
-/// segments are those of the feed from the first data segment of that group on to the last data segment of the last
-/// group received whole, and no other. Its log has one preset line, with the moment at its offset, for each of these
-/// groups that holds an operations packet, and no other line. Where there is no such listing, it sends no segment and
-/// logs no line.
+/// Its first listing is the first group, received whole, one of whose operations packets lists its address and that
+/// begins late enough. Late enough is 52 or more packets behind the first mark at or behind the packet that follows the
+/// first field sync. Its segments are those of the feed from the first data segment of that group on to the last data
+/// segment of the last group received whole, and no other. Its log has one preset line, with the moment at its offset,
+/// for each of these groups that holds an operations packet, and no other line. Where there is no such listing, it
+/// sends no segment and logs no line.
 pub fn repeats()
     ensures segments { (plan : Plan) (stream : List (List ℕ)) (t : Transmitter) (delay first k : ℕ)
         (sent got : List (List ℤ)) → Hears plan stream t delay first sent got
@@ -59,8 +59,8 @@ pub fn repeats()
     from_a_mark();
 }
 
-/// What is asked of the segments is met as they were sent: a repeater that is in time hears the feed of a plan that
-/// lists its address in any of the feed's own segments in a row that hold a field sync, undamaged.
+/// What is asked of the segments is met as they were sent. Take any of the feed's own segments in a row that hold a
+/// field sync, undamaged. A repeater that is in time hears in them the feed of a plan that lists its address.
 pub fn heard_as_sent()
     ensures { (plan : Plan) (stream : List (List ℕ)) (t : Transmitter) (delay first end : ℕ) → IsPlan plan
         → IsStream stream → IsListed plan t → pos delay ≤ℤ (pos plan.max_delay +ℤ t.offset)

@@ -36,7 +36,7 @@ impl<F: Write + Drop> Met<F> {
     }
 
     /// Notes what was found where it was looked for. It fails where the file was not begun, or is another one, or not
-    /// as long as what was added to it: then another file has come under its name, or someone else writes to it.
+    /// as long as what was added to it. Then another file has come under its name, or someone else writes to it.
     pub(crate) fn note_seen(&mut self, found: &Found) -> Result<(), WriteNo> {
         match self.added {
             Some(added) if self.is_as_found(found, added) => {
@@ -103,8 +103,8 @@ impl<F: Write + Drop> FilesMet<F> {
         }
     }
 
-    /// Keeps a file in mind that is to be read from byte `place` on. It fails where another file was met under its
-    /// name, where it was not there when earlier bytes were read, or has become shorter: what is read would not be of
+    /// Remembers a file that is to be read from offset `place` on. It fails where another file was met under its name,
+    /// where it was not there when earlier bytes were read, or has become shorter. Else what is read would not be of
     /// one file.
     pub(crate) fn note_read(
         &mut self,
@@ -146,7 +146,7 @@ impl<F: Write + Drop> FilesMet<F> {
         false
     }
 
-    /// Keeps a file in mind that is begun, and empty. A pipe is held open.
+    /// Remembers a file that is begun, and empty. A pipe is held open.
     pub(crate) fn note_begun(
         &mut self,
         name: String,
@@ -173,9 +173,8 @@ impl<F: Write + Drop> FilesMet<F> {
         if met.file.is_some() { Some(met) } else { None }
     }
 
-    /// Holds an open file as that which was begun under the name, as which it was found, and adds bytes to it. Where
-    /// too many are held, those are closed first: files are mostly added to one after another, so it is this one that
-    /// is looked for again.
+    /// Holds an open file as the one that was begun under the name, and adds bytes to it. Where too many are held,
+    /// those are closed first: files are mostly added to one after another, so it is this one that is looked for again.
     pub(crate) fn hold(
         &mut self,
         name: &str,

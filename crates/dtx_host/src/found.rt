@@ -102,7 +102,7 @@ pub(crate) fn empty<F: OpenFile>(file: &F) -> Result<(), WriteNo> {
     }
 }
 
-/// A part may have been written when this fails: it never counts as want of memory, which leaves all as it was.
+/// A part may have been written when this fails. So it never counts as out of memory, which leaves all as it was.
 pub(crate) fn add<F: Write>(file: &mut F, bytes: &[u8]) -> Result<(), WriteNo> {
     match file.write_all(bytes) {
         Ok(()) => Ok(()),

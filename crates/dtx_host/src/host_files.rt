@@ -159,10 +159,10 @@ impl<'a, R: Files + AllocGlobal + Clock + Eprint + Input> HostFiles<'a, R> {
         }
     }
 
-    /// Opens the file, which it makes where it isn't there, and takes away what it holds only where it is none that was
-    /// met, nor that of standard output. That is asked of the name, so that such a file isn't even opened, and of the
-    /// open file, since another may have come under the name. From there on every failure is one of writing, since the
-    /// file may have been made.
+    /// Opens the file, which it makes where it isn't there, and takes away what it holds. It does so only where the
+    /// file is none that was met, nor that of standard output. That is asked of the name, so that such a file isn't
+    /// even opened, and of the open file, since another may have come under the name. From there on every failure is
+    /// one of writing, since the file may have been made.
     pub(crate) fn begin(&mut self, name: &str) -> Result<(), WriteNo> {
         let kept = self.met.make_room(name)?;
         match self.open_anew(name) {
@@ -188,7 +188,7 @@ impl<'a, R: Files + AllocGlobal + Clock + Eprint + Input> HostFiles<'a, R> {
         }
     }
 
-    /// Whether the file is one that may not be begun, which is kept in mind.
+    /// Whether the file is one that may not be begun, which is remembered.
     fn overlaps(&mut self, found: &Found) -> bool {
         let overlaps = self.met.would_lose(found)
             || self.pipes.has(found.id)

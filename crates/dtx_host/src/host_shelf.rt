@@ -13,14 +13,16 @@ use std::marker::Model;
 use std::rt::Files;
 use std::time::Clock;
 
-/// The files of the host. A file that is written stays open once bytes were added to it, until too many are open;
-/// each other call opens its file and closes it again, so the number of files has no limit of its own.
+/// The files of the host. A file that is written stays open once bytes were added to it, until too many are open. Each
+/// other call opens its file and closes it again, so the number of files has no limit of its own.
 ///
-/// No file is begun that was read or begun before, under whatever name, or that standard output goes to: `begin` fails
-/// then and touches nothing, so an input is not lost where another path or a link leads to it. Nothing is added to a
-/// file that was not begun under its name, or that isn't as long as what was added, which is asked of a file of 64 KiB
-/// or more once in so many bytes, and once another was added to; and nothing is read where another file has come under
-/// a name, or the file was lost or cut to less than what was read.
+/// No file is begun that was read or begun before, under whatever name, or that standard output goes to. Then `begin`
+/// fails and touches nothing, so an input is not lost where another path or a link leads to it.
+///
+/// Nothing is added to a file that was not begun under its name, or that isn't as long as what was added. Of a file of
+/// 64 KiB or more the length is asked once in so many bytes, and once another file was added to.
+///
+/// Nothing is read where another file has come under a name, or the file was lost or cut to less than what was read.
 #[derive(Drop)]
 pub struct HostShelf<'a, R: Files> {
     files: HostFiles<'a, R>,

@@ -24,7 +24,7 @@ impl<'a, R: Print + Eprint> Model for HostSink<'a, R> {
 }
 
 impl<'a, R: Print + Eprint> HostSink<'a, R> {
-    /// The standard output that the runtime reaches, with no fault counted yet.
+    /// The standard output that the runtime reaches, with no I/O error counted yet.
     pub fn new(rt: &'a R, progress: &'a Progress) -> HostSink<'a, R>
         ensures { result ≡ 0 }
     {

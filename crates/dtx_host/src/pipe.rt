@@ -148,7 +148,7 @@ impl<F: Read + Drop> Pipes<F> {
         false
     }
 
-    /// Whether that pipe is held, which is kept in mind as one that was to be read a second time.
+    /// Whether that pipe is held, which is remembered as one that was to be read a second time.
     pub(crate) fn meets_again(&mut self, id: FileId) -> bool {
         for pipe in self.held.iter_mut() {
             if pipe.id == id {

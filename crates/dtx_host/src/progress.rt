@@ -67,7 +67,8 @@ impl Progress {
     }
 }
 
-/// Shows how far the input at hand was read, and how many kB a second: as many columns for a file as for a pipe.
+/// Shows how far the input at hand was read, and how fast: `speed` is in kB a second. A file has as many columns as a
+/// pipe.
 fn show(rt: &impl Eprint, place: u64, whole: u64, speed: u64) {
     let (millions, tenths) = (speed / 1000, speed % 1000 / 100);
     let _ = if whole == 0 {

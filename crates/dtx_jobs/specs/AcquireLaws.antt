@@ -1,5 +1,5 @@
--- Laws of what `acquire` makes.
--- They stand here since the ghost members of an impl, a trait's laws, cite lemmas of specs/ alone.
+-- Laws of what `acquire` makes. They stand in specs/, since the ghost members of an impl, a trait's laws, can cite
+-- lemmas from there only.
 use Rattle.std.proofs.Common.{◌≡◌, ℕ, List, [], ◌++◌, refl, sym, ap, ◌∙◌}
 use Rattle.std.proofs.lemmas.List.{map-append}
 use Rattle.dtx_acquire.specs.Acquired.{acquired_so_far}

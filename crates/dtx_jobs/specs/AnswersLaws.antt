@@ -1,5 +1,5 @@
--- Which refusals the commands of symbols and feeds know: of how their making answers.
--- They stand here since the ghost members of an impl, a trait's laws, cite lemmas of specs/ alone.
+-- Which refusals the commands of symbols and feeds know: of how their making answers. They stand in specs/, since the
+-- ghost members of an impl, a trait's laws, can cite lemmas from there only.
 use Rattle.std.specs.Prelude.{◌==◌, ℕ, Bool, false, true, length, if◌then◌else◌}
 use Rattle.dtx_receiver.specs.Runs.{runs}
 use Rattle.dtx_repeat.specs.Lives.{lives}

@@ -1,5 +1,5 @@
--- Laws of what an exciter makes of packets: of more packets it makes more behind.
--- They stand here since the ghost members of an impl, a trait's laws, cite lemmas of specs/ alone.
+-- Laws of what an exciter makes of packets: of more packets it makes more behind. They stand in specs/, since the ghost
+-- members of an impl, a trait's laws, can cite lemmas from there only.
 use Rattle.std.proofs.Common.{◌≡◌, ℕ, ℤ, ◌+◌, ◌%◌, ◌≤◌, List, [], ◌∷◌, ◌++◌, length, map, take, refl, sym, ap, ap₂, ◌∙◌}
 use Rattle.std.proofs.Common.{arith, append_assoc, zero-add}
 use Rattle.std.specs.List.{range_with_len, flat_map}

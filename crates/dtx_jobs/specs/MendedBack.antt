@@ -39,7 +39,7 @@ NoneMissing file = All (λ byte. byte ≢ 0x80) (take (832 * whole_segments file
 -- ---- words
 
 -- The word differs from the codeword of packet k of a stream in e unmarked bytes, where f are marked, and 2 * e + f is
--- at most 20: a wrong byte costs two of the twenty parity bytes, a missing one costs one.
+-- at most 20. A wrong byte costs two of the twenty parity bytes, a missing one costs one.
 abbrev pub IsMendable : List (List ℕ) → ℕ → List Bool → List ℕ → Type 0
 IsMendable stream k marks word = 2 * unmarked_distance marks word (codeword_at stream k) + lost marks ≤ 20
 
@@ -70,8 +70,8 @@ pub record IsMendedBack (stream : List (List ℕ)) (file : List ℕ) (place k : 
 
 -- ---- segments in a row of a stream alone
 
--- Segments of a stream, from one on, are received with damage that is mended: its first field sync and all later ones
--- are found, and each word of the run that begins with it whose bytes are all there is mendable.
+-- Segments of a stream, from one on, are received with damage that is mended. Its first field sync and all later ones
+-- are found. Each word of the run that begins with it whose bytes are all there is mendable.
 pub record CanAllBeMended (stream : List (List ℕ)) (first : ℕ) (sent got : List (List ℤ)) : Type 0 where
   pub found : AreFound first sent got
   pub words : (j : ℕ) → IsComplete 207 52 4 (828 * groups_of (from_sync first got)) j
@@ -82,8 +82,8 @@ abbrev pub put_right : List (List ℕ) → ℕ → List (List ℤ) → ℕ
 put_right stream first got = sum_by (λ j. distance (word_in first got j) (codeword_at stream (packet_behind first + j)))
     (numbers_in (from_sync first got))
 
--- What `mend` answers and writes where all is given back of the segments of a file: there is one run, and its packets
--- are those of the stream from the one behind the first field sync on whose bytes are all there, in order, with 0x47 as
+-- What `mend` answers and writes where all is given back of the segments of a file. There is one run. Its packets are
+-- those of the stream from the one behind the first field sync on whose bytes are all there, in order, with 0x47 as
 -- their sync bytes. None is flagged.
 abbrev pub all_back_of : List (List ℕ) → List (List ℕ) → ℕ → List ℕ → Meaning
 all_back_of names stream first file = record {

@@ -1,5 +1,5 @@
--- Laws of what is made of symbols that are sent again: it grows with them.
--- They stand here since the ghost members of an impl, a trait's laws, cite lemmas of specs/ alone.
+-- Laws of what is made of symbols that are sent again: it grows with them. They stand in specs/, since the ghost
+-- members of an impl, a trait's laws, can cite lemmas from there only.
 use Rattle.std.proofs.Common.{◌≡◌, ℕ, ℤ, ◌%◌, ◌<◌, List, [], ◌∷◌, ◌++◌, length, refl, sym, ap, ◌∙◌, subst, arith}
 use Rattle.std.proofs.Common.{append_assoc}
 use Rattle.std.proofs.lemmas.List.{append-nil}
@@ -20,7 +20,7 @@ use Rattle.dtx_jobs.specs.Repeat.{sent_in, repeating}
 use Rattle.dtx_jobs.specs.SymbolFile.{file_segments}
 use Rattle.dtx_jobs.specs.SymbolFileLaws.{file_segments-append}
 
--- what lives make is a front part of what longer lives make
+-- what lives make is a prefix of what longer lives make
 abbrev pub Fronts : ℕ → ℕ → List (List (List ℕ)) → List (List (List ℕ)) → Type 0
 Fronts a d before after = AreFrontsOf (sent_in a d before) (sent_in a d after)
 

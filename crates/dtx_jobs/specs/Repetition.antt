@@ -8,8 +8,8 @@ use Rattle.dtx_jobs.specs.Lives.{sent_over, logged_over, lives_tally}
 use Rattle.dtx_jobs.specs.SymbolFile.{file_segments}
 use Rattle.dtx_jobs.specs.declared.repetition.Repetition.{Repetition}
 
--- These segments were received, and the exciter was given the packets of these lives: the repeater stands for the
--- segments and for the last life, and the numbers of what was sent are the lives'.
+-- These segments were received, and the exciter was given the packets of these lives. The repeater stands for the
+-- segments and for the last life. The numbers of what was sent are the lives'.
 pub record IsSending (state : Repetition) (segments : List (List ℤ)) (lives : List (List (List ℕ))) : Type 0 where
   pub repeater : StandsFor state.address state.delay state.repeater.value segments (last_life lives)
   pub tally : state.sending.tally ≡ lives_tally state.address state.delay lives

@@ -1,5 +1,5 @@
--- What `soft` makes of a symbol file: in each field of a run the data segments in whole groups have the symbols of each
--- coder replaced by those of its least path (ATSC A/53 Part 2, trellis coding).
+-- What `soft` makes of a symbol file (ATSC A/53 Part 2, trellis coding). In each field of a run the data segments in
+-- whole groups have the symbols of each coder replaced by those of its least path.
 use Rattle.std.specs.Prelude.{ℕ, ℤ, ◌-◌, ◌*◌, ◌/◌, ◌%◌, min, true, if◌then◌else◌, Option, Some, None, List, []}
 use Rattle.std.specs.Prelude.{◌∷◌, ◌++◌, length, map, sum, take, drop, slice_index_or, unwrap_or}
 use Rattle.std.proofs.Common.{zero, suc}

@@ -16,8 +16,8 @@ IsSigned segment = (k : ℕ) → nat_abs (slice_index_or segment k (pos 0)) ≤ 
 abbrev pub kept_rows : Softening → ℕ
 kept_rows kept = unwrap_or kept.place 0
 
--- these segments were given: the place of the next one is known, the data segments of the field that is on are kept,
--- and the numbers are those of the fields before it
+-- These segments were given. The place of the next one is known, the data segments of the field that is on are kept,
+-- and the numbers are those of the fields before it.
 pub record IsSoftening (kept : Softening) (segments : List (List ℤ)) : Type 0 where
   pub place : kept.place ≡ next_place segments
   pub field : take (pending segments) kept.field.items ≡ drop (ahead segments) segments
@@ -25,8 +25,8 @@ pub record IsSoftening (kept : Softening) (segments : List (List ℤ)) : Type 0 
   pub fields : kept.fields ≡ field_sum has_group segments (ahead segments)
   pub cost : kept.cost ≡ field_sum (softened_cost 1) segments (ahead segments)
 
--- there is room for a field, the symbols that are kept are signed bytes, the decoder has the standard's levels, and the
--- numbers are none that so many segments can't give
+-- There is room for a field, and the symbols that are kept are signed bytes. The decoder has the standard's levels. The
+-- numbers are none that so many segments can't give.
 pub record IsKept (kept : Softening) : Type 0 where
   pub room : vec_len kept.field ≡ 312
   pub small : IfSome kept.place (λ place. place < 312)

@@ -33,8 +33,8 @@ waiting_bytes packets = watch_text (waiting packets)
 
 -- ---- the numbers
 
--- whether a note is of an operations packet at its place, of states that slip, of a stamp that jumps, of a packet that
--- doesn't read, or of one that isn't at its place
+-- Whether a note is of an operations packet at its place, of states that slip, or of a stamp that jumps. Whether it is
+-- of a packet that doesn't read, or of one that isn't at its place.
 abbrev pub one_ops : What → ℕ
 one_ops (Ops o) = 1
 one_ops other = 0

@@ -20,8 +20,8 @@ use Rattle.dtx_jobs.specs.declared.watch_tally.WatchTally.{WatchTally}
 
 -- ---- the numbers of the line, by the text
 
--- of the text of what is told of so many packets: how many of its lines begin with the word `ops`, how many have the
--- word `slip` or `jump` at its place behind that, and how many begin with `unread` and with `stray`
+-- The tally of the text of what is told of so many packets. It counts the lines that begin with `ops`, `unread` and
+-- `stray`. It counts those that have the word `slip` or `jump` at its place.
 abbrev pub tally_of_text : ℕ → List ℕ → WatchTally
 tally_of_text packets text = record {
   packets = packets;
@@ -61,8 +61,8 @@ abbrev pub AreCalm : List (List ℕ) → (ℕ → OpsNote) → Type 0
 AreCalm packets said = (k : ℕ) → Contains (ops_packets packets) k
     → (ops : Ops) × (reading (slice_index_or packets k []) ≡ Ok ops) × IsCalmOps ops (said k)
 
--- The packets are watched calmly: the text is the line `lock 0` and one line `ops` for each operations packet, in their
--- order, and nothing else; none of these says `slip` or `jump`; and the numbers are those of the packets and of the
+-- The packets are watched calmly. The text is the line `lock 0` and one line `ops` for each operations packet, in their
+-- order, and nothing else. None of these says `slip` or `jump`. The numbers are those of the packets and of the
 -- operations packets, four times 0, and the loose bytes.
 pub record IsWatchedCalmly (names packets : List (List ℕ)) (loose : ℕ) (meaning : Meaning) : Type 0 where
   pub said : ℕ → OpsNote

@@ -11,11 +11,11 @@ use dtx_soft::MAX_SCALE;
 use dtx_words::number_within;
 use std::alloc::Global;
 
-/// Finds the fields of the capture IN, which has one signed byte a symbol and SCALE steps a unit, and writes their
-/// segments to OUT, with the symbols decided and the syncs restored (the profile's own; ATSC A/53 Part 2, data segment
-/// sync and data field sync). SCALE is 1 to 18, in decimal digits without sign and without a leading zero. The numbers
-/// are the bytes of IN, the runs of which something is left, the segments, what all least paths cost, and the bytes
-/// in no segment. Of its refusals it knows those that `receive` knows.
+/// Finds the fields of the capture IN and writes their segments to OUT (the profile's own; ATSC A/53 Part 2, data
+/// segment sync and data field sync). The symbols are decided and the syncs restored. IN has one signed byte a symbol
+/// and SCALE steps a unit. SCALE is 1 to 18, in decimal digits without sign and without a leading zero. The numbers are
+/// the bytes of IN, the runs of which something is left, the segments, what all least paths cost, and the bytes in no
+/// segment. Of its refusals it knows those that `receive` knows.
 pub fn acquire<S: Shelf>(alloc: Global, words: &[Word], shelf: &mut S) -> Outcome
     ensures { IsJobPerformed acquire_job words.now result (S.files shelf.old) (S.files shelf.new)
         (S.counts shelf.old) (S.counts shelf.new) }

@@ -17,8 +17,8 @@ use dtx_packets::Packet;
 use dtx_sizes::{GROUP_PACKETS, MOST_PACKETS, PACKET};
 use std::alloc::{AllocError, Global};
 
-/// How many symbols an exciter sends for the packets of a piece at most: those of its whole groups, and of one that
-/// began before it; and room for one group more.
+/// How many symbols an exciter sends for the packets of a piece at most. They are those of its whole groups, and of one
+/// that began before it. There is room for one group more.
 const SENT_BYTES: usize = AIR_SYMBOLS * (CODED_PACKETS / GROUP_PACKETS + 2);
 
 /// How many bytes their lines in the log have at most.

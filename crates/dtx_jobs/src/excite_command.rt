@@ -8,12 +8,12 @@ use dtx_meaning::Outcome;
 use dtx_outside::{Shelf, Word};
 use std::alloc::Global;
 
-/// Gives the packets of FEED, which are of any bytes, to one exciter, and writes the segments that it sends to OUT, one
-/// signed byte a symbol in two's complement, and its log to LOG (the profile's own, over ATSC A/53 Part 2 and in the
-/// manner of ATSC A/110). ADDRESS is the transmitter's, 0 to 65,535, and DELAY is for how many ticks of 100 ns the feed
-/// is on its way to it, 0 to 4,294,967,295, in decimal digits without sign and without a leading zero unless it is `0`.
-/// The numbers are the packets, the segments, the presets and the mutes of the log, and the bytes behind the last whole
-/// packet.
+/// Gives the packets of FEED, which are of any bytes, to one exciter (the profile's own, over ATSC A/53 Part 2 and in
+/// the manner of ATSC A/110). It writes the segments that the exciter sends to OUT, one signed byte a symbol in two's
+/// complement, and its log to LOG. ADDRESS is the transmitter's, 0 to 65,535. DELAY is for how many ticks of 100 ns the
+/// feed is on its way to it, 0 to 4,294,967,295. Both are in decimal digits without sign and without a leading zero
+/// unless it is `0`. The numbers are the packets, the segments, the presets and the mutes of the log, and the bytes
+/// behind the last whole packet.
 pub fn excite<S: Shelf>(alloc: Global, words: &[Word], shelf: &mut S) -> Outcome
     ensures { IsJobPerformed excite_job words.now result (S.files shelf.old) (S.files shelf.new)
         (S.counts shelf.old) (S.counts shelf.new) }

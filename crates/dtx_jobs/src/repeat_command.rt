@@ -8,14 +8,14 @@ use dtx_meaning::Outcome;
 use dtx_outside::{Shelf, Word};
 use std::alloc::Global;
 
-/// Receives the symbols IN (ATSC A/53 Part 2, the way back), restores the cadence marks of their packets from the field
-/// syncs, gives the packets of each run to an exciter that was given nothing, and writes the segments that it sends to
-/// OUT, one signed byte a symbol in two's complement, and its log to LOG, with a restart at the beginning of each run
-/// but the first (the profile's own, over ATSC A/53 Part 2 and in the manner of ATSC A/110). ADDRESS is the
-/// transmitter's, 0 to 65,535, and DELAY is for how many ticks of 100 ns the feed is on its way to it, 0 to
-/// 4,294,967,295, in decimal digits without sign and without a leading zero unless it is `0`. The numbers are the
-/// segments read, the runs, the packets received, the segments written, the presets and the mutes of the log, and the
-/// bytes behind the last whole segment.
+/// Repeats the symbols IN (the profile's own, over ATSC A/53 Part 2 and in the manner of ATSC A/110). It receives them,
+/// restores the cadence marks of their packets from the field syncs, and gives the packets of each run to an exciter
+/// that was given nothing. It writes the segments that the exciter sends to OUT, one signed byte a symbol in two's
+/// complement. It writes the log to LOG, with a restart at the beginning of each run but the first. ADDRESS is the
+/// transmitter's, 0 to 65,535. DELAY is for how many ticks of 100 ns the feed is on its way to it, 0 to 4,294,967,295.
+/// Both are in decimal digits without sign and without a leading zero unless it is `0`. The numbers are the segments
+/// read, the runs, the packets received, the segments written, the presets and the mutes of the log, and the bytes
+/// behind the last whole segment.
 pub fn repeat<S: Shelf>(alloc: Global, words: &[Word], shelf: &mut S) -> Outcome
     ensures { IsJobPerformed repeat_job words.now result (S.files shelf.old) (S.files shelf.new)
         (S.counts shelf.old) (S.counts shelf.new) }

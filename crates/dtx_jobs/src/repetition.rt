@@ -28,8 +28,8 @@ use std::alloc::{AllocError, Global};
 /// How many packets the segments of a piece, and the end behind them, bring at most.
 const BROUGHT: usize = MOST_RECEIVED * (PIECE_SEGMENTS + 1);
 
-/// How many symbols are sent for them at most: those of their whole groups, and of one that began before them; and room
-/// for one group more.
+/// How many symbols are sent for them at most. They are those of their whole groups, and of one that began before them.
+/// There is room for one group more.
 const SENT_BYTES: usize = AIR_SYMBOLS * (BROUGHT / GROUP_PACKETS + 2);
 
 /// How many bytes their lines in the log have at most, with a restart at each segment.

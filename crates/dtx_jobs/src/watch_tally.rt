@@ -5,8 +5,9 @@ ghost use Rattle.dtx_jobs.specs.Watching.{HasRoom, tally_of_one};
 
 use dtx_watch::{ClockNote, Note, StatesNote, What};
 
-/// How many packets were watched, and how many notes are of operations packets at their places, of states that slip, of
-/// stamps that jump, of packets that don't read, and of packets that aren't at their places.
+/// How many packets were watched, and how many notes there are of each kind. They are of operations packets at their
+/// places, of states that slip, of stamps that jump, of packets that don't read, and of packets that aren't at their
+/// places.
 #[derive(Clone, Copy)]
 pub(crate) struct WatchTally {
     pub(crate) packets: u64,

@@ -1,5 +1,5 @@
-//! Parts of which correctors are made: the syndromes of a word, the places at which a locator vanishes, the values of
-//! the errors at marked places, and the test of the word that was tried.
+//! Parts of which correctors are made. They are the syndromes of a word, the places at which a locator vanishes, the
+//! values of the errors at marked places, and the test of the word that was tried.
 
 mod outcome;
 mod places;

@@ -8,7 +8,8 @@ ghost use Rattle.dtx_laws.specs.Correction.{AreCorrected, IsCorrected, IsLeft};
 #[derive(Clone, Copy, Debug, PartialEq, Eq)]
 pub struct TooMany;
 
-/// Corrects words of `N` bytes, of which `K` are data, where at most `(N - K) / 2` bytes are wrong.
+/// Corrects words of `N` bytes, of which `K` are data, where at most `(N - K) / 2` bytes are wrong (ATSC A/53 Part 2,
+/// Reed-Solomon encoder: the way back).
 pub trait Correct<const N: usize, const K: usize> {
     /// `N` and `K` are the numbers of a code, as each value keeps: a generic caller learns it here.
     fn known(&self)

@@ -20,7 +20,7 @@ pub trait Encode<const N: usize, const K: usize> {
         ensures is { IsCodeword N K word.new }
         ensures long { length word.new ≡ N };
 
-    /// Completes four words at once, which stand one behind the other: what stands behind the data of each becomes its
+    /// Completes four words at once, which stand one behind the other. What stands behind the data of each becomes its
     /// parity bytes, so that the word is the codeword of its data.
     fn complete_four(&self, words: &mut [u8])
         requires { length words.old ≡ N * 4 }

@@ -50,7 +50,7 @@ pub record IsCovered (entry : Damage) (place end from to : ℕ) : Type 0 where
 abbrev pub damage_end : Damage → ℕ
 damage_end entry = entry.at + entry.count
 
--- the entry of that number is the first that ends behind a place; where none does, the number is how many there are
+-- The entry of that number is the first that ends behind a place. Where none does, the number is how many there are.
 pub record IsFirstBehind (damage : List Damage) (place first : ℕ) : Type 0 where
   pub within : first ≤ length damage
   pub before : (k : ℕ) (e : Damage) → k < first → damage_end (slice_index_or damage k e) ≤ place

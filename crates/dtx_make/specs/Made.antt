@@ -20,8 +20,9 @@ number_at seed index (suc j) = next_number (number_at seed index j)
 unfoldable pub made_payload : ℕ → ℕ → List ℕ
 made_payload seed index = map (λ j. number_at seed index (j + 1) / 2 ^ 56) (range_with_len 0 184)
 
--- Packet `index`: in each field of 312 packets packet 100 is a placeholder of packet identifier 0x1FFA, with zeros; the
--- others have the packet identifier 0x31, and their index modulo 16 as continuity counter (ISO/IEC 13818-1, 2.4.3.2).
+-- Packet `index` (ISO/IEC 13818-1, 2.4.3.2). In each field of 312 packets packet 100 is a placeholder of packet
+-- identifier 0x1FFA, with zeros. The others have the packet identifier 0x31, and their index modulo 16 as continuity
+-- counter.
 unfoldable pub made_packet : ℕ → ℕ → List ℕ
 made_packet seed index =
     if index % 312 == 100

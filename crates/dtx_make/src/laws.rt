@@ -20,7 +20,7 @@ pub fn length_stays()
         → length (damaged_bytes damage place bytes) ≡ length bytes }
 {}
 
-/// A byte that an entry covers is that entry's `put`, whichever entry of those in order it is; a byte that none covers
+/// A byte that an entry covers is that entry's `put`, whichever entry of those in order it is. A byte that none covers
 /// stays.
 pub fn each_byte()
     ensures covered { (damage : List Damage) (place i : ℕ) (bytes : List ℕ) (entry : Damage) → AreInOrder damage

@@ -4,8 +4,8 @@ ghost use Rattle.dtx_make.specs.Hurt.{AreInOrder, IsCovered, IsFirstBehind, dama
 
 use dtx_plan::{Damage, Damages};
 
-/// Lays damage over bytes that stand at `place` of a file: each byte that an entry covers becomes that entry's `put`,
-/// in two's complement; the others stay. The rule is the profile's own.
+/// Lays damage over bytes that stand at `place` of a file (the profile's own). Each byte that an entry covers becomes
+/// that entry's `put`, in two's complement. The others stay.
 pub fn lay(damage: &Damages, place: u64, bytes: &mut [u8])
     requires room { place + length bytes.old < 2 ^ 64 }
     requires in_order { AreInOrder damage.now }

@@ -21,7 +21,7 @@ const MULTIPLIER: u64 = 6_364_136_223_846_793_005;
 const INCREMENT: u64 = 1_442_695_040_888_963_407;
 
 /// Packet `index` of the made stream of that seed. In each field of 312 packets packet 100 is a placeholder, with
-/// nothing but zeros behind its header; the others have payloads that look like noise, and their index modulo 16 as
+/// nothing but zeros behind its header. The others have payloads that look like noise, and their index modulo 16 as
 /// counter. A made stream is a workload and no legal programme.
 #[tactic(auto, unfolding(crate::specs::Made::made_packet))]
 pub fn packet(seed: u64, index: u64) -> Packet

@@ -36,7 +36,7 @@ with_outputs (o ∷ rest) start = with_outputs rest (option_map (with_file o.0 o
 abbrev pub IsFrontOf : List ℕ → List ℕ → Type 0
 IsFrontOf front whole = (rest : List ℕ) × (front ++ rest ≡ whole)
 
--- some of the first outputs were begun and each holds a front part of its bytes, and no other file was touched
+-- some of the first outputs were begun and each holds a prefix of its bytes, and no other file was touched
 abbrev pub ArePartWritten : Outputs → Option Files → Option Files → Type 0
 ArePartWritten [] start now = now ≡ start
 ArePartWritten (o ∷ rest) start now =
@@ -55,7 +55,8 @@ pub record IsWhole (meaning : Meaning) (start : Option Files) (outcome : Outcome
   pub answer : outcome ≡ meaning.outcome
   pub files : now ≡ with_outputs meaning.outputs start
 
--- a fault or want of memory, and a front part of the outputs; writing fails only where there is something to be written
+-- An I/O error or lack of memory, and prefixes of the first outputs. Writing fails only where there is something to be
+-- written.
 pub record IsBroken (meaning : Meaning) (start : Option Files) (outcome : Outcome) (now : Option Files) : Type 0 where
   pub fault : IsFault outcome.status
   pub writing : outcome.status ≡ WriteFault → meaning.outputs ≢ []
@@ -72,7 +73,8 @@ pub record IsAnswered (meaning : Meaning) (start : Option Files) (status : Statu
   pub answer : status ≡ meaning.outcome.status
   pub files : now ≡ with_outputs meaning.outputs start
 
--- a fault or want of memory, and a front part of the outputs; writing fails only where there is something to be written
+-- An I/O error or lack of memory, and prefixes of the first outputs. Writing fails only where there is something to be
+-- written.
 pub record IsFaulted (meaning : Meaning) (start : Option Files) (status : Status) (now : Option Files) : Type 0 where
   pub fault : IsFault status
   pub writing : status ≡ WriteFault → meaning.outputs ≢ []
@@ -86,9 +88,9 @@ pub record IsUnprinted (meaning : Meaning) (start : Option Files) (status : Stat
   pub done : meaning.outcome.status ≡ Done
   pub files : now ≡ with_outputs meaning.outputs start
 
--- What came of a meaning: its answer with its outputs whole, or a fault with front parts of them, or all was done and
--- the line alone could not be printed. Want of memory that is met while a line is printed leaves the outputs whole,
--- which are front parts of themselves.
+-- What came of a meaning is one of three. Its answer came, with its outputs whole. Or there was an I/O error or lack of
+-- memory, with prefixes of the outputs. Or all was done and the line alone could not be printed. Lack of memory that is
+-- met while a line is printed leaves the outputs whole, which are prefixes of themselves.
 abbrev pub IsDone : Meaning → Option Files → Status → Type 0 → Option Files → Type 0
 IsDone meaning start status unprinted now =
     IsAnswered meaning start status now

@@ -49,8 +49,8 @@ of_plan plan.Memory = Memory
 
 -- ---- what an answer is blamed on
 
--- Which count a status is blamed on. Where it is blamed on nothing all counts stand; want of memory may be met behind
--- another refusal, which has raised its count.
+-- Which count a status is blamed on. Where it is blamed on nothing all counts stand. Memory may run out behind another
+-- refusal, which has raised its count.
 abbrev pub blame_of : Status → Blame
 blame_of (Absent input) = Missing
 blame_of ReadFault = Reading
@@ -63,7 +63,7 @@ abbrev pub blame_of_answer : {T : Type 0} → Result T Status → Blame
 blame_of_answer (Ok x) = Nothing
 blame_of_answer (Err status) = blame_of status
 
--- a fault, or want of memory: no meaning gives them
+-- an I/O error, or out of memory: no meaning gives them
 abbrev pub IsFault : Status → Type 0
 IsFault ReadFault = Unit {0}
 IsFault WriteFault = Unit {0}
@@ -72,7 +72,8 @@ IsFault _ = ⊥
 
 -- ---- what an answer says of the words
 
--- An answer to the bytes of the inputs, which were read: no refusal of the words, no missing input and no fault.
+-- An answer to the bytes of the inputs, which were read: no refusal of the words, no missing input, no I/O error, and
+-- not out of memory.
 abbrev pub IsOfBytes : Status → Type 0
 IsOfBytes Usage = ⊥
 IsOfBytes Same = ⊥
@@ -89,8 +90,8 @@ IsOfInput number Same = ⊥
 IsOfInput number (Absent input) = input ≡ number
 IsOfInput number _ = Unit {0}
 
--- An answer of so many inputs where the words fit, and whether two names are equal is given: `Same` where they are, or
--- want of memory, and only there; and an input that isn't there is one of them.
+-- An answer of so many inputs where the words fit, and whether two names are equal is given. Where they are, it is
+-- `Same` or out of memory, and `Same` comes only there. An input that isn't there is one of these inputs.
 abbrev pub IsOfInputs : Bool → ℕ → Status → Type 0
 IsOfInputs same inputs Usage = ⊥
 IsOfInputs same inputs Same = same ≡ true

@@ -33,7 +33,7 @@ pub enum Status {
     ReadFault,
     /// Writing failed, or printing the line of `Done`.
     WriteFault,
-    /// Memory is wanted.
+    /// Out of memory.
     Memory,
 }
 

@@ -10,7 +10,8 @@ use Rattle.dtx_ops.specs.Spelling.{spelling}
 abbrev pub flipped_packet : List ℕ → ℕ → ℕ → List ℕ
 flipped_packet packet at with = slice_set packet at (bit_xor (slice_index packet at) with)
 
--- the spelling of what the packet reads as, but for the states, with the packet's byte 0 and counter; or the packet
+-- The spelling of what the packet reads as, but for the states, with the packet's byte 0 and counter. A packet that
+-- isn't read stays.
 abbrev pub lied_by : List ℕ → List ℕ → Result Ops OpsNo → List ℕ
 lied_by packet states (Ok ops) = spelling (record ops { states = states }) (counter_of packet) (sync_of packet)
 lied_by packet states (Err why) = packet

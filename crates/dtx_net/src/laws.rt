@@ -11,9 +11,9 @@ ghost use Rattle.dtx_net.specs.Steps.{Step, packet_step, restart_step, transmitt
 ghost use Rattle.dtx_net.specs.Lives.{own_steps, joined_steps, lives_of, last_life, ended_lives};
 ghost use Rattle.dtx_net.specs.Sent.{sent_segments, lines_of};
 
-/// What a transmitter sends and what is logged of it are the same in any two schedules that give it the same lives, and
-/// so in any two in which the same is done with it, whatever is done with others and when. Steps of others, anywhere
-/// among its own, change none of its lives.
+/// What a transmitter sends and what is logged of it are the same in any two schedules that give it the same lives. So
+/// they are in any two in which the same is done with it, whatever is done with others and when. Steps of others,
+/// anywhere among its own, change none of its lives.
 pub fn interleavings()
     ensures segments { (t : Transmitter) (who : ℕ) (steps others : List Step) → lives_of who steps ≡ lives_of who others
         → sent_segments t who steps ≡ sent_segments t who others }

@@ -1,6 +1,5 @@
--- What is given back of a stretch of a feed where its segments are received, damaged or not: what these words mean (the
--- profile's own; what is sent is that of ATSC A/53 Part 2). A packet is its list of 188 bytes, a segment the list of
--- its 832 symbols.
+-- What is given back of a stretch of a feed where its segments are received, damaged or not (the profile's own; what is
+-- sent is that of ATSC A/53 Part 2). A packet is its list of 188 bytes, a segment the list of its 832 symbols.
 use Rattle.std.specs.Prelude.{ℕ, ℤ, ◌≡◌, ◌+◌, ◌-◌, ◌*◌, ◌/◌, ◌%◌, ◌<◌, ◌≤◌, true, Some, List, [], ◌∷◌, ◌++◌, EachIndex}
 use Rattle.std.specs.Prelude.{length, map, drop, slice_get, slice_index_or}
 use Rattle.std.specs.List.{flat_map, list_all}
@@ -58,8 +57,8 @@ pub record IsBack (feed : List (List ℕ)) (got : List (List ℤ)) (place n : �
   pub packet : slice_get (received got) place ≡ Some (as_received (slice_index_or feed n []))
   pub good : slice_get (all_packets got) place ≡ Some (as_corrected feed n word)
 
--- Whatever is received, the stretch from packet k to packet end being at segment s of it: a run that begins at a field
--- sync of the stretch gives each of its readable packets back, behind the packets of the runs before it.
+-- Whatever is received, the stretch from packet k to packet end is at segment s of it. Then a run that begins at a
+-- field sync of the stretch gives each of its readable packets back, behind the packets of the runs before it.
 abbrev pub GivesBack : List (List ℕ) → ℕ → ℕ → ℕ → List (List ℤ) → Type 0
 GivesBack feed k end s got =
     (f n j : ℕ) (earlier later : List (ℕ × ℕ)) → BeginsField k end f
@@ -76,9 +75,9 @@ pub record IsReceivedAlone (feed : List (List ℕ)) (k end : ℕ) (got : List (L
   pub long : EachIndex got (λ i. length (slice_index_or got i []) ≡ 832)
   pub slight : IsSlight feed (segment_place k) (stretch_of feed k end) got
 
--- All is given back from packet f on: there is just one run, which begins at the field sync before packet f, and what
--- is received is exactly the feed's packets from there on, with 0x47 as their sync bytes, for each number that is given
--- for the run, in order. None is flagged.
+-- All is given back from packet f on. There is just one run, which begins at the field sync before packet f. What is
+-- received is exactly the feed's packets from there on, with 0x47 as their sync bytes: one for each number that is
+-- given for the run, in order. None is flagged.
 pub record IsAllBack (feed : List (List ℕ)) (k f : ℕ) (got : List (List ℤ)) : Type 0 where
   pub run : runs got ≡ drop (to_field k f) got ∷ []
   pub packets : received got ≡ map (λ j. as_received (slice_index_or feed (f + j) []))

@@ -1,6 +1,6 @@
--- An exciter that is given a feed unchanged from a mark on is locked to it from that mark or the third one on, as what
--- it was given before decides. From its first listing on that begins 52 or more packets behind that, it emits exactly
--- the feed's own symbols (ATSC A/53 Part 2), at moments of the plan: what these words mean.
+-- What an exciter emits that is given a feed unchanged from a mark on. It is locked to the feed from that mark or the
+-- third one on, as what it was given before decides. From its first listing on that begins 52 or more packets behind
+-- that mark, it emits exactly the feed's own symbols (ATSC A/53 Part 2), at moments of the plan.
 use Rattle.std.specs.Prelude.{ℕ, ℤ, ◌≡◌, ◌+◌, ◌-◌, ◌*◌, ◌/◌, ◌%◌, ◌<◌, ◌≤◌, true, false, List, ◌++◌, All, length}
 use Rattle.std.specs.Prelude.{slice_range, pos, ◌+ℤ◌, ◌≤ℤ◌}
 use Rattle.dtx_cadence.specs.Anchor.{has_mark}
@@ -27,9 +27,9 @@ pub record IsFed (feed life : List (List ℕ)) (mark n : ℕ) : Type 0 where
   pub later : List (List ℕ)
   pub holds : life ≡ earlier ++ (slice_range feed mark (mark + n) ++ later)
 
--- The first listing of an address, for an exciter that is locked to the feed from packet z on: the group from packet k
--- on is the first one with an operations packet that lists it and begins 52 or more packets behind packet z, and it
--- ends at packet `end` or earlier.
+-- The first listing of an address, for an exciter that is locked to the feed from packet z on. The group from packet k
+-- on is the first one that begins 52 or more packets behind packet z and has an operations packet that lists the
+-- address. It ends at packet `end` or earlier.
 pub record IsFirstListing (address : ℕ) (feed : List (List ℕ)) (z end k : ℕ) : Type 0 where
   pub group : k % 4 ≡ 0
   pub behind : z + 52 ≤ k
@@ -63,8 +63,8 @@ pub record IsFedAnew (plan : Plan) (stream : List (List ℕ)) (t : Transmitter) 
 abbrev pub last_packet : ℕ → ℕ
 last_packet end = 4 * (end / 4) - 1
 
--- The stretch: the segments of the feed's own symbols from the first data segment of the group from packet k on to the
--- last data segment of the last group that ends at or before packet end.
+-- The stretch: segments of the feed's own symbols. It goes from the first data segment of the group from packet k on to
+-- the last data segment of the last group that ends at or before packet end.
 unfoldable pub stretch_of : List (List ℕ) → ℕ → ℕ → List (List ℤ)
 stretch_of feed k end = slice_range (a53 feed) (segment_place k) (segment_place (last_packet end) + 1)
 
@@ -80,8 +80,8 @@ line_end (preset n frame packet tick grain) = n + 4
 line_end (mute n why) = n
 line_end (restart n) = n
 
--- What stands around the packets of a feed in all lives of a transmitter: the lives before the one that is given them,
--- what that life is given before them and behind them, and the lives behind it.
+-- What stands around the packets of a feed in all lives of a transmitter. There are the lives before the one that is
+-- given them, what that life is given before and behind them, and the lives behind it.
 pub record Around : Type 0 where
   pub lives_before : List (List (List ℕ))
   pub before : List (List ℕ)
@@ -107,10 +107,11 @@ abbrev pub sent_with : Transmitter → List (List ℕ) → ℕ → ℕ → Aroun
 sent_with t feed mark end a = sent_before t a
     + length (emission t.address t.delay (a.before ++ (slice_range feed mark end ++ a.behind)))
 
--- A transmitter emits exactly, where one of its lives is given packets mark to end of the feed: its segments hold the
--- stretch, in a row and with nothing between, and its log holds the presets of the stretch's orders, at their moments.
--- What comes before the stretch and behind it is told too, so the stretch is the one that this life sends. Each earlier
--- line speaks of nothing behind the stretch's beginning, and each later one of nothing before its end.
+-- A transmitter emits exactly, where one of its lives is given packets mark to end of the feed: this is what it means.
+-- Its segments hold the stretch, in a row and with nothing between. Its log holds the presets of the stretch's orders,
+-- at their moments. What comes before the stretch and behind it is told too, so the stretch is the one that this life
+-- sends. Each earlier line speaks of nothing behind the stretch's beginning, and each later one of nothing before its
+-- end.
 pub record Emits (plan : Plan) (t : Transmitter) (feed : List (List ℕ)) (mark k end : ℕ) (a : Around)
     (segments : List (List ℤ)) (lines : List Line) : Type 0 where
   pub before : List (List ℤ)
@@ -125,8 +126,8 @@ pub record Emits (plan : Plan) (t : Transmitter) (feed : List (List ℕ)) (mark 
   pub earlier : List Line
   pub later : List Line
   pub log : lines ≡ earlier ++ (presets plan t.offset (length before) feed k end ++ later)
-  -- Before these presets stand the earlier lives' lines, each life's with its restart, and then this life's up to the
-  -- last packet but one of the stretch's first group, counted on from what the earlier lives send.
+  -- Before these presets stand the earlier lives' lines, each life's with its restart. Then come this life's lines up
+  -- to the last packet but one of the stretch's first group, counted on from what the earlier lives send.
   pub earlier_is : earlier ≡ restarted_lines t.address t.delay 0 a.lives_before
       ++ life_lines t.address t.delay (sent_before t a) (a.before ++ slice_range feed mark (k + 3))
   -- Behind them stand this life's lines for the packets that it is given then, and then the later lives' lines, counted

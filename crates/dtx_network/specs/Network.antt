@@ -1,9 +1,10 @@
 -- The headline of a network, as one definition (the profile's own, in the manner of ATSC A/110; the symbols are those
--- of ATSC A/53 Part 2): for every packet stream and schedule, an exciter that from any earlier state is given the
--- adapter's feed unchanged through three cadence marks and on emits, from its first listing whose group starts 52 or
--- more packets later, exactly the symbols of that feed, at moments that differ between transmitters only by the
--- signalled offsets; and symbols with at most ten wrong bytes per codeword give its packets back. It counts from the
--- first of the three marks where the exciter wasn't locked there or was locked in step with it, else from the third.
+-- of ATSC A/53 Part 2). It is for every packet stream and schedule. An exciter is given, from any earlier state, the
+-- adapter's feed unchanged through three cadence marks and on. From its first listing whose group starts 52 or more
+-- packets later, it emits exactly the symbols of that feed. It does so at moments that differ between transmitters only
+-- by the signalled offsets. Symbols with at most ten wrong bytes per codeword give the feed's packets back. The 52
+-- packets count from the first of the three marks where the exciter wasn't locked there or was locked in step with it,
+-- else from the third.
 use Rattle.std.specs.Prelude.{ℕ, ℤ, ◌≡◌, ◌≢◌, ◌⊎◌, ◌+◌, ◌-ℤ◌, ◌/◌, ◌%◌, ◌≤◌, Some, List, ◌∷◌, ◌++◌, length, map}
 use Rattle.std.specs.Prelude.{slice_get}
 use Rattle.std.specs.List.{Contains, AllByRecursion}
@@ -32,10 +33,11 @@ steps_under plan stream events = schedule plan.transmitters (feed plan stream) e
 abbrev pub AreOfOthers : Transmitter → List Event → Type 0
 AreOfOthers t events = AllByRecursion (λ event. to_of event ≢ t.address) events
 
--- A transmitter joins the feed: it stands at a place of the plan's list and is in time, and one of its lives in the
+-- A transmitter joins the feed. It stands at a place of the plan's list and is in time. One of its lives in the
 -- schedule, between the lives before it and those behind it, is given `count` packets of the feed from a mark on,
--- whatever it was given before, among them its own first listing that counts, in the group from packet k on: behind
--- the packet from which it is locked to the feed, as what that life was given before decides.
+-- whatever it was given before. Among these packets is its own first listing that counts, in the group from packet k
+-- on. It counts behind the packet from which the transmitter is locked to the feed, as what that life was given before
+-- decides.
 pub record Joined (plan : Plan) (stream : List (List ℕ)) (events : List Event) : Type 0 where
   pub t : Transmitter
   pub who : ℕ
@@ -55,8 +57,8 @@ pub record Joined (plan : Plan) (stream : List (List ℕ)) (events : List Event)
 pub record Follows (plan : Plan) (stream : List (List ℕ)) (events : List Event)
     (x : Joined plan stream events) : Type 0 where
   -- Its symbol file holds exactly the feed's own symbols from the first listing's group to the last whole group that it
-  -- is given, and its log their presets; and they are those of this life, which stand behind all that its earlier lives
-  -- and it sent before.
+  -- is given, and its log their presets. They are those of this life. Before them stands all that its earlier lives
+  -- sent and that it sent before.
   pub emits : Emits plan x.t (feed plan stream) x.mark x.k (x.mark + x.count)
       (around x.lives_before x.fed x.lives_behind) (sent_segments x.t x.who (steps_under plan stream events))
       (lines_of x.t x.who (steps_under plan stream events))
@@ -71,9 +73,9 @@ pub record Follows (plan : Plan) (stream : List (List ℕ)) (events : List Event
   pub unmuted : (n : ℕ) (why : Why) → Contains (lines_of x.t x.who (steps_under plan stream events)) (mute n why)
       → (n ≤ length emits.before)
       ⊎ (length emits.before + length (stretch_of (feed plan stream) x.k (x.mark + x.count)) ≤ n)
-  -- Whatever is received, with those symbols at that segment of it: a run that begins at one of their field syncs gives
-  -- each packet back whose bytes are all among the run's and lie in segments of theirs, and whose word has at most ten
-  -- wrong bytes.
+  -- Whatever is received, with those symbols at that segment of it, a run that begins at one of their field syncs gives
+  -- packets back. It gives each packet back whose 207 bytes are all among the run's and lie in segments of theirs, and
+  -- whose word has at most ten wrong bytes.
   pub gives_back : (got : List (List ℤ)) → GivesBack (feed plan stream) x.k (x.mark + x.count) (length emits.before) got
   -- Those symbols alone, received with slight damage, give all their packets back and no other.
   pub gives_all_back : (got : List (List ℤ)) → GivesAllBack (feed plan stream) x.k (x.mark + x.count) got
@@ -87,11 +89,11 @@ pub record AreApart (ticks : ℤ) (log log_other : List Line) (one other : Line)
 
 -- The headline.
 pub record Headline (plan : Plan) (stream : List (List ℕ)) (events : List Event) : Type 0 where
-  -- Every transmitter that joins the feed, from any earlier state, emits exactly the feed's symbols in the stretch; a
-  -- run that begins at one of their field syncs gives the packets back whose bytes are all its own and lie in segments
-  -- of the stretch, with at most ten wrong bytes a word; and so does the stretch alone with slight damage.
+  -- Every transmitter that joins the feed, from any earlier state, emits exactly the feed's symbols in the stretch. A
+  -- run that begins at one of their field syncs gives packets back: those whose bytes are all its own and lie in
+  -- segments of the stretch, with at most ten wrong bytes a word. The stretch alone does so too with slight damage.
   pub follows : (x : Joined plan stream events) → Follows plan stream events x
-  -- Any two of them log a preset of each group with an operations packet that both have, and the moments of these
+  -- Any two of them log a preset of each group with an operations packet that both have. The moments of these two
   -- differ only by the offsets and some whole seconds.
   pub apart : (x y : Joined plan stream events) (g : ℕ) → Contains (orders (feed plan stream) x.k (x.mark + x.count)) g
       → Contains (orders (feed plan stream) y.k (y.mark + y.count)) g

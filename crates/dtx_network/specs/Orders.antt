@@ -45,16 +45,16 @@ pages_in plan = pages_of (paging_of plan.transmitters 0)
 
 -- ---- what a group of a feed orders
 
--- What the group from packet g of a feed on orders, where that counts, as it does 52 or more packets behind the feed's
--- start: what the group's first operations packet says.
+-- What the group from packet g of a feed on orders: what the group's first operations packet says. This counts 52 or
+-- more packets behind the feed's start.
 unfoldable pub order_of : Plan → List (List ℕ) → ℕ → Option Ops
 order_of plan stream g =
     if nat_le 52 g && (g % 4 == 0) then option_map (λ k. ops_at plan stream (take k (feed plan stream)) k)
     (first_operations stream g) else None
 
--- Fields are what the group from packet g of a feed on orders: the states that the feed's coders have before the group,
--- the stamp of its frame, the plan's maximum delay, its frame, the page whose turn it is, and the plan's transmitters
--- on that page.
+-- Fields are what the group from packet g of a feed on orders. They are the states that the feed's coders have before
+-- the group, the stamp of its frame, and the plan's maximum delay. They are also its frame, the page whose turn it is,
+-- and the plan's transmitters on that page.
 pub record IsOrder (plan : Plan) (stream : List (List ℕ)) (g : ℕ) (ops : Ops) : Type 0 where
   pub states : ops.states ≡ states_of (take g (feed plan stream))
   pub stamp : ops.stamp ≡ stamp_of plan.start (g / 624)

@@ -18,8 +18,8 @@ orders feed k end = filter (λ g. (g % 4 == 0) && has_order feed g) (range_with_
 abbrev pub moment_at : Plan → ℤ → ℕ → Moment
 moment_at plan offset g = moment_of (stamp_of plan.start (g / 624)) plan.max_delay offset (g % 624)
 
--- the line of the order of the group from packet g on, where the data segment of packet k is segment s: the group's
--- first data segment, its frame, its first packet's place in the frame, and the moment
+-- The line of the order of the group from packet g on, where the data segment of packet k is segment s. It has the
+-- group's first data segment, its frame, its first packet's place in the frame, and the moment.
 abbrev pub preset_at : Plan → ℤ → ℕ → ℕ → ℕ → Line
 preset_at plan offset s k g =
     preset (s + (segment_place g - segment_place k)) (g / 624) (g % 624) (moment_at plan offset g).tick

@@ -51,18 +51,18 @@ pub fn plans_that_are_read()
     ensures { (bytes : List ℕ) (plan : Plan) → plan_of bytes ≡ Ok plan → IsPlan plan }
 {}
 
-/// The feed of a plan is one that the exciter of each listed transmitter locks to, where the transmitter is in time:
-/// its marks stand at each 624th packet, and its orders set the states of its own coders. They all have one number of
-/// pages, those of one page list the same transmitters, and each that lists the transmitter has its offset and serves
-/// it.
+/// The exciter of each listed transmitter that is in time locks to the feed of the plan. Its marks stand at each 624th
+/// packet. Its orders set the states of its own coders, and all have one number of pages. Orders of one page list the
+/// same transmitters. Each order that lists the transmitter has its offset and serves it.
 pub fn feed_locks()
     ensures { (plan : Plan) (stream : List (List ℕ)) (t : Transmitter) → IsPlan plan → IsStream stream → IsListed plan t
         → IsInTime plan t → IsFeed t.address t.delay t.offset (feed plan stream) }
 {}
 
 /// A group of a feed orders something exactly where it begins 52 or more packets behind the feed's start and holds an
-/// operations packet, which is where its stream holds a placeholder; it orders what the first of them says, and has the
-/// entry of a transmitter of the plan, with its own offset, exactly where the transmitter stands on the group's page.
+/// operations packet. It holds one exactly where its stream holds a placeholder. It orders what the first of them says.
+/// The order has the entry of a transmitter of the plan, with its own offset, exactly where the transmitter stands on
+/// the group's page.
 pub fn orders_of_a_feed()
     ensures exact { (plan : Plan) (stream : List (List ℕ)) (g : ℕ) → IsPlan plan → IsStream stream
         → counting_order (readings (feed plan stream)) g ≡ order_of plan stream g }
@@ -84,7 +84,7 @@ pub fn orders_of_a_feed()
 {}
 
 /// A group of a feed lists a transmitter of the plan exactly where it holds an operations packet and its page is the
-/// transmitter's; with at most 35 transmitters, who take one page, exactly where it holds one.
+/// transmitter's. At most 35 transmitters take one page: then it lists each exactly where it holds one.
 pub fn listings_of_a_feed()
     ensures exact { (plan : Plan) (stream : List (List ℕ)) (t : Transmitter) (who g : ℕ) → IsPlan plan
         → IsStream stream → slice_get plan.transmitters who ≡ Some t → g % 4 ≡ 0
@@ -95,8 +95,8 @@ pub fn listings_of_a_feed()
         → has_listing t.address (feed plan stream) g ≡ has_order (feed plan stream) g }
 {}
 
-/// Among any groups of a feed in a row that hold operations packets one lists the transmitter, where they are as many
-/// as the plan has pages: so a listing comes within one cycle of pages.
+/// Take groups of a feed in a row that hold operations packets, as many as the plan has pages. One of them lists the
+/// transmitter. So a listing comes within one cycle of pages.
 pub fn listing_in_turn()
     ensures { (plan : Plan) (stream : List (List ℕ)) (t : Transmitter) (k end : ℕ) → IsPlan plan → IsStream stream
         → IsListed plan t → pages_in plan ≤ length (orders (feed plan stream) k end)
@@ -104,8 +104,8 @@ pub fn listing_in_turn()
         × (has_listing t.address (feed plan stream) g ≡ true) }
 {}
 
-/// The lines that an exciter logs in a stretch of a feed are the presets of the stretch's orders: one for each group
-/// that holds an operations packet, whether or not it lists the transmitter, and no other.
+/// The lines that an exciter logs in a stretch of a feed are the presets of the stretch's orders, and no other. There
+/// is one for each group that holds an operations packet, whether or not it lists the transmitter.
 pub fn lines_of_a_feed()
     ensures { (plan : Plan) (stream : List (List ℕ)) (offset : ℤ) (s k end : ℕ) → IsPlan plan → IsStream stream
         → 52 ≤ k → stretch_lines offset s (feed plan stream) k end ≡ presets plan offset s (feed plan stream) k end }
@@ -117,11 +117,11 @@ pub fn stretch_of_a_feed()
         → stretch_of feed k end ≡ stretch feed k end }
 {}
 
-/// For every stream and all lives of a listed transmitter that is in time: where one life, whatever it held before and
-/// holds behind, is given the feed unchanged from a mark on, the transmitter emits exactly the feed's own segments from
-/// its first listing on that begins 52 or more packets behind the mark from which it is locked to the feed. They stand
-/// behind what its earlier lives send and what this one sends before, and in front of what this one sends then and its
-/// later lives send; and so do its lines.
+/// For every stream and all lives of a listed transmitter that is in time. Let one life be given the feed unchanged
+/// from a mark on, whatever it held before and holds behind. Then the transmitter emits exactly the feed's own segments
+/// from its first listing on. That is the first one that begins 52 or more packets behind the mark from which it is
+/// locked to the feed. In front of these segments stands what its earlier lives send and what this one sends before.
+/// Behind them stands what this one sends then and what its later lives send. The same holds of its lines.
 pub fn emits()
     ensures { (plan : Plan) (stream : List (List ℕ)) (t : Transmitter) (xs ys : List (List (List ℕ)))
         (life : List (List ℕ)) (mark n k : ℕ)
@@ -132,10 +132,10 @@ pub fn emits()
         (emission_over t.address t.delay (xs ++ life ∷ ys)) (log t.address t.delay 0 (xs ++ life ∷ ys)) }
 {}
 
-/// An exciter that is given a feed from its first packet on sends the feed's own segments (ATSC A/53 Part 2) from its
-/// first listing on that begins at packet 52 or later, and nothing before, and its whole log is the presets of the
-/// orders from there on. While it is given no whole group that begins at packet 52 or later and lists it, it sends and
-/// logs nothing, whatever other pages it is told: its own is still to come.
+/// An exciter is given a feed from its first packet on. It sends the feed's own segments (ATSC A/53 Part 2) from its
+/// first listing on that begins at packet 52 or later, and nothing before. Its whole log is the presets of the orders
+/// from there on. As long as it is given no whole group that begins at packet 52 or later and lists it, it sends and
+/// logs nothing. This holds whatever other pages it is told, since its own is still to come.
 pub fn from_its_start()
     ensures segments { (plan : Plan) (stream : List (List ℕ)) (t : Transmitter) (n k : ℕ) → IsPlan plan
         → IsStream stream → IsListed plan t → IsInTime plan t
@@ -157,9 +157,9 @@ pub fn from_its_start()
         → life_lines t.address t.delay 0 (take n (feed plan stream)) ≡ [] }
 {}
 
-/// An exciter that is given a feed from one of its marks on, and before that nothing or packets without any mark, sends
+/// An exciter is given a feed from one of its marks on, and before that nothing or packets without any mark. It sends
 /// the feed's own segments (ATSC A/53 Part 2) from its first listing on that begins 52 or more packets behind the mark,
-/// and nothing before, and its whole log is the presets of the orders from there on. While it is given no whole group
+/// and nothing before. Its whole log is the presets of the orders from there on. As long as it is given no whole group
 /// that begins 52 or more packets behind the mark and lists it, it sends and logs nothing. Its delay may be another one
 /// than the plan's, as long as it is in time.
 pub fn from_a_mark()
@@ -183,9 +183,9 @@ pub fn from_a_mark()
         → life_lines t.address delay 0 (earlier ++ slice_range (feed plan stream) mark (mark + n)) ≡ [] }
 {}
 
-/// The first preset of a stretch is that of its first group, and speaks of the stretch's first segment. No line of the
-/// log but the stretch's presets speaks of anything between its beginning and its end, and so no mute: a line that ends
-/// behind its beginning and begins before its end is one of them.
+/// The first preset of a stretch is that of its first group, and speaks of the stretch's first segment. Each line of
+/// the log that ends behind the stretch's beginning and begins before its end is one of the stretch's presets. So no
+/// mute speaks of anything between its beginning and its end.
 pub fn lines_of_a_stretch()
     ensures first { (plan : Plan) (offset : ℤ) (s address : ℕ) (feed : List (List ℕ)) (z end k : ℕ)
         → IsFirstListing address feed z end k
@@ -199,8 +199,8 @@ pub fn lines_of_a_stretch()
         → Contains (presets plan t.offset (length e.before) feed k end) line }
 {}
 
-/// At any two transmitters the presets of one group are of one packet of one frame, and their moments differ by the
-/// offsets' difference, in ticks of 1539 grains, and otherwise by whole seconds, wherever their stretches begin.
+/// At any two transmitters the presets of one group are of one packet of one frame, wherever their stretches begin.
+/// Their moments differ by the offsets' difference, in ticks of 1539 grains, and otherwise by whole seconds.
 pub fn apart()
     ensures { (plan : Plan) (t u : Transmitter) (s r k l g : ℕ)
         → IsApart (t.offset -ℤ u.offset) (preset_at plan t.offset s k g) (preset_at plan u.offset r l g) }
@@ -211,38 +211,40 @@ pub fn packets_of_a_feed()
     ensures { (plan : Plan) (stream : List (List ℕ)) → IsPlan plan → IsStream stream → ArePackets (feed plan stream) }
 {}
 
-/// Whatever segments are received, the stretch of a feed being at segment s of them: a run that begins at a field sync
-/// of the stretch gives each packet back whose 207 bytes are all among the run's and lie in segments of the stretch,
-/// and whose word has at most ten wrong bytes, good and with 0x47 as its sync byte, behind the packets of the runs
-/// before it.
+/// Whatever segments are received, the stretch of a feed being at segment s of them, a run that begins at a field sync
+/// of the stretch gives packets back. It gives each packet back of which three things hold. Its 207 bytes are all among
+/// the run's, they lie in segments of the stretch, and its word has at most ten wrong bytes. The packet is good, has
+/// 0x47 as its sync byte, and stands behind the packets of the runs before it.
 pub fn gives_back()
     ensures { (feed : List (List ℕ)) (k end s : ℕ) (got : List (List ℤ)) → ArePackets feed → end ≤ length feed
         → GivesBack feed k end s got }
 {}
 
-/// The stretch alone, received with slight damage, is one run from its first field sync on, and what is received is
-/// exactly the feed's packets from there on whose bytes are all there, in order, none flagged.
+/// The stretch alone, received with slight damage, is one run from its first field sync on. What is received is exactly
+/// the feed's packets from there on whose bytes are all there, in order, none flagged.
 pub fn gives_all_back()
     ensures { (feed : List (List ℕ)) (k end : ℕ) (got : List (List ℤ)) → ArePackets feed → end ≤ length feed
         → GivesAllBack feed k end got }
 {}
 
-/// The headline: for every packet stream and schedule, an exciter that from any earlier state is given the adapter's
-/// feed unchanged through three cadence marks and on emits, from its first listing whose group starts 52 or more
-/// packets later, exactly the symbols of that feed (ATSC A/53 Part 2), at moments that differ between transmitters only
-/// by the signalled offsets; and symbols with at most ten wrong bytes per codeword give its packets back.
+/// The headline, for every packet stream and schedule. An exciter is given, from any earlier state, the adapter's feed
+/// unchanged through three cadence marks and on. From its first listing whose group starts 52 or more packets later, it
+/// emits exactly the symbols of that feed (ATSC A/53 Part 2). It does so at moments that differ between transmitters
+/// only by the signalled offsets. Symbols with at most ten wrong bytes per codeword give the feed's packets back.
 pub fn headline()
     ensures { (plan : Plan) (stream : List (List ℕ)) (events : List Event) → IsPlan plan → IsStream stream
         → Headline plan stream events }
 {}
 
 /// What the headline asks of a transmitter can be met at every mark of the feed that has a listing behind it, whatever
-/// happens before and then: with one event, which a plan may hold, that gives a listed transmitter in time packets of
-/// the feed from a mark on, it joins the feed there, where a whole group among them lists it that begins 52 or more
-/// packets behind the mark from which it is locked, by what its life was given before; its first listing is that
-/// group's or an earlier one's. It is locked from the mark on where it was given nothing before, and in any state from
-/// the third mark on at the latest, which is 1,248 packets later. There is such a group where the stream has
-/// placeholders in as many of these groups as the plan has pages.
+/// happens before and then. One event, which a plan may hold, gives a listed transmitter in time packets of the feed
+/// from a mark on. With it the transmitter joins the feed there, where a whole group among these packets lists it and
+/// begins late enough. The group has to begin 52 or more packets behind the mark from which the transmitter is locked.
+/// What its life was given before decides which mark that is. Its first listing is that group's or an earlier one's.
+///
+/// It is locked from the mark on where it was given nothing before. In any state it is locked from the third mark on at
+/// the latest, which is 1,248 packets later. There is such a group where the stream has placeholders in as many of
+/// these groups as the plan has pages.
 pub fn joined_is_met()
     ensures met { (plan : Plan) (stream : List (List ℕ)) (t : Transmitter) (who mark n g : ℕ)
         (before after : List Event)
@@ -287,7 +289,7 @@ pub fn joined_is_met()
 {}
 
 /// A transmitter that is given the feed from packet 0 on, and nothing else, sends the stretch alone, whatever is done
-/// with others meanwhile: its symbol file holds the feed's own segments from its first listing on, and no other.
+/// with others meanwhile. Its symbol file holds the feed's own segments from its first listing on, and no other.
 pub fn sends_the_stretch_alone()
     ensures { (plan : Plan) (stream : List (List ℕ)) (t : Transmitter) (who n k : ℕ) (before after : List Event)
         → IsPlan plan → IsStream stream → slice_get plan.transmitters who ≡ Some t → IsInTime plan t
@@ -304,9 +306,9 @@ pub fn stretch_is_slight()
         → IsReceivedAlone feed k end (stretch_of feed k end) }
 {}
 
-/// What the way back asks of a word is met by a symbol file as a transmitter leaves it: whatever stands before the
-/// stretch as it was sent and behind it, in a run that begins at a field sync of the stretch each packet is readable
-/// whose bytes are all among the run's and lie in segments of the stretch.
+/// What the way back asks of a word is met by a symbol file as a transmitter leaves it. Whatever stands before the
+/// stretch as it was sent and behind it, take a run that begins at a field sync of the stretch. In it each packet is
+/// readable whose bytes are all among the run's and lie in segments of the stretch.
 pub fn stretch_is_readable()
     ensures { (feed : List (List ℕ)) (k end f n j : ℕ) (before after : List (List ℤ)) → ArePackets feed
         → end ≤ length feed → BeginsField k end f
@@ -317,8 +319,8 @@ pub fn stretch_is_readable()
         (length before + to_field k f, n)) j }
 {}
 
-/// A byte of the interleaver that is sent in packet 51 behind a mark and comes from before it: to each last packet
-/// before the mark there is another one with which byte 50 of that packet is another byte.
+/// A byte of the interleaver is sent in packet 51 behind a mark and comes from before the mark. For each last packet
+/// before the mark there is another one with which byte 50 of that packet 51 is another byte.
 pub fn fewer_packets_are_too_few()
     ensures { (front packets : List (List ℕ)) (p : List ℕ) → (length front + 1) % 624 ≡ 0 → length p ≡ 188
         → AreBytes p → 52 ≤ length packets
@@ -344,8 +346,8 @@ pub fn a_lost_anchor_mutes()
     sent_packets_give();
 }
 
-/// A lock out of step with a feed is lost before the third mark of it that is given in a row: one of the 1,248 packets
-/// before it is answered by a mute for the cadence's sake.
+/// A lock out of step with a feed is lost before the third mark of it that is given in a row. One of the 1,248 packets
+/// before that mark is answered by a mute for the cadence's sake.
 pub fn a_lock_out_of_step_is_lost()
     ensures { (address delay : ℕ) (offset : ℤ) (feed earlier : List (List ℕ)) (mark j : ℕ)
         → IsFeed address delay offset feed → mark % 624 ≡ 0 → mark + 1248 ≤ length feed → anchor_of earlier ≡ Some j
@@ -354,9 +356,9 @@ pub fn a_lock_out_of_step_is_lost()
         × (exciter.last_answer address delay (earlier ++ slice_range feed mark (mark + m + 1)) ≡ Muted Cadence) }
 {}
 
-/// One missing mark changes nothing: where an exciter is given a feed from a mark on, but one packet of it with another
-/// sync byte, 624 or more packets behind the mark from which it is locked, it answers and sends what it would have, as
-/// packets that are sent alike do.
+/// One missing mark changes nothing. An exciter is given a feed from a mark on, but one packet of it has another sync
+/// byte. This packet stands 624 or more packets behind the mark from which the exciter is locked. Then it answers and
+/// sends what it would have, as packets that are sent alike do.
 pub fn one_mark_may_be_missing()
     ensures { (address delay : ℕ) (offset : ℤ) (feed earlier : List (List ℕ)) (mark n i : ℕ) (packet : List ℕ)
         → IsFeed address delay offset feed → mark % 624 ≡ 0 → mark + n ≤ length feed → i % 624 ≡ 0
@@ -365,9 +367,9 @@ pub fn one_mark_may_be_missing()
         (earlier ++ slice_range (slice_set feed i packet) mark (mark + n)) }
 {}
 
-/// Any number of stray marks change nothing under a lock: where an exciter is given the packets of a feed from a mark
-/// on with other sync bytes, but with the feed's own marks, and no other, up to the mark from which it is locked, and
-/// with each of the feed's own marks behind it, it answers and sends what it would have.
+/// Any number of stray marks change nothing under a lock. An exciter is given the packets of a feed from a mark on with
+/// other sync bytes. Up to the mark from which it is locked, they have the feed's own marks and no other. Behind it
+/// they have each of the feed's own marks. Then it answers and sends what it would have.
 pub fn stray_marks_move_nothing()
     ensures { (address delay : ℕ) (offset : ℤ) (feed earlier other : List (List ℕ)) (mark n : ℕ)
         → IsFeed address delay offset feed → mark % 624 ≡ 0 → mark + n ≤ length feed
@@ -377,10 +379,10 @@ pub fn stray_marks_move_nothing()
         → AreSentAlike (earlier ++ slice_range feed mark (mark + n)) (earlier ++ other) }
 {}
 
-/// The feed of a plan is sound: each operations packet says its place, the states that the feed's own coders have
+/// The feed of a plan is sound. Each operations packet says its place, the states that the feed's own coders have
 /// before its group, and the stamp and the number of its frame. So, watched from its first packet or from any of its
-/// marks on, it is calm: that packet is an anchor, each operations packet stands at its place, no states slip and no
-/// stamp jumps, and nothing else is told.
+/// marks on, it is calm. That packet is an anchor, each operations packet stands at its place, no states slip and no
+/// stamp jumps. Nothing else is told.
 pub fn a_feed_is_sound()
     ensures sound { (plan : Plan) (stream : List (List ℕ)) → IsPlan plan → IsStream stream
         → IsSoundFeed plan.start plan.max_delay (feed plan stream) }

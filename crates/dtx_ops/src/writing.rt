@@ -15,8 +15,9 @@ use dtx_laws::Encode;
 use dtx_packets::Packet;
 
 /// Makes the packet an operations packet of these fields and that counter. Its byte 0 stays. Stamp and maximum delay
-/// are to be below 10,000,000 ticks, the index below 624 and the counter below 16, the
-/// page below the number of pages, which is at most 30, with at most 34 entries, and the addresses are to differ.
+/// are to be below 10,000,000 ticks, the index below 624 and the counter below 16. The page is to be below the number
+/// of pages, which is at most 30. There are to be at most 35 entries on the only page, or 34 on one of several, and
+/// their addresses are to differ.
 #[tactic(auto, unfolding(crate::specs::Spelling::spelling))]
 pub fn write<E: Encode<184, 164>>(code: &E, ops: &Ops, counter: u8, packet: &mut Packet)
     requires stamp { ops.now.stamp < 10000000 }

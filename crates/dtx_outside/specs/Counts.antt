@@ -23,7 +23,7 @@ Rose before now = now < last_count → before < now
 pub data Blame : Type 0 where
   -- nothing: no refusal was met
   Nothing : Blame
-  -- want of memory, which no count tells, maybe after a refusal that one tells
+  -- out of memory, which no count tells, maybe after a refusal that one tells
   Wanting : Blame
   -- a file to be read wasn't there
   Missing : Blame
@@ -47,14 +47,14 @@ pub record HasGone (before now : Counts) (blame : Blame) : Type 0 where
   pub misses : before.misses ≤ now.misses
   pub risen : HasRisen blame before now
 
--- what the answer of a read is blamed on: one that wants memory raises no count
+-- what the answer of a read is blamed on: out of memory raises no count
 abbrev pub blame_of_read : Result ℕ ReadNo → Blame
 blame_of_read (Ok n) = Nothing
 blame_of_read (Err read_no.Absent) = Missing
 blame_of_read (Err read_no.Failed) = Reading
 blame_of_read (Err read_no.Memory) = Nothing
 
--- what the answer of a `begin` or an `append` is blamed on: one that wants memory raises no count
+-- what the answer of a `begin` or an `append` is blamed on: out of memory raises no count
 abbrev pub blame_of_write : Result (Unit {0}) WriteNo → Blame
 blame_of_write (Ok _) = Nothing
 blame_of_write (Err write_no.Failed) = Writing

@@ -13,18 +13,18 @@ IsPrinted bytes old (Err Failed) new =
     (n : ℕ) × (n ≤ length bytes) × (new ≡ option_map (λ before. before ++ take n bytes) old)
 IsPrinted bytes old (Err Memory) new = new ≡ old
 
--- the count of faults has risen where printing failed; where it didn't, the count stands
+-- the count of I/O errors has risen where printing failed; where it didn't, the count stands
 abbrev pub HasRisenBy : {T : Type 0} → Result T SinkNo → ℕ → ℕ → Type 0
 HasRisenBy (Ok _) before now = now ≡ before
 HasRisenBy (Err Failed) before now = Rose before now
 HasRisenBy (Err Memory) before now = now ≡ before
 
--- what the count of faults tells of an answer: it never falls, and rises by those that failed alone
+-- what the count of I/O errors tells of an answer: it never falls, and rises by those that failed alone
 pub record IsCounted {T : Type 0} (before : ℕ) (result : Result T SinkNo) (now : ℕ) : Type 0 where
   pub grown : before ≤ now
   pub risen : HasRisenBy result before now
 
--- how often a sink has failed after a write with that answer: want of memory raises no count
+-- how often a sink has failed after a write with that answer: out of memory raises no count
 abbrev pub faults_printed : Result ℕ SinkNo → ℕ → ℕ
 faults_printed (Ok _) old = old
 faults_printed (Err Failed) old = raised old

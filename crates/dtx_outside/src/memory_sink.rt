@@ -47,7 +47,7 @@ impl MemorySink {
         &self.text
     }
 
-    /// Plans that the write of that number fails, counted from 0 since `new`. It may want memory.
+    /// Plans that the write of that number fails, counted from 0 since `new`. The only error is out of memory.
     pub fn fail(&mut self, nth: u64) -> Result<(), AllocError>
         requires { nth < last_count }
         ensures ok { OnOk result (self.new ≡ record self.old { writes = failing nth self.old.writes }) }

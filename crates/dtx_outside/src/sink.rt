@@ -10,7 +10,7 @@ use std::alloc::AllocError;
 pub enum SinkNo {
     /// Writing failed.
     Failed,
-    /// Memory is wanted.
+    /// Out of memory.
     Memory,
 }
 
@@ -30,8 +30,8 @@ pub trait Sink {
     /// How often writing has failed. It never falls, and stays at the greatest `u64`.
     ghost faults: { Self → ℕ };
 
-    /// Takes a front part of the bytes, and answers its length. It takes nothing only where there is nothing. Where it
-    /// `Failed`, a front part may have been taken. After `Memory` all is as before, the count too.
+    /// Takes a prefix of the bytes, and answers its length. It takes nothing only where there is nothing. Where it
+    /// `Failed`, a prefix may have been taken. After `Memory` all is as before, the count too.
     fn write(&mut self, bytes: &[u8]) -> Result<usize, SinkNo>
         ensures bound { IfOk result (λ n. n ≤ length bytes.now) }
         ensures some { IfOk result (λ n. 0 < length bytes.now → 0 < n) }

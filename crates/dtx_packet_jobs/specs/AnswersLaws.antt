@@ -1,5 +1,5 @@
--- Which refusals the commands of packets and of plain bytes know: of how their making answers.
--- They stand here since the ghost members of an impl, a trait's laws, cite lemmas of specs/ alone.
+-- Which refusals the commands of packets and of plain bytes know: of how their making answers. They stand in specs/,
+-- since the ghost members of an impl, a trait's laws, can cite lemmas from there only.
 use Rattle.dtx_meaning.specs.declared.status.Status.{Status}
 use Rattle.dtx_engine.specs.Recipe.{IsAnswerOf}
 use Rattle.dtx_words.specs.declared.rows.Command.TheVariants.{Place, DvbCode, DvbRead}

@@ -40,8 +40,8 @@ read_of names bytes = record {
   outputs = outputs_of names (only (bytes_of_reads (read_dvb bytes)));
 }
 
--- and where there are more than may be: the packets that the first ones give, as many as may be, which are the first
--- of all
+-- And where there are more than may be. These are the packets that the first blocks give, as many as may be: the first
+-- of all packets.
 abbrev pub read_until : List (List ℕ) → List ℕ → Meaning
 read_until names bytes = record {
   outcome = ended TooLong;

@@ -1,5 +1,5 @@
--- Laws of what is sent of a stream: more packets bring more bytes behind.
--- They stand here since the ghost members of an impl, a trait's laws, cite lemmas of specs/ alone.
+-- Laws of what is sent of a stream: more packets bring more bytes behind. They stand in specs/, since the ghost members
+-- of an impl, a trait's laws, can cite lemmas from there only.
 use Rattle.std.proofs.Common.{◌≡◌, ℕ, ◌%◌, List, [], ◌∷◌, ◌++◌, length, refl, sym, ap, ◌∙◌, arith}
 use Rattle.dtx_dvb.specs.Stream.{dvb}
 use Rattle.dtx_dvb.proofs.StreamLemmas.{dvb_append, bytes_behind, length-dvb}

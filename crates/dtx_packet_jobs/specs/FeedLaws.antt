@@ -1,5 +1,5 @@
--- The feed of a stream grows with it.
--- They stand here since the ghost members of an impl, a trait's laws, cite lemmas of specs/ alone.
+-- Laws of the feed of a stream: it grows with the stream. They stand in specs/, since the ghost members of an impl, a
+-- trait's laws, can cite lemmas from there only.
 use Rattle.std.proofs.Common.{◌≡◌, ℕ, ◌%◌, List, [], ◌++◌, length, drop, refl, sym, ap, ◌∙◌}
 use Rattle.std.proofs.lemmas.Grind.{flat_map-append}
 use Rattle.dtx_adapter.proofs.FeedsLemmas.{feed_parts}

@@ -19,8 +19,8 @@ use Rattle.dtx_forms.specs.Combine.{combine_job}
 use Rattle.dtx_packet_jobs.specs.PastEnd.{first_past}
 use Rattle.dtx_packet_jobs.specs.declared.laying.Laying.{Laying}
 
--- The end of a file of so many bytes: the first entry that ends behind it; or where none does its bytes, and how many
--- of them some entry covers.
+-- The end of a file of so many bytes: the first entry that ends behind it. Where none does, its bytes, and how many of
+-- them some entry covers.
 abbrev pub hurt_end : List Damage → ℕ → Option ℕ → Outcome
 hurt_end damage bytes (Some entry) = ended (OutOfAir entry)
 hurt_end damage bytes None =

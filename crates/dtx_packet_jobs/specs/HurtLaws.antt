@@ -1,5 +1,5 @@
--- Damage that is laid piece by piece.
--- They stand here since the ghost members of an impl, a trait's laws, cite lemmas of specs/ alone.
+-- Laws of damage that is laid piece by piece. They stand in specs/, since the ghost members of an impl, a trait's laws,
+-- can cite lemmas from there only.
 use Rattle.std.proofs.Common.{◌≡◌, ℕ, List, [], ◌++◌, length, refl, sym, ap, ◌∙◌, zero-add}
 use Rattle.dtx_engine.specs.Made.{AreFrontsOf, only}
 use Rattle.dtx_make.proofs.LaidLemmas.{damaged_bytes-append}

@@ -28,7 +28,7 @@ is_open packet = is_null packet || is_placeholder packet
 abbrev pub behind : List (List ℕ) → ℕ → List (List ℕ)
 behind packets f = take 260 (drop (312 * f + 52) packets)
 
--- A packet becomes a placeholder, before which these packets stand: it is a null packet at place 52 of its field or
+-- A packet becomes a placeholder, before which these packets stand. It is a null packet at place 52 of its field or
 -- behind, and none from place 52 of its field on up to it is a null packet or a placeholder.
 unfoldable pub becomes : List (List ℕ) → List ℕ → Bool
 becomes before packet = is_null packet

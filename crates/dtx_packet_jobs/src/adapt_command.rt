@@ -17,10 +17,10 @@ use dtx_plan::Plan;
 use std::alloc::Global;
 
 /// Writes the feed of the stream IN under the plan of PLAN to OUT: its packets of 188 bytes, which begin with 0x47.
-/// Byte 0 of packet k becomes the cadence mark 0xB8 where 624 divides k and stays 0x47 elsewhere, and each placeholder,
-/// of packet identifier 0x1FFA, becomes an operations packet, which says from which states and when its group is sent
-/// (the profile's own, in the manner of ATSC A/110). The numbers are the packets, the placeholders filled, and the
-/// bytes behind the last whole packet.
+/// Byte 0 of packet k becomes the cadence mark 0xB8 where 624 divides k, and stays 0x47 elsewhere. Each placeholder, of
+/// packet identifier 0x1FFA, becomes an operations packet (the profile's own, in the manner of ATSC A/110). This says
+/// from which states and when its group is sent. The numbers are the packets, the placeholders filled, and the bytes
+/// behind the last whole packet.
 pub fn adapt<S: Shelf>(alloc: Global, words: &[Word], shelf: &mut S) -> Outcome
     ensures { IsJobPerformed adapt_job words.now result (S.files shelf.old) (S.files shelf.new)
         (S.counts shelf.old) (S.counts shelf.new) }

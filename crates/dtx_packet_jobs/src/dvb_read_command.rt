@@ -8,11 +8,11 @@ use dtx_meaning::Outcome;
 use dtx_outside::{Shelf, Word};
 use std::alloc::Global;
 
-/// Writes the packets of the bytes IN to OUT, which the outer coding of DVB has sent (EN 300 429, the way back): those
-/// of all whole blocks of 204 bytes but the last eleven, where the first byte of IN is the first of a block that begins
-/// a group of eight. A packet whose word has no correction is written as it was gathered, with the error indicator
-/// set. The numbers are the blocks, the packets, the bytes put right, the packets flagged, and the bytes behind the
-/// last whole block.
+/// Writes the packets of the bytes IN to OUT, which the outer coding of DVB has sent (EN 300 429, the way back). They
+/// are those of all whole blocks of 204 bytes but the last eleven. The first byte of IN is the first of a block that
+/// begins a group of eight. A packet whose word has no correction is written as it was gathered, with the error
+/// indicator set. The numbers are the blocks, the packets, the bytes put right, the packets flagged, and the bytes
+/// behind the last whole block.
 pub fn dvb_read<S: Shelf>(alloc: Global, words: &[Word], shelf: &mut S) -> Outcome
     ensures { IsJobPerformed dvb_read_job words.now result (S.files shelf.old) (S.files shelf.new)
         (S.counts shelf.old) (S.counts shelf.new) }

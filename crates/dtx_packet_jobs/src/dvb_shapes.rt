@@ -8,8 +8,8 @@ use dtx_engine::Shape;
 use dtx_packets::PIECE_PACKETS;
 use dtx_sizes::{MOST_PACKETS, PACKET};
 
-/// How many packets are read at once where they are sent as blocks of 204 bytes: these fill more than a piece of the
-/// output, so that they go to its file without being gathered, but for parts of a page.
+/// How many packets are read at once where they are sent as blocks of 204 bytes. These blocks fill more than a piece of
+/// the output, so that they go to its file without being gathered, but for parts of a page.
 pub const DVB_PIECE_PACKETS: usize = 696;
 
 /// Packets of 188 bytes that are sent as blocks of 204 (EN 300 429), each for itself.

@@ -36,7 +36,7 @@ pub struct Feeder<'a> {
 }
 
 impl<'a> Feeder<'a> {
-    /// A feeder under a plan, to which nothing was given.
+    /// A feeder under a plan, to which nothing was given. The only error is out of memory.
     pub fn new(alloc: Global, plan: &'a Plan) -> Result<Feeder<'a>, AllocError>
         requires { IsSound plan.now }
         ensures fresh { IfOk result (λ feeder. ⟦<Feeder<'a> as Engine>⟧.stands feeder []) }

@@ -9,8 +9,8 @@ use dtx_meaning::{Outcome, ended};
 use dtx_outside::{Shelf, Word};
 use std::alloc::Global;
 
-/// Writes the bytes of IN to OUT with the damage of CHANGES laid over them: each byte that an entry covers becomes that
-/// entry's `put`, in two's complement (the profile's own). Where an entry ends behind the file, OUT is written all the
+/// Writes the bytes of IN to OUT with the damage of CHANGES laid over them (the profile's own). Each byte that an entry
+/// covers becomes that entry's `put`, in two's complement. Where an entry ends behind the file, OUT is written all the
 /// same. The numbers are the bytes, and those of them that some entry covers.
 pub fn hurt<S: Shelf>(alloc: Global, words: &[Word], shelf: &mut S) -> Outcome
     ensures { IsJobPerformed hurt_job words.now result (S.files shelf.old) (S.files shelf.new)

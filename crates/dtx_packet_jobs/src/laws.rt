@@ -1,5 +1,5 @@
-//! Laws of what the commands make, and of the files that they read and write: packets written one behind another are
-//! read back, a feed too, and the packets of a file have 188 bytes.
+//! Laws of what the commands make, and of the files that they read and write. Packets written one behind another are
+//! read back, a feed too. The packets of a file have 188 bytes.
 
 pub mod dvb_streams;
 pub mod placing;

@@ -41,8 +41,8 @@ IsNext found old (Ok (Some packet)) new =
 IsNext found old (Ok None) new = IsSomeAnd found (λ file. IsEnd file old new)
 IsNext found old (Err refusal) new = IsRefused found old refusal
 
--- that many packets are given where there is room for some: as many as have room, as the limit still allows and as are
--- left
+-- So many packets are given where there is room for some: as many as have room, as the limit still allows and as are
+-- left.
 pub record IsCount (file : List ℕ) (old : Reading) (room n : ℕ) (new : Reading) : Type 0 where
   pub least : n ≡ min room (min (old.limit - old.given) (whole_packets file - next_of old))
   pub none : n ≡ 0 → IsEnd file old new

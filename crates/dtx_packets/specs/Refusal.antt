@@ -12,7 +12,7 @@ next_no_of read.Absent = Absent
 next_no_of read.Failed = Failed
 next_no_of read.Memory = Memory
 
--- what the answer of the reader is blamed on: a stream that is too long and want of memory raise no count
+-- what the answer of the reader is blamed on: a stream that is too long and out of memory raise no count
 abbrev pub blame_of_next : {T : Type 0} → Result T NextNo → Blame
 blame_of_next (Ok _) = Nothing
 blame_of_next (Err Absent) = Missing

@@ -81,8 +81,8 @@ impl PacketReader {
 
     /// The next whole packet, or `None` where fewer than 188 bytes are left.
     ///
-    /// It refuses with `TooLong` where as many packets as the limit were given and another whole one is there, and
-    /// otherwise as the shelf refuses.
+    /// It refuses with `TooLong` where as many packets as the limit were given and another whole one is there.
+    /// Otherwise it refuses as the shelf does.
     pub fn next<S: Shelf>(&mut self, shelf: &mut S, name: &str) -> Result<Option<Packet>, NextNo>
         ensures told { IfSome (S.files shelf.old) (λ held. IsNext (map.get held name.now) self.old result self.new) }
 
@@ -107,8 +107,9 @@ impl PacketReader {
         }
     }
 
-    /// Puts the next whole packets at the front of the places, read at once, and answers how many they are: as many as
-    /// there are places, as the limit still allows and as are left. It is 0 where fewer than 188 bytes are left.
+    /// Puts the next whole packets at the front of the places, read at once, and answers how many they are. They are as
+    /// many as there are places, as the limit still allows and as are left. It is 0 where fewer than 188 bytes are
+    /// left.
     ///
     /// It refuses as `next` does. Where it answers 0 or refuses, the places are as they were.
     pub fn next_many<S: Shelf>(

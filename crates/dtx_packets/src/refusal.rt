@@ -11,7 +11,7 @@ pub enum NextNo {
     /// Reading the file failed.
     #[error("Failed")]
     Failed,
-    /// Memory is wanted.
+    /// Out of memory.
     #[error("Memory")]
     Memory,
     /// The file has more packets than the reader's limit allows.

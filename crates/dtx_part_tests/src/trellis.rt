@@ -82,8 +82,8 @@ fn a_segment_begins_with_its_coder_byte_and_bits(rt: HostRuntime) {
     }
 }
 
-/// What a coder gives: its place among twelve in each of the four segments, the round before which its levels are 0,
-/// the level in this round, and those in even and in odd rounds behind it.
+/// What a coder gives: its place among twelve in each of the four segments, and the round before which its levels are
+/// 0. Then the level in this round, and those in even and in odd rounds behind it.
 struct Given {
     places: [usize; 4],
     from: usize,

@@ -23,7 +23,7 @@ Err refusal >>= f = Err refusal
 abbrev pub refused : {A : Type 0} → PlanKey → ℕ → PlanRule → Result A PlanNo
 refused key item rule = Err (record { key = key; item = item; rule = rule })
 
--- what the code answers is what the walk gives, unless memory is wanted
+-- what the code answers is what the walk gives, unless memory runs out
 abbrev pub IsAnswer : {A : Type 0} → Result A PlanNo → Result A PlanFault → Type 0
 IsAnswer walked (Ok x) = walked ≡ Ok x
 IsAnswer walked (Err (No refusal)) = walked ≡ Err refusal

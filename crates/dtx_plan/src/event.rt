@@ -66,7 +66,7 @@ impl Model for Events {
 }
 
 impl Events {
-    /// These events, in their order.
+    /// These events, in their order. The only error is out of memory.
     pub fn from_slice(alloc: Global, events: &[Event]) -> Result<Events, AllocError>
         ensures { IfOk result (λ all. all ≡ events.now) }
     {

@@ -5,8 +5,8 @@ use crate::event::Events;
 use crate::transmitters::Transmitters;
 use dtx_outside::Word;
 
-/// A plan of a network: the tick at which its feed starts, its maximum delay in ticks of 100 ns, its transmitters, and
-/// what is done with them, where it is said.
+/// A plan of a network: the tick at which its feed starts, its maximum delay in ticks of 100 ns, and its transmitters.
+/// Where it is said, also what is done with them.
 #[derive(Drop)]
 pub struct Plan {
     pub start: u32,

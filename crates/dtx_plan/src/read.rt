@@ -17,8 +17,8 @@ use toml::Table;
 
 /// The plan that the bytes of a file say, or the first refusal of the walk over it (the profile's own plan file).
 ///
-/// The walk goes from top to bottom, entry by entry, and in each table row by row: first the keys that the table may
-/// hold (of an event first `do`, which says what these are), then each key's rules. Memory may be wanted at any step.
+/// The walk goes from top to bottom, entry by entry, and in each table row by row. First come the keys that the table
+/// may hold (of an event first `do`, which says what these are), then each key's rules. Memory may run out at any step.
 pub fn read_plan(alloc: Global, bytes: &[u8]) -> Result<Plan, PlanFault>
     ensures walk { IsAnswer (spec.plan_of bytes.now) result }
     ensures sound { IfOk result IsSound }
@@ -30,8 +30,8 @@ pub fn read_plan(alloc: Global, bytes: &[u8]) -> Result<Plan, PlanFault>
     }
 }
 
-/// The damage that the bytes of a file of changes say, or the first refusal of the walk over it (the profile's own file
-/// of changes: one array `damage`, with the rows that it has in a plan).
+/// The damage that the bytes of a file of changes say, or the first refusal of the walk over it. A file of changes is
+/// the profile's own: one array `damage`, with the rows that it has in a plan.
 pub fn read_changes(alloc: Global, bytes: &[u8]) -> Result<Damages, PlanFault>
     ensures walk { IsAnswer (spec.changes_of bytes.now) result }
     ensures sound { IfOk result AreDamages }

@@ -1,4 +1,4 @@
-// Why a plan is refused: the key, the entry and the rule, or want of memory.
+// Why a plan is refused: the key, the entry and the rule, or out of memory.
 ghost use Rattle.std.specs.Prelude.{◌≡◌};
 ghost use Rattle.dtx_plan.specs.declared.refusal.PlanFault.TheVariants.{Memory};
 
@@ -6,8 +6,8 @@ use crate::key::PlanKey;
 use crate::rule::PlanRule;
 use std::alloc::{AllocError, AllocFailed};
 
-/// The first refusal of the walk over a plan: the key of its row, the number of the entry, from 0 and 0 where there is
-/// no entry, and the rule that is broken.
+/// The first refusal of the walk over a plan: the key of its row, the number of the entry, and the rule that is broken.
+/// Entries are counted from 0, and the number is 0 where there is no entry.
 #[derive(Clone, Copy, PartialEq, Eq)]
 pub struct PlanNo {
     pub key: PlanKey,
@@ -29,7 +29,7 @@ impl PlanNo {
 pub enum PlanFault {
     /// A rule of the walk is broken.
     No(PlanNo),
-    /// Memory is wanted.
+    /// Out of memory.
     Memory,
 }
 

@@ -38,7 +38,7 @@ impl Transmitters {
         }
     }
 
-    /// These transmitters, in their order.
+    /// These transmitters, in their order. The only error is out of memory.
     pub fn from_slice(
         alloc: Global,
         transmitters: &[Transmitter],
@@ -55,7 +55,7 @@ impl Transmitters {
         Ok(all)
     }
 
-    /// One transmitter behind the others. Where memory is wanted, the list stays.
+    /// One transmitter behind the others. Where memory runs out, the list stays.
     pub(crate) fn push(&mut self, transmitter: Transmitter) -> Result<(), AllocError>
         ensures ok { OnOk result (self.new ≡ self.old ++ transmitter ∷ []) }
         ensures err { OnErr result (self.new ≡ self.old) }

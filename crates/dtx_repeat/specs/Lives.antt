@@ -1,4 +1,4 @@
--- What a transmitter sends that is fed from the air (the profile's own, over the symbols of ATSC A/53 Part 2): each run
+-- What a transmitter sends that is fed from the air (the profile's own, over the symbols of ATSC A/53 Part 2). Each run
 -- of the segments that it receives is one life of its exciter.
 use Rattle.std.specs.Prelude.{ℕ, ℤ, List, ◌++◌, map, option_to_list}
 use Rattle.dtx_exciter.specs.Log.{Line, log, emission_over}

@@ -17,8 +17,8 @@ use Rattle.dtx_repeat.specs.declared.repeater.Repeater.{Repeater}
 abbrev pub next_place : List (List ℤ) → ℕ
 next_place run = (first_place run + length (early_of (bytes_in run))) % 624
 
--- The repeater received these segments, and its exciter was given these packets since it was new or the last run
--- began; or it is one that answers as it does.
+-- The repeater received these segments, and its exciter was given these packets since it was new or the last run began.
+-- Or it is one that answers as such a repeater does.
 pub record StandsFor (address delay : ℕ) (repeater : Repeater) (segments : List (List ℤ)) (given : List (List ℕ)) :
     Type 0 where
   pub receiver : receiver.StandsFor repeater.receiver segments

@@ -13,8 +13,8 @@ use dtx_receiver::{Batch, Receiver, Tracking};
 use dtx_sizes::SEGMENT;
 use std::alloc::{AllocError, Global};
 
-/// A repeater: it receives the packets of a main transmitter's segments, restores the cadence marks that aren't sent,
-/// and drives an exciter (the profile's own, over ATSC A/53 Part 2 and in the manner of ATSC A/110). Segments and
+/// A repeater (the profile's own, over ATSC A/53 Part 2 and in the manner of ATSC A/110). It receives the packets of a
+/// main transmitter's segments, restores the cadence marks that aren't sent, and drives an exciter. Segments and
 /// packets come one after another, and may hold any bytes. `StandsFor address delay repeater segments given` says that
 /// it holds what these segments leave, and that its exciter was given these packets since it was new or since the last
 /// run began.
@@ -27,7 +27,7 @@ pub struct Repeater {
 
 impl Repeater {
     /// The repeater of the transmitter with this address, to which the feed takes `delay` ticks of 100 ns. It received
-    /// nothing and was given nothing. Only want of memory is refused.
+    /// nothing and was given nothing. The only error is out of memory.
     pub fn new(alloc: Global, address: u16, delay: u32) -> Result<Repeater, AllocError>
         ensures { IfOk result (λ repeater. StandsFor address delay repeater [] []) }
     {
@@ -39,9 +39,9 @@ impl Repeater {
     }
 
     /// Receives the next segment: tells what it is, and gives the packets that become whole with it, in place of what
-    /// the batch held, as a `Receiver` gives them, but with 0xB8 as the sync byte of each that begins a first field.
-    /// The first field sync of a run tells whether its first field is a first or a second one, and then the fields take
-    /// turns. Where a run begins, the exciter becomes one that was given nothing. No call takes memory.
+    /// the batch held. It gives them as a `Receiver` does, but with 0xB8 as the sync byte of each that begins a first
+    /// field. The first field sync of a run tells whether its first field is a first or a second one, and then the
+    /// fields take turns. Where a run begins, the exciter becomes one that was given nothing. No call takes memory.
     pub fn take(&mut self, segment: &[i8; SEGMENT], batch: &mut Batch) -> Tracking
         ensures answer { (address delay : ℕ) (segments : List (List ℤ)) (given : List (List ℕ))
             → StandsFor address delay self.old segments given → result ≡ tracking segments segment.now }
@@ -79,8 +79,8 @@ impl Repeater {
     }
 
     /// Gives the exciter one more packet, of any bytes, and answers as an `Exciter` does that was given what this one
-    /// was: `Sent` to the last packet of a group that is sent, and then the air holds its segments. With any other
-    /// answer the air holds none.
+    /// was. `Sent` is answered to the last packet of a group that is sent, and then the air holds its segments. With
+    /// any other answer the air holds none.
     pub fn send(&mut self, packet: &Packet, air: &mut Air) -> Told
         ensures { (address delay : ℕ) (segments : List (List ℤ)) (given : List (List ℕ))
             → StandsFor address delay self.old segments given

@@ -25,7 +25,7 @@ pub record HasPair (address : ℕ) (symbols log : List ℕ) (held : Files) : Typ
 abbrev pub with_pair : ℕ → List ℕ → List ℕ → Files → Files
 with_pair address symbols log held = with_file (log_name address) log (with_file (symbol_name address) symbols held)
 
--- what adding bytes to a file leaves, of which all or a front part was added
+-- what adding bytes to a file leaves, of which all or a prefix was added
 abbrev pub IsAddedTo : List ℕ → List ℕ → List ℕ → Files → Result (Unit {0}) WriteNo → Option Files → Type 0
 IsAddedTo name file bytes held (Ok _) now = now ≡ Some (with_file name (file ++ bytes) held)
 IsAddedTo name file bytes held (Err _) now = (part : List ℕ) × IsFrontOf part bytes

@@ -31,11 +31,11 @@ IsBegunOf ts start (Ok _) now = now ≡ with_outputs (files_of nothing ts) start
 IsBegunOf ts start (Err _) now = ArePartWritten (files_of nothing ts) start now
 
 -- Where a schedule was broken off: while the files were begun, or in the midst of a step. So there is one number of
--- steps, and each file holds what those give, and a front part of what the next gives.
+-- steps, and each file holds what those give, and a prefix of what the next gives.
 abbrev pub IsBrokenOff : List Transmitter → List Step → Files → Option Files → Type 0
 IsBrokenOff ts steps held now = ArePartWritten (files_of nothing ts) (Some held) now ⊎ IsUnderWay ts steps held now
 
--- a fault was met, and of what the steps write a front part stands
+-- an I/O error or lack of memory was met, and a prefix of what the steps write stands
 pub record IsPlayFault (ts : List Transmitter) (steps : List Step) (held : Files) (status : Status)
     (now : Option Files) : Type 0 where
   pub fault : IsFault status

@@ -27,7 +27,7 @@ pub record IsPlayedSoFar (ts : List Transmitter) (steps : List Step) (held : Fil
   pub playing : IsPlayout ts playout steps
   pub files : now ≡ with_outputs (played_outputs ts steps) (Some held)
 
--- The first of these steps are done, and at most one more is under way: each file of a transmitter has all that those
+-- The first of these steps are done, and at most one more is under way. Each file of a transmitter has all that those
 -- give, and no more than that one gives too.
 pub record IsUnderWay (ts : List Transmitter) (steps : List Step) (held : Files) (now : Option Files) : Type 0 where
   pub done : List Step
@@ -40,8 +40,8 @@ pub record IsUnderWay (ts : List Transmitter) (steps : List Step) (held : Files)
   pub most : AreFronts ts contents (played (done ++ next))
   pub files : now ≡ with_outputs (files_of contents ts) (Some held)
 
--- what doing leaves that was to bring the steps to these: they are done; or a fault was met, and one of them is under
--- way
+-- What doing leaves that was to bring the steps to these. They are done; or an I/O error or lack of memory was met, and
+-- one of them is under way.
 abbrev pub IsDoneOf : List Transmitter → List Step → Files → Result (Unit {0}) Status → Playout → Option Files → Type 0
 IsDoneOf ts steps held (Ok _) playout now = IsPlayedSoFar ts steps held playout now
 IsDoneOf ts steps held (Err status) playout now = IsFault status × IsUnderWay ts steps held now
@@ -58,8 +58,8 @@ of_next next.Failed = ReadFault
 of_next next.Memory = Memory
 of_next next.TooLong = TooLong
 
--- A refusal while a schedule is played, whatever the files are: the feed, which is input 2, isn't there or ends too
--- early, or a fault.
+-- A refusal while a schedule is played, whatever the files are. The feed, which is input 2, isn't there, is too long or
+-- ends too early. Or there was an I/O error or no memory.
 abbrev pub IsOfFeed : Status → Type 0
 IsOfFeed (Absent input) = input ≡ 2
 IsOfFeed TooLong = Unit {0}
@@ -86,8 +86,8 @@ pub record IsPieceCount (count : ℕ) (into : List packet.Packet) (n : ℕ) : Ty
   pub fits : n ≤ length into
   pub within : n ≤ count
 
--- what giving the first packets of a part, which begins with a packet of the feed, leaves: so many more are given; or a
--- fault was met while one of all packets of the part was
+-- What giving the first packets of a part leaves, which begins with a packet of the feed. So many more are given. Or an
+-- I/O error or lack of memory was met while one of all packets of the part was given.
 abbrev pub IsGivenOf : List Transmitter → List Step → ℕ → List ℕ → ℕ → ℕ → Files → Result ℕ Status → Playout
     → Option Files → Type 0
 IsGivenOf ts before who feed from count held (Ok n) playout now =

@@ -17,8 +17,7 @@ pub record Progress (ts : List Transmitter) (steps : List Step) : Type 0 where
   pub done : ℕ
   pub within : done ≤ length steps
   -- The two files of each transmitter hold this, as far as they were begun. Each begins with all that the steps which
-  -- are done give, and is a front part of what these and the next step give, or where none is left, of what all steps
-  -- give.
+  -- are done give. It is a prefix of what these and the next step give, or where none is left, of what all steps give.
   pub contents : Contents
   pub least : AreFronts ts (played (take done steps)) contents
   pub most : AreFronts ts contents (played (take (done + 1) steps))

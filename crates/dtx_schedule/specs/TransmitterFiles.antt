@@ -37,7 +37,7 @@ files_of contents (t ∷ ts) =
       (contents 0 t).1,
     ) ∷ files_of (λ who. contents (suc who)) ts
 
--- each file has a front part of what it has by another account
+-- each file has a prefix of what it has by another account
 abbrev pub AreFronts : List Transmitter → Contents → Contents → Type 0
 AreFronts ts fewer more =
     (who : ℕ) (t : Transmitter) → slice_get ts who ≡ Some t

@@ -65,9 +65,9 @@ fn count_at(counts: &[u64], place: usize) -> u64
 }
 
 /// Plays the events of a plan over the feed, which stands in `net.feed`, into the files `tx-A.sym` and `tx-A.log` of
-/// each transmitter, A being its address: step by step, each with the packet or the restart that the event gives its
-/// transmitter (the profile's own). All memory is taken before a file is begun. The symbols of a step and then its line
-/// are appended before the next step begins.
+/// each transmitter, A being its address (the profile's own). It goes step by step, each with the packet or the restart
+/// that the event gives its transmitter. All memory is taken before a file is begun. The symbols of a step and then its
+/// line are appended before the next step begins.
 #[inline(never)]
 pub fn play<S: Shelf>(
     alloc: Global,

@@ -67,8 +67,8 @@ impl Playout {
         self.net.find(address)
     }
 
-    /// Gives the transmitter at a place of the list one packet more, of any bytes, and appends to its files what it
-    /// sends for it, and then the line of its log. An empty piece isn't appended.
+    /// Gives the transmitter at a place of the list one packet more, of any bytes. Appends to its files what it sends
+    /// for it, and then the line of its log. An empty piece isn't appended.
     #[tactic(auto, using(crate::proofs::Refusals::write_of_feed))]
     pub(crate) fn give<S: Shelf>(
         &mut self,

@@ -2,8 +2,8 @@
 use Rattle.std.specs.Prelude.{◌≡◌, ℕ, ℤ, pos, negsuc, ◌+◌, ◌-◌, ◌/◌, ◌<◌, nat_le, if◌then◌else◌, List, map}
 use Rattle.std.specs.Prelude.{drop, slice_index, slice_index_or}
 
--- half of v + 8 where v is from -8 to 7, 0 below and 7 above: -8 and -7 give level 0, -6 and -5 level 1, .., 6 and 7
--- level 7
+-- Half of v + 8 where v is from -8 to 7, 0 below and 7 above. So -8 and -7 give level 0, -6 and -5 level 1, .., 6 and 7
+-- level 7.
 unfoldable pub sliced : ℤ → ℕ
 sliced (pos n) = if nat_le n 7 then (n + 8) / 2 else 7
 sliced (negsuc n) = if nat_le n 7 then (7 - n) / 2 else 0

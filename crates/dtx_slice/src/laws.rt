@@ -7,8 +7,8 @@ ghost use Rattle.dtx_slice.specs.Unrolled.{bytes_back, precoder_bits_after, prec
 
 use dtx_sizes::{GROUP_BYTES, GROUP_LEVELS, PRECODE};
 
-/// Where the precoder bits are those of the coders' states, the bytes of whole groups come back from the levels that
-/// the coders give, and the precoder bits behind them are those of the states that the coders leave.
+/// Let the precoder bits be those of the coders' states. Then the bytes of whole groups come back from the levels that
+/// the coders give. The precoder bits behind them are those of the states that the coders leave.
 pub fn inverts()
     ensures bytes { (s u : ℕ) (states bytes : List ℕ) → length bytes ≡ GROUP_BYTES * u
         → EachIndex bytes (λ j. slice_index bytes j < 256)

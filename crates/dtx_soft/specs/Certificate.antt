@@ -17,8 +17,8 @@ AllowAllSteps symbols potentials = (t : ℕ) → t < length symbols
 abbrev pub HasLeast : List ℕ → ℕ → Type 0
 HasLeast entry start = (state : ℕ) → state < 4 → slice_index entry start ≤ slice_index entry state
 
--- All that is to be tested: levels are a path from the start, the last entry is zeros, no step goes below its entry,
--- and the path costs what the first entry has for its start, where no other state has less.
+-- All that is to be tested. The levels are a path from the start, the last entry is zeros, and no step goes below its
+-- entry. The path costs what the first entry has for its start, where no other state has less.
 pub record IsCertificate (symbols : List ℤ) (start : ℕ) (levels : List ℕ) (potentials : List (List ℕ)) : Type 0 where
   pub begins : start < 4
   pub long : length levels ≡ length symbols

@@ -1,5 +1,5 @@
--- Differences of costs in units, by which the coders are decoded side by side: at one symbol the squares of all
--- levels are alike but for multiples of four times the scale.
+-- Differences of costs in units, by which the coders are decoded side by side. At one symbol the squares of all levels
+-- are alike but for multiples of four times the scale.
 use Rattle.std.specs.Prelude.{ℕ, ℤ, pos, ◌≡◌, ◌+◌, ◌*◌, ◌/◌, ◌%◌, ◌^◌, ◌<◌, ◌≤◌, ◌+ℤ◌, ◌≤ℤ◌, max, min, List, []}
 use Rattle.std.specs.Prelude.{◌∷◌, length, map, drop, nat_le, nat_lt, if◌then◌else◌, slice_index, slice_index_or}
 use Rattle.std.specs.Int.{int_min}
@@ -65,8 +65,8 @@ row_of scale symbol = record {
   filler = 0;
 }
 
--- of the gaps of a symbol's squares and of the potentials behind it: the sum of the even ones, or 0 where it is more,
--- the lesser of the even ones, and the same of the odd ones
+-- Of the gaps of a symbol's squares and of the potentials behind it. There is the sum of the even ones, or 0 where it
+-- is more, the lesser of the even ones, and the same of the odd ones.
 pub record AreLesser (squares : SquareGaps ℤ) (gap : Gap ℤ) (a b g h : ℤ) : Type 0 where
   pub first : a ≡ int_min (squares.even +ℤ gap.even) (pos 0)
   pub second : b ≡ int_min squares.even gap.even

@@ -14,7 +14,7 @@ abbrev pub NoneCostsLess : ℕ → List ℤ → List ℕ → Type 0
 NoneCostsLess scale symbols levels = (state : ℕ) (others : List ℕ) → state < 4 → length others ≡ length symbols
     → IsPath state others → cost scale symbols levels ≤ cost scale symbols others
 
--- The least path over symbols: of all paths from all states the one that costs least; of several, the one with the
+-- The least path over symbols: of all paths from all states the one that costs least. Of several it is the one with the
 -- smallest start, and then the first in order of level numbers.
 pub record IsLeast (scale : ℕ) (symbols : List ℤ) (start : ℕ) (levels : List ℕ) : Type 0 where
   pub begins : start < 4

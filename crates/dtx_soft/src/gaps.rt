@@ -1,5 +1,5 @@
-//! The walk from the end of the symbols to their begin, of all lanes side by side. It keeps only how the least costs of
-//! the four states differ.
+//! The walk from the end of the symbols to their beginning, of all lanes side by side. It keeps only how the least
+//! costs of the four states differ.
 
 ghost use Rattle.std.specs.Prelude.{◌≡◌, ◌≢◌, ◌⊎◌, ℕ, ℤ, pos, neg_ℤ, ◌+◌, ◌*◌, ◌<◌};
 ghost use Rattle.std.specs.Prelude.{◌≤◌, ◌≤ℤ◌, ◌<ℤ◌, ◌+ℤ◌, ◌-ℤ◌, length};
@@ -42,8 +42,8 @@ pub(crate) struct SquareGaps<T> {
     pub(crate) odd_tied: T,
 }
 
-/// Of the gaps of a symbol's squares and of the potentials behind it: the sum of the even ones, or 0 where it is more,
-/// the lesser of the even ones, and the same of the odd ones.
+/// Of the gaps of a symbol's squares and of the potentials behind it. There is the sum of the even ones, or 0 where it
+/// is more, the lesser of the even ones, and the same of the odd ones.
 #[derive(Drop)]
 struct Terms {
     even_sum: i16,

@@ -61,7 +61,7 @@ pub fn cost_of_softening()
         → coders_distance old new CODERS ≡ segments_distance old new }
 {}
 
-/// What the least paths of a field cost at most, where its symbols are signed bytes: none is off a level by more than
+/// What the least paths of a field cost at most, where its symbols are signed bytes. None is off a level by more than
 /// 128 and seven times the scale, and each coder has 69 in a segment.
 pub fn costs_are_small()
     ensures { (scale : ℕ) (old new : List (List ℤ)) → AreSigned old → IsSoftened scale old new

@@ -1,4 +1,4 @@
-//! The walk from the end of the symbols to their begin in bytes, where all symbols are near 0: twice as many lanes
+//! The walk from the end of the symbols to their beginning in bytes, where all symbols are near 0. Twice as many lanes
 //! are worked on at once as in numbers of 16 bits.
 
 ghost use Rattle.std.specs.Prelude.{◌≡◌, ◌↔◌, ◌⊎◌, ℕ, ℤ, pos, neg_ℤ, ◌+◌, ◌*◌, ◌<◌};
@@ -18,8 +18,8 @@ pub(crate) const MAX_NEAR_SCALE: u8 = 4;
 /// How far off 0 symbols may be for it.
 const MAX_NEAR: i8 = 28;
 
-/// Of the gaps of a symbol's squares and of the potentials behind it: the sum of the even ones, or 0 where it is more,
-/// the lesser of the even ones, and the same of the odd ones.
+/// Of the gaps of a symbol's squares and of the potentials behind it. There is the sum of the even ones, or 0 where it
+/// is more, the lesser of the even ones, and the same of the odd ones.
 #[derive(Drop)]
 struct NearTerms {
     even_sum: i8,

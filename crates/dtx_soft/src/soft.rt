@@ -15,9 +15,9 @@ use dtx_sizes::{CODERS, FIELD_PACKETS, SEGMENT, SEGMENT_ROUNDS};
 use std::alloc::{AllocError, Global};
 use std::marker::Model;
 
-/// Decodes the symbols of a trellis coder: of all paths it finds the one whose levels lie nearest to them, in the sum
-/// of the squares (ATSC A/53 Part 2, trellis coding). It is seen as the scale of its levels and the potentials of the
-/// symbols that it decoded last.
+/// Decodes the symbols of a trellis coder (ATSC A/53 Part 2, trellis coding). Of all paths it finds the one whose
+/// levels lie nearest to them, in the sum of the squares. It is seen as the scale of its levels and the potentials of
+/// the symbols that it decoded last.
 #[derive(Drop)]
 pub struct Soft {
     walker: Walker,
@@ -45,14 +45,15 @@ impl Model for Soft {
 }
 
 impl Soft {
-    /// A decoder of symbols at the standard's levels, which are 2 * z - 7 for z from 0 to 7.
+    /// A decoder of symbols at the standard's levels, which are 2 * z - 7 for z from 0 to 7. The only error is out of
+    /// memory.
     pub fn new(alloc: Global) -> Result<Soft, AllocError>
         ensures { IfOk result (λ soft. soft ≡ new_decoder 1) }
     {
         Soft::scaled(alloc, 1)
     }
 
-    /// A decoder of symbols at so many times the standard's levels.
+    /// A decoder of symbols at so many times the standard's levels. The only error is out of memory.
     pub fn scaled(alloc: Global, scale: u8) -> Result<Soft, AllocError>
         requires { scale ≤ MAX_SCALE }
         ensures { IfOk result (λ soft. soft ≡ new_decoder scale) }
@@ -89,8 +90,8 @@ impl Soft {
     }
 
     /// Replaces the symbols of each of the twelve coders by those of their least path, in the first data segments of a
-    /// field, and answers the sum of what the twelve paths cost. Behind it the potentials are those of coder 11's
-    /// symbols as they were given.
+    /// field. Answers the sum of what the twelve paths cost. Behind it the potentials are those of coder 11's symbols
+    /// as they were given.
     pub fn field(&mut self, segments: &mut [[i8; SEGMENT]]) -> u64
         requires whole { length segments.old % 4 ≡ 0 }
         requires few { length segments.old ≤ FIELD_PACKETS }

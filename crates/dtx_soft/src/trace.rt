@@ -1,5 +1,5 @@
-//! The walk on from the begin of the symbols, of all lanes side by side: it follows the marks, and writes the symbols
-//! of the least paths.
+//! The walk on from the beginning of the symbols, of all lanes side by side: it follows the marks, and writes the
+//! symbols of the least paths.
 
 ghost use Rattle.std.specs.Prelude.{◌≡◌, ◌≢◌, ℕ, ℤ, pos, ◌+◌, ◌*◌, ◌^◌, ◌<◌, ◌≤◌};
 ghost use Rattle.std.specs.Prelude.{◌+ℤ◌, ◌≤ℤ◌, length, ◌==◌, if◌then◌else◌};

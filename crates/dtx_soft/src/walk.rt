@@ -1,5 +1,5 @@
-//! The walk from the end of the symbols to their begin, which finds the least costs, and the walk on, which finds the
-//! least path (the Viterbi decoder).
+//! The walk from the end of the symbols to their beginning, which finds the least costs, and the walk on, which finds
+//! the least path (the Viterbi decoder).
 
 ghost use Rattle.std.specs.Prelude.{◌≡◌, ℕ, ◌+◌, ◌-◌, ◌*◌, ◌/◌, ◌%◌, ◌^◌, ◌<◌, ◌≤◌, ◌⊎◌};
 ghost use Rattle.std.specs.Prelude.{EachIndex, [], length, slice_index};
@@ -116,7 +116,7 @@ fn follow(table: &Table, symbols: &[i8], start: u8, potentials: &[[u32; 4]], lev
     }
 }
 
-/// For each state which of the two pairs of levels that may follow it is to be taken: bits 2, 0, 3 and 1 are for states
+/// For each state which of the two pairs of levels that may follow it is to be taken. Bits 2, 0, 3 and 1 are for states
 /// 0 to 3, which is the order in which a vector has them.
 #[inline(always)]
 fn taken(row: &Nearest, behind: &[u32; 4]) -> u8

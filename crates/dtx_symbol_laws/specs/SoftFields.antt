@@ -44,8 +44,8 @@ softened_of names file = record {
   outputs = outputs_of names (only (segment_bytes (soft_symbols (file_segments file))));
 }
 
--- and of one that has more segments than may be: what the first ones give, as many as may be, but for those of the
--- field that is on behind them
+-- And of one that has more segments than may be. It is what the first ones give, as many as may be, but for those of
+-- the field that is on behind them.
 abbrev pub softened_until : List (List ℕ) → List ℕ → Meaning
 softened_until names file = record {
   outcome = ended TooLong;

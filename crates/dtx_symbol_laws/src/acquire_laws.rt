@@ -19,11 +19,11 @@ use dtx_acquire::laws::{a_small_error_moves_nothing, whole_fields_are_acquired};
 use dtx_sizes::{FIELD_SEGMENTS, MOST_SYMBOLS};
 use dtx_soft::laws::coder_takes_a_path;
 
-/// What `acquire` answers and writes of any file, at any scale. Where the file has no more bytes than may be, each byte
-/// a symbol, and something is acquired of them, the answer is `Done`, with the bytes, the runs, the segments, what all
-/// least paths cost and the bytes in no segment, and OUT is all that is acquired; where nothing is, the answer is
-/// `NoSync`, and OUT is there and empty. Where the file has more, it is too long, and OUT is what the first bytes give
-/// while they come, as many as may be: a front part of what all give.
+/// What `acquire` answers and writes of any file, at any scale. Let the file have no more bytes than may be, each byte
+/// a symbol. Where something is acquired of them, the answer is `Done`, and OUT is all that is acquired. The numbers
+/// are the bytes, the runs, the segments, what all least paths cost and the bytes in no segment. Where nothing is
+/// acquired, the answer is `NoSync`, and OUT is there and empty. Where the file has more bytes, it is too long. Then
+/// OUT is what the first bytes give while they come, as many as may be: a prefix of what all give.
 pub fn all_is_acquired_of_a_file()
     ensures done { (names : List (List ℕ)) (scale : ℕ) (file : List ℕ) → length file ≤ MOST_SYMBOLS
         → file_acquired scale file ≢ []
@@ -39,9 +39,9 @@ pub fn all_is_acquired_of_a_file()
     whole_fields_are_acquired();
 }
 
-/// An error below half the distance of two levels moves nothing, at every scale: of symbols as many as those of a
-/// stream, each of which differs from the scale times the stream's by less than the scale, the segments of the stream
-/// are acquired.
+/// An error below half the distance of two levels moves nothing, at every scale. Take symbols as many as those of a
+/// stream, each of which differs from the scale times the stream's by less than the scale. The segments of the stream
+/// are acquired of them.
 pub fn a_stream_is_acquired()
     ensures { (scale : ℕ) (packets : List (List ℕ)) (symbols : List ℤ) → 0 < scale
         → AreNear scale (a53_symbols packets) symbols → acquired scale symbols ≡ a53 packets }

@@ -22,8 +22,8 @@ use dtx_sizes::{MOST_PACKETS, MOST_SEGMENTS};
 use dtx_soft::laws::{coder_takes_a_path, keeps_own_field};
 
 /// All whole segments of a file are softened, where they are no more than may be. Where there are more, that is the
-/// answer, and what the first ones give is written, as many as may be, but for the field that is on behind them: a
-/// front part of what all give.
+/// answer. Then what the first ones give is written, as many as may be, but for the field that is on behind them. It is
+/// a prefix of what all give.
 pub fn all_is_softened()
     ensures whole { (names : List (List ℕ)) (file : List ℕ) → whole_segments file ≤ MOST_SEGMENTS
         → meaning_of_file shapes.segments softening names file ≡ softened_of names file }
@@ -33,7 +33,7 @@ pub fn all_is_softened()
         → (rest : List (List ℤ)) × (soft_symbols segments ≡ soft_so_far (take n segments) ++ rest) }
 {}
 
-/// The segments of what is written of a file of bytes are those that are made: so what is said of them, as that their
+/// The segments of what is written of a file of bytes are those that are made. So what is said of these, as that their
 /// runs are those of the file, is said of the file that is written.
 pub fn written_segments()
     ensures { (file : List ℕ) → All (λ b. b < 256) file
@@ -52,7 +52,7 @@ pub fn all_is_made()
     ensures { (segments : List (List ℤ)) → soft_so_far segments ++ soft_rest segments ≡ soft_symbols segments }
 {}
 
-/// The runs of what is made are those of the segments: as many, each as long, and each segment of the output is told to
+/// The runs of what is made are those of the segments: as many, and each as long. Each segment of the output is told to
 /// be what it was in the input, so that runs begin, go on and end at the same segments. Their intervals are the same.
 pub fn runs_stay()
     ensures intervals { (segments : List (List ℤ)) (places : List (ℕ × ℕ)) → AreRuns segments 0 places
@@ -94,8 +94,8 @@ pub fn cost_of_all()
 {}
 
 /// The segments of a stream stay as they are, and all their least paths cost nothing. So the file that `code` writes of
-/// a stream is what `soft` writes of it, at cost 0, with as many segments as `code` says, a field for each 78 groups of
-/// four packets that are begun, and nothing loose.
+/// a stream is what `soft` writes of it, at cost 0, with as many segments as `code` says. It has a field for each 78
+/// groups of four packets that are begun, and nothing loose.
 pub fn a_stream_stays()
     ensures symbols { (packets : List (List ℕ)) → soft_symbols (a53 packets) ≡ a53 packets }
     ensures cost { (packets : List (List ℕ))

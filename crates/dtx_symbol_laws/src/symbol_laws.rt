@@ -1,6 +1,6 @@
-//! Laws of what is received of a symbol file: the packets of all its whole segments, or nothing where none of them
-//! looks like a field sync; of one with damage laid over its bytes the same of the damaged bytes; and of one that is
-//! cut, or of two one behind the other, what is written of the whole, or of each.
+//! Laws of what is received of a symbol file. It is the packets of all its whole segments, or nothing where none of
+//! them looks like a field sync. Of a file with damage laid over its bytes it is the same of the damaged bytes. Of a
+//! file that is cut, or of two one behind the other, it is what is written of the whole, or of each.
 
 ghost use Rattle.std.specs.Prelude.{◌≡◌, ◌+◌, ◌*◌, ◌<◌, ◌≤◌, ◌%◌, ◌++◌, ℕ, All, List, [], length, take};
 ghost use Rattle.dtx_plan.specs.declared.damage.Damage.{Damage};
@@ -26,9 +26,9 @@ pub fn segments_in_pieces()
     ensures count { (file : List ℕ) → length (file_segments file) ≡ whole_segments file }
 {}
 
-/// Of a file with no more segments than are received all packets are written; so of the damaged bytes, where damage is
-/// laid over them. Of a file with more that is the answer, and what the first ones give while they come is written, as
-/// many as may be.
+/// Of a file with no more segments than are received all packets are written. So it is of the damaged bytes, where
+/// damage is laid over them. Where a file has more, that is the answer, and what the first ones give while they come is
+/// written, as many as may be.
 pub fn all_is_received()
     ensures plain { (names : List (List ℕ)) (file : List ℕ) → whole_segments file ≤ MOST_SEGMENTS
         → meaning_of_file shapes.segments receiving names file ≡ received_of names file (length file % 832) }
@@ -55,7 +55,7 @@ pub fn cut_symbols()
         → (first rest : List ℕ) × IsWritten file (first ++ rest) × IsWritten (take n file) first }
 {}
 
-/// Where no run is on at the end of a file of whole segments, of it and a second one behind it that is written which is
+/// Let no run be on at the end of a file of whole segments. Of it and a second one behind it that is written which is
 /// written of each, one behind the other. No run is on where each run of the file ends before one of its segments.
 pub fn spliced_symbols()
     ensures { (a b : List ℕ) (places : List (ℕ × ℕ)) → whole_segments (a ++ b) ≤ MOST_SEGMENTS

@@ -25,9 +25,9 @@ use Rattle.dtx_top.specs.NetAnswers.{IsOfNetWords, IsOfNetwork, ShowsNetwork}
 use Rattle.dtx_top.specs.NetProgress.{HasProgress}
 use Rattle.dtx_top.specs.Trial.{HasTrialHeadline, HasTrialProgress}
 
--- The cause of an answer, of the counts of the shelf and of that of the sink. On `Done` all stand, so no fault was met.
--- `WriteFault` is also answered where the line of `Done` could not be printed; want of memory may be met behind a
--- fault.
+-- The cause of an answer, of the counts of the shelf and of that of the sink. On `Done` all stand, so no I/O error was
+-- met. `WriteFault` is also answered where the line of `Done` could not be printed. Memory may run out behind an I/O
+-- error.
 abbrev pub HasCause : Status → Counts → Counts → ℕ → ℕ → Type 0
 HasCause Done before now first last = (now ≡ before) × (last ≡ first)
 HasCause (Absent input) before now first last = Rose before.misses now.misses
@@ -45,12 +45,12 @@ pub record HasEnded (before now : Counts) (first last : ℕ) (status : Status) :
   pub faults : first ≤ last
   pub cause : HasCause status before now first last
 
--- All was done, whether or not its line could be printed: where no fault of writing is counted, `WriteFault` speaks of
+-- All was done, whether or not its line could be printed: where no error of writing is counted, `WriteFault` speaks of
 -- the line alone.
 abbrev pub IsAllDone : Status → Counts → Counts → Type 0
 IsAllDone status before now = (status ≡ Done) ⊎ ((status ≡ WriteFault) × ¬ Rose before.write_faults now.write_faults)
 
--- no fault was counted, of reading, of writing, or of printing
+-- no I/O error was counted, of reading, of writing, or of printing
 pub record IsFaultless (before now : Counts) (first last : ℕ) : Type 0 where
   pub reading : ¬ Rose before.read_faults now.read_faults
   pub writing : ¬ Rose before.write_faults now.write_faults
@@ -76,10 +76,10 @@ inputs_among [] = zero
 inputs_among (Input ∷ fields) = suc (inputs_among fields)
 inputs_among (field ∷ fields) = inputs_among fields
 
--- Words that fit a command are never answered `Usage`. They are answered `Same` where two of the command's file names
--- are equal, unless memory is wanted, and only there; an input that isn't there is one that the words name; and each
--- refusal is one that the command knows. Of `net`, whose plan names further files, an input that isn't there is one of
--- the four that it reads; of `trial`, whose words name no file, one of the three that it reads.
+-- Words that fit a command are never answered `Usage`. They are answered `Same` only where two of the command's file
+-- names are equal, and there always unless memory runs out. An input that isn't there is one that the words name, and
+-- each refusal is one that the command knows. Of `net`, whose plan names further files, an input that isn't there is
+-- one of the four that it reads. Of `trial`, whose words name no file, it is one of the three that it reads.
 abbrev pub IsByWords : Option Command → List (List ℕ) → Status → Type 0
 IsByWords None words status = (status ≡ Usage) ⊎ (status ≡ Memory)
 IsByWords (Some Net) words status = IsOfNetwork status
@@ -100,9 +100,9 @@ IsOfCommand (Some command) words status = IsOfJob (job_of command) words status
 
 -- ---- a command, but for its line
 
--- A command was performed, but for its line, in which this name stands where the words don't say which. Where the
--- files are told, what the words mean was carried out, a network came so far, and the headline holds where it is done;
--- whether they are told or not, the answer is one that the words allow, and the counts have gone with it.
+-- A command was performed, but for its line, in which this name stands where the words don't say which. Where the files
+-- are told, what the words mean was carried out, a network came so far, and the headline holds where it is done.
+-- Whether they are told or not, the answer is one that the words allow, and the counts have gone with it.
 pub record IsCommandPerformed (command : Option Command) (words : List (List ℕ)) (outcome : Outcome) (kept : List ℕ)
     (told now : Option Files) (before after : Counts) : Type 0 where
   pub carried : IfSome told (λ held. IsCarriedOut (means_of command words held) (Some held) outcome now)

@@ -33,11 +33,11 @@ pub record HeadlineOfFiles (plan : Plan) (network : NetPlan) (stream : List (Lis
   pub segments : (who : ℕ) (t : Transmitter) → slice_get plan.transmitters who ≡ Some t
       → file_segments (symbol_file t who (steps_under plan stream network.events))
       ≡ sent.sent_segments t who (steps_under plan stream network.events)
-  -- Every transmitter that from any earlier state is given the feed unchanged through three cadence marks and on emits,
-  -- from its first listing whose group starts 52 or more packets later, exactly the symbols of that feed, at moments
-  -- that differ between transmitters only by the signalled offsets; and in whatever is received of them, a run that
-  -- begins at one of their field syncs gives the packets back whose bytes are all among the run's and lie in segments
-  -- of theirs, and whose words have at most ten wrong bytes.
+  -- Any transmitter is given, from any earlier state, the feed unchanged through three cadence marks and on. From its
+  -- first listing whose group starts 52 or more packets later, it emits exactly the symbols of that feed. It does so at
+  -- moments that differ between transmitters only by the signalled offsets. In whatever is received of them, a run that
+  -- begins at one of their field syncs gives packets back. They are those whose bytes are all among the run's and lie
+  -- in segments of theirs, and whose words have at most ten wrong bytes.
   pub headline : Headline plan stream network.events
   -- Where what is received is such a transmitter's symbol file with the plan's damage, it gives those packets back.
   pub gives_back : (receiver : ReceivePlan) (x : Joined plan stream network.events) → network.receive ≡ Some receiver

@@ -16,7 +16,7 @@ use Rattle.dtx_top.specs.Trial.{trial_names}
 
 -- ---- which line
 
--- the file names of a command: those among its words; of `net` also those that its plan gives; those of a trial
+-- The file names of a command: those among its words, or those of a trial. Of `net` also those that its plan gives.
 abbrev pub names_told : Option Command → List (List ℕ) → Files → List (List ℕ)
 names_told (Some Net) words held = net_names words held
 names_told (Some Trial) words held = trial_names
@@ -67,7 +67,7 @@ pub record HasWholeLine (IsLine : Status → List ℕ → Type 0) (status : Stat
   pub line : IsLine status text
   pub whole : new ≡ printed text old
 
--- a front part of such a line was printed
+-- a prefix of such a line was printed
 pub record HasPartLine (IsLine : Status → List ℕ → Type 0) (status : Status) (old new : Option (List ℕ)) : Type 0 where
   pub text : List ℕ
   pub line : IsLine status text
@@ -75,8 +75,9 @@ pub record HasPartLine (IsLine : Status → List ℕ → Type 0) (status : Statu
   pub within : bytes ≤ length text
   pub part : new ≡ printed (take bytes text) old
 
--- What a call printed, which ended so: the whole line of its answer; or where the sink failed a front part of it, for
--- WriteFault also of the line of Done, and for Done never; after Memory a front part of some line.
+-- What a call printed, which ended so: the whole line of its answer, or where the sink failed a prefix of it. For
+-- WriteFault this may also be a prefix of the line of Done, and for Done the line is always whole. After Memory it is a
+-- prefix of some line.
 abbrev pub HasLine : (Status → List ℕ → Type 0) → Status → Type 0 → Option (List ℕ) → Option (List ℕ) → Type 0
 HasLine IsLine Done unprinted old new = HasWholeLine IsLine Done old new
 HasLine IsLine Memory unprinted old new = (status : Status) × HasPartLine IsLine status old new

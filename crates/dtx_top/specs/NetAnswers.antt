@@ -6,8 +6,8 @@ use Rattle.dtx_meaning.specs.declared.status.Status.TheVariants.{Done, Usage, Sa
 use Rattle.dtx_meaning.specs.declared.status.Status.TheVariants.{OutOfAir}
 use Rattle.dtx_plan.specs.declared.plan.ReceivePlan.{ReceivePlan}
 
--- Where the words fit: an input that isn't there is 0, the plan; 1, the stream; 2, the feed; or 3, the symbols that are
--- received.
+-- Where the words fit, an input that isn't there is number 0 to 3: the plan, the stream, the feed, and the symbols that
+-- are received.
 abbrev pub IsOfNetwork : Status → Type 0
 IsOfNetwork Usage = ⊥
 IsOfNetwork (Absent input) = input < 4
@@ -18,8 +18,8 @@ abbrev pub HasDamage : Option ReceivePlan → Type 0
 HasDamage None = ⊥
 HasDamage (Some receiver) = receiver.damage ≢ []
 
--- The same where the plan is read and no two names are equal, of what is received: then an input that isn't there is no
--- plan; and damage ends behind the symbols only where there is some.
+-- The same of what is received, where the plan is read and no two names are equal. Then an input that isn't there is no
+-- plan, and damage ends behind the symbols only where there is some.
 abbrev pub IsOfReplay : Option ReceivePlan → Status → Type 0
 IsOfReplay receive Usage = ⊥
 IsOfReplay receive Same = ⊥
@@ -33,6 +33,6 @@ abbrev pub IsOfNetWords : List (List ℕ) → Status → Type 0
 IsOfNetWords (verb ∷ plan ∷ []) status = IsOfNetwork status
 IsOfNetWords words status = status ≡ Usage
 
--- the line of a network that is done shows three numbers or six; over files that are told its meaning says which
+-- The line of a network that is done shows three numbers or six. Over files that are told its meaning says which.
 abbrev pub ShowsNetwork : Status → Outcome → Type 0
 ShowsNetwork status outcome = status ≡ Done → (outcome.shown ≡ 3) ⊎ (outcome.shown ≡ 6)

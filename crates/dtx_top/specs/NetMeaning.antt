@@ -127,8 +127,8 @@ planned_meaning name held plan (Some network) =
     if is_some (repeated (network_names name plan network)) then refused Same else network_meaning plan network
     (get held network.stream)
 
--- The plan is read first, and its table `net` asked for; then the names are compared; the stream is asked for and
--- adapted; the events are compared with the feed and played; the damage is compared with the symbols; at the end the
+-- The plan is read first, and its table `net` asked for. Then the names are compared. The stream is asked for and
+-- adapted. The events are compared with the feed and played. The damage is compared with the symbols. At the end the
 -- symbols are received.
 abbrev pub net_meaning : List (List ℕ) → Files → Meaning
 net_meaning (verb ∷ plan ∷ []) held = under_plan 0 (get held plan) (λ said. planned_meaning plan held said said.net)

@@ -28,8 +28,8 @@ abbrev pub names_of_file : List ℕ → Option (List ℕ) → List (List ℕ)
 names_of_file name None = name ∷ []
 names_of_file name (Some bytes) = names_said name (plan_of bytes)
 
--- PLAN alone where it gives no network; else PLAN, the stream, the feed, the files of the transmitters, and what is
--- received
+-- PLAN alone where it gives no network. Else PLAN, the stream, the feed, the files of the transmitters, and what is
+-- received.
 abbrev pub net_names : List (List ℕ) → Files → List (List ℕ)
 net_names (verb ∷ plan ∷ []) held = names_of_file plan (get held plan)
 net_names words held = []

@@ -21,7 +21,7 @@ use Rattle.dtx_schedule.specs.TransmitterFiles.{log_file, symbol_file}
 use Rattle.dtx_words.specs.NetworkNames.{feed_name, log_name, symbol_name}
 use Rattle.dtx_top.specs.NetMeaning.{adapting, received_of}
 
--- some of the first outputs, each with a front part of its bytes
+-- some of the first outputs, each with a prefix of its bytes
 abbrev pub AreFirstParts : Outputs → Outputs → Type 0
 AreFirstParts [] outputs = Unit {0}
 AreFirstParts (part ∷ parts) [] = ⊥
@@ -31,29 +31,29 @@ AreFirstParts (part ∷ parts) (o ∷ rest) = (part.0 ≡ o.0) × IsFrontOf part
 -- touched but its own, and they were begun in one order: `net.feed`, those of the transmitters, `net.ts`.
 pub record NetProgress (whole_feed : Outputs) (ts : List Transmitter) (steps : List Step) (whole_reception : Outputs)
     (status : Status) (held : Files) (now : Option Files) : Type 0 where
-  -- `net.feed`, if it was begun, holds a front part of the feed.
+  -- `net.feed`, if it was begun, holds a prefix of the feed.
   pub feed : Outputs
   pub feed_part : AreFirstParts feed whole_feed
-  -- The schedule came so far: so many files of the transmitters are begun, so many steps are done, one number for all
-  -- transmitters, and each of those files holds what these steps give and a front part of what one more gives. None is
+  -- The schedule came so far: so many files of the transmitters are begun, and so many steps are done, one number for
+  -- all transmitters. Each of those files holds what these steps give and a prefix of what one more gives. None is
   -- begun before the feed is whole.
   pub schedule : Progress ts steps
   pub feed_first : 0 < schedule.begun → feed ≡ whole_feed
-  -- `net.ts`, if it was begun, holds a front part of what is received. It isn't begun before all steps are done.
+  -- `net.ts`, if it was begun, holds a prefix of what is received. It isn't begun before all steps are done.
   pub reception : Outputs
   pub reception_part : AreFirstParts reception whole_reception
   pub schedule_first : reception ≢ [] → IsComplete ts steps schedule
-  -- Only a fault or want of memory ends in the midst of the schedule: every other answer comes before a file of a
+  -- Only an I/O error or lack of memory ends in the midst of the schedule. Every other answer comes before a file of a
   -- transmitter is begun, or once all steps are done.
   pub ends : IsFault status ⊎ ((schedule.begun ≡ 0) ⊎ IsComplete ts steps schedule)
   pub files : now ≡ with_outputs (feed ++ (begun_files ts steps schedule ++ reception)) (Some held)
 
--- these bytes begin with the first and are a front part of the second
+-- these bytes begin with the first and are a prefix of the second
 abbrev pub IsBetween : List ℕ → List ℕ → List ℕ → Type 0
 IsBetween least most bytes = IsFrontOf least bytes × IsFrontOf bytes most
 
--- By their names: each file of the transmitters holds all that so many steps give, and a front part of what these and
--- the next one give, or where none is left, of what all steps give.
+-- By their names: each file of the transmitters holds all that so many steps give. It is a prefix of what these and the
+-- next one give, or where none is left, of what all steps give.
 pub record AreUnderWay (ts : List Transmitter) (steps : List Step) (done : ℕ) (now : Files) : Type 0 where
   pub symbols : (who : ℕ) (t : Transmitter) → slice_get ts who ≡ Some t → IsSomeAnd (get now (symbol_name t.address))
       (IsBetween (symbol_file t who (take done steps)) (symbol_file t who (take (done + 1) steps)))
@@ -97,8 +97,8 @@ abbrev pub HasFileProgress : List ℕ → Status → Files → Option Files → 
 HasFileProgress name status held now =
     IfSome (get held name) (λ bytes. IfOk (plan_of bytes) (λ plan. HasPlanProgress plan plan.net status held now))
 
--- How far the network came that these words name, from the files that were held before to those now: where PLAN is a
--- plan with a table `net`, and its stream is there.
+-- How far the network came that these words name, from the files that were held before to those now. PLAN is a plan
+-- with a table `net`, and its stream is there.
 abbrev pub HasProgress : List (List ℕ) → Files → Status → Option Files → Type 0
 HasProgress (verb ∷ plan ∷ []) held status now = HasFileProgress plan status held now
 HasProgress words held status now = Unit {0}

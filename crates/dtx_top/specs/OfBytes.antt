@@ -7,7 +7,7 @@ use Rattle.dtx_engine.specs.Recipe.{Recipe}
 abbrev pub are_bytes : List ℕ → Bool
 are_bytes unit = list_all (λ b. nat_lt b 256) unit
 
--- The making, where a unit is allowed only if it is made of bytes. A program reads nothing else; so it is known of an
--- input whose units were all allowed, which is a list of numbers to a definition.
+-- The making, where a unit is allowed only if it is made of bytes. A program reads nothing else. To a definition an
+-- input is a list of numbers: so they are known to be bytes where all units of it were allowed.
 abbrev pub of_bytes : Recipe → Recipe
 of_bytes recipe = record recipe { allows = λ k unit. recipe.allows k unit && are_bytes unit }

@@ -127,8 +127,8 @@ HasTrialNet seed count status held now =
     HasNetProgress (trial_plan seed count) (trial_network seed count) (made_stream seed count) status
     (with_trial seed count held) now
 
--- A fault was met while the stream was written, which is there in part, if at all, and no other file was touched; or it
--- is whole, and the network came so far.
+-- Either an I/O error or lack of memory was met while the stream was written: it is there in part, if at all, and no
+-- other file was touched. Or it is whole, and the network came so far.
 abbrev pub HasMadeProgress : ℕ → ℕ → Status → Files → Option Files → Type 0
 HasMadeProgress seed count status held now =
     (IsFault status × ArePartWritten ((trial_name, made_stream seed count) ∷ []) (Some held) now)

@@ -28,8 +28,8 @@ use Rattle.dtx_top.specs.Networks.{damaged_file}
 
 -- This receiver takes the symbols of the transmitter of this address, with that many entries of damage laid over them.
 -- What it takes is as long as the stretch from packet k to the end of the stream, and is that with slight damage, or
--- none. The stretch holds a field sync. One run is received, from the first one on: its packets whose bytes are all
--- there, in order, with 0x47 as their sync bytes, none flagged, and no other.
+-- none. The stretch holds a field sync. One run is received, from the first field sync on. It gives its packets whose
+-- bytes are all there, in order, with 0x47 as their sync bytes, none flagged, and no other.
 pub record IsGivenBack (plan : Plan) (network : NetPlan) (stream : List (List ℕ)) (address k entries : ℕ)
     (receiver : ReceivePlan) : Type 0 where
   pub from : receiver.from ≡ address
@@ -41,7 +41,7 @@ pub record IsGivenBack (plan : Plan) (network : NetPlan) (stream : List (List �
       (file_segments (damaged_file plan network stream receiver))
 
 -- Two transmitters of a network, of different addresses, join the feed of a stream. What `Follows` says is said of
--- both, their moments of the group from packet g on are apart, and the one is given back; no premise is left.
+-- both. Their moments of the group from packet g on are apart, and the one is given back. No premise is left.
 pub record WorkedNetwork (plan : Plan) (network : NetPlan) (stream : List (List ℕ)) (g entries : ℕ) : Type 0 where
   pub one : Joined plan stream network.events
   pub other : Joined plan stream network.events
@@ -59,22 +59,22 @@ pub record WorkedNetwork (plan : Plan) (network : NetPlan) (stream : List (List 
   -- The one is received, with damage of so many entries, and given back.
   pub given_back : IsSomeAnd network.receive (IsGivenBack plan network stream one.t.address one.k entries)
 
--- A plan's text has a table `net`, and over this stream, whatever name the table gives it, that is such a network, with
--- a group from packet g on and so many entries of damage.
+-- A plan's text has a table `net`. Over this stream, whatever name the table gives it, that is such a network, with a
+-- group from packet g on and so many entries of damage.
 abbrev pub IsWorked : List ℕ → List (List ℕ) → ℕ → ℕ → Type 0
 IsWorked text stream g entries =
     IsOkAnd (plan_of text) (λ plan. IsSomeAnd plan.net (λ network. WorkedNetwork plan network stream g entries))
 
 -- The whole packets of a file are those of the feed from the first field behind packet k on, in order, with 0x47 as
--- their sync bytes: each whose bytes are all there behind the segments that the stretch has before its first field
--- sync.
+-- their sync bytes. They are those whose bytes are all there behind the segments that the stretch has before its first
+-- field sync.
 abbrev pub HasAllBack : Plan → NetPlan → List (List ℕ) → ReceivePlan → ℕ → List ℕ → Type 0
 HasAllBack plan network stream receiver k file =
     packets_of file ≡ map (λ j. as_received (slice_index_or (feed plan stream) (next_field k + j) []))
     (numbers_in (drop (to_field k (next_field k)) (file_segments (damaged_file plan network stream receiver))))
 
--- No entry of damage, or one of at most 31 symbols, which ends in the first 212 segments: the first field sync of a
--- stretch from packet 100 or an earlier one on comes behind them.
+-- No entry of damage, or one of at most 31 symbols, which ends in the first 212 segments. The first field sync of a
+-- stretch from packet 100 or an earlier one on comes behind these segments.
 abbrev pub IsFew : List Damage → Type 0
 IsFew [] = Unit {0}
 IsFew (entry ∷ []) = (entry.count ≤ 31) × (entry.at + entry.count ≤ 176384)
@@ -86,11 +86,11 @@ pub record IsLittle (address entries : ℕ) (receiver : ReceivePlan) : Type 0 wh
   pub few : IsFew receiver.damage
   pub many : length receiver.damage ≡ entries
 
--- What is asked of a plan, its network and a stream: the plan has at most 35 transmitters, whom each operations packet
--- lists; the first two have different addresses and are in time; the schedule is two events, which give the first one
--- and then the second one all packets of the feed; the stream's group from packet 100 on holds a placeholder, and it
--- has 372 packets or more, which are 60 behind the first field; the first transmitter is received, with little damage,
--- or none, of so many entries.
+-- What is asked of a plan, its network and a stream. The plan has at most 35 transmitters, whom each operations packet
+-- lists. The first two have different addresses and are in time. The schedule is two events, which give the first one
+-- and then the second one all packets of the feed. The stream's group from packet 100 on holds a placeholder. The
+-- stream has 372 packets or more, which are 60 behind the first field. The first transmitter is received, with little
+-- damage, or none, of so many entries.
 pub record IsSimple (plan : Plan) (network : NetPlan) (stream : List (List ℕ)) (a b : Transmitter)
     (entries : ℕ) : Type 0 where
   pub few : length plan.transmitters ≤ 35

@@ -48,8 +48,8 @@ use dtx_network::laws::{
 };
 use dtx_packet_jobs::laws::placing::{fields_with_one, groups_begin_late, what_stays};
 
-/// Nothing is refused without cause. Where a call has ended so and counted no fault of reading, writing or printing,
-/// its answer is that of the meaning, or memory was wanted.
+/// Nothing is refused without cause. Where a call has ended so and counted no error of reading, writing or printing,
+/// its answer is that of the meaning, or out of memory.
 pub fn no_answer_is_without_cause()
     ensures { (meaning : Meaning) (start now : Option Files) (status : Status) (before after : Counts) (first last : ℕ)
         → IsDone meaning start status (Rose first last) now → HasEnded before after first last status
@@ -75,9 +75,9 @@ pub fn files_of_interleavings()
     interleavings();
 }
 
-/// The files of the transmitters by their names, wherever a network ends once all of them are begun: with t steps done,
-/// the symbol file of each begins with all that the first t steps give, and is a front part of what the first t + 1
-/// steps give; so is its log, of the lines that they give. Where t is all steps, both are whole.
+/// The files of the transmitters by their names, wherever a network ends once all of them are begun. With t steps done,
+/// the symbol file of each begins with all that the first t steps give, and is a prefix of what the first t + 1 steps
+/// give. The same holds of its log, with the lines that they give. Where t is all steps, both are whole.
 pub fn files_of_a_network_under_way()
     ensures { (plan : Plan) (network : NetPlan) (file : List ℕ) (status : Status) (held now : Files)
         (progress : HasNetProgress plan network file status held (Some now)) → IsPlan plan
@@ -86,10 +86,12 @@ pub fn files_of_a_network_under_way()
         progress.schedule.done now }
 {}
 
-/// A simple network meets what the headline asks of transmitters, symbols and damage, with little damage and without:
-/// two of at most 35 transmitters, of different addresses and in time, are given the whole feed of a stream with a
-/// placeholder in the group from packet 100 on and 372 packets or more, nothing else is done, and the first one is
-/// received. In the files of such a network of which the headline holds, as it does where the command `net` is done,
+/// A simple network meets what the headline asks of transmitters, symbols and damage, with little damage and without.
+/// It has at most 35 transmitters. Two of them, of different addresses and in time, are given the whole feed of a
+/// stream. The stream has 372 packets or more, and a placeholder in the group from packet 100 on. Nothing else is done,
+/// and the first of the two is received.
+///
+/// Take the files of such a network of which the headline holds, as it does where the command `net` is done. There
 /// `net.ts` has exactly the packets of the feed from the stretch's first field sync on whose bytes are all there, in
 /// order, with 0x47 as their sync bytes.
 pub fn simple_networks_work()
@@ -109,9 +111,9 @@ pub fn simple_networks_work()
     headline();
 }
 
-/// Where packet k of a stream, at place 52 of its field or behind, is a placeholder, its group of four begins 52
-/// packets or more behind the mark of its frame, and has an order that counts in the adapter's feed, from its first
-/// packet on and from each mark up to packet k. (In which fields such a packet stands once placeholders were put,
+/// Let packet k of a stream, at place 52 of its field or behind, be a placeholder. Its group of four begins 52 packets
+/// or more behind the mark of its frame. In the adapter's feed the group has an order that counts, from the feed's
+/// first packet on and from each mark up to packet k. (In which fields such a packet stands once placeholders were put,
 /// `placed_streams_have_orders` says.)
 pub fn late_placeholders_are_orders()
     ensures late { (k : ℕ) → 52 ≤ k % 312 → 52 ≤ 4 * (k / 4) % 624 }
@@ -128,7 +130,7 @@ pub fn late_placeholders_are_orders()
 
 /// A stream in which placeholders were put is a stream, so that an adapter's feed of it has all that is proved of
 /// feeds. In each field that holds a null packet or a placeholder at place 52 or behind, a placeholder stands there
-/// then, whose group has an order that counts in that feed, from each mark up to it.
+/// then. Its group has an order that counts in that feed, from each mark up to it.
 pub fn placed_streams_have_orders()
     ensures stream { (stream : List (List ℕ)) → IsStream stream → IsStream (placed stream) }
     ensures orders { (plan : Plan) (stream : List (List ℕ)) (field : ℕ) → IsPlan plan → IsStream stream
@@ -150,8 +152,8 @@ pub fn made_packets_are_a_stream()
 {}
 
 /// The plan of a trial is one that a network takes, and what a trial means is done. So over files that are told its
-/// answer is `Done`, a fault or want of memory, and never `Absent`, `Packet`, `TooLong`, `OutOfFeed` or `NoSync`: its
-/// stream was made, of packets that begin with 0x47; it has as many as the events give; and among what its third
+/// answer is `Done`, an I/O error or out of memory. It is never `Absent`, `Packet`, `TooLong`, `OutOfFeed` or `NoSync`.
+/// Its stream was made, of packets that begin with 0x47, and has as many as the events give. Among what its third
 /// transmitter sends, which isn't too long, there is a field sync.
 pub fn a_trial_is_done()
     ensures plan { (seed count : ℕ) → IsPlan (trial_plan seed count) }
@@ -167,10 +169,10 @@ pub fn a_trial_is_done()
     groups_are_spaced();
 }
 
-/// Every feed with a packet is watched calmly by `watch`, in the file of all its packets and in that of its packets
-/// from any of its marks on, where the output is another file: what is written is the line `lock 0` and one line `ops`
-/// for each operations packet, in their order, and no other, none of them says `slip` or `jump`, and the line that is
-/// printed has the numbers of the packets and of the operations packets, and 0 for all else.
+/// Every feed with a packet is watched calmly by `watch`, where the output is another file. This holds of the file of
+/// all its packets, and of that of its packets from any of its marks on. What is written is the line `lock 0` and one
+/// line `ops` for each operations packet, in their order, and no other. None of these lines says `slip` or `jump`. The
+/// line that is printed has the numbers of the packets and of the operations packets, and 0 for all else.
 pub fn feeds_are_watched_calmly()
     ensures whole { (plan : Plan) (stream : List (List ℕ)) (verb input output : List ℕ) (held : Files) → IsPlan plan
         → IsStream stream → 0 < length stream → command_of (verb ∷ input ∷ output ∷ []) ≡ Some command.Watch

@@ -35,17 +35,18 @@ pub const STREAM_NAME: usize = 255;
 pub struct NetOutcome {
     /// How it ended.
     pub outcome: Outcome,
-    /// The name in its line, where it isn't the word PLAN itself: one that is repeated, or that of an input but the
-    /// plan; else nothing.
+    /// The name in its line, where it isn't the word PLAN itself. It is one that is repeated, or that of an input but
+    /// the plan, or else nothing.
     pub name: ArrayString<STREAM_NAME>,
 }
 
-/// Plays a network (the profile's own, in the manner of ATSC A/110, over ATSC A/53 Part 2): adapts the stream that the
-/// table `net` of PLAN names to `net.feed`; plays the plan's events, step by step, so that what the transmitter of
-/// address A sends goes to `tx-A.sym` and its log to `tx-A.log`; and where a receiver is asked for, receives the
-/// symbols of its transmitter, with the plan's damage laid over them, into `net.ts`. The numbers are the packets of the
-/// feed, the placeholders filled and the packets given to exciters, and then, where a receiver is asked for, the
-/// packets that it gives, the bytes put right and the packets flagged.
+/// Plays a network (the profile's own, in the manner of ATSC A/110, over ATSC A/53 Part 2). It adapts the stream that
+/// the table `net` of PLAN names to `net.feed`, and plays the plan's events, step by step. What the transmitter of
+/// address A sends goes to `tx-A.sym`, and its log to `tx-A.log`. Where a receiver is asked for, it receives the
+/// symbols of its transmitter, with the plan's damage laid over them, into `net.ts`.
+///
+/// The numbers are the packets of the feed, the placeholders filled and the packets given to exciters. Where a receiver
+/// is asked for, the packets that it gives, the bytes put right and the packets flagged follow.
 #[inline(never)]
 pub fn net<S: Shelf>(alloc: Global, words: &[Word], shelf: &mut S) -> NetOutcome
     ensures carried { IfSome (S.files shelf.old) (λ held.

@@ -20,77 +20,77 @@ use std::alloc::Global;
 /// those after the program's name.
 ///
 /// `adapt PLAN IN OUT` writes the feed of the stream IN under the plan of PLAN to OUT: its packets of 188 bytes, which
-/// begin with 0x47. Byte 0 of packet k becomes the cadence mark 0xB8 where 624 divides k and stays 0x47 elsewhere, and
-/// each placeholder, of packet identifier 0x1FFA, becomes an operations packet, which says from which states and when
-/// its group is sent (the profile's own, in the manner of ATSC A/110).
+/// begin with 0x47. Byte 0 of packet k becomes the cadence mark 0xB8 where 624 divides k, and stays 0x47 elsewhere.
+/// Each placeholder, of packet identifier 0x1FFA, becomes an operations packet (the profile's own, in the manner of
+/// ATSC A/110). This says from which states and when its group is sent.
 ///
-/// `code IN OUT` writes the symbols of the stream or feed IN to OUT: those of all data segments and field syncs that
-/// its whole groups of four packets give (ATSC A/53 Part 2), one signed byte each in two's complement. Byte 0 of its
-/// packets is 0x47 or the mark 0xB8, and isn't sent.
+/// `code IN OUT` writes the symbols of the stream or feed IN to OUT, one signed byte each in two's complement. They are
+/// those of all data segments and field syncs that its whole groups of four packets give (ATSC A/53 Part 2). Byte 0 of
+/// its packets is 0x47 or the mark 0xB8, and isn't sent.
 ///
-/// `excite FEED ADDRESS DELAY OUT LOG` gives the packets of FEED, which are of any bytes, to one exciter, and writes
-/// the segments that it sends to OUT, one signed byte a symbol in two's complement, and its log to LOG (the profile's
-/// own, over ATSC A/53 Part 2 and in the manner of ATSC A/110). ADDRESS is the transmitter's, 0 to 65,535, and DELAY is
-/// for how many ticks of 100 ns the feed is on its way to it, 0 to 4,294,967,295, both written as the numbers of `make`
-/// are.
+/// `excite FEED ADDRESS DELAY OUT LOG` gives the packets of FEED, which are of any bytes, to one exciter (the profile's
+/// own, over ATSC A/53 Part 2 and in the manner of ATSC A/110). It writes the segments that the exciter sends to OUT,
+/// one signed byte a symbol in two's complement, and its log to LOG. ADDRESS is the transmitter's, 0 to 65,535. DELAY
+/// is for how many ticks of 100 ns the feed is on its way to it, 0 to 4,294,967,295. Both are written as the numbers of
+/// `make` are.
 ///
-/// `receive IN OUT` writes the packets of the symbols IN to OUT: those of every run of segments that begins with one
-/// that looks like a field sync, each with up to ten wrong bytes of its word put right, or flagged where its word has
-/// no correction (ATSC A/53 Part 2, the way back).
+/// `receive IN OUT` writes the packets of the symbols IN to OUT (ATSC A/53 Part 2, the way back). They are those of
+/// every run of segments that begins with one that looks like a field sync. Each has up to ten wrong bytes of its word
+/// put right, or is flagged where its word has no correction.
 ///
-/// `net PLAN` plays a network (the profile's own): it adapts the stream that the table `net` of PLAN names to
-/// `net.feed`, plays the plan's events so that what the transmitter of address A sends goes to `tx-A.sym` and its log
-/// to `tx-A.log`, and where a receiver is asked for, receives the symbols of its transmitter, with the plan's damage
-/// laid over them, into `net.ts`.
+/// `net PLAN` plays a network (the profile's own). It adapts the stream that the table `net` of PLAN names to
+/// `net.feed`, and plays the plan's events. What the transmitter of address A sends goes to `tx-A.sym`, and its log to
+/// `tx-A.log`. Where a receiver is asked for, it receives the symbols of its transmitter, with the plan's damage laid
+/// over them, into `net.ts`.
 ///
 /// `make SEED COUNT OUT` writes the packets 0 to COUNT - 1 that `dtx_make::packet` gives for SEED to OUT. SEED is 0 to
 /// 2^64 - 1 and COUNT 0 to 624,000,000, in decimal digits without sign and without a leading zero unless it is `0`.
 ///
 /// `hurt IN CHANGES OUT` writes the bytes of IN to OUT with the damage that CHANGES lists laid over them (the profile's
-/// own): each byte that an entry covers becomes that entry's `put`, in two's complement. Where an entry ends behind the
+/// own). Each byte that an entry covers becomes that entry's `put`, in two's complement. Where an entry ends behind the
 /// file, OUT is written all the same, and the first such entry is answered.
 ///
-/// `place IN OUT` writes the packets of IN to OUT, in each field of which the first null packet from place 52 on
-/// becomes a placeholder, unless a placeholder stands there before it (the profile's own): so a stream from an encoder
-/// can be adapted.
+/// `place IN OUT` writes the packets of IN to OUT with placeholders, so that a stream from an encoder can be adapted
+/// (the profile's own). In each field the first null packet from place 52 on becomes a placeholder, unless a
+/// placeholder stands there before it.
 ///
 /// `trial SEED COUNT` writes the packets 0 to COUNT - 1 that `dtx_make::packet` gives for SEED to `trial.ts`, and plays
-/// a network over them as `net` does (the profile's own): three transmitters are given the feed, the third one behind
-/// 50 packets without a mark, and the third one is received. COUNT is 624 to 1,000,000.
+/// a network over them as `net` does (the profile's own). Three transmitters are given the feed, the third one behind
+/// 50 packets without a mark. The third one is received. COUNT is 624 to 1,000,000.
 ///
-/// `soft IN OUT` writes the segments of the symbols IN to OUT, where in each field of a run the data symbols of its
-/// whole groups of four segments become those of the least path of each trellis coder, in the sum of the squares (ATSC
-/// A/53 Part 2, trellis coding); all other segments stay.
+/// `soft IN OUT` writes the segments of the symbols IN to OUT, softened (ATSC A/53 Part 2, trellis coding). In each
+/// field of a run the data symbols of its whole groups of four segments become those of the least path of each trellis
+/// coder, in the sum of the squares. All other segments stay.
 ///
 /// `mend IN OUT` writes the packets of the symbols IN to OUT as `receive` does, where a symbol of -128 says that
-/// nothing was received there: of each word up to e wrong bytes and f missing ones are put right, 2e + f being at most
+/// nothing was received there. Of each word up to e wrong bytes and f missing ones are put right, 2e + f being at most
 /// 20.
 ///
 /// `dvb code IN OUT` writes the packets of IN, which begin with 0x47, to OUT as EN 300 429 sends them: randomized, as
 /// Reed-Solomon codewords of 204 bytes, interleaved. `dvb read IN OUT` writes the packets of such bytes, of which the
-/// first begins a group of eight packets, to OUT: one for each block of 204 bytes behind the first eleven, each with up
-/// to eight wrong bytes of its word put right, or flagged where its word has no correction.
+/// first begins a group of eight packets, to OUT. It writes one for each block of 204 bytes behind the first eleven.
+/// Each has up to eight wrong bytes of its word put right, or is flagged where its word has no correction.
 ///
-/// `repeat IN ADDRESS DELAY OUT LOG` receives the symbols IN, restores the cadence marks of their packets from the
-/// field syncs, and gives them to an exciter with ADDRESS and DELAY, as `excite` does: each run is a life of its own.
+/// `repeat IN ADDRESS DELAY OUT LOG` receives the symbols IN and restores the cadence marks of their packets from the
+/// field syncs. It gives the packets to an exciter with ADDRESS and DELAY, as `excite` does. Each run is a life of its
+/// own.
 ///
-/// `acquire SCALE IN OUT` finds the fields of the capture IN, which has one signed byte a symbol and SCALE steps a
-/// unit, 1 to 18, and writes their segments to OUT, with the syncs restored and the symbols decided (the profile's
-/// own).
+/// `acquire SCALE IN OUT` finds the fields of the capture IN, and writes their segments to OUT, with the syncs restored
+/// and the symbols decided (the profile's own). IN has one signed byte a symbol and SCALE steps a unit, 1 to 18.
 ///
-/// `watch FEED OUT` writes a line to OUT for each event of FEED: anchors that are found and lost, and of each
-/// operations packet whether it reads, whether its states are those of the coders, and whether its clock runs (the
-/// profile's own).
+/// `watch FEED OUT` writes a line to OUT for each event of FEED (the profile's own). It tells of anchors that are found
+/// and lost. Of each operations packet it tells whether it reads, whether its states are those of the coders, and
+/// whether its clock runs.
 ///
 /// Words that fit no command end in `Usage`.
 pub fn run<S: Shelf, O: Sink>(alloc: Global, words: &[Word], shelf: &mut S, out: &mut O) -> Status
-    // Over files that are told: the answer is that of the words' meaning and its outputs are whole; or a fault or want
-    // of memory was met, and a front part of the outputs is written; or all was done, and the line alone could not be
-    // printed.
+    // Over files that are told, one of three things holds. The answer is that of the words' meaning and its outputs are
+    // whole. Or an I/O error or lack of memory was met, and each of the first outputs, none perhaps, holds a prefix of
+    // its bytes. Or all was done, and the line alone could not be printed.
     ensures carried { IfSome (S.files shelf.old) (λ held. IsDone (means words.now held) (Some held) result
         (Rose (O.faults out.old) (O.faults out.new)) (S.files shelf.new)) }
 
-    // Where no fault of writing is counted, `WriteFault` says that all was done, and the line alone could not be
+    // Where no error of writing is counted, `WriteFault` says that all was done, and the line alone could not be
     // printed.
     ensures unprinted { IfSome (S.files shelf.old) (λ held. result ≡ Status.WriteFault
         → ¬ Rose (S.counts shelf.old).write_faults (S.counts shelf.new).write_faults
@@ -101,7 +101,7 @@ pub fn run<S: Shelf, O: Sink>(alloc: Global, words: &[Word], shelf: &mut S, out:
     ensures line { IfSome (S.files shelf.old) (λ held. HasLine (IsToldLine (command_of words.now) words.now held) result
         (Rose (O.faults out.old) (O.faults out.new)) (O.written out.old) (O.written out.new)) }
 
-    // Also where the files are not told: each fault has its count, and no count falls.
+    // Also where the files are not told: each I/O error has its count, and no count falls.
     ensures gone { HasEnded (S.counts shelf.old) (S.counts shelf.new) (O.faults out.old) (O.faults out.new) result }
 
     // Also where the files are not told: the line is that of the answer, with some numbers, and as many as it has.
@@ -109,21 +109,21 @@ pub fn run<S: Shelf, O: Sink>(alloc: Global, words: &[Word], shelf: &mut S, out:
         (Rose (O.faults out.old) (O.faults out.new)) (O.written out.old) (O.written out.new) }
 
     // Also where the files are not told: what the words alone say of the answer. `Usage` comes only where they fit no
-    // command; `Same` only where two names are equal, and there always unless memory is wanted, but for `net`, whose
-    // names its plan tells; an input that isn't there is one that they name, or one of the four that `net` reads or of
-    // the three that `trial` reads; and each refusal is one that the command knows.
+    // command. `Same` comes only where two names are equal, and there always unless memory runs out. Of `net`, whose
+    // plan gives names too, the words don't say so. An input that isn't there is one that they name, or one of the four
+    // that `net` reads or the three that `trial` reads. Each refusal is one that the command knows.
     ensures words { IsByWords (command_of words.now) words.now result }
 
-    // How far a network came, whatever the answer: one number of steps says it of the files of all transmitters, which
-    // are begun behind the whole feed; what is received is begun behind the last step.
+    // How far a network came, whatever the answer. One number of steps says it of the files of all transmitters, which
+    // are begun behind the whole feed. What is received is begun behind the last step.
     ensures progress { IfSome (S.files shelf.old) (λ held.
         HasProgressOf (command_of words.now) words.now held result (S.files shelf.new)) }
 
-    // The headline: for every packet stream and schedule, an exciter that from any earlier state is given the adapter's
-    // feed unchanged through three cadence marks and on emits, from its first listing whose group starts 52 or more
-    // packets later, exactly the A/53 symbols of that feed, at moments that differ between transmitters only by the
-    // signalled offsets; and symbols with at most ten wrong bytes per codeword give its packets back. It holds where
-    // all was done, also where the line alone could not be printed.
+    // The headline, for every packet stream and schedule. An exciter is given, from any earlier state, the adapter's
+    // feed unchanged through three cadence marks and on. From its first listing whose group starts 52 or more packets
+    // later, it emits exactly the A/53 symbols of that feed. It does so at moments that differ between transmitters
+    // only by the signalled offsets. Symbols with at most ten wrong bytes per codeword give the feed's packets back. It
+    // holds where all was done, also where the line alone could not be printed.
     ensures headline { IfSome (S.files shelf.old) (λ held.
         IsAllDone result (S.counts shelf.old) (S.counts shelf.new)
         → HasHeadlineOf (command_of words.now) words.now held (S.files shelf.new)) }
@@ -135,7 +135,7 @@ pub fn run<S: Shelf, O: Sink>(alloc: Global, words: &[Word], shelf: &mut S, out:
     finish(performed.outcome.status, printed)
 }
 
-/// The name in the line: among the words; of a network the one that it keeps; of a trial that of its file.
+/// The name in the line: one among the words, that which a network keeps, or that of a trial's file.
 fn name_of<'a>(command: Option<Command>, words: &'a [Word], performed: &'a NetOutcome) -> &'a str
     ensures { result.now ≡ name_kept command words.now performed.now.outcome.status performed.now.name.bytes }
 {

@@ -25,10 +25,10 @@ use dtx_plan::Plan;
 use dtx_words::{FEWEST_TRIAL, MOST_TRIAL, number_up_to, number_within, trial_name};
 use std::alloc::Global;
 
-/// Writes the packets 0 to COUNT - 1 that `dtx_make::packet` gives for SEED to `trial.ts`, and plays the network of the
-/// trial plan over them, as `net` plays one: three transmitters are given the feed, the third one behind 50 packets
-/// without a mark, and the third one is received (the profile's own). SEED is 0 to 2^64 - 1 and COUNT 624 to
-/// 1,000,000, written as the numbers of `make` are. The numbers are those of `net`.
+/// Writes the packets 0 to COUNT - 1 that `dtx_make::packet` gives for SEED to `trial.ts`, and plays a network over
+/// them (the profile's own). It plays the network of the trial plan as `net` plays one. Three transmitters are given
+/// the feed, the third one behind 50 packets without a mark. The third one is received. SEED is 0 to 2^64 - 1 and COUNT
+/// 624 to 1,000,000, written as the numbers of `make` are. The numbers are those of `net`.
 pub fn trial<S: Shelf>(alloc: Global, words: &[Word], shelf: &mut S) -> Outcome
     ensures carried { IfSome (S.files shelf.old) (λ held.
         IsCarriedOut (trial_meaning words.now held) (Some held) result (S.files shelf.new)) }

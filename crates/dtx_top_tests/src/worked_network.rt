@@ -1,5 +1,5 @@
 //! A worked network that meets what the headline asks of transmitters, symbols and damage, with damage and without.
-//! What is decided when the test runs gives the facts from which the rest is proved: where `works` answers `true`, what
+//! What is decided when the test runs gives the facts from which the rest is proved. Where `works` answers `true`, what
 //! the headline says of transmitters that join is said of these two, without a premise. Each function answers `true`
 //! only where what it asks holds. That the command `net` does these networks is a row of the black box.
 

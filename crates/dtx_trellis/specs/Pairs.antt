@@ -1,6 +1,5 @@
--- Which bits each of the twelve coders takes (ATSC A/53 Part 2, trellis coding).
--- The bytes are those of whole groups, 828 each; the first group is at place s of its field, each further one four
--- places on.
+-- Which bits each of the twelve coders takes (ATSC A/53 Part 2, trellis coding). The bytes are those of whole groups,
+-- 828 each. The first group is at place s of its field, each further one four places on.
 use Rattle.std.specs.Prelude.{ℕ, ◌+◌, ◌*◌, ◌-◌, ◌/◌, ◌%◌, ◌^◌, List, map, length, slice_index}
 use Rattle.std.specs.List.{range_with_len}
 use Rattle.dtx_sizes.specs.declared.fields.TheConstants.{FIELD_PACKETS}
@@ -40,7 +39,7 @@ unfoldable pub lower : ℕ → List ℕ → ℕ → List ℕ
 lower s bytes e = map (λ t. pair_at s bytes e t % 2) (range_with_len 0 (ROUNDS * groups bytes))
 
 -- The coder of data symbol d, which stands in the segment d div 828 further on than the first. The coders move on by
--- four from segment to segment, by the segment's place in its field; since 3 divides 312, a field's end changes
+-- four from segment to segment, by the segment's place in its field. Since 3 divides 312, a field's end changes
 -- nothing.
 unfoldable pub coder_at : ℕ → ℕ → ℕ
 coder_at s d = (d % CODERS + 4 * ((s + d / SEGMENT_LEVELS) % 3)) % CODERS

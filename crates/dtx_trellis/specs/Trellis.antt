@@ -1,6 +1,5 @@
 -- One trellis coder (ATSC A/53 Part 2, trellis coding): its bits as sums modulo 2 over all of its pairs, counted from
--- 0.
--- a has the higher bits of the pairs, X2, and b the lower ones, X1.
+-- 0. The list a has the higher bits of the pairs, X2, and b the lower ones, X1.
 use Rattle.std.specs.Prelude.{ℕ, ◌<◌, ◌+◌, ◌*◌, ◌-◌, ◌/◌, ◌%◌, ◌==◌, ℤ, pos, ◌-ℤ◌, if◌then◌else◌, List, map, take, sum}
 use Rattle.std.specs.Prelude.{slice_index}
 use Rattle.std.specs.List.{range_with_len}

@@ -10,7 +10,7 @@ use std::simd::prelude::*;
 /// lane is the X1 that its coder took last, and bits 2 to 0 are the number of the coder's state behind it.
 pub(crate) const LANES: usize = 16;
 
-/// What two pairs, the four bits of the index, lead to from state 0: what stands behind the first in the upper four
+/// What two pairs, the four bits of the index, lead to from state 0. What stands behind the first is in the upper four
 /// bits, and what stands behind the second in the lower ones.
 const BEHIND_PAIRS: [u8; LANES] = [
     0x00, 0x0a, 0x04, 0x0e, 0xa1, 0xab, 0xa5, 0xaf, 0x44, 0x4e, 0x40, 0x4a, 0xe5, 0xef, 0xe1, 0xeb,

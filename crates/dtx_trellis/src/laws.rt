@@ -9,9 +9,9 @@ ghost use Rattle.dtx_trellis.specs.Groups.{coder_after, level_at, levels_of, sta
 
 use dtx_sizes::GROUP_BYTES;
 
-/// The first data symbols of segments 0 to 4 of a field: their coders, the bytes of the field on which these work, and
-/// which bits of the byte they take: 7 and 6, 5 and 4, 3 and 2, 1 and 0, and 7 and 6 again (ATSC A/53 Part 2, the table
-/// of byte to symbol conversion).
+/// The first data symbols of segments 0 to 4 of a field (ATSC A/53 Part 2, the table of byte to symbol conversion). The
+/// law says their coders, the bytes of the field on which these work, and which bits of the byte they take. The bits
+/// are 7 and 6, 5 and 4, 3 and 2, 1 and 0, and 7 and 6 again.
 pub fn first_symbols()
     ensures coders { coder_at 0 0 ∷ coder_at 0 828 ∷ coder_at 0 1656 ∷ coder_at 0 2484 ∷ coder_at
         (group_place 0 1) 0 ∷ [] ≡ 0 ∷ 4 ∷ 8 ∷ 0 ∷ 4 ∷ [] }
@@ -29,8 +29,8 @@ pub fn table()
     ensures nexts_with { map (λ n. number_of (next_of (state_of n) 0 1)) (0 ∷ 1 ∷ 2 ∷ 3 ∷ []) ≡ 2 ∷ 0 ∷ 3 ∷ 1 ∷ [] }
 {}
 
-/// Byte 0x40 into coder 0 from state 0, with zeros behind it: its first five levels, which are the symbols -3, -5, -7,
-/// -5 and -7, and its state behind the first.
+/// Byte 0x40 goes into coder 0 from state 0, with zeros behind it. The law says its first five levels, which are the
+/// symbols -3, -5, -7, -5 and -7, and its state behind the first.
 pub fn one_byte()
     ensures levels { map (λ r. level_at 0 (replicate 12 0) (0x40 ∷ replicate 827 0) (12 * r)) (0 ∷ 1 ∷ 2 ∷ 3 ∷ 4 ∷ [])
         ≡ 2 ∷ 1 ∷ 0 ∷ 1 ∷ 0 ∷ [] }

@@ -1,5 +1,5 @@
-//! What the command `trial` leaves in its files: a statement that asks nothing of an input (the symbols are those of
-//! ATSC A/53 Part 2; the feed and the logs are the profile's own, in the manner of ATSC A/110).
+//! What the command `trial` leaves in its files: a statement that asks nothing of an input. The symbols are those of
+//! ATSC A/53 Part 2. The feed and the logs are the profile's own, in the manner of ATSC A/110.
 
 ghost use Rattle.std.specs.Prelude.{◌≡◌, ◌^◌, ◌<◌, ◌≤◌, ◌∷◌, [], ℕ, IfSome, IsSomeAnd, codes, decimal};
 ghost use Rattle.dtx_outside.specs.Shelf.{Files};

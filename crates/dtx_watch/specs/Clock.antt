@@ -14,8 +14,8 @@ stamp_in ops = record { stamp = ops.stamp; max_delay = ops.max_delay; frame = op
 abbrev pub frames_between : ℕ → ℕ → ℕ
 frames_between from to = (to + 2 ^ 32 - from) % 2 ^ 32
 
--- What the clock of an operations packet is behind the latest one before it, if there is one: right where its stamp is
--- later by the length of the frames between the two, rounded down or up, and the maximum delay is the same.
+-- What the clock of an operations packet is behind the latest one before it, if there is one. It is right where its
+-- stamp is later by the length of the frames between the two, rounded down or up, and the maximum delay is the same.
 abbrev pub clock_note : Option Stamped → Ops → ClockNote
 clock_note None ops = First
 clock_note (Some before) ops =

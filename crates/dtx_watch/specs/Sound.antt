@@ -15,8 +15,9 @@ use Rattle.dtx_watch.specs.declared.notes.StatesNote.TheVariants as states_are
 use Rattle.dtx_watch.specs.declared.notes.ClockNote.TheVariants as clock_is
 use Rattle.dtx_watch.specs.Watch.{notes_at}
 
--- Operations packet k of a feed whose clock starts at this tick says: its place, the states that the feed's own coders
--- have before its group, the stamp of its frame, the maximum delay, and the number of the frame, of 32 bits.
+-- What operations packet k says of a feed whose clock starts at this tick. It says its place, the states that the
+-- feed's own coders have before its group, the stamp of its frame, the maximum delay, and the number of the frame, of
+-- 32 bits.
 pub record SaysAt (start most : ℕ) (feed : List (List ℕ)) (k : ℕ) (ops : Ops) : Type 0 where
   pub index : ops.index ≡ k % 624
   pub states_are : ops.states ≡ states (take (4 * (k / 4)) feed)

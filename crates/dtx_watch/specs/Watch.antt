@@ -24,8 +24,8 @@ abbrev pub expected_by : List (List ℕ) → ℕ → List Order → Expected
 expected_by packets i [] = First
 expected_by packets i (order ∷ older) = These (states_since (order.place / 4) order.ops.states (take i packets))
 
--- what the states of an operations packet of the group from i on are compared with: none where the group begins less
--- than 52 packets behind the anchor or isn't whole, nor where no earlier group is an order
+-- What the states of an operations packet of the group from i on are compared with. There is nothing where the group
+-- begins less than 52 packets behind the anchor or isn't whole, nor where no earlier group is an order.
 unfoldable pub expected_at : List (List ℕ) → ℕ → Expected
 expected_at packets i =
     if nat_le 52 i && nat_le (i + 4) (length packets) then expected_by packets i (orders (readings packets) (i - 4))
@@ -46,8 +46,8 @@ note_under packets k m =
     packet_note k (Some (m % 624)) (expected_at packets (4 * (m / 4))) (stamped_before packets m)
     (reading (slice_index_or packets m []))
 
--- what is told of the first n packets of the group from i on, the first of which is packet k of all: where it is the
--- first under the anchor, that its first packet is the anchor too
+-- What is told of the first n packets of the group from i on, the first of which is packet k of all. Where the group is
+-- the first under the anchor, it is also told that its first packet is the anchor.
 unfoldable pub group_notes : List (List ℕ) → ℕ → ℕ → ℕ → List Note
 group_notes packets k i n =
     (if i == 0 then (record { packet = k; what = Lock }) ∷ [] else [])

@@ -7,8 +7,8 @@ use Rattle.dtx_watch.specs.declared.notes.What.{What}
 use Rattle.dtx_watch.specs.declared.notes.What.TheVariants as what
 use Rattle.dtx_watch.specs.WatchText.{rule_number, states_word, clock_word}
 
--- the words of each line of a text: it is cut at its line feeds, and each line at its spaces; what stands behind the
--- last line feed counts as a line too
+-- The words of each line of a text. The text is cut at its line feeds, and each line at its spaces. What stands behind
+-- the last line feed counts as a line too.
 abbrev pub words_of_lines : List ℕ → List (List (List ℕ))
 words_of_lines text = map (slice_split (λ b. b == 32)) (slice_split (λ b. b == 10) text)
 

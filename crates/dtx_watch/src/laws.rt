@@ -9,8 +9,8 @@ ghost use Rattle.dtx_watch.specs.Watch.{notes_at, told, waiting, watch};
 ghost use Rattle.dtx_watch.specs.WatchLines.{note_words, words_of_lines};
 ghost use Rattle.dtx_watch.specs.WatchText.{watch_text};
 
-/// Of no packets nothing is told. What is told of some packets before their end stays with any more of them, and behind
-/// it comes what is told of these; and with what waits for the end of the group at hand it is all that is told.
+/// Of no packets nothing is told. What is told of some packets before their end stays with any more of them, and what
+/// is told of these comes behind it. With what waits for the end of the group at hand, it is all that is told.
 pub fn told_in_turn()
     ensures nothing { told [] ≡ [] }
     ensures more { (packets others : List (List ℕ)) → (rest : List Note) × (told (packets ++ others)
@@ -18,7 +18,7 @@ pub fn told_in_turn()
     ensures all { (packets : List (List ℕ)) → watch packets ≡ told packets ++ waiting packets }
 {}
 
-/// What is told of a packet stays with any more of them, where none waits for the end of its group: so it is of each
+/// What is told of a packet stays with any more of them, where none waits for the end of its group. So it is of each
 /// packet before the group at hand, whose own group is whole then.
 pub fn notes_stay()
     ensures whole { (packets : List (List ℕ)) (k anchor : ℕ) → k < length packets - group_part packets
@@ -27,15 +27,16 @@ pub fn notes_stay()
         → notes_at (packets ++ others) k ≡ notes_at packets k }
 {}
 
-/// A sound feed, watched from any of its marks on, is calm: of the first packet it is told that it is an anchor, of
-/// each operations packet that it is at its place, and never that its states slip or its stamp jumps; and nothing else.
+/// A sound feed, watched from any of its marks on, is calm. Of the first packet it is told that it is an anchor, of
+/// each operations packet that it is at its place, and nothing else. It is never told that states slip or a stamp
+/// jumps.
 pub fn sound_feeds_are_calm()
     ensures { (start most mark k : ℕ) (feed : List (List ℕ)) → IsSoundFeed start most feed → mark % 624 ≡ 0
         → mark < length feed → k < length (drop mark feed) → IsCalmAt (drop mark feed) k }
 {}
 
-/// Cut at its line feeds, and each line at its spaces, the text of notes has the words of each note, in the notes'
-/// order, and nothing behind the last line feed.
+/// The text of notes, cut at its line feeds, and each line at its spaces, has the words of each note, in the notes'
+/// order. Nothing stands behind the last line feed.
 pub fn watch_text_has_the_words_of_its_notes()
     ensures { (notes : List Note) → words_of_lines (watch_text notes) ≡ map note_words notes ++ ([] ∷ []) ∷ [] }
 {}

@@ -1,5 +1,5 @@
-//! Whether a feed is sound: which operations packets read, whether their states are those that the coders have there,
-//! and whether the clock runs; and the text of what is told of it.
+//! Whether a feed is sound, and the text of what is told of it. A feed is judged by its operations packets: which of
+//! them read, whether their states are those that the coders have there, and whether the clock runs.
 #![tactic(auto)]
 
 pub mod laws;

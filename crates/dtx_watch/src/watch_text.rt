@@ -9,8 +9,8 @@ use arrayvec::ArrayString;
 use dtx_ops::OpsNo;
 use itoa::Buffer;
 
-/// How many bytes a line has room for: a word of 8 letters at most, six numbers of 64 bits with a space before each,
-/// two words of 5 letters with a space before each, and a line feed.
+/// How many bytes a line has room for. A line is a word of 8 letters at most, six numbers of 64 bits with a space
+/// before each, two words of 5 letters with a space before each, and a line feed.
 pub const WATCH_LINE: usize = 148;
 
 /// Sets the text to the line of a note (the profile's own).

@@ -31,9 +31,9 @@ use dtx_sizes::{FIELD_PACKETS, GROUP_PACKETS, MOST_PACKETS, PACKET};
 use dtx_trellis::States;
 use std::alloc::{AllocError, Global};
 
-/// Watches a feed of any packets, from any place of it on (the profile's own): of each operations packet it tells
-/// whether it reads and stands at its place, whether its states are those that the coders have there from the latest
-/// earlier order on, and whether its stamp goes on from that of the one before it.
+/// Watches a feed of any packets, from any place of it on (the profile's own). Of each operations packet it tells
+/// whether it reads and stands at its place. It tells whether its states are those that the coders have there from the
+/// latest earlier order on, and whether its stamp goes on from that of the one before it.
 #[derive(Drop)]
 pub struct Watcher {
     corrector: Fast<184, 164>,
@@ -55,7 +55,7 @@ pub struct Watcher {
 }
 
 impl Watcher {
-    /// Was given nothing.
+    /// A watcher that was given nothing. The only error is out of memory.
     pub fn new(alloc: Global) -> Result<Watcher, AllocError>
         ensures { IfOk result (λ watcher. StandsFor watcher []) }
     {
@@ -74,9 +74,9 @@ impl Watcher {
         })
     }
 
-    /// Is given one more packet, of any bytes. Sets the notes to what is told with it: under an anchor a group's last
-    /// packet brings what is told of all four, and the others nothing, since what a packet's states are waits for its
-    /// group to be whole; where there is no anchor each packet brings its own.
+    /// Is given one more packet, of any bytes. Sets the notes to what is told with it. Under an anchor a group's last
+    /// packet brings what is told of all four, and the others nothing. For what a packet's states are waits for its
+    /// group to be whole. Where there is no anchor each packet brings its own.
     pub fn take(&mut self, packet: &Packet, notes: &mut ArrayVec<Note, MOST_NOTES>)
         requires room { HasRoom self.old }
         ensures { (before : List (List ℕ)) → StandsFor self.old before

@@ -1,5 +1,5 @@
--- What is known of the list of the randomizer's bytes. It stands here since the ghost members of an impl, the trait's
--- laws, cite lemmas of specs/ alone.
+-- What is known of the list of the randomizer's bytes. It stands in specs/, since the ghost members of an impl, the
+-- trait's laws, can cite lemmas from there only.
 use Rattle.std.proofs.Common.{◌≡◌, ℕ, ◌+◌, ◌*◌, ◌<◌, ◌^◌, List, length, get_or, sym, ap, ◌∙◌, subst, arith, lit<}
 use Rattle.std.proofs.lemmas.List.FromFn.{length-map-range_with_len, get_or-map-range_with_len}
 use Rattle.std.proofs.lemmas.Nat.Bits.{bit_at-lt}

@@ -4,8 +4,8 @@ use Rattle.std.specs.List.{range_with_len, enumerate_from}
 use Rattle.std.specs.Int.RustNames.{bit_xor}
 use Rattle.dtx_whiten.specs.Randomizer.{randomizer_byte}
 
--- what packet k of a stream is sent as, where packet 0 begins a data field: byte 1 + j of the packet, plus bit by bit
--- the randomizer's byte 187 * (k mod 312) + j, for each j below 187. The sync byte isn't sent.
+-- What packet k of a stream is sent as, where packet 0 begins a data field. For each j below 187 it is byte 1 + j of
+-- the packet, plus bit by bit the randomizer's byte 187 * (k mod 312) + j. The sync byte isn't sent.
 unfoldable pub randomized : ℕ → List ℕ → List ℕ
 randomized k packet =
     map (λ j. bit_xor (slice_index packet (1 + j)) (randomizer_byte (187 * (k % 312) + j))) (range_with_len 0 187)

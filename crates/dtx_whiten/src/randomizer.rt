@@ -38,7 +38,7 @@ impl Whitener for Atsc {
 }
 
 impl Atsc {
-    /// The bytes, by shifting the register from its preload on. Only want of memory is refused.
+    /// The bytes, by shifting the register from its preload on. The only error is out of memory.
     pub fn new(alloc: Global) -> Result<Atsc, AllocError>
         ensures { IfOk result (λ atsc. ⟦<Atsc as Whitener>⟧.bytes atsc ≡ randomizer_bytes) }
     {

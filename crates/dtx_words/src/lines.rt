@@ -15,9 +15,9 @@ use dtx_outside::{Sink, SinkNo};
 use dtx_plan::PlanNo;
 use itoa::Buffer;
 
-/// Prints the line of an outcome: for `Done` the labels of the command's row with their numbers, as many as it shows;
-/// else that of the refusal, where `Same` and `Absent` have that name. After a refusal of the sink a front part of the
-/// line was printed.
+/// Prints the line of an outcome. For `Done` it has the labels of the command's row with their numbers, as many as it
+/// shows. Else it is that of the refusal, where `Same` and `Absent` have that name. After a refusal of the sink a
+/// prefix of the line was printed.
 pub fn line<O: Sink>(
     command: Option<Command>,
     outcome: &Outcome,

@@ -35,8 +35,8 @@ pub fn name_among<'a>(status: Status, names: &[&'a str]) -> &'a str
     }
 }
 
-/// The name in the line of a status: the repeated one, or the input that isn't there, among the file names of the
-/// command; or nothing where the line has no name.
+/// The name in the line of a status, among the file names of the command: the repeated one, or the input that isn't
+/// there. It is empty where the line has no name.
 pub fn name_in_line<'a>(command: Option<Command>, words: &'a [Word], status: Status) -> &'a str
     ensures { result.now ≡ line_name status (names_of command words.now) }
 {

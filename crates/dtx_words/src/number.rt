@@ -2,8 +2,8 @@
 ghost use Rattle.std.specs.Prelude.{◌≡◌, ◌≤◌, ◌↔◌, ℕ, Some, IsTrue, decimal};
 ghost use Rattle.dtx_words.specs.Number.{number_in, number_within, BeginsPlain};
 
-/// The number of which the word is the decimal spelling, without sign and without a leading zero unless it is `0`; or
-/// `None` where it is that of none up to `most`.
+/// The number of which the word is the decimal spelling, without sign and without a leading zero unless it is `0`. It
+/// is `None` where the word is that of none up to `most`.
 pub fn number_up_to(most: u64, word: &str) -> Option<u64>
     ensures number { result ≡ number_in most word.now }
     ensures spelled { (n : ℕ) → (result ≡ Some n) ↔ ((n ≤ most) × (word.now ≡ decimal n)) }

@@ -35,7 +35,8 @@ fn take_data(word: &[u8], head: &mut [u8])
     head.copy_from_slice(&word[..head.len()]);
 }
 
-/// Takes the tried word in place of the word, where it is the word's correction.
+/// Takes the tried word in place of the word, where it is the word's correction, and answers how many places that
+/// changes. Else the answer is `TooMany`, and the word stays.
 pub fn accept<E: Encode<N, K>, const N: usize, const K: usize>(
     encoder: &E,
     word: &mut [u8; N],

@@ -9,7 +9,7 @@ ghost use Rattle.dtx_laws.specs.Branches.{leaving_calls};
 ghost use Rattle.dtx_laws.specs.Gathering.{gathered_at, gathered, IsGatheredBehind};
 
 /// Behind an align of both, whatever their branches held, what was spread and gathered is the input, late by `b * m *
-/// (b - 1)` bytes; and from branches full of zeros all bytes before it are zeros.
+/// (b - 1)` bytes. From branches full of zeros all bytes before it are zeros.
 pub fn back()
     ensures late { (b m : ℕ) (s g : Branching) (x : List ℕ) (n : ℕ) → HasWidths b (spreading m) s
         → HasWidths b (gathering b m) g → n < length x → b * m * (b - 1) ≤ n

@@ -17,7 +17,7 @@ use std::alloc::{AllocError, Global};
 
 impl Net {
     /// The network of 1 to 1,020 transmitters whose addresses differ from each other. Nothing was done with it. All
-    /// memory is taken here.
+    /// memory is taken here, and the only error is out of memory.
     pub fn new(alloc: Global, transmitters: &[Transmitter]) -> Result<Net, AllocError>
         requires { AreTransmitters transmitters.now }
         ensures { IfOk result (λ net. StandsFor transmitters.now net []) }
@@ -30,8 +30,8 @@ impl Net {
         })
     }
 
-    /// An operations packet of the fields that the packet reads as, but with these states, and with right parity bytes;
-    /// byte 0 and the counter stay. A packet that isn't read stays as it is (the profile's own).
+    /// An operations packet of the fields that the packet reads as, but with these states, and with right parity bytes
+    /// (the profile's own). Byte 0 and the counter stay. A packet that isn't read stays as it is.
     pub fn lied(&self, packet: &Packet, states: &States) -> Packet
         ensures { result.0 ≡ lied_packet packet.now.0 states.now }
     {

@@ -16,8 +16,8 @@ use dtx_meaning::Status;
 use dtx_sizes::MOST_PACKETS;
 
 /// All whole packets of a stream are sent, where they begin with 0x47 and are no more than may be. Where a packet among
-/// so many doesn't, the first of them is refused, and those before it are sent. Where all of so many do and the stream
-/// has more, it is too long, and so many are sent.
+/// so many doesn't begin so, the first such packet is refused, and those before it are sent. Where all of so many do
+/// and the stream has more, it is too long, and so many are sent.
 pub fn all_is_sent()
     ensures whole { (names : List (List ℕ)) (stream : List ℕ) → whole_packets stream ≤ MOST_PACKETS
         → HaveSyncs stream (whole_packets stream)
@@ -40,9 +40,9 @@ pub fn all_is_read()
         → meaning_of_file shapes.blocks dvb_reading names bytes ≡ read_until names bytes }
 {}
 
-/// What is read of what was sent of a stream whose packets begin with 0x47, with at most eight wrong bytes in each word
-/// that is gathered, are its packets but the last eleven, none of them flagged. So it is of the bytes as they were
-/// sent.
+/// Let a stream have packets that begin with 0x47, and let what was sent of it have at most eight wrong bytes in each
+/// word that is gathered. What is read of it are its packets but the last eleven, none of them flagged. So it is of the
+/// bytes as they were sent.
 pub fn streams_come_back()
     ensures damaged { (names : List (List ℕ)) (stream bytes : List ℕ) → whole_packets stream ≤ MOST_PACKETS
         → ArePackets (packets_of stream) → IsSlight (packets_of stream) bytes

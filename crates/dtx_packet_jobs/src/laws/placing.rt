@@ -18,14 +18,14 @@ pub fn placing_twice()
 {}
 
 /// Where a field's packets from place 52 on hold a null packet or a placeholder, there is a placeholder among them in
-/// what is placed; and in no other field.
+/// what is placed. In no other field is there one.
 pub fn fields_with_one()
     ensures { (packets : List (List ℕ)) (field : ℕ)
         → list_any is_placeholder (behind (placed packets) field) ≡ list_any is_open (behind packets field) }
 {}
 
-/// There are as many packets as before, those with another packet identifier than a null packet's stay, and of each
-/// packet all bytes but byte 2, which doesn't grow; a packet that is changed becomes a placeholder.
+/// There are as many packets as before. Those with another packet identifier than a null packet's stay. Of each packet
+/// all bytes stay but byte 2, which doesn't grow. A packet that is changed becomes a placeholder.
 pub fn what_stays()
     ensures count { (packets : List (List ℕ)) → length (placed packets) ≡ length packets }
     ensures lengths { (packets : List (List ℕ)) (k : ℕ) → k < length packets

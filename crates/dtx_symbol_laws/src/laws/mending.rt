@@ -1,4 +1,4 @@
-//! Laws of symbol files of which some symbols are missing: a symbol of value -128, whose byte is 0x80, says that
+//! Laws of symbol files of which some symbols are missing. A symbol of value -128, whose byte is 0x80, says that
 //! nothing was received there (the profile's own; what is sent is that of ATSC A/53 Part 2).
 
 ghost use Rattle.std.specs.Prelude.{◌≡◌, ◌+◌, ◌%◌, ◌<◌, ◌≤◌, ◌++◌, ◌∷◌, ℕ, ℤ, List, Some, [], length, take};
@@ -33,9 +33,9 @@ pub fn all_is_mended()
 {}
 
 /// The three answers of `mend` that a file's content decides, each with its cause. Where the file has more segments
-/// than are received, it is too long, and what the first ones give while they come is written, as many as may be: a
-/// front part of what all give, and as many packets as `receive` writes then. Else, where no segment looks like a
-/// field sync, that is the answer, and OUT is empty; where one does, all is done.
+/// than are received, it is too long. Then what the first ones give while they come is written, as many as may be. It
+/// is a prefix of what all give, and as many packets as `receive` writes then. Else, where no segment looks like a
+/// field sync, that is the answer, and OUT is empty. Where one does, all is done.
 pub fn mending_answers()
     ensures too_long { (names : List (List ℕ)) (file : List ℕ) → MOST_SEGMENTS < whole_segments file
         → meaning_of_file shapes.segments mending_symbols names file ≡ mended_until names file }
@@ -51,10 +51,10 @@ pub fn mending_answers()
         → (meaning_of_file shapes.segments mending_symbols names file).outcome.status ≡ Status.Done }
 {}
 
-/// Packet f + j of a stream is given back in whatever is received, where packet f begins a field: by a run whose word j
-/// is all there and differs from the packet's codeword in e unmarked bytes, where m are marked and `2 * e + m` is at
-/// most 20. It stands among the packets that are written, with 0x47 as its sync byte, behind those of the runs before,
-/// as number j of its run's. It isn't flagged.
+/// Packet f + j of a stream is given back in whatever is received, where packet f begins a field. A run gives it whose
+/// word j is all there and differs from the packet's codeword in e unmarked bytes, where m are marked and `2 * e + m`
+/// is at most 20. It stands among the packets that are written, with 0x47 as its sync byte, behind those of the runs
+/// before, as number j of its run's. It isn't flagged.
 pub fn a_near_packet_is_mended()
     ensures { (stream : List (List ℕ)) (file : List ℕ) (earlier later : List (ℕ × ℕ)) (run : ℕ × ℕ) (f j : ℕ)
         → ArePackets stream → f % FIELD_PACKETS ≡ 0 → f + j < length stream
@@ -64,9 +64,9 @@ pub fn a_near_packet_is_mended()
         (word_of (segments_in (file_segments file) run) j) }
 {}
 
-/// Where segments in a row of a stream are received with damage that can be mended, and a field sync is among them, all
-/// packets from the one behind that field sync on whose bytes are all there are written, in order, each with 0x47 as
-/// its sync byte, and no other. There is one run, and none is flagged.
+/// Let segments in a row of a stream be received with damage that can be mended, a field sync among them. Then all
+/// packets from the one behind that field sync on whose bytes are all there are written, in order, and no other. Each
+/// has 0x47 as its sync byte. There is one run, and none is flagged.
 pub fn a_stretch_is_mended()
     ensures { (names stream : List (List ℕ)) (first : ℕ) (sent : List (List ℤ)) (file : List ℕ)
         → whole_segments file ≤ MOST_SEGMENTS → ArePackets stream

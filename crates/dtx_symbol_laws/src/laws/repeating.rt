@@ -14,11 +14,11 @@ ghost use Rattle.dtx_symbol_laws.specs.RepeatedFiles.{outputs_so_far, repeated_o
 use dtx_sizes::MOST_SEGMENTS;
 
 /// What `repeat` answers and writes of any file, for any address and delay. Where the file has no more segments than
-/// may be and one of them looks like a field sync, all is done: OUT has the symbols of the segments that are repeated
-/// of them and LOG the lines of their log, all and no other, and the numbers are those of the segments, of their runs
-/// and of the lives of the exciter. Where none does, that is the answer, and both outputs are empty. Where the file has
-/// more segments than may be, it is too long, and what the first ones give while they come is written, as many as may
-/// be: of each output a front part of what all give.
+/// may be and one of them looks like a field sync, all is done. OUT has the symbols of the segments that are repeated
+/// of them and LOG the lines of their log, all and no other. The numbers are those of the segments, of their runs and
+/// of the lives of the exciter. Where none looks like a field sync, that is the answer, and both outputs are empty.
+/// Where the file has more segments than may be, it is too long. Then what the first ones give while they come is
+/// written, as many as may be: of each output a prefix of what all give.
 pub fn all_is_repeated()
     ensures done { (address delay : ℕ) (names : List (List ℕ)) (file : List ℕ) → whole_segments file ≤ MOST_SEGMENTS
         → (NoneLooks (file_segments file) 0 (whole_segments file) → ⊥)
