@@ -57,7 +57,7 @@ launches() {
 
 # Without a kit it asks for one; `needs WHY` is what it says then.
 needs() {
-    launches 1 '' "dtx: $1, so the program has to be built, and rt, the command of the Rattle kit, is not on PATH"
+    launches 1 '' "dtx: $1. To build the program, put rt, the command of the Rattle kit, on PATH"
 }
 
 reckoned() {
@@ -85,25 +85,25 @@ released_alone
 launches "${runs[@]}"
 cp -a "$repository/crates/low" low
 echo >>"$repository/crates/low/src/lib.rt"
-needs 'release/dtx was built of other sources (crates/low/src/lib.rt differs)'
+needs 'release/dtx was built from other sources (crates/low/src/lib.rt differs)'
 cp -a low/src/lib.rt "$repository/crates/low/src/lib.rt"
 launches "${runs[@]}"
 : >"$repository/crates/low/src/more.rt"
-needs 'release/dtx was built of other sources (crates/low/src/more.rt differs)'
+needs 'release/dtx was built from other sources (crates/low/src/more.rt differs)'
 rm "$repository/crates/low/src/more.rt"
 launches "${runs[@]}"
 rm "$repository/crates/low/src/lib.rt"
-needs 'release/dtx was built of other sources (crates/low/src/lib.rt differs)'
+needs 'release/dtx was built from other sources (crates/low/src/lib.rt differs)'
 cp -a low/src/lib.rt other.rt
 echo >>other.rt
 touch -d '2001-01-01' other.rt
 mv other.rt "$repository/crates/low/src/lib.rt"
-needs 'release/dtx was built of other sources (crates/low/src/lib.rt differs)'
+needs 'release/dtx was built from other sources (crates/low/src/lib.rt differs)'
 rm -r "$repository/crates/low"
 mv low "$repository/crates/low"
 launches "${runs[@]}"
 echo 'low: # the lowest' >>"$repository/crates.txt"
-needs 'release/dtx was built of other sources (crates.txt differs)'
+needs 'release/dtx was built from other sources (crates.txt differs)'
 
 start 'a proof that is changed is seen once the choice is a minute old'
 released_alone
@@ -111,27 +111,27 @@ launches "${runs[@]}"
 echo >>"$repository/crates/low/proofs/Low.antt"
 launches "${runs[@]}"
 touch -d '61 seconds ago' "$repository"/crates/dtx/out/launch/*
-needs 'release/dtx was built of other sources (crates/low/proofs/Low.antt differs)'
+needs 'release/dtx was built from other sources (crates/low/proofs/Low.antt differs)'
 
 start 'a choice whose time is still to come is made anew'
 released_alone
 launches "${runs[@]}"
 touch -d '1 hour' "$repository"/crates/dtx/out/launch/*
 echo >>"$repository/crates/low/src/lib.rt"
-needs 'release/dtx was built of other sources (crates/low/src/lib.rt differs)'
+needs 'release/dtx was built from other sources (crates/low/src/lib.rt differs)'
 
 start 'a released program that is damaged, or not there'
 released_alone
 launches "${runs[@]}"
 printf x >>"$repository/release/dtx"
-needs 'release/dtx is damaged: release/sources has another checksum'
+needs 'release/dtx is damaged: its checksum is not the one in release/sources'
 rm "$repository/release/dtx"
-needs 'there is no release/dtx with its release/sources'
+needs 'release/dtx or release/sources is missing'
 released_alone
 rm "$repository/release/sources"
-needs 'there is no release/dtx with its release/sources'
+needs 'release/dtx or release/sources is missing'
 rm -r "$repository/release"
-needs 'there is no release/dtx with its release/sources'
+needs 'release/dtx or release/sources is missing'
 
 start 'a released program that is for another machine'
 released_alone
@@ -210,7 +210,7 @@ launch_path=$tools:$kit/path
 PATH=$launch_path "$repository/dtx" >"$room/said" 2>"$room/complaint" </dev/null || wrong "ended with $?"
 [[ $(cat "$room/said") == 'built anew' ]] || wrong "printed '$(cat "$room/said")'"
 takes=$(sed -n "s/^takes='\(.*\)'\$/\1/p" "$top/build")
-[[ $takes && $(head -n 1 "$room/complaint") == "dtx: there is no release/dtx with its release/sources, so the program is proved and built: $takes from nothing, \
+[[ $takes && $(head -n 1 "$room/complaint") == "dtx: release/dtx or release/sources is missing. Proving and building the program takes $takes from nothing, \
 less after a change (log: $repository/crates/dtx/out/build.log)" ]] || wrong "on standard error: $(cat "$room/complaint")"
 [[ $(cat "$kit/asked") == $'rattle build low\nrattle build dtx' ]] || wrong "the kit was asked for $(cat "$kit/asked")"
 launches 0 'built anew' ''
@@ -227,6 +227,6 @@ for turn in 1 2; do
     PATH=$launch_path "$repository/dtx" >"$room/said" 2>"$room/complaint" </dev/null
     [[ $? == 1 && ! -s $room/said ]] || wrong 'another status than 1'
     [[ $(tail -n 2 "$room/complaint") == "src/lib.rt:false
-dtx: low was not built; the lines above are the last of $repository/crates/dtx/out/build.log" ]] || wrong "on standard error: $(cat "$room/complaint")"
+dtx: building low failed; the lines above are the end of $repository/crates/dtx/out/build.log" ]] || wrong "on standard error: $(cat "$room/complaint")"
 done
 rm -rf "$repository"
