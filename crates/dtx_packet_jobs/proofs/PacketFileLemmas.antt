@@ -1,10 +1,12 @@
 -- Packets of 188 bytes each as the bytes of a file, and the packets of a file.
-use Rattle.std.proofs.Common.{◌≡◌, ℕ, zero, suc, ◌+◌, ◌-◌, ◌*◌, ◌<◌, ◌≤◌, List, [], ◌∷◌, ◌++◌, length, get_or}
+use Rattle.std.proofs.Common.{◌≡◌, ℕ, zero, suc, ◌+◌, ◌-◌, ◌*◌, ◌/◌, ◌<◌, ◌≤◌, List, [], ◌∷◌, ◌++◌, length, get_or}
 use Rattle.std.proofs.Common.{take, drop, refl, sym, ap, ◌∙◌, arith}
 use Rattle.std.specs.List.{All}
+use Rattle.std.specs.Simd.{first_chunks}
 use Rattle.std.proofs.lemmas.List.{take_at, drop_at, drop-drop, length-append, length-drop, length-take-le}
 use Rattle.std.proofs.lemmas.List.Elements.{All-from_get_or, All-head, All-tail}
 use Rattle.std.proofs.lemmas.List.FromFn.{fill_by_all, get_or-map-range_with_len, length-map-range_with_len}
+use Rattle.dtx_packets.proofs.ChunksLemmas.{get_or-first_chunks}
 use Rattle.dtx_packets.proofs.PacketLemmas.{packets_from-append}
 use Rattle.dtx_packets.specs.Packets.{packet_at, packets_from, packets_of, whole_packets}
 use Rattle.dtx_packet_jobs.specs.Feed.{bytes_of_packets}
@@ -39,6 +41,17 @@ packet_at-bytes (p ∷ ps) (suc k) long within =
 pub whole_packets-bytes : (packets : List (List ℕ)) → All IsLong packets
     → whole_packets (bytes_of_packets packets) ≡ length packets
 whole_packets-bytes packets long = omega (arith, length-bytes_of_packets packets long)
+
+length-chunks : {X : Type 0} (n k : ℕ) (xs : List X) → length (first_chunks n k xs) ≡ k
+length-chunks n zero xs = refl
+length-chunks n (suc k) xs = ap (λ (m : ℕ). suc m) (length-chunks n k (drop n xs))
+
+-- the chunks of 188 bytes are packets
+pub packets_are : (bytes : List ℕ) → first_chunks 188 (length bytes / 188) bytes ≡ packets_of bytes
+packets_are bytes =
+    fill_by_all (packet_at bytes) (first_chunks 188 (whole_packets bytes) bytes) (whole_packets bytes) []
+    (length-chunks 188 (whole_packets bytes) bytes)
+    (λ k within. get_or-first_chunks 188 (whole_packets bytes) bytes k within)
 
 -- they are read back
 pub packets_of-bytes : (packets : List (List ℕ)) → All IsLong packets → packets_of (bytes_of_packets packets) ≡ packets

@@ -1,0 +1,45 @@
+use Rattle.std.proofs.Common.{rules, ◌≡◌, ◌≤◌, ◌<◌, ◌/◌, ℕ, ℤ, ◌+◌, ◌*◌, ◌++◌, [], List, length, map, take, drop, get_or, ap}
+use Rattle.std.proofs.Common.{sym, ◌∙◌, arith, append_assoc, subst}
+use Rattle.dtx_coder.specs.Batches.{IsAhead}
+use Rattle.dtx_coder.specs.Groups.{stream_coding}
+use Rattle.dtx_sizes.specs.Fields.{field_place}
+use Rattle.std.proofs.lemmas.List.{length-append, length-map, length-take}
+use Rattle.dtx_files.specs.Symbols.{byte_of_symbol}
+use Rattle.dtx_packets.proofs.ChunksLemmas.{get_or-first_chunks}
+use Rattle.dtx_jobs.specs.StreamCoder.{AreInterleaved}
+use Rattle.dtx_jobs.proofs.StreamSymbols.{few_sent, SendsGroup, group_leaves, group_brings}
+use Rattle.dtx_jobs.proofs.stream_coder.StreamCoder.send_group.Goals as goal
+
+pub shared_ref_as_front-push : goal.shared_ref_as_front-push
+shared_ref_as_front-push c =
+    let few : c.send.new.air.segments ≤ 5 =
+    few_sent c.deref_mut.result.now c.send.new.self _ c.send.new.air.segments c.send.new.air.symbols c.send.ensures in
+    omega (arith, few)
+
+pub push-requires : goal.push-requires
+push-requires c =
+    let count : ℕ = 832 * c.send.new.air.segments in
+    let few : c.send.new.air.segments ≤ 5 =
+    few_sent c.deref_mut.result.now c.send.new.self _ c.send.new.air.segments c.send.new.air.symbols c.send.ensures in
+    (omega arith, omega (arith, few, c.requires.room, length-take count c.send.new.air.symbols))
+
+pub returns-clause-sent : goal.returns-clause-sent
+returns-clause-sent c = λ before own rest long four was. ?
+
+pub returns-clause-brought : goal.returns-clause-brought
+returns-clause-brought c = λ before own rest bytes long four was is. ?
+
+pub returns-clause-long : goal.returns-clause-long
+returns-clause-long c =
+    let count : ℕ = 832 * c.send.new.air.segments in
+    let few : c.send.new.air.segments ≤ 5 =
+    few_sent c.deref_mut.result.now c.send.new.self _ c.send.new.air.segments c.send.new.air.symbols c.send.ensures in
+    let sent : List ℤ = take count c.send.new.air.symbols in
+    omega (
+      arith,
+      few,
+      ap length c.push.ensures,
+      length-append c.args.self.now.symbols (map byte_of_symbol sent),
+      length-map sent byte_of_symbol,
+      length-take count c.send.new.air.symbols,
+    )
