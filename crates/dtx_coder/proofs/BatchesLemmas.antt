@@ -132,15 +132,15 @@ ahead_on held ahead new g rest bytes left count sent h four long s = record {
   coder = s.coder ∙ coder_on held ahead g rest bytes left h four long;
 }
 
+none : (first : ℕ) (v : Branching) → after_all 52 v (coded_from first []) ≡ v
+unfolding coded_from after_all
+none first v = refl
+
 -- when all are sent
 pub ahead_all : (held ahead : Coding) (first : ℕ) (bytes : List ℕ) → IsAhead held first [] bytes ahead → ahead ≡ held
 ahead_all held ahead first bytes h =
     h.coder ∙ same_coding held.states held.states held.last held.last _ held.branches refl refl
     (none first held.branches)
-  where
-    none : (first : ℕ) (v : Branching) → after_all 52 v (coded_from first []) ≡ v
-    unfolding coded_from after_all
-    none first v = refl
 
 pub ahead_place : (held ahead : Coding) (j k : ℕ) (packets : List (List ℕ)) (bytes : List ℕ) → j % 312 ≡ k % 312
     → IsAhead held j packets bytes ahead → IsAhead held k packets bytes ahead

@@ -4,14 +4,13 @@ use Rattle.std.proofs.Common.{◌≡◌, ℕ, ◌+◌, ◌*◌, ◌/◌, ◌%◌
 use Rattle.std.proofs.Common.{drop, refl, lit<, sym, ap, ap₂, subst, ◌∙◌, arith}
 use Rattle.std.specs.List.{concat}
 use Rattle.std.proofs.Math.Seq.{take-add}
-use Rattle.std.proofs.lemmas.List.{append_assoc, get_or-map, length-append, length-drop, length-map, length-take-le}
-use Rattle.std.proofs.lemmas.List.{take_at}
+use Rattle.std.proofs.lemmas.List.{get_or-map, length-drop, length-map, length-take-le}
 use Rattle.dtx_laws.specs.Branches.{spreading, after_all}
 use Rattle.dtx_laws.specs.Whitening.{whitened}
 use Rattle.dtx_laws.specs.Words.{codeword}
 use Rattle.dtx_laws.proofs.InterleavingLemmas.{HasWidths-all, HasWidths-zeroed}
 use Rattle.dtx_outer.specs.Coding.{coded_as, codewords}
-use Rattle.dtx_outer.proofs.CodingLemmas.{four_made}
+use Rattle.dtx_outer.proofs.CodingLemmas.{four_made, written_behind}
 use Rattle.dtx_outer.specs.Outer.{Held}
 use Rattle.dtx_whiten.specs.Randomizer.{randomizer_bytes}
 use Rattle.dtx_whiten.specs.Randomized.{randomized}
@@ -62,30 +61,28 @@ packets_coded f first white ps d one two three four w l d1 d2 d3 d4 =
     each : (i : ℕ) (head : List ℕ) → i < 4 → AreData head (f (get_or ps i d)) → AreData head (get_or (map f ps) i [])
     each i head m a = subst (AreData head) (sym (get_or-map f ps i d [] (omega (arith, l, m)))) a
 
--- more packets, in fours: those of group i are written behind the ones before
-pub words_on : (first i : ℕ) (ps : List (List ℕ)) (words group : List ℕ) → 4 * i + 4 ≤ length ps
+-- more packets, in fours: those of group i are written, at a piece of that length, behind the ones before
+pub words_none : (first : ℕ) → [] ≡ coded_from first []
+unfolding coded_from
+words_none first = refl
+
+pub words_on : (first i size : ℕ) (ps : List (List ℕ)) (words group : List ℕ) → 4 * i + 4 ≤ length ps → size ≡ 828
     → length words ≡ 207 * length ps
     → take (828 * i) words ≡ coded_from first (take (4 * i) ps)
     → group ≡ coded_from (first + 4 * i) (take 4 (drop (4 * i) ps))
-    → take (828 * (i + 1)) (put_mid (828 * i) 828 words group) ≡ coded_from first (take (4 * (i + 1)) ps)
-words_on first i ps words group within long before is =
+    → take (828 * (i + 1)) (put_mid (828 * i) size words group) ≡ coded_from first (take (4 * (i + 1)) ps)
+words_on first i size ps words group within e long before is =
     let long_group : length group ≡ 828 =
     ap length is ∙ length-coded (first + 4 * i) (take 4 (drop (4 * i) ps))
     ∙ ap (λ (n : ℕ). 207 * n) (length-take-le 4 (drop (4 * i) ps) (omega (arith, length-drop (4 * i) ps, within))) in
-    let long_front : length (take (828 * i) words) ≡ 828 * i =
-    length-take-le (828 * i) words (omega (arith, long, within)) in
-    let front : List ℕ = take (828 * i) words in
-    ap (take (828 * (i + 1))) (sym (append_assoc front group (drop 828 (drop (828 * i) words))))
-    ∙ take_at (front ++ group) (drop 828 (drop (828 * i) words)) (828 * (i + 1))
-    (omega (arith, length-append front group, long_front, long_group))
+    ap₂ (λ m n. take n (put_mid (828 * i) m words group)) e (let f : 828 * (i + 1) ≡ 828 * i + 828 = omega arith in f)
+    ∙ written_behind (828 * i) 828 words group (omega (arith, long, within)) long_group
     ∙ ap₂ ◌++◌ before is
     ∙ ap (λ n. coded_from first (take (4 * i) ps) ++ coded_from (first + n) (take 4 (drop (4 * i) ps)))
     (sym (length-take-le (4 * i) ps (omega (arith, within))))
     ∙ sym (coded_append first (take (4 * i) ps) (take 4 (drop (4 * i) ps)))
-    ∙ ap (coded_from first) (sym (take-add (4 * i) 4 ps) ∙ ap (λ n. take n ps) (more i))
-  where
-    more : (i : ℕ) → 4 * i + 4 ≡ 4 * (i + 1)
-    more i = omega arith
+    ∙ ap (coded_from first) (sym (take-add (4 * i) 4 ps)
+    ∙ ap (λ n. take n ps) (let e : 4 * i + 4 ≡ 4 * (i + 1) = omega arith in e))
 
 -- the outer coding behind some codewords
 pub atsc_new : IsAtsc (record { white = randomizer_bytes; branches = zero_branches })

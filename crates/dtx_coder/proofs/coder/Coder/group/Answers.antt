@@ -1,4 +1,4 @@
-use Rattle.std.proofs.Common.{ℕ, ◌≡◌, map, sym, ap, subst}
+use Rattle.std.proofs.Common.{map, sym, ap, subst}
 use Rattle.std.specs.Option.{unwrap_or}
 use Rattle.dtx_outer.specs.Outer.{Held}
 use Rattle.dtx_coder.specs.Coded.{coded_from}

@@ -1,5 +1,4 @@
 use Rattle.std.proofs.Common.{sym, ap, subst}
-use Rattle.dtx_laws.specs.Branches.{after_all}
 use Rattle.dtx_outer.specs.Outer.{Held}
 use Rattle.dtx_coder.specs.Coded.{coded_from}
 use Rattle.dtx_coder.specs.Groups.{Coding, IsAtsc}

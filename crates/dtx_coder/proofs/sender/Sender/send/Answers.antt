@@ -1,7 +1,6 @@
 use Rattle.std.proofs.Common.{rules, ◌≡◌, ℕ, ◌+◌, ◌*◌, cond, [], ◌++◌, take, ap, ap₂, ◌∙◌}
 use Rattle.std.specs.Option.{unwrap_or}
 use Rattle.dtx_frame.specs.Segments.{field_sync}
-use Rattle.dtx_laws.specs.Branches.{Branching}
 use Rattle.dtx_trellis.specs.Groups.{levels_of, states_after}
 use Rattle.dtx_coder.specs.Stream.{four_segments, symbols_of}
 use Rattle.dtx_coder.specs.Groups.{Coding}
