@@ -1,5 +1,6 @@
 // Coding a stream, a piece of its packets at a time.
-ghost use Rattle.std.specs.Prelude.{◌≡◌, ◌+◌, ◌-◌, ◌*◌, ◌/◌, ◌%◌, ◌<◌, ◌≤◌, ◌++◌, [], ℕ, List, length, take};
+ghost use Rattle.std.specs.Prelude.{◌≡◌, ◌+◌, ◌-◌, ◌*◌, ◌/◌, ◌%◌, ◌<◌, ◌≤◌, ◌++◌, [], ℕ, List, length, min, take};
+ghost use Rattle.dtx_coder.specs.Batches.{IsAhead};
 ghost use Rattle.dtx_coder.specs.Groups.{StandsFor};
 ghost use Rattle.dtx_coder.specs.Stream.{a53};
 ghost use Rattle.dtx_packets.specs.Packets.{packets_from};
@@ -88,8 +89,7 @@ impl StreamCoder {
         ensures packets { self.new.packets ≡ self.old.packets }
     {
         let place = field_place(first).place;
-        let len = CODEWORD * packets.len();
-        self.coder.interleave(place, packets, &mut self.batch[..len]);
+        interleave_front(&mut self.coder, place, packets, &mut self.batch[..]);
         for i in 0..packets.len() / GROUP_PACKETS {
             self.send_group(first + (GROUP_PACKETS * i) as u64, i);
         }
@@ -199,6 +199,18 @@ impl Transforming for StreamCoder {
     }
 
     ghost knows = { code_knows };
+}
+
+/// Interleaves packets, the first at that place of its field, and puts the bytes that leave at the front of the batch.
+fn interleave_front(coder: &mut Coder, place: u16, packets: &[[u8; PACKET]], batch: &mut [u8])
+    requires whole { length packets.now % GROUP_PACKETS ≡ 0 }
+    requires in_field { place + length packets.now ≤ FIELD_PACKETS }
+    requires room { CODEWORD * length packets.now ≤ length batch.old }
+    ensures ahead { IsAhead coder.old place packets.now (take (CODEWORD * length packets.now) batch.new) coder.new }
+    ensures long { length batch.new ≡ length batch.old }
+{
+    let len = CODEWORD * packets.len();
+    coder.interleave(place, packets, &mut batch[..len]);
 }
 
 /// How many of these packets are interleaved at once, where the first one has that number: at most a batch, and none of

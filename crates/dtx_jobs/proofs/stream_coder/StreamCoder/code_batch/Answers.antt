@@ -1,16 +1,35 @@
 use Rattle.std.proofs.Common.{◌≡◌, ◌≤◌, ◌<◌, ◌/◌, ◌%◌, ℕ, ◌+◌, ◌*◌, ◌++◌, [], List, length, take, drop, ap}
-use Rattle.std.proofs.Common.{sym, ◌∙◌, arith, subst}
-use Rattle.std.proofs.lemmas.List.{length-append, length-drop, length-take-le, take_all, append-nil}
+use Rattle.std.proofs.Common.{refl, sym, ◌∙◌, arith, subst}
+use Rattle.std.proofs.lemmas.List.{length-append, length-drop, length-take-le, drop_all, take_all, append-nil}
 use Rattle.dtx_coder.proofs.BatchesLemmas.{ahead_all, ahead_place}
 use Rattle.dtx_coder.specs.Batches.{IsAhead}
-use Rattle.dtx_coder.specs.Groups.{StandsFor, stream_coding}
+use Rattle.dtx_coder.specs.Groups.{Coding, StandsFor, stream_coding}
+use Rattle.dtx_sizes.specs.declared.fields.FieldPlace.{FieldPlace}
 use Rattle.dtx_jobs.specs.StreamCoder.{AreInterleaved}
 use Rattle.dtx_jobs.specs.Symbols.{symbol_bytes}
 use Rattle.dtx_jobs.proofs.StreamSymbols.{four_on, four_left}
 use Rattle.dtx_jobs.proofs.stream_coder.StreamCoder.code_batch.Goals as goal
 
 pub loop-i-init : goal.loop-i-init
-loop-i-init c = ?
+loop-i-init c =
+    let place = c.field_place-place.result.place in
+    let packets = c.args.packets.now in
+    let batch = c.interleave_front.new.batch in
+    let new = c.interleave_front.new.coder in
+    let at : place ≡ c.args.first % 312 = ap (λ (p : FieldPlace). p.place) c.field_place-place.ensures in
+    record {
+      sent = λ before long stands. record {
+        ahead = subst (λ (ps : List (List ℕ)). IsAhead (stream_coding ps) (length ps) packets
+            (take (207 * length packets) batch) new) (sym (append-nil before))
+            (ahead_place (stream_coding before) new place (length before) packets (take (207 * length packets) batch)
+            (omega (arith, at, long))
+            (subst (λ (v : Coding). IsAhead v place packets (take (207 * length packets) batch) new)
+            (c.deref_mut.ensures.value ∙ stands) c.interleave_front.ensures.ahead));
+      };
+      brought = λ before bytes long stands is. ap symbol_bytes (append-nil before) ∙ is;
+      room = omega arith;
+      packets = refl;
+    }
 
 pub loop-i-preserved : goal.loop-i-preserved
 loop-i-preserved c =
@@ -44,4 +63,21 @@ loop-i-preserved c =
     }
 
 pub returns : goal.returns
-returns c = ?
+returns c =
+    let packets = c.args.packets.now in
+    let whole = c.requires.whole in
+    let all : length packets ≤ 4 * c.loop-i.i = omega (arith, whole, c.loop-i-test.false) in
+    let taken : take (4 * c.loop-i.i) packets ≡ packets = take_all (4 * c.loop-i.i) packets all in
+    record {
+      coder = λ before long stands.
+          let sent : AreInterleaved c.loop-i.self c.loop-i.i (before ++ packets) [] =
+          subst (λ ps. AreInterleaved c.loop-i.self c.loop-i.i (before ++ packets) ps)
+          (drop_all (4 * c.loop-i.i) packets all)
+          (subst (λ ps. AreInterleaved c.loop-i.self c.loop-i.i (before ++ ps) (drop (4 * c.loop-i.i) packets)) taken
+          (c.loop-i.invariant.sent before long stands)) in
+          ahead_all (stream_coding (before ++ packets)) c.loop-i.self.coder.value _ _ sent.ahead;
+      brought = λ before bytes long stands is.
+          ap (λ ps. symbol_bytes (before ++ ps)) (sym taken) ∙ c.loop-i.invariant.brought before bytes long stands is;
+      long = omega (arith, whole, c.loop-i.invariant.room, c.loop-i-test.false, c.loop-i.auto.i-end);
+      packets = c.loop-i.invariant.packets;
+    }
