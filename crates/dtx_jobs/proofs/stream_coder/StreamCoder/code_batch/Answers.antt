@@ -1,4 +1,4 @@
-use Rattle.std.proofs.Common.{◌≡◌, ◌≤◌, ◌<◌, ◌/◌, ◌%◌, ℕ, ◌+◌, ◌*◌, ◌++◌, [], List, length, take, drop, ap}
+use Rattle.std.proofs.Common.{◌≡◌, ◌≤◌, ◌%◌, ℕ, ◌+◌, ◌*◌, ◌++◌, [], List, length, take, drop, ap}
 use Rattle.std.proofs.Common.{refl, sym, ◌∙◌, arith, subst}
 use Rattle.std.proofs.lemmas.List.{length-append, length-drop, length-take-le, drop_all, take_all, append-nil}
 use Rattle.dtx_coder.proofs.BatchesLemmas.{ahead_all, ahead_place}

@@ -1,4 +1,4 @@
-use Rattle.std.proofs.Common.{rules, ◌≡◌, ◌≤◌, ◌<◌, ◌/◌, ℕ, ℤ, ◌+◌, ◌*◌, ◌++◌, [], List, length, map, take, drop, get_or, ap}
+use Rattle.std.proofs.Common.{◌≡◌, ◌≤◌, ◌/◌, ℕ, ℤ, ◌*◌, ◌++◌, [], List, length, map, take, drop, get_or, ap}
 use Rattle.std.proofs.Common.{sym, ◌∙◌, arith, append_assoc, subst}
 use Rattle.dtx_coder.specs.Batches.{IsAhead}
 use Rattle.dtx_coder.specs.Groups.{stream_coding}
@@ -6,8 +6,7 @@ use Rattle.dtx_sizes.specs.Fields.{field_place}
 use Rattle.std.proofs.lemmas.List.{length-append, length-map, length-take}
 use Rattle.dtx_files.specs.Symbols.{byte_of_symbol}
 use Rattle.dtx_packets.proofs.ChunksLemmas.{get_or-first_chunks}
-use Rattle.dtx_jobs.specs.StreamCoder.{AreInterleaved}
-use Rattle.dtx_jobs.proofs.StreamSymbols.{few_sent, SendsGroup, group_leaves, group_brings}
+use Rattle.dtx_jobs.proofs.StreamSymbols.{few_sent, group_leaves, group_brings}
 use Rattle.dtx_jobs.proofs.stream_coder.StreamCoder.send_group.Goals as goal
 
 pub shared_ref_as_front-push : goal.shared_ref_as_front-push
