@@ -1,8 +1,9 @@
 #!/usr/bin/env bash
 # Measures what an input that is a pipe costs: `dtx code` of a made stream of 200 MB, and `dtx receive` of its symbols, which `cat` writes to
-# the pipe, beside the same over files; what they write is thrown away. All of it in one run, each the best of five, on as many processors as
-# there are. Then 2 GB go through a pipe to `code`. It needs 1.1 GB on the disk of temporary files. The status is 0 where the speed over a pipe
-# is at least 0.8 of that over a file, and `code` holds no more memory for 2 GB than for a thousandth of that, but for 256 kB.
+# the pipe, beside the same over files; what they write is thrown away. Beside them `cat` reads what another `cat` writes to a pipe: no
+# command is faster. All of it in one run, each the best of five, on as many processors as there are. Then 2 GB go through a pipe to `code`.
+# It needs 1.1 GB on the disk of temporary files. The status is 0 where the speed over a pipe is at least 0.8 of that over a file, or of what
+# the pipe itself does where that is slower, and `code` holds no more memory for 2 GB than for a thousandth of that, but for 256 kB.
 
 set -eu
 rounds=5
@@ -19,15 +20,21 @@ head -c 2000000 in.ts >few.ts
 # piped FILE COMMAND: the command of the file, through a pipe.
 piped() { cat "$1" | "$program" "$2" /dev/stdin /dev/null; }
 
+# moved FILE: the file through a pipe, and no more.
+moved() { cat "$1" | cat >/dev/null; }
+
 status=0
 while read -r command file; do
     for ((round = 0; round < rounds; round++)); do
         measure "$command file" none "$program" "$command" "$file" /dev/null
         measure "$command pipe" none piped "$file" "$command"
+        measure "$command cat" none moved "$file"
     done
-    awk -v command="$command" -v file="${best["$command file"]}" -v pipe="${best["$command pipe"]}" -v bar=$bar 'BEGIN {
-        printf "%s: %.3f s over a file, %.3f s over a pipe: %.2f of the speed (bar: %s)\n", command, file / 1e6, pipe / 1e6, file / pipe, bar
-        exit file < bar * pipe }' || status=1
+    awk -v command="$command" -v file="${best["$command file"]}" -v pipe="${best["$command pipe"]}" -v cat="${best["$command cat"]}" \
+        -v bar=$bar 'BEGIN {
+        printf "%s: %.3f s over a file, %.3f s over a pipe: %.2f of the speed; cat alone %.3f s: %.2f of that (bar: %s of the slower)\n",
+            command, file / 1e6, pipe / 1e6, file / pipe, cat / 1e6, cat / pipe, bar
+        exit (file > cat ? file : cat) < bar * pipe }' || status=1
 done <<'end'
 code in.ts
 receive in.sym

@@ -22,7 +22,7 @@ coded_front() {
         wrong "out.sym does not hold the symbols of $1 packets"
 }
 
-# The counts are small ones, and those round a group, a field and a piece that is read at once.
+# The counts are small ones, and those round a group, a batch, a piece that is read at once, and a field.
 while read -r packets segments loose; do
     start "the symbols of $packets packets and $loose loose bytes"
     given "$packets" "$loose"
@@ -37,6 +37,14 @@ done <<'end'
 4 5 0
 7 5 1
 8 9 0
+51 49 0
+52 53 0
+55 53 3
+56 57 0
+207 205 0
+208 209 0
+209 209 1
+212 213 0
 312 313 0
 315 313 0
 316 318 0

@@ -159,8 +159,8 @@ cmp -s wanted.ts out.ts || wrong 'out.ts has other packets'
 
 # ---- Writers that are slow, end early, or never come ----
 
-start 'what `code` makes of the first 176 packets comes before there are more'
-comes_after $((176 * 188)) 143360 "$room/long.sym" ../inputs/long.ts code in out.sym
+start 'what `code` makes of the first 208 packets comes before there are more'
+comes_after $((208 * 188)) 172032 "$room/long.sym" ../inputs/long.ts code in out.sym
 
 start 'what `adapt` makes of the first 1,044 packets comes before there are more'
 comes_after $((3 * 348 * 188)) 131072 "$room/long.feed" ../inputs/long.ts adapt "$plan" in out.ts
@@ -202,10 +202,10 @@ done
 exec 9<>in.ts
 run 124 '' code in.ts out.sym
 leaves in.ts
-head -c 33188 ../inputs/given.ts >&9
+head -c 39204 ../inputs/given.ts >&9
 run 124 '' code in.ts out.sym
 exec 9>&-
-(($(stat -c %s out.sym) >= 143360)) || wrong 'the first symbols did not come'
+(($(stat -c %s out.sym) >= 172032)) || wrong 'the first symbols did not come'
 is_begun out.sym "$room/long.sym"
 
 start 'a terminal as an input'

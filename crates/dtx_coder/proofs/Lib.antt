@@ -10,5 +10,6 @@ pub mod AlongLemmas
 mod RunsLemmas
 mod FlushedLemmas
 mod AlignLemmas
+pub mod BatchesLemmas
 pub mod Packets
 pub mod Sent

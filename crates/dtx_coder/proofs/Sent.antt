@@ -6,13 +6,12 @@ use Rattle.std.proofs.Math.Seq.{take-add}
 use Rattle.std.proofs.lemmas.List.{append-nil, append_assoc, drop-drop, drop_at, length-append, length-drop, take_all}
 use Rattle.std.proofs.lemmas.List.FromFn.{length-map-range_with_len, map-range_with_len_more}
 use Rattle.std.proofs.lemmas.Grind.{flat_map-append}
-use Rattle.dtx_laws.specs.Branches.{Branching, after_all}
-use Rattle.dtx_trellis.specs.Groups.{levels_of, states_after}
+use Rattle.dtx_trellis.specs.Groups.{states_after}
 use Rattle.dtx_trellis.specs.Trellis.{symbol_of}
 use Rattle.dtx_frame.specs.Segments.{data_segment, field_sync, segment_sync}
-use Rattle.dtx_coder.specs.Coded.{coded_from}
 use Rattle.dtx_coder.specs.Stream.{segment, four_segments, last_of, symbols_of}
-use Rattle.dtx_coder.specs.Groups.{Coding, Group, IsCoded, bytes_of, group_levels, air_segments, after_group}
+use Rattle.dtx_coder.specs.Groups.{Coding}
+use Rattle.dtx_coder.specs.Batches.{InterleavedGroup, IsSent, after_bytes, levels_of_bytes, segments_of_bytes}
 use Rattle.dtx_coder.proofs.LevelsLemmas.{length-levels_of}
 use Rattle.dtx_coder.proofs.SegmentsLemmas.{length-segment, segment_is}
 use Rattle.dtx_coder.proofs.NextLemmas.{same_coding}
@@ -74,29 +73,21 @@ length_four : (zs : List ℕ) → length (four_segments zs 0) ≡ 4
 unfolding four_segments
 length_four zs = length-map-range_with_len (segment zs) 0 4
 
--- what the code does with a group
-pub record Does (old : Coding) (g : Group) (bytes states : List ℕ) (last : List ℤ) (branches : Branching) (count : ℕ)
-    (sent : List ℤ) : Type 0 where
-  pub bytes_are : bytes ≡ bytes_of old g
-  pub bytes_long : length bytes ≡ 828
-  pub states_are : states ≡ states_after g.first g.from bytes
-  pub branches_are : branches ≡ after_all 52 old.branches (coded_from g.first g.packets)
+-- what the code does with a group's bytes
+pub record Does (old : Coding) (g : InterleavedGroup) (states : List ℕ) (last : List ℤ) (count : ℕ) (sent : List ℤ)
+    : Type 0 where
+  pub bytes_long : length g.bytes ≡ 828
+  pub states_are : states ≡ states_after g.first g.from g.bytes
   pub counted : count ≡ cond g.sync 1 0 + 4
   pub twelve : length last ≡ 12
   pub written : take (832 * count) sent ≡ cond g.sync (field_sync g.second old.last) []
-      ++ symbols_of (four_segments (levels_of g.first g.from bytes) 0)
+      ++ symbols_of (four_segments (levels_of_bytes g) 0)
   pub ends : last ≡ drop (832 * count - 12) (take (832 * count) sent)
 
-levels_group : (old : Coding) (g : Group) (bytes : List ℕ) → bytes ≡ bytes_of old g
-    → levels_of g.first g.from bytes ≡ group_levels old g
-unfolding group_levels
-levels_group old g bytes e = ap (levels_of g.first g.from) e
-
-last_group : (old : Coding) (g : Group) (bytes states : List ℕ) (last : List ℤ) (branches : Branching) (count : ℕ)
-    (sent : List ℤ)
-    → Does old g bytes states last branches count sent → last ≡ last_of (segment (group_levels old g) 3)
-last_group old g bytes states last branches count sent d =
-    let levels : List ℕ = levels_of g.first g.from bytes in
+last_sent : (old : Coding) (g : InterleavedGroup) (states : List ℕ) (last : List ℤ) (count : ℕ) (sent : List ℤ)
+    → Does old g states last count sent → last ≡ last_of (segment (levels_of_bytes g) 3)
+last_sent old g states last count sent d =
+    let levels : List ℕ = levels_of_bytes g in
     let front : List ℤ = cond g.sync (field_sync g.second old.last) [] in
     let three : List ℤ = symbols_of (map (segment levels) (range_with_len 0 3)) in
     let whole : take (832 * count) sent ≡ front ++ three ++ segment levels 3 =
@@ -106,30 +97,22 @@ last_group old g bytes states last branches count sent d =
     let twelve = d.twelve in
     let counted = d.counted in
     let all : length (take (832 * count) sent) ≡ 832 * count = omega (arith, a, twelve, counted) in
-    let long : length levels ≡ 3312 = length-levels_of g.first g.from bytes 1 d.bytes_long in
+    let long : length levels ≡ 3312 = length-levels_of g.first g.from g.bytes 1 d.bytes_long in
     d.ends
     ∙ ap (drop (832 * count - 12)) whole
     ∙ last_twelve (front ++ three) (segment levels 3) (832 * count) (sym (ap length whole) ∙ all)
     (length-segment levels 3 (omega (arith, long)))
-    ∙ ap (λ zs. last_of (segment zs 3)) (levels_group old g bytes d.bytes_are)
 
-pub does_code : (old : Coding) (g : Group) (bytes states : List ℕ) (last : List ℤ) (branches : Branching) (count : ℕ)
-    (sent : List ℤ)
-    → Does old g bytes states last branches count sent
-    → IsCoded old g (record { states = states; last = last; branches = branches }) count sent
-unfolding after_group air_segments
-does_code old g bytes states last branches count sent d = record {
+pub does_send : (old : Coding) (g : InterleavedGroup) (states : List ℕ) (last : List ℤ) (count : ℕ) (sent : List ℤ)
+    → Does old g states last count sent
+    → IsSent old g (record { states = states; last = last; branches = old.branches }) count sent
+unfolding after_bytes segments_of_bytes
+does_send old g states last count sent d = record {
   coder =
-      same_coding states (states_after g.first g.from (bytes_of old g)) last
-      (last_of (segment (group_levels old g) 3)) branches
-      (after_all 52 old.branches (coded_from g.first g.packets))
-      (d.states_are ∙ ap (states_after g.first g.from) d.bytes_are)
-      (last_group old g bytes states last branches count sent d) d.branches_are;
-  segments = d.counted ∙ length_sent g.sync (field_sync g.second old.last) (four_segments (group_levels old g) 0)
-      (length_four (group_levels old g));
+      same_coding states (states_after g.first g.from g.bytes) last (last_of (segment (levels_of_bytes g) 3))
+      old.branches old.branches d.states_are (last_sent old g states last count sent d) refl;
+  segments = d.counted ∙ length_sent g.sync (field_sync g.second old.last) (four_segments (levels_of_bytes g) 0)
+      (length_four (levels_of_bytes g));
   symbols =
-      d.written
-      ∙ ap (λ zs. cond g.sync (field_sync g.second old.last) [] ++ symbols_of (four_segments zs 0))
-      (levels_group old g bytes d.bytes_are)
-      ∙ symbols_sent g.sync (field_sync g.second old.last) (four_segments (group_levels old g) 0);
+      d.written ∙ symbols_sent g.sync (field_sync g.second old.last) (four_segments (levels_of_bytes g) 0);
 }

@@ -46,11 +46,14 @@ bytes_of coder group = leaving_all 52 coder.branches (coded_from group.first gro
 unfoldable pub group_levels : Coding → Group → List ℕ
 group_levels coder group = levels_of group.first group.from (bytes_of coder group)
 
--- the group's segments: a field sync, where it stands there, whose end are the last twelve symbols given before; and
--- four data segments
+-- the segments of a group's levels: a field sync, where it stands there, whose end are the last twelve symbols given
+-- before; and four data segments
+abbrev pub sent_segments : List ℤ → (sync second : Bool) → List ℕ → List (List ℤ)
+sent_segments last sync second zs = (if sync then field_sync second last ∷ [] else []) ++ four_segments zs 0
+
+-- the group's segments
 unfoldable pub air_segments : Coding → Group → List (List ℤ)
-air_segments coder group =
-    (if group.sync then field_sync group.second coder.last ∷ [] else []) ++ four_segments (group_levels coder group) 0
+air_segments coder group = sent_segments coder.last group.sync group.second (group_levels coder group)
 
 -- the coder behind the group
 unfoldable pub after_group : Coding → Group → Coding

@@ -1,5 +1,6 @@
 pub mod Coded
 pub mod Stream
 pub mod Groups
+pub mod Batches
 pub mod Runs
 pub mod Along

@@ -1,30 +1,42 @@
 //! Codes one group after another.
 
-ghost use Rattle.std.specs.Prelude.{◌≡◌, ◌%◌, ◌<◌, EachIndex, IfOk, IsTrue, length, map, slice_index};
+ghost use Rattle.std.specs.Prelude.{◌≡◌, ◌+◌, ◌*◌, ◌%◌, ◌<◌, ◌≤◌, EachIndex, IfOk, IsTrue, length, map, slice_index};
 ghost use Rattle.std.specs.Option.{unwrap_or};
 ghost use Rattle.dtx_laws.specs.Branches.{HasWidths, spreading};
 ghost use Rattle.dtx_coder.specs.Groups.{Group, IsCoded, new_coding, aligned_coding};
+ghost use Rattle.dtx_coder.specs.Batches.{InterleavedGroup, IsAhead, IsSent};
 ghost use Rattle.dtx_coder.specs.Runs.{AreStates};
 
 use crate::air::Air;
-use crate::outer_coding::{OuterCoding, code_packets, new_outer_coding};
+use crate::outer_coding::{OuterCoding, code_packets, interleave_packets, new_outer_coding};
+use crate::sender::Sender;
 use crate::tables::Tables;
 use dtx_packets::Packet;
 use dtx_sizes::{
-    BRANCH_STEP, BRANCHES, CODERS, FIELD_PACKETS, GROUP_BYTES, GROUP_PACKETS, PRECODE,
+    BRANCH_STEP, BRANCHES, CODERS, CODEWORD, FIELD_PACKETS, GROUP_BYTES, GROUP_PACKETS, PACKET,
+    PRECODE,
 };
 use dtx_trellis::{States, Twelve};
 use std::alloc::{AllocError, Global};
 use std::marker::Model;
 
+/// How many packets are interleaved at once, where speed counts: a sixth of a field. Their codewords are whole turns
+/// over the branches, and long enough that each branch takes its bytes by copies.
+pub const BATCH_PACKETS: usize = 52;
+
+/// How many bytes their codewords have.
+pub const BATCH_BYTES: usize = CODEWORD * BATCH_PACKETS;
+
 /// Codes the packets of a stream, four at a time, to the symbols of their segments (ATSC A/53 Part 2).
 /// It is seen as the states of its twelve trellis coders, the last twelve symbols that it gave, and the interleaver's
 /// branches.
+///
+/// `group` does all at once. Where no group's states depend on what comes behind it, many packets may be interleaved
+/// by one call, and their groups then sent one by one: what comes out is the same (`laws::batches`).
 #[derive(Drop)]
 pub struct Coder {
     outer: OuterCoding,
-    twelve: Twelve,
-    last: [i8; PRECODE],
+    sender: Sender,
     /// What the last group became on its way: its codewords, one behind the other, in whose place the bytes that left
     /// the interleaver have come. They stand here since each group writes all of them anew, so that none has to clear
     /// them before.
@@ -36,7 +48,11 @@ impl Model for Coder {
 
     ghost Value = { Coding };
 
-    ghost view = { λ c. record { states = c.twelve; last = c.last; branches = c.outer.branches } };
+    ghost view = { λ c. record {
+      states = c.sender.twelve;
+      last = c.sender.last;
+      branches = c.outer.branches;
+    } };
 
     ghost invariant = { λ c. IsAtsc c.outer };
 }
@@ -55,8 +71,10 @@ impl Coder {
     {
         Ok(Coder {
             outer: new_outer_coding(alloc, tables)?,
-            twelve: Twelve::new(),
-            last: [-7; PRECODE],
+            sender: Sender {
+                twelve: Twelve::new(),
+                last: [-7; PRECODE],
+            },
             bytes: [0; GROUP_BYTES],
         })
     }
@@ -69,8 +87,8 @@ impl Coder {
         ensures last { length self.now.last ≡ PRECODE }
     {
         let _ = &self.outer;
-        let _ = self.twelve.states();
-        twelve_symbols(&self.last);
+        let _ = self.sender.twelve.states();
+        twelve_symbols(&self.sender.last);
     }
 
     /// The states of trellis coders 0 to 11.
@@ -79,7 +97,7 @@ impl Coder {
         ensures long { length result ≡ CODERS }
         ensures small { EachIndex result (λ e. slice_index result e < 8) }
     {
-        self.twelve.states()
+        self.sender.twelve.states()
     }
 
     /// The next byte goes to branch 0 of the interleaver. All else stays, the branches' bytes too.
@@ -114,10 +132,45 @@ impl Coder {
             IsCoded self.old given self.new air.new.segments air.new.symbols }
     {
         code_packets(&mut self.outer, first as usize, packets, &mut self.bytes);
-        start_from(&mut self.twelve, preset);
-        air.begin(sync, second, &self.last);
-        air.add_group(&mut self.twelve, first, &self.bytes);
-        self.last = air.last();
+        self.sender
+            .send(first, second, &self.bytes, preset, sync, air);
+    }
+
+    /// Sets `bytes` to those that leave the interleaver as the codewords of whole groups come, 207 for each packet. The
+    /// first packet stands at place `first` of its field, and all stand in this field. The states and the last symbols
+    /// stay: these groups are to be sent, one after another, before more are interleaved.
+    pub fn interleave(&mut self, first: u16, packets: &[[u8; PACKET]], bytes: &mut [u8])
+        requires whole { length packets.now % GROUP_PACKETS ≡ 0 }
+        requires in_field { first + length packets.now ≤ FIELD_PACKETS }
+        requires room { length bytes.old ≡ CODEWORD * length packets.now }
+        ensures { IsAhead self.old first packets.now bytes.new self.new }
+    {
+        interleave_packets(&mut self.outer, first as usize, packets, bytes);
+    }
+
+    /// Sends a group whose packets have left the interleaver as these bytes, as `group` does. The branches stay.
+    pub fn send(
+        &mut self,
+        first: u16,
+        second: bool,
+        bytes: &[u8; GROUP_BYTES],
+        preset: Option<States>,
+        sync: bool,
+        air: &mut Air,
+    )
+        requires in_field { first < FIELD_PACKETS }
+        requires whole { first % GROUP_PACKETS ≡ 0 }
+        requires begins { IsTrue sync → first ≡ 0 }
+        ensures { let given : InterleavedGroup = record {
+          first = first;
+          second = second;
+          sync = sync;
+          from = unwrap_or preset self.old.states;
+          bytes = bytes.now;
+        } in
+            IsSent self.old given self.new air.new.segments air.new.symbols }
+    {
+        self.sender.send(first, second, bytes, preset, sync, air);
     }
 }
 
@@ -125,12 +178,3 @@ impl Coder {
 fn twelve_symbols(last: &[i8; PRECODE])
     ensures { length last.now ≡ PRECODE }
 {}
-
-/// Puts the coders in the preset states, where there are some.
-fn start_from(twelve: &mut Twelve, preset: Option<States>)
-    ensures { twelve.new ≡ unwrap_or preset twelve.old }
-{
-    if let Some(states) = preset {
-        twelve.set(states);
-    }
-}

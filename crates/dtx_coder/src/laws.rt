@@ -12,6 +12,7 @@ ghost use Rattle.dtx_coder.specs.Groups.{Coding, Group, StandsFor, IsNextGroup, 
 ghost use Rattle.dtx_coder.specs.Groups.{after_group, air_segments, coded_groups, bytes_of_groups};
 ghost use Rattle.dtx_coder.specs.Runs.{AreStates};
 
+pub mod batches;
 pub mod runs;
 
 use crate::air::AIR_SEGMENTS;

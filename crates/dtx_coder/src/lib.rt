@@ -5,8 +5,9 @@ mod air;
 mod coder;
 pub mod laws;
 mod outer_coding;
+mod sender;
 mod tables;
 
 pub use air::{AIR_SEGMENTS, AIR_SYMBOLS, Air};
-pub use coder::Coder;
+pub use coder::{BATCH_BYTES, BATCH_PACKETS, Coder};
 pub use tables::Tables;

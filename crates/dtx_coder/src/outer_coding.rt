@@ -1,6 +1,6 @@
-//! The outer coding of a group's packets.
+//! The outer coding of packets.
 
-ghost use Rattle.std.specs.Prelude.{◌≡◌, ◌+◌, ◌≤◌, IfOk, drop, length, map};
+ghost use Rattle.std.specs.Prelude.{◌≡◌, ◌+◌, ◌*◌, ◌%◌, ◌≤◌, IfOk, drop, length, map};
 ghost use Rattle.dtx_laws.specs.Branches.{leaving_all, after_all};
 ghost use Rattle.dtx_whiten.specs.Randomizer.{randomizer_bytes};
 ghost use Rattle.dtx_coder.specs.Coded.{coded_from};
@@ -58,19 +58,83 @@ pub(crate) fn code_packets(
     } }
 {
     let heads = [
+        data_of(&packets[0].0),
+        data_of(&packets[1].0),
+        data_of(&packets[2].0),
+        data_of(&packets[3].0),
+    ];
+    outer.code_four(first, &heads, &mut bytes[..]);
+}
+
+/// Sets `bytes` to those that leave the interleaver as the codewords of packets come, the first of them packet `first`
+/// of its field. They go through the interleaver together.
+pub(crate) fn interleave_packets(
+    outer: &mut OuterCoding,
+    first: usize,
+    packets: &[[u8; PACKET]],
+    bytes: &mut [u8],
+)
+    requires white { outer.old.white ≡ randomizer_bytes }
+    requires whole { length packets.now % GROUP_PACKETS ≡ 0 }
+    requires in_field { first + length packets.now ≤ FIELD_PACKETS }
+    requires room { length bytes.old ≡ CODEWORD * length packets.now }
+    ensures bytes { bytes.new ≡ leaving_all BRANCHES outer.old.branches (coded_from first packets.now) }
+    ensures outer { outer.new ≡ record outer.old {
+      branches = after_all BRANCHES outer.old.branches (coded_from first packets.now);
+    } }
+{
+    encode_packets(outer, first, packets, bytes);
+    outer.interleave(bytes);
+}
+
+/// Sets `words` to the codewords of packets, one behind the other, the first of them packet `first` of its field.
+fn encode_packets(
+    outer: &OuterCoding,
+    first: usize,
+    packets: &[[u8; PACKET]],
+    words: &mut [u8],
+)
+    requires white { outer.now.white ≡ randomizer_bytes }
+    requires whole { length packets.now % GROUP_PACKETS ≡ 0 }
+    requires in_field { first + length packets.now ≤ FIELD_PACKETS }
+    requires room { length words.old ≡ CODEWORD * length packets.now }
+    ensures { words.new ≡ coded_from first packets.now }
+{
+    let (groups, _) = packets.as_chunks::<GROUP_PACKETS>();
+    for i in 0..groups.len() {
+        let at = GROUP_BYTES * i;
+        let place = first + GROUP_PACKETS * i;
+        encode_group(outer, place, &groups[i], &mut words[at..at + GROUP_BYTES]);
+    }
+}
+
+/// Those of four packets.
+#[inline(always)]
+fn encode_group(
+    outer: &OuterCoding,
+    first: usize,
+    packets: &[[u8; PACKET]; GROUP_PACKETS],
+    words: &mut [u8],
+)
+    requires white { outer.now.white ≡ randomizer_bytes }
+    requires in_field { first + GROUP_PACKETS ≤ FIELD_PACKETS }
+    requires room { length words.old ≡ GROUP_BYTES }
+    ensures { words.new ≡ coded_from first packets.now }
+{
+    let heads = [
         data_of(&packets[0]),
         data_of(&packets[1]),
         data_of(&packets[2]),
         data_of(&packets[3]),
     ];
-    outer.code_four(first, &heads, &mut bytes[..]);
+    outer.encode_four(first, &heads, words);
 }
 
 /// The data of a packet, which stand behind its sync byte.
 #[inline(always)]
-fn data_of(packet: &Packet) -> &[u8]
-    ensures behind { result.now ≡ drop 1 packet.now.0 }
-    ensures whole { length packet.now.0 ≡ PACKET }
+fn data_of(packet: &[u8; PACKET]) -> &[u8]
+    ensures behind { result.now ≡ drop 1 packet.now }
+    ensures whole { length packet.now ≡ PACKET }
 {
-    &packet.0[1..]
+    &packet[1..]
 }

@@ -1,10 +1,12 @@
 -- Lemmas of the packets of a file.
-use Rattle.std.proofs.Common.{◌≡◌, ℕ, ◌+◌, ◌-◌, ◌*◌, ◌<◌, ◌≤◌, List, [], length, get_or}
-use Rattle.std.proofs.Common.{take, drop, sym, ap, ◌∙◌, arith}
+use Rattle.std.proofs.Common.{◌≡◌, ℕ, zero, suc, ◌+◌, ◌-◌, ◌*◌, ◌/◌, ◌<◌, ◌≤◌, List, [], length, get_or}
+use Rattle.std.proofs.Common.{take, drop, refl, sym, ap, ◌∙◌, arith}
 use Rattle.std.specs.List.{All}
+use Rattle.std.specs.Simd.{first_chunks}
 use Rattle.std.proofs.lemmas.List.{take_at, length-drop, length-take-le}
 use Rattle.std.proofs.lemmas.List.Elements.{All-from_get_or}
-use Rattle.std.proofs.lemmas.List.FromFn.{get_or-map-range_with_len, length-map-range_with_len}
+use Rattle.std.proofs.lemmas.List.FromFn.{fill_by_all, get_or-map-range_with_len, length-map-range_with_len}
+use Rattle.dtx_packets.proofs.ChunksLemmas.{get_or-first_chunks}
 use Rattle.dtx_packets.proofs.PacketLemmas.{packets_from-append}
 use Rattle.dtx_packets.specs.Packets.{packet_at, packets_from, packets_of, whole_packets}
 
@@ -29,3 +31,14 @@ front_of file m within =
     ap (take m) (ap (packets_from file 0) (sym rest) ∙ packets_from-append file 0 m (whole_packets file - m))
     ∙ take_at (packets_from file 0 m) (packets_from file (0 + m) (whole_packets file - m)) m
     (length-map-range_with_len (packet_at file) 0 m)
+
+length-chunks : {X : Type 0} (n k : ℕ) (xs : List X) → length (first_chunks n k xs) ≡ k
+length-chunks n zero xs = refl
+length-chunks n (suc k) xs = ap (λ (m : ℕ). suc m) (length-chunks n k (drop n xs))
+
+-- the chunks of 188 bytes are packets
+pub packets_are : (bytes : List ℕ) → first_chunks 188 (length bytes / 188) bytes ≡ packets_of bytes
+packets_are bytes =
+    fill_by_all (packet_at bytes) (first_chunks 188 (whole_packets bytes) bytes) (whole_packets bytes) []
+    (length-chunks 188 (whole_packets bytes) bytes)
+    (λ k within. get_or-first_chunks 188 (whole_packets bytes) bytes k within)

@@ -8,7 +8,7 @@ packets = record { unit = 188; units = 348; group = 4; limit = 624000000 }
 
 -- packets of 188 bytes that are coded, in groups of four
 abbrev pub coded_packets : Shape
-coded_packets = record { unit = 188; units = 176; group = 4; limit = 624000000 }
+coded_packets = record { unit = 188; units = 208; group = 4; limit = 624000000 }
 
 -- packets of 188 bytes, each for itself
 abbrev pub single_packets : Shape

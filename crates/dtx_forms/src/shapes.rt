@@ -28,10 +28,10 @@ pub fn packets() -> Shape
     }
 }
 
-/// How many packets are read at once where symbols are made of them. The 146,432 symbols of their groups are more than
-/// a piece of the output, so that they go to its file without being gathered, but for parts of a page. More packets
-/// would save few calls of the system, and hold more memory.
-pub const CODED_PACKETS: usize = 176;
+/// How many packets are read at once where symbols are made of them: four batches of 52, which are interleaved each at
+/// once. The 173,056 symbols of their groups are more than a piece of the output, so that they go to its file without
+/// being gathered, but for parts of a page. More packets would save few calls of the system, and hold more memory.
+pub const CODED_PACKETS: usize = 208;
 
 /// Packets of 188 bytes that are coded, in groups of four.
 pub fn coded_packets() -> Shape

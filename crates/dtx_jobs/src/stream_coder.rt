@@ -1,38 +1,43 @@
 // Coding a stream, a piece of its packets at a time.
-ghost use Rattle.std.specs.Prelude.{◌≡◌, ◌+◌, ◌*◌, ◌/◌, ◌%◌, ◌<◌, ◌≤◌, ◌++◌, [], ℕ, List, length, map, take};
+ghost use Rattle.std.specs.Prelude.{◌≡◌, ◌+◌, ◌-◌, ◌*◌, ◌/◌, ◌%◌, ◌<◌, ◌≤◌, ◌++◌, [], ℕ, List, length, min, take};
+ghost use Rattle.dtx_coder.specs.Batches.{IsAhead};
 ghost use Rattle.dtx_coder.specs.Groups.{StandsFor};
 ghost use Rattle.dtx_coder.specs.Stream.{a53};
-ghost use Rattle.dtx_packets.specs.Packets.{packets_of, packets_from};
+ghost use Rattle.dtx_packets.specs.Packets.{packets_from};
+ghost use Rattle.dtx_jobs.specs.StreamCoder.{AreInterleaved};
 ghost use Rattle.dtx_jobs.specs.Symbols.{symbol_bytes};
 
 use crate::symbol_buffer::SymbolBuffer;
-use dtx_coder::{AIR_SYMBOLS, Air, Coder};
+use dtx_coder::{AIR_SYMBOLS, Air, BATCH_BYTES, BATCH_PACKETS, Coder};
 use dtx_engine::{Engine, Shape};
 use dtx_forms::{CODED_PACKETS, Transforming, coded_packets};
 use dtx_meaning::{Outcome, Status};
-use dtx_packets::Packet;
 use dtx_sizes::{
-    FIELD_PACKETS, FieldPlace, GROUP_PACKETS, MARK, MOST_PACKETS, PACKET, SEGMENT, SYNC,
-    field_place,
+    CODEWORD, FIELD_PACKETS, FieldPlace, GROUP_BYTES, GROUP_PACKETS, MARK, MOST_PACKETS, PACKET,
+    SEGMENT, SYNC, field_place,
 };
 use std::alloc::{AllocError, Global};
 
 /// How many groups a field has.
 const FIELD_GROUPS: u64 = (FIELD_PACKETS as usize / GROUP_PACKETS) as u64;
 
-/// How many bytes a group of packets has.
-const GROUP_BYTES: usize = PACKET * GROUP_PACKETS;
+/// How many groups a batch has at most.
+const BATCH_GROUPS: usize = BATCH_PACKETS / GROUP_PACKETS;
+
+/// How many bytes the packets of a group have.
+const FOUR_PACKETS: usize = PACKET * GROUP_PACKETS;
 
 /// How many symbols the groups of a piece have at most.
 const CODED_BYTES: usize = AIR_SYMBOLS * (CODED_PACKETS / GROUP_PACKETS);
 
 /// Codes a stream. Each piece begins with a group, and the packets behind the last whole group of the stream are not
-/// sent.
+/// sent. The packets of a piece are interleaved in batches, and their groups then sent one by one.
 #[derive(Drop)]
 pub(crate) struct StreamCoder {
     coder: Box<Coder>,
     air: Air,
-    group: [Packet; GROUP_PACKETS],
+    /// The last batch as it left the interleaver, 828 bytes for each of its groups.
+    batch: [u8; BATCH_BYTES],
     /// The symbols that the last piece brought.
     symbols: SymbolBuffer<CODED_BYTES>,
     /// How many packets were given.
@@ -48,36 +53,68 @@ impl StreamCoder {
         requires empty { self.old.symbols ≡ [] }
         ensures coder { (before : List (List ℕ)) → length before ≡ first → StandsFor self.old.coder.value before
             → StandsFor self.new.coder.value
-            (before ++ packets_from bytes.now 0 (GROUP_PACKETS * (length bytes.now / GROUP_BYTES))) }
+            (before ++ packets_from bytes.now 0 (GROUP_PACKETS * (length bytes.now / FOUR_PACKETS))) }
         ensures brought { (before : List (List ℕ)) → length before ≡ first → StandsFor self.old.coder.value before
-            → symbol_bytes (before ++ packets_from bytes.now 0 (GROUP_PACKETS * (length bytes.now / GROUP_BYTES)))
+            → symbol_bytes (before ++ packets_from bytes.now 0 (GROUP_PACKETS * (length bytes.now / FOUR_PACKETS)))
             ≡ symbol_bytes before ++ self.new.symbols }
         ensures packets { self.new.packets ≡ self.old.packets }
     {
-        let (groups, _) = bytes.as_chunks::<GROUP_BYTES>();
-        for i in 0..groups.len() {
-            cut_group(&groups[i], &mut self.group);
-            self.code_group(first + (GROUP_PACKETS * i) as u64);
+        let (packets, _) = bytes.as_chunks::<PACKET>();
+        let grouped = packets.len() - packets.len() % GROUP_PACKETS;
+        let mut done = 0;
+        while done < grouped {
+            let place = first + done as u64;
+            let end = done + batch_packets(place, grouped - done);
+            self.code_batch(place, &packets[done..end]);
+            done = end;
         }
     }
 
-    /// Codes the group, whose first packet has that number.
-    fn code_group(&mut self, first: u64)
+    /// Codes whole groups of one field, at most a batch, whose first packet has that number.
+    fn code_batch(&mut self, first: u64, packets: &[[u8; PACKET]])
         requires grouped { first % GROUP_PACKETS ≡ 0 }
-        requires room { length self.old.symbols + AIR_SYMBOLS ≤ CODED_BYTES }
+        requires whole { length packets.now % GROUP_PACKETS ≡ 0 }
+        requires few { length packets.now ≤ BATCH_PACKETS }
+        requires in_field { first % FIELD_PACKETS + length packets.now ≤ FIELD_PACKETS }
+        requires most { first + length packets.now ≤ MOST_PACKETS }
+        requires room { length self.old.symbols + AIR_SYMBOLS * (length packets.now / GROUP_PACKETS) ≤ CODED_BYTES }
         ensures coder { (before : List (List ℕ)) → length before ≡ first → StandsFor self.old.coder.value before
-            → StandsFor self.new.coder.value (before ++ map (λ p. p.0) self.old.group) }
+            → StandsFor self.new.coder.value (before ++ packets.now) }
         ensures brought { (before : List (List ℕ)) (bytes : List ℕ) → length before ≡ first
             → StandsFor self.old.coder.value before
             → symbol_bytes before ≡ bytes ++ self.old.symbols
-            → symbol_bytes (before ++ map (λ p. p.0) self.old.group) ≡ bytes ++ self.new.symbols }
+            → symbol_bytes (before ++ packets.now) ≡ bytes ++ self.new.symbols }
+        ensures long { length self.new.symbols
+            ≤ length self.old.symbols + AIR_SYMBOLS * (length packets.now / GROUP_PACKETS) }
+        ensures packets { self.new.packets ≡ self.old.packets }
+    {
+        let place = field_place(first).place;
+        interleave_front(&mut self.coder, place, packets, &mut self.batch[..]);
+        for i in 0..packets.len() / GROUP_PACKETS {
+            self.send_group(first + (GROUP_PACKETS * i) as u64, i);
+        }
+    }
+
+    /// Sends that group of the batch, whose first packet has that number.
+    fn send_group(&mut self, first: u64, group: usize)
+        requires grouped { first % GROUP_PACKETS ≡ 0 }
+        requires within { group < BATCH_GROUPS }
+        requires room { length self.old.symbols + AIR_SYMBOLS ≤ CODED_BYTES }
+        ensures sent { (before own rest : List (List ℕ)) → length before ≡ first → length own ≡ GROUP_PACKETS
+            → AreInterleaved self.old group before (own ++ rest)
+            → AreInterleaved self.new (group + 1) (before ++ own) rest }
+        ensures brought { (before own rest : List (List ℕ)) (bytes : List ℕ) → length before ≡ first
+            → length own ≡ GROUP_PACKETS → AreInterleaved self.old group before (own ++ rest)
+            → symbol_bytes before ≡ bytes ++ self.old.symbols
+            → symbol_bytes (before ++ own) ≡ bytes ++ self.new.symbols }
         ensures long { length self.new.symbols ≤ length self.old.symbols + AIR_SYMBOLS }
         ensures packets { self.new.packets ≡ self.old.packets }
     {
         let FieldPlace { place, second } = field_place(first);
         let sync = place == 0;
+        let (groups, _) = self.batch.as_chunks::<GROUP_BYTES>();
         self.coder
-            .group(place, second, &self.group, None, sync, &mut self.air);
+            .send(place, second, &groups[group], None, sync, &mut self.air);
         let count = SEGMENT * self.air.segments as usize;
         self.symbols.push(&self.air.symbols[..count]);
     }
@@ -155,7 +192,7 @@ impl Transforming for StreamCoder {
         Ok(StreamCoder {
             coder: Box::new(alloc, Coder::new(alloc)?)?,
             air: Air::new(),
-            group: [Packet([0; PACKET]); GROUP_PACKETS],
+            batch: [0; BATCH_BYTES],
             symbols: SymbolBuffer::new(alloc)?,
             packets: 0,
         })
@@ -164,14 +201,25 @@ impl Transforming for StreamCoder {
     ghost knows = { code_knows };
 }
 
-/// Sets the packets to those of a group's bytes.
-fn cut_group(bytes: &[u8; GROUP_BYTES], group: &mut [Packet; GROUP_PACKETS])
-    ensures { map (λ p. p.0) group.new ≡ packets_of bytes.now }
+/// Interleaves packets, the first at that place of its field, and puts the bytes that leave at the front of the batch.
+fn interleave_front(coder: &mut Coder, place: u16, packets: &[[u8; PACKET]], batch: &mut [u8])
+    requires whole { length packets.now % GROUP_PACKETS ≡ 0 }
+    requires in_field { place + length packets.now ≤ FIELD_PACKETS }
+    requires room { CODEWORD * length packets.now ≤ length batch.old }
+    ensures ahead { IsAhead coder.old place packets.now (take (CODEWORD * length packets.now) batch.new) coder.new }
+    ensures long { length batch.new ≡ length batch.old }
 {
-    let (packets, _) = bytes.as_chunks::<PACKET>();
-    for i in 0..GROUP_PACKETS {
-        group[i] = Packet(packets[i]);
-    }
+    let len = CODEWORD * packets.len();
+    coder.interleave(place, packets, &mut batch[..len]);
+}
+
+/// How many of these packets are interleaved at once, where the first one has that number: at most a batch, and none of
+/// the next field.
+fn batch_packets(first: u64, left: usize) -> usize
+    ensures { result ≡ min (min BATCH_PACKETS left) (FIELD_PACKETS - first % FIELD_PACKETS) }
+{
+    let field = FIELD_PACKETS - field_place(first).place;
+    BATCH_PACKETS.min(left).min(field as usize)
 }
 
 /// How many segments a stream of that many packets has: four for each whole group, and a field sync for each field that

@@ -1,5 +1,8 @@
--- The codewords of the data of four packets, as those that make them call them.
-use Rattle.std.proofs.Common.{◌≡◌, ℕ, ◌+◌, List, [], ◌∷◌, ◌++◌, length, get_or, refl, ap₂, arith}
+-- The codewords of the data of packets, as those that make them call them.
+use borrow.Rule.Slice.PartMut.{put_mid}
+use Rattle.std.proofs.Common.{◌≡◌, ℕ, ◌+◌, ◌≤◌, List, [], ◌∷◌, ◌++◌, length, take, drop, get_or, refl, sym, ap, ap₂, ◌∙◌}
+use Rattle.std.proofs.Common.{arith}
+use Rattle.std.proofs.lemmas.List.{append_assoc, length-append, length-take-le, take_at}
 use Rattle.std.specs.List.{concat, enumerate_from, flat_map}
 use Rattle.dtx_outer.specs.Coding.{coded_as, codewords}
 
@@ -20,3 +23,13 @@ four_made n k white s one two three four (a ∷ []) made l e1 e2 e3 e4 = absurd 
 four_made n k white s one two three four (a ∷ b ∷ []) made l e1 e2 e3 e4 = absurd (omega (arith, l))
 four_made n k white s one two three four (a ∷ b ∷ c ∷ []) made l e1 e2 e3 e4 = absurd (omega (arith, l))
 four_made n k white s one two three four (a ∷ b ∷ c ∷ d ∷ e ∷ ps) made l e1 e2 e3 e4 = absurd (omega (arith, l))
+
+-- words that are written behind those before them
+pub written_behind : (a k : ℕ) (words more : List ℕ) → a + k ≤ length words → length more ≡ k
+    → take (a + k) (put_mid a k words more) ≡ take a words ++ more
+written_behind a k words more within long =
+    let front : List ℕ = take a words in
+    let rest : List ℕ = drop k (drop a words) in
+    ap (take (a + k)) (sym (append_assoc front more rest))
+    ∙ take_at (front ++ more) rest (a + k)
+    (omega (arith, length-append front more, length-take-le a words (omega (arith, within)), long))

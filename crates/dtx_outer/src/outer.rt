@@ -111,10 +111,30 @@ impl<
               (concat (codewords N K self.old.white place (map (λ head. head.now) heads.now)));
         } }
     {
+        self.encode_four(place, heads, words);
+        self.interleave(words);
+    }
+
+    /// The codewords of four data of `K` bytes, one behind the other, whitened as packets `place` to `place` + 3 of the
+    /// whitener's period. The words, of `N` bytes each, are made where `words` is, whatever stands there before.
+    pub fn encode_four(&self, place: usize, heads: &[&[u8]; 4], words: &mut [u8])
+        requires long { (p : ℕ) → p < 4 → length (slice_index_or (map (λ head. head.now) heads.now) p []) ≡ K }
+        requires room { length words.old ≡ N * 4 }
+        requires within { K * (place + 4) ≤ W.PERIOD }
+        ensures { words.new ≡ concat (codewords N K self.now.white place (map (λ head. head.now) heads.now)) }
+    {
         self.known();
         self.begin_four(place, heads, words);
         self.code.complete_four(words);
-        self.spread.pass(words);
+    }
+
+    /// Replaces bytes, as many as there are, by those that leave the interleaver as they come. It makes no difference
+    /// in how many calls they come.
+    pub fn interleave(&mut self, bytes: &mut [u8])
+        ensures bytes { bytes.new ≡ leaving_all B self.old.branches bytes.old }
+        ensures branches { self.new ≡ record self.old { branches = after_all B self.old.branches bytes.old } }
+    {
+        self.spread.pass(bytes);
     }
 
     /// Writes the data where their words begin, whitened as packets `place` to `place` + 3 of the whitener's period.

@@ -1,15 +1,12 @@
--- Lists that are taken in chunks, and the packets of a piece as chunks.
-use Rattle.std.proofs.Common.{◌≡◌, ℕ, zero, suc, ◌+◌, ◌*◌, ◌/◌, ◌<◌, ◌≤◌, List, [], ◌∷◌, ◌++◌, length, get_or, take}
-use Rattle.std.proofs.Common.{drop, refl, sym, ap, ap₂, ◌∙◌, arith}
+-- Lists that are taken in chunks.
+use Rattle.std.proofs.Common.{◌≡◌, ℕ, zero, suc, ◌+◌, ◌*◌, ◌<◌, ◌≤◌, List, [], ◌∷◌, ◌++◌, length, get_or, take}
+use Rattle.std.proofs.Common.{drop, sym, ap, ap₂, ◌∙◌, arith}
 use Rattle.std.specs.List.{flat_map}
 use Rattle.std.specs.Simd.{first_chunks}
 use Rattle.std.proofs.Math.Seq.{take-add}
 use Rattle.std.proofs.lemmas.Grind.{flat_map-append}
 use Rattle.std.proofs.lemmas.List.{append_assoc, append-nil, length-append, length-take-le, take_more}
 use Rattle.std.proofs.lemmas.List.{take-append-drop}
-use Rattle.std.proofs.lemmas.List.FromFn.{fill_by_all}
-use Rattle.dtx_packets.proofs.ChunksLemmas.{get_or-first_chunks}
-use Rattle.dtx_packets.specs.Packets.{packet_at, packets_of, whole_packets}
 
 -- one element more of a list, behind others
 pub one_on : {X : Type 0} (before xs : List X) (i : ℕ) (d : X) → i < length xs
@@ -57,14 +54,3 @@ length-first n (c ∷ cs) (suc k) each within =
     ∙ ap₂ (λ (a b : ℕ). a + b) (each 0 (omega arith))
     (length-first n cs k (λ i l. each (suc i) (omega (arith, l))) (omega (arith, within)))
     ∙ next
-
-length-chunks : {X : Type 0} (n k : ℕ) (xs : List X) → length (first_chunks n k xs) ≡ k
-length-chunks n zero xs = refl
-length-chunks n (suc k) xs = ap (λ (m : ℕ). suc m) (length-chunks n k (drop n xs))
-
--- the chunks of 188 bytes are packets
-pub packets_are : (bytes : List ℕ) → first_chunks 188 (length bytes / 188) bytes ≡ packets_of bytes
-packets_are bytes =
-    fill_by_all (packet_at bytes) (first_chunks 188 (whole_packets bytes) bytes) (whole_packets bytes) []
-    (length-chunks 188 (whole_packets bytes) bytes)
-    (λ k within. get_or-first_chunks 188 (whole_packets bytes) bytes k within)

@@ -4,4 +4,4 @@ use Rattle.dtx_coder.proofs.outer_coding.data_of.Goals as goal
 
 pub returns-clause-behind : goal.returns-clause-behind
 returns-clause-behind c =
-    take_all 187 (drop 1 c.args.packet.now.0) (omega (arith, length-drop 1 c.args.packet.now.0))
+    take_all 187 (drop 1 c.args.packet.now) (omega (arith, length-drop 1 c.args.packet.now))

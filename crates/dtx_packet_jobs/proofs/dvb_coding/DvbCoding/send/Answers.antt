@@ -3,7 +3,8 @@ use Rattle.std.specs.List.{flat_map}
 use Rattle.std.proofs.lemmas.List.{length-append}
 use Rattle.dtx_packets.specs.Packets.{packets_of}
 use Rattle.dtx_packet_jobs.specs.DvbCoding.{IsSending}
-use Rattle.dtx_packet_jobs.proofs.DvbChunks.{chunks_and_rest, length-chunks_flat, packets_are}
+use Rattle.dtx_packet_jobs.proofs.DvbChunks.{chunks_and_rest, length-chunks_flat}
+use Rattle.dtx_forms.proofs.FilePacketsLemmas.{packets_are}
 use Rattle.dtx_packet_jobs.proofs.dvb_coding.DvbCoding.send.Goals as goal
 
 pub returns : goal.returns
