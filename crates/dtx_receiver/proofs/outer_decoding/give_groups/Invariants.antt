@@ -2,7 +2,7 @@ use Rattle.std.proofs.Common.{◌≡◌, ℕ, ◌+◌, ◌*◌, ◌≤◌, ◌++
 use Rattle.dtx_outer.specs.Inner.{StandsFor}
 use Rattle.dtx_receiver.specs.Packets.{early_of}
 use Rattle.dtx_receiver.specs.declared.batch.Received.{Received}
-use Rattle.dtx_receiver.proofs.outer_decoding.give_group.Given as goal
+use Rattle.dtx_receiver.proofs.outer_decoding.give_groups.Given as goal
 
 abbrev pub invariant-loop-p : goal.invariant-loop-p
 invariant-loop-p l = record {

@@ -4,7 +4,7 @@ use Rattle.std.proofs.Math.Seq.{take-add}
 use Rattle.std.proofs.lemmas.List.{take_all, length-append, length-drop, length-take-le}
 use Rattle.dtx_receiver.specs.Packets.{early_of}
 use Rattle.dtx_receiver.proofs.Giving.{gives, with_more}
-use Rattle.dtx_receiver.proofs.outer_decoding.give_group.Goals as goal
+use Rattle.dtx_receiver.proofs.outer_decoding.give_groups.Goals as goal
 
 next : (i : ℕ) → 207 * i + 207 ≡ 207 * (i + 1)
 next i = omega arith
