@@ -5,7 +5,9 @@ use Rattle.std.specs.List.{flat_map}
 use Rattle.std.proofs.lemmas.Grind.{flat_map-append}
 use Rattle.std.proofs.lemmas.List.{append-nil, length-append, length_push}
 use Rattle.dtx_slice.specs.Slicing.{sliced_data, sliced_last}
-use Rattle.dtx_slice.specs.Unrolled.{bytes_back, precoder_bits_after, precoder_bits_of}
+use Rattle.std.proofs.lemmas.List.FromFn.{length-map-range_with_len}
+use Rattle.dtx_slice.specs.Unrolled.{byte_back, bytes_back, level_groups, precoder_bits_after, precoder_bits_of}
+use Rattle.dtx_slice.proofs.JoinsLemmas.{groups_whole}
 use Rattle.dtx_receiver.specs.Bytes.{data_count, groups_of, bytes_in}
 use Rattle.dtx_receiver.specs.Receiver.{AreGrouped, AreLevels, Grouping}
 use Rattle.dtx_receiver.proofs.LevelsLemmas.{levels_first, levels_data, levels_group, Added, Whole}
@@ -18,6 +20,14 @@ grouping levels precoder_bits held = record { levels = levels; precoder_bits = p
 -- the bytes of groups, one behind the other
 abbrev pub flat : List (List ℕ) → List ℕ
 flat held = flat_map (λ bytes. bytes) held
+
+-- how many bytes a group has
+pub group_long : (first : ℕ) (bits levels : List ℕ) → length levels ≡ 3312
+    → length (bytes_back first bits levels) ≡ 828
+unfolding bytes_back
+group_long first bits levels l =
+    length-map-range_with_len (byte_back first bits levels) 0 (828 * level_groups levels)
+    ∙ ap (λ g. 828 * g) (groups_whole 1 levels l)
 
 flat_more : (held : List (List ℕ)) (bytes : List ℕ) → flat (held ++ bytes ∷ []) ≡ flat held ++ bytes
 flat_more held bytes =
@@ -52,23 +62,22 @@ grouped_data x kept new run given d n p l m e f h =
       long = ap (λ held. length (flat held)) h ∙ d.long ∙ ap (λ held. 828 * length held) (sym h);
     }
 
--- one that makes one whole, of these levels and these bytes
-pub grouped_group : (x : List ℤ) (kept new : Grouping) (run : List (List ℤ)) (given : List ℕ) (place : ℕ) (z bytes : List ℕ)
+-- one that makes one whole, of these levels
+pub grouped_group : (x : List ℤ) (kept new : Grouping) (run : List (List ℤ)) (given : List ℕ) (place : ℕ) (z : List ℕ)
     → Whole x kept.levels run place z → AreGrouped kept run given
     → new.levels ≡ z → new.precoder_bits ≡ precoder_bits_after (place - place % 4) kept.precoder_bits z
-    → bytes ≡ bytes_back (place - place % 4) kept.precoder_bits z → length bytes ≡ 828
-    → new.held ≡ kept.held ++ bytes ∷ [] → AreGrouped new (run ++ x ∷ []) given
-grouped_group x kept new run given place z bytes w d l f b long h =
+    → length (bytes_back (place - place % 4) kept.precoder_bits z) ≡ 828
+    → new.held ≡ kept.held ++ bytes_back (place - place % 4) kept.precoder_bits z ∷ []
+    → AreGrouped new (run ++ x ∷ []) given
+grouped_group x kept new run given place z w d l f long h =
     let a : Added x kept.precoder_bits run place z =
     levels_group x kept.levels kept.precoder_bits run place z w d.levels in
+    let bytes : List ℕ = bytes_back (place - place % 4) kept.precoder_bits z in
     record {
       levels = subst (λ (ls : List ℕ). AreLevels ls new.precoder_bits (run ++ x ∷ [])) (sym l)
           (subst (λ (bits : List ℕ). AreLevels z bits (run ++ x ∷ [])) (sym f) a.levels);
-      bytes = a.bytes
-          ∙ ap (λ xs. xs ++ bytes_back (place - place % 4) kept.precoder_bits z) d.bytes
-          ∙ append_assoc given (flat kept.held) (bytes_back (place - place % 4) kept.precoder_bits z)
-          ∙ ap (λ xs. given ++ xs) (ap (λ xs. flat kept.held ++ xs) (sym b) ∙ sym (flat_more kept.held bytes)
-          ∙ ap flat (sym h));
+      bytes = a.bytes ∙ ap (λ xs. xs ++ bytes) d.bytes ∙ append_assoc given (flat kept.held) bytes
+          ∙ ap (λ xs. given ++ xs) (sym (flat_more kept.held bytes) ∙ ap flat (sym h));
       long = ap (λ held. length (flat held)) h ∙ ap length (flat_more kept.held bytes)
           ∙ length-append (flat kept.held) bytes
           ∙ omega (arith, d.long, long, ap length h, length_push kept.held bytes);

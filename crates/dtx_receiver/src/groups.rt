@@ -1,8 +1,10 @@
 //! From the data segments of a run to the bytes of its groups, which are held until they are given on together.
 
-ghost use Rattle.std.specs.Prelude.{◌≡◌, ℕ, ℤ, ◌+◌, ◌*◌, ◌/◌, ◌%◌, ◌<◌, ◌≤◌, ◌++◌, ◌∷◌, [], List, length};
+ghost use Rattle.std.specs.Prelude.{◌≡◌, ℕ, ℤ, ◌+◌, ◌*◌, ◌/◌, ◌%◌, ◌<◌, ◌≤◌, ◌++◌, ◌∷◌, [], List, length, take};
+ghost use Rattle.std.specs.Prelude.{EachIndex, slice_index};
 ghost use Rattle.std.specs.List.{flat_map};
 ghost use Rattle.dtx_outer.specs.Inner.{StandsFor};
+ghost use Rattle.dtx_slice.specs.Unrolled.{bytes_back, precoder_bits_after};
 ghost use Rattle.dtx_whiten.specs.Randomizer.{randomizer_bytes};
 ghost use Rattle.dtx_receiver.specs.Packets.{early_of};
 ghost use Rattle.dtx_receiver.specs.Receiver.{AreGrouped};
@@ -93,9 +95,8 @@ impl Groups {
         let part = place % GROUP_SEGMENTS;
         put_levels(segment, part as usize, &mut self.levels);
         if part + 1 == GROUP_SEGMENTS {
-            let at = self.held;
-            self.unroll.group(place - part, &self.levels, &mut self.bytes[at]);
-            self.held = at + 1;
+            write_group(&mut self.unroll, place - part, &self.levels, &mut self.bytes, self.held);
+            self.held += 1;
         }
     }
 
@@ -122,4 +123,23 @@ impl Groups {
         give_groups(inner, self.bytes[..count].as_flattened_mut(), batch);
         count
     }
+}
+
+/// Writes the bytes of the group that begins at place `first` of its field to a place among those of others.
+fn write_group(
+    unroll: &mut Unroll,
+    first: u16,
+    levels: &[u8; GROUP_LEVELS],
+    groups: &mut [[u8; GROUP_BYTES]; HELD_GROUPS],
+    at: usize,
+)
+    requires in_field { first < FIELD_PACKETS }
+    requires whole { first % GROUP_PACKETS ≡ 0 }
+    requires small { EachIndex levels.now (λ d. slice_index levels.now d < 8) }
+    requires room { at < HELD_GROUPS }
+    ensures groups { take (at + 1) groups.new ≡ take at groups.old ++ bytes_back first unroll.old levels.now ∷ [] }
+    ensures long { length (bytes_back first unroll.old levels.now) ≡ GROUP_BYTES }
+    ensures precoder_bits { unroll.new ≡ precoder_bits_after first unroll.old levels.now }
+{
+    unroll.group(first, levels, &mut groups[at]);
 }

@@ -77,8 +77,33 @@ pub(crate) fn give_groups(inner: &mut OuterDecoding, bytes: &mut [u8], batch: &m
     let groups = bytes.len() / GROUP_BYTES;
     let mut heads = [[[0; PACKET_DATA]; 4]; HELD_GROUPS];
     let mut taken = [[Taken::None; 4]; HELD_GROUPS];
-    inner.take_fours(bytes, &mut heads[..groups], &mut taken[..groups]);
-    for p in 0..4 * groups {
+    give_through(inner, bytes, &mut heads[..groups], &mut taken[..groups], batch);
+}
+
+/// The same, through room for what each block gives.
+fn give_through(
+    inner: &mut OuterDecoding,
+    bytes: &mut [u8],
+    heads: &mut [[[u8; PACKET_DATA]; 4]],
+    taken: &mut [[Taken; 4]],
+    batch: &mut Batch,
+)
+    requires white { inner.old.white ≡ randomizer_bytes }
+    requires heads { length bytes.old ≡ GROUP_BYTES * length heads.old }
+    requires taken { length taken.old ≡ length heads.old }
+    requires most { length heads.old ≤ HELD_GROUPS }
+    requires none { batch.old.packets.items ≡ [] }
+    ensures white { inner.new.white ≡ randomizer_bytes }
+    ensures stands { (before : List ℕ) → StandsFor CODEWORD PACKET_DATA BRANCHES BRANCH_STEP inner.old before
+        → StandsFor CODEWORD PACKET_DATA BRANCHES BRANCH_STEP inner.new (before ++ bytes.old) }
+    ensures packets { (before : List ℕ) (given : List Received)
+        → StandsFor CODEWORD PACKET_DATA BRANCHES BRANCH_STEP inner.old before
+        → early_of before ≡ given ++ batch.old.packets.items
+        → early_of (before ++ bytes.old) ≡ given ++ batch.new.packets.items }
+    ensures few { CODEWORD * length batch.new.packets.items ≤ length bytes.old }
+{
+    inner.take_fours(bytes, heads, taken);
+    for p in 0..4 * heads.len() {
         hand(taken[p / 4][p % 4], &heads[p / 4][p % 4], batch);
     }
 }

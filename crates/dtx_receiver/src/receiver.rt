@@ -95,6 +95,7 @@ impl Receiver {
     fn take_data(&mut self, place: u16, segments: &[[u8; SEGMENT]], batch: &mut Batch) -> Progress
         requires place { self.old.place ≡ Some place }
         requires due { 0 < place }
+        requires within { place < FIELD_SEGMENTS }
         requires some { 0 < length segments.now }
         requires none { batch.old.packets.items ≡ [] }
         ensures some { 0 < result.segments }

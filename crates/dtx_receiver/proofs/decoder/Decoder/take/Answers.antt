@@ -17,10 +17,10 @@ returns-clause-stands c = λ run d e.
     let same = c.give-given.ensures.groups in
     decodes_given kept
     (decoding c.give-given.new.self.levels c.give-given.new.self.precoder_bits c.give-given.new.inner
-    c.turn_behind-self.result)
+    c.turn_behind-self-inside.result)
     c.take.new.self run (run ++ c.args.segment.now ∷ []) here g (ap (λ (k : Grouping). k.levels) same)
     (ap (λ (k : Grouping). k.precoder_bits) same)
-    (c.turn_behind-self.ensures.turn ∙ ap (λ n. (old.turn + 4 * n) % 52) c.give-given.ensures.count)
+    (c.turn_behind-self-inside.ensures.turn ∙ ap (λ n. (old.turn + 4 * n) % 52) c.give-given.ensures.count)
     (c.give-given.ensures.stands (bytes_in run) here.inner)
 
 pub returns-clause-packets : goal.returns-clause-packets

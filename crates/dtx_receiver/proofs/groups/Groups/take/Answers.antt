@@ -15,8 +15,10 @@ returns-then-part-eq-GROUP_SEGMENTS-clause-grouped c = λ run given d e.
     let w = whole_now c.args.segment.now old.levels run c.args.place c.put_levels.new.group e
     c.if-part-eq-GROUP_SEGMENTS.true c.self.told.0 (segment_long c.args.segment.now c.told-segment)
     c.put_levels.ensures.levels in
-    grouped_group c.args.segment.now kept _ run given c.args.place c.put_levels.new.group c.group.new.bytes w here
-    refl c.group.ensures.precoder_bits c.group.ensures.bytes ? ?
+    grouped_group c.args.segment.now kept
+    (grouping c.put_levels.new.group c.write_group.new.unroll (take (old.held + 1) c.write_group.new.groups)) run given
+    c.args.place c.put_levels.new.group w here refl c.write_group.ensures.precoder_bits c.write_group.ensures.long
+    c.write_group.ensures.groups
 
 pub returns-else-part-eq-GROUP_SEGMENTS-clause-grouped : goal.returns-else-part-eq-GROUP_SEGMENTS-clause-grouped
 returns-else-part-eq-GROUP_SEGMENTS-clause-grouped c = λ run given d e.

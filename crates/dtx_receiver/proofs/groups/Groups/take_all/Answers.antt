@@ -34,7 +34,7 @@ loop-i-preserved c =
     let segments : List (List ℕ) = c.args.segments.now in
     let l : i < length segments = c.loop-i-test.true in
     record {
-      long = ?;
+      long = omega (arith, c.to_symbols.auto.symbols, c.loop-i.invariant.long);
       grouped = λ run given d e.
           let x : List ℤ = c.to_symbols.new.symbols in
           let before = run ++ symbols_in (take i segments) in
