@@ -1,12 +1,13 @@
-use Rattle.std.proofs.Common.{◌≡◌, ◌*◌, ◌/◌, ◌<◌, ◌++◌, [], length, take, drop, get_or, ap, sym, subst, ◌∙◌, arith}
+use Rattle.std.proofs.Common.{◌≡◌, ◌+◌, ◌*◌, ◌/◌, ◌≤◌, ◌++◌, ℕ, ℤ, List, length, take, drop, ap, sym, subst, ◌∙◌, arith}
 use Rattle.std.proofs.Common.{append_assoc}
 use Rattle.std.proofs.lemmas.List.{append-nil}
-use Rattle.dtx_packets.proofs.ChunksLemmas.{get_or-first_chunks}
+use Rattle.dtx_receiver.specs.Symbols.{symbols_in}
 use Rattle.dtx_jobs.specs.Giving.{bytes_of}
 use Rattle.dtx_jobs.specs.GivingLaws.{bytes_of-append}
 use Rattle.dtx_jobs.specs.Reception.{IsReceiving}
 use Rattle.dtx_jobs.specs.SymbolFile.{segments_from}
-use Rattle.dtx_jobs.proofs.SymbolFileLemmas.{segment_on}
+use Rattle.dtx_jobs.specs.SymbolFileLaws.{segments_from-append}
+use Rattle.dtx_jobs.proofs.SymbolFileLemmas.{segments_of_chunks}
 use Rattle.dtx_jobs.proofs.reception.Reception.take_all.Goals as goal
 
 pub loop-done-init : goal.loop-done-init
@@ -37,8 +38,18 @@ loop-done-preserved g c =
     let taken = c.take_some.ensures in
     let fits : done + count ≤ units =
     omega (arith, taken.within, c.as_chunks.ensures.front_len, c.loop-done-test.true) in
-    let on : (before : List (List ℤ)) → (before ++ segments_from bytes 0 done) ++ symbols_in (take count ?)
-    ≡ before ++ segments_from bytes 0 (done + count) = ? in
+    let chunks : List (List ℕ) = c.as_chunks.result.0.now in
+    let front = c.as_chunks.ensures.front in
+    let zero : 0 + done ≡ done = omega arith in
+    let on : (before : List (List ℤ)) → (before ++ segments_from bytes 0 done) ++ symbols_in (take count (drop done chunks))
+    ≡ before ++ segments_from bytes 0 (done + count) =
+    λ before.
+    append_assoc before (segments_from bytes 0 done) (symbols_in (take count (drop done chunks)))
+    ∙ ap (λ z. before ++ z)
+    (ap (λ z. segments_from bytes 0 done ++ z) (ap (λ xs. symbols_in (take count (drop done xs))) front
+    ∙ segments_of_chunks bytes units done count fits (sym (ap length front) ∙ c.as_chunks.ensures.front_len))
+    ∙ sym (segments_from-append bytes 0 done count
+    ∙ ap (λ a. segments_from bytes 0 done ++ segments_from bytes a count) zero)) in
     record {
       within = fits;
       receiving = λ before is.
@@ -58,3 +69,21 @@ loop-done-preserved g c =
       count = omega (arith, taken.count, c.loop-done.invariant.count);
       room = omega (arith, taken.long, c.loop-done.invariant.room);
     }
+
+pub returns-clause-receiving : goal.returns-clause-receiving
+returns-clause-receiving g c = λ before is.
+    let bytes : List ℕ = c.args.bytes.now in
+    let end : c.loop-done.done ≡ length bytes / 832 =
+    omega (arith, c.loop-done-test.false, c.as_chunks.ensures.front_len, c.loop-done.invariant.within) in
+    subst (λ n. IsReceiving g.R.SegmentReceiver.giving
+    (g.R.SegmentReceiver.stands c.loop-done.self.receiver.value) c.loop-done.self.tally
+    (before ++ segments_from bytes 0 n)) end (c.loop-done.invariant.receiving before is)
+
+pub returns-clause-brought : goal.returns-clause-brought
+returns-clause-brought g c = λ before is.
+    let giving = g.R.SegmentReceiver.giving in
+    let bytes : List ℕ = c.args.bytes.now in
+    let end : c.loop-done.done ≡ length bytes / 832 =
+    omega (arith, c.loop-done-test.false, c.as_chunks.ensures.front_len, c.loop-done.invariant.within) in
+    subst (λ n. bytes_of (giving.so_far (before ++ segments_from bytes 0 n))
+    ≡ bytes_of (giving.so_far before) ++ c.loop-done.self.packets) end (c.loop-done.invariant.brought before is)
