@@ -1,15 +1,19 @@
 -- The blocks of packets, one after another, as the outer coding makes them.
-use Rattle.std.proofs.Common.{◌≡◌, ℕ, ◌*◌, ◌/◌, ◌%◌, ◌<◌, List, [], ◌∷◌, length, get_or, lit<, sym, ap, ap₂, ◌∙◌, arith}
+use borrow.Rule.Slice.PartMut.{put_mid}
+use Rattle.std.proofs.Common.{◌≡◌, ℕ, ◌+◌, ◌*◌, ◌/◌, ◌%◌, ◌<◌, ◌≤◌, List, [], ◌∷◌, ◌++◌, length, take, drop, get_or}
+use Rattle.std.proofs.Common.{refl, lit<, sym, ap, ap₂, ◌∙◌, arith}
 use Rattle.std.specs.List.{concat}
+use Rattle.std.proofs.Math.Seq.{take-add}
+use Rattle.std.proofs.lemmas.List.{length-drop, length-take-le}
 use Rattle.dtx_laws.specs.Words.{codeword}
 use Rattle.dtx_laws.specs.Whitening.{whitened}
 use Rattle.dtx_outer.specs.Coding.{coded_as, codewords}
-use Rattle.dtx_outer.proofs.CodingLemmas.{four_made}
+use Rattle.dtx_outer.proofs.CodingLemmas.{four_made, written_behind}
 use Rattle.dtx_outer.specs.Outer.{coded}
 use Rattle.dtx_dvb.specs.Randomizer.{randomizer_bytes}
 use Rattle.dtx_dvb.specs.RandomizerLaws.{length-randomizer_bytes}
 use Rattle.dtx_dvb.specs.Stream.{block_of, blocks_from}
-use Rattle.dtx_dvb.proofs.StreamLemmas.{randomized_whitened}
+use Rattle.dtx_dvb.proofs.StreamLemmas.{randomized_whitened, blocks_append, length-blocks}
 
 pub coded_is : (place : ℕ) (white packet : List ℕ) → white ≡ randomizer_bytes → length packet ≡ 188 → place < 8
     → coded 204 188 white (188 * place) packet ≡ block_of place packet
@@ -40,3 +44,26 @@ blocks_coded place white packets w four whole =
     each : (i : ℕ) → i < 4 → (k : ℕ)
         → coded_as 204 188 white k (get_or packets i []) ≡ block_of k (get_or packets i [])
     each i m k = coded_as_is k white (get_or packets i []) w (whole i m)
+
+pub words_none : (place : ℕ) → [] ≡ blocks_from place []
+unfolding blocks_from
+words_none place = refl
+
+-- more packets, in fours: the blocks of four are written, at a piece of that length, behind those before
+pub words_on : (place i size : ℕ) (ps : List (List ℕ)) (words four : List ℕ) → 4 * i + 4 ≤ length ps → size ≡ 816
+    → length words ≡ 204 * length ps
+    → take (816 * i) words ≡ blocks_from place (take (4 * i) ps)
+    → four ≡ blocks_from (place + 4 * i) (take 4 (drop (4 * i) ps))
+    → take (816 * (i + 1)) (put_mid (816 * i) size words four) ≡ blocks_from place (take (4 * (i + 1)) ps)
+words_on place i size ps words four within e long before is =
+    let long_four : length four ≡ 816 =
+    ap length is ∙ length-blocks (place + 4 * i) (take 4 (drop (4 * i) ps))
+    ∙ ap (λ (n : ℕ). 204 * n) (length-take-le 4 (drop (4 * i) ps) (omega (arith, length-drop (4 * i) ps, within))) in
+    ap₂ (λ m n. take n (put_mid (816 * i) m words four)) e (let f : 816 * (i + 1) ≡ 816 * i + 816 = omega arith in f)
+    ∙ written_behind (816 * i) 816 words four (omega (arith, long, within)) long_four
+    ∙ ap₂ ◌++◌ before is
+    ∙ ap (λ n. blocks_from place (take (4 * i) ps) ++ blocks_from (place + n) (take 4 (drop (4 * i) ps)))
+    (sym (length-take-le (4 * i) ps (omega (arith, within))))
+    ∙ sym (blocks_append place (take (4 * i) ps) (take 4 (drop (4 * i) ps)))
+    ∙ ap (blocks_from place) (sym (take-add (4 * i) 4 ps)
+    ∙ ap (λ n. take n ps) (let e : 4 * i + 4 ≡ 4 * (i + 1) = omega arith in e))

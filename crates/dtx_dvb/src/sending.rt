@@ -1,6 +1,6 @@
 //! From packets to the bytes that are sent.
 
-ghost use Rattle.std.specs.Prelude.{◌≡◌, ℕ, ◌+◌, ◌%◌, ◌<◌, ◌≤◌, ◌++◌, ◌∷◌, [], List, IfOk, length};
+ghost use Rattle.std.specs.Prelude.{◌≡◌, ℕ, ◌+◌, ◌*◌, ◌%◌, ◌<◌, ◌≤◌, ◌++◌, ◌∷◌, [], List, IfOk, length};
 ghost use Rattle.dtx_laws.specs.Branches.{leaving_all, after_all};
 ghost use Rattle.dtx_dvb.specs.Randomizer.{randomizer_bytes};
 ghost use Rattle.dtx_dvb.specs.Stream.{block_of, blocks_from, dvb, zero_branches};
@@ -71,10 +71,13 @@ impl DvbOut {
         self.outer.code(place as usize, &packet.0, out);
     }
 
-    /// The bytes that leave as four packets come that follow each other, the first of them at this place of a group of
-    /// eight. They are coded together.
-    pub fn four(&mut self, place: u8, packets: &[[u8; PACKET]; FOUR], out: &mut [u8; FOUR_BLOCKS])
-        requires { place + FOUR ≤ PERIOD_PACKETS }
+    /// The bytes that leave as packets come that follow each other, in fours, the first of them at this place of a group
+    /// of eight. They go through the interleaver together.
+    pub fn batch(&mut self, place: u8, packets: &[[u8; PACKET]], out: &mut [u8])
+        requires place { place < PERIOD_PACKETS }
+        requires aligned { place % FOUR ≡ 0 }
+        requires whole { length packets.now % FOUR ≡ 0 }
+        requires room { length out.old ≡ BLOCK * length packets.now }
         ensures bytes { out.new ≡ leaving_all BRANCHES self.old (blocks_from place packets.now) }
         ensures branches { self.new ≡ after_all BRANCHES self.old (blocks_from place packets.now) }
         ensures stream { (before : List (List ℕ)) → HasSent before self.old
@@ -82,12 +85,46 @@ impl DvbOut {
         ensures sent { (before : List (List ℕ)) → HasSent before self.old → place ≡ length before % PERIOD_PACKETS
             → HasSent (before ++ packets.now) self.new }
     {
-        let heads = [
-            &packets[0][..],
-            &packets[1][..],
-            &packets[2][..],
-            &packets[3][..],
-        ];
-        self.outer.code_four(place as usize, &heads, &mut out[..]);
+        encode_fours(&self.outer, place as usize, packets, out);
+        self.outer.interleave(out);
     }
+}
+
+/// Sets `words` to the blocks of packets, one behind the other, the first of them at this place of a group of eight.
+fn encode_fours(outer: &OuterCoding, place: usize, packets: &[[u8; PACKET]], words: &mut [u8])
+    requires white { outer.now.white ≡ randomizer_bytes }
+    requires place { place < PERIOD_PACKETS }
+    requires aligned { place % FOUR ≡ 0 }
+    requires whole { length packets.now % FOUR ≡ 0 }
+    requires room { length words.old ≡ BLOCK * length packets.now }
+    ensures { words.new ≡ blocks_from place packets.now }
+{
+    let (fours, _) = packets.as_chunks::<FOUR>();
+    for i in 0..fours.len() {
+        let at = FOUR_BLOCKS * i;
+        let from = (place + FOUR * i) % PERIOD_PACKETS;
+        encode_four(outer, from, &fours[i], &mut words[at..at + FOUR_BLOCKS]);
+    }
+}
+
+/// Those of four packets.
+#[inline(always)]
+fn encode_four(
+    outer: &OuterCoding,
+    place: usize,
+    packets: &[[u8; PACKET]; FOUR],
+    words: &mut [u8],
+)
+    requires white { outer.now.white ≡ randomizer_bytes }
+    requires place { place + FOUR ≤ PERIOD_PACKETS }
+    requires room { length words.old ≡ FOUR_BLOCKS }
+    ensures { words.new ≡ blocks_from place packets.now }
+{
+    let heads = [
+        &packets[0][..],
+        &packets[1][..],
+        &packets[2][..],
+        &packets[3][..],
+    ];
+    outer.encode_four(place, &heads, words);
 }

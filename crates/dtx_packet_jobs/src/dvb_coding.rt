@@ -5,7 +5,7 @@ ghost use Rattle.dtx_packets.specs.Packets.{packets_of};
 ghost use Rattle.dtx_packet_jobs.specs.DvbCoding.{IsSending};
 
 use crate::dvb_shapes::{DVB_PIECE_PACKETS, dvb_packets};
-use dtx_dvb::{BLOCK, DvbOut, FOUR, FOUR_BLOCKS, PERIOD_PACKETS};
+use dtx_dvb::{BLOCK, DvbOut, FOUR, PERIOD_PACKETS};
 use dtx_engine::{Buffer, Engine, Shape};
 use dtx_forms::Transforming;
 use dtx_meaning::{Outcome, Status};
@@ -16,10 +16,18 @@ use std::alloc::{AllocError, Global};
 /// How many bytes are sent of a piece at most.
 const SENT_BYTES: usize = BLOCK * DVB_PIECE_PACKETS;
 
-/// Sends a stream, four packets at once where they stand in one group of eight.
+/// How many packets go through the interleaver at once.
+const BATCH_PACKETS: usize = 32;
+
+/// How many bytes their blocks have.
+const BATCH_BYTES: usize = BLOCK * BATCH_PACKETS;
+
+/// Sends a stream, many packets at once where they stand in whole halves of groups of eight.
 #[derive(Drop)]
 pub(crate) struct DvbCoding {
     coder: Box<DvbOut>,
+    /// The last packets that went through the interleaver at once, as they left.
+    batch: [u8; BATCH_BYTES],
     /// What was sent of the last piece.
     sent: Buffer<SENT_BYTES>,
     /// How many packets were given.
@@ -35,41 +43,43 @@ impl DvbCoding {
             → IsSending self.old packets before → IsSending self.new (packets ++ packets_of bytes.now) before }
     {
         let (packets, _) = bytes.as_chunks::<PACKET>();
-        let (fours, rest) = packets.as_chunks::<FOUR>();
-        self.send_fours(first, fours);
-        self.send_each(first + (FOUR * fours.len()) as u64, rest);
+        let fours = in_fours(first, packets.len());
+        self.send_fours(first, &packets[..fours]);
+        self.send_each(first + fours as u64, &packets[fours..]);
     }
 
     /// Sends packets in fours, the first of which has that number.
-    fn send_fours(&mut self, first: u64, fours: &[[[u8; PACKET]; FOUR]])
-        requires room { length self.old.sent + FOUR_BLOCKS * length fours.now ≤ SENT_BYTES }
-        requires most { first + FOUR * length fours.now ≤ MOST_PACKETS }
-        ensures sent { (packets : List (List ℕ)) (before : List ℕ) → length packets ≡ first
-            → IsSending self.old packets before
-            → IsSending self.new (packets ++ flat_map (λ four. four) fours.now) before }
-        ensures long { length self.new.sent ≡ length self.old.sent + FOUR_BLOCKS * length fours.now }
+    fn send_fours(&mut self, first: u64, packets: &[[u8; PACKET]])
+        requires whole { length packets.now % FOUR ≡ 0 }
+        requires aligned { 0 < length packets.now → first % FOUR ≡ 0 }
+        requires room { length self.old.sent + BLOCK * length packets.now ≤ SENT_BYTES }
+        requires most { first + length packets.now ≤ MOST_PACKETS }
+        ensures sent { (given : List (List ℕ)) (before : List ℕ) → length given ≡ first
+            → IsSending self.old given before → IsSending self.new (given ++ packets.now) before }
+        ensures long { length self.new.sent ≡ length self.old.sent + BLOCK * length packets.now }
     {
-        for i in 0..fours.len() {
-            self.send_four(first + (FOUR * i) as u64, &fours[i]);
+        let mut done = 0;
+        while done < packets.len() {
+            let end = (done + BATCH_PACKETS).min(packets.len());
+            self.send_batch(first + done as u64, &packets[done..end]);
+            done = end;
         }
     }
 
-    /// Sends four packets, the first of which has that number: together, where they stand in one group of eight.
-    fn send_four(&mut self, first: u64, four: &[[u8; PACKET]; FOUR])
-        requires room { length self.old.sent + FOUR_BLOCKS ≤ SENT_BYTES }
-        requires most { first + FOUR ≤ MOST_PACKETS }
-        ensures sent { (packets : List (List ℕ)) (before : List ℕ) → length packets ≡ first
-            → IsSending self.old packets before → IsSending self.new (packets ++ four.now) before }
-        ensures long { length self.new.sent ≡ length self.old.sent + FOUR_BLOCKS }
+    /// Sends packets in fours together, the first of which has that number.
+    fn send_batch(&mut self, first: u64, packets: &[[u8; PACKET]])
+        requires whole { length packets.now % FOUR ≡ 0 }
+        requires aligned { first % FOUR ≡ 0 }
+        requires few { length packets.now ≤ BATCH_PACKETS }
+        requires room { length self.old.sent + BLOCK * length packets.now ≤ SENT_BYTES }
+        ensures sent { (given : List (List ℕ)) (before : List ℕ) → length given ≡ first
+            → IsSending self.old given before → IsSending self.new (given ++ packets.now) before }
+        ensures long { length self.new.sent ≡ length self.old.sent + BLOCK * length packets.now }
     {
-        let place = first % PERIOD_PACKETS as u64;
-        if place > (PERIOD_PACKETS - FOUR) as u64 {
-            self.send_each(first, four);
-            return;
-        }
-        let mut out = [0; FOUR_BLOCKS];
-        self.coder.four(place as u8, four, &mut out);
-        self.sent.push(&out);
+        let place = (first % PERIOD_PACKETS as u64) as u8;
+        let len = BLOCK * packets.len();
+        self.coder.batch(place, packets, &mut self.batch[..len]);
+        self.sent.push(&self.batch[..len]);
     }
 
     /// Sends packets one by one, the first of which has that number.
@@ -162,10 +172,21 @@ impl Transforming for DvbCoding {
     fn new(alloc: Global) -> Result<DvbCoding, AllocError> {
         Ok(DvbCoding {
             coder: Box::new(alloc, DvbOut::new(alloc)?)?,
+            batch: [0; BATCH_BYTES],
             sent: Buffer::new(alloc)?,
             packets: 0,
         })
     }
 
     ghost knows = { dvb_code_knows };
+}
+
+/// How many of so many packets stand in whole halves of groups of eight, where the first one has that number.
+fn in_fours(first: u64, count: usize) -> usize
+    ensures { result ≡ (if first % FOUR == 0 then FOUR * (count / FOUR) else 0) }
+{
+    if first % FOUR as u64 == 0 {
+        return FOUR * (count / FOUR);
+    }
+    0
 }

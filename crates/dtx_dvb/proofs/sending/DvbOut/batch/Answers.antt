@@ -1,25 +1,18 @@
-use Rattle.std.proofs.Common.{rules, ◌++◌, sym, ap, ap₂, ◌∙◌, subst}
+use Rattle.std.proofs.Common.{◌++◌, sym, ap, ap₂, ◌∙◌, subst}
 use Rattle.dtx_laws.specs.Branches.{leaving_all, after_all}
 use Rattle.dtx_outer.specs.Outer.{Held}
 use Rattle.dtx_dvb.specs.Stream.{dvb}
 use Rattle.dtx_dvb.specs.Sending.{HasSent}
 use Rattle.dtx_dvb.proofs.StreamLemmas.{bytes_more, sent_more}
-use Rattle.dtx_dvb.proofs.Blocks.{blocks_coded}
-use Rattle.dtx_dvb.proofs.sending.DvbOut.four.Goals as goal
+use Rattle.dtx_dvb.proofs.sending.DvbOut.batch.Goals as goal
 
 pub returns-clause-bytes : goal.returns-clause-bytes
-returns-clause-bytes c =
-    c.code_four.ensures.bytes
-    ∙ ap₂ (leaving_all 12) c.self.view_is
-    (blocks_coded c.args.place c.self.inside.outer.white c.args.packets.now c.self.invariant c.told-packets
-    (λ p l. search rules))
+returns-clause-bytes c = c.interleave.ensures.bytes ∙ ap₂ (leaving_all 12) c.self.view_is c.encode_fours.ensures
 
 pub returns-clause-branches : goal.returns-clause-branches
 returns-clause-branches c =
-    ap (λ (outer : Held). outer.branches) c.code_four.ensures.branches
-    ∙ ap₂ (after_all 12) c.self.view_is
-    (blocks_coded c.args.place c.self.inside.outer.white c.args.packets.now c.self.invariant c.told-packets
-    (λ p l. search rules))
+    ap (λ (outer : Held). outer.branches) c.interleave.ensures.branches
+    ∙ ap₂ (after_all 12) c.self.view_is c.encode_fours.ensures
 
 pub returns-clause-stream : goal.returns-clause-stream
 returns-clause-stream c = λ before h e.
