@@ -41,7 +41,8 @@ loop-done-preserved g c =
     let chunks : List (List ℕ) = c.as_chunks.result.0.now in
     let front = c.as_chunks.ensures.front in
     let zero : 0 + done ≡ done = omega arith in
-    let on : (before : List (List ℤ)) → (before ++ segments_from bytes 0 done) ++ symbols_in (take count (drop done chunks))
+    let on : (before : List (List ℤ))
+    → (before ++ segments_from bytes 0 done) ++ symbols_in (take count (drop done chunks))
     ≡ before ++ segments_from bytes 0 (done + count) =
     λ before.
     append_assoc before (segments_from bytes 0 done) (symbols_in (take count (drop done chunks)))
