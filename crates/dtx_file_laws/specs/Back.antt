@@ -1,0 +1,34 @@
+-- What comes back of the symbols of a stream (the profile's own; what is sent is that of ATSC A/53 Part 2). A packet is
+-- its list of 188 bytes.
+use Rattle.std.specs.Prelude.{ℕ, ◌+◌, ◌-◌, ◌*◌, ◌/◌, ◌%◌, ◌==◌, if◌then◌else◌, List, [], ◌∷◌, length, take}
+use Rattle.std.specs.List.{flat_map}
+use Rattle.dtx_chain.specs.Undamaged.{as_received}
+use Rattle.dtx_coder.specs.Stream.{a53}
+use Rattle.dtx_engine.specs.Made.{only, outputs_of}
+use Rattle.dtx_meaning.specs.Meaning.{Meaning}
+use Rattle.dtx_meaning.specs.declared.status.Status.TheVariants.{Done}
+
+-- How many packets come back of so many that are sent in whole groups of four: all but the last 52, or all but the last
+-- 51 where 52 divides their number. The bytes of a packet leave the interleaver over 52 packets.
+abbrev pub back_of_sent : ℕ → ℕ
+back_of_sent sent = sent - 52 + (if sent % 52 == 0 then 1 else 0)
+
+-- how many come back of a stream, of which whole groups are sent
+abbrev pub back_of_all : ℕ → ℕ
+back_of_all count = back_of_sent (4 * (count / 4))
+
+-- The packets that come back of a stream: its first ones, so many, one behind another, with 0x47 as their sync bytes.
+abbrev pub packets_back : List (List ℕ) → List ℕ
+packets_back packets = flat_map as_received (take (back_of_all (length packets)) packets)
+
+-- What `receive` and `mend` answer and write where all comes back: the segments, one run, the packets, the bytes put
+-- right, none flagged, and nothing loose.
+abbrev pub all_back : List (List ℕ) → List (List ℕ) → ℕ → Meaning
+all_back names packets fixed = record {
+  outcome = record {
+    status = Done;
+    numbers = length (a53 packets) ∷ 1 ∷ back_of_all (length packets) ∷ fixed ∷ 0 ∷ 0 ∷ 0 ∷ [];
+    shown = 6;
+  };
+  outputs = outputs_of names (only (packets_back packets));
+}

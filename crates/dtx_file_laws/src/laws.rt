@@ -1,0 +1,5 @@
+//! Laws of files that commands wrote and commands read.
+pub mod acquiring;
+pub mod air;
+pub mod dvb_bytes;
+pub mod exciting;
