@@ -1,0 +1,126 @@
+-- A call that is done over files that are told: what its words mean of the input's file is done, and its output is
+-- whole.
+use Rattle.std.proofs.Common.{◌≡◌, ◌⊎◌, ℕ, ◌%◌, ◌≤◌, ◌&&◌, cond, Bool, true, false, List, [], ◌∷◌, ◌++◌, refl, sym, ap}
+use Rattle.std.proofs.Common.{subst, ◌∙◌, inl, inr, nat_lt, length, arith}
+use Rattle.std.specs.Prelude.{Option, Some, None, IfSome, IsSomeAnd, codes}
+use Rattle.std.specs.FinMap.{get}
+use Rattle.std.specs.Str.{bytes_eq}
+use Rattle.std.proofs.lemmas.Bool.{ltb-false}
+use Rattle.dtx_engine.specs.Recipe.{Recipe, course_from, first_refused, first_units, meaning, meaning_at}
+use Rattle.dtx_engine.specs.Recipe.{meaning_of_file, transformed, whole_units}
+use Rattle.dtx_engine.specs.declared.engine.Shape.{Shape}
+use Rattle.dtx_engine.specs.declared.piece.Ending.TheVariants.{Refused, Whole}
+use Rattle.dtx_meaning.specs.Meaning.{IsAnswered, IsDone, Meaning, refused, with_outputs}
+use Rattle.dtx_meaning.specs.Status.{IsFault}
+use Rattle.dtx_meaning.specs.declared.status.Status.{Status}
+use Rattle.dtx_meaning.specs.declared.status.Status.TheVariants.{Done, Packet, Same, TooLong, Usage, WriteFault}
+use Rattle.dtx_outside.specs.Shelf.{Files, with_file}
+use Rattle.dtx_outside.proofs.FilesLemmas.{get-insert_same}
+use Rattle.dtx_words.specs.Fitting.{command_of, is_name}
+use Rattle.dtx_words.specs.declared.rows.Command.{Command}
+use Rattle.dtx_top.specs.Means.{means, means_of}
+use Rattle.dtx_file_laws.specs.Told.{Holds}
+
+-- ---- the answer
+
+-- an answer that all is done is the meaning's, and its outputs are whole
+pub answered_of : (m : Meaning) (start now : Option Files) (status : Status) (unprinted : Type 0)
+    → IsDone m start status unprinted now → status ≡ Done → IsAnswered m start status now
+answered_of m start now status unprinted is done = elim is [
+  | inl answered ↦ answered
+  | inr other ↦ elim other [
+    | inl faulted ↦ let P : Status → Type 0 = λ s. IsFault s in absurd (subst P done faulted.fault)
+    | inr alone ↦
+        let e : WriteFault ≡ Done = sym alone.answer ∙ done in
+        absurd (let no : ⊥ = cc in no)
+  ]
+]
+
+-- ---- the words
+
+-- words that fit that command or none fit it, where what they mean is done
+means_fit : (words : List (List ℕ)) (held : Files) (fit : Bool) (c : Command)
+    → command_of words ≡ cond fit (Some c) None → (means words held).outcome.status ≡ Done
+    → means words held ≡ means_of (Some c) words held
+means_fit words held fit c is done =
+    ap (λ (o : Option Command). means_of o words held) is
+    ∙ by_test fit (subst (λ (o : Option Command). (means_of o words held).outcome.status ≡ Done) is done)
+  where
+    by_test : (t : Bool) → (means_of (cond t (Some c) None) words held).outcome.status ≡ Done
+        → means_of (cond t (Some c) None) words held ≡ means_of (Some c) words held
+    by_test true d = refl
+    by_test false d = let e : Usage ≡ Done = d in absurd (let no : ⊥ = cc in no)
+
+-- of a command of one input and one output, whose input is there
+one_file : (shape : Shape) (recipe : Recipe) (input output file : List ℕ) (held : Files)
+    → get held input ≡ Some file → (transformed shape recipe input output held).outcome.status ≡ Done
+    → transformed shape recipe input output held ≡ meaning_of_file shape recipe (output ∷ []) file
+one_file shape recipe input output file held there done = by_test (bytes_eq input output) done
+  where
+    by_test : (t : Bool)
+        → (cond t (refused Same) (meaning shape recipe 0 (output ∷ []) (get held input))).outcome.status ≡ Done
+        → cond t (refused Same) (meaning shape recipe 0 (output ∷ []) (get held input))
+        ≡ meaning_of_file shape recipe (output ∷ []) file
+    by_test true d = let e : Same ≡ Done = d in absurd (let no : ⊥ = cc in no)
+    by_test false d = ap (meaning shape recipe 0 (output ∷ [])) there
+
+pub one_answered : (words : List (List ℕ)) (fit : Bool) (c : Command) (shape : Shape) (recipe : Recipe)
+    (input output file : List ℕ) (held : Files) (now : Option Files) (status : Status) (unprinted : Type 0)
+    → command_of words ≡ cond fit (Some c) None
+    → means_of (Some c) words held ≡ transformed shape recipe input output held → get held input ≡ Some file
+    → status ≡ Done → IsDone (means words held) (Some held) status unprinted now
+    → IsAnswered (meaning_of_file shape recipe (output ∷ []) file) (Some held) status now
+one_answered words fit c shape recipe input output file held now status unprinted is names there done carried =
+    let answered = answered_of (means words held) (Some held) now status unprinted carried done in
+    let own : (means words held).outcome.status ≡ Done = sym answered.answer ∙ done in
+    let e : means words held ≡ transformed shape recipe input output held = means_fit words held fit c is own ∙ names in
+    let all : means words held ≡ meaning_of_file shape recipe (output ∷ []) file =
+    e ∙ one_file shape recipe input output file held there
+    (subst (λ (m : Meaning). m.outcome.status ≡ Done) e own) in
+    subst (λ (m : Meaning). IsAnswered m (Some held) status now) all answered
+
+-- ---- the input
+
+-- all units of an input were allowed, and were not too many
+pub record IsReadWhole (shape : Shape) (recipe : Recipe) (file : List ℕ) : Type 0 where
+  pub allowed : first_refused shape recipe file ≡ None
+  pub few : whole_units shape file ≤ shape.limit
+
+pub read_whole : (shape : Shape) (recipe : Recipe) (names : List (List ℕ)) (file : List ℕ)
+    → (meaning_of_file shape recipe names file).outcome.status ≡ Done → IsReadWhole shape recipe file
+read_whole shape recipe names file done = by_refused (first_refused shape recipe file) refl done
+  where
+    by_size : (t : Bool) → nat_lt shape.limit (whole_units shape file) ≡ t
+        → (meaning_at recipe names (first_units shape file
+        (cond t (record { taken = shape.limit; ending = Refused TooLong })
+        (record { taken = whole_units shape file; ending = Whole (length file % shape.unit) })).taken)
+        (cond t (record { taken = shape.limit; ending = Refused TooLong })
+        (record { taken = whole_units shape file; ending = Whole (length file % shape.unit) })).ending).outcome.status
+        ≡ Done
+        → whole_units shape file ≤ shape.limit
+    by_size true e d = let no : TooLong ≡ Done = d in absurd (let n : ⊥ = cc in n)
+    by_size false e d = ltb-false shape.limit (whole_units shape file) e
+
+    by_refused : (o : Option ℕ) → first_refused shape recipe file ≡ o
+        → (meaning_at recipe names (first_units shape file (course_from shape file o).taken)
+        (course_from shape file o).ending).outcome.status ≡ Done
+        → IsReadWhole shape recipe file
+    by_refused (Some k) e d = let no : Packet k ≡ Done = d in absurd (let n : ⊥ = cc in n)
+    by_refused None e d = record {
+      allowed = e;
+      few = by_size (nat_lt shape.limit (whole_units shape file)) refl d;
+    }
+
+-- ---- the output
+
+pub one_holds : (m : Meaning) (name bytes : List ℕ) (held : Files) (now : Option Files) (status : Status)
+    → m.outputs ≡ (name, bytes) ∷ [] → IsAnswered m (Some held) status now → Holds now name bytes
+one_holds m name bytes held now status is answered =
+    let P : Option Files → Type 0 = λ (o : Option Files). Holds o name bytes in
+    subst P (sym (answered.files ∙ ap (λ outputs. with_outputs outputs (Some held)) is))
+    (get-insert_same held name bytes)
+
+-- what holds of the files of a shelf that tells them
+pub if_so : {X : Type 0} (o : Option X) (P Q : X → Type 0) → ((x : X) → P x → Q x) → IfSome o P → IfSome o Q
+if_so None P Q f h = h
+if_so (Some x) P Q f h = f x h

@@ -1,0 +1,8 @@
+-- What a file holds, where a shelf tells its files.
+use Rattle.std.specs.Prelude.{◌≡◌, ℕ, List, Option, Some, IsSomeAnd}
+use Rattle.std.specs.FinMap.{get}
+use Rattle.dtx_outside.specs.Shelf.{Files}
+
+-- the files are told, and the one of that name is there and holds these bytes
+abbrev pub Holds : Option Files → List ℕ → List ℕ → Type 0
+Holds files name bytes = IsSomeAnd files (λ held. get held name ≡ Some bytes)

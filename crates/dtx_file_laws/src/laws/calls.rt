@@ -1,0 +1,92 @@
+//! What `run` leaves of one command, where it is done over files that are told.
+
+ghost use Rattle.std.specs.Prelude.{◌≡◌, ◌∷◌, [], ℕ, IfSome, List, Some, codes};
+ghost use Rattle.std.specs.FinMap.{get};
+ghost use Rattle.dtx_engine.specs.Recipe.{meaning_of_file};
+ghost use Rattle.dtx_forms.specs.Shapes as shapes;
+ghost use Rattle.dtx_meaning.specs.Meaning.{IsAnswered};
+ghost use Rattle.dtx_packet_jobs.specs.DvbCode.{dvb_coding};
+ghost use Rattle.dtx_packet_jobs.specs.DvbRead.{dvb_reading};
+ghost use Rattle.dtx_packet_jobs.specs.DvbShapes as dvb;
+ghost use Rattle.dtx_jobs.specs.Code.{coding};
+ghost use Rattle.dtx_jobs.specs.Mend.{mending_symbols};
+ghost use Rattle.dtx_jobs.specs.Receive.{receiving};
+
+use dtx_outside::{Shelf, Sink, Word};
+use dtx_top::{Status, run};
+use std::alloc::Global;
+
+/// `code IN OUT`: what is made of IN's packets is done, and is what OUT holds.
+pub fn run_of_code<S: Shelf, O: Sink>(
+    alloc: Global,
+    words: &[Word],
+    shelf: &mut S,
+    out: &mut O,
+) -> Status
+    ensures { (input output file : List ℕ) → words.now ≡ codes "code" ∷ input ∷ output ∷ []
+        → IfSome (S.files shelf.old) (λ held. get held input ≡ Some file → result ≡ Status.Done
+        → IsAnswered (meaning_of_file shapes.coded_packets coding (output ∷ []) file) (Some held) result
+        (S.files shelf.new)) }
+{
+    run(alloc, words, shelf, out)
+}
+
+/// `receive IN OUT`: what is made of IN's symbols is done, and is what OUT holds.
+pub fn run_of_receive<S: Shelf, O: Sink>(
+    alloc: Global,
+    words: &[Word],
+    shelf: &mut S,
+    out: &mut O,
+) -> Status
+    ensures { (input output file : List ℕ) → words.now ≡ codes "receive" ∷ input ∷ output ∷ []
+        → IfSome (S.files shelf.old) (λ held. get held input ≡ Some file → result ≡ Status.Done
+        → IsAnswered (meaning_of_file shapes.segments receiving (output ∷ []) file) (Some held) result
+        (S.files shelf.new)) }
+{
+    run(alloc, words, shelf, out)
+}
+
+/// `mend IN OUT`: what is made of IN's symbols is done, and is what OUT holds.
+pub fn run_of_mend<S: Shelf, O: Sink>(
+    alloc: Global,
+    words: &[Word],
+    shelf: &mut S,
+    out: &mut O,
+) -> Status
+    ensures { (input output file : List ℕ) → words.now ≡ codes "mend" ∷ input ∷ output ∷ []
+        → IfSome (S.files shelf.old) (λ held. get held input ≡ Some file → result ≡ Status.Done
+        → IsAnswered (meaning_of_file shapes.segments mending_symbols (output ∷ []) file) (Some held) result
+        (S.files shelf.new)) }
+{
+    run(alloc, words, shelf, out)
+}
+
+/// `dvb code IN OUT`: what is made of IN's packets is done, and is what OUT holds.
+pub fn run_of_dvb_code<S: Shelf, O: Sink>(
+    alloc: Global,
+    words: &[Word],
+    shelf: &mut S,
+    out: &mut O,
+) -> Status
+    ensures { (input output file : List ℕ) → words.now ≡ codes "dvb" ∷ codes "code" ∷ input ∷ output ∷ []
+        → IfSome (S.files shelf.old) (λ held. get held input ≡ Some file → result ≡ Status.Done
+        → IsAnswered (meaning_of_file dvb.dvb_packets dvb_coding (output ∷ []) file) (Some held) result
+        (S.files shelf.new)) }
+{
+    run(alloc, words, shelf, out)
+}
+
+/// `dvb read IN OUT`: what is made of IN's blocks is done, and is what OUT holds.
+pub fn run_of_dvb_read<S: Shelf, O: Sink>(
+    alloc: Global,
+    words: &[Word],
+    shelf: &mut S,
+    out: &mut O,
+) -> Status
+    ensures { (input output file : List ℕ) → words.now ≡ codes "dvb" ∷ codes "read" ∷ input ∷ output ∷ []
+        → IfSome (S.files shelf.old) (λ held. get held input ≡ Some file → result ≡ Status.Done
+        → IsAnswered (meaning_of_file dvb.blocks dvb_reading (output ∷ []) file) (Some held) result
+        (S.files shelf.new)) }
+{
+    run(alloc, words, shelf, out)
+}
