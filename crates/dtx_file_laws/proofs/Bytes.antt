@@ -102,7 +102,7 @@ within_by : (count from : ℕ) (packets : List (List ℕ)) (file : List ℕ) (n 
 within_by count from packets file n long l missing (inl same) =
     absurd (never_both (is_missing (symbol_at (file_segments file) n)) missing
     (ap is_missing (same_symbol packets file n long l same) ∙ symbol_there packets n))
-within_by count from packets file n long l missing (inr gone) = gone.1
+within_by count from packets file n long l missing (inr gone) = (gone.1, gone.2)
 
 pub gap_of_symbols : (count from : ℕ) (packets : List (List ℕ)) (file : List ℕ)
     → IsGap count from (symbol_bytes packets) file → air.IsGap count from (a53 packets) (file_segments file)

@@ -1,3 +1,4 @@
+use Rattle.std.proofs.Common.{◌∙◌}
 use Rattle.dtx_coder.specs.Stream.{a53}
 use Rattle.dtx_jobs.specs.MendedBack.{put_right}
 use Rattle.dtx_jobs.specs.SymbolFile.{file_segments}
