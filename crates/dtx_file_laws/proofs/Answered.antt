@@ -4,10 +4,9 @@ use Rattle.std.proofs.Common.{◌≡◌, ◌⊎◌, ℕ, ◌%◌, ◌≤◌, ◌
 use Rattle.std.proofs.Common.{subst, ◌∙◌, inl, inr, nat_lt, length, arith}
 use Rattle.std.specs.Prelude.{Option, Some, None, IfSome, IsSomeAnd, codes}
 use Rattle.std.specs.FinMap.{get}
-use Rattle.std.specs.Str.{bytes_eq}
 use Rattle.std.proofs.lemmas.Bool.{ltb-false}
-use Rattle.dtx_engine.specs.Recipe.{Recipe, course_from, first_refused, first_units, meaning, meaning_at}
-use Rattle.dtx_engine.specs.Recipe.{meaning_of_file, transformed, whole_units}
+use Rattle.dtx_engine.specs.Recipe.{Course, Recipe, course_from, first_refused, first_units, meaning, meaning_at}
+use Rattle.dtx_engine.specs.Recipe.{meaning_of_file, whole_units}
 use Rattle.dtx_engine.specs.declared.engine.Shape.{Shape}
 use Rattle.dtx_engine.specs.declared.piece.Ending.TheVariants.{Refused, Whole}
 use Rattle.dtx_meaning.specs.Meaning.{IsAnswered, IsDone, Meaning, refused, with_outputs}
@@ -51,31 +50,30 @@ means_fit words held fit c is done =
     by_test true d = refl
     by_test false d = let e : Usage ≡ Done = d in absurd (let no : ⊥ = cc in no)
 
--- of a command of one input and one output, whose input is there
-one_file : (shape : Shape) (recipe : Recipe) (input output file : List ℕ) (held : Files)
-    → get held input ≡ Some file → (transformed shape recipe input output held).outcome.status ≡ Done
-    → transformed shape recipe input output held ≡ meaning_of_file shape recipe (output ∷ []) file
-one_file shape recipe input output file held there done = by_test (bytes_eq input output) done
-  where
-    by_test : (t : Bool)
-        → (cond t (refused Same) (meaning shape recipe 0 (output ∷ []) (get held input))).outcome.status ≡ Done
-        → cond t (refused Same) (meaning shape recipe 0 (output ∷ []) (get held input))
-        ≡ meaning_of_file shape recipe (output ∷ []) file
-    by_test true d = let e : Same ≡ Done = d in absurd (let no : ⊥ = cc in no)
-    by_test false d = ap (meaning shape recipe 0 (output ∷ [])) there
+-- what is meant of an input that is there, unless two names are equal
+abbrev pub unless : Bool → Shape → Recipe → List (List ℕ) → List ℕ → Files → Meaning
+unless same shape recipe names input held =
+    cond same (refused Same) (meaning shape recipe 0 names (get held input))
 
-pub one_answered : (words : List (List ℕ)) (fit : Bool) (c : Command) (shape : Shape) (recipe : Recipe)
-    (input output file : List ℕ) (held : Files) (now : Option Files) (status : Status) (unprinted : Type 0)
-    → command_of words ≡ cond fit (Some c) None
-    → means_of (Some c) words held ≡ transformed shape recipe input output held → get held input ≡ Some file
+of_file : (same : Bool) (shape : Shape) (recipe : Recipe) (names : List (List ℕ)) (input file : List ℕ) (held : Files)
+    → get held input ≡ Some file → (unless same shape recipe names input held).outcome.status ≡ Done
+    → unless same shape recipe names input held ≡ meaning_of_file shape recipe names file
+of_file true shape recipe names input file held there d =
+    let e : Same ≡ Done = d in absurd (let no : ⊥ = cc in no)
+of_file false shape recipe names input file held there d = ap (meaning shape recipe 0 names) there
+
+pub one_answered : (words : List (List ℕ)) (fit : Bool) (c : Command) (same : Bool) (shape : Shape) (recipe : Recipe)
+    (names : List (List ℕ)) (input file : List ℕ) (held : Files) (now : Option Files) (status : Status)
+    (unprinted : Type 0) → command_of words ≡ cond fit (Some c) None
+    → means_of (Some c) words held ≡ unless same shape recipe names input held → get held input ≡ Some file
     → status ≡ Done → IsDone (means words held) (Some held) status unprinted now
-    → IsAnswered (meaning_of_file shape recipe (output ∷ []) file) (Some held) status now
-one_answered words fit c shape recipe input output file held now status unprinted is names there done carried =
+    → IsAnswered (meaning_of_file shape recipe names file) (Some held) status now
+one_answered words fit c same shape recipe names input file held now status unprinted is reads there done carried =
     let answered = answered_of (means words held) (Some held) now status unprinted carried done in
     let own : (means words held).outcome.status ≡ Done = sym answered.answer ∙ done in
-    let e : means words held ≡ transformed shape recipe input output held = means_fit words held fit c is own ∙ names in
-    let all : means words held ≡ meaning_of_file shape recipe (output ∷ []) file =
-    e ∙ one_file shape recipe input output file held there
+    let e : means words held ≡ unless same shape recipe names input held = means_fit words held fit c is own ∙ reads in
+    let all : means words held ≡ meaning_of_file shape recipe names file =
+    e ∙ of_file same shape recipe names input file held there
     (subst (λ (m : Meaning). m.outcome.status ≡ Done) e own) in
     subst (λ (m : Meaning). IsAnswered m (Some held) status now) all answered
 
@@ -90,20 +88,23 @@ pub read_whole : (shape : Shape) (recipe : Recipe) (names : List (List ℕ)) (fi
     → (meaning_of_file shape recipe names file).outcome.status ≡ Done → IsReadWhole shape recipe file
 read_whole shape recipe names file done = by_refused (first_refused shape recipe file) refl done
   where
+    many : Course
+    many = record { taken = shape.limit; ending = Refused TooLong }
+
+    all : Course
+    all = record { taken = whole_units shape file; ending = Whole (length file % shape.unit) }
+
+    of_course : Course → Meaning
+    of_course c = meaning_at recipe names (first_units shape file c.taken) c.ending
+
     by_size : (t : Bool) → nat_lt shape.limit (whole_units shape file) ≡ t
-        → (meaning_at recipe names (first_units shape file
-        (cond t (record { taken = shape.limit; ending = Refused TooLong })
-        (record { taken = whole_units shape file; ending = Whole (length file % shape.unit) })).taken)
-        (cond t (record { taken = shape.limit; ending = Refused TooLong })
-        (record { taken = whole_units shape file; ending = Whole (length file % shape.unit) })).ending).outcome.status
-        ≡ Done
+        → (of_course (cond t many all)).outcome.status ≡ Done
         → whole_units shape file ≤ shape.limit
     by_size true e d = let no : TooLong ≡ Done = d in absurd (let n : ⊥ = cc in n)
     by_size false e d = ltb-false shape.limit (whole_units shape file) e
 
     by_refused : (o : Option ℕ) → first_refused shape recipe file ≡ o
-        → (meaning_at recipe names (first_units shape file (course_from shape file o).taken)
-        (course_from shape file o).ending).outcome.status ≡ Done
+        → (of_course (course_from shape file o)).outcome.status ≡ Done
         → IsReadWhole shape recipe file
     by_refused (Some k) e d = let no : Packet k ≡ Done = d in absurd (let n : ⊥ = cc in n)
     by_refused None e d = record {

@@ -18,6 +18,7 @@ use Rattle.dtx_meaning.specs.declared.status.Status.{Status}
 use Rattle.dtx_meaning.specs.declared.status.Status.TheVariants.{Done, NoSync}
 use Rattle.dtx_outside.specs.Shelf.{Files}
 use Rattle.dtx_packets.specs.Packets.{packet_at, packets_of, whole_packets}
+use Rattle.dtx_packet_jobs.proofs.PacketFileLemmas.{length-packets_of}
 use Rattle.dtx_jobs.specs.Code.{coding}
 use Rattle.dtx_jobs.proofs.GivenLemmas.{nothing_received}
 use Rattle.dtx_jobs.specs.Giving.{Giving, IsGiving, receiving_by}
@@ -34,11 +35,13 @@ use Rattle.dtx_file_laws.proofs.Whole.{count_segments}
 
 -- a file holds one list
 pub holds_one : (now : Option Files) (name a b : List ℕ) → Holds now name a → Holds now name b → a ≡ b
+holds_one None name a b h g = elim h [ ]
 holds_one (Some held) name a b h g = let e : Some a ≡ Some b = sym h ∙ g in cc
 
 -- what follows of a call over files that are told
 pub told_so : (start : Option Files) (name bytes : List ℕ) (P : Files → Type 0) (Q : Type 0) → Holds start name bytes
     → IfSome start P → ((held : Files) → start ≡ Some held → get held name ≡ Some bytes → P held → Q) → Q
+told_so None name bytes P Q there of so = elim there [ ]
 told_so (Some held) name bytes P Q there of so = so held refl there of
 
 -- ---- the packets of a file
@@ -108,3 +111,31 @@ given_is giving is packets start now got output file status long there done call
     let some = some_packets giving is (output ∷ []) packets file long (sym answered.answer ∙ done) in
     one_holds m output (packets_back packets) held now status
     (ap (λ (x : Meaning). x.outputs) (back some).1) answered)
+
+-- ---- both
+
+pub few_packets : (stream : List ℕ) → whole_packets stream ≤ 624000000 → length (packets_of stream) ≤ 624000000
+few_packets stream few = omega (arith, few, length-packets_of stream)
+
+-- whatever is received, where it is as long as what was sent, and all comes back of it
+pub back_through : (giving : Giving) → IsGiving giving → (start mid at now : Option Files)
+    (input sent got output stream symbols file : List ℕ) (coded given : Status) → Holds start input stream
+    → coded ≡ Done → Holds mid sent symbols
+    → IfSome start (λ held. get held input ≡ Some stream → coded ≡ Done
+    → IsAnswered (meaning_of_file coded_packets coding (sent ∷ []) stream) (Some held) coded mid)
+    → (symbols ≡ symbol_bytes (packets_of stream) → length (packets_of stream) ≤ 624000000
+    → (length file ≡ length (symbol_bytes (packets_of stream)))
+    × (4 ≤ length (packets_of stream) → (fixed : ℕ)
+    × (meaning_of_file segments (receiving_by giving) (output ∷ []) file
+    ≡ all_back (output ∷ []) (packets_of stream) fixed)))
+    → Holds at got file → given ≡ Done
+    → IfSome at (λ held. get held got ≡ Some file → given ≡ Done
+    → IsAnswered (meaning_of_file segments (receiving_by giving) (output ∷ []) file) (Some held) given now)
+    → Holds now output (packets_back (packets_of stream))
+back_through giving is start mid at now input sent got output stream symbols file coded given there done left call back
+    here given_done receive =
+    let of_code = sent_is start mid input sent stream coded there done call in
+    let same : symbols ≡ symbol_bytes (packets_of stream) =
+    holds_one mid sent symbols (symbol_bytes (packets_of stream)) left of_code.1 in
+    let all = back same (few_packets stream of_code.0) in
+    given_is giving is (packets_of stream) at now got output file given all.0 here given_done receive all.1

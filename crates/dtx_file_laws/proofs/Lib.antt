@@ -1,5 +1,12 @@
+pub mod Answered
+pub mod BothEnds
+pub mod ByWords
 pub mod Bytes
+pub mod CaptureEnds
+pub mod Captured
 pub mod Counted
+pub mod DvbEnds
+pub mod Excited
 pub mod Mendable
 pub mod Stretches
 pub mod There

@@ -1,16 +1,21 @@
 //! What a receiver's `run` gives back of what a sender's `run` left: statements that name no symbol, no codeword and no
 //! meaning of a command. Between the two the file is carried from one shelf to another, and may be damaged.
 
-ghost use Rattle.std.specs.Prelude.{◌≡◌, ◌≤◌, ◌∷◌, [], ℕ, List, codes, length};
+ghost use Rattle.std.specs.Prelude.{◌≡◌, ◌-◌, ◌*◌, ◌<◌, ◌≤◌, ◌∷◌, [], ℕ, List, codes, decimal, length, take};
 ghost use Rattle.dtx_galois.specs.Field.{AreBytes};
-ghost use Rattle.dtx_packets.specs.Packets.{packets_of};
+ghost use Rattle.dtx_packets.specs.Packets.{packets_of, whole_packets};
 ghost use Rattle.dtx_file_laws.specs.Back.{packets_back};
-ghost use Rattle.dtx_file_laws.specs.Damaged.{IsBurst, IsGap, SparesSyncs};
+ghost use Rattle.dtx_file_laws.specs.Damaged.{IsBurst, IsGap, IsNoisy, SparesSyncs};
 ghost use Rattle.dtx_file_laws.specs.Told.{Holds};
 
+use crate::laws::acquiring::a_noisy_capture_is_acquired;
 use crate::laws::air::{bursts_come_back, what_was_coded_is_received};
-use crate::laws::calls::{run_of_code, run_of_mend, run_of_receive};
+use crate::laws::calls::{run_of_acquire, run_of_code, run_of_dvb_code, run_of_dvb_read};
+use crate::laws::calls::{run_of_mend, run_of_receive};
+use crate::laws::dvb_bytes::a_burst_is_read;
 use dtx_outside::{Shelf, Sink, Word};
+use dtx_packet_jobs::laws::dvb_streams::all_is_sent;
+use dtx_symbol_laws::acquire_laws::{a_stream_is_acquired, all_is_acquired_of_a_file};
 use dtx_top::Status;
 use std::alloc::Global;
 
@@ -19,19 +24,19 @@ use std::alloc::Global;
 /// a row are wrong, if these spare the field syncs.
 pub fn run_of_code_and_receive<S: Shelf, R: Shelf, O: Sink>(
     alloc: Global,
-    words: (&[Word], &[Word]),
+    words: &(&[Word], &[Word]),
     sender: &mut S,
     receiver: &mut R,
     out: &mut O,
 ) -> (Status, Status)
     ensures undamaged { (input sent got output stream symbols : List ℕ)
-        → words.0.now ≡ codes "code" ∷ input ∷ sent ∷ [] → words.1.now ≡ codes "receive" ∷ got ∷ output ∷ []
+        → words.now.0.now ≡ codes "code" ∷ input ∷ sent ∷ [] → words.now.1.now ≡ codes "receive" ∷ got ∷ output ∷ []
         → AreBytes stream → Holds (S.files sender.old) input stream → result.0 ≡ Status.Done
         → Holds (S.files sender.new) sent symbols
         → Holds (R.files receiver.old) got symbols → result.1 ≡ Status.Done
         → Holds (R.files receiver.new) output (packets_back (packets_of stream)) }
     ensures burst { (input sent got output stream symbols file : List ℕ) (from : ℕ)
-        → words.0.now ≡ codes "code" ∷ input ∷ sent ∷ [] → words.1.now ≡ codes "receive" ∷ got ∷ output ∷ []
+        → words.now.0.now ≡ codes "code" ∷ input ∷ sent ∷ [] → words.now.1.now ≡ codes "receive" ∷ got ∷ output ∷ []
         → AreBytes stream → Holds (S.files sender.old) input stream → result.0 ≡ Status.Done
         → Holds (S.files sender.new) sent symbols
         → IsBurst 2022 from symbols file → SparesSyncs 2022 from (length file)
@@ -50,13 +55,13 @@ pub fn run_of_code_and_receive<S: Shelf, R: Shelf, O: Sink>(
 /// that come back.
 pub fn run_of_code_and_mend<S: Shelf, R: Shelf, O: Sink>(
     alloc: Global,
-    words: (&[Word], &[Word]),
+    words: &(&[Word], &[Word]),
     sender: &mut S,
     receiver: &mut R,
     out: &mut O,
 ) -> (Status, Status)
     ensures { (input sent got output stream symbols file : List ℕ) (from : ℕ)
-        → words.0.now ≡ codes "code" ∷ input ∷ sent ∷ [] → words.1.now ≡ codes "mend" ∷ got ∷ output ∷ []
+        → words.now.0.now ≡ codes "code" ∷ input ∷ sent ∷ [] → words.now.1.now ≡ codes "mend" ∷ got ∷ output ∷ []
         → AreBytes stream → Holds (S.files sender.old) input stream → result.0 ≡ Status.Done
         → Holds (S.files sender.new) sent symbols
         → IsGap 4141 from symbols file → SparesSyncs 4141 from (length file)
@@ -67,4 +72,51 @@ pub fn run_of_code_and_mend<S: Shelf, R: Shelf, O: Sink>(
     let sent = run_of_code(alloc, words.0, sender, out);
     let mended = run_of_mend(alloc, words.1, receiver, out);
     (sent, mended)
+}
+
+/// `code IN SENT` over a sender's files, and then `acquire SCALE GOT OUT` over a receiver's, with both answers `Done`.
+/// Where each sample of GOT differs from SCALE times the symbol of SENT by less than SCALE, OUT is SENT, byte for byte.
+pub fn run_of_code_and_acquire<S: Shelf, R: Shelf, O: Sink>(
+    alloc: Global,
+    words: &(&[Word], &[Word]),
+    sender: &mut S,
+    receiver: &mut R,
+    out: &mut O,
+) -> (Status, Status)
+    ensures { (input sent got output stream symbols file : List ℕ) (scale : ℕ)
+        → words.now.0.now ≡ codes "code" ∷ input ∷ sent ∷ []
+        → words.now.1.now ≡ codes "acquire" ∷ decimal scale ∷ got ∷ output ∷ [] → 0 < scale → scale ≤ 18
+        → Holds (S.files sender.old) input stream → result.0 ≡ Status.Done → Holds (S.files sender.new) sent symbols
+        → IsNoisy scale symbols file → Holds (R.files receiver.old) got file → result.1 ≡ Status.Done
+        → Holds (R.files receiver.new) output symbols }
+{
+    a_noisy_capture_is_acquired();
+    a_stream_is_acquired();
+    all_is_acquired_of_a_file();
+    let sent = run_of_code(alloc, words.0, sender, out);
+    let acquired = run_of_acquire(alloc, words.1, receiver, out);
+    (sent, acquired)
+}
+
+/// `dvb code IN SENT` over a sender's files, and then `dvb read GOT OUT` over a receiver's, with both answers `Done`.
+/// Where GOT is SENT with at most 96 wrong bytes in a row, OUT is IN's whole packets but the last eleven.
+pub fn run_of_dvb_code_and_read<S: Shelf, R: Shelf, O: Sink>(
+    alloc: Global,
+    words: &(&[Word], &[Word]),
+    sender: &mut S,
+    receiver: &mut R,
+    out: &mut O,
+) -> (Status, Status)
+    ensures { (input sent got output stream bytes file : List ℕ) (from : ℕ)
+        → words.now.0.now ≡ codes "dvb" ∷ codes "code" ∷ input ∷ sent ∷ []
+        → words.now.1.now ≡ codes "dvb" ∷ codes "read" ∷ got ∷ output ∷ [] → AreBytes stream
+        → Holds (S.files sender.old) input stream → result.0 ≡ Status.Done → Holds (S.files sender.new) sent bytes
+        → IsBurst 96 from bytes file → Holds (R.files receiver.old) got file → result.1 ≡ Status.Done
+        → Holds (R.files receiver.new) output (take (188 * (whole_packets stream - 11)) stream) }
+{
+    all_is_sent();
+    a_burst_is_read();
+    let sent = run_of_dvb_code(alloc, words.0, sender, out);
+    let read = run_of_dvb_read(alloc, words.1, receiver, out);
+    (sent, read)
 }

@@ -1,6 +1,6 @@
 //! What `run` leaves of one command, where it is done over files that are told.
 
-ghost use Rattle.std.specs.Prelude.{◌≡◌, ◌∷◌, [], ℕ, IfSome, List, Some, codes};
+ghost use Rattle.std.specs.Prelude.{◌≡◌, ◌<◌, ◌≤◌, ◌∷◌, [], ℕ, IfSome, List, Some, codes, decimal};
 ghost use Rattle.std.specs.FinMap.{get};
 ghost use Rattle.dtx_engine.specs.Recipe.{meaning_of_file};
 ghost use Rattle.dtx_forms.specs.Shapes as shapes;
@@ -8,7 +8,9 @@ ghost use Rattle.dtx_meaning.specs.Meaning.{IsAnswered};
 ghost use Rattle.dtx_packet_jobs.specs.DvbCode.{dvb_coding};
 ghost use Rattle.dtx_packet_jobs.specs.DvbRead.{dvb_reading};
 ghost use Rattle.dtx_packet_jobs.specs.DvbShapes as dvb;
+ghost use Rattle.dtx_jobs.specs.Acquire.{acquiring};
 ghost use Rattle.dtx_jobs.specs.Code.{coding};
+ghost use Rattle.dtx_jobs.specs.Excite.{exciting};
 ghost use Rattle.dtx_jobs.specs.Mend.{mending_symbols};
 ghost use Rattle.dtx_jobs.specs.Receive.{receiving};
 
@@ -87,6 +89,39 @@ pub fn run_of_dvb_read<S: Shelf, O: Sink>(
         → IfSome (S.files shelf.old) (λ held. get held input ≡ Some file → result ≡ Status.Done
         → IsAnswered (meaning_of_file dvb.blocks dvb_reading (output ∷ []) file) (Some held) result
         (S.files shelf.new)) }
+{
+    run(alloc, words, shelf, out)
+}
+
+/// `acquire SCALE IN OUT`: what is made of IN's samples is done, and is what OUT holds.
+pub fn run_of_acquire<S: Shelf, O: Sink>(
+    alloc: Global,
+    words: &[Word],
+    shelf: &mut S,
+    out: &mut O,
+) -> Status
+    ensures { (scale : ℕ) (input output file : List ℕ)
+        → words.now ≡ codes "acquire" ∷ decimal scale ∷ input ∷ output ∷ [] → 0 < scale → scale ≤ 18
+        → IfSome (S.files shelf.old) (λ held. get held input ≡ Some file → result ≡ Status.Done
+        → IsAnswered (meaning_of_file shapes.single_bytes (acquiring scale) (output ∷ []) file) (Some held) result
+        (S.files shelf.new)) }
+{
+    run(alloc, words, shelf, out)
+}
+
+/// `excite FEED ADDRESS DELAY OUT LOG`: what is made of FEED's packets is done, and is what OUT and LOG hold.
+pub fn run_of_excite<S: Shelf, O: Sink>(
+    alloc: Global,
+    words: &[Word],
+    shelf: &mut S,
+    out: &mut O,
+) -> Status
+    ensures { (address delay : ℕ) (input output log file : List ℕ)
+        → words.now ≡ codes "excite" ∷ input ∷ decimal address ∷ decimal delay ∷ output ∷ log ∷ []
+        → address ≤ 65535 → delay ≤ 4294967295
+        → IfSome (S.files shelf.old) (λ held. get held input ≡ Some file → result ≡ Status.Done
+        → IsAnswered (meaning_of_file shapes.coded_packets (exciting address delay) (output ∷ log ∷ []) file)
+        (Some held) result (S.files shelf.new)) }
 {
     run(alloc, words, shelf, out)
 }

@@ -1,6 +1,6 @@
 //! What `excite` makes of the file of a feed (the profile's own, over ATSC A/53 Part 2 and in the manner of ATSC A/110).
 
-ghost use Rattle.std.specs.Prelude.{◌≡◌, ◌+◌, ◌≤◌, ◌++◌, [], ℕ, List, slice_range};
+ghost use Rattle.std.specs.Prelude.{◌≡◌, ◌≢◌, ◌+◌, ◌≤◌, ◌∷◌, ◌++◌, [], ℕ, List, codes, decimal, slice_range};
 ghost use Rattle.dtx_adapter.specs.Feed.{feed};
 ghost use Rattle.dtx_engine.specs.Made.{both, only};
 ghost use Rattle.dtx_engine.specs.Recipe.{meaning_of_file};
@@ -14,9 +14,14 @@ ghost use Rattle.dtx_packets.specs.Packets.{packets_of, whole_packets};
 ghost use Rattle.dtx_plan.specs.declared.plan.Plan.{Plan};
 ghost use Rattle.dtx_plan.specs.declared.transmitter.Transmitter.{Transmitter};
 ghost use Rattle.dtx_repeated_feed.specs.DoneWith.{IsDoneWith};
+ghost use Rattle.dtx_file_laws.specs.Told.{Holds};
 
+use crate::laws::calls::run_of_excite;
 use dtx_network::laws::from_a_mark;
+use dtx_outside::{Shelf, Sink, Word};
 use dtx_sizes::MOST_PACKETS;
+use dtx_top::Status;
+use std::alloc::Global;
 
 /// Of a file with the packets of a feed from one of its marks on, in front of which packets without a mark may stand,
 /// `excite` writes the feed's own symbols and presets, for each transmitter that the plan lists and each delay that is
@@ -42,4 +47,28 @@ pub fn a_feed_is_sent()
         (meaning_of_file shapes.coded_packets (exciting t.address delay) names file) }
 {
     from_a_mark();
+}
+
+/// `excite FEED ADDRESS DELAY OUT LOG` over files that are told, where the answer is `Done`: FEED and the transmitter
+/// being as `a_feed_is_sent` asks, and OUT and LOG two files, these hold the feed's own symbols and presets. So of two
+/// transmitters whose first listing is the same, both symbol files are one list of bytes, and their logs differ in the
+/// moments alone.
+pub fn run_of_excite_of_a_feed<S: Shelf, O: Sink>(
+    alloc: Global,
+    words: &[Word],
+    shelf: &mut S,
+    out: &mut O,
+) -> Status
+    ensures { (plan : Plan) (stream : List (List ℕ)) (t : Transmitter) (delay : ℕ) (earlier : List (List ℕ))
+        (mark n k : ℕ) (input output log file : List ℕ)
+        → words.now ≡ codes "excite" ∷ input ∷ decimal t.address ∷ decimal delay ∷ output ∷ log ∷ []
+        → t.address ≤ 65535 → delay ≤ 4294967295 → output ≢ log → IsFedAnew plan stream t delay earlier mark n
+        → packets_of file ≡ earlier ++ slice_range (feed plan stream) mark (mark + n)
+        → IsFirstListing t.address (feed plan stream) mark (mark + n) k
+        → Holds (S.files shelf.old) input file → result ≡ Status.Done
+        → Holds (S.files shelf.new) output (segment_bytes (stretch_of (feed plan stream) k (mark + n)))
+        × Holds (S.files shelf.new) log (log_text (presets plan t.offset 0 (feed plan stream) k (mark + n))) }
+{
+    a_feed_is_sent();
+    run_of_excite(alloc, words, shelf, out)
 }

@@ -1,4 +1,4 @@
-use Rattle.std.specs.Prelude.{[]}
+use Rattle.std.specs.Prelude.{◌+◌, []}
 use Rattle.dtx_adapter.specs.Feed.{feed}
 use Rattle.dtx_network.specs.Headline.{stretch_of}
 use Rattle.dtx_network.specs.Presets.{presets}
