@@ -1,19 +1,15 @@
 -- What the words of each command mean, where it is done.
-use Rattle.std.proofs.Common.{◌≡◌, ℕ, ◌^◌, ◌<◌, ◌≤◌, ◌&&◌, true, List, [], ◌∷◌, refl, sym, ap, ap₂, ◌∙◌, subst, arith}
+use Rattle.std.proofs.Common.{◌≡◌, ◌≢◌, ℕ, ◌^◌, ◌<◌, ◌≤◌, ◌&&◌, not, Bool, true, false, List, [], ◌∷◌, length}
+use Rattle.std.proofs.Common.{refl, sym, ap, ap₂, ◌∙◌, subst, arith}
 use Rattle.std.specs.Prelude.{Option, Some, None, codes, decimal, is_some, nat_le}
-use Rattle.std.specs.FinMap.{get}
 use Rattle.std.specs.Str.{bytes_eq}
 use Rattle.std.specs.Str.Parse.{AllDigits, digits_value}
-use Rattle.std.proofs.lemmas.Bool.{and_from, cond-true, le-leb}
+use Rattle.std.proofs.lemmas.Bool.{and_from, cond-true, le-leb, ne_eqb}
 use Rattle.std.proofs.lemmas.Fmt.{digits_value-decimal}
 use Rattle.std.proofs.lemmas.Slice.Eq.{bytes_eq-Decides}
 use Rattle.std.proofs.lemmas.Str.Parse.{IsNumeralModel, numerals_by_value, tells_digits}
-use Rattle.dtx_engine.specs.Recipe.{meaning_of_file}
 use Rattle.dtx_forms.specs.Shapes.{coded_packets, segments, single_bytes}
 use Rattle.dtx_forms.specs.Transmit.{transmit_with}
-use Rattle.dtx_meaning.specs.Meaning.{IsAnswered, IsDone}
-use Rattle.dtx_meaning.specs.declared.status.Status.{Status}
-use Rattle.dtx_meaning.specs.declared.status.Status.TheVariants.{Done}
 use Rattle.dtx_outside.specs.Shelf.{Files}
 use Rattle.dtx_packet_jobs.specs.DvbCode.{dvb_coding}
 use Rattle.dtx_packet_jobs.specs.DvbRead.{dvb_reading}
@@ -27,53 +23,65 @@ use Rattle.dtx_words.specs.Fitting.{is_name}
 use Rattle.dtx_words.specs.Names.{repeated}
 use Rattle.dtx_words.specs.Number.{at_least, number_in, number_within}
 use Rattle.dtx_words.specs.declared.rows.Command.TheVariants.{Acquire, Code, DvbCode, DvbRead, Excite, Mend, Receive}
-use Rattle.dtx_top.specs.Means.{means}
-use Rattle.dtx_file_laws.proofs.Answered.{one_answered}
+use Rattle.dtx_file_laws.proofs.Answered.{IsRead}
 
-pub code_answered : (words : List (List ℕ)) (input output file : List ℕ) (held : Files) (now : Option Files)
-    (status : Status) (unprinted : Type 0) → words ≡ codes "code" ∷ input ∷ output ∷ []
-    → get held input ≡ Some file → status ≡ Done → IsDone (means words held) (Some held) status unprinted now
-    → IsAnswered (meaning_of_file coded_packets coding (output ∷ []) file) (Some held) status now
-code_answered words input output file held now status unprinted is there done carried =
-    one_answered (codes "code" ∷ input ∷ output ∷ []) (is_name input && (is_name output && true)) Code
-    (bytes_eq input output) coded_packets coding (output ∷ []) input file held now status unprinted refl refl there done
-    (subst (λ (ws : List (List ℕ)). IsDone (means ws held) (Some held) status unprinted now) is carried)
+-- ---- words without numbers
 
-pub receive_answered : (words : List (List ℕ)) (input output file : List ℕ) (held : Files) (now : Option Files)
-    (status : Status) (unprinted : Type 0) → words ≡ codes "receive" ∷ input ∷ output ∷ []
-    → get held input ≡ Some file → status ≡ Done → IsDone (means words held) (Some held) status unprinted now
-    → IsAnswered (meaning_of_file segments receiving (output ∷ []) file) (Some held) status now
-receive_answered words input output file held now status unprinted is there done carried =
-    one_answered (codes "receive" ∷ input ∷ output ∷ []) (is_name input && (is_name output && true)) Receive
-    (bytes_eq input output) segments receiving (output ∷ []) input file held now status unprinted refl refl there done
-    (subst (λ (ws : List (List ℕ)). IsDone (means ws held) (Some held) status unprinted now) is carried)
+pub code_read : (words : List (List ℕ)) (input output : List ℕ) (held : Files)
+    → words ≡ codes "code" ∷ input ∷ output ∷ [] → IsRead words (is_name input && (is_name output && true)) Code
+    (bytes_eq input output) coded_packets coding (output ∷ []) input held
+code_read words input output held is =
+    subst (λ (ws : List (List ℕ)). IsRead ws (is_name input && (is_name output && true)) Code
+    (bytes_eq input output) coded_packets coding (output ∷ []) input held) (sym is)
+    (record { fits = refl; reads = refl })
 
-pub mend_answered : (words : List (List ℕ)) (input output file : List ℕ) (held : Files) (now : Option Files)
-    (status : Status) (unprinted : Type 0) → words ≡ codes "mend" ∷ input ∷ output ∷ []
-    → get held input ≡ Some file → status ≡ Done → IsDone (means words held) (Some held) status unprinted now
-    → IsAnswered (meaning_of_file segments mending_symbols (output ∷ []) file) (Some held) status now
-mend_answered words input output file held now status unprinted is there done carried =
-    one_answered (codes "mend" ∷ input ∷ output ∷ []) (is_name input && (is_name output && true)) Mend
-    (bytes_eq input output) segments mending_symbols (output ∷ []) input file held now status unprinted refl refl there done
-    (subst (λ (ws : List (List ℕ)). IsDone (means ws held) (Some held) status unprinted now) is carried)
+pub receive_read : (words : List (List ℕ)) (input output : List ℕ) (held : Files)
+    → words ≡ codes "receive" ∷ input ∷ output ∷ [] → IsRead words (is_name input && (is_name output && true)) Receive
+    (bytes_eq input output) segments receiving (output ∷ []) input held
+receive_read words input output held is =
+    subst (λ (ws : List (List ℕ)). IsRead ws (is_name input && (is_name output && true)) Receive
+    (bytes_eq input output) segments receiving (output ∷ []) input held) (sym is)
+    (record { fits = refl; reads = refl })
 
-pub dvb_code_answered : (words : List (List ℕ)) (input output file : List ℕ) (held : Files) (now : Option Files)
-    (status : Status) (unprinted : Type 0) → words ≡ codes "dvb" ∷ codes "code" ∷ input ∷ output ∷ []
-    → get held input ≡ Some file → status ≡ Done → IsDone (means words held) (Some held) status unprinted now
-    → IsAnswered (meaning_of_file dvb_packets dvb_coding (output ∷ []) file) (Some held) status now
-dvb_code_answered words input output file held now status unprinted is there done carried =
-    one_answered (codes "dvb" ∷ codes "code" ∷ input ∷ output ∷ []) (is_name input && (is_name output && true)) DvbCode
-    (bytes_eq input output) dvb_packets dvb_coding (output ∷ []) input file held now status unprinted refl refl there done
-    (subst (λ (ws : List (List ℕ)). IsDone (means ws held) (Some held) status unprinted now) is carried)
+pub mend_read : (words : List (List ℕ)) (input output : List ℕ) (held : Files)
+    → words ≡ codes "mend" ∷ input ∷ output ∷ [] → IsRead words (is_name input && (is_name output && true)) Mend
+    (bytes_eq input output) segments mending_symbols (output ∷ []) input held
+mend_read words input output held is =
+    subst (λ (ws : List (List ℕ)). IsRead ws (is_name input && (is_name output && true)) Mend
+    (bytes_eq input output) segments mending_symbols (output ∷ []) input held) (sym is)
+    (record { fits = refl; reads = refl })
 
-pub dvb_read_answered : (words : List (List ℕ)) (input output file : List ℕ) (held : Files) (now : Option Files)
-    (status : Status) (unprinted : Type 0) → words ≡ codes "dvb" ∷ codes "read" ∷ input ∷ output ∷ []
-    → get held input ≡ Some file → status ≡ Done → IsDone (means words held) (Some held) status unprinted now
-    → IsAnswered (meaning_of_file blocks dvb_reading (output ∷ []) file) (Some held) status now
-dvb_read_answered words input output file held now status unprinted is there done carried =
-    one_answered (codes "dvb" ∷ codes "read" ∷ input ∷ output ∷ []) (is_name input && (is_name output && true)) DvbRead
-    (bytes_eq input output) blocks dvb_reading (output ∷ []) input file held now status unprinted refl refl there done
-    (subst (λ (ws : List (List ℕ)). IsDone (means ws held) (Some held) status unprinted now) is carried)
+pub dvb_code_read : (words : List (List ℕ)) (input output : List ℕ) (held : Files)
+    → words ≡ codes "dvb" ∷ codes "code" ∷ input ∷ output ∷ [] → IsRead words (is_name input && (is_name output && true)) DvbCode
+    (bytes_eq input output) dvb_packets dvb_coding (output ∷ []) input held
+dvb_code_read words input output held is =
+    subst (λ (ws : List (List ℕ)). IsRead ws (is_name input && (is_name output && true)) DvbCode
+    (bytes_eq input output) dvb_packets dvb_coding (output ∷ []) input held) (sym is)
+    (record { fits = refl; reads = refl })
+
+pub dvb_read_read : (words : List (List ℕ)) (input output : List ℕ) (held : Files)
+    → words ≡ codes "dvb" ∷ codes "read" ∷ input ∷ output ∷ [] → IsRead words (is_name input && (is_name output && true)) DvbRead
+    (bytes_eq input output) blocks dvb_reading (output ∷ []) input held
+dvb_read_read words input output held is =
+    subst (λ (ws : List (List ℕ)). IsRead ws (is_name input && (is_name output && true)) DvbRead
+    (bytes_eq input output) blocks dvb_reading (output ∷ []) input held) (sym is)
+    (record { fits = refl; reads = refl })
+
+-- where the names are not empty and different, the words fit and no two names are equal
+pub named : (name : List ℕ) → name ≢ [] → is_name name ≡ true
+named [] some = absurd (some refl)
+named (b ∷ name) some = ap not (ne_eqb (length (b ∷ name)) 0 (λ e. omega (arith, e)))
+
+pub both_named : (input output : List ℕ) → input ≢ [] → output ≢ [] → (is_name input && (is_name output && true)) ≡ true
+both_named input output some other = and_from _ _ (named input some) (and_from _ _ (named output other) refl)
+
+pub unlike : (input output : List ℕ) → input ≢ output → bytes_eq input output ≡ false
+unlike input output apart =
+    by_test (bytes_eq input output) (λ e. apart ((bytes_eq-Decides input output).0 e))
+  where
+    by_test : (t : Bool) → (t ≡ true → ⊥) → t ≡ false
+    by_test true unlikely = absurd (unlikely refl)
+    by_test false _ = refl
 
 -- ---- words with numbers
 
@@ -94,33 +102,38 @@ spelled_scale scale some most =
     ap (at_least 1) (spelled 18 scale (omega arith) most)
     ∙ cond-true (nat_le 1 scale) (Some scale) None (le-leb 1 scale some)
 
-pub acquire_answered : (words : List (List ℕ)) (scale : ℕ) (input output file : List ℕ) (held : Files)
-    (now : Option Files) (status : Status) (unprinted : Type 0)
+pub acquire_read : (words : List (List ℕ)) (scale : ℕ) (input output : List ℕ) (held : Files)
     → words ≡ codes "acquire" ∷ decimal scale ∷ input ∷ output ∷ [] → 0 < scale → scale ≤ 18
-    → get held input ≡ Some file → status ≡ Done → IsDone (means words held) (Some held) status unprinted now
-    → IsAnswered (meaning_of_file single_bytes (acquiring scale) (output ∷ []) file) (Some held) status now
-acquire_answered words scale input output file held now status unprinted is some most there done carried =
-    one_answered (codes "acquire" ∷ decimal scale ∷ input ∷ output ∷ [])
+    → IsRead words (is_some (number_within 1 18 (decimal scale)) && (is_name input && (is_name output && true))) Acquire
+    (bytes_eq input output) single_bytes (acquiring scale) (output ∷ []) input held
+acquire_read words scale input output held is some most =
+    subst (λ (ws : List (List ℕ)). IsRead ws
     (is_some (number_within 1 18 (decimal scale)) && (is_name input && (is_name output && true))) Acquire
-    (bytes_eq input output) single_bytes (acquiring scale) (output ∷ []) input file held now status unprinted refl
-    (ap (λ number. acquire_at number input output held) (spelled_scale scale some most)) there done
-    (subst (λ (ws : List (List ℕ)). IsDone (means ws held) (Some held) status unprinted now) is carried)
+    (bytes_eq input output) single_bytes (acquiring scale) (output ∷ []) input held) (sym is)
+    (record {
+      fits = refl;
+      reads = ap (λ number. acquire_at number input output held) (spelled_scale scale some most);
+    })
 
-pub excite_answered : (words : List (List ℕ)) (address delay : ℕ) (input output log file : List ℕ) (held : Files)
-    (now : Option Files) (status : Status) (unprinted : Type 0)
+pub excite_read : (words : List (List ℕ)) (address delay : ℕ) (input output log : List ℕ) (held : Files)
     → words ≡ codes "excite" ∷ input ∷ decimal address ∷ decimal delay ∷ output ∷ log ∷ []
     → address ≤ 65535 → delay ≤ 4294967295
-    → get held input ≡ Some file → status ≡ Done → IsDone (means words held) (Some held) status unprinted now
-    → IsAnswered (meaning_of_file coded_packets (exciting address delay) (output ∷ log ∷ []) file) (Some held) status
-    now
-excite_answered words address delay input output log file held now status unprinted is small_address small_delay there
-    done carried =
-    one_answered (codes "excite" ∷ input ∷ decimal address ∷ decimal delay ∷ output ∷ log ∷ [])
-    (is_name input && (is_some (number_in 65535 (decimal address))
+    → IsRead words (is_name input && (is_some (number_in 65535 (decimal address))
     && (is_some (number_in 4294967295 (decimal delay)) && (is_name output && (is_name log && true))))) Excite
     (is_some (repeated (input ∷ output ∷ log ∷ []))) coded_packets (exciting address delay) (output ∷ log ∷ []) input
-    file held now status unprinted refl
-    (ap₂ (λ a d. transmit_with coded_packets exciting a d input output log held)
-    (spelled 65535 address (omega arith) small_address) (spelled 4294967295 delay (omega arith) small_delay))
-    there done
-    (subst (λ (ws : List (List ℕ)). IsDone (means ws held) (Some held) status unprinted now) is carried)
+    held
+excite_read words address delay input output log held is small_address small_delay =
+    subst (λ (ws : List (List ℕ)). IsRead ws (is_name input && (is_some (number_in 65535 (decimal address))
+    && (is_some (number_in 4294967295 (decimal delay)) && (is_name output && (is_name log && true))))) Excite
+    (is_some (repeated (input ∷ output ∷ log ∷ []))) coded_packets (exciting address delay) (output ∷ log ∷ []) input
+    held) (sym is)
+    (record {
+      fits = refl;
+      reads = ap₂ (λ a d. transmit_with coded_packets exciting a d input output log held)
+          (spelled 65535 address (omega arith) small_address) (spelled 4294967295 delay (omega arith) small_delay);
+    })
+
+pub acquire_named : (scale : ℕ) (input output : List ℕ) → 0 < scale → scale ≤ 18 → input ≢ [] → output ≢ []
+    → (is_some (number_within 1 18 (decimal scale)) && (is_name input && (is_name output && true))) ≡ true
+acquire_named scale input output some most in_named out_named =
+    and_from _ _ (ap is_some (spelled_scale scale some most)) (both_named input output in_named out_named)

@@ -7,6 +7,7 @@ pub mod Captured
 pub mod Counted
 pub mod DvbEnds
 pub mod Excited
+pub mod Lines
 pub mod Mendable
 pub mod Stretches
 pub mod There

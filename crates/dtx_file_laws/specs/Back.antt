@@ -1,6 +1,7 @@
 -- What comes back of the symbols of a stream (the profile's own; what is sent is that of ATSC A/53 Part 2). A packet is
 -- its list of 188 bytes.
-use Rattle.std.specs.Prelude.{ℕ, ◌+◌, ◌-◌, ◌*◌, ◌/◌, ◌%◌, ◌==◌, if◌then◌else◌, List, [], ◌∷◌, length, take}
+use Rattle.std.specs.Prelude.{ℕ, ◌+◌, ◌-◌, ◌*◌, ◌/◌, ◌%◌, ◌==◌, if◌then◌else◌, List, [], ◌∷◌, ◌++◌}
+use Rattle.std.specs.Prelude.{codes, decimal, length, take}
 use Rattle.std.specs.List.{flat_map}
 use Rattle.dtx_chain.specs.Undamaged.{as_received}
 use Rattle.dtx_coder.specs.Stream.{a53}
@@ -20,6 +21,21 @@ back_of_all count = back_of_sent (4 * (count / 4))
 -- The packets that come back of a stream: its first ones, so many, one behind another, with 0x47 as their sync bytes.
 abbrev pub packets_back : List (List ℕ) → List ℕ
 packets_back packets = flat_map as_received (take (back_of_all (length packets)) packets)
+
+-- In how many segments so many packets are sent: those of whole groups of four, and a field sync for each 78 groups that
+-- are begun.
+abbrev pub segments_of_all : ℕ → ℕ
+segments_of_all count = 4 * (count / 4) + (count / 4 + 77) / 78
+
+-- the line that `receive` and `mend` print where all comes back of so many packets, with so many bytes put right
+abbrev pub line_back : ℕ → ℕ → List ℕ
+line_back count fixed = codes "segments " ++ decimal (segments_of_all count) ++ codes " runs 1 packets "
+    ++ decimal (back_of_all count) ++ codes " fixed " ++ decimal fixed ++ codes " flagged 0 loose 0\n"
+
+-- and that `dvb read` prints where all comes back of so many packets: all but the last eleven
+abbrev pub dvb_line_back : ℕ → ℕ → List ℕ
+dvb_line_back count fixed = codes "blocks " ++ decimal count ++ codes " packets " ++ decimal (count - 11)
+    ++ codes " fixed " ++ decimal fixed ++ codes " flagged 0 loose 0\n"
 
 -- What `receive` and `mend` answer and write where all comes back: the segments, one run, the packets, the bytes put
 -- right, none flagged, and nothing loose.

@@ -13,7 +13,7 @@ returns-clause-undamaged g c = λ input sent got output stream symbols code rece
     back_through with_corrections corrections_given (g.S.Shelf.files c.args.sender.now)
     (g.S.Shelf.files c.run_of_code-sent.new.shelf) (g.R.Shelf.files c.args.receiver.now)
     (g.R.Shelf.files c.run_of_receive-received.new.shelf) input sent got output stream symbols symbols _ _ there coded left
-    (c.run_of_code-sent.ensures input sent stream code)
+    (c.run_of_code-sent.ensures.done input sent stream code)
     (λ same few. (
       ap length same,
       λ some. (
@@ -23,7 +23,7 @@ returns-clause-undamaged g c = λ input sent got output stream symbols code rece
             some few,
       ),
     ))
-    here done (c.run_of_receive-received.ensures got output symbols receive)
+    here done (c.run_of_receive-received.ensures.done got output symbols receive)
 
 pub returns-clause-burst : goal.returns-clause-burst
 returns-clause-burst g c = λ input sent got output stream symbols file from code receive are there coded left burst
@@ -31,11 +31,11 @@ returns-clause-burst g c = λ input sent got output stream symbols file from cod
     back_through with_corrections corrections_given (g.S.Shelf.files c.args.sender.now)
     (g.S.Shelf.files c.run_of_code-sent.new.shelf) (g.R.Shelf.files c.args.receiver.now)
     (g.R.Shelf.files c.run_of_receive-received.new.shelf) input sent got output stream symbols file _ _ there coded left
-    (c.run_of_code-sent.ensures input sent stream code)
+    (c.run_of_code-sent.ensures.done input sent stream code)
     (λ same few.
     let wrong = subst (λ bytes. IsBurst 2022 from bytes file) same burst in (
       wrong.as_many,
       λ some. c.bursts_come_back.ensures.wrong (output ∷ []) (packets_of stream) file from (are_packets stream are)
           some few wrong spares,
     ))
-    here done (c.run_of_receive-received.ensures got output file receive)
+    here done (c.run_of_receive-received.ensures.done got output file receive)
