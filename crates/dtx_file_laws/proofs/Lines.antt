@@ -15,7 +15,7 @@ use Rattle.dtx_file_laws.specs.Back.{all_back, back_of_all, dvb_line_back, line_
 use Rattle.dtx_file_laws.specs.Told.{EndsWith}
 
 -- each label with its number behind it, and then a text
-onto : List (List ℕ) → List ℕ → List ℕ → List ℕ
+abbrev onto : List (List ℕ) → List ℕ → List ℕ → List ℕ
 onto [] numbers text = text
 onto (label ∷ labels) [] text = text
 onto (label ∷ labels) (number ∷ numbers) text = label ++ (decimal number ++ onto labels numbers text)
@@ -29,17 +29,17 @@ numbered-append (label ∷ labels) (number ∷ numbers) text =
     ∙ ap (λ rest. label ++ rest) (append_assoc (decimal number) (numbered labels numbers) text
     ∙ ap (λ rest. decimal number ++ rest) (numbered-append labels numbers text))
 
-labels : List (List ℕ)
+abbrev labels : List (List ℕ)
 labels = codes "segments " ∷ codes " runs " ∷ codes " packets " ∷ codes " fixed " ∷ codes " flagged " ∷ codes " loose "
     ∷ []
 
-dvb_labels : List (List ℕ)
+abbrev dvb_labels : List (List ℕ)
 dvb_labels = codes "blocks " ∷ codes " packets " ∷ codes " fixed " ∷ codes " flagged " ∷ codes " loose " ∷ []
 
 spelled : (s p f : ℕ)
     → onto labels (s ∷ 1 ∷ p ∷ f ∷ 0 ∷ 0 ∷ 0 ∷ []) (codes "\n")
-    ≡ codes "segments " ++ decimal s ++ codes " runs 1 packets " ++ decimal p ++ codes " fixed " ++ decimal f
-    ++ codes " flagged 0 loose 0\n"
+    ≡ codes "segments " ++ (decimal s ++ (codes " runs 1 packets " ++ (decimal p ++ (codes " fixed " ++ (decimal f
+    ++ codes " flagged 0 loose 0\n")))))
 spelled s p f =
     let text : List ℕ → List ℕ → List ℕ = λ one zero. codes "segments " ++ (decimal s ++ (codes " runs " ++ (one
     ++ (codes " packets " ++ (decimal p ++ (codes " fixed " ++ (decimal f ++ (codes " flagged " ++ (zero
@@ -48,8 +48,8 @@ spelled s p f =
 
 dvb_spelled : (b p f : ℕ)
     → onto dvb_labels (b ∷ p ∷ f ∷ 0 ∷ 0 ∷ 0 ∷ 0 ∷ []) (codes "\n")
-    ≡ codes "blocks " ++ decimal b ++ codes " packets " ++ decimal p ++ codes " fixed " ++ decimal f
-    ++ codes " flagged 0 loose 0\n"
+    ≡ codes "blocks " ++ (decimal b ++ (codes " packets " ++ (decimal p ++ (codes " fixed " ++ (decimal f
+    ++ codes " flagged 0 loose 0\n")))))
 dvb_spelled b p f =
     ap (λ (zero : List ℕ). codes "blocks " ++ (decimal b ++ (codes " packets " ++ (decimal p ++ (codes " fixed "
     ++ (decimal f ++ (codes " flagged " ++ (zero ++ (codes " loose " ++ (zero ++ codes "\n"))))))))))
@@ -63,8 +63,8 @@ received_line names packets fixed =
     numbered-append labels (length (a53 packets) ∷ 1 ∷ back_of_all (length packets) ∷ fixed ∷ 0 ∷ 0 ∷ 0 ∷ [])
     (codes "\n")
     ∙ spelled (length (a53 packets)) (back_of_all (length packets)) fixed
-    ∙ ap (λ s. codes "segments " ++ decimal s ++ codes " runs 1 packets " ++ decimal (back_of_all (length packets))
-    ++ codes " fixed " ++ decimal fixed ++ codes " flagged 0 loose 0\n") (length-a53 packets)
+    ∙ ap (λ s. codes "segments " ++ (decimal s ++ (codes " runs 1 packets " ++ (decimal (back_of_all (length packets))
+    ++ (codes " fixed " ++ (decimal fixed ++ codes " flagged 0 loose 0\n")))))) (length-a53 packets)
 
 pub mended_line : (names packets : List (List ℕ)) (fixed : ℕ)
     → done_line (Some Mend) (all_back names packets fixed).outcome ≡ line_back (length packets) fixed

@@ -29,13 +29,19 @@ segments_of_all count = 4 * (count / 4) + (count / 4 + 77) / 78
 
 -- the line that `receive` and `mend` print where all comes back of so many packets, with so many bytes put right
 abbrev pub line_back : ℕ → ℕ → List ℕ
-line_back count fixed = codes "segments " ++ decimal (segments_of_all count) ++ codes " runs 1 packets "
-    ++ decimal (back_of_all count) ++ codes " fixed " ++ decimal fixed ++ codes " flagged 0 loose 0\n"
+line_back count fixed =
+    codes "segments "
+    ++ (decimal (segments_of_all count)
+    ++ (codes " runs 1 packets "
+    ++ (decimal (back_of_all count) ++ (codes " fixed " ++ (decimal fixed ++ codes " flagged 0 loose 0\n")))))
 
 -- and that `dvb read` prints where all comes back of so many packets: all but the last eleven
 abbrev pub dvb_line_back : ℕ → ℕ → List ℕ
-dvb_line_back count fixed = codes "blocks " ++ decimal count ++ codes " packets " ++ decimal (count - 11)
-    ++ codes " fixed " ++ decimal fixed ++ codes " flagged 0 loose 0\n"
+dvb_line_back count fixed =
+    codes "blocks "
+    ++ (decimal count
+    ++ (codes " packets "
+    ++ (decimal (count - 11) ++ (codes " fixed " ++ (decimal fixed ++ codes " flagged 0 loose 0\n")))))
 
 -- What `receive` and `mend` answer and write where all comes back: the segments, one run, the packets, the bytes put
 -- right, none flagged, and nothing loose.
