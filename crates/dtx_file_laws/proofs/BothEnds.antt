@@ -25,10 +25,14 @@ use Rattle.dtx_jobs.specs.Giving.{Giving, IsGiving, receiving_by}
 use Rattle.dtx_jobs.specs.SymbolFile.{whole_segments}
 use Rattle.dtx_jobs.specs.Symbols.{symbol_bytes}
 use Rattle.dtx_jobs.proofs.SymbolsBackLemmas.{each_drop, each_range, each_take}
-use Rattle.dtx_file_laws.specs.Back.{all_back, packets_back}
+use Rattle.dtx_words.specs.Line.{done_line}
+use Rattle.dtx_words.specs.Printed.{printed}
+use Rattle.dtx_words.specs.declared.rows.Command.{Command}
+use Rattle.dtx_file_laws.specs.Back.{IsGivenBack, all_back, line_back, packets_back}
 use Rattle.dtx_file_laws.specs.Told.{Holds}
 use Rattle.dtx_file_laws.proofs.Answered.{one_holds, read_whole}
 use Rattle.dtx_file_laws.proofs.Excited.{whole_read}
+use Rattle.dtx_file_laws.proofs.Lines.{ends_with}
 use Rattle.dtx_file_laws.proofs.Whole.{count_segments}
 
 -- ---- files that are told
@@ -43,6 +47,12 @@ pub told_so : (start : Option Files) (name bytes : List ℕ) (P : Files → Type
     → IfSome start P → ((held : Files) → start ≡ Some held → get held name ≡ Some bytes → P held → Q) → Q
 told_so None name bytes P Q there of so = elim there [ ]
 told_so (Some held) name bytes P Q there of so = so held refl there of
+
+pub told_both : (start : Option Files) (name bytes : List ℕ) (P Q : Files → Type 0) (R : Type 0)
+    → Holds start name bytes → IfSome start P → IfSome start Q
+    → ((held : Files) → get held name ≡ Some bytes → P held → Q held → R) → R
+told_both None name bytes P Q R there of line so = elim there [ ]
+told_both (Some held) name bytes P Q R there of line so = so held there of line
 
 -- ---- the packets of a file
 
@@ -96,46 +106,84 @@ some_packets giving is names packets file long done = by_length (cases_lt (lengt
         absurd (let no : ⊥ = cc in no)
     by_length (inr some) = some
 
-pub given_is : (giving : Giving) → IsGiving giving → (packets : List (List ℕ)) (start now : Option Files)
-    (got output file : List ℕ) (status : Status) → length file ≡ length (symbol_bytes packets)
-    → Holds start got file → status ≡ Done
-    → IfSome start (λ held. get held got ≡ Some file → status ≡ Done
-    → IsAnswered (meaning_of_file segments (receiving_by giving) (output ∷ []) file) (Some held) status now)
-    → (4 ≤ length packets → (fixed : ℕ)
-    × (meaning_of_file segments (receiving_by giving) (output ∷ []) file ≡ all_back (output ∷ []) packets fixed))
-    → Holds now output (packets_back packets)
-given_is giving is packets start now got output file status long there done call back =
+-- the laws of one way back: its line where all comes back
+abbrev pub LineLaw : Command → Type 0
+LineLaw c = (names packets : List (List ℕ)) (fixed : ℕ)
+    → done_line (Some c) (all_back names packets fixed).outcome ≡ line_back (length packets) fixed
+
+-- all comes back of a file
+abbrev pub ComesBack : Giving → (ℕ → Type 0) → List (List ℕ) → List (List ℕ) → List ℕ → Type 0
+ComesBack giving Fixed names packets file = (fixed : ℕ) × Fixed fixed
+    × (meaning_of_file segments (receiving_by giving) names file ≡ all_back names packets fixed)
+
+-- a call that reads it is done, and its line is printed
+pub record IsCalled (giving : Giving) (c : Command) (got output file : List ℕ) (status : Status)
+    (start now : Option Files) (old new : Option (List ℕ)) : Type 0 where
+  pub there : Holds start got file
+  pub done : status ≡ Done
+  pub files : IfSome start (λ held. get held got ≡ Some file → status ≡ Done
+      → IsAnswered (meaning_of_file segments (receiving_by giving) (output ∷ []) file) (Some held) status now)
+  pub line : IfSome start (λ held. get held got ≡ Some file → status ≡ Done
+      → new ≡ printed (done_line (Some c) (meaning_of_file segments (receiving_by giving) (output ∷ []) file).outcome)
+      old)
+
+given_is : (giving : Giving) → IsGiving giving → (c : Command) → LineLaw c → (Fixed : ℕ → Type 0) (stream : List ℕ)
+    (got output file : List ℕ) (status : Status) (start now : Option Files) (old new : Option (List ℕ))
+    → length file ≡ length (symbol_bytes (packets_of stream))
+    → IsCalled giving c got output file status start now old new
+    → (4 ≤ length (packets_of stream) → ComesBack giving Fixed (output ∷ []) (packets_of stream) file)
+    → (fixed : ℕ) × Fixed fixed × IsGivenBack stream fixed output now new
+given_is giving is c line_law Fixed stream got output file status start now old new long call back =
+    told_both start got file _ _ _ call.there call.files call.line (λ held here files line.
+    let answered = files here call.done in
     let m : Meaning = meaning_of_file segments (receiving_by giving) (output ∷ []) file in
-    told_so start got file _ _ there call (λ held _ here of.
-    let answered = of here done in
-    let some = some_packets giving is (output ∷ []) packets file long (sym answered.answer ∙ done) in
-    one_holds m output (packets_back packets) held now status
-    (ap (λ (x : Meaning). x.outputs) (back some).1) answered)
+    let some = some_packets giving is (output ∷ []) (packets_of stream) file long (sym answered.answer ∙ call.done) in
+    let all = back some in
+    let text : done_line (Some c) m.outcome ≡ line_back (whole_packets stream) all.0 =
+    ap (λ (x : Meaning). done_line (Some c) x.outcome) all.2 ∙ line_law (output ∷ []) (packets_of stream) all.0
+    ∙ ap (λ (n : ℕ). line_back n all.0) (length-packets_of stream) in
+    (
+      all.0,
+      all.1,
+      record {
+        packets = one_holds m output (packets_back (packets_of stream)) held now status
+            (ap (λ (x : Meaning). x.outputs) all.2) answered;
+        line = ends_with old new (line_back (whole_packets stream) all.0)
+            (line here call.done ∙ ap (λ (t : List ℕ). printed t old) text);
+      },
+    ))
 
 -- ---- both
 
 pub few_packets : (stream : List ℕ) → whole_packets stream ≤ 624000000 → length (packets_of stream) ≤ 624000000
 few_packets stream few = omega (arith, few, length-packets_of stream)
 
+-- a call that sends a stream is done
+pub record IsCoded (input sent stream : List ℕ) (status : Status) (start now : Option Files) : Type 0 where
+  pub there : Holds start input stream
+  pub done : status ≡ Done
+  pub files : IfSome start (λ held. get held input ≡ Some stream → status ≡ Done
+      → IsAnswered (meaning_of_file coded_packets coding (sent ∷ []) stream) (Some held) status now)
+
+pub coded_is : (input sent stream : List ℕ) (status : Status) (start now : Option Files)
+    → IsCoded input sent stream status start now
+    → (whole_packets stream ≤ 624000000) × Holds now sent (symbol_bytes (packets_of stream))
+coded_is input sent stream status start now call =
+    sent_is start now input sent stream status call.there call.done call.files
+
 -- whatever is received, where it is as long as what was sent, and all comes back of it
-pub back_through : (giving : Giving) → IsGiving giving → (start mid at now : Option Files)
-    (input sent got output stream symbols file : List ℕ) (coded given : Status) → Holds start input stream
-    → coded ≡ Done → Holds mid sent symbols
-    → IfSome start (λ held. get held input ≡ Some stream → coded ≡ Done
-    → IsAnswered (meaning_of_file coded_packets coding (sent ∷ []) stream) (Some held) coded mid)
+pub back_through : (giving : Giving) → IsGiving giving → (c : Command) → LineLaw c → (Fixed : ℕ → Type 0)
+    (input sent got output stream symbols file : List ℕ) (coded given : Status) (start mid at now : Option Files)
+    (old new : Option (List ℕ)) → IsCoded input sent stream coded start mid → Holds mid sent symbols
+    → IsCalled giving c got output file given at now old new
     → (symbols ≡ symbol_bytes (packets_of stream) → length (packets_of stream) ≤ 624000000
     → (length file ≡ length (symbol_bytes (packets_of stream)))
-    × (4 ≤ length (packets_of stream) → (fixed : ℕ)
-    × (meaning_of_file segments (receiving_by giving) (output ∷ []) file
-    ≡ all_back (output ∷ []) (packets_of stream) fixed)))
-    → Holds at got file → given ≡ Done
-    → IfSome at (λ held. get held got ≡ Some file → given ≡ Done
-    → IsAnswered (meaning_of_file segments (receiving_by giving) (output ∷ []) file) (Some held) given now)
-    → Holds now output (packets_back (packets_of stream))
-back_through giving is start mid at now input sent got output stream symbols file coded given there done left call back
-    here given_done receive =
-    let of_code = sent_is start mid input sent stream coded there done call in
+    × (4 ≤ length (packets_of stream) → ComesBack giving Fixed (output ∷ []) (packets_of stream) file))
+    → (fixed : ℕ) × Fixed fixed × IsGivenBack stream fixed output now new
+back_through giving is c line_law Fixed input sent got output stream symbols file coded given start mid at now old new
+    code left call back =
+    let of_code = coded_is input sent stream coded start mid code in
     let same : symbols ≡ symbol_bytes (packets_of stream) =
     holds_one mid sent symbols (symbol_bytes (packets_of stream)) left of_code.1 in
     let all = back same (few_packets stream of_code.0) in
-    given_is giving is (packets_of stream) at now got output file given all.0 here given_done receive all.1
+    given_is giving is c line_law Fixed stream got output file given at now old new all.0 call all.1

@@ -22,9 +22,14 @@ use Rattle.dtx_packet_jobs.specs.DvbRead.{dvb_reading}
 use Rattle.dtx_packet_jobs.specs.DvbShapes.{blocks, dvb_packets}
 use Rattle.dtx_packet_jobs.specs.Place.{has_sync}
 use Rattle.dtx_jobs.proofs.SymbolsBackLemmas.{each_drop, each_range, each_take}
+use Rattle.dtx_words.specs.Line.{done_line}
+use Rattle.dtx_words.specs.Printed.{printed}
+use Rattle.dtx_words.specs.declared.rows.Command.TheVariants.{DvbRead}
+use Rattle.dtx_file_laws.specs.Back.{IsReadBack, dvb_line_back}
 use Rattle.dtx_file_laws.specs.Told.{Holds}
 use Rattle.dtx_file_laws.proofs.Answered.{one_holds, read_whole}
-use Rattle.dtx_file_laws.proofs.BothEnds.{holds_one, told_so}
+use Rattle.dtx_file_laws.proofs.BothEnds.{holds_one, told_both, told_so}
+use Rattle.dtx_file_laws.proofs.Lines.{ends_with, read_line}
 
 -- ---- what is sent
 
@@ -82,24 +87,46 @@ sent_is law start now input sent stream status there done call =
 
 -- ---- both
 
-pub read_through : SendsAll → (start mid at now : Option Files) (input sent got output stream bytes file : List ℕ)
-    (coded given : Status) → AreBytes stream → Holds start input stream → coded ≡ Done → Holds mid sent bytes
-    → IfSome start (λ held. get held input ≡ Some stream → coded ≡ Done
-    → IsAnswered (meaning_of_file dvb_packets dvb_coding (sent ∷ []) stream) (Some held) coded mid)
+-- a call that sends a stream is done
+pub record IsCoded (input sent stream : List ℕ) (status : Status) (start now : Option Files) : Type 0 where
+  pub there : Holds start input stream
+  pub done : status ≡ Done
+  pub files : IfSome start (λ held. get held input ≡ Some stream → status ≡ Done
+      → IsAnswered (meaning_of_file dvb_packets dvb_coding (sent ∷ []) stream) (Some held) status now)
+
+-- and one that reads a file, and its line is printed
+pub record IsCalled (got output file : List ℕ) (status : Status) (start now : Option Files)
+    (old new : Option (List ℕ)) : Type 0 where
+  pub there : Holds start got file
+  pub done : status ≡ Done
+  pub files : IfSome start (λ held. get held got ≡ Some file → status ≡ Done
+      → IsAnswered (meaning_of_file blocks dvb_reading (output ∷ []) file) (Some held) status now)
+  pub line : IfSome start (λ held. get held got ≡ Some file → status ≡ Done
+      → new ≡ printed (done_line (Some DvbRead) (meaning_of_file blocks dvb_reading (output ∷ []) file).outcome) old)
+
+pub read_through : SendsAll → (input sent got output stream bytes file : List ℕ) (coded given : Status)
+    (start mid at now : Option Files) (old new : Option (List ℕ)) → AreBytes stream
+    → IsCoded input sent stream coded start mid → Holds mid sent bytes
+    → IsCalled got output file given at now old new
     → (bytes ≡ dvb (packets_of stream) → whole_packets stream ≤ 624000000 → ArePackets (packets_of stream)
     → (fixed : ℕ)
     × (meaning_of_file blocks dvb_reading (output ∷ []) file ≡ back_of (output ∷ []) stream fixed))
-    → Holds at got file → given ≡ Done
-    → IfSome at (λ held. get held got ≡ Some file → given ≡ Done
-    → IsAnswered (meaning_of_file blocks dvb_reading (output ∷ []) file) (Some held) given now)
-    → Holds now output (take (188 * (whole_packets stream - 11)) stream)
-read_through law start mid at now input sent got output stream bytes file coded given are there done left call back
-    here given_done read =
-    let of_code = sent_is law start mid input sent stream coded there done call in
+    → (fixed : ℕ) × IsReadBack stream fixed output now new
+read_through law input sent got output stream bytes file coded given start mid at now old new are code left call back =
+    let of_code = sent_is law start mid input sent stream coded code.there code.done code.files in
     let same : bytes ≡ dvb (packets_of stream) =
     holds_one mid sent bytes (dvb (packets_of stream)) left of_code.file in
     let all = back same of_code.few (are_packets stream are of_code.syncs) in
-    told_so at got file _ _ here read (λ held _ found of.
-    one_holds (meaning_of_file blocks dvb_reading (output ∷ []) file) output
-    (take (188 * (whole_packets stream - 11)) stream) held now given (ap (λ (x : Meaning). x.outputs) all.1)
-    (of found given_done))
+    told_both at got file _ _ _ call.there call.files call.line (λ held here files line.
+    let m : Meaning = meaning_of_file blocks dvb_reading (output ∷ []) file in
+    let text : done_line (Some DvbRead) m.outcome ≡ dvb_line_back (whole_packets stream) all.0 =
+    ap (λ (x : Meaning). done_line (Some DvbRead) x.outcome) all.1 ∙ read_line (output ∷ []) stream all.0 in
+    (
+      all.0,
+      record {
+        packets = one_holds m output (take (188 * (whole_packets stream - 11)) stream) held now given
+            (ap (λ (x : Meaning). x.outputs) all.1) (files here call.done);
+        line = ends_with old new (dvb_line_back (whole_packets stream) all.0)
+            (line here call.done ∙ ap (λ (t : List ℕ). printed t old) text);
+      },
+    ))

@@ -1,13 +1,16 @@
 -- What comes back of the symbols of a stream (the profile's own; what is sent is that of ATSC A/53 Part 2). A packet is
 -- its list of 188 bytes.
 use Rattle.std.specs.Prelude.{ℕ, ◌+◌, ◌-◌, ◌*◌, ◌/◌, ◌%◌, ◌==◌, if◌then◌else◌, List, [], ◌∷◌, ◌++◌}
-use Rattle.std.specs.Prelude.{codes, decimal, length, take}
+use Rattle.std.specs.Prelude.{Option, codes, decimal, length, take}
 use Rattle.std.specs.List.{flat_map}
 use Rattle.dtx_chain.specs.Undamaged.{as_received}
 use Rattle.dtx_coder.specs.Stream.{a53}
 use Rattle.dtx_engine.specs.Made.{only, outputs_of}
 use Rattle.dtx_meaning.specs.Meaning.{Meaning}
 use Rattle.dtx_meaning.specs.declared.status.Status.TheVariants.{Done}
+use Rattle.dtx_outside.specs.Shelf.{Files}
+use Rattle.dtx_packets.specs.Packets.{packets_of, whole_packets}
+use Rattle.dtx_file_laws.specs.Told.{EndsWith, Holds}
 
 -- How many packets come back of so many that are sent in whole groups of four: all but the last 52, or all but the last
 -- 51 where 52 divides their number. The bytes of a packet leave the interleaver over 52 packets.
@@ -54,3 +57,16 @@ all_back names packets fixed = record {
   };
   outputs = outputs_of names (only (packets_back packets));
 }
+
+-- All comes back of a stream, with so many bytes put right: the output holds its packets, and the line that is printed
+-- says so, and that none is flagged.
+pub record IsGivenBack (stream : List ℕ) (fixed : ℕ) (output : List ℕ) (files : Option Files)
+    (written : Option (List ℕ)) : Type 0 where
+  pub packets : Holds files output (packets_back (packets_of stream))
+  pub line : EndsWith written (line_back (whole_packets stream) fixed)
+
+-- And of `dvb read`: the output holds all whole packets but the last eleven, as they were.
+pub record IsReadBack (stream : List ℕ) (fixed : ℕ) (output : List ℕ) (files : Option Files)
+    (written : Option (List ℕ)) : Type 0 where
+  pub packets : Holds files output (take (188 * (whole_packets stream - 11)) stream)
+  pub line : EndsWith written (dvb_line_back (whole_packets stream) fixed)

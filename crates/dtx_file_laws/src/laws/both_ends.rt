@@ -1,10 +1,9 @@
 //! What a receiver's `run` gives back of what a sender's `run` left: statements that name no symbol, no codeword and no
 //! meaning of a command. Between the two the file is carried from one shelf to another, and may be damaged.
 
-ghost use Rattle.std.specs.Prelude.{◌≡◌, ◌-◌, ◌*◌, ◌<◌, ◌≤◌, ◌∷◌, [], ℕ, List, codes, decimal, length, take};
+ghost use Rattle.std.specs.Prelude.{◌≡◌, ◌<◌, ◌≤◌, ◌∷◌, [], ℕ, List, codes, decimal, length};
 ghost use Rattle.dtx_galois.specs.Field.{AreBytes};
-ghost use Rattle.dtx_packets.specs.Packets.{packets_of, whole_packets};
-ghost use Rattle.dtx_file_laws.specs.Back.{packets_back};
+ghost use Rattle.dtx_file_laws.specs.Back.{IsGivenBack, IsReadBack};
 ghost use Rattle.dtx_file_laws.specs.Damaged.{IsBurst, IsGap, IsNoisy, SparesSyncs};
 ghost use Rattle.dtx_file_laws.specs.Told.{Holds};
 
@@ -18,6 +17,25 @@ use dtx_packet_jobs::laws::dvb_streams::all_is_sent;
 use dtx_symbol_laws::acquire_laws::{a_stream_is_acquired, all_is_acquired_of_a_file};
 use dtx_top::Status;
 use std::alloc::Global;
+
+/// `code IN SENT`, and then `receive SENT OUT`, over the same files, with both answers `Done`: OUT is the packets of IN
+/// that come back, with 0x47 as their sync bytes, and no other; no byte was put right, and none is flagged.
+pub fn run_there_and_back<S: Shelf, O: Sink>(
+    alloc: Global,
+    words: &(&[Word], &[Word]),
+    shelf: &mut S,
+    out: &mut O,
+) -> (Status, Status)
+    ensures { (input sent output stream : List ℕ) → words.now.0.now ≡ codes "code" ∷ input ∷ sent ∷ []
+        → words.now.1.now ≡ codes "receive" ∷ sent ∷ output ∷ [] → AreBytes stream
+        → Holds (S.files shelf.old) input stream → result.0 ≡ Status.Done → result.1 ≡ Status.Done
+        → IsGivenBack stream 0 output (S.files shelf.new) (O.written out.new) }
+{
+    what_was_coded_is_received();
+    let sent = run_of_code(alloc, words.0, shelf, out);
+    let received = run_of_receive(alloc, words.1, shelf, out);
+    (sent, received)
+}
 
 /// `code IN SENT` over a sender's files, and then `receive GOT OUT` over a receiver's, with both answers `Done`. Where
 /// GOT is SENT, OUT is the packets of IN that come back (`packets_back`). So it is where at most 2,022 bytes of GOT in
@@ -34,14 +52,14 @@ pub fn run_of_code_and_receive<S: Shelf, R: Shelf, O: Sink>(
         → AreBytes stream → Holds (S.files sender.old) input stream → result.0 ≡ Status.Done
         → Holds (S.files sender.new) sent symbols
         → Holds (R.files receiver.old) got symbols → result.1 ≡ Status.Done
-        → Holds (R.files receiver.new) output (packets_back (packets_of stream)) }
+        → IsGivenBack stream 0 output (R.files receiver.new) (O.written out.new) }
     ensures burst { (input sent got output stream symbols file : List ℕ) (from : ℕ)
         → words.now.0.now ≡ codes "code" ∷ input ∷ sent ∷ [] → words.now.1.now ≡ codes "receive" ∷ got ∷ output ∷ []
         → AreBytes stream → Holds (S.files sender.old) input stream → result.0 ≡ Status.Done
         → Holds (S.files sender.new) sent symbols
         → IsBurst 2022 from symbols file → SparesSyncs 2022 from (length file)
         → Holds (R.files receiver.old) got file → result.1 ≡ Status.Done
-        → Holds (R.files receiver.new) output (packets_back (packets_of stream)) }
+        → (fixed : ℕ) × IsGivenBack stream fixed output (R.files receiver.new) (O.written out.new) }
 {
     what_was_coded_is_received();
     bursts_come_back();
@@ -66,7 +84,7 @@ pub fn run_of_code_and_mend<S: Shelf, R: Shelf, O: Sink>(
         → Holds (S.files sender.new) sent symbols
         → IsGap 4141 from symbols file → SparesSyncs 4141 from (length file)
         → Holds (R.files receiver.old) got file → result.1 ≡ Status.Done
-        → Holds (R.files receiver.new) output (packets_back (packets_of stream)) }
+        → (fixed : ℕ) × IsGivenBack stream fixed output (R.files receiver.new) (O.written out.new) }
 {
     bursts_come_back();
     let sent = run_of_code(alloc, words.0, sender, out);
@@ -112,7 +130,7 @@ pub fn run_of_dvb_code_and_read<S: Shelf, R: Shelf, O: Sink>(
         → words.now.1.now ≡ codes "dvb" ∷ codes "read" ∷ got ∷ output ∷ [] → AreBytes stream
         → Holds (S.files sender.old) input stream → result.0 ≡ Status.Done → Holds (S.files sender.new) sent bytes
         → IsBurst 96 from bytes file → Holds (R.files receiver.old) got file → result.1 ≡ Status.Done
-        → Holds (R.files receiver.new) output (take (188 * (whole_packets stream - 11)) stream) }
+        → (fixed : ℕ) × IsReadBack stream fixed output (R.files receiver.new) (O.written out.new) }
 {
     all_is_sent();
     a_burst_is_read();
