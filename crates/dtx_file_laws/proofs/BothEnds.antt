@@ -14,6 +14,7 @@ use Rattle.dtx_engine.specs.declared.piece.Ending.TheVariants.{Whole}
 use Rattle.dtx_forms.proofs.AllowedFileLemmas.{all_read}
 use Rattle.dtx_forms.specs.Shapes.{coded_packets, segments}
 use Rattle.dtx_meaning.specs.Meaning.{IsAnswered, Meaning}
+use Rattle.dtx_meaning.specs.Status.{IsFault}
 use Rattle.dtx_meaning.specs.declared.status.Status.{Status}
 use Rattle.dtx_meaning.specs.declared.status.Status.TheVariants.{Done, NoSync}
 use Rattle.dtx_outside.specs.Shelf.{Files}
@@ -157,6 +158,15 @@ given_is giving is c line_law Fixed stream got output file status start now old 
 
 pub few_packets : (stream : List ℕ) → whole_packets stream ≤ 624000000 → length (packets_of stream) ≤ 624000000
 few_packets stream few = omega (arith, few, length-packets_of stream)
+
+pub enough_packets : (stream : List ℕ) → 4 ≤ whole_packets stream → 4 ≤ length (packets_of stream)
+enough_packets stream enough = omega (arith, enough, length-packets_of stream)
+
+-- what is meant is done
+pub meant_done : (status meant : Status) → (status ≡ meant) ⊎ IsFault status → meant ≡ Done
+    → (status ≡ Done) ⊎ IsFault status
+meant_done status meant (inl is) done = inl (is ∙ done)
+meant_done status meant (inr fault) done = inr fault
 
 -- a call that sends a stream is done
 pub record IsCoded (input sent stream : List ℕ) (status : Status) (start now : Option Files) : Type 0 where

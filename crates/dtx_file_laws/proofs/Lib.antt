@@ -4,6 +4,7 @@ pub mod ByWords
 pub mod Bytes
 pub mod CaptureEnds
 pub mod Captured
+pub mod Coded
 pub mod Counted
 pub mod DvbEnds
 pub mod Excited

@@ -1,6 +1,6 @@
 -- What comes back of the symbols of a stream (the profile's own; what is sent is that of ATSC A/53 Part 2). A packet is
 -- its list of 188 bytes.
-use Rattle.std.specs.Prelude.{ℕ, ◌+◌, ◌-◌, ◌*◌, ◌/◌, ◌%◌, ◌==◌, if◌then◌else◌, List, [], ◌∷◌, ◌++◌}
+use Rattle.std.specs.Prelude.{ℕ, ◌≡◌, ◌+◌, ◌-◌, ◌*◌, ◌/◌, ◌%◌, ◌<◌, ◌==◌, if◌then◌else◌, true, List, [], ◌∷◌, ◌++◌}
 use Rattle.std.specs.Prelude.{Option, codes, decimal, length, take}
 use Rattle.std.specs.List.{flat_map}
 use Rattle.dtx_chain.specs.Undamaged.{as_received}
@@ -9,8 +9,13 @@ use Rattle.dtx_engine.specs.Made.{only, outputs_of}
 use Rattle.dtx_meaning.specs.Meaning.{Meaning}
 use Rattle.dtx_meaning.specs.declared.status.Status.TheVariants.{Done}
 use Rattle.dtx_outside.specs.Shelf.{Files}
-use Rattle.dtx_packets.specs.Packets.{packets_of, whole_packets}
+use Rattle.dtx_packets.specs.Packets.{packet_at, packets_of, whole_packets}
+use Rattle.dtx_jobs.specs.Code.{may_be_coded}
 use Rattle.dtx_file_laws.specs.Told.{EndsWith, Holds}
+
+-- each whole packet of a stream begins with 0x47, or with the mark 0xB8
+abbrev pub CanBeCoded : List ℕ → Type 0
+CanBeCoded stream = (k : ℕ) → k < whole_packets stream → may_be_coded (packet_at stream k) ≡ true
 
 -- How many packets come back of so many that are sent in whole groups of four: all but the last 52, or all but the last
 -- 51 where 52 divides their number. The bytes of a packet leave the interleaver over 52 packets.

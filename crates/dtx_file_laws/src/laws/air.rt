@@ -4,20 +4,32 @@ ghost use Rattle.std.specs.Prelude.{◌≡◌, ◌<◌, ◌≤◌, ℕ, ℤ, Lis
 ghost use Rattle.dtx_chain.specs.Damage.{AreReceived, IsSlight, to_sync};
 ghost use Rattle.dtx_chain.specs.Undamaged.{ArePackets};
 ghost use Rattle.dtx_coder.specs.Stream.{a53};
+ghost use Rattle.dtx_engine.specs.Made.{only};
 ghost use Rattle.dtx_engine.specs.Recipe.{meaning_of_file};
 ghost use Rattle.dtx_forms.specs.Shapes as shapes;
+ghost use Rattle.dtx_jobs.specs.Code.{coding};
 ghost use Rattle.dtx_jobs.specs.Mend.{mending_symbols};
 ghost use Rattle.dtx_jobs.specs.MendedBack.{all_back_of};
 ghost use Rattle.dtx_jobs.specs.Receive.{receiving};
 ghost use Rattle.dtx_jobs.specs.SymbolFile.{file_segments, whole_segments};
 ghost use Rattle.dtx_jobs.specs.Symbols.{symbol_bytes};
-ghost use Rattle.dtx_file_laws.specs.Back.{all_back};
+ghost use Rattle.dtx_packets.specs.Packets.{packets_of, whole_packets};
+ghost use Rattle.dtx_repeated_feed.specs.DoneWith.{IsDoneWith};
+ghost use Rattle.dtx_file_laws.specs.Back.{CanBeCoded, all_back};
 ghost use Rattle.dtx_file_laws.specs.Damaged.{IsBurst, IsGap, SparesSyncs};
 
 use dtx_bursts::laws::{missing_symbols_in_a_row, syncs_are_found, wrong_symbols_in_a_row};
 use dtx_chain::laws::received_undamaged;
 use dtx_sizes::{GROUP_PACKETS, MOST_PACKETS, MOST_SEGMENTS};
 use dtx_symbol_laws::laws::mending::a_stretch_is_mended;
+
+/// What `code` makes of a stream whose packets begin with 0x47, or with the mark 0xB8, and are no more than may be: it
+/// is done, and OUT is the symbols of them all.
+pub fn a_stream_is_coded()
+    ensures { (names : List (List ℕ)) (stream : List ℕ) → whole_packets stream ≤ MOST_PACKETS → CanBeCoded stream
+        → IsDoneWith names (only (symbol_bytes (packets_of stream)))
+        (meaning_of_file shapes.coded_packets coding names stream) }
+{}
 
 /// What `receive` makes of segments in a row of a stream, received with at most ten wrong bytes a word and with their
 /// field syncs found: where a field sync is among them, all packets from the one behind it on whose bytes are all

@@ -1,36 +1,50 @@
 //! What a receiver's `run` gives back of what a sender's `run` left: statements that name no symbol, no codeword and no
 //! meaning of a command. Between the two the file is carried from one shelf to another, and may be damaged.
 
-ghost use Rattle.std.specs.Prelude.{◌≡◌, ◌<◌, ◌≤◌, ◌∷◌, [], ℕ, List, codes, decimal, length};
+ghost use Rattle.std.specs.Prelude.{◌≡◌, ◌≢◌, ◌⊎◌, ◌<◌, ◌≤◌, ◌∷◌, [], ℕ, List, codes, decimal, length};
 ghost use Rattle.dtx_galois.specs.Field.{AreBytes};
-ghost use Rattle.dtx_file_laws.specs.Back.{IsGivenBack, IsReadBack};
+ghost use Rattle.dtx_meaning.specs.Status.{IsFault};
+ghost use Rattle.dtx_packets.specs.Packets.{whole_packets};
+ghost use Rattle.dtx_file_laws.specs.Back.{CanBeCoded, IsGivenBack, IsReadBack};
 ghost use Rattle.dtx_file_laws.specs.Damaged.{IsBurst, IsGap, IsNoisy, SparesSyncs};
 ghost use Rattle.dtx_file_laws.specs.Told.{Holds};
 
 use crate::laws::acquiring::a_noisy_capture_is_acquired;
-use crate::laws::air::{bursts_come_back, what_was_coded_is_received};
+use crate::laws::air::{a_stream_is_coded, bursts_come_back, what_was_coded_is_received};
 use crate::laws::calls::{run_of_acquire, run_of_code, run_of_dvb_code, run_of_dvb_read};
 use crate::laws::calls::{run_of_mend, run_of_receive};
 use crate::laws::dvb_bytes::a_burst_is_read;
 use dtx_outside::{Shelf, Sink, Word};
 use dtx_packet_jobs::laws::dvb_streams::all_is_sent;
+use dtx_sizes::{GROUP_PACKETS, MOST_PACKETS};
 use dtx_symbol_laws::acquire_laws::{a_stream_is_acquired, all_is_acquired_of_a_file};
 use dtx_top::Status;
 use std::alloc::Global;
 
 /// `code IN SENT`, and then `receive SENT OUT`, over the same files, with both answers `Done`: OUT is the packets of IN
-/// that come back, with 0x47 as their sync bytes, and no other; no byte was put right, and none is flagged.
+/// that come back, with 0x47 as their sync bytes, and no other; no byte was put right, and none is flagged. Where IN has
+/// at least four packets and no more than may be, which begin with 0x47 or with the mark 0xB8, and the names are
+/// different and not empty, each answer is `Done`, or a fault or want of memory.
 pub fn run_there_and_back<S: Shelf, O: Sink>(
     alloc: Global,
     words: &(&[Word], &[Word]),
     shelf: &mut S,
     out: &mut O,
 ) -> (Status, Status)
-    ensures { (input sent output stream : List ℕ) → words.now.0.now ≡ codes "code" ∷ input ∷ sent ∷ []
+    ensures back { (input sent output stream : List ℕ) → words.now.0.now ≡ codes "code" ∷ input ∷ sent ∷ []
         → words.now.1.now ≡ codes "receive" ∷ sent ∷ output ∷ [] → AreBytes stream
         → Holds (S.files shelf.old) input stream → result.0 ≡ Status.Done → result.1 ≡ Status.Done
         → IsGivenBack stream 0 output (S.files shelf.new) (O.written out.new) }
+    ensures first { (input sent stream : List ℕ) → words.now.0.now ≡ codes "code" ∷ input ∷ sent ∷ []
+        → input ≢ [] → sent ≢ [] → input ≢ sent → whole_packets stream ≤ MOST_PACKETS → CanBeCoded stream
+        → Holds (S.files shelf.old) input stream → (result.0 ≡ Status.Done) ⊎ IsFault result.0 }
+    ensures second { (input sent output stream : List ℕ) → words.now.0.now ≡ codes "code" ∷ input ∷ sent ∷ []
+        → words.now.1.now ≡ codes "receive" ∷ sent ∷ output ∷ []
+        → sent ≢ [] → output ≢ [] → sent ≢ output → GROUP_PACKETS ≤ whole_packets stream → AreBytes stream
+        → Holds (S.files shelf.old) input stream → result.0 ≡ Status.Done
+        → (result.1 ≡ Status.Done) ⊎ IsFault result.1 }
 {
+    a_stream_is_coded();
     what_was_coded_is_received();
     let sent = run_of_code(alloc, words.0, shelf, out);
     let received = run_of_receive(alloc, words.1, shelf, out);
