@@ -9,6 +9,7 @@ pub mod Counted
 pub mod DvbEnds
 pub mod Excited
 pub mod Lines
+pub mod LogLines
 pub mod Mendable
 pub mod Stretches
 pub mod There

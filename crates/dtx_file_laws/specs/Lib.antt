@@ -1,3 +1,4 @@
 pub mod Back
 pub mod Damaged
+pub mod LogLines
 pub mod Told

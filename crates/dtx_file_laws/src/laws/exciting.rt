@@ -1,9 +1,10 @@
 //! What `excite` makes of the file of a feed (the profile's own, over ATSC A/53 Part 2 and in the manner of ATSC A/110).
 
-ghost use Rattle.std.specs.Prelude.{◌≡◌, ◌≢◌, ◌+◌, ◌≤◌, ◌∷◌, ◌++◌, [], ℕ, List, codes, decimal, slice_range};
+ghost use Rattle.std.specs.Prelude.{◌≡◌, ◌≢◌, ◌+◌, ◌≤◌, ◌∷◌, ◌++◌, [], ℕ, List, codes, decimal, map, slice_range};
 ghost use Rattle.dtx_adapter.specs.Feed.{feed};
 ghost use Rattle.dtx_engine.specs.Made.{both, only};
 ghost use Rattle.dtx_engine.specs.Recipe.{meaning_of_file};
+ghost use Rattle.dtx_exciter.specs.Log.{Line};
 ghost use Rattle.dtx_files.specs.LogText.{log_text};
 ghost use Rattle.dtx_files.specs.Symbols.{segment_bytes};
 ghost use Rattle.dtx_forms.specs.Shapes as shapes;
@@ -14,6 +15,8 @@ ghost use Rattle.dtx_packets.specs.Packets.{packets_of, whole_packets};
 ghost use Rattle.dtx_plan.specs.declared.plan.Plan.{Plan};
 ghost use Rattle.dtx_plan.specs.declared.transmitter.Transmitter.{Transmitter};
 ghost use Rattle.dtx_repeated_feed.specs.DoneWith.{IsDoneWith};
+ghost use Rattle.dtx_watch.specs.WatchLines.{words_of_lines};
+ghost use Rattle.dtx_file_laws.specs.LogLines.{line_words};
 ghost use Rattle.dtx_file_laws.specs.Told.{Holds};
 
 use crate::laws::calls::run_of_excite;
@@ -48,6 +51,12 @@ pub fn a_feed_is_sent()
 {
     from_a_mark();
 }
+
+/// Each line of a log is read back: cut at each line feed and each space, its text is the words of its lines, in their
+/// order, and one empty word behind the last line feed. The numbers among the words are spelled in decimal digits.
+pub fn log_lines_read_back()
+    ensures { (lines : List Line) → words_of_lines (log_text lines) ≡ map line_words lines ++ ([] ∷ []) ∷ [] }
+{}
 
 /// `excite FEED ADDRESS DELAY OUT LOG` over files that are told, where the answer is `Done`: FEED and the transmitter
 /// being as `a_feed_is_sent` asks, and OUT and LOG two files, these hold the feed's own symbols and presets. So of two
