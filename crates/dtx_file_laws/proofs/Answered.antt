@@ -1,9 +1,9 @@
 -- A call that is done over files that are told: what its words mean of the input's file is done, and its output is
 -- whole.
-use Rattle.std.proofs.Common.{◌≡◌, ◌⊎◌, ℕ, ◌%◌, ◌≤◌, ◌&&◌, cond, Bool, true, false, List, [], ◌∷◌, ◌++◌, refl, sym, ap}
+use Rattle.std.proofs.Common.{◌≡◌, ◌⊎◌, ℕ, ◌%◌, ◌≤◌, cond, Bool, true, false, List, [], ◌∷◌, refl, sym, ap}
 use Rattle.std.proofs.Common.{ap₂}
-use Rattle.std.proofs.Common.{subst, ◌∙◌, inl, inr, nat_lt, length, arith}
-use Rattle.std.specs.Prelude.{Option, Some, None, IfSome, IsSomeAnd, codes}
+use Rattle.std.proofs.Common.{subst, ◌∙◌, inl, inr, nat_lt, length}
+use Rattle.std.specs.Prelude.{Option, Some, None, IfSome}
 use Rattle.std.specs.FinMap.{get}
 use Rattle.std.proofs.lemmas.Bool.{ltb-false}
 use Rattle.dtx_engine.specs.Recipe.{Course, Recipe, course_from, first_refused, first_units, meaning, meaning_at}
@@ -15,9 +15,9 @@ use Rattle.dtx_meaning.specs.Status.{IsFault}
 use Rattle.dtx_meaning.proofs.MeaningLemmas.{status_of_done}
 use Rattle.dtx_meaning.specs.declared.status.Status.{Status}
 use Rattle.dtx_meaning.specs.declared.status.Status.TheVariants.{Done, Packet, Same, TooLong, Usage, WriteFault}
-use Rattle.dtx_outside.specs.Shelf.{Files, with_file}
+use Rattle.dtx_outside.specs.Shelf.{Files}
 use Rattle.dtx_outside.proofs.FilesLemmas.{get-insert_same}
-use Rattle.dtx_words.specs.Fitting.{command_of, is_name}
+use Rattle.dtx_words.specs.Fitting.{command_of}
 use Rattle.dtx_words.specs.declared.rows.Command.{Command}
 use Rattle.dtx_words.specs.Line.{done_line}
 use Rattle.dtx_words.specs.Printed.{printed}

@@ -1,16 +1,14 @@
 -- What is sent at one end and what is made of it at the other, where both calls are done.
-use Rattle.std.proofs.Common.{◌≡◌, ℕ, zero, suc, ◌+◌, ◌*◌, ◌/◌, ◌<◌, ◌≤◌, ◌⊎◌, inl, inr, List, [], ◌∷◌, length, take}
-use Rattle.std.proofs.Common.{drop, refl, sym, ap, ◌∙◌, subst, arith}
-use Rattle.std.specs.Prelude.{Option, Some, None, IfSome, IsSomeAnd}
+use Rattle.std.proofs.Common.{◌≡◌, ℕ, ◌*◌, ◌<◌, ◌≤◌, ◌⊎◌, inl, inr, List, [], ◌∷◌, length, take}
+use Rattle.std.proofs.Common.{drop, refl, sym, ap, ◌∙◌, arith}
+use Rattle.std.specs.Prelude.{Option, Some, None, IfSome}
 use Rattle.std.specs.FinMap.{get}
 use Rattle.std.proofs.lemmas.Bool.{cases_lt}
 use Rattle.std.proofs.lemmas.List.{append-nil, length-drop, length-take-le}
 use Rattle.dtx_galois.specs.Field.{AreBytes}
 use Rattle.dtx_chain.specs.Undamaged.{ArePackets}
 use Rattle.dtx_coder.proofs.CountsLemmas.{length-a53}
-use Rattle.dtx_coder.specs.Stream.{a53}
-use Rattle.dtx_engine.specs.Recipe.{meaning_at, meaning_of_file}
-use Rattle.dtx_engine.specs.declared.piece.Ending.TheVariants.{Whole}
+use Rattle.dtx_engine.specs.Recipe.{meaning_of_file}
 use Rattle.dtx_forms.proofs.AllowedFileLemmas.{all_read}
 use Rattle.dtx_forms.specs.Shapes.{coded_packets, segments}
 use Rattle.dtx_meaning.specs.Meaning.{IsAnswered, Meaning}
@@ -142,8 +140,7 @@ given_is giving is c line_law Fixed stream got output file status start now old 
     let all = back some in
     let text : done_line (Some c) m.outcome ≡ line_back (whole_packets stream) all.0 =
     ap (λ (x : Meaning). done_line (Some c) x.outcome) all.2 ∙ line_law (output ∷ []) (packets_of stream) all.0
-    ∙ ap (λ (n : ℕ). line_back n all.0) (length-packets_of stream) in
-    (
+    ∙ ap (λ (n : ℕ). line_back n all.0) (length-packets_of stream) in (
       all.0,
       all.1,
       record {

@@ -1,11 +1,10 @@
 -- A burst, or a gap, of a file's bytes is one of the symbols of its segments.
 use Rattle.std.proofs.Common.{◌≡◌, ℕ, ℤ, pos, ◌+◌, ◌*◌, ◌/◌, ◌%◌, ◌<◌, ◌≤◌, ◌⊎◌, inl, inr, Bool, true, false, List, []}
-use Rattle.std.proofs.Common.{length, take, drop, get_or, refl, sym, ap, ap₂, ◌∙◌, subst, arith}
+use Rattle.std.proofs.Common.{length, take, drop, get_or, refl, sym, ap, ◌∙◌, subst, arith}
 use Rattle.std.proofs.lemmas.List.{get_or-drop, get_or-map, get_or-take, length-drop, length-take-le}
 use Rattle.std.proofs.lemmas.List.FromFn.{get_or-map-range_with_len}
 use Rattle.dtx_bursts.specs.Burst as air
 use Rattle.dtx_bursts.specs.Burst.{LeavesSyncs, symbol_at, symbol_level}
-use Rattle.dtx_chain.specs.Damage.{to_sync}
 use Rattle.dtx_coder.specs.Stream.{a53}
 use Rattle.dtx_erase.specs.Marks.{is_missing}
 use Rattle.dtx_slice.specs.Slicing.{sliced}

@@ -1,12 +1,12 @@
 -- A capture whose samples lie near a stream's symbols, and what `acquire` answers and writes of it.
-use Rattle.std.proofs.Common.{◌≡◌, ◌≢◌, ℕ, ℤ, zero, suc, pos, ◌+◌, ◌-◌, ◌*◌, ◌/◌, ◌<◌, ◌≤◌, List, [], ◌∷◌, ◌++◌}
-use Rattle.std.proofs.Common.{length, map, take, drop, get_or, refl, sym, ap, ap₂, ◌∙◌, subst, arith}
+use Rattle.std.proofs.Common.{◌≡◌, ◌≢◌, ℕ, ℤ, zero, suc, pos, ◌+◌, ◌*◌, ◌<◌, ◌≤◌, List, [], ◌++◌}
+use Rattle.std.proofs.Common.{length, take, drop, get_or, refl, sym, ap, ◌∙◌, subst, arith}
 use Rattle.std.specs.Prelude.{◌-ℤ◌, ◌*ℤ◌, nat_abs}
 use Rattle.std.proofs.Math.Seq.{take-add}
 use Rattle.std.proofs.lemmas.List.{drop-drop, get_or-map, length-map, map-append, take_all}
 use Rattle.dtx_acquire.specs.Acquired.{acquired}
 use Rattle.dtx_acquire.specs.Sent.{AreNear}
-use Rattle.dtx_coder.proofs.CountsLemmas.{length-a53, length-a53_symbols}
+use Rattle.dtx_coder.proofs.CountsLemmas.{length-a53}
 use Rattle.dtx_coder.specs.Stream.{a53, a53_symbols, symbols_of}
 use Rattle.dtx_engine.specs.Made.{only, outputs_of}
 use Rattle.dtx_engine.specs.Recipe.{meaning_of_file}
@@ -17,7 +17,7 @@ use Rattle.dtx_repeated_feed.specs.DoneWith.{IsDoneWith}
 use Rattle.dtx_symbol_laws.specs.AcquiredFile.{acquired_of, file_acquired}
 use Rattle.dtx_jobs.specs.Acquire.{acquiring}
 use Rattle.dtx_jobs.proofs.StreamBackLemmas.{length-symbol_bytes, stream_read_back}
-use Rattle.dtx_jobs.specs.SymbolFile.{file_segments, segment_at, segments_from, symbol_of_byte, symbols, whole_segments}
+use Rattle.dtx_jobs.specs.SymbolFile.{segment_at, segments_from, symbol_of_byte, symbols, whole_segments}
 use Rattle.dtx_jobs.specs.Symbols.{symbol_bytes}
 use Rattle.dtx_file_laws.specs.Damaged.{IsNoisy}
 use Rattle.dtx_file_laws.proofs.Whole.{as_many, count_segments}

@@ -1,5 +1,5 @@
 -- What `dvb code` sends at one end, and `dvb read` gives back at the other, where both calls are done.
-use Rattle.std.proofs.Common.{◌≡◌, ℕ, ◌+◌, ◌-◌, ◌*◌, ◌<◌, ◌≤◌, Bool, true, false, not, List, [], ◌∷◌, length, take, drop}
+use Rattle.std.proofs.Common.{◌≡◌, ℕ, ◌-◌, ◌*◌, ◌<◌, ◌≤◌, Bool, true, false, not, List, [], ◌∷◌, length, take, drop}
 use Rattle.std.proofs.Common.{refl, sym, ap, ◌∙◌, arith}
 use Rattle.std.specs.Prelude.{Option, Some, None, IfSome, min}
 use Rattle.std.specs.FinMap.{get}
@@ -120,8 +120,7 @@ read_through law input sent got output stream bytes file coded given start mid a
     told_both at got file _ _ _ call.there call.files call.line (λ held here files line.
     let m : Meaning = meaning_of_file blocks dvb_reading (output ∷ []) file in
     let text : done_line (Some DvbRead) m.outcome ≡ dvb_line_back (whole_packets stream) all.0 =
-    ap (λ (x : Meaning). done_line (Some DvbRead) x.outcome) all.1 ∙ read_line (output ∷ []) stream all.0 in
-    (
+    ap (λ (x : Meaning). done_line (Some DvbRead) x.outcome) all.1 ∙ read_line (output ∷ []) stream all.0 in (
       all.0,
       record {
         packets = one_holds m output (take (188 * (whole_packets stream - 11)) stream) held now given

@@ -1,12 +1,12 @@
 -- What `excite` answers and writes of a file whose packets are known.
-use Rattle.std.proofs.Common.{◌≡◌, ◌≢◌, ℕ, ℤ, ◌%◌, ◌*◌, ◌≤◌, List, [], ◌∷◌, ◌++◌, length, take, sym, ap, ap₂, ◌∙◌}
+use Rattle.std.proofs.Common.{◌≡◌, ◌≢◌, ℕ, ℤ, ◌%◌, ◌*◌, ◌≤◌, List, [], ◌∷◌, length, take, sym, ap, ap₂, ◌∙◌}
 use Rattle.std.proofs.Common.{subst, arith}
 use Rattle.std.specs.Prelude.{min, Option, Some, None}
 use Rattle.std.specs.List.{range_with_len}
 use Rattle.std.proofs.lemmas.List.{append-nil}
 use Rattle.dtx_exciter.specs.Emission.{emission}
 use Rattle.dtx_exciter.specs.Log.{Line, life_lines}
-use Rattle.dtx_engine.specs.Made.{Made, both, joined, only, outputs_of}
+use Rattle.dtx_engine.specs.Made.{both, joined, only, outputs_of}
 use Rattle.dtx_engine.specs.Recipe.{first_refused, meaning_at, meaning_of_file, whole_units}
 use Rattle.dtx_engine.specs.declared.piece.Ending.TheVariants.{Whole}
 use Rattle.dtx_files.specs.LogText.{log_text}

@@ -1,17 +1,16 @@
 -- The lines that are printed where all comes back.
-use Rattle.std.proofs.Common.{◌≡◌, ℕ, ◌-◌, ◌<◌, List, [], ◌∷◌, ◌++◌, length, refl, sym, ap, ap₂, ◌∙◌, subst, arith}
-use Rattle.std.specs.Prelude.{Option, Some, None, IfSome, codes, decimal}
+use Rattle.std.proofs.Common.{◌≡◌, ℕ, ◌-◌, List, [], ◌∷◌, ◌++◌, length, refl, sym, ap, ap₂, ◌∙◌, subst, arith}
+use Rattle.std.specs.Prelude.{Option, Some, None, codes, decimal}
 use Rattle.std.proofs.lemmas.Fmt.{decimal_digit}
 use Rattle.std.proofs.lemmas.List.{append_assoc}
 use Rattle.dtx_coder.proofs.CountsLemmas.{length-a53}
 use Rattle.dtx_coder.specs.Stream.{a53}
-use Rattle.dtx_meaning.specs.Meaning.{Meaning}
 use Rattle.dtx_packet_jobs.specs.DvbBack.{back_of}
 use Rattle.dtx_packets.specs.Packets.{whole_packets}
 use Rattle.dtx_words.specs.Line.{done_line, numbered}
 use Rattle.dtx_words.specs.Printed.{printed}
 use Rattle.dtx_words.specs.declared.rows.Command.TheVariants.{DvbRead, Mend, Receive}
-use Rattle.dtx_file_laws.specs.Back.{all_back, back_of_all, dvb_line_back, line_back, segments_of_all}
+use Rattle.dtx_file_laws.specs.Back.{all_back, back_of_all, dvb_line_back, line_back}
 use Rattle.dtx_file_laws.specs.Told.{EndsWith}
 
 -- each label with its number behind it, and then a text

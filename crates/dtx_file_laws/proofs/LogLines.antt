@@ -72,8 +72,19 @@ why_is Cadence =
     spelled (codes "cadence")
     (omega arith, (omega arith, (omega arith, (omega arith, (omega arith, (omega arith, (omega arith, tt)))))))
 why_is Unlisted =
-    spelled (codes "unlisted") (omega arith, (omega arith, (omega arith, (omega arith,
-    (omega arith, (omega arith, (omega arith, (omega arith, tt))))))))
+    spelled (codes "unlisted") (
+      omega arith,
+      (
+        omega arith,
+        (
+          omega arith,
+          (
+            omega arith,
+            (omega arith, (omega arith, (omega arith, (omega arith, tt)))),
+          ),
+        ),
+      ),
+    )
 why_is Late = spelled (codes "late") (omega arith, (omega arith, (omega arith, (omega arith, tt))))
 
 later_are : (line : Line) → AllByRecursion IsWord (later_words line)

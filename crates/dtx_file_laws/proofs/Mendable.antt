@@ -1,5 +1,5 @@
 -- Words of which no byte is wrong and at most twenty are missing can be mended.
-use Rattle.std.proofs.Common.{◌≡◌, ℕ, ℤ, ◌+◌, ◌*◌, ◌≤◌, Bool, List, arith}
+use Rattle.std.proofs.Common.{◌≡◌, ℕ, ℤ, ◌+◌, ◌*◌, ◌≤◌, List, arith}
 use Rattle.dtx_chain.specs.Damage.{AreFound, codeword_at, from_sync, packet_behind, word_in}
 use Rattle.dtx_erase.specs.Marks.{marks_in}
 use Rattle.dtx_erase.specs.Mended.{marks_at}

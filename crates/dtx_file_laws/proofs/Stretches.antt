@@ -21,7 +21,7 @@ use Rattle.dtx_engine.specs.Recipe.{meaning_of_file}
 use Rattle.dtx_forms.specs.Shapes.{segments}
 use Rattle.dtx_jobs.proofs.GivenLemmas.{sync_answered}
 use Rattle.dtx_jobs.specs.Giving.{answer_of}
-use Rattle.dtx_jobs.specs.MendedBack.{all_back_of, put_right}
+use Rattle.dtx_jobs.specs.MendedBack.{all_back_of}
 use Rattle.dtx_jobs.specs.Receive.{receiving, with_corrections}
 use Rattle.dtx_jobs.proofs.ReceivedLemmas.{all_received}
 use Rattle.dtx_jobs.specs.SymbolFile.{file_segments, whole_segments}

@@ -1,6 +1,6 @@
 -- No symbol of a stream is missing: none is -128.
 use Rattle.std.proofs.Common.{◌≡◌, ℕ, ℤ, zero, suc, pos, negsuc, ◌+◌, ◌-◌, ◌*◌, ◌/◌, ◌%◌, ◌<◌, ◌==◌, Bool, true, false}
-use Rattle.std.proofs.Common.{not, cond, List, [], ◌∷◌, ◌++◌, length, map, take, drop, replicate, get_or, refl, arith}
+use Rattle.std.proofs.Common.{cond, List, [], ◌∷◌, ◌++◌, length, map, take, drop, replicate, get_or, refl, arith}
 use Rattle.std.specs.Prelude.{nat_le}
 use Rattle.std.specs.List.{range_with_len, AllByRecursion}
 use Rattle.dtx_bursts.specs.Burst.{symbol_at}

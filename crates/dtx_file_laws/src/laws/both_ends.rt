@@ -11,8 +11,9 @@ ghost use Rattle.dtx_file_laws.specs.Told.{Holds};
 
 use crate::laws::acquiring::a_noisy_capture_is_acquired;
 use crate::laws::air::{a_stream_is_coded, bursts_come_back, what_was_coded_is_received};
-use crate::laws::calls::{run_of_acquire, run_of_code, run_of_dvb_code, run_of_dvb_read};
-use crate::laws::calls::{run_of_mend, run_of_receive};
+use crate::laws::calls::{
+    run_of_acquire, run_of_code, run_of_dvb_code, run_of_dvb_read, run_of_mend, run_of_receive,
+};
 use crate::laws::dvb_bytes::a_burst_is_read;
 use dtx_outside::{Shelf, Sink, Word};
 use dtx_packet_jobs::laws::dvb_streams::all_is_sent;

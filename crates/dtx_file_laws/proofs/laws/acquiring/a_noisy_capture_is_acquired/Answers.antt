@@ -1,4 +1,3 @@
-use Rattle.std.proofs.Common.{arith}
 use Rattle.dtx_jobs.specs.SymbolFile.{symbols}
 use Rattle.dtx_file_laws.proofs.Captured.{acquired_with, are_near, few_symbols}
 use Rattle.dtx_file_laws.proofs.laws.acquiring.a_noisy_capture_is_acquired.Goals as goal

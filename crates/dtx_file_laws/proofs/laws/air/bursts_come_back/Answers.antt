@@ -12,8 +12,7 @@ returns-clause-wrong c = λ names packets file from are some few burst spares.
     let sent = a53 packets in
     let got = file_segments file in
     let is = are_received packets file burst.as_many in
-    let wrong = burst_of_symbols 2022 from packets file burst in
-    (
+    let wrong = burst_of_symbols 2022 from packets file burst in (
       put_right packets 0 got,
       near_back names packets file are some few burst.as_many
           (c.wrong_symbols_in_a_row.ensures packets 0 from sent got is are
@@ -26,8 +25,7 @@ returns-clause-missing c = λ names packets file from are some few gap spares.
     let sent = a53 packets in
     let got = file_segments file in
     let is = are_received packets file gap.as_many in
-    let missing = gap_of_symbols 4141 from packets file gap in
-    (
+    let missing = gap_of_symbols 4141 from packets file gap in (
       put_right packets 0 got,
       c.a_stretch_is_mended.ensures names packets 0 sent file (few_segments packets file few gap.as_many) are is
           (some_segments packets some)

@@ -1,4 +1,4 @@
-use Rattle.dtx_file_laws.proofs.CaptureEnds.{Laws, acquire_through}
+use Rattle.dtx_file_laws.proofs.CaptureEnds.{acquire_through}
 use Rattle.dtx_file_laws.proofs.laws.both_ends.run_of_code_and_acquire.Goals as goal
 
 pub returns : goal.returns

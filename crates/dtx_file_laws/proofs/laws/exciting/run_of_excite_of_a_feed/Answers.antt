@@ -1,7 +1,4 @@
 use Rattle.std.proofs.Common.{[], ◌∷◌, sym, ◌∙◌}
-use Rattle.dtx_adapter.specs.Feed.{feed}
-use Rattle.dtx_network.specs.Headline.{stretch_of}
-use Rattle.dtx_network.specs.Presets.{presets}
 use Rattle.dtx_file_laws.proofs.BothEnds.{told_so}
 use Rattle.dtx_file_laws.proofs.Excited.{few_read, two_hold}
 use Rattle.dtx_file_laws.proofs.laws.exciting.run_of_excite_of_a_feed.Goals as goal
