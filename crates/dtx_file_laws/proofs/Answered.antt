@@ -43,15 +43,15 @@ answered_of m start now status unprinted is done = elim is [
 -- ---- the words
 
 -- what is meant of an input, unless two names are equal
-abbrev pub unless : Bool → Shape → Recipe → List (List ℕ) → List ℕ → Files → Meaning
-unless same shape recipe names input held =
-    cond same (refused Same) (meaning shape recipe 0 names (get held input))
+abbrev pub unless : Bool → Shape → Recipe → ℕ → List (List ℕ) → List ℕ → Files → Meaning
+unless same shape recipe which names input held =
+    cond same (refused Same) (meaning shape recipe which names (get held input))
 
 -- The words fit that command, or none; and what they mean then is made of an input, unless two names are equal.
 pub record IsRead (words : List (List ℕ)) (fit : Bool) (c : Command) (same : Bool) (shape : Shape) (recipe : Recipe)
-    (names : List (List ℕ)) (input : List ℕ) (held : Files) : Type 0 where
+    (which : ℕ) (names : List (List ℕ)) (input : List ℕ) (held : Files) : Type 0 where
   pub fits : command_of words ≡ cond fit (Some c) None
-  pub reads : means_of (Some c) words held ≡ unless same shape recipe names input held
+  pub reads : means_of (Some c) words held ≡ unless same shape recipe which names input held
 
 -- where what words mean is done, they fit the command
 means_fit : (words : List (List ℕ)) (held : Files) (fit : Bool) (c : Command)
@@ -63,10 +63,11 @@ means_fit words held fit c is done =
     by_test true d = refl
     by_test false d = let e : Usage ≡ Done = d in absurd (let no : ⊥ = cc in no)
 
-not_same : (same : Bool) (shape : Shape) (recipe : Recipe) (names : List (List ℕ)) (input : List ℕ) (held : Files)
-    → (unless same shape recipe names input held).outcome.status ≡ Done → same ≡ false
-not_same true shape recipe names input held d = let e : Same ≡ Done = d in absurd (let no : ⊥ = cc in no)
-not_same false shape recipe names input held d = refl
+not_same : (same : Bool) (shape : Shape) (recipe : Recipe) (which : ℕ) (names : List (List ℕ)) (input : List ℕ)
+    (held : Files)
+    → (unless same shape recipe which names input held).outcome.status ≡ Done → same ≡ false
+not_same true shape recipe which names input held d = let e : Same ≡ Done = d in absurd (let no : ⊥ = cc in no)
+not_same false shape recipe which names input held d = refl
 
 -- the command that the words fit
 fitting : (words : List (List ℕ)) (fit : Bool) (c : Command) → command_of words ≡ cond fit (Some c) None → fit ≡ true
@@ -75,13 +76,13 @@ fitting words fit c is fits = is ∙ ap (λ (t : Bool). cond {A = Option Command
 
 -- what words mean that fit, whose names are different, and whose input is there
 pub means_file : (words : List (List ℕ)) (fit : Bool) (c : Command) (same : Bool) (shape : Shape) (recipe : Recipe)
-    (names : List (List ℕ)) (input file : List ℕ) (held : Files)
-    → IsRead words fit c same shape recipe names input held → fit ≡ true → same ≡ false → get held input ≡ Some file
+    (which : ℕ) (names : List (List ℕ)) (input file : List ℕ) (held : Files)
+    → IsRead words fit c same shape recipe which names input held → fit ≡ true → same ≡ false → get held input ≡ Some file
     → means words held ≡ meaning_of_file shape recipe names file
-means_file words fit c same shape recipe names input file held read fits apart there =
+means_file words fit c same shape recipe which names input file held read fits apart there =
     ap (λ (o : Option Command). means_of o words held) (fitting words fit c read.fits fits)
-    ∙ read.reads ∙ ap (λ (t : Bool). unless t shape recipe names input held) apart
-    ∙ ap (meaning shape recipe 0 names) there
+    ∙ read.reads ∙ ap (λ (t : Bool). unless t shape recipe which names input held) apart
+    ∙ ap (meaning shape recipe which names) there
 
 -- and so where it is done
 record IsFitting (words : List (List ℕ)) (fit same : Bool) : Type 0 where
@@ -89,49 +90,49 @@ record IsFitting (words : List (List ℕ)) (fit same : Bool) : Type 0 where
   pub apart : same ≡ false
 
 done_fits : (words : List (List ℕ)) (fit : Bool) (c : Command) (same : Bool) (shape : Shape) (recipe : Recipe)
-    (names : List (List ℕ)) (input : List ℕ) (held : Files) → IsRead words fit c same shape recipe names input held
+    (which : ℕ) (names : List (List ℕ)) (input : List ℕ) (held : Files) → IsRead words fit c same shape recipe which names input held
     → (means words held).outcome.status ≡ Done → IsFitting words fit same
-done_fits words fit c same shape recipe names input held read done =
+done_fits words fit c same shape recipe which names input held read done =
     let fits = means_fit words held fit c read.fits done in
-    let e : means words held ≡ unless same shape recipe names input held =
+    let e : means words held ≡ unless same shape recipe which names input held =
     ap (λ (o : Option Command). means_of o words held) (fitting words fit c read.fits fits) ∙ read.reads in
     record {
       fits = fits;
-      apart = not_same same shape recipe names input held (subst (λ (m : Meaning). m.outcome.status ≡ Done) e done);
+      apart = not_same same shape recipe which names input held (subst (λ (m : Meaning). m.outcome.status ≡ Done) e done);
     }
 
 -- ---- the call
 
 -- it answers that all is done
 pub answered : (words : List (List ℕ)) (fit : Bool) (c : Command) (same : Bool) (shape : Shape) (recipe : Recipe)
-    (names : List (List ℕ)) (input file : List ℕ) (held : Files) (now : Option Files) (status : Status)
-    (unprinted : Type 0) → IsRead words fit c same shape recipe names input held → get held input ≡ Some file
+    (which : ℕ) (names : List (List ℕ)) (input file : List ℕ) (held : Files) (now : Option Files) (status : Status)
+    (unprinted : Type 0) → IsRead words fit c same shape recipe which names input held → get held input ≡ Some file
     → status ≡ Done → IsDone (means words held) (Some held) status unprinted now
     → IsAnswered (meaning_of_file shape recipe names file) (Some held) status now
-answered words fit c same shape recipe names input file held now status unprinted read there done carried =
+answered words fit c same shape recipe which names input file held now status unprinted read there done carried =
     let is = answered_of (means words held) (Some held) now status unprinted carried done in
-    let fitting = done_fits words fit c same shape recipe names input held read (sym is.answer ∙ done) in
+    let fitting = done_fits words fit c same shape recipe which names input held read (sym is.answer ∙ done) in
     subst (λ (m : Meaning). IsAnswered m (Some held) status now)
-    (means_file words fit c same shape recipe names input file held read fitting.fits fitting.apart there) is
+    (means_file words fit c same shape recipe which names input file held read fitting.fits fitting.apart there) is
 
 -- it answers what is meant, or a fault
 pub ended_so : (words : List (List ℕ)) (fit : Bool) (c : Command) (same : Bool) (shape : Shape) (recipe : Recipe)
-    (names : List (List ℕ)) (input file : List ℕ) (held : Files) (now : Option Files) (status : Status)
-    (unprinted : Type 0) → IsRead words fit c same shape recipe names input held → fit ≡ true → same ≡ false
+    (which : ℕ) (names : List (List ℕ)) (input file : List ℕ) (held : Files) (now : Option Files) (status : Status)
+    (unprinted : Type 0) → IsRead words fit c same shape recipe which names input held → fit ≡ true → same ≡ false
     → get held input ≡ Some file → IsDone (means words held) (Some held) status unprinted now
     → (status ≡ (meaning_of_file shape recipe names file).outcome.status) ⊎ IsFault status
-ended_so words fit c same shape recipe names input file held now status unprinted read fits apart there carried =
-    let e = means_file words fit c same shape recipe names input file held read fits apart there in
+ended_so words fit c same shape recipe which names input file held now status unprinted read fits apart there carried =
+    let e = means_file words fit c same shape recipe which names input file held read fits apart there in
     subst (λ (m : Meaning). (status ≡ m.outcome.status) ⊎ IsFault status) e
     (status_of_done (means words held) (Some held) now status unprinted carried)
 
 -- and its line
 pub lined : (words : List (List ℕ)) (fit : Bool) (c : Command) (same : Bool) (shape : Shape) (recipe : Recipe)
-    (names : List (List ℕ)) (input file : List ℕ) (held : Files) (old new : Option (List ℕ)) (status : Status)
-    (unprinted : Type 0) → IsRead words fit c same shape recipe names input held → get held input ≡ Some file
+    (which : ℕ) (names : List (List ℕ)) (input file : List ℕ) (held : Files) (old new : Option (List ℕ)) (status : Status)
+    (unprinted : Type 0) → IsRead words fit c same shape recipe which names input held → get held input ≡ Some file
     → status ≡ Done → HasLine (IsToldLine (command_of words) words held) status unprinted old new
     → new ≡ printed (done_line (Some c) (meaning_of_file shape recipe names file).outcome) old
-lined words fit c same shape recipe names input file held old new status unprinted read there done line =
+lined words fit c same shape recipe which names input file held old new status unprinted read there done line =
     let P : Status → Type 0 = λ s. HasLine (IsToldLine (command_of words) words held) s unprinted old new in
     of_done (subst P done line)
   where
@@ -139,8 +140,8 @@ lined words fit c same shape recipe names input file held old new status unprint
         → new ≡ printed (done_line (Some c) (meaning_of_file shape recipe names file).outcome) old
     of_done whole =
         let own : (means words held).outcome.status ≡ Done = whole.line.done refl in
-        let is = done_fits words fit c same shape recipe names input held read own in
-        let e = means_file words fit c same shape recipe names input file held read is.fits is.apart there in
+        let is = done_fits words fit c same shape recipe which names input held read own in
+        let e = means_file words fit c same shape recipe which names input file held read is.fits is.apart there in
         whole.whole ∙ ap (λ (text : List ℕ). printed text old) (whole.line.line
         ∙ ap₂ (λ (o : Option Command) (m : Meaning). done_line o m.outcome)
         (fitting words fit c read.fits is.fits) e)

@@ -1,19 +1,27 @@
 -- What the words of each command mean, where it is done.
 use Rattle.std.proofs.Common.{◌≡◌, ◌≢◌, ℕ, ◌^◌, ◌<◌, ◌≤◌, ◌&&◌, not, Bool, true, false, List, [], ◌∷◌, length}
 use Rattle.std.proofs.Common.{refl, sym, ap, ap₂, ◌∙◌, subst, arith}
-use Rattle.std.specs.Prelude.{Some, None, codes, decimal, is_some, nat_le}
+use Rattle.std.specs.Prelude.{Ok, Some, None, codes, decimal, is_some, nat_le}
+use Rattle.std.specs.FinMap.{get}
 use Rattle.std.specs.Str.{bytes_eq}
 use Rattle.std.specs.Str.Parse.{AllDigits, digits_value}
 use Rattle.std.proofs.lemmas.Bool.{and_from, cond-true, le-leb, ne_eqb}
 use Rattle.std.proofs.lemmas.Fmt.{digits_value-decimal}
 use Rattle.std.proofs.lemmas.Slice.Eq.{bytes_eq-Decides}
 use Rattle.std.proofs.lemmas.Str.Parse.{IsNumeralModel, numerals_by_value, tells_digits}
-use Rattle.dtx_forms.specs.Shapes.{coded_packets, segments, single_bytes}
+use Rattle.dtx_engine.specs.Recipe.{meaning}
+use Rattle.dtx_forms.specs.Job.{unless_same}
+use Rattle.dtx_forms.specs.PlanFile.{under_plan, under_said}
+use Rattle.dtx_forms.specs.Shapes.{coded_packets, packets, segments, single_bytes}
 use Rattle.dtx_forms.specs.Transmit.{transmit_with}
+use Rattle.dtx_meaning.specs.Meaning.{Meaning}
 use Rattle.dtx_outside.specs.Shelf.{Files}
+use Rattle.dtx_packet_jobs.specs.Adapt.{feeding}
 use Rattle.dtx_packet_jobs.specs.DvbCode.{dvb_coding}
 use Rattle.dtx_packet_jobs.specs.DvbRead.{dvb_reading}
 use Rattle.dtx_packet_jobs.specs.DvbShapes.{blocks, dvb_packets}
+use Rattle.dtx_plan.specs.Plan.{plan_of}
+use Rattle.dtx_plan.specs.declared.plan.Plan.{Plan}
 use Rattle.dtx_jobs.specs.Acquire.{acquire_at, acquiring}
 use Rattle.dtx_jobs.specs.Code.{coding}
 use Rattle.dtx_jobs.specs.Excite.{exciting}
@@ -22,49 +30,50 @@ use Rattle.dtx_jobs.specs.Receive.{receiving}
 use Rattle.dtx_words.specs.Fitting.{is_name}
 use Rattle.dtx_words.specs.Names.{repeated}
 use Rattle.dtx_words.specs.Number.{at_least, number_in, number_within}
-use Rattle.dtx_words.specs.declared.rows.Command.TheVariants.{Acquire, Code, DvbCode, DvbRead, Excite, Mend, Receive}
+use Rattle.dtx_words.specs.declared.rows.Command.TheVariants.{Acquire, Adapt, Code, DvbCode, DvbRead, Excite, Mend}
+use Rattle.dtx_words.specs.declared.rows.Command.TheVariants.{Receive}
 use Rattle.dtx_file_laws.proofs.Answered.{IsRead}
 
 -- ---- words without numbers
 
 pub code_read : (words : List (List ℕ)) (input output : List ℕ) (held : Files)
     → words ≡ codes "code" ∷ input ∷ output ∷ [] → IsRead words (is_name input && (is_name output && true)) Code
-    (bytes_eq input output) coded_packets coding (output ∷ []) input held
+    (bytes_eq input output) coded_packets coding 0 (output ∷ []) input held
 code_read words input output held is =
     subst (λ (ws : List (List ℕ)). IsRead ws (is_name input && (is_name output && true)) Code
-    (bytes_eq input output) coded_packets coding (output ∷ []) input held) (sym is)
+    (bytes_eq input output) coded_packets coding 0 (output ∷ []) input held) (sym is)
     (record { fits = refl; reads = refl })
 
 pub receive_read : (words : List (List ℕ)) (input output : List ℕ) (held : Files)
     → words ≡ codes "receive" ∷ input ∷ output ∷ [] → IsRead words (is_name input && (is_name output && true)) Receive
-    (bytes_eq input output) segments receiving (output ∷ []) input held
+    (bytes_eq input output) segments receiving 0 (output ∷ []) input held
 receive_read words input output held is =
     subst (λ (ws : List (List ℕ)). IsRead ws (is_name input && (is_name output && true)) Receive
-    (bytes_eq input output) segments receiving (output ∷ []) input held) (sym is)
+    (bytes_eq input output) segments receiving 0 (output ∷ []) input held) (sym is)
     (record { fits = refl; reads = refl })
 
 pub mend_read : (words : List (List ℕ)) (input output : List ℕ) (held : Files)
     → words ≡ codes "mend" ∷ input ∷ output ∷ [] → IsRead words (is_name input && (is_name output && true)) Mend
-    (bytes_eq input output) segments mending_symbols (output ∷ []) input held
+    (bytes_eq input output) segments mending_symbols 0 (output ∷ []) input held
 mend_read words input output held is =
     subst (λ (ws : List (List ℕ)). IsRead ws (is_name input && (is_name output && true)) Mend
-    (bytes_eq input output) segments mending_symbols (output ∷ []) input held) (sym is)
+    (bytes_eq input output) segments mending_symbols 0 (output ∷ []) input held) (sym is)
     (record { fits = refl; reads = refl })
 
 pub dvb_code_read : (words : List (List ℕ)) (input output : List ℕ) (held : Files)
     → words ≡ codes "dvb" ∷ codes "code" ∷ input ∷ output ∷ [] → IsRead words (is_name input && (is_name output && true)) DvbCode
-    (bytes_eq input output) dvb_packets dvb_coding (output ∷ []) input held
+    (bytes_eq input output) dvb_packets dvb_coding 0 (output ∷ []) input held
 dvb_code_read words input output held is =
     subst (λ (ws : List (List ℕ)). IsRead ws (is_name input && (is_name output && true)) DvbCode
-    (bytes_eq input output) dvb_packets dvb_coding (output ∷ []) input held) (sym is)
+    (bytes_eq input output) dvb_packets dvb_coding 0 (output ∷ []) input held) (sym is)
     (record { fits = refl; reads = refl })
 
 pub dvb_read_read : (words : List (List ℕ)) (input output : List ℕ) (held : Files)
     → words ≡ codes "dvb" ∷ codes "read" ∷ input ∷ output ∷ [] → IsRead words (is_name input && (is_name output && true)) DvbRead
-    (bytes_eq input output) blocks dvb_reading (output ∷ []) input held
+    (bytes_eq input output) blocks dvb_reading 0 (output ∷ []) input held
 dvb_read_read words input output held is =
     subst (λ (ws : List (List ℕ)). IsRead ws (is_name input && (is_name output && true)) DvbRead
-    (bytes_eq input output) blocks dvb_reading (output ∷ []) input held) (sym is)
+    (bytes_eq input output) blocks dvb_reading 0 (output ∷ []) input held) (sym is)
     (record { fits = refl; reads = refl })
 
 -- where the names are not empty and different, the words fit and no two names are equal
@@ -105,11 +114,11 @@ spelled_scale scale some most =
 pub acquire_read : (words : List (List ℕ)) (scale : ℕ) (input output : List ℕ) (held : Files)
     → words ≡ codes "acquire" ∷ decimal scale ∷ input ∷ output ∷ [] → 0 < scale → scale ≤ 18
     → IsRead words (is_some (number_within 1 18 (decimal scale)) && (is_name input && (is_name output && true))) Acquire
-    (bytes_eq input output) single_bytes (acquiring scale) (output ∷ []) input held
+    (bytes_eq input output) single_bytes (acquiring scale) 0 (output ∷ []) input held
 acquire_read words scale input output held is some most =
     subst (λ (ws : List (List ℕ)). IsRead ws
     (is_some (number_within 1 18 (decimal scale)) && (is_name input && (is_name output && true))) Acquire
-    (bytes_eq input output) single_bytes (acquiring scale) (output ∷ []) input held) (sym is)
+    (bytes_eq input output) single_bytes (acquiring scale) 0 (output ∷ []) input held) (sym is)
     (record {
       fits = refl;
       reads = ap (λ number. acquire_at number input output held) (spelled_scale scale some most);
@@ -120,12 +129,12 @@ pub excite_read : (words : List (List ℕ)) (address delay : ℕ) (input output 
     → address ≤ 65535 → delay ≤ 4294967295
     → IsRead words (is_name input && (is_some (number_in 65535 (decimal address))
     && (is_some (number_in 4294967295 (decimal delay)) && (is_name output && (is_name log && true))))) Excite
-    (is_some (repeated (input ∷ output ∷ log ∷ []))) coded_packets (exciting address delay) (output ∷ log ∷ []) input
+    (is_some (repeated (input ∷ output ∷ log ∷ []))) coded_packets (exciting address delay) 0 (output ∷ log ∷ []) input
     held
 excite_read words address delay input output log held is small_address small_delay =
     subst (λ (ws : List (List ℕ)). IsRead ws (is_name input && (is_some (number_in 65535 (decimal address))
     && (is_some (number_in 4294967295 (decimal delay)) && (is_name output && (is_name log && true))))) Excite
-    (is_some (repeated (input ∷ output ∷ log ∷ []))) coded_packets (exciting address delay) (output ∷ log ∷ []) input
+    (is_some (repeated (input ∷ output ∷ log ∷ []))) coded_packets (exciting address delay) 0 (output ∷ log ∷ []) input
     held) (sym is)
     (record {
       fits = refl;
@@ -137,3 +146,17 @@ pub acquire_named : (scale : ℕ) (input output : List ℕ) → 0 < scale → sc
     → (is_some (number_within 1 18 (decimal scale)) && (is_name input && (is_name output && true))) ≡ true
 acquire_named scale input output some most in_named out_named =
     and_from _ _ (ap is_some (spelled_scale scale some most)) (both_named input output in_named out_named)
+
+pub adapt_read : (words : List (List ℕ)) (plan input output bytes : List ℕ) (said : Plan) (held : Files)
+    → words ≡ codes "adapt" ∷ plan ∷ input ∷ output ∷ [] → get held plan ≡ Some bytes → plan_of bytes ≡ Ok said
+    → IsRead words (is_name plan && (is_name input && (is_name output && true))) Adapt
+    (is_some (repeated (plan ∷ input ∷ output ∷ []))) packets (feeding said) 1 (output ∷ []) input held
+adapt_read words plan input output bytes said held is there says =
+    let means : Plan → Meaning = λ p. meaning packets (feeding p) 1 (output ∷ []) (get held input) in
+    subst (λ (ws : List (List ℕ)). IsRead ws (is_name plan && (is_name input && (is_name output && true))) Adapt
+    (is_some (repeated (plan ∷ input ∷ output ∷ []))) packets (feeding said) 1 (output ∷ []) input held) (sym is)
+    (record {
+      fits = refl;
+      reads = ap (λ found. unless_same (repeated (plan ∷ input ∷ output ∷ [])) (under_plan 0 found means)) there
+          ∙ ap (λ said. unless_same (repeated (plan ∷ input ∷ output ∷ [])) (under_said means said)) says;
+    })

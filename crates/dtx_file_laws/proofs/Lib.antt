@@ -8,6 +8,7 @@ pub mod Coded
 pub mod Counted
 pub mod DvbEnds
 pub mod Excited
+pub mod FeedEnds
 pub mod Lines
 pub mod LogLines
 pub mod Mendable

@@ -5,3 +5,4 @@ pub mod both_ends;
 pub mod calls;
 pub mod dvb_bytes;
 pub mod exciting;
+pub mod single_frequency;

@@ -2,15 +2,18 @@
 //! done and its outputs are whole. Where the names are different and not empty, the answer is that of this meaning, or a
 //! fault or want of memory.
 
-ghost use Rattle.std.specs.Prelude.{◌≡◌, ◌≢◌, ◌⊎◌, ◌<◌, ◌≤◌, ◌∷◌, [], ℕ, IfSome, List, Some, codes, decimal};
+ghost use Rattle.std.specs.Prelude.{◌≡◌, ◌≢◌, ◌⊎◌, ◌<◌, ◌≤◌, ◌∷◌, [], ℕ, IfSome, List, Ok, Some, codes, decimal};
 ghost use Rattle.std.specs.FinMap.{get};
 ghost use Rattle.dtx_engine.specs.Recipe.{meaning_of_file};
 ghost use Rattle.dtx_forms.specs.Shapes as shapes;
 ghost use Rattle.dtx_meaning.specs.Meaning.{IsAnswered};
 ghost use Rattle.dtx_meaning.specs.Status.{IsFault};
+ghost use Rattle.dtx_packet_jobs.specs.Adapt.{feeding};
 ghost use Rattle.dtx_packet_jobs.specs.DvbCode.{dvb_coding};
 ghost use Rattle.dtx_packet_jobs.specs.DvbRead.{dvb_reading};
 ghost use Rattle.dtx_packet_jobs.specs.DvbShapes as dvb;
+ghost use Rattle.dtx_plan.specs.Plan.{plan_of};
+ghost use Rattle.dtx_plan.specs.declared.plan.Plan.{Plan};
 ghost use Rattle.dtx_jobs.specs.Acquire.{acquiring};
 ghost use Rattle.dtx_jobs.specs.Code.{coding};
 ghost use Rattle.dtx_jobs.specs.Excite.{exciting};
@@ -171,6 +174,23 @@ pub fn run_of_excite<S: Shelf, O: Sink>(
         → IfSome (S.files shelf.old) (λ held. get held input ≡ Some file → result ≡ Status.Done
         → IsAnswered (meaning_of_file shapes.coded_packets (exciting address delay) (output ∷ log ∷ []) file)
         (Some held) result (S.files shelf.new)) }
+{
+    run(alloc, words, shelf, out)
+}
+
+/// `adapt PLAN IN OUT`, where PLAN is a plan: what is made of IN's packets under it is done, and is what OUT holds.
+pub fn run_of_adapt<S: Shelf, O: Sink>(
+    alloc: Global,
+    words: &[Word],
+    shelf: &mut S,
+    out: &mut O,
+) -> Status
+    ensures { (plan : Plan) (plan_name input output bytes file : List ℕ)
+        → words.now ≡ codes "adapt" ∷ plan_name ∷ input ∷ output ∷ [] → plan_of bytes ≡ Ok plan
+        → IfSome (S.files shelf.old) (λ held. get held plan_name ≡ Some bytes → get held input ≡ Some file
+        → result ≡ Status.Done
+        → IsAnswered (meaning_of_file shapes.packets (feeding plan) (output ∷ []) file) (Some held) result
+        (S.files shelf.new)) }
 {
     run(alloc, words, shelf, out)
 }
