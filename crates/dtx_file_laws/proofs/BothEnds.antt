@@ -1,6 +1,6 @@
 -- What is sent at one end and what is made of it at the other, where both calls are done.
-use Rattle.std.proofs.Common.{◌≡◌, ℕ, ◌*◌, ◌<◌, ◌≤◌, ◌⊎◌, inl, inr, List, [], ◌∷◌, length, take}
-use Rattle.std.proofs.Common.{drop, refl, sym, ap, ◌∙◌, arith}
+use Rattle.std.proofs.Common.{◌≡◌, ◌≢◌, ℕ, ◌*◌, ◌<◌, ◌≤◌, ◌⊎◌, inl, inr, List, [], ◌∷◌, length, take}
+use Rattle.std.proofs.Common.{drop, refl, sym, ap, ◌∙◌, subst, arith}
 use Rattle.std.specs.Prelude.{Option, Some, None, IfSome}
 use Rattle.std.specs.FinMap.{get}
 use Rattle.std.proofs.lemmas.Bool.{cases_lt}
@@ -11,10 +11,11 @@ use Rattle.dtx_coder.proofs.CountsLemmas.{length-a53}
 use Rattle.dtx_engine.specs.Recipe.{meaning_of_file}
 use Rattle.dtx_forms.proofs.AllowedFileLemmas.{all_read}
 use Rattle.dtx_forms.specs.Shapes.{coded_packets, segments}
-use Rattle.dtx_meaning.specs.Meaning.{IsAnswered, Meaning}
+use Rattle.dtx_meaning.specs.Meaning.{IsAnswered, Meaning, with_outputs}
 use Rattle.dtx_meaning.specs.Status.{IsFault}
 use Rattle.dtx_meaning.specs.declared.status.Status.{Status}
 use Rattle.dtx_meaning.specs.declared.status.Status.TheVariants.{Done, NoSync}
+use Rattle.dtx_outside.proofs.FilesLemmas.{get-insert_other}
 use Rattle.dtx_outside.specs.Shelf.{Files}
 use Rattle.dtx_packets.specs.Packets.{packet_at, packets_of, whole_packets}
 use Rattle.dtx_packet_jobs.proofs.PacketFileLemmas.{length-packets_of}
@@ -64,19 +65,28 @@ are_packets file are =
 
 -- ---- what is sent
 
+pub code_outputs : (sent stream : List ℕ)
+    → (meaning_of_file coded_packets coding (sent ∷ []) stream).outcome.status ≡ Done
+    → (meaning_of_file coded_packets coding (sent ∷ []) stream).outputs
+    ≡ (sent, symbol_bytes (packets_of stream)) ∷ []
+code_outputs sent stream done =
+    let front : List ℕ = take (188 * whole_packets stream) stream in
+    let whole = read_whole coded_packets coding (sent ∷ []) stream done in
+    ap (λ (x : Meaning). x.outputs)
+    (all_read coded_packets coding (sent ∷ []) stream whole.allowed whole.few)
+    ∙ ap (λ (bytes : List ℕ). (sent, bytes) ∷ [])
+    (append-nil (symbol_bytes (packets_of front)) ∙ ap symbol_bytes (whole_read stream))
+
 code_left : (sent stream : List ℕ) (held : Files) (now : Option Files) (status : Status) → status ≡ Done
     → IsAnswered (meaning_of_file coded_packets coding (sent ∷ []) stream) (Some held) status now
     → (whole_packets stream ≤ 624000000) × Holds now sent (symbol_bytes (packets_of stream))
 code_left sent stream held now status done answered =
     let m : Meaning = meaning_of_file coded_packets coding (sent ∷ []) stream in
-    let front : List ℕ = take (188 * whole_packets stream) stream in
-    let whole = read_whole coded_packets coding (sent ∷ []) stream (sym answered.answer ∙ done) in
-    let is = all_read coded_packets coding (sent ∷ []) stream whole.allowed whole.few in
-    let written : m.outputs ≡ (sent, symbol_bytes (packets_of stream)) ∷ [] =
-    ap (λ (x : Meaning). x.outputs) is
-    ∙ ap (λ (bytes : List ℕ). (sent, bytes) ∷ [])
-    (append-nil (symbol_bytes (packets_of front)) ∙ ap symbol_bytes (whole_read stream)) in
-    (whole.few, one_holds m sent (symbol_bytes (packets_of stream)) held now status written answered)
+    let own = sym answered.answer ∙ done in
+    (
+      (read_whole coded_packets coding (sent ∷ []) stream own).few,
+      one_holds m sent (symbol_bytes (packets_of stream)) held now status (code_outputs sent stream own) answered,
+    )
 
 pub sent_is : (start now : Option Files) (input sent stream : List ℕ) (status : Status) → Holds start input stream
     → status ≡ Done
@@ -194,3 +204,25 @@ back_through giving is c line_law Fixed input sent got output stream symbols fil
     holds_one mid sent symbols (symbol_bytes (packets_of stream)) left of_code.1 in
     let all = back same (few_packets stream of_code.0) in
     given_is giving is c line_law Fixed stream got output file given at now old new all.0 call all.1
+
+-- ---- files that stay
+
+-- a file that isn't written stays
+kept : (m : Meaning) (name other bytes written : List ℕ) (start now : Option Files) (status : Status)
+    → name ≢ other → m.outputs ≡ (other, written) ∷ [] → Holds start name bytes → IsAnswered m start status now
+    → Holds now name bytes
+kept m name other bytes written (Some held) now status apart is there answered =
+    let P : Option Files → Type 0 = λ (o : Option Files). Holds o name bytes in
+    subst P (sym (answered.files ∙ ap (λ outputs. with_outputs outputs (Some held)) is))
+    (get-insert_other held other written name apart ∙ there)
+kept m name other bytes written None now status apart is there answered = elim there [ ]
+
+pub code_keeps : (input sent stream name bytes : List ℕ) (status : Status) (start now : Option Files)
+    → IsCoded input sent stream status start now → name ≢ sent → Holds start name bytes → Holds now name bytes
+code_keeps input sent stream name bytes status start now call apart there =
+    told_so start input stream _ _ call.there call.files (λ held is here of.
+    let m : Meaning = meaning_of_file coded_packets coding (sent ∷ []) stream in
+    let answered = of here call.done in
+    kept m name sent bytes (symbol_bytes (packets_of stream)) start now status apart
+    (code_outputs sent stream (sym answered.answer ∙ call.done)) there
+    (subst (λ (o : Option Files). IsAnswered m o status now) (sym is) answered))

@@ -76,7 +76,7 @@ few_symbols packets file few long = omega (arith, as_many packets file long, len
 
 -- ---- what is answered and written
 
-stream_bytes : (packets : List (List ℕ)) → segment_bytes (a53 packets) ≡ symbol_bytes packets
+pub stream_bytes : (packets : List (List ℕ)) → segment_bytes (a53 packets) ≡ symbol_bytes packets
 unfolding a53_symbols
 stream_bytes packets = refl
 

@@ -49,7 +49,7 @@ byte_packet : (stream : List ℕ) → AreBytes stream → (k : ℕ) → AreBytes
 byte_packet stream are k =
     each_take (λ b. b < 256) 188 (drop (188 * k) stream) (each_drop (λ b. b < 256) (188 * k) stream are)
 
-is_stream : (stream : List ℕ) → AreBytes stream → whole_packets stream ≤ 624000000 → IsStream (packets_of stream)
+pub is_stream : (stream : List ℕ) → AreBytes stream → whole_packets stream ≤ 624000000 → IsStream (packets_of stream)
 is_stream stream are few = record {
   most = omega (arith, few, length-packets_of stream);
   long = long-packets_of stream;
@@ -167,7 +167,7 @@ pub record IsExcited (t : Transmitter) (input output log file : List ℕ) (statu
 no_mark : HaveNoMark []
 no_mark = λ i l. absurd (omega (arith, l))
 
-fed_anew : (plan : Plan) (stream : List (List ℕ)) (t : Transmitter) → IsPlan plan → IsStream stream → IsListed plan t
+pub fed_anew : (plan : Plan) (stream : List (List ℕ)) (t : Transmitter) → IsPlan plan → IsStream stream → IsListed plan t
     → IsInTime plan t → IsFedAnew plan stream t t.delay [] 0 (length (feed plan stream))
 fed_anew plan stream t is_plan is listed in_time = record {
   is_plan = is_plan;
@@ -180,7 +180,7 @@ fed_anew plan stream t is_plan is listed in_time = record {
 }
 
 -- it holds what is made, whatever that is
-sends : (t : Transmitter) (input output log file : List ℕ) (status : Status) (start now : Option Files)
+pub sends : (t : Transmitter) (input output log file : List ℕ) (status : Status) (start now : Option Files)
     (made logged : List ℕ) → IsExcited t input output log file status start now
     → (whole_packets file ≤ 624000000 → IsDoneWith (output ∷ log ∷ []) (both made logged)
     (meaning_of_file coded_packets (exciting t.address t.delay) (output ∷ log ∷ []) file))

@@ -12,6 +12,7 @@ pub mod FeedEnds
 pub mod Lines
 pub mod LogLines
 pub mod Mendable
+pub mod OwnSymbols
 pub mod Stretches
 pub mod There
 pub mod Whole
