@@ -82,8 +82,7 @@ code_left : (sent stream : List ℕ) (held : Files) (now : Option Files) (status
     → (whole_packets stream ≤ 624000000) × Holds now sent (symbol_bytes (packets_of stream))
 code_left sent stream held now status done answered =
     let m : Meaning = meaning_of_file coded_packets coding (sent ∷ []) stream in
-    let own = sym answered.answer ∙ done in
-    (
+    let own = sym answered.answer ∙ done in (
       (read_whole coded_packets coding (sent ∷ []) stream own).few,
       one_holds m sent (symbol_bytes (packets_of stream)) held now status (code_outputs sent stream own) answered,
     )

@@ -1,20 +1,18 @@
 -- What `adapt` leaves at one end, and what two transmitters send of it at others, where all calls are done.
-use Rattle.std.proofs.Common.{◌≡◌, ◌≢◌, ◌⊎◌, inl, inr, ℕ, ℤ, zero, ◌+◌, ◌-◌, ◌*◌, ◌/◌, ◌%◌, ◌<◌, ◌≤◌, ◌==◌, ◌&&◌, Bool}
+use Rattle.std.proofs.Common.{◌≡◌, ◌≢◌, ℕ, ◌+◌, ◌-◌, ◌*◌, ◌%◌, ◌<◌, ◌≤◌, ◌==◌, ◌&&◌, Bool}
 use Rattle.std.proofs.Common.{true, false, List, [], ◌∷◌, ◌++◌, length, take, drop, refl, sym, ap, ◌∙◌, subst, arith}
 use Rattle.std.specs.Prelude.{Option, Some, None, Ok, IfSome, slice_range}
 use Rattle.std.specs.FinMap.{get}
-use Rattle.std.specs.List.{All, Contains, find, range_with_len}
-use Rattle.std.proofs.lemmas.Bool.{and_from, and_parts, cases_eq, eq-eqb, eqb-true}
+use Rattle.std.specs.List.{All, find, range_with_len}
+use Rattle.std.proofs.lemmas.Bool.{and_parts, eq-eqb, eqb-true}
 use Rattle.std.proofs.lemmas.List.{append-nil, take_all}
 use Rattle.std.proofs.lemmas.List.Elements.{All-contains, All-from_get_or}
 use Rattle.std.proofs.lemmas.List.FromFn.{get_or-map-range_with_len}
 use Rattle.dtx_lists.proofs.RangeSearch.{IsFirst, find-range_gives, find-range_misses}
 use Rattle.dtx_galois.specs.Field.{AreBytes}
 use Rattle.dtx_adapter.specs.Feed.{feed}
-use Rattle.dtx_adapter.proofs.FeedsLemmas.{length-feed}
 use Rattle.dtx_engine.specs.Made.{both, only}
 use Rattle.dtx_engine.specs.Recipe.{meaning_of_file}
-use Rattle.dtx_exciter.specs.Packets.{syncs}
 use Rattle.dtx_files.specs.LogText.{log_text}
 use Rattle.dtx_files.specs.Symbols.{segment_bytes}
 use Rattle.dtx_forms.proofs.AllowedFileLemmas.{all_read}
@@ -66,8 +64,6 @@ pub record Laws : Type 0 where
   pub plan : (bytes : List ℕ) (plan : Plan) → plan_of bytes ≡ Ok plan → IsPlan plan
   pub read : (plan : Plan) (stream : List (List ℕ)) → IsSound plan → All (λ packet. length packet ≡ 188) stream
       → packets_of (feed_bytes plan stream) ≡ feed plan stream
-  pub count : (plan : Plan) (stream : List (List ℕ)) → IsSound plan → All (λ packet. length packet ≡ 188) stream
-      → whole_packets (feed_bytes plan stream) ≡ length stream
   pub one_page : (plan : Plan) (stream : List (List ℕ)) (t : Transmitter) (g : ℕ) → IsPlan plan → IsStream stream
       → IsListed plan t → length plan.transmitters ≤ 35
       → has_listing t.address (feed plan stream) g ≡ has_order (feed plan stream) g
@@ -244,8 +240,7 @@ same_sent laws plan bytes stream fed name left says few are feeds holds t u of_t
     let list : List (List ℕ) = packets_of stream in
     let all : List (List ℕ) = feed plan list in
     let found : Option ℕ = find (orders_at all) (range_with_len 52 (length all - 3 - 52)) in
-    let same : fed ≡ feed_bytes plan list = holds_one left name fed (feed_bytes plan list) holds feeds.file in
-    (
+    let same : fed ≡ feed_bytes plan list = holds_one left name fed (feed_bytes plan list) holds feeds.file in (
       made_by plan list found,
       excited_is laws plan list t input output log first start now is_plan is few of_t
           (subst (λ (f : List ℕ). IsExcited t input output log f first start now) same call) found refl,

@@ -1,8 +1,7 @@
 -- What a transmitter sends of a feed is the end of what `code` writes of it.
-use Rattle.std.proofs.Common.{◌≡◌, ◌≢◌, ℕ, ℤ, zero, suc, ◌+◌, ◌-◌, ◌*◌, ◌/◌, ◌%◌, ◌<◌, ◌≤◌, List, [], ◌∷◌, ◌++◌, length}
+use Rattle.std.proofs.Common.{◌≡◌, ◌≢◌, ℕ, ℤ, zero, suc, ◌+◌, ◌-◌, ◌*◌, ◌≤◌, List, [], ◌∷◌, length}
 use Rattle.std.proofs.Common.{map, drop, refl, sym, ap, ap₂, ◌∙◌, subst, arith}
-use Rattle.std.specs.Prelude.{Option, Some, None, Ok, IfSome}
-use Rattle.std.specs.FinMap.{get}
+use Rattle.std.specs.Prelude.{Option, Ok}
 use Rattle.std.proofs.Math.Seq.{drop-append_seam}
 use Rattle.std.proofs.lemmas.List.{drop-drop, length-drop, length-map, map-append, take_all}
 use Rattle.dtx_galois.specs.Field.{AreBytes}
@@ -13,14 +12,12 @@ use Rattle.dtx_coder.specs.Stream.{a53, symbols_of}
 use Rattle.dtx_exciter.specs.Lockstep.{segment_place}
 use Rattle.dtx_files.specs.LogText.{log_text}
 use Rattle.dtx_files.specs.Symbols.{byte_of_symbol, segment_bytes}
-use Rattle.dtx_meaning.specs.Meaning.{IsAnswered, Meaning, with_outputs}
 use Rattle.dtx_meaning.specs.declared.status.Status.{Status}
 use Rattle.dtx_network.specs.Headline.{IsFirstListing, last_packet, stretch_of}
 use Rattle.dtx_network.specs.Orders.{has_order}
 use Rattle.dtx_network.specs.Plans.{IsPlan, IsStream}
 use Rattle.dtx_network.specs.Presets.{presets}
-use Rattle.dtx_outside.specs.Shelf.{Files, with_file}
-use Rattle.dtx_outside.proofs.FilesLemmas.{get-insert_other}
+use Rattle.dtx_outside.specs.Shelf.{Files}
 use Rattle.dtx_packets.specs.Packets.{packets_of}
 use Rattle.dtx_packet_jobs.specs.Feed.{feed_bytes}
 use Rattle.dtx_plan.specs.Plan.{plan_of}

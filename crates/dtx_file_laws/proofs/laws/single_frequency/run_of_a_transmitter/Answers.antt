@@ -1,6 +1,6 @@
 use Rattle.dtx_packet_jobs.specs.Feed.{feed_bytes}
 use Rattle.dtx_packets.specs.Packets.{packets_of}
-use Rattle.dtx_file_laws.proofs.FeedEnds.{Laws, feed_is, numbers_of}
+use Rattle.dtx_file_laws.proofs.FeedEnds.{feed_is, numbers_of}
 use Rattle.dtx_file_laws.proofs.OwnSymbols.{sends_own, studio}
 use Rattle.dtx_file_laws.proofs.laws.single_frequency.run_of_a_transmitter.Goals as goal
 
@@ -22,7 +22,6 @@ returns g c = λ plan_name input feed sent plan_bytes stream fed symbols plan t 
     sends_own (record {
       plan = c.plans_that_are_read.ensures;
       read = c.feed_read_back.ensures.packets;
-      count = c.feed_read_back.ensures.count;
       one_page = c.listings_of_a_feed.ensures.one_page;
       listed = c.a_feed_is_sent.ensures.listed;
       unlisted = c.a_feed_is_sent.ensures.unlisted;

@@ -1,5 +1,4 @@
-use Rattle.std.proofs.Common.{refl}
-use Rattle.dtx_file_laws.proofs.FeedEnds.{Laws, feed_is, numbers_of, same_sent}
+use Rattle.dtx_file_laws.proofs.FeedEnds.{feed_is, numbers_of, same_sent}
 use Rattle.dtx_file_laws.proofs.laws.single_frequency.run_of_two_transmitters.Goals as goal
 
 pub returns : goal.returns
@@ -12,7 +11,6 @@ returns g c = λ plan_name input feed plan_bytes stream fed plan t u feed_1 out_
     same_sent (record {
       plan = c.plans_that_are_read.ensures;
       read = c.feed_read_back.ensures.packets;
-      count = c.feed_read_back.ensures.count;
       one_page = c.listings_of_a_feed.ensures.one_page;
       listed = c.a_feed_is_sent.ensures.listed;
       unlisted = c.a_feed_is_sent.ensures.unlisted;
