@@ -77,7 +77,8 @@ fitting words fit c is fits = is ∙ ap (λ (t : Bool). cond {A = Option Command
 -- what words mean that fit, whose names are different, and whose input is there
 pub means_file : (words : List (List ℕ)) (fit : Bool) (c : Command) (same : Bool) (shape : Shape) (recipe : Recipe)
     (which : ℕ) (names : List (List ℕ)) (input file : List ℕ) (held : Files)
-    → IsRead words fit c same shape recipe which names input held → fit ≡ true → same ≡ false → get held input ≡ Some file
+    → IsRead words fit c same shape recipe which names input held → fit ≡ true → same ≡ false
+    → get held input ≡ Some file
     → means words held ≡ meaning_of_file shape recipe names file
 means_file words fit c same shape recipe which names input file held read fits apart there =
     ap (λ (o : Option Command). means_of o words held) (fitting words fit c read.fits fits)
@@ -90,7 +91,8 @@ record IsFitting (words : List (List ℕ)) (fit same : Bool) : Type 0 where
   pub apart : same ≡ false
 
 done_fits : (words : List (List ℕ)) (fit : Bool) (c : Command) (same : Bool) (shape : Shape) (recipe : Recipe)
-    (which : ℕ) (names : List (List ℕ)) (input : List ℕ) (held : Files) → IsRead words fit c same shape recipe which names input held
+    (which : ℕ) (names : List (List ℕ)) (input : List ℕ) (held : Files)
+    → IsRead words fit c same shape recipe which names input held
     → (means words held).outcome.status ≡ Done → IsFitting words fit same
 done_fits words fit c same shape recipe which names input held read done =
     let fits = means_fit words held fit c read.fits done in
@@ -98,7 +100,8 @@ done_fits words fit c same shape recipe which names input held read done =
     ap (λ (o : Option Command). means_of o words held) (fitting words fit c read.fits fits) ∙ read.reads in
     record {
       fits = fits;
-      apart = not_same same shape recipe which names input held (subst (λ (m : Meaning). m.outcome.status ≡ Done) e done);
+      apart = not_same same shape recipe which names input held
+          (subst (λ (m : Meaning). m.outcome.status ≡ Done) e done);
     }
 
 -- ---- the call
@@ -128,8 +131,9 @@ ended_so words fit c same shape recipe which names input file held now status un
 
 -- and its line
 pub lined : (words : List (List ℕ)) (fit : Bool) (c : Command) (same : Bool) (shape : Shape) (recipe : Recipe)
-    (which : ℕ) (names : List (List ℕ)) (input file : List ℕ) (held : Files) (old new : Option (List ℕ)) (status : Status)
-    (unprinted : Type 0) → IsRead words fit c same shape recipe which names input held → get held input ≡ Some file
+    (which : ℕ) (names : List (List ℕ)) (input file : List ℕ) (held : Files) (old new : Option (List ℕ))
+    (status : Status) (unprinted : Type 0) → IsRead words fit c same shape recipe which names input held
+    → get held input ≡ Some file
     → status ≡ Done → HasLine (IsToldLine (command_of words) words held) status unprinted old new
     → new ≡ printed (done_line (Some c) (meaning_of_file shape recipe names file).outcome) old
 lined words fit c same shape recipe which names input file held old new status unprinted read there done line =

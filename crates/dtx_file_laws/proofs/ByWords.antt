@@ -61,7 +61,8 @@ mend_read words input output held is =
     (record { fits = refl; reads = refl })
 
 pub dvb_code_read : (words : List (List ℕ)) (input output : List ℕ) (held : Files)
-    → words ≡ codes "dvb" ∷ codes "code" ∷ input ∷ output ∷ [] → IsRead words (is_name input && (is_name output && true)) DvbCode
+    → words ≡ codes "dvb" ∷ codes "code" ∷ input ∷ output ∷ []
+    → IsRead words (is_name input && (is_name output && true)) DvbCode
     (bytes_eq input output) dvb_packets dvb_coding 0 (output ∷ []) input held
 dvb_code_read words input output held is =
     subst (λ (ws : List (List ℕ)). IsRead ws (is_name input && (is_name output && true)) DvbCode
@@ -69,7 +70,8 @@ dvb_code_read words input output held is =
     (record { fits = refl; reads = refl })
 
 pub dvb_read_read : (words : List (List ℕ)) (input output : List ℕ) (held : Files)
-    → words ≡ codes "dvb" ∷ codes "read" ∷ input ∷ output ∷ [] → IsRead words (is_name input && (is_name output && true)) DvbRead
+    → words ≡ codes "dvb" ∷ codes "read" ∷ input ∷ output ∷ []
+    → IsRead words (is_name input && (is_name output && true)) DvbRead
     (bytes_eq input output) blocks dvb_reading 0 (output ∷ []) input held
 dvb_read_read words input output held is =
     subst (λ (ws : List (List ℕ)). IsRead ws (is_name input && (is_name output && true)) DvbRead

@@ -163,8 +163,8 @@ pub record IsExcited (t : Transmitter) (input output log file : List ℕ) (statu
 no_mark : HaveNoMark []
 no_mark = λ i l. absurd (omega (arith, l))
 
-pub fed_anew : (plan : Plan) (stream : List (List ℕ)) (t : Transmitter) → IsPlan plan → IsStream stream → IsListed plan t
-    → IsInTime plan t → IsFedAnew plan stream t t.delay [] 0 (length (feed plan stream))
+pub fed_anew : (plan : Plan) (stream : List (List ℕ)) (t : Transmitter) → IsPlan plan → IsStream stream
+    → IsListed plan t → IsInTime plan t → IsFedAnew plan stream t t.delay [] 0 (length (feed plan stream))
 fed_anew plan stream t is_plan is listed in_time = record {
   is_plan = is_plan;
   is_stream = is;

@@ -30,8 +30,8 @@ back_of_all count = back_of_sent (4 * (count / 4))
 abbrev pub packets_back : List (List ℕ) → List ℕ
 packets_back packets = flat_map as_received (take (back_of_all (length packets)) packets)
 
--- In how many segments so many packets are sent: those of whole groups of four, and a field sync for each 78 groups that
--- are begun.
+-- In how many segments so many packets are sent: those of whole groups of four, and a field sync for each 78 groups
+-- that are begun.
 abbrev pub segments_of_all : ℕ → ℕ
 segments_of_all count = 4 * (count / 4) + (count / 4 + 77) / 78
 

@@ -2,8 +2,8 @@
 use Rattle.std.specs.Prelude.{ℕ, ◌≡◌, ◌+◌, ◌%◌, ◌<◌, ◌≤◌, true, false, List, length}
 use Rattle.dtx_network.specs.Orders.{has_order}
 
--- Packet k begins the first whole group of four packets, at packet 52 or behind, that holds a placeholder, in whose place
--- an operations packet stands in the feed.
+-- Packet k begins the first whole group of four packets, at packet 52 or behind, that holds a placeholder, in whose
+-- place an operations packet stands in the feed.
 pub record IsFirstOrder (packets : List (List ℕ)) (k : ℕ) : Type 0 where
   pub group : k % 4 ≡ 0
   pub behind : 52 ≤ k

@@ -43,9 +43,9 @@ pub fn a_stretch_is_received()
 {}
 
 /// What `receive` makes of the symbols that `code` wrote of a stream of at least four packets: its packets but the last
-/// 52, or 51, that were sent (`back_of_all`), with 0x47 as their sync bytes. No byte is put right, none is flagged. So
-/// it is of any file as long as that with at most ten wrong bytes a word and with its field syncs found, whatever else
-/// is wrong: only bytes are put right then.
+/// 52, or 51, that were sent (`back_of_all`), with 0x47 as their sync bytes. No byte is put right, none is flagged. The
+/// same packets come of any file as long as that, with at most ten wrong bytes a word and with its field syncs found,
+/// and none is flagged; some bytes are put right then.
 pub fn what_was_coded_is_received()
     ensures undamaged { (names packets : List (List ℕ)) → ArePackets packets → GROUP_PACKETS ≤ length packets
         → length packets ≤ MOST_PACKETS

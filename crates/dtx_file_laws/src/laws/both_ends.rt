@@ -23,8 +23,8 @@ use dtx_top::Status;
 use std::alloc::Global;
 
 /// `code IN SENT`, and then `receive SENT OUT`, over the same files, with both answers `Done`: OUT is the packets of IN
-/// that come back, with 0x47 as their sync bytes, and no other; no byte was put right, and none is flagged. Where IN has
-/// at least four packets and no more than may be, which begin with 0x47 or with the mark 0xB8, and the names are
+/// that come back, with 0x47 as their sync bytes, and no other; no byte was put right, and none is flagged. Where IN
+/// has at least four packets and no more than may be, which begin with 0x47 or with the mark 0xB8, and the names are
 /// different and not empty, each answer is `Done`, or a fault or want of memory.
 pub fn run_there_and_back<S: Shelf, O: Sink>(
     alloc: Global,
@@ -84,8 +84,8 @@ pub fn run_of_code_and_receive<S: Shelf, R: Shelf, O: Sink>(
 }
 
 /// `code IN SENT` over a sender's files, and then `mend GOT OUT` over a receiver's, with both answers `Done`. Where GOT
-/// is SENT, but for missing bytes, 0x80, among 4,141 in a row, and these spare the field syncs, OUT is the packets of IN
-/// that come back.
+/// is SENT, but for missing bytes, 0x80, among 4,141 in a row, and these spare the field syncs, OUT is the packets of
+/// IN that come back.
 pub fn run_of_code_and_mend<S: Shelf, R: Shelf, O: Sink>(
     alloc: Global,
     words: &(&[Word], &[Word]),

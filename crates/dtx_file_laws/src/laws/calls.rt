@@ -1,6 +1,6 @@
-//! What `run` leaves of one command, over files that are told: where it answers `Done`, the meaning of the input's file is
-//! done and its outputs are whole. Where the names are different and not empty, the answer is that of this meaning, or a
-//! fault or want of memory.
+//! What `run` leaves of one command, over files that are told: where it answers `Done`, the meaning of the input's file
+//! is done and its outputs are whole. Where the names are different and not empty, the answer is that of this meaning,
+//! or a fault or want of memory.
 
 ghost use Rattle.std.specs.Prelude.{◌≡◌, ◌≢◌, ◌⊎◌, ◌<◌, ◌≤◌, ◌∷◌, [], ℕ, IfSome, List, Ok, Some, codes, decimal};
 ghost use Rattle.std.specs.FinMap.{get};
@@ -146,12 +146,14 @@ pub fn run_of_acquire<S: Shelf, O: Sink>(
     shelf: &mut S,
     out: &mut O,
 ) -> Status
-    ensures done { (scale : ℕ) (input output file : List ℕ) → words.now ≡ codes "acquire" ∷ decimal scale ∷ input ∷ output ∷ []
+    ensures done { (scale : ℕ) (input output file : List ℕ)
+        → words.now ≡ codes "acquire" ∷ decimal scale ∷ input ∷ output ∷ []
         → 0 < scale → scale ≤ 18
         → IfSome (S.files shelf.old) (λ held. get held input ≡ Some file → result ≡ Status.Done
         → IsAnswered (meaning_of_file shapes.single_bytes (acquiring scale) (output ∷ []) file) (Some held) result
         (S.files shelf.new)) }
-    ensures answer { (scale : ℕ) (input output file : List ℕ) → words.now ≡ codes "acquire" ∷ decimal scale ∷ input ∷ output ∷ []
+    ensures answer { (scale : ℕ) (input output file : List ℕ)
+        → words.now ≡ codes "acquire" ∷ decimal scale ∷ input ∷ output ∷ []
         → 0 < scale → scale ≤ 18
         → input ≢ [] → output ≢ [] → input ≢ output
         → IfSome (S.files shelf.old) (λ held. get held input ≡ Some file

@@ -1,4 +1,5 @@
-//! What `excite` makes of the file of a feed (the profile's own, over ATSC A/53 Part 2 and in the manner of ATSC A/110).
+//! What `excite` makes of the file of a feed (the profile's own, over ATSC A/53 Part 2 and in the manner of ATSC
+//! A/110).
 
 ghost use Rattle.std.specs.Prelude.{◌≡◌, ◌≢◌, ◌+◌, ◌≤◌, ◌∷◌, ◌++◌, [], ℕ, List, codes, decimal, map, slice_range};
 ghost use Rattle.dtx_adapter.specs.Feed.{feed};

@@ -1,4 +1,4 @@
-//! What two transmitters send of one feed, by `run` alone (the profile's own, over ATSC A/53 Part 2 and in the manner of
+//! What transmitters send of one feed, by `run` alone (the profile's own, over ATSC A/53 Part 2 and in the manner of
 //! ATSC A/110).
 
 ghost use Rattle.std.specs.Prelude.{◌≡◌, ◌≢◌, ◌+◌, ◌*◌, ◌/◌, ◌≤◌, ◌∷◌, [], ℕ, List, Ok, codes, decimal, drop, length};
@@ -20,10 +20,10 @@ use dtx_top::Status;
 use std::alloc::Global;
 
 /// `adapt PLAN IN FEED` and `code FEED SYMBOLS` at the studio, and `excite FEED ADDRESS DELAY OUT LOG` at a transmitter
-/// over a copy of that feed, all with the answer `Done`: the transmitter sends just what `code` writes of the feed, from
-/// a segment on to the end. It is the first data segment of the first group of four packets, at packet 52 of the stream
-/// or behind, that holds a placeholder. (A field sync stands before each 312 data segments.) The transmitter is any one
-/// of the plan, which has at most 35, with its own address and delay, and in time.
+/// over a copy of that feed, all with the answer `Done`: the transmitter sends just what `code` writes of the feed,
+/// from a segment on to the end. It is the first data segment of the first group of four packets, at packet 52 of the
+/// stream or behind, that holds a placeholder. (A field sync stands before each 312 data segments.) The transmitter is
+/// any one of the plan, which has at most 35, with its own address and delay, and in time.
 pub fn run_of_a_transmitter<S: Shelf, R: Shelf, O: Sink>(
     alloc: Global,
     words: &(&[Word], &[Word], &[Word]),
@@ -57,8 +57,8 @@ pub fn run_of_a_transmitter<S: Shelf, R: Shelf, O: Sink>(
 /// A single-frequency network of three folders. `adapt PLAN IN FEED` at the studio, and at each of two transmitters
 /// `excite FEED ADDRESS DELAY OUT LOG` over a copy of that feed, all with the answer `Done`: both symbol files are one
 /// and the same list of bytes. The transmitters are any two of the plan, which has at most 35, with their own
-/// addresses and delays, and in time; they may have different offsets. (With more than 35 transmitters a listing of
-/// each comes on its own page, and the later one of the two begins to send later.)
+/// addresses and delays, and in time; they may have different offsets. (With more than 35 transmitters two may be
+/// listed on different pages, and one then begins later than the other.)
 pub fn run_of_two_transmitters<S: Shelf, R: Shelf, T: Shelf, O: Sink>(
     alloc: Global,
     words: &(&[Word], &[Word], &[Word]),

@@ -10,6 +10,7 @@ returns g c = λ input sent got output stream symbols file scale code acquire po
       no_sync = c.all_is_acquired_of_a_file.ensures.no_sync;
     })
     (g.S.Shelf.files c.args.sender.now) (g.S.Shelf.files c.run_of_code-sent.new.shelf)
-    (g.R.Shelf.files c.args.receiver.now) (g.R.Shelf.files c.run_of_acquire-acquired.new.shelf) input sent got output stream
-    symbols file scale _ _ there coded left (c.run_of_code-sent.ensures.done input sent stream code) positive noise here done
+    (g.R.Shelf.files c.args.receiver.now) (g.R.Shelf.files c.run_of_acquire-acquired.new.shelf) input sent got output
+    stream symbols file scale _ _ there coded left (c.run_of_code-sent.ensures.done input sent stream code) positive
+    noise here done
     (c.run_of_acquire-acquired.ensures.done scale got output file acquire positive most)

@@ -7,7 +7,8 @@ pub returns-clause-done : goal.returns-clause-done
 returns-clause-done g c = λ scale input output file is positive most.
     if_so (g.S.Shelf.files c.args.shelf.now) _ _
     (λ held carried there done. answered c.args.words.now _ _ _ _ _ _ (output ∷ []) input file held
-    (g.S.Shelf.files c.run.new.shelf) _ _ (acquire_read c.args.words.now scale input output held is positive most) there done carried)
+    (g.S.Shelf.files c.run.new.shelf) _ _
+    (acquire_read c.args.words.now scale input output held is positive most) there done carried)
     c.run.ensures.carried
 
 pub returns-clause-answer : goal.returns-clause-answer
